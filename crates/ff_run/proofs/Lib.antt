@@ -6,4 +6,5 @@ pub mod Lines
 pub mod Names
 pub mod Reading
 pub mod Ticks
+pub mod Worked
 pub mod Written
