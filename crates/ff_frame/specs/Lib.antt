@@ -1,0 +1,4 @@
+pub mod Audio
+pub mod Frame
+pub mod Packet
+pub mod Stream
