@@ -25,3 +25,6 @@ pub use quiet_source::QuietSource;
 pub use sink::{Sink, SinkError};
 pub use source::{Failed, Source};
 pub use tally::{Marks, Table, make_room, marks_of, set_marks};
+
+#[cfg(test)]
+mod tests;

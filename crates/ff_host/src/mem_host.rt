@@ -105,6 +105,7 @@ impl Host for MemHost {
 
         ensures cause { HasCauseOf HostError.Failed (marks_in self.old name.now).in_faults (marks_in self.new name.now).in_faults result }
         ensures out { SameCounts (λ other. (marks_in self.old other).out_faults) (λ other. (marks_in self.new other).out_faults) }
+        ensures opened { OnOk result (IsTrue (marks_in self.new name.now).opened) }
         ensures still_opened { (other : List ℕ) → IsTrue (marks_in self.old other).opened → IsTrue (marks_in self.new other).opened }
         ensures still_created { (other : List ℕ) → HasCreated self.old other → HasCreated self.new other }
     {
@@ -145,6 +146,7 @@ impl Host for MemHost {
 
         ensures cause { HasCauseOf HostError.Failed (marks_in self.old name.now).out_faults (marks_in self.new name.now).out_faults result }
         ensures ins { SameCounts (λ other. (marks_in self.old other).in_faults) (λ other. (marks_in self.new other).in_faults) }
+        ensures created { OnOk result (HasCreated self.new name.now) }
         ensures still_opened { (other : List ℕ) → IsTrue (marks_in self.old other).opened → IsTrue (marks_in self.new other).opened }
         ensures still_created { (other : List ℕ) → HasCreated self.old other → HasCreated self.new other }
     {
