@@ -1,5 +1,5 @@
 -- What the host in memory holds, and what its calls note under a name.
-use Rattle.std.specs.Prelude.{◌≡◌, ◌≢◌, ◌⊎◌, ℕ, List, Option, None, true, IsTrue, IsSome}
+use Rattle.std.specs.Prelude.{◌≡◌, ◌≢◌, ◌⊎◌, ℕ, List, None, true, IsTrue, IsSome}
 use Rattle.ff_host.specs.Causes.{added}
 use Rattle.ff_host.specs.Files.{Files}
 use Rattle.ff_host.specs.Plan.{IsPlannedNext}

@@ -28,8 +28,10 @@ impl From<AllocError> for HostError {
 ///
 /// Faults are counted by name and direction. A count stops at 2^64 - 1, and one that stands there is read as risen.
 pub trait Host {
+    /// What `open_source` gives.
     type Src: Source + Send + Drop;
 
+    /// What `create_sink` gives.
     type Snk: Sink + Send + Drop;
 
     /// The files by name, where the host tells them.

@@ -1,4 +1,10 @@
-//! Where a run reads and writes: sources, sinks and hosts, by what they tell and how often they failed.
+//! Where a run reads and writes.
+//!
+//! A [`Host`] opens a [`Source`] on a name and creates a [`Sink`] on one, and takes both back. Their contracts speak of
+//! what they tell, which is optional: the bytes that a source has left, those that a sink holds, and the files of a
+//! host. Each counts its faults, a host by name and direction, and answers `Failed` only where the count rose.
+//! [`QuietHost`] holds its files in memory and never fails; [`MemHost`] stands on it and fails exactly where it was
+//! planned. A host over something else keeps its counts by name in a [`Table`] of [`Marks`].
 #![tactic(auto)]
 
 mod contents;

@@ -29,8 +29,11 @@ pub enum HostCall {
 /// object. A call that ended for want of memory isn't counted.
 #[derive(Debug, Drop)]
 pub struct FailAt {
+    /// The name that is opened or created, or that the object was opened or created on.
     pub name: String,
+    /// The kind of the call.
     pub call: HostCall,
+    /// Its number among the calls of that kind; 0 plans none.
     pub number: u32,
 }
 

@@ -1,5 +1,5 @@
-use Rattle.std.proofs.Common.{◌≡◌, ◌∙◌, ◌↔◌, List, IsTrue, subst, sym, refl}
-use Rattle.ff_host.specs.MemHost.{plan_of, marks_in}
+use Rattle.std.proofs.Common.{◌∙◌, ◌↔◌, List, IsTrue, subst, sym, refl}
+use Rattle.ff_host.specs.MemHost.{marks_in}
 use Rattle.ff_host.specs.Plan.{IsPlannedNext}
 use Rattle.ff_host.specs.declared.plan.FailAt.{FailAt}
 use Rattle.ff_host.specs.declared.plan.HostCall.TheVariants.{CloseSink}

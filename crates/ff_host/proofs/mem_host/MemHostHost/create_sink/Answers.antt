@@ -1,4 +1,4 @@
-use Rattle.std.proofs.Common.{◌≡◌, ◌∙◌, ap}
+use Rattle.std.proofs.Common.{◌∙◌, ap}
 use Rattle.ff_host.specs.declared.tally.Marks.{Marks}
 use Rattle.ff_host.proofs.Noted.{kept_count}
 use Rattle.ff_host.proofs.mem_host.MemHostHost.create_sink.Goals as goal

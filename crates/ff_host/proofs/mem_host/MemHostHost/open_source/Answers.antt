@@ -1,5 +1,4 @@
-use Rattle.std.proofs.Common.{◌≡◌, ◌∙◌, ap}
-use Rattle.ff_host.specs.Tally.{marks_at}
+use Rattle.std.proofs.Common.{◌∙◌, ap}
 use Rattle.ff_host.specs.declared.tally.Marks.{Marks}
 use Rattle.ff_host.proofs.Noted.{kept_count}
 use Rattle.ff_host.proofs.mem_host.MemHostHost.open_source.Goals as goal
