@@ -1,13 +1,14 @@
-ghost use Rattle.std.specs.Prelude.{◌≡◌, ◌↔◌, ◌⊎◌, ℕ, List, [], Some, None, IfOk, OnOk, OnErr, IsErr, IsErrOf, IsTrue, IsSome};
+ghost use Rattle.std.specs.Prelude.{◌≡◌, ◌↔◌, ◌⊎◌, ℕ, List, [], Some, None, IfOk, OnOk, OnErr, IsErr, IsErrOf, IsTrue};
 ghost use Rattle.std.specs.Option.{option_map};
-ghost use Rattle.ff_host.specs.Causes.{HasCause, HasCauseOf, SameElsewhere, SameCounts, added};
-ghost use Rattle.ff_host.specs.Files.{bytes_at, GivesFile, KeepsFiles, PutsFile};
+ghost use Rattle.ff_host.specs.Causes.{HasCause, HasCauseOf, SameCounts, added};
+ghost use Rattle.ff_host.specs.Files.{KeepsFiles, PutsFile};
 ghost use Rattle.ff_host.specs.Given.{given};
-ghost use Rattle.ff_host.specs.MemEnds.{new_reading, new_writing};
-ghost use Rattle.ff_host.specs.MemHost.{files_of, plan_of, marks_in, HasCreated, OpenFails, Notes, after_open, after_failed_open, after_create, after_failed_create, after_close_source, after_close_sink, after_failed_close};
-ghost use Rattle.ff_host.specs.Plan.{IsPlannedNext, numbers_of};
+ghost use Rattle.ff_host.specs.MemHost.{files_of, plan_of, marks_in, in_faults_of, out_faults_of, HasOpened, HasCreated, new_source, new_sink};
+ghost use Rattle.ff_host.specs.MemHost.{OpenFails, CreateFails, CloseFails};
+ghost use Rattle.ff_host.specs.MemHost.{Notes, no_change, one_opened, one_open_failed, one_created, one_create_failed, source_closed, sink_closed, close_failed};
+ghost use Rattle.ff_host.specs.Plan.{IsPlannedNext};
 ghost use Rattle.ff_host.specs.QuietHost.{quiet_files};
-ghost use Rattle.ff_host.specs.Tally.{marks_at, blank};
+ghost use Rattle.ff_host.specs.Tally.{blank};
 
 use crate::host::{Host, HostError};
 use crate::mem_sink::MemSink;
@@ -32,7 +33,8 @@ pub struct MemHost {
 
 // Whether opening a name fails after so many such calls: it is not there, or this one is planned to.
 fn open_fails(inner: &QuietHost, plan: &[FailAt], name: &str, opens: u64) -> bool
-    ensures { IsTrue result ↔ ((quiet_files inner.now name.now ≡ None) ⊎ IsPlannedNext plan.now name.now HostCall.OpenSource opens) }
+    ensures { IsTrue result ↔ ((quiet_files inner.now name.now ≡ None)
+        ⊎ IsPlannedNext plan.now name.now HostCall.OpenSource opens) }
 {
     inner.file(name).is_none() || is_planned_next(plan, name, HostCall::OpenSource, opens)
 }
@@ -65,14 +67,14 @@ impl MemHost {
 
     /// How often reading under this name failed.
     pub fn in_faults(&self, name: &str) -> u64
-        ensures { result ≡ (marks_in self.now name.now).in_faults }
+        ensures { result ≡ in_faults_of self.now name.now }
     {
         marks_of(&self.table, name).in_faults
     }
 
     /// How often writing under this name failed.
     pub fn out_faults(&self, name: &str) -> u64
-        ensures { result ≡ (marks_in self.now name.now).out_faults }
+        ensures { result ≡ out_faults_of self.now name.now }
     {
         marks_of(&self.table, name).out_faults
     }
@@ -85,28 +87,29 @@ impl Host for MemHost {
 
     ghost files = { λ h. Some (files_of h) };
 
-    ghost in_faults = { λ h name. (marks_in h name).in_faults };
+    ghost in_faults = { in_faults_of };
 
-    ghost out_faults = { λ h name. (marks_in h name).out_faults };
+    ghost out_faults = { out_faults_of };
 
-    ghost opened = { λ h name. IsTrue (marks_in h name).opened };
+    ghost opened = { HasOpened };
 
-    ghost created = { λ h name. HasCreated h name };
+    ghost created = { HasCreated };
 
     fn open_source(&mut self, name: &str) -> Result<MemSource, HostError>
         ensures failed { IsErrOf result HostError.Failed → OpenFails self.old name.now }
         ensures fails { OpenFails self.old name.now → IsErr result }
-        ensures fresh { IfOk result (λ src. src ≡ new_reading name.now (bytes_at (files_of self.old) name.now) (numbers_of (plan_of self.old) name.now HostCall.Read)) }
-
-        ensures after { OnOk result (Notes self.old self.new name.now (after_open (marks_in self.old name.now))) }
-        ensures after_failed { IsErrOf result HostError.Failed → Notes self.old self.new name.now (after_failed_open (marks_in self.old name.now)) }
-        ensures after_no_memory { IsErrOf result HostError.NoMemory → Notes self.old self.new name.now (marks_in self.old name.now) }
+        ensures source { IfOk result (λ src. src ≡ new_source self.old name.now) }
         ensures files { KeepsFiles (Some (files_of self.old)) (Some (files_of self.new)) }
 
-        ensures cause { HasCauseOf HostError.Failed (marks_in self.old name.now).in_faults (marks_in self.new name.now).in_faults result }
-        ensures out { SameCounts (λ other. (marks_in self.old other).out_faults) (λ other. (marks_in self.new other).out_faults) }
-        ensures opened { OnOk result (IsTrue (marks_in self.new name.now).opened) }
-        ensures still_opened { (other : List ℕ) → IsTrue (marks_in self.old other).opened → IsTrue (marks_in self.new other).opened }
+        ensures after { OnOk result (Notes self.old self.new name.now one_opened) }
+        ensures after_failed { IsErrOf result HostError.Failed → Notes self.old self.new name.now one_open_failed }
+        ensures no_memory { IsErrOf result HostError.NoMemory → Notes self.old self.new name.now no_change }
+
+        // What these mean for the counts and the names.
+        ensures cause { HasCauseOf HostError.Failed (in_faults_of self.old name.now) (in_faults_of self.new name.now) result }
+        ensures out { SameCounts (out_faults_of self.old) (out_faults_of self.new) }
+        ensures opened { OnOk result (HasOpened self.new name.now) }
+        ensures still_opened { (other : List ℕ) → HasOpened self.old other → HasOpened self.new other }
         ensures still_created { (other : List ℕ) → HasCreated self.old other → HasCreated self.new other }
     {
         make_room(&mut self.table, self.alloc, name)?;
@@ -134,20 +137,21 @@ impl Host for MemHost {
     }
 
     fn create_sink(&mut self, name: &str) -> Result<MemSink, HostError>
-        ensures failed { IsErrOf result HostError.Failed → IsPlannedNext (plan_of self.old) name.now HostCall.Create (marks_in self.old name.now).creates }
-        ensures fails { IsPlannedNext (plan_of self.old) name.now HostCall.Create (marks_in self.old name.now).creates → IsErr result }
-        ensures fresh { IfOk result (λ snk. snk ≡ new_writing name.now (numbers_of (plan_of self.old) name.now HostCall.Append) (numbers_of (plan_of self.old) name.now HostCall.Patch)) }
-
-        ensures after { OnOk result (Notes self.old self.new name.now (after_create (marks_in self.old name.now))) }
-        ensures after_failed { IsErrOf result HostError.Failed → Notes self.old self.new name.now (after_failed_create (marks_in self.old name.now)) }
-        ensures after_no_memory { IsErrOf result HostError.NoMemory → Notes self.old self.new name.now (marks_in self.old name.now) }
+        ensures failed { IsErrOf result HostError.Failed → CreateFails self.old name.now }
+        ensures fails { CreateFails self.old name.now → IsErr result }
+        ensures sink { IfOk result (λ snk. snk ≡ new_sink self.old name.now) }
         ensures ok { OnOk result (PutsFile (Some (files_of self.old)) (Some (files_of self.new)) name.now (Some [])) }
         ensures err { OnErr result (KeepsFiles (Some (files_of self.old)) (Some (files_of self.new))) }
 
-        ensures cause { HasCauseOf HostError.Failed (marks_in self.old name.now).out_faults (marks_in self.new name.now).out_faults result }
-        ensures ins { SameCounts (λ other. (marks_in self.old other).in_faults) (λ other. (marks_in self.new other).in_faults) }
+        ensures after { OnOk result (Notes self.old self.new name.now one_created) }
+        ensures after_failed { IsErrOf result HostError.Failed → Notes self.old self.new name.now one_create_failed }
+        ensures no_memory { IsErrOf result HostError.NoMemory → Notes self.old self.new name.now no_change }
+
+        // What these mean for the counts and the names.
+        ensures cause { HasCauseOf HostError.Failed (out_faults_of self.old name.now) (out_faults_of self.new name.now) result }
+        ensures ins { SameCounts (in_faults_of self.old) (in_faults_of self.new) }
         ensures created { OnOk result (HasCreated self.new name.now) }
-        ensures still_opened { (other : List ℕ) → IsTrue (marks_in self.old other).opened → IsTrue (marks_in self.new other).opened }
+        ensures still_opened { (other : List ℕ) → HasOpened self.old other → HasOpened self.new other }
         ensures still_created { (other : List ℕ) → HasCreated self.old other → HasCreated self.new other }
     {
         make_room(&mut self.table, self.alloc, name)?;
@@ -176,8 +180,8 @@ impl Host for MemHost {
     }
 
     fn close_source(&mut self, name: &str, src: MemSource)
-        requires opened { IsTrue (marks_in self.old name.now).opened }
-        ensures after { Notes self.old self.new name.now (after_close_source (marks_in self.old name.now) src.faults) }
+        requires { HasOpened self.old name.now }
+        ensures after { Notes self.old self.new name.now (source_closed src.faults) }
         ensures files { KeepsFiles (Some (files_of self.old)) (Some (files_of self.new)) }
     {
         let was = marks_of(&self.table, name);
@@ -186,15 +190,16 @@ impl Host for MemHost {
     }
 
     fn close_sink(&mut self, name: &str, snk: MemSink) -> Result<(), Failed>
-        requires created { HasCreated self.old name.now }
-        ensures exact { IsErr result ↔ IsPlannedNext (plan_of self.old) name.now HostCall.CloseSink (marks_in self.old name.now).closes }
+        requires { HasCreated self.old name.now }
+        ensures exact { IsErr result ↔ CloseFails self.old name.now }
         ensures files { PutsFile (Some (files_of self.old)) (Some (files_of self.new)) name.now (Some snk.holds) }
-        ensures after { OnOk result (Notes self.old self.new name.now (after_close_sink (marks_in self.old name.now) snk.faults)) }
-        ensures after_failed { OnErr result (Notes self.old self.new name.now (after_failed_close (marks_in self.old name.now) snk.faults)) }
+        ensures after { OnOk result (Notes self.old self.new name.now (sink_closed snk.faults)) }
+        ensures after_failed { OnErr result (Notes self.old self.new name.now (close_failed snk.faults)) }
 
-        ensures cause { HasCause (added (marks_in self.old name.now).out_faults snk.faults) (marks_in self.new name.now).out_faults result }
-        ensures ins { SameCounts (λ other. (marks_in self.old other).in_faults) (λ other. (marks_in self.new other).in_faults) }
-        ensures still_opened { (other : List ℕ) → IsTrue (marks_in self.old other).opened → IsTrue (marks_in self.new other).opened }
+        // What these mean for the counts and the names.
+        ensures cause { HasCause (added (out_faults_of self.old name.now) snk.faults) (out_faults_of self.new name.now) result }
+        ensures ins { SameCounts (in_faults_of self.old) (in_faults_of self.new) }
+        ensures still_opened { (other : List ℕ) → HasOpened self.old other → HasOpened self.new other }
         ensures still_created { (other : List ℕ) → HasCreated self.old other → HasCreated self.new other }
     {
         let was = marks_of(&self.table, name);

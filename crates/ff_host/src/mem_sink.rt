@@ -89,7 +89,8 @@ impl Sink for MemSink {
     // It fails exactly where it has failed before, or where this append is planned to, and then adds nothing.
     fn append(&mut self, bytes: &[u8]) -> Result<(), SinkError>
         ensures exact { IsErrOf result SinkError.Failed ↔ FailsNext self.old.failed self.old.planned_appends self.old.appends }
-        ensures ok { OnOk result (self.new ≡ record self.old { holds = self.old.holds ++ bytes.now; appends = added self.old.appends 1 }) }
+        ensures ok { OnOk result (self.new ≡
+            record self.old { holds = self.old.holds ++ bytes.now; appends = added self.old.appends 1 }) }
         ensures failed { IsErrOf result SinkError.Failed → self.new ≡ failed_append self.old }
         ensures no_memory { IsErrOf result SinkError.NoMemory → self.new ≡ self.old }
         ensures cause { HasCauseOf SinkError.Failed self.old.faults self.new.faults result }
@@ -109,7 +110,8 @@ impl Sink for MemSink {
     fn patch(&mut self, at: u64, bytes: &[u8]) -> Result<(), Failed>
         requires { at + length bytes.now ≤ length self.old.holds }
         ensures exact { IsErr result ↔ FailsNext self.old.failed self.old.planned_patches self.old.patches }
-        ensures ok { OnOk result (self.new ≡ record self.old { holds = patched self.old.holds at bytes.now; patches = added self.old.patches 1 }) }
+        ensures ok { OnOk result (self.new ≡
+            record self.old { holds = patched self.old.holds at bytes.now; patches = added self.old.patches 1 }) }
         ensures err { OnErr result (self.new ≡ failed_patch self.old) }
         ensures cause { HasCause self.old.faults self.new.faults result }
     {

@@ -23,7 +23,14 @@ impl Model for MemSource {
 
     ghost Value = { MemReading };
 
-    ghost view = { λ s. record { name = s.inner.name; left = s.inner.left; reads = s.reads; planned = s.planned.items; faults = s.faults; failed = s.failed } };
+    ghost view = { λ s. record {
+      name = s.inner.name;
+      left = s.inner.left;
+      reads = s.reads;
+      planned = s.planned.items;
+      faults = s.faults;
+      failed = s.failed;
+    } };
 }
 
 impl MemSource {
@@ -62,7 +69,8 @@ impl Source for MemSource {
         ensures exact { IsErr result ↔ FailsNext self.old.failed self.old.planned self.old.reads }
         ensures count { IfOk result (λ n. n ≡ min (length buf.old) (length self.old.left)) }
         ensures given { IfOk result (λ n. buf.new ≡ take n self.old.left ++ drop n buf.old) }
-        ensures after { IfOk result (λ n. self.new ≡ record self.old { left = drop n self.old.left; reads = added self.old.reads 1 }) }
+        ensures after { IfOk result (λ n. self.new ≡
+            record self.old { left = drop n self.old.left; reads = added self.old.reads 1 }) }
         ensures err { OnErr result (self.new ≡ failed_read self.old) }
         ensures cause { HasCause self.old.faults self.new.faults result }
         ensures buffer { OnErr result (buf.new ≡ buf.old) }
