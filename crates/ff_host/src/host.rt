@@ -28,8 +28,10 @@ impl From<AllocError> for HostError {
 ///
 /// Faults are counted by name and direction. A count stops at 2^64 - 1, and one that stands there is read as risen.
 pub trait Host {
+    /// What `open_source` gives.
     type Src: Source + Send + Drop;
 
+    /// What `create_sink` gives.
     type Snk: Sink + Send + Drop;
 
     /// The files by name, where the host tells them.
@@ -51,7 +53,8 @@ pub trait Host {
     ///
     /// Want of memory changes nothing.
     fn open_source(&mut self, name: &str) -> Result<Self::Src, HostError>
-        ensures source { IfOk result (λ src. (Self.Src.name src ≡ Some name.now) × GivesFile (files self.old) name.now (Self.Src.left src)) }
+        ensures source { IfOk result (λ src.
+            (Self.Src.name src ≡ Some name.now) × GivesFile (files self.old) name.now (Self.Src.left src)) }
         ensures files { KeepsFiles (files self.old) (files self.new) }
 
         ensures cause { HasCauseOf HostError.Failed (in_faults self.old name.now) (in_faults self.new name.now) result }
@@ -68,7 +71,8 @@ pub trait Host {
     ///
     /// After a refusal the files are as they were. Want of memory changes nothing.
     fn create_sink(&mut self, name: &str) -> Result<Self::Snk, HostError>
-        ensures sink { IfOk result (λ snk. (Self.Snk.name snk ≡ Some name.now) × HoldsNothing (files self.old) (Self.Snk.holds snk)) }
+        ensures sink { IfOk result (λ snk.
+            (Self.Snk.name snk ≡ Some name.now) × HoldsNothing (files self.old) (Self.Snk.holds snk)) }
         ensures ok { OnOk result (PutsFile (files self.old) (files self.new) name.now (Some [])) }
         ensures err { OnErr result (KeepsFiles (files self.old) (files self.new)) }
 
@@ -101,8 +105,10 @@ pub trait Host {
         requires created { created self.old name.now }
         ensures files { PutsFile (files self.old) (files self.new) name.now (Self.Snk.holds snk) }
 
-        ensures adds { OnOk result (out_faults self.new name.now ≡ added (out_faults self.old name.now) (Self.Snk.faults snk)) }
-        ensures cause { HasCause (added (out_faults self.old name.now) (Self.Snk.faults snk)) (out_faults self.new name.now) result }
+        ensures adds { OnOk result
+            (out_faults self.new name.now ≡ added (out_faults self.old name.now) (Self.Snk.faults snk)) }
+        ensures cause { HasCause (added (out_faults self.old name.now) (Self.Snk.faults snk))
+            (out_faults self.new name.now) result }
         ensures out_others { SameElsewhere name.now (out_faults self.old) (out_faults self.new) }
         ensures ins { SameCounts (in_faults self.old) (in_faults self.new) }
 
