@@ -1,5 +1,5 @@
 -- Streams: what has come so far on a way from one part of a run to the next, and whether more may come.
-use Rattle.std.specs.Prelude.{◌≡◌, ◌⊎◌, ℕ, List, [], ◌++◌, map}
+use Rattle.std.specs.Prelude.{◌≡◌, ◌⊎◌, List, map}
 use mathlib.Core.List.{IsPrefix}
 
 -- more may come, or all has come, or what came was cut off by damage
