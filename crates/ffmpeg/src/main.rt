@@ -9,6 +9,8 @@ mod file_host;
 mod file_sink;
 mod file_source;
 mod log_sink;
+#[cfg(test)]
+mod tests;
 mod words;
 
 use ff_host::Sink;
