@@ -86,4 +86,13 @@ impl Rational {
     {
         i64::from(self.den)
     }
+
+    // Both numbers, with room for products.
+    pub(super) fn parts(self) -> (u128, u128)
+        ensures num { result.0 ≡ self.num }
+        ensures den { result.1 ≡ self.den }
+        ensures base { IsBase self }
+    {
+        (u128::from(self.num), u128::from(self.den))
+    }
 }
