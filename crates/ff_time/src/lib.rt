@@ -1,10 +1,16 @@
 //! Time bases.
 #![tactic(auto)]
 
+mod cut;
 mod error;
+mod order;
 mod rational;
 mod rescaling;
+mod units;
 
+pub use cut::TimeCut;
 pub use error::TimeError;
+pub use order::compare;
 pub use rational::Rational;
 pub use rescaling::rescale;
+pub use units::ceil_units;
