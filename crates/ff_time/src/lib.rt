@@ -5,6 +5,8 @@ mod cut;
 mod error;
 mod order;
 mod rational;
+mod letter;
+mod reading;
 mod rescaling;
 mod units;
 
