@@ -1,3 +1,4 @@
+pub mod Duration
 pub mod Fraction
 pub mod Reading
 pub mod Rescale

@@ -123,8 +123,8 @@ missing_of (done v) = 0
 -- numbers are as small as their places want
 abbrev pub IsSound : Exact → Type 0
 IsSound (first k n) = Unit {0}
-IsSound (second f minutes k n) = (k ≤ 2) × (n ≤ 59)
-IsSound (third minutes k n) = (k ≤ 2) × (n ≤ 59)
+IsSound (second f minutes k n) = (k ≤ 2) × (n ≤ 59) × (n < 10 ^ k)
+IsSound (third minutes k n) = (k ≤ 2) × (n ≤ 59) × (n < 10 ^ k)
 IsSound (decimals whole units k m) = m < 10 ^ k
 IsSound (scaled v) = Unit {0}
 IsSound (done v) = Unit {0}
