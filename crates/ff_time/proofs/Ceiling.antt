@@ -1,11 +1,11 @@
 -- The least number of units that reaches a time.
-use Rattle.std.proofs.Common.{◌≡◌, ℕ, zero, suc, ℤ, pos, negsuc, ◌+◌, ◌*◌, ◌<◌, ◌≤◌, inl, inr, arith, mul-pos, ◌*ℤ◌, ◌≤ℤ◌}
+use Rattle.std.proofs.Common.{ℕ, suc, ℤ, pos, negsuc, ◌+◌, ◌*◌, ◌<◌, ◌≤◌, inl, inr, arith, ◌≤ℤ◌}
 use Rattle.std.proofs.lemmas.Int.{ints}
 use Rattle.std.proofs.Math.Nat.{mul-le-mul_right, suc-mul}
 use Rattle.std.specs.Int.{div_ceil}
 use Rattle.std.proofs.lemmas.Grind.{div_ceil_times}
 use Rattle.std.proofs.lemmas.Bool.{cases_lt}
-use Rattle.ff_time.specs.Fraction.{Fraction, IsBase}
+use Rattle.ff_time.specs.Fraction.{Fraction}
 use Rattle.ff_time.specs.Rescale.{Reaches}
 
 -- q times b reaches a, and one less doesn't
@@ -20,8 +20,8 @@ IsCeiling-div_ceil a b h = let times = div_ceil_times a b h in record { some = h
 least_nat : (a b q n : ℕ) → IsCeiling a b q → a ≤ n * b → q ≤ n
 least_nat a b q n h le =
     elim (cases_lt n q) [
-      inl lt ↦ let more : suc n ≤ q = omega arith in absurd (omega (arith, mul-le-mul_right b more, suc-mul n b, h.least))
-    | inr ge ↦ ge
+      | inl lt ↦ let more : suc n ≤ q = omega arith in absurd (omega (arith, mul-le-mul_right b more, suc-mul n b, h.least))
+      | inr ge ↦ ge
     ]
 
 pub Reaches-ceiling : (us : ℕ) (tb : Fraction) (q : ℕ) → IsCeiling (us * tb.den) (tb.num * 1000000) q → Reaches us tb (pos q)

@@ -1,6 +1,6 @@
 -- Decimals: what one more of them adds, and what they are worth in a unit.
-use Rattle.std.proofs.Common.{◌≡◌, ℕ, zero, suc, ◌+◌, ◌-◌, ◌*◌, ◌/◌, ◌^◌, ◌<◌, ◌≤◌, min, inl, inr, sym, subst, ap, ◌∙◌, refl, arith}
-use Rattle.std.proofs.Math.Nat.{add-mul, mul_assoc, mul_comm, pow-suc, pow-succ', mul-add-div_right, div-div-eq-div-mul, mul-div-mul_right, le-mul_of_pos_right}
+use Rattle.std.proofs.Common.{◌≡◌, ℕ, zero, suc, ◌+◌, ◌-◌, ◌*◌, ◌/◌, ◌^◌, ◌<◌, ◌≤◌, inl, inr, sym, subst, ap, ◌∙◌, arith}
+use Rattle.std.proofs.Math.Nat.{mul_assoc, mul_comm, pow-suc, pow-succ', mul-add-div_right, div-div-eq-div-mul, mul-div-mul_right, le-mul_of_pos_right}
 use Rattle.std.proofs.lemmas.Nat.{div_below, pow-add}
 use Rattle.std.proofs.lemmas.Bool.{cases_lt}
 use Rattle.ff_time.specs.Reading.{cap, millionths_of, value_at}
@@ -47,7 +47,7 @@ millionths_worth k m us q some many e =
     let whole : m * 1000000 ≡ m * us * q = ap (λ p. m * p) (sym e ∙ mul_comm q us) ∙ sym (mul_assoc m us q) in
     part ∙ (div-div-eq-div-mul (m * 1000000) (10 ^ k) q ∙ (ap (λ p. p / (10 ^ k * q)) whole ∙ mul-div-mul_right (m * us) (10 ^ k) many))
 
-value_at-split : (w k m us : ℕ) → value_at w k m us ≡ w * us + m * us / 10 ^ k
+pub value_at-split : (w k m us : ℕ) → value_at w k m us ≡ w * us + m * us / 10 ^ k
 value_at-split w k m us =
     let product : (w * 10 ^ k + m) * us ≡ w * us * 10 ^ k + m * us = grind arith in
     ap (λ x. x / 10 ^ k) product ∙ mul-add-div_right (ten_positive k) (w * us) (m * us)
@@ -55,11 +55,11 @@ value_at-split w k m us =
 cap_times : (w us x : ℕ) → 0 < us → cap (cap w * us + x) ≡ cap (w * us + x)
 cap_times w us x some =
     elim (cases_lt 1000000000000001 w) [
-      inl lt ↦
-        let top : cap w ≡ 1000000000000001 = omega arith in
-        let near : 1000000000000001 ≤ cap w * us = subst (λ c. 1000000000000001 ≤ c * us) (sym top) (le-mul_of_pos_right 1000000000000001 some) in
-        omega (arith, le-mul_of_pos_right w some, near)
-    | inr le ↦ let same : cap w ≡ w = omega arith in ap (λ c. cap (c * us + x)) same
+      | inl lt ↦
+          let top : cap w ≡ 1000000000000001 = omega arith in
+          let near : 1000000000000001 ≤ cap w * us = subst (λ c. 1000000000000001 ≤ c * us) (sym top) (le-mul_of_pos_right 1000000000000001 some) in
+          omega (arith, le-mul_of_pos_right w some, near)
+      | inr le ↦ let same : cap w ≡ w = omega arith in ap (λ c. cap (c * us + x)) same
     ]
 
 -- the code's microseconds are the fraction's, cut off
@@ -77,4 +77,3 @@ place_small (suc (suc zero)) d h = omega arith
 place_small (suc (suc (suc zero))) d h = omega arith
 place_small (suc (suc (suc (suc zero)))) d h = omega arith
 place_small (suc (suc (suc (suc (suc k))))) d h = let end : 5 - suc (suc (suc (suc (suc k)))) ≡ 0 = omega arith in subst (λ e. d * 10 ^ e ≤ 900000) (sym end) (omega arith)
-

@@ -1,15 +1,12 @@
 -- The exact reader goes on by a byte exactly as what may follow does.
-use Rattle.std.proofs.Common.{◌≡◌, ℕ, zero, suc, ◌+◌, ◌-◌, ◌*◌, ◌/◌, ◌^◌, ◌<◌, ◌≤◌, ◌⊎◌, inl, inr, Bool, true, false, ◌&&◌, Option, Some, None, IsSomeAnd, nat_lt, nat_le, List, [], ◌∷◌, ◌++◌, length, sym, subst, ap, ◌∙◌, refl, arith}
-use Rattle.std.proofs.Math.Nat.{le-mul_of_pos_right, mul-one}
+use Rattle.std.proofs.Common.{◌≡◌, ℕ, ◌+◌, ◌*◌, ◌<◌, ◌≤◌, ◌⊎◌, inl, inr, Bool, true, false, ◌&&◌, Option, IsSomeAnd, nat_lt, nat_le, List, ◌∷◌, sym, subst, ◌∙◌, arith}
+use Rattle.std.proofs.Math.Nat.{mul-one}
 use Rattle.std.proofs.lemmas.Bool.Decides.{nat_tests}
-use Rattle.ff_time.specs.Duration.{IsDigit, IsUnit, number}
-use Rattle.ff_time.specs.Reading.{Exact, first, second, third, decimals, scaled, done, value_at, if_some, letter_of, next_of, first_next, second_next, third_next, decimals_next, scaled_next}
+use Rattle.ff_time.specs.Duration.{IsDigit}
+use Rattle.ff_time.specs.Reading.{Exact, second, third, decimals, scaled, done, value_at, if_some, letter_of, first_next, second_next, third_next, decimals_next}
 use Rattle.ff_time.specs.declared.letter.Letter.{Letter}
-use Rattle.ff_time.specs.declared.letter.Letter.TheVariants.{Digit, Colon, Point, S, M, U, Other}
-use Rattle.ff_time.proofs.Decimals.{ten_positive}
-use Rattle.ff_time.proofs.Letters.{IsLetter, IsLetter-letter_of, letter_of-digit, digit_or}
-use Rattle.ff_time.proofs.Runs.{Run, Refuses, Run-here, Run-other, Run-digit, Run-digit_back}
-use Rattle.ff_time.proofs.Tails.{IsUnitOr, AfterDecimals, AtUnit, AtPoint, AfterWhole, AfterThird, AtSeconds, AfterSecond, may_be_minutes, AtMinutes, AfterFirst, Rest, UnitBytes, unit_bytes}
+use Rattle.ff_time.proofs.Runs.{Run, Refuses}
+use Rattle.ff_time.proofs.Tails.{AfterDecimals, AfterWhole, AfterThird, AtSeconds, AfterSecond, may_be_minutes, AtMinutes, AfterFirst, Rest, UnitBytes, unit_bytes}
 
 pub some_if : (c : Bool) (r : Exact) (P : Exact → Type 0) → c ≡ true → P r → IsSomeAnd (if_some c r) P
 some_if c r P e h = subst (λ x. IsSomeAnd (if_some x r) P) (sym e) h

@@ -1,10 +1,8 @@
 -- The end of a text, and how much is missing.
-use Rattle.std.proofs.Common.{◌≡◌, ℕ, zero, suc, ◌+◌, ◌-◌, ◌*◌, ◌/◌, ◌^◌, ◌<◌, ◌≤◌, ◌⊎◌, inl, inr, Bool, true, false, ◌&&◌, Option, Some, None, IsSomeAnd, if◌then◌else◌, nat_lt, nat_le, List, [], ◌∷◌, ◌++◌, length, sym, subst, ap, ◌∙◌, refl, arith}
-use Rattle.std.proofs.Math.Nat.{mul-one}
-use Rattle.std.proofs.lemmas.Bool.Decides.{nat_tests}
-use Rattle.ff_time.specs.Reading.{Exact, IsSound, first, second, third, decimals, scaled, done, value_at, value_of, missing_of, next_of, letter_of}
-use Rattle.ff_time.proofs.Runs.{Run, Run-here, Run-end}
-use Rattle.ff_time.proofs.Tails.{IsUnitOr, AfterDecimals, AtUnit, AtPoint, AfterWhole, AfterThird, AtSeconds, AfterSecond, AtMinutes, AfterFirst, Rest}
+use Rattle.std.proofs.Common.{◌≡◌, ℕ, ◌+◌, ◌*◌, ◌<◌, ◌⊎◌, inl, inr, Bool, true, false, ◌&&◌, Some, None, IsSomeAnd, if◌then◌else◌, nat_lt, [], sym, subst, ap, ◌∙◌, refl}
+use Rattle.ff_time.specs.Reading.{Exact, IsSound, first, second, third, decimals, scaled, done, value_at, value_of}
+use Rattle.ff_time.proofs.Runs.{Run-here, Run-end}
+use Rattle.ff_time.proofs.Tails.{IsUnitOr, AfterDecimals, AfterWhole, AfterThird, AtSeconds, AfterSecond, AtMinutes, AfterFirst, Rest}
 use Rattle.ff_time.proofs.Derivative.{both_true, lt_true}
 use Rattle.ff_time.proofs.Steps.{both_out, lt_out}
 

@@ -1,5 +1,5 @@
 -- The whole number nearest to a fraction.
-use Rattle.std.proofs.Common.{mul-pos, ◌≡◌, ℕ, zero, suc, ℤ, pos, negsuc, neg_ℤ, ◌+◌, ◌-◌, ◌*◌, ◌<◌, ◌≤◌, ◌^◌, ◌⊎◌, inl, inr, sym, subst, ap, ◌∙◌, refl, arith, ◌*ℤ◌, ◌-ℤ◌, ◌+ℤ◌}
+use Rattle.std.proofs.Common.{mul-pos, ◌≡◌, ℕ, zero, suc, ℤ, pos, negsuc, neg_ℤ, ◌+◌, ◌-◌, ◌*◌, ◌<◌, ◌≤◌, ◌⊎◌, inl, inr, sym, subst, ap, ◌∙◌, refl, arith, ◌*ℤ◌, ◌-ℤ◌}
 use Rattle.std.specs.Int.RustNames.{unsigned_abs, FitsSigned}
 use Rattle.std.proofs.lemmas.Int.{ints}
 use Rattle.std.proofs.Math.Nat.{mul-le-mul_right, suc-mul, zero-mul}
@@ -25,8 +25,8 @@ step_up r s q h = let e : suc r ≤ s = omega arith in omega (arith, mul-le-mul_
 near_apart : (p q r s : ℕ) → IsRounded p q r → s ≤ r → apart (r * q) p ≤ apart (s * q) p
 near_apart p q r s h le =
     elim (cases_lt s r) [
-      inl lt ↦ omega (arith, h.low, h.high, h.some, step_up s r q lt)
-    | inr ge ↦ let e : r ≡ s = omega arith in subst (λ t. apart (r * q) p ≤ apart (t * q) p) e (omega arith)
+      | inl lt ↦ omega (arith, h.low, h.high, h.some, step_up s r q lt)
+      | inr ge ↦ let e : r ≡ s = omega arith in subst (λ t. apart (r * q) p ≤ apart (t * q) p) e (omega arith)
     ]
 
 far_apart : (p q r s : ℕ) → IsRounded p q r → r < s → apart (r * q) p < apart (s * q) p
@@ -44,16 +44,16 @@ distance-negsuc p q t = abs-below (suc t * q) p
 nearest_pos : (p q r : ℕ) → IsRounded p q r → (s : ℤ) → distance (pos p) q (pos r) ≤ distance (pos p) q s
 nearest_pos p q r h (pos t) =
     elim (cases_lt r t) [
-      inl lt ↦ omega (arith, far_apart p q r t h lt, distance-pos p q r, distance-pos p q t)
-    | inr le ↦ omega (arith, near_apart p q r t h le, distance-pos p q r, distance-pos p q t)
+      | inl lt ↦ omega (arith, far_apart p q r t h lt, distance-pos p q r, distance-pos p q t)
+      | inr le ↦ omega (arith, near_apart p q r t h le, distance-pos p q r, distance-pos p q t)
     ]
 nearest_pos p q r h (negsuc t) = omega (arith, below_apart p q r t h, distance-pos p q r, distance-negsuc p q t)
 
 away_pos : (p q r : ℕ) → IsRounded p q r → (s : ℤ) → distance (pos p) q s ≡ distance (pos p) q (pos r) → unsigned_abs s ≤ r
 away_pos p q r h (pos t) e =
     elim (cases_lt r t) [
-      inl lt ↦ absurd (omega (arith, far_apart p q r t h lt, distance-pos p q r, distance-pos p q t))
-    | inr le ↦ le
+      | inl lt ↦ absurd (omega (arith, far_apart p q r t h lt, distance-pos p q r, distance-pos p q t))
+      | inr le ↦ le
     ]
 away_pos p q r h (negsuc t) e = absurd (omega (arith, below_apart p q r t h, distance-pos p q r, distance-negsuc p q t))
 
@@ -106,12 +106,12 @@ IsNearest-unique p q r s some g h =
     let same : distance p q s ≡ distance p q r = omega (arith, g.nearest s, h.nearest r) in
     let size : unsigned_abs r ≡ unsigned_abs s = omega (arith, g.away s same, h.away r (sym same)) in
     elim (opposite r s size) [
-      inl e ↦ e
-    | inr e ↦
-        let turned : r *ℤ pos q ≡ neg_ℤ (s *ℤ pos q) = ap (λ z. z *ℤ pos q) e ∙ neg-mul s q in
-        let zero_at : distance p q s ≤ unsigned_abs (pos 0 -ℤ p) = subst (λ n. distance p q s ≤ unsigned_abs (pos n -ℤ p)) (zero-mul q) (h.nearest (pos 0)) in
-        let none : s ≡ pos 0 = no_factor s q some (both_near (s *ℤ pos q) p (same ∙ ap (λ z. unsigned_abs (z -ℤ p)) turned) zero_at) in
-        omega (arith, ints, e, none)
+      | inl e ↦ e
+      | inr e ↦
+          let turned : r *ℤ pos q ≡ neg_ℤ (s *ℤ pos q) = ap (λ z. z *ℤ pos q) e ∙ neg-mul s q in
+          let zero_at : distance p q s ≤ unsigned_abs (pos 0 -ℤ p) = subst (λ n. distance p q s ≤ unsigned_abs (pos n -ℤ p)) (zero-mul q) (h.nearest (pos 0)) in
+          let none : s ≡ pos 0 = no_factor s q some (both_near (s *ℤ pos q) p (same ∙ ap (λ z. unsigned_abs (z -ℤ p)) turned) zero_at) in
+          omega (arith, ints, e, none)
     ]
 
 -- the sign and the size apart

@@ -1,5 +1,5 @@
 -- Every state has a shortest completion, and reading keeps its states sound.
-use Rattle.std.proofs.Common.{◌≡◌, ℕ, zero, suc, ◌+◌, ◌-◌, ◌*◌, ◌/◌, ◌^◌, ◌<◌, ◌≤◌, ◌⊎◌, inl, inr, Bool, true, false, ◌&&◌, Option, Some, None, IsSomeAnd, IfSome, if◌then◌else◌, nat_lt, nat_le, List, [], ◌∷◌, ◌++◌, length, sym, subst, ap, ◌∙◌, refl, arith}
+use Rattle.std.proofs.Common.{◌≡◌, ℕ, zero, suc, ◌+◌, ◌*◌, ◌^◌, ◌<◌, ◌≤◌, ◌⊎◌, inl, inr, Bool, true, false, ◌&&◌, Option, Some, None, IsSomeAnd, IfSome, if◌then◌else◌, nat_lt, nat_le, List, [], ◌∷◌, length, sym, subst, refl, arith}
 use Rattle.std.proofs.Math.Nat.{pow-suc}
 use Rattle.std.proofs.lemmas.Bool.Decides.{nat_tests}
 use Rattle.ff_time.specs.Reading.{Exact, IsSound, first, second, third, decimals, scaled, done, value_at, if_some, value_of, missing_of, next_of, letter_of, first_next, second_next, third_next, decimals_next, scaled_next}
@@ -7,7 +7,7 @@ use Rattle.ff_time.specs.declared.letter.Letter.{Letter}
 use Rattle.ff_time.specs.declared.letter.Letter.TheVariants.{Digit, Colon, Point, S, M, U, Other}
 use Rattle.ff_time.proofs.Letters.{IsLetter, IsLetter-letter_of}
 use Rattle.ff_time.proofs.Tails.{Rest, may_be_minutes}
-use Rattle.ff_time.proofs.Derivative.{both_true, lt_true, le_true, below_true}
+use Rattle.ff_time.proofs.Derivative.{both_true, lt_true}
 use Rattle.ff_time.proofs.Steps.{both_out, lt_out, le_out, Rest-next, Rest-back}
 use Rattle.ff_time.proofs.Ends.{some_value, Rest-end, Rest-ended}
 
@@ -220,18 +220,18 @@ pub completed : (r : Exact) → IsSound r → Completed r
 completed (first k n) sound = elim (zero_or k) [ inl e ↦ subst (λ x. Completed (first x n)) (sym e) (first_none n) | inr some ↦ first_some k n some ]
 completed (second f minutes k n) sound =
     elim (zero_or k) [
-      inl e ↦ subst (λ x. Completed (second f minutes x n)) (sym e) (subst (λ x. Completed (second f minutes 0 x)) (sym (no_number k n e sound.2)) (second_none f minutes))
-    | inr some ↦ second_some f k n minutes sound some
+      | inl e ↦ subst (λ x. Completed (second f minutes x n)) (sym e) (subst (λ x. Completed (second f minutes 0 x)) (sym (no_number k n e sound.2)) (second_none f minutes))
+      | inr some ↦ second_some f k n minutes sound some
     ]
 completed (third minutes k n) sound =
     elim (zero_or k) [
-      inl e ↦ subst (λ x. Completed (third minutes x n)) (sym e) (subst (λ x. Completed (third minutes 0 x)) (sym (no_number k n e sound.2)) (third_none minutes))
-    | inr some ↦ third_some minutes k n sound some
+      | inl e ↦ subst (λ x. Completed (third minutes x n)) (sym e) (subst (λ x. Completed (third minutes 0 x)) (sym (no_number k n e sound.2)) (third_none minutes))
+      | inr some ↦ third_some minutes k n sound some
     ]
 completed (decimals whole units k m) sound =
     elim (zero_or k) [
-      inl e ↦ subst (λ x. Completed (decimals whole units x m)) (sym e) (subst (λ x. Completed (decimals whole units 0 x)) (sym (no_number k m e sound)) (decimals_none whole units))
-    | inr some ↦ decimals_some whole k m units sound some
+      | inl e ↦ subst (λ x. Completed (decimals whole units x m)) (sym e) (subst (λ x. Completed (decimals whole units 0 x)) (sym (no_number k m e sound)) (decimals_none whole units))
+      | inr some ↦ decimals_some whole k m units sound some
     ]
 completed (scaled v) sound = stepped (scaled v) (done v) 115 tt refl refl (done_completed v)
 completed (done v) sound = done_completed v

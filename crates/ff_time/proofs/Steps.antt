@@ -1,5 +1,5 @@
 -- Reading a byte, and the end of the text, against what may follow.
-use Rattle.std.proofs.Common.{◌≡◌, ℕ, zero, suc, ◌+◌, ◌-◌, ◌*◌, ◌/◌, ◌^◌, ◌<◌, ◌≤◌, ◌⊎◌, inl, inr, Bool, true, false, ◌&&◌, Option, Some, None, IsSomeAnd, nat_lt, nat_le, List, [], ◌∷◌, ◌++◌, length, sym, subst, ap, ◌∙◌, refl, arith}
+use Rattle.std.proofs.Common.{◌≡◌, ℕ, ◌+◌, ◌-◌, ◌*◌, ◌^◌, ◌<◌, ◌≤◌, inl, inr, Bool, true, false, ◌&&◌, Option, IsSomeAnd, nat_lt, nat_le, List, [], ◌∷◌, length, sym, subst, ap, ◌∙◌, refl, arith}
 use Rattle.std.proofs.Math.Nat.{le-mul_of_pos_right, mul-one}
 use Rattle.std.proofs.lemmas.Bool.Decides.{nat_tests}
 use Rattle.ff_time.specs.Duration.{IsDigit, IsUnit, number}
@@ -8,9 +8,9 @@ use Rattle.ff_time.specs.declared.letter.Letter.{Letter}
 use Rattle.ff_time.specs.declared.letter.Letter.TheVariants.{Digit, Colon, Point, S, M, U, Other}
 use Rattle.ff_time.proofs.Decimals.{ten_positive}
 use Rattle.ff_time.proofs.Letters.{IsLetter, IsLetter-letter_of, letter_of-digit, digit_or}
-use Rattle.ff_time.proofs.Runs.{Run, Refuses, Run-here, Run-other, Run-digit, Run-digit_back}
-use Rattle.ff_time.proofs.Tails.{IsUnitOr, AfterDecimals, AtUnit, AtPoint, AfterWhole, AfterThird, AtSeconds, AfterSecond, may_be_minutes, AtMinutes, AfterFirst, Rest}
-use Rattle.ff_time.proofs.Derivative.{At, some_if, both_true, lt_true, le_true, below_true, decimals_in, third_in, second_in, first_in, decimals_refuses, third_refuses, second_refuses, first_refuses}
+use Rattle.ff_time.proofs.Runs.{Run, Run-here, Run-other, Run-digit, Run-digit_back}
+use Rattle.ff_time.proofs.Tails.{IsUnitOr, AfterDecimals, AfterThird, AfterSecond, may_be_minutes, AfterFirst, Rest}
+use Rattle.ff_time.proofs.Derivative.{At, some_if, both_true, le_true, below_true, decimals_in, third_in, second_in, first_in, decimals_refuses, third_refuses, second_refuses, first_refuses}
 
 -- a number only grows
 grown : (n len more : ℕ) → n ≤ n * 10 ^ len + more
@@ -42,23 +42,23 @@ scaled_in v b text value h =
 pub Rest-next : (r : Exact) (b : ℕ) (text : List ℕ) (value : ℕ) → Rest r (b ∷ text) value → IsSomeAnd (next_of r (letter_of b)) (λ s. Rest s text value)
 Rest-next (first k n) b text value h =
     elim (digit_or b) [
-      inl is ↦ digit_moved (first_next k n) b text value is (Run-digit AfterFirst k n b text value first_refuses is h)
-    | inr other ↦ first_in k n b text value (Run-other AfterFirst k n b text value other h)
+      | inl is ↦ digit_moved (first_next k n) b text value is (Run-digit AfterFirst k n b text value first_refuses is h)
+      | inr other ↦ first_in k n b text value (Run-other AfterFirst k n b text value other h)
     ]
 Rest-next (second f minutes k n) b text value h =
     elim (digit_or b) [
-      inl is ↦ digit_moved (second_next f minutes k n) b text value is (second_digit f k n b minutes text value (Run-digit (AfterSecond f minutes) k n b text value (second_refuses f minutes) is h))
-    | inr other ↦ second_in f k n b minutes text value (Run-other (AfterSecond f minutes) k n b text value other h)
+      | inl is ↦ digit_moved (second_next f minutes k n) b text value is (second_digit f k n b minutes text value (Run-digit (AfterSecond f minutes) k n b text value (second_refuses f minutes) is h))
+      | inr other ↦ second_in f k n b minutes text value (Run-other (AfterSecond f minutes) k n b text value other h)
     ]
 Rest-next (third minutes k n) b text value h =
     elim (digit_or b) [
-      inl is ↦ digit_moved (third_next minutes k n) b text value is (third_digit minutes k n b text value (Run-digit (AfterThird minutes) k n b text value (third_refuses minutes) is h))
-    | inr other ↦ third_in minutes k n b text value (Run-other (AfterThird minutes) k n b text value other h)
+      | inl is ↦ digit_moved (third_next minutes k n) b text value is (third_digit minutes k n b text value (Run-digit (AfterThird minutes) k n b text value (third_refuses minutes) is h))
+      | inr other ↦ third_in minutes k n b text value (Run-other (AfterThird minutes) k n b text value other h)
     ]
 Rest-next (decimals whole units k m) b text value h =
     elim (digit_or b) [
-      inl is ↦ digit_moved (decimals_next whole units k m) b text value is (Run-digit (AfterDecimals whole units) k m b text value (decimals_refuses whole units) is h)
-    | inr other ↦ decimals_in whole k m b units text value (Run-other (AfterDecimals whole units) k m b text value other h)
+      | inl is ↦ digit_moved (decimals_next whole units k m) b text value is (Run-digit (AfterDecimals whole units) k m b text value (decimals_refuses whole units) is h)
+      | inr other ↦ decimals_in whole k m b units text value (Run-other (AfterDecimals whole units) k m b text value other h)
     ]
 Rest-next (scaled v) b text value h = scaled_in v b text value h
 Rest-next (done v) b text value h = cc (h.0)

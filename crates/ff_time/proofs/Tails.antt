@@ -1,8 +1,8 @@
 -- What may follow on each state of the exact reader.
-use Rattle.std.proofs.Common.{◌≡◌, ℕ, zero, suc, ◌+◌, ◌-◌, ◌*◌, ◌/◌, ◌^◌, ◌<◌, ◌≤◌, ◌⊎◌, inl, inr, Bool, true, false, ◌&&◌, Option, Some, None, nat_lt, nat_le, List, [], ◌∷◌, ◌++◌, length, sym, subst, ap, ◌∙◌, refl, arith}
-use Rattle.ff_time.specs.Duration.{IsDigit, IsUnit, number}
+use Rattle.std.proofs.Common.{◌≡◌, ℕ, ◌+◌, ◌*◌, ◌<◌, ◌≤◌, ◌⊎◌, inl, inr, Bool, true, false, ◌&&◌, nat_le, List, [], ◌∷◌, ap, ◌∙◌, refl}
+use Rattle.ff_time.specs.Duration.{IsUnit}
 use Rattle.ff_time.specs.Reading.{Exact, first, second, third, decimals, scaled, done, value_at}
-use Rattle.ff_time.proofs.Runs.{Run, Refuses}
+use Rattle.ff_time.proofs.Runs.{Run}
 
 -- a unit where one may follow
 abbrev pub IsUnitOr : Bool → List ℕ → ℕ → Type 0

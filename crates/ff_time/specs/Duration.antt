@@ -1,6 +1,8 @@
 -- The texts that are durations, each with its microseconds.
 use Rattle.std.specs.Prelude.{◌≡◌, ℕ, ◌+◌, ◌-◌, ◌*◌, ◌/◌, ◌^◌, ◌<◌, ◌≤◌, ◌⊎◌, List, [], ◌∷◌, ◌++◌, length, take, codes}
 use Rattle.std.specs.List.{AllByRecursion}
+use Rattle.ff_time.specs.declared.error.TimeError.{TimeError}
+use Rattle.ff_time.specs.declared.error.TimeError.TheVariants.{NotPositive, TooBig, Overflow, BadTime}
 
 -- `0` to `9`
 abbrev pub IsDigit : ℕ → Type 0
@@ -94,3 +96,10 @@ pub record IsBadAt (text : List ℕ) (at : ℕ) : Type 0 where
   pub no_duration : (value : ℕ) → ¬ IsDuration text value
   pub before : GoesOn (take at text)
   pub place : (at ≡ length text) ⊎ ((at < length text) × ¬ GoesOn (take (at + 1) text))
+
+-- what a text may be refused for
+abbrev pub IsTextError : TimeError → Type 0
+IsTextError NotPositive = ⊥
+IsTextError TooBig = Unit {0}
+IsTextError Overflow = ⊥
+IsTextError (BadTime at) = Unit {0}

@@ -20,7 +20,6 @@ pub record IsRounded (p q r : ℕ) : Type 0 where
   pub low : 2 * (r * q) ≤ 2 * p + q
   pub high : 2 * p + q < 2 * (r * q) + 2 * q
 
-
 -- a units of one base, told in units of another: a * from / to, rounded
 abbrev pub IsRescaled : ℤ → Fraction → Fraction → ℤ → Type 0
 IsRescaled a from to r = IsNearest (a *ℤ pos (from.num * to.den)) (from.den * to.num) r

@@ -2,15 +2,17 @@
 #![tactic(auto)]
 
 mod cut;
+mod duration;
 mod error;
+mod letter;
 mod order;
 mod rational;
-mod letter;
 mod reading;
 mod rescaling;
 mod units;
 
 pub use cut::TimeCut;
+pub use duration::read_duration;
 pub use error::TimeError;
 pub use order::compare;
 pub use rational::Rational;

@@ -7,7 +7,10 @@ use super::letter::{Letter, classify};
 #[derive(Clone, Copy)]
 pub(super) enum Reading {
     /// The first number.
-    First { digits: u8, number: u64 },
+    First {
+        digits: u8,
+        number: u64,
+    },
     /// The number behind one colon, and whether the first one may be minutes.
     Second {
         first: u64,
@@ -29,9 +32,13 @@ pub(super) enum Reading {
         millionths: u64,
     },
     /// The first letter of `ms` or `us`.
-    Scaled { value: u64 },
+    Scaled {
+        value: u64,
+    },
     /// A whole duration.
-    Whole { value: u64 },
+    Whole {
+        value: u64,
+    },
 }
 
 fn capped(n: u128) -> u64
@@ -233,13 +240,7 @@ impl Reading {
                 minutes: false,
                 digits,
                 ..
-            } => {
-                if digits == 0 {
-                    3
-                } else {
-                    2
-                }
-            }
+            } => { if digits == 0 { 3 } else { 2 } }
             Reading::First { digits, .. }
             | Reading::Second { digits, .. }
             | Reading::Third { digits, .. }

@@ -1,5 +1,4 @@
-use Rattle.std.proofs.Common.{◌≡◌, ℕ, ◌+◌, ◌*◌, ◌^◌, ◌-◌, ◌<◌, ◌≤◌, arith, min, ap, ◌∙◌}
-use Rattle.ff_time.specs.Reading.{millionths_of}
+use Rattle.std.proofs.Common.{◌≡◌, ◌*◌, ◌^◌, ◌-◌, ◌<◌, arith, ap, ◌∙◌}
 use Rattle.ff_time.proofs.Decimals.{millionths_few, millionths_many, millionths_below, place_small}
 use Rattle.ff_time.proofs.reading.decimal.Goals as goal
 

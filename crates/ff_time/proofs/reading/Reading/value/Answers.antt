@@ -1,7 +1,6 @@
-use Rattle.std.proofs.Common.{◌≡◌, ℕ, Bool, ◌+◌, ◌*◌, ◌/◌, ◌^◌, ◌-◌, ◌<◌, arith, min, option_map, Some, None, nat_lt, if◌then◌else◌, sym, ◌∙◌}
+use Rattle.std.proofs.Common.{◌≡◌, ℕ, Bool, ◌+◌, ◌*◌, ◌/◌, ◌<◌, arith, min, option_map, Some, None, nat_lt, if◌then◌else◌, sym, ◌∙◌}
 use Rattle.std.proofs.lemmas.Grind.{common_steps}
-use Rattle.ff_time.specs.Reading.{Exact, first, second, third, decimals, scaled, done, IsSound, shown, millionths_of, cap, value_at, value_of}
-use Rattle.ff_time.specs.declared.reading.Reading.{Reading}
+use Rattle.ff_time.specs.Reading.{Exact, first, second, third, decimals, scaled, done, shown, millionths_of, cap, value_at, value_of}
 use Rattle.ff_time.specs.declared.reading.Reading.TheVariants.{Decimals}
 use Rattle.ff_time.proofs.Decimals.{value_at-capped}
 use Rattle.ff_time.proofs.reading.Reading.value.Goals as goal
