@@ -19,7 +19,7 @@ abs-sub x y = omega (arith, ints)
 abs-below : (x y : ℕ) → unsigned_abs (neg_ℤ (pos x) -ℤ pos y) ≡ x + y
 abs-below x y = omega (arith, ints)
 
-step_up : (r s q : ℕ) → r < s → r * q + q ≤ s * q
+pub step_up : (r s q : ℕ) → r < s → r * q + q ≤ s * q
 step_up r s q h = let e : suc r ≤ s = omega arith in omega (arith, mul-le-mul_right q e, suc-mul r q)
 
 near_apart : (p q r s : ℕ) → IsRounded p q r → s ≤ r → apart (r * q) p ≤ apart (s * q) p
