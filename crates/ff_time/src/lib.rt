@@ -4,6 +4,7 @@
 mod cut;
 mod duration;
 mod error;
+pub mod laws;
 mod letter;
 mod order;
 mod rational;
