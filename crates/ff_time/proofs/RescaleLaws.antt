@@ -22,9 +22,9 @@ apart_none x y e = omega (arith, ints, e)
 same_product : (x y : ℤ) (d : ℕ) → 0 < d → x *ℤ pos d ≡ y *ℤ pos d → x ≡ y
 same_product x y d some e =
     elim (int_cases x y) [
-      inl lt ↦ absurd (omega (arith, ints, mul_less x y d lt, e, some))
-    | inr (inl same) ↦ same
-    | inr (inr gt) ↦ absurd (omega (arith, ints, mul_less y x d gt, e, some))
+      | inl lt ↦ absurd (omega (arith, ints, mul_less x y d lt, e, some))
+      | inr (inl same) ↦ same
+      | inr (inr gt) ↦ absurd (omega (arith, ints, mul_less y x d gt, e, some))
     ]
 
 distance_none : (a : ℤ) (q : ℕ) → distance (a *ℤ pos q) q a ≡ 0
@@ -49,9 +49,9 @@ IsRescaled-same a r base b h =
 product_ordered : (a b : ℤ) (n : ℕ) → a ≤ℤ b → (a *ℤ pos n) ≤ℤ (b *ℤ pos n)
 product_ordered a b n h =
     elim (int_cases a b) [
-      inl lt ↦ omega (arith, ints, mul_less a b n lt)
-    | inr (inl same) ↦ subst (λ x. (a *ℤ pos n) ≤ℤ (x *ℤ pos n)) same (omega (arith, ints))
-    | inr (inr gt) ↦ absurd (omega (arith, ints, h, gt))
+      | inl lt ↦ omega (arith, ints, mul_less a b n lt)
+      | inr (inl same) ↦ subst (λ x. (a *ℤ pos n) ≤ℤ (x *ℤ pos n)) same (omega (arith, ints))
+      | inr (inr gt) ↦ absurd (omega (arith, ints, h, gt))
     ]
 
 meet : (r s p o : ℤ) (q : ℕ) → 0 < q → (s +ℤ pos q) ≤ℤ r → p ≤ℤ o → unsigned_abs (r -ℤ p) ≤ unsigned_abs (s -ℤ p) → unsigned_abs (s -ℤ o) ≤ unsigned_abs (r -ℤ o) → p ≡ o
@@ -61,9 +61,9 @@ nearest_ordered : (p o : ℤ) (q : ℕ) (r s : ℤ) → 0 < q → p ≤ℤ o →
 nearest_ordered p o q r s some le g h =
     by_lt_z s r
     (λ lt.
-      let same : p ≡ o = meet (r *ℤ pos q) (s *ℤ pos q) p o q some (mul_less s r q lt) le (g.nearest s) (h.nearest r) in
-      let one : r ≡ s = IsNearest-unique o q r s some (subst (λ x. IsNearest x q r) same g) h in
-      absurd (omega (arith, ints, lt, one)))
+    let same : p ≡ o = meet (r *ℤ pos q) (s *ℤ pos q) p o q some (mul_less s r q lt) le (g.nearest s) (h.nearest r) in
+    let one : r ≡ s = IsNearest-unique o q r s some (subst (λ x. IsNearest x q r) same g) h in
+    absurd (omega (arith, ints, lt, one)))
     (λ ge. ge)
 
 pub IsRescaled-ordered : (a b r s : ℤ) (from to : Fraction) → IsBase from → IsBase to → a ≤ℤ b → IsRescaled a from to r → IsRescaled b from to s → r ≤ℤ s
@@ -107,6 +107,6 @@ IsRescaled-again a r b from to f t g h =
     let there : IsNearest (a *ℤ pos n) d r = subst (λ x. IsNearest (a *ℤ pos n) x r) den g in
     let back : IsNearest (r *ℤ pos d) n b = subst (λ x. IsNearest (r *ℤ pos d) x b) num h in
     let wide : 2 * unsigned_abs (b *ℤ pos n -ℤ a *ℤ pos n) ≤ n + d =
-      together (a *ℤ pos n) (r *ℤ pos d) (b *ℤ pos n) n d (nearest_half (a *ℤ pos n) d r (mul-pos t.num_positive f.den_positive) there) (nearest_half (r *ℤ pos d) n b (mul-pos f.num_positive t.den_positive) back) in
+    together (a *ℤ pos n) (r *ℤ pos d) (b *ℤ pos n) n d (nearest_half (a *ℤ pos n) d r (mul-pos t.num_positive f.den_positive) there) (nearest_half (r *ℤ pos d) n b (mul-pos f.num_positive t.den_positive) back) in
     let size : unsigned_abs (b -ℤ a) * n ≡ unsigned_abs (b *ℤ pos n -ℤ a *ℤ pos n) = sym (unsigned_abs-mul (b -ℤ a) (pos n)) ∙ ap unsigned_abs (difference_times b a n) in
     omega (arith, wide, size, mul_assoc 2 (unsigned_abs (b -ℤ a)) n)

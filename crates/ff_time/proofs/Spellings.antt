@@ -50,10 +50,10 @@ unfolding FirstBelow
 first_below P zero d = inr (λ k h p. omega (arith, h))
 first_below P (suc n) d =
     elim (first_below P n d) [
-      inl f ↦ inl (f.0, omega (arith, f.1), f.2, f.3)
-    | inr none ↦ elim (d n) [
-        inl p ↦ inl (n, omega arith, p, none)
-      | inr not ↦ inr (one_more_below P n none not)
+      | inl f ↦ inl (f.0, omega (arith, f.1), f.2, f.3)
+      | inr none ↦ elim (d n) [
+        | inl p ↦ inl (n, omega arith, p, none)
+        | inr not ↦ inr (one_more_below P n none not)
       ]
     ]
 
@@ -65,8 +65,8 @@ Found n r value = (text : List ℕ) × (length text ≡ n) × Rest r text value
 nat_decided : (m n : ℕ) → Decided (m ≡ n)
 nat_decided m n =
     elim (cases_lt m n) [
-      inl lt ↦ inr (λ e. omega (arith, lt, e))
-    | inr le ↦ elim (cases_lt n m) [ inl gt ↦ inr (λ e. omega (arith, gt, e)) | inr ge ↦ inl (omega arith) ]
+      | inl lt ↦ inr (λ e. omega (arith, lt, e))
+      | inr le ↦ elim (cases_lt n m) [ inl gt ↦ inr (λ e. omega (arith, gt, e)) | inr ge ↦ inl (omega arith) ]
     ]
 
 some_decided : (o : Option ℕ) (v : ℕ) → Decided (IsSomeAnd o (λ x. v ≡ x))
@@ -122,31 +122,33 @@ found_decided : (n : ℕ) (r : Exact) (v : ℕ) → IsSound r → Decided (Found
 unfolding Found FirstBelow
 found_decided zero r v sound =
     elim (some_decided (value_of r) v) [
-      inl h ↦ inl ([], refl, Rest-ended r v sound h)
-    | inr not ↦ inr (λ f. not (found_none r v f.0 f.1 f.2))
+      | inl h ↦ inl ([], refl, Rest-ended r v sound h)
+      | inr not ↦ inr (λ f. not (found_none r v f.0 f.1 f.2))
     ]
 found_decided (suc n) r v sound =
     elim (first_below (λ b. IsSomeAnd (next_of r (letter_of b)) (λ s. Found n s v)) 118 (λ b. next_decided (next_of r (letter_of b)) (λ s. Found n s v) (IsSound-next r b sound) (λ s is. found_decided n s v is))) [
-      inl f ↦ inl (found_on n r v f.0 (next_of r (letter_of f.0)) sound refl f.2)
-    | inr none ↦ inr (λ f. let b = found_first n r v f.0 f.1 f.2 in none b.0 b.1 b.2)
+      | inl f ↦ inl (found_on n r v f.0 (next_of r (letter_of f.0)) sound refl f.2)
+      | inr none ↦ inr (λ f. let b = found_first n r v f.0 f.1 f.2 in none b.0 b.1 b.2)
     ]
 
 shortest_from : (text : List ℕ) (value : ℕ) → IsDuration text value → FirstBelow (λ n. Found n (first 0 0) value) (suc (length text)) → (short : List ℕ) × IsShortest short value
 unfolding Found FirstBelow
-shortest_from text value d f =
-    (f.2.0, record {
-      duration = record { short = omega (arith, f.1, f.2.1, d.short); spelling = spelling_out f.2.0 value f.2.2 };
-      least = λ other o. elim (cases_lt (length other) f.0) [
-        inl lt ↦ absurd (f.3 (length other) lt (other, refl, spelling_in other value o.spelling))
+shortest_from text value d f = (
+  f.2.0,
+  record {
+    duration = record { short = omega (arith, f.1, f.2.1, d.short); spelling = spelling_out f.2.0 value f.2.2 };
+    least = λ other o. elim (cases_lt (length other) f.0) [
+      | inl lt ↦ absurd (f.3 (length other) lt (other, refl, spelling_in other value o.spelling))
       | inr le ↦ omega (arith, le, f.2.1)
-      ];
-    })
+    ];
+  },
+)
 
 -- a value that has a text has a shortest one
 pub shortest : (text : List ℕ) (value : ℕ) → IsDuration text value → (short : List ℕ) × IsShortest short value
 unfolding Found
 shortest text value d =
     elim (first_below (λ n. Found n (first 0 0) value) (suc (length text)) (λ n. found_decided n (first 0 0) value tt)) [
-      inl f ↦ shortest_from text value d f
-    | inr none ↦ absurd (none (length text) (omega arith) (text, refl, spelling_in text value d.spelling))
+      | inl f ↦ shortest_from text value d f
+      | inr none ↦ absurd (none (length text) (omega arith) (text, refl, spelling_in text value d.spelling))
     ]

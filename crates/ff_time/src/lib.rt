@@ -19,3 +19,6 @@ pub use order::compare;
 pub use rational::Rational;
 pub use rescaling::rescale;
 pub use units::ceil_units;
+
+#[cfg(test)]
+mod tests;
