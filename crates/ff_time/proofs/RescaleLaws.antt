@@ -1,5 +1,5 @@
 -- Rescaling to the same base, in order, and there and back.
-use Rattle.std.proofs.Common.{mul-pos, ◌≡◌, ℕ, zero, suc, ℤ, pos, negsuc, neg_ℤ, ◌+◌, ◌-◌, ◌*◌, ◌<◌, ◌≤◌, ◌⊎◌, inl, inr, sym, subst, ap, ◌∙◌, refl, arith, ◌*ℤ◌, ◌-ℤ◌, ◌+ℤ◌, ◌<ℤ◌, ◌≤ℤ◌}
+use Rattle.std.proofs.Common.{mul-pos, ◌≡◌, ℕ, ℤ, pos, negsuc, ◌+◌, ◌*◌, ◌<◌, ◌≤◌, ◌⊎◌, inl, inr, sym, subst, ap, ◌∙◌, arith, ◌*ℤ◌, ◌-ℤ◌, ◌+ℤ◌, ◌<ℤ◌, ◌≤ℤ◌}
 use Rattle.std.specs.Int.RustNames.{unsigned_abs}
 use Rattle.std.proofs.lemmas.Int.{ints, by_lt_z, unsigned_abs-mul}
 use Rattle.std.proofs.Math.Nat.{mul_comm, mul_assoc, add-mul, zero-mul}
@@ -9,7 +9,7 @@ use Rattle.ff_time.specs.Fraction.{Fraction, IsBase}
 use Rattle.ff_time.specs.Rescale.{distance, IsNearest, IsRescaled}
 use Rattle.ff_time.specs.Laws.{IsNearAgain}
 use Rattle.ff_time.proofs.Nearest.{IsNearest-unique}
-use Rattle.ff_time.proofs.Scaled.{mul-mul, mul_less}
+use Rattle.ff_time.proofs.Scaled.{mul_less}
 
 int_cases : (x y : ℤ) → (x <ℤ y) ⊎ ((x ≡ y) ⊎ (y <ℤ x))
 int_cases x y = by_lt_z x y (λ h. inl h) (λ h. by_lt_z y x (λ g. inr (inr g)) (λ g. inr (inl (omega (arith, ints, h, g)))))

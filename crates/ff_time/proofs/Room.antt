@@ -184,11 +184,11 @@ first_some : (k n : ℕ) → 0 < k → Completed (first k n)
 first_some k n some =
     ended (first k n) (n * 1000000) tt (some_value (nat_lt 0 k) (n * 1000000) (n * 1000000) (lt_true k some) refl) (tested (nat_lt 0 k) 0 1 (lt_true k some))
 
-one_digit : (0 < 2) × (1 ≤ 2) × (0 ≤ 59) × (0 < 10 ^ 1)
-one_digit = (omega arith, omega arith, omega arith, omega arith)
+one_digit : (1 ≤ 2) × (0 ≤ 59) × (0 < 10 ^ 1)
+one_digit = (omega arith, omega arith, omega arith)
 
 third_none : (minutes : ℕ) → Completed (third minutes 0 0)
-third_none minutes = stepped (third minutes 0 0) (third minutes 1 0) 48 none_yet refl refl (third_some minutes 1 0 (one_digit.1, one_digit.2, one_digit.3) (omega arith))
+third_none minutes = stepped (third minutes 0 0) (third minutes 1 0) 48 none_yet refl refl (third_some minutes 1 0 one_digit (omega arith))
 
 second_minutes : (f k n : ℕ) → IsSound (second f true k n) → 0 < k → Completed (second f true k n)
 second_minutes f k n sound some =
@@ -200,8 +200,8 @@ second_hours f k n sound some =
     stepped (second f false k n) (third (60 * f + n) 0 0) 58 sound (subst (λ c. if_some c (third (60 * f + n) 0 0) ≡ Some (third (60 * f + n) 0 0)) (sym (lt_true k some)) refl) (tested (nat_lt 0 k) 2 3 (lt_true k some)) (third_none (60 * f + n))
 
 second_none : (f : ℕ) (minutes : Bool) → Completed (second f minutes 0 0)
-second_none f true = stepped (second f true 0 0) (second f true 1 0) 48 none_yet refl refl (second_minutes f 1 0 (one_digit.1, one_digit.2, one_digit.3) (omega arith))
-second_none f false = stepped (second f false 0 0) (second f false 1 0) 48 none_yet refl refl (second_hours f 1 0 (one_digit.1, one_digit.2, one_digit.3) (omega arith))
+second_none f true = stepped (second f true 0 0) (second f true 1 0) 48 none_yet refl refl (second_minutes f 1 0 one_digit (omega arith))
+second_none f false = stepped (second f false 0 0) (second f false 1 0) 48 none_yet refl refl (second_hours f 1 0 one_digit (omega arith))
 
 second_some : (f k n : ℕ) (minutes : Bool) → IsSound (second f minutes k n) → 0 < k → Completed (second f minutes k n)
 second_some f k n true sound some = second_minutes f k n sound some

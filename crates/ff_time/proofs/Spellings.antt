@@ -1,5 +1,5 @@
 -- A text has one value, and a value that has a text has a shortest one.
-use Rattle.std.proofs.Common.{◌≡◌, ℕ, zero, suc, ◌+◌, ◌<◌, ◌≤◌, ◌⊎◌, inl, inr, Option, Some, None, IsSomeAnd, IfSome, List, [], ◌∷◌, length, sym, subst, ap, ◌∙◌, refl, arith}
+use Rattle.std.proofs.Common.{◌≡◌, ℕ, zero, suc, ◌<◌, ◌≤◌, ◌⊎◌, inl, inr, Option, Some, None, IsSomeAnd, IfSome, List, [], ◌∷◌, length, sym, subst, ap, ◌∙◌, refl, arith}
 use Rattle.std.proofs.lemmas.Bool.{cases_lt}
 use Rattle.ff_time.specs.Duration.{IsDuration}
 use Rattle.ff_time.specs.Reading.{Exact, first, second, third, decimals, scaled, done, IsSound, next_of, letter_of, value_of}

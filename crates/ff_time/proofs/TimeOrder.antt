@@ -1,14 +1,12 @@
 -- The order of exact fractions is total, and ties exactly equal ones.
-use Rattle.std.proofs.Common.{◌≡◌, ℕ, ℤ, pos, ◌*◌, ◌<◌, ◌↔◌, sym, subst, ap, ◌∙◌, refl, arith, ◌*ℤ◌, ◌<ℤ◌}
+use Rattle.std.proofs.Common.{◌≡◌, ℕ, ℤ, pos, ◌*◌, ◌<◌, ◌↔◌, sym, ap, ◌∙◌, refl, arith, ◌*ℤ◌, ◌<ℤ◌}
 use Rattle.std.proofs.lemmas.Int.{ints}
 use Rattle.std.proofs.lemmas.Cmp.{int_ranked, int_cmp_total}
 use Rattle.std.proofs.Math.Nat.{mul_assoc, mul_comm}
 use Rattle.std.specs.Cmp.{IsTotalOrder}
-use Rattle.std.specs.Ordering.{int_cmp, MatchOrdering, ordering_reverse}
+use Rattle.std.specs.Ordering.{int_cmp, MatchOrdering}
 use Rattle.std.specs.declared.cmp.Ordering.{Ordering}
 use Rattle.std.specs.declared.cmp.Ordering.TheVariants.{Less, Equal, Greater}
-use Rattle.ff_time.specs.Fraction.{Fraction}
-use Rattle.ff_time.specs.Rescale.{order_of}
 use Rattle.ff_time.specs.Laws.{Moment, moment_cmp, IsSameMoment}
 use Rattle.ff_time.proofs.Scaled.{mul-mul, int_cmp-scaled}
 

@@ -1,11 +1,9 @@
 -- What the calls' definitions have in common: the laws that callers lean on.
-use Rattle.std.specs.Prelude.{◌≡◌, ℕ, ℤ, ◌+◌, ◌*◌, ◌≤◌, ◌↔◌, List, length, pos, ◌-ℤ◌, ◌*ℤ◌, ◌≤ℤ◌}
+use Rattle.std.specs.Prelude.{◌≡◌, ℕ, ℤ, ◌+◌, ◌*◌, ◌≤◌, List, length, pos, ◌-ℤ◌, ◌*ℤ◌}
 use Rattle.std.specs.Int.RustNames.{unsigned_abs}
-use Rattle.std.specs.Ordering.{ordering_reverse}
-use Rattle.std.specs.declared.cmp.Ordering.TheVariants.{Less, Equal}
 use Rattle.std.specs.declared.cmp.Ordering.{Ordering}
 use Rattle.ff_time.specs.Fraction.{Fraction, IsBase}
-use Rattle.ff_time.specs.Rescale.{IsRescaled, order_of}
+use Rattle.ff_time.specs.Rescale.{order_of}
 use Rattle.ff_time.specs.Duration.{IsDuration}
 
 -- a number of units of a base

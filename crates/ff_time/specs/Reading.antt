@@ -44,10 +44,12 @@ pub data Exact : Type 0 where
 abbrev pub value_at : ℕ → ℕ → ℕ → ℕ → ℕ
 value_at whole k m us = (whole * 10 ^ k + m) * us / 10 ^ k
 
+-- where the test holds
 abbrev pub if_some : Bool → Exact → Option Exact
 if_some true r = Some r
 if_some false r = None
 
+-- behind the first number: more of it, minutes, decimals or a unit
 abbrev pub first_next : ℕ → ℕ → Letter → Option Exact
 first_next k n (Digit d) = Some (first (k + 1) (n * 10 + d))
 first_next k n Colon = if_some (nat_lt 0 k && nat_le k 6) (second n (nat_le k 2 && nat_le n 59) 0 0)
@@ -57,6 +59,7 @@ first_next k n M = if_some (nat_lt 0 k) (scaled (n * 1000))
 first_next k n U = if_some (nat_lt 0 k) (scaled n)
 first_next k n Other = None
 
+-- behind the second number: more of it, seconds, or the decimals of seconds
 abbrev pub second_next : ℕ → Bool → ℕ → ℕ → Letter → Option Exact
 second_next f minutes k n (Digit d) = if_some (nat_lt k 2 && nat_le (n * 10 + d) 59) (second f minutes (k + 1) (n * 10 + d))
 second_next f minutes k n Colon = if_some (nat_lt 0 k) (third (60 * f + n) 0 0)
@@ -66,6 +69,7 @@ second_next f minutes k n M = None
 second_next f minutes k n U = None
 second_next f minutes k n Other = None
 
+-- behind the seconds of a long clock
 abbrev pub third_next : ℕ → ℕ → ℕ → Letter → Option Exact
 third_next minutes k n (Digit d) = if_some (nat_lt k 2 && nat_le (n * 10 + d) 59) (third minutes (k + 1) (n * 10 + d))
 third_next minutes k n Colon = None
@@ -75,6 +79,7 @@ third_next minutes k n M = None
 third_next minutes k n U = None
 third_next minutes k n Other = None
 
+-- behind decimals: more of them, or a unit where one may stand
 abbrev pub decimals_next : ℕ → Bool → ℕ → ℕ → Letter → Option Exact
 decimals_next whole units k m (Digit d) = Some (decimals whole units (k + 1) (m * 10 + d))
 decimals_next whole units k m Colon = None
@@ -84,6 +89,7 @@ decimals_next whole units k m M = if_some (nat_lt 0 k && units) (scaled (value_a
 decimals_next whole units k m U = if_some (nat_lt 0 k && units) (scaled (value_at whole k m 1))
 decimals_next whole units k m Other = None
 
+-- behind the first letter of `ms` or `us`
 abbrev pub scaled_next : ℕ → Letter → Option Exact
 scaled_next v (Digit d) = None
 scaled_next v Colon = None

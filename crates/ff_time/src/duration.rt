@@ -13,8 +13,10 @@ const GREATEST: u64 = 1_000_000_000_000_000;
 /// lies below one microsecond is cut off. `BadTime` where the text is none, with the first place
 /// at which no duration goes on; `TooBig` where it is one above 10^15.
 pub fn read_duration(text: &[u8]) -> Result<u64, TimeError>
-    ensures ok { (value : ℕ) → (result ≡ Ok value) ↔ (IsDuration text.now value × (value ≤ 10 ^ 15)) }
-    ensures too_big { IsErrOf result TimeError.TooBig ↔ ((value : ℕ) × IsDuration text.now value × (10 ^ 15 < value)) }
+    ensures ok { (value : ℕ) → (result ≡ Ok value)
+        ↔ (IsDuration text.now value × (value ≤ 10 ^ 15)) }
+    ensures too_big { IsErrOf result TimeError.TooBig
+        ↔ ((value : ℕ) × IsDuration text.now value × (10 ^ 15 < value)) }
     ensures bad_time { (at : ℕ) → IsErrOf result (TimeError.BadTime at) ↔ IsBadAt text.now at }
     ensures err { IfErr result IsTextError }
 {

@@ -34,11 +34,14 @@ pub fn rescale_there_and_back()
 
 /// A text is a duration of one value.
 pub fn durations_have_one_value()
-    ensures { (text : List ℕ) (value other : ℕ) → IsDuration text value → IsDuration text other → value ≡ other }
+    ensures { (text : List ℕ) (value other : ℕ) → IsDuration text value → IsDuration text other
+        → value ≡ other }
 {}
 
 /// Each duration's value has a shortest spelling, and of that it is read again.
 pub fn durations_have_shortest_spellings()
-    ensures shortest { (text : List ℕ) (value : ℕ) → IsDuration text value → (short : List ℕ) × IsShortest short value }
-    ensures again { (value other : ℕ) (short : List ℕ) → IsShortest short value → IsDuration short other → other ≡ value }
+    ensures shortest { (text : List ℕ) (value : ℕ) → IsDuration text value
+        → (short : List ℕ) × IsShortest short value }
+    ensures again { (value other : ℕ) (short : List ℕ) → IsShortest short value
+        → IsDuration short other → other ≡ value }
 {}

@@ -4,12 +4,15 @@ ghost use Rattle.ff_time.specs.Reading.{letter_of};
 /// What a byte is in a duration.
 #[derive(Clone, Copy)]
 pub(super) enum Letter {
+    /// A digit's value.
     Digit(u8),
     Colon,
     Point,
+    /// The letter `s`, and so on.
     S,
     M,
     U,
+    /// No byte of a duration.
     Other,
 }
 

@@ -55,8 +55,12 @@ impl Rational {
         ensures ok { IfOk result (IsLowestOf num den) }
         ensures base { IfOk result IsBase }
         ensures not_positive { IsErrOf result TimeError.NotPositive ↔ IsBelowOne num den }
-        ensures too_big { IsErrOf result TimeError.TooBig ↔ ((f : Fraction) × IsLowestOf num den f × IsTooBig f) }
+        ensures too_big { IsErrOf result TimeError.TooBig
+            ↔ ((f : Fraction) × IsLowestOf num den f × IsTooBig f) }
         ensures err { IfErr result (λ e. (e ≡ TimeError.NotPositive) ⊎ (e ≡ TimeError.TooBig)) }
+
+        // What is a time base already is answered as it stands.
+        ensures kept { (f : Fraction) → IsBase f → num ≡ pos f.num → den ≡ pos f.den → result ≡ Ok f }
     {
         if num < 1 || den < 1 {
             return Err(TimeError::NotPositive);

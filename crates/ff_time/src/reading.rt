@@ -3,7 +3,8 @@ ghost use Rattle.ff_time.specs.Reading.{cap, letter_of, Exact, IsSound, IsDecima
 
 use super::letter::{Letter, classify};
 
-/// How far a duration was read. Numbers stop at one more than the greatest duration.
+/// How far a duration was read. Counts of digits stop where they tell no more, numbers at one
+/// more than the greatest duration.
 #[derive(Clone, Copy)]
 pub(super) enum Reading {
     /// The first number.
@@ -41,10 +42,13 @@ pub(super) enum Reading {
     },
 }
 
+// One more than the greatest duration.
+const BEYOND: u128 = 1_000_000_000_000_001;
+
 fn capped(n: u128) -> u64
     ensures { result ≡ cap n }
 {
-    n.min(1_000_000_000_000_001) as u64
+    n.min(BEYOND) as u64
 }
 
 // One more digit.
@@ -71,7 +75,8 @@ fn micros(whole: u64, millionths: u64, unit: u64) -> u64
 }
 
 fn after_first(digits: u8, number: u64, letter: Letter) -> Option<Reading>
-    ensures { (k n : ℕ) → digits ≡ min 7 k → number ≡ cap n → result ≡ option_map shown (first_next k n letter) }
+    ensures { (k n : ℕ) → digits ≡ min 7 k → number ≡ cap n
+        → result ≡ option_map shown (first_next k n letter) }
 {
     match letter {
         Letter::Digit(digit) => Some(Reading::First {
@@ -108,7 +113,8 @@ fn after_second(
     number: u64,
     letter: Letter,
 ) -> Option<Reading>
-    ensures { (f : ℕ) → first ≡ cap f → result ≡ option_map shown (second_next f minutes digits number letter) }
+    ensures { (f : ℕ) → first ≡ cap f
+        → result ≡ option_map shown (second_next f minutes digits number letter) }
 {
     match letter {
         Letter::Digit(digit) if digits < 2 && more(number, digit) <= 59 => Some(Reading::Second {
@@ -133,7 +139,8 @@ fn after_second(
 }
 
 fn after_third(minutes: u64, digits: u8, number: u64, letter: Letter) -> Option<Reading>
-    ensures { (f : ℕ) → minutes ≡ cap f → result ≡ option_map shown (third_next f digits number letter) }
+    ensures { (f : ℕ) → minutes ≡ cap f
+        → result ≡ option_map shown (third_next f digits number letter) }
 {
     match letter {
         Letter::Digit(digit) if digits < 2 && more(number, digit) <= 59 => Some(Reading::Third {
@@ -153,7 +160,8 @@ fn after_third(minutes: u64, digits: u8, number: u64, letter: Letter) -> Option<
 
 // One more decimal; those behind the sixth are below a millionth.
 fn decimal(digits: u8, millionths: u64, digit: u8) -> u64
-    ensures { (k m : ℕ) → m < 10 ^ k → digit < 10 → digits ≡ min 6 k → millionths ≡ millionths_of k m → result ≡ millionths_of (k + 1) (m * 10 + digit) }
+    ensures { (k m : ℕ) → m < 10 ^ k → digit < 10 → digits ≡ min 6 k
+        → millionths ≡ millionths_of k m → result ≡ millionths_of (k + 1) (m * 10 + digit) }
 {
     if digits < 6 {
         millionths.saturating_add(u64::from(digit) * 10_u64.pow(5 - u32::from(digits)))
@@ -169,7 +177,8 @@ fn after_decimals(
     millionths: u64,
     letter: Letter,
 ) -> Option<Reading>
-    ensures { (w k m : ℕ) → m < 10 ^ k → IsDecimal letter → whole ≡ cap w → digits ≡ min 6 k → millionths ≡ millionths_of k m
+    ensures { (w k m : ℕ) → m < 10 ^ k → IsDecimal letter → whole ≡ cap w → digits ≡ min 6 k
+        → millionths ≡ millionths_of k m
         → result ≡ option_map shown (decimals_next w units k m letter) }
 {
     match letter {
@@ -200,7 +209,8 @@ impl Reading {
 
     // What is read with one more byte, unless no duration goes on so.
     pub(super) fn next(self, byte: u8) -> Option<Reading>
-        ensures { (r : Exact) → IsSound r → self ≡ shown r → result ≡ option_map shown (next_of r (letter_of byte)) }
+        ensures { (r : Exact) → IsSound r → self ≡ shown r
+            → result ≡ option_map shown (next_of r (letter_of byte)) }
     {
         let letter = classify(byte);
         match self {
@@ -252,7 +262,8 @@ impl Reading {
 
     // The value, where the text may end here.
     pub(super) fn value(self) -> Option<u64>
-        ensures { (r : Exact) → IsSound r → self ≡ shown r → result ≡ option_map cap (value_of r) }
+        ensures { (r : Exact) → IsSound r → self ≡ shown r
+            → result ≡ option_map cap (value_of r) }
     {
         match self {
             Reading::First { digits, number } if 0 < digits => Some(micros(number, 0, 1_000_000)),

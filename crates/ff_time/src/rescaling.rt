@@ -31,7 +31,8 @@ fn nearest(a: i64, scale: u128, unit: u128) -> i128
 /// halves away from zero. `Overflow` where that is no `i64`.
 pub fn rescale(a: i64, from: Rational, to: Rational) -> Result<i64, TimeError>
     ensures ok { IfOk result (IsRescaled a from to) }
-    ensures overflow { IsErrOf result TimeError.Overflow ↔ ((r : ℤ) × IsRescaled a from to r × ¬ FitsSigned w64 r) }
+    ensures overflow { IsErrOf result TimeError.Overflow
+        ↔ ((r : ℤ) × IsRescaled a from to r × ¬ FitsSigned w64 r) }
     ensures err { IfErr result (λ e. e ≡ TimeError.Overflow) }
 {
     let (from_num, from_den) = from.parts();
