@@ -4,7 +4,7 @@ use Rattle.ff_time.specs.Fraction.{Fraction}
 use Rattle.ff_frame.specs.declared.audio.AFrame.{AFrame}
 use Rattle.ff_frame.specs.declared.packet.Pkt.{Pkt}
 use Rattle.ff_frame.specs.declared.head.Codec.{Codec}
-use Rattle.ff_frame.specs.declared.head.Codec.TheVariants.{PcmU8}
+use Rattle.ff_frame.specs.declared.head.Codec.TheVariants.{PcmU8, PcmS16le, PcmS24le, PcmS32le}
 use Rattle.ff_frame.specs.declared.head.StreamHead.{StreamHead}
 use Rattle.ff_frame.specs.declared.head.StreamHead.TheVariants.{Audio as AudioHead}
 use Rattle.ff_frame.specs.declared.item.Item.{Item}
@@ -33,6 +33,9 @@ IsHead (AudioHead tb rate bits channels codec) = (1 ≤ channels) × (channels �
 -- the bytes of one sample as the codec writes it
 abbrev pub sample_bytes : Codec → ℕ
 sample_bytes PcmU8 = 1
+sample_bytes PcmS16le = 2
+sample_bytes PcmS24le = 3
+sample_bytes PcmS32le = 4
 
 -- a frame of sound with a stream's rate, bits and channels
 pub record IsFrameOf (rate bits channels : ℕ) (frame : AFrame) : Type 0 where

@@ -5,6 +5,12 @@ use ff_time::Rational;
 pub enum Codec {
     /// Linear PCM of 8 bits: unsigned bytes with the middle 128 (RIFF WAVE).
     PcmU8,
+    /// Linear PCM of 16 bits: signed, the lowest byte first (RIFF WAVE).
+    PcmS16le,
+    /// Linear PCM of 24 bits: signed, the lowest byte first (RIFF WAVE).
+    PcmS24le,
+    /// Linear PCM of 32 bits: signed, the lowest byte first (RIFF WAVE).
+    PcmS32le,
 }
 
 /// What is known of a stream before its first packet.

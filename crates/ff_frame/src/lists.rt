@@ -1,5 +1,5 @@
 // A contract sees such a list by its elements alone, and neither its room nor its place.
-ghost use Rattle.std.specs.Prelude.{◌≡◌, IfOk, length};
+ghost use Rattle.std.specs.Prelude.{◌≡◌, ◌<◌, IfOk, length, slice_set};
 
 use std::alloc::{AllocError, Global};
 use std::marker::Model;
@@ -37,6 +37,14 @@ impl Samples {
         ensures { result.now ≡ self.now }
     {
         &self.items
+    }
+
+    /// Replaces the sample at an index.
+    pub fn set(&mut self, index: usize, sample: i32)
+        requires { index < length self.old }
+        ensures { self.new ≡ slice_set self.old index sample }
+    {
+        self.items[index] = sample;
     }
 
     /// An equal list.

@@ -24,6 +24,9 @@ fn name_of_codec(codec: Codec) -> &'static str
 {
     match codec {
         Codec::PcmU8 => "pcm_u8",
+        Codec::PcmS16le => "pcm_s16le",
+        Codec::PcmS24le => "pcm_s24le",
+        Codec::PcmS32le => "pcm_s32le",
     }
 }
 
