@@ -1,0 +1,3 @@
+pub mod BitsLemmas
+pub mod Words
+pub mod Peek

@@ -1,0 +1,10 @@
+//! Bits of bytes: a reader and a writer that take the most significant bit first, the coded numbers of a FLAC frame
+//! header, and the sums that find damage (RFC 9639).
+//!
+//! To a contract a reader is the list of the bits that are left, and a writer the list of those that were written.
+#![tactic(auto)]
+
+mod reader;
+mod word;
+
+pub use reader::{BitEnd, BitReader};

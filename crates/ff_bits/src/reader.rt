@@ -1,0 +1,101 @@
+//! Reading bits, the most significant of each byte first.
+
+ghost use Rattle.std.specs.Prelude.{◌≡◌, ◌≤◌, ◌<◌, ◌+◌, ◌*◌, ◌^◌, ◌↔◌, IsTrue, length, take, drop, replicate, false, true, List, Bool, ◌∷◌, ◌++◌, IfOk, IfErr, OnErr};
+ghost use Rattle.ff_bits.specs.Bits.{value_of, bits};
+ghost use Rattle.ff_bits.specs.Reads.{IsTaken, IsCounted};
+
+use crate::word::word_of;
+use std::marker::Model;
+
+/// Why nothing was read.
+#[derive(Clone, Copy, Debug, PartialEq, Eq)]
+pub enum BitEnd {
+    /// The bits that are left are too few.
+    Short,
+    /// No coded number begins the bits that are left, whatever follows them.
+    BadNumber,
+}
+
+/// The bits of some bytes that were not read yet. To a contract it is the list of them.
+#[derive(Drop)]
+pub struct BitReader<'a> {
+    /// The bytes from the first that has bits left.
+    bytes: &'a [u8],
+    /// How many bits of the first byte were read, below 8.
+    used: u32,
+}
+
+impl<'a> Model for BitReader<'a> {
+    ghost use Rattle.std.specs.Prelude.{◌<◌, ◌≤◌, ◌*◌, List, Bool, drop, length};
+    ghost use Rattle.ff_bits.specs.Bits.{bits};
+
+    ghost Value = { List Bool };
+
+    ghost view = { λ r. drop r.used (bits r.bytes.now) };
+
+    ghost invariant = { λ r. (r.used < 8) × (r.used ≤ 8 * length r.bytes.now) };
+}
+
+impl<'a> BitReader<'a> {
+    /// All bits of these bytes.
+    pub fn new(bytes: &'a [u8]) -> BitReader<'a>
+        ensures { result ≡ bits bytes.now }
+    {
+        BitReader { bytes, used: 0 }
+    }
+
+    /// Whether `n` bits are left, of 64 at most.
+    pub fn has(&self, n: u32) -> bool
+        requires { n ≤ 64 }
+        ensures { IsTrue result ↔ (n ≤ length self.now) }
+    {
+        self.bytes.len() > 8 || (n + self.used) as usize <= 8 * self.bytes.len()
+    }
+
+    /// The next `n` bits as a number, the first the most significant. A refusal, which is Short, leaves the reader.
+    pub fn take(&mut self, n: u32) -> Result<u64, BitEnd>
+        requires { n ≤ 64 }
+        ensures taken { IfOk result (λ v. IsTaken n self.old v self.new) }
+        ensures below { IfOk result (λ v. v < 2 ^ n) }
+        ensures short { IfErr result (λ e. (e ≡ BitEnd.Short) × (length self.old < n)) }
+        ensures unchanged { OnErr result (self.new ≡ self.old) }
+    {
+        if !self.has(n) {
+            return Err(BitEnd::Short);
+        }
+        if n <= 57 {
+            return Ok(self.take_of_word(n));
+        }
+        let high = self.take_of_word(n - 32);
+        let low = self.take_of_word(32);
+        Ok(high << 32 | low)
+    }
+
+    /// The next bits that are there, of one word.
+    fn take_of_word(&mut self, n: u32) -> u64
+        requires word { n ≤ 57 }
+        requires there { n ≤ length self.old }
+        ensures taken { IsTaken n self.old result self.new }
+        ensures below { result < 2 ^ n }
+    {
+        if n == 0 {
+            return 0;
+        }
+        let word = word_of(self.bytes);
+        let at = self.used + n;
+        self.skip(n);
+        (word >> (64 - at)) & ((1u64 << n) - 1)
+    }
+
+    /// Goes past bits that are there.
+    fn skip(&mut self, n: u32)
+        requires few { n ≤ 64 }
+        requires there { n ≤ length self.old }
+        ensures { self.new ≡ drop n self.old }
+    {
+        let at = self.used + n;
+        let bytes = self.bytes;
+        self.bytes = &bytes[(at / 8) as usize..];
+        self.used = at % 8;
+    }
+}
