@@ -1,3 +1,4 @@
 pub mod BitsLemmas
 pub mod Words
 pub mod Peek
+pub mod Zeros

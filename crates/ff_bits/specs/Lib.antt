@@ -2,3 +2,4 @@ pub mod Bits
 pub mod Number
 pub mod Crc
 pub mod Reads
+pub mod Runs

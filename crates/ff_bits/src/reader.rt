@@ -3,6 +3,7 @@
 ghost use Rattle.std.specs.Prelude.{◌≡◌, ◌≤◌, ◌<◌, ◌+◌, ◌*◌, ◌^◌, ◌↔◌, IsTrue, length, take, drop, replicate, false, true, List, Bool, ◌∷◌, ◌++◌, IfOk, IfErr, OnErr};
 ghost use Rattle.ff_bits.specs.Bits.{value_of, bits};
 ghost use Rattle.ff_bits.specs.Reads.{IsTaken, IsCounted};
+ghost use Rattle.ff_bits.specs.Runs.{IsRun};
 
 use crate::word::word_of;
 use std::marker::Model;
@@ -97,5 +98,62 @@ impl<'a> BitReader<'a> {
         let bytes = self.bytes;
         self.bytes = &bytes[(at / 8) as usize..];
         self.used = at % 8;
+    }
+}
+
+/// What begins the bits that are left, as far as one word shows.
+enum Run {
+    /// So many zeros, and a one.
+    Ended(u32),
+    /// So many zeros.
+    Zeros(u32),
+}
+
+impl<'a> BitReader<'a> {
+    /// How many zeros stand before the next one, which is read too. A refusal, which is Short and means that no one
+    /// is left, leaves the reader.
+    pub fn unary(&mut self) -> Result<u64, BitEnd>
+        requires { length self.old ≤ 2 ^ 53 }
+        ensures counted { IfOk result (λ zeros. IsCounted self.old zeros self.new) }
+        ensures short { IfErr result (λ e. (e ≡ BitEnd.Short) × (self.old ≡ replicate (length self.old) false)) }
+        ensures unchanged { OnErr result (self.new ≡ self.old) }
+    {
+        let bytes = self.bytes;
+        let used = self.used;
+        let mut zeros = 0u64;
+        while self.has(1) {
+            match self.run() {
+                Run::Ended(more) => {
+                    self.skip(more + 1);
+                    return Ok(zeros + more as u64);
+                }
+                Run::Zeros(more) => {
+                    self.skip(more);
+                    zeros += more as u64;
+                }
+            }
+        }
+        self.bytes = bytes;
+        self.used = used;
+        Err(BitEnd::Short)
+    }
+
+    /// The zeros that come next.
+    fn run(&self) -> Run
+        requires { 0 < length self.now }
+        ensures { IsRun result self.now }
+    {
+        let whole = if self.bytes.len() < 8 {
+            8 * self.bytes.len() as u32
+        } else {
+            64
+        };
+        let there = whole - self.used;
+        let zeros = (word_of(self.bytes) << self.used).leading_zeros();
+        if zeros < there {
+            Run::Ended(zeros)
+        } else {
+            Run::Zeros(there)
+        }
     }
 }
