@@ -53,25 +53,25 @@ module _ (used : ℕ) (bytes : List ℕ) (few : used < 8) where
   xs : List ℕ
   xs = bytes ++ eight_zeros
 
-  whole : List Bool
-  whole = bits (take 8 (bytes ++ replicate 8 0))
+  in_word : List Bool
+  in_word = bits (take 8 (bytes ++ replicate 8 0))
 
-  length-whole : length whole ≡ 64
-  unfolding whole
-  length-whole = omega (arith, length-bits (take 8 (bytes ++ eight_zeros)), length-take 8 (bytes ++ eight_zeros), length-append bytes eight_zeros, length-replicate {A = ℕ} 8 0)
+  length-in_word : length in_word ≡ 64
+  unfolding in_word
+  length-in_word = omega (arith, length-bits (take 8 (bytes ++ eight_zeros)), length-take 8 (bytes ++ eight_zeros), length-append bytes eight_zeros, length-replicate {A = ℕ} 8 0)
 
   pub length-seen : length (seen used bytes) ≡ 64
-  unfolding whole
-  length-seen = length-append (drop used whole) (replicate used false) ∙ omega (arith, length-drop used whole, length-whole, length-replicate {A = Bool} used false)
+  unfolding in_word
+  length-seen = length-append (drop used in_word) (replicate used false) ∙ omega (arith, length-drop used in_word, length-in_word, length-replicate {A = Bool} used false)
 
   pub shifted : (word : ℕ) → word ≡ value_of (bits (take 8 (bytes ++ replicate 8 0))) → (word * 2 ^ used) % 2 ^ 64 ≡ value_of (seen used bytes)
-  unfolding whole
+  unfolding in_word
   shifted word w =
-      let back : List Bool = drop used whole in
-      let front : List Bool = take used whole in
-      let lb : length back ≡ 64 - used = omega (arith, length-drop used whole, length-whole) in
+      let back : List Bool = drop used in_word in
+      let front : List Bool = take used in_word in
+      let lb : length back ≡ 64 - used = omega (arith, length-drop used in_word, length-in_word) in
       let parts : word ≡ value_of front * 2 ^ (64 - used) + value_of back =
-          w ∙ ap value_of (sym (take-append-drop used whole)) ∙ value_of-append front back ∙ ap (λ (k : ℕ). value_of front * 2 ^ k + value_of back) lb in
+          w ∙ ap value_of (sym (take-append-drop used in_word)) ∙ value_of-append front back ∙ ap (λ (k : ℕ). value_of front * 2 ^ k + value_of back) lb in
       let p : 2 ^ (64 - used) * 2 ^ used ≡ 2 ^ 64 = sym (pow-add 2 (64 - used) used) ∙ ap (λ (k : ℕ). 2 ^ k) (let e : 64 - used + used ≡ 64 = omega arith in e) in
       let product : word * 2 ^ used ≡ value_of front * 2 ^ 64 + value_of back * 2 ^ used =
           ap (λ (x : ℕ). x * 2 ^ used) parts ∙ (let e : (value_of front * 2 ^ (64 - used) + value_of back) * 2 ^ used ≡ value_of front * (2 ^ (64 - used) * 2 ^ used) + value_of back * 2 ^ used = omega arith in e) ∙ ap (λ (k : ℕ). value_of front * k + value_of back * 2 ^ used) p in
@@ -83,16 +83,16 @@ module _ (used : ℕ) (bytes : List ℕ) (few : used < 8) where
 
   -- bits that are there are those of the word
   pub same_front : (n : ℕ) → used + n ≤ 64 → used + n ≤ 8 * length bytes → take n (drop used (bits bytes)) ≡ take n (seen used bytes)
-  unfolding whole
+  unfolding in_word
   same_front n h there =
       let ys : List Bool = bits (bytes ++ eight_zeros) in
       let long : 8 ≤ length (bytes ++ eight_zeros) = omega (arith, length-append bytes eight_zeros, length-replicate {A = ℕ} 8 0) in
       let front : used ≤ length (bits bytes) = omega (arith, length-bits bytes) in
       let back : n ≤ length (drop used (bits bytes)) = omega (arith, length-bits bytes, length-drop used (bits bytes)) in
-      let wide : n ≤ length (drop used whole) = omega (arith, length-drop used whole, length-whole) in
+      let wide : n ≤ length (drop used in_word) = omega (arith, length-drop used in_word, length-in_word) in
       let sixty_four : used + (64 - used) ≡ 64 = omega arith in
       let right : take n (seen used bytes) ≡ take n (drop used ys) =
-          take-append-le n (drop used whole) (replicate used false) wide
+          take-append-le n (drop used in_word) (replicate used false) wide
           ∙ ap (λ (m : List Bool). take n (drop used m)) (sym (take-bits 8 (bytes ++ eight_zeros) long))
           ∙ ap (λ (k : ℕ). take n (drop used (take k ys))) (sym sixty_four)
           ∙ ap (take n) (drop-take used (64 - used) ys)

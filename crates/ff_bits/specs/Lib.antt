@@ -3,3 +3,5 @@ pub mod Number
 pub mod Crc
 pub mod Reads
 pub mod Runs
+pub mod Reading
+pub mod NumberGrammar

@@ -53,6 +53,24 @@ impl<'a> BitReader<'a> {
         self.bytes.len() > 8 || (n + self.used) as usize <= 8 * self.bytes.len()
     }
 
+    /// How many bits are left.
+    pub fn left(&self) -> u64
+        requires { length self.now ≤ 2 ^ 53 }
+        ensures { result ≡ length self.now }
+    {
+        8 * self.bytes.len() as u64 - self.used as u64
+    }
+
+    /// A reader of the same bits.
+    pub(crate) fn copy(&self) -> BitReader<'a>
+        ensures { result ≡ self.now }
+    {
+        BitReader {
+            bytes: self.bytes,
+            used: self.used,
+        }
+    }
+
     /// The next `n` bits as a number, the first the most significant. A refusal, which is Short, leaves the reader.
     pub fn take(&mut self, n: u32) -> Result<u64, BitEnd>
         requires { n ≤ 64 }

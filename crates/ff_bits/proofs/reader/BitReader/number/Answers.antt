@@ -1,0 +1,21 @@
+use Rattle.std.proofs.lemmas.Result.{err_from_is_err_and}
+use Rattle.ff_bits.proofs.NumberLemmas.{number_read, is_short, is_bad, code_below}
+use Rattle.ff_bits.proofs.reader.BitReader.number.Goals as goal
+
+pub returns-in_err-value-clause-short : goal.returns-in_err-value-clause-short
+returns-in_err-value-clause-short c =
+    let p = err_from_is_err_and c.from_residual.result c.from_residual.ensures.1 in
+    rw (p.1, p.2) (is_short c.in_err-value.field-0.0 c.args.self.now c.copy-ahead.result c.coded.new.self c.copy-ahead.ensures c.in_err-value.ensures)
+
+pub returns-in_err-value-clause-bad : goal.returns-in_err-value-clause-bad
+returns-in_err-value-clause-bad c =
+    let p = err_from_is_err_and c.from_residual.result c.from_residual.ensures.1 in
+    rw (p.1, p.2) (is_bad c.in_err-value.field-0.0 c.args.self.now c.copy-ahead.result c.coded.new.self c.copy-ahead.ensures c.in_err-value.ensures)
+
+pub returns-clause-number : goal.returns-clause-number
+returns-clause-number c = number_read c.args.self.now c.copy-ahead.result c.coded.new.self c.in_ok-value.value c.copy-ahead.ensures c.in_ok-value.ensures
+
+pub returns-clause-below : goal.returns-clause-below
+returns-clause-below c =
+    let n = number_read c.args.self.now c.copy-ahead.result c.coded.new.self c.in_ok-value.value c.copy-ahead.ensures c.in_ok-value.ensures in
+    code_below n.0 c.in_ok-value.value n.1
