@@ -23,8 +23,8 @@ bits_of-split a b v =
     let ys : List Bool = bits_of b v in
     let len : length (xs ++ ys) ≡ a + b = length-append xs ys ∙ omega (arith, length-bits_of a (v / 2 ^ b), length-bits_of b v) in
     let value : value_of (xs ++ ys) ≡ v % 2 ^ (a + b) =
-        value_of-append xs ys ∙ ap (λ (k : ℕ). value_of xs * 2 ^ k + value_of ys) (length-bits_of b v)
-        ∙ ap (λ (x : ℕ). x * 2 ^ b + value_of ys) (value_of-bits_of a (v / 2 ^ b)) ∙ ap (λ (y : ℕ). v / 2 ^ b % 2 ^ a * 2 ^ b + y) (value_of-bits_of b v) ∙ sym (mod-pow-add v a b) in
+    value_of-append xs ys ∙ ap (λ (k : ℕ). value_of xs * 2 ^ k + value_of ys) (length-bits_of b v)
+    ∙ ap (λ (x : ℕ). x * 2 ^ b + value_of ys) (value_of-bits_of a (v / 2 ^ b)) ∙ ap (λ (y : ℕ). v / 2 ^ b % 2 ^ a * 2 ^ b + y) (value_of-bits_of b v) ∙ sym (mod-pow-add v a b) in
     bits_of-mod (a + b) v ∙ ap (bits_of (a + b)) (sym value) ∙ bits_of-value_of (a + b) (xs ++ ys) len
 
 -- the bits of a value that is made of two

@@ -19,4 +19,3 @@ field-part (suc n) p v [] h = let e : suc n - 0 ≡ suc n = omega arith in rw e 
 field-part (suc n) p v (b ∷ bits) h =
     let e : suc n - suc (length bits) ≡ n - length bits = omega arith in
     rw e (field-part n p (2 * v + digit b) bits (omega arith))
-

@@ -6,3 +6,6 @@ pub mod Sound
 pub mod Fields
 pub mod BitsOf
 pub mod NumberLemmas
+pub mod CrcLemmas
+pub mod Tables
+pub mod Slices

@@ -24,9 +24,9 @@ use Rattle.ff_bits.proofs.Sound.{IsSound, IsSound-give, IsSound-chain, IsSound-f
 -- what the test of a range tells, and what tells it
 touched : (x y low from to : ℕ) → (ltb x low || (ltb x to && ltb from y)) ≡ true → (x < low) ⊎ ((x < to) × (from < y))
 touched x y low from to e = elim (or_cases (ltb x low) (ltb x to && ltb from y) e) [
-      | inl h ↦ inl (ltb-true x low h)
-      | inr h ↦ let p = and_parts (ltb x to) (ltb from y) h in inr (ltb-true x to p.0, ltb-true from y p.1)
-    ]
+  | inl h ↦ inl (ltb-true x low h)
+  | inr h ↦ let p = and_parts (ltb x to) (ltb from y) h in inr (ltb-true x to p.0, ltb-true from y p.1)
+]
 
 touches_low : (x y low from to : ℕ) → x < low → (ltb x low || (ltb x to && ltb from y)) ≡ true
 touches_low x y low from to h = or_left (ltb x low) (ltb x to && ltb from y) (lt-ltb x low h)
@@ -60,14 +60,14 @@ some-within low from to (suc n) v h =
     let a : Bool = ltb x low || (ltb x to && ltb from y) in
     let b : Bool = ltb y low || (ltb y to && ltb from z) in
     let halves : (a || b) ≡ (ltb x low || (ltb x to && ltb from z)) = same_tests (a || b) (ltb x low || (ltb x to && ltb from z))
-        (λ e. elim (or_cases a b e) [
-          | inl l ↦ elim (touched x y low from to l) [ | inl k ↦ touches_low x z low from to k | inr k ↦ touches_high x z low from to k.0 (omega arith) ]
-          | inr r ↦ elim (touched y z low from to r) [ | inl k ↦ touches_low x z low from to (omega arith) | inr k ↦ touches_high x z low from to (omega arith) k.1 ]
-        ])
-        (λ e. elim (touched x z low from to e) [
-          | inl k ↦ or_left a b (touches_low x y low from to k)
-          | inr k ↦ elim (cases_lt from y) [ | inl l ↦ or_left a b (touches_high x y low from to k.0 l) | inr g ↦ or_right a b (touches_high y z low from to (omega arith) k.1) ]
-        ]) in
+    (λ e. elim (or_cases a b e) [
+      | inl l ↦ elim (touched x y low from to l) [ inl k ↦ touches_low x z low from to k | inr k ↦ touches_high x z low from to k.0 (omega arith) ]
+      | inr r ↦ elim (touched y z low from to r) [ inl k ↦ touches_low x z low from to (omega arith) | inr k ↦ touches_high x z low from to (omega arith) k.1 ]
+    ])
+    (λ e. elim (touched x z low from to e) [
+      | inl k ↦ or_left a b (touches_low x y low from to k)
+      | inr k ↦ elim (cases_lt from y) [ inl l ↦ or_left a b (touches_high x y low from to k.0 l) | inr g ↦ or_right a b (touches_high y z low from to (omega arith) k.1) ]
+    ]) in
     rw (some-within low from to n (2 * v) h, some-within low from to n (2 * v + 1) h, x-is, z-is) halves
 
 -- a byte that is there whole
@@ -85,16 +85,17 @@ field-byte p b rest small pass =
 
 pub byte-field : (p : ℕ → Bool) (xs : List Bool) (b : ℕ) (rest : List Bool) → field 8 p xs ≡ Done b rest → (xs ≡ bits_of 8 b ++ rest) × (p b ≡ true) × (b < 256)
 byte-field p xs b rest e = elim (cases_lt (length xs) 8) [
-      | inl lt ↦ absurd (cond_more_done (some (8 - length xs) p (value_of xs)) b rest (sym (field-part 8 p 0 xs lt) ∙ e))
-      | inr ge ↦
-          let c = cond_done (p (value_of (take 8 xs))) (value_of (take 8 xs)) b (drop 8 xs) rest (sym (field-whole 8 p 0 xs ge) ∙ e) in
-          let lt : length (take 8 xs) ≡ 8 = omega (arith, length-take 8 xs) in
-          let low : value_of (take 8 xs) < 2 ^ 8 = subst (λ (k : ℕ). value_of (take 8 xs) < 2 ^ k) lt (value_below (take 8 xs)) in
-          let same : bits_of 8 (value_of (take 8 xs)) ≡ take 8 xs = bits_of-value_from 8 0 (take 8 xs) lt in
-          (sym (take-append-drop 8 xs) ∙ ap (λ (ys : List Bool). ys ++ drop 8 xs) (sym same) ∙ ap (λ (x : ℕ). bits_of 8 x ++ drop 8 xs) c.1 ∙ ap (λ (ys : List Bool). bits_of 8 b ++ ys) c.2,
-           subst (λ (x : ℕ). p x ≡ true) c.1 c.0,
-           subst (λ (x : ℕ). x < 256) c.1 low)
-    ]
+  | inl lt ↦ absurd (cond_more_done (some (8 - length xs) p (value_of xs)) b rest (sym (field-part 8 p 0 xs lt) ∙ e))
+  | inr ge ↦
+      let c = cond_done (p (value_of (take 8 xs))) (value_of (take 8 xs)) b (drop 8 xs) rest (sym (field-whole 8 p 0 xs ge) ∙ e) in
+      let lt : length (take 8 xs) ≡ 8 = omega (arith, length-take 8 xs) in
+      let low : value_of (take 8 xs) < 2 ^ 8 = subst (λ (k : ℕ). value_of (take 8 xs) < 2 ^ k) lt (value_below (take 8 xs)) in
+      let same : bits_of 8 (value_of (take 8 xs)) ≡ take 8 xs = bits_of-value_from 8 0 (take 8 xs) lt in (
+        sym (take-append-drop 8 xs) ∙ ap (λ (ys : List Bool). ys ++ drop 8 xs) (sym same) ∙ ap (λ (x : ℕ). bits_of 8 x ++ drop 8 xs) c.1 ∙ ap (λ (ys : List Bool). bits_of 8 b ++ ys) c.2,
+        subst (λ (x : ℕ). p x ≡ true) c.1 c.0,
+        subst (λ (x : ℕ). x < 256) c.1 low,
+      )
+]
 
 -- ---- the first byte
 
@@ -346,7 +347,7 @@ part_read low from to xs there value test h few t v below e =
     let x : value * 2 ^ (8 - there) % 2 ^ 64 ≡ value * 2 ^ (8 - there) = mod-eq_of_lt fits.0 in
     let y : (value + 1) * 2 ^ (8 - there) % 2 ^ 64 ≡ (value + 1) * 2 ^ (8 - there) = mod-eq_of_lt fits.1 in
     let same : test ≡ (ltb (value * 2 ^ (8 - there)) low || (ltb (value * 2 ^ (8 - there)) to && ltb from ((value + 1) * 2 ^ (8 - there)))) =
-        e ∙ ap (λ (k : ℕ). ltb k low || (ltb k to && ltb from ((value + 1) * 2 ^ (8 - there) % 2 ^ 64))) x ∙ ap (λ (k : ℕ). ltb (value * 2 ^ (8 - there)) low || (ltb (value * 2 ^ (8 - there)) to && ltb from k)) y in
+    e ∙ ap (λ (k : ℕ). ltb k low || (ltb k to && ltb from ((value + 1) * 2 ^ (8 - there) % 2 ^ 64))) x ∙ ap (λ (k : ℕ). ltb (value * 2 ^ (8 - there)) low || (ltb (value * 2 ^ (8 - there)) to && ltb from k)) y in
     part_of_byte low from to xs there value h few t v ∙ ap (λ (b : Bool). cond b More Bad) (sym same)
 
 -- k further bytes on, one of them read
@@ -356,7 +357,7 @@ module _ (count i value : ℕ) (now after : List Bool) (total : Answer ℕ) (so_
   six_goes_on lt byte h =
       let k : count - i ≡ suc (count - (i + 1)) = omega arith in
       let one : sixes (count - i) value now ≡ sixes (count - (i + 1)) (value * 64 + (byte - 128)) after =
-          ap (λ (n : ℕ). sixes n value now) k ∙ ap (λ (a : Answer ℕ). on a (λ b. sixes (count - (i + 1)) (value * 64 + (b - 128)))) h in
+      ap (λ (n : ℕ). sixes n value now) k ∙ ap (λ (a : Answer ℕ). on a (λ b. sixes (count - (i + 1)) (value * 64 + (b - 128)))) h in
       sym one ∙ so_far
 
   pub six_fails : i < count → (e : BitEnd) → Answers (Err e) (further now) after → (rest : List Bool) → Answers (Err e) total rest
@@ -389,9 +390,9 @@ sixes_fit value i h l =
 -- a byte of the form 10xxxxxx
 pub further_range : (b : ℕ) → is_within 0 128 192 b ≡ true → (128 ≤ b) × (b < 192)
 further_range b e = elim (or_cases (ltb b 0) (ltb b 192 && leb 128 b) e) as (λ _. (128 ≤ b) × (b < 192)) [
-      | inl h ↦ absurd (let l : b < 0 = ltb-true b 0 h in omega arith)
-      | inr h ↦ let q = and_parts (ltb b 192) (leb 128 b) h in (leb-true 128 b q.1, ltb-true b 192 q.0)
-    ]
+  | inl h ↦ absurd (let l : b < 0 = ltb-true b 0 h in omega arith)
+  | inr h ↦ let q = and_parts (ltb b 192) (leb 128 b) h in (leb-true 128 b q.1, ltb-true b 192 q.0)
+]
 
 -- the whole number
 pub coded_goes_on : (now after : List Bool) (byte count value : ℕ) → first now ≡ Done byte after → count ≡ follow byte → value ≡ opened byte → coded now ≡ sixes count value after

@@ -40,7 +40,7 @@ byte_more bytes i h fits =
     ] in
     let b : ℕ = get_or bytes i 0 in
     let e : bits (take (i + 1) xs) ≡ bits (take i xs) ++ bits_of 8 b =
-        ap bits (take_more xs i 0 long ∙ ap (λ (x : ℕ). take i xs ++ x ∷ []) same) ∙ bits-append (take i xs) (b ∷ []) ∙ ap (λ (m : List Bool). bits (take i xs) ++ m) (bits-one b) in
+    ap bits (take_more xs i 0 long ∙ ap (λ (x : ℕ). take i xs ++ x ∷ []) same) ∙ bits-append (take i xs) (b ∷ []) ∙ ap (λ (m : List Bool). bits (take i xs) ++ m) (bits-one b) in
     let s = ap value_of e ∙ value_of-append (bits (take i xs)) (bits_of 8 b) ∙ ap (λ (k : ℕ). value_of (bits (take i xs)) * 2 ^ k + value_of (bits_of 8 b)) (length-bits_of 8 b) in
     let v : value_of (bits_of 8 b) ≡ b = value_of-bits_of 8 b ∙ mod-eq_of_lt fits in
     s ∙ ap (λ (x : ℕ). value_of (bits (take i xs)) * 2 ^ 8 + x) v

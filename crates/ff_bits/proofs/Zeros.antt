@@ -43,7 +43,7 @@ front_of (false ∷ xs) (suc z) m e below above =
     let v = value_of-cons false xs in
     let next : suc (z + 1) ≡ suc z + 1 = omega arith in
     let rest = front_of xs z m (omega arith) (omega arith) (omega arith) in
-    (ap (λ (ys : List Bool). false ∷ ys) rest.0, elim rest.1 [ | inl n ↦ inl n | inr y ↦ inr (subst (λ (k : ℕ). false ∷ xs ≡ replicate (suc z) false ++ true ∷ drop k (false ∷ xs)) next (ap (λ (ys : List Bool). false ∷ ys) y)) ])
+    (ap (λ (ys : List Bool). false ∷ ys) rest.0, elim rest.1 [ inl n ↦ inl n | inr y ↦ inr (subst (λ (k : ℕ). false ∷ xs ≡ replicate (suc z) false ++ true ∷ drop k (false ∷ xs)) next (ap (λ (ys : List Bool). false ∷ ys) y)) ])
 
 -- the bits of the word from a reader's place on, filled up with zeros
 abbrev pub seen : ℕ → List ℕ → List Bool
@@ -71,14 +71,14 @@ module _ (used : ℕ) (bytes : List ℕ) (few : used < 8) where
       let front : List Bool = take used in_word in
       let lb : length back ≡ 64 - used = omega (arith, length-drop used in_word, length-in_word) in
       let parts : word ≡ value_of front * 2 ^ (64 - used) + value_of back =
-          w ∙ ap value_of (sym (take-append-drop used in_word)) ∙ value_of-append front back ∙ ap (λ (k : ℕ). value_of front * 2 ^ k + value_of back) lb in
+      w ∙ ap value_of (sym (take-append-drop used in_word)) ∙ value_of-append front back ∙ ap (λ (k : ℕ). value_of front * 2 ^ k + value_of back) lb in
       let p : 2 ^ (64 - used) * 2 ^ used ≡ 2 ^ 64 = sym (pow-add 2 (64 - used) used) ∙ ap (λ (k : ℕ). 2 ^ k) (let e : 64 - used + used ≡ 64 = omega arith in e) in
       let product : word * 2 ^ used ≡ value_of front * 2 ^ 64 + value_of back * 2 ^ used =
-          ap (λ (x : ℕ). x * 2 ^ used) parts ∙ (let e : (value_of front * 2 ^ (64 - used) + value_of back) * 2 ^ used ≡ value_of front * (2 ^ (64 - used) * 2 ^ used) + value_of back * 2 ^ used = omega arith in e) ∙ ap (λ (k : ℕ). value_of front * k + value_of back * 2 ^ used) p in
+      ap (λ (x : ℕ). x * 2 ^ used) parts ∙ (let e : (value_of front * 2 ^ (64 - used) + value_of back) * 2 ^ used ≡ value_of front * (2 ^ (64 - used) * 2 ^ used) + value_of back * 2 ^ used = omega arith in e) ∙ ap (λ (k : ℕ). value_of front * k + value_of back * 2 ^ used) p in
       let low0 : value_of back < 2 ^ (64 - used) = subst (λ (k : ℕ). value_of back < 2 ^ k) lb (value_below back) in
       let low : value_of back * 2 ^ used < 2 ^ 64 = subst (λ (y : ℕ). value_of back * 2 ^ used < y) p (mul-lt-mul_of_pos_right low0 (pow_pos used)) in
       let behind : value_of (seen used bytes) ≡ value_of back * 2 ^ used =
-          value_of-append back (replicate used false) ∙ ap (λ (k : ℕ). value_of back * 2 ^ k + value_of (replicate used false)) (length-replicate used false) ∙ omega (arith, value_of-zeros used) in
+      value_of-append back (replicate used false) ∙ ap (λ (k : ℕ). value_of back * 2 ^ k + value_of (replicate used false)) (length-replicate used false) ∙ omega (arith, value_of-zeros used) in
       ap (λ (x : ℕ). x % 2 ^ 64) product ∙ mod_low (value_of front) 64 (value_of back * 2 ^ used) low ∙ sym behind
 
   -- bits that are there are those of the word
@@ -92,15 +92,15 @@ module _ (used : ℕ) (bytes : List ℕ) (few : used < 8) where
       let wide : n ≤ length (drop used in_word) = omega (arith, length-drop used in_word, length-in_word) in
       let sixty_four : used + (64 - used) ≡ 64 = omega arith in
       let right : take n (seen used bytes) ≡ take n (drop used ys) =
-          take-append-le n (drop used in_word) (replicate used false) wide
-          ∙ ap (λ (m : List Bool). take n (drop used m)) (sym (take-bits 8 (bytes ++ eight_zeros) long))
-          ∙ ap (λ (k : ℕ). take n (drop used (take k ys))) (sym sixty_four)
-          ∙ ap (take n) (drop-take used (64 - used) ys)
-          ∙ take-take n (64 - used) (drop used ys) (omega arith) in
+      take-append-le n (drop used in_word) (replicate used false) wide
+      ∙ ap (λ (m : List Bool). take n (drop used m)) (sym (take-bits 8 (bytes ++ eight_zeros) long))
+      ∙ ap (λ (k : ℕ). take n (drop used (take k ys))) (sym sixty_four)
+      ∙ ap (take n) (drop-take used (64 - used) ys)
+      ∙ take-take n (64 - used) (drop used ys) (omega arith) in
       let left : take n (drop used ys) ≡ take n (drop used (bits bytes)) =
-          ap (λ (m : List Bool). take n (drop used m)) (bits-append bytes eight_zeros)
-          ∙ ap (take n) (drop-append-le used (bits bytes) (bits eight_zeros) front)
-          ∙ take-append-le n (drop used (bits bytes)) (bits eight_zeros) back in
+      ap (λ (m : List Bool). take n (drop used m)) (bits-append bytes eight_zeros)
+      ∙ ap (take n) (drop-append-le used (bits bytes) (bits eight_zeros) front)
+      ∙ take-append-le n (drop used (bits bytes)) (bits eight_zeros) back in
       sym (right ∙ left)
 
   -- z zeros at the front of the word
@@ -129,7 +129,7 @@ module _ (used : ℕ) (bytes : List ℕ) (few : used < 8) where
       let ys : List Bool = drop used (bits bytes) in
       let lz : there ≤ length (replicate z false) = omega (arith, length-replicate z false) in
       let t : take there ys ≡ replicate there false =
-          same_front there h k ∙ ap (take there) e ∙ take-append-le there (replicate z false) (drop z (seen used bytes)) lz ∙ take-replicate there z false le in
+      same_front there h k ∙ ap (take there) e ∙ take-append-le there (replicate z false) (drop z (seen used bytes)) lz ∙ take-replicate there z false le in
       sym (take-append-drop there ys) ∙ ap (λ (m : List Bool). m ++ drop there ys) t
 
 pub further_zeros : (n m : ℕ) (whole now rest : List Bool) → whole ≡ replicate n false ++ now → now ≡ replicate m false ++ rest → whole ≡ replicate (n + m) false ++ rest

@@ -1,7 +1,7 @@
 -- Cyclic redundancy checks as remainders of polynomials over the field of two elements (RFC 9639, sections 9.1.8 and
 -- 9.3). A polynomial is a natural number whose binary digits are its coefficients, and a sum is an exclusive or.
-use Rattle.std.specs.Prelude.{◌≡◌, ℕ, ◌*◌, ◌^◌, ◌<◌, Bool, if◌then◌else◌, nat_lt, List, [], ◌∷◌, bit_xor}
-use Rattle.ff_bits.specs.Bits.{value_of}
+use Rattle.std.specs.Prelude.{◌≡◌, ℕ, ◌*◌, ◌^◌, ◌<◌, Bool, if◌then◌else◌, nat_lt, List, [], ◌∷◌, bit_xor, false, replicate, ◌++◌}
+use Rattle.ff_bits.specs.Bits.{value_of, bits_of}
 
 -- the product of a quotient, its highest coefficient first, and a divisor, with what was multiplied before
 abbrev pub product_from : ℕ → ℕ → List Bool → ℕ
@@ -32,3 +32,7 @@ crc8_of message = remainder_from 0x107 8 0 message
 -- by x^16 + x^15 + x^2 + 1, from a remainder of 0
 unfoldable pub crc16_of : List Bool → ℕ
 crc16_of message = remainder_from 0x18005 16 0 message
+
+-- what a byte leaves with so many bytes of zeros behind it
+unfoldable pub left_of : ℕ → ℕ → ℕ → ℕ → ℕ
+left_of divisor k behind byte = remainder_from divisor k 0 (bits_of 8 byte ++ replicate (8 * behind) false)

@@ -4,8 +4,12 @@
 //! To a contract a reader is the list of the bits that are left, and a writer the list of those that were written.
 #![tactic(auto)]
 
+mod crc;
 mod number;
 mod reader;
+mod table16;
+mod table8;
 mod word;
 
+pub use crc::{crc16, crc8};
 pub use reader::{BitEnd, BitReader};

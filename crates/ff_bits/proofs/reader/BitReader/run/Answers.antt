@@ -21,7 +21,7 @@ returns-then-zeros-there c =
     let z : ℕ = count_leading_zeros 64 s in
     let f = front_seen r.used r.bytes.now few s (shifted r.used r.bytes.now few c.word_of.result c.word_of.ensures) in
     let lt : z < whole - r.used = c.if-zeros-there.true in
-    let one : drop r.used (bits r.bytes.now) ≡ replicate z false ++ true ∷ drop (z + 1) (drop r.used (bits r.bytes.now)) = elim f.1.1 [ | inl none ↦ absurd (omega arith) | inr y ↦ one_behind r.used r.bytes.now few z (whole - r.used) lt (omega arith) (omega arith) y ] in
+    let one : drop r.used (bits r.bytes.now) ≡ replicate z false ++ true ∷ drop (z + 1) (drop r.used (bits r.bytes.now)) = elim f.1.1 [ inl none ↦ absurd (omega arith) | inr y ↦ one_behind r.used r.bytes.now few z (whole - r.used) lt (omega arith) (omega arith) y ] in
     (omega arith, omega arith, subst (λ (ys : List Bool). ys ≡ replicate z false ++ true ∷ drop (z + 1) ys) c.self.view_is one)
 
 pub returns-else-zeros-there : goal.returns-else-zeros-there
