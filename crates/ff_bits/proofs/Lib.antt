@@ -5,6 +5,7 @@ pub mod Zeros
 pub mod Sound
 pub mod Fields
 pub mod BitsOf
+pub mod WriterLemmas
 pub mod NumberLemmas
 pub mod CrcLemmas
 pub mod Tables

@@ -9,7 +9,10 @@ mod number;
 mod reader;
 mod table16;
 mod table8;
+mod waiting;
 mod word;
+mod writer;
 
 pub use crc::{crc16, crc8};
 pub use reader::{BitEnd, BitReader};
+pub use writer::BitWriter;

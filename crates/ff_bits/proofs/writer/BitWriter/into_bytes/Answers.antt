@@ -1,0 +1,5 @@
+use Rattle.ff_bits.proofs.WriterLemmas.{whole_count}
+use Rattle.ff_bits.proofs.writer.BitWriter.into_bytes.Goals as goal
+
+pub flushed-requires-clause-whole : goal.flushed-requires-clause-whole
+flushed-requires-clause-whole c = whole_count c.self.inside.bytes.items c.self.inside.count c.self.inside.word c.args.self c.self.view_is c.requires

@@ -1,0 +1,83 @@
+//! Writing bits, the most significant of each byte first.
+
+ghost use Rattle.std.specs.Prelude.{◌≡◌, ◌+◌, ◌*◌, ◌-◌, ◌^◌, ◌<◌, ◌≤◌, ◌%◌, ◌/◌, ◌++◌, [], length, replicate, vec_len, vec_capacity, OnOk, OnErr, ℕ, false};
+ghost use Rattle.ff_bits.specs.Bits.{bits_of, bits, padding};
+
+use crate::waiting::{filled, flushed, longer, make_room, push_word};
+use std::alloc::{AllocError, Global};
+use std::marker::Model;
+
+/// A list of bits that grows at its end.
+#[derive(Drop)]
+pub struct BitWriter {
+    bytes: Vec<u8>,
+    word: u64,
+    count: u32,
+}
+
+impl Model for BitWriter {
+    ghost use Rattle.std.specs.Prelude.{List, Bool};
+
+    ghost Value = { List Bool };
+
+    ghost use Rattle.ff_bits.specs.Writer.{written, IsWriter};
+
+    ghost view = { written };
+
+    ghost invariant = { IsWriter };
+}
+
+impl BitWriter {
+    pub fn new(alloc: Global) -> Self
+        ensures { result ≡ [] }
+    {
+        BitWriter {
+            bytes: Vec::new(alloc),
+            word: 0,
+            count: 0,
+        }
+    }
+
+    /// Adds the lowest `n` bits of a number that has no others.
+    pub fn put(&mut self, value: u64, n: u32) -> Result<(), AllocError>
+        requires count { n ≤ 64 }
+        requires value { value < 2 ^ n }
+        ensures ok { OnOk result (self.new ≡ self.old ++ bits_of n value) }
+        ensures err { OnErr result (self.new ≡ self.old) }
+    {
+        make_room(&mut self.bytes, self.count)?;
+        if self.count + n < 64 {
+            self.word = longer(self.word, self.count, value, n);
+            self.count += n;
+            return Ok(());
+        }
+        let (whole, rest) = filled(self.word, self.count, value, n);
+        push_word(&mut self.bytes, whole)?;
+        self.word = rest;
+        self.count = self.count + n - 64;
+        Ok(())
+    }
+
+    /// Adds zeros up to a whole byte.
+    pub fn pad(&mut self) -> Result<(), AllocError>
+        ensures ok { OnOk result (self.new ≡ self.old ++ replicate (padding (length self.old)) false) }
+        ensures whole { OnOk result (length self.new % 8 ≡ 0) }
+        ensures err { OnErr result (self.new ≡ self.old) }
+    {
+        let over = self.count % 8;
+        if over == 0 {
+            return Ok(());
+        }
+        self.put(0, 8 - over)?;
+        Ok(())
+    }
+
+    /// The bytes.
+    pub fn into_bytes(self) -> Vec<u8>
+        requires { length self % 8 ≡ 0 }
+        ensures { bits result.items ≡ self }
+    {
+        let BitWriter { bytes, word, count } = self;
+        flushed(bytes, word, count)
+    }
+}
