@@ -25,22 +25,22 @@ mixed divisor k (b ∷ bytes) = bit_xor (mixed divisor k bytes) (left_of divisor
 module _ (divisor k : ℕ) (at_least : 2 ^ k ≤ divisor) (below : divisor < 2 ^ (k + 1)) where
   reduced-xor : (p q : ℕ) → p < 2 ^ (k + 1) → q < 2 ^ (k + 1) → reduced divisor k (bit_xor p q) ≡ bit_xor (reduced divisor k p) (reduced divisor k q)
   reduced-xor p q hp hq = elim (cases_lt q (2 ^ k)) [
-      | inl low ↦ reduced_low divisor k p q (ltb p (2 ^ k)) refl hp low ∙ ap (λ (b : Bool). bit_xor (reduced divisor k p) (cond b q (bit_xor q divisor))) (sym (lt-ltb q (2 ^ k) low))
-      | inr high ↦ elim (cases_lt p (2 ^ k)) [
-        | inl low ↦
-            ap (reduced divisor k) (xor_comm p q) ∙ reduced_low divisor k q p (ltb q (2 ^ k)) refl hq low ∙ xor_comm (reduced divisor k q) p
-            ∙ ap (λ (b : Bool). bit_xor (cond b p (bit_xor p divisor)) (reduced divisor k q)) (sym (lt-ltb p (2 ^ k) low))
-        | inr high_too ↦
-            let small : bit_xor p q < 2 ^ k = cancels q k high hq p high_too hp in
-            let left : reduced divisor k (bit_xor p q) ≡ bit_xor p q = ap (λ (b : Bool). cond b (bit_xor p q) (bit_xor (bit_xor p q) divisor)) (lt-ltb (bit_xor p q) (2 ^ k) small) in
-            let rp : reduced divisor k p ≡ bit_xor p divisor = ap (λ (b : Bool). cond b p (bit_xor p divisor)) (le-ltb p (2 ^ k) high_too) in
-            let rq : reduced divisor k q ≡ bit_xor q divisor = ap (λ (b : Bool). cond b q (bit_xor q divisor)) (le-ltb q (2 ^ k) high) in
-            let swap : bit_xor (bit_xor p divisor) (bit_xor q divisor) ≡ bit_xor p q =
-                ap (λ (y : ℕ). bit_xor (bit_xor p divisor) y) (xor_comm q divisor) ∙ xor_assoc p divisor (bit_xor divisor q)
-                ∙ ap (λ (y : ℕ). bit_xor p y) (sym (xor_assoc divisor divisor q) ∙ ap (λ (y : ℕ). bit_xor y q) (xor_self divisor) ∙ xor_zero_l q) in
-            left ∙ sym (ap (λ (y : ℕ). bit_xor y (reduced divisor k q)) rp ∙ ap (bit_xor (bit_xor p divisor)) rq ∙ swap)
-      ]
+    | inl low ↦ reduced_low divisor k p q (ltb p (2 ^ k)) refl hp low ∙ ap (λ (b : Bool). bit_xor (reduced divisor k p) (cond b q (bit_xor q divisor))) (sym (lt-ltb q (2 ^ k) low))
+    | inr high ↦ elim (cases_lt p (2 ^ k)) [
+      | inl low ↦
+          ap (reduced divisor k) (xor_comm p q) ∙ reduced_low divisor k q p (ltb q (2 ^ k)) refl hq low ∙ xor_comm (reduced divisor k q) p
+          ∙ ap (λ (b : Bool). bit_xor (cond b p (bit_xor p divisor)) (reduced divisor k q)) (sym (lt-ltb p (2 ^ k) low))
+      | inr high_too ↦
+          let small : bit_xor p q < 2 ^ k = cancels q k high hq p high_too hp in
+          let left : reduced divisor k (bit_xor p q) ≡ bit_xor p q = ap (λ (b : Bool). cond b (bit_xor p q) (bit_xor (bit_xor p q) divisor)) (lt-ltb (bit_xor p q) (2 ^ k) small) in
+          let rp : reduced divisor k p ≡ bit_xor p divisor = ap (λ (b : Bool). cond b p (bit_xor p divisor)) (le-ltb p (2 ^ k) high_too) in
+          let rq : reduced divisor k q ≡ bit_xor q divisor = ap (λ (b : Bool). cond b q (bit_xor q divisor)) (le-ltb q (2 ^ k) high) in
+          let swap : bit_xor (bit_xor p divisor) (bit_xor q divisor) ≡ bit_xor p q =
+          ap (λ (y : ℕ). bit_xor (bit_xor p divisor) y) (xor_comm q divisor) ∙ xor_assoc p divisor (bit_xor divisor q)
+          ∙ ap (λ (y : ℕ). bit_xor p y) (sym (xor_assoc divisor divisor q) ∙ ap (λ (y : ℕ). bit_xor y q) (xor_self divisor) ∙ xor_zero_l q) in
+          left ∙ sym (ap (λ (y : ℕ). bit_xor y (reduced divisor k q)) rp ∙ ap (bit_xor (bit_xor p divisor)) rq ∙ swap)
     ]
+  ]
 
   pub remainder_from-xor : (xs : List Bool) (r s : ℕ) → r < 2 ^ k → s < 2 ^ k → remainder_from divisor k (bit_xor r s) xs ≡ bit_xor (remainder_from divisor k r xs) (remainder_from divisor k s (replicate (length xs) false))
   remainder_from-xor [] r s hr hs = refl
@@ -51,7 +51,7 @@ module _ (divisor k : ℕ) (at_least : 2 ^ k ≤ divisor) (below : divisor < 2 ^
       let hp : p < 2 ^ (k + 1) = brought_below divisor k at_least below r b hr in
       let hq : q < 2 ^ (k + 1) = brought_below divisor k at_least below s false hs in
       let both : bit_xor (2 * bit_xor r s) d ≡ bit_xor p q =
-          ap (λ (y : ℕ). bit_xor y d) (sym (xor_double r s)) ∙ xor_assoc (2 * r) (2 * s) d ∙ ap (bit_xor (2 * r)) (xor_comm (2 * s) d) ∙ sym (xor_assoc (2 * r) d (2 * s)) ∙ ap (bit_xor p) (sym (xor_zero_r (2 * s))) in
+      ap (λ (y : ℕ). bit_xor y d) (sym (xor_double r s)) ∙ xor_assoc (2 * r) (2 * s) d ∙ ap (bit_xor (2 * r)) (xor_comm (2 * s) d) ∙ sym (xor_assoc (2 * r) d (2 * s)) ∙ ap (bit_xor p) (sym (xor_zero_r (2 * s))) in
       ap (λ (y : ℕ). remainder_from divisor k (reduced divisor k y) xs) both
       ∙ ap (λ (y : ℕ). remainder_from divisor k y xs) (reduced-xor p q hp hq)
       ∙ remainder_from-xor xs (reduced divisor k p) (reduced divisor k q) (reduced_below divisor k at_least below p hp) (reduced_below divisor k at_least below q hq)
@@ -67,7 +67,7 @@ module _ (divisor k : ℕ) (at_least : 2 ^ k ≤ divisor) (below : divisor < 2 ^
       let x : ℕ = remainder_from divisor k 0 (bits_of 8 b) in
       let small : x < 2 ^ k = remainder_below (bits_of 8 b) 0 none in
       let behind : remainder_from divisor k x (replicate (length (bits bytes)) false) ≡ left_of divisor k (length bytes) b =
-          ap (λ (n : ℕ). remainder_from divisor k x (replicate n false)) (length-bits bytes) ∙ sym (remainder_from-append divisor k 0 (bits_of 8 b) (replicate (8 * length bytes) false)) in
+      ap (λ (n : ℕ). remainder_from divisor k x (replicate n false)) (length-bits bytes) ∙ sym (remainder_from-append divisor k 0 (bits_of 8 b) (replicate (8 * length bytes) false)) in
       remainder_from-append divisor k 0 (bits_of 8 b) (bits bytes) ∙ ap (λ (y : ℕ). remainder_from divisor k y (bits bytes)) (sym (xor_zero_l x))
       ∙ remainder_from-xor (bits bytes) 0 x none small ∙ ap (λ (y : ℕ). bit_xor y (remainder_from divisor k x (replicate (length (bits bytes)) false))) (remainder_from-mixed bytes)
       ∙ ap (bit_xor (mixed divisor k bytes)) behind
@@ -82,11 +82,11 @@ module _ (divisor k : ℕ) (at_least : 2 ^ k ≤ divisor) (below : divisor < 2 ^
       let vys : value_of ys ≡ y = value_of-bits_of k y ∙ mod-eq_of_lt small in
       let whole : (x : ℕ) → x * 2 ^ (k - k) ≡ x = λ (x : ℕ). (let e : k - k ≡ 0 = omega arith in ap (λ (j : ℕ). x * 2 ^ j) e ∙ omega arith) in
       let left : remainder_from divisor k r xs ≡ remainder_from divisor k y (replicate k false) =
-          brought_early divisor k xs r h (omega arith) at_least below ∙ ap (λ (n : ℕ). remainder_from divisor k (bit_xor r (value_of xs * 2 ^ (k - n))) (replicate n false)) len
-          ∙ ap (λ (x : ℕ). remainder_from divisor k (bit_xor r x) (replicate k false)) (whole (value_of xs)) in
+      brought_early divisor k xs r h (omega arith) at_least below ∙ ap (λ (n : ℕ). remainder_from divisor k (bit_xor r (value_of xs * 2 ^ (k - n))) (replicate n false)) len
+      ∙ ap (λ (x : ℕ). remainder_from divisor k (bit_xor r x) (replicate k false)) (whole (value_of xs)) in
       let right : remainder_from divisor k 0 ys ≡ remainder_from divisor k y (replicate k false) =
-          brought_early divisor k ys 0 (pow_pos k) (omega arith) at_least below ∙ ap (λ (n : ℕ). remainder_from divisor k (bit_xor 0 (value_of ys * 2 ^ (k - n))) (replicate n false)) lys
-          ∙ ap (λ (x : ℕ). remainder_from divisor k (bit_xor 0 x) (replicate k false)) (whole (value_of ys) ∙ vys) ∙ ap (λ (x : ℕ). remainder_from divisor k x (replicate k false)) (xor_zero_l y) in
+      brought_early divisor k ys 0 (pow_pos k) (omega arith) at_least below ∙ ap (λ (n : ℕ). remainder_from divisor k (bit_xor 0 (value_of ys * 2 ^ (k - n))) (replicate n false)) lys
+      ∙ ap (λ (x : ℕ). remainder_from divisor k (bit_xor 0 x) (replicate k false)) (whole (value_of ys) ∙ vys) ∙ ap (λ (x : ℕ). remainder_from divisor k x (replicate k false)) (xor_zero_l y) in
       left ∙ sym right
 
 -- ---- tables
@@ -174,16 +174,16 @@ taken_in_16 r b c bytes hr hb hc =
     let vb : value_of (bits_of 8 b) ≡ b = value_of-bits_of 8 b ∙ mod-eq_of_lt hb in
     let vc : value_of (bits_of 8 c) ≡ c = value_of-bits_of 8 c ∙ mod-eq_of_lt hc in
     let v : value_of xs ≡ b * 2 ^ 8 + c =
-        value_of-append (bits_of 8 b) (bits_of 8 c) ∙ ap (λ (n : ℕ). value_of (bits_of 8 b) * 2 ^ n + value_of (bits_of 8 c)) (length-bits_of 8 c) ∙ ap (λ (x : ℕ). x * 2 ^ 8 + value_of (bits_of 8 c)) vb ∙ ap (λ (x : ℕ). b * 2 ^ 8 + x) vc in
+    value_of-append (bits_of 8 b) (bits_of 8 c) ∙ ap (λ (n : ℕ). value_of (bits_of 8 b) * 2 ^ n + value_of (bits_of 8 c)) (length-bits_of 8 c) ∙ ap (λ (x : ℕ). x * 2 ^ 8 + value_of (bits_of 8 c)) vb ∙ ap (λ (x : ℕ). b * 2 ^ 8 + x) vc in
     let small : value_of xs < 2 ^ 16 = omega arith in
     let high : ℕ = bit_xor (r / 256) b in
     let low : ℕ = bit_xor (r % 256) c in
     let lowest : low < 2 ^ 8 = xor_lt 8 (r % 256) c (omega arith) hc in
     let r-is : r / 256 * 2 ^ 8 + r % 256 ≡ r = omega arith in
     let y : bit_xor r (value_of xs) ≡ high * 2 ^ 8 + low =
-        ap (bit_xor r) v ∙ ap (λ (x : ℕ). bit_xor x (b * 2 ^ 8 + c)) (sym r-is) ∙ xor_block 8 (r / 256) b (r % 256) c (omega arith) hc in
+    ap (bit_xor r) v ∙ ap (λ (x : ℕ). bit_xor x (b * 2 ^ 8 + c)) (sym r-is) ∙ xor_block 8 (r / 256) b (r % 256) c (omega arith) hc in
     let a : remainder_from 0x18005 16 r xs ≡ remainder_from 0x18005 16 0 (bits_of 8 high ++ bits_of 8 low) =
-        absorbed 0x18005 16 (omega arith) (omega arith) xs r hr lxs small ∙ ap (λ (x : ℕ). remainder_from 0x18005 16 0 (bits_of 16 x)) y ∙ ap (remainder_from 0x18005 16 0) (bits_of-add 8 8 high low lowest) in
+    absorbed 0x18005 16 (omega arith) (omega arith) xs r hr lxs small ∙ ap (λ (x : ℕ). remainder_from 0x18005 16 0 (bits_of 16 x)) y ∙ ap (remainder_from 0x18005 16 0) (bits_of-add 8 8 high low lowest) in
     ap (remainder_from 0x18005 16 r) (sym (append_assoc (bits_of 8 b) (bits_of 8 c) (bits bytes)))
     ∙ remainder_from-append 0x18005 16 r xs (bits bytes) ∙ ap (λ (x : ℕ). remainder_from 0x18005 16 x (bits bytes)) a
     ∙ sym (remainder_from-append 0x18005 16 0 (bits_of 8 high ++ bits_of 8 low) (bits bytes)) ∙ ap (remainder_from 0x18005 16 0) (append_assoc (bits_of 8 high) (bits_of 8 low) (bits bytes))
@@ -216,9 +216,9 @@ one_to_16 r b left hr hb e =
     let none : 0 < 2 ^ 16 = omega arith in
     let vt : value_of (bits_of 8 t) ≡ t = value_of-bits_of 8 t ∙ mod-eq_of_lt tl in
     let first : remainder_from 0x18005 16 0 (bits_of 8 t ++ replicate (8 * 0) false) ≡ remainder_from 0x18005 16 (t * 2 ^ 8) (replicate 8 false) =
-        remainder_from-append 0x18005 16 0 (bits_of 8 t) (replicate (8 * 0) false) ∙ brought_early 0x18005 16 (bits_of 8 t) 0 none (omega (arith, length-bits_of 8 t)) (omega arith) (omega arith)
-        ∙ ap (λ (n : ℕ). remainder_from 0x18005 16 (bit_xor 0 (value_of (bits_of 8 t) * 2 ^ (16 - n))) (replicate n false)) (length-bits_of 8 t)
-        ∙ ap (λ (x : ℕ). remainder_from 0x18005 16 (bit_xor 0 (x * 2 ^ 8)) (replicate 8 false)) vt ∙ ap (λ (x : ℕ). remainder_from 0x18005 16 x (replicate 8 false)) (xor_zero_l (t * 2 ^ 8)) in
+    remainder_from-append 0x18005 16 0 (bits_of 8 t) (replicate (8 * 0) false) ∙ brought_early 0x18005 16 (bits_of 8 t) 0 none (omega (arith, length-bits_of 8 t)) (omega arith) (omega arith)
+    ∙ ap (λ (n : ℕ). remainder_from 0x18005 16 (bit_xor 0 (value_of (bits_of 8 t) * 2 ^ (16 - n))) (replicate n false)) (length-bits_of 8 t)
+    ∙ ap (λ (x : ℕ). remainder_from 0x18005 16 (bit_xor 0 (x * 2 ^ 8)) (replicate 8 false)) vt ∙ ap (λ (x : ℕ). remainder_from 0x18005 16 x (replicate 8 false)) (xor_zero_l (t * 2 ^ 8)) in
     let low : bit_and r 255 * 256 % 65536 ≡ r % 2 ^ 8 * 2 ^ 8 = let m : bit_and r 255 ≡ r % 2 ^ 8 = and_mask r 8 in omega arith in
     xor_both left (remainder_from 0x18005 16 (t * 2 ^ 8) (replicate 8 false)) (bit_and r 255 * 256 % 65536) (r % 2 ^ 8 * 2 ^ 8) (e ∙ first) low
     ∙ sym (by_table 0x18005 16 r b (omega arith) hr hb (omega arith) (omega arith))

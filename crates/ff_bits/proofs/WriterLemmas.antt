@@ -83,3 +83,23 @@ pad_some bytes count word now next e h n =
 pub padded : (now next : List Bool) → next ≡ now ++ replicate (padding (length now)) false → length next % 8 ≡ 0
 padded now next e =
     omega (arith, ap length e, length-append now (replicate (padding (length now)) false), length-replicate (padding (length now)) false)
+
+-- zeros behind zeros
+zeros_on : (a b : ℕ) → bits_of a 0 ++ bits_of b 0 ≡ bits_of (a + b) 0
+zeros_on a b =
+    let e : 0 * 2 ^ b + 0 ≡ 0 = omega arith in
+    sym (ap (bits_of (a + b)) (sym e) ∙ bits_of-add a b 0 0 (pow_pos b))
+
+pub zeros_left : (before now waiting after : List Bool) (left : ℕ) → 64 < left → after ≡ now ++ waiting ++ bits_of 64 0 → now ++ waiting ++ bits_of left 0 ≡ before → after ++ bits_of (left - 64) 0 ≡ before
+zeros_left before now waiting after left lt e h =
+    let k : 64 + (left - 64) ≡ left = omega arith in
+    ap (λ (xs : List Bool). xs ++ bits_of (left - 64) 0) e ∙ append_assoc (now ++ waiting) (bits_of 64 0) (bits_of (left - 64) 0)
+    ∙ ap (λ (xs : List Bool). now ++ waiting ++ xs) (zeros_on 64 (left - 64)) ∙ ap (λ (n : ℕ). now ++ waiting ++ bits_of n 0) k ∙ h
+
+-- zeros, and a value of 64 bits
+pub wide : (now zeroed after : List Bool) (value n : ℕ) → 64 < n → value < 2 ^ 64 → zeroed ≡ now ++ bits_of (n - 64) 0 → after ≡ zeroed ++ bits_of 64 value → after ≡ now ++ bits_of n value
+wide now zeroed after value n lt h e f =
+    let k : n - 64 + 64 ≡ n = omega arith in
+    let z : 0 * 2 ^ 64 + value ≡ value = omega arith in
+    let both : bits_of (n - 64) 0 ++ bits_of 64 value ≡ bits_of n value = sym (ap (bits_of n) (sym z) ∙ ap (λ (m : ℕ). bits_of m (0 * 2 ^ 64 + value)) (sym k) ∙ bits_of-add (n - 64) 64 0 value h) in
+    f ∙ ap (λ (xs : List Bool). xs ++ bits_of 64 value) e ∙ append_assoc now (bits_of (n - 64) 0) (bits_of 64 value) ∙ ap (λ (xs : List Bool). now ++ xs) both

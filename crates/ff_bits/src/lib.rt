@@ -13,6 +13,6 @@ mod waiting;
 mod word;
 mod writer;
 
-pub use crc::{crc16, crc8};
+pub use crc::{crc8, crc16};
 pub use reader::{BitEnd, BitReader};
 pub use writer::BitWriter;

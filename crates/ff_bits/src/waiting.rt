@@ -1,9 +1,7 @@
 //! Bits that wait until they fill a word.
 
-ghost use Rattle.std.specs.Prelude.{◌≡◌, ◌+◌, ◌*◌, ◌-◌, ◌^◌, ◌<◌, ◌≤◌, ◌/◌, ◌%◌, ◌++◌, vec_len, vec_capacity, OnOk, OnErr};
+ghost use Rattle.std.specs.Prelude.{◌≡◌, ◌+◌, ◌*◌, ◌-◌, ◌^◌, ◌<◌, ◌≤◌, ◌/◌, ◌%◌, ◌++◌, vec_len, vec_capacity};
 ghost use Rattle.ff_bits.specs.Bits.{bits_of, bits};
-
-use std::alloc::AllocError;
 
 /// The bits of `high`, then `count` bits of `low`.
 fn joined(high: u64, low: u64, count: u32) -> u64
@@ -16,7 +14,7 @@ fn joined(high: u64, low: u64, count: u32) -> u64
 }
 
 /// The bits that wait and `n` more, where they fit one word.
-pub fn longer(word: u64, count: u32, value: u64, n: u32) -> u64
+fn longer(word: u64, count: u32, value: u64, n: u32) -> u64
     requires word { word < 2 ^ count }
     requires value { value < 2 ^ n }
     requires fits { count + n < 64 }
@@ -27,7 +25,7 @@ pub fn longer(word: u64, count: u32, value: u64, n: u32) -> u64
 }
 
 /// A whole word of the bits that wait and `n` more, and what is left of them.
-pub fn filled(word: u64, count: u32, value: u64, n: u32) -> (u64, u64)
+fn filled(word: u64, count: u32, value: u64, n: u32) -> (u64, u64)
     requires word { word < 2 ^ count }
     requires value { value < 2 ^ n }
     requires within { count < 64 }
@@ -44,31 +42,61 @@ pub fn filled(word: u64, count: u32, value: u64, n: u32) -> (u64, u64)
     (joined(word, high, 64 - count), value - (high << rest))
 }
 
-/// Makes room for what waits.
-pub fn make_room(bytes: &mut Vec<u8>, count: u32) -> Result<(), AllocError>
-    requires { 0 < count → vec_len bytes.old + 8 ≤ vec_capacity bytes.old }
-    ensures items { bytes.new.items ≡ bytes.old.items }
-    ensures len { vec_len bytes.new ≡ vec_len bytes.old }
+/// Adds eight bytes, for which there is room.
+fn push_word(bytes: &mut Vec<u8>, word: u64)
+    requires { vec_len bytes.old + 8 ≤ vec_capacity bytes.old }
+    ensures bits { bits bytes.new.items ≡ bits bytes.old.items ++ bits_of 64 word }
+    ensures len { vec_len bytes.new ≡ vec_len bytes.old + 8 }
     ensures capacity { vec_capacity bytes.old ≤ vec_capacity bytes.new }
-    ensures room { OnOk result (vec_len bytes.new + 8 ≤ vec_capacity bytes.new) }
 {
-    if count == 0 {
-        bytes.reserve(8)?;
+    match bytes.extend_from_slice(&word.to_be_bytes()) {
+        Ok(()) => {}
+        Err(_) => unreachable!(),
     }
-    Ok(())
 }
 
-/// Adds eight bytes.
-pub fn push_word(bytes: &mut Vec<u8>, word: u64) -> Result<(), AllocError>
-    ensures ok { OnOk result (bits bytes.new.items ≡ bits bytes.old.items ++ bits_of 64 word) }
-    ensures room { OnOk result (vec_len bytes.new + 8 ≤ vec_capacity bytes.new) }
-    ensures err { OnErr result (bytes.new.items ≡ bytes.old.items) }
-    ensures len { OnErr result (vec_len bytes.new ≡ vec_len bytes.old) }
+/// Adds `n` bits behind those that wait, and gives those that wait then, with their count.
+pub fn add(bytes: &mut Vec<u8>, word: u64, count: u32, value: u64, n: u32) -> (u64, u32)
+    requires word { word < 2 ^ count }
+    requires value { value < 2 ^ n }
+    requires within { count < 64 }
+    requires at_most { n ≤ 64 }
+    requires room { vec_len bytes.old + 8 ≤ vec_capacity bytes.old }
+    ensures bits { bits bytes.new.items ++ bits_of result.1 result.0 ≡ bits bytes.old.items ++ bits_of count word ++ bits_of n value }
+    ensures within { result.1 < 64 }
+    ensures below { result.0 < 2 ^ result.1 }
+    ensures len { vec_len bytes.new ≤ vec_len bytes.old + 8 }
     ensures capacity { vec_capacity bytes.old ≤ vec_capacity bytes.new }
 {
-    bytes.reserve(16)?;
-    bytes.extend_from_slice(&word.to_be_bytes())?;
-    Ok(())
+    if count + n < 64 {
+        return (longer(word, count, value, n), count + n);
+    }
+    let (whole, rest) = filled(word, count, value, n);
+    push_word(bytes, whole);
+    (rest, count + n - 64)
+}
+
+/// The same with zeros, of any number.
+pub fn add_zeros(bytes: &mut Vec<u8>, word: u64, count: u32, n: u32) -> (u64, u32)
+    requires word { word < 2 ^ count }
+    requires within { count < 64 }
+    requires room { vec_len bytes.old + n / 8 + 16 ≤ vec_capacity bytes.old }
+    ensures bits { bits bytes.new.items ++ bits_of result.1 result.0 ≡ bits bytes.old.items ++ bits_of count word ++ bits_of n 0 }
+    ensures within { result.1 < 64 }
+    ensures below { result.0 < 2 ^ result.1 }
+    ensures len { vec_len bytes.new ≤ vec_len bytes.old + n / 8 + 8 }
+    ensures capacity { vec_capacity bytes.old ≤ vec_capacity bytes.new }
+{
+    let mut left = n;
+    let mut waiting = word;
+    let mut waiting_count = count;
+    while left > 64 {
+        let (more, more_count) = add(bytes, waiting, waiting_count, 0, 64);
+        waiting = more;
+        waiting_count = more_count;
+        left -= 64;
+    }
+    add(bytes, waiting, waiting_count, 0, left)
 }
 
 /// The bytes with what waits, where that is whole bytes and there is room for it.

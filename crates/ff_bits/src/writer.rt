@@ -3,7 +3,7 @@
 ghost use Rattle.std.specs.Prelude.{◌≡◌, ◌+◌, ◌*◌, ◌-◌, ◌^◌, ◌<◌, ◌≤◌, ◌%◌, ◌/◌, ◌++◌, [], length, replicate, vec_len, vec_capacity, OnOk, OnErr, ℕ, false};
 ghost use Rattle.ff_bits.specs.Bits.{bits_of, bits, padding};
 
-use crate::waiting::{filled, flushed, longer, make_room, push_word};
+use crate::waiting::{add, add_zeros, flushed};
 use std::alloc::{AllocError, Global};
 use std::marker::Model;
 
@@ -38,23 +38,34 @@ impl BitWriter {
         }
     }
 
-    /// Adds the lowest `n` bits of a number that has no others.
+    /// Adds the lowest `n` bits of a number that has no others. A refusal leaves the writer.
     pub fn put(&mut self, value: u64, n: u32) -> Result<(), AllocError>
-        requires count { n ≤ 64 }
-        requires value { value < 2 ^ n }
+        requires { value < 2 ^ n }
         ensures ok { OnOk result (self.new ≡ self.old ++ bits_of n value) }
         ensures err { OnErr result (self.new ≡ self.old) }
     {
-        make_room(&mut self.bytes, self.count)?;
-        if self.count + n < 64 {
-            self.word = longer(self.word, self.count, value, n);
-            self.count += n;
-            return Ok(());
+        if n > 64 {
+            return self.put_wide(value, n);
         }
-        let (whole, rest) = filled(self.word, self.count, value, n);
-        push_word(&mut self.bytes, whole)?;
-        self.word = rest;
-        self.count = self.count + n - 64;
+        self.bytes.reserve(16)?;
+        let (word, count) = add(&mut self.bytes, self.word, self.count, value, n);
+        self.word = word;
+        self.count = count;
+        Ok(())
+    }
+
+    /// Adds zeros and the 64 bits of a number.
+    #[cold]
+    fn put_wide(&mut self, value: u64, n: u32) -> Result<(), AllocError>
+        requires { 64 < n }
+        ensures ok { OnOk result (self.new ≡ self.old ++ bits_of n value) }
+        ensures err { OnErr result (self.new ≡ self.old) }
+    {
+        self.bytes.reserve(n as usize / 8 + 32)?;
+        let (word, count) = add_zeros(&mut self.bytes, self.word, self.count, n - 64);
+        let (word, count) = add(&mut self.bytes, word, count, value, 64);
+        self.word = word;
+        self.count = count;
         Ok(())
     }
 
