@@ -1,8 +1,8 @@
 -- The coded numbers that are read byte by byte are the coded numbers.
-use Rattle.std.proofs.Common.{◌≡◌, ℕ, zero, suc, ◌+◌, ◌-◌, ◌*◌, ◌/◌, ◌%◌, ◌^◌, ◌<◌, ◌≤◌, Bool, true, false, cond, ltb, leb, ◌||◌, ◌&&◌, ◌⊎◌, List, [], ◌∷◌, ◌++◌, length, take, drop, refl, sym, ap, subst, ◌∙◌, append_assoc, inl, inr, arith, length-append, length-drop}
+use Rattle.std.proofs.Common.{◌≡◌, ℕ, zero, suc, ◌+◌, ◌-◌, ◌*◌, ◌/◌, ◌%◌, ◌^◌, ◌<◌, ◌≤◌, Bool, true, false, cond, ltb, leb, bit_and, ◌||◌, ◌&&◌, ◌⊎◌, List, [], ◌∷◌, ◌++◌, length, take, drop, refl, sym, ap, subst, ◌∙◌, append_assoc, inl, inr, arith, length-append, length-drop}
 use Rattle.std.specs.Prelude.{replicate}
 use Rattle.std.proofs.Math.Nat.{pow-suc, pow-le-pow_right, mod-eq_of_lt, mul-le-mul_right}
-use Rattle.std.proofs.lemmas.Nat.{pow-add, shr-shr, mod_below, div-add-mod', shr_split, pow_pos, shr_below, mul-add-lt}
+use Rattle.std.proofs.lemmas.Nat.{pow-add, shr-shr, mod_below, div-add-mod', shr_split, pow_pos, shr_below, mul-add-lt, one_shl, and_mask}
 use Rattle.std.proofs.lemmas.Bool.{ltb-true, ltb-false, lt-ltb, le-ltb, le-leb, leb-true, cases_lt, or_cases, and_parts, or_right, or_left, or_from, and_from, and_left, and_right, cases_Bool, cases_eq, false_from_ne_true}
 use Rattle.std.proofs.lemmas.List.{append-nil, take-append-drop, take_at, drop_at, length-take, take_all}
 use Rattle.ff_bits.specs.Bits.{digit, value_from, value_of, bits_of}
@@ -448,3 +448,64 @@ is_short BadNumber now ahead rest e h k = absurd cc
 pub is_bad : (e : BitEnd) (now ahead rest : List Bool) → ahead ≡ now → Answers (Err e) (coded ahead) rest → IsErrOf {T = ℕ} (Err e) BadNumber → BeginsNoCode now
 is_bad Short now ahead rest e h k = absurd cc
 is_bad BadNumber now ahead rest e h k = subst BeginsNoCode e (begins_no_code ahead h)
+
+-- ---- the shortest one as it is written
+
+mark_of : (k : ℕ) → (k ≡ 0 → ⊥) → mark k ≡ 256 - 2 ^ (7 - k)
+mark_of zero h = absurd (h refl)
+mark_of (suc k) h = let e : 7 - suc k ≡ 6 - k = omega arith in ap (λ (n : ℕ). 256 - 2 ^ n) (sym e)
+
+first_written : (k v byte : ℕ) → k ≤ 6 → v < 2 ^ capacity k → byte ≡ mark k + v / 2 ^ (6 * k) → (bits_of 8 byte ≡ first_byte k v) × (byte < 256)
+first_written k v byte h l e =
+    let o : IsOpening byte k (high_part k v) = subst (λ (b : ℕ). IsOpening b k (high_part k v)) (sym e) (opened_by k v h l) in
+    (sym (first_bits byte k v o), (first_is byte k (high_part k v) o).1)
+
+pub first_alone : (k v : ℕ) → k ≡ 0 → k ≤ 6 → v < 2 ^ capacity k → bits_of 8 v ≡ first_byte k v
+first_alone k v z h l =
+    let e : v ≡ mark k + v / 2 ^ (6 * k) = subst (λ (j : ℕ). v ≡ mark j + v / 2 ^ (6 * j)) (sym z) (let f : v ≡ mark 0 + v / 2 ^ (6 * 0) = omega arith in f) in
+    (first_written k v v h l e).0
+
+pub first_marked : (k v : ℕ) → (k ≡ 0 → ⊥) → k ≤ 6 → v < 2 ^ capacity k
+    → (bits_of 8 (256 - 1 * 2 ^ (7 - k) % 2 ^ 64 + v / 2 ^ (6 * k)) ≡ first_byte k v) × (256 - 1 * 2 ^ (7 - k) % 2 ^ 64 + v / 2 ^ (6 * k) < 256)
+first_marked k v z h l =
+    let one : 1 * 2 ^ (7 - k) % 2 ^ 64 ≡ 2 ^ (7 - k) = one_shl (7 - k) 64 (omega arith) in
+    let e : 256 - 1 * 2 ^ (7 - k) % 2 ^ 64 + v / 2 ^ (6 * k) ≡ mark k + v / 2 ^ (6 * k) = ap (λ (m : ℕ). 256 - m + v / 2 ^ (6 * k)) one ∙ ap (λ (m : ℕ). m + v / 2 ^ (6 * k)) (sym (mark_of k z)) in
+    first_written k v (256 - 1 * 2 ^ (7 - k) % 2 ^ 64 + v / 2 ^ (6 * k)) h l e
+
+pub code_goes_on : (k v i b : ℕ) (total : List Bool) → i < k → bits_of (8 * i + 8) b ++ further_bytes (k - i) v ≡ total
+    → bits_of (8 * (i + 1) + 8) (b * 256 + 128 + bit_and (v / 2 ^ (6 * (k - 1 - i))) 63) ++ further_bytes (k - (i + 1)) v ≡ total
+unfolding further_bytes
+code_goes_on k v i b total lt e =
+    let m : ℕ = k - 1 - i in
+    let w : ℕ = v / 2 ^ (6 * m) in
+    let x : ℕ = w % 64 in
+    let now : k - i ≡ suc m = omega arith in
+    let next : k - (i + 1) ≡ m = omega arith in
+    let count : 8 * (i + 1) + 8 ≡ 8 * i + 8 + 8 = omega arith in
+    let low : b * 256 + 128 + bit_and w 63 ≡ b * 2 ^ 8 + (128 + x) = let a : bit_and w 63 ≡ w % 2 ^ 6 = and_mask w 6 in omega arith in
+    let front : List Bool = bits_of (8 * i + 8) b in
+    let written : bits_of (8 * (i + 1) + 8) (b * 256 + 128 + bit_and w 63) ≡ front ++ (true ∷ false ∷ bits_of 6 w) =
+        ap (λ (n : ℕ). bits_of n (b * 256 + 128 + bit_and w 63)) count ∙ ap (bits_of (8 * i + 8 + 8)) low
+        ∙ bits_of-add (8 * i + 8) 8 b (128 + x) (omega arith) ∙ ap (λ (ys : List Bool). front ++ ys) (sym (six w)) in
+    ap (λ (n : ℕ). bits_of (8 * (i + 1) + 8) (b * 256 + 128 + bit_and w 63) ++ further_bytes n v) next
+    ∙ ap (λ (ys : List Bool). ys ++ further_bytes m v) written ∙ append_assoc front (true ∷ false ∷ bits_of 6 w) (further_bytes m v)
+    ∙ sym (ap (λ (n : ℕ). front ++ further_bytes n v) now) ∙ e
+
+pub code_within : (i b x : ℕ) → b < 2 ^ (8 * i + 8) → x < 256 → b * 256 + x < 2 ^ (8 * (i + 1) + 8)
+code_within i b x h l =
+    let e : 8 * (i + 1) + 8 ≡ 8 * i + 8 + 8 = omega arith in
+    let p : 2 ^ (8 * (i + 1) + 8) ≡ 2 ^ (8 * i + 8) * 2 ^ 8 = ap (λ (n : ℕ). 2 ^ n) e ∙ pow-add 2 (8 * i + 8) 8 in
+    omega arith
+
+pub code_fits : (i b : ℕ) → i < 6 → b < 2 ^ (8 * i + 8) → b < 2 ^ 48
+code_fits i b h l =
+    let two : 0 < 2 = omega arith in
+    let le : 8 * i + 8 ≤ 48 = omega arith in
+    let m : 2 ^ (8 * i + 8) ≤ 2 ^ 48 = pow-le-pow_right two le in
+    omega arith
+
+pub code_is_whole : (k v i b : ℕ) → i ≡ k → bits_of (8 * i + 8) b ++ further_bytes (k - i) v ≡ code_with k v → bits_of (8 * k + 8) b ≡ code_with k v
+unfolding further_bytes
+code_is_whole k v i b e h =
+    let z : k - i ≡ 0 = omega arith in
+    ap (λ (n : ℕ). bits_of (8 * n + 8) b) (sym e) ∙ sym (append-nil (bits_of (8 * i + 8) b)) ∙ sym (ap (λ (n : ℕ). bits_of (8 * i + 8) b ++ further_bytes n v) z) ∙ h

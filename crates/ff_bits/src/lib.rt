@@ -4,6 +4,7 @@
 //! To a contract a reader is the list of the bits that are left, and a writer the list of those that were written.
 #![tactic(auto)]
 
+mod code;
 mod crc;
 mod number;
 mod reader;

@@ -2,7 +2,9 @@
 
 ghost use Rattle.std.specs.Prelude.{◌≡◌, ◌+◌, ◌*◌, ◌-◌, ◌^◌, ◌<◌, ◌≤◌, ◌%◌, ◌/◌, ◌++◌, [], length, replicate, vec_len, vec_capacity, OnOk, OnErr, ℕ, false};
 ghost use Rattle.ff_bits.specs.Bits.{bits_of, bits, padding};
+ghost use Rattle.ff_bits.specs.Number.{shortest};
 
+use crate::code::shortest_code;
 use crate::waiting::{add, add_zeros, flushed};
 use std::alloc::{AllocError, Global};
 use std::marker::Model;
@@ -67,6 +69,16 @@ impl BitWriter {
         self.word = word;
         self.count = count;
         Ok(())
+    }
+
+    /// Adds the coded number (RFC 9639, section 9.1.5) of a value, in its shortest form. A refusal leaves the writer.
+    pub fn put_number(&mut self, value: u64) -> Result<(), AllocError>
+        requires { value < 2 ^ 36 }
+        ensures ok { OnOk result (self.new ≡ self.old ++ shortest value) }
+        ensures err { OnErr result (self.new ≡ self.old) }
+    {
+        let code = shortest_code(value);
+        self.put(code.bits, code.count)
     }
 
     /// Adds zeros up to a whole byte.
