@@ -10,3 +10,4 @@ pub mod NumberLemmas
 pub mod CrcLemmas
 pub mod Tables
 pub mod Slices
+pub mod LawLemmas

@@ -4,7 +4,7 @@ use Rattle.std.specs.Prelude.{replicate}
 use Rattle.std.proofs.Math.Nat.{pow-suc, pow-le-pow_right, mod-eq_of_lt, mul-le-mul_right}
 use Rattle.std.proofs.lemmas.Nat.{pow-add, shr-shr, mod_below, div-add-mod', shr_split, pow_pos, shr_below, mul-add-lt, one_shl, and_mask}
 use Rattle.std.proofs.lemmas.Bool.{ltb-true, ltb-false, lt-ltb, le-ltb, le-leb, leb-true, cases_lt, or_cases, and_parts, or_right, or_left, or_from, and_from, and_left, and_right, cases_Bool, cases_eq, false_from_ne_true}
-use Rattle.std.proofs.lemmas.List.{append-nil, take-append-drop, take_at, drop_at, length-take, take_all}
+use Rattle.std.proofs.lemmas.List.{append-nil, take-append-drop, take_at, drop_at, length-take, length-replicate, take_all}
 use Rattle.ff_bits.specs.Bits.{digit, value_from, value_of, bits_of}
 use Rattle.ff_bits.specs.Number.{first_byte, further_bytes, capacity, code_with, IsCode, IsPartOfCode, BeginsNoCode}
 use Rattle.std.specs.Prelude.{Ok, Err, IsErrOf}
@@ -509,3 +509,12 @@ unfolding further_bytes
 code_is_whole k v i b e h =
     let z : k - i ≡ 0 = omega arith in
     ap (λ (n : ℕ). bits_of (8 * n + 8) b) (sym e) ∙ sym (append-nil (bits_of (8 * i + 8) b)) ∙ sym (ap (λ (n : ℕ). bits_of (8 * i + 8) b ++ further_bytes n v) z) ∙ h
+
+pub length-first_byte : (k v : ℕ) → k ≤ 6 → length (first_byte k v) ≡ 8
+unfolding first_byte
+length-first_byte zero v h = ap suc (length-bits_of 7 v)
+length-first_byte (suc k) v h =
+    let front : List Bool = replicate (suc k + 1) true in
+    let rest : List Bool = bits_of (5 - k) (v / 2 ^ (6 * suc k)) in
+    let few : length rest ≡ 5 - k = length-bits_of (5 - k) (v / 2 ^ (6 * suc k)) in
+    length-append front (false ∷ rest) ∙ omega (arith, length-replicate {A = Bool} (suc k + 1) true)

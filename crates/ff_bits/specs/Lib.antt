@@ -4,5 +4,6 @@ pub mod Crc
 pub mod Reads
 pub mod Runs
 pub mod Writer
+pub mod Pieces
 pub mod Reading
 pub mod NumberGrammar

@@ -6,6 +6,7 @@
 
 mod code;
 mod crc;
+mod laws;
 mod number;
 mod reader;
 mod table16;
@@ -15,5 +16,6 @@ mod word;
 mod writer;
 
 pub use crc::{crc8, crc16};
+pub use laws::{a_sum_behind_its_bytes_leaves_nothing, coded_numbers_are_apart, shortest_is_shortest, what_was_written_is_read};
 pub use reader::{BitEnd, BitReader};
 pub use writer::BitWriter;
