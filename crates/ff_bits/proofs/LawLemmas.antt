@@ -58,12 +58,12 @@ record IsFewest (v k : ℕ) : Type 0 where
 
 least_than : (k v : ℕ) → 2 ^ capacity k ≤ v → (j : ℕ) → v < 2 ^ capacity j → k < j
 least_than k v h j l = elim (cases_lt k j) [
-      | inl lt ↦ lt
-      | inr ge ↦
-          let two : 0 < 2 = omega arith in
-          let p : 2 ^ capacity j ≤ 2 ^ capacity k = pow-le-pow_right two (capacity_le j k ge) in
-          absurd (omega arith)
-    ]
+  | inl lt ↦ lt
+  | inr ge ↦
+      let two : 0 < 2 = omega arith in
+      let p : 2 ^ capacity j ≤ 2 ^ capacity k = pow-le-pow_right two (capacity_le j k ge) in
+      absurd (omega arith)
+]
   where
     capacity_le : (j k : ℕ) → j ≤ k → capacity j ≤ capacity k
     capacity_le zero zero h = omega arith
@@ -73,24 +73,24 @@ least_than k v h j l = elim (cases_lt k j) [
 
 fewest_is : (v : ℕ) → v < 2 ^ 36 → IsFewest v (fewest v)
 fewest_is v top = elim (cases_lt v (2 ^ 7)) [
-      | inl l ↦ rw (lt-ltb v (2 ^ 7) l) (record { few = omega arith; room = l; least = λ j h. omega arith })
-      | inr a ↦ elim (cases_lt v (2 ^ 11)) [
-        | inl l ↦ rw (le-ltb v (2 ^ 7) a, lt-ltb v (2 ^ 11) l) (record { few = omega arith; room = l; least = λ j h. (let m : 0 < j = least_than 0 v a j h in omega arith) })
-        | inr b ↦ elim (cases_lt v (2 ^ 16)) [
-          | inl l ↦ rw (le-ltb v (2 ^ 7) a, le-ltb v (2 ^ 11) b, lt-ltb v (2 ^ 16) l) (record { few = omega arith; room = l; least = λ j h. (let m : 1 < j = least_than 1 v b j h in omega arith) })
-          | inr c ↦ elim (cases_lt v (2 ^ 21)) [
-            | inl l ↦ rw (le-ltb v (2 ^ 7) a, le-ltb v (2 ^ 11) b, le-ltb v (2 ^ 16) c, lt-ltb v (2 ^ 21) l) (record { few = omega arith; room = l; least = λ j h. (let m : 2 < j = least_than 2 v c j h in omega arith) })
-            | inr d ↦ elim (cases_lt v (2 ^ 26)) [
-              | inl l ↦ rw (le-ltb v (2 ^ 7) a, le-ltb v (2 ^ 11) b, le-ltb v (2 ^ 16) c, le-ltb v (2 ^ 21) d, lt-ltb v (2 ^ 26) l) (record { few = omega arith; room = l; least = λ j h. (let m : 3 < j = least_than 3 v d j h in omega arith) })
-              | inr e ↦ elim (cases_lt v (2 ^ 31)) [
-                | inl l ↦ rw (le-ltb v (2 ^ 7) a, le-ltb v (2 ^ 11) b, le-ltb v (2 ^ 16) c, le-ltb v (2 ^ 21) d, le-ltb v (2 ^ 26) e, lt-ltb v (2 ^ 31) l) (record { few = omega arith; room = l; least = λ j h. (let m : 4 < j = least_than 4 v e j h in omega arith) })
-                | inr f ↦ rw (le-ltb v (2 ^ 7) a, le-ltb v (2 ^ 11) b, le-ltb v (2 ^ 16) c, le-ltb v (2 ^ 21) d, le-ltb v (2 ^ 26) e, le-ltb v (2 ^ 31) f) (record { few = omega arith; room = top; least = λ j h. (let m : 5 < j = least_than 5 v f j h in omega arith) })
-              ]
-            ]
+  | inl l ↦ rw (lt-ltb v (2 ^ 7) l) (record { few = omega arith; room = l; least = λ j h. omega arith })
+  | inr a ↦ elim (cases_lt v (2 ^ 11)) [
+    | inl l ↦ rw (le-ltb v (2 ^ 7) a, lt-ltb v (2 ^ 11) l) (record { few = omega arith; room = l; least = λ j h. (let m : 0 < j = least_than 0 v a j h in omega arith) })
+    | inr b ↦ elim (cases_lt v (2 ^ 16)) [
+      | inl l ↦ rw (le-ltb v (2 ^ 7) a, le-ltb v (2 ^ 11) b, lt-ltb v (2 ^ 16) l) (record { few = omega arith; room = l; least = λ j h. (let m : 1 < j = least_than 1 v b j h in omega arith) })
+      | inr c ↦ elim (cases_lt v (2 ^ 21)) [
+        | inl l ↦ rw (le-ltb v (2 ^ 7) a, le-ltb v (2 ^ 11) b, le-ltb v (2 ^ 16) c, lt-ltb v (2 ^ 21) l) (record { few = omega arith; room = l; least = λ j h. (let m : 2 < j = least_than 2 v c j h in omega arith) })
+        | inr d ↦ elim (cases_lt v (2 ^ 26)) [
+          | inl l ↦ rw (le-ltb v (2 ^ 7) a, le-ltb v (2 ^ 11) b, le-ltb v (2 ^ 16) c, le-ltb v (2 ^ 21) d, lt-ltb v (2 ^ 26) l) (record { few = omega arith; room = l; least = λ j h. (let m : 3 < j = least_than 3 v d j h in omega arith) })
+          | inr e ↦ elim (cases_lt v (2 ^ 31)) [
+            | inl l ↦ rw (le-ltb v (2 ^ 7) a, le-ltb v (2 ^ 11) b, le-ltb v (2 ^ 16) c, le-ltb v (2 ^ 21) d, le-ltb v (2 ^ 26) e, lt-ltb v (2 ^ 31) l) (record { few = omega arith; room = l; least = λ j h. (let m : 4 < j = least_than 4 v e j h in omega arith) })
+            | inr f ↦ rw (le-ltb v (2 ^ 7) a, le-ltb v (2 ^ 11) b, le-ltb v (2 ^ 16) c, le-ltb v (2 ^ 21) d, le-ltb v (2 ^ 26) e, le-ltb v (2 ^ 31) f) (record { few = omega arith; room = top; least = λ j h. (let m : 5 < j = least_than 5 v f j h in omega arith) })
           ]
         ]
       ]
     ]
+  ]
+]
 
 pub shortest_is_code : (v : ℕ) → v < 2 ^ 36 → IsCode (shortest v) v
 unfolding shortest
@@ -147,7 +147,7 @@ crc16_behind bytes =
 -- ---- reading back
 
 reads_piece : (p : Piece) (after : List Bool) → IsWritable p → IsRead p (written_piece p ++ after) (value_in p) after
-reads_piece (Field n v) after h = 
+reads_piece (Field n v) after h =
     let l = length-bits_of n v in
     let t : take n (bits_of n v ++ after) ≡ bits_of n v = take_at (bits_of n v) after n l in
     record {

@@ -485,8 +485,8 @@ code_goes_on k v i b total lt e =
     let low : b * 256 + 128 + bit_and w 63 ≡ b * 2 ^ 8 + (128 + x) = let a : bit_and w 63 ≡ w % 2 ^ 6 = and_mask w 6 in omega arith in
     let front : List Bool = bits_of (8 * i + 8) b in
     let written : bits_of (8 * (i + 1) + 8) (b * 256 + 128 + bit_and w 63) ≡ front ++ (true ∷ false ∷ bits_of 6 w) =
-        ap (λ (n : ℕ). bits_of n (b * 256 + 128 + bit_and w 63)) count ∙ ap (bits_of (8 * i + 8 + 8)) low
-        ∙ bits_of-add (8 * i + 8) 8 b (128 + x) (omega arith) ∙ ap (λ (ys : List Bool). front ++ ys) (sym (six w)) in
+    ap (λ (n : ℕ). bits_of n (b * 256 + 128 + bit_and w 63)) count ∙ ap (bits_of (8 * i + 8 + 8)) low
+    ∙ bits_of-add (8 * i + 8) 8 b (128 + x) (omega arith) ∙ ap (λ (ys : List Bool). front ++ ys) (sym (six w)) in
     ap (λ (n : ℕ). bits_of (8 * (i + 1) + 8) (b * 256 + 128 + bit_and w 63) ++ further_bytes n v) next
     ∙ ap (λ (ys : List Bool). ys ++ further_bytes m v) written ∙ append_assoc front (true ∷ false ∷ bits_of 6 w) (further_bytes m v)
     ∙ sym (ap (λ (n : ℕ). front ++ further_bytes n v) now) ∙ e

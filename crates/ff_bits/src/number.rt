@@ -17,6 +17,7 @@ impl<'a> BitReader<'a> {
         ensures short { IsErrOf result BitEnd.Short → IsPartOfCode self.old }
         ensures bad { IsErrOf result BitEnd.BadNumber → BeginsNoCode self.old }
         ensures unchanged { OnErr result (self.new ≡ self.old) }
+        ensures shorter { length self.new ≤ length self.old }
     {
         let mut ahead = self.copy();
         let value = ahead.coded()?;

@@ -40,7 +40,8 @@ impl<'a> Model for BitReader<'a> {
 impl<'a> BitReader<'a> {
     /// All bits of these bytes.
     pub fn new(bytes: &'a [u8]) -> BitReader<'a>
-        ensures { result ≡ bits bytes.now }
+        ensures bits { result ≡ bits bytes.now }
+        ensures len { length result ≡ 8 * length bytes.now }
     {
         BitReader { bytes, used: 0 }
     }
@@ -78,6 +79,7 @@ impl<'a> BitReader<'a> {
         ensures below { IfOk result (λ v. v < 2 ^ n) }
         ensures short { IfErr result (λ e. (e ≡ BitEnd.Short) × (length self.old < n)) }
         ensures unchanged { OnErr result (self.new ≡ self.old) }
+        ensures shorter { length self.new ≤ length self.old }
     {
         if !self.has(n) {
             return Err(BitEnd::Short);
@@ -135,6 +137,7 @@ impl<'a> BitReader<'a> {
         ensures counted { IfOk result (λ zeros. IsCounted self.old zeros self.new) }
         ensures short { IfErr result (λ e. (e ≡ BitEnd.Short) × (self.old ≡ replicate (length self.old) false)) }
         ensures unchanged { OnErr result (self.new ≡ self.old) }
+        ensures shorter { length self.new ≤ length self.old }
     {
         let bytes = self.bytes;
         let used = self.used;

@@ -9,11 +9,14 @@ use crate::waiting::{add, add_zeros, flushed};
 use std::alloc::{AllocError, Global};
 use std::marker::Model;
 
-/// A list of bits that grows at its end.
+/// Bits that were written. To a contract it is the list of them.
 #[derive(Drop)]
 pub struct BitWriter {
+    /// Whole words of eight bytes. There is room for what waits.
     bytes: Vec<u8>,
+    /// The bits that wait to fill a word.
     word: u64,
+    /// How many wait, below 64.
     count: u32,
 }
 
@@ -30,6 +33,7 @@ impl Model for BitWriter {
 }
 
 impl BitWriter {
+    /// No bits.
     pub fn new(alloc: Global) -> Self
         ensures { result ≡ [] }
     {
@@ -81,7 +85,7 @@ impl BitWriter {
         self.put(code.bits, code.count)
     }
 
-    /// Adds zeros up to a whole byte.
+    /// Adds zeros up to a whole byte. A refusal leaves the writer.
     pub fn pad(&mut self) -> Result<(), AllocError>
         ensures ok { OnOk result (self.new ≡ self.old ++ replicate (padding (length self.old)) false) }
         ensures whole { OnOk result (length self.new % 8 ≡ 0) }
@@ -95,10 +99,11 @@ impl BitWriter {
         Ok(())
     }
 
-    /// The bytes.
+    /// The bytes of the bits, which are whole bytes.
     pub fn into_bytes(self) -> Vec<u8>
         requires { length self % 8 ≡ 0 }
-        ensures { bits result.items ≡ self }
+        ensures bits { bits result.items ≡ self }
+        ensures len { 8 * vec_len result ≡ length self }
     {
         let BitWriter { bytes, word, count } = self;
         flushed(bytes, word, count)

@@ -1,3 +1,4 @@
+use Rattle.std.proofs.Common.{length, ap, arith, length-append}
 use Rattle.std.proofs.lemmas.Result.{err_from_is_err_and}
 use Rattle.ff_bits.proofs.NumberLemmas.{number_read, is_short, is_bad, code_below}
 use Rattle.ff_bits.proofs.reader.BitReader.number.Goals as goal
@@ -19,3 +20,8 @@ pub returns-clause-below : goal.returns-clause-below
 returns-clause-below c =
     let n = number_read c.args.self.now c.copy-ahead.result c.coded.new.self c.in_ok-value.value c.copy-ahead.ensures c.in_ok-value.ensures in
     code_below n.0 c.in_ok-value.value n.1
+
+pub returns-clause-shorter : goal.returns-clause-shorter
+returns-clause-shorter c =
+    let n = number_read c.args.self.now c.copy-ahead.result c.coded.new.self c.in_ok-value.value c.copy-ahead.ensures c.in_ok-value.ensures in
+    omega (arith, ap length n.2, length-append n.0 c.coded.new.self)

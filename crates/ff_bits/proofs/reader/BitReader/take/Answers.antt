@@ -1,4 +1,4 @@
-use Rattle.std.proofs.Common.{◌≡◌, ◌+◌, ◌-◌, ◌*◌, ◌<◌, ◌^◌, ◌∙◌, ℕ, sym, ap, subst, arith, bit_or}
+use Rattle.std.proofs.Common.{◌≡◌, ◌+◌, ◌-◌, ◌*◌, ◌<◌, ◌^◌, ◌∙◌, ℕ, sym, ap, subst, length, arith, bit_or, length-drop}
 use Rattle.ff_bits.specs.Reads.{IsTaken}
 use Rattle.ff_bits.proofs.Peek.{taken_twice, halves, halves_below}
 use Rattle.ff_bits.proofs.reader.BitReader.take.Goals as goal
@@ -21,3 +21,9 @@ returns-clause-below c =
     let parts : n - 32 + 32 ≡ n = omega arith in
     let whole = halves high low (n - 32) c.take_of_word-high.ensures.below (omega arith) c.take_of_word-low.ensures.below in
     subst (λ (v : ℕ). v < 2 ^ n) (sym whole) (subst (λ (m : ℕ). high * 2 ^ 32 + low < 2 ^ m) parts (halves_below high low (n - 32) c.take_of_word-high.ensures.below c.take_of_word-low.ensures.below))
+
+pub returns-clause-shorter : goal.returns-clause-shorter
+returns-clause-shorter c =
+    let n : ℕ = c.args.n in
+    let both = taken_twice (n - 32) 32 c.args.self.now c.take_of_word-high.new.self c.take_of_word-low.new.self c.take_of_word-high.result c.take_of_word-low.result c.take_of_word-high.ensures.taken c.take_of_word-low.ensures.taken in
+    omega (arith, ap length both.left, length-drop (n - 32 + 32) c.args.self.now)
