@@ -40,7 +40,13 @@ fn sums(rt: &(impl Print + AllocGlobal + Clock)) -> io::Result<()> {
 fn plain(rt: &(impl Print + AllocGlobal + Clock)) -> io::Result<()> {
     let start = Instant::now(rt)?;
     let bytes = written(rt.alloc())?;
-    report(rt, "put of 12 bits", VALUES, start.elapsed(rt)?, bytes.len() as u64)?;
+    report(
+        rt,
+        "put of 12 bits",
+        VALUES,
+        start.elapsed(rt)?,
+        bytes.len() as u64,
+    )?;
     let start = Instant::now(rt)?;
     let sum = taken(bytes.as_slice());
     report(rt, "take of 12 bits", VALUES, start.elapsed(rt)?, sum)
@@ -49,10 +55,22 @@ fn plain(rt: &(impl Print + AllocGlobal + Clock)) -> io::Result<()> {
 fn zeros(rt: &(impl Print + AllocGlobal + Clock)) -> io::Result<()> {
     let start = Instant::now(rt)?;
     let bytes = written_with_zeros(rt.alloc())?;
-    report(rt, "put of a Rice code", VALUES, start.elapsed(rt)?, bytes.len() as u64)?;
+    report(
+        rt,
+        "put of a Rice code",
+        VALUES,
+        start.elapsed(rt)?,
+        bytes.len() as u64,
+    )?;
     let start = Instant::now(rt)?;
     let sum = counted(bytes.as_slice());
-    report(rt, "unary and take of a Rice code", VALUES, start.elapsed(rt)?, sum)
+    report(
+        rt,
+        "unary and take of a Rice code",
+        VALUES,
+        start.elapsed(rt)?,
+        sum,
+    )
 }
 
 /// Prints how many millions a second there were.
@@ -71,7 +89,10 @@ impl Noise {
     fn next(&mut self) -> u32
         ensures { result < 2 ^ 24 }
     {
-        self.state = self.state.wrapping_mul(1_664_525).wrapping_add(1_013_904_223);
+        self.state = self
+            .state
+            .wrapping_mul(1_664_525)
+            .wrapping_add(1_013_904_223);
         self.state >> 8
     }
 }

@@ -3,8 +3,7 @@
 
 mod bits;
 
-use std::env;
-use std::io;
+use std::{env, io};
 
 fn main(rt: HostRuntime) -> io::Result<()> {
     let mut words = env::args(&rt)?;

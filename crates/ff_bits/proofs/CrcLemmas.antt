@@ -1,11 +1,9 @@
 -- The remainder that is made digit by digit is the remainder.
-use Rattle.std.proofs.Common.{◌≡◌, ℕ, suc, ◌+◌, ◌-◌, ◌*◌, ◌/◌, ◌%◌, ◌^◌, ◌<◌, ◌≤◌, Bool, true, false, cond, ltb, List, [], ◌∷◌, ◌++◌, length, take, drop, refl, sym, ap, subst, ◌∙◌, arith, bit_xor, mul_comm, get_or, ◌==◌}
+use Rattle.std.proofs.Common.{◌≡◌, ℕ, ◌+◌, ◌-◌, ◌*◌, ◌^◌, ◌<◌, ◌≤◌, Bool, true, false, cond, ltb, List, [], ◌∷◌, ◌++◌, refl, sym, ap, subst, ◌∙◌, arith, bit_xor, mul_comm}
 use Rattle.std.proofs.lemmas.Nat.{pow_pos, pow-add, xor_comm, xor_block, xor_lt}
 use Rattle.std.specs.Int.Bits.{xor_assoc, xor_self, xor_zero_r, xor_shifted}
 use Rattle.std.proofs.lemmas.Bool.{ltb-true, ltb-false, cond_both}
-use Rattle.std.proofs.lemmas.List.{append-nil, take_more}
-use Rattle.ff_bits.specs.Bits.{digit, value_from, bits_of, bits}
-use Rattle.ff_bits.proofs.BitsLemmas.{bits-append, drop-bits_of}
+use Rattle.ff_bits.specs.Bits.{digit, value_from}
 use Rattle.ff_bits.specs.Crc.{product_from, IsRemainder, reduced, remainder_from, crc8_of, crc16_of}
 
 double : (a : ℕ) → 2 * a ≡ a * 2 ^ 1 + 0

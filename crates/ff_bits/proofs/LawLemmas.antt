@@ -1,22 +1,24 @@
 -- Laws of what is written and read, and of the sums.
-use Rattle.std.proofs.Common.{◌≡◌, ℕ, zero, suc, ◌+◌, ◌-◌, ◌*◌, ◌/◌, ◌%◌, ◌^◌, ◌<◌, ◌≤◌, Bool, true, false, cond, ltb, List, [], ◌∷◌, ◌++◌, length, take, drop, refl, sym, ap, subst, ◌∙◌, append_assoc, inl, inr, arith, bit_xor, length-append}
+use Rattle.std.proofs.Common.{◌≡◌, ℕ, zero, suc, ◌+◌, ◌*◌, ◌/◌, ◌%◌, ◌^◌, ◌<◌, ◌≤◌, Bool, false, cond, List, [], ◌∷◌, ◌++◌, length, take, refl, sym, ap, subst, ◌∙◌, append_assoc, inl, inr, arith, bit_xor, length-append}
 use Rattle.std.specs.Prelude.{replicate}
 use Rattle.std.specs.Int.Bits.{xor_self}
 use Rattle.std.proofs.Math.Nat.{mod-eq_of_lt, pow-le-pow_right}
-use Rattle.std.proofs.lemmas.Nat.{pow_pos, shr_split}
+use Rattle.std.proofs.lemmas.Nat.{pow_pos}
 use Rattle.std.proofs.lemmas.Bool.{lt-ltb, le-ltb, cases_lt}
-use Rattle.std.proofs.lemmas.List.{append-nil, take_at, drop_at, length-replicate, append_cancel_left}
+use Rattle.std.proofs.lemmas.List.{append-nil, take_at, drop_at}
 use Rattle.ff_bits.specs.Bits.{value_of, bits_of, bits}
 use Rattle.ff_bits.specs.Number.{IsCode, IsPartOfCode, BeginsNoCode, code_with, capacity, fewest, shortest, first_byte, further_bytes}
-use Rattle.ff_bits.specs.Reads.{IsTaken, IsNumber}
-use Rattle.ff_bits.specs.Reading.{Done, Answer}
+use Rattle.ff_bits.specs.Reads.{IsNumber}
+use Rattle.ff_bits.specs.Reading.{Done}
 use Rattle.ff_bits.specs.NumberGrammar.{coded}
-use Rattle.ff_bits.specs.Crc.{remainder_from, reduced, crc8_of, crc16_of}
+use Rattle.ff_bits.specs.Crc.{remainder_from, crc8_of, crc16_of}
 use Rattle.ff_bits.specs.Pieces.{Piece, Field, Coded, value_in, values_in, IsWritable, AreWritable, written_piece, written_pieces, IsRead, AreRead}
 use Rattle.ff_bits.proofs.BitsLemmas.{length-bits_of, bits-append, bits-one}
 use Rattle.ff_bits.proofs.Words.{value_of-bits_of}
 use Rattle.ff_bits.proofs.BitsOf.{bits_of-zeros, bits_of-parts}
-use Rattle.ff_bits.proofs.NumberLemmas.{coded-forward, code_below, length-first_byte}
+use Rattle.ff_bits.proofs.NumberLemmas.{coded-forward}
+use Rattle.ff_bits.proofs.NumberReads.{code_below}
+use Rattle.ff_bits.proofs.FirstByte.{length-first_byte}
 use Rattle.ff_bits.proofs.CrcLemmas.{remainder_from-append}
 use Rattle.ff_bits.proofs.Slices.{absorbed, remainder_below}
 

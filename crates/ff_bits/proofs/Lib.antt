@@ -3,10 +3,15 @@ pub mod Words
 pub mod Peek
 pub mod Zeros
 pub mod Sound
+pub mod SoundTexts
 pub mod Fields
 pub mod BitsOf
 pub mod WriterLemmas
+pub mod OneByte
+pub mod FirstByte
 pub mod NumberLemmas
+pub mod NumberReads
+pub mod CodeLemmas
 pub mod CrcLemmas
 pub mod Tables
 pub mod Slices

@@ -1,11 +1,11 @@
 -- What the word at a reader's place says of the bits that are left.
-use Rattle.std.proofs.Common.{◌≡◌, ℕ, suc, ◌+◌, ◌-◌, ◌*◌, ◌/◌, ◌%◌, ◌^◌, ◌<◌, ◌≤◌, Bool, List, [], ◌∷◌, ◌++◌, length, take, drop, get_or, refl, sym, ap, subst, ◌∙◌, inl, inr, arith, length-append, length-drop, bit_or}
+use Rattle.std.proofs.Common.{◌≡◌, ℕ, ◌+◌, ◌-◌, ◌*◌, ◌/◌, ◌%◌, ◌^◌, ◌<◌, ◌≤◌, Bool, List, [], ◌∷◌, ◌++◌, length, take, drop, get_or, refl, sym, ap, ◌∙◌, inl, inr, arith, length-append, length-drop, bit_or}
 use Rattle.std.specs.Prelude.{replicate}
 use Rattle.std.proofs.Math.Nat.{pow-le-pow_right, mod-eq_of_lt}
 use Rattle.std.proofs.Math.Seq.{take-add}
 use Rattle.std.proofs.lemmas.Nat.{or_shifted, shl_whole, pow-add, mul-add-lt}
 use Rattle.std.proofs.lemmas.Bool.{cases_lt}
-use Rattle.std.proofs.lemmas.List.{length-take, length-replicate, take-append-le, drop-append-le, take_more, drop-drop, take-append-drop, append-nil, get_or_append_left, get_or-append_right, get_or-replicate, get_or_past}
+use Rattle.std.proofs.lemmas.List.{length-take, length-replicate, take-append-le, drop-append-le, take_more, drop-drop, get_or_append_left, get_or-append_right, get_or-replicate, get_or_past}
 use Rattle.ff_bits.specs.Bits.{value_of, bits_of, bits}
 use Rattle.ff_bits.specs.Reads.{IsTaken}
 use Rattle.ff_bits.proofs.BitsLemmas.{value_below, length-bits, length-bits_of, bits-append, bits-one}

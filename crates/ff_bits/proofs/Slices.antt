@@ -1,11 +1,11 @@
 -- Several bytes at once: the remainder of a sum is the sum of the remainders.
-use Rattle.std.proofs.Common.{◌≡◌, ℕ, zero, suc, ◌+◌, ◌-◌, ◌*◌, ◌/◌, ◌%◌, ◌^◌, ◌<◌, ◌≤◌, ◌==◌, ◌&&◌, Bool, true, false, cond, ltb, List, [], ◌∷◌, ◌++◌, length, take, drop, get_or, refl, sym, ap, subst, ◌∙◌, append_assoc, inl, inr, arith, bit_xor, bit_and, length-append, length-drop}
+use Rattle.std.proofs.Common.{◌≡◌, ℕ, zero, suc, ◌+◌, ◌-◌, ◌*◌, ◌/◌, ◌%◌, ◌^◌, ◌<◌, ◌≤◌, ◌==◌, ◌&&◌, Bool, true, false, cond, ltb, List, [], ◌∷◌, ◌++◌, length, take, drop, get_or, refl, sym, ap, ◌∙◌, append_assoc, inl, inr, arith, bit_xor, bit_and, length-append, length-drop}
 use Rattle.std.specs.Prelude.{replicate}
 use Rattle.std.proofs.Math.Nat.{mod-eq_of_lt}
-use Rattle.std.proofs.lemmas.Nat.{pow_pos, xor_comm, xor_lt, xor_block, mod_below, shr_split, and_mask}
+use Rattle.std.proofs.lemmas.Nat.{pow_pos, xor_comm, xor_lt, xor_block, and_mask}
 use Rattle.std.specs.Int.Bits.{xor_assoc, xor_self, xor_zero_r}
-use Rattle.std.proofs.lemmas.Bool.{ltb-true, ltb-false, lt-ltb, le-ltb, cases_lt, and_parts, eqb-true}
-use Rattle.std.proofs.lemmas.List.{length-replicate, replicate-append-replicate, get_or-take, get_or-drop, length-take, take_rest, take-append-drop, drop_more, drop_all}
+use Rattle.std.proofs.lemmas.Bool.{lt-ltb, le-ltb, cases_lt, and_parts, eqb-true}
+use Rattle.std.proofs.lemmas.List.{replicate-append-replicate, get_or-take, get_or-drop, length-take, take_rest, take-append-drop, drop_more, drop_all}
 use Rattle.ff_bits.specs.Bits.{value_of, bits_of, bits}
 use Rattle.ff_bits.specs.Crc.{reduced, remainder_from, left_of}
 use Rattle.ff_bits.proofs.BitsLemmas.{length-bits, length-bits_of, bits-append, bits-one}

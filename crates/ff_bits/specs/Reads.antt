@@ -1,5 +1,5 @@
 -- What reading at a list of bits answers: what was read, and the bits that are left.
-use Rattle.std.specs.Prelude.{◌≡◌, ℕ, ◌≤◌, ◌<◌, List, Bool, true, false, ◌∷◌, ◌++◌, length, take, drop, replicate}
+use Rattle.std.specs.Prelude.{◌≡◌, ℕ, ◌≤◌, List, Bool, true, false, ◌∷◌, ◌++◌, length, take, drop, replicate}
 use Rattle.ff_bits.specs.Bits.{value_of}
 use Rattle.ff_bits.specs.Number.{IsCode}
 

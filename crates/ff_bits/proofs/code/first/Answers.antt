@@ -1,4 +1,4 @@
-use Rattle.ff_bits.proofs.NumberLemmas.{first_alone, first_marked}
+use Rattle.ff_bits.proofs.FirstByte.{first_alone, first_marked}
 use Rattle.ff_bits.proofs.code.first.Goals as goal
 
 pub returns-then-further-eq0-clause-byte : goal.returns-then-further-eq0-clause-byte

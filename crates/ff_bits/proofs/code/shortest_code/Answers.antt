@@ -1,8 +1,7 @@
-use Rattle.std.proofs.Common.{◌≡◌, ◌+◌, ◌-◌, ◌*◌, ◌/◌, ◌%◌, ◌^◌, ◌<◌, ◌≤◌, ℕ, bit_and, ap, ◌∙◌, subst, arith}
+use Rattle.std.proofs.Common.{◌≡◌, ◌+◌, ◌-◌, ◌*◌, ◌/◌, ◌%◌, ◌^◌, ◌<◌, ℕ, bit_and, ap, ◌∙◌, subst, arith}
 use Rattle.std.proofs.lemmas.Nat.{and_mask}
-use Rattle.ff_bits.specs.Bits.{bits_of}
 use Rattle.ff_bits.specs.Number.{shortest, code_with}
-use Rattle.ff_bits.proofs.NumberLemmas.{code_goes_on, code_within, code_fits, code_is_whole}
+use Rattle.ff_bits.proofs.CodeLemmas.{code_goes_on, code_within, code_fits, code_is_whole}
 use Rattle.ff_bits.proofs.code.shortest_code.Goals as goal
 
 pub overflow_mul-bits : goal.overflow_mul-bits

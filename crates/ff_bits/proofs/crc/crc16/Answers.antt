@@ -1,4 +1,4 @@
-use Rattle.std.proofs.Common.{◌≡◌, ◌<◌, ◌∙◌, List, ℕ, get_or, refl, sym, subst, arith}
+use Rattle.std.proofs.Common.{List, ℕ, refl, sym, subst, arith}
 use Rattle.ff_bits.specs.Bits.{bits}
 use Rattle.ff_bits.specs.Crc.{IsRemainder, crc16_of}
 use Rattle.ff_bits.proofs.CrcLemmas.{IsRemainder-crc16_of}

@@ -1,4 +1,4 @@
-use Rattle.std.proofs.Common.{◌≡◌, ◌<◌, ◌*◌, ◌/◌, ◌%◌, ◌^◌, ◌∙◌, ℕ, List, [], ◌∷◌, length, take, get_or, bit_xor, bit_and, sym, ap, arith}
+use Rattle.std.proofs.Common.{◌≡◌, ◌<◌, ◌/◌, ◌%◌, ◌∙◌, ℕ, List, [], ◌∷◌, get_or, bit_xor, bit_and, sym, ap, arith}
 use Rattle.std.proofs.lemmas.Nat.{and_mask}
 use Rattle.ff_bits.specs.Bits.{bits}
 use Rattle.ff_bits.specs.Crc.{remainder_from, left_of}

@@ -1,7 +1,6 @@
-use Rattle.std.proofs.Common.{◌≡◌, ◌<◌, ◌*◌, ◌/◌, ◌%◌, ◌^◌, ◌∙◌, ℕ, List, [], ◌∷◌, length, take, get_or, bit_xor, bit_and, sym, ap, arith}
-use Rattle.std.proofs.lemmas.Nat.{and_mask}
+use Rattle.std.proofs.Common.{◌<◌, ◌∙◌, ℕ, List, [], ◌∷◌, get_or, bit_xor, sym, ap, arith}
 use Rattle.ff_bits.specs.Bits.{bits}
-use Rattle.ff_bits.specs.Crc.{remainder_from, left_of}
+use Rattle.ff_bits.specs.Crc.{remainder_from}
 use Rattle.ff_bits.proofs.Slices.{eight, eight_mixed, taken_in_8}
 use Rattle.ff_bits.proofs.crc.eight_to_8.Goals as goal
 

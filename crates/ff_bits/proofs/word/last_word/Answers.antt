@@ -1,4 +1,4 @@
-use Rattle.std.proofs.Common.{◌≡◌, ◌+◌, ◌*◌, ◌++◌, ◌<◌, ◌^◌, ◌∙◌, ℕ, List, take, get_or, ap, sym, subst, arith}
+use Rattle.std.proofs.Common.{◌+◌, ◌*◌, ◌++◌, ◌<◌, ◌^◌, ◌∙◌, ℕ, List, take, get_or, ap, sym, subst, arith}
 use Rattle.ff_bits.specs.Bits.{value_of, bits}
 use Rattle.ff_bits.proofs.BitsLemmas.{value_of-no_bytes}
 use Rattle.ff_bits.proofs.Peek.{byte_more, word_below, eight_zeros}

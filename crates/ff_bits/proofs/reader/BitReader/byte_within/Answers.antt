@@ -1,7 +1,7 @@
-use Rattle.std.proofs.Common.{◌≡◌, ◌≤◌, ◌<◌, ℕ, Bool, cond, length, ap, ◌∙◌, arith}
+use Rattle.std.proofs.Common.{◌≤◌, ◌<◌, ℕ, Bool, cond, length, ap, ◌∙◌, arith}
 use Rattle.std.proofs.lemmas.Bool.{iff_false}
 use Rattle.ff_bits.specs.Reading.{Answer, More, Bad}
-use Rattle.ff_bits.proofs.NumberLemmas.{part_read}
+use Rattle.ff_bits.proofs.OneByte.{part_read}
 use Rattle.ff_bits.proofs.reader.BitReader.byte_within.Goals as goal
 
 pub returns-then-touches-clause-reads : goal.returns-then-touches-clause-reads

@@ -1,7 +1,5 @@
 use Rattle.std.proofs.lemmas.Result.{err_from_is_err_and}
-use Rattle.std.proofs.Common.{sym, subst}
-use Rattle.ff_bits.specs.Reading.{Answer}
-use Rattle.ff_bits.proofs.NumberLemmas.{coded_goes_on, coded_fails}
+use Rattle.ff_bits.proofs.NumberReads.{coded_goes_on, coded_fails}
 use Rattle.ff_bits.proofs.reader.BitReader.coded.Goals as goal
 
 pub returns-in_err-byte : goal.returns-in_err-byte

@@ -1,6 +1,6 @@
 use Rattle.std.proofs.Common.{length, ap, arith, length-append}
 use Rattle.std.proofs.lemmas.Result.{err_from_is_err_and}
-use Rattle.ff_bits.proofs.NumberLemmas.{number_read, is_short, is_bad, code_below}
+use Rattle.ff_bits.proofs.NumberReads.{number_read, is_short, is_bad, code_below}
 use Rattle.ff_bits.proofs.reader.BitReader.number.Goals as goal
 
 pub returns-in_err-value-clause-short : goal.returns-in_err-value-clause-short

@@ -1,6 +1,7 @@
-use Rattle.std.proofs.Common.{◌<◌, ◌^◌, ◌-◌, ℕ, arith}
+use Rattle.std.proofs.Common.{◌<◌, ◌^◌, ◌-◌, arith}
 use Rattle.std.proofs.lemmas.Result.{err_from_is_err_and}
-use Rattle.ff_bits.proofs.NumberLemmas.{six_goes_on, six_fails, sixes_done, six_below, sixes_fit, further_range}
+use Rattle.ff_bits.proofs.NumberReads.{six_goes_on, six_fails, sixes_done, six_below, sixes_fit}
+use Rattle.ff_bits.proofs.OneByte.{further_range}
 use Rattle.ff_bits.proofs.reader.BitReader.sixes.Goals as goal
 
 pub returns-in_err-byte : goal.returns-in_err-byte

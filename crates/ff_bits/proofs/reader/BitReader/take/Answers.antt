@@ -1,4 +1,4 @@
-use Rattle.std.proofs.Common.{◌≡◌, ◌+◌, ◌-◌, ◌*◌, ◌<◌, ◌^◌, ◌∙◌, ℕ, sym, ap, subst, length, arith, bit_or, length-drop}
+use Rattle.std.proofs.Common.{◌≡◌, ◌+◌, ◌-◌, ◌*◌, ◌<◌, ◌^◌, ℕ, sym, ap, subst, length, arith, length-drop}
 use Rattle.ff_bits.specs.Reads.{IsTaken}
 use Rattle.ff_bits.proofs.Peek.{taken_twice, halves, halves_below}
 use Rattle.ff_bits.proofs.reader.BitReader.take.Goals as goal

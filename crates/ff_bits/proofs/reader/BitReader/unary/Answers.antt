@@ -1,4 +1,4 @@
-use Rattle.std.proofs.Common.{◌≡◌, ◌+◌, ◌∷◌, ◌++◌, true, List, Bool, false, length, drop, sym, ap, subst, ◌∙◌, arith, length-drop}
+use Rattle.std.proofs.Common.{◌∷◌, ◌++◌, true, List, Bool, false, length, sym, ap, ◌∙◌, arith, length-drop}
 use Rattle.std.specs.Prelude.{replicate}
 use Rattle.ff_bits.proofs.Zeros.{further_zeros}
 use Rattle.ff_bits.proofs.reader.BitReader.unary.Goals as goal

@@ -1,4 +1,4 @@
-use Rattle.std.proofs.Common.{[], ap, ◌∙◌, ◌++◌}
+use Rattle.std.proofs.Common.{ap, ◌∙◌, ◌++◌}
 use Rattle.ff_bits.specs.Bits.{bits_of, bits}
 use Rattle.ff_bits.proofs.BitsOf.{bits-nil}
 use Rattle.ff_bits.proofs.writer.BitWriter.new.Goals as goal

@@ -1,4 +1,4 @@
-use Rattle.std.proofs.Common.{◌++◌, ◌-◌, ◌^◌, ◌<◌, ap, ◌∙◌, arith}
+use Rattle.std.proofs.Common.{◌++◌, ◌-◌, ap, ◌∙◌}
 use Rattle.ff_bits.specs.Bits.{bits_of, bits}
 use Rattle.ff_bits.proofs.WriterLemmas.{wide}
 use Rattle.ff_bits.proofs.writer.BitWriter.put_wide.Goals as goal
