@@ -1,0 +1,104 @@
+-- When a stream is valid for the way that carries it.
+use Rattle.std.specs.Prelude.{◌≡◌, ℕ, ◌*◌, ◌^◌, ◌≤◌, pos, ◌<ℤ◌, ◌≤ℤ◌, List, [], ◌∷◌, length, All}
+use Rattle.ff_time.specs.Fraction.{Fraction}
+use Rattle.ff_frame.specs.declared.audio.AFrame.{AFrame}
+use Rattle.ff_frame.specs.declared.packet.Pkt.{Pkt}
+use Rattle.ff_frame.specs.declared.head.Codec.{Codec}
+use Rattle.ff_frame.specs.declared.head.Codec.TheVariants.{PcmU8}
+use Rattle.ff_frame.specs.declared.head.StreamHead.{StreamHead}
+use Rattle.ff_frame.specs.declared.head.StreamHead.TheVariants.{Audio as AudioHead}
+use Rattle.ff_frame.specs.declared.item.Item.{Item}
+use Rattle.ff_frame.specs.declared.item.Item.TheVariants.{Audio, Packet, End, Broken}
+use Rattle.ff_frame.specs.declared.item.Lane.{Lane}
+use Rattle.ff_frame.specs.declared.item.Lane.TheVariants.{Frames, Packets}
+use Rattle.ff_frame.specs.Audio.{IsAudio}
+use Rattle.ff_frame.specs.Stream.{Stream}
+use Rattle.ff_frame.specs.Times.{start_of, end_of, ticks, IsInTime}
+
+abbrev pub head_of : Lane → StreamHead
+head_of (Frames head) = head
+head_of (Packets head) = head
+
+abbrev pub base_of_head : StreamHead → Fraction
+base_of_head (AudioHead tb rate bits channels codec) = tb
+
+-- the time base of a way's times
+abbrev pub base_of : Lane → Fraction
+base_of lane = base_of_head (head_of lane)
+
+-- a head of sound has 1 to 8 channels and samples of 4 to 32 bits
+abbrev pub IsHead : StreamHead → Type 0
+IsHead (AudioHead tb rate bits channels codec) = (1 ≤ channels) × (channels ≤ 8) × (4 ≤ bits) × (bits ≤ 32)
+
+-- the bytes of one sample as the codec writes it
+abbrev pub sample_bytes : Codec → ℕ
+sample_bytes PcmU8 = 1
+
+-- a frame of sound with a stream's rate, bits and channels
+pub record IsFrameOf (rate bits channels : ℕ) (frame : AFrame) : Type 0 where
+  pub rate_is : frame.rate ≡ rate
+  pub bits_are : frame.bits ≡ bits
+  pub channels_are : frame.channels ≡ channels
+  pub audio : IsAudio frame.bits frame.channels frame.samples
+
+-- a packet of linear PCM: 1 to 65,535 whole blocks, each of one sample per channel, as many as its duration says
+pub record IsPcm (block : ℕ) (packet : Pkt) : Type 0 where
+  pub blocks : ℕ
+  pub some_blocks : 1 ≤ blocks
+  pub few_blocks : blocks ≤ 65535
+  pub whole_blocks : length packet.bytes ≡ blocks * block
+  pub lasts : packet.duration ≡ pos blocks
+
+abbrev pub FitsFrames : StreamHead → Item → Type 0
+FitsFrames (AudioHead tb rate bits channels codec) (Audio f) = IsFrameOf rate bits channels f
+FitsFrames (AudioHead tb rate bits channels codec) (Packet p) = ⊥
+FitsFrames (AudioHead tb rate bits channels codec) End = ⊥
+FitsFrames (AudioHead tb rate bits channels codec) Broken = ⊥
+
+abbrev pub FitsPackets : StreamHead → Item → Type 0
+FitsPackets (AudioHead tb rate bits channels codec) (Audio f) = ⊥
+FitsPackets (AudioHead tb rate bits channels codec) (Packet p) = (p.dts ≡ p.pts) × IsPcm (channels * sample_bytes codec) p
+FitsPackets (AudioHead tb rate bits channels codec) End = ⊥
+FitsPackets (AudioHead tb rate bits channels codec) Broken = ⊥
+
+-- the way carries this item; an item that closes a stream is none of its items
+abbrev pub FitsLane : Lane → Item → Type 0
+FitsLane (Frames head) x = FitsFrames head x
+FitsLane (Packets head) x = FitsPackets head x
+
+-- of sound, an item starts at or after the end of the one before
+abbrev pub StartsAfter : StreamHead → Item → Item → Type 0
+StartsAfter (AudioHead tb rate bits channels codec) before after = end_of before ≤ℤ start_of after
+
+-- one item behind another: starts rise, ends never fall
+pub record Follows (lane : Lane) (before after : Item) : Type 0 where
+  pub starts : start_of before <ℤ start_of after
+  pub ends : end_of before ≤ℤ end_of after
+  pub apart : StartsAfter (head_of lane) before after
+
+-- each item follows the one before
+abbrev pub InOrder : Lane → List Item → Type 0
+InOrder lane [] = Unit {0}
+InOrder lane (x ∷ []) = Unit {0}
+InOrder lane (x ∷ y ∷ xs) = Follows lane x y × InOrder lane (y ∷ xs)
+
+-- an item by itself: it fits the way, its time isn't negative, and it ends after its start
+pub record IsItemFor (lane : Lane) (x : Item) : Type 0 where
+  pub fits : FitsLane lane x
+  pub not_negative : pos 0 ≤ℤ start_of x
+  pub lasts : start_of x <ℤ end_of x
+
+-- items as a way carries them, however many and however long
+pub record AreInShape (lane : Lane) (xs : List Item) : Type 0 where
+  pub each : All (IsItemFor lane) xs
+  pub in_order : InOrder lane xs
+
+-- the end of this item is at most 1,000,000,000 seconds
+abbrev pub EndsInTime : Lane → Item → Type 0
+EndsInTime lane x = IsInTime (base_of lane) (ticks (end_of x))
+
+-- valid: the items are as the way carries them, at most 2^40, and all end in time
+pub record IsValid (lane : Lane) (s : Stream Item) : Type 0 where
+  pub shape : AreInShape lane s.items
+  pub few : length s.items ≤ 2 ^ 40
+  pub in_time : All (EndsInTime lane) s.items

@@ -1,0 +1,14 @@
+pub mod Audio
+pub mod BreakLaws
+pub mod Breaks
+pub mod Frame
+pub mod Items
+pub mod LaneLaws
+pub mod Lanes
+pub mod Order
+pub mod Packet
+pub mod Ports
+pub mod Stream
+pub mod Times
+pub mod Within
+pub mod WithinLaws

@@ -1,0 +1,28 @@
+-- When items start and end, in ticks of their stream's time base.
+use Rattle.std.specs.Prelude.{ℕ, ◌*◌, ◌/◌, ◌≤◌, ℤ, pos, negsuc, ◌+ℤ◌, length}
+use Rattle.ff_time.specs.Fraction.{Fraction}
+use Rattle.ff_frame.specs.declared.item.Item.{Item}
+use Rattle.ff_frame.specs.declared.item.Item.TheVariants.{Audio, Packet, End, Broken}
+
+-- a frame and a packet start where they say
+abbrev pub start_of : Item → ℤ
+start_of (Audio f) = f.pts
+start_of (Packet p) = p.pts
+start_of End = pos 0
+start_of Broken = pos 0
+
+-- a frame ends as many ticks on as it has sample frames, a packet as its duration says
+abbrev pub end_of : Item → ℤ
+end_of (Audio f) = f.pts +ℤ pos (length f.samples / f.channels)
+end_of (Packet p) = p.pts +ℤ p.duration
+end_of End = pos 0
+end_of Broken = pos 0
+
+-- a time as a number of ticks from 0; what lies before 0 counts as 0
+abbrev pub ticks : ℤ → ℕ
+ticks (pos n) = n
+ticks (negsuc n) = 0
+
+-- so many ticks of this base are at most 1,000,000,000 seconds
+abbrev pub IsInTime : Fraction → ℕ → Type 0
+IsInTime base n = n * base.num ≤ 1000000000 * base.den

@@ -1,0 +1,74 @@
+ghost use Rattle.std.specs.Prelude.{◌≡◌, ◌↔◌, IsTrue, IfOk};
+ghost use Rattle.ff_frame.specs.Items.{Closes};
+
+use crate::audio::AFrame;
+use crate::head::StreamHead;
+use crate::packet::Pkt;
+use std::alloc::{AllocError, Global};
+
+/// The leave of a source to give one packet, or its end.
+#[derive(Clone, Copy, Debug, PartialEq, Eq)]
+pub struct Ticket {
+    /// The number of the source.
+    pub source: u32,
+    /// The place of the grant, counted from 0.
+    pub place: u64,
+}
+
+/// What travels from one part of a run to the next.
+#[derive(Debug, Drop)]
+pub enum Item {
+    /// Decoded sound.
+    Audio(AFrame),
+    /// A coded packet.
+    Packet(Pkt),
+    /// Nothing more comes: all has come.
+    End,
+    /// Nothing more comes: the rest was lost to damage or a fault.
+    Broken,
+}
+
+/// An item that found no memory, given back.
+#[derive(Debug, Drop)]
+pub struct Refused {
+    pub item: Item,
+}
+
+/// Which items a way carries.
+#[derive(Debug, Drop)]
+pub enum Lane {
+    /// Decoded frames of this head.
+    Frames(StreamHead),
+    /// Packets of this head.
+    Packets(StreamHead),
+}
+
+impl Item {
+    /// Whether nothing comes after it.
+    pub fn closes(&self) -> bool
+        ensures { IsTrue result ↔ Closes self.now }
+    {
+        match self {
+            Item::Audio(_) | Item::Packet(_) => false,
+            Item::End | Item::Broken => true,
+        }
+    }
+
+    /// An equal item.
+    pub fn try_copy(&self, alloc: Global) -> Result<Item, AllocError>
+        ensures { IfOk result (λ copy. copy ≡ self.now) }
+    {
+        match self {
+            Item::Audio(frame) => {
+                let frame = frame.try_copy(alloc)?;
+                Ok(Item::Audio(frame))
+            }
+            Item::Packet(packet) => {
+                let packet = packet.try_copy(alloc)?;
+                Ok(Item::Packet(packet))
+            }
+            Item::End => Ok(Item::End),
+            Item::Broken => Ok(Item::Broken),
+        }
+    }
+}

@@ -1,0 +1,96 @@
+ghost use Rattle.std.specs.Prelude.{◌≡◌, ℕ, List, [], Some, IfOk, OnOk, OnErr, IsErrOf, IsOk, IsSome, ⊤};
+ghost use Rattle.std.specs.Option.{option_map};
+ghost use Rattle.ff_host.specs.Files.{bytes_at, KeepsFiles, PutsFile};
+ghost use Rattle.ff_host.specs.Given.{given};
+ghost use Rattle.ff_host.specs.QuietHost.{quiet_files};
+
+use crate::contents::{Contents, bytes_under, contents_of, copy_under, make_empty, put_bytes};
+use crate::host::{Host, HostError};
+use crate::quiet_sink::QuietSink;
+use crate::quiet_source::QuietSource;
+use crate::source::Failed;
+use std::alloc::{AllocError, Global};
+
+/// A host in memory that never fails: its counts are 0, and a name that is not there opens as an empty source.
+#[derive(Drop)]
+pub struct QuietHost {
+    alloc: Global,
+    files: Contents,
+}
+
+impl QuietHost {
+    /// A host of these files: of two with one name, the first.
+    pub fn new(alloc: Global, files: Vec<(String, Vec<u8>)>) -> Result<QuietHost, AllocError>
+        ensures { IfOk result (λ host. (name : List ℕ) → quiet_files host name ≡ given files.items name) }
+    {
+        Ok(QuietHost {
+            alloc,
+            files: contents_of(alloc, files)?,
+        })
+    }
+
+    /// The bytes of a file, or None exactly where the name is not there.
+    pub fn file(&self, name: &str) -> Option<&[u8]>
+        ensures { option_map (λ bytes. bytes.now) result ≡ quiet_files self.now name.now }
+    {
+        bytes_under(&self.files, name)
+    }
+
+    // Puts what a sink holds in the place of the bytes of a file that is there.
+    pub(crate) fn put(&mut self, name: &str, snk: QuietSink)
+        requires { IsSome (quiet_files self.old name.now) }
+        ensures { PutsFile (Some (quiet_files self.old)) (Some (quiet_files self.new)) name.now (Some snk.holds) }
+    {
+        put_bytes(&mut self.files, name, snk.into_bytes());
+    }
+}
+
+impl Host for QuietHost {
+    type Src = QuietSource;
+
+    type Snk = QuietSink;
+
+    ghost files = { λ h. Some (quiet_files h) };
+
+    ghost in_faults = { λ _ _. 0 };
+
+    ghost out_faults = { λ _ _. 0 };
+
+    ghost opened = { λ _ _. ⊤ };
+
+    ghost created = { λ h name. IsSome (quiet_files h name) };
+
+    fn open_source(&mut self, name: &str) -> Result<QuietSource, HostError>
+        ensures never { IsErrOf result HostError.Failed → ⊥ }
+        ensures source { IfOk result (λ src. src ≡ record { name = name.now; left = bytes_at (quiet_files self.old) name.now }) }
+        ensures after { self.new ≡ self.old }
+    {
+        let bytes = copy_under(self.alloc, &self.files, name)?;
+        let name = String::from_str(self.alloc, name)?;
+        Ok(QuietSource::new(name, bytes))
+    }
+
+    fn create_sink(&mut self, name: &str) -> Result<QuietSink, HostError>
+        ensures never { IsErrOf result HostError.Failed → ⊥ }
+        ensures sink { IfOk result (λ snk. snk ≡ record { name = name.now; holds = [] }) }
+        ensures ok { OnOk result (PutsFile (Some (quiet_files self.old)) (Some (quiet_files self.new)) name.now (Some [])) }
+        ensures err { OnErr result (KeepsFiles (Some (quiet_files self.old)) (Some (quiet_files self.new))) }
+    {
+        let own_name = String::from_str(self.alloc, name)?;
+        make_empty(&mut self.files, self.alloc, name)?;
+        Ok(QuietSink::new(self.alloc, own_name))
+    }
+
+    fn close_source(&mut self, _: &str, _: QuietSource)
+        ensures after { self.new ≡ self.old }
+    {}
+
+    fn close_sink(&mut self, name: &str, snk: QuietSink) -> Result<(), Failed>
+        requires { IsSome (quiet_files self.old name.now) }
+        ensures never { IsOk result }
+        ensures files { PutsFile (Some (quiet_files self.old)) (Some (quiet_files self.new)) name.now (Some snk.holds) }
+    {
+        self.put(name, snk);
+        Ok(())
+    }
+}

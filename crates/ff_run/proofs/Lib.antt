@@ -1,0 +1,10 @@
+pub mod Coding
+pub mod Ends
+pub mod Heads
+pub mod Limit
+pub mod Lines
+pub mod Names
+pub mod Reading
+pub mod Ticks
+pub mod Worked
+pub mod Written

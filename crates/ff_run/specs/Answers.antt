@@ -1,0 +1,82 @@
+-- When each answer of the command comes. `command` is what its words are read as, `before` and `after` are the files
+-- that the host tells, before and after the call. Where they aren't told, a conclusion on them claims nothing, and a
+-- premise on them isn't met.
+use Rattle.std.specs.Prelude.{◌≡◌, ◌⊎◌, ⊤, ℕ, List, ◌++◌, ◌==◌, if◌then◌else◌, Option, Some, None, IsSome, Result, Ok, Err}
+use Rattle.ff_host.specs.Causes.{Rose}
+use Rattle.ff_host.specs.Files.{Files, KeepsFiles, KeepsOthers}
+use Rattle.ff_run.specs.Words.{Job, Fault}
+use Rattle.ff_run.specs.Meaning.{meaning}
+use Rattle.ff_run.specs.declared.report.FileRef.{FileRef}
+use Rattle.ff_run.specs.declared.report.FileRef.TheVariants.{Input, Output}
+use Rattle.ff_run.specs.declared.report.Status.{Status}
+use Rattle.ff_run.specs.declared.report.Status.TheVariants as status
+
+-- what the words of a run are read as
+abbrev pub Command : Type 0
+Command = Result Job Fault
+
+-- the output holds the bytes that the command means, and it means some
+abbrev pub HoldsMeaning : Command → Option Files → Option Files → Type 0
+HoldsMeaning (Ok job) (Some before) (Some after) = IsSome (meaning job before) × (after job.output ≡ meaning job before)
+HoldsMeaning (Ok job) before after = ⊤
+HoldsMeaning (Err fault) before after = ⊥
+
+-- the output is as it was, or holds a front of the bytes that the command means
+abbrev pub HoldsFront : Command → Option Files → Option Files → Type 0
+HoldsFront (Ok job) (Some before) (Some after) = (after job.output ≡ before job.output)
+    ⊎ ((front rest : List ℕ) × (after job.output ≡ Some front) × (meaning job before ≡ Some (front ++ rest)))
+HoldsFront command before after = ⊤
+
+-- every file that isn't an output of the command is as it was, or still isn't there
+abbrev pub KeepsOtherFiles : Command → Option Files → Option Files → Type 0
+KeepsOtherFiles (Ok job) before after = KeepsOthers before after job.output
+KeepsOtherFiles (Err fault) before after = KeepsFiles before after
+
+-- the status comes before any file is created
+abbrev pub ComesBeforeOutputs : Status → Type 0
+ComesBeforeOutputs (status.Words word kind) = Unit {0}
+ComesBeforeOutputs (status.Unsupported input offset) = Unit {0}
+ComesBeforeOutputs (status.Device (Input i)) = Unit {0}
+ComesBeforeOutputs _ = ⊥
+
+-- the command means something, with files that are told
+abbrev pub IsMeaningful : Command → Option Files → Type 0
+IsMeaningful (Ok job) (Some before) = IsSome (meaning job before)
+IsMeaningful command before = ⊥
+
+-- the words are a command, and the head of its input is refused, with files that are told
+abbrev pub IsHeadRefused : Command → Option Files → Type 0
+IsHeadRefused (Ok job) (Some before) = meaning job before ≡ None
+IsHeadRefused command before = ⊥
+
+-- the words are a command whose input is refused at this offset, as far as the files are told
+abbrev pub IsRefusedAt : Command → Option Files → ℕ → ℕ → Type 0
+IsRefusedAt (Ok job) (Some before) input offset = (input ≡ 0) × (offset ≡ 0) × (meaning job before ≡ None)
+IsRefusedAt (Ok job) None input offset = (input ≡ 0) × (offset ≡ 0)
+IsRefusedAt (Err fault) before input offset = ⊥
+
+-- the name of a file of the command
+abbrev pub file_name : Command → FileRef → Option (List ℕ)
+file_name (Ok job) (Input i) = if i == 0 then Some job.input else None
+file_name (Ok job) (Output o) = if o == 0 then Some job.output else None
+file_name (Err fault) file = None
+
+-- counts of faults by name, before and after the call
+pub record Counts : Type 0 where
+  pub before : List ℕ → ℕ
+  pub after : List ℕ → ℕ
+
+-- the count of reading under an input's name has risen
+abbrev pub InputFaulted : Command → Counts → Type 0
+InputFaulted (Ok job) ins = Rose (ins.before job.input) (ins.after job.input)
+InputFaulted (Err fault) ins = ⊥
+
+-- the count of writing under an output's name has risen
+abbrev pub OutputFaulted : Command → Counts → Type 0
+OutputFaulted (Ok job) outs = Rose (outs.before job.output) (outs.after job.output)
+OutputFaulted (Err fault) outs = ⊥
+
+-- it is the only input, or the only output, of the command, and the count under its name has risen
+abbrev pub FileFaulted : Command → Counts → Counts → FileRef → Type 0
+FileFaulted command ins outs (Input i) = (i ≡ 0) × InputFaulted command ins
+FileFaulted command ins outs (Output o) = (o ≡ 0) × OutputFaulted command outs

@@ -1,0 +1,10 @@
+pub mod Head
+pub mod Wav
+pub mod Samples
+pub mod FrameHash
+pub mod Words
+pub mod Meaning
+pub mod Answers
+pub mod Texts
+pub mod Coded
+pub mod Steps

@@ -1,0 +1,22 @@
+//! The command: its words, its meaning, and the call that does all that the program does.
+//!
+//! `specs/Meaning.antt` says which bytes a command's output holds, as a function of the files before the run: the
+//! input's head and packets (`Wav`), their samples and back (`Samples`), and the text of the output (`FrameHash`).
+//! `specs/Words.antt` says what a command is, and `specs/Answers.antt` when each status comes. [`ffmpeg`] is proved to
+//! keep to them over any host and any log.
+#![tactic(auto)]
+
+mod frame_hash;
+mod history;
+mod input;
+mod log;
+mod output;
+mod report;
+mod run;
+mod wav;
+mod words;
+
+pub use history::{Event, History};
+pub use log::fault_line;
+pub use report::{FileRef, Line, Report, Status, WordKind, status_number};
+pub use run::ffmpeg;

@@ -1,0 +1,76 @@
+// What a run answers.
+ghost use Rattle.std.specs.Prelude.{◌≡◌};
+ghost use Rattle.ff_run.specs.Texts.{number_of};
+
+use crate::history::History;
+
+/// What is wrong with a word of the command line.
+#[derive(Clone, Copy, Debug, PartialEq, Eq)]
+pub enum WordKind {
+    /// The word isn't one that may stand at its place.
+    UnknownOption,
+}
+
+/// A file that a command names.
+#[derive(Clone, Copy, Debug, PartialEq, Eq)]
+pub enum FileRef {
+    /// An input, by its number from 0.
+    Input(u32),
+    /// An output, by its number from 0.
+    Output(u32),
+}
+
+/// How a run ended.
+#[derive(Clone, Copy, Debug, PartialEq, Eq)]
+pub enum Status {
+    /// All was done.
+    Fine,
+    /// The words are no command. `word` is the place of the first fault, from 0; it is the number of words where
+    /// they end too early.
+    Words { word: u32, kind: WordKind },
+    /// Reading an input or writing an output failed.
+    Device { file: FileRef },
+    /// The head of an input is of a kind that isn't read, found at this offset in bytes.
+    Unsupported { input: u32, offset: u64 },
+    /// There was no memory to go on.
+    NoMemory,
+}
+
+/// What became of the line of a fault.
+#[derive(Clone, Copy, Debug, PartialEq, Eq)]
+pub enum Line {
+    /// All was done, and there is no line.
+    NotDue,
+    /// The log gained the line.
+    Whole,
+    /// The log failed, and gained a front of the line.
+    Failed,
+    /// There was no memory for the line, and the log is as it was.
+    NoMemory,
+}
+
+/// What a run answers.
+#[derive(Drop)]
+pub struct Report {
+    /// How the run ended.
+    pub status: Status,
+    /// The events of the scheduler; none, since nothing is scheduled.
+    pub history: History,
+    /// For each input the places in `history` of the grants under which its packets were read; none likewise.
+    pub reads: Vec<Vec<u64>>,
+    /// What became of the line of the fault.
+    pub line: Line,
+}
+
+/// The number that the program ends with.
+pub fn status_number(status: &Status) -> u8
+    ensures { result ≡ number_of status.now }
+{
+    match status {
+        Status::Fine => 0,
+        Status::Words { .. } => 1,
+        Status::Device { .. } => 3,
+        Status::Unsupported { .. } => 6,
+        Status::NoMemory => 9,
+    }
+}

@@ -1,0 +1,89 @@
+ghost use Rattle.std.specs.Prelude.{◌≡◌, ◌<◌, ◌⊎◌, ◌↔◌, IfOk, IfErr, IsErrOf, pos};
+ghost use Rattle.std.specs.Int.{IsGcd};
+ghost use Rattle.ff_time.specs.Fraction.{Fraction, IsBase, IsReduced, IsLowestOf, IsBelowOne, IsTooBig};
+
+use super::TimeError;
+use std::marker::Model;
+
+/// A positive fraction in lowest terms, each number at most 2^31 - 1.
+#[derive(Clone, Copy, Debug, PartialEq, Eq)]
+pub struct Rational {
+    num: u32,
+    den: u32,
+}
+
+impl Model for Rational {
+    ghost use Rattle.ff_time.specs.Fraction.{Fraction, IsBase};
+
+    ghost Value = { Fraction };
+
+    ghost view = { λ r. record { num = r.num; den = r.den } };
+
+    ghost invariant = { λ r. IsBase (record { num = r.num; den = r.den }) };
+
+    ghost inverse = { λ f. record { num = f.num; den = f.den } };
+}
+
+// The greatest common divisor.
+fn common(n: u64, d: u64) -> u64
+    ensures { IsGcd n d result }
+{
+    let mut x = n;
+    let mut y = d;
+    'euclid: while y != 0 {
+        let rest = x % y;
+        x = y;
+        y = rest;
+    }
+    x
+}
+
+// The fraction n / d in lowest terms.
+fn reduced(n: u64, d: u64) -> (u64, u64)
+    requires num { 0 < n }
+    requires den { 0 < d }
+    ensures { IsReduced n d (record { num = result.0; den = result.1 }) }
+{
+    let greatest = common(n, d);
+    (n / greatest, d / greatest)
+}
+
+impl Rational {
+    /// The fraction `num / den` in lowest terms. `NotPositive` where a number is below 1;
+    /// otherwise `TooBig` where a reduced number exceeds 2^31 - 1.
+    pub fn new(num: i64, den: i64) -> Result<Rational, TimeError>
+        ensures ok { IfOk result (IsLowestOf num den) }
+        ensures base { IfOk result IsBase }
+        ensures not_positive { IsErrOf result TimeError.NotPositive ↔ IsBelowOne num den }
+        ensures too_big { IsErrOf result TimeError.TooBig ↔ ((f : Fraction) × IsLowestOf num den f × IsTooBig f) }
+        ensures err { IfErr result (λ e. (e ≡ TimeError.NotPositive) ⊎ (e ≡ TimeError.TooBig)) }
+    {
+        if num < 1 || den < 1 {
+            return Err(TimeError::NotPositive);
+        }
+        let lowest = reduced(num as u64, den as u64);
+        if lowest.0 >= 1 << 31 || lowest.1 >= 1 << 31 {
+            return Err(TimeError::TooBig);
+        }
+        Ok(Rational {
+            num: lowest.0 as u32,
+            den: lowest.1 as u32,
+        })
+    }
+
+    /// The numerator.
+    pub fn num(&self) -> i64
+        ensures value { result ≡ pos self.now.num }
+        ensures base { IsBase self.now }
+    {
+        i64::from(self.num)
+    }
+
+    /// The denominator.
+    pub fn den(&self) -> i64
+        ensures value { result ≡ pos self.now.den }
+        ensures base { IsBase self.now }
+    {
+        i64::from(self.den)
+    }
+}

@@ -1,0 +1,112 @@
+// The machine's files as a host.
+ghost use Rattle.std.specs.Prelude.{◌≡◌, ◌+◌, ◌<◌, ◌≤◌, ℕ, List, Some, None, IsTrue, string_bytes};
+ghost use Rattle.ff_host.specs.Tally.{marks_at};
+
+use crate::file_sink::FileSink;
+use crate::file_source::FileSource;
+use ff_host::{Failed, Host, HostError, Marks, Table, make_room, marks_of, set_marks};
+use std::alloc::{AllocError, Global};
+use std::collections::BTreeMap;
+use std::fs;
+use std::io::{BufReader, BufWriter};
+use std::rt::Files;
+
+/// How many bytes are read or written at a time.
+const BUFFER: usize = 65_536;
+
+/// The machine's files. It tells no content, and counts each failure under the file's name.
+#[derive(Drop)]
+pub struct FileHost<R> {
+    files: R,
+    alloc: Global,
+    table: Table,
+}
+
+impl<R: Files + Drop> FileHost<R> {
+    pub fn new(alloc: Global, files: R) -> Self {
+        FileHost {
+            files,
+            alloc,
+            table: BTreeMap::new(alloc),
+        }
+    }
+}
+
+// Finds out whether there is memory for a buffer, so that no file is made empty where there is none.
+fn look_for_room(alloc: Global) -> Result<(), AllocError> {
+    let _room: Vec<u8> = Vec::with_capacity(alloc, BUFFER)?;
+    Ok(())
+}
+
+impl<R: Files + Drop> Host for FileHost<R>
+where
+    R::File: Send,
+{
+    type Src = FileSource<R::File>;
+
+    type Snk = FileSink<R::File>;
+
+    ghost files = { λ h. None };
+
+    ghost in_faults = { λ h name. (marks_at h.table name).in_faults };
+
+    ghost out_faults = { λ h name. (marks_at h.table name).out_faults };
+
+    ghost opened = { λ h name. IsTrue (marks_at h.table name).opened };
+
+    ghost created = { λ h name. IsTrue (marks_at h.table name).created };
+
+    fn open_source(&mut self, name: &str) -> Result<FileSource<R::File>, HostError> {
+        make_room(&mut self.table, self.alloc, name)?;
+        let own_name = String::from_str(self.alloc, name)?;
+        let was = marks_of(&self.table, name);
+        let Ok(file) = fs::open(&self.files, name) else {
+            let in_faults = was.in_faults.saturating_add(1);
+            set_marks(&mut self.table, name, Marks { in_faults, ..was });
+            return Err(HostError::Failed);
+        };
+        let Ok(file) = BufReader::with_capacity(self.alloc, BUFFER, file) else {
+            return Err(HostError::NoMemory);
+        };
+        let opened = true;
+        set_marks(&mut self.table, name, Marks { opened, ..was });
+        Ok(FileSource::new(file, own_name))
+    }
+
+    fn create_sink(&mut self, name: &str) -> Result<FileSink<R::File>, HostError> {
+        make_room(&mut self.table, self.alloc, name)?;
+        let own_name = String::from_str(self.alloc, name)?;
+        look_for_room(self.alloc)?;
+        let was = marks_of(&self.table, name);
+        let Ok(file) = fs::create(&self.files, name) else {
+            let out_faults = was.out_faults.saturating_add(1);
+            set_marks(&mut self.table, name, Marks { out_faults, ..was });
+            return Err(HostError::Failed);
+        };
+        let Ok(file) = BufWriter::with_capacity(self.alloc, BUFFER, file) else {
+            return Err(HostError::NoMemory);
+        };
+        let created = true;
+        set_marks(&mut self.table, name, Marks { created, ..was });
+        Ok(FileSink::new(file, own_name))
+    }
+
+    fn close_source(&mut self, name: &str, src: FileSource<R::File>) {
+        let was = marks_of(&self.table, name);
+        let in_faults = was.in_faults.saturating_add(src.faults());
+        set_marks(&mut self.table, name, Marks { in_faults, ..was });
+    }
+
+    fn close_sink(&mut self, name: &str, snk: FileSink<R::File>) -> Result<(), Failed> {
+        let mut snk = snk;
+        let was = marks_of(&self.table, name);
+        let out_faults = was.out_faults.saturating_add(snk.faults());
+        if snk.finish() {
+            set_marks(&mut self.table, name, Marks { out_faults, ..was });
+            return Ok(());
+        }
+        let out_faults = out_faults.saturating_add(1);
+        set_marks(&mut self.table, name, Marks { out_faults, ..was });
+        Err(Failed)
+    }
+}
