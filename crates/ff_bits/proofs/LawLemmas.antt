@@ -5,51 +5,19 @@ use Rattle.std.specs.Int.Bits.{xor_self}
 use Rattle.std.proofs.Math.Nat.{mod-eq_of_lt, pow-le-pow_right}
 use Rattle.std.proofs.lemmas.Nat.{pow_pos}
 use Rattle.std.proofs.lemmas.Bool.{lt-ltb, le-ltb, cases_lt}
-use Rattle.std.proofs.lemmas.List.{append-nil, take_at, drop_at}
+use Rattle.std.proofs.lemmas.List.{take_at, drop_at}
 use Rattle.ff_bits.specs.Bits.{value_of, bits_of, bits}
-use Rattle.ff_bits.specs.Number.{IsCode, IsPartOfCode, BeginsNoCode, code_with, capacity, fewest, shortest, first_byte, further_bytes}
-use Rattle.ff_bits.specs.Reads.{IsNumber}
-use Rattle.ff_bits.specs.Reading.{Done}
-use Rattle.ff_bits.specs.NumberGrammar.{coded}
+use Rattle.ff_bits.specs.Number.{IsCode, code_with, capacity, fewest, shortest, first_byte, further_bytes}
 use Rattle.ff_bits.specs.Crc.{remainder_from, crc8_of, crc16_of}
 use Rattle.ff_bits.specs.Pieces.{Piece, Field, Coded, value_in, values_in, IsWritable, AreWritable, written_piece, written_pieces, IsRead, AreRead}
 use Rattle.ff_bits.proofs.BitsLemmas.{length-bits_of, bits-append, bits-one}
 use Rattle.ff_bits.proofs.Words.{value_of-bits_of}
 use Rattle.ff_bits.proofs.BitsOf.{bits_of-zeros, bits_of-parts}
-use Rattle.ff_bits.proofs.NumberLemmas.{coded-forward}
+use Rattle.ff_bits.proofs.NumberApart.{one_number}
 use Rattle.ff_bits.proofs.NumberReads.{code_below}
 use Rattle.ff_bits.proofs.FirstByte.{length-first_byte}
 use Rattle.ff_bits.proofs.CrcLemmas.{remainder_from-append}
 use Rattle.ff_bits.proofs.Slices.{absorbed, remainder_below}
-
--- ---- coded numbers
-
-code_done : (bits rest : List Bool) (v : ℕ) → IsNumber bits v rest → coded bits ≡ Done v rest
-code_done bits rest v h =
-    let c = h.1 in
-    ap coded (h.2 ∙ ap (λ (xs : List Bool). xs ++ rest) c.3) ∙ coded-forward c.0 v rest c.1 c.2
-
-pub one_number : (bits rest other : List Bool) (v w : ℕ) → IsNumber bits v rest → IsNumber bits w other → (v ≡ w) × (rest ≡ other)
-one_number bits rest other v w h k =
-    let e : Done v rest ≡ Done w other = sym (code_done bits rest v h) ∙ code_done bits other w k in
-    (cc, cc)
-
-nothing_behind : (xs more : List Bool) → xs ++ more ≡ [] → length more ≡ 0
-nothing_behind xs more e = omega (arith, ap length e, length-append xs more)
-
-pub whole_number : (bits rest : List Bool) (v : ℕ) → IsNumber bits v rest → IsPartOfCode bits → ⊥
-whole_number bits rest v h k =
-    let more : List Bool = k.0 in
-    let w : ℕ = k.1 in
-    let longer : IsNumber (bits ++ more) v (rest ++ more) = (h.0, h.1, ap (λ (xs : List Bool). xs ++ more) h.2 ∙ append_assoc h.0 rest more) in
-    let itself : IsNumber (bits ++ more) w [] = (bits ++ more, k.3, sym (append-nil (bits ++ more))) in
-    let same = one_number (bits ++ more) (rest ++ more) [] v w longer itself in
-    let none = nothing_behind rest more same.1 in
-    let some = k.2 in
-    omega arith
-
-pub part_begins : (bits : List Bool) → IsPartOfCode bits → BeginsNoCode bits → ⊥
-part_begins bits k h = h k.0 (bits ++ k.0) [] k.1 k.3 (sym (append-nil (bits ++ k.0)))
 
 -- ---- the shortest
 

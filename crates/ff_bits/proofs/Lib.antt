@@ -11,6 +11,7 @@ pub mod OneByte
 pub mod FirstByte
 pub mod NumberLemmas
 pub mod NumberReads
+pub mod NumberApart
 pub mod CodeLemmas
 pub mod CrcLemmas
 pub mod Tables

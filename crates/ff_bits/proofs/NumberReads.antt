@@ -1,10 +1,10 @@
 -- A coded number as the code reads it, and what its answers mean.
-use Rattle.std.proofs.Common.{◌≡◌, ℕ, zero, suc, ◌+◌, ◌-◌, ◌*◌, ◌^◌, ◌<◌, ◌≤◌, Bool, List, [], ◌∷◌, ◌++◌, length, refl, sym, ap, subst, ◌∙◌, arith}
+use Rattle.std.proofs.Common.{◌≡◌, ℕ, zero, suc, ◌+◌, ◌-◌, ◌*◌, ◌^◌, ◌<◌, ◌≤◌, Bool, List, [], ◌∷◌, ◌++◌, length, refl, sym, ap, ◌∙◌, arith}
 use Rattle.std.proofs.Math.Nat.{pow-le-pow_right}
 use Rattle.std.proofs.lemmas.Nat.{pow-add}
 use Rattle.std.proofs.lemmas.List.{append-nil}
 use Rattle.ff_bits.specs.Number.{capacity, code_with, IsCode, IsPartOfCode, BeginsNoCode}
-use Rattle.std.specs.Prelude.{Err, IsErrOf}
+use Rattle.std.specs.Prelude.{Err}
 use Rattle.ff_bits.specs.Reads.{IsNumber}
 use Rattle.ff_bits.specs.declared.reader.BitEnd.{BitEnd}
 use Rattle.ff_bits.specs.declared.reader.BitEnd.TheVariants.{Short, BadNumber}
@@ -95,11 +95,3 @@ code_below code v h =
 
 pub number_read : (now ahead rest : List Bool) (v : ℕ) → ahead ≡ now → coded ahead ≡ Done v rest → IsNumber now v rest
 number_read now ahead rest v e h = let b = coded-backward v ahead rest h in (code_with b.0 v, (b.0, b.1, b.2, refl), sym e ∙ b.3)
-
-pub is_short : (e : BitEnd) (now ahead rest : List Bool) → ahead ≡ now → Answers (Err e) (coded ahead) rest → IsErrOf {T = ℕ} (Err e) Short → IsPartOfCode now
-is_short Short now ahead rest e h k = subst IsPartOfCode e (code_is_part ahead h)
-is_short BadNumber now ahead rest e h k = absurd cc
-
-pub is_bad : (e : BitEnd) (now ahead rest : List Bool) → ahead ≡ now → Answers (Err e) (coded ahead) rest → IsErrOf {T = ℕ} (Err e) BadNumber → BeginsNoCode now
-is_bad Short now ahead rest e h k = absurd cc
-is_bad BadNumber now ahead rest e h k = subst BeginsNoCode e (begins_no_code ahead h)

@@ -14,8 +14,8 @@ impl<'a> BitReader<'a> {
     pub fn number(&mut self) -> Result<u64, BitEnd>
         ensures number { IfOk result (λ v. IsNumber self.old v self.new) }
         ensures below { IfOk result (λ v. v < 2 ^ 36) }
-        ensures short { IsErrOf result BitEnd.Short → IsPartOfCode self.old }
-        ensures bad { IsErrOf result BitEnd.BadNumber → BeginsNoCode self.old }
+        ensures short { IsErrOf result BitEnd.Short ↔ IsPartOfCode self.old }
+        ensures bad { IsErrOf result BitEnd.BadNumber ↔ BeginsNoCode self.old }
         ensures unchanged { OnErr result (self.new ≡ self.old) }
         ensures shorter { length self.new ≤ length self.old }
     {

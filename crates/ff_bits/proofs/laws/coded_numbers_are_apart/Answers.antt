@@ -1,4 +1,4 @@
-use Rattle.ff_bits.proofs.LawLemmas.{one_number, whole_number, part_begins}
+use Rattle.ff_bits.proofs.NumberApart.{one_number, whole_number, part_begins}
 use Rattle.ff_bits.proofs.laws.coded_numbers_are_apart.Goals as goal
 
 pub returns : goal.returns
