@@ -1,3 +1,4 @@
+-- Bits that wait in a word, and those of the bytes before them.
 use Rattle.std.proofs.Common.{◌≡◌, ℕ, suc, ◌+◌, ◌-◌, ◌*◌, ◌/◌, ◌%◌, ◌^◌, ◌<◌, ◌≤◌, ◌++◌, List, [], ◌∷◌, Bool, false, length, replicate, sym, ap, ◌∙◌, append_assoc, arith}
 use Rattle.std.proofs.lemmas.Nat.{pow_pos, mul-le, pow-add, shr_split, shr_below, mul-add-lt}
 use Rattle.std.proofs.Math.Nat.{mod-eq_of_lt}

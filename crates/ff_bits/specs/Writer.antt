@@ -1,3 +1,4 @@
+-- What a writer of bits holds.
 use Rattle.std.specs.Prelude.{◌+◌, ◌^◌, ◌<◌, ◌≤◌, Bool, List, ◌++◌, vec_len, vec_capacity}
 use Rattle.ff_bits.specs.Bits.{bits_of, bits}
 use Rattle.ff_bits.specs.declared.writer.BitWriter.TheInside.{Inside}
