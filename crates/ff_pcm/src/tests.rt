@@ -1,5 +1,5 @@
 // The expected values are two's complement and the middle 128, written out by hand.
-ghost use Rattle.std.specs.Prelude.{◌≡◌, ◌≤◌, IfOk};
+ghost use Rattle.std.specs.Prelude.{◌≡◌, ◌≤◌, IfOk, length};
 ghost use Rattle.ff_frame.specs.Lanes.{IsFrameOf};
 ghost use Rattle.ff_pcm.specs.Samples.{depth};
 
@@ -10,8 +10,9 @@ use std::alloc::Global;
 use std::test::Fail;
 
 // One channel of samples in twelve bytes, decoded.
-fn decoded(alloc: Global, codec: Codec, bits: u8, bytes: &[u8; 12]) -> Result<AFrame, Fail>
-    requires { bits ≡ depth codec }
+fn decoded(alloc: Global, codec: Codec, bits: u8, bytes: &[u8]) -> Result<AFrame, Fail>
+    requires own { bits ≡ depth codec }
+    requires twelve { length bytes.now ≡ 12 }
     ensures { IfOk result (λ frame. IsFrameOf 8000 bits 1 frame) }
 {
     let head = StreamHead::Audio {
@@ -37,9 +38,10 @@ fn there_and_back(
     alloc: Global,
     codec: Codec,
     bits: u8,
-    bytes: &[u8; 12],
+    bytes: &[u8],
 ) -> Result<(AFrame, Vec<u8>), Fail>
-    requires { bits ≡ depth codec }
+    requires own { bits ≡ depth codec }
+    requires twelve { length bytes.now ≡ 12 }
 {
     let frame = decoded(alloc, codec, bits, bytes)?;
     let again = pcm_encode(alloc, codec, &frame)?;
@@ -51,10 +53,11 @@ fn at_bits(
     alloc: Global,
     codec: Codec,
     bits: u8,
-    bytes: &[u8; 12],
+    bytes: &[u8],
     to: u8,
 ) -> Result<Vec<i32>, Fail>
     requires own { bits ≡ depth codec }
+    requires twelve { length bytes.now ≡ 12 }
     requires some { 4 ≤ to }
     requires few { to ≤ 32 }
 {
