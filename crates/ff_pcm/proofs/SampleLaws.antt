@@ -1,5 +1,5 @@
 -- Samples of bytes: how many, that they fit, and that they tell the bytes.
-use Rattle.std.proofs.Common.{◌≡◌, ℕ, zero, suc, ◌+◌, ◌-◌, ◌*◌, ◌/◌, ◌%◌, ◌^◌, ◌<◌, ◌≤◌, ℤ, pos, negsuc, ◌-ℤ◌, List, [], ◌∷◌, length, get_or, map, refl, sym, ap, ◌∙◌, subst, arith}
+use Rattle.std.proofs.Common.{◌≡◌, ℕ, zero, suc, ◌+◌, ◌*◌, ◌/◌, ◌%◌, ◌^◌, ◌<◌, ◌≤◌, ℤ, pos, negsuc, ◌-ℤ◌, List, [], ◌∷◌, length, get_or, refl, sym, ap, ◌∙◌, subst, arith}
 use Rattle.std.specs.List.{range_with_len, All}
 use Rattle.std.proofs.lemmas.Int.{ints}
 use Rattle.std.proofs.lemmas.List.{ext_get_or}
@@ -183,7 +183,7 @@ are_bytes (x ∷ xs) h (suc i) = are_bytes xs (λ k d lt. h (suc k) d (omega (ar
 pub told : (codec : Codec) (a b : List ℕ) (xs : List ℤ) → All (λ x. x < 256) a → All (λ x. x < 256) b → StandFor codec a xs → StandFor codec b xs → a ≡ b
 told codec a b xs sa sb s t =
     ext_get_or 0 a b (s.size ∙ sym t.size) (λ i lt. let le : i < sample_bytes codec * length xs = omega (arith, lt, s.size) in
-      byte_same codec a b i (length xs) (are_bytes a sa) (are_bytes b sb) le (λ k few. sym (s.each k few) ∙ t.each k few))
+    byte_same codec a b i (length xs) (are_bytes a sa) (are_bytes b sb) le (λ k few. sym (s.each k few) ∙ t.each k few))
 
 -- whole samples stand for what they are
 samples_stand : (codec : Codec) (bytes : List ℕ) (count : ℕ) → length bytes ≡ sample_bytes codec * count → StandFor codec bytes (samples_of codec bytes)

@@ -49,13 +49,7 @@ fn there_and_back(
 }
 
 // The same at another depth.
-fn at_bits(
-    alloc: Global,
-    codec: Codec,
-    bits: u8,
-    bytes: &[u8],
-    to: u8,
-) -> Result<Vec<i32>, Fail>
+fn at_bits(alloc: Global, codec: Codec, bits: u8, bytes: &[u8], to: u8) -> Result<Vec<i32>, Fail>
     requires own { bits ≡ depth codec }
     requires twelve { length bytes.now ≡ 12 }
     requires some { 4 ≤ to }
@@ -67,12 +61,13 @@ fn at_bits(
 }
 
 const BYTES_8: [u8; 12] = [0, 1, 127, 128, 129, 254, 255, 128, 128, 128, 128, 0];
-const BYTES_16: [u8; 12] = [
-    0, 0x80, 0xff, 0x7f, 0x34, 0x12, 0xff, 0xff, 0, 0xff, 0, 1,
-];
+
+const BYTES_16: [u8; 12] = [0, 0x80, 0xff, 0x7f, 0x34, 0x12, 0xff, 0xff, 0, 0xff, 0, 1];
+
 const BYTES_24: [u8; 12] = [
     0, 0, 0x80, 0xff, 0xff, 0x7f, 0x56, 0x34, 0x12, 0xff, 0xff, 0xff,
 ];
+
 const BYTES_32: [u8; 12] = [
     0, 0, 0, 0x80, 0xff, 0xff, 0xff, 0x7f, 0x78, 0x56, 0x34, 0x12,
 ];
@@ -119,7 +114,15 @@ fn depths(rt: HostRuntime) -> Result<(), Fail> {
     );
     assert_eq!(rt;
         at_bits(rt.alloc(), Codec::PcmS16le, 16, &BYTES_16, 32)?.as_slice(),
-        [-2147483648, 2147418112, 0x12340000, -65536, -16777216, 16777216].as_slice()
+        [
+            -2147483648,
+            2147418112,
+            0x12340000,
+            -65536,
+            -16777216,
+            16777216
+        ]
+        .as_slice()
     );
     assert_eq!(rt;
         at_bits(rt.alloc(), Codec::PcmS32le, 32, &BYTES_32, 32)?.as_slice(),
