@@ -112,15 +112,16 @@ fn packet(
 }
 
 impl WavCut {
-    ghost use Rattle.ff_wav.specs.Cuts.{ReachesLen, IsBodyEnded, IsRest, Cuts};
+    ghost use Rattle.ff_wav.specs.Cuts.{ReachesLen, IsBodyEnded, IsRest, Cuts, SameElsewhere, head_of, place_of, has_ended, is_done, waiting_in, room_in, full_packet};
 
+    /// A cut of an input with this head, which `read_head` gave: fed nothing, it has given no packet.
     pub fn new(alloc: Global, head: &WavHead) -> WavCut
         requires { IsHead head.now }
         ensures cuts { Cuts result head.now [] 0 }
-        ensures goes_on { result.ended ≡ false }
-        ensures none { result.held.bytes ≡ [] }
-        ensures head { result.head ≡ head.now }
-        ensures first { result.first ≡ 0 }
+        ensures goes_on { has_ended result ≡ false }
+        ensures none { waiting_in result ≡ [] }
+        ensures head { head_of result ≡ head.now }
+        ensures place { place_of result ≡ head.now.start }
     {
         let block = block_of_head(&head.head);
         WavCut {
@@ -135,14 +136,14 @@ impl WavCut {
         }
     }
 
-    /// Takes further bytes of the input, those after the head.
+    /// Takes further bytes of the input, those after the head. The input must not have ended.
     pub fn feed(&mut self, bytes: &[u8]) -> Result<(), AllocError>
-        requires { self.old.ended ≡ false }
+        requires { has_ended self.old ≡ false }
         ensures ok { OnOk result ((head : WavHead) (fed : List ℕ) (n : ℕ) → Cuts self.old head fed n → Cuts self.new head (fed ++ bytes.now) n) }
         ensures err { OnErr result (self.new ≡ self.old) }
-        ensures succeeds { length bytes.now ≤ self.old.held.room → IsOk result }
-        ensures kept { OnOk result (self.new ≡ record self.old { held = self.new.held }) }
-        ensures held { OnOk result (self.new.held.bytes ≡ self.old.held.bytes ++ bytes.now) }
+        ensures succeeds { length bytes.now ≤ room_in self.old → IsOk result }
+        ensures same { OnOk result (SameElsewhere self.old self.new) }
+        ensures held { OnOk result (waiting_in self.new ≡ waiting_in self.old ++ bytes.now) }
     {
         self.held.push(bytes)
     }
@@ -150,27 +151,30 @@ impl WavCut {
     /// Makes room for so many bytes more, which `feed` then takes without fail.
     pub fn reserve(&mut self, count: usize) -> Result<(), AllocError>
         ensures cuts { (head : WavHead) (fed : List ℕ) (n : ℕ) → Cuts self.old head fed n → Cuts self.new head fed n }
-        ensures kept { self.new ≡ record self.old { held = self.new.held } }
-        ensures held { self.new.held.bytes ≡ self.old.held.bytes }
-        ensures room { OnOk result (count ≤ self.new.held.room) }
+        ensures same { SameElsewhere self.old self.new }
+        ensures held { waiting_in self.new ≡ waiting_in self.old }
+        ensures room { OnOk result (count ≤ room_in self.new) }
         ensures err { OnErr result (self.new ≡ self.old) }
     {
         self.held.reserve(count)
     }
 
-    /// The input ended.
+    /// The input ended: nothing more is fed.
     pub fn end(&mut self)
-        requires { self.old.ended ≡ false }
+        requires { has_ended self.old ≡ false }
         ensures cuts { (head : WavHead) (fed : List ℕ) (n : ℕ) → Cuts self.old head fed n → Cuts self.new head fed n }
-        ensures kept { self.new ≡ record self.old { ended = true } }
+        ensures ended { has_ended self.new ≡ true }
+        ensures head { head_of self.new ≡ head_of self.old }
+        ensures place { place_of self.new ≡ place_of self.old }
+        ensures held { waiting_in self.new ≡ waiting_in self.old }
     {
         self.ended = true;
     }
 
-    /// The bytes that belong to no packet given yet.
+    /// How many bytes are kept: those fed since the end of the last packet given, until a short packet was given.
     pub fn held(&self) -> u64
-        ensures length { result ≡ length self.now.held.bytes }
-        ensures exact { (head : WavHead) (fed : List ℕ) (n : ℕ) → Cuts self.now head fed n → self.now.done ≡ false → result ≡ length fed - 1024 * n * block_of head.head }
+        ensures length { result ≡ length (waiting_in self.now) }
+        ensures exact { (head : WavHead) (fed : List ℕ) (n : ℕ) → Cuts self.now head fed n → is_done self.now ≡ false → result ≡ length fed - 1024 * n * block_of head.head }
     {
         self.held.len() as u64
     }
@@ -190,28 +194,30 @@ impl WavCut {
         (usable, self.ended || reached)
     }
 
-    /// The next packet of the bytes so far.
+    /// The next packet of the bytes so far. The packets given so far end at or before byte 2^50. A packet has 1,024
+    /// sample frames, the last one the rest; its times are the numbers of its first sample frame.
     pub fn pull(&mut self) -> Result<Cut, AllocError>
-        requires { self.old.head.start + self.old.first * self.old.block ≤ 2 ^ 50 }
+        requires { place_of self.old ≤ 2 ^ 50 }
         // It is the next packet of the input, whatever follows.
         ensures gives { (head : WavHead) (fed : List ℕ) (n : ℕ) → Cuts self.old head fed n → (p : Pkt) → result ≡ Ok (Cut.Pkt p)
-            → Cuts self.new head fed (n + 1) × ((more : List ℕ) → IsRest self.old.ended more → slice_get (demuxed head (fed ++ more)) n ≡ Some p) }
+            → Cuts self.new head fed (n + 1) × ((more : List ℕ) → IsRest (has_ended self.old) more → slice_get (demuxed head (fed ++ more)) n ≡ Some p) }
         // All were given, whatever follows.
         ensures ends { (head : WavHead) (fed : List ℕ) (n : ℕ) → Cuts self.old head fed n → result ≡ Ok Cut.End
-            → Cuts self.new head fed n × ((more : List ℕ) → IsRest self.old.ended more → length (demuxed head (fed ++ more)) ≡ n) }
+            → Cuts self.new head fed n × ((more : List ℕ) → IsRest (has_ended self.old) more → length (demuxed head (fed ++ more)) ≡ n) }
         // Not yet exactly where neither the input nor the body ended, and no packet is whole.
         ensures waits { (head : WavHead) (fed : List ℕ) (n : ℕ) → Cuts self.old head fed n → result ≡ Ok Cut.NotYet
-            → (self.new ≡ self.old) × (self.old.ended ≡ false) × (ReachesLen (whole_len head) fed → ⊥) × (length fed < 1024 * (n + 1) * block_of head.head) }
-        ensures wanted { (head : WavHead) (fed : List ℕ) (n : ℕ) → Cuts self.old head fed n → self.old.ended ≡ false → (ReachesLen (whole_len head) fed → ⊥)
+            → (self.new ≡ self.old) × (has_ended self.old ≡ false) × (ReachesLen (whole_len head) fed → ⊥) × (length fed < 1024 * (n + 1) * block_of head.head) }
+        ensures wanted { (head : WavHead) (fed : List ℕ) (n : ℕ) → Cuts self.old head fed n → has_ended self.old ≡ false → (ReachesLen (whole_len head) fed → ⊥)
             → length fed < 1024 * (n + 1) * block_of head.head → result ≡ Ok Cut.NotYet }
         ensures unbroken { (offset : ℕ) → result ≡ Ok (Cut.Broken offset) → ⊥ }
         ensures err { OnErr result (self.new ≡ self.old) }
-        ensures ended { self.new.ended ≡ self.old.ended }
-        ensures still { result ≡ Ok Cut.NotYet → (self.new ≡ self.old) × (self.old.ended ≡ false) × (length self.old.held.bytes < 1024 * self.old.block) }
+        ensures ended { has_ended self.new ≡ has_ended self.old }
+        ensures still { result ≡ Ok Cut.NotYet → (self.new ≡ self.old) × (has_ended self.old ≡ false) × (length (waiting_in self.old) < full_packet self.old) }
         ensures stops { result ≡ Ok Cut.End → self.new ≡ self.old }
-        ensures goes_on { (p : Pkt) → result ≡ Ok (Cut.Pkt p) → (self.new.head ≡ self.old.head) × (self.new.block ≡ self.old.block)
-            × (self.new.head.start + self.new.first * self.new.block ≤ p.pos + length p.bytes)
-            × (p.pos + length p.bytes ≤ self.old.head.start + self.old.first * self.old.block + 1024 * self.old.block) }
+        ensures head { head_of self.new ≡ head_of self.old }
+        ensures place { (p : Pkt) → result ≡ Ok (Cut.Pkt p) → place_of self.new ≤ p.pos + length p.bytes }
+        ensures bound { (p : Pkt) → result ≡ Ok (Cut.Pkt p) → p.pos + length p.bytes ≤ place_of self.old + full_packet self.old }
+        ensures unit { full_packet self.new ≡ full_packet self.old }
     {
         if self.done {
             return Ok(Cut::End);
