@@ -3,6 +3,7 @@ pub mod BreakLaws
 pub mod Breaks
 pub mod Frame
 pub mod Items
+pub mod Kept
 pub mod LaneLaws
 pub mod Lanes
 pub mod Order

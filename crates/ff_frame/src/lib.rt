@@ -9,13 +9,17 @@
 #![tactic(auto)]
 
 mod audio;
+mod cut;
 mod head;
+mod held;
 mod item;
 mod lists;
 mod packet;
 
 pub use audio::AFrame;
+pub use cut::{Cut, HeadEnd};
 pub use head::{Codec, StreamHead};
+pub use held::Held;
 pub use item::{Item, Lane, Refused, Ticket};
 pub use lists::{Bytes, Samples};
 pub use packet::Pkt;

@@ -1,18 +1,21 @@
 -- Samples at other depths.
-use Rattle.std.proofs.Common.{◌≡◌, ℕ, zero, suc, ◌+◌, ◌-◌, ◌*◌, ◌/◌, ◌^◌, ◌<◌, ◌≤◌, ℤ, pos, negsuc, neg_ℤ, ◌*ℤ◌, Bool, true, false, cond, List, [], ◌∷◌, length, get_or, map, refl, sym, ap, ◌∙◌, subst, arith}
+use Rattle.std.proofs.Common.{◌≡◌, ℕ, zero, suc, ◌+◌, ◌-◌, ◌*◌, ◌/◌, ◌^◌, ◌<◌, ◌≤◌, ℤ, pos, negsuc, neg_ℤ, ◌*ℤ◌, Bool, true, false, cond, List, [], ◌∷◌, length, get_or, map, refl, sym, ap, ◌∙◌, subst, arith, ⊎_elim}
 use Rattle.std.specs.Prelude.{nat_le}
 use Rattle.std.specs.List.{All}
 use Rattle.std.specs.Int.{w32}
 use Rattle.std.specs.Int.RustNames.{FitsSigned}
 use Rattle.std.specs.Int.Signed.{shr_z}
+use Rattle.std.proofs.lemmas.Bool.{cases_lt}
 use Rattle.std.proofs.lemmas.Bool.Decides.{nat_tests}
 use Rattle.std.proofs.lemmas.List.{ext_get_or, get_or-map, length-map}
-use Rattle.std.proofs.lemmas.List.Elements.{All-map, All-weaker}
+use Rattle.std.proofs.lemmas.List.Elements.{All-map}
 use Rattle.std.proofs.lemmas.Nat.{div_below, pow-add, div-mul-add}
-use Rattle.std.proofs.Math.Nat.{mul-add-div_right, mul-le-mul_right, mul-lt-mul_of_pos_right, mul-div_cancel}
+use Rattle.std.proofs.Math.Nat.{mul-le-mul_right, mul-lt-mul_of_pos_right, mul-div_cancel}
 use Rattle.std.proofs.Math.Pow.{pow_mono}
 use Rattle.ff_frame.specs.Audio.{FitsBits, IsAudio}
-use Rattle.ff_pcm.specs.Depth.{shifted}
+use Rattle.ff_frame.specs.Frame.{audio_frame}
+use Rattle.ff_frame.specs.declared.audio.AFrame.{AFrame}
+use Rattle.ff_pcm.specs.Depth.{shifted, at_depth}
 
 -- a list each of whose samples is made of the one at its place
 pub mapped : (f : ℤ → ℤ) (xs ys : List ℤ) → length ys ≡ length xs → ((k : ℕ) → k < length xs → get_or ys k (pos 0) ≡ f (get_or xs k (pos 0))) → ys ≡ map f xs
@@ -125,3 +128,32 @@ shifted-back b c z lt =
     let w = z *ℤ pos (2 ^ (c - b)) in
     let down : shifted c b w ≡ shr_z w (2 ^ (c - b)) = ap (λ t. cond t (w *ℤ pos (2 ^ (b - c))) (shr_z w (2 ^ (c - b)))) (test_more c b lt) in
     ap (shifted c b) up ∙ (down ∙ over-times (2 ^ (c - b)) z (some_power (c - b)))
+
+negative_of : (m n : ℕ) → m ≡ suc n → neg_ℤ (pos m) ≡ negsuc n
+negative_of zero n e = absurd (omega arith)
+negative_of (suc m) n e = let f : m ≡ n = omega arith in ap negsuc f
+
+by_lt : {P : Type 0} (b c : ℕ) → (b < c → P) → (c ≤ b → P) → P
+by_lt {P} b c f g = ⊎_elim f g (cases_lt b c)
+
+times_one_itself : (z : ℤ) → z *ℤ pos 1 ≡ z
+times_one_itself (pos n) = ap pos (omega arith)
+times_one_itself (negsuc n) = negative_of (suc n * 1) n (omega arith)
+
+times_one : (z : ℤ) (p : ℕ) → p ≡ 1 → z *ℤ pos p ≡ z
+times_one z p e = ap (λ n. z *ℤ pos n) e ∙ times_one_itself z
+
+shifted-back_or_same : (b c : ℕ) (z : ℤ) → b ≤ c → shifted c b (shifted b c z) ≡ z
+shifted-back_or_same b c z le = by_lt b c (shifted-back b c z) (λ ge.
+    let e : c ≡ b = omega arith in
+    let P : ℕ → Type 0 = λ n. shifted n b (shifted b n z) ≡ z in
+    let one : 2 ^ (b - b) ≡ 1 = let f : b - b ≡ 0 = omega arith in ap (λ n. 2 ^ n) f in
+    let same : (w : ℤ) → shifted b b w ≡ w = λ w. ap (λ t. cond t (w *ℤ pos (2 ^ (b - b))) (shr_z w (2 ^ (b - b)))) (test_le b b (omega arith)) ∙ times_one w (2 ^ (b - b)) one in
+    subst P (sym e) (same (shifted b b z) ∙ same z))
+
+all_back : (b c : ℕ) (xs : List ℤ) → b ≤ c → map (shifted c b) (map (shifted b c) xs) ≡ xs
+all_back b c [] le = refl
+all_back b c (x ∷ xs) le = ap (λ y. y ∷ map (shifted c b) (map (shifted b c) xs)) (shifted-back_or_same b c x le) ∙ ap (λ ys. x ∷ ys) (all_back b c xs le)
+
+pub at_depth-back : (frame : AFrame) (bits : ℕ) → frame.bits ≤ bits → at_depth frame.bits (at_depth bits frame) ≡ frame
+at_depth-back frame bits le = ap (λ xs. audio_frame frame.pts frame.rate frame.bits frame.channels xs) (all_back frame.bits bits frame.samples le)

@@ -1,10 +1,10 @@
 -- Samples of bytes: how many, that they fit, and that they tell the bytes.
-use Rattle.std.proofs.Common.{◌≡◌, ℕ, zero, suc, ◌+◌, ◌-◌, ◌*◌, ◌/◌, ◌%◌, ◌^◌, ◌<◌, ◌≤◌, ℤ, pos, negsuc, ◌-ℤ◌, List, length, get_or, map, refl, sym, ap, ◌∙◌, subst, arith}
+use Rattle.std.proofs.Common.{◌≡◌, ℕ, zero, suc, ◌+◌, ◌*◌, ◌/◌, ◌%◌, ◌^◌, ◌<◌, ◌≤◌, ℤ, pos, negsuc, ◌-ℤ◌, List, [], ◌∷◌, length, get_or, refl, sym, ap, ◌∙◌, subst, arith}
 use Rattle.std.specs.List.{range_with_len, All}
 use Rattle.std.proofs.lemmas.Int.{ints}
 use Rattle.std.proofs.lemmas.List.{ext_get_or}
 use Rattle.std.proofs.lemmas.List.Elements.{All-map}
-use Rattle.std.proofs.lemmas.List.FromFn.{fill_by_all}
+use Rattle.std.proofs.lemmas.List.FromFn.{fill_by_all, length-map-range_with_len, get_or-map-range_with_len}
 use Rattle.ff_frame.specs.Audio.{FitsBits, IsAudio}
 use Rattle.ff_frame.specs.Frame.{audio_frame}
 use Rattle.ff_frame.specs.Lanes.{sample_bytes}
@@ -139,9 +139,61 @@ middle_apart m n e = omega (arith, ints)
 abbrev AreBytes : List ℕ → Type 0
 AreBytes bytes = (i : ℕ) → get_or bytes i 0 < 256
 
--- the k-th samples are the same, so are their bytes
-bytes_8 : (a b : List ℕ) (k : ℕ) → sample_at PcmU8 a k ≡ sample_at PcmU8 b k → get_or a k 0 ≡ get_or b k 0
-bytes_8 a b k e = let f = middle_apart (number 1 k a) (number 1 k b) e in omega (arith, f)
+digit_apart : (x y m n : ℕ) → x < 256 → y < 256 → x + 256 * m ≡ y + 256 * n → (x ≡ y) × (m ≡ n)
+digit_apart x y m n lx ly e = (omega arith, omega arith)
 
-bytes_16 : (a b : List ℕ) (k r : ℕ) → AreBytes a → AreBytes b → r < 2 → sample_at PcmS16le a k ≡ sample_at PcmS16le b k → get_or a (2 * k + r) 0 ≡ get_or b (2 * k + r) 0
-bytes_16 a b k r sa sb lt e = ?
+-- a number of so many bytes tells each of them
+number_apart : (count place : ℕ) (a b : List ℕ) → AreBytes a → AreBytes b → number count place a ≡ number count place b → (r : ℕ) → r < count → get_or a (place + r) 0 ≡ get_or b (place + r) 0
+number_apart zero place a b sa sb e r lt = absurd (omega arith)
+number_apart (suc count) place a b sa sb e zero lt =
+    let f : place + 0 ≡ place = omega arith in
+    rw f ((digit_apart (get_or a place 0) (get_or b place 0) (number count (place + 1) a) (number count (place + 1) b) (sa place) (sb place) e).0)
+number_apart (suc count) place a b sa sb e (suc r) lt =
+    let f : place + suc r ≡ (place + 1) + r = omega arith in
+    let g = (digit_apart (get_or a place 0) (get_or b place 0) (number count (place + 1) a) (number count (place + 1) b) (sa place) (sb place) e).1 in
+    rw f (number_apart count (place + 1) a b sa sb g r (omega arith))
+
+-- so do the samples
+byte_same : (codec : Codec) (a b : List ℕ) (i count : ℕ) → AreBytes a → AreBytes b → i < sample_bytes codec * count → ((k : ℕ) → k < count → sample_at codec a k ≡ sample_at codec b k) → get_or a i 0 ≡ get_or b i 0
+byte_same PcmU8 a b i count sa sb lt same = let f = middle_apart (number 1 i a) (number 1 i b) (same i (omega arith)) in omega (arith, f)
+byte_same PcmS16le a b i count sa sb lt same =
+    let k = i / 2 in
+    let P : ℕ → Type 0 = λ j. get_or a j 0 ≡ get_or b j 0 in
+    let here : 2 * k + i % 2 ≡ i = omega arith in
+    let below : (x : List ℕ) → AreBytes x → number 2 (2 * k) x < 2 ^ 16 = λ x s. omega (arith, s (2 * k), s (2 * k + 1)) in
+    subst P here (number_apart 2 (2 * k) a b sa sb (signed_apart_16 _ _ (below a sa) (below b sb) (same k (omega arith))) (i % 2) (omega arith))
+byte_same PcmS24le a b i count sa sb lt same =
+    let k = i / 3 in
+    let P : ℕ → Type 0 = λ j. get_or a j 0 ≡ get_or b j 0 in
+    let here : 3 * k + i % 3 ≡ i = omega arith in
+    let below : (x : List ℕ) → AreBytes x → number 3 (3 * k) x < 2 ^ 24 = λ x s. omega (arith, s (3 * k), s (3 * k + 1), s (3 * k + 1 + 1)) in
+    subst P here (number_apart 3 (3 * k) a b sa sb (signed_apart_24 _ _ (below a sa) (below b sb) (same k (omega arith))) (i % 3) (omega arith))
+byte_same PcmS32le a b i count sa sb lt same =
+    let k = i / 4 in
+    let P : ℕ → Type 0 = λ j. get_or a j 0 ≡ get_or b j 0 in
+    let here : 4 * k + i % 4 ≡ i = omega arith in
+    let below : (x : List ℕ) → AreBytes x → number 4 (4 * k) x < 2 ^ 32 = λ x s. omega (arith, s (4 * k), s (4 * k + 1), s (4 * k + 1 + 1), s (4 * k + 1 + 1 + 1)) in
+    subst P here (number_apart 4 (4 * k) a b sa sb (signed_apart_32 _ _ (below a sa) (below b sb) (same k (omega arith))) (i % 4) (omega arith))
+
+are_bytes : (xs : List ℕ) → All (λ x. x < 256) xs → AreBytes xs
+are_bytes [] h i = omega arith
+are_bytes (x ∷ xs) h zero = h 0 0 (omega arith)
+are_bytes (x ∷ xs) h (suc i) = are_bytes xs (λ k d lt. h (suc k) d (omega (arith, lt))) i
+
+pub told : (codec : Codec) (a b : List ℕ) (xs : List ℤ) → All (λ x. x < 256) a → All (λ x. x < 256) b → StandFor codec a xs → StandFor codec b xs → a ≡ b
+told codec a b xs sa sb s t =
+    ext_get_or 0 a b (s.size ∙ sym t.size) (λ i lt. let le : i < sample_bytes codec * length xs = omega (arith, lt, s.size) in
+    byte_same codec a b i (length xs) (are_bytes a sa) (are_bytes b sb) le (λ k few. sym (s.each k few) ∙ t.each k few))
+
+-- whole samples stand for what they are
+samples_stand : (codec : Codec) (bytes : List ℕ) (count : ℕ) → length bytes ≡ sample_bytes codec * count → StandFor codec bytes (samples_of codec bytes)
+samples_stand codec bytes count e =
+    let few = count_of codec (length bytes) count e in
+    let long = length-map-range_with_len (sample_at codec bytes) 0 (length bytes / sample_bytes codec) in
+    record {
+      size = e ∙ ap (λ n. sample_bytes codec * n) (sym (long ∙ few));
+      each = λ k lt. get_or-map-range_with_len (sample_at codec bytes) 0 (length bytes / sample_bytes codec) k k (pos 0) (omega (arith, lt, long)) (omega arith);
+    }
+
+pub encoded_again : (codec : Codec) (bytes again : List ℕ) (count : ℕ) → length bytes ≡ sample_bytes codec * count → All (λ x. x < 256) bytes → All (λ x. x < 256) again → StandFor codec again (samples_of codec bytes) → again ≡ bytes
+encoded_again codec bytes again count e sb sa s = told codec again bytes (samples_of codec bytes) sa sb s (samples_stand codec bytes count e)

@@ -15,7 +15,6 @@ fn lowered(sample: i32, by: u8) -> i32
     sample >> by
 }
 
-
 // A sample at a higher depth.
 fn raised(sample: i32, factor: i32) -> i32
     requires fits { FitsSigned w32 (sample *ℤ factor) }

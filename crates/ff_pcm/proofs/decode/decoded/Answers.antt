@@ -1,4 +1,4 @@
-use Rattle.std.proofs.Common.{◌≡◌, arith, rules}
+use Rattle.std.proofs.Common.{arith, rules}
 use Rattle.std.proofs.lemmas.Grind.{common_steps}
 use Rattle.ff_pcm.specs.Samples.{StandFor}
 use Rattle.ff_pcm.proofs.SampleLaws.{all_stand_fit}

@@ -1,4 +1,4 @@
-use Rattle.std.proofs.Common.{◌≡◌, sym, subst, List, ℤ}
+use Rattle.std.proofs.Common.{sym, subst, List, ℤ}
 use Rattle.ff_frame.specs.Audio.{IsAudio}
 use Rattle.ff_pcm.proofs.DepthLaws.{shifted_audio}
 use Rattle.ff_pcm.proofs.depth.depth_change.Goals as goal

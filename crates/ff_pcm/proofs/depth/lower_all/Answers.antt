@@ -1,4 +1,4 @@
-use Rattle.std.proofs.Common.{◌≡◌, arith, length, ap}
+use Rattle.std.proofs.Common.{arith, length, ap}
 use Rattle.ff_pcm.proofs.DepthLaws.{mapped}
 use Rattle.ff_pcm.proofs.depth.lower_all.Goals as goal
 

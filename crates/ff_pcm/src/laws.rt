@@ -1,0 +1,23 @@
+// What follows of the definitions alone.
+ghost use Rattle.std.specs.Prelude.{◌≡◌, ◌≤◌, ◌<◌, ◌*◌, ℕ, ℤ, List, All, length};
+ghost use Rattle.ff_frame.specs.Lanes.{sample_bytes};
+ghost use Rattle.ff_frame.specs.declared.audio.AFrame.{AFrame};
+ghost use Rattle.ff_frame.specs.declared.head.Codec.{Codec};
+ghost use Rattle.ff_pcm.specs.Depth.{at_depth};
+ghost use Rattle.ff_pcm.specs.Samples.{samples_of, StandFor};
+
+/// The samples tell the bytes: no other bytes of the same codec stand for them.
+pub fn samples_tell_their_bytes()
+    ensures { (codec : Codec) (a b : List ℕ) (samples : List ℤ) → All (λ x. x < 256) a → All (λ x. x < 256) b → StandFor codec a samples → StandFor codec b samples → a ≡ b }
+{}
+
+/// Bytes of whole samples, decoded and encoded with the same codec, are those bytes.
+pub fn encoding_gives_decoded_bytes_back()
+    ensures { (codec : Codec) (bytes again : List ℕ) (count : ℕ) → length bytes ≡ sample_bytes codec * count → All (λ x. x < 256) bytes → All (λ x. x < 256) again
+        → StandFor codec again (samples_of codec bytes) → again ≡ bytes }
+{}
+
+/// A frame at a higher depth, and back at its own, is that frame.
+pub fn more_bits_and_back_change_nothing()
+    ensures { (frame : AFrame) (bits : ℕ) → frame.bits ≤ bits → at_depth frame.bits (at_depth bits frame) ≡ frame }
+{}

@@ -1,0 +1,83 @@
+-- The chunks of a RIFF WAVE (RIFF, "WAVE form definition"), one at a time. All numbers are little-endian.
+use Rattle.std.specs.Prelude.{ℕ, ◌+◌, ◌*◌, ◌/◌, ◌%◌, ◌^◌, ◌==◌, ◌&&◌, ◌||◌, nat_lt, nat_le, not, Bool, if◌then◌else◌, List, [], ◌∷◌, take, length, slice_index, Option, Some, None, Result, Ok, Err, codes}
+use Rattle.std.specs.Str.{bytes_eq}
+use Rattle.ff_frame.specs.declared.head.StreamHead.{StreamHead}
+use Rattle.ff_frame.specs.declared.head.StreamHead.TheVariants.{Audio}
+use Rattle.ff_frame.specs.declared.head.Codec.{Codec}
+use Rattle.ff_frame.specs.declared.head.Codec.TheVariants.{PcmU8, PcmS16le, PcmS24le, PcmS32le}
+use Rattle.ff_wav.specs.declared.head.WavHead.{WavHead}
+use Rattle.ff_wav.specs.declared.head.HeadFault.{HeadFault}
+use Rattle.ff_wav.specs.declared.head.HeadFault.TheVariants.{Damaged, Unsupported}
+use Rattle.ff_wav.specs.declared.head.Step.{Step}
+use Rattle.ff_wav.specs.declared.head.Step.TheVariants.{Wait, Decide, Skip}
+
+-- the number of two bytes at a place, and of four
+abbrev pub number_16 : ℕ → List ℕ → ℕ
+number_16 i bs = slice_index bs i + 256 * slice_index bs (i + 1)
+
+abbrev pub number_32 : ℕ → List ℕ → ℕ
+number_32 i bs = number_16 i bs + 65536 * number_16 (i + 2) bs
+
+-- 8 bits are unsigned, the others signed
+abbrev pub codec_of : ℕ → Codec
+codec_of bits =
+    if bits == 8 then PcmU8
+    else if bits == 16 then PcmS16le
+    else if bits == 24 then PcmS24le
+    else PcmS32le
+
+-- sound with one tick a sample frame
+abbrev pub stream_of : ℕ → ℕ → ℕ → StreamHead
+stream_of channels rate bits = Audio (record { num = 1; den = rate }) rate bits channels (codec_of bits)
+
+-- what the fields say that follow the tag; each is unsupported at its place, in this order
+unfoldable pub format_of : ℕ → ℕ → ℕ → ℕ → ℕ → Result StreamHead HeadFault
+format_of at channels rate block bits =
+    if not (nat_le 1 channels && nat_le channels 8) then Err (Unsupported (at + 10))
+    else if not (nat_le 1 rate && nat_lt rate (2 ^ 31)) then Err (Unsupported (at + 12))
+    else if not (bits == 8 || bits == 16 || bits == 24 || bits == 32) then Err (Unsupported (at + 22))
+    else if not (block == channels * (bits / 8)) then Err (Unsupported (at + 20))
+    else Ok (stream_of channels rate bits)
+
+abbrev pub step_of : ℕ → Result StreamHead HeadFault → Step
+step_of size (Ok format) = Skip size (Some format)
+step_of size (Err end) = Decide (Err end)
+
+-- the fields after the tag of a `fmt ` chunk that begins the bytes
+abbrev pub fields : ℕ → List ℕ → Step
+fields at bs = step_of (number_32 4 bs) (format_of at (number_16 10 bs) (number_32 12 bs) (number_16 20 bs) (number_16 22 bs))
+
+-- a `fmt ` chunk whose first 16 bytes are there
+unfoldable pub tagged : ℕ → List ℕ → Step
+tagged at bs =
+    if number_16 8 bs == 0xFFFE then
+    if nat_lt (number_32 4 bs) 40 then Decide (Err (Damaged at))
+    else if nat_lt (length bs) 48 then Wait
+    else if not (number_16 32 bs == 1) then Decide (Err (Unsupported (at + 32)))
+    else fields at bs
+    else if not (number_16 8 bs == 1) then Decide (Err (Unsupported (at + 8)))
+    else fields at bs
+
+-- the first `fmt ` counts
+unfoldable pub format_chunk : Option StreamHead → ℕ → List ℕ → Step
+format_chunk (Some format) at bs = Skip (number_32 4 bs) (Some format)
+format_chunk None at bs =
+    if nat_lt (number_32 4 bs) 16 then Decide (Err (Damaged at))
+    else if nat_lt (length bs) 24 then Wait
+    else tagged at bs
+
+-- a body of 0 or 2^32 - 1 bytes goes to the end of the input
+abbrev pub body_len : ℕ → Option ℕ
+body_len size = if size == 0 || size == 0xFFFFFFFF then None else Some size
+
+abbrev pub data_chunk : Option StreamHead → ℕ → List ℕ → Step
+data_chunk None at bs = Decide (Err (Damaged at))
+data_chunk (Some format) at bs = Decide (Ok (record { head = format; start = at + 8; len = body_len (number_32 4 bs) }))
+
+-- what the chunk does that begins the bytes, at offset at of the input
+unfoldable pub chunk : Option StreamHead → ℕ → List ℕ → Step
+chunk format at bs =
+    if nat_lt (length bs) 8 then Wait
+    else if bytes_eq (take 4 bs) (codes "data") then data_chunk format at bs
+    else if bytes_eq (take 4 bs) (codes "fmt ") then format_chunk format at bs
+    else Skip (number_32 4 bs) format

@@ -1,0 +1,72 @@
+-- A cut does not keep what it was fed and gave: it is tied to it.
+use Rattle.std.specs.Prelude.{◌≡◌, ℕ, ◌+◌, ◌*◌, ◌≤◌, ◌<◌, ◌⊎◌, Bool, true, false, List, [], drop, length, Option, Some, None}
+use Rattle.ff_wav.specs.declared.head.WavHead.{WavHead}
+use Rattle.ff_wav.specs.declared.cut.WavCut.{WavCut}
+use Rattle.ff_wav.specs.Packets.{block_of, whole_len, body, packet_count}
+
+-- all bytes of a body of this size came
+abbrev pub ReachesLen : Option ℕ → List ℕ → Type 0
+ReachesLen None fed = ⊥
+ReachesLen (Some len) fed = len ≤ length fed
+
+-- no further byte of the body comes
+abbrev pub IsBodyEnded : Option ℕ → Bool → List ℕ → Type 0
+IsBodyEnded len ended fed = (ended ≡ true) ⊎ ReachesLen len fed
+
+-- what may still come: nothing where the input ended
+abbrev pub IsRest : Bool → List ℕ → Type 0
+IsRest ended more = ended ≡ true → more ≡ []
+
+-- the head for which a cut was made
+abbrev pub head_of : WavCut → WavHead
+head_of cut = cut.head
+
+-- the offset in the input at which the whole packets given so far end
+abbrev pub place_of : WavCut → ℕ
+place_of cut = cut.head.start + cut.first * cut.block
+
+-- whether the input ended
+abbrev pub has_ended : WavCut → Bool
+has_ended cut = cut.ended
+
+-- whether the last packet, a short one, was given
+abbrev pub is_done : WavCut → Bool
+is_done cut = cut.done
+
+-- the bytes that belong to no packet given yet, and for how many more there is room
+abbrev pub waiting_in : WavCut → List ℕ
+waiting_in cut = cut.held.bytes
+
+abbrev pub room_in : WavCut → ℕ
+room_in cut = cut.held.room
+
+-- the bytes of a packet that isn't the last
+abbrev pub full_packet : WavCut → ℕ
+full_packet cut = 1024 * cut.block
+
+-- the same head, place and block, and the same end of the input
+pub record SameElsewhere (before after : WavCut) : Type 0 where
+  pub same_head : after.head ≡ before.head
+  pub same_place : after.first ≡ before.first
+  pub same_block : after.block ≡ before.block
+  pub same_done : after.done ≡ before.done
+  pub same_end : after.ended ≡ before.ended
+
+-- only whole packets were given: the bytes kept are those fed since the end of the last one
+pub record Goes (block : ℕ) (len : Option ℕ) (first : ℕ) (held fed : List ℕ) (n : ℕ) : Type 0 where
+  pub at : first ≡ 1024 * n
+  pub kept : held ≡ drop (first * block) fed
+  pub inside : first * block ≤ length (body len fed)
+
+-- the last packet, a short one, was given
+pub record IsOver (block : ℕ) (len : Option ℕ) (ended : Bool) (fed : List ℕ) (n : ℕ) : Type 0 where
+  pub all : IsBodyEnded len ended fed
+  pub number : packet_count block (body len fed) ≡ n
+
+-- Of an input with this head the cut was fed these bytes, those after the head, and gave n packets.
+pub record Cuts (cut : WavCut) (head : WavHead) (fed : List ℕ) (n : ℕ) : Type 0 where
+  pub of_head : cut.head ≡ head
+  pub of_block : cut.block ≡ block_of head.head
+  pub of_len : cut.len ≡ whole_len head
+  pub goes : cut.done ≡ false → Goes cut.block (whole_len head) cut.first cut.held.bytes fed n
+  pub over : cut.done ≡ true → IsOver cut.block (whole_len head) cut.ended fed n

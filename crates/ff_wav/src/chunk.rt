@@ -1,0 +1,203 @@
+ghost use Rattle.std.specs.Prelude.{◌≡◌, ◌+◌, ◌≤◌, ◌<◌, ◌*◌, ◌^◌, length, take, Ok};
+ghost use Rattle.std.specs.Str.{bytes_eq};
+ghost use Rattle.ff_wav.specs.Chunks.{number_16, number_32, format_of, codec_of, stream_of, step_of, fields, tagged, format_chunk, data_chunk, chunk, body_len};
+
+use crate::head::{HeadFault, Step, WavHead};
+use ff_frame::{Codec, StreamHead};
+use ff_time::{Rational, TimeError};
+
+fn at_16(bytes: &[u8], place: usize) -> u16
+    requires { place + 2 ≤ length bytes.now }
+    ensures { result ≡ number_16 place bytes.now }
+{
+    bytes[place] as u16 + 256 * bytes[place + 1] as u16
+}
+
+fn at_32(bytes: &[u8], place: usize) -> u32
+    requires { place + 4 ≤ length bytes.now }
+    ensures { result ≡ number_32 place bytes.now }
+{
+    at_16(bytes, place) as u32 + 65536 * at_16(bytes, place + 2) as u32
+}
+
+// Whether four bytes begin the bytes.
+fn has_id(bytes: &[u8], id: &[u8]) -> bool
+    requires { 4 ≤ length bytes.now }
+    ensures { result ≡ bytes_eq (take 4 bytes.now) id.now }
+{
+    &bytes[..4] == id
+}
+
+// A time base of so many ticks a second.
+fn ticks(rate: u32) -> Result<Rational, TimeError>
+    requires some { 0 < rate }
+    requires few { rate < 2 ^ 31 }
+    ensures { result ≡ Ok (record { num = 1; den = rate }) }
+{
+    Rational::new(1, i64::from(rate))
+}
+
+// The codec of so many bits, which are 8, 16, 24 or 32.
+fn codec_of_bits(bits: u16) -> Codec
+    ensures { result ≡ codec_of bits }
+{
+    match bits {
+        8 => Codec::PcmU8,
+        16 => Codec::PcmS16le,
+        24 => Codec::PcmS24le,
+        _ => Codec::PcmS32le,
+    }
+}
+
+// What the fields say, which were found to be right.
+fn stream(at: u64, channels: u16, rate: u32, bits: u16) -> Result<StreamHead, HeadFault>
+    requires few_channels { channels ≤ 8 }
+    requires some_rate { 1 ≤ rate }
+    requires small_rate { rate < 2 ^ 31 }
+    requires few_bits { bits ≤ 32 }
+    ensures { result ≡ Ok (stream_of channels rate bits) }
+{
+    let Ok(tb) = ticks(rate) else {
+        return Err(HeadFault::Unsupported { offset: at });
+    };
+    Ok(StreamHead::Audio {
+        tb,
+        rate,
+        bits: bits as u8,
+        channels: channels as u8,
+        codec: codec_of_bits(bits),
+    })
+}
+
+#[tactic(auto, unfolding(crate::specs::Chunks::format_of))]
+fn checked(
+    at: u64,
+    channels: u16,
+    rate: u32,
+    block: u16,
+    bits: u16,
+) -> Result<StreamHead, HeadFault>
+    requires { at < 2 ^ 32 }
+    ensures { result ≡ format_of at channels rate block bits }
+{
+    if !(1 <= channels && channels <= 8) {
+        return Err(HeadFault::Unsupported { offset: at + 10 });
+    }
+    if !(1 <= rate && rate < (1 << 31)) {
+        return Err(HeadFault::Unsupported { offset: at + 12 });
+    }
+    if !(bits == 8 || bits == 16 || bits == 24 || bits == 32) {
+        return Err(HeadFault::Unsupported { offset: at + 22 });
+    }
+    if !(block == channels * (bits / 8)) {
+        return Err(HeadFault::Unsupported { offset: at + 20 });
+    }
+    stream(at, channels, rate, bits)
+}
+
+fn fields_at(at: u64, bytes: &[u8]) -> Step
+    requires place { at < 2 ^ 32 }
+    requires there { 24 ≤ length bytes.now }
+    ensures { result ≡ fields at bytes.now }
+{
+    let size = at_32(bytes, 4);
+    match checked(
+        at,
+        at_16(bytes, 10),
+        at_32(bytes, 12),
+        at_16(bytes, 20),
+        at_16(bytes, 22),
+    ) {
+        Ok(format) => Step::Skip(size, Some(format)),
+        Err(end) => Step::Decide(Err(end)),
+    }
+}
+
+#[tactic(auto, unfolding(crate::specs::Chunks::tagged))]
+fn tagged_at(at: u64, bytes: &[u8]) -> Step
+    requires place { at < 2 ^ 32 }
+    requires there { 24 ≤ length bytes.now }
+    ensures { result ≡ tagged at bytes.now }
+{
+    let tag = at_16(bytes, 8);
+    if tag == 0xFFFE {
+        if at_32(bytes, 4) < 40 {
+            return Step::Decide(Err(HeadFault::Damaged { offset: at }));
+        }
+        if bytes.len() < 48 {
+            return Step::Wait;
+        }
+        if at_16(bytes, 32) != 1 {
+            return Step::Decide(Err(HeadFault::Unsupported { offset: at + 32 }));
+        }
+        return fields_at(at, bytes);
+    }
+    if tag != 1 {
+        return Step::Decide(Err(HeadFault::Unsupported { offset: at + 8 }));
+    }
+    fields_at(at, bytes)
+}
+
+#[tactic(auto, unfolding(crate::specs::Chunks::format_chunk))]
+fn format_chunk_at(format: Option<StreamHead>, at: u64, bytes: &[u8]) -> Step
+    requires place { at < 2 ^ 32 }
+    requires there { 8 ≤ length bytes.now }
+    ensures { result ≡ format_chunk format at bytes.now }
+{
+    let size = at_32(bytes, 4);
+    match format {
+        Some(first) => Step::Skip(size, Some(first)),
+        None => {
+            if size < 16 {
+                return Step::Decide(Err(HeadFault::Damaged { offset: at }));
+            }
+            if bytes.len() < 24 {
+                return Step::Wait;
+            }
+            tagged_at(at, bytes)
+        }
+    }
+}
+
+fn body_size(size: u32) -> Option<u64>
+    ensures { result ≡ body_len size }
+{
+    if size == 0 || size == 0xFFFF_FFFF {
+        None
+    } else {
+        Some(size as u64)
+    }
+}
+
+fn data_chunk_at(format: Option<StreamHead>, at: u64, bytes: &[u8]) -> Step
+    requires place { at < 2 ^ 32 }
+    requires there { 8 ≤ length bytes.now }
+    ensures { result ≡ data_chunk format at bytes.now }
+{
+    match format {
+        Some(head) => Step::Decide(Ok(WavHead {
+            head,
+            start: at + 8,
+            len: body_size(at_32(bytes, 4)),
+        })),
+        None => Step::Decide(Err(HeadFault::Damaged { offset: at })),
+    }
+}
+
+/// What the chunk does that begins the bytes.
+#[tactic(auto, unfolding(crate::specs::Chunks::chunk))]
+pub(crate) fn chunk_at(format: Option<StreamHead>, at: u64, bytes: &[u8]) -> Step
+    requires { at < 2 ^ 32 }
+    ensures { result ≡ chunk format at bytes.now }
+{
+    if bytes.len() < 8 {
+        return Step::Wait;
+    }
+    if has_id(bytes, b"data") {
+        return data_chunk_at(format, at, bytes);
+    }
+    if has_id(bytes, b"fmt ") {
+        return format_chunk_at(format, at, bytes);
+    }
+    Step::Skip(at_32(bytes, 4), format)
+}
