@@ -1,0 +1,12 @@
+pub mod Acting
+pub mod Changes
+pub mod Flows
+pub mod Fresh
+pub mod Idling
+pub mod Moments
+pub mod PortSteps
+pub mod Queues
+pub mod Readying
+pub mod Rounds
+pub mod Sendings
+pub mod Turning
