@@ -1,17 +1,14 @@
 -- What a node does once it is ready.
-use Rattle.std.proofs.Common.{◌≡◌, ◌≢◌, ℕ, ◌<◌, ◌⊎◌, inl, inr, Bool, true, false, ◌||◌, List, length, refl, ap, sym, ◌∙◌, subst, Option, None, Some, is_some}
+use Rattle.std.proofs.Common.{◌≡◌, ℕ, inl, inr, Bool, true, false, ◌||◌, List, refl, ap, sym, ◌∙◌, subst, Option, None, Some, is_some}
 use Rattle.ff_frame.specs.declared.item.Lane.{Lane}
 use Rattle.ff_net.specs.declared.fault.Fault.{Fault}
 use Rattle.ff_net.specs.declared.node.Node.{Node}
-use Rattle.ff_net.specs.declared.ports.InPort.{InPort}
-use Rattle.ff_net.specs.declared.ports.OutPort.{OutPort}
 use Rattle.ff_net.specs.declared.wires.Wires.{Wires}
 use Rattle.ff_net.specs.Pasts.{Past}
-use Rattle.ff_net.specs.Ports.{in_wires, out_wires}
-use Rattle.ff_net.specs.Worlds.{Wire, Stand, lanes_of}
+use Rattle.ff_net.specs.Worlds.{Wire, Stand}
 use Rattle.ff_net.specs.Nodes.{IsSound, IsSame, NodeStands, in_wires_of, out_wires_of}
-use Rattle.ff_net.specs.Steps.{Course, Moves, Acts, IsDue, Rests, Turns, Prepares, Later, Stepped}
-use Rattle.ff_net.proofs.Moments.{stepped_self, moves_then, then_moves, course_trans}
+use Rattle.ff_net.specs.Steps.{Course, Acts, IsDue, Turns, Prepares, Later, Stepped}
+use Rattle.ff_net.proofs.Moments.{stepped_self, then_moves, course_trans}
 use Rattle.ff_net.proofs.Changes.{true_not_false, same_stands}
 use Rattle.ff_net.proofs.Rounds.{or_true, or_false}
 use Rattle.ff_net.proofs.Readying.{rests_same}

@@ -1,5 +1,5 @@
 -- What each step of a node changes.
-use Rattle.std.proofs.Common.{◌≡◌, ◌≢◌, ℕ, zero, suc, ◌<◌, ◌≤◌, ◌⊎◌, inl, inr, Bool, true, false, List, [], ◌∷◌, ◌++◌, map, length, slice_index_or, slice_set, refl, ap, sym, ◌∙◌, subst, arith, get_or-set_same, Option, None, Some, IsTrue, ◌↔◌, is_some}
+use Rattle.std.proofs.Common.{◌≡◌, ◌≢◌, ℕ, ◌<◌, ◌≤◌, ◌⊎◌, inl, inr, Bool, true, false, List, length, slice_set, refl, ap, sym, ◌∙◌, subst, Option, None, Some, IsTrue, ◌↔◌, is_some}
 use mathlib.Core.List.{IsPrefix}
 use Rattle.std.proofs.lemmas.List.{length-set}
 use Rattle.ff_frame.specs.declared.item.Item.{Item}
@@ -7,22 +7,22 @@ use Rattle.ff_frame.specs.declared.item.Item.TheVariants.{Broken}
 use Rattle.ff_frame.specs.declared.item.Lane.{Lane}
 use Rattle.ff_frame.specs.Stream.{Mark, still_open, LiesBelow, opened, opened_mark}
 use Rattle.ff_frame.specs.Items.{Closes, with_item}
-use Rattle.ff_frame.specs.Order.{below_self, below_trans, with_item_above, with_item_open, with_item_closed, opened_below, closed_below, prefix_self}
-use Rattle.ff_frame.specs.Ports.{nothing, stream_at, AllBelow, IsClosed}
+use Rattle.ff_frame.specs.Order.{below_self, below_trans, with_item_above, with_item_open, with_item_closed, opened_below, prefix_self}
+use Rattle.ff_frame.specs.Ports.{stream_at, IsClosed}
 use Rattle.ff_net.specs.declared.fault.Fault.{Fault}
 use Rattle.ff_net.specs.declared.ports.InPort.{InPort}
 use Rattle.ff_net.specs.declared.ports.OutPort.{OutPort}
 use Rattle.ff_net.specs.declared.node.Node.{Node}
-use Rattle.ff_net.specs.Ways.{Flow, lane_at}
-use Rattle.ff_net.specs.Pasts.{Past, IsIn, gave_item, was_asked, was_stopped, fed}
+use Rattle.ff_net.specs.Ways.{Flow}
+use Rattle.ff_net.specs.Pasts.{Past, IsIn, gave_item, was_stopped}
 use Rattle.ff_net.specs.Laws.{OutputsClose}
-use Rattle.ff_net.specs.Ports.{in_at, out_at, in_wires, out_wires, AreDone}
-use Rattle.ff_net.specs.Worlds.{Wire, with_wire, put_on, take_on, finish_on}
+use Rattle.ff_net.specs.Ports.{in_at, out_at, AreDone}
+use Rattle.ff_net.specs.Worlds.{Wire, put_on, take_on, finish_on}
 use Rattle.ff_net.specs.Nodes.{HeldIs, FedAllButOne, OutStands, InStands, IsSound, IsSame, MayClose, NodeStands, tickets, in_wires_of, out_wires_of, HaveLanes}
-use Rattle.ff_net.specs.Steps.{Course, Moves}
+use Rattle.ff_net.specs.Steps.{Course}
 use Rattle.ff_net.proofs.Flows.{same_or_not, stream_at-with_item_same, stream_at-with_item_other}
 use Rattle.ff_net.proofs.Moments.{with_wire_same, with_wire_other, with_wire_keeps, with_wire_each}
-use Rattle.ff_net.proofs.PortSteps.{set_own, out_step, in_step, in_keep, out_keep, out_wire_in, in_wire_in, out_apart, in_apart}
+use Rattle.ff_net.proofs.PortSteps.{set_own, out_step, in_step, in_keep, out_keep, out_apart, in_apart}
 
 pub true_not_false : true ≡ false → ⊥
 true_not_false e = cc

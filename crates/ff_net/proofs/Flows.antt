@@ -1,17 +1,16 @@
 -- Streams by port, and what is due.
-use Rattle.std.proofs.Common.{◌≡◌, ◌≢◌, ℕ, zero, suc, ◌<◌, ◌≤◌, ◌==◌, ◌⊎◌, inl, inr, Bool, true, false, cond, List, [], ◌∷◌, ◌++◌, map, length, take, nat_le, slice_index_or, refl, ap, sym, ◌∙◌, subst, arith, Option, None, Some}
+use Rattle.std.proofs.Common.{◌≡◌, ◌≢◌, ℕ, zero, suc, ◌<◌, ◌≤◌, ◌==◌, ◌⊎◌, inl, inr, Bool, true, false, cond, List, [], ◌∷◌, map, length, take, nat_le, refl, ap, sym, subst, arith, Option, None, Some}
 use Rattle.std.proofs.lemmas.Bool.Decides.{nat_tests}
 use mathlib.Core.List.{IsPrefix}
 use Rattle.ff_frame.specs.declared.item.Item.{Item}
 use Rattle.ff_frame.specs.declared.item.Lane.{Lane}
-use Rattle.ff_frame.specs.Stream.{Stream, still_open, LiesBelow}
+use Rattle.ff_frame.specs.Stream.{still_open, LiesBelow}
 use Rattle.ff_frame.specs.Items.{with_item}
-use Rattle.ff_frame.specs.Order.{below_self, below_both, nothing_below, below_trans, with_item_above, all_trans, prefix_self}
-use Rattle.ff_frame.specs.Ports.{nothing, stream_at, AllBelow, IsClosed}
+use Rattle.ff_frame.specs.Order.{below_self, below_both, nothing_below, with_item_above, all_trans, prefix_self}
+use Rattle.ff_frame.specs.Ports.{nothing, stream_at, AllBelow}
 use Rattle.ff_frame.specs.LaneLaws.{valid_below, valid_front}
-use Rattle.ff_frame.specs.Lanes.{IsValid}
 use Rattle.ff_net.specs.Ways.{Flow, lane_at, IsValidOn, AreValid, with_item_at}
-use Rattle.ff_net.specs.Pasts.{Past, IsIn, due, cut_to, fed}
+use Rattle.ff_net.specs.Pasts.{Past, due, cut_to, fed}
 
 pub stream_at-with_item_same : (ss : List Flow) (p : ℕ) (x : Item) → stream_at (with_item_at ss p x) p ≡ with_item (stream_at ss p) x
 stream_at-with_item_same [] zero x = refl

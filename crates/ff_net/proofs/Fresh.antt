@@ -1,5 +1,5 @@
 -- How a node begins.
-use Rattle.std.proofs.Common.{◌≡◌, ℕ, zero, suc, ◌<◌, Bool, true, false, List, [], ◌∷◌, map, length, refl, ap, sym, ◌∙◌, subst, arith, inl, Option, None, Some}
+use Rattle.std.proofs.Common.{◌≡◌, ℕ, zero, suc, ◌<◌, Bool, false, List, [], ◌∷◌, map, length, refl, ap, sym, ◌∙◌, subst, arith, inl, Option, None, Some}
 use Rattle.ff_frame.specs.Order.{below_self}
 use Rattle.ff_frame.specs.Ports.{nothing}
 use Rattle.ff_net.specs.declared.fault.Fault.{Fault}

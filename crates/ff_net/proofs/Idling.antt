@@ -1,8 +1,8 @@
 -- Where nothing moved.
-use Rattle.std.proofs.Common.{◌≡◌, ◌≢◌, ℕ, zero, suc, ◌<◌, ◌⊎◌, inl, inr, Bool, true, false, List, [], ◌∷◌, length, refl, ap, sym, ◌∙◌, subst, arith, Option, None, Some, is_some}
+use Rattle.std.proofs.Common.{◌≡◌, ℕ, zero, suc, ◌<◌, ◌⊎◌, inl, inr, Bool, true, false, List, [], ◌∷◌, length, refl, ap, sym, ◌∙◌, subst, arith, Option, None, Some, is_some}
 use Rattle.ff_frame.specs.declared.item.Item.{Item}
 use Rattle.ff_frame.specs.declared.item.Lane.{Lane}
-use Rattle.ff_frame.specs.Stream.{still_open, LiesBelow}
+use Rattle.ff_frame.specs.Stream.{LiesBelow}
 use Rattle.ff_frame.specs.Items.{with_item}
 use Rattle.ff_frame.specs.Order.{below_both, with_item_above}
 use Rattle.ff_frame.specs.Ports.{stream_at, AllBelow, IsClosed}
@@ -12,7 +12,7 @@ use Rattle.ff_net.specs.declared.ports.InPort.{InPort}
 use Rattle.ff_net.specs.declared.ports.OutPort.{OutPort}
 use Rattle.ff_net.specs.declared.wires.Wires.{Wires}
 use Rattle.ff_net.specs.Ways.{Flow}
-use Rattle.ff_net.specs.Pasts.{Past, IsIn, due}
+use Rattle.ff_net.specs.Pasts.{Past, due}
 use Rattle.ff_net.specs.Laws.{OutputsClose}
 use Rattle.ff_net.specs.Ports.{in_at, out_at, AreDone, SomeHeld, NoneHeld}
 use Rattle.ff_net.specs.Worlds.{Wire, IsFull, IsEmpty}
@@ -95,9 +95,9 @@ module _ {M : Type 0} (in_lanes out_lanes : M → List Lane) (source : M → Opt
           elim (i.reason (ins p plt) ok) [
             | inl c ↦ closed_spent node.machine past p was.machine (subst (λ (n : ℕ). p < n) ins_count plt) (subst (λ (s : Flow). IsClosed s) (sym (i.exact ok.0)) c)
             | inr may ↦ elim (may.1) [
-                | inl c ↦ absurd (closes (subst (λ (n : ℕ). OutputsClose n past) outs_count c))
-                | inr d ↦ absurd (true_not_false (sym (d q lt) ∙ busy))
-              ]
+              | inl c ↦ absurd (closes (subst (λ (n : ℕ). OutputsClose n past) outs_count c))
+              | inr d ↦ absurd (true_not_false (sym (d q lt) ∙ busy))
+            ]
           ]
 
   room : Waits fault node wires → (q : ℕ) → IsDue fault node world past q → IsFull wires (out_at node.outs.items q).wire
@@ -122,9 +122,9 @@ module _ {M : Type 0} (in_lanes out_lanes : M → List Lane) (source : M → Opt
   refusal (with_items ok s h) = full s.place s.there (h s.place s.there s.goes_on s.held)
   refusal (for_items ok n h) = elim (find_busy_in node.ins.items) [
     | inl ins ↦ elim (find_busy node.outs.items) [
-        | inl all ↦ absurd (not_done (record { ins = ins; outs = all }))
-        | inr b ↦ elim (rests.ungranted ok n b.0 b.1 b.2) [ inl none ↦ absurd (stuck ok n ins none b.0 b.1 b.2) | inr max ↦ no_place max ]
-      ]
+      | inl all ↦ absurd (not_done (record { ins = ins; outs = all }))
+      | inr b ↦ elim (rests.ungranted ok n b.0 b.1 b.2) [ inl none ↦ absurd (stuck ok n ins none b.0 b.1 b.2) | inr max ↦ no_place max ]
+    ]
     | inr b ↦ empty b.0 b.1 (h b.0 b.1 b.2)
   ]
 

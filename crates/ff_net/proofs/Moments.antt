@@ -1,23 +1,22 @@
 -- From moment to moment.
-use Rattle.std.proofs.Common.{◌≡◌, ◌≢◌, ℕ, zero, suc, ◌<◌, ◌==◌, inl, inr, Bool, true, false, if◌then◌else◌, List, [], ◌∷◌, ◌++◌, refl, ap, sym, ◌∙◌, subst, arith, Option}
+use Rattle.std.proofs.Common.{◌≡◌, ◌≢◌, ℕ, ◌==◌, inl, inr, Bool, true, false, if◌then◌else◌, List, [], ◌∷◌, ◌++◌, refl, ap, sym, ◌∙◌, subst, arith, Option}
 use Rattle.std.proofs.lemmas.Bool.Decides.{nat_tests}
-use Rattle.std.proofs.lemmas.List.{append_cancel_left}
 use mathlib.Core.List.{IsPrefix}
 use Rattle.ff_frame.specs.declared.item.Item.{Item}
 use Rattle.ff_frame.specs.declared.item.Item.TheVariants.{Audio, Packet, End, Broken}
 use Rattle.ff_frame.specs.declared.item.Lane.{Lane}
 use Rattle.ff_frame.specs.declared.item.Ticket.{Ticket}
-use Rattle.ff_frame.specs.Stream.{Mark, still_open, whole, broken, LiesBelow}
+use Rattle.ff_frame.specs.Stream.{still_open, whole, broken, LiesBelow}
 use Rattle.ff_frame.specs.Items.{with_item}
 use Rattle.ff_frame.specs.Order.{below_self, below_both, below_trans, prefix_self, prefix_trans, prefix_both}
 use Rattle.ff_net.specs.declared.fault.Fault.{Fault}
 use Rattle.ff_net.specs.declared.node.Node.{Node}
 use Rattle.ff_net.specs.declared.wires.Wires.{Wires}
 use Rattle.ff_net.specs.Ways.{Flow}
-use Rattle.ff_net.specs.Pasts.{Past, IsIn}
-use Rattle.ff_net.specs.Worlds.{Wire, Stand, with_wire}
+use Rattle.ff_net.specs.Pasts.{Past}
+use Rattle.ff_net.specs.Worlds.{Wire, with_wire}
 use Rattle.ff_net.specs.Nodes.{NodeStands, in_wires_of, out_wires_of}
-use Rattle.ff_net.specs.Steps.{Course, Moves, took, put, finished, granted, told, Later, Stepped}
+use Rattle.ff_net.specs.Steps.{Course, Moves, took, put, finished, granted, told, Stepped}
 use Rattle.ff_net.proofs.Flows.{same_or_not}
 
 pub with_wire_same : (world : ℕ → Wire) (w : ℕ) (wire : Wire) (v : ℕ) → v ≡ w → with_wire world w wire v ≡ wire

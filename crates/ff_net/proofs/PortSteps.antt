@@ -1,20 +1,18 @@
 -- One port changes, and the others stay.
-use Rattle.std.proofs.Common.{◌≡◌, ◌≢◌, ℕ, zero, suc, ◌<◌, ◌≤◌, ◌⊎◌, inl, inr, Bool, true, false, List, [], ◌∷◌, map, length, slice_index_or, slice_set, refl, ap, sym, ◌∙◌, subst, arith, get_or-set_same, get_or-set_other, Option, None, Some}
-use Rattle.std.proofs.lemmas.List.{length-set, length-map, get_or_default}
-use Rattle.ff_frame.specs.declared.item.Item.{Item}
+use Rattle.std.proofs.Common.{◌≡◌, ◌≢◌, ℕ, zero, suc, ◌<◌, ◌≤◌, inl, inr, Bool, true, false, List, [], ◌∷◌, map, length, slice_index_or, slice_set, refl, ap, sym, ◌∙◌, subst, arith, get_or-set_same, get_or-set_other, Option, Some}
+use Rattle.std.proofs.lemmas.List.{length-set, length-map}
 use Rattle.ff_frame.specs.declared.item.Lane.{Lane}
-use Rattle.ff_frame.specs.Stream.{still_open, LiesBelow, opened}
-use Rattle.ff_frame.specs.Ports.{nothing, stream_at, IsClosed}
+use Rattle.ff_frame.specs.Stream.{LiesBelow, opened}
+use Rattle.ff_frame.specs.Ports.{stream_at, IsClosed}
 use Rattle.ff_net.specs.declared.fault.Fault.{Fault}
 use Rattle.ff_net.specs.declared.ports.InPort.{InPort}
 use Rattle.ff_net.specs.declared.ports.OutPort.{OutPort}
 use Rattle.ff_net.specs.declared.node.Node.{Node}
 use Rattle.ff_net.specs.Ways.{Flow, lane_at}
 use Rattle.ff_net.specs.Pasts.{Past, IsIn}
-use Rattle.ff_net.specs.Laws.{OutputsClose}
-use Rattle.ff_net.specs.Ports.{in_at, out_at, in_wires, out_wires, AreDone}
+use Rattle.ff_net.specs.Ports.{in_at, out_at, in_wires, out_wires}
 use Rattle.ff_net.specs.Worlds.{Wire}
-use Rattle.ff_net.specs.Nodes.{tickets, HeldIs, FedAllButOne, OutStands, InStands, IsSound, MayClose, NodeStands, AreApart, HaveLanes}
+use Rattle.ff_net.specs.Nodes.{tickets, HeldIs, FedAllButOne, OutStands, InStands, IsSound, MayClose, NodeStands, HaveLanes}
 use Rattle.ff_net.proofs.Flows.{same_or_not, there_lane}
 
 pub in_wire_at : (ports : List InPort) (p : ℕ) → slice_index_or (in_wires ports) p 0 ≡ (in_at ports p).wire

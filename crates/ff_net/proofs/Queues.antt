@@ -1,5 +1,5 @@
 -- One wire changes, and the others stay.
-use Rattle.std.proofs.Common.{◌≡◌, ◌≢◌, ℕ, zero, suc, ◌<◌, ◌==◌, Bool, true, false, if◌then◌else◌, List, [], ◌∷◌, ◌++◌, map, length, slice_index_or, slice_set, refl, ap, sym, ◌∙◌, subst, arith, get_or-set_same, get_or-set_other, Option, None, Some}
+use Rattle.std.proofs.Common.{◌≡◌, ◌≢◌, ℕ, zero, suc, ◌<◌, ◌==◌, Bool, true, false, if◌then◌else◌, List, [], ◌∷◌, ◌++◌, length, slice_index_or, slice_set, refl, ap, sym, ◌∙◌, subst, arith, get_or-set_same, get_or-set_other, Option, None, Some}
 use Rattle.std.proofs.lemmas.List.{length-set, length-map}
 use Rattle.std.proofs.lemmas.Bool.Decides.{nat_tests}
 use Rattle.ff_frame.specs.declared.item.Item.{Item}
@@ -10,7 +10,7 @@ use Rattle.ff_frame.specs.Order.{leads_below, leads_push, below_self}
 use Rattle.ff_frame.specs.Ports.{nothing}
 use Rattle.ff_frame.specs.LaneLaws.{nothing_valid}
 use Rattle.ff_net.specs.declared.wires.Queue.{Queue}
-use Rattle.ff_net.specs.Ways.{Flow, lane_at, IsValidOn}
+use Rattle.ff_net.specs.Ways.{lane_at, IsValidOn}
 use Rattle.ff_net.specs.Worlds.{Wire, fresh, QueueStands, QueuesStand, lanes_in, with_wire, put_on, take_on, finish_on}
 
 -- a queue that changes and keeps its lane

@@ -1,22 +1,19 @@
 -- What a node is ready for.
-use Rattle.std.proofs.Common.{◌≡◌, ◌≢◌, ℕ, ◌-◌, ◌^◌, ◌<◌, ◌≤◌, ◌⊎◌, inl, inr, Bool, true, false, List, length, refl, ap, sym, ◌∙◌, subst, Option, None, Some, is_some, IsSome, slice_index_or}
+use Rattle.std.proofs.Common.{◌≡◌, ℕ, ◌-◌, ◌^◌, ◌<◌, ◌≤◌, ◌⊎◌, inl, inr, Bool, true, false, List, length, refl, ap, sym, ◌∙◌, subst, Option, None, Some, is_some, IsSome, slice_index_or}
 use Rattle.ff_frame.specs.declared.item.Item.{Item}
 use Rattle.ff_frame.specs.declared.item.Lane.{Lane}
-use Rattle.ff_frame.specs.Stream.{still_open, LiesBelow}
 use Rattle.ff_frame.specs.Order.{closed_below}
-use Rattle.ff_frame.specs.Ports.{stream_at, IsClosed}
+use Rattle.ff_frame.specs.Ports.{stream_at}
 use Rattle.ff_net.specs.declared.fault.Fault.{Fault}
 use Rattle.ff_net.specs.declared.ports.OutPort.{OutPort}
 use Rattle.ff_net.specs.declared.node.Node.{Node}
 use Rattle.ff_net.specs.Ways.{Flow}
-use Rattle.ff_net.specs.Pasts.{Past, IsIn, due}
+use Rattle.ff_net.specs.Pasts.{Past, due}
 use Rattle.ff_net.specs.Laws.{IsPending, AllAsked}
 use Rattle.ff_net.specs.Ports.{out_at, out_wires, SomeHeld, NoneHeld}
 use Rattle.ff_net.specs.Worlds.{Wire}
 use Rattle.ff_net.specs.Nodes.{HeldIs, IsSound, IsSame, NodeStands, out_wires_of}
-use Rattle.ff_net.specs.Steps.{Course, Moves, Readies, Grants, IsDue, Rests, Prepares}
-use Rattle.ff_net.proofs.Flows.{due_same}
-use Rattle.ff_net.proofs.Moments.{then_moves}
+use Rattle.ff_net.specs.Steps.{Readies, IsDue, Rests}
 use Rattle.ff_net.proofs.PortSteps.{out_wire_at}
 use Rattle.ff_net.proofs.Changes.{true_not_false, busy_goes_on}
 
@@ -88,10 +85,10 @@ module _ {M : Type 0} (source : M → Option ℕ) (fault : M → Option Fault) (
         elim back [
           | inl a ↦ inl a
           | inr rest ↦ elim rest [
-              | inl h ↦ elim (some_source (source node.machine)) [
-                  | inl a ↦ inl a
-                  | inr is ↦ absurd (no_ticket node world past old before was ok count none f q lt busy is h)
-                ]
-              | inr full ↦ inr full
+            | inl h ↦ elim (some_source (source node.machine)) [
+              | inl a ↦ inl a
+              | inr is ↦ absurd (no_ticket node world past old before was ok count none f q lt busy is h)
             ]
+            | inr full ↦ inr full
+          ]
         ]

@@ -1,18 +1,17 @@
 -- Steps at one port after another.
-use Rattle.std.proofs.Common.{◌≡◌, ◌≢◌, ℕ, zero, suc, ◌+◌, ◌<◌, ◌≤◌, ◌⊎◌, inl, inr, Bool, true, false, ◌||◌, List, [], ◌∷◌, map, length, refl, ap, sym, ◌∙◌, subst, arith, Option, None, Some, is_some}
+use Rattle.std.proofs.Common.{◌≡◌, ◌≢◌, ℕ, ◌+◌, ◌<◌, ◌⊎◌, inl, inr, Bool, true, false, ◌||◌, List, length, refl, ap, sym, ◌∙◌, subst, arith, Option}
 use Rattle.ff_frame.specs.declared.item.Lane.{Lane}
 use Rattle.ff_frame.specs.Ports.{stream_at}
 use Rattle.ff_net.specs.declared.fault.Fault.{Fault}
-use Rattle.ff_net.specs.declared.ports.InPort.{InPort}
 use Rattle.ff_net.specs.declared.ports.OutPort.{OutPort}
 use Rattle.ff_net.specs.declared.node.Node.{Node}
 use Rattle.ff_net.specs.declared.wires.Wires.{Wires}
-use Rattle.ff_net.specs.Ways.{Flow, lane_at}
-use Rattle.ff_net.specs.Pasts.{Past, IsIn, due}
-use Rattle.ff_net.specs.Ports.{in_at, out_at, AreDone, SomeHeld, NoneHeld, out_wires, in_wires}
-use Rattle.ff_net.specs.Worlds.{Wire, Stand, lanes_of}
-use Rattle.ff_net.specs.Nodes.{IsSound, IsSame, IsShaped, HaveLanes, NodeStands, in_wires_of, out_wires_of}
-use Rattle.ff_net.specs.Steps.{Course, Moves, Acts, Readies, Stepped}
+use Rattle.ff_net.specs.Ways.{Flow}
+use Rattle.ff_net.specs.Pasts.{Past, due}
+use Rattle.ff_net.specs.Ports.{out_at}
+use Rattle.ff_net.specs.Worlds.{Wire, lanes_of}
+use Rattle.ff_net.specs.Nodes.{IsSound, IsSame, IsShaped, HaveLanes, in_wires_of, out_wires_of}
+use Rattle.ff_net.specs.Steps.{Course, Acts, Readies, Stepped}
 use Rattle.ff_net.proofs.Flows.{same_or_not, due_same}
 use Rattle.ff_net.proofs.Moments.{moves_then, then_moves}
 use Rattle.ff_net.proofs.PortSteps.{in_count, out_count}

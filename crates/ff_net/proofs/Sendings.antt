@@ -1,25 +1,24 @@
 -- What is sent and fed is valid, and what was closed by what was fed stays closed.
-use Rattle.std.proofs.Common.{◌≡◌, ◌≢◌, ℕ, false, ◌<◌, inl, inr, List, length, refl, ap, sym, ◌∙◌, subst, Option, None, Some}
+use Rattle.std.proofs.Common.{◌≡◌, ℕ, false, ◌<◌, inl, inr, List, length, refl, sym, subst, Option, Some}
 use Rattle.ff_frame.specs.declared.item.Item.{Item}
 use Rattle.ff_frame.specs.declared.item.Item.TheVariants.{Broken}
 use Rattle.ff_frame.specs.declared.item.Lane.{Lane}
-use Rattle.ff_frame.specs.Stream.{still_open, LiesBelow}
+use Rattle.ff_frame.specs.Stream.{still_open}
 use Rattle.ff_frame.specs.Items.{with_item}
 use Rattle.ff_frame.specs.Order.{closed_below}
 use Rattle.ff_frame.specs.Ports.{stream_at, AllBelow, IsClosed, IsMonotone}
 use Rattle.ff_net.specs.declared.fault.Fault.{Fault}
-use Rattle.ff_net.specs.declared.ports.InPort.{InPort}
 use Rattle.ff_net.specs.declared.ports.OutPort.{OutPort}
 use Rattle.ff_net.specs.declared.node.Node.{Node}
 use Rattle.ff_net.specs.declared.wires.Wires.{Wires}
 use Rattle.ff_net.specs.Ways.{Flow, lane_at, IsValidOn, AreValid}
-use Rattle.ff_net.specs.Pasts.{Past, IsIn, due, fed}
+use Rattle.ff_net.specs.Pasts.{Past, due, fed}
 use Rattle.ff_net.specs.Laws.{OutputsClose}
 use Rattle.ff_net.specs.Ports.{in_at, out_at, AreDone}
 use Rattle.ff_net.specs.Worlds.{Wire, Stand, lanes_of, take_on}
-use Rattle.ff_net.specs.Nodes.{HeldIs, IsSound, MayClose, NodeStands, HaveLanes, in_wires_of, out_wires_of}
+use Rattle.ff_net.specs.Nodes.{HeldIs, MayClose, NodeStands, HaveLanes, in_wires_of, out_wires_of}
 use Rattle.ff_net.proofs.Flows.{valid_on_below, broken_valid_on, given_below, fed_valid, fed_above}
-use Rattle.ff_net.proofs.PortSteps.{out_lane, in_lane, out_ports_count, out_wire_there}
+use Rattle.ff_net.proofs.PortSteps.{out_lane, in_lane, out_wire_there}
 use Rattle.ff_net.proofs.Moments.{with_wire_same}
 
 module _ {M : Type 0} (source : M → Option ℕ) (fault : M → Option Fault) (stands : M → Past → Type 0) (node : Node M) (wires : Wires) (world : ℕ → Wire) (past : Past) (p : ℕ) (ins outs : List Lane)

@@ -1,5 +1,5 @@
 -- A turn from its parts.
-use Rattle.std.proofs.Common.{◌≡◌, ℕ, ◌⊎◌, inl, inr, Bool, true, false, ◌||◌, List, refl, ap, sym, ◌∙◌, subst, Option}
+use Rattle.std.proofs.Common.{◌≡◌, ℕ, inl, inr, Bool, true, false, ◌||◌, List, refl, sym, ◌∙◌, subst, Option}
 use Rattle.ff_frame.specs.declared.item.Lane.{Lane}
 use Rattle.ff_net.specs.declared.fault.Fault.{Fault}
 use Rattle.ff_net.specs.declared.node.Node.{Node}
@@ -9,8 +9,8 @@ use Rattle.ff_net.specs.declared.wires.Wires.{Wires}
 use Rattle.ff_net.specs.Pasts.{Past}
 use Rattle.ff_net.specs.Worlds.{Wire, Stand}
 use Rattle.ff_net.specs.Nodes.{IsSame, NodeStands, in_wires_of, out_wires_of}
-use Rattle.ff_net.specs.Steps.{Course, Moves, Acts, Rests, Turns, Later, Stepped}
-use Rattle.ff_net.specs.Turns.{Waits, IsIdle, Answers}
+use Rattle.ff_net.specs.Steps.{Course, Acts, Rests, Turns, Later, Stepped}
+use Rattle.ff_net.specs.Turns.{IsIdle, Answers}
 use Rattle.ff_net.proofs.Moments.{then_moves, course_trans}
 use Rattle.ff_net.proofs.Changes.{true_not_false, same_stands}
 use Rattle.ff_net.proofs.Rounds.{or_true, or_false}

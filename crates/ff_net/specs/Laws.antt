@@ -1,5 +1,5 @@
 -- The words of the laws of a machine.
-use Rattle.std.specs.Prelude.{◌≡◌, ℕ, ◌<◌, ◌≤◌, ◌+◌, ◌-◌, ◌^◌, min, ◌⊎◌, List, length, Option, None, Some}
+use Rattle.std.specs.Prelude.{◌≡◌, ℕ, ◌<◌, ◌≤◌, ◌+◌, ◌-◌, ◌^◌, min, List, Option, None, Some}
 use Rattle.ff_frame.specs.declared.item.Lane.{Lane}
 use Rattle.ff_frame.specs.Stream.{still_open}
 use Rattle.ff_frame.specs.Ports.{stream_at, AllBelow, IsClosed}

@@ -1,7 +1,9 @@
 pub mod Laws
+pub mod Nets
 pub mod Nodes
 pub mod Pasts
 pub mod Ports
+pub mod Serial
 pub mod Steps
 pub mod Turns
 pub mod Ways

@@ -15,7 +15,7 @@ use Rattle.ff_net.specs.Ways.{Flow, lane_at}
 use Rattle.ff_net.specs.Pasts.{Past, IsIn}
 use Rattle.ff_net.specs.Laws.{OutputsClose}
 use Rattle.ff_net.specs.Ports.{in_at, out_at, in_wires, out_wires, AreDone}
-use Rattle.ff_net.specs.Worlds.{Wire, Stand, lanes_of}
+use Rattle.ff_net.specs.Worlds.{Wire, lanes_of}
 
 -- what was sent, with the item that is held, is what the machine gave
 abbrev pub HeldIs : Option Item → Flow → Flow → Type 0

@@ -2,7 +2,7 @@
 use Rattle.std.specs.Prelude.{◌≡◌, ℕ, ◌⊎◌, Bool, List, [], ◌∷◌, ◌++◌, map, length, take, nat_le, cond, Option}
 use Rattle.ff_frame.specs.declared.item.Item.{Item}
 use Rattle.ff_frame.specs.declared.item.Ticket.{Ticket}
-use Rattle.ff_frame.specs.Stream.{Stream, still_open}
+use Rattle.ff_frame.specs.Stream.{still_open}
 use Rattle.ff_net.specs.declared.fault.Fault.{Fault}
 use Rattle.ff_net.specs.Ways.{Flow, with_item_at}
 

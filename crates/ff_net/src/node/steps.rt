@@ -8,7 +8,10 @@ ghost use Rattle.ff_net.specs.Worlds.{IsFull, IsEmpty};
 
 use crate::machine::Machine;
 use crate::node::Node;
-use crate::ports::{all_out_done, close_out, finish_in, hold, holds_item, in_done, in_wire, out_done, out_wire, take_held};
+use crate::ports::{
+    all_out_done, close_out, finish_in, hold, holds_item, in_done, in_wire, out_done, out_wire,
+    take_held,
+};
 use crate::wires::{Put, Take, Wires};
 use ff_frame::{Item, Ticket};
 

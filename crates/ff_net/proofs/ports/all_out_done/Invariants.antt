@@ -1,4 +1,4 @@
-use Rattle.std.proofs.Common.{◌≡◌, ◌<◌, ℕ, length, true}
+use Rattle.std.proofs.Common.{◌≡◌, ◌<◌, ℕ, true}
 use Rattle.ff_net.specs.Ports.{out_at}
 use Rattle.ff_net.proofs.ports.all_out_done.Given as goal
 

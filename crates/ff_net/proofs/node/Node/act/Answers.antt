@@ -1,5 +1,4 @@
-use Rattle.std.proofs.Common.{◌≡◌, true, false, refl, sym, ◌∙◌, Option, None, is_some, ap}
-use Rattle.ff_net.specs.declared.fault.Fault.{Fault}
+use Rattle.std.proofs.Common.{true, false, sym, ◌∙◌}
 use Rattle.ff_net.specs.Nodes.{IsSound}
 use Rattle.ff_net.proofs.Acting.{unready, turn_after, none_if_not_some, some_is_faulty}
 use Rattle.ff_net.proofs.node.Node.act.Goals as goal

@@ -1,4 +1,4 @@
-use Rattle.std.proofs.Common.{◌≡◌, ◌+◌, ℕ, ◌∙◌, refl, ap, sym, subst, List, ◌++◌, ◌∷◌, [], Option, Some, add-one}
+use Rattle.std.proofs.Common.{◌≡◌, ◌+◌, ℕ, ◌∙◌, refl, ap, sym, List, ◌++◌, ◌∷◌, [], Option, Some, add-one}
 use Rattle.ff_frame.specs.declared.item.Ticket.{Ticket}
 use Rattle.ff_net.specs.Pasts.{was_allowed}
 use Rattle.ff_net.specs.Nodes.{tickets}

@@ -1,15 +1,14 @@
-use Rattle.std.proofs.Common.{◌≡◌, ◌<◌, ℕ, false, true, refl, sym, ◌∙◌, subst, ap, length, slice_set, List, inl, inr}
+use Rattle.std.proofs.Common.{◌≡◌, ◌<◌, ℕ, false, true, refl, sym, ◌∙◌, subst, ap, length, inl, inr}
 use Rattle.ff_frame.specs.declared.item.Item.TheVariants.{Broken}
 use Rattle.ff_frame.specs.Order.{prefix_self}
-use Rattle.ff_net.specs.declared.ports.OutPort.{OutPort}
 use Rattle.ff_net.specs.declared.wires.Wires.{Wires}
 use Rattle.ff_net.specs.Worlds.{Wire, Stand, put_on, lanes_of}
 use Rattle.ff_net.specs.Pasts.{was_stopped}
 use Rattle.ff_net.specs.Ports.{out_at, out_wires}
-use Rattle.ff_net.specs.Steps.{Moves, put, told as was_told}
+use Rattle.ff_net.specs.Steps.{put, told as was_told}
 use Rattle.ff_net.proofs.Moments.{with_wire_same, with_wire_keeps, with_item_new}
 use Rattle.ff_net.proofs.PortSteps.{out_wires_set, out_wire_there, out_wire_in}
-use Rattle.ff_net.proofs.Changes.{true_not_false, course_put, course_past, broke, told, busy_goes_on}
+use Rattle.ff_net.proofs.Changes.{course_put, course_past, broke, told, busy_goes_on}
 use Rattle.ff_net.proofs.Queues.{finished_of, in_queues}
 use Rattle.ff_net.proofs.Sendings.{broken_valid}
 use Rattle.ff_net.proofs.node.Node.break_off.Goals as goal

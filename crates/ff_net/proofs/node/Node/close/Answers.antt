@@ -1,11 +1,11 @@
-use Rattle.std.proofs.Common.{◌≡◌, ◌<◌, ◌⊎◌, ℕ, false, true, refl, sym, ◌∙◌, subst, ap, length, slice_set, List, inl, inr}
-use Rattle.ff_frame.specs.Ports.{IsClosed, stream_at}
+use Rattle.std.proofs.Common.{◌≡◌, ◌<◌, ◌⊎◌, ℕ, false, refl, sym, ◌∙◌, subst, ap, length, inl, inr}
+use Rattle.ff_frame.specs.Ports.{IsClosed}
 use Rattle.ff_net.specs.Ways.{Flow}
 use Rattle.ff_net.specs.Worlds.{Wire, Stand, finish_on, lanes_of}
 use Rattle.ff_net.specs.Ports.{in_at, in_wires}
 use Rattle.ff_net.specs.Laws.{OutputsClose}
 use Rattle.ff_net.specs.Nodes.{IsSound, MayClose}
-use Rattle.ff_net.specs.Steps.{Moves, finished}
+use Rattle.ff_net.specs.Steps.{finished}
 use Rattle.ff_net.proofs.Moments.{with_wire_same, with_wire_keeps}
 use Rattle.ff_net.proofs.PortSteps.{in_wires_set, in_wire_there, in_wire_in, out_ports_count}
 use Rattle.ff_net.proofs.Changes.{course_finish, closed}
@@ -38,9 +38,9 @@ returns-clause-stepped g c =
           let why : IsSound m.fault_of node → IsClosed (world old.wire).taken ⊎ MayClose node past =
           λ s. elim (c.if-not-may_finish.ensures.why refl s) [
             | inl spent ↦ elim (laws.spent_only node.machine past p was.machine spent) [
-                | inl c ↦ inl (subst (λ (t : Flow). IsClosed t) (i.exact s.0) c)
-                | inr o ↦ inr (subst (λ (n : ℕ). 0 < n) (sym count) o.0, inl (subst (λ (n : ℕ). OutputsClose n past) (sym count) o.1))
-              ]
+              | inl c ↦ inl (subst (λ (t : Flow). IsClosed t) (i.exact s.0) c)
+              | inr o ↦ inr (subst (λ (n : ℕ). 0 < n) (sym count) o.0, inl (subst (λ (n : ℕ). OutputsClose n past) (sym count) o.1))
+            ]
             | inr d ↦ inr (d.0, inr d.1)
           ] in record {
             now = finish_on world old.wire;

@@ -1,13 +1,11 @@
-use Rattle.std.proofs.Common.{◌≡◌, ◌<◌, ◌+◌, ℕ, length, true, false, ◌||◌, refl, sym, ◌∙◌, ap, subst, arith, is_some, List, inl, inr}
+use Rattle.std.proofs.Common.{◌≡◌, ◌<◌, ℕ, length, true, ◌||◌, sym, ◌∙◌, ap, subst, arith, inl, inr}
 use Rattle.ff_net.specs.declared.ports.InPort.{InPort}
-use Rattle.ff_net.specs.declared.wires.Wires.{Wires}
 use Rattle.ff_net.specs.Ports.{in_at, AreDone}
-use Rattle.ff_net.specs.Steps.{Stepped, Acts}
-use Rattle.ff_net.specs.Worlds.{IsEmpty}
+use Rattle.ff_net.specs.Steps.{Acts}
 use Rattle.ff_net.specs.Nodes.{IsSound}
 use Rattle.ff_net.proofs.Flows.{same_or_not}
 use Rattle.ff_net.proofs.Moments.{stepped_then}
-use Rattle.ff_net.proofs.Rounds.{acts_join, or_false, same_trans, shaped_later, ins_kept, full_more}
+use Rattle.ff_net.proofs.Rounds.{acts_join, or_false, same_trans, shaped_later, ins_kept}
 use Rattle.ff_net.proofs.node.Node.close_all.Goals as goal
 
 pub loop-p-preserved : goal.loop-p-preserved

@@ -1,4 +1,4 @@
-use Rattle.std.proofs.Common.{◌≡◌, false, true, None, Some, Ok, is_some, refl, sym, ◌∙◌, ap, subst, inl, inr, ℕ, List, Option, get_or-set_same}
+use Rattle.std.proofs.Common.{◌≡◌, false, None, Some, Ok, refl, sym, ◌∙◌, ap, subst, inl, inr, ℕ, Option, get_or-set_same}
 use Rattle.ff_frame.specs.declared.item.Item.{Item}
 use Rattle.ff_frame.specs.Order.{prefix_self}
 use Rattle.ff_frame.specs.Ports.{stream_at}
@@ -7,7 +7,6 @@ use Rattle.ff_net.specs.declared.ports.OutPort.{OutPort}
 use Rattle.ff_net.specs.Pasts.{gave_item, was_asked, due}
 use Rattle.ff_net.specs.Laws.{GoesOn}
 use Rattle.ff_net.specs.Ports.{out_at, out_wires}
-use Rattle.ff_net.specs.Worlds.{Wire}
 use Rattle.ff_net.specs.Nodes.{HeldIs, tickets}
 use Rattle.ff_net.proofs.PortSteps.{out_wires_set}
 use Rattle.ff_net.proofs.Changes.{none_held, fault_back, true_not_false, course_past, busy_goes_on, fill_some, machine_step}

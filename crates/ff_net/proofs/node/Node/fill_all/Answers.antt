@@ -1,11 +1,9 @@
-use Rattle.std.proofs.Common.{◌≡◌, ◌≢◌, ◌<◌, ◌≤◌, ◌+◌, ℕ, length, true, false, None, ◌||◌, refl, sym, ◌∙◌, ap, subst, inl, inr, arith, Bool, is_some}
+use Rattle.std.proofs.Common.{◌≡◌, ◌≢◌, ◌<◌, ◌+◌, ℕ, length, false, None, ◌||◌, sym, ◌∙◌, ap, subst, inl, inr, arith, is_some}
 use Rattle.ff_net.specs.declared.ports.OutPort.{OutPort}
-use Rattle.ff_net.specs.declared.wires.Wires.{Wires}
-use Rattle.ff_net.specs.Ports.{out_at, SomeHeld}
+use Rattle.ff_net.specs.Ports.{out_at}
 use Rattle.ff_net.specs.Steps.{Stepped, Readies}
 use Rattle.ff_net.proofs.Flows.{same_or_not}
 use Rattle.ff_net.proofs.Moments.{stepped_then}
-use Rattle.ff_net.proofs.Changes.{true_not_false}
 use Rattle.ff_net.proofs.Rounds.{readies_join, or_true, or_false}
 use Rattle.ff_net.proofs.node.Node.fill_all.Goals as goal
 

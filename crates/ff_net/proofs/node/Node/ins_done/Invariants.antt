@@ -1,4 +1,4 @@
-use Rattle.std.proofs.Common.{◌≡◌, ◌<◌, ℕ, length, true}
+use Rattle.std.proofs.Common.{◌≡◌, ◌<◌, ℕ, true}
 use Rattle.ff_net.specs.Ports.{in_at}
 use Rattle.ff_net.proofs.node.Node.ins_done.Given as goal
 

@@ -1,13 +1,10 @@
-use Rattle.std.proofs.Common.{◌≡◌, ◌<◌, ℕ, length, true, false, refl, sym, ◌∙◌, ap, subst, inl, inr, Bool, List, Option, None, ◌⊎◌, ◌≤◌, ◌^◌, ◌-◌}
+use Rattle.std.proofs.Common.{◌≡◌, ◌<◌, ℕ, length, true, false, refl, sym, ◌∙◌, ap, subst, inl, inr, List, None, ◌≤◌, ◌^◌, ◌-◌}
 use Rattle.ff_frame.specs.Ports.{stream_at}
 use Rattle.ff_net.specs.declared.ports.OutPort.{OutPort}
-use Rattle.ff_net.specs.declared.node.Node.{Node}
 use Rattle.ff_net.specs.Ways.{Flow}
-use Rattle.ff_net.specs.Pasts.{Past, due}
-use Rattle.ff_net.specs.Ports.{out_at, NoneHeld, SomeHeld}
-use Rattle.ff_net.specs.Worlds.{Wire}
-use Rattle.ff_net.specs.Nodes.{IsSound}
-use Rattle.ff_net.specs.Steps.{Stepped, Prepares, Readies, Grants}
+use Rattle.ff_net.specs.Pasts.{due}
+use Rattle.ff_net.specs.Ports.{out_at, NoneHeld}
+use Rattle.ff_net.specs.Steps.{Prepares}
 use Rattle.ff_net.proofs.Flows.{due_same}
 use Rattle.ff_net.proofs.Moments.{stepped_then, stepped_through, then_moves, moves_then}
 use Rattle.ff_net.proofs.Changes.{true_not_false}

@@ -1,4 +1,4 @@
-use Rattle.std.proofs.Common.{◌≡◌, ◌<◌, ℕ, false, true, refl, sym, ◌∙◌, subst, ap, length, List, inl, inr}
+use Rattle.std.proofs.Common.{◌≡◌, ◌<◌, ℕ, false, true, refl, sym, ◌∙◌, subst, ap, length, inl, inr}
 use Rattle.ff_frame.specs.Stream.{still_open}
 use Rattle.ff_frame.specs.Items.{with_item}
 use Rattle.ff_frame.specs.Ports.{stream_at}
@@ -7,7 +7,7 @@ use Rattle.ff_net.specs.Ways.{Flow}
 use Rattle.ff_net.specs.Worlds.{Wire, Stand, take_on, lanes_of}
 use Rattle.ff_net.specs.Pasts.{fed}
 use Rattle.ff_net.specs.Ports.{in_at}
-use Rattle.ff_net.specs.Steps.{Moves, took as has_taken}
+use Rattle.ff_net.specs.Steps.{took as has_taken}
 use Rattle.ff_net.proofs.Flows.{stream_at-with_item_same, stream_at-with_item_other}
 use Rattle.ff_net.proofs.Moments.{with_wire_same, with_item_new}
 use Rattle.ff_net.proofs.PortSteps.{in_wire_there, in_wire_in}

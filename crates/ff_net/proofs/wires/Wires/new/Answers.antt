@@ -1,9 +1,9 @@
-use Rattle.std.proofs.Common.{◌≡◌, ◌∙◌, ℕ, ◌<◌, List, [], ◌∷◌, ◌++◌, length, slice_index_or, ap, refl, subst, sym}
+use Rattle.std.proofs.Common.{◌∙◌, ℕ, ◌<◌, List, [], ◌∷◌, ◌++◌, length, slice_index_or, ap, refl, subst, sym}
 use Rattle.std.proofs.lemmas.List.{map-append}
 use Rattle.ff_frame.specs.declared.item.Lane.{Lane}
 use Rattle.ff_net.specs.declared.wires.Queue.{Queue}
 use Rattle.ff_net.specs.Worlds.{QueueStands, fresh, lanes_in}
-use Rattle.ff_net.proofs.Queues.{queue_fresh, each_push, queues_fresh}
+use Rattle.ff_net.proofs.Queues.{queue_fresh, each_push}
 use Rattle.ff_net.proofs.wires.Wires.new.Goals as goal
 
 pub loop-lane-preserved : goal.loop-lane-preserved
