@@ -49,12 +49,12 @@ broken_valid_on [] p s t lt e v = absurd (omega arith)
 broken_valid_on (l ∷ ls) zero s t lt e v = valid_front l t s (subst (λ (xs : List Item). IsPrefix t.items xs) e (prefix_self t.items)) v
 broken_valid_on (l ∷ ls) (suc p) s t lt e v = broken_valid_on ls p s t (omega arith) e v
 
-take_front : (n : ℕ) (xs : List Item) → IsPrefix (take n xs) xs
+pub take_front : (n : ℕ) (xs : List Item) → IsPrefix (take n xs) xs
 take_front zero xs = (xs, refl)
 take_front (suc n) [] = ([], refl)
 take_front (suc n) (x ∷ xs) = let r = take_front n xs in (r.0, ap (λ (ys : List Item). x ∷ ys) r.1)
 
-take_whole : (n : ℕ) (xs : List Item) → length xs ≤ n → take n xs ≡ xs
+pub take_whole : (n : ℕ) (xs : List Item) → length xs ≤ n → take n xs ≡ xs
 take_whole zero [] le = refl
 take_whole (suc n) [] le = refl
 take_whole zero (x ∷ xs) le = absurd (omega arith)
