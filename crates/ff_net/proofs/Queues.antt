@@ -1,5 +1,5 @@
 -- One wire changes, and the others stay.
-use Rattle.std.proofs.Common.{◌≡◌, ◌≢◌, ℕ, zero, suc, ◌<◌, ◌==◌, Bool, true, false, if◌then◌else◌, List, [], ◌∷◌, ◌++◌, length, slice_index_or, slice_set, refl, ap, sym, ◌∙◌, subst, arith, get_or-set_same, get_or-set_other, Option, None, Some}
+use Rattle.std.proofs.Common.{All, ◌≡◌, ◌≢◌, ℕ, zero, suc, ◌<◌, ◌==◌, Bool, true, false, if◌then◌else◌, List, [], ◌∷◌, ◌++◌, length, slice_index_or, slice_set, refl, ap, sym, ◌∙◌, subst, arith, get_or-set_same, get_or-set_other, Option, None, Some}
 use Rattle.std.proofs.lemmas.List.{length-set, length-map}
 use Rattle.std.proofs.lemmas.Bool.Decides.{nat_tests}
 use Rattle.ff_frame.specs.declared.item.Item.{Item}
@@ -11,7 +11,7 @@ use Rattle.ff_frame.specs.Ports.{nothing}
 use Rattle.ff_frame.specs.LaneLaws.{nothing_valid}
 use Rattle.ff_net.specs.declared.wires.Queue.{Queue}
 use Rattle.ff_net.specs.Ways.{lane_at, IsValidOn}
-use Rattle.ff_net.specs.Worlds.{Wire, fresh, QueueStands, QueuesStand, lanes_in, with_wire, put_on, take_on, finish_on}
+use Rattle.ff_net.specs.Worlds.{Wire, fresh, sizes_in, QueueStands, QueuesStand, lanes_in, with_wire, put_on, take_on, finish_on}
 
 -- a queue that changes and keeps its lane
 pub lanes_set : (queues : List Queue) (w : ℕ) (d new : Queue) → w < length queues → new.lane ≡ (slice_index_or queues w d).lane → lanes_in (slice_set queues w new) ≡ lanes_in queues
@@ -93,3 +93,16 @@ in_queues queues w lt = subst (λ (n : ℕ). w < n) (simp length-map) lt
 pub finished_of : (queues : List Queue) (world : ℕ → Wire) (w : ℕ) → QueuesStand queues world → w < length queues → ((d : Queue) → (slice_index_or queues w d).finished ≡ true) → (world w).finished ≡ true
 finished_of [] world w stands lt f = absurd (omega arith)
 finished_of (q ∷ qs) world w stands lt f = sym (stands.each w q lt).finished ∙ f q
+
+-- a queue that changes and keeps its size
+pub sizes_set : (queues : List Queue) (w : ℕ) (d new : Queue) → w < length queues → new.size ≡ (slice_index_or queues w d).size → sizes_in (slice_set queues w new) ≡ sizes_in queues
+sizes_set [] w d new lt e = absurd (omega arith)
+sizes_set (q ∷ qs) zero d new lt e = ap (λ (n : ℕ). n ∷ sizes_in qs) e
+sizes_set (q ∷ qs) (suc w) d new lt e = ap (λ (ns : List ℕ). q.size ∷ ns) (sizes_set qs w d new (omega arith) e)
+
+-- one number more at the end
+pub sizes_push : (size : ℕ) (queues : List Queue) (q : Queue) → All (λ n. n ≡ size) (sizes_in queues) → q.size ≡ size → All (λ n. n ≡ size) (sizes_in (queues ++ q ∷ []))
+sizes_push size [] q a e zero d lt = e
+sizes_push size [] q a e (suc k) d lt = absurd (omega arith)
+sizes_push size (r ∷ rs) q a e zero d lt = a zero d (omega arith)
+sizes_push size (r ∷ rs) q a e (suc k) d lt = sizes_push size rs q (λ j b less. a (suc j) b (omega arith)) e k d (omega arith)

@@ -31,6 +31,13 @@ lanes_in queues = map (λ q. q.lane) queues
 abbrev pub lanes_of : Wires → List Lane
 lanes_of wires = lanes_in wires.queues.items
 
+-- how many items each wire takes
+abbrev pub sizes_in : List Queue → List ℕ
+sizes_in queues = map (λ q. q.size) queues
+
+abbrev pub sizes_of : Wires → List ℕ
+sizes_of wires = sizes_in wires.queues.items
+
 pub record QueuesStand (queues : List Queue) (world : ℕ → Wire) : Type 0 where
   pub each : (w : ℕ) (d : Queue) → w < length queues → QueueStands (slice_index_or queues w d) (world w)
   pub ordered : (w : ℕ) → LiesBelow (world w).taken (world w).sent

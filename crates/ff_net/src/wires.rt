@@ -43,17 +43,18 @@ pub struct Wires {
 }
 
 impl Wires {
-    ghost use Rattle.std.specs.Prelude.{◌≡◌, ◌<◌, ℕ, length, false, true, IfOk};
+    ghost use Rattle.std.specs.Prelude.{◌≡◌, ◌<◌, ℕ, length, false, true, IfOk, All};
     ghost use Rattle.ff_frame.specs.Stream.{still_open};
     ghost use Rattle.ff_frame.specs.Items.{with_item};
     ghost use Rattle.ff_net.specs.Ways.{lane_at, IsValidOn};
-    ghost use Rattle.ff_net.specs.Worlds.{Wire, Stand, fresh, put_on, take_on, finish_on, lanes_of, IsFull, HasRoom, IsEmpty, IsFinished};
+    ghost use Rattle.ff_net.specs.Worlds.{Wire, Stand, fresh, put_on, take_on, finish_on, lanes_of, sizes_of, IsFull, HasRoom, IsEmpty, IsFinished};
 
     /// One wire for each lane, with room for so many items. Nothing was put, taken or finished.
     pub fn new(alloc: Global, lanes: Vec<Lane>, size: usize) -> Result<Wires, AllocError>
         requires { 1 ≤ size }
         ensures fresh { IfOk result (λ wires. Stand wires (λ w. fresh)) }
         ensures lanes { IfOk result (λ wires. lanes_of wires ≡ lanes.items) }
+        ensures sizes { IfOk result (λ wires. All (λ n. n ≡ size) (sizes_of wires)) }
     {
         let mut queues = Vec::new(alloc);
         for lane in lanes {
@@ -72,6 +73,7 @@ impl Wires {
     pub fn try_put(&mut self, wire: usize, item: Item) -> Put
         requires { wire < length (lanes_of self.old) }
         ensures lanes { lanes_of self.new ≡ lanes_of self.old }
+        ensures sizes { sizes_of self.new ≡ sizes_of self.old }
         ensures done { result ≡ Put.Done → (world : ℕ → Wire) → Stand self.old world → (world wire).sent.mark ≡ still_open → IsValidOn (lane_at (lanes_of self.old) wire) (with_item (world wire).sent item)
             → ((world wire).finished ≡ false) × Stand self.new (put_on world wire item) }
         ensures room { result ≡ Put.Done → HasRoom self.old wire }
@@ -94,6 +96,7 @@ impl Wires {
     pub fn try_take(&mut self, wire: usize) -> Take
         requires { wire < length (lanes_of self.old) }
         ensures lanes { lanes_of self.new ≡ lanes_of self.old }
+        ensures sizes { sizes_of self.new ≡ sizes_of self.old }
         ensures item { (x : _) → result ≡ Take.Item x → (world : ℕ → Wire) → Stand self.old world → ((world wire).taken.mark ≡ still_open) × Stand self.new (take_on world wire x) }
         ensures empty { result ≡ Take.Empty → (self.new ≡ self.old) × IsEmpty self.old wire }
     {
@@ -112,6 +115,7 @@ impl Wires {
     pub fn finish(&mut self, wire: usize)
         requires { wire < length (lanes_of self.old) }
         ensures lanes { lanes_of self.new ≡ lanes_of self.old }
+        ensures sizes { sizes_of self.new ≡ sizes_of self.old }
         ensures finished { (world : ℕ → Wire) → Stand self.old world → Stand self.new (finish_on world wire) }
     {
         self.queues[wire].finished = true;
