@@ -1,5 +1,5 @@
 -- One node takes a turn, and the others stand as they did.
-use Rattle.std.proofs.Common.{◌≡◌, ℕ, ◌<◌, inl, inr, List, length, slice_index_or, slice_set, refl, ap, sym, ◌∙◌, subst, get_or-set_same, get_or-set_other, Option}
+use Rattle.std.proofs.Common.{◌≡◌, ℕ, ◌<◌, inl, inr, List, length, slice_index_or, slice_set, refl, ap, sym, ◌∙◌, subst, get_or-set_same, get_or-set_other, Option, zero, suc, [], ◌∷◌, arith}
 use Rattle.std.proofs.lemmas.List.{length-set, get_or_default}
 use Rattle.ff_frame.specs.declared.item.Lane.{Lane}
 use Rattle.ff_frame.specs.Ports.{stream_at}
@@ -13,7 +13,8 @@ use Rattle.ff_net.specs.Ports.{in_at, out_at}
 use Rattle.ff_net.specs.Worlds.{Wire}
 use Rattle.ff_net.specs.Nodes.{NodeStands, IsShaped, HaveLanes, IsSound, MayClose, in_wires_of, out_wires_of}
 use Rattle.ff_net.specs.Steps.{Course, Stepped}
-use Rattle.ff_net.specs.Serial.{AreShaped, NetStands}
+use Rattle.ff_net.specs.Serial.{AreShaped, NetStands, part_of, parts_of}
+use Rattle.ff_net.specs.Nets.{Part}
 use Rattle.ff_net.proofs.Flows.{same_or_not}
 use Rattle.ff_net.proofs.PortSteps.{in_keep, out_keep, out_wire_in, in_wire_in}
 use Rattle.ff_net.proofs.Rounds.{shaped_later}
@@ -102,3 +103,20 @@ module _ {M : Type 0} (in_lanes out_lanes : M → List Lane) (source : M → Opt
                   )
             ];
       }
+
+  parts_set : (tasks : ℕ → Task) (ns : List (Node M)) (j : ℕ) (d : Node M) → j < length ns → ((task : Task) → part_of in_lanes out_lanes task new ≡ part_of in_lanes out_lanes task (slice_index_or ns j d)) → parts_of in_lanes out_lanes tasks (slice_set ns j new) ≡ parts_of in_lanes out_lanes tasks ns
+  parts_set tasks [] j d lt e = absurd (omega arith)
+  parts_set tasks (n ∷ ns) zero d lt e = ap (λ (p : Part). p ∷ parts_of in_lanes out_lanes (λ i. tasks (suc i)) ns) (e (tasks zero))
+  parts_set tasks (n ∷ ns) (suc j) d lt e = ap (λ (ps : List Part). part_of in_lanes out_lanes (tasks zero) n ∷ ps) (parts_set (λ i. tasks (suc i)) ns j d (omega arith) e)
+
+  part_kept : (task : Task) → part_of in_lanes out_lanes task new ≡ part_of in_lanes out_lanes task old
+  part_kept task =
+      let make : List Lane → List Lane → List ℕ → List ℕ → Part = λ is os ins outs. record { means = task.means; in_lanes = is; out_lanes = os; ins = ins; outs = outs } in
+      ap (λ (ls : List Lane). make ls (out_lanes new.machine) (in_wires_of new) (out_wires_of new)) step.in_lanes_same
+      ∙ (ap (λ (ls : List Lane). make (in_lanes old.machine) ls (in_wires_of new) (out_wires_of new)) step.out_lanes_same
+      ∙ (ap (λ (ws : List ℕ). make (in_lanes old.machine) (out_lanes old.machine) ws (out_wires_of new)) step.ins_same
+      ∙ ap (λ (ws : List ℕ). make (in_lanes old.machine) (out_lanes old.machine) (in_wires_of old) ws) step.outs_same))
+
+  -- the parts are those that they were
+  pub parts_kept : (tasks : ℕ → Task) → parts_of in_lanes out_lanes tasks (slice_set nodes k new) ≡ parts_of in_lanes out_lanes tasks nodes
+  parts_kept tasks = parts_set tasks nodes k old there (λ task. part_kept task ∙ ap (λ (n : Node M). part_of in_lanes out_lanes task n) (same_old old))

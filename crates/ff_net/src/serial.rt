@@ -6,6 +6,7 @@ ghost use Rattle.ff_net.specs.Laws.{IsOfInputs};
 ghost use Rattle.ff_net.specs.Nets.{IsUpward, solve};
 ghost use Rattle.ff_net.specs.Pasts.{Task, IsIn};
 ghost use Rattle.ff_net.specs.Nodes.{IsSound, IsDone, in_wires_of};
+ghost use Rattle.ff_net.specs.Worlds.{lanes_of};
 ghost use Rattle.ff_net.specs.Serial.{AreShaped, NetStands, Settled, parts_of};
 
 use crate::machine::Machine;
@@ -22,6 +23,8 @@ pub fn run_serial<M: Machine>(nodes: &mut [Node<M>], wires: &mut Wires, order: &
     requires shaped { AreShaped M.in_lanes M.out_lanes nodes.old wires.old }
     requires order { (i : ℕ) (d : ℕ) → i < length order.now → slice_index_or order.now i d < length nodes.old }
     ensures shaped { AreShaped M.in_lanes M.out_lanes nodes.new wires.new }
+    ensures lanes { lanes_of wires.new ≡ lanes_of wires.old }
+    ensures parts { (tasks : ℕ → Task) → parts_of M.in_lanes M.out_lanes tasks nodes.new ≡ parts_of M.in_lanes M.out_lanes tasks nodes.old }
     ensures stands { (tasks : ℕ → Task) → NetStands M.source_of M.fault_of M.stands tasks nodes.old wires.old → NetStands M.source_of M.fault_of M.stands tasks nodes.new wires.new }
     ensures below { (tasks : ℕ → Task) → NetStands M.source_of M.fault_of M.stands tasks nodes.old wires.old → IsUpward [] (parts_of M.in_lanes M.out_lanes tasks nodes.new)
         → (net : NetStands M.source_of M.fault_of M.stands tasks nodes.new wires.new) × ((k : ℕ) (d : _) (w : ℕ) → k < length nodes.new → IsIn w (in_wires_of (slice_index_or nodes.new k d)) → LiesBelow (opened (net.world w).taken) (solve (parts_of M.in_lanes M.out_lanes tasks nodes.new) w)) }

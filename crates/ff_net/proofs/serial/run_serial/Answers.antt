@@ -1,7 +1,7 @@
-use Rattle.std.proofs.Common.{◌≡◌, ℕ, ◌<◌, length, slice_index_or, sym, subst}
+use Rattle.std.proofs.Common.{◌≡◌, ℕ, ◌<◌, length, slice_index_or, sym, subst, ◌∙◌}
 use Rattle.std.proofs.lemmas.List.{get_or_default}
 use Rattle.ff_net.specs.declared.node.Node.{Node}
-use Rattle.ff_net.proofs.NetSteps.{are_shaped_set, net_stands_set}
+use Rattle.ff_net.proofs.NetSteps.{are_shaped_set, net_stands_set, parts_kept}
 use Rattle.ff_net.proofs.Before.{before_of, cause_of}
 use Rattle.ff_net.proofs.Whole.{settled_of, opened_below_solution}
 use Rattle.ff_net.proofs.serial.run_serial.Goals as goal
@@ -22,6 +22,8 @@ loop-k-preserved g c =
     let m = g.M.Machine in
     let step = c.turn-turn.ensures.stepped in record {
       shaped = are_shaped_set m.in_lanes m.out_lanes m.source_of m.fault_of m.stands _ nodes c.loop-k.wires k old c.turn-turn.new.self c.turn-turn.new.wires there is c.loop-k.invariant.shaped step;
+      lanes = step.lanes_same ∙ c.loop-k.invariant.lanes;
+      parts = λ tasks. parts_kept m.in_lanes m.out_lanes m.source_of m.fault_of m.stands _ nodes c.loop-k.wires k old c.turn-turn.new.self c.turn-turn.new.wires there is c.loop-k.invariant.shaped step tasks ∙ c.loop-k.invariant.parts tasks;
       stands = λ tasks net. net_stands_set m.in_lanes m.out_lanes m.source_of m.fault_of m.stands _ nodes c.loop-k.wires k old c.turn-turn.new.self c.turn-turn.new.wires there is c.loop-k.invariant.shaped step tasks (c.loop-k.invariant.stands tasks net);
     }
 
