@@ -1,6 +1,6 @@
 -- What the calls of a link answer, and what they leave. A look at a queue leaves nothing in what its end knows, so each
 -- word that tells of one rests on a fact that only the look shows.
-use Rattle.std.specs.Prelude.{◌≡◌, ℕ, Some, [], ◌∷◌, ◌++◌}
+use Rattle.std.specs.Prelude.{◌≡◌, ℕ, Option, Some, None, Result, Ok, Err, [], ◌∷◌, ◌++◌}
 use Rattle.crossbeam_queue.specs.Fifo.{Held}
 use Rattle.ff_frame.specs.declared.item.Item.{Item}
 use Rattle.ff_link.specs.declared.answers.Put.{Put}
@@ -26,16 +26,30 @@ HandsBack x (Finished y n) = y ≡ x
 abbrev pub SawNoCount : Type 0
 SawNoCount = Held {T = ℕ} 0 (IsNext [])
 
+-- at one moment of the call the queue held as many of the sent items as it has room for
+abbrev pub SawFullAt : Sending → Type 0
+SawFullAt s = Held s.room (IsRest s.sent)
+
+-- what a look for the count leaves of the sender
+abbrev pub after_look_up : Sending → Option ℕ → Sending
+after_look_up s None = record s { up_looks = after_look s.up_looks }
+after_look_up s (Some n) = record s { told = Some n }
+
+-- what a push leaves of the sender
+abbrev pub after_push : Sending → Item → Result (Unit {0}) Item → Sending
+after_push s x (Ok u) = record s { sent = s.sent ++ x ∷ [] }
+after_push s x (Err y) = record s { full_looks = after_look s.full_looks }
+
 -- Done and Full, only where at one moment of the call the receiver hadn't finished
 abbrev pub SawUnfinished : Put → Type 0
 SawUnfinished Done = SawNoCount
 SawUnfinished (Full y) = SawNoCount
 SawUnfinished (Finished y n) = Unit {0}
 
--- Full, only where at one moment of the call the queue held as many of the sent items as it has room for
+-- Full, only where the queue was full
 abbrev pub SawFull : Sending → Put → Type 0
 SawFull s Done = Unit {0}
-SawFull s (Full y) = Held s.room (IsRest s.sent)
+SawFull s (Full y) = SawFullAt s
 SawFull s (Finished y n) = Unit {0}
 
 -- what a take leaves of the receiver

@@ -1,18 +1,20 @@
-ghost use Rattle.std.specs.Prelude.{◌≡◌, ◌≤◌, ◌+◌, ℕ, [], ◌∷◌, ◌++◌, length, Some, IfOk, IfSome};
+ghost use Rattle.std.specs.Prelude.{◌≡◌, ◌≤◌, ◌+◌, ℕ, [], ◌∷◌, ◌++◌, length, Some, IfSome, IfNone, IfErr, OnErr};
 ghost use mathlib.Core.List.{IsPrefix};
 ghost use Rattle.ff_link.specs.Sendings.{IsSending};
-ghost use Rattle.ff_link.specs.Views.{new_sender, new_receiver, ended};
+ghost use Rattle.ff_link.specs.Views.{ended};
 ghost use Rattle.ff_link.specs.Answers.{after_put, HandsBack, SawUnfinished, SawFull};
+ghost use Rattle.ff_link.specs.Answers.{after_look_up, SawNoCount, after_push, SawFullAt};
 ghost use Rattle.ff_link.specs.Answers.{after_take, TakesValid, SawEmpty};
 
 use crate::answers::{Put, Settled, Take};
-use crate::side::{
-    AllCounts, AllItems, Down, DownPass, Fixed, Hears, Puts, PutsHere, Takes, Up, UpPass, Whole,
-};
-use ff_frame::{Item, Lane};
-use std::alloc::{AllocError, Global};
-use std::marker::{Brand, Model};
+use crate::side::{AllCounts, AllItems, Down, DownPass, Hears, Puts, Takes, Up, UpPass, Whole};
+use ff_frame::Item;
+use std::marker::Model;
 use std::sync::{Arc, Wait};
+
+mod opening;
+
+pub use opening::link;
 
 /// The two queues of a link: the items go down, and the receiver's count comes up.
 #[derive(Drop)]
@@ -88,52 +90,6 @@ impl Model for Finished {
     ghost invariant = { IsFinished };
 }
 
-fn link_as<F: Fixed>(
-    alloc: Global,
-    size: usize,
-    lane: &Lane,
-) -> Result<(Sender, Receiver), AllocError>
-    requires size { (1 ≤ size) × (size ≤ 1024) }
-    requires fixed { (lane.now ≡ F.lane) × (size ≡ F.room) }
-    ensures one_link { IfOk result (λ ends. ends.0.link ≡ ends.1.link) }
-    ensures sender { IfOk result (λ ends. ends.0 ≡ new_sender ends.0.link lane.now size) }
-    ensures receiver { IfOk result (λ ends. ends.1 ≡ new_receiver ends.1.link lane.now size) }
-{
-    let (down, mut sends) = Down::ruled(alloc, size)?;
-    let takes = down.another::<PutsHere<F>>(&mut sends);
-    let (up, mut tells) = Up::ruled(alloc, 1)?;
-    let hears = up.another::<PutsHere<F>>(&mut tells);
-    let queues = Arc::new(alloc, Queues { down, up })?;
-    let theirs = Arc::try_clone(&queues)?;
-    let sender = Sender {
-        queues,
-        down: sends,
-        up: hears,
-        told: None,
-        puts: 0,
-        full_looks: 0,
-        up_looks: 0,
-    };
-    let receiver = Receiver {
-        queues: theirs,
-        down: takes,
-        up: tells,
-        taken: 0,
-        empty_looks: 0,
-    };
-    Ok((sender, receiver))
-}
-
-/// The two ends of a new link for this lane, which holds at most `size` items. Nothing was sent or taken.
-pub fn link(alloc: Global, size: usize, lane: &Lane) -> Result<(Sender, Receiver), AllocError>
-    requires { (1 ≤ size) × (size ≤ 1024) }
-    ensures one_link { IfOk result (λ ends. ends.0.link ≡ ends.1.link) }
-    ensures sender { IfOk result (λ ends. ends.0 ≡ new_sender ends.0.link lane.now size) }
-    ensures receiver { IfOk result (λ ends. ends.1 ≡ new_receiver ends.1.link lane.now size) }
-{
-    link_as::<Brand>(alloc, size, lane)
-}
-
 impl Sender {
     /// How many items were put, a closing one among them.
     pub fn puts(&self) -> u64
@@ -167,14 +123,39 @@ impl Sender {
         ensures full { SawFull self.old result }
         ensures finished { (n : ℕ) → self.old.told ≡ Some n → result ≡ Put.Finished item n }
     {
+        if let Some(count) = self.heard(rt) {
+            return Put::Finished(item, count);
+        }
+        match self.push(rt, item) {
+            Ok(()) => Put::Done,
+            Err(item) => Put::Full(item),
+        }
+    }
+
+    // The count that the receiver sent up, from an earlier look or from one at the queue.
+    fn heard<R: Wait>(&mut self, rt: &R) -> Option<u64>
+        ensures after { self.new ≡ after_look_up self.old result }
+        ensures none { IfNone result SawNoCount }
+        ensures told { (n : ℕ) → self.old.told ≡ Some n → result ≡ Some n }
+    {
         if let Some(count) = self.told {
-            return Put::Finished(item, count);
+            return Some(count);
         }
-        if let Some(count) = self.queues.up.pop_as::<Hears, R>(rt, &mut self.up) {
-            self.told = Some(count);
-            return Put::Finished(item, count);
+        let found = self.queues.up.pop_as::<Hears, R>(rt, &mut self.up);
+        match found {
+            Some(count) => self.told = Some(count),
+            None => self.up_looks = self.up_looks.saturating_add(1),
         }
-        self.up_looks = self.up_looks.saturating_add(1);
+        found
+    }
+
+    // Puts an item, unless the queue is full.
+    fn push<R: Wait>(&mut self, rt: &R, item: Item) -> Result<(), Item>
+        requires { IsSending self.old.lane (self.old.sent ++ item ∷ []) }
+        ensures after { self.new ≡ after_push self.old item result }
+        ensures back { IfErr result (λ back. back ≡ item) }
+        ensures full { OnErr result (SawFullAt self.old) }
+    {
         match self
             .queues
             .down
@@ -182,11 +163,11 @@ impl Sender {
         {
             Ok(()) => {
                 self.puts += 1;
-                Put::Done
+                Ok(())
             }
             Err(item) => {
                 self.full_looks = self.full_looks.saturating_add(1);
-                Put::Full(item)
+                Err(item)
             }
         }
     }

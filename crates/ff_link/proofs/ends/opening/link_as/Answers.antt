@@ -2,7 +2,7 @@ use Rattle.std.proofs.Common.{rules}
 use Rattle.ff_link.specs.Flow.{IsSending, AnyCounts, no_lane}
 use Rattle.ff_link.proofs.Flows.{begins, forks}
 use Rattle.ff_link.proofs.Sendings.{nothing_sent}
-use Rattle.ff_link.proofs.ends.link_as.Goals as goal
+use Rattle.ff_link.proofs.ends.opening.link_as.Goals as goal
 
 pub ruled-requires-clause-rule : goal.ruled-requires-clause-rule
 ruled-requires-clause-rule g c = begins IsSending (nothing_sent no_lane)

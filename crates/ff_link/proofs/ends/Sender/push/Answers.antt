@@ -1,17 +1,14 @@
 use Rattle.std.proofs.Common.{arith, ap, ◌∙◌, sym, subst, ◌++◌, ◌∷◌, [], le_of_eq}
 use Rattle.crossbeam_queue.specs.Passes.{ruled_capacity}
-use Rattle.ff_link.specs.Flow.{IsSending, AnyCounts}
-use Rattle.ff_link.proofs.Flows.{hears, puts, sees_full, sees_empty}
+use Rattle.ff_link.specs.Flow.{IsSending}
+use Rattle.ff_link.proofs.Flows.{puts, sees_full}
 use Rattle.ff_link.proofs.Sendings.{count_few}
-use Rattle.ff_link.proofs.ends.Sender.try_put.Goals as goal
-
-pub pop_as-requires-clause-rule : goal.pop_as-requires-clause-rule
-pop_as-requires-clause-rule g c = (hears _ _ c.self.invariant.may_hear, sees_empty AnyCounts _ _ c.self.invariant.may_hear)
+use Rattle.ff_link.proofs.ends.Sender.push.Goals as goal
 
 pub push_as-requires-clause-rule : goal.push_as-requires-clause-rule
 push_as-requires-clause-rule g c = (
   puts IsSending _ _ _ _ c.self.invariant.may_put
-      (le_of_eq (λ i. (ap (λ q. ruled_capacity q.down) c.deref-2.ensures ∙ c.self.invariant.room) i))
+      (le_of_eq (λ i. (ap (λ q. ruled_capacity q.down) c.deref.ensures ∙ c.self.invariant.room) i))
       (subst (λ s. IsSending s.lane (s.sent ++ c.args.item ∷ [])) (sym c.self.view_is) c.requires),
   sees_full IsSending _ _ c.self.invariant.may_put,
 )
