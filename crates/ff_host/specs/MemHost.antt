@@ -4,7 +4,7 @@ use Rattle.ff_host.specs.Causes.{added}
 use Rattle.ff_host.specs.Files.{Files, bytes_at}
 use Rattle.ff_host.specs.MemEnds.{MemReading, MemWriting, new_reading, new_writing}
 use Rattle.ff_host.specs.Plan.{IsPlannedNext, numbers_of}
-use Rattle.ff_host.specs.QuietHost.{quiet_files}
+use Rattle.ff_host.specs.QuietHost.{quiet_files, quiet_sources, quiet_sinks}
 use Rattle.ff_host.specs.Tally.{marks_at}
 use Rattle.ff_host.specs.declared.mem_host.MemHost.{MemHost}
 use Rattle.ff_host.specs.declared.plan.FailAt.{FailAt}
@@ -28,6 +28,14 @@ in_faults_of host name = (marks_in host name).in_faults
 
 abbrev pub out_faults_of : MemHost → List ℕ → ℕ
 out_faults_of host name = (marks_in host name).out_faults
+
+-- how many of the sources that it opened were not given back
+abbrev pub open_sources_of : MemHost → ℕ
+open_sources_of host = quiet_sources host.inner
+
+-- how many of the sinks that it created were not given back
+abbrev pub open_sinks_of : MemHost → ℕ
+open_sinks_of host = quiet_sinks host.inner
 
 -- a source was opened on this name
 abbrev pub HasOpened : MemHost → List ℕ → Type 0

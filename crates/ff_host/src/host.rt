@@ -1,6 +1,7 @@
-ghost use Rattle.std.specs.Prelude.{◌≡◌, List, [], ℕ, Option, Some, IfOk, OnOk, OnErr, IsErrOf};
+ghost use Rattle.std.specs.Prelude.{◌≡◌, ◌-◌, List, [], ℕ, Option, Some, IfOk, OnOk, OnErr, IsErrOf};
 ghost use Rattle.ff_host.specs.Causes.{HasCause, HasCauseOf, added, SameElsewhere, SameCounts};
 ghost use Rattle.ff_host.specs.Files.{Files, KeepsFiles, PutsFile, GivesFile, HoldsNothing};
+ghost use Rattle.ff_host.specs.Opens.{CountsOpening};
 ghost use Rattle.ff_host.specs.declared.host.HostError.TheVariants.{NoMemory};
 
 use crate::sink::Sink;
@@ -27,6 +28,9 @@ impl From<AllocError> for HostError {
 /// What opens sources and creates sinks by name, and takes them back.
 ///
 /// Faults are counted by name and direction. A count stops at 2^64 - 1, and one that stands there is read as risen.
+///
+/// What was opened and not given back is counted too, exactly: where that count stands at 2^64 - 1, opening is refused
+/// for want of memory, since there is no room to count it.
 pub trait Host {
     /// What `open_source` gives.
     type Src: Source + Send + Drop;
@@ -49,9 +53,15 @@ pub trait Host {
     /// The names on which `create_sink` answered Ok: under these a sink may be closed.
     ghost created: { Self → List ℕ → Type 0 };
 
+    /// How many of the sources that it opened were not given back.
+    ghost open_sources: { Self → ℕ };
+
+    /// How many of the sinks that it created were not given back.
+    ghost open_sinks: { Self → ℕ };
+
     /// A source of the file, or of nothing where the name is not there. It makes the room that closing needs.
     ///
-    /// Want of memory changes nothing.
+    /// Want of memory changes nothing. It is also the answer where the count of open sources can't rise any more.
     fn open_source(&mut self, name: &str) -> Result<Self::Src, HostError>
         ensures source { IfOk result (λ src.
             (Self.Src.name src ≡ Some name.now) × GivesFile (files self.old) name.now (Self.Src.left src)) }
@@ -64,12 +74,16 @@ pub trait Host {
 
         ensures opened { OnOk result (opened self.new name.now) }
         ensures still_opened { (other : List ℕ) → opened self.old other → opened self.new other }
-        ensures still_created { (other : List ℕ) → created self.old other → created self.new other };
+        ensures still_created { (other : List ℕ) → created self.old other → created self.new other }
+
+        ensures open_sources { CountsOpening (open_sources self.old) (open_sources self.new) result }
+        ensures open_sinks { open_sinks self.new ≡ open_sinks self.old };
 
     /// Makes the file empty, also where it was there, and gives a sink that holds nothing. It makes the room that
     /// closing needs.
     ///
-    /// After a refusal the files are as they were. Want of memory changes nothing.
+    /// After a refusal the files are as they were. Want of memory changes nothing. It is also the answer where the count
+    /// of open sinks can't rise any more.
     fn create_sink(&mut self, name: &str) -> Result<Self::Snk, HostError>
         ensures sink { IfOk result (λ snk.
             (Self.Snk.name snk ≡ Some name.now) × HoldsNothing (files self.old) (Self.Snk.holds snk)) }
@@ -83,7 +97,10 @@ pub trait Host {
 
         ensures created { OnOk result (created self.new name.now) }
         ensures still_opened { (other : List ℕ) → opened self.old other → opened self.new other }
-        ensures still_created { (other : List ℕ) → created self.old other → created self.new other };
+        ensures still_created { (other : List ℕ) → created self.old other → created self.new other }
+
+        ensures open_sources { open_sources self.new ≡ open_sources self.old }
+        ensures open_sinks { CountsOpening (open_sinks self.old) (open_sinks self.new) result };
 
     /// Takes a source back. Its faults are added to those of reading under the name.
     fn close_source(&mut self, name: &str, src: Self::Src)
@@ -96,7 +113,10 @@ pub trait Host {
         ensures out { SameCounts (out_faults self.old) (out_faults self.new) }
 
         ensures still_opened { (other : List ℕ) → opened self.old other → opened self.new other }
-        ensures still_created { (other : List ℕ) → created self.old other → created self.new other };
+        ensures still_created { (other : List ℕ) → created self.old other → created self.new other }
+
+        ensures open_sources { open_sources self.new ≡ open_sources self.old - 1 }
+        ensures open_sinks { open_sinks self.new ≡ open_sinks self.old };
 
     /// Takes a sink back, and puts what it holds into the file, also at an `Err`. Its faults are added to those of
     /// writing under the name, and a failure of the closing itself comes on top.
@@ -113,5 +133,8 @@ pub trait Host {
         ensures ins { SameCounts (in_faults self.old) (in_faults self.new) }
 
         ensures still_opened { (other : List ℕ) → opened self.old other → opened self.new other }
-        ensures still_created { (other : List ℕ) → created self.old other → created self.new other };
+        ensures still_created { (other : List ℕ) → created self.old other → created self.new other }
+
+        ensures open_sources { open_sources self.new ≡ open_sources self.old }
+        ensures open_sinks { open_sinks self.new ≡ open_sinks self.old - 1 };
 }

@@ -1,11 +1,12 @@
-ghost use Rattle.std.specs.Prelude.{◌≡◌, ◌↔◌, ◌⊎◌, ℕ, List, [], Some, None, IfOk, OnOk, OnErr, IsErr, IsErrOf, IsTrue};
+ghost use Rattle.std.specs.Prelude.{◌≡◌, ◌-◌, ◌↔◌, ◌⊎◌, ℕ, List, [], Some, None, IfOk, OnOk, OnErr, IsErr, IsErrOf, IsTrue};
 ghost use Rattle.std.specs.Option.{option_map};
 ghost use Rattle.ff_host.specs.Causes.{HasCause, HasCauseOf, SameCounts, added};
 ghost use Rattle.ff_host.specs.Files.{KeepsFiles, PutsFile};
 ghost use Rattle.ff_host.specs.Given.{given};
-ghost use Rattle.ff_host.specs.MemHost.{files_of, plan_of, marks_in, in_faults_of, out_faults_of, HasOpened, HasCreated, new_source, new_sink};
+ghost use Rattle.ff_host.specs.MemHost.{files_of, plan_of, marks_in, in_faults_of, out_faults_of, open_sources_of, open_sinks_of, HasOpened, HasCreated, new_source, new_sink};
 ghost use Rattle.ff_host.specs.MemHost.{OpenFails, CreateFails, CloseFails};
 ghost use Rattle.ff_host.specs.MemHost.{Notes, no_change, one_opened, one_open_failed, one_created, one_create_failed, source_closed, sink_closed, close_failed};
+ghost use Rattle.ff_host.specs.Opens.{CountsOpening};
 ghost use Rattle.ff_host.specs.Plan.{IsPlannedNext};
 ghost use Rattle.ff_host.specs.QuietHost.{quiet_files};
 ghost use Rattle.ff_host.specs.Tally.{blank};
@@ -95,6 +96,10 @@ impl Host for MemHost {
 
     ghost created = { HasCreated };
 
+    ghost open_sources = { open_sources_of };
+
+    ghost open_sinks = { open_sinks_of };
+
     fn open_source(&mut self, name: &str) -> Result<MemSource, HostError>
         ensures failed { IsErrOf result HostError.Failed → OpenFails self.old name.now }
         ensures fails { OpenFails self.old name.now → IsErr result }
@@ -111,6 +116,8 @@ impl Host for MemHost {
         ensures opened { OnOk result (HasOpened self.new name.now) }
         ensures still_opened { (other : List ℕ) → HasOpened self.old other → HasOpened self.new other }
         ensures still_created { (other : List ℕ) → HasCreated self.old other → HasCreated self.new other }
+        ensures open_sources { CountsOpening (open_sources_of self.old) (open_sources_of self.new) result }
+        ensures open_sinks { open_sinks_of self.new ≡ open_sinks_of self.old }
     {
         make_room(&mut self.table, self.alloc, name)?;
         let was = marks_of(&self.table, name);
@@ -153,6 +160,8 @@ impl Host for MemHost {
         ensures created { OnOk result (HasCreated self.new name.now) }
         ensures still_opened { (other : List ℕ) → HasOpened self.old other → HasOpened self.new other }
         ensures still_created { (other : List ℕ) → HasCreated self.old other → HasCreated self.new other }
+        ensures open_sources { open_sources_of self.new ≡ open_sources_of self.old }
+        ensures open_sinks { CountsOpening (open_sinks_of self.old) (open_sinks_of self.new) result }
     {
         make_room(&mut self.table, self.alloc, name)?;
         let was = marks_of(&self.table, name);
@@ -183,10 +192,13 @@ impl Host for MemHost {
         requires { HasOpened self.old name.now }
         ensures after { Notes self.old self.new name.now (source_closed src.faults) }
         ensures files { KeepsFiles (Some (files_of self.old)) (Some (files_of self.new)) }
+        ensures open_sources { open_sources_of self.new ≡ open_sources_of self.old - 1 }
+        ensures open_sinks { open_sinks_of self.new ≡ open_sinks_of self.old }
     {
         let was = marks_of(&self.table, name);
         let in_faults = was.in_faults.saturating_add(src.faults());
         set_marks(&mut self.table, name, Marks { in_faults, ..was });
+        self.inner.close_source(name, src.into_inner());
     }
 
     fn close_sink(&mut self, name: &str, snk: MemSink) -> Result<(), Failed>
@@ -201,6 +213,8 @@ impl Host for MemHost {
         ensures ins { SameCounts (in_faults_of self.old) (in_faults_of self.new) }
         ensures still_opened { (other : List ℕ) → HasOpened self.old other → HasOpened self.new other }
         ensures still_created { (other : List ℕ) → HasCreated self.old other → HasCreated self.new other }
+        ensures open_sources { open_sources_of self.new ≡ open_sources_of self.old }
+        ensures open_sinks { open_sinks_of self.new ≡ open_sinks_of self.old - 1 }
     {
         let was = marks_of(&self.table, name);
         let closes = one_more(was.closes);

@@ -51,6 +51,12 @@ impl MemSource {
     {
         self.faults
     }
+
+    pub(crate) fn into_inner(self) -> QuietSource
+        ensures { result ≡ record { name = self.name; left = self.left } }
+    {
+        self.inner
+    }
 }
 
 impl Source for MemSource {

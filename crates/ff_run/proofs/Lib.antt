@@ -6,6 +6,5 @@ pub mod Lines
 pub mod Names
 pub mod Reading
 pub mod Seven
-pub mod Ticks
 pub mod Worked
 pub mod Written

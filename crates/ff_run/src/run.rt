@@ -1,5 +1,5 @@
 // A run: from the words and the files to the files, the log and the report.
-ghost use Rattle.std.specs.Prelude.{◌≡◌, ◌≢◌, ◌⊎◌, ◌↔◌, ◌≤◌, List, [], ℕ, Some, None, Ok, Err, IfOk, IfErr, IfSome, IsSome};
+ghost use Rattle.std.specs.Prelude.{◌≡◌, ◌≢◌, ◌⊎◌, ◌↔◌, ◌≤◌, ◌-◌, List, [], ℕ, Some, None, Ok, Err, IfOk, IfErr, IfSome, IsSome};
 ghost use Rattle.std.specs.Io.KnownBytes.{Appends, Keeps};
 ghost use Rattle.ff_host.specs.Causes.{Rose, added};
 ghost use Rattle.ff_host.specs.Files.{KeepsFiles, KeepsOthers, AppendsPrefix};
@@ -70,6 +70,7 @@ fn write_output<H: Host>(
     ensures others { KeepsOthers (H.files host.old) (H.files host.new) output.now }
     ensures ends { EndsWriting result (H.out_faults host.old output.now) (H.out_faults host.new output.now) }
     ensures adds { H.in_faults host.new input.now ≡ added (H.in_faults host.old input.now) (H.Src.faults src) }
+    ensures closed { (H.open_sources host.new ≡ H.open_sources host.old - 1) × (H.open_sinks host.new ≡ H.open_sinks host.old) }
 {
     let mut snk = match host.create_sink(output) {
         Ok(snk) => snk,
@@ -103,6 +104,7 @@ fn run_job<H: Host>(alloc: Global, host: &mut H, input: &str, output: &str) -> S
     ensures ends { EndsJob (record { input = input.now; output = output.now }) (H.files host.old)
         (record { before = H.in_faults host.old; after = H.in_faults host.new })
         (record { before = H.out_faults host.old; after = H.out_faults host.new }) result }
+    ensures closed { (H.open_sources host.new ≡ H.open_sources host.old) × (H.open_sinks host.new ≡ H.open_sinks host.old) }
 {
     let mut src = match host.open_source(input) {
         Ok(src) => src,
@@ -136,6 +138,7 @@ fn run_words<H: Host>(alloc: Global, host: &mut H, words: &[String]) -> Status
         → (InputFaulted (read (texts words.now)) (record { before = H.in_faults host.old; after = H.in_faults host.new }) → ⊥)
         → (OutputFaulted (read (texts words.now)) (record { before = H.out_faults host.old; after = H.out_faults host.new }) → ⊥)
         → (result ≡ Status.Fine) ⊎ (result ≡ Status.NoMemory) }
+    ensures closed { (H.open_sources host.new ≡ H.open_sources host.old) × (H.open_sinks host.new ≡ H.open_sinks host.old) }
 {
     match first_fault(words) {
         Some(word) => Status::Words {
@@ -186,6 +189,9 @@ pub fn ffmpeg<R: Threads + Wait + Sync, H: Host, E: Sink>(
         → (InputFaulted (read (texts words.now)) (record { before = H.in_faults host.old; after = H.in_faults host.new }) → ⊥)
         → (OutputFaulted (read (texts words.now)) (record { before = H.out_faults host.old; after = H.out_faults host.new }) → ⊥)
         → (result.status ≡ Status.Fine) ⊎ (result.status ≡ Status.NoMemory) }
+
+    // Whatever the status, each source and each sink that it opened is given back.
+    ensures closed { (H.open_sources host.new ≡ H.open_sources host.old) × (H.open_sinks host.new ≡ H.open_sinks host.old) }
 
     // The line of a fault.
     ensures line_not_due { (result.line ≡ Line.NotDue) ↔ (result.status ≡ Status.Fine) }

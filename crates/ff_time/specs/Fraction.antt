@@ -1,6 +1,8 @@
 -- Positive fractions, and the lowest terms of one.
 use Rattle.std.specs.Prelude.{◌≡◌, ℕ, ℤ, ◌*◌, ◌^◌, ◌<◌, ◌≤◌, ◌⊎◌, pos, ◌<ℤ◌}
 use Rattle.std.specs.Int.{IsGcd, ◌∣◌}
+use Rattle.std.proofs.Common.{lit<}
+use Rattle.std.proofs.Math.Nat.{eq-one_of_dvd-one}
 
 -- a fraction of two whole numbers
 pub record Fraction : Type 0 where
@@ -18,6 +20,10 @@ pub record IsBase (f : Fraction) : Type 0 where
   pub den_positive : 0 < f.den
   pub den_small : f.den < 2 ^ 31
   pub lowest : IsLowest f
+
+-- one over a number is in lowest terms
+pub IsBase-unit : (d : ℕ) → 0 < d → d < 2 ^ 31 → IsBase (record { num = 1; den = d })
+IsBase-unit d some small = record { num_positive = lit< tt; num_small = lit< tt; den_positive = some; den_small = small; lowest = λ k p q. eq-one_of_dvd-one p }
 
 -- f is n over d with both numbers divided by their greatest common divisor
 pub record IsReduced (n d : ℕ) (f : Fraction) : Type 0 where

@@ -1,1 +1,5 @@
+pub mod Duration
 pub mod Fraction
+pub mod Laws
+pub mod Reading
+pub mod Rescale

@@ -1,8 +1,32 @@
-//! Time bases.
+//! Time bases and times.
+//!
+//! A `Rational` is a time base: a positive fraction in lowest terms, so many seconds a unit. A count
+//! of units is told in another base by `rescale`, two counts are ordered by `compare`, microseconds
+//! become units by `ceil_units`, and a text becomes microseconds by `read_duration`. All is whole
+//! numbers of at most 128 bits, and nothing takes memory.
+//!
+//! The clauses speak of exact fractions and of a grammar of texts; `laws` has what follows from
+//! these definitions.
 #![tactic(auto)]
 
+mod cut;
+mod duration;
 mod error;
+pub mod laws;
+mod letter;
+mod order;
 mod rational;
+mod reading;
+mod rescaling;
+mod units;
 
+pub use cut::TimeCut;
+pub use duration::read_duration;
 pub use error::TimeError;
+pub use order::compare;
 pub use rational::Rational;
+pub use rescaling::rescale;
+pub use units::ceil_units;
+
+#[cfg(test)]
+mod tests;

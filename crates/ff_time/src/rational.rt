@@ -55,8 +55,12 @@ impl Rational {
         ensures ok { IfOk result (IsLowestOf num den) }
         ensures base { IfOk result IsBase }
         ensures not_positive { IsErrOf result TimeError.NotPositive ↔ IsBelowOne num den }
-        ensures too_big { IsErrOf result TimeError.TooBig ↔ ((f : Fraction) × IsLowestOf num den f × IsTooBig f) }
+        ensures too_big { IsErrOf result TimeError.TooBig
+            ↔ ((f : Fraction) × IsLowestOf num den f × IsTooBig f) }
         ensures err { IfErr result (λ e. (e ≡ TimeError.NotPositive) ⊎ (e ≡ TimeError.TooBig)) }
+
+        // What is a time base already is answered as it stands.
+        ensures kept { (f : Fraction) → IsBase f → num ≡ pos f.num → den ≡ pos f.den → result ≡ Ok f }
     {
         if num < 1 || den < 1 {
             return Err(TimeError::NotPositive);
@@ -85,5 +89,14 @@ impl Rational {
         ensures base { IsBase self.now }
     {
         i64::from(self.den)
+    }
+
+    // Both numbers, with room for products.
+    pub(super) fn parts(self) -> (u128, u128)
+        ensures num { result.0 ≡ self.num }
+        ensures den { result.1 ≡ self.den }
+        ensures base { IsBase self }
+    {
+        (u128::from(self.num), u128::from(self.den))
     }
 }

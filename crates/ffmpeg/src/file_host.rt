@@ -20,6 +20,8 @@ pub struct FileHost<R> {
     files: R,
     alloc: Global,
     table: Table,
+    sources: u64,
+    sinks: u64,
 }
 
 impl<R: Files + Drop> FileHost<R> {
@@ -28,6 +30,8 @@ impl<R: Files + Drop> FileHost<R> {
             files,
             alloc,
             table: BTreeMap::new(alloc),
+            sources: 0,
+            sinks: 0,
         }
     }
 }
@@ -56,7 +60,14 @@ where
 
     ghost created = { λ h name. IsTrue (marks_at h.table name).created };
 
+    ghost open_sources = { λ h. h.sources };
+
+    ghost open_sinks = { λ h. h.sinks };
+
     fn open_source(&mut self, name: &str) -> Result<FileSource<R::File>, HostError> {
+        let Some(sources) = self.sources.checked_add(1) else {
+            return Err(HostError::NoMemory);
+        };
         make_room(&mut self.table, self.alloc, name)?;
         let own_name = String::from_str(self.alloc, name)?;
         let was = marks_of(&self.table, name);
@@ -70,10 +81,14 @@ where
         };
         let opened = true;
         set_marks(&mut self.table, name, Marks { opened, ..was });
+        self.sources = sources;
         Ok(FileSource::new(file, own_name))
     }
 
     fn create_sink(&mut self, name: &str) -> Result<FileSink<R::File>, HostError> {
+        let Some(sinks) = self.sinks.checked_add(1) else {
+            return Err(HostError::NoMemory);
+        };
         make_room(&mut self.table, self.alloc, name)?;
         let own_name = String::from_str(self.alloc, name)?;
         look_for_room(self.alloc)?;
@@ -88,6 +103,7 @@ where
         };
         let created = true;
         set_marks(&mut self.table, name, Marks { created, ..was });
+        self.sinks = sinks;
         Ok(FileSink::new(file, own_name))
     }
 
@@ -95,10 +111,12 @@ where
         let was = marks_of(&self.table, name);
         let in_faults = was.in_faults.saturating_add(src.faults());
         set_marks(&mut self.table, name, Marks { in_faults, ..was });
+        self.sources = self.sources.saturating_sub(1);
     }
 
     fn close_sink(&mut self, name: &str, snk: FileSink<R::File>) -> Result<(), Failed> {
         let mut snk = snk;
+        self.sinks = self.sinks.saturating_sub(1);
         let was = marks_of(&self.table, name);
         let out_faults = was.out_faults.saturating_add(snk.faults());
         if snk.finish() {
