@@ -2,9 +2,9 @@
 #![tactic(auto)]
 
 mod packets;
-mod relay;
+mod relays;
 
-pub use relay::{Passed, relay};
+pub use relays::{Passed, relay};
 
 #[cfg(test)]
 mod tests;

@@ -11,7 +11,12 @@ use std::alloc::{AllocError, Global};
 pub(crate) fn one_over(den: i64) -> Option<Rational>
     ensures { IfSome result IsWhole }
 {
-    Rational::new(1, den).ok()
+    let tb = Rational::new(1, den).ok()?;
+    if tb.num() == 1 && tb.den() >= 1 {
+        Some(tb)
+    } else {
+        None
+    }
 }
 
 pub(crate) fn lane_of(tb: Rational) -> Lane
@@ -29,7 +34,7 @@ pub(crate) fn lane_of(tb: Rational) -> Lane
 pub(crate) fn packet(alloc: Global, place: u32) -> Result<Item, AllocError>
     ensures { IfOk result (λ item. item ≡ byte_packet place) }
 {
-    let bytes = vec![in alloc; place as u8]?;
+    let bytes = vec![in alloc; (place % 256) as u8]?;
     Ok(Item::Packet(Pkt {
         pts: i64::from(place),
         dts: i64::from(place),
@@ -43,7 +48,8 @@ pub(crate) fn packet(alloc: Global, place: u32) -> Result<Item, AllocError>
 pub(crate) fn is_packet(item: &Item, place: u32) -> bool {
     match item {
         Item::Packet(packet) => {
-            packet.pts == i64::from(place) && packet.bytes.as_slice() == [place as u8]
+            packet.pts == i64::from(place)
+                && packet.bytes.as_slice() == [(place % 256) as u8].as_slice()
         }
         _ => false,
     }
