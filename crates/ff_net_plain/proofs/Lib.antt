@@ -1,0 +1,2 @@
+pub mod RelaySteps
+pub mod Shapes

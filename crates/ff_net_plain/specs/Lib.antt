@@ -1,0 +1,3 @@
+pub mod RelayLaws
+pub mod Relays
+pub mod Trials

@@ -1,0 +1,18 @@
+-- A relay between two wires.
+use Rattle.std.specs.Prelude.{List, [], ◌∷◌, length, replicate}
+use Rattle.ff_time.specs.Fraction.{Fraction}
+use Rattle.ff_frame.specs.declared.head.Codec.TheVariants.{PcmU8}
+use Rattle.ff_frame.specs.declared.head.StreamHead.TheVariants.{Audio}
+use Rattle.ff_frame.specs.declared.item.Lane.{Lane}
+use Rattle.ff_frame.specs.declared.item.Lane.TheVariants.{Packets}
+use Rattle.ff_net_plain.specs.declared.relay.Relay.{Relay}
+
+-- packets of sound of 8,000 samples a second
+abbrev pub trial_lane : Fraction → Lane
+trial_lane tb = Packets (Audio tb 8000 8 1 PcmU8)
+
+abbrev pub relay_ins : Relay → List Lane
+relay_ins m = m.lane ∷ []
+
+abbrev pub relay_outs : Relay → List Lane
+relay_outs m = replicate (length m.outs.items) m.lane

@@ -1,0 +1,212 @@
+ghost use Rattle.std.specs.Prelude.{◌≡◌, ◌<◌, ◌⊎◌, ℕ, length, replicate, true, false, None, Some, Ok, Err, ◌∷◌, []};
+ghost use Rattle.ff_net_plain.specs.Relays.{Relays, is_spent_relay, outs_stopped};
+ghost use Rattle.ff_net_plain.specs.RelayLaws.{relays_no_fault, relays_valid, relays_keeps, relays_monotone, relays_cause_stays, relays_calm, relays_given, relays_unbroken, relays_spent_only, relays_closed_spent, relays_done_spent, relays_all_spent};
+
+use ff_frame::{Item, Lane, Refused, Ticket};
+use ff_net::{Fault, Machine};
+use std::alloc::{AllocError, Global};
+
+/// An output: how many items went there, and whether its receiver has finished.
+#[derive(Drop)]
+pub struct Out {
+    pub next: usize,
+    pub stopped: bool,
+}
+
+/// Repeats its input on each output, and ends after so many items. It keeps what it was fed, up to there.
+#[derive(Drop)]
+pub struct Relay {
+    alloc: Global,
+    lane: Lane,
+    limit: usize,
+    left: usize,
+    closed: bool,
+    given: Vec<Item>,
+    outs: Vec<Out>,
+    room: usize,
+}
+
+impl Relay {
+    ghost use Rattle.std.specs.Prelude.{IfOk};
+
+    /// A relay of this lane with so many outputs, which ends after `limit` items and refuses what comes after `room`.
+    pub fn new(
+        alloc: Global,
+        lane: Lane,
+        count: usize,
+        limit: usize,
+        room: usize,
+    ) -> Result<Relay, AllocError>
+        ensures outs { IfOk result (λ relay. length relay.outs.items ≡ count) }
+        ensures lane { IfOk result (λ relay. relay.lane ≡ lane) }
+    {
+        let mut outs = Vec::new(alloc);
+        for _i in 0..count {
+            outs.push(Out {
+                next: 0,
+                stopped: false,
+            })?;
+        }
+        Ok(Relay {
+            alloc,
+            lane,
+            limit,
+            left: limit,
+            closed: false,
+            given: Vec::new(alloc),
+            outs,
+            room,
+        })
+    }
+
+    /// What it was fed, up to where it ends.
+    pub fn given(&self) -> &[Item]
+        ensures { result.now ≡ self.now.given.items }
+    {
+        &self.given
+    }
+}
+
+fn discard(_item: Item) {}
+
+fn all_stopped(outs: &Vec<Out>) -> bool
+    ensures { result ≡ outs_stopped outs.now.items }
+{
+    for out in outs {
+        if !out.stopped {
+            return false;
+        }
+    }
+    true
+}
+
+impl Machine for Relay {
+    ghost in_lanes = { λ m. m.lane ∷ [] };
+
+    ghost out_lanes = { λ m. replicate (length m.outs.items) m.lane };
+
+    ghost source_of = { λ m. None };
+
+    ghost fault_of = { λ m. None };
+
+    ghost failures = { λ m. 0 };
+
+    ghost holds = { λ m. ⊥ };
+
+    ghost is_spent = { λ m p. is_spent_relay m.left m.closed m.outs.items p };
+
+    ghost stands = { λ m past. Relays m.lane m.limit m.left m.closed m.given.items m.outs.items past };
+
+    fn inputs(&self) -> usize {
+        1
+    }
+
+    fn outputs(&self) -> usize {
+        self.outs.len()
+    }
+
+    fn source(&self) -> Option<u32> {
+        None
+    }
+
+    fn fault(&self) -> Option<Fault> {
+        None
+    }
+
+    fn allow(&mut self, ticket: Ticket) -> Option<Ticket> {
+        Some(ticket)
+    }
+
+    fn feed(&mut self, _port: usize, item: Item) -> Result<(), Refused> {
+        if self.room == 0 {
+            return Err(Refused { item });
+        }
+        let closes = item.closes();
+        if self.left == 0 {
+            discard(item);
+            self.closed = self.closed | closes;
+            return Ok(());
+        }
+        match self.given.push(item) {
+            Ok(()) => {
+                self.room -= 1;
+                self.closed = self.closed | closes;
+                if closes {
+                    return Ok(());
+                }
+                self.left -= 1;
+                Ok(())
+            }
+            Err(refused) => Err(Refused {
+                item: refused.value,
+            }),
+        }
+    }
+
+    fn pull(&mut self, port: usize) -> Result<Option<Item>, AllocError> {
+        let at = self.outs[port].next;
+        let given = self.given.as_slice();
+        let count = given.len();
+        if at < count {
+            let item = given[at].try_copy(self.alloc)?;
+            let out = &mut self.outs[port];
+            out.next = at + 1;
+            return Ok(Some(item));
+        }
+        if self.left > 0 {
+            return Ok(None);
+        }
+        if at > count {
+            return Ok(None);
+        }
+        let out = &mut self.outs[port];
+        out.next = at + 1;
+        Ok(Some(Item::End))
+    }
+
+    fn stop(&mut self, port: usize) {
+        let out = &mut self.outs[port];
+        out.stopped = true;
+    }
+
+    fn spent(&self, _port: usize) -> bool {
+        if self.closed {
+            return true;
+        }
+        if self.outs.len() == 0 {
+            return false;
+        }
+        if self.left == 0 {
+            return true;
+        }
+        all_stopped(&self.outs)
+    }
+
+    ghost is_source = { λ m past s. s.plain };
+
+    ghost valid = { λ m past s. relays_valid m.lane m.limit m.left m.closed m.given.items m.outs.items past s };
+
+    ghost keeps = { λ m past s. relays_keeps m.lane m.limit m.left m.closed m.given.items m.outs.items past s };
+
+    ghost monotone = { λ m past s. relays_monotone m.lane m.limit m.left m.closed m.given.items m.outs.items past s };
+
+    ghost cause_stays = { λ m past s. relays_cause_stays m.lane m.limit m.left m.closed m.given.items m.outs.items past s };
+
+    ghost calm = { λ m past s. relays_calm m.lane m.limit m.left m.closed m.given.items m.outs.items past s };
+
+    ghost given = { λ m past s. relays_given m.lane m.limit m.left m.closed m.given.items m.outs.items past s };
+
+    ghost unbroken = { λ m past s f u. relays_unbroken m.lane m.limit m.left m.closed m.given.items m.outs.items past s u };
+
+    ghost caused = { λ m past c s e i. absurd (relays_no_fault c e) };
+
+    ghost spent_only = { λ m past p s. relays_spent_only m.lane m.limit m.left m.closed m.given.items m.outs.items past s p };
+
+    ghost closed_spent = { λ m past p s. relays_closed_spent m.lane m.limit m.left m.closed m.given.items m.outs.items past s p };
+
+    ghost done_spent = { λ m past p s lt z c a. relays_done_spent m.lane m.limit m.left m.closed m.given.items m.outs.items past s p lt z c };
+
+    ghost all_spent = { λ m past s n h. relays_all_spent m.lane m.limit m.left m.closed m.given.items m.outs.items past s h };
+
+    ghost ticket_used = { λ m past q s i f p a h. h };
+}
