@@ -51,7 +51,9 @@ fn block_of_head(head: &StreamHead) -> usize
 {
     match *head {
         StreamHead::Audio {
-            channels, codec, ..
+            channels,
+            codec,
+            ..
         } => channels as usize * size_of_sample(codec),
     }
 }

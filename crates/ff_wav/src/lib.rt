@@ -14,3 +14,6 @@ mod walk;
 pub use cut::WavCut;
 pub use head::WavHead;
 pub use walk::{WavWalk, read_head};
+
+#[cfg(test)]
+mod tests;
