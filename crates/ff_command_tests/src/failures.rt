@@ -1,4 +1,4 @@
-use crate::bench::{ABC, HEADER, WORDS, failure, host_of, run, three_samples};
+use crate::runs::{ABC, HEADER, WORDS, failure, host_of, run, three_samples};
 use ff_host::{HostCall, MemHost};
 use ff_run::{FileRef, Line, Status};
 use std::test::Fail;

@@ -1,4 +1,4 @@
-use crate::bench::{ABC, HEADER, Head, WORDS, host_of, input, run, three_samples};
+use crate::runs::{ABC, HEADER, Head, WORDS, host_of, input, run, three_samples};
 use ff_run::{Line, Status};
 use std::alloc::{AllocError, Global};
 use std::test::Fail;

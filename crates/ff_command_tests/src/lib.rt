@@ -3,12 +3,12 @@
 #![tactic(auto)]
 
 #[cfg(test)]
-mod bench;
-#[cfg(test)]
 mod failures;
 #[cfg(test)]
 mod inputs;
 #[cfg(test)]
 mod lines;
+#[cfg(test)]
+mod runs;
 #[cfg(test)]
 mod words;

@@ -1,4 +1,4 @@
-use crate::bench::{WORDS, words_of};
+use crate::runs::{WORDS, words_of};
 use ff_run::{FileRef, Status, WordKind, fault_line, status_number};
 use std::test::Fail;
 

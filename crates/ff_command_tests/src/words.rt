@@ -1,4 +1,4 @@
-use crate::bench::{WORDS, host_of, run, three_samples};
+use crate::runs::{WORDS, host_of, run, three_samples};
 use ff_run::{Line, Status, WordKind};
 use std::test::Fail;
 

@@ -1,7 +1,8 @@
 ghost use Rattle.std.specs.Prelude.{◌≡◌, ◌+◌, ◌≤◌, List, ℕ, Bool, length, Option, OnOk, OnErr, IsErr, IsErrOf, IsTrue};
 ghost use Rattle.std.specs.Io.KnownBytes.{Appends, Keeps};
 ghost use Rattle.ff_host.specs.Causes.{HasCause, HasCauseOf};
-ghost use Rattle.ff_host.specs.Files.{AppendsPrefix, Patches};
+ghost use Rattle.ff_lists.specs.Appends.{AppendsPrefix};
+ghost use Rattle.ff_host.specs.Files.{Patches};
 ghost use Rattle.ff_host.specs.declared.sink.SinkError.TheVariants.{NoMemory};
 
 use crate::source::Failed;

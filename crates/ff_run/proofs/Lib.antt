@@ -2,9 +2,7 @@ pub mod Coding
 pub mod Ends
 pub mod Heads
 pub mod Limit
-pub mod Lines
 pub mod Names
 pub mod Reading
 pub mod Seven
 pub mod Worked
-pub mod Written

@@ -2,7 +2,7 @@
 ghost use Rattle.std.specs.Prelude.{◌≡◌, ◌≢◌, ◌<◌, ◌++◌, length, IfOk, codes, decimal, string_bytes, unwrap_or, [], IsSome};
 ghost use Rattle.std.specs.Io.KnownBytes.{Appends, Keeps};
 ghost use Rattle.ff_host.specs.Causes.{Rose};
-ghost use Rattle.ff_host.specs.Files.{AppendsPrefix};
+ghost use Rattle.ff_lists.specs.Appends.{AppendsPrefix};
 ghost use Rattle.ff_lists.specs.Text.{line};
 ghost use Rattle.ff_run.specs.Words.{texts, read};
 ghost use Rattle.ff_run.specs.Answers.{file_name};

@@ -2,7 +2,7 @@
 ghost use Rattle.std.specs.Prelude.{◌≡◌, ◌*◌, pos, length, OnOk};
 ghost use Rattle.std.specs.Io.KnownBytes.{Appends};
 ghost use Rattle.ff_host.specs.Causes.{HasCauseOf};
-ghost use Rattle.ff_host.specs.Files.{AppendsPrefix};
+ghost use Rattle.ff_lists.specs.Appends.{AppendsPrefix};
 ghost use Rattle.ff_frame.specs.Packet.{packet_at};
 ghost use Rattle.ff_run.specs.FrameHash.{packet_line as line_of};
 ghost use Rattle.ff_run.specs.Wav.{packet_count};

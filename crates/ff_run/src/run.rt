@@ -2,7 +2,8 @@
 ghost use Rattle.std.specs.Prelude.{◌≡◌, ◌≢◌, ◌⊎◌, ◌↔◌, ◌≤◌, ◌-◌, List, [], ℕ, Some, None, Ok, Err, IfOk, IfErr, IfSome, IsSome};
 ghost use Rattle.std.specs.Io.KnownBytes.{Appends, Keeps};
 ghost use Rattle.ff_host.specs.Causes.{Rose, added};
-ghost use Rattle.ff_host.specs.Files.{KeepsFiles, KeepsOthers, AppendsPrefix};
+ghost use Rattle.ff_host.specs.Files.{KeepsFiles, KeepsOthers};
+ghost use Rattle.ff_lists.specs.Appends.{AppendsPrefix};
 ghost use Rattle.ff_run.specs.Words.{texts, read};
 ghost use Rattle.ff_run.specs.Wav.{head as head_of, body as body_of};
 ghost use Rattle.ff_run.specs.Coded.{text};

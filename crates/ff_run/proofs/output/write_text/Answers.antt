@@ -1,13 +1,13 @@
 use Rattle.std.proofs.Common.{refl, arith, ◌≡◌, ◌++◌, ◌+◌, ◌*◌, ◌<◌, ◌∙◌, take, drop, sym, ap, subst, append_assoc, pos, length}
 use Rattle.std.specs.List.{flat_map}
 use Rattle.std.specs.Io.KnownBytes.{Appends}
-use Rattle.ff_host.specs.Files.{AppendsPrefix}
+use Rattle.ff_lists.specs.Appends.{AppendsPrefix}
 use Rattle.ff_frame.specs.Packet.{packet_at}
 use Rattle.ff_run.specs.Wav.{packet_count}
 use Rattle.ff_run.specs.Coded.{coded, first_coded, text}
 use Rattle.ff_run.specs.FrameHash.{header, packet_line}
-use Rattle.ff_run.proofs.Lines.{lines, one_more, split_at}
-use Rattle.ff_run.proofs.Written.{grows, front_after, front_of}
+use Rattle.ff_lists.proofs.Lines.{lines, one_more, split_at}
+use Rattle.ff_lists.proofs.Written.{grows, front_after, front_of}
 use Rattle.ff_run.proofs.output.write_text.Goals as goal
 
 pub returns-in_err-write_piece-clause-front : goal.returns-in_err-write_piece-clause-front

@@ -1,0 +1,15 @@
+//! Measures how fast the crates' inner loops run. With no word it prints its usage.
+#![tactic(auto)]
+
+mod bits;
+
+use std::{env, io};
+
+fn main(rt: HostRuntime) -> io::Result<()> {
+    let mut words = env::args(&rt)?;
+    let _program = words.next();
+    match words.next() {
+        Some(word) if word.as_str() == "bits" => bits::measure(&rt),
+        _ => println!(rt; "usage: ff_bench bits"),
+    }
+}

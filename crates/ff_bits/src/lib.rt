@@ -1,0 +1,27 @@
+//! Bits of bytes: a reader and a writer that take the most significant bit first, the coded numbers of a FLAC frame
+//! header, and the sums that find damage (RFC 9639).
+//!
+//! To a contract a reader is the list of the bits that are left, and a writer the list of those that were written.
+#![tactic(auto)]
+
+mod code;
+mod crc;
+mod laws;
+mod number;
+mod reader;
+mod table16;
+mod table8;
+mod waiting;
+mod word;
+mod writer;
+
+pub use crc::{crc8, crc16};
+pub use laws::{
+    a_sum_behind_its_bytes_leaves_nothing, coded_numbers_are_apart, shortest_is_shortest,
+    what_was_written_is_read,
+};
+pub use reader::{BitEnd, BitReader};
+pub use writer::BitWriter;
+
+#[cfg(test)]
+mod tests;

@@ -1,0 +1,180 @@
+//! Reading bits, the most significant of each byte first.
+
+ghost use Rattle.std.specs.Prelude.{◌≡◌, ◌≤◌, ◌<◌, ◌+◌, ◌*◌, ◌^◌, ◌↔◌, IsTrue, length, take, drop, replicate, false, true, List, Bool, ◌∷◌, ◌++◌, IfOk, IfErr, OnErr};
+ghost use Rattle.ff_bits.specs.Bits.{value_of, bits};
+ghost use Rattle.ff_bits.specs.Reads.{IsTaken, IsCounted};
+ghost use Rattle.ff_bits.specs.Runs.{IsRun};
+
+use crate::word::word_of;
+use std::marker::Model;
+
+/// Why nothing was read.
+#[derive(Clone, Copy, Debug, PartialEq, Eq)]
+pub enum BitEnd {
+    /// The bits that are left are too few.
+    Short,
+    /// No coded number begins the bits that are left, whatever follows them.
+    BadNumber,
+}
+
+/// The bits of some bytes that were not read yet. To a contract it is the list of them.
+#[derive(Drop)]
+pub struct BitReader<'a> {
+    /// The bytes from the first that has bits left.
+    bytes: &'a [u8],
+    /// How many bits of the first byte were read, below 8.
+    used: u32,
+}
+
+impl<'a> Model for BitReader<'a> {
+    ghost use Rattle.std.specs.Prelude.{◌<◌, ◌≤◌, ◌*◌, List, Bool, drop, length};
+    ghost use Rattle.ff_bits.specs.Bits.{bits};
+
+    ghost Value = { List Bool };
+
+    ghost view = { λ r. drop r.used (bits r.bytes.now) };
+
+    ghost invariant = { λ r. (r.used < 8) × (r.used ≤ 8 * length r.bytes.now) };
+}
+
+impl<'a> BitReader<'a> {
+    /// All bits of these bytes.
+    pub fn new(bytes: &'a [u8]) -> BitReader<'a>
+        ensures bits { result ≡ bits bytes.now }
+        ensures len { length result ≡ 8 * length bytes.now }
+    {
+        BitReader { bytes, used: 0 }
+    }
+
+    /// Whether `n` bits are left, of 64 at most.
+    pub fn has(&self, n: u32) -> bool
+        requires { n ≤ 64 }
+        ensures { IsTrue result ↔ (n ≤ length self.now) }
+    {
+        self.bytes.len() > 8 || (n + self.used) as usize <= 8 * self.bytes.len()
+    }
+
+    /// How many bits are left.
+    pub fn left(&self) -> u64
+        requires { length self.now ≤ 2 ^ 53 }
+        ensures { result ≡ length self.now }
+    {
+        8 * self.bytes.len() as u64 - self.used as u64
+    }
+
+    /// A reader of the same bits.
+    pub(crate) fn copy(&self) -> BitReader<'a>
+        ensures { result ≡ self.now }
+    {
+        BitReader {
+            bytes: self.bytes,
+            used: self.used,
+        }
+    }
+
+    /// The next `n` bits as a number, the first the most significant. A refusal, which is Short, leaves the reader.
+    pub fn take(&mut self, n: u32) -> Result<u64, BitEnd>
+        requires { n ≤ 64 }
+        ensures taken { IfOk result (λ v. IsTaken n self.old v self.new) }
+        ensures below { IfOk result (λ v. v < 2 ^ n) }
+        ensures short { IfErr result (λ e. (e ≡ BitEnd.Short) × (length self.old < n)) }
+        ensures unchanged { OnErr result (self.new ≡ self.old) }
+        ensures shorter { length self.new ≤ length self.old }
+    {
+        if !self.has(n) {
+            return Err(BitEnd::Short);
+        }
+        if n <= 57 {
+            return Ok(self.take_of_word(n));
+        }
+        let high = self.take_of_word(n - 32);
+        let low = self.take_of_word(32);
+        Ok(high << 32 | low)
+    }
+
+    /// The next bits that are there, of one word.
+    fn take_of_word(&mut self, n: u32) -> u64
+        requires word { n ≤ 57 }
+        requires there { n ≤ length self.old }
+        ensures taken { IsTaken n self.old result self.new }
+        ensures below { result < 2 ^ n }
+    {
+        if n == 0 {
+            return 0;
+        }
+        let word = word_of(self.bytes);
+        let at = self.used + n;
+        self.skip(n);
+        (word >> (64 - at)) & ((1u64 << n) - 1)
+    }
+
+    /// Goes past bits that are there.
+    fn skip(&mut self, n: u32)
+        requires few { n ≤ 64 }
+        requires there { n ≤ length self.old }
+        ensures { self.new ≡ drop n self.old }
+    {
+        let at = self.used + n;
+        let bytes = self.bytes;
+        self.bytes = &bytes[(at / 8) as usize..];
+        self.used = at % 8;
+    }
+}
+
+/// What begins the bits that are left, as far as one word shows.
+enum Run {
+    /// So many zeros, and a one.
+    Ended(u32),
+    /// So many zeros.
+    Zeros(u32),
+}
+
+impl<'a> BitReader<'a> {
+    /// How many zeros stand before the next one, which is read too. A refusal, which is Short and means that no one
+    /// is left, leaves the reader.
+    pub fn unary(&mut self) -> Result<u64, BitEnd>
+        requires { length self.old ≤ 2 ^ 53 }
+        ensures counted { IfOk result (λ zeros. IsCounted self.old zeros self.new) }
+        ensures short { IfErr result (λ e. (e ≡ BitEnd.Short) × (self.old ≡ replicate (length self.old) false)) }
+        ensures unchanged { OnErr result (self.new ≡ self.old) }
+        ensures shorter { length self.new ≤ length self.old }
+    {
+        let bytes = self.bytes;
+        let used = self.used;
+        let mut zeros = 0u64;
+        while self.has(1) {
+            match self.run() {
+                Run::Ended(more) => {
+                    self.skip(more + 1);
+                    return Ok(zeros + more as u64);
+                }
+                Run::Zeros(more) => {
+                    self.skip(more);
+                    zeros += more as u64;
+                }
+            }
+        }
+        self.bytes = bytes;
+        self.used = used;
+        Err(BitEnd::Short)
+    }
+
+    /// The zeros that come next.
+    fn run(&self) -> Run
+        requires { 0 < length self.now }
+        ensures { IsRun result self.now }
+    {
+        let whole = if self.bytes.len() < 8 {
+            8 * self.bytes.len() as u32
+        } else {
+            64
+        };
+        let there = whole - self.used;
+        let zeros = (word_of(self.bytes) << self.used).leading_zeros();
+        if zeros < there {
+            Run::Ended(zeros)
+        } else {
+            Run::Zeros(there)
+        }
+    }
+}

@@ -1,0 +1,5 @@
+pub mod Sendings
+pub mod Flow
+pub mod Views
+pub mod Ends
+pub mod Answers

@@ -1,0 +1,154 @@
+// The rules of the two queues of a link, and what each step of an end does to what it knows.
+use atomic_table::{Join, Split};
+use crossbeam_queue::protocol::{Lesson, Outcome, Protocol};
+use crossbeam_queue::{Pass, RuledArrayQueue};
+use ff_frame::{Item, Lane};
+use std::collections::LinkedList;
+use std::marker::PhantomData;
+
+/// What a pass of a queue may do, what it was told of the link, what it put and what it took. No value of it is made.
+pub struct Side<T> {
+    pub puts: bool,
+    pub takes: bool,
+    pub lane: Lane,
+    pub room: u64,
+    pub sent: LinkedList<T>,
+    pub taken: LinkedList<T>,
+}
+
+/// The lane and the room of a link, which a call of `link` picks.
+pub trait Fixed {
+    ghost use Rattle.std.specs.Prelude.{ℕ};
+    ghost use Rattle.ff_frame.specs.declared.item.Lane.{Lane};
+
+    ghost lane: { Lane };
+
+    ghost room: { ℕ };
+}
+
+impl Fixed for std::marker::Brand {
+    ghost use Rattle.ff_link.specs.Flow.{no_lane};
+
+    ghost lane = { no_lane };
+
+    ghost room = { 0 };
+}
+
+/// The rule of the items.
+pub struct Items;
+
+impl Protocol<Item, Side<Item>> for Items {
+    ghost use Rattle.ff_link.specs.Flow.{ItemsFlow, both_of, no_lane};
+
+    ghost holds = { ItemsFlow };
+
+    ghost first = { both_of no_lane 0 };
+}
+
+/// The rule of the count that goes up.
+pub struct Counts;
+
+impl Protocol<u64, Side<u64>> for Counts {
+    ghost use Rattle.ff_link.specs.Flow.{CountsFlow, both_of, no_lane};
+
+    ghost holds = { CountsFlow };
+
+    ghost first = { both_of no_lane 0 };
+}
+
+/// Cuts the first view in two, and fixes the lane and the room. The pass that is cut puts, and the new one takes.
+pub struct PutsHere<F> {
+    fixed: PhantomData<F>,
+}
+
+impl<T, F: Fixed> Split<Side<T>> for PutsHere<F> {
+    ghost use Rattle.ff_link.specs.Flow.{putter, taker};
+
+    ghost left = { λ v. putter F.lane F.room v.sent };
+
+    ghost right = { λ v. taker F.lane F.room v.taken };
+}
+
+/// Joins the view that puts with the view that takes.
+pub struct Whole;
+
+impl<T> Join<Side<T>> for Whole {
+    ghost use Rattle.ff_link.specs.Flow.{whole, nobody, no_lane};
+
+    ghost both = { whole };
+
+    ghost spent = { nobody };
+}
+
+/// A put and a full look.
+pub struct Puts;
+
+impl<T> Outcome<T, Side<T>> for Puts {
+    ghost use Rattle.ff_link.specs.Flow.{with_sent};
+    ghost use Rattle.std.specs.Prelude.{◌≡◌, [], ◌∷◌, ◌++◌};
+
+    ghost then = { λ v x w. w ≡ with_sent v (v.sent ++ x ∷ []) };
+}
+
+impl<T> Lesson<T, Side<T>> for Puts {
+    ghost use Rattle.ff_link.specs.Flow.{IsRest};
+
+    ghost fact = { λ v items. IsRest v.sent items };
+}
+
+/// A take of an item, and an empty look.
+pub struct Takes;
+
+impl Outcome<Item, Side<Item>> for Takes {
+    ghost use Rattle.ff_link.specs.Flow.{TakesNext};
+
+    ghost then = { TakesNext };
+}
+
+impl Lesson<Item, Side<Item>> for Takes {
+    ghost use Rattle.ff_link.specs.Flow.{IsNext};
+
+    ghost fact = { λ v items. IsNext v.taken items };
+}
+
+/// A take of the count, and a look that finds none.
+pub struct Hears;
+
+impl Outcome<u64, Side<u64>> for Hears {
+    ghost use Rattle.ff_link.specs.Flow.{with_taken};
+    ghost use Rattle.std.specs.Prelude.{◌≡◌, [], ◌∷◌, ◌++◌};
+
+    ghost then = { λ v x w. w ≡ with_taken v (v.taken ++ x ∷ []) };
+}
+
+impl Lesson<u64, Side<u64>> for Hears {
+    ghost use Rattle.ff_link.specs.Flow.{IsNext};
+
+    ghost fact = { λ v items. IsNext v.taken items };
+}
+
+/// What both views of the items know together.
+pub struct AllItems;
+
+impl Lesson<Item, Side<Item>> for AllItems {
+    ghost use Rattle.ff_link.specs.Flow.{IsTotal, IsSending};
+
+    ghost fact = { λ v items. IsTotal IsSending v items };
+}
+
+/// What both views of the count know together.
+pub struct AllCounts;
+
+impl Lesson<u64, Side<u64>> for AllCounts {
+    ghost use Rattle.ff_link.specs.Flow.{IsTotal, AnyCounts};
+
+    ghost fact = { λ v items. IsTotal AnyCounts v items };
+}
+
+pub type Down = RuledArrayQueue<Item, Side<Item>, Items>;
+
+pub type DownPass = Pass<Item, Side<Item>>;
+
+pub type Up = RuledArrayQueue<u64, Side<u64>, Counts>;
+
+pub type UpPass = Pass<u64, Side<u64>>;

@@ -1,0 +1,86 @@
+-- What a node does once it is ready.
+use Rattle.std.proofs.Common.{◌≡◌, ℕ, inl, inr, Bool, true, false, ◌||◌, List, refl, ap, sym, ◌∙◌, subst, Option, None, Some, is_some}
+use Rattle.ff_frame.specs.declared.item.Lane.{Lane}
+use Rattle.ff_net.specs.declared.fault.Fault.{Fault}
+use Rattle.ff_net.specs.declared.node.Node.{Node}
+use Rattle.ff_net.specs.declared.wires.Wires.{Wires}
+use Rattle.ff_net.specs.Pasts.{Past}
+use Rattle.ff_net.specs.Worlds.{Wire, Stand}
+use Rattle.ff_net.specs.Nodes.{IsSound, IsSame, NodeStands, in_wires_of, out_wires_of}
+use Rattle.ff_net.specs.Steps.{Course, Acts, IsDue, Turns, Prepares, Later, Stepped}
+use Rattle.ff_net.proofs.Moments.{stepped_self, then_moves, course_trans}
+use Rattle.ff_net.proofs.Changes.{true_not_false, same_stands}
+use Rattle.ff_net.proofs.Rounds.{or_true, or_false}
+use Rattle.ff_net.proofs.Readying.{rests_same}
+
+module _ {M : Type 0} (in_lanes out_lanes : M → List Lane) (source : M → Option ℕ) (fault : M → Option Fault) (stands : M → Past → Type 0) where
+  -- a node with a fault isn't made ready
+  pub unready : (node : Node M) (wires : Wires) → (IsSound fault node → ⊥) → Stepped in_lanes out_lanes source fault stands (Prepares source fault false true node node) node wires node wires
+  unready node wires faulty = stepped_self in_lanes out_lanes source fault stands (Prepares source fault false true node node) node wires (λ w p. record {
+    moves = λ e. absurd (true_not_false (sym e));
+    taken = λ v. refl;
+    none_before = λ ok. absurd (faulty ok);
+    rests = λ n. record { none_due = λ ok. absurd (faulty ok); ungranted = λ ok. absurd (faulty ok) };
+  })
+
+  module _ (granted held : Bool) (K : Type 0) (before after last : Node M) (wires wires' : Wires)
+      (ready : Stepped in_lanes out_lanes source fault stands (Prepares source fault granted held before after) before wires after wires)
+      (quiet : (a : ℕ → Wire) (p : Past) (b : ℕ → Wire) (q : Past) → Prepares source fault granted held before after a p b q → (k : ℕ) → IsDue fault before a p k → K) where
+    moved_on : (world : ℕ → Wire) (past : Past) → Stepped in_lanes out_lanes source fault stands (Acts (true ≡ true) K) after wires last wires' → Stand wires world → NodeStands source fault stands before world past
+        → Later source fault stands (Turns source fault (granted || true) before last) (in_wires_of before) (out_wires_of before) last wires' world past
+    moved_on world past act stand was =
+        let x = ready.goes world past stand was in
+        let y = act.goes x.now x.since x.stand x.fits in
+        let f : Course (in_wires_of before) (out_wires_of before) x.now y.now x.since y.since = subst (λ (os : List ℕ). Course (in_wires_of before) os x.now y.now x.since y.since) ready.outs_same (subst (λ (is : List ℕ). Course is (out_wires_of after) x.now y.now x.since y.since) ready.ins_same y.course) in record {
+          now = y.now;
+          since = y.since;
+          stand = y.stand;
+          fits = y.fits;
+          course = course_trans (in_wires_of before) (out_wires_of before) world x.now y.now past x.since y.since x.course f;
+          so = record {
+            moves = λ e. then_moves (in_wires_of before) (out_wires_of before) world x.now y.now past x.since y.since x.course f (y.so.moves refl);
+            takes_nothing = λ k d w. y.so.takes_nothing (quiet world past x.now x.since x.so k d) w ∙ x.so.taken w;
+            rests = λ n. absurd (true_not_false ((or_false granted true n).1));
+          };
+        }
+
+    rested : (world : ℕ → Wire) (past : Past) → IsSame after last → wires' ≡ wires → Stand wires world → NodeStands source fault stands before world past
+        → Later source fault stands (Turns source fault (granted || false) before last) (in_wires_of before) (out_wires_of before) last wires' world past
+    rested world past same same_wires stand was =
+        let x = ready.goes world past stand was in record {
+          now = x.now;
+          since = x.since;
+          stand = subst (λ (w : Wires). Stand w x.now) (sym same_wires) x.stand;
+          fits = same_stands source fault stands after last x.now x.since same x.fits;
+          course = x.course;
+          so = record {
+            moves = λ e. elim (or_true granted false e) [ inl g ↦ x.so.moves g | inr n ↦ absurd (true_not_false (sym n)) ];
+            takes_nothing = λ k d w. x.so.taken w;
+            rests = λ n. rests_same source fault stands after last x.now x.since same (x.so.rests ((or_false granted false n).0));
+          };
+        }
+
+    pub turn_after : (moved : Bool) → Stepped in_lanes out_lanes source fault stands (Acts (moved ≡ true) K) after wires last wires' → (moved ≡ false → IsSame after last × (wires' ≡ wires)) → Stepped in_lanes out_lanes source fault stands (Turns source fault (granted || moved) before last) before wires last wires'
+    turn_after true act same = record {
+      ins_same = act.ins_same ∙ ready.ins_same;
+      outs_same = act.outs_same ∙ ready.outs_same;
+      in_lanes_same = act.in_lanes_same ∙ ready.in_lanes_same;
+      out_lanes_same = act.out_lanes_same ∙ ready.out_lanes_same;
+      lanes_same = act.lanes_same;
+      goes = λ world past stand was. moved_on world past act stand was;
+    }
+    turn_after false act same = record {
+      ins_same = act.ins_same ∙ ready.ins_same;
+      outs_same = act.outs_same ∙ ready.outs_same;
+      in_lanes_same = act.in_lanes_same ∙ ready.in_lanes_same;
+      out_lanes_same = act.out_lanes_same ∙ ready.out_lanes_same;
+      lanes_same = act.lanes_same;
+      goes = λ world past stand was. let s = same refl in rested world past s.0 s.1 stand was;
+    }
+
+pub none_if_not_some : (f : Option Fault) → is_some f ≡ false → f ≡ None
+none_if_not_some None e = refl
+none_if_not_some (Some c) e = absurd (true_not_false e)
+
+pub some_is_faulty : (f : Option Fault) → is_some f ≡ true → f ≡ None → ⊥
+some_is_faulty f s n = true_not_false (sym s ∙ ap (λ (x : Option Fault). is_some x) n)

@@ -1,0 +1,16 @@
+pub mod Acting
+pub mod Before
+pub mod Changes
+pub mod Flows
+pub mod Fresh
+pub mod Idling
+pub mod Induction
+pub mod Moments
+pub mod NetSteps
+pub mod PortSteps
+pub mod Queues
+pub mod Readying
+pub mod Rounds
+pub mod Sendings
+pub mod Turning
+pub mod Whole

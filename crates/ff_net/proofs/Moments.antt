@@ -1,0 +1,178 @@
+-- From moment to moment.
+use Rattle.std.proofs.Common.{◌≡◌, ◌≢◌, ℕ, ◌==◌, inl, inr, Bool, true, false, if◌then◌else◌, List, [], ◌∷◌, ◌++◌, refl, ap, sym, ◌∙◌, subst, arith, Option}
+use Rattle.std.proofs.lemmas.Bool.Decides.{nat_tests}
+use mathlib.Core.List.{IsPrefix}
+use Rattle.ff_frame.specs.declared.item.Item.{Item}
+use Rattle.ff_frame.specs.declared.item.Item.TheVariants.{Audio, Packet, End, Broken}
+use Rattle.ff_frame.specs.declared.item.Lane.{Lane}
+use Rattle.ff_frame.specs.declared.item.Ticket.{Ticket}
+use Rattle.ff_frame.specs.Stream.{still_open, whole, broken, LiesBelow}
+use Rattle.ff_frame.specs.Items.{with_item}
+use Rattle.ff_frame.specs.Order.{below_self, below_both, below_trans, prefix_self, prefix_trans, prefix_both}
+use Rattle.ff_net.specs.declared.fault.Fault.{Fault}
+use Rattle.ff_net.specs.declared.node.Node.{Node}
+use Rattle.ff_net.specs.declared.wires.Wires.{Wires}
+use Rattle.ff_net.specs.Ways.{Flow}
+use Rattle.ff_net.specs.Pasts.{Past}
+use Rattle.ff_net.specs.Worlds.{Wire, with_wire}
+use Rattle.ff_net.specs.Nodes.{NodeStands, in_wires_of, out_wires_of}
+use Rattle.ff_net.specs.Steps.{Course, Moves, took, put, finished, granted, told, Stepped}
+use Rattle.ff_net.proofs.Flows.{same_or_not}
+
+pub with_wire_same : (world : ℕ → Wire) (w : ℕ) (wire : Wire) (v : ℕ) → v ≡ w → with_wire world w wire v ≡ wire
+with_wire_same world w wire v e = pick (v == w) refl
+  where
+    pick : (b : Bool) → (v == w) ≡ b → (if b then wire else world v) ≡ wire
+    pick true t = refl
+    pick false t = let other : v ≢ w = grind (arith, nat_tests) in absurd (other e)
+
+pub with_wire_other : (world : ℕ → Wire) (w : ℕ) (wire : Wire) (v : ℕ) → v ≢ w → with_wire world w wire v ≡ world v
+with_wire_other world w wire v n = pick (v == w) refl
+  where
+    pick : (b : Bool) → (v == w) ≡ b → (if b then wire else world v) ≡ world v
+    pick true t = let same : v ≡ w = grind (arith, nat_tests) in absurd (n same)
+    pick false t = refl
+
+-- what a wire keeps that is set to one with the same
+pub with_wire_keeps : {A : Type 0} (f : Wire → A) (world : ℕ → Wire) (w : ℕ) (wire : Wire) (v : ℕ) → f wire ≡ f (world w) → f (with_wire world w wire v) ≡ f (world v)
+with_wire_keeps f world w wire v e =
+    elim (same_or_not v w) [
+      | inl same ↦ ap f (with_wire_same world w wire v same) ∙ (e ∙ ap (λ (u : ℕ). f (world u)) (sym same))
+      | inr other ↦ ap f (with_wire_other world w wire v other)
+    ]
+
+-- what holds of the wire that is set, and stays of each other, holds of all
+pub with_wire_each : (P : Wire → Wire → Type 0) (world : ℕ → Wire) (w : ℕ) (wire : Wire) → P (world w) wire → ((u : Wire) → P u u) → (v : ℕ) → P (world v) (with_wire world w wire v)
+with_wire_each P world w wire here others v =
+    elim (same_or_not v w) [
+      | inl e ↦ subst (λ (u : Wire). P (world v) u) (sym (with_wire_same world w wire v e)) (subst (λ (u : ℕ). P (world u) wire) (sym e) here)
+      | inr n ↦ subst (λ (u : Wire). P (world v) u) (sym (with_wire_other world w wire v n)) (others (world v))
+    ]
+
+pub course_self : (ins outs : List ℕ) (world : ℕ → Wire) (past : Past) → Course ins outs world world past past
+course_self ins outs world past = record {
+  sent = λ w n. refl;
+  taken = λ w n. refl;
+  finished = λ w n. refl;
+  sent_grows = λ w. below_self (world w).sent;
+  taken_grows = λ w. below_self (world w).taken;
+  stays_finished = λ w f. f;
+  task = refl;
+  allowed = prefix_self past.allowed;
+  stopped = λ q i. i;
+}
+
+pub course_trans : (ins outs : List ℕ) (a b c : ℕ → Wire) (p q r : Past) → Course ins outs a b p q → Course ins outs b c q r → Course ins outs a c p r
+course_trans ins outs a b c p q r x y = record {
+  sent = λ w n. y.sent w n ∙ x.sent w n;
+  taken = λ w n. y.taken w n ∙ x.taken w n;
+  finished = λ w n. y.finished w n ∙ x.finished w n;
+  sent_grows = λ w. below_trans (a w).sent (b w).sent (c w).sent (x.sent_grows w) (y.sent_grows w);
+  taken_grows = λ w. below_trans (a w).taken (b w).taken (c w).taken (x.taken_grows w) (y.taken_grows w);
+  stays_finished = λ w f. y.stays_finished w (x.stays_finished w f);
+  task = y.task ∙ x.task;
+  allowed = prefix_trans p.allowed q.allowed r.allowed x.allowed y.allowed;
+  stopped = λ s i. y.stopped s (x.stopped s i);
+}
+
+-- between two equal streams, one that lies above the first and below the second is equal to them
+between : (r s t : Flow) → LiesBelow r s → LiesBelow s t → t ≡ r → s ≡ r
+between r s t p q e = below_both s r (subst (λ (x : Flow). LiesBelow s x) e q) p
+
+not_false : true ≡ false → ⊥
+not_false e = cc
+
+false_before : (b c : Bool) → (b ≡ true → c ≡ true) → c ≡ false → b ≡ false
+false_before true c h e = absurd (not_false (sym (h refl) ∙ e))
+false_before false c h e = refl
+
+-- what moved before has moved
+pub moves_then : (ins outs : List ℕ) (a b c : ℕ → Wire) (p q r : Past) → Course ins outs a b p q → Course ins outs b c q r → Moves a b p q → Moves a c p r
+moves_then ins outs a b c p q r x y (took w n) = took w (λ e. n (between (a w).taken (b w).taken (c w).taken (x.taken_grows w) (y.taken_grows w) e))
+moves_then ins outs a b c p q r x y (put w n) = put w (λ e. n (between (a w).sent (b w).sent (c w).sent (x.sent_grows w) (y.sent_grows w) e))
+moves_then ins outs a b c p q r x y (finished w f t) = finished w f (y.stays_finished w t)
+moves_then ins outs a b c p q r x y (granted n) = granted (λ e. n (prefix_both q.allowed p.allowed (subst (λ (ts : List Ticket). IsPrefix q.allowed ts) e y.allowed) x.allowed))
+moves_then ins outs a b c p q r x y (told s n i) = told s n (y.stopped s i)
+
+pub then_moves : (ins outs : List ℕ) (a b c : ℕ → Wire) (p q r : Past) → Course ins outs a b p q → Course ins outs b c q r → Moves b c q r → Moves a c p r
+then_moves ins outs a b c p q r x y (took w n) = took w (λ e. n (e ∙ sym (between (a w).taken (b w).taken (c w).taken (x.taken_grows w) (y.taken_grows w) e)))
+then_moves ins outs a b c p q r x y (put w n) = put w (λ e. n (e ∙ sym (between (a w).sent (b w).sent (c w).sent (x.sent_grows w) (y.sent_grows w) e)))
+then_moves ins outs a b c p q r x y (finished w f t) = finished w (false_before (a w).finished (b w).finished (x.stays_finished w) f) t
+then_moves ins outs a b c p q r x y (granted n) =
+    granted (λ e. n (e ∙ sym (prefix_both q.allowed p.allowed (subst (λ (ts : List Ticket). IsPrefix q.allowed ts) e y.allowed) x.allowed)))
+then_moves ins outs a b c p q r x y (told s n i) = told s (λ j. n (x.stopped s j)) i
+
+longer_tickets : (ts : List Ticket) (t : Ticket) → ts ++ t ∷ [] ≢ ts
+longer_tickets [] t e = cc
+longer_tickets (u ∷ ts) t e = longer_tickets ts t (cc (e))
+
+pub pushed_tickets : (ts : List Ticket) (t : Ticket) → ts ++ t ∷ [] ≢ ts
+pushed_tickets = longer_tickets
+
+longer : (xs : List Item) (x : Item) → xs ++ x ∷ [] ≢ xs
+longer [] x e = cc
+longer (y ∷ xs) x e = longer xs x (cc (e))
+
+-- an item changes an open stream
+pub with_item_new : (s : Flow) (x : Item) → s.mark ≡ still_open → with_item s x ≢ s
+with_item_new s (Audio f) o e = longer s.items (Audio f) (ap (λ (t : Flow). t.items) e)
+with_item_new s (Packet p) o e = longer s.items (Packet p) (ap (λ (t : Flow). t.items) e)
+with_item_new s End o e = let m : whole ≡ s.mark = ap (λ (t : Flow). t.mark) e in cc
+with_item_new s Broken o e = let m : broken ≡ s.mark = ap (λ (t : Flow). t.mark) e in cc
+
+module _ {M : Type 0} (in_lanes out_lanes : M → List Lane) (source : M → Option ℕ) (fault : M → Option Fault) (stands : M → Past → Type 0) where
+  -- one step after the other
+  pub stepped_then : (how how' how'' : (ℕ → Wire) → Past → (ℕ → Wire) → Past → Type 0) (node : Node M) (wires : Wires) (node' : Node M) (wires' : Wires) (node'' : Node M) (wires'' : Wires)
+      → ((a : ℕ → Wire) (p : Past) (b : ℕ → Wire) (q : Past) (c : ℕ → Wire) (r : Past) → Course (in_wires_of node) (out_wires_of node) a b p q → Course (in_wires_of node) (out_wires_of node) b c q r → how a p b q → how' b q c r → how'' a p c r)
+      → Stepped in_lanes out_lanes source fault stands how node wires node' wires' → Stepped in_lanes out_lanes source fault stands how' node' wires' node'' wires'' → Stepped in_lanes out_lanes source fault stands how'' node wires node'' wires''
+  stepped_then how how' how'' node wires node' wires' node'' wires'' join a b = record {
+    ins_same = b.ins_same ∙ a.ins_same;
+    outs_same = b.outs_same ∙ a.outs_same;
+    in_lanes_same = b.in_lanes_same ∙ a.in_lanes_same;
+    out_lanes_same = b.out_lanes_same ∙ a.out_lanes_same;
+    lanes_same = b.lanes_same ∙ a.lanes_same;
+    goes = λ world past stand was.
+        let x = a.goes world past stand was in
+        let y = b.goes x.now x.since x.stand x.fits in
+        let f : Course (in_wires_of node) (out_wires_of node) x.now y.now x.since y.since = subst (λ (os : List ℕ). Course (in_wires_of node) os x.now y.now x.since y.since) a.outs_same (subst (λ (is : List ℕ). Course is (out_wires_of node') x.now y.now x.since y.since) a.ins_same y.course) in record {
+          now = y.now;
+          since = y.since;
+          stand = y.stand;
+          fits = y.fits;
+          course = course_trans (in_wires_of node) (out_wires_of node) world x.now y.now past x.since y.since x.course f;
+          so = join world past x.now x.since y.now y.since x.course f x.so y.so;
+        };
+  }
+
+  -- the same, where what holds between depends on what is behind the node there
+  pub stepped_through : (how how' how'' : (ℕ → Wire) → Past → (ℕ → Wire) → Past → Type 0) (node : Node M) (wires : Wires) (node' : Node M) (wires' : Wires) (node'' : Node M) (wires'' : Wires)
+      → ((a : ℕ → Wire) (p : Past) (b : ℕ → Wire) (q : Past) (c : ℕ → Wire) (r : Past) → NodeStands source fault stands node a p → NodeStands source fault stands node' b q → Course (in_wires_of node) (out_wires_of node) a b p q → Course (in_wires_of node) (out_wires_of node) b c q r → how a p b q → how' b q c r → how'' a p c r)
+      → Stepped in_lanes out_lanes source fault stands how node wires node' wires' → Stepped in_lanes out_lanes source fault stands how' node' wires' node'' wires'' → Stepped in_lanes out_lanes source fault stands how'' node wires node'' wires''
+  stepped_through how how' how'' node wires node' wires' node'' wires'' join a b = record {
+    ins_same = b.ins_same ∙ a.ins_same;
+    outs_same = b.outs_same ∙ a.outs_same;
+    in_lanes_same = b.in_lanes_same ∙ a.in_lanes_same;
+    out_lanes_same = b.out_lanes_same ∙ a.out_lanes_same;
+    lanes_same = b.lanes_same ∙ a.lanes_same;
+    goes = λ world past stand was.
+        let x = a.goes world past stand was in
+        let y = b.goes x.now x.since x.stand x.fits in
+        let f : Course (in_wires_of node) (out_wires_of node) x.now y.now x.since y.since = subst (λ (os : List ℕ). Course (in_wires_of node) os x.now y.now x.since y.since) a.outs_same (subst (λ (is : List ℕ). Course is (out_wires_of node') x.now y.now x.since y.since) a.ins_same y.course) in record {
+          now = y.now;
+          since = y.since;
+          stand = y.stand;
+          fits = y.fits;
+          course = course_trans (in_wires_of node) (out_wires_of node) world x.now y.now past x.since y.since x.course f;
+          so = join world past x.now x.since y.now y.since was x.fits x.course f x.so y.so;
+        };
+  }
+
+  pub stepped_self : (how : (ℕ → Wire) → Past → (ℕ → Wire) → Past → Type 0) (node : Node M) (wires : Wires) → ((w : ℕ → Wire) (p : Past) → how w p w p) → Stepped in_lanes out_lanes source fault stands how node wires node wires
+  stepped_self how node wires h = record {
+    ins_same = refl;
+    outs_same = refl;
+    in_lanes_same = refl;
+    out_lanes_same = refl;
+    lanes_same = refl;
+    goes = λ world past stand was. record { now = world; since = past; stand = stand; fits = was; course = course_self (in_wires_of node) (out_wires_of node) world past; so = h world past };
+  }

@@ -1,0 +1,43 @@
+use Rattle.std.proofs.Common.{◌≡◌, ◌+◌, ℕ, ◌∙◌, refl, ap, sym, List, ◌++◌, ◌∷◌, [], Option, Some, add-one}
+use Rattle.ff_frame.specs.declared.item.Ticket.{Ticket}
+use Rattle.ff_net.specs.Pasts.{was_allowed}
+use Rattle.ff_net.specs.Nodes.{tickets}
+use Rattle.ff_net.specs.Steps.{granted}
+use Rattle.ff_net.proofs.Changes.{fault_back, course_past, machine_step, true_not_false}
+use Rattle.ff_net.proofs.Moments.{pushed_tickets}
+use Rattle.ff_net.proofs.node.Node.allow.Goals as goal
+
+pub returns-in-None-clause-stepped : goal.returns-in-None-clause-stepped
+returns-in-None-clause-stepped g c wires =
+    let m = g.M.Machine in
+    let node = c.args.self.now in
+    let t : Ticket = record { source = c.in-Some.source; place = node.place } in
+    let is_source : m.source_of node.machine ≡ Some c.in-Some.source = sym c.source.ensures ∙ c.in-Some.is in
+    record {
+      ins_same = refl;
+      outs_same = refl;
+      in_lanes_same = c.allow.ensures.in_lanes;
+      out_lanes_same = c.allow.ensures.out_lanes;
+      lanes_same = refl;
+      goes = λ world past stand was.
+          let since = was_allowed past t in
+          let now = c.in-None.ensures.taken refl past was.machine in
+          let places : past.allowed ≡ tickets (Some c.in-Some.source) node.place = was.allowed ∙ ap (λ (s : Option ℕ). tickets s node.place) is_source in
+          let allowed : since.allowed ≡ tickets (m.source_of c.allow.new.self) (node.place + 1) =
+          ap (λ (ts : List Ticket). ts ++ t ∷ []) places ∙ (ap (λ (n : ℕ). tickets (Some c.in-Some.source) n) (sym (add-one node.place)) ∙ ap (λ (s : Option ℕ). tickets s (node.place + 1)) (sym (c.allow.ensures.source ∙ is_source))) in record {
+            now = world;
+            since = since;
+            stand = stand;
+            fits = machine_step m.source_of m.fault_of m.stands node _ world past since was now (λ s. (s.0, fault_back _ _ c.allow.ensures.stays s.1)) (λ r. r) refl refl refl refl refl refl allowed;
+            course = course_past _ _ world past since refl (t ∷ [], refl) (λ q i. i);
+            so = record {
+              moves = λ e. granted (pushed_tickets past.allowed t);
+              sent = λ w. refl;
+              taken = λ w. refl;
+              finished = λ w. refl;
+              got = refl;
+              stopped = refl;
+              same = λ e. absurd (true_not_false e);
+            };
+          };
+    }

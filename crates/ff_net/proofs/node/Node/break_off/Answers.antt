@@ -1,0 +1,80 @@
+use Rattle.std.proofs.Common.{◌≡◌, ◌<◌, ℕ, false, true, refl, sym, ◌∙◌, subst, ap, length, inl, inr}
+use Rattle.ff_frame.specs.declared.item.Item.TheVariants.{Broken}
+use Rattle.ff_frame.specs.Order.{prefix_self}
+use Rattle.ff_net.specs.declared.wires.Wires.{Wires}
+use Rattle.ff_net.specs.Worlds.{Wire, Stand, put_on, lanes_of}
+use Rattle.ff_net.specs.Pasts.{was_stopped}
+use Rattle.ff_net.specs.Ports.{out_at, out_wires}
+use Rattle.ff_net.specs.Steps.{put, told as was_told}
+use Rattle.ff_net.proofs.Moments.{with_wire_same, with_wire_keeps, with_item_new}
+use Rattle.ff_net.proofs.PortSteps.{out_wires_set, out_wire_there, out_wire_in}
+use Rattle.ff_net.proofs.Changes.{course_put, course_past, broke, told, busy_goes_on}
+use Rattle.ff_net.proofs.Queues.{finished_of, in_queues}
+use Rattle.ff_net.proofs.Sendings.{broken_valid}
+use Rattle.ff_net.proofs.node.Node.break_off.Goals as goal
+
+pub try_put-requires : goal.try_put-requires
+try_put-requires g c = subst (λ (w : ℕ). w < length (lanes_of c.args.wires.now)) (sym c.out_wire.ensures) (out_wire_there c.args.self.now.outs.items _ (lanes_of c.args.wires.now) c.requires.shaped.outs c.args.p c.requires.there)
+
+pub returns-in-Done-clause-stepped : goal.returns-in-Done-clause-stepped
+returns-in-Done-clause-stepped g c =
+    let m = g.M.Machine in
+    let laws = g.met.M.Machine in
+    let node = c.args.self.now in
+    let outs = node.outs.items in
+    let p = c.args.p in
+    let there = c.requires.there in
+    let old = out_at outs p in
+    let busy : old.done ≡ false = sym c.out_done.ensures ∙ c.if-out_done.false in
+    let set = c.close_out.ensures in
+    let wire : c.out_wire.result ≡ old.wire = c.out_wire.ensures in
+    record {
+      ins_same = refl;
+      outs_same = ap (λ os. out_wires os) set ∙ out_wires_set outs p _ there refl;
+      in_lanes_same = refl;
+      out_lanes_same = refl;
+      lanes_same = c.try_put.ensures.lanes;
+      goes = λ world past stand was.
+          let unclosed = (was.outs p there).unclosed busy in
+          let valid = broken_valid m.source_of m.fault_of m.stands node c.args.wires.now world past p (m.in_lanes node.machine) (m.out_lanes node.machine) stand was (laws.valid node.machine past was.machine) (laws.keeps node.machine past was.machine) c.requires.shaped.outs there in
+          let done : Stand c.try_put.new.self (put_on world old.wire Broken) = subst (λ (w : ℕ). Stand c.try_put.new.self (put_on world w Broken)) wire ((c.in-Done.ensures.done refl world stand (rw wire unclosed) (rw wire valid)).1) in record {
+            now = put_on world old.wire Broken;
+            since = past;
+            stand = done;
+            fits = broke m.source_of m.fault_of m.stands node _ world past p (m.out_lanes node.machine) (lanes_of c.args.wires.now) was refl refl refl refl set there c.requires.shaped.outs busy c.requires.faulty;
+            course = course_put _ _ world old.wire Broken past (out_wire_in outs p old.wire there refl) unclosed;
+            so = record {
+              moves = λ e. put old.wire (λ same. with_item_new (world old.wire).sent Broken unclosed (sym (ap (λ (u : Wire). u.sent) (with_wire_same world old.wire _ old.wire refl)) ∙ same));
+              takes_nothing = λ q w. with_wire_keeps (λ (u : Wire). u.taken) world old.wire _ w refl;
+            };
+          };
+    }
+
+pub returns-in-Finished-clause-stepped : goal.returns-in-Finished-clause-stepped
+returns-in-Finished-clause-stepped g c =
+    let m = g.M.Machine in
+    let node = c.args.self.now in
+    let outs = node.outs.items in
+    let p = c.args.p in
+    let there = c.requires.there in
+    let old = out_at outs p in
+    let busy : old.done ≡ false = sym c.out_done.ensures ∙ c.if-out_done.false in
+    let finished = c.in-Finished.ensures.finished c.in-Finished.item refl in
+    let set = c.close_out-in-Finished.ensures in
+    record {
+      ins_same = refl;
+      outs_same = ap (λ os. out_wires os) set ∙ out_wires_set outs p _ there refl;
+      in_lanes_same = c.stop.ensures.in_lanes;
+      out_lanes_same = c.stop.ensures.out_lanes;
+      lanes_same = c.try_put.ensures.lanes;
+      goes = λ world past stand was.
+          let goes_on = busy_goes_on m.source_of m.fault_of m.stands node world past p was busy in
+          let flag : (world old.wire).finished ≡ true = subst (λ (w : ℕ). (world w).finished ≡ true) c.out_wire.ensures (finished_of c.args.wires.now.queues.items world c.out_wire.result stand (in_queues c.args.wires.now.queues.items c.out_wire.result (subst (λ (w : ℕ). w < length (lanes_of c.args.wires.now)) (sym c.out_wire.ensures) (out_wire_there outs _ (lanes_of c.args.wires.now) c.requires.shaped.outs p there))) finished.2) in record {
+            now = world;
+            since = was_stopped past p;
+            stand = subst (λ (w : Wires). Stand w world) (sym finished.1) stand;
+            fits = told m.source_of m.fault_of m.stands node _ world past p old.held was (c.stop.ensures.stopped past was.machine) c.stop.ensures.stays refl c.stop.ensures.source refl refl set there busy flag;
+            course = course_past _ _ world past (was_stopped past p) refl (prefix_self past.allowed) (λ q i. inr i);
+            so = record { moves = λ e. was_told p goes_on (inl refl); takes_nothing = λ q w. refl };
+          };
+    }

@@ -1,0 +1,20 @@
+use Rattle.std.proofs.Common.{◌≡◌, ◌<◌, ℕ, length, true, false}
+use Rattle.ff_net.specs.Nodes.{IsShaped, IsSame, IsSound}
+use Rattle.ff_net.specs.Ports.{in_at, AreDone}
+use Rattle.ff_net.specs.Steps.{Stepped, Acts}
+use Rattle.ff_net.proofs.node.Node.close_all.Given as goal
+
+abbrev pub invariant-loop-p : goal.invariant-loop-p
+invariant-loop-p g l =
+    let m = g.M.Machine in record {
+      shaped : IsShaped m.in_lanes m.out_lanes l.self l.wires;
+      count : l.count ≡ length l.self.ins.items;
+      stepped : Stepped m.in_lanes m.out_lanes m.source_of m.fault_of m.stands (Acts (l.moved ≡ true) (Unit {0})) l.fn.self l.fn.wires l.self l.wires;
+      same : l.moved ≡ false → IsSame l.fn.self l.self × (l.wires ≡ l.fn.wires);
+      machine : l.self.machine ≡ l.fn.self.machine;
+      outs : l.self.outs ≡ l.fn.self.outs;
+      refused : l.self.refused ≡ l.fn.self.refused;
+      spent : (q : ℕ) → q < l.p → m.is_spent l.self.machine q → (in_at l.self.ins.items q).done ≡ true;
+      broken : (IsSound m.fault_of l.self → ⊥) → (q : ℕ) → q < l.p → (in_at l.self.ins.items q).done ≡ true;
+      done : 0 < length l.self.outs.items → AreDone l.self.outs.items → (q : ℕ) → q < l.p → (in_at l.self.ins.items q).done ≡ true;
+    }

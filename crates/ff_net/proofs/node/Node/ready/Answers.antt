@@ -1,0 +1,103 @@
+use Rattle.std.proofs.Common.{◌≡◌, ◌<◌, ℕ, length, true, false, refl, sym, ◌∙◌, ap, subst, inl, inr, List, None, ◌≤◌, ◌^◌, ◌-◌}
+use Rattle.ff_frame.specs.Ports.{stream_at}
+use Rattle.ff_net.specs.declared.ports.OutPort.{OutPort}
+use Rattle.ff_net.specs.Ways.{Flow}
+use Rattle.ff_net.specs.Pasts.{due}
+use Rattle.ff_net.specs.Ports.{out_at, NoneHeld}
+use Rattle.ff_net.specs.Steps.{Prepares}
+use Rattle.ff_net.proofs.Flows.{due_same}
+use Rattle.ff_net.proofs.Moments.{stepped_then, stepped_through, then_moves, moves_then}
+use Rattle.ff_net.proofs.Changes.{true_not_false}
+use Rattle.ff_net.proofs.Readying.{none_before, ungranted}
+use Rattle.ff_net.proofs.node.Node.ready.Goals as goal
+
+pub fill_all-more-requires : goal.fill_all-more-requires
+fill_all-more-requires g c =
+    let e = c.fill_all-due.ensures in
+    let a = c.allow-granted.ensures in
+    record { outputs = ap (λ os. length os.items) a.outs ∙ (e.count ∙ (c.requires.outputs ∙ ap length (sym (a.out_lanes ∙ e.out_lanes)))) }
+
+pub returns-then-due-clause-stepped : goal.returns-then-due-clause-stepped
+returns-then-due-clause-stepped g c wires =
+    let m = g.M.Machine in
+    let laws = g.met.M.Machine in
+    let before = c.args.self.now in
+    let filled = c.fill_all-due.new.self in
+    let after = c.allow-granted.new.self in
+    let e = c.fill_all-due.ensures in
+    let a = c.allow-granted.ensures in
+    let outs : after.outs.items ≡ filled.outs.items = ap (λ os. os.items) a.outs in
+    let count : length filled.outs.items ≡ length (m.out_lanes filled.machine) = e.count ∙ (c.requires.outputs ∙ ap length (sym e.out_lanes)) in
+    stepped_through m.in_lanes m.out_lanes m.source_of m.fault_of m.stands _ _ (Prepares m.source_of m.fault_of c.allow-granted.result true before after) before wires filled wires after wires
+    (λ w p v q u r was mid x y f s. record {
+      moves = λ t. then_moves _ _ w v u p q r x y (s.moves t);
+      taken = λ k. s.taken k ∙ f.taken k;
+      none_before = λ ok no. absurd (true_not_false no);
+      rests = λ no. record {
+        none_due = λ ok.
+            let same : r ≡ q = s.same no in
+            let dues : due r ≡ due p = ap due same ∙ due_same p q x.task f.got f.allowed in
+            subst (λ (os : List OutPort). (k : ℕ) → k < length os → (out_at os k).done ≡ false → (out_at os k).held ≡ None → (u (out_at os k).wire).sent ≡ stream_at (due r) k) (sym outs)
+            (λ k lt busy none. s.sent (out_at filled.outs.items k).wire ∙ (f.sent (out_at filled.outs.items k).wire ∙ (f.none_due (a.sound ok) k lt busy none ∙ ap (λ (ss : List Flow). stream_at ss k) (sym dues))));
+        ungranted = λ ok none k lt busy.
+            elim (ungranted m.source_of m.fault_of m.stands m.out_lanes m.holds laws.ticket_used filled v q w p c.fill_all-due.result e.held mid (a.sound ok) count (subst NoneHeld outs none) f (a.back no) k (subst (λ (os : List OutPort). k < length os) outs lt) (subst (λ (os : List OutPort). (out_at os k).done ≡ false) outs busy)) [
+              | inl n ↦ inl (a.source ∙ n)
+              | inr full ↦ inr (subst (λ (z : ℕ). 2 ^ 64 - 1 ≤ z) (sym (a.place no)) full)
+            ];
+      };
+    }) (e.stepped wires) (a.stepped wires)
+
+pub returns-then-not-granted-clause-stepped : goal.returns-then-not-granted-clause-stepped
+returns-then-not-granted-clause-stepped g c wires =
+    let m = g.M.Machine in
+    let laws = g.met.M.Machine in
+    let before = c.args.self.now in
+    let filled = c.fill_all-due.new.self in
+    let after = c.allow-granted.new.self in
+    let e = c.fill_all-due.ensures in
+    let a = c.allow-granted.ensures in
+    let outs : after.outs.items ≡ filled.outs.items = ap (λ os. os.items) a.outs in
+    let count : length filled.outs.items ≡ length (m.out_lanes filled.machine) = e.count ∙ (c.requires.outputs ∙ ap length (sym e.out_lanes)) in
+    stepped_through m.in_lanes m.out_lanes m.source_of m.fault_of m.stands _ _ (Prepares m.source_of m.fault_of false false before after) before wires filled wires after wires
+    (λ w p v q u r was mid x y f s. record {
+      moves = λ t. absurd (true_not_false (sym t));
+      taken = λ k. s.taken k ∙ f.taken k;
+      none_before = λ ok no. none_before m.source_of m.fault_of m.stands before filled c.fill_all-due.result w v p q e.sound e.count (e.stepped wires).outs_same e.done (e.none c.if-due.false) f (a.sound ok);
+      rests = λ no. record {
+        none_due = λ ok.
+            let same : r ≡ q = s.same c.if-not-granted.true in
+            let dues : due r ≡ due p = ap due same ∙ due_same p q x.task f.got f.allowed in
+            subst (λ (os : List OutPort). (k : ℕ) → k < length os → (out_at os k).done ≡ false → (out_at os k).held ≡ None → (u (out_at os k).wire).sent ≡ stream_at (due r) k) (sym outs)
+            (λ k lt busy none. s.sent (out_at filled.outs.items k).wire ∙ (f.sent (out_at filled.outs.items k).wire ∙ (f.none_due (a.sound ok) k lt busy none ∙ ap (λ (ss : List Flow). stream_at ss k) (sym dues))));
+        ungranted = λ ok none k lt busy.
+            elim (ungranted m.source_of m.fault_of m.stands m.out_lanes m.holds laws.ticket_used filled v q w p c.fill_all-due.result e.held mid (a.sound ok) count (subst NoneHeld outs none) f (a.back c.if-not-granted.true) k (subst (λ (os : List OutPort). k < length os) outs lt) (subst (λ (os : List OutPort). (out_at os k).done ≡ false) outs busy)) [
+              | inl n ↦ inl (a.source ∙ n)
+              | inr full ↦ inr (subst (λ (z : ℕ). 2 ^ 64 - 1 ≤ z) (sym (a.place c.if-not-granted.true)) full)
+            ];
+      };
+    }) (e.stepped wires) (a.stepped wires)
+
+pub returns-clause-stepped : goal.returns-clause-stepped
+returns-clause-stepped g c wires =
+    let m = g.M.Machine in
+    let before = c.args.self.now in
+    let filled = c.fill_all-due.new.self in
+    let after = c.allow-granted.new.self in
+    let last = c.fill_all-more.new.self in
+    let e = c.fill_all-due.ensures in
+    let a = c.allow-granted.ensures in
+    let f2 = c.fill_all-more.ensures in
+    let first = stepped_then m.in_lanes m.out_lanes m.source_of m.fault_of m.stands _ _ (Prepares m.source_of m.fault_of true false before after) before wires filled wires after wires
+    (λ w p v q u r x y f s. record {
+      moves = λ t. then_moves _ _ w v u p q r x y (s.moves c.if-not-granted.false);
+      taken = λ k. s.taken k ∙ f.taken k;
+      none_before = λ ok no. none_before m.source_of m.fault_of m.stands before filled c.fill_all-due.result w v p q e.sound e.count (e.stepped wires).outs_same e.done (e.none c.if-due.false) f (a.sound ok);
+      rests = λ no. absurd (true_not_false no);
+    }) (e.stepped wires) (a.stepped wires) in
+    stepped_then m.in_lanes m.out_lanes m.source_of m.fault_of m.stands _ _ (Prepares m.source_of m.fault_of true c.fill_all-more.result before last) before wires after wires last wires
+    (λ w p v q u r x y f s. record {
+      moves = λ t. moves_then _ _ w v u p q r x y (f.moves refl);
+      taken = λ k. s.taken k ∙ f.taken k;
+      none_before = λ ok no. f.none_before (f2.sound ok) refl;
+      rests = λ no. absurd (true_not_false no);
+    }) first (f2.stepped wires)

@@ -1,0 +1,103 @@
+use Rattle.std.proofs.Common.{◌≡◌, ◌<◌, ℕ, false, true, refl, sym, ◌∙◌, subst, ap, length, inl, inr}
+use Rattle.ff_frame.specs.Stream.{still_open}
+use Rattle.ff_frame.specs.Items.{with_item}
+use Rattle.ff_frame.specs.Ports.{stream_at}
+use Rattle.ff_net.specs.declared.node.Node.{Node}
+use Rattle.ff_net.specs.Ways.{Flow}
+use Rattle.ff_net.specs.Worlds.{Wire, Stand, take_on, lanes_of}
+use Rattle.ff_net.specs.Pasts.{fed}
+use Rattle.ff_net.specs.Ports.{in_at}
+use Rattle.ff_net.specs.Steps.{took as has_taken}
+use Rattle.ff_net.proofs.Flows.{stream_at-with_item_same, stream_at-with_item_other}
+use Rattle.ff_net.proofs.Moments.{with_wire_same, with_item_new}
+use Rattle.ff_net.proofs.PortSteps.{in_wire_there, in_wire_in}
+use Rattle.ff_net.proofs.Changes.{true_not_false, course_take, took, may_machine}
+use Rattle.ff_net.proofs.Sendings.{taken_valid, close_fed, may_fed}
+use Rattle.ff_net.proofs.node.Node.take.Goals as goal
+
+pub try_take-requires : goal.try_take-requires
+try_take-requires g c = subst (λ (w : ℕ). w < length (lanes_of c.args.wires.now)) (sym c.in_wire.ensures) (in_wire_there c.args.self.now.ins.items _ (lanes_of c.args.wires.now) c.requires.shaped.ins c.args.p c.requires.there)
+
+pub returns-in-Ok-clause-stepped : goal.returns-in-Ok-clause-stepped
+returns-in-Ok-clause-stepped g c =
+    let m = g.M.Machine in
+    let laws = g.met.M.Machine in
+    let node = c.args.self.now in
+    let ins = node.ins.items in
+    let p = c.args.p in
+    let x = c.in-Item.item in
+    let there = c.requires.there in
+    let old = in_at ins p in
+    let busy : old.done ≡ false = sym c.in_done.ensures ∙ c.if-in_done.false in
+    let fresh : node.refused ≡ false = c.if-self.false in
+    let wire : c.in_wire.result ≡ old.wire = c.in_wire.ensures in
+    let after : Node _ = record { machine = c.feed.new.self; ins = node.ins; outs = node.outs; refused = node.refused; place = node.place } in
+    record {
+      ins_same = refl;
+      outs_same = refl;
+      in_lanes_same = c.feed.ensures.in_lanes;
+      out_lanes_same = c.feed.ensures.out_lanes;
+      lanes_same = c.try_take.ensures.lanes;
+      goes = λ world past stand was.
+          let answer = c.in-Item.ensures.item x refl world stand in
+          let unclosed : (world old.wire).taken.mark ≡ still_open = subst (λ (w : ℕ). (world w).taken.mark ≡ still_open) wire answer.0 in
+          let later : Stand c.try_take.new.self (take_on world old.wire x) = subst (λ (w : ℕ). Stand c.try_take.new.self (take_on world w x)) wire answer.1 in
+          let i = was.ins p there in
+          let got : stream_at past.got p ≡ (world old.wire).taken = i.exact fresh in
+          let got_open : (stream_at past.got p).mark ≡ still_open = ap (λ (s : Flow). s.mark) got ∙ unclosed in
+          let valid = laws.valid node.machine past was.machine in
+          let since = fed past p x in
+          let valid' = taken_valid m.source_of m.fault_of m.stands node c.args.wires.now world past p (m.in_lanes node.machine) (m.out_lanes node.machine) stand was valid (laws.keeps node.machine past was.machine) x c.try_take.new.self later c.try_take.ensures.lanes c.requires.shaped.ins there got in
+          let grown : stream_at since.got p ≡ with_item (world old.wire).taken x = stream_at-with_item_same past.got p x ∙ ap (λ (s : Flow). with_item s x) got in record {
+            now = take_on world old.wire x;
+            since = since;
+            stand = later;
+            fits = took m.source_of m.fault_of m.stands node after world past since p x (m.in_lanes node.machine) (lanes_of c.args.wires.now) was (c.in-Ok.ensures.accepted past was.machine got_open valid') c.feed.ensures.stays fresh
+                (may_fed node after past since refl (λ n. close_fed n past p x (m.in_lanes node.machine) (laws.monotone node.machine past was.machine) valid valid' got_open))
+                refl c.feed.ensures.source refl refl there c.requires.shaped.ins busy refl refl refl (λ q n. stream_at-with_item_other past.got p q x n) (inl grown) (λ r. grown);
+            course = course_take _ _ world old.wire x past since refl refl refl (in_wire_in ins p old.wire there refl) unclosed;
+            so = record {
+              moves = λ e. has_taken old.wire (λ same. with_item_new (world old.wire).taken x unclosed (sym (ap (λ (u : Wire). u.taken) (with_wire_same world old.wire _ old.wire refl)) ∙ same));
+              takes_nothing = λ q w. absurd q;
+            };
+          };
+    }
+
+pub returns-in-Err-clause-stepped : goal.returns-in-Err-clause-stepped
+returns-in-Err-clause-stepped g c =
+    let m = g.M.Machine in
+    let node = c.args.self.now in
+    let ins = node.ins.items in
+    let p = c.args.p in
+    let x = c.in-Item.item in
+    let there = c.requires.there in
+    let old = in_at ins p in
+    let busy : old.done ≡ false = sym c.in_done.ensures ∙ c.if-in_done.false in
+    let fresh : node.refused ≡ false = c.if-self.false in
+    let wire : c.in_wire.result ≡ old.wire = c.in_wire.ensures in
+    let after : Node _ = record { machine = c.feed.new.self; ins = node.ins; outs = node.outs; refused = true; place = node.place } in
+    record {
+      ins_same = refl;
+      outs_same = refl;
+      in_lanes_same = c.feed.ensures.in_lanes;
+      out_lanes_same = c.feed.ensures.out_lanes;
+      lanes_same = c.try_take.ensures.lanes;
+      goes = λ world past stand was.
+          let answer = c.in-Item.ensures.item x refl world stand in
+          let unclosed : (world old.wire).taken.mark ≡ still_open = subst (λ (w : ℕ). (world w).taken.mark ≡ still_open) wire answer.0 in
+          let later : Stand c.try_take.new.self (take_on world old.wire x) = subst (λ (w : ℕ). Stand c.try_take.new.self (take_on world w x)) wire answer.1 in
+          let got : stream_at past.got p ≡ (world old.wire).taken = (was.ins p there).exact fresh in
+          let got_open : (stream_at past.got p).mark ≡ still_open = ap (λ (s : Flow). s.mark) got ∙ unclosed in record {
+            now = take_on world old.wire x;
+            since = past;
+            stand = later;
+            fits = took m.source_of m.fault_of m.stands node after world past past p x (m.in_lanes node.machine) (lanes_of c.args.wires.now) was (c.in-Err.ensures.unchanged past was.machine) c.feed.ensures.stays fresh
+                (may_machine node after past past refl refl refl (λ q i. i))
+                refl c.feed.ensures.source refl refl there c.requires.shaped.ins busy refl refl refl (λ q n. refl) (inr (got_open, (x, ap (λ (s : Flow). with_item s x) got))) (λ r. absurd (true_not_false r));
+            course = course_take _ _ world old.wire x past past refl refl refl (in_wire_in ins p old.wire there refl) unclosed;
+            so = record {
+              moves = λ e. has_taken old.wire (λ same. with_item_new (world old.wire).taken x unclosed (sym (ap (λ (u : Wire). u.taken) (with_wire_same world old.wire _ old.wire refl)) ∙ same));
+              takes_nothing = λ q w. absurd q;
+            };
+          };
+    }

@@ -1,0 +1,16 @@
+use Rattle.std.proofs.Common.{◌≡◌, ◌<◌, ℕ, length, true, false}
+use Rattle.ff_net.specs.Nodes.{IsShaped, IsSame}
+use Rattle.ff_net.specs.Ports.{in_at}
+use Rattle.ff_net.specs.Steps.{Stepped, Acts}
+use Rattle.ff_net.specs.Worlds.{IsEmpty}
+use Rattle.ff_net.proofs.node.Node.take_all.Given as goal
+
+abbrev pub invariant-loop-p : goal.invariant-loop-p
+invariant-loop-p g l =
+    let m = g.M.Machine in record {
+      shaped : IsShaped m.in_lanes m.out_lanes l.self l.wires;
+      count : l.count ≡ length l.self.ins.items;
+      stepped : Stepped m.in_lanes m.out_lanes m.source_of m.fault_of m.stands (Acts (l.moved ≡ true) (⊥)) l.fn.self l.fn.wires l.self l.wires;
+      same : l.moved ≡ false → IsSame l.fn.self l.self × (l.wires ≡ l.fn.wires);
+      empty : l.moved ≡ false → l.fn.self.refused ≡ false → (q : ℕ) → q < l.p → (in_at l.fn.self.ins.items q).done ≡ false → IsEmpty l.fn.wires (in_at l.fn.self.ins.items q).wire;
+    }

@@ -1,0 +1,14 @@
+use Rattle.std.proofs.Common.{◌≡◌, ℕ}
+use Rattle.ff_net.specs.Pasts.{Task}
+use Rattle.ff_net.specs.Serial.{AreShaped, NetStands, parts_of}
+use Rattle.ff_net.specs.Worlds.{lanes_of}
+use Rattle.ff_net.proofs.serial.run_serial.Given as goal
+
+abbrev pub invariant-loop-k : goal.invariant-loop-k
+invariant-loop-k g l =
+    let m = g.M.Machine in record {
+      shaped : AreShaped m.in_lanes m.out_lanes l.nodes l.wires;
+      lanes : lanes_of l.wires ≡ lanes_of l.fn.wires;
+      parts : (tasks : ℕ → Task) → parts_of m.in_lanes m.out_lanes tasks l.nodes ≡ parts_of m.in_lanes m.out_lanes tasks l.fn.nodes;
+      stands : (tasks : ℕ → Task) → NetStands m.source_of m.fault_of m.stands tasks l.fn.nodes l.fn.wires → NetStands m.source_of m.fault_of m.stands tasks l.nodes l.wires;
+    }

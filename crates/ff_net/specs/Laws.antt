@@ -1,0 +1,48 @@
+-- The words of the laws of a machine.
+use Rattle.std.specs.Prelude.{◌≡◌, ℕ, ◌<◌, ◌≤◌, ◌+◌, ◌-◌, ◌^◌, min, List, Option, None, Some}
+use Rattle.ff_frame.specs.declared.item.Lane.{Lane}
+use Rattle.ff_frame.specs.Stream.{still_open}
+use Rattle.ff_frame.specs.Ports.{stream_at, AllBelow, IsClosed}
+use Rattle.ff_net.specs.declared.fault.Fault.{Fault}
+use Rattle.ff_net.specs.declared.fault.Fault.TheVariants.{Device, Damaged, TooLong, TooLarge, NoMemory}
+use Rattle.ff_net.specs.Ways.{Flow, AreValid}
+use Rattle.ff_net.specs.Pasts.{Past, IsIn}
+
+-- a count that has come from before to now has risen, or stands at its last value
+abbrev pub Rose : ℕ → ℕ → Type 0
+Rose before now = min (before + 1) (2 ^ 64 - 1) ≤ now
+
+-- a fault that a machine makes of its inputs, and not of a device or for want of memory
+abbrev pub IsOfInputs : Fault → Type 0
+IsOfInputs Device = ⊥
+IsOfInputs (Damaged offset) = Unit {0}
+IsOfInputs TooLong = Unit {0}
+IsOfInputs TooLarge = Unit {0}
+IsOfInputs NoMemory = ⊥
+
+-- no device failed, and no memory was refused for good
+abbrev pub GoesOn : Option Fault → Type 0
+GoesOn None = Unit {0}
+GoesOn (Some Device) = ⊥
+GoesOn (Some (Damaged offset)) = Unit {0}
+GoesOn (Some TooLong) = Unit {0}
+GoesOn (Some TooLarge) = Unit {0}
+GoesOn (Some NoMemory) = ⊥
+
+-- a fault of the inputs of valid streams is the fault of all streams further on
+abbrev pub CauseStays : List Lane → (List Flow → Option Fault) → Type 0
+CauseStays lanes cause = (rs ss : List Flow) (c : Fault) → AreValid lanes rs → AreValid lanes ss → AllBelow rs ss → cause rs ≡ Some c → cause ss ≡ Some c
+
+-- each output that wasn't stopped is closed by what was fed
+abbrev pub OutputsClose : ℕ → Past → Type 0
+OutputsClose outputs past = (q : ℕ) → q < outputs → (IsIn q past.stopped → ⊥) → IsClosed (stream_at (past.task.means past.got) q)
+
+-- an output that wasn't stopped, and on which no closing item was given
+pub record IsPending (outputs : ℕ) (past : Past) (q : ℕ) : Type 0 where
+  pub there : q < outputs
+  pub goes_on : IsIn q past.stopped → ⊥
+  pub unclosed : (stream_at past.gave q).mark ≡ still_open
+
+-- each pending output had nothing to give
+abbrev pub AllAsked : ℕ → Past → Type 0
+AllAsked outputs past = (q : ℕ) → IsPending outputs past q → IsIn q past.asked

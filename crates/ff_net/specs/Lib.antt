@@ -1,0 +1,10 @@
+pub mod Laws
+pub mod Nets
+pub mod Nodes
+pub mod Pasts
+pub mod Ports
+pub mod Serial
+pub mod Steps
+pub mod Turns
+pub mod Ways
+pub mod Worlds

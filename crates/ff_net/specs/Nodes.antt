@@ -1,0 +1,99 @@
+-- A machine on wires, and what it has behind it.
+use Rattle.std.specs.Prelude.{◌≡◌, ℕ, zero, suc, ◌<◌, ◌≤◌, ◌⊎◌, Bool, true, false, List, [], ◌∷◌, ◌++◌, length, map, slice_index_or, Option, None, Some}
+use Rattle.ff_frame.specs.declared.item.Item.{Item}
+use Rattle.ff_frame.specs.declared.item.Lane.{Lane}
+use Rattle.ff_frame.specs.declared.item.Ticket.{Ticket}
+use Rattle.ff_frame.specs.Stream.{still_open, LiesBelow, opened}
+use Rattle.ff_frame.specs.Items.{with_item}
+use Rattle.ff_frame.specs.Ports.{nothing, stream_at, IsClosed}
+use Rattle.ff_net.specs.declared.fault.Fault.{Fault}
+use Rattle.ff_net.specs.declared.node.Node.{Node}
+use Rattle.ff_net.specs.declared.ports.InPort.{InPort}
+use Rattle.ff_net.specs.declared.ports.OutPort.{OutPort}
+use Rattle.ff_net.specs.declared.wires.Wires.{Wires}
+use Rattle.ff_net.specs.Ways.{Flow, lane_at}
+use Rattle.ff_net.specs.Pasts.{Past, IsIn}
+use Rattle.ff_net.specs.Laws.{OutputsClose}
+use Rattle.ff_net.specs.Ports.{in_at, out_at, in_wires, out_wires, AreDone}
+use Rattle.ff_net.specs.Worlds.{Wire, lanes_of}
+
+-- what was sent, with the item that is held, is what the machine gave
+abbrev pub HeldIs : Option Item → Flow → Flow → Type 0
+HeldIs None sent gave = sent ≡ gave
+HeldIs (Some x) sent gave = with_item sent x ≡ gave
+
+-- an output: the wire has what the machine gave but for the item that is held, and without a fault never more
+pub record OutStands (port : OutPort) (wire : Wire) (gave : Flow) (stopped sound : Type 0) : Type 0 where
+  pub held : port.done ≡ false → HeldIs port.held wire.sent gave
+  pub unclosed : port.done ≡ false → wire.sent.mark ≡ still_open
+  pub opened_below : LiesBelow (opened wire.sent) gave
+  pub exact : sound → LiesBelow wire.sent gave
+  -- it is closed and given, or was told that its receiver has finished
+  pub done : port.done ≡ true → IsClosed wire.sent ⊎ ((wire.finished ≡ true) × stopped)
+
+-- the machine was fed what was taken, or all but the last item
+abbrev pub FedAllButOne : Flow → Flow → Type 0
+FedAllButOne got taken = (got ≡ taken) ⊎ ((got.mark ≡ still_open) × ((x : Item) × (with_item got x ≡ taken)))
+
+-- an input: the machine was fed what was taken from the wire, where no item was refused, and it is finished with reason
+pub record InStands (port : InPort) (wire : Wire) (got : Flow) (refused : Bool) (sound may : Type 0) : Type 0 where
+  pub fed : FedAllButOne got wire.taken
+  pub exact : refused ≡ false → got ≡ wire.taken
+  pub flag : port.done ≡ wire.finished
+  pub reason : port.done ≡ true → sound → IsClosed wire.taken ⊎ may
+
+-- the node has no fault
+abbrev pub IsSound : {M : Type 0} → (M → Option Fault) → Node M → Type 0
+IsSound fault node = (node.refused ≡ false) × (fault node.machine ≡ None)
+
+-- the node has outputs, and each that wasn't stopped is closed by what was fed, or nothing more goes on any
+abbrev pub MayClose : {M : Type 0} → Node M → Past → Type 0
+MayClose node past = (0 < length node.outs.items) × (OutputsClose (length node.outs.items) past ⊎ AreDone node.outs.items)
+
+-- the tickets with the places 0, 1, 2 and so on
+abbrev pub tickets : Option ℕ → ℕ → List Ticket
+tickets None n = []
+tickets (Some s) zero = []
+tickets (Some s) (suc n) = tickets (Some s) n ++ record { source = s; place = n } ∷ []
+
+-- the node can be where it is after this was sent and taken on its wires, and its machine after this past
+pub record NodeStands {M : Type 0} (source : M → Option ℕ) (fault : M → Option Fault) (stands : M → Past → Type 0) (node : Node M) (world : ℕ → Wire) (past : Past) : Type 0 where
+  pub machine : stands node.machine past
+  pub ins : (p : ℕ) → p < length node.ins.items → InStands (in_at node.ins.items p) (world (in_at node.ins.items p).wire) (stream_at past.got p) node.refused (IsSound fault node) (MayClose node past)
+  pub outs : (p : ℕ) → p < length node.outs.items → OutStands (out_at node.outs.items p) (world (out_at node.outs.items p).wire) (stream_at past.gave p) (IsIn p past.stopped) (IsSound fault node)
+  pub beyond : (p : ℕ) → length node.ins.items ≤ p → stream_at past.got p ≡ nothing
+  pub stopped : (p : ℕ) → IsIn p past.stopped → (out_at node.outs.items p).done ≡ true
+  pub allowed : past.allowed ≡ tickets (source node.machine) node.place
+
+-- nothing has changed, wherever the ports lie
+pub record IsSame {M : Type 0} (old new : Node M) : Type 0 where
+  pub machine : new.machine ≡ old.machine
+  pub ins : new.ins.items ≡ old.ins.items
+  pub outs : new.outs.items ≡ old.outs.items
+  pub refused : new.refused ≡ old.refused
+  pub place : new.place ≡ old.place
+
+abbrev pub in_wires_of : {M : Type 0} → Node M → List ℕ
+in_wires_of node = in_wires node.ins.items
+
+abbrev pub out_wires_of : {M : Type 0} → Node M → List ℕ
+out_wires_of node = out_wires node.outs.items
+
+-- no wire stands there twice
+abbrev pub AreApart : List ℕ → Type 0
+AreApart ws = (p q : ℕ) → p < length ws → q < length ws → slice_index_or ws p 0 ≡ slice_index_or ws q 0 → p ≡ q
+
+-- the wires are there, have these lanes, and each stands there once
+pub record HaveLanes (wires : List ℕ) (ports lanes : List Lane) : Type 0 where
+  pub lanes_are : map (lane_at lanes) wires ≡ map Some ports
+  pub apart : AreApart wires
+
+-- a node's wires are there and have its ports' lanes, and no two of its inputs and no two of its outputs have one wire
+pub record IsShaped {M : Type 0} (in_lanes out_lanes : M → List Lane) (node : Node M) (wires : Wires) : Type 0 where
+  pub ins : HaveLanes (in_wires_of node) (in_lanes node.machine) (lanes_of wires)
+  pub outs : HaveLanes (out_wires_of node) (out_lanes node.machine) (lanes_of wires)
+
+-- each input was finished, and each output is closed and given or was told that its receiver has finished
+pub record IsDone {M : Type 0} (node : Node M) : Type 0 where
+  pub ins : (p : ℕ) → p < length node.ins.items → (in_at node.ins.items p).done ≡ true
+  pub outs : AreDone node.outs.items

@@ -1,0 +1,56 @@
+-- What a machine is there for, and what it has behind it.
+use Rattle.std.specs.Prelude.{◌≡◌, ℕ, ◌⊎◌, Bool, List, [], ◌∷◌, ◌++◌, map, length, take, nat_le, cond, Option}
+use Rattle.ff_frame.specs.declared.item.Item.{Item}
+use Rattle.ff_frame.specs.declared.item.Ticket.{Ticket}
+use Rattle.ff_frame.specs.Stream.{still_open}
+use Rattle.ff_net.specs.declared.fault.Fault.{Fault}
+use Rattle.ff_net.specs.Ways.{Flow, with_item_at}
+
+-- what a machine is there for: the function of its streams, the fault that it makes of them itself, and whether it is
+-- a source
+pub record Task : Type 0 where
+  pub means : List Flow → List Flow
+  pub cause : List Flow → Option Fault
+  pub source : Bool
+
+-- what it was fed and gave, which tickets it was allowed, which outputs were stopped, and which outputs had nothing to
+-- give since it was last fed, allowed a ticket or gave an item
+pub record Past : Type 0 where
+  pub task : Task
+  pub got : List Flow
+  pub gave : List Flow
+  pub allowed : List Ticket
+  pub stopped : List ℕ
+  pub asked : List ℕ
+
+abbrev pub IsIn : ℕ → List ℕ → Type 0
+IsIn w [] = ⊥
+IsIn w (x ∷ xs) = (x ≡ w) ⊎ IsIn w xs
+
+-- nothing was done yet
+abbrev pub start : Task → Past
+start task = record { task = task; got = []; gave = []; allowed = []; stopped = []; asked = [] }
+
+abbrev pub fed : Past → ℕ → Item → Past
+fed past p x = record past { got = with_item_at past.got p x; asked = [] }
+
+abbrev pub gave_item : Past → ℕ → Item → Past
+gave_item past p x = record past { gave = with_item_at past.gave p x; asked = [] }
+
+-- an output had nothing to give
+abbrev pub was_asked : Past → ℕ → Past
+was_asked past p = record past { asked = p ∷ past.asked }
+
+abbrev pub was_allowed : Past → Ticket → Past
+was_allowed past t = record past { allowed = past.allowed ++ t ∷ []; asked = [] }
+
+abbrev pub was_stopped : Past → ℕ → Past
+was_stopped past p = record past { stopped = p ∷ past.stopped }
+
+-- the first n items, left open there; the stream itself where n is above its number of items
+abbrev pub cut_to : ℕ → Flow → Flow
+cut_to n s = record { items = take n s.items; mark = cond (nat_le n (length s.items)) still_open s.mark }
+
+-- what is to be given by now: of a source one item, or its end, for each ticket
+abbrev pub due : Past → List Flow
+due past = cond past.task.source (map (cut_to (length past.allowed)) (past.task.means past.got)) (past.task.means past.got)

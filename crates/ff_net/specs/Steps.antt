@@ -1,0 +1,107 @@
+-- What a node does, whatever it and its wires have behind them.
+use Rattle.std.specs.Prelude.{◌≡◌, ◌≢◌, ℕ, ◌<◌, ◌≤◌, ◌-◌, ◌^◌, ◌⊎◌, Bool, true, false, List, length, Option, None}
+use mathlib.Core.List.{IsPrefix}
+use Rattle.ff_frame.specs.declared.item.Lane.{Lane}
+use Rattle.ff_frame.specs.Stream.{LiesBelow}
+use Rattle.ff_net.specs.declared.fault.Fault.{Fault}
+use Rattle.ff_net.specs.declared.node.Node.{Node}
+use Rattle.ff_net.specs.declared.wires.Wires.{Wires}
+use Rattle.ff_net.specs.Pasts.{Past, IsIn, due}
+use Rattle.ff_net.specs.Worlds.{Wire, Stand, lanes_of}
+use Rattle.ff_net.specs.Nodes.{NodeStands, IsSound, in_wires_of, out_wires_of}
+use Rattle.ff_net.specs.Ports.{out_at, NoneHeld}
+use Rattle.ff_frame.specs.Ports.{stream_at}
+
+-- from one moment to a later one: only a node's own wires change, and what was done stays done
+pub record Course (ins outs : List ℕ) (old new : ℕ → Wire) (past since : Past) : Type 0 where
+  pub sent : (w : ℕ) → (IsIn w outs → ⊥) → (new w).sent ≡ (old w).sent
+  pub taken : (w : ℕ) → (IsIn w ins → ⊥) → (new w).taken ≡ (old w).taken
+  pub finished : (w : ℕ) → (IsIn w ins → ⊥) → (new w).finished ≡ (old w).finished
+  pub sent_grows : (w : ℕ) → LiesBelow (old w).sent (new w).sent
+  pub taken_grows : (w : ℕ) → LiesBelow (old w).taken (new w).taken
+  pub stays_finished : (w : ℕ) → (old w).finished ≡ true → (new w).finished ≡ true
+  pub task : since.task ≡ past.task
+  pub allowed : IsPrefix past.allowed since.allowed
+  pub stopped : (q : ℕ) → IsIn q past.stopped → IsIn q since.stopped
+
+-- something moved: an item was taken or put, an input was finished, a ticket allowed, or an output told that its
+-- receiver has finished
+pub data Moves (old new : ℕ → Wire) (past since : Past) : Type 0 where
+  took : (w : ℕ) → (new w).taken ≢ (old w).taken → Moves old new past since
+  put : (w : ℕ) → (new w).sent ≢ (old w).sent → Moves old new past since
+  finished : (w : ℕ) → (old w).finished ≡ false → (new w).finished ≡ true → Moves old new past since
+  granted : since.allowed ≢ past.allowed → Moves old new past since
+  told : (q : ℕ) → (IsIn q past.stopped → ⊥) → IsIn q since.stopped → Moves old new past since
+
+-- something that can be behind the node and its wires now, and goes on from what was behind them
+pub record Later {M : Type 0} (source : M → Option ℕ) (fault : M → Option Fault) (stands : M → Past → Type 0) (how : (ℕ → Wire) → Past → (ℕ → Wire) → Past → Type 0) (ins outs : List ℕ) (node : Node M) (wires : Wires) (world : ℕ → Wire) (past : Past) : Type 0 where
+  pub now : ℕ → Wire
+  pub since : Past
+  pub stand : Stand wires now
+  pub fits : NodeStands source fault stands node now since
+  pub course : Course ins outs world now past since
+  pub so : how world past now since
+
+-- the node keeps its wires, and the wires and the machine their lanes; and whatever was behind node and wires, something
+-- that goes on from it so is behind them now
+pub record Stepped {M : Type 0} (in_lanes out_lanes : M → List Lane) (source : M → Option ℕ) (fault : M → Option Fault) (stands : M → Past → Type 0) (how : (ℕ → Wire) → Past → (ℕ → Wire) → Past → Type 0) (node : Node M) (wires : Wires) (node' : Node M) (wires' : Wires) : Type 0 where
+  pub ins_same : in_wires_of node' ≡ in_wires_of node
+  pub outs_same : out_wires_of node' ≡ out_wires_of node
+  pub in_lanes_same : in_lanes node'.machine ≡ in_lanes node.machine
+  pub out_lanes_same : out_lanes node'.machine ≡ out_lanes node.machine
+  pub lanes_same : lanes_of wires' ≡ lanes_of wires
+  pub goes : (world : ℕ → Wire) (past : Past) → Stand wires world → NodeStands source fault stands node world past → Later source fault stands how (in_wires_of node) (out_wires_of node) node' wires' world past
+
+-- something moved, or nothing was taken, where these hold
+pub record Acts (moved quiet : Type 0) (old : ℕ → Wire) (past : Past) (new : ℕ → Wire) (since : Past) : Type 0 where
+  pub moves : moved → Moves old new past since
+  pub takes_nothing : quiet → (w : ℕ) → (new w).taken ≡ (old w).taken
+
+-- the machine of a node gave items to hold, and nothing moved; of the outputs that were seen, one that holds nothing has
+-- all that is due, and where none holds anything, each was asked
+pub record Readies {M : Type 0} (fault : M → Option Fault) (seen : ℕ → Type 0) (held : Bool) (node : Node M) (old : ℕ → Wire) (past : Past) (new : ℕ → Wire) (since : Past) : Type 0 where
+  pub sent : (w : ℕ) → (new w).sent ≡ (old w).sent
+  pub taken : (w : ℕ) → (new w).taken ≡ (old w).taken
+  pub finished : (w : ℕ) → (new w).finished ≡ (old w).finished
+  pub got : since.got ≡ past.got
+  pub allowed : since.allowed ≡ past.allowed
+  pub stopped : since.stopped ≡ past.stopped
+  pub none_due : IsSound fault node → (q : ℕ) → seen q → (out_at node.outs.items q).done ≡ false → (out_at node.outs.items q).held ≡ None → (old (out_at node.outs.items q).wire).sent ≡ stream_at (due past) q
+  pub asked : IsSound fault node → held ≡ false → (q : ℕ) → seen q → (out_at node.outs.items q).done ≡ false → IsIn q since.asked
+  pub asks_on : IsSound fault node → held ≡ false → (q : ℕ) → IsIn q past.asked → IsIn q since.asked
+
+-- a ticket was allowed or none, and nothing else moved
+pub record Grants (allowed : Bool) (old : ℕ → Wire) (past : Past) (new : ℕ → Wire) (since : Past) : Type 0 where
+  pub moves : allowed ≡ true → Moves old new past since
+  pub sent : (w : ℕ) → (new w).sent ≡ (old w).sent
+  pub taken : (w : ℕ) → (new w).taken ≡ (old w).taken
+  pub finished : (w : ℕ) → (new w).finished ≡ (old w).finished
+  pub got : since.got ≡ past.got
+  pub stopped : since.stopped ≡ past.stopped
+  pub same : allowed ≡ false → since ≡ past
+
+-- an item is due on an output: nothing is where it is done; without a fault one is where not all was sent that is to be
+-- given by now, and with one wherever it isn't done
+pub record IsDue {M : Type 0} (fault : M → Option Fault) (node : Node M) (world : ℕ → Wire) (past : Past) (q : ℕ) : Type 0 where
+  pub there : q < length node.outs.items
+  pub goes_on : (out_at node.outs.items q).done ≡ false
+  pub unsent : IsSound fault node → (world (out_at node.outs.items q).wire).sent ≢ stream_at (due past) q
+
+-- of a node where nothing moved: an output that goes on and holds nothing has all that is due; and where no output holds
+-- anything, but one goes on, the node is no source, or has used up all places
+pub record Rests {M : Type 0} (source : M → Option ℕ) (fault : M → Option Fault) (node : Node M) (world : ℕ → Wire) (past : Past) : Type 0 where
+  pub none_due : IsSound fault node → (q : ℕ) → q < length node.outs.items → (out_at node.outs.items q).done ≡ false → (out_at node.outs.items q).held ≡ None → (world (out_at node.outs.items q).wire).sent ≡ stream_at (due past) q
+  pub ungranted : IsSound fault node → NoneHeld node.outs.items → (q : ℕ) → q < length node.outs.items → (out_at node.outs.items q).done ≡ false → (source node.machine ≡ None) ⊎ (2 ^ 64 - 1 ≤ node.place)
+
+-- something moved or the node rests, and nothing was taken where an item was due before
+pub record Turns {M : Type 0} (source : M → Option ℕ) (fault : M → Option Fault) (moved : Bool) (before node : Node M) (old : ℕ → Wire) (past : Past) (new : ℕ → Wire) (since : Past) : Type 0 where
+  pub moves : moved ≡ true → Moves old new past since
+  pub takes_nothing : (q : ℕ) → IsDue fault before old past q → (w : ℕ) → (new w).taken ≡ (old w).taken
+  pub rests : moved ≡ false → Rests source fault node new since
+
+-- a source has one ticket more or none, and the machine of a node gave items to hold
+pub record Prepares {M : Type 0} (source : M → Option ℕ) (fault : M → Option Fault) (granted held : Bool) (before node : Node M) (old : ℕ → Wire) (past : Past) (new : ℕ → Wire) (since : Past) : Type 0 where
+  pub moves : granted ≡ true → Moves old new past since
+  pub taken : (w : ℕ) → (new w).taken ≡ (old w).taken
+  pub none_before : IsSound fault node → held ≡ false → (q : ℕ) → IsDue fault before old past q → ⊥
+  pub rests : granted ≡ false → Rests source fault node new since

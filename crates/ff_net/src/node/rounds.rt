@@ -1,0 +1,119 @@
+// What a node does at all its ports, one after another.
+ghost use Rattle.std.specs.Prelude.{◌≡◌, ◌<◌, ◌⊎◌, ℕ, length, true, false, None, IsTrue, is_some};
+ghost use Rattle.ff_net.specs.declared.wires.Wires.{Wires};
+ghost use Rattle.ff_net.specs.Ports.{in_at, out_at, AreDone, SomeHeld, NoneHeld};
+ghost use Rattle.ff_net.specs.Nodes.{IsShaped, IsSound, IsSame};
+ghost use Rattle.ff_net.specs.Steps.{Stepped, Acts, Readies};
+ghost use Rattle.ff_net.specs.Worlds.{IsFull, IsEmpty};
+
+use crate::machine::Machine;
+use crate::node::Node;
+use crate::wires::Wires;
+
+impl<M: Machine> Node<M> {
+    /// Whether each input was finished.
+    pub fn ins_done(&self) -> bool
+        ensures done { result ≡ true → (p : ℕ) → p < length self.now.ins.items → (in_at self.now.ins.items p).done ≡ true }
+        ensures exact { ((p : ℕ) → p < length self.now.ins.items → (in_at self.now.ins.items p).done ≡ true) → result ≡ true }
+    {
+        for port in &self.ins {
+            if !port.done {
+                return false;
+            }
+        }
+        true
+    }
+
+    /// Fills each output, and says whether one holds an item.
+    pub fn fill_all(&mut self) -> bool
+        requires outputs { length self.old.outs.items ≡ length (M.out_lanes self.old.machine) }
+        ensures stepped { (wires : Wires) → Stepped M.in_lanes M.out_lanes M.source_of M.fault_of M.stands (Readies M.fault_of (λ q. q < length self.new.outs.items) result self.new) self.old wires self.new wires }
+        ensures held { result ≡ true → SomeHeld self.new.outs.items }
+        ensures none { result ≡ false → NoneHeld self.new.outs.items }
+        ensures done { (q : ℕ) → (out_at self.new.outs.items q).done ≡ (out_at self.old.outs.items q).done }
+        ensures count { length self.new.outs.items ≡ length self.old.outs.items }
+        ensures out_lanes { M.out_lanes self.new.machine ≡ M.out_lanes self.old.machine }
+        ensures ins { self.new.ins ≡ self.old.ins }
+        ensures sound { IsSound M.fault_of self.new → IsSound M.fault_of self.old }
+        ensures source { M.source_of self.new.machine ≡ M.source_of self.old.machine }
+    {
+        let mut due = false;
+        let count = self.outs.len();
+        for p in 0..count {
+            let held = self.fill(p);
+            due = due | held;
+        }
+        due
+    }
+
+    /// Puts what is held on each output, and says whether something moved.
+    pub fn send_all(&mut self, wires: &mut Wires) -> bool
+        requires shaped { IsShaped M.in_lanes M.out_lanes self.old wires.old }
+        ensures stepped { Stepped M.in_lanes M.out_lanes M.source_of M.fault_of M.stands (Acts (result ≡ true) (Unit {0})) self.old wires.old self.new wires.new }
+        ensures same { result ≡ false → IsSame self.old self.new × (wires.new ≡ wires.old) }
+        ensures full { result ≡ false → (q : ℕ) → q < length self.old.outs.items → (out_at self.old.outs.items q).done ≡ false → is_some (out_at self.old.outs.items q).held ≡ true → IsFull wires.old (out_at self.old.outs.items q).wire }
+    {
+        let mut moved = false;
+        let count = self.outs.len();
+        for p in 0..count {
+            let sent = self.send(wires, p);
+            moved = moved | sent;
+        }
+        moved
+    }
+
+    /// Takes from each input, and says whether something moved.
+    pub fn take_all(&mut self, wires: &mut Wires) -> bool
+        requires shaped { IsShaped M.in_lanes M.out_lanes self.old wires.old }
+        ensures stepped { Stepped M.in_lanes M.out_lanes M.source_of M.fault_of M.stands (Acts (result ≡ true) (⊥)) self.old wires.old self.new wires.new }
+        ensures same { result ≡ false → IsSame self.old self.new × (wires.new ≡ wires.old) }
+        ensures empty { result ≡ false → self.old.refused ≡ false → (p : ℕ) → p < length self.old.ins.items → (in_at self.old.ins.items p).done ≡ false → IsEmpty wires.old (in_at self.old.ins.items p).wire }
+    {
+        let mut moved = false;
+        let count = self.ins.len();
+        for p in 0..count {
+            let took = self.take(wires, p);
+            moved = moved | took;
+        }
+        moved
+    }
+
+    /// Puts Broken on each output, and says whether something moved.
+    pub fn break_all(&mut self, wires: &mut Wires) -> bool
+        requires shaped { IsShaped M.in_lanes M.out_lanes self.old wires.old }
+        requires faulty { IsSound M.fault_of self.old → ⊥ }
+        ensures stepped { Stepped M.in_lanes M.out_lanes M.source_of M.fault_of M.stands (Acts (result ≡ true) (Unit {0})) self.old wires.old self.new wires.new }
+        ensures same { result ≡ false → IsSame self.old self.new × (wires.new ≡ wires.old) }
+        ensures faulty { IsSound M.fault_of self.new → ⊥ }
+        ensures full { result ≡ false → (q : ℕ) → q < length self.old.outs.items → (out_at self.old.outs.items q).done ≡ false → IsFull wires.old (out_at self.old.outs.items q).wire }
+    {
+        let mut moved = false;
+        let count = self.outs.len();
+        for p in 0..count {
+            let broke = self.break_off(wires, p);
+            moved = moved | broke;
+        }
+        moved
+    }
+
+    /// Finishes each input that can matter no more, and says whether something moved.
+    pub fn close_all(&mut self, wires: &mut Wires) -> bool
+        requires shaped { IsShaped M.in_lanes M.out_lanes self.old wires.old }
+        ensures stepped { Stepped M.in_lanes M.out_lanes M.source_of M.fault_of M.stands (Acts (result ≡ true) (Unit {0})) self.old wires.old self.new wires.new }
+        ensures same { result ≡ false → IsSame self.old self.new × (wires.new ≡ wires.old) }
+        ensures machine { self.new.machine ≡ self.old.machine }
+        ensures outs { self.new.outs ≡ self.old.outs }
+        ensures refused { self.new.refused ≡ self.old.refused }
+        ensures spent { (p : ℕ) → p < length self.new.ins.items → M.is_spent self.new.machine p → (in_at self.new.ins.items p).done ≡ true }
+        ensures faulty { (IsSound M.fault_of self.new → ⊥) → (p : ℕ) → p < length self.new.ins.items → (in_at self.new.ins.items p).done ≡ true }
+        ensures done { 0 < length self.new.outs.items → AreDone self.new.outs.items → (p : ℕ) → p < length self.new.ins.items → (in_at self.new.ins.items p).done ≡ true }
+    {
+        let mut moved = false;
+        let count = self.ins.len();
+        for p in 0..count {
+            let closed = self.close(wires, p);
+            moved = moved | closed;
+        }
+        moved
+    }
+}

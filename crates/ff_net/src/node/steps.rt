@@ -1,0 +1,219 @@
+// What a node does at one port. Each clause `stepped` says what it keeps.
+ghost use Rattle.std.specs.Prelude.{◌≡◌, ◌≢◌, ◌<◌, ◌≤◌, ◌-◌, ◌^◌, ◌⊎◌, ℕ, length, true, false, None, IsTrue, is_some};
+ghost use Rattle.ff_net.specs.declared.wires.Wires.{Wires};
+ghost use Rattle.ff_net.specs.Ports.{in_at, out_at, AreDone};
+ghost use Rattle.ff_net.specs.Nodes.{IsShaped, IsSound, IsSame};
+ghost use Rattle.ff_net.specs.Steps.{Stepped, Acts, Readies, Grants};
+ghost use Rattle.ff_net.specs.Worlds.{IsFull, IsEmpty};
+
+use crate::machine::Machine;
+use crate::node::Node;
+use crate::ports::{
+    all_out_done, close_out, finish_in, hold, holds_item, in_done, in_wire, out_done, out_wire,
+    take_held,
+};
+use crate::wires::{Put, Take, Wires};
+use ff_frame::{Item, Ticket};
+
+impl<M: Machine> Node<M> {
+    /// Lets the machine give the next item of an output to hold, and says whether one is held.
+    pub fn fill(&mut self, p: usize) -> bool
+        requires there { p < length self.old.outs.items }
+        requires outputs { length self.old.outs.items ≡ length (M.out_lanes self.old.machine) }
+        ensures stepped { (wires : Wires) → Stepped M.in_lanes M.out_lanes M.source_of M.fault_of M.stands (Readies M.fault_of (λ q. q ≡ p) result self.new) self.old wires self.new wires }
+        ensures held { result ≡ true → ((out_at self.new.outs.items p).done ≡ false) × (is_some (out_at self.new.outs.items p).held ≡ true) }
+        ensures empty { result ≡ false → (out_at self.new.outs.items p).done ≡ false → (out_at self.new.outs.items p).held ≡ None }
+        ensures others { (q : ℕ) → q ≢ p → out_at self.new.outs.items q ≡ out_at self.old.outs.items q }
+        ensures done { (out_at self.new.outs.items p).done ≡ (out_at self.old.outs.items p).done }
+        ensures ins { self.new.ins ≡ self.old.ins }
+        ensures count { length self.new.outs.items ≡ length self.old.outs.items }
+        ensures out_lanes { M.out_lanes self.new.machine ≡ M.out_lanes self.old.machine }
+        ensures sound { IsSound M.fault_of self.new → IsSound M.fault_of self.old }
+        ensures source { M.source_of self.new.machine ≡ M.source_of self.old.machine }
+    {
+        if out_done(&self.outs, p) {
+            return false;
+        }
+        if holds_item(&self.outs, p) {
+            return true;
+        }
+        match self.machine.pull(p) {
+            Ok(Some(item)) => {
+                hold(&mut self.outs, p, item);
+                true
+            }
+            Ok(None) => false,
+            Err(_) => {
+                self.refused = true;
+                false
+            }
+        }
+    }
+
+    /// Allows a source one ticket more, and says whether it took it.
+    pub fn allow(&mut self) -> bool
+        ensures stepped { (wires : Wires) → Stepped M.in_lanes M.out_lanes M.source_of M.fault_of M.stands (Grants result) self.old wires self.new wires }
+        ensures outs { self.new.outs ≡ self.old.outs }
+        ensures ins { self.new.ins ≡ self.old.ins }
+        ensures out_lanes { M.out_lanes self.new.machine ≡ M.out_lanes self.old.machine }
+        ensures sound { IsSound M.fault_of self.new → IsSound M.fault_of self.old }
+        ensures source { M.source_of self.new.machine ≡ M.source_of self.old.machine }
+        ensures place { result ≡ false → self.new.place ≡ self.old.place }
+        ensures back { result ≡ false → (M.source_of self.old.machine ≡ None) ⊎ M.holds self.old.machine ⊎ (2 ^ 64 - 1 ≤ self.old.place) }
+    {
+        let Some(source) = self.machine.source() else {
+            return false;
+        };
+        if self.place == u64::MAX {
+            return false;
+        }
+        let place = self.place;
+        match self.machine.allow(Ticket { source, place }) {
+            Some(_) => false,
+            None => {
+                self.place = place + 1;
+                true
+            }
+        }
+    }
+
+    /// Puts what an output holds.
+    pub fn send(&mut self, wires: &mut Wires, p: usize) -> bool
+        requires shaped { IsShaped M.in_lanes M.out_lanes self.old wires.old }
+        requires there { p < length self.old.outs.items }
+        ensures stepped { Stepped M.in_lanes M.out_lanes M.source_of M.fault_of M.stands (Acts (result ≡ true) (Unit {0})) self.old wires.old self.new wires.new }
+        ensures same { result ≡ false → IsSame self.old self.new × (wires.new ≡ wires.old) }
+        ensures full { result ≡ false → (out_at self.old.outs.items p).done ≡ false → is_some (out_at self.old.outs.items p).held ≡ true → IsFull wires.old (out_at self.old.outs.items p).wire }
+    {
+        if out_done(&self.outs, p) {
+            return false;
+        }
+        if !holds_item(&self.outs, p) {
+            return false;
+        }
+        let wire = out_wire(&self.outs, p);
+        let Some(item) = take_held(&mut self.outs, p) else {
+            return false;
+        };
+        let closes = item.closes();
+        match wires.try_put(wire, item) {
+            Put::Done => {
+                close_out(&mut self.outs, p, closes);
+                true
+            }
+            Put::Full(item) => {
+                hold(&mut self.outs, p, item);
+                false
+            }
+            Put::Finished(item) => {
+                discard(item);
+                self.machine.stop(p);
+                close_out(&mut self.outs, p, true);
+                true
+            }
+        }
+    }
+
+    /// Takes an item from a wire, and feeds it.
+    pub fn take(&mut self, wires: &mut Wires, p: usize) -> bool
+        requires shaped { IsShaped M.in_lanes M.out_lanes self.old wires.old }
+        requires there { p < length self.old.ins.items }
+        ensures stepped { Stepped M.in_lanes M.out_lanes M.source_of M.fault_of M.stands (Acts (result ≡ true) (⊥)) self.old wires.old self.new wires.new }
+        ensures same { result ≡ false → IsSame self.old self.new × (wires.new ≡ wires.old) }
+        ensures empty { result ≡ false → (in_at self.old.ins.items p).done ≡ false → self.old.refused ≡ false → IsEmpty wires.old (in_at self.old.ins.items p).wire }
+    {
+        if in_done(&self.ins, p) {
+            return false;
+        }
+        if self.refused {
+            return false;
+        }
+        match wires.try_take(in_wire(&self.ins, p)) {
+            Take::Empty => false,
+            Take::Item(item) => match self.machine.feed(p, item) {
+                Ok(()) => true,
+                Err(refused) => {
+                    discard(refused.item);
+                    self.refused = true;
+                    true
+                }
+            },
+        }
+    }
+
+    /// Whether an input can matter no more.
+    pub fn may_finish(&self, p: usize) -> bool
+        requires there { p < length self.now.ins.items }
+        requires inputs { length self.now.ins.items ≡ length (M.in_lanes self.now.machine) }
+        ensures why { result ≡ true → IsSound M.fault_of self.now → M.is_spent self.now.machine p ⊎ ((0 < length self.now.outs.items) × AreDone self.now.outs.items) }
+        ensures spent { M.is_spent self.now.machine p → result ≡ true }
+        ensures faulty { (IsSound M.fault_of self.now → ⊥) → result ≡ true }
+        ensures done { 0 < length self.now.outs.items → AreDone self.now.outs.items → result ≡ true }
+    {
+        if self.machine.spent(p) {
+            return true;
+        }
+        if self.fault().is_some() {
+            return true;
+        }
+        self.outs.len() > 0 && all_out_done(&self.outs)
+    }
+
+    /// Finishes an input that can matter no more, and says whether it did.
+    pub fn close(&mut self, wires: &mut Wires, p: usize) -> bool
+        requires shaped { IsShaped M.in_lanes M.out_lanes self.old wires.old }
+        requires there { p < length self.old.ins.items }
+        ensures stepped { Stepped M.in_lanes M.out_lanes M.source_of M.fault_of M.stands (Acts (result ≡ true) (Unit {0})) self.old wires.old self.new wires.new }
+        ensures same { result ≡ false → IsSame self.old self.new × (wires.new ≡ wires.old) }
+        ensures machine { self.new.machine ≡ self.old.machine }
+        ensures outs { self.new.outs ≡ self.old.outs }
+        ensures refused { self.new.refused ≡ self.old.refused }
+        ensures others { (q : ℕ) → q ≢ p → in_at self.new.ins.items q ≡ in_at self.old.ins.items q }
+        ensures spent { M.is_spent self.old.machine p → (in_at self.new.ins.items p).done ≡ true }
+        ensures faulty { (IsSound M.fault_of self.old → ⊥) → (in_at self.new.ins.items p).done ≡ true }
+        ensures done { 0 < length self.old.outs.items → AreDone self.old.outs.items → (in_at self.new.ins.items p).done ≡ true }
+    {
+        if in_done(&self.ins, p) {
+            return false;
+        }
+        if !self.may_finish(p) {
+            return false;
+        }
+        wires.finish(in_wire(&self.ins, p));
+        finish_in(&mut self.ins, p);
+        true
+    }
+
+    /// Puts Broken in place of what an output holds.
+    pub fn break_off(&mut self, wires: &mut Wires, p: usize) -> bool
+        requires shaped { IsShaped M.in_lanes M.out_lanes self.old wires.old }
+        requires there { p < length self.old.outs.items }
+        requires faulty { IsSound M.fault_of self.old → ⊥ }
+        ensures stepped { Stepped M.in_lanes M.out_lanes M.source_of M.fault_of M.stands (Acts (result ≡ true) (Unit {0})) self.old wires.old self.new wires.new }
+        ensures same { result ≡ false → IsSame self.old self.new × (wires.new ≡ wires.old) }
+        ensures faulty { IsSound M.fault_of self.new → ⊥ }
+        ensures full { result ≡ false → (out_at self.old.outs.items p).done ≡ false → IsFull wires.old (out_at self.old.outs.items p).wire }
+    {
+        if out_done(&self.outs, p) {
+            return false;
+        }
+        match wires.try_put(out_wire(&self.outs, p), Item::Broken) {
+            Put::Full(item) => {
+                discard(item);
+                false
+            }
+            Put::Done => {
+                close_out(&mut self.outs, p, true);
+                true
+            }
+            Put::Finished(item) => {
+                discard(item);
+                self.machine.stop(p);
+                close_out(&mut self.outs, p, true);
+                true
+            }
+        }
+    }
+}
+
+fn discard(_item: Item) {}

@@ -1,0 +1,99 @@
+// A turn of a node.
+ghost use Rattle.std.specs.Prelude.{◌≡◌, ◌<◌, ℕ, length, true, false, IsTrue};
+ghost use Rattle.ff_frame.specs.Ports.{IsClosed};
+ghost use Rattle.ff_net.specs.declared.wires.Wires.{Wires};
+ghost use Rattle.ff_net.specs.Pasts.{Past};
+ghost use Rattle.ff_net.specs.Ports.{in_at, out_at, SomeHeld, NoneHeld};
+ghost use Rattle.ff_net.specs.Nodes.{IsShaped, IsSound, IsDone, NodeStands};
+ghost use Rattle.ff_net.specs.Steps.{Stepped, Prepares, Turns};
+ghost use Rattle.ff_net.specs.Turns.{Waits, Answers};
+ghost use Rattle.ff_net.specs.Worlds.{Wire};
+
+use crate::machine::Machine;
+use crate::node::{Node, Turn};
+use crate::wires::Wires;
+
+/// What a node is ready for: whether an output holds an item, and whether a ticket was allowed.
+#[derive(Clone, Copy)]
+pub struct Ready {
+    pub due: bool,
+    pub granted: bool,
+}
+
+impl<M: Machine> Node<M> {
+    /// Lets the machine give what it has, and allows a source one ticket.
+    pub fn ready(&mut self) -> Ready
+        requires outputs { length self.old.outs.items ≡ length (M.out_lanes self.old.machine) }
+        ensures stepped { (wires : Wires) → Stepped M.in_lanes M.out_lanes M.source_of M.fault_of M.stands (Prepares M.source_of M.fault_of result.granted result.due self.old self.new) self.old wires self.new wires }
+        ensures held { result.due ≡ true → SomeHeld self.new.outs.items }
+        ensures none { result.due ≡ false → NoneHeld self.new.outs.items }
+    {
+        let due = self.fill_all();
+        let granted = self.allow();
+        if due {
+            return Ready { due: true, granted };
+        }
+        if !granted {
+            return Ready {
+                due: false,
+                granted: false,
+            };
+        }
+        let more = self.fill_all();
+        Ready {
+            due: more,
+            granted: true,
+        }
+    }
+
+    /// Sends what is held, or takes, or breaks off, and says whether something moved.
+    pub fn act(&mut self, wires: &mut Wires) -> bool
+        requires shaped { IsShaped M.in_lanes M.out_lanes self.old wires.old }
+        ensures stepped { Stepped M.in_lanes M.out_lanes M.source_of M.fault_of M.stands (Turns M.source_of M.fault_of result self.old self.new) self.old wires.old self.new wires.new }
+        ensures waits { result ≡ false → Waits M.fault_of self.new wires.new }
+    {
+        if self.fault().is_some() {
+            return self.break_all(wires);
+        }
+        let ready = self.ready();
+        if self.fault().is_some() {
+            let broke = self.break_all(wires);
+            return ready.granted | broke;
+        }
+        if ready.due {
+            let sent = self.send_all(wires);
+            return ready.granted | sent;
+        }
+        let took = self.take_all(wires);
+        ready.granted | took
+    }
+
+    /// One turn: at most one ticket, one item taken from each input and one put on each output. A node with a fault
+    /// sends Broken down each output that goes on, finishes its inputs, and is done.
+    pub fn turn(&mut self, wires: &mut Wires) -> Turn
+        requires shaped { IsShaped M.in_lanes M.out_lanes self.old wires.old }
+        ensures stepped { Stepped M.in_lanes M.out_lanes M.source_of M.fault_of M.stands (Answers M.fault_of result self.old self.new wires.new) self.old wires.old self.new wires.new }
+        ensures done { result ≡ Turn.Done → IsDone self.new }
+        ensures closed { (world : ℕ → Wire) (past : Past) → NodeStands M.source_of M.fault_of M.stands self.new world past → (p : ℕ) → p < length self.new.ins.items → IsClosed (world (in_at self.new.ins.items p).wire).taken → (in_at self.new.ins.items p).done ≡ true }
+        ensures spent { (p : ℕ) → p < length self.new.ins.items → M.is_spent self.new.machine p → (in_at self.new.ins.items p).done ≡ true }
+        ensures faulty { (IsSound M.fault_of self.new → ⊥) → (p : ℕ) → p < length self.new.ins.items → (in_at self.new.ins.items p).done ≡ true }
+    {
+        let acted = self.act(wires);
+        let closed = self.close_all(wires);
+        turn_of(self.is_done(), acted | closed)
+    }
+}
+
+fn turn_of(done: bool, moved: bool) -> Turn
+    ensures done { result ≡ Turn.Done → done ≡ true }
+    ensures moved { result ≡ Turn.Moved → moved ≡ true }
+    ensures not_yet { result ≡ Turn.NotYet → (moved ≡ false) × (done ≡ false) }
+{
+    if done {
+        Turn::Done
+    } else if moved {
+        Turn::Moved
+    } else {
+        Turn::NotYet
+    }
+}
