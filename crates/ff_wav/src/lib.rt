@@ -9,10 +9,13 @@
 mod chunk;
 mod cut;
 mod head;
+mod header;
+mod put;
 mod walk;
 
 pub use cut::WavCut;
 pub use head::WavHead;
+pub use put::{TooLarge, WavPut};
 pub use walk::{WavWalk, read_head};
 
 #[cfg(test)]
