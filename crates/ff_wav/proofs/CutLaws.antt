@@ -1,15 +1,15 @@
 -- What a cut gives is what the whole input gives.
-use Rattle.std.proofs.Common.{◌≡◌, ℕ, zero, suc, ◌+◌, ◌-◌, ◌*◌, ◌/◌, ◌<◌, ◌≤◌, ◌⊎◌, inl, inr, min, Bool, true, false, List, [], ◌∷◌, ◌++◌, take, drop, length, map, Option, Some, None, pos, refl, sym, ap, ◌∙◌, subst, arith, length-append, append-nil}
+use Rattle.std.proofs.Common.{◌≡◌, ℕ, zero, suc, ◌+◌, ◌-◌, ◌*◌, ◌/◌, ◌<◌, ◌≤◌, ◌⊎◌, inl, inr, min, Bool, true, false, List, ◌++◌, take, drop, length, map, Option, Some, None, pos, refl, sym, ap, ◌∙◌, arith, length-append, append-nil}
 use Rattle.std.specs.List.{range_with_len}
 use Rattle.std.specs.Prelude.{slice_get, ◌↔◌, ◌||◌}
-use Rattle.std.proofs.lemmas.List.{length-take, length-drop, take-append-le, drop-append-le, take-take, drop-take, drop-drop}
+use Rattle.std.proofs.lemmas.List.{length-take, take-append-le, take-take, drop-take}
 use Rattle.std.proofs.lemmas.List.FromFn.{length-map-range_with_len}
 use Rattle.std.proofs.lemmas.Nat.{le-div, div_below}
-use Rattle.std.proofs.Math.Nat.{mul-add-div_right, div-mul-le_self, mul-le-mul_right}
+use Rattle.std.proofs.Math.Nat.{mul-add-div_right, div-mul-le_self}
 use Rattle.ff_frame.specs.declared.packet.Pkt.{Pkt}
 use Rattle.ff_frame.specs.Packet.{packet_at as packet_from}
 use Rattle.ff_wav.specs.Packets.{body, frames, packet_at, packet_count, packets_of}
-use Rattle.ff_wav.specs.Cuts.{ReachesLen, IsBodyEnded, IsRest, Goes, IsOver}
+use Rattle.ff_wav.specs.Cuts.{ReachesLen, IsBodyEnded, IsRest}
 use Rattle.ff_wav.proofs.HeadLaws.{take-append}
 
 -- ---- the body, as bytes come

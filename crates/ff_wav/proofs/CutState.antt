@@ -1,12 +1,12 @@
 -- The state of a cut, tied to what it was fed and gave.
-use Rattle.std.proofs.Common.{◌≡◌, ℕ, ◌+◌, ◌-◌, ◌*◌, ◌/◌, ◌<◌, ◌≤◌, ◌⊎◌, inl, inr, Bool, true, false, List, ◌++◌, length, take, drop, Option, Some, refl, sym, ap, ◌∙◌, subst, arith}
+use Rattle.std.proofs.Common.{◌≡◌, ℕ, ◌+◌, ◌-◌, ◌*◌, ◌/◌, ◌<◌, ◌≤◌, inl, inr, true, false, List, ◌++◌, length, take, drop, Option, Some, sym, ap, ◌∙◌, subst, arith}
 use Rattle.std.specs.Prelude.{slice_get}
 use Rattle.std.proofs.lemmas.List.{length-drop, drop-drop}
 use Rattle.ff_frame.specs.declared.packet.Pkt.{Pkt}
 use Rattle.ff_wav.specs.declared.head.WavHead.{WavHead}
 use Rattle.ff_wav.specs.declared.cut.WavCut.{WavCut}
 use Rattle.ff_wav.specs.Packets.{body, block_of, whole_len, packet_count, packets_of, packet_at, demuxed}
-use Rattle.ff_wav.specs.Cuts.{ReachesLen, IsBodyEnded, IsRest, Goes, IsOver, Cuts}
+use Rattle.ff_wav.specs.Cuts.{ReachesLen, IsBodyEnded, IsRest, Goes, Cuts}
 use Rattle.ff_wav.proofs.CutLaws.{body_length, body_ended, made, full_packet, full_count, last_packet, last_piece, last_count, no_count, packets_get, packets_length}
 
 pub goes_of : (cut : WavCut) (head : WavHead) (fed : List ℕ) (n : ℕ) → Cuts cut head fed n → cut.done ≡ false → Goes cut.block cut.len cut.first cut.held.bytes fed n

@@ -1,19 +1,16 @@
 -- What is decided is decided whatever follows, and what is not is open.
-use Rattle.std.proofs.Common.{◌≡◌, ◌≢◌, ℕ, zero, suc, ◌+◌, ◌-◌, ◌%◌, ◌<◌, ◌≤◌, ◌⊎◌, inl, inr, Bool, true, false, cond, List, [], ◌∷◌, ◌++◌, take, drop, length, Option, Some, None, Result, Ok, Err, refl, sym, ap, ◌∙◌, subst, arith, length-append, append_assoc, add-zero, append-nil, get_or, min, lit<, lit≤}
-use Rattle.std.specs.Prelude.{nat_lt, nat_le, ◌==◌, ◌&&◌, not, All, unwrap_or, ◌↔◌}
-use Rattle.std.proofs.lemmas.List.{take-append-le, take_all, length-take, length-drop, drop_all, drop-append-le, drop-drop}
+use Rattle.std.proofs.Common.{◌≡◌, ◌≢◌, ℕ, zero, suc, ◌+◌, ◌-◌, ◌%◌, ◌<◌, ◌≤◌, ◌⊎◌, inl, inr, Bool, true, false, cond, List, [], ◌∷◌, ◌++◌, take, drop, length, Option, Some, None, Ok, Err, refl, sym, ap, ◌∙◌, subst, arith, length-append, add-zero, append-nil, get_or, min, lit<, lit≤}
+use Rattle.std.specs.Prelude.{nat_lt, nat_le, ◌==◌, ◌&&◌, All, ◌↔◌}
+use Rattle.std.proofs.lemmas.List.{take-append-le, take_all, length-take, length-drop, drop_all}
 use Rattle.std.proofs.lemmas.List.Elements.{All-nil, All-cons, All-drop}
 use Rattle.std.proofs.lemmas.Bool.Decides.{nat_tests}
 use Rattle.ff_frame.specs.declared.head.StreamHead.{StreamHead}
-use Rattle.ff_wav.specs.declared.head.WavHead.{WavHead}
-use Rattle.ff_wav.specs.declared.head.HeadFault.{HeadFault}
 use Rattle.ff_wav.specs.declared.head.HeadFault.TheVariants.{Damaged, Unsupported}
-use Rattle.ff_frame.specs.declared.cut.HeadEnd.{HeadEnd}
 use Rattle.ff_frame.specs.declared.cut.HeadEnd.TheVariants as end
 use Rattle.ff_wav.specs.declared.head.Step.{Step}
 use Rattle.ff_wav.specs.declared.head.Step.TheVariants.{Wait, Decide, Skip}
 use Rattle.ff_wav.specs.Chunks.{chunk}
-use Rattle.ff_wav.specs.Heads.{Found, magic, agrees, walk, within, reading, early, head_limit, head, answered, answered_or, answer, IsOpen, Reached}
+use Rattle.ff_wav.specs.Heads.{Found, magic, agrees, walk, within, reading, early, head_limit, head, answered, answer, IsOpen}
 use Rattle.ff_wav.proofs.ChunkLaws.{Settles, chunk_settles, chunk_damaged}
 
 -- ---- the walk

@@ -1,12 +1,12 @@
 -- The place that a reading has reached.
-use Rattle.std.proofs.Common.{◌≡◌, ℕ, zero, suc, ◌+◌, ◌-◌, ◌%◌, ◌<◌, ◌≤◌, List, [], ◌∷◌, ◌++◌, take, drop, length, Option, Some, None, Err, refl, sym, ap, ◌∙◌, subst, arith, append_assoc, append-nil, inl, inr}
+use Rattle.std.proofs.Common.{◌≡◌, ℕ, suc, ◌+◌, ◌-◌, ◌%◌, ◌≤◌, List, [], ◌∷◌, ◌++◌, take, drop, length, Option, Some, None, refl, sym, ap, ◌∙◌, subst, arith, append_assoc, append-nil, inl, inr}
 use Rattle.std.proofs.lemmas.List.{drop-append-le, drop-drop, drop_all, take_all}
 use Rattle.ff_frame.specs.declared.head.StreamHead.{StreamHead}
 use Rattle.ff_wav.specs.declared.head.Step.{Step}
 use Rattle.ff_wav.specs.declared.head.Step.TheVariants.{Wait, Decide, Skip}
 use Rattle.ff_wav.specs.Chunks.{chunk}
 use Rattle.ff_wav.specs.Heads.{Found, walk, Reached}
-use Rattle.ff_wav.proofs.ChunkLaws.{Settles, chunk_settles}
+use Rattle.ff_wav.proofs.ChunkLaws.{chunk_settles}
 use Rattle.ff_wav.proofs.HeadLaws.{walk-drop, stepped, take-append}
 
 pub Reached-start : Reached 12 None []

@@ -1,5 +1,5 @@
 -- What is true of every head that is read.
-use Rattle.std.proofs.Common.{◌≡◌, ℕ, zero, suc, ◌+◌, ◌<◌, ◌≤◌, ◌*◌, ◌^◌, ◌%◌, inl, inr, Bool, true, false, cond, List, [], ◌∷◌, ◌++◌, take, length, Option, Some, None, Result, Ok, Err, refl, sym, ap, ◌∙◌, subst, arith}
+use Rattle.std.proofs.Common.{◌≡◌, ℕ, zero, suc, ◌+◌, ◌<◌, ◌≤◌, ◌*◌, ◌^◌, inl, inr, Bool, true, false, cond, List, [], ◌∷◌, take, length, Option, Some, None, Result, Ok, Err, refl, sym, ap, ◌∙◌, subst, arith}
 use Rattle.std.specs.Prelude.{◌==◌, ◌&&◌, ◌||◌, not, nat_le, nat_lt, codes, IfOk}
 use Rattle.std.specs.Str.{bytes_eq}
 use Rattle.std.proofs.lemmas.List.{length-take}
@@ -13,10 +13,10 @@ use Rattle.ff_wav.specs.declared.head.HeadFault.TheVariants.{Damaged, Unsupporte
 use Rattle.ff_wav.specs.declared.head.Step.{Step}
 use Rattle.ff_wav.specs.declared.head.Step.TheVariants.{Wait, Decide, Skip}
 use Rattle.ff_wav.specs.Chunks.{number_16, number_32, codec_of, stream_of, format_of, step_of, fields, tagged, format_chunk, data_chunk, chunk}
-use Rattle.ff_wav.specs.Heads.{Found, magic, agrees, walk, within, reading, early, head_limit, head, answered, answered_or, answer}
+use Rattle.ff_wav.specs.Heads.{Found, magic, agrees, walk, within, reading, early, head_limit, answered, answered_or, answer}
 use Rattle.ff_frame.specs.declared.cut.HeadEnd.TheVariants as end
 use Rattle.ff_wav.specs.Packets.{IsHead, IsStream}
-use Rattle.ff_wav.proofs.HeadLaws.{stepped, head_some, within_some, bool_cases, reading_at, reading_else}
+use Rattle.ff_wav.proofs.HeadLaws.{stepped, within_some, bool_cases, reading_at, reading_else}
 
 GoodResult : Result StreamHead HeadFault → Type 0
 GoodResult (Ok f) = IsStream f

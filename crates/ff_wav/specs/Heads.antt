@@ -1,12 +1,11 @@
 -- The head of a whole input, and what is decided by its first bytes.
-use Rattle.std.specs.Prelude.{◌≡◌, ◌≢◌, ℕ, zero, suc, ◌+◌, ◌-◌, ◌%◌, ◌^◌, ◌<◌, ◌==◌, ◌&&◌, nat_lt, nat_le, not, Bool, true, if◌then◌else◌, List, [], ◌∷◌, ◌++◌, take, drop, length, Option, Some, None, unwrap_or, Result, Ok, Err, All}
+use Rattle.std.specs.Prelude.{◌≡◌, ◌≢◌, ℕ, zero, suc, ◌+◌, ◌%◌, ◌^◌, ◌<◌, ◌==◌, ◌&&◌, nat_lt, nat_le, not, Bool, true, if◌then◌else◌, List, [], ◌∷◌, ◌++◌, take, drop, length, Option, Some, None, unwrap_or, Result, Ok, Err, All}
 use Rattle.ff_frame.specs.declared.head.StreamHead.{StreamHead}
 use Rattle.ff_wav.specs.declared.head.WavHead.{WavHead}
 use Rattle.ff_wav.specs.declared.head.HeadFault.{HeadFault}
 use Rattle.ff_wav.specs.declared.head.HeadFault.TheVariants.{Damaged, Unsupported}
 use Rattle.ff_frame.specs.declared.cut.HeadEnd.{HeadEnd}
 use Rattle.ff_frame.specs.declared.cut.HeadEnd.TheVariants as end
-use Rattle.ff_wav.specs.declared.head.Step.{Step}
 use Rattle.ff_wav.specs.declared.head.Step.TheVariants.{Wait, Decide, Skip}
 use Rattle.ff_wav.specs.Chunks.{chunk}
 

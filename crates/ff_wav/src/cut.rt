@@ -31,7 +31,7 @@ pub struct WavCut {
 }
 
 // The bytes of a sample.
-fn size_of_sample(codec: Codec) -> usize
+pub(crate) fn size_of_sample(codec: Codec) -> usize
     ensures { result ≡ sample_bytes codec }
 {
     match codec {

@@ -9,8 +9,14 @@
 mod chunk;
 mod cut;
 mod head;
+mod header;
+mod put;
 mod walk;
 
 pub use cut::WavCut;
 pub use head::WavHead;
+pub use put::{TooLarge, WavPut};
 pub use walk::{WavWalk, read_head};
+
+#[cfg(test)]
+mod tests;

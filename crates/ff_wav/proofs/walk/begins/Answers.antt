@@ -1,6 +1,5 @@
-use Rattle.std.proofs.Common.{◌≡◌, ◌∙◌, ◌+◌, sym, suc, ap, arith, ◌<◌, length, add-one, drop, true, None, []}
-use Rattle.std.specs.Prelude.{◌&&◌}
-use Rattle.ff_wav.specs.Heads.{magic, agrees}
+use Rattle.std.proofs.Common.{◌∙◌, sym, arith, ◌<◌, length, None}
+use Rattle.ff_wav.specs.Heads.{magic}
 use Rattle.ff_wav.proofs.HeadLaws.{more_agrees, less_agrees, all_agrees}
 use Rattle.ff_wav.proofs.walk.begins.Goals as goal
 

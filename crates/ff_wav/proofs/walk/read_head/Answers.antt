@@ -1,6 +1,5 @@
-use Rattle.std.proofs.Common.{◌≡◌, ◌∙◌, sym, subst, ap, [], refl, Err, lit≤, false, ℕ}
-use Rattle.ff_frame.specs.declared.cut.HeadEnd.TheVariants.{NotYet}
-use Rattle.ff_wav.specs.Heads.{answer, head, answered, IsOpen}
+use Rattle.std.proofs.Common.{◌∙◌, ap, [], refl, lit≤}
+use Rattle.ff_wav.specs.Heads.{answer}
 use Rattle.ff_wav.proofs.HeadLaws.{answer_not_yet, answer_decided, answer_stays}
 use Rattle.ff_wav.proofs.SoundLaws.{answer_sound}
 use Rattle.ff_wav.proofs.walk.read_head.Goals as goal

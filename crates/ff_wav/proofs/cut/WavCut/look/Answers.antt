@@ -1,6 +1,6 @@
-use Rattle.std.proofs.Common.{◌≡◌, ◌∙◌, ◌+◌, ◌*◌, ℕ, List, false, sym, ap, subst, length, inr, Option}
+use Rattle.std.proofs.Common.{◌≡◌, ◌∙◌, ◌+◌, ◌*◌, ℕ, sym, subst, length, inr, Option}
 use Rattle.ff_wav.specs.Packets.{body}
-use Rattle.ff_wav.specs.Cuts.{ReachesLen, Cuts}
+use Rattle.ff_wav.specs.Cuts.{ReachesLen}
 use Rattle.ff_wav.proofs.CutLaws.{usable_is, reached_is, unreached_is}
 use Rattle.ff_wav.proofs.CutState.{goes_of, waiting_of, used_of}
 use Rattle.ff_wav.proofs.cut.WavCut.look.Goals as goal

@@ -1,5 +1,4 @@
-use Rattle.std.proofs.Common.{◌≡◌, ◌∙◌, ◌+◌, ◌*◌, ◌/◌, ◌<◌, ℕ, sym, ap, subst, length, take, refl, arith}
-use Rattle.ff_frame.specs.declared.packet.Pkt.{Pkt}
+use Rattle.std.proofs.Common.{◌≡◌, ◌∙◌, ◌*◌, ◌/◌, ◌<◌, ap, take, refl, arith}
 use Rattle.ff_wav.proofs.CutLaws.{made}
 use Rattle.ff_wav.proofs.CutState.{whole_gives, short_gives, none_left, over_left, less_than_one, one_or_more, not_ended}
 use Rattle.ff_wav.proofs.cut.WavCut.pull.Goals as goal

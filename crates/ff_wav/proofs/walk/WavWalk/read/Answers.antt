@@ -1,8 +1,7 @@
-use Rattle.std.proofs.Common.{◌≡◌, ◌∙◌, ◌≤◌, ◌<◌, sym, ap, subst, arith, length, Err, None, true, false, take}
-use Rattle.std.specs.Prelude.{not}
+use Rattle.std.proofs.Common.{◌≡◌, ◌∙◌, ◌≤◌, ◌<◌, sym, subst, arith, length, Err, true, false}
 use Rattle.std.proofs.lemmas.List.{take_all, length-take}
 use Rattle.ff_frame.specs.declared.cut.HeadEnd.TheVariants.{NotYet}
-use Rattle.ff_wav.specs.Heads.{answer, early, answered, head_limit, Reached}
+use Rattle.ff_wav.specs.Heads.{answer, head_limit, Reached}
 use Rattle.ff_wav.proofs.HeadLaws.{answer_else, answer_found, answer_over, answer_under}
 use Rattle.ff_wav.proofs.ReachLaws.{Reached-near}
 use Rattle.ff_wav.proofs.walk.WavWalk.read.Goals as goal
