@@ -4,3 +4,4 @@ pub mod Labels
 pub mod Values
 pub mod Args
 pub mod Filters
+pub mod Rests
