@@ -106,3 +106,14 @@ special_word b h = grind (arith, nat_tests)
 pub special_not_61 : (b : ℕ) → is_special b ≡ true → (b == 61) ≡ false
 unfolding is_special
 special_not_61 b h = grind (arith, nat_tests)
+
+pub word_plain : (b : ℕ) → is_word_byte b ≡ true → is_special b ≡ false
+unfolding is_special is_word_byte
+word_plain b h = grind (arith, nat_tests)
+
+pub eq_differs : (k n : ℕ) → (k == n) ≡ false → k ≢ n
+eq_differs k n h = grind (arith, nat_tests)
+
+pub both_out : (a b : Bool) → (a && b) ≡ true → (a ≡ true) × (b ≡ true)
+both_out true b e = (refl, e)
+both_out false b e = cc

@@ -5,3 +5,5 @@ pub mod Values
 pub mod Args
 pub mod Filters
 pub mod Rests
+pub mod ArgRests
+pub mod Sound

@@ -14,7 +14,7 @@ use Rattle.ff_lang.specs.declared.parser.Place.{Place}
 use Rattle.ff_lang.specs.declared.parser.Place.TheVariants.{Front, InLabel, Name, Named, Key, Value, Quoted, Escaped, OutLabel, Back}
 use Rattle.ff_lang.specs.Grammar.{IsValue, HasKey, IsWord, IsKeyed, IsArg}
 use Rattle.ff_lang.specs.Grammar.IsValue.{ends, itself, escaped, quoted}
-use Rattle.ff_lang.proofs.Bytes.{word_61, word_39, word_92, special_39, special_92, special_61, both_true, lt_true, lt_out, eq_out, eq_false, special_word, special_not_61}
+use Rattle.ff_lang.proofs.Bytes.{word_61, word_39, word_92, special_39, special_92, special_61, both_true, lt_true, lt_out, eq_out, eq_false, special_word, special_not_61, both_out}
 use Rattle.ff_lang.proofs.Runs.{and_reads, reads, reads_byte, at}
 
 -- in an argument, with a key and a value so far
@@ -67,10 +67,6 @@ stop_same graph chain filter key w _ (byte b rest h) = same_byte graph chain fil
 pub all_snoc : (P : ℕ → Type 0) (xs : List ℕ) (x : ℕ) → AllByRecursion P xs → P x → AllByRecursion P (xs ++ x ∷ [])
 all_snoc P [] x h p = (p, tt)
 all_snoc P (y ∷ xs) x h p = (h.0, all_snoc P xs x h.1 p)
-
-both_out : (a b : Bool) → (a && b) ≡ true → (a ≡ true) × (b ≡ true)
-both_out true b e = (refl, e)
-both_out false b e = cc
 
 abbrev AllWord : List ℕ → Type 0
 AllWord w = AllByRecursion (λ b. is_word_byte b ≡ true) w
