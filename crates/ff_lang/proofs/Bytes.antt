@@ -117,3 +117,30 @@ eq_differs k n h = grind (arith, nat_tests)
 pub both_out : (a b : Bool) → (a && b) ≡ true → (a ≡ true) × (b ≡ true)
 both_out true b e = (refl, e)
 both_out false b e = cc
+
+pub high_word : (b : ℕ) → 128 ≤ b → is_word_byte b ≡ false
+unfolding is_word_byte
+high_word b h = grind (arith, nat_tests)
+
+pub high_label : (b : ℕ) → 128 ≤ b → is_label_byte b ≡ false
+unfolding is_label_byte is_word_byte
+high_label b h = grind (arith, nat_tests)
+
+pub high_blank : (b : ℕ) → 128 ≤ b → is_blank b ≡ false
+unfolding is_blank
+high_blank b h = grind (arith, nat_tests)
+
+pub high_special : (b : ℕ) → 128 ≤ b → is_special b ≡ false
+unfolding is_special
+high_special b h = grind (arith, nat_tests)
+
+pub high_eq : (b n : ℕ) → 128 ≤ b → n < 128 → (b == n) ≡ false
+high_eq b n h k = grind (arith, nat_tests)
+
+pub word_97 : is_word_byte 97 ≡ true
+unfolding is_word_byte
+word_97 = refl
+
+pub label_97 : is_label_byte 97 ≡ true
+unfolding is_label_byte is_word_byte
+label_97 = refl

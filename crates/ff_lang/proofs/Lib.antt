@@ -7,3 +7,6 @@ pub mod Filters
 pub mod Rests
 pub mod ArgRests
 pub mod Sound
+pub mod Wide
+pub mod Places
+pub mod SoundGraphs
