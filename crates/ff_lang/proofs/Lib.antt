@@ -1,0 +1,12 @@
+pub mod Bytes
+pub mod Runs
+pub mod Labels
+pub mod Values
+pub mod Args
+pub mod Filters
+pub mod Rests
+pub mod ArgRests
+pub mod Sound
+pub mod Wide
+pub mod Places
+pub mod SoundGraphs

@@ -1,0 +1,4 @@
+pub mod Letters
+pub mod Grammar
+pub mod Printing
+pub mod Reading

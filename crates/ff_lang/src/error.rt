@@ -1,0 +1,21 @@
+ghost use Rattle.std.specs.Prelude.{◌≡◌};
+ghost use Rattle.ff_lang.specs.declared.error.LangError.TheVariants.{NoMemory};
+
+use std::alloc::AllocError;
+
+/// Why a text is not read.
+#[derive(Clone, Copy, Debug, PartialEq, Eq)]
+pub enum LangError {
+    /// The text is no filtergraph; `at` is the first place, in bytes, at which none goes on.
+    Bad { at: usize },
+    /// There was no memory for the graph.
+    NoMemory,
+}
+
+impl From<AllocError> for LangError {
+    ghost from_gives = { λ _ e. e ≡ NoMemory };
+
+    fn from(_: AllocError) -> Self {
+        LangError::NoMemory
+    }
+}

@@ -1,0 +1,68 @@
+ghost use Rattle.std.specs.Prelude.{◌≡◌};
+ghost use Rattle.ff_lang.specs.Reading.{empty_arg, empty_filter, empty_chain};
+
+use crate::lists::{Sequence, Text};
+use std::alloc::Global;
+
+/// An argument of a filter: `key=value`, or a value alone.
+#[derive(Debug, Drop)]
+pub struct Arg {
+    pub key: Option<Text>,
+    /// The value as it is meant, without quotes and escapes.
+    pub value: Text,
+}
+
+impl Arg {
+    pub(super) fn new(alloc: Global) -> Arg
+        ensures { result ≡ empty_arg }
+    {
+        Arg {
+            key: None,
+            value: Text::new(alloc),
+        }
+    }
+}
+
+/// A filter with the labels of its first input pads, its arguments and the labels of its first output pads.
+#[derive(Debug, Drop)]
+pub struct Filter {
+    pub ins: Sequence<Text>,
+    pub name: Text,
+    pub args: Sequence<Arg>,
+    pub outs: Sequence<Text>,
+}
+
+impl Filter {
+    pub(super) fn new(alloc: Global) -> Filter
+        ensures { result ≡ empty_filter }
+    {
+        Filter {
+            ins: Sequence::new(alloc),
+            name: Text::new(alloc),
+            args: Sequence::new(alloc),
+            outs: Sequence::new(alloc),
+        }
+    }
+}
+
+/// Filters one after another.
+#[derive(Debug, Drop)]
+pub struct Chain {
+    pub filters: Sequence<Filter>,
+}
+
+impl Chain {
+    pub(super) fn new(alloc: Global) -> Chain
+        ensures { result ≡ empty_chain }
+    {
+        Chain {
+            filters: Sequence::new(alloc),
+        }
+    }
+}
+
+/// A filtergraph: its chains in the order of writing.
+#[derive(Debug, Drop)]
+pub struct Graph {
+    pub chains: Sequence<Chain>,
+}

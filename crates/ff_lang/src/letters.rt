@@ -1,0 +1,38 @@
+// What a character is in the text of a filtergraph.
+ghost use Rattle.std.specs.Prelude.{◌≡◌};
+ghost use Rattle.ff_lang.specs.Letters.{is_word_byte, is_label_byte, is_blank as is_blank_byte, is_special as is_special_byte, is_escaped as is_escaped_byte};
+
+#[tactic(auto, unfolding(crate::specs::Letters::is_word_byte))]
+pub(super) fn is_word(c: char) -> bool
+    ensures { result ≡ is_word_byte c }
+{
+    (c >= '0' && c <= '9') || (c >= 'A' && c <= 'Z') || (c >= 'a' && c <= 'z') || c == '_'
+}
+
+#[tactic(auto, unfolding(crate::specs::Letters::is_label_byte))]
+pub(super) fn is_label(c: char) -> bool
+    ensures { result ≡ is_label_byte c }
+{
+    is_word(c) || c == ':' || c == '.'
+}
+
+#[tactic(auto, unfolding(crate::specs::Letters::is_blank))]
+pub(super) fn is_blank(c: char) -> bool
+    ensures { result ≡ is_blank_byte c }
+{
+    c == ' ' || c == '\t' || c == '\n'
+}
+
+#[tactic(auto, unfolding(crate::specs::Letters::is_special))]
+pub(super) fn is_special(c: char) -> bool
+    ensures { result ≡ is_special_byte c }
+{
+    c == '\'' || c == '\\' || c == ':' || c == ',' || c == ';' || c == '[' || c == ']'
+}
+
+#[tactic(auto, unfolding(crate::specs::Letters::is_escaped))]
+pub(super) fn is_escaped(c: char) -> bool
+    ensures { result ≡ is_escaped_byte c }
+{
+    is_special(c) || c == '='
+}

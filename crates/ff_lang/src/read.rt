@@ -1,0 +1,34 @@
+ghost use Rattle.std.specs.Prelude.{◌≡◌, ◌⊎◌, ℕ, IfOk, IsErrOf};
+ghost use Rattle.ff_lang.specs.Grammar.{IsGraph, IsBadAt};
+ghost use Rattle.ff_lang.specs.Printing.{IsSound};
+ghost use Rattle.ff_lang.specs.declared.graph.Graph.{Graph};
+
+use crate::error::LangError;
+use crate::graph::Graph;
+use crate::parser::Parser;
+use std::alloc::Global;
+
+/// The graph that a text stands for. `Bad` where it is none, with the first byte after which no filtergraph goes
+/// on, or the length where it ends too early (ffmpeg-filters, "Filtergraph syntax").
+pub fn read_graph(alloc: Global, text: &str) -> Result<Graph, LangError>
+    ensures ok { (graph : Graph) → result ≡ Ok graph → IsGraph text.now graph }
+    ensures read { (graph : Graph) → IsGraph text.now graph
+        → (result ≡ Ok graph) ⊎ IsErrOf result LangError.NoMemory }
+    ensures bad { (at : ℕ) → IsErrOf result (LangError.Bad at) → IsBadAt text.now at }
+    ensures refused { (at : ℕ) → IsBadAt text.now at
+        → IsErrOf result (LangError.Bad at) ⊎ IsErrOf result LangError.NoMemory }
+    ensures sound { IfOk result (λ graph. IsSound graph) }
+{
+    let mut parser = Parser::new(alloc);
+    let mut at = 0;
+    for c in text.chars() {
+        if !parser.next(alloc, c)? {
+            return Err(LangError::Bad { at });
+        }
+        at += c.len_utf8();
+    }
+    match parser.end(alloc)? {
+        Some(graph) => Ok(graph),
+        None => Err(LangError::Bad { at: text.len() }),
+    }
+}
