@@ -243,7 +243,7 @@ no_key_byte w [] rest text b each e f spelled h = no_equals w h.0 h.1 each (sym 
 no_key_byte w (x ∷ here) rest text b each e f spelled h =
     let same : x ≡ b = cc in
     let words : is_word_byte x ≡ true → 0 + length w < 64 → ⊥ = λ p q.
-      (let p2 : (is_word_byte b && nat_lt (length w) 64) ≡ true = both_true (is_word_byte b) (nat_lt (length w) 64) (subst (λ y. is_word_byte y ≡ true) same p) (lt_true (length w) 64 (omega (arith, q))) in cc) in
+    (let p2 : (is_word_byte b && nat_lt (length w) 64) ≡ true = both_true (is_word_byte b) (nat_lt (length w) 64) (subst (λ y. is_word_byte y ≡ true) same p) (lt_true (length w) 64 (omega (arith, q))) in cc) in
     let equals : x ≡ 61 → 0 < 0 + length w → ⊥ = λ p q.
-      (let p2 : ((b == 61) && nat_lt 0 (length w)) ≡ true = both_true (b == 61) (nat_lt 0 (length w)) (subst (λ y. (y == 61) ≡ true) (sym p ∙ same) refl) (lt_true 0 (length w) (omega (arith, q))) in cc) in
+    (let p2 : ((b == 61) && nat_lt 0 (length w)) ≡ true = both_true (b == 61) (nat_lt 0 (length w)) (subst (λ y. (y == 61) ≡ true) (sym p ∙ same) refl) (lt_true 0 (length w) (omega (arith, q))) in cc) in
     not_here 0 w h.0 here h.1 x each h.2.each (omega (arith, h.2.short)) (omega (arith, h.2.some)) words equals h.3

@@ -96,9 +96,9 @@ pub bad_end : (text : List ℕ) (s : Parser) → run text start ≡ Some s → e
 bad_end text s e stop =
     record {
       no_graph = λ g h. (let some : reads text start ≡ Some g = reads_graph text g h in
-        let here : reads (text ++ []) start ≡ end_of s = reads_run text [] start s e in
-        let same : reads text start ≡ end_of s = ap (λ t. reads t start) (sym (append-nil text)) ∙ here in
-        cc);
+          let here : reads (text ++ []) start ≡ end_of s = reads_run text [] start s e in
+          let same : reads text start ≡ end_of s = ap (λ t. reads t start) (sym (append-nil text)) ∙ here in
+          cc);
       before = subst GoesOn (sym (take_all (length text) text (omega arith))) (goes_on text s e);
       place = inl refl;
     }

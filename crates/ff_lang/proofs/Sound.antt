@@ -99,15 +99,19 @@ after_semicolon g0 c a l text g h =
       fs_are = refl;
       cs_are = (h.here ++ h.then.filters, h.then.chains, refl, whole_chain h.here h.then.filters h.filter h.then.fs h.rest h.then.fs_are, h.then.cs_are);
       graph_is = h.then.graph_is ∙ (ap (λ x. record { chains = x }) (append_assoc g0.chains (c ∷ []) ((record { filters = h.filter ∷ h.then.fs }) ∷ h.then.cs))
-      ∙ ap (λ x. record { chains = g0.chains ++ ((record { filters = x }) ∷ ((record { filters = h.filter ∷ h.then.fs }) ∷ h.then.cs)) }) (sym (append-nil c.filters)));
+          ∙ ap (λ x. record { chains = g0.chains ++ ((record { filters = x }) ∷ ((record { filters = h.filter ∷ h.then.fs }) ∷ h.then.cs)) }) (sym (append-nil c.filters)));
     }
 
 pub going_graph : (text : List ℕ) (g : Graph) → Going start text g → IsGraph text g
 going_graph text g h =
     let made : Graph = record { chains = (record { filters = h.filter ∷ h.then.fs }) ∷ h.then.cs } in
-    let is : IsGraph text made =
-      (h.here ++ h.then.filters, h.then.chains, h.spelled ∙ (ap (λ t. h.here ++ t) h.then.spelled ∙ sym (append_assoc h.here h.then.filters h.then.chains)),
-      whole_chain h.here h.then.filters h.filter h.then.fs h.rest h.then.fs_are, h.then.cs_are) in
+    let is : IsGraph text made = (
+      h.here ++ h.then.filters,
+      h.then.chains,
+      h.spelled ∙ (ap (λ t. h.here ++ t) h.then.spelled ∙ sym (append_assoc h.here h.then.filters h.then.chains)),
+      whole_chain h.here h.then.filters h.filter h.then.fs h.rest h.then.fs_are,
+      h.then.cs_are,
+    ) in
     subst (IsGraph text) (sym h.then.graph_is) is
 
 -- ---- one byte
@@ -137,12 +141,12 @@ tail_step : (p q : Place) (g0 : Graph) (c : Chain) (f0 f1 : Filter) (a a1 : Arg)
     → OnStep (tail_next (at q g0 c f1 a1 l) b) (Back_to (at p g0 c f0 a l) b text g)
 tail_step p q g0 c f0 f1 a a1 l b text g end opens =
     cond_on (b == 91) _ _ (Back_to (at p g0 c f0 a l) b text g)
-      (λ e. subst (λ x. Back_to (at p g0 c f0 a l) x text g (at OutLabel g0 c f1 a1 [])) (sym (eq_out b 91 e)) (within p OutLabel g0 c f0 f1 a a1 l [] 91 text g opens))
-      (λ _. cond_on (b == 44) _ _ (Back_to (at p g0 c f0 a l) b text g)
-        (λ e h. behind p g0 c f0 f1 a l (b ∷ text) g end (subst (λ x. After g0 (with_filter c f1) (x ∷ text) g) (sym (eq_out b 44 e)) (after_comma g0 (with_filter c f1) a1 l text g h)))
-        (λ _. cond_on (b == 59) _ _ (Back_to (at p g0 c f0 a l) b text g)
-          (λ e h. behind p g0 c f0 f1 a l (b ∷ text) g end (subst (λ x. After g0 (with_filter c f1) (x ∷ text) g) (sym (eq_out b 59 e)) (after_semicolon g0 (with_filter c f1) a1 l text g h)))
-          (λ _. tt)))
+    (λ e. subst (λ x. Back_to (at p g0 c f0 a l) x text g (at OutLabel g0 c f1 a1 [])) (sym (eq_out b 91 e)) (within p OutLabel g0 c f0 f1 a a1 l [] 91 text g opens))
+    (λ _. cond_on (b == 44) _ _ (Back_to (at p g0 c f0 a l) b text g)
+    (λ e h. behind p g0 c f0 f1 a l (b ∷ text) g end (subst (λ x. After g0 (with_filter c f1) (x ∷ text) g) (sym (eq_out b 44 e)) (after_comma g0 (with_filter c f1) a1 l text g h)))
+    (λ _. cond_on (b == 59) _ _ (Back_to (at p g0 c f0 a l) b text g)
+    (λ e h. behind p g0 c f0 f1 a l (b ∷ text) g end (subst (λ x. After g0 (with_filter c f1) (x ∷ text) g) (sym (eq_out b 59 e)) (after_semicolon g0 (with_filter c f1) a1 l text g h)))
+    (λ _. tt)))
 
 abbrev Step : Place → Type 0
 Step p = (g0 : Graph) (c : Chain) (f0 : Filter) (a : Arg) (l : List ℕ) (b : ℕ) (text : List ℕ) (g : Graph) → OnStep (place_next p (at p g0 c f0 a l) b (b ∷ [])) (Back_to (at p g0 c f0 a l) b text g)
@@ -150,36 +154,36 @@ Step p = (g0 : Graph) (c : Chain) (f0 : Filter) (a : Arg) (l : List ℕ) (b : �
 front_step : Step Front
 front_step g0 c f0 a l b text g =
     cond_on (is_word_byte b) _ _ (Back_to (at Front g0 c f0 a l) b text g)
-      (λ e. within Front Name g0 c f0 (record f0 { name = b ∷ [] }) a a l l b text g (λ here f. front_word f0 b here f e))
-      (λ _. cond_on (is_blank b) _ _ (Back_to (at Front g0 c f0 a l) b text g)
-        (λ e. within Front Front g0 c f0 f0 a a l l b text g (λ here f. front_blank f0 b here f e))
-        (λ _. cond_on (b == 91) _ _ (Back_to (at Front g0 c f0 a l) b text g)
-          (λ e. subst (λ x. Back_to (at Front g0 c f0 a l) x text g (at InLabel g0 c f0 a [])) (sym (eq_out b 91 e)) (within Front InLabel g0 c f0 f0 a a l [] 91 text g (λ here f. front_open f0 here f)))
-          (λ _. tt)))
+    (λ e. within Front Name g0 c f0 (record f0 { name = b ∷ [] }) a a l l b text g (λ here f. front_word f0 b here f e))
+    (λ _. cond_on (is_blank b) _ _ (Back_to (at Front g0 c f0 a l) b text g)
+    (λ e. within Front Front g0 c f0 f0 a a l l b text g (λ here f. front_blank f0 b here f e))
+    (λ _. cond_on (b == 91) _ _ (Back_to (at Front g0 c f0 a l) b text g)
+    (λ e. subst (λ x. Back_to (at Front g0 c f0 a l) x text g (at InLabel g0 c f0 a [])) (sym (eq_out b 91 e)) (within Front InLabel g0 c f0 f0 a a l [] 91 text g (λ here f. front_open f0 here f)))
+    (λ _. tt)))
 
 in_label_step : Step InLabel
 in_label_step g0 c f0 a l b text g =
     cond_on (is_label_byte b && nat_lt (length l) 64) _ _ (Back_to (at InLabel g0 c f0 a l) b text g)
-      (λ e. within InLabel InLabel g0 c f0 f0 a a l (l ++ b ∷ []) b text g (λ here f. in_label_more f0 l b here f (both_out (is_label_byte b) (nat_lt (length l) 64) e).0 (lt_out (length l) 64 (both_out (is_label_byte b) (nat_lt (length l) 64) e).1)))
-      (λ _. cond_on ((b == 93) && nat_lt 0 (length l)) _ _ (Back_to (at InLabel g0 c f0 a l) b text g)
-        (λ e. subst (λ x. Back_to (at InLabel g0 c f0 a l) x text g (at Front g0 c (record f0 { ins = f0.ins ++ l ∷ [] }) a [])) (sym (eq_out b 93 (both_out (b == 93) (nat_lt 0 (length l)) e).0))
-          (within InLabel Front g0 c f0 (record f0 { ins = f0.ins ++ l ∷ [] }) a a l [] 93 text g (λ here f. in_label_close f0 l here f (lt_out 0 (length l) (both_out (b == 93) (nat_lt 0 (length l)) e).1))))
-        (λ _. tt))
+    (λ e. within InLabel InLabel g0 c f0 f0 a a l (l ++ b ∷ []) b text g (λ here f. in_label_more f0 l b here f (both_out (is_label_byte b) (nat_lt (length l) 64) e).0 (lt_out (length l) 64 (both_out (is_label_byte b) (nat_lt (length l) 64) e).1)))
+    (λ _. cond_on ((b == 93) && nat_lt 0 (length l)) _ _ (Back_to (at InLabel g0 c f0 a l) b text g)
+    (λ e. subst (λ x. Back_to (at InLabel g0 c f0 a l) x text g (at Front g0 c (record f0 { ins = f0.ins ++ l ∷ [] }) a [])) (sym (eq_out b 93 (both_out (b == 93) (nat_lt 0 (length l)) e).0))
+    (within InLabel Front g0 c f0 (record f0 { ins = f0.ins ++ l ∷ [] }) a a l [] 93 text g (λ here f. in_label_close f0 l here f (lt_out 0 (length l) (both_out (b == 93) (nat_lt 0 (length l)) e).1))))
+    (λ _. tt))
 
 out_label_step : Step OutLabel
 out_label_step g0 c f0 a l b text g =
     cond_on (is_label_byte b && nat_lt (length l) 64) _ _ (Back_to (at OutLabel g0 c f0 a l) b text g)
-      (λ e. within OutLabel OutLabel g0 c f0 f0 a a l (l ++ b ∷ []) b text g (λ here f. out_label_more f0 l b here f (both_out (is_label_byte b) (nat_lt (length l) 64) e).0 (lt_out (length l) 64 (both_out (is_label_byte b) (nat_lt (length l) 64) e).1)))
-      (λ _. cond_on ((b == 93) && nat_lt 0 (length l)) _ _ (Back_to (at OutLabel g0 c f0 a l) b text g)
-        (λ e. subst (λ x. Back_to (at OutLabel g0 c f0 a l) x text g (at Back g0 c (record f0 { outs = f0.outs ++ l ∷ [] }) a [])) (sym (eq_out b 93 (both_out (b == 93) (nat_lt 0 (length l)) e).0))
-          (within OutLabel Back g0 c f0 (record f0 { outs = f0.outs ++ l ∷ [] }) a a l [] 93 text g (λ here f. out_label_close f0 l here f (lt_out 0 (length l) (both_out (b == 93) (nat_lt 0 (length l)) e).1))))
-        (λ _. tt))
+    (λ e. within OutLabel OutLabel g0 c f0 f0 a a l (l ++ b ∷ []) b text g (λ here f. out_label_more f0 l b here f (both_out (is_label_byte b) (nat_lt (length l) 64) e).0 (lt_out (length l) 64 (both_out (is_label_byte b) (nat_lt (length l) 64) e).1)))
+    (λ _. cond_on ((b == 93) && nat_lt 0 (length l)) _ _ (Back_to (at OutLabel g0 c f0 a l) b text g)
+    (λ e. subst (λ x. Back_to (at OutLabel g0 c f0 a l) x text g (at Back g0 c (record f0 { outs = f0.outs ++ l ∷ [] }) a [])) (sym (eq_out b 93 (both_out (b == 93) (nat_lt 0 (length l)) e).0))
+    (within OutLabel Back g0 c f0 (record f0 { outs = f0.outs ++ l ∷ [] }) a a l [] 93 text g (λ here f. out_label_close f0 l here f (lt_out 0 (length l) (both_out (b == 93) (nat_lt 0 (length l)) e).1))))
+    (λ _. tt))
 
 back_step : Step Back
 back_step g0 c f0 a l b text g =
     cond_on (is_blank b) _ _ (Back_to (at Back g0 c f0 a l) b text g)
-      (λ e. within Back Back g0 c f0 f0 a a l l b text g (λ here f. outs_blank f0 b here f e))
-      (λ _. tail_step Back Back g0 c f0 f0 a a l b text g (outs_end f0) (λ here f. outs_open f0 here f))
+    (λ e. within Back Back g0 c f0 f0 a a l l b text g (λ here f. outs_blank f0 b here f e))
+    (λ _. tail_step Back Back g0 c f0 f0 a a l b text g (outs_end f0) (λ here f. outs_open f0 here f))
 
 head_end : (f0 : Filter) → HeadRest f0 [] f0
 head_end f0 = head_of_outs f0 [] f0 (outs_end f0)
@@ -190,20 +194,20 @@ head_open f0 here f h = head_of_outs f0 (91 ∷ here) f (outs_open f0 here f h)
 named_step : Step Named
 named_step g0 c f0 a l b text g =
     cond_on (is_blank b) _ _ (Back_to (at Named g0 c f0 a l) b text g)
-      (λ e. within Named Named g0 c f0 f0 a a l l b text g (λ here f. head_blank f0 b here f e))
-      (λ _. cond_on (b == 61) _ _ (Back_to (at Named g0 c f0 a l) b text g)
-        (λ e. subst (λ x. Back_to (at Named g0 c f0 a l) x text g (at Key g0 c f0 empty_arg l)) (sym (eq_out b 61 e)) (within Named Key g0 c f0 f0 a empty_arg l l 61 text g (λ here f. head_equals f0 here f)))
-        (λ _. tail_step Named Named g0 c f0 f0 a a l b text g (head_end f0) (head_open f0)))
+    (λ e. within Named Named g0 c f0 f0 a a l l b text g (λ here f. head_blank f0 b here f e))
+    (λ _. cond_on (b == 61) _ _ (Back_to (at Named g0 c f0 a l) b text g)
+    (λ e. subst (λ x. Back_to (at Named g0 c f0 a l) x text g (at Key g0 c f0 empty_arg l)) (sym (eq_out b 61 e)) (within Named Key g0 c f0 f0 a empty_arg l l 61 text g (λ here f. head_equals f0 here f)))
+    (λ _. tail_step Named Named g0 c f0 f0 a a l b text g (head_end f0) (head_open f0)))
 
 name_step : Step Name
 name_step g0 c f0 a l b text g =
     cond_on (is_word_byte b && nat_lt (length f0.name) 64) _ _ (Back_to (at Name g0 c f0 a l) b text g)
-      (λ e. within Name Name g0 c f0 (record f0 { name = f0.name ++ b ∷ [] }) a a l l b text g (λ here f. name_more f0 b here f (both_out (is_word_byte b) (nat_lt (length f0.name) 64) e).0 (lt_out (length f0.name) 64 (both_out (is_word_byte b) (nat_lt (length f0.name) 64) e).1)))
-      (λ _. cond_on (is_blank b) _ _ (Back_to (at Name g0 c f0 a l) b text g)
-        (λ e. within Name Named g0 c f0 f0 a a l l b text g (λ here f h. name_of_head f0 (b ∷ here) f (head_blank f0 b here f e h)))
-        (λ _. cond_on (b == 61) _ _ (Back_to (at Name g0 c f0 a l) b text g)
-          (λ e. subst (λ x. Back_to (at Name g0 c f0 a l) x text g (at Key g0 c f0 empty_arg l)) (sym (eq_out b 61 e)) (within Name Key g0 c f0 f0 a empty_arg l l 61 text g (λ here f h. name_of_head f0 (61 ∷ here) f (head_equals f0 here f h))))
-          (λ _. tail_step Name Name g0 c f0 f0 a a l b text g (name_of_head f0 [] f0 (head_end f0)) (λ here f h. name_of_head f0 (91 ∷ here) f (head_open f0 here f h)))))
+    (λ e. within Name Name g0 c f0 (record f0 { name = f0.name ++ b ∷ [] }) a a l l b text g (λ here f. name_more f0 b here f (both_out (is_word_byte b) (nat_lt (length f0.name) 64) e).0 (lt_out (length f0.name) 64 (both_out (is_word_byte b) (nat_lt (length f0.name) 64) e).1)))
+    (λ _. cond_on (is_blank b) _ _ (Back_to (at Name g0 c f0 a l) b text g)
+    (λ e. within Name Named g0 c f0 f0 a a l l b text g (λ here f h. name_of_head f0 (b ∷ here) f (head_blank f0 b here f e h)))
+    (λ _. cond_on (b == 61) _ _ (Back_to (at Name g0 c f0 a l) b text g)
+    (λ e. subst (λ x. Back_to (at Name g0 c f0 a l) x text g (at Key g0 c f0 empty_arg l)) (sym (eq_out b 61 e)) (within Name Key g0 c f0 f0 a empty_arg l l 61 text g (λ here f h. name_of_head f0 (61 ∷ here) f (head_equals f0 here f h))))
+    (λ _. tail_step Name Name g0 c f0 f0 a a l b text g (name_of_head f0 [] f0 (head_end f0)) (λ here f h. name_of_head f0 (91 ∷ here) f (head_open f0 here f h)))))
 
 value_tail : (p : Place) (g0 : Graph) (c : Chain) (f0 : Filter) (a : Arg) (l : List ℕ) (b : ℕ) (text : List ℕ) (g : Graph)
     → ((here : List ℕ) (f : Filter) → ValueRest f0 a (b ∷ here) f → Rest p f0 a l (b ∷ here) f) → ((f : Filter) → ValueRest f0 a [] f → Rest p f0 a l [] f)
@@ -212,12 +216,12 @@ value_tail p g0 c f0 a l b text g into end =
     let f1 : Filter = record f0 { args = f0.args ++ a ∷ [] } in
     let last : Rest p f0 a l [] f1 = end f1 (value_end f0 a) in
     cond_on (b == 91) _ _ (Back_to (at p g0 c f0 a l) b text g)
-      (λ e. within p OutLabel g0 c f0 f1 a empty_arg l [] b text g (λ here f h. into here f (subst (λ x. ValueRest f0 a (x ∷ here) f) (sym (eq_out b 91 e)) (value_open f0 a here f h))))
-      (λ _. cond_on (b == 44) _ _ (Back_to (at p g0 c f0 a l) b text g)
-        (λ e h. behind p g0 c f0 f1 a l (b ∷ text) g last (subst (λ x. After g0 (with_filter c f1) (x ∷ text) g) (sym (eq_out b 44 e)) (after_comma g0 (with_filter c f1) empty_arg l text g h)))
-        (λ _. cond_on (b == 59) _ _ (Back_to (at p g0 c f0 a l) b text g)
-          (λ e h. behind p g0 c f0 f1 a l (b ∷ text) g last (subst (λ x. After g0 (with_filter c f1) (x ∷ text) g) (sym (eq_out b 59 e)) (after_semicolon g0 (with_filter c f1) empty_arg l text g h)))
-          (λ _. tt)))
+    (λ e. within p OutLabel g0 c f0 f1 a empty_arg l [] b text g (λ here f h. into here f (subst (λ x. ValueRest f0 a (x ∷ here) f) (sym (eq_out b 91 e)) (value_open f0 a here f h))))
+    (λ _. cond_on (b == 44) _ _ (Back_to (at p g0 c f0 a l) b text g)
+    (λ e h. behind p g0 c f0 f1 a l (b ∷ text) g last (subst (λ x. After g0 (with_filter c f1) (x ∷ text) g) (sym (eq_out b 44 e)) (after_comma g0 (with_filter c f1) empty_arg l text g h)))
+    (λ _. cond_on (b == 59) _ _ (Back_to (at p g0 c f0 a l) b text g)
+    (λ e h. behind p g0 c f0 f1 a l (b ∷ text) g last (subst (λ x. After g0 (with_filter c f1) (x ∷ text) g) (sym (eq_out b 59 e)) (after_semicolon g0 (with_filter c f1) empty_arg l text g h)))
+    (λ _. tt)))
 
 -- a value's byte, in a place that takes what a value takes
 value_like : (p : Place) (g0 : Graph) (c : Chain) (f0 : Filter) (a : Arg) (l : List ℕ) (b : ℕ) (text : List ℕ) (g : Graph)
@@ -226,14 +230,14 @@ value_like : (p : Place) (g0 : Graph) (c : Chain) (f0 : Filter) (a : Arg) (l : L
 value_like p g0 c f0 a l b text g into end =
     let f1 : Filter = record f0 { args = f0.args ++ a ∷ [] } in
     cond_on (is_special b) _ _ (Back_to (at p g0 c f0 a l) b text g)
-      (λ _. cond_on (b == 39) _ _ (Back_to (at p g0 c f0 a l) b text g)
-        (λ e. within p Quoted g0 c f0 f0 a a l l b text g (λ here f h. into here f (subst (λ x. ValueRest f0 a (x ∷ here) f) (sym (eq_out b 39 e)) (value_quote f0 a here f h))))
-        (λ _. cond_on (b == 92) _ _ (Back_to (at p g0 c f0 a l) b text g)
-          (λ e. within p Escaped g0 c f0 f0 a a l l b text g (λ here f h. into here f (subst (λ x. ValueRest f0 a (x ∷ here) f) (sym (eq_out b 92 e)) (value_escape f0 a here f h))))
-          (λ _. cond_on (b == 58) _ _ (Back_to (at p g0 c f0 a l) b text g)
-            (λ e. within p Key g0 c f0 f1 a empty_arg l l b text g (λ here f h. into here f (subst (λ x. ValueRest f0 a (x ∷ here) f) (sym (eq_out b 58 e)) (value_colon f0 a here f h))))
-            (λ _. value_tail p g0 c f0 a l b text g into end))))
-      (λ e. within p Value g0 c f0 f0 a (record a { value = a.value ++ b ∷ [] }) l l b text g (λ here f h. into here f (value_plain f0 a b here f e h)))
+    (λ _. cond_on (b == 39) _ _ (Back_to (at p g0 c f0 a l) b text g)
+    (λ e. within p Quoted g0 c f0 f0 a a l l b text g (λ here f h. into here f (subst (λ x. ValueRest f0 a (x ∷ here) f) (sym (eq_out b 39 e)) (value_quote f0 a here f h))))
+    (λ _. cond_on (b == 92) _ _ (Back_to (at p g0 c f0 a l) b text g)
+    (λ e. within p Escaped g0 c f0 f0 a a l l b text g (λ here f h. into here f (subst (λ x. ValueRest f0 a (x ∷ here) f) (sym (eq_out b 92 e)) (value_escape f0 a here f h))))
+    (λ _. cond_on (b == 58) _ _ (Back_to (at p g0 c f0 a l) b text g)
+    (λ e. within p Key g0 c f0 f1 a empty_arg l l b text g (λ here f h. into here f (subst (λ x. ValueRest f0 a (x ∷ here) f) (sym (eq_out b 58 e)) (value_colon f0 a here f h))))
+    (λ _. value_tail p g0 c f0 a l b text g into end))))
+    (λ e. within p Value g0 c f0 f0 a (record a { value = a.value ++ b ∷ [] }) l l b text g (λ here f h. into here f (value_plain f0 a b here f e h)))
 
 value_step : Step Value
 value_step g0 c f0 a l b text g = value_like Value g0 c f0 a l b text g (λ here f h. h) (λ f h. h)
@@ -241,8 +245,8 @@ value_step g0 c f0 a l b text g = value_like Value g0 c f0 a l b text g (λ here
 quoted_step : Step Quoted
 quoted_step g0 c f0 a l b text g =
     cond_on (b == 39) _ _ (Back_to (at Quoted g0 c f0 a l) b text g)
-      (λ e. subst (λ x. Back_to (at Quoted g0 c f0 a l) x text g (at Value g0 c f0 a l)) (sym (eq_out b 39 e)) (within Quoted Value g0 c f0 f0 a a l l 39 text g (λ here f. quoted_close f0 a here f)))
-      (λ e. within Quoted Quoted g0 c f0 f0 a (record a { value = a.value ++ b ∷ [] }) l l b text g (λ here f. quoted_more f0 a b here f (eq_differs b 39 e)))
+    (λ e. subst (λ x. Back_to (at Quoted g0 c f0 a l) x text g (at Value g0 c f0 a l)) (sym (eq_out b 39 e)) (within Quoted Value g0 c f0 f0 a a l l 39 text g (λ here f. quoted_close f0 a here f)))
+    (λ e. within Quoted Quoted g0 c f0 f0 a (record a { value = a.value ++ b ∷ [] }) l l b text g (λ here f. quoted_more f0 a b here f (eq_differs b 39 e)))
 
 escaped_step : Step Escaped
 escaped_step g0 c f0 a l b text g = within Escaped Value g0 c f0 f0 a (record a { value = a.value ++ b ∷ [] }) l l b text g (λ here f. escaped_byte f0 a b here f)
@@ -253,14 +257,14 @@ fits_more a b e lt fits = record { none = fits.none; each = all_snoc (λ x. is_w
 key_step : Step Key
 key_step g0 c f0 a l b text g =
     cond_on (is_word_byte b && nat_lt (length a.value) 64) _ _ (Back_to (at Key g0 c f0 a l) b text g)
-      (λ e. within Key Key g0 c f0 f0 a (record a { value = a.value ++ b ∷ [] }) l l b text g
-        (λ here f. key_more f0 a b here f (fits_more a b (both_out (is_word_byte b) (nat_lt (length a.value) 64) e).0 (lt_out (length a.value) 64 (both_out (is_word_byte b) (nat_lt (length a.value) 64) e).1))))
-      (λ e. cond_on ((b == 61) && nat_lt 0 (length a.value)) _ _ (Back_to (at Key g0 c f0 a l) b text g)
-        (λ d. subst (λ x. Back_to (at Key g0 c f0 a l) x text g (at Value g0 c f0 (record { key = Some a.value; value = [] }) l)) (sym (eq_out b 61 (both_out (b == 61) (nat_lt 0 (length a.value)) d).0))
-          (within Key Value g0 c f0 f0 a (record { key = Some a.value; value = [] }) l l 61 text g (λ here f. key_equals f0 a here f (lt_out 0 (length a.value) (both_out (b == 61) (nat_lt 0 (length a.value)) d).1))))
-        (λ d. value_like Key g0 c f0 a l b text g
-          (λ here f h fits. key_value f0 a (b ∷ here) f (λ front rest spelled. no_key_byte a.value front rest here b fits.each e d spelled) h fits)
-          (λ f h fits. key_value f0 a [] f (λ front rest spelled. no_key_end a.value front rest fits.each spelled) h fits)))
+    (λ e. within Key Key g0 c f0 f0 a (record a { value = a.value ++ b ∷ [] }) l l b text g
+    (λ here f. key_more f0 a b here f (fits_more a b (both_out (is_word_byte b) (nat_lt (length a.value) 64) e).0 (lt_out (length a.value) 64 (both_out (is_word_byte b) (nat_lt (length a.value) 64) e).1))))
+    (λ e. cond_on ((b == 61) && nat_lt 0 (length a.value)) _ _ (Back_to (at Key g0 c f0 a l) b text g)
+    (λ d. subst (λ x. Back_to (at Key g0 c f0 a l) x text g (at Value g0 c f0 (record { key = Some a.value; value = [] }) l)) (sym (eq_out b 61 (both_out (b == 61) (nat_lt 0 (length a.value)) d).0))
+    (within Key Value g0 c f0 f0 a (record { key = Some a.value; value = [] }) l l 61 text g (λ here f. key_equals f0 a here f (lt_out 0 (length a.value) (both_out (b == 61) (nat_lt 0 (length a.value)) d).1))))
+    (λ d. value_like Key g0 c f0 a l b text g
+    (λ here f h fits. key_value f0 a (b ∷ here) f (λ front rest spelled. no_key_byte a.value front rest here b fits.each e d spelled) h fits)
+    (λ f h fits. key_value f0 a [] f (λ front rest spelled. no_key_end a.value front rest fits.each spelled) h fits)))
 
 any_step : (p : Place) → Step p
 any_step Front = front_step

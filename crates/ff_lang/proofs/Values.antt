@@ -86,14 +86,14 @@ reads_plain graph chain filter _ _ ends w y words short none stop =
 reads_plain graph chain filter _ _ (itself b text value plain h) w y words short none stop =
     let Goal : Type 0 = reads ((b ∷ text) ++ y) (arg_at Key graph chain filter None w) ≡ reads y (arg_at Value graph chain filter None (w ++ (b ∷ value))) in
     let more : (is_word_byte b && nat_lt (length w) 64) ≡ true → Goal = λ e.
-      (reads_byte b (text ++ y) (arg_at Key graph chain filter None w) (arg_at Key graph chain filter None (w ++ b ∷ [])) (simp e refl)
-      ∙ (reads_plain graph chain filter text value h (w ++ b ∷ []) y (all_snoc (λ x. is_word_byte x ≡ true) w b words (both_out (is_word_byte b) (nat_lt (length w) 64) e).0)
-      (omega (arith, length-append w (b ∷ []), lt_out (length w) 64 (both_out (is_word_byte b) (nat_lt (length w) 64) e).1)) (key_moved w text b none) stop
-      ∙ ap (λ x. reads y (arg_at Value graph chain filter None x)) (append_assoc w (b ∷ []) value))) in
+    (reads_byte b (text ++ y) (arg_at Key graph chain filter None w) (arg_at Key graph chain filter None (w ++ b ∷ [])) (simp e refl)
+    ∙ (reads_plain graph chain filter text value h (w ++ b ∷ []) y (all_snoc (λ x. is_word_byte x ≡ true) w b words (both_out (is_word_byte b) (nat_lt (length w) 64) e).0)
+    (omega (arith, length-append w (b ∷ []), lt_out (length w) 64 (both_out (is_word_byte b) (nat_lt (length w) 64) e).1)) (key_moved w text b none) stop
+    ∙ ap (λ x. reads y (arg_at Value graph chain filter None x)) (append_assoc w (b ∷ []) value))) in
     let other : (is_word_byte b && nat_lt (length w) 64) ≡ false → ((b == 61) && nat_lt 0 (length w)) ≡ false → Goal = λ e f.
-      (reads_byte b (text ++ y) (arg_at Key graph chain filter None w) (arg_at Value graph chain filter None (w ++ b ∷ [])) (simp (e, f, plain) refl)
-      ∙ (reads_value graph chain filter None text value h (w ++ b ∷ []) y
-      ∙ ap (λ x. reads y (arg_at Value graph chain filter None x)) (append_assoc w (b ∷ []) value))) in
+    (reads_byte b (text ++ y) (arg_at Key graph chain filter None w) (arg_at Value graph chain filter None (w ++ b ∷ [])) (simp (e, f, plain) refl)
+    ∙ (reads_value graph chain filter None text value h (w ++ b ∷ []) y
+    ∙ ap (λ x. reads y (arg_at Value graph chain filter None x)) (append_assoc w (b ∷ []) value))) in
     elim (is_word_byte b && nat_lt (length w) 64) as (λ v. (is_word_byte b && nat_lt (length w) 64) ≡ v → Goal) [
       | true ↦ more
       | false ↦ λ e. elim ((b == 61) && nat_lt 0 (length w)) as (λ v. ((b == 61) && nat_lt 0 (length w)) ≡ v → Goal) [

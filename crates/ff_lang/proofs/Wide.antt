@@ -156,17 +156,17 @@ pub char_some : (c : ℕ) (s t : Parser) → char_next s c (encode c) ≡ Some t
 char_some c s t e =
     elim (cases_lt c 128) [
       | inl lt ↦ (let one : encode c ≡ c ∷ [] = encode_ascii c lt in
-        ap (λ x. run x s) one ∙ run_one c s t (subst (λ x. char_next s c x ≡ Some t) one e))
+          ap (λ x. run x s) one ∙ run_one c s t (subst (λ x. char_next s c x ≡ Some t) one e))
       | inr ge ↦ (let some : (b : ℕ) × (bs : List ℕ) × (encode c ≡ b ∷ bs) = encode_some c in
-        ap (λ x. run x s) some.2 ∙ wide_some s.place s.graph s.chain s.filter s.arg s.label some.1 c some.0 t ge (subst AreHigh some.2 (are_high c ge)) (subst (λ x. char_next s c x ≡ Some t) some.2 e))
+          ap (λ x. run x s) some.2 ∙ wide_some s.place s.graph s.chain s.filter s.arg s.label some.1 c some.0 t ge (subst AreHigh some.2 (are_high c ge)) (subst (λ x. char_next s c x ≡ Some t) some.2 e))
     ]
 
 pub char_none : (c b : ℕ) (bs : List ℕ) (s : Parser) → char_next s c (encode c) ≡ None → encode c ≡ b ∷ bs → byte_next s b ≡ None
 char_none c b bs s e spelled =
     elim (cases_lt c 128) [
       | inl lt ↦ (let one : encode c ≡ c ∷ [] = encode_ascii c lt in
-        let same : c ≡ b = cc in
-        subst (λ x. byte_next s x ≡ None) same (subst (λ x. char_next s c x ≡ None) one e))
+          let same : c ≡ b = cc in
+          subst (λ x. byte_next s x ≡ None) same (subst (λ x. char_next s c x ≡ None) one e))
       | inr ge ↦ (let high : AreHigh (b ∷ bs) = subst AreHigh spelled (are_high c ge) in
-        wide_none s.place s.graph s.chain s.filter s.arg s.label (encode c) c b ge high.0 e)
+          wide_none s.place s.graph s.chain s.filter s.arg s.label (encode c) c b ge high.0 e)
     ]

@@ -165,11 +165,7 @@ pub(crate) fn len_of_header(head: &StreamHead) -> u32
 {
     match *head {
         StreamHead::Audio { bits, channels, .. } => {
-            if channels <= 2 && bits <= 16 {
-                44
-            } else {
-                68
-            }
+            if channels <= 2 && bits <= 16 { 44 } else { 68 }
         }
     }
 }
