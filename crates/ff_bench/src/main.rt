@@ -2,6 +2,7 @@
 #![tactic(auto)]
 
 mod bits;
+mod links;
 
 use std::{env, io};
 
@@ -10,6 +11,7 @@ fn main(rt: HostRuntime) -> io::Result<()> {
     let _program = words.next();
     match words.next() {
         Some(word) if word.as_str() == "bits" => bits::measure(&rt),
-        _ => println!(rt; "usage: ff_bench bits"),
+        Some(word) if word.as_str() == "links" => links::measure(&rt, rt.alloc()),
+        _ => println!(rt; "usage: ff_bench bits|links"),
     }
 }

@@ -4,6 +4,7 @@
 mod packets;
 mod relays;
 
+pub use packets::one_over;
 pub use relays::{Passed, relay};
 
 #[cfg(test)]

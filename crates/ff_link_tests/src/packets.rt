@@ -7,8 +7,8 @@ use ff_frame::{Bytes, Codec, Item, Lane, Pkt, StreamHead};
 use ff_time::Rational;
 use std::alloc::{AllocError, Global};
 
-// A time base of one second over `den`.
-pub(crate) fn one_over(den: i64) -> Option<Rational>
+/// A time base of one second over `den`, where that is one.
+pub fn one_over(den: i64) -> Option<Rational>
     ensures { IfSome result IsWhole }
 {
     let tb = Rational::new(1, den).ok()?;
