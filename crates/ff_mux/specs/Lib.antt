@@ -1,0 +1,3 @@
+pub mod FrameHash
+pub mod Head
+pub mod Puts

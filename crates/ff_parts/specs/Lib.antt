@@ -1,0 +1,2 @@
+pub mod MuxLaws
+pub mod Muxing
