@@ -1,0 +1,9 @@
+//! The parts of a run, as machines: each takes streams and gives streams, an item at a time.
+//!
+//! `specs/` says what each does to whole streams.
+#![tactic(auto)]
+
+mod dec;
+mod ready;
+
+pub use dec::Dec;
