@@ -8,15 +8,15 @@ use Rattle.ff_net.specs.Pasts.{Past}
 use Rattle.ff_net.specs.Worlds.{Wire, Stand}
 use Rattle.ff_net.specs.Nodes.{IsSound, IsSame, NodeStands, in_wires_of, out_wires_of}
 use Rattle.ff_net.specs.Steps.{Course, Acts, IsDue, Turns, Prepares, Later, Stepped}
-use Rattle.ff_net.proofs.Moments.{stepped_self, then_moves, course_trans}
+use Rattle.ff_net.proofs.Moments.{fault_then, stepped_self, then_moves, course_trans}
 use Rattle.ff_net.proofs.Changes.{true_not_false, same_stands}
 use Rattle.ff_net.proofs.Rounds.{or_true, or_false}
 use Rattle.ff_net.proofs.Readying.{rests_same}
 
-module _ {M : Type 0} (in_lanes out_lanes : M → List Lane) (source : M → Option ℕ) (fault : M → Option Fault) (stands : M → Past → Type 0) where
+module _ {M : Type 0} (in_lanes out_lanes : M → List Lane) (source : M → Option ℕ) (device : M → Option (List ℕ)) (failures : M → ℕ) (fault : M → Option Fault) (stands : M → Past → Type 0) where
   -- a node with a fault isn't made ready
-  pub unready : (node : Node M) (wires : Wires) → (IsSound fault node → ⊥) → Stepped in_lanes out_lanes source fault stands (Prepares source fault false true node node) node wires node wires
-  unready node wires faulty = stepped_self in_lanes out_lanes source fault stands (Prepares source fault false true node node) node wires (λ w p. record {
+  pub unready : (node : Node M) (wires : Wires) → (IsSound fault node → ⊥) → Stepped in_lanes out_lanes source device failures fault stands (Prepares source fault false true node node) node wires node wires
+  unready node wires faulty = stepped_self in_lanes out_lanes source device failures fault stands (Prepares source fault false true node node) node wires (λ w p. record {
     moves = λ e. absurd (true_not_false (sym e));
     taken = λ v. refl;
     none_before = λ ok. absurd (faulty ok);
@@ -24,9 +24,9 @@ module _ {M : Type 0} (in_lanes out_lanes : M → List Lane) (source : M → Opt
   })
 
   module _ (granted held : Bool) (K : Type 0) (before after last : Node M) (wires wires' : Wires)
-      (ready : Stepped in_lanes out_lanes source fault stands (Prepares source fault granted held before after) before wires after wires)
+      (ready : Stepped in_lanes out_lanes source device failures fault stands (Prepares source fault granted held before after) before wires after wires)
       (quiet : (a : ℕ → Wire) (p : Past) (b : ℕ → Wire) (q : Past) → Prepares source fault granted held before after a p b q → (k : ℕ) → IsDue fault before a p k → K) where
-    moved_on : (world : ℕ → Wire) (past : Past) → Stepped in_lanes out_lanes source fault stands (Acts (true ≡ true) K) after wires last wires' → Stand wires world → NodeStands source fault stands before world past
+    moved_on : (world : ℕ → Wire) (past : Past) → Stepped in_lanes out_lanes source device failures fault stands (Acts (true ≡ true) K) after wires last wires' → Stand wires world → NodeStands source fault stands before world past
         → Later source fault stands (Turns source fault (granted || true) before last) (in_wires_of before) (out_wires_of before) last wires' world past
     moved_on world past act stand was =
         let x = ready.goes world past stand was in
@@ -60,12 +60,13 @@ module _ {M : Type 0} (in_lanes out_lanes : M → List Lane) (source : M → Opt
           };
         }
 
-    pub turn_after : (moved : Bool) → Stepped in_lanes out_lanes source fault stands (Acts (moved ≡ true) K) after wires last wires' → (moved ≡ false → IsSame after last × (wires' ≡ wires)) → Stepped in_lanes out_lanes source fault stands (Turns source fault (granted || moved) before last) before wires last wires'
+    pub turn_after : (moved : Bool) → Stepped in_lanes out_lanes source device failures fault stands (Acts (moved ≡ true) K) after wires last wires' → (moved ≡ false → IsSame after last × (wires' ≡ wires)) → Stepped in_lanes out_lanes source device failures fault stands (Turns source fault (granted || moved) before last) before wires last wires'
     turn_after true act same = record {
       ins_same = act.ins_same ∙ ready.ins_same;
       outs_same = act.outs_same ∙ ready.outs_same;
       in_lanes_same = act.in_lanes_same ∙ ready.in_lanes_same;
       out_lanes_same = act.out_lanes_same ∙ ready.out_lanes_same;
+      fares = fault_then device failures fault _ _ _ ready.fares act.fares;
       lanes_same = act.lanes_same;
       goes = λ world past stand was. moved_on world past act stand was;
     }
@@ -74,6 +75,7 @@ module _ {M : Type 0} (in_lanes out_lanes : M → List Lane) (source : M → Opt
       outs_same = act.outs_same ∙ ready.outs_same;
       in_lanes_same = act.in_lanes_same ∙ ready.in_lanes_same;
       out_lanes_same = act.out_lanes_same ∙ ready.out_lanes_same;
+      fares = fault_then device failures fault _ _ _ ready.fares act.fares;
       lanes_same = act.lanes_same;
       goes = λ world past stand was. let s = same refl in rested world past s.0 s.1 stand was;
     }

@@ -12,7 +12,9 @@ use Rattle.ff_net.specs.Pasts.{Past, Task, IsIn}
 use Rattle.ff_net.specs.Ports.{in_at, out_at}
 use Rattle.ff_net.specs.Worlds.{Wire}
 use Rattle.ff_net.specs.Nodes.{NodeStands, IsShaped, HaveLanes, IsSound, MayClose, in_wires_of, out_wires_of}
+use Rattle.ff_net.specs.Laws.{FaultStep}
 use Rattle.ff_net.specs.Steps.{Course, Stepped}
+use Rattle.ff_net.proofs.Moments.{fault_self}
 use Rattle.ff_net.specs.Serial.{AreShaped, NetStands, part_of, parts_of}
 use Rattle.ff_net.specs.Nets.{Part}
 use Rattle.ff_net.proofs.Flows.{same_or_not}
@@ -37,13 +39,20 @@ other_stands source fault stands node ins outs world world' past mine mine' f in
   allowed = was.allowed;
 }
 
-module _ {M : Type 0} (in_lanes out_lanes : M → List Lane) (source : M → Option ℕ) (fault : M → Option Fault) (stands : M → Past → Type 0) (how : (ℕ → Wire) → Past → (ℕ → Wire) → Past → Type 0) (nodes : List (Node M)) (wires : Wires) (k : ℕ) (old new : Node M) (wires' : Wires)
-    (there : k < length nodes) (is : old ≡ slice_index_or nodes k old) (shaped : AreShaped in_lanes out_lanes nodes wires) (step : Stepped in_lanes out_lanes source fault stands how old wires new wires') where
+module _ {M : Type 0} (in_lanes out_lanes : M → List Lane) (source : M → Option ℕ) (device : M → Option (List ℕ)) (failures : M → ℕ) (fault : M → Option Fault) (stands : M → Past → Type 0) (how : (ℕ → Wire) → Past → (ℕ → Wire) → Past → Type 0) (nodes : List (Node M)) (wires : Wires) (k : ℕ) (old new : Node M) (wires' : Wires)
+    (there : k < length nodes) (is : old ≡ slice_index_or nodes k old) (shaped : AreShaped in_lanes out_lanes nodes wires) (step : Stepped in_lanes out_lanes source device failures fault stands how old wires new wires') where
   node_at : (j : ℕ) (d : Node M) → j ≡ k → slice_index_or (slice_set nodes k new) j d ≡ new
   node_at j d e = rw (e, get_or-set_same nodes k new d there)
 
   same_old : (d : Node M) → old ≡ slice_index_or nodes k d
   same_old d = is ∙ get_or_default nodes k old d there
+
+  pub fares_set : (j : ℕ) (d : Node M) → FaultStep device failures fault (slice_index_or nodes j d).machine (slice_index_or (slice_set nodes k new) j d).machine
+  fares_set j d =
+      elim (same_or_not j k) [
+        | inl e ↦ rw (node_at j d e) (rw (ap (λ (n : ℕ). slice_index_or nodes n d) e ∙ sym (same_old d)) step.fares)
+        | inr n ↦ rw (get_or-set_other nodes k j new d n) (fault_self device failures fault (slice_index_or nodes j d).machine)
+      ]
 
   ins_at : (j : ℕ) (d : Node M) → in_wires_of (slice_index_or (slice_set nodes k new) j d) ≡ in_wires_of (slice_index_or nodes j d)
   ins_at j d =
@@ -72,7 +81,7 @@ module _ {M : Type 0} (in_lanes out_lanes : M → List Lane) (source : M → Opt
   are_shaped_set =
       let len : length (slice_set nodes k new) ≡ length nodes = simp length-set in record {
         each = λ j d lt. elim (same_or_not j k) [
-          | inl e ↦ subst (λ (n : Node M). IsShaped in_lanes out_lanes n wires') (sym (node_at j d e)) (shaped_later in_lanes out_lanes source fault stands how old wires new wires' step shaped_old)
+          | inl e ↦ subst (λ (n : Node M). IsShaped in_lanes out_lanes n wires') (sym (node_at j d e)) (shaped_later in_lanes out_lanes source device failures fault stands how old wires new wires' step shaped_old)
           | inr n ↦ subst (λ (m : Node M). IsShaped in_lanes out_lanes m wires') (sym (get_or-set_other nodes k j new d n)) (shaped_lanes (slice_index_or nodes j d) (shaped.each j d (subst (λ (m : ℕ). j < m) len lt)))
         ];
         ins_apart = λ i j w d ilt jlt a b. shaped.ins_apart i j w d (subst (λ (m : ℕ). i < m) len ilt) (subst (λ (m : ℕ). j < m) len jlt) (subst (λ (ws : List ℕ). IsIn w ws) (ins_at i d) a) (subst (λ (ws : List ℕ). IsIn w ws) (ins_at j d) b);

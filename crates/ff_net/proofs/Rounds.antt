@@ -38,18 +38,18 @@ same_self node = record { machine = refl; ins = refl; outs = refl; refused = ref
 pub same_trans : {M : Type 0} (a b c : Node M) → IsSame a b → IsSame b c → IsSame a c
 same_trans a b c x y = record { machine = y.machine ∙ x.machine; ins = y.ins ∙ x.ins; outs = y.outs ∙ x.outs; refused = y.refused ∙ x.refused; place = y.place ∙ x.place }
 
-module _ {M : Type 0} (in_lanes out_lanes : M → List Lane) (source : M → Option ℕ) (fault : M → Option Fault) (stands : M → Past → Type 0) where
+module _ {M : Type 0} (in_lanes out_lanes : M → List Lane) (source : M → Option ℕ) (device : M → Option (List ℕ)) (failures : M → ℕ) (fault : M → Option Fault) (stands : M → Past → Type 0) where
   -- a node keeps its shape
-  pub shaped_later : (how : (ℕ → Wire) → Past → (ℕ → Wire) → Past → Type 0) (node : Node M) (wires : Wires) (node' : Node M) (wires' : Wires) → Stepped in_lanes out_lanes source fault stands how node wires node' wires' → IsShaped in_lanes out_lanes node wires → IsShaped in_lanes out_lanes node' wires'
+  pub shaped_later : (how : (ℕ → Wire) → Past → (ℕ → Wire) → Past → Type 0) (node : Node M) (wires : Wires) (node' : Node M) (wires' : Wires) → Stepped in_lanes out_lanes source device failures fault stands how node wires node' wires' → IsShaped in_lanes out_lanes node wires → IsShaped in_lanes out_lanes node' wires'
   shaped_later how node wires node' wires' s h = record {
     ins = subst (λ (ws : List ℕ). HaveLanes ws (in_lanes node'.machine) (lanes_of wires')) (sym s.ins_same) (subst (λ (ls : List Lane). HaveLanes (in_wires_of node) ls (lanes_of wires')) (sym s.in_lanes_same) (subst (λ (ls : List Lane). HaveLanes (in_wires_of node) (in_lanes node.machine) ls) (sym s.lanes_same) h.ins));
     outs = subst (λ (ws : List ℕ). HaveLanes ws (out_lanes node'.machine) (lanes_of wires')) (sym s.outs_same) (subst (λ (ls : List Lane). HaveLanes (out_wires_of node) ls (lanes_of wires')) (sym s.out_lanes_same) (subst (λ (ls : List Lane). HaveLanes (out_wires_of node) (out_lanes node.machine) ls) (sym s.lanes_same) h.outs));
   }
 
-  pub outs_kept : (how : (ℕ → Wire) → Past → (ℕ → Wire) → Past → Type 0) (node : Node M) (wires : Wires) (node' : Node M) (wires' : Wires) → Stepped in_lanes out_lanes source fault stands how node wires node' wires' → length node'.outs.items ≡ length node.outs.items
+  pub outs_kept : (how : (ℕ → Wire) → Past → (ℕ → Wire) → Past → Type 0) (node : Node M) (wires : Wires) (node' : Node M) (wires' : Wires) → Stepped in_lanes out_lanes source device failures fault stands how node wires node' wires' → length node'.outs.items ≡ length node.outs.items
   outs_kept how node wires node' wires' s = sym (out_count node'.outs.items) ∙ (ap length s.outs_same ∙ out_count node.outs.items)
 
-  pub ins_kept : (how : (ℕ → Wire) → Past → (ℕ → Wire) → Past → Type 0) (node : Node M) (wires : Wires) (node' : Node M) (wires' : Wires) → Stepped in_lanes out_lanes source fault stands how node wires node' wires' → length node'.ins.items ≡ length node.ins.items
+  pub ins_kept : (how : (ℕ → Wire) → Past → (ℕ → Wire) → Past → Type 0) (node : Node M) (wires : Wires) (node' : Node M) (wires' : Wires) → Stepped in_lanes out_lanes source device failures fault stands how node wires node' wires' → length node'.ins.items ≡ length node.ins.items
   ins_kept how node wires node' wires' s = sym (in_count node'.ins.items) ∙ (ap length s.ins_same ∙ in_count node.ins.items)
 
 -- each of a row of outputs waits, and the next

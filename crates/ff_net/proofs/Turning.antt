@@ -11,15 +11,15 @@ use Rattle.ff_net.specs.Worlds.{Wire, Stand}
 use Rattle.ff_net.specs.Nodes.{IsSame, NodeStands, in_wires_of, out_wires_of}
 use Rattle.ff_net.specs.Steps.{Course, Acts, Rests, Turns, Later, Stepped}
 use Rattle.ff_net.specs.Turns.{IsIdle, Answers}
-use Rattle.ff_net.proofs.Moments.{then_moves, course_trans}
+use Rattle.ff_net.proofs.Moments.{fault_then, then_moves, course_trans}
 use Rattle.ff_net.proofs.Changes.{true_not_false, same_stands}
 use Rattle.ff_net.proofs.Rounds.{or_true, or_false}
 use Rattle.ff_net.proofs.Readying.{rests_same}
 
-module _ {M : Type 0} (in_lanes out_lanes : M → List Lane) (source : M → Option ℕ) (fault : M → Option Fault) (stands : M → Past → Type 0) (acted : Bool) (turn : Turn) (before mid last : Node M) (wires wires' wires'' : Wires)
-    (act : Stepped in_lanes out_lanes source fault stands (Turns source fault acted before mid) before wires mid wires') where
+module _ {M : Type 0} (in_lanes out_lanes : M → List Lane) (source : M → Option ℕ) (device : M → Option (List ℕ)) (failures : M → ℕ) (fault : M → Option Fault) (stands : M → Past → Type 0) (acted : Bool) (turn : Turn) (before mid last : Node M) (wires wires' wires'' : Wires)
+    (act : Stepped in_lanes out_lanes source device failures fault stands (Turns source fault acted before mid) before wires mid wires') where
   module _ (moved : turn ≡ Moved → (acted || true) ≡ true) (not_yet : turn ≡ NotYet → (acted || true) ≡ false) where
-    closing : Stepped in_lanes out_lanes source fault stands (Acts (true ≡ true) (Unit {0})) mid wires' last wires'' → (world : ℕ → Wire) (past : Past) → Stand wires world → NodeStands source fault stands before world past
+    closing : Stepped in_lanes out_lanes source device failures fault stands (Acts (true ≡ true) (Unit {0})) mid wires' last wires'' → (world : ℕ → Wire) (past : Past) → Stand wires world → NodeStands source fault stands before world past
         → Later source fault stands (Answers fault turn before last wires'') (in_wires_of before) (out_wires_of before) last wires'' world past
     closing close world past stand was =
         let x = act.goes world past stand was in
@@ -55,14 +55,15 @@ module _ {M : Type 0} (in_lanes out_lanes : M → List Lane) (source : M → Opt
           };
         }
 
-  pub turn_answers : (closed : Bool) → (turn ≡ Moved → (acted || closed) ≡ true) → (turn ≡ NotYet → (acted || closed) ≡ false) → Stepped in_lanes out_lanes source fault stands (Acts (closed ≡ true) (Unit {0})) mid wires' last wires'' → (closed ≡ false → IsSame mid last × (wires'' ≡ wires'))
+  pub turn_answers : (closed : Bool) → (turn ≡ Moved → (acted || closed) ≡ true) → (turn ≡ NotYet → (acted || closed) ≡ false) → Stepped in_lanes out_lanes source device failures fault stands (Acts (closed ≡ true) (Unit {0})) mid wires' last wires'' → (closed ≡ false → IsSame mid last × (wires'' ≡ wires'))
       → (closed ≡ false → turn ≡ NotYet → (world : ℕ → Wire) (past : Past) → NodeStands source fault stands last world past → (acted ≡ false → Rests source fault last world past) → IsIdle fault last wires'' world past)
-      → Stepped in_lanes out_lanes source fault stands (Answers fault turn before last wires'') before wires last wires''
+      → Stepped in_lanes out_lanes source device failures fault stands (Answers fault turn before last wires'') before wires last wires''
   turn_answers true moved not_yet close same idle = record {
     ins_same = close.ins_same ∙ act.ins_same;
     outs_same = close.outs_same ∙ act.outs_same;
     in_lanes_same = close.in_lanes_same ∙ act.in_lanes_same;
     out_lanes_same = close.out_lanes_same ∙ act.out_lanes_same;
+    fares = fault_then device failures fault _ _ _ act.fares close.fares;
     lanes_same = close.lanes_same ∙ act.lanes_same;
     goes = λ world past stand was. closing moved not_yet close world past stand was;
   }
@@ -71,6 +72,7 @@ module _ {M : Type 0} (in_lanes out_lanes : M → List Lane) (source : M → Opt
     outs_same = close.outs_same ∙ act.outs_same;
     in_lanes_same = close.in_lanes_same ∙ act.in_lanes_same;
     out_lanes_same = close.out_lanes_same ∙ act.out_lanes_same;
+    fares = fault_then device failures fault _ _ _ act.fares close.fares;
     lanes_same = close.lanes_same ∙ act.lanes_same;
     goes = λ world past stand was. let s = same refl in resting moved (idle refl) s.0 s.1 world past stand was;
   }

@@ -12,6 +12,14 @@ use Rattle.ff_net.specs.Pasts.{Past, IsIn}
 abbrev pub Rose : ℕ → ℕ → Type 0
 Rose before now = min (before + 1) (2 ^ 64 - 1) ≤ now
 
+-- from one call to the next: the same source or sink; its count of failures never falls; a fault that is there stays;
+-- and the fault of a device comes only where that count rose
+pub record FaultStep {M : Type 0} (device : M → Option (List ℕ)) (failures : M → ℕ) (fault : M → Option Fault) (old new : M) : Type 0 where
+  pub device_same : device new ≡ device old
+  pub later : failures old ≤ failures new
+  pub stays : (c : Fault) → fault old ≡ Some c → fault new ≡ Some c
+  pub failed : fault old ≡ None → fault new ≡ Some Device → Rose (failures old) (failures new)
+
 -- a fault that a machine makes of its inputs, and not of a device or for want of memory
 abbrev pub IsOfInputs : Fault → Type 0
 IsOfInputs Device = ⊥

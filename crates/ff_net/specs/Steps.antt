@@ -6,6 +6,7 @@ use Rattle.ff_frame.specs.Stream.{LiesBelow}
 use Rattle.ff_net.specs.declared.fault.Fault.{Fault}
 use Rattle.ff_net.specs.declared.node.Node.{Node}
 use Rattle.ff_net.specs.declared.wires.Wires.{Wires}
+use Rattle.ff_net.specs.Laws.{FaultStep}
 use Rattle.ff_net.specs.Pasts.{Past, IsIn, due}
 use Rattle.ff_net.specs.Worlds.{Wire, Stand, lanes_of}
 use Rattle.ff_net.specs.Nodes.{NodeStands, IsSound, in_wires_of, out_wires_of}
@@ -44,12 +45,13 @@ pub record Later {M : Type 0} (source : M → Option ℕ) (fault : M → Option 
 
 -- the node keeps its wires, and the wires and the machine their lanes; and whatever was behind node and wires, something
 -- that goes on from it so is behind them now
-pub record Stepped {M : Type 0} (in_lanes out_lanes : M → List Lane) (source : M → Option ℕ) (fault : M → Option Fault) (stands : M → Past → Type 0) (how : (ℕ → Wire) → Past → (ℕ → Wire) → Past → Type 0) (node : Node M) (wires : Wires) (node' : Node M) (wires' : Wires) : Type 0 where
+pub record Stepped {M : Type 0} (in_lanes out_lanes : M → List Lane) (source : M → Option ℕ) (device : M → Option (List ℕ)) (failures : M → ℕ) (fault : M → Option Fault) (stands : M → Past → Type 0) (how : (ℕ → Wire) → Past → (ℕ → Wire) → Past → Type 0) (node : Node M) (wires : Wires) (node' : Node M) (wires' : Wires) : Type 0 where
   pub ins_same : in_wires_of node' ≡ in_wires_of node
   pub outs_same : out_wires_of node' ≡ out_wires_of node
   pub in_lanes_same : in_lanes node'.machine ≡ in_lanes node.machine
   pub out_lanes_same : out_lanes node'.machine ≡ out_lanes node.machine
   pub lanes_same : lanes_of wires' ≡ lanes_of wires
+  pub fares : FaultStep device failures fault node.machine node'.machine
   pub goes : (world : ℕ → Wire) (past : Past) → Stand wires world → NodeStands source fault stands node world past → Later source fault stands how (in_wires_of node) (out_wires_of node) node' wires' world past
 
 -- something moved, or nothing was taken, where these hold

@@ -7,7 +7,7 @@ ghost use Rattle.ff_net.specs.declared.fault.Fault.{Fault};
 ghost use Rattle.ff_net.specs.declared.fault.Fault.TheVariants.{Device};
 ghost use Rattle.ff_net.specs.Ways.{Flow, AreValid};
 ghost use Rattle.ff_net.specs.Pasts.{Past, IsIn, fed, gave_item, was_asked, was_allowed, was_stopped, due};
-ghost use Rattle.ff_net.specs.Laws.{Rose, IsOfInputs, GoesOn, CauseStays, OutputsClose, IsPending, AllAsked};
+ghost use Rattle.ff_net.specs.Laws.{FaultStep, IsOfInputs, GoesOn, CauseStays, OutputsClose, IsPending, AllAsked};
 
 use crate::fault::Fault;
 use ff_frame::{Item, Refused, Ticket};
@@ -27,6 +27,9 @@ pub trait Machine {
     ghost source_of: { Self → Option ℕ };
 
     ghost fault_of: { Self → Option Fault };
+
+    /// The name of its own source or sink, where it has one that has a name.
+    ghost device_of: { Self → Option (List ℕ) };
 
     /// How often its own source or sink has failed.
     ghost failures: { Self → ℕ };
@@ -61,8 +64,7 @@ pub trait Machine {
         ensures in_lanes { in_lanes self.new ≡ in_lanes self.old }
         ensures out_lanes { out_lanes self.new ≡ out_lanes self.old }
         ensures source { source_of self.new ≡ source_of self.old }
-        ensures stays { (c : Fault) → fault_of self.old ≡ Some c → fault_of self.new ≡ Some c }
-        ensures failed { fault_of self.old ≡ None → fault_of self.new ≡ Some Device → Rose (failures self.old) (failures self.new) }
+        ensures fares { FaultStep device_of failures fault_of self.old self.new }
         ensures taken { IsNone result → (past : Past) → stands self.old past → stands self.new (was_allowed past ticket) }
         ensures held { IsNone result → IsSome (source_of self.old) × (holds self.old → ⊥) × holds self.new }
         ensures back { IfSome result (λ t. (t ≡ ticket) × ((past : Past) → stands self.old past → stands self.new past)) }
@@ -74,8 +76,7 @@ pub trait Machine {
         ensures in_lanes { in_lanes self.new ≡ in_lanes self.old }
         ensures out_lanes { out_lanes self.new ≡ out_lanes self.old }
         ensures source { source_of self.new ≡ source_of self.old }
-        ensures stays { (c : Fault) → fault_of self.old ≡ Some c → fault_of self.new ≡ Some c }
-        ensures failed { fault_of self.old ≡ None → fault_of self.new ≡ Some Device → Rose (failures self.old) (failures self.new) }
+        ensures fares { FaultStep device_of failures fault_of self.old self.new }
         ensures accepted { OnOk result ((past : Past) → stands self.old past → (stream_at past.got port).mark ≡ still_open → AreValid (in_lanes self.old) (fed past port item).got → stands self.new (fed past port item)) }
         ensures refused { IfErr result (λ r. r.item ≡ item) }
         ensures unchanged { OnErr result ((past : Past) → stands self.old past → stands self.new past) };
@@ -87,8 +88,7 @@ pub trait Machine {
         ensures in_lanes { in_lanes self.new ≡ in_lanes self.old }
         ensures out_lanes { out_lanes self.new ≡ out_lanes self.old }
         ensures source { source_of self.new ≡ source_of self.old }
-        ensures stays { (c : Fault) → fault_of self.old ≡ Some c → fault_of self.new ≡ Some c }
-        ensures failed { fault_of self.old ≡ None → fault_of self.new ≡ Some Device → Rose (failures self.old) (failures self.new) }
+        ensures fares { FaultStep device_of failures fault_of self.old self.new }
         ensures gives { (x : Item) → result ≡ Ok (Some x) → (past : Past) → stands self.old past → (IsIn port past.stopped → ⊥)
             → stands self.new (gave_item past port x) × ((stream_at past.gave port).mark ≡ still_open) × LiesBelow (with_item (stream_at past.gave port) x) (stream_at (due past) port) }
         ensures waits { result ≡ Ok None → (past : Past) → stands self.old past → (IsIn port past.stopped → ⊥) → stands self.new (was_asked past port) }
@@ -102,8 +102,7 @@ pub trait Machine {
         ensures in_lanes { in_lanes self.new ≡ in_lanes self.old }
         ensures out_lanes { out_lanes self.new ≡ out_lanes self.old }
         ensures source { source_of self.new ≡ source_of self.old }
-        ensures stays { (c : Fault) → fault_of self.old ≡ Some c → fault_of self.new ≡ Some c }
-        ensures failed { fault_of self.old ≡ None → fault_of self.new ≡ Some Device → Rose (failures self.old) (failures self.new) }
+        ensures fares { FaultStep device_of failures fault_of self.old self.new }
         ensures stopped { (past : Past) → stands self.old past → stands self.new (was_stopped past port) };
 
     /// Whether nothing more of an input can matter.

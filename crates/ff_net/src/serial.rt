@@ -2,7 +2,7 @@ ghost use Rattle.std.specs.Prelude.{◌≡◌, ℕ, ◌<◌, List, length, map, 
 ghost use Rattle.ff_frame.specs.Stream.{LiesBelow, opened};
 ghost use Rattle.ff_net.specs.declared.fault.Fault.{Fault};
 ghost use Rattle.ff_net.specs.declared.node.Node.{Node};
-ghost use Rattle.ff_net.specs.Laws.{IsOfInputs};
+ghost use Rattle.ff_net.specs.Laws.{FaultStep, IsOfInputs};
 ghost use Rattle.ff_net.specs.Nets.{IsUpward, solve};
 ghost use Rattle.ff_net.specs.Pasts.{Task, IsIn};
 ghost use Rattle.ff_net.specs.Nodes.{IsSound, IsDone, in_wires_of};
@@ -25,6 +25,7 @@ pub fn run_serial<M: Machine>(nodes: &mut [Node<M>], wires: &mut Wires, order: &
     ensures shaped { AreShaped M.in_lanes M.out_lanes nodes.new wires.new }
     ensures lanes { lanes_of wires.new ≡ lanes_of wires.old }
     ensures parts { (tasks : ℕ → Task) → parts_of M.in_lanes M.out_lanes tasks nodes.new ≡ parts_of M.in_lanes M.out_lanes tasks nodes.old }
+    ensures fares { (k : ℕ) (d : _) → k < length nodes.old → FaultStep M.device_of M.failures M.fault_of (slice_index_or nodes.old k d).machine (slice_index_or nodes.new k d).machine }
     ensures stands { (tasks : ℕ → Task) → NetStands M.source_of M.fault_of M.stands tasks nodes.old wires.old → NetStands M.source_of M.fault_of M.stands tasks nodes.new wires.new }
     ensures below { (tasks : ℕ → Task) → NetStands M.source_of M.fault_of M.stands tasks nodes.old wires.old → IsUpward [] (parts_of M.in_lanes M.out_lanes tasks nodes.new)
         → (net : NetStands M.source_of M.fault_of M.stands tasks nodes.new wires.new) × ((k : ℕ) (d : _) (w : ℕ) → k < length nodes.new → IsIn w (in_wires_of (slice_index_or nodes.new k d)) → LiesBelow (opened (net.world w).taken) (solve (parts_of M.in_lanes M.out_lanes tasks nodes.new) w)) }

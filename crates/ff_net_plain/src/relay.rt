@@ -89,6 +89,8 @@ impl Machine for Relay {
 
     ghost fault_of = { λ m. None };
 
+    ghost device_of = { λ m. None };
+
     ghost failures = { λ m. 0 };
 
     ghost holds = { λ m. ⊥ };

@@ -27,7 +27,7 @@ impl<M: Machine> Node<M> {
     /// Fills each output, and says whether one holds an item.
     pub fn fill_all(&mut self) -> bool
         requires outputs { length self.old.outs.items ≡ length (M.out_lanes self.old.machine) }
-        ensures stepped { (wires : Wires) → Stepped M.in_lanes M.out_lanes M.source_of M.fault_of M.stands (Readies M.fault_of (λ q. q < length self.new.outs.items) result self.new) self.old wires self.new wires }
+        ensures stepped { (wires : Wires) → Stepped M.in_lanes M.out_lanes M.source_of M.device_of M.failures M.fault_of M.stands (Readies M.fault_of (λ q. q < length self.new.outs.items) result self.new) self.old wires self.new wires }
         ensures held { result ≡ true → SomeHeld self.new.outs.items }
         ensures none { result ≡ false → NoneHeld self.new.outs.items }
         ensures done { (q : ℕ) → (out_at self.new.outs.items q).done ≡ (out_at self.old.outs.items q).done }
@@ -49,7 +49,7 @@ impl<M: Machine> Node<M> {
     /// Puts what is held on each output, and says whether something moved.
     pub fn send_all(&mut self, wires: &mut Wires) -> bool
         requires shaped { IsShaped M.in_lanes M.out_lanes self.old wires.old }
-        ensures stepped { Stepped M.in_lanes M.out_lanes M.source_of M.fault_of M.stands (Acts (result ≡ true) (Unit {0})) self.old wires.old self.new wires.new }
+        ensures stepped { Stepped M.in_lanes M.out_lanes M.source_of M.device_of M.failures M.fault_of M.stands (Acts (result ≡ true) (Unit {0})) self.old wires.old self.new wires.new }
         ensures same { result ≡ false → IsSame self.old self.new × (wires.new ≡ wires.old) }
         ensures full { result ≡ false → (q : ℕ) → q < length self.old.outs.items → (out_at self.old.outs.items q).done ≡ false → is_some (out_at self.old.outs.items q).held ≡ true → IsFull wires.old (out_at self.old.outs.items q).wire }
     {
@@ -65,7 +65,7 @@ impl<M: Machine> Node<M> {
     /// Takes from each input, and says whether something moved.
     pub fn take_all(&mut self, wires: &mut Wires) -> bool
         requires shaped { IsShaped M.in_lanes M.out_lanes self.old wires.old }
-        ensures stepped { Stepped M.in_lanes M.out_lanes M.source_of M.fault_of M.stands (Acts (result ≡ true) (⊥)) self.old wires.old self.new wires.new }
+        ensures stepped { Stepped M.in_lanes M.out_lanes M.source_of M.device_of M.failures M.fault_of M.stands (Acts (result ≡ true) (⊥)) self.old wires.old self.new wires.new }
         ensures same { result ≡ false → IsSame self.old self.new × (wires.new ≡ wires.old) }
         ensures empty { result ≡ false → self.old.refused ≡ false → (p : ℕ) → p < length self.old.ins.items → (in_at self.old.ins.items p).done ≡ false → IsEmpty wires.old (in_at self.old.ins.items p).wire }
     {
@@ -82,7 +82,7 @@ impl<M: Machine> Node<M> {
     pub fn break_all(&mut self, wires: &mut Wires) -> bool
         requires shaped { IsShaped M.in_lanes M.out_lanes self.old wires.old }
         requires faulty { IsSound M.fault_of self.old → ⊥ }
-        ensures stepped { Stepped M.in_lanes M.out_lanes M.source_of M.fault_of M.stands (Acts (result ≡ true) (Unit {0})) self.old wires.old self.new wires.new }
+        ensures stepped { Stepped M.in_lanes M.out_lanes M.source_of M.device_of M.failures M.fault_of M.stands (Acts (result ≡ true) (Unit {0})) self.old wires.old self.new wires.new }
         ensures same { result ≡ false → IsSame self.old self.new × (wires.new ≡ wires.old) }
         ensures faulty { IsSound M.fault_of self.new → ⊥ }
         ensures full { result ≡ false → (q : ℕ) → q < length self.old.outs.items → (out_at self.old.outs.items q).done ≡ false → IsFull wires.old (out_at self.old.outs.items q).wire }
@@ -99,7 +99,7 @@ impl<M: Machine> Node<M> {
     /// Finishes each input that can matter no more, and says whether something moved.
     pub fn close_all(&mut self, wires: &mut Wires) -> bool
         requires shaped { IsShaped M.in_lanes M.out_lanes self.old wires.old }
-        ensures stepped { Stepped M.in_lanes M.out_lanes M.source_of M.fault_of M.stands (Acts (result ≡ true) (Unit {0})) self.old wires.old self.new wires.new }
+        ensures stepped { Stepped M.in_lanes M.out_lanes M.source_of M.device_of M.failures M.fault_of M.stands (Acts (result ≡ true) (Unit {0})) self.old wires.old self.new wires.new }
         ensures same { result ≡ false → IsSame self.old self.new × (wires.new ≡ wires.old) }
         ensures machine { self.new.machine ≡ self.old.machine }
         ensures outs { self.new.outs ≡ self.old.outs }

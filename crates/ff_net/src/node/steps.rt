@@ -20,7 +20,7 @@ impl<M: Machine> Node<M> {
     pub fn fill(&mut self, p: usize) -> bool
         requires there { p < length self.old.outs.items }
         requires outputs { length self.old.outs.items ≡ length (M.out_lanes self.old.machine) }
-        ensures stepped { (wires : Wires) → Stepped M.in_lanes M.out_lanes M.source_of M.fault_of M.stands (Readies M.fault_of (λ q. q ≡ p) result self.new) self.old wires self.new wires }
+        ensures stepped { (wires : Wires) → Stepped M.in_lanes M.out_lanes M.source_of M.device_of M.failures M.fault_of M.stands (Readies M.fault_of (λ q. q ≡ p) result self.new) self.old wires self.new wires }
         ensures held { result ≡ true → ((out_at self.new.outs.items p).done ≡ false) × (is_some (out_at self.new.outs.items p).held ≡ true) }
         ensures empty { result ≡ false → (out_at self.new.outs.items p).done ≡ false → (out_at self.new.outs.items p).held ≡ None }
         ensures others { (q : ℕ) → q ≢ p → out_at self.new.outs.items q ≡ out_at self.old.outs.items q }
@@ -52,7 +52,7 @@ impl<M: Machine> Node<M> {
 
     /// Allows a source one ticket more, and says whether it took it.
     pub fn allow(&mut self) -> bool
-        ensures stepped { (wires : Wires) → Stepped M.in_lanes M.out_lanes M.source_of M.fault_of M.stands (Grants result) self.old wires self.new wires }
+        ensures stepped { (wires : Wires) → Stepped M.in_lanes M.out_lanes M.source_of M.device_of M.failures M.fault_of M.stands (Grants result) self.old wires self.new wires }
         ensures outs { self.new.outs ≡ self.old.outs }
         ensures ins { self.new.ins ≡ self.old.ins }
         ensures out_lanes { M.out_lanes self.new.machine ≡ M.out_lanes self.old.machine }
@@ -81,7 +81,7 @@ impl<M: Machine> Node<M> {
     pub fn send(&mut self, wires: &mut Wires, p: usize) -> bool
         requires shaped { IsShaped M.in_lanes M.out_lanes self.old wires.old }
         requires there { p < length self.old.outs.items }
-        ensures stepped { Stepped M.in_lanes M.out_lanes M.source_of M.fault_of M.stands (Acts (result ≡ true) (Unit {0})) self.old wires.old self.new wires.new }
+        ensures stepped { Stepped M.in_lanes M.out_lanes M.source_of M.device_of M.failures M.fault_of M.stands (Acts (result ≡ true) (Unit {0})) self.old wires.old self.new wires.new }
         ensures same { result ≡ false → IsSame self.old self.new × (wires.new ≡ wires.old) }
         ensures full { result ≡ false → (out_at self.old.outs.items p).done ≡ false → is_some (out_at self.old.outs.items p).held ≡ true → IsFull wires.old (out_at self.old.outs.items p).wire }
     {
@@ -118,7 +118,7 @@ impl<M: Machine> Node<M> {
     pub fn take(&mut self, wires: &mut Wires, p: usize) -> bool
         requires shaped { IsShaped M.in_lanes M.out_lanes self.old wires.old }
         requires there { p < length self.old.ins.items }
-        ensures stepped { Stepped M.in_lanes M.out_lanes M.source_of M.fault_of M.stands (Acts (result ≡ true) (⊥)) self.old wires.old self.new wires.new }
+        ensures stepped { Stepped M.in_lanes M.out_lanes M.source_of M.device_of M.failures M.fault_of M.stands (Acts (result ≡ true) (⊥)) self.old wires.old self.new wires.new }
         ensures same { result ≡ false → IsSame self.old self.new × (wires.new ≡ wires.old) }
         ensures empty { result ≡ false → (in_at self.old.ins.items p).done ≡ false → self.old.refused ≡ false → IsEmpty wires.old (in_at self.old.ins.items p).wire }
     {
@@ -163,7 +163,7 @@ impl<M: Machine> Node<M> {
     pub fn close(&mut self, wires: &mut Wires, p: usize) -> bool
         requires shaped { IsShaped M.in_lanes M.out_lanes self.old wires.old }
         requires there { p < length self.old.ins.items }
-        ensures stepped { Stepped M.in_lanes M.out_lanes M.source_of M.fault_of M.stands (Acts (result ≡ true) (Unit {0})) self.old wires.old self.new wires.new }
+        ensures stepped { Stepped M.in_lanes M.out_lanes M.source_of M.device_of M.failures M.fault_of M.stands (Acts (result ≡ true) (Unit {0})) self.old wires.old self.new wires.new }
         ensures same { result ≡ false → IsSame self.old self.new × (wires.new ≡ wires.old) }
         ensures machine { self.new.machine ≡ self.old.machine }
         ensures outs { self.new.outs ≡ self.old.outs }
@@ -189,7 +189,7 @@ impl<M: Machine> Node<M> {
         requires shaped { IsShaped M.in_lanes M.out_lanes self.old wires.old }
         requires there { p < length self.old.outs.items }
         requires faulty { IsSound M.fault_of self.old → ⊥ }
-        ensures stepped { Stepped M.in_lanes M.out_lanes M.source_of M.fault_of M.stands (Acts (result ≡ true) (Unit {0})) self.old wires.old self.new wires.new }
+        ensures stepped { Stepped M.in_lanes M.out_lanes M.source_of M.device_of M.failures M.fault_of M.stands (Acts (result ≡ true) (Unit {0})) self.old wires.old self.new wires.new }
         ensures same { result ≡ false → IsSame self.old self.new × (wires.new ≡ wires.old) }
         ensures faulty { IsSound M.fault_of self.new → ⊥ }
         ensures full { result ≡ false → (out_at self.old.outs.items p).done ≡ false → IsFull wires.old (out_at self.old.outs.items p).wire }

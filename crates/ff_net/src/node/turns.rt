@@ -24,7 +24,7 @@ impl<M: Machine> Node<M> {
     /// Lets the machine give what it has, and allows a source one ticket.
     pub fn ready(&mut self) -> Ready
         requires outputs { length self.old.outs.items ≡ length (M.out_lanes self.old.machine) }
-        ensures stepped { (wires : Wires) → Stepped M.in_lanes M.out_lanes M.source_of M.fault_of M.stands (Prepares M.source_of M.fault_of result.granted result.due self.old self.new) self.old wires self.new wires }
+        ensures stepped { (wires : Wires) → Stepped M.in_lanes M.out_lanes M.source_of M.device_of M.failures M.fault_of M.stands (Prepares M.source_of M.fault_of result.granted result.due self.old self.new) self.old wires self.new wires }
         ensures held { result.due ≡ true → SomeHeld self.new.outs.items }
         ensures none { result.due ≡ false → NoneHeld self.new.outs.items }
     {
@@ -49,7 +49,7 @@ impl<M: Machine> Node<M> {
     /// Sends what is held, or takes, or breaks off, and says whether something moved.
     pub fn act(&mut self, wires: &mut Wires) -> bool
         requires shaped { IsShaped M.in_lanes M.out_lanes self.old wires.old }
-        ensures stepped { Stepped M.in_lanes M.out_lanes M.source_of M.fault_of M.stands (Turns M.source_of M.fault_of result self.old self.new) self.old wires.old self.new wires.new }
+        ensures stepped { Stepped M.in_lanes M.out_lanes M.source_of M.device_of M.failures M.fault_of M.stands (Turns M.source_of M.fault_of result self.old self.new) self.old wires.old self.new wires.new }
         ensures waits { result ≡ false → Waits M.fault_of self.new wires.new }
     {
         if self.fault().is_some() {
@@ -72,7 +72,7 @@ impl<M: Machine> Node<M> {
     /// sends Broken down each output that goes on, finishes its inputs, and is done.
     pub fn turn(&mut self, wires: &mut Wires) -> Turn
         requires shaped { IsShaped M.in_lanes M.out_lanes self.old wires.old }
-        ensures stepped { Stepped M.in_lanes M.out_lanes M.source_of M.fault_of M.stands (Answers M.fault_of result self.old self.new wires.new) self.old wires.old self.new wires.new }
+        ensures stepped { Stepped M.in_lanes M.out_lanes M.source_of M.device_of M.failures M.fault_of M.stands (Answers M.fault_of result self.old self.new wires.new) self.old wires.old self.new wires.new }
         ensures done { result ≡ Turn.Done → IsDone self.new }
         ensures closed { (world : ℕ → Wire) (past : Past) → NodeStands M.source_of M.fault_of M.stands self.new world past → (p : ℕ) → p < length self.new.ins.items → IsClosed (world (in_at self.new.ins.items p).wire).taken → (in_at self.new.ins.items p).done ≡ true }
         ensures spent { (p : ℕ) → p < length self.new.ins.items → M.is_spent self.new.machine p → (in_at self.new.ins.items p).done ≡ true }

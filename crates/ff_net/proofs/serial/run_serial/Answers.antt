@@ -1,7 +1,8 @@
 use Rattle.std.proofs.Common.{◌≡◌, ℕ, ◌<◌, length, slice_index_or, sym, subst, ◌∙◌}
 use Rattle.std.proofs.lemmas.List.{get_or_default}
 use Rattle.ff_net.specs.declared.node.Node.{Node}
-use Rattle.ff_net.proofs.NetSteps.{are_shaped_set, net_stands_set, parts_kept}
+use Rattle.ff_net.proofs.NetSteps.{fares_set, are_shaped_set, net_stands_set, parts_kept}
+use Rattle.ff_net.proofs.Moments.{fault_then}
 use Rattle.ff_net.proofs.Before.{before_of, cause_of}
 use Rattle.ff_net.proofs.Whole.{settled_of, opened_below_solution}
 use Rattle.ff_net.proofs.serial.run_serial.Goals as goal
@@ -21,10 +22,11 @@ loop-k-preserved g c =
     let is : old ≡ slice_index_or nodes k old = get_or_default nodes k c.index-nodes-k.result old there in
     let m = g.M.Machine in
     let step = c.turn-turn.ensures.stepped in record {
-      shaped = are_shaped_set m.in_lanes m.out_lanes m.source_of m.fault_of m.stands _ nodes c.loop-k.wires k old c.turn-turn.new.self c.turn-turn.new.wires there is c.loop-k.invariant.shaped step;
+      shaped = are_shaped_set m.in_lanes m.out_lanes m.source_of m.device_of m.failures m.fault_of m.stands _ nodes c.loop-k.wires k old c.turn-turn.new.self c.turn-turn.new.wires there is c.loop-k.invariant.shaped step;
       lanes = step.lanes_same ∙ c.loop-k.invariant.lanes;
-      parts = λ tasks. parts_kept m.in_lanes m.out_lanes m.source_of m.fault_of m.stands _ nodes c.loop-k.wires k old c.turn-turn.new.self c.turn-turn.new.wires there is c.loop-k.invariant.shaped step tasks ∙ c.loop-k.invariant.parts tasks;
-      stands = λ tasks net. net_stands_set m.in_lanes m.out_lanes m.source_of m.fault_of m.stands _ nodes c.loop-k.wires k old c.turn-turn.new.self c.turn-turn.new.wires there is c.loop-k.invariant.shaped step tasks (c.loop-k.invariant.stands tasks net);
+      parts = λ tasks. parts_kept m.in_lanes m.out_lanes m.source_of m.device_of m.failures m.fault_of m.stands _ nodes c.loop-k.wires k old c.turn-turn.new.self c.turn-turn.new.wires there is c.loop-k.invariant.shaped step tasks ∙ c.loop-k.invariant.parts tasks;
+      fares = λ j d lt. fault_then m.device_of m.failures m.fault_of _ _ _ (c.loop-k.invariant.fares j d lt) (fares_set m.in_lanes m.out_lanes m.source_of m.device_of m.failures m.fault_of m.stands _ nodes c.loop-k.wires k old c.turn-turn.new.self c.turn-turn.new.wires there is c.loop-k.invariant.shaped step j d);
+      stands = λ tasks net. net_stands_set m.in_lanes m.out_lanes m.source_of m.device_of m.failures m.fault_of m.stands _ nodes c.loop-k.wires k old c.turn-turn.new.self c.turn-turn.new.wires there is c.loop-k.invariant.shaped step tasks (c.loop-k.invariant.stands tasks net);
     }
 
 pub returns-clause-settled : goal.returns-clause-settled

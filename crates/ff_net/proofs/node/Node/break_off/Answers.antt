@@ -6,7 +6,7 @@ use Rattle.ff_net.specs.Worlds.{Wire, Stand, put_on, lanes_of}
 use Rattle.ff_net.specs.Pasts.{was_stopped}
 use Rattle.ff_net.specs.Ports.{out_at, out_wires}
 use Rattle.ff_net.specs.Steps.{put, told as was_told}
-use Rattle.ff_net.proofs.Moments.{with_wire_same, with_wire_keeps, with_item_new}
+use Rattle.ff_net.proofs.Moments.{fault_self, with_wire_same, with_wire_keeps, with_item_new}
 use Rattle.ff_net.proofs.PortSteps.{out_wires_set, out_wire_there, out_wire_in}
 use Rattle.ff_net.proofs.Changes.{course_put, course_past, broke, told, busy_goes_on}
 use Rattle.ff_net.proofs.Queues.{finished_of, in_queues}
@@ -33,6 +33,7 @@ returns-in-Done-clause-stepped g c =
       outs_same = ap (λ os. out_wires os) set ∙ out_wires_set outs p _ there refl;
       in_lanes_same = refl;
       out_lanes_same = refl;
+      fares = fault_self m.device_of m.failures m.fault_of node.machine;
       lanes_same = c.try_put.ensures.lanes;
       goes = λ world past stand was.
           let unclosed = (was.outs p there).unclosed busy in
@@ -66,6 +67,7 @@ returns-in-Finished-clause-stepped g c =
       outs_same = ap (λ os. out_wires os) set ∙ out_wires_set outs p _ there refl;
       in_lanes_same = c.stop.ensures.in_lanes;
       out_lanes_same = c.stop.ensures.out_lanes;
+      fares = c.stop.ensures.fares;
       lanes_same = c.try_put.ensures.lanes;
       goes = λ world past stand was.
           let goes_on = busy_goes_on m.source_of m.fault_of m.stands node world past p was busy in
@@ -73,7 +75,7 @@ returns-in-Finished-clause-stepped g c =
             now = world;
             since = was_stopped past p;
             stand = subst (λ (w : Wires). Stand w world) (sym finished.1) stand;
-            fits = told m.source_of m.fault_of m.stands node _ world past p old.held was (c.stop.ensures.stopped past was.machine) c.stop.ensures.stays refl c.stop.ensures.source refl refl set there busy flag;
+            fits = told m.source_of m.fault_of m.stands node _ world past p old.held was (c.stop.ensures.stopped past was.machine) c.stop.ensures.fares.stays refl c.stop.ensures.source refl refl set there busy flag;
             course = course_past _ _ world past (was_stopped past p) refl (prefix_self past.allowed) (λ q i. inr i);
             so = record { moves = λ e. was_told p goes_on (inl refl); takes_nothing = λ q w. refl };
           };

@@ -6,7 +6,7 @@ use Rattle.ff_net.specs.Ports.{in_at, in_wires}
 use Rattle.ff_net.specs.Laws.{OutputsClose}
 use Rattle.ff_net.specs.Nodes.{IsSound, MayClose}
 use Rattle.ff_net.specs.Steps.{finished}
-use Rattle.ff_net.proofs.Moments.{with_wire_same, with_wire_keeps}
+use Rattle.ff_net.proofs.Moments.{fault_self, with_wire_same, with_wire_keeps}
 use Rattle.ff_net.proofs.PortSteps.{in_wires_set, in_wire_there, in_wire_in, out_ports_count}
 use Rattle.ff_net.proofs.Changes.{course_finish, closed}
 use Rattle.ff_net.proofs.node.Node.close.Goals as goal
@@ -32,6 +32,7 @@ returns-clause-stepped g c =
       outs_same = refl;
       in_lanes_same = refl;
       out_lanes_same = refl;
+      fares = fault_self m.device_of m.failures m.fault_of node.machine;
       lanes_same = c.finish.ensures.lanes;
       goes = λ world past stand was.
           let i = was.ins p there in

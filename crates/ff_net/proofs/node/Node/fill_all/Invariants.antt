@@ -10,7 +10,7 @@ invariant-loop-p g l =
     let m = g.M.Machine in record {
       count : l.count ≡ length l.self.outs.items;
       outputs : length l.self.outs.items ≡ length (m.out_lanes l.self.machine);
-      stepped : (wires : Wires) → Stepped m.in_lanes m.out_lanes m.source_of m.fault_of m.stands (Readies m.fault_of (λ q. q < l.p) l.due l.self) l.fn.self wires l.self wires;
+      stepped : (wires : Wires) → Stepped m.in_lanes m.out_lanes m.source_of m.device_of m.failures m.fault_of m.stands (Readies m.fault_of (λ q. q < l.p) l.due l.self) l.fn.self wires l.self wires;
       held : l.due ≡ true → (h : SomeHeld l.self.outs.items) × (h.place < l.p);
       none : l.due ≡ false → (q : ℕ) → q < l.p → (out_at l.self.outs.items q).done ≡ false → (out_at l.self.outs.items q).held ≡ None;
       done : (q : ℕ) → (out_at l.self.outs.items q).done ≡ (out_at l.fn.self.outs.items q).done;

@@ -28,7 +28,7 @@ returns-then-due-clause-stepped g c wires =
     let a = c.allow-granted.ensures in
     let outs : after.outs.items ≡ filled.outs.items = ap (λ os. os.items) a.outs in
     let count : length filled.outs.items ≡ length (m.out_lanes filled.machine) = e.count ∙ (c.requires.outputs ∙ ap length (sym e.out_lanes)) in
-    stepped_through m.in_lanes m.out_lanes m.source_of m.fault_of m.stands _ _ (Prepares m.source_of m.fault_of c.allow-granted.result true before after) before wires filled wires after wires
+    stepped_through m.in_lanes m.out_lanes m.source_of m.device_of m.failures m.fault_of m.stands _ _ (Prepares m.source_of m.fault_of c.allow-granted.result true before after) before wires filled wires after wires
     (λ w p v q u r was mid x y f s. record {
       moves = λ t. then_moves _ _ w v u p q r x y (s.moves t);
       taken = λ k. s.taken k ∙ f.taken k;
@@ -58,7 +58,7 @@ returns-then-not-granted-clause-stepped g c wires =
     let a = c.allow-granted.ensures in
     let outs : after.outs.items ≡ filled.outs.items = ap (λ os. os.items) a.outs in
     let count : length filled.outs.items ≡ length (m.out_lanes filled.machine) = e.count ∙ (c.requires.outputs ∙ ap length (sym e.out_lanes)) in
-    stepped_through m.in_lanes m.out_lanes m.source_of m.fault_of m.stands _ _ (Prepares m.source_of m.fault_of false false before after) before wires filled wires after wires
+    stepped_through m.in_lanes m.out_lanes m.source_of m.device_of m.failures m.fault_of m.stands _ _ (Prepares m.source_of m.fault_of false false before after) before wires filled wires after wires
     (λ w p v q u r was mid x y f s. record {
       moves = λ t. absurd (true_not_false (sym t));
       taken = λ k. s.taken k ∙ f.taken k;
@@ -87,14 +87,14 @@ returns-clause-stepped g c wires =
     let e = c.fill_all-due.ensures in
     let a = c.allow-granted.ensures in
     let f2 = c.fill_all-more.ensures in
-    let first = stepped_then m.in_lanes m.out_lanes m.source_of m.fault_of m.stands _ _ (Prepares m.source_of m.fault_of true false before after) before wires filled wires after wires
+    let first = stepped_then m.in_lanes m.out_lanes m.source_of m.device_of m.failures m.fault_of m.stands _ _ (Prepares m.source_of m.fault_of true false before after) before wires filled wires after wires
     (λ w p v q u r x y f s. record {
       moves = λ t. then_moves _ _ w v u p q r x y (s.moves c.if-not-granted.false);
       taken = λ k. s.taken k ∙ f.taken k;
       none_before = λ ok no. none_before m.source_of m.fault_of m.stands before filled c.fill_all-due.result w v p q e.sound e.count (e.stepped wires).outs_same e.done (e.none c.if-due.false) f (a.sound ok);
       rests = λ no. absurd (true_not_false no);
     }) (e.stepped wires) (a.stepped wires) in
-    stepped_then m.in_lanes m.out_lanes m.source_of m.fault_of m.stands _ _ (Prepares m.source_of m.fault_of true c.fill_all-more.result before last) before wires after wires last wires
+    stepped_then m.in_lanes m.out_lanes m.source_of m.device_of m.failures m.fault_of m.stands _ _ (Prepares m.source_of m.fault_of true c.fill_all-more.result before last) before wires after wires last wires
     (λ w p v q u r x y f s. record {
       moves = λ t. moves_then _ _ w v u p q r x y (f.moves refl);
       taken = λ k. s.taken k ∙ f.taken k;

@@ -37,6 +37,7 @@ returns-in-Ok-clause-stepped g c =
       outs_same = refl;
       in_lanes_same = c.feed.ensures.in_lanes;
       out_lanes_same = c.feed.ensures.out_lanes;
+      fares = c.feed.ensures.fares;
       lanes_same = c.try_take.ensures.lanes;
       goes = λ world past stand was.
           let answer = c.in-Item.ensures.item x refl world stand in
@@ -52,7 +53,7 @@ returns-in-Ok-clause-stepped g c =
             now = take_on world old.wire x;
             since = since;
             stand = later;
-            fits = took m.source_of m.fault_of m.stands node after world past since p x (m.in_lanes node.machine) (lanes_of c.args.wires.now) was (c.in-Ok.ensures.accepted past was.machine got_open valid') c.feed.ensures.stays fresh
+            fits = took m.source_of m.fault_of m.stands node after world past since p x (m.in_lanes node.machine) (lanes_of c.args.wires.now) was (c.in-Ok.ensures.accepted past was.machine got_open valid') c.feed.ensures.fares.stays fresh
                 (may_fed node after past since refl (λ n. close_fed n past p x (m.in_lanes node.machine) (laws.monotone node.machine past was.machine) valid valid' got_open))
                 refl c.feed.ensures.source refl refl there c.requires.shaped.ins busy refl refl refl (λ q n. stream_at-with_item_other past.got p q x n) (inl grown) (λ r. grown);
             course = course_take _ _ world old.wire x past since refl refl refl (in_wire_in ins p old.wire there refl) unclosed;
@@ -81,6 +82,7 @@ returns-in-Err-clause-stepped g c =
       outs_same = refl;
       in_lanes_same = c.feed.ensures.in_lanes;
       out_lanes_same = c.feed.ensures.out_lanes;
+      fares = c.feed.ensures.fares;
       lanes_same = c.try_take.ensures.lanes;
       goes = λ world past stand was.
           let answer = c.in-Item.ensures.item x refl world stand in
@@ -91,7 +93,7 @@ returns-in-Err-clause-stepped g c =
             now = take_on world old.wire x;
             since = past;
             stand = later;
-            fits = took m.source_of m.fault_of m.stands node after world past past p x (m.in_lanes node.machine) (lanes_of c.args.wires.now) was (c.in-Err.ensures.unchanged past was.machine) c.feed.ensures.stays fresh
+            fits = took m.source_of m.fault_of m.stands node after world past past p x (m.in_lanes node.machine) (lanes_of c.args.wires.now) was (c.in-Err.ensures.unchanged past was.machine) c.feed.ensures.fares.stays fresh
                 (may_machine node after past past refl refl refl (λ q i. i))
                 refl c.feed.ensures.source refl refl there c.requires.shaped.ins busy refl refl refl (λ q n. refl) (inr (got_open, (x, ap (λ (s : Flow). with_item s x) got))) (λ r. absurd (true_not_false r));
             course = course_take _ _ world old.wire x past past refl refl refl (in_wire_in ins p old.wire there refl) unclosed;

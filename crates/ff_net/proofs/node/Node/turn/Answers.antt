@@ -20,8 +20,8 @@ returns-clause-stepped g c =
     let wires' = c.act-acted.new.wires in
     let wires'' = c.close_all-closed.new.wires in
     let e = c.close_all-closed.ensures in
-    let shaped = shaped_later m.in_lanes m.out_lanes m.source_of m.fault_of m.stands _ mid wires' last wires'' e.stepped (shaped_later m.in_lanes m.out_lanes m.source_of m.fault_of m.stands _ before c.args.wires.now mid wires' c.act-acted.ensures.stepped c.requires.shaped) in
-    turn_answers m.in_lanes m.out_lanes m.source_of m.fault_of m.stands c.act-acted.result c.turn_of.result before mid last c.args.wires.now wires' wires'' c.act-acted.ensures.stepped c.close_all-closed.result c.turn_of.ensures.moved (λ n. (c.turn_of.ensures.not_yet n).0) e.stepped e.same
+    let shaped = shaped_later m.in_lanes m.out_lanes m.source_of m.device_of m.failures m.fault_of m.stands _ mid wires' last wires'' e.stepped (shaped_later m.in_lanes m.out_lanes m.source_of m.device_of m.failures m.fault_of m.stands _ before c.args.wires.now mid wires' c.act-acted.ensures.stepped c.requires.shaped) in
+    turn_answers m.in_lanes m.out_lanes m.source_of m.device_of m.failures m.fault_of m.stands c.act-acted.result c.turn_of.result before mid last c.args.wires.now wires' wires'' c.act-acted.ensures.stepped c.close_all-closed.result c.turn_of.ensures.moved (λ n. (c.turn_of.ensures.not_yet n).0) e.stepped e.same
     (λ still n world past was rests.
     let t = c.turn_of.ensures.not_yet n in
     let acted : c.act-acted.result ≡ false = (or_false c.act-acted.result c.close_all-closed.result t.0).0 in
