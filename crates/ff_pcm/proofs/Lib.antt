@@ -1,2 +1,3 @@
 pub mod DepthLaws
+pub mod FitLaws
 pub mod SampleLaws

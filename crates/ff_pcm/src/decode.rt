@@ -87,7 +87,7 @@ fn decoded(alloc: Global, codec: Codec, bytes: &[u8], count: usize) -> Result<Sa
 }
 
 // The rate, bits, channels and codec of a head.
-fn audio_of(head: &StreamHead) -> (u32, u8, u8, Codec)
+pub(crate) fn audio_of(head: &StreamHead) -> (u32, u8, u8, Codec)
     ensures rate { result.0 ≡ rate_of head.now }
     ensures bits { result.1 ≡ bits_of head.now }
     ensures channels { result.2 ≡ channels_of head.now }
