@@ -13,8 +13,8 @@ use Rattle.ff_frame.specs.BreakLaws.{map_stream_monotone}
 use Rattle.ff_net.specs.Ways.{Flow, AreValid}
 use Rattle.ff_net.specs.Pasts.{Past, IsIn, due, fed, gave_item}
 use Rattle.ff_net.proofs.Flows.{stream_at-with_item_same, stream_at-with_item_other}
-use Rattle.ff_parts.specs.Maps.{mapped, Carries, Maps}
-use Rattle.ff_parts.specs.MapLaws.{fits_goes_on, due_is}
+use Rattle.ff_parts.specs.Maps.{Carries, Maps}
+use Rattle.ff_parts.specs.MapLaws.{fits_goes_on, due_map}
 
 closes_or : (x : Item) → Closes x ⊎ (Closes x → ⊥)
 closes_or (Audio f) = inr (λ c. c)
@@ -149,7 +149,7 @@ module _ (lane_in lane_out : Lane) (f : Item → Item) (queue : List Item) (clos
           stops = s.stops;
         },
         leads.0,
-        subst (λ (ss : List Flow). LiesBelow (with_item (stream_at past.gave 0) x) (stream_at ss 0)) (sym (due_is lane_in lane_out f queue closed stopped past s)) below,
+        subst (λ (ss : List Flow). LiesBelow (with_item (stream_at past.gave 0) x) (stream_at ss 0)) (sym (due_map f past s.plain s.means)) below,
       )
 
   -- the first item was given
@@ -162,12 +162,9 @@ module _ (lane_in lane_out : Lane) (f : Item → Item) (queue : List Item) (clos
   none_to is on =
       let goes : stopped ≡ false = is_false stopped (λ e. on (s.stops.0 e)) in
       let all : stream_at past.gave 0 ≡ map_stream f (stream_at past.got 0) = subst (λ (xs : List Item). Leads (stream_at past.gave 0) xs (map_stream f (stream_at past.got 0))) is (s.gave goes) in
-      all ∙ ap (λ (ss : List Flow). stream_at ss 0) (sym (due_is lane_in lane_out f queue closed stopped past s))
+      all ∙ ap (λ (ss : List Flow). stream_at ss 0) (sym (due_map f past s.plain s.means))
 
   -- where nothing waits all that is due was given
   pub none_at : (p : ℕ) → p < 1 → queue ≡ [] → (IsIn p past.stopped → ⊥) → stream_at past.gave p ≡ stream_at (due past) p
   none_at zero lt is on = none_to is on
   none_at (suc p) lt is on = absurd (omega arith)
-
-pub all_taken : (xs ys : List Item) → xs ≡ ys → ys ≡ [] → xs ≡ []
-all_taken xs ys e f = e ∙ f

@@ -1,2 +1,5 @@
-pub mod Maps
+pub mod Coders
+pub mod DecodeLaws
+pub mod Decoding
 pub mod MapLaws
+pub mod Maps

@@ -1,5 +1,5 @@
 -- The laws of a machine that makes an item of each item, whatever it makes.
-use Rattle.std.specs.Prelude.{◌≡◌, ◌≢◌, ℕ, zero, suc, ◌+◌, ◌*◌, ◌^◌, ◌<◌, ◌≤◌, ◌≤ℤ◌, ◌<ℤ◌, ◌⊎◌, ℤ, Bool, true, false, List, [], ◌∷◌, ◌++◌, map, length, All, Option, None, Some, refl}
+use Rattle.std.specs.Prelude.{◌≡◌, ℕ, zero, suc, ◌^◌, ◌<◌, ◌≤◌, ◌≤ℤ◌, ◌⊎◌, ℤ, Bool, true, false, List, [], ◌∷◌, map, All, Option, None, Some, refl}
 use Rattle.std.proofs.Common.{sym, subst, ap, inl, inr, ◌∙◌, arith}
 use Rattle.std.proofs.lemmas.List.{length-map}
 use Rattle.ff_frame.specs.declared.item.Item.{Item}
@@ -9,11 +9,11 @@ use Rattle.ff_frame.specs.declared.item.Lane.TheVariants.{Frames, Packets}
 use Rattle.ff_frame.specs.declared.head.StreamHead.{StreamHead}
 use Rattle.ff_frame.specs.declared.head.StreamHead.TheVariants.{Audio as AudioHead}
 use Rattle.ff_time.specs.Fraction.{Fraction}
-use Rattle.ff_frame.specs.Stream.{still_open, LiesBelow, opened, map_stream}
+use Rattle.ff_frame.specs.Stream.{LiesBelow, opened, map_stream}
 use Rattle.ff_frame.specs.Items.{Closes}
 use Rattle.ff_frame.specs.Order.{below_self, unbroken_below, stream_at-opened}
 use Rattle.ff_frame.specs.Ports.{nothing, stream_at, AllBelow, AllUnbroken, IsClosed, IsUnbroken, IsMonotone, IsCalm}
-use Rattle.ff_frame.specs.Lanes.{head_of, base_of, FitsLane, FitsFrames, FitsPackets, StartsAfter, Follows, InOrder, IsItemFor, AreInShape, EndsInTime, IsValid}
+use Rattle.ff_frame.specs.Lanes.{head_of, base_of, FitsLane, FitsFrames, FitsPackets, StartsAfter, Follows, InOrder, IsItemFor, EndsInTime, IsValid}
 use Rattle.ff_frame.specs.Times.{start_of, end_of, ticks, IsInTime}
 use Rattle.ff_frame.specs.BreakLaws.{map_stream_monotone}
 use Rattle.ff_net.specs.declared.fault.Fault.{Fault}
@@ -21,7 +21,12 @@ use Rattle.ff_net.specs.Ways.{Flow, AreValid}
 use Rattle.ff_net.specs.Pasts.{Past, IsIn, due}
 use Rattle.ff_net.specs.Laws.{CauseStays, OutputsClose}
 use Rattle.ff_net.proofs.Flows.{due_meant}
-use Rattle.ff_parts.specs.Maps.{mapped, no_cause, Carries, is_spent_map, Maps}
+use Rattle.ff_parts.specs.declared.ready.Ready.{Ready}
+use Rattle.ff_parts.specs.Maps.{mapped, Carries, is_spent_map, ReadyMaps}
+
+-- all that is meant is due
+pub due_map : (f : Item → Item) (past : Past) → past.task.source ≡ false → past.task.means ≡ mapped f → due past ≡ mapped f past.got
+due_map f past plain means = due_meant past plain ∙ ap (λ (g : List Flow → List Flow). g past.got) means
 
 pub map_no_fault : {F : Type 0} (c : F) → None ≡ Some c → ⊥
 map_no_fault c e = cc
@@ -91,7 +96,7 @@ module _ (lane_in lane_out : Lane) (f : Item → Item) (c : Carries lane_in lane
     in_time = all_in_time s.items v.shape.each v.in_time;
   }
 
-module _ (lane_in lane_out : Lane) (f : Item → Item) (queue : List Item) (closed stopped : Bool) (past : Past) (s : Maps lane_in lane_out f queue closed stopped past) where
+module _ (lane_in lane_out : Lane) (f : Item → Item) (ready : Ready) (past : Past) (s : ReadyMaps lane_in lane_out f ready past) where
   pub maps_valid : AreValid (lane_in ∷ []) past.got
   maps_valid zero = s.valid
   maps_valid (suc p) = s.others (suc p) (omega arith)
@@ -120,8 +125,8 @@ module _ (lane_in lane_out : Lane) (f : Item → Item) (queue : List Item) (clos
   pub maps_calm : IsCalm (AreValid (lane_in ∷ [])) past.task.means
   maps_calm = subst (λ (g : List Flow → List Flow). IsCalm (AreValid (lane_in ∷ [])) g) (sym s.means) (λ rs v. calm_at rs)
 
-  pub due_is : due past ≡ mapped f past.got
-  due_is = due_meant past s.plain ∙ ap (λ (g : List Flow → List Flow). g past.got) s.means
+  due_is : due past ≡ mapped f past.got
+  due_is = due_map f past s.plain s.means
 
   below_at : AllBelow past.gave (mapped f past.got)
   below_at zero = s.below
@@ -134,31 +139,31 @@ module _ (lane_in lane_out : Lane) (f : Item → Item) (queue : List Item) (clos
   maps_unbroken u zero = unbroken_below (stream_at past.gave 0) (map_stream f (stream_at past.got 0)) s.below (u 0)
   maps_unbroken u (suc q) = subst (λ (x : Flow). IsUnbroken x) (sym (s.beyond (suc q) (omega arith))) (λ b. cc)
 
-  from_closed : closed ≡ true → OutputsClose 1 past
+  from_closed : ready.closed ≡ true → OutputsClose 1 past
   from_closed e zero lt goes = subst (λ (g : List Flow → List Flow). IsClosed (stream_at (g past.got) 0)) (sym s.means) (s.closed_is.0 e)
   from_closed e (suc q) lt goes = absurd (omega arith)
 
-  from_stopped : stopped ≡ true → OutputsClose 1 past
+  from_stopped : ready.stopped ≡ true → OutputsClose 1 past
   from_stopped e zero lt goes = absurd (goes (s.stops.0 e))
   from_stopped e (suc q) lt goes = absurd (omega arith)
 
-  pub maps_spent_only : (p : ℕ) → is_spent_map closed stopped p → IsClosed (stream_at past.got p) ⊎ ((0 < 1) × OutputsClose 1 past)
+  pub maps_spent_only : (p : ℕ) → is_spent_map ready.closed ready.stopped p → IsClosed (stream_at past.got p) ⊎ ((0 < 1) × OutputsClose 1 past)
   maps_spent_only zero sp = elim (sp.1) [ inl c ↦ inl (s.closed_is.0 c) | inr t ↦ inr (omega arith, from_stopped t) ]
   maps_spent_only (suc p) sp = absurd (let lt : suc p < 1 = sp.0 in omega arith)
 
-  pub maps_closed_spent : (p : ℕ) → p < 1 → IsClosed (stream_at past.got p) → is_spent_map closed stopped p
+  pub maps_closed_spent : (p : ℕ) → p < 1 → IsClosed (stream_at past.got p) → is_spent_map ready.closed ready.stopped p
   maps_closed_spent zero lt c = (lt, inl (s.closed_is.1 c))
   maps_closed_spent (suc p) lt c = absurd (omega arith)
 
-  pub maps_done_spent : (p : ℕ) → p < 1 → OutputsClose 1 past → is_spent_map closed stopped p
-  maps_done_spent p lt c = (lt, pick stopped refl)
+  pub maps_done_spent : (p : ℕ) → p < 1 → OutputsClose 1 past → is_spent_map ready.closed ready.stopped p
+  maps_done_spent p lt c = (lt, pick ready.stopped refl)
     where
-      pick : (b : Bool) → stopped ≡ b → (closed ≡ true) ⊎ (stopped ≡ true)
+      pick : (b : Bool) → ready.stopped ≡ b → (ready.closed ≡ true) ⊎ (ready.stopped ≡ true)
       pick true e = inr e
       pick false e =
-          let on : IsIn 0 past.stopped → ⊥ = λ i. let t : stopped ≡ true = s.stops.1 i in cc (t, e) in
+          let on : IsIn 0 past.stopped → ⊥ = λ i. let t : ready.stopped ≡ true = s.stops.1 i in cc (t, e) in
           let shut : IsClosed (stream_at (past.task.means past.got) 0) = c 0 (omega arith) on in
           inl (s.closed_is.1 (subst (λ (g : List Flow → List Flow). IsClosed (stream_at (g past.got) 0)) s.means shut))
 
-  pub maps_all_spent : ((p : ℕ) → p < 1 → is_spent_map closed stopped p) → OutputsClose 1 past
+  pub maps_all_spent : ((p : ℕ) → p < 1 → is_spent_map ready.closed ready.stopped p) → OutputsClose 1 past
   maps_all_spent h = elim ((h 0 (omega arith)).1) [ inl c ↦ from_closed c | inr t ↦ from_stopped t ]

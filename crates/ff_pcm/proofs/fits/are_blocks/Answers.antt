@@ -1,4 +1,4 @@
-use Rattle.std.proofs.Common.{◌≡◌, ◌≤◌, ◌/◌, arith, rules}
+use Rattle.std.proofs.Common.{◌≤◌, ◌/◌, arith, rules}
 use Rattle.ff_pcm.proofs.FitLaws.{blocks_there}
 use Rattle.ff_pcm.proofs.fits.are_blocks.Goals as goal
 

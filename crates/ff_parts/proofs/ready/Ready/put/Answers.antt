@@ -1,4 +1,3 @@
-use Rattle.std.proofs.Common.{◌≡◌, ◌∙◌, ◌++◌, ◌∷◌, [], sym, true, false}
 use Rattle.ff_parts.proofs.MapSteps.{fed_at}
 use Rattle.ff_parts.proofs.ready.Ready.put.Goals as goal
 

@@ -1,4 +1,4 @@
-use Rattle.std.proofs.Common.{◌≡◌, List, ◌∷◌, ◌++◌, ap, ◌∙◌, option_to_list, Option, Some}
+use Rattle.std.proofs.Common.{◌≡◌, List, ◌∷◌, ◌++◌, ap, ◌∙◌, option_to_list, Option}
 use Rattle.ff_frame.specs.declared.item.Item.{Item}
 use Rattle.ff_parts.proofs.MapSteps.{gives_at}
 use Rattle.ff_parts.proofs.ready.Ready.take.Goals as goal

@@ -1,0 +1,20 @@
+-- The decoder and the encoder as machines: their lanes, and when an input of theirs is spent.
+use Rattle.std.specs.Prelude.{ℕ, List, [], ◌∷◌}
+use Rattle.ff_frame.specs.declared.item.Lane.{Lane}
+use Rattle.ff_frame.specs.declared.item.Lane.TheVariants.{Frames, Packets}
+use Rattle.ff_net.specs.Pasts.{Past}
+use Rattle.ff_parts.specs.declared.dec.Dec.{Dec}
+use Rattle.ff_parts.specs.Maps.{is_spent_map, ReadyMaps}
+use Rattle.ff_parts.specs.Decoding.{decoded_item}
+
+abbrev pub dec_in_lanes : Dec → List Lane
+dec_in_lanes m = Packets m.head ∷ []
+
+abbrev pub dec_out_lanes : Dec → List Lane
+dec_out_lanes m = Frames m.head ∷ []
+
+abbrev pub dec_spent : Dec → ℕ → Type 0
+dec_spent m p = is_spent_map m.ready.closed m.ready.stopped p
+
+abbrev pub dec_stands : Dec → Past → Type 0
+dec_stands m past = ReadyMaps (Packets m.head) (Frames m.head) (decoded_item m.head) m.ready past
