@@ -136,7 +136,7 @@ signed_apart_32 m n lm ln e = grind (arith, ints)
 middle_apart : (m n : ℕ) → pos m -ℤ pos 128 ≡ pos n -ℤ pos 128 → m ≡ n
 middle_apart m n e = omega (arith, ints)
 
-abbrev AreBytes : List ℕ → Type 0
+abbrev pub AreBytes : List ℕ → Type 0
 AreBytes bytes = (i : ℕ) → get_or bytes i 0 < 256
 
 digit_apart : (x y m n : ℕ) → x < 256 → y < 256 → x + 256 * m ≡ y + 256 * n → (x ≡ y) × (m ≡ n)
@@ -175,7 +175,7 @@ byte_same PcmS32le a b i count sa sb lt same =
     let below : (x : List ℕ) → AreBytes x → number 4 (4 * k) x < 2 ^ 32 = λ x s. omega (arith, s (4 * k), s (4 * k + 1), s (4 * k + 1 + 1), s (4 * k + 1 + 1 + 1)) in
     subst P here (number_apart 4 (4 * k) a b sa sb (signed_apart_32 _ _ (below a sa) (below b sb) (same k (omega arith))) (i % 4) (omega arith))
 
-are_bytes : (xs : List ℕ) → All (λ x. x < 256) xs → AreBytes xs
+pub are_bytes : (xs : List ℕ) → All (λ x. x < 256) xs → AreBytes xs
 are_bytes [] h i = omega arith
 are_bytes (x ∷ xs) h zero = h 0 0 (omega arith)
 are_bytes (x ∷ xs) h (suc i) = are_bytes xs (λ k d lt. h (suc k) d (omega (arith, lt))) i
