@@ -4,6 +4,8 @@
 #![tactic(auto)]
 
 mod dec;
+mod enc;
 mod ready;
 
 pub use dec::Dec;
+pub use enc::Enc;

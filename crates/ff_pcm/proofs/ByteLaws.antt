@@ -16,7 +16,7 @@ number_length : (count n : ℕ) → length (number_bytes count n) ≡ count
 number_length zero n = refl
 number_length (suc count) n = omega (arith, number_length count (n / 256))
 
-bytes_length : (count : ℕ) (g : ℤ → ℕ) (xs : List ℤ) → length (flat_map (λ z. number_bytes count (g z)) xs) ≡ count * length xs
+pub bytes_length : (count : ℕ) (g : ℤ → ℕ) (xs : List ℤ) → length (flat_map (λ z. number_bytes count (g z)) xs) ≡ count * length xs
 bytes_length count g [] = omega arith
 bytes_length count g (x ∷ xs) =
     length-append (number_bytes count (g x)) (flat_map (λ z. number_bytes count (g z)) xs)

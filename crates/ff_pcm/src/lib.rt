@@ -12,7 +12,7 @@ mod fits;
 mod laws;
 mod values;
 
-pub use decode::pcm_decode;
+pub use decode::{depth_of, pcm_decode};
 pub use depth::depth_change;
 pub use encode::{pcm_encode, pcm_encode_into, room_for};
 pub use fits::{has_blocks, is_audio};
