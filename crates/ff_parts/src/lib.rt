@@ -3,9 +3,11 @@
 //! `specs/` says what each does to whole streams.
 #![tactic(auto)]
 
+mod coding;
 mod dec;
 mod enc;
 mod ready;
 
+pub use coding::{decoding_passes_no_limit, encoding_passes_no_limit, octets_leave_bytes};
 pub use dec::Dec;
 pub use enc::Enc;
