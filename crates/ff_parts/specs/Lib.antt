@@ -1,0 +1,6 @@
+pub mod DemuxClaims
+pub mod DemuxLaws
+pub mod DemuxShapes
+pub mod Demuxers
+pub mod Demuxing
+pub mod Sources
