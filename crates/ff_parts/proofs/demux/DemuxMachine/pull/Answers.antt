@@ -97,7 +97,7 @@ returns-in-Err-Failed-clause-waits g c = λ e past d out.
     let one = subst (λ (k : WavCut). DemuxStands (S.left m.src) k m.skip m.given m.ticket m.ended m.fault past) (sym w.0) (inv.stands past d) in
     let two = flags (S.left m.src) c.next_unit.new.cut m.skip m.given m.ticket m.ended m.fault past m.ticket false m.fault refl inv.going refl one in
     let three = demux_kept (S.left m.src) (S.left c.read_more.new.src) c.next_unit.new.cut c.read_more.new.cut m.skip m.given m.ticket m.fault (Some Device) past f.left
-    c.read_more.ensures.head f.ended (λ x h. cc (h)) (λ h. cc (h)) f.cuts two in
+    c.read_more.ensures.head f.ended (λ x h. cc (h)) (λ h. inv.sound) f.cuts two in
     let four = demux_asked (S.left c.read_more.new.src) c.read_more.new.cut m.skip m.given m.ticket false (Some Device) past c.args._port (λ h b. cc (h)) three in
     let five = flags (S.left c.read_more.new.src) c.read_more.new.cut m.skip m.given m.ticket false (Some Device) (was_asked past c.args._port) m.ticket m.ended (Some Device) refl (sym inv.going) refl four in
     subst (λ (k : ℕ). DemuxStands (S.left c.read_more.new.src) c.read_more.new.cut k m.given m.ticket m.ended (Some Device) (was_asked past c.args._port)) (sym f.skip) five
