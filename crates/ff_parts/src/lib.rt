@@ -11,3 +11,6 @@ mod ready;
 pub use coding::{decoding_passes_no_limit, encoding_passes_no_limit, octets_leave_bytes};
 pub use dec::Dec;
 pub use enc::Enc;
+
+#[cfg(test)]
+mod coder_tests;
