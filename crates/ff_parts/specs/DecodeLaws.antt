@@ -5,12 +5,12 @@ use Rattle.std.proofs.lemmas.List.{length-map}
 use Rattle.std.proofs.Math.Nat.{mul-div_cancel}
 use Rattle.ff_frame.specs.declared.packet.Pkt.{Pkt}
 use Rattle.ff_frame.specs.declared.head.StreamHead.{StreamHead}
-use Rattle.ff_frame.specs.declared.head.StreamHead.TheVariants.{Audio as AudioHead}
+use Rattle.ff_frame.specs.declared.head.StreamHead.TheVariants.{Audio as AudioHead, Video as VideoHead}
 use Rattle.ff_frame.specs.declared.item.Item.{Item}
-use Rattle.ff_frame.specs.declared.item.Item.TheVariants.{Audio, Packet, End, Broken}
+use Rattle.ff_frame.specs.declared.item.Item.TheVariants.{Audio, Video, Packet, End, Broken}
 use Rattle.ff_frame.specs.declared.item.Lane.TheVariants.{Frames, Packets}
 use Rattle.ff_frame.specs.Items.{Closes}
-use Rattle.ff_frame.specs.Lanes.{sample_bytes, IsPcm, IsFrameOf, FitsFrames, FitsPackets}
+use Rattle.ff_frame.specs.Lanes.{sample_bytes, IsPcm, IsFrameOf, FitsFrames, FitsPackets, StartsAfter}
 use Rattle.ff_frame.specs.Times.{start_of, end_of}
 use Rattle.ff_pcm.specs.Frames.{rate_of, channels_of, bits_of, codec_of, IsPcmHead, HasBlocks, frame_of}
 use Rattle.ff_pcm.specs.Samples.{StandFor}
@@ -59,27 +59,39 @@ module _ (head : StreamHead) (p : Pkt) (h : IsPcmHead head) (b : IsPcm (channels
 
 fits_decoded : (head : StreamHead) (x : Item) → IsPcmHead head → FitsPackets head x → FitsFrames head (decoded_item head x)
 fits_decoded (AudioHead tb rate bits channels codec) (Audio f) h t = absurd t
+fits_decoded (AudioHead tb rate bits channels codec) (Video f) h t = absurd t
 fits_decoded (AudioHead tb rate bits channels codec) (Packet p) h t = packet_frame (AudioHead tb rate bits channels codec) p h t.1
 fits_decoded (AudioHead tb rate bits channels codec) End h t = absurd t
 fits_decoded (AudioHead tb rate bits channels codec) Broken h t = absurd t
+fits_decoded (VideoHead tb format width height sar_num sar_den) x h t = absurd h.sound
 
 starts_decoded : (head : StreamHead) (x : Item) → FitsPackets head x → start_of (decoded_item head x) ≡ start_of x
 starts_decoded head (Audio f) t = refl
+starts_decoded head (Video f) t = refl
 starts_decoded head (Packet p) t = refl
 starts_decoded head End t = refl
 starts_decoded head Broken t = refl
 
 ends_decoded : (head : StreamHead) (x : Item) → IsPcmHead head → FitsPackets head x → end_of (decoded_item head x) ≡ end_of x
 ends_decoded head (Audio f) h t = refl
+ends_decoded head (Video f) h t = refl
 ends_decoded (AudioHead tb rate bits channels codec) (Packet p) h t = frame_lasts (AudioHead tb rate bits channels codec) p h t.1
+ends_decoded (VideoHead tb format width height sar_num sar_den) (Packet p) h t = absurd h.sound
 ends_decoded head End h t = refl
 ends_decoded head Broken h t = refl
 
 closing_decoded : (head : StreamHead) (x : Item) → Closes x → decoded_item head x ≡ x
 closing_decoded head (Audio f) c = refl
+closing_decoded head (Video f) c = refl
 closing_decoded head (Packet p) c = absurd c
 closing_decoded head End c = refl
 closing_decoded head Broken c = refl
+
+apart_decoded : (head : StreamHead) (x y : Item) → IsPcmHead head → FitsPackets head x → FitsPackets head y → StartsAfter head x y → StartsAfter head (decoded_item head x) (decoded_item head y)
+apart_decoded (AudioHead tb rate bits channels codec) x y h p q a =
+    let head = AudioHead tb rate bits channels codec in
+    rw (ends_decoded head x h p, starts_decoded head y q) a
+apart_decoded (VideoHead tb format width height sar_num sar_den) x y h p q a = tt
 
 -- decoding takes a lane of packets to the lane of their frames
 pub decoding_carries : (head : StreamHead) → IsPcmHead head → Carries (Packets head) (Frames head) (decoded_item head)
@@ -88,14 +100,19 @@ decoding_carries head h = record {
   fits = λ x t. fits_decoded head x h t;
   starts = λ x t. starts_decoded head x t;
   ends = λ x t. ends_decoded head x h t;
+  apart = λ x y p q a. apart_decoded head x y h p q a;
   closing = λ x c. closing_decoded head x c;
 }
 
 -- what the lane carries can be decoded, and so can what closes a stream
-pub is_decodable_fit : (head : StreamHead) (x : Item) → ((Closes x → ⊥) → FitsPackets head x) → IsDecodable head x
-is_decodable_fit (AudioHead tb rate bits channels codec) (Audio f) fits = fits (λ c. c)
-is_decodable_fit (AudioHead tb rate bits channels codec) (Packet p) fits =
+pub is_decodable_fit : (head : StreamHead) (x : Item) → IsPcmHead head → ((Closes x → ⊥) → FitsPackets head x) → IsDecodable head x
+is_decodable_fit (AudioHead tb rate bits channels codec) (Audio f) h fits = fits (λ c. c)
+is_decodable_fit (VideoHead tb format width height sar_num sar_den) (Audio f) h fits = fits (λ c. c)
+is_decodable_fit (AudioHead tb rate bits channels codec) (Video f) h fits = fits (λ c. c)
+is_decodable_fit (VideoHead tb format width height sar_num sar_den) (Video f) h fits = fits (λ c. c)
+is_decodable_fit (AudioHead tb rate bits channels codec) (Packet p) h fits =
     let pcm : IsPcm (channels * sample_bytes codec) p = (fits (λ c. c)).1 in
     record { blocks = pcm.blocks; some_blocks = pcm.some_blocks; few_blocks = pcm.few_blocks; whole_blocks = pcm.whole_blocks }
-is_decodable_fit head End fits = tt
-is_decodable_fit head Broken fits = tt
+is_decodable_fit (VideoHead tb format width height sar_num sar_den) (Packet p) h fits = absurd h.sound
+is_decodable_fit head End h fits = tt
+is_decodable_fit head Broken h fits = tt

@@ -3,7 +3,7 @@ use Rattle.std.specs.Prelude.{◌%◌, [], ◌∷◌, map, false}
 use Rattle.ff_frame.specs.declared.packet.Pkt.{Pkt}
 use Rattle.ff_frame.specs.declared.head.StreamHead.{StreamHead}
 use Rattle.ff_frame.specs.declared.item.Item.{Item}
-use Rattle.ff_frame.specs.declared.item.Item.TheVariants.{Audio, Packet, End, Broken}
+use Rattle.ff_frame.specs.declared.item.Item.TheVariants.{Audio, Video, Packet, End, Broken}
 use Rattle.ff_frame.specs.Stream.{map_stream}
 use Rattle.ff_frame.specs.Ports.{stream_at}
 use Rattle.ff_pcm.specs.Frames.{HasBlocks, frame_of}
@@ -18,6 +18,7 @@ octets packet = record packet { bytes = map (λ b. b % 256) packet.bytes }
 -- the frame that a packet's bytes stand for
 abbrev pub decoded_item : StreamHead → Item → Item
 decoded_item head (Audio f) = Audio f
+decoded_item head (Video f) = Video f
 decoded_item head (Packet p) = Audio (frame_of head (octets p))
 decoded_item head End = End
 decoded_item head Broken = Broken
@@ -33,6 +34,7 @@ dec_task head = record { means = λ ss. decoded head (stream_at ss 0) ∷ []; ca
 -- a packet of whole blocks, or what closes a stream
 abbrev pub IsDecodable : StreamHead → Item → Type 0
 IsDecodable head (Audio f) = ⊥
+IsDecodable head (Video f) = ⊥
 IsDecodable head (Packet p) = HasBlocks head p.bytes
 IsDecodable head End = Unit {0}
 IsDecodable head Broken = Unit {0}

@@ -4,9 +4,9 @@ use Rattle.ff_frame.specs.declared.audio.AFrame.{AFrame}
 use Rattle.ff_frame.specs.declared.packet.Pkt.{Pkt}
 use Rattle.ff_frame.specs.declared.head.Codec.{Codec}
 use Rattle.ff_frame.specs.declared.head.StreamHead.{StreamHead}
-use Rattle.ff_frame.specs.declared.head.StreamHead.TheVariants.{Audio as AudioHead}
+use Rattle.ff_frame.specs.declared.head.StreamHead.TheVariants.{Audio as AudioHead, Video as VideoHead}
 use Rattle.ff_frame.specs.declared.item.Item.{Item}
-use Rattle.ff_frame.specs.declared.item.Item.TheVariants.{Audio, Packet, End, Broken}
+use Rattle.ff_frame.specs.declared.item.Item.TheVariants.{Audio, Video, Packet, End, Broken}
 use Rattle.ff_frame.specs.Audio.{IsAudio}
 use Rattle.ff_frame.specs.Packet.{packet_at}
 use Rattle.ff_frame.specs.Stream.{map_stream}
@@ -18,9 +18,10 @@ use Rattle.ff_net.specs.Ways.{Flow}
 use Rattle.ff_net.specs.Pasts.{Task}
 use Rattle.ff_parts.specs.Maps.{no_cause}
 
--- the head of what a stream is coded to: the same times, rate and channels, at the codec's depth
+-- the head of what a stream of sound is coded to: the same times, rate and channels, at the codec's depth
 abbrev pub coded_head : Codec → StreamHead → StreamHead
 coded_head codec (AudioHead tb rate bits channels from) = AudioHead tb rate (depth codec) channels codec
+coded_head codec (VideoHead tb format width height sar_num sar_den) = VideoHead tb format width height sar_num sar_den
 
 -- the packet of a frame: its time, its number of sample frames, and the bytes of its samples at the codec's depth
 abbrev pub packet_of : Codec → AFrame → Pkt
@@ -28,6 +29,7 @@ packet_of codec frame = packet_at frame.pts (pos (length frame.samples / frame.c
 
 abbrev pub encoded_item : Codec → Item → Item
 encoded_item codec (Audio f) = Packet (packet_of codec f)
+encoded_item codec (Video f) = Video f
 encoded_item codec (Packet p) = Packet p
 encoded_item codec End = End
 encoded_item codec Broken = Broken
@@ -43,6 +45,7 @@ enc_task codec head = record { means = λ ss. encoded codec head (stream_at ss 0
 -- a frame whose fields agree, or what closes a stream
 abbrev pub IsEncodable : Item → Type 0
 IsEncodable (Audio f) = IsAudio f.bits f.channels f.samples
+IsEncodable (Video f) = ⊥
 IsEncodable (Packet p) = ⊥
 IsEncodable End = Unit {0}
 IsEncodable Broken = Unit {0}

@@ -5,3 +5,5 @@ pub mod EncodeLaws
 pub mod Encoding
 pub mod MapLaws
 pub mod Maps
+pub mod MuxLaws
+pub mod Muxing

@@ -3,11 +3,11 @@ use Rattle.std.specs.Prelude.{◌≡◌, ℕ, zero, suc, ◌^◌, ◌<◌, ◌�
 use Rattle.std.proofs.Common.{sym, subst, ap, inl, inr, ◌∙◌, arith}
 use Rattle.std.proofs.lemmas.List.{length-map}
 use Rattle.ff_frame.specs.declared.item.Item.{Item}
-use Rattle.ff_frame.specs.declared.item.Item.TheVariants.{Audio, Packet, End, Broken}
+use Rattle.ff_frame.specs.declared.item.Item.TheVariants.{Audio, Video, Packet, End, Broken}
 use Rattle.ff_frame.specs.declared.item.Lane.{Lane}
 use Rattle.ff_frame.specs.declared.item.Lane.TheVariants.{Frames, Packets}
 use Rattle.ff_frame.specs.declared.head.StreamHead.{StreamHead}
-use Rattle.ff_frame.specs.declared.head.StreamHead.TheVariants.{Audio as AudioHead}
+use Rattle.ff_frame.specs.declared.head.StreamHead.TheVariants.{Audio as AudioHead, Video as VideoHead}
 use Rattle.ff_time.specs.Fraction.{Fraction}
 use Rattle.ff_frame.specs.Stream.{LiesBelow, opened, map_stream}
 use Rattle.ff_frame.specs.Items.{Closes}
@@ -33,24 +33,32 @@ map_no_fault c e = cc
 
 frames_go_on : (head : StreamHead) (x : Item) → FitsFrames head x → Closes x → ⊥
 frames_go_on (AudioHead tb rate bits channels codec) (Audio f) h c = c
+frames_go_on (AudioHead tb rate bits channels codec) (Video f) h c = c
 frames_go_on (AudioHead tb rate bits channels codec) (Packet p) h c = c
 frames_go_on (AudioHead tb rate bits channels codec) End h c = h
 frames_go_on (AudioHead tb rate bits channels codec) Broken h c = h
+frames_go_on (VideoHead tb format width height sar_num sar_den) (Audio f) h c = c
+frames_go_on (VideoHead tb format width height sar_num sar_den) (Video f) h c = c
+frames_go_on (VideoHead tb format width height sar_num sar_den) (Packet p) h c = c
+frames_go_on (VideoHead tb format width height sar_num sar_den) End h c = h
+frames_go_on (VideoHead tb format width height sar_num sar_den) Broken h c = h
 
 packets_go_on : (head : StreamHead) (x : Item) → FitsPackets head x → Closes x → ⊥
 packets_go_on (AudioHead tb rate bits channels codec) (Audio f) h c = c
+packets_go_on (AudioHead tb rate bits channels codec) (Video f) h c = c
 packets_go_on (AudioHead tb rate bits channels codec) (Packet p) h c = c
 packets_go_on (AudioHead tb rate bits channels codec) End h c = h
 packets_go_on (AudioHead tb rate bits channels codec) Broken h c = h
+packets_go_on (VideoHead tb format width height sar_num sar_den) (Audio f) h c = c
+packets_go_on (VideoHead tb format width height sar_num sar_den) (Video f) h c = c
+packets_go_on (VideoHead tb format width height sar_num sar_den) (Packet p) h c = c
+packets_go_on (VideoHead tb format width height sar_num sar_den) End h c = h
+packets_go_on (VideoHead tb format width height sar_num sar_den) Broken h c = h
 
 -- what a lane carries doesn't close a stream
 pub fits_goes_on : (lane : Lane) (x : Item) → FitsLane lane x → Closes x → ⊥
 fits_goes_on (Frames head) x h c = frames_go_on head x h c
 fits_goes_on (Packets head) x h c = packets_go_on head x h c
-
-starts_after : (h k : StreamHead) (x y v w : Item) → end_of v ≡ end_of x → start_of w ≡ start_of y → StartsAfter h x y → StartsAfter k v w
-starts_after (AudioHead tb rate bits channels codec) (AudioHead tb2 rate2 bits2 channels2 codec2) x y v w e s a =
-    subst (λ (n : ℤ). n ≤ℤ start_of w) (sym e) (subst (λ (n : ℤ). end_of x ≤ℤ n) (sym s) a)
 
 module _ (lane_in lane_out : Lane) (f : Item → Item) (c : Carries lane_in lane_out f) where
   item_for : (x : Item) → IsItemFor lane_in x → IsItemFor lane_out (f x)
@@ -69,7 +77,7 @@ module _ (lane_in lane_out : Lane) (f : Item → Item) (c : Carries lane_in lane
   follows_for x y p q o = record {
     starts = rw (c.starts x p, c.starts y q) (o.starts);
     ends = rw (c.ends x p, c.ends y q) (o.ends);
-    apart = starts_after (head_of lane_in) (head_of lane_out) x y (f x) (f y) (c.ends x p) (c.starts y q) o.apart;
+    apart = c.apart x y p q o.apart;
   }
 
   order_for : (xs : List Item) → All (IsItemFor lane_in) xs → InOrder lane_in xs → InOrder lane_out (map f xs)

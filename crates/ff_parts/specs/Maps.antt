@@ -4,7 +4,7 @@ use Rattle.ff_frame.specs.declared.item.Item.{Item}
 use Rattle.ff_frame.specs.declared.item.Lane.{Lane}
 use Rattle.ff_frame.specs.Stream.{LiesBelow, map_stream}
 use Rattle.ff_frame.specs.Items.{Closes, Leads}
-use Rattle.ff_frame.specs.Lanes.{base_of, FitsLane, IsValid}
+use Rattle.ff_frame.specs.Lanes.{base_of, head_of, FitsLane, StartsAfter, IsValid}
 use Rattle.ff_frame.specs.Times.{start_of, end_of}
 use Rattle.ff_frame.specs.Ports.{nothing, stream_at, IsClosed}
 use Rattle.ff_net.specs.declared.fault.Fault.{Fault}
@@ -29,6 +29,7 @@ pub record Carries (lane_in lane_out : Lane) (f : Item → Item) : Type 0 where
   pub fits : (x : Item) → FitsLane lane_in x → FitsLane lane_out (f x)
   pub starts : (x : Item) → FitsLane lane_in x → start_of (f x) ≡ start_of x
   pub ends : (x : Item) → FitsLane lane_in x → end_of (f x) ≡ end_of x
+  pub apart : (x y : Item) → FitsLane lane_in x → FitsLane lane_in y → StartsAfter (head_of lane_in) x y → StartsAfter (head_of lane_out) (f x) (f y)
   pub closing : (x : Item) → Closes x → f x ≡ x
 
 -- an input is spent where it has closed, or where nothing more of the output is wanted

@@ -4,7 +4,7 @@ ghost use Rattle.ff_frame.specs.declared.head.Codec.{Codec};
 ghost use Rattle.ff_frame.specs.declared.head.StreamHead.{StreamHead};
 ghost use Rattle.ff_frame.specs.declared.item.Lane.TheVariants.{Frames, Packets};
 ghost use Rattle.ff_frame.specs.declared.packet.Pkt.{Pkt};
-ghost use Rattle.ff_frame.specs.Lanes.{IsValid};
+ghost use Rattle.ff_frame.specs.Lanes.{IsSoundHead, IsValid};
 ghost use Rattle.ff_frame.specs.Within.{within, passes_limits};
 ghost use Rattle.ff_pcm.specs.Frames.{IsPcmHead};
 ghost use Rattle.ff_net.specs.Ways.{Flow};
@@ -18,7 +18,7 @@ pub fn decoding_passes_no_limit()
 
 /// The packets of valid frames pass no limit: cutting them there changes nothing.
 pub fn encoding_passes_no_limit()
-    ensures { (codec : Codec) (head : StreamHead) (frames : Flow) → IsValid (Frames head) frames → within (passes_limits (Packets (coded_head codec head))) (encoded codec head frames) ≡ encoded codec head frames }
+    ensures { (codec : Codec) (head : StreamHead) (frames : Flow) → IsSoundHead head → IsValid (Frames head) frames → within (passes_limits (Packets (coded_head codec head))) (encoded codec head frames) ≡ encoded codec head frames }
 {}
 
 /// A packet of bytes is decoded as it stands.

@@ -1,5 +1,6 @@
 ghost use Rattle.std.specs.Prelude.{◌≡◌, ◌↔◌, ◌<◌, ℕ, slice_index, IsTrue, IfOk, IfErr};
 ghost use Rattle.ff_pcm.specs.Frames.{IsPcmHead, HasBlocks, frame_of};
+ghost use Rattle.ff_parts.specs.Heads.{IsPcmHead-prop};
 ghost use Rattle.ff_parts.specs.Decoding.{octets, decoded_item, IsDecodable};
 
 use crate::ready::{Ready, discard};
@@ -14,7 +15,7 @@ pub struct Dec {
     alloc: Global,
     head: StreamHead,
     ready: Ready,
-    ghost pcm: { IsPcmHead head },
+    ghost pcm: { IsPcmHead head } by { IsPcmHead-prop head },
 }
 
 impl Dec {
@@ -46,7 +47,7 @@ fn is_decodable(head: &StreamHead, item: &Item) -> bool
 {
     match item {
         Item::Packet(packet) => has_blocks(head, packet),
-        Item::Audio(_) => false,
+        Item::Audio(_) | Item::Video(_) => false,
         Item::End | Item::Broken => true,
     }
 }
@@ -83,6 +84,7 @@ fn decode(alloc: Global, head: &StreamHead, item: Item) -> Result<Item, Refused>
             }),
         },
         Item::Audio(frame) => Ok(Item::Audio(frame)),
+        Item::Video(frame) => Ok(Item::Video(frame)),
         Item::End => Ok(Item::End),
         Item::Broken => Ok(Item::Broken),
     }

@@ -1,6 +1,7 @@
 ghost use Rattle.std.specs.Prelude.{◌≡◌, ◌↔◌, ◌*◌, ◌/◌, length, pos, IsTrue, IfOk, IfErr};
 ghost use Rattle.ff_frame.specs.Audio.{IsAudio};
-ghost use Rattle.ff_frame.specs.Lanes.{sample_bytes};
+ghost use Rattle.ff_frame.specs.Lanes.{sample_bytes, IsSoundHead};
+ghost use Rattle.ff_wav.specs.Sound.{IsSoundHead-prop};
 ghost use Rattle.ff_parts.specs.Encoding.{packet_of, encoded_item, IsEncodable};
 
 use crate::ready::{Ready, discard};
@@ -16,6 +17,7 @@ pub struct Enc {
     codec: Codec,
     head: StreamHead,
     ready: Ready,
+    ghost sound: { IsSoundHead head } by { IsSoundHead-prop head },
 }
 
 impl Enc {
@@ -25,8 +27,9 @@ impl Enc {
     ghost use Rattle.ff_parts.specs.Encoding.{coded_head, enc_task};
     ghost use Rattle.ff_parts.specs.Coders.{enc_in_lanes, enc_out_lanes, enc_stands};
 
-    /// An encoder of this head's frames to a codec, to which nothing was fed.
+    /// An encoder of this head's frames to a codec, to which nothing was fed. The head is one of sound.
     pub fn new(alloc: Global, codec: Codec, head: StreamHead) -> Enc
+        requires { IsSoundHead head }
         ensures in_lanes { enc_in_lanes result ≡ Frames head ∷ [] }
         ensures out_lanes { enc_out_lanes result ≡ Packets (coded_head codec head) ∷ [] }
         ensures stands { enc_stands result (start (enc_task codec head)) }
@@ -46,7 +49,7 @@ fn is_encodable(item: &Item) -> bool
 {
     match item {
         Item::Audio(frame) => is_audio(frame),
-        Item::Packet(_) => false,
+        Item::Video(_) | Item::Packet(_) => false,
         Item::End | Item::Broken => true,
     }
 }
@@ -89,6 +92,7 @@ fn encode(alloc: Global, codec: Codec, item: Item) -> Result<Item, Refused>
                 item: Item::Audio(frame),
             }),
         },
+        Item::Video(frame) => Ok(Item::Video(frame)),
         Item::Packet(packet) => Ok(Item::Packet(packet)),
         Item::End => Ok(Item::End),
         Item::Broken => Ok(Item::Broken),

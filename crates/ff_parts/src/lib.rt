@@ -6,11 +6,13 @@
 mod coding;
 mod dec;
 mod enc;
+mod mux;
 mod ready;
 
 pub use coding::{decoding_passes_no_limit, encoding_passes_no_limit, octets_leave_bytes};
 pub use dec::Dec;
 pub use enc::Enc;
+pub use mux::Mux;
 
 #[cfg(test)]
 mod coder_tests;

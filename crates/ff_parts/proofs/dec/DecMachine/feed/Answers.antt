@@ -16,7 +16,7 @@ returns-then-not-is_decodable-clause-accepted c past s o v =
     let m = c.args.self.now in
     let x = c.args.item in
     let fits : (Closes x → ⊥) → FitsLane (Packets m.head) x = fits_at (Packets m.head) (Frames m.head) (decoded_item m.head) m.ready.queue.items m.ready.closed m.ready.stopped past s c.args._port x c.requires v in
-    let h : IsDecodable m.head x = is_decodable_fit m.head x fits in
+    let h : IsDecodable m.head x = is_decodable_fit m.head x m.pcm fits in
     absurd (not_both c.is_decodable.result (c.is_decodable.ensures.1 h) c.if-not-is_decodable.true)
 
 pub returns-then-is_err-clause-unchanged : goal.returns-then-is_err-clause-unchanged

@@ -16,7 +16,7 @@ returns-then-not-is_encodable-clause-accepted c past s o v =
     let m = c.args.self.now in
     let x = c.args.item in
     let fits : (Closes x → ⊥) → FitsLane (Frames m.head) x = fits_at (Frames m.head) (Packets (coded_head m.codec m.head)) (encoded_item m.codec) m.ready.queue.items m.ready.closed m.ready.stopped past s c.args._port x c.requires v in
-    let h : IsEncodable x = is_encodable_fit m.head x fits in
+    let h : IsEncodable x = is_encodable_fit m.head x m.sound fits in
     absurd (not_both c.is_encodable.result (c.is_encodable.ensures.1 h) c.if-not-is_encodable.true)
 
 pub returns-then-is_err-clause-unchanged : goal.returns-then-is_err-clause-unchanged

@@ -1,0 +1,2 @@
+pub mod FrameHash
+pub mod Puts
