@@ -3,6 +3,7 @@ pub mod DecodeLaws
 pub mod Decoding
 pub mod EncodeLaws
 pub mod Encoding
+pub mod Heads
 pub mod MapLaws
 pub mod Maps
 pub mod MuxLaws
