@@ -16,3 +16,6 @@ pub use dec::Dec;
 pub use demux::Demux;
 pub use enc::Enc;
 pub use mux::Mux;
+
+#[cfg(test)]
+mod coder_tests;
