@@ -4,9 +4,11 @@
 //! what they tell, which is optional: the bytes that a source has left, those that a sink holds, and the files of a
 //! host. Each counts its faults, a host by name and direction, and answers `Failed` only where the count rose.
 //! [`QuietHost`] holds its files in memory and never fails; [`MemHost`] stands on it and fails exactly where it was
-//! planned. A host over something else keeps its counts by name in a [`Table`] of [`Marks`].
+//! planned. A host over something else keeps its counts by name in a [`Table`] of [`Marks`]. [`Begun`] is a source of
+//! which some bytes were read already.
 #![tactic(auto)]
 
+mod begun;
 mod contents;
 mod host;
 mod mem_host;
@@ -20,6 +22,7 @@ mod sink;
 mod source;
 mod tally;
 
+pub use begun::Begun;
 pub use host::{Host, HostError};
 pub use mem_host::MemHost;
 pub use mem_sink::MemSink;

@@ -32,7 +32,7 @@ impl QuietSource {
 }
 
 // Fills the front of a buffer, as far as it and the bytes reach.
-fn copy_front(buf: &mut [u8], from: &[u8]) -> usize
+pub(crate) fn copy_front(buf: &mut [u8], from: &[u8]) -> usize
     ensures count { result ≡ min (length buf.old) (length from.now) }
     ensures given { buf.new ≡ take result from.now ++ drop result buf.old }
 {

@@ -1,8 +1,8 @@
 ghost use Rattle.std.specs.Prelude.{◌≡◌, ◌<◌, ◌≤◌, length, IfOk, IsTrue};
 
 use crate::{
-    FailAt, Failed, Host, HostCall, HostError, Marks, MemHost, QuietHost, Sink, SinkError, Source,
-    make_room, marks_of, set_marks,
+    Begun, FailAt, Failed, Host, HostCall, HostError, Marks, MemHost, QuietHost, Sink, SinkError,
+    Source, make_room, marks_of, set_marks,
 };
 use std::alloc::{AllocError, Global};
 use std::collections::BTreeMap;
@@ -200,5 +200,23 @@ fn marks_by_name(rt: HostRuntime) -> Result<(), Fail> {
     make_room(&mut table, alloc, "a")?;
     assert_eq!(rt; marks_of(&table, "a"), marks);
     assert_eq!(rt; marks_of(&table, "b"), blank);
+    Ok(())
+}
+
+#[test]
+fn begun_source(rt: HostRuntime) -> Result<(), Fail> {
+    let alloc = rt.alloc();
+    let mut host = QuietHost::new(alloc, files_of(alloc, &[("in", "12345")])?)?;
+    let mut src = host.open_source("in").map_err(|_| "not opened")?;
+    let mut head = [0; 3];
+    assert_eq!(rt; src.read(&mut head), Ok(3));
+    let mut begun = Begun::new(head.to_vec(alloc)?, src);
+    let mut buf = [0; 2];
+    for (count, bytes) in [(2, b"12"), (1, b"32"), (2, b"45"), (0, b"45")] {
+        assert_eq!(rt; begun.read(&mut buf), Ok(count));
+        assert_eq!(rt; buf, *bytes);
+    }
+    let mut src = begun.into_inner();
+    assert_eq!(rt; src.read(&mut buf), Ok(0));
     Ok(())
 }

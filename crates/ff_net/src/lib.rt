@@ -10,5 +10,5 @@ mod wires;
 pub use fault::Fault;
 pub use machine::Machine;
 pub use node::{Node, Turn};
-pub use serial::run_serial;
+pub use serial::{run_serial, run_to_end};
 pub use wires::{Put, Queue, Take, Wires};

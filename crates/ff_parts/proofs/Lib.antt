@@ -1,1 +1,2 @@
+pub mod MapSteps
 pub mod MuxSteps

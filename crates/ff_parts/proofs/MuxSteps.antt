@@ -7,7 +7,7 @@ use mathlib.Core.List.{IsPrefix}
 use Rattle.ff_lists.specs.Appends.{AppendsPrefix}
 use Rattle.ff_frame.specs.declared.head.StreamHead.{StreamHead}
 use Rattle.ff_frame.specs.declared.item.Item.{Item}
-use Rattle.ff_frame.specs.declared.item.Item.TheVariants.{Audio, Packet, End, Broken}
+use Rattle.ff_frame.specs.declared.item.Item.TheVariants.{Audio, Video, Packet, End, Broken}
 use Rattle.ff_frame.specs.declared.item.Lane.TheVariants.{Packets}
 use Rattle.ff_frame.specs.Stream.{still_open}
 use Rattle.ff_frame.specs.Items.{Closes, with_item}
@@ -43,6 +43,7 @@ lines_added xs x =
 
 item_added : (head : StreamHead) (s : Flow) (x : Item) → unpatched head (with_item s x) ≡ unpatched head s ++ lines_of x
 item_added head s (Audio f) = ap (λ b. header head ++ b) (lines_added s.items (Audio f)) ∙ sym (append_assoc (header head) (hash_body s.items) (lines_of (Audio f)))
+item_added head s (Video f) = ap (λ b. header head ++ b) (lines_added s.items (Video f)) ∙ sym (append_assoc (header head) (hash_body s.items) (lines_of (Video f)))
 item_added head s (Packet p) = ap (λ b. header head ++ b) (lines_added s.items (Packet p)) ∙ sym (append_assoc (header head) (hash_body s.items) (lines_of (Packet p)))
 item_added head s End = sym (append-nil (unpatched head s))
 item_added head s Broken = sym (append-nil (unpatched head s))
@@ -68,6 +69,7 @@ not_empty (y ∷ xs) x e = cc
 
 something : (s : Flow) (x : Item) → with_item s x ≢ nothing
 something s (Audio f) e = not_empty s.items (Audio f) (ap (λ (t : Flow). t.items) e)
+something s (Video f) e = not_empty s.items (Video f) (ap (λ (t : Flow). t.items) e)
 something s (Packet p) e = not_empty s.items (Packet p) (ap (λ (t : Flow). t.items) e)
 something s End e = let m = ap (λ (t : Flow). t.mark) e in cc
 something s Broken e = let m = ap (λ (t : Flow). t.mark) e in cc

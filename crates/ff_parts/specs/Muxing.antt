@@ -6,7 +6,7 @@ use mathlib.Core.List.{IsPrefix}
 use Rattle.ff_frame.specs.declared.packet.Pkt.{Pkt}
 use Rattle.ff_frame.specs.declared.head.StreamHead.{StreamHead}
 use Rattle.ff_frame.specs.declared.item.Item.{Item}
-use Rattle.ff_frame.specs.declared.item.Item.TheVariants.{Audio, Packet, End, Broken}
+use Rattle.ff_frame.specs.declared.item.Item.TheVariants.{Audio, Video, Packet, End, Broken}
 use Rattle.ff_frame.specs.declared.item.Lane.{Lane}
 use Rattle.ff_frame.specs.declared.item.Lane.TheVariants.{Packets}
 use Rattle.ff_frame.specs.Stream.{Stream}
@@ -23,6 +23,7 @@ use Rattle.ff_parts.specs.declared.mux.Mux.{Mux}
 -- the packet that an item is, if it is one
 abbrev pub packet_in : Item → List Pkt
 packet_in (Audio f) = []
+packet_in (Video f) = []
 packet_in (Packet p) = p ∷ []
 packet_in End = []
 packet_in Broken = []

@@ -81,7 +81,7 @@ fn text_of(alloc: Global, put: &HashPut, item: &Item) -> Result<Vec<u8>, AllocEr
 {
     match item {
         Item::Packet(pkt) => put.line(pkt),
-        Item::Audio(_) | Item::End | Item::Broken => Ok(Vec::new(alloc)),
+        Item::Audio(_) | Item::Video(_) | Item::End | Item::Broken => Ok(Vec::new(alloc)),
     }
 }
 

@@ -1,0 +1,55 @@
+ghost use Rattle.std.specs.Prelude.{◌≡◌, ◌≤◌, ℕ, List, length};
+ghost use Rattle.std.specs.Io.KnownBytes.{prepend_known};
+ghost use Rattle.ff_host.specs.Begun.{still_in, failed_of};
+
+use crate::quiet_source::copy_front;
+use crate::source::{Failed, Source};
+
+/// A source of which some bytes were read already: it gives these first, and then those of the source.
+#[derive(Drop)]
+pub struct Begun<S> {
+    bytes: Vec<u8>,
+    /// How many of these bytes were given.
+    at: usize,
+    src: S,
+    ghost inside: { at ≤ length bytes.items },
+}
+
+impl<S: Source> Begun<S> {
+    /// Over a source from which these bytes were read. It takes no memory.
+    pub fn new(bytes: Vec<u8>, src: S) -> Begun<S>
+        ensures left { ⟦<Begun<S> as Source>⟧.left result ≡ prepend_known bytes.items (S.left src) }
+        ensures faults { ⟦<Begun<S> as Source>⟧.faults result ≡ S.faults src }
+        ensures name { ⟦<Begun<S> as Source>⟧.name result ≡ S.name src }
+    {
+        Begun { bytes, at: 0, src }
+    }
+
+    /// The source itself. The bytes that were not given yet are lost.
+    pub fn into_inner(self) -> S
+        ensures left { (rest : List ℕ) × (⟦<Begun<S> as Source>⟧.left self ≡ prepend_known rest (S.left result)) }
+        ensures faults { S.faults result ≡ ⟦<Begun<S> as Source>⟧.faults self }
+        ensures name { S.name result ≡ ⟦<Begun<S> as Source>⟧.name self }
+    {
+        self.src
+    }
+}
+
+impl<S: Source> Source for Begun<S> {
+    ghost left = { λ b. prepend_known (still_in b.bytes.items b.at) (S.left b.src) };
+
+    ghost faults = { λ b. S.faults b.src };
+
+    ghost failed = { λ b. failed_of b.bytes.items b.at (S.failed b.src) };
+
+    ghost name = { λ b. S.name b.src };
+
+    fn read(&mut self, buf: &mut [u8]) -> Result<usize, Failed> {
+        if self.at == self.bytes.len() {
+            return self.src.read(buf);
+        }
+        let count = copy_front(buf, &self.bytes[self.at..]);
+        self.at += count;
+        Ok(count)
+    }
+}

@@ -1,0 +1,2 @@
+-- Being a head of linear PCM is a fact.
+use Rattle.core.specs.Props.{IsProp}
