@@ -2,7 +2,7 @@
 use Rattle.std.proofs.Common.{◌≡◌, ◌≢◌, ℕ, zero, suc, ◌+◌, ◌<◌, ◌≤◌, ◌⊎◌, inl, inr, Bool, true, false, List, [], ◌∷◌, ◌++◌, length, take, slice_index_or, refl, ap, sym, ◌∙◌, subst, arith}
 use Rattle.std.proofs.lemmas.List.{take_more}
 use Rattle.ff_frame.specs.declared.item.Item.{Item}
-use Rattle.ff_frame.specs.declared.item.Item.TheVariants.{Audio, Packet, End, Broken}
+use Rattle.ff_frame.specs.declared.item.Item.TheVariants.{Audio, Video, Packet, End, Broken}
 use Rattle.ff_frame.specs.declared.item.Lane.{Lane}
 use Rattle.ff_frame.specs.Stream.{Mark, still_open, LiesBelow}
 use Rattle.ff_frame.specs.Items.{with_item}
@@ -20,6 +20,7 @@ use Rattle.ff_net_plain.proofs.ListSteps.{fits_goes_on, item_added}
 -- an item that closes
 pub closes_with : (t : Flow) (x : Item) (m : Mark) → with_item nothing x ≡ record { items = []; mark = m } → with_item t x ≡ record { items = t.items; mark = m }
 closes_with t (Audio f) m e = (let clash : Audio f ∷ [] ≡ [] = ap (λ (s : Flow). s.items) e in cc)
+closes_with t (Video f) m e = (let clash : Video f ∷ [] ≡ [] = ap (λ (s : Flow). s.items) e in cc)
 closes_with t (Packet f) m e = (let clash : Packet f ∷ [] ≡ [] = ap (λ (s : Flow). s.items) e in cc)
 closes_with t End m e = ap (λ (k : Mark). let s : Flow = record { items = t.items; mark = k } in s) (ap (λ (s : Flow). s.mark) e)
 closes_with t Broken m e = ap (λ (k : Mark). let s : Flow = record { items = t.items; mark = k } in s) (ap (λ (s : Flow). s.mark) e)

@@ -1,9 +1,9 @@
 -- What a source does at each call.
 use Rattle.std.proofs.Common.{◌≡◌, ◌≢◌, ℕ, zero, suc, ◌+◌, ◌<◌, ◌≤◌, ◌⊎◌, inl, inr, Bool, true, false, List, [], ◌∷◌, ◌++◌, length, take, slice_index_or, refl, ap, sym, ◌∙◌, subst, arith}
 use Rattle.std.proofs.lemmas.List.{take_more}
-use Rattle.ff_frame.specs.declared.head.StreamHead.TheVariants.{Audio as AudioHead}
+use Rattle.ff_frame.specs.declared.head.StreamHead.TheVariants.{Audio as AudioHead, Video as VideoHead}
 use Rattle.ff_frame.specs.declared.item.Item.{Item}
-use Rattle.ff_frame.specs.declared.item.Item.TheVariants.{Audio, Packet, End, Broken}
+use Rattle.ff_frame.specs.declared.item.Item.TheVariants.{Audio, Video, Packet, End, Broken}
 use Rattle.ff_frame.specs.declared.item.Lane.{Lane}
 use Rattle.ff_frame.specs.declared.item.Lane.TheVariants.{Frames, Packets}
 use Rattle.ff_frame.specs.Stream.{still_open, whole_stream, LiesBelow}
@@ -18,14 +18,20 @@ use Rattle.ff_net_plain.specs.ListLaws.{cut_before, cut_after, lists_due}
 
 pub fits_goes_on : (lane : Lane) (x : Item) → FitsLane lane x → Closes x → ⊥
 fits_goes_on lane (Audio f) h c = c
+fits_goes_on lane (Video f) h c = c
 fits_goes_on lane (Packet f) h c = c
 fits_goes_on (Frames (AudioHead tb rate bits channels codec)) End h c = h
 fits_goes_on (Packets (AudioHead tb rate bits channels codec)) End h c = h
 fits_goes_on (Frames (AudioHead tb rate bits channels codec)) Broken h c = h
 fits_goes_on (Packets (AudioHead tb rate bits channels codec)) Broken h c = h
+fits_goes_on (Frames (VideoHead tb format width height sar_num sar_den)) End h c = h
+fits_goes_on (Packets (VideoHead tb format width height sar_num sar_den)) End h c = h
+fits_goes_on (Frames (VideoHead tb format width height sar_num sar_den)) Broken h c = h
+fits_goes_on (Packets (VideoHead tb format width height sar_num sar_den)) Broken h c = h
 
 pub item_added : (t : Flow) (x : Item) → (Closes x → ⊥) → with_item t x ≡ record { items = t.items ++ x ∷ []; mark = t.mark }
 item_added t (Audio f) c = refl
+item_added t (Video f) c = refl
 item_added t (Packet f) c = refl
 item_added t End c = absurd (c tt)
 item_added t Broken c = absurd (c tt)

@@ -46,6 +46,7 @@ impl Kept {
                 Ok(())
             }
             Item::Audio(frame) => self.push(Item::Audio(frame)),
+            Item::Video(frame) => self.push(Item::Video(frame)),
             Item::Packet(packet) => self.push(Item::Packet(packet)),
         }
     }
@@ -162,6 +163,8 @@ impl Machine for Join {
     ghost source_of = { λ m. None };
 
     ghost fault_of = { λ m. None };
+
+    ghost device_of = { λ m. None };
 
     ghost failures = { λ m. 0 };
 

@@ -155,7 +155,7 @@ fn look_at(outcome: Outcome, item: &Item) -> Outcome {
             in_order: outcome.in_order & (packet.pts == i64::from(outcome.packets)),
             ..outcome
         },
-        Item::Audio(_) => Outcome {
+        Item::Audio(_) | Item::Video(_) => Outcome {
             in_order: false,
             ..outcome
         },

@@ -17,6 +17,7 @@ pub enum Plain {
 }
 
 impl Machine for Plain {
+    ghost use Rattle.std.specs.Prelude.{None};
     ghost use Rattle.ff_net_plain.specs.Plains.{plain_ins, plain_outs, plain_source, plain_fault, plain_failures, plain_holds, plain_spent, plain_stands};
     ghost use Rattle.ff_net_plain.specs.PlainLaws.{plain_is_source, plain_valid, plain_keeps, plain_monotone, plain_cause_stays, plain_calm, plain_given, plain_unbroken, plain_caused, plain_spent_only, plain_closed_spent, plain_done_spent, plain_all_spent, plain_ticket_used};
 
@@ -27,6 +28,8 @@ impl Machine for Plain {
     ghost source_of = { plain_source };
 
     ghost fault_of = { plain_fault };
+
+    ghost device_of = { λ m. None };
 
     ghost failures = { plain_failures };
 

@@ -61,6 +61,8 @@ impl Machine for Source {
 
     ghost fault_of = { λ m. fault_if m.failed };
 
+    ghost device_of = { λ m. None };
+
     ghost failures = { λ m. as_count m.failed };
 
     ghost holds = { λ m. m.ticket ≡ true };
