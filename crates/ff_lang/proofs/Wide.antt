@@ -23,7 +23,7 @@ use Rattle.ff_lang.proofs.Bytes.{high_word, high_label, high_blank, high_special
 use Rattle.ff_lang.proofs.Runs.{and_run, run, at}
 use Rattle.ff_lang.proofs.Values.{arg_at}
 
-abbrev AreHigh : List ℕ → Type 0
+abbrev pub AreHigh : List ℕ → Type 0
 AreHigh bytes = AllByRecursion (λ b. 128 ≤ b) bytes
 
 above : (k n : ℕ) → 128 ≤ k → 128 ≤ k + n
@@ -36,7 +36,7 @@ high_if false x y p q = q
 not_low : (c : ℕ) → 128 ≤ c → nat_lt c 128 ≡ true → ⊥
 not_low c h e = grind (arith, nat_tests)
 
-are_high : (c : ℕ) → 128 ≤ c → AreHigh (encode c)
+pub are_high : (c : ℕ) → 128 ≤ c → AreHigh (encode c)
 unfolding encode
 are_high c h =
     high_if (nat_lt c 128) _ _ (λ e. absurd (not_low c h e))
