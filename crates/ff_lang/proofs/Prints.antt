@@ -1,9 +1,9 @@
 -- The text that a sound graph is printed as stands for it.
-use Rattle.std.proofs.Common.{◌≡◌, ◌≢◌, ℕ, Bool, true, false, Option, Some, None, List, [], ◌∷◌, ◌++◌, length, ◌⊎◌, inl, inr, cond, refl, sym, ap, subst, ◌∙◌, append_assoc, arith}
-use Rattle.std.specs.Prelude.{◌==◌, ◌||◌, if◌then◌else◌}
+use Rattle.std.proofs.Common.{◌≡◌, ◌≢◌, ℕ, true, false, Option, Some, None, List, [], ◌∷◌, ◌++◌, length, inl, inr, refl, sym, ap, subst, ◌∙◌, append_assoc, arith}
+use Rattle.std.specs.Prelude.{if◌then◌else◌}
 use Rattle.std.specs.List.{AllByRecursion}
-use Rattle.ff_lang.specs.Letters.{is_word_byte, is_special, is_escaped}
-use Rattle.ff_lang.specs.Grammar.{AreLabels, IsLabel, IsWord, IsValue, HasKey, IsKeyed, IsArg, AreLed, IsSeries, AreArgs, IsTight, IsFilter, IsChain, IsGraph}
+use Rattle.ff_lang.specs.Letters.{is_word_byte, is_escaped}
+use Rattle.ff_lang.specs.Grammar.{AreLabels, IsLabel, IsValue, IsKeyed, IsArg, AreLed, IsSeries, AreArgs, IsTight, IsFilter, IsChain, IsGraph}
 use Rattle.ff_lang.specs.Grammar.IsValue.{ends, itself, escaped}
 use Rattle.ff_lang.specs.Printing.{escaped_value, printed_key, printed_arg, led, series, printed_args, printed_labels, printed_filter, printed_chain, printed, IsSoundKey, IsSoundFilter, IsSoundChain, IsSound}
 use Rattle.ff_lang.specs.declared.graph.Arg.{Arg}

@@ -1,18 +1,11 @@
 -- Each graph that a text stands for has sound names and no empty chain.
-use Rattle.std.proofs.Common.{◌≡◌, ◌≢◌, ℕ, ◌+◌, ◌<◌, ◌≤◌, ◌⊎◌, inl, inr, Bool, true, false, ◌&&◌, cond, Option, Some, None, nat_lt, List, [], ◌∷◌, ◌++◌, length, refl, sym, ap, subst, ◌∙◌, append_assoc, length-append, arith}
-use Rattle.std.specs.Prelude.{◌==◌}
-use Rattle.std.proofs.lemmas.List.{append-nil}
+use Rattle.std.proofs.Common.{ℕ, ◌<◌, Option, Some, None, List, [], ◌∷◌, length, arith}
 use Rattle.std.specs.List.{AllByRecursion}
-use Rattle.ff_lang.specs.Letters.{is_word_byte, is_label_byte, is_blank, is_special}
-use Rattle.ff_lang.specs.Reading.{byte_next, end_of, empty_arg, empty_filter, empty_chain, before, with_filter, with_chain}
 use Rattle.ff_lang.specs.declared.graph.Arg.{Arg}
 use Rattle.ff_lang.specs.declared.graph.Filter.{Filter}
 use Rattle.ff_lang.specs.declared.graph.Chain.{Chain}
 use Rattle.ff_lang.specs.declared.graph.Graph.{Graph}
-use Rattle.ff_lang.specs.declared.parser.Parser.{Parser}
-use Rattle.ff_lang.specs.declared.parser.Place.{Place}
-use Rattle.ff_lang.specs.declared.parser.Place.TheVariants.{Front, InLabel, Name, Named, Key, Value, Quoted, Escaped, OutLabel, Back}
-use Rattle.ff_lang.specs.Grammar.{AreLabels, IsLabel, IsWord, IsKeyed, IsArg, AreLed, IsSeries, AreArgs, IsFilter, IsChain, IsGraph}
+use Rattle.ff_lang.specs.Grammar.{AreLabels, IsLabel, IsKeyed, IsArg, AreLed, IsSeries, AreArgs, IsFilter, IsChain, IsGraph}
 use Rattle.ff_lang.specs.Printing.{IsSoundKey, IsSoundFilter, IsSoundChain, IsSound}
 
 labels_sound : (labels : List (List ℕ)) (text : List ℕ) → AreLabels text labels → AllByRecursion IsLabel labels
