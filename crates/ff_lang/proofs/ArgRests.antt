@@ -1,20 +1,15 @@
 -- What may follow in an argument, and what one byte more in front makes of it.
-use Rattle.std.proofs.Common.{◌≡◌, ◌≢◌, ℕ, ◌+◌, ◌<◌, ◌≤◌, ◌⊎◌, inl, inr, Bool, true, false, ◌&&◌, cond, Option, Some, None, nat_lt, List, [], ◌∷◌, ◌++◌, length, refl, sym, ap, subst, ◌∙◌, append_assoc, length-append, arith}
+use Rattle.std.proofs.Common.{◌≡◌, ◌≢◌, ℕ, ◌+◌, ◌<◌, ◌≤◌, inl, inr, true, false, ◌&&◌, Some, None, nat_lt, List, [], ◌∷◌, ◌++◌, length, refl, sym, ap, subst, ◌∙◌, append_assoc, arith}
 use Rattle.std.specs.Prelude.{◌==◌}
 use Rattle.std.proofs.lemmas.List.{append-nil}
 use Rattle.std.specs.List.{AllByRecursion}
-use Rattle.ff_lang.specs.Letters.{is_word_byte, is_label_byte, is_blank, is_special}
-use Rattle.ff_lang.specs.Reading.{byte_next, end_of, empty_arg, empty_filter, empty_chain, before, with_filter, with_chain}
+use Rattle.ff_lang.specs.Letters.{is_word_byte, is_special}
+use Rattle.ff_lang.specs.Reading.{empty_arg}
 use Rattle.ff_lang.specs.declared.graph.Arg.{Arg}
 use Rattle.ff_lang.specs.declared.graph.Filter.{Filter}
-use Rattle.ff_lang.specs.declared.graph.Chain.{Chain}
-use Rattle.ff_lang.specs.declared.graph.Graph.{Graph}
-use Rattle.ff_lang.specs.declared.parser.Parser.{Parser}
-use Rattle.ff_lang.specs.declared.parser.Place.{Place}
-use Rattle.ff_lang.specs.declared.parser.Place.TheVariants.{Front, InLabel, Name, Named, Key, Value, Quoted, Escaped, OutLabel, Back}
-use Rattle.ff_lang.specs.Grammar.{AreBlanks, AreLabels, IsLabel, IsWord, IsValue, HasKey, IsKeyed, IsArg, AreLed, AreArgs, IsTight}
+use Rattle.ff_lang.specs.Grammar.{IsValue, HasKey, IsArg}
 use Rattle.ff_lang.specs.Grammar.IsValue.{ends, itself, escaped, quoted}
-use Rattle.ff_lang.proofs.Bytes.{word_61, word_plain, eq_out, lt_true, both_true}
+use Rattle.ff_lang.proofs.Bytes.{word_61, word_plain, lt_true, both_true}
 use Rattle.ff_lang.proofs.Rests.{OutsRest, OutLabelRest, ValueRest, KeyRest, KeyFits, QuotedRest, EscapedRest, outs_open, empty_fits}
 
 -- an argument whose value is as it stands

@@ -1,20 +1,16 @@
 -- Arguments are read as they stand for, up to what may follow a filter.
-use Rattle.std.proofs.Common.{◌≡◌, ◌≢◌, ℕ, ◌+◌, ◌<◌, ◌≤◌, ◌⊎◌, inl, inr, Bool, true, false, ◌&&◌, cond, Option, Some, None, nat_lt, List, [], ◌∷◌, ◌++◌, length, refl, sym, ap, subst, ◌∙◌, append_assoc, length-append, arith}
-use Rattle.std.specs.Prelude.{◌==◌}
+use Rattle.std.proofs.Common.{◌≡◌, ℕ, inl, inr, true, Some, List, [], ◌∷◌, ◌++◌, refl, sym, ap, subst, ◌∙◌, append_assoc}
 use Rattle.std.proofs.lemmas.List.{append-nil}
-use Rattle.std.specs.List.{AllByRecursion}
-use Rattle.ff_lang.specs.Letters.{is_word_byte, is_label_byte, is_blank, is_special}
-use Rattle.ff_lang.specs.Reading.{byte_next, end_of, empty_arg, empty_filter, empty_chain, before, with_filter, with_chain}
+use Rattle.ff_lang.specs.Letters.{is_blank}
+use Rattle.ff_lang.specs.Reading.{byte_next, empty_arg}
 use Rattle.ff_lang.specs.declared.graph.Arg.{Arg}
 use Rattle.ff_lang.specs.declared.graph.Filter.{Filter}
 use Rattle.ff_lang.specs.declared.graph.Chain.{Chain}
 use Rattle.ff_lang.specs.declared.graph.Graph.{Graph}
-use Rattle.ff_lang.specs.declared.parser.Parser.{Parser}
-use Rattle.ff_lang.specs.declared.parser.Place.{Place}
-use Rattle.ff_lang.specs.declared.parser.Place.TheVariants.{Front, InLabel, Name, Named, Key, Value, Quoted, Escaped, OutLabel, Back}
-use Rattle.ff_lang.specs.Grammar.{AreBlanks, AreLabels, AreArgs, AreLed, IsSeries, IsArg, IsTight}
+use Rattle.ff_lang.specs.declared.parser.Place.TheVariants.{Name, Named, Key, Value, Back}
+use Rattle.ff_lang.specs.Grammar.{AreBlanks, AreLabels, AreArgs, AreLed, IsArg, IsTight}
 use Rattle.ff_lang.proofs.Bytes.{word_44, word_59, word_91, word_61, blank_44, blank_59, blank_91, blank_61, special_44, special_59, special_91, special_58, word_blank}
-use Rattle.ff_lang.proofs.Runs.{and_reads, reads, reads_byte, blanks_stay, at}
+use Rattle.ff_lang.proofs.Runs.{reads, reads_byte, blanks_stay, at}
 use Rattle.ff_lang.proofs.Values.{Stop, reads_arg}
 use Rattle.ff_lang.proofs.Values.Stop.{nothing, byte}
 

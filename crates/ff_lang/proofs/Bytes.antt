@@ -1,8 +1,8 @@
 -- Which bytes are which.
-use Rattle.std.proofs.Common.{◌≡◌, ◌≢◌, ℕ, ◌<◌, ◌≤◌, ◌⊎◌, inl, inr, Bool, true, false, ◌&&◌, ◌||◌, nat_lt, nat_le, eqb, refl, sym, ◌∙◌, ap, subst, arith}
+use Rattle.std.proofs.Common.{◌≡◌, ◌≢◌, ℕ, ◌<◌, ◌≤◌, Bool, true, false, ◌&&◌, nat_lt, refl, arith}
 use Rattle.std.specs.Prelude.{◌==◌}
 use Rattle.std.proofs.lemmas.Bool.Decides.{nat_tests}
-use Rattle.ff_lang.specs.Letters.{is_word_byte, is_label_byte, is_blank, is_special}
+use Rattle.ff_lang.specs.Letters.{is_word_byte, is_label_byte, is_blank, is_special, is_escaped}
 
 pub word_91 : is_word_byte 91 ≡ false
 unfolding is_word_byte
@@ -144,3 +144,15 @@ word_97 = refl
 pub label_97 : is_label_byte 97 ≡ true
 unfolding is_label_byte is_word_byte
 label_97 = refl
+
+pub plain_out : (b : ℕ) → is_escaped b ≡ false → is_special b ≡ false
+unfolding is_escaped
+plain_out b h = grind (arith, nat_tests)
+
+pub escaped_61 : is_escaped 61 ≡ true
+unfolding is_escaped is_special
+escaped_61 = refl
+
+pub high_escaped : (b : ℕ) → 128 ≤ b → is_escaped b ≡ false
+unfolding is_escaped is_special
+high_escaped b h = grind (arith, nat_tests)

@@ -1,21 +1,19 @@
 -- Whole filters, chains and graphs are read as they stand for.
-use Rattle.std.proofs.Common.{◌≡◌, ◌≢◌, ℕ, ◌+◌, ◌<◌, ◌≤◌, ◌⊎◌, inl, inr, Bool, true, false, ◌&&◌, cond, Option, Some, None, nat_lt, List, [], ◌∷◌, ◌++◌, length, refl, sym, ap, subst, ◌∙◌, append_assoc, length-append, arith}
-use Rattle.std.specs.Prelude.{◌==◌}
+use Rattle.std.proofs.Common.{◌≡◌, ℕ, ◌+◌, ◌≤◌, true, Option, Some, nat_lt, List, [], ◌∷◌, ◌++◌, length, refl, sym, ap, subst, ◌∙◌, append_assoc, length-append, arith}
 use Rattle.std.proofs.lemmas.List.{append-nil}
 use Rattle.std.specs.List.{AllByRecursion}
-use Rattle.ff_lang.specs.Letters.{is_word_byte, is_label_byte, is_blank, is_special}
-use Rattle.ff_lang.specs.Reading.{byte_next, end_of, empty_arg, empty_filter, empty_chain, before, with_filter, with_chain}
+use Rattle.ff_lang.specs.Letters.{is_word_byte}
+use Rattle.ff_lang.specs.Reading.{empty_arg, empty_chain, before, with_filter, with_chain}
 use Rattle.ff_lang.specs.declared.graph.Arg.{Arg}
 use Rattle.ff_lang.specs.declared.graph.Filter.{Filter}
 use Rattle.ff_lang.specs.declared.graph.Chain.{Chain}
 use Rattle.ff_lang.specs.declared.graph.Graph.{Graph}
 use Rattle.ff_lang.specs.declared.parser.Parser.{Parser}
-use Rattle.ff_lang.specs.declared.parser.Place.{Place}
-use Rattle.ff_lang.specs.declared.parser.Place.TheVariants.{Front, InLabel, Name, Named, Key, Value, Quoted, Escaped, OutLabel, Back}
-use Rattle.ff_lang.specs.Grammar.{AreLabels, AreLed, IsSeries, IsWord, IsFilter, IsChain, IsGraph}
+use Rattle.ff_lang.specs.declared.parser.Place.TheVariants.{Name, Back}
+use Rattle.ff_lang.specs.Grammar.{AreLed, IsSeries, IsWord, IsFilter, IsChain, IsGraph}
 use Rattle.ff_lang.specs.Reading.{start}
 use Rattle.ff_lang.proofs.Bytes.{blank_44, blank_59, both_true, lt_true}
-use Rattle.ff_lang.proofs.Runs.{and_reads, reads, reads_byte, at}
+use Rattle.ff_lang.proofs.Runs.{reads, reads_byte, at}
 use Rattle.ff_lang.proofs.Labels.{reads_labels, front_hub, front_at, in_label_at, back_hub, back_at, out_label_at}
 use Rattle.ff_lang.proofs.Args.{Tail, reads_args}
 use Rattle.ff_lang.proofs.Args.Tail.{last, next_filter, next_chain}

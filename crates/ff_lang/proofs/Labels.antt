@@ -1,12 +1,11 @@
 -- Labels are read as they stand, before a name and behind it.
-use Rattle.std.proofs.Common.{◌≡◌, ℕ, ◌+◌, ◌<◌, ◌≤◌, Bool, true, false, ◌&&◌, cond, Option, Some, None, nat_lt, List, [], ◌∷◌, ◌++◌, length, refl, sym, ap, subst, ◌∙◌, append_assoc, length-append, arith}
+use Rattle.std.proofs.Common.{◌≡◌, ℕ, ◌+◌, ◌<◌, ◌≤◌, true, Some, nat_lt, List, [], ◌∷◌, ◌++◌, length, refl, sym, ap, ◌∙◌, append_assoc, length-append, arith}
 use Rattle.std.proofs.lemmas.List.{append-nil}
 use Rattle.std.specs.List.{AllByRecursion}
-use Rattle.ff_lang.specs.Letters.{is_word_byte, is_label_byte, is_blank, is_special}
-use Rattle.ff_lang.specs.Grammar.{AreBlanks, AreLabels, IsLabel}
-use Rattle.ff_lang.specs.Reading.{byte_next, end_of}
+use Rattle.ff_lang.specs.Letters.{is_label_byte, is_blank}
+use Rattle.ff_lang.specs.Grammar.{AreLabels}
+use Rattle.ff_lang.specs.Reading.{byte_next}
 use Rattle.ff_lang.specs.declared.graph.Arg.{Arg}
-use Rattle.ff_lang.specs.declared.graph.Filter.{Filter}
 use Rattle.ff_lang.specs.declared.graph.Chain.{Chain}
 use Rattle.ff_lang.specs.declared.graph.Graph.{Graph}
 use Rattle.ff_lang.specs.declared.parser.Parser.{Parser}

@@ -10,3 +10,4 @@ pub mod Sound
 pub mod Wide
 pub mod Places
 pub mod SoundGraphs
+pub mod Prints

@@ -1,10 +1,7 @@
 -- The place of a fault, and what the call's answer says of the text.
-use Rattle.std.proofs.Common.{◌≡◌, ◌≢◌, ℕ, ◌+◌, ◌<◌, ◌≤◌, ◌⊎◌, inl, inr, Bool, true, false, ◌&&◌, cond, Option, Some, None, nat_lt, List, [], ◌∷◌, ◌++◌, length, refl, sym, ap, subst, ◌∙◌, append_assoc, length-append, arith}
-use Rattle.std.specs.Prelude.{◌==◌}
+use Rattle.std.proofs.Common.{◌≡◌, ℕ, ◌+◌, ◌<◌, ◌≤◌, ◌⊎◌, inl, inr, Bool, true, false, Option, Some, None, List, [], ◌∷◌, ◌++◌, length, refl, sym, ap, subst, ◌∙◌, append_assoc, length-append, arith}
 use Rattle.std.proofs.lemmas.List.{append-nil}
-use Rattle.std.specs.List.{AllByRecursion}
-use Rattle.ff_lang.specs.Letters.{is_word_byte, is_label_byte, is_blank, is_special}
-use Rattle.ff_lang.specs.Reading.{byte_next, end_of, empty_arg, empty_filter, empty_chain, before, with_filter, with_chain}
+use Rattle.ff_lang.specs.Reading.{byte_next, end_of, with_filter, with_chain}
 use Rattle.ff_lang.specs.declared.graph.Arg.{Arg}
 use Rattle.ff_lang.specs.declared.graph.Filter.{Filter}
 use Rattle.ff_lang.specs.declared.graph.Chain.{Chain}

@@ -1,19 +1,14 @@
 -- What may follow in each place, up to the end of a filter, and what one byte more in front makes of it.
-use Rattle.std.proofs.Common.{◌≡◌, ◌≢◌, ℕ, ◌+◌, ◌<◌, ◌≤◌, ◌⊎◌, inl, inr, Bool, true, false, ◌&&◌, cond, Option, Some, None, nat_lt, List, [], ◌∷◌, ◌++◌, length, refl, sym, ap, subst, ◌∙◌, append_assoc, length-append, arith}
-use Rattle.std.specs.Prelude.{◌==◌}
+use Rattle.std.proofs.Common.{◌≡◌, ◌≢◌, ℕ, ◌+◌, ◌<◌, ◌≤◌, true, None, List, [], ◌∷◌, ◌++◌, length, refl, sym, ap, subst, ◌∙◌, append_assoc, length-append, arith}
 use Rattle.std.proofs.lemmas.List.{append-nil}
 use Rattle.std.specs.List.{AllByRecursion}
-use Rattle.ff_lang.specs.Letters.{is_word_byte, is_label_byte, is_blank, is_special}
-use Rattle.ff_lang.specs.Reading.{byte_next, end_of, empty_arg, empty_filter, empty_chain, before, with_filter, with_chain}
+use Rattle.ff_lang.specs.Letters.{is_word_byte, is_label_byte, is_blank}
+use Rattle.ff_lang.specs.Reading.{empty_arg}
 use Rattle.ff_lang.specs.declared.graph.Arg.{Arg}
 use Rattle.ff_lang.specs.declared.graph.Filter.{Filter}
-use Rattle.ff_lang.specs.declared.graph.Chain.{Chain}
-use Rattle.ff_lang.specs.declared.graph.Graph.{Graph}
-use Rattle.ff_lang.specs.declared.parser.Parser.{Parser}
 use Rattle.ff_lang.specs.declared.parser.Place.{Place}
 use Rattle.ff_lang.specs.declared.parser.Place.TheVariants.{Front, InLabel, Name, Named, Key, Value, Quoted, Escaped, OutLabel, Back}
-use Rattle.ff_lang.specs.Grammar.{AreBlanks, AreLabels, IsLabel, IsWord, IsValue, HasKey, IsKeyed, IsArg, AreLed, IsSeries, AreArgs, IsTight, IsFilter}
-use Rattle.ff_lang.specs.Grammar.IsValue.{ends, itself, escaped, quoted}
+use Rattle.ff_lang.specs.Grammar.{AreLabels, IsLabel, IsValue, IsArg, AreLed, AreArgs, IsTight}
 
 pub record OutsRest (f0 : Filter) (text : List ℕ) (f : Filter) : Type 0 where
   pub labels : List (List ℕ)

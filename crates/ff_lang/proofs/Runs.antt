@@ -1,8 +1,6 @@
 -- A whole text read byte by byte.
-use Rattle.std.proofs.Common.{◌≡◌, ℕ, ◌+◌, ◌<◌, ◌≤◌, Bool, true, false, ◌&&◌, cond, Option, Some, None, nat_lt, List, [], ◌∷◌, ◌++◌, length, refl, sym, ap, subst, ◌∙◌, append_assoc, length-append, arith}
-use Rattle.std.proofs.lemmas.List.{append-nil}
-use Rattle.std.specs.List.{AllByRecursion}
-use Rattle.ff_lang.specs.Letters.{is_word_byte, is_label_byte, is_blank, is_special}
+use Rattle.std.proofs.Common.{◌≡◌, ℕ, true, Option, Some, None, List, [], ◌∷◌, ◌++◌, refl, ap, ◌∙◌}
+use Rattle.ff_lang.specs.Letters.{is_blank}
 use Rattle.ff_lang.specs.Grammar.{AreBlanks}
 use Rattle.ff_lang.specs.Reading.{byte_next, end_of}
 use Rattle.ff_lang.specs.declared.graph.Arg.{Arg}
@@ -11,7 +9,6 @@ use Rattle.ff_lang.specs.declared.graph.Chain.{Chain}
 use Rattle.ff_lang.specs.declared.graph.Graph.{Graph}
 use Rattle.ff_lang.specs.declared.parser.Parser.{Parser}
 use Rattle.ff_lang.specs.declared.parser.Place.{Place}
-use Rattle.ff_lang.specs.declared.parser.Place.TheVariants.{Front, InLabel, Name, Named, Key, Value, Quoted, Escaped, OutLabel, Back}
 
 abbrev pub and_reads : Option Parser → (Parser → Option Graph) → Option Graph
 and_reads None f = None

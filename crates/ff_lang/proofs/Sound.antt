@@ -1,10 +1,9 @@
 -- Reading on by a byte keeps to what may follow, so what is read is in the grammar.
-use Rattle.std.proofs.Common.{◌≡◌, ◌≢◌, ℕ, ◌+◌, ◌<◌, ◌≤◌, ◌⊎◌, inl, inr, Bool, true, false, ◌&&◌, cond, Option, Some, None, nat_lt, List, [], ◌∷◌, ◌++◌, length, refl, sym, ap, subst, ◌∙◌, append_assoc, length-append, arith}
+use Rattle.std.proofs.Common.{◌≡◌, ℕ, ◌<◌, Bool, true, false, ◌&&◌, cond, Option, Some, None, nat_lt, List, [], ◌∷◌, ◌++◌, length, refl, sym, ap, subst, ◌∙◌, append_assoc, length-append, arith}
 use Rattle.std.specs.Prelude.{◌==◌}
 use Rattle.std.proofs.lemmas.List.{append-nil}
-use Rattle.std.specs.List.{AllByRecursion}
 use Rattle.ff_lang.specs.Letters.{is_word_byte, is_label_byte, is_blank, is_special}
-use Rattle.ff_lang.specs.Reading.{byte_next, end_of, empty_arg, empty_filter, empty_chain, before, with_filter, with_chain}
+use Rattle.ff_lang.specs.Reading.{byte_next, empty_arg, empty_filter, empty_chain, with_filter, with_chain}
 use Rattle.ff_lang.specs.declared.graph.Arg.{Arg}
 use Rattle.ff_lang.specs.declared.graph.Filter.{Filter}
 use Rattle.ff_lang.specs.declared.graph.Chain.{Chain}
@@ -12,12 +11,12 @@ use Rattle.ff_lang.specs.declared.graph.Graph.{Graph}
 use Rattle.ff_lang.specs.declared.parser.Parser.{Parser}
 use Rattle.ff_lang.specs.declared.parser.Place.{Place}
 use Rattle.ff_lang.specs.declared.parser.Place.TheVariants.{Front, InLabel, Name, Named, Key, Value, Quoted, Escaped, OutLabel, Back}
-use Rattle.ff_lang.specs.Grammar.{AreLabels, IsLabel, IsWord, HasKey, AreLed, IsSeries, IsFilter, IsChain, IsGraph}
-use Rattle.ff_lang.specs.Reading.{start, place_next, place_end, tail_next, named_next, value_next, special_next}
-use Rattle.ff_lang.proofs.Bytes.{eq_out, eq_differs, both_out, lt_out, both_true, lt_true}
+use Rattle.ff_lang.specs.Grammar.{AreLed, IsFilter, IsChain, IsGraph}
+use Rattle.ff_lang.specs.Reading.{start, place_next, place_end, tail_next, value_next}
+use Rattle.ff_lang.proofs.Bytes.{eq_out, eq_differs, both_out, lt_out}
 use Rattle.ff_lang.proofs.Runs.{and_reads, reads, at}
 use Rattle.ff_lang.proofs.Values.{all_snoc}
-use Rattle.ff_lang.proofs.Rests.{Rest, OutsRest, OutLabelRest, HeadRest, NameRest, FrontRest, InLabelRest, ValueRest, KeyRest, KeyFits, QuotedRest, EscapedRest}
+use Rattle.ff_lang.proofs.Rests.{Rest, OutLabelRest, HeadRest, NameRest, FrontRest, ValueRest, KeyFits}
 use Rattle.ff_lang.proofs.Rests.{outs_end, outs_blank, outs_open, out_label_more, out_label_close, head_of_outs, head_blank, head_equals, name_of_head, name_more, front_word, front_blank, front_open, in_label_more, in_label_close}
 use Rattle.ff_lang.proofs.ArgRests.{value_end, value_open, value_colon, value_plain, value_escape, value_quote, quoted_more, quoted_close, escaped_byte, key_more, key_equals, key_value, no_key_end, no_key_byte}
 

@@ -1,18 +1,11 @@
 -- Each graph that a text stands for has sound names and no empty chain.
-use Rattle.std.proofs.Common.{◌≡◌, ◌≢◌, ℕ, ◌+◌, ◌<◌, ◌≤◌, ◌⊎◌, inl, inr, Bool, true, false, ◌&&◌, cond, Option, Some, None, nat_lt, List, [], ◌∷◌, ◌++◌, length, refl, sym, ap, subst, ◌∙◌, append_assoc, length-append, arith}
-use Rattle.std.specs.Prelude.{◌==◌}
-use Rattle.std.proofs.lemmas.List.{append-nil}
+use Rattle.std.proofs.Common.{ℕ, ◌<◌, Option, Some, None, List, [], ◌∷◌, length, arith}
 use Rattle.std.specs.List.{AllByRecursion}
-use Rattle.ff_lang.specs.Letters.{is_word_byte, is_label_byte, is_blank, is_special}
-use Rattle.ff_lang.specs.Reading.{byte_next, end_of, empty_arg, empty_filter, empty_chain, before, with_filter, with_chain}
 use Rattle.ff_lang.specs.declared.graph.Arg.{Arg}
 use Rattle.ff_lang.specs.declared.graph.Filter.{Filter}
 use Rattle.ff_lang.specs.declared.graph.Chain.{Chain}
 use Rattle.ff_lang.specs.declared.graph.Graph.{Graph}
-use Rattle.ff_lang.specs.declared.parser.Parser.{Parser}
-use Rattle.ff_lang.specs.declared.parser.Place.{Place}
-use Rattle.ff_lang.specs.declared.parser.Place.TheVariants.{Front, InLabel, Name, Named, Key, Value, Quoted, Escaped, OutLabel, Back}
-use Rattle.ff_lang.specs.Grammar.{AreLabels, IsLabel, IsWord, IsKeyed, IsArg, AreLed, IsSeries, AreArgs, IsFilter, IsChain, IsGraph}
+use Rattle.ff_lang.specs.Grammar.{AreLabels, IsLabel, IsKeyed, IsArg, AreLed, IsSeries, AreArgs, IsFilter, IsChain, IsGraph}
 use Rattle.ff_lang.specs.Printing.{IsSoundKey, IsSoundFilter, IsSoundChain, IsSound}
 
 labels_sound : (labels : List (List ℕ)) (text : List ℕ) → AreLabels text labels → AllByRecursion IsLabel labels
@@ -27,9 +20,9 @@ led_sound : {X : Type 0} (Is : List ℕ → X → Type 0) (P : X → Type 0) (se
 led_sound Is P separator sound [] text h = tt
 led_sound Is P separator sound (x ∷ xs) text h = (sound h.0 x h.3, led_sound Is P separator sound xs h.1 h.4)
 
-series_sound : {X : Type 0} (Is : List ℕ → X → Type 0) (P : X → Type 0) (separator : ℕ) → ((text : List ℕ) (x : X) → Is text x → P x) → (xs : List X) (text : List ℕ) → IsSeries Is separator text xs → (xs ≢ []) × AllByRecursion P xs
+series_sound : {X : Type 0} (Is : List ℕ → X → Type 0) (P : X → Type 0) (separator : ℕ) → ((text : List ℕ) (x : X) → Is text x → P x) → (xs : List X) (text : List ℕ) → IsSeries Is separator text xs → (0 < length xs) × AllByRecursion P xs
 series_sound Is P separator sound [] text h = absurd h
-series_sound Is P separator sound (x ∷ xs) text h = (λ e. cc, (sound h.0 x h.3, led_sound Is P separator sound xs h.1 h.4))
+series_sound Is P separator sound (x ∷ xs) text h = (omega arith, (sound h.0 x h.3, led_sound Is P separator sound xs h.1 h.4))
 
 arg_sound : (text : List ℕ) (arg : Arg) → IsArg text arg → IsSoundKey arg.key
 arg_sound text arg h = key_sound arg.key text arg.value h
@@ -42,7 +35,7 @@ filter_sound : (text : List ℕ) (f : Filter) → IsFilter text f → IsSoundFil
 filter_sound text f h = record { ins = labels_sound f.ins h.front h.ins_are; name = h.name_is; args = args_sound f.args h.middle h.args_are; outs = labels_sound f.outs h.back h.outs_are }
 
 chain_sound : (text : List ℕ) (c : Chain) → IsChain text c → IsSoundChain c
-chain_sound text c h = let s : (c.filters ≢ []) × AllByRecursion IsSoundFilter c.filters = series_sound IsFilter IsSoundFilter 44 filter_sound c.filters text h in record { some = s.0; each = s.1 }
+chain_sound text c h = let s : (0 < length c.filters) × AllByRecursion IsSoundFilter c.filters = series_sound IsFilter IsSoundFilter 44 filter_sound c.filters text h in record { some = s.0; each = s.1 }
 
 pub graph_sound : (text : List ℕ) (g : Graph) → IsGraph text g → IsSound g
-graph_sound text g h = let s : (g.chains ≢ []) × AllByRecursion IsSoundChain g.chains = series_sound IsChain IsSoundChain 59 chain_sound g.chains text h in record { some = s.0; each = s.1 }
+graph_sound text g h = let s : (0 < length g.chains) × AllByRecursion IsSoundChain g.chains = series_sound IsChain IsSoundChain 59 chain_sound g.chains text h in record { some = s.0; each = s.1 }

@@ -1,21 +1,21 @@
 -- A value is read as it stands for, with a key or without.
-use Rattle.std.proofs.Common.{◌≡◌, ◌≢◌, ℕ, ◌+◌, ◌<◌, ◌≤◌, ◌⊎◌, inl, inr, Bool, true, false, ◌&&◌, cond, Option, Some, None, nat_lt, List, [], ◌∷◌, ◌++◌, length, refl, sym, ap, subst, ◌∙◌, append_assoc, length-append, arith}
+use Rattle.std.proofs.Common.{◌≡◌, ◌≢◌, ℕ, ◌+◌, ◌≤◌, true, false, ◌&&◌, Option, Some, None, nat_lt, List, [], ◌∷◌, ◌++◌, length, refl, sym, ap, subst, ◌∙◌, append_assoc, length-append, arith}
 use Rattle.std.specs.Prelude.{◌==◌}
 use Rattle.std.proofs.lemmas.List.{append-nil}
 use Rattle.std.specs.List.{AllByRecursion}
-use Rattle.ff_lang.specs.Letters.{is_word_byte, is_label_byte, is_blank, is_special}
-use Rattle.ff_lang.specs.Reading.{byte_next, end_of, empty_arg, empty_filter, empty_chain, before, with_filter, with_chain}
+use Rattle.ff_lang.specs.Letters.{is_word_byte, is_special}
+use Rattle.ff_lang.specs.Reading.{empty_arg}
 use Rattle.ff_lang.specs.declared.graph.Arg.{Arg}
 use Rattle.ff_lang.specs.declared.graph.Filter.{Filter}
 use Rattle.ff_lang.specs.declared.graph.Chain.{Chain}
 use Rattle.ff_lang.specs.declared.graph.Graph.{Graph}
 use Rattle.ff_lang.specs.declared.parser.Parser.{Parser}
 use Rattle.ff_lang.specs.declared.parser.Place.{Place}
-use Rattle.ff_lang.specs.declared.parser.Place.TheVariants.{Front, InLabel, Name, Named, Key, Value, Quoted, Escaped, OutLabel, Back}
-use Rattle.ff_lang.specs.Grammar.{IsValue, HasKey, IsWord, IsKeyed, IsArg}
+use Rattle.ff_lang.specs.declared.parser.Place.TheVariants.{Key, Value, Quoted, Escaped}
+use Rattle.ff_lang.specs.Grammar.{IsValue, HasKey, IsKeyed, IsArg}
 use Rattle.ff_lang.specs.Grammar.IsValue.{ends, itself, escaped, quoted}
-use Rattle.ff_lang.proofs.Bytes.{word_61, word_39, word_92, special_39, special_92, special_61, both_true, lt_true, lt_out, eq_out, eq_false, special_word, special_not_61, both_out}
-use Rattle.ff_lang.proofs.Runs.{and_reads, reads, reads_byte, at}
+use Rattle.ff_lang.proofs.Bytes.{word_61, special_39, special_92, both_true, lt_true, lt_out, eq_out, eq_false, special_word, special_not_61, both_out}
+use Rattle.ff_lang.proofs.Runs.{reads, reads_byte, at}
 
 -- in an argument, with a key and a value so far
 abbrev pub arg_at : Place → Graph → Chain → Filter → Option (List ℕ) → List ℕ → Parser

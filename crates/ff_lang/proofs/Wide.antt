@@ -1,10 +1,8 @@
 -- A character of several bytes is read as its bytes are.
-use Rattle.std.proofs.Common.{◌≡◌, ◌≢◌, ℕ, ◌+◌, ◌<◌, ◌≤◌, ◌/◌, ◌%◌, ◌⊎◌, inl, inr, Bool, true, false, ◌&&◌, cond, Option, Some, None, nat_lt, List, [], ◌∷◌, ◌++◌, length, refl, sym, ap, subst, ◌∙◌, append_assoc, length-append, arith}
-use Rattle.std.specs.Prelude.{◌==◌}
+use Rattle.std.proofs.Common.{◌≡◌, ℕ, ◌+◌, ◌≤◌, ◌/◌, ◌%◌, inl, inr, Bool, true, false, cond, Some, None, nat_lt, List, [], ◌∷◌, ◌++◌, refl, sym, ap, subst, ◌∙◌, append_assoc, arith}
 use Rattle.std.proofs.lemmas.List.{append-nil}
 use Rattle.std.specs.List.{AllByRecursion}
-use Rattle.ff_lang.specs.Letters.{is_word_byte, is_label_byte, is_blank, is_special}
-use Rattle.ff_lang.specs.Reading.{byte_next, end_of, empty_arg, empty_filter, empty_chain, before, with_filter, with_chain}
+use Rattle.ff_lang.specs.Reading.{byte_next}
 use Rattle.ff_lang.specs.declared.graph.Arg.{Arg}
 use Rattle.ff_lang.specs.declared.graph.Filter.{Filter}
 use Rattle.ff_lang.specs.declared.graph.Chain.{Chain}
@@ -12,18 +10,15 @@ use Rattle.ff_lang.specs.declared.graph.Graph.{Graph}
 use Rattle.ff_lang.specs.declared.parser.Parser.{Parser}
 use Rattle.ff_lang.specs.declared.parser.Place.{Place}
 use Rattle.ff_lang.specs.declared.parser.Place.TheVariants.{Front, InLabel, Name, Named, Key, Value, Quoted, Escaped, OutLabel, Back}
-use Rattle.std.specs.Char.{encode_utf8}
-use Rattle.std.proofs.Common.{ltb, IsUtf8}
 use Rattle.std.proofs.lemmas.Bool.Decides.{nat_tests}
 use Rattle.std.proofs.lemmas.Bool.{cases_lt}
 use Rattle.std.proofs.lemmas.Str.{encode_ascii}
-use Rattle.std.proofs.Math.Utf8.{encode, next}
-use Rattle.ff_lang.specs.Reading.{char_next, place_next, pushed}
+use Rattle.std.proofs.Math.Utf8.{encode}
+use Rattle.ff_lang.specs.Reading.{char_next, place_next}
 use Rattle.ff_lang.proofs.Bytes.{high_word, high_label, high_blank, high_special, high_eq}
 use Rattle.ff_lang.proofs.Runs.{and_run, run, at}
-use Rattle.ff_lang.proofs.Values.{arg_at}
 
-abbrev AreHigh : List ℕ → Type 0
+abbrev pub AreHigh : List ℕ → Type 0
 AreHigh bytes = AllByRecursion (λ b. 128 ≤ b) bytes
 
 above : (k n : ℕ) → 128 ≤ k → 128 ≤ k + n
@@ -36,7 +31,7 @@ high_if false x y p q = q
 not_low : (c : ℕ) → 128 ≤ c → nat_lt c 128 ≡ true → ⊥
 not_low c h e = grind (arith, nat_tests)
 
-are_high : (c : ℕ) → 128 ≤ c → AreHigh (encode c)
+pub are_high : (c : ℕ) → 128 ≤ c → AreHigh (encode c)
 unfolding encode
 are_high c h =
     high_if (nat_lt c 128) _ _ (λ e. absurd (not_low c h e))

@@ -1,5 +1,5 @@
 -- What a byte is in the text of a filtergraph.
-use Rattle.std.specs.Prelude.{ℕ, Bool, ◌||◌, ◌&&◌, nat_le, ◌==◌, not}
+use Rattle.std.specs.Prelude.{ℕ, Bool, ◌||◌, ◌&&◌, nat_le, ◌==◌}
 
 -- a letter, a digit or `_`
 unfoldable pub is_word_byte : ℕ → Bool

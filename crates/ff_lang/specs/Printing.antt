@@ -1,5 +1,5 @@
 -- The text that a graph is printed as, and the graphs that have one.
-use Rattle.std.specs.Prelude.{◌≡◌, ◌≢◌, ℕ, Option, Some, None, List, [], ◌∷◌, ◌++◌, if◌then◌else◌}
+use Rattle.std.specs.Prelude.{ℕ, ◌<◌, Option, Some, None, List, [], ◌∷◌, ◌++◌, length, if◌then◌else◌}
 use Rattle.std.specs.List.{AllByRecursion}
 use Rattle.ff_lang.specs.Letters.{is_escaped}
 use Rattle.ff_lang.specs.Grammar.{IsWord, IsLabel}
@@ -60,10 +60,10 @@ pub record IsSoundFilter (filter : Filter) : Type 0 where
   pub outs : AllByRecursion IsLabel filter.outs
 
 pub record IsSoundChain (chain : Chain) : Type 0 where
-  pub some : chain.filters ≢ []
+  pub some : 0 < length chain.filters
   pub each : AllByRecursion IsSoundFilter chain.filters
 
 -- each name, key and label is one, no chain is empty, and there is a chain
 pub record IsSound (graph : Graph) : Type 0 where
-  pub some : graph.chains ≢ []
+  pub some : 0 < length graph.chains
   pub each : AllByRecursion IsSoundChain graph.chains

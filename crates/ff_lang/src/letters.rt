@@ -2,6 +2,9 @@
 ghost use Rattle.std.specs.Prelude.{◌≡◌};
 ghost use Rattle.ff_lang.specs.Letters.{is_word_byte, is_label_byte, is_blank as is_blank_byte, is_special as is_special_byte, is_escaped as is_escaped_byte};
 
+// How many letters a name, a key or a label has at most.
+pub(super) const LONGEST: usize = 64;
+
 #[tactic(auto, unfolding(crate::specs::Letters::is_word_byte))]
 pub(super) fn is_word(c: char) -> bool
     ensures { result ≡ is_word_byte c }

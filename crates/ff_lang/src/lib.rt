@@ -10,12 +10,16 @@ mod graph;
 mod letters;
 mod lists;
 mod parser;
+mod print;
 mod read;
+mod soundness;
 
 pub use error::LangError;
 pub use graph::{Arg, Chain, Filter, Graph};
 pub use lists::{Sequence, Text};
+pub use print::print_graph;
 pub use read::read_graph;
+pub use soundness::graph_ok;
 
 #[cfg(test)]
 mod tests;

@@ -3,12 +3,10 @@ ghost use Rattle.std.specs.Prelude.{◌≡◌, IfOk, OnOk, encode_utf8};
 ghost use Rattle.ff_lang.specs.Reading.{Goes, start, ended, bracket, next_filter, next_chain, tail_next, front_next, in_label_next, name_next, named_next, special_next, value_next, key_next, quoted_next, out_label_next, back_next, char_next, end_of, pushed};
 
 use crate::graph::{Arg, Chain, Filter, Graph};
-use crate::letters::{is_blank, is_label, is_special, is_word};
+use crate::letters::{LONGEST, is_blank, is_label, is_special, is_word};
 use crate::lists::{Sequence, Text};
 use std::alloc::{AllocError, Global};
 use std::mem;
-
-const LONGEST: usize = 64;
 
 /// Where in a filter the next character stands.
 #[derive(Clone, Copy)]
