@@ -10,11 +10,13 @@ mod chunk;
 mod cut;
 mod head;
 mod header;
+mod laws;
 mod put;
 mod walk;
 
 pub use cut::WavCut;
 pub use head::WavHead;
+pub use laws::what_is_written_is_read_again;
 pub use put::{TooLarge, WavPut};
 pub use walk::{WavWalk, read_head};
 
