@@ -21,4 +21,6 @@ pub use put::{TooLarge, WavPut};
 pub use walk::{WavWalk, read_head};
 
 #[cfg(test)]
+mod put_tests;
+#[cfg(test)]
 mod tests;
