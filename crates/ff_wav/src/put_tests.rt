@@ -79,30 +79,126 @@ fn written(
 // The size of the file less 8, the `fmt ` chunk behind its id, and the size of the body.
 #[test]
 fn header_bytes(rt: HostRuntime) -> Result<(), Fail> {
-    written(&rt, Codec::PcmU8, 1, b"\x28\0\0\0", b"\x10\0\0\0\x01\0\x01\0\x44\xac\0\0\x44\xac\0\0\x01\0\x08\0", b"\x03\0\0\0")?;
-    written(&rt, Codec::PcmU8, 2, b"\x2a\0\0\0", b"\x10\0\0\0\x01\0\x02\0\x44\xac\0\0\x88\x58\x01\0\x02\0\x08\0", b"\x06\0\0\0")?;
-    written(&rt, Codec::PcmU8, 6, b"\x4e\0\0\0", b"\x28\0\0\0\xfe\xff\x06\0\x44\xac\0\0\x98\x09\x04\0\x06\0\x08\0\x16\0\x08\0\0\0\0\0", b"\x12\0\0\0")?;
-    written(&rt, Codec::PcmS16le, 1, b"\x2a\0\0\0", b"\x10\0\0\0\x01\0\x01\0\x44\xac\0\0\x88\x58\x01\0\x02\0\x10\0", b"\x06\0\0\0")?;
-    written(&rt, Codec::PcmS16le, 2, b"\x30\0\0\0", b"\x10\0\0\0\x01\0\x02\0\x44\xac\0\0\x10\xb1\x02\0\x04\0\x10\0", b"\x0c\0\0\0")?;
-    written(&rt, Codec::PcmS16le, 6, b"\x60\0\0\0", b"\x28\0\0\0\xfe\xff\x06\0\x44\xac\0\0\x30\x13\x08\0\x0c\0\x10\0\x16\0\x10\0\0\0\0\0", b"\x24\0\0\0")?;
-    written(&rt, Codec::PcmS24le, 1, b"\x46\0\0\0", b"\x28\0\0\0\xfe\xff\x01\0\x44\xac\0\0\xcc\x04\x02\0\x03\0\x18\0\x16\0\x18\0\x04\0\0\0", b"\x09\0\0\0")?;
-    written(&rt, Codec::PcmS24le, 2, b"\x4e\0\0\0", b"\x28\0\0\0\xfe\xff\x02\0\x44\xac\0\0\x98\x09\x04\0\x06\0\x18\0\x16\0\x18\0\x03\0\0\0", b"\x12\0\0\0")?;
-    written(&rt, Codec::PcmS24le, 6, b"\x72\0\0\0", b"\x28\0\0\0\xfe\xff\x06\0\x44\xac\0\0\xc8\x1c\x0c\0\x12\0\x18\0\x16\0\x18\0\0\0\0\0", b"\x36\0\0\0")?;
-    written(&rt, Codec::PcmS32le, 1, b"\x48\0\0\0", b"\x28\0\0\0\xfe\xff\x01\0\x44\xac\0\0\x10\xb1\x02\0\x04\0\x20\0\x16\0\x20\0\x04\0\0\0", b"\x0c\0\0\0")?;
-    written(&rt, Codec::PcmS32le, 2, b"\x54\0\0\0", b"\x28\0\0\0\xfe\xff\x02\0\x44\xac\0\0\x20\x62\x05\0\x08\0\x20\0\x16\0\x20\0\x03\0\0\0", b"\x18\0\0\0")?;
-    written(&rt, Codec::PcmS32le, 6, b"\x84\0\0\0", b"\x28\0\0\0\xfe\xff\x06\0\x44\xac\0\0\x60\x26\x10\0\x18\0\x20\0\x16\0\x20\0\0\0\0\0", b"\x48\0\0\0")?;
+    written(
+        &rt,
+        Codec::PcmU8,
+        1,
+        b"\x28\0\0\0",
+        b"\x10\0\0\0\x01\0\x01\0\x44\xac\0\0\x44\xac\0\0\x01\0\x08\0",
+        b"\x03\0\0\0",
+    )?;
+    written(
+        &rt,
+        Codec::PcmU8,
+        2,
+        b"\x2a\0\0\0",
+        b"\x10\0\0\0\x01\0\x02\0\x44\xac\0\0\x88\x58\x01\0\x02\0\x08\0",
+        b"\x06\0\0\0",
+    )?;
+    written(
+        &rt,
+        Codec::PcmU8,
+        6,
+        b"\x4e\0\0\0",
+        b"\x28\0\0\0\xfe\xff\x06\0\x44\xac\0\0\x98\x09\x04\0\x06\0\x08\0\x16\0\x08\0\0\0\0\0",
+        b"\x12\0\0\0",
+    )?;
+    written(
+        &rt,
+        Codec::PcmS16le,
+        1,
+        b"\x2a\0\0\0",
+        b"\x10\0\0\0\x01\0\x01\0\x44\xac\0\0\x88\x58\x01\0\x02\0\x10\0",
+        b"\x06\0\0\0",
+    )?;
+    written(
+        &rt,
+        Codec::PcmS16le,
+        2,
+        b"\x30\0\0\0",
+        b"\x10\0\0\0\x01\0\x02\0\x44\xac\0\0\x10\xb1\x02\0\x04\0\x10\0",
+        b"\x0c\0\0\0",
+    )?;
+    written(
+        &rt,
+        Codec::PcmS16le,
+        6,
+        b"\x60\0\0\0",
+        b"\x28\0\0\0\xfe\xff\x06\0\x44\xac\0\0\x30\x13\x08\0\x0c\0\x10\0\x16\0\x10\0\0\0\0\0",
+        b"\x24\0\0\0",
+    )?;
+    written(
+        &rt,
+        Codec::PcmS24le,
+        1,
+        b"\x46\0\0\0",
+        b"\x28\0\0\0\xfe\xff\x01\0\x44\xac\0\0\xcc\x04\x02\0\x03\0\x18\0\x16\0\x18\0\x04\0\0\0",
+        b"\x09\0\0\0",
+    )?;
+    written(
+        &rt,
+        Codec::PcmS24le,
+        2,
+        b"\x4e\0\0\0",
+        b"\x28\0\0\0\xfe\xff\x02\0\x44\xac\0\0\x98\x09\x04\0\x06\0\x18\0\x16\0\x18\0\x03\0\0\0",
+        b"\x12\0\0\0",
+    )?;
+    written(
+        &rt,
+        Codec::PcmS24le,
+        6,
+        b"\x72\0\0\0",
+        b"\x28\0\0\0\xfe\xff\x06\0\x44\xac\0\0\xc8\x1c\x0c\0\x12\0\x18\0\x16\0\x18\0\0\0\0\0",
+        b"\x36\0\0\0",
+    )?;
+    written(
+        &rt,
+        Codec::PcmS32le,
+        1,
+        b"\x48\0\0\0",
+        b"\x28\0\0\0\xfe\xff\x01\0\x44\xac\0\0\x10\xb1\x02\0\x04\0\x20\0\x16\0\x20\0\x04\0\0\0",
+        b"\x0c\0\0\0",
+    )?;
+    written(
+        &rt,
+        Codec::PcmS32le,
+        2,
+        b"\x54\0\0\0",
+        b"\x28\0\0\0\xfe\xff\x02\0\x44\xac\0\0\x20\x62\x05\0\x08\0\x20\0\x16\0\x20\0\x03\0\0\0",
+        b"\x18\0\0\0",
+    )?;
+    written(
+        &rt,
+        Codec::PcmS32le,
+        6,
+        b"\x84\0\0\0",
+        b"\x28\0\0\0\xfe\xff\x06\0\x44\xac\0\0\x60\x26\x10\0\x18\0\x20\0\x16\0\x20\0\0\0\0\0",
+        b"\x48\0\0\0",
+    )?;
     Ok(())
 }
 
 // Whether so many bytes and then so many more are taken, and how long the body is by the header then written.
-fn counted(alloc: Global, head: &StreamHead, one: u64, more: u64) -> Result<(bool, bool, Vec<u8>), Fail> {
+fn counted(
+    alloc: Global,
+    head: &StreamHead,
+    one: u64,
+    more: u64,
+) -> Result<(bool, bool, Vec<u8>), Fail> {
     let mut put = WavPut::new(alloc, head);
     let first = put.add(one) == Ok(());
     let second = put.add(more) == Ok(());
     Ok((first, second, put.last()?))
 }
 
-fn limited(rt: &(impl Abort + AllocGlobal), one: u64, more: u64, taken: (bool, bool), riff: &[u8], data: &[u8]) -> Result<(), Fail> {
+fn limited(
+    rt: &(impl Abort + AllocGlobal),
+    one: u64,
+    more: u64,
+    taken: (bool, bool),
+    riff: &[u8],
+    data: &[u8],
+) -> Result<(), Fail> {
     let head = sound(Codec::PcmU8, 1)?;
     let (first, second, header) = counted(rt.alloc(), &head, one, more)?;
     assert_eq!(rt; (first, second), taken);
@@ -115,8 +211,36 @@ fn limited(rt: &(impl Abort + AllocGlobal), one: u64, more: u64, taken: (bool, b
 // The longest body has 4,294,967,200 bytes; one that is refused counts nothing.
 #[test]
 fn limit(rt: HostRuntime) -> Result<(), Fail> {
-    limited(&rt, 4294967200, 0, (true, true), b"\xc4\xff\xff\xff", b"\xa0\xff\xff\xff")?;
-    limited(&rt, 4294967200, 1, (true, false), b"\xc4\xff\xff\xff", b"\xa0\xff\xff\xff")?;
-    limited(&rt, 4294967199, 1, (true, true), b"\xc4\xff\xff\xff", b"\xa0\xff\xff\xff")?;
-    limited(&rt, 4294967201, 4294967199, (false, true), b"\xc4\xff\xff\xff", b"\x9f\xff\xff\xff")
+    limited(
+        &rt,
+        4294967200,
+        0,
+        (true, true),
+        b"\xc4\xff\xff\xff",
+        b"\xa0\xff\xff\xff",
+    )?;
+    limited(
+        &rt,
+        4294967200,
+        1,
+        (true, false),
+        b"\xc4\xff\xff\xff",
+        b"\xa0\xff\xff\xff",
+    )?;
+    limited(
+        &rt,
+        4294967199,
+        1,
+        (true, true),
+        b"\xc4\xff\xff\xff",
+        b"\xa0\xff\xff\xff",
+    )?;
+    limited(
+        &rt,
+        4294967201,
+        4294967199,
+        (false, true),
+        b"\xc4\xff\xff\xff",
+        b"\x9f\xff\xff\xff",
+    )
 }
