@@ -1,8 +1,7 @@
 // Headers written out by hand from the RIFF WAVE layout: of 3 sample frames at 44,100 a second.
-ghost use Rattle.std.specs.Prelude.{◌≤◌};
 ghost use Rattle.ff_frame.specs.declared.head.StreamHead.{StreamHead};
 
-use super::{TooLarge, WavPut};
+use super::WavPut;
 use ff_frame::{Codec, StreamHead};
 use ff_time::Rational;
 use std::alloc::Global;
