@@ -112,14 +112,18 @@ fn chunks(alloc: Global, order: &[u8]) -> Result<Vec<u8>, Fail> {
     Ok(bytes)
 }
 
+fn start_of(bytes: &[u8]) -> Result<u64, HeadEnd> {
+    let (_, _, _, start, _) = told(bytes, true)?;
+    Ok(start)
+}
+
 fn ordered(
     rt: &(impl Abort + AllocGlobal),
     order: &[u8],
     start: Result<u64, HeadEnd>,
 ) -> Result<(), Fail> {
     let bytes = chunks(rt.alloc(), order)?;
-    let head = read_head(bytes.as_slice(), true);
-    assert_eq!(rt; head.map(|head| head.start), start);
+    assert_eq!(rt; start_of(bytes.as_slice()), start);
     Ok(())
 }
 
@@ -199,6 +203,24 @@ fn pieces(rt: HostRuntime) -> Result<(), Fail> {
         assert_eq!(rt; packet.pos, 44);
         assert_eq!(rt; packet.bytes.as_slice(), b"abcde".as_slice());
         assert!(rt; last);
+    }
+    Ok(())
+}
+
+// A body that ends early gives what is there of it.
+#[test]
+fn short_bodies(rt: HostRuntime) -> Result<(), Fail> {
+    for n in 44..50 {
+        assert_eq!(rt;
+            told(&PLAIN[..n], true),
+            Ok((1, 8, Codec::PcmU8, 44, Some(5)))
+        );
+        let (first, _) = first_packet(rt.alloc(), &PLAIN[..n], 2)?;
+        let count = match packet_of(first) {
+            Some(packet) => packet.bytes.as_slice().len(),
+            None => 0,
+        };
+        assert_eq!(rt; count, n - 44);
     }
     Ok(())
 }
