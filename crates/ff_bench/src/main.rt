@@ -2,7 +2,9 @@
 #![tactic(auto)]
 
 mod bits;
+mod heads;
 mod links;
+mod pcm;
 
 use std::{env, io};
 
@@ -11,7 +13,9 @@ fn main(rt: HostRuntime) -> io::Result<()> {
     let _program = words.next();
     match words.next() {
         Some(word) if word.as_str() == "bits" => bits::measure(&rt),
+        Some(word) if word.as_str() == "heads" => heads::measure(&rt),
         Some(word) if word.as_str() == "links" => links::measure(&rt, rt.alloc()),
-        _ => println!(rt; "usage: ff_bench bits|links"),
+        Some(word) if word.as_str() == "pcm" => pcm::measure(&rt),
+        _ => println!(rt; "usage: ff_bench bits|heads|links|pcm"),
     }
 }

@@ -49,7 +49,7 @@ unreached_is (Some l) fed used waiting usable reached none some w f r = let le :
 
 -- ---- packets
 
-piece : (u p : ℕ) (xs ys : List ℕ) → take (p + u) xs ≡ take (p + u) ys → take u (drop p xs) ≡ take u (drop p ys)
+pub piece : (u p : ℕ) (xs ys : List ℕ) → take (p + u) xs ≡ take (p + u) ys → take u (drop p xs) ≡ take u (drop p ys)
 piece u p xs ys e = sym (drop-take p u xs) ∙ (ap (drop p) e ∙ drop-take p u ys)
 
 -- a piece of the body is that piece of what was fed
@@ -64,7 +64,7 @@ body_piece_append len fed more u p le =
 abbrev pub made : ℕ → ℕ → ℕ → ℕ → List ℕ → Pkt
 made start block first count bytes = packet_from (pos first) (pos count) (start + first * block) bytes
 
-packet_is : (start block : ℕ) (xs : List ℕ) (first count : ℕ) → min 1024 (frames block xs - first) ≡ count → packet_at start block xs first ≡ made start block first count (take (count * block) (drop (first * block) xs))
+pub packet_is : (start block : ℕ) (xs : List ℕ) (first count : ℕ) → min 1024 (frames block xs - first) ≡ count → packet_at start block xs first ≡ made start block first count (take (count * block) (drop (first * block) xs))
 unfolding packet_at
 packet_is start block xs first count e = ap (λ c. made start block first c (take (c * block) (drop (first * block) xs))) e
 

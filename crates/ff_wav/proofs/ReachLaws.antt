@@ -28,10 +28,10 @@ walk_chunk f at (b ∷ bs) s e r h w = ap (λ x. stepped x at bs) e ∙ h b bs r
 walk_wait : (f : Option StreamHead) (at : ℕ) (bs : List ℕ) → chunk f at bs ≡ Wait → walk 0 f at bs ≡ None
 walk_wait f at bs e = walk_chunk f at bs Wait e None (λ b rest i. refl) (λ i. refl)
 
-walk_decide : (f : Option StreamHead) (at : ℕ) (bs : List ℕ) (found : Found) → chunk f at bs ≡ Decide found → walk 0 f at bs ≡ Some found
+pub walk_decide : (f : Option StreamHead) (at : ℕ) (bs : List ℕ) (found : Found) → chunk f at bs ≡ Decide found → walk 0 f at bs ≡ Some found
 walk_decide f at bs found e = walk_chunk f at bs (Decide found) e (Some found) (λ b rest i. refl) (λ i. cc)
 
-walk_skip : (f next : Option StreamHead) (at size : ℕ) (bs : List ℕ) → chunk f at bs ≡ Skip size next → walk 0 f at bs ≡ walk 0 next (at + 8 + size + size % 2) (drop (8 + size + size % 2) bs)
+pub walk_skip : (f next : Option StreamHead) (at size : ℕ) (bs : List ℕ) → chunk f at bs ≡ Skip size next → walk 0 f at bs ≡ walk 0 next (at + 8 + size + size % 2) (drop (8 + size + size % 2) bs)
 walk_skip f next at size bs e = walk_chunk f at bs (Skip size next) e (walk 0 next (at + 8 + size + size % 2) (drop (8 + size + size % 2) bs))
     (λ b rest i. let n : at + 1 + (7 + size + size % 2) ≡ at + 8 + size + size % 2 = omega arith in
     let k : 8 + size + size % 2 ≡ suc (7 + size + size % 2) = omega arith in

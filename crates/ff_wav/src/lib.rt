@@ -10,13 +10,17 @@ mod chunk;
 mod cut;
 mod head;
 mod header;
+mod laws;
 mod put;
 mod walk;
 
 pub use cut::WavCut;
 pub use head::WavHead;
+pub use laws::what_is_written_is_read_again;
 pub use put::{TooLarge, WavPut};
 pub use walk::{WavWalk, read_head};
 
+#[cfg(test)]
+mod put_tests;
 #[cfg(test)]
 mod tests;

@@ -96,6 +96,82 @@ fn faults(rt: HostRuntime) {
     assert_eq!(rt; told(&other, false), Err(HeadEnd::Damaged { offset: 24 }));
 }
 
+// So many bytes of chunks behind the first twelve: `F` a `fmt ` of 24 bytes, `S` a second one of 10 that isn't read,
+// `L` a `LIST` of 12 with its pad byte, `T` a `fact` of 12, `D` the body of 13.
+fn chunks(alloc: Global, order: &[u8]) -> Result<Vec<u8>, Fail> {
+    let mut bytes = Vec::new(alloc);
+    bytes.extend_from_slice(b"RIFF\0\0\0\0WAVE")?;
+    for name in order {
+        match *name {
+            b'F' => bytes.extend_from_slice(&PLAIN[12..36])?,
+            b'S' => bytes.extend_from_slice(b"fmt \x02\0\0\0\x09\x09")?,
+            b'L' => bytes.extend_from_slice(b"LIST\x03\0\0\0abc\0")?,
+            b'T' => bytes.extend_from_slice(b"fact\x04\0\0\0\x05\0\0\0")?,
+            _ => bytes.extend_from_slice(&PLAIN[36..])?,
+        }
+    }
+    Ok(bytes)
+}
+
+fn start_of(bytes: &[u8]) -> Result<u64, HeadEnd> {
+    let (_, _, _, start, _) = told(bytes, true)?;
+    Ok(start)
+}
+
+fn ordered(
+    rt: &(impl Abort + AllocGlobal),
+    order: &[u8],
+    start: Result<u64, HeadEnd>,
+) -> Result<(), Fail> {
+    let bytes = chunks(rt.alloc(), order)?;
+    assert_eq!(rt; start_of(bytes.as_slice()), start);
+    Ok(())
+}
+
+fn damaged(offset: u64) -> Result<u64, HeadEnd> {
+    Err(HeadEnd::Damaged { offset })
+}
+
+// Every order of four chunks; then more of one kind, and none.
+#[test]
+fn orders(rt: HostRuntime) -> Result<(), Fail> {
+    ordered(&rt, b"FLTD", Ok(68))?;
+    ordered(&rt, b"FTLD", Ok(68))?;
+    ordered(&rt, b"FLDT", Ok(56))?;
+    ordered(&rt, b"FTDL", Ok(56))?;
+    ordered(&rt, b"FDLT", Ok(44))?;
+    ordered(&rt, b"FDTL", Ok(44))?;
+    ordered(&rt, b"LFTD", Ok(68))?;
+    ordered(&rt, b"LTFD", Ok(68))?;
+    ordered(&rt, b"LFDT", Ok(56))?;
+    ordered(&rt, b"LTDF", damaged(36))?;
+    ordered(&rt, b"LDFT", damaged(24))?;
+    ordered(&rt, b"LDTF", damaged(24))?;
+    ordered(&rt, b"TFLD", Ok(68))?;
+    ordered(&rt, b"TLFD", Ok(68))?;
+    ordered(&rt, b"TFDL", Ok(56))?;
+    ordered(&rt, b"TLDF", damaged(36))?;
+    ordered(&rt, b"TDFL", damaged(24))?;
+    ordered(&rt, b"TDLF", damaged(24))?;
+    ordered(&rt, b"DFLT", damaged(12))?;
+    ordered(&rt, b"DFTL", damaged(12))?;
+    ordered(&rt, b"DLFT", damaged(12))?;
+    ordered(&rt, b"DLTF", damaged(12))?;
+    ordered(&rt, b"DTFL", damaged(12))?;
+    ordered(&rt, b"DTLF", damaged(12))
+}
+
+#[test]
+fn repeated(rt: HostRuntime) -> Result<(), Fail> {
+    ordered(&rt, b"LLLFD", Ok(80))?;
+    ordered(&rt, b"FSLSD", Ok(76))?;
+    ordered(&rt, b"FFD", Ok(68))?;
+    ordered(&rt, b"SFD", damaged(12))?;
+    ordered(&rt, b"FLT", damaged(60))?;
+    ordered(&rt, b"LL", damaged(36))?;
+    ordered(&rt, b"", damaged(12))
+}
+
 // The first packet of the bytes behind the head, fed in pieces, and whether it was the last.
 fn first_packet(alloc: Global, bytes: &[u8], piece: usize) -> Result<(Cut, bool), Fail>
     requires { 1 ≤ piece }
@@ -128,6 +204,24 @@ fn pieces(rt: HostRuntime) -> Result<(), Fail> {
         assert_eq!(rt; packet.pos, 44);
         assert_eq!(rt; packet.bytes.as_slice(), b"abcde".as_slice());
         assert!(rt; last);
+    }
+    Ok(())
+}
+
+// A body that ends early gives what is there of it.
+#[test]
+fn short_bodies(rt: HostRuntime) -> Result<(), Fail> {
+    for n in 44..50 {
+        assert_eq!(rt;
+            told(&PLAIN[..n], true),
+            Ok((1, 8, Codec::PcmU8, 44, Some(5)))
+        );
+        let (first, _) = first_packet(rt.alloc(), &PLAIN[..n], 2)?;
+        let count = match packet_of(first) {
+            Some(packet) => packet.bytes.as_slice().len(),
+            None => 0,
+        };
+        assert_eq!(rt; count, n - 44);
     }
     Ok(())
 }

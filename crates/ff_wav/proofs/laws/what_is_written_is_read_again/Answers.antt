@@ -1,0 +1,11 @@
+use Rattle.ff_wav.proofs.WrittenLaws.{headers, files, bodies}
+use Rattle.ff_wav.proofs.laws.what_is_written_is_read_again.Goals as goal
+
+pub returns-clause-headers : goal.returns-clause-headers
+returns-clause-headers c = headers
+
+pub returns-clause-files : goal.returns-clause-files
+returns-clause-files c = files
+
+pub returns-clause-bodies : goal.returns-clause-bodies
+returns-clause-bodies c = bodies
