@@ -1,9 +1,8 @@
 -- Zeros below a limit, some of them read.
-use Rattle.std.proofs.Common.{◌≡◌, ℕ, zero, suc, ◌+◌, ◌<◌, ◌≤◌, Bool, true, false, cond, ltb, List, [], ◌∷◌, ◌++◌, length, drop, refl, sym, ap, ◌∙◌, arith, inl, inr}
-use Rattle.std.specs.Prelude.{replicate, Result, Ok, Err}
+use Rattle.std.proofs.Common.{◌≡◌, ℕ, zero, suc, ◌+◌, ◌<◌, ◌≤◌, Bool, true, false, cond, ltb, List, ◌∷◌, ◌++◌, refl, sym, ap, ◌∙◌, arith, inl, inr}
+use Rattle.std.specs.Prelude.{replicate}
 use Rattle.std.proofs.lemmas.Bool.{lt-ltb, le-ltb, ltb-true, cases_lt}
-use Rattle.std.proofs.lemmas.List.{nil_from_length}
-use Rattle.ff_bits.specs.Reading.{Answer, Done, More, Bad, zeros_from, zeros}
+use Rattle.ff_bits.specs.Reading.{Answer, Done, Bad, zeros_from}
 use Rattle.ff_bits.proofs.Sound.{zeros-none}
 
 -- past zeros that keep below the limit
@@ -18,9 +17,9 @@ zeros_past limit z (suc m) rest h =
 pub zeros_over : (limit z m : ℕ) (rest : List Bool) → z ≤ limit → limit ≤ z + m → zeros_from limit z (replicate m false ++ rest) ≡ Bad
 zeros_over limit z zero rest l h = zeros-none limit z rest (le-ltb z limit (omega arith))
 zeros_over limit z (suc m) rest l h = elim (ltb z limit) as (λ b. ltb z limit ≡ b → cond b (zeros_from limit (z + 1) (replicate m false ++ rest)) Bad ≡ Bad) [
-      | true ↦ λ e. zeros_over limit (z + 1) m rest (let k : z < limit = ltb-true z limit e in omega arith) (omega arith)
-      | false ↦ λ e. refl
-    ] refl
+  | true ↦ λ e. zeros_over limit (z + 1) m rest (let k : z < limit = ltb-true z limit e in omega arith) (omega arith)
+  | false ↦ λ e. refl
+] refl
 
 -- past zeros
 pub zeros_moved : (limit z m : ℕ) (now rest : List Bool) (total : Answer ℕ) → z < limit → now ≡ replicate m false ++ rest → zeros_from limit z now ≡ total → zeros_from limit (z + m) rest ≡ total

@@ -1,4 +1,4 @@
-use Rattle.std.proofs.Common.{List, Bool, true, false, ◌∷◌, ◌++◌, ◌<◌, ◌+◌, ◌∙◌, sym, ap, arith, length, length-drop}
+use Rattle.std.proofs.Common.{List, Bool, true, false, ◌∷◌, ◌++◌, ◌∙◌, sym, ap, arith}
 use Rattle.std.specs.Prelude.{replicate}
 use Rattle.std.proofs.lemmas.Bool.{lt-ltb, le-ltb}
 use Rattle.ff_bits.proofs.LimitedZeros.{zeros_moved, zeros_ended, zeros_too_many, zeros_end}
