@@ -5,3 +5,4 @@ pub mod Whole
 pub mod FieldLemmas
 pub mod ResidualLemmas
 pub mod Seals
+pub mod LawLemmas

@@ -9,6 +9,7 @@ mod end;
 mod field;
 mod frame;
 mod header;
+mod laws;
 mod number;
 mod residual;
 mod rule;
@@ -17,6 +18,7 @@ mod subframe;
 
 pub use end::FrameEnd;
 pub use frame::{FlacFrame, frame_at};
+pub use laws::{frames_are_apart, frames_are_in_shape, what_follows_is_no_matter};
 pub use stream::FlacStream;
 pub use subframe::{SubKind, Subframe};
 
