@@ -2,6 +2,7 @@ pub mod BitsLemmas
 pub mod Words
 pub mod Peek
 pub mod Zeros
+pub mod LimitedZeros
 pub mod Sound
 pub mod SoundTexts
 pub mod Fields

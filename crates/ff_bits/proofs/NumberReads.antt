@@ -8,8 +8,8 @@ use Rattle.std.specs.Prelude.{Err}
 use Rattle.ff_bits.specs.Reads.{IsNumber}
 use Rattle.ff_bits.specs.declared.reader.BitEnd.{BitEnd}
 use Rattle.ff_bits.specs.declared.reader.BitEnd.TheVariants.{Short, BadNumber}
-use Rattle.ff_bits.specs.Reading.{Answer, Done, More, Bad, on}
-use Rattle.ff_bits.specs.NumberGrammar.{Answers, follow, opened, first, further, sixes, coded}
+use Rattle.ff_bits.specs.Reading.{Answer, Done, More, Bad, on, field}
+use Rattle.ff_bits.specs.NumberGrammar.{Answers, is_within, follow, opened, first, further, sixes, coded, coded_below}
 use Rattle.ff_bits.proofs.NumberLemmas.{coded-forward, coded-backward, IsSound-coded}
 
 -- k further bytes on, one of them read
@@ -95,3 +95,15 @@ code_below code v h =
 
 pub number_read : (now ahead rest : List Bool) (v : ℕ) → ahead ≡ now → coded ahead ≡ Done v rest → IsNumber now v rest
 number_read now ahead rest v e h = let b = coded-backward v ahead rest h in (code_with b.0 v, (b.0, b.1, b.2, refl), sym e ∙ b.3)
+
+-- ---- the same in a form of fewer bytes
+
+pub below_goes_on : (end : ℕ) (now after : List Bool) (byte count value : ℕ) → field 8 (is_within 0x80 0xc0 end) now ≡ Done byte after → count ≡ follow byte → value ≡ opened byte → coded_below end now ≡ sixes count value after
+unfolding coded_below
+below_goes_on end now after byte count value h c v =
+    ap (λ (a : Answer ℕ). on a (λ b. sixes (follow b) (opened b))) h ∙ ap (λ (k : ℕ). sixes k (opened byte) after) (sym c) ∙ ap (λ (x : ℕ). sixes count x after) (sym v)
+
+pub below_fails : (end : ℕ) (now : List Bool) (e : BitEnd) (after rest : List Bool) → Answers (Err e) (field 8 (is_within 0x80 0xc0 end) now) after → Answers (Err e) (coded_below end now) rest
+unfolding coded_below
+below_fails end now Short after rest h = ap (λ (a : Answer ℕ). on a (λ b. sixes (follow b) (opened b))) h
+below_fails end now BadNumber after rest h = ap (λ (a : Answer ℕ). on a (λ b. sixes (follow b) (opened b))) h

@@ -51,3 +51,7 @@ sixes (suc k) v = further >>= λ byte. sixes k (v * 64 + (byte - 0x80))
 
 unfoldable pub coded : Reader ℕ
 coded = first >>= λ byte. sixes (follow byte) (opened byte)
+
+-- the same with a first byte below this end
+unfoldable pub coded_below : ℕ → Reader ℕ
+coded_below end = field 8 (is_within 0x80 0xc0 end) >>= λ byte. sixes (follow byte) (opened byte)

@@ -4,7 +4,7 @@ ghost use Rattle.std.specs.Prelude.{◌≡◌, ◌≤◌, ◌<◌, ◌+◌, ◌^
 ghost use Rattle.ff_bits.specs.Number.{IsPartOfCode, BeginsNoCode};
 ghost use Rattle.ff_bits.specs.Reads.{IsNumber};
 ghost use Rattle.ff_bits.specs.Reading.{field};
-ghost use Rattle.ff_bits.specs.NumberGrammar.{Answers, coded, first, further, is_within, sixes, follow, opened};
+ghost use Rattle.ff_bits.specs.NumberGrammar.{Answers, coded, coded_below, first, further, is_within, sixes, follow, opened};
 
 use crate::reader::{BitEnd, BitReader};
 
@@ -23,6 +23,18 @@ impl<'a> BitReader<'a> {
         let value = ahead.coded()?;
         *self = ahead;
         Ok(value)
+    }
+
+    /// The coded number that comes next, in a form whose first byte is below this end: 0xfe for at most 31 bits of
+    /// value, 0xff for 36.
+    pub fn number_below(&mut self, end: u64) -> Result<u64, BitEnd>
+        requires some { 0xc0 < end }
+        requires form { end ≤ 0xff }
+        ensures { Answers result (coded_below end self.old) self.new }
+    {
+        let byte = self.byte_within(0x80, 0xc0, end)?;
+        let (count, value) = parts_of_first(byte);
+        self.sixes(count, value)
     }
 
     fn coded(&mut self) -> Result<u64, BitEnd>

@@ -1,9 +1,11 @@
 //! Reading bits, the most significant of each byte first.
 
-ghost use Rattle.std.specs.Prelude.{◌≡◌, ◌≤◌, ◌<◌, ◌+◌, ◌*◌, ◌^◌, ◌↔◌, IsTrue, length, take, drop, replicate, false, true, List, Bool, ◌∷◌, ◌++◌, IfOk, IfErr, OnErr};
+ghost use Rattle.std.specs.Prelude.{◌≡◌, ◌≤◌, ◌<◌, ◌+◌, ◌*◌, ◌/◌, ◌%◌, ◌^◌, ◌↔◌, IsTrue, length, take, drop, replicate, false, true, List, Bool, ◌∷◌, ◌++◌, IfOk, IfErr, OnErr};
 ghost use Rattle.ff_bits.specs.Bits.{value_of, bits};
 ghost use Rattle.ff_bits.specs.Reads.{IsTaken, IsCounted};
 ghost use Rattle.ff_bits.specs.Runs.{IsRun};
+ghost use Rattle.ff_bits.specs.Reading.{zeros};
+ghost use Rattle.ff_bits.specs.NumberGrammar.{Answers};
 
 use crate::word::word_of;
 use std::marker::Model;
@@ -60,6 +62,24 @@ impl<'a> BitReader<'a> {
         ensures { result ≡ length self.now }
     {
         8 * self.bytes.len() as u64 - self.used as u64
+    }
+
+    /// How many whole bytes are left.
+    pub fn bytes_left(&self) -> usize
+        ensures { result ≡ length self.now / 8 }
+    {
+        if self.used == 0 {
+            self.bytes.len()
+        } else {
+            self.bytes.len() - 1
+        }
+    }
+
+    /// How many bits are left of a byte that was begun.
+    pub fn bits_to_byte(&self) -> u32
+        ensures { result ≡ length self.now % 8 }
+    {
+        if self.used == 0 { 0 } else { 8 - self.used }
     }
 
     /// A reader of the same bits.
@@ -157,6 +177,37 @@ impl<'a> BitReader<'a> {
         self.bytes = bytes;
         self.used = used;
         Err(BitEnd::Short)
+    }
+
+    /// How many zeros, fewer than the limit, stand before the next one, which is read too. Short where more bits may
+    /// make it so, BadNumber where there are as many zeros as the limit says.
+    pub fn zeros(&mut self, limit: u64) -> Result<u64, BitEnd>
+        requires { limit ≤ 2 ^ 62 }
+        ensures reads { Answers result (zeros limit self.old) self.new }
+        ensures below { IfOk result (λ z. z < limit) }
+    {
+        let mut count = 0u64;
+        while count < limit {
+            if !self.has(1) {
+                return Err(BitEnd::Short);
+            }
+            match self.run() {
+                Run::Ended(more) => {
+                    self.skip(more + 1);
+                    count += more as u64;
+                    return if count < limit {
+                        Ok(count)
+                    } else {
+                        Err(BitEnd::BadNumber)
+                    };
+                }
+                Run::Zeros(more) => {
+                    self.skip(more);
+                    count += more as u64;
+                }
+            }
+        }
+        Err(BitEnd::BadNumber)
     }
 
     /// The zeros that come next.

@@ -33,6 +33,31 @@ fn zeros_before_a_one(rt: HostRuntime) -> Result<(), Fail> {
 }
 
 #[test]
+fn zeros_below_a_limit(rt: HostRuntime) -> Result<(), Fail> {
+    let mut reader = BitReader::new(&[0x10, 0x00, 0x80]);
+    assert_eq!(rt; reader.zeros(4)?, 3);
+    assert_eq!(rt; reader.bytes_left(), 2);
+    assert_eq!(rt; reader.bits_to_byte(), 4);
+    assert_eq!(rt; reader.zeros(12).err(), Some(BitEnd::BadNumber));
+    let mut reader = BitReader::new(&[0]);
+    assert_eq!(rt; reader.zeros(9).err(), Some(BitEnd::Short));
+    let mut reader = BitReader::new(&[0]);
+    assert_eq!(rt; reader.zeros(8).err(), Some(BitEnd::BadNumber));
+    Ok(())
+}
+
+#[test]
+fn numbers_of_fewer_bytes(rt: HostRuntime) -> Result<(), Fail> {
+    let mut reader = BitReader::new(&[0xfd, 0xbf, 0xbf, 0xbf, 0xbf, 0xbf]);
+    assert_eq!(rt; reader.number_below(0xfe)?, 0x7fff_ffff);
+    let mut reader = BitReader::new(&[0xfe, 0x82, 0x80, 0x80, 0x80, 0x80, 0x80]);
+    assert_eq!(rt; reader.number_below(0xfe).err(), Some(BitEnd::BadNumber));
+    let mut reader = BitReader::new(&[0xfe, 0x82, 0x80, 0x80, 0x80, 0x80, 0x80]);
+    assert_eq!(rt; reader.number_below(0xff)?, 0x8000_0000);
+    Ok(())
+}
+
+#[test]
 fn coded_numbers(rt: HostRuntime) -> Result<(), Fail> {
     let rows: [(u64, &[u8]); 15] = [
         (0, &[0x00]),

@@ -1,0 +1,10 @@
+use Rattle.std.proofs.Common.{◌≡◌, ◌≤◌, length, drop}
+use Rattle.ff_flac_dec.specs.Values.{fixed, restored, AllInDepth}
+use Rattle.ff_flac_dec.proofs.fixed.restore_fixed.Given as goal
+
+abbrev pub invariant-loop-r : goal.invariant-loop-r
+invariant-loop-r l = record {
+  total : restored (fixed l.order) l.out.items (drop l.r-index l.rest) ≡ restored (fixed l.order) l.warm l.rest;
+  there : l.order ≤ length l.out.items;
+  within : AllInDepth l.depth l.out.items;
+}

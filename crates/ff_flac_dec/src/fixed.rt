@@ -1,0 +1,137 @@
+ghost use Rattle.std.specs.Prelude.{◌≡◌, ◌<◌, ◌≤◌, ◌^◌, ◌-◌, IfOk, IsErrOf, IsTrue, ◌↔◌, length, pos, ◌≤ℤ◌, neg_ℤ, ◌*ℤ◌, ◌-ℤ◌, ◌+ℤ◌, FitsSigned};
+ghost use Rattle.std.specs.Int.{w64};
+ghost use Rattle.ff_flac_frame.specs.Facts.{InDepth};
+ghost use Rattle.ff_flac_dec.specs.Values.{ago, fixed, restored, AllInDepth};
+ghost use Rattle.ff_flac_dec.specs.Bounds.{IsSmall, IsBounded, IsWide};
+
+use crate::end::DecodeEnd;
+use std::alloc::Global;
+
+/// Whether a sample is within the depth.
+pub fn is_in_depth(depth: u32, x: i64) -> bool
+    requires low { 1 ≤ depth }
+    requires high { depth ≤ 25 }
+    ensures { IsTrue result ↔ InDepth depth x }
+{
+    let limit = 1i64 << (depth - 1);
+    -limit <= x && x < limit
+}
+
+/// The sample k before the next one.
+fn look_back(depth: u32, xs: &[i32], k: usize) -> i64
+    requires low { 1 ≤ k }
+    requires there { k ≤ length xs.now }
+    requires depth { depth ≤ 25 }
+    requires within { AllInDepth depth xs.now }
+    ensures value { result ≡ ago k xs.now }
+    ensures small { IsSmall result }
+{
+    xs[xs.len() - k] as i64
+}
+
+fn second(a: i64, b: i64) -> i64
+    requires a { IsSmall a }
+    requires b { IsSmall b }
+    ensures value { result ≡ (pos 2 *ℤ a) -ℤ b }
+    ensures bounded { IsWide result }
+{
+    2 * a - b
+}
+
+fn third(a: i64, b: i64, c: i64) -> i64
+    requires a { IsSmall a }
+    requires b { IsSmall b }
+    requires c { IsSmall c }
+    ensures value { result ≡ ((pos 3 *ℤ a) -ℤ (pos 3 *ℤ b)) +ℤ c }
+    ensures bounded { IsWide result }
+{
+    3 * a - 3 * b + c
+}
+
+fn fourth_front(a: i64, b: i64) -> i64
+    requires a { IsSmall a }
+    requires b { IsSmall b }
+    ensures value { result ≡ (pos 4 *ℤ a) -ℤ (pos 6 *ℤ b) }
+    ensures bounded { IsBounded result }
+{
+    4 * a - 6 * b
+}
+
+fn fourth(front: i64, c: i64, d: i64) -> i64
+    requires front { IsBounded front }
+    requires c { IsSmall c }
+    requires d { IsSmall d }
+    ensures value { result ≡ (front +ℤ (pos 4 *ℤ c)) -ℤ d }
+    ensures bounded { IsWide result }
+{
+    front + 4 * c - d
+}
+
+/// The fixed prediction.
+fn predict(order: u32, depth: u32, xs: &[i32]) -> i64
+    requires order { order ≤ 4 }
+    requires there { order ≤ length xs.now }
+    requires depth { depth ≤ 25 }
+    requires within { AllInDepth depth xs.now }
+    ensures value { result ≡ fixed order xs.now }
+    ensures bounded { IsWide result }
+{
+    if order == 0 {
+        return 0;
+    }
+    let a = look_back(depth, xs, 1);
+    if order == 1 {
+        return a;
+    }
+    let b = look_back(depth, xs, 2);
+    if order == 2 {
+        return second(a, b);
+    }
+    let c = look_back(depth, xs, 3);
+    if order == 3 {
+        return third(a, b, c);
+    }
+    let d = look_back(depth, xs, 4);
+    fourth(fourth_front(a, b), c, d)
+}
+
+/// The sample that the residual stands for.
+fn next_sample(order: u32, depth: u32, xs: &[i32], r: &i32) -> i64
+    requires order { order ≤ 4 }
+    requires there { order ≤ length xs.now }
+    requires depth { depth ≤ 25 }
+    requires within { AllInDepth depth xs.now }
+    ensures value { result ≡ fixed order xs.now +ℤ r.now }
+    ensures fits { FitsSigned w64 result }
+{
+    let residual = *r;
+    predict(order, depth, xs) + residual as i64
+}
+
+/// The samples that these residuals stand for under a fixed predictor, behind the warm-up samples.
+pub fn restore_fixed(
+    alloc: Global,
+    order: u32,
+    depth: u32,
+    warm: &[i32],
+    rest: &[i32],
+) -> Result<Vec<i32>, DecodeEnd>
+    requires order { order ≤ 4 }
+    requires there { order ≤ length warm.now }
+    requires depth_low { 1 ≤ depth }
+    requires depth_high { depth ≤ 25 }
+    requires within { AllInDepth depth warm.now }
+    ensures ok { IfOk result (λ v. v.items ≡ restored (fixed order) warm.now rest.now) }
+    ensures within { IfOk result (λ v. AllInDepth depth v.items) }
+    ensures out { IsErrOf result DecodeEnd.OutOfDepth → AllInDepth depth (restored (fixed order) warm.now rest.now) → ⊥ }
+{
+    let mut out = Vec::from_slice(alloc, warm)?;
+    for r in rest {
+        let x = next_sample(order, depth, out.as_slice(), r);
+        if !is_in_depth(depth, x) {
+            return Err(DecodeEnd::OutOfDepth);
+        }
+        out.push(x as i32)?;
+    }
+    Ok(out)
+}

@@ -1,0 +1,45 @@
+ghost use Rattle.std.specs.Prelude.{◌≡◌, ◌<◌, ◌≤◌, ◌++◌, IfOk, IfErr, OnOk, pos, slice_index_or};
+ghost use Rattle.ff_flac_dec.specs.Channels.{sample_frame, interleaved};
+ghost use Rattle.ff_flac_dec.specs.Joins.{items_of};
+
+use crate::end::DecodeEnd;
+use std::alloc::Global;
+
+/// The sample at a place, 0 past the end.
+fn sample_at(channel: &[i32], place: usize) -> i32
+    ensures { result ≡ slice_index_or channel.now place (pos 0) }
+{
+    if place < channel.len() {
+        channel[place]
+    } else {
+        0
+    }
+}
+
+/// Puts one sample of each channel behind the others.
+fn push_sample_frame(
+    out: &mut Vec<i32>,
+    channels: &[Vec<i32>],
+    place: usize,
+) -> Result<(), DecodeEnd>
+    ensures ok { OnOk result (out.new.items ≡ out.old.items ++ sample_frame (items_of channels.now) place) }
+    ensures memory { IfErr result (λ e. e ≡ DecodeEnd.NoMemory) }
+{
+    for channel in channels {
+        out.push(sample_at(channel.as_slice(), place))?;
+    }
+    Ok(())
+}
+
+/// The samples of all channels, sample frame after sample frame.
+#[tactic(auto, unfolding(crate::specs::Channels::interleaved))]
+pub fn interleave(alloc: Global, channels: &[Vec<i32>], block: u32) -> Result<Vec<i32>, DecodeEnd>
+    ensures ok { IfOk result (λ v. v.items ≡ interleaved block (items_of channels.now)) }
+    ensures memory { IfErr result (λ e. e ≡ DecodeEnd.NoMemory) }
+{
+    let mut out = Vec::new(alloc);
+    for place in 0..block {
+        push_sample_frame(&mut out, channels, place as usize)?;
+    }
+    Ok(out)
+}

@@ -1,0 +1,139 @@
+ghost use Rattle.std.specs.Prelude.{◌≡◌, ◌<◌, ◌≤◌, ◌+◌, ◌-◌, ℕ, List, IfOk, IfErr, IsErrOf, length, map, ◌∷◌, []};
+ghost use Rattle.std.specs.List.{AllByRecursion};
+ghost use Rattle.ff_frame.specs.Audio.{IsAudio};
+ghost use Rattle.ff_flac_frame.specs.Frame.{IsStream, Begins};
+ghost use Rattle.ff_flac_frame.specs.Facts.{IsPart, IsFrame};
+ghost use Rattle.ff_flac_frame.specs.Parts.{part_of, frame_of};
+ghost use Rattle.ff_flac_dec.specs.Values.{channel_samples};
+ghost use Rattle.ff_flac_dec.specs.Channels.{AllChannels, IsCoded, IsWithinDepths, left_right, first_depth, second_depth, channels_of, decoded};
+ghost use Rattle.ff_flac_dec.specs.Joins.{items_of};
+
+use crate::channel::samples_of;
+use crate::end::DecodeEnd;
+use crate::head::FlacHead;
+use crate::interleave::interleave;
+use crate::stereo::left_and_right;
+use ff_flac_frame::{FlacFrame, FlacStream, Subframe};
+use ff_frame::{AFrame, Samples};
+use std::alloc::Global;
+
+/// The channels of subframes of one depth that stand for one channel each.
+fn independent(
+    alloc: Global,
+    subframes: &[Subframe],
+    block: u32,
+    depth: u32,
+) -> Result<Vec<Vec<i32>>, DecodeEnd>
+    requires parts { AllByRecursion (IsPart block depth) (map part_of subframes.now) }
+    requires depth { depth ≤ 25 }
+    ensures ok { IfOk result (λ v. items_of v.items ≡ map (channel_samples block) (map part_of subframes.now)) }
+    ensures coded { IfOk result (λ _. AllByRecursion (IsCoded block depth) (map part_of subframes.now)) }
+    ensures within { IfOk result (λ _. AllChannels depth (map (channel_samples block) (map part_of subframes.now))) }
+    ensures out { IsErrOf result DecodeEnd.OutOfDepth → AllByRecursion (IsCoded block depth) (map part_of subframes.now) → ⊥ }
+{
+    let mut channels = Vec::new(alloc);
+    for subframe in subframes {
+        let samples = samples_of(alloc, subframe, block, depth)?;
+        channels.push(samples)?;
+    }
+    Ok(channels)
+}
+
+/// The depth of the first of two subframes: a side channel has one bit more.
+fn first_depth_of(form: u8, depth: u32) -> u32
+    requires { depth ≤ 24 }
+    ensures value { result ≡ first_depth form depth }
+    ensures bound { result ≤ depth + 1 }
+{
+    if form == 9 { depth + 1 } else { depth }
+}
+
+/// The depth of the second.
+fn second_depth_of(form: u8, depth: u32) -> u32
+    requires { depth ≤ 24 }
+    ensures value { result ≡ second_depth form depth }
+    ensures bound { result ≤ depth + 1 }
+{
+    if form == 9 { depth } else { depth + 1 }
+}
+
+/// Left and right, of two subframes under a channel code from 8 on.
+fn joint(
+    alloc: Global,
+    first: &Subframe,
+    second: &Subframe,
+    form: u8,
+    block: u32,
+    depth: u32,
+) -> Result<Vec<Vec<i32>>, DecodeEnd>
+    requires first { IsPart block (first_depth form depth) (part_of first.now) }
+    requires second { IsPart block (second_depth form depth) (part_of second.now) }
+    requires depth_low { 1 ≤ depth }
+    requires depth_high { depth ≤ 24 }
+    ensures ok { IfOk result (λ v. items_of v.items ≡ left_right form (channel_samples block (part_of first.now)) (channel_samples block (part_of second.now))) }
+    ensures first { IfOk result (λ _. IsCoded block (first_depth form depth) (part_of first.now)) }
+    ensures second { IfOk result (λ _. IsCoded block (second_depth form depth) (part_of second.now)) }
+    ensures within { IfOk result (λ _. AllChannels depth (left_right form (channel_samples block (part_of first.now)) (channel_samples block (part_of second.now)))) }
+    ensures out { IsErrOf result DecodeEnd.OutOfDepth → IsCoded block (first_depth form depth) (part_of first.now) → IsCoded block (second_depth form depth) (part_of second.now)
+        → AllChannels depth (left_right form (channel_samples block (part_of first.now)) (channel_samples block (part_of second.now))) → ⊥ }
+{
+    let left = samples_of(alloc, first, block, first_depth_of(form, depth))?;
+    let right = samples_of(alloc, second, block, second_depth_of(form, depth))?;
+    left_and_right(alloc, form, depth, left, right)
+}
+
+/// The channels of a frame.
+fn channels(
+    alloc: Global,
+    frame: &FlacFrame,
+    stream: &FlacStream,
+) -> Result<Vec<Vec<i32>>, DecodeEnd>
+    requires stream { IsStream stream.now }
+    requires frame { IsFrame stream.now (frame_of 0 frame.now) }
+    ensures ok { IfOk result (λ v. items_of v.items ≡ channels_of (frame_of 0 frame.now)) }
+    ensures within { IfOk result (λ _. IsWithinDepths stream.now (frame_of 0 frame.now)) }
+    ensures out { IsErrOf result DecodeEnd.OutOfDepth → IsWithinDepths stream.now (frame_of 0 frame.now) → ⊥ }
+{
+    let depth = stream.bits as u32;
+    if frame.form < 8 {
+        let alone = independent(alloc, frame.subframes.as_slice(), frame.block, depth)?;
+        return Ok(alone);
+    }
+    let both = joint(
+        alloc,
+        &frame.subframes[0],
+        &frame.subframes[1],
+        frame.form,
+        frame.block,
+        depth,
+    )?;
+    Ok(both)
+}
+
+/// The sound that a frame stands for, which starts at this tick (RFC 9639, sections 9.2 and 4.2). The frame is one that
+/// `frame_at` gave for some bytes of the stream. OutOfDepth exactly where a sample leaves its subframe's depth or the
+/// stream's.
+pub fn decode(
+    alloc: Global,
+    frame: &FlacFrame,
+    head: &FlacHead,
+    pts: i64,
+) -> Result<AFrame, DecodeEnd>
+    requires stream { IsStream head.now.stream }
+    requires frame { (bytes : List ℕ) × (number : ℕ) × (len : ℕ) × Begins head.now.stream bytes (frame_of number frame.now) len }
+    ensures ok { IfOk result (λ a. a ≡ decoded head.now.stream pts (frame_of 0 frame.now)) }
+    ensures sound { IfOk result (λ a. IsAudio a.bits a.channels a.samples) }
+    ensures within { IfOk result (λ _. IsWithinDepths head.now.stream (frame_of 0 frame.now)) }
+    ensures out { IsErrOf result DecodeEnd.OutOfDepth → IsWithinDepths head.now.stream (frame_of 0 frame.now) → ⊥ }
+{
+    let stream = head.stream;
+    let channels = channels(alloc, frame, &stream)?;
+    let samples = interleave(alloc, channels.as_slice(), frame.block)?;
+    Ok(AFrame::make(
+        pts,
+        stream.rate,
+        stream.bits,
+        stream.channels,
+        Samples::new(samples),
+    ))
+}

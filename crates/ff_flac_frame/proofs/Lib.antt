@@ -1,0 +1,8 @@
+pub mod Loops
+pub mod SomeLemmas
+pub mod FrameSound
+pub mod Whole
+pub mod FieldLemmas
+pub mod ResidualLemmas
+pub mod Seals
+pub mod LawLemmas

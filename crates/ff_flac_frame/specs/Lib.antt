@@ -1,0 +1,7 @@
+pub mod Codes
+pub mod Frame
+pub mod Facts
+pub mod Rules
+pub mod Gives
+pub mod Front
+pub mod Parts

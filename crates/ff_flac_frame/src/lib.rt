@@ -1,0 +1,26 @@
+//! FLAC frames, from their bytes (RFC 9639, section 9).
+//!
+//! `specs/Frame` says what a frame is: readers on the list of an input's bits, one for each part of the grammar, with
+//! three answers: a value, more bits may make one, no bits will. `specs/Facts` says what holds of each frame.
+//! `frame_at` reads the frame that begins some bytes.
+#![tactic(auto)]
+
+mod end;
+mod field;
+mod frame;
+mod header;
+mod laws;
+mod number;
+mod residual;
+mod rule;
+mod stream;
+mod subframe;
+
+pub use end::FrameEnd;
+pub use frame::{FlacFrame, frame_at};
+pub use laws::{frames_are_apart, frames_are_in_shape, what_follows_is_no_matter};
+pub use stream::FlacStream;
+pub use subframe::{SubKind, Subframe};
+
+#[cfg(test)]
+mod tests;
