@@ -2,3 +2,4 @@ pub mod ByteLaws
 pub mod DepthLaws
 pub mod FitLaws
 pub mod SampleLaws
+mod RawLaws

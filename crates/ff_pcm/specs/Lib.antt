@@ -1,4 +1,5 @@
 pub mod Bytes
 pub mod Depth
 pub mod Frames
+pub mod Raw
 pub mod Samples

@@ -3,8 +3,12 @@ ghost use Rattle.std.specs.Prelude.{◌≡◌, ◌≤◌, ◌<◌, ◌*◌, ℕ,
 ghost use Rattle.ff_frame.specs.Lanes.{sample_bytes};
 ghost use Rattle.ff_frame.specs.declared.audio.AFrame.{AFrame};
 ghost use Rattle.ff_frame.specs.declared.head.Codec.{Codec};
+ghost use Rattle.ff_frame.specs.declared.head.StreamHead.{StreamHead};
+ghost use Rattle.ff_frame.specs.declared.packet.Pkt.{Pkt};
+ghost use Rattle.ff_frame.specs.declared.video.VFrame.{VFrame};
 ghost use Rattle.ff_pcm.specs.Bytes.{bytes_of};
 ghost use Rattle.ff_pcm.specs.Depth.{at_depth};
+ghost use Rattle.ff_pcm.specs.Raw.{IsFrameIn};
 ghost use Rattle.ff_pcm.specs.Samples.{samples_of, StandFor};
 
 /// The samples tell the bytes: no other bytes of the same codec stand for them.
@@ -21,6 +25,11 @@ pub fn encoding_gives_decoded_bytes_back()
 /// A frame at a higher depth, and back at its own, is that frame.
 pub fn more_bits_and_back_change_nothing()
     ensures { (frame : AFrame) (bits : ℕ) → frame.bits ≤ bits → at_depth frame.bits (at_depth bits frame) ≡ frame }
+{}
+
+/// The planes of the frame in a packet of raw video are that packet's bytes.
+pub fn encoding_gives_planes_back()
+    ensures { (head : StreamHead) (packet : Pkt) (frame : VFrame) → IsFrameIn head packet frame → frame.planes ≡ packet.bytes }
 {}
 
 /// The bytes that stand for samples are these, and no others do.

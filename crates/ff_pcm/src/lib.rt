@@ -1,8 +1,8 @@
-//! Linear PCM: from the bytes of packets to samples and back, and samples of other depths.
+//! Linear PCM and raw video: from the bytes of packets to samples and back, and samples of other depths.
 //!
 //! Bytes of 8 bits are unsigned with the middle 128; those of 16, 24 and 32 bits are signed with the lowest byte
 //! first. `specs/Samples` says by place value which samples some bytes stand for; decoding and encoding are the two
-//! directions of that one relation.
+//! directions of that one relation. A packet of raw video is the planes of one frame as they stand (`specs/Raw`).
 #![tactic(auto)]
 
 mod decode;
@@ -10,6 +10,7 @@ mod depth;
 mod encode;
 mod fits;
 mod laws;
+mod raw;
 mod values;
 
 pub use decode::{depth_of, pcm_decode};
@@ -17,9 +18,10 @@ pub use depth::depth_change;
 pub use encode::{pcm_encode, pcm_encode_into, room_for};
 pub use fits::{has_blocks, is_audio};
 pub use laws::{
-    encoding_gives_decoded_bytes_back, more_bits_and_back_change_nothing, samples_have_one_form,
-    samples_tell_their_bytes,
+    encoding_gives_decoded_bytes_back, encoding_gives_planes_back,
+    more_bits_and_back_change_nothing, samples_have_one_form, samples_tell_their_bytes,
 };
+pub use raw::{raw_decode, raw_encode};
 
 #[cfg(test)]
 mod tests;

@@ -1,10 +1,11 @@
 // The expected values are two's complement and the middle 128, written out by hand.
 ghost use Rattle.std.specs.Prelude.{◌≡◌, ◌≤◌, IfOk, length};
 ghost use Rattle.ff_frame.specs.Lanes.{IsFrameOf};
+ghost use Rattle.ff_frame.specs.Video.{IsVideo};
 ghost use Rattle.ff_pcm.specs.Samples.{depth};
 
-use super::{depth_change, pcm_decode, pcm_encode};
-use ff_frame::{AFrame, Bytes, Codec, Pkt, StreamHead};
+use super::{depth_change, pcm_decode, pcm_encode, raw_decode, raw_encode};
+use ff_frame::{AFrame, Bytes, Codec, Format, Pkt, StreamHead};
 use ff_time::Rational;
 use std::alloc::Global;
 use std::test::Fail;
@@ -129,4 +130,53 @@ fn depths(rt: HostRuntime) -> Result<(), Fail> {
         [-2147483648, 2147483647, 0x12345678].as_slice()
     );
     Ok(())
+}
+
+const PLANES: [u8; 27] = *b"abcdefghijklmnopqrstuvwxyz0";
+
+// The bytes of a frame of three columns and rows, as a packet's, decoded, copied and encoded again.
+fn picture(alloc: Global, format: Format, bytes: &[u8]) -> Result<Vec<u8>, Fail>
+    requires { IsVideo format 3 3 bytes.now }
+{
+    let head = StreamHead::Video {
+        tb: Rational::new(1, 25)?,
+        format,
+        width: 3,
+        height: 3,
+        sar_num: 0,
+        sar_den: 0,
+    };
+    let packet = Pkt {
+        pts: 7,
+        dts: 7,
+        duration: 1,
+        pos: 100,
+        bytes: Bytes::new(bytes.to_vec(alloc)?),
+    };
+    let frame = raw_decode(alloc, &head, &packet)?.try_copy(alloc)?;
+    if frame.pts != 7 || frame.duration != 1 || frame.format != format || frame.width != 3 {
+        return Ok(Vec::new(alloc));
+    }
+    Ok(raw_encode(alloc, &frame)?)
+}
+
+// Nine samples of Y, and twice four, six, nine or none of colour.
+#[test]
+fn pictures(rt: HostRuntime) {
+    assert_eq!(rt;
+        picture(rt.alloc(), Format::C420, &PLANES[..17])?.as_slice(),
+        &PLANES[..17]
+    );
+    assert_eq!(rt;
+        picture(rt.alloc(), Format::C422, &PLANES[..21])?.as_slice(),
+        &PLANES[..21]
+    );
+    assert_eq!(rt;
+        picture(rt.alloc(), Format::C444, &PLANES)?.as_slice(),
+        &PLANES[..]
+    );
+    assert_eq!(rt;
+        picture(rt.alloc(), Format::Mono, &PLANES[..9])?.as_slice(),
+        &PLANES[..9]
+    );
 }

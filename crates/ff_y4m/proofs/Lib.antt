@@ -1,0 +1,6 @@
+pub mod LineLaws
+pub mod UnitLaws
+pub mod CutLaws
+pub mod NumberLaws
+pub mod HeadLaws
+pub mod ReadLaws

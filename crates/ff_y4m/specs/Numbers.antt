@@ -1,0 +1,51 @@
+-- Numbers in parameters.
+use Rattle.std.specs.Prelude.{ℕ, zero, suc, ◌+◌, ◌-◌, ◌*◌, ◌%◌, ◌/◌, ◌^◌, ◌==◌, ◌&&◌, ◌||◌, nat_le, nat_lt, Bool, if◌then◌else◌, List, [], ◌∷◌, take, drop, length, Option, Some, None}
+use Rattle.std.specs.Option.{option_map}
+use Rattle.ff_time.specs.Fraction.{Fraction}
+
+abbrev pub is_digit : ℕ → Bool
+is_digit b = nat_le 48 b && nat_le b 57
+
+-- the number that digits write behind those of n
+abbrev pub digits_from : ℕ → List ℕ → Option ℕ
+digits_from n [] = Some n
+digits_from n (b ∷ bs) = if is_digit b then digits_from (10 * n + (b - 48)) bs else None
+
+-- a whole number has 1 to 10 digits
+unfoldable pub whole : List ℕ → Option ℕ
+whole bs = if nat_le 1 (length bs) && nat_le (length bs) 10 then digits_from 0 bs else None
+
+-- the place of the first such byte
+abbrev pub first_place : ℕ → List ℕ → Option ℕ
+first_place byte [] = None
+first_place byte (b ∷ bs) = if b == byte then Some 0 else option_map suc (first_place byte bs)
+
+abbrev pub both : Option ℕ → Option ℕ → Option (ℕ × ℕ)
+both None n = None
+both (Some m) None = None
+both (Some m) (Some n) = Some (m, n)
+
+-- two whole numbers around the place of a colon
+abbrev pub around : List ℕ → Option ℕ → Option (ℕ × ℕ)
+around bs None = None
+around bs (Some k) = both (whole (take k bs)) (whole (drop (k + 1) bs))
+
+-- two whole numbers joined by a colon
+unfoldable pub pair : List ℕ → Option (ℕ × ℕ)
+pair bs = around bs (first_place 58 bs)
+
+-- the greatest common divisor by Euclid's steps, of which so many are made at most
+abbrev pub euclid : ℕ → ℕ → ℕ → ℕ
+euclid zero a b = a
+euclid (suc steps) a b = if b == 0 then a else euclid steps b (a % b)
+
+-- a fraction in lowest terms
+unfoldable pub lowest : ℕ → ℕ → Fraction
+lowest num den = let common = euclid (den + 1) num den in record { num = num / common; den = den / common }
+
+-- the time base num / den, of two positive numbers and in lowest terms below 2^31
+unfoldable pub base_of : ℕ → ℕ → Option Fraction
+base_of num den =
+    if num == 0 || den == 0 then None
+    else if nat_lt (lowest num den).num (2 ^ 31) && nat_lt (lowest num den).den (2 ^ 31) then Some (lowest num den)
+    else None

@@ -1,0 +1,24 @@
+//! YUV4MPEG2 (yuv4mpeg(5)): heads, and the packets of the frames behind them.
+//!
+//! A file is a line of parameters, and then frames: each a line that begins with `FRAME`, and the planes Y, Cb and Cr.
+//! `specs/Lines` says where a line ends, `specs/Parameters` what a parameter says, `specs/Heads` what the head of a
+//! whole input is and which first bytes decide it, `specs/Packets` which frames follow the head and where they break off, and
+//! `specs/Cuts` how a cut's state is tied to what it was fed and gave.
+#![tactic(auto)]
+
+mod cut;
+mod frame;
+mod head;
+mod header;
+mod line;
+mod number;
+mod parameters;
+mod read;
+
+pub use cut::Y4mCut;
+pub use head::Y4mHead;
+pub use header::y4m_header;
+pub use read::read_head;
+
+#[cfg(test)]
+mod tests;
