@@ -4,3 +4,4 @@ pub mod CutLaws
 pub mod NumberLaws
 pub mod HeadLaws
 pub mod ReadLaws
+pub mod FrameLaws

@@ -31,7 +31,7 @@ frame_is size count (Some n) k e = pick (nat_lt n longest_line) refl (nat_lt cou
         let low : n < 1024 = grind (arith, nat_tests) in
         let long : n + 1 + size ≤ count = grind (arith, nat_tests) in (ap Some same, omega (arith, same, low), omega (arith, same, long))
 
-frame_made : (size count k : ℕ) → k < 1024 → k + 1 + size ≤ count → line_unit size count (Some k) ≡ Frame k
+pub frame_made : (size count k : ℕ) → k < 1024 → k + 1 + size ≤ count → line_unit size count (Some k) ≡ Frame k
 frame_made size count k lt le =
     let a : nat_lt k longest_line ≡ true = grind (arith, nat_tests) in
     let b : nat_lt count (k + 1 + size) ≡ false = grind (arith, nat_tests) in

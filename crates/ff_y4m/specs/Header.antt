@@ -1,5 +1,5 @@
 -- What is written: a line of parameters, and frames each with a line of its own (yuv4mpeg(5)).
-use Rattle.std.specs.Prelude.{ℕ, List, [], ◌++◌, codes, decimal}
+use Rattle.std.specs.Prelude.{ℕ, List, [], ◌++◌, map, codes, decimal}
 use Rattle.std.specs.List.{flat_map}
 use Rattle.ff_frame.specs.declared.packet.Pkt.{Pkt}
 use Rattle.ff_frame.specs.declared.video.Format.{Format}
@@ -36,6 +36,14 @@ header (Video tb format width height sar_num sar_den) =
 abbrev pub frame_line : List ℕ
 frame_line = codes "FRAME\n"
 
+-- the frames of some packets
+abbrev pub frames : List Pkt → List ℕ
+frames packets = flat_map (λ (p : Pkt). frame_line ++ p.bytes) packets
+
 -- the file of some packets
 abbrev pub written : StreamHead → List Pkt → List ℕ
-written head packets = header head ++ flat_map (λ (p : Pkt). frame_line ++ p.bytes) packets
+written head packets = header head ++ frames packets
+
+-- the planes of packets
+abbrev pub planes_of : List Pkt → List (List ℕ)
+planes_of packets = map (λ (p : Pkt). p.bytes) packets

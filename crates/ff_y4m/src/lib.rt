@@ -10,6 +10,7 @@ mod cut;
 mod frame;
 mod head;
 mod header;
+mod laws;
 mod line;
 mod number;
 mod parameters;
@@ -18,6 +19,7 @@ mod read;
 pub use cut::Y4mCut;
 pub use head::Y4mHead;
 pub use header::y4m_header;
+pub use laws::written_frames_are_read_again;
 pub use read::read_head;
 
 #[cfg(test)]
