@@ -9,7 +9,9 @@ mod enc;
 mod mux;
 mod ready;
 
-pub use coding::{decoding_passes_no_limit, encoding_passes_no_limit, octets_leave_bytes};
+pub use coding::{
+    coding_leaves_bytes, decoding_passes_no_limit, encoding_passes_no_limit, octets_leave_bytes,
+};
 pub use dec::Dec;
 pub use enc::Enc;
 pub use mux::Mux;

@@ -81,7 +81,10 @@ pub fn room_for(alloc: Global, codec: Codec, frame: &AFrame) -> Result<Vec<u8>, 
     requires { IsAudio frame.now.bits frame.now.channels frame.now.samples }
     ensures { IfOk result (λ bytes. length bytes.items ≡ sample_bytes codec * length frame.now.samples) }
 {
-    zeros(alloc, size_of_sample(codec) * frame.samples.as_slice().len())
+    zeros(
+        alloc,
+        size_of_sample(codec) * frame.samples.as_slice().len(),
+    )
 }
 
 // Bytes are numbers below 256.
