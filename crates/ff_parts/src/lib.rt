@@ -1,10 +1,12 @@
-//! The parts of a run, as machines: each takes streams and gives streams, an item at a time.
+//! The parts of a run, each of them a lawful machine: it takes streams and gives streams, an item at a time.
 //!
-//! `specs/` says what each does to whole streams.
+//! `specs/` says what each does to whole streams: [`Demux`] in `Demuxing`, [`Dec`] in `Decoding`, [`Enc`] in `Encoding`,
+//! [`Mux`] in `Muxing`.
 #![tactic(auto)]
 
 mod coding;
 mod dec;
+mod demux;
 mod enc;
 mod mux;
 mod ready;
@@ -13,6 +15,7 @@ pub use coding::{
     coding_leaves_bytes, decoding_passes_no_limit, encoding_passes_no_limit, octets_leave_bytes,
 };
 pub use dec::Dec;
+pub use demux::Demux;
 pub use enc::Enc;
 pub use mux::Mux;
 

@@ -1,0 +1,24 @@
+use Rattle.std.proofs.Common.{◌≡◌, ◌≤◌, ◌+◌, ◌-◌, ◌^◌, length, None, true, false, cond}
+use Rattle.ff_net.specs.Pasts.{Past}
+use Rattle.ff_wav.specs.Cuts.{has_ended, waiting_in}
+use Rattle.ff_parts.specs.Demuxing.{DemuxStands}
+use Rattle.ff_parts.proofs.demux.DemuxMachine.pull.Given as goal
+
+abbrev pub invariant-units : goal.invariant-units
+invariant-units g l =
+    let S = g.S.Source in
+    record {
+      stands : (past : Past) → DemuxStands (S.left l.initial.self.src) l.initial.self.cut l.initial.self.skip l.initial.self.given l.initial.self.ticket l.initial.self.ended l.initial.self.fault past
+          → DemuxStands (S.left l.self.src) l.self.cut l.self.skip l.self.given l.self.ticket l.self.ended l.self.fault past;
+      going : l.self.ended ≡ false;
+      sound : l.self.fault ≡ None;
+      allowed : l.self.ticket ≡ true;
+      before : l.initial.self.fault ≡ None;
+      later : S.faults l.initial.self.src ≤ S.faults l.self.src;
+      name : S.name l.self.src ≡ S.name l.initial.self.src;
+      input : l.self.input ≡ l.initial.self.input;
+      head : l.self.head ≡ l.initial.self.head;
+    }
+
+abbrev pub decreases-units : goal.decreases-units
+decreases-units g l = l.self.skip + (2 ^ 15 - length (waiting_in l.self.cut)) + cond (has_ended l.self.cut) 0 1

@@ -1,0 +1,389 @@
+ghost use Rattle.std.specs.Prelude.{◌≡◌, ◌+◌, ◌-◌, ◌*◌, ◌^◌, ◌≤◌, ◌<◌, ◌⊎◌, ℕ, List, ◌++◌, Option, None, Ok, true, false, length, drop, nat_lt, IfOk, OnOk, OnErr, IfErr, IsTrue};
+ghost use Rattle.std.specs.Io.KnownBytes.{Keeps};
+ghost use Rattle.ff_host.specs.Causes.{HasCauseOf};
+ghost use Rattle.ff_frame.specs.declared.item.Item.{Item};
+ghost use Rattle.ff_frame.specs.declared.item.Lane.TheVariants.{Packets};
+ghost use Rattle.ff_frame.specs.declared.packet.Pkt.{Pkt};
+ghost use Rattle.ff_frame.specs.Lanes.{base_of_head};
+ghost use Rattle.ff_frame.specs.Times.{end_of, ticks};
+ghost use Rattle.ff_net.specs.declared.fault.Fault.{Fault};
+ghost use Rattle.ff_net.specs.Pasts.{Past};
+ghost use Rattle.ff_wav.specs.Packets.{IsHead};
+ghost use Rattle.ff_wav.specs.Cuts.{head_of, place_of, has_ended, waiting_in, room_in, SameElsewhere};
+ghost use Rattle.ff_parts.specs.Demuxing.{ends_beyond, passes_in_demux, DemuxStands, GivesPacket, GivesAll, Feeds, KeepsCut};
+ghost use Rattle.ff_parts.specs.declared.demux.ReadEnd.TheVariants.{Failed, NoMemory};
+
+use ff_frame::{Cut, Item, Pkt, Refused, StreamHead, Ticket};
+use ff_host::Source;
+use ff_net::{Fault, Machine};
+use ff_time::Rational;
+use ff_wav::{WavCut, WavHead};
+use std::alloc::{AllocError, Global};
+
+/// The last byte at which a packet may end.
+const LAST_BYTE: u64 = 1 << 40;
+
+/// The most items of a stream.
+const MOST_ITEMS: u64 = 1 << 40;
+
+/// The seconds after which no item may end.
+const LAST_SECOND: u128 = 1_000_000_000;
+
+/// The input is read in pieces of at most so many bytes.
+const PIECE: usize = 65536;
+
+/// Gives an input's packets, one for each ticket, and reads no further than the next packet wants.
+#[derive(Drop)]
+pub struct Demux<S> {
+    input: u32,
+    head: StreamHead,
+    src: S,
+    cut: WavCut,
+    /// A piece of the input, as it is read.
+    piece: Vec<u8>,
+    /// How many bytes of the head are still to come.
+    skip: u64,
+    /// How many packets were given.
+    given: u64,
+    ticket: bool,
+    ended: bool,
+    fault: Option<Fault>,
+    ghost some_piece: { 0 < length piece.items },
+    ghost same_head: { (head_of cut).head ≡ head },
+    ghost near: { ended ≡ false → place_of cut ≤ 2 ^ 50 },
+    ghost few: { ended ≡ false → given ≤ 2 ^ 40 },
+}
+
+/// Why no further bytes of the input came.
+#[derive(Clone, Copy, Debug, PartialEq, Eq)]
+pub enum ReadEnd {
+    Failed,
+    NoMemory,
+}
+
+impl From<AllocError> for ReadEnd {
+    ghost from_gives = { λ _ e. e ≡ NoMemory };
+
+    fn from(_: AllocError) -> Self {
+        ReadEnd::NoMemory
+    }
+}
+
+impl From<ff_host::Failed> for ReadEnd {
+    ghost from_gives = { λ _ e. e ≡ Failed };
+
+    fn from(_: ff_host::Failed) -> Self {
+        ReadEnd::Failed
+    }
+}
+
+fn time_base(head: &StreamHead) -> Rational
+    ensures { result ≡ base_of_head head.now }
+{
+    match *head {
+        StreamHead::Audio { tb, .. } => tb,
+        StreamHead::Video { tb, .. } => tb,
+    }
+}
+
+// Whether a packet ends past the last second.
+fn ends_late(head: &StreamHead, packet: &Pkt) -> bool
+    ensures { result ≡ nat_lt (1000000000 * (base_of_head head.now).den) (ticks (end_of (Item.Packet packet.now)) * (base_of_head head.now).num) }
+{
+    let tb = time_base(head);
+    let end = packet.pts as i128 + packet.duration as i128;
+    if end <= 0 {
+        return false;
+    }
+    LAST_SECOND * (tb.den() as u128) < (end as u128) * (tb.num() as u128)
+}
+
+// Whether a packet ends past the last byte.
+fn ends_far(packet: &Pkt) -> bool
+    requires { packet.now.pos + length packet.now.bytes < 2 ^ 64 }
+    ensures { result ≡ ends_beyond (Item.Packet packet.now) }
+{
+    LAST_BYTE < packet.pos + packet.bytes.as_slice().len() as u64
+}
+
+// Whether a packet passes a limit, where so many came before it.
+fn is_long(head: &StreamHead, before: u64, packet: &Pkt) -> bool
+    requires place { packet.now.pos + length packet.now.bytes < 2 ^ 64 }
+    requires few { before ≤ 2 ^ 40 }
+    ensures { result ≡ passes_in_demux (Packets head.now) before (Item.Packet packet.now) }
+{
+    (MOST_ITEMS < before + 1) | ends_late(head, packet) | ends_far(packet)
+}
+
+// Feeds a piece of the input to the cut, but for the bytes of the head.
+fn feed_piece(cut: &mut WavCut, skip: &mut u64, piece: &[u8])
+    requires going { has_ended cut.old ≡ false }
+    requires room { length piece.now ≤ room_in cut.old }
+    ensures cuts { Feeds cut.old cut.new (drop skip.old piece.now) }
+    ensures skip { skip.new ≡ skip.old - length piece.now }
+    ensures kept { SameElsewhere cut.old cut.new }
+    ensures held { length (waiting_in cut.new) + skip.old ≡ length (waiting_in cut.old) + length piece.now + skip.new }
+{
+    let over = (*skip).min(piece.len() as u64);
+    *skip -= over;
+    match cut.feed(&piece[over as usize..]) {
+        Ok(()) => {}
+        Err(_) => unreachable!(),
+    }
+}
+
+// Reads a piece of the input into the cut. Room is made first, so that no byte that was read is lost.
+fn read_more<S: Source>(
+    src: &mut S,
+    cut: &mut WavCut,
+    skip: &mut u64,
+    piece: &mut [u8],
+) -> Result<(), ReadEnd>
+    requires going { has_ended cut.old ≡ false }
+    requires some { 0 < length piece.old }
+    ensures read { OnOk result ((given : ℕ) (ticket : _) (fault : Option Fault) (past : Past) → DemuxStands (S.left src.old) cut.old skip.old given ticket false fault past → DemuxStands (S.left src.new) cut.new skip.new given ticket false fault past) }
+    ensures left { OnErr result (Keeps (S.left src.old) (S.left src.new)) }
+    ensures skip { OnErr result (skip.new ≡ skip.old) }
+    ensures ended { OnErr result (has_ended cut.new ≡ has_ended cut.old) }
+    ensures cuts { OnErr result (KeepsCut cut.old cut.new) }
+    ensures cause { HasCauseOf ReadEnd.Failed (S.faults src.old) (S.faults src.new) result }
+    ensures name { S.name src.new ≡ S.name src.old }
+    ensures head { head_of cut.new ≡ head_of cut.old }
+    ensures place { place_of cut.new ≡ place_of cut.old }
+    ensures nearer { OnOk result (((has_ended cut.new ≡ true) × (skip.new ≡ skip.old) × (length (waiting_in cut.new) ≡ length (waiting_in cut.old))) ⊎ ((has_ended cut.new ≡ false) × (length (waiting_in cut.old) + skip.new < length (waiting_in cut.new) + skip.old) × (skip.new ≤ skip.old))) }
+{
+    cut.reserve(piece.len())?;
+    let count = src.read(piece)?;
+    if count == 0 {
+        cut.end();
+        return Ok(());
+    }
+    feed_piece(cut, skip, &piece[..count]);
+    Ok(())
+}
+
+/// What the cut says next.
+#[derive(Debug, Drop)]
+enum Unit {
+    Packet(Pkt),
+    /// A packet that passes a limit.
+    Long,
+    End,
+    /// More of the input is wanted.
+    Wait,
+}
+
+// The next packet of what was read, where so many were given.
+fn next_unit(cut: &mut WavCut, head: &StreamHead, given: u64) -> Result<Unit, AllocError>
+    requires near { place_of cut.old ≤ 2 ^ 50 }
+    requires few { given ≤ 2 ^ 40 }
+    ensures packet { (p : Pkt) → result ≡ Ok (Unit.Packet p) → GivesPacket cut.old cut.new p × (passes_in_demux (Packets head.now) given (Item.Packet p) ≡ false) }
+    ensures within { (p : Pkt) → result ≡ Ok (Unit.Packet p) → (place_of cut.new ≤ 2 ^ 50) × (given + 1 ≤ 2 ^ 40) }
+    ensures long { result ≡ Ok Unit.Long → (p : Pkt) × GivesPacket cut.old cut.new p × (passes_in_demux (Packets head.now) given (Item.Packet p) ≡ true) }
+    ensures all { result ≡ Ok Unit.End → (cut.new ≡ cut.old) × GivesAll cut.old }
+    ensures wait { result ≡ Ok Unit.Wait → (cut.new ≡ cut.old) × (has_ended cut.old ≡ false) × (length (waiting_in cut.old) < 2 ^ 15) }
+    ensures err { OnErr result (cut.new ≡ cut.old) }
+    ensures head { head_of cut.new ≡ head_of cut.old }
+    ensures ended { has_ended cut.new ≡ has_ended cut.old }
+{
+    match cut.pull()? {
+        Cut::NotYet => Ok(Unit::Wait),
+        Cut::End => Ok(Unit::End),
+        Cut::Broken { .. } => unreachable!(),
+        Cut::Pkt(packet) => {
+            if is_long(head, given, &packet) {
+                return Ok(Unit::Long);
+            }
+            Ok(Unit::Packet(packet))
+        }
+    }
+}
+
+fn piece_of(alloc: Global, size: usize) -> Result<Vec<u8>, AllocError>
+    requires { 0 < size }
+    ensures { IfOk result (λ v. 0 < length v.items) }
+{
+    vec![in alloc; 0u8; size]
+}
+
+impl<S: Source + Drop> Demux<S> {
+    ghost use Rattle.std.specs.Prelude.{[], ◌∷◌, Some};
+    ghost use Rattle.ff_net.specs.Pasts.{start};
+    ghost use Rattle.ff_parts.specs.Demuxing.{demux_task};
+    ghost use Rattle.ff_parts.specs.Demuxers.{demux_out_lanes, demux_source, demux_fault, demux_failures, demux_device, demux_stands};
+
+    /// Over a source that gives the input from its first byte on, whose head this is. The source comes back where there
+    /// was no memory.
+    pub fn new(alloc: Global, input: u32, src: S, head: &WavHead) -> Result<Demux<S>, S>
+        requires { IsHead head.now }
+        ensures fault { IfOk result (λ m. demux_fault m ≡ None) }
+        ensures source { IfOk result (λ m. demux_source m ≡ Some input) }
+        ensures lanes { IfOk result (λ m. demux_out_lanes m ≡ Packets head.now.head ∷ []) }
+        ensures device { IfOk result (λ m. demux_device S.name m ≡ S.name src) }
+        ensures failures { IfOk result (λ m. demux_failures S.faults m ≡ S.faults src) }
+        ensures stands { IfOk result (λ m. (file : List ℕ) → S.left src ≡ Some file → demux_stands S.left m (start (demux_task head.now file))) }
+        ensures refused { IfErr result (λ s. s ≡ src) }
+    {
+        let Ok(piece) = piece_of(alloc, PIECE) else {
+            return Err(src);
+        };
+        Ok(Demux {
+            input,
+            head: head.head,
+            src,
+            cut: WavCut::new(alloc, head),
+            piece,
+            skip: head.start,
+            given: 0,
+            ticket: false,
+            ended: false,
+            fault: None,
+        })
+    }
+
+    /// The source, as it is now.
+    pub fn into_source(self) -> S
+        ensures name { S.name result ≡ demux_device S.name self }
+        ensures faults { S.faults result ≡ demux_failures S.faults self }
+    {
+        self.src
+    }
+}
+
+impl<S: Source + Drop> Machine for Demux<S> {
+    ghost use Rattle.ff_parts.specs.Demuxers.{demux_in_lanes, demux_out_lanes, demux_source, demux_fault, demux_failures, demux_device, demux_holds, demux_spent, demux_stands};
+    ghost use Rattle.ff_parts.specs.DemuxLaws.{demux_is_source, demux_fed, demux_keeps, demux_monotone, demux_cause_stays, demux_calm, demux_given, demux_unbroken, demux_caused, demux_ticket_used};
+    ghost use Rattle.ff_parts.specs.DemuxClaims.{no_input, is_some_source, holds_none};
+    ghost use Rattle.std.specs.Prelude.{[]};
+    ghost use Rattle.ff_net.specs.Ways.{AreValid};
+
+    ghost in_lanes = { demux_in_lanes };
+
+    ghost out_lanes = { demux_out_lanes };
+
+    ghost source_of = { demux_source };
+
+    ghost fault_of = { demux_fault };
+
+    ghost device_of = { demux_device S.name };
+
+    ghost failures = { demux_failures S.faults };
+
+    ghost holds = { demux_holds };
+
+    ghost is_spent = { demux_spent };
+
+    ghost stands = { demux_stands S.left };
+
+    fn inputs(&self) -> usize {
+        0
+    }
+
+    fn outputs(&self) -> usize {
+        1
+    }
+
+    fn source(&self) -> Option<u32> {
+        Some(self.input)
+    }
+
+    fn fault(&self) -> Option<Fault> {
+        self.fault
+    }
+
+    fn allow(&mut self, ticket: Ticket) -> Option<Ticket> {
+        if self.ticket {
+            return Some(ticket);
+        }
+        self.ticket = true;
+        None
+    }
+
+    fn feed(&mut self, _port: usize, item: Item) -> Result<(), Refused>
+        ensures same { self.new ≡ self.old }
+        ensures err { result ≡ Err (record { item = item }) }
+    {
+        Err(Refused { item })
+    }
+
+    fn pull(&mut self, _port: usize) -> Result<Option<Item>, AllocError> {
+        if self.ended {
+            return Ok(None);
+        }
+        if self.fault.is_some() {
+            return Ok(None);
+        }
+        if !self.ticket {
+            return Ok(None);
+        }
+        'units: loop {
+            match next_unit(&mut self.cut, &self.head, self.given)? {
+                Unit::Packet(packet) => {
+                    self.ticket = false;
+                    self.given += 1;
+                    return Ok(Some(Item::Packet(packet)));
+                }
+                Unit::Long => {
+                    self.ticket = false;
+                    self.ended = true;
+                    self.fault = Some(Fault::TooLong);
+                    return Ok(Some(Item::Broken));
+                }
+                Unit::End => {
+                    self.ticket = false;
+                    self.ended = true;
+                    return Ok(Some(Item::End));
+                }
+                Unit::Wait => match read_more(
+                    &mut self.src,
+                    &mut self.cut,
+                    &mut self.skip,
+                    self.piece.as_mut_slice(),
+                ) {
+                    Ok(()) => {}
+                    Err(ReadEnd::Failed) => {
+                        self.fault = Some(Fault::Device);
+                        return Ok(None);
+                    }
+                    Err(ReadEnd::NoMemory) => return Err(AllocError),
+                },
+            }
+        }
+    }
+
+    fn stop(&mut self, _port: usize) {}
+
+    fn spent(&self, _port: usize) -> bool
+        ensures { result ≡ false }
+    {
+        false
+    }
+
+    ghost is_source = { λ m past s. demux_is_source (S.left m.src) m.cut m.skip m.given m.ticket m.ended m.fault past s };
+
+    ghost valid = { λ m past s. demux_fed (S.left m.src) m.cut m.skip m.given m.ticket m.ended m.fault past s };
+
+    ghost keeps = { λ m past s. demux_keeps (S.left m.src) m.cut m.skip m.given m.ticket m.ended m.fault past s m.head m.same_head };
+
+    ghost monotone = { λ m past s. demux_monotone (S.left m.src) m.cut m.skip m.given m.ticket m.ended m.fault past s (AreValid []) };
+
+    ghost cause_stays = { λ m past s. demux_cause_stays (S.left m.src) m.cut m.skip m.given m.ticket m.ended m.fault past s [] };
+
+    ghost calm = { λ m past s. demux_calm (S.left m.src) m.cut m.skip m.given m.ticket m.ended m.fault past s (AreValid []) };
+
+    ghost given = { λ m past s. demux_given (S.left m.src) m.cut m.skip m.given m.ticket m.ended m.fault past s };
+
+    ghost unbroken = { λ m past s f u. demux_unbroken (S.left m.src) m.cut m.skip m.given m.ticket m.ended m.fault past s f };
+
+    ghost caused = { λ m past c s e i. demux_caused (S.left m.src) m.cut m.skip m.given m.ticket m.ended m.fault past s c e i };
+
+    ghost spent_only = { λ m past p s i. absurd i };
+
+    ghost closed_spent = { λ m past p s lt c. no_input p lt };
+
+    ghost done_spent = { λ m past p s lt z c a. no_input p lt };
+
+    ghost all_spent = { λ m past s n h. is_some_source m.input n };
+
+    ghost ticket_used = { λ m past q s i f p a h. holds_none m.ticket h (demux_ticket_used (S.left m.src) m.cut m.skip m.given m.ticket m.ended m.fault past s q f p a) };
+}
