@@ -37,7 +37,7 @@ module _ (head : StreamHead) (p : Pkt) (h : IsPcmHead head) (b : IsPcm (channels
   whole_octets : length (octets p).bytes ≡ b.blocks * (channels_of head * sample_bytes (codec_of head))
   whole_octets = length-map p.bytes (λ (n : ℕ). n % 256) ∙ b.whole_blocks
 
-  octets_stand : StandFor (codec_of head) (octets p).bytes (frame_of head (octets p)).samples
+  pub octets_stand : StandFor (codec_of head) (octets p).bytes (frame_of head (octets p)).samples
   octets_stand = samples_stand (codec_of head) (octets p).bytes (b.blocks * channels_of head) (whole_octets ∙ turned b.blocks (channels_of head) (sample_bytes (codec_of head)))
 
   packet_frame : IsFrameOf (rate_of head) (bits_of head) (channels_of head) (frame_of head (octets p))
@@ -50,12 +50,15 @@ module _ (head : StreamHead) (p : Pkt) (h : IsPcmHead head) (b : IsPcm (channels
         audio = packet_audio head (octets p).bytes (frame_of head (octets p)).samples h whole octets_stand (all_fit (codec_of head) (octets p).bytes (octets_small p.bytes));
       }
 
-  -- a frame lasts as long as its packet
-  frame_lasts : p.pts +ℤ pos (length (frame_of head (octets p)).samples / channels_of head) ≡ p.pts +ℤ p.duration
-  frame_lasts =
+  -- a frame has as many sample frames as its packet lasts
+  pub frame_count : pos (length (frame_of head (octets p)).samples / channels_of head) ≡ p.duration
+  frame_count =
       let count : length (frame_of head (octets p)).samples ≡ b.blocks * channels_of head = interleaved (codec_of head) (length (octets p).bytes) b.blocks (channels_of head) (length (frame_of head (octets p)).samples) whole_octets octets_stand.size in
       let over : length (frame_of head (octets p)).samples / channels_of head ≡ b.blocks = ap (λ (n : ℕ). n / channels_of head) count ∙ mul-div_cancel b.blocks h.some_channels in
-      ap (λ (n : ℕ). p.pts +ℤ pos n) over ∙ ap (λ (z : ℤ). p.pts +ℤ z) (sym b.lasts)
+      ap pos over ∙ sym b.lasts
+
+  frame_lasts : p.pts +ℤ pos (length (frame_of head (octets p)).samples / channels_of head) ≡ p.pts +ℤ p.duration
+  frame_lasts = ap (λ (z : ℤ). p.pts +ℤ z) frame_count
 
 fits_decoded : (head : StreamHead) (x : Item) → IsPcmHead head → FitsPackets head x → FitsFrames head (decoded_item head x)
 fits_decoded (AudioHead tb rate bits channels codec) (Audio f) h t = absurd t

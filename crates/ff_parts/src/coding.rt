@@ -2,14 +2,16 @@
 ghost use Rattle.std.specs.Prelude.{◌≡◌, ◌<◌, ℕ, All};
 ghost use Rattle.ff_frame.specs.declared.head.Codec.{Codec};
 ghost use Rattle.ff_frame.specs.declared.head.StreamHead.{StreamHead};
+ghost use Rattle.ff_frame.specs.declared.item.Item.TheVariants.{Packet};
 ghost use Rattle.ff_frame.specs.declared.item.Lane.TheVariants.{Frames, Packets};
 ghost use Rattle.ff_frame.specs.declared.packet.Pkt.{Pkt};
-ghost use Rattle.ff_frame.specs.Lanes.{IsSoundHead, IsValid};
+ghost use Rattle.ff_frame.specs.Lanes.{FitsLane, IsSoundHead, IsValid};
+ghost use Rattle.ff_frame.specs.Packet.{packet_at};
 ghost use Rattle.ff_frame.specs.Within.{within, passes_limits};
-ghost use Rattle.ff_pcm.specs.Frames.{IsPcmHead};
+ghost use Rattle.ff_pcm.specs.Frames.{codec_of, IsPcmHead};
 ghost use Rattle.ff_net.specs.Ways.{Flow};
-ghost use Rattle.ff_parts.specs.Decoding.{octets, decoded};
-ghost use Rattle.ff_parts.specs.Encoding.{coded_head, encoded};
+ghost use Rattle.ff_parts.specs.Decoding.{octets, decoded_item, decoded};
+ghost use Rattle.ff_parts.specs.Encoding.{coded_head, encoded_item, encoded};
 
 /// The frames of valid packets pass no limit: cutting them there changes nothing.
 pub fn decoding_passes_no_limit()
@@ -24,4 +26,10 @@ pub fn encoding_passes_no_limit()
 /// A packet of bytes is decoded as it stands.
 pub fn octets_leave_bytes()
     ensures { (packet : Pkt) → All (λ b. b < 256) packet.bytes → octets packet ≡ packet }
+{}
+
+/// A packet of bytes that fits its lane, decoded and encoded again with its own codec, is that packet; its place is lost.
+pub fn coding_leaves_bytes()
+    ensures { (head : StreamHead) (packet : Pkt) → IsPcmHead head → FitsLane (Packets head) (Packet packet) → All (λ b. b < 256) packet.bytes
+        → encoded_item (codec_of head) (decoded_item head (Packet packet)) ≡ Packet (packet_at packet.pts packet.duration 0 packet.bytes) }
 {}

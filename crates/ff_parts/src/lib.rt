@@ -11,7 +11,9 @@ mod enc;
 mod mux;
 mod ready;
 
-pub use coding::{decoding_passes_no_limit, encoding_passes_no_limit, octets_leave_bytes};
+pub use coding::{
+    coding_leaves_bytes, decoding_passes_no_limit, encoding_passes_no_limit, octets_leave_bytes,
+};
 pub use dec::Dec;
 pub use demux::Demux;
 pub use enc::Enc;

@@ -155,5 +155,15 @@ all_back : (b c : ℕ) (xs : List ℤ) → b ≤ c → map (shifted c b) (map (s
 all_back b c [] le = refl
 all_back b c (x ∷ xs) le = ap (λ y. y ∷ map (shifted c b) (map (shifted b c) xs)) (shifted-back_or_same b c x le) ∙ ap (λ ys. x ∷ ys) (all_back b c xs le)
 
+shifted-same : (b : ℕ) (z : ℤ) → shifted b b z ≡ z
+shifted-same b z =
+    let one : 2 ^ (b - b) ≡ 1 = let f : b - b ≡ 0 = omega arith in ap (λ n. 2 ^ n) f in
+    ap (λ t. cond t (z *ℤ pos (2 ^ (b - b))) (shr_z z (2 ^ (b - b)))) (test_le b b (omega arith)) ∙ times_one z (2 ^ (b - b)) one
+
+-- samples at their own depth
+pub all_same : (b : ℕ) (xs : List ℤ) → map (shifted b b) xs ≡ xs
+all_same b [] = refl
+all_same b (x ∷ xs) = ap (λ y. y ∷ map (shifted b b) xs) (shifted-same b x) ∙ ap (λ ys. x ∷ ys) (all_same b xs)
+
 pub at_depth-back : (frame : AFrame) (bits : ℕ) → frame.bits ≤ bits → at_depth frame.bits (at_depth bits frame) ≡ frame
 at_depth-back frame bits le = ap (λ xs. audio_frame frame.pts frame.rate frame.bits frame.channels xs) (all_back frame.bits bits frame.samples le)
