@@ -9,6 +9,7 @@ mod dec;
 mod demux;
 mod enc;
 mod mux;
+mod part;
 mod ready;
 
 pub use coding::{decoding_passes_no_limit, encoding_passes_no_limit, octets_leave_bytes};
@@ -16,6 +17,7 @@ pub use dec::Dec;
 pub use demux::Demux;
 pub use enc::Enc;
 pub use mux::Mux;
+pub use part::{Ends, Part};
 
 #[cfg(test)]
 mod coder_tests;
