@@ -13,4 +13,7 @@ pub mod MapLaws
 pub mod Maps
 pub mod MuxLaws
 pub mod Muxing
+pub mod PartEnds
+pub mod PartLaws
+pub mod Parts
 pub mod Sources

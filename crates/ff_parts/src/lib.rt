@@ -9,6 +9,7 @@ mod dec;
 mod demux;
 mod enc;
 mod mux;
+mod part;
 mod ready;
 
 pub use coding::{
@@ -18,6 +19,7 @@ pub use dec::Dec;
 pub use demux::Demux;
 pub use enc::Enc;
 pub use mux::Mux;
+pub use part::{Ends, Part};
 
 #[cfg(test)]
 mod coder_tests;
