@@ -2,16 +2,19 @@
 use Rattle.std.specs.Prelude.{◌≡◌, ℕ, ◌*◌, ◌^◌, ◌≤◌, pos, ◌<ℤ◌, ◌≤ℤ◌, List, [], ◌∷◌, length, All}
 use Rattle.ff_time.specs.Fraction.{Fraction}
 use Rattle.ff_frame.specs.declared.audio.AFrame.{AFrame}
+use Rattle.ff_frame.specs.declared.video.Format.{Format}
+use Rattle.ff_frame.specs.declared.video.VFrame.{VFrame}
 use Rattle.ff_frame.specs.declared.packet.Pkt.{Pkt}
 use Rattle.ff_frame.specs.declared.head.Codec.{Codec}
 use Rattle.ff_frame.specs.declared.head.Codec.TheVariants.{PcmU8, PcmS16le, PcmS24le, PcmS32le}
 use Rattle.ff_frame.specs.declared.head.StreamHead.{StreamHead}
-use Rattle.ff_frame.specs.declared.head.StreamHead.TheVariants.{Audio as AudioHead}
+use Rattle.ff_frame.specs.declared.head.StreamHead.TheVariants.{Audio as AudioHead, Video as VideoHead}
 use Rattle.ff_frame.specs.declared.item.Item.{Item}
-use Rattle.ff_frame.specs.declared.item.Item.TheVariants.{Audio, Packet, End, Broken}
+use Rattle.ff_frame.specs.declared.item.Item.TheVariants.{Audio, Video, Packet, End, Broken}
 use Rattle.ff_frame.specs.declared.item.Lane.{Lane}
 use Rattle.ff_frame.specs.declared.item.Lane.TheVariants.{Frames, Packets}
 use Rattle.ff_frame.specs.Audio.{IsAudio}
+use Rattle.ff_frame.specs.Video.{frame_size, IsSide, IsVideo}
 use Rattle.ff_frame.specs.Stream.{Stream}
 use Rattle.ff_frame.specs.Times.{start_of, end_of, ticks, IsInTime}
 
@@ -21,14 +24,20 @@ head_of (Packets head) = head
 
 abbrev pub base_of_head : StreamHead → Fraction
 base_of_head (AudioHead tb rate bits channels codec) = tb
+base_of_head (VideoHead tb format width height sar_num sar_den) = tb
 
 -- the time base of a way's times
 abbrev pub base_of : Lane → Fraction
 base_of lane = base_of_head (head_of lane)
 
--- a head of sound has 1 to 8 channels and samples of 4 to 32 bits
+abbrev pub IsSoundHead : StreamHead → Type 0
+IsSoundHead (AudioHead tb rate bits channels codec) = Unit {0}
+IsSoundHead (VideoHead tb format width height sar_num sar_den) = ⊥
+
+-- a head of sound has 1 to 8 channels and samples of 4 to 32 bits, one of video 1 to 16,384 columns and rows
 abbrev pub IsHead : StreamHead → Type 0
 IsHead (AudioHead tb rate bits channels codec) = (1 ≤ channels) × (channels ≤ 8) × (4 ≤ bits) × (bits ≤ 32)
+IsHead (VideoHead tb format width height sar_num sar_den) = IsSide width × IsSide height
 
 -- the bytes of one sample as the codec writes it
 abbrev pub sample_bytes : Codec → ℕ
@@ -44,6 +53,13 @@ pub record IsFrameOf (rate bits channels : ℕ) (frame : AFrame) : Type 0 where
   pub channels_are : frame.channels ≡ channels
   pub audio : IsAudio frame.bits frame.channels frame.samples
 
+-- a picture with a stream's format, columns and rows
+pub record IsPictureOf (format : Format) (width height : ℕ) (frame : VFrame) : Type 0 where
+  pub format_is : frame.format ≡ format
+  pub columns_are : frame.width ≡ width
+  pub rows_are : frame.height ≡ height
+  pub video : IsVideo frame.format frame.width frame.height frame.planes
+
 -- a packet of linear PCM: 1 to 65,535 whole blocks, each of one sample per channel, as many as its duration says
 pub record IsPcm (block : ℕ) (packet : Pkt) : Type 0 where
   pub blocks : ℕ
@@ -54,24 +70,38 @@ pub record IsPcm (block : ℕ) (packet : Pkt) : Type 0 where
 
 abbrev pub FitsFrames : StreamHead → Item → Type 0
 FitsFrames (AudioHead tb rate bits channels codec) (Audio f) = IsFrameOf rate bits channels f
+FitsFrames (AudioHead tb rate bits channels codec) (Video f) = ⊥
 FitsFrames (AudioHead tb rate bits channels codec) (Packet p) = ⊥
 FitsFrames (AudioHead tb rate bits channels codec) End = ⊥
 FitsFrames (AudioHead tb rate bits channels codec) Broken = ⊥
+FitsFrames (VideoHead tb format width height sar_num sar_den) (Audio f) = ⊥
+FitsFrames (VideoHead tb format width height sar_num sar_den) (Video f) = IsPictureOf format width height f
+FitsFrames (VideoHead tb format width height sar_num sar_den) (Packet p) = ⊥
+FitsFrames (VideoHead tb format width height sar_num sar_den) End = ⊥
+FitsFrames (VideoHead tb format width height sar_num sar_den) Broken = ⊥
 
+-- a packet of raw video holds the planes of one frame
 abbrev pub FitsPackets : StreamHead → Item → Type 0
 FitsPackets (AudioHead tb rate bits channels codec) (Audio f) = ⊥
+FitsPackets (AudioHead tb rate bits channels codec) (Video f) = ⊥
 FitsPackets (AudioHead tb rate bits channels codec) (Packet p) = (p.dts ≡ p.pts) × IsPcm (channels * sample_bytes codec) p
 FitsPackets (AudioHead tb rate bits channels codec) End = ⊥
 FitsPackets (AudioHead tb rate bits channels codec) Broken = ⊥
+FitsPackets (VideoHead tb format width height sar_num sar_den) (Audio f) = ⊥
+FitsPackets (VideoHead tb format width height sar_num sar_den) (Video f) = ⊥
+FitsPackets (VideoHead tb format width height sar_num sar_den) (Packet p) = (p.dts ≡ p.pts) × (length p.bytes ≡ frame_size format width height)
+FitsPackets (VideoHead tb format width height sar_num sar_den) End = ⊥
+FitsPackets (VideoHead tb format width height sar_num sar_den) Broken = ⊥
 
 -- the way carries this item; an item that closes a stream is none of its items
 abbrev pub FitsLane : Lane → Item → Type 0
 FitsLane (Frames head) x = FitsFrames head x
 FitsLane (Packets head) x = FitsPackets head x
 
--- of sound, an item starts at or after the end of the one before
+-- of sound, an item starts at or after the end of the one before; pictures may overlap
 abbrev pub StartsAfter : StreamHead → Item → Item → Type 0
 StartsAfter (AudioHead tb rate bits channels codec) before after = end_of before ≤ℤ start_of after
+StartsAfter (VideoHead tb format width height sar_num sar_den) before after = Unit {0}
 
 -- one item behind another: starts rise, ends never fall
 pub record Follows (lane : Lane) (before after : Item) : Type 0 where

@@ -11,5 +11,6 @@ pub mod Packet
 pub mod Ports
 pub mod Stream
 pub mod Times
+pub mod Video
 pub mod Within
 pub mod WithinLaws

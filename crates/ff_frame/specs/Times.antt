@@ -2,18 +2,20 @@
 use Rattle.std.specs.Prelude.{ℕ, ◌*◌, ◌/◌, ◌≤◌, ℤ, pos, negsuc, ◌+ℤ◌, length}
 use Rattle.ff_time.specs.Fraction.{Fraction}
 use Rattle.ff_frame.specs.declared.item.Item.{Item}
-use Rattle.ff_frame.specs.declared.item.Item.TheVariants.{Audio, Packet, End, Broken}
+use Rattle.ff_frame.specs.declared.item.Item.TheVariants.{Audio, Video, Packet, End, Broken}
 
 -- a frame and a packet start where they say
 abbrev pub start_of : Item → ℤ
 start_of (Audio f) = f.pts
+start_of (Video f) = f.pts
 start_of (Packet p) = p.pts
 start_of End = pos 0
 start_of Broken = pos 0
 
--- a frame ends as many ticks on as it has sample frames, a packet as its duration says
+-- sound ends as many ticks on as it has sample frames, a picture and a packet as their durations say
 abbrev pub end_of : Item → ℤ
 end_of (Audio f) = f.pts +ℤ pos (length f.samples / f.channels)
+end_of (Video f) = f.pts +ℤ f.duration
 end_of (Packet p) = p.pts +ℤ p.duration
 end_of End = pos 0
 end_of Broken = pos 0

@@ -1,3 +1,4 @@
+use crate::video::Format;
 use ff_time::Rational;
 
 /// How the samples of a stream are coded.
@@ -23,5 +24,15 @@ pub enum StreamHead {
         bits: u8,
         channels: u8,
         codec: Codec,
+    },
+    /// Pictures: ticks of `tb` seconds, `width` columns and `height` rows of `format`. The width of a sample stands to its
+    /// height as `sar_num` to `sar_den`; where one of them is 0 that isn't known.
+    Video {
+        tb: Rational,
+        format: Format,
+        width: u32,
+        height: u32,
+        sar_num: u32,
+        sar_den: u32,
     },
 }

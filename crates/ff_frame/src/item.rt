@@ -4,6 +4,7 @@ ghost use Rattle.ff_frame.specs.Items.{Closes};
 use crate::audio::AFrame;
 use crate::head::StreamHead;
 use crate::packet::Pkt;
+use crate::video::VFrame;
 use std::alloc::{AllocError, Global};
 
 /// The leave of a source to give one packet, or its end.
@@ -20,6 +21,8 @@ pub struct Ticket {
 pub enum Item {
     /// Decoded sound.
     Audio(AFrame),
+    /// A decoded picture.
+    Video(VFrame),
     /// A coded packet.
     Packet(Pkt),
     /// Nothing more comes: all has come.
@@ -49,7 +52,7 @@ impl Item {
         ensures { IsTrue result ↔ Closes self.now }
     {
         match self {
-            Item::Audio(_) | Item::Packet(_) => false,
+            Item::Audio(_) | Item::Video(_) | Item::Packet(_) => false,
             Item::End | Item::Broken => true,
         }
     }
@@ -62,6 +65,10 @@ impl Item {
             Item::Audio(frame) => {
                 let frame = frame.try_copy(alloc)?;
                 Ok(Item::Audio(frame))
+            }
+            Item::Video(frame) => {
+                let frame = frame.try_copy(alloc)?;
+                Ok(Item::Video(frame))
             }
             Item::Packet(packet) => {
                 let packet = packet.try_copy(alloc)?;

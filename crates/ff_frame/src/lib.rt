@@ -15,6 +15,7 @@ mod held;
 mod item;
 mod lists;
 mod packet;
+mod video;
 
 pub use audio::AFrame;
 pub use cut::{Cut, HeadEnd};
@@ -23,3 +24,4 @@ pub use held::Held;
 pub use item::{Item, Lane, Refused, Ticket};
 pub use lists::{Bytes, Samples};
 pub use packet::Pkt;
+pub use video::{Format, VFrame};

@@ -5,7 +5,7 @@ use Rattle.std.proofs.lemmas.Int.{ints}
 use Rattle.std.proofs.lemmas.List.Elements.{All-append, All-nil}
 use Rattle.ff_time.specs.Fraction.{Fraction}
 use Rattle.ff_frame.specs.declared.item.Item.{Item}
-use Rattle.ff_frame.specs.declared.item.Item.TheVariants.{Audio, Packet, End, Broken}
+use Rattle.ff_frame.specs.declared.item.Item.TheVariants.{Audio, Video, Packet, End, Broken}
 use Rattle.ff_frame.specs.declared.item.Lane.{Lane}
 use Rattle.ff_frame.specs.Stream.{Stream, still_open}
 use Rattle.ff_frame.specs.Items.{Closes, with_item, Leads}
@@ -107,6 +107,7 @@ next_sent n s t x h e lane sent = subst (λ (k : ℕ). Sent k t) (sym (add-one n
 
 still_valid : (lane : Lane) (s : Stream Item) (x : Item) → Closes x → IsValid lane s → IsValid lane (with_item s x)
 still_valid lane s (Audio f) c v = absurd c
+still_valid lane s (Video f) c v = absurd c
 still_valid lane s (Packet p) c v = absurd c
 still_valid lane s End c v = record { shape = v.shape; few = v.few; in_time = v.in_time }
 still_valid lane s Broken c v = record { shape = v.shape; few = v.few; in_time = v.in_time }

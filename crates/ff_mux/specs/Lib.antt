@@ -1,3 +1,2 @@
 pub mod FrameHash
-pub mod Head
 pub mod Puts

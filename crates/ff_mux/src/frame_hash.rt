@@ -1,10 +1,9 @@
 // The text of a framehash file, in the pieces in which it is written.
 ghost use Rattle.std.specs.Prelude.{◌≡◌, ℕ, ◌++◌, IfOk, OnOk, decimal, string_bytes};
 ghost use Rattle.std.specs.Fmt.{signed_decimal};
-ghost use Rattle.ff_mux.specs.Head.{base_of, rate_of, channels_of, codec_of};
-ghost use Rattle.ff_mux.specs.FrameHash.{base_name, codec_name, layout_name, about, stream_lines, header as header_of, column, digest_text, packet_line as line_of};
+ghost use Rattle.ff_mux.specs.FrameHash.{base_name, codec_name, layout_name, size_name, aspect_name, about, stream_lines, header as header_of, column, digest_text, packet_line as line_of};
 
-use ff_frame::{Codec, Pkt, StreamHead};
+use ff_frame::{Codec, Format, Pkt, StreamHead};
 use ff_time::Rational;
 use sha2::{Digest, Sha256};
 use std::alloc::{AllocError, Global};
@@ -91,22 +90,43 @@ fn push_audio(
     Ok(())
 }
 
-// The time base, rate, channels and codec of a stream of sound.
-fn audio_of(head: &StreamHead) -> (Rational, u32, u8, Codec)
-    ensures tb { result.0 ≡ base_of head.now }
-    ensures rate { result.1 ≡ rate_of head.now }
-    ensures channels { result.2 ≡ channels_of head.now }
-    ensures codec { result.3 ≡ codec_of head.now }
+fn name_of_size(alloc: Global, width: u32, height: u32) -> Result<String, AllocError>
+    ensures { IfOk result (λ name. string_bytes name ≡ size_name width height) }
 {
-    match *head {
-        StreamHead::Audio {
-            tb,
-            rate,
-            channels,
-            codec,
-            ..
-        } => (tb, rate, channels, codec),
+    format!(in alloc; "{width}x{height}")
+}
+
+fn name_of_aspect(alloc: Global, num: u32, den: u32) -> Result<String, AllocError>
+    ensures { IfOk result (λ name. string_bytes name ≡ aspect_name num den) }
+{
+    if num == 0 && den == 0 {
+        return String::from_str(alloc, "0/1");
     }
+    name_of_fraction(alloc, u64::from(num), u64::from(den))
+}
+
+// Adds the lines on a stream of pictures.
+fn push_video(
+    alloc: Global,
+    out: &mut Vec<u8>,
+    stream: u32,
+    tb: Rational,
+    width: u32,
+    height: u32,
+    sar_num: u32,
+    sar_den: u32,
+) -> Result<(), AllocError>
+    ensures { (format : Format) → OnOk result (out.new.items ≡ out.old.items ++ stream_lines stream (StreamHead.Video tb format width height sar_num sar_den)) }
+{
+    let base = name_of_base(alloc, tb)?;
+    let size = name_of_size(alloc, width, height)?;
+    let aspect = name_of_aspect(alloc, sar_num, sar_den)?;
+    push_about(alloc, out, "tb", stream, base.as_str())?;
+    push_about(alloc, out, "media_type", stream, "video")?;
+    push_about(alloc, out, "codec_id", stream, "rawvideo")?;
+    push_about(alloc, out, "dimensions", stream, size.as_str())?;
+    push_about(alloc, out, "sar", stream, aspect.as_str())?;
+    Ok(())
 }
 
 // Adds the lines on a stream.
@@ -118,8 +138,23 @@ fn push_stream(
 ) -> Result<(), AllocError>
     ensures { OnOk result (out.new.items ≡ out.old.items ++ stream_lines stream head.now) }
 {
-    let (tb, rate, channels, codec) = audio_of(head);
-    push_audio(alloc, out, stream, tb, rate, channels, codec)
+    match *head {
+        StreamHead::Audio {
+            tb,
+            rate,
+            channels,
+            codec,
+            ..
+        } => push_audio(alloc, out, stream, tb, rate, channels, codec),
+        StreamHead::Video {
+            tb,
+            width,
+            height,
+            sar_num,
+            sar_den,
+            ..
+        } => push_video(alloc, out, stream, tb, width, height, sar_num, sar_den),
+    }
 }
 
 /// The lines before those of the packets, of a file with one stream.

@@ -3,7 +3,7 @@ use Rattle.std.proofs.Common.{◌≡◌, ◌≢◌, ℕ, ◌==◌, inl, inr, Boo
 use Rattle.std.proofs.lemmas.Bool.Decides.{nat_tests}
 use mathlib.Core.List.{IsPrefix}
 use Rattle.ff_frame.specs.declared.item.Item.{Item}
-use Rattle.ff_frame.specs.declared.item.Item.TheVariants.{Audio, Packet, End, Broken}
+use Rattle.ff_frame.specs.declared.item.Item.TheVariants.{Audio, Video, Packet, End, Broken}
 use Rattle.ff_frame.specs.declared.item.Lane.{Lane}
 use Rattle.ff_frame.specs.declared.item.Ticket.{Ticket}
 use Rattle.ff_frame.specs.Stream.{still_open, whole, broken, LiesBelow}
@@ -118,6 +118,7 @@ longer (y ∷ xs) x e = longer xs x (cc (e))
 -- an item changes an open stream
 pub with_item_new : (s : Flow) (x : Item) → s.mark ≡ still_open → with_item s x ≢ s
 with_item_new s (Audio f) o e = longer s.items (Audio f) (ap (λ (t : Flow). t.items) e)
+with_item_new s (Video f) o e = longer s.items (Video f) (ap (λ (t : Flow). t.items) e)
 with_item_new s (Packet p) o e = longer s.items (Packet p) (ap (λ (t : Flow). t.items) e)
 with_item_new s End o e = let m : whole ≡ s.mark = ap (λ (t : Flow). t.mark) e in cc
 with_item_new s Broken o e = let m : broken ≡ s.mark = ap (λ (t : Flow). t.mark) e in cc

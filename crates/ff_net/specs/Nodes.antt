@@ -42,6 +42,25 @@ pub record InStands (port : InPort) (wire : Wire) (got : Flow) (refused : Bool) 
   pub flag : port.done ≡ wire.finished
   pub reason : port.done ≡ true → sound → IsClosed wire.taken ⊎ may
 
+-- the machine of a node
+abbrev pub machine_of : {M : Type 0} → Node M → M
+machine_of node = node.machine
+
+-- how many inputs a node has, and how many outputs
+abbrev pub inputs_of : {M : Type 0} → Node M → ℕ
+inputs_of node = length node.ins.items
+
+abbrev pub outputs_of : {M : Type 0} → Node M → ℕ
+outputs_of node = length node.outs.items
+
+-- the wire of an input
+abbrev pub in_wire_of : {M : Type 0} → Node M → ℕ → ℕ
+in_wire_of node p = (in_at node.ins.items p).wire
+
+-- an input was finished
+abbrev pub HasFinished : {M : Type 0} → Node M → ℕ → Type 0
+HasFinished node p = (in_at node.ins.items p).done ≡ true
+
 -- the node has no fault
 abbrev pub IsSound : {M : Type 0} → (M → Option Fault) → Node M → Type 0
 IsSound fault node = (node.refused ≡ false) × (fault node.machine ≡ None)

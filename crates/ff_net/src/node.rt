@@ -34,13 +34,13 @@ impl<M: Machine> Node<M> {
     ghost use Rattle.std.specs.Prelude.{◌≡◌, ◌<◌, ◌↔◌, ℕ, length, Option, None, Some, IfOk, IfErr, IsTrue, true};
     ghost use Rattle.ff_net.specs.Pasts.{Task, start};
     ghost use Rattle.ff_net.specs.Worlds.{Wire, fresh};
-    ghost use Rattle.ff_net.specs.Nodes.{IsSound, IsDone, NodeStands, in_wires_of, out_wires_of};
+    ghost use Rattle.ff_net.specs.Nodes.{IsSound, IsDone, NodeStands, machine_of, in_wires_of, out_wires_of};
 
     /// A machine on these wires. The machine comes back where memory is refused.
     pub fn new(alloc: Global, machine: M, ins: Vec<usize>, outs: Vec<usize>) -> Result<Node<M>, M>
         ensures ins { IfOk result (λ node. in_wires_of node ≡ ins.items) }
         ensures outs { IfOk result (λ node. out_wires_of node ≡ outs.items) }
-        ensures machine { IfOk result (λ node. node.machine ≡ machine) }
+        ensures machine { IfOk result (λ node. machine_of node ≡ machine) }
         ensures fresh { IfOk result (λ node. (task : Task) → M.stands machine (start task) → NodeStands M.source_of M.fault_of M.stands node (λ w. fresh) (start task)) }
         ensures sound { IfOk result (λ node. M.fault_of machine ≡ None → IsSound M.fault_of node) }
         ensures back { IfErr result (λ m. m ≡ machine) }
@@ -66,7 +66,8 @@ impl<M: Machine> Node<M> {
     pub fn fault(&self) -> Option<Fault>
         ensures sound { result ≡ None → IsSound M.fault_of self.now }
         ensures none { IsSound M.fault_of self.now → result ≡ None }
-        ensures machine { (c : Fault) → M.fault_of self.now.machine ≡ Some c → result ≡ Some c }
+        ensures machine { (c : Fault) → M.fault_of (machine_of self.now) ≡ Some c → result ≡ Some c }
+        ensures refused { M.fault_of (machine_of self.now) ≡ None → (IsSound M.fault_of self.now → ⊥) → result ≡ Some Fault.NoMemory }
     {
         match self.machine.fault() {
             Some(fault) => Some(fault),
@@ -88,7 +89,7 @@ impl<M: Machine> Node<M> {
 
     /// The machine.
     pub fn into_machine(self) -> M
-        ensures { result ≡ self.machine }
+        ensures { result ≡ machine_of self }
     {
         self.machine
     }

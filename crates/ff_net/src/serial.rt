@@ -5,7 +5,7 @@ ghost use Rattle.ff_net.specs.declared.node.Node.{Node};
 ghost use Rattle.ff_net.specs.Laws.{FaultStep, IsOfInputs};
 ghost use Rattle.ff_net.specs.Nets.{IsUpward, solve};
 ghost use Rattle.ff_net.specs.Pasts.{Task, IsIn};
-ghost use Rattle.ff_net.specs.Nodes.{IsSound, IsDone, in_wires_of};
+ghost use Rattle.ff_net.specs.Nodes.{IsSound, IsDone, machine_of, outputs_of, in_wires_of};
 ghost use Rattle.ff_net.specs.Worlds.{lanes_of};
 ghost use Rattle.ff_net.specs.Serial.{AreShaped, NetStands, Settled, parts_of};
 
@@ -26,7 +26,7 @@ pub fn run_serial<M: Machine>(nodes: &mut [Node<M>], wires: &mut Wires, order: &
     ensures shaped { AreShaped M.in_lanes M.out_lanes nodes.new wires.new }
     ensures lanes { lanes_of wires.new ≡ lanes_of wires.old }
     ensures parts { (tasks : ℕ → Task) → parts_of M.in_lanes M.out_lanes tasks nodes.new ≡ parts_of M.in_lanes M.out_lanes tasks nodes.old }
-    ensures fares { (k : ℕ) (d : _) → k < length nodes.old → FaultStep M.device_of M.failures M.fault_of (slice_index_or nodes.old k d).machine (slice_index_or nodes.new k d).machine }
+    ensures fares { (k : ℕ) (d : _) → k < length nodes.old → FaultStep M.device_of M.failures M.fault_of (machine_of (slice_index_or nodes.old k d)) (machine_of (slice_index_or nodes.new k d)) }
     ensures stands { (tasks : ℕ → Task) → NetStands M.source_of M.fault_of M.stands tasks nodes.old wires.old → NetStands M.source_of M.fault_of M.stands tasks nodes.new wires.new }
     ensures below { (tasks : ℕ → Task) → NetStands M.source_of M.fault_of M.stands tasks nodes.old wires.old → IsUpward [] (parts_of M.in_lanes M.out_lanes tasks nodes.new)
         → (net : NetStands M.source_of M.fault_of M.stands tasks nodes.new wires.new) × ((k : ℕ) (d : _) (w : ℕ) → k < length nodes.new → IsIn w (in_wires_of (slice_index_or nodes.new k d)) → LiesBelow (opened (net.world w).taken) (solve (parts_of M.in_lanes M.out_lanes tasks nodes.new) w)) }
@@ -35,9 +35,9 @@ pub fn run_serial<M: Machine>(nodes: &mut [Node<M>], wires: &mut Wires, order: &
         → (w : ℕ) → IsIn w (in_wires_of (slice_index_or nodes.new k d)) → LiesBelow (net.world w).taken (solve (parts_of M.in_lanes M.out_lanes tasks nodes.new) w)) }
     ensures cause { (tasks : ℕ → Task) → NetStands M.source_of M.fault_of M.stands tasks nodes.old wires.old → IsUpward [] (parts_of M.in_lanes M.out_lanes tasks nodes.new)
         → (k : ℕ) (d : _) → k < length nodes.new → ((j : ℕ) (e : _) → j < k → IsSound M.fault_of (slice_index_or nodes.new j e))
-        → (c : Fault) → M.fault_of (slice_index_or nodes.new k d).machine ≡ Some c → IsOfInputs c → (tasks k).cause (map (solve (parts_of M.in_lanes M.out_lanes tasks nodes.new)) (in_wires_of (slice_index_or nodes.new k d))) ≡ Some c }
+        → (c : Fault) → M.fault_of (machine_of (slice_index_or nodes.new k d)) ≡ Some c → IsOfInputs c → (tasks k).cause (map (solve (parts_of M.in_lanes M.out_lanes tasks nodes.new)) (in_wires_of (slice_index_or nodes.new k d))) ≡ Some c }
     ensures settled { (tasks : ℕ → Task) → NetStands M.source_of M.fault_of M.stands tasks nodes.old wires.old → IsUpward [] (parts_of M.in_lanes M.out_lanes tasks nodes.new) → ((k : ℕ) (d : _) → k < length nodes.new → IsSound M.fault_of (slice_index_or nodes.new k d))
-        → (k : ℕ) (d : _) → k < length nodes.new → IsDone (slice_index_or nodes.new k d) → length (slice_index_or nodes.new k d).outs.items ≡ 0 → Settled M.stands (tasks k) (parts_of M.in_lanes M.out_lanes tasks nodes.new) (slice_index_or nodes.new k d) }
+        → (k : ℕ) (d : _) → k < length nodes.new → IsDone (slice_index_or nodes.new k d) → outputs_of (slice_index_or nodes.new k d) ≡ 0 → Settled M.stands (tasks k) (parts_of M.in_lanes M.out_lanes tasks nodes.new) (slice_index_or nodes.new k d) }
 {
     for k in order {
         let node = &mut nodes[*k];
@@ -71,7 +71,7 @@ pub fn run_to_end<R: Wait, M: Machine>(
     ensures shaped { AreShaped M.in_lanes M.out_lanes nodes.new wires.new }
     ensures lanes { lanes_of wires.new ≡ lanes_of wires.old }
     ensures parts { (tasks : ℕ → Task) → parts_of M.in_lanes M.out_lanes tasks nodes.new ≡ parts_of M.in_lanes M.out_lanes tasks nodes.old }
-    ensures fares { (k : ℕ) (d : _) → k < length nodes.old → FaultStep M.device_of M.failures M.fault_of (slice_index_or nodes.old k d).machine (slice_index_or nodes.new k d).machine }
+    ensures fares { (k : ℕ) (d : _) → k < length nodes.old → FaultStep M.device_of M.failures M.fault_of (machine_of (slice_index_or nodes.old k d)) (machine_of (slice_index_or nodes.new k d)) }
     ensures stands { (tasks : ℕ → Task) → NetStands M.source_of M.fault_of M.stands tasks nodes.old wires.old → NetStands M.source_of M.fault_of M.stands tasks nodes.new wires.new }
     ensures below { (tasks : ℕ → Task) → NetStands M.source_of M.fault_of M.stands tasks nodes.old wires.old → IsUpward [] (parts_of M.in_lanes M.out_lanes tasks nodes.new)
         → (net : NetStands M.source_of M.fault_of M.stands tasks nodes.new wires.new) × ((k : ℕ) (d : _) (w : ℕ) → k < length nodes.new → IsIn w (in_wires_of (slice_index_or nodes.new k d)) → LiesBelow (opened (net.world w).taken) (solve (parts_of M.in_lanes M.out_lanes tasks nodes.new) w)) }
@@ -80,9 +80,9 @@ pub fn run_to_end<R: Wait, M: Machine>(
         → (w : ℕ) → IsIn w (in_wires_of (slice_index_or nodes.new k d)) → LiesBelow (net.world w).taken (solve (parts_of M.in_lanes M.out_lanes tasks nodes.new) w)) }
     ensures cause { (tasks : ℕ → Task) → NetStands M.source_of M.fault_of M.stands tasks nodes.old wires.old → IsUpward [] (parts_of M.in_lanes M.out_lanes tasks nodes.new)
         → (k : ℕ) (d : _) → k < length nodes.new → ((j : ℕ) (e : _) → j < k → IsSound M.fault_of (slice_index_or nodes.new j e))
-        → (c : Fault) → M.fault_of (slice_index_or nodes.new k d).machine ≡ Some c → IsOfInputs c → (tasks k).cause (map (solve (parts_of M.in_lanes M.out_lanes tasks nodes.new)) (in_wires_of (slice_index_or nodes.new k d))) ≡ Some c }
+        → (c : Fault) → M.fault_of (machine_of (slice_index_or nodes.new k d)) ≡ Some c → IsOfInputs c → (tasks k).cause (map (solve (parts_of M.in_lanes M.out_lanes tasks nodes.new)) (in_wires_of (slice_index_or nodes.new k d))) ≡ Some c }
     ensures settled { (tasks : ℕ → Task) → NetStands M.source_of M.fault_of M.stands tasks nodes.old wires.old → IsUpward [] (parts_of M.in_lanes M.out_lanes tasks nodes.new) → ((k : ℕ) (d : _) → k < length nodes.new → IsSound M.fault_of (slice_index_or nodes.new k d))
-        → (k : ℕ) (d : _) → k < length nodes.new → length (slice_index_or nodes.new k d).outs.items ≡ 0 → Settled M.stands (tasks k) (parts_of M.in_lanes M.out_lanes tasks nodes.new) (slice_index_or nodes.new k d) }
+        → (k : ℕ) (d : _) → k < length nodes.new → outputs_of (slice_index_or nodes.new k d) ≡ 0 → Settled M.stands (tasks k) (parts_of M.in_lanes M.out_lanes tasks nodes.new) (slice_index_or nodes.new k d) }
 {
     for _ in rt.forever() {
         run_serial(nodes, wires, order);

@@ -3,7 +3,7 @@ use Rattle.std.proofs.Common.{◌≡◌, ◌≢◌, ◌↔◌, ℕ, zero, suc, �
 use Rattle.std.proofs.lemmas.Bool.Decides.{nat_tests}
 use Rattle.std.proofs.lemmas.List.{append-nil, length-set, length-append}
 use Rattle.ff_frame.specs.declared.item.Item.{Item}
-use Rattle.ff_frame.specs.declared.item.Item.TheVariants.{Audio, Packet, End, Broken}
+use Rattle.ff_frame.specs.declared.item.Item.TheVariants.{Audio, Video, Packet, End, Broken}
 use Rattle.ff_frame.specs.declared.item.Lane.{Lane}
 use Rattle.ff_frame.specs.Stream.{still_open, LiesBelow}
 use Rattle.ff_frame.specs.Items.{Closes, with_item, Leads}
@@ -120,12 +120,14 @@ module _ (lane : Lane) (limit left : ℕ) (closed : Bool) (given : List Item) (o
 
   item_count : (t : Flow) (x : Item) → length t.items ≤ length (with_item t x).items
   item_count t (Audio f) = omega (arith, length-append t.items (Audio f ∷ []))
+  item_count t (Video f) = omega (arith, length-append t.items (Video f ∷ []))
   item_count t (Packet f) = omega (arith, length-append t.items (Packet f ∷ []))
   item_count t End = omega arith
   item_count t Broken = omega arith
 
   more_items : (t : Flow) (x : Item) → (zs : List Item) × (t.items ++ zs ≡ (with_item t x).items)
   more_items t (Audio f) = (Audio f ∷ [], refl)
+  more_items t (Video f) = (Video f ∷ [], refl)
   more_items t (Packet f) = (Packet f ∷ [], refl)
   more_items t End = ([], append-nil t.items)
   more_items t Broken = ([], append-nil t.items)
@@ -139,6 +141,7 @@ module _ (lane : Lane) (limit left : ℕ) (closed : Bool) (given : List Item) (o
 
       pick : (y : Item) (b : Bool) → (b ≡ true ↔ Closes y) → b ≡ closed_mark (with_item (stream_at past.got 0) y).mark
       pick (Audio f) b h = no b h.0 ∙ sym (ap closed_mark o)
+      pick (Video f) b h = no b h.0 ∙ sym (ap closed_mark o)
       pick (Packet f) b h = no b h.0 ∙ sym (ap closed_mark o)
       pick End b h = h.1 tt
       pick Broken b h = h.1 tt
@@ -178,6 +181,7 @@ module _ (lane : Lane) (limit left : ℕ) (closed : Bool) (given : List Item) (o
 
   closing_same : (t : Flow) (x : Item) → Closes x → (with_item t x).items ≡ t.items
   closing_same t (Audio f) c = absurd c
+  closing_same t (Video f) c = absurd c
   closing_same t (Packet f) c = absurd c
   closing_same t End c = refl
   closing_same t Broken c = refl
@@ -203,6 +207,7 @@ module _ (lane : Lane) (limit left : ℕ) (closed : Bool) (given : List Item) (o
 
   data_items : (t : Flow) (x : Item) → (Closes x → ⊥) → ((with_item t x).items ≡ t.items ++ x ∷ []) × ((with_item t x).mark ≡ t.mark)
   data_items t (Audio f) c = (refl, refl)
+  data_items t (Video f) c = (refl, refl)
   data_items t (Packet f) c = (refl, refl)
   data_items t End c = absurd (c tt)
   data_items t Broken c = absurd (c tt)

@@ -56,7 +56,7 @@ fn note(trial: Trial, item: &Item) -> Trial
     ensures { result.items ≤ trial.items + 1 }
 {
     match item {
-        Item::Audio(_) | Item::Packet(_) => Trial {
+        Item::Audio(_) | Item::Video(_) | Item::Packet(_) => Trial {
             items: trial.items + 1,
             ..trial
         },

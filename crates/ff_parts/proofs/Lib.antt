@@ -1,2 +1,3 @@
 pub mod DemuxSteps
 pub mod Limits
+pub mod MuxSteps

@@ -1,7 +1,7 @@
 -- The part that gives an input's packets, as what it means.
 use Rattle.std.specs.Prelude.{◌≡◌, ◌⊎◌, ℕ, ◌+◌, ◌-◌, ◌^◌, nat_lt, ◌||◌, Bool, true, false, if◌then◌else◌, List, [], ◌++◌, drop, map, length, slice_get, Option, None, Some}
 use Rattle.ff_frame.specs.declared.item.Item.{Item}
-use Rattle.ff_frame.specs.declared.item.Item.TheVariants.{Audio, Packet, End, Broken}
+use Rattle.ff_frame.specs.declared.item.Item.TheVariants.{Audio, Video, Packet, End, Broken}
 use Rattle.ff_frame.specs.declared.item.Lane.{Lane}
 use Rattle.ff_frame.specs.declared.item.Lane.TheVariants.{Packets}
 use Rattle.ff_frame.specs.declared.packet.Pkt.{Pkt}
@@ -25,6 +25,7 @@ last_byte = 2 ^ 40
 -- a packet that ends past it
 abbrev pub ends_beyond : Item → Bool
 ends_beyond (Audio f) = false
+ends_beyond (Video f) = false
 ends_beyond (Packet p) = nat_lt last_byte (p.pos + length p.bytes)
 ends_beyond End = false
 ends_beyond Broken = false

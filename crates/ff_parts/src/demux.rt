@@ -16,6 +16,7 @@ ghost use Rattle.ff_parts.specs.declared.demux.ReadEnd.TheVariants.{Failed, NoMe
 use ff_frame::{Cut, Item, Pkt, Refused, StreamHead, Ticket};
 use ff_host::Source;
 use ff_net::{Fault, Machine};
+use ff_time::Rational;
 use ff_wav::{WavCut, WavHead};
 use std::alloc::{AllocError, Global};
 
@@ -76,19 +77,26 @@ impl From<ff_host::Failed> for ReadEnd {
     }
 }
 
+// The time base of a stream.
+fn base(head: &StreamHead) -> Rational
+    ensures { result ≡ base_of_head head.now }
+{
+    match *head {
+        StreamHead::Audio { tb, .. } => tb,
+        StreamHead::Video { tb, .. } => tb,
+    }
+}
+
 // Whether a packet ends past the last second.
 fn ends_late(head: &StreamHead, packet: &Pkt) -> bool
     ensures { result ≡ nat_lt (1000000000 * (base_of_head head.now).den) (ticks (end_of (Item.Packet packet.now)) * (base_of_head head.now).num) }
 {
-    match *head {
-        StreamHead::Audio { tb, .. } => {
-            let end = packet.pts as i128 + packet.duration as i128;
-            if end <= 0 {
-                return false;
-            }
-            LAST_SECOND * (tb.den() as u128) < (end as u128) * (tb.num() as u128)
-        }
+    let end = packet.pts as i128 + packet.duration as i128;
+    if end <= 0 {
+        return false;
     }
+    let tb = base(head);
+    LAST_SECOND * (tb.den() as u128) < (end as u128) * (tb.num() as u128)
 }
 
 // Whether a packet ends past the last byte.
@@ -100,7 +108,7 @@ fn ends_far(packet: &Pkt) -> bool
 }
 
 // Whether a packet passes a limit, where so many came before it.
-fn is_long(head: &StreamHead, before: u64, packet: &Pkt) -> bool
+pub(crate) fn is_long(head: &StreamHead, before: u64, packet: &Pkt) -> bool
     requires place { packet.now.pos + length packet.now.bytes < 2 ^ 64 }
     requires few { before ≤ 2 ^ 40 }
     ensures { result ≡ passes_in_demux (Packets head.now) before (Item.Packet packet.now) }

@@ -1,28 +1,35 @@
 -- The frame that a packet of linear PCM stands for.
 use Rattle.std.specs.Prelude.{◌≡◌, ℕ, ◌*◌, ◌≤◌, List, length}
 use Rattle.ff_frame.specs.Frame.{audio_frame}
-use Rattle.ff_frame.specs.Lanes.{sample_bytes}
+use Rattle.ff_frame.specs.Lanes.{sample_bytes, IsSoundHead}
 use Rattle.ff_frame.specs.declared.audio.AFrame.{AFrame}
 use Rattle.ff_frame.specs.declared.head.Codec.{Codec}
+use Rattle.ff_frame.specs.declared.head.Codec.TheVariants.{PcmU8}
 use Rattle.ff_frame.specs.declared.head.StreamHead.{StreamHead}
-use Rattle.ff_frame.specs.declared.head.StreamHead.TheVariants.{Audio}
+use Rattle.ff_frame.specs.declared.head.StreamHead.TheVariants.{Audio, Video}
 use Rattle.ff_frame.specs.declared.packet.Pkt.{Pkt}
 use Rattle.ff_pcm.specs.Samples.{depth, samples_of}
 
+-- the fields of a head of sound; that of video has none, and what is said of it here is never used
 abbrev pub rate_of : StreamHead → ℕ
 rate_of (Audio tb rate bits channels codec) = rate
+rate_of (Video tb format width height sar_num sar_den) = 0
 
 abbrev pub channels_of : StreamHead → ℕ
 channels_of (Audio tb rate bits channels codec) = channels
+channels_of (Video tb format width height sar_num sar_den) = 0
 
 abbrev pub bits_of : StreamHead → ℕ
 bits_of (Audio tb rate bits channels codec) = bits
+bits_of (Video tb format width height sar_num sar_den) = 0
 
 abbrev pub codec_of : StreamHead → Codec
 codec_of (Audio tb rate bits channels codec) = codec
+codec_of (Video tb format width height sar_num sar_den) = PcmU8
 
 -- sound of 1 to 8 channels with a PCM codec of its own depth
 pub record IsPcmHead (head : StreamHead) : Type 0 where
+  pub sound : IsSoundHead head
   pub depth_is : bits_of head ≡ depth (codec_of head)
   pub some_channels : 1 ≤ channels_of head
   pub few_channels : channels_of head ≤ 8

@@ -1,6 +1,6 @@
 ghost use Rattle.std.specs.Prelude.{◌≡◌, ◌*◌, ◌<◌, ℕ, All, length, IfOk, pos, slice_index_or};
 ghost use Rattle.ff_frame.specs.Audio.{FitsBits};
-ghost use Rattle.ff_frame.specs.Lanes.{sample_bytes, IsFrameOf};
+ghost use Rattle.ff_frame.specs.Lanes.{sample_bytes, IsFrameOf, IsSoundHead};
 ghost use Rattle.ff_frame.specs.declared.head.Codec.TheVariants.{PcmU8, PcmS16le, PcmS24le, PcmS32le};
 ghost use Rattle.ff_pcm.specs.Frames.{rate_of, channels_of, bits_of, codec_of, IsPcmHead, HasBlocks, frame_of};
 ghost use Rattle.ff_pcm.specs.Samples.{depth, sample_at, StandFor};
@@ -86,8 +86,9 @@ fn decoded(alloc: Global, codec: Codec, bytes: &[u8], count: usize) -> Result<Sa
     Ok(Samples::new(samples))
 }
 
-// The rate, bits, channels and codec of a head.
+// The rate, bits, channels and codec of a head of sound.
 fn audio_of(head: &StreamHead) -> (u32, u8, u8, Codec)
+    requires { IsSoundHead head.now }
     ensures rate { result.0 ≡ rate_of head.now }
     ensures bits { result.1 ≡ bits_of head.now }
     ensures channels { result.2 ≡ channels_of head.now }
@@ -101,6 +102,7 @@ fn audio_of(head: &StreamHead) -> (u32, u8, u8, Codec)
             codec,
             ..
         } => (rate, bits, channels, codec),
+        StreamHead::Video { .. } => unreachable!(),
     }
 }
 

@@ -1,6 +1,5 @@
 pub mod Coding
 pub mod Ends
-pub mod Heads
 pub mod Limit
 pub mod Names
 pub mod Reading

@@ -1,5 +1,5 @@
 -- The text of a framehash file with SHA-256 digests (ffmpeg's framehash muxer, version 2; FIPS 180-4).
-use Rattle.std.specs.Prelude.{ℕ, ◌==◌, if◌then◌else◌, List, ◌++◌, length, codes, decimal, Option, Some, None}
+use Rattle.std.specs.Prelude.{ℕ, ◌==◌, ◌&&◌, if◌then◌else◌, List, ◌++◌, length, codes, decimal, Option, Some, None}
 use Rattle.std.specs.Fmt.{signed_decimal}
 use Rattle.std.specs.List.{flat_map}
 use Rattle.sha2.specs.Sha256.{sha256}
@@ -10,7 +10,7 @@ use Rattle.ff_frame.specs.declared.packet.Pkt.{Pkt}
 use Rattle.ff_frame.specs.declared.head.Codec.{Codec}
 use Rattle.ff_frame.specs.declared.head.Codec.TheVariants.{PcmU8, PcmS16le, PcmS24le, PcmS32le}
 use Rattle.ff_frame.specs.declared.head.StreamHead.{StreamHead}
-use Rattle.ff_frame.specs.declared.head.StreamHead.TheVariants.{Audio}
+use Rattle.ff_frame.specs.declared.head.StreamHead.TheVariants.{Audio, Video}
 use Rattle.ff_frame.specs.Stream.{Stream, Mark, still_open, whole, broken}
 
 abbrev pub codec_name : Codec → List ℕ
@@ -29,6 +29,14 @@ layout_name channels =
 abbrev pub base_name : Fraction → List ℕ
 base_name base = decimal base.num ++ codes "/" ++ decimal base.den
 
+-- columns and rows as a text
+abbrev pub size_name : ℕ → ℕ → List ℕ
+size_name width height = decimal width ++ codes "x" ++ decimal height
+
+-- the aspect of a sample as a text, 0:0 as 0/1
+abbrev pub aspect_name : ℕ → ℕ → List ℕ
+aspect_name num den = if num == 0 && den == 0 then codes "0/1" else base_name (record { num = num; den = den })
+
 -- the line that stream i has this value of a property
 unfoldable pub about : List ℕ → ℕ → List ℕ → List ℕ
 about property i value = line (codes "#" ++ property ++ codes " " ++ decimal i ++ codes ": " ++ value)
@@ -41,6 +49,12 @@ stream_lines i (Audio tb rate bits channels codec) =
     ++ about (codes "codec_id") i (codec_name codec)
     ++ about (codes "sample_rate") i (decimal rate)
     ++ about (codes "channel_layout_name") i (layout_name channels)
+stream_lines i (Video tb format width height sar_num sar_den) =
+    about (codes "tb") i (base_name tb)
+    ++ about (codes "media_type") i (codes "video")
+    ++ about (codes "codec_id") i (codes "rawvideo")
+    ++ about (codes "dimensions") i (size_name width height)
+    ++ about (codes "sar") i (aspect_name sar_num sar_den)
 
 -- the lines before those on the streams
 unfoldable pub first_lines : List ℕ

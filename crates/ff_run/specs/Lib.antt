@@ -1,4 +1,3 @@
-pub mod Head
 pub mod Wav
 pub mod Samples
 pub mod FrameHash

@@ -3,7 +3,7 @@ use Rattle.std.specs.Prelude.{ℕ, ◌+◌, ◌-◌, ◌*◌, ◌%◌, ◌^◌, 
 use Rattle.std.specs.Int.{w16, w32, to_le_bytes}
 use Rattle.ff_frame.specs.Lanes.{sample_bytes}
 use Rattle.ff_frame.specs.declared.head.StreamHead.{StreamHead}
-use Rattle.ff_frame.specs.declared.head.StreamHead.TheVariants.{Audio}
+use Rattle.ff_frame.specs.declared.head.StreamHead.TheVariants.{Audio, Video}
 use Rattle.ff_wav.specs.declared.put.WavPut.{WavPut}
 
 -- numbers in two and in four bytes, the lowest byte first
@@ -53,14 +53,16 @@ long_format channels rate block bits = le_32 40 ++ le_16 0xFFFE ++ fields_of cha
 abbrev pub format_bytes : ℕ → ℕ → ℕ → ℕ → List ℕ
 format_bytes channels rate block bits = if is_plain channels bits then plain_format channels rate block bits else long_format channels rate block bits
 
--- the header with these two sizes
+-- the header with these two sizes; a stream of video has none
 abbrev pub header : StreamHead → ℕ → ℕ → List ℕ
 header (Audio base rate bits channels codec) riff_size data_size =
     riff ++ le_32 riff_size ++ wave_format ++ format_bytes channels rate (channels * sample_bytes codec) bits ++ data_id ++ le_32 data_size
+header (Video tb format width height sar_num sar_den) riff_size data_size = []
 
 -- how long it is
 abbrev pub header_len : StreamHead → ℕ
 header_len (Audio base rate bits channels codec) = if is_plain channels bits then 44 else 68
+header_len (Video tb format width height sar_num sar_den) = 0
 
 -- the header of a body of so many bytes, which one pad byte follows where it is odd: the file's length less 8, and the body's
 abbrev pub header_of : StreamHead → ℕ → List ℕ

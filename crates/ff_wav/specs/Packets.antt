@@ -8,12 +8,13 @@ use Rattle.ff_frame.specs.Lanes.{sample_bytes}
 use Rattle.ff_frame.specs.Packet.{packet_at as packet_from}
 use Rattle.ff_frame.specs.declared.head.Codec.{Codec}
 use Rattle.ff_frame.specs.declared.head.StreamHead.{StreamHead}
-use Rattle.ff_frame.specs.declared.head.StreamHead.TheVariants.{Audio}
+use Rattle.ff_frame.specs.declared.head.StreamHead.TheVariants.{Audio, Video}
 use Rattle.ff_wav.specs.declared.head.WavHead.{WavHead}
 
 -- the bytes of one sample frame
 abbrev pub block_of : StreamHead → ℕ
 block_of (Audio tb rate bits channels codec) = channels * sample_bytes codec
+block_of (Video tb format width height sar_num sar_den) = 0
 
 -- a size in whole sample frames: the body ends with the last of them
 abbrev pub whole_len : WavHead → Option ℕ
@@ -54,6 +55,7 @@ pub record IsPcmSound (base : Fraction) (rate bits channels : ℕ) (codec : Code
 
 abbrev pub IsStream : StreamHead → Type 0
 IsStream (Audio base rate bits channels codec) = IsPcmSound base rate bits channels codec
+IsStream (Video tb format width height sar_num sar_den) = ⊥
 
 -- what is true of every head that is read
 pub record IsHead (head : WavHead) : Type 0 where

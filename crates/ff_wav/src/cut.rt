@@ -55,6 +55,7 @@ fn block_of_head(head: &StreamHead) -> usize
             codec,
             ..
         } => channels as usize * size_of_sample(codec),
+        StreamHead::Video { .. } => unreachable!(),
     }
 }
 

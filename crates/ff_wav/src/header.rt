@@ -1,6 +1,6 @@
 // The bytes of a header.
 ghost use Rattle.std.specs.Prelude.{◌≡◌, ◌+◌, ◌*◌, ◌%◌, ◌^◌, ◌<◌, ◌≤◌, ◌++◌, [], IfOk, OnOk};
-ghost use Rattle.ff_frame.specs.Lanes.{sample_bytes};
+ghost use Rattle.ff_frame.specs.Lanes.{sample_bytes, IsSoundHead};
 ghost use Rattle.ff_wav.specs.Header.{le_16, le_32, is_plain, mask_of, fields_of, pcm_guid, extension, riff, wave_format, data_id, plain_format, long_format, format_bytes, header, header_len};
 
 use crate::cut::size_of_sample;
@@ -139,6 +139,7 @@ pub(crate) fn header_bytes(
     riff_size: u32,
     data_size: u32,
 ) -> Result<Vec<u8>, AllocError>
+    requires { IsSoundHead head.now }
     ensures { IfOk result (λ bytes. bytes.items ≡ header head.now riff_size data_size) }
 {
     let StreamHead::Audio {
@@ -147,7 +148,10 @@ pub(crate) fn header_bytes(
         channels,
         codec,
         ..
-    } = *head;
+    } = *head
+    else {
+        unreachable!()
+    };
     let block = channels as u16 * size_of_sample(codec) as u16;
     let mut out = Vec::new(alloc);
     add_riff(&mut out)?;
@@ -161,11 +165,14 @@ pub(crate) fn header_bytes(
 
 /// How long the header is.
 pub(crate) fn len_of_header(head: &StreamHead) -> u32
-    ensures { result ≡ header_len head.now }
+    requires { IsSoundHead head.now }
+    ensures value { result ≡ header_len head.now }
+    ensures long { 44 ≤ result }
 {
     match *head {
         StreamHead::Audio { bits, channels, .. } => {
             if channels <= 2 && bits <= 16 { 44 } else { 68 }
         }
+        StreamHead::Video { .. } => unreachable!(),
     }
 }

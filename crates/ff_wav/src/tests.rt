@@ -41,6 +41,7 @@ fn told(bytes: &[u8], whole: bool) -> Result<(u8, u8, Codec, u64, Option<u64>), 
             codec,
             ..
         } => Ok((channels, bits, codec, head.start, head.len)),
+        StreamHead::Video { .. } => Err(HeadEnd::NoMemory),
     }
 }
 

@@ -12,7 +12,7 @@ use crate::wires::Wires;
 
 impl<M: Machine> Node<M> {
     /// Whether each input was finished.
-    pub fn ins_done(&self) -> bool
+    pub(crate) fn ins_done(&self) -> bool
         ensures done { result ≡ true → (p : ℕ) → p < length self.now.ins.items → (in_at self.now.ins.items p).done ≡ true }
         ensures exact { ((p : ℕ) → p < length self.now.ins.items → (in_at self.now.ins.items p).done ≡ true) → result ≡ true }
     {
@@ -25,7 +25,7 @@ impl<M: Machine> Node<M> {
     }
 
     /// Fills each output, and says whether one holds an item.
-    pub fn fill_all(&mut self) -> bool
+    pub(crate) fn fill_all(&mut self) -> bool
         requires outputs { length self.old.outs.items ≡ length (M.out_lanes self.old.machine) }
         ensures stepped { (wires : Wires) → Stepped M.in_lanes M.out_lanes M.source_of M.device_of M.failures M.fault_of M.stands (Readies M.fault_of (λ q. q < length self.new.outs.items) result self.new) self.old wires self.new wires }
         ensures held { result ≡ true → SomeHeld self.new.outs.items }
@@ -47,7 +47,7 @@ impl<M: Machine> Node<M> {
     }
 
     /// Puts what is held on each output, and says whether something moved.
-    pub fn send_all(&mut self, wires: &mut Wires) -> bool
+    pub(crate) fn send_all(&mut self, wires: &mut Wires) -> bool
         requires shaped { IsShaped M.in_lanes M.out_lanes self.old wires.old }
         ensures stepped { Stepped M.in_lanes M.out_lanes M.source_of M.device_of M.failures M.fault_of M.stands (Acts (result ≡ true) (Unit {0})) self.old wires.old self.new wires.new }
         ensures same { result ≡ false → IsSame self.old self.new × (wires.new ≡ wires.old) }
@@ -63,7 +63,7 @@ impl<M: Machine> Node<M> {
     }
 
     /// Takes from each input, and says whether something moved.
-    pub fn take_all(&mut self, wires: &mut Wires) -> bool
+    pub(crate) fn take_all(&mut self, wires: &mut Wires) -> bool
         requires shaped { IsShaped M.in_lanes M.out_lanes self.old wires.old }
         ensures stepped { Stepped M.in_lanes M.out_lanes M.source_of M.device_of M.failures M.fault_of M.stands (Acts (result ≡ true) (⊥)) self.old wires.old self.new wires.new }
         ensures same { result ≡ false → IsSame self.old self.new × (wires.new ≡ wires.old) }
@@ -79,7 +79,7 @@ impl<M: Machine> Node<M> {
     }
 
     /// Puts Broken on each output, and says whether something moved.
-    pub fn break_all(&mut self, wires: &mut Wires) -> bool
+    pub(crate) fn break_all(&mut self, wires: &mut Wires) -> bool
         requires shaped { IsShaped M.in_lanes M.out_lanes self.old wires.old }
         requires faulty { IsSound M.fault_of self.old → ⊥ }
         ensures stepped { Stepped M.in_lanes M.out_lanes M.source_of M.device_of M.failures M.fault_of M.stands (Acts (result ≡ true) (Unit {0})) self.old wires.old self.new wires.new }
@@ -97,7 +97,7 @@ impl<M: Machine> Node<M> {
     }
 
     /// Finishes each input that can matter no more, and says whether something moved.
-    pub fn close_all(&mut self, wires: &mut Wires) -> bool
+    pub(crate) fn close_all(&mut self, wires: &mut Wires) -> bool
         requires shaped { IsShaped M.in_lanes M.out_lanes self.old wires.old }
         ensures stepped { Stepped M.in_lanes M.out_lanes M.source_of M.device_of M.failures M.fault_of M.stands (Acts (result ≡ true) (Unit {0})) self.old wires.old self.new wires.new }
         ensures same { result ≡ false → IsSame self.old self.new × (wires.new ≡ wires.old) }

@@ -17,7 +17,7 @@ use ff_frame::{Item, Ticket};
 
 impl<M: Machine> Node<M> {
     /// Lets the machine give the next item of an output to hold, and says whether one is held.
-    pub fn fill(&mut self, p: usize) -> bool
+    pub(crate) fn fill(&mut self, p: usize) -> bool
         requires there { p < length self.old.outs.items }
         requires outputs { length self.old.outs.items ≡ length (M.out_lanes self.old.machine) }
         ensures stepped { (wires : Wires) → Stepped M.in_lanes M.out_lanes M.source_of M.device_of M.failures M.fault_of M.stands (Readies M.fault_of (λ q. q ≡ p) result self.new) self.old wires self.new wires }
@@ -51,7 +51,7 @@ impl<M: Machine> Node<M> {
     }
 
     /// Allows a source one ticket more, and says whether it took it.
-    pub fn allow(&mut self) -> bool
+    pub(crate) fn allow(&mut self) -> bool
         ensures stepped { (wires : Wires) → Stepped M.in_lanes M.out_lanes M.source_of M.device_of M.failures M.fault_of M.stands (Grants result) self.old wires self.new wires }
         ensures outs { self.new.outs ≡ self.old.outs }
         ensures ins { self.new.ins ≡ self.old.ins }
@@ -78,7 +78,7 @@ impl<M: Machine> Node<M> {
     }
 
     /// Puts what an output holds.
-    pub fn send(&mut self, wires: &mut Wires, p: usize) -> bool
+    pub(crate) fn send(&mut self, wires: &mut Wires, p: usize) -> bool
         requires shaped { IsShaped M.in_lanes M.out_lanes self.old wires.old }
         requires there { p < length self.old.outs.items }
         ensures stepped { Stepped M.in_lanes M.out_lanes M.source_of M.device_of M.failures M.fault_of M.stands (Acts (result ≡ true) (Unit {0})) self.old wires.old self.new wires.new }
@@ -115,7 +115,7 @@ impl<M: Machine> Node<M> {
     }
 
     /// Takes an item from a wire, and feeds it.
-    pub fn take(&mut self, wires: &mut Wires, p: usize) -> bool
+    pub(crate) fn take(&mut self, wires: &mut Wires, p: usize) -> bool
         requires shaped { IsShaped M.in_lanes M.out_lanes self.old wires.old }
         requires there { p < length self.old.ins.items }
         ensures stepped { Stepped M.in_lanes M.out_lanes M.source_of M.device_of M.failures M.fault_of M.stands (Acts (result ≡ true) (⊥)) self.old wires.old self.new wires.new }
@@ -142,7 +142,7 @@ impl<M: Machine> Node<M> {
     }
 
     /// Whether an input can matter no more.
-    pub fn may_finish(&self, p: usize) -> bool
+    pub(crate) fn may_finish(&self, p: usize) -> bool
         requires there { p < length self.now.ins.items }
         requires inputs { length self.now.ins.items ≡ length (M.in_lanes self.now.machine) }
         ensures why { result ≡ true → IsSound M.fault_of self.now → M.is_spent self.now.machine p ⊎ ((0 < length self.now.outs.items) × AreDone self.now.outs.items) }
@@ -160,7 +160,7 @@ impl<M: Machine> Node<M> {
     }
 
     /// Finishes an input that can matter no more, and says whether it did.
-    pub fn close(&mut self, wires: &mut Wires, p: usize) -> bool
+    pub(crate) fn close(&mut self, wires: &mut Wires, p: usize) -> bool
         requires shaped { IsShaped M.in_lanes M.out_lanes self.old wires.old }
         requires there { p < length self.old.ins.items }
         ensures stepped { Stepped M.in_lanes M.out_lanes M.source_of M.device_of M.failures M.fault_of M.stands (Acts (result ≡ true) (Unit {0})) self.old wires.old self.new wires.new }
@@ -185,7 +185,7 @@ impl<M: Machine> Node<M> {
     }
 
     /// Puts Broken in place of what an output holds.
-    pub fn break_off(&mut self, wires: &mut Wires, p: usize) -> bool
+    pub(crate) fn break_off(&mut self, wires: &mut Wires, p: usize) -> bool
         requires shaped { IsShaped M.in_lanes M.out_lanes self.old wires.old }
         requires there { p < length self.old.outs.items }
         requires faulty { IsSound M.fault_of self.old → ⊥ }

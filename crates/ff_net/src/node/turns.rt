@@ -4,7 +4,7 @@ ghost use Rattle.ff_frame.specs.Ports.{IsClosed};
 ghost use Rattle.ff_net.specs.declared.wires.Wires.{Wires};
 ghost use Rattle.ff_net.specs.Pasts.{Past};
 ghost use Rattle.ff_net.specs.Ports.{in_at, out_at, SomeHeld, NoneHeld};
-ghost use Rattle.ff_net.specs.Nodes.{IsShaped, IsSound, IsDone, NodeStands};
+ghost use Rattle.ff_net.specs.Nodes.{IsShaped, IsSound, IsDone, NodeStands, HasFinished, machine_of, inputs_of, in_wire_of};
 ghost use Rattle.ff_net.specs.Steps.{Stepped, Prepares, Turns};
 ghost use Rattle.ff_net.specs.Turns.{Waits, Answers};
 ghost use Rattle.ff_net.specs.Worlds.{Wire};
@@ -22,7 +22,7 @@ pub struct Ready {
 
 impl<M: Machine> Node<M> {
     /// Lets the machine give what it has, and allows a source one ticket.
-    pub fn ready(&mut self) -> Ready
+    pub(crate) fn ready(&mut self) -> Ready
         requires outputs { length self.old.outs.items ≡ length (M.out_lanes self.old.machine) }
         ensures stepped { (wires : Wires) → Stepped M.in_lanes M.out_lanes M.source_of M.device_of M.failures M.fault_of M.stands (Prepares M.source_of M.fault_of result.granted result.due self.old self.new) self.old wires self.new wires }
         ensures held { result.due ≡ true → SomeHeld self.new.outs.items }
@@ -47,7 +47,7 @@ impl<M: Machine> Node<M> {
     }
 
     /// Sends what is held, or takes, or breaks off, and says whether something moved.
-    pub fn act(&mut self, wires: &mut Wires) -> bool
+    pub(crate) fn act(&mut self, wires: &mut Wires) -> bool
         requires shaped { IsShaped M.in_lanes M.out_lanes self.old wires.old }
         ensures stepped { Stepped M.in_lanes M.out_lanes M.source_of M.device_of M.failures M.fault_of M.stands (Turns M.source_of M.fault_of result self.old self.new) self.old wires.old self.new wires.new }
         ensures waits { result ≡ false → Waits M.fault_of self.new wires.new }
@@ -74,9 +74,9 @@ impl<M: Machine> Node<M> {
         requires shaped { IsShaped M.in_lanes M.out_lanes self.old wires.old }
         ensures stepped { Stepped M.in_lanes M.out_lanes M.source_of M.device_of M.failures M.fault_of M.stands (Answers M.fault_of result self.old self.new wires.new) self.old wires.old self.new wires.new }
         ensures done { result ≡ Turn.Done → IsDone self.new }
-        ensures closed { (world : ℕ → Wire) (past : Past) → NodeStands M.source_of M.fault_of M.stands self.new world past → (p : ℕ) → p < length self.new.ins.items → IsClosed (world (in_at self.new.ins.items p).wire).taken → (in_at self.new.ins.items p).done ≡ true }
-        ensures spent { (p : ℕ) → p < length self.new.ins.items → M.is_spent self.new.machine p → (in_at self.new.ins.items p).done ≡ true }
-        ensures faulty { (IsSound M.fault_of self.new → ⊥) → (p : ℕ) → p < length self.new.ins.items → (in_at self.new.ins.items p).done ≡ true }
+        ensures closed { (world : ℕ → Wire) (past : Past) → NodeStands M.source_of M.fault_of M.stands self.new world past → (p : ℕ) → p < inputs_of self.new → IsClosed (world (in_wire_of self.new p)).taken → HasFinished self.new p }
+        ensures spent { (p : ℕ) → p < inputs_of self.new → M.is_spent (machine_of self.new) p → HasFinished self.new p }
+        ensures faulty { (IsSound M.fault_of self.new → ⊥) → (p : ℕ) → p < inputs_of self.new → HasFinished self.new p }
     {
         let acted = self.act(wires);
         let closed = self.close_all(wires);

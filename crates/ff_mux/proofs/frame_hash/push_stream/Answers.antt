@@ -1,8 +1,10 @@
-use Rattle.std.proofs.Common.{◌≡◌, ◌++◌, OnOk, subst}
-use Rattle.ff_mux.proofs.Heads.{stream_lines-fields}
+use Rattle.std.proofs.Common.{◌≡◌, ◌++◌, OnOk, subst, sym}
+use Rattle.ff_frame.specs.declared.head.StreamHead.{StreamHead}
+use Rattle.ff_mux.specs.FrameHash.{stream_lines}
 use Rattle.ff_mux.proofs.frame_hash.push_stream.Goals as goal
 
-pub returns : goal.returns
-returns c =
-    let fields = simp (c.audio_of-tb.ensures.tb, c.audio_of-tb.ensures.rate, c.audio_of-tb.ensures.channels, c.audio_of-tb.ensures.codec) at (c.push_audio.ensures 0) in
-    subst (λ lines. OnOk c.push_audio.result (c.push_audio.new.out.items ≡ c.args.out.now.items ++ lines)) (stream_lines-fields c.args.stream c.args.head.now) fields
+pub returns-in-Audio : goal.returns-in-Audio
+returns-in-Audio c = subst (λ (h : StreamHead). OnOk c.push_audio.result (c.push_audio.new.out.items ≡ c.args.out.now.items ++ stream_lines c.args.stream h)) (sym c.in-Audio.is) (c.push_audio.ensures c.in-Audio.bits)
+
+pub returns-in-Video : goal.returns-in-Video
+returns-in-Video c = subst (λ (h : StreamHead). OnOk c.push_video.result (c.push_video.new.out.items ≡ c.args.out.now.items ++ stream_lines c.args.stream h)) (sym c.in-Video.is) (c.push_video.ensures c.in-Video.format)

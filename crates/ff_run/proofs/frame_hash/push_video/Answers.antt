@@ -1,0 +1,18 @@
+use Rattle.std.proofs.Common.{append_assoc}
+use Rattle.ff_run.proofs.frame_hash.push_video.Goals as goal
+
+pub returns : goal.returns
+returns c = λ format. simp (
+  c.in_ok-push_about-5.ensures,
+  c.in_ok-push_about-4.ensures,
+  c.in_ok-push_about-3.ensures,
+  c.in_ok-push_about-2.ensures,
+  c.in_ok-push_about.ensures,
+  c.as_str.ensures.value,
+  c.as_str-2.ensures.value,
+  c.as_str-3.ensures.value,
+  c.in_ok-base.ensures,
+  c.in_ok-size.ensures,
+  c.in_ok-aspect.ensures,
+  append_assoc,
+)

@@ -1,0 +1,9 @@
+-- A head is one of sound in one way at most.
+use Rattle.std.specs.Coded.{Unit-prop}
+use Rattle.ff_frame.specs.declared.head.StreamHead.{StreamHead}
+use Rattle.ff_frame.specs.declared.head.StreamHead.TheVariants.{Audio, Video}
+use Rattle.ff_frame.specs.Lanes.{IsSoundHead}
+
+pub IsSoundHead-prop : (head : StreamHead) → IsProp (IsSoundHead head)
+IsSoundHead-prop (Audio base rate bits channels codec) = Unit-prop
+IsSoundHead-prop (Video tb format width height sar_num sar_den) = λ a. absurd a
