@@ -1,6 +1,6 @@
 // Texts written out by hand from the layout of framehash files; the digests are those of sha256sum.
 use super::HashPut;
-use ff_frame::{Bytes, Codec, Pkt, StreamHead};
+use ff_frame::{Bytes, Codec, Format, Pkt, StreamHead};
 use ff_time::Rational;
 use std::alloc::{AllocError, Global};
 
@@ -49,6 +49,37 @@ fn first(rt: HostRuntime) {
             panic!(rt; "a time base");
         };
         let put = HashPut::new(rt.alloc(), audio(tb, rate, channels, codec));
+        let text = put.first().expect(&rt, "memory");
+        assert_eq!(rt; text.as_slice(), want);
+    }
+}
+
+#[test]
+fn first_of_pictures(rt: HostRuntime) {
+    let Ok(tb) = Rational::new(1, 25) else {
+        panic!(rt; "a time base");
+    };
+    // the aspect of a sample, and as the text has it
+    let rows = [
+        (
+            (0, 0),
+            b"#format: frame checksums\n#version: 2\n#hash: SHA256\n#tb 0: 1/25\n#media_type 0: video\n#codec_id 0: rawvideo\n#dimensions 0: 3x1\n#sar 0: 0/1\n#stream#, dts,        pts, duration,     size, hash\n".as_slice(),
+        ),
+        (
+            (10, 11),
+            b"#format: frame checksums\n#version: 2\n#hash: SHA256\n#tb 0: 1/25\n#media_type 0: video\n#codec_id 0: rawvideo\n#dimensions 0: 3x1\n#sar 0: 10/11\n#stream#, dts,        pts, duration,     size, hash\n".as_slice(),
+        ),
+    ];
+    for ((sar_num, sar_den), want) in rows {
+        let head = StreamHead::Video {
+            tb,
+            format: Format::Mono,
+            width: 3,
+            height: 1,
+            sar_num,
+            sar_den,
+        };
+        let put = HashPut::new(rt.alloc(), head);
         let text = put.first().expect(&rt, "memory");
         assert_eq!(rt; text.as_slice(), want);
     }

@@ -1,2 +1,5 @@
+mod JoinSteps
+mod ListSteps
+pub mod Networks
 pub mod RelaySteps
 pub mod Shapes

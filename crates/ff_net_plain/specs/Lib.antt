@@ -1,3 +1,10 @@
+pub mod JoinLaws
+pub mod Joins
+pub mod ListLaws
+pub mod Lists
+pub mod Networks
+pub mod PlainLaws
+pub mod Plains
 pub mod RelayLaws
 pub mod Relays
 pub mod Trials

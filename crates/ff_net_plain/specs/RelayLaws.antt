@@ -43,7 +43,7 @@ lane_past zero q l le = refl
 lane_past (suc n) zero l le = absurd (omega arith)
 lane_past (suc n) (suc q) l le = lane_past n q l (omega arith)
 
-below_or : (p n : ℕ) → (p < n) ⊎ (n ≤ p)
+pub below_or : (p n : ℕ) → (p < n) ⊎ (n ≤ p)
 below_or p zero = inr (omega arith)
 below_or zero (suc n) = inl (omega arith)
 below_or (suc p) (suc n) = elim (below_or p n) [ inl a ↦ inl (omega arith) | inr b ↦ inr (omega arith) ]
@@ -59,7 +59,7 @@ stopped_mark n s le =
     let test : nat_le n (length s.items) ≡ true = grind (arith, nat_tests) in
     ap (λ (b : Bool). cond b whole s.mark) test
 
-take_append : (n : ℕ) (xs ys : List Item) → n ≤ length xs → take n (xs ++ ys) ≡ take n xs
+pub take_append : (n : ℕ) (xs ys : List Item) → n ≤ length xs → take n (xs ++ ys) ≡ take n xs
 take_append zero xs ys le = refl
 take_append (suc n) [] ys le = absurd (omega arith)
 take_append (suc n) (x ∷ xs) ys le = ap (λ (zs : List Item). x ∷ zs) (take_append n xs ys (omega arith))
@@ -69,7 +69,7 @@ take_longer n [] ys le = (take n ys, refl)
 take_longer zero (x ∷ xs) ys le = absurd (omega arith)
 take_longer (suc n) (x ∷ xs) ys le = let r = take_longer n xs ys (omega arith) in (r.0, ap (λ (zs : List Item). x ∷ zs) r.1)
 
-length_front : (xs ys zs : List Item) → xs ++ zs ≡ ys → length xs ≤ length ys
+pub length_front : (xs ys zs : List Item) → xs ++ zs ≡ ys → length xs ≤ length ys
 length_front [] ys zs e = omega arith
 length_front (x ∷ xs) [] zs e = cc
 length_front (x ∷ xs) (y ∷ ys) zs e = let rest : xs ++ zs ≡ ys = cc (e) in let le = length_front xs ys zs rest in omega (arith, le)

@@ -28,6 +28,7 @@ pub struct Relay {
 
 impl Relay {
     ghost use Rattle.std.specs.Prelude.{IfOk};
+    ghost use Rattle.ff_net_plain.specs.Trials.{relay_ins, relay_outs, given_by};
 
     /// A relay of this lane with so many outputs, which ends after `limit` items and refuses what comes after `room`.
     pub fn new(
@@ -37,8 +38,8 @@ impl Relay {
         limit: usize,
         room: usize,
     ) -> Result<Relay, AllocError>
-        ensures outs { IfOk result (λ relay. length relay.outs.items ≡ count) }
-        ensures lane { IfOk result (λ relay. relay.lane ≡ lane) }
+        ensures ins { IfOk result (λ relay. relay_ins relay ≡ lane ∷ []) }
+        ensures outs { IfOk result (λ relay. relay_outs relay ≡ replicate count lane) }
     {
         let mut outs = Vec::new(alloc);
         for _i in 0..count {
@@ -61,7 +62,7 @@ impl Relay {
 
     /// What it was fed, up to where it ends.
     pub fn given(&self) -> &[Item]
-        ensures { result.now ≡ self.now.given.items }
+        ensures { result.now ≡ given_by self.now }
     {
         &self.given
     }

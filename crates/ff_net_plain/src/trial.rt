@@ -21,7 +21,8 @@ pub struct Trial {
     pub faulty: bool,
 }
 
-fn lane(tb: Rational) -> Lane
+/// The lane of all wires.
+pub(crate) fn lane(tb: Rational) -> Lane
     ensures { result ≡ trial_lane tb }
 {
     Lane::Packets(StreamHead::Audio {
@@ -33,13 +34,10 @@ fn lane(tb: Rational) -> Lane
     })
 }
 
-/// The packet of this number, of one sample, or the end.
-fn item(alloc: Global, number: usize, count: usize) -> Result<Item, AllocError>
+/// The packet of this number, of one sample.
+pub(crate) fn packet(alloc: Global, number: usize) -> Result<Item, AllocError>
     requires { number < 100 }
 {
-    if number >= count {
-        return Ok(Item::End);
-    }
     let bytes = vec![in alloc; 128u8; 1]?;
     let time = number as i64;
     Ok(Item::Packet(Pkt {
@@ -49,6 +47,16 @@ fn item(alloc: Global, number: usize, count: usize) -> Result<Item, AllocError>
         pos: 0,
         bytes: Bytes::new(bytes),
     }))
+}
+
+/// The packet of this number, or the end.
+fn item(alloc: Global, number: usize, count: usize) -> Result<Item, AllocError>
+    requires { number < 100 }
+{
+    if number >= count {
+        return Ok(Item::End);
+    }
+    packet(alloc, number)
 }
 
 fn note(trial: Trial, item: &Item) -> Trial

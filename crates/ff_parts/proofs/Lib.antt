@@ -1,3 +1,4 @@
 pub mod DemuxSteps
 pub mod Limits
+pub mod MapSteps
 pub mod MuxSteps

@@ -1,11 +1,11 @@
 -- The packets of an input are valid for their lane, up to the limits.
-use Rattle.std.specs.Prelude.{◌≡◌, ℕ, zero, suc, ◌+◌, ◌-◌, ◌*◌, ◌<◌, ◌≤◌, ◌||◌, min, Bool, true, false, cond, List, [], ◌∷◌, take, drop, map, length, All, refl}
+use Rattle.std.specs.Prelude.{◌≡◌, ℕ, zero, suc, ◌+◌, ◌-◌, ◌*◌, ◌/◌, ◌<◌, ◌≤◌, ◌||◌, min, Bool, true, false, cond, List, [], ◌∷◌, take, drop, map, length, All, refl}
 use Rattle.std.specs.List.{range_with_len}
-use Rattle.std.proofs.Common.{subst, sym, ap, arith}
+use Rattle.std.proofs.Common.{ap, sym, subst, arith}
 use Rattle.std.proofs.lemmas.Int.{ints}
 use Rattle.std.proofs.lemmas.List.{length-take, length-drop}
 use Rattle.std.proofs.lemmas.List.Elements.{All-nil}
-use Rattle.std.proofs.Math.Nat.{div-mul-le_self, div-zero, mul-le-mul_right}
+use Rattle.std.proofs.Math.Nat.{div-zero, div-mul-le_self, mul-le-mul_right}
 use mathlib.Core.List.{IsPrefix}
 use Rattle.ff_time.specs.Fraction.{Fraction}
 use Rattle.ff_frame.specs.declared.head.Codec.{Codec}
@@ -15,7 +15,6 @@ use Rattle.ff_frame.specs.declared.item.Item.{Item}
 use Rattle.ff_frame.specs.declared.item.Item.TheVariants.{Packet}
 use Rattle.ff_frame.specs.declared.item.Lane.{Lane}
 use Rattle.ff_frame.specs.declared.item.Lane.TheVariants.{Packets}
-use Rattle.ff_frame.specs.declared.packet.Pkt.{Pkt}
 use Rattle.ff_frame.specs.Stream.{whole_stream}
 use Rattle.ff_frame.specs.Lanes.{sample_bytes, IsItemFor, InOrder, Follows, AreInShape, IsValid}
 use Rattle.ff_frame.specs.LaneLaws.{valid_front}
@@ -79,15 +78,12 @@ module _ (tb : Fraction) (rate bits channels : ℕ) (codec : Codec) (start : ℕ
   packets_in_shape : AreInShape lane (map Packet (packets_of start block xs))
   packets_in_shape = record { each = each_from 0 (packet_count block xs) (omega arith); in_order = order_from 0 (packet_count block xs) (omega arith) }
 
--- with no bytes in a block there is none
-no_packets : (start : ℕ) (xs : List ℕ) → packets_of start 0 xs ≡ []
-no_packets start xs = let none : packet_count 0 xs ≡ 0 = omega (arith, div-zero (length xs)) in ap (λ (n : ℕ). map (λ k. packet_at start 0 xs (1024 * k)) (range_with_len 0 n)) none
-
 in_shape : (head : StreamHead) (start : ℕ) (xs : List ℕ) → AreInShape (Packets head) (map Packet (packets_of start (block_of head) xs))
 in_shape (AudioHead tb rate bits channels codec) start xs = packets_in_shape tb rate bits channels codec start xs
-in_shape (VideoHead tb format width height sar_num sar_den) start xs =
-    let lane = Packets (VideoHead tb format width height sar_num sar_den) in
-    subst (λ (ps : List Pkt). AreInShape lane (map Packet ps)) (sym (no_packets start xs)) (record { each = All-nil (IsItemFor lane); in_order = tt })
+in_shape (VideoHead tb format width height sar_num sar_den) start xs = subst (λ (n : ℕ). AreInShape (Packets (VideoHead tb format width height sar_num sar_den)) (map Packet (map (λ k. packet_at start 0 xs (1024 * k)) (range_with_len 0 n)))) (sym none) (record { each = λ k d lt. absurd (omega arith); in_order = tt })
+  where
+    none : packet_count 0 xs ≡ 0
+    none = ap (λ (n : ℕ). (n + 1023) / 1024) (div-zero (length xs))
 
 module _ {A : Type 0} (weak strong : ℕ → A → Bool) where
   abbrev both : ℕ → A → Bool

@@ -1,8 +1,16 @@
+pub mod Coders
+pub mod DecodeLaws
+pub mod Decoding
 pub mod DemuxClaims
 pub mod DemuxLaws
 pub mod DemuxShapes
 pub mod Demuxers
 pub mod Demuxing
+pub mod EncodeLaws
+pub mod Encoding
+pub mod Heads
+pub mod MapLaws
+pub mod Maps
 pub mod MuxLaws
 pub mod Muxing
 pub mod Sources

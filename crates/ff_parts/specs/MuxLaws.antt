@@ -1,17 +1,16 @@
 -- The laws of the part that writes framehash text.
 use Rattle.std.specs.Prelude.{◌≡◌, ◌≢◌, ℕ, zero, suc, ◌<◌, ◌⊎◌, false, List, [], Option, Some, None, refl}
 use Rattle.std.proofs.Common.{sym, subst, ap, inl, ◌∙◌, arith}
-use mathlib.Core.List.{IsPrefix}
 use Rattle.ff_frame.specs.Stream.{still_open, whole}
 use Rattle.ff_frame.specs.Order.{below_self}
-use Rattle.ff_frame.specs.Ports.{nothing, stream_at, AllBelow, AllUnbroken, IsClosed, IsUnbroken, IsMonotone, IsCalm}
+use Rattle.ff_frame.specs.Ports.{nothing, stream_at, AllBelow, AllUnbroken, IsClosed, IsUnbroken, IsWhole, IsMonotone, IsCalm}
 use Rattle.ff_net.specs.declared.fault.Fault.{Fault}
 use Rattle.ff_net.specs.Ways.{Flow, AreValid}
 use Rattle.ff_net.specs.Pasts.{Past, Task, due}
 use Rattle.ff_net.specs.Laws.{CauseStays, IsOfInputs, OutputsClose}
 use Rattle.ff_net.proofs.Flows.{due_meant}
 use Rattle.ff_parts.specs.declared.mux.Mux.{Mux}
-use Rattle.ff_parts.specs.Muxing.{unpatched, file, mux_sink, mux_head, mux_stands, mux_in_lanes, mux_fault, mux_spent}
+use Rattle.ff_parts.specs.Muxing.{unpatched, file, mux_sink, mux_head, mux_stands, mux_in_lanes, mux_fault, mux_spent, HoldsFront}
 
 no_fault : (c : Fault) → None ≡ Some c → ⊥
 no_fault c e = cc
@@ -69,12 +68,12 @@ module _ {K : Type 0} (holds : K → Option (List ℕ)) (m : Mux K) (past : Past
   mux_holds f n = s.1.told ∙ ap (λ (b : List ℕ). Some b) (s.1.exact f n)
 
   -- of a whole stream that is its file
-  pub mux_holds_file : mux_fault m ≡ None → (stream_at past.got 0).mark ≡ whole → holds (mux_sink m) ≡ file (mux_head m) (stream_at past.got 0)
+  pub mux_holds_file : mux_fault m ≡ None → IsWhole (stream_at past.got 0) → holds (mux_sink m) ≡ file (mux_head m) (stream_at past.got 0)
   mux_holds_file f w = mux_holds f (λ e. let o : still_open ≡ whole = ap (λ (t : Flow). t.mark) (sym e) ∙ w in cc) ∙ sym (its_file (stream_at past.got 0) w)
     where
       its_file : (t : Flow) → t.mark ≡ whole → file (mux_head m) t ≡ Some (unpatched (mux_head m) t)
       its_file t w = rw w refl
 
   -- whatever went wrong, it holds a front of that
-  pub mux_holds_front : (bytes : List ℕ) × (holds (mux_sink m) ≡ Some bytes) × IsPrefix bytes (unpatched (mux_head m) (stream_at past.got 0))
+  pub mux_holds_front : HoldsFront (holds (mux_sink m)) (unpatched (mux_head m) (stream_at past.got 0))
   mux_holds_front = (s.0, s.1.told, s.1.front)

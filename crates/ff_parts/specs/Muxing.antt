@@ -88,6 +88,10 @@ mux_fault m = m.fault
 abbrev pub mux_spent : {K : Type 0} → Mux K → ℕ → Type 0
 mux_spent m p = (p < 1) × (m.closed ≡ true)
 
+-- a sink that holds a front of this text
+abbrev pub HoldsFront : Option (List ℕ) → List ℕ → Type 0
+HoldsFront holds text = (bytes : List ℕ) × (holds ≡ Some bytes) × IsPrefix bytes text
+
 -- what an item adds to the text: the lines before the packets, where it is the first, and its own line
 abbrev pub lines_before : Bool → StreamHead → List ℕ
 lines_before begun head = cond begun [] (header head)

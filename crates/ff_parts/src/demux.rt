@@ -77,8 +77,7 @@ impl From<ff_host::Failed> for ReadEnd {
     }
 }
 
-// The time base of a stream.
-fn base(head: &StreamHead) -> Rational
+fn time_base(head: &StreamHead) -> Rational
     ensures { result ≡ base_of_head head.now }
 {
     match *head {
@@ -91,11 +90,11 @@ fn base(head: &StreamHead) -> Rational
 fn ends_late(head: &StreamHead, packet: &Pkt) -> bool
     ensures { result ≡ nat_lt (1000000000 * (base_of_head head.now).den) (ticks (end_of (Item.Packet packet.now)) * (base_of_head head.now).num) }
 {
+    let tb = time_base(head);
     let end = packet.pts as i128 + packet.duration as i128;
     if end <= 0 {
         return false;
     }
-    let tb = base(head);
     LAST_SECOND * (tb.den() as u128) < (end as u128) * (tb.num() as u128)
 }
 

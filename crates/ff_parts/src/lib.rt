@@ -1,11 +1,23 @@
-//! The parts of a run, each of them a lawful machine.
+//! The parts of a run, each of them a lawful machine: it takes streams and gives streams, an item at a time.
+//!
+//! `specs/` says what each does to whole streams: [`Demux`] in `Demuxing`, [`Dec`] in `Decoding`, [`Enc`] in `Encoding`,
+//! [`Mux`] in `Muxing`.
 #![tactic(auto)]
 
+mod coding;
+mod dec;
 mod demux;
+mod enc;
 mod mux;
+mod ready;
 
+pub use coding::{decoding_passes_no_limit, encoding_passes_no_limit, octets_leave_bytes};
+pub use dec::Dec;
 pub use demux::Demux;
+pub use enc::Enc;
 pub use mux::Mux;
 
+#[cfg(test)]
+mod coder_tests;
 #[cfg(test)]
 mod demux_tests;

@@ -1,12 +1,13 @@
 // The part that writes a stream of packets as framehash text.
-ghost use Rattle.std.specs.Prelude.{◌≡◌, ◌≤◌, ◌<◌, ◌++◌, ℕ, [], ◌∷◌, true, false, None, Some, Ok, IfOk, IsNone, IfSome};
+ghost use Rattle.std.specs.Prelude.{◌≡◌, ◌≢◌, ◌≤◌, ◌<◌, ◌++◌, ℕ, [], ◌∷◌, true, false, None, Some, Ok, IfOk, IsNone, IfSome};
 ghost use Rattle.std.specs.Io.KnownBytes.{Appends};
 ghost use Rattle.ff_lists.specs.Appends.{AppendsPrefix};
 ghost use Rattle.ff_frame.specs.declared.item.Lane.TheVariants.{Packets};
+ghost use Rattle.ff_frame.specs.Ports.{nothing, stream_at, IsWhole};
 ghost use Rattle.ff_mux.specs.Puts.{hash_head};
 ghost use Rattle.ff_net.specs.Laws.{Rose, IsOfInputs};
-ghost use Rattle.ff_net.specs.Pasts.{start};
-ghost use Rattle.ff_parts.specs.Muxing.{mux_task, mux_sink, mux_head, mux_stands, mux_in_lanes, mux_fault, mux_spent, lines_before, lines_of};
+ghost use Rattle.ff_net.specs.Pasts.{Past, start};
+ghost use Rattle.ff_parts.specs.Muxing.{unpatched, file, HoldsFront, mux_task, mux_sink, mux_head, mux_stands, mux_in_lanes, mux_fault, mux_spent, lines_before, lines_of};
 ghost use Rattle.ff_parts.specs.MuxLaws.{mux_source, mux_valid, mux_keeps, mux_monotone, mux_cause_stays, mux_calm, mux_given, mux_unbroken, mux_caused, mux_spent_only, mux_closed_spent, no_output};
 
 use ff_frame::{Item, Refused, StreamHead, Ticket};
@@ -49,9 +50,16 @@ impl<K: Sink + Drop> Mux<K> {
         }
     }
 
-    /// Gives the sink back.
+    /// Gives the sink back. It holds nothing before the first item, and afterwards all that is written of the stream,
+    /// or a front of that where there is a fault.
     pub fn into_sink(self) -> K
-        ensures { result ≡ mux_sink self }
+        ensures sink { result ≡ mux_sink self }
+        ensures fresh { (past : Past) → mux_stands K.holds self past → stream_at past.got 0 ≡ nothing → K.holds result ≡ Some [] }
+        ensures exact { (past : Past) → mux_stands K.holds self past → mux_fault self ≡ None → stream_at past.got 0 ≢ nothing
+            → K.holds result ≡ Some (unpatched (mux_head self) (stream_at past.got 0)) }
+        ensures whole { (past : Past) → mux_stands K.holds self past → mux_fault self ≡ None → IsWhole (stream_at past.got 0)
+            → K.holds result ≡ file (mux_head self) (stream_at past.got 0) }
+        ensures front { (past : Past) → mux_stands K.holds self past → HoldsFront (K.holds result) (unpatched (mux_head self) (stream_at past.got 0)) }
     {
         self.snk
     }
@@ -213,3 +221,6 @@ impl<K: Sink + Drop> Machine for Mux<K> {
 
     ghost ticket_used = { λ m past q s i f p a h. h };
 }
+
+#[cfg(test)]
+mod tests;

@@ -1,2 +1,4 @@
+pub mod ByteLaws
 pub mod DepthLaws
+pub mod FitLaws
 pub mod SampleLaws

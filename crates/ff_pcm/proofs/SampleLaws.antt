@@ -58,7 +58,7 @@ all_fit codec bytes small =
     All-map (FitsBits (depth codec)) (sample_at codec bytes) (range_with_len 0 (length bytes / sample_bytes codec)) (λ k d lt. fits_at codec bytes (get_or (range_with_len 0 (length bytes / sample_bytes codec)) k d) small)
 
 -- as many samples as sample frames and channels make
-interleaved : (codec : Codec) (n blocks channels count : ℕ) → n ≡ blocks * (channels * sample_bytes codec) → n ≡ sample_bytes codec * count → count ≡ blocks * channels
+pub interleaved : (codec : Codec) (n blocks channels count : ℕ) → n ≡ blocks * (channels * sample_bytes codec) → n ≡ sample_bytes codec * count → count ≡ blocks * channels
 interleaved PcmU8 n blocks channels count e f = omega (arith, e, f)
 interleaved PcmS16le n blocks channels count e f = omega (arith, e, f)
 interleaved PcmS24le n blocks channels count e f = omega (arith, e, f)
@@ -74,7 +74,7 @@ pub stand_samples : (codec : Codec) (bytes : List ℕ) (xs : List ℤ) → Stand
 stand_samples codec bytes xs s = are_samples codec bytes xs s.size s.each
 
 -- the samples of a packet are those of a frame
-packet_audio : (head : StreamHead) (bytes : List ℕ) (xs : List ℤ) → IsPcmHead head → HasBlocks head bytes → StandFor (codec_of head) bytes xs → All (FitsBits (depth (codec_of head))) xs → IsAudio (bits_of head) (channels_of head) xs
+pub packet_audio : (head : StreamHead) (bytes : List ℕ) (xs : List ℤ) → IsPcmHead head → HasBlocks head bytes → StandFor (codec_of head) bytes xs → All (FitsBits (depth (codec_of head))) xs → IsAudio (bits_of head) (channels_of head) xs
 packet_audio head bytes xs h b s fit =
     let few = few_bits_of (codec_of head) in
     let P : ℕ → Type 0 = λ n. (4 ≤ n) × (n ≤ 32) in
@@ -136,7 +136,7 @@ signed_apart_32 m n lm ln e = grind (arith, ints)
 middle_apart : (m n : ℕ) → pos m -ℤ pos 128 ≡ pos n -ℤ pos 128 → m ≡ n
 middle_apart m n e = omega (arith, ints)
 
-abbrev AreBytes : List ℕ → Type 0
+abbrev pub AreBytes : List ℕ → Type 0
 AreBytes bytes = (i : ℕ) → get_or bytes i 0 < 256
 
 digit_apart : (x y m n : ℕ) → x < 256 → y < 256 → x + 256 * m ≡ y + 256 * n → (x ≡ y) × (m ≡ n)
@@ -175,7 +175,7 @@ byte_same PcmS32le a b i count sa sb lt same =
     let below : (x : List ℕ) → AreBytes x → number 4 (4 * k) x < 2 ^ 32 = λ x s. omega (arith, s (4 * k), s (4 * k + 1), s (4 * k + 1 + 1), s (4 * k + 1 + 1 + 1)) in
     subst P here (number_apart 4 (4 * k) a b sa sb (signed_apart_32 _ _ (below a sa) (below b sb) (same k (omega arith))) (i % 4) (omega arith))
 
-are_bytes : (xs : List ℕ) → All (λ x. x < 256) xs → AreBytes xs
+pub are_bytes : (xs : List ℕ) → All (λ x. x < 256) xs → AreBytes xs
 are_bytes [] h i = omega arith
 are_bytes (x ∷ xs) h zero = h 0 0 (omega arith)
 are_bytes (x ∷ xs) h (suc i) = are_bytes xs (λ k d lt. h (suc k) d (omega (arith, lt))) i
@@ -186,7 +186,7 @@ told codec a b xs sa sb s t =
     byte_same codec a b i (length xs) (are_bytes a sa) (are_bytes b sb) le (λ k few. sym (s.each k few) ∙ t.each k few))
 
 -- whole samples stand for what they are
-samples_stand : (codec : Codec) (bytes : List ℕ) (count : ℕ) → length bytes ≡ sample_bytes codec * count → StandFor codec bytes (samples_of codec bytes)
+pub samples_stand : (codec : Codec) (bytes : List ℕ) (count : ℕ) → length bytes ≡ sample_bytes codec * count → StandFor codec bytes (samples_of codec bytes)
 samples_stand codec bytes count e =
     let few = count_of codec (length bytes) count e in
     let long = length-map-range_with_len (sample_at codec bytes) 0 (length bytes / sample_bytes codec) in

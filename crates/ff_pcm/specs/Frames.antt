@@ -34,6 +34,10 @@ pub record IsPcmHead (head : StreamHead) : Type 0 where
   pub some_channels : 1 ≤ channels_of head
   pub few_channels : channels_of head ≤ 8
 
+-- so many are 1 to 65,535 whole blocks of this size
+abbrev pub AreBlocks : ℕ → ℕ → Type 0
+AreBlocks block count = (blocks : ℕ) × (1 ≤ blocks) × (blocks ≤ 65535) × (count ≡ blocks * block)
+
 -- whole blocks of one sample for each channel, 1 to 65,535 of them
 pub record HasBlocks (head : StreamHead) (bytes : List ℕ) : Type 0 where
   pub blocks : ℕ

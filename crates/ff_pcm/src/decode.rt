@@ -76,6 +76,18 @@ pub(crate) fn size_of_sample(codec: Codec) -> usize
     }
 }
 
+/// The bits of a codec's samples.
+pub fn depth_of(codec: Codec) -> u8
+    ensures { result ≡ depth codec }
+{
+    match codec {
+        Codec::PcmU8 => 8,
+        Codec::PcmS16le => 16,
+        Codec::PcmS24le => 24,
+        Codec::PcmS32le => 32,
+    }
+}
+
 fn decoded(alloc: Global, codec: Codec, bytes: &[u8], count: usize) -> Result<Samples, AllocError>
     requires { length bytes.now ≡ sample_bytes codec * count }
     ensures stand { IfOk result (λ samples. StandFor codec bytes.now samples) }
@@ -87,7 +99,7 @@ fn decoded(alloc: Global, codec: Codec, bytes: &[u8], count: usize) -> Result<Sa
 }
 
 // The rate, bits, channels and codec of a head of sound.
-fn audio_of(head: &StreamHead) -> (u32, u8, u8, Codec)
+pub(crate) fn audio_of(head: &StreamHead) -> (u32, u8, u8, Codec)
     requires { IsSoundHead head.now }
     ensures rate { result.0 ≡ rate_of head.now }
     ensures bits { result.1 ≡ bits_of head.now }

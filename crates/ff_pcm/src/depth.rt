@@ -8,8 +8,8 @@ ghost use Rattle.ff_pcm.specs.Depth.{shifted, at_depth};
 use ff_frame::{AFrame, Samples};
 
 // A sample at a lower depth.
-fn lowered(sample: i32, by: u8) -> i32
-    requires { by ≤ 28 }
+pub(crate) fn lowered(sample: i32, by: u8) -> i32
+    requires { by ≤ 31 }
     ensures { result ≡ shr_z sample (2 ^ by) }
 {
     sample >> by

@@ -2,6 +2,7 @@ ghost use Rattle.std.specs.Prelude.{◌≡◌, ◌*◌, ◌<◌, ℕ, All, lengt
 ghost use Rattle.ff_frame.specs.Audio.{FitsBits, IsAudio};
 ghost use Rattle.ff_frame.specs.Lanes.{sample_bytes};
 ghost use Rattle.ff_frame.specs.declared.head.Codec.TheVariants.{PcmU8, PcmS16le, PcmS24le, PcmS32le};
+ghost use Rattle.ff_pcm.specs.Bytes.{bytes_of};
 ghost use Rattle.ff_pcm.specs.Samples.{sample_at, depth, StandFor};
 
 use crate::decode::size_of_sample;
@@ -75,14 +76,42 @@ fn zeros(alloc: Global, count: usize) -> Result<Vec<u8>, AllocError>
     vec![in alloc; 0; count]
 }
 
+/// A place for the bytes of a frame's samples, at any depth.
+pub fn room_for(alloc: Global, codec: Codec, frame: &AFrame) -> Result<Vec<u8>, AllocError>
+    requires { IsAudio frame.now.bits frame.now.channels frame.now.samples }
+    ensures { IfOk result (λ bytes. length bytes.items ≡ sample_bytes codec * length frame.now.samples) }
+{
+    zeros(alloc, size_of_sample(codec) * frame.samples.as_slice().len())
+}
+
+// Bytes are numbers below 256.
+fn know_bytes(bytes: &[u8])
+    ensures { All (λ b. b < 256) bytes.now }
+{
+    let _count = bytes.len();
+}
+
+/// Writes the bytes that stand for a frame's samples (RIFF WAVE, the data of PCM formats) into a place of their size.
+/// The codec is of the frame's depth.
+pub fn pcm_encode_into(codec: Codec, frame: &AFrame, bytes: &mut [u8])
+    requires frame { IsAudio frame.now.bits frame.now.channels frame.now.samples }
+    requires depth { frame.now.bits ≡ depth codec }
+    requires size { length bytes.old ≡ sample_bytes codec * length frame.now.samples }
+    ensures stand { StandFor codec bytes.new frame.now.samples }
+    ensures value { bytes.new ≡ bytes_of codec frame.now.samples }
+{
+    encode_into(codec, frame.samples.as_slice(), bytes);
+    know_bytes(bytes);
+}
+
 /// The bytes that stand for a frame's samples (RIFF WAVE, the data of PCM formats). The codec is of the frame's depth.
 pub fn pcm_encode(alloc: Global, codec: Codec, frame: &AFrame) -> Result<Vec<u8>, AllocError>
     requires frame { IsAudio frame.now.bits frame.now.channels frame.now.samples }
     requires depth { frame.now.bits ≡ depth codec }
-    ensures { IfOk result (λ bytes. StandFor codec bytes.items frame.now.samples) }
+    ensures stand { IfOk result (λ bytes. StandFor codec bytes.items frame.now.samples) }
+    ensures value { IfOk result (λ bytes. bytes.items ≡ bytes_of codec frame.now.samples) }
 {
-    let samples = frame.samples.as_slice();
-    let mut bytes = zeros(alloc, size_of_sample(codec) * samples.len())?;
-    encode_into(codec, samples, &mut bytes);
+    let mut bytes = room_for(alloc, codec, frame)?;
+    pcm_encode_into(codec, frame, &mut bytes);
     Ok(bytes)
 }

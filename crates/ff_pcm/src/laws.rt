@@ -3,6 +3,7 @@ ghost use Rattle.std.specs.Prelude.{◌≡◌, ◌≤◌, ◌<◌, ◌*◌, ℕ,
 ghost use Rattle.ff_frame.specs.Lanes.{sample_bytes};
 ghost use Rattle.ff_frame.specs.declared.audio.AFrame.{AFrame};
 ghost use Rattle.ff_frame.specs.declared.head.Codec.{Codec};
+ghost use Rattle.ff_pcm.specs.Bytes.{bytes_of};
 ghost use Rattle.ff_pcm.specs.Depth.{at_depth};
 ghost use Rattle.ff_pcm.specs.Samples.{samples_of, StandFor};
 
@@ -20,4 +21,9 @@ pub fn encoding_gives_decoded_bytes_back()
 /// A frame at a higher depth, and back at its own, is that frame.
 pub fn more_bits_and_back_change_nothing()
     ensures { (frame : AFrame) (bits : ℕ) → frame.bits ≤ bits → at_depth frame.bits (at_depth bits frame) ≡ frame }
+{}
+
+/// The bytes that stand for samples are these, and no others do.
+pub fn samples_have_one_form()
+    ensures { (codec : Codec) (bytes : List ℕ) (samples : List ℤ) → All (λ x. x < 256) bytes → StandFor codec bytes samples → bytes ≡ bytes_of codec samples }
 {}

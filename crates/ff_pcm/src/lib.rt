@@ -8,14 +8,17 @@
 mod decode;
 mod depth;
 mod encode;
+mod fits;
 mod laws;
 mod values;
 
-pub use decode::pcm_decode;
+pub use decode::{depth_of, pcm_decode};
 pub use depth::depth_change;
-pub use encode::pcm_encode;
+pub use encode::{pcm_encode, pcm_encode_into, room_for};
+pub use fits::{has_blocks, is_audio};
 pub use laws::{
-    encoding_gives_decoded_bytes_back, more_bits_and_back_change_nothing, samples_tell_their_bytes,
+    encoding_gives_decoded_bytes_back, more_bits_and_back_change_nothing, samples_have_one_form,
+    samples_tell_their_bytes,
 };
 
 #[cfg(test)]

@@ -1,0 +1,41 @@
+-- A machine that gives a list, an item for each ticket, and then the end.
+use Rattle.std.specs.Prelude.{◌≡◌, ℕ, ◌+◌, ◌≤◌, ◌⊎◌, Bool, true, false, cond, List, [], ◌∷◌, length, take, Option, None, Some}
+use Rattle.ff_frame.specs.declared.item.Item.{Item}
+use Rattle.ff_frame.specs.declared.item.Lane.{Lane}
+use Rattle.ff_frame.specs.Stream.{still_open, whole, whole_stream}
+use Rattle.ff_frame.specs.Lanes.{IsValid}
+use Rattle.ff_frame.specs.Ports.{nothing, stream_at}
+use Rattle.ff_net.specs.declared.fault.Fault.{Fault}
+use Rattle.ff_net.specs.declared.fault.Fault.TheVariants.{Device}
+use Rattle.ff_net.specs.Ways.{Flow}
+use Rattle.ff_net.specs.Pasts.{Past, IsIn}
+use Rattle.ff_net_plain.specs.Relays.{no_cause}
+
+abbrev pub list_of : List Item → List Flow → List Flow
+list_of items ss = whole_stream items ∷ []
+
+-- some items, and the end or not
+abbrev pub given_of : List Item → ℕ → Bool → Flow
+given_of items next ended = record { items = take next items; mark = cond ended whole still_open }
+
+abbrev pub as_count : Bool → ℕ
+as_count false = 0
+as_count true = 1
+
+abbrev pub fault_if : Bool → Option Fault
+fault_if false = None
+fault_if true = Some Device
+
+pub record Lists (lane : Lane) (items : List Item) (next : ℕ) (ended ticket failed : Bool) (past : Past) : Type 0 where
+  pub means : past.task.means ≡ list_of items
+  pub cause : past.task.cause ≡ no_cause
+  pub source : past.task.source ≡ true
+  pub got : (p : ℕ) → stream_at past.got p ≡ nothing
+  pub valid : IsValid lane (whole_stream items)
+  pub gave : stream_at past.gave 0 ≡ given_of items next ended
+  pub beyond : (q : ℕ) → 1 ≤ q → stream_at past.gave q ≡ nothing
+  pub tickets : length past.allowed ≡ next + as_count ended + as_count ticket
+  pub in_range : next ≤ length items
+  pub at_end : ended ≡ true → next ≡ length items
+  -- with a ticket it had nothing to give only at the end, or where its device had failed
+  pub asked : ticket ≡ true → IsIn 0 past.asked → (ended ≡ true) ⊎ (failed ≡ true)

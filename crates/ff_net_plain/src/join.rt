@@ -1,0 +1,270 @@
+ghost use Rattle.std.specs.Prelude.{◌≡◌, ◌<◌, ◌≤◌, ◌⊎◌, ◌↔◌, ℕ, length, true, false, None, Some, Ok, Err, ◌∷◌, [], ◌++◌, OnOk, OnErr, IfErr, IsTrue};
+ghost use Rattle.ff_frame.specs.declared.item.Item.{Item};
+ghost use Rattle.ff_frame.specs.Stream.{still_open};
+ghost use Rattle.ff_frame.specs.Items.{with_item};
+ghost use Rattle.ff_frame.specs.Ports.{nothing};
+ghost use Rattle.ff_net_plain.specs.Joins.{Joins, joined, mark_of, kept_of, is_spent_join};
+ghost use Rattle.ff_net_plain.specs.JoinLaws.{joins_valid, joins_keeps, joins_monotone, joins_cause_stays, joins_calm, joins_given, joins_unbroken, joins_spent_only, joins_closed_spent, joins_done_spent, joins_all_spent};
+ghost use Rattle.ff_net_plain.specs.RelayLaws.{relays_no_fault};
+
+use ff_frame::{Item, Lane, Refused, Ticket};
+use ff_net::{Fault, Machine};
+use std::alloc::{AllocError, Global};
+
+/// How an input has ended, if it has.
+#[derive(Clone, Copy, Debug, PartialEq, Eq)]
+pub enum Ending {
+    /// It goes on.
+    Open,
+    /// All has come.
+    Whole,
+    /// The rest was lost.
+    Broken,
+}
+
+/// What came on an input.
+#[derive(Drop)]
+pub struct Kept {
+    pub items: Vec<Item>,
+    pub ending: Ending,
+}
+
+impl Kept {
+    /// Keeps an item more, or the end. Refused for want of memory, with the item and as it was.
+    pub fn keep(&mut self, item: Item) -> Result<(), Refused>
+        ensures kept { OnOk result (kept_of self.new ≡ with_item (kept_of self.old) item) }
+        ensures refused { IfErr result (λ r. r.item ≡ item) }
+        ensures unchanged { OnErr result (kept_of self.new ≡ kept_of self.old) }
+    {
+        match item {
+            Item::End => {
+                self.ending = Ending::Whole;
+                Ok(())
+            }
+            Item::Broken => {
+                self.ending = Ending::Broken;
+                Ok(())
+            }
+            Item::Audio(frame) => self.push(Item::Audio(frame)),
+            Item::Packet(packet) => self.push(Item::Packet(packet)),
+        }
+    }
+
+    fn push(&mut self, item: Item) -> Result<(), Refused>
+        ensures items { OnOk result (self.new.items.items ≡ self.old.items.items ++ item ∷ []) }
+        ensures ending { self.new.ending ≡ self.old.ending }
+        ensures refused { IfErr result (λ r. r.item ≡ item) }
+        ensures unchanged { OnErr result (self.new.items.items ≡ self.old.items.items) }
+    {
+        match self.items.push(item) {
+            Ok(()) => Ok(()),
+            Err(refused) => Err(Refused {
+                item: refused.value,
+            }),
+        }
+    }
+}
+
+/// Joins two inputs: pairs their items by number, and gives the first of each pair. It ends as its first input does once
+/// all items of that are paired, and as its second where that has no partner for an item of the first.
+#[derive(Drop)]
+pub struct Join {
+    alloc: Global,
+    lane: Lane,
+    first: Kept,
+    second: Kept,
+    next: usize,
+    ended: bool,
+    stopped: bool,
+    room: usize,
+}
+
+impl Join {
+    ghost use Rattle.ff_net_plain.specs.Trials.{join_ins, join_outs};
+
+    /// A machine that joins two inputs of this lane, and refuses what comes after `room` items.
+    pub fn new(alloc: Global, lane: Lane, room: usize) -> Join
+        ensures ins { join_ins result ≡ lane ∷ lane ∷ [] }
+        ensures outs { join_outs result ≡ lane ∷ [] }
+    {
+        let first = Kept {
+            items: Vec::new(alloc),
+            ending: Ending::Open,
+        };
+        let second = Kept {
+            items: Vec::new(alloc),
+            ending: Ending::Open,
+        };
+        Join {
+            alloc,
+            lane,
+            first,
+            second,
+            next: 0,
+            ended: false,
+            stopped: false,
+            room,
+        }
+    }
+}
+
+/// Whether the item of this number of the first input is there, and has a partner.
+fn is_paired(first: &Kept, second: &Kept, number: usize) -> bool
+    ensures yes { result ≡ true → (number < length first.now.items.items) × (number < length second.now.items.items) }
+    ensures no { result ≡ false → (length first.now.items.items ≤ number) ⊎ (length second.now.items.items ≤ number) }
+{
+    if number < first.items.len() {
+        number < second.items.len()
+    } else {
+        false
+    }
+}
+
+/// How the output of two inputs ends.
+fn closing(first: &Kept, second: &Kept) -> Ending
+    ensures { mark_of result ≡ (joined (kept_of first.now) (kept_of second.now)).mark }
+{
+    if first.items.len() <= second.items.len() {
+        first.ending
+    } else {
+        second.ending
+    }
+}
+
+fn has_ended(ending: Ending) -> bool
+    ensures ended { result ≡ true → mark_of ending ≡ still_open → ⊥ }
+    ensures goes_on { result ≡ false → mark_of ending ≡ still_open }
+{
+    match ending {
+        Ending::Open => false,
+        Ending::Whole | Ending::Broken => true,
+    }
+}
+
+/// The item that says so.
+fn closing_item(ending: Ending) -> Option<Item>
+    ensures none { result ≡ None → mark_of ending ≡ still_open }
+    ensures some { (x : Item) → result ≡ Some x → with_item nothing x ≡ record { items = []; mark = mark_of ending } }
+    ensures closes { (x : Item) → result ≡ Some x → mark_of ending ≡ still_open → ⊥ }
+{
+    match ending {
+        Ending::Open => None,
+        Ending::Whole => Some(Item::End),
+        Ending::Broken => Some(Item::Broken),
+    }
+}
+
+impl Machine for Join {
+    ghost in_lanes = { λ m. m.lane ∷ m.lane ∷ [] };
+
+    ghost out_lanes = { λ m. m.lane ∷ [] };
+
+    ghost source_of = { λ m. None };
+
+    ghost fault_of = { λ m. None };
+
+    ghost failures = { λ m. 0 };
+
+    ghost holds = { λ m. ⊥ };
+
+    ghost is_spent = { λ m p. is_spent_join (kept_of m.first) (kept_of m.second) m.stopped p };
+
+    ghost stands = { λ m past. Joins m.lane (kept_of m.first) (kept_of m.second) m.next m.ended m.stopped past };
+
+    fn inputs(&self) -> usize {
+        2
+    }
+
+    fn outputs(&self) -> usize {
+        1
+    }
+
+    fn source(&self) -> Option<u32> {
+        None
+    }
+
+    fn fault(&self) -> Option<Fault> {
+        None
+    }
+
+    fn allow(&mut self, ticket: Ticket) -> Option<Ticket> {
+        Some(ticket)
+    }
+
+    fn feed(&mut self, port: usize, item: Item) -> Result<(), Refused> {
+        if self.room == 0 {
+            return Err(Refused { item });
+        }
+        if port == 0 {
+            self.first.keep(item)?;
+            self.room -= 1;
+            return Ok(());
+        }
+        self.second.keep(item)?;
+        self.room -= 1;
+        Ok(())
+    }
+
+    fn pull(&mut self, _port: usize) -> Result<Option<Item>, AllocError> {
+        if self.ended {
+            return Ok(None);
+        }
+        if is_paired(&self.first, &self.second, self.next) {
+            let firsts = self.first.items.as_slice();
+            let item = firsts[self.next].try_copy(self.alloc)?;
+            self.next += 1;
+            return Ok(Some(item));
+        }
+        let Some(item) = closing_item(closing(&self.first, &self.second)) else {
+            return Ok(None);
+        };
+        self.ended = true;
+        Ok(Some(item))
+    }
+
+    fn stop(&mut self, _port: usize) {
+        self.stopped = true;
+    }
+
+    fn spent(&self, port: usize) -> bool {
+        if self.stopped {
+            return true;
+        }
+        if has_ended(closing(&self.first, &self.second)) {
+            return true;
+        }
+        if port == 0 {
+            has_ended(self.first.ending)
+        } else {
+            has_ended(self.second.ending)
+        }
+    }
+
+    ghost is_source = { λ m past s. s.plain };
+
+    ghost valid = { λ m past s. joins_valid m.lane (kept_of m.first) (kept_of m.second) m.next m.ended m.stopped past s };
+
+    ghost keeps = { λ m past s. joins_keeps m.lane (kept_of m.first) (kept_of m.second) m.next m.ended m.stopped past s };
+
+    ghost monotone = { λ m past s. joins_monotone m.lane (kept_of m.first) (kept_of m.second) m.next m.ended m.stopped past s };
+
+    ghost cause_stays = { λ m past s. joins_cause_stays m.lane (kept_of m.first) (kept_of m.second) m.next m.ended m.stopped past s };
+
+    ghost calm = { λ m past s. joins_calm m.lane (kept_of m.first) (kept_of m.second) m.next m.ended m.stopped past s };
+
+    ghost given = { λ m past s. joins_given m.lane (kept_of m.first) (kept_of m.second) m.next m.ended m.stopped past s };
+
+    ghost unbroken = { λ m past s f u. joins_unbroken m.lane (kept_of m.first) (kept_of m.second) m.next m.ended m.stopped past s u };
+
+    ghost caused = { λ m past c s e i. absurd (relays_no_fault c e) };
+
+    ghost spent_only = { λ m past p s. joins_spent_only m.lane (kept_of m.first) (kept_of m.second) m.next m.ended m.stopped past s p };
+
+    ghost closed_spent = { λ m past p s. joins_closed_spent m.lane (kept_of m.first) (kept_of m.second) m.next m.ended m.stopped past s p };
+
+    ghost done_spent = { λ m past p s lt z c a. joins_done_spent m.lane (kept_of m.first) (kept_of m.second) m.next m.ended m.stopped past s p lt c };
+
+    ghost all_spent = { λ m past s n h. joins_all_spent m.lane (kept_of m.first) (kept_of m.second) m.next m.ended m.stopped past s h };
+
+    ghost ticket_used = { λ m past q s i f p a h. h };
+}

@@ -1,0 +1,171 @@
+ghost use Rattle.std.specs.Prelude.{◌≡◌, ◌<◌, ◌⊎◌, ℕ, length, true, false, None, Some, Ok, Err, ◌∷◌, []};
+ghost use Rattle.ff_net_plain.specs.Lists.{Lists, fault_if, as_count};
+ghost use Rattle.ff_net_plain.specs.ListLaws.{lists_keeps, lists_monotone, lists_cause_stays, lists_calm, lists_given, lists_unbroken, lists_caused, lists_ticket_used, lists_no_port, lists_is_source};
+
+use ff_frame::{Item, Lane, Refused, Ticket};
+use ff_net::{Fault, Machine};
+use std::alloc::{AllocError, Global};
+
+/// Gives the packets of a list, one for each ticket, and then the end. Its device can be made to fail at a packet, and
+/// memory to be refused for one.
+#[derive(Drop)]
+pub struct Source {
+    alloc: Global,
+    lane: Lane,
+    number: u32,
+    items: Vec<Item>,
+    next: usize,
+    ended: bool,
+    ticket: bool,
+    failed: bool,
+    fails_at: usize,
+    refuses_at: usize,
+}
+
+impl Source {
+    ghost use Rattle.ff_net_plain.specs.Trials.{source_outs};
+
+    /// The source of this number, of packets that are valid for this lane. Its device fails at the packet `fails_at`, and
+    /// memory is refused for the packet `refuses_at`.
+    pub fn new(
+        alloc: Global,
+        lane: Lane,
+        number: u32,
+        items: Vec<Item>,
+        fails_at: usize,
+        refuses_at: usize,
+    ) -> Source
+        ensures outs { source_outs result ≡ lane ∷ [] }
+    {
+        Source {
+            alloc,
+            lane,
+            number,
+            items,
+            next: 0,
+            ended: false,
+            ticket: false,
+            failed: false,
+            fails_at,
+            refuses_at,
+        }
+    }
+}
+
+impl Machine for Source {
+    ghost in_lanes = { λ m. [] };
+
+    ghost out_lanes = { λ m. m.lane ∷ [] };
+
+    ghost source_of = { λ m. Some m.number };
+
+    ghost fault_of = { λ m. fault_if m.failed };
+
+    ghost failures = { λ m. as_count m.failed };
+
+    ghost holds = { λ m. m.ticket ≡ true };
+
+    ghost is_spent = { λ m p. ⊥ };
+
+    ghost stands = { λ m past. Lists m.lane m.items.items m.next m.ended m.ticket m.failed past };
+
+    fn inputs(&self) -> usize {
+        0
+    }
+
+    fn outputs(&self) -> usize {
+        1
+    }
+
+    fn source(&self) -> Option<u32> {
+        Some(self.number)
+    }
+
+    fn fault(&self) -> Option<Fault> {
+        if self.failed {
+            Some(Fault::Device)
+        } else {
+            None
+        }
+    }
+
+    fn allow(&mut self, ticket: Ticket) -> Option<Ticket> {
+        if self.ticket {
+            return Some(ticket);
+        }
+        self.ticket = true;
+        None
+    }
+
+    fn feed(&mut self, _port: usize, item: Item) -> Result<(), Refused>
+        ensures same { self.new ≡ self.old }
+        ensures err { result ≡ Err (record { item = item }) }
+    {
+        Err(Refused { item })
+    }
+
+    fn pull(&mut self, _port: usize) -> Result<Option<Item>, AllocError> {
+        if self.ended {
+            return Ok(None);
+        }
+        if self.failed {
+            return Ok(None);
+        }
+        if !self.ticket {
+            return Ok(None);
+        }
+        if self.next == self.fails_at {
+            self.failed = true;
+            return Ok(None);
+        }
+        if self.next == self.refuses_at {
+            return Err(AllocError);
+        }
+        let items = self.items.as_slice();
+        if self.next < items.len() {
+            let item = items[self.next].try_copy(self.alloc)?;
+            self.ticket = false;
+            self.next += 1;
+            return Ok(Some(item));
+        }
+        self.ticket = false;
+        self.ended = true;
+        Ok(Some(Item::End))
+    }
+
+    fn stop(&mut self, _port: usize) {}
+
+    fn spent(&self, _port: usize) -> bool
+        ensures { result ≡ false }
+    {
+        false
+    }
+
+    ghost is_source = { λ m past s. s.source };
+
+    ghost valid = { λ m past s. s.got };
+
+    ghost keeps = { λ m past s. lists_keeps m.lane m.items.items m.next m.ended m.ticket m.failed past s };
+
+    ghost monotone = { λ m past s. lists_monotone m.lane m.items.items m.next m.ended m.ticket m.failed past s };
+
+    ghost cause_stays = { λ m past s. lists_cause_stays m.lane m.items.items m.next m.ended m.ticket m.failed past s };
+
+    ghost calm = { λ m past s. lists_calm m.lane m.items.items m.next m.ended m.ticket m.failed past s };
+
+    ghost given = { λ m past s. lists_given m.lane m.items.items m.next m.ended m.ticket m.failed past s };
+
+    ghost unbroken = { λ m past s f u. lists_unbroken m.lane m.items.items m.next m.ended m.ticket m.failed past s };
+
+    ghost caused = { λ m past c s e i. absurd (lists_caused m.failed c e i) };
+
+    ghost spent_only = { λ m past p s e. absurd e };
+
+    ghost closed_spent = { λ m past p s lt c. absurd (lists_no_port p lt) };
+
+    ghost done_spent = { λ m past p s lt z c a. absurd (lists_no_port p lt) };
+
+    ghost all_spent = { λ m past s n h. absurd (lists_is_source m.number n) };
+
+    ghost ticket_used = { λ m past q s i f p a h. lists_ticket_used m.lane m.items.items m.next m.ended m.ticket m.failed past s q f p a h };
+}

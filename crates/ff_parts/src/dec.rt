@@ -1,0 +1,193 @@
+ghost use Rattle.std.specs.Prelude.{◌≡◌, ◌↔◌, ◌<◌, ℕ, slice_index, IsTrue, IfOk, IfErr};
+ghost use Rattle.ff_pcm.specs.Frames.{IsPcmHead, HasBlocks, frame_of};
+ghost use Rattle.ff_parts.specs.Heads.{IsPcmHead-prop};
+ghost use Rattle.ff_parts.specs.Decoding.{octets, decoded_item, IsDecodable};
+
+use crate::ready::{Ready, discard};
+use ff_frame::{AFrame, Item, Pkt, Refused, StreamHead, Ticket};
+use ff_net::{Fault, Machine};
+use ff_pcm::{has_blocks, pcm_decode};
+use std::alloc::{AllocError, Global};
+
+/// Decodes the packets of a stream: gives a frame for each packet, and how the stream ends.
+#[derive(Drop)]
+pub struct Dec {
+    alloc: Global,
+    head: StreamHead,
+    ready: Ready,
+    ghost pcm: { IsPcmHead head } by { IsPcmHead-prop head },
+}
+
+impl Dec {
+    ghost use Rattle.ff_net.specs.Pasts.{start};
+    ghost use Rattle.ff_parts.specs.Decoding.{dec_task};
+    ghost use Rattle.std.specs.Prelude.{[], ◌∷◌};
+    ghost use Rattle.ff_frame.specs.declared.item.Lane.TheVariants.{Frames, Packets};
+    ghost use Rattle.ff_parts.specs.Coders.{dec_in_lanes, dec_out_lanes, dec_stands};
+
+    /// A decoder of this head's stream, to which nothing was fed.
+    pub fn new(alloc: Global, head: StreamHead) -> Dec
+        requires { IsPcmHead head }
+        ensures in_lanes { dec_in_lanes result ≡ Packets head ∷ [] }
+        ensures out_lanes { dec_out_lanes result ≡ Frames head ∷ [] }
+        ensures stands { dec_stands result (start (dec_task head)) }
+    {
+        Dec {
+            alloc,
+            head,
+            ready: Ready::new(alloc),
+        }
+    }
+}
+
+// Whether an item is one that a lane of packets carries, or closes a stream.
+fn is_decodable(head: &StreamHead, item: &Item) -> bool
+    requires { IsPcmHead head.now }
+    ensures { IsTrue result ↔ IsDecodable head.now item.now }
+{
+    match item {
+        Item::Packet(packet) => has_blocks(head, packet),
+        Item::Audio(_) | Item::Video(_) => false,
+        Item::End | Item::Broken => true,
+    }
+}
+
+// Bytes are numbers below 256.
+fn know_bytes(bytes: &[u8])
+    ensures { (i : ℕ) → slice_index bytes.now i < 256 }
+{
+    let _count = bytes.len();
+}
+
+// The frame of a packet.
+fn frame(alloc: Global, head: &StreamHead, packet: &Pkt) -> Result<AFrame, AllocError>
+    requires head { IsPcmHead head.now }
+    requires blocks { HasBlocks head.now packet.now.bytes }
+    ensures { IfOk result (λ frame. frame ≡ frame_of head.now (octets packet.now)) }
+{
+    know_bytes(packet.bytes.as_slice());
+    pcm_decode(alloc, head, packet)
+}
+
+// What is given for an item. Where memory is refused, the item comes back.
+fn decode(alloc: Global, head: &StreamHead, item: Item) -> Result<Item, Refused>
+    requires head { IsPcmHead head.now }
+    requires fits { IsDecodable head.now item }
+    ensures made { IfOk result (λ made. made ≡ decoded_item head.now item) }
+    ensures back { IfErr result (λ refused. refused.item ≡ item) }
+{
+    match item {
+        Item::Packet(packet) => match frame(alloc, head, &packet) {
+            Ok(frame) => Ok(Item::Audio(frame)),
+            Err(_) => Err(Refused {
+                item: Item::Packet(packet),
+            }),
+        },
+        Item::Audio(frame) => Ok(Item::Audio(frame)),
+        Item::Video(frame) => Ok(Item::Video(frame)),
+        Item::End => Ok(Item::End),
+        Item::Broken => Ok(Item::Broken),
+    }
+}
+
+impl Machine for Dec {
+    ghost use Rattle.std.specs.Prelude.{None};
+    ghost use Rattle.ff_frame.specs.declared.item.Lane.TheVariants.{Frames, Packets};
+    ghost use Rattle.ff_parts.specs.MapLaws.{map_no_fault, maps_valid, maps_keeps, maps_monotone, maps_cause_stays, maps_calm, maps_given, maps_unbroken, maps_spent_only, maps_closed_spent, maps_done_spent, maps_all_spent};
+    ghost use Rattle.ff_parts.specs.Coders.{dec_in_lanes, dec_out_lanes, dec_spent, dec_stands};
+
+    ghost in_lanes = { dec_in_lanes };
+
+    ghost out_lanes = { dec_out_lanes };
+
+    ghost source_of = { λ m. None };
+
+    ghost fault_of = { λ m. None };
+
+    ghost failures = { λ m. 0 };
+
+    ghost device_of = { λ m. None };
+
+    ghost holds = { λ m. ⊥ };
+
+    ghost is_spent = { dec_spent };
+
+    ghost stands = { dec_stands };
+
+    fn inputs(&self) -> usize {
+        1
+    }
+
+    fn outputs(&self) -> usize {
+        1
+    }
+
+    fn source(&self) -> Option<u32> {
+        None
+    }
+
+    fn fault(&self) -> Option<Fault> {
+        None
+    }
+
+    fn allow(&mut self, ticket: Ticket) -> Option<Ticket> {
+        Some(ticket)
+    }
+
+    fn feed(&mut self, _port: usize, item: Item) -> Result<(), Refused> {
+        if !is_decodable(&self.head, &item) {
+            discard(item);
+            return Ok(());
+        }
+        if self.ready.reserve().is_err() {
+            return Err(Refused { item });
+        }
+        match decode(self.alloc, &self.head, item) {
+            Ok(made) => {
+                self.ready.put(made);
+                Ok(())
+            }
+            Err(refused) => Err(refused),
+        }
+    }
+
+    fn pull(&mut self, _port: usize) -> Result<Option<Item>, AllocError> {
+        Ok(self.ready.take())
+    }
+
+    fn stop(&mut self, _port: usize) {
+        self.ready.stop();
+    }
+
+    fn spent(&self, _port: usize) -> bool {
+        self.ready.is_spent()
+    }
+
+    ghost is_source = { λ m past s. s.plain };
+
+    ghost valid = { λ m past s. maps_valid (Packets m.head) (Frames m.head) (decoded_item m.head) m.ready past s };
+
+    ghost keeps = { λ m past s. maps_keeps (Packets m.head) (Frames m.head) (decoded_item m.head) m.ready past s };
+
+    ghost monotone = { λ m past s. maps_monotone (Packets m.head) (Frames m.head) (decoded_item m.head) m.ready past s };
+
+    ghost cause_stays = { λ m past s. maps_cause_stays (Packets m.head) (Frames m.head) (decoded_item m.head) m.ready past s };
+
+    ghost calm = { λ m past s. maps_calm (Packets m.head) (Frames m.head) (decoded_item m.head) m.ready past s };
+
+    ghost given = { λ m past s. maps_given (Packets m.head) (Frames m.head) (decoded_item m.head) m.ready past s };
+
+    ghost unbroken = { λ m past s f u. maps_unbroken (Packets m.head) (Frames m.head) (decoded_item m.head) m.ready past s u };
+
+    ghost caused = { λ m past c s e i. absurd (map_no_fault c e) };
+
+    ghost spent_only = { λ m past p s h. maps_spent_only (Packets m.head) (Frames m.head) (decoded_item m.head) m.ready past s p h };
+
+    ghost closed_spent = { λ m past p s lt c. maps_closed_spent (Packets m.head) (Frames m.head) (decoded_item m.head) m.ready past s p lt c };
+
+    ghost done_spent = { λ m past p s lt z c a. maps_done_spent (Packets m.head) (Frames m.head) (decoded_item m.head) m.ready past s p lt c };
+
+    ghost all_spent = { λ m past s n h. maps_all_spent (Packets m.head) (Frames m.head) (decoded_item m.head) m.ready past s h };
+
+    ghost ticket_used = { λ m past q s i f p a h. h };
+}

@@ -1,0 +1,32 @@
+-- Linear PCM (RIFF WAVE): the bytes that stand for samples. Numbers have the lowest byte first.
+use Rattle.std.specs.Prelude.{ℕ, zero, suc, ◌+◌, ◌-◌, ◌/◌, ◌%◌, ◌^◌, ℤ, pos, negsuc, List, [], ◌∷◌}
+use Rattle.std.specs.List.{flat_map}
+use Rattle.ff_frame.specs.Lanes.{sample_bytes}
+use Rattle.ff_frame.specs.declared.head.Codec.{Codec}
+use Rattle.ff_frame.specs.declared.head.Codec.TheVariants.{PcmU8, PcmS16le, PcmS24le, PcmS32le}
+
+-- so many bytes of a number
+abbrev pub number_bytes : ℕ → ℕ → List ℕ
+number_bytes zero n = []
+number_bytes (suc count) n = n % 256 ∷ number_bytes count (n / 256)
+
+-- two's complement of so many bits
+abbrev pub unsigned : ℕ → ℤ → ℕ
+unsigned bits (pos n) = n
+unsigned bits (negsuc n) = 2 ^ bits - (n + 1)
+
+-- counted from a middle
+abbrev pub from_middle : ℕ → ℤ → ℕ
+from_middle middle (pos n) = middle + n
+from_middle middle (negsuc n) = middle - (n + 1)
+
+-- the number that a sample is written as: 8 bits are unsigned with the middle 128, the others signed
+abbrev pub sample_number : Codec → ℤ → ℕ
+sample_number PcmU8 sample = from_middle 128 sample
+sample_number PcmS16le sample = unsigned 16 sample
+sample_number PcmS24le sample = unsigned 24 sample
+sample_number PcmS32le sample = unsigned 32 sample
+
+-- the bytes of some samples, one behind another
+abbrev pub bytes_of : Codec → List ℤ → List ℕ
+bytes_of codec samples = flat_map (λ sample. number_bytes (sample_bytes codec) (sample_number codec sample)) samples
