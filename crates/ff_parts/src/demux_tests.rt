@@ -41,7 +41,7 @@ fn next<S: Source + Drop>(demux: &mut Demux<S>) -> Result<Given, AllocError> {
             Given::Packet(p.pts, p.duration, p.pos, p.bytes.as_slice().len())
         }
         Some(Item::End) => Given::End,
-        Some(_) => Given::Other,
+        Some(_item) => Given::Other,
         None => Given::Nothing,
     })
 }
