@@ -107,7 +107,7 @@ fn ends_far(packet: &Pkt) -> bool
 }
 
 // Whether a packet passes a limit, where so many came before it.
-fn is_long(head: &StreamHead, before: u64, packet: &Pkt) -> bool
+pub(crate) fn is_long(head: &StreamHead, before: u64, packet: &Pkt) -> bool
     requires place { packet.now.pos + length packet.now.bytes < 2 ^ 64 }
     requires few { before ≤ 2 ^ 40 }
     ensures { result ≡ passes_in_demux (Packets head.now) before (Item.Packet packet.now) }

@@ -23,3 +23,5 @@ pub use part::{Ends, Part};
 
 #[cfg(test)]
 mod coder_tests;
+#[cfg(test)]
+mod demux_tests;
