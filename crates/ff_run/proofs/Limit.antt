@@ -6,7 +6,7 @@ use Rattle.std.proofs.lemmas.Bool.Decides.{nat_tests}
 use Rattle.ff_frame.specs.declared.head.StreamHead.{StreamHead}
 use Rattle.ff_run.specs.Wav.{is_supported, rate_of, mono_head, head, body, demuxed}
 use Rattle.ff_run.specs.Samples.{decoded, encoded}
-use Rattle.ff_run.specs.FrameHash.{file}
+use Rattle.ff_mux.specs.FrameHash.{file}
 use Rattle.ff_run.specs.Coded.{text}
 use Rattle.ff_run.specs.Meaning.{framehash}
 use Rattle.ff_run.proofs.Coding.{encoded-decoded}

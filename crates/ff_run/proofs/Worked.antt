@@ -3,7 +3,7 @@ use Rattle.std.proofs.Common.{◌≡◌, ◌++◌, ◌∷◌, [], ℕ, List, Som
 use Rattle.std.specs.Fmt.{digits}
 use Rattle.sha2.specs.Sha256.{compress, digest_bytes, first_words, hash_after, rounds, schedule, sha256}
 use Rattle.hex.specs.Hex.{encode_with}
-use Rattle.ff_run.specs.FrameHash.{about, column, columns, digest_text, first_lines, header, packet_line}
+use Rattle.ff_mux.specs.FrameHash.{about, column, columns, digest_text, first_lines, header, packet_line}
 use Rattle.ff_run.specs.Meaning.{framehash}
 
 -- the head of 8-bit samples on one channel at 8,000 sample frames a second, with these sizes

@@ -5,7 +5,7 @@ use Rattle.ff_frame.specs.declared.packet.Pkt.{Pkt}
 use Rattle.ff_frame.specs.declared.head.StreamHead.{StreamHead}
 use Rattle.ff_frame.specs.Packet.{packet_at}
 use Rattle.ff_run.specs.Wav.{packet_bytes, packet_count}
-use Rattle.ff_run.specs.FrameHash.{written}
+use Rattle.ff_mux.specs.FrameHash.{written}
 
 -- packet number k, as an encoder gives it
 abbrev pub coded : List ℕ → ℕ → Pkt

@@ -1,6 +1,5 @@
 pub mod Wav
 pub mod Samples
-pub mod FrameHash
 pub mod Words
 pub mod Meaning
 pub mod Answers

@@ -4,7 +4,7 @@ use Rattle.std.specs.Option.{option_and_then}
 use Rattle.ff_host.specs.Files.{Files, bytes_at}
 use Rattle.ff_run.specs.Wav.{head, rate_of, demuxed}
 use Rattle.ff_run.specs.Samples.{decoded, encoded}
-use Rattle.ff_run.specs.FrameHash.{file}
+use Rattle.ff_mux.specs.FrameHash.{file}
 use Rattle.ff_run.specs.Words.{Job}
 
 -- the framehash of an input's bytes: of its packets, decoded and encoded again; None where its head is refused

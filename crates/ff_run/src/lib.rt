@@ -1,12 +1,11 @@
 //! The command: its words, its meaning, and the call that does all that the program does.
 //!
 //! `specs/Meaning.antt` says which bytes a command's output holds, as a function of the files before the run: the
-//! input's head and packets (`Wav`), their samples and back (`Samples`), and the text of the output (`FrameHash`).
+//! input's head and packets (`Wav`), their samples and back (`Samples`), and the text of the output (`FrameHash` of ff_mux).
 //! `specs/Words.antt` says what a command is, and `specs/Answers.antt` when each status comes. [`ffmpeg`] is proved to
 //! keep to them over any host and any log.
 #![tactic(auto)]
 
-mod frame_hash;
 mod history;
 mod input;
 mod log;

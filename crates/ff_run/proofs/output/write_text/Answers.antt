@@ -5,7 +5,7 @@ use Rattle.ff_lists.specs.Appends.{AppendsPrefix}
 use Rattle.ff_frame.specs.Packet.{packet_at}
 use Rattle.ff_run.specs.Wav.{packet_count}
 use Rattle.ff_run.specs.Coded.{coded, first_coded, text}
-use Rattle.ff_run.specs.FrameHash.{header, packet_line}
+use Rattle.ff_mux.specs.FrameHash.{header, packet_line}
 use Rattle.ff_lists.proofs.Lines.{lines, one_more, split_at}
 use Rattle.ff_lists.proofs.Written.{grows, front_after, front_of}
 use Rattle.ff_run.proofs.output.write_text.Goals as goal
@@ -15,7 +15,7 @@ returns-in_err-write_piece-clause-front g c =
     let K = g.K.Sink in
     let xs = c.args.samples.now in
     let front : AppendsPrefix (K.holds c.args.snk.now) (K.holds c.write_piece.new.snk) (header c.args.head.now) =
-    subst (λ b. AppendsPrefix (K.holds c.args.snk.now) (K.holds c.write_piece.new.snk) b) (c.deref.ensures.value ∙ c.in_ok-lines_before.ensures) c.write_piece.ensures.front in
+    subst (λ b. AppendsPrefix (K.holds c.args.snk.now) (K.holds c.write_piece.new.snk) b) (c.deref.ensures.value ∙ (c.in_ok-lines_before.ensures ∙ ap header c.new-put.ensures)) c.write_piece.ensures.front in
     front_of (K.holds c.args.snk.now) (K.holds c.write_piece.new.snk) (header c.args.head.now) (lines (packet_line 0) (coded xs) (packet_count xs)) (text c.args.head.now xs) front refl
 
 pub returns-in_err-write_line-clause-front : goal.returns-in_err-write_line-clause-front

@@ -1,7 +1,7 @@
 use Rattle.std.proofs.Common.{◌≡◌, ◌≤◌}
 use Rattle.std.specs.Io.KnownBytes.{Appends}
 use Rattle.ff_run.specs.Coded.{first_coded}
-use Rattle.ff_run.specs.FrameHash.{written}
+use Rattle.ff_mux.specs.FrameHash.{written}
 use Rattle.ff_run.proofs.output.write_text.Given as goal
 
 abbrev pub invariant-packets : goal.invariant-packets
