@@ -162,7 +162,7 @@ fn picture(alloc: Global, format: Format, bytes: &[u8]) -> Result<Vec<u8>, Fail>
 
 // Nine samples of Y, and twice four, six, nine or none of colour.
 #[test]
-fn pictures(rt: HostRuntime) {
+fn pictures(rt: HostRuntime) -> Result<(), Fail> {
     assert_eq!(rt;
         picture(rt.alloc(), Format::C420, &PLANES[..17])?.as_slice(),
         &PLANES[..17]
@@ -179,4 +179,5 @@ fn pictures(rt: HostRuntime) {
         picture(rt.alloc(), Format::Mono, &PLANES[..9])?.as_slice(),
         &PLANES[..9]
     );
+    Ok(())
 }

@@ -155,6 +155,7 @@ impl Y4mCut {
         ensures stops { result ≡ Ok Cut.End → self.new ≡ self.old }
         ensures stays { (offset : ℕ) → result ≡ Ok (Cut.Broken offset) → (self.new ≡ self.old) × (offset ≡ place_of self.old) }
         ensures head { head_of self.new ≡ head_of self.old }
+        ensures unit { full_frame self.new ≡ full_frame self.old }
         ensures further { place_of self.new ≤ place_of self.old + full_frame self.old }
         ensures place { (p : Pkt) → result ≡ Ok (Cut.Pkt p) → (p.pos ≡ place_of self.old) × (place_of self.old < place_of self.new) × (place_of self.new ≤ place_of self.old + full_frame self.old) }
     {

@@ -147,20 +147,27 @@ const LINE: [u8; 22] = *b"YUV4MPEG2 W4 H2 F25:1\n";
 // Format, columns, rows, time base, aspect, start and frame size of a head.
 type Said = (Format, (u32, u32), (i64, i64), (u32, u32), (u64, u64));
 
+fn ticks_of(head: &StreamHead) -> (i64, i64) {
+    let StreamHead::Video { tb, .. } = *head else {
+        return (0, 0);
+    };
+    (tb.num(), tb.den())
+}
+
 fn told(bytes: &[u8], whole: bool) -> Result<Said, HeadEnd> {
     let head = read_head(bytes, whole)?;
     match head.head {
         StreamHead::Video {
-            tb,
             format,
             width,
             height,
             sar_num,
             sar_den,
+            ..
         } => Ok((
             format,
             (width, height),
-            (tb.num(), tb.den()),
+            ticks_of(&head.head),
             (sar_num, sar_den),
             (head.start, head.frame_bytes),
         )),
