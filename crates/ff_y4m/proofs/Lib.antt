@@ -5,3 +5,4 @@ pub mod NumberLaws
 pub mod HeadLaws
 pub mod ReadLaws
 pub mod FrameLaws
+pub mod TextLaws

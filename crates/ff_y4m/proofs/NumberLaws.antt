@@ -24,7 +24,7 @@ digit_step n i [] lt = absurd (omega arith)
 digit_step n zero (b ∷ bs) lt = refl
 digit_step n (suc i) (b ∷ bs) lt = digit_step n i bs (omega arith)
 
-digit_yes : (b : ℕ) → 48 ≤ b → b ≤ 57 → is_digit b ≡ true
+pub digit_yes : (b : ℕ) → 48 ≤ b → b ≤ 57 → is_digit b ≡ true
 digit_yes b p q = grind (arith, nat_tests)
 
 digit_no : (b : ℕ) → (b < 48) ⊎ (57 < b) → is_digit b ≡ false

@@ -23,7 +23,7 @@ first_drop (b ∷ bs) (suc i) lt = let e : suc i + 1 ≡ suc (i + 1) = omega ari
 abbrev pub after : Result Parameters HeadFault → ℕ → List ℕ → Result Parameters HeadFault
 after r at bs = elim r [ Ok next ↦ parameters (word_len bs) (at + 1) next bs | Err e ↦ Err e ]
 
-at_byte : (b at : ℕ) (p : Parameters) (bs : List ℕ) → parameters 0 at p (b ∷ bs) ≡ cond (b == 32) (parameters 0 (at + 1) p bs) (after (lettered at b (take (word_len bs) bs) p) at bs)
+pub at_byte : (b at : ℕ) (p : Parameters) (bs : List ℕ) → parameters 0 at p (b ∷ bs) ≡ cond (b == 32) (parameters 0 (at + 1) p bs) (after (lettered at b (take (word_len bs) bs) p) at bs)
 at_byte b at p bs = refl
 
 -- a space
