@@ -1,4 +1,6 @@
 // Headers written out by hand from the RIFF WAVE layout: of 3 sample frames at 44,100 a second.
+ghost use Rattle.std.specs.Prelude.{IfOk};
+ghost use Rattle.ff_frame.specs.Lanes.{IsSoundHead};
 ghost use Rattle.ff_frame.specs.declared.head.StreamHead.{StreamHead};
 
 use super::WavPut;
@@ -22,7 +24,9 @@ fn bits_of(codec: Codec) -> u8 {
     }
 }
 
-fn sound(codec: Codec, channels: u8) -> Result<StreamHead, Fail> {
+fn sound(codec: Codec, channels: u8) -> Result<StreamHead, Fail>
+    ensures { IfOk result IsSoundHead }
+{
     Ok(StreamHead::Audio {
         tb: Rational::new(1, 44100)?,
         rate: 44100,
@@ -33,7 +37,9 @@ fn sound(codec: Codec, channels: u8) -> Result<StreamHead, Fail> {
 }
 
 // The header before a body, and after so many bytes of it; and whether a pad byte follows them.
-fn headers(alloc: Global, head: &StreamHead, size: u64) -> Result<(Vec<u8>, Vec<u8>, bool), Fail> {
+fn headers(alloc: Global, head: &StreamHead, size: u64) -> Result<(Vec<u8>, Vec<u8>, bool), Fail>
+    requires { IsSoundHead head.now }
+{
     let mut put = WavPut::new(alloc, head);
     let first = put.first()?;
     put.add(size).map_err(|_| Fail::from("too large"))?;
@@ -183,7 +189,9 @@ fn counted(
     head: &StreamHead,
     one: u64,
     more: u64,
-) -> Result<(bool, bool, Vec<u8>), Fail> {
+) -> Result<(bool, bool, Vec<u8>), Fail>
+    requires { IsSoundHead head.now }
+{
     let mut put = WavPut::new(alloc, head);
     let first = put.add(one) == Ok(());
     let second = put.add(more) == Ok(());
