@@ -16,6 +16,6 @@ pcm_decode-requires c =
     let long : length c.new-2.result ≡ 12 = grind (arith, common_steps) in
     let t = twelve c.args.codec in
     record {
-      head = record { depth_is = c.requires.own; some_channels = omega arith; few_channels = omega arith };
+      head = record { sound = tt; depth_is = c.requires.own; some_channels = omega arith; few_channels = omega arith };
       blocks = record { blocks = 12 / sample_bytes c.args.codec; some_blocks = t.0; few_blocks = t.1; whole_blocks = long ∙ t.2 };
     }
