@@ -1,0 +1,147 @@
+use Rattle.std.proofs.Common.{◌≡◌, ◌≢◌, ℕ, ◌<◌, false, List, [], map, length, slice_index_or, Option, None, Some, refl, ap, sym, ◌∙◌, subst, arith}
+use Rattle.ff_frame.specs.Stream.{LiesBelow, opened}
+use Rattle.ff_net.specs.declared.fault.Fault.{Fault}
+use Rattle.ff_net.specs.declared.fault.Fault.TheVariants.{NoMemory}
+use Rattle.ff_net.specs.declared.node.Node.{Node}
+use Rattle.ff_net.specs.Laws.{FaultStep, IsOfInputs}
+use Rattle.ff_net.specs.Nets.{solve}
+use Rattle.ff_net.specs.Pasts.{Task, IsIn}
+use Rattle.ff_net.specs.Nodes.{IsSound, machine_of, in_wires_of}
+use Rattle.ff_net.specs.Serial.{AreShaped, NetStands, Settled, parts_of}
+use Rattle.ff_path.specs.declared.chain.Chain.{Chain}
+use Rattle.ff_path.specs.declared.chain.NodeFault.{NodeFault}
+use Rattle.ff_path.specs.Chains.{HasLanes, Fares, AreSound, FedPart, FedAll, FirstFault, machine_at, inputs_of}
+use Rattle.ff_path.proofs.ChainSteps.{written_back, listed, machines_of, same_chain, row_of, row_shaped, row_upward, row_sink, net_at_start, chain_fares, chain_lanes, chain_part, chain_all, chain_sound, chain_fault, chain_cause}
+use Rattle.ff_path.proofs.chain.run_chain.Goals as goal
+
+pub run_to_end-requires-clause-shaped : goal.run_to_end-requires-clause-shaped
+run_to_end-requires-clause-shaped g c =
+    let m = g.M.Machine in
+    let ns = c.in-Ok-nodes_of.nodes in
+    let is : c.deref_mut.result.now ≡ listed ns = c.deref_mut.ensures.value ∙ c.gathered-nodes.ensures in
+    let tasks : ℕ → Task = λ k. record { means = λ ss. []; cause = λ ss. None; source = false } in
+    let row = row_of m.in_lanes m.out_lanes m.source_of m.fault_of m.stands c.args.lanes c.args.machines ns c.in-Ok-nodes_of.ensures.nodes c.requires.lanes tasks in
+    subst (λ (xs : List (Node g.row.M.Denot)). AreShaped m.in_lanes m.out_lanes xs c.in-Ok.wires) (sym is) (row_shaped m.in_lanes m.out_lanes m.source_of m.fault_of m.stands c.args.lanes tasks (listed ns) row c.in-Ok.wires c.in-Ok.ensures.lanes)
+
+pub run_to_end-requires-clause-order : goal.run_to_end-requires-clause-order
+run_to_end-requires-clause-order g c i d lt =
+    let four : length c.deref_mut.result.now ≡ 4 = ap length (c.deref_mut.ensures.value ∙ c.gathered-nodes.ensures) in
+    subst (λ (n : ℕ). slice_index_or c.args.order.now i d < n) (sym four) (c.requires.order i d lt)
+
+pub returns-clause-fares : goal.returns-clause-fares
+returns-clause-fares g c =
+    let m = g.M.Machine in
+    let ns = c.in-Ok-nodes_of.nodes in
+    let end = c.apart-first.result in
+    let is : c.deref_mut.result.now ≡ listed ns = c.deref_mut.ensures.value ∙ c.gathered-nodes.ensures in
+    let count : length c.run_to_end.new.nodes ≡ length c.gathered-nodes.result.items = c.run_to_end.auto.nodes ∙ ap length c.deref_mut.ensures.value in
+    let ends : c.run_to_end.new.nodes ≡ listed end = sym (written_back c.gathered-nodes.result.len c.run_to_end.new.nodes c.gathered-nodes.result.items c.gathered-nodes.result.ok.0 count) ∙ c.apart-first.ensures in
+    let same = same_chain _ _ _ _ _ _ _ _ c.into_machine.ensures c.into_machine-2.ensures c.into_machine-3.ensures c.into_machine-4.ensures in
+    let are = c.in-Ok-nodes_of.ensures.nodes in
+    let from : machines_of ns ≡ c.args.machines = same_chain _ _ _ _ _ _ _ _ are.first_is.machine_is are.second_is.machine_is are.third_is.machine_is are.last_is.machine_is in
+    let steps : (k : ℕ) (d : Node g.row.M.Denot) → k < length (listed ns) → FaultStep m.device_of m.failures m.fault_of (machine_of (slice_index_or (listed ns) k d)) (machine_of (slice_index_or (listed end) k d)) =
+    subst (λ (ys : List (Node g.row.M.Denot)). (k : ℕ) (d : Node g.row.M.Denot) → k < length (listed ns) → FaultStep m.device_of m.failures m.fault_of (machine_of (slice_index_or (listed ns) k d)) (machine_of (slice_index_or ys k d))) ends
+    (subst (λ (xs : List (Node g.row.M.Denot)). (k : ℕ) (d : Node g.row.M.Denot) → k < length xs → FaultStep m.device_of m.failures m.fault_of (machine_of (slice_index_or xs k d)) (machine_of (slice_index_or c.run_to_end.new.nodes k d))) is c.run_to_end.ensures.fares) in
+    subst (λ (x : Chain g.row.M.Denot). Fares m.device_of m.failures m.fault_of c.args.machines x) (sym same)
+    (subst (λ (x : Chain g.row.M.Denot). Fares m.device_of m.failures m.fault_of x (machines_of end)) from (chain_fares m.device_of m.failures m.fault_of ns end steps))
+
+pub returns-clause-lanes : goal.returns-clause-lanes
+returns-clause-lanes g c =
+    let m = g.M.Machine in
+    let ns = c.in-Ok-nodes_of.nodes in
+    let end = c.apart-first.result in
+    let is : c.deref_mut.result.now ≡ listed ns = c.deref_mut.ensures.value ∙ c.gathered-nodes.ensures in
+    let count : length c.run_to_end.new.nodes ≡ length c.gathered-nodes.result.items = c.run_to_end.auto.nodes ∙ ap length c.deref_mut.ensures.value in
+    let ends : c.run_to_end.new.nodes ≡ listed end = sym (written_back c.gathered-nodes.result.len c.run_to_end.new.nodes c.gathered-nodes.result.items c.gathered-nodes.result.ok.0 count) ∙ c.apart-first.ensures in
+    let same = same_chain _ _ _ _ _ _ _ _ c.into_machine.ensures c.into_machine-2.ensures c.into_machine-3.ensures c.into_machine-4.ensures in
+    let tasks : ℕ → Task = λ k. record { means = λ ss. []; cause = λ ss. None; source = false } in
+    let row = row_of m.in_lanes m.out_lanes m.source_of m.fault_of m.stands c.args.lanes c.args.machines ns c.in-Ok-nodes_of.ensures.nodes c.requires.lanes tasks in
+    let late = c.run_to_end.ensures.parts tasks ∙ (ap (λ xs. parts_of m.in_lanes m.out_lanes tasks xs) is ∙ row) in
+    let later = ap (λ xs. parts_of m.in_lanes m.out_lanes tasks xs) (sym ends) ∙ late in
+    subst (λ (x : Chain g.row.M.Denot). HasLanes m.in_lanes m.out_lanes c.args.lanes x) (sym same) (chain_lanes m.in_lanes m.out_lanes m.source_of m.fault_of m.stands c.args.lanes tasks end later)
+
+pub returns-clause-part : goal.returns-clause-part
+returns-clause-part g c tasks s =
+    let m = g.M.Machine in
+    let ns = c.in-Ok-nodes_of.nodes in
+    let end = c.apart-first.result in
+    let is : c.deref_mut.result.now ≡ listed ns = c.deref_mut.ensures.value ∙ c.gathered-nodes.ensures in
+    let count : length c.run_to_end.new.nodes ≡ length c.gathered-nodes.result.items = c.run_to_end.auto.nodes ∙ ap length c.deref_mut.ensures.value in
+    let ends : c.run_to_end.new.nodes ≡ listed end = sym (written_back c.gathered-nodes.result.len c.run_to_end.new.nodes c.gathered-nodes.result.items c.gathered-nodes.result.ok.0 count) ∙ c.apart-first.ensures in
+    let same = same_chain _ _ _ _ _ _ _ _ c.into_machine.ensures c.into_machine-2.ensures c.into_machine-3.ensures c.into_machine-4.ensures in
+    let row = row_of m.in_lanes m.out_lanes m.source_of m.fault_of m.stands c.args.lanes c.args.machines ns c.in-Ok-nodes_of.ensures.nodes c.requires.lanes tasks in
+    let late = c.run_to_end.ensures.parts tasks ∙ (ap (λ xs. parts_of m.in_lanes m.out_lanes tasks xs) is ∙ row) in
+    let later = ap (λ xs. parts_of m.in_lanes m.out_lanes tasks xs) (sym ends) ∙ late in
+    let net = net_at_start m.in_lanes m.out_lanes m.source_of m.fault_of m.stands c.args.lanes c.args.machines ns c.in-Ok-nodes_of.ensures.nodes c.requires.lanes tasks s c.deref_mut.result.now is c.in-Ok.wires c.in-Ok.ensures.fresh in
+    let up = row_upward m.in_lanes m.out_lanes m.source_of m.fault_of m.stands c.args.lanes tasks c.run_to_end.new.nodes late in
+    let below = subst (λ (xs : List (Node g.row.M.Denot)). (net : NetStands m.source_of m.fault_of m.stands tasks xs c.run_to_end.new.wires) × ((k : ℕ) (d : Node g.row.M.Denot) (w : ℕ) → k < length xs → IsIn w (in_wires_of (slice_index_or xs k d)) → LiesBelow (opened (net.world w).taken) (solve (parts_of m.in_lanes m.out_lanes tasks xs) w))) ends (c.run_to_end.ensures.below tasks net up) in
+    subst (λ (x : Chain g.row.M.Denot). FedPart m.stands tasks x) (sym same) (chain_part m.in_lanes m.out_lanes m.source_of m.fault_of m.stands c.args.lanes tasks end later c.run_to_end.new.wires below.0 below.1)
+
+pub returns-clause-all : goal.returns-clause-all
+returns-clause-all g c none tasks s =
+    let m = g.M.Machine in
+    let ns = c.in-Ok-nodes_of.nodes in
+    let end = c.apart-first.result in
+    let is : c.deref_mut.result.now ≡ listed ns = c.deref_mut.ensures.value ∙ c.gathered-nodes.ensures in
+    let count : length c.run_to_end.new.nodes ≡ length c.gathered-nodes.result.items = c.run_to_end.auto.nodes ∙ ap length c.deref_mut.ensures.value in
+    let ends : c.run_to_end.new.nodes ≡ listed end = sym (written_back c.gathered-nodes.result.len c.run_to_end.new.nodes c.gathered-nodes.result.items c.gathered-nodes.result.ok.0 count) ∙ c.apart-first.ensures in
+    let same = same_chain _ _ _ _ _ _ _ _ c.into_machine.ensures c.into_machine-2.ensures c.into_machine-3.ensures c.into_machine-4.ensures in
+    let row = row_of m.in_lanes m.out_lanes m.source_of m.fault_of m.stands c.args.lanes c.args.machines ns c.in-Ok-nodes_of.ensures.nodes c.requires.lanes tasks in
+    let late = c.run_to_end.ensures.parts tasks ∙ (ap (λ xs. parts_of m.in_lanes m.out_lanes tasks xs) is ∙ row) in
+    let later = ap (λ xs. parts_of m.in_lanes m.out_lanes tasks xs) (sym ends) ∙ late in
+    let net = net_at_start m.in_lanes m.out_lanes m.source_of m.fault_of m.stands c.args.lanes c.args.machines ns c.in-Ok-nodes_of.ensures.nodes c.requires.lanes tasks s c.deref_mut.result.now is c.in-Ok.wires c.in-Ok.ensures.fresh in
+    let up = row_upward m.in_lanes m.out_lanes m.source_of m.fault_of m.stands c.args.lanes tasks c.run_to_end.new.nodes late in
+    let nodes : c.deref.result.now ≡ c.run_to_end.new.nodes = c.deref.ensures.value ∙ (c.apart-first.ensures ∙ sym ends) in
+    let sound : FirstFault m.fault_of c.run_to_end.new.nodes None = subst (λ (xs : List (Node g.row.M.Denot)). FirstFault m.fault_of xs None) nodes (subst (λ (r : Option NodeFault). FirstFault m.fault_of c.deref.result.now r) none c.first_fault-fault.ensures) in
+    let four : length c.run_to_end.new.nodes ≡ 4 = ap length ends in
+    let lt : 3 < length c.run_to_end.new.nodes = omega (arith, four) in
+    let sink = row_sink m.in_lanes m.out_lanes m.source_of m.fault_of m.stands c.args.lanes tasks c.run_to_end.new.nodes late end.last in
+    let settled = c.run_to_end.ensures.settled tasks net up sound 3 end.last lt sink in
+    let moved : Settled m.stands (tasks 3) (parts_of m.in_lanes m.out_lanes tasks (listed end)) end.last = subst (λ (xs : List (Node g.row.M.Denot)). Settled m.stands (tasks 3) (parts_of m.in_lanes m.out_lanes tasks xs) (slice_index_or xs 3 end.last)) ends settled in
+    subst (λ (x : Chain g.row.M.Denot). FedAll m.stands tasks x) (sym same) (chain_all m.in_lanes m.out_lanes m.source_of m.fault_of m.stands c.args.lanes tasks end later moved)
+
+pub returns-clause-sound : goal.returns-clause-sound
+returns-clause-sound g c none =
+    let m = g.M.Machine in
+    let ns = c.in-Ok-nodes_of.nodes in
+    let end = c.apart-first.result in
+    let is : c.deref_mut.result.now ≡ listed ns = c.deref_mut.ensures.value ∙ c.gathered-nodes.ensures in
+    let count : length c.run_to_end.new.nodes ≡ length c.gathered-nodes.result.items = c.run_to_end.auto.nodes ∙ ap length c.deref_mut.ensures.value in
+    let ends : c.run_to_end.new.nodes ≡ listed end = sym (written_back c.gathered-nodes.result.len c.run_to_end.new.nodes c.gathered-nodes.result.items c.gathered-nodes.result.ok.0 count) ∙ c.apart-first.ensures in
+    let same = same_chain _ _ _ _ _ _ _ _ c.into_machine.ensures c.into_machine-2.ensures c.into_machine-3.ensures c.into_machine-4.ensures in
+    let nodes : c.deref.result.now ≡ listed end = c.deref.ensures.value ∙ c.apart-first.ensures in
+    let sound : FirstFault m.fault_of (listed end) None = subst (λ (xs : List (Node g.row.M.Denot)). FirstFault m.fault_of xs None) nodes (subst (λ (r : Option NodeFault). FirstFault m.fault_of c.deref.result.now r) none c.first_fault-fault.ensures) in
+    subst (λ (x : Chain g.row.M.Denot). AreSound m.fault_of x) (sym same) (chain_sound m.fault_of end sound)
+
+pub returns-clause-fault : goal.returns-clause-fault
+returns-clause-fault g c f some =
+    let m = g.M.Machine in
+    let ns = c.in-Ok-nodes_of.nodes in
+    let end = c.apart-first.result in
+    let is : c.deref_mut.result.now ≡ listed ns = c.deref_mut.ensures.value ∙ c.gathered-nodes.ensures in
+    let count : length c.run_to_end.new.nodes ≡ length c.gathered-nodes.result.items = c.run_to_end.auto.nodes ∙ ap length c.deref_mut.ensures.value in
+    let ends : c.run_to_end.new.nodes ≡ listed end = sym (written_back c.gathered-nodes.result.len c.run_to_end.new.nodes c.gathered-nodes.result.items c.gathered-nodes.result.ok.0 count) ∙ c.apart-first.ensures in
+    let same = same_chain _ _ _ _ _ _ _ _ c.into_machine.ensures c.into_machine-2.ensures c.into_machine-3.ensures c.into_machine-4.ensures in
+    let nodes : c.deref.result.now ≡ listed end = c.deref.ensures.value ∙ c.apart-first.ensures in
+    let first : FirstFault m.fault_of (listed end) (Some f) = subst (λ (xs : List (Node g.row.M.Denot)). FirstFault m.fault_of xs (Some f)) nodes (subst (λ (r : Option NodeFault). FirstFault m.fault_of c.deref.result.now r) some c.first_fault-fault.ensures) in
+    subst (λ (x : Chain g.row.M.Denot). (f.node < 4) × (f.fault ≢ NoMemory → m.fault_of (machine_at x f.node) ≡ Some f.fault)) (sym same) (chain_fault m.fault_of end f first)
+
+pub returns-clause-cause : goal.returns-clause-cause
+returns-clause-cause g c f some of_inputs tasks s =
+    let m = g.M.Machine in
+    let ns = c.in-Ok-nodes_of.nodes in
+    let end = c.apart-first.result in
+    let is : c.deref_mut.result.now ≡ listed ns = c.deref_mut.ensures.value ∙ c.gathered-nodes.ensures in
+    let count : length c.run_to_end.new.nodes ≡ length c.gathered-nodes.result.items = c.run_to_end.auto.nodes ∙ ap length c.deref_mut.ensures.value in
+    let ends : c.run_to_end.new.nodes ≡ listed end = sym (written_back c.gathered-nodes.result.len c.run_to_end.new.nodes c.gathered-nodes.result.items c.gathered-nodes.result.ok.0 count) ∙ c.apart-first.ensures in
+    let same = same_chain _ _ _ _ _ _ _ _ c.into_machine.ensures c.into_machine-2.ensures c.into_machine-3.ensures c.into_machine-4.ensures in
+    let row = row_of m.in_lanes m.out_lanes m.source_of m.fault_of m.stands c.args.lanes c.args.machines ns c.in-Ok-nodes_of.ensures.nodes c.requires.lanes tasks in
+    let late = c.run_to_end.ensures.parts tasks ∙ (ap (λ xs. parts_of m.in_lanes m.out_lanes tasks xs) is ∙ row) in
+    let later = ap (λ xs. parts_of m.in_lanes m.out_lanes tasks xs) (sym ends) ∙ late in
+    let net = net_at_start m.in_lanes m.out_lanes m.source_of m.fault_of m.stands c.args.lanes c.args.machines ns c.in-Ok-nodes_of.ensures.nodes c.requires.lanes tasks s c.deref_mut.result.now is c.in-Ok.wires c.in-Ok.ensures.fresh in
+    let up = row_upward m.in_lanes m.out_lanes m.source_of m.fault_of m.stands c.args.lanes tasks c.run_to_end.new.nodes late in
+    let nodes : c.deref.result.now ≡ listed end = c.deref.ensures.value ∙ c.apart-first.ensures in
+    let first : FirstFault m.fault_of (listed end) (Some f) = subst (λ (xs : List (Node g.row.M.Denot)). FirstFault m.fault_of xs (Some f)) nodes (subst (λ (r : Option NodeFault). FirstFault m.fault_of c.deref.result.now r) some c.first_fault-fault.ensures) in
+    chain_cause m.in_lanes m.out_lanes m.source_of m.fault_of m.stands c.args.lanes tasks end later f first of_inputs
+    (subst (λ (xs : List (Node g.row.M.Denot)). (k : ℕ) (d : Node g.row.M.Denot) → k < length xs → ((j : ℕ) (e : Node g.row.M.Denot) → j < k → IsSound m.fault_of (slice_index_or xs j e)) → (b : Fault) → m.fault_of (machine_of (slice_index_or xs k d)) ≡ Some b → IsOfInputs b
+    → (tasks k).cause (map (solve (parts_of m.in_lanes m.out_lanes tasks xs)) (in_wires_of (slice_index_or xs k d))) ≡ Some b) ends (c.run_to_end.ensures.cause tasks net up))
