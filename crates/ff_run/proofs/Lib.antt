@@ -1,7 +1,6 @@
-pub mod Coding
-pub mod Ends
-pub mod Limit
 pub mod Names
-pub mod Reading
 pub mod Seven
 pub mod Worked
+pub mod Begins
+pub mod Paths
+pub mod Files

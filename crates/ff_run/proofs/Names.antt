@@ -19,5 +19,8 @@ pub names : (s : Status) (words : List (List ℕ)) (ins outs : Counts) → ((fil
 names status.Fine words ins outs h = tt
 names (status.Words w kind) words ins outs h = tt
 names (status.Device file) words ins outs h = named (read words) ins outs file (h file refl)
+names (status.Damaged i offset) words ins outs h = tt
+names (status.TooLong node) words ins outs h = tt
 names (status.Unsupported i offset) words ins outs h = tt
+names (status.TooLarge output) words ins outs h = tt
 names status.NoMemory words ins outs h = tt

@@ -1,11 +1,15 @@
 -- When each answer of the command comes. `command` is what its words are read as, `before` and `after` are the files
 -- that the host tells, before and after the call. Where they aren't told, a conclusion on them claims nothing, and a
 -- premise on them isn't met.
-use Rattle.std.specs.Prelude.{◌≡◌, ◌⊎◌, ⊤, ℕ, List, ◌++◌, ◌==◌, if◌then◌else◌, Option, Some, None, IsSome, Result, Ok, Err}
+use Rattle.std.specs.Prelude.{◌≡◌, ◌⊎◌, ⊤, ℕ, List, ◌++◌, ◌==◌, if◌then◌else◌, true, Option, Some, None, IsSome, Result, Ok, Err}
 use Rattle.ff_host.specs.Causes.{Rose}
-use Rattle.ff_host.specs.Files.{Files, KeepsFiles, KeepsOthers}
+use Rattle.ff_host.specs.Files.{Files, bytes_at, KeepsFiles, KeepsOthers}
+use Rattle.ff_wav.specs.declared.head.HeadFault.{HeadFault}
+use Rattle.ff_wav.specs.declared.head.HeadFault.TheVariants as head_fault
+use Rattle.ff_wav.specs.Heads.{Found, head}
+use Rattle.ff_parts.specs.Demuxing.{is_too_long}
 use Rattle.ff_run.specs.Words.{Job, Fault}
-use Rattle.ff_run.specs.Meaning.{meaning}
+use Rattle.ff_run.specs.Meaning.{meaning, written}
 use Rattle.ff_run.specs.declared.report.FileRef.{FileRef}
 use Rattle.ff_run.specs.declared.report.FileRef.TheVariants.{Input, Output}
 use Rattle.ff_run.specs.declared.report.Status.{Status}
@@ -21,10 +25,10 @@ HoldsMeaning (Ok job) (Some before) (Some after) = IsSome (meaning job before) �
 HoldsMeaning (Ok job) before after = ⊤
 HoldsMeaning (Err fault) before after = ⊥
 
--- the output is as it was, or holds a front of the bytes that the command means
+-- the output is as it was, or holds a front of what the command writes
 abbrev pub HoldsFront : Command → Option Files → Option Files → Type 0
 HoldsFront (Ok job) (Some before) (Some after) = (after job.output ≡ before job.output)
-    ⊎ ((front rest : List ℕ) × (after job.output ≡ Some front) × (meaning job before ≡ Some (front ++ rest)))
+    ⊎ ((front rest : List ℕ) × (after job.output ≡ Some front) × (written job before ≡ Some (front ++ rest)))
 HoldsFront command before after = ⊤
 
 -- every file that isn't an output of the command is as it was, or still isn't there
@@ -36,7 +40,6 @@ KeepsOtherFiles (Err fault) before after = KeepsFiles before after
 abbrev pub ComesBeforeOutputs : Status → Type 0
 ComesBeforeOutputs (status.Words word kind) = Unit {0}
 ComesBeforeOutputs (status.Unsupported input offset) = Unit {0}
-ComesBeforeOutputs (status.Device (Input i)) = Unit {0}
 ComesBeforeOutputs _ = ⊥
 
 -- the command means something, with files that are told
@@ -44,16 +47,42 @@ abbrev pub IsMeaningful : Command → Option Files → Type 0
 IsMeaningful (Ok job) (Some before) = IsSome (meaning job before)
 IsMeaningful command before = ⊥
 
--- the words are a command, and the head of its input is refused, with files that are told
-abbrev pub IsHeadRefused : Command → Option Files → Type 0
-IsHeadRefused (Ok job) (Some before) = meaning job before ≡ None
-IsHeadRefused command before = ⊥
+-- the status of an input whose head is refused so
+abbrev pub refusal : HeadFault → Status
+refusal (head_fault.Damaged offset) = status.Damaged 0 offset
+refusal (head_fault.Unsupported offset) = status.Unsupported 0 offset
 
--- the words are a command whose input is refused at this offset, as far as the files are told
-abbrev pub IsRefusedAt : Command → Option Files → ℕ → ℕ → Type 0
-IsRefusedAt (Ok job) (Some before) input offset = (input ≡ 0) × (offset ≡ 0) × (meaning job before ≡ None)
-IsRefusedAt (Ok job) None input offset = (input ≡ 0) × (offset ≡ 0)
-IsRefusedAt (Err fault) before input offset = ⊥
+-- the words are a command, and the head of its input is refused so, with files that are told
+abbrev pub IsHeadRefused : Command → Option Files → HeadFault → Type 0
+IsHeadRefused (Ok job) (Some before) fault = head (bytes_at before job.input) ≡ Err fault
+IsHeadRefused command before fault = ⊥
+
+-- the words are a command, and the head of this input is refused so, as far as the files are told
+abbrev pub IsRefusedAs : Command → Option Files → ℕ → HeadFault → Type 0
+IsRefusedAs (Ok job) (Some before) input fault = (input ≡ 0) × (head (bytes_at before job.input) ≡ Err fault)
+IsRefusedAs (Ok job) None input fault = input ≡ 0
+IsRefusedAs (Err words) before input fault = ⊥
+
+-- an input that has a head, and more packets than a stream may have, or one too late
+abbrev pub IsLong : Found → List ℕ → Type 0
+IsLong (Ok h) bytes = is_too_long h bytes ≡ true
+IsLong (Err fault) bytes = ⊥
+
+-- the words are a command whose input is too long, with files that are told
+abbrev pub IsInputLong : Command → Option Files → Type 0
+IsInputLong (Ok job) (Some before) = IsLong (head (bytes_at before job.input)) (bytes_at before job.input)
+IsInputLong command before = ⊥
+
+-- the words are a command in which the stream of this node is too long, as far as the files are told: it is the demuxer
+abbrev pub IsNodeLong : Command → Option Files → ℕ → Type 0
+IsNodeLong (Ok job) (Some before) node = (node ≡ 0) × IsInputLong (Ok job) (Some before)
+IsNodeLong (Ok job) None node = ⊤
+IsNodeLong (Err words) before node = ⊥
+
+-- the words are a command with files that aren't told
+abbrev pub IsUntold : Command → Option Files → Type 0
+IsUntold (Ok job) None = Unit {0}
+IsUntold command before = ⊥
 
 -- the name of a file of the command
 abbrev pub file_name : Command → FileRef → Option (List ℕ)

@@ -1,7 +1,7 @@
 //! The command: its words, its meaning, and the call that does all that the program does.
 //!
-//! `specs/Meaning.antt` says which bytes a command's output holds, as a function of the files before the run: the
-//! input's head and packets (`Wav`), their samples and back (`Samples`), and the text of the output (`FrameHash` of ff_mux).
+//! `specs/Meaning.antt` says which bytes a command's output holds, as a function of the files before the run: what the
+//! four parts of ff_path come to on the whole of the input, a demuxer, a decoder, an encoder and a muxer.
 //! `specs/Words.antt` says what a command is, and `specs/Answers.antt` when each status comes. [`ffmpeg`] is proved to
 //! keep to them over any host and any log.
 #![tactic(auto)]
@@ -9,10 +9,9 @@
 mod history;
 mod input;
 mod log;
-mod output;
+mod path;
 mod report;
 mod run;
-mod wav;
 mod words;
 
 pub use history::{Event, History};

@@ -46,6 +46,24 @@ fn device_line(alloc: Global, name: &str) -> Result<String, AllocError>
     format!(in alloc; "ffmpeg: device fault on {name}\n")
 }
 
+fn damaged_line(alloc: Global, input: u32, offset: u64) -> Result<String, AllocError>
+    ensures { IfOk result (λ text. string_bytes text ≡ line (codes "ffmpeg: input " ++ decimal input ++ codes ": damaged at offset " ++ decimal offset)) }
+{
+    format!(in alloc; "ffmpeg: input {input}: damaged at offset {offset}\n")
+}
+
+fn too_long_line(alloc: Global, node: u32) -> Result<String, AllocError>
+    ensures { IfOk result (λ text. string_bytes text ≡ line (codes "ffmpeg: node " ++ decimal node ++ codes ": stream too long")) }
+{
+    format!(in alloc; "ffmpeg: node {node}: stream too long\n")
+}
+
+fn too_large_line(alloc: Global, output: u32) -> Result<String, AllocError>
+    ensures { IfOk result (λ text. string_bytes text ≡ line (codes "ffmpeg: output " ++ decimal output ++ codes ": file too large")) }
+{
+    format!(in alloc; "ffmpeg: output {output}: file too large\n")
+}
+
 fn unsupported_line(alloc: Global, input: u32, offset: u64) -> Result<String, AllocError>
     ensures { IfOk result (λ text. string_bytes text ≡ line (codes "ffmpeg: input " ++ decimal input ++ codes ": unsupported at offset " ++ decimal offset)) }
 {
@@ -61,7 +79,10 @@ fn text_of(alloc: Global, status: &Status, words: &[String]) -> Result<String, A
         Status::Fine => unreachable!(),
         Status::Words { word, kind } => word_line(alloc, word, kind),
         Status::Device { file } => device_line(alloc, name_of_file(words, file)),
+        Status::Damaged { input, offset } => damaged_line(alloc, input, offset),
+        Status::TooLong { node } => too_long_line(alloc, node),
         Status::Unsupported { input, offset } => unsupported_line(alloc, input, offset),
+        Status::TooLarge { output } => too_large_line(alloc, output),
         Status::NoMemory => String::from_str(alloc, "ffmpeg: out of memory\n"),
     }
 }

@@ -30,8 +30,14 @@ pub enum Status {
     Words { word: u32, kind: WordKind },
     /// Reading an input or writing an output failed.
     Device { file: FileRef },
+    /// The head of an input, or what follows it, breaks its format at this offset in bytes.
+    Damaged { input: u32, offset: u64 },
+    /// The stream of a node has more items than a stream may have, or one that ends too late.
+    TooLong { node: u32 },
     /// The head of an input is of a kind that isn't read, found at this offset in bytes.
     Unsupported { input: u32, offset: u64 },
+    /// An output passes the greatest size of its format.
+    TooLarge { output: u32 },
     /// There was no memory to go on.
     NoMemory,
 }
@@ -70,7 +76,10 @@ pub fn status_number(status: &Status) -> u8
         Status::Fine => 0,
         Status::Words { .. } => 1,
         Status::Device { .. } => 3,
+        Status::Damaged { .. } => 4,
+        Status::TooLong { .. } => 5,
         Status::Unsupported { .. } => 6,
+        Status::TooLarge { .. } => 7,
         Status::NoMemory => 9,
     }
 }

@@ -1,25 +1,26 @@
 // A run: from the words and the files to the files, the log and the report.
-ghost use Rattle.std.specs.Prelude.{◌≡◌, ◌≢◌, ◌⊎◌, ◌↔◌, ◌≤◌, ◌-◌, List, [], ℕ, Some, None, Ok, Err, IfOk, IfErr, IfSome, IsSome};
+ghost use Rattle.std.specs.Prelude.{◌≡◌, ◌≢◌, ◌⊎◌, ◌↔◌, ◌-◌, List, [], ℕ, Some, Ok, Err};
 ghost use Rattle.std.specs.Io.KnownBytes.{Appends, Keeps};
-ghost use Rattle.ff_host.specs.Causes.{Rose, added};
+ghost use Rattle.ff_host.specs.Causes.{Rose};
 ghost use Rattle.ff_host.specs.Files.{KeepsFiles, KeepsOthers};
 ghost use Rattle.ff_lists.specs.Appends.{AppendsPrefix};
+ghost use Rattle.ff_wav.specs.Packets.{IsHead};
+ghost use Rattle.ff_wav.specs.declared.head.HeadFault.{HeadFault};
+ghost use Rattle.ff_wav.specs.declared.head.HeadFault.TheVariants as head_fault;
 ghost use Rattle.ff_run.specs.Words.{texts, read};
-ghost use Rattle.ff_run.specs.Wav.{head as head_of, body as body_of};
-ghost use Rattle.ff_run.specs.Coded.{text};
-ghost use Rattle.ff_run.specs.Answers.{HoldsMeaning, HoldsFront, KeepsOtherFiles, ComesBeforeOutputs, IsMeaningful, IsHeadRefused, IsRefusedAt, InputFaulted, OutputFaulted, FileFaulted};
+ghost use Rattle.ff_run.specs.Meaning.{text_with};
+ghost use Rattle.ff_run.specs.Answers.{HoldsMeaning, HoldsFront, KeepsOtherFiles, ComesBeforeOutputs, IsMeaningful, refusal, IsHeadRefused, IsRefusedAs, IsInputLong, IsNodeLong, IsUntold, InputFaulted, OutputFaulted, FileFaulted};
 ghost use Rattle.ff_run.specs.Texts.{fault_text, NamesFile};
-ghost use Rattle.ff_run.specs.Steps.{HoldsText, HoldsFrontOf, EndsReading, EndsWriting, EndsJob};
+ghost use Rattle.ff_run.specs.Steps.{status_with_end, EndsPath, AreTold, IsFileAt, IsFrontAt, EndsJob};
 
 use crate::history::History;
-use crate::input::{InputEnd, read_all};
+use crate::input::{Begin, InputEnd, read_begin};
 use crate::log::log_fault;
-use crate::output::write_text;
+use crate::path::{Ended, run_path};
 use crate::report::{FileRef, Line, Report, Status, WordKind};
-use crate::wav::{body, read_head};
 use crate::words::{first_fault, word_text};
-use ff_frame::StreamHead;
-use ff_host::{Host, HostError, Sink, SinkError, Source};
+use ff_host::{Begun, Host, HostError, Sink, Source};
+use ff_wav::WavHead;
 use std::alloc::Global;
 use std::sync::Wait;
 use std::thread::Threads;
@@ -32,72 +33,68 @@ const OUTPUT: Status = Status::Device {
     file: FileRef::Output(0),
 };
 
-// Reads an input whole, and its head.
-fn read_input<S: Source>(alloc: Global, src: &mut S) -> Result<(StreamHead, Vec<u8>), Status>
-    ensures head { IfOk result (λ input. head_of input.1.items ≡ Some input.0) }
-    ensures bytes { IfOk result (λ input. IfSome (S.left src.old) (λ all. input.1.items ≡ all)) }
-    ensures err { IfErr result (λ status. EndsReading status (S.faults src.old) (S.faults src.new) (S.left src.old)) }
-    ensures later { S.faults src.old ≤ S.faults src.new }
-    ensures name { S.name src.new ≡ S.name src.old }
+// The status of an input without a head.
+fn status_of_end(end: InputEnd) -> Status
+    ensures { result ≡ status_with_end end }
 {
-    let bytes = match read_all(alloc, src) {
-        Ok(bytes) => bytes,
-        Err(InputEnd::Failed) => return Err(INPUT),
-        Err(InputEnd::NoMemory) => return Err(Status::NoMemory),
-    };
-    match read_head(&bytes) {
-        Some(head) => Ok((head, bytes)),
-        None => Err(Status::Unsupported {
-            input: 0,
-            offset: 0,
-        }),
+    match end {
+        InputEnd::Failed => INPUT,
+        InputEnd::Damaged { offset } => Status::Damaged { input: 0, offset },
+        InputEnd::Unsupported { offset } => Status::Unsupported { input: 0, offset },
+        InputEnd::NoMemory => Status::NoMemory,
     }
 }
 
-// Creates the output, writes the text of the samples, and closes both ends.
-fn write_output<H: Host>(
+// Creates the output, runs the path from the input to it, and closes both ends.
+fn write_output<R: Wait, H: Host>(
+    rt: &R,
     alloc: Global,
     host: &mut H,
+    head: &WavHead,
     input: &str,
-    src: H::Src,
+    src: Begun<H::Src>,
     output: &str,
-    head: &StreamHead,
-    samples: &[u8],
 ) -> Status
-    requires own { H.Src.name src ≡ Some input.now }
+    requires head { IsHead head.now }
+    requires own { ⟦<Begun<H::Src> as Source>⟧.name src ≡ Some input.now }
     requires opened { H.opened host.old input.now }
-    ensures fine { result ≡ Status.Fine → HoldsText (H.files host.old) (H.files host.new) output.now (text head.now samples.now) }
-    ensures front { HoldsFrontOf (H.files host.old) (H.files host.new) output.now (text head.now samples.now) }
+    ensures fine { result ≡ Status.Fine → (bytes : List ℕ) → AreTold (H.files host.old) (⟦<Begun<H::Src> as Source>⟧.left src) bytes
+        → IsFileAt (H.files host.new) output.now head.now bytes }
+    ensures front { (bytes : List ℕ) → AreTold (H.files host.old) (⟦<Begun<H::Src> as Source>⟧.left src) bytes
+        → IsFrontAt (H.files host.old) (H.files host.new) output.now (text_with head.now bytes) }
     ensures others { KeepsOthers (H.files host.old) (H.files host.new) output.now }
-    ensures ends { EndsWriting result (H.out_faults host.old output.now) (H.out_faults host.new output.now) }
-    ensures adds { H.in_faults host.new input.now ≡ added (H.in_faults host.old input.now) (H.Src.faults src) }
+    ensures ends { EndsPath result head.now (AreTold (H.files host.old) (⟦<Begun<H::Src> as Source>⟧.left src))
+        (record { source = H.in_faults host.old input.now; sink = H.out_faults host.old output.now })
+        (record { source = H.in_faults host.new input.now; sink = H.out_faults host.new output.now }) }
     ensures closed { (H.open_sources host.new ≡ H.open_sources host.old - 1) × (H.open_sinks host.new ≡ H.open_sinks host.old) }
 {
-    let mut snk = match host.create_sink(output) {
+    let snk = match host.create_sink(output) {
         Ok(snk) => snk,
         Err(end) => {
-            host.close_source(input, src);
+            host.close_source(input, src.into_inner());
             return match end {
                 HostError::Failed => OUTPUT,
                 HostError::NoMemory => Status::NoMemory,
             };
         }
     };
-    let written = write_text(alloc, &mut snk, head, samples);
-    host.close_source(input, src);
+    let Ended { status, src, snk } = run_path(rt, alloc, head, src, snk);
+    host.close_source(input, src.into_inner());
     let closed = host.close_sink(output, snk);
-    match written {
-        Err(SinkError::NoMemory) => Status::NoMemory,
-        Err(SinkError::Failed) => OUTPUT,
-        Ok(()) => match closed {
-            Ok(()) => Status::Fine,
-            Err(_) => OUTPUT,
-        },
+    if status == Status::Fine && closed.is_err() {
+        return OUTPUT;
     }
+    status
 }
 
-// Reads the input, and writes the output that its bytes mean.
-fn run_job<H: Host>(alloc: Global, host: &mut H, input: &str, output: &str) -> Status
+// Reads the head of the input, and writes the output that its bytes mean.
+fn run_job<R: Wait, H: Host>(
+    rt: &R,
+    alloc: Global,
+    host: &mut H,
+    input: &str,
+    output: &str,
+) -> Status
     ensures bytes { result ≡ Status.Fine → HoldsMeaning (Ok (record { input = input.now; output = output.now })) (H.files host.old) (H.files host.new) }
     ensures others { KeepsOthers (H.files host.old) (H.files host.new) output.now }
     ensures untouched { ComesBeforeOutputs result → KeepsFiles (H.files host.old) (H.files host.new) }
@@ -112,26 +109,36 @@ fn run_job<H: Host>(alloc: Global, host: &mut H, input: &str, output: &str) -> S
         Err(HostError::Failed) => return INPUT,
         Err(HostError::NoMemory) => return Status::NoMemory,
     };
-    match read_input(alloc, &mut src) {
-        Ok((head, bytes)) => write_output(alloc, host, input, src, output, &head, body(&bytes)),
-        Err(status) => {
+    match read_begin(alloc, &mut src) {
+        Ok(Begin { head, bytes }) => {
+            let src = Begun::new(bytes, src);
+            write_output(rt, alloc, host, &head, input, src, output)
+        }
+        Err(end) => {
             host.close_source(input, src);
-            status
+            status_of_end(end)
         }
     }
 }
 
 // Runs the command that the words are.
-fn run_words<H: Host>(alloc: Global, host: &mut H, words: &[String]) -> Status
+fn run_words<R: Wait, H: Host>(rt: &R, alloc: Global, host: &mut H, words: &[String]) -> Status
     ensures bytes { result ≡ Status.Fine → HoldsMeaning (read (texts words.now)) (H.files host.old) (H.files host.new) }
     ensures others { KeepsOtherFiles (read (texts words.now)) (H.files host.old) (H.files host.new) }
     ensures untouched { ComesBeforeOutputs result → KeepsFiles (H.files host.old) (H.files host.new) }
     ensures front { HoldsFront (read (texts words.now)) (H.files host.old) (H.files host.new) }
     ensures words { (w : ℕ) (k : _) → result ≡ Status.Words w k ↔ (read (texts words.now) ≡ Err (record { word = w; kind = k })) }
-    ensures unsupported { (i offset : ℕ) → result ≡ Status.Unsupported i offset → IsRefusedAt (read (texts words.now)) (H.files host.old) i offset }
-    ensures refused { IsHeadRefused (read (texts words.now)) (H.files host.old)
+    ensures unsupported { (i offset : ℕ) → result ≡ Status.Unsupported i offset → IsRefusedAs (read (texts words.now)) (H.files host.old) i (head_fault.Unsupported offset) }
+    ensures damaged { (i offset : ℕ) → result ≡ Status.Damaged i offset → IsRefusedAs (read (texts words.now)) (H.files host.old) i (head_fault.Damaged offset) }
+    ensures refused { (fault : HeadFault) → IsHeadRefused (read (texts words.now)) (H.files host.old) fault
         → (InputFaulted (read (texts words.now)) (record { before = H.in_faults host.old; after = H.in_faults host.new }) → ⊥)
-        → (result ≡ Status.Unsupported 0 0) ⊎ (result ≡ Status.NoMemory) }
+        → (result ≡ refusal fault) ⊎ (result ≡ Status.NoMemory) }
+    ensures too_long { (node : ℕ) → result ≡ Status.TooLong node → IsNodeLong (read (texts words.now)) (H.files host.old) node }
+    ensures long { IsInputLong (read (texts words.now)) (H.files host.old)
+        → (InputFaulted (read (texts words.now)) (record { before = H.in_faults host.old; after = H.in_faults host.new }) → ⊥)
+        → (OutputFaulted (read (texts words.now)) (record { before = H.out_faults host.old; after = H.out_faults host.new }) → ⊥)
+        → (result ≡ Status.TooLong 0) ⊎ (result ≡ Status.NoMemory) }
+    ensures too_large { (output : ℕ) → result ≡ Status.TooLarge output → IsUntold (read (texts words.now)) (H.files host.old) }
     ensures device { (file : _) → result ≡ Status.Device file → FileFaulted (read (texts words.now))
         (record { before = H.in_faults host.old; after = H.in_faults host.new })
         (record { before = H.out_faults host.old; after = H.out_faults host.new }) file }
@@ -146,15 +153,16 @@ fn run_words<H: Host>(alloc: Global, host: &mut H, words: &[String]) -> Status
             word,
             kind: WordKind::UnknownOption,
         },
-        None => run_job(alloc, host, word_text(words, 1), word_text(words, 6)),
+        None => run_job(rt, alloc, host, word_text(words, 1), word_text(words, 6)),
     }
 }
 
 /// The command: all that the program does.
 ///
-/// It reads the words, opens the input and reads its head, creates the output and writes it, closes both, and appends
-/// the line of a fault to the log. Where a step is refused, only the closings and the line still follow, and the first
-/// refusal is the status. Want of memory may end it at any step.
+/// It reads the words, opens the input and reads its head, creates the output, and runs a demuxer, a decoder, an encoder
+/// and a muxer in a row until all are done; then it closes both files, and appends the line of a fault to the log. Where
+/// a step is refused, only the closings and the line still follow, and the first refusal is the status; in the run it is
+/// the fault of the first node that has one. Want of memory may end it at any step. That the run ends isn't claimed.
 pub fn ffmpeg<R: Threads + Wait + Sync, H: Host, E: Sink>(
     rt: &R,
     alloc: Global,
@@ -165,8 +173,8 @@ pub fn ffmpeg<R: Threads + Wait + Sync, H: Host, E: Sink>(
     // With status Fine the output holds the bytes that the command means.
     ensures bytes { result.status ≡ Status.Fine → HoldsMeaning (read (texts words.now)) (H.files host.old) (H.files host.new) }
 
-    // Whatever the status, no other file changes. The words or the input are refused before any file is created, and
-    // a run that fails later leaves a front of those bytes.
+    // Whatever the status, no other file changes. The words or an unsupported input are refused before any file is
+    // created, and a run that fails later leaves a front of what the command writes.
     ensures others { KeepsOtherFiles (read (texts words.now)) (H.files host.old) (H.files host.new) }
     ensures untouched { ComesBeforeOutputs result.status → KeepsFiles (H.files host.old) (H.files host.new) }
     ensures front { result.status ≢ Status.Fine → HoldsFront (read (texts words.now)) (H.files host.old) (H.files host.new) }
@@ -175,10 +183,21 @@ pub fn ffmpeg<R: Threads + Wait + Sync, H: Host, E: Sink>(
     ensures words { (w : ℕ) (k : _) → result.status ≡ Status.Words w k ↔ (read (texts words.now) ≡ Err (record { word = w; kind = k })) }
 
     // The input is refused exactly where its head is, unless reading it failed or memory ran out.
-    ensures unsupported { (i offset : ℕ) → result.status ≡ Status.Unsupported i offset → IsRefusedAt (read (texts words.now)) (H.files host.old) i offset }
-    ensures refused { IsHeadRefused (read (texts words.now)) (H.files host.old)
+    ensures unsupported { (i offset : ℕ) → result.status ≡ Status.Unsupported i offset → IsRefusedAs (read (texts words.now)) (H.files host.old) i (head_fault.Unsupported offset) }
+    ensures damaged { (i offset : ℕ) → result.status ≡ Status.Damaged i offset → IsRefusedAs (read (texts words.now)) (H.files host.old) i (head_fault.Damaged offset) }
+    ensures refused { (fault : HeadFault) → IsHeadRefused (read (texts words.now)) (H.files host.old) fault
         → (InputFaulted (read (texts words.now)) (record { before = H.in_faults host.old; after = H.in_faults host.new }) → ⊥)
-        → (result.status ≡ Status.Unsupported 0 0) ⊎ (result.status ≡ Status.NoMemory) }
+        → (result.status ≡ refusal fault) ⊎ (result.status ≡ Status.NoMemory) }
+
+    // The demuxer's stream is too long exactly where its input is, unless a device failed or memory ran out.
+    ensures too_long { (node : ℕ) → result.status ≡ Status.TooLong node → IsNodeLong (read (texts words.now)) (H.files host.old) node }
+    ensures long { IsInputLong (read (texts words.now)) (H.files host.old)
+        → (InputFaulted (read (texts words.now)) (record { before = H.in_faults host.old; after = H.in_faults host.new }) → ⊥)
+        → (OutputFaulted (read (texts words.now)) (record { before = H.out_faults host.old; after = H.out_faults host.new }) → ⊥)
+        → (result.status ≡ Status.TooLong 0) ⊎ (result.status ≡ Status.NoMemory) }
+
+    // A framehash has no greatest size.
+    ensures too_large { (output : ℕ) → result.status ≡ Status.TooLarge output → IsUntold (read (texts words.now)) (H.files host.old) }
 
     // A fault of a device is answered only where the count of that file's name rose.
     ensures device { (file : _) → result.status ≡ Status.Device file → FileFaulted (read (texts words.now))
@@ -206,8 +225,7 @@ pub fn ffmpeg<R: Threads + Wait + Sync, H: Host, E: Sink>(
     ensures history { result.history ≡ [] }
     ensures reads { result.reads.items ≡ [] }
 {
-    let _ = rt;
-    let status = run_words(alloc, host, words);
+    let status = run_words(rt, alloc, host, words);
     let line = log_fault(alloc, &status, words, log);
     Report {
         status,

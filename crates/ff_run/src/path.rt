@@ -1,0 +1,155 @@
+// The four parts of a run: built, run until all are done, and taken apart.
+ghost use Rattle.std.specs.Prelude.{◌≡◌, ◌≤◌, List, ℕ, [], ◌∷◌, IsSome, None, Some};
+ghost use Rattle.ff_frame.specs.declared.head.Codec.TheVariants.{PcmU8};
+ghost use Rattle.ff_frame.specs.declared.head.StreamHead.{StreamHead};
+ghost use Rattle.ff_frame.specs.declared.item.Lane.TheVariants.{Packets};
+ghost use Rattle.ff_frame.specs.Ports.{stream_at, IsWhole};
+ghost use Rattle.ff_wav.specs.Packets.{IsHead};
+ghost use Rattle.ff_net.specs.Pasts.{Past};
+ghost use Rattle.ff_parts.specs.Muxing.{unpatched, file, HoldsFront as HoldsFrontOf};
+ghost use Rattle.ff_parts.specs.Parts.{part_in_lanes, part_out_lanes, part_fault, part_device, part_failures, part_stands};
+ghost use Rattle.ff_path.specs.Chains.{AreSound, Fares, FedAll, FedPart, HasLanes, Start};
+ghost use Rattle.ff_path.specs.Path.{path_lanes as path_lanes_of, path_tasks};
+ghost use Rattle.ff_run.specs.Meaning.{text_with};
+ghost use Rattle.ff_run.specs.Steps.{AreFresh, EndsPath, HoldsFile, status_with};
+
+use crate::report::{FileRef, Status};
+use ff_frame::Codec;
+use ff_host::{Sink, Source};
+use ff_net::Fault;
+use ff_parts::{Ends, Part};
+use ff_path::{Chain, NodeFault, Ran, build, path_lanes, run_chain};
+use ff_wav::WavHead;
+use std::alloc::Global;
+use std::sync::Wait;
+
+/// The number of the demuxer among the nodes.
+const DEMUX: u32 = 0;
+
+/// How many items wait on a wire at most.
+const QUEUE: usize = 8;
+
+/// The nodes in the order of their turns.
+const ORDER: [usize; 4] = [0, 1, 2, 3];
+
+/// How the four parts ended, and their source and sink as they are then.
+#[derive(Drop)]
+pub struct Ended<Src: Source + Drop, Snk: Sink + Drop> {
+    pub status: Status,
+    pub src: Src,
+    pub snk: Snk,
+}
+
+// The source of a demuxer.
+fn source_of<Src: Source + Drop, Snk: Sink + Drop>(part: Part<Src, Snk>) -> Src
+    requires { part_in_lanes part ≡ [] }
+    ensures name { Src.name result ≡ part_device Src.name Snk.name part }
+    ensures faults { Src.faults result ≡ part_failures Src.faults Snk.faults part }
+{
+    match part.into_ends() {
+        Ends::Source(src) => src,
+        Ends::Sink(_) | Ends::Neither => unreachable!(),
+    }
+}
+
+// The sink of a muxer.
+fn sink_of<Src: Source + Drop, Snk: Sink + Drop>(part: Part<Src, Snk>) -> Snk
+    requires { part_out_lanes part ≡ [] }
+    ensures name { Snk.name result ≡ part_device Src.name Snk.name part }
+    ensures faults { Snk.faults result ≡ part_failures Src.faults Snk.faults part }
+    ensures whole { (past : Past) (head : StreamHead) → part_stands Src.left Snk.holds part past → part_in_lanes part ≡ Packets head ∷ [] → part_fault part ≡ None
+        → IsWhole (stream_at past.got 0) → IsSome (file head (stream_at past.got 0)) × (Snk.holds result ≡ file head (stream_at past.got 0)) }
+    ensures front { (past : Past) (head : StreamHead) → part_stands Src.left Snk.holds part past → part_in_lanes part ≡ Packets head ∷ []
+        → HoldsFrontOf (Snk.holds result) (unpatched head (stream_at past.got 0)) }
+{
+    match part.into_ends() {
+        Ends::Sink(snk) => snk,
+        Ends::Source(_) | Ends::Neither => unreachable!(),
+    }
+}
+
+// The status of a run with this fault. Only a demuxer and a muxer have a device, and there is one input and one output.
+fn status_of(fault: Option<NodeFault>) -> Status
+    ensures { result ≡ status_with fault }
+{
+    let Some(NodeFault { node, fault }) = fault else {
+        return Status::Fine;
+    };
+    match fault {
+        Fault::Device if node == DEMUX => Status::Device {
+            file: FileRef::Input(0),
+        },
+        Fault::Device => Status::Device {
+            file: FileRef::Output(0),
+        },
+        Fault::Damaged { offset } => Status::Damaged { input: 0, offset },
+        Fault::TooLong => Status::TooLong { node },
+        Fault::TooLarge => Status::TooLarge { output: 0 },
+        Fault::NoMemory => Status::NoMemory,
+    }
+}
+
+// Runs the four parts until all are done.
+fn run_parts<R: Wait, Src: Source + Drop, Snk: Sink + Drop>(
+    rt: &R,
+    alloc: Global,
+    head: &WavHead,
+    parts: Chain<Part<Src, Snk>>,
+) -> (Chain<Part<Src, Snk>>, Status)
+    requires lanes { HasLanes part_in_lanes part_out_lanes (path_lanes_of PcmU8 head.now.head) parts }
+    requires sound { AreSound part_fault parts }
+    ensures lanes { HasLanes part_in_lanes part_out_lanes (path_lanes_of PcmU8 head.now.head) result.0 }
+    ensures fares { Fares (part_device Src.name Snk.name) (part_failures Src.faults Snk.faults) part_fault parts result.0 }
+    ensures fine { result.1 ≡ Status.Fine → (bytes : List ℕ) → Start (part_stands Src.left Snk.holds) (path_tasks PcmU8 head.now bytes) parts
+        → FedAll (part_stands Src.left Snk.holds) (path_tasks PcmU8 head.now bytes) result.0 }
+    ensures done { result.1 ≡ Status.Fine → AreSound part_fault result.0 }
+    ensures front { (bytes : List ℕ) → Start (part_stands Src.left Snk.holds) (path_tasks PcmU8 head.now bytes) parts
+        → FedPart (part_stands Src.left Snk.holds) (path_tasks PcmU8 head.now bytes) result.0 }
+    ensures ends { EndsPath result.1 head.now (λ bytes. Start (part_stands Src.left Snk.holds) (path_tasks PcmU8 head.now bytes) parts)
+        (record { source = part_failures Src.faults Snk.faults parts.first; sink = part_failures Src.faults Snk.faults parts.last })
+        (record { source = part_failures Src.faults Snk.faults result.0.first; sink = part_failures Src.faults Snk.faults result.0.last }) }
+{
+    let lanes = path_lanes(Codec::PcmU8, &head.head);
+    match run_chain(rt, alloc, parts, lanes, QUEUE, &ORDER) {
+        Ok(Ran { machines, fault }) => (machines, status_of(fault)),
+        Err(parts) => (parts, Status::NoMemory),
+    }
+}
+
+/// Runs the path from an input with this head to its framehash, over a source that gives the input from its first byte
+/// on and a sink that holds nothing.
+pub fn run_path<R: Wait, Src: Source + Drop, Snk: Sink + Drop>(
+    rt: &R,
+    alloc: Global,
+    head: &WavHead,
+    src: Src,
+    snk: Snk,
+) -> Ended<Src, Snk>
+    requires { IsHead head.now }
+    ensures fine { result.status ≡ Status.Fine → (bytes : List ℕ) → AreFresh (Src.left src) (Snk.holds snk) bytes → HoldsFile head.now bytes (Snk.holds result.snk) }
+    ensures front { (bytes : List ℕ) → AreFresh (Src.left src) (Snk.holds snk) bytes → HoldsFrontOf (Snk.holds result.snk) (text_with head.now bytes) }
+    ensures ends { EndsPath result.status head.now (AreFresh (Src.left src) (Snk.holds snk))
+        (record { source = Src.faults src; sink = Snk.faults snk }) (record { source = Src.faults result.src; sink = Snk.faults result.snk }) }
+    ensures src_later { Src.faults src ≤ Src.faults result.src }
+    ensures snk_later { Snk.faults snk ≤ Snk.faults result.snk }
+    ensures src_name { Src.name result.src ≡ Src.name src }
+    ensures snk_name { Snk.name result.snk ≡ Snk.name snk }
+{
+    let parts = match build(alloc, Codec::PcmU8, head, src, snk) {
+        Ok(parts) => parts,
+        Err((src, snk)) => {
+            return Ended {
+                status: Status::NoMemory,
+                src,
+                snk,
+            };
+        }
+    };
+    let (parts, status) = run_parts(rt, alloc, head, parts);
+    let Chain { first, last, .. } = parts;
+    Ended {
+        status,
+        src: source_of(first),
+        snk: sink_of(last),
+    }
+}
