@@ -48,6 +48,11 @@ IsPcmCodec PcmS32le = Unit {0}
 IsPcmCodec Flac = ⊥
 IsPcmCodec RawVideo = ⊥
 
+-- a head of sound whose codec is linear PCM
+abbrev pub IsPcmCoded : StreamHead → Type 0
+IsPcmCoded (AudioHead tb rate bits channels codec) = IsPcmCodec codec
+IsPcmCoded (VideoHead tb format width height sar_num sar_den) = ⊥
+
 -- the bytes of one sample as the codec of linear PCM writes it; what is said of the other codecs here is never used
 abbrev pub sample_bytes : Codec → ℕ
 sample_bytes PcmU8 = 1
