@@ -1,9 +1,8 @@
 -- What encoding makes of what a lane of frames carries.
-use Rattle.std.specs.Prelude.{◌≡◌, ℕ, ◌*◌, ◌/◌, ◌<◌, ◌≤◌, ℤ, pos, List, map, length, refl}
-use Rattle.std.proofs.Common.{sym, subst, ap, ◌∙◌, arith}
+use Rattle.std.specs.Prelude.{◌≡◌, ℕ, ◌*◌, ◌/◌, ℤ, pos, List, map, length, refl}
+use Rattle.std.proofs.Common.{ap, ◌∙◌, arith}
 use Rattle.std.proofs.lemmas.List.{length-map}
 use Rattle.std.proofs.Math.Nat.{mul-div_cancel}
-use Rattle.ff_time.specs.Fraction.{Fraction}
 use Rattle.ff_frame.specs.declared.audio.AFrame.{AFrame}
 use Rattle.ff_frame.specs.declared.head.Codec.{Codec}
 use Rattle.ff_frame.specs.declared.head.StreamHead.{StreamHead}
@@ -15,8 +14,8 @@ use Rattle.ff_frame.specs.Items.{Closes}
 use Rattle.ff_frame.specs.PcmLaws.{packet_pcm}
 use Rattle.ff_frame.specs.Lanes.{base_of_head, IsPcmCodec, sample_bytes, IsPcm, IsFrameOf, IsSoundHead, FitsFrames, FitsPackets, StartsAfter}
 use Rattle.ff_frame.specs.Times.{start_of, end_of}
-use Rattle.ff_pcm.specs.Bytes.{sample_number, bytes_of}
-use Rattle.ff_pcm.specs.Depth.{shifted, at_depth}
+use Rattle.ff_pcm.specs.Bytes.{sample_number}
+use Rattle.ff_pcm.specs.Depth.{shifted}
 use Rattle.ff_pcm.specs.Samples.{depth}
 use Rattle.ff_pcm.proofs.ByteLaws.{bytes_length}
 use Rattle.ff_parts.specs.Maps.{Carries}

@@ -4,7 +4,6 @@ use Rattle.ff_frame.specs.declared.head.StreamHead.{StreamHead}
 use Rattle.ff_frame.specs.declared.head.StreamHead.TheVariants.{Audio, Video}
 use Rattle.ff_frame.specs.PcmLaws.{IsPcmCodec-prop}
 use Rattle.ff_frame.specs.Lanes.{IsSoundHead, IsPcmCoded}
-use Rattle.ff_wav.specs.Packets.{IsStream}
 
 pub IsSoundHead-prop : (head : StreamHead) → IsProp (IsSoundHead head)
 IsSoundHead-prop (Audio base rate bits channels codec) = Unit-prop
@@ -13,8 +12,3 @@ IsSoundHead-prop (Video tb format width height sar_num sar_den) = λ a. absurd a
 pub IsPcmCoded-prop : (head : StreamHead) → IsProp (IsPcmCoded head)
 IsPcmCoded-prop (Audio base rate bits channels codec) = IsPcmCodec-prop codec
 IsPcmCoded-prop (Video tb format width height sar_num sar_den) = λ a. absurd a
-
--- a stream that is read is linear PCM
-pub stream_coded : (head : StreamHead) → IsStream head → IsPcmCoded head
-stream_coded (Audio base rate bits channels codec) h = h.coded
-stream_coded (Video tb format width height sar_num sar_den) h = absurd h
