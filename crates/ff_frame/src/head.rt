@@ -1,7 +1,7 @@
 use crate::video::Format;
 use ff_time::Rational;
 
-/// How the samples of a stream are coded.
+/// How the samples or the pictures of a stream are coded.
 #[derive(Clone, Copy, Debug, PartialEq, Eq)]
 pub enum Codec {
     /// Linear PCM of 8 bits: unsigned bytes with the middle 128 (RIFF WAVE).
@@ -12,6 +12,10 @@ pub enum Codec {
     PcmS24le,
     /// Linear PCM of 32 bits: signed, the lowest byte first (RIFF WAVE).
     PcmS32le,
+    /// The Free Lossless Audio Codec (RFC 9639).
+    Flac,
+    /// Pictures as their planes, one after the other.
+    RawVideo,
 }
 
 /// What is known of a stream before its first packet.
