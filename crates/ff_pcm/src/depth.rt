@@ -64,6 +64,9 @@ fn shift_all(samples: &mut Samples, from: u8, to: u8)
     requires to_few { to ≤ 32 }
     ensures { samples.new ≡ map (shifted from to) samples.old }
 {
+    if from == to {
+        return;
+    }
     if from <= to {
         raise_all(samples, power(to - from));
         return;

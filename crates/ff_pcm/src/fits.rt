@@ -55,12 +55,12 @@ fn all_fit_bits(samples: &[i32], bits: u8) -> bool
     requires few { bits ≤ 32 }
     ensures { IsTrue result ↔ All (FitsBits bits) samples.now }
 {
+    // No sample ends the loop early, so that several are looked at in one step.
+    let mut fits = true;
     for sample in samples {
-        if !fits_bits(*sample, bits) {
-            return false;
-        }
+        fits = fits & fits_bits(*sample, bits);
     }
-    true
+    fits
 }
 
 /// Whether the fields of a frame agree, so that its depth can be changed and it can be encoded.
