@@ -1,4 +1,5 @@
-use crate::runs::{ABC, HEADER, WORDS, failure, host_of, run, three_samples};
+use crate::inputs::FULL;
+use crate::runs::{ABC, HEADER, Head, WORDS, failure, host_of, input, run, three_samples};
 use ff_host::{HostCall, MemHost};
 use ff_run::{FileRef, Line, Status};
 use std::test::Fail;
@@ -15,11 +16,10 @@ const OUTPUT: Status = Status::Device {
 fn planned_failures(rt: HostRuntime) -> Result<(), Fail> {
     let alloc = rt.alloc();
     let whole = format!(in alloc; "{HEADER}{ABC}")?;
-    let cases: [(&str, HostCall, u32, Status, &str); 9] = [
+    let cases: [(&str, HostCall, u32, Status, &str); 8] = [
         ("in.wav", HostCall::OpenSource, 1, INPUT, "older"),
         ("in.wav", HostCall::Read, 1, INPUT, "older"),
-        ("in.wav", HostCall::Read, 2, INPUT, "older"),
-        ("in.wav", HostCall::Read, 3, Status::Fine, whole.as_str()),
+        ("in.wav", HostCall::Read, 2, Status::Fine, whole.as_str()),
         ("out", HostCall::Create, 1, OUTPUT, "older"),
         ("out", HostCall::Append, 1, OUTPUT, ""),
         ("out", HostCall::Append, 2, OUTPUT, HEADER),
@@ -57,6 +57,32 @@ fn planned_failures(rt: HostRuntime) -> Result<(), Fail> {
             "{name} {call:?} {number}"
         );
     }
+    Ok(())
+}
+
+// A body without a size is read to the end of the input: what was read before a failure is written.
+#[test]
+fn failure_in_the_body(rt: HostRuntime) -> Result<(), Fail> {
+    let alloc = rt.alloc();
+    let head = Head {
+        riff_size: 40,
+        rate: 8000,
+        data_size: u32::MAX,
+    };
+    let long = vec![in alloc; b'a'; 2049]?;
+    let mut fails = Vec::new(alloc);
+    fails.push(failure(alloc, "in.wav", HostCall::Read, 2)?)?;
+    let host = host_of(alloc, input(alloc, &head, &long)?, fails)?;
+    let ran = run(&rt, alloc, &WORDS, host, Vec::new(alloc))?;
+    let expected = format!(in alloc;
+        "{HEADER}0,          0,          0,     1024,     1024, {FULL}\n0,       1024,       1024,     1024,     1024, {FULL}\n"
+    )?;
+    assert_eq!(rt; ran.report.status, INPUT);
+    assert_eq!(rt;
+        ran.host.file("out").ok_or("no output")?,
+        expected.as_bytes()
+    );
+    assert_eq!(rt; ran.host.in_faults("in.wav"), 1);
     Ok(())
 }
 

@@ -3,7 +3,8 @@ use ff_run::{Line, Status};
 use std::alloc::{AllocError, Global};
 use std::test::Fail;
 
-const FULL: &str = "2edc986847e209b4016e141a6dc8716d3207350f416969382d431539bf292e4a";
+/// SHA-256 of 1,024 times the letter a.
+pub const FULL: &str = "2edc986847e209b4016e141a6dc8716d3207350f416969382d431539bf292e4a";
 
 const ONE: &str = "ca978112ca1bbdcafac231b39a23dc4da786eff8147c4e72b9807785afee48bb";
 
@@ -62,7 +63,7 @@ fn rates(rt: HostRuntime) -> Result<(), Fail> {
     let alloc = rt.alloc();
     for (rate, read) in [
         (0, false),
-        (7999, false),
+        (1, true),
         (8000, true),
         (44100, true),
         (0x7FFF_FFFF, true),
@@ -90,7 +91,7 @@ fn rates(rt: HostRuntime) -> Result<(), Fail> {
                 ran.report.status,
                 Status::Unsupported {
                     input: 0,
-                    offset: 0
+                    offset: 24
                 },
                 "{rate}"
             );
@@ -107,16 +108,13 @@ fn rates(rt: HostRuntime) -> Result<(), Fail> {
 #[test]
 fn refused_heads(rt: HostRuntime) -> Result<(), Fail> {
     let alloc = rt.alloc();
-    for (name, place, byte) in [
-        ("RIFF", 0, b'r'),
-        ("WAVE", 8, b'w'),
-        ("the id of fmt", 12, b'F'),
-        ("the size of fmt", 16, 18),
-        ("the tag", 20, 3),
-        ("the channels", 22, 2),
-        ("the block align", 32, 2),
-        ("the bits", 34, 16),
-        ("the id of data", 36, b'D'),
+    for (name, place, byte, offset) in [
+        ("RIFF", 0, b'r', 0),
+        ("WAVE", 8, b'w', 0),
+        ("the tag", 20, 3, 20),
+        ("the channels", 22, 9, 22),
+        ("the block align", 32, 2, 32),
+        ("the bits", 34, 12, 34),
     ] {
         let mut bytes = three_samples(alloc)?;
         if let Some(changed) = bytes.get_mut(place) {
@@ -124,20 +122,44 @@ fn refused_heads(rt: HostRuntime) -> Result<(), Fail> {
         }
         let host = host_of(alloc, bytes, Vec::new(alloc))?;
         let ran = run(&rt, alloc, &WORDS, host, Vec::new(alloc))?;
+        let line = format!(in alloc; "ffmpeg: input 0: unsupported at offset {offset}\n")?;
         assert_eq!(rt;
             ran.report.status,
-            Status::Unsupported {
-                input: 0,
-                offset: 0
-            },
+            Status::Unsupported { input: 0, offset },
             "{name}"
         );
         assert_eq!(rt; ran.report.line, Line::Whole, "{name}");
+        assert_eq!(rt; ran.log.bytes(), line.as_bytes(), "{name}");
         assert_eq!(rt;
-            ran.log.bytes(),
-            b"ffmpeg: input 0: unsupported at offset 0\n".as_slice(),
+            ran.host.file("out").ok_or("no output")?,
+            b"older".as_slice(),
             "{name}"
         );
+    }
+    Ok(())
+}
+
+#[test]
+fn damaged_heads(rt: HostRuntime) -> Result<(), Fail> {
+    let alloc = rt.alloc();
+    for (name, place, byte, offset) in [
+        ("no fmt before data", 12, b'F', 36),
+        ("a short fmt", 16, 15, 12),
+        ("no data", 36, b'D', 48),
+    ] {
+        let mut bytes = three_samples(alloc)?;
+        if let Some(changed) = bytes.get_mut(place) {
+            *changed = byte;
+        }
+        let host = host_of(alloc, bytes, Vec::new(alloc))?;
+        let ran = run(&rt, alloc, &WORDS, host, Vec::new(alloc))?;
+        let line = format!(in alloc; "ffmpeg: input 0: damaged at offset {offset}\n")?;
+        assert_eq!(rt;
+            ran.report.status,
+            Status::Damaged { input: 0, offset },
+            "{name}"
+        );
+        assert_eq!(rt; ran.log.bytes(), line.as_bytes(), "{name}");
         assert_eq!(rt;
             ran.host.file("out").ok_or("no output")?,
             b"older".as_slice(),
@@ -150,33 +172,74 @@ fn refused_heads(rt: HostRuntime) -> Result<(), Fail> {
 #[test]
 fn short_heads(rt: HostRuntime) -> Result<(), Fail> {
     let alloc = rt.alloc();
-    for length in [0, 1, 43, 44] {
+    for (length, refused) in [
+        (
+            0,
+            Some(Status::Unsupported {
+                input: 0,
+                offset: 0,
+            }),
+        ),
+        (
+            11,
+            Some(Status::Unsupported {
+                input: 0,
+                offset: 0,
+            }),
+        ),
+        (
+            12,
+            Some(Status::Damaged {
+                input: 0,
+                offset: 12,
+            }),
+        ),
+        (
+            43,
+            Some(Status::Damaged {
+                input: 0,
+                offset: 43,
+            }),
+        ),
+        (44, None),
+    ] {
         let mut bytes = three_samples(alloc)?;
         bytes.truncate(length);
         let host = host_of(alloc, bytes, Vec::new(alloc))?;
         let ran = run(&rt, alloc, &WORDS, host, Vec::new(alloc))?;
-        if length < 44 {
-            assert_eq!(rt;
-                ran.report.status,
-                Status::Unsupported {
-                    input: 0,
-                    offset: 0
-                },
-                "{length}"
-            );
-            assert_eq!(rt;
-                ran.host.file("out").ok_or("no output")?,
-                b"older".as_slice(),
-                "{length}"
-            );
-        } else {
-            assert_eq!(rt; ran.report.status, Status::Fine, "{length}");
-            assert_eq!(rt;
-                ran.host.file("out").ok_or("no output")?,
-                HEADER.as_bytes(),
-                "{length}"
-            );
-        }
+        let (status, output) = match refused {
+            Some(status) => (status, "older"),
+            None => (Status::Fine, HEADER),
+        };
+        assert_eq!(rt; ran.report.status, status, "{length}");
+        assert_eq!(rt;
+            ran.host.file("out").ok_or("no output")?,
+            output.as_bytes(),
+            "{length}"
+        );
     }
+    Ok(())
+}
+
+/// The line of one packet of two sample frames whose bytes are 0, 255 (`sha256sum`).
+const TWO: &str =
+    "0,          0,          0,        2,        2, 06eb7d6a69ee19e5fbdf749018d3d2abfa04bcbd1365db312eb86dc7169389b8\n";
+
+// Samples of 16 bits are written with 8: the upper byte of each, with its highest bit turned.
+#[test]
+fn deeper_samples(rt: HostRuntime) -> Result<(), Fail> {
+    let alloc = rt.alloc();
+    let mut bytes = Vec::new(alloc);
+    bytes.extend_from_slice(
+        b"RIFF\x28\0\0\0WAVEJUNK\x01\0\0\0?\0fmt \x10\0\0\0\x01\0\x01\0\x40\x1f\0\0\x80\x3e\0\0\x02\0\x10\0data\x05\0\0\0\xff\x80\0\x7f\x01\0",
+    )?;
+    let host = host_of(alloc, bytes, Vec::new(alloc))?;
+    let ran = run(&rt, alloc, &WORDS, host, Vec::new(alloc))?;
+    let expected = format!(in alloc; "{HEADER}{TWO}")?;
+    assert_eq!(rt; ran.report.status, Status::Fine);
+    assert_eq!(rt;
+        ran.host.file("out").ok_or("no output")?,
+        expected.as_bytes()
+    );
     Ok(())
 }

@@ -25,6 +25,27 @@ fn numbers_and_lines(rt: HostRuntime) -> Result<(), Fail> {
         fault_line(alloc, &status, &words)?.as_slice(),
         b"ffmpeg: input 3: unsupported at offset 268435456\n".as_slice()
     );
+    let status = Status::Damaged {
+        input: 1,
+        offset: 44,
+    };
+    assert_eq!(rt; status_number(&status), 4);
+    assert_eq!(rt;
+        fault_line(alloc, &status, &words)?.as_slice(),
+        b"ffmpeg: input 1: damaged at offset 44\n".as_slice()
+    );
+    let status = Status::TooLong { node: 0 };
+    assert_eq!(rt; status_number(&status), 5);
+    assert_eq!(rt;
+        fault_line(alloc, &status, &words)?.as_slice(),
+        b"ffmpeg: node 0: stream too long\n".as_slice()
+    );
+    let status = Status::TooLarge { output: 2 };
+    assert_eq!(rt; status_number(&status), 7);
+    assert_eq!(rt;
+        fault_line(alloc, &status, &words)?.as_slice(),
+        b"ffmpeg: output 2: file too large\n".as_slice()
+    );
     let status = Status::NoMemory;
     assert_eq!(rt; status_number(&status), 9);
     assert_eq!(rt;

@@ -9,3 +9,6 @@ mod path;
 
 pub use chain::{Chain, Lanes, NodeFault, Ran, run_chain};
 pub use path::{build, coded_head, path_lanes};
+
+#[cfg(test)]
+mod tests;

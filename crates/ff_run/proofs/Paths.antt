@@ -58,7 +58,6 @@ when_long false fault e = absurd cc
 
 module _ {S K : Type 0} (left : S → Option (List ℕ)) (holds : K → Option (List ℕ)) (named : S → Option (List ℕ)) (called : K → Option (List ℕ)) (ins : S → ℕ) (outs : K → ℕ)
     (h : WavHead) (old new : Chain (Part S K)) where
-
   abbrev told : List ℕ → Type 0
   told bytes = Start (part_stands left holds) (path_tasks PcmU8 h bytes) old
 

@@ -58,11 +58,7 @@ fn zeros(alloc: Global, count: usize) -> Result<Vec<u8>, AllocError>
 }
 
 // The head of what a source has left, read through a buffer.
-fn read_pieces<S: Source>(
-    alloc: Global,
-    src: &mut S,
-    buffer: &mut [u8],
-) -> Result<Begin, InputEnd>
+fn read_pieces<S: Source>(alloc: Global, src: &mut S, buffer: &mut [u8]) -> Result<Begin, InputEnd>
     requires { 0 < length buffer.old }
     ensures sound { IfOk result (λ begin. IsHead begin.head) }
     ensures head { IfOk result (λ begin. IfSome (S.left src.old) (λ all. head_of all ≡ Ok begin.head)) }
