@@ -1,6 +1,6 @@
 -- From the steps of a job to the whole.
-use Rattle.std.proofs.Common.{◌≡◌, ◌⊎◌, ◌++◌, inl, inr, ℕ, ◌+◌, ◌≤◌, ◌^◌, ◌-◌, min, Bool, true, false, List, [], Option, Some, None, Ok, Err, IsSome, IfSome, refl, sym, ◌∙◌, ap, subst, arith}
-use Rattle.ff_host.specs.Causes.{Rose, added}
+use Rattle.std.proofs.Common.{◌≡◌, ◌⊎◌, ◌++◌, inl, inr, ℕ, true, List, [], Option, Some, None, Ok, Err, IsSome, IfSome, refl, sym, ◌∙◌, ap, subst}
+use Rattle.ff_host.specs.Causes.{Rose}
 use Rattle.ff_host.specs.Files.{Files, bytes_at, KeepsFiles, KeepsOthers, GivesFile, HoldsNothing, PutsFile}
 use Rattle.ff_wav.specs.declared.head.WavHead.{WavHead}
 use Rattle.ff_wav.specs.declared.head.HeadFault.{HeadFault}
@@ -12,8 +12,8 @@ use Rattle.ff_parts.specs.DemuxLaws.{demux_mark}
 use Rattle.ff_frame.specs.Stream.{Mark, still_open, whole, broken}
 use Rattle.ff_mux.specs.FrameHash.{once_whole}
 use Rattle.ff_run.specs.Words.{Job}
-use Rattle.ff_run.specs.Meaning.{file_of, file_with, text_of, text_with, framehash, framehash_text, meaning}
-use Rattle.ff_run.specs.Answers.{Command, Counts, HoldsMeaning, HoldsFront as HoldsFrontOf, refusal, IsHeadRefused, IsRefusedAs, IsLong, IsInputLong, IsMeaningful, InputFaulted, OutputFaulted}
+use Rattle.ff_run.specs.Meaning.{file_of, file_with, text_of, text_with, framehash, framehash_text}
+use Rattle.ff_run.specs.Answers.{Command, Counts, HoldsMeaning, HoldsFront as HoldsFrontOf, refusal, IsHeadRefused, IsLong, IsInputLong, IsMeaningful, InputFaulted, OutputFaulted}
 use Rattle.ff_run.specs.Steps.{Failures, EndsPath, AreTold, HoldsFile, IsFileAt, IsFrontAt, IsRead, IsInputRead, MeansSomething, EndsJob, EndsHead, status_with_end}
 use Rattle.ff_run.specs.declared.input.InputEnd.{InputEnd}
 use Rattle.ff_run.specs.declared.input.InputEnd.TheVariants as input_end

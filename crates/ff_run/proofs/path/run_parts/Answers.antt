@@ -21,3 +21,6 @@ returns-in-Ok-clause-ends g c =
     rw c.status_of.ensures
     (path_end S.left K.holds S.name K.name S.faults K.faults c.args.head.now c.args.parts c.in-Ok.field-0.machines c.in-Ok.field-0.fault
     (subst (λ (l : Lanes). HasLanes part_in_lanes part_out_lanes l c.in-Ok.field-0.machines) c.path_lanes-lanes.ensures c.in-Ok.ensures.lanes) c.requires.sound c.in-Ok.ensures.fares c.in-Ok.ensures.fault c.in-Ok.ensures.cause)
+
+pub returns-in-Ok-clause-done : goal.returns-in-Ok-clause-done
+returns-in-Ok-clause-done g c = λ fine. c.in-Ok.ensures.sound (fine_only c.in-Ok.field-0.fault (sym c.status_of.ensures ∙ fine))

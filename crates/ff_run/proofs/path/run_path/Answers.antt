@@ -1,10 +1,8 @@
 use Rattle.std.proofs.Common.{◌≡◌, IsSome, sym, subst}
 use Rattle.ff_frame.specs.Ports.{stream_at, IsWhole}
-use Rattle.ff_host.specs.Causes.{Rose}
 use Rattle.ff_net.specs.Ways.{Flow}
 use Rattle.ff_parts.specs.Muxing.{unpatched, file}
 use Rattle.ff_run.specs.Meaning.{out_head, out_packets}
-use Rattle.ff_run.specs.Steps.{HoldsFile}
 use Rattle.ff_run.proofs.Paths.{ends_told, front_below, holds_more}
 use Rattle.ff_run.proofs.path.run_path.Goals as goal
 
