@@ -1,12 +1,11 @@
 -- The header that is written is read again.
-use Rattle.std.proofs.Common.{◌≡◌, ℕ, zero, suc, ◌+◌, ◌*◌, ◌^◌, ◌<◌, ◌≤◌, ◌⊎◌, inl, inr, Bool, true, false, cond, List, [], ◌∷◌, ◌++◌, take, drop, length, Option, Some, None, Ok, Err, refl, sym, ap, ◌∙◌, subst, arith, length-append, append_assoc, decimal, lit<}
-use Rattle.std.specs.Prelude.{nat_lt, nat_le, ◌==◌, ◌&&◌, ◌||◌, Result, All, codes}
+use Rattle.std.proofs.Common.{◌≡◌, ℕ, ◌+◌, ◌^◌, ◌<◌, ◌≤◌, inl, Bool, true, false, cond, List, [], ◌∷◌, ◌++◌, take, drop, length, Some, Ok, Err, refl, sym, ap, ◌∙◌, subst, arith, length-append, append_assoc, decimal}
+use Rattle.std.specs.Prelude.{nat_lt, nat_le, ◌==◌, ◌&&◌, ◌||◌, Result, codes}
 use Rattle.std.specs.Int.{IsGcd, ◌∣◌}
 use Rattle.std.proofs.lemmas.Bool.Decides.{nat_tests}
 use Rattle.std.proofs.Math.Nat.{one-dvd}
-use Rattle.ff_time.specs.Fraction.{Fraction, IsBase, IsReduced, IsLowestOf}
-use Rattle.ff_frame.specs.Video.{frame_size, IsSide}
-use Rattle.ff_frame.specs.declared.packet.Pkt.{Pkt}
+use Rattle.ff_time.specs.Fraction.{Fraction, IsBase, IsReduced}
+use Rattle.ff_frame.specs.Video.{IsSide}
 use Rattle.ff_frame.specs.declared.video.Format.{Format}
 use Rattle.ff_frame.specs.declared.video.Format.TheVariants.{C420, C422, C444, Mono}
 use Rattle.ff_frame.specs.declared.head.StreamHead.{StreamHead}
@@ -14,17 +13,17 @@ use Rattle.ff_frame.specs.declared.head.StreamHead.TheVariants.{Audio, Video}
 use Rattle.ff_y4m.specs.declared.parameters.HeadFault.{HeadFault}
 use Rattle.ff_y4m.specs.declared.parameters.HeadFault.TheVariants.{Damaged, Unsupported}
 use Rattle.ff_y4m.specs.declared.parameters.Parameters.{Parameters}
-use Rattle.ff_y4m.specs.Lines.{begins, line_end, longest_line}
-use Rattle.ff_y4m.specs.Numbers.{whole, pair, base_of}
-use Rattle.ff_y4m.specs.Parameters.{no_parameters, side_in, base_or, base_in, aspect_in, is_progressive, format_of, with_width, with_height, with_base, with_aspect, with_format, lettered}
-use Rattle.ff_y4m.specs.Heads.{magic, parameters, complete, finished, line_head, found_at, reading, head as head_read}
-use Rattle.ff_y4m.specs.Header.{format_name, sides, ratio, header, frames, written, planes_of}
-use Rattle.ff_y4m.specs.Packets.{packets_from, broken_from, demuxed, broken_at}
+use Rattle.ff_y4m.specs.Lines.{line_end, longest_line}
+use Rattle.ff_y4m.specs.Numbers.{base_of}
+use Rattle.ff_y4m.specs.Parameters.{no_parameters, side_in, base_or, base_in, aspect_in, is_progressive, format_of, with_width, with_height, with_base, with_aspect, lettered}
+use Rattle.ff_y4m.specs.Heads.{magic, parameters, finished, line_head, found_at, head as head_read}
+use Rattle.ff_y4m.specs.Header.{format_name, sides, ratio, header, frames, planes_of}
+use Rattle.ff_y4m.specs.Packets.{packets_from, broken_from}
 use Rattle.ff_y4m.specs.Written.{IsPictures, aspect_again, head_again, planes_size, says, HeadersAreRead, FilesAreRead, FramesAreRead}
 use Rattle.ff_y4m.proofs.NumberLaws.{base_ok}
 use Rattle.ff_y4m.proofs.HeadLaws.{reading_at, head_some}
 use Rattle.ff_y4m.proofs.FrameLaws.{read_frames}
-use Rattle.ff_y4m.proofs.TextLaws.{take_front, drop_front, Lacks, lacks-append, end_lacks, decimal_lacks, decimal_few, whole_decimal, joined, pair_joined, joined_lacks, Tail, tail_end, tail_space, word_step}
+use Rattle.ff_y4m.proofs.TextLaws.{take_front, drop_front, Lacks, lacks-append, end_lacks, decimal_lacks, decimal_few, whole_decimal, joined, pair_joined, joined_lacks, tail_end, tail_space, word_step}
 
 -- ---- what each word says
 
@@ -286,8 +285,7 @@ files head packets h = headers head (frames packets) h
 pub frames_read : FramesAreRead
 frames_read head packets sizes =
     let rest = drop_front (header head) (frames packets) in
-    let read = read_frames packets (planes_size head) (length (header head)) 0 sizes in
-    (
+    let read = read_frames packets (planes_size head) (length (header head)) 0 sizes in (
       ap (λ xs. planes_of (packets_from (planes_size head) 0 (length (header head)) 0 xs)) rest ∙ read.0,
       ap (broken_from (planes_size head) 0 (length (header head))) rest ∙ read.1,
     )

@@ -1,5 +1,5 @@
 -- What is read of a file that was written (yuv4mpeg(5)).
-use Rattle.std.specs.Prelude.{◌≡◌, ℕ, ◌^◌, ◌<◌, ◌==◌, ◌||◌, if◌then◌else◌, List, ◌++◌, drop, length, Option, None, Ok, All}
+use Rattle.std.specs.Prelude.{◌≡◌, ℕ, ◌^◌, ◌<◌, ◌==◌, ◌||◌, if◌then◌else◌, List, ◌++◌, drop, length, None, Ok, All}
 use Rattle.ff_time.specs.Fraction.{IsBase}
 use Rattle.ff_frame.specs.Video.{frame_size, IsSide}
 use Rattle.ff_frame.specs.declared.packet.Pkt.{Pkt}

@@ -1,0 +1,193 @@
+//! Frames of 1920x1080: cut out of an input that comes in pieces, and written again.
+
+ghost use Rattle.std.specs.Prelude.{◌≡◌, ◌+◌, ◌*◌, ◌^◌, ◌≤◌, false, IfOk, OnOk, OnErr, length};
+ghost use Rattle.ff_y4m.specs.Cuts.{full_frame, place_of, has_ended};
+ghost use Rattle.ff_y4m.specs.Packets.{IsHead};
+
+use ff_frame::{Cut, Format, Pkt, StreamHead};
+use ff_lists::{from_place, front};
+use ff_pcm::{raw_decode, raw_encode};
+use ff_time::Rational;
+use ff_y4m::{Y4mCut, Y4mHead};
+use std::alloc::{AllocError, Global};
+use std::io;
+use std::rt::Clock;
+use std::time::{Duration, Instant};
+
+/// The bytes of a frame's planes, of 4:2:0.
+const PLANES: usize = 3_110_400;
+
+/// The bytes of a frame with its line.
+const FRAME: usize = PLANES + 6;
+
+/// How many frames the input has.
+const FRAMES: u64 = 64;
+
+/// How often the input is gone through.
+const ROUNDS: u64 = 8;
+
+/// The input comes in pieces of so many bytes.
+const PIECE: usize = 65536;
+
+/// Prints the speed of cutting frames out of an input, and that with decoding, encoding and writing each.
+pub fn measure(rt: &(impl Print + AllocGlobal + Clock)) -> io::Result<()> {
+    let Ok(tb) = Rational::new(1, 25) else {
+        return Ok(());
+    };
+    let head = Y4mHead {
+        head: stream_of(tb),
+        start: 45,
+        frame_bytes: PLANES as u64,
+    };
+    let input = frames(rt.alloc())?;
+    let start = Instant::now(rt)?;
+    let sum = often(rt.alloc(), &head, tb, input.as_slice(), false)?;
+    report(rt, "demux", start.elapsed(rt)?, sum)?;
+    let start = Instant::now(rt)?;
+    let sum = often(rt.alloc(), &head, tb, input.as_slice(), true)?;
+    report(rt, "demux and write", start.elapsed(rt)?, sum)
+}
+
+fn stream_of(tb: Rational) -> StreamHead
+    ensures { result ≡ StreamHead.Video tb Format.C420 1920 1080 1 1 }
+{
+    StreamHead::Video {
+        tb,
+        format: Format::C420,
+        width: 1920,
+        height: 1080,
+        sar_num: 1,
+        sar_den: 1,
+    }
+}
+
+/// Prints how many megabytes of the input a second there were.
+fn report(rt: &impl Print, name: &str, time: Duration, check: u64) -> io::Result<()> {
+    let megabytes = (ROUNDS * FRAMES * FRAME as u64) as f64 / 1e6 / time.as_secs_f64();
+    println!(rt; "{name}: {megabytes:.0} MB/s ({check})")
+}
+
+/// The frames behind a head, each with other bytes.
+fn frames(alloc: Global) -> Result<Vec<u8>, AllocError> {
+    let mut bytes = Vec::with_capacity(alloc, FRAMES as usize * FRAME)?;
+    let mut state = 1u32;
+    for _ in 0..FRAMES {
+        bytes.extend_from_slice(b"FRAME\n")?;
+        for _ in 0..PLANES {
+            state = state.wrapping_mul(1_664_525).wrapping_add(1_013_904_223);
+            bytes.push((state >> 24) as u8)?;
+        }
+    }
+    Ok(bytes)
+}
+
+/// Hands the cut the next piece of the input, if there is one.
+fn feed_piece(cut: &mut Y4mCut, input: &[u8], at: usize) -> Result<usize, AllocError>
+    requires goes_on { has_ended cut.old ≡ false }
+    requires inside { at ≤ length input.now }
+    ensures at { IfOk result (λ n. n ≤ length input.now) }
+    ensures goes_on { has_ended cut.new ≡ false }
+    ensures size { full_frame cut.new ≡ full_frame cut.old }
+    ensures place { place_of cut.new ≡ place_of cut.old }
+{
+    let piece = front(from_place(input, at), PIECE);
+    cut.reserve(PIECE)?;
+    cut.feed(piece)?;
+    Ok(at + piece.len())
+}
+
+/// The next frame of the input, and where the input goes on.
+fn next_frame(cut: &mut Y4mCut, input: &[u8], at: usize) -> Result<(Option<Pkt>, usize), AllocError>
+    requires goes_on { has_ended cut.old ≡ false }
+    requires near { place_of cut.old ≤ 2 ^ 50 }
+    requires inside { at ≤ length input.now }
+    ensures at { IfOk result (λ next. next.1 ≤ length input.now) }
+    ensures goes_on { has_ended cut.new ≡ false }
+    ensures size { full_frame cut.new ≡ full_frame cut.old }
+    ensures place { place_of cut.new ≤ place_of cut.old + full_frame cut.old }
+{
+    let mut at = at;
+    for _ in 0..FRAME / PIECE + 2 {
+        match cut.pull()? {
+            Cut::Pkt(packet) => return Ok((Some(packet), at)),
+            Cut::NotYet => at = feed_piece(cut, input, at)?,
+            Cut::End | Cut::Broken { .. } => return Ok((None, at)),
+        }
+    }
+    Ok((None, at))
+}
+
+/// Decodes a packet, encodes the frame, and writes its line and planes over those of the frame before.
+fn write_frame(
+    alloc: Global,
+    tb: Rational,
+    packet: &Pkt,
+    out: &mut Vec<u8>,
+) -> Result<(), AllocError> {
+    if packet.bytes.as_slice().len() != PLANES {
+        return Ok(());
+    }
+    let frame = raw_decode(alloc, &stream_of(tb), packet)?;
+    let planes = raw_encode(alloc, &frame)?;
+    out.clear();
+    out.extend_from_slice(b"FRAME\n")?;
+    out.extend_from_slice(&planes)
+}
+
+/// Goes once through the input: a sum of one byte of each packet, or of each frame that was written.
+fn once(
+    alloc: Global,
+    head: &Y4mHead,
+    tb: Rational,
+    input: &[u8],
+    writes: bool,
+) -> Result<u64, AllocError>
+    requires head { IsHead head.now }
+    requires start { head.now.start ≡ 45 }
+    requires size { head.now.frame_bytes ≡ 3110400 }
+{
+    let mut cut = Y4mCut::new(alloc, head);
+    let mut out = Vec::with_capacity(alloc, FRAME)?;
+    let mut at = 0;
+    let mut sum = 0u64;
+    for _ in 0..FRAMES {
+        let (next, place) = next_frame(&mut cut, input, at)?;
+        let Some(packet) = next else {
+            return Ok(0);
+        };
+        at = place;
+        if writes {
+            write_frame(alloc, tb, &packet, &mut out)?;
+            sum = sum.wrapping_add(last_byte(out.as_slice()));
+        } else {
+            sum = sum.wrapping_add(last_byte(packet.bytes.as_slice()));
+        }
+    }
+    Ok(sum)
+}
+
+fn last_byte(bytes: &[u8]) -> u64 {
+    match bytes.last() {
+        Some(byte) => *byte as u64,
+        None => 0,
+    }
+}
+
+/// The sum over all rounds.
+fn often(
+    alloc: Global,
+    head: &Y4mHead,
+    tb: Rational,
+    input: &[u8],
+    writes: bool,
+) -> Result<u64, AllocError>
+    requires head { IsHead head.now }
+    requires start { head.now.start ≡ 45 }
+    requires size { head.now.frame_bytes ≡ 3110400 }
+{
+    let mut sum = 0u64;
+    for _ in 0..ROUNDS {
+        sum = sum.wrapping_add(once(alloc, head, tb, input, writes)?);
+    }
+    Ok(sum)
+}
