@@ -5,7 +5,6 @@ ghost use Rattle.ff_y4m.specs.Cuts.{full_frame, place_of, has_ended};
 ghost use Rattle.ff_y4m.specs.Packets.{IsHead};
 
 use ff_frame::{Cut, Format, Pkt, StreamHead};
-use ff_lists::{from_place, front};
 use ff_pcm::{raw_decode, raw_encode};
 use ff_time::Rational;
 use ff_y4m::{Y4mCut, Y4mHead};
@@ -90,10 +89,10 @@ fn feed_piece(cut: &mut Y4mCut, input: &[u8], at: usize) -> Result<usize, AllocE
     ensures size { full_frame cut.new ≡ full_frame cut.old }
     ensures place { place_of cut.new ≡ place_of cut.old }
 {
-    let piece = front(from_place(input, at), PIECE);
+    let end = at.saturating_add(PIECE).min(input.len());
     cut.reserve(PIECE)?;
-    cut.feed(piece)?;
-    Ok(at + piece.len())
+    cut.feed(&input[at..end])?;
+    Ok(end)
 }
 
 /// The next frame of the input, and where the input goes on.
