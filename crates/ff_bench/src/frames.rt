@@ -28,7 +28,17 @@ const ROUNDS: u64 = 8;
 /// The input comes in pieces of so many bytes.
 const PIECE: usize = 65536;
 
-/// Prints the speed of cutting frames out of an input, and that with decoding, encoding and writing each.
+/// What is done with each packet that was cut out.
+#[derive(Clone, Copy, PartialEq, Eq, Debug)]
+enum Work {
+    Nothing,
+    /// It is written, behind the line of a frame.
+    Write,
+    /// It is decoded, and the frame encoded and written.
+    CodeAndWrite,
+}
+
+/// Prints the speed of cutting frames out of an input, and that with more work on each.
 pub fn measure(rt: &(impl Print + AllocGlobal + Clock)) -> io::Result<()> {
     let Ok(tb) = Rational::new(1, 25) else {
         return Ok(());
@@ -39,12 +49,41 @@ pub fn measure(rt: &(impl Print + AllocGlobal + Clock)) -> io::Result<()> {
         frame_bytes: PLANES as u64,
     };
     let input = frames(rt.alloc())?;
+    of_work(rt, "demux", &head, tb, input.as_slice(), Work::Nothing)?;
+    of_work(
+        rt,
+        "demux and write",
+        &head,
+        tb,
+        input.as_slice(),
+        Work::Write,
+    )?;
+    let all = Work::CodeAndWrite;
+    of_work(
+        rt,
+        "demux, decode, encode and write",
+        &head,
+        tb,
+        input.as_slice(),
+        all,
+    )
+}
+
+fn of_work(
+    rt: &(impl Print + AllocGlobal + Clock),
+    name: &str,
+    head: &Y4mHead,
+    tb: Rational,
+    input: &[u8],
+    work: Work,
+) -> io::Result<()>
+    requires head { IsHead head.now }
+    requires start { head.now.start ≡ 45 }
+    requires size { head.now.frame_bytes ≡ 3110400 }
+{
     let start = Instant::now(rt)?;
-    let sum = often(rt.alloc(), &head, tb, input.as_slice(), false)?;
-    report(rt, "demux", start.elapsed(rt)?, sum)?;
-    let start = Instant::now(rt)?;
-    let sum = often(rt.alloc(), &head, tb, input.as_slice(), true)?;
-    report(rt, "demux and write", start.elapsed(rt)?, sum)
+    let sum = often(rt.alloc(), head, tb, input, work)?;
+    report(rt, name, start.elapsed(rt)?, sum)
 }
 
 fn stream_of(tb: Rational) -> StreamHead
@@ -116,8 +155,15 @@ fn next_frame(cut: &mut Y4mCut, input: &[u8], at: usize) -> Result<(Option<Pkt>,
     Ok((None, at))
 }
 
-/// Decodes a packet, encodes the frame, and writes its line and planes over those of the frame before.
-fn write_frame(
+/// Writes the line and the planes of a frame over those of the frame before.
+fn write_frame(planes: &[u8], out: &mut Vec<u8>) -> Result<(), AllocError> {
+    out.clear();
+    out.extend_from_slice(b"FRAME\n")?;
+    out.extend_from_slice(planes)
+}
+
+/// Decodes a packet, encodes the frame, and writes it.
+fn code_frame(
     alloc: Global,
     tb: Rational,
     packet: &Pkt,
@@ -128,18 +174,32 @@ fn write_frame(
     }
     let frame = raw_decode(alloc, &stream_of(tb), packet)?;
     let planes = raw_encode(alloc, &frame)?;
-    out.clear();
-    out.extend_from_slice(b"FRAME\n")?;
-    out.extend_from_slice(&planes)
+    write_frame(planes.as_slice(), out)
 }
 
-/// Goes once through the input: a sum of one byte of each packet, or of each frame that was written.
+/// Does the work on a packet: a byte of what comes of it.
+fn done(
+    alloc: Global,
+    tb: Rational,
+    packet: &Pkt,
+    out: &mut Vec<u8>,
+    work: Work,
+) -> Result<u64, AllocError> {
+    match work {
+        Work::Nothing => return Ok(last_byte(packet.bytes.as_slice())),
+        Work::Write => write_frame(packet.bytes.as_slice(), out)?,
+        Work::CodeAndWrite => code_frame(alloc, tb, packet, out)?,
+    }
+    Ok(last_byte(out.as_slice()))
+}
+
+/// Goes once through the input: a sum of one byte of what comes of each packet.
 fn once(
     alloc: Global,
     head: &Y4mHead,
     tb: Rational,
     input: &[u8],
-    writes: bool,
+    work: Work,
 ) -> Result<u64, AllocError>
     requires head { IsHead head.now }
     requires start { head.now.start ≡ 45 }
@@ -155,12 +215,7 @@ fn once(
             return Ok(0);
         };
         at = place;
-        if writes {
-            write_frame(alloc, tb, &packet, &mut out)?;
-            sum = sum.wrapping_add(last_byte(out.as_slice()));
-        } else {
-            sum = sum.wrapping_add(last_byte(packet.bytes.as_slice()));
-        }
+        sum = sum.wrapping_add(done(alloc, tb, &packet, &mut out, work)?);
     }
     Ok(sum)
 }
@@ -178,7 +233,7 @@ fn often(
     head: &Y4mHead,
     tb: Rational,
     input: &[u8],
-    writes: bool,
+    work: Work,
 ) -> Result<u64, AllocError>
     requires head { IsHead head.now }
     requires start { head.now.start ≡ 45 }
@@ -186,7 +241,7 @@ fn often(
 {
     let mut sum = 0u64;
     for _ in 0..ROUNDS {
-        sum = sum.wrapping_add(once(alloc, head, tb, input, writes)?);
+        sum = sum.wrapping_add(once(alloc, head, tb, input, work)?);
     }
     Ok(sum)
 }
