@@ -2,6 +2,7 @@
 #![tactic(auto)]
 
 mod bits;
+mod frames;
 mod heads;
 mod links;
 mod pcm;
@@ -13,9 +14,10 @@ fn main(rt: HostRuntime) -> io::Result<()> {
     let _program = words.next();
     match words.next() {
         Some(word) if word.as_str() == "bits" => bits::measure(&rt),
+        Some(word) if word.as_str() == "frames" => frames::measure(&rt),
         Some(word) if word.as_str() == "heads" => heads::measure(&rt),
         Some(word) if word.as_str() == "links" => links::measure(&rt, rt.alloc()),
         Some(word) if word.as_str() == "pcm" => pcm::measure(&rt),
-        _ => println!(rt; "usage: ff_bench bits|heads|links|pcm"),
+        _ => println!(rt; "usage: ff_bench bits|frames|heads|links|pcm"),
     }
 }

@@ -2,7 +2,7 @@
 
 ghost use Rattle.std.specs.Prelude.{◌≡◌, ◌≤◌, ◌*◌, IfOk, length};
 ghost use Rattle.ff_frame.specs.Audio.{IsAudio};
-ghost use Rattle.ff_frame.specs.Lanes.{sample_bytes, IsFrameOf};
+ghost use Rattle.ff_frame.specs.Lanes.{IsPcmCodec, sample_bytes, IsFrameOf};
 ghost use Rattle.ff_pcm.specs.Frames.{IsPcmHead, HasBlocks};
 ghost use Rattle.ff_pcm.specs.Samples.{depth};
 
@@ -34,6 +34,7 @@ fn of_codec(
     bits: u8,
     size: usize,
 ) -> io::Result<()>
+    requires pcm { IsPcmCodec codec }
     requires own { bits ≡ depth codec }
     requires bytes { size ≡ sample_bytes codec }
 {
@@ -129,6 +130,7 @@ fn encoded_often(
     rounds: u64,
 ) -> Result<u64, AllocError>
     requires frame { IsAudio frame.now.bits frame.now.channels frame.now.samples }
+    requires pcm { IsPcmCodec codec }
     requires depth { frame.now.bits ≡ depth codec }
 {
     let mut sum = 0u64;

@@ -1,6 +1,6 @@
 -- The frames that are written are read again.
-use Rattle.std.proofs.Common.{◌≡◌, ℕ, zero, suc, ◌+◌, ◌<◌, ◌≤◌, List, [], ◌∷◌, ◌++◌, take, drop, length, Option, Some, None, refl, sym, ap, ◌∙◌, arith, length-append, lit<}
-use Rattle.std.specs.Prelude.{All, map}
+use Rattle.std.proofs.Common.{◌≡◌, ℕ, zero, suc, ◌+◌, ◌≤◌, List, [], ◌∷◌, ◌++◌, drop, length, None, refl, sym, ap, ◌∙◌, arith, length-append, lit<}
+use Rattle.std.specs.Prelude.{All}
 use Rattle.std.proofs.lemmas.List.{drop-drop, drop_all, take_all, take-append-le}
 use Rattle.ff_frame.specs.declared.packet.Pkt.{Pkt}
 use Rattle.ff_y4m.specs.declared.frame.Front.TheVariants.{Frame}

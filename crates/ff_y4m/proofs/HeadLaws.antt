@@ -1,15 +1,15 @@
 -- What is decided is decided whatever follows, and what is not is open.
-use Rattle.std.proofs.Common.{◌≡◌, ◌≢◌, ℕ, zero, suc, ◌+◌, ◌-◌, ◌<◌, ◌≤◌, ◌⊎◌, inl, inr, Bool, true, false, cond, List, [], ◌∷◌, ◌++◌, take, drop, length, Option, Some, None, Ok, Err, refl, sym, ap, ◌∙◌, subst, arith, length-append, append-nil, lit<}
-use Rattle.std.specs.Prelude.{nat_lt, nat_le, not, All, ◌↔◌, ◌==◌, ◌&&◌, ◌||◌}
+use Rattle.std.proofs.Common.{◌≡◌, ℕ, zero, suc, ◌+◌, ◌<◌, ◌≤◌, ◌⊎◌, inl, inr, Bool, true, false, cond, List, [], ◌∷◌, ◌++◌, drop, length, Option, Some, None, Ok, Err, refl, sym, ap, ◌∙◌, subst, arith, length-append, append-nil, lit<}
+use Rattle.std.specs.Prelude.{nat_lt, not, All, ◌↔◌, ◌==◌, ◌&&◌}
 use Rattle.std.specs.Option.{option_map}
-use Rattle.std.proofs.lemmas.List.{take-append-le, length-drop}
+use Rattle.std.proofs.lemmas.List.{take-append-le}
 use Rattle.std.proofs.lemmas.List.Elements.{All-nil, All-cons, All-drop}
 use Rattle.std.proofs.lemmas.Bool.Decides.{nat_tests}
 use Rattle.ff_frame.specs.declared.cut.HeadEnd.TheVariants as end
 use Rattle.ff_y4m.specs.declared.parameters.HeadFault.TheVariants.{Damaged, Unsupported}
 use Rattle.ff_y4m.specs.Lines.{begins, line_end, longest_line}
 use Rattle.ff_y4m.specs.Heads.{Found, magic, line_head, found_at, reading, early, head, answered, answer, IsOpen}
-use Rattle.ff_y4m.proofs.LineLaws.{bool_cases, option_cases, begins-append, begins_long, NoFeed, line_longer, line_end-append, line_end_none, line_end_some}
+use Rattle.ff_y4m.proofs.LineLaws.{bool_cases, option_cases, begins-append, begins_long, NoFeed, line_longer, line_end-append, line_end_some}
 
 -- ---- what is decided
 

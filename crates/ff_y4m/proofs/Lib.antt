@@ -6,3 +6,4 @@ pub mod HeadLaws
 pub mod ReadLaws
 pub mod FrameLaws
 pub mod TextLaws
+pub mod WrittenLaws

@@ -1,6 +1,6 @@
 -- Numbers in parameters.
-use Rattle.std.proofs.Common.{ℤ, pos, negsuc, w64, to_z, of_z, to_z-of_z, ◌≡◌, ◌≢◌, ℕ, zero, suc, ◌+◌, ◌-◌, ◌*◌, ◌/◌, ◌%◌, ◌^◌, ◌<◌, ◌≤◌, ◌⊎◌, inl, inr, Bool, true, false, cond, List, [], ◌∷◌, drop, length, Option, Some, None, refl, sym, ap, ◌∙◌, subst, arith, get_or}
-use Rattle.std.specs.Prelude.{nat_lt, nat_le, ◌==◌, ◌&&◌, ◌||◌, ◌↔◌, Result, Ok, Err, IsErrOf, IfErr}
+use Rattle.std.proofs.Common.{ℤ, pos, negsuc, w64, to_z, of_z, to_z-of_z, ◌≡◌, ◌≢◌, ℕ, zero, suc, ◌+◌, ◌-◌, ◌*◌, ◌%◌, ◌^◌, ◌<◌, ◌≤◌, ◌⊎◌, inl, inr, Bool, true, false, cond, List, [], ◌∷◌, drop, length, Option, Some, None, refl, sym, ap, ◌∙◌, subst, arith, get_or}
+use Rattle.std.specs.Prelude.{nat_lt, ◌==◌, ◌&&◌, ◌||◌, ◌↔◌, Result, Ok, Err, IsErrOf, IfErr}
 use Rattle.std.specs.Option.{option_map}
 use Rattle.std.specs.Int.{IsGcd}
 use Rattle.std.proofs.lemmas.Int.{ints}

@@ -5,3 +5,4 @@ pub mod Packets
 pub mod Cuts
 pub mod Header
 pub mod Heads
+pub mod Written

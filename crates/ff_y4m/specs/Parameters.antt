@@ -1,16 +1,14 @@
 -- The parameters of the first line (yuv4mpeg(5), "Stream Header"). A fault lies at the parameter's first byte.
-use Rattle.std.specs.Prelude.{ℕ, zero, suc, ◌+◌, ◌^◌, ◌==◌, ◌&&◌, ◌||◌, nat_le, nat_lt, Bool, if◌then◌else◌, List, [], ◌∷◌, take, drop, length, codes, Option, Some, None, unwrap_or, Result, Ok, Err, IfSome}
+use Rattle.std.specs.Prelude.{ℕ, ◌^◌, ◌==◌, ◌&&◌, ◌||◌, nat_le, nat_lt, Bool, if◌then◌else◌, List, codes, Option, Some, None, Result, Ok, Err, IfSome}
 use Rattle.std.specs.Str.{bytes_eq}
 use Rattle.ff_time.specs.Fraction.{Fraction}
 use Rattle.ff_frame.specs.Video.{IsSide}
 use Rattle.ff_frame.specs.declared.video.Format.{Format}
 use Rattle.ff_frame.specs.declared.video.Format.TheVariants.{C420, C422, C444, Mono}
-use Rattle.ff_frame.specs.declared.head.StreamHead.TheVariants.{Video}
-use Rattle.ff_y4m.specs.declared.head.Y4mHead.{Y4mHead}
 use Rattle.ff_y4m.specs.declared.parameters.HeadFault.{HeadFault}
 use Rattle.ff_y4m.specs.declared.parameters.HeadFault.TheVariants.{Damaged, Unsupported}
 use Rattle.ff_y4m.specs.declared.parameters.Parameters.{Parameters}
-use Rattle.ff_y4m.specs.Numbers.{whole, first_place, pair, base_of}
+use Rattle.ff_y4m.specs.Numbers.{whole, pair, base_of}
 
 -- before the first: 4:2:0, and an aspect that isn't known
 abbrev pub no_parameters : Parameters

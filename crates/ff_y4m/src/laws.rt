@@ -3,9 +3,18 @@ ghost use Rattle.std.specs.Prelude.{◌≡◌, ℕ, List, None, All, length};
 ghost use Rattle.ff_frame.specs.declared.packet.Pkt.{Pkt};
 ghost use Rattle.ff_y4m.specs.Header.{frames, planes_of};
 ghost use Rattle.ff_y4m.specs.Packets.{packets_from, broken_from};
+ghost use Rattle.ff_y4m.specs.Written.{HeadersAreRead, FilesAreRead, FramesAreRead};
 
 /// The frames that are written of packets, of planes of one size, are read again with those planes, and nothing is left.
 pub fn written_frames_are_read_again()
     ensures { (packets : List Pkt) (size at n : ℕ) → All (λ (p : Pkt). length p.bytes ≡ size) packets
         → (planes_of (packets_from size 0 at n (frames packets)) ≡ planes_of packets) × (broken_from size 0 at (frames packets) ≡ None) }
+{}
+
+/// What is written is read again, the aspect of a sample as 0:0 where one of its numbers is 0: a header as its stream,
+/// whatever follows, and a whole file as that head and the planes of its frames.
+pub fn what_is_written_is_read_again()
+    ensures headers { HeadersAreRead }
+    ensures files { FilesAreRead }
+    ensures frames { FramesAreRead }
 {}

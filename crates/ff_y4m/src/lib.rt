@@ -19,7 +19,7 @@ mod read;
 pub use cut::Y4mCut;
 pub use head::Y4mHead;
 pub use header::y4m_header;
-pub use laws::written_frames_are_read_again;
+pub use laws::{what_is_written_is_read_again, written_frames_are_read_again};
 pub use read::read_head;
 
 #[cfg(test)]

@@ -202,6 +202,58 @@ fn heads(rt: HostRuntime) {
     read(&rt, line, (c420, (1, 1), (1, 1), (4294967295, 1), (45, 3)));
 }
 
+// The header of a stream is this line, and is read again as this.
+fn written_and_read(
+    rt: &(impl Abort + AllocGlobal),
+    (format, width, height): (Format, u32, u32),
+    (num, den): (i64, i64),
+    (sar_num, sar_den): (u32, u32),
+    line: &[u8],
+    said: Said,
+) -> Result<(), Fail> {
+    let head = StreamHead::Video {
+        tb: Rational::new(num, den)?,
+        format,
+        width,
+        height,
+        sar_num,
+        sar_den,
+    };
+    let written = y4m_header(rt.alloc(), &head)?;
+    assert_eq!(rt; written.as_slice(), line);
+    read(rt, written.as_slice(), said);
+    Ok(())
+}
+
+// An aspect with a 0 in it is written as it is held, and read as 0:0.
+#[test]
+fn what_is_written_is_read_again(rt: HostRuntime) -> Result<(), Fail> {
+    written_and_read(
+        &rt,
+        (Format::C422, 3, 3),
+        (1001, 30000),
+        (1, 1),
+        b"YUV4MPEG2 W3 H3 F30000:1001 Ip A1:1 C422\n",
+        (Format::C422, (3, 3), (1001, 30000), (1, 1), (41, 21)),
+    )?;
+    written_and_read(
+        &rt,
+        (Format::C444, 16384, 1),
+        (1, 1),
+        (0, 7),
+        b"YUV4MPEG2 W16384 H1 F1:1 Ip A0:7 C444\n",
+        (Format::C444, (16384, 1), (1, 1), (0, 0), (38, 49152)),
+    )?;
+    written_and_read(
+        &rt,
+        (Format::Mono, 5, 1),
+        (2147483647, 1),
+        (4294967295, 0),
+        b"YUV4MPEG2 W5 H1 F1:2147483647 Ip A4294967295:0 Cmono\n",
+        (Format::Mono, (5, 1), (2147483647, 1), (0, 0), (53, 5)),
+    )
+}
+
 fn damaged(rt: &impl Abort, line: &[u8], offset: u64) {
     assert_eq!(rt; told(line, false), Err(HeadEnd::Damaged { offset }));
 }

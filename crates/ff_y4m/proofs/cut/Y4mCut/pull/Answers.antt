@@ -1,4 +1,4 @@
-use Rattle.std.proofs.Common.{◌≡◌, ◌≢◌, ◌+◌, ◌<◌, ◌≤◌, ◌∙◌, ap, sym, refl, inl, inr, arith, [], Some, length}
+use Rattle.std.proofs.Common.{◌≡◌, ◌+◌, ◌∙◌, ap, sym, refl, inl, inr, arith, Some, length}
 use Rattle.ff_frame.specs.declared.cut.Cut.TheVariants.{End, Broken}
 use Rattle.ff_y4m.specs.declared.frame.Front.TheVariants.{Wait, Other, Frame}
 use Rattle.ff_y4m.specs.Packets.{unit, packet_in}
