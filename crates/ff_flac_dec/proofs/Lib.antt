@@ -4,3 +4,8 @@ pub mod ChannelLemmas
 pub mod JoinLemmas
 pub mod SoundLemmas
 pub mod FrameLemmas
+pub mod AgreeLaws
+pub mod BlockLaws
+pub mod HeadLaws
+pub mod ReachLaws
+pub mod HeadSound

@@ -2,3 +2,6 @@ pub mod Bounds
 pub mod Values
 pub mod Channels
 pub mod Joins
+pub mod Streams
+pub mod Blocks
+pub mod Heads

@@ -1,5 +1,6 @@
-use crate::{DecodeEnd, FlacHead, FlacStream, decode};
-use ff_flac_frame::frame_at;
+use crate::{FlacHead, decode, frame_at};
+use ff_frame::{Codec, StreamHead};
+use ff_time::Rational;
 use std::test::Fail;
 
 const LEFT: [u8; 52] = [
@@ -80,14 +81,16 @@ fn frames(rt: HostRuntime) -> Result<(), Fail> {
             4 <= bits && bits <= 24 && 1 <= channels && channels <= 8 && 1 <= rate && rate < 1048576
         );
         let head = FlacHead {
-            stream: FlacStream {
+            head: StreamHead::Audio {
+                tb: Rational::new(1, i64::from(rate))?,
                 rate,
                 bits,
                 channels,
+                codec: Codec::Flac,
             },
             start: 42,
         };
-        let frame = frame_at(rt.alloc(), bytes, &head.stream)?;
+        let frame = frame_at(rt.alloc(), bytes, &head)?;
         assert_eq!(rt; frame.len, bytes.len());
         let sound = decode(rt.alloc(), &frame, &head, 7)?;
         assert_eq!(rt; sound.pts, 7);
