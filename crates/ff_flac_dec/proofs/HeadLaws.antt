@@ -1,7 +1,7 @@
 -- What is decided is decided whatever follows, and what is not is open.
-use Rattle.std.proofs.Common.{◌≡◌, ◌≢◌, ℕ, zero, suc, ◌+◌, ◌-◌, ◌<◌, ◌≤◌, ◌⊎◌, inl, inr, Bool, true, false, cond, List, [], ◌∷◌, ◌++◌, take, drop, length, Option, Some, None, Ok, Err, refl, sym, ap, ◌∙◌, subst, arith, length-append, add-zero, append-nil, lit<, lit≤}
-use Rattle.std.specs.Prelude.{nat_lt, nat_le, All, ◌↔◌}
-use Rattle.std.proofs.lemmas.List.{take-append-le, take_all, length-take, length-drop, drop_all}
+use Rattle.std.proofs.Common.{◌≡◌, ◌≢◌, ℕ, zero, suc, ◌+◌, ◌-◌, ◌<◌, ◌≤◌, inl, inr, Bool, true, false, cond, List, [], ◌∷◌, ◌++◌, take, drop, length, Option, Some, None, Ok, Err, refl, sym, ap, ◌∙◌, subst, arith, length-append, add-zero, append-nil, lit<, lit≤}
+use Rattle.std.specs.Prelude.{nat_lt, All, ◌↔◌}
+use Rattle.std.proofs.lemmas.List.{take-append-le, take_all, length-take, drop_all}
 use Rattle.std.proofs.lemmas.List.Elements.{All-nil, All-cons, All-drop}
 use Rattle.std.proofs.lemmas.Bool.Decides.{nat_tests}
 use Rattle.ff_frame.specs.declared.head.StreamHead.{StreamHead}
@@ -11,7 +11,7 @@ use Rattle.ff_flac_dec.specs.declared.head.Step.{Step}
 use Rattle.ff_flac_dec.specs.declared.head.Step.TheVariants.{Wait, Decide, Skip}
 use Rattle.ff_flac_dec.specs.Blocks.{agrees, block}
 use Rattle.ff_flac_dec.specs.Heads.{Found, magic, walk, within, reading, early, head_limit, head, answered, answer, IsOpen}
-use Rattle.ff_flac_dec.proofs.AgreeLaws.{bool_cases, option_cases, agrees-append, agrees_long, agrees_complete}
+use Rattle.ff_flac_dec.proofs.AgreeLaws.{bool_cases, agrees-append, agrees_long, agrees_complete}
 use Rattle.ff_flac_dec.proofs.BlockLaws.{Settles, block_settles, block_damaged, waits_one, waits_zero}
 
 -- ---- the walk

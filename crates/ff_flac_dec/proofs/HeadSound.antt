@@ -1,6 +1,6 @@
 -- What is true of every head that is read.
-use Rattle.std.proofs.Common.{◌≡◌, ℕ, zero, suc, ◌+◌, ◌<◌, ◌≤◌, inl, inr, Bool, true, false, cond, List, [], ◌∷◌, take, drop, length, Option, Some, None, Ok, Err, refl, sym, ap, ◌∙◌, subst, arith}
-use Rattle.std.specs.Prelude.{slice_index, ◌==◌, ◌&&◌, ◌/◌, ◌%◌, ◌^◌, not, nat_le, nat_lt, IfOk}
+use Rattle.std.proofs.Common.{◌≡◌, ℕ, zero, suc, ◌+◌, ◌≤◌, inl, inr, Bool, true, false, cond, List, [], ◌∷◌, take, drop, length, Option, Some, None, Ok, Err, refl, sym, ap, ◌∙◌, subst, arith}
+use Rattle.std.specs.Prelude.{slice_index, ◌==◌, ◌&&◌, ◌/◌, ◌%◌, not, nat_le, nat_lt, IfOk}
 use Rattle.std.proofs.lemmas.List.{length-take}
 use Rattle.std.proofs.lemmas.Bool.Decides.{nat_tests}
 use Rattle.ff_frame.specs.declared.head.StreamHead.{StreamHead}

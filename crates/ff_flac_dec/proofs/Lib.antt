@@ -9,3 +9,6 @@ pub mod BlockLaws
 pub mod HeadLaws
 pub mod ReachLaws
 pub mod HeadSound
+pub mod Shortest
+pub mod UnitLaws
+pub mod CutLaws

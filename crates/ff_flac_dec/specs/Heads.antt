@@ -1,5 +1,5 @@
 -- The head of a whole input, and what is decided by its first bytes.
-use Rattle.std.specs.Prelude.{◌≡◌, ◌≢◌, ℕ, zero, suc, ◌+◌, ◌^◌, ◌<◌, nat_lt, nat_le, not, Bool, true, if◌then◌else◌, List, [], ◌∷◌, ◌++◌, codes, take, drop, length, Option, Some, None, unwrap_or, Result, Ok, Err, All}
+use Rattle.std.specs.Prelude.{◌≡◌, ◌≢◌, ℕ, zero, suc, ◌+◌, ◌^◌, ◌<◌, nat_lt, nat_le, not, Bool, if◌then◌else◌, List, [], ◌∷◌, ◌++◌, codes, take, drop, length, Option, Some, None, unwrap_or, Result, Ok, Err, All}
 use Rattle.ff_frame.specs.declared.head.StreamHead.{StreamHead}
 use Rattle.ff_flac_dec.specs.declared.head.FlacHead.{FlacHead}
 use Rattle.ff_flac_dec.specs.declared.head.HeadFault.{HeadFault}

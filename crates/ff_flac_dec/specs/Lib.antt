@@ -5,3 +5,5 @@ pub mod Joins
 pub mod Streams
 pub mod Blocks
 pub mod Heads
+pub mod Packets
+pub mod Cuts
