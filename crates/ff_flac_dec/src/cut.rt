@@ -166,12 +166,13 @@ impl FlacCut {
         ensures place { (p : Pkt) → result ≡ Ok (Cut.Pkt p) → (p.pos ≡ place_of self.old) × (place_of self.new ≡ place_of self.old + length p.bytes) × (8 ≤ length p.bytes) }
     {
         let stream = self.head.stream();
+        let offset = self.head.start + self.used;
         let found = front_of(self.alloc, self.held.as_slice(), &stream)?;
         match found {
             Front::Whole(len, block) => {
                 let p = packet(
                     self.alloc,
-                    self.head.start + self.used,
+                    offset,
                     self.count,
                     block,
                     front(self.held.as_slice(), len),
@@ -181,9 +182,7 @@ impl FlacCut {
                 self.count += u64::from(block);
                 Ok(Cut::Pkt(p))
             }
-            Front::Other => Ok(Cut::Broken {
-                offset: self.head.start + self.used,
-            }),
+            Front::Other => Ok(Cut::Broken { offset }),
             Front::Wait => Ok(self.unfinished()),
         }
     }
