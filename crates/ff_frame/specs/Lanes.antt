@@ -6,7 +6,7 @@ use Rattle.ff_frame.specs.declared.video.Format.{Format}
 use Rattle.ff_frame.specs.declared.video.VFrame.{VFrame}
 use Rattle.ff_frame.specs.declared.packet.Pkt.{Pkt}
 use Rattle.ff_frame.specs.declared.head.Codec.{Codec}
-use Rattle.ff_frame.specs.declared.head.Codec.TheVariants.{PcmU8, PcmS16le, PcmS24le, PcmS32le}
+use Rattle.ff_frame.specs.declared.head.Codec.TheVariants.{PcmU8, PcmS16le, PcmS24le, PcmS32le, Flac, RawVideo}
 use Rattle.ff_frame.specs.declared.head.StreamHead.{StreamHead}
 use Rattle.ff_frame.specs.declared.head.StreamHead.TheVariants.{Audio as AudioHead, Video as VideoHead}
 use Rattle.ff_frame.specs.declared.item.Item.{Item}
@@ -39,12 +39,28 @@ abbrev pub IsHead : StreamHead → Type 0
 IsHead (AudioHead tb rate bits channels codec) = (1 ≤ channels) × (channels ≤ 8) × (4 ≤ bits) × (bits ≤ 32)
 IsHead (VideoHead tb format width height sar_num sar_den) = IsSide width × IsSide height
 
--- the bytes of one sample as the codec writes it
+-- the codec is linear PCM
+abbrev pub IsPcmCodec : Codec → Type 0
+IsPcmCodec PcmU8 = Unit {0}
+IsPcmCodec PcmS16le = Unit {0}
+IsPcmCodec PcmS24le = Unit {0}
+IsPcmCodec PcmS32le = Unit {0}
+IsPcmCodec Flac = ⊥
+IsPcmCodec RawVideo = ⊥
+
+-- a head of sound whose codec is linear PCM
+abbrev pub IsPcmCoded : StreamHead → Type 0
+IsPcmCoded (AudioHead tb rate bits channels codec) = IsPcmCodec codec
+IsPcmCoded (VideoHead tb format width height sar_num sar_den) = ⊥
+
+-- the bytes of one sample as the codec of linear PCM writes it; what is said of the other codecs here is never used
 abbrev pub sample_bytes : Codec → ℕ
 sample_bytes PcmU8 = 1
 sample_bytes PcmS16le = 2
 sample_bytes PcmS24le = 3
 sample_bytes PcmS32le = 4
+sample_bytes Flac = 1
+sample_bytes RawVideo = 1
 
 -- a frame of sound with a stream's rate, bits and channels
 pub record IsFrameOf (rate bits channels : ℕ) (frame : AFrame) : Type 0 where
@@ -68,6 +84,20 @@ pub record IsPcm (block : ℕ) (packet : Pkt) : Type 0 where
   pub whole_blocks : length packet.bytes ≡ blocks * block
   pub lasts : packet.duration ≡ pos blocks
 
+-- a packet of FLAC holds any bytes, and lasts 1 to 65,535 sample frames
+pub record IsFlac (packet : Pkt) : Type 0 where
+  pub some_frames : pos 1 ≤ℤ packet.duration
+  pub few_frames : packet.duration ≤ℤ pos 65535
+
+-- a packet of sound of so many channels; no sound is coded as raw video
+abbrev pub IsSoundPacket : Codec → ℕ → Pkt → Type 0
+IsSoundPacket PcmU8 channels packet = IsPcm (channels * sample_bytes PcmU8) packet
+IsSoundPacket PcmS16le channels packet = IsPcm (channels * sample_bytes PcmS16le) packet
+IsSoundPacket PcmS24le channels packet = IsPcm (channels * sample_bytes PcmS24le) packet
+IsSoundPacket PcmS32le channels packet = IsPcm (channels * sample_bytes PcmS32le) packet
+IsSoundPacket Flac channels packet = IsFlac packet
+IsSoundPacket RawVideo channels packet = ⊥
+
 abbrev pub FitsFrames : StreamHead → Item → Type 0
 FitsFrames (AudioHead tb rate bits channels codec) (Audio f) = IsFrameOf rate bits channels f
 FitsFrames (AudioHead tb rate bits channels codec) (Video f) = ⊥
@@ -84,7 +114,7 @@ FitsFrames (VideoHead tb format width height sar_num sar_den) Broken = ⊥
 abbrev pub FitsPackets : StreamHead → Item → Type 0
 FitsPackets (AudioHead tb rate bits channels codec) (Audio f) = ⊥
 FitsPackets (AudioHead tb rate bits channels codec) (Video f) = ⊥
-FitsPackets (AudioHead tb rate bits channels codec) (Packet p) = (p.dts ≡ p.pts) × IsPcm (channels * sample_bytes codec) p
+FitsPackets (AudioHead tb rate bits channels codec) (Packet p) = (p.dts ≡ p.pts) × IsSoundPacket codec channels p
 FitsPackets (AudioHead tb rate bits channels codec) End = ⊥
 FitsPackets (AudioHead tb rate bits channels codec) Broken = ⊥
 FitsPackets (VideoHead tb format width height sar_num sar_den) (Audio f) = ⊥

@@ -8,6 +8,7 @@ pub mod LaneLaws
 pub mod Lanes
 pub mod Order
 pub mod Packet
+pub mod PcmLaws
 pub mod Ports
 pub mod Stream
 pub mod Times

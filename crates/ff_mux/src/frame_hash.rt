@@ -25,6 +25,8 @@ fn name_of_codec(codec: Codec) -> &'static str
         Codec::PcmS16le => "pcm_s16le",
         Codec::PcmS24le => "pcm_s24le",
         Codec::PcmS32le => "pcm_s32le",
+        Codec::Flac => "flac",
+        Codec::RawVideo => "rawvideo",
     }
 }
 

@@ -43,6 +43,10 @@ fn first(rt: HostRuntime) {
             (48000, 6, Codec::PcmS24le),
             b"#format: frame checksums\n#version: 2\n#hash: SHA256\n#tb 0: 1/48000\n#media_type 0: audio\n#codec_id 0: pcm_s24le\n#sample_rate 0: 48000\n#channel_layout_name 0: 6 channels\n#stream#, dts,        pts, duration,     size, hash\n".as_slice(),
         ),
+        (
+            (44100, 2, Codec::Flac),
+            b"#format: frame checksums\n#version: 2\n#hash: SHA256\n#tb 0: 1/44100\n#media_type 0: audio\n#codec_id 0: flac\n#sample_rate 0: 44100\n#channel_layout_name 0: stereo\n#stream#, dts,        pts, duration,     size, hash\n".as_slice(),
+        ),
     ];
     for ((rate, channels, codec), want) in rows {
         let Ok(tb) = Rational::new(1, rate as i64) else {

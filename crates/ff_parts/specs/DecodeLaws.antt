@@ -10,6 +10,7 @@ use Rattle.ff_frame.specs.declared.item.Item.{Item}
 use Rattle.ff_frame.specs.declared.item.Item.TheVariants.{Audio, Video, Packet, End, Broken}
 use Rattle.ff_frame.specs.declared.item.Lane.TheVariants.{Frames, Packets}
 use Rattle.ff_frame.specs.Items.{Closes}
+use Rattle.ff_frame.specs.PcmLaws.{pcm_packet}
 use Rattle.ff_frame.specs.Lanes.{sample_bytes, IsPcm, IsFrameOf, FitsFrames, FitsPackets, StartsAfter}
 use Rattle.ff_frame.specs.Times.{start_of, end_of}
 use Rattle.ff_pcm.specs.Frames.{rate_of, channels_of, bits_of, codec_of, IsPcmHead, HasBlocks, frame_of}
@@ -63,7 +64,7 @@ module _ (head : StreamHead) (p : Pkt) (h : IsPcmHead head) (b : IsPcm (channels
 fits_decoded : (head : StreamHead) (x : Item) → IsPcmHead head → FitsPackets head x → FitsFrames head (decoded_item head x)
 fits_decoded (AudioHead tb rate bits channels codec) (Audio f) h t = absurd t
 fits_decoded (AudioHead tb rate bits channels codec) (Video f) h t = absurd t
-fits_decoded (AudioHead tb rate bits channels codec) (Packet p) h t = packet_frame (AudioHead tb rate bits channels codec) p h t.1
+fits_decoded (AudioHead tb rate bits channels codec) (Packet p) h t = packet_frame (AudioHead tb rate bits channels codec) p h (pcm_packet codec channels p h.coded t.1)
 fits_decoded (AudioHead tb rate bits channels codec) End h t = absurd t
 fits_decoded (AudioHead tb rate bits channels codec) Broken h t = absurd t
 fits_decoded (VideoHead tb format width height sar_num sar_den) x h t = absurd h.sound
@@ -78,7 +79,7 @@ starts_decoded head Broken t = refl
 ends_decoded : (head : StreamHead) (x : Item) → IsPcmHead head → FitsPackets head x → end_of (decoded_item head x) ≡ end_of x
 ends_decoded head (Audio f) h t = refl
 ends_decoded head (Video f) h t = refl
-ends_decoded (AudioHead tb rate bits channels codec) (Packet p) h t = frame_lasts (AudioHead tb rate bits channels codec) p h t.1
+ends_decoded (AudioHead tb rate bits channels codec) (Packet p) h t = frame_lasts (AudioHead tb rate bits channels codec) p h (pcm_packet codec channels p h.coded t.1)
 ends_decoded (VideoHead tb format width height sar_num sar_den) (Packet p) h t = absurd h.sound
 ends_decoded head End h t = refl
 ends_decoded head Broken h t = refl
@@ -114,7 +115,7 @@ is_decodable_fit (VideoHead tb format width height sar_num sar_den) (Audio f) h 
 is_decodable_fit (AudioHead tb rate bits channels codec) (Video f) h fits = fits (λ c. c)
 is_decodable_fit (VideoHead tb format width height sar_num sar_den) (Video f) h fits = fits (λ c. c)
 is_decodable_fit (AudioHead tb rate bits channels codec) (Packet p) h fits =
-    let pcm : IsPcm (channels * sample_bytes codec) p = (fits (λ c. c)).1 in
+    let pcm : IsPcm (channels * sample_bytes codec) p = pcm_packet codec channels p h.coded (fits (λ c. c)).1 in
     record { blocks = pcm.blocks; some_blocks = pcm.some_blocks; few_blocks = pcm.few_blocks; whole_blocks = pcm.whole_blocks }
 is_decodable_fit (VideoHead tb format width height sar_num sar_den) (Packet p) h fits = absurd h.sound
 is_decodable_fit head End h fits = tt

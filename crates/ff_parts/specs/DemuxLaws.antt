@@ -4,6 +4,7 @@ use Rattle.std.proofs.Common.{sym, subst, ap, ◌∙◌, arith}
 use Rattle.ff_frame.specs.declared.head.StreamHead.{StreamHead}
 use Rattle.ff_frame.specs.declared.item.Lane.{Lane}
 use Rattle.ff_frame.specs.declared.item.Lane.TheVariants.{Packets}
+use Rattle.ff_frame.specs.Lanes.{IsPcmCoded}
 use Rattle.ff_frame.specs.Stream.{still_open, whole, broken}
 use Rattle.ff_frame.specs.Ports.{AllBelow, AllUnbroken, IsMonotone, IsCalm, IsClosed, stream_at}
 use Rattle.ff_frame.specs.Within.{before_pass}
@@ -47,10 +48,12 @@ module _ (left : Option (List ℕ)) (cut : WavCut) (skip given : ℕ) (ticket en
   pub demux_fed : AreValid [] past.got
   demux_fed = source_valid stream given ended ticket past d.3.sources
 
-  pub demux_keeps : (head : StreamHead) → (head_of cut).head ≡ head → (ss : List Flow) → AreValid [] ss → AreValid (Packets head ∷ []) (past.task.means ss)
-  demux_keeps head e ss v =
-      subst (λ (h : StreamHead). AreValid (Packets h ∷ []) (past.task.means ss)) (ap (λ (h : WavHead). h.head) (sym d.3.of_head) ∙ e)
-      (source_keeps stream given ended ticket past d.3.sources (Packets d.0.head) (demux_valid d.0 file) ss v)
+  pub demux_keeps : (head : StreamHead) → (head_of cut).head ≡ head → IsPcmCoded head → (ss : List Flow) → AreValid [] ss → AreValid (Packets head ∷ []) (past.task.means ss)
+  demux_keeps head e coded ss v =
+      let same : d.0.head ≡ head = ap (λ (h : WavHead). h.head) (sym d.3.of_head) ∙ e in
+      let own : IsPcmCoded d.0.head = subst (λ (h : StreamHead). IsPcmCoded h) (sym same) coded in
+      subst (λ (h : StreamHead). AreValid (Packets h ∷ []) (past.task.means ss)) same
+      (source_keeps stream given ended ticket past d.3.sources (Packets d.0.head) (demux_valid d.0 file own) ss v)
 
   pub demux_monotone : (meant : List Flow → Type 0) → IsMonotone meant past.task.means
   demux_monotone = source_monotone stream given ended ticket past d.3.sources

@@ -1,11 +1,11 @@
 -- The packets of an input are valid for their lane, up to the limits.
-use Rattle.std.specs.Prelude.{◌≡◌, ℕ, zero, suc, ◌+◌, ◌-◌, ◌*◌, ◌/◌, ◌<◌, ◌≤◌, ◌||◌, min, Bool, true, false, cond, List, [], ◌∷◌, take, drop, map, length, All, refl}
+use Rattle.std.specs.Prelude.{◌≡◌, ℕ, zero, suc, ◌+◌, ◌-◌, ◌*◌, ◌<◌, ◌≤◌, ◌||◌, min, Bool, true, false, cond, List, [], ◌∷◌, take, drop, map, length, All, refl}
 use Rattle.std.specs.List.{range_with_len}
-use Rattle.std.proofs.Common.{ap, sym, subst, arith}
+use Rattle.std.proofs.Common.{ap, arith}
 use Rattle.std.proofs.lemmas.Int.{ints}
 use Rattle.std.proofs.lemmas.List.{length-take, length-drop}
 use Rattle.std.proofs.lemmas.List.Elements.{All-nil}
-use Rattle.std.proofs.Math.Nat.{div-zero, div-mul-le_self, mul-le-mul_right}
+use Rattle.std.proofs.Math.Nat.{div-mul-le_self, mul-le-mul_right}
 use mathlib.Core.List.{IsPrefix}
 use Rattle.ff_time.specs.Fraction.{Fraction}
 use Rattle.ff_frame.specs.declared.head.Codec.{Codec}
@@ -16,7 +16,8 @@ use Rattle.ff_frame.specs.declared.item.Item.TheVariants.{Packet}
 use Rattle.ff_frame.specs.declared.item.Lane.{Lane}
 use Rattle.ff_frame.specs.declared.item.Lane.TheVariants.{Packets}
 use Rattle.ff_frame.specs.Stream.{whole_stream}
-use Rattle.ff_frame.specs.Lanes.{sample_bytes, IsItemFor, InOrder, Follows, AreInShape, IsValid}
+use Rattle.ff_frame.specs.PcmLaws.{packet_pcm}
+use Rattle.ff_frame.specs.Lanes.{IsPcmCodec, IsPcmCoded, sample_bytes, IsItemFor, InOrder, Follows, AreInShape, IsValid}
 use Rattle.ff_frame.specs.LaneLaws.{valid_front}
 use Rattle.ff_frame.specs.Within.{before_pass, within, passes_limits}
 use Rattle.ff_frame.specs.WithinLaws.{within_valid}
@@ -28,7 +29,7 @@ all_first : (P : Item → Type 0) (x : Item) (ys : List Item) → P x → All P 
 all_first P x ys p all zero d lt = p
 all_first P x ys p all (suc k) d lt = all k d (omega (arith, lt))
 
-module _ (tb : Fraction) (rate bits channels : ℕ) (codec : Codec) (start : ℕ) (xs : List ℕ) where
+module _ (tb : Fraction) (rate bits channels : ℕ) (codec : Codec) (coded : IsPcmCodec codec) (start : ℕ) (xs : List ℕ) where
   abbrev lane : Lane
   lane = Packets (AudioHead tb rate bits channels codec)
 
@@ -53,7 +54,7 @@ module _ (tb : Fraction) (rate bits channels : ℕ) (codec : Codec) (start : ℕ
       let few : n ≤ 1024 = omega arith in
       let inside : 1024 * k + n ≤ frames block xs = omega (arith, lt) in
       record {
-        fits = (refl, record { blocks = n; some_blocks = some; few_blocks = omega (arith, few); whole_blocks = fits_bytes (1024 * k) n inside; lasts = refl });
+        fits = (refl, packet_pcm codec channels (packet_at start block xs (1024 * k)) coded (record { blocks = n; some_blocks = some; few_blocks = omega (arith, few); whole_blocks = fits_bytes (1024 * k) n inside; lasts = refl }));
         not_negative = omega (arith, ints);
         lasts = omega (arith, ints, some);
       }
@@ -78,12 +79,9 @@ module _ (tb : Fraction) (rate bits channels : ℕ) (codec : Codec) (start : ℕ
   packets_in_shape : AreInShape lane (map Packet (packets_of start block xs))
   packets_in_shape = record { each = each_from 0 (packet_count block xs) (omega arith); in_order = order_from 0 (packet_count block xs) (omega arith) }
 
-in_shape : (head : StreamHead) (start : ℕ) (xs : List ℕ) → AreInShape (Packets head) (map Packet (packets_of start (block_of head) xs))
-in_shape (AudioHead tb rate bits channels codec) start xs = packets_in_shape tb rate bits channels codec start xs
-in_shape (VideoHead tb format width height sar_num sar_den) start xs = subst (λ (n : ℕ). AreInShape (Packets (VideoHead tb format width height sar_num sar_den)) (map Packet (map (λ k. packet_at start 0 xs (1024 * k)) (range_with_len 0 n)))) (sym none) (record { each = λ k d lt. absurd (omega arith); in_order = tt })
-  where
-    none : packet_count 0 xs ≡ 0
-    none = ap (λ (n : ℕ). (n + 1023) / 1024) (div-zero (length xs))
+in_shape : (head : StreamHead) (start : ℕ) (xs : List ℕ) → IsPcmCoded head → AreInShape (Packets head) (map Packet (packets_of start (block_of head) xs))
+in_shape (AudioHead tb rate bits channels codec) start xs coded = packets_in_shape tb rate bits channels codec coded start xs
+in_shape (VideoHead tb format width height sar_num sar_den) start xs coded = absurd coded
 
 module _ {A : Type 0} (weak strong : ℕ → A → Bool) where
   abbrev both : ℕ → A → Bool
@@ -99,10 +97,10 @@ module _ {A : Type 0} (weak strong : ℕ → A → Bool) where
       pick false true r = (x ∷ before_pass weak (n + 1) xs, refl)
       pick false false r = (r.0, ap (λ (ys : List A). x ∷ ys) r.1)
 
-pub demux_valid : (head : WavHead) (file : List ℕ) → IsValid (Packets head.head) (demux_of head file)
+pub demux_valid : (head : WavHead) (file : List ℕ) → IsPcmCoded head.head → IsValid (Packets head.head) (demux_of head file)
 unfolding demux_of
-demux_valid head file =
+demux_valid head file coded =
     let lane = Packets head.head in
     let s = whole_stream (items_of head file) in
-    let shape = in_shape head.head head.start (body (whole_len head) (drop head.start file)) in
+    let shape = in_shape head.head head.start (body (whole_len head) (drop head.start file)) coded in
     valid_front lane (within (passes_in_demux lane) s) (within (passes_limits lane) s) (fewer (passes_limits lane) (λ n x. ends_beyond x) 0 s.items) (within_valid lane s shape)

@@ -1,9 +1,8 @@
 -- What encoding makes of what a lane of frames carries.
-use Rattle.std.specs.Prelude.{◌≡◌, ℕ, ◌*◌, ◌/◌, ◌<◌, ◌≤◌, ℤ, pos, List, map, length, refl}
-use Rattle.std.proofs.Common.{sym, subst, ap, ◌∙◌, arith}
+use Rattle.std.specs.Prelude.{◌≡◌, ℕ, ◌*◌, ◌/◌, ℤ, pos, List, map, length, refl}
+use Rattle.std.proofs.Common.{ap, ◌∙◌, arith}
 use Rattle.std.proofs.lemmas.List.{length-map}
 use Rattle.std.proofs.Math.Nat.{mul-div_cancel}
-use Rattle.ff_time.specs.Fraction.{Fraction}
 use Rattle.ff_frame.specs.declared.audio.AFrame.{AFrame}
 use Rattle.ff_frame.specs.declared.head.Codec.{Codec}
 use Rattle.ff_frame.specs.declared.head.StreamHead.{StreamHead}
@@ -12,10 +11,11 @@ use Rattle.ff_frame.specs.declared.item.Item.{Item}
 use Rattle.ff_frame.specs.declared.item.Item.TheVariants.{Audio, Video, Packet, End, Broken}
 use Rattle.ff_frame.specs.declared.item.Lane.TheVariants.{Frames, Packets}
 use Rattle.ff_frame.specs.Items.{Closes}
-use Rattle.ff_frame.specs.Lanes.{base_of_head, sample_bytes, IsPcm, IsFrameOf, IsSoundHead, FitsFrames, FitsPackets, StartsAfter}
+use Rattle.ff_frame.specs.PcmLaws.{packet_pcm}
+use Rattle.ff_frame.specs.Lanes.{base_of_head, IsPcmCodec, sample_bytes, IsPcm, IsFrameOf, IsSoundHead, FitsFrames, FitsPackets, StartsAfter}
 use Rattle.ff_frame.specs.Times.{start_of, end_of}
-use Rattle.ff_pcm.specs.Bytes.{sample_number, bytes_of}
-use Rattle.ff_pcm.specs.Depth.{shifted, at_depth}
+use Rattle.ff_pcm.specs.Bytes.{sample_number}
+use Rattle.ff_pcm.specs.Depth.{shifted}
 use Rattle.ff_pcm.specs.Samples.{depth}
 use Rattle.ff_pcm.proofs.ByteLaws.{bytes_length}
 use Rattle.ff_parts.specs.Maps.{Carries}
@@ -40,13 +40,13 @@ frame_packet codec rate bits channels f t =
       lasts = ap pos (ap (λ (n : ℕ). n / f.channels) t.audio.interleaved ∙ mul-div_cancel t.audio.sample_frames t.audio.some_channels);
     }
 
-fits_encoded : (codec : Codec) (head : StreamHead) (x : Item) → IsSoundHead head → FitsFrames head x → FitsPackets (coded_head codec head) (encoded_item codec x)
-fits_encoded codec (AudioHead tb rate bits channels from) (Audio f) s t = (refl, frame_packet codec rate bits channels f t)
-fits_encoded codec (AudioHead tb rate bits channels from) (Video f) s t = absurd t
-fits_encoded codec (AudioHead tb rate bits channels from) (Packet p) s t = absurd t
-fits_encoded codec (AudioHead tb rate bits channels from) End s t = absurd t
-fits_encoded codec (AudioHead tb rate bits channels from) Broken s t = absurd t
-fits_encoded codec (VideoHead tb format width height sar_num sar_den) x s t = absurd s
+fits_encoded : (codec : Codec) (head : StreamHead) (x : Item) → IsPcmCodec codec → IsSoundHead head → FitsFrames head x → FitsPackets (coded_head codec head) (encoded_item codec x)
+fits_encoded codec (AudioHead tb rate bits channels from) (Audio f) h s t = (refl, packet_pcm codec channels (packet_of codec f) h (frame_packet codec rate bits channels f t))
+fits_encoded codec (AudioHead tb rate bits channels from) (Video f) h s t = absurd t
+fits_encoded codec (AudioHead tb rate bits channels from) (Packet p) h s t = absurd t
+fits_encoded codec (AudioHead tb rate bits channels from) End h s t = absurd t
+fits_encoded codec (AudioHead tb rate bits channels from) Broken h s t = absurd t
+fits_encoded codec (VideoHead tb format width height sar_num sar_den) x h s t = absurd s
 
 starts_encoded : (codec : Codec) (x : Item) → start_of (encoded_item codec x) ≡ start_of x
 starts_encoded codec (Audio f) = refl
@@ -77,11 +77,11 @@ apart_encoded : (codec : Codec) (head : StreamHead) (x y : Item) → StartsAfter
 apart_encoded codec (AudioHead tb rate bits channels from) x y a = rw (ends_encoded codec x, starts_encoded codec y) a
 apart_encoded codec (VideoHead tb format width height sar_num sar_den) x y a = tt
 
--- encoding takes a lane of frames to the lane of their packets
-pub encoding_carries : (codec : Codec) (head : StreamHead) → IsSoundHead head → Carries (Frames head) (Packets (coded_head codec head)) (encoded_item codec)
-encoding_carries codec head s = record {
+-- encoding as linear PCM takes a lane of frames to the lane of their packets
+pub encoding_carries : (codec : Codec) (head : StreamHead) → IsPcmCodec codec → IsSoundHead head → Carries (Frames head) (Packets (coded_head codec head)) (encoded_item codec)
+encoding_carries codec head h s = record {
   base = base_encoded codec head;
-  fits = λ x t. fits_encoded codec head x s t;
+  fits = λ x t. fits_encoded codec head x h s t;
   starts = λ x t. starts_encoded codec x;
   ends = λ x t. ends_encoded codec x;
   apart = λ x y p q a. apart_encoded codec head x y a;

@@ -1,5 +1,5 @@
 -- Encoding, as what a part of a run means: a packet of each frame.
-use Rattle.std.specs.Prelude.{ℕ, ◌/◌, pos, List, [], ◌∷◌, length, false}
+use Rattle.std.specs.Prelude.{◌/◌, pos, [], ◌∷◌, length, false}
 use Rattle.ff_frame.specs.declared.audio.AFrame.{AFrame}
 use Rattle.ff_frame.specs.declared.packet.Pkt.{Pkt}
 use Rattle.ff_frame.specs.declared.head.Codec.{Codec}

@@ -1,5 +1,5 @@
 -- The laws of a machine that makes an item of each item, whatever it makes.
-use Rattle.std.specs.Prelude.{◌≡◌, ℕ, zero, suc, ◌^◌, ◌<◌, ◌≤◌, ◌≤ℤ◌, ◌⊎◌, ℤ, Bool, true, false, List, [], ◌∷◌, map, All, Option, None, Some, refl}
+use Rattle.std.specs.Prelude.{◌≡◌, ℕ, zero, suc, ◌^◌, ◌<◌, ◌≤◌, ◌⊎◌, ℤ, Bool, true, false, List, [], ◌∷◌, map, All, Option, None, Some, refl}
 use Rattle.std.proofs.Common.{sym, subst, ap, inl, inr, ◌∙◌, arith}
 use Rattle.std.proofs.lemmas.List.{length-map}
 use Rattle.ff_frame.specs.declared.item.Item.{Item}
@@ -13,8 +13,8 @@ use Rattle.ff_frame.specs.Stream.{LiesBelow, opened, map_stream}
 use Rattle.ff_frame.specs.Items.{Closes}
 use Rattle.ff_frame.specs.Order.{below_self, unbroken_below, stream_at-opened}
 use Rattle.ff_frame.specs.Ports.{nothing, stream_at, AllBelow, AllUnbroken, IsClosed, IsUnbroken, IsMonotone, IsCalm}
-use Rattle.ff_frame.specs.Lanes.{head_of, base_of, FitsLane, FitsFrames, FitsPackets, StartsAfter, Follows, InOrder, IsItemFor, EndsInTime, IsValid}
-use Rattle.ff_frame.specs.Times.{start_of, end_of, ticks, IsInTime}
+use Rattle.ff_frame.specs.Lanes.{base_of, FitsLane, FitsFrames, FitsPackets, Follows, InOrder, IsItemFor, EndsInTime, IsValid}
+use Rattle.ff_frame.specs.Times.{end_of, ticks, IsInTime}
 use Rattle.ff_frame.specs.BreakLaws.{map_stream_monotone}
 use Rattle.ff_net.specs.declared.fault.Fault.{Fault}
 use Rattle.ff_net.specs.Ways.{Flow, AreValid}

@@ -30,7 +30,7 @@ module _ {S K : Type 0} (left : S → Option (List ℕ)) (holds : K → Option (
   part_valid (part.Mux m) past s = mux_valid holds m past s
 
   pub part_keeps : (m : Part S K) (past : Past) → part_stands left holds m past → (ss : List Flow) → AreValid (part_in_lanes m) ss → AreValid (part_out_lanes m) (past.task.means ss)
-  part_keeps (part.Demux m) past s = demux_keeps (left m.src) m.cut m.skip m.given m.ticket m.ended m.fault past s m.head m.same_head
+  part_keeps (part.Demux m) past s = demux_keeps (left m.src) m.cut m.skip m.given m.ticket m.ended m.fault past s m.head m.same_head m.coded
   part_keeps (part.Dec m) past s = maps_keeps (Packets m.head) (Frames m.head) (decoded_item m.head) m.ready past s
   part_keeps (part.Enc m) past s = maps_keeps (Frames m.head) (Packets (coded_head m.codec m.head)) (encoded_item m.codec) m.ready past s
   part_keeps (part.Mux m) past s = λ ss v. mux_keeps holds m past s ss

@@ -1,5 +1,6 @@
 // The expected bytes are two's complement and the middle 128, shifted by hand.
 ghost use Rattle.std.specs.Prelude.{◌≡◌, ◌≤◌};
+ghost use Rattle.ff_frame.specs.Lanes.{IsPcmCodec};
 ghost use Rattle.ff_pcm.specs.Samples.{depth};
 
 use super::{Dec, Enc};
@@ -23,6 +24,8 @@ fn make_coders(
     channels: u8,
     to: Codec,
 ) -> Result<Coders, Fail>
+    requires pcm { IsPcmCodec codec }
+    requires pcm_to { IsPcmCodec to }
     requires own { bits ≡ depth codec }
     requires some { 1 ≤ channels }
     requires few { channels ≤ 8 }

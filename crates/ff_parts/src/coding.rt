@@ -5,7 +5,7 @@ ghost use Rattle.ff_frame.specs.declared.head.StreamHead.{StreamHead};
 ghost use Rattle.ff_frame.specs.declared.item.Item.TheVariants.{Packet};
 ghost use Rattle.ff_frame.specs.declared.item.Lane.TheVariants.{Frames, Packets};
 ghost use Rattle.ff_frame.specs.declared.packet.Pkt.{Pkt};
-ghost use Rattle.ff_frame.specs.Lanes.{FitsLane, IsSoundHead, IsValid};
+ghost use Rattle.ff_frame.specs.Lanes.{FitsLane, IsPcmCodec, IsSoundHead, IsValid};
 ghost use Rattle.ff_frame.specs.Packet.{packet_at};
 ghost use Rattle.ff_frame.specs.Within.{within, passes_limits};
 ghost use Rattle.ff_pcm.specs.Frames.{codec_of, IsPcmHead};
@@ -18,9 +18,9 @@ pub fn decoding_passes_no_limit()
     ensures { (head : StreamHead) (packets : Flow) → IsPcmHead head → IsValid (Packets head) packets → within (passes_limits (Frames head)) (decoded head packets) ≡ decoded head packets }
 {}
 
-/// The packets of valid frames pass no limit: cutting them there changes nothing.
+/// The packets of valid frames, coded as linear PCM, pass no limit: cutting them there changes nothing.
 pub fn encoding_passes_no_limit()
-    ensures { (codec : Codec) (head : StreamHead) (frames : Flow) → IsSoundHead head → IsValid (Frames head) frames → within (passes_limits (Packets (coded_head codec head))) (encoded codec head frames) ≡ encoded codec head frames }
+    ensures { (codec : Codec) (head : StreamHead) (frames : Flow) → IsPcmCodec codec → IsSoundHead head → IsValid (Frames head) frames → within (passes_limits (Packets (coded_head codec head))) (encoded codec head frames) ≡ encoded codec head frames }
 {}
 
 /// A packet of bytes is decoded as it stands.

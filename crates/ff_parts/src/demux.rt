@@ -4,11 +4,12 @@ ghost use Rattle.ff_host.specs.Causes.{HasCauseOf};
 ghost use Rattle.ff_frame.specs.declared.item.Item.{Item};
 ghost use Rattle.ff_frame.specs.declared.item.Lane.TheVariants.{Packets};
 ghost use Rattle.ff_frame.specs.declared.packet.Pkt.{Pkt};
-ghost use Rattle.ff_frame.specs.Lanes.{base_of_head};
+ghost use Rattle.ff_frame.specs.Lanes.{base_of_head, IsPcmCoded};
 ghost use Rattle.ff_frame.specs.Times.{end_of, ticks};
 ghost use Rattle.ff_net.specs.declared.fault.Fault.{Fault};
 ghost use Rattle.ff_net.specs.Pasts.{Past};
 ghost use Rattle.ff_wav.specs.Packets.{IsHead};
+ghost use Rattle.ff_wav.specs.Sound.{IsPcmCoded-prop};
 ghost use Rattle.ff_wav.specs.Cuts.{head_of, place_of, has_ended, waiting_in, room_in, SameElsewhere};
 ghost use Rattle.ff_parts.specs.Demuxing.{ends_beyond, passes_in_demux, DemuxStands, GivesPacket, GivesAll, Feeds, KeepsCut};
 ghost use Rattle.ff_parts.specs.declared.demux.ReadEnd.TheVariants.{Failed, NoMemory};
@@ -50,6 +51,7 @@ pub struct Demux<S> {
     fault: Option<Fault>,
     ghost some_piece: { 0 < length piece.items },
     ghost same_head: { (head_of cut).head ≡ head },
+    ghost coded: { IsPcmCoded head } by { IsPcmCoded-prop head },
     ghost near: { ended ≡ false → place_of cut ≤ 2 ^ 50 },
     ghost few: { ended ≡ false → given ≤ 2 ^ 40 },
 }
@@ -363,7 +365,7 @@ impl<S: Source + Drop> Machine for Demux<S> {
 
     ghost valid = { λ m past s. demux_fed (S.left m.src) m.cut m.skip m.given m.ticket m.ended m.fault past s };
 
-    ghost keeps = { λ m past s. demux_keeps (S.left m.src) m.cut m.skip m.given m.ticket m.ended m.fault past s m.head m.same_head };
+    ghost keeps = { λ m past s. demux_keeps (S.left m.src) m.cut m.skip m.given m.ticket m.ended m.fault past s m.head m.same_head m.coded };
 
     ghost monotone = { λ m past s. demux_monotone (S.left m.src) m.cut m.skip m.given m.ticket m.ended m.fault past s (AreValid []) };
 

@@ -1,6 +1,7 @@
 ghost use Rattle.std.specs.Prelude.{◌≡◌, ◌↔◌, ◌*◌, ◌/◌, length, pos, IsTrue, IfOk, IfErr};
 ghost use Rattle.ff_frame.specs.Audio.{IsAudio};
-ghost use Rattle.ff_frame.specs.Lanes.{sample_bytes, IsSoundHead};
+ghost use Rattle.ff_frame.specs.Lanes.{IsPcmCodec, sample_bytes, IsSoundHead};
+ghost use Rattle.ff_frame.specs.PcmLaws.{IsPcmCodec-prop};
 ghost use Rattle.ff_wav.specs.Sound.{IsSoundHead-prop};
 ghost use Rattle.ff_parts.specs.Encoding.{packet_of, encoded_item, IsEncodable};
 
@@ -17,6 +18,7 @@ pub struct Enc {
     codec: Codec,
     head: StreamHead,
     ready: Ready,
+    ghost pcm: { IsPcmCodec codec } by { IsPcmCodec-prop codec },
     ghost sound: { IsSoundHead head } by { IsSoundHead-prop head },
 }
 
@@ -27,9 +29,10 @@ impl Enc {
     ghost use Rattle.ff_parts.specs.Encoding.{coded_head, enc_task};
     ghost use Rattle.ff_parts.specs.Coders.{enc_in_lanes, enc_out_lanes, enc_stands};
 
-    /// An encoder of this head's frames to a codec, to which nothing was fed. The head is one of sound.
+    /// An encoder of this head's frames to a PCM codec, to which nothing was fed. The head is one of sound.
     pub fn new(alloc: Global, codec: Codec, head: StreamHead) -> Enc
-        requires { IsSoundHead head }
+        requires pcm { IsPcmCodec codec }
+        requires sound { IsSoundHead head }
         ensures in_lanes { enc_in_lanes result ≡ Frames head ∷ [] }
         ensures out_lanes { enc_out_lanes result ≡ Packets (coded_head codec head) ∷ [] }
         ensures stands { enc_stands result (start (enc_task codec head)) }
@@ -63,6 +66,7 @@ fn sample_frames(frame: &AFrame) -> i64
 
 // The packet of a frame, in a place for its bytes.
 fn packet(codec: Codec, mut frame: AFrame, mut bytes: Vec<u8>) -> Pkt
+    requires pcm { IsPcmCodec codec }
     requires frame { IsAudio frame.bits frame.channels frame.samples }
     requires size { length bytes.items ≡ sample_bytes codec * length frame.samples }
     ensures { result ≡ packet_of codec frame }
@@ -81,7 +85,8 @@ fn packet(codec: Codec, mut frame: AFrame, mut bytes: Vec<u8>) -> Pkt
 
 // What is given for an item. Where memory is refused, the item comes back.
 fn encode(alloc: Global, codec: Codec, item: Item) -> Result<Item, Refused>
-    requires { IsEncodable item }
+    requires pcm { IsPcmCodec codec }
+    requires item { IsEncodable item }
     ensures made { IfOk result (λ made. made ≡ encoded_item codec item) }
     ensures back { IfErr result (λ refused. refused.item ≡ item) }
 {

@@ -4,7 +4,7 @@ use Rattle.std.proofs.lemmas.List.{length-map, drop_all, take_all}
 use Rattle.ff_frame.specs.declared.item.Lane.{Lane}
 use Rattle.ff_frame.specs.Stream.{LiesBelow, opened}
 use Rattle.ff_frame.specs.Order.{below_trans, opened_keeps}
-use Rattle.ff_frame.specs.Ports.{nothing, stream_at, IsWhole}
+use Rattle.ff_frame.specs.Ports.{stream_at, IsWhole}
 use Rattle.ff_net.specs.declared.fault.Fault.{Fault}
 use Rattle.ff_net.specs.declared.fault.Fault.TheVariants.{Device, Damaged, TooLong, TooLarge, NoMemory}
 use Rattle.ff_net.specs.declared.node.Node.{Node}
@@ -16,14 +16,14 @@ use Rattle.ff_net.specs.Nets.{Part, solve, IsUpward}
 use Rattle.ff_net.specs.Pasts.{Past, Task, IsIn, start}
 use Rattle.ff_net.specs.Laws.{FaultStep, IsOfInputs}
 use Rattle.ff_net.specs.Ports.{in_at, in_wires}
-use Rattle.ff_net.specs.Worlds.{Wire, Stand, fresh, lanes_of}
+use Rattle.ff_net.specs.Worlds.{Stand, fresh, lanes_of}
 use Rattle.ff_net.specs.Nodes.{AreApart, HaveLanes, IsShaped, IsSound, NodeStands, machine_of, in_wires_of, out_wires_of}
 use Rattle.ff_net.specs.Serial.{AreShaped, NetStands, Settled, part_of, parts_of}
 use Rattle.ff_net.proofs.Whole.{fed_below}
 use Rattle.ff_path.specs.declared.chain.Chain.{Chain}
 use Rattle.ff_path.specs.declared.chain.Lanes.{Lanes}
 use Rattle.ff_path.specs.declared.chain.NodeFault.{NodeFault}
-use Rattle.ff_path.specs.Chains.{nodes, on_wire, inputs_of, HasLanes, IsNode, AreNodes, Start, Fares, AreSound, FirstFault, FedPart, FedAll, machine_at}
+use Rattle.ff_path.specs.Chains.{nodes, on_wire, inputs_of, HasLanes, AreNodes, Start, Fares, AreSound, FirstFault, FedPart, FedAll, machine_at}
 
 abbrev pub no_part : Part
 no_part = record { means = λ ss. []; in_lanes = []; out_lanes = []; ins = []; outs = [] }

@@ -9,7 +9,7 @@ use Rattle.ff_net.specs.declared.node.Node.{Node}
 use Rattle.ff_net.specs.Ways.{Flow}
 use Rattle.ff_net.specs.Nets.{Part}
 use Rattle.ff_net.specs.Pasts.{Past, Task, start}
-use Rattle.ff_net.specs.Laws.{FaultStep, IsOfInputs}
+use Rattle.ff_net.specs.Laws.{FaultStep}
 use Rattle.ff_net.specs.Nodes.{IsSound, NodeStands, machine_of, in_wires_of, out_wires_of}
 use Rattle.ff_path.specs.declared.chain.NodeFault.{NodeFault}
 use Rattle.ff_path.specs.declared.chain.Chain.{Chain}

@@ -1,5 +1,5 @@
 -- The path from an input to its framehash: demuxer, decoder, encoder, muxer.
-use Rattle.std.specs.Prelude.{◌≡◌, ℕ, zero, suc, List, [], ◌∷◌, Option, Some}
+use Rattle.std.specs.Prelude.{◌≡◌, ℕ, zero, suc, List, [], Option, Some}
 use Rattle.ff_frame.specs.declared.head.Codec.{Codec}
 use Rattle.ff_frame.specs.declared.head.StreamHead.{StreamHead}
 use Rattle.ff_frame.specs.declared.item.Lane.TheVariants.{Frames, Packets}

@@ -15,7 +15,7 @@ sound_stream (Audio base rate bits channels codec) h = tt
 sound_stream (Video tb format width height sar_num sar_den) h = absurd h
 
 pub pcm_stream : (head : StreamHead) → IsStream head → IsPcmHead head
-pcm_stream (Audio base rate bits channels codec) h = record { sound = tt; depth_is = h.depth; some_channels = h.some_channels; few_channels = h.few_channels }
+pcm_stream (Audio base rate bits channels codec) h = record { sound = tt; coded = h.coded; depth_is = h.depth; some_channels = h.some_channels; few_channels = h.few_channels }
 pcm_stream (Video tb format width height sar_num sar_den) h = absurd h
 
 -- the last wire carries the coded packets

@@ -1,5 +1,6 @@
 // The path from an input to its framehash: demuxer, decoder, encoder, muxer.
 ghost use Rattle.std.specs.Prelude.{◌≡◌, IfOk, IfErr};
+ghost use Rattle.ff_frame.specs.Lanes.{IsPcmCodec};
 ghost use Rattle.ff_wav.specs.Packets.{IsHead};
 ghost use Rattle.ff_parts.specs.Encoding.{coded_head as coded_head_of};
 ghost use Rattle.ff_path.specs.Path.{IsPath, path_lanes as path_lanes_of};
@@ -12,8 +13,9 @@ use ff_pcm::depth_of;
 use ff_wav::WavHead;
 use std::alloc::Global;
 
-/// The head of what a stream of sound is coded to: the same times, rate and channels, at the codec's depth.
+/// The head of what a stream of sound is coded to, as linear PCM: the same times, rate and channels, at the codec's depth.
 pub fn coded_head(codec: Codec, head: &StreamHead) -> StreamHead
+    requires { IsPcmCodec codec }
     ensures { result ≡ coded_head_of codec head.now }
 {
     match *head {
@@ -35,6 +37,7 @@ pub fn coded_head(codec: Codec, head: &StreamHead) -> StreamHead
 
 /// The lanes between the four parts of a path.
 pub fn path_lanes(codec: Codec, head: &StreamHead) -> Lanes
+    requires { IsPcmCodec codec }
     ensures { result ≡ path_lanes_of codec head.now }
 {
     Lanes {
@@ -44,7 +47,7 @@ pub fn path_lanes(codec: Codec, head: &StreamHead) -> Lanes
     }
 }
 
-/// The four parts from an input with this head to the framehash of its packets as this codec writes them. The source
+/// The four parts from an input with this head to the framehash of its packets as this PCM codec writes them. The source
 /// gives the input from its first byte on, and the sink holds nothing. Both come back where there was no memory.
 pub fn build<Src: Source + Drop, Snk: Sink + Drop>(
     alloc: Global,
@@ -53,7 +56,8 @@ pub fn build<Src: Source + Drop, Snk: Sink + Drop>(
     src: Src,
     snk: Snk,
 ) -> Result<Chain<Part<Src, Snk>>, (Src, Snk)>
-    requires { IsHead head.now }
+    requires pcm { IsPcmCodec codec }
+    requires head { IsHead head.now }
     ensures path { IfOk result (IsPath Src.left Src.name Src.faults Snk.holds Snk.name Snk.faults codec head.now src snk) }
     ensures back { IfErr result (λ ends. (ends.0 ≡ src) × (ends.1 ≡ snk)) }
 {

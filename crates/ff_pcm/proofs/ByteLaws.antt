@@ -1,13 +1,13 @@
 -- The bytes of samples stand for them, and no others do.
-use Rattle.std.proofs.Common.{◌≡◌, ℕ, zero, suc, ◌+◌, ◌-◌, ◌*◌, ◌/◌, ◌%◌, ◌^◌, ◌<◌, ◌≤◌, ℤ, pos, negsuc, ◌-ℤ◌, List, [], ◌∷◌, ◌++◌, length, get_or, refl, sym, ap, ◌∙◌, subst, arith, append_assoc, length-append, All}
+use Rattle.std.proofs.Common.{◌≡◌, ℕ, zero, suc, ◌+◌, ◌*◌, ◌/◌, ◌%◌, ◌^◌, ◌<◌, ℤ, pos, negsuc, ◌-ℤ◌, List, [], ◌∷◌, ◌++◌, length, get_or, refl, sym, ap, ◌∙◌, subst, arith, length-append, All}
 use Rattle.std.specs.List.{flat_map}
 use Rattle.std.proofs.lemmas.Int.{ints}
 use Rattle.std.proofs.lemmas.List.Elements.{All-append, All-cons, All-nil}
 use Rattle.std.proofs.lemmas.Nat.{div_below}
 use Rattle.ff_frame.specs.Audio.{FitsBits}
-use Rattle.ff_frame.specs.Lanes.{sample_bytes}
+use Rattle.ff_frame.specs.Lanes.{IsPcmCodec, sample_bytes}
 use Rattle.ff_frame.specs.declared.head.Codec.{Codec}
-use Rattle.ff_frame.specs.declared.head.Codec.TheVariants.{PcmU8, PcmS16le, PcmS24le, PcmS32le}
+use Rattle.ff_frame.specs.declared.head.Codec.TheVariants.{PcmU8, PcmS16le, PcmS24le, PcmS32le, Flac, RawVideo}
 use Rattle.ff_pcm.specs.Bytes.{number_bytes, unsigned, from_middle, sample_number, bytes_of}
 use Rattle.ff_pcm.specs.Samples.{number, signed, depth, sample_at, StandFor}
 use Rattle.ff_pcm.proofs.SampleLaws.{told, all_stand_fit, are_bytes}
@@ -98,24 +98,28 @@ sample_small PcmU8 z h = middle_small z h
 sample_small PcmS16le z h = unsigned_16_small z h
 sample_small PcmS24le z h = unsigned_24_small z h
 sample_small PcmS32le z h = unsigned_32_small z h
+sample_small Flac z h = omega arith
+sample_small RawVideo z h = omega arith
 
 all_small : (codec : Codec) (xs : List ℤ) → All (FitsBits (depth codec)) xs → All (λ z. sample_number codec z < 256 ^ sample_bytes codec) xs
 all_small codec xs h k d lt = sample_small codec (get_or xs k d) (h k d lt)
 
 -- the sample at a place, of the number there
-sample_of : (codec : Codec) (bs : List ℕ) (k : ℕ) (z : ℤ) → FitsBits (depth codec) z → number (sample_bytes codec) (sample_bytes codec * k) bs ≡ sample_number codec z → z ≡ sample_at codec bs k
-sample_of PcmU8 bs k z h e =
+sample_of : (codec : Codec) (bs : List ℕ) (k : ℕ) (z : ℤ) → IsPcmCodec codec → FitsBits (depth codec) z → number (sample_bytes codec) (sample_bytes codec * k) bs ≡ sample_number codec z → z ≡ sample_at codec bs k
+sample_of PcmU8 bs k z p h e =
     let one : 1 * k ≡ k = omega arith in
     let n : number 1 k bs ≡ from_middle 128 z = subst (λ (j : ℕ). number 1 j bs ≡ from_middle 128 z) one e in
     sym (ap (λ (m : ℕ). pos m -ℤ pos 128) n ∙ middle_back z h)
-sample_of PcmS16le bs k z h e = sym (ap (λ (m : ℕ). signed 16 m) e ∙ signed_16_back z h)
-sample_of PcmS24le bs k z h e = sym (ap (λ (m : ℕ). signed 24 m) e ∙ signed_24_back z h)
-sample_of PcmS32le bs k z h e = sym (ap (λ (m : ℕ). signed 32 m) e ∙ signed_32_back z h)
+sample_of PcmS16le bs k z p h e = sym (ap (λ (m : ℕ). signed 16 m) e ∙ signed_16_back z h)
+sample_of PcmS24le bs k z p h e = sym (ap (λ (m : ℕ). signed 24 m) e ∙ signed_24_back z h)
+sample_of PcmS32le bs k z p h e = sym (ap (λ (m : ℕ). signed 32 m) e ∙ signed_32_back z h)
+sample_of Flac bs k z p h e = absurd p
+sample_of RawVideo bs k z p h e = absurd p
 
-pub bytes_stand : (codec : Codec) (xs : List ℤ) → All (FitsBits (depth codec)) xs → StandFor codec (bytes_of codec xs) xs
-bytes_stand codec xs h = record {
+pub bytes_stand : (codec : Codec) (xs : List ℤ) → IsPcmCodec codec → All (FitsBits (depth codec)) xs → StandFor codec (bytes_of codec xs) xs
+bytes_stand codec xs p h = record {
   size = bytes_length (sample_bytes codec) (sample_number codec) xs;
-  each = λ k lt. sample_of codec (bytes_of codec xs) k (get_or xs k (pos 0)) (h k (pos 0) lt) (number_at (sample_bytes codec) (sample_number codec) xs k (all_small codec xs h) lt);
+  each = λ k lt. sample_of codec (bytes_of codec xs) k (get_or xs k (pos 0)) p (h k (pos 0) lt) (number_at (sample_bytes codec) (sample_number codec) xs k (all_small codec xs h) lt);
 }
 
 number_are_bytes : (count n : ℕ) → All (λ b. b < 256) (number_bytes count n)
@@ -127,7 +131,7 @@ bytes_are_bytes count g [] = All-nil (λ b. b < 256)
 bytes_are_bytes count g (x ∷ xs) = All-append (λ b. b < 256) (number_bytes count (g x)) (flat_map (λ z. number_bytes count (g z)) xs) (number_are_bytes count (g x)) (bytes_are_bytes count g xs)
 
 -- bytes that stand for samples are the bytes of these
-pub only_bytes : (codec : Codec) (bs : List ℕ) (xs : List ℤ) → All (λ b. b < 256) bs → StandFor codec bs xs → bs ≡ bytes_of codec xs
-only_bytes codec bs xs small s =
+pub only_bytes : (codec : Codec) (bs : List ℕ) (xs : List ℤ) → IsPcmCodec codec → All (λ b. b < 256) bs → StandFor codec bs xs → bs ≡ bytes_of codec xs
+only_bytes codec bs xs p small s =
     let fit : All (FitsBits (depth codec)) xs = all_stand_fit codec bs xs s (are_bytes bs small) in
-    told codec bs (bytes_of codec xs) xs small (bytes_are_bytes (sample_bytes codec) (sample_number codec) xs) s (bytes_stand codec xs fit)
+    told codec bs (bytes_of codec xs) xs p small (bytes_are_bytes (sample_bytes codec) (sample_number codec) xs) s (bytes_stand codec xs p fit)

@@ -7,13 +7,13 @@ use Rattle.std.proofs.lemmas.List.Elements.{All-map}
 use Rattle.std.proofs.lemmas.List.FromFn.{fill_by_all, length-map-range_with_len, get_or-map-range_with_len}
 use Rattle.ff_frame.specs.Audio.{FitsBits, IsAudio}
 use Rattle.ff_frame.specs.Frame.{audio_frame}
-use Rattle.ff_frame.specs.Lanes.{sample_bytes}
+use Rattle.ff_frame.specs.Lanes.{IsPcmCodec, sample_bytes}
 use Rattle.ff_frame.specs.declared.head.Codec.{Codec}
 use Rattle.ff_frame.specs.declared.audio.AFrame.{AFrame}
 use Rattle.ff_frame.specs.declared.head.StreamHead.{StreamHead}
 use Rattle.ff_frame.specs.declared.packet.Pkt.{Pkt}
 use Rattle.ff_pcm.specs.Frames.{codec_of, rate_of, bits_of, channels_of, IsPcmHead, HasBlocks, frame_of}
-use Rattle.ff_frame.specs.declared.head.Codec.TheVariants.{PcmU8, PcmS16le, PcmS24le, PcmS32le}
+use Rattle.ff_frame.specs.declared.head.Codec.TheVariants.{PcmU8, PcmS16le, PcmS24le, PcmS32le, Flac, RawVideo}
 use Rattle.ff_pcm.specs.Samples.{number, signed, depth, sample_at, samples_of, StandFor}
 
 -- so many samples have so many bytes
@@ -22,6 +22,8 @@ count_of PcmU8 n count e = omega (arith, e)
 count_of PcmS16le n count e = omega (arith, e)
 count_of PcmS24le n count e = omega (arith, e)
 count_of PcmS32le n count e = omega (arith, e)
+count_of Flac n count e = omega (arith, e)
+count_of RawVideo n count e = omega (arith, e)
 
 -- samples that are those of the bytes one by one are all of them
 pub are_samples : (codec : Codec) (bytes : List ℕ) (xs : List ℤ) → length bytes ≡ sample_bytes codec * length xs → ((k : ℕ) → k < length xs → get_or xs k (pos 0) ≡ sample_at codec bytes k)
@@ -52,6 +54,8 @@ fits_at PcmU8 bytes k small = fits_8 (number 1 k bytes) _ (omega (arith, small k
 fits_at PcmS16le bytes k small = fits_16 (number 2 (2 * k) bytes) _ (omega (arith, small (2 * k), small (2 * k + 1))) refl
 fits_at PcmS24le bytes k small = fits_24 (number 3 (3 * k) bytes) _ (omega (arith, small (3 * k), small (3 * k + 1), small (3 * k + 1 + 1))) refl
 fits_at PcmS32le bytes k small = fits_32 (number 4 (4 * k) bytes) _ (omega (arith, small (4 * k), small (4 * k + 1), small (4 * k + 1 + 1), small (4 * k + 1 + 1 + 1))) refl
+fits_at Flac bytes k small = omega arith
+fits_at RawVideo bytes k small = omega arith
 
 pub all_fit : (codec : Codec) (bytes : List ℕ) → ((i : ℕ) → get_or bytes i 0 < 256) → All (FitsBits (depth codec)) (samples_of codec bytes)
 all_fit codec bytes small =
@@ -63,12 +67,16 @@ interleaved PcmU8 n blocks channels count e f = omega (arith, e, f)
 interleaved PcmS16le n blocks channels count e f = omega (arith, e, f)
 interleaved PcmS24le n blocks channels count e f = omega (arith, e, f)
 interleaved PcmS32le n blocks channels count e f = omega (arith, e, f)
+interleaved Flac n blocks channels count e f = omega (arith, e, f)
+interleaved RawVideo n blocks channels count e f = omega (arith, e, f)
 
 few_bits_of : (codec : Codec) → (4 ≤ depth codec) × (depth codec ≤ 32)
 few_bits_of PcmU8 = (omega arith, omega arith)
 few_bits_of PcmS16le = (omega arith, omega arith)
 few_bits_of PcmS24le = (omega arith, omega arith)
 few_bits_of PcmS32le = (omega arith, omega arith)
+few_bits_of Flac = (omega arith, omega arith)
+few_bits_of RawVideo = (omega arith, omega arith)
 
 pub stand_samples : (codec : Codec) (bytes : List ℕ) (xs : List ℤ) → StandFor codec bytes xs → xs ≡ samples_of codec bytes
 stand_samples codec bytes xs s = are_samples codec bytes xs s.size s.each
@@ -154,36 +162,38 @@ number_apart (suc count) place a b sa sb e (suc r) lt =
     rw f (number_apart count (place + 1) a b sa sb g r (omega arith))
 
 -- so do the samples
-byte_same : (codec : Codec) (a b : List ℕ) (i count : ℕ) → AreBytes a → AreBytes b → i < sample_bytes codec * count → ((k : ℕ) → k < count → sample_at codec a k ≡ sample_at codec b k) → get_or a i 0 ≡ get_or b i 0
-byte_same PcmU8 a b i count sa sb lt same = let f = middle_apart (number 1 i a) (number 1 i b) (same i (omega arith)) in omega (arith, f)
-byte_same PcmS16le a b i count sa sb lt same =
+byte_same : (codec : Codec) (a b : List ℕ) (i count : ℕ) → IsPcmCodec codec → AreBytes a → AreBytes b → i < sample_bytes codec * count → ((k : ℕ) → k < count → sample_at codec a k ≡ sample_at codec b k) → get_or a i 0 ≡ get_or b i 0
+byte_same PcmU8 a b i count h sa sb lt same = let f = middle_apart (number 1 i a) (number 1 i b) (same i (omega arith)) in omega (arith, f)
+byte_same PcmS16le a b i count h sa sb lt same =
     let k = i / 2 in
     let P : ℕ → Type 0 = λ j. get_or a j 0 ≡ get_or b j 0 in
     let here : 2 * k + i % 2 ≡ i = omega arith in
     let below : (x : List ℕ) → AreBytes x → number 2 (2 * k) x < 2 ^ 16 = λ x s. omega (arith, s (2 * k), s (2 * k + 1)) in
     subst P here (number_apart 2 (2 * k) a b sa sb (signed_apart_16 _ _ (below a sa) (below b sb) (same k (omega arith))) (i % 2) (omega arith))
-byte_same PcmS24le a b i count sa sb lt same =
+byte_same PcmS24le a b i count h sa sb lt same =
     let k = i / 3 in
     let P : ℕ → Type 0 = λ j. get_or a j 0 ≡ get_or b j 0 in
     let here : 3 * k + i % 3 ≡ i = omega arith in
     let below : (x : List ℕ) → AreBytes x → number 3 (3 * k) x < 2 ^ 24 = λ x s. omega (arith, s (3 * k), s (3 * k + 1), s (3 * k + 1 + 1)) in
     subst P here (number_apart 3 (3 * k) a b sa sb (signed_apart_24 _ _ (below a sa) (below b sb) (same k (omega arith))) (i % 3) (omega arith))
-byte_same PcmS32le a b i count sa sb lt same =
+byte_same PcmS32le a b i count h sa sb lt same =
     let k = i / 4 in
     let P : ℕ → Type 0 = λ j. get_or a j 0 ≡ get_or b j 0 in
     let here : 4 * k + i % 4 ≡ i = omega arith in
     let below : (x : List ℕ) → AreBytes x → number 4 (4 * k) x < 2 ^ 32 = λ x s. omega (arith, s (4 * k), s (4 * k + 1), s (4 * k + 1 + 1), s (4 * k + 1 + 1 + 1)) in
     subst P here (number_apart 4 (4 * k) a b sa sb (signed_apart_32 _ _ (below a sa) (below b sb) (same k (omega arith))) (i % 4) (omega arith))
+byte_same Flac a b i count h sa sb lt same = absurd h
+byte_same RawVideo a b i count h sa sb lt same = absurd h
 
 pub are_bytes : (xs : List ℕ) → All (λ x. x < 256) xs → AreBytes xs
 are_bytes [] h i = omega arith
 are_bytes (x ∷ xs) h zero = h 0 0 (omega arith)
 are_bytes (x ∷ xs) h (suc i) = are_bytes xs (λ k d lt. h (suc k) d (omega (arith, lt))) i
 
-pub told : (codec : Codec) (a b : List ℕ) (xs : List ℤ) → All (λ x. x < 256) a → All (λ x. x < 256) b → StandFor codec a xs → StandFor codec b xs → a ≡ b
-told codec a b xs sa sb s t =
+pub told : (codec : Codec) (a b : List ℕ) (xs : List ℤ) → IsPcmCodec codec → All (λ x. x < 256) a → All (λ x. x < 256) b → StandFor codec a xs → StandFor codec b xs → a ≡ b
+told codec a b xs h sa sb s t =
     ext_get_or 0 a b (s.size ∙ sym t.size) (λ i lt. let le : i < sample_bytes codec * length xs = omega (arith, lt, s.size) in
-    byte_same codec a b i (length xs) (are_bytes a sa) (are_bytes b sb) le (λ k few. sym (s.each k few) ∙ t.each k few))
+    byte_same codec a b i (length xs) h (are_bytes a sa) (are_bytes b sb) le (λ k few. sym (s.each k few) ∙ t.each k few))
 
 -- whole samples stand for what they are
 pub samples_stand : (codec : Codec) (bytes : List ℕ) (count : ℕ) → length bytes ≡ sample_bytes codec * count → StandFor codec bytes (samples_of codec bytes)
@@ -195,5 +205,5 @@ samples_stand codec bytes count e =
       each = λ k lt. get_or-map-range_with_len (sample_at codec bytes) 0 (length bytes / sample_bytes codec) k k (pos 0) (omega (arith, lt, long)) (omega arith);
     }
 
-pub encoded_again : (codec : Codec) (bytes again : List ℕ) (count : ℕ) → length bytes ≡ sample_bytes codec * count → All (λ x. x < 256) bytes → All (λ x. x < 256) again → StandFor codec again (samples_of codec bytes) → again ≡ bytes
-encoded_again codec bytes again count e sb sa s = told codec again bytes (samples_of codec bytes) sa sb s (samples_stand codec bytes count e)
+pub encoded_again : (codec : Codec) (bytes again : List ℕ) (count : ℕ) → IsPcmCodec codec → length bytes ≡ sample_bytes codec * count → All (λ x. x < 256) bytes → All (λ x. x < 256) again → StandFor codec again (samples_of codec bytes) → again ≡ bytes
+encoded_again codec bytes again count h e sb sa s = told codec again bytes (samples_of codec bytes) h sa sb s (samples_stand codec bytes count e)

@@ -1,7 +1,7 @@
 -- The frame that a packet of linear PCM stands for.
 use Rattle.std.specs.Prelude.{◌≡◌, ℕ, ◌*◌, ◌≤◌, List, length}
 use Rattle.ff_frame.specs.Frame.{audio_frame}
-use Rattle.ff_frame.specs.Lanes.{sample_bytes, IsSoundHead}
+use Rattle.ff_frame.specs.Lanes.{IsPcmCodec, sample_bytes, IsSoundHead}
 use Rattle.ff_frame.specs.declared.audio.AFrame.{AFrame}
 use Rattle.ff_frame.specs.declared.head.Codec.{Codec}
 use Rattle.ff_frame.specs.declared.head.Codec.TheVariants.{PcmU8}
@@ -30,6 +30,7 @@ codec_of (Video tb format width height sar_num sar_den) = PcmU8
 -- sound of 1 to 8 channels with a PCM codec of its own depth
 pub record IsPcmHead (head : StreamHead) : Type 0 where
   pub sound : IsSoundHead head
+  pub coded : IsPcmCodec (codec_of head)
   pub depth_is : bits_of head ≡ depth (codec_of head)
   pub some_channels : 1 ≤ channels_of head
   pub few_channels : channels_of head ≤ 8

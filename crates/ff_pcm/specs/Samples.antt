@@ -3,7 +3,7 @@ use Rattle.std.specs.Prelude.{◌≡◌, ℕ, zero, suc, ◌+◌, ◌-◌, ◌*�
 use Rattle.std.specs.List.{range_with_len}
 use Rattle.ff_frame.specs.Lanes.{sample_bytes}
 use Rattle.ff_frame.specs.declared.head.Codec.{Codec}
-use Rattle.ff_frame.specs.declared.head.Codec.TheVariants.{PcmU8, PcmS16le, PcmS24le, PcmS32le}
+use Rattle.ff_frame.specs.declared.head.Codec.TheVariants.{PcmU8, PcmS16le, PcmS24le, PcmS32le, Flac, RawVideo}
 
 -- the number that so many bytes write from a place on: each byte counts 256 times the one before it
 abbrev pub number : ℕ → ℕ → List ℕ → ℕ
@@ -14,16 +14,18 @@ number (suc count) place bytes = slice_index bytes place + 256 * number count (p
 abbrev pub signed : ℕ → ℕ → ℤ
 signed bits n = if nat_lt n (2 ^ (bits - 1)) then pos n else pos n -ℤ pos (2 ^ bits)
 
--- the bits of a codec's samples
+-- the bits of a PCM codec's samples
 abbrev pub depth : Codec → ℕ
 depth codec = 8 * sample_bytes codec
 
--- sample number k: 8 bits are unsigned with the middle 128, the others signed
+-- sample number k: 8 bits are unsigned with the middle 128, the others signed; what is said of codecs that aren't PCM is never used
 abbrev pub sample_at : Codec → List ℕ → ℕ → ℤ
 sample_at PcmU8 bytes k = pos (number 1 k bytes) -ℤ pos 128
 sample_at PcmS16le bytes k = signed 16 (number 2 (2 * k) bytes)
 sample_at PcmS24le bytes k = signed 24 (number 3 (3 * k) bytes)
 sample_at PcmS32le bytes k = signed 32 (number 4 (4 * k) bytes)
+sample_at Flac bytes k = pos 0
+sample_at RawVideo bytes k = pos 0
 
 -- the samples of some bytes
 abbrev pub samples_of : Codec → List ℕ → List ℤ

@@ -1,6 +1,6 @@
 ghost use Rattle.std.specs.Prelude.{◌≡◌, ◌*◌, ◌<◌, ℕ, All, length, IfOk, pos, slice_index_or};
 ghost use Rattle.ff_frame.specs.Audio.{FitsBits};
-ghost use Rattle.ff_frame.specs.Lanes.{sample_bytes, IsFrameOf, IsSoundHead};
+ghost use Rattle.ff_frame.specs.Lanes.{IsPcmCodec, sample_bytes, IsFrameOf, IsSoundHead};
 ghost use Rattle.ff_frame.specs.declared.head.Codec.TheVariants.{PcmU8, PcmS16le, PcmS24le, PcmS32le};
 ghost use Rattle.ff_pcm.specs.Frames.{rate_of, channels_of, bits_of, codec_of, IsPcmHead, HasBlocks, frame_of};
 ghost use Rattle.ff_pcm.specs.Samples.{depth, sample_at, StandFor};
@@ -46,7 +46,8 @@ fn decode_32(bytes: &[u8], samples: &mut [i32])
 }
 
 fn decode_into(codec: Codec, bytes: &[u8], samples: &mut [i32])
-    requires { length bytes.now ≡ sample_bytes codec * length samples.old }
+    requires pcm { IsPcmCodec codec }
+    requires size { length bytes.now ≡ sample_bytes codec * length samples.old }
     ensures { (k : ℕ) → k < length samples.new → slice_index_or samples.new k (pos 0) ≡ sample_at codec bytes.now k }
 {
     match codec {
@@ -54,6 +55,7 @@ fn decode_into(codec: Codec, bytes: &[u8], samples: &mut [i32])
         Codec::PcmS16le => decode_16(bytes, samples),
         Codec::PcmS24le => decode_24(bytes, samples),
         Codec::PcmS32le => decode_32(bytes, samples),
+        Codec::Flac | Codec::RawVideo => unreachable!(),
     }
 }
 
@@ -66,6 +68,7 @@ fn silence(alloc: Global, count: usize) -> Result<Vec<i32>, AllocError>
 
 // The bytes of one sample.
 pub(crate) fn size_of_sample(codec: Codec) -> usize
+    requires { IsPcmCodec codec }
     ensures { result ≡ sample_bytes codec }
 {
     match codec {
@@ -73,11 +76,13 @@ pub(crate) fn size_of_sample(codec: Codec) -> usize
         Codec::PcmS16le => 2,
         Codec::PcmS24le => 3,
         Codec::PcmS32le => 4,
+        Codec::Flac | Codec::RawVideo => unreachable!(),
     }
 }
 
-/// The bits of a codec's samples.
+/// The bits of a PCM codec's samples.
 pub fn depth_of(codec: Codec) -> u8
+    requires { IsPcmCodec codec }
     ensures { result ≡ depth codec }
 {
     match codec {
@@ -85,11 +90,13 @@ pub fn depth_of(codec: Codec) -> u8
         Codec::PcmS16le => 16,
         Codec::PcmS24le => 24,
         Codec::PcmS32le => 32,
+        Codec::Flac | Codec::RawVideo => unreachable!(),
     }
 }
 
 fn decoded(alloc: Global, codec: Codec, bytes: &[u8], count: usize) -> Result<Samples, AllocError>
-    requires { length bytes.now ≡ sample_bytes codec * count }
+    requires pcm { IsPcmCodec codec }
+    requires size { length bytes.now ≡ sample_bytes codec * count }
     ensures stand { IfOk result (λ samples. StandFor codec bytes.now samples) }
     ensures fit { IfOk result (λ samples. All (FitsBits (depth codec)) samples) }
 {

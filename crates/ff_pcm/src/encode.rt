@@ -1,6 +1,6 @@
 ghost use Rattle.std.specs.Prelude.{◌≡◌, ◌*◌, ◌<◌, ℕ, All, length, IfOk, pos, ◌-ℤ◌, slice_index_or};
 ghost use Rattle.ff_frame.specs.Audio.{FitsBits, IsAudio};
-ghost use Rattle.ff_frame.specs.Lanes.{sample_bytes};
+ghost use Rattle.ff_frame.specs.Lanes.{IsPcmCodec, sample_bytes};
 ghost use Rattle.ff_frame.specs.declared.head.Codec.TheVariants.{PcmU8, PcmS16le, PcmS24le, PcmS32le};
 ghost use Rattle.ff_pcm.specs.Bytes.{bytes_of};
 ghost use Rattle.ff_pcm.specs.Samples.{sample_at, depth, StandFor};
@@ -57,6 +57,7 @@ fn encode_32(samples: &[i32], bytes: &mut [u8])
 }
 
 fn encode_into(codec: Codec, samples: &[i32], bytes: &mut [u8])
+    requires pcm { IsPcmCodec codec }
     requires size { length bytes.old ≡ sample_bytes codec * length samples.now }
     requires fits { All (FitsBits (depth codec)) samples.now }
     ensures { (k : ℕ) → k < length samples.now → slice_index_or samples.now k (pos 0) ≡ sample_at codec bytes.new k }
@@ -66,6 +67,7 @@ fn encode_into(codec: Codec, samples: &[i32], bytes: &mut [u8])
         Codec::PcmS16le => encode_16(samples, bytes),
         Codec::PcmS24le => encode_24(samples, bytes),
         Codec::PcmS32le => encode_32(samples, bytes),
+        Codec::Flac | Codec::RawVideo => unreachable!(),
     }
 }
 
@@ -76,9 +78,10 @@ fn zeros(alloc: Global, count: usize) -> Result<Vec<u8>, AllocError>
     vec![in alloc; 0; count]
 }
 
-/// A place for the bytes of a frame's samples, at any depth.
+/// A place for the bytes of a frame's samples, at any depth, as a PCM codec writes them.
 pub fn room_for(alloc: Global, codec: Codec, frame: &AFrame) -> Result<Vec<u8>, AllocError>
-    requires { IsAudio frame.now.bits frame.now.channels frame.now.samples }
+    requires pcm { IsPcmCodec codec }
+    requires frame { IsAudio frame.now.bits frame.now.channels frame.now.samples }
     ensures { IfOk result (λ bytes. length bytes.items ≡ sample_bytes codec * length frame.now.samples) }
 {
     zeros(
@@ -95,8 +98,9 @@ fn know_bytes(bytes: &[u8])
 }
 
 /// Writes the bytes that stand for a frame's samples (RIFF WAVE, the data of PCM formats) into a place of their size.
-/// The codec is of the frame's depth.
+/// The codec is PCM of the frame's depth.
 pub fn pcm_encode_into(codec: Codec, frame: &AFrame, bytes: &mut [u8])
+    requires pcm { IsPcmCodec codec }
     requires frame { IsAudio frame.now.bits frame.now.channels frame.now.samples }
     requires depth { frame.now.bits ≡ depth codec }
     requires size { length bytes.old ≡ sample_bytes codec * length frame.now.samples }
@@ -107,8 +111,9 @@ pub fn pcm_encode_into(codec: Codec, frame: &AFrame, bytes: &mut [u8])
     know_bytes(bytes);
 }
 
-/// The bytes that stand for a frame's samples (RIFF WAVE, the data of PCM formats). The codec is of the frame's depth.
+/// The bytes that stand for a frame's samples (RIFF WAVE, the data of PCM formats). The codec is PCM of the frame's depth.
 pub fn pcm_encode(alloc: Global, codec: Codec, frame: &AFrame) -> Result<Vec<u8>, AllocError>
+    requires pcm { IsPcmCodec codec }
     requires frame { IsAudio frame.now.bits frame.now.channels frame.now.samples }
     requires depth { frame.now.bits ≡ depth codec }
     ensures stand { IfOk result (λ bytes. StandFor codec bytes.items frame.now.samples) }

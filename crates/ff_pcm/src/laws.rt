@@ -1,6 +1,6 @@
 // What follows of the definitions alone.
 ghost use Rattle.std.specs.Prelude.{◌≡◌, ◌≤◌, ◌<◌, ◌*◌, ℕ, ℤ, List, All, length};
-ghost use Rattle.ff_frame.specs.Lanes.{sample_bytes};
+ghost use Rattle.ff_frame.specs.Lanes.{IsPcmCodec, sample_bytes};
 ghost use Rattle.ff_frame.specs.declared.audio.AFrame.{AFrame};
 ghost use Rattle.ff_frame.specs.declared.head.Codec.{Codec};
 ghost use Rattle.ff_frame.specs.declared.head.StreamHead.{StreamHead};
@@ -11,14 +11,14 @@ ghost use Rattle.ff_pcm.specs.Depth.{at_depth};
 ghost use Rattle.ff_pcm.specs.Raw.{IsFrameIn};
 ghost use Rattle.ff_pcm.specs.Samples.{samples_of, StandFor};
 
-/// The samples tell the bytes: no other bytes of the same codec stand for them.
+/// The samples tell the bytes: no other bytes of the same PCM codec stand for them.
 pub fn samples_tell_their_bytes()
-    ensures { (codec : Codec) (a b : List ℕ) (samples : List ℤ) → All (λ x. x < 256) a → All (λ x. x < 256) b → StandFor codec a samples → StandFor codec b samples → a ≡ b }
+    ensures { (codec : Codec) (a b : List ℕ) (samples : List ℤ) → IsPcmCodec codec → All (λ x. x < 256) a → All (λ x. x < 256) b → StandFor codec a samples → StandFor codec b samples → a ≡ b }
 {}
 
-/// Bytes of whole samples, decoded and encoded with the same codec, are those bytes.
+/// Bytes of whole samples, decoded and encoded with the same PCM codec, are those bytes.
 pub fn encoding_gives_decoded_bytes_back()
-    ensures { (codec : Codec) (bytes again : List ℕ) (count : ℕ) → length bytes ≡ sample_bytes codec * count → All (λ x. x < 256) bytes → All (λ x. x < 256) again
+    ensures { (codec : Codec) (bytes again : List ℕ) (count : ℕ) → IsPcmCodec codec → length bytes ≡ sample_bytes codec * count → All (λ x. x < 256) bytes → All (λ x. x < 256) again
         → StandFor codec again (samples_of codec bytes) → again ≡ bytes }
 {}
 
@@ -32,7 +32,7 @@ pub fn encoding_gives_planes_back()
     ensures { (head : StreamHead) (packet : Pkt) (frame : VFrame) → IsFrameIn head packet frame → frame.planes ≡ packet.bytes }
 {}
 
-/// The bytes that stand for samples are these, and no others do.
+/// The bytes of a PCM codec that stand for samples are these, and no others do.
 pub fn samples_have_one_form()
-    ensures { (codec : Codec) (bytes : List ℕ) (samples : List ℤ) → All (λ x. x < 256) bytes → StandFor codec bytes samples → bytes ≡ bytes_of codec samples }
+    ensures { (codec : Codec) (bytes : List ℕ) (samples : List ℤ) → IsPcmCodec codec → All (λ x. x < 256) bytes → StandFor codec bytes samples → bytes ≡ bytes_of codec samples }
 {}

@@ -1,6 +1,6 @@
 // The expected values are two's complement and the middle 128, written out by hand.
 ghost use Rattle.std.specs.Prelude.{◌≡◌, ◌≤◌, IfOk, length};
-ghost use Rattle.ff_frame.specs.Lanes.{IsFrameOf};
+ghost use Rattle.ff_frame.specs.Lanes.{IsPcmCodec, IsFrameOf};
 ghost use Rattle.ff_frame.specs.Video.{IsVideo};
 ghost use Rattle.ff_pcm.specs.Samples.{depth};
 
@@ -12,6 +12,7 @@ use std::test::Fail;
 
 // One channel of samples in twelve bytes, decoded.
 fn decoded(alloc: Global, codec: Codec, bits: u8, bytes: &[u8]) -> Result<AFrame, Fail>
+    requires pcm { IsPcmCodec codec }
     requires own { bits ≡ depth codec }
     requires twelve { length bytes.now ≡ 12 }
     ensures { IfOk result (λ frame. IsFrameOf 8000 bits 1 frame) }
@@ -41,6 +42,7 @@ fn there_and_back(
     bits: u8,
     bytes: &[u8],
 ) -> Result<(AFrame, Vec<u8>), Fail>
+    requires pcm { IsPcmCodec codec }
     requires own { bits ≡ depth codec }
     requires twelve { length bytes.now ≡ 12 }
 {
@@ -51,6 +53,7 @@ fn there_and_back(
 
 // The same at another depth.
 fn at_bits(alloc: Global, codec: Codec, bits: u8, bytes: &[u8], to: u8) -> Result<Vec<i32>, Fail>
+    requires pcm { IsPcmCodec codec }
     requires own { bits ≡ depth codec }
     requires twelve { length bytes.now ≡ 12 }
     requires some { 4 ≤ to }

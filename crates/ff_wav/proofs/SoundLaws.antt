@@ -5,7 +5,7 @@ use Rattle.std.specs.Str.{bytes_eq}
 use Rattle.std.proofs.lemmas.List.{length-take}
 use Rattle.std.proofs.lemmas.Bool.Decides.{nat_tests}
 use Rattle.ff_frame.specs.declared.head.StreamHead.{StreamHead}
-use Rattle.ff_frame.specs.Lanes.{sample_bytes}
+use Rattle.ff_frame.specs.Lanes.{IsPcmCodec, sample_bytes}
 use Rattle.ff_frame.specs.declared.head.Codec.TheVariants.{PcmU8, PcmS16le, PcmS24le, PcmS32le}
 use Rattle.ff_wav.specs.declared.head.WavHead.{WavHead}
 use Rattle.ff_wav.specs.declared.head.HeadFault.{HeadFault}
@@ -59,13 +59,19 @@ depth_at n false false false false ep eq er es e = cc
 depth_good : (n : ℕ) → not (n == 8 || n == 16 || n == 24 || n == 32) ≡ false → n ≡ 8 * sample_bytes (codec_of n)
 depth_good n e = depth_at n (n == 8) (n == 16) (n == 24) (n == 32) refl refl refl refl e
 
+pcm_at : (p q r : Bool) → IsPcmCodec (cond p PcmU8 (cond q PcmS16le (cond r PcmS24le PcmS32le)))
+pcm_at true q r = tt
+pcm_at false true r = tt
+pcm_at false false true = tt
+pcm_at false false false = tt
+
 result_err : (e : HeadFault) → GoodResult (Err e)
 unfolding GoodResult
 result_err e = tt
 
 result_ok : (channels rate bits : ℕ) → (1 ≤ channels) × (channels ≤ 8) → (1 ≤ rate) × (rate < 2 ^ 31) → bits ≡ 8 * sample_bytes (codec_of bits) → GoodResult (Ok (stream_of channels rate bits))
 unfolding GoodResult
-result_ok channels rate bits c r d = record { some_channels = c.0; few_channels = c.1; depth = d; some_rate = r.0; small_rate = r.1; ticks = refl }
+result_ok channels rate bits c r d = record { some_channels = c.0; few_channels = c.1; coded = pcm_at (bits == 8) (bits == 16) (bits == 24); depth = d; some_rate = r.0; small_rate = r.1; ticks = refl }
 
 chain : (a b c d : Bool) (e f g h : HeadFault) (r : Result StreamHead HeadFault) → (a ≡ false → b ≡ false → c ≡ false → GoodResult r) → GoodResult (cond a (Err e) (cond b (Err f) (cond c (Err g) (cond d (Err h) r))))
 chain true b c d e f g h r k = result_err e

@@ -6,9 +6,9 @@ use Rattle.std.specs.Str.{bytes_eq}
 use Rattle.std.proofs.lemmas.Bool.Decides.{nat_tests}
 use Rattle.std.proofs.lemmas.Nat.{mul-le}
 use Rattle.ff_time.specs.Fraction.{Fraction}
-use Rattle.ff_frame.specs.Lanes.{sample_bytes}
+use Rattle.ff_frame.specs.Lanes.{IsPcmCodec, sample_bytes}
 use Rattle.ff_frame.specs.declared.head.Codec.{Codec}
-use Rattle.ff_frame.specs.declared.head.Codec.TheVariants.{PcmU8, PcmS16le, PcmS24le, PcmS32le}
+use Rattle.ff_frame.specs.declared.head.Codec.TheVariants.{PcmU8, PcmS16le, PcmS24le, PcmS32le, Flac, RawVideo}
 use Rattle.ff_frame.specs.declared.head.StreamHead.{StreamHead}
 use Rattle.ff_frame.specs.declared.head.StreamHead.TheVariants.{Audio, Video}
 use Rattle.ff_wav.specs.declared.head.Step.TheVariants.{Decide, Skip}
@@ -71,29 +71,37 @@ fields_are at size channels rate block bits bs s es ec er ek eb ok = let f = ap 
 
 -- ---- the fields of a stream that is written
 
-codec_back : (codec : Codec) → codec_of (8 * sample_bytes codec) ≡ codec
-codec_back PcmU8 = refl
-codec_back PcmS16le = refl
-codec_back PcmS24le = refl
-codec_back PcmS32le = refl
+codec_back : (codec : Codec) → IsPcmCodec codec → codec_of (8 * sample_bytes codec) ≡ codec
+codec_back PcmU8 h = refl
+codec_back PcmS16le h = refl
+codec_back PcmS24le h = refl
+codec_back PcmS32le h = refl
+codec_back Flac h = absurd h
+codec_back RawVideo h = absurd h
 
 depth_known : (codec : Codec) → not (8 * sample_bytes codec == 8 || 8 * sample_bytes codec == 16 || 8 * sample_bytes codec == 24 || 8 * sample_bytes codec == 32) ≡ false
 depth_known PcmU8 = refl
 depth_known PcmS16le = refl
 depth_known PcmS24le = refl
 depth_known PcmS32le = refl
+depth_known Flac = refl
+depth_known RawVideo = refl
 
 depth_bytes : (codec : Codec) → 8 * sample_bytes codec / 8 ≡ sample_bytes codec
 depth_bytes PcmU8 = refl
 depth_bytes PcmS16le = refl
 depth_bytes PcmS24le = refl
 depth_bytes PcmS32le = refl
+depth_bytes Flac = refl
+depth_bytes RawVideo = refl
 
 depth_small : (codec : Codec) → sample_bytes codec ≤ 4
 depth_small PcmU8 = omega arith
 depth_small PcmS16le = omega arith
 depth_small PcmS24le = omega arith
 depth_small PcmS32le = omega arith
+depth_small Flac = omega arith
+depth_small RawVideo = omega arith
 
 channels_known : (n : ℕ) → 1 ≤ n → n ≤ 8 → not (nat_le 1 n && nat_le n 8) ≡ false
 channels_known n some few = grind (arith, nat_tests)
@@ -112,7 +120,7 @@ format_at_depth at channels rate codec sc fc sr fr =
 
 stream_back : (base : Fraction) (rate bits channels : ℕ) (codec : Codec) → IsPcmSound base rate bits channels codec → stream_of channels rate (8 * sample_bytes codec) ≡ Audio base rate bits channels codec
 stream_back base rate bits channels codec h =
-    ap (λ (c : Codec). Audio (record { num = 1; den = rate }) rate (8 * sample_bytes codec) channels c) (codec_back codec)
+    ap (λ (c : Codec). Audio (record { num = 1; den = rate }) rate (8 * sample_bytes codec) channels c) (codec_back codec h.coded)
     ∙ (ap (λ (b : Fraction). Audio b rate (8 * sample_bytes codec) channels codec) (sym h.ticks) ∙ ap (λ n. Audio base rate n channels codec) (sym h.depth))
 
 format_back : (at : ℕ) (base : Fraction) (rate bits channels : ℕ) (codec : Codec) → IsPcmSound base rate bits channels codec → format_of at channels rate (channels * sample_bytes codec) bits ≡ Ok (Audio base rate bits channels codec)
@@ -297,6 +305,8 @@ some_bytes channels PcmU8 some = omega arith
 some_bytes channels PcmS16le some = omega arith
 some_bytes channels PcmS24le some = omega arith
 some_bytes channels PcmS32le some = omega arith
+some_bytes channels Flac some = omega arith
+some_bytes channels RawVideo some = omega arith
 
 some_block : (head : StreamHead) → IsStream head → 0 < block_of head
 some_block (Audio base rate bits channels codec) h = some_bytes channels codec h.some_channels

@@ -4,7 +4,7 @@ use Rattle.std.specs.List.{range_with_len}
 use Rattle.std.specs.Option.{option_map}
 use Rattle.ff_frame.specs.declared.packet.Pkt.{Pkt}
 use Rattle.ff_time.specs.Fraction.{Fraction}
-use Rattle.ff_frame.specs.Lanes.{sample_bytes}
+use Rattle.ff_frame.specs.Lanes.{IsPcmCodec, sample_bytes}
 use Rattle.ff_frame.specs.Packet.{packet_at as packet_from}
 use Rattle.ff_frame.specs.declared.head.Codec.{Codec}
 use Rattle.ff_frame.specs.declared.head.StreamHead.{StreamHead}
@@ -48,6 +48,7 @@ demuxed head rest = packets_of head.start (block_of head.head) (body (whole_len 
 pub record IsPcmSound (base : Fraction) (rate bits channels : ℕ) (codec : Codec) : Type 0 where
   pub some_channels : 1 ≤ channels
   pub few_channels : channels ≤ 8
+  pub coded : IsPcmCodec codec
   pub depth : bits ≡ 8 * sample_bytes codec
   pub some_rate : 1 ≤ rate
   pub small_rate : rate < 2 ^ 31

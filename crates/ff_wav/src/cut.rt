@@ -3,7 +3,7 @@ ghost use Rattle.std.specs.Option.{option_map};
 ghost use Rattle.ff_frame.specs.declared.packet.Pkt.{Pkt};
 ghost use Rattle.ff_wav.specs.declared.head.WavHead.{WavHead};
 ghost use Rattle.ff_wav.specs.Packets.{block_of, whole_len, body, packet_count, demuxed, IsHead, IsStream};
-ghost use Rattle.ff_frame.specs.Lanes.{sample_bytes};
+ghost use Rattle.ff_frame.specs.Lanes.{IsPcmCodec, sample_bytes};
 ghost use Rattle.ff_frame.specs.Packet.{packet_at as packet_from};
 
 use crate::head::WavHead;
@@ -32,6 +32,7 @@ pub struct WavCut {
 
 // The bytes of a sample.
 pub(crate) fn size_of_sample(codec: Codec) -> usize
+    requires { IsPcmCodec codec }
     ensures { result ≡ sample_bytes codec }
 {
     match codec {
@@ -39,6 +40,7 @@ pub(crate) fn size_of_sample(codec: Codec) -> usize
         Codec::PcmS16le => 2,
         Codec::PcmS24le => 3,
         Codec::PcmS32le => 4,
+        Codec::Flac | Codec::RawVideo => unreachable!(),
     }
 }
 

@@ -1,6 +1,6 @@
 ghost use Rattle.std.specs.Prelude.{◌≡◌, ◌+◌, ◌%◌, ◌<◌, ◌≤◌, ◌↔◌, IsErr, IsTrue, IfOk, OnOk, OnErr};
-ghost use Rattle.ff_frame.specs.Lanes.{IsSoundHead};
-ghost use Rattle.ff_wav.specs.Sound.{IsSoundHead-prop};
+ghost use Rattle.ff_frame.specs.Lanes.{IsPcmCoded};
+ghost use Rattle.ff_wav.specs.Sound.{IsPcmCoded-prop};
 
 use crate::header::{header_bytes, len_of_header};
 use ff_frame::StreamHead;
@@ -21,7 +21,7 @@ pub struct WavPut {
     /// The body's bytes so far.
     size: u64,
     ghost small: { size ≤ 4294967200 },
-    ghost sound: { IsSoundHead head } by { IsSoundHead-prop head },
+    ghost coded: { IsPcmCoded head } by { IsPcmCoded-prop head },
 }
 
 impl WavPut {
@@ -29,7 +29,7 @@ impl WavPut {
 
     /// For a stream of linear PCM, with no byte of its body counted.
     pub fn new(alloc: Global, head: &StreamHead) -> WavPut
-        requires { IsSoundHead head.now }
+        requires { IsPcmCoded head.now }
         ensures head { written_head result ≡ head.now }
         ensures size { body_size result ≡ 0 }
     {

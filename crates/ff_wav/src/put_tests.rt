@@ -1,6 +1,6 @@
 // Headers written out by hand from the RIFF WAVE layout: of 3 sample frames at 44,100 a second.
 ghost use Rattle.std.specs.Prelude.{IfOk};
-ghost use Rattle.ff_frame.specs.Lanes.{IsSoundHead};
+ghost use Rattle.ff_frame.specs.Lanes.{IsPcmCodec, IsPcmCoded};
 ghost use Rattle.ff_frame.specs.declared.head.StreamHead.{StreamHead};
 
 use super::WavPut;
@@ -15,17 +15,21 @@ const GUID: [u8; 16] = [
     1, 0, 0, 0, 0, 0, 0x10, 0, 0x80, 0, 0, 0xaa, 0, 0x38, 0x9b, 0x71,
 ];
 
-fn bits_of(codec: Codec) -> u8 {
+fn bits_of(codec: Codec) -> u8
+    requires { IsPcmCodec codec }
+{
     match codec {
         Codec::PcmU8 => 8,
         Codec::PcmS16le => 16,
         Codec::PcmS24le => 24,
         Codec::PcmS32le => 32,
+        Codec::Flac | Codec::RawVideo => unreachable!(),
     }
 }
 
 fn sound(codec: Codec, channels: u8) -> Result<StreamHead, Fail>
-    ensures { IfOk result IsSoundHead }
+    requires { IsPcmCodec codec }
+    ensures { IfOk result IsPcmCoded }
 {
     Ok(StreamHead::Audio {
         tb: Rational::new(1, 44100)?,
@@ -38,7 +42,7 @@ fn sound(codec: Codec, channels: u8) -> Result<StreamHead, Fail>
 
 // The header before a body, and after so many bytes of it; and whether a pad byte follows them.
 fn headers(alloc: Global, head: &StreamHead, size: u64) -> Result<(Vec<u8>, Vec<u8>, bool), Fail>
-    requires { IsSoundHead head.now }
+    requires { IsPcmCoded head.now }
 {
     let mut put = WavPut::new(alloc, head);
     let first = put.first()?;
@@ -68,7 +72,9 @@ fn written(
     riff: &[u8],
     format: &[u8],
     data: &[u8],
-) -> Result<(), Fail> {
+) -> Result<(), Fail>
+    requires { IsPcmCodec codec }
+{
     let alloc = rt.alloc();
     let head = sound(codec, channels)?;
     let size = 3 * channels as u64 * (bits_of(codec) as u64 / 8);
@@ -190,7 +196,7 @@ fn counted(
     one: u64,
     more: u64,
 ) -> Result<(bool, bool, Vec<u8>), Fail>
-    requires { IsSoundHead head.now }
+    requires { IsPcmCoded head.now }
 {
     let mut put = WavPut::new(alloc, head);
     let first = put.add(one) == Ok(());

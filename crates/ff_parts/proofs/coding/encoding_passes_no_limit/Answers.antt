@@ -6,4 +6,4 @@ use Rattle.ff_parts.specs.MapLaws.{map_valid}
 use Rattle.ff_parts.proofs.coding.encoding_passes_no_limit.Goals as goal
 
 pub returns : goal.returns
-returns c codec head frames sound valid = valid_within (Packets (coded_head codec head)) (encoded codec head frames) (map_valid (Frames head) (Packets (coded_head codec head)) (encoded_item codec) (encoding_carries codec head sound) frames valid)
+returns c codec head frames pcm sound valid = valid_within (Packets (coded_head codec head)) (encoded codec head frames) (map_valid (Frames head) (Packets (coded_head codec head)) (encoded_item codec) (encoding_carries codec head pcm sound) frames valid)

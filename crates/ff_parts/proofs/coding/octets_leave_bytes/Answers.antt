@@ -1,4 +1,4 @@
-use Rattle.std.proofs.Common.{◌≡◌, ℕ, ◌<◌, List, ap}
+use Rattle.std.proofs.Common.{ℕ, List, ap}
 use Rattle.ff_frame.specs.declared.packet.Pkt.{Pkt}
 use Rattle.ff_pcm.proofs.SampleLaws.{are_bytes}
 use Rattle.ff_parts.specs.DecodeLaws.{octets_same}

@@ -1,4 +1,4 @@
-use Rattle.std.proofs.Common.{◌≡◌, ◌≢◌, ℕ, ◌<◌, false, List, [], map, length, slice_index_or, Option, None, Some, refl, ap, sym, ◌∙◌, subst, arith}
+use Rattle.std.proofs.Common.{◌≡◌, ◌≢◌, ℕ, ◌<◌, false, List, [], map, length, slice_index_or, Option, None, Some, ap, sym, ◌∙◌, subst, arith}
 use Rattle.ff_frame.specs.Stream.{LiesBelow, opened}
 use Rattle.ff_net.specs.declared.fault.Fault.{Fault}
 use Rattle.ff_net.specs.declared.fault.Fault.TheVariants.{NoMemory}
@@ -10,7 +10,7 @@ use Rattle.ff_net.specs.Nodes.{IsSound, machine_of, in_wires_of}
 use Rattle.ff_net.specs.Serial.{AreShaped, NetStands, Settled, parts_of}
 use Rattle.ff_path.specs.declared.chain.Chain.{Chain}
 use Rattle.ff_path.specs.declared.chain.NodeFault.{NodeFault}
-use Rattle.ff_path.specs.Chains.{HasLanes, Fares, AreSound, FedPart, FedAll, FirstFault, machine_at, inputs_of}
+use Rattle.ff_path.specs.Chains.{HasLanes, Fares, AreSound, FedPart, FedAll, FirstFault, machine_at}
 use Rattle.ff_path.proofs.ChainSteps.{written_back, listed, machines_of, same_chain, row_of, row_shaped, row_upward, row_sink, net_at_start, chain_fares, chain_lanes, chain_part, chain_all, chain_sound, chain_fault, chain_cause}
 use Rattle.ff_path.proofs.chain.run_chain.Goals as goal
 
