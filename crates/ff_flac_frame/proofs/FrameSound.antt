@@ -483,7 +483,7 @@ all_replicate : (n d : ℕ) → 2 ≤ d → AllByRecursion (λ x. 2 ≤ x) (repl
 all_replicate zero d h = tt
 all_replicate (suc n) d h = (h, all_replicate n d h)
 
-depths_low : (form channels depth : ℕ) → 2 ≤ depth → AllByRecursion (λ x. 2 ≤ x) (depths form channels depth)
+pub depths_low : (form channels depth : ℕ) → 2 ≤ depth → AllByRecursion (λ x. 2 ≤ x) (depths form channels depth)
 unfolding depths
 depths_low form channels depth h =
     let P : List ℕ → Type 0 = AllByRecursion (λ x. 2 ≤ x) in
