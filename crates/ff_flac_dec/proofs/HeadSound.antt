@@ -11,14 +11,14 @@ use Rattle.ff_flac_dec.specs.declared.head.HeadFault.{HeadFault}
 use Rattle.ff_flac_dec.specs.declared.head.HeadFault.TheVariants.{Damaged, Unsupported}
 use Rattle.ff_flac_dec.specs.declared.head.Step.{Step}
 use Rattle.ff_flac_dec.specs.declared.head.Step.TheVariants.{Wait, Decide, Skip}
-use Rattle.ff_flac_dec.specs.Streams.{stream_of, IsFlac, IsHead}
+use Rattle.ff_flac_dec.specs.Streams.{stream_of, IsFlacHead, IsHead}
 use Rattle.ff_flac_dec.specs.Blocks.{agrees, number_24, kind_of, is_last, info_len, rate_in, channels_in, bits_in, sound_of, closes, info, other, after, block}
 use Rattle.ff_flac_dec.specs.Heads.{Found, magic, walk, within, reading, early, head_limit, answered, answered_or, answer}
 use Rattle.ff_flac_dec.proofs.AgreeLaws.{bool_cases}
 use Rattle.ff_flac_dec.proofs.HeadLaws.{stepped, within_some, reading_at, reading_else}
 
 abbrev pub IsGood : StreamHead → Type 0
-IsGood h = IsFlac h × IsStream (stream_of h)
+IsGood h = IsFlacHead h × IsStream (stream_of h)
 
 abbrev pub IsGoodSoFar : Option StreamHead → Type 0
 IsGoodSoFar f = (h : StreamHead) → f ≡ Some h → IsGood h

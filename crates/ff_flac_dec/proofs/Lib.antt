@@ -12,3 +12,4 @@ pub mod HeadSound
 pub mod Shortest
 pub mod UnitLaws
 pub mod CutLaws
+pub mod Longest

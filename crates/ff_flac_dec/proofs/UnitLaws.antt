@@ -59,13 +59,14 @@ wait_more s bs e = by_answer (frame s (bits bs)) refl
     by_answer Bad h = let clash = sym (unit_as s bs Bad h) ∙ e in cc
 
 -- a frame has 8 bytes at least, and at most 65,535 sample frames
-pub begins_bounds : (s : FlacStream) → IsStream s → (bs : List ℕ) (f : Frame) (n len block : ℕ) → Begins s bs f n → n ≡ len → f.header.block ≡ block → (8 ≤ len) × (len ≤ length bs) × (block ≤ 65535)
+pub begins_bounds : (s : FlacStream) → IsStream s → (bs : List ℕ) (f : Frame) (n len block : ℕ) → Begins s bs f n → n ≡ len → f.header.block ≡ block → (8 ≤ len) × (len ≤ length bs) × (1 ≤ block) × (block ≤ 65535)
 begins_bounds s i bs f n len block h l k =
+    let some : 1 ≤ f.header.block = (in_shape s i bs f n h).header.some in
     let few : f.header.block ≤ 65535 = (in_shape s i bs f n h).header.few in
     let long : 8 ≤ n = eight s i bs f n h in
-    (omega (arith, long, l), omega (arith, h.0, l), omega (arith, few, k))
+    (omega (arith, long, l), omega (arith, h.0, l), omega (arith, some, k), omega (arith, few, k))
 
-pub whole_at : (s : FlacStream) → IsStream s → (bs : List ℕ) (n block : ℕ) → unit s bs ≡ Whole n block → (8 ≤ n) × (n ≤ length bs) × (block ≤ 65535)
+pub whole_at : (s : FlacStream) → IsStream s → (bs : List ℕ) (n block : ℕ) → unit s bs ≡ Whole n block → (8 ≤ n) × (n ≤ length bs) × (1 ≤ block) × (block ≤ 65535)
 whole_at s i bs n block e =
     let w = whole_begins s i bs n block e in
     begins_bounds s i bs w.0 n n block w.1 refl w.2

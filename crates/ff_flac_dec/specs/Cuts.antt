@@ -1,5 +1,5 @@
 -- A cut does not keep what it was fed and gave: it is tied to it.
-use Rattle.std.specs.Prelude.{◌≡◌, ℕ, ◌+◌, ◌≤◌, Bool, true, List, [], ◌++◌, drop, length}
+use Rattle.std.specs.Prelude.{◌≡◌, ℕ, ◌+◌, ◌^◌, ◌≤◌, Bool, true, List, [], ◌++◌, drop, length}
 use Rattle.ff_frame.specs.declared.packet.Pkt.{Pkt}
 use Rattle.ff_flac_dec.specs.declared.head.FlacHead.{FlacHead}
 use Rattle.ff_flac_dec.specs.declared.cut.FlacCut.{FlacCut}
@@ -28,6 +28,10 @@ waiting_in cut = cut.held.bytes
 
 abbrev pub room_in : FlacCut → ℕ
 room_in cut = cut.held.room
+
+-- A frame has fewer bytes: at most 8 channels, each of 65,535 residuals of 2^32 + 30 bits, and some 2^21 bits more.
+abbrev pub longest_frame : ℕ
+longest_frame = 2 ^ 48
 
 -- the same head and place, and the same end of the input
 pub record SameElsewhere (before after : FlacCut) : Type 0 where

@@ -19,12 +19,12 @@ pub record IsFlacSound (base : Fraction) (rate : ℕ) (codec : Codec) : Type 0 w
   pub coded : codec ≡ Flac
   pub ticks : base ≡ record { num = 1; den = rate }
 
-abbrev pub IsFlac : StreamHead → Type 0
-IsFlac (Audio base rate bits channels codec) = IsFlacSound base rate codec
-IsFlac (Video base format width height sar_num sar_den) = ⊥
+abbrev pub IsFlacHead : StreamHead → Type 0
+IsFlacHead (Audio base rate bits channels codec) = IsFlacSound base rate codec
+IsFlacHead (Video base format width height sar_num sar_den) = ⊥
 
 -- what is true of every head that is read
 pub record IsHead (head : FlacHead) : Type 0 where
-  pub sound : IsFlac head.head
+  pub sound : IsFlacHead head.head
   pub stream : IsStream (stream_of head.head)
   pub start : head.start ≤ 2 ^ 28

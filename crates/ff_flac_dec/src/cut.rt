@@ -1,5 +1,6 @@
 ghost use Rattle.std.specs.Prelude.{◌≡◌, ◌≢◌, ◌+◌, ◌*◌, ◌^◌, ◌≤◌, ◌<◌, ◌↔◌, ℕ, List, [], ◌++◌, Some, None, true, false, length, IfOk, OnOk, OnErr, IsOk, slice_get, pos};
 ghost use Rattle.ff_frame.specs.Packet.{packet_at};
+ghost use Rattle.ff_frame.specs.Lanes.{IsFlac};
 ghost use Rattle.ff_frame.specs.declared.packet.Pkt.{Pkt};
 ghost use Rattle.ff_flac_frame.specs.Frame.{IsStream};
 ghost use Rattle.ff_flac_dec.specs.declared.head.FlacHead.{FlacHead};
@@ -56,7 +57,7 @@ fn packet(
 }
 
 impl FlacCut {
-    ghost use Rattle.ff_flac_dec.specs.Cuts.{IsRest, Cuts, SameElsewhere, head_of, place_of, has_ended, waiting_in, room_in};
+    ghost use Rattle.ff_flac_dec.specs.Cuts.{IsRest, Cuts, SameElsewhere, head_of, place_of, has_ended, waiting_in, room_in, longest_frame};
 
     /// A cut of an input with this head, which `read_head` gave: fed nothing, it has given no packet.
     pub fn new(alloc: Global, head: &FlacHead) -> FlacCut
@@ -158,11 +159,12 @@ impl FlacCut {
         ensures waits { has_ended self.old ≡ false → unit (stream_of (head_of self.old).head) (waiting_in self.old) ≡ Wait → IfOk result (λ cut. cut ≡ Cut.NotYet) }
         ensures err { OnErr result (self.new ≡ self.old) }
         ensures ended { has_ended self.new ≡ has_ended self.old }
-        ensures still { result ≡ Ok Cut.NotYet → self.new ≡ self.old }
+        ensures still { result ≡ Ok Cut.NotYet → (self.new ≡ self.old) × (length (waiting_in self.old) < longest_frame) }
         ensures stops { result ≡ Ok Cut.End → self.new ≡ self.old }
         ensures stays { (offset : ℕ) → result ≡ Ok (Cut.Broken offset) → (self.new ≡ self.old) × (offset ≡ place_of self.old) }
         ensures head { head_of self.new ≡ head_of self.old }
         ensures further { place_of self.new ≤ place_of self.old + length (waiting_in self.old) }
+        ensures lasts { (p : Pkt) → result ≡ Ok (Cut.Pkt p) → IsFlac p }
         ensures place { (p : Pkt) → result ≡ Ok (Cut.Pkt p) → (p.pos ≡ place_of self.old) × (place_of self.new ≡ place_of self.old + length p.bytes) × (8 ≤ length p.bytes) }
     {
         let stream = self.head.stream();

@@ -24,7 +24,7 @@ pub(crate) fn front_of(
 ) -> Result<Front, AllocError>
     requires { IsStream stream.now }
     ensures exact { IfOk result (λ found. found ≡ unit stream.now bytes.now) }
-    ensures bounds { (len block : ℕ) → result ≡ Ok (Front.Whole len block) → (8 ≤ len) × (len ≤ length bytes.now) × (block ≤ 65535) }
+    ensures bounds { (len block : ℕ) → result ≡ Ok (Front.Whole len block) → (8 ≤ len) × (len ≤ length bytes.now) × (1 ≤ block) × (block ≤ 65535) }
 {
     match frame_at(alloc, bytes, stream) {
         Ok(frame) => Ok(Front::Whole(frame.len, frame.block)),
