@@ -2,3 +2,8 @@ pub mod Bounds
 pub mod Values
 pub mod Channels
 pub mod Joins
+pub mod Streams
+pub mod Blocks
+pub mod Heads
+pub mod Packets
+pub mod Cuts

@@ -1,21 +1,36 @@
-//! FLAC decoding (RFC 9639): the samples that a frame stands for.
+//! FLAC reading (RFC 9639): heads, and the samples that a frame stands for.
 //!
-//! `specs/Values` says which samples a subframe stands for, `specs/Channels` which channels a frame has.
+//! `specs/Blocks` says what one metadata block does to the reading of a head, `specs/Heads` what the head of a whole input is
+//! and which first bytes decide it, `specs/Streams` what a head says of the frames. `specs/Values` says which samples a subframe
+//! stands for, `specs/Channels` which channels a frame has. `specs/Packets` says which packets an input has, and `specs/Cuts`
+//! how a cut's state is tied to what it was fed and gave.
 #![tactic(auto)]
 
+mod block;
 mod channel;
+mod cut;
 mod end;
 mod fixed;
+mod frame;
+mod front;
 mod head;
 mod interleave;
 mod linear;
 mod sound;
 mod stereo;
+mod walk;
 
+pub use cut::FlacCut;
 pub use end::DecodeEnd;
 pub use ff_flac_frame::{FlacFrame, FlacStream, FrameEnd, SubKind, Subframe};
+pub use frame::frame_at;
 pub use head::FlacHead;
 pub use sound::decode;
+pub use walk::{FlacWalk, read_head};
 
+#[cfg(test)]
+mod cut_tests;
+#[cfg(test)]
+mod head_tests;
 #[cfg(test)]
 mod tests;

@@ -7,6 +7,7 @@ ghost use Rattle.ff_flac_frame.specs.Parts.{part_of, frame_of};
 ghost use Rattle.ff_flac_dec.specs.Values.{channel_samples};
 ghost use Rattle.ff_flac_dec.specs.Channels.{AllChannels, IsCoded, IsWithinDepths, left_right, first_depth, second_depth, channels_of, decoded};
 ghost use Rattle.ff_flac_dec.specs.Joins.{items_of};
+ghost use Rattle.ff_flac_dec.specs.Streams.{stream_of};
 
 use crate::channel::samples_of;
 use crate::end::DecodeEnd;
@@ -110,24 +111,21 @@ fn channels(
     Ok(both)
 }
 
-/// The sound that a frame stands for, which starts at this tick (RFC 9639, sections 9.2 and 4.2). The frame is one that
-/// `frame_at` gave for some bytes of the stream. OutOfDepth exactly where a sample leaves its subframe's depth or the
-/// stream's.
-pub fn decode(
+/// The sound that a frame of a stream stands for, which starts at this tick.
+fn sound(
     alloc: Global,
     frame: &FlacFrame,
-    head: &FlacHead,
+    stream: &FlacStream,
     pts: i64,
 ) -> Result<AFrame, DecodeEnd>
-    requires stream { IsStream head.now.stream }
-    requires frame { (bytes : List ℕ) × (number : ℕ) × (len : ℕ) × Begins head.now.stream bytes (frame_of number frame.now) len }
-    ensures ok { IfOk result (λ a. a ≡ decoded head.now.stream pts (frame_of 0 frame.now)) }
+    requires stream { IsStream stream.now }
+    requires frame { (bytes : List ℕ) × (number : ℕ) × (len : ℕ) × Begins stream.now bytes (frame_of number frame.now) len }
+    ensures ok { IfOk result (λ a. a ≡ decoded stream.now pts (frame_of 0 frame.now)) }
     ensures sound { IfOk result (λ a. IsAudio a.bits a.channels a.samples) }
-    ensures within { IfOk result (λ _. IsWithinDepths head.now.stream (frame_of 0 frame.now)) }
-    ensures out { IsErrOf result DecodeEnd.OutOfDepth → IsWithinDepths head.now.stream (frame_of 0 frame.now) → ⊥ }
+    ensures within { IfOk result (λ _. IsWithinDepths stream.now (frame_of 0 frame.now)) }
+    ensures out { IsErrOf result DecodeEnd.OutOfDepth → IsWithinDepths stream.now (frame_of 0 frame.now) → ⊥ }
 {
-    let stream = head.stream;
-    let channels = channels(alloc, frame, &stream)?;
+    let channels = channels(alloc, frame, stream)?;
     let samples = interleave(alloc, channels.as_slice(), frame.block)?;
     Ok(AFrame::make(
         pts,
@@ -136,4 +134,24 @@ pub fn decode(
         stream.channels,
         Samples::new(samples),
     ))
+}
+
+/// The sound that a frame stands for, which starts at this tick (RFC 9639, sections 9.2 and 4.2). The frame is one that
+/// `frame_at` gave for some bytes under this head. OutOfDepth exactly where a sample leaves its subframe's depth or the
+/// stream's.
+pub fn decode(
+    alloc: Global,
+    frame: &FlacFrame,
+    head: &FlacHead,
+    pts: i64,
+) -> Result<AFrame, DecodeEnd>
+    requires stream { IsStream (stream_of head.now.head) }
+    requires frame { (bytes : List ℕ) × (number : ℕ) × (len : ℕ) × Begins (stream_of head.now.head) bytes (frame_of number frame.now) len }
+    ensures ok { IfOk result (λ a. a ≡ decoded (stream_of head.now.head) pts (frame_of 0 frame.now)) }
+    ensures sound { IfOk result (λ a. IsAudio a.bits a.channels a.samples) }
+    ensures within { IfOk result (λ _. IsWithinDepths (stream_of head.now.head) (frame_of 0 frame.now)) }
+    ensures out { IsErrOf result DecodeEnd.OutOfDepth → IsWithinDepths (stream_of head.now.head) (frame_of 0 frame.now) → ⊥ }
+{
+    let stream = head.stream();
+    sound(alloc, frame, &stream, pts)
 }

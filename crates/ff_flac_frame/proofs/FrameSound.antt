@@ -295,7 +295,7 @@ unfolding order_fits
 order_at block order h =
     and_from _ _ refl (and_from _ _ (eq-eqb (block % 2 ^ 0) 0 (omega arith)) (le-leb order (block / 2 ^ 0) (omega arith)))
 
-whole_block : (block order p : ℕ) → order ≤ block → order_fits block order p ≡ true → (block / 2 ^ p - order) + (2 ^ p - 1) * (block / 2 ^ p) ≡ block - order
+pub whole_block : (block order p : ℕ) → order ≤ block → order_fits block order p ≡ true → (block / 2 ^ p - order) + (2 ^ p - 1) * (block / 2 ^ p) ≡ block - order
 unfolding order_fits
 whole_block block order p le h =
     let t = and_parts (eqb (block % 2 ^ p) 0) (leb order (block / 2 ^ p)) (and_parts (ltb p 16) (eqb (block % 2 ^ p) 0 && leb order (block / 2 ^ p)) h).1 in
@@ -483,7 +483,7 @@ all_replicate : (n d : ℕ) → 2 ≤ d → AllByRecursion (λ x. 2 ≤ x) (repl
 all_replicate zero d h = tt
 all_replicate (suc n) d h = (h, all_replicate n d h)
 
-depths_low : (form channels depth : ℕ) → 2 ≤ depth → AllByRecursion (λ x. 2 ≤ x) (depths form channels depth)
+pub depths_low : (form channels depth : ℕ) → 2 ≤ depth → AllByRecursion (λ x. 2 ≤ x) (depths form channels depth)
 unfolding depths
 depths_low form channels depth h =
     let P : List ℕ → Type 0 = AllByRecursion (λ x. 2 ≤ x) in

@@ -1,0 +1,161 @@
+ghost use Rattle.std.specs.Prelude.{◌≡◌, ◌+◌, ◌*◌, ◌≤◌, ◌<◌, ◌^◌, length, drop, Ok, Some};
+ghost use Rattle.ff_flac_dec.specs.Blocks.{agrees, number_24, kind_of, is_last, info_len, rate_in, channels_in, bits_in, sound_of, closes, info, other, after, block};
+
+use crate::head::{FlacHead, HeadFault, Step};
+use ff_frame::{Codec, StreamHead};
+use ff_time::{Rational, TimeError};
+
+/// Whether the bytes agree with these, as far as both go.
+pub(crate) fn agree(wanted: &[u8], bytes: &[u8]) -> bool
+    ensures { result ≡ agrees wanted.now bytes.now }
+{
+    let count = bytes.len().min(wanted.len());
+    'bytes: for i in 0..count {
+        if bytes[i] != wanted[i] {
+            return false;
+        }
+    }
+    true
+}
+
+fn at_24(bytes: &[u8], place: usize) -> u32
+    requires { place + 3 ≤ length bytes.now }
+    ensures value { result ≡ number_24 place bytes.now }
+    ensures bound { result < 2 ^ 24 }
+{
+    65536 * bytes[place] as u32 + 256 * bytes[place + 1] as u32 + bytes[place + 2] as u32
+}
+
+fn rate_at(bytes: &[u8]) -> u32
+    requires { 17 ≤ length bytes.now }
+    ensures value { result ≡ rate_in bytes.now }
+    ensures bound { result < 2 ^ 20 }
+{
+    at_24(bytes, 14) / 16 % (1 << 20)
+}
+
+fn channels_at(bytes: &[u8]) -> u8
+    requires { 17 ≤ length bytes.now }
+    ensures { result ≡ channels_in bytes.now }
+{
+    bytes[16] / 2 % 8 + 1
+}
+
+fn bits_at(bytes: &[u8]) -> u8
+    requires { 18 ≤ length bytes.now }
+    ensures { result ≡ bits_in bytes.now }
+{
+    16 * (bytes[16] % 2) + bytes[17] / 16 + 1
+}
+
+// A time base of so many ticks a second.
+fn ticks(rate: u32) -> Result<Rational, TimeError>
+    requires some { 0 < rate }
+    requires few { rate < 2 ^ 31 }
+    ensures { result ≡ Ok (record { num = 1; den = rate }) }
+{
+    Rational::new(1, i64::from(rate))
+}
+
+// Sound with one tick a sample frame.
+fn sound(rate: u32, bits: u8, channels: u8) -> Option<StreamHead>
+    requires some { 0 < rate }
+    requires few { rate < 2 ^ 31 }
+    ensures { result ≡ Some (sound_of rate bits channels) }
+{
+    let Ok(tb) = ticks(rate) else {
+        return None;
+    };
+    Some(StreamHead::Audio {
+        tb,
+        rate,
+        bits,
+        channels,
+        codec: Codec::Flac,
+    })
+}
+
+// What comes behind a block of so many bytes.
+fn closed(size: u32, head: StreamHead, at: u64, bytes: &[u8]) -> Step
+    requires place { at < 2 ^ 32 }
+    requires small { size < 2 ^ 24 }
+    requires there { 1 ≤ length bytes.now }
+    ensures { result ≡ closes size head at bytes.now }
+{
+    if bytes[0] < 128 {
+        return Step::Skip(size, head);
+    }
+    if bytes.len() < 4 + size as usize {
+        return Step::Wait;
+    }
+    Step::Decide(Ok(FlacHead {
+        head,
+        start: at + 4 + size as u64,
+    }))
+}
+
+#[tactic(auto, unfolding(crate::specs::Blocks::info))]
+fn info_at(at: u64, bytes: &[u8]) -> Step
+    requires place { at < 2 ^ 32 }
+    requires there { 1 ≤ length bytes.now }
+    ensures { result ≡ info at bytes.now }
+{
+    if bytes[0] % 128 != 0 {
+        return Step::Decide(Err(HeadFault::Damaged { offset: at }));
+    }
+    if !agree(&[0, 0, 34], &bytes[1..]) {
+        return Step::Decide(Err(HeadFault::Damaged { offset: at }));
+    }
+    if bytes.len() < 17 {
+        return Step::Wait;
+    }
+    let rate = rate_at(bytes);
+    if rate == 0 {
+        return Step::Decide(Err(HeadFault::Unsupported { offset: at + 14 }));
+    }
+    if bytes.len() < 18 {
+        return Step::Wait;
+    }
+    let bits = bits_at(bytes);
+    if !(4 <= bits && bits <= 24) {
+        return Step::Decide(Err(HeadFault::Unsupported { offset: at + 16 }));
+    }
+    match sound(rate, bits, channels_at(bytes)) {
+        Some(head) => closed(34, head, at, bytes),
+        None => Step::Wait,
+    }
+}
+
+#[tactic(auto, unfolding(crate::specs::Blocks::other))]
+fn other_at(head: StreamHead, at: u64, bytes: &[u8]) -> Step
+    requires place { at < 2 ^ 32 }
+    requires there { 1 ≤ length bytes.now }
+    ensures { result ≡ other head at bytes.now }
+{
+    let kind = bytes[0] % 128;
+    if kind == 0 {
+        return Step::Decide(Err(HeadFault::Damaged { offset: at }));
+    }
+    if kind == 127 {
+        return Step::Decide(Err(HeadFault::Damaged { offset: at }));
+    }
+    if bytes.len() < 4 {
+        return Step::Wait;
+    }
+    closed(at_24(bytes, 1), head, at, bytes)
+}
+
+/// What the block does that begins the bytes, at this offset of the input, behind this head.
+#[tactic(auto, unfolding(crate::specs::Blocks::block))]
+pub(crate) fn block_at(format: Option<StreamHead>, at: u64, bytes: &[u8]) -> Step
+    requires { at < 2 ^ 32 }
+    ensures { result ≡ block format at bytes.now }
+{
+    if bytes.len() < 1 {
+        return Step::Wait;
+    }
+    match format {
+        None => info_at(at, bytes),
+        Some(head) => other_at(head, at, bytes),
+    }
+}
