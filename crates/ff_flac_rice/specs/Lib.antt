@@ -1,0 +1,3 @@
+pub mod Least
+pub mod Rice
+pub mod Row
