@@ -4,9 +4,9 @@ use Rattle.std.specs.List.{flat_map, sum_by, range_with_len}
 use Rattle.ff_bits.specs.Bits.{bits_of}
 
 -- 0, -1, 1, -2 .. as 0, 1, 2, 3 ..
-abbrev pub zigzag : ℤ → ℕ
-zigzag (pos n) = 2 * n
-zigzag (negsuc n) = 2 * n + 1
+abbrev pub zigzagged : ℤ → ℕ
+zigzagged (pos n) = 2 * n
+zigzagged (negsuc n) = 2 * n + 1
 
 -- as many zeros as the quotient, a one, and the low bits
 unfoldable pub rice_bits : ℕ → ℕ → List Bool

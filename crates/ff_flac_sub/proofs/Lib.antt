@@ -1,0 +1,2 @@
+pub mod Predict
+pub mod Plans

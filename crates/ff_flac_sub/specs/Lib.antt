@@ -1,0 +1,2 @@
+pub mod Subframe
+pub mod Plan
