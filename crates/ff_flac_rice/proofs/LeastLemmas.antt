@@ -6,7 +6,7 @@ use Rattle.std.proofs.lemmas.List.{map-id}
 use Rattle.std.proofs.lemmas.List.FromFn.{map-range_with_len_more}
 use Rattle.std.specs.Option.{option_map, unwrap_or, IfSome}
 use Rattle.std.specs.List.{flat_map, range_with_len, AllByRecursion}
-use Rattle.ff_flac_rice.specs.Least.{choose, least}
+use Rattle.ff_flac_rice.specs.Least.{choose, least, IsFirstLeast}
 
 pub least-nil : {A : Type 0} (f : A → ℕ) → least f [] ≡ None
 unfolding least
@@ -197,3 +197,26 @@ least_is_lowest {A} f (x ∷ y ∷ ys) =
     let low : AllByRecursion (λ z. f found.0 ≤ f z) (y ∷ ys) = subst (λ o. IfSome o (λ (a : A). AllByRecursion (λ z. f a ≤ f z) (y ∷ ys))) found.1 (least_is_lowest f (y ∷ ys)) in
     subst (λ o. IfSome o (λ (a : A). AllByRecursion (λ z. f a ≤ f z) (x ∷ y ∷ ys)))
     (sym (least-cons f x (y ∷ ys) ∙ ap (choose f (Some x)) found.1)) (lowest_with f x found.0 (y ∷ ys) low)
+
+-- ---- it is the first of the lowest
+
+first_of : {A : Type 0} (f : A → ℕ) (x : A) (xs : List A) (a : A) → AllByRecursion (λ b. f x ≤ f b) xs → Some x ≡ Some a → IsFirstLeast f (x ∷ xs) a
+first_of f x xs a h e =
+    let is : x ≡ a = ap (λ o. unwrap_or o x) e in
+    subst (IsFirstLeast f (x ∷ xs)) is ([], xs, refl, tt, h)
+
+pub first_least : {A : Type 0} (f : A → ℕ) (xs : List A) (a : A) → least f xs ≡ Some a → IsFirstLeast f xs a
+first_least f [] a h = absurd (cc (sym (least-nil f) ∙ h))
+first_least f (x ∷ []) a h = first_of f x [] a tt (sym (least_one f x) ∙ h)
+first_least {A} f (x ∷ y ∷ ys) a h =
+    let found = least_exists f y ys in
+    let b : A = found.0 in
+    let chosen : choose f (Some x) (Some b) ≡ Some a = sym (least-cons f x (y ∷ ys) ∙ ap (choose f (Some x)) found.1) ∙ h in
+    let others = first_least f (y ∷ ys) b found.1 in
+    let low : AllByRecursion (λ z. f b ≤ f z) (y ∷ ys) = subst (λ o. IfSome o (λ (a : A). AllByRecursion (λ z. f a ≤ f z) (y ∷ ys))) found.1 (least_is_lowest f (y ∷ ys)) in
+    elim (cases_lt (f b) (f x)) [
+      | inl lt ↦
+          let is : b ≡ a = ap (λ o. unwrap_or o b) (sym (choose_second f x b lt) ∙ chosen) in
+          subst (IsFirstLeast f (x ∷ y ∷ ys)) is (x ∷ others.0, others.1, ap (λ l. x ∷ l) others.2, (lt, others.3), others.4)
+      | inr le ↦ first_of f x (y ∷ ys) a (lower_all f (f b) (f x) (y ∷ ys) le low) (sym (choose_first f x b le) ∙ chosen)
+    ]

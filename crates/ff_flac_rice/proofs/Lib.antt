@@ -5,3 +5,5 @@ pub mod RowLemmas
 pub mod Orders
 pub mod Levels
 pub mod Writing
+pub mod ReadsBack
+pub mod ReadsRice

@@ -5,9 +5,11 @@
 #![tactic(auto)]
 
 mod coding;
+mod laws;
 mod level;
 mod row;
 mod write;
 
 pub use coding::{Found, best_coding};
+pub use laws::{codings_are_read_back, least_is_the_first_of_the_lowest};
 pub use write::write_residual;
