@@ -104,7 +104,7 @@ get_or-steps : (xs : List ℤ) (i : ℕ) → suc i < length xs → get_or (steps
 get_or-steps [] i h = absurd (omega arith)
 get_or-steps (x ∷ xs) i h = get_or-steps_from x xs i (omega arith)
 
-pub at : List ℤ → ℕ → ℤ
+unfoldable pub at : List ℤ → ℕ → ℤ
 at xs i = get_or xs i (pos 0)
 
 next_order : (order : ℕ) (xs : List ℤ) (i : ℕ) → suc i + order < length xs → at (rest_of (suc order) xs) i ≡ at (rest_of order xs) (suc i) -ℤ at (rest_of order xs) i

@@ -4,7 +4,9 @@
 //! the first of the shortest, and `write_plan` writes it.
 #![tactic(auto)]
 
+mod laws;
 mod samples;
 mod subframe;
 
-pub use subframe::{Plan, Planned, least_is_lowest, plan_of, write_plan, write_subframe};
+pub use laws::{least_is_the_first_of_the_shortest, subframes_are_read_back, subframes_stand_for_their_samples};
+pub use subframe::{Plan, Planned, plan_of, write_plan, write_subframe};

@@ -1,6 +1,6 @@
 //! The least spelling of a subframe.
 
-ghost use Rattle.std.specs.Prelude.{IfSome, List, ℤ, ◌≡◌, ◌+◌, ◌-◌, ◌*◌, ◌^◌, ◌<◌, ◌≤◌, ◌++◌, length, IfOk, OnOk, All, Some, ℕ};
+ghost use Rattle.std.specs.Prelude.{◌≡◌, ◌+◌, ◌-◌, ◌*◌, ◌^◌, ◌<◌, ◌≤◌, ◌++◌, length, IfOk, OnOk, All, Some, ℕ};
 ghost use Rattle.ff_flac_rice.specs.Least.{choose, least};
 ghost use Rattle.ff_flac_sub.specs.Subframe.{magnitude, rest_of, subframe_bits, candidates, fixed_of, Spelling};
 ghost use Rattle.ff_flac_sub.specs.Plan.{spelling_of, size, IsBestPlan, PlanFits, constants};
@@ -192,8 +192,3 @@ pub fn write_subframe(
     write_plan(alloc, out, samples, depth, best.plan)?;
     Ok(())
 }
-
-/// The least of the candidates costs no more than any of them.
-pub fn least_is_lowest()
-    ensures { (depth : ℕ) (xs : List ℤ) → IfSome (least (size depth xs) (candidates xs)) (λ s. All (λ t. size depth xs s ≤ size depth xs t) (candidates xs)) }
-{}
