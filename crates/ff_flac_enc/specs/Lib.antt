@@ -1,0 +1,4 @@
+pub mod Layout
+pub mod Shape
+pub mod Signal
+pub mod Head
