@@ -57,7 +57,7 @@ length-codes_bits h form =
     length-append (a ++ b) c, length-append a b, length-bits_of 15 sync, length-bits_of 1 0, length-bits_of 4 (block_code h.block), length-bits_of 4 (rate_code h.stream.rate),
     length-bits_of 4 form, length-bits_of 3 (depth_code h.stream.bits))
 
-length-further_bytes : (k v : ℕ) → length (further_bytes k v) ≡ 8 * k
+pub length-further_bytes : (k v : ℕ) → length (further_bytes k v) ≡ 8 * k
 unfolding further_bytes
 length-further_bytes zero v = refl
 length-further_bytes (suc k) v =

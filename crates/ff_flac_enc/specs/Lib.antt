@@ -2,3 +2,5 @@ pub mod Layout
 pub mod Shape
 pub mod Signal
 pub mod Head
+pub mod Channels
+pub mod Frame
