@@ -5,3 +5,4 @@ pub mod ReadsHead
 pub mod ReadsFrame
 pub mod Stereo
 pub mod Spelled
+pub mod Codes

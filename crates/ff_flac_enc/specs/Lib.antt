@@ -4,3 +4,4 @@ pub mod Signal
 pub mod Head
 pub mod Channels
 pub mod Frame
+pub mod Blocks

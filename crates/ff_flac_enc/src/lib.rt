@@ -4,12 +4,14 @@
 //! before and behind them. `encode_block` writes the first of the shortest.
 #![tactic(auto)]
 
+mod at_once;
 mod frame;
 mod head;
 mod laws;
 mod pair;
 mod sides;
 
+pub use at_once::{Gate, NoGate, encode_blocks};
 pub use frame::encode_block;
 pub use laws::least_is_the_first_of_the_shortest;
 
