@@ -3,10 +3,11 @@ ghost use Rattle.std.specs.Prelude.{◌≡◌, ◌<◌, ◌≤◌, ◌*◌, true
 ghost use Rattle.ff_frame.specs.Audio.{FitsBits};
 ghost use Rattle.ff_flac_enc.specs.Frame.{IsBlock};
 
-use crate::encode_block;
-use ff_frame::{AFrame, Samples};
+use crate::{NoGate, encode_block, encode_blocks};
+use ff_frame::{AFrame, Bytes, Samples};
 use std::alloc::{AllocError, Global};
 use std::test::Fail;
+use std::thread::Threads;
 
 fn fits(x: i32, bits: u8) -> bool
     requires some { 4 ≤ bits }
@@ -275,4 +276,40 @@ fn blocks(rt: HostRuntime) -> Result<(), Fail> {
         assert_eq!(rt; last_two(&bytes), row.sum);
     }
     Ok(())
+}
+
+// Two blocks at once.
+fn both_of<R: Threads + Sync>(
+    rt: &R,
+    alloc: Global,
+    first: AFrame,
+    second: AFrame,
+) -> Result<Vec<Bytes>, AllocError>
+    requires first { IsBlock first }
+    requires second { IsBlock second }
+{
+    let mut blocks = Vec::new(alloc);
+    blocks.push(first)?;
+    blocks.push(second)?;
+    encode_blocks(rt, alloc, &blocks, 0, &NoGate)
+}
+
+#[test]
+fn at_once(rt: HostRuntime) -> Result<(), Fail> {
+    let alloc = rt.alloc();
+    let first = block(8000, 8, 1, Vec::from_slice(alloc, &[97, 98, 99])?);
+    let second = block(8000, 8, 1, Vec::from_slice(alloc, &[97])?);
+    match (first, second) {
+        (Some(first), Some(second)) => {
+            let codes = both_of(&rt, alloc, first, second)?;
+            assert_eq!(rt; codes.len(), 2);
+            assert_eq!(rt; codes[0].as_slice(), THREE.as_slice());
+            assert_eq!(rt; codes[1].as_slice().len(), 11);
+            Ok(())
+        }
+        _ => {
+            assert!(rt; false);
+            Ok(())
+        }
+    }
 }
