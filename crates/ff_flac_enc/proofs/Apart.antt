@@ -1,6 +1,6 @@
 -- Channels as subframes of their own.
-use Rattle.std.proofs.Common.{◌≡◌, ℕ, zero, suc, ◌+◌, ◌-◌, ◌*◌, ◌/◌, ◌%◌, ◌^◌, ◌<◌, ◌≤◌, Bool, true, false, cond, eqb, ltb, ℤ, pos, negsuc, List, [], ◌∷◌, ◌++◌, length, map, get_or, Some, refl, sym, ap, subst, ◌∙◌, arith}
-use Rattle.std.specs.Option.{unwrap_or, option_map}
+use Rattle.std.proofs.Common.{◌≡◌, ℕ, zero, suc, ◌+◌, ◌-◌, ◌*◌, ◌/◌, ◌^◌, ◌<◌, ◌≤◌, Bool, cond, ℤ, pos, List, [], ◌∷◌, ◌++◌, length, map, get_or, Some, refl, sym, ap, subst, ◌∙◌, arith}
+use Rattle.std.specs.Option.{unwrap_or}
 use Rattle.std.specs.List.{flat_map, range_with_len, All, AllByRecursion}
 use Rattle.std.proofs.lemmas.Bool.{lt-ltb, ne_eqb}
 use Rattle.std.specs.Prelude.{Result, Ok, Err, IfOk}
@@ -14,7 +14,7 @@ use Rattle.ff_flac_rice.proofs.LeastLemmas.{pick_is, range_more}
 use Rattle.ff_flac_sub.specs.Subframe.{Spelling, subframe_bits, candidates, magnitude, fixed_of, predictors, all_are, first_or_zero}
 use Rattle.ff_flac_sub.specs.Subframe.Spelling.{constant, verbatim}
 use Rattle.ff_flac_sub.specs.Plan.{size}
-use Rattle.ff_flac_enc.specs.Layout.{Signal, signal, signals, joined, bodies, forms, layouts, layouts_with, layout_size, body, Layout}
+use Rattle.ff_flac_enc.specs.Layout.{signal, signals, joined, bodies, forms, layouts, layouts_with, layout_size, body, Layout}
 use Rattle.ff_flac_enc.specs.declared.head.Head.{Head}
 use Rattle.ff_flac_enc.specs.Head.{opened}
 use Rattle.ff_flac_enc.specs.Channels.{channel_of, channels_in, best, best_bits}
@@ -104,8 +104,7 @@ apart_is bits n samples head code first next other few some_channels form f w =
     let l : length channels ≡ n = length-channels_in n samples in
     let same : code ≡ length channels - 1 = omega (arith, form, l) in
     let bodies_are : flat_map (λ c. best_bits bits (channel_of n samples c)) (range_with_len 0 n) ≡ body bits channels (apart bits channels) =
-    sym (body_apart bits channels (omega (arith, l)) (omega (arith, l)) ∙ flat_map-map (best_bits bits) (channel_of n samples) (range_with_len 0 n)) in
-    (
+    sym (body_apart bits channels (omega (arith, l)) (omega (arith, l)) ∙ flat_map-map (best_bits bits) (channel_of n samples) (range_with_len 0 n)) in (
       apart bits channels,
       least_apart bits channels (λ e. other (sym l ∙ e)) (omega (arith, l)) (omega (arith, l)),
       w ∙ ap (λ o. o ++ flat_map (λ c. best_bits bits (channel_of n samples c)) (range_with_len 0 n)) (f ∙ ap (opened head) same) ∙ ap (λ b. opened head (length channels - 1) ++ b) bodies_are,

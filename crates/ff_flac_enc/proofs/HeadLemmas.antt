@@ -1,19 +1,18 @@
 -- The bits of a header, and of the end of a frame.
-use Rattle.std.proofs.Common.{◌≡◌, ℕ, zero, suc, ◌+◌, ◌-◌, ◌*◌, ◌/◌, ◌%◌, ◌^◌, ◌<◌, ◌≤◌, Bool, true, false, cond, eqb, leb, List, [], ◌∷◌, ◌++◌, length, replicate, refl, sym, ap, subst, ◌∙◌, arith, length-append, append_assoc}
+use Rattle.std.proofs.Common.{◌≡◌, ℕ, zero, suc, ◌+◌, ◌-◌, ◌*◌, ◌/◌, ◌%◌, ◌^◌, ◌<◌, ◌≤◌, Bool, true, false, cond, eqb, leb, List, [], ◌∷◌, ◌++◌, length, refl, sym, ap, ◌∙◌, arith, length-append, append_assoc}
 use Rattle.std.specs.List.{flat_map}
 use Rattle.std.proofs.lemmas.Bool.{leb-true}
 use Rattle.std.proofs.lemmas.List.{append-nil}
-use Rattle.std.proofs.Math.Nat.{mod-eq_of_lt}
-use Rattle.ff_bits.specs.Bits.{bits_of, bits, padding}
+use Rattle.ff_bits.specs.Bits.{bits_of, bits}
 use Rattle.ff_bits.specs.Crc.{crc8_of, crc16_of}
 use Rattle.ff_bits.specs.Number.{shortest, first_byte, further_bytes}
 use Rattle.ff_bits.proofs.BitsLemmas.{length-bits_of, bits-append}
-use Rattle.ff_bits.proofs.BitsOf.{bits_of-parts, bits_of-mod}
+use Rattle.ff_bits.proofs.BitsOf.{bits_of-parts}
 use Rattle.ff_bits.proofs.LawLemmas.{shortest_is_code}
 use Rattle.ff_bits.proofs.FirstByte.{length-first_byte}
 use Rattle.ff_flac_frame.specs.Codes.{sync}
 use Rattle.ff_flac_enc.specs.declared.head.Head.{Head}
-use Rattle.ff_flac_enc.specs.Head.{block_code, block_bits_by, rate_code, depth_code, codes_bits, header_bits, opened, closed, filled, with_sum8, with_sum16}
+use Rattle.ff_flac_enc.specs.Head.{block_code, block_bits_by, rate_code, depth_code, codes_bits, header_bits, closed, filled, with_sum8}
 
 -- the code of a size that is told in one byte
 picks : {P : Type 0} (t : Bool) (c other : ℕ) → (c ≡ 6 → ⊥) → (other ≡ 6 → P) → cond t c other ≡ 6 → P
@@ -53,9 +52,21 @@ length-codes_bits h form =
     let d : List Bool = bits_of 4 (rate_code h.stream.rate) in
     let e : List Bool = bits_of 4 form in
     let f : List Bool = bits_of 3 (depth_code h.stream.bits) in
-    omega (arith, length-append (a ++ b ++ c ++ d ++ e ++ f) b, length-append (a ++ b ++ c ++ d ++ e) f, length-append (a ++ b ++ c ++ d) e, length-append (a ++ b ++ c) d,
-    length-append (a ++ b) c, length-append a b, length-bits_of 15 sync, length-bits_of 1 0, length-bits_of 4 (block_code h.block), length-bits_of 4 (rate_code h.stream.rate),
-    length-bits_of 4 form, length-bits_of 3 (depth_code h.stream.bits))
+    omega (
+      arith,
+      length-append (a ++ b ++ c ++ d ++ e ++ f) b,
+      length-append (a ++ b ++ c ++ d ++ e) f,
+      length-append (a ++ b ++ c ++ d) e,
+      length-append (a ++ b ++ c) d,
+      length-append (a ++ b) c,
+      length-append a b,
+      length-bits_of 15 sync,
+      length-bits_of 1 0,
+      length-bits_of 4 (block_code h.block),
+      length-bits_of 4 (rate_code h.stream.rate),
+      length-bits_of 4 form,
+      length-bits_of 3 (depth_code h.stream.bits),
+    )
 
 pub length-further_bytes : (k v : ℕ) → length (further_bytes k v) ≡ 8 * k
 unfolding further_bytes

@@ -1,13 +1,13 @@
 -- A frame that was written is read back.
-use Rattle.std.proofs.Common.{◌≡◌, ℕ, zero, suc, ◌+◌, ◌-◌, ◌*◌, ◌/◌, ◌%◌, ◌^◌, ◌<◌, ◌≤◌, Bool, true, false, cond, eqb, ltb, ◌||◌, ◌&&◌, ℤ, pos, negsuc, List, [], ◌∷◌, ◌++◌, length, map, take, replicate, refl, sym, ap, subst, ◌∙◌, arith, length-append, append_assoc}
-use Rattle.std.specs.List.{flat_map, AllByRecursion}
-use Rattle.std.proofs.lemmas.Bool.{lt-ltb, eq-eqb}
+use Rattle.std.proofs.Common.{◌≡◌, ℕ, ◌^◌, ◌<◌, ◌≤◌, Bool, true, cond, eqb, ℤ, List, [], ◌∷◌, ◌++◌, length, map, refl, sym, ap, subst, ◌∙◌, arith, append_assoc}
+use Rattle.std.specs.List.{AllByRecursion}
+use Rattle.std.proofs.lemmas.Bool.{eq-eqb}
 use Rattle.std.proofs.lemmas.List.{append-nil}
 use Rattle.ff_bits.specs.Bits.{bits_of, padding}
 use Rattle.ff_bits.specs.Crc.{crc8_of, crc16_of}
 use Rattle.ff_bits.specs.Number.{shortest}
 use Rattle.ff_bits.specs.NumberGrammar.{coded_below}
-use Rattle.ff_bits.specs.Reading.{Reader, Answer, Done, ◌>>=◌, on, give, field, with_text, and_text}
+use Rattle.ff_bits.specs.Reading.{Reader, Done, ◌>>=◌, give, field, with_text, and_text}
 use Rattle.ff_bits.proofs.BitsOf.{bits_of-zeros}
 use Rattle.ff_bits.proofs.CrcLemmas.{IsRemainder-crc8_of, IsRemainder-crc16_of}
 use Rattle.ff_bits.proofs.SoundTexts.{take_text}
@@ -16,7 +16,7 @@ use Rattle.ff_flac_frame.specs.declared.stream.FlacStream.{FlacStream}
 use Rattle.ff_flac_frame.specs.Codes.{any, equal, sync, not_zero, rate_fits, form_fits, depth_fits, depths}
 use Rattle.ff_flac_frame.specs.Frame.{Header, Part, Frame, block_of, rate_of, header, sealed_header, subframe, subframes, unpadded, padded, frame}
 use Rattle.ff_flac_rice.specs.Spells.{Reads}
-use Rattle.ff_flac_rice.proofs.ReadsBack.{reads-give, reads-then, reads-map, reads-bits, reads-value, reads-field}
+use Rattle.ff_flac_rice.proofs.ReadsBack.{reads-give, reads-then, reads-map, reads-bits, reads-field}
 use Rattle.ff_flac_rice.proofs.ReadsRice.{all-map, all-flat_map, all-weaker}
 use Rattle.ff_flac_dec.specs.Values.{channel_samples}
 use Rattle.ff_flac_sub.specs.Subframe.{Spelling, subframe_bits, candidates}
@@ -24,8 +24,8 @@ use Rattle.ff_flac_sub.specs.Part.{part_for}
 use Rattle.ff_flac_sub.proofs.ReadsSub.{Fits, IsReadBack, candidates_read}
 use Rattle.ff_flac_sub.proofs.Restored.{StandsFor, candidates_stand}
 use Rattle.ff_flac_enc.specs.declared.head.Head.{Head}
-use Rattle.ff_flac_enc.specs.Head.{IsHead, block_code, block_bits_by, rate_code, depth_code, codes_bits, header_bits, opened, closed, filled, with_sum8, with_sum16}
-use Rattle.ff_flac_enc.specs.Layout.{Signal, signals, products, bodies, Layout, layouts, layouts_with, forms, body}
+use Rattle.ff_flac_enc.specs.Head.{IsHead, block_code, block_bits_by, rate_code, depth_code, codes_bits, header_bits, opened, closed, filled}
+use Rattle.ff_flac_enc.specs.Layout.{Signal, products, bodies, Layout}
 use Rattle.ff_flac_enc.proofs.ReadsHead.{block_code_is, rate_code_is, depth_code_is, reads-number}
 
 pub reads-with_text : {A : Type 0} (r : Reader A) (xs : List Bool) (a : A) → Reads r xs a → Reads (with_text r) xs (a, xs)

@@ -1,26 +1,20 @@
 -- A header that was written is read back.
-use Rattle.std.proofs.Common.{◌≡◌, ℕ, zero, suc, ◌+◌, ◌-◌, ◌*◌, ◌/◌, ◌%◌, ◌^◌, ◌<◌, ◌≤◌, Bool, true, false, cond, eqb, ltb, leb, ◌||◌, ◌&&◌, List, [], ◌∷◌, ◌++◌, length, refl, sym, ap, subst, ◌∙◌, arith, length-append, append_assoc, inl, inr}
-use Rattle.std.proofs.lemmas.Bool.{lt-ltb, le-leb, eq-eqb, eqb-true, leb-true, leb-false, or_cases, or_left, or_right, and_parts, and_from}
+use Rattle.std.proofs.Common.{◌≡◌, ℕ, zero, suc, ◌+◌, ◌-◌, ◌*◌, ◌^◌, ◌<◌, ◌≤◌, Bool, true, false, cond, eqb, ltb, leb, ◌&&◌, List, [], ◌++◌, length, refl, sym, ap, subst, ◌∙◌, arith, length-append, append_assoc, inl, inr}
+use Rattle.std.proofs.lemmas.Bool.{lt-ltb, eqb-true, leb-true, or_cases, or_left, or_right, and_parts, and_from}
 use Rattle.std.proofs.lemmas.Bool.Decides.{nat_tests}
 use Rattle.ff_bits.specs.Bits.{bits_of}
-use Rattle.ff_bits.specs.Crc.{crc8_of}
 use Rattle.ff_bits.specs.Number.{shortest, code_with, capacity, fewest, first_byte, further_bytes}
 use Rattle.ff_bits.specs.NumberGrammar.{is_within, follow, opened as opened_byte, first, sixes, coded, coded_below}
-use Rattle.ff_bits.specs.Reading.{Reader, Answer, Done, ◌>>=◌, on, give, field, with_text}
-use Rattle.ff_bits.proofs.BitsLemmas.{length-bits_of}
+use Rattle.ff_bits.specs.Reading.{Reader, Answer, ◌>>=◌, on, give, field}
 use Rattle.ff_bits.proofs.LawLemmas.{shortest_is_code}
 use Rattle.ff_bits.proofs.FirstByte.{mark, room, first_is, first_bits, high_part, opened_by, length-first_byte}
 use Rattle.ff_bits.proofs.OneByte.{field-byte}
 use Rattle.ff_bits.proofs.NumberLemmas.{coded-forward}
-use Rattle.ff_bits.proofs.CrcLemmas.{IsRemainder-crc8_of}
-use Rattle.ff_bits.proofs.SoundTexts.{with_text_done}
-use Rattle.ff_flac_frame.specs.declared.stream.FlacStream.{FlacStream}
-use Rattle.ff_flac_frame.specs.Codes.{any, equal, sync, not_zero, rate_fits, form_fits, depth_fits, rate_table, block_table}
-use Rattle.ff_flac_frame.specs.Frame.{Header, block_of, rate_of, header, sealed_header}
+use Rattle.ff_flac_frame.specs.Codes.{any, not_zero, rate_fits, depth_fits}
+use Rattle.ff_flac_frame.specs.Frame.{block_of, rate_of}
 use Rattle.ff_flac_rice.specs.Spells.{Reads}
-use Rattle.ff_flac_rice.proofs.ReadsBack.{reads-give, reads-then, reads-map, reads-bits, reads-value, reads-field}
-use Rattle.ff_flac_enc.specs.declared.head.Head.{Head}
-use Rattle.ff_flac_enc.specs.Head.{IsHead, block_code, block_bits_by, rate_code, depth_code, codes_bits, header_bits, opened}
+use Rattle.ff_flac_rice.proofs.ReadsBack.{reads-map, reads-bits, reads-value, reads-field}
+use Rattle.ff_flac_enc.specs.Head.{block_code, block_bits_by, rate_code, depth_code}
 use Rattle.ff_flac_enc.proofs.HeadLemmas.{length-further_bytes}
 
 -- ---- the codes
@@ -52,8 +46,7 @@ unfolding block_of block_bits_by
 word_block n h l =
     let e : n - 1 + 1 ≡ n = omega arith in
     let small : n - 1 < 2 ^ 16 = omega arith in
-    let p : ℕ → Bool = λ v. ltb v 65535 in
-    (
+    let p : ℕ → Bool = λ v. ltb v 65535 in (
       omega arith,
       refl,
       reads-value (field 16 p >>= λ v. give (v + 1)) (bits_of 16 (n - 1)) (n - 1 + 1) n e (reads-map (field 16 p) (λ v. v + 1) (bits_of 16 (n - 1)) (n - 1) (reads-field 16 p (n - 1) small (below_limit n h l))),

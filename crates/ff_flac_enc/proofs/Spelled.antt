@@ -1,10 +1,10 @@
 -- Each candidate spells the sound.
-use Rattle.std.proofs.Common.{◌≡◌, ℕ, zero, suc, ◌+◌, ◌-◌, ◌*◌, ◌/◌, ◌%◌, ◌^◌, ◌<◌, ◌≤◌, Bool, true, false, cond, eqb, ltb, ◌||◌, ◌&&◌, ℤ, pos, negsuc, List, [], ◌∷◌, ◌++◌, length, map, take, drop, get_or, replicate, Some, refl, sym, ap, subst, ◌∙◌, arith, length-append, append_assoc}
+use Rattle.std.proofs.Common.{◌≡◌, ℕ, zero, suc, ◌+◌, ◌-◌, ◌*◌, ◌/◌, ◌^◌, ◌<◌, ◌≤◌, Bool, true, false, cond, eqb, ltb, ◌&&◌, ℤ, pos, negsuc, List, [], ◌∷◌, ◌++◌, length, map, take, drop, get_or, replicate, Some, refl, sym, ap, subst, ◌∙◌, arith, length-append}
 use Rattle.std.specs.Option.{IfSome}
-use Rattle.std.specs.List.{flat_map, range_with_len, All, AllByRecursion}
-use Rattle.std.proofs.Math.Nat.{pow-suc, mul-div_cancel, div-mul-le_self, mul-le-mul_right, div-le_of_le-mul}
-use Rattle.std.proofs.lemmas.Bool.{lt-ltb, eq-eqb, eqb-true, eqb-false, or_left, or_right, and_from}
-use Rattle.std.proofs.lemmas.List.{length-map, length-take, length-drop, get_or-take, get_or-drop, append-nil, drop-drop, drop_at, take_all}
+use Rattle.std.specs.List.{range_with_len, All, AllByRecursion}
+use Rattle.std.proofs.Math.Nat.{pow-suc, mul-div_cancel, mul-le-mul_right, div-le_of_le-mul}
+use Rattle.std.proofs.lemmas.Bool.{lt-ltb, eq-eqb, eqb-true, or_left, and_from}
+use Rattle.std.proofs.lemmas.List.{length-take, length-drop, get_or-take, get_or-drop, drop-drop, drop_at, take_all}
 use Rattle.std.proofs.lemmas.List.FromFn.{fill_by_all, get_or-map-range_with_len}
 use Rattle.std.proofs.lemmas.List.Elements.{recursion_from_All, All-weaker}
 use Rattle.std.proofs.lemmas.Simd.{map-map}
@@ -14,27 +14,24 @@ use Rattle.ff_bits.specs.Reading.{Done}
 use Rattle.ff_bits.proofs.BitsLemmas.{bits-append}
 use Rattle.ff_frame.specs.declared.audio.AFrame.{AFrame}
 use Rattle.ff_frame.specs.Frame.{audio_frame}
-use Rattle.ff_frame.specs.Audio.{FitsBits, IsAudio}
-use Rattle.ff_flac_frame.specs.declared.stream.FlacStream.{FlacStream}
+use Rattle.ff_frame.specs.Audio.{FitsBits}
 use Rattle.ff_flac_frame.specs.Codes.{form_fits, depths}
-use Rattle.ff_flac_frame.specs.Frame.{Part, Frame, Begins, frame}
-use Rattle.ff_flac_dec.specs.Values.{channel_samples}
-use Rattle.ff_flac_dec.specs.Channels.{both, mid_right, separated, pair, left_right, channels_of, sample_frame, interleaved, interleaved_from, decoded}
+use Rattle.ff_flac_frame.specs.Frame.{Frame, frame}
+use Rattle.ff_flac_dec.specs.Channels.{both, mid_right, separated, pair, channels_of, sample_frame, interleaved, interleaved_from, decoded}
 use Rattle.ff_flac_rice.specs.Least.{least}
 use Rattle.ff_flac_rice.specs.Spells.{Reads}
 use Rattle.ff_flac_rice.proofs.LeastLemmas.{least_holds}
 use Rattle.ff_flac_rice.proofs.ReadsRice.{all-map, all-flat_map, all-weaker}
 use Rattle.ff_flac_sub.specs.Subframe.{magnitude}
-use Rattle.ff_flac_sub.proofs.ReadsSub.{Fits}
 use Rattle.ff_flac_enc.specs.declared.head.Head.{Head}
 use Rattle.ff_flac_enc.specs.Head.{IsHead, opened, closed}
-use Rattle.ff_flac_enc.specs.Layout.{Signal, signal, signals, joined, joint, mid_of, side_of, products, bodies, Layout, layouts, layouts_with, layout_size, forms, body}
+use Rattle.ff_flac_enc.specs.Layout.{Signal, signal, signals, mid_of, side_of, products, bodies, Layout, layouts, layouts_with, layout_size, forms, body}
 use Rattle.ff_flac_enc.specs.Channels.{channel_of, channels_in}
 use Rattle.ff_flac_enc.specs.Frame.{IsBlock, IsLeast, stream_of, head_of, candidates, subframe_bits_of, spelled, Spells}
 use Rattle.ff_flac_enc.proofs.Choice.{signals_1, signals_2, signals_3, signals_4, mid_small, side_small, length_mid, length_side}
 use Rattle.ff_flac_enc.proofs.Apart.{sample_at, length-channel_of, length-channels_in, channel_all, all_range, signals_apart}
 use Rattle.ff_flac_enc.proofs.Stereo.{left_side_back, side_right_back, mid_left_back, mid_right_back}
-use Rattle.ff_flac_enc.proofs.ReadsFrame.{IsSignal, AreReadBack, parts_for, products_read, frame_for, reads-frame}
+use Rattle.ff_flac_enc.proofs.ReadsFrame.{IsSignal, AreReadBack, products_read, frame_for, reads-frame}
 
 -- ---- the channels as they are interleaved
 
@@ -288,13 +285,13 @@ module _ (a : AFrame) (number : ℕ) (is : IsBlock a) where
       let head : IsHead h = record { some_samples = size_is.some_samples; few_samples = few_are; number = small } in
       let fits : form_fits a.channels y.form ≡ true = subst (λ (m : ℕ). form_fits m y.form ≡ true) count_chs g.form.fits in
       let ds : map (λ (x : Signal). x.depth) xs ≡ depths y.form a.channels a.bits = g.form.depths_are ∙ ap (λ (m : ℕ). depths y.form m a.bits) count_chs in
-      let read : Reads (frame (stream_of a)) (closed (opened h y.form ++ bodies xs y.spellings)) f = reads-frame h xs y head g.form.small fits ds g.back in
-      (
+      let read : Reads (frame (stream_of a)) (closed (opened h y.form ++ bodies xs y.spellings)) f = reads-frame h xs y head g.form.small fits ds g.back in (
         f,
         refl,
-        λ more.
-            (let n : length bytes ≤ length (bytes ++ more) = omega (arith, length-append bytes more) in n,
-            ap (frame (stream_of a)) (bits-append bytes more ∙ ap (λ l. l ++ bits_in more) e) ∙ read (bits_in more) ∙ ap (λ l. Done f (bits_in l)) (sym (drop_at bytes more (length bytes) refl))),
+        λ more. (
+          let n : length bytes ≤ length (bytes ++ more) = omega (arith, length-append bytes more) in n,
+          ap (frame (stream_of a)) (bits-append bytes more ∙ ap (λ l. l ++ bits_in more) e) ∙ read (bits_in more) ∙ ap (λ l. Done f (bits_in l)) (sym (drop_at bytes more (length bytes) refl)),
+        ),
         ap (λ (xs : List ℤ). audio_frame a.pts a.rate a.bits a.channels xs) (stands_for y g),
       )
 

@@ -1,5 +1,5 @@
 -- A frame of sound as the bytes of a FLAC frame (RFC 9639, section 9).
-use Rattle.std.specs.Prelude.{◌≡◌, ℕ, ℤ, ◌+◌, ◌*◌, ◌/◌, ◌<◌, ◌≤◌, ◌^◌, Some, Bool, List, ◌++◌, length}
+use Rattle.std.specs.Prelude.{◌≡◌, ℕ, ◌*◌, ◌/◌, ◌<◌, ◌≤◌, Some, Bool, List, ◌++◌, length}
 use Rattle.ff_frame.specs.declared.audio.AFrame.{AFrame}
 use Rattle.ff_frame.specs.Audio.{IsAudio}
 use Rattle.ff_bits.specs.Bits.{bits}

@@ -1,5 +1,5 @@
 -- The header of a frame that is written, and what closes the frame (RFC 9639, sections 9.1 and 9.3).
-use Rattle.std.specs.Prelude.{ℕ, ◌+◌, ◌-◌, ◌^◌, ◌<◌, ◌≤◌, ◌==◌, nat_le, if◌then◌else◌, Bool, false, List, [], ◌++◌, length, replicate}
+use Rattle.std.specs.Prelude.{ℕ, ◌-◌, ◌^◌, ◌<◌, ◌≤◌, ◌==◌, nat_le, if◌then◌else◌, Bool, false, List, [], ◌++◌, length, replicate}
 use Rattle.ff_bits.specs.Bits.{bits_of, padding}
 use Rattle.ff_bits.specs.Crc.{crc8_of, crc16_of}
 use Rattle.ff_bits.specs.Number.{shortest}

@@ -1,6 +1,5 @@
 -- The channel codes of two channels (RFC 9639, section 9.1.3).
 use Rattle.std.specs.Prelude.{ℕ, ℤ, ◌+◌, ◌<◌, ◌≤◌, List, [], ◌∷◌}
-use Rattle.ff_flac_sub.specs.declared.subframe.Plan.{Plan}
 use Rattle.ff_flac_sub.specs.Plan.{spelling_of}
 use Rattle.ff_flac_enc.specs.Layout.{Layout, mid_of, side_of}
 use Rattle.ff_flac_enc.specs.declared.pair.Plans.{Plans}

@@ -154,11 +154,7 @@ fn write_body(
 }
 
 /// The bytes of a block of sound as the frame with this number: the first of its shortest spellings.
-pub fn encode_block(
-    alloc: Global,
-    frame: &AFrame,
-    number: u32,
-) -> Result<Vec<u8>, AllocError>
+pub fn encode_block(alloc: Global, frame: &AFrame, number: u32) -> Result<Vec<u8>, AllocError>
     requires block { IsBlock frame.now }
     requires number { number < 2 ^ 31 }
     ensures least { IfOk result (λ v. IsLeast frame.now number v.items) }

@@ -181,9 +181,7 @@ fn write_shape(
             bits,
             plans.right,
         ),
-        Shape::LeftSide => write_both(
-            alloc, out, left, bits, plans.left, side, wide, plans.side,
-        ),
+        Shape::LeftSide => write_both(alloc, out, left, bits, plans.left, side, wide, plans.side),
         Shape::SideRight => write_both(
             alloc,
             out,
@@ -194,9 +192,7 @@ fn write_shape(
             bits,
             plans.right,
         ),
-        Shape::MidSide => write_both(
-            alloc, out, mid, bits, plans.mid, side, wide, plans.side,
-        ),
+        Shape::MidSide => write_both(alloc, out, mid, bits, plans.mid, side, wide, plans.side),
     }
 }
 
@@ -222,9 +218,7 @@ fn write_four(
     let plans = plan_four(alloc, left, right, mid, side, bits)?;
     let shape = shape_of(&plans);
     let mut out = open_frame(alloc, head, code_of(shape))?;
-    write_shape(
-        alloc, &mut out, shape, &plans, left, right, mid, side, bits,
-    )?;
+    write_shape(alloc, &mut out, shape, &plans, left, right, mid, side, bits)?;
     Ok(out)
 }
 

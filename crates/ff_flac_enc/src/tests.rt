@@ -132,7 +132,13 @@ fn later(way: u8, first: u32, own: u32, half: u32) -> u32
     match way {
         0 => own,
         1 => first,
-        _ => { if first == 0 || first > 2 * half { 2 * half - 1 } else { 2 * half - first } }
+        _ => {
+            if first == 0 || first > 2 * half {
+                2 * half - 1
+            } else {
+                2 * half - first
+            }
+        }
     }
 }
 
@@ -174,7 +180,11 @@ fn made(
         if j % channels == 0 {
             first = own;
         }
-        let value = if j % channels == 0 { own } else { later(way, first, own, half) };
+        let value = if j % channels == 0 {
+            own
+        } else {
+            later(way, first, own, half)
+        };
         out.push(centred(value.min(33554432), half))?;
     }
     Ok(out)

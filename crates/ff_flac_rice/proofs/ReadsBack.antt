@@ -1,12 +1,12 @@
 -- A reader of the grammar takes what was written, one piece after the other.
-use Rattle.std.proofs.Common.{◌≡◌, ℕ, zero, suc, ◌+◌, ◌-◌, ◌*◌, ◌/◌, ◌%◌, ◌^◌, ◌<◌, ◌≤◌, Bool, true, false, cond, eqb, ltb, List, [], ◌∷◌, ◌++◌, length, map, take, drop, refl, sym, ap, subst, ◌∙◌, arith, length-append, append_assoc}
+use Rattle.std.proofs.Common.{◌≡◌, ℕ, ◌+◌, ◌^◌, ◌<◌, ◌≤◌, Bool, true, false, cond, List, [], ◌∷◌, ◌++◌, length, map, take, drop, refl, sym, ap, subst, ◌∙◌, arith, length-append, append_assoc}
 use Rattle.std.specs.Prelude.{replicate}
 use Rattle.std.specs.List.{flat_map, AllByRecursion}
 use Rattle.std.proofs.lemmas.Bool.{lt-ltb}
 use Rattle.std.proofs.lemmas.List.{take_at, drop_at}
 use Rattle.std.proofs.Math.Nat.{mod-eq_of_lt}
 use Rattle.ff_bits.specs.Bits.{bits_of, value_of}
-use Rattle.ff_bits.specs.Reading.{Reader, Answer, Done, More, Bad, ◌>>=◌, on, give, field, zeros, zeros_from, times}
+use Rattle.ff_bits.specs.Reading.{Reader, Done, Bad, ◌>>=◌, on, give, field, zeros, zeros_from, times}
 use Rattle.ff_bits.proofs.BitsLemmas.{length-bits_of}
 use Rattle.ff_bits.proofs.Words.{value_of-bits_of}
 use Rattle.ff_bits.proofs.LimitedZeros.{zeros_past}

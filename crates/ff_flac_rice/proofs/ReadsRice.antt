@@ -1,5 +1,5 @@
 -- A residual that was written is read back.
-use Rattle.std.proofs.Common.{◌≡◌, ℕ, zero, suc, ◌+◌, ◌-◌, ◌*◌, ◌/◌, ◌%◌, ◌^◌, ◌<◌, ◌≤◌, Bool, true, false, cond, eqb, ltb, ℤ, pos, negsuc, List, [], ◌∷◌, ◌++◌, length, map, take, drop, refl, sym, ap, subst, ◌∙◌, arith, length-append, append_assoc}
+use Rattle.std.proofs.Common.{◌≡◌, ℕ, zero, suc, ◌+◌, ◌-◌, ◌*◌, ◌/◌, ◌%◌, ◌^◌, ◌<◌, ◌≤◌, Bool, true, false, cond, eqb, ltb, ℤ, pos, negsuc, List, [], ◌∷◌, ◌++◌, length, map, take, drop, refl, sym, ap, subst, ◌∙◌, arith, append_assoc}
 use Rattle.std.specs.Prelude.{replicate, ◌≤ℤ◌, neg_ℤ}
 use Rattle.std.specs.List.{flat_map, AllByRecursion, range_with_len, filter}
 use Rattle.std.proofs.lemmas.Int.{ints}
@@ -7,18 +7,18 @@ use Rattle.std.proofs.lemmas.Bool.{lt-ltb, le-leb, ne_eqb, eq-eqb, and_from}
 use Rattle.std.proofs.lemmas.List.{length-map, nil_from_length, map-append, take-append-drop, length-take, length-drop}
 use Rattle.std.proofs.lemmas.List.Elements.{All-from_recursion, recursion_from_All, All-take, All-drop}
 use Rattle.std.proofs.lemmas.Nat.{shr_split, pow_pos, mod_below}
-use Rattle.std.proofs.Math.Nat.{le-div_iff_mul-le, pow-le-pow_right}
+use Rattle.std.proofs.Math.Nat.{le-div_iff_mul-le}
 use Rattle.ff_bits.specs.Bits.{bits_of}
-use Rattle.ff_bits.specs.Reading.{Reader, Answer, Done, ◌>>=◌, on, give, field, zeros, times}
+use Rattle.ff_bits.specs.Reading.{Reader, Done, ◌>>=◌, give, field, zeros, times}
 use Rattle.ff_bits.proofs.BitsOf.{bits_of-mod}
 use Rattle.ff_flac_frame.specs.Codes.{any, below, order_fits}
 use Rattle.ff_flac_frame.specs.Frame.{sample, zigzag, residual_limit, quotient_limit, rice, partition, partitions, residual}
 use Rattle.ff_flac_frame.specs.Facts.{IsResidual}
 use Rattle.ff_flac_rice.specs.Spells.{Reads}
 use Rattle.ff_flac_rice.specs.Rice.{zigzagged, rice_bits, partition_bits, partitions_bits, pieces, parts_of, Coding, residual_bits, count_of, parameters, choices, is_allowed, orders, codings_at, codings_by, codings}
-use Rattle.ff_flac_rice.proofs.ReadsBack.{reads-give, reads-then, reads-map, reads-bits, reads-value, reads-if_false, reads-field, reads-zeros, reads-times}
+use Rattle.ff_flac_rice.proofs.ReadsBack.{reads-then, reads-map, reads-bits, reads-value, reads-if_false, reads-field, reads-zeros, reads-times}
 use Rattle.ff_flac_rice.proofs.Orders.{allowed_parts}
-use Rattle.ff_flac_rice.proofs.RowLemmas.{range_below, parts_of-is, pieces-suc}
+use Rattle.ff_flac_rice.proofs.RowLemmas.{range_below, parts_of-is}
 
 abbrev pub IsSmall : ℕ → Type 0
 IsSmall u = u < residual_limit

@@ -54,7 +54,10 @@ fn lower(choice: Choice, partition_order: u32, cost: u64) -> Choice
     ensures small { result.cost ≤ choice.cost }
 {
     if cost <= choice.cost {
-        Choice { partition_order, cost }
+        Choice {
+            partition_order,
+            cost,
+        }
     } else {
         choice
     }

@@ -9,7 +9,12 @@ use crate::row::Row;
 use std::alloc::{AllocError, Global};
 
 /// The rows of the values in `2 ^ partition_order` partitions.
-pub fn rows_of(alloc: Global, us: &[u32], order: usize, partition_order: u32) -> Result<Vec<Row>, AllocError>
+pub fn rows_of(
+    alloc: Global,
+    us: &[u32],
+    order: usize,
+    partition_order: u32,
+) -> Result<Vec<Row>, AllocError>
     requires len { length us.now ≤ 2 ^ 15 }
     requires order { order ≤ 4 }
     requires partition_order { partition_order ≤ 8 }

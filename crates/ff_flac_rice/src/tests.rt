@@ -37,7 +37,10 @@ fn residuals(rt: HostRuntime) -> Result<(), Fail> {
     assert_eq!(rt; bytes.as_slice(), [0x04, 0x36, 0x64, 0x64].as_slice());
     assert_eq!(rt; cost, 32);
     let (bytes, cost) = coded(alloc, &[1, 2, 3, 4, 1, 2, 3, 4, 1, 2, 3, 4], 4)?;
-    assert_eq!(rt; bytes.as_slice(), [0x00, 0x74, 0xcb, 0x4c, 0xb4, 0xc8].as_slice());
+    assert_eq!(rt;
+        bytes.as_slice(),
+        [0x00, 0x74, 0xcb, 0x4c, 0xb4, 0xc8].as_slice()
+    );
     assert_eq!(rt; cost, 46);
     Ok(())
 }
@@ -53,7 +56,10 @@ fn great_residuals(rt: HostRuntime) -> Result<(), Fail> {
     assert_eq!(rt; bytes.as_slice(), expected.as_slice());
     assert_eq!(rt; cost, 135);
     let (bytes, cost) = coded(alloc, &[4294967294], 0)?;
-    assert_eq!(rt; bytes.as_slice(), [0x43, 0xc3, 0xff, 0xff, 0xff, 0xf0].as_slice());
+    assert_eq!(rt;
+        bytes.as_slice(),
+        [0x43, 0xc3, 0xff, 0xff, 0xff, 0xf0].as_slice()
+    );
     assert_eq!(rt; cost, 45);
     let (bytes, cost) = coded(alloc, &[1000000; 64], 0)?;
     assert_eq!(rt; bytes.len(), 170);

@@ -6,8 +6,8 @@ ghost use Rattle.ff_flac_sub.specs.Subframe.{magnitude, rest_of, subframe_bits, 
 ghost use Rattle.ff_flac_sub.specs.Plan.{spelling_of, size, IsBestPlan, PlanFits, constants};
 
 use crate::samples::{are_equal, put_sample, put_samples, steps_of, zigzags_of};
-use ff_flac_rice::{best_coding, write_residual};
 use ff_bits::BitWriter;
+use ff_flac_rice::{best_coding, write_residual};
 use std::alloc::{AllocError, Global};
 
 /// A way to write a subframe: a fixed one by its order, method and partition order.
@@ -164,7 +164,13 @@ pub fn write_plan(
             Ok(())
         }
         Plan::Fixed(order, method, partition_order) => write_fixed(
-            alloc, out, samples, depth, order, method, partition_order,
+            alloc,
+            out,
+            samples,
+            depth,
+            order,
+            method,
+            partition_order,
         ),
         Plan::Verbatim => {
             out.put(2, 8)?;

@@ -64,7 +64,10 @@ fn subframes(rt: HostRuntime) -> Result<(), Fail> {
     assert_eq!(rt; bytes.as_slice(), [0x02, 0x78, 0x78].as_slice());
     // Third differences of squares.
     let bytes = written(alloc, &[0, 1, 4, 9, 16, 25, 36, 49], 8)?;
-    assert_eq!(rt; bytes.as_slice(), [0x16, 0x00, 0x01, 0x04, 0x00, 0x3e].as_slice());
+    assert_eq!(rt;
+        bytes.as_slice(),
+        [0x16, 0x00, 0x01, 0x04, 0x00, 0x3e].as_slice()
+    );
     // Two partitions with parameters of five bits.
     let bytes = written(alloc, &[-16777216, 16777215, 5, -6], 25)?;
     let wide = [

@@ -1,4 +1,4 @@
-use Rattle.std.proofs.Common.{◌≡◌, ◌+◌, ◌*◌, ◌++◌, ◌∙◌, ap, sym, arith, rules, ℤ, pos, get_or, w32, [], ◌∷◌}
+use Rattle.std.proofs.Common.{◌++◌, ◌∙◌, ap, sym, arith, rules, ℤ, w32, [], ◌∷◌}
 use Rattle.std.specs.Prelude.{FitsSigned}
 use Rattle.std.proofs.lemmas.Int.{to_z-of_z}
 use Rattle.std.proofs.lemmas.List.FromFn.{map-range_with_len_more}

@@ -1,4 +1,4 @@
-use Rattle.std.proofs.Common.{◌≡◌, ℕ}
+use Rattle.std.proofs.Common.{◌≡◌}
 use Rattle.ff_bits.specs.Bits.{bits}
 use Rattle.ff_flac_enc.specs.Head.{closed}
 use Rattle.ff_flac_enc.specs.Frame.{IsLeast, Spells}

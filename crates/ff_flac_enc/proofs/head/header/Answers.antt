@@ -1,5 +1,5 @@
-use Rattle.std.proofs.Common.{◌≡◌, ◌^◌, ◌<◌, ◌%◌, length, ap, ◌∙◌, subst, arith, ◌++◌}
-use Rattle.ff_flac_enc.specs.Head.{block_bits_by, header_bits}
+use Rattle.std.proofs.Common.{◌%◌, length, ap, ◌∙◌, arith, ◌++◌}
+use Rattle.ff_flac_enc.specs.Head.{block_bits_by}
 use Rattle.ff_flac_enc.proofs.HeadLemmas.{header_whole, header_is}
 use Rattle.ff_flac_enc.proofs.head.header.Goals as goal
 

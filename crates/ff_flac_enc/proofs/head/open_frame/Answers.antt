@@ -1,4 +1,4 @@
-use Rattle.std.proofs.Common.{◌∙◌, ap, sym, refl, ◌++◌}
+use Rattle.std.proofs.Common.{◌∙◌, ap, ◌++◌}
 use Rattle.std.specs.List.{flat_map}
 use Rattle.ff_bits.specs.Bits.{bits, bits_of}
 use Rattle.ff_bits.specs.Crc.{crc8_of}

@@ -1,4 +1,4 @@
-use Rattle.std.proofs.Common.{◌≡◌, ◌-◌, ◌<◌, ◌≤◌, ◌∙◌, sym, arith}
+use Rattle.std.proofs.Common.{◌≤◌, ◌∙◌, sym, arith}
 use Rattle.ff_flac_enc.proofs.HeadLemmas.{six_small}
 use Rattle.ff_flac_enc.proofs.head.put_block.Goals as goal
 
