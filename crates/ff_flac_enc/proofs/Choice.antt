@@ -1,0 +1,321 @@
+use Rattle.std.proofs.Common.{◌≡◌, ℕ, ℤ, pos, negsuc, ◌*◌, ◌-◌, ◌^◌, zero, suc, get_or, take, ◌+◌, ◌<◌, ◌≤◌, Bool, List, [], ◌∷◌, ◌++◌, length, map, Some, refl, sym, ap, ◌∙◌, subst, arith}
+use Rattle.std.specs.Option.{option_map}
+use Rattle.std.specs.List.{flat_map, All, AllByRecursion}
+use Rattle.std.proofs.lemmas.List.{length-append, append-nil, append_assoc}
+use Rattle.std.proofs.lemmas.Bool.Decides.{nat_tests}
+use Rattle.ff_flac_rice.specs.Least.{choose, least}
+use Rattle.ff_flac_sub.specs.Subframe.{Spelling, subframe_bits, candidates, magnitude}
+use Rattle.ff_flac_sub.specs.Plan.{size, spelling_of}
+use Rattle.ff_flac_sub.specs.declared.subframe.Planned.{Planned}
+use Rattle.ff_flac_enc.specs.Signal.{CanWrite, IsLeast}
+use Rattle.ff_flac_sub.proofs.Plans.{first_small}
+use Rattle.std.proofs.Math.Nat.{pow-suc}
+use Rattle.ff_flac_rice.proofs.LeastLemmas.{least-append, least-map, least-same, least-shift, least-shift_right, least-flat_map}
+use Rattle.ff_flac_dec.specs.Channels.{both}
+use Rattle.ff_flac_enc.specs.declared.pair.Plans.{Plans}
+use Rattle.ff_flac_enc.specs.declared.pair.Shape.{Shape}
+use Rattle.ff_flac_enc.specs.declared.pair.Shape.TheVariants.{Independent, LeftSide, SideRight, MidSide}
+use Rattle.ff_flac_enc.specs.Shape.{form_of, Chooses, pair_layout}
+use Rattle.ff_flac_enc.specs.Layout.{Signal, forms, signals, products, bodies, Layout, layouts, layouts_with, body, layout_size, half, mid_of, side_of, signal}
+use Rattle.std.specs.Prelude.{Result, Ok, Err, OnOk, ◌+ℤ◌, ◌-ℤ◌, ◌<ℤ◌, ◌≤ℤ◌, neg_ℤ}
+use Rattle.std.proofs.lemmas.Int.{ints}
+use Rattle.std.proofs.lemmas.List.Elements.{All-same, All-from_recursion, recursion_from_All}
+use Rattle.ff_flac_sub.proofs.Predict.{step_small, above, from_below, between}
+
+-- each signal is best written so
+abbrev pub AreBest : List Signal → List Spelling → Type 0
+AreBest [] [] = Unit {0}
+AreBest [] (s ∷ ss) = ⊥
+AreBest (x ∷ xs) [] = ⊥
+AreBest (x ∷ xs) (s ∷ ss) = (least (size x.depth x.samples) (candidates x.samples) ≡ Some s) × AreBest xs ss
+
+bodies-cons : (x : Signal) (xs : List Signal) (s : Spelling) (ss : List Spelling) → length (bodies (x ∷ xs) (s ∷ ss)) ≡ size x.depth x.samples s + length (bodies xs ss)
+unfolding bodies
+bodies-cons x xs s ss = length-append (subframe_bits x.depth x.samples s) (bodies xs ss)
+
+products-cons : (x : Signal) (xs : List Signal) → products (x ∷ xs) ≡ flat_map (λ s. map (λ rest. s ∷ rest) (products xs)) (candidates x.samples)
+unfolding products
+products-cons x xs = refl
+
+products-none : (cost : List Spelling → ℕ) → least cost (products []) ≡ Some []
+unfolding products least
+products-none cost = refl
+
+-- the best of the products is the product of the best
+pub least-products : (xs : List Signal) (ss : List Spelling) → AreBest xs ss → least (λ rs. length (bodies xs rs)) (products xs) ≡ Some ss
+least-products [] [] h = products-none (λ rs. length (bodies [] rs))
+least-products [] (s ∷ ss) h = absurd h
+least-products (x ∷ xs) [] h = absurd h
+least-products (x ∷ xs) (s ∷ ss) h =
+    let cost : List Spelling → ℕ = λ rs. length (bodies (x ∷ xs) rs) in
+    let P : List (List Spelling) = products xs in
+    ap (least cost) (products-cons x xs)
+    ∙ least-flat_map cost (λ r. map (λ rest. r ∷ rest) P) (λ r. r ∷ ss) (candidates x.samples)
+    (λ r. least-map cost (λ rest. r ∷ rest) P
+    ∙ ap (option_map (λ rest. r ∷ rest))
+    (least-same (λ rs. cost (r ∷ rs)) (λ rs. size x.depth x.samples r + length (bodies xs rs)) P (λ rs. bodies-cons x xs r rs)
+    ∙ least-shift (size x.depth x.samples r) (λ rs. length (bodies xs rs)) P
+    ∙ least-products xs ss h.1))
+    ∙ ap (option_map (λ r. r ∷ ss))
+    (least-same (λ r. cost (r ∷ ss)) (λ r. size x.depth x.samples r + length (bodies xs ss)) (candidates x.samples) (λ r. bodies-cons x xs r ss)
+    ∙ least-shift_right (length (bodies xs ss)) (size x.depth x.samples) (candidates x.samples)
+    ∙ h.0)
+
+pub least-layouts_with : (bits : ℕ) (channels : List (List ℤ)) (form : ℕ) (ss : List Spelling) → AreBest (signals bits channels form) ss
+    → least (layout_size bits channels) (layouts_with bits channels form) ≡ Some (record { form = form; spellings = ss })
+unfolding layouts_with body
+least-layouts_with bits channels form ss h =
+    least-map (layout_size bits channels) (λ rs. record { form = form; spellings = rs }) (products (signals bits channels form))
+    ∙ ap (option_map (λ rs. record { form = form; spellings = rs })) (least-products (signals bits channels form) ss h)
+
+pub size_of_two : (a b : Signal) (s t : Spelling) → length (bodies (a ∷ b ∷ []) (s ∷ t ∷ [])) ≡ size a.depth a.samples s + size b.depth b.samples t
+unfolding bodies
+size_of_two a b s t =
+    length-append (subframe_bits a.depth a.samples s) (subframe_bits b.depth b.samples t ++ [])
+    ∙ ap (λ l. size a.depth a.samples s + length l) (append-nil (subframe_bits b.depth b.samples t))
+
+-- a form, the best of its layouts
+abbrev pub form_pair : ℕ → Spelling → Spelling → Layout
+form_pair form s t = record { form = form; spellings = s ∷ t ∷ [] }
+
+-- the four forms, one after another
+pub least-of_four : (bits : ℕ) (left right : List ℤ) (a b c d : Layout)
+    → least (layout_size bits (left ∷ right ∷ [])) (layouts_with bits (left ∷ right ∷ []) 1) ≡ Some a → least (layout_size bits (left ∷ right ∷ [])) (layouts_with bits (left ∷ right ∷ []) 8) ≡ Some b
+    → least (layout_size bits (left ∷ right ∷ [])) (layouts_with bits (left ∷ right ∷ []) 9) ≡ Some c → least (layout_size bits (left ∷ right ∷ [])) (layouts_with bits (left ∷ right ∷ []) 10) ≡ Some d
+    → least (layout_size bits (left ∷ right ∷ [])) (layouts bits (left ∷ right ∷ []))
+    ≡ choose (layout_size bits (left ∷ right ∷ [])) (Some a) (choose (layout_size bits (left ∷ right ∷ [])) (Some b) (choose (layout_size bits (left ∷ right ∷ [])) (Some c) (Some d)))
+unfolding layouts forms
+least-of_four bits left right a b c d ea eb ec ed =
+    let f : Layout → ℕ = layout_size bits (left ∷ right ∷ []) in
+    let L : ℕ → List Layout = layouts_with bits (left ∷ right ∷ []) in
+    least-append f (L 1) (L 8 ++ (L 9 ++ (L 10 ++ [])))
+    ∙ ap (λ o. choose f o (least f (L 8 ++ (L 9 ++ (L 10 ++ []))))) ea
+    ∙ ap (choose f (Some a))
+    (least-append f (L 8) (L 9 ++ (L 10 ++ []))
+    ∙ ap (λ o. choose f o (least f (L 9 ++ (L 10 ++ [])))) eb
+    ∙ ap (choose f (Some b))
+    (least-append f (L 9) (L 10 ++ [])
+    ∙ ap (λ o. choose f o (least f (L 10 ++ []))) ec
+    ∙ ap (choose f (Some c)) (ap (least f) (append-nil (L 10)) ∙ ed)))
+
+-- which of four is chosen
+chain_1 : {A : Type 0} (f : A → ℕ) (a b c d : A) → f a ≤ f b → f a ≤ f c → f a ≤ f d → choose f (Some a) (choose f (Some b) (choose f (Some c) (Some d))) ≡ Some a
+chain_1 f a b c d p q r = grind (arith, nat_tests)
+
+chain_2 : {A : Type 0} (f : A → ℕ) (a b c d : A) → f b < f a → f b ≤ f c → f b ≤ f d → choose f (Some a) (choose f (Some b) (choose f (Some c) (Some d))) ≡ Some b
+chain_2 f a b c d p q r = grind (arith, nat_tests)
+
+chain_3 : {A : Type 0} (f : A → ℕ) (a b c d : A) → f c < f a → f c < f b → f c ≤ f d → choose f (Some a) (choose f (Some b) (choose f (Some c) (Some d))) ≡ Some c
+chain_3 f a b c d p q r = grind (arith, nat_tests)
+
+chain_4 : {A : Type 0} (f : A → ℕ) (a b c d : A) → f d < f a → f d < f b → f d < f c → choose f (Some a) (choose f (Some b) (choose f (Some c) (Some d))) ≡ Some d
+chain_4 f a b c d p q r = grind (arith, nat_tests)
+
+-- ---- two channels as one, a sample more
+both_suc : (f : ℤ → ℤ → ℤ) (xs ys : List ℤ) (i : ℕ) → i < length xs → i < length ys
+    → both f (take (suc i) xs) (take (suc i) ys) ≡ both f (take i xs) (take i ys) ++ (f (get_or xs i (pos 0)) (get_or ys i (pos 0)) ∷ [])
+both_suc f [] ys i h g = absurd (omega arith)
+both_suc f (x ∷ xs) [] i h g = absurd (omega arith)
+both_suc f (x ∷ xs) (y ∷ ys) zero h g = refl
+both_suc f (x ∷ xs) (y ∷ ys) (suc i) h g = ap (λ l. f x y ∷ l) (both_suc f xs ys i (omega arith) (omega arith))
+
+pub both_more : (f : ℤ → ℤ → ℤ) (xs ys : List ℤ) (i : ℕ) → i < length xs → i < length ys
+    → both f (take (i + 1) xs) (take (i + 1) ys) ≡ both f (take i xs) (take i ys) ++ (f (get_or xs i (pos 0)) (get_or ys i (pos 0)) ∷ [])
+both_more f xs ys i h g =
+    let e : i + 1 ≡ suc i = omega arith in
+    ap (λ n. both f (take n xs) (take n ys)) e ∙ both_suc f xs ys i h g
+
+-- ---- the samples of the middle and the difference
+
+half_small : (m : ℕ) (z : ℤ) → magnitude z < 2 * m → magnitude (half z) < m
+half_small m (pos n) h = omega arith
+half_small m (negsuc n) h = omega arith
+
+sum_small : (m : ℕ) (x y : ℤ) → magnitude x < m → magnitude y < m → magnitude (x +ℤ y) < 2 * m
+sum_small m x y h g =
+    let a : x <ℤ pos m = above m x h in
+    let b : y <ℤ pos m = above m y g in
+    let c : neg_ℤ (pos m) ≤ℤ x = from_below m x h in
+    let d : neg_ℤ (pos m) ≤ℤ y = from_below m y g in
+    between (2 * m) (x +ℤ y) (omega (arith, ints)) (omega (arith, ints))
+
+zip_small : (P Q R : ℤ → Type 0) (f : ℤ → ℤ → ℤ) → ((x y : ℤ) → P x → Q y → R (f x y)) → (xs ys : List ℤ) → AllByRecursion P xs → AllByRecursion Q ys → AllByRecursion R (both f xs ys)
+zip_small P Q R f k [] ys h g = tt
+zip_small P Q R f k (x ∷ xs) [] h g = tt
+zip_small P Q R f k (x ∷ xs) (y ∷ ys) h g = (k x y h.0 g.0, zip_small P Q R f k xs ys h.1 g.1)
+
+zip_all : (P R : ℤ → Type 0) (f : ℤ → ℤ → ℤ) → ((x y : ℤ) → P x → P y → R (f x y)) → (xs ys : List ℤ) → All P xs → All P ys → All R (both f xs ys)
+zip_all P R f k xs ys h g = All-from_recursion R (both f xs ys) (zip_small P P R f k xs ys (recursion_from_All P xs h) (recursion_from_All P ys g))
+
+pub length-both : (f : ℤ → ℤ → ℤ) (xs ys : List ℤ) → length xs ≡ length ys → length (both f xs ys) ≡ length xs
+length-both f [] ys e = refl
+length-both f (x ∷ xs) [] e = absurd (omega arith)
+length-both f (x ∷ xs) (y ∷ ys) e = ap suc (length-both f xs ys (omega arith))
+
+pub mid_small : (m : ℕ) (xs ys mids : List ℤ) → mids ≡ mid_of xs ys → All (λ x. magnitude x < m) xs → All (λ x. magnitude x < m) ys → All (λ x. magnitude x < m) mids
+unfolding mid_of
+mid_small m xs ys mids e h g =
+    All-same (λ x. magnitude x < m) mids (mid_of xs ys) e
+    (zip_all (λ x. magnitude x < m) (λ x. magnitude x < m) (λ x y. half (x +ℤ y)) (λ x y a b. half_small m (x +ℤ y) (sum_small m x y a b)) xs ys h g)
+
+pub side_small : (m : ℕ) (xs ys sides : List ℤ) → sides ≡ side_of xs ys → All (λ x. magnitude x < m) xs → All (λ x. magnitude x < m) ys → All (λ x. magnitude x < 2 * m) sides
+unfolding side_of
+side_small m xs ys sides e h g =
+    All-same (λ x. magnitude x < 2 * m) sides (side_of xs ys) e
+    (zip_all (λ x. magnitude x < m) (λ x. magnitude x < 2 * m) (λ x y. x -ℤ y) (λ x y a b. step_small m y x b a) xs ys h g)
+
+pub length_mid : (xs ys mids : List ℤ) → mids ≡ mid_of xs ys → length xs ≡ length ys → length mids ≡ length xs
+unfolding mid_of
+length_mid xs ys mids e h = ap length e ∙ length-both _ xs ys h
+
+pub length_side : (xs ys sides : List ℤ) → sides ≡ side_of xs ys → length xs ≡ length ys → length sides ≡ length xs
+unfolding side_of
+length_side xs ys sides e h = ap length e ∙ length-both _ xs ys h
+
+pub two_bodies : (out a b : List Bool) (d e : ℕ) (xs ys : List ℤ) (s t : Spelling) → a ≡ out ++ subframe_bits d xs s → b ≡ a ++ subframe_bits e ys t
+    → b ≡ out ++ bodies (signal d xs ∷ signal e ys ∷ []) (s ∷ t ∷ [])
+unfolding bodies
+two_bodies out a b d e xs ys s t ea eb =
+    eb ∙ ap (λ l. l ++ subframe_bits e ys t) ea ∙ append_assoc out (subframe_bits d xs s) (subframe_bits e ys t)
+    ∙ ap (λ l. out ++ (subframe_bits d xs s ++ l)) (sym (append-nil (subframe_bits e ys t)))
+
+-- ---- what can be written
+
+pub can_mid : (bits : ℕ) (xs ys mids : List ℤ) → CanWrite bits xs → CanWrite bits ys → length xs ≡ length ys → mids ≡ mid_of xs ys → CanWrite bits mids
+can_mid bits xs ys mids h g l e =
+    let n : length mids ≡ length xs = length_mid xs ys mids e l in
+    record {
+      some_samples = omega (arith, n, h.some_samples);
+      len = omega (arith, n, h.len);
+      positive = h.positive;
+      within = h.within;
+      fits = mid_small (2 ^ (bits - 1)) xs ys mids e h.fits g.fits;
+    }
+
+pub can_side : (bits : ℕ) (xs ys sides : List ℤ) → bits ≤ 24 → CanWrite bits xs → CanWrite bits ys → length xs ≡ length ys → sides ≡ side_of xs ys → CanWrite (bits + 1) sides
+can_side bits xs ys sides w h g l e =
+    let n : length sides ≡ length xs = length_side xs ys sides e l in
+    let b : suc (bits - 1) ≡ bits + 1 - 1 = omega (arith, h.positive) in
+    let p : 2 * 2 ^ (bits - 1) ≡ 2 ^ (bits + 1 - 1) = omega (arith, pow-suc 2 (bits - 1)) ∙ ap (λ k. 2 ^ k) b in
+    record {
+      some_samples = omega (arith, n, h.some_samples);
+      len = omega (arith, n, h.len);
+      positive = omega arith;
+      within = omega (arith, w);
+      fits = subst (λ m. All (λ x. magnitude x < m) sides) p (side_small (2 ^ (bits - 1)) xs ys sides e h.fits g.fits);
+    }
+
+pub small_channel : (bits : ℕ) (xs : List ℤ) → CanWrite bits xs → All (λ x. magnitude x < 2 ^ 24) xs
+small_channel bits xs h = first_small bits xs h.within h.fits
+
+-- ---- the best of the four forms
+
+pub signals_1 : (bits : ℕ) (l r : List ℤ) → signals bits (l ∷ r ∷ []) 1 ≡ signal bits l ∷ signal bits r ∷ []
+unfolding signals
+signals_1 bits l r = refl
+
+pub signals_2 : (bits : ℕ) (l r : List ℤ) → signals bits (l ∷ r ∷ []) 8 ≡ signal bits l ∷ signal (bits + 1) (side_of l r) ∷ []
+unfolding signals
+signals_2 bits l r = refl
+
+pub signals_3 : (bits : ℕ) (l r : List ℤ) → signals bits (l ∷ r ∷ []) 9 ≡ signal (bits + 1) (side_of l r) ∷ signal bits r ∷ []
+unfolding signals
+signals_3 bits l r = refl
+
+pub signals_4 : (bits : ℕ) (l r : List ℤ) → signals bits (l ∷ r ∷ []) 10 ≡ signal bits (mid_of l r) ∷ signal (bits + 1) (side_of l r) ∷ []
+unfolding signals
+signals_4 bits l r = refl
+
+-- one form: its best pair, and what that costs
+abbrev pub spelled : Signal → Planned → Spelling
+spelled a p = spelling_of a.samples p.plan
+
+abbrev pub IsGood : Signal → Planned → Type 0
+IsGood a p = IsLeast a.depth a.samples p
+
+pub one_form : (bits : ℕ) (l r : List ℤ) (form : ℕ) (a b : Signal) (p q : Planned) → signals bits (l ∷ r ∷ []) form ≡ a ∷ b ∷ [] → IsGood a p → IsGood b q
+    → least (layout_size bits (l ∷ r ∷ [])) (layouts_with bits (l ∷ r ∷ []) form) ≡ Some (form_pair form (spelled a p) (spelled b q))
+one_form bits l r form a b p q e h g =
+    least-layouts_with bits (l ∷ r ∷ []) form (spelled a p ∷ spelled b q ∷ []) (subst (λ xs. AreBest xs (spelled a p ∷ spelled b q ∷ [])) (sym e) (h.chosen, (g.chosen, tt)))
+
+pub form_cost : (bits : ℕ) (l r : List ℤ) (form : ℕ) (a b : Signal) (p q : Planned) → signals bits (l ∷ r ∷ []) form ≡ a ∷ b ∷ [] → IsGood a p → IsGood b q
+    → layout_size bits (l ∷ r ∷ []) (form_pair form (spelled a p) (spelled b q)) ≡ p.cost + q.cost
+unfolding body
+form_cost bits l r form a b p q e h g =
+    ap (λ xs. length (bodies xs (spelled a p ∷ spelled b q ∷ []))) e
+    ∙ size_of_two a b (spelled a p) (spelled b q)
+    ∙ omega (arith, h.cost, g.cost)
+
+pub form_bits : (bits : ℕ) (l r : List ℤ) (form : ℕ) (a b : Signal) (s t : Spelling) (out next : List Bool) → signals bits (l ∷ r ∷ []) form ≡ a ∷ b ∷ []
+    → next ≡ out ++ bodies (a ∷ b ∷ []) (s ∷ t ∷ []) → next ≡ out ++ body bits (l ∷ r ∷ []) (form_pair form s t)
+unfolding body
+form_bits bits l r form a b s t out next e h = h ∙ ap (λ xs. out ++ bodies xs (s ∷ t ∷ [])) (sym e)
+
+-- the plans of left, right, mid and side
+pub record ArePlans (bits : ℕ) (l r : List ℤ) (p : Plans) : Type 0 where
+  pub left : IsLeast bits l p.left
+  pub right : IsLeast bits r p.right
+  pub mid : IsLeast bits (mid_of l r) p.mid
+  pub side : IsLeast (bits + 1) (side_of l r) p.side
+
+pub best_form : (bits : ℕ) (l r : List ℤ) (p : Plans) → ArePlans bits l r p → (shape : Shape) → Chooses p.left.cost p.right.cost p.mid.cost p.side.cost shape
+    → least (layout_size bits (l ∷ r ∷ [])) (layouts bits (l ∷ r ∷ [])) ≡ Some (pair_layout l r p shape)
+best_form bits l r p h shape chosen =
+    let L : Signal = signal bits l in
+    let R : Signal = signal bits r in
+    let M : Signal = signal bits (mid_of l r) in
+    let S : Signal = signal (bits + 1) (side_of l r) in
+    let f : Layout → ℕ = layout_size bits (l ∷ r ∷ []) in
+    let A : Layout = pair_layout l r p Independent in
+    let B : Layout = pair_layout l r p LeftSide in
+    let C : Layout = pair_layout l r p SideRight in
+    let D : Layout = pair_layout l r p MidSide in
+    let four = least-of_four bits l r A B C D
+    (one_form bits l r 1 L R p.left p.right (signals_1 bits l r) h.left h.right) (one_form bits l r 8 L S p.left p.side (signals_2 bits l r) h.left h.side)
+    (one_form bits l r 9 S R p.side p.right (signals_3 bits l r) h.side h.right) (one_form bits l r 10 M S p.mid p.side (signals_4 bits l r) h.mid h.side) in
+    let ca : f A ≡ p.left.cost + p.right.cost = form_cost bits l r 1 L R p.left p.right (signals_1 bits l r) h.left h.right in
+    let cb : f B ≡ p.left.cost + p.side.cost = form_cost bits l r 8 L S p.left p.side (signals_2 bits l r) h.left h.side in
+    let cc' : f C ≡ p.side.cost + p.right.cost = form_cost bits l r 9 S R p.side p.right (signals_3 bits l r) h.side h.right in
+    let cd : f D ≡ p.mid.cost + p.side.cost = form_cost bits l r 10 M S p.mid p.side (signals_4 bits l r) h.mid h.side in
+    elim shape as (λ s. Chooses p.left.cost p.right.cost p.mid.cost p.side.cost s → least f (layouts bits (l ∷ r ∷ [])) ≡ Some (pair_layout l r p s)) [
+      | Independent ↦ λ h. four ∙ chain_1 f A B C D (omega (arith, ca, cb, h.0)) (omega (arith, ca, cc', h.1)) (omega (arith, ca, cd, h.2))
+      | LeftSide ↦ λ h. four ∙ chain_2 f A B C D (omega (arith, ca, cb, h.0)) (omega (arith, cb, cc', h.1)) (omega (arith, cb, cd, h.2))
+      | SideRight ↦ λ h. four ∙ chain_3 f A B C D (omega (arith, ca, cc', h.0)) (omega (arith, cb, cc', h.1)) (omega (arith, cc', cd, h.2))
+      | MidSide ↦ λ h. four ∙ chain_4 f A B C D (omega (arith, ca, cd, h.0)) (omega (arith, cb, cd, h.1)) (omega (arith, cc', cd, h.2))
+    ] chosen
+
+pub pair_form : (l r : List ℤ) (p : Plans) (shape : Shape) → (pair_layout l r p shape).form ≡ form_of shape
+pair_form l r p Independent = refl
+pair_form l r p LeftSide = refl
+pair_form l r p SideRight = refl
+pair_form l r p MidSide = refl
+
+-- ---- two channels in one form
+
+pub on_ok : {A E : Type 0} {P Q : Type 0} (r : Result A E) → (P → Q) → OnOk r P → OnOk r Q
+on_ok (Ok a) f h = f h
+on_ok (Err e) f h = h
+
+module _ (bits : ℕ) (l r : List ℤ) (p : Plans) (shape : Shape) (out next : List Bool) where
+  shaped : (other : Shape) → shape ≡ other → next ≡ out ++ body bits (l ∷ r ∷ []) (pair_layout l r p other) → next ≡ out ++ body bits (l ∷ r ∷ []) (pair_layout l r p shape)
+  shaped other e h = h ∙ ap (λ s. out ++ body bits (l ∷ r ∷ []) (pair_layout l r p s)) (sym e)
+
+  pub shape_1 : shape ≡ Independent → next ≡ out ++ bodies (signal bits l ∷ signal bits r ∷ []) (spelling_of l p.left.plan ∷ spelling_of r p.right.plan ∷ [])
+      → next ≡ out ++ body bits (l ∷ r ∷ []) (pair_layout l r p shape)
+  shape_1 e h = shaped Independent e (form_bits bits l r 1 (signal bits l) (signal bits r) (spelling_of l p.left.plan) (spelling_of r p.right.plan) out next (signals_1 bits l r) h)
+
+  pub shape_2 : (side : List ℤ) → side ≡ side_of l r → shape ≡ LeftSide → next ≡ out ++ bodies (signal bits l ∷ signal (bits + 1) side ∷ []) (spelling_of l p.left.plan ∷ spelling_of side p.side.plan ∷ [])
+      → next ≡ out ++ body bits (l ∷ r ∷ []) (pair_layout l r p shape)
+  shape_2 side s e h = shaped LeftSide e (form_bits bits l r 8 (signal bits l) (signal (bits + 1) (side_of l r)) (spelling_of l p.left.plan) (spelling_of (side_of l r) p.side.plan) out next (signals_2 bits l r)
+      (h ∙ ap (λ xs. out ++ bodies (signal bits l ∷ signal (bits + 1) xs ∷ []) (spelling_of l p.left.plan ∷ spelling_of xs p.side.plan ∷ [])) s))
+
+  pub shape_3 : (side : List ℤ) → side ≡ side_of l r → shape ≡ SideRight → next ≡ out ++ bodies (signal (bits + 1) side ∷ signal bits r ∷ []) (spelling_of side p.side.plan ∷ spelling_of r p.right.plan ∷ [])
+      → next ≡ out ++ body bits (l ∷ r ∷ []) (pair_layout l r p shape)
+  shape_3 side s e h = shaped SideRight e (form_bits bits l r 9 (signal (bits + 1) (side_of l r)) (signal bits r) (spelling_of (side_of l r) p.side.plan) (spelling_of r p.right.plan) out next (signals_3 bits l r)
+      (h ∙ ap (λ xs. out ++ bodies (signal (bits + 1) xs ∷ signal bits r ∷ []) (spelling_of xs p.side.plan ∷ spelling_of r p.right.plan ∷ [])) s))
+
+  pub shape_4 : (mid side : List ℤ) → mid ≡ mid_of l r → side ≡ side_of l r → shape ≡ MidSide → next ≡ out ++ bodies (signal bits mid ∷ signal (bits + 1) side ∷ []) (spelling_of mid p.mid.plan ∷ spelling_of side p.side.plan ∷ [])
+      → next ≡ out ++ body bits (l ∷ r ∷ []) (pair_layout l r p shape)
+  shape_4 mid side m s e h = shaped MidSide e (form_bits bits l r 10 (signal bits (mid_of l r)) (signal (bits + 1) (side_of l r)) (spelling_of (mid_of l r) p.mid.plan) (spelling_of (side_of l r) p.side.plan) out next (signals_4 bits l r)
+      (h ∙ ap (λ xs. out ++ bodies (signal bits xs ∷ signal (bits + 1) side ∷ []) (spelling_of xs p.mid.plan ∷ spelling_of side p.side.plan ∷ [])) m
+      ∙ ap (λ xs. out ++ bodies (signal bits (mid_of l r) ∷ signal (bits + 1) xs ∷ []) (spelling_of (mid_of l r) p.mid.plan ∷ spelling_of xs p.side.plan ∷ [])) s))

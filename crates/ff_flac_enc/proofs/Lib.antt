@@ -1,0 +1,8 @@
+pub mod Choice
+pub mod HeadLemmas
+pub mod Apart
+pub mod ReadsHead
+pub mod ReadsFrame
+pub mod Stereo
+pub mod Spelled
+pub mod Codes

@@ -1,0 +1,176 @@
+//! A block of sound as a FLAC frame.
+
+ghost use Rattle.std.specs.Prelude.{◌≡◌, ◌+◌, ◌-◌, ◌*◌, ◌/◌, ◌^◌, ◌<◌, ◌≤◌, ◌≢◌, ◌++◌, length, map, IfOk, OnOk, All, Some};
+ghost use Rattle.std.specs.List.{flat_map, range_with_len};
+ghost use Rattle.ff_flac_rice.specs.Least.{least};
+ghost use Rattle.ff_flac_sub.specs.Subframe.{magnitude};
+ghost use Rattle.ff_flac_enc.specs.Head.{IsHead, opened};
+ghost use Rattle.ff_flac_enc.specs.Layout.{Layout, layouts, layout_size, body};
+ghost use Rattle.ff_flac_enc.specs.Channels.{channel_of, channels_in, best_bits};
+ghost use Rattle.ff_flac_enc.specs.Frame.{IsBlock, IsLeast, Spells, head_of};
+
+use crate::head::{Head, close_frame, open_frame};
+use crate::pair::write_pair;
+use ff_bits::BitWriter;
+use ff_flac_frame::FlacStream;
+use ff_flac_sub::write_subframe;
+use ff_frame::AFrame;
+use std::alloc::{AllocError, Global};
+
+/// The samples of one channel.
+#[tactic(auto, unfolding(crate::specs::Channels::channel_of))]
+fn channel(alloc: Global, samples: &[i32], n: usize, c: usize) -> Result<Vec<i32>, AllocError>
+    requires some { 0 < n }
+    requires one { c < n }
+    requires few { n ≤ 8 }
+    ensures { IfOk result (λ v. v.items ≡ channel_of n samples.now c) }
+{
+    let count = samples.len() / n;
+    let mut out = Vec::with_capacity(alloc, count)?;
+    for t in 0..count {
+        out.push(samples[t * n + c])?;
+    }
+    Ok(out)
+}
+
+/// Writes one channel as a subframe of its own.
+fn write_channel(
+    alloc: Global,
+    out: &mut BitWriter,
+    samples: &[i32],
+    n: usize,
+    c: usize,
+    bits: u32,
+) -> Result<(), AllocError>
+    requires some { 0 < n }
+    requires one { c < n }
+    requires few { n ≤ 8 }
+    requires some_bits { 0 < bits }
+    requires few_bits { bits ≤ 24 }
+    requires some_samples { n ≤ length samples.now }
+    requires few_samples { length samples.now ≤ 4096 * n }
+    requires fits { All (λ x. magnitude x < 2 ^ (bits - 1)) samples.now }
+    ensures { OnOk result (out.new ≡ out.old ++ best_bits bits (channel_of n samples.now c)) }
+{
+    let samples = channel(alloc, samples, n, c)?;
+    write_subframe(alloc, out, &samples, bits)?;
+    Ok(())
+}
+
+/// Writes each channel as a subframe of its own.
+fn write_channels(
+    alloc: Global,
+    out: &mut BitWriter,
+    samples: &[i32],
+    n: usize,
+    bits: u32,
+) -> Result<(), AllocError>
+    requires some { 0 < n }
+    requires few { n ≤ 8 }
+    requires some_bits { 0 < bits }
+    requires few_bits { bits ≤ 24 }
+    requires some_samples { n ≤ length samples.now }
+    requires few_samples { length samples.now ≤ 4096 * n }
+    requires fits { All (λ x. magnitude x < 2 ^ (bits - 1)) samples.now }
+    ensures { OnOk result (out.new ≡ out.old ++ flat_map (λ c. best_bits bits (channel_of n samples.now c)) (range_with_len 0 n)) }
+{
+    for c in 0..n {
+        write_channel(alloc, out, samples, n, c, bits)?;
+    }
+    Ok(())
+}
+
+/// The header and the subframes of channels that aren't two.
+fn write_apart(
+    alloc: Global,
+    head: &Head,
+    samples: &[i32],
+    n: usize,
+    bits: u32,
+) -> Result<BitWriter, AllocError>
+    requires head { IsHead head.now }
+    requires some { 0 < n }
+    requires few { n ≤ 8 }
+    requires other { n ≢ 2 }
+    requires some_bits { 0 < bits }
+    requires few_bits { bits ≤ 24 }
+    requires some_samples { n ≤ length samples.now }
+    requires few_samples { length samples.now ≤ 4096 * n }
+    requires fits { All (λ x. magnitude x < 2 ^ (bits - 1)) samples.now }
+    ensures { IfOk result (λ out. (y : Layout) × (least (layout_size bits (channels_in n samples.now)) (layouts bits (channels_in n samples.now)) ≡ Some y)
+        × (out ≡ opened head.now y.form ++ body bits (channels_in n samples.now) y)) }
+{
+    let mut out = open_frame(alloc, head, n as u8 - 1)?;
+    write_channels(alloc, &mut out, samples, n, bits)?;
+    Ok(out)
+}
+
+/// The header and the subframes of two channels.
+fn write_two(
+    alloc: Global,
+    head: &Head,
+    samples: &[i32],
+    bits: u32,
+) -> Result<BitWriter, AllocError>
+    requires head { IsHead head.now }
+    requires some_bits { 0 < bits }
+    requires few_bits { bits ≤ 24 }
+    requires some_samples { 2 ≤ length samples.now }
+    requires few_samples { length samples.now ≤ 4096 * 2 }
+    requires fits { All (λ x. magnitude x < 2 ^ (bits - 1)) samples.now }
+    ensures { IfOk result (λ out. (y : Layout) × (least (layout_size bits (channels_in 2 samples.now)) (layouts bits (channels_in 2 samples.now)) ≡ Some y)
+        × (out ≡ opened head.now y.form ++ body bits (channels_in 2 samples.now) y)) }
+{
+    let left = channel(alloc, samples, 2, 0)?;
+    let right = channel(alloc, samples, 2, 1)?;
+    let out = write_pair(alloc, head, &left, &right, bits)?;
+    Ok(out)
+}
+
+fn write_body(
+    alloc: Global,
+    head: &Head,
+    samples: &[i32],
+    n: usize,
+    bits: u32,
+) -> Result<BitWriter, AllocError>
+    requires head { IsHead head.now }
+    requires some { 0 < n }
+    requires few { n ≤ 8 }
+    requires some_bits { 0 < bits }
+    requires few_bits { bits ≤ 24 }
+    requires some_samples { n ≤ length samples.now }
+    requires few_samples { length samples.now ≤ 4096 * n }
+    requires fits { All (λ x. magnitude x < 2 ^ (bits - 1)) samples.now }
+    ensures { IfOk result (λ out. (y : Layout) × (least (layout_size bits (channels_in n samples.now)) (layouts bits (channels_in n samples.now)) ≡ Some y)
+        × (out ≡ opened head.now y.form ++ body bits (channels_in n samples.now) y)) }
+{
+    if n == 2 {
+        let out = write_two(alloc, head, samples, bits)?;
+        return Ok(out);
+    }
+    let out = write_apart(alloc, head, samples, n, bits)?;
+    Ok(out)
+}
+
+/// The bytes of a block of sound as the frame with this number: the first of its shortest spellings.
+pub fn encode_block(alloc: Global, frame: &AFrame, number: u32) -> Result<Vec<u8>, AllocError>
+    requires block { IsBlock frame.now }
+    requires number { number < 2 ^ 31 }
+    ensures least { IfOk result (λ v. IsLeast frame.now number v.items) }
+    ensures spells { IfOk result (λ v. Spells v.items frame.now number) }
+{
+    let n = frame.channels as usize;
+    let samples = frame.samples.as_slice();
+    let head = Head {
+        stream: FlacStream {
+            rate: frame.rate,
+            bits: frame.bits,
+            channels: frame.channels,
+        },
+        number,
+        block: (samples.len() / n) as u32,
+    };
+    let out = write_body(alloc, &head, samples, n, frame.bits as u32)?;
+    close_frame(out)
+}

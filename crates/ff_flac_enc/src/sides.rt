@@ -1,0 +1,51 @@
+//! The middle and the difference of two channels.
+
+ghost use Rattle.std.specs.Prelude.{◌≡◌, ◌+◌, ◌-◌, ◌^◌, ◌<◌, ◌≤◌, ◌+ℤ◌, ◌-ℤ◌, length, IfOk, All};
+ghost use Rattle.ff_flac_sub.specs.Subframe.{magnitude};
+ghost use Rattle.ff_flac_enc.specs.Layout.{half, mid_of, side_of};
+
+use std::alloc::{AllocError, Global};
+
+fn middle(x: i32, y: i32) -> i32
+    requires x { magnitude x < 2 ^ 24 }
+    requires y { magnitude y < 2 ^ 24 }
+    ensures { result ≡ half (x +ℤ y) }
+{
+    (x + y) >> 1
+}
+
+fn difference(x: i32, y: i32) -> i32
+    requires x { magnitude x < 2 ^ 24 }
+    requires y { magnitude y < 2 ^ 24 }
+    ensures { result ≡ x -ℤ y }
+{
+    x - y
+}
+
+/// The middle of two channels.
+pub fn mid_samples(alloc: Global, left: &[i32], right: &[i32]) -> Result<Vec<i32>, AllocError>
+    requires left { All (λ x. magnitude x < 2 ^ 24) left.now }
+    requires right { All (λ x. magnitude x < 2 ^ 24) right.now }
+    requires len { length left.now ≡ length right.now }
+    ensures { IfOk result (λ v. v.items ≡ mid_of left.now right.now) }
+{
+    let mut out = Vec::with_capacity(alloc, left.len())?;
+    for i in 0..left.len() {
+        out.push(middle(left[i], right[i]))?;
+    }
+    Ok(out)
+}
+
+/// The difference of two channels.
+pub fn side_samples(alloc: Global, left: &[i32], right: &[i32]) -> Result<Vec<i32>, AllocError>
+    requires left { All (λ x. magnitude x < 2 ^ 24) left.now }
+    requires right { All (λ x. magnitude x < 2 ^ 24) right.now }
+    requires len { length left.now ≡ length right.now }
+    ensures { IfOk result (λ v. v.items ≡ side_of left.now right.now) }
+{
+    let mut out = Vec::with_capacity(alloc, left.len())?;
+    for i in 0..left.len() {
+        out.push(difference(left[i], right[i]))?;
+    }
+    Ok(out)
+}

@@ -1,0 +1,20 @@
+use Rattle.std.proofs.Common.{◌≡◌, ◌-◌, ◌+◌, ◌≤◌, ◌^◌, suc, true, map, length}
+use Rattle.ff_flac_rice.specs.Rice.{is_allowed, parts_of}
+use Rattle.ff_flac_rice.specs.Row.{row_of}
+use Rattle.ff_flac_rice.proofs.Levels.{IsBest}
+use Rattle.ff_flac_rice.proofs.coding.best_coding.Given as goal
+
+abbrev pub invariant-loop-partition_order : goal.invariant-loop-partition_order
+invariant-loop-partition_order l = record {
+  first_small : l.first.cost ≤ 2 ^ 57;
+  second_small : l.second.cost ≤ 2 ^ 57;
+  fine : l.finest ≤ 8;
+  within : l.partition_order ≤ l.finest;
+  allowed : is_allowed (length l.us + l.order) l.order l.partition_order ≡ true;
+  rows : l.rows.items ≡ map row_of (parts_of l.order l.partition_order l.us);
+  first : IsBest l.order l.us 0 l.partition_order (suc (l.finest - l.partition_order)) l.first;
+  second : IsBest l.order l.us 1 l.partition_order (suc (l.finest - l.partition_order)) l.second;
+}
+
+abbrev pub decreases-loop-partition_order : goal.decreases-loop-partition_order
+decreases-loop-partition_order l = l.partition_order

@@ -1,0 +1,38 @@
+use Rattle.std.proofs.Common.{◌≡◌, ℕ, ◌+◌, ◌-◌, ◌*◌, ◌/◌, ◌^◌, ◌<◌, length, ap, ◌∙◌, arith, suc, ◌++◌, [], ◌∷◌}
+use Rattle.std.proofs.lemmas.Nat.{one_shl, shr_split, pow_pos}
+use Rattle.ff_flac_rice.proofs.RowLemmas.{rest_len, step_len, rows_start, rows_step, rows_end}
+use Rattle.ff_flac_rice.proofs.level.rows_of.Goals as goal
+
+pub loop-left-init : goal.loop-left-init
+loop-left-init c =
+    let n : ℕ = length c.args.us.now + c.args.order in
+    let whole : n / 2 ^ c.args.partition_order * 2 ^ c.args.partition_order ≡ n = omega (arith, shr_split n c.args.partition_order, c.requires.whole) in
+    let one : 0 < 2 ^ c.args.partition_order = pow_pos c.args.partition_order in
+    let rest : length c.split_at.result.1.now ≡ length c.args.us.now - (n / 2 ^ c.args.partition_order - c.args.order) = omega (arith, c.split_at.ensures.back_len) in
+    rw (one_shl c.args.partition_order 64 (omega arith)) (record {
+      rest = rest ∙ rest_len (length c.args.us.now) c.args.order (n / 2 ^ c.args.partition_order) (2 ^ c.args.partition_order - 1) (2 ^ c.args.partition_order) (omega arith) whole c.requires.longer;
+      short = omega arith;
+      rows = rows_start c.args.order c.args.partition_order c.args.us.now c.split_at.result.0.now c.split_at.result.1.now c.push.new.self.items
+          c.split_at.ensures.front c.split_at.ensures.back
+          (c.in_ok-push.ensures.items ∙ ap (λ l. l ++ (c.of.result ∷ [])) c.in_ok-rows.ensures.items ∙ ap (λ r. r ∷ []) c.of.ensures);
+    })
+
+pub loop-left-preserved : goal.loop-left-preserved
+loop-left-preserved c =
+    let size : ℕ = (length c.args.us.now + c.args.order) / 2 ^ c.args.partition_order in
+    let m : ℕ = c.loop-left.left - 1 in
+    let e : c.loop-left.left ≡ suc m = omega arith in
+    let e' : c.loop-left.left ≡ m + 1 = omega arith in
+    record {
+      rest = step_len c.loop-left.left m size (length c.loop-left.rest.now) (length c.split_at-in-loop-left.result.1.now) e' c.loop-left.invariant.rest (omega (arith, c.split_at-in-loop-left.ensures.back_len));
+      short = omega (arith, c.split_at-in-loop-left.ensures.back_len, c.loop-left.invariant.short);
+      rows = rows_step size c.loop-left.left m c.loop-left.rest.now c.split_at-in-loop-left.result.0.now c.split_at-in-loop-left.result.1.now
+          c.loop-left.rows.items c.push-in-loop-left.new.self.items _ e c.split_at-in-loop-left.ensures.front c.split_at-in-loop-left.ensures.back
+          (c.in_ok-push-2.ensures.items ∙ ap (λ r. c.loop-left.rows.items ++ (r ∷ [])) c.of-in-loop-left.ensures)
+          c.loop-left.invariant.rows;
+    }
+
+pub returns : goal.returns
+returns c =
+    let none : c.loop-left.left ≡ 0 = omega arith in
+    rows_end ((length c.args.us.now + c.args.order) / 2 ^ c.args.partition_order) c.loop-left.left c.loop-left.rest.now c.loop-left.rows.items _ none c.loop-left.invariant.rows

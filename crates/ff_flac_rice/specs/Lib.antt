@@ -1,0 +1,4 @@
+pub mod Least
+pub mod Rice
+pub mod Row
+pub mod Spells

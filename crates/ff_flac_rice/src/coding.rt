@@ -1,0 +1,110 @@
+//! The best coding of a residual.
+
+ghost use Rattle.std.specs.Prelude.{◌≡◌, ◌+◌, ◌-◌, ◌*◌, ◌/◌, ◌%◌, ◌^◌, ◌<◌, ◌≤◌, ℕ, length, IfOk, Some, true, nat_le, if◌then◌else◌};
+ghost use Rattle.std.specs.List.{range_with_len};
+ghost use Rattle.ff_flac_rice.specs.Least.{least};
+ghost use Rattle.ff_flac_rice.specs.Rice.{is_allowed, orders, residual_bits, codings, best_at};
+
+use crate::level::{halve, level_cost, rows_of};
+use std::alloc::{AllocError, Global};
+
+/// A way to code a residual, and its bits.
+#[derive(Clone, Copy)]
+pub struct Found {
+    pub method: usize,
+    pub partition_order: u32,
+    pub cost: u64,
+}
+
+/// A partition order, and the bits of all partitions.
+#[derive(Clone, Copy)]
+struct Choice {
+    partition_order: u32,
+    cost: u64,
+}
+
+/// Whether a block of `n` samples may have `2 ^ partition_order` partitions.
+fn allows(n: usize, order: usize, partition_order: u32) -> bool
+    requires { partition_order ≤ 8 }
+    ensures { result ≡ is_allowed n order partition_order }
+{
+    n % (1usize << partition_order) == 0 && order < n >> partition_order
+}
+
+/// The greatest partition order of all that are allowed.
+fn finest_order(n: usize, order: usize) -> u32
+    requires { order < n }
+    ensures within { result ≤ 8 }
+    ensures allowed { is_allowed n order result ≡ true }
+    ensures all { orders n order ≡ range_with_len 0 (result + 1) }
+{
+    let mut partition_order = 0;
+    while partition_order < 8 {
+        if !allows(n, order, partition_order + 1) {
+            return partition_order;
+        }
+        partition_order += 1;
+    }
+    partition_order
+}
+
+/// The one with the lower cost, and at the same cost the lower partition order.
+fn lower(choice: Choice, partition_order: u32, cost: u64) -> Choice
+    ensures chosen { result ≡ (if nat_le cost choice.cost then record { partition_order = partition_order; cost = cost } else choice) }
+    ensures small { result.cost ≤ choice.cost }
+{
+    if cost <= choice.cost {
+        Choice {
+            partition_order,
+            cost,
+        }
+    } else {
+        choice
+    }
+}
+
+/// The best coding of the zigzag values of a residual.
+pub fn best_coding(alloc: Global, us: &[u32], order: usize) -> Result<Found, AllocError>
+    requires len { length us.now ≤ 2 ^ 15 }
+    requires some { 0 < length us.now }
+    requires order { order ≤ 4 }
+    ensures least { IfOk result (λ f. least (λ c. length (residual_bits order c us.now)) (codings (length us.now + order) order)
+        ≡ Some (best_at order f.method f.partition_order us.now)) }
+    ensures cost { IfOk result (λ f. f.cost ≡ length (residual_bits order (best_at order f.method f.partition_order us.now) us.now)) }
+    ensures method { IfOk result (λ f. f.method ≤ 1) }
+    ensures partition_order { IfOk result (λ f. f.partition_order ≤ 8) }
+    ensures allowed { IfOk result (λ f. is_allowed (length us.now + order) order f.partition_order ≡ true) }
+    ensures small { IfOk result (λ f. f.cost ≤ 2 ^ 58) }
+{
+    let finest = finest_order(us.len() + order, order);
+    let mut rows = rows_of(alloc, us, order, finest)?;
+    let mut partition_order = finest;
+    let mut first = Choice {
+        partition_order,
+        cost: level_cost(&rows, 0),
+    };
+    let mut second = Choice {
+        partition_order,
+        cost: level_cost(&rows, 1),
+    };
+    while partition_order > 0 {
+        partition_order -= 1;
+        halve(&mut rows);
+        let with_first = level_cost(&rows, 0);
+        first = lower(first, partition_order, with_first);
+        let with_second = level_cost(&rows, 1);
+        second = lower(second, partition_order, with_second);
+    }
+    if second.cost < first.cost {
+        return Ok(Found {
+            method: 1,
+            partition_order: second.partition_order,
+            cost: 6 + second.cost,
+        });
+    }
+    Ok(Found {
+        method: 0,
+        partition_order: first.partition_order,
+        cost: 6 + first.cost,
+    })
+}

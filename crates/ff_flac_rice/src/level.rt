@@ -1,0 +1,67 @@
+//! The rows of all partitions of one partition order.
+
+ghost use Rattle.std.specs.Prelude.{◌≡◌, ◌+◌, ◌-◌, ◌*◌, ◌/◌, ◌%◌, ◌^◌, ◌<◌, ◌≤◌, ℕ, List, length, map, IfOk, All, vec_len};
+ghost use Rattle.std.specs.List.{sum_by};
+ghost use Rattle.ff_flac_rice.specs.Rice.{parts_of, best_cost};
+ghost use Rattle.ff_flac_rice.specs.Row.{row_of, pair_rows, RowFits, row_best_cost};
+
+use crate::row::Row;
+use std::alloc::{AllocError, Global};
+
+/// The rows of the values in `2 ^ partition_order` partitions.
+pub fn rows_of(
+    alloc: Global,
+    us: &[u32],
+    order: usize,
+    partition_order: u32,
+) -> Result<Vec<Row>, AllocError>
+    requires len { length us.now ≤ 2 ^ 15 }
+    requires order { order ≤ 4 }
+    requires partition_order { partition_order ≤ 8 }
+    requires whole { (length us.now + order) % 2 ^ partition_order ≡ 0 }
+    requires longer { order < (length us.now + order) / 2 ^ partition_order }
+    ensures { IfOk result (λ rows. rows.items ≡ map row_of (parts_of order partition_order us.now)) }
+{
+    let size = (us.len() + order) >> partition_order;
+    let (first, mut rest) = us.split_at(size - order);
+    let mut rows = Vec::with_capacity(alloc, 1usize << partition_order)?;
+    rows.push(Row::of(first))?;
+    let mut left = (1usize << partition_order) - 1;
+    while left > 0 {
+        let (part, after) = rest.split_at(size);
+        rows.push(Row::of(part))?;
+        rest = after;
+        left -= 1;
+    }
+    Ok(rows)
+}
+
+/// Makes one row of each two.
+pub fn halve(rows: &mut Vec<Row>)
+    requires fits { All RowFits rows.old.items }
+    requires even { vec_len rows.old % 2 ≡ 0 }
+    ensures { rows.new.items ≡ pair_rows rows.old.items }
+{
+    let half = rows.len() / 2;
+    for i in 0..half {
+        let row = rows[2 * i].with(&rows[2 * i + 1]);
+        rows[i] = row;
+    }
+    rows.truncate(half);
+}
+
+/// The least bits of all partitions with a method.
+pub fn level_cost(rows: &[Row], method: usize) -> u64
+    requires fits { All RowFits rows.now }
+    requires few { length rows.now ≤ 256 }
+    requires method { method ≤ 1 }
+    ensures is { result ≡ sum_by (row_best_cost method) rows.now }
+    ensures small { result ≤ 2 ^ 57 }
+{
+    let mut sum = 0u64;
+    for row in rows {
+        let (_, cost) = row.best(method);
+        sum += cost;
+    }
+    sum
+}

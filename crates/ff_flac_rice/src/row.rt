@@ -1,0 +1,151 @@
+//! Sums over a partition, under each parameter.
+
+ghost use Rattle.std.specs.Prelude.{◌≡◌, ◌+◌, ◌*◌, ◌^◌, ◌<◌, ◌≤◌, length, Some, ℕ, All};
+ghost use Rattle.std.specs.List.{range_with_len};
+ghost use Rattle.ff_flac_rice.specs.Least.{least};
+ghost use Rattle.ff_flac_rice.specs.Rice.{quotients, count_of};
+
+/// How many values a partition has, and their quotients' sum under each parameter.
+#[derive(Clone, Copy)]
+pub struct Row {
+    pub len: u64,
+    pub sums: [u64; 31],
+}
+
+/// The greatest value, or 0.
+fn greatest(part: &[u32]) -> u32
+    ensures { All (λ u. u ≤ result) part.now }
+{
+    let mut most: u32 = 0;
+    for u in part {
+        most = most.max(*u);
+    }
+    most
+}
+
+/// The sum of the quotients under one parameter, where it fits 32 bits.
+fn narrow_quotients(part: &[u32], k: u32, most: u32) -> u32
+    requires k { k < 32 }
+    requires most { All (λ u. u ≤ most) part.now }
+    requires fits { length part.now * most < 2 ^ 32 }
+    ensures { result ≡ quotients k part.now }
+{
+    let mut sum: u32 = 0;
+    for u in part {
+        sum += *u >> k;
+    }
+    sum
+}
+
+/// The sum of the quotients under one parameter.
+fn wide_quotients(part: &[u32], k: u32) -> u64
+    requires len { length part.now ≤ 2 ^ 16 }
+    requires k { k < 32 }
+    ensures { result ≡ quotients k part.now }
+{
+    let mut sum: u64 = 0;
+    for u in part {
+        sum += (*u >> k) as u64;
+    }
+    sum
+}
+
+/// The sum of the quotients under one parameter.
+fn quotients_of(part: &[u32], k: u32, most: u32) -> u64
+    requires len { length part.now ≤ 2 ^ 16 }
+    requires k { k < 32 }
+    requires most { All (λ u. u ≤ most) part.now }
+    ensures { result ≡ quotients k part.now }
+{
+    if part.len() as u64 * (most as u64) < 0x1_0000_0000 {
+        return narrow_quotients(part, k, most) as u64;
+    }
+    wide_quotients(part, k)
+}
+
+/// How many parameters a method has.
+fn parameter_count(method: usize) -> usize
+    ensures { result ≡ count_of method }
+{
+    if method == 0 { 15 } else { 31 }
+}
+
+impl Row {
+    ghost use Rattle.ff_flac_rice.specs.Row.{row_of, row_with, row_cost, row_best, row_best_cost, RowFits};
+
+    /// The row of a partition.
+    pub fn of(part: &[u32]) -> Row
+        requires { length part.now ≤ 2 ^ 16 }
+        ensures { result ≡ row_of part.now }
+    {
+        let most = greatest(part);
+        let mut sums = [0u64; 31];
+        for k in 0..31 {
+            if most >> k as u32 == 0 {
+                return Row {
+                    len: part.len() as u64,
+                    sums,
+                };
+            }
+            sums[k] = quotients_of(part, k as u32, most);
+        }
+        Row {
+            len: part.len() as u64,
+            sums,
+        }
+    }
+
+    /// The row of two partitions one after the other.
+    pub fn with(&self, other: &Row) -> Row
+        requires left { RowFits self.now }
+        requires right { RowFits other.now }
+        ensures { result ≡ row_with self.now other.now }
+    {
+        let mut sums = [0u64; 31];
+        for k in 0..31 {
+            sums[k] = self.sums[k] + other.sums[k];
+        }
+        Row {
+            len: self.len + other.len,
+            sums,
+        }
+    }
+
+    /// The best parameter of a method, and the bits with it.
+    pub fn best(&self, method: usize) -> (usize, u64)
+        requires fits { RowFits self.now }
+        requires method { method ≤ 1 }
+        ensures k { result.0 ≡ row_best method self.now }
+        ensures cost { result.1 ≡ row_best_cost method self.now }
+        ensures below { result.0 < count_of method }
+        ensures small { result.1 ≤ 2 ^ 49 }
+    {
+        self.best_below(4 + method as u64, parameter_count(method))
+    }
+
+    /// The best of the parameters below `count`, and its bits.
+    fn best_below(&self, width: u64, count: usize) -> (usize, u64)
+        requires fits { RowFits self.now }
+        requires width { width ≤ 5 }
+        requires some { 0 < count }
+        requires within { count ≤ 31 }
+        ensures k { least (λ k. row_cost width k self.now) (range_with_len 0 count) ≡ Some result.0 }
+        ensures cost { result.1 ≡ row_cost width result.0 self.now }
+        ensures below { result.0 < count }
+        ensures small { result.1 ≤ 2 ^ 49 }
+    {
+        let mut best = 0;
+        let mut cost = width + (self.len + self.sums[0]);
+        for k in 1..count {
+            if self.sums[k - 1] == 0 {
+                return (best, cost);
+            }
+            let other = width + (self.len * (k as u64 + 1) + self.sums[k]);
+            if other < cost {
+                best = k;
+                cost = other;
+            }
+        }
+        (best, cost)
+    }
+}

@@ -1,0 +1,4 @@
+pub mod Predict
+pub mod Plans
+pub mod ReadsSub
+pub mod Restored

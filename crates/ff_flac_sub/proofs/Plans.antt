@@ -1,0 +1,225 @@
+use Rattle.std.proofs.Common.{◌≡◌, ℕ, suc, ◌+◌, ◌-◌, ◌*◌, ◌^◌, ◌<◌, ◌≤◌, min, Bool, true, false, ltb, leb, cond, ℤ, List, [], ◌∷◌, ◌++◌, length, map, take, Option, Some, None, refl, sym, ap, ◌∙◌, subst, arith}
+use Rattle.std.specs.Option.{option_map, IfSome}
+use Rattle.std.specs.List.{flat_map, filter, range_with_len, All, AllByRecursion}
+use Rattle.std.proofs.lemmas.List.{length-append, length-take, length-map, append_assoc, append-nil}
+use Rattle.std.proofs.lemmas.List.Concat.{flat_map-append}
+use Rattle.std.proofs.lemmas.List.Elements.{filter-append, All-weaker, All-same}
+use Rattle.std.proofs.Math.Nat.{pow-suc, pow-le-pow_right}
+use Rattle.std.proofs.lemmas.Bool.{lt-ltb, le-ltb}
+use Rattle.ff_bits.specs.Bits.{bits_of}
+use Rattle.ff_bits.proofs.BitsLemmas.{length-bits_of}
+use Rattle.ff_flac_sub.specs.declared.subframe.Planned.{Planned}
+use Rattle.ff_flac_sub.specs.declared.subframe.Plan.TheVariants.{Verbatim}
+use Rattle.ff_flac_rice.specs.Least.{choose, least}
+use Rattle.ff_flac_rice.specs.Rice.{zigzagged, Coding, codings, residual_bits, best_at}
+use Rattle.ff_flac_sub.specs.Subframe.{Spelling, magnitude, steps, subframe_bits, sample_bits, rest_of, fixed_of, predictors, candidates, all_are, first_or_zero}
+use Rattle.ff_flac_sub.specs.Subframe.Spelling.{constant, fixed, verbatim}
+use Rattle.ff_flac_sub.specs.Plan.{spelling_of, size, IsBestPlan, PlanFits, constants}
+use Rattle.ff_flac_rice.proofs.LeastLemmas.{least-append, least-map, least-same, least-shift, least_one, least-nil, choose-map, range_more}
+use Rattle.ff_flac_rice.proofs.Levels.{coding_cost}
+use Rattle.ff_flac_rice.proofs.Orders.{filter_all, filter_none, range_between, range_split}
+use Rattle.ff_flac_rice.proofs.RowLemmas.{range_below}
+use Rattle.ff_flac_sub.proofs.Predict.{length-samples, length-sample_bits, length-rest_of, steps_small, rest_of-suc}
+
+pow_two : (m n : ℕ) → n ≡ suc m → 2 ^ n ≡ 2 * 2 ^ m
+pow_two m n e = ap (λ k. 2 ^ k) e ∙ omega (arith, pow-suc 2 m)
+
+pow_le : (i j : ℕ) → i ≤ j → 2 ^ i ≤ 2 ^ j
+pow_le i j h = pow-le-pow_right (omega arith) h
+
+-- ---- sizes
+
+pub size-constant : (depth : ℕ) (xs : List ℤ) → size depth xs constant ≡ 8 + depth
+unfolding subframe_bits
+size-constant depth xs =
+    length-append (bits_of 8 0) (sample_bits depth (first_or_zero xs)) ∙ omega (arith, length-bits_of 8 0, length-sample_bits depth (first_or_zero xs))
+
+pub size-verbatim : (depth : ℕ) (xs : List ℤ) → size depth xs verbatim ≡ 8 + depth * length xs
+unfolding subframe_bits
+size-verbatim depth xs =
+    length-append (bits_of 8 2) (flat_map (sample_bits depth) xs) ∙ omega (arith, length-bits_of 8 2, length-samples depth xs)
+
+pub size-fixed : (depth order : ℕ) (xs : List ℤ) (c : Coding) → order ≤ length xs
+    → size depth xs (fixed order c) ≡ (8 + depth * order) + length (residual_bits order c (map zigzagged (rest_of order xs)))
+unfolding subframe_bits
+size-fixed depth order xs c h =
+    let us : List ℕ = map zigzagged (rest_of order xs) in
+    let warm : List Bool = flat_map (sample_bits depth) (take order xs) in
+    let n : length (take order xs) ≡ order = omega (arith, length-take order xs, h) in
+    length-append (bits_of 8 (16 + 2 * order) ++ warm) (residual_bits order c us)
+    ∙ omega (arith, length-append (bits_of 8 (16 + 2 * order)) warm, length-bits_of 8 (16 + 2 * order), length-samples depth (take order xs), ap (λ m. depth * m) n)
+
+-- ---- the best of one order
+
+pub least-fixed_of : (depth order method partition_order : ℕ) (xs : List ℤ) (us : List ℕ) → order ≤ length xs → us ≡ map zigzagged (rest_of order xs)
+    → least (coding_cost order us) (codings (length us + order) order) ≡ Some (best_at order method partition_order us)
+    → least (size depth xs) (fixed_of (length xs) order) ≡ Some (fixed order (best_at order method partition_order (map zigzagged (rest_of order xs))))
+unfolding fixed_of
+least-fixed_of depth order method partition_order xs us h e b =
+    let n : length us + order ≡ length xs = omega (arith, ap length e, length-map (rest_of order xs) zigzagged, length-rest_of order xs, h) in
+    let vs : List ℕ = map zigzagged (rest_of order xs) in
+    let b' : least (coding_cost order vs) (codings (length xs) order) ≡ Some (best_at order method partition_order vs) =
+    sym (ap (λ m. least (coding_cost order vs) (codings m order)) n) ∙ sym (ap (λ l. least (coding_cost order l) (codings (length us + order) order)) e) ∙ b ∙ ap (λ l. Some (best_at order method partition_order l)) e in
+    least-map (size depth xs) (fixed order) (codings (length xs) order)
+    ∙ ap (option_map (fixed order))
+    (least-same (λ c. size depth xs (fixed order c)) (λ c. (8 + depth * order) + coding_cost order vs c) (codings (length xs) order) (λ c. size-fixed depth order xs c h)
+    ∙ least-shift (8 + depth * order) (coding_cost order vs) (codings (length xs) order)
+    ∙ b')
+
+pub cost-fixed : (depth order method partition_order cost : ℕ) (xs : List ℤ) (us : List ℕ) → order ≤ length xs → us ≡ map zigzagged (rest_of order xs)
+    → cost ≡ length (residual_bits order (best_at order method partition_order us) us)
+    → 8 + depth * order + cost ≡ size depth xs (fixed order (best_at order method partition_order (map zigzagged (rest_of order xs))))
+cost-fixed depth order method partition_order cost xs us h e c =
+    ap (λ n. 8 + depth * order + n) (c ∙ ap (λ l. length (residual_bits order (best_at order method partition_order l) l)) e)
+    ∙ sym (size-fixed depth order xs (best_at order method partition_order (map zigzagged (rest_of order xs))) h)
+
+-- ---- one candidate after another
+
+choice_costs : (f : Planned → ℕ) (best : Option Planned) (new : Planned) → IfSome best (λ p. p.cost ≡ f p) → new.cost ≡ f new
+    → choose f best (Some new) ≡ choose (λ p. p.cost) best (Some new)
+choice_costs f None new h e = refl
+choice_costs f (Some old) new h e =
+    ap (λ n. cond (leb n (f new)) (Some old) (Some new)) (sym h) ∙ ap (λ n. cond (leb old.cost n) (Some old) (Some new)) (sym e)
+
+chosen_holds : (P : Planned → Type 0) (best : Option Planned) (new : Planned) → IfSome best P → P new → IfSome (choose (λ p. p.cost) best (Some new)) P
+chosen_holds P None new h e = e
+chosen_holds P (Some old) new h e =
+    elim (leb old.cost new.cost) as (λ t. IfSome (cond t (Some old) (Some new)) P) [ true ↦ h | false ↦ e ]
+
+pub plan_next : (depth : ℕ) (xs : List ℤ) (cs ds : List Spelling) (best : Option Planned) (new result : Planned) → IsBestPlan depth xs cs best
+    → least (size depth xs) ds ≡ Some (spelling_of xs new.plan) → new.cost ≡ size depth xs (spelling_of xs new.plan) → PlanFits xs new.plan
+    → choose (λ p. p.cost) best (Some new) ≡ Some result → IsBestPlan depth xs (cs ++ ds) (Some result)
+plan_next depth xs cs ds best new result h d c w r =
+    let g : Planned → Spelling = λ p. spelling_of xs p.plan in
+    let f : Planned → ℕ = λ p. size depth xs (g p) in
+    record {
+      chosen =
+          least-append (size depth xs) cs ds
+          ∙ ap (λ o. choose (size depth xs) o (least (size depth xs) ds)) h.chosen
+          ∙ ap (choose (size depth xs) (option_map g best)) d
+          ∙ choose-map (size depth xs) g best (Some new)
+          ∙ ap (option_map g) (choice_costs f best new h.cost c ∙ r);
+      cost = subst (λ o. IfSome o (λ p. p.cost ≡ f p)) r (chosen_holds (λ p. p.cost ≡ f p) best new h.cost c);
+      fits = subst (λ o. IfSome o (λ p. PlanFits xs p.plan)) r (chosen_holds (λ p. PlanFits xs p.plan) best new h.fits w);
+    }
+
+pub same_spellings : (depth : ℕ) (xs : List ℤ) (cs ds : List Spelling) (best : Option Planned) → cs ≡ ds → IsBestPlan depth xs cs best → IsBestPlan depth xs ds best
+same_spellings depth xs cs ds best e h = subst (λ l. IsBestPlan depth xs l best) e h
+
+-- ---- the orders
+
+pub predictors-is : (n : ℕ) → predictors n ≡ range_with_len 0 (min n 5)
+unfolding predictors
+predictors-is n =
+    let t : ℕ → Bool = λ order. ltb order n in
+    let p : ℕ = min n 5 in
+    let e : p + (5 - p) ≡ 5 = omega arith in
+    let front : AllByRecursion (λ k. t k ≡ true) (range_with_len 0 p) = range_below (λ k. t k ≡ true) 0 p (λ k h. lt-ltb k n (omega arith)) in
+    let back : AllByRecursion (λ k. t k ≡ false) (range_with_len (0 + p) (5 - p)) = range_between (λ k. t k ≡ false) (0 + p) (5 - p) (λ k g l. le-ltb k n (omega arith)) in
+    ap (λ m. filter t (range_with_len 0 m)) (sym e)
+    ∙ ap (filter t) (range_split 0 p (5 - p))
+    ∙ filter-append t (range_with_len 0 p) (range_with_len (0 + p) (5 - p))
+    ∙ ap (λ l. l ++ filter t (range_with_len (0 + p) (5 - p))) (filter_all t _ front)
+    ∙ ap (λ l. range_with_len 0 p ++ l) (filter_none t _ back)
+    ∙ append-nil (range_with_len 0 p)
+
+abbrev pub so_far : List ℤ → ℕ → List Spelling
+so_far xs order = constants xs ++ flat_map (fixed_of (length xs)) (range_with_len 0 order)
+
+pub so_far-none : (xs : List ℤ) → so_far xs 0 ≡ constants xs
+so_far-none xs = append-nil (constants xs)
+
+pub so_far-more : (xs : List ℤ) (order : ℕ) → so_far xs order ++ fixed_of (length xs) order ≡ so_far xs (order + 1)
+so_far-more xs order =
+    let F : ℕ → List Spelling = fixed_of (length xs) in
+    append_assoc (constants xs) (flat_map F (range_with_len 0 order)) (F order)
+    ∙ ap (λ l. constants xs ++ (flat_map F (range_with_len 0 order) ++ l)) (sym (append-nil (F order)))
+    ∙ ap (λ l. constants xs ++ l) (sym (flat_map-append F (range_with_len 0 order) (order ∷ [])))
+    ∙ ap (λ l. constants xs ++ flat_map F l) (sym (range_more order))
+
+pub so_far-all : (xs : List ℤ) (order : ℕ) → order ≡ min (length xs) 5 → so_far xs order ++ (verbatim ∷ []) ≡ candidates xs
+unfolding candidates
+so_far-all xs order e =
+    ap (λ l. (constants xs ++ flat_map (fixed_of (length xs)) l) ++ (verbatim ∷ [])) (ap (range_with_len 0) e ∙ sym (predictors-is (length xs)))
+
+pub plan_constant : (depth : ℕ) (xs : List ℤ) (p : Planned) (t : Bool) → t ≡ true → t ≡ all_are (first_or_zero xs) xs
+    → spelling_of xs p.plan ≡ constant → p.cost ≡ 8 + depth → PlanFits xs p.plan → IsBestPlan depth xs (constants xs) (Some p)
+plan_constant depth xs p t e a s c w = record {
+  chosen = ap (λ b. least (size depth xs) (cond b (constant ∷ []) [])) (sym a ∙ e) ∙ least_one (size depth xs) constant ∙ ap (λ z. Some z) (sym s);
+  cost = c ∙ sym (ap (size depth xs) s ∙ size-constant depth xs);
+  fits = w;
+}
+
+pub plan_none : (depth : ℕ) (xs : List ℤ) (t : Bool) → t ≡ false → t ≡ all_are (first_or_zero xs) xs → IsBestPlan depth xs (constants xs) None
+plan_none depth xs t e a = record {
+  chosen = ap (λ b. least (size depth xs) (cond b (constant ∷ []) [])) (sym a ∙ e) ∙ least-nil (size depth xs);
+  cost = tt;
+  fits = tt;
+}
+
+-- ---- residuals as they are computed
+
+pub small_enough : (n order : ℕ) (xs : List ℤ) → order ≤ 5 → All (λ x. magnitude x < 2 ^ (24 + order)) xs → All (λ x. magnitude x < 2 ^ 30) xs
+small_enough n order xs h a =
+    All-weaker (λ x. magnitude x < 2 ^ (24 + order)) (λ x. magnitude x < 2 ^ 30) (λ x l. omega (arith, l, pow_le (24 + order) 30 (omega arith))) xs a
+
+pub next_small : (order : ℕ) (xs ys : List ℤ) → ys ≡ steps xs → All (λ x. magnitude x < 2 ^ (24 + order)) xs → All (λ x. magnitude x < 2 ^ (24 + (order + 1))) ys
+next_small order xs ys e h =
+    let p : 2 * 2 ^ (24 + order) ≡ 2 ^ (24 + (order + 1)) = sym (pow_two (24 + order) (24 + (order + 1)) (omega arith)) in
+    All-same (λ x. magnitude x < 2 ^ (24 + (order + 1))) ys (steps xs) e
+    (subst (λ m. All (λ x. magnitude x < m) (steps xs)) p (steps_small (2 ^ (24 + order)) xs h))
+
+pub next_rest : (order : ℕ) (xs rest next : List ℤ) → rest ≡ rest_of order xs → next ≡ steps rest → next ≡ rest_of (order + 1) xs
+next_rest order xs rest next e h =
+    let s : suc order ≡ order + 1 = omega arith in
+    h ∙ ap steps e ∙ sym (rest_of-suc order xs) ∙ ap (λ m. rest_of m xs) s
+
+pub first_small : (depth : ℕ) (xs : List ℤ) → depth ≤ 25 → All (λ x. magnitude x < 2 ^ (depth - 1)) xs → All (λ x. magnitude x < 2 ^ 24) xs
+first_small depth xs h a =
+    All-weaker (λ x. magnitude x < 2 ^ (depth - 1)) (λ x. magnitude x < 2 ^ 24) (λ x l. omega (arith, l, pow_le (depth - 1) 24 (omega arith))) xs a
+
+pub length_us : (order : ℕ) (xs rest : List ℤ) (us vs : List ℕ) → rest ≡ rest_of order xs → us ≡ map zigzagged rest → vs ≡ us → length vs ≡ length xs - order
+length_us order xs rest us vs r u v = ap length v ∙ ap length u ∙ length-map rest zigzagged ∙ ap length r ∙ length-rest_of order xs
+
+pub plan_last : (depth : ℕ) (xs : List ℤ) (order : ℕ) (best : Option Planned) (new result : Planned) → order ≡ min (length xs) 5
+    → IsBestPlan depth xs (so_far xs order) best → new.plan ≡ Verbatim → new.cost ≡ 8 + depth * length xs
+    → choose (λ p. p.cost) best (Some new) ≡ Some result → IsBestPlan depth xs (candidates xs) (Some result)
+plan_last depth xs order best new result e h p c r =
+    let s : spelling_of xs new.plan ≡ verbatim = ap (spelling_of xs) p in
+    same_spellings depth xs (so_far xs order ++ (verbatim ∷ [])) (candidates xs) (Some result) (so_far-all xs order e)
+    (plan_next depth xs (so_far xs order) (verbatim ∷ []) best new result h
+    (least_one (size depth xs) verbatim ∙ ap (λ z. Some z) (sym s))
+    (c ∙ sym (ap (size depth xs) s ∙ size-verbatim depth xs))
+    (subst (PlanFits xs) (sym p) tt)
+    r)
+
+-- ---- what a subframe is
+
+pub subframe-constant : (depth : ℕ) (xs : List ℤ) → subframe_bits depth xs constant ≡ bits_of 8 0 ++ sample_bits depth (first_or_zero xs)
+unfolding subframe_bits
+subframe-constant depth xs = refl
+
+pub subframe-verbatim : (depth : ℕ) (xs : List ℤ) → subframe_bits depth xs verbatim ≡ bits_of 8 2 ++ flat_map (sample_bits depth) xs
+unfolding subframe_bits
+subframe-verbatim depth xs = refl
+
+pub subframe-fixed : (depth order : ℕ) (xs : List ℤ) (c : Coding)
+    → subframe_bits depth xs (fixed order c) ≡ bits_of 8 (16 + 2 * order) ++ flat_map (sample_bits depth) (take order xs) ++ residual_bits order c (map zigzagged (rest_of order xs))
+unfolding subframe_bits
+subframe-fixed depth order xs c = refl
+
+pub fixed_bits : (depth order method partition_order : ℕ) (xs : List ℤ) (vs : List ℕ) (out a b r : List Bool) → a ≡ out ++ bits_of 8 (16 + 2 * order)
+    → b ≡ a ++ flat_map (sample_bits depth) (take order xs) → r ≡ b ++ residual_bits order (best_at order method partition_order vs) vs → vs ≡ map zigzagged (rest_of order xs)
+    → r ≡ out ++ subframe_bits depth xs (fixed order (best_at order method partition_order (map zigzagged (rest_of order xs))))
+fixed_bits depth order method partition_order xs vs out a b r ea eb er e =
+    let head : List Bool = bits_of 8 (16 + 2 * order) in
+    let warm : List Bool = flat_map (sample_bits depth) (take order xs) in
+    let us : List ℕ = map zigzagged (rest_of order xs) in
+    let tail : List Bool = residual_bits order (best_at order method partition_order us) us in
+    er ∙ ap (λ l. b ++ residual_bits order (best_at order method partition_order l) l) e
+    ∙ ap (λ l. l ++ tail) (eb ∙ ap (λ l. l ++ warm) ea ∙ append_assoc out head warm)
+    ∙ append_assoc out (head ++ warm) tail
+    ∙ ap (λ l. out ++ l) (sym (subframe-fixed depth order xs (best_at order method partition_order us)))
+
+pub two_parts : (out a b head tail all : List Bool) → a ≡ out ++ head → b ≡ a ++ tail → all ≡ head ++ tail → b ≡ out ++ all
+two_parts out a b head tail all ea eb e = eb ∙ ap (λ l. l ++ tail) ea ∙ append_assoc out head tail ∙ ap (λ l. out ++ l) (sym e)

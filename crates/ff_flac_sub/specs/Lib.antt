@@ -1,0 +1,3 @@
+pub mod Subframe
+pub mod Plan
+pub mod Part

@@ -1,0 +1,105 @@
+//! Samples and their residuals.
+
+ghost use Rattle.std.specs.Prelude.{◌≡◌, ◌+◌, ◌-◌, ◌*◌, ◌^◌, ◌<◌, ◌≤◌, ◌++◌, length, map, ℤ, ◌-ℤ◌, IfOk, OnOk, All};
+ghost use Rattle.std.specs.List.{flat_map, list_all};
+ghost use Rattle.std.specs.Ordering.{int_eq};
+ghost use Rattle.ff_flac_rice.specs.Rice.{zigzagged};
+ghost use Rattle.ff_flac_sub.specs.Subframe.{steps, magnitude, code, sample_bits, all_are, first_or_zero};
+
+use ff_bits::BitWriter;
+use std::alloc::{AllocError, Global};
+
+fn step(x: i32, before: i32) -> i32
+    requires x { magnitude x < 2 ^ 30 }
+    requires before { magnitude before < 2 ^ 30 }
+    ensures { result ≡ x -ℤ before }
+{
+    x - before
+}
+
+/// How each sample differs from the one before.
+pub fn steps_of(alloc: Global, xs: &[i32]) -> Result<Vec<i32>, AllocError>
+    requires { All (λ x. magnitude x < 2 ^ 30) xs.now }
+    ensures { IfOk result (λ v. v.items ≡ steps xs.now) }
+{
+    let mut out = Vec::with_capacity(alloc, xs.len())?;
+    for i in 1..xs.len() {
+        out.push(step(xs[i], xs[i - 1]))?;
+    }
+    Ok(out)
+}
+
+fn zigzag_of(x: i32) -> u32
+    requires { magnitude x < 2 ^ 30 }
+    ensures { result ≡ zigzagged x }
+{
+    if x >= 0 {
+        2 * x as u32
+    } else {
+        2 * (-(x + 1)) as u32 + 1
+    }
+}
+
+/// The numbers from 0 on that stand for the samples.
+pub fn zigzags_of(alloc: Global, xs: &[i32]) -> Result<Vec<u32>, AllocError>
+    requires { All (λ x. magnitude x < 2 ^ 30) xs.now }
+    ensures { IfOk result (λ v. v.items ≡ map zigzagged xs.now) }
+{
+    let mut out = Vec::with_capacity(alloc, xs.len())?;
+    for x in xs {
+        out.push(zigzag_of(*x))?;
+    }
+    Ok(out)
+}
+
+/// A sample in two's complement.
+fn code_of(x: i32, depth: u32) -> u64
+    requires some { 0 < depth }
+    requires within { depth ≤ 32 }
+    requires fits { magnitude x < 2 ^ (depth - 1) }
+    ensures is { result ≡ code depth x }
+    ensures below { result < 2 ^ depth }
+{
+    if x >= 0 {
+        return x as u64;
+    }
+    (1u64 << depth) - ((-(x + 1)) as u64 + 1)
+}
+
+/// Writes a sample in two's complement.
+pub fn put_sample(out: &mut BitWriter, x: i32, depth: u32) -> Result<(), AllocError>
+    requires some { 0 < depth }
+    requires within { depth ≤ 32 }
+    requires fits { magnitude x < 2 ^ (depth - 1) }
+    ensures { OnOk result (out.new ≡ out.old ++ sample_bits depth x) }
+{
+    out.put(code_of(x, depth), depth)?;
+    Ok(())
+}
+
+/// Writes samples.
+pub fn put_samples(out: &mut BitWriter, xs: &[i32], depth: u32) -> Result<(), AllocError>
+    requires some { 0 < depth }
+    requires within { depth ≤ 32 }
+    requires fits { All (λ x. magnitude x < 2 ^ (depth - 1)) xs.now }
+    ensures { OnOk result (out.new ≡ out.old ++ flat_map (sample_bits depth) xs.now) }
+{
+    for x in xs {
+        put_sample(out, *x, depth)?;
+    }
+    Ok(())
+}
+
+fn all_equal(xs: &[i32], first: i32) -> bool
+    ensures { result ≡ list_all (λ y. int_eq y first) xs.now }
+{
+    xs.iter().all(|x| *x == first)
+}
+
+/// Whether all samples are the first.
+pub fn are_equal(xs: &[i32]) -> bool
+    requires { 0 < length xs.now }
+    ensures { result ≡ all_are (first_or_zero xs.now) xs.now }
+{
+    all_equal(xs, xs[0])
+}
