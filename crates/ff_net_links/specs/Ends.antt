@@ -1,12 +1,12 @@
 -- How the ends of links stand to the wires of a node.
-use Rattle.std.specs.Prelude.{◌≡◌, ℕ, ◌<◌, ◌⊎◌, true, false, List, [], length, Option, None, Some, is_some}
+use Rattle.std.specs.Prelude.{◌≡◌, ℕ, ◌<◌, ◌⊎◌, true, false, List, [], length, Option, None, Some, is_some, slice_index_or, slice_set, ◌∷◌}
 use Rattle.ff_frame.specs.declared.item.Item.{Item}
 use Rattle.ff_frame.specs.declared.item.Lane.{Lane}
 use Rattle.ff_frame.specs.Stream.{still_open, LiesBelow}
 use Rattle.ff_frame.specs.Items.{with_item}
 use Rattle.ff_frame.specs.Ports.{IsClosed}
 use Rattle.ff_link.specs.Sendings.{stream_of, IsSending}
-use Rattle.ff_link.specs.Views.{Link, Receiving, Ended}
+use Rattle.ff_link.specs.Views.{Link, Sending, Receiving, Ended}
 use Rattle.ff_net.specs.declared.wires.Wires.{Wires}
 use Rattle.ff_net.specs.Ways.{lane_at, IsValidOn}
 use Rattle.ff_net.specs.Pasts.{Past}
@@ -68,3 +68,37 @@ pub record OnWires (ins outs : List ℕ) (wires : Wires) (world : ℕ → Wire) 
   pub stand : Stand wires now
   pub fits : holds (now w)
   pub course : Course ins outs world now past past
+
+-- the end of a new link
+abbrev pub new_in : ℕ → Receiving → InEnd
+new_in wire r = record { wire = wire; taking = Some r; finished = None; held = None }
+
+abbrev pub new_out : ℕ → Sending → OutEnd
+new_out wire s = record { wire = wire; sender = s; held = None; done = false }
+
+-- the end of this number, with one that does nothing where there is none
+abbrev pub no_in : InEnd
+no_in = record { wire = 0; taking = None; finished = None; held = None }
+
+abbrev pub in_end_at : List InEnd → ℕ → InEnd
+in_end_at ends p = slice_index_or ends p no_in
+
+-- one end drew
+pub record Draws (wires wires' : Wires) (ends ends' : List InEnd) (p : ℕ) : Type 0 where
+  pub end : InEnd
+  pub set : ends' ≡ slice_set ends p end
+  pub wire : end.wire ≡ (in_end_at ends p).wire
+  pub link : in_link end ≡ in_link (in_end_at ends p)
+  pub stands : (world : ℕ → Wire) (past : Past) → Stand wires world → InEndStands (in_end_at ends p) (lane_at (lanes_of wires) (in_end_at ends p).wire) (world (in_end_at ends p).wire)
+      → OnWires [] ((in_end_at ends p).wire ∷ []) wires' world past (InEndStands end (lane_at (lanes_of wires) (in_end_at ends p).wire)) (in_end_at ends p).wire
+
+-- one end poured
+pub record Pours (wires wires' : Wires) (ends ends' : List OutEnd) (q : ℕ) : Type 0 where
+  pub old : OutEnd
+  pub is : (d : OutEnd) → slice_index_or ends q d ≡ old
+  pub end : OutEnd
+  pub set : ends' ≡ slice_set ends q end
+  pub wire : end.wire ≡ old.wire
+  pub link : out_link end ≡ out_link old
+  pub stands : (world : ℕ → Wire) (past : Past) → Stand wires world → OutEndStands old (lane_at (lanes_of wires) old.wire) (world old.wire)
+      → OnWires (old.wire ∷ []) [] wires' world past (OutEndStands end (lane_at (lanes_of wires) old.wire)) old.wire

@@ -1,10 +1,11 @@
 // The ends of links at the wires of a node.
-ghost use Rattle.std.specs.Prelude.{◌≡◌, ◌<◌, ℕ, length, true, false, [], ◌∷◌};
+ghost use Rattle.std.specs.Prelude.{◌≡◌, ◌<◌, ℕ, length, slice_index_or, true, false, [], ◌∷◌};
 ghost use Rattle.ff_net.specs.declared.wires.Wires.{Wires};
 ghost use Rattle.ff_net.specs.Pasts.{Past};
 ghost use Rattle.ff_net.specs.Ways.{lane_at};
 ghost use Rattle.ff_net.specs.Worlds.{Wire, Stand, lanes_of};
-ghost use Rattle.ff_net_links.specs.Ends.{InEndStands, OutEndStands, CanPour, OnWires, in_link, out_link};
+ghost use Rattle.ff_net_links.specs.Ends.{InEndStands, OutEndStands, CanPour, OnWires, Draws, Pours, in_link, out_link, in_end_at};
+ghost use Rattle.ff_net_links.specs.declared.ends.OutEnd.{OutEnd};
 
 use ff_frame::Item;
 use ff_link::{Finished, Put, Receiver, Sender, Take};
@@ -27,6 +28,40 @@ pub struct OutEnd {
     pub sender: Sender,
     pub held: Option<Item>,
     pub done: bool,
+}
+
+impl InEnd {
+    ghost use Rattle.std.specs.Prelude.{◌≡◌};
+    ghost use Rattle.ff_net_links.specs.Ends.{new_in};
+
+    /// The end of a link that takes, at the wire of this number.
+    pub fn new(wire: usize, receiver: Receiver) -> InEnd
+        ensures { result ≡ new_in wire receiver }
+    {
+        InEnd {
+            wire,
+            taking: Some(receiver),
+            finished: None,
+            held: None,
+        }
+    }
+}
+
+impl OutEnd {
+    ghost use Rattle.std.specs.Prelude.{◌≡◌};
+    ghost use Rattle.ff_net_links.specs.Ends.{new_out};
+
+    /// The end of a link that sends, at the wire of this number.
+    pub fn new(wire: usize, sender: Sender) -> OutEnd
+        ensures { result ≡ new_out wire sender }
+    {
+        OutEnd {
+            wire,
+            sender,
+            held: None,
+            done: false,
+        }
+    }
 }
 
 // Takes nothing more from the link, and says whether it did before.
@@ -189,3 +224,24 @@ pub fn pour<R: Wait>(rt: &R, wires: &mut Wires, end: &mut OutEnd) -> bool
 }
 
 fn discard(_item: Item) {}
+
+/// Draws at the end of this number.
+pub fn draw_at<R: Wait>(rt: &R, wires: &mut Wires, ins: &mut Vec<InEnd>, p: usize) -> bool
+    requires there { p < length ins.old.items }
+    requires wire { (in_end_at ins.old.items p).wire < length (lanes_of wires.old) }
+    ensures lanes { lanes_of wires.new ≡ lanes_of wires.old }
+    ensures draws { Draws wires.old wires.new ins.old.items ins.new.items p }
+{
+    draw(rt, wires, &mut ins[p])
+}
+
+/// Pours at the end of this number.
+pub fn pour_at<R: Wait>(rt: &R, wires: &mut Wires, outs: &mut Vec<OutEnd>, q: usize) -> bool
+    requires there { q < length outs.old.items }
+    requires wire { (d : OutEnd) → (slice_index_or outs.old.items q d).wire < length (lanes_of wires.old) }
+    requires stands { (d : OutEnd) → CanPour wires.old (slice_index_or outs.old.items q d) }
+    ensures lanes { lanes_of wires.new ≡ lanes_of wires.old }
+    ensures pours { Pours wires.old wires.new outs.old.items outs.new.items q }
+{
+    pour(rt, wires, &mut outs[q])
+}

@@ -14,5 +14,7 @@
 #![tactic(auto)]
 
 mod ends;
+mod linked;
 
 pub use ends::{InEnd, OutEnd};
+pub use linked::Linked;

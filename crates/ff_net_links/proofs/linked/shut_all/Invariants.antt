@@ -1,0 +1,7 @@
+use Rattle.std.proofs.Common.{◌≡◌, ◌<◌, ℕ, length, true, None, slice_index_or}
+use Rattle.ff_net_links.specs.declared.ends.OutEnd.{OutEnd}
+use Rattle.ff_net_links.specs.Ends.{in_end_at}
+use Rattle.ff_net_links.proofs.linked.shut_all.Given as goal
+
+abbrev pub invariant-loop-end : goal.invariant-loop-end
+invariant-loop-end l = (p : ℕ) → p < l.end-index → (in_end_at l.ins.items p).taking ≡ None
