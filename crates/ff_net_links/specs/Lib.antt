@@ -1,2 +1,4 @@
 pub mod Ends
 pub mod Nodes
+pub mod Runs
+pub mod Workers

@@ -15,6 +15,10 @@
 
 mod ends;
 mod linked;
+mod rest;
+mod threads;
+mod worker;
 
 pub use ends::{InEnd, OutEnd};
 pub use linked::Linked;
+pub use threads::run_threads;
