@@ -38,3 +38,33 @@ written_back [] (y ∷ ys) n e f = absurd (omega arith)
 written_back (x ∷ xs) [] n e f = absurd (omega arith)
 written_back (x ∷ xs) (y ∷ ys) zero e f = absurd (omega arith)
 written_back (x ∷ xs) (y ∷ ys) (suc n) e f = λ i. x ∷ written_back xs ys n (omega arith) (omega arith) i
+
+-- the rest of an iterator's items, by their places in the whole
+pub rest_next : {A : Type 0} (xs ys items : List A) (x d : A) (n k : ℕ) → xs ≡ x ∷ ys → get_or xs (suc k) d ≡ get_or items (n + suc k) d → get_or ys k d ≡ get_or items (n + 1 + k) d
+rest_next xs ys items x d n k e h =
+    let place : n + suc k ≡ n + 1 + k = omega arith in
+    sym (ap (λ zs. get_or zs (suc k) d) e) ∙ (h ∙ ap (λ m. get_or items m d) place)
+
+pub first_next : {A : Type 0} (xs ys items : List A) (x d : A) (n : ℕ) → xs ≡ x ∷ ys → get_or xs 0 d ≡ get_or items (n + 0) d → x ≡ get_or items n d
+first_next xs ys items x d n e h =
+    let place : n + 0 ≡ n = omega arith in
+    sym (ap (λ zs. get_or zs 0 d) e) ∙ (h ∙ ap (λ m. get_or items m d) place)
+
+-- an item that is there
+pub nth_of : {A : Type 0} (xs : List A) (i : ℕ) → i < length xs → A
+nth_of [] i lt = absurd (omega arith)
+nth_of (x ∷ xs) zero lt = x
+nth_of (x ∷ xs) (suc i) lt = nth_of xs i (omega arith)
+
+-- whom a worker serves
+module _ {M : Type 0} (in_lanes out_lanes : M → List Lane) (source : M → Option ℕ) (device : M → Option (List ℕ)) (failures : M → ℕ) (fault : M → Option Fault) (stands : M → Past → Type 0) where
+  pub someone : (ns : List (Linked M)) (ws : List (Worker M)) (i : ℕ) (w : Worker M) → AllServe in_lanes out_lanes source device failures fault stands ns ws → i < length ws → w ≡ get_or ws i w → (n : Linked M) × Serves in_lanes out_lanes source device failures fault stands n w
+  someone ns ws i w all lt is =
+      let there : i < length ns = let same = all.0 in omega arith in
+      let d : Linked M = nth_of ns i there in
+      (get_or ns i d, subst (λ (v : Worker M). Serves in_lanes out_lanes source device failures fault stands (get_or ns i d) v) (sym is) (all.1 i d w there))
+
+pub rest_first : {A : Type 0} (xs items : List A) (n k : ℕ) (d : A) → xs ≡ items → n ≡ 0 → get_or xs k d ≡ get_or items (n + k) d
+rest_first xs items n k d e z =
+    let place : k ≡ n + k = omega arith in
+    ap (λ zs. get_or zs k d) e ∙ ap (λ m. get_or items m d) place

@@ -17,8 +17,8 @@ module _ {M : Type 0} (in_lanes out_lanes : M → List Lane) (source : M → Opt
   AllRan olds news = (length news ≡ length olds) × ((i : ℕ) (d : Linked M) → i < length olds → Ran (slice_index_or olds i d) (slice_index_or news i d))
 
   -- each is lawful
-  abbrev pub AllLawful : List (Linked M) → Type 0
-  AllLawful nodes = (i : ℕ) (d : Linked M) → i < length nodes → IsLawful in_lanes out_lanes source fault stands (slice_index_or nodes i d)
+  pub record AllLawful (nodes : List (Linked M)) : Type 0 where
+    pub each : (i : ℕ) (d : Linked M) → i < length nodes → IsLawful in_lanes out_lanes source fault stands (slice_index_or nodes i d)
 
   -- what came back is the node after some turns, and where it says so, it is done
   abbrev pub Came : Linked M → Back M → Type 0

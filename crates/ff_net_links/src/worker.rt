@@ -119,11 +119,10 @@ pub fn finish<M: Machine + Drop, R: Threads + Wait>(rt: &R, worker: Worker<M>) -
     requires { (n : Linked _) × Serves M.in_lanes M.out_lanes M.source_of M.device_of M.failures M.fault_of M.stands n worker }
     ensures { (n : Linked _) → Serves M.in_lanes M.out_lanes M.source_of M.device_of M.failures M.fault_of M.stands n worker → Ran M.in_lanes M.out_lanes M.source_of M.device_of M.failures M.fault_of M.stands n result }
 {
-    let back = match worker {
-        Worker::Runs(handle) => handle.join(rt),
-        Worker::Here(back) => back,
-    };
-    finish_back(rt, back)
+    match worker {
+        Worker::Runs(handle) => finish_back(rt, handle.join(rt)),
+        Worker::Here(back) => finish_back(rt, back),
+    }
 }
 
 fn finish_back<M: Machine, R: Wait>(rt: &R, back: Back<M>) -> Linked<M>
