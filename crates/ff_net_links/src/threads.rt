@@ -109,6 +109,30 @@ fn run_in<'s, E, M: Machine + Send + Drop + 's, R: Threads + Wait + Sync>(
     finish_all(rt, workers, done)
 }
 
+// The lists are long enough.
+fn run_scoped<M: Machine + Send + Drop, R: Threads + Wait + Sync>(
+    rt: &R,
+    flags: &[AtomicBool],
+    nodes: Vec<Linked<M>>,
+    workers: Vec<Worker<M>>,
+    done: Vec<Linked<M>>,
+) -> Vec<Linked<M>>
+    requires lawful { AllLawful M.in_lanes M.out_lanes M.source_of M.device_of M.failures M.fault_of M.stands nodes.items }
+    requires flags { vec_len nodes ≤ length flags.now }
+    requires workers { (workers.items ≡ []) × (vec_len nodes ≤ vec_capacity workers) }
+    requires done { (done.items ≡ []) × (vec_len nodes ≤ vec_capacity done) }
+    ensures { AllRan M.in_lanes M.out_lanes M.source_of M.device_of M.failures M.fault_of M.stands nodes.items result.items }
+{
+    thread::scope(
+        thread::scope_env(),
+        rt,
+        |scope| -> Vec<Linked<M>>
+            requires { AllLawful M.in_lanes M.out_lanes M.source_of M.device_of M.failures M.fault_of M.stands nodes.items × (vec_len nodes ≤ length flags.now) × (workers.items ≡ []) × (vec_len nodes ≤ vec_capacity workers) × (done.items ≡ []) × (vec_len nodes ≤ vec_capacity done) }
+            ensures { AllRan M.in_lanes M.out_lanes M.source_of M.device_of M.failures M.fault_of M.stands nodes.items result.items }
+        { run_in(scope, rt, flags, nodes, workers, done) },
+    )
+}
+
 /// Runs each node in a thread of its own until it is done. The caller turns those for which no thread could be started.
 /// At `Err` there is no memory for the lists, and none was started.
 pub fn run_threads<M: Machine + Send + Drop, R: Threads + Wait + Sync>(
@@ -133,13 +157,5 @@ pub fn run_threads<M: Machine + Send + Drop, R: Threads + Wait + Sync>(
     for _ in 0..count {
         flags.push_reserved(AtomicBool::new(false));
     }
-    let flags = flags.as_slice();
-    Ok(thread::scope(
-        thread::scope_env(),
-        rt,
-        |scope| -> Vec<Linked<M>>
-            requires { AllLawful M.in_lanes M.out_lanes M.source_of M.device_of M.failures M.fault_of M.stands nodes.items × (vec_len nodes ≤ length flags.now) × (workers.items ≡ []) × (vec_len nodes ≤ vec_capacity workers) × (done.items ≡ []) × (vec_len nodes ≤ vec_capacity done) }
-            ensures { AllRan M.in_lanes M.out_lanes M.source_of M.device_of M.failures M.fault_of M.stands nodes.items result.items }
-        { run_in(scope, rt, flags, nodes, workers, done) },
-    ))
+    Ok(run_scoped(rt, flags.as_slice(), nodes, workers, done))
 }
