@@ -1,3 +1,4 @@
 pub mod Carrying
 pub mod Linking
+pub mod Settling
 mod Served

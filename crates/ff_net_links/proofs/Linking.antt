@@ -4,15 +4,17 @@ use Rattle.std.proofs.lemmas.List.{length-set}
 use Rattle.ff_frame.specs.declared.item.Lane.{Lane}
 use Rattle.ff_frame.specs.Stream.{LiesBelow, still_open}
 use Rattle.ff_frame.specs.Items.{with_item}
-use Rattle.ff_link.specs.Sendings.{stream_of}
-use Rattle.ff_link.specs.Views.{Link}
+use Rattle.ff_frame.specs.declared.item.Item.{Item}
+use Rattle.ff_link.specs.Sendings.{stream_of, IsSending}
+use Rattle.ff_link.proofs.Sendings.{nothing_sent}
+use Rattle.ff_link.specs.Views.{Link, Sending, Receiving}
 use Rattle.ff_net.specs.declared.fault.Fault.{Fault}
 use Rattle.ff_net.specs.declared.node.Node.{Node}
 use Rattle.ff_net.specs.declared.wires.Wires.{Wires}
 use Rattle.ff_net.specs.Ways.{Flow, lane_at, IsValidOn}
 use Rattle.ff_net.specs.Laws.{FaultStep}
-use Rattle.ff_net.specs.Pasts.{Past, Task, IsIn}
-use Rattle.ff_net.specs.Worlds.{Wire, Stand, lanes_of}
+use Rattle.ff_net.specs.Pasts.{Past, Task, IsIn, start}
+use Rattle.ff_net.specs.Worlds.{Wire, Stand, fresh, lanes_of}
 use Rattle.ff_net.specs.Nodes.{HeldIs, NodeStands, IsShaped, HaveLanes, AreApart, in_wires_of, out_wires_of}
 use Rattle.ff_net.specs.Steps.{Course, Stepped}
 use Rattle.ff_net.proofs.Flows.{same_or_not, there_lane}
@@ -22,8 +24,8 @@ use Rattle.ff_net.proofs.Rounds.{shaped_later}
 use Rattle.ff_net_links.specs.declared.ends.InEnd.{InEnd}
 use Rattle.ff_net_links.specs.declared.ends.OutEnd.{OutEnd}
 use Rattle.ff_net_links.specs.declared.linked.Linked.{Linked}
-use Rattle.ff_net_links.specs.Ends.{taken_of, InEndStands, OutEndStands, OnWires, Draws, Pours, CanPour, in_link, out_link, in_end_at}
-use Rattle.ff_net_links.specs.Nodes.{in_ends_wires, out_ends_wires, in_ends_links, out_ends_links, IsWired, Behind, Follows}
+use Rattle.ff_net_links.specs.Ends.{taken_of, InEndStands, OutEndStands, OnWires, Draws, Pours, CanPour, in_link, out_link, in_end_at, new_in, new_out}
+use Rattle.ff_net_links.specs.Nodes.{in_ends_wires, out_ends_wires, in_ends_links, out_ends_links, IsWired, Behind, Follows, IsBeginning}
 
 pub map_set_same : {A B : Type 0} (f : A → B) (xs : List A) (p : ℕ) (x d : A) → p < length xs → f x ≡ f (slice_index_or xs p d) → map f (slice_set xs p x) ≡ map f xs
 map_set_same f [] p x d lt e = refl
@@ -94,6 +96,25 @@ out_end_keep e lane wire wire' taken o = record {
   unclosed = o.unclosed;
   below = subst (λ (s : Flow). LiesBelow (stream_of e.sender.sent) s) (sym taken) o.below;
   done = o.done;
+}
+
+in_new_stands : (w : ℕ) (r : Receiving) (lane : Option Lane) → r.taken ≡ [] → lane ≡ Some r.lane → InEndStands (new_in w r) lane fresh
+in_new_stands w r lane none on = record {
+  carried = λ f. sym (ap stream_of none);
+  lying = λ x e. absurd (let no : None ≡ Some x = e in cc (no));
+  below = inl (sym (ap stream_of none));
+  going = λ q e. let same : r ≡ q = cc (e) in on ∙ ap (λ (z : Receiving). Some z.lane) same;
+  shut = λ e. absurd (let no : Some r ≡ None = e in cc (no));
+}
+
+out_new_stands : (w : ℕ) (s : Sending) (lane : Option Lane) → s.sent ≡ [] → lane ≡ Some s.lane → OutEndStands (new_out w s) lane fresh
+out_new_stands w s lane none on = record {
+  lane_is = on;
+  sending = subst (λ (xs : List Item). IsSending s.lane xs) (sym none) (nothing_sent s.lane);
+  carried = λ d. ap stream_of none;
+  unclosed = λ d. ap (λ (xs : List Item). (stream_of xs).mark) none;
+  below = inl (ap stream_of none);
+  done = λ d. absurd (let no : false ≡ true = d in cc (no));
 }
 
 -- of one wire, no other is
@@ -311,4 +332,23 @@ module _ {M : Type 0} (in_lanes out_lanes : M → List Lane) (source : M → Opt
               (subst (λ (ls : List Lane). OutEndStands e (lane_at ls e.wire) (y.now e.wire)) (sym step.lanes_same)
               (out_end_keep e (lane_at (lanes_of l.wires) e.wire) (b.world e.wire) (y.now e.wire) (y.course.taken e.wire (λ i. b.wired.apart e.wire i member)) (b.outs k d klt)));
         };
+  }
+
+  -- how a node begins
+  pub begins : (task : Task) (l : Linked M) → IsBeginning in_lanes out_lanes source fault stands task l.node l.wires l.ins.items l.outs.items → Behind in_lanes out_lanes source fault stands task l
+  begins task l b = record {
+    wired = record { shaped = b.shaped; apart = b.apart; in_wires = b.in_wires; out_wires = b.out_wires };
+    world = λ w. fresh;
+    past = start task;
+    stand = b.wires_new;
+    fits = b.node_new;
+    task_is = refl;
+    ins = λ p lt.
+        let n = b.ins_new p lt in
+        let e : InEnd = in_end_at l.ins.items p in
+        subst (λ (f : InEnd). InEndStands f (lane_at (lanes_of l.wires) e.wire) fresh) (sym n.1) (in_new_stands e.wire n.0 (lane_at (lanes_of l.wires) e.wire) n.2 n.3);
+    outs = λ q d lt.
+        let n = b.outs_new q d lt in
+        let e : OutEnd = slice_index_or l.outs.items q d in
+        subst (λ (f : OutEnd). OutEndStands f (lane_at (lanes_of l.wires) e.wire) fresh) (sym n.1) (out_new_stands e.wire n.0 (lane_at (lanes_of l.wires) e.wire) n.2 n.3);
   }

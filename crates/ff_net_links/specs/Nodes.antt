@@ -1,18 +1,19 @@
 -- A node with the ends of its links.
-use Rattle.std.specs.Prelude.{◌≡◌, ℕ, ◌<◌, true, List, length, map, slice_index_or, Option, None}
+use Rattle.std.specs.Prelude.{◌≡◌, ℕ, ◌<◌, true, List, length, map, slice_index_or, Option, None, Some, []}
 use Rattle.ff_frame.specs.declared.item.Lane.{Lane}
-use Rattle.ff_link.specs.Views.{Link}
+use Rattle.ff_link.specs.Views.{Link, Sending, Receiving}
 use Rattle.ff_net.specs.declared.fault.Fault.{Fault}
 use Rattle.ff_net.specs.declared.node.Node.{Node}
 use Rattle.ff_net.specs.Ways.{lane_at}
 use Rattle.ff_net.specs.Laws.{FaultStep}
-use Rattle.ff_net.specs.Pasts.{Past, Task, IsIn}
-use Rattle.ff_net.specs.Worlds.{Wire, Stand, lanes_of}
+use Rattle.ff_net.specs.Pasts.{Past, Task, IsIn, start}
+use Rattle.ff_net.specs.Worlds.{Wire, Stand, fresh, lanes_of}
 use Rattle.ff_net.specs.Nodes.{NodeStands, IsShaped, IsDone, machine_of, in_wires_of, out_wires_of}
+use Rattle.ff_net.specs.declared.wires.Wires.{Wires}
 use Rattle.ff_net_links.specs.declared.ends.InEnd.{InEnd}
 use Rattle.ff_net_links.specs.declared.ends.OutEnd.{OutEnd}
 use Rattle.ff_net_links.specs.declared.linked.Linked.{Linked}
-use Rattle.ff_net_links.specs.Ends.{InEndStands, OutEndStands, in_link, out_link, in_end_at}
+use Rattle.ff_net_links.specs.Ends.{InEndStands, OutEndStands, in_link, out_link, in_end_at, new_in, new_out}
 
 abbrev pub in_ends_wires : List InEnd → List ℕ
 in_ends_wires ends = map (λ e. e.wire) ends
@@ -83,3 +84,14 @@ pub record HasEnded {M : Type 0} (l : Linked M) : Type 0 where
   pub node : IsDone l.node
   pub ins : (p : ℕ) → p < length l.ins.items → (in_end_at l.ins.items p).taking ≡ None
   pub outs : (q : ℕ) (d : OutEnd) → q < length l.outs.items → (slice_index_or l.outs.items q d).done ≡ true
+
+-- nothing was done yet: the node is new, its wires are, and so are the links of its ends, which have the lanes of the wires
+pub record IsBeginning {M : Type 0} (in_lanes out_lanes : M → List Lane) (source : M → Option ℕ) (fault : M → Option Fault) (stands : M → Past → Type 0) (task : Task) (node : Node M) (wires : Wires) (ins : List InEnd) (outs : List OutEnd) : Type 0 where
+  pub shaped : IsShaped in_lanes out_lanes node wires
+  pub apart : (w : ℕ) → IsIn w (in_wires_of node) → IsIn w (out_wires_of node) → ⊥
+  pub in_wires : in_ends_wires ins ≡ in_wires_of node
+  pub out_wires : out_ends_wires outs ≡ out_wires_of node
+  pub node_new : NodeStands source fault stands node (λ w. fresh) (start task)
+  pub wires_new : Stand wires (λ w. fresh)
+  pub ins_new : (p : ℕ) → p < length ins → (r : Receiving) × (in_end_at ins p ≡ new_in (in_end_at ins p).wire r) × (r.taken ≡ []) × (lane_at (lanes_of wires) (in_end_at ins p).wire ≡ Some r.lane)
+  pub outs_new : (q : ℕ) (d : OutEnd) → q < length outs → (s : Sending) × (slice_index_or outs q d ≡ new_out (slice_index_or outs q d).wire s) × (s.sent ≡ []) × (lane_at (lanes_of wires) (slice_index_or outs q d).wire ≡ Some s.lane)

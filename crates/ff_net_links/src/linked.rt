@@ -2,7 +2,9 @@
 ghost use Rattle.std.specs.Prelude.{◌≡◌, ◌<◌, ℕ, length, slice_index_or, true, None};
 ghost use Rattle.ff_net_links.specs.Ends.{in_end_at};
 ghost use Rattle.ff_net_links.specs.declared.ends.OutEnd.{OutEnd};
-ghost use Rattle.ff_net_links.specs.Nodes.{Follows, IsLawful, HasEnded};
+ghost use Rattle.ff_net_links.specs.Nodes.{Follows, IsLawful, HasEnded, Behind, IsBeginning, node_of, lanes_on, ins_of, outs_of};
+ghost use Rattle.ff_net.specs.Pasts.{Task};
+ghost use Rattle.ff_net.specs.Worlds.{lanes_of};
 
 use crate::ends::{InEnd, OutEnd, draw_at, pour_at};
 use ff_net::{Fault, Machine, Node, Turn, Wires};
@@ -50,6 +52,22 @@ fn waits(outs: &Vec<OutEnd>) -> bool {
 }
 
 impl<M: Machine> Linked<M> {
+    /// A node on new wires, with the ends of new links, one for each port, in the order of the ports.
+    pub fn new(node: Node<M>, wires: Wires, ins: Vec<InEnd>, outs: Vec<OutEnd>) -> Linked<M>
+        ensures node { node_of result ≡ node }
+        ensures lanes { lanes_on result ≡ lanes_of wires }
+        ensures ins { ins_of result ≡ ins.items }
+        ensures outs { outs_of result ≡ outs.items }
+        ensures lawful { (task : Task) → IsBeginning M.in_lanes M.out_lanes M.source_of M.fault_of M.stands task node wires ins.items outs.items → Behind M.in_lanes M.out_lanes M.source_of M.fault_of M.stands task result }
+    {
+        Linked {
+            node,
+            wires,
+            ins,
+            outs,
+        }
+    }
+
     /// Whether the node is done, has finished each link that it takes from, and has closed each link that it sends
     /// over, or was told that its receiver has finished.
     pub fn is_done(&self) -> bool

@@ -1,0 +1,47 @@
+-- Nodes whose links are settled.
+use Rattle.std.specs.Prelude.{◌≡◌, ℕ, zero, suc, ◌<◌, ◌⊎◌, List, [], ◌∷◌, length, slice_index_or, map, Option}
+use mathlib.Core.List.{IsPrefix}
+use Rattle.ff_frame.specs.declared.item.Item.{Item}
+use Rattle.ff_frame.specs.declared.item.Lane.{Lane}
+use Rattle.ff_net.specs.declared.fault.Fault.{Fault}
+use Rattle.ff_net.specs.declared.node.Node.{Node}
+use Rattle.ff_net.specs.Pasts.{Past, Task, IsIn}
+use Rattle.ff_net.specs.Nodes.{in_wires_of, out_wires_of}
+use Rattle.ff_net_links.specs.declared.ends.InEnd.{InEnd}
+use Rattle.ff_net_links.specs.declared.ends.OutEnd.{OutEnd}
+use Rattle.ff_net_links.specs.declared.linked.Linked.{Linked}
+use Rattle.ff_net_links.specs.Ends.{taken_of, in_end_at}
+use Rattle.ff_net_links.specs.Nodes.{Behind, HasEnded, node_of, lanes_on, ins_of, outs_of}
+
+-- the nodes, as they are on wires of their own
+abbrev pub nodes_of : {M : Type 0} → List (Linked M) → List (Node M)
+nodes_of ls = map node_of ls
+
+-- with these tasks something can be behind each
+abbrev pub AllBehind : {M : Type 0} → (M → List Lane) → (M → List Lane) → (M → Option ℕ) → (M → Option Fault) → (M → Past → Type 0) → (ℕ → Task) → List (Linked M) → Type 0
+AllBehind in_lanes out_lanes source fault stands tasks [] = Unit {0}
+AllBehind in_lanes out_lanes source fault stands tasks (l ∷ ls) = Behind in_lanes out_lanes source fault stands (tasks zero) l × AllBehind in_lanes out_lanes source fault stands (λ k. tasks (suc k)) ls
+
+-- the link of this number leads from one of the nodes, or to one
+abbrev pub IsOutOf : {M : Type 0} → List (Linked M) → ℕ → Type 0
+IsOutOf [] w = ⊥
+IsOutOf (l ∷ ls) w = IsIn w (out_wires_of l.node) ⊎ IsOutOf ls w
+
+abbrev pub IsInOf : {M : Type 0} → List (Linked M) → ℕ → Type 0
+IsInOf [] w = ⊥
+IsInOf (l ∷ ls) w = IsIn w (in_wires_of l.node) ⊎ IsInOf ls w
+
+-- no link leads from two nodes, or to two; all have the same links, and have ended
+abbrev pub AreMeeting : {M : Type 0} → List Lane → List (Linked M) → Type 0
+AreMeeting lanes [] = Unit {0}
+AreMeeting lanes (l ∷ ls) = HasEnded l × (lanes_on l ≡ lanes) × ((w : ℕ) → IsIn w (out_wires_of l.node) → IsOutOf ls w → ⊥) × ((w : ℕ) → IsIn w (in_wires_of l.node) → IsInOf ls w → ⊥) × AreMeeting lanes ls
+
+-- these items were sent over the link of this number by one of the nodes
+abbrev pub WasSent : {M : Type 0} → List (Linked M) → ℕ → List Item → Type 0
+WasSent [] w xs = ⊥
+WasSent (l ∷ ls) w xs = ((q : ℕ) × (q < length (outs_of l)) × ((d : OutEnd) → ((slice_index_or (outs_of l) q d).wire ≡ w) × ((slice_index_or (outs_of l) q d).sender.sent ≡ xs))) ⊎ WasSent ls w xs
+
+-- what these nodes took over their links is the beginning of what was sent there
+abbrev pub AreFed : {M : Type 0} → List (Linked M) → List (Linked M) → Type 0
+AreFed all [] = Unit {0}
+AreFed all (l ∷ ls) = ((p : ℕ) → p < length (ins_of l) → (xs : List Item) × IsPrefix (taken_of (in_end_at (ins_of l) p)) xs × WasSent all (in_end_at (ins_of l) p).wire xs) × AreFed all ls
