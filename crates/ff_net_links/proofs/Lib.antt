@@ -1,4 +1,5 @@
 pub mod Carrying
 pub mod Linking
-pub mod Settling
+pub mod Meeting
 mod Served
+pub mod Tables

@@ -1,8 +1,9 @@
 -- Nodes whose links are settled.
-use Rattle.std.specs.Prelude.{◌≡◌, ℕ, zero, suc, ◌<◌, ◌⊎◌, List, [], ◌∷◌, length, slice_index_or, map, Option}
+use Rattle.std.specs.Prelude.{◌≡◌, ℕ, zero, suc, ◌<◌, ◌⊎◌, List, [], ◌∷◌, length, slice_index_or, map, Option, Some}
 use mathlib.Core.List.{IsPrefix}
 use Rattle.ff_frame.specs.declared.item.Item.{Item}
 use Rattle.ff_frame.specs.declared.item.Lane.{Lane}
+use Rattle.ff_link.specs.Views.{Link, Sending}
 use Rattle.ff_net.specs.declared.fault.Fault.{Fault}
 use Rattle.ff_net.specs.declared.node.Node.{Node}
 use Rattle.ff_net.specs.Pasts.{Past, Task, IsIn}
@@ -10,7 +11,7 @@ use Rattle.ff_net.specs.Nodes.{in_wires_of, out_wires_of}
 use Rattle.ff_net_links.specs.declared.ends.InEnd.{InEnd}
 use Rattle.ff_net_links.specs.declared.ends.OutEnd.{OutEnd}
 use Rattle.ff_net_links.specs.declared.linked.Linked.{Linked}
-use Rattle.ff_net_links.specs.Ends.{taken_of, in_end_at}
+use Rattle.ff_net_links.specs.Ends.{taken_of, in_link, out_link, in_end_at}
 use Rattle.ff_net_links.specs.Nodes.{Behind, HasEnded, node_of, lanes_on, ins_of, outs_of}
 
 -- the nodes, as they are on wires of their own
@@ -36,12 +37,30 @@ abbrev pub AreMeeting : {M : Type 0} → List Lane → List (Linked M) → Type 
 AreMeeting lanes [] = Unit {0}
 AreMeeting lanes (l ∷ ls) = HasEnded l × (lanes_on l ≡ lanes) × ((w : ℕ) → IsIn w (out_wires_of l.node) → IsOutOf ls w → ⊥) × ((w : ℕ) → IsIn w (in_wires_of l.node) → IsInOf ls w → ⊥) × AreMeeting lanes ls
 
--- these items were sent over the link of this number by one of the nodes
+-- these items were sent over the link of this number by one of these ends
+abbrev pub WasSentIn : List (List OutEnd) → ℕ → List Item → Type 0
+WasSentIn [] w xs = ⊥
+WasSentIn (es ∷ ess) w xs = ((q : ℕ) × (q < length es) × ((d : OutEnd) → ((slice_index_or es q d).wire ≡ w) × ((slice_index_or es q d).sender.sent ≡ xs))) ⊎ WasSentIn ess w xs
+
+-- and by one of the nodes
 abbrev pub WasSent : {M : Type 0} → List (Linked M) → ℕ → List Item → Type 0
-WasSent [] w xs = ⊥
-WasSent (l ∷ ls) w xs = ((q : ℕ) × (q < length (outs_of l)) × ((d : OutEnd) → ((slice_index_or (outs_of l) q d).wire ≡ w) × ((slice_index_or (outs_of l) q d).sender.sent ≡ xs))) ⊎ WasSent ls w xs
+WasSent ls w xs = WasSentIn (map outs_of ls) w xs
 
 -- what these nodes took over their links is the beginning of what was sent there
 abbrev pub AreFed : {M : Type 0} → List (Linked M) → List (Linked M) → Type 0
 AreFed all [] = Unit {0}
 AreFed all (l ∷ ls) = ((p : ℕ) → p < length (ins_of l) → (xs : List Item) × IsPrefix (taken_of (in_end_at (ins_of l) p)) xs × WasSent all (in_end_at (ins_of l) p).wire xs) × AreFed all ls
+
+-- the links by number: each end of a node has the link of its wire's number
+abbrev pub AreLinked : {M : Type 0} → (ℕ → Link) → List (Linked M) → Type 0
+AreLinked links [] = Unit {0}
+AreLinked links (l ∷ ls) = ((p : ℕ) → p < length (ins_of l) → in_link (in_end_at (ins_of l) p) ≡ Some (links (in_end_at (ins_of l) p).wire))
+    × ((q : ℕ) (d : OutEnd) → q < length (outs_of l) → out_link (slice_index_or (outs_of l) q d) ≡ Some (links (slice_index_or (outs_of l) q d).wire)) × AreLinked links ls
+
+-- each sender in the table is one of these ends', at the number of its link
+pub record IsTable (all : List (List OutEnd)) (links : ℕ → Link) (table : List (Option Sending)) : Type 0 where
+  pub each : (w : ℕ) (d : Option Sending) (s : Sending) → w < length table → slice_index_or table w d ≡ Some s → WasSentIn all w s.sent × (s.link ≡ links w)
+
+-- an end took the beginning of what one of these ends sent over its link
+abbrev pub IsFed : List (List OutEnd) → InEnd → Type 0
+IsFed all end = (xs : List Item) × IsPrefix (taken_of end) xs × WasSentIn all end.wire xs

@@ -16,6 +16,7 @@
 mod ends;
 mod linked;
 mod rest;
+mod settling;
 mod threads;
 mod worker;
 

@@ -1,8 +1,10 @@
 // A node with the ends of its links.
-ghost use Rattle.std.specs.Prelude.{◌≡◌, ◌<◌, ℕ, length, slice_index_or, true, None};
+ghost use Rattle.std.specs.Prelude.{◌≡◌, ◌<◌, ℕ, length, slice_index_or, true, None, Some};
 ghost use Rattle.ff_net_links.specs.Ends.{in_end_at};
 ghost use Rattle.ff_net_links.specs.declared.ends.OutEnd.{OutEnd};
 ghost use Rattle.ff_net_links.specs.Nodes.{Follows, IsLawful, HasEnded, Behind, IsBeginning, node_of, lanes_on, ins_of, outs_of};
+ghost use Rattle.ff_net.specs.declared.fault.Fault.{Fault};
+ghost use Rattle.ff_net.specs.Nodes.{IsSound, machine_of};
 ghost use Rattle.ff_net.specs.Pasts.{Task};
 ghost use Rattle.ff_net.specs.Worlds.{lanes_of};
 
@@ -66,6 +68,24 @@ impl<M: Machine> Linked<M> {
             ins,
             outs,
         }
+    }
+
+    /// What went wrong here: the machine's fault, or that memory was refused.
+    pub fn fault(&self) -> Option<Fault>
+        ensures sound { result ≡ None → IsSound M.fault_of (node_of self.now) }
+        ensures none { IsSound M.fault_of (node_of self.now) → result ≡ None }
+        ensures machine { (c : Fault) → M.fault_of (machine_of (node_of self.now)) ≡ Some c → result ≡ Some c }
+    {
+        self.node.fault()
+    }
+
+    /// The node and the ends of its links.
+    pub(crate) fn into_parts(self) -> (Node<M>, Vec<InEnd>, Vec<OutEnd>)
+        ensures node { result.0 ≡ node_of self }
+        ensures ins { result.1.items ≡ ins_of self }
+        ensures outs { result.2.items ≡ outs_of self }
+    {
+        (self.node, self.ins, self.outs)
     }
 
     /// Whether the node is done, has finished each link that it takes from, and has closed each link that it sends
