@@ -51,11 +51,18 @@ abbrev pub AreFed : {M : Type 0} → List (Linked M) → List (Linked M) → Typ
 AreFed all [] = Unit {0}
 AreFed all (l ∷ ls) = ((p : ℕ) → p < length (ins_of l) → (xs : List Item) × IsPrefix (taken_of (in_end_at (ins_of l) p)) xs × WasSent all (in_end_at (ins_of l) p).wire xs) × AreFed all ls
 
+-- the ends of the nodes that send
+abbrev pub ends_of : {M : Type 0} → List (Linked M) → List (List OutEnd)
+ends_of ls = map outs_of ls
+
 -- the links by number: each end of a node has the link of its wire's number
-abbrev pub AreLinked : {M : Type 0} → (ℕ → Link) → List (Linked M) → Type 0
-AreLinked links [] = Unit {0}
-AreLinked links (l ∷ ls) = ((p : ℕ) → p < length (ins_of l) → in_link (in_end_at (ins_of l) p) ≡ Some (links (in_end_at (ins_of l) p).wire))
-    × ((q : ℕ) (d : OutEnd) → q < length (outs_of l) → out_link (slice_index_or (outs_of l) q d) ≡ Some (links (slice_index_or (outs_of l) q d).wire)) × AreLinked links ls
+pub record AreLinked {M : Type 0} (links : ℕ → Link) (ls : List (Linked M)) : Type 0 where
+  pub ins : (k p : ℕ) (d : Linked M) → k < length ls → p < length (ins_of (slice_index_or ls k d)) → in_link (in_end_at (ins_of (slice_index_or ls k d)) p) ≡ Some (links (in_end_at (ins_of (slice_index_or ls k d)) p).wire)
+  pub outs : (k q : ℕ) (d : Linked M) (e : OutEnd) → k < length ls → q < length (outs_of (slice_index_or ls k d)) → out_link (slice_index_or (outs_of (slice_index_or ls k d)) q e) ≡ Some (links (slice_index_or (outs_of (slice_index_or ls k d)) q e).wire)
+
+-- each node has ended
+pub record AllEnded {M : Type 0} (ls : List (Linked M)) : Type 0 where
+  pub each : (k : ℕ) (d : Linked M) → k < length ls → HasEnded (slice_index_or ls k d)
 
 -- each sender in the table is one of these ends', at the number of its link
 pub record IsTable (all : List (List OutEnd)) (links : ℕ → Link) (table : List (Option Sending)) : Type 0 where
@@ -64,3 +71,7 @@ pub record IsTable (all : List (List OutEnd)) (links : ℕ → Link) (table : Li
 -- an end took the beginning of what one of these ends sent over its link
 abbrev pub IsFed : List (List OutEnd) → InEnd → Type 0
 IsFed all end = (xs : List Item) × IsPrefix (taken_of end) xs × WasSentIn all end.wire xs
+
+-- and so did each end of the nodes
+pub record AllFed {M : Type 0} (ls : List (Linked M)) : Type 0 where
+  pub each : (k p : ℕ) (d : Linked M) → k < length ls → p < length (ins_of (slice_index_or ls k d)) → IsFed (ends_of ls) (in_end_at (ins_of (slice_index_or ls k d)) p)

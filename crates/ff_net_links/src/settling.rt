@@ -1,12 +1,16 @@
 // The links of nodes that have ended, settled.
-ghost use Rattle.std.specs.Prelude.{◌≡◌, ◌<◌, ℕ, List, length, slice_index_or, true, None, Some};
+ghost use Rattle.std.specs.Prelude.{◌≡◌, ◌<◌, ◌≤◌, ℕ, List, [], length, slice_index_or, vec_len, vec_capacity, true, None, Some};
+ghost use Rattle.ff_net.specs.Nodes.{machine_of};
+ghost use Rattle.ff_net_links.specs.Nodes.{node_of};
 ghost use Rattle.ff_link.specs.Views.{Link};
 ghost use Rattle.ff_net_links.specs.declared.ends.OutEnd.{OutEnd};
 ghost use Rattle.ff_net_links.specs.Ends.{in_link, out_link, in_end_at};
-ghost use Rattle.ff_net_links.specs.Settling.{IsTable, IsFed, WasSentIn};
+ghost use Rattle.ff_net_links.specs.Settling.{IsTable, IsFed, WasSentIn, AreLinked, AllEnded, AllFed, ends_of};
 
 use crate::ends::{InEnd, OutEnd};
+use crate::linked::Linked;
 use ff_link::{Sender, settle};
+use ff_net::Machine;
 
 // Settles the link of an end that has finished, where its sender is in the table. Whether it was.
 fn settle_end(table: &mut Vec<Option<Sender>>, end: InEnd) -> bool
@@ -68,4 +72,36 @@ fn store_ends(table: &mut Vec<Option<Sender>>, ends: Vec<OutEnd>)
         store_end(table, end);
         next += 1;
     }
+}
+
+/// What comes of a run: the machines in the order of the nodes, and whether each link had both its ends among the nodes.
+#[derive(Drop)]
+pub struct Ran<M> {
+    pub machines: Vec<M>,
+    pub whole: bool,
+}
+
+// Settles all links with this table, which has no sender yet.
+fn settle_in<M: Machine + Drop>(
+    mut table: Vec<Option<Sender>>,
+    nodes: Vec<Linked<M>>,
+    mut machines: Vec<M>,
+) -> Ran<M>
+    requires ended { AllEnded nodes.items }
+    requires linked { (links : ℕ → Link) × AreLinked links nodes.items }
+    requires table { (links : ℕ → Link) → IsTable (ends_of nodes.items) links table.items }
+    requires room { (machines.items ≡ []) × (vec_len nodes ≤ vec_capacity machines) }
+    ensures count { length result.machines.items ≡ length nodes.items }
+    ensures machines { (k : ℕ) (d : _) (e : _) → k < length nodes.items → slice_index_or result.machines.items k e ≡ machine_of (node_of (slice_index_or nodes.items k d)) }
+    ensures fed { result.whole ≡ true → AllFed nodes.items }
+{
+    let mut whole = true;
+    for linked in nodes {
+        let (node, ins, outs) = linked.into_parts();
+        let fed = settle_ends(&mut table, ins);
+        whole = whole & fed;
+        store_ends(&mut table, outs);
+        machines.push_reserved(node.into_machine());
+    }
+    Ran { machines, whole }
 }
