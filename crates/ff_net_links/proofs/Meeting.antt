@@ -25,8 +25,8 @@ use Rattle.ff_net_links.specs.declared.ends.InEnd.{InEnd}
 use Rattle.ff_net_links.specs.declared.ends.OutEnd.{OutEnd}
 use Rattle.ff_net_links.specs.declared.linked.Linked.{Linked}
 use Rattle.ff_net_links.specs.Ends.{taken_of, in_end_at}
-use Rattle.ff_net_links.specs.Nodes.{Behind, HasEnded, node_of, lanes_on, in_ends_wires}
-use Rattle.ff_net_links.specs.Settling.{nodes_of, AllBehind, IsOutOf, IsInOf, AreMeeting, WasSent, AreFed}
+use Rattle.ff_net_links.specs.Nodes.{Behind, HasEnded, node_of, lanes_on, ins_of, in_ends_wires}
+use Rattle.ff_net_links.specs.Settling.{nodes_of, ends_of, IsFed, AllBehind, IsOutOf, IsInOf, AreMeeting, WasSent, AreFed}
 use Rattle.ff_net_links.proofs.Linking.{in_member, out_member}
 
 leads_front : (s : Flow) (xs ys : List Item) (t : Flow) → Leads s (xs ++ ys) t → Leads (stream_from s xs) ys t
@@ -213,3 +213,8 @@ module _ {M : Type 0} (in_lanes out_lanes : M → List Lane) (source : M → Opt
           each = each_stands σ τ lanes tasks ls bs m (own lanes tasks ls bs m);
         },
       )
+
+-- end by end
+pub are_fed : {M : Type 0} (all ls : List (Linked M)) → ((k p : ℕ) (d : Linked M) → k < length ls → p < length (ins_of (slice_index_or ls k d)) → IsFed (ends_of all) (in_end_at (ins_of (slice_index_or ls k d)) p)) → AreFed all ls
+are_fed all [] h = tt
+are_fed all (l ∷ ls) h = (λ p lt. h zero p l (omega arith) lt, are_fed all ls (λ k p d klt lt. h (suc k) p d (omega arith) lt))

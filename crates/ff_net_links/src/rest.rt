@@ -6,6 +6,7 @@ use std::time::Duration;
 
 // So many turns that moved nothing are followed by a spin, and so many by a yield.
 const SPINS: u32 = 64;
+
 const YIELDS: u32 = 16;
 
 /// The rest of a worker between two turns: a spin at first, then a yield, then a sleep, which grows from 50 microseconds

@@ -1,16 +1,25 @@
 // The links of nodes that have ended, settled.
-ghost use Rattle.std.specs.Prelude.{◌≡◌, ◌<◌, ◌≤◌, ℕ, List, [], length, slice_index_or, vec_len, vec_capacity, true, None, Some};
-ghost use Rattle.ff_net.specs.Nodes.{machine_of};
+ghost use Rattle.std.specs.Prelude.{◌≡◌, ◌<◌, ◌≤◌, ℕ, List, [], length, slice_index_or, vec_len, vec_capacity, map, true, None, Some, IfOk, IfErr};
+ghost use Rattle.ff_frame.specs.declared.item.Lane.{Lane};
+ghost use Rattle.ff_frame.specs.Stream.{LiesBelow, opened};
+ghost use Rattle.ff_net.specs.declared.fault.Fault.{Fault};
+ghost use Rattle.ff_net.specs.Laws.{IsOfInputs};
+ghost use Rattle.ff_net.specs.Nets.{IsUpward, solve};
+ghost use Rattle.ff_net.specs.Pasts.{Task, IsIn};
+ghost use Rattle.ff_net.specs.Serial.{Moment, Settled, parts_of};
+ghost use Rattle.ff_net.specs.Worlds.{Wire};
+ghost use Rattle.ff_net.specs.Nodes.{IsSound, IsDone, machine_of, outputs_of, in_wires_of};
 ghost use Rattle.ff_net_links.specs.Nodes.{node_of};
 ghost use Rattle.ff_link.specs.Views.{Link};
 ghost use Rattle.ff_net_links.specs.declared.ends.OutEnd.{OutEnd};
 ghost use Rattle.ff_net_links.specs.Ends.{in_link, out_link, in_end_at};
-ghost use Rattle.ff_net_links.specs.Settling.{IsTable, IsFed, WasSentIn, AreLinked, AllEnded, AllFed, ends_of};
+ghost use Rattle.ff_net_links.specs.Settling.{IsTable, IsFed, WasSentIn, AreLinked, AllEnded, AllFed, AllBehind, AreMeeting, ends_of, nodes_of};
 
 use crate::ends::{InEnd, OutEnd};
 use crate::linked::Linked;
 use ff_link::{Sender, settle};
 use ff_net::Machine;
+use std::alloc::{AllocError, Global};
 
 // Settles the link of an end that has finished, where its sender is in the table. Whether it was.
 fn settle_end(table: &mut Vec<Option<Sender>>, end: InEnd) -> bool
@@ -104,4 +113,54 @@ fn settle_in<M: Machine + Drop>(
         machines.push_reserved(node.into_machine());
     }
     Ran { machines, whole }
+}
+
+// A table without a sender, with so many places.
+fn new_table(alloc: Global, links: usize) -> Result<Vec<Option<Sender>>, AllocError>
+    ensures { IfOk result (λ table. (all : List (List OutEnd)) (links : ℕ → Link) → IsTable all links table.items) }
+{
+    let mut table = Vec::new(alloc);
+    for _ in 0..links {
+        table.push(None)?;
+    }
+    Ok(table)
+}
+
+/// Settles the links of nodes that have ended, of which there are so many. At `Err` there was no memory, and the nodes
+/// come back.
+///
+/// Where each link had both its ends among the nodes, what was taken from a link is the beginning of what was sent over
+/// it; so what a node took lies below the solution of the network (`below`), and with its breaks where no node with a
+/// lower number has a fault (`before`); then its own fault of the inputs is the cause of the solution's streams
+/// (`cause`). Where none has a fault, the machine of each node without outputs was fed the streams of the solution, and
+/// they are whole (`settled`).
+pub fn settle_all<M: Machine + Drop>(
+    alloc: Global,
+    nodes: Vec<Linked<M>>,
+    links: usize,
+) -> Result<Ran<M>, Vec<Linked<M>>>
+    requires ended { AllEnded nodes.items }
+    requires linked { (links : ℕ → Link) × AreLinked links nodes.items }
+    ensures back { IfErr result (λ v. v.items ≡ nodes.items) }
+    ensures count { IfOk result (λ ran. length ran.machines.items ≡ length nodes.items) }
+    ensures machines { IfOk result (λ ran. (k : ℕ) (d : _) (e : _) → k < length nodes.items → slice_index_or ran.machines.items k e ≡ machine_of (node_of (slice_index_or nodes.items k d))) }
+    ensures below { IfOk result (λ ran. ran.whole ≡ true → (tasks : ℕ → Task) (lanes : List Lane) → AllBehind M.in_lanes M.out_lanes M.source_of M.fault_of M.stands tasks nodes.items → AreMeeting lanes nodes.items → IsUpward [] (parts_of M.in_lanes M.out_lanes tasks (nodes_of nodes.items))
+        → (world : ℕ → Wire) × Moment M.in_lanes M.out_lanes M.source_of M.fault_of M.stands tasks (nodes_of nodes.items) lanes world × ((k : ℕ) (d : _) (w : ℕ) → k < length (nodes_of nodes.items) → IsIn w (in_wires_of (slice_index_or (nodes_of nodes.items) k d)) → LiesBelow (opened (world w).taken) (solve (parts_of M.in_lanes M.out_lanes tasks (nodes_of nodes.items)) w))) }
+    ensures before { IfOk result (λ ran. ran.whole ≡ true → (tasks : ℕ → Task) (lanes : List Lane) → AllBehind M.in_lanes M.out_lanes M.source_of M.fault_of M.stands tasks nodes.items → AreMeeting lanes nodes.items → IsUpward [] (parts_of M.in_lanes M.out_lanes tasks (nodes_of nodes.items))
+        → (world : ℕ → Wire) × Moment M.in_lanes M.out_lanes M.source_of M.fault_of M.stands tasks (nodes_of nodes.items) lanes world × ((k : ℕ) (d : _) → k < length (nodes_of nodes.items) → ((j : ℕ) (e : _) → j < k → IsSound M.fault_of (slice_index_or (nodes_of nodes.items) j e))
+        → (w : ℕ) → IsIn w (in_wires_of (slice_index_or (nodes_of nodes.items) k d)) → LiesBelow (world w).taken (solve (parts_of M.in_lanes M.out_lanes tasks (nodes_of nodes.items)) w))) }
+    ensures cause { IfOk result (λ ran. ran.whole ≡ true → (tasks : ℕ → Task) (lanes : List Lane) → AllBehind M.in_lanes M.out_lanes M.source_of M.fault_of M.stands tasks nodes.items → AreMeeting lanes nodes.items → IsUpward [] (parts_of M.in_lanes M.out_lanes tasks (nodes_of nodes.items))
+        → (k : ℕ) (d : _) → k < length (nodes_of nodes.items) → ((j : ℕ) (e : _) → j < k → IsSound M.fault_of (slice_index_or (nodes_of nodes.items) j e))
+        → (c : Fault) → M.fault_of (machine_of (slice_index_or (nodes_of nodes.items) k d)) ≡ Some c → IsOfInputs c → (tasks k).cause (map (solve (parts_of M.in_lanes M.out_lanes tasks (nodes_of nodes.items))) (in_wires_of (slice_index_or (nodes_of nodes.items) k d))) ≡ Some c) }
+    ensures settled { IfOk result (λ ran. ran.whole ≡ true → (tasks : ℕ → Task) (lanes : List Lane) → AllBehind M.in_lanes M.out_lanes M.source_of M.fault_of M.stands tasks nodes.items → AreMeeting lanes nodes.items → IsUpward [] (parts_of M.in_lanes M.out_lanes tasks (nodes_of nodes.items)) → ((k : ℕ) (d : _) → k < length (nodes_of nodes.items) → IsSound M.fault_of (slice_index_or (nodes_of nodes.items) k d))
+        → (k : ℕ) (d : _) → k < length (nodes_of nodes.items) → IsDone (slice_index_or (nodes_of nodes.items) k d) → outputs_of (slice_index_or (nodes_of nodes.items) k d) ≡ 0 → Settled M.stands (tasks k) (parts_of M.in_lanes M.out_lanes tasks (nodes_of nodes.items)) (slice_index_or (nodes_of nodes.items) k d)) }
+{
+    let Ok(table) = new_table(alloc, links) else {
+        return Err(nodes);
+    };
+    let mut machines = Vec::new(alloc);
+    if machines.reserve(nodes.len()).is_err() {
+        return Err(nodes);
+    }
+    Ok(settle_in(table, nodes, machines))
 }

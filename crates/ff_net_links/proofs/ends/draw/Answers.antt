@@ -3,7 +3,6 @@ use Rattle.ff_frame.specs.declared.item.Item.{Item}
 use Rattle.ff_net.specs.Worlds.{Wire, Stand, lanes_of}
 use Rattle.ff_net.specs.Ways.{lane_at}
 use Rattle.ff_net_links.specs.Ends.{InEndStands, OutEndStands, CanPour, OnWires}
-
 use Rattle.ff_net.specs.Steps.{Course}
 use Rattle.ff_net.proofs.Moments.{course_trans, course_self}
 use Rattle.ff_net.proofs.Queues.{finished_of, in_queues}

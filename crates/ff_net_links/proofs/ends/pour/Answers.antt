@@ -3,7 +3,6 @@ use Rattle.ff_frame.specs.declared.item.Item.{Item}
 use Rattle.ff_net.specs.Worlds.{Wire, Stand, lanes_of}
 use Rattle.ff_net.specs.Ways.{lane_at}
 use Rattle.ff_net_links.specs.Ends.{InEndStands, OutEndStands, CanPour, OnWires}
-
 use Rattle.ff_frame.specs.declared.item.Lane.{Lane}
 use Rattle.ff_net.specs.Pasts.{Past, Task, start}
 use Rattle.ff_net.specs.Steps.{Course}
