@@ -1,11 +1,11 @@
 -- What each step of an end keeps.
-use Rattle.std.proofs.Common.{◌≡◌, ℕ, inl, inr, true, false, Bool, IsTrue, ◌↔◌, List, [], ◌∷◌, ◌++◌, refl, ap, sym, ◌∙◌, subst, Option, None, Some, is_some, ◌⊎◌}
+use Rattle.std.proofs.Common.{◌≡◌, ℕ, inl, inr, true, false, IsTrue, ◌↔◌, List, [], ◌∷◌, ◌++◌, refl, ap, sym, ◌∙◌, subst, Option, None, Some, is_some}
 use Rattle.ff_frame.specs.declared.item.Item.{Item}
 use Rattle.ff_frame.specs.declared.item.Lane.{Lane}
-use Rattle.ff_frame.specs.Stream.{Stream, still_open, LiesBelow}
+use Rattle.ff_frame.specs.Stream.{still_open, LiesBelow}
 use Rattle.ff_frame.specs.Items.{Closes, with_item, Leads}
 use Rattle.ff_frame.specs.Lanes.{IsValid}
-use Rattle.ff_frame.specs.Order.{below_trans, with_item_above, with_item_open, with_item_closed, prefix_self}
+use Rattle.ff_frame.specs.Order.{with_item_above, with_item_open, with_item_closed}
 use Rattle.ff_frame.specs.Ports.{nothing, IsClosed}
 use Rattle.ff_link.specs.Sendings.{stream_from, stream_of, IsSending}
 use Rattle.ff_link.specs.Views.{Sending, Receiving}
@@ -16,11 +16,11 @@ use Rattle.ff_net.specs.Pasts.{Past, start}
 use Rattle.ff_net.specs.Worlds.{Wire, Stand, lanes_of, put_on, take_on, finish_on}
 use Rattle.ff_net.specs.Nodes.{HeldIs}
 use Rattle.ff_net.proofs.Flows.{valid_on_below}
-use Rattle.ff_net.proofs.Moments.{with_wire_same, course_self, course_trans}
+use Rattle.ff_net.proofs.Moments.{with_wire_same, course_self}
 use Rattle.ff_net.proofs.Changes.{true_not_false, course_put, course_take, course_finish}
 use Rattle.ff_net_links.specs.declared.ends.InEnd.{InEnd}
 use Rattle.ff_net_links.specs.declared.ends.OutEnd.{OutEnd}
-use Rattle.ff_net_links.specs.Ends.{taken_in, InEndStands, OutEndStands, CanPour, OnWires}
+use Rattle.ff_net_links.specs.Ends.{taken_in, InEndStands, OutEndStands, OnWires}
 
 -- before the last item the stream was open
 leads_open : (s : Flow) (xs : List Item) (x : Item) (t : Flow) → Leads s (xs ++ x ∷ []) t → (stream_from s xs).mark ≡ still_open

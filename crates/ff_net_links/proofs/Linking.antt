@@ -7,16 +7,16 @@ use Rattle.ff_frame.specs.Items.{with_item}
 use Rattle.ff_frame.specs.declared.item.Item.{Item}
 use Rattle.ff_link.specs.Sendings.{stream_of, IsSending}
 use Rattle.ff_link.proofs.Sendings.{nothing_sent}
-use Rattle.ff_link.specs.Views.{Link, Sending, Receiving}
+use Rattle.ff_link.specs.Views.{Sending, Receiving}
 use Rattle.ff_net.specs.declared.fault.Fault.{Fault}
 use Rattle.ff_net.specs.declared.node.Node.{Node}
 use Rattle.ff_net.specs.declared.wires.Wires.{Wires}
 use Rattle.ff_net.specs.Ways.{Flow, lane_at, IsValidOn}
 use Rattle.ff_net.specs.Laws.{FaultStep}
 use Rattle.ff_net.specs.Pasts.{Past, Task, IsIn, start}
-use Rattle.ff_net.specs.Worlds.{Wire, Stand, fresh, lanes_of}
+use Rattle.ff_net.specs.Worlds.{Wire, fresh, lanes_of}
 use Rattle.ff_net.specs.Nodes.{HeldIs, NodeStands, IsShaped, HaveLanes, AreApart, in_wires_of, out_wires_of}
-use Rattle.ff_net.specs.Steps.{Course, Stepped}
+use Rattle.ff_net.specs.Steps.{Stepped}
 use Rattle.ff_net.proofs.Flows.{same_or_not, there_lane}
 use Rattle.ff_net.proofs.Moments.{fault_self, fault_then}
 use Rattle.ff_net.proofs.NetSteps.{other_stands}
@@ -24,7 +24,7 @@ use Rattle.ff_net.proofs.Rounds.{shaped_later}
 use Rattle.ff_net_links.specs.declared.ends.InEnd.{InEnd}
 use Rattle.ff_net_links.specs.declared.ends.OutEnd.{OutEnd}
 use Rattle.ff_net_links.specs.declared.linked.Linked.{Linked}
-use Rattle.ff_net_links.specs.Ends.{taken_of, InEndStands, OutEndStands, OnWires, Draws, Pours, CanPour, in_link, out_link, in_end_at, new_in, new_out}
+use Rattle.ff_net_links.specs.Ends.{taken_of, InEndStands, OutEndStands, Draws, Pours, CanPour, in_link, out_link, in_end_at, new_in, new_out}
 use Rattle.ff_net_links.specs.Nodes.{in_ends_wires, out_ends_wires, in_ends_links, out_ends_links, IsWired, Behind, Follows, IsBeginning}
 
 pub map_set_same : {A B : Type 0} (f : A → B) (xs : List A) (p : ℕ) (x d : A) → p < length xs → f x ≡ f (slice_index_or xs p d) → map f (slice_set xs p x) ≡ map f xs

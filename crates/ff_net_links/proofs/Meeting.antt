@@ -1,11 +1,11 @@
 -- What settled links tell of the nodes.
-use Rattle.std.proofs.Common.{◌≡◌, ◌≢◌, ℕ, zero, suc, ◌<◌, ◌==◌, ◌⊎◌, inl, inr, Bool, true, false, if◌then◌else◌, List, [], ◌∷◌, ◌++◌, length, map, slice_index_or, refl, ap, sym, ◌∙◌, subst, arith, Option}
+use Rattle.std.proofs.Common.{◌≡◌, ℕ, zero, suc, ◌<◌, ◌⊎◌, inl, inr, true, List, [], ◌∷◌, ◌++◌, length, slice_index_or, refl, ap, sym, ◌∙◌, subst, arith, Option}
 use mathlib.Core.List.{IsPrefix}
 use Rattle.ff_frame.specs.declared.item.Item.{Item}
 use Rattle.ff_frame.specs.declared.item.Lane.{Lane}
 use Rattle.ff_frame.specs.Stream.{LiesBelow}
 use Rattle.ff_frame.specs.Items.{with_item, Leads}
-use Rattle.ff_frame.specs.Order.{below_self, below_trans, nothing_below, leads_below}
+use Rattle.ff_frame.specs.Order.{below_trans, nothing_below, leads_below}
 use Rattle.ff_frame.specs.Ports.{nothing, stream_at}
 use Rattle.ff_link.specs.Sendings.{stream_from, stream_of, IsSending}
 use Rattle.ff_net.specs.declared.fault.Fault.{Fault}
@@ -15,8 +15,8 @@ use Rattle.ff_net.specs.declared.ports.OutPort.{OutPort}
 use Rattle.ff_net.specs.Ways.{Flow, lane_at, IsValidOn}
 use Rattle.ff_net.specs.Pasts.{Past, Task, IsIn}
 use Rattle.ff_net.specs.Ports.{in_at, out_at}
-use Rattle.ff_net.specs.Worlds.{Wire, lanes_of}
-use Rattle.ff_net.specs.Nodes.{NodeStands, HaveLanes, IsSound, IsDone, MayClose, in_wires_of, out_wires_of}
+use Rattle.ff_net.specs.Worlds.{Wire}
+use Rattle.ff_net.specs.Nodes.{NodeStands, HaveLanes, IsSound, MayClose, in_wires_of, out_wires_of}
 use Rattle.ff_net.specs.Serial.{Moment}
 use Rattle.ff_net.proofs.Flows.{same_or_not}
 use Rattle.ff_net.proofs.PortSteps.{in_keep, out_keep, in_wire_in, out_wire_in}
@@ -25,9 +25,9 @@ use Rattle.ff_net_links.specs.declared.ends.InEnd.{InEnd}
 use Rattle.ff_net_links.specs.declared.ends.OutEnd.{OutEnd}
 use Rattle.ff_net_links.specs.declared.linked.Linked.{Linked}
 use Rattle.ff_net_links.specs.Ends.{taken_of, in_end_at}
-use Rattle.ff_net_links.specs.Nodes.{Behind, HasEnded, node_of, lanes_on, ins_of, in_ends_wires}
+use Rattle.ff_net_links.specs.Nodes.{Behind, HasEnded, ins_of, in_ends_wires}
 use Rattle.ff_net_links.specs.Settling.{nodes_of, ends_of, IsFed, AllBehind, IsOutOf, IsInOf, AreMeeting, WasSent, AreFed}
-use Rattle.ff_net_links.proofs.Linking.{in_member, out_member}
+use Rattle.ff_net_links.proofs.Linking.{out_member}
 
 leads_front : (s : Flow) (xs ys : List Item) (t : Flow) → Leads s (xs ++ ys) t → Leads (stream_from s xs) ys t
 leads_front s [] ys t h = h

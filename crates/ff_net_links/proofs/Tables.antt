@@ -1,7 +1,6 @@
 -- Senders in a table by the numbers of their links.
-use Rattle.std.proofs.Common.{◌≡◌, ◌≢◌, ℕ, zero, suc, ◌<◌, inl, inr, Bool, true, false, ◌&&◌, List, [], ◌∷◌, length, map, slice_index_or, slice_set, refl, ap, sym, ◌∙◌, subst, arith, Option, None, Some, get_or-set_same, get_or-set_other}
+use Rattle.std.proofs.Common.{◌≡◌, ℕ, zero, suc, ◌<◌, inl, inr, Bool, true, false, ◌&&◌, List, [], ◌∷◌, length, map, slice_index_or, slice_set, refl, ap, sym, ◌∙◌, subst, arith, Option, None, Some, get_or-set_same, get_or-set_other}
 use Rattle.std.proofs.lemmas.List.{length-set}
-use Rattle.ff_frame.specs.declared.item.Item.{Item}
 use Rattle.ff_link.specs.Views.{Link, Sending, Receiving, Ended}
 use Rattle.ff_net.proofs.Flows.{same_or_not}
 use Rattle.ff_net_links.specs.declared.ends.InEnd.{InEnd}

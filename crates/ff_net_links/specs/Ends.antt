@@ -1,5 +1,5 @@
 -- How the ends of links stand to the wires of a node.
-use Rattle.std.specs.Prelude.{◌≡◌, ℕ, ◌<◌, ◌⊎◌, true, false, List, [], length, Option, None, Some, is_some, slice_index_or, slice_set, ◌∷◌}
+use Rattle.std.specs.Prelude.{◌≡◌, ℕ, ◌⊎◌, true, false, List, [], Option, None, Some, is_some, slice_index_or, slice_set, ◌∷◌}
 use Rattle.ff_frame.specs.declared.item.Item.{Item}
 use Rattle.ff_frame.specs.declared.item.Lane.{Lane}
 use Rattle.ff_frame.specs.Stream.{still_open, LiesBelow}

@@ -8,7 +8,7 @@ use Rattle.ff_net.specs.Ways.{lane_at}
 use Rattle.ff_net.specs.Laws.{FaultStep}
 use Rattle.ff_net.specs.Pasts.{Past, Task, IsIn, start}
 use Rattle.ff_net.specs.Worlds.{Wire, Stand, fresh, lanes_of}
-use Rattle.ff_net.specs.Nodes.{NodeStands, IsShaped, IsDone, machine_of, in_wires_of, out_wires_of}
+use Rattle.ff_net.specs.Nodes.{NodeStands, IsShaped, IsDone, in_wires_of, out_wires_of}
 use Rattle.ff_net.specs.declared.wires.Wires.{Wires}
 use Rattle.ff_net_links.specs.declared.ends.InEnd.{InEnd}
 use Rattle.ff_net_links.specs.declared.ends.OutEnd.{OutEnd}

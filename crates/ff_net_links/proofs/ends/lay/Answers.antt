@@ -1,8 +1,4 @@
-use Rattle.std.proofs.Common.{rules, ◌≡◌, ◌<◌, ℕ, length, true, false, [], ◌∷◌, ◌++◌, None, Some, List, refl, sym, ap, subst, ◌∙◌, inl, inr, Option, is_some}
-use Rattle.ff_frame.specs.declared.item.Item.{Item}
-use Rattle.ff_net.specs.Worlds.{Wire, Stand, lanes_of}
-use Rattle.ff_net.specs.Ways.{lane_at}
-use Rattle.ff_net_links.specs.Ends.{InEndStands, OutEndStands, CanPour, OnWires}
+use Rattle.std.proofs.Common.{refl, sym, ◌∙◌}
 use Rattle.ff_net.proofs.Queues.{finished_of, in_queues}
 use Rattle.ff_net.proofs.Changes.{true_not_false}
 use Rattle.ff_net_links.proofs.Carrying.{in_laid}

@@ -1,10 +1,6 @@
-use Rattle.std.proofs.Common.{rules, ◌≡◌, ◌<◌, ℕ, length, true, false, [], ◌∷◌, ◌++◌, None, Some, List, refl, sym, ap, subst, ◌∙◌, inl, inr, Option, is_some}
-use Rattle.ff_frame.specs.declared.item.Item.{Item}
-use Rattle.ff_net.specs.Worlds.{Wire, Stand, lanes_of}
-use Rattle.ff_net.specs.Ways.{lane_at}
-use Rattle.ff_net_links.specs.Ends.{InEndStands, OutEndStands, CanPour, OnWires}
-use Rattle.ff_frame.specs.declared.item.Lane.{Lane}
-use Rattle.ff_net.specs.Pasts.{Past, Task, start}
+use Rattle.std.proofs.Common.{ℕ, [], ◌∷◌, sym, subst}
+use Rattle.ff_net.specs.Worlds.{lanes_of}
+use Rattle.ff_net_links.specs.Ends.{OutEndStands}
 use Rattle.ff_net.specs.Steps.{Course}
 use Rattle.ff_net.proofs.Moments.{course_trans}
 use Rattle.ff_net_links.proofs.Carrying.{some_past, renamed}

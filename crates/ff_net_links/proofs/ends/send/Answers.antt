@@ -1,8 +1,6 @@
-use Rattle.std.proofs.Common.{rules, ◌≡◌, ◌<◌, ℕ, length, true, false, [], ◌∷◌, ◌++◌, None, Some, List, refl, sym, ap, subst, ◌∙◌, inl, inr, Option, is_some}
+use Rattle.std.proofs.Common.{[], ◌∷◌, Some, refl, sym, ap, ◌∙◌, is_some}
 use Rattle.ff_frame.specs.declared.item.Item.{Item}
-use Rattle.ff_net.specs.Worlds.{Wire, Stand, lanes_of}
-use Rattle.ff_net.specs.Ways.{lane_at}
-use Rattle.ff_net_links.specs.Ends.{InEndStands, OutEndStands, CanPour, OnWires}
+use Rattle.ff_net.specs.Worlds.{lanes_of}
 use Rattle.ff_link.specs.Views.{Sending}
 use Rattle.ff_net_links.proofs.Carrying.{may_send, out_sent, out_looked, out_told, on_wires_self}
 use Rattle.ff_net_links.proofs.ends.send.Goals as goal

@@ -1,5 +1,4 @@
-use Rattle.std.proofs.Common.{◌≡◌, ◌<◌, ℕ, length, true, None, slice_index_or}
-use Rattle.ff_net_links.specs.declared.ends.OutEnd.{OutEnd}
+use Rattle.std.proofs.Common.{◌≡◌, ◌<◌, ℕ, None}
 use Rattle.ff_net_links.specs.Ends.{in_end_at}
 use Rattle.ff_net_links.proofs.linked.shut_all.Given as goal
 

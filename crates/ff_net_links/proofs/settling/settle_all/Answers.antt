@@ -1,4 +1,3 @@
-use Rattle.std.proofs.Common.{ℕ}
 use Rattle.ff_net.proofs.Before.{before_of, cause_of}
 use Rattle.ff_net.proofs.Whole.{settled_of, opened_below_solution}
 use Rattle.ff_net_links.specs.Settling.{nodes_of}

@@ -1,7 +1,6 @@
-use Rattle.std.proofs.Common.{◌≡◌, ◌<◌, ℕ, length, List, refl, sym, ap, subst, ◌∙◌, arith, Option, None, Some, slice_index_or}
+use Rattle.std.proofs.Common.{◌≡◌, ◌<◌, length, List, sym, subst, ◌∙◌, arith, Some, slice_index_or}
 use mathlib.Core.List.{IsPrefix}
 use Rattle.ff_frame.specs.declared.item.Item.{Item}
-use Rattle.ff_link.specs.Views.{Link, Sending}
 use Rattle.ff_net_links.proofs.Tables.{table_set, no_sender, link_ended, taken_ended}
 use Rattle.ff_net_links.proofs.settling.settle_end.Goals as goal
 

@@ -1,10 +1,10 @@
-use Rattle.std.proofs.Common.{◌≡◌, ◌+◌, ◌<◌, ℕ, List, true, length, slice_index_or, vec_items, vec_len, Some}
+use Rattle.std.proofs.Common.{◌≡◌, ◌+◌, ◌<◌, ℕ, List, true, slice_index_or, vec_items, vec_len}
 use Rattle.std.specs.Vec.Iter.{into_iter_items, into_iter_len}
 use Rattle.ff_link.specs.Views.{Link}
 use Rattle.ff_net_links.specs.declared.ends.InEnd.{InEnd}
 use Rattle.ff_net_links.specs.declared.ends.OutEnd.{OutEnd}
-use Rattle.ff_net_links.specs.Ends.{in_end_at, out_link}
-use Rattle.ff_net_links.specs.Settling.{IsTable, IsFed, WasSentIn}
+use Rattle.ff_net_links.specs.Ends.{in_end_at}
+use Rattle.ff_net_links.specs.Settling.{IsTable, IsFed}
 use Rattle.ff_net_links.proofs.settling.settle_ends.Given as goal
 
 abbrev pub invariant-loop-end : goal.invariant-loop-end

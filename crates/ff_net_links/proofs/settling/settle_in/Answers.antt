@@ -1,6 +1,5 @@
-use Rattle.std.proofs.Common.{◌≡◌, ◌+◌, ◌<◌, ℕ, zero, suc, List, true, length, slice_index_or, vec_items, vec_len, Some, None, Option, arith, refl, sym, ◌∙◌, ap, subst, inl, inr, rules}
-use Rattle.std.specs.Vec.Iter.{into_iter_items, into_iter_len}
-use Rattle.ff_link.specs.Views.{Link}
+use Rattle.std.proofs.Common.{◌≡◌, ◌<◌, ℕ, suc, List, length, slice_index_or, vec_items, vec_len, Some, None, arith, sym, ◌∙◌, ap, subst, inl, inr, rules}
+use Rattle.std.specs.Vec.Iter.{into_iter_len}
 use Rattle.ff_net.specs.declared.node.Node.{Node}
 use Rattle.ff_net.specs.Nodes.{machine_of}
 use Rattle.ff_net.proofs.Flows.{same_or_not}
@@ -9,7 +8,7 @@ use Rattle.ff_net_links.specs.declared.ends.OutEnd.{OutEnd}
 use Rattle.ff_net_links.specs.declared.linked.Linked.{Linked}
 use Rattle.ff_net_links.specs.Ends.{in_end_at, in_link, out_link}
 use Rattle.ff_net_links.specs.Nodes.{HasEnded, node_of, ins_of, outs_of}
-use Rattle.ff_net_links.specs.Settling.{IsTable, IsFed, WasSentIn, AreLinked, ends_of}
+use Rattle.ff_net_links.specs.Settling.{IsFed, WasSentIn, ends_of}
 use Rattle.ff_net_links.proofs.Linking.{count_map}
 use Rattle.ff_net_links.proofs.Served.{rest_next, first_next, rest_first, each_snoc}
 use Rattle.ff_net_links.proofs.Tables.{and_true, at_map, was_sent_at}

@@ -1,6 +1,5 @@
-use Rattle.std.proofs.Common.{◌≡◌, ℕ, List, sym, subst, Option, Some}
-use Rattle.ff_link.specs.Views.{Link, Sending}
-use Rattle.ff_net_links.specs.declared.ends.OutEnd.{OutEnd}
+use Rattle.std.proofs.Common.{◌≡◌, subst, Some}
+use Rattle.ff_link.specs.Views.{Sending}
 use Rattle.ff_net_links.specs.Settling.{WasSentIn}
 use Rattle.ff_net_links.proofs.Tables.{table_set}
 use Rattle.ff_net_links.proofs.settling.store_end.Goals as goal

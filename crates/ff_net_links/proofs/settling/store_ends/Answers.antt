@@ -1,13 +1,9 @@
-use Rattle.std.proofs.Common.{◌≡◌, ◌+◌, ◌<◌, ℕ, zero, suc, List, true, length, slice_index_or, vec_items, vec_len, Some, None, Option, arith, refl, sym, ◌∙◌, ap, subst, inl, inr, rules}
-use Rattle.std.specs.Vec.Iter.{into_iter_items, into_iter_len}
-use Rattle.ff_link.specs.Views.{Link}
-use Rattle.ff_net.proofs.Flows.{same_or_not}
-use Rattle.ff_net_links.specs.declared.ends.InEnd.{InEnd}
+use Rattle.std.proofs.Common.{◌≡◌, ◌<◌, suc, length, slice_index_or, vec_items, Some, arith, sym, subst}
+use Rattle.std.specs.Vec.Iter.{into_iter_len}
 use Rattle.ff_net_links.specs.declared.ends.OutEnd.{OutEnd}
-use Rattle.ff_net_links.specs.Ends.{in_end_at, no_in, in_link, out_link}
-use Rattle.ff_net_links.specs.Settling.{IsTable, IsFed, WasSentIn}
+use Rattle.ff_net_links.specs.Ends.{out_link}
+use Rattle.ff_net_links.specs.Settling.{WasSentIn}
 use Rattle.ff_net_links.proofs.Served.{rest_next, first_next}
-use Rattle.ff_net_links.proofs.Tables.{and_true}
 use Rattle.ff_net_links.proofs.settling.store_ends.Goals as goal
 
 pub loop-end-preserved : goal.loop-end-preserved

@@ -1,4 +1,4 @@
-use Rattle.std.specs.Prelude.{◌≡◌, ◌<◌, ℕ, suc, ◌+◌, get_or, vec_items, vec_len, length}
+use Rattle.std.specs.Prelude.{◌≡◌, ◌<◌, ℕ, suc, get_or, vec_items, vec_len, length}
 use Rattle.std.specs.Vec.Iter.{into_iter_len}
 use Rattle.std.proofs.Common.{rules, arith, ap, subst, sym, ◌∙◌}
 use Rattle.ff_net_links.specs.declared.linked.Linked.{Linked}

@@ -1,7 +1,7 @@
-use Rattle.std.proofs.Common.{◌≡◌, ◌<◌, ℕ, length, sym, subst, ◌∙◌, slice_index_or}
+use Rattle.std.proofs.Common.{◌<◌, ℕ, sym, subst, ◌∙◌}
 use Rattle.ff_net_links.specs.declared.linked.Linked.{Linked}
 use Rattle.ff_net_links.specs.declared.worker.Worker.{Worker}
-use Rattle.ff_net_links.specs.Workers.{Serves, AllServe}
+use Rattle.ff_net_links.specs.Workers.{Serves}
 use Rattle.ff_net_links.proofs.Served.{serve_set, someone}
 use Rattle.ff_net_links.proofs.threads.round.Goals as goal
 

@@ -1,4 +1,3 @@
-use Rattle.std.proofs.Common.{◌≡◌}
 use Rattle.ff_net_links.proofs.threads.rounds.Goals as goal
 
 pub round-requires : goal.round-requires

@@ -1,5 +1,4 @@
 use Rattle.std.proofs.Common.{◌≡◌, List, length, sym, ◌∙◌, subst}
-use Rattle.ff_net_links.specs.declared.linked.Linked.{Linked}
 use Rattle.ff_net_links.specs.declared.worker.Worker.{Worker}
 use Rattle.ff_net_links.specs.Workers.{AllServe}
 use Rattle.ff_net_links.proofs.Served.{written_back}
