@@ -1,3 +1,4 @@
+pub mod After
 pub mod Carrying
 pub mod Linking
 pub mod Meeting

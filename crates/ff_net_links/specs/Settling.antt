@@ -32,6 +32,11 @@ abbrev pub IsInOf : {M : Type 0} → List (Linked M) → ℕ → Type 0
 IsInOf [] w = ⊥
 IsInOf (l ∷ ls) w = IsIn w (in_wires_of l.node) ⊎ IsInOf ls w
 
+-- no link leads from two nodes, or to two, and all have the same links
+abbrev pub AreJoined : {M : Type 0} → List Lane → List (Linked M) → Type 0
+AreJoined lanes [] = Unit {0}
+AreJoined lanes (l ∷ ls) = (lanes_on l ≡ lanes) × ((w : ℕ) → IsIn w (out_wires_of l.node) → IsOutOf ls w → ⊥) × ((w : ℕ) → IsIn w (in_wires_of l.node) → IsInOf ls w → ⊥) × AreJoined lanes ls
+
 -- no link leads from two nodes, or to two; all have the same links, and have ended
 abbrev pub AreMeeting : {M : Type 0} → List Lane → List (Linked M) → Type 0
 AreMeeting lanes [] = Unit {0}
