@@ -6,15 +6,14 @@ use Rattle.ff_frame.specs.Order.{below_trans}
 use Rattle.ff_frame.specs.Ports.{stream_at, AllBelow, AllUnbroken, IsMonotone, IsCalm, nothing}
 use Rattle.ff_net.specs.declared.fault.Fault.{Fault}
 use Rattle.ff_net.specs.declared.node.Node.{Node}
-use Rattle.ff_net.specs.declared.wires.Wires.{Wires}
 use Rattle.ff_net.specs.Ways.{Flow, lane_at, IsValidOn, AreValid}
 use Rattle.ff_net.specs.Pasts.{Past, Task, IsIn, due}
 use Rattle.ff_net.specs.Laws.{IsOfInputs, CauseStays}
 use Rattle.ff_net.specs.Ports.{in_at}
-use Rattle.ff_net.specs.Worlds.{lanes_of}
+use Rattle.ff_net.specs.Worlds.{Wire}
 use Rattle.ff_net.specs.Nodes.{IsSound, in_wires_of, out_wires_of}
 use Rattle.ff_net.specs.Nets.{Part, IsUpward, solve}
-use Rattle.ff_net.specs.Serial.{AreShaped, NetStands, parts_of}
+use Rattle.ff_net.specs.Serial.{Moment, parts_of}
 use Rattle.ff_net.proofs.PortSteps.{in_wire_in}
 use Rattle.ff_net.proofs.Queues.{nothing_valid_on}
 use Rattle.ff_net.proofs.Induction.{Placed, parts, IsOutputOf, AreFaultless, IsNet, map_valid, solve_valid, exact_before}
@@ -71,28 +70,28 @@ module _ {M : Type 0} (in_lanes out_lanes : M → List Lane) (source : M → Opt
         outs_above = λ w i. let x = r.outs_above w i in (suc x.0, (let le : k ≤ x.0 = x.1 in omega arith), (let less : x.0 < length ns = x.2 in omega arith), x.3);
       }
 
-  module _ (nodes : List (Node M)) (wires : Wires) (tasks : ℕ → Task) (net : NetStands source fault stands tasks nodes wires) (shaped : AreShaped in_lanes out_lanes nodes wires) (up : IsUpward [] (parts_of in_lanes out_lanes tasks nodes))
+  module _ (nodes : List (Node M)) (lanes : List Lane) (world : ℕ → Wire) (tasks : ℕ → Task) (net : Moment in_lanes out_lanes source fault stands tasks nodes lanes world) (up : IsUpward [] (parts_of in_lanes out_lanes tasks nodes))
       (k : ℕ) (d : Node M) (lt : k < length nodes) (sound : (j : ℕ) (e : Node M) → j < k → IsSound fault (slice_index_or nodes j e)) where
-    is_net : IsNet (lanes_of wires) (placed tasks nodes) net.world
-    is_net = net_of in_lanes out_lanes source fault stands valid keeps monotone cause_stays calm given unbroken caused nodes wires tasks net shaped up
+    is_net : IsNet lanes (placed tasks nodes) world
+    is_net = net_of in_lanes out_lanes source fault stands valid keeps monotone cause_stays calm given unbroken caused nodes lanes world tasks net up
 
     same_parts : parts (placed tasks nodes) ≡ parts_of in_lanes out_lanes tasks nodes
     same_parts = parts_are in_lanes out_lanes source fault stands valid keeps monotone cause_stays calm given unbroken caused tasks nodes
 
-    pub before_of : (w : ℕ) → IsIn w (in_wires_of (slice_index_or nodes k d)) → LiesBelow (net.world w).taken (solve (parts_of in_lanes out_lanes tasks nodes) w)
+    pub before_of : (w : ℕ) → IsIn w (in_wires_of (slice_index_or nodes k d)) → LiesBelow (world w).taken (solve (parts_of in_lanes out_lanes tasks nodes) w)
     before_of w i =
         let s = split_at tasks nodes k d lt in
         let x = one (tasks k) (slice_index_or nodes k d) in
-        let whole : IsNet (lanes_of wires) (s.below ++ x ∷ s.above) net.world = subst (λ (ps : List Placed). IsNet (lanes_of wires) ps net.world) s.is is_net in
+        let whole : IsNet lanes (s.below ++ x ∷ s.above) world = subst (λ (ps : List Placed). IsNet lanes ps world) s.is is_net in
         let once : (v : ℕ) → IsOutputOf s.below v → IsOutputOf (x ∷ s.above) v → ⊥ = λ v a b.
         let y = s.outs_below v a in
         let z = s.outs_above v b in
         let less : y.0 < k = y.1 in
         let le : k ≤ z.0 = z.1 in
-        let same : y.0 ≡ z.0 = shaped.outs_apart y.0 z.0 v d (let in_range : y.0 < length nodes = omega (arith, less, lt) in in_range) z.2 (y.2 d) (z.3 d) in
+        let same : y.0 ≡ z.0 = net.outs_apart y.0 z.0 v d (let in_range : y.0 < length nodes = omega (arith, less, lt) in in_range) z.2 (y.2 d) (z.3 d) in
         omega (arith, less, le, same) in
-        subst (λ (ps : List Part). LiesBelow (net.world w).taken (solve ps w)) same_parts
-        (subst (λ (ps : List Placed). LiesBelow (net.world w).taken (solve (parts ps) w)) (sym s.is) (exact_before (lanes_of wires) s.below s.above x net.world w whole (s.faultless sound) once i))
+        subst (λ (ps : List Part). LiesBelow (world w).taken (solve ps w)) same_parts
+        (subst (λ (ps : List Placed). LiesBelow (world w).taken (solve (parts ps) w)) (sym s.is) (exact_before lanes s.below s.above x world w whole (s.faultless sound) once i))
 
     pub cause_of : (c : Fault) → fault (slice_index_or nodes k d).machine ≡ Some c → IsOfInputs c → (tasks k).cause (map (solve (parts_of in_lanes out_lanes tasks nodes)) (in_wires_of (slice_index_or nodes k d))) ≡ Some c
     cause_of c e of_inputs =
@@ -100,10 +99,10 @@ module _ {M : Type 0} (in_lanes out_lanes : M → List Lane) (source : M → Opt
         let solution : ℕ → Flow = solve (parts_of in_lanes out_lanes tasks nodes) in
         let mine = net.each k d lt in
         let below : AllBelow mine.0.got (map solution (in_wires_of node)) = all_in node.ins.items solution mine.0.got
-        (λ p plt. let w = (in_at node.ins.items p).wire in below_trans (stream_at mine.0.got p) (net.world w).taken (solution w) (fed_below (stream_at mine.0.got p) (net.world w).taken ((mine.1.ins p plt).fed)) (before_of w (in_wire_in node.ins.items p w plt refl)))
+        (λ p plt. let w = (in_at node.ins.items p).wire in below_trans (stream_at mine.0.got p) (world w).taken (solution w) (fed_below (stream_at mine.0.got p) (world w).taken ((mine.1.ins p plt).fed)) (before_of w (in_wire_in node.ins.items p w plt refl)))
         mine.1.beyond in
-        let solution_valid : (w : ℕ) → IsValidOn (lane_at (lanes_of wires) w) (solution w) =
-        λ w. subst (λ (ps : List Part). IsValidOn (lane_at (lanes_of wires) w) (solve ps w)) same_parts (solve_valid (lanes_of wires) net.world (λ v. nothing) (placed tasks nodes) is_net.lawful (λ v. nothing_valid_on (lane_at (lanes_of wires) v)) w) in
-        let ok : AreValid (in_lanes node.machine) (map solution (in_wires_of node)) = map_valid (lanes_of wires) solution (in_wires_of node) (in_lanes node.machine) (shaped.each k d lt).ins.lanes_are solution_valid in
+        let solution_valid : (w : ℕ) → IsValidOn (lane_at lanes w) (solution w) =
+        λ w. subst (λ (ps : List Part). IsValidOn (lane_at lanes w) (solve ps w)) same_parts (solve_valid lanes world (λ v. nothing) (placed tasks nodes) is_net.lawful (λ v. nothing_valid_on (lane_at lanes v)) w) in
+        let ok : AreValid (in_lanes node.machine) (map solution (in_wires_of node)) = map_valid lanes solution (in_wires_of node) (in_lanes node.machine) (net.ins k d lt).lanes_are solution_valid in
         let cause : mine.0.task.cause (map solution (in_wires_of node)) ≡ Some c = cause_stays node.machine mine.0 mine.1.machine mine.0.got (map solution (in_wires_of node)) c (valid node.machine mine.0 mine.1.machine) ok below (caused node.machine mine.0 c mine.1.machine e of_inputs) in
         subst (λ (t : Task). t.cause (map solution (in_wires_of node)) ≡ Some c) mine.2 cause

@@ -14,9 +14,9 @@ use Rattle.ff_net.specs.Pasts.{Past, Task, IsIn, due}
 use Rattle.ff_net.specs.Laws.{IsOfInputs, CauseStays}
 use Rattle.ff_net.specs.Ports.{in_at, out_at, in_wires, out_wires}
 use Rattle.ff_net.specs.Worlds.{Wire, Stand, lanes_of}
-use Rattle.ff_net.specs.Nodes.{FedAllButOne, NodeStands, IsSound, IsDone, IsShaped, in_wires_of, out_wires_of}
+use Rattle.ff_net.specs.Nodes.{FedAllButOne, NodeStands, IsSound, IsDone, HaveLanes, in_wires_of, out_wires_of}
 use Rattle.ff_net.specs.Nets.{Part, IsUpward, solve}
-use Rattle.ff_net.specs.Serial.{AreShaped, NetStands, part_of, parts_of, Settled}
+use Rattle.ff_net.specs.Serial.{AreShaped, NetStands, Moment, part_of, parts_of, Settled}
 use Rattle.ff_net.proofs.Flows.{given_below, valid_on_below}
 use Rattle.ff_net.proofs.PortSteps.{in_wire_in}
 use Rattle.ff_net.proofs.Changes.{true_not_false}
@@ -73,19 +73,19 @@ module _ {M : Type 0} (in_lanes out_lanes : M → List Lane) (source : M → Opt
   parts_are tasks [] = refl
   parts_are tasks (n ∷ ns) = ap (λ (ps : List Part). part_of in_lanes out_lanes (tasks zero) n ∷ ps) (parts_are (λ k. tasks (suc k)) ns)
 
-  module _ (wires : Wires) (world : ℕ → Wire) (stand : Stand wires world) where
-    taken_valid : (w : ℕ) → IsValidOn (lane_at (lanes_of wires) w) (world w).taken
-    taken_valid w = valid_on_below (lane_at (lanes_of wires) w) (world w).taken (world w).sent (stand.ordered w) (stand.valid w)
+  module _ (lanes : List Lane) (world : ℕ → Wire) (ordered : (w : ℕ) → LiesBelow (world w).taken (world w).sent) (valid_sent : (w : ℕ) → IsValidOn (lane_at lanes w) (world w).sent) where
+    taken_valid : (w : ℕ) → IsValidOn (lane_at lanes w) (world w).taken
+    taken_valid w = valid_on_below (lane_at lanes w) (world w).taken (world w).sent (ordered w) (valid_sent w)
 
-    lawful_at : (node : Node M) (past : Past) → IsShaped in_lanes out_lanes node wires → NodeStands source fault stands node world past → IsLawful (lanes_of wires) world (part_of in_lanes out_lanes past.task node) (node.refused || is_some (fault node.machine))
-    lawful_at node past shaped was =
+    lawful_at : (node : Node M) (past : Past) → HaveLanes (in_wires_of node) (in_lanes node.machine) lanes → HaveLanes (out_wires_of node) (out_lanes node.machine) lanes → NodeStands source fault stands node world past → IsLawful lanes world (part_of in_lanes out_lanes past.task node) (node.refused || is_some (fault node.machine))
+    lawful_at node past shaped_ins shaped_outs was =
         let part = part_of in_lanes out_lanes past.task node in
         let got : AllBelow past.got (got_of world part) = all_in node.ins.items (λ w. (world w).taken) past.got (λ p lt. fed_below (stream_at past.got p) (world (in_at node.ins.items p).wire).taken ((was.ins p lt).fed)) was.beyond in
-        let got_ok : AreValid (in_lanes node.machine) (got_of world part) = map_valid (lanes_of wires) (λ w. (world w).taken) part.ins part.in_lanes shaped.ins.lanes_are taken_valid in
+        let got_ok : AreValid (in_lanes node.machine) (got_of world part) = map_valid lanes (λ w. (world w).taken) part.ins part.in_lanes shaped_ins.lanes_are taken_valid in
         let mono = monotone node.machine past was.machine in
         let above : AllBelow past.gave (past.task.means (got_of world part)) = all_trans past.gave (past.task.means past.got) (past.task.means (got_of world part)) (given_below past (given node.machine past was.machine)) (mono past.got (got_of world part) (valid node.machine past was.machine) got_ok got) in record {
-          ins_lanes = shaped.ins.lanes_are;
-          outs_lanes = shaped.outs.lanes_are;
+          ins_lanes = shaped_ins.lanes_are;
+          outs_lanes = shaped_outs.lanes_are;
           monotone = mono;
           calm = calm node.machine past was.machine;
           keeps = keeps node.machine past was.machine;
@@ -115,12 +115,12 @@ module _ {M : Type 0} (in_lanes out_lanes : M → List Lane) (source : M → Opt
             opened_map (w ∷ ws) zero = refl
             opened_map (w ∷ ws) (suc q) = opened_map ws q
 
-    are_lawful : (nodes : List (Node M)) (tasks : ℕ → Task) → ((k : ℕ) (d : Node M) → k < length nodes → IsShaped in_lanes out_lanes (slice_index_or nodes k d) wires) → ((k : ℕ) (d : Node M) → k < length nodes → (past : Past) × NodeStands source fault stands (slice_index_or nodes k d) world past × (past.task ≡ tasks k)) → AreLawful (lanes_of wires) world (all_placed tasks nodes)
-    are_lawful [] tasks shaped each = tt
-    are_lawful (n ∷ ns) tasks shaped each =
+    are_lawful : (nodes : List (Node M)) (tasks : ℕ → Task) → ((k : ℕ) (d : Node M) → k < length nodes → HaveLanes (in_wires_of (slice_index_or nodes k d)) (in_lanes (slice_index_or nodes k d).machine) lanes) → ((k : ℕ) (d : Node M) → k < length nodes → HaveLanes (out_wires_of (slice_index_or nodes k d)) (out_lanes (slice_index_or nodes k d).machine) lanes) → ((k : ℕ) (d : Node M) → k < length nodes → (past : Past) × NodeStands source fault stands (slice_index_or nodes k d) world past × (past.task ≡ tasks k)) → AreLawful lanes world (all_placed tasks nodes)
+    are_lawful [] tasks shaped_ins shaped_outs each = tt
+    are_lawful (n ∷ ns) tasks shaped_ins shaped_outs each =
         let mine = each zero n (omega arith) in (
-          subst (λ (t : Task). IsLawful (lanes_of wires) world (part_of in_lanes out_lanes t n) (n.refused || is_some (fault n.machine))) mine.2 (lawful_at n mine.0 (shaped zero n (omega arith)) mine.1),
-          are_lawful ns (λ k. tasks (suc k)) (λ k d lt. shaped (suc k) d (omega arith)) (λ k d lt. each (suc k) d (omega arith)),
+          subst (λ (t : Task). IsLawful lanes world (part_of in_lanes out_lanes t n) (n.refused || is_some (fault n.machine))) mine.2 (lawful_at n mine.0 (shaped_ins zero n (omega arith)) (shaped_outs zero n (omega arith)) mine.1),
+          are_lawful ns (λ k. tasks (suc k)) (λ k d lt. shaped_ins (suc k) d (omega arith)) (λ k d lt. shaped_outs (suc k) d (omega arith)) (λ k d lt. each (suc k) d (omega arith)),
         )
 
   are_faultless : (nodes : List (Node M)) (tasks : ℕ → Task) → ((k : ℕ) (d : Node M) → k < length nodes → IsSound fault (slice_index_or nodes k d)) → AreFaultless (all_placed tasks nodes)
@@ -132,34 +132,34 @@ module _ {M : Type 0} (in_lanes out_lanes : M → List Lane) (source : M → Opt
   is_input (n ∷ ns) tasks zero d w lt i = inl i
   is_input (n ∷ ns) tasks (suc k) d w lt i = inr (is_input ns (λ j. tasks (suc j)) k d w (omega arith) i)
 
-  module _ (nodes : List (Node M)) (wires : Wires) (tasks : ℕ → Task) (net : NetStands source fault stands tasks nodes wires) (shaped : AreShaped in_lanes out_lanes nodes wires) (up : IsUpward [] (parts_of in_lanes out_lanes tasks nodes)) where
-    pub net_of : IsNet (lanes_of wires) (all_placed tasks nodes) net.world
+  module _ (nodes : List (Node M)) (lanes : List Lane) (world : ℕ → Wire) (tasks : ℕ → Task) (net : Moment in_lanes out_lanes source fault stands tasks nodes lanes world) (up : IsUpward [] (parts_of in_lanes out_lanes tasks nodes)) where
+    pub net_of : IsNet lanes (all_placed tasks nodes) world
     net_of = record {
-      lawful = are_lawful wires net.world net.stand nodes tasks shaped.each net.each;
+      lawful = are_lawful lanes world net.ordered net.valid nodes tasks net.ins net.outs net.each;
       upward = subst (λ (ps : List Part). IsUpward [] ps) (sym (parts_are tasks nodes)) up;
-      ordered = net.stand.ordered;
-      valid = net.stand.valid;
+      ordered = net.ordered;
+      valid = net.valid;
     }
 
-    pub opened_below_solution : (k : ℕ) (d : Node M) (w : ℕ) → k < length nodes → IsIn w (in_wires_of (slice_index_or nodes k d)) → LiesBelow (opened (net.world w).taken) (solve (parts_of in_lanes out_lanes tasks nodes) w)
-    opened_below_solution k d w lt i = subst (λ (ps : List Part). LiesBelow (opened (net.world w).taken) (solve ps w)) (parts_are tasks nodes) (opened_solve (lanes_of wires) (all_placed tasks nodes) net.world w net_of (is_input nodes tasks k d w lt i))
+    pub opened_below_solution : (k : ℕ) (d : Node M) (w : ℕ) → k < length nodes → IsIn w (in_wires_of (slice_index_or nodes k d)) → LiesBelow (opened (world w).taken) (solve (parts_of in_lanes out_lanes tasks nodes) w)
+    opened_below_solution k d w lt i = subst (λ (ps : List Part). LiesBelow (opened (world w).taken) (solve ps w)) (parts_are tasks nodes) (opened_solve lanes (all_placed tasks nodes) world w net_of (is_input nodes tasks k d w lt i))
 
     module _ (sound : (k : ℕ) (d : Node M) → k < length nodes → IsSound fault (slice_index_or nodes k d)) (k : ℕ) (d : Node M) (lt : k < length nodes) (done : IsDone (slice_index_or nodes k d)) (sink : length (slice_index_or nodes k d).outs.items ≡ 0) where
       node : Node M
       node = slice_index_or nodes k d
 
       at_port : (p : ℕ) → p < length (slice_index_or nodes k d).ins.items
-          → ((net.world (in_at (slice_index_or nodes k d).ins.items p).wire).taken ≡ solve (parts_of in_lanes out_lanes tasks nodes) (in_at (slice_index_or nodes k d).ins.items p).wire) × IsWhole (net.world (in_at (slice_index_or nodes k d).ins.items p).wire).taken
+          → ((world (in_at (slice_index_or nodes k d).ins.items p).wire).taken ≡ solve (parts_of in_lanes out_lanes tasks nodes) (in_at (slice_index_or nodes k d).ins.items p).wire) × IsWhole (world (in_at (slice_index_or nodes k d).ins.items p).wire).taken
       at_port p plt =
           let mine = net.each k d lt in
           let i = mine.1.ins p plt in
           let w = (in_at (slice_index_or nodes k d).ins.items p).wire in
-          let closed : IsClosed (net.world w).taken = elim (i.reason (done.ins p plt) (sound k d lt)) [ inl c ↦ c | inr m ↦ absurd (let z : 0 < length (slice_index_or nodes k d).outs.items = m.0 in omega (arith, z, sink)) ] in
+          let closed : IsClosed (world w).taken = elim (i.reason (done.ins p plt) (sound k d lt)) [ inl c ↦ c | inr m ↦ absurd (let z : 0 < length (slice_index_or nodes k d).outs.items = m.0 in omega (arith, z, sink)) ] in
           let fine = are_faultless nodes tasks sound in
           let input = is_input nodes tasks k d w lt (in_wire_in (slice_index_or nodes k d).ins.items p w plt refl) in
-          let below : LiesBelow (net.world w).taken (solve (parts (all_placed tasks nodes)) w) = below_trans (net.world w).taken (net.world w).sent (solve (parts (all_placed tasks nodes)) w) (net.stand.ordered w) (exact_solve (lanes_of wires) (all_placed tasks nodes) net.world w net_of fine (inl input)) in (
-            closed_below (net.world w).taken (solve (parts (all_placed tasks nodes)) w) below closed ∙ ap (λ (ps : List Part). solve ps w) (parts_are tasks nodes),
-            whole_if_closed (net.world w).taken closed (unbroken_below (net.world w).taken (net.world w).sent (net.stand.ordered w) (sent_unbroken (lanes_of wires) (all_placed tasks nodes) net.world w net_of fine input)),
+          let below : LiesBelow (world w).taken (solve (parts (all_placed tasks nodes)) w) = below_trans (world w).taken (world w).sent (solve (parts (all_placed tasks nodes)) w) (net.ordered w) (exact_solve lanes (all_placed tasks nodes) world w net_of fine (inl input)) in (
+            closed_below (world w).taken (solve (parts (all_placed tasks nodes)) w) below closed ∙ ap (λ (ps : List Part). solve ps w) (parts_are tasks nodes),
+            whole_if_closed (world w).taken closed (unbroken_below (world w).taken (world w).sent (net.ordered w) (sent_unbroken lanes (all_placed tasks nodes) world w net_of fine input)),
           )
 
       pub settled_of : Settled stands (tasks k) (parts_of in_lanes out_lanes tasks nodes) (slice_index_or nodes k d)
@@ -171,3 +171,15 @@ module _ {M : Type 0} (in_lanes out_lanes : M → List Lane) (source : M → Opt
             got = λ p plt. (mine.1.ins p plt).exact (sound k d lt).0 ∙ (at_port p plt).0;
             whole = λ p plt. let a = at_port p plt in subst IsWhole a.0 a.1;
           }
+
+-- nodes on wires at one moment
+pub moment_of : {M : Type 0} (in_lanes out_lanes : M → List Lane) (source : M → Option ℕ) (fault : M → Option Fault) (stands : M → Past → Type 0) (tasks : ℕ → Task) (nodes : List (Node M)) (wires : Wires) (net : NetStands source fault stands tasks nodes wires) → AreShaped in_lanes out_lanes nodes wires
+    → Moment in_lanes out_lanes source fault stands tasks nodes (lanes_of wires) net.world
+moment_of in_lanes out_lanes source fault stands tasks nodes wires net shaped = record {
+  ins = λ k d lt. (shaped.each k d lt).ins;
+  outs = λ k d lt. (shaped.each k d lt).outs;
+  outs_apart = shaped.outs_apart;
+  ordered = net.stand.ordered;
+  valid = net.stand.valid;
+  each = net.each;
+}

@@ -2,6 +2,7 @@
 use Rattle.std.specs.Prelude.{◌≡◌, ℕ, zero, suc, ◌<◌, List, [], ◌∷◌, length, slice_index_or, Option}
 use Rattle.ff_frame.specs.declared.item.Lane.{Lane}
 use Rattle.ff_frame.specs.Ports.{stream_at, IsWhole}
+use Rattle.ff_frame.specs.Stream.{LiesBelow}
 use Rattle.ff_net.specs.declared.fault.Fault.{Fault}
 use Rattle.ff_net.specs.declared.node.Node.{Node}
 use Rattle.ff_net.specs.declared.wires.Wires.{Wires}
@@ -9,7 +10,8 @@ use Rattle.ff_net.specs.Nets.{Part, solve}
 use Rattle.ff_net.specs.Pasts.{Past, Task, IsIn}
 use Rattle.ff_net.specs.Ports.{in_at}
 use Rattle.ff_net.specs.Worlds.{Wire, Stand}
-use Rattle.ff_net.specs.Nodes.{NodeStands, IsShaped, in_wires_of, out_wires_of}
+use Rattle.ff_net.specs.Nodes.{NodeStands, IsShaped, HaveLanes, in_wires_of, out_wires_of}
+use Rattle.ff_net.specs.Ways.{lane_at, IsValidOn}
 
 -- each node is shaped, and no two inputs and no two outputs of the nodes have one wire
 pub record AreShaped {M : Type 0} (in_lanes out_lanes : M → List Lane) (nodes : List (Node M)) (wires : Wires) : Type 0 where
@@ -21,6 +23,16 @@ pub record AreShaped {M : Type 0} (in_lanes out_lanes : M → List Lane) (nodes 
 pub record NetStands {M : Type 0} (source : M → Option ℕ) (fault : M → Option Fault) (stands : M → Past → Type 0) (tasks : ℕ → Task) (nodes : List (Node M)) (wires : Wires) : Type 0 where
   pub world : ℕ → Wire
   pub stand : Stand wires world
+  pub each : (k : ℕ) (d : Node M) → k < length nodes → (past : Past) × NodeStands source fault stands (slice_index_or nodes k d) world past × (past.task ≡ tasks k)
+
+-- all nodes at one moment, whatever carries their items: the edges of the ports have these lanes, no two outputs have one
+-- edge, and what was taken from an edge is the beginning of what was sent on it, which is valid for its lane
+pub record Moment {M : Type 0} (in_lanes out_lanes : M → List Lane) (source : M → Option ℕ) (fault : M → Option Fault) (stands : M → Past → Type 0) (tasks : ℕ → Task) (nodes : List (Node M)) (lanes : List Lane) (world : ℕ → Wire) : Type 0 where
+  pub ins : (k : ℕ) (d : Node M) → k < length nodes → HaveLanes (in_wires_of (slice_index_or nodes k d)) (in_lanes (slice_index_or nodes k d).machine) lanes
+  pub outs : (k : ℕ) (d : Node M) → k < length nodes → HaveLanes (out_wires_of (slice_index_or nodes k d)) (out_lanes (slice_index_or nodes k d).machine) lanes
+  pub outs_apart : (j k w : ℕ) (d : Node M) → j < length nodes → k < length nodes → IsIn w (out_wires_of (slice_index_or nodes j d)) → IsIn w (out_wires_of (slice_index_or nodes k d)) → j ≡ k
+  pub ordered : (w : ℕ) → LiesBelow (world w).taken (world w).sent
+  pub valid : (w : ℕ) → IsValidOn (lane_at lanes w) (world w).sent
   pub each : (k : ℕ) (d : Node M) → k < length nodes → (past : Past) × NodeStands source fault stands (slice_index_or nodes k d) world past × (past.task ≡ tasks k)
 
 -- the parts that the nodes are, with these tasks

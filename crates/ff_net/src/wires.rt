@@ -69,6 +69,23 @@ impl Wires {
         Ok(Wires { queues })
     }
 
+    /// Whether nothing lies on a wire.
+    pub fn is_empty(&self, wire: usize) -> bool
+        requires { wire < length (lanes_of self.now) }
+        ensures { result ≡ true → IsEmpty self.now wire }
+    {
+        self.queues[wire].content.is_empty()
+    }
+
+    /// Whether the receiver of a wire takes nothing more.
+    pub fn is_finished(&self, wire: usize) -> bool
+        requires { wire < length (lanes_of self.now) }
+        ensures finished { result ≡ true → IsFinished self.now wire }
+        ensures goes_on { result ≡ false → (world : ℕ → Wire) → Stand self.now world → (world wire).finished ≡ false }
+    {
+        self.queues[wire].finished
+    }
+
     /// Puts an item on a wire on which no closing item was put, and whose sent stream it keeps valid for the lane.
     pub fn try_put(&mut self, wire: usize, item: Item) -> Put
         requires { wire < length (lanes_of self.old) }

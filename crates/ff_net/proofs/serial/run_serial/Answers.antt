@@ -4,7 +4,8 @@ use Rattle.ff_net.specs.declared.node.Node.{Node}
 use Rattle.ff_net.proofs.NetSteps.{fares_set, are_shaped_set, net_stands_set, parts_kept}
 use Rattle.ff_net.proofs.Moments.{fault_then}
 use Rattle.ff_net.proofs.Before.{before_of, cause_of}
-use Rattle.ff_net.proofs.Whole.{settled_of, opened_below_solution}
+use Rattle.ff_net.proofs.Whole.{settled_of, opened_below_solution, moment_of}
+use Rattle.ff_net.specs.Worlds.{lanes_of}
 use Rattle.ff_net.proofs.serial.run_serial.Goals as goal
 
 pub turn-turn-requires : goal.turn-turn-requires
@@ -33,24 +34,26 @@ pub returns-clause-settled : goal.returns-clause-settled
 returns-clause-settled g c tasks old up sound k d lt done sink =
     let m = g.M.Machine in
     let laws = g.met.M.Machine in
-    settled_of m.in_lanes m.out_lanes m.source_of m.fault_of m.stands laws.valid laws.keeps laws.monotone laws.cause_stays laws.calm laws.given laws.unbroken laws.caused c.loop-k.nodes c.loop-k.wires tasks (c.loop-k.invariant.stands tasks old) c.loop-k.invariant.shaped up sound k d lt done sink
+    let net = c.loop-k.invariant.stands tasks old in
+    settled_of m.in_lanes m.out_lanes m.source_of m.fault_of m.stands laws.valid laws.keeps laws.monotone laws.cause_stays laws.calm laws.given laws.unbroken laws.caused c.loop-k.nodes (lanes_of c.loop-k.wires) net.world tasks (moment_of m.in_lanes m.out_lanes m.source_of m.fault_of m.stands tasks c.loop-k.nodes c.loop-k.wires net c.loop-k.invariant.shaped) up sound k d lt done sink
 
 pub returns-clause-below : goal.returns-clause-below
 returns-clause-below g c tasks old up =
     let m = g.M.Machine in
     let laws = g.met.M.Machine in
     let net = c.loop-k.invariant.stands tasks old in
-    (net, λ k d w lt i. opened_below_solution m.in_lanes m.out_lanes m.source_of m.fault_of m.stands laws.valid laws.keeps laws.monotone laws.cause_stays laws.calm laws.given laws.unbroken laws.caused c.loop-k.nodes c.loop-k.wires tasks net c.loop-k.invariant.shaped up k d w lt i)
+    (net, λ k d w lt i. opened_below_solution m.in_lanes m.out_lanes m.source_of m.fault_of m.stands laws.valid laws.keeps laws.monotone laws.cause_stays laws.calm laws.given laws.unbroken laws.caused c.loop-k.nodes (lanes_of c.loop-k.wires) net.world tasks (moment_of m.in_lanes m.out_lanes m.source_of m.fault_of m.stands tasks c.loop-k.nodes c.loop-k.wires net c.loop-k.invariant.shaped) up k d w lt i)
 
 pub returns-clause-before : goal.returns-clause-before
 returns-clause-before g c tasks old up =
     let m = g.M.Machine in
     let laws = g.met.M.Machine in
     let net = c.loop-k.invariant.stands tasks old in
-    (net, λ k d lt sound w i. before_of m.in_lanes m.out_lanes m.source_of m.fault_of m.stands laws.valid laws.keeps laws.monotone laws.cause_stays laws.calm laws.given laws.unbroken laws.caused c.loop-k.nodes c.loop-k.wires tasks net c.loop-k.invariant.shaped up k d lt sound w i)
+    (net, λ k d lt sound w i. before_of m.in_lanes m.out_lanes m.source_of m.fault_of m.stands laws.valid laws.keeps laws.monotone laws.cause_stays laws.calm laws.given laws.unbroken laws.caused c.loop-k.nodes (lanes_of c.loop-k.wires) net.world tasks (moment_of m.in_lanes m.out_lanes m.source_of m.fault_of m.stands tasks c.loop-k.nodes c.loop-k.wires net c.loop-k.invariant.shaped) up k d lt sound w i)
 
 pub returns-clause-cause : goal.returns-clause-cause
 returns-clause-cause g c tasks old up k d lt sound =
     let m = g.M.Machine in
     let laws = g.met.M.Machine in
-    cause_of m.in_lanes m.out_lanes m.source_of m.fault_of m.stands laws.valid laws.keeps laws.monotone laws.cause_stays laws.calm laws.given laws.unbroken laws.caused c.loop-k.nodes c.loop-k.wires tasks (c.loop-k.invariant.stands tasks old) c.loop-k.invariant.shaped up k d lt sound
+    let net = c.loop-k.invariant.stands tasks old in
+    cause_of m.in_lanes m.out_lanes m.source_of m.fault_of m.stands laws.valid laws.keeps laws.monotone laws.cause_stays laws.calm laws.given laws.unbroken laws.caused c.loop-k.nodes (lanes_of c.loop-k.wires) net.world tasks (moment_of m.in_lanes m.out_lanes m.source_of m.fault_of m.stands tasks c.loop-k.nodes c.loop-k.wires net c.loop-k.invariant.shaped) up k d lt sound

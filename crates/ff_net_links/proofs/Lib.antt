@@ -1,0 +1,6 @@
+pub mod After
+pub mod Carrying
+pub mod Linking
+pub mod Meeting
+mod Served
+pub mod Tables

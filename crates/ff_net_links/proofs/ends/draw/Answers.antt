@@ -1,0 +1,31 @@
+use Rattle.std.proofs.Common.{◌≡◌, ℕ, false, [], ◌∷◌, refl, sym, subst}
+use Rattle.ff_net.specs.Worlds.{lanes_of}
+use Rattle.ff_net.specs.Ways.{lane_at}
+use Rattle.ff_net_links.specs.Ends.{InEndStands}
+use Rattle.ff_net.specs.Steps.{Course}
+use Rattle.ff_net.proofs.Queues.{finished_of, in_queues}
+use Rattle.ff_net_links.proofs.Carrying.{renamed, on_wires_self}
+use Rattle.ff_net_links.proofs.ends.draw.Goals as goal
+
+pub returns-then-is_finished-clause-stands : goal.returns-then-is_finished-clause-stands
+returns-then-is_finished-clause-stands g c world past stand i =
+    let queues = c.args.wires.now.queues.items in
+    let w = c.args.end.now.wire in
+    let finished = finished_of queues world w stand (in_queues queues w c.requires) (c.is_finished.ensures.finished c.if-is_finished.true) in
+    on_wires_self [] (w ∷ []) c.args.wires.now world past _ w stand (c.shut.ensures.stands _ (world w) finished i)
+
+pub returns-clause-stands : goal.returns-clause-stands
+returns-clause-stands g c world past stand i =
+    let end = c.args.end.now in
+    let mid = c.fetch-fetched.new.end in
+    let last = c.lay-laid.new.end in
+    let lanes = lanes_of c.args.wires.now in
+    let f = c.fetch-fetched.ensures in
+    let goes : (world end.wire).finished ≡ false = c.is_finished.ensures.goes_on c.if-is_finished.false world stand in
+    let fetched = f.stands (lane_at lanes end.wire) (world end.wire) goes i in
+    let y = c.lay-laid.ensures.stands world past stand (subst (λ (w : ℕ). (world w).finished ≡ false) (sym f.wire) goes) (renamed (InEndStands mid) lanes lanes end.wire mid.wire world refl f.wire fetched) in record {
+      now = y.now;
+      stand = y.stand;
+      fits = renamed (InEndStands last) lanes lanes mid.wire end.wire y.now refl (sym f.wire) y.fits;
+      course = subst (λ (w : ℕ). Course [] (w ∷ []) world y.now past past) f.wire y.course;
+    }

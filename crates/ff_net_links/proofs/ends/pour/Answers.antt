@@ -1,0 +1,33 @@
+use Rattle.std.proofs.Common.{ℕ, [], ◌∷◌, sym, subst}
+use Rattle.ff_net.specs.Worlds.{lanes_of}
+use Rattle.ff_net_links.specs.Ends.{OutEndStands}
+use Rattle.ff_net.specs.Steps.{Course}
+use Rattle.ff_net.proofs.Moments.{course_trans}
+use Rattle.ff_net_links.proofs.Carrying.{some_past, renamed}
+use Rattle.ff_net_links.proofs.ends.pour.Goals as goal
+
+pub send-sent-requires-clause-stands : goal.send-sent-requires-clause-stands
+send-sent-requires-clause-stands g c =
+    let s = c.requires.stands in
+    let l = c.lift-lifted.ensures in
+    let y = l.stands s.world some_past s.stand s.fits in record {
+      world = y.now;
+      stand = y.stand;
+      fits = renamed (OutEndStands c.lift-lifted.new.end) (lanes_of c.args.wires.now) (lanes_of c.lift-lifted.new.wires) c.args.end.now.wire c.lift-lifted.new.end.wire y.now l.lanes l.wire y.fits;
+    }
+
+pub returns-clause-stands : goal.returns-clause-stands
+returns-clause-stands g c world past stand o =
+    let l = c.lift-lifted.ensures in
+    let end = c.args.end.now in
+    let mid = c.lift-lifted.new.end in
+    let last = c.send-sent.new.end in
+    let lanes = lanes_of c.args.wires.now in
+    let lanes' = lanes_of c.lift-lifted.new.wires in
+    let x = l.stands world past stand o in
+    let y = c.send-sent.ensures.stands x.now past x.stand (renamed (OutEndStands mid) lanes lanes' end.wire mid.wire x.now l.lanes l.wire x.fits) in record {
+      now = y.now;
+      stand = y.stand;
+      fits = renamed (OutEndStands last) lanes' lanes mid.wire end.wire y.now (sym l.lanes) (sym l.wire) y.fits;
+      course = course_trans (end.wire ∷ []) [] world x.now y.now past past past x.course (subst (λ (w : ℕ). Course (w ∷ []) [] x.now y.now past past) l.wire y.course);
+    }

@@ -1,0 +1,31 @@
+use Rattle.std.proofs.Common.{[], ◌∷◌, Some, refl, sym, ap, ◌∙◌, is_some}
+use Rattle.ff_frame.specs.declared.item.Item.{Item}
+use Rattle.ff_net.specs.Worlds.{lanes_of}
+use Rattle.ff_link.specs.Views.{Sending}
+use Rattle.ff_net_links.proofs.Carrying.{may_send, out_sent, out_looked, out_told, on_wires_self}
+use Rattle.ff_net_links.proofs.ends.send.Goals as goal
+
+pub try_put-requires : goal.try_put-requires
+try_put-requires g c =
+    let s = c.requires.stands in
+    may_send c.args.end.now (lanes_of c.args.wires.now) c.args.end.now.wire s.world c.args.wires.now c.in-Some.item refl s.stand s.fits (sym c.take.ensures.value ∙ c.in-Some.is) c.requires.goes_on
+
+pub returns-in-Done-clause-stands : goal.returns-in-Done-clause-stands
+returns-in-Done-clause-stands g c world past stand o =
+    let some = sym c.take.ensures.value ∙ c.in-Some.is in
+    let after = c.in-Done.ensures.after in
+    on_wires_self (c.args.end.now.wire ∷ []) [] c.args.wires.now world past _ c.args.end.now.wire stand
+    (out_sent c.args.end.now _ _ (world c.args.end.now.wire) c.in-Some.item o some c.requires.goes_on c.take.ensures.after (ap (λ (s : Sending). s.lane) after) (ap (λ (s : Sending). s.sent) after) (may_send c.args.end.now (lanes_of c.args.wires.now) c.args.end.now.wire world c.args.wires.now c.in-Some.item refl stand o some c.requires.goes_on) c.closes-closes.ensures)
+
+pub returns-in-Full-clause-stands : goal.returns-in-Full-clause-stands
+returns-in-Full-clause-stands g c world past stand o =
+    let some = sym c.take.ensures.value ∙ c.in-Some.is in
+    let after = c.in-Full.ensures.after in
+    let back = c.in-Full.ensures.back in
+    on_wires_self (c.args.end.now.wire ∷ []) [] c.args.wires.now world past _ c.args.end.now.wire stand
+    (out_looked c.args.end.now _ _ (world c.args.end.now.wire) o (ap (λ (x : Item). Some x) back ∙ sym some) refl c.requires.goes_on (ap (λ (s : Sending). s.lane) after) (ap (λ (s : Sending). s.sent) after))
+
+pub returns-in-Finished-clause-stands : goal.returns-in-Finished-clause-stands
+returns-in-Finished-clause-stands g c world past stand o =
+    let after = c.in-Finished.ensures.after in
+    out_told c.args.end.now _ _ world c.args.end.now.wire past _ o refl (ap (λ (s : Sending). is_some s.told) after) (ap (λ (s : Sending). s.lane) after) (ap (λ (s : Sending). s.sent) after) (c.finish.ensures.finished world stand)

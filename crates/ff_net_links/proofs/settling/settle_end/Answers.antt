@@ -1,0 +1,24 @@
+use Rattle.std.proofs.Common.{◌≡◌, ◌<◌, length, List, sym, subst, ◌∙◌, arith, Some, slice_index_or}
+use mathlib.Core.List.{IsPrefix}
+use Rattle.ff_frame.specs.declared.item.Item.{Item}
+use Rattle.ff_net_links.proofs.Tables.{table_set, no_sender, link_ended, taken_ended}
+use Rattle.ff_net_links.proofs.settling.settle_end.Goals as goal
+
+pub settle-settled-requires : goal.settle-settled-requires
+settle-settled-requires c =
+    let w = c.args.end.wire in
+    let r = c.requires.linked in
+    let there : w < length c.args.table.now.items = let no = c.if-wire-len.false in let ok = c.args.table.now.ok.0 in omega arith in
+    let found : slice_index_or c.args.table.now.items w c.index_mut-slot.result.now ≡ Some c.in-Some.sender = sym c.index_mut-slot.ensures.value ∙ (sym c.take.ensures.value ∙ c.in-Some.is) in
+    (r.2.each w c.index_mut-slot.result.now c.in-Some.sender there found).1 ∙ sym (link_ended c.args.end c.in-Some-finished.finished (r.1 w) c.requires.shut c.in-Some-finished.is r.3)
+
+pub returns-clause-table : goal.returns-clause-table
+returns-clause-table c all links t = table_set all links c.args.table.now.items c.args.end.wire c.take.new.self (λ s e. absurd (no_sender c.take.new.self s c.take.ensures.after e)) t
+
+pub returns-clause-fed : goal.returns-clause-fed
+returns-clause-fed c is all links t =
+    let w = c.args.end.wire in
+    let there : w < length c.args.table.now.items = let no = c.if-wire-len.false in let ok = c.args.table.now.ok.0 in omega arith in
+    let found : slice_index_or c.args.table.now.items w c.index_mut-slot.result.now ≡ Some c.in-Some.sender = sym c.index_mut-slot.ensures.value ∙ (sym c.take.ensures.value ∙ c.in-Some.is) in
+    let same = taken_ended c.args.end c.in-Some-finished.finished c.requires.shut c.in-Some-finished.is in
+    (c.in-Some.sender.sent, subst (λ (xs : List Item). IsPrefix xs c.in-Some.sender.sent) (sym same) c.settle-settled.ensures.in_order, (t.each w c.index_mut-slot.result.now c.in-Some.sender there found).0)

@@ -1,0 +1,36 @@
+use Rattle.std.proofs.Common.{◌≡◌, ◌<◌, ℕ, suc, vec_items, arith, sym, subst, inl, inr}
+use Rattle.std.specs.Vec.Iter.{into_iter_len}
+use Rattle.ff_net.proofs.Flows.{same_or_not}
+use Rattle.ff_net_links.specs.declared.ends.InEnd.{InEnd}
+use Rattle.ff_net_links.specs.Ends.{in_end_at, no_in}
+use Rattle.ff_net_links.specs.Settling.{IsFed}
+use Rattle.ff_net_links.proofs.Served.{rest_next, first_next}
+use Rattle.ff_net_links.proofs.Tables.{and_true}
+use Rattle.ff_net_links.proofs.settling.settle_ends.Goals as goal
+
+pub loop-end-preserved : goal.loop-end-preserved
+loop-end-preserved c =
+    let was = c.loop-end.invariant in
+    let step = c.in-Some.ensures.steps in
+    let n = c.loop-end.next in
+    let ends = vec_items c.args.ends in
+    let some : 0 < into_iter_len c.loop-end.end-iterator = let one = step.1 in omega arith in
+    let here : c.in-Some.end ≡ in_end_at ends n = first_next _ _ ends c.in-Some.end no_in n step.0 (was.rest 0 no_in some) in record {
+      left = let left = was.left in let one = step.1 in omega arith;
+      rest = λ k d below.
+          let more : suc k < into_iter_len c.loop-end.end-iterator = let one = step.1 in omega arith in
+          rest_next _ _ ends c.in-Some.end d n k step.0 (was.rest (suc k) d more);
+      table = λ all links t. c.settle_end-settled.ensures.table all links (was.table all links t);
+      fed = λ both all links t p lt.
+          let two = and_true c.loop-end.whole c.settle_end-settled.result both in
+          elim (same_or_not p n) [
+            | inl same ↦ subst (λ (k : ℕ). IsFed all (in_end_at ends k)) (sym same) (subst (λ (e : InEnd). IsFed all e) here (c.settle_end-settled.ensures.fed two.1 all links (was.table all links t)))
+            | inr other ↦ was.fed two.0 all links t p (omega (arith, other, lt))
+          ];
+    }
+
+pub returns-clause-fed : goal.returns-clause-fed
+returns-clause-fed c whole all links t p lt =
+    let was = c.loop-end.invariant in
+    let there : p < c.loop-end.next = let left = was.left in let none = c.in-None.ensures.steps.0 in let ok = c.args.ends.ok.0 in omega arith in
+    was.fed whole all links t p there

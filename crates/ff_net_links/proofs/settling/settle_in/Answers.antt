@@ -1,0 +1,114 @@
+use Rattle.std.proofs.Common.{◌≡◌, ◌<◌, ℕ, suc, List, length, slice_index_or, vec_items, vec_len, Some, None, arith, sym, ◌∙◌, ap, subst, inl, inr, rules}
+use Rattle.std.specs.Vec.Iter.{into_iter_len}
+use Rattle.ff_net.specs.declared.node.Node.{Node}
+use Rattle.ff_net.specs.Nodes.{machine_of}
+use Rattle.ff_net.proofs.Flows.{same_or_not}
+use Rattle.ff_net_links.specs.declared.ends.InEnd.{InEnd}
+use Rattle.ff_net_links.specs.declared.ends.OutEnd.{OutEnd}
+use Rattle.ff_net_links.specs.declared.linked.Linked.{Linked}
+use Rattle.ff_net_links.specs.Ends.{in_end_at, in_link, out_link}
+use Rattle.ff_net_links.specs.Nodes.{HasEnded, node_of, ins_of, outs_of}
+use Rattle.ff_net_links.specs.Settling.{IsFed, WasSentIn, ends_of}
+use Rattle.ff_net_links.proofs.Linking.{count_map}
+use Rattle.ff_net_links.proofs.Served.{rest_next, first_next, rest_first, each_snoc}
+use Rattle.ff_net_links.proofs.Tables.{and_true, at_map, was_sent_at}
+use Rattle.ff_net_links.proofs.settling.settle_in.Goals as goal
+
+pub loop-linked-init : goal.loop-linked-init
+loop-linked-init g c =
+    let none = c.requires.room.0 in
+    let ok = c.args.machines.ok.0 in
+    let zero_len : length c.args.machines.items ≡ 0 = ap length none in record {
+      left = search rules;
+      room = search rules;
+      rest = λ k d below. rest_first _ _ (vec_len c.args.machines) k d c.into_iter-linked-iterator.ensures.into_iter_gives.0 (omega arith);
+      machines = λ k d e below. absurd (omega arith);
+      table = λ links al. c.requires.table links;
+      fed = λ w links al k p d below plt. absurd (omega arith);
+    }
+
+pub settle_ends-fed-requires-clause-shut : goal.settle_ends-fed-requires-clause-shut
+settle_ends-fed-requires-clause-shut g c p lt =
+    let was = c.loop-linked.invariant in
+    let step = c.in-Some.ensures.steps in
+    let n = vec_len c.loop-linked.machines in
+    let all = vec_items c.args.nodes in
+    let some : 0 < into_iter_len c.loop-linked.linked-iterator = let one = step.1 in omega arith in
+    let there : n < length all = let left = was.left in let one = step.1 in let ok = c.args.nodes.ok.0 in omega arith in
+    let here : c.in-Some.linked ≡ slice_index_or all n c.in-Some.linked = first_next _ _ all c.in-Some.linked c.in-Some.linked n step.0 (was.rest 0 c.in-Some.linked some) in
+    let ended : HasEnded c.in-Some.linked = subst (λ (l : Linked g.row.M.Denot). HasEnded l) (sym here) (c.requires.ended.each n c.in-Some.linked there) in
+    let ins = c.into_parts-node.ensures.ins in
+    subst (λ (es : List InEnd). (in_end_at es p).taking ≡ None) (sym ins) (ended.ins p (subst (λ (es : List InEnd). p < length es) ins lt))
+
+pub settle_ends-fed-requires-clause-linked : goal.settle_ends-fed-requires-clause-linked
+settle_ends-fed-requires-clause-linked g c =
+    let was = c.loop-linked.invariant in
+    let step = c.in-Some.ensures.steps in
+    let n = vec_len c.loop-linked.machines in
+    let all = vec_items c.args.nodes in
+    let links = c.requires.linked.0 in
+    let al = c.requires.linked.1 in
+    let some : 0 < into_iter_len c.loop-linked.linked-iterator = let one = step.1 in omega arith in
+    let there : n < length all = let left = was.left in let one = step.1 in let ok = c.args.nodes.ok.0 in omega arith in
+    let here : c.in-Some.linked ≡ slice_index_or all n c.in-Some.linked = first_next _ _ all c.in-Some.linked c.in-Some.linked n step.0 (was.rest 0 c.in-Some.linked some) in
+    let ins = c.into_parts-node.ensures.ins in (
+      ends_of all,
+      links,
+      was.table links al,
+      λ p lt.
+          subst (λ (es : List InEnd). in_link (in_end_at es p) ≡ Some (links (in_end_at es p).wire)) (sym ins)
+          (let lt' : p < length (ins_of c.in-Some.linked) = subst (λ (es : List InEnd). p < length es) ins lt in
+          subst (λ (l : Linked g.row.M.Denot). in_link (in_end_at (ins_of l) p) ≡ Some (links (in_end_at (ins_of l) p).wire)) (sym here) (al.ins n p c.in-Some.linked there (subst (λ (l : Linked g.row.M.Denot). p < length (ins_of l)) here lt'))),
+    )
+
+pub loop-linked-preserved : goal.loop-linked-preserved
+loop-linked-preserved g c =
+    let was = c.loop-linked.invariant in
+    let step = c.in-Some.ensures.steps in
+    let n = vec_len c.loop-linked.machines in
+    let all = vec_items c.args.nodes in
+    let l = c.in-Some.linked in
+    let len = c.push_reserved.ensures.len in
+    let some : 0 < into_iter_len c.loop-linked.linked-iterator = let one = step.1 in omega arith in
+    let there : n < length all = let left = was.left in let one = step.1 in let ok = c.args.nodes.ok.0 in omega arith in
+    let here : (d : Linked g.row.M.Denot) → l ≡ slice_index_or all n d = λ d. first_next _ _ all l d n step.0 (was.rest 0 d some) in
+    let ins = c.into_parts-node.ensures.ins in
+    let outs = c.into_parts-node.ensures.outs in record {
+      left = let left = was.left in let one = step.1 in omega arith;
+      room = search rules;
+      rest = λ k d below.
+          let more : suc k < into_iter_len c.loop-linked.linked-iterator = let one = step.1 in omega arith in
+          rest_next _ _ all l d n k step.0 (was.rest (suc k) d more) ∙ ap (λ (z : ℕ). slice_index_or all z d) (let e = len in omega arith);
+      machines = λ k d e below.
+          let P : ℕ → g.row.M.Denot → Type 0 = λ i x. x ≡ machine_of (node_of (slice_index_or all i d)) in
+          let long : length c.loop-linked.machines.items ≡ n = sym c.loop-linked.machines.ok.0 in
+          let mine : P n c.into_machine.result = c.into_machine.ensures ∙ (ap (λ (x : Node g.row.M.Denot). machine_of x) c.into_parts-node.ensures.node ∙ ap (λ (x : Linked g.row.M.Denot). machine_of (node_of x)) (here d)) in
+          subst (P k) (ap (λ xs. slice_index_or xs k e) (sym c.push_reserved.ensures.items)) (each_snoc P c.loop-linked.machines.items c.into_machine.result e (λ i lt. was.machines i d e (omega arith)) (subst (λ (i : ℕ). P i c.into_machine.result) (sym long) mine) k (omega arith));
+      table = λ links al.
+          c.store_ends.ensures (ends_of all) links (c.settle_ends-fed.ensures.table (ends_of all) links (was.table links al)) (λ q d lt.
+          let qlt : q < length (outs_of l) = subst (λ (es : List OutEnd). q < length es) outs lt in
+          let same : slice_index_or (ends_of all) n (outs_of l) ≡ outs_of l = at_map (λ (x : Linked g.row.M.Denot). outs_of x) all n l (outs_of l) there ∙ ap (λ (x : Linked g.row.M.Denot). outs_of x) (sym (here l)) in
+          let klt : n < length (ends_of all) = subst (λ (z : ℕ). n < z) (sym (count_map (λ (x : Linked g.row.M.Denot). outs_of x) all)) there in
+          subst (λ (es : List OutEnd). WasSentIn (ends_of all) (slice_index_or es q d).wire (slice_index_or es q d).sender.sent × (out_link (slice_index_or es q d) ≡ Some (links (slice_index_or es q d).wire))) (sym outs) (
+            was_sent_at (ends_of all) (outs_of l) n q d klt same qlt,
+            subst (λ (x : Linked g.row.M.Denot). out_link (slice_index_or (outs_of x) q d) ≡ Some (links (slice_index_or (outs_of x) q d).wire)) (sym (here l)) (al.outs n q l d there (subst (λ (x : Linked g.row.M.Denot). q < length (outs_of x)) (here l) qlt)),
+          ));
+      fed = λ both links al k p d below plt.
+          let two = and_true c.loop-linked.whole c.settle_ends-fed.result both in
+          elim (same_or_not k n) [
+            | inl same ↦
+                let at : slice_index_or all k d ≡ l = ap (λ (z : ℕ). slice_index_or all z d) same ∙ sym (here d) in
+                let plt' : p < length (ins_of l) = subst (λ (x : Linked g.row.M.Denot). p < length (ins_of x)) at plt in
+                subst (λ (x : Linked g.row.M.Denot). IsFed (ends_of all) (in_end_at (ins_of x) p)) (sym at)
+                (subst (λ (es : List InEnd). IsFed (ends_of all) (in_end_at es p)) ins (c.settle_ends-fed.ensures.fed two.1 (ends_of all) links (was.table links al) p (subst (λ (es : List InEnd). p < length es) (sym ins) plt')))
+            | inr other ↦ was.fed two.0 links al k p d (omega (arith, other, below, len)) plt
+          ];
+    }
+
+pub returns-clause-fed : goal.returns-clause-fed
+returns-clause-fed g c whole = record {
+  each = λ k p d lt plt.
+      let was = c.loop-linked.invariant in
+      let there : k < vec_len c.loop-linked.machines = let left = was.left in let none = c.in-None.ensures.steps.0 in let ok = c.args.nodes.ok.0 in omega arith in
+      was.fed whole c.requires.linked.0 c.requires.linked.1 k p d there plt;
+}

@@ -1,0 +1,14 @@
+use Rattle.std.specs.Prelude.{◌≡◌, ℕ, ◌+◌, ◌<◌, ◌≤◌, List, get_or, vec_items, vec_len, vec_capacity}
+use Rattle.std.specs.Vec.Iter.{into_iter_items, into_iter_len}
+use Rattle.ff_net_links.specs.declared.linked.Linked.{Linked}
+use Rattle.ff_net_links.specs.Runs.{Ran}
+use Rattle.ff_net_links.specs.Workers.{AllServe}
+use Rattle.ff_net_links.proofs.threads.finish_all.Given as goal
+
+abbrev pub invariant-loop-worker : goal.invariant-loop-worker
+invariant-loop-worker g l = let rest = l.worker-iterator in let n = vec_len l.done in record {
+  left : n + into_iter_len rest ≡ vec_len l.fn.workers;
+  room : vec_capacity l.initial.done ≤ vec_capacity l.done;
+  rest : (k : ℕ) (d : _) → k < into_iter_len rest → get_or (into_iter_items rest) k d ≡ get_or (vec_items l.fn.workers) (n + k) d;
+  ran : (ms : List (Linked g.row.M.Denot)) → AllServe g.M.Machine.in_lanes g.M.Machine.out_lanes g.M.Machine.source_of g.M.Machine.device_of g.M.Machine.failures g.M.Machine.fault_of g.M.Machine.stands ms (vec_items l.fn.workers) → (k : ℕ) (d : _) → k < n → Ran g.M.Machine.in_lanes g.M.Machine.out_lanes g.M.Machine.source_of g.M.Machine.device_of g.M.Machine.failures g.M.Machine.fault_of g.M.Machine.stands (get_or ms k d) (get_or (vec_items l.done) k d);
+}

@@ -1,0 +1,5 @@
+pub mod Ends
+pub mod Nodes
+pub mod Runs
+pub mod Settling
+pub mod Workers

@@ -1,0 +1,82 @@
+-- Nodes whose links are settled.
+use Rattle.std.specs.Prelude.{◌≡◌, ℕ, zero, suc, ◌<◌, ◌⊎◌, List, [], ◌∷◌, length, slice_index_or, map, Option, Some}
+use mathlib.Core.List.{IsPrefix}
+use Rattle.ff_frame.specs.declared.item.Item.{Item}
+use Rattle.ff_frame.specs.declared.item.Lane.{Lane}
+use Rattle.ff_link.specs.Views.{Link, Sending}
+use Rattle.ff_net.specs.declared.fault.Fault.{Fault}
+use Rattle.ff_net.specs.declared.node.Node.{Node}
+use Rattle.ff_net.specs.Pasts.{Past, Task, IsIn}
+use Rattle.ff_net.specs.Nodes.{in_wires_of, out_wires_of}
+use Rattle.ff_net_links.specs.declared.ends.InEnd.{InEnd}
+use Rattle.ff_net_links.specs.declared.ends.OutEnd.{OutEnd}
+use Rattle.ff_net_links.specs.declared.linked.Linked.{Linked}
+use Rattle.ff_net_links.specs.Ends.{taken_of, in_link, out_link, in_end_at}
+use Rattle.ff_net_links.specs.Nodes.{Behind, HasEnded, node_of, lanes_on, ins_of, outs_of}
+
+-- the nodes, as they are on wires of their own
+abbrev pub nodes_of : {M : Type 0} → List (Linked M) → List (Node M)
+nodes_of ls = map node_of ls
+
+-- with these tasks something can be behind each
+abbrev pub AllBehind : {M : Type 0} → (M → List Lane) → (M → List Lane) → (M → Option ℕ) → (M → Option Fault) → (M → Past → Type 0) → (ℕ → Task) → List (Linked M) → Type 0
+AllBehind in_lanes out_lanes source fault stands tasks [] = Unit {0}
+AllBehind in_lanes out_lanes source fault stands tasks (l ∷ ls) = Behind in_lanes out_lanes source fault stands (tasks zero) l × AllBehind in_lanes out_lanes source fault stands (λ k. tasks (suc k)) ls
+
+-- the link of this number leads from one of the nodes, or to one
+abbrev pub IsOutOf : {M : Type 0} → List (Linked M) → ℕ → Type 0
+IsOutOf [] w = ⊥
+IsOutOf (l ∷ ls) w = IsIn w (out_wires_of l.node) ⊎ IsOutOf ls w
+
+abbrev pub IsInOf : {M : Type 0} → List (Linked M) → ℕ → Type 0
+IsInOf [] w = ⊥
+IsInOf (l ∷ ls) w = IsIn w (in_wires_of l.node) ⊎ IsInOf ls w
+
+-- no link leads from two nodes, or to two, and all have the same links
+abbrev pub AreJoined : {M : Type 0} → List Lane → List (Linked M) → Type 0
+AreJoined lanes [] = Unit {0}
+AreJoined lanes (l ∷ ls) = (lanes_on l ≡ lanes) × ((w : ℕ) → IsIn w (out_wires_of l.node) → IsOutOf ls w → ⊥) × ((w : ℕ) → IsIn w (in_wires_of l.node) → IsInOf ls w → ⊥) × AreJoined lanes ls
+
+-- no link leads from two nodes, or to two; all have the same links, and have ended
+abbrev pub AreMeeting : {M : Type 0} → List Lane → List (Linked M) → Type 0
+AreMeeting lanes [] = Unit {0}
+AreMeeting lanes (l ∷ ls) = HasEnded l × (lanes_on l ≡ lanes) × ((w : ℕ) → IsIn w (out_wires_of l.node) → IsOutOf ls w → ⊥) × ((w : ℕ) → IsIn w (in_wires_of l.node) → IsInOf ls w → ⊥) × AreMeeting lanes ls
+
+-- these items were sent over the link of this number by one of these ends
+abbrev pub WasSentIn : List (List OutEnd) → ℕ → List Item → Type 0
+WasSentIn [] w xs = ⊥
+WasSentIn (es ∷ ess) w xs = ((q : ℕ) × (q < length es) × ((d : OutEnd) → ((slice_index_or es q d).wire ≡ w) × ((slice_index_or es q d).sender.sent ≡ xs))) ⊎ WasSentIn ess w xs
+
+-- and by one of the nodes
+abbrev pub WasSent : {M : Type 0} → List (Linked M) → ℕ → List Item → Type 0
+WasSent ls w xs = WasSentIn (map outs_of ls) w xs
+
+-- what these nodes took over their links is the beginning of what was sent there
+abbrev pub AreFed : {M : Type 0} → List (Linked M) → List (Linked M) → Type 0
+AreFed all [] = Unit {0}
+AreFed all (l ∷ ls) = ((p : ℕ) → p < length (ins_of l) → (xs : List Item) × IsPrefix (taken_of (in_end_at (ins_of l) p)) xs × WasSent all (in_end_at (ins_of l) p).wire xs) × AreFed all ls
+
+-- the ends of the nodes that send
+abbrev pub ends_of : {M : Type 0} → List (Linked M) → List (List OutEnd)
+ends_of ls = map outs_of ls
+
+-- the links by number: each end of a node has the link of its wire's number
+pub record AreLinked {M : Type 0} (links : ℕ → Link) (ls : List (Linked M)) : Type 0 where
+  pub ins : (k p : ℕ) (d : Linked M) → k < length ls → p < length (ins_of (slice_index_or ls k d)) → in_link (in_end_at (ins_of (slice_index_or ls k d)) p) ≡ Some (links (in_end_at (ins_of (slice_index_or ls k d)) p).wire)
+  pub outs : (k q : ℕ) (d : Linked M) (e : OutEnd) → k < length ls → q < length (outs_of (slice_index_or ls k d)) → out_link (slice_index_or (outs_of (slice_index_or ls k d)) q e) ≡ Some (links (slice_index_or (outs_of (slice_index_or ls k d)) q e).wire)
+
+-- each node has ended
+pub record AllEnded {M : Type 0} (ls : List (Linked M)) : Type 0 where
+  pub each : (k : ℕ) (d : Linked M) → k < length ls → HasEnded (slice_index_or ls k d)
+
+-- each sender in the table is one of these ends', at the number of its link
+pub record IsTable (all : List (List OutEnd)) (links : ℕ → Link) (table : List (Option Sending)) : Type 0 where
+  pub each : (w : ℕ) (d : Option Sending) (s : Sending) → w < length table → slice_index_or table w d ≡ Some s → WasSentIn all w s.sent × (s.link ≡ links w)
+
+-- an end took the beginning of what one of these ends sent over its link
+abbrev pub IsFed : List (List OutEnd) → InEnd → Type 0
+IsFed all end = (xs : List Item) × IsPrefix (taken_of end) xs × WasSentIn all end.wire xs
+
+-- and so did each end of the nodes
+pub record AllFed {M : Type 0} (ls : List (Linked M)) : Type 0 where
+  pub each : (k p : ℕ) (d : Linked M) → k < length ls → p < length (ins_of (slice_index_or ls k d)) → IsFed (ends_of ls) (in_end_at (ins_of (slice_index_or ls k d)) p)

@@ -1,0 +1,247 @@
+// The ends of links at the wires of a node.
+ghost use Rattle.std.specs.Prelude.{◌≡◌, ◌<◌, ℕ, length, slice_index_or, true, false, [], ◌∷◌};
+ghost use Rattle.ff_net.specs.declared.wires.Wires.{Wires};
+ghost use Rattle.ff_net.specs.Pasts.{Past};
+ghost use Rattle.ff_net.specs.Ways.{lane_at};
+ghost use Rattle.ff_net.specs.Worlds.{Wire, Stand, lanes_of};
+ghost use Rattle.ff_net_links.specs.Ends.{InEndStands, OutEndStands, CanPour, OnWires, Draws, Pours, in_link, out_link, in_end_at};
+ghost use Rattle.ff_net_links.specs.declared.ends.OutEnd.{OutEnd};
+
+use ff_frame::Item;
+use ff_link::{Finished, Put, Receiver, Sender, Take};
+use ff_net::{Put as Laid, Take as Lifted, Wires};
+use std::sync::Wait;
+
+/// The end of a link that takes, at a wire of the node.
+#[derive(Drop)]
+pub struct InEnd {
+    pub wire: usize,
+    pub taking: Option<Receiver>,
+    pub finished: Option<Finished>,
+    pub held: Option<Item>,
+}
+
+/// The end of a link that sends, at a wire of the node.
+#[derive(Drop)]
+pub struct OutEnd {
+    pub wire: usize,
+    pub sender: Sender,
+    pub held: Option<Item>,
+    pub done: bool,
+}
+
+impl InEnd {
+    ghost use Rattle.std.specs.Prelude.{◌≡◌};
+    ghost use Rattle.ff_net_links.specs.Ends.{new_in};
+
+    /// The end of a link that takes, at the wire of this number.
+    pub fn new(wire: usize, receiver: Receiver) -> InEnd
+        ensures { result ≡ new_in wire receiver }
+    {
+        InEnd {
+            wire,
+            taking: Some(receiver),
+            finished: None,
+            held: None,
+        }
+    }
+}
+
+impl OutEnd {
+    ghost use Rattle.std.specs.Prelude.{◌≡◌};
+    ghost use Rattle.ff_net_links.specs.Ends.{new_out};
+
+    /// The end of a link that sends, at the wire of this number.
+    pub fn new(wire: usize, sender: Sender) -> OutEnd
+        ensures { result ≡ new_out wire sender }
+    {
+        OutEnd {
+            wire,
+            sender,
+            held: None,
+            done: false,
+        }
+    }
+}
+
+// Takes nothing more from the link, and says whether it did before.
+fn shut<R: Wait>(rt: &R, end: &mut InEnd) -> bool
+    ensures wire { end.new.wire ≡ end.old.wire }
+    ensures link { in_link end.new ≡ in_link end.old }
+    ensures stands { (lane : _) (wire : Wire) → wire.finished ≡ true → InEndStands end.old lane wire → InEndStands end.new lane wire }
+{
+    match end.taking.take() {
+        Some(receiver) => {
+            end.finished = Some(receiver.finish(rt));
+            true
+        }
+        None => false,
+    }
+}
+
+// Takes an item from the link to hold, and says whether there was one.
+fn fetch<R: Wait>(rt: &R, end: &mut InEnd) -> bool
+    ensures wire { end.new.wire ≡ end.old.wire }
+    ensures link { in_link end.new ≡ in_link end.old }
+    ensures stands { (lane : _) (wire : Wire) → wire.finished ≡ false → InEndStands end.old lane wire → InEndStands end.new lane wire }
+{
+    if end.held.is_some() {
+        return false;
+    }
+    let Some(mut receiver) = end.taking.take() else {
+        return false;
+    };
+    let took = receiver.try_take(rt);
+    end.taking = Some(receiver);
+    match took {
+        Take::Empty => false,
+        Take::Item(item) => {
+            end.held = Some(item);
+            true
+        }
+    }
+}
+
+// Puts what is held on the wire, and says whether it was put.
+fn lay(wires: &mut Wires, end: &mut InEnd) -> bool
+    requires { end.old.wire < length (lanes_of wires.old) }
+    ensures lanes { lanes_of wires.new ≡ lanes_of wires.old }
+    ensures wire { end.new.wire ≡ end.old.wire }
+    ensures link { in_link end.new ≡ in_link end.old }
+    ensures stands { (world : ℕ → Wire) (past : Past) → Stand wires.old world → (world end.old.wire).finished ≡ false → InEndStands end.old (lane_at (lanes_of wires.old) end.old.wire) (world end.old.wire)
+        → OnWires [] (end.old.wire ∷ []) wires.new world past (InEndStands end.new (lane_at (lanes_of wires.old) end.old.wire)) end.old.wire }
+{
+    match end.held.take() {
+        None => false,
+        Some(item) => match wires.try_put(end.wire, item) {
+            Laid::Done => true,
+            Laid::Full(item) => {
+                end.held = Some(item);
+                false
+            }
+            Laid::Finished(item) => {
+                discard(item);
+                true
+            }
+        },
+    }
+}
+
+/// Draws an item from the link onto the wire, where nothing lies on it, and says whether something moved. Once the node
+/// has finished the wire, nothing more is taken from the link.
+pub fn draw<R: Wait>(rt: &R, wires: &mut Wires, end: &mut InEnd) -> bool
+    requires { end.old.wire < length (lanes_of wires.old) }
+    ensures lanes { lanes_of wires.new ≡ lanes_of wires.old }
+    ensures wire { end.new.wire ≡ end.old.wire }
+    ensures link { in_link end.new ≡ in_link end.old }
+    ensures stands { (world : ℕ → Wire) (past : Past) → Stand wires.old world → InEndStands end.old (lane_at (lanes_of wires.old) end.old.wire) (world end.old.wire)
+        → OnWires [] (end.old.wire ∷ []) wires.new world past (InEndStands end.new (lane_at (lanes_of wires.old) end.old.wire)) end.old.wire }
+{
+    if wires.is_finished(end.wire) {
+        return shut(rt, end);
+    }
+    if !wires.is_empty(end.wire) {
+        return false;
+    }
+    let fetched = fetch(rt, end);
+    let laid = lay(wires, end);
+    fetched | laid
+}
+
+// Takes an item from the wire to hold, and says whether there was one.
+fn lift(wires: &mut Wires, end: &mut OutEnd) -> bool
+    requires there { end.old.wire < length (lanes_of wires.old) }
+    requires goes_on { end.old.done ≡ false }
+    ensures lanes { lanes_of wires.new ≡ lanes_of wires.old }
+    ensures wire { end.new.wire ≡ end.old.wire }
+    ensures link { out_link end.new ≡ out_link end.old }
+    ensures goes_on { end.new.done ≡ false }
+    ensures stands { (world : ℕ → Wire) (past : Past) → Stand wires.old world → OutEndStands end.old (lane_at (lanes_of wires.old) end.old.wire) (world end.old.wire)
+        → OnWires (end.old.wire ∷ []) [] wires.new world past (OutEndStands end.new (lane_at (lanes_of wires.old) end.old.wire)) end.old.wire }
+{
+    if end.held.is_some() {
+        return false;
+    }
+    match wires.try_take(end.wire) {
+        Lifted::Empty => false,
+        Lifted::Item(item) => {
+            end.held = Some(item);
+            true
+        }
+    }
+}
+
+// Puts what is held on the link, and says whether something moved.
+fn send<R: Wait>(rt: &R, wires: &mut Wires, end: &mut OutEnd) -> bool
+    requires there { end.old.wire < length (lanes_of wires.old) }
+    requires goes_on { end.old.done ≡ false }
+    requires stands { CanPour wires.old end.old }
+    ensures lanes { lanes_of wires.new ≡ lanes_of wires.old }
+    ensures wire { end.new.wire ≡ end.old.wire }
+    ensures link { out_link end.new ≡ out_link end.old }
+    ensures stands { (world : ℕ → Wire) (past : Past) → Stand wires.old world → OutEndStands end.old (lane_at (lanes_of wires.old) end.old.wire) (world end.old.wire)
+        → OnWires (end.old.wire ∷ []) [] wires.new world past (OutEndStands end.new (lane_at (lanes_of wires.old) end.old.wire)) end.old.wire }
+{
+    let Some(item) = end.held.take() else {
+        return false;
+    };
+    let closes = item.closes();
+    match end.sender.try_put(rt, item) {
+        Put::Done => {
+            end.done = closes;
+            true
+        }
+        Put::Full(item) => {
+            end.held = Some(item);
+            false
+        }
+        Put::Finished(item, _) => {
+            discard(item);
+            wires.finish(end.wire);
+            end.done = true;
+            true
+        }
+    }
+}
+
+/// Puts the next item of the wire on the link, and says whether something moved. Where the receiver has finished, the
+/// node is told so by its wire.
+pub fn pour<R: Wait>(rt: &R, wires: &mut Wires, end: &mut OutEnd) -> bool
+    requires there { end.old.wire < length (lanes_of wires.old) }
+    requires stands { CanPour wires.old end.old }
+    ensures lanes { lanes_of wires.new ≡ lanes_of wires.old }
+    ensures wire { end.new.wire ≡ end.old.wire }
+    ensures link { out_link end.new ≡ out_link end.old }
+    ensures stands { (world : ℕ → Wire) (past : Past) → Stand wires.old world → OutEndStands end.old (lane_at (lanes_of wires.old) end.old.wire) (world end.old.wire)
+        → OnWires (end.old.wire ∷ []) [] wires.new world past (OutEndStands end.new (lane_at (lanes_of wires.old) end.old.wire)) end.old.wire }
+{
+    if end.done {
+        return false;
+    }
+    let lifted = lift(wires, end);
+    let sent = send(rt, wires, end);
+    lifted | sent
+}
+
+fn discard(_item: Item) {}
+
+/// Draws at the end of this number.
+pub fn draw_at<R: Wait>(rt: &R, wires: &mut Wires, ins: &mut Vec<InEnd>, p: usize) -> bool
+    requires there { p < length ins.old.items }
+    requires wire { (in_end_at ins.old.items p).wire < length (lanes_of wires.old) }
+    ensures lanes { lanes_of wires.new ≡ lanes_of wires.old }
+    ensures draws { Draws wires.old wires.new ins.old.items ins.new.items p }
+{
+    draw(rt, wires, &mut ins[p])
+}
+
+/// Pours at the end of this number.
+pub fn pour_at<R: Wait>(rt: &R, wires: &mut Wires, outs: &mut Vec<OutEnd>, q: usize) -> bool
+    requires there { q < length outs.old.items }
+    requires wire { (d : OutEnd) → (slice_index_or outs.old.items q d).wire < length (lanes_of wires.old) }
+    requires stands { (d : OutEnd) → CanPour wires.old (slice_index_or outs.old.items q d) }
+    ensures lanes { lanes_of wires.new ≡ lanes_of wires.old }
+    ensures pours { Pours wires.old wires.new outs.old.items outs.new.items q }
+{
+    pour(rt, wires, &mut outs[q])
+}

@@ -1,0 +1,26 @@
+//! A network of machines over links, each node in a worker of its own.
+//!
+//! A node of `ff_net` works on wires of one thread. Here each node has wires of its own, numbered as the links of the
+//! network, and the ends of its links: what comes over a link goes onto the wire of its number, and what the node puts
+//! on a wire goes over the link.
+//!
+//! ```text
+//!    link 0 ---> InEnd --wire 0--> Node --wire 1--> OutEnd ---> link 1
+//!                  one thread, the node's own
+//! ```
+//!
+//! So all that is known of a node on wires is known here, and nothing but the links is shared. That a run ends is not
+//! promised.
+#![tactic(auto)]
+
+mod ends;
+mod linked;
+mod rest;
+mod settling;
+mod threads;
+mod worker;
+
+pub use ends::{InEnd, OutEnd};
+pub use linked::Linked;
+pub use settling::{Ran, settle_all};
+pub use threads::run_threads;

@@ -1,0 +1,137 @@
+// A worker for one node, which the caller turns where no thread can be started.
+ghost use Rattle.std.specs.Prelude.{◌≡◌};
+ghost use Rattle.ff_net_links.specs.declared.linked.Linked.{Linked};
+ghost use Rattle.ff_net_links.specs.Nodes.{IsLawful};
+ghost use Rattle.ff_net_links.specs.Runs.{Came, Ran};
+ghost use Rattle.ff_net_links.specs.Workers.{Serves};
+
+use crate::linked::Linked;
+use crate::rest::Rest;
+use ff_net::{Machine, Turn};
+use std::snapshot::Snapshot;
+use std::sync::Wait;
+use std::sync::atomic::{AtomicBool, Ordering};
+use std::thread::{Promise, PromisedHandle, Scope, Threads};
+
+/// What a worker gives back: the node, and whether it was turned until it was done.
+#[derive(Drop)]
+pub struct Back<M> {
+    pub node: Linked<M>,
+    pub done: bool,
+}
+
+/// The promise of a worker: what it gives back came from this node.
+#[derive(Drop)]
+pub struct CameFrom<M>(Snapshot<Linked<M>>);
+
+impl<M: Machine> Promise<Back<M>> for CameFrom<M> {
+    ghost use Rattle.ff_net_links.specs.Runs.{Came};
+
+    ghost kept_by = { λ p b. Came M.in_lanes M.out_lanes M.source_of M.device_of M.failures M.fault_of M.stands p.0.value b };
+}
+
+/// A node with its thread, or here.
+#[derive(Drop)]
+pub enum Worker<M: Machine> {
+    Runs(PromisedHandle<Back<M>, CameFrom<M>>),
+    Here(Back<M>),
+}
+
+/// Turns a node until it is done.
+pub fn run<M: Machine, R: Wait>(rt: &R, node: &mut Linked<M>)
+    requires { IsLawful M.in_lanes M.out_lanes M.source_of M.fault_of M.stands node.old }
+    ensures { Ran M.in_lanes M.out_lanes M.source_of M.device_of M.failures M.fault_of M.stands node.old node.new }
+{
+    let mut rest = Rest::new();
+    for _ in rt.forever() {
+        match node.turn(rt) {
+            Turn::Done => return,
+            Turn::Moved => rest.end(),
+            Turn::NotYet => rest.take(rt),
+        }
+    }
+    unreachable!()
+}
+
+// What a thread runs. Where the flag is set it gives the node back unturned.
+fn work<M: Machine, R: Wait>(rt: &R, refused: &AtomicBool, mut node: Linked<M>) -> Back<M>
+    requires { IsLawful M.in_lanes M.out_lanes M.source_of M.fault_of M.stands node }
+    ensures { Came M.in_lanes M.out_lanes M.source_of M.device_of M.failures M.fault_of M.stands node result }
+{
+    if refused.load(Ordering::SeqCst) {
+        return Back { node, done: false };
+    }
+    run(rt, &mut node);
+    Back { node, done: true }
+}
+
+/// Starts a thread for a node, or sets the flag and takes the node back.
+pub fn start<'s, E, M: Machine + Send + Drop + 's, R: Threads + Wait + Sync>(
+    scope: &Scope<'s, E>,
+    rt: &'s R,
+    refused: &'s AtomicBool,
+    node: Linked<M>,
+) -> Worker<M>
+    requires { IsLawful M.in_lanes M.out_lanes M.source_of M.fault_of M.stands node }
+    ensures { Serves M.in_lanes M.out_lanes M.source_of M.device_of M.failures M.fault_of M.stands node result }
+{
+    let from = CameFrom(Snapshot::of(&node));
+    match scope.spawn_with(
+        from,
+        move || -> Back<M>
+            requires { IsLawful M.in_lanes M.out_lanes M.source_of M.fault_of M.stands node }
+            ensures { Came M.in_lanes M.out_lanes M.source_of M.device_of M.failures M.fault_of M.stands node result }
+        { work(rt, refused, node) },
+    ) {
+        Ok(handle) => Worker::Runs(handle),
+        Err(e) => {
+            refused.store(true, Ordering::SeqCst);
+            Worker::Here((e.value)())
+        }
+    }
+}
+
+/// One turn of a node that is here. Done where it runs in a thread.
+pub fn turn_here<M: Machine, R: Wait>(rt: &R, worker: &mut Worker<M>) -> Turn
+    requires { (n : Linked _) × Serves M.in_lanes M.out_lanes M.source_of M.device_of M.failures M.fault_of M.stands n worker.old }
+    ensures keeps { (n : Linked _) → Serves M.in_lanes M.out_lanes M.source_of M.device_of M.failures M.fault_of M.stands n worker.old → Serves M.in_lanes M.out_lanes M.source_of M.device_of M.failures M.fault_of M.stands n worker.new }
+{
+    match worker {
+        Worker::Runs(_) => Turn::Done,
+        Worker::Here(back) => turn_back(rt, back),
+    }
+}
+
+fn turn_back<M: Machine, R: Wait>(rt: &R, back: &mut Back<M>) -> Turn
+    requires { IsLawful M.in_lanes M.out_lanes M.source_of M.fault_of M.stands back.old.node }
+    ensures { (n : Linked _) → Came M.in_lanes M.out_lanes M.source_of M.device_of M.failures M.fault_of M.stands n back.old → Came M.in_lanes M.out_lanes M.source_of M.device_of M.failures M.fault_of M.stands n back.new }
+{
+    if back.done {
+        return Turn::Done;
+    }
+    let turn = back.node.turn(rt);
+    back.done = turn == Turn::Done;
+    turn
+}
+
+/// Waits for the node of a worker, and turns it until it is done where it isn't.
+pub fn finish<M: Machine + Drop, R: Threads + Wait>(rt: &R, worker: Worker<M>) -> Linked<M>
+    requires { (n : Linked _) × Serves M.in_lanes M.out_lanes M.source_of M.device_of M.failures M.fault_of M.stands n worker }
+    ensures { (n : Linked _) → Serves M.in_lanes M.out_lanes M.source_of M.device_of M.failures M.fault_of M.stands n worker → Ran M.in_lanes M.out_lanes M.source_of M.device_of M.failures M.fault_of M.stands n result }
+{
+    match worker {
+        Worker::Runs(handle) => finish_back(rt, handle.join(rt)),
+        Worker::Here(back) => finish_back(rt, back),
+    }
+}
+
+fn finish_back<M: Machine, R: Wait>(rt: &R, back: Back<M>) -> Linked<M>
+    requires { IsLawful M.in_lanes M.out_lanes M.source_of M.fault_of M.stands back.node }
+    ensures { (n : Linked _) → Came M.in_lanes M.out_lanes M.source_of M.device_of M.failures M.fault_of M.stands n back → Ran M.in_lanes M.out_lanes M.source_of M.device_of M.failures M.fault_of M.stands n result }
+{
+    let Back { mut node, done } = back;
+    if !done {
+        run(rt, &mut node);
+    }
+    node
+}
