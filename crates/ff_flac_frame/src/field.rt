@@ -1,5 +1,6 @@
 ghost use Rattle.std.specs.Prelude.{◌≡◌, ◌<◌, ◌≤◌, ◌^◌, length, IfOk, true};
 ghost use Rattle.ff_bits.specs.Reading.{field};
+ghost use Rattle.ff_flac_frame.specs.Codes.{below};
 ghost use Rattle.ff_flac_frame.specs.Rules.{passes};
 ghost use Rattle.ff_flac_frame.specs.Gives.{Gives, Fails};
 
@@ -18,6 +19,23 @@ pub fn read_field(reader: &mut BitReader, n: u32, rule: Rule) -> Result<u64, Fra
         return Err(in_part(reader, n, rule));
     };
     if is_passed(rule, v) {
+        Ok(v)
+    } else {
+        Err(FrameEnd::Never)
+    }
+}
+
+/// The next n bits as a number below a limit.
+pub fn read_below(reader: &mut BitReader, n: u32, limit: u64) -> Result<u64, FrameEnd>
+    requires { n ≤ 63 }
+    ensures reads { Gives (λ v. v) result (field n (below limit) reader.old) reader.new }
+    ensures below { IfOk result (λ v. v < 2 ^ n) }
+    ensures passed { IfOk result (λ v. v < limit) }
+{
+    let Ok(v) = reader.take(n) else {
+        return Err(in_part(reader, n, Rule::Below(limit)));
+    };
+    if v < limit {
         Ok(v)
     } else {
         Err(FrameEnd::Never)

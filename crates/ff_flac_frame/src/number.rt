@@ -5,7 +5,7 @@ ghost use Rattle.ff_flac_frame.specs.Frame.{signed, zigzag, sample, rice, residu
 ghost use Rattle.ff_flac_frame.specs.Gives.{Gives};
 
 use crate::end::FrameEnd;
-use crate::field::read_field;
+use crate::field::{read_below, read_field};
 use crate::rule::Rule;
 use ff_bits::{BitEnd, BitReader};
 
@@ -67,6 +67,6 @@ pub fn read_rice(reader: &mut BitReader, k: u32) -> Result<i32, FrameEnd>
     let limit = (4294967294u64 >> k) + 1;
     let q = read_zeros(reader, limit)?;
     let high = q << k;
-    let low = read_field(reader, k, Rule::Below(4294967295 - high))?;
+    let low = read_below(reader, k, 4294967295 - high)?;
     Ok(zigzag_of(high + low))
 }
