@@ -20,6 +20,7 @@ const ABC: &str =
 
 /// SHA-256 of 1,024 times the letter a, and of one.
 const FULL: &str = "2edc986847e209b4016e141a6dc8716d3207350f416969382d431539bf292e4a";
+
 const ONE: &str = "ca978112ca1bbdcafac231b39a23dc4da786eff8147c4e72b9807785afee48bb";
 
 // An input of 8-bit samples on one channel, of this data size.
@@ -78,6 +79,7 @@ fn framehash<R: Wait>(
 
 /// Turns down the row, and up it.
 const DOWN: [usize; 4] = [0, 1, 2, 3];
+
 const UP: [usize; 4] = [3, 2, 1, 0];
 
 fn down<R: Wait>(rt: &R, alloc: Global, bytes: &[u8], size: usize) -> Result<Vec<u8>, Fail>

@@ -4,6 +4,6 @@ use Rattle.ff_pcm.proofs.fits.all_fit_bits.Given as goal
 
 abbrev pub invariant-loop-sample : goal.invariant-loop-sample
 invariant-loop-sample l = record {
-    yes : IsTrue l.fits → (k : ℕ) (d : ℤ) → k < l.sample-index → FitsBits l.bits (get_or l.samples k d);
-    no : All (FitsBits l.bits) l.samples → IsTrue l.fits;
-  }
+  yes : IsTrue l.fits → (k : ℕ) (d : ℤ) → k < l.sample-index → FitsBits l.bits (get_or l.samples k d);
+  no : All (FitsBits l.bits) l.samples → IsTrue l.fits;
+}
