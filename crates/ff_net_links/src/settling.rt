@@ -8,12 +8,12 @@ ghost use Rattle.ff_net.specs.Nets.{IsUpward, solve};
 ghost use Rattle.ff_net.specs.Pasts.{Task, IsIn};
 ghost use Rattle.ff_net.specs.Serial.{Moment, Settled, parts_of};
 ghost use Rattle.ff_net.specs.Worlds.{Wire};
-ghost use Rattle.ff_net.specs.Nodes.{IsSound, IsDone, machine_of, outputs_of, in_wires_of};
-ghost use Rattle.ff_net_links.specs.Nodes.{node_of};
+ghost use Rattle.ff_net.specs.Nodes.{AreApart, IsSound, IsDone, machine_of, outputs_of, in_wires_of};
+ghost use Rattle.ff_net_links.specs.Nodes.{in_ends_wires, out_ends_wires, node_of};
 ghost use Rattle.ff_link.specs.Views.{Link};
 ghost use Rattle.ff_net_links.specs.declared.ends.OutEnd.{OutEnd};
 ghost use Rattle.ff_net_links.specs.Ends.{in_link, out_link, in_end_at};
-ghost use Rattle.ff_net_links.specs.Settling.{IsTable, IsFed, WasSentIn, AreLinked, AllEnded, AllFed, AllBehind, AreMeeting, ends_of, nodes_of};
+ghost use Rattle.ff_net_links.specs.Settling.{HasSender, ComeAfter, IsTable, IsFed, WasSentIn, AreLinked, AllEnded, AllFed, AllBehind, AreMeeting, ends_of, nodes_of};
 
 use crate::ends::{InEnd, OutEnd};
 use crate::linked::Linked;
@@ -27,6 +27,9 @@ fn settle_end(table: &mut Vec<Option<Sender>>, end: InEnd) -> bool
     requires linked { (all : List (List OutEnd)) × (links : ℕ → Link) × IsTable all links table.old.items × (in_link end ≡ Some (links end.wire)) }
     ensures table { (all : List (List OutEnd)) (links : ℕ → Link) → IsTable all links table.old.items → IsTable all links table.new.items }
     ensures fed { result ≡ true → (all : List (List OutEnd)) (links : ℕ → Link) → IsTable all links table.old.items → IsFed all end }
+    ensures count { length table.new.items ≡ length table.old.items }
+    ensures kept { (w : ℕ) → (w ≡ end.wire → ⊥) → HasSender table.old.items w → HasSender table.new.items w }
+    ensures whole { HasSender table.old.items end.wire → result ≡ true }
 {
     let InEnd { wire, finished, .. } = end;
     if wire >= table.len() {
@@ -49,6 +52,9 @@ fn settle_ends(table: &mut Vec<Option<Sender>>, ends: Vec<InEnd>) -> bool
     requires linked { (all : List (List OutEnd)) × (links : ℕ → Link) × IsTable all links table.old.items × ((p : ℕ) → p < length ends.items → in_link (in_end_at ends.items p) ≡ Some (links (in_end_at ends.items p).wire)) }
     ensures table { (all : List (List OutEnd)) (links : ℕ → Link) → IsTable all links table.old.items → IsTable all links table.new.items }
     ensures fed { result ≡ true → (all : List (List OutEnd)) (links : ℕ → Link) → IsTable all links table.old.items → (p : ℕ) → p < length ends.items → IsFed all (in_end_at ends.items p) }
+    ensures count { length table.new.items ≡ length table.old.items }
+    ensures kept { (w : ℕ) → (IsIn w (in_ends_wires ends.items) → ⊥) → HasSender table.old.items w → HasSender table.new.items w }
+    ensures whole { AreApart (in_ends_wires ends.items) → ((w : ℕ) → IsIn w (in_ends_wires ends.items) → HasSender table.old.items w) → result ≡ true }
 {
     let mut whole = true;
     let mut next: usize = 0;
@@ -62,7 +68,10 @@ fn settle_ends(table: &mut Vec<Option<Sender>>, ends: Vec<InEnd>) -> bool
 
 // Puts a sender into the table, where there is a place of its number.
 fn store_end(table: &mut Vec<Option<Sender>>, end: OutEnd)
-    ensures { (all : List (List OutEnd)) (links : ℕ → Link) → IsTable all links table.old.items → WasSentIn all end.wire end.sender.sent → out_link end ≡ Some (links end.wire) → IsTable all links table.new.items }
+    ensures table { (all : List (List OutEnd)) (links : ℕ → Link) → IsTable all links table.old.items → WasSentIn all end.wire end.sender.sent → out_link end ≡ Some (links end.wire) → IsTable all links table.new.items }
+    ensures count { length table.new.items ≡ length table.old.items }
+    ensures kept { (w : ℕ) → HasSender table.old.items w → HasSender table.new.items w }
+    ensures stored { end.wire < length table.old.items → HasSender table.new.items end.wire }
 {
     let OutEnd { wire, sender, .. } = end;
     if wire >= table.len() {
@@ -74,7 +83,10 @@ fn store_end(table: &mut Vec<Option<Sender>>, end: OutEnd)
 
 // Puts the senders of these ends into the table.
 fn store_ends(table: &mut Vec<Option<Sender>>, ends: Vec<OutEnd>)
-    ensures { (all : List (List OutEnd)) (links : ℕ → Link) → IsTable all links table.old.items → ((q : ℕ) (d : OutEnd) → q < length ends.items → WasSentIn all (slice_index_or ends.items q d).wire (slice_index_or ends.items q d).sender.sent × (out_link (slice_index_or ends.items q d) ≡ Some (links (slice_index_or ends.items q d).wire))) → IsTable all links table.new.items }
+    ensures table { (all : List (List OutEnd)) (links : ℕ → Link) → IsTable all links table.old.items → ((q : ℕ) (d : OutEnd) → q < length ends.items → WasSentIn all (slice_index_or ends.items q d).wire (slice_index_or ends.items q d).sender.sent × (out_link (slice_index_or ends.items q d) ≡ Some (links (slice_index_or ends.items q d).wire))) → IsTable all links table.new.items }
+    ensures count { length table.new.items ≡ length table.old.items }
+    ensures kept { (w : ℕ) → HasSender table.old.items w → HasSender table.new.items w }
+    ensures stored { (w : ℕ) → w < length table.old.items → IsIn w (out_ends_wires ends.items) → HasSender table.new.items w }
 {
     let mut next: usize = 0;
     for end in ends {
@@ -103,6 +115,7 @@ fn settle_in<M: Machine + Drop>(
     ensures count { length result.machines.items ≡ length nodes.items }
     ensures machines { (k : ℕ) (d : _) (e : _) → k < length nodes.items → slice_index_or result.machines.items k e ≡ machine_of (node_of (slice_index_or nodes.items k d)) }
     ensures fed { result.whole ≡ true → AllFed nodes.items }
+    ensures whole { ComeAfter (length table.items) nodes.items → result.whole ≡ true }
 {
     let mut whole = true;
     for linked in nodes {
@@ -117,7 +130,8 @@ fn settle_in<M: Machine + Drop>(
 
 // A table without a sender, with so many places.
 fn new_table(alloc: Global, links: usize) -> Result<Vec<Option<Sender>>, AllocError>
-    ensures { IfOk result (λ table. (all : List (List OutEnd)) (links : ℕ → Link) → IsTable all links table.items) }
+    ensures table { IfOk result (λ table. (all : List (List OutEnd)) (links : ℕ → Link) → IsTable all links table.items) }
+    ensures count { IfOk result (λ table. length table.items ≡ links) }
 {
     let mut table = Vec::new(alloc);
     for _ in 0..links {
@@ -144,6 +158,7 @@ pub fn settle_all<M: Machine + Drop>(
     ensures back { IfErr result (λ v. v.items ≡ nodes.items) }
     ensures count { IfOk result (λ ran. length ran.machines.items ≡ length nodes.items) }
     ensures machines { IfOk result (λ ran. (k : ℕ) (d : _) (e : _) → k < length nodes.items → slice_index_or ran.machines.items k e ≡ machine_of (node_of (slice_index_or nodes.items k d))) }
+    ensures whole { IfOk result (λ ran. (tasks : ℕ → Task) (lanes : List Lane) → AllBehind M.in_lanes M.out_lanes M.source_of M.fault_of M.stands tasks nodes.items → AreMeeting lanes nodes.items → length lanes ≤ links → IsUpward [] (parts_of M.in_lanes M.out_lanes tasks (nodes_of nodes.items)) → ran.whole ≡ true) }
     ensures below { IfOk result (λ ran. ran.whole ≡ true → (tasks : ℕ → Task) (lanes : List Lane) → AllBehind M.in_lanes M.out_lanes M.source_of M.fault_of M.stands tasks nodes.items → AreMeeting lanes nodes.items → IsUpward [] (parts_of M.in_lanes M.out_lanes tasks (nodes_of nodes.items))
         → (world : ℕ → Wire) × Moment M.in_lanes M.out_lanes M.source_of M.fault_of M.stands tasks (nodes_of nodes.items) lanes world × ((k : ℕ) (d : _) (w : ℕ) → k < length (nodes_of nodes.items) → IsIn w (in_wires_of (slice_index_or (nodes_of nodes.items) k d)) → LiesBelow (opened (world w).taken) (solve (parts_of M.in_lanes M.out_lanes tasks (nodes_of nodes.items)) w))) }
     ensures before { IfOk result (λ ran. ran.whole ≡ true → (tasks : ℕ → Task) (lanes : List Lane) → AllBehind M.in_lanes M.out_lanes M.source_of M.fault_of M.stands tasks nodes.items → AreMeeting lanes nodes.items → IsUpward [] (parts_of M.in_lanes M.out_lanes tasks (nodes_of nodes.items))

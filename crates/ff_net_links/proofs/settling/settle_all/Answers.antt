@@ -1,8 +1,16 @@
+use Rattle.std.proofs.Common.{ℕ, subst, sym}
 use Rattle.ff_net.proofs.Before.{before_of, cause_of}
 use Rattle.ff_net.proofs.Whole.{settled_of, opened_below_solution}
-use Rattle.ff_net_links.specs.Settling.{nodes_of}
+use Rattle.ff_net_links.specs.Settling.{ComeAfter, nodes_of}
 use Rattle.ff_net_links.proofs.Meeting.{moment_of_links, are_fed}
+use Rattle.ff_net_links.proofs.Senders.{come_after}
 use Rattle.ff_net_links.proofs.settling.settle_all.Goals as goal
+
+pub returns-clause-whole : goal.returns-clause-whole
+returns-clause-whole g c tasks lanes bs meet few up =
+    let m = g.M.Machine in
+    let ls = c.args.nodes.items in
+    c.settle_in.ensures.whole (subst (λ (n : ℕ). ComeAfter n ls) (sym c.in-Ok.ensures.count) (come_after m.in_lanes m.out_lanes m.source_of m.fault_of m.stands c.args.links lanes tasks ls bs meet few up))
 
 pub returns-clause-below : goal.returns-clause-below
 returns-clause-below g c whole tasks lanes bs meet up =

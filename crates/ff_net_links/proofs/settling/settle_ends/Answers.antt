@@ -1,9 +1,13 @@
-use Rattle.std.proofs.Common.{◌≡◌, ◌<◌, ℕ, suc, vec_items, arith, sym, subst, inl, inr}
+use Rattle.std.proofs.Common.{◌≡◌, ◌<◌, ℕ, suc, length, vec_items, arith, ap, refl, ◌∙◌, sym, subst, inl, inr}
 use Rattle.std.specs.Vec.Iter.{into_iter_len}
+use Rattle.ff_net.specs.Pasts.{IsIn}
 use Rattle.ff_net.proofs.Flows.{same_or_not}
 use Rattle.ff_net_links.specs.declared.ends.InEnd.{InEnd}
 use Rattle.ff_net_links.specs.Ends.{in_end_at, no_in}
-use Rattle.ff_net_links.specs.Settling.{IsFed}
+use Rattle.ff_net_links.specs.Nodes.{in_ends_wires}
+use Rattle.ff_net_links.specs.Settling.{IsFed, HasSender}
+use Rattle.ff_net_links.proofs.Linking.{in_member, ins_differ}
+use Rattle.ff_net_links.proofs.Senders.{and_both}
 use Rattle.ff_net_links.proofs.Served.{rest_next, first_next}
 use Rattle.ff_net_links.proofs.Tables.{and_true}
 use Rattle.ff_net_links.proofs.settling.settle_ends.Goals as goal
@@ -15,6 +19,7 @@ loop-end-preserved c =
     let n = c.loop-end.next in
     let ends = vec_items c.args.ends in
     let some : 0 < into_iter_len c.loop-end.end-iterator = let one = step.1 in omega arith in
+    let there : n < length ends = let left = was.left in let one = step.1 in let ok = c.args.ends.ok.0 in omega arith in
     let here : c.in-Some.end ≡ in_end_at ends n = first_next _ _ ends c.in-Some.end no_in n step.0 (was.rest 0 no_in some) in record {
       left = let left = was.left in let one = step.1 in omega arith;
       rest = λ k d below.
@@ -27,6 +32,14 @@ loop-end-preserved c =
             | inl same ↦ subst (λ (k : ℕ). IsFed all (in_end_at ends k)) (sym same) (subst (λ (e : InEnd). IsFed all e) here (c.settle_end-settled.ensures.fed two.1 all links (was.table all links t)))
             | inr other ↦ was.fed two.0 all links t p (omega (arith, other, lt))
           ];
+      count = c.settle_end-settled.ensures.count ∙ was.count;
+      kept = λ w none h.
+          c.settle_end-settled.ensures.kept w
+          (λ e. none n (omega arith) (sym (e ∙ ap (λ (x : InEnd). x.wire) here)))
+          (was.kept w (λ p lt. none p (omega arith)) h);
+      all_there = λ apart h.
+          let at : HasSender c.loop-end.table.items (in_end_at ends n).wire = was.kept (in_end_at ends n).wire (λ p lt e. ins_differ ends (in_ends_wires ends) refl apart p n (omega arith) there (λ same. omega (arith, same, lt)) e) (h (in_end_at ends n).wire (in_member ends n there)) in
+          and_both c.loop-end.whole c.settle_end-settled.result (was.all_there apart h) (c.settle_end-settled.ensures.whole (subst (λ (e : InEnd). HasSender c.loop-end.table.items e.wire) (sym here) at));
     }
 
 pub returns-clause-fed : goal.returns-clause-fed
@@ -34,3 +47,8 @@ returns-clause-fed c whole all links t p lt =
     let was = c.loop-end.invariant in
     let there : p < c.loop-end.next = let left = was.left in let none = c.in-None.ensures.steps.0 in let ok = c.args.ends.ok.0 in omega arith in
     was.fed whole all links t p there
+
+pub returns-clause-kept : goal.returns-clause-kept
+returns-clause-kept c w none h =
+    let was = c.loop-end.invariant in
+    was.kept w (λ p lt e. none (subst (λ (v : ℕ). IsIn v (in_ends_wires (vec_items c.args.ends))) e (in_member (vec_items c.args.ends) p (let left = was.left in let over = c.in-None.ensures.steps.0 in let ok = c.args.ends.ok.0 in omega arith)))) h

@@ -1,15 +1,17 @@
-use Rattle.std.proofs.Common.{◌≡◌, ◌<◌, ℕ, suc, List, length, slice_index_or, vec_items, vec_len, Some, None, arith, sym, ◌∙◌, ap, subst, inl, inr, rules}
+use Rattle.std.proofs.Common.{◌≡◌, ◌<◌, ℕ, suc, List, length, slice_index_or, vec_items, vec_len, Some, None, arith, refl, sym, ◌∙◌, ap, subst, inl, inr, rules}
 use Rattle.std.specs.Vec.Iter.{into_iter_len}
 use Rattle.ff_net.specs.declared.node.Node.{Node}
-use Rattle.ff_net.specs.Nodes.{machine_of}
+use Rattle.ff_net.specs.Pasts.{IsIn}
+use Rattle.ff_net.specs.Nodes.{AreApart, machine_of}
 use Rattle.ff_net.proofs.Flows.{same_or_not}
 use Rattle.ff_net_links.specs.declared.ends.InEnd.{InEnd}
 use Rattle.ff_net_links.specs.declared.ends.OutEnd.{OutEnd}
 use Rattle.ff_net_links.specs.declared.linked.Linked.{Linked}
 use Rattle.ff_net_links.specs.Ends.{in_end_at, in_link, out_link}
-use Rattle.ff_net_links.specs.Nodes.{HasEnded, node_of, ins_of, outs_of}
+use Rattle.ff_net_links.specs.Nodes.{HasEnded, in_ends_wires, out_ends_wires, node_of, ins_of, outs_of}
 use Rattle.ff_net_links.specs.Settling.{IsFed, WasSentIn, ends_of}
 use Rattle.ff_net_links.proofs.Linking.{count_map}
+use Rattle.ff_net_links.proofs.Senders.{and_both}
 use Rattle.ff_net_links.proofs.Served.{rest_next, first_next, rest_first, each_snoc}
 use Rattle.ff_net_links.proofs.Tables.{and_true, at_map, was_sent_at}
 use Rattle.ff_net_links.proofs.settling.settle_in.Goals as goal
@@ -25,6 +27,9 @@ loop-linked-init g c =
       machines = λ k d e below. absurd (omega arith);
       table = λ links al. c.requires.table links;
       fed = λ w links al k p d below plt. absurd (omega arith);
+      count = refl;
+      senders = λ after j w d below wlt i away. absurd (omega arith);
+      whole = λ after. refl;
     }
 
 pub settle_ends-fed-requires-clause-shut : goal.settle_ends-fed-requires-clause-shut
@@ -85,7 +90,7 @@ loop-linked-preserved g c =
           let mine : P n c.into_machine.result = c.into_machine.ensures ∙ (ap (λ (x : Node g.row.M.Denot). machine_of x) c.into_parts-node.ensures.node ∙ ap (λ (x : Linked g.row.M.Denot). machine_of (node_of x)) (here d)) in
           subst (P k) (ap (λ xs. slice_index_or xs k e) (sym c.push_reserved.ensures.items)) (each_snoc P c.loop-linked.machines.items c.into_machine.result e (λ i lt. was.machines i d e (omega arith)) (subst (λ (i : ℕ). P i c.into_machine.result) (sym long) mine) k (omega arith));
       table = λ links al.
-          c.store_ends.ensures (ends_of all) links (c.settle_ends-fed.ensures.table (ends_of all) links (was.table links al)) (λ q d lt.
+          c.store_ends.ensures.table (ends_of all) links (c.settle_ends-fed.ensures.table (ends_of all) links (was.table links al)) (λ q d lt.
           let qlt : q < length (outs_of l) = subst (λ (es : List OutEnd). q < length es) outs lt in
           let same : slice_index_or (ends_of all) n (outs_of l) ≡ outs_of l = at_map (λ (x : Linked g.row.M.Denot). outs_of x) all n l (outs_of l) there ∙ ap (λ (x : Linked g.row.M.Denot). outs_of x) (sym (here l)) in
           let klt : n < length (ends_of all) = subst (λ (z : ℕ). n < z) (sym (count_map (λ (x : Linked g.row.M.Denot). outs_of x) all)) there in
@@ -103,6 +108,30 @@ loop-linked-preserved g c =
                 (subst (λ (es : List InEnd). IsFed (ends_of all) (in_end_at es p)) ins (c.settle_ends-fed.ensures.fed two.1 (ends_of all) links (was.table links al) p (subst (λ (es : List InEnd). p < length es) (sym ins) plt')))
             | inr other ↦ was.fed two.0 links al k p d (omega (arith, other, below, len)) plt
           ];
+      count = c.store_ends.ensures.count ∙ (c.settle_ends-fed.ensures.count ∙ was.count);
+      senders = λ after j w d below wlt i away.
+          let count = was.count in
+          let settled = c.settle_ends-fed.ensures.count in
+          elim (same_or_not j n) [
+            | inl same ↦
+                let at : slice_index_or all j d ≡ l = ap (λ (z : ℕ). slice_index_or all z d) same ∙ sym (here d) in
+                c.store_ends.ensures.stored w (omega arith) (subst (λ (es : List OutEnd). IsIn w (out_ends_wires es)) (ap (λ (x : Linked g.row.M.Denot). outs_of x) at ∙ sym outs) i)
+            | inr other ↦
+                c.store_ends.ensures.kept w
+                (c.settle_ends-fed.ensures.kept w
+                (λ e. away n (omega (arith, len)) (subst (λ (es : List InEnd). IsIn w (in_ends_wires es)) (ins ∙ ap (λ (x : Linked g.row.M.Denot). ins_of x) (here d)) e))
+                (was.senders after j w d (omega (arith, other, below, len)) wlt i (λ k klt e. away k (omega (arith, klt, len)) e)))
+          ];
+      whole = λ after.
+          and_both c.loop-linked.whole c.settle_ends-fed.result (was.whole after)
+          (let apart = after.apart n l there in
+          let mine : ins_of (slice_index_or all n l) ≡ c.into_parts-node.result.1.items = sym (ins ∙ ap (λ (x : Linked g.row.M.Denot). ins_of x) (here l)) in
+          c.settle_ends-fed.ensures.whole
+          (subst (λ (es : List InEnd). AreApart (in_ends_wires es)) mine apart)
+          (λ w e.
+          let e' : IsIn w (in_ends_wires (ins_of (slice_index_or all n l))) = subst (λ (es : List InEnd). IsIn w (in_ends_wires es)) (sym mine) e in
+          let from = after.earlier n w l there e' in
+          was.senders after from.0 w l from.1 (after.there n w l there e') from.2 (λ k klt f. let same : k ≡ n = after.once k n w l (omega (arith, klt, there)) there f e' in omega (arith, klt, same))));
     }
 
 pub returns-clause-fed : goal.returns-clause-fed
