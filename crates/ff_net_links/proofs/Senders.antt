@@ -1,5 +1,5 @@
 -- Whether each link that leads to a node has its sender in the table.
-use Rattle.std.proofs.Common.{◌≡◌, ℕ, zero, suc, ◌<◌, ◌≤◌, ◌⊎◌, inl, inr, Bool, true, ◌&&◌, List, [], ◌∷◌, ◌++◌, length, slice_index_or, slice_set, refl, ap, sym, ◌∙◌, subst, arith, Option, None, Some, get_or-set_same, get_or-set_other}
+use Rattle.std.proofs.Common.{◌≡◌, ℕ, zero, suc, ◌<◌, ◌≤◌, ◌⊎◌, inl, inr, List, [], ◌∷◌, ◌++◌, length, slice_index_or, slice_set, refl, ap, sym, ◌∙◌, subst, arith, Option, None, Some, get_or-set_same, get_or-set_other}
 use Rattle.ff_frame.specs.declared.item.Lane.{Lane}
 use Rattle.ff_link.specs.Views.{Sending}
 use Rattle.ff_net.specs.declared.fault.Fault.{Fault}
@@ -9,10 +9,8 @@ use Rattle.ff_net.specs.Nodes.{AreApart, in_wires_of, out_wires_of}
 use Rattle.ff_net.specs.Serial.{parts_of}
 use Rattle.ff_net.specs.Worlds.{lanes_of}
 use Rattle.ff_net.proofs.Flows.{same_or_not}
-use Rattle.ff_net_links.specs.declared.ends.InEnd.{InEnd}
 use Rattle.ff_net_links.specs.declared.ends.OutEnd.{OutEnd}
 use Rattle.ff_net_links.specs.declared.linked.Linked.{Linked}
-use Rattle.ff_net_links.specs.Ends.{in_end_at}
 use Rattle.ff_net_links.specs.Nodes.{in_ends_wires, out_ends_wires, ins_of, outs_of}
 use Rattle.ff_net_links.specs.Settling.{HasSender, ComeAfter, AllBehind, AreMeeting, IsInOf, nodes_of}
 use Rattle.ff_net_links.proofs.Linking.{wire_there}
@@ -34,15 +32,7 @@ sender_still table u w s h = elim (same_or_not w u) [
   | inr n ↦ sender_kept table u w (Some s) n h
 ]
 
-pub and_both : (a b : Bool) → a ≡ true → b ≡ true → (a && b) ≡ true
-and_both a b e f = ap (λ (x : Bool). x && b) e ∙ f
-
 -- the end at a wire
-pub in_place_of : (ends : List InEnd) (w : ℕ) → IsIn w (in_ends_wires ends) → (p : ℕ) × (p < length ends) × ((in_end_at ends p).wire ≡ w)
-in_place_of [] w i = absurd i
-in_place_of (e ∷ es) w (inl same) = (zero, omega arith, same)
-in_place_of (e ∷ es) w (inr i) = let r = in_place_of es w i in (suc r.0, (let lt : r.0 < length es = r.1 in omega arith), r.2)
-
 pub out_place_of : (ends : List OutEnd) (w : ℕ) → IsIn w (out_ends_wires ends) → (q : ℕ) × (q < length ends) × ((d : OutEnd) → (slice_index_or ends q d).wire ≡ w)
 out_place_of [] w i = absurd i
 out_place_of (e ∷ es) w (inl same) = (zero, omega arith, λ d. same)

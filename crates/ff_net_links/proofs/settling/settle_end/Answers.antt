@@ -27,6 +27,6 @@ returns-clause-fed c is all links t =
 pub returns-clause-kept : goal.returns-clause-kept
 returns-clause-kept c w n h = sender_kept c.args.table.now.items c.args.end.wire w c.take.new.self n h
 
-pub returns-then-wire-len-clause-whole : goal.returns-then-wire-len-clause-whole
-returns-then-wire-len-clause-whole c h =
+pub returns-then-wire-len-clause-fed : goal.returns-then-wire-len-clause-fed
+returns-then-wire-len-clause-fed c h =
     absurd (let there : c.args.end.wire < length c.args.table.now.items = sender_there c.args.table.now.items c.args.end.wire h in let no = c.if-wire-len.true in let ok = c.args.table.now.ok.0 in omega arith)
