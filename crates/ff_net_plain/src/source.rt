@@ -23,6 +23,10 @@ pub struct Source {
 }
 
 impl Source {
+    ghost use Rattle.ff_frame.specs.Lanes.{IsValid};
+    ghost use Rattle.ff_frame.specs.Stream.{whole_stream};
+    ghost use Rattle.ff_net.specs.Pasts.{start};
+    ghost use Rattle.ff_net_plain.specs.Starts.{list_task, source_stands};
     ghost use Rattle.ff_net_plain.specs.Trials.{source_outs};
 
     /// The source of this number, of packets that are valid for this lane. Its device fails at the packet `fails_at`, and
@@ -36,6 +40,7 @@ impl Source {
         refuses_at: usize,
     ) -> Source
         ensures outs { source_outs result ≡ lane ∷ [] }
+        ensures fresh { IsValid lane (whole_stream items.items) → source_stands result (start (list_task items.items)) }
     {
         Source {
             alloc,
