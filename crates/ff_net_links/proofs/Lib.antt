@@ -4,3 +4,4 @@ pub mod Linking
 pub mod Meeting
 mod Served
 pub mod Tables
+mod Senders

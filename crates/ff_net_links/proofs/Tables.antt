@@ -1,5 +1,5 @@
 -- Senders in a table by the numbers of their links.
-use Rattle.std.proofs.Common.{◌≡◌, ℕ, zero, suc, ◌<◌, inl, inr, Bool, true, false, ◌&&◌, List, [], ◌∷◌, length, map, slice_index_or, slice_set, refl, ap, sym, ◌∙◌, subst, arith, Option, None, Some, get_or-set_same, get_or-set_other}
+use Rattle.std.proofs.Common.{◌≡◌, ℕ, zero, suc, ◌<◌, inl, inr, List, [], ◌∷◌, length, map, slice_index_or, slice_set, refl, ap, sym, ◌∙◌, subst, arith, Option, None, Some, get_or-set_same, get_or-set_other}
 use Rattle.std.proofs.lemmas.List.{length-set}
 use Rattle.ff_link.specs.Views.{Link, Sending, Receiving, Ended}
 use Rattle.ff_net.proofs.Flows.{same_or_not}
@@ -47,10 +47,6 @@ was_sent_at (x ∷ xs) es zero q d klt same qlt = inl (q, subst (λ (l : List Ou
         default (y ∷ ys) zero a b lt = refl
         default (y ∷ ys) (suc p) a b lt = default ys p a b (omega arith)
 was_sent_at (x ∷ xs) es (suc k) q d klt same qlt = inr (was_sent_at xs es k q d (omega arith) same qlt)
-
-pub and_true : (a b : Bool) → (a && b) ≡ true → (a ≡ true) × (b ≡ true)
-and_true true b e = (refl, e)
-and_true false b e = let no : false ≡ true = e in cc (no)
 
 pub at_map : {A B : Type 0} (f : A → B) (xs : List A) (k : ℕ) (d : A) (e : B) → k < length xs → slice_index_or (map f xs) k e ≡ f (slice_index_or xs k d)
 at_map f [] k d e lt = absurd (omega arith)

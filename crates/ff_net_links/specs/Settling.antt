@@ -7,12 +7,12 @@ use Rattle.ff_link.specs.Views.{Link, Sending}
 use Rattle.ff_net.specs.declared.fault.Fault.{Fault}
 use Rattle.ff_net.specs.declared.node.Node.{Node}
 use Rattle.ff_net.specs.Pasts.{Past, Task, IsIn}
-use Rattle.ff_net.specs.Nodes.{in_wires_of, out_wires_of}
+use Rattle.ff_net.specs.Nodes.{AreApart, in_wires_of, out_wires_of}
 use Rattle.ff_net_links.specs.declared.ends.InEnd.{InEnd}
 use Rattle.ff_net_links.specs.declared.ends.OutEnd.{OutEnd}
 use Rattle.ff_net_links.specs.declared.linked.Linked.{Linked}
 use Rattle.ff_net_links.specs.Ends.{taken_of, in_link, out_link, in_end_at}
-use Rattle.ff_net_links.specs.Nodes.{Behind, HasEnded, node_of, lanes_on, ins_of, outs_of}
+use Rattle.ff_net_links.specs.Nodes.{Behind, HasEnded, in_ends_wires, out_ends_wires, node_of, lanes_on, ins_of, outs_of}
 
 -- the nodes, as they are on wires of their own
 abbrev pub nodes_of : {M : Type 0} → List (Linked M) → List (Node M)
@@ -80,3 +80,15 @@ IsFed all end = (xs : List Item) × IsPrefix (taken_of end) xs × WasSentIn all 
 -- and so did each end of the nodes
 pub record AllFed {M : Type 0} (ls : List (Linked M)) : Type 0 where
   pub each : (k p : ℕ) (d : Linked M) → k < length ls → p < length (ins_of (slice_index_or ls k d)) → IsFed (ends_of ls) (in_end_at (ins_of (slice_index_or ls k d)) p)
+
+-- the table has a sender at this number
+pub record HasSender (table : List (Option Sending)) (w : ℕ) : Type 0 where
+  pub sender : Sending
+  pub is : (d : Option Sending) → slice_index_or table w d ≡ Some sender
+
+-- no link leads to two ends of the nodes, and each that leads to a node has a number below this and leads from an earlier node
+pub record ComeAfter {M : Type 0} (links : ℕ) (ls : List (Linked M)) : Type 0 where
+  pub apart : (k : ℕ) (d : Linked M) → k < length ls → AreApart (in_ends_wires (ins_of (slice_index_or ls k d)))
+  pub once : (j k w : ℕ) (d : Linked M) → j < length ls → k < length ls → IsIn w (in_ends_wires (ins_of (slice_index_or ls j d))) → IsIn w (in_ends_wires (ins_of (slice_index_or ls k d))) → j ≡ k
+  pub there : (k w : ℕ) (d : Linked M) → k < length ls → IsIn w (in_ends_wires (ins_of (slice_index_or ls k d))) → w < links
+  pub earlier : (k w : ℕ) (d : Linked M) → k < length ls → IsIn w (in_ends_wires (ins_of (slice_index_or ls k d))) → (j : ℕ) × (j < k) × IsIn w (out_ends_wires (outs_of (slice_index_or ls j d)))

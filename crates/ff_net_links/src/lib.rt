@@ -22,5 +22,5 @@ mod worker;
 
 pub use ends::{InEnd, OutEnd};
 pub use linked::Linked;
-pub use settling::{Ran, settle_all};
+pub use settling::settle_all;
 pub use threads::run_threads;

@@ -8,12 +8,12 @@ ghost use Rattle.ff_net.specs.Nets.{IsUpward, solve};
 ghost use Rattle.ff_net.specs.Pasts.{Task, IsIn};
 ghost use Rattle.ff_net.specs.Serial.{Moment, Settled, parts_of};
 ghost use Rattle.ff_net.specs.Worlds.{Wire};
-ghost use Rattle.ff_net.specs.Nodes.{IsSound, IsDone, machine_of, outputs_of, in_wires_of};
-ghost use Rattle.ff_net_links.specs.Nodes.{node_of};
+ghost use Rattle.ff_net.specs.Nodes.{AreApart, IsSound, IsDone, machine_of, outputs_of, in_wires_of};
+ghost use Rattle.ff_net_links.specs.Nodes.{in_ends_wires, out_ends_wires, node_of};
 ghost use Rattle.ff_link.specs.Views.{Link};
 ghost use Rattle.ff_net_links.specs.declared.ends.OutEnd.{OutEnd};
 ghost use Rattle.ff_net_links.specs.Ends.{in_link, out_link, in_end_at};
-ghost use Rattle.ff_net_links.specs.Settling.{IsTable, IsFed, WasSentIn, AreLinked, AllEnded, AllFed, AllBehind, AreMeeting, ends_of, nodes_of};
+ghost use Rattle.ff_net_links.specs.Settling.{HasSender, ComeAfter, IsTable, IsFed, WasSentIn, AreLinked, AllEnded, AllFed, AllBehind, AreMeeting, ends_of, nodes_of};
 
 use crate::ends::{InEnd, OutEnd};
 use crate::linked::Linked;
@@ -21,48 +21,51 @@ use ff_link::{Sender, settle};
 use ff_net::Machine;
 use std::alloc::{AllocError, Global};
 
-// Settles the link of an end that has finished, where its sender is in the table. Whether it was.
-fn settle_end(table: &mut Vec<Option<Sender>>, end: InEnd) -> bool
+// Settles the link of an end that has finished, where its sender is in the table.
+fn settle_end(table: &mut Vec<Option<Sender>>, end: InEnd)
     requires shut { end.taking ≡ None }
     requires linked { (all : List (List OutEnd)) × (links : ℕ → Link) × IsTable all links table.old.items × (in_link end ≡ Some (links end.wire)) }
     ensures table { (all : List (List OutEnd)) (links : ℕ → Link) → IsTable all links table.old.items → IsTable all links table.new.items }
-    ensures fed { result ≡ true → (all : List (List OutEnd)) (links : ℕ → Link) → IsTable all links table.old.items → IsFed all end }
+    ensures fed { HasSender table.old.items end.wire → (all : List (List OutEnd)) (links : ℕ → Link) → IsTable all links table.old.items → IsFed all end }
+    ensures count { length table.new.items ≡ length table.old.items }
+    ensures kept { (w : ℕ) → (w ≡ end.wire → ⊥) → HasSender table.old.items w → HasSender table.new.items w }
 {
     let InEnd { wire, finished, .. } = end;
     if wire >= table.len() {
-        return false;
+        return;
     }
     let slot = &mut table[wire];
     let Some(sender) = slot.take() else {
-        return false;
+        return;
     };
     let Some(finished) = finished else {
-        return false;
+        return;
     };
     let _settled = settle(sender, finished);
-    true
 }
 
-// Settles the links of these ends. Whether each sender was in the table.
-fn settle_ends(table: &mut Vec<Option<Sender>>, ends: Vec<InEnd>) -> bool
+// Settles the links of these ends.
+fn settle_ends(table: &mut Vec<Option<Sender>>, ends: Vec<InEnd>)
     requires shut { (p : ℕ) → p < length ends.items → (in_end_at ends.items p).taking ≡ None }
     requires linked { (all : List (List OutEnd)) × (links : ℕ → Link) × IsTable all links table.old.items × ((p : ℕ) → p < length ends.items → in_link (in_end_at ends.items p) ≡ Some (links (in_end_at ends.items p).wire)) }
     ensures table { (all : List (List OutEnd)) (links : ℕ → Link) → IsTable all links table.old.items → IsTable all links table.new.items }
-    ensures fed { result ≡ true → (all : List (List OutEnd)) (links : ℕ → Link) → IsTable all links table.old.items → (p : ℕ) → p < length ends.items → IsFed all (in_end_at ends.items p) }
+    ensures fed { AreApart (in_ends_wires ends.items) → ((w : ℕ) → IsIn w (in_ends_wires ends.items) → HasSender table.old.items w) → (all : List (List OutEnd)) (links : ℕ → Link) → IsTable all links table.old.items → (p : ℕ) → p < length ends.items → IsFed all (in_end_at ends.items p) }
+    ensures count { length table.new.items ≡ length table.old.items }
+    ensures kept { (w : ℕ) → (IsIn w (in_ends_wires ends.items) → ⊥) → HasSender table.old.items w → HasSender table.new.items w }
 {
-    let mut whole = true;
     let mut next: usize = 0;
     for end in ends {
-        let settled = settle_end(table, end);
-        whole = whole & settled;
+        settle_end(table, end);
         next += 1;
     }
-    whole
 }
 
 // Puts a sender into the table, where there is a place of its number.
 fn store_end(table: &mut Vec<Option<Sender>>, end: OutEnd)
-    ensures { (all : List (List OutEnd)) (links : ℕ → Link) → IsTable all links table.old.items → WasSentIn all end.wire end.sender.sent → out_link end ≡ Some (links end.wire) → IsTable all links table.new.items }
+    ensures table { (all : List (List OutEnd)) (links : ℕ → Link) → IsTable all links table.old.items → WasSentIn all end.wire end.sender.sent → out_link end ≡ Some (links end.wire) → IsTable all links table.new.items }
+    ensures count { length table.new.items ≡ length table.old.items }
+    ensures kept { (w : ℕ) → HasSender table.old.items w → HasSender table.new.items w }
+    ensures stored { end.wire < length table.old.items → HasSender table.new.items end.wire }
 {
     let OutEnd { wire, sender, .. } = end;
     if wire >= table.len() {
@@ -74,7 +77,10 @@ fn store_end(table: &mut Vec<Option<Sender>>, end: OutEnd)
 
 // Puts the senders of these ends into the table.
 fn store_ends(table: &mut Vec<Option<Sender>>, ends: Vec<OutEnd>)
-    ensures { (all : List (List OutEnd)) (links : ℕ → Link) → IsTable all links table.old.items → ((q : ℕ) (d : OutEnd) → q < length ends.items → WasSentIn all (slice_index_or ends.items q d).wire (slice_index_or ends.items q d).sender.sent × (out_link (slice_index_or ends.items q d) ≡ Some (links (slice_index_or ends.items q d).wire))) → IsTable all links table.new.items }
+    ensures table { (all : List (List OutEnd)) (links : ℕ → Link) → IsTable all links table.old.items → ((q : ℕ) (d : OutEnd) → q < length ends.items → WasSentIn all (slice_index_or ends.items q d).wire (slice_index_or ends.items q d).sender.sent × (out_link (slice_index_or ends.items q d) ≡ Some (links (slice_index_or ends.items q d).wire))) → IsTable all links table.new.items }
+    ensures count { length table.new.items ≡ length table.old.items }
+    ensures kept { (w : ℕ) → HasSender table.old.items w → HasSender table.new.items w }
+    ensures stored { (w : ℕ) → w < length table.old.items → IsIn w (out_ends_wires ends.items) → HasSender table.new.items w }
 {
     let mut next: usize = 0;
     for end in ends {
@@ -83,41 +89,33 @@ fn store_ends(table: &mut Vec<Option<Sender>>, ends: Vec<OutEnd>)
     }
 }
 
-/// What comes of a run: the machines in the order of the nodes, and whether each link had both its ends among the nodes.
-#[derive(Drop)]
-pub struct Ran<M> {
-    pub machines: Vec<M>,
-    pub whole: bool,
-}
-
 // Settles all links with this table, which has no sender yet.
 fn settle_in<M: Machine + Drop>(
     mut table: Vec<Option<Sender>>,
     nodes: Vec<Linked<M>>,
     mut machines: Vec<M>,
-) -> Ran<M>
+) -> Vec<M>
     requires ended { AllEnded nodes.items }
     requires linked { (links : ℕ → Link) × AreLinked links nodes.items }
     requires table { (links : ℕ → Link) → IsTable (ends_of nodes.items) links table.items }
     requires room { (machines.items ≡ []) × (vec_len nodes ≤ vec_capacity machines) }
-    ensures count { length result.machines.items ≡ length nodes.items }
-    ensures machines { (k : ℕ) (d : _) (e : _) → k < length nodes.items → slice_index_or result.machines.items k e ≡ machine_of (node_of (slice_index_or nodes.items k d)) }
-    ensures fed { result.whole ≡ true → AllFed nodes.items }
+    ensures count { length result.items ≡ length nodes.items }
+    ensures machines { (k : ℕ) (d : _) (e : _) → k < length nodes.items → slice_index_or result.items k e ≡ machine_of (node_of (slice_index_or nodes.items k d)) }
+    ensures fed { ComeAfter (length table.items) nodes.items → AllFed nodes.items }
 {
-    let mut whole = true;
     for linked in nodes {
         let (node, ins, outs) = linked.into_parts();
-        let fed = settle_ends(&mut table, ins);
-        whole = whole & fed;
+        settle_ends(&mut table, ins);
         store_ends(&mut table, outs);
         machines.push_reserved(node.into_machine());
     }
-    Ran { machines, whole }
+    machines
 }
 
 // A table without a sender, with so many places.
 fn new_table(alloc: Global, links: usize) -> Result<Vec<Option<Sender>>, AllocError>
-    ensures { IfOk result (λ table. (all : List (List OutEnd)) (links : ℕ → Link) → IsTable all links table.items) }
+    ensures table { IfOk result (λ table. (all : List (List OutEnd)) (links : ℕ → Link) → IsTable all links table.items) }
+    ensures count { IfOk result (λ table. length table.items ≡ links) }
 {
     let mut table = Vec::new(alloc);
     for _ in 0..links {
@@ -126,33 +124,33 @@ fn new_table(alloc: Global, links: usize) -> Result<Vec<Option<Sender>>, AllocEr
     Ok(table)
 }
 
-/// Settles the links of nodes that have ended, of which there are so many. At `Err` there was no memory, and the nodes
-/// come back.
+/// Settles the links of nodes that have ended, numbered below so many, and gives their machines in the order of the
+/// nodes. At `Err` there was no memory, and the nodes come back.
 ///
-/// Where each link had both its ends among the nodes, what was taken from a link is the beginning of what was sent over
-/// it; so what a node took lies below the solution of the network (`below`), and with its breaks where no node with a
-/// lower number has a fault (`before`); then its own fault of the inputs is the cause of the solution's streams
-/// (`cause`). Where none has a fault, the machine of each node without outputs was fed the streams of the solution, and
-/// they are whole (`settled`).
+/// Where no link leads from two nodes or to two, and each that leads to a node leaves an earlier one, what was taken from
+/// a link is the beginning of what was sent over it; so what a node took lies below the solution of the network
+/// (`below`), and with its breaks where no node with a lower number has a fault (`before`); then its own fault of the
+/// inputs is the cause of the solution's streams (`cause`). Where none has a fault, the machine of each node without
+/// outputs was fed the streams of the solution, and they are whole (`settled`).
 pub fn settle_all<M: Machine + Drop>(
     alloc: Global,
     nodes: Vec<Linked<M>>,
     links: usize,
-) -> Result<Ran<M>, Vec<Linked<M>>>
+) -> Result<Vec<M>, Vec<Linked<M>>>
     requires ended { AllEnded nodes.items }
     requires linked { (links : ℕ → Link) × AreLinked links nodes.items }
     ensures back { IfErr result (λ v. v.items ≡ nodes.items) }
-    ensures count { IfOk result (λ ran. length ran.machines.items ≡ length nodes.items) }
-    ensures machines { IfOk result (λ ran. (k : ℕ) (d : _) (e : _) → k < length nodes.items → slice_index_or ran.machines.items k e ≡ machine_of (node_of (slice_index_or nodes.items k d))) }
-    ensures below { IfOk result (λ ran. ran.whole ≡ true → (tasks : ℕ → Task) (lanes : List Lane) → AllBehind M.in_lanes M.out_lanes M.source_of M.fault_of M.stands tasks nodes.items → AreMeeting lanes nodes.items → IsUpward [] (parts_of M.in_lanes M.out_lanes tasks (nodes_of nodes.items))
+    ensures count { IfOk result (λ v. length v.items ≡ length nodes.items) }
+    ensures machines { IfOk result (λ v. (k : ℕ) (d : _) (e : _) → k < length nodes.items → slice_index_or v.items k e ≡ machine_of (node_of (slice_index_or nodes.items k d))) }
+    ensures below { IfOk result (λ v. (tasks : ℕ → Task) (lanes : List Lane) → AllBehind M.in_lanes M.out_lanes M.source_of M.fault_of M.stands tasks nodes.items → AreMeeting lanes nodes.items → length lanes ≤ links → IsUpward [] (parts_of M.in_lanes M.out_lanes tasks (nodes_of nodes.items))
         → (world : ℕ → Wire) × Moment M.in_lanes M.out_lanes M.source_of M.fault_of M.stands tasks (nodes_of nodes.items) lanes world × ((k : ℕ) (d : _) (w : ℕ) → k < length (nodes_of nodes.items) → IsIn w (in_wires_of (slice_index_or (nodes_of nodes.items) k d)) → LiesBelow (opened (world w).taken) (solve (parts_of M.in_lanes M.out_lanes tasks (nodes_of nodes.items)) w))) }
-    ensures before { IfOk result (λ ran. ran.whole ≡ true → (tasks : ℕ → Task) (lanes : List Lane) → AllBehind M.in_lanes M.out_lanes M.source_of M.fault_of M.stands tasks nodes.items → AreMeeting lanes nodes.items → IsUpward [] (parts_of M.in_lanes M.out_lanes tasks (nodes_of nodes.items))
+    ensures before { IfOk result (λ v. (tasks : ℕ → Task) (lanes : List Lane) → AllBehind M.in_lanes M.out_lanes M.source_of M.fault_of M.stands tasks nodes.items → AreMeeting lanes nodes.items → length lanes ≤ links → IsUpward [] (parts_of M.in_lanes M.out_lanes tasks (nodes_of nodes.items))
         → (world : ℕ → Wire) × Moment M.in_lanes M.out_lanes M.source_of M.fault_of M.stands tasks (nodes_of nodes.items) lanes world × ((k : ℕ) (d : _) → k < length (nodes_of nodes.items) → ((j : ℕ) (e : _) → j < k → IsSound M.fault_of (slice_index_or (nodes_of nodes.items) j e))
         → (w : ℕ) → IsIn w (in_wires_of (slice_index_or (nodes_of nodes.items) k d)) → LiesBelow (world w).taken (solve (parts_of M.in_lanes M.out_lanes tasks (nodes_of nodes.items)) w))) }
-    ensures cause { IfOk result (λ ran. ran.whole ≡ true → (tasks : ℕ → Task) (lanes : List Lane) → AllBehind M.in_lanes M.out_lanes M.source_of M.fault_of M.stands tasks nodes.items → AreMeeting lanes nodes.items → IsUpward [] (parts_of M.in_lanes M.out_lanes tasks (nodes_of nodes.items))
+    ensures cause { IfOk result (λ v. (tasks : ℕ → Task) (lanes : List Lane) → AllBehind M.in_lanes M.out_lanes M.source_of M.fault_of M.stands tasks nodes.items → AreMeeting lanes nodes.items → length lanes ≤ links → IsUpward [] (parts_of M.in_lanes M.out_lanes tasks (nodes_of nodes.items))
         → (k : ℕ) (d : _) → k < length (nodes_of nodes.items) → ((j : ℕ) (e : _) → j < k → IsSound M.fault_of (slice_index_or (nodes_of nodes.items) j e))
         → (c : Fault) → M.fault_of (machine_of (slice_index_or (nodes_of nodes.items) k d)) ≡ Some c → IsOfInputs c → (tasks k).cause (map (solve (parts_of M.in_lanes M.out_lanes tasks (nodes_of nodes.items))) (in_wires_of (slice_index_or (nodes_of nodes.items) k d))) ≡ Some c) }
-    ensures settled { IfOk result (λ ran. ran.whole ≡ true → (tasks : ℕ → Task) (lanes : List Lane) → AllBehind M.in_lanes M.out_lanes M.source_of M.fault_of M.stands tasks nodes.items → AreMeeting lanes nodes.items → IsUpward [] (parts_of M.in_lanes M.out_lanes tasks (nodes_of nodes.items)) → ((k : ℕ) (d : _) → k < length (nodes_of nodes.items) → IsSound M.fault_of (slice_index_or (nodes_of nodes.items) k d))
+    ensures settled { IfOk result (λ v. (tasks : ℕ → Task) (lanes : List Lane) → AllBehind M.in_lanes M.out_lanes M.source_of M.fault_of M.stands tasks nodes.items → AreMeeting lanes nodes.items → length lanes ≤ links → IsUpward [] (parts_of M.in_lanes M.out_lanes tasks (nodes_of nodes.items)) → ((k : ℕ) (d : _) → k < length (nodes_of nodes.items) → IsSound M.fault_of (slice_index_or (nodes_of nodes.items) k d))
         → (k : ℕ) (d : _) → k < length (nodes_of nodes.items) → IsDone (slice_index_or (nodes_of nodes.items) k d) → outputs_of (slice_index_or (nodes_of nodes.items) k d) ≡ 0 → Settled M.stands (tasks k) (parts_of M.in_lanes M.out_lanes tasks (nodes_of nodes.items)) (slice_index_or (nodes_of nodes.items) k d)) }
 {
     let Ok(table) = new_table(alloc, links) else {

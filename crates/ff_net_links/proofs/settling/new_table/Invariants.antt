@@ -3,4 +3,7 @@ use Rattle.ff_link.specs.Views.{Sending}
 use Rattle.ff_net_links.proofs.settling.new_table.Given as goal
 
 abbrev pub invariant-loop : goal.invariant-loop
-invariant-loop l = (w : ℕ) (d : Option Sending) → w < length l.table.items → slice_index_or l.table.items w d ≡ None
+invariant-loop l = record {
+  none : (w : ℕ) (d : Option Sending) → w < length l.table.items → slice_index_or l.table.items w d ≡ None;
+  count : length l.table.items ≡ l.counter;
+}

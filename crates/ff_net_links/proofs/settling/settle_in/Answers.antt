@@ -1,17 +1,18 @@
-use Rattle.std.proofs.Common.{◌≡◌, ◌<◌, ℕ, suc, List, length, slice_index_or, vec_items, vec_len, Some, None, arith, sym, ◌∙◌, ap, subst, inl, inr, rules}
+use Rattle.std.proofs.Common.{◌≡◌, ◌<◌, ℕ, suc, List, length, slice_index_or, vec_items, vec_len, Some, None, arith, refl, sym, ◌∙◌, ap, subst, inl, inr, rules}
 use Rattle.std.specs.Vec.Iter.{into_iter_len}
 use Rattle.ff_net.specs.declared.node.Node.{Node}
-use Rattle.ff_net.specs.Nodes.{machine_of}
+use Rattle.ff_net.specs.Pasts.{IsIn}
+use Rattle.ff_net.specs.Nodes.{AreApart, machine_of}
 use Rattle.ff_net.proofs.Flows.{same_or_not}
 use Rattle.ff_net_links.specs.declared.ends.InEnd.{InEnd}
 use Rattle.ff_net_links.specs.declared.ends.OutEnd.{OutEnd}
 use Rattle.ff_net_links.specs.declared.linked.Linked.{Linked}
 use Rattle.ff_net_links.specs.Ends.{in_end_at, in_link, out_link}
-use Rattle.ff_net_links.specs.Nodes.{HasEnded, node_of, ins_of, outs_of}
-use Rattle.ff_net_links.specs.Settling.{IsFed, WasSentIn, ends_of}
+use Rattle.ff_net_links.specs.Nodes.{HasEnded, in_ends_wires, out_ends_wires, node_of, ins_of, outs_of}
+use Rattle.ff_net_links.specs.Settling.{HasSender, IsFed, WasSentIn, ends_of}
 use Rattle.ff_net_links.proofs.Linking.{count_map}
 use Rattle.ff_net_links.proofs.Served.{rest_next, first_next, rest_first, each_snoc}
-use Rattle.ff_net_links.proofs.Tables.{and_true, at_map, was_sent_at}
+use Rattle.ff_net_links.proofs.Tables.{at_map, was_sent_at}
 use Rattle.ff_net_links.proofs.settling.settle_in.Goals as goal
 
 pub loop-linked-init : goal.loop-linked-init
@@ -25,10 +26,12 @@ loop-linked-init g c =
       machines = λ k d e below. absurd (omega arith);
       table = λ links al. c.requires.table links;
       fed = λ w links al k p d below plt. absurd (omega arith);
+      count = refl;
+      senders = λ after j w d below wlt i away. absurd (omega arith);
     }
 
-pub settle_ends-fed-requires-clause-shut : goal.settle_ends-fed-requires-clause-shut
-settle_ends-fed-requires-clause-shut g c p lt =
+pub settle_ends-requires-clause-shut : goal.settle_ends-requires-clause-shut
+settle_ends-requires-clause-shut g c p lt =
     let was = c.loop-linked.invariant in
     let step = c.in-Some.ensures.steps in
     let n = vec_len c.loop-linked.machines in
@@ -40,8 +43,8 @@ settle_ends-fed-requires-clause-shut g c p lt =
     let ins = c.into_parts-node.ensures.ins in
     subst (λ (es : List InEnd). (in_end_at es p).taking ≡ None) (sym ins) (ended.ins p (subst (λ (es : List InEnd). p < length es) ins lt))
 
-pub settle_ends-fed-requires-clause-linked : goal.settle_ends-fed-requires-clause-linked
-settle_ends-fed-requires-clause-linked g c =
+pub settle_ends-requires-clause-linked : goal.settle_ends-requires-clause-linked
+settle_ends-requires-clause-linked g c =
     let was = c.loop-linked.invariant in
     let step = c.in-Some.ensures.steps in
     let n = vec_len c.loop-linked.machines in
@@ -85,7 +88,7 @@ loop-linked-preserved g c =
           let mine : P n c.into_machine.result = c.into_machine.ensures ∙ (ap (λ (x : Node g.row.M.Denot). machine_of x) c.into_parts-node.ensures.node ∙ ap (λ (x : Linked g.row.M.Denot). machine_of (node_of x)) (here d)) in
           subst (P k) (ap (λ xs. slice_index_or xs k e) (sym c.push_reserved.ensures.items)) (each_snoc P c.loop-linked.machines.items c.into_machine.result e (λ i lt. was.machines i d e (omega arith)) (subst (λ (i : ℕ). P i c.into_machine.result) (sym long) mine) k (omega arith));
       table = λ links al.
-          c.store_ends.ensures (ends_of all) links (c.settle_ends-fed.ensures.table (ends_of all) links (was.table links al)) (λ q d lt.
+          c.store_ends.ensures.table (ends_of all) links (c.settle_ends.ensures.table (ends_of all) links (was.table links al)) (λ q d lt.
           let qlt : q < length (outs_of l) = subst (λ (es : List OutEnd). q < length es) outs lt in
           let same : slice_index_or (ends_of all) n (outs_of l) ≡ outs_of l = at_map (λ (x : Linked g.row.M.Denot). outs_of x) all n l (outs_of l) there ∙ ap (λ (x : Linked g.row.M.Denot). outs_of x) (sym (here l)) in
           let klt : n < length (ends_of all) = subst (λ (z : ℕ). n < z) (sym (count_map (λ (x : Linked g.row.M.Denot). outs_of x) all)) there in
@@ -93,22 +96,41 @@ loop-linked-preserved g c =
             was_sent_at (ends_of all) (outs_of l) n q d klt same qlt,
             subst (λ (x : Linked g.row.M.Denot). out_link (slice_index_or (outs_of x) q d) ≡ Some (links (slice_index_or (outs_of x) q d).wire)) (sym (here l)) (al.outs n q l d there (subst (λ (x : Linked g.row.M.Denot). q < length (outs_of x)) (here l) qlt)),
           ));
-      fed = λ both links al k p d below plt.
-          let two = and_true c.loop-linked.whole c.settle_ends-fed.result both in
+      fed = λ after links al k p d below plt.
           elim (same_or_not k n) [
             | inl same ↦
                 let at : slice_index_or all k d ≡ l = ap (λ (z : ℕ). slice_index_or all z d) same ∙ sym (here d) in
                 let plt' : p < length (ins_of l) = subst (λ (x : Linked g.row.M.Denot). p < length (ins_of x)) at plt in
+                let mine : ins_of (slice_index_or all n l) ≡ c.into_parts-node.result.1.items = sym (ins ∙ ap (λ (x : Linked g.row.M.Denot). ins_of x) (here l)) in
+                let senders : (w : ℕ) → IsIn w (in_ends_wires c.into_parts-node.result.1.items) → HasSender c.loop-linked.table.items w = λ w e.
+                let e' : IsIn w (in_ends_wires (ins_of (slice_index_or all n l))) = subst (λ (es : List InEnd). IsIn w (in_ends_wires es)) (sym mine) e in
+                let from = after.earlier n w l there e' in
+                was.senders after from.0 w l from.1 (after.there n w l there e') from.2 (λ i ilt f. let once : i ≡ n = after.once i n w l (omega (arith, ilt, there)) there f e' in omega (arith, ilt, once)) in
+                let fed = c.settle_ends.ensures.fed (subst (λ (es : List InEnd). AreApart (in_ends_wires es)) mine (after.apart n l there)) senders (ends_of all) links (was.table links al) p (subst (λ (es : List InEnd). p < length es) (sym ins) plt') in
                 subst (λ (x : Linked g.row.M.Denot). IsFed (ends_of all) (in_end_at (ins_of x) p)) (sym at)
-                (subst (λ (es : List InEnd). IsFed (ends_of all) (in_end_at es p)) ins (c.settle_ends-fed.ensures.fed two.1 (ends_of all) links (was.table links al) p (subst (λ (es : List InEnd). p < length es) (sym ins) plt')))
-            | inr other ↦ was.fed two.0 links al k p d (omega (arith, other, below, len)) plt
+                (subst (λ (es : List InEnd). IsFed (ends_of all) (in_end_at es p)) ins fed)
+            | inr other ↦ was.fed after links al k p d (omega (arith, other, below, len)) plt
+          ];
+      count = c.store_ends.ensures.count ∙ (c.settle_ends.ensures.count ∙ was.count);
+      senders = λ after j w d below wlt i away.
+          let count = was.count in
+          let settled = c.settle_ends.ensures.count in
+          elim (same_or_not j n) [
+            | inl same ↦
+                let at : slice_index_or all j d ≡ l = ap (λ (z : ℕ). slice_index_or all z d) same ∙ sym (here d) in
+                c.store_ends.ensures.stored w (omega arith) (subst (λ (es : List OutEnd). IsIn w (out_ends_wires es)) (ap (λ (x : Linked g.row.M.Denot). outs_of x) at ∙ sym outs) i)
+            | inr other ↦
+                c.store_ends.ensures.kept w
+                (c.settle_ends.ensures.kept w
+                (λ e. away n (omega (arith, len)) (subst (λ (es : List InEnd). IsIn w (in_ends_wires es)) (ins ∙ ap (λ (x : Linked g.row.M.Denot). ins_of x) (here d)) e))
+                (was.senders after j w d (omega (arith, other, below, len)) wlt i (λ k klt e. away k (omega (arith, klt, len)) e)))
           ];
     }
 
 pub returns-clause-fed : goal.returns-clause-fed
-returns-clause-fed g c whole = record {
+returns-clause-fed g c after = record {
   each = λ k p d lt plt.
       let was = c.loop-linked.invariant in
       let there : k < vec_len c.loop-linked.machines = let left = was.left in let none = c.in-None.ensures.steps.0 in let ok = c.args.nodes.ok.0 in omega arith in
-      was.fed whole c.requires.linked.0 c.requires.linked.1 k p d there plt;
+      was.fed after c.requires.linked.0 c.requires.linked.1 k p d there plt;
 }

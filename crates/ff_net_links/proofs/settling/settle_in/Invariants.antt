@@ -1,11 +1,12 @@
-use Rattle.std.proofs.Common.{◌≡◌, ◌+◌, ◌≤◌, ◌<◌, ℕ, true, length, slice_index_or, vec_items, vec_len, vec_capacity}
+use Rattle.std.proofs.Common.{◌≡◌, ◌+◌, ◌≤◌, ◌<◌, ℕ, length, slice_index_or, vec_items, vec_len, vec_capacity}
 use Rattle.std.specs.Vec.Iter.{into_iter_items, into_iter_len}
 use Rattle.ff_link.specs.Views.{Link}
+use Rattle.ff_net.specs.Pasts.{IsIn}
 use Rattle.ff_net.specs.Nodes.{machine_of}
 use Rattle.ff_net_links.specs.declared.linked.Linked.{Linked}
 use Rattle.ff_net_links.specs.Ends.{in_end_at}
-use Rattle.ff_net_links.specs.Nodes.{node_of, ins_of}
-use Rattle.ff_net_links.specs.Settling.{IsTable, IsFed, AreLinked, ends_of}
+use Rattle.ff_net_links.specs.Nodes.{in_ends_wires, out_ends_wires, node_of, ins_of, outs_of}
+use Rattle.ff_net_links.specs.Settling.{HasSender, ComeAfter, IsTable, IsFed, AreLinked, ends_of}
 use Rattle.ff_net_links.proofs.settling.settle_in.Given as goal
 
 abbrev pub invariant-loop-linked : goal.invariant-loop-linked
@@ -15,5 +16,7 @@ invariant-loop-linked g l = let rest = l.linked-iterator in let n = vec_len l.ma
   rest : (k : ℕ) (d : Linked g.row.M.Denot) → k < into_iter_len rest → slice_index_or (into_iter_items rest) k d ≡ slice_index_or all (n + k) d;
   machines : (k : ℕ) (d : Linked g.row.M.Denot) (e : g.row.M.Denot) → k < n → slice_index_or (vec_items l.machines) k e ≡ machine_of (node_of (slice_index_or all k d));
   table : (links : ℕ → Link) → AreLinked links all → IsTable (ends_of all) links l.table.items;
-  fed : l.whole ≡ true → (links : ℕ → Link) → AreLinked links all → (k p : ℕ) (d : Linked g.row.M.Denot) → k < n → p < length (ins_of (slice_index_or all k d)) → IsFed (ends_of all) (in_end_at (ins_of (slice_index_or all k d)) p);
+  count : length l.table.items ≡ length l.initial.table.items;
+  senders : ComeAfter (length l.initial.table.items) all → (j w : ℕ) (d : Linked g.row.M.Denot) → j < n → w < length l.initial.table.items → IsIn w (out_ends_wires (outs_of (slice_index_or all j d))) → ((k : ℕ) → k < n → IsIn w (in_ends_wires (ins_of (slice_index_or all k d))) → ⊥) → HasSender l.table.items w;
+  fed : ComeAfter (length l.initial.table.items) all → (links : ℕ → Link) → AreLinked links all → (k p : ℕ) (d : Linked g.row.M.Denot) → k < n → p < length (ins_of (slice_index_or all k d)) → IsFed (ends_of all) (in_end_at (ins_of (slice_index_or all k d)) p);
 }

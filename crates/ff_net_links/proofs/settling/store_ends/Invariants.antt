@@ -3,7 +3,7 @@ use Rattle.std.specs.Vec.Iter.{into_iter_items, into_iter_len}
 use Rattle.ff_link.specs.Views.{Link}
 use Rattle.ff_net_links.specs.declared.ends.OutEnd.{OutEnd}
 use Rattle.ff_net_links.specs.Ends.{out_link}
-use Rattle.ff_net_links.specs.Settling.{IsTable, WasSentIn}
+use Rattle.ff_net_links.specs.Settling.{IsTable, HasSender, WasSentIn}
 use Rattle.ff_net_links.proofs.settling.store_ends.Given as goal
 
 abbrev pub invariant-loop-end : goal.invariant-loop-end
@@ -13,4 +13,7 @@ invariant-loop-end l = let rest = l.end-iterator in record {
   table : (all : List (List OutEnd)) (links : ℕ → Link) → IsTable all links l.initial.table.items
       → ((q : ℕ) (d : OutEnd) → q < length (vec_items l.fn.ends) → WasSentIn all (slice_index_or (vec_items l.fn.ends) q d).wire (slice_index_or (vec_items l.fn.ends) q d).sender.sent × (out_link (slice_index_or (vec_items l.fn.ends) q d) ≡ Some (links (slice_index_or (vec_items l.fn.ends) q d).wire)))
       → IsTable all links l.table.items;
+  count : length l.table.items ≡ length l.initial.table.items;
+  kept : (w : ℕ) → HasSender l.initial.table.items w → HasSender l.table.items w;
+  stored : (q : ℕ) (d : OutEnd) → q < l.next → (slice_index_or (vec_items l.fn.ends) q d).wire < length l.initial.table.items → HasSender l.table.items (slice_index_or (vec_items l.fn.ends) q d).wire;
 }
