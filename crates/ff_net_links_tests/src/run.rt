@@ -5,7 +5,7 @@ ghost use Rattle.ff_link_tests.specs.Packets.{IsWhole};
 use crate::chain::chain;
 use ff_frame::Item;
 use ff_link_tests::is_packet;
-use ff_net_links::{Ran, run_threads, settle_all};
+use ff_net_links::{run_threads, settle_all};
 use ff_net_plain::Plain;
 use ff_time::Rational;
 use std::alloc::{AllocError, Global};
@@ -23,18 +23,15 @@ pub struct Outcome {
     pub in_order: bool,
     /// Whether the end came behind them, and nothing else.
     pub ended: bool,
-    /// Whether each link had both its ends among the nodes.
-    pub whole: bool,
 }
 
 // What the sink was fed.
-fn look(given: &[Item], sent: usize, whole: bool) -> Outcome {
+fn look(given: &[Item], sent: usize) -> Outcome {
     let mut outcome = Outcome {
         sent,
         taken: 0,
         in_order: true,
         ended: false,
-        whole,
     };
     for item in given {
         outcome = look_at(outcome, item);
@@ -57,8 +54,7 @@ fn look_at(outcome: Outcome, item: &Item) -> Outcome {
 }
 
 // The machines of a chain, first the sink.
-fn outcome_of(ran: Ran<Plain>) -> Option<Outcome> {
-    let mut machines = ran.machines;
+fn outcome_of(mut machines: Vec<Plain>) -> Option<Outcome> {
     let Plain::Relay(sink) = machines.pop()? else {
         return None;
     };
@@ -66,7 +62,7 @@ fn outcome_of(ran: Ran<Plain>) -> Option<Outcome> {
     let Plain::Source(source) = machines.pop()? else {
         return None;
     };
-    Some(look(sink.given(), source.given(), ran.whole))
+    Some(look(sink.given(), source.given()))
 }
 
 /// A chain, run in threads. None where memory is refused.
@@ -88,8 +84,8 @@ pub fn run_chain<R: Threads + Wait + Sync>(
     let Ok(done) = run_threads(rt, alloc, nodes) else {
         return None;
     };
-    let Ok(ran) = settle_all(alloc, done, 2) else {
+    let Ok(machines) = settle_all(alloc, done, 2) else {
         return None;
     };
-    outcome_of(ran)
+    outcome_of(machines)
 }

@@ -17,7 +17,6 @@ fn spent(rt: HostRuntime) -> Result<(), Fail> {
             taken,
             in_order: true,
             ended: true,
-            whole: true,
             ..got
         };
         assert_eq!(rt; got, want, "limit {limit}");
@@ -40,7 +39,6 @@ fn streams(rt: HostRuntime) -> Result<(), Fail> {
             taken: 10_000,
             in_order: true,
             ended: true,
-            whole: true,
         };
         assert_eq!(rt; got, want, "size {size}");
     }
