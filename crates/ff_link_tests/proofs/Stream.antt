@@ -69,7 +69,8 @@ in_time tb (suc n) w few = one_more (EndsInTime (byte_lane tb)) (byte_packets n)
 abbrev going : ℕ → Stream Item
 going n = record { items = byte_packets n; mark = still_open }
 
-valid : (tb : Fraction) (n : ℕ) → IsWhole tb → n ≤ 2 ^ 20 → IsValid (byte_lane tb) (going n)
+-- the packets are valid for their lane
+pub valid : (tb : Fraction) (n : ℕ) → IsWhole tb → n ≤ 2 ^ 20 → IsValid (byte_lane tb) (going n)
 valid tb n w few = record {
   shape = record { each = each tb n; in_order = in_order tb n };
   few = let c = count n in omega arith;

@@ -4,7 +4,7 @@
 mod packets;
 mod relays;
 
-pub use packets::one_over;
+pub use packets::{is_packet, lane_of, one_over, packet};
 pub use relays::{Passed, relay};
 
 #[cfg(test)]

@@ -19,7 +19,8 @@ pub fn one_over(den: i64) -> Option<Rational>
     }
 }
 
-pub(crate) fn lane_of(tb: Rational) -> Lane
+/// The lane of the packets: one channel of 8 bits.
+pub fn lane_of(tb: Rational) -> Lane
     ensures { result ≡ byte_lane tb }
 {
     Lane::Packets(StreamHead::Audio {
@@ -31,7 +32,8 @@ pub(crate) fn lane_of(tb: Rational) -> Lane
     })
 }
 
-pub(crate) fn packet(alloc: Global, place: u32) -> Result<Item, AllocError>
+/// The packet at this place.
+pub fn packet(alloc: Global, place: u32) -> Result<Item, AllocError>
     ensures { IfOk result (λ item. item ≡ byte_packet place) }
 {
     let bytes = vec![in alloc; (place % 256) as u8]?;
@@ -44,8 +46,8 @@ pub(crate) fn packet(alloc: Global, place: u32) -> Result<Item, AllocError>
     }))
 }
 
-// Whether it is the packet at this place.
-pub(crate) fn is_packet(item: &Item, place: u32) -> bool {
+/// Whether it is the packet at this place.
+pub fn is_packet(item: &Item, place: u32) -> bool {
     match item {
         Item::Packet(packet) => {
             packet.pts == i64::from(place)

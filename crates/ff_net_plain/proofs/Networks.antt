@@ -60,10 +60,10 @@ each_at P [] e k d lt = absurd (omega arith)
 each_at P (n ∷ ns) e zero d lt = e.0
 each_at P (n ∷ ns) e (suc k) d lt = each_at P ns e.1 k d (omega arith)
 
-no_wires : AreApart []
+pub no_wires : AreApart []
 no_wires p q plt qlt same = absurd (omega arith)
 
-one_wire : (a : ℕ) → AreApart (a ∷ [])
+pub one_wire : (a : ℕ) → AreApart (a ∷ [])
 one_wire a p q plt qlt same = omega (arith, plt, qlt)
 
 two_wires : (a b : ℕ) → a ≢ b → AreApart (a ∷ b ∷ [])
@@ -75,14 +75,14 @@ two_wires a b n (suc (suc p)) q plt qlt same = absurd (omega arith)
 two_wires a b n zero (suc (suc q)) plt qlt same = absurd (omega arith)
 two_wires a b n (suc zero) (suc (suc q)) plt qlt same = absurd (omega arith)
 
-have : (ws : List ℕ) (l : Lane) (lanes : List Lane) → map (lane_at lanes) ws ≡ map (λ w. Some l) ws → AreApart ws → HaveLanes ws (map (λ w. l) ws) lanes
+pub have : (ws : List ℕ) (l : Lane) (lanes : List Lane) → map (lane_at lanes) ws ≡ map (λ w. Some l) ws → AreApart ws → HaveLanes ws (map (λ w. l) ws) lanes
 have ws l lanes e a = record { lanes_are = e ∙ sym (each_some ws); apart = a }
   where
     each_some : (vs : List ℕ) → map Some (map (λ w. l) vs) ≡ map (λ w. Some l) vs
     each_some [] = refl
     each_some (v ∷ vs) = ap (λ os. Some l ∷ os) (each_some vs)
 
-fits_shaped : (l : Lane) (ins outs : List ℕ) (node : Node Plain) (wires : Wires) → Fits l ins outs node → HaveLanes ins (map (λ w. l) ins) (lanes_of wires) → HaveLanes outs (map (λ w. l) outs) (lanes_of wires) → IsShaped plain_ins plain_outs node wires
+pub fits_shaped : (l : Lane) (ins outs : List ℕ) (node : Node Plain) (wires : Wires) → Fits l ins outs node → HaveLanes ins (map (λ w. l) ins) (lanes_of wires) → HaveLanes outs (map (λ w. l) outs) (lanes_of wires) → IsShaped plain_ins plain_outs node wires
 fits_shaped l ins outs node wires f i o = record {
   ins = subst (λ (ws : List ℕ). HaveLanes ws (plain_ins node.machine) (lanes_of wires)) (sym f.ins_are) (subst (λ (ls : List Lane). HaveLanes ins ls (lanes_of wires)) (sym f.in_lanes_are) i);
   outs = subst (λ (ws : List ℕ). HaveLanes ws (plain_outs node.machine) (lanes_of wires)) (sym f.outs_are) (subst (λ (ls : List Lane). HaveLanes outs ls (lanes_of wires)) (sym f.out_lanes_are) o);

@@ -7,4 +7,5 @@ pub mod PlainLaws
 pub mod Plains
 pub mod RelayLaws
 pub mod Relays
+pub mod Starts
 pub mod Trials

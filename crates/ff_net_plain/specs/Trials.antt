@@ -1,5 +1,5 @@
 -- The lanes of machines that are tried.
-use Rattle.std.specs.Prelude.{List, [], ◌∷◌, length, replicate}
+use Rattle.std.specs.Prelude.{ℕ, List, [], ◌∷◌, length, replicate}
 use Rattle.ff_time.specs.Fraction.{Fraction}
 use Rattle.ff_frame.specs.declared.head.Codec.TheVariants.{PcmU8}
 use Rattle.ff_frame.specs.declared.head.StreamHead.TheVariants.{Audio}
@@ -32,3 +32,7 @@ join_ins m = m.lane ∷ m.lane ∷ []
 
 abbrev pub join_outs : Join → List Lane
 join_outs m = m.lane ∷ []
+
+-- how many packets a source gave
+abbrev pub count_given : Source → ℕ
+count_given m = m.next

@@ -81,12 +81,15 @@ pub struct Join {
 }
 
 impl Join {
+    ghost use Rattle.ff_net.specs.Pasts.{start};
+    ghost use Rattle.ff_net_plain.specs.Starts.{join_task, join_stands};
     ghost use Rattle.ff_net_plain.specs.Trials.{join_ins, join_outs};
 
     /// A machine that joins two inputs of this lane, and refuses what comes after `room` items.
     pub fn new(alloc: Global, lane: Lane, room: usize) -> Join
         ensures ins { join_ins result ≡ lane ∷ lane ∷ [] }
         ensures outs { join_outs result ≡ lane ∷ [] }
+        ensures fresh { join_stands result (start join_task) }
     {
         let first = Kept {
             items: Vec::new(alloc),

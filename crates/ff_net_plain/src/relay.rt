@@ -28,6 +28,8 @@ pub struct Relay {
 
 impl Relay {
     ghost use Rattle.std.specs.Prelude.{IfOk};
+    ghost use Rattle.ff_net.specs.Pasts.{start};
+    ghost use Rattle.ff_net_plain.specs.Starts.{relay_task, relay_stands};
     ghost use Rattle.ff_net_plain.specs.Trials.{relay_ins, relay_outs, given_by};
 
     /// A relay of this lane with so many outputs, which ends after `limit` items and refuses what comes after `room`.
@@ -40,6 +42,7 @@ impl Relay {
     ) -> Result<Relay, AllocError>
         ensures ins { IfOk result (λ relay. relay_ins relay ≡ lane ∷ []) }
         ensures outs { IfOk result (λ relay. relay_outs relay ≡ replicate count lane) }
+        ensures fresh { IfOk result (λ relay. relay_stands relay (start (relay_task limit count))) }
     {
         let mut outs = Vec::new(alloc);
         for _i in 0..count {

@@ -23,7 +23,11 @@ pub struct Source {
 }
 
 impl Source {
-    ghost use Rattle.ff_net_plain.specs.Trials.{source_outs};
+    ghost use Rattle.ff_frame.specs.Lanes.{IsValid};
+    ghost use Rattle.ff_frame.specs.Stream.{whole_stream};
+    ghost use Rattle.ff_net.specs.Pasts.{start};
+    ghost use Rattle.ff_net_plain.specs.Starts.{list_task, source_stands};
+    ghost use Rattle.ff_net_plain.specs.Trials.{source_outs, count_given};
 
     /// The source of this number, of packets that are valid for this lane. Its device fails at the packet `fails_at`, and
     /// memory is refused for the packet `refuses_at`.
@@ -36,6 +40,7 @@ impl Source {
         refuses_at: usize,
     ) -> Source
         ensures outs { source_outs result ≡ lane ∷ [] }
+        ensures fresh { IsValid lane (whole_stream items.items) → source_stands result (start (list_task items.items)) }
     {
         Source {
             alloc,
@@ -49,6 +54,13 @@ impl Source {
             fails_at,
             refuses_at,
         }
+    }
+
+    /// How many of its packets it gave.
+    pub fn given(&self) -> usize
+        ensures { result ≡ count_given self.now }
+    {
+        self.next
     }
 }
 

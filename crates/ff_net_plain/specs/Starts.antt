@@ -1,0 +1,37 @@
+-- What the machines are there for, and where they can be.
+use Rattle.std.specs.Prelude.{ℕ, List, true, false}
+use Rattle.ff_frame.specs.declared.item.Item.{Item}
+use Rattle.ff_net.specs.Pasts.{Past, Task}
+use Rattle.ff_net_plain.specs.declared.join.Join.{Join}
+use Rattle.ff_net_plain.specs.declared.relay.Out.{Out}
+use Rattle.ff_net_plain.specs.declared.relay.Relay.{Relay}
+use Rattle.ff_net_plain.specs.declared.source.Source.{Source}
+use Rattle.ff_net_plain.specs.Joins.{Joins, join, kept_of}
+use Rattle.ff_net_plain.specs.Lists.{Lists, list_of}
+use Rattle.ff_net_plain.specs.Relays.{Relays, relay, no_cause}
+
+-- to give these items, and the end
+abbrev pub list_task : List Item → Task
+list_task items = record { means = list_of items; cause = no_cause; source = true }
+
+-- to repeat the first items, so many, on so many outputs
+abbrev pub relay_task : ℕ → ℕ → Task
+relay_task limit count = record { means = relay limit count; cause = no_cause; source = false }
+
+-- to give the first of each pair
+abbrev pub join_task : Task
+join_task = record { means = join; cause = no_cause; source = false }
+
+-- the machine can be where it is after this past
+abbrev pub source_stands : Source → Past → Type 0
+source_stands m past = Lists m.lane m.items.items m.next m.ended m.ticket m.failed past
+
+abbrev pub relay_stands : Relay → Past → Type 0
+relay_stands m past = Relays m.lane m.limit m.left m.closed m.given.items m.outs.items past
+
+abbrev pub join_stands : Join → Past → Type 0
+join_stands m past = Joins m.lane (kept_of m.first) (kept_of m.second) m.next m.ended m.stopped past
+
+-- an output to which nothing went
+abbrev pub fresh_out : Out
+fresh_out = record { next = 0; stopped = false }
