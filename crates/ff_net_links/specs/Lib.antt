@@ -1,5 +1,6 @@
 pub mod Ends
 pub mod Nodes
+pub mod Rooms
 pub mod Runs
 pub mod Settling
 pub mod Workers

@@ -16,11 +16,13 @@
 mod ends;
 mod linked;
 mod rest;
+mod room;
 mod settling;
 mod threads;
 mod worker;
 
 pub use ends::{InEnd, OutEnd};
 pub use linked::Linked;
+pub use room::Room;
 pub use settling::settle_all;
 pub use threads::run_threads;

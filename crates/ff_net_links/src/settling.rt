@@ -1,5 +1,5 @@
 // The links of nodes that have ended, settled.
-ghost use Rattle.std.specs.Prelude.{◌≡◌, ◌<◌, ◌≤◌, ℕ, List, [], length, slice_index_or, vec_len, vec_capacity, map, true, None, Some, IfOk, IfErr};
+ghost use Rattle.std.specs.Prelude.{◌≡◌, ◌<◌, ◌≤◌, ℕ, List, [], length, slice_index_or, vec_len, vec_capacity, map, true, None, Some};
 ghost use Rattle.ff_frame.specs.declared.item.Lane.{Lane};
 ghost use Rattle.ff_frame.specs.Stream.{LiesBelow, opened};
 ghost use Rattle.ff_net.specs.declared.fault.Fault.{Fault};
@@ -13,13 +13,14 @@ ghost use Rattle.ff_net_links.specs.Nodes.{in_ends_wires, out_ends_wires, node_o
 ghost use Rattle.ff_link.specs.Views.{Link};
 ghost use Rattle.ff_net_links.specs.declared.ends.OutEnd.{OutEnd};
 ghost use Rattle.ff_net_links.specs.Ends.{in_link, out_link, in_end_at};
+ghost use Rattle.ff_net_links.specs.Rooms.{IsUnused, links_of, most_nodes};
 ghost use Rattle.ff_net_links.specs.Settling.{HasSender, ComeAfter, IsTable, IsFed, WasSentIn, AreLinked, AllEnded, AllFed, AllBehind, AreMeeting, ends_of, nodes_of};
 
 use crate::ends::{InEnd, OutEnd};
 use crate::linked::Linked;
+use crate::room::Room;
 use ff_link::{Sender, settle};
 use ff_net::Machine;
-use std::alloc::{AllocError, Global};
 
 // Settles the link of an end that has finished, where its sender is in the table.
 fn settle_end(table: &mut Vec<Option<Sender>>, end: InEnd)
@@ -112,53 +113,32 @@ fn settle_in<M: Machine + Drop>(
     machines
 }
 
-// A table without a sender, with so many places.
-fn new_table(alloc: Global, links: usize) -> Result<Vec<Option<Sender>>, AllocError>
-    ensures table { IfOk result (λ table. (all : List (List OutEnd)) (links : ℕ → Link) → IsTable all links table.items) }
-    ensures count { IfOk result (λ table. length table.items ≡ links) }
-{
-    let mut table = Vec::new(alloc);
-    for _ in 0..links {
-        table.push(None)?;
-    }
-    Ok(table)
-}
-
-/// Settles the links of nodes that have ended, numbered below so many, and gives their machines in the order of the
-/// nodes. At `Err` there was no memory, and the nodes come back.
+/// Settles the links of nodes that have ended, in a room for at least so many nodes, and gives their machines in the
+/// order of the nodes. It asks for no memory.
 ///
 /// Where no link leads from two nodes or to two, and each that leads to a node leaves an earlier one, what was taken from
 /// a link is the beginning of what was sent over it; so what a node took lies below the solution of the network
 /// (`below`), and with its breaks where no node with a lower number has a fault (`before`); then its own fault of the
 /// inputs is the cause of the solution's streams (`cause`). Where none has a fault, the machine of each node without
 /// outputs was fed the streams of the solution, and they are whole (`settled`).
-pub fn settle_all<M: Machine + Drop>(
-    alloc: Global,
-    nodes: Vec<Linked<M>>,
-    links: usize,
-) -> Result<Vec<M>, Vec<Linked<M>>>
+pub fn settle_all<M: Machine + Drop>(nodes: Vec<Linked<M>>, room: Room<M>) -> Vec<M>
     requires ended { AllEnded nodes.items }
     requires linked { (links : ℕ → Link) × AreLinked links nodes.items }
-    ensures back { IfErr result (λ v. v.items ≡ nodes.items) }
-    ensures count { IfOk result (λ v. length v.items ≡ length nodes.items) }
-    ensures machines { IfOk result (λ v. (k : ℕ) (d : _) (e : _) → k < length nodes.items → slice_index_or v.items k e ≡ machine_of (node_of (slice_index_or nodes.items k d))) }
-    ensures below { IfOk result (λ v. (tasks : ℕ → Task) (lanes : List Lane) → AllBehind M.in_lanes M.out_lanes M.source_of M.fault_of M.stands tasks nodes.items → AreMeeting lanes nodes.items → length lanes ≤ links → IsUpward [] (parts_of M.in_lanes M.out_lanes tasks (nodes_of nodes.items))
-        → (world : ℕ → Wire) × Moment M.in_lanes M.out_lanes M.source_of M.fault_of M.stands tasks (nodes_of nodes.items) lanes world × ((k : ℕ) (d : _) (w : ℕ) → k < length (nodes_of nodes.items) → IsIn w (in_wires_of (slice_index_or (nodes_of nodes.items) k d)) → LiesBelow (opened (world w).taken) (solve (parts_of M.in_lanes M.out_lanes tasks (nodes_of nodes.items)) w))) }
-    ensures before { IfOk result (λ v. (tasks : ℕ → Task) (lanes : List Lane) → AllBehind M.in_lanes M.out_lanes M.source_of M.fault_of M.stands tasks nodes.items → AreMeeting lanes nodes.items → length lanes ≤ links → IsUpward [] (parts_of M.in_lanes M.out_lanes tasks (nodes_of nodes.items))
+    requires unused { IsUnused room }
+    requires fits { length nodes.items ≤ most_nodes room }
+    ensures count { length result.items ≡ length nodes.items }
+    ensures machines { (k : ℕ) (d : _) (e : _) → k < length nodes.items → slice_index_or result.items k e ≡ machine_of (node_of (slice_index_or nodes.items k d)) }
+    ensures below { (tasks : ℕ → Task) (lanes : List Lane) → AllBehind M.in_lanes M.out_lanes M.source_of M.fault_of M.stands tasks nodes.items → AreMeeting lanes nodes.items → length lanes ≤ links_of room → IsUpward [] (parts_of M.in_lanes M.out_lanes tasks (nodes_of nodes.items))
+        → (world : ℕ → Wire) × Moment M.in_lanes M.out_lanes M.source_of M.fault_of M.stands tasks (nodes_of nodes.items) lanes world × ((k : ℕ) (d : _) (w : ℕ) → k < length (nodes_of nodes.items) → IsIn w (in_wires_of (slice_index_or (nodes_of nodes.items) k d)) → LiesBelow (opened (world w).taken) (solve (parts_of M.in_lanes M.out_lanes tasks (nodes_of nodes.items)) w)) }
+    ensures before { (tasks : ℕ → Task) (lanes : List Lane) → AllBehind M.in_lanes M.out_lanes M.source_of M.fault_of M.stands tasks nodes.items → AreMeeting lanes nodes.items → length lanes ≤ links_of room → IsUpward [] (parts_of M.in_lanes M.out_lanes tasks (nodes_of nodes.items))
         → (world : ℕ → Wire) × Moment M.in_lanes M.out_lanes M.source_of M.fault_of M.stands tasks (nodes_of nodes.items) lanes world × ((k : ℕ) (d : _) → k < length (nodes_of nodes.items) → ((j : ℕ) (e : _) → j < k → IsSound M.fault_of (slice_index_or (nodes_of nodes.items) j e))
-        → (w : ℕ) → IsIn w (in_wires_of (slice_index_or (nodes_of nodes.items) k d)) → LiesBelow (world w).taken (solve (parts_of M.in_lanes M.out_lanes tasks (nodes_of nodes.items)) w))) }
-    ensures cause { IfOk result (λ v. (tasks : ℕ → Task) (lanes : List Lane) → AllBehind M.in_lanes M.out_lanes M.source_of M.fault_of M.stands tasks nodes.items → AreMeeting lanes nodes.items → length lanes ≤ links → IsUpward [] (parts_of M.in_lanes M.out_lanes tasks (nodes_of nodes.items))
+        → (w : ℕ) → IsIn w (in_wires_of (slice_index_or (nodes_of nodes.items) k d)) → LiesBelow (world w).taken (solve (parts_of M.in_lanes M.out_lanes tasks (nodes_of nodes.items)) w)) }
+    ensures cause { (tasks : ℕ → Task) (lanes : List Lane) → AllBehind M.in_lanes M.out_lanes M.source_of M.fault_of M.stands tasks nodes.items → AreMeeting lanes nodes.items → length lanes ≤ links_of room → IsUpward [] (parts_of M.in_lanes M.out_lanes tasks (nodes_of nodes.items))
         → (k : ℕ) (d : _) → k < length (nodes_of nodes.items) → ((j : ℕ) (e : _) → j < k → IsSound M.fault_of (slice_index_or (nodes_of nodes.items) j e))
-        → (c : Fault) → M.fault_of (machine_of (slice_index_or (nodes_of nodes.items) k d)) ≡ Some c → IsOfInputs c → (tasks k).cause (map (solve (parts_of M.in_lanes M.out_lanes tasks (nodes_of nodes.items))) (in_wires_of (slice_index_or (nodes_of nodes.items) k d))) ≡ Some c) }
-    ensures settled { IfOk result (λ v. (tasks : ℕ → Task) (lanes : List Lane) → AllBehind M.in_lanes M.out_lanes M.source_of M.fault_of M.stands tasks nodes.items → AreMeeting lanes nodes.items → length lanes ≤ links → IsUpward [] (parts_of M.in_lanes M.out_lanes tasks (nodes_of nodes.items)) → ((k : ℕ) (d : _) → k < length (nodes_of nodes.items) → IsSound M.fault_of (slice_index_or (nodes_of nodes.items) k d))
-        → (k : ℕ) (d : _) → k < length (nodes_of nodes.items) → IsDone (slice_index_or (nodes_of nodes.items) k d) → outputs_of (slice_index_or (nodes_of nodes.items) k d) ≡ 0 → Settled M.stands (tasks k) (parts_of M.in_lanes M.out_lanes tasks (nodes_of nodes.items)) (slice_index_or (nodes_of nodes.items) k d)) }
+        → (c : Fault) → M.fault_of (machine_of (slice_index_or (nodes_of nodes.items) k d)) ≡ Some c → IsOfInputs c → (tasks k).cause (map (solve (parts_of M.in_lanes M.out_lanes tasks (nodes_of nodes.items))) (in_wires_of (slice_index_or (nodes_of nodes.items) k d))) ≡ Some c }
+    ensures settled { (tasks : ℕ → Task) (lanes : List Lane) → AllBehind M.in_lanes M.out_lanes M.source_of M.fault_of M.stands tasks nodes.items → AreMeeting lanes nodes.items → length lanes ≤ links_of room → IsUpward [] (parts_of M.in_lanes M.out_lanes tasks (nodes_of nodes.items)) → ((k : ℕ) (d : _) → k < length (nodes_of nodes.items) → IsSound M.fault_of (slice_index_or (nodes_of nodes.items) k d))
+        → (k : ℕ) (d : _) → k < length (nodes_of nodes.items) → IsDone (slice_index_or (nodes_of nodes.items) k d) → outputs_of (slice_index_or (nodes_of nodes.items) k d) ≡ 0 → Settled M.stands (tasks k) (parts_of M.in_lanes M.out_lanes tasks (nodes_of nodes.items)) (slice_index_or (nodes_of nodes.items) k d) }
 {
-    let Ok(table) = new_table(alloc, links) else {
-        return Err(nodes);
-    };
-    let mut machines = Vec::new(alloc);
-    if machines.reserve(nodes.len()).is_err() {
-        return Err(nodes);
-    }
-    Ok(settle_in(table, nodes, machines))
+    let (table, machines) = room.into_parts();
+    settle_in(table, nodes, machines)
 }
