@@ -5,7 +5,7 @@ ghost use Rattle.ff_link_tests.specs.Packets.{IsWhole};
 use crate::chain::chain;
 use ff_frame::Item;
 use ff_link_tests::is_packet;
-use ff_net_links::{run_threads, settle_all};
+use ff_net_links::{Room, run_threads, settle_all};
 use ff_net_plain::Plain;
 use ff_time::Rational;
 use std::alloc::{AllocError, Global};
@@ -81,11 +81,11 @@ pub fn run_chain<R: Threads + Wait + Sync>(
     let Ok(nodes) = chain(alloc, tb, size, count, limit) else {
         return None;
     };
+    let Ok(room) = Room::new(alloc, nodes.len(), 2) else {
+        return None;
+    };
     let Ok(done) = run_threads(rt, alloc, nodes) else {
         return None;
     };
-    let Ok(machines) = settle_all(alloc, done, 2) else {
-        return None;
-    };
-    outcome_of(machines)
+    outcome_of(settle_all(done, room))
 }
