@@ -1,10 +1,10 @@
 // Nodes over new links. All have two wires, of which wire 0 leads from the source and wire 1 to the sink.
-ghost use Rattle.std.specs.Prelude.{◌≡◌, ◌≤◌, ◌^◌, ◌∷◌, [], ℕ, IfOk};
+ghost use Rattle.std.specs.Prelude.{◌≡◌, ◌≤◌, ◌^◌, ◌∷◌, [], IfOk};
 ghost use Rattle.ff_link_tests.specs.Packets.{IsWhole, byte_lane, byte_packets};
-ghost use Rattle.ff_net_links.specs.Ends.{new_in, new_out};
-ghost use Rattle.ff_net_links_tests.specs.Chains.{IsNewSender, IsNewReceiver, IsNewMachine, AreNewEnds, IsNewNode, sink_task};
 ghost use Rattle.ff_net.specs.Pasts.{Task};
+ghost use Rattle.ff_net_links.specs.Ends.{new_in, new_out};
 ghost use Rattle.ff_net_plain.specs.Starts.{list_task, relay_task};
+ghost use Rattle.ff_net_links_tests.specs.Chains.{IsNewSender, IsNewReceiver, IsNewMachine, AreNewEnds, IsNewNode, sink_task};
 
 use ff_frame::Item;
 use ff_link::{Receiver, Sender};

@@ -1,5 +1,5 @@
 // A run of the chain in threads.
-ghost use Rattle.std.specs.Prelude.{◌≡◌, ◌≤◌, ◌^◌, ◌<◌, ℕ, true, length, slice_index_or, IfSome};
+ghost use Rattle.std.specs.Prelude.{◌≡◌, ◌≤◌, ◌^◌, true, slice_index_or, IfSome};
 ghost use Rattle.ff_link_tests.specs.Packets.{IsWhole};
 ghost use Rattle.ff_net_links_tests.specs.Chains.{AllSound, WasFed};
 
