@@ -1,9 +1,7 @@
 // A source, a relay and a sink, in a chain.
-ghost use Rattle.std.specs.Prelude.{◌≡◌, ◌≤◌, ◌^◌, ℕ, IfOk};
-ghost use Rattle.ff_link.specs.Views.{Link};
+ghost use Rattle.std.specs.Prelude.{◌≡◌, ◌≤◌, ◌^◌, IfOk};
 ghost use Rattle.ff_link_tests.specs.Packets.{IsWhole, byte_lane};
-ghost use Rattle.ff_net_links.specs.Settling.{AreLinked};
-ghost use Rattle.ff_net_links_tests.specs.Chains.{IsNewSender, IsNewReceiver, AllPlainLawful};
+ghost use Rattle.ff_net_links_tests.specs.Chains.{IsNewSender, IsNewReceiver, IsChain, chain_tasks};
 
 use crate::node::{relay_node, sink_node, source_node};
 use ff_link::{Receiver, Sender, link};
@@ -33,8 +31,7 @@ pub fn chain(
     requires base { IsWhole tb }
     requires size { (1 ≤ size) × (size ≤ 1024) }
     requires few { count ≤ 2 ^ 20 }
-    ensures lawful { IfOk result (λ v. AllPlainLawful v.items) }
-    ensures linked { IfOk result (λ v. (links : ℕ → Link) × AreLinked links v.items) }
+    ensures { IfOk result (λ v. IsChain (chain_tasks count limit) (byte_lane tb) v.items) }
 {
     let (first, second) = new_link(alloc, size, tb)?;
     let (third, fourth) = new_link(alloc, size, tb)?;

@@ -1,8 +1,10 @@
 // Nodes over new links. All have two wires, of which wire 0 leads from the source and wire 1 to the sink.
-ghost use Rattle.std.specs.Prelude.{◌≡◌, ◌≤◌, ◌^◌, ◌∷◌, [], ℕ, IfOk};
+ghost use Rattle.std.specs.Prelude.{◌≡◌, ◌≤◌, ◌^◌, ◌∷◌, [], IfOk};
 ghost use Rattle.ff_link_tests.specs.Packets.{IsWhole, byte_lane, byte_packets};
+ghost use Rattle.ff_net.specs.Pasts.{Task};
 ghost use Rattle.ff_net_links.specs.Ends.{new_in, new_out};
-ghost use Rattle.ff_net_links_tests.specs.Chains.{IsNewSender, IsNewReceiver, IsNewMachine, AreNewEnds, IsNewNode};
+ghost use Rattle.ff_net_plain.specs.Starts.{list_task, relay_task};
+ghost use Rattle.ff_net_links_tests.specs.Chains.{IsNewSender, IsNewReceiver, IsNewMachine, AreNewEnds, IsNewNode, sink_task};
 
 use ff_frame::Item;
 use ff_link::{Receiver, Sender};
@@ -39,9 +41,8 @@ fn on_links(
     machine: Plain,
     ports: Ports,
 ) -> Result<Linked<Plain>, AllocError>
-    requires machine { IsNewMachine (byte_lane tb) ports.in_wires.items ports.out_wires.items machine }
     requires ends { AreNewEnds (byte_lane tb) ports.in_wires.items ports.out_wires.items ports.ins.items ports.outs.items }
-    ensures { IfOk result (λ l. IsNewNode ports.ins.items ports.outs.items l) }
+    ensures { IfOk result (λ l. (task : Task) → IsNewMachine task (byte_lane tb) ports.in_wires.items ports.out_wires.items machine → IsNewNode task (byte_lane tb) ports.in_wires.items ports.out_wires.items ports.ins.items ports.outs.items l) }
 {
     let Ports {
         in_wires,
@@ -67,7 +68,7 @@ pub fn source_node(
     requires base { IsWhole tb }
     requires few { count ≤ 2 ^ 20 }
     requires sender { IsNewSender (byte_lane tb) sender }
-    ensures { IfOk result (λ l. IsNewNode [] (new_out 0 sender ∷ []) l) }
+    ensures { IfOk result (λ l. IsNewNode (list_task (byte_packets count)) (byte_lane tb) [] (0 ∷ []) [] (new_out 0 sender ∷ []) l) }
 {
     let items = packets(alloc, count)?;
     let source = Source::new(alloc, lane_of(tb), 0, items, usize::MAX, usize::MAX);
@@ -77,7 +78,8 @@ pub fn source_node(
         ins: Vec::new(alloc),
         outs: vec![in alloc; OutEnd::new(0, sender)]?,
     };
-    on_links(alloc, tb, Plain::Source(source), ports)
+    let node = on_links(alloc, tb, Plain::Source(source), ports)?;
+    Ok(node)
 }
 
 // A relay that ends after so many items.
@@ -90,7 +92,7 @@ pub fn relay_node(
 ) -> Result<Linked<Plain>, AllocError>
     requires receiver { IsNewReceiver (byte_lane tb) receiver }
     requires sender { IsNewSender (byte_lane tb) sender }
-    ensures { IfOk result (λ l. IsNewNode (new_in 0 receiver ∷ []) (new_out 1 sender ∷ []) l) }
+    ensures { IfOk result (λ l. IsNewNode (relay_task limit 1) (byte_lane tb) (0 ∷ []) (1 ∷ []) (new_in 0 receiver ∷ []) (new_out 1 sender ∷ []) l) }
 {
     let relay = Relay::new(alloc, lane_of(tb), 1, limit, usize::MAX)?;
     let ports = Ports {
@@ -99,7 +101,8 @@ pub fn relay_node(
         ins: vec![in alloc; InEnd::new(0, receiver)]?,
         outs: vec![in alloc; OutEnd::new(1, sender)]?,
     };
-    on_links(alloc, tb, Plain::Relay(relay), ports)
+    let node = on_links(alloc, tb, Plain::Relay(relay), ports)?;
+    Ok(node)
 }
 
 // A sink that keeps what comes.
@@ -109,7 +112,7 @@ pub fn sink_node(
     receiver: Receiver,
 ) -> Result<Linked<Plain>, AllocError>
     requires { IsNewReceiver (byte_lane tb) receiver }
-    ensures { IfOk result (λ l. IsNewNode (new_in 1 receiver ∷ []) [] l) }
+    ensures { IfOk result (λ l. IsNewNode sink_task (byte_lane tb) (1 ∷ []) [] (new_in 1 receiver ∷ []) [] l) }
 {
     let sink = Relay::new(alloc, lane_of(tb), 0, usize::MAX, usize::MAX)?;
     let ports = Ports {
@@ -118,5 +121,6 @@ pub fn sink_node(
         ins: vec![in alloc; InEnd::new(1, receiver)]?,
         outs: Vec::new(alloc),
     };
-    on_links(alloc, tb, Plain::Relay(sink), ports)
+    let node = on_links(alloc, tb, Plain::Relay(sink), ports)?;
+    Ok(node)
 }

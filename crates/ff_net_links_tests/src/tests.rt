@@ -17,6 +17,7 @@ fn spent(rt: HostRuntime) -> Result<(), Fail> {
             taken,
             in_order: true,
             ended: true,
+            sound: true,
             ..got
         };
         assert_eq!(rt; got, want, "limit {limit}");
@@ -39,6 +40,7 @@ fn streams(rt: HostRuntime) -> Result<(), Fail> {
             taken: 10_000,
             in_order: true,
             ended: true,
+            sound: true,
         };
         assert_eq!(rt; got, want, "size {size}");
     }
