@@ -84,21 +84,21 @@ reads-header h form is small fits =
     let t9 : Reads (r9 b r form n) (B ++ []) X = reads-then (block_of b) (r10 r form n) B [] h.block X bc.2 t10 in
     let t9' : Reads (r9 b r form n) B X = reads-bits (r9 b r form n) (B ++ []) B X (sym (append-nil B)) t9 in
     let t8 : Reads (r8 0 b r form 0) (shortest n ++ B) X = reads-then (coded_below 0xfe) (r9 b r form) (shortest n) B n X (reads-number n is.number) t9' in
-    let T7 : List Bool = shortest n ++ B in
-    let t7 : Reads (r7 0 b r form d) (bits_of 1 0 ++ T7) X = reads-then (field 1 (equal 0)) (r8 0 b r form) (bits_of 1 0) T7 0 X (reads-field 1 (equal 0) 0 (omega arith) refl) t8 in
-    let T6 : List Bool = bits_of 1 0 ++ T7 in
-    let t6 : Reads (r6 0 b r form) (bits_of 3 d ++ T6) X = reads-then (field 3 (depth_fits s.bits)) (r7 0 b r form) (bits_of 3 d) T6 d X (reads-field 3 (depth_fits s.bits) d (omega (arith, dc.0)) dc.1) t7 in
-    let T5 : List Bool = bits_of 3 d ++ T6 in
-    let t5 : Reads (r5 0 b r) (bits_of 4 form ++ T5) X = reads-then (field 4 (form_fits s.channels)) (r6 0 b r) (bits_of 4 form) T5 form X (reads-field 4 (form_fits s.channels) form (omega (arith, small)) fits) t6 in
-    let T4 : List Bool = bits_of 4 form ++ T5 in
-    let t4 : Reads (r4 0 b) (bits_of 4 r ++ T4) X = reads-then (field 4 (rate_fits s.rate)) (r5 0 b) (bits_of 4 r) T4 r X (reads-field 4 (rate_fits s.rate) r (omega (arith, rc.0)) rc.1) t5 in
-    let T3 : List Bool = bits_of 4 r ++ T4 in
-    let t3 : Reads (r3 0) (bits_of 4 b ++ T3) X = reads-then (field 4 not_zero) (r4 0) (bits_of 4 b) T3 b X (reads-field 4 not_zero b (omega (arith, bc.0)) bc.1) t4 in
-    let T2 : List Bool = bits_of 4 b ++ T3 in
-    let t2 : Reads (r2 sync) (bits_of 1 0 ++ T2) X = reads-then (field 1 any) r3 (bits_of 1 0) T2 0 X (reads-field 1 any 0 (omega arith) refl) t3 in
-    let T1 : List Bool = bits_of 1 0 ++ T2 in
-    let t1 : Reads r1 (bits_of 15 sync ++ T1) X = reads-then (field 15 (equal sync)) r2 (bits_of 15 sync) T1 sync X (reads-field 15 (equal sync) sync (omega arith) refl) t2 in
-    reads-bits r1 (bits_of 15 sync ++ T1) (header_bits h form) X (header_parts h form) t1
+    let tail7 : List Bool = shortest n ++ B in
+    let t7 : Reads (r7 0 b r form d) (bits_of 1 0 ++ tail7) X = reads-then (field 1 (equal 0)) (r8 0 b r form) (bits_of 1 0) tail7 0 X (reads-field 1 (equal 0) 0 (omega arith) refl) t8 in
+    let tail6 : List Bool = bits_of 1 0 ++ tail7 in
+    let t6 : Reads (r6 0 b r form) (bits_of 3 d ++ tail6) X = reads-then (field 3 (depth_fits s.bits)) (r7 0 b r form) (bits_of 3 d) tail6 d X (reads-field 3 (depth_fits s.bits) d (omega (arith, dc.0)) dc.1) t7 in
+    let tail5 : List Bool = bits_of 3 d ++ tail6 in
+    let t5 : Reads (r5 0 b r) (bits_of 4 form ++ tail5) X = reads-then (field 4 (form_fits s.channels)) (r6 0 b r) (bits_of 4 form) tail5 form X (reads-field 4 (form_fits s.channels) form (omega (arith, small)) fits) t6 in
+    let tail4 : List Bool = bits_of 4 form ++ tail5 in
+    let t4 : Reads (r4 0 b) (bits_of 4 r ++ tail4) X = reads-then (field 4 (rate_fits s.rate)) (r5 0 b) (bits_of 4 r) tail4 r X (reads-field 4 (rate_fits s.rate) r (omega (arith, rc.0)) rc.1) t5 in
+    let tail3 : List Bool = bits_of 4 r ++ tail4 in
+    let t3 : Reads (r3 0) (bits_of 4 b ++ tail3) X = reads-then (field 4 not_zero) (r4 0) (bits_of 4 b) tail3 b X (reads-field 4 not_zero b (omega (arith, bc.0)) bc.1) t4 in
+    let tail2 : List Bool = bits_of 4 b ++ tail3 in
+    let t2 : Reads (r2 sync) (bits_of 1 0 ++ tail2) X = reads-then (field 1 any) r3 (bits_of 1 0) tail2 0 X (reads-field 1 any 0 (omega arith) refl) t3 in
+    let tail1 : List Bool = bits_of 1 0 ++ tail2 in
+    let t1 : Reads r1 (bits_of 15 sync ++ tail1) X = reads-then (field 15 (equal sync)) r2 (bits_of 15 sync) tail1 sync X (reads-field 15 (equal sync) sync (omega arith) refl) t2 in
+    reads-bits r1 (bits_of 15 sync ++ tail1) (header_bits h form) X (header_parts h form) t1
 
 -- a value, and the sum of its text
 reads-sum : {A : Type 0} (r : Reader A) (n : ℕ) (sum : List Bool → ℕ) (xs : List Bool) (a : A) → sum xs < 2 ^ n → Reads r xs a
