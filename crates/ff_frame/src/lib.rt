@@ -15,6 +15,7 @@ mod held;
 mod item;
 mod lists;
 mod packet;
+mod totals;
 mod video;
 
 pub use audio::AFrame;
@@ -24,4 +25,5 @@ pub use held::Held;
 pub use item::{Item, Lane, Refused, Ticket};
 pub use lists::{Bytes, Samples};
 pub use packet::Pkt;
+pub use totals::Totals;
 pub use video::{Format, VFrame};
