@@ -1,6 +1,6 @@
 -- What is gathered, and what is due of it.
 use Rattle.std.proofs.Common.{◌≡◌, ◌≢◌, ℕ, zero, suc, ◌+◌, ◌-◌, ◌*◌, ◌/◌, ◌%◌, ◌^◌, ◌<◌, ◌≤◌, ◌⊎◌, inl, inr, min, ℤ, pos, negsuc, ◌+ℤ◌, ◌<ℤ◌, Bool, true, false, List, [], ◌∷◌, ◌++◌, length, take, drop, map, Option, Some, None, refl, sym, ap, ◌∙◌, subst, arith, length-append, append-nil, ⊎_elim}
-use Rattle.std.specs.Prelude.{slice_get}
+use Rattle.std.specs.Prelude.{slice_get, unwrap_or}
 use Rattle.std.specs.List.{All, flat_map, range_with_len}
 use Rattle.std.proofs.lemmas.List.{length-take, length-drop, take_all, drop_all, drop-drop, drop-append-le, nil_from_length}
 use Rattle.std.proofs.lemmas.List.Concat.{flat_map-append}
@@ -117,6 +117,11 @@ count_blocks ended f samples = length-map-range_with_len (block_at f samples) 0 
 
 -- ---- what is kept
 
+-- a frame like those before it has their format
+pub alike : (format : Format) (frame : AFrame) → IsLike (Some format) frame → format_of frame ≡ format
+alike format frame (inl e) = let clash = e in cc
+alike format frame (inr e) = ap (λ (o : Option Format). unwrap_or o format) (sym e)
+
 pub kept_more : (old : Option Format) (frame : AFrame) (waiting new : List ℤ) → Holds old waiting → IsLike old frame → IsAudio frame.bits frame.channels frame.samples → new ≡ waiting ++ frame.samples → IsKept (format_of frame) new
 kept_more None frame waiting new h like a e =
     let same : new ≡ frame.samples = e ∙ ap (λ (xs : List ℤ). xs ++ frame.samples) (nil_from_length waiting h) in record {
@@ -128,7 +133,7 @@ kept_more None frame waiting new h like a e =
       fit = subst (λ (xs : List ℤ). All (FitsBits frame.bits) xs) (sym same) a.within_bits;
     }
 kept_more (Some format) frame waiting new h like a e =
-    let here : IsKept (format_of frame) waiting = subst (λ (g : Format). IsKept g waiting) (sym like) h in
+    let here : IsKept (format_of frame) waiting = subst (λ (g : Format). IsKept g waiting) (sym (alike format frame like)) h in
     let long : length new ≡ length waiting + a.sample_frames * frame.channels = ap length e ∙ (length-append waiting frame.samples ∙ ap (λ n. length waiting + n) a.interleaved) in record {
       some_channels = a.some_channels;
       few_channels = a.few_channels;

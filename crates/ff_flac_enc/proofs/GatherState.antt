@@ -11,7 +11,7 @@ use Rattle.ff_flac_enc.specs.declared.format.Format.{Format}
 use Rattle.ff_flac_enc.specs.declared.blocks.Blocks.{Blocks}
 use Rattle.ff_flac_enc.specs.Gathered.{format_of, full_size, all_samples, count_due, block_at, blocks_due, EndInTime, IsDue, IsKept, Holds}
 use Rattle.ff_flac_enc.specs.Cuts.{Cuts, Goes, IsLike}
-use Rattle.ff_flac_enc.proofs.GatherLemmas.{within_open, takes, none_with, get_block, count_blocks}
+use Rattle.ff_flac_enc.proofs.GatherLemmas.{alike, within_open, takes, none_with, get_block, count_blocks}
 
 -- with a frame of this format there is a channel
 some_size : (old : Blocks) (f : AFrame) (samples : List ℤ) (n : ℕ) → Goes old f samples n → 0 < full_size f.channels
@@ -41,9 +41,9 @@ more_goes : (old new : Blocks) (f frame : AFrame) (samples : List ℤ) (n : ℕ)
 more_goes old new f frame samples n g going like fo en wa some =
     let size = full_size f.channels in
     let given : n ≤ count_due size false (length samples) = subst (λ (b : Bool). n ≤ count_due size b (length samples)) going g.given in
-    let alike : format_of frame ≡ format_of f = subst (λ (o : Option Format). IsLike o frame) g.format_is like in
+    let same : format_of frame ≡ format_of f = alike (format_of f) frame (subst (λ (o : Option Format). IsLike o frame) g.format_is like) in
     let longer : length samples ≤ length (samples ++ frame.samples) = omega (arith, length-append samples frame.samples) in record {
-      format_is = fo ∙ ap Some alike;
+      format_is = fo ∙ ap Some same;
       time = some (format_of f) g.format_is ∙ g.time;
       kept = wa ∙ (ap (λ (xs : List ℤ). xs ++ frame.samples) g.kept ∙ sym (drop-append-le (n * size) samples frame.samples (within_open size (length samples) n given)));
       given = subst (λ (b : Bool). n ≤ count_due size b (length (samples ++ frame.samples))) (sym (en ∙ going)) (open_more size (length samples) (length (samples ++ frame.samples)) n (some_size old f samples n g) given longer);

@@ -1,5 +1,5 @@
 -- What was gathered doesn't keep what it was fed and gave: it is tied to it.
-use Rattle.std.specs.Prelude.{◌≡◌, ℕ, ℤ, pos, ◌+◌, ◌*◌, ◌≤◌, ◌+ℤ◌, Bool, List, [], ◌∷◌, length, drop, Option, Some, None}
+use Rattle.std.specs.Prelude.{◌≡◌, ℕ, ℤ, pos, ◌+◌, ◌*◌, ◌≤◌, ◌⊎◌, ◌+ℤ◌, Bool, List, [], ◌∷◌, length, drop, Option, Some, None}
 use Rattle.ff_frame.specs.declared.audio.AFrame.{AFrame}
 use Rattle.ff_flac_enc.specs.declared.format.Format.{Format}
 use Rattle.ff_flac_enc.specs.declared.blocks.Blocks.{Blocks}
@@ -13,10 +13,9 @@ has_ended blocks = blocks.ended
 abbrev pub format_in : Blocks → Option Format
 format_in blocks = blocks.format
 
--- the frame has it too
+-- the frame has it too, or is the first
 abbrev pub IsLike : Option Format → AFrame → Type 0
-IsLike None frame = Unit {0}
-IsLike (Some format) frame = format_of frame ≡ format
+IsLike format frame = (format ≡ None) ⊎ (format ≡ Some (format_of frame))
 
 -- of frames from f on n blocks were given, and the samples behind them wait
 pub record Goes (blocks : Blocks) (f : AFrame) (samples : List ℤ) (n : ℕ) : Type 0 where

@@ -22,4 +22,10 @@ pub use frame::encode_block;
 pub use laws::least_is_the_first_of_the_shortest;
 
 #[cfg(test)]
+mod blocks_tests;
+#[cfg(test)]
+mod counter_tests;
+#[cfg(test)]
+mod meet_tests;
+#[cfg(test)]
 mod tests;

@@ -32,7 +32,7 @@ fn all_fit(samples: &[i32], bits: u8) -> bool
 }
 
 // The block of these samples, if it is one.
-fn block(rate: u32, bits: u8, channels: u8, samples: Vec<i32>) -> Option<AFrame>
+pub(crate) fn block(rate: u32, bits: u8, channels: u8, samples: Vec<i32>) -> Option<AFrame>
     ensures { IfSome result IsBlock }
 {
     if rate >= 1048576 || bits < 4 || bits > 24 || channels < 1 || channels > 8 {
@@ -157,7 +157,7 @@ fn centred(value: u32, half: u32) -> i32
     value as i32 - half as i32
 }
 
-fn made(
+pub(crate) fn made(
     alloc: Global,
     bits: u8,
     channels: u32,
