@@ -1,25 +1,22 @@
 -- What is gathered, and what is due of it.
-use Rattle.std.proofs.Common.{◌≡◌, ◌≢◌, ℕ, zero, suc, ◌+◌, ◌-◌, ◌*◌, ◌/◌, ◌%◌, ◌^◌, ◌<◌, ◌≤◌, ◌⊎◌, inl, inr, min, ℤ, pos, negsuc, ◌+ℤ◌, ◌<ℤ◌, Bool, true, false, List, [], ◌∷◌, ◌++◌, length, take, drop, map, Option, Some, None, refl, sym, ap, ◌∙◌, subst, arith, length-append, append-nil, ⊎_elim}
+use Rattle.std.proofs.Common.{◌≡◌, ◌≢◌, ℕ, zero, suc, ◌+◌, ◌-◌, ◌*◌, ◌/◌, ◌%◌, ◌<◌, ◌≤◌, inl, inr, ℤ, Bool, true, false, List, ◌++◌, length, take, drop, map, Option, Some, None, refl, sym, ap, ◌∙◌, subst, arith, length-append}
 use Rattle.std.specs.Prelude.{slice_get, unwrap_or}
-use Rattle.std.specs.List.{All, flat_map, range_with_len}
-use Rattle.std.proofs.lemmas.List.{length-take, length-drop, take_all, drop_all, drop-drop, drop-append-le, nil_from_length}
-use Rattle.std.proofs.lemmas.List.Concat.{flat_map-append}
+use Rattle.std.specs.List.{All, range_with_len}
+use Rattle.std.proofs.lemmas.List.{length-take, length-drop, take_all, drop_all, drop-drop, nil_from_length}
 use Rattle.std.proofs.lemmas.List.Elements.{All-append, All-take, All-drop}
 use Rattle.std.proofs.lemmas.List.FromFn.{length-map-range_with_len}
 use Rattle.std.proofs.lemmas.Nat.{le-div, div_below}
 use Rattle.std.proofs.Math.Nat.{div-mul-le_self, mul-le-mul_right, add-mul-mod_self_right, mul-mod_left, div-add-mod'}
 use Rattle.ff_frame.specs.Audio.{FitsBits, IsAudio}
-use Rattle.ff_frame.specs.Frame.{audio_frame}
 use Rattle.ff_frame.specs.declared.audio.AFrame.{AFrame}
 use Rattle.ff_flac_enc.specs.declared.format.Format.{Format}
-use Rattle.ff_flac_enc.specs.declared.blocks.Blocks.{Blocks}
-use Rattle.ff_flac_enc.specs.Gathered.{format_of, full_size, all_samples, count_due, block_at, blocks_from, blocks_due, EndInTime, IsDue, IsKept, Holds}
-use Rattle.ff_flac_enc.specs.Cuts.{Cuts, Goes, IsLike}
+use Rattle.ff_flac_enc.specs.Gathered.{format_of, full_size, count_due, block_at, blocks_from, IsDue, IsKept, Holds}
+use Rattle.ff_flac_enc.specs.Cuts.{IsLike}
 
 -- ---- how many blocks are due
 
 -- a block that is full is due
-full_due : (size : ℕ) (ended : Bool) (len n : ℕ) → 0 < size → n * size + size ≤ len → n < count_due size ended len
+pub full_due : (size : ℕ) (ended : Bool) (len n : ℕ) → 0 < size → n * size + size ≤ len → n < count_due size ended len
 full_due size true len n some le =
     let e : (n + 1) * size ≤ len + (size - 1) = omega (arith, le) in
     let h = le-div (n + 1) (len + (size - 1)) size some e in omega (arith, h)

@@ -1,5 +1,5 @@
 -- What was gathered, tied to what it was fed and gave.
-use Rattle.std.proofs.Common.{◌≡◌, ◌≢◌, ℕ, zero, suc, ◌+◌, ◌-◌, ◌*◌, ◌/◌, ◌^◌, ◌<◌, ◌≤◌, ℤ, pos, ◌+ℤ◌, ◌<ℤ◌, Bool, true, false, List, [], ◌∷◌, ◌++◌, length, take, drop, Option, Some, None, refl, sym, ap, ◌∙◌, subst, arith, length-append, append-nil}
+use Rattle.std.proofs.Common.{◌≡◌, ◌≢◌, ℕ, ◌+◌, ◌-◌, ◌*◌, ◌/◌, ◌^◌, ◌<◌, ◌≤◌, ℤ, pos, ◌+ℤ◌, ◌<ℤ◌, Bool, true, false, List, [], ◌∷◌, ◌++◌, length, take, drop, Option, Some, None, refl, sym, ap, ◌∙◌, subst, arith, length-append, append-nil}
 use Rattle.std.specs.Prelude.{slice_get, unwrap_or}
 use Rattle.std.proofs.lemmas.Int.{ints}
 use Rattle.std.proofs.lemmas.List.{drop-append-le}
@@ -88,7 +88,7 @@ time_fits p q n len ch e lt some inside =
     let a : (4096 * n) * ch ≤ len = omega (arith, inside) in
     let h = le-div (4096 * n) len ch some a in omega (arith, ints, e, lt, h)
 
-block_is : (f : AFrame) (samples : List ℤ) (n : ℕ) → block_at f samples n ≡ audio_frame (f.pts +ℤ pos (4096 * n)) f.rate f.bits f.channels (take (full_size f.channels) (drop (n * full_size f.channels) samples))
+pub block_is : (f : AFrame) (samples : List ℤ) (n : ℕ) → block_at f samples n ≡ audio_frame (f.pts +ℤ pos (4096 * n)) f.rate f.bits f.channels (take (full_size f.channels) (drop (n * full_size f.channels) samples))
 unfolding block_at
 block_is f samples n = refl
 

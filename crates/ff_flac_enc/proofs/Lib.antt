@@ -9,3 +9,4 @@ pub mod Codes
 mod TotalLemmas
 mod GatherLemmas
 mod GatherState
+mod GatherLaws

@@ -6,6 +6,7 @@
 
 mod at_once;
 mod blocks;
+mod blocks_laws;
 mod counter;
 mod format;
 mod frame;
@@ -17,6 +18,7 @@ mod waiting;
 
 pub use at_once::{Gate, NoGate, encode_blocks};
 pub use blocks::Blocks;
+pub use blocks_laws::{blocks_have_all_samples, blocks_stay, frames_of_a_valid_stream_can_be_fed};
 pub use counter::Counter;
 pub use frame::encode_block;
 pub use laws::least_is_the_first_of_the_shortest;

@@ -1,4 +1,4 @@
-use Rattle.std.proofs.Common.{◌≡◌, ◌+◌, ◌*◌, ◌/◌, ℕ, ℤ, List, sym, ap, ◌∙◌, subst}
+use Rattle.std.proofs.Common.{◌+◌, ◌*◌, ◌/◌, ℕ, ℤ, List, sym, subst}
 use Rattle.std.specs.List.{All}
 use Rattle.ff_frame.specs.Audio.{FitsBits}
 use Rattle.ff_flac_enc.proofs.TotalLemmas.{all_wider}

@@ -1,4 +1,4 @@
-use Rattle.std.proofs.Common.{rules, ◌≡◌, ◌++◌, ℤ, List, Some, None, refl, sym, ap, ◌∙◌, subst, FitsSigned, w64}
+use Rattle.std.proofs.Common.{rules, ◌≡◌, ◌++◌, Some, refl, sym, ap, ◌∙◌, subst, FitsSigned, w64}
 use Rattle.std.proofs.lemmas.Int.{to_z-of_z}
 use Rattle.ff_flac_enc.specs.declared.format.Format.{Format}
 use Rattle.ff_flac_enc.specs.Gathered.{IsKept}

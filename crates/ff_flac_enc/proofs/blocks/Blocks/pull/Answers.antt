@@ -1,10 +1,10 @@
-use Rattle.std.proofs.Common.{rules, ◌≡◌, ◌≢◌, ◌*◌, ◌^◌, ◌+ℤ◌, ◌<ℤ◌, pos, ℕ, ℤ, List, Option, Some, refl, sym, ap, ◌∙◌, subst, arith, take, FitsSigned, w64}
+use Rattle.std.proofs.Common.{rules, ◌≡◌, ◌*◌, ◌^◌, ◌+ℤ◌, ◌<ℤ◌, pos, ℤ, List, Option, refl, sym, ap, ◌∙◌, subst, take, FitsSigned, w64}
 use Rattle.std.proofs.lemmas.Int.{to_z-of_z}
 use Rattle.ff_frame.specs.declared.audio.AFrame.{AFrame}
 use Rattle.ff_frame.specs.Audio.{IsAudio}
 use Rattle.ff_frame.specs.Frame.{audio_frame}
 use Rattle.ff_flac_enc.specs.declared.format.Format.{Format}
-use Rattle.ff_flac_enc.specs.Gathered.{Holds, IsKept, full_size}
+use Rattle.ff_flac_enc.specs.Gathered.{Holds, IsKept}
 use Rattle.ff_flac_enc.proofs.GatherLemmas.{kept_less, block_sound}
 use Rattle.ff_flac_enc.proofs.GatherState.{gives, none_due, some_due, due_as}
 use Rattle.ff_flac_enc.proofs.blocks.Blocks.pull.Goals as goal

@@ -1,4 +1,4 @@
-use Rattle.std.proofs.Common.{◌≡◌, ◌+◌, ◌/◌, ◌++◌, ℕ, List, length, refl, sym, ap, ◌∙◌, subst}
+use Rattle.std.proofs.Common.{◌+◌, ◌/◌, ◌++◌, ℕ, List, length, refl, ap, ◌∙◌, subst}
 use Rattle.md5.specs.Md5.{Holds}
 use Rattle.ff_flac_enc.specs.Totals.{frames_bytes}
 use Rattle.ff_flac_enc.proofs.TotalLemmas.{counts_push}

@@ -1,0 +1,31 @@
+//! What the definitions of blocks keep. Each function does nothing, and its contract is the law.
+
+ghost use Rattle.std.specs.Prelude.{◌≡◌, ◌≤◌, ℕ, List, [], ◌∷◌, ◌++◌, Some, true, false, Bool, map, slice_get};
+ghost use Rattle.ff_time.specs.Fraction.{IsBase};
+ghost use Rattle.ff_frame.specs.declared.audio.AFrame.{AFrame};
+ghost use Rattle.ff_frame.specs.declared.head.StreamHead.{StreamHead};
+ghost use Rattle.ff_frame.specs.declared.item.Item.TheVariants.{Audio};
+ghost use Rattle.ff_frame.specs.declared.item.Lane.TheVariants.{Frames};
+ghost use Rattle.ff_frame.specs.Audio.{IsAudio};
+ghost use Rattle.ff_frame.specs.Lanes.{IsValid, base_of_head};
+ghost use Rattle.ff_frame.specs.Stream.{Mark};
+ghost use Rattle.ff_flac_enc.specs.declared.blocks.Blocks.{Blocks};
+ghost use Rattle.ff_flac_enc.specs.Gathered.{EndInTime, all_samples, blocks_due};
+ghost use Rattle.ff_flac_enc.specs.Cuts.{Cuts, IsLike, format_in};
+
+/// Whatever keeps the stream of the frames fed valid for a lane of frames can be fed, and their samples end in time.
+pub fn frames_of_a_valid_stream_can_be_fed()
+    ensures { (blocks : Blocks) (fed : List AFrame) (n : ℕ) (frame : AFrame) (head : StreamHead) (mark : Mark) → Cuts blocks fed n → IsBase (base_of_head head)
+        → IsValid (Frames head) (record { items = map Audio (fed ++ frame ∷ []); mark = mark })
+        → IsAudio frame.bits frame.channels frame.samples × IsLike (format_in blocks) frame × EndInTime (fed ++ frame ∷ []) }
+{}
+
+/// The blocks of all frames have the samples of the frames, in order.
+pub fn blocks_have_all_samples()
+    ensures { (f : AFrame) (fs : List AFrame) → 1 ≤ f.channels → all_samples (blocks_due true (f ∷ fs)) ≡ all_samples (f ∷ fs) }
+{}
+
+/// A block that is due stays, whatever comes.
+pub fn blocks_stay()
+    ensures { (f : AFrame) (fs more : List AFrame) (ended : Bool) (n : ℕ) (b : AFrame) → 1 ≤ f.channels → slice_get (blocks_due false (f ∷ fs)) n ≡ Some b → slice_get (blocks_due ended ((f ∷ fs) ++ more)) n ≡ Some b }
+{}
