@@ -163,3 +163,25 @@ fn counted(rt: HostRuntime) -> Result<(), Fail> {
     }
     Ok(())
 }
+
+// One sample of 8 bits: the digest is that of the letter a (RFC 1321, the test suite).
+#[test]
+fn one_sample(rt: HostRuntime) -> Result<(), Fail> {
+    let alloc = rt.alloc();
+    let mut counter = Counter::new(alloc);
+    match block(8000, 8, 1, Vec::from_slice(alloc, &[97])?) {
+        Some(frame) => add(&mut counter, &frame, 11)?,
+        None => return Err("a frame".into()),
+    }
+    let wanted = totals(
+        11,
+        11,
+        1,
+        [
+            0x0c, 0xc1, 0x75, 0xb9, 0xc0, 0xf1, 0xb6, 0xa8, 0x31, 0xc3, 0x99, 0xe2, 0x69, 0x77,
+            0x26, 0x61,
+        ],
+    );
+    assert_eq!(rt; counter.totals(), wanted);
+    Ok(())
+}

@@ -2,6 +2,9 @@
 //!
 //! `specs/Layout` lists the ways to write the subframes of a frame, in the order of ties; `specs/Head` says what stands
 //! before and behind them. `encode_block` writes the first of the shortest.
+//!
+//! `Blocks` gathers the samples of frames in blocks (`specs/Gathered`, `specs/Cuts`), and `Counter` what the header of a
+//! stream tells of its frames (`specs/Totals`).
 #![tactic(auto)]
 
 mod at_once;
@@ -20,6 +23,7 @@ pub use at_once::{Gate, NoGate, encode_blocks};
 pub use blocks::Blocks;
 pub use blocks_laws::{blocks_have_all_samples, blocks_stay, frames_of_a_valid_stream_can_be_fed};
 pub use counter::Counter;
+pub use format::Format;
 pub use frame::encode_block;
 pub use laws::least_is_the_first_of_the_shortest;
 
