@@ -1,9 +1,9 @@
 -- What the definitions of blocks keep.
-use Rattle.std.proofs.Common.{◌≡◌, ℕ, zero, suc, ◌+◌, ◌-◌, ◌*◌, ◌/◌, ◌^◌, ◌<◌, ◌≤◌, inl, inr, ℤ, pos, negsuc, ◌+ℤ◌, ◌<ℤ◌, ◌≤ℤ◌, Bool, true, false, List, [], ◌∷◌, ◌++◌, length, take, drop, map, Some, sym, ap, ◌∙◌, subst, arith, length-append, append-nil}
+use Rattle.std.proofs.Common.{◌≡◌, ℕ, zero, suc, ◌+◌, ◌-◌, ◌*◌, ◌/◌, ◌^◌, ◌<◌, ◌≤◌, inl, inr, ℤ, pos, negsuc, ◌+ℤ◌, ◌<ℤ◌, ◌≤ℤ◌, Bool, true, false, List, [], ◌∷◌, ◌++◌, length, take, drop, map, Some, refl, sym, ap, ◌∙◌, subst, arith, length-append, append-nil}
 use Rattle.std.specs.Prelude.{slice_get, slice_index_or}
 use Rattle.std.specs.List.{All, range_with_len}
 use Rattle.std.proofs.lemmas.Int.{ints}
-use Rattle.std.proofs.lemmas.List.{take_all, take-take, drop-take, take-append-drop, take-append-le, drop-append-le, drop-drop, length-drop}
+use Rattle.std.proofs.lemmas.List.{map-append, take-map, drop-map, length-map, take_all, take-take, drop-take, take-append-drop, take-append-le, drop-append-le, drop-drop, length-drop}
 use Rattle.std.proofs.lemmas.List.Concat.{flat_map-append}
 use Rattle.std.proofs.lemmas.List.Elements.{All-head, All-tail}
 use Rattle.std.proofs.lemmas.Option.{slice_get_within}
@@ -21,7 +21,7 @@ use Rattle.ff_frame.specs.declared.item.Item.{Item}
 use Rattle.ff_frame.specs.declared.item.Item.TheVariants.{Audio}
 use Rattle.ff_frame.specs.declared.item.Lane.TheVariants.{Frames}
 use Rattle.ff_flac_enc.specs.declared.blocks.Blocks.{Blocks}
-use Rattle.ff_flac_enc.specs.Gathered.{format_of, full_size, all_samples, count_due, block_at, blocks_due, EndInTime}
+use Rattle.ff_flac_enc.specs.Gathered.{changed, format_of, full_size, all_samples, count_due, block_at, blocks_due, EndInTime}
 use Rattle.ff_flac_enc.specs.Cuts.{Cuts, IsLike}
 use Rattle.ff_flac_enc.proofs.GatherLemmas.{within_open, full_due, get_block, count_blocks}
 use Rattle.ff_flac_enc.proofs.GatherState.{block_is}
@@ -147,3 +147,31 @@ pub can_be_fed : (blocks : Blocks) (fed : List AFrame) (n : ℕ) (frame : AFrame
     → IsAudio frame.bits frame.channels frame.samples × IsLike blocks.format frame × EndInTime (fed ++ frame ∷ [])
 can_be_fed blocks fed n frame head mark c base v =
     (sound_of head frame (all_end (IsItemFor (Frames head)) fed frame v.shape.each).fits, like_of head blocks fed n frame c v.shape.each, in_time head mark (fed ++ frame ∷ []) base v)
+
+-- ---- frames whose samples were changed
+
+changed_samples : (bits : ℕ) (h : ℤ → ℤ) (fs : List AFrame) → all_samples (map (changed bits h) fs) ≡ map h (all_samples fs)
+changed_samples bits h [] = refl
+changed_samples bits h (f ∷ fs) = ap (λ (xs : List ℤ). map h f.samples ++ xs) (changed_samples bits h fs) ∙ sym (map-append h f.samples (all_samples fs))
+
+changed_block : (bits : ℕ) (h : ℤ → ℤ) (f : AFrame) (samples : List ℤ) (k : ℕ) → block_at (changed bits h f) (map h samples) k ≡ changed bits h (block_at f samples k)
+changed_block bits h f samples k =
+    let size = full_size f.channels in
+    let cut : take size (drop (k * size) (map h samples)) ≡ map h (take size (drop (k * size) samples)) = ap (take size) (drop-map h (k * size) samples) ∙ take-map h size (drop (k * size) samples) in
+    block_is (changed bits h f) (map h samples) k
+    ∙ (ap (λ (xs : List ℤ). audio_frame (f.pts +ℤ pos (4096 * k)) f.rate bits f.channels xs) cut ∙ sym (ap (changed bits h) (block_is f samples k)))
+
+changed_blocks : (bits : ℕ) (h : ℤ → ℤ) (f : AFrame) (samples : List ℤ) (a c : ℕ) → map (block_at (changed bits h f) (map h samples)) (range_with_len a c) ≡ map (changed bits h) (map (block_at f samples) (range_with_len a c))
+changed_blocks bits h f samples a zero = refl
+changed_blocks bits h f samples a (suc c) =
+    ap (λ (b : AFrame). b ∷ map (block_at (changed bits h f) (map h samples)) (range_with_len (a + 1) c)) (changed_block bits h f samples a)
+    ∙ ap (λ (bs : List AFrame). changed bits h (block_at f samples a) ∷ bs) (changed_blocks bits h f samples (a + 1) c)
+
+pub changed_due : (bits : ℕ) (h : ℤ → ℤ) (ended : Bool) (fed : List AFrame) → blocks_due ended (map (changed bits h) fed) ≡ map (changed bits h) (blocks_due ended fed)
+changed_due bits h ended [] = refl
+changed_due bits h ended (f ∷ fs) =
+    let size = full_size f.channels in
+    let samples = all_samples (f ∷ fs) in
+    ap (λ (xs : List ℤ). map (block_at (changed bits h f) xs) (range_with_len 0 (count_due size ended (length xs)))) (changed_samples bits h (f ∷ fs))
+    ∙ (ap (λ n. map (block_at (changed bits h f) (map h samples)) (range_with_len 0 (count_due size ended n))) (length-map samples h)
+    ∙ changed_blocks bits h f samples 0 (count_due size ended (length samples)))

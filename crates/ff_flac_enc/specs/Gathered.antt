@@ -44,6 +44,10 @@ abbrev pub EndInTime : List AFrame → Type 0
 EndInTime [] = Unit {0}
 EndInTime (f ∷ fs) = (f.pts +ℤ pos (length (all_samples (f ∷ fs)) / f.channels)) <ℤ pos (2 ^ 62)
 
+-- a frame with each of its samples changed, and their bits
+abbrev pub changed : ℕ → (ℤ → ℤ) → AFrame → AFrame
+changed bits h f = audio_frame f.pts f.rate bits f.channels (map h f.samples)
+
 -- how many of the samples that wait are the next block: a full one, or the rest where all came, or none yet
 abbrev pub IsDue : Bool → ℕ → ℕ → ℕ → Type 0
 IsDue ended full waiting count =

@@ -1,6 +1,6 @@
 //! What the definitions of blocks keep. Each function does nothing, and its contract is the law.
 
-ghost use Rattle.std.specs.Prelude.{◌≡◌, ◌≤◌, ℕ, List, [], ◌∷◌, ◌++◌, Some, true, false, Bool, map, slice_get};
+ghost use Rattle.std.specs.Prelude.{◌≡◌, ◌≤◌, ℕ, List, [], ◌∷◌, ◌++◌, Some, true, false, Bool, map, slice_get, ℤ};
 ghost use Rattle.ff_time.specs.Fraction.{IsBase};
 ghost use Rattle.ff_frame.specs.declared.audio.AFrame.{AFrame};
 ghost use Rattle.ff_frame.specs.declared.head.StreamHead.{StreamHead};
@@ -10,7 +10,7 @@ ghost use Rattle.ff_frame.specs.Audio.{IsAudio};
 ghost use Rattle.ff_frame.specs.Lanes.{IsValid, base_of_head};
 ghost use Rattle.ff_frame.specs.Stream.{Mark};
 ghost use Rattle.ff_flac_enc.specs.declared.blocks.Blocks.{Blocks};
-ghost use Rattle.ff_flac_enc.specs.Gathered.{EndInTime, all_samples, blocks_due};
+ghost use Rattle.ff_flac_enc.specs.Gathered.{EndInTime, all_samples, blocks_due, changed};
 ghost use Rattle.ff_flac_enc.specs.Cuts.{Cuts, IsLike, format_in};
 
 /// Whatever keeps the stream of the frames fed valid for a lane of frames can be fed, and their samples end in time.
@@ -28,4 +28,9 @@ pub fn blocks_have_all_samples()
 /// A block that is due stays, whatever comes.
 pub fn blocks_stay()
     ensures { (f : AFrame) (fs more : List AFrame) (ended : Bool) (n : ℕ) (b : AFrame) → 1 ≤ f.channels → slice_get (blocks_due false (f ∷ fs)) n ≡ Some b → slice_get (blocks_due ended ((f ∷ fs) ++ more)) n ≡ Some b }
+{}
+
+/// Frames whose samples were changed one by one, as to another depth, have the blocks changed so.
+pub fn blocks_of_changed_samples()
+    ensures { (bits : ℕ) (h : ℤ → ℤ) (ended : Bool) (fed : List AFrame) → blocks_due ended (map (changed bits h) fed) ≡ map (changed bits h) (blocks_due ended fed) }
 {}

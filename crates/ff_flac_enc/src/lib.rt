@@ -21,7 +21,10 @@ mod waiting;
 
 pub use at_once::{Gate, NoGate, encode_blocks};
 pub use blocks::Blocks;
-pub use blocks_laws::{blocks_have_all_samples, blocks_stay, frames_of_a_valid_stream_can_be_fed};
+pub use blocks_laws::{
+    blocks_have_all_samples, blocks_of_changed_samples, blocks_stay,
+    frames_of_a_valid_stream_can_be_fed,
+};
 pub use counter::Counter;
 pub use format::Format;
 pub use frame::encode_block;
