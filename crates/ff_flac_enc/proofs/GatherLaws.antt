@@ -1,13 +1,14 @@
 -- What the definitions of blocks keep.
 use Rattle.std.proofs.Common.{◌≡◌, ℕ, zero, suc, ◌+◌, ◌-◌, ◌*◌, ◌/◌, ◌^◌, ◌<◌, ◌≤◌, inl, inr, ℤ, pos, negsuc, ◌+ℤ◌, ◌<ℤ◌, ◌≤ℤ◌, Bool, true, false, List, [], ◌∷◌, ◌++◌, length, take, drop, map, Some, refl, sym, ap, ◌∙◌, subst, arith, length-append, append-nil}
-use Rattle.std.specs.Prelude.{slice_get, slice_index_or}
+use Rattle.std.specs.Prelude.{slice_index_or}
 use Rattle.std.specs.List.{All, range_with_len}
 use Rattle.std.proofs.lemmas.Int.{ints}
 use Rattle.std.proofs.lemmas.List.{map-append, take-map, drop-map, length-map, take_all, take-take, drop-take, take-append-drop, take-append-le, drop-append-le, drop-drop, length-drop}
 use Rattle.std.proofs.lemmas.List.Concat.{flat_map-append}
 use Rattle.std.proofs.lemmas.List.Elements.{All-head, All-tail}
-use Rattle.std.proofs.lemmas.Option.{slice_get_within}
-use Rattle.std.proofs.Math.Nat.{lt-div-mul-add, mul-add-div_right, mul-div_cancel, le-mul_of_pos_right}
+use Rattle.std.proofs.lemmas.Nat.{le-div}
+use Rattle.std.proofs.Math.Nat.{mul-le-mul_right, lt-div-mul-add, mul-add-div_right, mul-div_cancel, le-mul_of_pos_right}
+use mathlib.Core.List.{IsPrefix}
 use Rattle.ff_time.specs.Fraction.{IsBase}
 use Rattle.ff_frame.specs.Audio.{IsAudio}
 use Rattle.ff_frame.specs.Frame.{audio_frame}
@@ -23,7 +24,7 @@ use Rattle.ff_frame.specs.declared.item.Lane.TheVariants.{Frames}
 use Rattle.ff_flac_enc.specs.declared.blocks.Blocks.{Blocks}
 use Rattle.ff_flac_enc.specs.Gathered.{changed, format_of, full_size, all_samples, count_due, block_at, blocks_due, EndInTime}
 use Rattle.ff_flac_enc.specs.Cuts.{Cuts, IsLike}
-use Rattle.ff_flac_enc.proofs.GatherLemmas.{within_open, full_due, get_block, count_blocks}
+use Rattle.ff_flac_enc.proofs.GatherLemmas.{within_open}
 use Rattle.ff_flac_enc.proofs.GatherState.{block_is}
 
 -- ---- all samples
@@ -67,20 +68,50 @@ same_block f xs ys n le =
     let cut : take size (drop (n * size) (xs ++ ys)) ≡ take size (drop (n * size) xs) = ap (take size) (drop-append-le (n * size) xs ys inside) ∙ take-append-le size (drop (n * size) xs) ys (omega (arith, long, le)) in
     block_is f (xs ++ ys) n ∙ (ap (λ (zs : List ℤ). audio_frame (f.pts +ℤ pos (4096 * n)) f.rate f.bits f.channels zs) cut ∙ sym (block_is f xs n))
 
-pub stays : (f : AFrame) (fs more : List AFrame) (ended : Bool) (n : ℕ) (b : AFrame) → 1 ≤ f.channels → slice_get (blocks_due false (f ∷ fs)) n ≡ Some b → slice_get (blocks_due ended ((f ∷ fs) ++ more)) n ≡ Some b
-stays f fs more ended n b some e =
+same_blocks : (f : AFrame) (xs ys : List ℤ) (a c : ℕ) → (a + c) * full_size f.channels ≤ length xs → map (block_at f (xs ++ ys)) (range_with_len a c) ≡ map (block_at f xs) (range_with_len a c)
+same_blocks f xs ys a zero le = refl
+same_blocks f xs ys a (suc c) le =
+    let size = full_size f.channels in
+    let first : a * size + size ≤ (a + suc c) * size = let e : a + 1 ≤ a + suc c = omega arith in let m = mul-le-mul_right size e in omega (arith, m) in
+    let next : (a + 1) + c ≡ a + suc c = omega arith in
+    ap (λ (b : AFrame). b ∷ map (block_at f (xs ++ ys)) (range_with_len (a + 1) c)) (same_block f xs ys a (omega (arith, first, le)))
+    ∙ ap (λ (bs : List AFrame). block_at f xs a ∷ bs) (same_blocks f xs ys (a + 1) c (subst (λ n. n * size ≤ length xs) (sym next) le))
+
+split_range : (g : ℕ → AFrame) (a c d : ℕ) → map g (range_with_len a (c + d)) ≡ map g (range_with_len a c) ++ map g (range_with_len (a + c) d)
+split_range g a zero d =
+    let e : zero + d ≡ d = omega arith in
+    let z : a + zero ≡ a = omega arith in
+    ap (λ n. map g (range_with_len a n)) e ∙ sym (ap (λ n. map g (range_with_len n d)) z)
+split_range g a (suc c) d =
+    let e : suc c + d ≡ suc (c + d) = omega arith in
+    let z : (a + 1) + c ≡ a + suc c = omega arith in
+    ap (λ n. map g (range_with_len a n)) e
+    ∙ (ap (λ (bs : List AFrame). g a ∷ bs) (split_range g (a + 1) c d) ∙ ap (λ n. g a ∷ (map g (range_with_len (a + 1) c) ++ map g (range_with_len n d))) z)
+
+more_due : (size : ℕ) (ended : Bool) (a b : ℕ) → 0 < size → a ≤ b → count_due size false a ≤ count_due size ended b
+more_due size true a b some le = let w = within_open size a (count_due size false a) (omega arith) in le-div (count_due size false a) (b + (size - 1)) size some (omega (arith, w, le))
+more_due size false a b some le = let w = within_open size a (count_due size false a) (omega arith) in le-div (count_due size false a) b size some (omega (arith, w, le))
+
+pub stays : (f : AFrame) (fs more : List AFrame) (ended : Bool) → 1 ≤ f.channels → IsPrefix (blocks_due false (f ∷ fs)) (blocks_due ended ((f ∷ fs) ++ more))
+stays f fs more ended some =
     let size = full_size f.channels in
     let xs = all_samples (f ∷ fs) in
     let ys = all_samples more in
     let positive : 0 < size = omega (arith, some) in
-    let due : n < count_due size false (length xs) = subst (λ k. n < k) (count_blocks false f xs) (slice_get_within (blocks_due false (f ∷ fs)) n b e) in
-    let whole = within_open size (length xs) (n + 1) (omega (arith, due)) in
-    let le : n * size + size ≤ length xs = omega (arith, whole) in
-    let longer : n * size + size ≤ length (xs ++ ys) = omega (arith, le, length-append xs ys) in
-    let all : all_samples ((f ∷ fs) ++ more) ≡ xs ++ ys = flat_map-append (λ (g : AFrame). g.samples) (f ∷ fs) more in
-    subst (λ (zs : List ℤ). slice_get (map (block_at f zs) (range_with_len 0 (count_due size ended (length zs)))) n ≡ Some b) (sym all)
-    (get_block ended f (xs ++ ys) n (full_due size ended (length (xs ++ ys)) n positive longer)
-    ∙ (ap Some (same_block f xs ys n le) ∙ (sym (get_block false f xs n due) ∙ e)))
+    let c = count_due size false (length xs) in
+    let all = count_due size ended (length (xs ++ ys)) in
+    let longer : length xs ≤ length (xs ++ ys) = omega (arith, length-append xs ys) in
+    let le : c ≤ all = more_due size ended (length xs) (length (xs ++ ys)) positive longer in
+    let sum : c + (all - c) ≡ all = omega (arith, le) in
+    let within : (0 + c) * size ≤ length xs = let w = within_open size (length xs) c (omega arith) in let z : 0 + c ≡ c = omega arith in subst (λ n. n * size ≤ length xs) (sym z) w in
+    let whole : all_samples ((f ∷ fs) ++ more) ≡ xs ++ ys = flat_map-append (λ (g : AFrame). g.samples) (f ∷ fs) more in
+    let rest = map (block_at f (xs ++ ys)) (range_with_len (0 + c) (all - c)) in (
+      rest,
+      ap (λ (bs : List AFrame). bs ++ rest) (sym (same_blocks f xs ys 0 c within))
+          ∙ (sym (split_range (block_at f (xs ++ ys)) 0 c (all - c))
+          ∙ (ap (λ n. map (block_at f (xs ++ ys)) (range_with_len 0 n)) sum
+          ∙ sym (ap (λ (zs : List ℤ). map (block_at f zs) (range_with_len 0 (count_due size ended (length zs)))) whole))),
+    )
 
 -- ---- frames of a valid stream
 

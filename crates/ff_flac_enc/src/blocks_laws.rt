@@ -1,6 +1,7 @@
 //! What the definitions of blocks keep. Each function does nothing, and its contract is the law.
 
-ghost use Rattle.std.specs.Prelude.{◌≡◌, ◌≤◌, ℕ, List, [], ◌∷◌, ◌++◌, Some, true, false, Bool, map, slice_get, ℤ};
+ghost use Rattle.std.specs.Prelude.{◌≡◌, ◌≤◌, ℕ, List, [], ◌∷◌, ◌++◌, true, false, Bool, map, ℤ};
+ghost use mathlib.Core.List.{IsPrefix};
 ghost use Rattle.ff_time.specs.Fraction.{IsBase};
 ghost use Rattle.ff_frame.specs.declared.audio.AFrame.{AFrame};
 ghost use Rattle.ff_frame.specs.declared.head.StreamHead.{StreamHead};
@@ -25,9 +26,9 @@ pub fn blocks_have_all_samples()
     ensures { (f : AFrame) (fs : List AFrame) → 1 ≤ f.channels → all_samples (blocks_due true (f ∷ fs)) ≡ all_samples (f ∷ fs) }
 {}
 
-/// A block that is due stays, whatever comes.
+/// The blocks that are due stay the first, whatever comes.
 pub fn blocks_stay()
-    ensures { (f : AFrame) (fs more : List AFrame) (ended : Bool) (n : ℕ) (b : AFrame) → 1 ≤ f.channels → slice_get (blocks_due false (f ∷ fs)) n ≡ Some b → slice_get (blocks_due ended ((f ∷ fs) ++ more)) n ≡ Some b }
+    ensures { (f : AFrame) (fs more : List AFrame) (ended : Bool) → 1 ≤ f.channels → IsPrefix (blocks_due false (f ∷ fs)) (blocks_due ended ((f ∷ fs) ++ more)) }
 {}
 
 /// Frames whose samples were changed one by one, as to another depth, have the blocks changed so.

@@ -1,6 +1,6 @@
-ghost use Rattle.std.specs.Prelude.{◌≡◌, ◌≢◌, ◌+◌, ◌*◌, ◌/◌, ◌^◌, ◌<◌, ◌≤◌, List, [], ◌∷◌, ◌++◌, Some, None, length, min, max, IfOk, OnOk, OnErr, All};
+ghost use Rattle.std.specs.Prelude.{◌≡◌, ◌+◌, ◌*◌, ◌^◌, ◌<◌, ◌≤◌, List, [], ◌∷◌, ◌++◌, Some, None, min, max, IfOk, OnOk, OnErr, All};
 ghost use Rattle.ff_frame.specs.Audio.{FitsBits, IsAudio};
-ghost use Rattle.ff_flac_enc.specs.Totals.{sample_bytes, samples_bytes, frame_bytes, sample_frames, width_of};
+ghost use Rattle.ff_flac_enc.specs.Totals.{sample_bytes, samples_bytes, frame_bytes, sample_frames};
 
 use ff_frame::{AFrame, Totals};
 use md5::{Digest, Md5};

@@ -1,5 +1,5 @@
 // Digests by Python's hashlib over samples made as `made` makes them.
-ghost use Rattle.std.specs.Prelude.{◌≡◌, ◌+◌, ◌*◌, ◌^◌, ◌≤◌};
+ghost use Rattle.std.specs.Prelude.{◌+◌, ◌^◌, ◌≤◌};
 ghost use Rattle.ff_frame.specs.Audio.{IsAudio};
 ghost use Rattle.ff_flac_enc.specs.Totals.{counted};
 
