@@ -126,8 +126,9 @@ impl Blocks {
         ensures gives { (fed : List AFrame) (n : ℕ) → Cuts self.old fed n → (b : AFrame) → result ≡ Ok (Some b)
             → Cuts self.new fed (n + 1) × (slice_get (blocks_due (has_ended self.old) fed) n ≡ Some b) }
         // None exactly where all blocks that are due were given.
-        ensures none { (fed : List AFrame) (n : ℕ) → Cuts self.old fed n → result ≡ Ok None → (self.new ≡ self.old) × (length (blocks_due (has_ended self.old) fed) ≡ n) }
+        ensures none { (fed : List AFrame) (n : ℕ) → Cuts self.old fed n → result ≡ Ok None → length (blocks_due (has_ended self.old) fed) ≡ n }
         ensures wanted { (fed : List AFrame) (n : ℕ) → Cuts self.old fed n → length (blocks_due (has_ended self.old) fed) ≡ n → result ≡ Ok None }
+        ensures still { result ≡ Ok None → self.new ≡ self.old }
         ensures err { OnErr result (self.new ≡ self.old) }
         ensures ended { has_ended self.new ≡ has_ended self.old }
         ensures format { format_in self.new ≡ format_in self.old }
@@ -143,9 +144,9 @@ impl Blocks {
         if count == 0 {
             return Ok(None);
         }
-        let b = block(self.alloc, format, self.pts, self.waiting.front(count))?;
+        let next = block(self.alloc, format, self.pts, self.waiting.front(count))?;
         self.waiting.skip(count);
         self.pts = later(self.pts);
-        Ok(Some(b))
+        Ok(Some(next))
     }
 }

@@ -12,10 +12,10 @@ use Rattle.ff_flac_enc.proofs.blocks.Blocks.pull.Goals as goal
 pub returns-then-count-eq0-clause-none : goal.returns-then-count-eq0-clause-none
 returns-then-count-eq0-clause-none c = λ fed n cuts e.
     let due = due_as _ _ _ _ _ _ (ap (λ k. 4096 * k) c.from-full.ensures) c.len.ensures c.size_due-count.ensures.is in
-    (refl, none_due c.args.self.now fed n c.size_due-count.result c.in-Some.format c.in-Some.is cuts due c.if-count-eq0.true)
+    none_due c.args.self.now fed n c.size_due-count.result c.in-Some.format c.in-Some.is cuts due c.if-count-eq0.true
 
-pub returns-in_err-b-clause-wanted : goal.returns-in_err-b-clause-wanted
-returns-in_err-b-clause-wanted c = λ fed n cuts all.
+pub returns-in_err-next-clause-wanted : goal.returns-in_err-next-clause-wanted
+returns-in_err-next-clause-wanted c = λ fed n cuts all.
     let due = due_as _ _ _ _ _ _ (ap (λ k. 4096 * k) c.from-full.ensures) c.len.ensures c.size_due-count.ensures.is in
     absurd (some_due c.args.self.now fed n c.size_due-count.result c.in-Some.format c.in-Some.is cuts due c.if-count-eq0.false all)
 
@@ -33,9 +33,9 @@ returns-clause-gives c = λ fed n cuts b e.
     let f : FitsSigned w64 c.later-self.result = search rules in
     let format = c.in-Some.format in
     let b_is : b ≡ audio_frame c.args.self.now.pts format.rate format.bits format.channels (take c.size_due-count.result c.args.self.now.waiting) =
-    let same : b ≡ c.in_ok-b.b = cc in
+    let same : b ≡ c.in_ok-next.next = cc in
     let at : FitsSigned w64 c.args.self.now.pts = search rules in
-    same ∙ (c.in_ok-b.ensures ∙ (ap (λ (p : ℤ). audio_frame p format.rate format.bits format.channels c.front.result.now) (to_z-of_z w64 c.args.self.now.pts at)
+    same ∙ (c.in_ok-next.ensures ∙ (ap (λ (p : ℤ). audio_frame p format.rate format.bits format.channels c.front.result.now) (to_z-of_z w64 c.args.self.now.pts at)
     ∙ ap (λ (xs : List ℤ). audio_frame c.args.self.now.pts format.rate format.bits format.channels xs) c.front.ensures)) in
     gives c.args.self.now _ fed n c.size_due-count.result b format c.in-Some.is cuts due c.if-count-eq0.false refl refl c.skip.ensures
     (λ fits.
@@ -54,8 +54,8 @@ returns-clause-sound c = λ b e.
     let format = c.in-Some.format in
     let kept : IsKept format c.args.self.now.waiting = subst (λ (o : Option Format). Holds o c.args.self.now.waiting) c.in-Some.is c.args.self.now.sound in
     let b_is : b ≡ audio_frame c.args.self.now.pts format.rate format.bits format.channels (take c.size_due-count.result c.args.self.now.waiting) =
-    let same : b ≡ c.in_ok-b.b = cc in
+    let same : b ≡ c.in_ok-next.next = cc in
     let at : FitsSigned w64 c.args.self.now.pts = search rules in
-    same ∙ (c.in_ok-b.ensures ∙ (ap (λ (p : ℤ). audio_frame p format.rate format.bits format.channels c.front.result.now) (to_z-of_z w64 c.args.self.now.pts at)
+    same ∙ (c.in_ok-next.ensures ∙ (ap (λ (p : ℤ). audio_frame p format.rate format.bits format.channels c.front.result.now) (to_z-of_z w64 c.args.self.now.pts at)
     ∙ ap (λ (xs : List ℤ). audio_frame c.args.self.now.pts format.rate format.bits format.channels xs) c.front.ensures)) in
     subst (λ (x : AFrame). IsAudio x.bits x.channels x.samples) (sym b_is) (block_sound format c.args.self.now.waiting c.size_due-count.result _ kept due c.if-count-eq0.false)
