@@ -58,8 +58,25 @@ pub fn read_zeros(reader: &mut BitReader, limit: u64) -> Result<u64, FrameEnd>
     }
 }
 
-#[tactic(auto, unfolding(crate::specs::Frame::rice, crate::specs::Frame::quotient_limit))]
 pub fn read_rice(reader: &mut BitReader, k: u32) -> Result<i32, FrameEnd>
+    requires { k ≤ 31 }
+    ensures reads { Gives (λ v. v) result (rice k reader.old) reader.new }
+    ensures fits { IfOk result (λ v. FitsSigned w32 v) }
+{
+    let Some((q, low)) = reader.code(k) else {
+        return read_long_rice(reader, k);
+    };
+    let value = ((q as u64) << k) + low;
+    if value < 4294967295 {
+        Ok(zigzag_of(value))
+    } else {
+        Err(FrameEnd::Never)
+    }
+}
+
+/// The same, whether one word shows it or not.
+#[tactic(auto, unfolding(crate::specs::Frame::rice, crate::specs::Frame::quotient_limit))]
+fn read_long_rice(reader: &mut BitReader, k: u32) -> Result<i32, FrameEnd>
     requires { k ≤ 31 }
     ensures reads { Gives (λ v. v) result (rice k reader.old) reader.new }
     ensures fits { IfOk result (λ v. FitsSigned w32 v) }
