@@ -83,7 +83,7 @@ impl<'a> BitReader<'a> {
     }
 
     /// A reader of the same bits.
-    pub(crate) fn copy(&self) -> BitReader<'a>
+    pub fn copy(&self) -> BitReader<'a>
         ensures { result ≡ self.now }
     {
         BitReader {
@@ -114,6 +114,7 @@ impl<'a> BitReader<'a> {
 
     /// How many zeros stand before the next one, and the value of the `n` bits behind it. None, which leaves the reader,
     /// only where fewer than 57 bits are left or these are more than 57.
+    #[inline(always)]
     pub fn code(&mut self, n: u32) -> Option<(u32, u64)>
         requires { n ≤ 57 }
         ensures read { IfSome result (λ r. IsCoded n self.old r.0 r.1 self.new) }

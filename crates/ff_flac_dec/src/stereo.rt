@@ -40,6 +40,7 @@ fn joined(join: Join, x: &i32, y: &i32) -> i64
 }
 
 /// The channel that is made of two.
+#[inline(always)]
 fn join_all(
     alloc: Global,
     join: Join,

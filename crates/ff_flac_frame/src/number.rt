@@ -1,4 +1,4 @@
-ghost use Rattle.std.specs.Prelude.{◌≡◌, ◌<◌, ◌≤◌, ◌^◌, IfOk, FitsSigned};
+ghost use Rattle.std.specs.Prelude.{◌≡◌, ◌<◌, ◌≤◌, ◌+◌, ◌*◌, ◌^◌, IfOk, IfErr, FitsSigned};
 ghost use Rattle.std.specs.Int.{w32};
 ghost use Rattle.ff_bits.specs.Reading.{zeros};
 ghost use Rattle.ff_flac_frame.specs.Frame.{signed, zigzag, sample, rice, residual_limit, quotient_limit};
@@ -58,15 +58,17 @@ pub fn read_zeros(reader: &mut BitReader, limit: u64) -> Result<u64, FrameEnd>
     }
 }
 
-pub fn read_rice(reader: &mut BitReader, k: u32) -> Result<i32, FrameEnd>
-    requires { k ≤ 31 }
-    ensures reads { Gives (λ v. v) result (rice k reader.old) reader.new }
+/// The residual of so many zeros and these low bits, where it is within range.
+#[inline(always)]
+pub fn rice_of(zeros: u32, low: u64, k: u32) -> Result<i32, FrameEnd>
+    requires parameter { k ≤ 31 }
+    requires zeros { zeros < 64 }
+    requires low { low < 2 ^ k }
+    ensures value { IfOk result (λ v. (v ≡ zigzag (zeros * 2 ^ k + low)) × (zeros * 2 ^ k + low < residual_limit)) }
+    ensures out { IfErr result (λ e. (e ≡ FrameEnd.Never) × (residual_limit ≤ zeros * 2 ^ k + low)) }
     ensures fits { IfOk result (λ v. FitsSigned w32 v) }
 {
-    let Some((q, low)) = reader.code(k) else {
-        return read_long_rice(reader, k);
-    };
-    let value = ((q as u64) << k) + low;
+    let value = ((zeros as u64) << k) + low;
     if value < 4294967295 {
         Ok(zigzag_of(value))
     } else {
@@ -74,9 +76,8 @@ pub fn read_rice(reader: &mut BitReader, k: u32) -> Result<i32, FrameEnd>
     }
 }
 
-/// The same, whether one word shows it or not.
 #[tactic(auto, unfolding(crate::specs::Frame::rice, crate::specs::Frame::quotient_limit))]
-fn read_long_rice(reader: &mut BitReader, k: u32) -> Result<i32, FrameEnd>
+pub fn read_rice(reader: &mut BitReader, k: u32) -> Result<i32, FrameEnd>
     requires { k ≤ 31 }
     ensures reads { Gives (λ v. v) result (rice k reader.old) reader.new }
     ensures fits { IfOk result (λ v. FitsSigned w32 v) }

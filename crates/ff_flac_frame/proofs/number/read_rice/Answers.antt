@@ -1,5 +1,5 @@
 use Rattle.std.proofs.Common.{◌<◌, ◌-◌, ◌*◌, ◌%◌, ◌^◌, arith}
-use Rattle.ff_flac_frame.proofs.number.read_long_rice.Goals as goal
+use Rattle.ff_flac_frame.proofs.number.read_rice.Goals as goal
 
 pub zigzag_of-requires : goal.zigzag_of-requires
 zigzag_of-requires c =

@@ -30,13 +30,14 @@ returns-clause-read c =
     let last : r.used + z + 1 + n ≡ p + n = omega arith in
     let v = peek p n w r.bytes.now (omega arith) (omega arith) c.word_of-word.ensures in
     let behind : drop p (bits r.bytes.now) ≡ drop (z + 1) c.args.self.now = sym (drop-drop (z + 1) r.used (bits r.bytes.now)) ∙ ap (λ (xs : List Bool). drop (z + 1) xs) c.self.view_is in
-    let e : length c.args.self.now + r.used ≡ 8 * length r.bytes.now = rw (← c.self.view_is) (left_is r.used r.bytes.now c.self.invariant.1) in
-    (subst (λ (ys : List Bool). ys ≡ replicate z false ++ true ∷ drop (z + 1) ys) c.self.view_is one,
-    record {
-      enough = omega (arith, length-drop (z + 1) c.args.self.now);
-      value = ap (λ (m : ℕ). bit_and (w / 2 ^ (64 - (r.used + z + 1 + n))) (m - 1)) mask ∙ and_mask (w / 2 ^ (64 - (r.used + z + 1 + n))) n ∙ ap (λ (k : ℕ). w / 2 ^ (64 - k) % 2 ^ n) last ∙ v ∙ ap (λ (xs : List Bool). value_of (take n xs)) behind;
-      left = c.skip.ensures ∙ sym (drop-drop n (z + 1) c.args.self.now);
-    })
+    let e : length c.args.self.now + r.used ≡ 8 * length r.bytes.now = rw (← c.self.view_is) (left_is r.used r.bytes.now c.self.invariant.1) in (
+      subst (λ (ys : List Bool). ys ≡ replicate z false ++ true ∷ drop (z + 1) ys) c.self.view_is one,
+      record {
+        enough = omega (arith, length-drop (z + 1) c.args.self.now);
+        value = ap (λ (m : ℕ). bit_and (w / 2 ^ (64 - (r.used + z + 1 + n))) (m - 1)) mask ∙ and_mask (w / 2 ^ (64 - (r.used + z + 1 + n))) n ∙ ap (λ (k : ℕ). w / 2 ^ (64 - k) % 2 ^ n) last ∙ v ∙ ap (λ (xs : List Bool). value_of (take n xs)) behind;
+        left = c.skip.ensures ∙ sym (drop-drop n (z + 1) c.args.self.now);
+      },
+    )
 
 pub returns-then-self-lt8-clause-none : goal.returns-then-self-lt8-clause-none
 returns-then-self-lt8-clause-none c =
