@@ -134,3 +134,8 @@ module _ (used : ℕ) (bytes : List ℕ) (few : used < 8) where
 pub further_zeros : (n m : ℕ) (whole now rest : List Bool) → whole ≡ replicate n false ++ now → now ≡ replicate m false ++ rest → whole ≡ replicate (n + m) false ++ rest
 further_zeros n m whole now rest e f =
     e ∙ ap (λ (ys : List Bool). replicate n false ++ ys) f ∙ sym (append_assoc (replicate n false) (replicate m false) rest) ∙ ap (λ (ys : List Bool). ys ++ rest) (replicate-append-replicate n m false)
+
+-- a one stands in one place alone behind zeros
+pub no_one_yet : (z : ℕ) (a b : List Bool) → replicate (suc z) false ++ a ≡ replicate z false ++ true ∷ b → ⊥
+no_one_yet zero a b e = cc
+no_one_yet (suc z) a b e = no_one_yet z a b (cc)

@@ -1,8 +1,8 @@
 //! Reading bits, the most significant of each byte first.
 
-ghost use Rattle.std.specs.Prelude.{◌≡◌, ◌≤◌, ◌<◌, ◌+◌, ◌*◌, ◌/◌, ◌%◌, ◌^◌, ◌↔◌, IsTrue, length, take, drop, replicate, false, true, List, Bool, ◌∷◌, ◌++◌, IfOk, IfErr, OnErr};
+ghost use Rattle.std.specs.Prelude.{◌≡◌, ℕ, ◌≤◌, ◌<◌, ◌+◌, ◌*◌, ◌/◌, ◌%◌, ◌^◌, ◌↔◌, IsTrue, length, take, drop, replicate, false, true, List, Bool, ◌∷◌, ◌++◌, IfOk, IfErr, OnErr, IfSome, IfNone};
 ghost use Rattle.ff_bits.specs.Bits.{value_of, bits};
-ghost use Rattle.ff_bits.specs.Reads.{IsTaken, IsCounted};
+ghost use Rattle.ff_bits.specs.Reads.{IsTaken, IsCounted, IsCoded};
 ghost use Rattle.ff_bits.specs.Runs.{IsRun};
 ghost use Rattle.ff_bits.specs.Reading.{zeros};
 ghost use Rattle.ff_bits.specs.NumberGrammar.{Answers};
@@ -83,7 +83,7 @@ impl<'a> BitReader<'a> {
     }
 
     /// A reader of the same bits.
-    pub(crate) fn copy(&self) -> BitReader<'a>
+    pub fn copy(&self) -> BitReader<'a>
         ensures { result ≡ self.now }
     {
         BitReader {
@@ -110,6 +110,30 @@ impl<'a> BitReader<'a> {
         let high = self.take_of_word(n - 32);
         let low = self.take_of_word(32);
         Ok(high << 32 | low)
+    }
+
+    /// How many zeros stand before the next one, and the value of the `n` bits behind it. None, which leaves the reader,
+    /// only where fewer than 57 bits are left or these are more than 57.
+    #[inline(always)]
+    pub fn code(&mut self, n: u32) -> Option<(u32, u64)>
+        requires { n ≤ 57 }
+        ensures read { IfSome result (λ r. IsCoded n self.old r.0 r.1 self.new) }
+        ensures below { IfSome result (λ r. (r.0 < 64) × (r.1 < 2 ^ n)) }
+        ensures none { IfNone result ((zeros : ℕ) → zeros + 1 + n ≤ 57 → 57 ≤ length self.old → IsCounted self.old zeros (drop (zeros + 1) self.old) → ⊥) }
+        ensures unchanged { IfNone result (self.new ≡ self.old) }
+        ensures shorter { length self.new ≤ length self.old }
+    {
+        if self.bytes.len() < 8 {
+            return None;
+        }
+        let word = word_of(self.bytes);
+        let zeros = (word << self.used).leading_zeros();
+        let end = self.used + zeros + 1 + n;
+        if end > 64 {
+            return None;
+        }
+        self.skip(zeros + 1 + n);
+        Some((zeros, (word >> (64 - end)) & ((1u64 << n) - 1)))
     }
 
     /// The next bits that are there, of one word.

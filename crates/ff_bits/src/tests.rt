@@ -47,6 +47,24 @@ fn zeros_below_a_limit(rt: HostRuntime) -> Result<(), Fail> {
 }
 
 #[test]
+fn codes_of_one_word(rt: HostRuntime) -> Result<(), Fail> {
+    let bytes = [0x29, 0xff, 0x00, 0x00, 0x00, 0x00, 0x00, 0x00, 0x01, 0x80];
+    let mut reader = BitReader::new(&bytes);
+    assert_eq!(rt; reader.code(3), Some((2, 2)));
+    assert_eq!(rt; reader.code(0), Some((1, 0)));
+    assert_eq!(rt; reader.code(5), Some((0, 0x1f)));
+    assert_eq!(rt; reader.left(), 66);
+    assert_eq!(rt; reader.code(57), Some((0, 0x100_0000_0000_0001)));
+    assert_eq!(rt; reader.left(), 8);
+    assert_eq!(rt; reader.code(0), None);
+    assert_eq!(rt; reader.left(), 8);
+    let mut reader = BitReader::new(&[0, 0, 0, 0, 0, 0, 0, 1, 0]);
+    assert_eq!(rt; reader.code(1), None);
+    assert_eq!(rt; reader.code(0), Some((63, 0)));
+    Ok(())
+}
+
+#[test]
 fn numbers_of_fewer_bytes(rt: HostRuntime) -> Result<(), Fail> {
     let mut reader = BitReader::new(&[0xfd, 0xbf, 0xbf, 0xbf, 0xbf, 0xbf]);
     assert_eq!(rt; reader.number_below(0xfe)?, 0x7fff_ffff);

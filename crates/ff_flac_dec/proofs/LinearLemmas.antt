@@ -42,6 +42,13 @@ pub weighted_goes_on : (coefs xs : List ℤ) (i : ℕ) (sum term total : ℤ) �
 weighted_goes_on coefs xs i sum term total lt e so_far =
     add_assoc sum term (weighted (drop (i + 1) coefs) (i + 1 + 1) xs) ∙ ap (λ (t : ℤ). sum +ℤ (t +ℤ weighted (drop (i + 1) coefs) (i + 1 + 1) xs)) e ∙ ap (λ (t : ℤ). sum +ℤ t) (sym (weighted-step coefs xs i (i + 1) lt)) ∙ so_far
 
+-- one term more before the others
+pub weighted_with : (coefs xs : List ℤ) (i : ℕ) (sum term : ℤ) → i < length coefs → term ≡ get_or coefs i (pos 0) *ℤ ago (i + 1) xs → sum ≡ weighted (drop (i + 1) coefs) (i + 2) xs → sum +ℤ term ≡ weighted (drop i coefs) (i + 1) xs
+weighted_with coefs xs i sum term lt e behind =
+    let turned : sum +ℤ term ≡ term +ℤ sum = omega (arith, ints) in
+    let next : i + 2 ≡ i + 1 + 1 = omega arith in
+    turned ∙ ap (λ (t : ℤ). t +ℤ sum) e ∙ ap (λ (s : ℤ). (get_or coefs i (pos 0) *ℤ ago (i + 1) xs) +ℤ s) (behind ∙ ap (λ (k : ℕ). weighted (drop (i + 1) coefs) k xs) next) ∙ sym (weighted-step coefs xs i (i + 1) lt)
+
 pub weighted_ends : (coefs xs : List ℤ) (i : ℕ) (sum total : ℤ) → length coefs ≤ i → sum +ℤ weighted (drop i coefs) (i + 1) xs ≡ total → sum ≡ total
 weighted_ends coefs xs i sum total le so_far =
     let e : weighted (drop i coefs) (i + 1) xs ≡ pos 0 = ap (λ (cs : List ℤ). weighted cs (i + 1) xs) (drop_all i coefs le) in

@@ -126,6 +126,7 @@ pub fn restore_fixed(
     ensures out { IsErrOf result DecodeEnd.OutOfDepth → AllInDepth depth (restored (fixed order) warm.now rest.now) → ⊥ }
 {
     let mut out = Vec::from_slice(alloc, warm)?;
+    out.reserve(rest.len())?;
     for r in rest {
         let x = next_sample(order, depth, out.as_slice(), r);
         if !is_in_depth(depth, x) {

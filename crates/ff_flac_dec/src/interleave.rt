@@ -37,7 +37,7 @@ pub fn interleave(alloc: Global, channels: &[Vec<i32>], block: u32) -> Result<Ve
     ensures ok { IfOk result (λ v. v.items ≡ interleaved block (items_of channels.now)) }
     ensures memory { IfErr result (λ e. e ≡ DecodeEnd.NoMemory) }
 {
-    let mut out = Vec::new(alloc);
+    let mut out = Vec::with_capacity(alloc, (block as usize).saturating_mul(channels.len()))?;
     for place in 0..block {
         push_sample_frame(&mut out, channels, place as usize)?;
     }

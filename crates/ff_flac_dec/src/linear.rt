@@ -1,4 +1,4 @@
-ghost use Rattle.std.specs.Prelude.{◌≡◌, ◌<◌, ◌≤◌, ◌+◌, ◌^◌, ◌-◌, IfOk, IsErrOf, length, pos, ◌*ℤ◌, ◌+ℤ◌, FitsSigned, unsigned_abs};
+ghost use Rattle.std.specs.Prelude.{◌≡◌, ◌<◌, ◌≤◌, ◌+◌, ◌^◌, ◌-◌, ◌*◌, IfOk, IsErrOf, drop, length, pos, ◌*ℤ◌, ◌+ℤ◌, FitsSigned, unsigned_abs};
 ghost use Rattle.std.specs.Int.{w64};
 ghost use Rattle.ff_flac_frame.specs.Facts.{InDepth};
 ghost use Rattle.ff_flac_dec.specs.Values.{weighted, linear, restored, AllInDepth};
@@ -29,7 +29,41 @@ fn plus(sum: i64, term: i64) -> i64
     sum + term
 }
 
+/// Each coefficient from this one on times its sample.
+fn weigh_from(from: usize, coefs: &[i32], xs: &[i32]) -> i64
+    requires few { length coefs.now ≤ 32 }
+    requires there { length coefs.now ≤ length xs.now }
+    requires coefs { AllInDepth 15 coefs.now }
+    requires within { AllInDepth 25 xs.now }
+    ensures value { result ≡ weighted (drop from coefs.now) (from + 1) xs.now }
+    ensures bound { unsigned_abs result ≤ (length coefs.now - from) * 2 ^ 38 }
+{
+    let last = xs.len();
+    let mut sum = 0i64;
+    for i in from..coefs.len() {
+        sum = plus(sum, product(&coefs[i], &xs[last - 1 - i]));
+    }
+    sum
+}
+
+/// The sum of the terms from one coefficient on, of those behind it.
+fn with_term(sum: i64, i: usize, coefs: &[i32], xs: &[i32]) -> i64
+    requires few { length coefs.now ≤ 32 }
+    requires there { length coefs.now ≤ length xs.now }
+    requires coefs { AllInDepth 15 coefs.now }
+    requires within { AllInDepth 25 xs.now }
+    requires one { i < length coefs.now }
+    requires sum { sum ≡ weighted (drop (i + 1) coefs.now) (i + 2) xs.now }
+    requires bound { unsigned_abs sum ≤ (length coefs.now - (i + 1)) * 2 ^ 38 }
+    ensures value { result ≡ weighted (drop i coefs.now) (i + 1) xs.now }
+    ensures bound { unsigned_abs result ≤ (length coefs.now - i) * 2 ^ 38 }
+{
+    plus(sum, product(&coefs[i], &xs[xs.len() - 1 - i]))
+}
+
 /// Each coefficient times its sample, the first of them on the last sample.
+///
+/// The last samples were just written: their terms come one by one, and behind the others, which don't wait for them.
 fn weigh(coefs: &[i32], xs: &[i32]) -> i64
     requires few { length coefs.now ≤ 32 }
     requires there { length coefs.now ≤ length xs.now }
@@ -38,12 +72,14 @@ fn weigh(coefs: &[i32], xs: &[i32]) -> i64
     ensures value { result ≡ weighted coefs.now 1 xs.now }
     ensures bound { unsigned_abs result ≤ 2 ^ 43 }
 {
-    let last = xs.len();
-    let mut sum = 0i64;
-    for i in 0..coefs.len() {
-        sum = plus(sum, product(&coefs[i], &xs[last - 1 - i]));
+    if coefs.len() < 4 {
+        return weigh_from(0, coefs, xs);
     }
-    sum
+    let far = weigh_from(4, coefs, xs);
+    let fourth = with_term(far, 3, coefs, xs);
+    let third = with_term(fourth, 2, coefs, xs);
+    let second = with_term(third, 1, coefs, xs);
+    with_term(second, 0, coefs, xs)
 }
 
 /// The sample that the residual stands for.
@@ -83,6 +119,7 @@ pub fn restore_linear(
     ensures out { IsErrOf result DecodeEnd.OutOfDepth → AllInDepth depth (restored (linear coefs.now shift) warm.now rest.now) → ⊥ }
 {
     let mut out = Vec::from_slice(alloc, warm)?;
+    out.reserve(rest.len())?;
     for r in rest {
         let x = next_sample(coefs, shift, out.as_slice(), r);
         if !is_in_depth(depth, x) {

@@ -40,6 +40,7 @@ fn joined(join: Join, x: &i32, y: &i32) -> i64
 }
 
 /// The channel that is made of two.
+#[inline(always)]
 fn join_all(
     alloc: Global,
     join: Join,
@@ -56,7 +57,7 @@ fn join_all(
     ensures within { IfOk result (λ v. AllInDepth depth v.items) }
     ensures out { IsErrOf result DecodeEnd.OutOfDepth → AllInDepth depth (both (joins join) first.now second.now) → ⊥ }
 {
-    let mut out = Vec::new(alloc);
+    let mut out = Vec::with_capacity(alloc, first.len())?;
     for i in 0..first.len() {
         let x = joined(join, &first[i], &second[i]);
         if !is_in_depth(depth, x) {

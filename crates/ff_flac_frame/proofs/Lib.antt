@@ -3,6 +3,7 @@ pub mod SomeLemmas
 pub mod FrameSound
 pub mod Whole
 pub mod FieldLemmas
+pub mod RiceLemmas
 pub mod ResidualLemmas
 pub mod Seals
 pub mod LawLemmas

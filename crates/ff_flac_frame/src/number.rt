@@ -1,4 +1,4 @@
-ghost use Rattle.std.specs.Prelude.{◌≡◌, ◌<◌, ◌≤◌, ◌^◌, IfOk, FitsSigned};
+ghost use Rattle.std.specs.Prelude.{◌≡◌, ◌<◌, ◌≤◌, ◌+◌, ◌*◌, ◌^◌, IfOk, IfErr, FitsSigned};
 ghost use Rattle.std.specs.Int.{w32};
 ghost use Rattle.ff_bits.specs.Reading.{zeros};
 ghost use Rattle.ff_flac_frame.specs.Frame.{signed, zigzag, sample, rice, residual_limit, quotient_limit};
@@ -55,6 +55,24 @@ pub fn read_zeros(reader: &mut BitReader, limit: u64) -> Result<u64, FrameEnd>
         Ok(z) => Ok(z),
         Err(BitEnd::Short) => Err(FrameEnd::NotYet),
         Err(BitEnd::BadNumber) => Err(FrameEnd::Never),
+    }
+}
+
+/// The residual of so many zeros and these low bits, where it is within range.
+#[inline(always)]
+pub fn rice_of(zeros: u32, low: u64, k: u32) -> Result<i32, FrameEnd>
+    requires parameter { k ≤ 31 }
+    requires zeros { zeros < 64 }
+    requires low { low < 2 ^ k }
+    ensures value { IfOk result (λ v. (v ≡ zigzag (zeros * 2 ^ k + low)) × (zeros * 2 ^ k + low < residual_limit)) }
+    ensures out { IfErr result (λ e. (e ≡ FrameEnd.Never) × (residual_limit ≤ zeros * 2 ^ k + low)) }
+    ensures fits { IfOk result (λ v. FitsSigned w32 v) }
+{
+    let value = ((zeros as u64) << k) + low;
+    if value < 4294967295 {
+        Ok(zigzag_of(value))
+    } else {
+        Err(FrameEnd::Never)
     }
 }
 

@@ -8,7 +8,7 @@ ghost use Rattle.ff_flac_frame.specs.Front.{with_front};
 
 use crate::end::FrameEnd;
 use crate::field::read_field;
-use crate::number::{read_rice, read_sample};
+use crate::number::{read_rice, read_sample, rice_of};
 use crate::rule::Rule;
 use ff_bits::BitReader;
 
@@ -39,10 +39,21 @@ fn read_rices(
     requires { k ≤ 31 }
     ensures { Gives (λ _. out.new.items) result (with_front out.old.items (times count (rice k) reader.old)) reader.new }
 {
+    // (no call is handed this reader, so that it keeps to registers)
+    let mut near = reader.copy();
     for i in 0..count {
-        let value = read_rice(reader, k)?;
+        let value = match near.code(k) {
+            Some((zeros, low)) => rice_of(zeros, low, k)?,
+            None => {
+                *reader = near;
+                let long = read_rice(reader, k)?;
+                near = reader.copy();
+                long
+            }
+        };
         out.push(value)?;
     }
+    *reader = near;
     Ok(())
 }
 

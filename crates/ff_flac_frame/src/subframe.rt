@@ -53,7 +53,7 @@ fn samples(
     requires { depth ≤ 32 }
     ensures { Gives (λ v. v.items) result (times count (sample depth) reader.old) reader.new }
 {
-    let mut out = Vec::new(alloc);
+    let mut out = Vec::with_capacity(alloc, count as usize)?;
     read_samples(reader, &mut out, count, depth)?;
     Ok(out)
 }
@@ -67,7 +67,7 @@ fn residuals(
     requires { order ≤ block }
     ensures { Gives (λ v. v.items) result (residual block order reader.old) reader.new }
 {
-    let mut out = Vec::new(alloc);
+    let mut out = Vec::with_capacity(alloc, block as usize)?;
     read_residual(reader, &mut out, block, order)?;
     Ok(out)
 }

@@ -31,8 +31,20 @@ impl<T: Drop> From<AllocFailed<T>> for Stop {
     }
 }
 
+// The two lowest bytes of each sample.
+fn push_halves(out: &mut Vec<u8>, samples: &[i32]) -> Result<(), Stop> {
+    for sample in samples {
+        let bytes = sample.to_le_bytes();
+        out.extend_from_slice(&[bytes[0], bytes[1]])?;
+    }
+    Ok(())
+}
+
 // The samples of a frame of sound, each in so many bytes.
 fn push_samples(out: &mut Vec<u8>, frame: &AFrame, width: usize) -> Result<(), Stop> {
+    if width == 2 {
+        return push_halves(out, frame.samples.as_slice());
+    }
     for sample in frame.samples.as_slice() {
         let bytes = sample.to_le_bytes();
         out.extend_from_slice(front(&bytes, width))?;

@@ -5,4 +5,4 @@ use Rattle.ff_flac_frame.specs.Front.{with_front}
 use Rattle.ff_flac_frame.proofs.residual.read_rices.Given as goal
 
 abbrev pub invariant-loop-i : goal.invariant-loop-i
-invariant-loop-i l = with_front l.out.items (times (l.count - l.i) (rice l.k) l.reader) ≡ with_front l.fn.out.items (times l.count (rice l.k) l.fn.reader)
+invariant-loop-i l = with_front l.out.items (times (l.count - l.i) (rice l.k) l.near) ≡ with_front l.fn.out.items (times l.count (rice l.k) l.fn.reader)

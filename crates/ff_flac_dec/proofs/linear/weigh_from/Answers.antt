@@ -2,7 +2,7 @@ use Rattle.std.proofs.Common.{◌≡◌, ◌≤◌, ◌+◌, ◌-◌, ◌*◌, �
 use Rattle.std.specs.Int.{w64}
 use Rattle.ff_flac_dec.specs.Values.{weighted}
 use Rattle.ff_flac_dec.proofs.LinearLemmas.{weighted_goes_on, sum_same}
-use Rattle.ff_flac_dec.proofs.linear.weigh.Goals as goal
+use Rattle.ff_flac_dec.proofs.linear.weigh_from.Goals as goal
 
 pub loop-i-preserved : goal.loop-i-preserved
 loop-i-preserved c =
@@ -11,12 +11,12 @@ loop-i-preserved c =
     let small : unsigned_abs p ≤ 2 ^ 38 = c.product.ensures.bound in
     let p_same : to_z w64 (of_z w64 p) ≡ p = sum_same p (omega (arith, small)) in
     let term : unsigned_abs (to_z w64 (of_z w64 p)) ≤ 2 ^ 38 = subst (λ (z : ℤ). unsigned_abs z ≤ 2 ^ 38) (sym p_same) small in
-    let bound : unsigned_abs x ≤ c.loop-i.i * 2 ^ 38 + 2 ^ 38 = omega (arith, c.plus-sum.ensures.bound, term, c.loop-i.invariant.bound) in
+    let bound : unsigned_abs x ≤ (c.loop-i.i - c.args.from) * 2 ^ 38 + 2 ^ 38 = omega (arith, c.plus-sum.ensures.bound, term, c.loop-i.invariant.bound) in
     let same : to_z w64 (of_z w64 x) ≡ x = sum_same x (omega (arith, bound)) in
     let place : length c.args.xs.now - 1 - c.loop-i.i ≡ length c.args.xs.now - (c.loop-i.i + 1) = omega arith in
     let value = p_same ∙ c.product.ensures.value ∙ ap (λ (k : ℕ). get_or c.args.coefs.now c.loop-i.i (pos 0) *ℤ get_or c.args.xs.now k (pos 0)) place in
     let go = weighted_goes_on c.args.coefs.now c.args.xs.now c.loop-i.i (to_z w64 c.loop-i.sum-bits) (to_z w64 (of_z w64 p)) _ c.loop-i-test.true value c.loop-i.invariant.total in
     record {
       total = ap (λ (z : ℤ). z +ℤ weighted (drop (c.loop-i.i + 1) c.args.coefs.now) (c.loop-i.i + 1 + 1) c.args.xs.now) (same ∙ c.plus-sum.ensures.value) ∙ go;
-      bound = subst (λ (z : ℤ). unsigned_abs z ≤ (c.loop-i.i + 1) * 2 ^ 38) (sym same) (omega (arith, bound));
+      bound = subst (λ (z : ℤ). unsigned_abs z ≤ (c.loop-i.i + 1 - c.args.from) * 2 ^ 38) (sym same) (omega (arith, bound));
     }
