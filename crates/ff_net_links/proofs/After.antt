@@ -8,7 +8,7 @@ use Rattle.ff_net_links.specs.declared.ends.InEnd.{InEnd}
 use Rattle.ff_net_links.specs.declared.ends.OutEnd.{OutEnd}
 use Rattle.ff_net_links.specs.declared.linked.Linked.{Linked}
 use Rattle.ff_net_links.specs.Ends.{in_link, out_link, in_end_at}
-use Rattle.ff_net_links.specs.Nodes.{in_ends_links, out_ends_links, Behind, Follows, ins_of, outs_of}
+use Rattle.ff_net_links.specs.Nodes.{in_ends_links, Behind, Follows, ins_of, outs_of}
 use Rattle.ff_net_links.specs.Runs.{AllRan}
 use Rattle.ff_net_links.specs.Settling.{AllBehind, AllEnded, AreLinked, AreJoined, AreMeeting, IsInOf, IsOutOf}
 use Rattle.ff_net_links.proofs.Linking.{in_nth, out_nth, out_link_nth, count_map}

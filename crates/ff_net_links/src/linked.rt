@@ -76,6 +76,7 @@ impl<M: Machine> Linked<M> {
         ensures sound { result ≡ None → IsSound M.fault_of (node_of self.now) }
         ensures none { IsSound M.fault_of (node_of self.now) → result ≡ None }
         ensures machine { (c : Fault) → M.fault_of (machine_of (node_of self.now)) ≡ Some c → result ≡ Some c }
+        ensures refused { M.fault_of (machine_of (node_of self.now)) ≡ None → (IsSound M.fault_of (node_of self.now) → ⊥) → result ≡ Some Fault.NoMemory }
     {
         self.node.fault()
     }
