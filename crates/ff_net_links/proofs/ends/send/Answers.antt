@@ -8,8 +8,8 @@ use Rattle.ff_net_links.proofs.ends.send.Goals as goal
 pub try_put-requires : goal.try_put-requires
 try_put-requires g c =
     may_carry c.args.end.now c.in-Some.item c.puts.result c.puts.ensures (let few = c.if-puts-gt-MOST_ITEMS.false in omega arith) (λ claims.
-        let s = c.requires.stands claims in
-        may_send c.args.end.now (lanes_of c.args.wires.now) c.args.end.now.wire s.world c.args.wires.now c.in-Some.item refl s.stand s.fits (sym c.take.ensures.value ∙ c.in-Some.is) c.requires.goes_on)
+    let s = c.requires.stands claims in
+    may_send c.args.end.now (lanes_of c.args.wires.now) c.args.end.now.wire s.world c.args.wires.now c.in-Some.item refl s.stand s.fits (sym c.take.ensures.value ∙ c.in-Some.is) c.requires.goes_on)
 
 pub returns-in-Done-clause-stands : goal.returns-in-Done-clause-stands
 returns-in-Done-clause-stands g c world past stand o =
