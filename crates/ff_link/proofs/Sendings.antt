@@ -1,5 +1,5 @@
 -- Sendings are closed under fronts, and no sending is long.
-use Rattle.std.proofs.Common.{◌≡◌, ◌≤◌, ◌+◌, ◌^◌, ℕ, List, [], ◌∷◌, ◌++◌, length, refl, sym, subst, arith, length-append}
+use Rattle.std.proofs.Common.{◌≡◌, ◌≤◌, ◌+◌, ◌^◌, ℕ, Bool, true, false, List, [], ◌∷◌, ◌++◌, length, refl, sym, subst, arith, length-append}
 use Rattle.ff_frame.specs.declared.item.Item.{Item}
 use Rattle.ff_frame.specs.declared.item.Item.TheVariants.{Audio, Video, Packet, End, Broken}
 use Rattle.ff_frame.specs.declared.item.Lane.{Lane}
@@ -9,7 +9,7 @@ use Rattle.ff_frame.specs.Lanes.{IsValid}
 use Rattle.ff_frame.specs.LaneLaws.{valid_below, nothing_valid}
 use Rattle.ff_frame.specs.Order.{leads_below, leads_push}
 use Rattle.ff_frame.specs.Ports.{nothing}
-use Rattle.ff_link.specs.Sendings.{stream_from, stream_of, IsSending}
+use Rattle.ff_link.specs.Sendings.{stream_from, stream_of, IsSending, Carries}
 
 -- what items lead to is the stream that they make
 pub leads_to : (s : Stream Item) (xs : List Item) (t : Stream Item) → Leads s xs t → stream_from s xs ≡ t
@@ -57,6 +57,19 @@ length_from s (Broken ∷ y ∷ ys) h = let shut = h.1.0 in cc
 pub sending_few : (lane : Lane) (xs : List Item) → IsSending lane xs → length xs ≤ 2 ^ 40 + 1
 sending_few lane xs h = let l = length_from nothing xs h.none_behind in let f = h.valid.few in omega arith
 
+-- what a link carries is as few
+pub carried_few : (claims : Bool) (lane : Lane) (xs : List Item) → Carries claims lane xs → length xs ≤ 2 ^ 40 + 1
+carried_few true lane xs h = sending_few lane xs h
+carried_few false lane xs h = h
+
+pub carried_front : (claims : Bool) (lane : Lane) (xs ys : List Item) → Carries claims lane (xs ++ ys) → Carries claims lane xs
+carried_front true lane xs ys h = sending_front lane xs ys h
+carried_front false lane xs ys h = (let l = length-append xs ys in omega (arith, h))
+
+pub nothing_carried : (claims : Bool) (lane : Lane) → Carries claims lane []
+nothing_carried true lane = nothing_sent lane
+nothing_carried false lane = omega arith
+
 -- before the last item was counted, the count had room
-pub count_few : (lane : Lane) (xs : List Item) (x : Item) (n : ℕ) → n ≡ length xs → IsSending lane (xs ++ x ∷ []) → n ≤ 2 ^ 40
-count_few lane xs x n e h = let f = sending_few lane (xs ++ x ∷ []) h in let l = length-append xs (x ∷ []) in omega arith
+pub count_few : (claims : Bool) (lane : Lane) (xs : List Item) (x : Item) (n : ℕ) → n ≡ length xs → Carries claims lane (xs ++ x ∷ []) → n ≤ 2 ^ 40
+count_few claims lane xs x n e h = let f = carried_few claims lane (xs ++ x ∷ []) h in let l = length-append xs (x ∷ []) in omega arith

@@ -7,7 +7,7 @@ use Rattle.ff_link.specs.declared.answers.Put.{Put}
 use Rattle.ff_link.specs.declared.answers.Put.TheVariants.{Done, Full, Finished}
 use Rattle.ff_link.specs.declared.answers.Take.{Take}
 use Rattle.ff_link.specs.declared.answers.Take.TheVariants.{Item as Taken, Empty}
-use Rattle.ff_link.specs.Flow.{IsSending, IsRest, IsNext}
+use Rattle.ff_link.specs.Flow.{Carries, IsRest, IsNext}
 use Rattle.ff_link.specs.Views.{Sending, Receiving, after_look}
 
 -- what a put leaves of the sender
@@ -57,9 +57,9 @@ abbrev pub after_take : Receiving → Take → Receiving
 after_take r (Taken x) = record r { taken = r.taken ++ x ∷ [] }
 after_take r Empty = record r { empty_looks = after_look r.empty_looks }
 
--- with the item, what was taken is valid for the lane
+-- with the item, what was taken is valid for the lane where that is claimed
 abbrev pub TakesValid : Receiving → Take → Type 0
-TakesValid r (Taken x) = IsSending r.lane (r.taken ++ x ∷ [])
+TakesValid r (Taken x) = Carries r.link.claims r.lane (r.taken ++ x ∷ [])
 TakesValid r Empty = Unit {0}
 
 -- Empty, only where at one moment of the call the queue held nothing

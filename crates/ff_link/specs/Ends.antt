@@ -22,8 +22,8 @@ pub record IsSender (s : SenderInside) : Type 0 where
 
 abbrev pub sending : SenderInside → Sending
 sending s = record {
-  link = record { down = s.down.table_id; up = s.up.table_id };
-  lane = (view s.down).lane;
+  link = record { down = s.down.table_id; up = s.up.table_id; claims = (view s.down).way.claims };
+  lane = (view s.down).way.lane;
   room = (view s.down).room;
   sent = (view s.down).sent;
   told = s.told;
@@ -43,8 +43,8 @@ pub record IsReceiver (r : ReceiverInside) : Type 0 where
 
 abbrev pub receiving : ReceiverInside → Receiving
 receiving r = record {
-  link = record { down = r.down.table_id; up = r.up.table_id };
-  lane = (view r.down).lane;
+  link = record { down = r.down.table_id; up = r.up.table_id; claims = (view r.down).way.claims };
+  lane = (view r.down).way.lane;
   room = (view r.down).room;
   taken = (view r.down).taken;
   empty_looks = r.empty_looks;
@@ -60,8 +60,8 @@ pub record IsFinished (f : FinishedInside) : Type 0 where
 
 abbrev pub finished : FinishedInside → Ended
 finished f = record {
-  link = record { down = f.down.table_id; up = f.up.table_id };
-  lane = (view f.down).lane;
+  link = record { down = f.down.table_id; up = f.up.table_id; claims = (view f.down).way.claims };
+  lane = (view f.down).way.lane;
   room = (view f.down).room;
   taken = (view f.down).taken;
 }

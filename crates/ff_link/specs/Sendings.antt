@@ -1,5 +1,5 @@
 -- Items as they are sent, one after another: which stream they make, and when they may be sent over a lane.
-use Rattle.std.specs.Prelude.{List, [], ◌∷◌}
+use Rattle.std.specs.Prelude.{◌+◌, ◌^◌, ◌≤◌, Bool, true, false, List, [], ◌∷◌, length}
 use Rattle.ff_frame.specs.declared.item.Item.{Item}
 use Rattle.ff_frame.specs.declared.item.Lane.{Lane}
 use Rattle.ff_frame.specs.Stream.{Stream}
@@ -20,3 +20,8 @@ stream_of xs = stream_from nothing xs
 pub record IsSending (lane : Lane) (xs : List Item) : Type 0 where
   pub none_behind : Leads nothing xs (stream_of xs)
   pub valid : IsValid lane (stream_of xs)
+
+-- what a link carries: where that is claimed, what may be sent over the lane; else anything, of no greater count
+abbrev pub Carries : Bool → Lane → List Item → Type 0
+Carries true lane xs = IsSending lane xs
+Carries false lane xs = length xs ≤ 2 ^ 40 + 1

@@ -1,13 +1,14 @@
 -- What a contract sees of the ends of a link.
-use Rattle.std.specs.Prelude.{◌+◌, ℕ, Option, None, List, [], min}
+use Rattle.std.specs.Prelude.{◌+◌, ℕ, Bool, Option, None, List, [], min}
 use Rattle.atomic_table.specs.Seated.{TableId}
 use Rattle.ff_frame.specs.declared.item.Item.{Item}
 use Rattle.ff_frame.specs.declared.item.Lane.{Lane}
 
--- a link is named by its two queues
+-- a link is named by its two queues; and whether what is sent over it is claimed to be valid for its lane
 pub record Link : Type 0 where
   pub down : TableId
   pub up : TableId
+  pub claims : Bool
 
 -- the end that sends: all that it sent, and the count that the receiver sent up, once it was found
 pub record Sending : Type 0 where

@@ -1,6 +1,6 @@
 ghost use Rattle.std.specs.Prelude.{◌≡◌, ◌≤◌, ◌+◌, ℕ, [], ◌∷◌, ◌++◌, length, Some, IfSome, IfNone, IfErr, OnErr};
 ghost use mathlib.Core.List.{IsPrefix};
-ghost use Rattle.ff_link.specs.Sendings.{IsSending};
+ghost use Rattle.ff_link.specs.Sendings.{Carries};
 ghost use Rattle.ff_link.specs.Views.{ended};
 ghost use Rattle.ff_link.specs.Answers.{after_put, HandsBack, SawUnfinished, SawFull};
 ghost use Rattle.ff_link.specs.Answers.{after_look_up, SawNoCount, after_push, SawFullAt};
@@ -14,7 +14,7 @@ use std::sync::{Arc, Wait};
 
 mod opening;
 
-pub use opening::link;
+pub use opening::{link, link_claiming};
 
 /// The two queues of a link: the items go down, and the receiver's count comes up.
 #[derive(Drop)]
@@ -112,11 +112,11 @@ impl Sender {
         self.up_looks
     }
 
-    /// Puts an item that continues what was sent, unless the queue is full or the receiver has finished.
+    /// Puts an item that continues what was sent as the link's claim asks, unless the queue is full or the receiver has finished.
     ///
     /// Once it has answered Finished with a count, it does so at every call. It takes no memory.
     pub fn try_put<R: Wait>(&mut self, rt: &R, item: Item) -> Put
-        requires { IsSending self.old.lane (self.old.sent ++ item ∷ []) }
+        requires { Carries self.old.link.claims self.old.lane (self.old.sent ++ item ∷ []) }
         ensures after { self.new ≡ after_put self.old item result }
         ensures back { HandsBack item result }
         ensures unfinished { SawUnfinished result }
@@ -151,7 +151,7 @@ impl Sender {
 
     // Puts an item, unless the queue is full.
     fn push<R: Wait>(&mut self, rt: &R, item: Item) -> Result<(), Item>
-        requires { IsSending self.old.lane (self.old.sent ++ item ∷ []) }
+        requires { Carries self.old.link.claims self.old.lane (self.old.sent ++ item ∷ []) }
         ensures after { self.new ≡ after_push self.old item result }
         ensures back { IfErr result (λ back. back ≡ item) }
         ensures full { OnErr result (SawFullAt self.old) }
@@ -239,7 +239,7 @@ pub fn settle(sender: Sender, finished: Finished) -> Settled
     ensures in_order { IsPrefix finished.taken sender.sent }
     ensures within { length sender.sent ≤ length finished.taken + sender.room }
     ensures told { IfSome sender.told (λ n. n ≡ length finished.taken) }
-    ensures valid { IsSending sender.lane sender.sent }
+    ensures valid { Carries sender.link.claims sender.lane sender.sent }
 {
     let Sender {
         queues,

@@ -23,4 +23,5 @@ mod ends;
 mod side;
 
 pub use answers::{Put, Settled, Take};
-pub use ends::{Finished, Receiver, Sender, link, settle};
+pub use ends::{Finished, Receiver, Sender, link, link_claiming, settle};
+pub use side::Claims;

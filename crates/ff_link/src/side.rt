@@ -6,30 +6,52 @@ use ff_frame::{Item, Lane};
 use std::collections::LinkedList;
 use std::marker::PhantomData;
 
+/// What a link carries, and whether that is claimed to be valid. No value of it is made.
+pub struct Way {
+    pub claims: bool,
+    pub lane: Lane,
+}
+
 /// What a pass of a queue may do, what it was told of the link, what it put and what it took. No value of it is made.
 pub struct Side<T> {
     pub puts: bool,
     pub takes: bool,
-    pub lane: Lane,
+    pub way: Way,
     pub room: u64,
     pub sent: LinkedList<T>,
     pub taken: LinkedList<T>,
 }
 
-/// The lane and the room of a link, which a call of `link` picks.
+/// Whether what is sent over a link is claimed to be valid for its lane. No value says so at run time.
+///
+/// A caller that can't know it, since its source doesn't tell what comes, claims nothing: then the link still carries in
+/// order what it is given.
+pub trait Claims {
+    ghost use Rattle.std.specs.Prelude.{Bool};
+
+    ghost claims: { Bool };
+}
+
+impl Claims for std::marker::Brand {
+    ghost use Rattle.std.specs.Prelude.{true};
+
+    ghost claims = { true };
+}
+
+/// What a link carries, and its room, which the call that makes it picks.
 pub trait Fixed {
     ghost use Rattle.std.specs.Prelude.{ℕ};
-    ghost use Rattle.ff_frame.specs.declared.item.Lane.{Lane};
+    ghost use Rattle.ff_link.specs.declared.side.Way.{Way};
 
-    ghost lane: { Lane };
+    ghost way: { Way };
 
     ghost room: { ℕ };
 }
 
 impl Fixed for std::marker::Brand {
-    ghost use Rattle.ff_link.specs.Flow.{no_lane};
+    ghost use Rattle.ff_link.specs.Flow.{no_way};
 
-    ghost lane = { no_lane };
+    ghost way = { no_way };
 
     ghost room = { 0 };
 }
@@ -38,25 +60,25 @@ impl Fixed for std::marker::Brand {
 pub struct Items;
 
 impl Protocol<Item, Side<Item>> for Items {
-    ghost use Rattle.ff_link.specs.Flow.{ItemsFlow, both_of, no_lane};
+    ghost use Rattle.ff_link.specs.Flow.{ItemsFlow, both_of, no_way};
 
     ghost holds = { ItemsFlow };
 
-    ghost first = { both_of no_lane 0 };
+    ghost first = { both_of no_way 0 };
 }
 
 /// The rule of the count that goes up.
 pub struct Counts;
 
 impl Protocol<u64, Side<u64>> for Counts {
-    ghost use Rattle.ff_link.specs.Flow.{CountsFlow, both_of, no_lane};
+    ghost use Rattle.ff_link.specs.Flow.{CountsFlow, both_of, no_way};
 
     ghost holds = { CountsFlow };
 
-    ghost first = { both_of no_lane 0 };
+    ghost first = { both_of no_way 0 };
 }
 
-/// Cuts the first view in two, and fixes the lane and the room. The pass that is cut puts, and the new one takes.
+/// Cuts the first view in two, and fixes the way and the room. The pass that is cut puts, and the new one takes.
 pub struct PutsHere<F> {
     fixed: PhantomData<F>,
 }
@@ -64,16 +86,16 @@ pub struct PutsHere<F> {
 impl<T, F: Fixed> Split<Side<T>> for PutsHere<F> {
     ghost use Rattle.ff_link.specs.Flow.{putter, taker};
 
-    ghost left = { λ v. putter F.lane F.room v.sent };
+    ghost left = { λ v. putter F.way F.room v.sent };
 
-    ghost right = { λ v. taker F.lane F.room v.taken };
+    ghost right = { λ v. taker F.way F.room v.taken };
 }
 
 /// Joins the view that puts with the view that takes.
 pub struct Whole;
 
 impl<T> Join<Side<T>> for Whole {
-    ghost use Rattle.ff_link.specs.Flow.{whole, nobody, no_lane};
+    ghost use Rattle.ff_link.specs.Flow.{whole, nobody, no_way};
 
     ghost both = { whole };
 
@@ -131,9 +153,9 @@ impl Lesson<u64, Side<u64>> for Hears {
 pub struct AllItems;
 
 impl Lesson<Item, Side<Item>> for AllItems {
-    ghost use Rattle.ff_link.specs.Flow.{IsTotal, IsSending};
+    ghost use Rattle.ff_link.specs.Flow.{IsTotal, IsCarried};
 
-    ghost fact = { λ v items. IsTotal IsSending v items };
+    ghost fact = { λ v items. IsTotal IsCarried v items };
 }
 
 /// What both views of the count know together.

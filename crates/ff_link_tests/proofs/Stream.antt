@@ -1,5 +1,5 @@
 -- The packets are valid for their lane, and so is what closes them.
-use Rattle.std.proofs.Common.{◌≡◌, ◌≤◌, ◌<◌, ◌+◌, ◌*◌, ◌^◌, ℕ, zero, suc, List, [], ◌∷◌, ◌++◌, length, refl, sym, ap, ◌∙◌, subst, arith, length-append, add-one}
+use Rattle.std.proofs.Common.{◌≡◌, ◌≤◌, ◌<◌, ◌+◌, ◌*◌, ◌^◌, ℕ, zero, suc, Bool, true, List, [], ◌∷◌, ◌++◌, length, refl, sym, ap, ◌∙◌, subst, arith, length-append, add-one}
 use Rattle.std.specs.Prelude.{All}
 use Rattle.std.proofs.lemmas.Int.{ints}
 use Rattle.std.proofs.lemmas.List.Elements.{All-append, All-nil}
@@ -12,8 +12,8 @@ use Rattle.ff_frame.specs.Items.{Closes, with_item, Leads}
 use Rattle.ff_frame.specs.Lanes.{IsValid, IsItemFor, InOrder, Follows, EndsInTime}
 use Rattle.ff_frame.specs.Order.{leads_push}
 use Rattle.ff_frame.specs.Ports.{nothing}
-use Rattle.ff_link.specs.Sendings.{stream_of, IsSending}
-use Rattle.ff_link.specs.Views.{Sending}
+use Rattle.ff_link.specs.Sendings.{stream_of, IsSending, Carries}
+use Rattle.ff_link.specs.Views.{Link, Sending}
 use Rattle.ff_link.proofs.Sendings.{leads_to, sending_push}
 use Rattle.ff_link_tests.specs.Packets.{IsWhole, byte_lane, byte_packet, byte_packets, Sent, IsGoing}
 
@@ -94,14 +94,18 @@ moved : {k l : Lane} {xs ys : List Item} → k ≡ l → xs ≡ ys → IsSending
 moved {k} {l} {xs} {ys} e f h = subst (λ (zs : List Item). IsSending l zs) f (subst (λ (m : Lane). IsSending m xs) e h)
 
 -- the next packet may be sent
-pub next_sends : (n : ℕ) (s : Sending) (x : Item) → Sent n s → n < 2 ^ 20 → x ≡ byte_packet n → IsSending s.lane (s.sent ++ x ∷ [])
-next_sends n s x h few e = moved (sym h.lane) (λ i. sym h.packets i ++ sym e i ∷ []) (sends h.tb (suc n) h.whole (omega arith))
+carries : (s : Sending) (xs : List Item) → s.link.claims ≡ true → IsSending s.lane xs → Carries s.link.claims s.lane xs
+carries s xs claims h = subst (λ (b : Bool). Carries b s.lane xs) (sym claims) h
+
+pub next_sends : (n : ℕ) (s : Sending) (x : Item) → Sent n s → n < 2 ^ 20 → x ≡ byte_packet n → Carries s.link.claims s.lane (s.sent ++ x ∷ [])
+next_sends n s x h few e = carries s (s.sent ++ x ∷ []) h.claims (moved (sym h.lane) (λ i. sym h.packets i ++ sym e i ∷ []) (sends h.tb (suc n) h.whole (omega arith)))
 
 -- once it is sent, one packet more is sent
-pub next_sent : (n : ℕ) (s t : Sending) (x : Item) → Sent n s → x ≡ byte_packet n → t.lane ≡ s.lane → t.sent ≡ s.sent ++ x ∷ [] → Sent (n + 1) t
-next_sent n s t x h e lane sent = subst (λ (k : ℕ). Sent k t) (sym (add-one n)) (record {
+pub next_sent : (n : ℕ) (s t : Sending) (x : Item) → Sent n s → x ≡ byte_packet n → t.link ≡ s.link → t.lane ≡ s.lane → t.sent ≡ s.sent ++ x ∷ [] → Sent (n + 1) t
+next_sent n s t x h e link lane sent = subst (λ (k : ℕ). Sent k t) (sym (add-one n)) (record {
   tb = h.tb;
   whole = h.whole;
+  claims = ap (λ (k : Link). k.claims) link ∙ h.claims;
   lane = lane ∙ h.lane;
   packets = sent ∙ (λ i. h.packets i ++ e i ∷ []);
 })
@@ -114,8 +118,8 @@ still_valid lane s End c v = record { shape = v.shape; few = v.few; in_time = v.
 still_valid lane s Broken c v = record { shape = v.shape; few = v.few; in_time = v.in_time }
 
 -- what closes may be sent
-pub close_sends : (s : Sending) (x : Item) → IsGoing s → Closes x → IsSending s.lane (s.sent ++ x ∷ [])
+pub close_sends : (s : Sending) (x : Item) → IsGoing s → Closes x → Carries s.link.claims s.lane (s.sent ++ x ∷ [])
 close_sends s x g c =
     let h = g.after in let open_mark : (stream_of (byte_packets g.count)).mark ≡ still_open = ap (λ (t : Stream Item). t.mark) (made g.count) in
     let v : IsValid (byte_lane h.tb) (stream_of (byte_packets g.count)) = (sends h.tb g.count h.whole g.few).valid in
-    moved (sym h.lane) (ap (λ xs. xs ++ x ∷ []) (sym h.packets)) (sending_push (byte_lane h.tb) (byte_packets g.count) x (sends h.tb g.count h.whole g.few) open_mark (still_valid (byte_lane h.tb) (stream_of (byte_packets g.count)) x c v))
+    carries s (s.sent ++ x ∷ []) h.claims (moved (sym h.lane) (ap (λ xs. xs ++ x ∷ []) (sym h.packets)) (sending_push (byte_lane h.tb) (byte_packets g.count) x (sends h.tb g.count h.whole g.few) open_mark (still_valid (byte_lane h.tb) (stream_of (byte_packets g.count)) x c v)))

@@ -1,5 +1,5 @@
 -- A stream of packets of one byte each, and senders that send it.
-use Rattle.std.specs.Prelude.{◌≡◌, ◌≤◌, ◌^◌, ℕ, zero, suc, ◌%◌, pos, List, [], ◌∷◌, ◌++◌}
+use Rattle.std.specs.Prelude.{◌≡◌, ◌≤◌, ◌^◌, true, ℕ, zero, suc, ◌%◌, pos, List, [], ◌∷◌, ◌++◌}
 use Rattle.ff_time.specs.Fraction.{Fraction}
 use Rattle.ff_frame.specs.declared.head.Codec.TheVariants.{PcmU8}
 use Rattle.ff_frame.specs.declared.head.StreamHead.TheVariants.{Audio}
@@ -31,6 +31,7 @@ byte_packets (suc n) = byte_packets n ++ byte_packet n ∷ []
 pub record Sent (n : ℕ) (s : Sending) : Type 0 where
   pub tb : Fraction
   pub whole : IsWhole tb
+  pub claims : s.link.claims ≡ true
   pub lane : s.lane ≡ byte_lane tb
   pub packets : s.sent ≡ byte_packets n
 

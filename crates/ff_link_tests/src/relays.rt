@@ -1,6 +1,6 @@
 ghost use Rattle.std.specs.Prelude.{◌≡◌, ◌≤◌, ◌^◌, [], ◌∷◌, ◌++◌, length, IfOk, IfSome, IsTrue};
 ghost use Rattle.ff_frame.specs.Items.{Closes};
-ghost use Rattle.ff_link.specs.Sendings.{IsSending};
+ghost use Rattle.ff_link.specs.Sendings.{Carries};
 ghost use Rattle.ff_link_tests.specs.Packets.{byte_lane, IsWhole, Sent, IsGoing};
 
 use crate::packets::{is_packet, lane_of, packet};
@@ -37,7 +37,7 @@ pub(crate) fn new_link(
 
 // Puts an item, again where the link is full. Whether it was put before the receiver finished.
 fn put<R: Wait>(rt: &R, sender: &mut Sender, item: Item) -> bool
-    requires { IsSending sender.old.lane (sender.old.sent ++ item ∷ []) }
+    requires { Carries sender.old.link.claims sender.old.lane (sender.old.sent ++ item ∷ []) }
     ensures link { sender.new.link ≡ sender.old.link }
     ensures lane { sender.new.lane ≡ sender.old.lane }
     ensures sent { IsTrue result → sender.new.sent ≡ sender.old.sent ++ item ∷ [] }

@@ -8,20 +8,15 @@ use Rattle.ff_net_links.specs.declared.ends.InEnd.{InEnd}
 use Rattle.ff_net_links.specs.declared.ends.OutEnd.{OutEnd}
 use Rattle.ff_net_links.specs.declared.linked.Linked.{Linked}
 use Rattle.ff_net_links.specs.Ends.{in_link, out_link, in_end_at}
-use Rattle.ff_net_links.specs.Nodes.{in_ends_links, out_ends_links, Behind, Follows, ins_of, outs_of}
+use Rattle.ff_net_links.specs.Nodes.{in_ends_links, Behind, Follows, ins_of, outs_of}
 use Rattle.ff_net_links.specs.Runs.{AllRan}
 use Rattle.ff_net_links.specs.Settling.{AllBehind, AllEnded, AreLinked, AreJoined, AreMeeting, IsInOf, IsOutOf}
-use Rattle.ff_net_links.proofs.Linking.{in_nth, out_nth, count_map}
+use Rattle.ff_net_links.proofs.Linking.{in_nth, out_nth, out_link_nth, count_map}
 
 link_nth : (ends : List InEnd) (p : ℕ) → slice_index_or (in_ends_links ends) p None ≡ in_link (in_end_at ends p)
 link_nth [] p = refl
 link_nth (e ∷ es) zero = refl
 link_nth (e ∷ es) (suc p) = link_nth es p
-
-out_link_nth : (ends : List OutEnd) (q : ℕ) (d : OutEnd) → q < length ends → slice_index_or (out_ends_links ends) q None ≡ out_link (slice_index_or ends q d)
-out_link_nth [] q d lt = absurd (omega arith)
-out_link_nth (e ∷ es) zero d lt = refl
-out_link_nth (e ∷ es) (suc q) d lt = out_link_nth es q d (omega arith)
 
 module _ {M : Type 0} (in_lanes out_lanes : M → List Lane) (source : M → Option ℕ) (device : M → Option (List ℕ)) (failures : M → ℕ) (fault : M → Option Fault) (stands : M → Past → Type 0) where
   abbrev Run : List (Linked M) → List (Linked M) → Type 0

@@ -1,5 +1,5 @@
 -- What each step of an end keeps.
-use Rattle.std.proofs.Common.{◌≡◌, ℕ, inl, inr, true, false, IsTrue, ◌↔◌, List, [], ◌∷◌, ◌++◌, refl, ap, sym, ◌∙◌, subst, Option, None, Some, is_some}
+use Rattle.std.proofs.Common.{◌≡◌, ℕ, inl, inr, Bool, true, false, IsTrue, ◌↔◌, List, [], ◌∷◌, ◌++◌, ◌≤◌, ◌+◌, ◌^◌, length, length-append, arith, refl, ap, sym, ◌∙◌, subst, Option, None, Some, is_some}
 use Rattle.ff_frame.specs.declared.item.Item.{Item}
 use Rattle.ff_frame.specs.declared.item.Lane.{Lane}
 use Rattle.ff_frame.specs.Stream.{still_open, LiesBelow}
@@ -7,8 +7,8 @@ use Rattle.ff_frame.specs.Items.{Closes, with_item, Leads}
 use Rattle.ff_frame.specs.Lanes.{IsValid}
 use Rattle.ff_frame.specs.Order.{with_item_above, with_item_open, with_item_closed}
 use Rattle.ff_frame.specs.Ports.{nothing, IsClosed}
-use Rattle.ff_link.specs.Sendings.{stream_from, stream_of, IsSending}
-use Rattle.ff_link.specs.Views.{Sending, Receiving}
+use Rattle.ff_link.specs.Sendings.{stream_from, stream_of, IsSending, Carries}
+use Rattle.ff_link.specs.Views.{Link, Sending, Receiving}
 use Rattle.ff_link.proofs.Sendings.{stream_from-append, sending_push}
 use Rattle.ff_net.specs.declared.wires.Wires.{Wires}
 use Rattle.ff_net.specs.Ways.{Flow, lane_at, IsValidOn}
@@ -20,7 +20,7 @@ use Rattle.ff_net.proofs.Moments.{with_wire_same, course_self}
 use Rattle.ff_net.proofs.Changes.{true_not_false, course_put, course_take, course_finish}
 use Rattle.ff_net_links.specs.declared.ends.InEnd.{InEnd}
 use Rattle.ff_net_links.specs.declared.ends.OutEnd.{OutEnd}
-use Rattle.ff_net_links.specs.Ends.{taken_in, InEndStands, OutEndStands, OnWires}
+use Rattle.ff_net_links.specs.Ends.{taken_in, InEndStands, OutEndStands, OnWires, claims_of, out_link}
 
 -- before the last item the stream was open
 leads_open : (s : Flow) (xs : List Item) (x : Item) (t : Flow) → Leads s (xs ++ x ∷ []) t → (stream_from s xs).mark ≡ still_open
@@ -33,14 +33,15 @@ stream_push xs x = stream_from-append nothing xs (x ∷ [])
 no_some : (x : Item) (o : Option Item) → o ≡ None → o ≡ Some x → ⊥
 no_some x o e f = cc
 
-pub in_fetched : (end end' : InEnd) (lane : Option Lane) (wire : Wire) (r r' : Receiving) (x : Item) → wire.finished ≡ false → InEndStands end lane wire → end.held ≡ None → end.taking ≡ Some r → end'.held ≡ Some x → end'.taking ≡ Some r' → r'.taken ≡ r.taken ++ x ∷ [] → r'.lane ≡ r.lane
-    → IsSending r.lane (r.taken ++ x ∷ []) → InEndStands end' lane wire
-in_fetched end end' lane wire r r' x goes i none taking some taking' taken same_lane sending =
+pub in_fetched : (end end' : InEnd) (lane : Option Lane) (wire : Wire) (r r' : Receiving) (x : Item) → wire.finished ≡ false → InEndStands end lane wire → end.held ≡ None → end.taking ≡ Some r → end'.held ≡ Some x → end'.taking ≡ Some r' → r'.taken ≡ r.taken ++ x ∷ [] → r'.lane ≡ r.lane → r'.link ≡ r.link
+    → Carries r.link.claims r.lane (r.taken ++ x ∷ []) → InEndStands end' lane wire
+in_fetched end end' lane wire r r' x goes i none taking some taking' taken same_lane same_link carries =
+    let sending : IsSending r.lane (r.taken ++ x ∷ []) = subst (λ (b : Bool). Carries b r.lane (r.taken ++ x ∷ [])) (i.going r taking).1 carries in
     let was : wire.sent ≡ stream_of r.taken = subst (λ (t : Option Receiving). wire.sent ≡ stream_of (taken_in t end.finished)) taking (subst (λ (h : Option Item). HeldIs h wire.sent (stream_of (taken_in end.taking end.finished))) none (i.carried goes)) in
     let open_before : wire.sent.mark ≡ still_open = ap (λ (s : Flow). s.mark) was ∙ leads_open nothing r.taken x _ sending.none_behind in
     let now : stream_of (taken_in end'.taking end'.finished) ≡ with_item wire.sent x =
     ap (λ (t : Option Receiving). stream_of (taken_in t end'.finished)) taking' ∙ (ap stream_of taken ∙ (stream_push r.taken x ∙ ap (λ (s : Flow). with_item s x) (sym was))) in
-    let on_lane : lane ≡ Some r.lane = i.going r taking in record {
+    let on_lane : lane ≡ Some r.lane = (i.going r taking).0 in record {
       carried = λ f. subst (λ (h : Option Item). HeldIs h wire.sent (stream_of (taken_in end'.taking end'.finished))) (sym some) (sym now);
       lying = λ y e.
           let same : x ≡ y = cc (sym some ∙ e) in
@@ -49,7 +50,11 @@ in_fetched end end' lane wire r r' x goes i none taking some taking' taken same_
             subst (λ (l : Option Lane). IsValidOn l (with_item wire.sent x)) (sym on_lane) (subst (λ (s : Flow). IsValid r.lane s) (stream_push r.taken x ∙ ap (λ (s : Flow). with_item s x) (sym was)) sending.valid),
           );
       below = subst (λ (s : Flow). LiesBelow wire.sent s) (sym now) (with_item_above wire.sent x open_before);
-      going = λ q e. let same : r' ≡ q = cc (sym taking' ∙ e) in on_lane ∙ ap (λ (l : Lane). Some l) (sym same_lane ∙ ap (λ (z : Receiving). z.lane) same);
+      going = λ q e.
+          let same : r' ≡ q = cc (sym taking' ∙ e) in (
+            on_lane ∙ ap (λ (l : Lane). Some l) (sym same_lane ∙ ap (λ (z : Receiving). z.lane) same),
+            ap (λ (z : Receiving). z.link.claims) (sym same) ∙ (ap (λ (k : Link). k.claims) same_link ∙ (i.going r taking).1),
+          );
       shut = λ e. absurd (let no : Some r' ≡ None = sym taking' ∙ e in cc (no));
     }
 
@@ -156,3 +161,17 @@ some_past = start (record { means = λ ss. []; cause = λ ss. None; source = fal
 pub renamed : (holds : Option Lane → Wire → Type 0) (lanes lanes' : List Lane) (w w' : ℕ) (now : ℕ → Wire) → lanes' ≡ lanes → w' ≡ w → holds (lane_at lanes w) (now w) → holds (lane_at lanes' w') (now w')
 renamed holds lanes lanes' w w' now same_lanes same h =
     subst (λ (v : ℕ). holds (lane_at lanes' v) (now v)) (sym same) (subst (λ (ls : List Lane). holds (lane_at ls w) (now w)) (sym same_lanes) h)
+
+carries_by : (claims : Bool) (lane : Lane) (xs : List Item) → length xs ≤ 2 ^ 40 + 1 → (claims ≡ true → IsSending lane xs) → Carries claims lane xs
+carries_by true lane xs few sending = sending refl
+carries_by false lane xs few sending = few
+
+-- an end carries one item more, where that is valid if it claims so
+pub may_carry : (end : OutEnd) (x : Item) (n : ℕ) → n ≡ length end.sender.sent → n ≤ 2 ^ 40 → (claims_of end ≡ true → IsSending end.sender.lane (end.sender.sent ++ x ∷ [])) → Carries end.sender.link.claims end.sender.lane (end.sender.sent ++ x ∷ [])
+may_carry end x n e few sending =
+    let l = length-append end.sender.sent (x ∷ []) in
+    carries_by end.sender.link.claims end.sender.lane (end.sender.sent ++ x ∷ []) (omega arith) sending
+
+-- an end that has the link of another claims what that claims
+pub claimed : (a b : OutEnd) → out_link a ≡ out_link b → claims_of a ≡ true → claims_of b ≡ true
+claimed a b e t = (let same : a.sender.link ≡ b.sender.link = cc (e) in ap (λ (k : Link). k.claims) (sym same) ∙ t)

@@ -7,7 +7,7 @@ use Rattle.ff_frame.specs.Items.{with_item}
 use Rattle.ff_frame.specs.declared.item.Item.{Item}
 use Rattle.ff_link.specs.Sendings.{stream_of, IsSending}
 use Rattle.ff_link.proofs.Sendings.{nothing_sent}
-use Rattle.ff_link.specs.Views.{Sending, Receiving}
+use Rattle.ff_link.specs.Views.{Link, Sending, Receiving}
 use Rattle.ff_net.specs.declared.fault.Fault.{Fault}
 use Rattle.ff_net.specs.declared.node.Node.{Node}
 use Rattle.ff_net.specs.declared.wires.Wires.{Wires}
@@ -21,11 +21,12 @@ use Rattle.ff_net.proofs.Flows.{same_or_not, there_lane}
 use Rattle.ff_net.proofs.Moments.{fault_self, fault_then}
 use Rattle.ff_net.proofs.NetSteps.{other_stands}
 use Rattle.ff_net.proofs.Rounds.{shaped_later}
+use Rattle.ff_net_links.proofs.Carrying.{claimed}
 use Rattle.ff_net_links.specs.declared.ends.InEnd.{InEnd}
 use Rattle.ff_net_links.specs.declared.ends.OutEnd.{OutEnd}
 use Rattle.ff_net_links.specs.declared.linked.Linked.{Linked}
-use Rattle.ff_net_links.specs.Ends.{taken_of, InEndStands, OutEndStands, Draws, Pours, CanPour, in_link, out_link, in_end_at, new_in, new_out}
-use Rattle.ff_net_links.specs.Nodes.{in_ends_wires, out_ends_wires, in_ends_links, out_ends_links, IsWired, Behind, Follows, IsBeginning}
+use Rattle.ff_net_links.specs.Ends.{taken_of, InEndStands, OutEndStands, Draws, Pours, CanPour, claims_of, in_link, out_link, in_end_at, new_in, new_out}
+use Rattle.ff_net_links.specs.Nodes.{in_ends_wires, out_ends_wires, in_ends_links, out_ends_links, IsWired, IsLawful, Behind, Follows, IsBeginning}
 
 pub map_set_same : {A B : Type 0} (f : A → B) (xs : List A) (p : ℕ) (x d : A) → p < length xs → f x ≡ f (slice_index_or xs p d) → map f (slice_set xs p x) ≡ map f xs
 map_set_same f [] p x d lt e = refl
@@ -98,12 +99,12 @@ out_end_keep e lane wire wire' taken o = record {
   done = o.done;
 }
 
-in_new_stands : (w : ℕ) (r : Receiving) (lane : Option Lane) → r.taken ≡ [] → lane ≡ Some r.lane → InEndStands (new_in w r) lane fresh
-in_new_stands w r lane none on = record {
+in_new_stands : (w : ℕ) (r : Receiving) (lane : Option Lane) → r.taken ≡ [] → r.link.claims ≡ true → lane ≡ Some r.lane → InEndStands (new_in w r) lane fresh
+in_new_stands w r lane none claims on = record {
   carried = λ f. sym (ap stream_of none);
   lying = λ x e. absurd (let no : None ≡ Some x = e in cc (no));
   below = inl (sym (ap stream_of none));
-  going = λ q e. let same : r ≡ q = cc (e) in on ∙ ap (λ (z : Receiving). Some z.lane) same;
+  going = λ q e. let same : r ≡ q = cc (e) in (on ∙ ap (λ (z : Receiving). Some z.lane) same, ap (λ (z : Receiving). z.link.claims) (sym same) ∙ claims);
   shut = λ e. absurd (let no : Some r ≡ None = e in cc (no));
 }
 
@@ -116,6 +117,15 @@ out_new_stands w s lane none on = record {
   below = inl (ap stream_of none);
   done = λ d. absurd (let no : false ≡ true = d in cc (no));
 }
+
+pub out_link_nth : (ends : List OutEnd) (q : ℕ) (d : OutEnd) → q < length ends → slice_index_or (out_ends_links ends) q None ≡ out_link (slice_index_or ends q d)
+out_link_nth [] q d lt = absurd (omega arith)
+out_link_nth (e ∷ es) zero d lt = refl
+out_link_nth (e ∷ es) (suc q) d lt = out_link_nth es q d (omega arith)
+
+have_after : (ws ws' : List ℕ) (ports ports' lanes lanes' : List Lane) → ws' ≡ ws → ports' ≡ ports → lanes' ≡ lanes → HaveLanes ws ports lanes → HaveLanes ws' ports' lanes'
+have_after ws ws' ports ports' lanes lanes' e f g h =
+    subst (λ (vs : List ℕ). HaveLanes vs ports' lanes') (sym e) (subst (λ (ls : List Lane). HaveLanes ws ls lanes') (sym f) (subst (λ (ls : List Lane). HaveLanes ws ports ls) (sym g) h))
 
 -- of one wire, no other is
 only : (w v : ℕ) → v ≢ w → IsIn v (w ∷ []) → ⊥
@@ -165,8 +175,8 @@ module _ {M : Type 0} (in_lanes out_lanes : M → List Lane) (source : M → Opt
   pub out_end_there : (l : Linked M) → IsWired in_lanes out_lanes l → (q : ℕ) (d : OutEnd) → q < length l.outs.items → (slice_index_or l.outs.items q d).wire < length (lanes_of l.wires)
   out_end_there l wired q d lt = wire_there (out_wires_of l.node) (out_lanes l.node.machine) (lanes_of l.wires) wired.shaped.outs.lanes_are (slice_index_or l.outs.items q d).wire (subst (λ (ws : List ℕ). IsIn (slice_index_or l.outs.items q d).wire ws) wired.out_wires (out_member l.outs.items q d lt))
 
-  pub can_pour : (task : Task) (l : Linked M) → Behind in_lanes out_lanes source fault stands task l → (q : ℕ) (d : OutEnd) → q < length l.outs.items → CanPour l.wires (slice_index_or l.outs.items q d)
-  can_pour task l b q d lt = record { world = b.world; stand = b.stand; fits = b.outs q d lt }
+  pub can_pour : (l : Linked M) → IsLawful in_lanes out_lanes source fault stands l → (q : ℕ) (d : OutEnd) → q < length l.outs.items → claims_of (slice_index_or l.outs.items q d) ≡ true → CanPour l.wires (slice_index_or l.outs.items q d)
+  can_pour l h q d lt claims = (let b = (h.vouched q d lt claims).1 in record { world = b.world; stand = b.stand; fits = b.outs q d lt })
 
   module _ (l l' : Linked M) (p : ℕ) (there : p < length l.ins.items) (node : l'.node ≡ l.node) (outs : l'.outs.items ≡ l.outs.items) (lanes : lanes_of l'.wires ≡ lanes_of l.wires) (draws : Draws l.wires l'.wires l.ins.items l'.ins.items p) where
     in_set : (k : ℕ) → in_end_at l'.ins.items k ≡ in_end_at (slice_set l.ins.items p draws.end) k
@@ -346,9 +356,33 @@ module _ {M : Type 0} (in_lanes out_lanes : M → List Lane) (source : M → Opt
     ins = λ p lt.
         let n = b.ins_new p lt in
         let e : InEnd = in_end_at l.ins.items p in
-        subst (λ (f : InEnd). InEndStands f (lane_at (lanes_of l.wires) e.wire) fresh) (sym n.1) (in_new_stands e.wire n.0 (lane_at (lanes_of l.wires) e.wire) n.2 n.3);
+        subst (λ (f : InEnd). InEndStands f (lane_at (lanes_of l.wires) e.wire) fresh) (sym n.1) (in_new_stands e.wire n.0 (lane_at (lanes_of l.wires) e.wire) n.2 n.3 n.4);
     outs = λ q d lt.
         let n = b.outs_new q d lt in
         let e : OutEnd = slice_index_or l.outs.items q d in
         subst (λ (f : OutEnd). OutEndStands f (lane_at (lanes_of l.wires) e.wire) fresh) (sym n.1) (out_new_stands e.wire n.0 (lane_at (lanes_of l.wires) e.wire) n.2 n.3);
+  }
+
+  -- a node that goes on stays wired
+  pub wired_after : (old new : Linked M) → Follows in_lanes out_lanes source device failures fault stands old new → IsWired in_lanes out_lanes old → IsWired in_lanes out_lanes new
+  wired_after old new f w = record {
+    shaped = record {
+      ins = have_after (in_wires_of old.node) (in_wires_of new.node) (in_lanes old.node.machine) (in_lanes new.node.machine) (lanes_of old.wires) (lanes_of new.wires) f.ins_same f.in_lanes_same f.lanes_same w.shaped.ins;
+      outs = have_after (out_wires_of old.node) (out_wires_of new.node) (out_lanes old.node.machine) (out_lanes new.node.machine) (lanes_of old.wires) (lanes_of new.wires) f.outs_same f.out_lanes_same f.lanes_same w.shaped.outs;
+    };
+    apart = λ v a b. w.apart v (subst (λ (ws : List ℕ). IsIn v ws) f.ins_same a) (subst (λ (ws : List ℕ). IsIn v ws) f.outs_same b);
+    in_wires = f.in_ends_same ∙ (w.in_wires ∙ sym f.ins_same);
+    out_wires = f.out_ends_same ∙ (w.out_wires ∙ sym f.outs_same);
+  }
+
+  -- and lawful
+  pub lawful_after : (old new : Linked M) → Follows in_lanes out_lanes source device failures fault stands old new → IsLawful in_lanes out_lanes source fault stands old → IsLawful in_lanes out_lanes source fault stands new
+  lawful_after old new f l = record {
+    wired = wired_after old new f l.wired;
+    vouched = λ q d lt claims.
+        let count : length new.outs.items ≡ length old.outs.items = sym (count_map (λ (x : OutEnd). x.wire) new.outs.items) ∙ (ap length f.out_ends_same ∙ count_map (λ (x : OutEnd). x.wire) old.outs.items) in
+        let lt' : q < length old.outs.items = subst (λ (n : ℕ). q < n) count lt in
+        let link : out_link (slice_index_or new.outs.items q d) ≡ out_link (slice_index_or old.outs.items q d) = sym (out_link_nth new.outs.items q d lt) ∙ (ap (λ (ls : List (Option Link)). slice_index_or ls q None) f.out_links_same ∙ out_link_nth old.outs.items q d lt') in
+        let b = l.vouched q d lt' (claimed (slice_index_or new.outs.items q d) (slice_index_or old.outs.items q d) link claims) in
+        (b.0, f.goes b.0 b.1);
   }

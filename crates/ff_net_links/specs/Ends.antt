@@ -1,5 +1,5 @@
 -- How the ends of links stand to the wires of a node.
-use Rattle.std.specs.Prelude.{◌≡◌, ℕ, ◌⊎◌, true, false, List, [], Option, None, Some, is_some, slice_index_or, slice_set, ◌∷◌}
+use Rattle.std.specs.Prelude.{◌≡◌, ℕ, ◌⊎◌, Bool, true, false, List, [], Option, None, Some, is_some, slice_index_or, slice_set, ◌∷◌}
 use Rattle.ff_frame.specs.declared.item.Item.{Item}
 use Rattle.ff_frame.specs.declared.item.Lane.{Lane}
 use Rattle.ff_frame.specs.Stream.{still_open, LiesBelow}
@@ -43,7 +43,7 @@ pub record InEndStands (end : InEnd) (lane : Option Lane) (wire : Wire) : Type 0
   pub carried : wire.finished ≡ false → HeldIs end.held wire.sent (stream_of (taken_of end))
   pub lying : (x : Item) → end.held ≡ Some x → (wire.sent.mark ≡ still_open) × IsValidOn lane (with_item wire.sent x)
   pub below : LiesBelow wire.sent (stream_of (taken_of end))
-  pub going : (r : Receiving) → end.taking ≡ Some r → lane ≡ Some r.lane
+  pub going : (r : Receiving) → end.taking ≡ Some r → (lane ≡ Some r.lane) × (r.link.claims ≡ true)
   pub shut : end.taking ≡ None → wire.finished ≡ true
 
 -- an end that sends: until the link is closed or its receiver has finished, what was sent over the link, with the item
@@ -55,6 +55,10 @@ pub record OutEndStands (end : OutEnd) (lane : Option Lane) (wire : Wire) : Type
   pub unclosed : end.done ≡ false → (stream_of end.sender.sent).mark ≡ still_open
   pub below : LiesBelow (stream_of end.sender.sent) wire.taken
   pub done : end.done ≡ true → IsClosed (stream_of end.sender.sent) ⊎ (is_some end.sender.told ≡ true)
+
+-- whether what this end sends is claimed to be valid
+abbrev pub claims_of : OutEnd → Bool
+claims_of end = end.sender.link.claims
 
 -- something can be behind the wires at which this end stands
 pub record CanPour (wires : Wires) (end : OutEnd) : Type 0 where

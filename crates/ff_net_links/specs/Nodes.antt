@@ -13,7 +13,7 @@ use Rattle.ff_net.specs.declared.wires.Wires.{Wires}
 use Rattle.ff_net_links.specs.declared.ends.InEnd.{InEnd}
 use Rattle.ff_net_links.specs.declared.ends.OutEnd.{OutEnd}
 use Rattle.ff_net_links.specs.declared.linked.Linked.{Linked}
-use Rattle.ff_net_links.specs.Ends.{InEndStands, OutEndStands, in_link, out_link, in_end_at, new_in, new_out}
+use Rattle.ff_net_links.specs.Ends.{InEndStands, OutEndStands, claims_of, in_link, out_link, in_end_at, new_in, new_out}
 
 abbrev pub in_ends_wires : List InEnd → List ℕ
 in_ends_wires ends = map (λ e. e.wire) ends
@@ -42,12 +42,16 @@ ins_of l = l.ins.items
 abbrev pub outs_of : {M : Type 0} → Linked M → List OutEnd
 outs_of l = l.outs.items
 
--- the wires and the ends that a node has are those of its ports, and no input has the wire of an output
-pub record IsWired {M : Type 0} (in_lanes out_lanes : M → List Lane) (l : Linked M) : Type 0 where
-  pub shaped : IsShaped in_lanes out_lanes l.node l.wires
-  pub apart : (w : ℕ) → IsIn w (in_wires_of l.node) → IsIn w (out_wires_of l.node) → ⊥
-  pub in_wires : in_ends_wires l.ins.items ≡ in_wires_of l.node
-  pub out_wires : out_ends_wires l.outs.items ≡ out_wires_of l.node
+-- the wires and the ends of a node are those of its ports, and no input has the wire of an output
+pub record AreWired {M : Type 0} (in_lanes out_lanes : M → List Lane) (node : Node M) (wires : Wires) (ins : List InEnd) (outs : List OutEnd) : Type 0 where
+  pub shaped : IsShaped in_lanes out_lanes node wires
+  pub apart : (w : ℕ) → IsIn w (in_wires_of node) → IsIn w (out_wires_of node) → ⊥
+  pub in_wires : in_ends_wires ins ≡ in_wires_of node
+  pub out_wires : out_ends_wires outs ≡ out_wires_of node
+
+-- and so are those that a node has
+abbrev pub IsWired : {M : Type 0} → (M → List Lane) → (M → List Lane) → Linked M → Type 0
+IsWired in_lanes out_lanes l = AreWired in_lanes out_lanes l.node l.wires l.ins.items l.outs.items
 
 -- something with this task can be behind the node, its wires and its ends
 pub record Behind {M : Type 0} (in_lanes out_lanes : M → List Lane) (source : M → Option ℕ) (fault : M → Option Fault) (stands : M → Past → Type 0) (task : Task) (l : Linked M) : Type 0 where
@@ -74,9 +78,10 @@ pub record Follows {M : Type 0} (in_lanes out_lanes : M → List Lane) (source :
   pub fares : FaultStep device failures fault old.node.machine new.node.machine
   pub goes : (task : Task) → Behind in_lanes out_lanes source fault stands task old → Behind in_lanes out_lanes source fault stands task new
 
--- some task is behind it
-abbrev pub IsLawful : {M : Type 0} → (M → List Lane) → (M → List Lane) → (M → Option ℕ) → (M → Option Fault) → (M → Past → Type 0) → Linked M → Type 0
-IsLawful in_lanes out_lanes source fault stands l = (task : Task) × Behind in_lanes out_lanes source fault stands task l
+-- the node may be turned: it is wired, and where an output claims that what it sends is valid, some task is behind it
+pub record IsLawful {M : Type 0} (in_lanes out_lanes : M → List Lane) (source : M → Option ℕ) (fault : M → Option Fault) (stands : M → Past → Type 0) (l : Linked M) : Type 0 where
+  pub wired : IsWired in_lanes out_lanes l
+  pub vouched : (q : ℕ) (d : OutEnd) → q < length l.outs.items → claims_of (slice_index_or l.outs.items q d) ≡ true → (task : Task) × Behind in_lanes out_lanes source fault stands task l
 
 -- the node is done, each of its inputs has finished its link, and each of its outputs has sent a closing item or was
 -- told that the receiver has finished
@@ -93,5 +98,5 @@ pub record IsBeginning {M : Type 0} (in_lanes out_lanes : M → List Lane) (sour
   pub out_wires : out_ends_wires outs ≡ out_wires_of node
   pub node_new : NodeStands source fault stands node (λ w. fresh) (start task)
   pub wires_new : Stand wires (λ w. fresh)
-  pub ins_new : (p : ℕ) → p < length ins → (r : Receiving) × (in_end_at ins p ≡ new_in (in_end_at ins p).wire r) × (r.taken ≡ []) × (lane_at (lanes_of wires) (in_end_at ins p).wire ≡ Some r.lane)
+  pub ins_new : (p : ℕ) → p < length ins → (r : Receiving) × (in_end_at ins p ≡ new_in (in_end_at ins p).wire r) × (r.taken ≡ []) × (r.link.claims ≡ true) × (lane_at (lanes_of wires) (in_end_at ins p).wire ≡ Some r.lane)
   pub outs_new : (q : ℕ) (d : OutEnd) → q < length outs → (s : Sending) × (slice_index_or outs q d ≡ new_out (slice_index_or outs q d).wire s) × (s.sent ≡ []) × (lane_at (lanes_of wires) (slice_index_or outs q d).wire ≡ Some s.lane)

@@ -4,7 +4,7 @@ ghost use Rattle.ff_net.specs.declared.wires.Wires.{Wires};
 ghost use Rattle.ff_net.specs.Pasts.{Past};
 ghost use Rattle.ff_net.specs.Ways.{lane_at};
 ghost use Rattle.ff_net.specs.Worlds.{Wire, Stand, lanes_of};
-ghost use Rattle.ff_net_links.specs.Ends.{InEndStands, OutEndStands, CanPour, OnWires, Draws, Pours, in_link, out_link, in_end_at};
+ghost use Rattle.ff_net_links.specs.Ends.{InEndStands, OutEndStands, CanPour, OnWires, Draws, Pours, claims_of, in_link, out_link, in_end_at};
 ghost use Rattle.ff_net_links.specs.declared.ends.OutEnd.{OutEnd};
 
 use ff_frame::Item;
@@ -171,17 +171,23 @@ fn lift(wires: &mut Wires, end: &mut OutEnd) -> bool
     }
 }
 
+// No stream that is valid for a lane has more, and a closing item comes on top. An end that claims nothing sends no more.
+const MOST_ITEMS: u64 = 1 << 40;
+
 // Puts what is held on the link, and says whether something moved.
 fn send<R: Wait>(rt: &R, wires: &mut Wires, end: &mut OutEnd) -> bool
     requires there { end.old.wire < length (lanes_of wires.old) }
     requires goes_on { end.old.done ≡ false }
-    requires stands { CanPour wires.old end.old }
+    requires stands { claims_of end.old ≡ true → CanPour wires.old end.old }
     ensures lanes { lanes_of wires.new ≡ lanes_of wires.old }
     ensures wire { end.new.wire ≡ end.old.wire }
     ensures link { out_link end.new ≡ out_link end.old }
     ensures stands { (world : ℕ → Wire) (past : Past) → Stand wires.old world → OutEndStands end.old (lane_at (lanes_of wires.old) end.old.wire) (world end.old.wire)
         → OnWires (end.old.wire ∷ []) [] wires.new world past (OutEndStands end.new (lane_at (lanes_of wires.old) end.old.wire)) end.old.wire }
 {
+    if end.sender.puts() > MOST_ITEMS {
+        return false;
+    }
     let Some(item) = end.held.take() else {
         return false;
     };
@@ -208,7 +214,7 @@ fn send<R: Wait>(rt: &R, wires: &mut Wires, end: &mut OutEnd) -> bool
 /// node is told so by its wire.
 pub fn pour<R: Wait>(rt: &R, wires: &mut Wires, end: &mut OutEnd) -> bool
     requires there { end.old.wire < length (lanes_of wires.old) }
-    requires stands { CanPour wires.old end.old }
+    requires stands { claims_of end.old ≡ true → CanPour wires.old end.old }
     ensures lanes { lanes_of wires.new ≡ lanes_of wires.old }
     ensures wire { end.new.wire ≡ end.old.wire }
     ensures link { out_link end.new ≡ out_link end.old }
@@ -239,7 +245,7 @@ pub fn draw_at<R: Wait>(rt: &R, wires: &mut Wires, ins: &mut Vec<InEnd>, p: usiz
 pub fn pour_at<R: Wait>(rt: &R, wires: &mut Wires, outs: &mut Vec<OutEnd>, q: usize) -> bool
     requires there { q < length outs.old.items }
     requires wire { (d : OutEnd) → (slice_index_or outs.old.items q d).wire < length (lanes_of wires.old) }
-    requires stands { (d : OutEnd) → CanPour wires.old (slice_index_or outs.old.items q d) }
+    requires stands { (d : OutEnd) → claims_of (slice_index_or outs.old.items q d) ≡ true → CanPour wires.old (slice_index_or outs.old.items q d) }
     ensures lanes { lanes_of wires.new ≡ lanes_of wires.old }
     ensures pours { Pours wires.old wires.new outs.old.items outs.new.items q }
 {

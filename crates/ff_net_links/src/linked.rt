@@ -2,7 +2,7 @@
 ghost use Rattle.std.specs.Prelude.{◌≡◌, ◌<◌, ℕ, length, slice_index_or, true, None, Some};
 ghost use Rattle.ff_net_links.specs.Ends.{in_end_at};
 ghost use Rattle.ff_net_links.specs.declared.ends.OutEnd.{OutEnd};
-ghost use Rattle.ff_net_links.specs.Nodes.{Follows, IsLawful, HasEnded, Behind, IsBeginning, node_of, lanes_on, ins_of, outs_of};
+ghost use Rattle.ff_net_links.specs.Nodes.{Follows, IsLawful, HasEnded, Behind, IsBeginning, AreWired, IsWired, node_of, lanes_on, ins_of, outs_of};
 ghost use Rattle.ff_net.specs.declared.fault.Fault.{Fault};
 ghost use Rattle.ff_net.specs.Nodes.{IsSound, machine_of};
 ghost use Rattle.ff_net.specs.Pasts.{Task};
@@ -60,6 +60,7 @@ impl<M: Machine> Linked<M> {
         ensures lanes { lanes_on result ≡ lanes_of wires }
         ensures ins { ins_of result ≡ ins.items }
         ensures outs { outs_of result ≡ outs.items }
+        ensures wired { AreWired M.in_lanes M.out_lanes node wires ins.items outs.items → IsWired M.in_lanes M.out_lanes result }
         ensures lawful { (task : Task) → IsBeginning M.in_lanes M.out_lanes M.source_of M.fault_of M.stands task node wires ins.items outs.items → Behind M.in_lanes M.out_lanes M.source_of M.fault_of M.stands task result }
     {
         Linked {
@@ -75,8 +76,16 @@ impl<M: Machine> Linked<M> {
         ensures sound { result ≡ None → IsSound M.fault_of (node_of self.now) }
         ensures none { IsSound M.fault_of (node_of self.now) → result ≡ None }
         ensures machine { (c : Fault) → M.fault_of (machine_of (node_of self.now)) ≡ Some c → result ≡ Some c }
+        ensures refused { M.fault_of (machine_of (node_of self.now)) ≡ None → (IsSound M.fault_of (node_of self.now) → ⊥) → result ≡ Some Fault.NoMemory }
     {
         self.node.fault()
+    }
+
+    /// The machine.
+    pub fn into_machine(self) -> M
+        ensures { result ≡ machine_of (node_of self) }
+    {
+        self.node.into_machine()
     }
 
     /// The node and the ends of its links.

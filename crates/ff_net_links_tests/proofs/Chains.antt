@@ -1,5 +1,5 @@
 -- New nodes are lawful.
-use Rattle.std.proofs.Common.{◌≡◌, ℕ, zero, suc, ◌<◌, ◌≤◌, ◌^◌, List, [], ◌∷◌, length, map, slice_index_or, replicate, refl, ap, sym, subst, ◌∙◌, arith, inl, inr, Some}
+use Rattle.std.proofs.Common.{◌≡◌, true, ℕ, zero, suc, ◌<◌, ◌≤◌, ◌^◌, List, [], ◌∷◌, length, map, slice_index_or, replicate, refl, ap, sym, subst, ◌∙◌, arith, inl, inr, Some}
 use Rattle.ff_frame.specs.declared.item.Lane.{Lane}
 use Rattle.ff_frame.specs.declared.item.Item.{Item}
 use Rattle.ff_frame.specs.Lanes.{IsValid}
@@ -37,13 +37,13 @@ two lane = lane ∷ lane ∷ []
 
 -- what is asked of one end
 abbrev InIsNew : Lane → InEnd → Type 0
-InIsNew lane end = (r : Receiving) × (end ≡ new_in end.wire r) × (r.taken ≡ []) × (lane_at (two lane) end.wire ≡ Some r.lane)
+InIsNew lane end = (r : Receiving) × (end ≡ new_in end.wire r) × (r.taken ≡ []) × (r.link.claims ≡ true) × (lane_at (two lane) end.wire ≡ Some r.lane)
 
 abbrev OutIsNew : Lane → OutEnd → Type 0
 OutIsNew lane end = (s : Sending) × (end ≡ new_out end.wire s) × (s.sent ≡ []) × (lane_at (two lane) end.wire ≡ Some s.lane)
 
 only_in : (lane : Lane) (w : ℕ) (r : Receiving) → lane_at (two lane) w ≡ Some lane → IsNewReceiver lane r → (p : ℕ) → p < length (new_in w r ∷ []) → InIsNew lane (in_end_at (new_in w r ∷ []) p)
-only_in lane w r at new zero lt = (r, refl, new.none_taken, at ∙ ap (λ (l : Lane). Some l) (sym new.lane_is))
+only_in lane w r at new zero lt = (r, refl, new.none_taken, new.claims, at ∙ ap (λ (l : Lane). Some l) (sym new.lane_is))
 only_in lane w r at new (suc p) lt = absurd (omega arith)
 
 only_out : (lane : Lane) (w : ℕ) (s : Sending) → lane_at (two lane) w ≡ Some lane → IsNewSender lane s → (q : ℕ) (d : OutEnd) → q < length (new_out w s ∷ []) → OutIsNew lane (slice_index_or (new_out w s ∷ []) q d)
@@ -122,7 +122,7 @@ begins lane ins outs in_ends out_ends m node wires task new ends machine i o lan
       out_wires = ends.out_wires ∙ sym o;
       node_new = stands;
       wires_new = stand;
-      ins_new = λ p lt. (let h = ends.ins_new p lt in (h.0, h.1, h.2, ap (λ (ls : List Lane). lane_at ls (in_end_at in_ends p).wire) lanes ∙ h.3));
+      ins_new = λ p lt. (let h = ends.ins_new p lt in (h.0, h.1, h.2, h.3, ap (λ (ls : List Lane). lane_at ls (in_end_at in_ends p).wire) lanes ∙ h.4));
       outs_new = λ q d lt. (let h = ends.outs_new q d lt in (h.0, h.1, h.2, ap (λ (ls : List Lane). lane_at ls (slice_index_or out_ends q d).wire) lanes ∙ h.3));
     }
 
@@ -219,7 +219,7 @@ abbrev Run : List (Linked Plain) → List (Linked Plain) → Type 0
 Run olds news = AllRan plain_ins plain_outs plain_source no_device plain_failures plain_fault plain_stands olds news
 
 pub chain_lawful : (tasks : ℕ → Task) (lane : Lane) (ls : List (Linked Plain)) → IsChain tasks lane ls → AllLawful plain_ins plain_outs plain_source no_device plain_failures plain_fault plain_stands ls
-chain_lawful tasks lane ls h = record { each = λ k d lt. (tasks k, h.behind k d lt) }
+chain_lawful tasks lane ls h = record { each = λ k d lt. (let b = h.behind k d lt in record { wired = b.wired; vouched = λ q e there claims. (tasks k, b) }) }
 
 -- a run keeps the chain
 pub chain_after : (tasks : ℕ → Task) (lane : Lane) (olds news : List (Linked Plain)) → IsChain tasks lane olds → Run olds news → IsChain tasks lane news

@@ -1,5 +1,5 @@
 -- Nodes over new links.
-use Rattle.std.specs.Prelude.{◌≡◌, ℕ, zero, suc, ◌<◌, List, [], ◌∷◌, length, map, slice_index_or, Some, None, Option}
+use Rattle.std.specs.Prelude.{◌≡◌, true, ℕ, zero, suc, ◌<◌, List, [], ◌∷◌, length, map, slice_index_or, Some, None, Option}
 use Rattle.ff_frame.specs.declared.item.Lane.{Lane}
 use Rattle.ff_frame.specs.Ports.{stream_at}
 use Rattle.ff_frame.specs.Stream.{whole_stream}
@@ -27,6 +27,7 @@ pub record IsNewSender (lane : Lane) (s : Sending) : Type 0 where
 pub record IsNewReceiver (lane : Lane) (r : Receiving) : Type 0 where
   pub lane_is : r.lane ≡ lane
   pub none_taken : r.taken ≡ []
+  pub claims : r.link.claims ≡ true
 
 -- a machine is at the start of this task, and has these lanes
 pub record IsNewMachine (task : Task) (lane : Lane) (ins outs : List ℕ) (m : Plain) : Type 0 where
@@ -43,7 +44,7 @@ pub record AreNewEnds (lane : Lane) (ins outs : List ℕ) (in_ends : List InEnd)
   pub apart : (w : ℕ) → IsIn w ins → IsIn w outs → ⊥
   pub in_wires : in_ends_wires in_ends ≡ ins
   pub out_wires : out_ends_wires out_ends ≡ outs
-  pub ins_new : (p : ℕ) → p < length in_ends → (r : Receiving) × (in_end_at in_ends p ≡ new_in (in_end_at in_ends p).wire r) × (r.taken ≡ []) × (lane_at (lane ∷ lane ∷ []) (in_end_at in_ends p).wire ≡ Some r.lane)
+  pub ins_new : (p : ℕ) → p < length in_ends → (r : Receiving) × (in_end_at in_ends p ≡ new_in (in_end_at in_ends p).wire r) × (r.taken ≡ []) × (r.link.claims ≡ true) × (lane_at (lane ∷ lane ∷ []) (in_end_at in_ends p).wire ≡ Some r.lane)
   pub outs_new : (q : ℕ) (d : OutEnd) → q < length out_ends → (s : Sending) × (slice_index_or out_ends q d ≡ new_out (slice_index_or out_ends q d).wire s) × (s.sent ≡ []) × (lane_at (lane ∷ lane ∷ []) (slice_index_or out_ends q d).wire ≡ Some s.lane)
 
 -- this task is behind a node at these wires, with these ends

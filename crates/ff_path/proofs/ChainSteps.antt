@@ -16,7 +16,7 @@ use Rattle.ff_net.specs.Nets.{Part, solve, IsUpward}
 use Rattle.ff_net.specs.Pasts.{Past, Task, IsIn, start}
 use Rattle.ff_net.specs.Laws.{FaultStep, IsOfInputs}
 use Rattle.ff_net.specs.Ports.{in_at, in_wires}
-use Rattle.ff_net.specs.Worlds.{Stand, fresh, lanes_of}
+use Rattle.ff_net.specs.Worlds.{Wire, Stand, fresh, lanes_of}
 use Rattle.ff_net.specs.Nodes.{AreApart, HaveLanes, IsShaped, IsSound, NodeStands, machine_of, in_wires_of, out_wires_of}
 use Rattle.ff_net.specs.Serial.{AreShaped, NetStands, Settled, part_of, parts_of}
 use Rattle.ff_net.proofs.Whole.{fed_below}
@@ -66,10 +66,10 @@ one_wire w ws e p q plt qlt same =
     let b : q < length ws = qlt in
     omega (arith, one, a, b)
 
-has_none : (ls : List Lane) → HaveLanes [] [] ls
+pub has_none : (ls : List Lane) → HaveLanes [] [] ls
 has_none ls = record { lanes_are = refl; apart = no_wires [] refl }
 
-has_one : (w : ℕ) (l : Lane) (ls : List Lane) → lane_at ls w ≡ Some l → HaveLanes (w ∷ []) (l ∷ []) ls
+pub has_one : (w : ℕ) (l : Lane) (ls : List Lane) → lane_at ls w ≡ Some l → HaveLanes (w ∷ []) (l ∷ []) ls
 has_one w l ls e = record { lanes_are = ap (λ (o : Option Lane). o ∷ []) e; apart = one_wire w (w ∷ []) refl }
 
 module _ (tasks : ℕ → Task) (lanes : Lanes) where
@@ -141,6 +141,10 @@ module _ {M : Type 0} (in_lanes out_lanes : M → List Lane) (source : M → Opt
   parts_count tasks [] = refl
   parts_count tasks (n ∷ ns) = ap suc (parts_count (λ j. tasks (suc j)) ns)
 
+  -- something can be behind each node in this world, with these tasks
+  abbrev EachStands : (ℕ → Task) → List (Node M) → (ℕ → Wire) → Type 0
+  EachStands tasks ns world = (k : ℕ) (d : Node M) → k < length ns → (past : Past) × NodeStands source fault stands (slice_index_or ns k d) world past × (past.task ≡ tasks k)
+
   -- the nodes are these four, with these tasks
   abbrev pub IsRow : (ℕ → Task) → List (Node M) → Type 0
   IsRow tasks ns = parts_of in_lanes out_lanes tasks ns ≡ nodes tasks lanes
@@ -211,22 +215,22 @@ module _ {M : Type 0} (in_lanes out_lanes : M → List Lane) (source : M → Opt
       last_port : (0 < length n.ins.items) × ((in_at n.ins.items 0).wire ≡ 2)
       last_port = first_wire n.ins.items 2 (ap in_wires_of (sym is) ∙ ins_is 3 n (omega arith))
 
-      pub last_part : (wires : Wires) (net : NetStands source fault stands tasks ns wires)
-          → ((w : ℕ) → IsIn w (in_wires_of (slice_index_or ns 3 n)) → LiesBelow (opened (net.world w).taken) (solve (parts_of in_lanes out_lanes tasks ns) w))
+      pub last_part : (world : ℕ → Wire) → EachStands tasks ns world
+          → ((w : ℕ) → IsIn w (in_wires_of (slice_index_or ns 3 n)) → LiesBelow (opened (world w).taken) (solve (parts_of in_lanes out_lanes tasks ns) w))
           → (past : Past) × stands n.machine past × (past.task ≡ tasks 3) × LiesBelow (opened (stream_at past.got 0)) (on_wire tasks 2)
-      last_part wires net below =
-          let mine = net.each 3 n (there 3 (omega arith)) in
-          let here : NodeStands source fault stands n net.world mine.0 = subst (λ (m : Node M). NodeStands source fault stands m net.world mine.0) is mine.1 in
+      last_part world each below =
+          let mine = each 3 n (there 3 (omega arith)) in
+          let here : NodeStands source fault stands n world mine.0 = subst (λ (m : Node M). NodeStands source fault stands m world mine.0) is mine.1 in
           let w = (in_at n.ins.items 0).wire in
           let two : w ≡ 2 = last_port.1 in
-          let fed : LiesBelow (stream_at mine.0.got 0) (net.world w).taken = fed_below (stream_at mine.0.got 0) (net.world w).taken ((here.ins 0 last_port.0).fed) in
-          let fed2 : LiesBelow (stream_at mine.0.got 0) (net.world 2).taken = subst (λ (v : ℕ). LiesBelow (stream_at mine.0.got 0) (net.world v).taken) two fed in
+          let fed : LiesBelow (stream_at mine.0.got 0) (world w).taken = fed_below (stream_at mine.0.got 0) (world w).taken ((here.ins 0 last_port.0).fed) in
+          let fed2 : LiesBelow (stream_at mine.0.got 0) (world 2).taken = subst (λ (v : ℕ). LiesBelow (stream_at mine.0.got 0) (world v).taken) two fed in
           let wired : IsIn 2 (in_wires_of (slice_index_or ns 3 n)) = subst (λ (ws : List ℕ). IsIn 2 ws) (sym (ins_is 3 n (omega arith))) (inl refl) in
-          let under : LiesBelow (opened (net.world 2).taken) (on_wire tasks 2) = subst (λ (s : Flow). LiesBelow (opened (net.world 2).taken) s) last_solved (below 2 wired) in (
+          let under : LiesBelow (opened (world 2).taken) (on_wire tasks 2) = subst (λ (s : Flow). LiesBelow (opened (world 2).taken) s) last_solved (below 2 wired) in (
             mine.0,
             here.machine,
             mine.2,
-            below_trans (opened (stream_at mine.0.got 0)) (opened (net.world 2).taken) (on_wire tasks 2) (opened_keeps (stream_at mine.0.got 0) (net.world 2).taken fed2) under,
+            below_trans (opened (stream_at mine.0.got 0)) (opened (world 2).taken) (on_wire tasks 2) (opened_keeps (stream_at mine.0.got 0) (world 2).taken fed2) under,
           )
 
       pub last_all : Settled stands (tasks 3) (parts_of in_lanes out_lanes tasks ns) (slice_index_or ns 3 n)
@@ -241,7 +245,7 @@ module _ {M : Type 0} (in_lanes out_lanes : M → List Lane) (source : M → Opt
             subst IsWhole same (t.whole 0 last_port.0),
           )
 
-  same_part : (task : Task) (node : Node M) (i o : List Lane) (ins outs : List ℕ) → in_lanes node.machine ≡ i → out_lanes node.machine ≡ o → in_wires_of node ≡ ins → out_wires_of node ≡ outs
+  pub same_part : (task : Task) (node : Node M) (i o : List Lane) (ins outs : List ℕ) → in_lanes node.machine ≡ i → out_lanes node.machine ≡ o → in_wires_of node ≡ ins → out_wires_of node ≡ outs
       → part_of in_lanes out_lanes task node ≡ record { means = task.means; in_lanes = i; out_lanes = o; ins = ins; outs = outs }
   same_part task node i o ins outs ei eo ew ev =
       let make : List Lane → List Lane → List ℕ → List ℕ → Part = λ a b v w. record { means = task.means; in_lanes = a; out_lanes = b; ins = v; outs = w } in
@@ -285,11 +289,11 @@ module _ {M : Type 0} (in_lanes out_lanes : M → List Lane) (source : M → Opt
           last_outs = at_out 3 end.first (omega arith);
         }
 
-    pub chain_part : (wires : Wires) (net : NetStands source fault stands tasks (listed end) wires)
-        → ((k : ℕ) (d : Node M) (w : ℕ) → k < length (listed end) → IsIn w (in_wires_of (slice_index_or (listed end) k d)) → LiesBelow (opened (net.world w).taken) (solve (parts_of in_lanes out_lanes tasks (listed end)) w))
+    pub chain_part : (world : ℕ → Wire) → EachStands tasks (listed end) world
+        → ((k : ℕ) (d : Node M) (w : ℕ) → k < length (listed end) → IsIn w (in_wires_of (slice_index_or (listed end) k d)) → LiesBelow (opened (world w).taken) (solve (parts_of in_lanes out_lanes tasks (listed end)) w))
         → FedPart stands tasks (machines_of end)
-    chain_part wires net below =
-        let p = last_part tasks (listed end) row end.last refl wires net (λ w i. below 3 end.last w (omega arith) i) in
+    chain_part world each below =
+        let p = last_part tasks (listed end) row end.last refl world each (λ w i. below 3 end.last w (omega arith) i) in
         record { past = p.0; machine = p.1; task_is = p.2; got = p.3 }
 
     pub chain_all : Settled stands (tasks 3) (parts_of in_lanes out_lanes tasks (listed end)) end.last → FedAll stands tasks (machines_of end)

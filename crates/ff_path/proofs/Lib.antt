@@ -1,1 +1,3 @@
 pub mod ChainSteps
+pub mod NewLinks
+pub mod ThreadRuns

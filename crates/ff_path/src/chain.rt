@@ -151,7 +151,7 @@ fn wires_of(alloc: Global, lanes: Lanes, size: usize) -> Result<Wires, AllocErro
 }
 
 // The four in a row, in a place that has room for them.
-fn gathered<T: Drop>(mut room: Vec<T>, chain: Chain<T>) -> Vec<T>
+pub(crate) fn gathered<T: Drop>(mut room: Vec<T>, chain: Chain<T>) -> Vec<T>
     requires empty { vec_len room ≡ 0 }
     requires room { 4 ≤ vec_capacity room }
     ensures { result.items ≡ chain.first ∷ chain.second ∷ chain.third ∷ chain.last ∷ [] }
@@ -182,7 +182,7 @@ fn popped<T: Drop>(list: &mut Vec<T>) -> T
 }
 
 // The four of a list.
-fn apart<T: Drop>(mut list: Vec<T>) -> Chain<T>
+pub(crate) fn apart<T: Drop>(mut list: Vec<T>) -> Chain<T>
     requires { vec_len list ≡ 4 }
     ensures { list.items ≡ result.first ∷ result.second ∷ result.third ∷ result.last ∷ [] }
 {

@@ -6,9 +6,11 @@
 
 mod chain;
 mod path;
+mod threads;
 
 pub use chain::{Chain, Lanes, NodeFault, Ran, run_chain};
 pub use path::{build, coded_head, path_lanes};
+pub use threads::run_chain_in_threads;
 
 #[cfg(test)]
 mod tests;

@@ -28,7 +28,7 @@ use Rattle.ff_path.specs.Path.{path_lanes, path_tasks}
 use Rattle.ff_run.specs.declared.report.Status.{Status}
 use Rattle.ff_run.specs.declared.report.FileRef.TheVariants.{Input, Output}
 use Rattle.ff_run.specs.declared.report.Status.TheVariants as status
-use Rattle.ff_run.specs.Steps.{Failures, EndsPath, status_at, status_with}
+use Rattle.ff_run.specs.Steps.{tells, AreFresh, Failures, EndsPath, status_at, status_with}
 
 fine_at : (node : ℕ) (fault : Fault) → status_at node fault ≡ status.Fine → ⊥
 fine_at node Device e = cc
@@ -36,6 +36,19 @@ fine_at node (Damaged offset) e = cc
 fine_at node TooLong e = cc
 fine_at node TooLarge e = cc
 fine_at node NoMemory e = cc
+
+tells_at : (left holds : Option (List ℕ)) (bytes : List ℕ) → left ≡ Some bytes → holds ≡ Some [] → tells left holds ≡ true
+tells_at left holds bytes l h = ap (λ (o : Option (List ℕ)). tells o holds) l ∙ ap (λ (o : Option (List ℕ)). tells (Some bytes) o) h
+
+-- a source that tells and a sink that holds nothing do tell
+pub tells_fresh : {left holds : Option (List ℕ)} (bytes : List ℕ) → AreFresh left holds bytes → tells left holds ≡ true
+tells_fresh {left} {holds} bytes f = tells_at left holds bytes f.0 f.1
+
+pub fresh_of : (left holds : Option (List ℕ)) → tells left holds ≡ true → (bytes : List ℕ) × AreFresh left holds bytes
+fresh_of (Some bytes) (Some []) t = (bytes, (refl, refl))
+fresh_of (Some bytes) (Some (b ∷ bs)) t = absurd (let no : false ≡ true = t in cc (no))
+fresh_of (Some bytes) None t = absurd (let no : false ≡ true = t in cc (no))
+fresh_of None holds t = absurd (let no : false ≡ true = t in cc (no))
 
 -- only a run without a fault is fine
 pub fine_only : (fault : Option NodeFault) → status_with fault ≡ status.Fine → fault ≡ None
@@ -57,9 +70,9 @@ when_long true fault e = (cc, refl)
 when_long false fault e = absurd cc
 
 module _ {S K : Type 0} (left : S → Option (List ℕ)) (holds : K → Option (List ℕ)) (named : S → Option (List ℕ)) (called : K → Option (List ℕ)) (ins : S → ℕ) (outs : K → ℕ)
-    (h : WavHead) (old new : Chain (Part S K)) where
+    (claims : Bool) (h : WavHead) (old new : Chain (Part S K)) where
   abbrev told : List ℕ → Type 0
-  told bytes = Start (part_stands left holds) (path_tasks PcmU8 h bytes) old
+  told bytes = (claims ≡ true) × Start (part_stands left holds) (path_tasks PcmU8 h bytes) old
 
   abbrev before : Failures
   before = record { source = part_failures ins outs old.first; sink = part_failures ins outs old.last }
@@ -107,12 +120,12 @@ module _ {S K : Type 0} (left : S → Option (List ℕ)) (holds : K → Option (
   pub path_end : (fault : Option NodeFault) → HasLanes part_in_lanes part_out_lanes (path_lanes PcmU8 h.head) new → AreSound part_fault old
       → Fares (part_device named called) (part_failures ins outs) part_fault old new
       → ((f : NodeFault) → fault ≡ Some f → (f.node < 4) × (f.fault ≢ NoMemory → part_fault (machine_at new f.node) ≡ Some f.fault))
-      → ((f : NodeFault) → fault ≡ Some f → IsOfInputs f.fault → (tasks : ℕ → Task) → Start (part_stands left holds) tasks old → (tasks f.node).cause (inputs_of tasks f.node) ≡ Some f.fault)
+      → (claims ≡ true → (f : NodeFault) → fault ≡ Some f → IsOfInputs f.fault → (tasks : ℕ → Task) → Start (part_stands left holds) tasks old → (tasks f.node).cause (inputs_of tasks f.node) ≡ Some f.fault)
       → EndsPath (status_with fault) h told before after
   path_end None l s f own cause = tt
   path_end (Some x) l s f own cause =
       let o = own x refl in
-      end_at x.node x.fault l s f o.0 o.1 (λ i bytes t. cause x refl i (path_tasks PcmU8 h bytes) t)
+      end_at x.node x.fault l s f o.0 o.1 (λ i bytes t. cause t.0 x refl i (path_tasks PcmU8 h bytes) t.1)
 
 -- what is told otherwise, and counts that rise with these
 pub ends_told : (s : Status) (h : WavHead) (told others : List ℕ → Type 0) (a b c d : Failures) → ((bytes : List ℕ) → others bytes → told bytes)

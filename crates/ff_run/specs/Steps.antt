@@ -1,5 +1,5 @@
 -- How the steps of a run end.
-use Rattle.std.specs.Prelude.{◌≡◌, ◌⊎◌, ⊤, ℕ, ◌==◌, if◌then◌else◌, true, List, [], ◌++◌, Option, Some, None, IsSome, IfSome, Ok, Err}
+use Rattle.std.specs.Prelude.{◌≡◌, ◌⊎◌, ⊤, ℕ, ◌==◌, if◌then◌else◌, true, List, [], ◌++◌, Option, Some, None, IsSome, IfSome, Ok, Err, Bool, false, ◌∷◌}
 use Rattle.ff_host.specs.Causes.{Rose}
 use Rattle.ff_host.specs.Files.{Files, bytes_at}
 use Rattle.ff_wav.specs.declared.head.WavHead.{WavHead}
@@ -65,6 +65,13 @@ EndsPath (status.Words word kind) h told before after = ⊥
 -- a source tells that these bytes are left, and a sink that it holds nothing
 abbrev pub AreFresh : Option (List ℕ) → Option (List ℕ) → List ℕ → Type 0
 AreFresh left holds bytes = (left ≡ Some bytes) × (holds ≡ Some [])
+
+-- whether a source tells what is left, and a sink that it holds nothing
+abbrev pub tells : Option (List ℕ) → Option (List ℕ) → Bool
+tells (Some bytes) (Some []) = true
+tells (Some bytes) (Some (b ∷ bs)) = false
+tells (Some bytes) None = false
+tells None holds = false
 
 -- the file of an input with this head and these bytes is held, and there is one
 abbrev pub HoldsFile : WavHead → List ℕ → Option (List ℕ) → Type 0

@@ -1,5 +1,5 @@
 // The four parts of a run: built, run until all are done, and taken apart.
-ghost use Rattle.std.specs.Prelude.{◌≡◌, ◌≤◌, List, ℕ, [], ◌∷◌, IsSome, None, Some};
+ghost use Rattle.std.specs.Prelude.{◌≡◌, ◌≤◌, true, List, ℕ, [], ◌∷◌, IsSome, None, Some};
 ghost use Rattle.ff_frame.specs.declared.head.Codec.TheVariants.{PcmU8};
 ghost use Rattle.ff_frame.specs.declared.head.StreamHead.{StreamHead};
 ghost use Rattle.ff_frame.specs.declared.item.Lane.TheVariants.{Packets};
@@ -11,26 +11,26 @@ ghost use Rattle.ff_parts.specs.Parts.{part_in_lanes, part_out_lanes, part_fault
 ghost use Rattle.ff_path.specs.Chains.{AreSound, Fares, FedAll, FedPart, HasLanes, Start};
 ghost use Rattle.ff_path.specs.Path.{path_lanes as path_lanes_of, path_tasks};
 ghost use Rattle.ff_run.specs.Meaning.{text_with};
-ghost use Rattle.ff_run.specs.Steps.{AreFresh, EndsPath, HoldsFile, status_with};
+ghost use Rattle.ff_run.specs.Steps.{AreFresh, EndsPath, HoldsFile, status_with, tells};
 
 use crate::report::{FileRef, Status};
 use ff_frame::Codec;
 use ff_host::{Sink, Source};
+use ff_link::Claims;
 use ff_net::Fault;
 use ff_parts::{Ends, Part};
-use ff_path::{Chain, NodeFault, Ran, build, path_lanes, run_chain};
+use ff_path::{Chain, NodeFault, Ran, build, path_lanes, run_chain_in_threads};
 use ff_wav::WavHead;
 use std::alloc::Global;
+use std::marker::Brand;
 use std::sync::Wait;
+use std::thread::Threads;
 
 /// The number of the demuxer among the nodes.
 const DEMUX: u32 = 0;
 
-/// How many items wait on a wire at most.
+/// How many items wait on a link at most.
 const QUEUE: usize = 8;
-
-/// The nodes in the order of their turns.
-const ORDER: [usize; 4] = [0, 1, 2, 3];
 
 /// How the four parts ended, and their source and sink as they are then.
 #[derive(Drop)]
@@ -89,8 +89,13 @@ fn status_of(fault: Option<NodeFault>) -> Status
     }
 }
 
-// Runs the four parts until all are done.
-fn run_parts<R: Wait, Src: Source + Drop, Snk: Sink + Drop>(
+// Runs the four parts, each in a thread of its own, until all are done. `C` says whether the input is told.
+fn run_parts<
+    C: Claims,
+    R: Threads + Wait + Sync,
+    Src: Source + Send + Drop,
+    Snk: Sink + Send + Drop,
+>(
     rt: &R,
     alloc: Global,
     head: &WavHead,
@@ -98,34 +103,35 @@ fn run_parts<R: Wait, Src: Source + Drop, Snk: Sink + Drop>(
 ) -> (Chain<Part<Src, Snk>>, Status)
     requires lanes { HasLanes part_in_lanes part_out_lanes (path_lanes_of PcmU8 head.now.head) parts }
     requires sound { AreSound part_fault parts }
+    requires start { C.claims ≡ true → (bytes : List ℕ) × Start (part_stands Src.left Snk.holds) (path_tasks PcmU8 head.now bytes) parts }
     ensures lanes { HasLanes part_in_lanes part_out_lanes (path_lanes_of PcmU8 head.now.head) result.0 }
     ensures fares { Fares (part_device Src.name Snk.name) (part_failures Src.faults Snk.faults) part_fault parts result.0 }
-    ensures fine { result.1 ≡ Status.Fine → (bytes : List ℕ) → Start (part_stands Src.left Snk.holds) (path_tasks PcmU8 head.now bytes) parts
+    ensures fine { result.1 ≡ Status.Fine → C.claims ≡ true → (bytes : List ℕ) → Start (part_stands Src.left Snk.holds) (path_tasks PcmU8 head.now bytes) parts
         → FedAll (part_stands Src.left Snk.holds) (path_tasks PcmU8 head.now bytes) result.0 }
     ensures done { result.1 ≡ Status.Fine → AreSound part_fault result.0 }
-    ensures front { (bytes : List ℕ) → Start (part_stands Src.left Snk.holds) (path_tasks PcmU8 head.now bytes) parts
+    ensures front { C.claims ≡ true → (bytes : List ℕ) → Start (part_stands Src.left Snk.holds) (path_tasks PcmU8 head.now bytes) parts
         → FedPart (part_stands Src.left Snk.holds) (path_tasks PcmU8 head.now bytes) result.0 }
-    ensures ends { EndsPath result.1 head.now (λ bytes. Start (part_stands Src.left Snk.holds) (path_tasks PcmU8 head.now bytes) parts)
+    ensures ends { EndsPath result.1 head.now (λ bytes. (C.claims ≡ true) × Start (part_stands Src.left Snk.holds) (path_tasks PcmU8 head.now bytes) parts)
         (record { source = part_failures Src.faults Snk.faults parts.first; sink = part_failures Src.faults Snk.faults parts.last })
         (record { source = part_failures Src.faults Snk.faults result.0.first; sink = part_failures Src.faults Snk.faults result.0.last }) }
 {
     let lanes = path_lanes(Codec::PcmU8, &head.head);
-    match run_chain(rt, alloc, parts, lanes, QUEUE, &ORDER) {
+    match run_chain_in_threads::<C, _, _>(rt, alloc, parts, &lanes, QUEUE) {
         Ok(Ran { machines, fault }) => (machines, status_of(fault)),
         Err(parts) => (parts, Status::NoMemory),
     }
 }
 
-/// Runs the path from an input with this head to its framehash, over a source that gives the input from its first byte
-/// on and a sink that holds nothing.
-pub fn run_path<R: Wait, Src: Source + Drop, Snk: Sink + Drop>(
-    rt: &R,
-    alloc: Global,
-    head: &WavHead,
-    src: Src,
-    snk: Snk,
-) -> Ended<Src, Snk>
-    requires { IsHead head.now }
+// Runs the path from an input with this head to its framehash, over a source that gives the input from its first byte
+// on and a sink that holds nothing. `C` says whether these tell so.
+fn run_path_as<
+    C: Claims,
+    R: Threads + Wait + Sync,
+    Src: Source + Send + Drop,
+    Snk: Sink + Send + Drop,
+>(rt: &R, alloc: Global, head: &WavHead, src: Src, snk: Snk) -> Ended<Src, Snk>
+    requires head { IsHead head.now }
+    requires told { C.claims ≡ tells (Src.left src) (Snk.holds snk) }
     ensures fine { result.status ≡ Status.Fine → (bytes : List ℕ) → AreFresh (Src.left src) (Snk.holds snk) bytes → HoldsFile head.now bytes (Snk.holds result.snk) }
     ensures front { (bytes : List ℕ) → AreFresh (Src.left src) (Snk.holds snk) bytes → HoldsFrontOf (Snk.holds result.snk) (text_with head.now bytes) }
     ensures ends { EndsPath result.status head.now (AreFresh (Src.left src) (Snk.holds snk))
@@ -145,11 +151,33 @@ pub fn run_path<R: Wait, Src: Source + Drop, Snk: Sink + Drop>(
             };
         }
     };
-    let (parts, status) = run_parts(rt, alloc, head, parts);
+    let (parts, status) = run_parts::<C, _, _, _>(rt, alloc, head, parts);
     let Chain { first, last, .. } = parts;
     Ended {
         status,
         src: source_of(first),
         snk: sink_of(last),
     }
+}
+
+/// Runs the path from an input with this head to its framehash, over a source that gives the input from its first byte
+/// on and a sink that holds nothing.
+pub fn run_path<R: Threads + Wait + Sync, Src: Source + Send + Drop, Snk: Sink + Send + Drop>(
+    rt: &R,
+    alloc: Global,
+    head: &WavHead,
+    src: Src,
+    snk: Snk,
+) -> Ended<Src, Snk>
+    requires { IsHead head.now }
+    ensures fine { result.status ≡ Status.Fine → (bytes : List ℕ) → AreFresh (Src.left src) (Snk.holds snk) bytes → HoldsFile head.now bytes (Snk.holds result.snk) }
+    ensures front { (bytes : List ℕ) → AreFresh (Src.left src) (Snk.holds snk) bytes → HoldsFrontOf (Snk.holds result.snk) (text_with head.now bytes) }
+    ensures ends { EndsPath result.status head.now (AreFresh (Src.left src) (Snk.holds snk))
+        (record { source = Src.faults src; sink = Snk.faults snk }) (record { source = Src.faults result.src; sink = Snk.faults result.snk }) }
+    ensures src_later { Src.faults src ≤ Src.faults result.src }
+    ensures snk_later { Snk.faults snk ≤ Snk.faults result.snk }
+    ensures src_name { Src.name result.src ≡ Src.name src }
+    ensures snk_name { Snk.name result.snk ≡ Snk.name snk }
+{
+    run_path_as::<Brand, _, _, _>(rt, alloc, head, src, snk)
 }

@@ -46,7 +46,7 @@ fn status_of_end(end: InputEnd) -> Status
 }
 
 // Creates the output, runs the path from the input to it, and closes both ends.
-fn write_output<R: Wait, H: Host>(
+fn write_output<R: Threads + Wait + Sync, H: Host>(
     rt: &R,
     alloc: Global,
     host: &mut H,
@@ -88,7 +88,7 @@ fn write_output<R: Wait, H: Host>(
 }
 
 // Reads the head of the input, and writes the output that its bytes mean.
-fn run_job<R: Wait, H: Host>(
+fn run_job<R: Threads + Wait + Sync, H: Host>(
     rt: &R,
     alloc: Global,
     host: &mut H,
@@ -122,7 +122,12 @@ fn run_job<R: Wait, H: Host>(
 }
 
 // Runs the command that the words are.
-fn run_words<R: Wait, H: Host>(rt: &R, alloc: Global, host: &mut H, words: &[String]) -> Status
+fn run_words<R: Threads + Wait + Sync, H: Host>(
+    rt: &R,
+    alloc: Global,
+    host: &mut H,
+    words: &[String],
+) -> Status
     ensures bytes { result ≡ Status.Fine → HoldsMeaning (read (texts words.now)) (H.files host.old) (H.files host.new) }
     ensures others { KeepsOtherFiles (read (texts words.now)) (H.files host.old) (H.files host.new) }
     ensures untouched { ComesBeforeOutputs result → KeepsFiles (H.files host.old) (H.files host.new) }

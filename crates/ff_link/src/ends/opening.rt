@@ -1,9 +1,9 @@
 // A new link.
-ghost use Rattle.std.specs.Prelude.{◌≡◌, ◌≤◌, IfOk};
+ghost use Rattle.std.specs.Prelude.{◌≡◌, ◌≤◌, IfOk, true};
 ghost use Rattle.ff_link.specs.Views.{new_sender, new_receiver};
 
 use super::{Queues, Receiver, Sender};
-use crate::side::{Down, Fixed, PutsHere, Up};
+use crate::side::{Claims, Down, Fixed, PutsHere, Up};
 use ff_frame::Lane;
 use std::alloc::{AllocError, Global};
 use std::marker::Brand;
@@ -15,8 +15,9 @@ fn link_as<F: Fixed>(
     lane: &Lane,
 ) -> Result<(Sender, Receiver), AllocError>
     requires size { (1 ≤ size) × (size ≤ 1024) }
-    requires fixed { (lane.now ≡ F.lane) × (size ≡ F.room) }
+    requires fixed { (lane.now ≡ F.way.lane) × (size ≡ F.room) }
     ensures one_link { IfOk result (λ ends. ends.0.link ≡ ends.1.link) }
+    ensures claims { IfOk result (λ ends. ends.0.link.claims ≡ F.way.claims) }
     ensures sender { IfOk result (λ ends. ends.0 ≡ new_sender ends.0.link lane.now size) }
     ensures receiver { IfOk result (λ ends. ends.1 ≡ new_receiver ends.1.link lane.now size) }
 {
@@ -49,6 +50,22 @@ fn link_as<F: Fixed>(
 pub fn link(alloc: Global, size: usize, lane: &Lane) -> Result<(Sender, Receiver), AllocError>
     requires { (1 ≤ size) × (size ≤ 1024) }
     ensures one_link { IfOk result (λ ends. ends.0.link ≡ ends.1.link) }
+    ensures claims { IfOk result (λ ends. ends.0.link.claims ≡ true) }
+    ensures sender { IfOk result (λ ends. ends.0 ≡ new_sender ends.0.link lane.now size) }
+    ensures receiver { IfOk result (λ ends. ends.1 ≡ new_receiver ends.1.link lane.now size) }
+{
+    link_as::<Brand>(alloc, size, lane)
+}
+
+/// A new link as `link` makes it, with the claim that `C` makes of what is sent.
+pub fn link_claiming<C: Claims>(
+    alloc: Global,
+    size: usize,
+    lane: &Lane,
+) -> Result<(Sender, Receiver), AllocError>
+    requires { (1 ≤ size) × (size ≤ 1024) }
+    ensures one_link { IfOk result (λ ends. ends.0.link ≡ ends.1.link) }
+    ensures claims { IfOk result (λ ends. ends.0.link.claims ≡ C.claims) }
     ensures sender { IfOk result (λ ends. ends.0 ≡ new_sender ends.0.link lane.now size) }
     ensures receiver { IfOk result (λ ends. ends.1 ≡ new_receiver ends.1.link lane.now size) }
 {

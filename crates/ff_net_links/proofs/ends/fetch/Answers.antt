@@ -8,4 +8,4 @@ pub returns-in-Item-clause-stands : goal.returns-in-Item-clause-stands
 returns-in-Item-clause-stands g c lane wire goes i =
     let none = none_held c.args.end.now.held (sym c.is_some.ensures ∙ c.if-is_some.false) in
     let after = c.in-Item.ensures.after in
-    in_fetched c.args.end.now _ lane wire c.in-Some.receiver c.try_take-took.new.self c.in-Item.item goes i none (sym c.take.ensures.value ∙ c.in-Some.is) refl refl (ap (λ (r : Receiving). r.taken) after) (ap (λ (r : Receiving). r.lane) after) c.in-Item.ensures.valid
+    in_fetched c.args.end.now _ lane wire c.in-Some.receiver c.try_take-took.new.self c.in-Item.item goes i none (sym c.take.ensures.value ∙ c.in-Some.is) refl refl (ap (λ (r : Receiving). r.taken) after) (ap (λ (r : Receiving). r.lane) after) (ap (λ (r : Receiving). r.link) after) c.in-Item.ensures.valid

@@ -3,13 +3,13 @@ use Rattle.ff_net.specs.Worlds.{lanes_of}
 use Rattle.ff_net_links.specs.Ends.{OutEndStands}
 use Rattle.ff_net.specs.Steps.{Course}
 use Rattle.ff_net.proofs.Moments.{course_trans}
-use Rattle.ff_net_links.proofs.Carrying.{some_past, renamed}
+use Rattle.ff_net_links.proofs.Carrying.{some_past, renamed, claimed}
 use Rattle.ff_net_links.proofs.ends.pour.Goals as goal
 
 pub send-sent-requires-clause-stands : goal.send-sent-requires-clause-stands
-send-sent-requires-clause-stands g c =
-    let s = c.requires.stands in
+send-sent-requires-clause-stands g c claims =
     let l = c.lift-lifted.ensures in
+    let s = c.requires.stands (claimed c.lift-lifted.new.end c.args.end.now l.link claims) in
     let y = l.stands s.world some_past s.stand s.fits in record {
       world = y.now;
       stand = y.stand;

@@ -1,14 +1,15 @@
-use Rattle.std.proofs.Common.{[], ◌∷◌, Some, refl, sym, ap, ◌∙◌, is_some}
+use Rattle.std.proofs.Common.{[], ◌∷◌, arith, Some, refl, sym, ap, ◌∙◌, is_some}
 use Rattle.ff_frame.specs.declared.item.Item.{Item}
 use Rattle.ff_net.specs.Worlds.{lanes_of}
 use Rattle.ff_link.specs.Views.{Sending}
-use Rattle.ff_net_links.proofs.Carrying.{may_send, out_sent, out_looked, out_told, on_wires_self}
+use Rattle.ff_net_links.proofs.Carrying.{may_carry, may_send, out_sent, out_looked, out_told, on_wires_self}
 use Rattle.ff_net_links.proofs.ends.send.Goals as goal
 
 pub try_put-requires : goal.try_put-requires
 try_put-requires g c =
-    let s = c.requires.stands in
-    may_send c.args.end.now (lanes_of c.args.wires.now) c.args.end.now.wire s.world c.args.wires.now c.in-Some.item refl s.stand s.fits (sym c.take.ensures.value ∙ c.in-Some.is) c.requires.goes_on
+    may_carry c.args.end.now c.in-Some.item c.puts.result c.puts.ensures (let few = c.if-puts-gt-MOST_ITEMS.false in omega arith) (λ claims.
+    let s = c.requires.stands claims in
+    may_send c.args.end.now (lanes_of c.args.wires.now) c.args.end.now.wire s.world c.args.wires.now c.in-Some.item refl s.stand s.fits (sym c.take.ensures.value ∙ c.in-Some.is) c.requires.goes_on)
 
 pub returns-in-Done-clause-stands : goal.returns-in-Done-clause-stands
 returns-in-Done-clause-stands g c world past stand o =

@@ -1,11 +1,11 @@
-use Rattle.ff_net_links.proofs.Linking.{follows_self, follows_then}
+use Rattle.ff_net_links.proofs.Linking.{follows_self, follows_then, lawful_after}
 use Rattle.ff_net_links.proofs.worker.run.Goals as goal
 
 pub loop-init : goal.loop-init
 loop-init g c = let m = g.M.Machine in follows_self m.in_lanes m.out_lanes m.source_of m.device_of m.failures m.fault_of m.stands c.args.node.now
 
 pub turn-requires : goal.turn-requires
-turn-requires g c = record { lawful = (c.requires.0, c.loop.invariant.goes c.requires.0 c.requires.1) }
+turn-requires g c = let m = g.M.Machine in record { lawful = lawful_after m.in_lanes m.out_lanes m.source_of m.device_of m.failures m.fault_of m.stands c.args.node.now c.loop.node c.loop.invariant c.requires }
 
 pub returns-in-Done : goal.returns-in-Done
 returns-in-Done g c = let m = g.M.Machine in (follows_then m.in_lanes m.out_lanes m.source_of m.device_of m.failures m.fault_of m.stands c.args.node.now c.loop.node c.turn.new.self c.loop.invariant c.turn.ensures.follows, c.turn.ensures.done c.in-Done.is)

@@ -75,7 +75,7 @@ returns-clause-part g c tasks s =
     let net = net_at_start m.in_lanes m.out_lanes m.source_of m.fault_of m.stands c.args.lanes c.args.machines ns c.in-Ok-nodes_of.ensures.nodes c.requires.lanes tasks s c.deref_mut.result.now is c.in-Ok.wires c.in-Ok.ensures.fresh in
     let up = row_upward m.in_lanes m.out_lanes m.source_of m.fault_of m.stands c.args.lanes tasks c.run_to_end.new.nodes late in
     let below = subst (λ (xs : List (Node g.row.M.Denot)). (net : NetStands m.source_of m.fault_of m.stands tasks xs c.run_to_end.new.wires) × ((k : ℕ) (d : Node g.row.M.Denot) (w : ℕ) → k < length xs → IsIn w (in_wires_of (slice_index_or xs k d)) → LiesBelow (opened (net.world w).taken) (solve (parts_of m.in_lanes m.out_lanes tasks xs) w))) ends (c.run_to_end.ensures.below tasks net up) in
-    subst (λ (x : Chain g.row.M.Denot). FedPart m.stands tasks x) (sym same) (chain_part m.in_lanes m.out_lanes m.source_of m.fault_of m.stands c.args.lanes tasks end later c.run_to_end.new.wires below.0 below.1)
+    subst (λ (x : Chain g.row.M.Denot). FedPart m.stands tasks x) (sym same) (chain_part m.in_lanes m.out_lanes m.source_of m.fault_of m.stands c.args.lanes tasks end later below.0.world below.0.each below.1)
 
 pub returns-clause-all : goal.returns-clause-all
 returns-clause-all g c none tasks s =

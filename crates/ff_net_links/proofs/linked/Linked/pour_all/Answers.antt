@@ -1,22 +1,22 @@
 use Rattle.std.proofs.Common.{ℕ, ◌<◌, length, refl, sym, ◌∙◌, ap, subst}
 use Rattle.std.proofs.lemmas.List.{length-set}
 use Rattle.ff_net_links.specs.declared.linked.Linked.{Linked}
-use Rattle.ff_net_links.proofs.Linking.{follows_then, poured, out_end_there, can_pour}
+use Rattle.ff_net_links.proofs.Linking.{follows_then, poured, out_end_there, can_pour, wired_after, lawful_after}
 use Rattle.ff_net_links.proofs.linked.Linked.pour_all.Goals as goal
 
 pub pour_at-poured-requires-clause-wire : goal.pour_at-poured-requires-clause-wire
 pour_at-poured-requires-clause-wire g c d =
     let m = g.M.Machine in
     let i = c.loop-q.invariant in
-    let b = i.follows.goes c.requires.0 c.requires.1 in
-    out_end_there m.in_lanes m.out_lanes m.source_of m.device_of m.failures m.fault_of m.stands c.loop-q.self b.wired c.loop-q.q d (subst (λ (n : ℕ). c.loop-q.q < n) i.count c.loop-q-test.true)
+    let w = wired_after m.in_lanes m.out_lanes m.source_of m.device_of m.failures m.fault_of m.stands c.args.self.now c.loop-q.self i.follows c.requires.wired in
+    out_end_there m.in_lanes m.out_lanes m.source_of m.device_of m.failures m.fault_of m.stands c.loop-q.self w c.loop-q.q d (subst (λ (n : ℕ). c.loop-q.q < n) i.count c.loop-q-test.true)
 
 pub pour_at-poured-requires-clause-stands : goal.pour_at-poured-requires-clause-stands
 pour_at-poured-requires-clause-stands g c d =
     let m = g.M.Machine in
     let i = c.loop-q.invariant in
-    let b = i.follows.goes c.requires.0 c.requires.1 in
-    can_pour m.in_lanes m.out_lanes m.source_of m.device_of m.failures m.fault_of m.stands c.requires.0 c.loop-q.self b c.loop-q.q d (subst (λ (n : ℕ). c.loop-q.q < n) i.count c.loop-q-test.true)
+    let h = lawful_after m.in_lanes m.out_lanes m.source_of m.device_of m.failures m.fault_of m.stands c.args.self.now c.loop-q.self i.follows c.requires in
+    can_pour m.in_lanes m.out_lanes m.source_of m.device_of m.failures m.fault_of m.stands c.loop-q.self h c.loop-q.q d (subst (λ (n : ℕ). c.loop-q.q < n) i.count c.loop-q-test.true)
 
 pub loop-q-preserved : goal.loop-q-preserved
 loop-q-preserved g c =
