@@ -6,3 +6,6 @@ pub mod ReadsFrame
 pub mod Stereo
 pub mod Spelled
 pub mod Codes
+mod TotalLemmas
+mod GatherLemmas
+mod GatherState

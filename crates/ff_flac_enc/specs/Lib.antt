@@ -5,3 +5,6 @@ pub mod Head
 pub mod Channels
 pub mod Frame
 pub mod Blocks
+pub mod Gathered
+pub mod Cuts
+pub mod Totals

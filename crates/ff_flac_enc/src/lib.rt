@@ -5,13 +5,19 @@
 #![tactic(auto)]
 
 mod at_once;
+mod blocks;
+mod counter;
+mod format;
 mod frame;
 mod head;
 mod laws;
 mod pair;
 mod sides;
+mod waiting;
 
 pub use at_once::{Gate, NoGate, encode_blocks};
+pub use blocks::Blocks;
+pub use counter::Counter;
 pub use frame::encode_block;
 pub use laws::least_is_the_first_of_the_shortest;
 
