@@ -1,0 +1,34 @@
+// What raw samples are.
+ghost use Rattle.std.specs.Prelude.{◌≤◌, ◌<◌};
+
+/// The rate, bits and channels of a FLAC file that is written (RFC 9639, section 9.1).
+#[derive(Clone, Copy, Debug)]
+pub struct Form {
+    pub rate: u32,
+    pub bits: u8,
+    pub channels: u8,
+    pub ghost fits: { (rate < 1048576) × (4 ≤ bits) × (bits ≤ 24) × (1 ≤ channels) × (channels ≤ 8) },
+}
+
+impl Form {
+    /// None where a FLAC file can't have it, or isn't written with it.
+    pub fn new(rate: u32, bits: u8, channels: u8) -> Option<Form> {
+        if rate < 1 << 20 && 4 <= bits && bits <= 24 && 1 <= channels && channels <= 8 {
+            Some(Form {
+                rate,
+                bits,
+                channels,
+            })
+        } else {
+            None
+        }
+    }
+
+    /// How many bytes a sample has.
+    pub fn width(&self) -> usize
+        ensures some { 1 ≤ result }
+        ensures few { result ≤ 3 }
+    {
+        usize::from(self.bits.div_ceil(8))
+    }
+}
