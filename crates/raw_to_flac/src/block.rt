@@ -43,10 +43,13 @@ fn all_fit(samples: &[i32], bits: u8) -> bool
     true
 }
 
-// The samples of raw bytes, each in so many.
+// The samples of raw bytes, each in so many, where they are whole ones.
 fn samples_of(alloc: Global, bytes: &[u8], width: usize) -> Result<Vec<i32>, Stop>
     requires { 1 ≤ width }
 {
+    if bytes.len() % width != 0 {
+        return Err(Stop {});
+    }
     let mut samples = Vec::new(alloc);
     samples.reserve(bytes.len() / width)?;
     for piece in bytes.chunks(width) {

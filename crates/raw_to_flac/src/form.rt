@@ -11,9 +11,16 @@ pub struct Form {
 }
 
 impl Form {
-    /// None where a FLAC file can't have it, or isn't written with it.
+    /// None where a file of sound can't have it, or isn't written with it: a rate of 0 or of more than 20 bits, a depth that
+    /// isn't 4 to 24 bits, a number of channels that isn't 1 to 8.
     pub fn new(rate: u32, bits: u8, channels: u8) -> Option<Form> {
-        if rate < 1 << 20 && 4 <= bits && bits <= 24 && 1 <= channels && channels <= 8 {
+        if 1 <= rate
+            && rate < 1 << 20
+            && 4 <= bits
+            && bits <= 24
+            && 1 <= channels
+            && channels <= 8
+        {
             Some(Form {
                 rate,
                 bits,
