@@ -1,0 +1,7 @@
+use Rattle.std.proofs.Common.{take}
+use Rattle.std.specs.List.{All}
+use Rattle.ff_frame.specs.Audio.{FitsBits}
+use Rattle.raw_to_flac.proofs.block.all_fit.Given as goal
+
+abbrev pub invariant-loop-x : goal.invariant-loop-x
+invariant-loop-x l = All (FitsBits l.bits) (take l.x-index l.samples)
