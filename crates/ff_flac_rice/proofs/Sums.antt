@@ -1,10 +1,12 @@
-use Rattle.std.proofs.Common.{◌≡◌, ℕ, ◌*◌, ◌/◌, ◌^◌, ◌<◌, ◌≤◌, List, length, get_or, replicate, inl, inr, ap, arith}
-use Rattle.std.specs.List.{All}
+use Rattle.std.proofs.Common.{◌≡◌, ℕ, ◌+◌, ◌*◌, ◌/◌, ◌^◌, ◌<◌, ◌≤◌, List, [], ◌∷◌, length, map, take, get_or, replicate, inl, inr, refl, sym, ap, ◌∙◌, arith}
+use Rattle.std.specs.List.{All, sum_by}
+use lib.Lanes.{zip2, sum_l}
 use Rattle.std.proofs.lemmas.Bool.{cases_lt}
-use Rattle.std.proofs.lemmas.List.{get_or-replicate, get_or_past, length-replicate}
+use Rattle.std.proofs.lemmas.List.{get_or-replicate, get_or_past, length-replicate, take_all}
 use Rattle.std.proofs.lemmas.List.Elements.{All-weaker}
-use Rattle.std.proofs.lemmas.List.Sums.{sum_by-le}
-use Rattle.std.proofs.lemmas.Nat.{pow_pos, div_below, shr_split, mod_below}
+use Rattle.std.proofs.lemmas.List.Sums.{sum_by-le, sum_by-cons}
+use Rattle.std.proofs.lemmas.Nat.{pow_pos, div_below, shr_split, shr_le, mod_below}
+use Rattle.std.proofs.lemmas.Simd.{zip2_splat}
 use Rattle.std.proofs.Math.Nat.{pow-le-pow_right}
 use Rattle.ff_flac_rice.specs.Rice.{quotients}
 
@@ -31,3 +33,27 @@ quotients_zero part most k j h z l =
     let all : All (λ u. u / 2 ^ j ≤ 0) part = All-weaker (λ u. u ≤ most) (λ u. u / 2 ^ j ≤ 0) (λ u b. small_quotient u j (omega (arith, b, m, p))) part h in
     let s : quotients j part ≤ length part * 0 = sum_by-le (λ u. u / 2 ^ j) 0 part all in
     omega (arith, s)
+
+-- ---- sixteen at once
+
+sum_l-map : (f : ℕ → ℕ) (us : List ℕ) → sum_l (map f us) ≡ sum_by f us
+sum_l-map f [] = refl
+sum_l-map f (u ∷ us) = ap (λ n. f u + n) (sum_l-map f us) ∙ sym (sum_by-cons f u us)
+
+abbrev pub sixteen_shifted : ℕ → List ℕ → List ℕ
+sixteen_shifted k us = zip2 (λ u j. u / 2 ^ j) (take 16 us) (replicate 16 k)
+
+sixteen_are : (k : ℕ) (us : List ℕ) → length us ≡ 16 → sixteen_shifted k us ≡ map (λ u. u / 2 ^ k) us
+sixteen_are k us h =
+    let all : take 16 us ≡ us = take_all 16 us (omega (arith, h)) in
+    ap (λ l. zip2 (λ u j. u / 2 ^ j) l (replicate 16 k)) all ∙ zip2_splat (λ u j. u / 2 ^ j) us 16 k h
+
+pub sixteen_sum : (k : ℕ) (us : List ℕ) → length us ≡ 16 → 0 + sum_l (sixteen_shifted k us) ≡ quotients k us
+sixteen_sum k us h =
+    let e : sum_l (sixteen_shifted k us) ≡ quotients k us = ap sum_l (sixteen_are k us h) ∙ sum_l-map (λ u. u / 2 ^ k) us in
+    omega (arith, e)
+
+pub sixteen_small : (k most : ℕ) (us : List ℕ) → length us ≡ 16 → All (λ u. u ≤ most) us → 16 * most < 2 ^ 32 → 0 + sum_l (sixteen_shifted k us) < 2 ^ 32
+sixteen_small k most us h a l =
+    let s : quotients k us ≤ length us * most = sum_by-le (λ u. u / 2 ^ k) most us (All-weaker (λ u. u ≤ most) (λ u. u / 2 ^ k ≤ most) (λ u m. omega (arith, m, shr_le u k)) us a) in
+    omega (arith, sixteen_sum k us h, s, ap (λ n. n * most) h, l)

@@ -5,6 +5,8 @@ ghost use Rattle.std.specs.List.{range_with_len};
 ghost use Rattle.ff_flac_rice.specs.Least.{least};
 ghost use Rattle.ff_flac_rice.specs.Rice.{quotients, count_of};
 
+use std::simd::prelude::*;
+
 /// How many values a partition has, and their quotients' sum under each parameter.
 #[derive(Clone, Copy)]
 pub struct Row {
@@ -21,6 +23,17 @@ fn greatest(part: &[u32]) -> u32
         most = most.max(*u);
     }
     most
+}
+
+/// The sum of 16 quotients under one parameter, where it fits 32 bits.
+fn sixteen_quotients(part: &[u32], k: u32, most: u32) -> u32
+    requires len { length part.now ≡ 16 }
+    requires k { k < 32 }
+    requires most { All (λ u. u ≤ most) part.now }
+    requires fits { 16 * most < 2 ^ 32 }
+    ensures { result ≡ quotients k part.now }
+{
+    (u32x16::from_slice(part) >> k).strict_reduce_sum()
 }
 
 /// The sum of the quotients under one parameter, where it fits 32 bits.
@@ -58,6 +71,9 @@ fn quotients_of(part: &[u32], k: u32, most: u32) -> u64
     ensures { result ≡ quotients k part.now }
 {
     if part.len() as u64 * (most as u64) < 0x1_0000_0000 {
+        if part.len() == 16 {
+            return sixteen_quotients(part, k, most) as u64;
+        }
         return narrow_quotients(part, k, most) as u64;
     }
     wide_quotients(part, k)
