@@ -50,18 +50,21 @@ pub fn halve(rows: &mut Vec<Row>)
     rows.truncate(half);
 }
 
-/// The least bits of all partitions with a method.
-pub fn level_cost(rows: &[Row], method: usize) -> u64
+/// The least bits of all partitions with each method.
+pub fn level_costs(rows: &[Row]) -> (u64, u64)
     requires fits { All RowFits rows.now }
     requires few { length rows.now ≤ 256 }
-    requires method { method ≤ 1 }
-    ensures is { result ≡ sum_by (row_best_cost method) rows.now }
-    ensures small { result ≤ 2 ^ 57 }
+    ensures first { result.0 ≡ sum_by (row_best_cost 0) rows.now }
+    ensures second { result.1 ≡ sum_by (row_best_cost 1) rows.now }
+    ensures first_small { result.0 ≤ 2 ^ 57 }
+    ensures second_small { result.1 ≤ 2 ^ 57 }
 {
-    let mut sum = 0u64;
+    let mut first = 0u64;
+    let mut second = 0u64;
     for row in rows {
-        let (_, cost) = row.best(method);
-        sum += cost;
+        let (with_first, with_second) = row.least_costs();
+        first += with_first;
+        second += with_second;
     }
-    sum
+    (first, second)
 }

@@ -87,7 +87,7 @@ fn parameter_count(method: usize) -> usize
 }
 
 impl Row {
-    ghost use Rattle.ff_flac_rice.specs.Row.{row_of, row_with, row_cost, row_best, row_best_cost, RowFits};
+    ghost use Rattle.ff_flac_rice.specs.Row.{row_of, row_with, row_cost, row_best, row_best_cost, RowFits, IsLeastCost};
 
     /// The row of a partition.
     pub fn of(part: &[u32]) -> Row
@@ -137,6 +137,38 @@ impl Row {
         ensures small { result.1 ≤ 2 ^ 49 }
     {
         self.best_below(4 + method as u64, parameter_count(method))
+    }
+
+    /// The bits with the best parameter of each method.
+    pub fn least_costs(&self) -> (u64, u64)
+        requires { RowFits self.now }
+        ensures first { result.0 ≡ row_best_cost 0 self.now }
+        ensures second { result.1 ≡ row_best_cost 1 self.now }
+        ensures first_small { result.0 ≤ 2 ^ 49 }
+        ensures second_small { result.1 ≤ 2 ^ 49 }
+    {
+        let first = self.least_cost(4, 15);
+        if self.sums[14] <= self.len {
+            // A higher parameter costs as much by its low bits alone.
+            return (first, first + 1);
+        }
+        (first, self.least_cost(5, 31))
+    }
+
+    /// The least bits with a parameter below `count`.
+    fn least_cost(&self, width: u64, count: usize) -> u64
+        requires fits { RowFits self.now }
+        requires width { width ≤ 5 }
+        requires some { 0 < count }
+        requires within { count ≤ 31 }
+        ensures least { IsLeastCost (λ k. row_cost width k self.now) count result }
+        ensures small { result < 2 ^ 49 }
+    {
+        let mut cost = width + (self.len + self.sums[0]);
+        for k in 1..count {
+            cost = cost.min(width + (self.len * (k as u64 + 1) + self.sums[k]));
+        }
+        cost
     }
 
     /// The best of the parameters below `count`, and its bits.
