@@ -76,7 +76,7 @@ sums_with-of p q =
     ∙ omega (arith, get_or-sums_of p k h, get_or-sums_of q k h)))
 
 -- records of two fields
-row_eq : (m n : ℕ) (a b : List ℕ) → m ≡ n → a ≡ b → ◌≡◌ {A = Row} (record { len = m; sums = a }) (record { len = n; sums = b })
+pub row_eq : (m n : ℕ) (a b : List ℕ) → m ≡ n → a ≡ b → ◌≡◌ {A = Row} (record { len = m; sums = a }) (record { len = n; sums = b })
 row_eq m n a b p q = ap (λ k. record { len = k; sums = a }) p ∙ ap (λ l. record { len = n; sums = l }) q
 
 pub row_with-of : (p q : List ℕ) → row_with (row_of p) (row_of q) ≡ row_of (p ++ q)
@@ -228,6 +228,10 @@ pub rows_end : (size left : ℕ) (rest : List ℕ) (rows all : List Row) → lef
 unfolding pieces
 rows_end size left rest rows all e h =
     sym (append-nil rows) ∙ ap (λ n. rows ++ map row_of (pieces n size rest)) (sym e) ∙ h
+
+pub set_end : (rows : List Row) (a b : Row) → set (rows ++ (a ∷ [])) (length rows) b ≡ rows ++ (b ∷ [])
+set_end [] a b = refl
+set_end (r ∷ rows) a b = ap (λ l. r ∷ l) (set_end rows a b)
 
 pair_rows-cons : (a b : Row) (rows : List Row) → pair_rows (a ∷ b ∷ rows) ≡ row_with a b ∷ pair_rows rows
 unfolding pair_rows

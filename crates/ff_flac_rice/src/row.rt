@@ -1,6 +1,6 @@
 //! Sums over a partition, under each parameter.
 
-ghost use Rattle.std.specs.Prelude.{◌≡◌, ◌+◌, ◌*◌, ◌^◌, ◌<◌, ◌≤◌, length, Some, ℕ, All};
+ghost use Rattle.std.specs.Prelude.{◌≡◌, ◌+◌, ◌*◌, ◌^◌, ◌<◌, ◌≤◌, length, Some, ℕ, All, replicate};
 ghost use Rattle.std.specs.List.{range_with_len};
 ghost use Rattle.ff_flac_rice.specs.Least.{least};
 ghost use Rattle.ff_flac_rice.specs.Rice.{quotients, count_of};
@@ -89,26 +89,39 @@ fn parameter_count(method: usize) -> usize
 impl Row {
     ghost use Rattle.ff_flac_rice.specs.Row.{row_of, row_with, row_cost, row_best, row_best_cost, RowFits, IsLeastCost};
 
+    /// A row of so many values whose sums are still 0.
+    pub fn begun(len: usize) -> Row
+        ensures { result ≡ record { len = len; sums = replicate 31 0 } }
+    {
+        Row {
+            len: len as u64,
+            sums: [0; 31],
+        }
+    }
+
+    /// Makes of a begun row that of a partition.
+    pub fn fill(&mut self, part: &[u32])
+        requires len { length part.now ≤ 2 ^ 16 }
+        requires begun { self.old ≡ record { len = length part.now; sums = replicate 31 0 } }
+        ensures { self.new ≡ row_of part.now }
+    {
+        let most = greatest(part);
+        for k in 0..31 {
+            if most >> k as u32 == 0 {
+                return;
+            }
+            self.sums[k] = quotients_of(part, k as u32, most);
+        }
+    }
+
     /// The row of a partition.
     pub fn of(part: &[u32]) -> Row
         requires { length part.now ≤ 2 ^ 16 }
         ensures { result ≡ row_of part.now }
     {
-        let most = greatest(part);
-        let mut sums = [0u64; 31];
-        for k in 0..31 {
-            if most >> k as u32 == 0 {
-                return Row {
-                    len: part.len() as u64,
-                    sums,
-                };
-            }
-            sums[k] = quotients_of(part, k as u32, most);
-        }
-        Row {
-            len: part.len() as u64,
-            sums,
-        }
+        let mut row = Row::begun(part.len());
+        row.fill(part);
+        row
     }
 
     /// The row of two partitions one after the other.
