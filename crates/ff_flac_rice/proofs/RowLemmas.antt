@@ -283,8 +283,16 @@ least_with f k cost other new h e m = elim (cases_lt other cost) [
   | inr ge ↦ (h.0, best_keeps f k h.0 h.1 (omega (arith, ge, e, h.2)), omega (arith, m, ge, h.2))
 ]
 
-pub row_least : (method : ℕ) (row : Row) (cost : ℕ) → IsLeastCost (λ k. row_cost (4 + method) k row) (count_of method) cost → cost ≡ row_best_cost method row
-row_least method row cost h = h.2 ∙ ap (λ k. row_cost (4 + method) k row) (sym (row_best_is method row h.0 h.1))
+shift_least : (width : ℕ) (row : Row) (count cost : ℕ) → IsLeastCost (λ k. row_cost 0 k row) count cost → IsLeastCost (λ k. row_cost width k row) count (width + cost)
+shift_least width row count cost h =
+    let f : ℕ → ℕ = λ k. row_cost 0 k row in
+    let wider : (k : ℕ) → row_cost width k row ≡ width + f k = λ k. omega arith in
+    (h.0, least-same (λ k. row_cost width k row) (λ k. width + f k) (range_with_len 0 count) wider ∙ least-shift width f (range_with_len 0 count) ∙ h.1, omega (arith, h.2, wider h.0))
+
+pub row_least : (method : ℕ) (row : Row) (cost : ℕ) → IsLeastCost (λ k. row_cost 0 k row) (count_of method) cost → 4 + method + cost ≡ row_best_cost method row
+row_least method row cost h =
+    let g = shift_least (4 + method) row (count_of method) cost h in
+    g.2 ∙ ap (λ k. row_cost (4 + method) k row) (sym (row_best_is method row g.0 g.1))
 
 at_in_range : (P : ℕ → Type 0) (a n k : ℕ) → AllByRecursion P (range_with_len a n) → a ≤ k → k < a + n → P k
 at_in_range P a zero k h g l = absurd (omega arith)
@@ -294,9 +302,9 @@ at_in_range P a (suc n) k h g l = elim (cases_lt a k) [
 ]
 
 -- a parameter of method 1 alone is no better, where the quotients under the last of method 0 are as few as the values
-pub row_least_more : (row : Row) (cost : ℕ) → IsLeastCost (λ k. row_cost 4 k row) 15 cost → get_or row.sums 14 0 ≤ row.len → IsLeastCost (λ k. row_cost 5 k row) 31 (cost + 1)
+pub row_least_more : (row : Row) (cost : ℕ) → IsLeastCost (λ k. row_cost 0 k row) 15 cost → get_or row.sums 14 0 ≤ row.len → IsLeastCost (λ k. row_cost 0 k row) 31 cost
 row_least_more row cost h few =
-    let f : ℕ → ℕ = λ k. row_cost 4 k row in
+    let f : ℕ → ℕ = λ k. row_cost 0 k row in
     let b : ℕ = h.0 in
     let lowest : AllByRecursion (λ z. f b ≤ f z) (range_with_len 0 15) = subst (λ o. IfSome o (λ a. AllByRecursion (λ z. f a ≤ f z) (range_with_len 0 15))) h.1 (least_is_lowest f (range_with_len 0 15)) in
     let last : f b ≤ f 14 = at_in_range (λ z. f b ≤ f z) 0 15 14 lowest (omega arith) (omega arith) in
@@ -304,6 +312,4 @@ row_least_more row cost h few =
     let le : 16 ≤ j + 1 = omega (arith, g) in
     let more : row.len * 16 ≤ row.len * (j + 1) = mul-le-mul_left row.len le in
     omega (arith, last, few, more) in
-    let all : least f (range_with_len 0 31) ≡ Some b = best_stays f 15 b 16 h.1 above in
-    let wider : (k : ℕ) → row_cost 5 k row ≡ 1 + f k = λ k. omega arith in
-    (b, least-same (λ k. row_cost 5 k row) (λ k. 1 + f k) (range_with_len 0 31) wider ∙ least-shift 1 f (range_with_len 0 31) ∙ all, omega (arith, h.2, wider b))
+    (b, best_stays f 15 b 16 h.1 above, h.2)

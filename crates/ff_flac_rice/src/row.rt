@@ -1,6 +1,7 @@
 //! Sums over a partition, under each parameter.
 
-ghost use Rattle.std.specs.Prelude.{◌≡◌, ◌+◌, ◌*◌, ◌^◌, ◌<◌, ◌≤◌, length, Some, ℕ, All, replicate};
+ghost use Rattle.std.specs.Prelude.{◌≡◌, ◌+◌, ◌*◌, ◌/◌, ◌^◌, ◌<◌, ◌≤◌, length, map, Some, ℕ, All, replicate};
+ghost use lib.Lanes.{sum_l};
 ghost use Rattle.std.specs.List.{range_with_len};
 ghost use Rattle.ff_flac_rice.specs.Least.{least};
 ghost use Rattle.ff_flac_rice.specs.Rice.{quotients, count_of};
@@ -25,15 +26,20 @@ fn greatest(part: &[u32]) -> u32
     most
 }
 
-/// The sum of 16 quotients under one parameter, where it fits 32 bits.
-fn sixteen_quotients(part: &[u32], k: u32, most: u32) -> u32
-    requires len { length part.now ≡ 16 }
-    requires k { k < 32 }
-    requires most { All (λ u. u ≤ most) part.now }
-    requires fits { 16 * most < 2 ^ 32 }
-    ensures { result ≡ quotients k part.now }
+/// The sum of 16 values, where it fits 32 bits.
+fn sum_of(lanes: u32x16) -> u32
+    requires { sum_l lanes < 2 ^ 32 }
+    ensures { result ≡ sum_l lanes }
 {
-    (u32x16::from_slice(part) >> k).strict_reduce_sum()
+    lanes.strict_reduce_sum()
+}
+
+/// Half of each of 16 values.
+fn halves_of(lanes: u32x16) -> u32x16
+    requires { length lanes ≡ 16 }
+    ensures { result ≡ map (λ u. u / 2) lanes }
+{
+    lanes >> 1
 }
 
 /// The sum of the quotients under one parameter, where it fits 32 bits.
@@ -71,9 +77,6 @@ fn quotients_of(part: &[u32], k: u32, most: u32) -> u64
     ensures { result ≡ quotients k part.now }
 {
     if part.len() as u64 * (most as u64) < 0x1_0000_0000 {
-        if part.len() == 16 {
-            return sixteen_quotients(part, k, most) as u64;
-        }
         return narrow_quotients(part, k, most) as u64;
     }
     wide_quotients(part, k)
@@ -106,11 +109,33 @@ impl Row {
         ensures { self.new ≡ row_of part.now }
     {
         let most = greatest(part);
+        if part.len() == 16 && most < 0x1000_0000 {
+            self.fill_of_16(part, most);
+            return;
+        }
         for k in 0..31 {
             if most >> k as u32 == 0 {
                 return;
             }
             self.sums[k] = quotients_of(part, k as u32, most);
+        }
+    }
+
+    /// `fill` for 16 values whose sum fits 32 bits.
+    fn fill_of_16(&mut self, part: &[u32], most: u32)
+        requires len { length part.now ≡ 16 }
+        requires most { All (λ u. u ≤ most) part.now }
+        requires fits { 16 * most < 2 ^ 32 }
+        requires begun { self.old ≡ record { len = length part.now; sums = replicate 31 0 } }
+        ensures { self.new ≡ row_of part.now }
+    {
+        let mut lanes = u32x16::from_slice(part);
+        for k in 0..31 {
+            if most >> k as u32 == 0 {
+                return;
+            }
+            self.sums[k] = sum_of(lanes) as u64;
+            lanes = halves_of(lanes);
         }
     }
 
@@ -160,28 +185,29 @@ impl Row {
         ensures first_small { result.0 ≤ 2 ^ 49 }
         ensures second_small { result.1 ≤ 2 ^ 49 }
     {
-        let first = self.least_cost(4, 15);
+        let below_15 = self.lower_cost(self.len + self.sums[0], 1, 15);
         if self.sums[14] <= self.len {
             // A higher parameter costs as much by its low bits alone.
-            return (first, first + 1);
+            return (4 + below_15, 5 + below_15);
         }
-        (first, self.least_cost(5, 31))
+        (4 + below_15, 5 + self.lower_cost(below_15, 15, 31))
     }
 
-    /// The least bits with a parameter below `count`.
-    fn least_cost(&self, width: u64, count: usize) -> u64
+    /// The least bits of the values with a parameter below `count`, by those with one below `from`.
+    fn lower_cost(&self, cost: u64, from: usize, count: usize) -> u64
         requires fits { RowFits self.now }
-        requires width { width ≤ 5 }
-        requires some { 0 < count }
-        requires within { count ≤ 31 }
-        ensures least { IsLeastCost (λ k. row_cost width k self.now) count result }
-        ensures small { result < 2 ^ 49 }
+        requires within { from ≤ count }
+        requires few { count ≤ 31 }
+        requires least { IsLeastCost (λ k. row_cost 0 k self.now) from cost }
+        requires small { cost ≤ 2 ^ 48 + 2 ^ 16 }
+        ensures least { IsLeastCost (λ k. row_cost 0 k self.now) count result }
+        ensures small { result ≤ 2 ^ 48 + 2 ^ 16 }
     {
-        let mut cost = width + (self.len + self.sums[0]);
-        for k in 1..count {
-            cost = cost.min(width + (self.len * (k as u64 + 1) + self.sums[k]));
+        let mut least = cost;
+        for k in from..count {
+            least = least.min(self.len * (k as u64 + 1) + self.sums[k]);
         }
-        cost
+        least
     }
 
     /// The best of the parameters below `count`, and its bits.
