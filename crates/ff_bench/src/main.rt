@@ -2,6 +2,7 @@
 #![tactic(auto)]
 
 mod bits;
+mod flac;
 mod frames;
 mod heads;
 mod links;
@@ -14,10 +15,11 @@ fn main(rt: HostRuntime) -> io::Result<()> {
     let _program = words.next();
     match words.next() {
         Some(word) if word.as_str() == "bits" => bits::measure(&rt),
+        Some(word) if word.as_str() == "flac" => flac::measure(&rt),
         Some(word) if word.as_str() == "frames" => frames::measure(&rt),
         Some(word) if word.as_str() == "heads" => heads::measure(&rt),
         Some(word) if word.as_str() == "links" => links::measure(&rt, rt.alloc()),
         Some(word) if word.as_str() == "pcm" => pcm::measure(&rt),
-        _ => println!(rt; "usage: ff_bench bits|frames|heads|links|pcm"),
+        _ => println!(rt; "usage: ff_bench bits|flac|frames|heads|links|pcm"),
     }
 }

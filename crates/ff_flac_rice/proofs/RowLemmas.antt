@@ -1,4 +1,4 @@
-use Rattle.std.proofs.Common.{◌≡◌, ℕ, Some, set, zero, suc, ◌+◌, ◌-◌, ◌*◌, ◌/◌, ◌%◌, ◌^◌, ◌<◌, ◌≤◌, true, false, List, [], ◌∷◌, ◌++◌, length, get_or, map, take, drop, refl, sym, ap, ◌∙◌, subst, arith, cond, eqb, inl, inr}
+use Rattle.std.proofs.Common.{◌≡◌, ℕ, Some, set, zero, suc, ◌+◌, ◌-◌, ◌*◌, ◌/◌, ◌%◌, ◌^◌, ◌<◌, ◌≤◌, min, true, false, List, [], ◌∷◌, ◌++◌, length, get_or, map, take, drop, refl, sym, ap, ◌∙◌, subst, arith, cond, eqb, inl, inr}
 use Rattle.std.specs.Option.{unwrap_or, IfSome}
 use Rattle.std.specs.List.{range_with_len, All, AllByRecursion}
 use Rattle.std.proofs.lemmas.List.{length-append, append_assoc, length-take, length-drop, drop-drop, get_or_past, append-nil, drop_more, take_more_set, drop-set-lt, drop_all}
@@ -6,14 +6,14 @@ use Rattle.std.proofs.lemmas.List.Elements.{All-map, All-take, All-drop, All-fro
 use Rattle.std.proofs.lemmas.List.FromFn.{fill_by_all, get_or-map-range_with_len}
 use Rattle.std.proofs.lemmas.List.Sums.{sum_by-append, sum_by-le, sum_by-le-sum_by}
 use Rattle.std.proofs.lemmas.Nat.{pow_pos, shr_le, shr-shr, shr_split, shl-shr}
-use Rattle.std.proofs.Math.Nat.{pow-suc}
+use Rattle.std.proofs.Math.Nat.{pow-suc, mul-le-mul_left}
 use Rattle.std.proofs.Math.Seq.{take-add}
 use Rattle.std.proofs.lemmas.Bool.{cases_lt}
 use Rattle.ff_flac_rice.specs.declared.row.Row.{Row}
 use Rattle.ff_flac_rice.specs.Least.{least}
 use Rattle.ff_flac_rice.specs.Rice.{quotients, part_cost, parameters, count_of, best_k, best_cost, pieces, parts_of}
-use Rattle.ff_flac_rice.specs.Row.{sums_of, row_of, sums_with, row_with, pair_rows, RowFits, row_cost, row_best, row_best_cost}
-use Rattle.ff_flac_rice.proofs.LeastLemmas.{least-same_on, least_holds}
+use Rattle.ff_flac_rice.specs.Row.{sums_of, row_of, sums_with, row_with, pair_rows, RowFits, row_cost, row_best, row_best_cost, IsLeastCost}
+use Rattle.ff_flac_rice.proofs.LeastLemmas.{least-same, least-same_on, least-shift, least_holds, least_is_lowest, best_keeps, best_takes, best_stays}
 use Rattle.ff_flac_rice.proofs.Costs.{best_k_is}
 
 pub get_or-sums_of : (part : List ℕ) (k : ℕ) → k < 31 → get_or (sums_of part) k 0 ≡ quotients k part
@@ -76,7 +76,7 @@ sums_with-of p q =
     ∙ omega (arith, get_or-sums_of p k h, get_or-sums_of q k h)))
 
 -- records of two fields
-row_eq : (m n : ℕ) (a b : List ℕ) → m ≡ n → a ≡ b → ◌≡◌ {A = Row} (record { len = m; sums = a }) (record { len = n; sums = b })
+pub row_eq : (m n : ℕ) (a b : List ℕ) → m ≡ n → a ≡ b → ◌≡◌ {A = Row} (record { len = m; sums = a }) (record { len = n; sums = b })
 row_eq m n a b p q = ap (λ k. record { len = k; sums = a }) p ∙ ap (λ l. record { len = n; sums = l }) q
 
 pub row_with-of : (p q : List ℕ) → row_with (row_of p) (row_of q) ≡ row_of (p ++ q)
@@ -229,6 +229,10 @@ unfolding pieces
 rows_end size left rest rows all e h =
     sym (append-nil rows) ∙ ap (λ n. rows ++ map row_of (pieces n size rest)) (sym e) ∙ h
 
+pub set_end : (rows : List Row) (a b : Row) → set (rows ++ (a ∷ [])) (length rows) b ≡ rows ++ (b ∷ [])
+set_end [] a b = refl
+set_end (r ∷ rows) a b = ap (λ l. r ∷ l) (set_end rows a b)
+
 pair_rows-cons : (a b : Row) (rows : List Row) → pair_rows (a ∷ b ∷ rows) ≡ row_with a b ∷ pair_rows rows
 unfolding pair_rows
 pair_rows-cons a b rows = refl
@@ -270,3 +274,42 @@ halve_end xs ys i half e l h =
 pub row_fits_of : (part : List ℕ) → length part ≤ 2 ^ 16 → All (λ u. u < 2 ^ 32) part → RowFits (row_of part)
 unfolding Small
 row_fits_of part l h = row_fits part (l, h)
+
+-- ---- the least cost alone
+
+pub least_with : (f : ℕ → ℕ) (k cost other new : ℕ) → IsLeastCost f k cost → other ≡ f k → new ≡ min cost other → IsLeastCost f (k + 1) new
+least_with f k cost other new h e m = elim (cases_lt other cost) [
+  | inl lt ↦ (k, best_takes f k h.0 h.1 (omega (arith, lt, e, h.2)), omega (arith, m, lt, e))
+  | inr ge ↦ (h.0, best_keeps f k h.0 h.1 (omega (arith, ge, e, h.2)), omega (arith, m, ge, h.2))
+]
+
+shift_least : (width : ℕ) (row : Row) (count cost : ℕ) → IsLeastCost (λ k. row_cost 0 k row) count cost → IsLeastCost (λ k. row_cost width k row) count (width + cost)
+shift_least width row count cost h =
+    let f : ℕ → ℕ = λ k. row_cost 0 k row in
+    let wider : (k : ℕ) → row_cost width k row ≡ width + f k = λ k. omega arith in
+    (h.0, least-same (λ k. row_cost width k row) (λ k. width + f k) (range_with_len 0 count) wider ∙ least-shift width f (range_with_len 0 count) ∙ h.1, omega (arith, h.2, wider h.0))
+
+pub row_least : (method : ℕ) (row : Row) (cost : ℕ) → IsLeastCost (λ k. row_cost 0 k row) (count_of method) cost → 4 + method + cost ≡ row_best_cost method row
+row_least method row cost h =
+    let g = shift_least (4 + method) row (count_of method) cost h in
+    g.2 ∙ ap (λ k. row_cost (4 + method) k row) (sym (row_best_is method row g.0 g.1))
+
+at_in_range : (P : ℕ → Type 0) (a n k : ℕ) → AllByRecursion P (range_with_len a n) → a ≤ k → k < a + n → P k
+at_in_range P a zero k h g l = absurd (omega arith)
+at_in_range P a (suc n) k h g l = elim (cases_lt a k) [
+  | inl lt ↦ at_in_range P (a + 1) n k h.1 (omega arith) (omega arith)
+  | inr ge ↦ let e : a ≡ k = omega arith in subst P e h.0
+]
+
+-- a parameter of method 1 alone is no better, where the quotients under the last of method 0 are as few as the values
+pub row_least_more : (row : Row) (cost : ℕ) → IsLeastCost (λ k. row_cost 0 k row) 15 cost → get_or row.sums 14 0 ≤ row.len → IsLeastCost (λ k. row_cost 0 k row) 31 cost
+row_least_more row cost h few =
+    let f : ℕ → ℕ = λ k. row_cost 0 k row in
+    let b : ℕ = h.0 in
+    let lowest : AllByRecursion (λ z. f b ≤ f z) (range_with_len 0 15) = subst (λ o. IfSome o (λ a. AllByRecursion (λ z. f a ≤ f z) (range_with_len 0 15))) h.1 (least_is_lowest f (range_with_len 0 15)) in
+    let last : f b ≤ f 14 = at_in_range (λ z. f b ≤ f z) 0 15 14 lowest (omega arith) (omega arith) in
+    let above : (j : ℕ) → 15 ≤ j → f b ≤ f j = λ j g.
+    let le : 16 ≤ j + 1 = omega (arith, g) in
+    let more : row.len * 16 ≤ row.len * (j + 1) = mul-le-mul_left row.len le in
+    omega (arith, last, few, more) in
+    (b, best_stays f 15 b 16 h.1 above, h.2)

@@ -1,10 +1,13 @@
-use Rattle.std.proofs.Common.{◌≡◌, ℕ, ◌*◌, ◌/◌, ◌^◌, ◌<◌, ◌≤◌, List, length, get_or, replicate, inl, inr, ap, arith}
-use Rattle.std.specs.List.{All}
+use Rattle.std.proofs.Common.{◌≡◌, ℕ, ◌+◌, ◌*◌, ◌/◌, ◌^◌, ◌<◌, ◌≤◌, List, [], ◌∷◌, length, map, take, get_or, replicate, inl, inr, refl, sym, ap, ◌∙◌, arith}
+use Rattle.std.specs.List.{All, sum_by}
+use lib.Lanes.{sum_l}
+use Rattle.std.proofs.Math.Path.{fun_ext}
 use Rattle.std.proofs.lemmas.Bool.{cases_lt}
-use Rattle.std.proofs.lemmas.List.{get_or-replicate, get_or_past, length-replicate}
+use Rattle.std.proofs.lemmas.List.{get_or-replicate, get_or_past, length-replicate, length-map, take_all, map-id}
 use Rattle.std.proofs.lemmas.List.Elements.{All-weaker}
-use Rattle.std.proofs.lemmas.List.Sums.{sum_by-le}
-use Rattle.std.proofs.lemmas.Nat.{pow_pos, div_below, shr_split, mod_below}
+use Rattle.std.proofs.lemmas.List.Sums.{sum_by-le, sum_by-cons}
+use Rattle.std.proofs.lemmas.Nat.{pow_pos, div_below, shr_split, shr_le, shr-shr, mod_below}
+use Rattle.std.proofs.lemmas.Simd.{map-map}
 use Rattle.std.proofs.Math.Nat.{pow-le-pow_right}
 use Rattle.ff_flac_rice.specs.Rice.{quotients}
 
@@ -31,3 +34,30 @@ quotients_zero part most k j h z l =
     let all : All (λ u. u / 2 ^ j ≤ 0) part = All-weaker (λ u. u ≤ most) (λ u. u / 2 ^ j ≤ 0) (λ u b. small_quotient u j (omega (arith, b, m, p))) part h in
     let s : quotients j part ≤ length part * 0 = sum_by-le (λ u. u / 2 ^ j) 0 part all in
     omega (arith, s)
+
+-- ---- sixteen at once
+
+sum_l-map : (f : ℕ → ℕ) (us : List ℕ) → sum_l (map f us) ≡ sum_by f us
+sum_l-map f [] = refl
+sum_l-map f (u ∷ us) = ap (λ n. f u + n) (sum_l-map f us) ∙ sym (sum_by-cons f u us)
+
+pub sixteen_start : (us : List ℕ) → length us ≡ 16 → take 16 us ≡ map (λ u. u / 2 ^ 0) us
+sixteen_start us h =
+    let whole : (u : ℕ) → u ≡ u / 2 ^ 0 = λ u. omega arith in
+    take_all 16 us (omega (arith, h)) ∙ sym (map-id us) ∙ ap (λ f. map f us) (fun_ext whole)
+
+pub halves_next : (k : ℕ) (us : List ℕ) → map (λ u. u / 2) (map (λ u. u / 2 ^ k) us) ≡ map (λ u. u / 2 ^ (k + 1)) us
+halves_next k us =
+    let next : (u : ℕ) → u / 2 ^ k / 2 ≡ u / 2 ^ (k + 1) = λ u. shr-shr u k 1 in
+    map-map (λ u. u / 2) (λ u. u / 2 ^ k) us ∙ ap (λ f. map f us) (fun_ext next)
+
+pub lanes_sum : (k : ℕ) (us lanes : List ℕ) → lanes ≡ map (λ u. u / 2 ^ k) us → sum_l lanes ≡ quotients k us
+lanes_sum k us lanes e = ap sum_l e ∙ sum_l-map (λ u. u / 2 ^ k) us
+
+pub lanes_small : (k most : ℕ) (us lanes : List ℕ) → lanes ≡ map (λ u. u / 2 ^ k) us → length us ≡ 16 → All (λ u. u ≤ most) us → 16 * most < 2 ^ 32 → sum_l lanes < 2 ^ 32
+lanes_small k most us lanes e h a l =
+    let s : quotients k us ≤ length us * most = sum_by-le (λ u. u / 2 ^ k) most us (All-weaker (λ u. u ≤ most) (λ u. u / 2 ^ k ≤ most) (λ u m. omega (arith, m, shr_le u k)) us a) in
+    omega (arith, lanes_sum k us lanes e, s, ap (λ n. n * most) h, l)
+
+pub lanes_len : (k : ℕ) (us lanes : List ℕ) → lanes ≡ map (λ u. u / 2 ^ k) us → length us ≡ 16 → length lanes ≡ 16
+lanes_len k us lanes e h = ap length e ∙ length-map us (λ u. u / 2 ^ k) ∙ h

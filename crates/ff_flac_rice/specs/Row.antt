@@ -1,4 +1,4 @@
-use Rattle.std.specs.Prelude.{◌≡◌, ℕ, ◌+◌, ◌*◌, ◌^◌, ◌≤◌, List, [], ◌∷◌, length, map, slice_index, unwrap_or}
+use Rattle.std.specs.Prelude.{◌≡◌, Some, ℕ, ◌+◌, ◌*◌, ◌^◌, ◌≤◌, List, [], ◌∷◌, length, map, slice_index, unwrap_or}
 use Rattle.std.specs.List.{range_with_len}
 use Rattle.ff_flac_rice.specs.Least.{least}
 use Rattle.ff_flac_rice.specs.Rice.{quotients, parameters}
@@ -37,3 +37,7 @@ row_best method row = unwrap_or (least (λ k. row_cost (4 + method) k row) (para
 
 abbrev pub row_best_cost : ℕ → Row → ℕ
 row_best_cost method row = row_cost (4 + method) (row_best method row) row
+
+-- the least of these costs of the numbers below count
+abbrev pub IsLeastCost : (ℕ → ℕ) → ℕ → ℕ → Type 0
+IsLeastCost f count cost = (k : ℕ) × (least f (range_with_len 0 count) ≡ Some k) × (cost ≡ f k)

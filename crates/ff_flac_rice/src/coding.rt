@@ -5,7 +5,7 @@ ghost use Rattle.std.specs.List.{range_with_len};
 ghost use Rattle.ff_flac_rice.specs.Least.{least};
 ghost use Rattle.ff_flac_rice.specs.Rice.{is_allowed, orders, residual_bits, codings, best_at};
 
-use crate::level::{halve, level_cost, rows_of};
+use crate::level::{halve, level_costs, rows_of};
 use std::alloc::{AllocError, Global};
 
 /// A way to code a residual, and its bits.
@@ -79,20 +79,20 @@ pub fn best_coding(alloc: Global, us: &[u32], order: usize) -> Result<Found, All
     let finest = finest_order(us.len() + order, order);
     let mut rows = rows_of(alloc, us, order, finest)?;
     let mut partition_order = finest;
+    let (with_first, with_second) = level_costs(&rows);
     let mut first = Choice {
         partition_order,
-        cost: level_cost(&rows, 0),
+        cost: with_first,
     };
     let mut second = Choice {
         partition_order,
-        cost: level_cost(&rows, 1),
+        cost: with_second,
     };
     while partition_order > 0 {
         partition_order -= 1;
         halve(&mut rows);
-        let with_first = level_cost(&rows, 0);
+        let (with_first, with_second) = level_costs(&rows);
         first = lower(first, partition_order, with_first);
-        let with_second = level_cost(&rows, 1);
         second = lower(second, partition_order, with_second);
     }
     if second.cost < first.cost {

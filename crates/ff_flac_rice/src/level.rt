@@ -1,12 +1,23 @@
 //! The rows of all partitions of one partition order.
 
-ghost use Rattle.std.specs.Prelude.{◌≡◌, ◌+◌, ◌-◌, ◌*◌, ◌/◌, ◌%◌, ◌^◌, ◌<◌, ◌≤◌, ℕ, List, length, map, IfOk, All, vec_len};
+ghost use Rattle.std.specs.Prelude.{◌≡◌, ◌+◌, ◌-◌, ◌*◌, ◌/◌, ◌%◌, ◌^◌, ◌<◌, ◌≤◌, ℕ, List, [], ◌∷◌, ◌++◌, length, map, IfOk, OnOk, All, vec_len};
 ghost use Rattle.std.specs.List.{sum_by};
 ghost use Rattle.ff_flac_rice.specs.Rice.{parts_of, best_cost};
 ghost use Rattle.ff_flac_rice.specs.Row.{row_of, pair_rows, RowFits, row_best_cost};
 
 use crate::row::Row;
 use std::alloc::{AllocError, Global};
+
+/// Adds the row of a partition, which is made in its place.
+fn push_row(rows: &mut Vec<Row>, part: &[u32]) -> Result<(), AllocError>
+    requires { length part.now ≤ 2 ^ 16 }
+    ensures { OnOk result (rows.new.items ≡ rows.old.items ++ row_of part.now ∷ []) }
+{
+    let place = rows.len();
+    rows.push(Row::begun(part.len()))?;
+    rows[place].fill(part);
+    Ok(())
+}
 
 /// The rows of the values in `2 ^ partition_order` partitions.
 pub fn rows_of(
@@ -25,11 +36,11 @@ pub fn rows_of(
     let size = (us.len() + order) >> partition_order;
     let (first, mut rest) = us.split_at(size - order);
     let mut rows = Vec::with_capacity(alloc, 1usize << partition_order)?;
-    rows.push(Row::of(first))?;
+    push_row(&mut rows, first)?;
     let mut left = (1usize << partition_order) - 1;
     while left > 0 {
         let (part, after) = rest.split_at(size);
-        rows.push(Row::of(part))?;
+        push_row(&mut rows, part)?;
         rest = after;
         left -= 1;
     }
@@ -50,18 +61,21 @@ pub fn halve(rows: &mut Vec<Row>)
     rows.truncate(half);
 }
 
-/// The least bits of all partitions with a method.
-pub fn level_cost(rows: &[Row], method: usize) -> u64
+/// The least bits of all partitions with each method.
+pub fn level_costs(rows: &[Row]) -> (u64, u64)
     requires fits { All RowFits rows.now }
     requires few { length rows.now ≤ 256 }
-    requires method { method ≤ 1 }
-    ensures is { result ≡ sum_by (row_best_cost method) rows.now }
-    ensures small { result ≤ 2 ^ 57 }
+    ensures first { result.0 ≡ sum_by (row_best_cost 0) rows.now }
+    ensures second { result.1 ≡ sum_by (row_best_cost 1) rows.now }
+    ensures first_small { result.0 ≤ 2 ^ 57 }
+    ensures second_small { result.1 ≤ 2 ^ 57 }
 {
-    let mut sum = 0u64;
+    let mut first = 0u64;
+    let mut second = 0u64;
     for row in rows {
-        let (_, cost) = row.best(method);
-        sum += cost;
+        let (with_first, with_second) = row.least_costs();
+        first += with_first;
+        second += with_second;
     }
-    sum
+    (first, second)
 }

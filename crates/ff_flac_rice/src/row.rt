@@ -1,9 +1,12 @@
 //! Sums over a partition, under each parameter.
 
-ghost use Rattle.std.specs.Prelude.{◌≡◌, ◌+◌, ◌*◌, ◌^◌, ◌<◌, ◌≤◌, length, Some, ℕ, All};
+ghost use Rattle.std.specs.Prelude.{◌≡◌, ◌+◌, ◌*◌, ◌/◌, ◌^◌, ◌<◌, ◌≤◌, length, map, Some, ℕ, All, replicate};
+ghost use lib.Lanes.{sum_l};
 ghost use Rattle.std.specs.List.{range_with_len};
 ghost use Rattle.ff_flac_rice.specs.Least.{least};
 ghost use Rattle.ff_flac_rice.specs.Rice.{quotients, count_of};
+
+use std::simd::prelude::*;
 
 /// How many values a partition has, and their quotients' sum under each parameter.
 #[derive(Clone, Copy)]
@@ -21,6 +24,22 @@ fn greatest(part: &[u32]) -> u32
         most = most.max(*u);
     }
     most
+}
+
+/// The sum of 16 values, where it fits 32 bits.
+fn sum_of(lanes: u32x16) -> u32
+    requires { sum_l lanes < 2 ^ 32 }
+    ensures { result ≡ sum_l lanes }
+{
+    lanes.strict_reduce_sum()
+}
+
+/// Half of each of 16 values.
+fn halves_of(lanes: u32x16) -> u32x16
+    requires { length lanes ≡ 16 }
+    ensures { result ≡ map (λ u. u / 2) lanes }
+{
+    lanes >> 1
 }
 
 /// The sum of the quotients under one parameter, where it fits 32 bits.
@@ -71,28 +90,63 @@ fn parameter_count(method: usize) -> usize
 }
 
 impl Row {
-    ghost use Rattle.ff_flac_rice.specs.Row.{row_of, row_with, row_cost, row_best, row_best_cost, RowFits};
+    ghost use Rattle.ff_flac_rice.specs.Row.{row_of, row_with, row_cost, row_best, row_best_cost, RowFits, IsLeastCost};
+
+    /// A row of so many values whose sums are still 0.
+    pub fn begun(len: usize) -> Row
+        ensures { result ≡ record { len = len; sums = replicate 31 0 } }
+    {
+        Row {
+            len: len as u64,
+            sums: [0; 31],
+        }
+    }
+
+    /// Makes of a begun row that of a partition.
+    pub fn fill(&mut self, part: &[u32])
+        requires len { length part.now ≤ 2 ^ 16 }
+        requires begun { self.old ≡ record { len = length part.now; sums = replicate 31 0 } }
+        ensures { self.new ≡ row_of part.now }
+    {
+        let most = greatest(part);
+        if part.len() == 16 && most < 0x1000_0000 {
+            self.fill_of_16(part, most);
+            return;
+        }
+        for k in 0..31 {
+            if most >> k as u32 == 0 {
+                return;
+            }
+            self.sums[k] = quotients_of(part, k as u32, most);
+        }
+    }
+
+    /// `fill` for 16 values whose sum fits 32 bits.
+    fn fill_of_16(&mut self, part: &[u32], most: u32)
+        requires len { length part.now ≡ 16 }
+        requires most { All (λ u. u ≤ most) part.now }
+        requires fits { 16 * most < 2 ^ 32 }
+        requires begun { self.old ≡ record { len = length part.now; sums = replicate 31 0 } }
+        ensures { self.new ≡ row_of part.now }
+    {
+        let mut lanes = u32x16::from_slice(part);
+        for k in 0..31 {
+            if most >> k as u32 == 0 {
+                return;
+            }
+            self.sums[k] = sum_of(lanes) as u64;
+            lanes = halves_of(lanes);
+        }
+    }
 
     /// The row of a partition.
     pub fn of(part: &[u32]) -> Row
         requires { length part.now ≤ 2 ^ 16 }
         ensures { result ≡ row_of part.now }
     {
-        let most = greatest(part);
-        let mut sums = [0u64; 31];
-        for k in 0..31 {
-            if most >> k as u32 == 0 {
-                return Row {
-                    len: part.len() as u64,
-                    sums,
-                };
-            }
-            sums[k] = quotients_of(part, k as u32, most);
-        }
-        Row {
-            len: part.len() as u64,
-            sums,
-        }
+        let mut row = Row::begun(part.len());
+        row.fill(part);
+        row
     }
 
     /// The row of two partitions one after the other.
@@ -121,6 +175,39 @@ impl Row {
         ensures small { result.1 ≤ 2 ^ 49 }
     {
         self.best_below(4 + method as u64, parameter_count(method))
+    }
+
+    /// The bits with the best parameter of each method.
+    pub fn least_costs(&self) -> (u64, u64)
+        requires { RowFits self.now }
+        ensures first { result.0 ≡ row_best_cost 0 self.now }
+        ensures second { result.1 ≡ row_best_cost 1 self.now }
+        ensures first_small { result.0 ≤ 2 ^ 49 }
+        ensures second_small { result.1 ≤ 2 ^ 49 }
+    {
+        let below_15 = self.lower_cost(self.len + self.sums[0], 1, 15);
+        if self.sums[14] <= self.len {
+            // A higher parameter costs as much by its low bits alone.
+            return (4 + below_15, 5 + below_15);
+        }
+        (4 + below_15, 5 + self.lower_cost(below_15, 15, 31))
+    }
+
+    /// The least bits of the values with a parameter below `count`, by those with one below `from`.
+    fn lower_cost(&self, cost: u64, from: usize, count: usize) -> u64
+        requires fits { RowFits self.now }
+        requires within { from ≤ count }
+        requires few { count ≤ 31 }
+        requires least { IsLeastCost (λ k. row_cost 0 k self.now) from cost }
+        requires small { cost ≤ 2 ^ 48 + 2 ^ 16 }
+        ensures least { IsLeastCost (λ k. row_cost 0 k self.now) count result }
+        ensures small { result ≤ 2 ^ 48 + 2 ^ 16 }
+    {
+        let mut least = cost;
+        for k in from..count {
+            least = least.min(self.len * (k as u64 + 1) + self.sums[k]);
+        }
+        least
     }
 
     /// The best of the parameters below `count`, and its bits.

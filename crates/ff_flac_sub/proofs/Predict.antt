@@ -1,31 +1,41 @@
-use Rattle.std.proofs.Common.{◌≡◌, ℕ, zero, suc, ◌+◌, ◌-◌, ◌*◌, ◌<◌, ℤ, pos, negsuc, List, [], ◌∷◌, ◌++◌, length, get_or, take, refl, ap, ◌∙◌, arith}
+use Rattle.std.proofs.Common.{◌≡◌, ℕ, zero, suc, ◌+◌, ◌-◌, ◌*◌, ◌<◌, ◌≤◌, ℤ, pos, negsuc, List, [], ◌∷◌, ◌++◌, length, get_or, set, take, drop, refl, sym, ap, ◌∙◌, arith}
 use Rattle.std.specs.Prelude.{◌+ℤ◌, ◌*ℤ◌, ◌-ℤ◌, ◌<ℤ◌, ◌≤ℤ◌, neg_ℤ}
 use Rattle.std.proofs.lemmas.Int.{ints}
 use Rattle.std.specs.List.{flat_map, All, AllByRecursion}
-use Rattle.std.proofs.lemmas.List.Elements.{All-from_recursion, recursion_from_All}
-use Rattle.std.proofs.lemmas.List.{length-append}
+use Rattle.std.proofs.lemmas.List.Elements.{All-from_recursion, recursion_from_All, All-same, All-drop}
+use Rattle.std.proofs.lemmas.List.{length-append, length-drop, append_assoc, append-nil, drop_more, drop-drop, drop-set-lt, take_more_set}
 use Rattle.ff_bits.proofs.BitsLemmas.{length-bits_of}
 use Rattle.ff_flac_sub.specs.Subframe.{steps, steps_from, rest_of, magnitude, sample_bits}
 
-steps_from_more : (x : ℤ) (ys : List ℤ) (j : ℕ) → j < length ys
-    → steps_from x (take (suc j) ys) ≡ steps_from x (take j ys) ++ ((get_or ys j (pos 0) -ℤ get_or (x ∷ ys) j (pos 0)) ∷ [])
-steps_from_more x [] j h = absurd (omega arith)
-steps_from_more x (y ∷ ys) zero h = refl
-steps_from_more x (y ∷ ys) (suc j) h = ap (λ l. (y -ℤ x) ∷ l) (steps_from_more y ys j (omega arith))
+pub step_next : (xs all : List ℤ) (i : ℕ) (d : ℤ) → i + 1 < length xs → d ≡ get_or xs (i + 1) (pos 0) -ℤ get_or xs i (pos 0)
+    → take i xs ++ steps (drop i xs) ≡ all → take (i + 1) (set xs i d) ++ steps (drop (i + 1) (set xs i d)) ≡ all
+step_next xs all i d h e is =
+    let x : ℤ = get_or xs i (pos 0) in
+    let y : ℤ = get_or xs (i + 1) (pos 0) in
+    let rest : List ℤ = drop (i + 1) xs in
+    let after : rest ≡ y ∷ drop (i + 1 + 1) xs = drop_more xs (i + 1) (pos 0) h in
+    let both : drop i xs ≡ x ∷ y ∷ drop (i + 1 + 1) xs = drop_more xs i (pos 0) (omega arith) ∙ ap (λ l. x ∷ l) after in
+    let step : steps (drop i xs) ≡ (y -ℤ x) ∷ steps rest = ap steps both ∙ ap (λ l. (y -ℤ x) ∷ steps l) (sym after) in
+    ap (λ l. l ++ steps (drop (i + 1) (set xs i d))) (take_more_set xs i d (omega arith))
+    ∙ ap (λ l. (take i xs ++ (d ∷ [])) ++ steps l) (drop-set-lt (i + 1) xs i d (omega arith))
+    ∙ append_assoc (take i xs) (d ∷ []) (steps rest)
+    ∙ ap (λ z. take i xs ++ (z ∷ steps rest)) e
+    ∙ ap (λ l. take i xs ++ l) (sym step)
+    ∙ is
 
-pub steps_more : (xs : List ℤ) (i : ℕ) → 0 < i → i < length xs
-    → steps (take (i + 1) xs) ≡ steps (take i xs) ++ ((get_or xs i (pos 0) -ℤ get_or xs (i - 1) (pos 0)) ∷ [])
-steps_more [] i h l = absurd (omega arith)
-steps_more (x ∷ xs) zero h l = absurd (omega arith)
-steps_more (x ∷ xs) (suc i) h l =
-    let e : suc i + 1 ≡ suc (suc i) = omega arith in
-    let f : i ≡ suc i - 1 = omega arith in
-    ap (λ n. steps (take n (x ∷ xs))) e ∙ steps_from_more x xs i (omega arith)
-    ∙ ap (λ n. steps (take (suc i) (x ∷ xs)) ++ ((get_or xs i (pos 0) -ℤ get_or (x ∷ xs) n (pos 0)) ∷ [])) f
+pub step_rest_small : (P : ℤ → Type 0) (xs : List ℤ) (i : ℕ) (d : ℤ) → All P (drop i xs) → All P (drop (i + 1) (set xs i d))
+step_rest_small P xs i d h =
+    All-same P (drop (i + 1) (set xs i d)) (drop 1 (drop i xs)) (drop-set-lt (i + 1) xs i d (omega arith) ∙ sym (drop-drop 1 i xs)) (All-drop P 1 (drop i xs) h)
 
-pub steps_one : (xs : List ℤ) → steps (take 1 xs) ≡ []
-steps_one [] = refl
-steps_one (x ∷ xs) = refl
+steps_short : (xs : List ℤ) → length xs ≤ 1 → steps xs ≡ []
+steps_short [] h = refl
+steps_short (x ∷ []) h = refl
+steps_short (x ∷ y ∷ xs) h = absurd (omega arith)
+
+pub step_end : (xs all : List ℤ) (i n : ℕ) → length xs ≡ n → i ≡ n - 1 → take i xs ++ steps (drop i xs) ≡ all → take (n - 1) xs ≡ all
+step_end xs all i n l e is =
+    let none : steps (drop i xs) ≡ [] = steps_short (drop i xs) (omega (arith, length-drop i xs, l)) in
+    ap (λ m. take m xs) (sym e) ∙ sym (append-nil (take i xs)) ∙ ap (λ l. take i xs ++ l) (sym none) ∙ is
 
 -- ---- how long residuals are, and how large
 

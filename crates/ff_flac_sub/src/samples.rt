@@ -1,6 +1,6 @@
 //! Samples and their residuals.
 
-ghost use Rattle.std.specs.Prelude.{◌≡◌, ◌+◌, ◌-◌, ◌*◌, ◌^◌, ◌<◌, ◌≤◌, ◌++◌, length, map, ℤ, ◌-ℤ◌, IfOk, OnOk, All};
+ghost use Rattle.std.specs.Prelude.{◌≡◌, ◌+◌, ◌-◌, ◌*◌, ◌^◌, ◌<◌, ◌≤◌, ◌++◌, length, map, take, ℤ, ◌-ℤ◌, IfOk, OnOk, All};
 ghost use Rattle.std.specs.List.{flat_map, list_all};
 ghost use Rattle.std.specs.Ordering.{int_eq};
 ghost use Rattle.ff_flac_rice.specs.Rice.{zigzagged};
@@ -17,16 +17,25 @@ fn step(x: i32, before: i32) -> i32
     x - before
 }
 
-/// How each sample differs from the one before.
-pub fn steps_of(alloc: Global, xs: &[i32]) -> Result<Vec<i32>, AllocError>
-    requires { All (λ x. magnitude x < 2 ^ 30) xs.now }
-    ensures { IfOk result (λ v. v.items ≡ steps xs.now) }
+/// Makes of each sample but the last how the next one differs from it.
+fn step_each(xs: &mut [i32])
+    requires { All (λ x. magnitude x < 2 ^ 30) xs.old }
+    ensures len { length xs.new ≡ length xs.old }
+    ensures is { take (length xs.old - 1) xs.new ≡ steps xs.old }
 {
-    let mut out = Vec::with_capacity(alloc, xs.len())?;
-    for i in 1..xs.len() {
-        out.push(step(xs[i], xs[i - 1]))?;
+    for i in 0..xs.len().saturating_sub(1) {
+        xs[i] = step(xs[i + 1], xs[i]);
     }
-    Ok(out)
+}
+
+/// Makes of samples how each differs from the one before.
+pub fn take_steps(xs: &mut Vec<i32>)
+    requires { All (λ x. magnitude x < 2 ^ 30) xs.old.items }
+    ensures { xs.new.items ≡ steps xs.old.items }
+{
+    let count = xs.len();
+    step_each(xs);
+    xs.truncate(count.saturating_sub(1));
 }
 
 fn zigzag_of(x: i32) -> u32
@@ -40,16 +49,30 @@ fn zigzag_of(x: i32) -> u32
     }
 }
 
+fn zeros(alloc: Global, count: usize) -> Result<Vec<u32>, AllocError>
+    ensures { IfOk result (λ v. length v.items ≡ count) }
+{
+    vec![in alloc; 0; count]
+}
+
+fn zigzag_each(us: &mut [u32], xs: &[i32])
+    requires len { length us.old ≡ length xs.now }
+    requires small { All (λ x. magnitude x < 2 ^ 30) xs.now }
+    ensures { us.new ≡ map zigzagged xs.now }
+{
+    for i in 0..us.len() {
+        us[i] = zigzag_of(xs[i]);
+    }
+}
+
 /// The numbers from 0 on that stand for the samples.
 pub fn zigzags_of(alloc: Global, xs: &[i32]) -> Result<Vec<u32>, AllocError>
     requires { All (λ x. magnitude x < 2 ^ 30) xs.now }
     ensures { IfOk result (λ v. v.items ≡ map zigzagged xs.now) }
 {
-    let mut out = Vec::with_capacity(alloc, xs.len())?;
-    for x in xs {
-        out.push(zigzag_of(*x))?;
-    }
-    Ok(out)
+    let mut us = zeros(alloc, xs.len())?;
+    zigzag_each(&mut us, xs);
+    Ok(us)
 }
 
 /// A sample in two's complement.

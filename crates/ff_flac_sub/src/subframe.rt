@@ -5,7 +5,7 @@ ghost use Rattle.ff_flac_rice.specs.Least.{choose, least};
 ghost use Rattle.ff_flac_sub.specs.Subframe.{magnitude, rest_of, subframe_bits, candidates, fixed_of, Spelling};
 ghost use Rattle.ff_flac_sub.specs.Plan.{spelling_of, size, IsBestPlan, PlanFits, constants};
 
-use crate::samples::{are_equal, put_sample, put_samples, steps_of, zigzags_of};
+use crate::samples::{are_equal, put_sample, put_samples, take_steps, zigzags_of};
 use ff_bits::BitWriter;
 use ff_flac_rice::{best_coding, write_residual};
 use std::alloc::{AllocError, Global};
@@ -93,7 +93,7 @@ pub fn plan_of(alloc: Global, samples: &[i32], depth: u32) -> Result<Planned, Al
     for order in 0..orders {
         let new = fixed_plan(alloc, samples, &rest, order, depth)?;
         best = Some(lower(best, new));
-        rest = steps_of(alloc, &rest)?;
+        take_steps(&mut rest);
     }
     let verbatim = Planned {
         plan: Plan::Verbatim,
@@ -111,7 +111,7 @@ fn rest_by(alloc: Global, samples: &[i32], order: usize) -> Result<Vec<i32>, All
 {
     let mut rest = Vec::from_slice(alloc, samples)?;
     for done in 0..order {
-        rest = steps_of(alloc, &rest)?;
+        take_steps(&mut rest);
     }
     Ok(rest)
 }

@@ -1,5 +1,5 @@
 // What raw samples are.
-ghost use Rattle.std.specs.Prelude.{◌≤◌, ◌<◌};
+ghost use Rattle.std.specs.Prelude.{◌≡◌, ◌≤◌, ◌<◌};
 
 /// The rate, bits and channels of a FLAC file that is written (RFC 9639, section 9.1).
 #[derive(Clone, Copy, Debug)]
@@ -11,6 +11,8 @@ pub struct Form {
 }
 
 impl Form {
+    ghost use Rattle.ff_flac_enc.specs.Totals.{width_of};
+
     /// None where a file of sound can't have it, or isn't written with it: a rate of 0 or of more than 20 bits, a depth that
     /// isn't 4 to 24 bits, a number of channels that isn't 1 to 8.
     pub fn new(rate: u32, bits: u8, channels: u8) -> Option<Form> {
@@ -35,7 +37,8 @@ impl Form {
     pub fn width(&self) -> usize
         ensures some { 1 ≤ result }
         ensures few { result ≤ 3 }
+        ensures bits { result ≡ width_of self.now.bits }
     {
-        usize::from(self.bits.div_ceil(8))
+        (usize::from(self.bits) + 7) / 8
     }
 }

@@ -9,6 +9,7 @@ mod block;
 mod coded;
 mod form;
 mod head;
+mod sample;
 mod stop;
 
 use block::{BLOCK, blocks_of};

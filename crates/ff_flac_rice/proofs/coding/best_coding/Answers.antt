@@ -5,39 +5,31 @@ use Rattle.ff_flac_rice.proofs.Orders.{allowed_down}
 use Rattle.ff_flac_rice.proofs.Levels.{IsBest, level_is, best_first, both_first, both_second, rows_fit_here, rows_few, rows_even, rows_after, best_after, best_end, cost_is}
 use Rattle.ff_flac_rice.proofs.coding.best_coding.Goals as goal
 
-pub level_cost-requires-clause-fits : goal.level_cost-requires-clause-fits
-level_cost-requires-clause-fits c =
+pub level_costs-with_first-requires-clause-fits : goal.level_costs-with_first-requires-clause-fits
+level_costs-with_first-requires-clause-fits c =
     rows_fit_here c.args.order c.finest_order-finest.result c.args.us.now _ (c.deref.ensures.value ∙ c.in_ok-rows.ensures) c.requires.len (λ i. (c.type_inv.us i).fits)
 
-pub level_cost-requires-clause-few : goal.level_cost-requires-clause-few
-level_cost-requires-clause-few c =
+pub level_costs-with_first-requires-clause-few : goal.level_costs-with_first-requires-clause-few
+level_costs-with_first-requires-clause-few c =
     rows_few c.args.order c.finest_order-finest.result c.args.us.now _ (c.deref.ensures.value ∙ c.in_ok-rows.ensures) c.finest_order-finest.ensures.within
-
-pub level_cost-requires-2-clause-fits : goal.level_cost-requires-2-clause-fits
-level_cost-requires-2-clause-fits c =
-    rows_fit_here c.args.order c.finest_order-finest.result c.args.us.now _ (c.deref-2.ensures.value ∙ c.in_ok-rows.ensures) c.requires.len (λ i. (c.type_inv.us i).fits)
-
-pub level_cost-requires-2-clause-few : goal.level_cost-requires-2-clause-few
-level_cost-requires-2-clause-few c =
-    rows_few c.args.order c.finest_order-finest.result c.args.us.now _ (c.deref-2.ensures.value ∙ c.in_ok-rows.ensures) c.finest_order-finest.ensures.within
 
 pub loop-partition_order-init : goal.loop-partition_order-init
 loop-partition_order-init c =
     let p : ℕ = c.finest_order-finest.result in
     let one : 1 ≡ suc (p - p) = omega arith in
-    let a = level_is 0 c.level_cost.result _ (parts_of c.args.order p c.args.us.now) (c.deref.ensures.value ∙ c.in_ok-rows.ensures) c.level_cost.ensures.is in
-    let b = level_is 1 c.level_cost-2.result _ (parts_of c.args.order p c.args.us.now) (c.deref-2.ensures.value ∙ c.in_ok-rows.ensures) c.level_cost-2.ensures.is in
+    let a = level_is 0 c.level_costs-with_first.result.0 _ (parts_of c.args.order p c.args.us.now) (c.deref.ensures.value ∙ c.in_ok-rows.ensures) c.level_costs-with_first.ensures.first in
+    let b = level_is 1 c.level_costs-with_first.result.1 _ (parts_of c.args.order p c.args.us.now) (c.deref.ensures.value ∙ c.in_ok-rows.ensures) c.level_costs-with_first.ensures.second in
     record {
-      first_small = c.level_cost.ensures.small;
-      second_small = c.level_cost-2.ensures.small;
+      first_small = c.level_costs-with_first.ensures.first_small;
+      second_small = c.level_costs-with_first.ensures.second_small;
       fine = c.finest_order-finest.ensures.within;
       within = omega arith;
       allowed = c.finest_order-finest.ensures.allowed;
       rows = c.in_ok-rows.ensures;
-      first = subst (λ n. IsBest c.args.order c.args.us.now 0 p n (record { partition_order = p; cost = c.level_cost.result })) one
-          (best_first c.args.order c.args.us.now 0 p c.level_cost.result a c.finest_order-finest.ensures.allowed c.finest_order-finest.ensures.within);
-      second = subst (λ n. IsBest c.args.order c.args.us.now 1 p n (record { partition_order = p; cost = c.level_cost-2.result })) one
-          (best_first c.args.order c.args.us.now 1 p c.level_cost-2.result b c.finest_order-finest.ensures.allowed c.finest_order-finest.ensures.within);
+      first = subst (λ n. IsBest c.args.order c.args.us.now 0 p n (record { partition_order = p; cost = c.level_costs-with_first.result.0 })) one
+          (best_first c.args.order c.args.us.now 0 p c.level_costs-with_first.result.0 a c.finest_order-finest.ensures.allowed c.finest_order-finest.ensures.within);
+      second = subst (λ n. IsBest c.args.order c.args.us.now 1 p n (record { partition_order = p; cost = c.level_costs-with_first.result.1 })) one
+          (best_first c.args.order c.args.us.now 1 p c.level_costs-with_first.result.1 b c.finest_order-finest.ensures.allowed c.finest_order-finest.ensures.within);
     }
 
 pub halve-requires-clause-fits : goal.halve-requires-clause-fits
@@ -51,33 +43,19 @@ halve-requires-clause-even c =
     let even : length c.loop-partition_order.rows.items % 2 ≡ 0 = rows_even c.args.order (c.loop-partition_order.partition_order - 1) c.args.us.now c.loop-partition_order.rows.items is in
     omega (arith, even, c.loop-partition_order.rows.ok)
 
-pub level_cost-with_first-requires-clause-fits : goal.level_cost-with_first-requires-clause-fits
-level_cost-with_first-requires-clause-fits c =
+pub level_costs-with_first-requires-in-loop-partition_order-clause-fits : goal.level_costs-with_first-requires-in-loop-partition_order-clause-fits
+level_costs-with_first-requires-in-loop-partition_order-clause-fits c =
     let p : ℕ = c.loop-partition_order.partition_order - 1 in
     let e : c.loop-partition_order.partition_order ≡ suc p = omega arith in
     let new = rows_after c.args.order c.loop-partition_order.partition_order p c.args.us.now c.loop-partition_order.rows.items c.halve.new.rows.items e c.loop-partition_order.invariant.allowed c.loop-partition_order.invariant.rows c.halve.ensures in
     rows_fit_here c.args.order p c.args.us.now _ (c.deref-in-loop-partition_order.ensures.value ∙ new) c.requires.len (λ i. (c.type_inv.us i).fits)
 
-pub level_cost-with_first-requires-clause-few : goal.level_cost-with_first-requires-clause-few
-level_cost-with_first-requires-clause-few c =
+pub level_costs-with_first-requires-in-loop-partition_order-clause-few : goal.level_costs-with_first-requires-in-loop-partition_order-clause-few
+level_costs-with_first-requires-in-loop-partition_order-clause-few c =
     let p : ℕ = c.loop-partition_order.partition_order - 1 in
     let e : c.loop-partition_order.partition_order ≡ suc p = omega arith in
     let new = rows_after c.args.order c.loop-partition_order.partition_order p c.args.us.now c.loop-partition_order.rows.items c.halve.new.rows.items e c.loop-partition_order.invariant.allowed c.loop-partition_order.invariant.rows c.halve.ensures in
     rows_few c.args.order p c.args.us.now _ (c.deref-in-loop-partition_order.ensures.value ∙ new) (omega (arith, c.loop-partition_order.invariant.within, c.loop-partition_order.invariant.fine))
-
-pub level_cost-with_second-requires-clause-fits : goal.level_cost-with_second-requires-clause-fits
-level_cost-with_second-requires-clause-fits c =
-    let p : ℕ = c.loop-partition_order.partition_order - 1 in
-    let e : c.loop-partition_order.partition_order ≡ suc p = omega arith in
-    let new = rows_after c.args.order c.loop-partition_order.partition_order p c.args.us.now c.loop-partition_order.rows.items c.halve.new.rows.items e c.loop-partition_order.invariant.allowed c.loop-partition_order.invariant.rows c.halve.ensures in
-    rows_fit_here c.args.order p c.args.us.now _ (c.deref-in-loop-partition_order-2.ensures.value ∙ new) c.requires.len (λ i. (c.type_inv.us i).fits)
-
-pub level_cost-with_second-requires-clause-few : goal.level_cost-with_second-requires-clause-few
-level_cost-with_second-requires-clause-few c =
-    let p : ℕ = c.loop-partition_order.partition_order - 1 in
-    let e : c.loop-partition_order.partition_order ≡ suc p = omega arith in
-    let new = rows_after c.args.order c.loop-partition_order.partition_order p c.args.us.now c.loop-partition_order.rows.items c.halve.new.rows.items e c.loop-partition_order.invariant.allowed c.loop-partition_order.invariant.rows c.halve.ensures in
-    rows_few c.args.order p c.args.us.now _ (c.deref-in-loop-partition_order-2.ensures.value ∙ new) (omega (arith, c.loop-partition_order.invariant.within, c.loop-partition_order.invariant.fine))
 
 pub loop-partition_order-preserved : goal.loop-partition_order-preserved
 loop-partition_order-preserved c =
@@ -91,8 +69,8 @@ loop-partition_order-preserved c =
     let new = rows_after order c.loop-partition_order.partition_order p us c.loop-partition_order.rows.items c.halve.new.rows.items e c.loop-partition_order.invariant.allowed c.loop-partition_order.invariant.rows c.halve.ensures in
     let allowed : is_allowed (length us + order) order p ≡ true = allowed_down (length us + order) order p (subst (λ m. is_allowed (length us + order) order m ≡ true) e c.loop-partition_order.invariant.allowed) in
     let within : p ≤ 8 = omega (arith, c.loop-partition_order.invariant.within, c.loop-partition_order.invariant.fine) in
-    let a = level_is 0 c.level_cost-with_first.result _ (parts_of order p us) (c.deref-in-loop-partition_order.ensures.value ∙ new) c.level_cost-with_first.ensures.is in
-    let b = level_is 1 c.level_cost-with_second.result _ (parts_of order p us) (c.deref-in-loop-partition_order-2.ensures.value ∙ new) c.level_cost-with_second.ensures.is in
+    let a = level_is 0 c.level_costs-with_first-in-loop-partition_order.result.0 _ (parts_of order p us) (c.deref-in-loop-partition_order.ensures.value ∙ new) c.level_costs-with_first-in-loop-partition_order.ensures.first in
+    let b = level_is 1 c.level_costs-with_first-in-loop-partition_order.result.1 _ (parts_of order p us) (c.deref-in-loop-partition_order.ensures.value ∙ new) c.level_costs-with_first-in-loop-partition_order.ensures.second in
     record {
       first_small = omega (arith, c.lower-first.ensures.small, c.loop-partition_order.invariant.first_small);
       second_small = omega (arith, c.lower-second.ensures.small, c.loop-partition_order.invariant.second_small);
@@ -100,8 +78,8 @@ loop-partition_order-preserved c =
       within = omega (arith, c.loop-partition_order.invariant.within);
       allowed = allowed;
       rows = new;
-      first = best_after order us 0 c.loop-partition_order.partition_order p top c.loop-partition_order.first c.lower-first.result c.level_cost-with_first.result e' c.loop-partition_order.invariant.within c.loop-partition_order.invariant.first a allowed within c.lower-first.ensures.chosen;
-      second = best_after order us 1 c.loop-partition_order.partition_order p top c.loop-partition_order.second c.lower-second.result c.level_cost-with_second.result e' c.loop-partition_order.invariant.within c.loop-partition_order.invariant.second b allowed within c.lower-second.ensures.chosen;
+      first = best_after order us 0 c.loop-partition_order.partition_order p top c.loop-partition_order.first c.lower-first.result c.level_costs-with_first-in-loop-partition_order.result.0 e' c.loop-partition_order.invariant.within c.loop-partition_order.invariant.first a allowed within c.lower-first.ensures.chosen;
+      second = best_after order us 1 c.loop-partition_order.partition_order p top c.loop-partition_order.second c.lower-second.result c.level_costs-with_first-in-loop-partition_order.result.1 e' c.loop-partition_order.invariant.within c.loop-partition_order.invariant.second b allowed within c.lower-second.ensures.chosen;
     }
 
 pub returns-then-second-first-clause-least : goal.returns-then-second-first-clause-least

@@ -1,5 +1,6 @@
 use Rattle.std.proofs.Common.{◌≡◌, ℕ, ◌+◌, ◌-◌, ◌*◌, ◌/◌, ◌^◌, ◌<◌, length, ap, ◌∙◌, arith, suc, ◌++◌, [], ◌∷◌}
 use Rattle.std.proofs.lemmas.Nat.{one_shl, shr_split, pow_pos}
+use Rattle.ff_flac_rice.specs.Row.{row_of}
 use Rattle.ff_flac_rice.proofs.RowLemmas.{rest_len, step_len, rows_start, rows_step, rows_end}
 use Rattle.ff_flac_rice.proofs.level.rows_of.Goals as goal
 
@@ -12,9 +13,9 @@ loop-left-init c =
     rw (one_shl c.args.partition_order 64 (omega arith)) (record {
       rest = rest ∙ rest_len (length c.args.us.now) c.args.order (n / 2 ^ c.args.partition_order) (2 ^ c.args.partition_order - 1) (2 ^ c.args.partition_order) (omega arith) whole c.requires.longer;
       short = omega arith;
-      rows = rows_start c.args.order c.args.partition_order c.args.us.now c.split_at.result.0.now c.split_at.result.1.now c.push.new.self.items
+      rows = rows_start c.args.order c.args.partition_order c.args.us.now c.split_at.result.0.now c.split_at.result.1.now c.push_row.new.rows.items
           c.split_at.ensures.front c.split_at.ensures.back
-          (c.in_ok-push.ensures.items ∙ ap (λ l. l ++ (c.of.result ∷ [])) c.in_ok-rows.ensures.items ∙ ap (λ r. r ∷ []) c.of.ensures);
+          (c.in_ok-push_row.ensures ∙ ap (λ l. l ++ (row_of c.split_at.result.0.now ∷ [])) c.in_ok-rows.ensures.items);
     })
 
 pub loop-left-preserved : goal.loop-left-preserved
@@ -27,8 +28,8 @@ loop-left-preserved c =
       rest = step_len c.loop-left.left m size (length c.loop-left.rest.now) (length c.split_at-in-loop-left.result.1.now) e' c.loop-left.invariant.rest (omega (arith, c.split_at-in-loop-left.ensures.back_len));
       short = omega (arith, c.split_at-in-loop-left.ensures.back_len, c.loop-left.invariant.short);
       rows = rows_step size c.loop-left.left m c.loop-left.rest.now c.split_at-in-loop-left.result.0.now c.split_at-in-loop-left.result.1.now
-          c.loop-left.rows.items c.push-in-loop-left.new.self.items _ e c.split_at-in-loop-left.ensures.front c.split_at-in-loop-left.ensures.back
-          (c.in_ok-push-2.ensures.items ∙ ap (λ r. c.loop-left.rows.items ++ (r ∷ [])) c.of-in-loop-left.ensures)
+          c.loop-left.rows.items c.push_row-in-loop-left.new.rows.items _ e c.split_at-in-loop-left.ensures.front c.split_at-in-loop-left.ensures.back
+          c.in_ok-push_row-2.ensures
           c.loop-left.invariant.rows;
     }
 

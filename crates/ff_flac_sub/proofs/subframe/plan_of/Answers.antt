@@ -1,4 +1,4 @@
-use Rattle.std.proofs.Common.{◌≡◌, ◌+◌, ◌*◌, ◌<◌, ◌≤◌, ◌^◌, min, length, sym, ◌∙◌, arith, refl}
+use Rattle.std.proofs.Common.{◌≡◌, ◌*◌, ◌<◌, ◌≤◌, ◌^◌, min, length, sym, ◌∙◌, arith, refl}
 use Rattle.std.proofs.lemmas.List.Elements.{All-same}
 use Rattle.std.proofs.lemmas.Nat.{mul-le}
 use Rattle.ff_flac_sub.specs.Subframe.{magnitude}
@@ -18,20 +18,16 @@ fixed_plan-requires-clause-small c =
     All-same (λ x. magnitude x < 2 ^ 30) c.deref.result.now c.loop-order.rest.items c.deref.ensures.value
     (small_enough 0 c.loop-order.order c.loop-order.rest.items (omega arith) c.loop-order.invariant.small)
 
-pub steps_of-requires : goal.steps_of-requires
-steps_of-requires c =
-    All-same (λ x. magnitude x < 2 ^ 30) c.deref-in-loop-order.result.now c.loop-order.rest.items c.deref-in-loop-order.ensures.value
-    (small_enough 0 c.loop-order.order c.loop-order.rest.items (omega arith) c.loop-order.invariant.small)
+pub take_steps-requires : goal.take_steps-requires
+take_steps-requires c = small_enough 0 c.loop-order.order c.loop-order.rest.items (omega arith) c.loop-order.invariant.small
 
 pub loop-order-preserved : goal.loop-order-preserved
 loop-order-preserved c = record {
   best = same_spellings c.args.depth c.args.samples.now _ _ _ (so_far-more c.args.samples.now c.loop-order.order)
       (plan_next c.args.depth c.args.samples.now (so_far c.args.samples.now c.loop-order.order) _ c.loop-order.best c.in_ok-new.new c.lower.result
       c.loop-order.invariant.best c.in_ok-new.ensures.least c.in_ok-new.ensures.cost c.in_ok-new.ensures.fits c.lower.ensures.chosen);
-  rest = next_rest c.loop-order.order c.args.samples.now c.deref-in-loop-order.result.now c.in_ok-rest-2.rest.items
-      (c.deref-in-loop-order.ensures.value ∙ c.loop-order.invariant.rest) c.in_ok-rest-2.ensures;
-  small = next_small c.loop-order.order c.deref-in-loop-order.result.now c.in_ok-rest-2.rest.items c.in_ok-rest-2.ensures
-      (All-same (λ x. magnitude x < 2 ^ (24 + c.loop-order.order)) c.deref-in-loop-order.result.now c.loop-order.rest.items c.deref-in-loop-order.ensures.value c.loop-order.invariant.small);
+  rest = next_rest c.loop-order.order c.args.samples.now c.loop-order.rest.items c.take_steps.new.xs.items c.loop-order.invariant.rest c.take_steps.ensures;
+  small = next_small c.loop-order.order c.loop-order.rest.items c.take_steps.new.xs.items c.take_steps.ensures c.loop-order.invariant.small;
 }
 
 pub returns-clause-least : goal.returns-clause-least

@@ -1,4 +1,4 @@
-use Rattle.std.proofs.Common.{◌≡◌, ◌+◌, ◌<◌, ◌^◌, ap, sym, ◌∙◌, arith}
+use Rattle.std.proofs.Common.{◌≡◌, ◌<◌, ◌^◌, ap, sym, ◌∙◌, arith}
 use Rattle.std.proofs.lemmas.List.Elements.{All-same}
 use Rattle.ff_flac_sub.specs.Subframe.{magnitude, rest_of}
 use Rattle.ff_flac_sub.proofs.Predict.{rest_of-zero}
@@ -11,16 +11,13 @@ loop-done-init c = record {
   small = All-same (λ x. magnitude x < 2 ^ 24) c.in_ok-rest.rest.items c.args.samples.now c.in_ok-rest.ensures.items c.requires.fits;
 }
 
-pub steps_of-requires : goal.steps_of-requires
-steps_of-requires c =
-    All-same (λ x. magnitude x < 2 ^ 30) c.deref.result.now c.loop-done.rest.items c.deref.ensures.value
-    (small_enough 0 c.loop-done.done c.loop-done.rest.items (omega (arith, c.requires.order)) c.loop-done.invariant.small)
+pub take_steps-requires : goal.take_steps-requires
+take_steps-requires c = small_enough 0 c.loop-done.done c.loop-done.rest.items (omega (arith, c.requires.order)) c.loop-done.invariant.small
 
 pub loop-done-preserved : goal.loop-done-preserved
 loop-done-preserved c = record {
-  rest = next_rest c.loop-done.done c.args.samples.now c.deref.result.now c.in_ok-rest-2.rest.items (c.deref.ensures.value ∙ c.loop-done.invariant.rest) c.in_ok-rest-2.ensures;
-  small = next_small c.loop-done.done c.deref.result.now c.in_ok-rest-2.rest.items c.in_ok-rest-2.ensures
-      (All-same (λ x. magnitude x < 2 ^ (24 + c.loop-done.done)) c.deref.result.now c.loop-done.rest.items c.deref.ensures.value c.loop-done.invariant.small);
+  rest = next_rest c.loop-done.done c.args.samples.now c.loop-done.rest.items c.take_steps.new.xs.items c.loop-done.invariant.rest c.take_steps.ensures;
+  small = next_small c.loop-done.done c.loop-done.rest.items c.take_steps.new.xs.items c.take_steps.ensures c.loop-done.invariant.small;
 }
 
 pub returns-clause-is : goal.returns-clause-is

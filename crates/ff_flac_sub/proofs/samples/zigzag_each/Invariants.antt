@@ -1,0 +1,6 @@
+use Rattle.std.proofs.Common.{◌≡◌, map, take, length}
+use Rattle.ff_flac_rice.specs.Rice.{zigzagged}
+use Rattle.ff_flac_sub.proofs.samples.zigzag_each.Given as goal
+
+abbrev pub invariant-loop-i : goal.invariant-loop-i
+invariant-loop-i l = record { len : length l.us ≡ length l.xs; is : take l.i l.us ≡ map zigzagged (take l.i l.xs) }
