@@ -231,6 +231,25 @@ fn linked_up<M: Machine + Drop>(
     }
 }
 
+/// The machines as nodes on new links of this size, each fed by the one before. The links claim what `C` says. The
+/// machines come back as they were where memory is refused.
+pub fn link_chain<C: Claims, M: Machine + Drop>(
+    alloc: Global,
+    machines: Chain<M>,
+    lanes: &Lanes,
+    size: usize,
+) -> Result<Chain<Linked<M>>, Chain<M>>
+    requires lanes { HasLanes M.in_lanes M.out_lanes lanes.now machines }
+    requires size { (1 ≤ size) × (size ≤ 1024) }
+    ensures linked { IfOk result (λ linked. AreLinkedUp M.in_lanes M.out_lanes M.source_of M.fault_of M.stands C.claims lanes.now machines linked) }
+    ensures back { IfErr result (λ back. back ≡ machines) }
+{
+    match all_ports::<C>(alloc, lanes, size) {
+        Ok(ports) => linked_up(alloc, machines, ports),
+        Err(_) => Err(machines),
+    }
+}
+
 // The first node with a fault, and its fault.
 fn first_fault<M: Machine>(nodes: &[Linked<M>]) -> Option<NodeFault>
     requires { length nodes.now < 2 ^ 32 }
@@ -278,10 +297,7 @@ pub fn run_chain_in_threads<C: Claims, R: Threads + Wait + Sync, M: Machine + Se
     let Ok(list) = Vec::with_capacity(alloc, 4) else {
         return Err(machines);
     };
-    let Ok(ports) = all_ports::<C>(alloc, lanes, size) else {
-        return Err(machines);
-    };
-    let nodes = match linked_up(alloc, machines, ports) {
+    let nodes = match link_chain::<C, M>(alloc, machines, lanes, size) {
         Ok(linked) => gathered(list, linked),
         Err(machines) => return Err(machines),
     };

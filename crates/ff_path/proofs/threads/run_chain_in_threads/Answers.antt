@@ -17,8 +17,8 @@ use Rattle.ff_path.proofs.threads.run_chain_in_threads.Goals as goal
 pub run_threads-requires-clause-lawful : goal.run_threads-requires-clause-lawful
 run_threads-requires-clause-lawful g c κs within =
     let m = g.M.Machine in
-    let up = c.in-Ok-linked_up.ensures.linked g.C.Claims.claims c.args.lanes.now c.in-Ok-all_ports.ensures c.requires.lanes in
-    subst (λ (xs : List (Linked g.row.M.Denot)). AllLawful m.in_lanes m.out_lanes m.source_of m.device_of m.failures m.fault_of m.stands xs) (sym c.gathered-nodes.ensures) (chain_lawful m.in_lanes m.out_lanes m.source_of m.device_of m.failures m.fault_of m.stands g.C.Claims.claims c.args.lanes.now c.args.machines c.in-Ok-linked_up.linked up c.requires.start)
+    let up = c.in-Ok-link_chain.ensures.linked in
+    subst (λ (xs : List (Linked g.row.M.Denot)). AllLawful m.in_lanes m.out_lanes m.source_of m.device_of m.failures m.fault_of m.stands xs) (sym c.gathered-nodes.ensures) (chain_lawful m.in_lanes m.out_lanes m.source_of m.device_of m.failures m.fault_of m.stands g.C.Claims.claims c.args.lanes.now c.args.machines c.in-Ok-link_chain.linked up c.requires.start)
 
 pub settle_all-requires-clause-ended : goal.settle_all-requires-clause-ended
 settle_all-requires-clause-ended g c = let m = g.M.Machine in ended_after m.in_lanes m.out_lanes m.source_of m.device_of m.failures m.fault_of m.stands c.gathered-nodes.result.items c.in-Ok-run_threads.done.items c.in-Ok-run_threads.ensures.ok
@@ -26,8 +26,8 @@ settle_all-requires-clause-ended g c = let m = g.M.Machine in ended_after m.in_l
 pub settle_all-requires-clause-linked : goal.settle_all-requires-clause-linked
 settle_all-requires-clause-linked g c =
     let m = g.M.Machine in
-    let up = c.in-Ok-linked_up.ensures.linked g.C.Claims.claims c.args.lanes.now c.in-Ok-all_ports.ensures c.requires.lanes in
-    let olds = c.in-Ok-linked_up.linked in
+    let up = c.in-Ok-link_chain.ensures.linked in
+    let olds = c.in-Ok-link_chain.linked in
     let done = c.in-Ok-run_threads.done.items in
     let ran1 : AllRan m.in_lanes m.out_lanes m.source_of m.device_of m.failures m.fault_of m.stands (listed olds) done =
     subst (λ (xs : List (Linked g.row.M.Denot)). AllRan m.in_lanes m.out_lanes m.source_of m.device_of m.failures m.fault_of m.stands xs done) c.gathered-nodes.ensures c.in-Ok-run_threads.ensures.ok in
@@ -37,8 +37,8 @@ settle_all-requires-clause-linked g c =
 pub returns-in-Ok-run_threads-clause-fares : goal.returns-in-Ok-run_threads-clause-fares
 returns-in-Ok-run_threads-clause-fares g c =
     let m = g.M.Machine in
-    let up = c.in-Ok-linked_up.ensures.linked g.C.Claims.claims c.args.lanes.now c.in-Ok-all_ports.ensures c.requires.lanes in
-    let olds = c.in-Ok-linked_up.linked in
+    let up = c.in-Ok-link_chain.ensures.linked in
+    let olds = c.in-Ok-link_chain.linked in
     let done = c.in-Ok-run_threads.done.items in
     let ran1 : AllRan m.in_lanes m.out_lanes m.source_of m.device_of m.failures m.fault_of m.stands (listed olds) done =
     subst (λ (xs : List (Linked g.row.M.Denot)). AllRan m.in_lanes m.out_lanes m.source_of m.device_of m.failures m.fault_of m.stands xs done) c.gathered-nodes.ensures c.in-Ok-run_threads.ensures.ok in
@@ -51,8 +51,8 @@ returns-in-Ok-run_threads-clause-fares g c =
 pub returns-in-Ok-run_threads-clause-lanes : goal.returns-in-Ok-run_threads-clause-lanes
 returns-in-Ok-run_threads-clause-lanes g c =
     let m = g.M.Machine in
-    let up = c.in-Ok-linked_up.ensures.linked g.C.Claims.claims c.args.lanes.now c.in-Ok-all_ports.ensures c.requires.lanes in
-    let olds = c.in-Ok-linked_up.linked in
+    let up = c.in-Ok-link_chain.ensures.linked in
+    let olds = c.in-Ok-link_chain.linked in
     let done = c.in-Ok-run_threads.done.items in
     let ran1 : AllRan m.in_lanes m.out_lanes m.source_of m.device_of m.failures m.fault_of m.stands (listed olds) done =
     subst (λ (xs : List (Linked g.row.M.Denot)). AllRan m.in_lanes m.out_lanes m.source_of m.device_of m.failures m.fault_of m.stands xs done) c.gathered-nodes.ensures c.in-Ok-run_threads.ensures.ok in
@@ -65,8 +65,8 @@ returns-in-Ok-run_threads-clause-lanes g c =
 pub returns-in-Ok-run_threads-clause-part : goal.returns-in-Ok-run_threads-clause-part
 returns-in-Ok-run_threads-clause-part g c claims tasks s =
     let m = g.M.Machine in
-    let up = c.in-Ok-linked_up.ensures.linked g.C.Claims.claims c.args.lanes.now c.in-Ok-all_ports.ensures c.requires.lanes in
-    let olds = c.in-Ok-linked_up.linked in
+    let up = c.in-Ok-link_chain.ensures.linked in
+    let olds = c.in-Ok-link_chain.linked in
     let done = c.in-Ok-run_threads.done.items in
     let ran1 : AllRan m.in_lanes m.out_lanes m.source_of m.device_of m.failures m.fault_of m.stands (listed olds) done =
     subst (λ (xs : List (Linked g.row.M.Denot)). AllRan m.in_lanes m.out_lanes m.source_of m.device_of m.failures m.fault_of m.stands xs done) c.gathered-nodes.ensures c.in-Ok-run_threads.ensures.ok in
@@ -82,8 +82,8 @@ returns-in-Ok-run_threads-clause-part g c claims tasks s =
 pub returns-in-Ok-run_threads-clause-all : goal.returns-in-Ok-run_threads-clause-all
 returns-in-Ok-run_threads-clause-all g c claims none tasks s =
     let m = g.M.Machine in
-    let up = c.in-Ok-linked_up.ensures.linked g.C.Claims.claims c.args.lanes.now c.in-Ok-all_ports.ensures c.requires.lanes in
-    let olds = c.in-Ok-linked_up.linked in
+    let up = c.in-Ok-link_chain.ensures.linked in
+    let olds = c.in-Ok-link_chain.linked in
     let done = c.in-Ok-run_threads.done.items in
     let ran1 : AllRan m.in_lanes m.out_lanes m.source_of m.device_of m.failures m.fault_of m.stands (listed olds) done =
     subst (λ (xs : List (Linked g.row.M.Denot)). AllRan m.in_lanes m.out_lanes m.source_of m.device_of m.failures m.fault_of m.stands xs done) c.gathered-nodes.ensures c.in-Ok-run_threads.ensures.ok in
@@ -100,8 +100,8 @@ returns-in-Ok-run_threads-clause-all g c claims none tasks s =
 pub returns-in-Ok-run_threads-clause-sound : goal.returns-in-Ok-run_threads-clause-sound
 returns-in-Ok-run_threads-clause-sound g c none =
     let m = g.M.Machine in
-    let up = c.in-Ok-linked_up.ensures.linked g.C.Claims.claims c.args.lanes.now c.in-Ok-all_ports.ensures c.requires.lanes in
-    let olds = c.in-Ok-linked_up.linked in
+    let up = c.in-Ok-link_chain.ensures.linked in
+    let olds = c.in-Ok-link_chain.linked in
     let done = c.in-Ok-run_threads.done.items in
     let ran1 : AllRan m.in_lanes m.out_lanes m.source_of m.device_of m.failures m.fault_of m.stands (listed olds) done =
     subst (λ (xs : List (Linked g.row.M.Denot)). AllRan m.in_lanes m.out_lanes m.source_of m.device_of m.failures m.fault_of m.stands xs done) c.gathered-nodes.ensures c.in-Ok-run_threads.ensures.ok in
@@ -115,8 +115,8 @@ returns-in-Ok-run_threads-clause-sound g c none =
 pub returns-in-Ok-run_threads-clause-fault : goal.returns-in-Ok-run_threads-clause-fault
 returns-in-Ok-run_threads-clause-fault g c f some =
     let m = g.M.Machine in
-    let up = c.in-Ok-linked_up.ensures.linked g.C.Claims.claims c.args.lanes.now c.in-Ok-all_ports.ensures c.requires.lanes in
-    let olds = c.in-Ok-linked_up.linked in
+    let up = c.in-Ok-link_chain.ensures.linked in
+    let olds = c.in-Ok-link_chain.linked in
     let done = c.in-Ok-run_threads.done.items in
     let ran1 : AllRan m.in_lanes m.out_lanes m.source_of m.device_of m.failures m.fault_of m.stands (listed olds) done =
     subst (λ (xs : List (Linked g.row.M.Denot)). AllRan m.in_lanes m.out_lanes m.source_of m.device_of m.failures m.fault_of m.stands xs done) c.gathered-nodes.ensures c.in-Ok-run_threads.ensures.ok in
@@ -130,8 +130,8 @@ returns-in-Ok-run_threads-clause-fault g c f some =
 pub returns-in-Ok-run_threads-clause-cause : goal.returns-in-Ok-run_threads-clause-cause
 returns-in-Ok-run_threads-clause-cause g c claims f some of tasks s =
     let m = g.M.Machine in
-    let up = c.in-Ok-linked_up.ensures.linked g.C.Claims.claims c.args.lanes.now c.in-Ok-all_ports.ensures c.requires.lanes in
-    let olds = c.in-Ok-linked_up.linked in
+    let up = c.in-Ok-link_chain.ensures.linked in
+    let olds = c.in-Ok-link_chain.linked in
     let done = c.in-Ok-run_threads.done.items in
     let ran1 : AllRan m.in_lanes m.out_lanes m.source_of m.device_of m.failures m.fault_of m.stands (listed olds) done =
     subst (λ (xs : List (Linked g.row.M.Denot)). AllRan m.in_lanes m.out_lanes m.source_of m.device_of m.failures m.fault_of m.stands xs done) c.gathered-nodes.ensures c.in-Ok-run_threads.ensures.ok in
@@ -148,8 +148,8 @@ returns-in-Ok-run_threads-clause-cause g c claims f some of tasks s =
 pub returns-in-Err-run_threads-clause-back : goal.returns-in-Err-run_threads-clause-back
 returns-in-Err-run_threads-clause-back g c =
     let m = g.M.Machine in
-    let up = c.in-Ok-linked_up.ensures.linked g.C.Claims.claims c.args.lanes.now c.in-Ok-all_ports.ensures c.requires.lanes in
-    let olds = c.in-Ok-linked_up.linked in
+    let up = c.in-Ok-link_chain.ensures.linked in
+    let olds = c.in-Ok-link_chain.linked in
     let back = c.apart-first.result in
     let is : listed back ≡ listed olds = sym c.apart-first.ensures ∙ (c.in-Err-run_threads.ensures.err ∙ c.gathered-nodes.ensures) in
     let at : (k : ℕ) → machine_of (node_of (slice_index_or (listed back) k back.first)) ≡ machine_of (node_of (slice_index_or (listed olds) k back.first)) = λ k. ap (λ (xs : List (Linked g.row.M.Denot)). machine_of (node_of (slice_index_or xs k back.first))) is in
