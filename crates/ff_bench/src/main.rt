@@ -6,6 +6,7 @@ mod flac;
 mod frames;
 mod heads;
 mod links;
+mod path;
 mod pcm;
 
 use std::{env, io};
@@ -19,7 +20,11 @@ fn main(rt: HostRuntime) -> io::Result<()> {
         Some(word) if word.as_str() == "frames" => frames::measure(&rt),
         Some(word) if word.as_str() == "heads" => heads::measure(&rt),
         Some(word) if word.as_str() == "links" => links::measure(&rt, rt.alloc()),
+        Some(word) if word.as_str() == "path" => match words.next() {
+            Some(mode) => path::measure(&rt, rt.alloc(), &mode),
+            None => println!(rt; "usage: ff_bench path serial|1|8|64"),
+        },
         Some(word) if word.as_str() == "pcm" => pcm::measure(&rt),
-        _ => println!(rt; "usage: ff_bench bits|flac|frames|heads|links|pcm"),
+        _ => println!(rt; "usage: ff_bench bits|flac|frames|heads|links|path|pcm"),
     }
 }
