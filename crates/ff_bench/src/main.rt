@@ -20,9 +20,9 @@ fn main(rt: HostRuntime) -> io::Result<()> {
         Some(word) if word.as_str() == "frames" => frames::measure(&rt),
         Some(word) if word.as_str() == "heads" => heads::measure(&rt),
         Some(word) if word.as_str() == "links" => links::measure(&rt, rt.alloc()),
-        Some(word) if word.as_str() == "path" => match words.next() {
-            Some(mode) => path::measure(&rt, rt.alloc(), &mode),
-            None => println!(rt; "usage: ff_bench path serial|1|8|64"),
+        Some(word) if word.as_str() == "path" => match (words.next(), words.next()) {
+            (Some(mode), Some(bits)) => path::measure(&rt, rt.alloc(), &mode, &bits),
+            _ => println!(rt; "usage: ff_bench path serial|1|8|64 8|16"),
         },
         Some(word) if word.as_str() == "pcm" => pcm::measure(&rt),
         _ => println!(rt; "usage: ff_bench bits|flac|frames|heads|links|path|pcm"),

@@ -1,7 +1,7 @@
 //! The path from an input to its framehash, in one thread and in threads.
 
 ghost use Rattle.std.specs.Prelude.{◌≤◌, IfOk, IfSome};
-ghost use Rattle.ff_frame.specs.declared.head.Codec.TheVariants.{PcmU8};
+ghost use Rattle.ff_frame.specs.Lanes.{IsPcmCodec};
 ghost use Rattle.ff_parts.specs.Parts.{part_in_lanes, part_out_lanes};
 ghost use Rattle.ff_path.specs.Chains.{HasLanes};
 ghost use Rattle.ff_path.specs.Path.{path_lanes as path_lanes_of};
@@ -22,44 +22,71 @@ use std::time::{Duration, Instant};
 
 type Parts = Chain<Part<QuietSource, QuietSink>>;
 
-/// The samples of the input: 100 MB, of 8 bits on one channel.
-const SAMPLES: usize = 100_000_000;
+/// The bytes of samples in the input: 100 MB.
+const BYTES: usize = 100_000_000;
+
+/// Before 8 bits on one channel, whose packets have 1,024 bytes.
+const HEAD_OF_8: &[u8] =
+    b"RIFF\0\0\0\0WAVEfmt \x10\0\0\0\x01\0\x01\0\x44\xac\0\0\x44\xac\0\0\x01\0\x08\0data\0\xe1\xf5\x05";
+
+/// Before 16 bits on two channels, whose packets have 4,096 bytes.
+const HEAD_OF_16: &[u8] =
+    b"RIFF\0\0\0\0WAVEfmt \x10\0\0\0\x01\0\x02\0\x44\xac\0\0\x10\xb1\x02\0\x04\0\x10\0data\0\xe1\xf5\x05";
 
 const DOWN: [usize; 4] = [0, 1, 2, 3];
 
-/// Prints how long the framehash of an input in memory takes: `serial` in one thread over wires of 8 items, or in threads
-/// over links of 1, 8 or 64.
+/// Prints how long the framehash of an input in memory takes: of samples of 16 bits on two channels where `bits` is 16, and
+/// else of 8 bits on one; `serial` in one thread over wires of 8 items, or in threads over links of 1, 8 or 64.
 pub fn measure<R: Threads + Wait + Sync + Print + Clock>(
     rt: &R,
     alloc: Global,
     mode: &str,
+    bits: &str,
 ) -> io::Result<()> {
-    let Some((head, parts)) = parts_of(alloc)? else {
+    match bits {
+        "16" => measure_of(rt, alloc, mode, Codec::PcmS16le, HEAD_OF_16),
+        _ => measure_of(rt, alloc, mode, Codec::PcmU8, HEAD_OF_8),
+    }
+}
+
+fn measure_of<R: Threads + Wait + Sync + Print + Clock>(
+    rt: &R,
+    alloc: Global,
+    mode: &str,
+    codec: Codec,
+    head: &[u8],
+) -> io::Result<()>
+    requires { IsPcmCodec codec }
+{
+    let Some((head, parts)) = parts_of(alloc, codec, head)? else {
         return println!(rt; "no parts");
     };
     let time = match mode {
-        "1" => threads(rt, alloc, &head, parts, 1)?,
-        "8" => threads(rt, alloc, &head, parts, 8)?,
-        "64" => threads(rt, alloc, &head, parts, 64)?,
-        _ => serial(rt, alloc, &head, parts)?,
+        "1" => threads(rt, alloc, codec, &head, parts, 1)?,
+        "8" => threads(rt, alloc, codec, &head, parts, 8)?,
+        "64" => threads(rt, alloc, codec, &head, parts, 64)?,
+        _ => serial(rt, alloc, codec, &head, parts)?,
     };
     let seconds = time.as_secs_f64();
     println!(rt; "framehash of 100 MB: {seconds:.3} s")
 }
 
-fn input(alloc: Global) -> Result<Vec<u8>, AllocError> {
-    let mut bytes = Vec::with_capacity(alloc, SAMPLES + 44)?;
-    bytes.extend_from_slice(
-        b"RIFF\0\0\0\0WAVEfmt \x10\0\0\0\x01\0\x01\0\x44\xac\0\0\x44\xac\0\0\x01\0\x08\0data\0\xe1\xf5\x05",
-    )?;
-    bytes.resize(SAMPLES + 44, b'a')?;
+fn input(alloc: Global, head: &[u8]) -> Result<Vec<u8>, AllocError> {
+    let mut bytes = Vec::with_capacity(alloc, BYTES + 44)?;
+    bytes.extend_from_slice(head)?;
+    bytes.resize(BYTES + 44, b'a')?;
     Ok(bytes)
 }
 
-fn parts_of(alloc: Global) -> Result<Option<(WavHead, Parts)>, AllocError>
-    ensures { IfOk result (λ some. IfSome some (λ p. HasLanes part_in_lanes part_out_lanes (path_lanes_of PcmU8 p.0.head) p.1)) }
+fn parts_of(
+    alloc: Global,
+    codec: Codec,
+    head: &[u8],
+) -> Result<Option<(WavHead, Parts)>, AllocError>
+    requires { IsPcmCodec codec }
+    ensures { IfOk result (λ some. IfSome some (λ p. HasLanes part_in_lanes part_out_lanes (path_lanes_of codec p.0.head) p.1)) }
 {
-    let bytes = input(alloc)?;
+    let bytes = input(alloc, head)?;
     let Ok(head) = read_head(&bytes, true) else {
         return Ok(None);
     };
@@ -72,7 +99,7 @@ fn parts_of(alloc: Global) -> Result<Option<(WavHead, Parts)>, AllocError>
     let Ok(snk) = host.create_sink("out") else {
         return Ok(None);
     };
-    match build(alloc, Codec::PcmU8, &head, src, snk) {
+    match build(alloc, codec, &head, src, snk) {
         Ok(parts) => Ok(Some((head, parts))),
         Err(_) => Ok(None),
     }
@@ -81,12 +108,13 @@ fn parts_of(alloc: Global) -> Result<Option<(WavHead, Parts)>, AllocError>
 fn serial<R: Wait + Clock>(
     rt: &R,
     alloc: Global,
+    codec: Codec,
     head: &WavHead,
     parts: Parts,
 ) -> io::Result<Duration>
-    requires { HasLanes part_in_lanes part_out_lanes (path_lanes_of PcmU8 head.now.head) parts }
+    requires { HasLanes part_in_lanes part_out_lanes (path_lanes_of codec head.now.head) parts }
 {
-    let lanes = path_lanes(Codec::PcmU8, &head.head);
+    let lanes = path_lanes(codec, &head.head);
     let start = Instant::now(rt)?;
     let _ran = run_chain(rt, alloc, parts, lanes, 8, &DOWN);
     Ok(start.elapsed(rt)?)
@@ -95,14 +123,15 @@ fn serial<R: Wait + Clock>(
 fn threads<R: Threads + Wait + Sync + Clock>(
     rt: &R,
     alloc: Global,
+    codec: Codec,
     head: &WavHead,
     parts: Parts,
     size: usize,
 ) -> io::Result<Duration>
-    requires lanes { HasLanes part_in_lanes part_out_lanes (path_lanes_of PcmU8 head.now.head) parts }
+    requires lanes { HasLanes part_in_lanes part_out_lanes (path_lanes_of codec head.now.head) parts }
     requires size { (1 ≤ size) × (size ≤ 1024) }
 {
-    let lanes = path_lanes(Codec::PcmU8, &head.head);
+    let lanes = path_lanes(codec, &head.head);
     let start = Instant::now(rt)?;
     let _ran = run_chain_in_threads::<Brand, _, _>(rt, alloc, parts, &lanes, size);
     Ok(start.elapsed(rt)?)

@@ -105,12 +105,17 @@ impl<M: Machine> Linked<M> {
         self.node.is_done() && shut_all(&self.ins) && sent_all(&self.outs)
     }
 
+    /// Whether an output waits for room in its link.
+    pub(crate) fn waits_for_room(&self) -> bool {
+        waits(&self.outs)
+    }
+
     // Draws at each end.
     fn draw_all<R: Wait>(&mut self, rt: &R) -> bool
         requires { IsLawful M.in_lanes M.out_lanes M.source_of M.fault_of M.stands self.old }
         ensures { Follows M.in_lanes M.out_lanes M.source_of M.device_of M.failures M.fault_of M.stands self.old self.new }
     {
-        if waits(&self.outs) {
+        if self.waits_for_room() {
             return false;
         }
         let mut moved = false;

@@ -47,7 +47,7 @@ pub fn run<M: Machine, R: Wait>(rt: &R, node: &mut Linked<M>)
         match node.turn(rt) {
             Turn::Done => return,
             Turn::Moved => rest.end(),
-            Turn::NotYet => rest.take(rt),
+            Turn::NotYet => rest.take(rt, node.waits_for_room()),
         }
     }
     unreachable!()
