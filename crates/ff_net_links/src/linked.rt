@@ -110,6 +110,15 @@ impl<M: Machine> Linked<M> {
         waits(&self.outs)
     }
 
+    /// How many items were put on the links of the outputs.
+    pub(crate) fn puts(&self) -> u64 {
+        let mut count: u64 = 0;
+        for end in &self.outs {
+            count = count.saturating_add(end.sender.puts());
+        }
+        count
+    }
+
     // Draws at each end.
     fn draw_all<R: Wait>(&mut self, rt: &R) -> bool
         requires { IsLawful M.in_lanes M.out_lanes M.source_of M.fault_of M.stands self.old }

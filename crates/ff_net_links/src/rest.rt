@@ -13,8 +13,8 @@ struct Patience {
 
 // A worker whose link is full has time: its receiver has the whole link to take from.
 const FOR_ROOM: Patience = Patience {
-    spins: 2,
-    yields: 3,
+    spins: 1,
+    yields: 2,
 };
 
 // One with nothing to take holds up all that come after it.
@@ -23,11 +23,26 @@ const FOR_ITEMS: Patience = Patience {
     yields: 232,
 };
 
-/// The rest of a worker between two turns: a spin at first, then a yield, then a sleep, which grows to a millisecond. A
-/// turn that moved something ends it.
+// The sleeps of a worker whose link is full are right where it puts from `FEW` to `MANY` items between two of them: a link
+// of 8 hasn't run empty then, and the worker isn't woken for each item. In microseconds, beside the 50 or so that a thread
+// of Linux sleeps longer than it asked for.
+const FEW: u64 = 5;
+
+const MANY: u64 = 9;
+
+const LONGEST_BETWEEN: u64 = 64;
+
+// Where nothing moves, sleeps grow to a millisecond.
+const LONGEST: u64 = 1000;
+
+/// The rest of a worker between two turns: a spin at first, then a yield, then a sleep. A turn that moved something ends
+/// it.
 #[derive(Drop)]
 pub struct Rest {
     idle: u32,
+    between: u64,
+    sleeps: u64,
+    puts: u64,
     parker: Parker,
 }
 
@@ -35,18 +50,38 @@ impl Rest {
     pub fn new() -> Rest {
         Rest {
             idle: 0,
+            between: 1,
+            sleeps: 0,
+            puts: 0,
             parker: Parker::new(),
         }
     }
 
-    /// Something moved.
+    /// A turn moved something.
     pub fn end(&mut self) {
         self.idle = 0;
     }
 
-    /// Rests after a turn that moved nothing, for want of room in a link or of items.
-    pub fn take<R: Wait>(&mut self, rt: &R, for_room: bool) {
-        let patience = if for_room { FOR_ROOM } else { FOR_ITEMS };
+    /// Rests after a turn that moved nothing, since a link is full on which so many items were put.
+    pub fn for_room<R: Wait>(&mut self, rt: &R, puts: u64) {
+        if self.idle == FOR_ROOM.yields {
+            let moved = puts.saturating_sub(self.puts);
+            self.between = next_between(self.between, moved, self.sleeps);
+            self.puts = puts;
+            self.sleeps = 0;
+        }
+        if self.idle >= FOR_ROOM.yields {
+            self.sleeps = self.sleeps.saturating_add(1);
+        }
+        self.take(rt, FOR_ROOM, self.between);
+    }
+
+    /// Rests after a turn that moved nothing, for want of items.
+    pub fn for_items<R: Wait>(&mut self, rt: &R) {
+        self.take(rt, FOR_ITEMS, 1);
+    }
+
+    fn take<R: Wait>(&mut self, rt: &R, patience: Patience, micros: u64) {
         let idle = self.idle;
         self.idle = idle.saturating_add(1);
         if idle < patience.spins {
@@ -54,20 +89,30 @@ impl Rest {
         } else if idle < patience.yields {
             yield_now();
         } else {
-            let micros = sleep_micros(idle - patience.yields);
+            let micros = sleep_micros(micros, idle - patience.yields);
             self.parker.park_timeout(rt, Duration::from_micros(micros));
         }
     }
 }
 
-// The first is short: a thread of Linux sleeps some 50 microseconds longer than it asked for, and in that time a link of 8
-// packets may run empty.
-fn sleep_micros(sleeps: u32) -> u64 {
-    match sleeps / 4 {
-        0 => 1,
-        1 => 10,
-        2 => 50,
-        3 => 200,
-        _ => 1000,
+// What comes after so many sleeps between which so many items were put.
+fn next_between(micros: u64, moved: u64, sleeps: u64) -> u64 {
+    if moved < sleeps.saturating_mul(FEW) {
+        micros.saturating_mul(2).min(LONGEST_BETWEEN)
+    } else if moved < sleeps.saturating_mul(MANY) {
+        micros
+    } else {
+        (micros / 2).max(1)
     }
+}
+
+fn sleep_micros(first: u64, sleeps: u32) -> u64 {
+    let times = match sleeps / 4 {
+        0 => 1,
+        1 => 4,
+        2 => 16,
+        3 => 64,
+        _ => LONGEST,
+    };
+    first.saturating_mul(times).min(LONGEST)
 }

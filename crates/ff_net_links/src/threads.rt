@@ -49,7 +49,7 @@ fn rounds<M: Machine, R: Wait>(rt: &R, workers: &mut [Worker<M>])
         match round(rt, workers) {
             Turn::Done => return,
             Turn::Moved => rest.end(),
-            Turn::NotYet => rest.take(rt, false),
+            Turn::NotYet => rest.for_items(rt),
         }
     }
     unreachable!()

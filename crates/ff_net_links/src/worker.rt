@@ -47,7 +47,8 @@ pub fn run<M: Machine, R: Wait>(rt: &R, node: &mut Linked<M>)
         match node.turn(rt) {
             Turn::Done => return,
             Turn::Moved => rest.end(),
-            Turn::NotYet => rest.take(rt, node.waits_for_room()),
+            Turn::NotYet if node.waits_for_room() => rest.for_room(rt, node.puts()),
+            Turn::NotYet => rest.for_items(rt),
         }
     }
     unreachable!()
