@@ -1,27 +1,16 @@
-// How a worker waits.
+// How a worker waits. It never yields: on a busy machine a yield gives the processor away for a whole slice of another
+// program, and a short sleep doesn't.
 use std::hint::spin_loop;
 use std::sync::Wait;
-use std::thread::{Parker, yield_now};
+use std::thread::Parker;
 use std::time::Duration;
 
-// After so many turns that moved nothing a worker no longer spins, and after so many no longer yields.
-#[derive(Clone, Copy, Drop)]
-struct Patience {
-    spins: u32,
-    yields: u32,
-}
-
-// A worker whose link is full has time: its receiver has the whole link to take from.
-const FOR_ROOM: Patience = Patience {
-    spins: 1,
-    yields: 2,
-};
+// After so many turns that moved nothing a worker whose link is full no longer spins: it has time, since its receiver has
+// the whole link to take from.
+const SPINS_FOR_ROOM: u32 = 2;
 
 // One with nothing to take holds up all that come after it.
-const FOR_ITEMS: Patience = Patience {
-    spins: 200,
-    yields: 232,
-};
+const SPINS_FOR_ITEMS: u32 = 200;
 
 // The sleeps of a worker whose link is full are right where it puts from `FEW` to `MANY` items between two of them: a link
 // of 8 hasn't run empty then, and the worker isn't woken for each item. In microseconds, beside the 50 or so that a thread
@@ -35,8 +24,7 @@ const LONGEST_BETWEEN: u64 = 64;
 // Where nothing moves, sleeps grow to a millisecond.
 const LONGEST: u64 = 1000;
 
-/// The rest of a worker between two turns: a spin at first, then a yield, then a sleep. A turn that moved something ends
-/// it.
+/// The rest of a worker between two turns: a spin at first, then a sleep. A turn that moved something ends it.
 #[derive(Drop)]
 pub struct Rest {
     idle: u32,
@@ -64,32 +52,30 @@ impl Rest {
 
     /// Rests after a turn that moved nothing, since a link is full on which so many items were put.
     pub fn for_room<R: Wait>(&mut self, rt: &R, puts: u64) {
-        if self.idle == FOR_ROOM.yields {
+        if self.idle == SPINS_FOR_ROOM {
             let moved = puts.saturating_sub(self.puts);
             self.between = next_between(self.between, moved, self.sleeps);
             self.puts = puts;
             self.sleeps = 0;
         }
-        if self.idle >= FOR_ROOM.yields {
+        if self.idle >= SPINS_FOR_ROOM {
             self.sleeps = self.sleeps.saturating_add(1);
         }
-        self.take(rt, FOR_ROOM, self.between);
+        self.take(rt, SPINS_FOR_ROOM, self.between);
     }
 
     /// Rests after a turn that moved nothing, for want of items.
     pub fn for_items<R: Wait>(&mut self, rt: &R) {
-        self.take(rt, FOR_ITEMS, 1);
+        self.take(rt, SPINS_FOR_ITEMS, 1);
     }
 
-    fn take<R: Wait>(&mut self, rt: &R, patience: Patience, micros: u64) {
+    fn take<R: Wait>(&mut self, rt: &R, spins: u32, micros: u64) {
         let idle = self.idle;
         self.idle = idle.saturating_add(1);
-        if idle < patience.spins {
+        if idle < spins {
             spin_loop();
-        } else if idle < patience.yields {
-            yield_now();
         } else {
-            let micros = sleep_micros(micros, idle - patience.yields);
+            let micros = sleep_micros(micros, idle - spins);
             self.parker.park_timeout(rt, Duration::from_micros(micros));
         }
     }
