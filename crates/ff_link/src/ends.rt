@@ -91,6 +91,13 @@ impl Model for Finished {
 }
 
 impl Sender {
+    /// How many items the link holds at most.
+    pub fn size(&self) -> usize
+        ensures { result ≡ self.now.room }
+    {
+        self.queues.down.capacity()
+    }
+
     /// How many items were put, a closing one among them.
     pub fn puts(&self) -> u64
         ensures { result ≡ length self.now.sent }

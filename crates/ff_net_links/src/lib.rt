@@ -13,6 +13,7 @@
 //! promised.
 #![tactic(auto)]
 
+mod bells;
 mod ends;
 mod linked;
 mod rest;

@@ -8,6 +8,7 @@ ghost use Rattle.ff_net.specs.Nodes.{IsSound, machine_of};
 ghost use Rattle.ff_net.specs.Pasts.{Task};
 ghost use Rattle.ff_net.specs.Worlds.{lanes_of};
 
+use crate::bells::Bells;
 use crate::ends::{InEnd, OutEnd, draw_at, pour_at};
 use ff_net::{Fault, Machine, Node, Turn, Wires};
 use std::sync::Wait;
@@ -110,13 +111,64 @@ impl<M: Machine> Linked<M> {
         waits(&self.outs)
     }
 
-    /// How many items were put on the links of the outputs.
-    pub(crate) fn puts(&self) -> u64 {
-        let mut count: u64 = 0;
-        for end in &self.outs {
-            count = count.saturating_add(end.sender.puts());
+    /// How many ends it has.
+    pub(crate) fn ends(&self) -> usize {
+        self.ins.len().saturating_add(self.outs.len())
+    }
+
+    /// Enters this worker at the links of its ends.
+    pub(crate) fn enter(&self, bells: &mut Bells, worker: usize) {
+        for end in &self.ins {
+            bells.set_receiver(end.wire, worker);
         }
-        count
+        for end in &self.outs {
+            bells.set_sender(end.wire, worker);
+        }
+    }
+
+    /// Asks to be woken: once a quarter of what a full link holds is left there, where an output waits for room, and else
+    /// once there is an item to take.
+    pub(crate) fn ask(&self, bells: &Bells) {
+        if self.waits_for_room() {
+            for end in &self.outs {
+                if !end.done && end.held.is_some() {
+                    bells.ask_for_room(
+                        end.wire,
+                        end.sender
+                            .puts()
+                            .saturating_sub(end.sender.size() as u64 / 4),
+                    );
+                }
+            }
+        } else {
+            for end in &self.ins {
+                bells.ask_for_item(end.wire, end.taking.is_some());
+            }
+        }
+    }
+
+    /// Asks no longer to be woken.
+    pub(crate) fn stop_asking(&self, bells: &Bells) {
+        for end in &self.outs {
+            bells.ask_for_room(end.wire, 0);
+        }
+        for end in &self.ins {
+            bells.ask_for_item(end.wire, false);
+        }
+    }
+
+    /// Wakes those at the other ends of its links who ask for what was taken and put.
+    pub(crate) fn tell(&self, bells: &Bells) {
+        for end in &self.ins {
+            let count = match &end.taking {
+                Some(receiver) => receiver.taken(),
+                None => u64::MAX,
+            };
+            bells.taken(end.wire, count);
+        }
+        for end in &self.outs {
+            bells.put(end.wire);
+        }
     }
 
     // Draws at each end.

@@ -4,11 +4,13 @@ ghost use Rattle.ff_net_links.specs.declared.linked.Linked.{Linked};
 ghost use Rattle.ff_net_links.specs.Runs.{AllRan, AllLawful};
 ghost use Rattle.ff_net_links.specs.Workers.{AllServe};
 
+use crate::bells::Bells;
 use crate::linked::Linked;
-use crate::rest::Rest;
+use crate::rest::{Rest, SPINS_FOR_ITEMS, Step};
 use crate::worker::{Worker, finish, start, turn_here};
 use ff_net::{Machine, Turn};
-use std::alloc::Global;
+use std::alloc::{AllocError, Global};
+use std::hint::spin_loop;
 use std::sync::Wait;
 use std::sync::atomic::AtomicBool;
 use std::thread;
@@ -25,14 +27,14 @@ fn round_of(all: bool, moved: bool) -> Turn {
 }
 
 // One turn of each node that is here. Done where each is done.
-fn round<M: Machine, R: Wait>(rt: &R, workers: &mut [Worker<M>]) -> Turn
+fn round<M: Machine, R: Wait>(rt: &R, bells: &Bells, workers: &mut [Worker<M>]) -> Turn
     requires { (ns : List (Linked _)) × AllServe M.in_lanes M.out_lanes M.source_of M.device_of M.failures M.fault_of M.stands ns workers.old }
     ensures { (ns : List (Linked _)) → AllServe M.in_lanes M.out_lanes M.source_of M.device_of M.failures M.fault_of M.stands ns workers.old → AllServe M.in_lanes M.out_lanes M.source_of M.device_of M.failures M.fault_of M.stands ns workers.new }
 {
     let mut all = true;
     let mut moved = false;
     for worker in workers.iter_mut() {
-        let turn = turn_here(rt, worker);
+        let turn = turn_here(rt, bells, worker);
         all = all & (turn == Turn::Done);
         moved = moved | (turn == Turn::Moved);
     }
@@ -40,25 +42,36 @@ fn round<M: Machine, R: Wait>(rt: &R, workers: &mut [Worker<M>]) -> Turn
 }
 
 // Turns the nodes that are here, one turn each in rounds, until each is done.
-fn rounds<M: Machine, R: Wait>(rt: &R, workers: &mut [Worker<M>])
+fn rounds<M: Machine, R: Wait>(rt: &R, bells: &Bells, workers: &mut [Worker<M>])
     requires { (ns : List (Linked _)) × AllServe M.in_lanes M.out_lanes M.source_of M.device_of M.failures M.fault_of M.stands ns workers.old }
     ensures { (ns : List (Linked _)) → AllServe M.in_lanes M.out_lanes M.source_of M.device_of M.failures M.fault_of M.stands ns workers.old → AllServe M.in_lanes M.out_lanes M.source_of M.device_of M.failures M.fault_of M.stands ns workers.new }
 {
     let mut rest = Rest::new();
     for _ in rt.forever() {
-        match round(rt, workers) {
+        match round(rt, bells, workers) {
             Turn::Done => return,
-            Turn::Moved => rest.end(),
-            Turn::NotYet => rest.for_items(rt),
+            Turn::Moved => {
+                rest.end();
+            }
+            Turn::NotYet => wait_here(rt, bells, &mut rest),
         }
     }
     unreachable!()
+}
+
+// After a round that moved nothing. Nobody wakes the caller.
+fn wait_here<R: Wait>(rt: &R, bells: &Bells, rest: &mut Rest) {
+    match rest.next(SPINS_FOR_ITEMS) {
+        Step::Spin | Step::Ask => spin_loop(),
+        Step::Sleep(micros) => bells.sleep(rt, bells.caller(), micros),
+    }
 }
 
 fn start_all<'s, E, M: Machine + Send + Drop + 's, R: Threads + Wait + Sync>(
     scope: &Scope<'s, E>,
     rt: &'s R,
     flags: &'s [AtomicBool],
+    bells: &'s Bells,
     nodes: Vec<Linked<M>>,
     mut workers: Vec<Worker<M>>,
 ) -> Vec<Worker<M>>
@@ -69,7 +82,7 @@ fn start_all<'s, E, M: Machine + Send + Drop + 's, R: Threads + Wait + Sync>(
 {
     let mut next = 0;
     for node in nodes {
-        workers.push_reserved(start(scope, rt, &flags[next], node));
+        workers.push_reserved(start(scope, rt, &flags[next], bells, next, node));
         next += 1;
     }
     workers
@@ -77,6 +90,7 @@ fn start_all<'s, E, M: Machine + Send + Drop + 's, R: Threads + Wait + Sync>(
 
 fn finish_all<M: Machine + Drop, R: Threads + Wait>(
     rt: &R,
+    bells: &Bells,
     workers: Vec<Worker<M>>,
     mut done: Vec<Linked<M>>,
 ) -> Vec<Linked<M>>
@@ -85,7 +99,7 @@ fn finish_all<M: Machine + Drop, R: Threads + Wait>(
     ensures { (ns : List (Linked _)) → AllServe M.in_lanes M.out_lanes M.source_of M.device_of M.failures M.fault_of M.stands ns workers.items → AllRan M.in_lanes M.out_lanes M.source_of M.device_of M.failures M.fault_of M.stands ns result.items }
 {
     for worker in workers {
-        done.push_reserved(finish(rt, worker));
+        done.push_reserved(finish(rt, bells, worker));
     }
     done
 }
@@ -94,6 +108,7 @@ fn run_in<'s, E, M: Machine + Send + Drop + 's, R: Threads + Wait + Sync>(
     scope: &Scope<'s, E>,
     rt: &'s R,
     flags: &'s [AtomicBool],
+    bells: &'s Bells,
     nodes: Vec<Linked<M>>,
     workers: Vec<Worker<M>>,
     done: Vec<Linked<M>>,
@@ -104,15 +119,16 @@ fn run_in<'s, E, M: Machine + Send + Drop + 's, R: Threads + Wait + Sync>(
     requires done { (done.items ≡ []) × (vec_len nodes ≤ vec_capacity done) }
     ensures { AllRan M.in_lanes M.out_lanes M.source_of M.device_of M.failures M.fault_of M.stands nodes.items result.items }
 {
-    let mut workers = start_all(scope, rt, flags, nodes, workers);
-    rounds(rt, workers.as_mut_slice());
-    finish_all(rt, workers, done)
+    let mut workers = start_all(scope, rt, flags, bells, nodes, workers);
+    rounds(rt, bells, workers.as_mut_slice());
+    finish_all(rt, bells, workers, done)
 }
 
 // The lists are long enough.
 fn run_scoped<M: Machine + Send + Drop, R: Threads + Wait + Sync>(
     rt: &R,
     flags: &[AtomicBool],
+    bells: &Bells,
     nodes: Vec<Linked<M>>,
     workers: Vec<Worker<M>>,
     done: Vec<Linked<M>>,
@@ -129,8 +145,43 @@ fn run_scoped<M: Machine + Send + Drop, R: Threads + Wait + Sync>(
         |scope| -> Vec<Linked<M>>
             requires { AllLawful M.in_lanes M.out_lanes M.source_of M.device_of M.failures M.fault_of M.stands nodes.items × (vec_len nodes ≤ length flags.now) × (workers.items ≡ []) × (vec_len nodes ≤ vec_capacity workers) × (done.items ≡ []) × (vec_len nodes ≤ vec_capacity done) }
             ensures { AllRan M.in_lanes M.out_lanes M.source_of M.device_of M.failures M.fault_of M.stands nodes.items result.items }
-        { run_in(scope, rt, flags, nodes, workers, done) },
+        { run_in(scope, rt, flags, bells, nodes, workers, done) },
     )
+}
+
+// The bells of these nodes. A link whose number isn't below that of all ends has none.
+fn bells_of<M: Machine>(alloc: Global, nodes: &Vec<Linked<M>>) -> Result<Bells, AllocError> {
+    let mut ends: usize = 0;
+    for node in nodes {
+        ends = ends.saturating_add(node.ends());
+    }
+    let mut bells = Bells::new(alloc, nodes.len(), ends)?;
+    let mut worker: usize = 0;
+    for node in nodes {
+        node.enter(&mut bells, worker);
+        worker = worker.saturating_add(1);
+    }
+    Ok(bells)
+}
+
+// A list with room for so many.
+fn list_for<T: Drop>(alloc: Global, count: usize) -> Result<Vec<T>, AllocError>
+    ensures { IfOk result (λ list. (list.items ≡ []) × (count ≤ vec_capacity list)) }
+{
+    let mut list = Vec::new(alloc);
+    list.reserve(count)?;
+    Ok(list)
+}
+
+// So many flags, none of them set.
+fn flags_for(alloc: Global, count: usize) -> Result<Vec<AtomicBool>, AllocError>
+    ensures { IfOk result (λ flags. vec_len flags ≡ count) }
+{
+    let mut flags = Vec::new(alloc);
+    for _ in 0..count {
+        flags.push(AtomicBool::new(false))?;
+    }
+    Ok(flags)
 }
 
 /// Runs each node in a thread of its own until it is done. The caller turns those for which no thread could be started.
@@ -144,18 +195,18 @@ pub fn run_threads<M: Machine + Send + Drop, R: Threads + Wait + Sync>(
     ensures ok { IfOk result (λ v. AllRan M.in_lanes M.out_lanes M.source_of M.device_of M.failures M.fault_of M.stands nodes.items v.items) }
     ensures err { IfErr result (λ v. v.items ≡ nodes.items) }
 {
-    let count = nodes.len();
-    let mut flags = Vec::new(alloc);
-    let mut workers = Vec::new(alloc);
-    let mut done = Vec::new(alloc);
-    if flags.reserve(count).is_err()
-        || workers.reserve(count).is_err()
-        || done.reserve(count).is_err()
-    {
+    let Ok(bells) = bells_of(alloc, &nodes) else {
         return Err(nodes);
-    }
-    for _ in 0..count {
-        flags.push_reserved(AtomicBool::new(false));
-    }
-    Ok(run_scoped(rt, flags.as_slice(), nodes, workers, done))
+    };
+    let count = nodes.len();
+    let Ok(flags) = flags_for(alloc, count) else {
+        return Err(nodes);
+    };
+    let Ok(workers) = list_for(alloc, count) else {
+        return Err(nodes);
+    };
+    let Ok(done) = list_for(alloc, count) else {
+        return Err(nodes);
+    };
+    Ok(run_scoped(rt, flags.as_slice(), &bells, nodes, workers, done))
 }

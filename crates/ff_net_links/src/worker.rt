@@ -5,9 +5,11 @@ ghost use Rattle.ff_net_links.specs.Nodes.{IsLawful};
 ghost use Rattle.ff_net_links.specs.Runs.{Came, Ran};
 ghost use Rattle.ff_net_links.specs.Workers.{Serves};
 
+use crate::bells::Bells;
 use crate::linked::Linked;
-use crate::rest::Rest;
+use crate::rest::{Rest, SPINS_FOR_ITEMS, SPINS_FOR_ROOM, Step};
 use ff_net::{Machine, Turn};
+use std::hint::spin_loop;
 use std::snapshot::Snapshot;
 use std::sync::Wait;
 use std::sync::atomic::{AtomicBool, Ordering};
@@ -38,31 +40,69 @@ pub enum Worker<M: Machine> {
 }
 
 /// Turns a node until it is done.
-pub fn run<M: Machine, R: Wait>(rt: &R, node: &mut Linked<M>)
+pub fn run<M: Machine, R: Wait>(rt: &R, bells: &Bells, worker: usize, node: &mut Linked<M>)
     requires { IsLawful M.in_lanes M.out_lanes M.source_of M.fault_of M.stands node.old }
     ensures { Ran M.in_lanes M.out_lanes M.source_of M.device_of M.failures M.fault_of M.stands node.old node.new }
 {
     let mut rest = Rest::new();
     for _ in rt.forever() {
         match node.turn(rt) {
-            Turn::Done => return,
-            Turn::Moved => rest.end(),
-            Turn::NotYet if node.waits_for_room() => rest.for_room(rt, node.puts()),
-            Turn::NotYet => rest.for_items(rt),
+            Turn::Done => {
+                node.tell(bells);
+                return;
+            }
+            Turn::Moved => {
+                node.tell(bells);
+                go_on(bells, node, &mut rest);
+            }
+            Turn::NotYet => wait(rt, bells, worker, node, &mut rest),
         }
     }
     unreachable!()
 }
 
+// After a turn that moved something.
+fn go_on<M: Machine>(bells: &Bells, node: &Linked<M>, rest: &mut Rest) {
+    if rest.end() {
+        node.stop_asking(bells);
+    }
+}
+
+// After a turn that moved nothing.
+fn wait<M: Machine, R: Wait>(
+    rt: &R,
+    bells: &Bells,
+    worker: usize,
+    node: &Linked<M>,
+    rest: &mut Rest,
+) {
+    let spins = if node.waits_for_room() {
+        SPINS_FOR_ROOM
+    } else {
+        SPINS_FOR_ITEMS
+    };
+    match rest.next(spins) {
+        Step::Spin => spin_loop(),
+        Step::Ask => node.ask(bells),
+        Step::Sleep(micros) => bells.sleep(rt, worker, micros),
+    }
+}
+
 // What a thread runs. Where the flag is set it gives the node back unturned.
-fn work<M: Machine, R: Wait>(rt: &R, refused: &AtomicBool, mut node: Linked<M>) -> Back<M>
+fn work<M: Machine, R: Wait>(
+    rt: &R,
+    refused: &AtomicBool,
+    bells: &Bells,
+    worker: usize,
+    mut node: Linked<M>,
+) -> Back<M>
     requires { IsLawful M.in_lanes M.out_lanes M.source_of M.fault_of M.stands node }
     ensures { Came M.in_lanes M.out_lanes M.source_of M.device_of M.failures M.fault_of M.stands node result }
 {
     if refused.load(Ordering::SeqCst) {
         return Back { node, done: false };
     }
-    run(rt, &mut node);
+    run(rt, bells, worker, &mut node);
     Back { node, done: true }
 }
 
@@ -71,6 +111,8 @@ pub fn start<'s, E, M: Machine + Send + Drop + 's, R: Threads + Wait + Sync>(
     scope: &Scope<'s, E>,
     rt: &'s R,
     refused: &'s AtomicBool,
+    bells: &'s Bells,
+    worker: usize,
     node: Linked<M>,
 ) -> Worker<M>
     requires { IsLawful M.in_lanes M.out_lanes M.source_of M.fault_of M.stands node }
@@ -82,7 +124,7 @@ pub fn start<'s, E, M: Machine + Send + Drop + 's, R: Threads + Wait + Sync>(
         move || -> Back<M>
             requires { IsLawful M.in_lanes M.out_lanes M.source_of M.fault_of M.stands node }
             ensures { Came M.in_lanes M.out_lanes M.source_of M.device_of M.failures M.fault_of M.stands node result }
-        { work(rt, refused, node) },
+        { work(rt, refused, bells, worker, node) },
     ) {
         Ok(handle) => Worker::Runs(handle),
         Err(e) => {
@@ -93,17 +135,17 @@ pub fn start<'s, E, M: Machine + Send + Drop + 's, R: Threads + Wait + Sync>(
 }
 
 /// One turn of a node that is here. Done where it runs in a thread.
-pub fn turn_here<M: Machine, R: Wait>(rt: &R, worker: &mut Worker<M>) -> Turn
+pub fn turn_here<M: Machine, R: Wait>(rt: &R, bells: &Bells, worker: &mut Worker<M>) -> Turn
     requires { (n : Linked _) × Serves M.in_lanes M.out_lanes M.source_of M.device_of M.failures M.fault_of M.stands n worker.old }
     ensures keeps { (n : Linked _) → Serves M.in_lanes M.out_lanes M.source_of M.device_of M.failures M.fault_of M.stands n worker.old → Serves M.in_lanes M.out_lanes M.source_of M.device_of M.failures M.fault_of M.stands n worker.new }
 {
     match worker {
         Worker::Runs(_) => Turn::Done,
-        Worker::Here(back) => turn_back(rt, back),
+        Worker::Here(back) => turn_back(rt, bells, back),
     }
 }
 
-fn turn_back<M: Machine, R: Wait>(rt: &R, back: &mut Back<M>) -> Turn
+fn turn_back<M: Machine, R: Wait>(rt: &R, bells: &Bells, back: &mut Back<M>) -> Turn
     requires { IsLawful M.in_lanes M.out_lanes M.source_of M.fault_of M.stands back.old.node }
     ensures { (n : Linked _) → Came M.in_lanes M.out_lanes M.source_of M.device_of M.failures M.fault_of M.stands n back.old → Came M.in_lanes M.out_lanes M.source_of M.device_of M.failures M.fault_of M.stands n back.new }
 {
@@ -111,28 +153,33 @@ fn turn_back<M: Machine, R: Wait>(rt: &R, back: &mut Back<M>) -> Turn
         return Turn::Done;
     }
     let turn = back.node.turn(rt);
+    back.node.tell(bells);
     back.done = turn == Turn::Done;
     turn
 }
 
 /// Waits for the node of a worker, and turns it until it is done where it isn't.
-pub fn finish<M: Machine + Drop, R: Threads + Wait>(rt: &R, worker: Worker<M>) -> Linked<M>
+pub fn finish<M: Machine + Drop, R: Threads + Wait>(
+    rt: &R,
+    bells: &Bells,
+    worker: Worker<M>,
+) -> Linked<M>
     requires { (n : Linked _) × Serves M.in_lanes M.out_lanes M.source_of M.device_of M.failures M.fault_of M.stands n worker }
     ensures { (n : Linked _) → Serves M.in_lanes M.out_lanes M.source_of M.device_of M.failures M.fault_of M.stands n worker → Ran M.in_lanes M.out_lanes M.source_of M.device_of M.failures M.fault_of M.stands n result }
 {
     match worker {
-        Worker::Runs(handle) => finish_back(rt, handle.join(rt)),
-        Worker::Here(back) => finish_back(rt, back),
+        Worker::Runs(handle) => finish_back(rt, bells, handle.join(rt)),
+        Worker::Here(back) => finish_back(rt, bells, back),
     }
 }
 
-fn finish_back<M: Machine, R: Wait>(rt: &R, back: Back<M>) -> Linked<M>
+fn finish_back<M: Machine, R: Wait>(rt: &R, bells: &Bells, back: Back<M>) -> Linked<M>
     requires { IsLawful M.in_lanes M.out_lanes M.source_of M.fault_of M.stands back.node }
     ensures { (n : Linked _) → Came M.in_lanes M.out_lanes M.source_of M.device_of M.failures M.fault_of M.stands n back → Ran M.in_lanes M.out_lanes M.source_of M.device_of M.failures M.fault_of M.stands n result }
 {
     let Back { mut node, done } = back;
     if !done {
-        run(rt, &mut node);
+        run(rt, bells, bells.caller(), &mut node);
     }
     node
 }

@@ -1,0 +1,122 @@
+// How the workers at the two ends of a link wake each other. No claim rests on it: a worker that nobody wakes goes on when
+// its sleep ends.
+use std::alloc::{AllocError, Global};
+use std::sync::Wait;
+use std::sync::atomic::{AtomicBool, AtomicU64, Ordering};
+use std::thread::Parker;
+use std::time::Duration;
+
+// What the workers at the two ends of a link ask of each other.
+#[derive(Drop)]
+struct Asks {
+    sender: usize,
+    receiver: usize,
+    // The sender asks to be woken once so many items were taken. 0 where it doesn't.
+    room_at: AtomicU64,
+    // Whether the receiver asks to be woken once an item is there.
+    item: AtomicBool,
+}
+
+/// A bell for each worker and one for the caller, and what the workers at each link ask of each other, by the number of
+/// its wire.
+#[derive(Drop)]
+pub struct Bells {
+    parkers: Vec<Parker>,
+    links: Vec<Asks>,
+}
+
+impl Bells {
+    /// Bells for so many workers, and for links with numbers below this, at whose ends nobody is yet.
+    pub fn new(alloc: Global, workers: usize, links: usize) -> Result<Bells, AllocError> {
+        let mut bells = Bells {
+            parkers: Vec::new(alloc),
+            links: Vec::new(alloc),
+        };
+        for _ in 0..workers {
+            bells.parkers.push(Parker::new())?;
+        }
+        bells.parkers.push(Parker::new())?;
+        for _ in 0..links {
+            bells.links.push(Asks {
+                sender: 0,
+                receiver: 0,
+                room_at: AtomicU64::new(0),
+                item: AtomicBool::new(false),
+            })?;
+        }
+        Ok(bells)
+    }
+
+    /// The number of the caller's bell.
+    pub fn caller(&self) -> usize {
+        self.parkers.len().saturating_sub(1)
+    }
+
+    /// This worker sends over this link.
+    pub fn set_sender(&mut self, link: usize, worker: usize) {
+        if let Some(asks) = self.links.get_mut(link) {
+            asks.sender = worker;
+        }
+    }
+
+    /// This worker takes from this link.
+    pub fn set_receiver(&mut self, link: usize, worker: usize) {
+        if let Some(asks) = self.links.get_mut(link) {
+            asks.receiver = worker;
+        }
+    }
+
+    /// The sender of this link asks to be woken once so many items were taken, or no longer where it is 0.
+    pub fn ask_for_room(&self, link: usize, taken: u64) {
+        if let Some(asks) = self.links.get(link) {
+            asks.room_at.store(taken, Ordering::SeqCst);
+        }
+    }
+
+    /// The receiver of this link asks to be woken once an item is there, or no longer.
+    pub fn ask_for_item(&self, link: usize, wants: bool) {
+        if let Some(asks) = self.links.get(link) {
+            asks.item.store(wants, Ordering::SeqCst);
+        }
+    }
+
+    /// So many items were taken from this link. It wakes the sender where that asks for it.
+    pub fn taken(&self, link: usize, count: u64) {
+        let Some(asks) = self.links.get(link) else {
+            return;
+        };
+        let at = asks.room_at.load(Ordering::SeqCst);
+        if at == 0 || count < at {
+            return;
+        }
+        let found = asks
+            .room_at
+            .compare_exchange(at, 0, Ordering::SeqCst, Ordering::SeqCst);
+        if found.is_ok() {
+            self.ring(asks.sender);
+        }
+    }
+
+    /// Something may have been put on this link. It wakes the receiver where that asks for it.
+    pub fn put(&self, link: usize) {
+        let Some(asks) = self.links.get(link) else {
+            return;
+        };
+        if asks.item.load(Ordering::SeqCst) && asks.item.swap(false, Ordering::SeqCst) {
+            self.ring(asks.receiver);
+        }
+    }
+
+    fn ring(&self, worker: usize) {
+        if let Some(parker) = self.parkers.get(worker) {
+            parker.unpark();
+        }
+    }
+
+    /// This worker sleeps for at most so many microseconds, until its bell rings.
+    pub fn sleep<R: Wait>(&self, rt: &R, worker: usize, micros: u64) {
+        if let Some(parker) = self.parkers.get(worker) {
+            parker.park_timeout(rt, Duration::from_micros(micros));
+        }
+    }
+}
