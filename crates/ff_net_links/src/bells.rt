@@ -113,10 +113,10 @@ impl Bells {
         }
     }
 
-    /// This worker sleeps for at most so many microseconds, until its bell rings.
-    pub fn sleep<R: Wait>(&self, rt: &R, worker: usize, micros: u64) {
+    /// This worker sleeps until its bell rings, for at most a millisecond.
+    pub fn sleep<R: Wait>(&self, rt: &R, worker: usize) {
         if let Some(parker) = self.parkers.get(worker) {
-            parker.park_timeout(rt, Duration::from_micros(micros));
+            parker.park_timeout(rt, Duration::from_millis(1));
         }
     }
 }

@@ -10,6 +10,7 @@ ghost use Rattle.ff_net.specs.Worlds.{lanes_of};
 
 use crate::bells::Bells;
 use crate::ends::{InEnd, OutEnd, draw_at, pour_at};
+use ff_link::Sender;
 use ff_net::{Fault, Machine, Node, Turn, Wires};
 use std::sync::Wait;
 
@@ -52,6 +53,11 @@ fn waits(outs: &Vec<OutEnd>) -> bool {
         }
     }
     false
+}
+
+// How many items are taken from this link, which is full, once an eighth of what it holds is left.
+fn taken_before_room(sender: &Sender) -> u64 {
+    sender.puts().saturating_sub(sender.size() as u64 / 8)
 }
 
 impl<M: Machine> Linked<M> {
@@ -126,18 +132,13 @@ impl<M: Machine> Linked<M> {
         }
     }
 
-    /// Asks to be woken: once a quarter of what a full link holds is left there, where an output waits for room, and else
+    /// Asks to be woken: once an eighth of what a full link holds is left there, where an output waits for room, and else
     /// once there is an item to take.
     pub(crate) fn ask(&self, bells: &Bells) {
         if self.waits_for_room() {
             for end in &self.outs {
                 if !end.done && end.held.is_some() {
-                    bells.ask_for_room(
-                        end.wire,
-                        end.sender
-                            .puts()
-                            .saturating_sub(end.sender.size() as u64 / 4),
-                    );
+                    bells.ask_for_room(end.wire, taken_before_room(&end.sender));
                 }
             }
         } else {

@@ -14,25 +14,29 @@ pub enum Step {
     Spin,
     /// It asks to be woken, and tries once more.
     Ask,
-    /// It sleeps for at most so many microseconds.
-    Sleep(u64),
+    Sleep,
 }
 
 /// The rest of a worker between two turns. A turn that moved something ends it.
 #[derive(Drop)]
 pub struct Rest {
     idle: u32,
+    asked: bool,
 }
 
 impl Rest {
     pub fn new() -> Rest {
-        Rest { idle: 0 }
+        Rest {
+            idle: 0,
+            asked: false,
+        }
     }
 
-    /// A turn moved something. It says whether the rest was longer than so many spins.
+    /// A turn moved something. It says whether the worker has asked to be woken.
     pub fn end(&mut self) -> bool {
-        let asked = self.idle > SPINS_FOR_ROOM;
+        let asked = self.asked;
         self.idle = 0;
+        self.asked = false;
         asked
     }
 
@@ -43,19 +47,11 @@ impl Rest {
         if idle < spins {
             return Step::Spin;
         }
-        let steps = idle - spins;
-        if steps % 2 == 0 {
+        if (idle - spins) % 2 == 0 {
+            self.asked = true;
             Step::Ask
         } else {
-            Step::Sleep(sleep_micros(steps / 2))
+            Step::Sleep
         }
-    }
-}
-
-// A worker is woken long before, unless the machine is idle or busy.
-fn sleep_micros(sleeps: u32) -> u64 {
-    match sleeps {
-        0 => 250,
-        _ => 1000,
     }
 }

@@ -83,8 +83,11 @@ fn wait<M: Machine, R: Wait>(
     };
     match rest.next(spins) {
         Step::Spin => spin_loop(),
-        Step::Ask => node.ask(bells),
-        Step::Sleep(micros) => bells.sleep(rt, worker, micros),
+        Step::Ask => {
+            node.ask(bells);
+            node.tell(bells);
+        }
+        Step::Sleep => bells.sleep(rt, worker),
     }
 }
 
