@@ -17,39 +17,60 @@ struct Asks {
     item: AtomicBool,
 }
 
-/// A bell for each worker and one for the caller, and what the workers at each link ask of each other, by the number of
-/// its wire.
+#[derive(Drop)]
+struct Bell {
+    parker: Parker,
+    // Whether the caller turns the node of this worker, so that its own bell rings instead.
+    here: AtomicBool,
+}
+
+/// A bell for each worker and behind them one for the caller, and what the workers at each link ask of each other, by the
+/// number of its wire.
 #[derive(Drop)]
 pub struct Bells {
-    parkers: Vec<Parker>,
+    bells: Vec<Bell>,
     links: Vec<Asks>,
+}
+
+fn new_bell() -> Bell {
+    Bell {
+        parker: Parker::new(),
+        here: AtomicBool::new(false),
+    }
 }
 
 impl Bells {
     /// Bells for so many workers, and for links with numbers below this, at whose ends nobody is yet.
     pub fn new(alloc: Global, workers: usize, links: usize) -> Result<Bells, AllocError> {
-        let mut bells = Bells {
-            parkers: Vec::new(alloc),
+        let mut all = Bells {
+            bells: Vec::new(alloc),
             links: Vec::new(alloc),
         };
         for _ in 0..workers {
-            bells.parkers.push(Parker::new())?;
+            all.bells.push(new_bell())?;
         }
-        bells.parkers.push(Parker::new())?;
+        all.bells.push(new_bell())?;
         for _ in 0..links {
-            bells.links.push(Asks {
+            all.links.push(Asks {
                 sender: 0,
                 receiver: 0,
                 room_at: AtomicU64::new(0),
                 item: AtomicBool::new(false),
             })?;
         }
-        Ok(bells)
+        Ok(all)
     }
 
     /// The number of the caller's bell.
     pub fn caller(&self) -> usize {
-        self.parkers.len().saturating_sub(1)
+        self.bells.len().saturating_sub(1)
+    }
+
+    /// The caller turns the node of this worker.
+    pub fn turns_here(&self, worker: usize) {
+        if let Some(bell) = self.bells.get(worker) {
+            bell.here.store(true, Ordering::SeqCst);
+        }
     }
 
     /// This worker sends over this link.
@@ -108,15 +129,20 @@ impl Bells {
     }
 
     fn ring(&self, worker: usize) {
-        if let Some(parker) = self.parkers.get(worker) {
-            parker.unpark();
+        let Some(bell) = self.bells.get(worker) else {
+            return;
+        };
+        if !bell.here.load(Ordering::SeqCst) {
+            bell.parker.unpark();
+        } else if let Some(bell) = self.bells.get(self.caller()) {
+            bell.parker.unpark();
         }
     }
 
     /// This worker sleeps until its bell rings, for at most a millisecond.
     pub fn sleep<R: Wait>(&self, rt: &R, worker: usize) {
-        if let Some(parker) = self.parkers.get(worker) {
-            parker.park_timeout(rt, Duration::from_millis(1));
+        if let Some(bell) = self.bells.get(worker) {
+            bell.parker.park_timeout(rt, Duration::from_millis(1));
         }
     }
 }

@@ -59,7 +59,7 @@ fn rounds<M: Machine, R: Wait>(rt: &R, bells: &Bells, workers: &mut [Worker<M>])
     unreachable!()
 }
 
-// After a round that moved nothing. Nobody wakes the caller.
+// After a round that moved nothing. Each node that isn't done has asked, so that the caller is woken as a worker is.
 fn wait_here<R: Wait>(rt: &R, bells: &Bells, rest: &mut Rest) {
     match rest.next(SPINS_FOR_ITEMS) {
         Step::Spin | Step::Ask => spin_loop(),

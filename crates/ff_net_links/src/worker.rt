@@ -132,6 +132,7 @@ pub fn start<'s, E, M: Machine + Send + Drop + 's, R: Threads + Wait + Sync>(
         Ok(handle) => Worker::Runs(handle),
         Err(e) => {
             refused.store(true, Ordering::SeqCst);
+            bells.turns_here(worker);
             Worker::Here((e.value)())
         }
     }
@@ -148,6 +149,14 @@ pub fn turn_here<M: Machine, R: Wait>(rt: &R, bells: &Bells, worker: &mut Worker
     }
 }
 
+// After a turn by the caller, who asks to be woken wherever nothing moved.
+fn tell_and_ask<M: Machine>(bells: &Bells, node: &Linked<M>, asks: bool) {
+    if asks {
+        node.ask(bells);
+    }
+    node.tell(bells);
+}
+
 fn turn_back<M: Machine, R: Wait>(rt: &R, bells: &Bells, back: &mut Back<M>) -> Turn
     requires { IsLawful M.in_lanes M.out_lanes M.source_of M.fault_of M.stands back.old.node }
     ensures { (n : Linked _) → Came M.in_lanes M.out_lanes M.source_of M.device_of M.failures M.fault_of M.stands n back.old → Came M.in_lanes M.out_lanes M.source_of M.device_of M.failures M.fault_of M.stands n back.new }
@@ -156,7 +165,7 @@ fn turn_back<M: Machine, R: Wait>(rt: &R, bells: &Bells, back: &mut Back<M>) -> 
         return Turn::Done;
     }
     let turn = back.node.turn(rt);
-    back.node.tell(bells);
+    tell_and_ask(bells, &back.node, turn == Turn::NotYet);
     back.done = turn == Turn::Done;
     turn
 }
