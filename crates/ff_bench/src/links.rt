@@ -1,9 +1,9 @@
 //! Items that pass over a link from one thread to another.
 
 ghost use Rattle.std.specs.Prelude.{◌≤◌, ◌^◌};
-ghost use Rattle.ff_link_tests.specs.Packets.{IsWhole};
+ghost use Rattle.ff_net_plain.specs.Packets.{IsWhole};
 
-use ff_link_tests::{one_over, relay};
+use ff_net_plain::{one_over, pass_packets};
 use ff_time::Rational;
 use std::alloc::Global;
 use std::io;
@@ -36,7 +36,7 @@ fn over<R: Threads + Wait + Sync + Print + Clock>(
     requires few { size ≤ 1024 }
 {
     let start = Instant::now(rt)?;
-    let passed = relay(rt, alloc, size, tb, PACKETS, PACKETS)?;
+    let passed = pass_packets(rt, alloc, size, tb, PACKETS, PACKETS)?;
     let micros = start.elapsed(rt)?.as_micros().max(1);
     let taken = u128::from(passed.settled.taken);
     let rate = taken.saturating_mul(1000) / micros;

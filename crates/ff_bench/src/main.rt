@@ -1,4 +1,5 @@
-//! Measures how fast the crates' inner loops run. With no word it prints its usage.
+//! Measures how fast what no command shows by itself runs: bits, links, a codec. What a command takes is measured on the built
+//! program (`checks/measure-framehash`). With no word it prints its usage.
 #![tactic(auto)]
 
 mod bits;
@@ -6,7 +7,6 @@ mod flac;
 mod frames;
 mod heads;
 mod links;
-mod path;
 mod pcm;
 
 use std::{env, io};
@@ -20,11 +20,7 @@ fn main(rt: HostRuntime) -> io::Result<()> {
         Some(word) if word.as_str() == "frames" => frames::measure(&rt),
         Some(word) if word.as_str() == "heads" => heads::measure(&rt),
         Some(word) if word.as_str() == "links" => links::measure(&rt, rt.alloc()),
-        Some(word) if word.as_str() == "path" => match (words.next(), words.next()) {
-            (Some(mode), Some(bits)) => path::measure(&rt, rt.alloc(), &mode, &bits),
-            _ => println!(rt; "usage: ff_bench path serial|1|8|64 8|16"),
-        },
         Some(word) if word.as_str() == "pcm" => pcm::measure(&rt),
-        _ => println!(rt; "usage: ff_bench bits|flac|frames|heads|links|path|pcm"),
+        _ => println!(rt; "usage: ff_bench bits|flac|frames|heads|links|pcm"),
     }
 }

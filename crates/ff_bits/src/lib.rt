@@ -22,6 +22,3 @@ pub use laws::{
 };
 pub use reader::{BitEnd, BitReader};
 pub use writer::BitWriter;
-
-#[cfg(test)]
-mod tests;

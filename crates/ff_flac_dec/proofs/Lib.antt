@@ -4,11 +4,6 @@ pub mod ChannelLemmas
 pub mod JoinLemmas
 pub mod SoundLemmas
 pub mod FrameLemmas
-pub mod AgreeLaws
-pub mod BlockLaws
-pub mod HeadLaws
-pub mod ReachLaws
-pub mod HeadSound
 pub mod Shortest
 pub mod UnitLaws
 pub mod CutLaws

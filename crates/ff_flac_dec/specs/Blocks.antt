@@ -1,17 +1,16 @@
 -- The metadata blocks before the frames (RFC 9639, section 8), one at a time. All numbers are big-endian.
-use Rattle.std.specs.Prelude.{ℕ, ◌+◌, ◌*◌, ◌/◌, ◌%◌, ◌^◌, ◌==◌, ◌&&◌, nat_lt, nat_le, not, Bool, true, if◌then◌else◌, List, [], ◌∷◌, drop, length, slice_index, Option, Some, None, Ok, Err}
-use Rattle.ff_frame.specs.declared.head.StreamHead.{StreamHead}
-use Rattle.ff_frame.specs.declared.head.StreamHead.TheVariants.{Audio}
-use Rattle.ff_frame.specs.declared.head.Codec.TheVariants.{Flac}
-use Rattle.ff_flac_dec.specs.declared.head.HeadFault.TheVariants.{Damaged, Unsupported}
-use Rattle.ff_flac_dec.specs.declared.head.Step.{Step}
-use Rattle.ff_flac_dec.specs.declared.head.Step.TheVariants.{Wait, Decide, Skip}
+use Rattle.std.specs.Prelude.{ℕ, ◌+◌, ◌*◌, ◌/◌, ◌%◌, ◌^◌, ◌==◌, ◌&&◌, nat_lt, nat_le, not, Bool, if◌then◌else◌, List, length, slice_index, Option, Some, None, Ok, Err}
+use Rattle.ff_values.specs.declared.head.StreamHead.{StreamHead}
+use Rattle.ff_values.specs.declared.head.StreamHead.TheVariants.{Audio}
+use Rattle.ff_values.specs.declared.head.Codec.TheVariants.{Flac}
+use Rattle.ff_flac_dec.specs.declared.head.FlacHead.{FlacHead}
+use Rattle.ff_cut.specs.declared.fault.HeadFault.TheVariants.{Damaged, Unsupported}
+use Rattle.ff_cut.specs.declared.step.Step.{Step}
+use Rattle.ff_cut.specs.declared.step.Step.TheVariants.{Wait, Decide, Skip}
 
--- whether the bytes agree with these, as far as both go
-abbrev pub agrees : List ℕ → List ℕ → Bool
-agrees [] bs = true
-agrees (w ∷ ws) [] = true
-agrees (w ∷ ws) (b ∷ bs) = (b == w) && agrees ws bs
+-- what a metadata block does to the reading of a head: where it is passed over, this is the stream's head from there on
+abbrev pub BlockStep : Type 0
+BlockStep = Step FlacHead (Option StreamHead)
 
 -- the number of three bytes at a place
 abbrev pub number_24 : ℕ → List ℕ → ℕ
@@ -23,10 +22,6 @@ kind_of bs = slice_index bs 0 % 128
 
 abbrev pub is_last : List ℕ → Bool
 is_last bs = nat_le 128 (slice_index bs 0)
-
--- STREAMINFO has 34 bytes
-abbrev pub info_len : List ℕ
-info_len = 0 ∷ 0 ∷ 34 ∷ []
 
 -- the fields of STREAMINFO that say what the frames are: 20 bits of rate, 3 of channels less one, 5 of bits less one (section 8.2)
 abbrev pub rate_in : List ℕ → ℕ
@@ -42,36 +37,33 @@ bits_in bs = 16 * (slice_index bs 16 % 2) + slice_index bs 17 / 16 + 1
 abbrev pub sound_of : ℕ → ℕ → ℕ → StreamHead
 sound_of rate bits channels = Audio (record { num = 1; den = rate }) rate bits channels Flac
 
--- the head ends behind the last block, of so many bytes after its own head, which is there whole
-abbrev pub closes : ℕ → StreamHead → ℕ → List ℕ → Step
+-- a block is 4 bytes and its size; the head ends behind the last one, which is there whole
+abbrev pub closes : ℕ → StreamHead → ℕ → List ℕ → BlockStep
 closes size head at bs =
-    if not (is_last bs) then Skip size head
+    if not (is_last bs) then Skip (3 + size) (Some head)
     else if nat_lt (length bs) (4 + size) then Wait
     else Decide (Ok (record { head = head; start = at + 4 + size }))
 
--- the first block is STREAMINFO; a field is unsupported at the byte in which it begins
-unfoldable pub info : ℕ → List ℕ → Step
+-- the first block is STREAMINFO, of 34 bytes; once these are there, a field is unsupported at the byte in which it begins
+unfoldable pub info : ℕ → List ℕ → BlockStep
 info at bs =
-    if not (kind_of bs == 0) then Decide (Err (Damaged at))
-    else if not (agrees info_len (drop 1 bs)) then Decide (Err (Damaged at))
-    else if nat_lt (length bs) 17 then Wait
+    if not (kind_of bs == 0 && number_24 1 bs == 34) then Decide (Err (Damaged at))
+    else if nat_lt (length bs) 38 then Wait
     else if rate_in bs == 0 then Decide (Err (Unsupported (at + 14)))
-    else if nat_lt (length bs) 18 then Wait
     else if not (nat_le 4 (bits_in bs) && nat_le (bits_in bs) 24) then Decide (Err (Unsupported (at + 16)))
     else closes 34 (sound_of (rate_in bs) (bits_in bs) (channels_in bs)) at bs
 
 -- another one is passed over, but for a second STREAMINFO and the type that is forbidden
-unfoldable pub other : StreamHead → ℕ → List ℕ → Step
+unfoldable pub other : StreamHead → ℕ → List ℕ → BlockStep
 other head at bs =
     if kind_of bs == 0 then Decide (Err (Damaged at))
     else if kind_of bs == 127 then Decide (Err (Damaged at))
-    else if nat_lt (length bs) 4 then Wait
     else closes (number_24 1 bs) head at bs
 
-abbrev pub after : Option StreamHead → ℕ → List ℕ → Step
+abbrev pub after : Option StreamHead → ℕ → List ℕ → BlockStep
 after None at bs = info at bs
 after (Some head) at bs = other head at bs
 
--- what the block does that begins the bytes, at offset at of the input, behind this head
-unfoldable pub block : Option StreamHead → ℕ → List ℕ → Step
-block format at bs = if nat_lt (length bs) 1 then Wait else after format at bs
+-- what the block does that begins the bytes, at offset at of the input, behind this head: nothing before its type and its length are there
+unfoldable pub block : Option StreamHead → ℕ → List ℕ → BlockStep
+block format at bs = if nat_lt (length bs) 4 then Wait else after format at bs

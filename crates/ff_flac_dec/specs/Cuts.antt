@@ -1,14 +1,11 @@
 -- A cut does not keep what it was fed and gave: it is tied to it.
-use Rattle.std.specs.Prelude.{◌≡◌, ℕ, ◌+◌, ◌^◌, ◌≤◌, Bool, true, List, [], ◌++◌, drop, length}
-use Rattle.ff_frame.specs.declared.packet.Pkt.{Pkt}
+use Rattle.std.specs.Prelude.{◌≡◌, ℕ, ◌+◌, ◌^◌, ◌≤◌, Bool, List, ◌++◌, drop, length}
+use Rattle.ff_cut.specs.Cutters.{Cutter}
+use Rattle.ff_values.specs.declared.packet.Pkt.{Pkt}
 use Rattle.ff_flac_dec.specs.declared.head.FlacHead.{FlacHead}
 use Rattle.ff_flac_dec.specs.declared.cut.FlacCut.{FlacCut}
-use Rattle.ff_flac_dec.specs.Streams.{stream_of}
+use Rattle.ff_flac_dec.specs.Streams.{stream_of, IsHead}
 use Rattle.ff_flac_dec.specs.Packets.{packets_from, broken_from, demuxed, broken_at}
-
--- what may still come: nothing where the input ended
-abbrev pub IsRest : Bool → List ℕ → Type 0
-IsRest ended more = ended ≡ true → more ≡ []
 
 -- the head for which a cut was made
 abbrev pub head_of : FlacCut → FlacHead
@@ -33,13 +30,6 @@ room_in cut = cut.held.room
 abbrev pub longest_frame : ℕ
 longest_frame = 2 ^ 48
 
--- the same head and place, and the same end of the input
-pub record SameElsewhere (before after : FlacCut) : Type 0 where
-  pub same_head : after.head ≡ before.head
-  pub same_place : after.used ≡ before.used
-  pub same_count : after.count ≡ before.count
-  pub same_end : after.ended ≡ before.ended
-
 -- Whatever follows: n packets were given, of so many bytes and sample frames, and what waits is what the others are made of.
 pub record Goes (head : FlacHead) (used count n : ℕ) (held fed more : List ℕ) : Type 0 where
   pub given : List Pkt
@@ -54,3 +44,20 @@ pub record Cuts (cut : FlacCut) (head : FlacHead) (fed : List ℕ) (n : ℕ) : T
   pub inside : cut.used ≤ length fed
   pub kept : cut.held.bytes ≡ drop cut.used fed
   pub goes : (more : List ℕ) → Goes head cut.used cut.count n cut.held.bytes fed more
+
+-- a cut of FLAC, as every cut is seen
+abbrev pub flac_cutter : Cutter FlacHead FlacCut
+flac_cutter = record {
+  IsHead = IsHead;
+  stream_head = λ head. head.head;
+  start = λ head. head.start;
+  demuxed = demuxed;
+  broken_at = broken_at;
+  cuts = Cuts;
+  head_of = head_of;
+  place = place_of;
+  has_ended = has_ended;
+  waiting = waiting_in;
+  room = room_in;
+  longest = longest_frame;
+}

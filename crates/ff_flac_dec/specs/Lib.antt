@@ -7,3 +7,6 @@ pub mod Blocks
 pub mod Heads
 pub mod Packets
 pub mod Cuts
+pub mod BlockLaws
+pub mod HeadLaws
+pub mod SoundLaws

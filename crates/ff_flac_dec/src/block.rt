@@ -1,22 +1,12 @@
-ghost use Rattle.std.specs.Prelude.{◌≡◌, ◌+◌, ◌*◌, ◌≤◌, ◌<◌, ◌^◌, length, drop, Ok, Some};
-ghost use Rattle.ff_flac_dec.specs.Blocks.{agrees, number_24, kind_of, is_last, info_len, rate_in, channels_in, bits_in, sound_of, closes, info, other, after, block};
+ghost use Rattle.std.specs.Prelude.{◌≡◌, ◌+◌, ◌*◌, ◌≤◌, ◌<◌, ◌^◌, ℕ, Option, length, drop, Ok, Some};
+ghost use Rattle.ff_values.specs.declared.head.StreamHead.{StreamHead};
+ghost use Rattle.ff_cut.specs.declared.step.Step.TheVariants.{Skip};
+ghost use Rattle.ff_flac_dec.specs.Blocks.{number_24, kind_of, is_last, rate_in, channels_in, bits_in, sound_of, closes, info, other, after, block};
 
-use crate::head::{FlacHead, HeadFault, Step};
-use ff_frame::{Codec, StreamHead};
+use crate::head::{BlockStep, FlacHead};
+use ff_cut::{HeadFault, Step};
 use ff_time::{Rational, TimeError};
-
-/// Whether the bytes agree with these, as far as both go.
-pub(crate) fn agree(wanted: &[u8], bytes: &[u8]) -> bool
-    ensures { result ≡ agrees wanted.now bytes.now }
-{
-    let count = bytes.len().min(wanted.len());
-    'bytes: for i in 0..count {
-        if bytes[i] != wanted[i] {
-            return false;
-        }
-    }
-    true
-}
+use ff_values::{Codec, StreamHead};
 
 fn at_24(bytes: &[u8], place: usize) -> u32
     requires { place + 3 ≤ length bytes.now }
@@ -76,14 +66,15 @@ fn sound(rate: u32, bits: u8, channels: u8) -> Option<StreamHead>
 }
 
 // What comes behind a block of so many bytes.
-fn closed(size: u32, head: StreamHead, at: u64, bytes: &[u8]) -> Step
+fn closed(size: u32, head: StreamHead, at: u64, bytes: &[u8]) -> BlockStep
     requires place { at < 2 ^ 32 }
     requires small { size < 2 ^ 24 }
     requires there { 1 ≤ length bytes.now }
-    ensures { result ≡ closes size head at bytes.now }
+    ensures value { result ≡ closes size head at bytes.now }
+    ensures small { (count : ℕ) (next : Option StreamHead) → result ≡ Skip count next → count ≤ 2 ^ 33 }
 {
     if bytes[0] < 128 {
-        return Step::Skip(size, head);
+        return Step::Skip(3 + size as u64, Some(head));
     }
     if bytes.len() < 4 + size as usize {
         return Step::Wait;
@@ -95,26 +86,21 @@ fn closed(size: u32, head: StreamHead, at: u64, bytes: &[u8]) -> Step
 }
 
 #[tactic(auto, unfolding(crate::specs::Blocks::info))]
-fn info_at(at: u64, bytes: &[u8]) -> Step
+fn info_at(at: u64, bytes: &[u8]) -> BlockStep
     requires place { at < 2 ^ 32 }
-    requires there { 1 ≤ length bytes.now }
-    ensures { result ≡ info at bytes.now }
+    requires there { 4 ≤ length bytes.now }
+    ensures value { result ≡ info at bytes.now }
+    ensures small { (count : ℕ) (next : Option StreamHead) → result ≡ Skip count next → count ≤ 2 ^ 33 }
 {
-    if bytes[0] % 128 != 0 {
+    if !(bytes[0] % 128 == 0 && at_24(bytes, 1) == 34) {
         return Step::Decide(Err(HeadFault::Damaged { offset: at }));
     }
-    if !agree(&[0, 0, 34], &bytes[1..]) {
-        return Step::Decide(Err(HeadFault::Damaged { offset: at }));
-    }
-    if bytes.len() < 17 {
+    if bytes.len() < 38 {
         return Step::Wait;
     }
     let rate = rate_at(bytes);
     if rate == 0 {
         return Step::Decide(Err(HeadFault::Unsupported { offset: at + 14 }));
-    }
-    if bytes.len() < 18 {
-        return Step::Wait;
     }
     let bits = bits_at(bytes);
     if !(4 <= bits && bits <= 24) {
@@ -127,10 +113,11 @@ fn info_at(at: u64, bytes: &[u8]) -> Step
 }
 
 #[tactic(auto, unfolding(crate::specs::Blocks::other))]
-fn other_at(head: StreamHead, at: u64, bytes: &[u8]) -> Step
+fn other_at(head: StreamHead, at: u64, bytes: &[u8]) -> BlockStep
     requires place { at < 2 ^ 32 }
-    requires there { 1 ≤ length bytes.now }
-    ensures { result ≡ other head at bytes.now }
+    requires there { 4 ≤ length bytes.now }
+    ensures value { result ≡ other head at bytes.now }
+    ensures small { (count : ℕ) (next : Option StreamHead) → result ≡ Skip count next → count ≤ 2 ^ 33 }
 {
     let kind = bytes[0] % 128;
     if kind == 0 {
@@ -139,19 +126,17 @@ fn other_at(head: StreamHead, at: u64, bytes: &[u8]) -> Step
     if kind == 127 {
         return Step::Decide(Err(HeadFault::Damaged { offset: at }));
     }
-    if bytes.len() < 4 {
-        return Step::Wait;
-    }
     closed(at_24(bytes, 1), head, at, bytes)
 }
 
 /// What the block does that begins the bytes, at this offset of the input, behind this head.
 #[tactic(auto, unfolding(crate::specs::Blocks::block))]
-pub(crate) fn block_at(format: Option<StreamHead>, at: u64, bytes: &[u8]) -> Step
+pub(crate) fn block_at(format: Option<StreamHead>, at: u64, bytes: &[u8]) -> BlockStep
     requires { at < 2 ^ 32 }
-    ensures { result ≡ block format at bytes.now }
+    ensures value { result ≡ block format at bytes.now }
+    ensures small { (count : ℕ) (next : Option StreamHead) → result ≡ Skip count next → count ≤ 2 ^ 33 }
 {
-    if bytes.len() < 1 {
+    if bytes.len() < 4 {
         return Step::Wait;
     }
     match format {

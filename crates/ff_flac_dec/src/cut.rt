@@ -1,8 +1,9 @@
 ghost use Rattle.std.specs.Prelude.{◌≡◌, ◌≢◌, ◌+◌, ◌*◌, ◌^◌, ◌≤◌, ◌<◌, ◌↔◌, ℕ, List, [], ◌++◌, Some, None, true, false, length, IfOk, OnOk, OnErr, IsOk, slice_get, pos};
-ghost use Rattle.ff_frame.specs.Packet.{packet_at};
-ghost use Rattle.ff_frame.specs.Lanes.{IsFlac};
-ghost use Rattle.ff_frame.specs.declared.packet.Pkt.{Pkt};
+ghost use Rattle.ff_values.specs.Packet.{packet_at};
+ghost use Rattle.ff_values.specs.Codecs.{IsFlac};
+ghost use Rattle.ff_values.specs.declared.packet.Pkt.{Pkt};
 ghost use Rattle.ff_flac_frame.specs.Frame.{IsStream};
+ghost use Rattle.ff_cut.specs.Cutters.{GaveAll, GivesPacket};
 ghost use Rattle.ff_flac_dec.specs.declared.head.FlacHead.{FlacHead};
 ghost use Rattle.ff_flac_dec.specs.declared.front.Front.TheVariants.{Wait};
 ghost use Rattle.ff_flac_dec.specs.Streams.{stream_of, IsHead};
@@ -10,8 +11,9 @@ ghost use Rattle.ff_flac_dec.specs.Packets.{unit, demuxed, broken_at};
 
 use crate::front::{Front, front_of};
 use crate::head::FlacHead;
-use ff_frame::{Bytes, Cut, Held, Pkt};
+use ff_cut::{Held, PacketCut};
 use ff_lists::front;
+use ff_values::{Bytes, Cut, Pkt, StreamHead};
 use std::alloc::{AllocError, Global};
 
 /// The packets of a FLAC input, from pieces of any size. Each is one frame (RFC 9639, section 9).
@@ -57,69 +59,7 @@ fn packet(
 }
 
 impl FlacCut {
-    ghost use Rattle.ff_flac_dec.specs.Cuts.{IsRest, Cuts, SameElsewhere, head_of, place_of, has_ended, waiting_in, room_in, longest_frame};
-
-    /// A cut of an input with this head, which `read_head` gave: fed nothing, it has given no packet.
-    pub fn new(alloc: Global, head: &FlacHead) -> FlacCut
-        requires { IsHead head.now }
-        ensures cuts { Cuts result head.now [] 0 }
-        ensures goes_on { has_ended result ≡ false }
-        ensures none { waiting_in result ≡ [] }
-        ensures head { head_of result ≡ head.now }
-        ensures place { place_of result ≡ head.now.start }
-    {
-        FlacCut {
-            alloc,
-            head: *head,
-            used: 0,
-            count: 0,
-            held: Held::new(alloc),
-            ended: false,
-        }
-    }
-
-    /// Takes further bytes of the input, those after the head. The input must not have ended.
-    pub fn feed(&mut self, bytes: &[u8]) -> Result<(), AllocError>
-        requires { has_ended self.old ≡ false }
-        ensures ok { OnOk result ((head : FlacHead) (fed : List ℕ) (n : ℕ) → Cuts self.old head fed n → Cuts self.new head (fed ++ bytes.now) n) }
-        ensures err { OnErr result (self.new ≡ self.old) }
-        ensures succeeds { length bytes.now ≤ room_in self.old → IsOk result }
-        ensures same { OnOk result (SameElsewhere self.old self.new) }
-        ensures held { OnOk result (waiting_in self.new ≡ waiting_in self.old ++ bytes.now) }
-    {
-        self.held.push(bytes)
-    }
-
-    /// Makes room for so many bytes more, which `feed` then takes without fail.
-    pub fn reserve(&mut self, count: usize) -> Result<(), AllocError>
-        ensures cuts { (head : FlacHead) (fed : List ℕ) (n : ℕ) → Cuts self.old head fed n → Cuts self.new head fed n }
-        ensures same { SameElsewhere self.old self.new }
-        ensures held { waiting_in self.new ≡ waiting_in self.old }
-        ensures room { OnOk result (count ≤ room_in self.new) }
-        ensures err { OnErr result (self.new ≡ self.old) }
-    {
-        self.held.reserve(count)
-    }
-
-    /// The input ended: nothing more is fed.
-    pub fn end(&mut self)
-        requires { has_ended self.old ≡ false }
-        ensures cuts { (head : FlacHead) (fed : List ℕ) (n : ℕ) → Cuts self.old head fed n → Cuts self.new head fed n }
-        ensures ended { has_ended self.new ≡ true }
-        ensures head { head_of self.new ≡ head_of self.old }
-        ensures place { place_of self.new ≡ place_of self.old }
-        ensures held { waiting_in self.new ≡ waiting_in self.old }
-    {
-        self.ended = true;
-    }
-
-    /// How many bytes are kept: those fed since the end of the last frame given.
-    pub fn held(&self) -> u64
-        ensures length { result ≡ length (waiting_in self.now) }
-        ensures exact { (head : FlacHead) (fed : List ℕ) (n : ℕ) → Cuts self.now head fed n → place_of self.now + result ≡ head.start + length fed }
-    {
-        self.held.len() as u64
-    }
+    ghost use Rattle.ff_flac_dec.specs.Cuts.{place_of};
 
     // What comes where no whole frame is there: more bytes are wanted, or all came, or the last frame isn't whole.
     fn unfinished(&self) -> Cut
@@ -139,20 +79,64 @@ impl FlacCut {
             offset: self.head.start + self.used,
         }
     }
+}
+
+impl PacketCut for FlacCut {
+    ghost use Rattle.ff_flac_dec.specs.Cuts.{flac_cutter, Cuts, head_of, place_of, has_ended, waiting_in, longest_frame};
+
+    type Head = FlacHead;
+
+    ghost is = { flac_cutter };
+
+    fn stream_head(head: &FlacHead) -> StreamHead {
+        head.head
+    }
+
+    fn start(head: &FlacHead) -> u64 {
+        head.start
+    }
+
+    fn new(alloc: Global, head: &FlacHead) -> FlacCut {
+        FlacCut {
+            alloc,
+            head: *head,
+            used: 0,
+            count: 0,
+            held: Held::new(alloc),
+            ended: false,
+        }
+    }
+
+    fn feed(&mut self, bytes: &[u8]) -> Result<(), AllocError> {
+        self.held.push(bytes)
+    }
+
+    fn reserve(&mut self, count: usize) -> Result<(), AllocError> {
+        self.held.reserve(count)
+    }
+
+    fn end(&mut self) {
+        self.ended = true;
+    }
+
+    /// How many bytes are kept: those fed since the end of the last frame given.
+    fn held(&self) -> u64
+        ensures length { result ≡ length (waiting_in self.now) }
+        ensures exact { (head : FlacHead) (fed : List ℕ) (n : ℕ) → Cuts self.now head fed n → place_of self.now + result ≡ head.start + length fed }
+    {
+        self.held.len() as u64
+    }
 
     /// The next packet of the bytes so far: the next frame. The frames given so far end at or before byte 2^50. A packet's
     /// times are the number of its first sample frame; its duration is its number of sample frames.
-    pub fn pull(&mut self) -> Result<Cut, AllocError>
+    fn pull(&mut self) -> Result<Cut, AllocError>
         requires { place_of self.old ≤ 2 ^ 50 }
-        // It is the next packet of the input, whatever follows.
-        ensures gives { (head : FlacHead) (fed : List ℕ) (n : ℕ) → Cuts self.old head fed n → (p : Pkt) → result ≡ Ok (Cut.Pkt p)
+        ensures gives { (p : Pkt) → result ≡ Ok (Cut.Pkt p) → GivesPacket flac_cutter self.old self.new p }
+        // It is the next packet of the input, whatever follows, also after an end.
+        ensures settles { (p : Pkt) → result ≡ Ok (Cut.Pkt p) → (head : FlacHead) (fed : List ℕ) (n : ℕ) → Cuts self.old head fed n
             → Cuts self.new head fed (n + 1) × ((more : List ℕ) → slice_get (demuxed head (fed ++ more)) n ≡ Some p) }
-        // All were given, whatever follows, and the input ended behind the last.
-        ensures ends { (head : FlacHead) (fed : List ℕ) (n : ℕ) → Cuts self.old head fed n → result ≡ Ok Cut.End
-            → Cuts self.new head fed n × ((more : List ℕ) → IsRest (has_ended self.old) more → (length (demuxed head (fed ++ more)) ≡ n) × (broken_at head (fed ++ more) ≡ None)) }
-        // All were given, whatever follows, and no frame begins where the last ended, or one that isn't whole.
-        ensures breaks { (head : FlacHead) (fed : List ℕ) (n : ℕ) → Cuts self.old head fed n → (offset : ℕ) → result ≡ Ok (Cut.Broken offset)
-            → Cuts self.new head fed n × ((more : List ℕ) → IsRest (has_ended self.old) more → (length (demuxed head (fed ++ more)) ≡ n) × (broken_at head (fed ++ more) ≡ Some offset)) }
+        ensures ends { result ≡ Ok Cut.End → GaveAll flac_cutter self.old None }
+        ensures breaks { (offset : ℕ) → result ≡ Ok (Cut.Broken offset) → GaveAll flac_cutter self.old (Some offset) }
         // Not yet only where the input goes on, and what waits may be the beginning of a frame and is no whole one;
         ensures not_yet { result ≡ Ok Cut.NotYet → (has_ended self.old ≡ false) × (unit (stream_of (head_of self.old).head) (waiting_in self.old) ≡ Wait) }
         // and there, unless memory runs out.
@@ -160,12 +144,16 @@ impl FlacCut {
         ensures err { OnErr result (self.new ≡ self.old) }
         ensures ended { has_ended self.new ≡ has_ended self.old }
         ensures still { result ≡ Ok Cut.NotYet → (self.new ≡ self.old) × (length (waiting_in self.old) < longest_frame) }
+        ensures few { result ≡ Ok Cut.NotYet → (has_ended self.old ≡ false) × (length (waiting_in self.old) < longest_frame) }
         ensures stops { result ≡ Ok Cut.End → self.new ≡ self.old }
         ensures stays { (offset : ℕ) → result ≡ Ok (Cut.Broken offset) → (self.new ≡ self.old) × (offset ≡ place_of self.old) }
         ensures head { head_of self.new ≡ head_of self.old }
         ensures further { place_of self.new ≤ place_of self.old + length (waiting_in self.old) }
         ensures lasts { (p : Pkt) → result ≡ Ok (Cut.Pkt p) → IsFlac p }
-        ensures place { (p : Pkt) → result ≡ Ok (Cut.Pkt p) → (p.pos ≡ place_of self.old) × (place_of self.new ≡ place_of self.old + length p.bytes) × (8 ≤ length p.bytes) }
+        ensures place { (p : Pkt) → result ≡ Ok (Cut.Pkt p) → (p.pos ≡ place_of self.old)
+            × (place_of self.new ≡ place_of self.old + length p.bytes) × (8 ≤ length p.bytes) }
+        ensures near { (p : Pkt) → result ≡ Ok (Cut.Pkt p) → place_of self.new ≤ p.pos + length p.bytes + 2 ^ 30 }
+        ensures last { (p : Pkt) → result ≡ Ok (Cut.Pkt p) → p.pos + length p.bytes < 2 ^ 64 }
     {
         let stream = self.head.stream();
         let offset = self.head.start + self.used;

@@ -22,15 +22,9 @@ mod walk;
 
 pub use cut::FlacCut;
 pub use end::DecodeEnd;
+pub use ff_cut::HeadFault;
 pub use ff_flac_frame::{FlacFrame, FlacStream, FrameEnd, SubKind, Subframe};
 pub use frame::frame_at;
 pub use head::FlacHead;
 pub use sound::decode;
-pub use walk::{FlacWalk, read_head};
-
-#[cfg(test)]
-mod cut_tests;
-#[cfg(test)]
-mod head_tests;
-#[cfg(test)]
-mod tests;
+pub use walk::{Flac, FlacWalk, read_head};

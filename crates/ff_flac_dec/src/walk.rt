@@ -1,97 +1,53 @@
-ghost use Rattle.std.specs.Prelude.{◌≡◌, ◌≤◌, ◌^◌, ◌↔◌, List, [], ◌++◌, ℕ, None, length, drop, take, false, IfOk};
-ghost use Rattle.ff_flac_dec.specs.Heads.{walk, head_limit, head, early, answered, answer, IsOpen, Reached};
+ghost use Rattle.std.specs.Prelude.{◌≡◌, ◌↔◌, List, ◌++◌, ℕ, false, IfOk, IfSome};
+ghost use Rattle.ff_flac_dec.specs.Heads.{grammar as flac_grammar, IsFlacStream, head, answered, IsOpen};
 ghost use Rattle.ff_flac_dec.specs.Streams.{IsHead};
+ghost use Rattle.ff_flac_dec.specs.HeadLaws.{is_lawful};
+ghost use Rattle.ff_flac_dec.specs.SoundLaws.{is_kept};
 
-use crate::block::{agree, block_at};
-use crate::head::{FlacHead, HeadFault, Step};
-use ff_frame::{HeadEnd, StreamHead};
-use ff_lists::{from_place, front};
+use crate::block::block_at;
+use crate::head::{BlockStep, FlacHead};
+use ff_cut::{HeadFormat, HeadWalk};
+use ff_values::{HeadEnd, StreamHead};
 
-/// A head is complete within so many bytes.
-const LIMIT: usize = 1 << 28;
+/// What an input begins with.
+const MAGIC: [Option<u8>; 4] = [Some(b'f'), Some(b'L'), Some(b'a'), Some(b'C')];
 
-fn answer_of(found: Result<FlacHead, HeadFault>) -> Result<FlacHead, HeadEnd>
-    ensures { result ≡ answered found }
-{
-    match found {
-        Ok(head) => Ok(head),
-        Err(HeadFault::Damaged { offset }) => Err(HeadEnd::Damaged { offset }),
-        Err(HeadFault::Unsupported { offset }) => Err(HeadEnd::Unsupported { offset }),
+/// FLAC, as far as its head is read: metadata block by metadata block, of which the first says the stream's head.
+#[derive(Clone, Copy, Debug)]
+pub struct Flac;
+
+impl HeadFormat for Flac {
+    type Head = FlacHead;
+
+    type State = Option<StreamHead>;
+
+    ghost grammar = { flac_grammar };
+
+    ghost is_known = { λ format. IfSome format IsFlacStream };
+
+    ghost is_sound = { IsHead };
+
+    fn magic() -> &'static [Option<u8>] {
+        &MAGIC
     }
-}
 
-fn early_end(bytes: &[u8]) -> HeadEnd
-    ensures { Err result ≡ answered (early bytes.now) }
-{
-    if bytes.len() < 4 {
-        return HeadEnd::Unsupported { offset: 0 };
+    fn start() -> Option<StreamHead> {
+        None
     }
-    HeadEnd::Damaged {
-        offset: bytes.len() as u64,
+
+    fn unit_at(state: Option<StreamHead>, at: u64, bytes: &[u8]) -> BlockStep {
+        block_at(state, at, bytes)
     }
+
+    ghost lawful = { is_lawful };
+
+    ghost begins = { tt };
+
+    ghost keeps = { is_kept };
 }
 
 /// How far a head was read: where the next metadata block begins, and the stream's head, which the first block says.
-#[derive(Clone, Copy, Debug)]
-pub struct FlacWalk {
-    pub at: usize,
-    pub format: Option<StreamHead>,
-}
-
-// Goes on over the blocks.
-fn go_on(place: &mut FlacWalk, bytes: &[u8]) -> Option<Result<FlacHead, HeadFault>>
-    requires { length bytes.now ≤ 2 ^ 28 }
-    ensures found { Reached place.old.at place.old.format bytes.now → result ≡ walk 4 None 0 bytes.now }
-    ensures reached { Reached place.old.at place.old.format bytes.now → Reached place.new.at place.new.format bytes.now }
-{
-    'passed: while place.at < bytes.len() {
-        match block_at(place.format, place.at as u64, from_place(bytes, place.at)) {
-            Step::Wait => return None,
-            Step::Decide(found) => return Some(found),
-            Step::Skip(size, next) => {
-                place.at = place.at + 4 + size as usize;
-                place.format = Some(next);
-            }
-        }
-    }
-    None
-}
-
-impl FlacWalk {
-    /// Before anything was read.
-    pub fn new() -> FlacWalk
-        ensures { Reached result.at result.format [] }
-    {
-        FlacWalk {
-            at: 4,
-            format: None,
-        }
-    }
-
-    /// Reads on. The bytes are those that were there before, and perhaps more; only the new blocks are looked at.
-    pub fn read(&mut self, bytes: &[u8], whole: bool) -> Result<FlacHead, HeadEnd>
-        ensures exact { (front rest : List ℕ) → bytes.now ≡ front ++ rest → length front ≤ head_limit → Reached self.old.at self.old.format front → result ≡ answer whole bytes.now }
-        ensures goes_on { (front rest : List ℕ) → bytes.now ≡ front ++ rest → length front ≤ head_limit → Reached self.old.at self.old.format front
-            → result ≡ Err HeadEnd.NotYet → (length bytes.now ≤ head_limit) × Reached self.new.at self.new.format bytes.now }
-    {
-        if !agree(b"fLaC", bytes) {
-            return Err(HeadEnd::Unsupported { offset: 0 });
-        }
-        let near = front(bytes, LIMIT);
-        if let Some(found) = go_on(self, near) {
-            return answer_of(found);
-        }
-        if bytes.len() >= LIMIT {
-            return Err(HeadEnd::Unsupported {
-                offset: LIMIT as u64,
-            });
-        }
-        if !whole {
-            return Err(HeadEnd::NotYet);
-        }
-        Err(early_end(bytes))
-    }
-}
+pub type FlacWalk = HeadWalk<Flac>;
 
 /// The head of an input that begins with these bytes, and where `whole` ends with them (RFC 9639, sections 6 and 8). The
 /// first fault in the order of reading decides: Unsupported at 0 where the first bytes aren't `fLaC`; Damaged at 4 where the
@@ -106,8 +62,8 @@ pub fn read_head(bytes: &[u8], whole: bool) -> Result<FlacHead, HeadEnd>
     // and a head is a sound one,
     ensures sound { IfOk result IsHead }
     // whatever follows.
-    ensures stays { (result ≡ Err HeadEnd.NotYet → ⊥) → whole ≡ false → (more : List ℕ) → head (bytes.now ++ more) ≡ head bytes.now }
+    ensures stays { (result ≡ Err HeadEnd.NotYet → ⊥) → whole ≡ false
+        → (more : List ℕ) → head (bytes.now ++ more) ≡ head bytes.now }
 {
-    let mut place = FlacWalk::new();
-    place.read(bytes, whole)
+    ff_cut::read_head::<Flac>(bytes, whole)
 }

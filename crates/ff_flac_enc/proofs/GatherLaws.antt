@@ -10,14 +10,15 @@ use Rattle.std.proofs.lemmas.Nat.{le-div}
 use Rattle.std.proofs.Math.Nat.{mul-le-mul_right, lt-div-mul-add, mul-add-div_right, mul-div_cancel, le-mul_of_pos_right}
 use mathlib.Core.List.{IsPrefix}
 use Rattle.ff_time.specs.Fraction.{IsBase}
-use Rattle.ff_frame.specs.Audio.{IsAudio}
-use Rattle.ff_frame.specs.Frame.{audio_frame}
-use Rattle.ff_frame.specs.Lanes.{IsItemFor, InOrder, IsValid, EndsInTime, FitsFrames, base_of_head}
+use Rattle.ff_values.specs.Audio.{IsAudio}
+use Rattle.ff_values.specs.Frame.{audio_frame}
+use Rattle.ff_values.specs.Heads.{base_of_head}
+use Rattle.ff_frame.specs.Lanes.{IsItemFor, InOrder, IsValid, EndsInTime, FitsFrames}
 use Rattle.ff_frame.specs.Stream.{Mark}
 use Rattle.ff_frame.specs.Times.{end_of, ticks}
-use Rattle.ff_frame.specs.declared.audio.AFrame.{AFrame}
-use Rattle.ff_frame.specs.declared.head.StreamHead.{StreamHead}
-use Rattle.ff_frame.specs.declared.head.StreamHead.TheVariants.{Audio as AudioHead, Video as VideoHead}
+use Rattle.ff_values.specs.declared.audio.AFrame.{AFrame}
+use Rattle.ff_values.specs.declared.head.StreamHead.{StreamHead}
+use Rattle.ff_values.specs.declared.head.StreamHead.TheVariants.{Audio as AudioHead, Video as VideoHead}
 use Rattle.ff_frame.specs.declared.item.Item.{Item}
 use Rattle.ff_frame.specs.declared.item.Item.TheVariants.{Audio}
 use Rattle.ff_frame.specs.declared.item.Lane.TheVariants.{Frames}
@@ -132,7 +133,7 @@ alike_of (AudioHead tb rate bits channels codec) f g h k =
 alike_of (VideoHead tb format width height sar_num sar_den) f g h k = absurd h
 
 apart_of : (head : StreamHead) (f g : AFrame) (gs : List AFrame) → FitsFrames head (Audio f) → InOrder (Frames head) (map Audio (f ∷ g ∷ gs)) → (f.pts +ℤ pos (length f.samples / f.channels)) ≤ℤ g.pts
-apart_of (AudioHead tb rate bits channels codec) f g gs h o = o.0.apart
+apart_of (AudioHead tb rate bits channels codec) f g gs h o = o.0.apart tt
 apart_of (VideoHead tb format width height sar_num sar_den) f g gs h o = absurd h
 
 -- the samples of frames in order end no later than the last frame

@@ -12,9 +12,9 @@ use Rattle.std.proofs.Math.Seq.{take-add}
 use Rattle.ff_bits.specs.Bits.{bits as bits_in}
 use Rattle.ff_bits.specs.Reading.{Done}
 use Rattle.ff_bits.proofs.BitsLemmas.{bits-append}
-use Rattle.ff_frame.specs.declared.audio.AFrame.{AFrame}
-use Rattle.ff_frame.specs.Frame.{audio_frame}
-use Rattle.ff_frame.specs.Audio.{FitsBits}
+use Rattle.ff_values.specs.declared.audio.AFrame.{AFrame}
+use Rattle.ff_values.specs.Frame.{audio_frame}
+use Rattle.ff_values.specs.Audio.{FitsBits}
 use Rattle.ff_flac_frame.specs.Codes.{form_fits, depths}
 use Rattle.ff_flac_frame.specs.Frame.{Frame, frame}
 use Rattle.ff_flac_dec.specs.Channels.{both, mid_right, separated, pair, channels_of, sample_frame, interleaved, interleaved_from, decoded}

@@ -1,7 +1,7 @@
 -- A frame of sound as the bytes of a FLAC frame (RFC 9639, section 9).
 use Rattle.std.specs.Prelude.{◌≡◌, ℕ, ◌*◌, ◌/◌, ◌<◌, ◌≤◌, Some, Bool, List, ◌++◌, length}
-use Rattle.ff_frame.specs.declared.audio.AFrame.{AFrame}
-use Rattle.ff_frame.specs.Audio.{IsAudio}
+use Rattle.ff_values.specs.declared.audio.AFrame.{AFrame}
+use Rattle.ff_values.specs.Audio.{IsAudio}
 use Rattle.ff_bits.specs.Bits.{bits}
 use Rattle.ff_flac_frame.specs.declared.stream.FlacStream.{FlacStream}
 use Rattle.ff_flac_frame.specs.Frame.{Frame, Begins}

@@ -3,12 +3,13 @@
 ghost use Rattle.std.specs.Prelude.{◌≡◌, ◌≤◌, ℕ, List, [], ◌∷◌, ◌++◌, true, false, Bool, map, ℤ};
 ghost use mathlib.Core.List.{IsPrefix};
 ghost use Rattle.ff_time.specs.Fraction.{IsBase};
-ghost use Rattle.ff_frame.specs.declared.audio.AFrame.{AFrame};
-ghost use Rattle.ff_frame.specs.declared.head.StreamHead.{StreamHead};
+ghost use Rattle.ff_values.specs.declared.audio.AFrame.{AFrame};
+ghost use Rattle.ff_values.specs.declared.head.StreamHead.{StreamHead};
 ghost use Rattle.ff_frame.specs.declared.item.Item.TheVariants.{Audio};
 ghost use Rattle.ff_frame.specs.declared.item.Lane.TheVariants.{Frames};
-ghost use Rattle.ff_frame.specs.Audio.{IsAudio};
-ghost use Rattle.ff_frame.specs.Lanes.{IsValid, base_of_head};
+ghost use Rattle.ff_values.specs.Audio.{IsAudio};
+ghost use Rattle.ff_values.specs.Heads.{base_of_head};
+ghost use Rattle.ff_frame.specs.Lanes.{IsValid};
 ghost use Rattle.ff_frame.specs.Stream.{Mark};
 ghost use Rattle.ff_flac_enc.specs.declared.blocks.Blocks.{Blocks};
 ghost use Rattle.ff_flac_enc.specs.Gathered.{EndInTime, all_samples, blocks_due, changed};

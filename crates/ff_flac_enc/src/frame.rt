@@ -14,7 +14,7 @@ use crate::pair::write_pair;
 use ff_bits::BitWriter;
 use ff_flac_frame::FlacStream;
 use ff_flac_sub::write_subframe;
-use ff_frame::AFrame;
+use ff_values::AFrame;
 use std::alloc::{AllocError, Global};
 
 /// The samples of one channel.

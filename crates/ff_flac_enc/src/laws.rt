@@ -1,7 +1,7 @@
 //! What the definitions of this crate keep. Each function does nothing, and its contract is the law.
 
 ghost use Rattle.std.specs.Prelude.{◌≡◌, Some};
-ghost use Rattle.ff_frame.specs.declared.audio.AFrame.{AFrame};
+ghost use Rattle.ff_values.specs.declared.audio.AFrame.{AFrame};
 ghost use Rattle.ff_flac_rice.specs.Least.{least, IsFirstLeast};
 ghost use Rattle.ff_flac_enc.specs.Layout.{Layout};
 ghost use Rattle.ff_flac_enc.specs.Frame.{candidates, subframe_bits_of};

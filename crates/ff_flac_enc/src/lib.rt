@@ -29,12 +29,3 @@ pub use counter::Counter;
 pub use format::Format;
 pub use frame::encode_block;
 pub use laws::least_is_the_first_of_the_shortest;
-
-#[cfg(test)]
-mod blocks_tests;
-#[cfg(test)]
-mod counter_tests;
-#[cfg(test)]
-mod meet_tests;
-#[cfg(test)]
-mod tests;

@@ -21,6 +21,3 @@ pub use frame::{FlacFrame, frame_at};
 pub use laws::{frames_are_apart, frames_are_in_shape, what_follows_is_no_matter};
 pub use stream::FlacStream;
 pub use subframe::{SubKind, Subframe};
-
-#[cfg(test)]
-mod tests;

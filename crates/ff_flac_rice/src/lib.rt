@@ -13,6 +13,3 @@ mod write;
 pub use coding::{Found, best_coding};
 pub use laws::{codings_are_read_back, least_is_the_first_of_the_lowest};
 pub use write::write_residual;
-
-#[cfg(test)]
-mod tests;

@@ -12,6 +12,3 @@ pub use laws::{
     least_is_the_first_of_the_shortest, subframes_are_read_back, subframes_stand_for_their_samples,
 };
 pub use subframe::{Plan, Planned, plan_of, write_plan, write_subframe};
-
-#[cfg(test)]
-mod tests;

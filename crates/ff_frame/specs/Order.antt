@@ -4,7 +4,7 @@ use Rattle.std.proofs.Common.{inl, inr, ap, sym, ◌∙◌, subst, append_assoc}
 use Rattle.std.proofs.lemmas.List.{append-nil}
 use mathlib.Core.List.{IsPrefix}
 use Rattle.ff_frame.specs.declared.item.Item.{Item}
-use Rattle.ff_frame.specs.declared.item.Item.TheVariants.{Audio, Video, Packet, End, Broken}
+use Rattle.ff_frame.specs.declared.item.Item.TheVariants.{Audio, Video, Packet, Trailer, End, Broken}
 use Rattle.ff_frame.specs.Stream.{Mark, still_open, whole, broken, Stream, LiesBelow, opened, opened_mark}
 use Rattle.ff_frame.specs.Items.{Closes, with_item, Leads}
 use Rattle.ff_frame.specs.Ports.{nothing, stream_at, AllBelow, IsClosed, IsUnbroken, IsWhole}
@@ -118,6 +118,7 @@ pub with_item_above : (s : Stream Item) (x : Item) → s.mark ≡ still_open →
 with_item_above s (Audio f) o = inr (o, (Audio f ∷ [], refl))
 with_item_above s (Video f) o = inr (o, (Video f ∷ [], refl))
 with_item_above s (Packet p) o = inr (o, (Packet p ∷ [], refl))
+with_item_above s (Trailer t) o = inr (o, (Trailer t ∷ [], refl))
 with_item_above s End o = inr (o, prefix_self s.items)
 with_item_above s Broken o = inr (o, prefix_self s.items)
 
@@ -125,6 +126,7 @@ pub with_item_open : (s : Stream Item) (x : Item) → (Closes x → ⊥) → s.m
 with_item_open s (Audio f) goes_on o = o
 with_item_open s (Video f) goes_on o = o
 with_item_open s (Packet p) goes_on o = o
+with_item_open s (Trailer t) goes_on o = o
 with_item_open s End goes_on o = absurd (goes_on tt)
 with_item_open s Broken goes_on o = absurd (goes_on tt)
 
@@ -132,6 +134,7 @@ pub with_item_closed : (s : Stream Item) (x : Item) → Closes x → IsClosed (w
 with_item_closed s (Audio f) c = absurd c
 with_item_closed s (Video f) c = absurd c
 with_item_closed s (Packet p) c = absurd c
+with_item_closed s (Trailer t) c = absurd c
 with_item_closed s End c = λ e. cc
 with_item_closed s Broken c = λ e. cc
 

@@ -2,13 +2,23 @@
 use Rattle.std.specs.Prelude.{ℕ, ◌*◌, ◌/◌, ◌≤◌, ℤ, pos, negsuc, ◌+ℤ◌, length}
 use Rattle.ff_time.specs.Fraction.{Fraction}
 use Rattle.ff_frame.specs.declared.item.Item.{Item}
-use Rattle.ff_frame.specs.declared.item.Item.TheVariants.{Audio, Video, Packet, End, Broken}
+use Rattle.ff_frame.specs.declared.item.Item.TheVariants.{Audio, Video, Packet, Trailer, End, Broken}
+
+-- all but what stands behind the packets of a stream, or closes one, have a time
+abbrev pub HasTime : Item → Type 0
+HasTime (Audio f) = Unit {0}
+HasTime (Video f) = Unit {0}
+HasTime (Packet p) = Unit {0}
+HasTime (Trailer t) = ⊥
+HasTime End = ⊥
+HasTime Broken = ⊥
 
 -- a frame and a packet start where they say
 abbrev pub start_of : Item → ℤ
 start_of (Audio f) = f.pts
 start_of (Video f) = f.pts
 start_of (Packet p) = p.pts
+start_of (Trailer t) = pos 0
 start_of End = pos 0
 start_of Broken = pos 0
 
@@ -17,6 +27,7 @@ abbrev pub end_of : Item → ℤ
 end_of (Audio f) = f.pts +ℤ pos (length f.samples / f.channels)
 end_of (Video f) = f.pts +ℤ f.duration
 end_of (Packet p) = p.pts +ℤ p.duration
+end_of (Trailer t) = pos 0
 end_of End = pos 0
 end_of Broken = pos 0
 

@@ -1,20 +1,8 @@
 ghost use Rattle.std.specs.Prelude.{◌≡◌, ◌↔◌, IsTrue, IfOk};
 ghost use Rattle.ff_frame.specs.Items.{Closes};
 
-use crate::audio::AFrame;
-use crate::head::StreamHead;
-use crate::packet::Pkt;
-use crate::video::VFrame;
+use ff_values::{AFrame, Pkt, StreamHead, Totals, VFrame};
 use std::alloc::{AllocError, Global};
-
-/// The leave of a source to give one packet, or its end.
-#[derive(Clone, Copy, Debug, PartialEq, Eq)]
-pub struct Ticket {
-    /// The number of the source.
-    pub source: u32,
-    /// The place of the grant, counted from 0.
-    pub place: u64,
-}
 
 /// What travels from one part of a run to the next.
 #[derive(Debug, Drop)]
@@ -25,6 +13,8 @@ pub enum Item {
     Video(VFrame),
     /// A coded packet.
     Packet(Pkt),
+    /// What a coder knows of the whole stream, behind its last packet.
+    Trailer(Totals),
     /// Nothing more comes: all has come.
     End,
     /// Nothing more comes: the rest was lost to damage or a fault.
@@ -52,7 +42,7 @@ impl Item {
         ensures { IsTrue result ↔ Closes self.now }
     {
         match self {
-            Item::Audio(_) | Item::Video(_) | Item::Packet(_) => false,
+            Item::Audio(_) | Item::Video(_) | Item::Packet(_) | Item::Trailer(_) => false,
             Item::End | Item::Broken => true,
         }
     }
@@ -74,6 +64,7 @@ impl Item {
                 let packet = packet.try_copy(alloc)?;
                 Ok(Item::Packet(packet))
             }
+            Item::Trailer(totals) => Ok(Item::Trailer(*totals)),
             Item::End => Ok(Item::End),
             Item::Broken => Ok(Item::Broken),
         }

@@ -1,29 +1,20 @@
-//! Frames, packets and the heads of streams, which travel from one part of a run to the next.
+//! Items, the ways that carry them, and the streams that they make.
 //!
-//! Times are counted in ticks of a stream's time base. A frame or a packet is given by its fields alone: two with
-//! equal fields are one value for every contract, wherever their bytes lie.
+//! ```text
+//! a part ──► Packet, Packet, .. Trailer, End ──► a part
+//!            └──────── a way: its Lane ───────┘
+//! ```
 //!
-//! `specs/` has the streams that travel so: their order (`Stream`, `Order`, `Ports`), what each item adds to one
-//! (`Items`), when one is valid for the way that carries it (`Times`, `Lanes`), where one is cut for its length
-//! (`Within`), and what becomes of a function of streams where an input breaks off (`Breaks`).
+//! An item is a frame or a packet, or says that nothing more comes. `specs/` has the streams that travel so: their order
+//! (`Stream`, `Order`, `Ports`), what each item adds to one (`Items`), when one is valid for the way that carries it
+//! (`Times`, `Lanes`), where one is cut for its length (`Within`), and what becomes of a function of streams where an
+//! input breaks off (`Breaks`). The values themselves are those of `ff_values`, which this crate passes on.
 #![tactic(auto)]
 
-mod audio;
-mod cut;
-mod head;
-mod held;
 mod item;
-mod lists;
-mod packet;
-mod totals;
-mod video;
 
-pub use audio::AFrame;
-pub use cut::{Cut, HeadEnd};
-pub use head::{Codec, StreamHead};
-pub use held::Held;
-pub use item::{Item, Lane, Refused, Ticket};
-pub use lists::{Bytes, Samples};
-pub use packet::Pkt;
-pub use totals::Totals;
-pub use video::{Format, VFrame};
+pub use ff_values::{
+    AFrame, Bytes, Codec, ConfigError, Cut, Event, Format, HashKind, HeadEnd, Pkt, Samples,
+    StreamHead, Ticket, Totals, VFrame,
+};
+pub use item::{Item, Lane, Refused};

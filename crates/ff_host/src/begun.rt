@@ -2,7 +2,7 @@ ghost use Rattle.std.specs.Prelude.{◌≡◌, ◌≤◌, ℕ, List, length};
 ghost use Rattle.std.specs.Io.KnownBytes.{prepend_known};
 ghost use Rattle.ff_host.specs.Begun.{still_in, failed_of};
 
-use crate::quiet_source::copy_front;
+use crate::fill::copy_front;
 use crate::source::{Failed, Source};
 
 /// A source of which some bytes were read already: it gives these first, and then those of the source.

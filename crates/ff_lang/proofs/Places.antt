@@ -123,7 +123,7 @@ not_before text m n lt bound g (inl e) = omega (arith, e, lt, bound)
 not_before text m n lt bound g (inr h) = h.1 (goes_on_less text (m + 1) n (omega (arith, lt)) g)
 
 -- there is one such place
-IsBadAt-unique : (text : List ℕ) (m n : ℕ) → IsBadAt text m → IsBadAt text n → m ≡ n
+pub IsBadAt-unique : (text : List ℕ) (m n : ℕ) → IsBadAt text m → IsBadAt text n → m ≡ n
 IsBadAt-unique text m n x y =
     elim (cases_lt m n) [
       | inl lt ↦ absurd (not_before text m n lt (place_bound text n y.place) y.before x.place)
@@ -132,6 +132,13 @@ IsBadAt-unique text m n x y =
         | inr ge ↦ omega arith
       ]
     ]
+
+-- a text is one graph
+pub IsGraph-unique : (text : List ℕ) (g h : Graph) → IsGraph text g → IsGraph text h → g ≡ h
+IsGraph-unique text g h x y =
+    let e : reads text start ≡ Some g = reads_graph text g x in
+    let f : reads text start ≡ Some h = reads_graph text h y in
+    cc
 
 -- ---- answers
 

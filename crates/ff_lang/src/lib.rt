@@ -7,6 +7,7 @@
 
 mod error;
 mod graph;
+mod laws;
 mod letters;
 mod lists;
 mod parser;
@@ -16,10 +17,8 @@ mod soundness;
 
 pub use error::LangError;
 pub use graph::{Arg, Chain, Filter, Graph};
+pub use laws::graphs_have_one_meaning;
 pub use lists::{Sequence, Text};
 pub use print::print_graph;
 pub use read::read_graph;
 pub use soundness::graph_ok;
-
-#[cfg(test)]
-mod tests;

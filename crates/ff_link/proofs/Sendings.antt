@@ -1,7 +1,7 @@
 -- Sendings are closed under fronts, and no sending is long.
 use Rattle.std.proofs.Common.{◌≡◌, ◌≤◌, ◌+◌, ◌^◌, ℕ, Bool, true, false, List, [], ◌∷◌, ◌++◌, length, refl, sym, subst, arith, length-append}
 use Rattle.ff_frame.specs.declared.item.Item.{Item}
-use Rattle.ff_frame.specs.declared.item.Item.TheVariants.{Audio, Video, Packet, End, Broken}
+use Rattle.ff_frame.specs.declared.item.Item.TheVariants.{Audio, Video, Packet, Trailer, End, Broken}
 use Rattle.ff_frame.specs.declared.item.Lane.{Lane}
 use Rattle.ff_frame.specs.Stream.{Stream, still_open}
 use Rattle.ff_frame.specs.Items.{with_item, Leads}
@@ -49,6 +49,7 @@ length_from s [] h = omega arith
 length_from s (Audio f ∷ xs) h = let r = length_from (with_item s (Audio f)) xs h.1 in let l = length-append s.items (Audio f ∷ []) in omega arith
 length_from s (Video f ∷ xs) h = let r = length_from (with_item s (Video f)) xs h.1 in let l = length-append s.items (Video f ∷ []) in omega arith
 length_from s (Packet p ∷ xs) h = let r = length_from (with_item s (Packet p)) xs h.1 in let l = length-append s.items (Packet p ∷ []) in omega arith
+length_from s (Trailer t ∷ xs) h = let r = length_from (with_item s (Trailer t)) xs h.1 in let l = length-append s.items (Trailer t ∷ []) in omega arith
 length_from s (End ∷ []) h = omega arith
 length_from s (End ∷ y ∷ ys) h = let shut = h.1.0 in cc
 length_from s (Broken ∷ []) h = omega arith

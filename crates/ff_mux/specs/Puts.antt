@@ -1,5 +1,5 @@
 -- What a writer of framehash text writes of.
-use Rattle.ff_frame.specs.declared.head.StreamHead.{StreamHead}
+use Rattle.ff_values.specs.declared.head.StreamHead.{StreamHead}
 use Rattle.ff_mux.specs.declared.put.HashPut.{HashPut}
 
 -- the head of the stream

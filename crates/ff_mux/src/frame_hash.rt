@@ -3,8 +3,8 @@ ghost use Rattle.std.specs.Prelude.{◌≡◌, ℕ, ◌++◌, IfOk, OnOk, decima
 ghost use Rattle.std.specs.Fmt.{signed_decimal};
 ghost use Rattle.ff_mux.specs.FrameHash.{base_name, codec_name, layout_name, size_name, aspect_name, about, stream_lines, header as header_of, column, digest_text, packet_line as line_of};
 
-use ff_frame::{Codec, Format, Pkt, StreamHead};
 use ff_time::Rational;
+use ff_values::{Codec, Format, Pkt, StreamHead};
 use sha2::{Digest, Sha256};
 use std::alloc::{AllocError, Global};
 

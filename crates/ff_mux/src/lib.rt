@@ -8,6 +8,3 @@ mod frame_hash;
 mod put;
 
 pub use put::HashPut;
-
-#[cfg(test)]
-mod tests;

@@ -1,7 +1,7 @@
 ghost use Rattle.std.specs.Prelude.{◌≡◌, IfOk};
 
 use crate::frame_hash::{header, packet_line};
-use ff_frame::{Pkt, StreamHead};
+use ff_values::{Pkt, StreamHead};
 use std::alloc::{AllocError, Global};
 
 /// The text of a framehash file of one stream, with the SHA-256 of each packet's bytes.

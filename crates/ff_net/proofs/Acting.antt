@@ -19,6 +19,7 @@ module _ {M : Type 0} (in_lanes out_lanes : M → List Lane) (source : M → Opt
   unready node wires faulty = stepped_self in_lanes out_lanes source device failures fault stands (Prepares source fault false true node node) node wires (λ w p. record {
     moves = λ e. absurd (true_not_false (sym e));
     taken = λ v. refl;
+    allows_nothing = λ k d. refl;
     none_before = λ ok. absurd (faulty ok);
     rests = λ n. record { none_due = λ ok. absurd (faulty ok); ungranted = λ ok. absurd (faulty ok) };
   })
@@ -26,8 +27,8 @@ module _ {M : Type 0} (in_lanes out_lanes : M → List Lane) (source : M → Opt
   module _ (granted held : Bool) (K : Type 0) (before after last : Node M) (wires wires' : Wires)
       (ready : Stepped in_lanes out_lanes source device failures fault stands (Prepares source fault granted held before after) before wires after wires)
       (quiet : (a : ℕ → Wire) (p : Past) (b : ℕ → Wire) (q : Past) → Prepares source fault granted held before after a p b q → (k : ℕ) → IsDue fault before a p k → K) where
-    moved_on : (world : ℕ → Wire) (past : Past) → Stepped in_lanes out_lanes source device failures fault stands (Acts (true ≡ true) K) after wires last wires' → Stand wires world → NodeStands source fault stands before world past
-        → Later source fault stands (Turns source fault (granted || true) before last) (in_wires_of before) (out_wires_of before) last wires' world past
+    moved_on : (world : ℕ → Wire) (past : Past) → Stepped in_lanes out_lanes source device failures fault stands (Acts (true ≡ true) K) after wires last wires' → Stand wires world → NodeStands in_lanes source fault stands before world past
+        → Later in_lanes source fault stands (Turns source fault (granted || true) before last) (in_wires_of before) (out_wires_of before) last wires' world past
     moved_on world past act stand was =
         let x = ready.goes world past stand was in
         let y = act.goes x.now x.since x.stand x.fits in
@@ -40,23 +41,25 @@ module _ {M : Type 0} (in_lanes out_lanes : M → List Lane) (source : M → Opt
           so = record {
             moves = λ e. then_moves (in_wires_of before) (out_wires_of before) world x.now y.now past x.since y.since x.course f (y.so.moves refl);
             takes_nothing = λ k d w. y.so.takes_nothing (quiet world past x.now x.since x.so k d) w ∙ x.so.taken w;
+            allows_nothing = λ k d. y.so.allows_nothing ∙ x.so.allows_nothing k d;
             rests = λ n. absurd (true_not_false ((or_false granted true n).1));
           };
         }
 
-    rested : (world : ℕ → Wire) (past : Past) → IsSame after last → wires' ≡ wires → Stand wires world → NodeStands source fault stands before world past
-        → Later source fault stands (Turns source fault (granted || false) before last) (in_wires_of before) (out_wires_of before) last wires' world past
+    rested : (world : ℕ → Wire) (past : Past) → IsSame after last → wires' ≡ wires → Stand wires world → NodeStands in_lanes source fault stands before world past
+        → Later in_lanes source fault stands (Turns source fault (granted || false) before last) (in_wires_of before) (out_wires_of before) last wires' world past
     rested world past same same_wires stand was =
         let x = ready.goes world past stand was in record {
           now = x.now;
           since = x.since;
           stand = subst (λ (w : Wires). Stand w x.now) (sym same_wires) x.stand;
-          fits = same_stands source fault stands after last x.now x.since same x.fits;
+          fits = same_stands in_lanes source fault stands after last x.now x.since same x.fits;
           course = x.course;
           so = record {
             moves = λ e. elim (or_true granted false e) [ inl g ↦ x.so.moves g | inr n ↦ absurd (true_not_false (sym n)) ];
             takes_nothing = λ k d w. x.so.taken w;
-            rests = λ n. rests_same source fault stands after last x.now x.since same (x.so.rests ((or_false granted false n).0));
+            allows_nothing = x.so.allows_nothing;
+            rests = λ n. rests_same in_lanes source fault stands after last x.now x.since same (x.so.rests ((or_false granted false n).0));
           };
         }
 

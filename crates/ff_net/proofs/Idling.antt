@@ -5,21 +5,22 @@ use Rattle.ff_frame.specs.declared.item.Lane.{Lane}
 use Rattle.ff_frame.specs.Stream.{LiesBelow}
 use Rattle.ff_frame.specs.Items.{with_item}
 use Rattle.ff_frame.specs.Order.{below_both, with_item_above}
-use Rattle.ff_frame.specs.Ports.{stream_at, AllBelow, IsClosed}
+use Rattle.ff_frame.specs.Ports.{stream_at, AllBelow, IsClosed, IsMonotone}
 use Rattle.ff_net.specs.declared.fault.Fault.{Fault}
 use Rattle.ff_net.specs.declared.node.Node.{Node}
 use Rattle.ff_net.specs.declared.ports.InPort.{InPort}
 use Rattle.ff_net.specs.declared.ports.OutPort.{OutPort}
 use Rattle.ff_net.specs.declared.wires.Wires.{Wires}
-use Rattle.ff_net.specs.Ways.{Flow}
+use Rattle.ff_net.specs.Ways.{Flow, AreValid}
 use Rattle.ff_net.specs.Pasts.{Past, due}
-use Rattle.ff_net.specs.Laws.{OutputsClose}
+use Rattle.ff_net.specs.Laws.{OutputsClose, NoMatter, Settles}
 use Rattle.ff_net.specs.Ports.{in_at, out_at, AreDone, SomeHeld, NoneHeld}
 use Rattle.ff_net.specs.Worlds.{Wire, IsFull, IsEmpty}
 use Rattle.ff_net.specs.Nodes.{HeldIs, IsSound, IsSame, IsDone, NodeStands}
 use Rattle.ff_net.specs.Steps.{IsDue, Rests}
 use Rattle.ff_net.specs.Turns.{Waits, with_fault, with_items, for_items, IsRefused, full, empty, no_place, IsIdle}
 use Rattle.ff_net.proofs.Flows.{due_meant}
+use Rattle.ff_net.proofs.Matters.{all_close}
 use Rattle.ff_net.proofs.Moments.{with_item_new}
 use Rattle.ff_net.proofs.Changes.{true_not_false, none_held, busy_goes_on}
 
@@ -58,11 +59,11 @@ waits_same fault node node' wires same (with_fault f h) = with_fault (λ ok. f (
 waits_same fault node node' wires same (with_items ok s h) = with_items (same.refused ∙ ok.0, ap fault same.machine ∙ ok.1) (subst (λ (os : List OutPort). SomeHeld os) (sym same.outs) s) (subst (λ (os : List OutPort). (q : ℕ) → q < length os → (out_at os q).done ≡ false → is_some (out_at os q).held ≡ true → IsFull wires (out_at os q).wire) (sym same.outs) h)
 waits_same fault node node' wires same (for_items ok n h) = for_items (same.refused ∙ ok.0, ap fault same.machine ∙ ok.1) (subst (λ (os : List OutPort). NoneHeld os) (sym same.outs) n) (subst (λ (os : List InPort). (q : ℕ) → q < length os → (in_at os q).done ≡ false → IsEmpty wires (in_at os q).wire) (sym same.ins) h)
 
-module _ {M : Type 0} (in_lanes out_lanes : M → List Lane) (source : M → Option ℕ) (fault : M → Option Fault) (stands : M → Past → Type 0) (is_spent : M → ℕ → Type 0)
+module _ {M : Type 0} (in_lanes out_lanes : M → List Lane) (source : M → Option ℕ) (fault : M → Option Fault) (stands : M → Past → Type 0)
     (given : (m : M) (past : Past) → stands m past → AllBelow past.gave (due past)) (is_source : (m : M) (past : Past) → stands m past → past.task.source ≡ is_some (source m))
-    (closed_spent : (m : M) (past : Past) (p : ℕ) → stands m past → p < length (in_lanes m) → IsClosed (stream_at past.got p) → is_spent m p)
-    (all_spent : (m : M) (past : Past) → stands m past → source m ≡ None → ((p : ℕ) → p < length (in_lanes m) → is_spent m p) → OutputsClose (length (out_lanes m)) past)
-    (node : Node M) (wires : Wires) (world : ℕ → Wire) (past : Past) (was : NodeStands source fault stands node world past) (rests : Rests source fault node world past)
+    (valid : (m : M) (past : Past) → stands m past → AreValid (in_lanes m) past.got) (monotone : (m : M) (past : Past) → stands m past → IsMonotone (AreValid (in_lanes m)) past.task.means)
+    (settles : (m : M) (past : Past) → stands m past → source m ≡ None → Settles (in_lanes m) (length (out_lanes m)) past.task.means)
+    (node : Node M) (wires : Wires) (world : ℕ → Wire) (past : Past) (was : NodeStands in_lanes source fault stands node world past) (rests : Rests source fault node world past)
     (ins_count : length node.ins.items ≡ length (in_lanes node.machine)) (outs_count : length node.outs.items ≡ length (out_lanes node.machine))
     (faulty : (IsSound fault node → ⊥) → (p : ℕ) → p < length node.ins.items → (in_at node.ins.items p).done ≡ true) (not_done : IsDone node → ⊥) where
   -- an output that holds an item has one due
@@ -81,21 +82,21 @@ module _ {M : Type 0} (in_lanes out_lanes : M → List Lane) (source : M → Opt
 
   -- a node that is no source, whose inputs are all finished and that holds nothing, has only outputs that are done
   stuck : IsSound fault node → NoneHeld node.outs.items → ((p : ℕ) → p < length node.ins.items → (in_at node.ins.items p).done ≡ true) → source node.machine ≡ None → (q : ℕ) → q < length node.outs.items → (out_at node.outs.items q).done ≡ false → ⊥
-  stuck ok none ins no_source q lt busy = closes (all_spent node.machine past was.machine no_source (λ p plt. spent p (subst (λ (n : ℕ). p < n) (sym ins_count) plt)))
+  stuck ok none ins no_source q lt busy = closes (all_close (in_lanes node.machine) past (length (out_lanes node.machine)) (valid node.machine past was.machine) (monotone node.machine past was.machine) (settles node.machine past was.machine no_source) (λ p plt. over p (subst (λ (n : ℕ). p < n) (sym ins_count) plt)))
     where
       closes : OutputsClose (length (out_lanes node.machine)) past → ⊥
       closes c =
           let meant : due past ≡ past.task.means past.got = due_meant past (is_source node.machine past was.machine ∙ ap (λ (o : Option ℕ). is_some o) no_source) in
           let sent : (world (out_at node.outs.items q).wire).sent ≡ stream_at (past.task.means past.got) q = rests.none_due ok q lt busy (none q lt busy) ∙ ap (λ (ss : List Flow). stream_at ss q) meant in
-          c q (subst (λ (n : ℕ). q < n) outs_count lt) (busy_goes_on source fault stands node world past q was busy) (ap (λ (s : Flow). s.mark) (sym sent) ∙ (was.outs q lt).unclosed busy)
+          c q (subst (λ (n : ℕ). q < n) outs_count lt) (busy_goes_on in_lanes source fault stands node world past q was busy) (ap (λ (s : Flow). s.mark) (sym sent) ∙ (was.outs q lt).unclosed busy)
 
-      spent : (p : ℕ) → p < length node.ins.items → is_spent node.machine p
-      spent p plt =
+      over : (p : ℕ) → p < length node.ins.items → IsClosed (stream_at past.got p) ⊎ NoMatter (in_lanes node.machine) (length (out_lanes node.machine)) past p
+      over p plt =
           let i = was.ins p plt in
           elim (i.reason (ins p plt) ok) [
-            | inl c ↦ closed_spent node.machine past p was.machine (subst (λ (n : ℕ). p < n) ins_count plt) (subst (λ (s : Flow). IsClosed s) (sym (i.exact ok.0)) c)
+            | inl c ↦ inl (subst (λ (s : Flow). IsClosed s) (sym (i.exact ok.0)) c)
             | inr may ↦ elim (may.1) [
-              | inl c ↦ absurd (closes (subst (λ (n : ℕ). OutputsClose n past) outs_count c))
+              | inl h ↦ inr (subst (λ (n : ℕ). NoMatter (in_lanes node.machine) n past p) outs_count h)
               | inr d ↦ absurd (true_not_false (sym (d q lt) ∙ busy))
             ]
           ]

@@ -5,6 +5,7 @@ pub mod Flows
 pub mod Fresh
 pub mod Idling
 pub mod Induction
+pub mod Matters
 pub mod Moments
 pub mod NetSteps
 pub mod PortSteps

@@ -3,9 +3,9 @@ use Rattle.std.proofs.Common.{◌≡◌, ◌≢◌, ℕ, ◌==◌, inl, inr, Boo
 use Rattle.std.proofs.lemmas.Bool.Decides.{nat_tests}
 use mathlib.Core.List.{IsPrefix}
 use Rattle.ff_frame.specs.declared.item.Item.{Item}
-use Rattle.ff_frame.specs.declared.item.Item.TheVariants.{Audio, Video, Packet, End, Broken}
+use Rattle.ff_frame.specs.declared.item.Item.TheVariants.{Audio, Video, Packet, Trailer, End, Broken}
 use Rattle.ff_frame.specs.declared.item.Lane.{Lane}
-use Rattle.ff_frame.specs.declared.item.Ticket.{Ticket}
+use Rattle.ff_values.specs.declared.event.Ticket.{Ticket}
 use Rattle.ff_frame.specs.Stream.{still_open, whole, broken, LiesBelow}
 use Rattle.ff_frame.specs.Items.{with_item}
 use Rattle.ff_frame.specs.Order.{below_self, below_both, below_trans, prefix_self, prefix_trans, prefix_both}
@@ -120,6 +120,7 @@ pub with_item_new : (s : Flow) (x : Item) → s.mark ≡ still_open → with_ite
 with_item_new s (Audio f) o e = longer s.items (Audio f) (ap (λ (t : Flow). t.items) e)
 with_item_new s (Video f) o e = longer s.items (Video f) (ap (λ (t : Flow). t.items) e)
 with_item_new s (Packet p) o e = longer s.items (Packet p) (ap (λ (t : Flow). t.items) e)
+with_item_new s (Trailer x) o e = longer s.items (Trailer x) (ap (λ (t : Flow). t.items) e)
 with_item_new s End o e = let m : whole ≡ s.mark = ap (λ (t : Flow). t.mark) e in cc
 with_item_new s Broken o e = let m : broken ≡ s.mark = ap (λ (t : Flow). t.mark) e in cc
 
@@ -168,7 +169,7 @@ module _ {M : Type 0} (in_lanes out_lanes : M → List Lane) (source : M → Opt
 
   -- the same, where what holds between depends on what is behind the node there
   pub stepped_through : (how how' how'' : (ℕ → Wire) → Past → (ℕ → Wire) → Past → Type 0) (node : Node M) (wires : Wires) (node' : Node M) (wires' : Wires) (node'' : Node M) (wires'' : Wires)
-      → ((a : ℕ → Wire) (p : Past) (b : ℕ → Wire) (q : Past) (c : ℕ → Wire) (r : Past) → NodeStands source fault stands node a p → NodeStands source fault stands node' b q → Course (in_wires_of node) (out_wires_of node) a b p q → Course (in_wires_of node) (out_wires_of node) b c q r → how a p b q → how' b q c r → how'' a p c r)
+      → ((a : ℕ → Wire) (p : Past) (b : ℕ → Wire) (q : Past) (c : ℕ → Wire) (r : Past) → NodeStands in_lanes source fault stands node a p → NodeStands in_lanes source fault stands node' b q → Course (in_wires_of node) (out_wires_of node) a b p q → Course (in_wires_of node) (out_wires_of node) b c q r → how a p b q → how' b q c r → how'' a p c r)
       → Stepped in_lanes out_lanes source device failures fault stands how node wires node' wires' → Stepped in_lanes out_lanes source device failures fault stands how' node' wires' node'' wires'' → Stepped in_lanes out_lanes source device failures fault stands how'' node wires node'' wires''
   stepped_through how how' how'' node wires node' wires' node'' wires'' join a b = record {
     ins_same = b.ins_same ∙ a.ins_same;

@@ -22,15 +22,15 @@ use Rattle.ff_net.proofs.PortSteps.{in_keep, out_keep, out_wire_in, in_wire_in}
 use Rattle.ff_net.proofs.Rounds.{shaped_later}
 
 -- a node whose own wires didn't change stands as it did
-pub other_stands : {M : Type 0} (source : M → Option ℕ) (fault : M → Option Fault) (stands : M → Past → Type 0) (node : Node M) (ins outs : List ℕ) (world world' : ℕ → Wire) (past mine mine' : Past)
+pub other_stands : {M : Type 0} (in_lanes : M → List Lane) (source : M → Option ℕ) (fault : M → Option Fault) (stands : M → Past → Type 0) (node : Node M) (ins outs : List ℕ) (world world' : ℕ → Wire) (past mine mine' : Past)
     → Course ins outs world world' mine mine' → ((w : ℕ) → IsIn w (in_wires_of node) → IsIn w ins → ⊥) → ((w : ℕ) → IsIn w (out_wires_of node) → IsIn w outs → ⊥)
-    → NodeStands source fault stands node world past → NodeStands source fault stands node world' past
-other_stands source fault stands node ins outs world world' past mine mine' f ins_apart outs_apart was = record {
+    → NodeStands in_lanes source fault stands node world past → NodeStands in_lanes source fault stands node world' past
+other_stands in_lanes source fault stands node ins outs world world' past mine mine' f ins_apart outs_apart was = record {
   machine = was.machine;
   ins = λ q lt.
       let i : InPort = in_at node.ins.items q in
       let mine = ins_apart i.wire (in_wire_in node.ins.items q i.wire lt refl) in
-      in_keep i (world i.wire) (world' i.wire) (stream_at past.got q) node.refused node.refused (IsSound fault node) (IsSound fault node) (MayClose node past) (MayClose node past) (f.taken i.wire mine) (f.finished i.wire mine) (λ r. r) (λ s. s) (λ m. m) (was.ins q lt);
+      in_keep i (world i.wire) (world' i.wire) (stream_at past.got q) node.refused node.refused (IsSound fault node) (IsSound fault node) (MayClose in_lanes node past q) (MayClose in_lanes node past q) (f.taken i.wire mine) (f.finished i.wire mine) (λ r. r) (λ s. s) (λ m. m) (was.ins q lt);
   outs = λ q lt.
       let o : OutPort = out_at node.outs.items q in
       out_keep o (world o.wire) (world' o.wire) (stream_at past.gave q) (IsIn q past.stopped) (IsIn q past.stopped) (IsSound fault node) (IsSound fault node) (f.sent o.wire (outs_apart o.wire (out_wire_in node.outs.items q o.wire lt refl))) (f.stays_finished o.wire) (λ s. s) (λ s. s) (was.outs q lt);
@@ -88,23 +88,23 @@ module _ {M : Type 0} (in_lanes out_lanes : M → List Lane) (source : M → Opt
         outs_apart = λ i j w d ilt jlt a b. shaped.outs_apart i j w d (subst (λ (m : ℕ). i < m) len ilt) (subst (λ (m : ℕ). j < m) len jlt) (subst (λ (ws : List ℕ). IsIn w ws) (outs_at i d) a) (subst (λ (ws : List ℕ). IsIn w ws) (outs_at j d) b);
       }
 
-  pub net_stands_set : (tasks : ℕ → Task) → NetStands source fault stands tasks nodes wires → NetStands source fault stands tasks (slice_set nodes k new) wires'
+  pub net_stands_set : (tasks : ℕ → Task) → NetStands in_lanes source fault stands tasks nodes wires → NetStands in_lanes source fault stands tasks (slice_set nodes k new) wires'
   net_stands_set tasks net =
       let len : length (slice_set nodes k new) ≡ length nodes = simp length-set in
       let mine = net.each k old there in
-      let mine' : NodeStands source fault stands old net.world mine.0 = subst (λ (n : Node M). NodeStands source fault stands n net.world mine.0) (sym is) mine.1 in
+      let mine' : NodeStands in_lanes source fault stands old net.world mine.0 = subst (λ (n : Node M). NodeStands in_lanes source fault stands n net.world mine.0) (sym is) mine.1 in
       let moved = step.goes net.world mine.0 net.stand mine' in record {
         world = moved.now;
         stand = moved.stand;
         each = λ j d lt.
             let lt' : j < length nodes = subst (λ (m : ℕ). j < m) len lt in
             elim (same_or_not j k) [
-              | inl e ↦ (moved.since, subst (λ (n : Node M). NodeStands source fault stands n moved.now moved.since) (sym (node_at j d e)) moved.fits, moved.course.task ∙ (mine.2 ∙ ap tasks (sym e)))
+              | inl e ↦ (moved.since, subst (λ (n : Node M). NodeStands in_lanes source fault stands n moved.now moved.since) (sym (node_at j d e)) moved.fits, moved.course.task ∙ (mine.2 ∙ ap tasks (sym e)))
               | inr n ↦
                   let his = net.each j d lt' in (
                     his.0,
-                    subst (λ (m : Node M). NodeStands source fault stands m moved.now his.0) (sym (get_or-set_other nodes k j new d n))
-                        (other_stands source fault stands (slice_index_or nodes j d) (in_wires_of old) (out_wires_of old) net.world moved.now his.0 mine.0 moved.since moved.course
+                    subst (λ (m : Node M). NodeStands in_lanes source fault stands m moved.now his.0) (sym (get_or-set_other nodes k j new d n))
+                        (other_stands in_lanes source fault stands (slice_index_or nodes j d) (in_wires_of old) (out_wires_of old) net.world moved.now his.0 mine.0 moved.since moved.course
                         (λ w a b. n (shaped.ins_apart j k w d lt' there a (subst (λ (m : Node M). IsIn w (in_wires_of m)) (same_old d) b)))
                         (λ w a b. n (shaped.outs_apart j k w d lt' there a (subst (λ (m : Node M). IsIn w (out_wires_of m)) (same_old d) b)))
                         his.1),

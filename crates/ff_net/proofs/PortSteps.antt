@@ -131,8 +131,8 @@ out_keep port wire wire' gave stopped stopped' sound sound' same stays stops bac
   done = λ d. elim (o.done d) [ inl c ↦ inl (λ e. c (sym (ap (λ (s : Flow). s.mark) same) ∙ e)) | inr f ↦ inr (stays f.0, stops f.1) ];
 }
 
-module _ {M : Type 0} (source : M → Option ℕ) (fault : M → Option Fault) (stands : M → Past → Type 0) (node node' : Node M) (world world' : ℕ → Wire) (past past' : Past) (p : ℕ)
-    (was : NodeStands source fault stands node world past) (now : stands node'.machine past') (back : IsSound fault node' → IsSound fault node) (may : MayClose node past → MayClose node' past')
+module _ {M : Type 0} (in_lanes : M → List Lane) (source : M → Option ℕ) (fault : M → Option Fault) (stands : M → Past → Type 0) (node node' : Node M) (world world' : ℕ → Wire) (past past' : Past) (p : ℕ)
+    (was : NodeStands in_lanes source fault stands node world past) (now : stands node'.machine past') (back : IsSound fault node' → IsSound fault node) (may : (q : ℕ) → MayClose in_lanes node past q → MayClose in_lanes node' past' q)
     (allowed : past'.allowed ≡ past.allowed) (same_place : node'.place ≡ node.place) (same_source : source node'.machine ≡ source node.machine) (fine : node'.refused ≡ false → node.refused ≡ false)
     (stopped_grows : (q : ℕ) → IsIn q past.stopped → IsIn q past'.stopped) where
   allowed_now : past'.allowed ≡ tickets (source node'.machine) node'.place
@@ -144,7 +144,7 @@ module _ {M : Type 0} (source : M → Option ℕ) (fault : M → Option Fault) (
       → ((q : ℕ) → q < length node.outs.items → q ≢ p → (world' (out_at node.outs.items q).wire).sent ≡ (world (out_at node.outs.items q).wire).sent)
       → OutStands port (world' port.wire) (stream_at past'.gave p) (IsIn p past'.stopped) (IsSound fault node')
       → ((q : ℕ) → IsIn q past'.stopped → q ≢ p → IsIn q past.stopped) → (IsIn p past'.stopped → port.done ≡ true)
-      → NodeStands source fault stands node' world' past'
+      → NodeStands in_lanes source fault stands node' world' past'
   out_step port same_ins outs_set there got taken finished gave others here stopped_other stopped_here =
       let at : (q : ℕ) → out_at node'.outs.items q ≡ out_at (slice_set node.outs.items p port) q = λ q. ap (λ (os : List OutPort). out_at os q) outs_set in
       let at_p : out_at node'.outs.items p ≡ port = at p ∙ get_or-set_same node.outs.items p port _ there in
@@ -153,9 +153,9 @@ module _ {M : Type 0} (source : M → Option ℕ) (fault : M → Option Fault) (
         machine = now;
         ins = λ q lt.
             let i : InPort = in_at node.ins.items q in
-            subst (λ (is : List InPort). InStands (in_at is q) (world' (in_at is q).wire) (stream_at past'.got q) node'.refused (IsSound fault node') (MayClose node' past')) (sym same_ins)
-            (subst (λ (ss : List Flow). InStands i (world' i.wire) (stream_at ss q) node'.refused (IsSound fault node') (MayClose node' past')) (sym got)
-            (in_keep i (world i.wire) (world' i.wire) (stream_at past.got q) node.refused node'.refused (IsSound fault node) (IsSound fault node') (MayClose node past) (MayClose node' past') (taken i.wire) (finished i.wire) fine back may (was.ins q (subst (λ (is : List InPort). q < length is) same_ins lt))));
+            subst (λ (is : List InPort). InStands (in_at is q) (world' (in_at is q).wire) (stream_at past'.got q) node'.refused (IsSound fault node') (MayClose in_lanes node' past' q)) (sym same_ins)
+            (subst (λ (ss : List Flow). InStands i (world' i.wire) (stream_at ss q) node'.refused (IsSound fault node') (MayClose in_lanes node' past' q)) (sym got)
+            (in_keep i (world i.wire) (world' i.wire) (stream_at past.got q) node.refused node'.refused (IsSound fault node) (IsSound fault node') (MayClose in_lanes node past q) (MayClose in_lanes node' past' q) (taken i.wire) (finished i.wire) fine back (may q) (was.ins q (subst (λ (is : List InPort). q < length is) same_ins lt))));
         outs = λ q lt. elim (same_or_not q p) [
           | inl e ↦ subst (λ (r : ℕ). OutStands (out_at node'.outs.items r) (world' (out_at node'.outs.items r).wire) (stream_at past'.gave r) (IsIn r past'.stopped) (IsSound fault node')) (sym e)
               (subst (λ (o : OutPort). OutStands o (world' o.wire) (stream_at past'.gave p) (IsIn p past'.stopped) (IsSound fault node')) (sym at_p) here)
@@ -178,8 +178,8 @@ module _ {M : Type 0} (source : M → Option ℕ) (fault : M → Option Fault) (
   pub in_step : (port : InPort) → node'.outs.items ≡ node.outs.items → node'.ins.items ≡ slice_set node.ins.items p port → p < length node.ins.items → past'.gave ≡ past.gave → past'.stopped ≡ past.stopped
       → ((q : ℕ) → q ≢ p → stream_at past'.got q ≡ stream_at past.got q) → ((v : ℕ) → (world' v).sent ≡ (world v).sent) → ((v : ℕ) → (world v).finished ≡ true → (world' v).finished ≡ true)
       → ((q : ℕ) → q < length node.ins.items → q ≢ p → ((world' (in_at node.ins.items q).wire).taken ≡ (world (in_at node.ins.items q).wire).taken) × ((world' (in_at node.ins.items q).wire).finished ≡ (world (in_at node.ins.items q).wire).finished))
-      → InStands port (world' port.wire) (stream_at past'.got p) node'.refused (IsSound fault node') (MayClose node' past')
-      → NodeStands source fault stands node' world' past'
+      → InStands port (world' port.wire) (stream_at past'.got p) node'.refused (IsSound fault node') (MayClose in_lanes node' past' p)
+      → NodeStands in_lanes source fault stands node' world' past'
   in_step port same_outs ins_set there gave stopped got sent finished others here =
       let at : (q : ℕ) → in_at node'.ins.items q ≡ in_at (slice_set node.ins.items p port) q = λ q. ap (λ (os : List InPort). in_at os q) ins_set in
       let at_p : in_at node'.ins.items p ≡ port = at p ∙ get_or-set_same node.ins.items p port _ there in
@@ -187,15 +187,15 @@ module _ {M : Type 0} (source : M → Option ℕ) (fault : M → Option Fault) (
       let len : length node'.ins.items ≡ length node.ins.items = ap length ins_set ∙ simp length-set in record {
         machine = now;
         ins = λ q lt. elim (same_or_not q p) [
-          | inl e ↦ subst (λ (r : ℕ). InStands (in_at node'.ins.items r) (world' (in_at node'.ins.items r).wire) (stream_at past'.got r) node'.refused (IsSound fault node') (MayClose node' past')) (sym e)
-              (subst (λ (i : InPort). InStands i (world' i.wire) (stream_at past'.got p) node'.refused (IsSound fault node') (MayClose node' past')) (sym at_p) here)
+          | inl e ↦ subst (λ (r : ℕ). InStands (in_at node'.ins.items r) (world' (in_at node'.ins.items r).wire) (stream_at past'.got r) node'.refused (IsSound fault node') (MayClose in_lanes node' past' r)) (sym e)
+              (subst (λ (i : InPort). InStands i (world' i.wire) (stream_at past'.got p) node'.refused (IsSound fault node') (MayClose in_lanes node' past' p)) (sym at_p) here)
           | inr n ↦
               let i : InPort = in_at node.ins.items q in
               let qlt : q < length node.ins.items = subst (λ (k : ℕ). q < k) len lt in
               let o = others q qlt n in
-              subst (λ (r : InPort). InStands r (world' r.wire) (stream_at past'.got q) node'.refused (IsSound fault node') (MayClose node' past')) (sym (at_q q n))
-              (subst (λ (s : Flow). InStands i (world' i.wire) s node'.refused (IsSound fault node') (MayClose node' past')) (sym (got q n))
-              (in_keep i (world i.wire) (world' i.wire) (stream_at past.got q) node.refused node'.refused (IsSound fault node) (IsSound fault node') (MayClose node past) (MayClose node' past') o.0 o.1 fine back may (was.ins q qlt)))
+              subst (λ (r : InPort). InStands r (world' r.wire) (stream_at past'.got q) node'.refused (IsSound fault node') (MayClose in_lanes node' past' q)) (sym (at_q q n))
+              (subst (λ (s : Flow). InStands i (world' i.wire) s node'.refused (IsSound fault node') (MayClose in_lanes node' past' q)) (sym (got q n))
+              (in_keep i (world i.wire) (world' i.wire) (stream_at past.got q) node.refused node'.refused (IsSound fault node) (IsSound fault node') (MayClose in_lanes node past q) (MayClose in_lanes node' past' q) o.0 o.1 fine back (may q) (was.ins q qlt)))
         ];
         outs = λ q lt.
             let o : OutPort = out_at node.outs.items q in

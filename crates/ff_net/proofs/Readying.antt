@@ -26,7 +26,7 @@ some_not_none ports s n =
     let none : (out_at ports s.place).held ≡ None = n s.place s.there s.goes_on in
     true_not_false (sym s.held ∙ ap (λ (h : Option Item). is_some h) none)
 
-module _ {M : Type 0} (source : M → Option ℕ) (fault : M → Option Fault) (stands : M → Past → Type 0) where
+module _ {M : Type 0} (in_lanes : M → List Lane) (source : M → Option ℕ) (fault : M → Option Fault) (stands : M → Past → Type 0) where
   -- after the outputs were filled, none is due before where none holds anything
   pub none_before : (before filled : Node M) (held : Bool) (old new : ℕ → Wire) (past since : Past) → (IsSound fault filled → IsSound fault before) → length filled.outs.items ≡ length before.outs.items → out_wires_of filled ≡ out_wires_of before → ((q : ℕ) → (out_at filled.outs.items q).done ≡ (out_at before.outs.items q).done) → NoneHeld filled.outs.items
       → Readies fault (λ q. q < length filled.outs.items) held filled old past new since → IsSound fault filled → (q : ℕ) → IsDue fault before old past q → ⊥
@@ -37,7 +37,7 @@ module _ {M : Type 0} (source : M → Option ℕ) (fault : M → Option Fault) (
       d.unsent (back ok) (subst (λ (w : ℕ). (old w).sent ≡ stream_at (due past) q) (wire_kept before.outs.items filled.outs.items wires q) given)
 
   -- a pending output goes on
-  pub pending_busy : (node : Node M) (world : ℕ → Wire) (past : Past) (n q : ℕ) → NodeStands source fault stands node world past → IsSound fault node → length node.outs.items ≡ n → IsPending n past q → (q < length node.outs.items) × ((out_at node.outs.items q).done ≡ false)
+  pub pending_busy : (node : Node M) (world : ℕ → Wire) (past : Past) (n q : ℕ) → NodeStands in_lanes source fault stands node world past → IsSound fault node → length node.outs.items ≡ n → IsPending n past q → (q < length node.outs.items) × ((out_at node.outs.items q).done ≡ false)
   pending_busy node world past n q was ok count p =
       let lt : q < length node.outs.items = subst (λ (k : ℕ). q < k) (sym count) p.there in
       (lt, pick (out_at node.outs.items q).done refl lt)
@@ -61,7 +61,7 @@ module _ {M : Type 0} (source : M → Option ℕ) (fault : M → Option Fault) (
       }
 
   module _ (out_lanes : M → List Lane) (holds : M → Type 0) (used : (m : M) (past : Past) (q : ℕ) → stands m past → IsSome (source m) → fault m ≡ None → IsPending (length (out_lanes m)) past q → AllAsked (length (out_lanes m)) past → holds m → ⊥) where
-    no_ticket : (node : Node M) (world : ℕ → Wire) (past : Past) (old : ℕ → Wire) (before : Past) → NodeStands source fault stands node world past → IsSound fault node → length node.outs.items ≡ length (out_lanes node.machine) → NoneHeld node.outs.items → Readies fault (λ q. q < length node.outs.items) false node old before world past
+    no_ticket : (node : Node M) (world : ℕ → Wire) (past : Past) (old : ℕ → Wire) (before : Past) → NodeStands in_lanes source fault stands node world past → IsSound fault node → length node.outs.items ≡ length (out_lanes node.machine) → NoneHeld node.outs.items → Readies fault (λ q. q < length node.outs.items) false node old before world past
         → (q : ℕ) → q < length node.outs.items → (out_at node.outs.items q).done ≡ false → IsSome (source node.machine) → holds node.machine → ⊥
     no_ticket node world past old before was ok count none f q lt busy is held =
         let o = was.outs q lt in
@@ -69,7 +69,7 @@ module _ {M : Type 0} (source : M → Option ℕ) (fault : M → Option Fault) (
         used node.machine past q was.machine is ok.1
         (record {
           there = subst (λ (n : ℕ). q < n) count lt;
-          goes_on = busy_goes_on source fault stands node world past q was busy;
+          goes_on = busy_goes_on in_lanes source fault stands node world past q was busy;
           unclosed = ap (λ (s : Flow). s.mark) (sym same) ∙ o.unclosed busy;
         })
         (λ k pending. let b = pending_busy node world past (length (out_lanes node.machine)) k was ok count pending in f.asked ok refl k b.0 b.1) held
@@ -78,7 +78,7 @@ module _ {M : Type 0} (source : M → Option ℕ) (fault : M → Option Fault) (
     some_source None = inl refl
     some_source (Some s) = inr refl
 
-    pub ungranted : (node : Node M) (world : ℕ → Wire) (past : Past) (old : ℕ → Wire) (before : Past) (held : Bool) → (held ≡ true → SomeHeld node.outs.items) → NodeStands source fault stands node world past → IsSound fault node → length node.outs.items ≡ length (out_lanes node.machine) → NoneHeld node.outs.items → Readies fault (λ q. q < length node.outs.items) held node old before world past
+    pub ungranted : (node : Node M) (world : ℕ → Wire) (past : Past) (old : ℕ → Wire) (before : Past) (held : Bool) → (held ≡ true → SomeHeld node.outs.items) → NodeStands in_lanes source fault stands node world past → IsSound fault node → length node.outs.items ≡ length (out_lanes node.machine) → NoneHeld node.outs.items → Readies fault (λ q. q < length node.outs.items) held node old before world past
         → (source node.machine ≡ None) ⊎ holds node.machine ⊎ (2 ^ 64 - 1 ≤ node.place) → (q : ℕ) → q < length node.outs.items → (out_at node.outs.items q).done ≡ false → (source node.machine ≡ None) ⊎ (2 ^ 64 - 1 ≤ node.place)
     ungranted node world past old before true some was ok count none f back q lt busy = absurd (some_not_none node.outs.items (some refl) none)
     ungranted node world past old before false some was ok count none f back q lt busy =

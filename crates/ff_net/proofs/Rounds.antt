@@ -30,6 +30,7 @@ pub acts_join : (ins outs : List ℕ) (m n : Bool) (a b c : ℕ → Wire) (p q r
 acts_join ins outs m n a b c p q r k l x y f s = record {
   moves = λ e. elim (or_true m n e) [ inl t ↦ moves_then ins outs a b c p q r x y (f.moves t) | inr t ↦ then_moves ins outs a b c p q r x y (s.moves t) ];
   takes_nothing = λ t w. s.takes_nothing t.1 w ∙ f.takes_nothing t.0 w;
+  allows_nothing = s.allows_nothing ∙ f.allows_nothing;
 }
 
 pub same_self : {M : Type 0} (node : Node M) → IsSame node node

@@ -1,28 +1,24 @@
 -- What is sent and fed is valid, and what was closed by what was fed stays closed.
-use Rattle.std.proofs.Common.{◌≡◌, ℕ, false, ◌<◌, inl, inr, List, length, refl, sym, subst, Option, Some}
+use Rattle.std.proofs.Common.{◌≡◌, ℕ, false, ◌<◌, List, length, refl, sym, subst, Option, Some}
 use Rattle.ff_frame.specs.declared.item.Item.{Item}
 use Rattle.ff_frame.specs.declared.item.Item.TheVariants.{Broken}
 use Rattle.ff_frame.specs.declared.item.Lane.{Lane}
-use Rattle.ff_frame.specs.Stream.{still_open}
 use Rattle.ff_frame.specs.Items.{with_item}
-use Rattle.ff_frame.specs.Order.{closed_below}
-use Rattle.ff_frame.specs.Ports.{stream_at, AllBelow, IsClosed, IsMonotone}
+use Rattle.ff_frame.specs.Ports.{stream_at, AllBelow}
 use Rattle.ff_net.specs.declared.fault.Fault.{Fault}
-use Rattle.ff_net.specs.declared.ports.OutPort.{OutPort}
 use Rattle.ff_net.specs.declared.node.Node.{Node}
 use Rattle.ff_net.specs.declared.wires.Wires.{Wires}
 use Rattle.ff_net.specs.Ways.{Flow, lane_at, IsValidOn, AreValid}
 use Rattle.ff_net.specs.Pasts.{Past, due, fed}
-use Rattle.ff_net.specs.Laws.{OutputsClose}
-use Rattle.ff_net.specs.Ports.{in_at, out_at, AreDone}
+use Rattle.ff_net.specs.Ports.{in_at, out_at}
 use Rattle.ff_net.specs.Worlds.{Wire, Stand, lanes_of, take_on}
-use Rattle.ff_net.specs.Nodes.{HeldIs, MayClose, NodeStands, HaveLanes, in_wires_of, out_wires_of}
-use Rattle.ff_net.proofs.Flows.{valid_on_below, broken_valid_on, given_below, fed_valid, fed_above}
+use Rattle.ff_net.specs.Nodes.{HeldIs, NodeStands, HaveLanes, in_wires_of, out_wires_of}
+use Rattle.ff_net.proofs.Flows.{valid_on_below, broken_valid_on, given_below, fed_valid}
 use Rattle.ff_net.proofs.PortSteps.{out_lane, in_lane, out_wire_there}
 use Rattle.ff_net.proofs.Moments.{with_wire_same}
 
-module _ {M : Type 0} (source : M → Option ℕ) (fault : M → Option Fault) (stands : M → Past → Type 0) (node : Node M) (wires : Wires) (world : ℕ → Wire) (past : Past) (p : ℕ) (ins outs : List Lane)
-    (stand : Stand wires world) (was : NodeStands source fault stands node world past) (valid : AreValid ins past.got) (keeps : (ss : List Flow) → AreValid ins ss → AreValid outs (past.task.means ss)) where
+module _ {M : Type 0} (in_lanes : M → List Lane) (source : M → Option ℕ) (fault : M → Option Fault) (stands : M → Past → Type 0) (node : Node M) (wires : Wires) (world : ℕ → Wire) (past : Past) (p : ℕ) (ins outs : List Lane)
+    (stand : Stand wires world) (was : NodeStands in_lanes source fault stands node world past) (valid : AreValid ins past.got) (keeps : (ss : List Flow) → AreValid ins ss → AreValid outs (past.task.means ss)) where
   pub sent_valid : (x : Item) → AllBelow past.gave (due past) → HaveLanes (out_wires_of node) outs (lanes_of wires) → p < length node.outs.items → (out_at node.outs.items p).done ≡ false → (out_at node.outs.items p).held ≡ Some x
       → IsValidOn (lane_at (lanes_of wires) (out_at node.outs.items p).wire) (with_item (world (out_at node.outs.items p).wire).sent x)
   sent_valid x given shaped there busy held =
@@ -44,18 +40,3 @@ module _ {M : Type 0} (source : M → Option ℕ) (fault : M → Option Fault) (
       let on_wire : IsValidOn (lane_at (lanes_of wires) w) (with_item (world w).taken x) = subst (λ (ls : List Lane). IsValidOn (lane_at ls w) (with_item (world w).taken x)) same (subst (λ (u : Wire). IsValidOn (lane_at (lanes_of wires') w) u.taken) at now) in
       let on_port : IsValidOn (lane_at ins p) (with_item (world w).taken x) = subst (λ (l : Option Lane). IsValidOn l (with_item (world w).taken x)) (in_lane node.ins.items ins (lanes_of wires) shaped p there) on_wire in
       fed_valid ins past p x valid (subst (λ (s : Flow). IsValidOn (lane_at ins p) (with_item s x)) (sym got) on_port)
-
--- outputs that were closed by what was fed stay closed
-pub close_fed : (n : ℕ) (past : Past) (p : ℕ) (x : Item) (ins : List Lane) → IsMonotone (AreValid ins) past.task.means → AreValid ins past.got → AreValid ins (fed past p x).got → (stream_at past.got p).mark ≡ still_open → OutputsClose n past → OutputsClose n (fed past p x)
-close_fed n past p x ins mono valid valid' o c q lt goes =
-    let below = mono past.got (fed past p x).got valid valid' (fed_above past p x o) q in
-    subst IsClosed (closed_below (stream_at (past.task.means past.got) q) (stream_at (past.task.means (fed past p x).got) q) below (c q lt goes)) (c q lt goes)
-
-pub may_fed : {M : Type 0} (node node' : Node M) (past since : Past) → node'.outs.items ≡ node.outs.items → ((n : ℕ) → OutputsClose n past → OutputsClose n since) → MayClose node past → MayClose node' since
-may_fed node node' past since same goes m = (
-  subst (λ (os : List OutPort). 0 < length os) (sym same) m.0,
-  elim (m.1) [
-    | inl c ↦ inl (subst (λ (os : List OutPort). OutputsClose (length os) since) (sym same) (goes (length node.outs.items) c))
-    | inr d ↦ inr (subst (λ (os : List OutPort). AreDone os) (sym same) d)
-  ],
-)

@@ -19,8 +19,8 @@ use Rattle.ff_net.proofs.Readying.{rests_same}
 module _ {M : Type 0} (in_lanes out_lanes : M → List Lane) (source : M → Option ℕ) (device : M → Option (List ℕ)) (failures : M → ℕ) (fault : M → Option Fault) (stands : M → Past → Type 0) (acted : Bool) (turn : Turn) (before mid last : Node M) (wires wires' wires'' : Wires)
     (act : Stepped in_lanes out_lanes source device failures fault stands (Turns source fault acted before mid) before wires mid wires') where
   module _ (moved : turn ≡ Moved → (acted || true) ≡ true) (not_yet : turn ≡ NotYet → (acted || true) ≡ false) where
-    closing : Stepped in_lanes out_lanes source device failures fault stands (Acts (true ≡ true) (Unit {0})) mid wires' last wires'' → (world : ℕ → Wire) (past : Past) → Stand wires world → NodeStands source fault stands before world past
-        → Later source fault stands (Answers fault turn before last wires'') (in_wires_of before) (out_wires_of before) last wires'' world past
+    closing : Stepped in_lanes out_lanes source device failures fault stands (Acts (true ≡ true) (Unit {0})) mid wires' last wires'' → (world : ℕ → Wire) (past : Past) → Stand wires world → NodeStands in_lanes source fault stands before world past
+        → Later in_lanes source fault stands (Answers fault turn before last wires'') (in_wires_of before) (out_wires_of before) last wires'' world past
     closing close world past stand was =
         let x = act.goes world past stand was in
         let y = close.goes x.now x.since x.stand x.fits in
@@ -34,15 +34,16 @@ module _ {M : Type 0} (in_lanes out_lanes : M → List Lane) (source : M → Opt
             moved = λ e. then_moves (in_wires_of before) (out_wires_of before) world x.now y.now past x.since y.since x.course f (y.so.moves refl);
             not_yet = λ e. absurd (true_not_false ((or_false acted true (not_yet e)).1));
             takes_nothing = λ k d w. y.so.takes_nothing tt w ∙ x.so.takes_nothing k d w;
+            allows_nothing = λ k d. y.so.allows_nothing ∙ x.so.allows_nothing k d;
           };
         }
 
-  module _ (moved : turn ≡ Moved → (acted || false) ≡ true) (idle : turn ≡ NotYet → (world : ℕ → Wire) (past : Past) → NodeStands source fault stands last world past → (acted ≡ false → Rests source fault last world past) → IsIdle fault last wires'' world past) where
-    resting : IsSame mid last → wires'' ≡ wires' → (world : ℕ → Wire) (past : Past) → Stand wires world → NodeStands source fault stands before world past
-        → Later source fault stands (Answers fault turn before last wires'') (in_wires_of before) (out_wires_of before) last wires'' world past
+  module _ (moved : turn ≡ Moved → (acted || false) ≡ true) (idle : turn ≡ NotYet → (world : ℕ → Wire) (past : Past) → NodeStands in_lanes source fault stands last world past → (acted ≡ false → Rests source fault last world past) → IsIdle fault last wires'' world past) where
+    resting : IsSame mid last → wires'' ≡ wires' → (world : ℕ → Wire) (past : Past) → Stand wires world → NodeStands in_lanes source fault stands before world past
+        → Later in_lanes source fault stands (Answers fault turn before last wires'') (in_wires_of before) (out_wires_of before) last wires'' world past
     resting same same_wires world past stand was =
         let x = act.goes world past stand was in
-        let fits = same_stands source fault stands mid last x.now x.since same x.fits in record {
+        let fits = same_stands in_lanes source fault stands mid last x.now x.since same x.fits in record {
           now = x.now;
           since = x.since;
           stand = subst (λ (w : Wires). Stand w x.now) (sym same_wires) x.stand;
@@ -50,13 +51,14 @@ module _ {M : Type 0} (in_lanes out_lanes : M → List Lane) (source : M → Opt
           course = x.course;
           so = record {
             moved = λ e. elim (or_true acted false (moved e)) [ inl t ↦ x.so.moves t | inr n ↦ absurd (true_not_false (sym n)) ];
-            not_yet = λ e. idle e x.now x.since fits (λ n. rests_same source fault stands mid last x.now x.since same (x.so.rests n));
+            not_yet = λ e. idle e x.now x.since fits (λ n. rests_same in_lanes source fault stands mid last x.now x.since same (x.so.rests n));
             takes_nothing = x.so.takes_nothing;
+            allows_nothing = x.so.allows_nothing;
           };
         }
 
   pub turn_answers : (closed : Bool) → (turn ≡ Moved → (acted || closed) ≡ true) → (turn ≡ NotYet → (acted || closed) ≡ false) → Stepped in_lanes out_lanes source device failures fault stands (Acts (closed ≡ true) (Unit {0})) mid wires' last wires'' → (closed ≡ false → IsSame mid last × (wires'' ≡ wires'))
-      → (closed ≡ false → turn ≡ NotYet → (world : ℕ → Wire) (past : Past) → NodeStands source fault stands last world past → (acted ≡ false → Rests source fault last world past) → IsIdle fault last wires'' world past)
+      → (closed ≡ false → turn ≡ NotYet → (world : ℕ → Wire) (past : Past) → NodeStands in_lanes source fault stands last world past → (acted ≡ false → Rests source fault last world past) → IsIdle fault last wires'' world past)
       → Stepped in_lanes out_lanes source device failures fault stands (Answers fault turn before last wires'') before wires last wires''
   turn_answers true moved not_yet close same idle = record {
     ins_same = close.ins_same ∙ act.ins_same;

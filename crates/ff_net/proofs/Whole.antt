@@ -13,7 +13,7 @@ use Rattle.ff_net.specs.Ways.{Flow, lane_at, IsValidOn, AreValid}
 use Rattle.ff_net.specs.Pasts.{Past, Task, IsIn, due}
 use Rattle.ff_net.specs.Laws.{IsOfInputs, CauseStays}
 use Rattle.ff_net.specs.Ports.{in_at, out_at, in_wires, out_wires}
-use Rattle.ff_net.specs.Worlds.{Wire, Stand, lanes_of}
+use Rattle.ff_net.specs.Worlds.{Wire, lanes_of}
 use Rattle.ff_net.specs.Nodes.{FedAllButOne, NodeStands, IsSound, IsDone, HaveLanes, in_wires_of, out_wires_of}
 use Rattle.ff_net.specs.Nets.{Part, IsUpward, solve}
 use Rattle.ff_net.specs.Serial.{AreShaped, NetStands, Moment, part_of, parts_of, Settled}
@@ -77,7 +77,7 @@ module _ {M : Type 0} (in_lanes out_lanes : M → List Lane) (source : M → Opt
     taken_valid : (w : ℕ) → IsValidOn (lane_at lanes w) (world w).taken
     taken_valid w = valid_on_below (lane_at lanes w) (world w).taken (world w).sent (ordered w) (valid_sent w)
 
-    lawful_at : (node : Node M) (past : Past) → HaveLanes (in_wires_of node) (in_lanes node.machine) lanes → HaveLanes (out_wires_of node) (out_lanes node.machine) lanes → NodeStands source fault stands node world past → IsLawful lanes world (part_of in_lanes out_lanes past.task node) (node.refused || is_some (fault node.machine))
+    lawful_at : (node : Node M) (past : Past) → HaveLanes (in_wires_of node) (in_lanes node.machine) lanes → HaveLanes (out_wires_of node) (out_lanes node.machine) lanes → NodeStands in_lanes source fault stands node world past → IsLawful lanes world (part_of in_lanes out_lanes past.task node) (node.refused || is_some (fault node.machine))
     lawful_at node past shaped_ins shaped_outs was =
         let part = part_of in_lanes out_lanes past.task node in
         let got : AllBelow past.got (got_of world part) = all_in node.ins.items (λ w. (world w).taken) past.got (λ p lt. fed_below (stream_at past.got p) (world (in_at node.ins.items p).wire).taken ((was.ins p lt).fed)) was.beyond in
@@ -115,7 +115,7 @@ module _ {M : Type 0} (in_lanes out_lanes : M → List Lane) (source : M → Opt
             opened_map (w ∷ ws) zero = refl
             opened_map (w ∷ ws) (suc q) = opened_map ws q
 
-    are_lawful : (nodes : List (Node M)) (tasks : ℕ → Task) → ((k : ℕ) (d : Node M) → k < length nodes → HaveLanes (in_wires_of (slice_index_or nodes k d)) (in_lanes (slice_index_or nodes k d).machine) lanes) → ((k : ℕ) (d : Node M) → k < length nodes → HaveLanes (out_wires_of (slice_index_or nodes k d)) (out_lanes (slice_index_or nodes k d).machine) lanes) → ((k : ℕ) (d : Node M) → k < length nodes → (past : Past) × NodeStands source fault stands (slice_index_or nodes k d) world past × (past.task ≡ tasks k)) → AreLawful lanes world (all_placed tasks nodes)
+    are_lawful : (nodes : List (Node M)) (tasks : ℕ → Task) → ((k : ℕ) (d : Node M) → k < length nodes → HaveLanes (in_wires_of (slice_index_or nodes k d)) (in_lanes (slice_index_or nodes k d).machine) lanes) → ((k : ℕ) (d : Node M) → k < length nodes → HaveLanes (out_wires_of (slice_index_or nodes k d)) (out_lanes (slice_index_or nodes k d).machine) lanes) → ((k : ℕ) (d : Node M) → k < length nodes → (past : Past) × NodeStands in_lanes source fault stands (slice_index_or nodes k d) world past × (past.task ≡ tasks k)) → AreLawful lanes world (all_placed tasks nodes)
     are_lawful [] tasks shaped_ins shaped_outs each = tt
     are_lawful (n ∷ ns) tasks shaped_ins shaped_outs each =
         let mine = each zero n (omega arith) in (
@@ -173,7 +173,7 @@ module _ {M : Type 0} (in_lanes out_lanes : M → List Lane) (source : M → Opt
           }
 
 -- nodes on wires at one moment
-pub moment_of : {M : Type 0} (in_lanes out_lanes : M → List Lane) (source : M → Option ℕ) (fault : M → Option Fault) (stands : M → Past → Type 0) (tasks : ℕ → Task) (nodes : List (Node M)) (wires : Wires) (net : NetStands source fault stands tasks nodes wires) → AreShaped in_lanes out_lanes nodes wires
+pub moment_of : {M : Type 0} (in_lanes out_lanes : M → List Lane) (source : M → Option ℕ) (fault : M → Option Fault) (stands : M → Past → Type 0) (tasks : ℕ → Task) (nodes : List (Node M)) (wires : Wires) (net : NetStands in_lanes source fault stands tasks nodes wires) → AreShaped in_lanes out_lanes nodes wires
     → Moment in_lanes out_lanes source fault stands tasks nodes (lanes_of wires) net.world
 moment_of in_lanes out_lanes source fault stands tasks nodes wires net shaped = record {
   ins = λ k d lt. (shaped.each k d lt).ins;

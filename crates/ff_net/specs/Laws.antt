@@ -1,12 +1,12 @@
 -- The words of the laws of a machine.
-use Rattle.std.specs.Prelude.{◌≡◌, ℕ, ◌<◌, ◌≤◌, ◌+◌, ◌-◌, ◌^◌, min, List, Option, None, Some}
+use Rattle.std.specs.Prelude.{◌≡◌, ◌≢◌, ℕ, ◌<◌, ◌≤◌, ◌⊎◌, ◌+◌, ◌-◌, ◌^◌, min, List, [], length, Option, None, Some, IsSome}
 use Rattle.ff_frame.specs.declared.item.Lane.{Lane}
 use Rattle.ff_frame.specs.Stream.{still_open}
 use Rattle.ff_frame.specs.Ports.{stream_at, AllBelow, IsClosed}
 use Rattle.ff_net.specs.declared.fault.Fault.{Fault}
 use Rattle.ff_net.specs.declared.fault.Fault.TheVariants.{Device, Damaged, TooLong, TooLarge, NoMemory}
 use Rattle.ff_net.specs.Ways.{Flow, AreValid}
-use Rattle.ff_net.specs.Pasts.{Past, IsIn}
+use Rattle.ff_net.specs.Pasts.{Past, IsIn, no_events}
 
 -- a count that has come from before to now has risen, or stands at its last value
 abbrev pub Rose : ℕ → ℕ → Type 0
@@ -45,11 +45,35 @@ CauseStays lanes cause = (rs ss : List Flow) (c : Fault) → AreValid lanes rs �
 abbrev pub OutputsClose : ℕ → Past → Type 0
 OutputsClose outputs past = (q : ℕ) → q < outputs → (IsIn q past.stopped → ⊥) → IsClosed (stream_at (past.task.means past.got) q)
 
+-- whatever still comes on this input, each output that wasn't stopped gets the same
+abbrev pub NoMatter : List Lane → ℕ → Past → ℕ → Type 0
+NoMatter lanes outputs past p = (ss ts : List Flow) → AreValid lanes ss → AreValid lanes ts → AllBelow past.got ss → AllBelow past.got ts → ((i : ℕ) → i ≢ p → stream_at ss i ≡ stream_at ts i)
+    → (q : ℕ) → q < outputs → (IsIn q past.stopped → ⊥) → stream_at (past.task.means ss) q ≡ stream_at (past.task.means ts) q
+
+-- an input has closed, or there are outputs and nothing more of it matters
+abbrev pub MaySpend : List Lane → ℕ → Past → ℕ → Type 0
+MaySpend lanes outputs past p = IsClosed (stream_at past.got p) ⊎ ((0 < outputs) × NoMatter lanes outputs past p)
+
+-- closed inputs close each output
+abbrev pub Settles : List Lane → ℕ → (List Flow → List Flow) → Type 0
+Settles lanes outputs means = (ss : List Flow) → AreValid lanes ss → ((p : ℕ) → p < length lanes → IsClosed (stream_at ss p)) → (q : ℕ) → q < outputs → IsClosed (stream_at (means ss) q)
+
 -- an output that wasn't stopped, and on which no closing item was given
 pub record IsPending (outputs : ℕ) (past : Past) (q : ℕ) : Type 0 where
   pub there : q < outputs
   pub goes_on : IsIn q past.stopped → ⊥
   pub unclosed : (stream_at past.gave q).mark ≡ still_open
+
+-- a source without a fault, of which an output goes on: it is no event yet that it has ended
+pub record IsReading (source : Option ℕ) (fault : Option Fault) (outputs : ℕ) (past : Past) : Type 0 where
+  pub is_source : IsSome source
+  pub sound : fault ≡ None
+  pub port : ℕ
+  pub pending : IsPending outputs past port
+
+-- it has no event to tell, and told none
+abbrev pub IsSilent : Past → Type 0
+IsSilent past = (past.task.tells ≡ no_events) × (past.told ≡ [])
 
 -- each pending output had nothing to give
 abbrev pub AllAsked : ℕ → Past → Type 0

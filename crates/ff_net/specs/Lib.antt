@@ -4,6 +4,7 @@ pub mod Nodes
 pub mod Pasts
 pub mod Ports
 pub mod Serial
+pub mod Silence
 pub mod Steps
 pub mod Turns
 pub mod Ways

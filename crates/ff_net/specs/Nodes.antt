@@ -2,7 +2,7 @@
 use Rattle.std.specs.Prelude.{◌≡◌, ℕ, zero, suc, ◌<◌, ◌≤◌, ◌⊎◌, Bool, true, false, List, [], ◌∷◌, ◌++◌, length, map, slice_index_or, Option, None, Some}
 use Rattle.ff_frame.specs.declared.item.Item.{Item}
 use Rattle.ff_frame.specs.declared.item.Lane.{Lane}
-use Rattle.ff_frame.specs.declared.item.Ticket.{Ticket}
+use Rattle.ff_values.specs.declared.event.Ticket.{Ticket}
 use Rattle.ff_frame.specs.Stream.{still_open, LiesBelow, opened}
 use Rattle.ff_frame.specs.Items.{with_item}
 use Rattle.ff_frame.specs.Ports.{nothing, stream_at, IsClosed}
@@ -13,7 +13,7 @@ use Rattle.ff_net.specs.declared.ports.OutPort.{OutPort}
 use Rattle.ff_net.specs.declared.wires.Wires.{Wires}
 use Rattle.ff_net.specs.Ways.{Flow, lane_at}
 use Rattle.ff_net.specs.Pasts.{Past, IsIn}
-use Rattle.ff_net.specs.Laws.{OutputsClose}
+use Rattle.ff_net.specs.Laws.{NoMatter}
 use Rattle.ff_net.specs.Ports.{in_at, out_at, in_wires, out_wires, AreDone}
 use Rattle.ff_net.specs.Worlds.{Wire, lanes_of}
 
@@ -65,9 +65,9 @@ HasFinished node p = (in_at node.ins.items p).done ≡ true
 abbrev pub IsSound : {M : Type 0} → (M → Option Fault) → Node M → Type 0
 IsSound fault node = (node.refused ≡ false) × (fault node.machine ≡ None)
 
--- the node has outputs, and each that wasn't stopped is closed by what was fed, or nothing more goes on any
-abbrev pub MayClose : {M : Type 0} → Node M → Past → Type 0
-MayClose node past = (0 < length node.outs.items) × (OutputsClose (length node.outs.items) past ⊎ AreDone node.outs.items)
+-- the node has outputs, and nothing more of this input matters, or nothing more goes on any
+abbrev pub MayClose : {M : Type 0} → (M → List Lane) → Node M → Past → ℕ → Type 0
+MayClose in_lanes node past p = (0 < length node.outs.items) × (NoMatter (in_lanes node.machine) (length node.outs.items) past p ⊎ AreDone node.outs.items)
 
 -- the tickets with the places 0, 1, 2 and so on
 abbrev pub tickets : Option ℕ → ℕ → List Ticket
@@ -76,9 +76,9 @@ tickets (Some s) zero = []
 tickets (Some s) (suc n) = tickets (Some s) n ++ record { source = s; place = n } ∷ []
 
 -- the node can be where it is after this was sent and taken on its wires, and its machine after this past
-pub record NodeStands {M : Type 0} (source : M → Option ℕ) (fault : M → Option Fault) (stands : M → Past → Type 0) (node : Node M) (world : ℕ → Wire) (past : Past) : Type 0 where
+pub record NodeStands {M : Type 0} (in_lanes : M → List Lane) (source : M → Option ℕ) (fault : M → Option Fault) (stands : M → Past → Type 0) (node : Node M) (world : ℕ → Wire) (past : Past) : Type 0 where
   pub machine : stands node.machine past
-  pub ins : (p : ℕ) → p < length node.ins.items → InStands (in_at node.ins.items p) (world (in_at node.ins.items p).wire) (stream_at past.got p) node.refused (IsSound fault node) (MayClose node past)
+  pub ins : (p : ℕ) → p < length node.ins.items → InStands (in_at node.ins.items p) (world (in_at node.ins.items p).wire) (stream_at past.got p) node.refused (IsSound fault node) (MayClose in_lanes node past p)
   pub outs : (p : ℕ) → p < length node.outs.items → OutStands (out_at node.outs.items p) (world (out_at node.outs.items p).wire) (stream_at past.gave p) (IsIn p past.stopped) (IsSound fault node)
   pub beyond : (p : ℕ) → length node.ins.items ≤ p → stream_at past.got p ≡ nothing
   pub stopped : (p : ℕ) → IsIn p past.stopped → (out_at node.outs.items p).done ≡ true

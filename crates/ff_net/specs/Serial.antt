@@ -20,10 +20,10 @@ pub record AreShaped {M : Type 0} (in_lanes out_lanes : M → List Lane) (nodes 
   pub outs_apart : (j k w : ℕ) (d : Node M) → j < length nodes → k < length nodes → IsIn w (out_wires_of (slice_index_or nodes j d)) → IsIn w (out_wires_of (slice_index_or nodes k d)) → j ≡ k
 
 -- something can be behind all nodes and wires, with these tasks of the nodes
-pub record NetStands {M : Type 0} (source : M → Option ℕ) (fault : M → Option Fault) (stands : M → Past → Type 0) (tasks : ℕ → Task) (nodes : List (Node M)) (wires : Wires) : Type 0 where
+pub record NetStands {M : Type 0} (in_lanes : M → List Lane) (source : M → Option ℕ) (fault : M → Option Fault) (stands : M → Past → Type 0) (tasks : ℕ → Task) (nodes : List (Node M)) (wires : Wires) : Type 0 where
   pub world : ℕ → Wire
   pub stand : Stand wires world
-  pub each : (k : ℕ) (d : Node M) → k < length nodes → (past : Past) × NodeStands source fault stands (slice_index_or nodes k d) world past × (past.task ≡ tasks k)
+  pub each : (k : ℕ) (d : Node M) → k < length nodes → (past : Past) × NodeStands in_lanes source fault stands (slice_index_or nodes k d) world past × (past.task ≡ tasks k)
 
 -- all nodes at one moment, whatever carries their items: the edges of the ports have these lanes, no two outputs have one
 -- edge, and what was taken from an edge is the beginning of what was sent on it, which is valid for its lane
@@ -33,7 +33,7 @@ pub record Moment {M : Type 0} (in_lanes out_lanes : M → List Lane) (source : 
   pub outs_apart : (j k w : ℕ) (d : Node M) → j < length nodes → k < length nodes → IsIn w (out_wires_of (slice_index_or nodes j d)) → IsIn w (out_wires_of (slice_index_or nodes k d)) → j ≡ k
   pub ordered : (w : ℕ) → LiesBelow (world w).taken (world w).sent
   pub valid : (w : ℕ) → IsValidOn (lane_at lanes w) (world w).sent
-  pub each : (k : ℕ) (d : Node M) → k < length nodes → (past : Past) × NodeStands source fault stands (slice_index_or nodes k d) world past × (past.task ≡ tasks k)
+  pub each : (k : ℕ) (d : Node M) → k < length nodes → (past : Past) × NodeStands in_lanes source fault stands (slice_index_or nodes k d) world past × (past.task ≡ tasks k)
 
 -- the parts that the nodes are, with these tasks
 abbrev pub part_of : {M : Type 0} → (M → List Lane) → (M → List Lane) → Task → Node M → Part

@@ -35,11 +35,11 @@ pub data Moves (old new : ℕ → Wire) (past since : Past) : Type 0 where
   told : (q : ℕ) → (IsIn q past.stopped → ⊥) → IsIn q since.stopped → Moves old new past since
 
 -- something that can be behind the node and its wires now, and goes on from what was behind them
-pub record Later {M : Type 0} (source : M → Option ℕ) (fault : M → Option Fault) (stands : M → Past → Type 0) (how : (ℕ → Wire) → Past → (ℕ → Wire) → Past → Type 0) (ins outs : List ℕ) (node : Node M) (wires : Wires) (world : ℕ → Wire) (past : Past) : Type 0 where
+pub record Later {M : Type 0} (in_lanes : M → List Lane) (source : M → Option ℕ) (fault : M → Option Fault) (stands : M → Past → Type 0) (how : (ℕ → Wire) → Past → (ℕ → Wire) → Past → Type 0) (ins outs : List ℕ) (node : Node M) (wires : Wires) (world : ℕ → Wire) (past : Past) : Type 0 where
   pub now : ℕ → Wire
   pub since : Past
   pub stand : Stand wires now
-  pub fits : NodeStands source fault stands node now since
+  pub fits : NodeStands in_lanes source fault stands node now since
   pub course : Course ins outs world now past since
   pub so : how world past now since
 
@@ -52,12 +52,13 @@ pub record Stepped {M : Type 0} (in_lanes out_lanes : M → List Lane) (source :
   pub out_lanes_same : out_lanes node'.machine ≡ out_lanes node.machine
   pub lanes_same : lanes_of wires' ≡ lanes_of wires
   pub fares : FaultStep device failures fault node.machine node'.machine
-  pub goes : (world : ℕ → Wire) (past : Past) → Stand wires world → NodeStands source fault stands node world past → Later source fault stands how (in_wires_of node) (out_wires_of node) node' wires' world past
+  pub goes : (world : ℕ → Wire) (past : Past) → Stand wires world → NodeStands in_lanes source fault stands node world past → Later in_lanes source fault stands how (in_wires_of node) (out_wires_of node) node' wires' world past
 
--- something moved, or nothing was taken, where these hold
+-- something moved, or nothing was taken, where these hold, and no ticket was allowed
 pub record Acts (moved quiet : Type 0) (old : ℕ → Wire) (past : Past) (new : ℕ → Wire) (since : Past) : Type 0 where
   pub moves : moved → Moves old new past since
   pub takes_nothing : quiet → (w : ℕ) → (new w).taken ≡ (old w).taken
+  pub allows_nothing : since.allowed ≡ past.allowed
 
 -- the machine of a node gave items to hold, and nothing moved; of the outputs that were seen, one that holds nothing has
 -- all that is due, and where none holds anything, each was asked
@@ -95,15 +96,17 @@ pub record Rests {M : Type 0} (source : M → Option ℕ) (fault : M → Option 
   pub none_due : IsSound fault node → (q : ℕ) → q < length node.outs.items → (out_at node.outs.items q).done ≡ false → (out_at node.outs.items q).held ≡ None → (world (out_at node.outs.items q).wire).sent ≡ stream_at (due past) q
   pub ungranted : IsSound fault node → NoneHeld node.outs.items → (q : ℕ) → q < length node.outs.items → (out_at node.outs.items q).done ≡ false → (source node.machine ≡ None) ⊎ (2 ^ 64 - 1 ≤ node.place)
 
--- something moved or the node rests, and nothing was taken where an item was due before
+-- something moved or the node rests, and nothing was taken and no ticket allowed where an item was due before
 pub record Turns {M : Type 0} (source : M → Option ℕ) (fault : M → Option Fault) (moved : Bool) (before node : Node M) (old : ℕ → Wire) (past : Past) (new : ℕ → Wire) (since : Past) : Type 0 where
   pub moves : moved ≡ true → Moves old new past since
   pub takes_nothing : (q : ℕ) → IsDue fault before old past q → (w : ℕ) → (new w).taken ≡ (old w).taken
+  pub allows_nothing : (q : ℕ) → IsDue fault before old past q → since.allowed ≡ past.allowed
   pub rests : moved ≡ false → Rests source fault node new since
 
--- a source has one ticket more or none, and the machine of a node gave items to hold
+-- a source has one ticket more, or none where an item was due, and the machine of a node gave items to hold
 pub record Prepares {M : Type 0} (source : M → Option ℕ) (fault : M → Option Fault) (granted held : Bool) (before node : Node M) (old : ℕ → Wire) (past : Past) (new : ℕ → Wire) (since : Past) : Type 0 where
   pub moves : granted ≡ true → Moves old new past since
   pub taken : (w : ℕ) → (new w).taken ≡ (old w).taken
+  pub allows_nothing : (q : ℕ) → IsDue fault before old past q → since.allowed ≡ past.allowed
   pub none_before : IsSound fault node → held ≡ false → (q : ℕ) → IsDue fault before old past q → ⊥
   pub rests : granted ≡ false → Rests source fault node new since

@@ -31,8 +31,9 @@ pub record IsIdle {M : Type 0} (fault : M → Option Fault) (node : Node M) (wir
   pub refused : IsRefused node wires
 
 -- of a turn with this answer: Moved comes only where something moved, NotYet only where the node is idle, and nothing was
--- taken where an item was due before
+-- taken and no ticket allowed where an item was due before
 pub record Answers {M : Type 0} (fault : M → Option Fault) (turn : Turn) (before node : Node M) (wires : Wires) (old : ℕ → Wire) (past : Past) (new : ℕ → Wire) (since : Past) : Type 0 where
   pub moved : turn ≡ Moved → Moves old new past since
   pub not_yet : turn ≡ NotYet → IsIdle fault node wires new since
   pub takes_nothing : (q : ℕ) → IsDue fault before old past q → (w : ℕ) → (new w).taken ≡ (old w).taken
+  pub allows_nothing : (q : ℕ) → IsDue fault before old past q → since.allowed ≡ past.allowed

@@ -3,14 +3,16 @@ ghost use Rattle.ff_frame.specs.declared.item.Lane.{Lane};
 ghost use Rattle.ff_frame.specs.Stream.{still_open, LiesBelow};
 ghost use Rattle.ff_frame.specs.Items.{with_item};
 ghost use Rattle.ff_frame.specs.Ports.{stream_at, AllBelow, AllUnbroken, IsMonotone, IsCalm, IsClosed};
+ghost use mathlib.Core.List.{IsPrefix};
+ghost use Rattle.ff_values.specs.declared.event.Event.{Event};
 ghost use Rattle.ff_net.specs.declared.fault.Fault.{Fault};
 ghost use Rattle.ff_net.specs.declared.fault.Fault.TheVariants.{Device};
 ghost use Rattle.ff_net.specs.Ways.{Flow, AreValid};
-ghost use Rattle.ff_net.specs.Pasts.{Past, IsIn, fed, gave_item, was_asked, was_allowed, was_stopped, due};
-ghost use Rattle.ff_net.specs.Laws.{FaultStep, IsOfInputs, GoesOn, CauseStays, OutputsClose, IsPending, AllAsked};
+ghost use Rattle.ff_net.specs.Pasts.{Past, IsIn, fed, gave_item, was_asked, was_allowed, was_stopped, was_told, due};
+ghost use Rattle.ff_net.specs.Laws.{FaultStep, IsOfInputs, GoesOn, CauseStays, OutputsClose, MaySpend, Settles, IsPending, IsReading, AllAsked};
 
 use crate::fault::Fault;
-use ff_frame::{Item, Refused, Ticket};
+use ff_frame::{Event, Item, Refused, Ticket};
 use std::alloc::AllocError;
 
 /// A part that takes streams and gives streams, an item at a time.
@@ -110,6 +112,17 @@ pub trait Machine {
         requires { port < length (in_lanes self.now) }
         ensures { IsTrue result ↔ is_spent self.now port };
 
+    /// The next event to tell. None where each was told that is due by what was fed; a source's events are due once it
+    /// has a fault or each output was stopped or has closed.
+    fn next_event(&mut self) -> Option<Event>
+        ensures in_lanes { in_lanes self.new ≡ in_lanes self.old }
+        ensures out_lanes { out_lanes self.new ≡ out_lanes self.old }
+        ensures source { source_of self.new ≡ source_of self.old }
+        ensures fares { FaultStep device_of failures fault_of self.old self.new }
+        ensures gives { (e : Event) → result ≡ Some e → (past : Past) → stands self.old past → stands self.new (was_told past e) × (IsReading (source_of self.old) (fault_of self.old) (length (out_lanes self.old)) past → ⊥) }
+        ensures waits { IsNone result → (past : Past) → stands self.old past → stands self.new past }
+        ensures none_due { IsNone result → (past : Past) → stands self.old past → (past.told ≡ past.task.tells past.feeds) ⊎ IsReading (source_of self.old) (fault_of self.old) (length (out_lanes self.old)) past };
+
     /// A source's past is a source's.
     ghost is_source: { (m : Self) (past : Past) → stands m past → past.task.source ≡ is_some (source_of m) };
 
@@ -137,8 +150,9 @@ pub trait Machine {
     /// Damage, length and size are faults only as the inputs' cause.
     ghost caused: { (m : Self) (past : Past) (c : Fault) → stands m past → fault_of m ≡ Some c → IsOfInputs c → past.task.cause past.got ≡ Some c };
 
-    /// An input is spent only where it has closed, or where there are outputs and each that wasn't stopped is closed.
-    ghost spent_only: { (m : Self) (past : Past) (p : ℕ) → stands m past → is_spent m p → IsClosed (stream_at past.got p) ⊎ ((0 < length (out_lanes m)) × OutputsClose (length (out_lanes m)) past) };
+    /// An input is spent only where it has closed, or where there are outputs and nothing that may still come on it
+    /// changes what an output that wasn't stopped gets.
+    ghost spent_only: { (m : Self) (past : Past) (p : ℕ) → stands m past → is_spent m p → MaySpend (in_lanes m) (length (out_lanes m)) past p };
 
     /// An input that has closed is spent.
     ghost closed_spent: { (m : Self) (past : Past) (p : ℕ) → stands m past → p < length (in_lanes m) → IsClosed (stream_at past.got p) → is_spent m p };
@@ -147,8 +161,11 @@ pub trait Machine {
     /// nothing more to give.
     ghost done_spent: { (m : Self) (past : Past) (p : ℕ) → stands m past → p < length (in_lanes m) → 0 < length (out_lanes m) → OutputsClose (length (out_lanes m)) past → AllAsked (length (out_lanes m)) past → is_spent m p };
 
-    /// Where a machine that is no source has only spent inputs, each output that wasn't stopped is closed.
-    ghost all_spent: { (m : Self) (past : Past) → stands m past → source_of m ≡ None → ((p : ℕ) → p < length (in_lanes m) → is_spent m p) → OutputsClose (length (out_lanes m)) past };
+    /// Of a machine that is no source, closed inputs close each output.
+    ghost settles: { (m : Self) (past : Past) → stands m past → source_of m ≡ None → Settles (in_lanes m) (length (out_lanes m)) past.task.means };
+
+    /// It told no event but those that are due, in their order.
+    ghost told: { (m : Self) (past : Past) → stands m past → IsPrefix past.told (past.task.tells past.feeds) };
 
     /// A source without a fault that has a pending output holds no ticket once each had nothing to give.
     ghost ticket_used: { (m : Self) (past : Past) (q : ℕ) → stands m past → IsSome (source_of m) → fault_of m ≡ None → IsPending (length (out_lanes m)) past q → AllAsked (length (out_lanes m)) past → holds m → ⊥ };

@@ -41,7 +41,7 @@ impl<M: Machine> Node<M> {
         ensures ins { IfOk result (λ node. in_wires_of node ≡ ins.items) }
         ensures outs { IfOk result (λ node. out_wires_of node ≡ outs.items) }
         ensures machine { IfOk result (λ node. machine_of node ≡ machine) }
-        ensures fresh { IfOk result (λ node. (task : Task) → M.stands machine (start task) → NodeStands M.source_of M.fault_of M.stands node (λ w. fresh) (start task)) }
+        ensures fresh { IfOk result (λ node. (task : Task) → M.stands machine (start task) → NodeStands M.in_lanes M.source_of M.fault_of M.stands node (λ w. fresh) (start task)) }
         ensures sound { IfOk result (λ node. M.fault_of machine ≡ None → IsSound M.fault_of node) }
         ensures back { IfErr result (λ m. m ≡ machine) }
     {

@@ -27,16 +27,16 @@ pub fn run_serial<M: Machine>(nodes: &mut [Node<M>], wires: &mut Wires, order: &
     ensures lanes { lanes_of wires.new ≡ lanes_of wires.old }
     ensures parts { (tasks : ℕ → Task) → parts_of M.in_lanes M.out_lanes tasks nodes.new ≡ parts_of M.in_lanes M.out_lanes tasks nodes.old }
     ensures fares { (k : ℕ) (d : _) → k < length nodes.old → FaultStep M.device_of M.failures M.fault_of (machine_of (slice_index_or nodes.old k d)) (machine_of (slice_index_or nodes.new k d)) }
-    ensures stands { (tasks : ℕ → Task) → NetStands M.source_of M.fault_of M.stands tasks nodes.old wires.old → NetStands M.source_of M.fault_of M.stands tasks nodes.new wires.new }
-    ensures below { (tasks : ℕ → Task) → NetStands M.source_of M.fault_of M.stands tasks nodes.old wires.old → IsUpward [] (parts_of M.in_lanes M.out_lanes tasks nodes.new)
-        → (net : NetStands M.source_of M.fault_of M.stands tasks nodes.new wires.new) × ((k : ℕ) (d : _) (w : ℕ) → k < length nodes.new → IsIn w (in_wires_of (slice_index_or nodes.new k d)) → LiesBelow (opened (net.world w).taken) (solve (parts_of M.in_lanes M.out_lanes tasks nodes.new) w)) }
-    ensures before { (tasks : ℕ → Task) → NetStands M.source_of M.fault_of M.stands tasks nodes.old wires.old → IsUpward [] (parts_of M.in_lanes M.out_lanes tasks nodes.new)
-        → (net : NetStands M.source_of M.fault_of M.stands tasks nodes.new wires.new) × ((k : ℕ) (d : _) → k < length nodes.new → ((j : ℕ) (e : _) → j < k → IsSound M.fault_of (slice_index_or nodes.new j e))
+    ensures stands { (tasks : ℕ → Task) → NetStands M.in_lanes M.source_of M.fault_of M.stands tasks nodes.old wires.old → NetStands M.in_lanes M.source_of M.fault_of M.stands tasks nodes.new wires.new }
+    ensures below { (tasks : ℕ → Task) → NetStands M.in_lanes M.source_of M.fault_of M.stands tasks nodes.old wires.old → IsUpward [] (parts_of M.in_lanes M.out_lanes tasks nodes.new)
+        → (net : NetStands M.in_lanes M.source_of M.fault_of M.stands tasks nodes.new wires.new) × ((k : ℕ) (d : _) (w : ℕ) → k < length nodes.new → IsIn w (in_wires_of (slice_index_or nodes.new k d)) → LiesBelow (opened (net.world w).taken) (solve (parts_of M.in_lanes M.out_lanes tasks nodes.new) w)) }
+    ensures before { (tasks : ℕ → Task) → NetStands M.in_lanes M.source_of M.fault_of M.stands tasks nodes.old wires.old → IsUpward [] (parts_of M.in_lanes M.out_lanes tasks nodes.new)
+        → (net : NetStands M.in_lanes M.source_of M.fault_of M.stands tasks nodes.new wires.new) × ((k : ℕ) (d : _) → k < length nodes.new → ((j : ℕ) (e : _) → j < k → IsSound M.fault_of (slice_index_or nodes.new j e))
         → (w : ℕ) → IsIn w (in_wires_of (slice_index_or nodes.new k d)) → LiesBelow (net.world w).taken (solve (parts_of M.in_lanes M.out_lanes tasks nodes.new) w)) }
-    ensures cause { (tasks : ℕ → Task) → NetStands M.source_of M.fault_of M.stands tasks nodes.old wires.old → IsUpward [] (parts_of M.in_lanes M.out_lanes tasks nodes.new)
+    ensures cause { (tasks : ℕ → Task) → NetStands M.in_lanes M.source_of M.fault_of M.stands tasks nodes.old wires.old → IsUpward [] (parts_of M.in_lanes M.out_lanes tasks nodes.new)
         → (k : ℕ) (d : _) → k < length nodes.new → ((j : ℕ) (e : _) → j < k → IsSound M.fault_of (slice_index_or nodes.new j e))
         → (c : Fault) → M.fault_of (machine_of (slice_index_or nodes.new k d)) ≡ Some c → IsOfInputs c → (tasks k).cause (map (solve (parts_of M.in_lanes M.out_lanes tasks nodes.new)) (in_wires_of (slice_index_or nodes.new k d))) ≡ Some c }
-    ensures settled { (tasks : ℕ → Task) → NetStands M.source_of M.fault_of M.stands tasks nodes.old wires.old → IsUpward [] (parts_of M.in_lanes M.out_lanes tasks nodes.new) → ((k : ℕ) (d : _) → k < length nodes.new → IsSound M.fault_of (slice_index_or nodes.new k d))
+    ensures settled { (tasks : ℕ → Task) → NetStands M.in_lanes M.source_of M.fault_of M.stands tasks nodes.old wires.old → IsUpward [] (parts_of M.in_lanes M.out_lanes tasks nodes.new) → ((k : ℕ) (d : _) → k < length nodes.new → IsSound M.fault_of (slice_index_or nodes.new k d))
         → (k : ℕ) (d : _) → k < length nodes.new → IsDone (slice_index_or nodes.new k d) → outputs_of (slice_index_or nodes.new k d) ≡ 0 → Settled M.stands (tasks k) (parts_of M.in_lanes M.out_lanes tasks nodes.new) (slice_index_or nodes.new k d) }
 {
     for k in order {
@@ -72,16 +72,16 @@ pub fn run_to_end<R: Wait, M: Machine>(
     ensures lanes { lanes_of wires.new ≡ lanes_of wires.old }
     ensures parts { (tasks : ℕ → Task) → parts_of M.in_lanes M.out_lanes tasks nodes.new ≡ parts_of M.in_lanes M.out_lanes tasks nodes.old }
     ensures fares { (k : ℕ) (d : _) → k < length nodes.old → FaultStep M.device_of M.failures M.fault_of (machine_of (slice_index_or nodes.old k d)) (machine_of (slice_index_or nodes.new k d)) }
-    ensures stands { (tasks : ℕ → Task) → NetStands M.source_of M.fault_of M.stands tasks nodes.old wires.old → NetStands M.source_of M.fault_of M.stands tasks nodes.new wires.new }
-    ensures below { (tasks : ℕ → Task) → NetStands M.source_of M.fault_of M.stands tasks nodes.old wires.old → IsUpward [] (parts_of M.in_lanes M.out_lanes tasks nodes.new)
-        → (net : NetStands M.source_of M.fault_of M.stands tasks nodes.new wires.new) × ((k : ℕ) (d : _) (w : ℕ) → k < length nodes.new → IsIn w (in_wires_of (slice_index_or nodes.new k d)) → LiesBelow (opened (net.world w).taken) (solve (parts_of M.in_lanes M.out_lanes tasks nodes.new) w)) }
-    ensures before { (tasks : ℕ → Task) → NetStands M.source_of M.fault_of M.stands tasks nodes.old wires.old → IsUpward [] (parts_of M.in_lanes M.out_lanes tasks nodes.new)
-        → (net : NetStands M.source_of M.fault_of M.stands tasks nodes.new wires.new) × ((k : ℕ) (d : _) → k < length nodes.new → ((j : ℕ) (e : _) → j < k → IsSound M.fault_of (slice_index_or nodes.new j e))
+    ensures stands { (tasks : ℕ → Task) → NetStands M.in_lanes M.source_of M.fault_of M.stands tasks nodes.old wires.old → NetStands M.in_lanes M.source_of M.fault_of M.stands tasks nodes.new wires.new }
+    ensures below { (tasks : ℕ → Task) → NetStands M.in_lanes M.source_of M.fault_of M.stands tasks nodes.old wires.old → IsUpward [] (parts_of M.in_lanes M.out_lanes tasks nodes.new)
+        → (net : NetStands M.in_lanes M.source_of M.fault_of M.stands tasks nodes.new wires.new) × ((k : ℕ) (d : _) (w : ℕ) → k < length nodes.new → IsIn w (in_wires_of (slice_index_or nodes.new k d)) → LiesBelow (opened (net.world w).taken) (solve (parts_of M.in_lanes M.out_lanes tasks nodes.new) w)) }
+    ensures before { (tasks : ℕ → Task) → NetStands M.in_lanes M.source_of M.fault_of M.stands tasks nodes.old wires.old → IsUpward [] (parts_of M.in_lanes M.out_lanes tasks nodes.new)
+        → (net : NetStands M.in_lanes M.source_of M.fault_of M.stands tasks nodes.new wires.new) × ((k : ℕ) (d : _) → k < length nodes.new → ((j : ℕ) (e : _) → j < k → IsSound M.fault_of (slice_index_or nodes.new j e))
         → (w : ℕ) → IsIn w (in_wires_of (slice_index_or nodes.new k d)) → LiesBelow (net.world w).taken (solve (parts_of M.in_lanes M.out_lanes tasks nodes.new) w)) }
-    ensures cause { (tasks : ℕ → Task) → NetStands M.source_of M.fault_of M.stands tasks nodes.old wires.old → IsUpward [] (parts_of M.in_lanes M.out_lanes tasks nodes.new)
+    ensures cause { (tasks : ℕ → Task) → NetStands M.in_lanes M.source_of M.fault_of M.stands tasks nodes.old wires.old → IsUpward [] (parts_of M.in_lanes M.out_lanes tasks nodes.new)
         → (k : ℕ) (d : _) → k < length nodes.new → ((j : ℕ) (e : _) → j < k → IsSound M.fault_of (slice_index_or nodes.new j e))
         → (c : Fault) → M.fault_of (machine_of (slice_index_or nodes.new k d)) ≡ Some c → IsOfInputs c → (tasks k).cause (map (solve (parts_of M.in_lanes M.out_lanes tasks nodes.new)) (in_wires_of (slice_index_or nodes.new k d))) ≡ Some c }
-    ensures settled { (tasks : ℕ → Task) → NetStands M.source_of M.fault_of M.stands tasks nodes.old wires.old → IsUpward [] (parts_of M.in_lanes M.out_lanes tasks nodes.new) → ((k : ℕ) (d : _) → k < length nodes.new → IsSound M.fault_of (slice_index_or nodes.new k d))
+    ensures settled { (tasks : ℕ → Task) → NetStands M.in_lanes M.source_of M.fault_of M.stands tasks nodes.old wires.old → IsUpward [] (parts_of M.in_lanes M.out_lanes tasks nodes.new) → ((k : ℕ) (d : _) → k < length nodes.new → IsSound M.fault_of (slice_index_or nodes.new k d))
         → (k : ℕ) (d : _) → k < length nodes.new → outputs_of (slice_index_or nodes.new k d) ≡ 0 → Settled M.stands (tasks k) (parts_of M.in_lanes M.out_lanes tasks nodes.new) (slice_index_or nodes.new k d) }
 {
     for _ in rt.forever() {

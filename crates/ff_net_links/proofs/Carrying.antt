@@ -12,7 +12,7 @@ use Rattle.ff_link.specs.Views.{Link, Sending, Receiving}
 use Rattle.ff_link.proofs.Sendings.{stream_from-append, sending_push}
 use Rattle.ff_net.specs.declared.wires.Wires.{Wires}
 use Rattle.ff_net.specs.Ways.{Flow, lane_at, IsValidOn}
-use Rattle.ff_net.specs.Pasts.{Past, start}
+use Rattle.ff_net.specs.Pasts.{Past, start, no_events}
 use Rattle.ff_net.specs.Worlds.{Wire, Stand, lanes_of, put_on, take_on, finish_on}
 use Rattle.ff_net.specs.Nodes.{HeldIs}
 use Rattle.ff_net.proofs.Flows.{valid_on_below}
@@ -155,7 +155,7 @@ pub on_wires_self : (ins outs : List ℕ) (wires : Wires) (world : ℕ → Wire)
 on_wires_self ins outs wires world past holds w stand h = record { now = world; stand = stand; fits = h; course = course_self ins outs world past }
 
 pub some_past : Past
-some_past = start (record { means = λ ss. []; cause = λ ss. None; source = false })
+some_past = start (record { means = λ ss. []; cause = λ ss. None; source = false; tells = no_events })
 
 -- at another name of the same wire
 pub renamed : (holds : Option Lane → Wire → Type 0) (lanes lanes' : List Lane) (w w' : ℕ) (now : ℕ → Wire) → lanes' ≡ lanes → w' ≡ w → holds (lane_at lanes w) (now w) → holds (lane_at lanes' w') (now w')

@@ -200,8 +200,8 @@ module _ {M : Type 0} (in_lanes out_lanes : M → List Lane) (source : M → Opt
           world = y.now;
           past = b.past;
           stand = y.stand;
-          fits = subst (λ (n : Node M). NodeStands source fault stands n y.now b.past) (sym node)
-              (other_stands source fault stands l.node [] (old.wire ∷ []) b.world y.now b.past b.past b.past y.course (λ w a i. i) (λ w a i. elim i [ inl e ↦ b.wired.apart w (subst (λ (v : ℕ). IsIn v (in_wires_of l.node)) e member) a | inr n ↦ n ]) b.fits);
+          fits = subst (λ (n : Node M). NodeStands in_lanes source fault stands n y.now b.past) (sym node)
+              (other_stands in_lanes source fault stands l.node [] (old.wire ∷ []) b.world y.now b.past b.past b.past y.course (λ w a i. i) (λ w a i. elim i [ inl e ↦ b.wired.apart w (subst (λ (v : ℕ). IsIn v (in_wires_of l.node)) e member) a | inr n ↦ n ]) b.fits);
           task_is = b.task_is;
           ins = λ k lt. elim (same_or_not k p) [
             | inl same ↦
@@ -259,8 +259,8 @@ module _ {M : Type 0} (in_lanes out_lanes : M → List Lane) (source : M → Opt
           world = y.now;
           past = b.past;
           stand = y.stand;
-          fits = subst (λ (n : Node M). NodeStands source fault stands n y.now b.past) (sym node)
-              (other_stands source fault stands l.node (old.wire ∷ []) [] b.world y.now b.past b.past b.past y.course (λ w a i. elim i [ inl e ↦ b.wired.apart w a (subst (λ (v : ℕ). IsIn v (out_wires_of l.node)) e member) | inr n ↦ n ]) (λ w a i. i) b.fits);
+          fits = subst (λ (n : Node M). NodeStands in_lanes source fault stands n y.now b.past) (sym node)
+              (other_stands in_lanes source fault stands l.node (old.wire ∷ []) [] b.world y.now b.past b.past b.past y.course (λ w a i. elim i [ inl e ↦ b.wired.apart w a (subst (λ (v : ℕ). IsIn v (out_wires_of l.node)) e member) | inr n ↦ n ]) (λ w a i. i) b.fits);
           task_is = b.task_is;
           ins = λ k lt.
               let klt : k < length l.ins.items = subst (λ (es : List InEnd). k < length es) ins lt in

@@ -153,7 +153,7 @@ module _ {M : Type 0} (in_lanes out_lanes : M → List Lane) (source : M → Opt
 
   -- a node that has ended stands on the wires of all as on its own
   node_stands : (σ τ : ℕ → Flow) (task : Task) (l : Linked M) (b : Behind in_lanes out_lanes source fault stands task l) → HasEnded l → ((w : ℕ) → IsIn w (out_wires_of l.node) → σ w ≡ (b.world w).sent) → ((w : ℕ) → IsIn w (in_wires_of l.node) → τ w ≡ (b.world w).taken)
-      → NodeStands source fault stands l.node (λ w. record { sent = σ w; taken = τ w; finished = true }) b.past
+      → NodeStands in_lanes source fault stands l.node (λ w. record { sent = σ w; taken = τ w; finished = true }) b.past
   node_stands σ τ task l b ended f g =
       let world : ℕ → Wire = λ w. record { sent = σ w; taken = τ w; finished = true } in
       let was = b.fits in record {
@@ -161,7 +161,7 @@ module _ {M : Type 0} (in_lanes out_lanes : M → List Lane) (source : M → Opt
         ins = λ q lt.
             let i : InPort = in_at l.node.ins.items q in
             let flag : true ≡ (b.world i.wire).finished = sym (ended.node.ins q lt) ∙ (was.ins q lt).flag in
-            in_keep i (b.world i.wire) (world i.wire) (stream_at b.past.got q) l.node.refused l.node.refused (IsSound fault l.node) (IsSound fault l.node) (MayClose l.node b.past) (MayClose l.node b.past) (g i.wire (in_wire_in l.node.ins.items q i.wire lt refl)) flag (λ r. r) (λ s. s) (λ m. m) (was.ins q lt);
+            in_keep i (b.world i.wire) (world i.wire) (stream_at b.past.got q) l.node.refused l.node.refused (IsSound fault l.node) (IsSound fault l.node) (MayClose in_lanes l.node b.past q) (MayClose in_lanes l.node b.past q) (g i.wire (in_wire_in l.node.ins.items q i.wire lt refl)) flag (λ r. r) (λ s. s) (λ m. m) (was.ins q lt);
         outs = λ q lt.
             let o : OutPort = out_at l.node.outs.items q in
             out_keep o (b.world o.wire) (world o.wire) (stream_at b.past.gave q) (IsIn q b.past.stopped) (IsIn q b.past.stopped) (IsSound fault l.node) (IsSound fault l.node) (f o.wire (out_wire_in l.node.outs.items q o.wire lt refl)) (λ e. refl) (λ s. s) (λ s. s) (was.outs q lt);
@@ -171,7 +171,7 @@ module _ {M : Type 0} (in_lanes out_lanes : M → List Lane) (source : M → Opt
       }
 
   each_stands : (σ τ : ℕ → Flow) (lanes : List Lane) (tasks : ℕ → Task) (ls : List (Linked M)) (bs : AllBehind in_lanes out_lanes source fault stands tasks ls) → AreMeeting lanes ls → Own σ τ tasks ls bs → (k : ℕ) (d : Node M) → k < length (nodes_of ls)
-      → (past : Past) × NodeStands source fault stands (slice_index_or (nodes_of ls) k d) (λ w. record { sent = σ w; taken = τ w; finished = true }) past × (past.task ≡ tasks k)
+      → (past : Past) × NodeStands in_lanes source fault stands (slice_index_or (nodes_of ls) k d) (λ w. record { sent = σ w; taken = τ w; finished = true }) past × (past.task ≡ tasks k)
   each_stands σ τ lanes tasks [] bs m o k d lt = absurd (omega arith)
   each_stands σ τ lanes tasks (l ∷ ls) bs m o zero d lt = (bs.0.past, node_stands σ τ (tasks zero) l bs.0 m.0 o.0 o.1, bs.0.task_is)
   each_stands σ τ lanes tasks (l ∷ ls) bs m o (suc k) d lt = each_stands σ τ lanes (λ j. tasks (suc j)) ls bs.1 m.4 o.2 k d (omega arith)

@@ -59,7 +59,7 @@ pub record Behind {M : Type 0} (in_lanes out_lanes : M → List Lane) (source : 
   pub world : ℕ → Wire
   pub past : Past
   pub stand : Stand l.wires world
-  pub fits : NodeStands source fault stands l.node world past
+  pub fits : NodeStands in_lanes source fault stands l.node world past
   pub task_is : past.task ≡ task
   pub ins : (p : ℕ) → p < length l.ins.items → InEndStands (in_end_at l.ins.items p) (lane_at (lanes_of l.wires) (in_end_at l.ins.items p).wire) (world (in_end_at l.ins.items p).wire)
   pub outs : (q : ℕ) (d : OutEnd) → q < length l.outs.items → OutEndStands (slice_index_or l.outs.items q d) (lane_at (lanes_of l.wires) (slice_index_or l.outs.items q d).wire) (world (slice_index_or l.outs.items q d).wire)
@@ -96,7 +96,7 @@ pub record IsBeginning {M : Type 0} (in_lanes out_lanes : M → List Lane) (sour
   pub apart : (w : ℕ) → IsIn w (in_wires_of node) → IsIn w (out_wires_of node) → ⊥
   pub in_wires : in_ends_wires ins ≡ in_wires_of node
   pub out_wires : out_ends_wires outs ≡ out_wires_of node
-  pub node_new : NodeStands source fault stands node (λ w. fresh) (start task)
+  pub node_new : NodeStands in_lanes source fault stands node (λ w. fresh) (start task)
   pub wires_new : Stand wires (λ w. fresh)
   pub ins_new : (p : ℕ) → p < length ins → (r : Receiving) × (in_end_at ins p ≡ new_in (in_end_at ins p).wire r) × (r.taken ≡ []) × (r.link.claims ≡ true) × (lane_at (lanes_of wires) (in_end_at ins p).wire ≡ Some r.lane)
   pub outs_new : (q : ℕ) (d : OutEnd) → q < length outs → (s : Sending) × (slice_index_or outs q d ≡ new_out (slice_index_or outs q d).wire s) × (s.sent ≡ []) × (lane_at (lanes_of wires) (slice_index_or outs q d).wire ≡ Some s.lane)

@@ -139,10 +139,11 @@ impl Bells {
         }
     }
 
-    /// This worker sleeps until its bell rings, for at most a millisecond.
-    pub fn sleep<R: Wait>(&self, rt: &R, worker: usize) {
+    /// This worker sleeps until its bell rings, for at most so many milliseconds.
+    pub fn sleep<R: Wait>(&self, rt: &R, worker: usize, milliseconds: u64) {
         if let Some(bell) = self.bells.get(worker) {
-            bell.parker.park_timeout(rt, Duration::from_millis(1));
+            bell.parker
+                .park_timeout(rt, Duration::from_millis(milliseconds));
         }
     }
 }

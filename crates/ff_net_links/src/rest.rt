@@ -8,13 +8,22 @@ pub const SPINS_FOR_ROOM: u32 = 2;
 // One with nothing to take holds up all that come after it.
 pub const SPINS_FOR_ITEMS: u32 = 50;
 
+// The first sleeps of a rest are short, and the others long: a neighbour rings where there is something to do, so what is
+// left for a long sleep to hold up is a ring that came while its worker was changing.
+const SHORT_SLEEPS: u32 = 8;
+
+const SHORT: u64 = 1;
+
+const LONG: u64 = 32;
+
 /// What a worker does after a turn that moved nothing.
 #[derive(Drop)]
 pub enum Step {
     Spin,
     /// It asks to be woken, and tries once more.
     Ask,
-    Sleep,
+    /// It sleeps until it is woken, for at most so many milliseconds.
+    Sleep(u64),
 }
 
 /// The rest of a worker between two turns. A turn that moved something ends it.
@@ -40,18 +49,22 @@ impl Rest {
         asked
     }
 
-    /// A turn moved nothing: after so many spins it asks to be woken and sleeps, by turns.
+    /// A turn moved nothing: after so many spins it asks to be woken and sleeps, by turns. The first sleeps are short.
     pub fn next(&mut self, spins: u32) -> Step {
         let idle = self.idle;
         self.idle = idle.saturating_add(1);
         if idle < spins {
             return Step::Spin;
         }
-        if (idle - spins) % 2 == 0 {
+        let steps = idle - spins;
+        if steps % 2 == 0 {
             self.asked = true;
-            Step::Ask
-        } else {
-            Step::Sleep
+            return Step::Ask;
         }
+        Step::Sleep(if steps / 2 < SHORT_SLEEPS {
+            SHORT
+        } else {
+            LONG
+        })
     }
 }

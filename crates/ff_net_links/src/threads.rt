@@ -63,7 +63,7 @@ fn rounds<M: Machine, R: Wait>(rt: &R, bells: &Bells, workers: &mut [Worker<M>])
 fn wait_here<R: Wait>(rt: &R, bells: &Bells, rest: &mut Rest) {
     match rest.next(SPINS_FOR_ITEMS) {
         Step::Spin | Step::Ask => spin_loop(),
-        Step::Sleep => bells.sleep(rt, bells.caller()),
+        Step::Sleep(milliseconds) => bells.sleep(rt, bells.caller(), milliseconds),
     }
 }
 

@@ -87,7 +87,7 @@ fn wait<M: Machine, R: Wait>(
             node.ask(bells);
             node.tell(bells);
         }
-        Step::Sleep => bells.sleep(rt, worker),
+        Step::Sleep(milliseconds) => bells.sleep(rt, worker, milliseconds),
     }
 }
 

@@ -2,7 +2,7 @@
 use Rattle.std.proofs.Common.{◌≡◌, ◌≢◌, ℕ, zero, suc, ◌+◌, ◌<◌, ◌≤◌, ◌⊎◌, inl, inr, Bool, true, false, List, [], ◌∷◌, ◌++◌, length, take, slice_index_or, refl, ap, sym, ◌∙◌, subst, arith}
 use Rattle.std.proofs.lemmas.List.{take_more}
 use Rattle.ff_frame.specs.declared.item.Item.{Item}
-use Rattle.ff_frame.specs.declared.item.Item.TheVariants.{Audio, Video, Packet, End, Broken}
+use Rattle.ff_frame.specs.declared.item.Item.TheVariants.{Audio, Video, Packet, Trailer, End, Broken}
 use Rattle.ff_frame.specs.declared.item.Lane.{Lane}
 use Rattle.ff_frame.specs.Stream.{Mark, still_open, LiesBelow}
 use Rattle.ff_frame.specs.Items.{with_item}
@@ -22,6 +22,7 @@ pub closes_with : (t : Flow) (x : Item) (m : Mark) → with_item nothing x ≡ r
 closes_with t (Audio f) m e = (let clash : Audio f ∷ [] ≡ [] = ap (λ (s : Flow). s.items) e in cc)
 closes_with t (Video f) m e = (let clash : Video f ∷ [] ≡ [] = ap (λ (s : Flow). s.items) e in cc)
 closes_with t (Packet f) m e = (let clash : Packet f ∷ [] ≡ [] = ap (λ (s : Flow). s.items) e in cc)
+closes_with t (Trailer f) m e = (let clash : Trailer f ∷ [] ≡ [] = ap (λ (s : Flow). s.items) e in cc)
 closes_with t End m e = ap (λ (k : Mark). let s : Flow = record { items = t.items; mark = k } in s) (ap (λ (s : Flow). s.mark) e)
 closes_with t Broken m e = ap (λ (k : Mark). let s : Flow = record { items = t.items; mark = k } in s) (ap (λ (s : Flow). s.mark) e)
 
@@ -48,6 +49,7 @@ module _ (lane : Lane) (first second : Flow) (next : ℕ) (ended stopped : Bool)
       let above : LiesBelow first a = subst (λ (t : Flow). LiesBelow first t) (sym is) (with_item_above first x open_first) in
       let more = longer first a above in record {
         means = s.means;
+        silent = s.silent;
         cause = s.cause;
         plain = s.plain;
         first_is = here;
@@ -70,6 +72,7 @@ module _ (lane : Lane) (first second : Flow) (next : ℕ) (ended stopped : Bool)
       let above : LiesBelow second b = subst (λ (t : Flow). LiesBelow second t) (sym is) (with_item_above second x open_second) in
       let more = longer second b above in record {
         means = s.means;
+        silent = s.silent;
         cause = s.cause;
         plain = s.plain;
         first_is = stream_at-with_item_other past.got 1 0 x (omega arith) ∙ s.first_is;
@@ -98,10 +101,10 @@ module _ (lane : Lane) (first second : Flow) (next : ℕ) (ended stopped : Bool)
   due_at = ap (λ (ss : List Flow). stream_at ss 0) (joins_due lane first second next ended stopped past s)
 
   pub asked_join : (p : ℕ) → Joins lane first second next ended stopped (was_asked past p)
-  asked_join p = record { means = s.means; cause = s.cause; plain = s.plain; first_is = s.first_is; second_is = s.second_is; others = s.others; first_valid = s.first_valid; second_valid = s.second_valid; gave = s.gave; beyond = s.beyond; there = s.there; paired = s.paired; at_end = s.at_end; stops = s.stops }
+  asked_join p = record { means = s.means; silent = s.silent; cause = s.cause; plain = s.plain; first_is = s.first_is; second_is = s.second_is; others = s.others; first_valid = s.first_valid; second_valid = s.second_valid; gave = s.gave; beyond = s.beyond; there = s.there; paired = s.paired; at_end = s.at_end; stops = s.stops }
 
   pub stopped_join : (p : ℕ) → p < 1 → Joins lane first second next ended true (was_stopped past p)
-  stopped_join zero lt = record { means = s.means; cause = s.cause; plain = s.plain; first_is = s.first_is; second_is = s.second_is; others = s.others; first_valid = s.first_valid; second_valid = s.second_valid; gave = s.gave; beyond = s.beyond; there = s.there; paired = s.paired; at_end = s.at_end; stops = (λ e. inl refl, λ i. refl) }
+  stopped_join zero lt = record { means = s.means; silent = s.silent; cause = s.cause; plain = s.plain; first_is = s.first_is; second_is = s.second_is; others = s.others; first_valid = s.first_valid; second_valid = s.second_valid; gave = s.gave; beyond = s.beyond; there = s.there; paired = s.paired; at_end = s.at_end; stops = (λ e. inl refl, λ i. refl) }
   stopped_join (suc p) lt = absurd (omega arith)
 
 pub ended_join : (lane : Lane) (first second : Flow) (next : ℕ) (stopped : Bool) (past : Past) (p : ℕ) → p < 1 → Joins lane first second next true stopped past → stream_at past.gave p ≡ stream_at (due past) p
@@ -122,6 +125,7 @@ join_gives lane first second next stopped past zero x lt less paired is s =
     let grown : with_item (stream_at past.gave 0) x ≡ given_so_far first second (next + 1) false = ap (λ (t : Flow). with_item t x) s.gave ∙ (item_added (given_so_far first second next false) x (fits_goes_on lane x fits) ∙ ap (λ (xs : List Item). let t : Flow = record { items = xs; mark = still_open } in t) (sym more)) in (
       record {
         means = s.means;
+        silent = s.silent;
         cause = s.cause;
         plain = s.plain;
         first_is = s.first_is;
@@ -148,6 +152,7 @@ join_ends lane first second next stopped past zero x lt all is closed s =
     let grown : with_item (stream_at past.gave 0) x ≡ joined first second = ap (λ (t : Flow). with_item t x) s.gave ∙ (closes_with (given_so_far first second next false) x (joined first second).mark is ∙ ap (λ (xs : List Item). let t : Flow = record { items = xs; mark = (joined first second).mark } in t) (all_paired first second next s.there s.paired all)) in (
       record {
         means = s.means;
+        silent = s.silent;
         cause = s.cause;
         plain = s.plain;
         first_is = s.first_is;

@@ -3,3 +3,4 @@ mod ListSteps
 pub mod Networks
 pub mod RelaySteps
 pub mod Shapes
+pub mod Stream

@@ -1,9 +1,9 @@
 -- What a source does at each call.
 use Rattle.std.proofs.Common.{◌≡◌, ◌≢◌, ℕ, zero, suc, ◌+◌, ◌<◌, ◌≤◌, ◌⊎◌, inl, inr, Bool, true, false, List, [], ◌∷◌, ◌++◌, length, take, slice_index_or, refl, ap, sym, ◌∙◌, subst, arith}
 use Rattle.std.proofs.lemmas.List.{take_more}
-use Rattle.ff_frame.specs.declared.head.StreamHead.TheVariants.{Audio as AudioHead, Video as VideoHead}
+use Rattle.ff_values.specs.declared.head.StreamHead.TheVariants.{Audio as AudioHead, Video as VideoHead}
 use Rattle.ff_frame.specs.declared.item.Item.{Item}
-use Rattle.ff_frame.specs.declared.item.Item.TheVariants.{Audio, Video, Packet, End, Broken}
+use Rattle.ff_frame.specs.declared.item.Item.TheVariants.{Audio, Video, Packet, Trailer, End, Broken}
 use Rattle.ff_frame.specs.declared.item.Lane.{Lane}
 use Rattle.ff_frame.specs.declared.item.Lane.TheVariants.{Frames, Packets}
 use Rattle.ff_frame.specs.Stream.{still_open, whole_stream, LiesBelow}
@@ -20,6 +20,7 @@ pub fits_goes_on : (lane : Lane) (x : Item) → FitsLane lane x → Closes x →
 fits_goes_on lane (Audio f) h c = c
 fits_goes_on lane (Video f) h c = c
 fits_goes_on lane (Packet f) h c = c
+fits_goes_on lane (Trailer f) h c = c
 fits_goes_on (Frames (AudioHead tb rate bits channels codec)) End h c = h
 fits_goes_on (Packets (AudioHead tb rate bits channels codec)) End h c = h
 fits_goes_on (Frames (AudioHead tb rate bits channels codec)) Broken h c = h
@@ -33,6 +34,7 @@ pub item_added : (t : Flow) (x : Item) → (Closes x → ⊥) → with_item t x 
 item_added t (Audio f) c = refl
 item_added t (Video f) c = refl
 item_added t (Packet f) c = refl
+item_added t (Trailer f) c = refl
 item_added t End c = absurd (c tt)
 item_added t Broken c = absurd (c tt)
 
@@ -61,11 +63,11 @@ waits_at lane items next failed past zero lt s =
 waits_at lane items next failed past (suc p) lt s = absurd (omega arith)
 
 pub asked_in : (lane : Lane) (items : List Item) (next : ℕ) (ended ticket failed : Bool) (past : Past) (p : ℕ) → Lists lane items next ended ticket failed past → (ticket ≡ true → (ended ≡ true) ⊎ (failed ≡ true)) → Lists lane items next ended ticket failed (was_asked past p)
-asked_in lane items next ended ticket failed past p s h = record { means = s.means; cause = s.cause; source = s.source; got = s.got; valid = s.valid; gave = s.gave; beyond = s.beyond; tickets = s.tickets; in_range = s.in_range; at_end = s.at_end; asked = λ t i. h t }
+asked_in lane items next ended ticket failed past p s h = record { means = s.means; silent = s.silent; cause = s.cause; source = s.source; got = s.got; valid = s.valid; gave = s.gave; beyond = s.beyond; tickets = s.tickets; in_range = s.in_range; at_end = s.at_end; asked = λ t i. h t }
 
 -- the device failed
 pub fails_at : (lane : Lane) (items : List Item) (next : ℕ) (ended ticket : Bool) (past : Past) (p : ℕ) → Lists lane items next ended ticket false past → Lists lane items next ended ticket true (was_asked past p)
-fails_at lane items next ended ticket past p s = record { means = s.means; cause = s.cause; source = s.source; got = s.got; valid = s.valid; gave = s.gave; beyond = s.beyond; tickets = s.tickets; in_range = s.in_range; at_end = s.at_end; asked = λ t i. inr refl }
+fails_at lane items next ended ticket past p s = record { means = s.means; silent = s.silent; cause = s.cause; source = s.source; got = s.got; valid = s.valid; gave = s.gave; beyond = s.beyond; tickets = s.tickets; in_range = s.in_range; at_end = s.at_end; asked = λ t i. inr refl }
 
 pub list_gives : (lane : Lane) (items : List Item) (next : ℕ) (failed : Bool) (past : Past) (p : ℕ) (x : Item) → p < 1 → next < length items → slice_index_or items next x ≡ x → Lists lane items next false true failed past
     → Lists lane items (next + 1) false false failed (gave_item past p x) × ((stream_at past.gave p).mark ≡ still_open) × LiesBelow (with_item (stream_at past.gave p) x) (stream_at (due past) p)
@@ -74,6 +76,7 @@ list_gives lane items next failed past zero x lt less is s =
     let grown : with_item (stream_at past.gave 0) x ≡ given_of items (next + 1) false = ap (λ (t : Flow). with_item t x) s.gave ∙ given_more lane items next x s.valid less is in (
       record {
         means = s.means;
+        silent = s.silent;
         cause = s.cause;
         source = s.source;
         got = s.got;
@@ -98,6 +101,7 @@ list_ends lane items next failed past zero lt over s =
     let grown : with_item (stream_at past.gave 0) End ≡ given_of items next true = ap (λ (t : Flow). with_item t End) s.gave in (
       record {
         means = s.means;
+        silent = s.silent;
         cause = s.cause;
         source = s.source;
         got = s.got;

@@ -3,7 +3,7 @@ use Rattle.std.proofs.Common.{◌≡◌, ◌≢◌, ◌↔◌, ℕ, zero, suc, �
 use Rattle.std.proofs.lemmas.Bool.Decides.{nat_tests}
 use Rattle.std.proofs.lemmas.List.{append-nil, length-set, length-append}
 use Rattle.ff_frame.specs.declared.item.Item.{Item}
-use Rattle.ff_frame.specs.declared.item.Item.TheVariants.{Audio, Video, Packet, End, Broken}
+use Rattle.ff_frame.specs.declared.item.Item.TheVariants.{Audio, Video, Packet, Trailer, End, Broken}
 use Rattle.ff_frame.specs.declared.item.Lane.{Lane}
 use Rattle.ff_frame.specs.Stream.{still_open, LiesBelow}
 use Rattle.ff_frame.specs.Items.{Closes, with_item, Leads}
@@ -75,6 +75,7 @@ module _ (lane : Lane) (limit left : ℕ) (closed : Bool) (given : List Item) (o
       let at_q : (q : ℕ) → q ≢ p → out_of (slice_set outs p port) q ≡ out_of outs q = λ q n. get_or-set_other outs p q port _ n in (
         record {
           means = s.means ∙ ap (λ (n : ℕ). relay limit n) (sym len);
+          silent = s.silent;
           cause = s.cause;
           plain = s.plain;
           others = s.others;
@@ -110,7 +111,7 @@ module _ (lane : Lane) (limit left : ℕ) (closed : Bool) (given : List Item) (o
       rw (due_is lane limit left closed given outs past s, at_replicate (length outs) p out lt) leads
 
   pub asked_at : (p : ℕ) → Relays lane limit left closed given outs (was_asked past p)
-  asked_at p = record { means = s.means; cause = s.cause; plain = s.plain; others = s.others; valid = s.valid; left_is = s.left_is; closed_is = s.closed_is; gave = s.gave; in_range = s.in_range; beyond = s.beyond; stops = s.stops }
+  asked_at p = record { means = s.means; silent = s.silent; cause = s.cause; plain = s.plain; others = s.others; valid = s.valid; left_is = s.left_is; closed_is = s.closed_is; gave = s.gave; in_range = s.in_range; beyond = s.beyond; stops = s.stops }
 
   got_of : (x : Item) → stream_at (fed past 0 x).got 0 ≡ with_item (stream_at past.got 0) x
   got_of x = stream_at-with_item_same past.got 0 x
@@ -122,6 +123,7 @@ module _ (lane : Lane) (limit left : ℕ) (closed : Bool) (given : List Item) (o
   item_count t (Audio f) = omega (arith, length-append t.items (Audio f ∷ []))
   item_count t (Video f) = omega (arith, length-append t.items (Video f ∷ []))
   item_count t (Packet f) = omega (arith, length-append t.items (Packet f ∷ []))
+  item_count t (Trailer f) = omega (arith, length-append t.items (Trailer f ∷ []))
   item_count t End = omega arith
   item_count t Broken = omega arith
 
@@ -129,6 +131,7 @@ module _ (lane : Lane) (limit left : ℕ) (closed : Bool) (given : List Item) (o
   more_items t (Audio f) = (Audio f ∷ [], refl)
   more_items t (Video f) = (Video f ∷ [], refl)
   more_items t (Packet f) = (Packet f ∷ [], refl)
+  more_items t (Trailer f) = (Trailer f ∷ [], refl)
   more_items t End = ([], append-nil t.items)
   more_items t Broken = ([], append-nil t.items)
 
@@ -143,6 +146,7 @@ module _ (lane : Lane) (limit left : ℕ) (closed : Bool) (given : List Item) (o
       pick (Audio f) b h = no b h.0 ∙ sym (ap closed_mark o)
       pick (Video f) b h = no b h.0 ∙ sym (ap closed_mark o)
       pick (Packet f) b h = no b h.0 ∙ sym (ap closed_mark o)
+      pick (Trailer f) b h = no b h.0 ∙ sym (ap closed_mark o)
       pick End b h = h.1 tt
       pick Broken b h = h.1 tt
 
@@ -154,6 +158,7 @@ module _ (lane : Lane) (limit left : ℕ) (closed : Bool) (given : List Item) (o
       let m = more_items got x in
       let same : stopped_at limit got ≡ stopped_at limit (stream_at (fed past 0 x).got 0) = stopped_same limit got (with_item got x) m.0 m.1 le ∙ ap (λ (t : Flow). stopped_at limit t) (sym (got_of x)) in record {
         means = s.means;
+        silent = s.silent;
         cause = s.cause;
         plain = s.plain;
         others = others_fed x;
@@ -183,6 +188,7 @@ module _ (lane : Lane) (limit left : ℕ) (closed : Bool) (given : List Item) (o
   closing_same t (Audio f) c = absurd c
   closing_same t (Video f) c = absurd c
   closing_same t (Packet f) c = absurd c
+  closing_same t (Trailer f) c = absurd c
   closing_same t End c = refl
   closing_same t Broken c = refl
 
@@ -193,6 +199,7 @@ module _ (lane : Lane) (limit left : ℕ) (closed : Bool) (given : List Item) (o
       let same : (with_item got x).items ≡ got.items = closing_same got x c in
       let less : length (with_item got x).items < limit = omega (arith, s.left_is, more, ap length same) in record {
         means = s.means;
+        silent = s.silent;
         cause = s.cause;
         plain = s.plain;
         others = others_fed x;
@@ -209,6 +216,7 @@ module _ (lane : Lane) (limit left : ℕ) (closed : Bool) (given : List Item) (o
   data_items t (Audio f) c = (refl, refl)
   data_items t (Video f) c = (refl, refl)
   data_items t (Packet f) c = (refl, refl)
+  data_items t (Trailer f) c = (refl, refl)
   data_items t End c = absurd (c tt)
   data_items t Broken c = absurd (c tt)
 
@@ -219,6 +227,7 @@ module _ (lane : Lane) (limit left : ℕ) (closed : Bool) (given : List Item) (o
       let kept = data_items got x c in
       let count : length (with_item got x).items ≡ length got.items + 1 = ap length kept.0 ∙ length-append got.items (x ∷ []) in record {
         means = s.means;
+        silent = s.silent;
         cause = s.cause;
         plain = s.plain;
         others = others_fed x;

@@ -13,8 +13,9 @@ use Rattle.ff_frame.specs.LaneLaws.{valid_front}
 use Rattle.ff_net.specs.declared.fault.Fault.{Fault}
 use Rattle.ff_net.specs.Ways.{Flow, AreValid}
 use Rattle.ff_net.specs.Pasts.{Past, IsIn, due}
-use Rattle.ff_net.specs.Laws.{CauseStays, OutputsClose}
+use Rattle.ff_net.specs.Laws.{CauseStays, OutputsClose, MaySpend, Settles}
 use Rattle.ff_net.proofs.Flows.{take_front, take_whole, due_meant}
+use Rattle.ff_net.proofs.Matters.{may_spend}
 use Rattle.ff_net_plain.specs.RelayLaws.{relays_no_fault, below_or, take_append, length_front}
 use Rattle.ff_net_plain.specs.ListLaws.{take_less}
 use Rattle.ff_net_plain.specs.Joins.{joined, join, input_of, is_spent_join, given_so_far, Joins}
@@ -162,8 +163,8 @@ module _ (lane : Lane) (first second : Flow) (next : ℕ) (ended stopped : Bool)
   stopped_closes e zero lt goes = absurd (goes (s.stops.0 e))
   stopped_closes e (suc q) lt goes = absurd (omega arith)
 
-  pub joins_spent_only : (p : ℕ) → is_spent_join first second stopped p → IsClosed (stream_at past.got p) ⊎ ((0 < 1) × OutputsClose 1 past)
-  joins_spent_only p sp = pick p (sp.0) (sp.1)
+  pub joins_spent_only : (p : ℕ) → is_spent_join first second stopped p → MaySpend (lane ∷ lane ∷ []) 1 past p
+  joins_spent_only p sp = may_spend (lane ∷ lane ∷ []) past 1 p joins_valid joins_monotone (pick p (sp.0) (sp.1))
     where
       pick : (k : ℕ) → k < 2 → (stopped ≡ true) ⊎ (IsClosed (joined first second) ⊎ IsClosed (input_of first second k)) → IsClosed (stream_at past.got k) ⊎ ((0 < 1) × OutputsClose 1 past)
       pick k lt (inl e) = inr (omega arith, stopped_closes e)
@@ -187,12 +188,9 @@ module _ (lane : Lane) (first second : Flow) (next : ℕ) (ended stopped : Bool)
           let shut : IsClosed (stream_at (past.task.means past.got) 0) = c 0 (omega arith) on in
           inr (inl (subst (λ (ss : List Flow). IsClosed (stream_at ss 0)) means_at shut))
 
-  pub joins_all_spent : ((p : ℕ) → p < 2 → is_spent_join first second stopped p) → OutputsClose 1 past
-  joins_all_spent h = pick ((h 0 (omega arith)).1) ((h 1 (omega arith)).1)
-    where
-      pick : (stopped ≡ true) ⊎ (IsClosed (joined first second) ⊎ IsClosed first) → (stopped ≡ true) ⊎ (IsClosed (joined first second) ⊎ IsClosed second) → OutputsClose 1 past
-      pick (inl e) g = stopped_closes e
-      pick (inr (inl c)) g = closes_from c
-      pick (inr (inr c)) (inl e) = stopped_closes e
-      pick (inr (inr c)) (inr (inl d)) = closes_from d
-      pick (inr (inr c)) (inr (inr d)) = closes_from (joined_closed first second c d)
+  settles_at : Settles (lane ∷ lane ∷ []) 1 join
+  settles_at ss v c zero lt = joined_closed (stream_at ss 0) (stream_at ss 1) (c 0 (omega arith)) (c 1 (omega arith))
+  settles_at ss v c (suc q) lt = absurd (omega arith)
+
+  pub joins_settles : Settles (lane ∷ lane ∷ []) 1 past.task.means
+  joins_settles = subst (λ (f : List Flow → List Flow). Settles (lane ∷ lane ∷ []) 1 f) (sym s.means) settles_at

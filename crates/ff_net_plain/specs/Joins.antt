@@ -6,6 +6,7 @@ use Rattle.ff_frame.specs.Lanes.{IsValid}
 use Rattle.ff_frame.specs.Ports.{nothing, stream_at, IsClosed}
 use Rattle.ff_net.specs.Ways.{Flow}
 use Rattle.ff_net.specs.Pasts.{Past, IsIn}
+use Rattle.ff_net.specs.Laws.{IsSilent}
 use Rattle.ff_net_plain.specs.declared.join.Ending.{Ending}
 use Rattle.ff_net_plain.specs.declared.join.Ending.TheVariants.{Open, Whole, Broken}
 use Rattle.ff_net_plain.specs.declared.join.Kept.{Kept}
@@ -41,6 +42,7 @@ given_so_far first second next ended = cond ended (joined first second) (record 
 
 pub record Joins (lane : Lane) (first second : Flow) (next : ℕ) (ended stopped : Bool) (past : Past) : Type 0 where
   pub means : past.task.means ≡ join
+  pub silent : IsSilent past
   pub cause : past.task.cause ≡ no_cause
   pub plain : past.task.source ≡ false
   pub first_is : stream_at past.got 0 ≡ first

@@ -3,6 +3,7 @@ pub mod Joins
 pub mod ListLaws
 pub mod Lists
 pub mod Networks
+pub mod Packets
 pub mod PlainLaws
 pub mod Plains
 pub mod RelayLaws

@@ -9,6 +9,7 @@ use Rattle.ff_net.specs.declared.fault.Fault.{Fault}
 use Rattle.ff_net.specs.declared.fault.Fault.TheVariants.{Device}
 use Rattle.ff_net.specs.Ways.{Flow}
 use Rattle.ff_net.specs.Pasts.{Past, IsIn}
+use Rattle.ff_net.specs.Laws.{IsSilent}
 use Rattle.ff_net_plain.specs.Relays.{no_cause}
 
 abbrev pub list_of : List Item → List Flow → List Flow
@@ -28,6 +29,7 @@ fault_if true = Some Device
 
 pub record Lists (lane : Lane) (items : List Item) (next : ℕ) (ended ticket failed : Bool) (past : Past) : Type 0 where
   pub means : past.task.means ≡ list_of items
+  pub silent : IsSilent past
   pub cause : past.task.cause ≡ no_cause
   pub source : past.task.source ≡ true
   pub got : (p : ℕ) → stream_at past.got p ≡ nothing

@@ -14,8 +14,9 @@ use Rattle.ff_frame.specs.LaneLaws.{valid_front}
 use Rattle.ff_net.specs.declared.fault.Fault.{Fault}
 use Rattle.ff_net.specs.Ways.{Flow, lane_at, AreValid}
 use Rattle.ff_net.specs.Pasts.{Past, IsIn, due}
-use Rattle.ff_net.specs.Laws.{CauseStays, OutputsClose}
+use Rattle.ff_net.specs.Laws.{CauseStays, OutputsClose, MaySpend, Settles}
 use Rattle.ff_net.proofs.Flows.{take_front, take_whole, due_meant}
+use Rattle.ff_net.proofs.Matters.{may_spend}
 use Rattle.ff_net_plain.specs.declared.relay.Out.{Out}
 use Rattle.ff_net_plain.specs.Relays.{stopped_at, relay, closed_mark, out_of, with_end, outs_stopped, is_spent_relay, Relays}
 
@@ -220,8 +221,8 @@ module _ (lane : Lane) (limit left : ℕ) (closed : Bool) (given : List Item) (o
   from_closed : closed ≡ true → IsClosed (stream_at past.got 0)
   from_closed e = closed_true (stream_at past.got 0).mark (sym s.closed_is ∙ e)
 
-  pub relays_spent_only : (p : ℕ) → is_spent_relay left closed outs p → IsClosed (stream_at past.got p) ⊎ ((0 < length (replicate (length outs) lane)) × OutputsClose (length (replicate (length outs) lane)) past)
-  relays_spent_only zero sp = elim (sp.1) [
+  spent_by : (p : ℕ) → is_spent_relay left closed outs p → IsClosed (stream_at past.got p) ⊎ ((0 < length (replicate (length outs) lane)) × OutputsClose (length (replicate (length outs) lane)) past)
+  spent_by zero sp = elim (sp.1) [
     | inl c ↦ inl (from_closed c)
     | inr r ↦ inr (
       subst (λ (n : ℕ). 0 < n) (sym out_count) r.0,
@@ -231,7 +232,10 @@ module _ (lane : Lane) (limit left : ℕ) (closed : Bool) (given : List Item) (o
       ],
     )
   ]
-  relays_spent_only (suc p) sp = absurd (let lt : suc p < 1 = sp.0 in omega arith)
+  spent_by (suc p) sp = absurd (let lt : suc p < 1 = sp.0 in omega arith)
+
+  pub relays_spent_only : (p : ℕ) → is_spent_relay left closed outs p → MaySpend (lane ∷ []) (length (replicate (length outs) lane)) past p
+  relays_spent_only p sp = may_spend (lane ∷ []) past (length (replicate (length outs) lane)) p relays_valid relays_monotone (spent_by p sp)
 
   pub relays_closed_spent : (p : ℕ) → p < 1 → IsClosed (stream_at past.got p) → is_spent_relay left closed outs p
   relays_closed_spent zero lt c = (lt, inl (s.closed_is ∙ true_closed (stream_at past.got 0).mark c))
@@ -256,11 +260,10 @@ module _ (lane : Lane) (limit left : ℕ) (closed : Bool) (given : List Item) (o
           let got : IsClosed (stream_at past.got 0) = subst (λ (x : Flow). IsClosed x) (stopped_before limit (stream_at past.got 0) less) out in
           inl (s.closed_is ∙ true_closed (stream_at past.got 0).mark got)
 
-  pub relays_all_spent : ((p : ℕ) → p < 1 → is_spent_relay left closed outs p) → OutputsClose (length (replicate (length outs) lane)) past
-  relays_all_spent h = elim ((h 0 (omega arith)).1) [
-    | inl c ↦ closes_from (closed_or_stopped limit (stream_at past.got 0) (from_closed c))
-    | inr r ↦ elim (r.1) [
-      | inl z ↦ closes_from (from_left z)
-      | inr a ↦ λ q lt goes. let lt' : q < length outs = subst (λ (n : ℕ). q < n) out_count lt in absurd (goes ((s.stops q lt').0 (all_stop outs a q lt')))
-    ]
-  ]
+  settles_at : Settles (lane ∷ []) (length (replicate (length outs) lane)) (relay limit (length outs))
+  settles_at ss v c q lt =
+      let lt' : q < length outs = subst (λ (n : ℕ). q < n) out_count lt in
+      rw (at_replicate (length outs) q (stopped_at limit (stream_at ss 0)) lt') (closed_or_stopped limit (stream_at ss 0) (c 0 (omega arith)))
+
+  pub relays_settles : Settles (lane ∷ []) (length (replicate (length outs) lane)) past.task.means
+  relays_settles = subst (λ (f : List Flow → List Flow). Settles (lane ∷ []) (length (replicate (length outs) lane)) f) (sym s.means) settles_at

@@ -10,6 +10,7 @@ use Rattle.ff_frame.specs.Ports.{nothing, stream_at}
 use Rattle.ff_net.specs.declared.fault.Fault.{Fault}
 use Rattle.ff_net.specs.Ways.{Flow}
 use Rattle.ff_net.specs.Pasts.{Past, IsIn}
+use Rattle.ff_net.specs.Laws.{IsSilent}
 use Rattle.ff_net_plain.specs.declared.relay.Out.{Out}
 
 -- the first n items, whole where so many are there
@@ -43,6 +44,7 @@ is_spent_relay left closed outs p = (p < 1) × ((closed ≡ true) ⊎ ((0 < leng
 
 pub record Relays (lane : Lane) (limit left : ℕ) (closed : Bool) (given : List Item) (outs : List Out) (past : Past) : Type 0 where
   pub means : past.task.means ≡ relay limit (length outs)
+  pub silent : IsSilent past
   pub cause : past.task.cause ≡ no_cause
   pub plain : past.task.source ≡ false
   pub others : (p : ℕ) → 1 ≤ p → stream_at past.got p ≡ nothing

@@ -1,7 +1,7 @@
 -- What the machines are there for, and where they can be.
 use Rattle.std.specs.Prelude.{ℕ, List, true, false}
 use Rattle.ff_frame.specs.declared.item.Item.{Item}
-use Rattle.ff_net.specs.Pasts.{Past, Task}
+use Rattle.ff_net.specs.Pasts.{Past, Task, no_events}
 use Rattle.ff_net_plain.specs.declared.join.Join.{Join}
 use Rattle.ff_net_plain.specs.declared.relay.Out.{Out}
 use Rattle.ff_net_plain.specs.declared.relay.Relay.{Relay}
@@ -12,15 +12,15 @@ use Rattle.ff_net_plain.specs.Relays.{Relays, relay, no_cause}
 
 -- to give these items, and the end
 abbrev pub list_task : List Item → Task
-list_task items = record { means = list_of items; cause = no_cause; source = true }
+list_task items = record { means = list_of items; cause = no_cause; source = true; tells = no_events }
 
 -- to repeat the first items, so many, on so many outputs
 abbrev pub relay_task : ℕ → ℕ → Task
-relay_task limit count = record { means = relay limit count; cause = no_cause; source = false }
+relay_task limit count = record { means = relay limit count; cause = no_cause; source = false; tells = no_events }
 
 -- to give the first of each pair
 abbrev pub join_task : Task
-join_task = record { means = join; cause = no_cause; source = false }
+join_task = record { means = join; cause = no_cause; source = false; tells = no_events }
 
 -- the machine can be where it is after this past
 abbrev pub source_stands : Source → Past → Type 0

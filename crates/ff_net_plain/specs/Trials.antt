@@ -1,8 +1,8 @@
 -- The lanes of machines that are tried.
 use Rattle.std.specs.Prelude.{ℕ, List, [], ◌∷◌, length, replicate}
 use Rattle.ff_time.specs.Fraction.{Fraction}
-use Rattle.ff_frame.specs.declared.head.Codec.TheVariants.{PcmU8}
-use Rattle.ff_frame.specs.declared.head.StreamHead.TheVariants.{Audio}
+use Rattle.ff_values.specs.declared.head.Codec.TheVariants.{PcmU8}
+use Rattle.ff_values.specs.declared.head.StreamHead.TheVariants.{Audio}
 use Rattle.ff_frame.specs.declared.item.Item.{Item}
 use Rattle.ff_frame.specs.declared.item.Lane.{Lane}
 use Rattle.ff_frame.specs.declared.item.Lane.TheVariants.{Packets}

@@ -4,10 +4,10 @@ ghost use Rattle.ff_frame.specs.Stream.{still_open};
 ghost use Rattle.ff_frame.specs.Items.{with_item};
 ghost use Rattle.ff_frame.specs.Ports.{nothing};
 ghost use Rattle.ff_net_plain.specs.Joins.{Joins, joined, mark_of, kept_of, is_spent_join};
-ghost use Rattle.ff_net_plain.specs.JoinLaws.{joins_valid, joins_keeps, joins_monotone, joins_cause_stays, joins_calm, joins_given, joins_unbroken, joins_spent_only, joins_closed_spent, joins_done_spent, joins_all_spent};
+ghost use Rattle.ff_net_plain.specs.JoinLaws.{joins_valid, joins_keeps, joins_monotone, joins_cause_stays, joins_calm, joins_given, joins_unbroken, joins_spent_only, joins_closed_spent, joins_done_spent, joins_settles};
 ghost use Rattle.ff_net_plain.specs.RelayLaws.{relays_no_fault};
 
-use ff_frame::{Item, Lane, Refused, Ticket};
+use ff_frame::{Event, Item, Lane, Refused, Ticket};
 use ff_net::{Fault, Machine};
 use std::alloc::{AllocError, Global};
 
@@ -48,6 +48,7 @@ impl Kept {
             Item::Audio(frame) => self.push(Item::Audio(frame)),
             Item::Video(frame) => self.push(Item::Video(frame)),
             Item::Packet(packet) => self.push(Item::Packet(packet)),
+            Item::Trailer(totals) => self.push(Item::Trailer(totals)),
         }
     }
 
@@ -159,6 +160,8 @@ fn closing_item(ending: Ending) -> Option<Item>
 }
 
 impl Machine for Join {
+    ghost use Rattle.ff_net.specs.Silence.{silent_front};
+
     ghost in_lanes = { λ m. m.lane ∷ m.lane ∷ [] };
 
     ghost out_lanes = { λ m. m.lane ∷ [] };
@@ -246,6 +249,10 @@ impl Machine for Join {
         }
     }
 
+    fn next_event(&mut self) -> Option<Event> {
+        None
+    }
+
     ghost is_source = { λ m past s. s.plain };
 
     ghost valid = { λ m past s. joins_valid m.lane (kept_of m.first) (kept_of m.second) m.next m.ended m.stopped past s };
@@ -270,7 +277,9 @@ impl Machine for Join {
 
     ghost done_spent = { λ m past p s lt z c a. joins_done_spent m.lane (kept_of m.first) (kept_of m.second) m.next m.ended m.stopped past s p lt c };
 
-    ghost all_spent = { λ m past s n h. joins_all_spent m.lane (kept_of m.first) (kept_of m.second) m.next m.ended m.stopped past s h };
+    ghost settles = { λ m past s n. joins_settles m.lane (kept_of m.first) (kept_of m.second) m.next m.ended m.stopped past s };
+
+    ghost told = { λ m past s. silent_front past s.silent };
 
     ghost ticket_used = { λ m past q s i f p a h. h };
 }

@@ -1,17 +1,18 @@
 //! Plain machines, to try a network with: a source of a list, a relay that repeats its input on its outputs, ends after so
-//! many items, and keeps all that it was fed, and one that joins two inputs. Each meets every law of a machine.
+//! many items, and keeps all that it was fed, and one that joins two inputs. Each meets every law of a machine. Beside them
+//! packets of one byte, and a thread that sends them over a link to another.
 #![tactic(auto)]
 
 mod join;
-mod network;
+mod packets;
+mod passing;
 mod plain;
 mod relay;
 mod source;
-mod trial;
 
 pub use join::{Ending, Join, Kept};
-pub use network::{Outcome, Place, Plan, try_network};
+pub use packets::{is_packet, lane_of, one_over, packet};
+pub use passing::{Passed, new_link, pass_packets};
 pub use plain::Plain;
 pub use relay::Relay;
 pub use source::Source;
-pub use trial::{Trial, try_relay};

@@ -1,7 +1,7 @@
 use crate::join::Join;
 use crate::relay::Relay;
 use crate::source::Source;
-use ff_frame::{Item, Refused, Ticket};
+use ff_frame::{Event, Item, Refused, Ticket};
 use ff_net::{Fault, Machine};
 use std::alloc::AllocError;
 
@@ -19,7 +19,7 @@ pub enum Plain {
 impl Machine for Plain {
     ghost use Rattle.std.specs.Prelude.{None};
     ghost use Rattle.ff_net_plain.specs.Plains.{plain_ins, plain_outs, plain_source, plain_fault, plain_failures, plain_holds, plain_spent, plain_stands};
-    ghost use Rattle.ff_net_plain.specs.PlainLaws.{plain_is_source, plain_valid, plain_keeps, plain_monotone, plain_cause_stays, plain_calm, plain_given, plain_unbroken, plain_caused, plain_spent_only, plain_closed_spent, plain_done_spent, plain_all_spent, plain_ticket_used};
+    ghost use Rattle.ff_net_plain.specs.PlainLaws.{plain_is_source, plain_valid, plain_keeps, plain_monotone, plain_cause_stays, plain_calm, plain_given, plain_unbroken, plain_caused, plain_spent_only, plain_closed_spent, plain_done_spent, plain_settles, plain_told, plain_ticket_used};
 
     ghost in_lanes = { plain_ins };
 
@@ -111,6 +111,14 @@ impl Machine for Plain {
         }
     }
 
+    fn next_event(&mut self) -> Option<Event> {
+        match self {
+            Plain::Source(m) => m.next_event(),
+            Plain::Relay(m) => m.next_event(),
+            Plain::Join(m) => m.next_event(),
+        }
+    }
+
     ghost is_source = { plain_is_source };
 
     ghost valid = { plain_valid };
@@ -135,7 +143,9 @@ impl Machine for Plain {
 
     ghost done_spent = { plain_done_spent };
 
-    ghost all_spent = { plain_all_spent };
+    ghost settles = { plain_settles };
+
+    ghost told = { plain_told };
 
     ghost ticket_used = { plain_ticket_used };
 }

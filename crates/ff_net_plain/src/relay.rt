@@ -1,8 +1,8 @@
 ghost use Rattle.std.specs.Prelude.{◌≡◌, ◌<◌, ◌⊎◌, ℕ, length, replicate, true, false, None, Some, Ok, Err, ◌∷◌, []};
 ghost use Rattle.ff_net_plain.specs.Relays.{Relays, is_spent_relay, outs_stopped};
-ghost use Rattle.ff_net_plain.specs.RelayLaws.{relays_no_fault, relays_valid, relays_keeps, relays_monotone, relays_cause_stays, relays_calm, relays_given, relays_unbroken, relays_spent_only, relays_closed_spent, relays_done_spent, relays_all_spent};
+ghost use Rattle.ff_net_plain.specs.RelayLaws.{relays_no_fault, relays_valid, relays_keeps, relays_monotone, relays_cause_stays, relays_calm, relays_given, relays_unbroken, relays_spent_only, relays_closed_spent, relays_done_spent, relays_settles};
 
-use ff_frame::{Item, Lane, Refused, Ticket};
+use ff_frame::{Event, Item, Lane, Refused, Ticket};
 use ff_net::{Fault, Machine};
 use std::alloc::{AllocError, Global};
 
@@ -85,6 +85,8 @@ fn all_stopped(outs: &Vec<Out>) -> bool
 }
 
 impl Machine for Relay {
+    ghost use Rattle.ff_net.specs.Silence.{silent_front};
+
     ghost in_lanes = { λ m. m.lane ∷ [] };
 
     ghost out_lanes = { λ m. replicate (length m.outs.items) m.lane };
@@ -188,6 +190,10 @@ impl Machine for Relay {
         all_stopped(&self.outs)
     }
 
+    fn next_event(&mut self) -> Option<Event> {
+        None
+    }
+
     ghost is_source = { λ m past s. s.plain };
 
     ghost valid = { λ m past s. relays_valid m.lane m.limit m.left m.closed m.given.items m.outs.items past s };
@@ -212,7 +218,9 @@ impl Machine for Relay {
 
     ghost done_spent = { λ m past p s lt z c a. relays_done_spent m.lane m.limit m.left m.closed m.given.items m.outs.items past s p lt z c };
 
-    ghost all_spent = { λ m past s n h. relays_all_spent m.lane m.limit m.left m.closed m.given.items m.outs.items past s h };
+    ghost settles = { λ m past s n. relays_settles m.lane m.limit m.left m.closed m.given.items m.outs.items past s };
+
+    ghost told = { λ m past s. silent_front past s.silent };
 
     ghost ticket_used = { λ m past q s i f p a h. h };
 }

@@ -2,7 +2,7 @@ ghost use Rattle.std.specs.Prelude.{◌≡◌, ◌<◌, ◌⊎◌, ℕ, length, 
 ghost use Rattle.ff_net_plain.specs.Lists.{Lists, fault_if, as_count};
 ghost use Rattle.ff_net_plain.specs.ListLaws.{lists_keeps, lists_monotone, lists_cause_stays, lists_calm, lists_given, lists_unbroken, lists_caused, lists_ticket_used, lists_no_port, lists_is_source};
 
-use ff_frame::{Item, Lane, Refused, Ticket};
+use ff_frame::{Event, Item, Lane, Refused, Ticket};
 use ff_net::{Fault, Machine};
 use std::alloc::{AllocError, Global};
 
@@ -65,6 +65,8 @@ impl Source {
 }
 
 impl Machine for Source {
+    ghost use Rattle.ff_net.specs.Silence.{silent_front};
+
     ghost in_lanes = { λ m. [] };
 
     ghost out_lanes = { λ m. m.lane ∷ [] };
@@ -155,6 +157,10 @@ impl Machine for Source {
         false
     }
 
+    fn next_event(&mut self) -> Option<Event> {
+        None
+    }
+
     ghost is_source = { λ m past s. s.source };
 
     ghost valid = { λ m past s. s.got };
@@ -179,7 +185,9 @@ impl Machine for Source {
 
     ghost done_spent = { λ m past p s lt z c a. absurd (lists_no_port p lt) };
 
-    ghost all_spent = { λ m past s n h. absurd (lists_is_source m.number n) };
+    ghost settles = { λ m past s n. absurd (lists_is_source m.number n) };
+
+    ghost told = { λ m past s. silent_front past s.silent };
 
     ghost ticket_used = { λ m past q s i f p a h. lists_ticket_used m.lane m.items.items m.next m.ended m.ticket m.failed past s q f p a h };
 }

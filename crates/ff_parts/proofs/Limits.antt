@@ -5,7 +5,7 @@ use Rattle.std.proofs.lemmas.Bool.Decides.{nat_tests}
 use Rattle.ff_frame.specs.declared.item.Item.{Item}
 use Rattle.ff_frame.specs.declared.item.Item.TheVariants.{Packet}
 use Rattle.ff_frame.specs.declared.item.Lane.{Lane}
-use Rattle.ff_frame.specs.declared.packet.Pkt.{Pkt}
+use Rattle.ff_values.specs.declared.packet.Pkt.{Pkt}
 use Rattle.ff_frame.specs.Within.{some_pass, before_pass}
 use Rattle.ff_parts.specs.Demuxing.{passes_in_demux, last_byte}
 

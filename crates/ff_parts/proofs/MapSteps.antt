@@ -2,7 +2,7 @@
 use Rattle.std.proofs.Common.{All, ◌≡◌, ◌≢◌, ◌↔◌, ℕ, zero, suc, ◌<◌, ◌≤◌, ◌⊎◌, inl, inr, Bool, true, false, ◌||◌, List, [], ◌∷◌, ◌++◌, map, refl, ap, sym, ◌∙◌, subst, arith}
 use Rattle.std.proofs.lemmas.List.{map-append}
 use Rattle.ff_frame.specs.declared.item.Item.{Item}
-use Rattle.ff_frame.specs.declared.item.Item.TheVariants.{Audio, Video, Packet, End, Broken}
+use Rattle.ff_frame.specs.declared.item.Item.TheVariants.{Audio, Video, Packet, Trailer, End, Broken}
 use Rattle.ff_frame.specs.declared.item.Lane.{Lane}
 use Rattle.ff_frame.specs.Stream.{still_open, LiesBelow, map_stream}
 use Rattle.ff_frame.specs.Items.{Closes, with_item, Leads}
@@ -20,6 +20,7 @@ closes_or : (x : Item) → Closes x ⊎ (Closes x → ⊥)
 closes_or (Audio f) = inr (λ c. c)
 closes_or (Video f) = inr (λ c. c)
 closes_or (Packet p) = inr (λ c. c)
+closes_or (Trailer t) = inr (λ c. c)
 closes_or End = inl tt
 closes_or Broken = inl tt
 
@@ -27,6 +28,7 @@ data_item : (t : Flow) (x : Item) → (Closes x → ⊥) → ((with_item t x).it
 data_item t (Audio f) c = (refl, refl)
 data_item t (Video f) c = (refl, refl)
 data_item t (Packet f) c = (refl, refl)
+data_item t (Trailer x) c = (refl, refl)
 data_item t End c = absurd (c tt)
 data_item t Broken c = absurd (c tt)
 
@@ -34,6 +36,7 @@ closing_item : (f : Item → Item) (t : Flow) (x : Item) → Closes x → with_i
 closing_item f t (Audio a) c = absurd c
 closing_item f t (Video a) c = absurd c
 closing_item f t (Packet p) c = absurd c
+closing_item f t (Trailer x) c = absurd c
 closing_item f t End c = refl
 closing_item f t Broken c = refl
 
@@ -112,6 +115,7 @@ module _ (lane_in lane_out : Lane) (f : Item → Item) (queue : List Item) (clos
       record {
         carries = s.carries;
         means = s.means;
+        silent = s.silent;
         cause = s.cause;
         plain = s.plain;
         others = others_fed x;
@@ -141,6 +145,7 @@ module _ (lane_in lane_out : Lane) (f : Item → Item) (queue : List Item) (clos
         record {
           carries = s.carries;
           means = s.means;
+          silent = s.silent;
           cause = s.cause;
           plain = s.plain;
           others = s.others;

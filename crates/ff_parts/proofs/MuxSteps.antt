@@ -5,9 +5,9 @@ use Rattle.std.specs.Io.KnownBytes.{Appends}
 use Rattle.std.proofs.lemmas.List.Concat.{flat_map-append}
 use mathlib.Core.List.{IsPrefix}
 use Rattle.ff_lists.specs.Appends.{AppendsPrefix}
-use Rattle.ff_frame.specs.declared.head.StreamHead.{StreamHead}
+use Rattle.ff_values.specs.declared.head.StreamHead.{StreamHead}
 use Rattle.ff_frame.specs.declared.item.Item.{Item}
-use Rattle.ff_frame.specs.declared.item.Item.TheVariants.{Audio, Video, Packet, End, Broken}
+use Rattle.ff_frame.specs.declared.item.Item.TheVariants.{Audio, Video, Packet, Trailer, End, Broken}
 use Rattle.ff_frame.specs.declared.item.Lane.TheVariants.{Packets}
 use Rattle.ff_frame.specs.Stream.{still_open}
 use Rattle.ff_frame.specs.Items.{Closes, with_item}
@@ -45,6 +45,7 @@ item_added : (head : StreamHead) (s : Flow) (x : Item) → unpatched head (with_
 item_added head s (Audio f) = ap (λ b. header head ++ b) (lines_added s.items (Audio f)) ∙ sym (append_assoc (header head) (hash_body s.items) (lines_of (Audio f)))
 item_added head s (Video f) = ap (λ b. header head ++ b) (lines_added s.items (Video f)) ∙ sym (append_assoc (header head) (hash_body s.items) (lines_of (Video f)))
 item_added head s (Packet p) = ap (λ b. header head ++ b) (lines_added s.items (Packet p)) ∙ sym (append_assoc (header head) (hash_body s.items) (lines_of (Packet p)))
+item_added head s (Trailer x) = ap (λ b. header head ++ b) (lines_added s.items (Trailer x)) ∙ sym (append_assoc (header head) (hash_body s.items) (lines_of (Trailer x)))
 item_added head s End = sym (append-nil (unpatched head s))
 item_added head s Broken = sym (append-nil (unpatched head s))
 
@@ -71,6 +72,7 @@ something : (s : Flow) (x : Item) → with_item s x ≢ nothing
 something s (Audio f) e = not_empty s.items (Audio f) (ap (λ (t : Flow). t.items) e)
 something s (Video f) e = not_empty s.items (Video f) (ap (λ (t : Flow). t.items) e)
 something s (Packet p) e = not_empty s.items (Packet p) (ap (λ (t : Flow). t.items) e)
+something s (Trailer x) e = not_empty s.items (Trailer x) (ap (λ (t : Flow). t.items) e)
 something s End e = let m = ap (λ (t : Flow). t.mark) e in cc
 something s Broken e = let m = ap (λ (t : Flow). t.mark) e in cc
 
@@ -96,6 +98,7 @@ module _ (holds now : Option (List ℕ)) (head : StreamHead) (begun closed close
         bytes,
         record {
           task = s.1.task;
+          silent = s.1.silent;
           valid = v;
           others = λ p le. let other : p ≢ 0 = omega (arith, le) in stream_at-with_item_other past.got 0 p x other ∙ s.1.others p le;
           gave = s.1.gave;

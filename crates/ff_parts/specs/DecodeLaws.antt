@@ -1,18 +1,20 @@
 -- What decoding makes of what a lane of packets carries.
-use Rattle.std.specs.Prelude.{◌≡◌, ℕ, zero, suc, ◌*◌, ◌/◌, ◌%◌, ◌<◌, ℤ, pos, ◌+ℤ◌, List, [], ◌∷◌, map, length, refl}
+use Rattle.std.specs.Prelude.{◌≡◌, ◌↔◌, ℕ, zero, suc, ◌*◌, ◌/◌, ◌%◌, ◌<◌, ℤ, pos, ◌+ℤ◌, List, [], ◌∷◌, map, length, refl}
 use Rattle.std.proofs.Common.{sym, ap, ◌∙◌, arith, get_or}
 use Rattle.std.proofs.lemmas.List.{length-map}
 use Rattle.std.proofs.Math.Nat.{mul-div_cancel}
-use Rattle.ff_frame.specs.declared.packet.Pkt.{Pkt}
-use Rattle.ff_frame.specs.declared.head.StreamHead.{StreamHead}
-use Rattle.ff_frame.specs.declared.head.StreamHead.TheVariants.{Audio as AudioHead, Video as VideoHead}
+use Rattle.ff_values.specs.declared.packet.Pkt.{Pkt}
+use Rattle.ff_values.specs.declared.head.StreamHead.{StreamHead}
+use Rattle.ff_values.specs.declared.head.StreamHead.TheVariants.{Audio as AudioHead, Video as VideoHead}
 use Rattle.ff_frame.specs.declared.item.Item.{Item}
-use Rattle.ff_frame.specs.declared.item.Item.TheVariants.{Audio, Video, Packet, End, Broken}
+use Rattle.ff_frame.specs.declared.item.Item.TheVariants.{Audio, Video, Packet, Trailer, End, Broken}
 use Rattle.ff_frame.specs.declared.item.Lane.TheVariants.{Frames, Packets}
 use Rattle.ff_frame.specs.Items.{Closes}
-use Rattle.ff_frame.specs.PcmLaws.{pcm_packet}
-use Rattle.ff_frame.specs.Lanes.{sample_bytes, IsPcm, IsFrameOf, FitsFrames, FitsPackets, StartsAfter}
-use Rattle.ff_frame.specs.Times.{start_of, end_of}
+use Rattle.ff_values.specs.PcmLaws.{pcm_packet, pcm_not_flac}
+use Rattle.ff_values.specs.Heads.{IsFrameOf}
+use Rattle.ff_values.specs.Codecs.{sample_bytes, IsPcm}
+use Rattle.ff_frame.specs.Lanes.{FitsFrames, FitsPackets, StartsAfter}
+use Rattle.ff_frame.specs.Times.{HasTime, start_of, end_of}
 use Rattle.ff_pcm.specs.Frames.{rate_of, channels_of, bits_of, codec_of, IsPcmHead, HasBlocks, frame_of}
 use Rattle.ff_pcm.specs.Samples.{StandFor}
 use Rattle.ff_pcm.proofs.SampleLaws.{all_fit, samples_stand, packet_audio, interleaved}
@@ -65,6 +67,7 @@ fits_decoded : (head : StreamHead) (x : Item) → IsPcmHead head → FitsPackets
 fits_decoded (AudioHead tb rate bits channels codec) (Audio f) h t = absurd t
 fits_decoded (AudioHead tb rate bits channels codec) (Video f) h t = absurd t
 fits_decoded (AudioHead tb rate bits channels codec) (Packet p) h t = packet_frame (AudioHead tb rate bits channels codec) p h (pcm_packet codec channels p h.coded t.1)
+fits_decoded (AudioHead tb rate bits channels codec) (Trailer x) h t = absurd (pcm_not_flac codec h.coded t)
 fits_decoded (AudioHead tb rate bits channels codec) End h t = absurd t
 fits_decoded (AudioHead tb rate bits channels codec) Broken h t = absurd t
 fits_decoded (VideoHead tb format width height sar_num sar_den) x h t = absurd h.sound
@@ -73,6 +76,7 @@ starts_decoded : (head : StreamHead) (x : Item) → FitsPackets head x → start
 starts_decoded head (Audio f) t = refl
 starts_decoded head (Video f) t = refl
 starts_decoded head (Packet p) t = refl
+starts_decoded head (Trailer x) t = refl
 starts_decoded head End t = refl
 starts_decoded head Broken t = refl
 
@@ -81,13 +85,23 @@ ends_decoded head (Audio f) h t = refl
 ends_decoded head (Video f) h t = refl
 ends_decoded (AudioHead tb rate bits channels codec) (Packet p) h t = frame_lasts (AudioHead tb rate bits channels codec) p h (pcm_packet codec channels p h.coded t.1)
 ends_decoded (VideoHead tb format width height sar_num sar_den) (Packet p) h t = absurd h.sound
+ends_decoded head (Trailer x) h t = refl
 ends_decoded head End h t = refl
 ends_decoded head Broken h t = refl
+
+timed_decoded : (head : StreamHead) (x : Item) → HasTime x ↔ HasTime (decoded_item head x)
+timed_decoded head (Audio f) = (λ h. h, λ h. h)
+timed_decoded head (Video f) = (λ h. h, λ h. h)
+timed_decoded head (Packet p) = (λ h. h, λ h. h)
+timed_decoded head (Trailer x) = (λ h. h, λ h. h)
+timed_decoded head End = (λ h. h, λ h. h)
+timed_decoded head Broken = (λ h. h, λ h. h)
 
 closing_decoded : (head : StreamHead) (x : Item) → Closes x → decoded_item head x ≡ x
 closing_decoded head (Audio f) c = refl
 closing_decoded head (Video f) c = refl
 closing_decoded head (Packet p) c = absurd c
+closing_decoded head (Trailer x) c = refl
 closing_decoded head End c = refl
 closing_decoded head Broken c = refl
 
@@ -102,6 +116,7 @@ pub decoding_carries : (head : StreamHead) → IsPcmHead head → Carries (Packe
 decoding_carries head h = record {
   base = refl;
   fits = λ x t. fits_decoded head x h t;
+  timed = λ x t. timed_decoded head x;
   starts = λ x t. starts_decoded head x t;
   ends = λ x t. ends_decoded head x h t;
   apart = λ x y p q a. apart_decoded head x y h p q a;
@@ -118,5 +133,7 @@ is_decodable_fit (AudioHead tb rate bits channels codec) (Packet p) h fits =
     let pcm : IsPcm (channels * sample_bytes codec) p = pcm_packet codec channels p h.coded (fits (λ c. c)).1 in
     record { blocks = pcm.blocks; some_blocks = pcm.some_blocks; few_blocks = pcm.few_blocks; whole_blocks = pcm.whole_blocks }
 is_decodable_fit (VideoHead tb format width height sar_num sar_den) (Packet p) h fits = absurd h.sound
+is_decodable_fit (AudioHead tb rate bits channels codec) (Trailer x) h fits = absurd (pcm_not_flac codec h.coded (fits (λ c. c)))
+is_decodable_fit (VideoHead tb format width height sar_num sar_den) (Trailer x) h fits = absurd h.sound
 is_decodable_fit head End h fits = tt
 is_decodable_fit head Broken h fits = tt

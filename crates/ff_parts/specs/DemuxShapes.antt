@@ -1,87 +1,20 @@
--- The packets of an input are valid for their lane, up to the limits.
-use Rattle.std.specs.Prelude.{◌≡◌, ℕ, zero, suc, ◌+◌, ◌-◌, ◌*◌, ◌<◌, ◌≤◌, ◌||◌, min, Bool, true, false, cond, List, [], ◌∷◌, take, drop, map, length, All, refl}
-use Rattle.std.specs.List.{range_with_len}
-use Rattle.std.proofs.Common.{ap, arith}
-use Rattle.std.proofs.lemmas.Int.{ints}
-use Rattle.std.proofs.lemmas.List.{length-take, length-drop}
-use Rattle.std.proofs.lemmas.List.Elements.{All-nil}
-use Rattle.std.proofs.Math.Nat.{div-mul-le_self, mul-le-mul_right}
+-- Packets in shape are valid for their lane, up to the limits.
+use Rattle.std.specs.Prelude.{◌≡◌, ℕ, ◌+◌, ◌||◌, Bool, true, false, cond, List, [], ◌∷◌, refl}
+use Rattle.std.proofs.Common.{ap}
 use mathlib.Core.List.{IsPrefix}
-use Rattle.ff_time.specs.Fraction.{Fraction}
-use Rattle.ff_frame.specs.declared.head.Codec.{Codec}
-use Rattle.ff_frame.specs.declared.head.StreamHead.{StreamHead}
-use Rattle.ff_frame.specs.declared.head.StreamHead.TheVariants.{Audio as AudioHead, Video as VideoHead}
-use Rattle.ff_frame.specs.declared.item.Item.{Item}
-use Rattle.ff_frame.specs.declared.item.Item.TheVariants.{Packet}
-use Rattle.ff_frame.specs.declared.item.Lane.{Lane}
+use Rattle.ff_cut.specs.Cutters.{Cutter}
 use Rattle.ff_frame.specs.declared.item.Lane.TheVariants.{Packets}
-use Rattle.ff_frame.specs.Stream.{whole_stream}
-use Rattle.ff_frame.specs.PcmLaws.{packet_pcm}
-use Rattle.ff_frame.specs.Lanes.{IsPcmCodec, IsPcmCoded, sample_bytes, IsItemFor, InOrder, Follows, AreInShape, IsValid}
 use Rattle.ff_frame.specs.LaneLaws.{valid_front}
+use Rattle.ff_frame.specs.Lanes.{AreInShape, IsValid}
 use Rattle.ff_frame.specs.Within.{before_pass, within, passes_limits}
 use Rattle.ff_frame.specs.WithinLaws.{within_valid}
-use Rattle.ff_wav.specs.declared.head.WavHead.{WavHead}
-use Rattle.ff_wav.specs.Packets.{block_of, frames, packet_at, packet_count, packets_of, body, whole_len}
-use Rattle.ff_parts.specs.Demuxing.{items_of, demux_of, passes_in_demux, ends_beyond}
+use Rattle.ff_net.specs.Ways.{Flow}
+use Rattle.ff_parts.specs.Demuxing.{mark_at, items_of, break_of, demux_of, passes_in_demux, ends_beyond}
 
-all_first : (P : Item → Type 0) (x : Item) (ys : List Item) → P x → All P ys → All P (x ∷ ys)
-all_first P x ys p all zero d lt = p
-all_first P x ys p all (suc k) d lt = all k d (omega (arith, lt))
-
-module _ (tb : Fraction) (rate bits channels : ℕ) (codec : Codec) (coded : IsPcmCodec codec) (start : ℕ) (xs : List ℕ) where
-  abbrev lane : Lane
-  lane = Packets (AudioHead tb rate bits channels codec)
-
-  abbrev block : ℕ
-  block = channels * sample_bytes codec
-
-  -- the packet of this number
-  abbrev item : ℕ → Item
-  item k = Packet (packet_at start block xs (1024 * k))
-
-  fits_bytes : (first n : ℕ) → first + n ≤ frames block xs → length (take (n * block) (drop (first * block) xs)) ≡ n * block
-  fits_bytes first n le =
-      let there : (first + n) * block ≤ length xs = omega (arith, mul-le-mul_right block le, div-mul-le_self (length xs) block) in
-      let split : (first + n) * block ≡ first * block + n * block = omega arith in
-      omega (arith, length-take (n * block) (drop (first * block) xs), length-drop (first * block) xs, there, split)
-
-  item_for : (k : ℕ) → 1024 * k < frames block xs → IsItemFor lane (item k)
-  unfolding packet_at
-  item_for k lt =
-      let n = min 1024 (frames block xs - 1024 * k) in
-      let some : 1 ≤ n = omega (arith, lt) in
-      let few : n ≤ 1024 = omega arith in
-      let inside : 1024 * k + n ≤ frames block xs = omega (arith, lt) in
-      record {
-        fits = (refl, packet_pcm codec channels (packet_at start block xs (1024 * k)) coded (record { blocks = n; some_blocks = some; few_blocks = omega (arith, few); whole_blocks = fits_bytes (1024 * k) n inside; lasts = refl }));
-        not_negative = omega (arith, ints);
-        lasts = omega (arith, ints, some);
-      }
-
-  follows : (k : ℕ) → 1024 * (k + 1) < frames block xs → Follows lane (item k) (item (k + 1))
-  unfolding packet_at
-  follows k lt = record {
-    starts = omega (arith, ints);
-    ends = omega (arith, ints, lt);
-    apart = omega (arith, ints, lt);
-  }
-
-  each_from : (a n : ℕ) → a + n ≤ packet_count block xs → All (IsItemFor lane) (map Packet (map (λ k. packet_at start block xs (1024 * k)) (range_with_len a n)))
-  each_from a zero le = All-nil (IsItemFor lane)
-  each_from a (suc n) le = all_first (IsItemFor lane) (item a) (map Packet (map (λ k. packet_at start block xs (1024 * k)) (range_with_len (a + 1) n))) (item_for a (omega (arith, le))) (each_from (a + 1) n (omega (arith, le)))
-
-  order_from : (a n : ℕ) → a + n ≤ packet_count block xs → InOrder lane (map Packet (map (λ k. packet_at start block xs (1024 * k)) (range_with_len a n)))
-  order_from a zero le = tt
-  order_from a (suc zero) le = tt
-  order_from a (suc (suc n)) le = (follows a (omega (arith, le)), order_from (a + 1) (suc n) (omega (arith, le)))
-
-  packets_in_shape : AreInShape lane (map Packet (packets_of start block xs))
-  packets_in_shape = record { each = each_from 0 (packet_count block xs) (omega arith); in_order = order_from 0 (packet_count block xs) (omega arith) }
-
-in_shape : (head : StreamHead) (start : ℕ) (xs : List ℕ) → IsPcmCoded head → AreInShape (Packets head) (map Packet (packets_of start (block_of head) xs))
-in_shape (AudioHead tb rate bits channels codec) start xs coded = packets_in_shape tb rate bits channels codec coded start xs
-in_shape (VideoHead tb format width height sar_num sar_den) start xs coded = absurd coded
+module _ {H C : Type 0} (cutter : Cutter H C) where
+  -- of each input with a head the packets are in shape for their lane: what a format owes
+  abbrev pub IsShaped : Type 0
+  IsShaped = (head : H) (file : List ℕ) → cutter.IsHead head → AreInShape (Packets (cutter.stream_head head)) (items_of cutter head file)
 
 module _ {A : Type 0} (weak strong : ℕ → A → Bool) where
   abbrev both : ℕ → A → Bool
@@ -97,10 +30,9 @@ module _ {A : Type 0} (weak strong : ℕ → A → Bool) where
       pick false true r = (x ∷ before_pass weak (n + 1) xs, refl)
       pick false false r = (r.0, ap (λ (ys : List A). x ∷ ys) r.1)
 
-pub demux_valid : (head : WavHead) (file : List ℕ) → IsPcmCoded head.head → IsValid (Packets head.head) (demux_of head file)
+pub demux_valid : {H C : Type 0} (cutter : Cutter H C) (head : H) (file : List ℕ) → AreInShape (Packets (cutter.stream_head head)) (items_of cutter head file) → IsValid (Packets (cutter.stream_head head)) (demux_of cutter head file)
 unfolding demux_of
-demux_valid head file coded =
-    let lane = Packets head.head in
-    let s = whole_stream (items_of head file) in
-    let shape = in_shape head.head head.start (body (whole_len head) (drop head.start file)) coded in
+demux_valid cutter head file shape =
+    let lane = Packets (cutter.stream_head head) in
+    let s : Flow = record { items = items_of cutter head file; mark = mark_at (break_of cutter head file) } in
     valid_front lane (within (passes_in_demux lane) s) (within (passes_limits lane) s) (fewer (passes_limits lane) (λ n x. ends_beyond x) 0 s.items) (within_valid lane s shape)

@@ -1,19 +1,21 @@
 -- What encoding makes of what a lane of frames carries.
-use Rattle.std.specs.Prelude.{◌≡◌, ℕ, ◌*◌, ◌/◌, ℤ, pos, List, map, length, refl}
+use Rattle.std.specs.Prelude.{◌≡◌, ◌↔◌, ℕ, ◌*◌, ◌/◌, ℤ, pos, List, map, length, refl}
 use Rattle.std.proofs.Common.{ap, ◌∙◌, arith}
 use Rattle.std.proofs.lemmas.List.{length-map}
 use Rattle.std.proofs.Math.Nat.{mul-div_cancel}
-use Rattle.ff_frame.specs.declared.audio.AFrame.{AFrame}
-use Rattle.ff_frame.specs.declared.head.Codec.{Codec}
-use Rattle.ff_frame.specs.declared.head.StreamHead.{StreamHead}
-use Rattle.ff_frame.specs.declared.head.StreamHead.TheVariants.{Audio as AudioHead, Video as VideoHead}
+use Rattle.ff_values.specs.declared.audio.AFrame.{AFrame}
+use Rattle.ff_values.specs.declared.head.Codec.{Codec}
+use Rattle.ff_values.specs.declared.head.StreamHead.{StreamHead}
+use Rattle.ff_values.specs.declared.head.StreamHead.TheVariants.{Audio as AudioHead, Video as VideoHead}
 use Rattle.ff_frame.specs.declared.item.Item.{Item}
-use Rattle.ff_frame.specs.declared.item.Item.TheVariants.{Audio, Video, Packet, End, Broken}
+use Rattle.ff_frame.specs.declared.item.Item.TheVariants.{Audio, Video, Packet, Trailer, End, Broken}
 use Rattle.ff_frame.specs.declared.item.Lane.TheVariants.{Frames, Packets}
 use Rattle.ff_frame.specs.Items.{Closes}
-use Rattle.ff_frame.specs.PcmLaws.{packet_pcm}
-use Rattle.ff_frame.specs.Lanes.{base_of_head, IsPcmCodec, sample_bytes, IsPcm, IsFrameOf, IsSoundHead, FitsFrames, FitsPackets, StartsAfter}
-use Rattle.ff_frame.specs.Times.{start_of, end_of}
+use Rattle.ff_values.specs.PcmLaws.{packet_pcm}
+use Rattle.ff_values.specs.Heads.{base_of_head, IsFrameOf, IsSoundHead}
+use Rattle.ff_values.specs.Codecs.{IsPcmCodec, sample_bytes, IsPcm}
+use Rattle.ff_frame.specs.Lanes.{FitsFrames, FitsPackets, StartsAfter}
+use Rattle.ff_frame.specs.Times.{HasTime, start_of, end_of}
 use Rattle.ff_pcm.specs.Bytes.{sample_number}
 use Rattle.ff_pcm.specs.Depth.{shifted}
 use Rattle.ff_pcm.specs.Samples.{depth}
@@ -44,6 +46,7 @@ fits_encoded : (codec : Codec) (head : StreamHead) (x : Item) → IsPcmCodec cod
 fits_encoded codec (AudioHead tb rate bits channels from) (Audio f) h s t = (refl, packet_pcm codec channels (packet_of codec f) h (frame_packet codec rate bits channels f t))
 fits_encoded codec (AudioHead tb rate bits channels from) (Video f) h s t = absurd t
 fits_encoded codec (AudioHead tb rate bits channels from) (Packet p) h s t = absurd t
+fits_encoded codec (AudioHead tb rate bits channels from) (Trailer x) h s t = absurd t
 fits_encoded codec (AudioHead tb rate bits channels from) End h s t = absurd t
 fits_encoded codec (AudioHead tb rate bits channels from) Broken h s t = absurd t
 fits_encoded codec (VideoHead tb format width height sar_num sar_den) x h s t = absurd s
@@ -52,6 +55,7 @@ starts_encoded : (codec : Codec) (x : Item) → start_of (encoded_item codec x) 
 starts_encoded codec (Audio f) = refl
 starts_encoded codec (Video f) = refl
 starts_encoded codec (Packet p) = refl
+starts_encoded codec (Trailer x) = refl
 starts_encoded codec End = refl
 starts_encoded codec Broken = refl
 
@@ -59,13 +63,23 @@ ends_encoded : (codec : Codec) (x : Item) → end_of (encoded_item codec x) ≡ 
 ends_encoded codec (Audio f) = refl
 ends_encoded codec (Video f) = refl
 ends_encoded codec (Packet p) = refl
+ends_encoded codec (Trailer x) = refl
 ends_encoded codec End = refl
 ends_encoded codec Broken = refl
+
+timed_encoded : (codec : Codec) (x : Item) → HasTime x ↔ HasTime (encoded_item codec x)
+timed_encoded codec (Audio f) = (λ h. h, λ h. h)
+timed_encoded codec (Video f) = (λ h. h, λ h. h)
+timed_encoded codec (Packet p) = (λ h. h, λ h. h)
+timed_encoded codec (Trailer x) = (λ h. h, λ h. h)
+timed_encoded codec End = (λ h. h, λ h. h)
+timed_encoded codec Broken = (λ h. h, λ h. h)
 
 closing_encoded : (codec : Codec) (x : Item) → Closes x → encoded_item codec x ≡ x
 closing_encoded codec (Audio f) c = absurd c
 closing_encoded codec (Video f) c = absurd c
 closing_encoded codec (Packet p) c = refl
+closing_encoded codec (Trailer x) c = refl
 closing_encoded codec End c = refl
 closing_encoded codec Broken c = refl
 
@@ -82,6 +96,7 @@ pub encoding_carries : (codec : Codec) (head : StreamHead) → IsPcmCodec codec 
 encoding_carries codec head h s = record {
   base = base_encoded codec head;
   fits = λ x t. fits_encoded codec head x h s t;
+  timed = λ x t. timed_encoded codec x;
   starts = λ x t. starts_encoded codec x;
   ends = λ x t. ends_encoded codec x;
   apart = λ x y p q a. apart_encoded codec head x y a;
@@ -92,9 +107,11 @@ encoding_carries codec head h s = record {
 pub is_encodable_fit : (head : StreamHead) (x : Item) → IsSoundHead head → ((Closes x → ⊥) → FitsFrames head x) → IsEncodable x
 is_encodable_fit (AudioHead tb rate bits channels from) (Audio f) s fits = (fits (λ c. c)).audio
 is_encodable_fit (AudioHead tb rate bits channels from) (Packet p) s fits = fits (λ c. c)
+is_encodable_fit (AudioHead tb rate bits channels from) (Trailer x) s fits = fits (λ c. c)
 is_encodable_fit (AudioHead tb rate bits channels from) (Video f) s fits = fits (λ c. c)
 is_encodable_fit (VideoHead tb format width height sar_num sar_den) (Audio f) s fits = absurd s
 is_encodable_fit (VideoHead tb format width height sar_num sar_den) (Video f) s fits = absurd s
 is_encodable_fit (VideoHead tb format width height sar_num sar_den) (Packet p) s fits = absurd s
+is_encodable_fit (VideoHead tb format width height sar_num sar_den) (Trailer x) s fits = absurd s
 is_encodable_fit head End s fits = tt
 is_encodable_fit head Broken s fits = tt

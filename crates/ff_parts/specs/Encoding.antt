@@ -1,21 +1,21 @@
 -- Encoding, as what a part of a run means: a packet of each frame.
 use Rattle.std.specs.Prelude.{◌/◌, pos, [], ◌∷◌, length, false}
-use Rattle.ff_frame.specs.declared.audio.AFrame.{AFrame}
-use Rattle.ff_frame.specs.declared.packet.Pkt.{Pkt}
-use Rattle.ff_frame.specs.declared.head.Codec.{Codec}
-use Rattle.ff_frame.specs.declared.head.StreamHead.{StreamHead}
-use Rattle.ff_frame.specs.declared.head.StreamHead.TheVariants.{Audio as AudioHead, Video as VideoHead}
+use Rattle.ff_values.specs.declared.audio.AFrame.{AFrame}
+use Rattle.ff_values.specs.declared.packet.Pkt.{Pkt}
+use Rattle.ff_values.specs.declared.head.Codec.{Codec}
+use Rattle.ff_values.specs.declared.head.StreamHead.{StreamHead}
+use Rattle.ff_values.specs.declared.head.StreamHead.TheVariants.{Audio as AudioHead, Video as VideoHead}
 use Rattle.ff_frame.specs.declared.item.Item.{Item}
-use Rattle.ff_frame.specs.declared.item.Item.TheVariants.{Audio, Video, Packet, End, Broken}
-use Rattle.ff_frame.specs.Audio.{IsAudio}
-use Rattle.ff_frame.specs.Packet.{packet_at}
+use Rattle.ff_frame.specs.declared.item.Item.TheVariants.{Audio, Video, Packet, Trailer, End, Broken}
+use Rattle.ff_values.specs.Audio.{IsAudio}
+use Rattle.ff_values.specs.Packet.{packet_at}
 use Rattle.ff_frame.specs.Stream.{map_stream}
 use Rattle.ff_frame.specs.Ports.{stream_at}
 use Rattle.ff_pcm.specs.Bytes.{bytes_of}
 use Rattle.ff_pcm.specs.Depth.{at_depth}
 use Rattle.ff_pcm.specs.Samples.{depth}
 use Rattle.ff_net.specs.Ways.{Flow}
-use Rattle.ff_net.specs.Pasts.{Task}
+use Rattle.ff_net.specs.Pasts.{Task, no_events}
 use Rattle.ff_parts.specs.Maps.{no_cause}
 
 -- the head of what a stream of sound is coded to: the same times, rate and channels, at the codec's depth
@@ -31,6 +31,7 @@ abbrev pub encoded_item : Codec → Item → Item
 encoded_item codec (Audio f) = Packet (packet_of codec f)
 encoded_item codec (Video f) = Video f
 encoded_item codec (Packet p) = Packet p
+encoded_item codec (Trailer t) = Trailer t
 encoded_item codec End = End
 encoded_item codec Broken = Broken
 
@@ -40,12 +41,13 @@ encoded codec head frames = map_stream (encoded_item codec) frames
 
 -- no source, and no fault of its own
 abbrev pub enc_task : Codec → StreamHead → Task
-enc_task codec head = record { means = λ ss. encoded codec head (stream_at ss 0) ∷ []; cause = no_cause; source = false }
+enc_task codec head = record { means = λ ss. encoded codec head (stream_at ss 0) ∷ []; cause = no_cause; source = false; tells = no_events }
 
 -- a frame whose fields agree, or what closes a stream
 abbrev pub IsEncodable : Item → Type 0
 IsEncodable (Audio f) = IsAudio f.bits f.channels f.samples
 IsEncodable (Video f) = ⊥
 IsEncodable (Packet p) = ⊥
+IsEncodable (Trailer t) = ⊥
 IsEncodable End = Unit {0}
 IsEncodable Broken = Unit {0}

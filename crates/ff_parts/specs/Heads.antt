@@ -1,8 +1,8 @@
 -- A head is one of linear PCM in one way at most.
 use Rattle.std.specs.Coded.{le_prop}
 use Rattle.std.proofs.Math.Nat.{ℕ_set}
-use Rattle.ff_frame.specs.declared.head.StreamHead.{StreamHead}
-use Rattle.ff_frame.specs.PcmLaws.{IsPcmCodec-prop}
+use Rattle.ff_values.specs.declared.head.StreamHead.{StreamHead}
+use Rattle.ff_values.specs.PcmLaws.{IsPcmCodec-prop}
 use Rattle.ff_pcm.specs.Frames.{codec_of, IsPcmHead}
 use Rattle.ff_wav.specs.Sound.{IsSoundHead-prop}
 

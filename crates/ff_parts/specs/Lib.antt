@@ -17,3 +17,4 @@ pub mod PartEnds
 pub mod PartLaws
 pub mod Parts
 pub mod Sources
+pub mod WavShapes

@@ -3,11 +3,11 @@ use Rattle.std.specs.Prelude.{◌≡◌, ℕ, zero, suc, ◌^◌, ◌<◌, ◌�
 use Rattle.std.proofs.Common.{sym, subst, ap, inl, inr, ◌∙◌, arith}
 use Rattle.std.proofs.lemmas.List.{length-map}
 use Rattle.ff_frame.specs.declared.item.Item.{Item}
-use Rattle.ff_frame.specs.declared.item.Item.TheVariants.{Audio, Video, Packet, End, Broken}
+use Rattle.ff_frame.specs.declared.item.Item.TheVariants.{Audio, Video, Packet, Trailer, End, Broken}
 use Rattle.ff_frame.specs.declared.item.Lane.{Lane}
 use Rattle.ff_frame.specs.declared.item.Lane.TheVariants.{Frames, Packets}
-use Rattle.ff_frame.specs.declared.head.StreamHead.{StreamHead}
-use Rattle.ff_frame.specs.declared.head.StreamHead.TheVariants.{Audio as AudioHead, Video as VideoHead}
+use Rattle.ff_values.specs.declared.head.StreamHead.{StreamHead}
+use Rattle.ff_values.specs.declared.head.StreamHead.TheVariants.{Audio as AudioHead, Video as VideoHead}
 use Rattle.ff_time.specs.Fraction.{Fraction}
 use Rattle.ff_frame.specs.Stream.{LiesBelow, opened, map_stream}
 use Rattle.ff_frame.specs.Items.{Closes}
@@ -19,8 +19,9 @@ use Rattle.ff_frame.specs.BreakLaws.{map_stream_monotone}
 use Rattle.ff_net.specs.declared.fault.Fault.{Fault}
 use Rattle.ff_net.specs.Ways.{Flow, AreValid}
 use Rattle.ff_net.specs.Pasts.{Past, IsIn, due}
-use Rattle.ff_net.specs.Laws.{CauseStays, OutputsClose}
+use Rattle.ff_net.specs.Laws.{CauseStays, OutputsClose, MaySpend, Settles}
 use Rattle.ff_net.proofs.Flows.{due_meant}
+use Rattle.ff_net.proofs.Matters.{may_spend}
 use Rattle.ff_parts.specs.declared.ready.Ready.{Ready}
 use Rattle.ff_parts.specs.Maps.{mapped, Carries, is_spent_map, ReadyMaps}
 
@@ -35,11 +36,13 @@ frames_go_on : (head : StreamHead) (x : Item) → FitsFrames head x → Closes x
 frames_go_on (AudioHead tb rate bits channels codec) (Audio f) h c = c
 frames_go_on (AudioHead tb rate bits channels codec) (Video f) h c = c
 frames_go_on (AudioHead tb rate bits channels codec) (Packet p) h c = c
+frames_go_on (AudioHead tb rate bits channels codec) (Trailer t) h c = c
 frames_go_on (AudioHead tb rate bits channels codec) End h c = h
 frames_go_on (AudioHead tb rate bits channels codec) Broken h c = h
 frames_go_on (VideoHead tb format width height sar_num sar_den) (Audio f) h c = c
 frames_go_on (VideoHead tb format width height sar_num sar_den) (Video f) h c = c
 frames_go_on (VideoHead tb format width height sar_num sar_den) (Packet p) h c = c
+frames_go_on (VideoHead tb format width height sar_num sar_den) (Trailer t) h c = c
 frames_go_on (VideoHead tb format width height sar_num sar_den) End h c = h
 frames_go_on (VideoHead tb format width height sar_num sar_den) Broken h c = h
 
@@ -47,11 +50,13 @@ packets_go_on : (head : StreamHead) (x : Item) → FitsPackets head x → Closes
 packets_go_on (AudioHead tb rate bits channels codec) (Audio f) h c = c
 packets_go_on (AudioHead tb rate bits channels codec) (Video f) h c = c
 packets_go_on (AudioHead tb rate bits channels codec) (Packet p) h c = c
+packets_go_on (AudioHead tb rate bits channels codec) (Trailer t) h c = c
 packets_go_on (AudioHead tb rate bits channels codec) End h c = h
 packets_go_on (AudioHead tb rate bits channels codec) Broken h c = h
 packets_go_on (VideoHead tb format width height sar_num sar_den) (Audio f) h c = c
 packets_go_on (VideoHead tb format width height sar_num sar_den) (Video f) h c = c
 packets_go_on (VideoHead tb format width height sar_num sar_den) (Packet p) h c = c
+packets_go_on (VideoHead tb format width height sar_num sar_den) (Trailer t) h c = c
 packets_go_on (VideoHead tb format width height sar_num sar_den) End h c = h
 packets_go_on (VideoHead tb format width height sar_num sar_den) Broken h c = h
 
@@ -65,7 +70,7 @@ module _ (lane_in lane_out : Lane) (f : Item → Item) (c : Carries lane_in lane
   item_for x i = record {
     fits = c.fits x i.fits;
     not_negative = rw (c.starts x i.fits) (i.not_negative);
-    lasts = rw (c.starts x i.fits, c.ends x i.fits) (i.lasts);
+    lasts = λ t. rw (c.starts x i.fits, c.ends x i.fits) (i.lasts ((c.timed x i.fits).1 t));
   }
 
   all_for : (xs : List Item) → All (IsItemFor lane_in) xs → All (IsItemFor lane_out) (map f xs)
@@ -75,9 +80,10 @@ module _ (lane_in lane_out : Lane) (f : Item → Item) (c : Carries lane_in lane
 
   follows_for : (x y : Item) → FitsLane lane_in x → FitsLane lane_in y → Follows lane_in x y → Follows lane_out (f x) (f y)
   follows_for x y p q o = record {
-    starts = rw (c.starts x p, c.starts y q) (o.starts);
-    ends = rw (c.ends x p, c.ends y q) (o.ends);
-    apart = c.apart x y p q o.apart;
+    timed = (c.timed x p).0 o.timed;
+    starts = λ t. rw (c.starts x p, c.starts y q) (o.starts ((c.timed y q).1 t));
+    ends = λ t. rw (c.ends x p, c.ends y q) (o.ends ((c.timed y q).1 t));
+    apart = λ t. c.apart x y p q (o.apart ((c.timed y q).1 t));
   }
 
   order_for : (xs : List Item) → All (IsItemFor lane_in) xs → InOrder lane_in xs → InOrder lane_out (map f xs)
@@ -147,16 +153,12 @@ module _ (lane_in lane_out : Lane) (f : Item → Item) (ready : Ready) (past : P
   maps_unbroken u zero = unbroken_below (stream_at past.gave 0) (map_stream f (stream_at past.got 0)) s.below (u 0)
   maps_unbroken u (suc q) = subst (λ (x : Flow). IsUnbroken x) (sym (s.beyond (suc q) (omega arith))) (λ b. cc)
 
-  from_closed : ready.closed ≡ true → OutputsClose 1 past
-  from_closed e zero lt goes = subst (λ (g : List Flow → List Flow). IsClosed (stream_at (g past.got) 0)) (sym s.means) (s.closed_is.0 e)
-  from_closed e (suc q) lt goes = absurd (omega arith)
-
   from_stopped : ready.stopped ≡ true → OutputsClose 1 past
   from_stopped e zero lt goes = absurd (goes (s.stops.0 e))
   from_stopped e (suc q) lt goes = absurd (omega arith)
 
-  pub maps_spent_only : (p : ℕ) → is_spent_map ready.closed ready.stopped p → IsClosed (stream_at past.got p) ⊎ ((0 < 1) × OutputsClose 1 past)
-  maps_spent_only zero sp = elim (sp.1) [ inl c ↦ inl (s.closed_is.0 c) | inr t ↦ inr (omega arith, from_stopped t) ]
+  pub maps_spent_only : (p : ℕ) → is_spent_map ready.closed ready.stopped p → MaySpend (lane_in ∷ []) 1 past p
+  maps_spent_only zero sp = may_spend (lane_in ∷ []) past 1 0 maps_valid maps_monotone (elim (sp.1) [ inl c ↦ inl (s.closed_is.0 c) | inr t ↦ inr (omega arith, from_stopped t) ])
   maps_spent_only (suc p) sp = absurd (let lt : suc p < 1 = sp.0 in omega arith)
 
   pub maps_closed_spent : (p : ℕ) → p < 1 → IsClosed (stream_at past.got p) → is_spent_map ready.closed ready.stopped p
@@ -173,5 +175,9 @@ module _ (lane_in lane_out : Lane) (f : Item → Item) (ready : Ready) (past : P
           let shut : IsClosed (stream_at (past.task.means past.got) 0) = c 0 (omega arith) on in
           inl (s.closed_is.1 (subst (λ (g : List Flow → List Flow). IsClosed (stream_at (g past.got) 0)) s.means shut))
 
-  pub maps_all_spent : ((p : ℕ) → p < 1 → is_spent_map ready.closed ready.stopped p) → OutputsClose 1 past
-  maps_all_spent h = elim ((h 0 (omega arith)).1) [ inl c ↦ from_closed c | inr t ↦ from_stopped t ]
+  settles_at : Settles (lane_in ∷ []) 1 (mapped f)
+  settles_at ss v c zero lt = c 0 (omega arith)
+  settles_at ss v c (suc q) lt = absurd (omega arith)
+
+  pub maps_settles : Settles (lane_in ∷ []) 1 past.task.means
+  maps_settles = subst (λ (g : List Flow → List Flow). Settles (lane_in ∷ []) 1 g) (sym s.means) settles_at

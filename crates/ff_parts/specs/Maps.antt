@@ -5,11 +5,12 @@ use Rattle.ff_frame.specs.declared.item.Lane.{Lane}
 use Rattle.ff_frame.specs.Stream.{LiesBelow, map_stream}
 use Rattle.ff_frame.specs.Items.{Closes, Leads}
 use Rattle.ff_frame.specs.Lanes.{base_of, head_of, FitsLane, StartsAfter, IsValid}
-use Rattle.ff_frame.specs.Times.{start_of, end_of}
+use Rattle.ff_frame.specs.Times.{HasTime, start_of, end_of}
 use Rattle.ff_frame.specs.Ports.{nothing, stream_at, IsClosed}
 use Rattle.ff_net.specs.declared.fault.Fault.{Fault}
 use Rattle.ff_net.specs.Ways.{Flow}
-use Rattle.ff_net.specs.Pasts.{Task, Past, IsIn}
+use Rattle.ff_net.specs.Pasts.{Task, Past, IsIn, no_events}
+use Rattle.ff_net.specs.Laws.{IsSilent}
 use Rattle.ff_parts.specs.declared.ready.Ready.{Ready}
 
 -- the one output: what `f` makes of each item of the one input, with its mark
@@ -21,12 +22,13 @@ no_cause ss = None
 
 -- no source, and no fault of its own
 abbrev pub map_task : (Item → Item) → Task
-map_task f = record { means = mapped f; cause = no_cause; source = false }
+map_task f = record { means = mapped f; cause = no_cause; source = false; tells = no_events }
 
 -- what fits one lane becomes what fits another, with the same start and end; what closes a stream stays
 pub record Carries (lane_in lane_out : Lane) (f : Item → Item) : Type 0 where
   pub base : base_of lane_out ≡ base_of lane_in
   pub fits : (x : Item) → FitsLane lane_in x → FitsLane lane_out (f x)
+  pub timed : (x : Item) → FitsLane lane_in x → HasTime x ↔ HasTime (f x)
   pub starts : (x : Item) → FitsLane lane_in x → start_of (f x) ≡ start_of x
   pub ends : (x : Item) → FitsLane lane_in x → end_of (f x) ≡ end_of x
   pub apart : (x y : Item) → FitsLane lane_in x → FitsLane lane_in y → StartsAfter (head_of lane_in) x y → StartsAfter (head_of lane_out) (f x) (f y)
@@ -40,6 +42,7 @@ is_spent_map closed stopped p = (p < 1) × ((closed ≡ true) ⊎ (stopped ≡ t
 pub record Maps (lane_in lane_out : Lane) (f : Item → Item) (queue : List Item) (closed stopped : Bool) (past : Past) : Type 0 where
   pub carries : Carries lane_in lane_out f
   pub means : past.task.means ≡ mapped f
+  pub silent : IsSilent past
   pub cause : past.task.cause ≡ no_cause
   pub plain : past.task.source ≡ false
   pub others : (p : ℕ) → 1 ≤ p → stream_at past.got p ≡ nothing

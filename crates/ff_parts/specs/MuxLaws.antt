@@ -7,7 +7,7 @@ use Rattle.ff_frame.specs.Ports.{nothing, stream_at, AllBelow, AllUnbroken, IsCl
 use Rattle.ff_net.specs.declared.fault.Fault.{Fault}
 use Rattle.ff_net.specs.Ways.{Flow, AreValid}
 use Rattle.ff_net.specs.Pasts.{Past, Task, due}
-use Rattle.ff_net.specs.Laws.{CauseStays, IsOfInputs, OutputsClose}
+use Rattle.ff_net.specs.Laws.{CauseStays, IsOfInputs, MaySpend}
 use Rattle.ff_net.proofs.Flows.{due_meant}
 use Rattle.ff_parts.specs.declared.mux.Mux.{Mux}
 use Rattle.ff_parts.specs.Muxing.{unpatched, file, mux_sink, mux_head, mux_stands, mux_in_lanes, mux_fault, mux_spent, HoldsFront}
@@ -51,7 +51,7 @@ module _ {K : Type 0} (holds : K → Option (List ℕ)) (m : Mux K) (past : Past
   pub mux_caused : (c : Fault) → mux_fault m ≡ Some c → IsOfInputs c → past.task.cause past.got ≡ Some c
   mux_caused c e i = absurd (s.1.own c e i)
 
-  pub mux_spent_only : (p : ℕ) → mux_spent m p → IsClosed (stream_at past.got p) ⊎ ((0 < 0) × OutputsClose 0 past)
+  pub mux_spent_only : (p : ℕ) → mux_spent m p → MaySpend (mux_in_lanes m) 0 past p
   mux_spent_only zero sp = inl (s.1.closed_is.0 sp.1)
   mux_spent_only (suc p) sp = absurd (let lt : suc p < 1 = sp.0 in omega arith)
 

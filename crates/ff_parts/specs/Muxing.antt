@@ -3,10 +3,10 @@
 use Rattle.std.specs.Prelude.{◌≡◌, ◌≢◌, ◌↔◌, ℕ, ◌<◌, ◌≤◌, Bool, true, false, cond, List, [], ◌∷◌, Option, Some, None}
 use Rattle.std.specs.List.{flat_map}
 use mathlib.Core.List.{IsPrefix}
-use Rattle.ff_frame.specs.declared.packet.Pkt.{Pkt}
-use Rattle.ff_frame.specs.declared.head.StreamHead.{StreamHead}
+use Rattle.ff_values.specs.declared.packet.Pkt.{Pkt}
+use Rattle.ff_values.specs.declared.head.StreamHead.{StreamHead}
 use Rattle.ff_frame.specs.declared.item.Item.{Item}
-use Rattle.ff_frame.specs.declared.item.Item.TheVariants.{Audio, Video, Packet, End, Broken}
+use Rattle.ff_frame.specs.declared.item.Item.TheVariants.{Audio, Video, Packet, Trailer, End, Broken}
 use Rattle.ff_frame.specs.declared.item.Lane.{Lane}
 use Rattle.ff_frame.specs.declared.item.Lane.TheVariants.{Packets}
 use Rattle.ff_frame.specs.Stream.{Stream}
@@ -16,8 +16,8 @@ use Rattle.ff_mux.specs.Puts.{hash_head}
 use Rattle.ff_mux.specs.FrameHash.{header, packet_line, written, file as file_of}
 use Rattle.ff_net.specs.declared.fault.Fault.{Fault}
 use Rattle.ff_net.specs.Ways.{Flow}
-use Rattle.ff_net.specs.Pasts.{Past, Task}
-use Rattle.ff_net.specs.Laws.{IsOfInputs}
+use Rattle.ff_net.specs.Pasts.{Past, Task, no_events}
+use Rattle.ff_net.specs.Laws.{IsOfInputs, IsSilent}
 use Rattle.ff_parts.specs.declared.mux.Mux.{Mux}
 
 -- the packet that an item is, if it is one
@@ -25,6 +25,7 @@ abbrev pub packet_in : Item → List Pkt
 packet_in (Audio f) = []
 packet_in (Video f) = []
 packet_in (Packet p) = p ∷ []
+packet_in (Trailer t) = []
 packet_in End = []
 packet_in Broken = []
 
@@ -45,11 +46,12 @@ file head s = file_of head (packets_in s)
 
 -- it gives no stream, and no fault of its own
 abbrev pub mux_task : StreamHead → Task
-mux_task head = record { means = λ ss. []; cause = λ ss. None; source = false }
+mux_task head = record { means = λ ss. []; cause = λ ss. None; source = false; tells = no_events }
 
 -- The sink holds these bytes, of the stream that was fed.
 pub record Muxes (holds : Option (List ℕ)) (head : StreamHead) (begun closed : Bool) (fault : Option Fault) (past : Past) (bytes : List ℕ) : Type 0 where
   pub task : past.task ≡ mux_task head
+  pub silent : IsSilent past
   pub valid : IsValid (Packets head) (stream_at past.got 0)
   pub others : (p : ℕ) → 1 ≤ p → stream_at past.got p ≡ nothing
   pub gave : (p : ℕ) → stream_at past.gave p ≡ nothing

@@ -1,12 +1,14 @@
 // What follows of the definitions of decoding and encoding alone.
 ghost use Rattle.std.specs.Prelude.{◌≡◌, ◌<◌, ℕ, All};
-ghost use Rattle.ff_frame.specs.declared.head.Codec.{Codec};
-ghost use Rattle.ff_frame.specs.declared.head.StreamHead.{StreamHead};
+ghost use Rattle.ff_values.specs.declared.head.Codec.{Codec};
+ghost use Rattle.ff_values.specs.declared.head.StreamHead.{StreamHead};
 ghost use Rattle.ff_frame.specs.declared.item.Item.TheVariants.{Packet};
 ghost use Rattle.ff_frame.specs.declared.item.Lane.TheVariants.{Frames, Packets};
-ghost use Rattle.ff_frame.specs.declared.packet.Pkt.{Pkt};
-ghost use Rattle.ff_frame.specs.Lanes.{FitsLane, IsPcmCodec, IsSoundHead, IsValid};
-ghost use Rattle.ff_frame.specs.Packet.{packet_at};
+ghost use Rattle.ff_values.specs.declared.packet.Pkt.{Pkt};
+ghost use Rattle.ff_values.specs.Heads.{IsSoundHead};
+ghost use Rattle.ff_values.specs.Codecs.{IsPcmCodec};
+ghost use Rattle.ff_frame.specs.Lanes.{FitsLane, IsValid};
+ghost use Rattle.ff_values.specs.Packet.{packet_at};
 ghost use Rattle.ff_frame.specs.Within.{within, passes_limits};
 ghost use Rattle.ff_pcm.specs.Frames.{codec_of, IsPcmHead};
 ghost use Rattle.ff_net.specs.Ways.{Flow};

@@ -4,7 +4,7 @@ ghost use Rattle.ff_parts.specs.Heads.{IsPcmHead-prop};
 ghost use Rattle.ff_parts.specs.Decoding.{octets, decoded_item, IsDecodable};
 
 use crate::ready::{Ready, discard};
-use ff_frame::{AFrame, Item, Pkt, Refused, StreamHead, Ticket};
+use ff_frame::{AFrame, Event, Item, Pkt, Refused, StreamHead, Ticket};
 use ff_net::{Fault, Machine};
 use ff_pcm::{has_blocks, pcm_decode};
 use std::alloc::{AllocError, Global};
@@ -47,7 +47,7 @@ fn is_decodable(head: &StreamHead, item: &Item) -> bool
 {
     match item {
         Item::Packet(packet) => has_blocks(head, packet),
-        Item::Audio(_) | Item::Video(_) => false,
+        Item::Audio(_) | Item::Video(_) | Item::Trailer(_) => false,
         Item::End | Item::Broken => true,
     }
 }
@@ -85,15 +85,17 @@ fn decode(alloc: Global, head: &StreamHead, item: Item) -> Result<Item, Refused>
         },
         Item::Audio(frame) => Ok(Item::Audio(frame)),
         Item::Video(frame) => Ok(Item::Video(frame)),
+        Item::Trailer(totals) => Ok(Item::Trailer(totals)),
         Item::End => Ok(Item::End),
         Item::Broken => Ok(Item::Broken),
     }
 }
 
 impl Machine for Dec {
+    ghost use Rattle.ff_net.specs.Silence.{silent_front};
     ghost use Rattle.std.specs.Prelude.{None};
     ghost use Rattle.ff_frame.specs.declared.item.Lane.TheVariants.{Frames, Packets};
-    ghost use Rattle.ff_parts.specs.MapLaws.{map_no_fault, maps_valid, maps_keeps, maps_monotone, maps_cause_stays, maps_calm, maps_given, maps_unbroken, maps_spent_only, maps_closed_spent, maps_done_spent, maps_all_spent};
+    ghost use Rattle.ff_parts.specs.MapLaws.{map_no_fault, maps_valid, maps_keeps, maps_monotone, maps_cause_stays, maps_calm, maps_given, maps_unbroken, maps_spent_only, maps_closed_spent, maps_done_spent, maps_settles};
     ghost use Rattle.ff_parts.specs.Coders.{dec_in_lanes, dec_out_lanes, dec_spent, dec_stands};
 
     ghost in_lanes = { dec_in_lanes };
@@ -163,6 +165,10 @@ impl Machine for Dec {
         self.ready.is_spent()
     }
 
+    fn next_event(&mut self) -> Option<Event> {
+        None
+    }
+
     ghost is_source = { λ m past s. s.plain };
 
     ghost valid = { λ m past s. maps_valid (Packets m.head) (Frames m.head) (decoded_item m.head) m.ready past s };
@@ -187,7 +193,9 @@ impl Machine for Dec {
 
     ghost done_spent = { λ m past p s lt z c a. maps_done_spent (Packets m.head) (Frames m.head) (decoded_item m.head) m.ready past s p lt c };
 
-    ghost all_spent = { λ m past s n h. maps_all_spent (Packets m.head) (Frames m.head) (decoded_item m.head) m.ready past s h };
+    ghost settles = { λ m past s n. maps_settles (Packets m.head) (Frames m.head) (decoded_item m.head) m.ready past s };
+
+    ghost told = { λ m past s. silent_front past s.silent };
 
     ghost ticket_used = { λ m past q s i f p a h. h };
 }

@@ -3,23 +3,35 @@ ghost use Rattle.std.specs.Io.KnownBytes.{Keeps};
 ghost use Rattle.ff_host.specs.Causes.{HasCauseOf};
 ghost use Rattle.ff_frame.specs.declared.item.Item.{Item};
 ghost use Rattle.ff_frame.specs.declared.item.Lane.TheVariants.{Packets};
-ghost use Rattle.ff_frame.specs.declared.packet.Pkt.{Pkt};
-ghost use Rattle.ff_frame.specs.Lanes.{base_of_head, IsPcmCoded};
+ghost use Rattle.ff_values.specs.declared.packet.Pkt.{Pkt};
+ghost use Rattle.ff_values.specs.Heads.{base_of_head};
 ghost use Rattle.ff_frame.specs.Times.{end_of, ticks};
 ghost use Rattle.ff_net.specs.declared.fault.Fault.{Fault};
 ghost use Rattle.ff_net.specs.Pasts.{Past};
-ghost use Rattle.ff_wav.specs.Packets.{IsHead};
-ghost use Rattle.ff_wav.specs.Sound.{IsPcmCoded-prop};
-ghost use Rattle.ff_wav.specs.Cuts.{head_of, place_of, has_ended, waiting_in, room_in, SameElsewhere};
-ghost use Rattle.ff_parts.specs.Demuxing.{ends_beyond, passes_in_demux, DemuxStands, GivesPacket, GivesAll, Feeds, KeepsCut};
+ghost use Rattle.ff_cut.specs.Cutters.{Feeds, KeepsCut, GivesPacket, GaveAll, SameElsewhere};
+ghost use Rattle.ff_parts.specs.Demuxing.{ends_beyond, passes_in_demux, DemuxStands};
 ghost use Rattle.ff_parts.specs.declared.demux.ReadEnd.TheVariants.{Failed, NoMemory};
 
-use ff_frame::{Cut, Item, Pkt, Refused, StreamHead, Ticket};
+use ff_cut::PacketCut;
+use ff_frame::{Cut, Event, Item, Pkt, Refused, StreamHead, Ticket};
 use ff_host::Source;
 use ff_net::{Fault, Machine};
 use ff_time::Rational;
-use ff_wav::{WavCut, WavHead};
+use ff_wav::WavCut;
 use std::alloc::{AllocError, Global};
+
+/// A format whose inputs can be demuxed: of each the packets are in shape for their lane.
+pub trait Demuxable: PacketCut {
+    ghost use Rattle.ff_parts.specs.DemuxShapes.{IsShaped};
+
+    ghost in_shape: { IsShaped Self.is };
+}
+
+impl Demuxable for WavCut {
+    ghost use Rattle.ff_parts.specs.WavShapes.{wav_shaped};
+
+    ghost in_shape = { wav_shaped };
+}
 
 /// The last byte at which a packet may end.
 const LAST_BYTE: u64 = 1 << 40;
@@ -33,13 +45,13 @@ const LAST_SECOND: u128 = 1_000_000_000;
 /// The input is read in pieces of at most so many bytes.
 const PIECE: usize = 65536;
 
-/// Gives an input's packets, one for each ticket, and reads no further than the next packet wants.
+/// Gives the packets of an input of any format, one for each ticket, and reads no further than the next packet wants.
 #[derive(Drop)]
-pub struct Demux<S> {
+pub struct Demux<S, C: PacketCut> {
     input: u32,
     head: StreamHead,
     src: S,
-    cut: WavCut,
+    cut: C,
     /// A piece of the input, as it is read.
     piece: Vec<u8>,
     /// How many bytes of the head are still to come.
@@ -50,9 +62,8 @@ pub struct Demux<S> {
     ended: bool,
     fault: Option<Fault>,
     ghost some_piece: { 0 < length piece.items },
-    ghost same_head: { (head_of cut).head ≡ head },
-    ghost coded: { IsPcmCoded head } by { IsPcmCoded-prop head },
-    ghost near: { ended ≡ false → place_of cut ≤ 2 ^ 50 },
+    ghost same_head: { C.is.stream_head (C.is.head_of cut) ≡ head },
+    ghost near: { ended ≡ false → C.is.place cut ≤ 2 ^ 50 },
     ghost few: { ended ≡ false → given ≤ 2 ^ 40 },
 }
 
@@ -108,8 +119,8 @@ fn ends_far(packet: &Pkt) -> bool
     LAST_BYTE < packet.pos + packet.bytes.as_slice().len() as u64
 }
 
-// Whether a packet passes a limit, where so many came before it.
-pub(crate) fn is_long(head: &StreamHead, before: u64, packet: &Pkt) -> bool
+/// Whether a packet passes a limit, where so many came before it: it makes its stream too long.
+pub fn is_long(head: &StreamHead, before: u64, packet: &Pkt) -> bool
     requires place { packet.now.pos + length packet.now.bytes < 2 ^ 64 }
     requires few { before ≤ 2 ^ 40 }
     ensures { result ≡ passes_in_demux (Packets head.now) before (Item.Packet packet.now) }
@@ -118,13 +129,13 @@ pub(crate) fn is_long(head: &StreamHead, before: u64, packet: &Pkt) -> bool
 }
 
 // Feeds a piece of the input to the cut, but for the bytes of the head.
-fn feed_piece(cut: &mut WavCut, skip: &mut u64, piece: &[u8])
-    requires going { has_ended cut.old ≡ false }
-    requires room { length piece.now ≤ room_in cut.old }
-    ensures cuts { Feeds cut.old cut.new (drop skip.old piece.now) }
+fn feed_piece<C: PacketCut>(cut: &mut C, skip: &mut u64, piece: &[u8])
+    requires going { C.is.has_ended cut.old ≡ false }
+    requires room { length piece.now ≤ C.is.room cut.old }
+    ensures cuts { Feeds C.is cut.old cut.new (drop skip.old piece.now) }
     ensures skip { skip.new ≡ skip.old - length piece.now }
-    ensures kept { SameElsewhere cut.old cut.new }
-    ensures held { length (waiting_in cut.new) + skip.old ≡ length (waiting_in cut.old) + length piece.now + skip.new }
+    ensures kept { SameElsewhere C.is cut.old cut.new }
+    ensures held { length (C.is.waiting cut.new) + skip.old ≡ length (C.is.waiting cut.old) + length piece.now + skip.new }
 {
     let over = (*skip).min(piece.len() as u64);
     *skip -= over;
@@ -135,24 +146,24 @@ fn feed_piece(cut: &mut WavCut, skip: &mut u64, piece: &[u8])
 }
 
 // Reads a piece of the input into the cut. Room is made first, so that no byte that was read is lost.
-fn read_more<S: Source>(
+fn read_more<S: Source, C: PacketCut>(
     src: &mut S,
-    cut: &mut WavCut,
+    cut: &mut C,
     skip: &mut u64,
     piece: &mut [u8],
 ) -> Result<(), ReadEnd>
-    requires going { has_ended cut.old ≡ false }
+    requires going { C.is.has_ended cut.old ≡ false }
     requires some { 0 < length piece.old }
-    ensures read { OnOk result ((given : ℕ) (ticket : _) (fault : Option Fault) (past : Past) → DemuxStands (S.left src.old) cut.old skip.old given ticket false fault past → DemuxStands (S.left src.new) cut.new skip.new given ticket false fault past) }
+    ensures read { OnOk result ((given : ℕ) (ticket : _) (fault : Option Fault) (past : Past) → DemuxStands C.is (S.left src.old) cut.old skip.old given ticket false fault past → DemuxStands C.is (S.left src.new) cut.new skip.new given ticket false fault past) }
     ensures left { OnErr result (Keeps (S.left src.old) (S.left src.new)) }
     ensures skip { OnErr result (skip.new ≡ skip.old) }
-    ensures ended { OnErr result (has_ended cut.new ≡ has_ended cut.old) }
-    ensures cuts { OnErr result (KeepsCut cut.old cut.new) }
+    ensures ended { OnErr result (C.is.has_ended cut.new ≡ C.is.has_ended cut.old) }
+    ensures cuts { OnErr result (KeepsCut C.is cut.old cut.new) }
     ensures cause { HasCauseOf ReadEnd.Failed (S.faults src.old) (S.faults src.new) result }
     ensures name { S.name src.new ≡ S.name src.old }
-    ensures head { head_of cut.new ≡ head_of cut.old }
-    ensures place { place_of cut.new ≡ place_of cut.old }
-    ensures nearer { OnOk result (((has_ended cut.new ≡ true) × (skip.new ≡ skip.old) × (length (waiting_in cut.new) ≡ length (waiting_in cut.old))) ⊎ ((has_ended cut.new ≡ false) × (length (waiting_in cut.old) + skip.new < length (waiting_in cut.new) + skip.old) × (skip.new ≤ skip.old))) }
+    ensures head { C.is.head_of cut.new ≡ C.is.head_of cut.old }
+    ensures place { C.is.place cut.new ≡ C.is.place cut.old }
+    ensures nearer { OnOk result (((C.is.has_ended cut.new ≡ true) × (skip.new ≡ skip.old) × (length (C.is.waiting cut.new) ≡ length (C.is.waiting cut.old))) ⊎ ((C.is.has_ended cut.new ≡ false) × (length (C.is.waiting cut.old) + skip.new < length (C.is.waiting cut.new) + skip.old) × (skip.new ≤ skip.old))) }
 {
     cut.reserve(piece.len())?;
     let count = src.read(piece)?;
@@ -171,27 +182,30 @@ enum Unit {
     /// A packet that passes a limit.
     Long,
     End,
+    /// No further packet begins at this offset, or one that isn't whole.
+    Broken(u64),
     /// More of the input is wanted.
     Wait,
 }
 
 // The next packet of what was read, where so many were given.
-fn next_unit(cut: &mut WavCut, head: &StreamHead, given: u64) -> Result<Unit, AllocError>
-    requires near { place_of cut.old ≤ 2 ^ 50 }
+fn next_unit<C: PacketCut>(cut: &mut C, head: &StreamHead, given: u64) -> Result<Unit, AllocError>
+    requires near { C.is.place cut.old ≤ 2 ^ 50 }
     requires few { given ≤ 2 ^ 40 }
-    ensures packet { (p : Pkt) → result ≡ Ok (Unit.Packet p) → GivesPacket cut.old cut.new p × (passes_in_demux (Packets head.now) given (Item.Packet p) ≡ false) }
-    ensures within { (p : Pkt) → result ≡ Ok (Unit.Packet p) → (place_of cut.new ≤ 2 ^ 50) × (given + 1 ≤ 2 ^ 40) }
-    ensures long { result ≡ Ok Unit.Long → (p : Pkt) × GivesPacket cut.old cut.new p × (passes_in_demux (Packets head.now) given (Item.Packet p) ≡ true) }
-    ensures all { result ≡ Ok Unit.End → (cut.new ≡ cut.old) × GivesAll cut.old }
-    ensures wait { result ≡ Ok Unit.Wait → (cut.new ≡ cut.old) × (has_ended cut.old ≡ false) × (length (waiting_in cut.old) < 2 ^ 15) }
+    ensures packet { (p : Pkt) → result ≡ Ok (Unit.Packet p) → GivesPacket C.is cut.old cut.new p × (passes_in_demux (Packets head.now) given (Item.Packet p) ≡ false) }
+    ensures within { (p : Pkt) → result ≡ Ok (Unit.Packet p) → (C.is.place cut.new ≤ 2 ^ 50) × (given + 1 ≤ 2 ^ 40) }
+    ensures long { result ≡ Ok Unit.Long → (p : Pkt) × GivesPacket C.is cut.old cut.new p × (passes_in_demux (Packets head.now) given (Item.Packet p) ≡ true) }
+    ensures all { result ≡ Ok Unit.End → (cut.new ≡ cut.old) × GaveAll C.is cut.old None }
+    ensures broken { (offset : ℕ) → result ≡ Ok (Unit.Broken offset) → (cut.new ≡ cut.old) × GaveAll C.is cut.old (Some offset) }
+    ensures wait { result ≡ Ok Unit.Wait → (cut.new ≡ cut.old) × (C.is.has_ended cut.old ≡ false) × (length (C.is.waiting cut.old) < C.is.longest) }
     ensures err { OnErr result (cut.new ≡ cut.old) }
-    ensures head { head_of cut.new ≡ head_of cut.old }
-    ensures ended { has_ended cut.new ≡ has_ended cut.old }
+    ensures head { C.is.head_of cut.new ≡ C.is.head_of cut.old }
+    ensures ended { C.is.has_ended cut.new ≡ C.is.has_ended cut.old }
 {
     match cut.pull()? {
         Cut::NotYet => Ok(Unit::Wait),
         Cut::End => Ok(Unit::End),
-        Cut::Broken { .. } => unreachable!(),
+        Cut::Broken { offset } => Ok(Unit::Broken(offset)),
         Cut::Pkt(packet) => {
             if is_long(head, given, &packet) {
                 return Ok(Unit::Long);
@@ -208,22 +222,22 @@ fn piece_of(alloc: Global, size: usize) -> Result<Vec<u8>, AllocError>
     vec![in alloc; 0u8; size]
 }
 
-impl<S: Source + Drop> Demux<S> {
-    ghost use Rattle.std.specs.Prelude.{[], ◌∷◌, Some};
+impl<S: Source + Drop, C: PacketCut + Drop> Demux<S, C> {
+    ghost use Rattle.std.specs.Prelude.{[], ◌∷◌};
     ghost use Rattle.ff_net.specs.Pasts.{start};
     ghost use Rattle.ff_parts.specs.Demuxing.{demux_task};
     ghost use Rattle.ff_parts.specs.Demuxers.{demux_out_lanes, demux_source, demux_fault, demux_failures, demux_device, demux_stands};
 
     /// Over a source that gives the input from its first byte on, whose head this is. The source comes back where there
     /// was no memory.
-    pub fn new(alloc: Global, input: u32, src: S, head: &WavHead) -> Result<Demux<S>, S>
-        requires { IsHead head.now }
+    pub fn new(alloc: Global, input: u32, src: S, head: &C::Head) -> Result<Demux<S, C>, S>
+        requires { C.is.IsHead head.now }
         ensures fault { IfOk result (λ m. demux_fault m ≡ None) }
         ensures source { IfOk result (λ m. demux_source m ≡ Some input) }
-        ensures lanes { IfOk result (λ m. demux_out_lanes m ≡ Packets head.now.head ∷ []) }
+        ensures lanes { IfOk result (λ m. demux_out_lanes m ≡ Packets (C.is.stream_head head.now) ∷ []) }
         ensures device { IfOk result (λ m. demux_device S.name m ≡ S.name src) }
         ensures failures { IfOk result (λ m. demux_failures S.faults m ≡ S.faults src) }
-        ensures stands { IfOk result (λ m. (file : List ℕ) → S.left src ≡ Some file → demux_stands S.left m (start (demux_task head.now file))) }
+        ensures stands { IfOk result (λ m. (file : List ℕ) → S.left src ≡ Some file → demux_stands S.left m (start (demux_task C.is head.now file))) }
         ensures refused { IfErr result (λ s. s ≡ src) }
     {
         let Ok(piece) = piece_of(alloc, PIECE) else {
@@ -231,11 +245,11 @@ impl<S: Source + Drop> Demux<S> {
         };
         Ok(Demux {
             input,
-            head: head.head,
+            head: C::stream_head(head),
             src,
-            cut: WavCut::new(alloc, head),
+            cut: C::new(alloc, head),
             piece,
-            skip: head.start,
+            skip: C::start(head),
             given: 0,
             ticket: false,
             ended: false,
@@ -252,7 +266,8 @@ impl<S: Source + Drop> Demux<S> {
     }
 }
 
-impl<S: Source + Drop> Machine for Demux<S> {
+impl<S: Source + Drop, C: Demuxable + Drop> Machine for Demux<S, C> {
+    ghost use Rattle.ff_net.specs.Silence.{silent_front};
     ghost use Rattle.ff_parts.specs.Demuxers.{demux_in_lanes, demux_out_lanes, demux_source, demux_fault, demux_failures, demux_device, demux_holds, demux_spent, demux_stands};
     ghost use Rattle.ff_parts.specs.DemuxLaws.{demux_is_source, demux_fed, demux_keeps, demux_monotone, demux_cause_stays, demux_calm, demux_given, demux_unbroken, demux_caused, demux_ticket_used};
     ghost use Rattle.ff_parts.specs.DemuxClaims.{no_input, is_some_source, holds_none};
@@ -336,6 +351,12 @@ impl<S: Source + Drop> Machine for Demux<S> {
                     self.ended = true;
                     return Ok(Some(Item::End));
                 }
+                Unit::Broken(offset) => {
+                    self.ticket = false;
+                    self.ended = true;
+                    self.fault = Some(Fault::Damaged { offset });
+                    return Ok(Some(Item::Broken));
+                }
                 Unit::Wait => match read_more(
                     &mut self.src,
                     &mut self.cut,
@@ -361,23 +382,27 @@ impl<S: Source + Drop> Machine for Demux<S> {
         false
     }
 
-    ghost is_source = { λ m past s. demux_is_source (S.left m.src) m.cut m.skip m.given m.ticket m.ended m.fault past s };
+    fn next_event(&mut self) -> Option<Event> {
+        None
+    }
 
-    ghost valid = { λ m past s. demux_fed (S.left m.src) m.cut m.skip m.given m.ticket m.ended m.fault past s };
+    ghost is_source = { λ m past s. demux_is_source C.is (S.left m.src) m.cut m.skip m.given m.ticket m.ended m.fault past s };
 
-    ghost keeps = { λ m past s. demux_keeps (S.left m.src) m.cut m.skip m.given m.ticket m.ended m.fault past s m.head m.same_head m.coded };
+    ghost valid = { λ m past s. demux_fed C.is (S.left m.src) m.cut m.skip m.given m.ticket m.ended m.fault past s };
 
-    ghost monotone = { λ m past s. demux_monotone (S.left m.src) m.cut m.skip m.given m.ticket m.ended m.fault past s (AreValid []) };
+    ghost keeps = { λ m past s. demux_keeps C.is (S.left m.src) m.cut m.skip m.given m.ticket m.ended m.fault past s C.in_shape m.head m.same_head };
 
-    ghost cause_stays = { λ m past s. demux_cause_stays (S.left m.src) m.cut m.skip m.given m.ticket m.ended m.fault past s [] };
+    ghost monotone = { λ m past s. demux_monotone C.is (S.left m.src) m.cut m.skip m.given m.ticket m.ended m.fault past s (AreValid []) };
 
-    ghost calm = { λ m past s. demux_calm (S.left m.src) m.cut m.skip m.given m.ticket m.ended m.fault past s (AreValid []) };
+    ghost cause_stays = { λ m past s. demux_cause_stays C.is (S.left m.src) m.cut m.skip m.given m.ticket m.ended m.fault past s [] };
 
-    ghost given = { λ m past s. demux_given (S.left m.src) m.cut m.skip m.given m.ticket m.ended m.fault past s };
+    ghost calm = { λ m past s. demux_calm C.is (S.left m.src) m.cut m.skip m.given m.ticket m.ended m.fault past s (AreValid []) };
 
-    ghost unbroken = { λ m past s f u. demux_unbroken (S.left m.src) m.cut m.skip m.given m.ticket m.ended m.fault past s f };
+    ghost given = { λ m past s. demux_given C.is (S.left m.src) m.cut m.skip m.given m.ticket m.ended m.fault past s };
 
-    ghost caused = { λ m past c s e i. demux_caused (S.left m.src) m.cut m.skip m.given m.ticket m.ended m.fault past s c e i };
+    ghost unbroken = { λ m past s f u. demux_unbroken C.is (S.left m.src) m.cut m.skip m.given m.ticket m.ended m.fault past s f };
+
+    ghost caused = { λ m past c s e i. demux_caused C.is (S.left m.src) m.cut m.skip m.given m.ticket m.ended m.fault past s c e i };
 
     ghost spent_only = { λ m past p s i. absurd i };
 
@@ -385,7 +410,9 @@ impl<S: Source + Drop> Machine for Demux<S> {
 
     ghost done_spent = { λ m past p s lt z c a. no_input p lt };
 
-    ghost all_spent = { λ m past s n h. is_some_source m.input n };
+    ghost settles = { λ m past s n. is_some_source m.input n };
 
-    ghost ticket_used = { λ m past q s i f p a h. holds_none m.ticket h (demux_ticket_used (S.left m.src) m.cut m.skip m.given m.ticket m.ended m.fault past s q f p a) };
+    ghost told = { λ m past s. silent_front past s.3.sources.silent };
+
+    ghost ticket_used = { λ m past q s i f p a h. holds_none m.ticket h (demux_ticket_used C.is (S.left m.src) m.cut m.skip m.given m.ticket m.ended m.fault past s q f p a) };
 }

@@ -1,12 +1,13 @@
 ghost use Rattle.std.specs.Prelude.{◌≡◌, ◌↔◌, ◌*◌, ◌/◌, length, pos, IsTrue, IfOk, IfErr};
-ghost use Rattle.ff_frame.specs.Audio.{IsAudio};
-ghost use Rattle.ff_frame.specs.Lanes.{IsPcmCodec, sample_bytes, IsSoundHead};
-ghost use Rattle.ff_frame.specs.PcmLaws.{IsPcmCodec-prop};
+ghost use Rattle.ff_values.specs.Audio.{IsAudio};
+ghost use Rattle.ff_values.specs.Heads.{IsSoundHead};
+ghost use Rattle.ff_values.specs.Codecs.{IsPcmCodec, sample_bytes};
+ghost use Rattle.ff_values.specs.PcmLaws.{IsPcmCodec-prop};
 ghost use Rattle.ff_wav.specs.Sound.{IsSoundHead-prop};
 ghost use Rattle.ff_parts.specs.Encoding.{packet_of, encoded_item, IsEncodable};
 
 use crate::ready::{Ready, discard};
-use ff_frame::{AFrame, Bytes, Codec, Item, Pkt, Refused, StreamHead, Ticket};
+use ff_frame::{AFrame, Bytes, Codec, Event, Item, Pkt, Refused, StreamHead, Ticket};
 use ff_net::{Fault, Machine};
 use ff_pcm::{depth_change, depth_of, is_audio, pcm_encode_into, room_for};
 use std::alloc::{AllocError, Global};
@@ -52,7 +53,7 @@ fn is_encodable(item: &Item) -> bool
 {
     match item {
         Item::Audio(frame) => is_audio(frame),
-        Item::Video(_) | Item::Packet(_) => false,
+        Item::Video(_) | Item::Packet(_) | Item::Trailer(_) => false,
         Item::End | Item::Broken => true,
     }
 }
@@ -99,16 +100,18 @@ fn encode(alloc: Global, codec: Codec, item: Item) -> Result<Item, Refused>
         },
         Item::Video(frame) => Ok(Item::Video(frame)),
         Item::Packet(packet) => Ok(Item::Packet(packet)),
+        Item::Trailer(totals) => Ok(Item::Trailer(totals)),
         Item::End => Ok(Item::End),
         Item::Broken => Ok(Item::Broken),
     }
 }
 
 impl Machine for Enc {
+    ghost use Rattle.ff_net.specs.Silence.{silent_front};
     ghost use Rattle.std.specs.Prelude.{None};
     ghost use Rattle.ff_frame.specs.declared.item.Lane.TheVariants.{Frames, Packets};
     ghost use Rattle.ff_parts.specs.Encoding.{coded_head};
-    ghost use Rattle.ff_parts.specs.MapLaws.{map_no_fault, maps_valid, maps_keeps, maps_monotone, maps_cause_stays, maps_calm, maps_given, maps_unbroken, maps_spent_only, maps_closed_spent, maps_done_spent, maps_all_spent};
+    ghost use Rattle.ff_parts.specs.MapLaws.{map_no_fault, maps_valid, maps_keeps, maps_monotone, maps_cause_stays, maps_calm, maps_given, maps_unbroken, maps_spent_only, maps_closed_spent, maps_done_spent, maps_settles};
     ghost use Rattle.ff_parts.specs.Coders.{enc_in_lanes, enc_out_lanes, enc_spent, enc_stands};
 
     ghost in_lanes = { enc_in_lanes };
@@ -178,6 +181,10 @@ impl Machine for Enc {
         self.ready.is_spent()
     }
 
+    fn next_event(&mut self) -> Option<Event> {
+        None
+    }
+
     ghost is_source = { λ m past s. s.plain };
 
     ghost valid = { λ m past s. maps_valid (Frames m.head) (Packets (coded_head m.codec m.head)) (encoded_item m.codec) m.ready past s };
@@ -202,7 +209,9 @@ impl Machine for Enc {
 
     ghost done_spent = { λ m past p s lt z c a. maps_done_spent (Frames m.head) (Packets (coded_head m.codec m.head)) (encoded_item m.codec) m.ready past s p lt c };
 
-    ghost all_spent = { λ m past s n h. maps_all_spent (Frames m.head) (Packets (coded_head m.codec m.head)) (encoded_item m.codec) m.ready past s h };
+    ghost settles = { λ m past s n. maps_settles (Frames m.head) (Packets (coded_head m.codec m.head)) (encoded_item m.codec) m.ready past s };
+
+    ghost told = { λ m past s. silent_front past s.silent };
 
     ghost ticket_used = { λ m past q s i f p a h. h };
 }

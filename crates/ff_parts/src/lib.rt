@@ -16,12 +16,7 @@ pub use coding::{
     coding_leaves_bytes, decoding_passes_no_limit, encoding_passes_no_limit, octets_leave_bytes,
 };
 pub use dec::Dec;
-pub use demux::Demux;
+pub use demux::{Demux, Demuxable, is_long};
 pub use enc::Enc;
 pub use mux::Mux;
 pub use part::{Ends, Part};
-
-#[cfg(test)]
-mod coder_tests;
-#[cfg(test)]
-mod demux_tests;

@@ -10,7 +10,7 @@ ghost use Rattle.ff_net.specs.Pasts.{Past, start};
 ghost use Rattle.ff_parts.specs.Muxing.{unpatched, file, HoldsFront, mux_task, mux_sink, mux_head, mux_stands, mux_in_lanes, mux_fault, mux_spent, lines_before, lines_of};
 ghost use Rattle.ff_parts.specs.MuxLaws.{mux_source, mux_valid, mux_keeps, mux_monotone, mux_cause_stays, mux_calm, mux_given, mux_unbroken, mux_caused, mux_spent_only, mux_closed_spent, no_output};
 
-use ff_frame::{Item, Refused, StreamHead, Ticket};
+use ff_frame::{Event, Item, Refused, StreamHead, Ticket};
 use ff_host::{Sink, SinkError};
 use ff_mux::HashPut;
 use ff_net::{Fault, Machine};
@@ -81,7 +81,9 @@ fn text_of(alloc: Global, put: &HashPut, item: &Item) -> Result<Vec<u8>, AllocEr
 {
     match item {
         Item::Packet(pkt) => put.line(pkt),
-        Item::Audio(_) | Item::Video(_) | Item::End | Item::Broken => Ok(Vec::new(alloc)),
+        Item::Audio(_) | Item::Video(_) | Item::Trailer(_) | Item::End | Item::Broken => Ok(
+            Vec::new(alloc),
+        ),
     }
 }
 
@@ -121,6 +123,8 @@ fn write_both<K: Sink>(snk: &mut K, first: &[u8], second: &[u8]) -> Option<Fault
 }
 
 impl<K: Sink + Drop> Machine for Mux<K> {
+    ghost use Rattle.ff_net.specs.Silence.{silent_front};
+
     ghost in_lanes = { λ m. mux_in_lanes m };
 
     ghost out_lanes = { λ m. [] };
@@ -193,6 +197,10 @@ impl<K: Sink + Drop> Machine for Mux<K> {
         self.closed
     }
 
+    fn next_event(&mut self) -> Option<Event> {
+        None
+    }
+
     ghost is_source = { λ m past s. mux_source K.holds m past s };
 
     ghost valid = { λ m past s. mux_valid K.holds m past s };
@@ -217,10 +225,9 @@ impl<K: Sink + Drop> Machine for Mux<K> {
 
     ghost done_spent = { λ m past p s lt z c a. absurd (no_output 0 z) };
 
-    ghost all_spent = { λ m past s n h q lt. absurd (no_output q lt) };
+    ghost settles = { λ m past s n ss v c q lt. absurd (no_output q lt) };
+
+    ghost told = { λ m past s. silent_front past s.1.silent };
 
     ghost ticket_used = { λ m past q s i f p a h. h };
 }
-
-#[cfg(test)]
-mod tests;

@@ -3,9 +3,10 @@ use crate::dec::Dec;
 use crate::demux::Demux;
 use crate::enc::Enc;
 use crate::mux::Mux;
-use ff_frame::{Item, Refused, Ticket};
+use ff_frame::{Event, Item, Refused, Ticket};
 use ff_host::{Sink, Source};
 use ff_net::{Fault, Machine};
+use ff_wav::WavCut;
 use std::alloc::AllocError;
 
 /// A part of a run. Each kind is a machine of its own; together they are one, so that a network can hold them side by
@@ -13,7 +14,7 @@ use std::alloc::AllocError;
 #[derive(Drop)]
 pub enum Part<Src: Source + Drop, Snk: Sink + Drop> {
     /// Gives an input's packets.
-    Demux(Demux<Src>),
+    Demux(Demux<Src, WavCut>),
     /// Decodes packets to frames.
     Dec(Dec),
     /// Encodes frames to packets.
@@ -35,7 +36,7 @@ pub enum Ends<Src: Source + Drop, Snk: Sink + Drop> {
 
 impl<Src: Source + Drop, Snk: Sink + Drop> Machine for Part<Src, Snk> {
     ghost use Rattle.ff_parts.specs.Parts.{part_in_lanes, part_out_lanes, part_source, part_fault, part_device, part_failures, part_holds, part_spent, part_stands};
-    ghost use Rattle.ff_parts.specs.PartLaws.{part_is_source, part_valid, part_keeps, part_monotone, part_cause_stays, part_calm, part_given, part_unbroken, part_caused, part_spent_only, part_closed_spent, part_done_spent, part_all_spent, part_ticket_used};
+    ghost use Rattle.ff_parts.specs.PartLaws.{part_is_source, part_valid, part_keeps, part_monotone, part_cause_stays, part_calm, part_given, part_unbroken, part_caused, part_spent_only, part_closed_spent, part_done_spent, part_settles, part_told, part_ticket_used};
 
     ghost in_lanes = { part_in_lanes };
 
@@ -136,6 +137,15 @@ impl<Src: Source + Drop, Snk: Sink + Drop> Machine for Part<Src, Snk> {
         }
     }
 
+    fn next_event(&mut self) -> Option<Event> {
+        match self {
+            Part::Demux(m) => m.next_event(),
+            Part::Dec(m) => m.next_event(),
+            Part::Enc(m) => m.next_event(),
+            Part::Mux(m) => m.next_event(),
+        }
+    }
+
     ghost is_source = { part_is_source Src.left Snk.holds };
 
     ghost valid = { part_valid Src.left Snk.holds };
@@ -160,7 +170,9 @@ impl<Src: Source + Drop, Snk: Sink + Drop> Machine for Part<Src, Snk> {
 
     ghost done_spent = { part_done_spent Src.left Snk.holds };
 
-    ghost all_spent = { part_all_spent Src.left Snk.holds };
+    ghost settles = { part_settles Src.left Snk.holds };
+
+    ghost told = { part_told Src.left Snk.holds };
 
     ghost ticket_used = { part_ticket_used Src.left Snk.holds };
 }

@@ -143,7 +143,7 @@ module _ {M : Type 0} (in_lanes out_lanes : M → List Lane) (source : M → Opt
 
   -- something can be behind each node in this world, with these tasks
   abbrev EachStands : (ℕ → Task) → List (Node M) → (ℕ → Wire) → Type 0
-  EachStands tasks ns world = (k : ℕ) (d : Node M) → k < length ns → (past : Past) × NodeStands source fault stands (slice_index_or ns k d) world past × (past.task ≡ tasks k)
+  EachStands tasks ns world = (k : ℕ) (d : Node M) → k < length ns → (past : Past) × NodeStands in_lanes source fault stands (slice_index_or ns k d) world past × (past.task ≡ tasks k)
 
   -- the nodes are these four, with these tasks
   abbrev pub IsRow : (ℕ → Task) → List (Node M) → Type 0
@@ -220,7 +220,7 @@ module _ {M : Type 0} (in_lanes out_lanes : M → List Lane) (source : M → Opt
           → (past : Past) × stands n.machine past × (past.task ≡ tasks 3) × LiesBelow (opened (stream_at past.got 0)) (on_wire tasks 2)
       last_part world each below =
           let mine = each 3 n (there 3 (omega arith)) in
-          let here : NodeStands source fault stands n world mine.0 = subst (λ (m : Node M). NodeStands source fault stands m world mine.0) is mine.1 in
+          let here : NodeStands in_lanes source fault stands n world mine.0 = subst (λ (m : Node M). NodeStands in_lanes source fault stands m world mine.0) is mine.1 in
           let w = (in_at n.ins.items 0).wire in
           let two : w ≡ 2 = last_port.1 in
           let fed : LiesBelow (stream_at mine.0.got 0) (world w).taken = fed_below (stream_at mine.0.got 0) (world w).taken ((here.ins 0 last_port.0).fed) in
@@ -251,7 +251,7 @@ module _ {M : Type 0} (in_lanes out_lanes : M → List Lane) (source : M → Opt
       let make : List Lane → List Lane → List ℕ → List ℕ → Part = λ a b v w. record { means = task.means; in_lanes = a; out_lanes = b; ins = v; outs = w } in
       ap (λ x. make x (out_lanes node.machine) (in_wires_of node) (out_wires_of node)) ei ∙ (ap (λ x. make i x (in_wires_of node) (out_wires_of node)) eo ∙ (ap (λ x. make i o x (out_wires_of node)) ew ∙ ap (λ x. make i o ins x) ev))
 
-  module _ (chain : Chain M) (ns : Chain (Node M)) (are : AreNodes source fault stands chain ns) (has : HasLanes in_lanes out_lanes lanes chain) where
+  module _ (chain : Chain M) (ns : Chain (Node M)) (are : AreNodes in_lanes source fault stands chain ns) (has : HasLanes in_lanes out_lanes lanes chain) where
     pub row_of : (tasks : ℕ → Task) → IsRow tasks (listed ns)
     row_of tasks =
         let a = same_part (tasks 0) ns.first [] (lanes.first ∷ []) [] (0 ∷ []) (ap in_lanes are.first_is.machine_is ∙ has.first_ins) (ap out_lanes are.first_is.machine_is ∙ has.first_outs) are.first_is.ins_are are.first_is.outs_are in
@@ -260,7 +260,7 @@ module _ {M : Type 0} (in_lanes out_lanes : M → List Lane) (source : M → Opt
         let d = same_part (tasks 3) ns.last (lanes.third ∷ []) [] (2 ∷ []) [] (ap in_lanes are.last_is.machine_is ∙ has.last_ins) (ap out_lanes are.last_is.machine_is ∙ has.last_outs) are.last_is.ins_are are.last_is.outs_are in
         cc (a, b, c, d)
 
-    pub starts_at : (tasks : ℕ → Task) → Start stands tasks chain → (k : ℕ) (d : Node M) → k < length (listed ns) → (past : Past) × NodeStands source fault stands (slice_index_or (listed ns) k d) (λ w. fresh) past × (past.task ≡ tasks k)
+    pub starts_at : (tasks : ℕ → Task) → Start stands tasks chain → (k : ℕ) (d : Node M) → k < length (listed ns) → (past : Past) × NodeStands in_lanes source fault stands (slice_index_or (listed ns) k d) (λ w. fresh) past × (past.task ≡ tasks k)
     starts_at tasks s zero d lt = (start (tasks 0), are.first_is.starts (tasks 0) s.first, refl)
     starts_at tasks s (suc zero) d lt = (start (tasks 1), are.second_is.starts (tasks 1) s.second, refl)
     starts_at tasks s (suc (suc zero)) d lt = (start (tasks 2), are.third_is.starts (tasks 2) s.third, refl)
@@ -268,9 +268,9 @@ module _ {M : Type 0} (in_lanes out_lanes : M → List Lane) (source : M → Opt
     starts_at tasks s (suc (suc (suc (suc k)))) d lt = absurd (omega (arith, lt))
 
     -- nothing is on the wires yet
-    pub net_at_start : (tasks : ℕ → Task) → Start stands tasks chain → (xs : List (Node M)) → xs ≡ listed ns → (wires : Wires) → Stand wires (λ w. fresh) → NetStands source fault stands tasks xs wires
+    pub net_at_start : (tasks : ℕ → Task) → Start stands tasks chain → (xs : List (Node M)) → xs ≡ listed ns → (wires : Wires) → Stand wires (λ w. fresh) → NetStands in_lanes source fault stands tasks xs wires
     net_at_start tasks s xs is wires stand =
-        subst (λ (ys : List (Node M)). NetStands source fault stands tasks ys wires) (sym is) (record { world = λ w. fresh; stand = stand; each = starts_at tasks s })
+        subst (λ (ys : List (Node M)). NetStands in_lanes source fault stands tasks ys wires) (sym is) (record { world = λ w. fresh; stand = stand; each = starts_at tasks s })
 
   -- the four nodes afterwards, as a list
   module _ (tasks : ℕ → Task) (end : Chain (Node M)) (row : IsRow tasks (listed end)) where

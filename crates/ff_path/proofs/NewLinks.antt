@@ -78,7 +78,7 @@ module _ {M : Type 0} (in_lanes out_lanes : M → List Lane) (source : M → Opt
       out_wires = ap out_ends_wires h.outs_are ∙ sym out_wires;
     }
 
-    pub ports_begin : claims ≡ true → (task : Task) → NodeStands source fault stands node (λ w. fresh) (start task) → IsBeginning in_lanes out_lanes source fault stands task node ports.wires ports.ins.items ports.outs.items
+    pub ports_begin : claims ≡ true → (task : Task) → NodeStands in_lanes source fault stands node (λ w. fresh) (start task) → IsBeginning in_lanes out_lanes source fault stands task node ports.wires ports.ins.items ports.outs.items
     ports_begin vouched task new = record {
       shaped = ports_wired.shaped;
       apart = ports_wired.apart;

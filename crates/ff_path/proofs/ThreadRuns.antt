@@ -7,7 +7,7 @@ use Rattle.ff_net.specs.declared.fault.Fault.{Fault}
 use Rattle.ff_net.specs.declared.node.Node.{Node}
 use Rattle.ff_net.specs.Laws.{FaultStep, IsOfInputs}
 use Rattle.ff_net.specs.Nets.{IsUpward, solve}
-use Rattle.ff_net.specs.Pasts.{Past, Task, IsIn}
+use Rattle.ff_net.specs.Pasts.{Past, Task, IsIn, no_events}
 use Rattle.ff_net.specs.Serial.{Moment, Settled, parts_of}
 use Rattle.ff_net.specs.Worlds.{Wire}
 use Rattle.ff_net.specs.Nodes.{IsSound, IsDone, machine_of, outputs_of, in_wires_of, out_wires_of}
@@ -221,7 +221,7 @@ module _ {M : Type 0} (in_lanes out_lanes : M → List Lane) (source : M → Opt
         chain_cause in_lanes out_lanes source fault stands lanes tasks end (chain_row tasks) f first of (cause tasks (link_lanes lanes) (behind tasks v s) meeting (omega arith) (upward tasks))
 
     pub threads_lanes : HasLanes in_lanes out_lanes lanes (machines_of end)
-    threads_lanes = (let tasks : ℕ → Task = λ k. record { means = λ ss. []; cause = λ ss. None; source = false } in chain_lanes in_lanes out_lanes source fault stands lanes tasks end (chain_row tasks))
+    threads_lanes = (let tasks : ℕ → Task = λ k. record { means = λ ss. []; cause = λ ss. None; source = false; tells = no_events } in chain_lanes in_lanes out_lanes source fault stands lanes tasks end (chain_row tasks))
 
 -- the machines that came of four nodes
 pub same_machines : {M : Type 0} (machines : List M) (c : Chain M) (now : Chain (Linked M)) → machines ≡ listed c → ((k : ℕ) (d : Linked M) (e : M) → k < 4 → slice_index_or machines k e ≡ machine_of (node_of (slice_index_or (listed now) k d))) → c ≡ machines_of (nodes_in now)

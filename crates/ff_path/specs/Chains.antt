@@ -47,18 +47,18 @@ pub record HasLanes {M : Type 0} (in_lanes out_lanes : M → List Lane) (lanes :
   pub last_outs : out_lanes chain.last ≡ []
 
 -- a node of this machine on these wires, on which nothing was done yet
-pub record IsNode {M : Type 0} (source : M → Option ℕ) (fault : M → Option Fault) (stands : M → Past → Type 0) (ins outs : List ℕ) (machine : M) (node : Node M) : Type 0 where
+pub record IsNode {M : Type 0} (in_lanes : M → List Lane) (source : M → Option ℕ) (fault : M → Option Fault) (stands : M → Past → Type 0) (ins outs : List ℕ) (machine : M) (node : Node M) : Type 0 where
   pub ins_are : in_wires_of node ≡ ins
   pub outs_are : out_wires_of node ≡ outs
   pub machine_is : machine_of node ≡ machine
-  pub starts : (task : Task) → stands machine (start task) → NodeStands source fault stands node (λ w. fresh) (start task)
+  pub starts : (task : Task) → stands machine (start task) → NodeStands in_lanes source fault stands node (λ w. fresh) (start task)
 
 -- the machines as nodes, each on the wire from the one before
-pub record AreNodes {M : Type 0} (source : M → Option ℕ) (fault : M → Option Fault) (stands : M → Past → Type 0) (chain : Chain M) (nodes : Chain (Node M)) : Type 0 where
-  pub first_is : IsNode source fault stands [] (0 ∷ []) chain.first nodes.first
-  pub second_is : IsNode source fault stands (0 ∷ []) (1 ∷ []) chain.second nodes.second
-  pub third_is : IsNode source fault stands (1 ∷ []) (2 ∷ []) chain.third nodes.third
-  pub last_is : IsNode source fault stands (2 ∷ []) [] chain.last nodes.last
+pub record AreNodes {M : Type 0} (in_lanes : M → List Lane) (source : M → Option ℕ) (fault : M → Option Fault) (stands : M → Past → Type 0) (chain : Chain M) (nodes : Chain (Node M)) : Type 0 where
+  pub first_is : IsNode in_lanes source fault stands [] (0 ∷ []) chain.first nodes.first
+  pub second_is : IsNode in_lanes source fault stands (0 ∷ []) (1 ∷ []) chain.second nodes.second
+  pub third_is : IsNode in_lanes source fault stands (1 ∷ []) (2 ∷ []) chain.third nodes.third
+  pub last_is : IsNode in_lanes source fault stands (2 ∷ []) [] chain.last nodes.last
 
 -- nothing was done yet with the machines, and they are for these tasks
 pub record Start {M : Type 0} (stands : M → Past → Type 0) (tasks : ℕ → Task) (chain : Chain M) : Type 0 where

@@ -1,9 +1,9 @@
 -- What a WAV's head is fit for, and what the four parts come to.
 use Rattle.std.specs.Prelude.{◌≡◌, List, ℕ, refl}
-use Rattle.ff_frame.specs.declared.head.Codec.{Codec}
-use Rattle.ff_frame.specs.declared.head.StreamHead.{StreamHead}
-use Rattle.ff_frame.specs.declared.head.StreamHead.TheVariants.{Audio, Video}
-use Rattle.ff_frame.specs.Lanes.{IsSoundHead}
+use Rattle.ff_values.specs.declared.head.Codec.{Codec}
+use Rattle.ff_values.specs.declared.head.StreamHead.{StreamHead}
+use Rattle.ff_values.specs.declared.head.StreamHead.TheVariants.{Audio, Video}
+use Rattle.ff_values.specs.Heads.{IsSoundHead}
 use Rattle.ff_pcm.specs.Frames.{IsPcmHead}
 use Rattle.ff_wav.specs.declared.head.WavHead.{WavHead}
 use Rattle.ff_wav.specs.Packets.{IsStream}

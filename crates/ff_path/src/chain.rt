@@ -55,7 +55,7 @@ fn first_fault<M: Machine>(nodes: &[Node<M>]) -> Option<NodeFault>
 
 // A machine on these wires.
 fn node<M: Machine>(alloc: Global, machine: M, ins: &[usize], outs: &[usize]) -> Result<Node<M>, M>
-    ensures node { IfOk result (IsNode M.source_of M.fault_of M.stands ins.now outs.now machine) }
+    ensures node { IfOk result (IsNode M.in_lanes M.source_of M.fault_of M.stands ins.now outs.now machine) }
     ensures back { IfErr result (λ m. m ≡ machine) }
 {
     let Ok(ins) = ins.to_vec(alloc) else {
@@ -69,7 +69,7 @@ fn node<M: Machine>(alloc: Global, machine: M, ins: &[usize], outs: &[usize]) ->
 
 // The machines as nodes on the wires 0, 1 and 2.
 fn nodes_of<M: Machine>(alloc: Global, chain: Chain<M>) -> Result<Chain<Node<M>>, Chain<M>>
-    ensures nodes { IfOk result (AreNodes M.source_of M.fault_of M.stands chain) }
+    ensures nodes { IfOk result (AreNodes M.in_lanes M.source_of M.fault_of M.stands chain) }
     ensures back { IfErr result (λ back. back ≡ chain) }
 {
     let Chain {

@@ -12,6 +12,3 @@ mod threads;
 pub use chain::{Chain, Lanes, NodeFault, Ran, run_chain};
 pub use path::{build, coded_head, path_lanes};
 pub use threads::{link_chain, run_chain_in_threads};
-
-#[cfg(test)]
-mod tests;

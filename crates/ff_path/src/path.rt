@@ -1,6 +1,6 @@
 // The path from an input to its framehash: demuxer, decoder, encoder, muxer.
 ghost use Rattle.std.specs.Prelude.{◌≡◌, IfOk, IfErr};
-ghost use Rattle.ff_frame.specs.Lanes.{IsPcmCodec};
+ghost use Rattle.ff_values.specs.Codecs.{IsPcmCodec};
 ghost use Rattle.ff_wav.specs.Packets.{IsHead};
 ghost use Rattle.ff_parts.specs.Encoding.{coded_head as coded_head_of};
 ghost use Rattle.ff_path.specs.Path.{IsPath, path_lanes as path_lanes_of};

@@ -1,9 +1,9 @@
 -- Linear PCM (RIFF WAVE): the bytes that stand for samples. Numbers have the lowest byte first.
 use Rattle.std.specs.Prelude.{ℕ, zero, suc, ◌+◌, ◌-◌, ◌/◌, ◌%◌, ◌^◌, ℤ, pos, negsuc, List, [], ◌∷◌}
 use Rattle.std.specs.List.{flat_map}
-use Rattle.ff_frame.specs.Lanes.{sample_bytes}
-use Rattle.ff_frame.specs.declared.head.Codec.{Codec}
-use Rattle.ff_frame.specs.declared.head.Codec.TheVariants.{PcmU8, PcmS16le, PcmS24le, PcmS32le, Flac, RawVideo}
+use Rattle.ff_values.specs.Codecs.{sample_bytes}
+use Rattle.ff_values.specs.declared.head.Codec.{Codec}
+use Rattle.ff_values.specs.declared.head.Codec.TheVariants.{PcmU8, PcmS16le, PcmS24le, PcmS32le, Flac, RawVideo}
 
 -- so many bytes of a number
 abbrev pub number_bytes : ℕ → ℕ → List ℕ

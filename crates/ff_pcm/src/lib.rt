@@ -22,6 +22,3 @@ pub use laws::{
     more_bits_and_back_change_nothing, samples_have_one_form, samples_tell_their_bytes,
 };
 pub use raw::{raw_decode, raw_encode};
-
-#[cfg(test)]
-mod tests;

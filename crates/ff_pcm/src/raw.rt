@@ -1,9 +1,8 @@
 ghost use Rattle.std.specs.Prelude.{◌≡◌, IfOk};
-ghost use Rattle.ff_frame.specs.Lanes.{FitsFrames};
-ghost use Rattle.ff_frame.specs.declared.item.Item.TheVariants.{Video as VideoItem};
+ghost use Rattle.ff_values.specs.Heads.{IsPictureFor};
 ghost use Rattle.ff_pcm.specs.Raw.{HasFrame, IsFrameIn};
 
-use ff_frame::{Pkt, StreamHead, VFrame};
+use ff_values::{Pkt, StreamHead, VFrame};
 use std::alloc::{AllocError, Global};
 
 /// The frame of a packet of raw video: the packet's bytes are its planes, and its times are the packet's. The head is
@@ -11,7 +10,7 @@ use std::alloc::{AllocError, Global};
 pub fn raw_decode(alloc: Global, head: &StreamHead, packet: &Pkt) -> Result<VFrame, AllocError>
     requires { HasFrame head.now packet.now.bytes }
     ensures value { IfOk result (IsFrameIn head.now packet.now) }
-    ensures fits { IfOk result (λ frame. FitsFrames head.now (VideoItem frame)) }
+    ensures fits { IfOk result (IsPictureFor head.now) }
 {
     match *head {
         StreamHead::Video {

@@ -3,10 +3,11 @@ use Rattle.std.proofs.Common.{◌≡◌, ◌⊎◌, ◌++◌, inl, inr, ℕ, tru
 use Rattle.ff_host.specs.Causes.{Rose}
 use Rattle.ff_host.specs.Files.{Files, bytes_at, KeepsFiles, KeepsOthers, GivesFile, HoldsNothing, PutsFile}
 use Rattle.ff_wav.specs.declared.head.WavHead.{WavHead}
-use Rattle.ff_wav.specs.declared.head.HeadFault.{HeadFault}
-use Rattle.ff_wav.specs.declared.head.HeadFault.TheVariants as head_fault
+use Rattle.ff_cut.specs.declared.fault.HeadFault.{HeadFault}
+use Rattle.ff_cut.specs.declared.fault.HeadFault.TheVariants as head_fault
 use Rattle.ff_wav.specs.Heads.{Found, head}
 use Rattle.ff_parts.specs.Muxing.{HoldsFront}
+use Rattle.ff_wav.specs.Cuts.{wav_cutter}
 use Rattle.ff_parts.specs.Demuxing.{demux_of, is_too_long}
 use Rattle.ff_parts.specs.DemuxLaws.{demux_mark}
 use Rattle.ff_frame.specs.Stream.{Mark, still_open, whole, broken}
@@ -123,7 +124,7 @@ is_read : (old : Option Files) (job : Job) (left : Option (List ℕ)) (h : WavHe
 is_read None job left h g m = tt
 is_read (Some f) job left h g m = subst (λ (x : Found). IsRead x) (sym (at_input f job.input left h g m)) tt
 
-is_long : (bytes : List ℕ) (h : WavHead) → head bytes ≡ Ok h → is_too_long h bytes ≡ true → IsLong (head bytes) bytes
+is_long : (bytes : List ℕ) (h : WavHead) → head bytes ≡ Ok h → is_too_long wav_cutter h bytes ≡ true → IsLong (head bytes) bytes
 is_long bytes h e l = subst (λ (x : Found). IsLong x bytes) (sym e) l
 
 means_some : (old new : Option Files) (job : Job) → HoldsMeaning (Ok job) old new → KeepsOthers old new job.output → MeansSomething job old
@@ -204,7 +205,7 @@ once_broken broken text e s = cc
 -- an input that is too long means nothing
 long_some : (found : Found) (bytes : List ℕ) → IsLong found bytes → IsSome (file_of found bytes) → ⊥
 long_some (Err fault) bytes l s = absurd l
-long_some (Ok h) bytes l s = once_broken (demux_of h bytes).mark (text_with h bytes) (demux_mark h bytes true l) s
+long_some (Ok h) bytes l s = once_broken (demux_of wav_cutter h bytes).mark (text_with h bytes) (demux_mark wav_cutter h bytes true l) s
 
 long_meant : (bytes : List ℕ) → IsLong (head bytes) bytes → IsSome (framehash bytes) → ⊥
 unfolding framehash

@@ -4,8 +4,8 @@ use Rattle.std.specs.List.{flat_map}
 use Rattle.std.proofs.lemmas.List.Concat.{flat_map-append}
 use mathlib.Core.List.{IsPrefix}
 use Rattle.ff_host.specs.Causes.{Rose}
-use Rattle.ff_frame.specs.declared.head.Codec.TheVariants.{PcmU8}
-use Rattle.ff_frame.specs.declared.head.StreamHead.{StreamHead}
+use Rattle.ff_values.specs.declared.head.Codec.TheVariants.{PcmU8}
+use Rattle.ff_values.specs.declared.head.StreamHead.{StreamHead}
 use Rattle.ff_frame.specs.declared.item.Item.{Item}
 use Rattle.ff_frame.specs.declared.item.Lane.{Lane}
 use Rattle.ff_frame.specs.Stream.{LiesBelow, opened}
@@ -18,6 +18,7 @@ use Rattle.ff_net.specs.Pasts.{Task}
 use Rattle.ff_net.specs.Laws.{IsOfInputs}
 use Rattle.ff_parts.specs.declared.part.Part.{Part}
 use Rattle.ff_parts.specs.declared.part.Part.TheVariants as part
+use Rattle.ff_wav.specs.Cuts.{wav_cutter}
 use Rattle.ff_parts.specs.Demuxing.{is_too_long}
 use Rattle.ff_parts.specs.Muxing.{packet_in, hash_body, unpatched, HoldsFront}
 use Rattle.ff_parts.specs.Parts.{part_in_lanes, part_out_lanes, part_fault, part_device, part_failures, part_stands}
@@ -87,9 +88,9 @@ module _ {S K : Type 0} (left : S → Option (List ℕ)) (holds : K → Option (
   demux_end : (fault : Fault) → AreSound part_fault old → Fares (part_device named called) (part_failures ins outs) part_fault old new
       → (fault ≢ NoMemory → part_fault new.first ≡ Some fault) → (IsOfInputs fault → Caused 0 fault) → EndsPath (status_at 0 fault) h told before after
   demux_end Device s f own cause = (refl, f.first.failed s.first_sound (own (λ x. cc)))
-  demux_end (Damaged offset) s f own cause = (refl, λ bytes t. let r = when_long (is_too_long h bytes) (Damaged offset) (cause tt bytes t) in cc)
-  demux_end TooLong s f own cause = λ bytes t. (refl, (when_long (is_too_long h bytes) TooLong (cause tt bytes t)).1)
-  demux_end TooLarge s f own cause = λ bytes t. let r = when_long (is_too_long h bytes) TooLarge (cause tt bytes t) in cc
+  demux_end (Damaged offset) s f own cause = (refl, λ bytes t. let r = when_long (is_too_long wav_cutter h bytes) (Damaged offset) (cause tt bytes t) in cc)
+  demux_end TooLong s f own cause = λ bytes t. (refl, (when_long (is_too_long wav_cutter h bytes) TooLong (cause tt bytes t)).1)
+  demux_end TooLarge s f own cause = λ bytes t. let r = when_long (is_too_long wav_cutter h bytes) TooLarge (cause tt bytes t) in cc
   demux_end NoMemory s f own cause = tt
 
   between_end : (node : ℕ) (fault : Fault) (m : Part S K) → part_fault m ≡ None → (fault ≢ NoMemory → part_fault m ≡ Some fault) → EndsPath (status_at node fault) h told before after

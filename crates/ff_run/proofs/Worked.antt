@@ -5,7 +5,8 @@ use Rattle.sha2.specs.Sha256.{compress, digest_bytes, first_words, hash_after, r
 use Rattle.hex.specs.Hex.{encode_with}
 use Rattle.ff_mux.specs.FrameHash.{about, column, columns, digest_text, first_lines, header, packet_line}
 use Rattle.ff_wav.specs.Chunks.{chunk, format_chunk, tagged, format_of}
-use Rattle.ff_wav.specs.Heads.{head, reading}
+use Rattle.ff_cut.specs.Heads.{head}
+use Rattle.ff_cut.specs.Walks.{reading}
 use Rattle.ff_wav.specs.Packets.{packet_at}
 use Rattle.ff_parts.specs.Demuxing.{demux_of}
 use Rattle.ff_run.specs.Meaning.{framehash}

@@ -4,9 +4,10 @@
 use Rattle.std.specs.Prelude.{◌≡◌, ◌⊎◌, ⊤, ℕ, List, ◌++◌, ◌==◌, if◌then◌else◌, true, Option, Some, None, IsSome, Result, Ok, Err}
 use Rattle.ff_host.specs.Causes.{Rose}
 use Rattle.ff_host.specs.Files.{Files, bytes_at, KeepsFiles, KeepsOthers}
-use Rattle.ff_wav.specs.declared.head.HeadFault.{HeadFault}
-use Rattle.ff_wav.specs.declared.head.HeadFault.TheVariants as head_fault
+use Rattle.ff_cut.specs.declared.fault.HeadFault.{HeadFault}
+use Rattle.ff_cut.specs.declared.fault.HeadFault.TheVariants as head_fault
 use Rattle.ff_wav.specs.Heads.{Found, head}
+use Rattle.ff_wav.specs.Cuts.{wav_cutter}
 use Rattle.ff_parts.specs.Demuxing.{is_too_long}
 use Rattle.ff_run.specs.Words.{Job, Fault}
 use Rattle.ff_run.specs.Meaning.{meaning, written}
@@ -65,7 +66,7 @@ IsRefusedAs (Err words) before input fault = ⊥
 
 -- an input that has a head, and more packets than a stream may have, or one too late
 abbrev pub IsLong : Found → List ℕ → Type 0
-IsLong (Ok h) bytes = is_too_long h bytes ≡ true
+IsLong (Ok h) bytes = is_too_long wav_cutter h bytes ≡ true
 IsLong (Err fault) bytes = ⊥
 
 -- the words are a command whose input is too long, with files that are told

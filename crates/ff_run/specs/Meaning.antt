@@ -1,8 +1,8 @@
 -- What a command means: the bytes of its output, as a function of the files before the run.
 use Rattle.std.specs.Prelude.{ℕ, List, Option, Some, None, Ok, Err}
 use Rattle.ff_host.specs.Files.{Files, bytes_at}
-use Rattle.ff_frame.specs.declared.head.Codec.TheVariants.{PcmU8}
-use Rattle.ff_frame.specs.declared.head.StreamHead.{StreamHead}
+use Rattle.ff_values.specs.declared.head.Codec.TheVariants.{PcmU8}
+use Rattle.ff_values.specs.declared.head.StreamHead.{StreamHead}
 use Rattle.ff_wav.specs.declared.head.WavHead.{WavHead}
 use Rattle.ff_wav.specs.Heads.{Found, head}
 use Rattle.ff_net.specs.Ways.{Flow}

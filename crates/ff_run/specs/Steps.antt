@@ -3,10 +3,11 @@ use Rattle.std.specs.Prelude.{◌≡◌, ◌⊎◌, ⊤, ℕ, ◌==◌, if◌the
 use Rattle.ff_host.specs.Causes.{Rose}
 use Rattle.ff_host.specs.Files.{Files, bytes_at}
 use Rattle.ff_wav.specs.declared.head.WavHead.{WavHead}
-use Rattle.ff_wav.specs.declared.head.HeadFault.TheVariants as head_fault
+use Rattle.ff_cut.specs.declared.fault.HeadFault.TheVariants as head_fault
 use Rattle.ff_wav.specs.Heads.{Found, head}
 use Rattle.ff_net.specs.declared.fault.Fault.{Fault}
 use Rattle.ff_net.specs.declared.fault.Fault.TheVariants.{Device, Damaged, TooLong, TooLarge, NoMemory}
+use Rattle.ff_wav.specs.Cuts.{wav_cutter}
 use Rattle.ff_parts.specs.Demuxing.{is_too_long}
 use Rattle.ff_path.specs.declared.chain.NodeFault.{NodeFault}
 use Rattle.ff_run.specs.Words.{Job}
@@ -56,7 +57,7 @@ EndsPath status.Fine h told before after = ⊤
 EndsPath status.NoMemory h told before after = ⊤
 EndsPath (status.Device (Input i)) h told before after = (i ≡ 0) × Rose before.source after.source
 EndsPath (status.Device (Output o)) h told before after = (o ≡ 0) × Rose before.sink after.sink
-EndsPath (status.TooLong node) h told before after = (bytes : List ℕ) → told bytes → (node ≡ 0) × (is_too_long h bytes ≡ true)
+EndsPath (status.TooLong node) h told before after = (bytes : List ℕ) → told bytes → (node ≡ 0) × (is_too_long wav_cutter h bytes ≡ true)
 EndsPath (status.TooLarge output) h told before after = (bytes : List ℕ) → told bytes → ⊥
 EndsPath (status.Damaged input offset) h told before after = (input ≡ 0) × ((bytes : List ℕ) → told bytes → ⊥)
 EndsPath (status.Unsupported input offset) h told before after = ⊥

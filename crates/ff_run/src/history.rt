@@ -1,22 +1,8 @@
 ghost use Rattle.std.specs.Prelude.{◌≡◌, List, []};
 
+use ff_values::Event;
 use std::alloc::Global;
 use std::marker::Model;
-
-/// What a scheduler notes: who was granted a read, what was sent, and who is done.
-#[derive(Clone, Copy, Debug, PartialEq, Eq)]
-pub enum Event {
-    /// A source was granted one read.
-    Grant(u32),
-    /// An output stream took a packet of this time in microseconds.
-    Sent(u32, u64),
-    /// An output stream is done.
-    Finished(u32),
-    /// A graph now waits for this input of it.
-    Best(u32, u32),
-    /// A source is done.
-    Exited(u32),
-}
 
 /// The events of a scheduler in their order.
 #[derive(Drop)]
@@ -26,7 +12,7 @@ pub struct History {
 
 impl Model for History {
     ghost use Rattle.std.specs.Prelude.{List};
-    ghost use Rattle.ff_run.specs.declared.history.Event.{Event};
+    ghost use Rattle.ff_values.specs.declared.event.Event.{Event};
 
     ghost Value = { List Event };
 

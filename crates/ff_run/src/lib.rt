@@ -14,7 +14,8 @@ mod report;
 mod run;
 mod words;
 
-pub use history::{Event, History};
+pub use ff_values::Event;
+pub use history::History;
 pub use log::fault_line;
 pub use report::{FileRef, Line, Report, Status, WordKind, status_number};
 pub use run::ffmpeg;

@@ -1,7 +1,7 @@
 // The four parts of a run: built, run until all are done, and taken apart.
 ghost use Rattle.std.specs.Prelude.{◌≡◌, ◌≤◌, true, List, ℕ, [], ◌∷◌, IsSome, None, Some};
-ghost use Rattle.ff_frame.specs.declared.head.Codec.TheVariants.{PcmU8};
-ghost use Rattle.ff_frame.specs.declared.head.StreamHead.{StreamHead};
+ghost use Rattle.ff_values.specs.declared.head.Codec.TheVariants.{PcmU8};
+ghost use Rattle.ff_values.specs.declared.head.StreamHead.{StreamHead};
 ghost use Rattle.ff_frame.specs.declared.item.Lane.TheVariants.{Packets};
 ghost use Rattle.ff_frame.specs.Ports.{stream_at, IsWhole};
 ghost use Rattle.ff_wav.specs.Packets.{IsHead};

@@ -27,6 +27,3 @@ pub use order::compare;
 pub use rational::Rational;
 pub use rescaling::rescale;
 pub use units::ceil_units;
-
-#[cfg(test)]
-mod tests;

@@ -1,13 +1,14 @@
 -- The state of a cut, tied to what it was fed and gave.
-use Rattle.std.proofs.Common.{◌≡◌, ℕ, ◌+◌, ◌-◌, ◌*◌, ◌/◌, ◌<◌, ◌≤◌, inl, inr, true, false, List, ◌++◌, length, take, drop, Option, Some, sym, ap, ◌∙◌, subst, arith}
-use Rattle.std.specs.Prelude.{slice_get}
-use Rattle.std.proofs.lemmas.List.{length-drop, drop-drop}
-use Rattle.ff_frame.specs.declared.packet.Pkt.{Pkt}
+use Rattle.std.proofs.Common.{◌≡◌, ℕ, ◌+◌, ◌-◌, ◌*◌, ◌/◌, ◌<◌, ◌≤◌, inl, inr, true, false, List, ◌++◌, length, take, drop, Option, Some, sym, ap, ◌∙◌, subst, arith, length-append}
+use Rattle.std.specs.Prelude.{slice_get, Bool, None, Result, Ok, Err, OnOk}
+use Rattle.std.proofs.lemmas.List.{length-drop, drop-drop, drop-append-le}
+use Rattle.ff_values.specs.declared.packet.Pkt.{Pkt}
+use Rattle.ff_cut.specs.Cutters.{IsRest}
 use Rattle.ff_wav.specs.declared.head.WavHead.{WavHead}
 use Rattle.ff_wav.specs.declared.cut.WavCut.{WavCut}
 use Rattle.ff_wav.specs.Packets.{body, block_of, whole_len, packet_count, packets_of, packet_at, demuxed}
-use Rattle.ff_wav.specs.Cuts.{ReachesLen, IsBodyEnded, IsRest, Goes, Cuts}
-use Rattle.ff_wav.proofs.CutLaws.{body_length, body_ended, made, full_packet, full_count, last_packet, last_piece, last_count, no_count, packets_get, packets_length}
+use Rattle.ff_wav.specs.Cuts.{ReachesLen, IsBodyEnded, Goes, Cuts}
+use Rattle.ff_wav.proofs.CutLaws.{body-append, body_length, body_ended, made, full_packet, full_count, last_packet, last_piece, last_count, no_count, packets_get, packets_length}
 
 pub goes_of : (cut : WavCut) (head : WavHead) (fed : List ℕ) (n : ℕ) → Cuts cut head fed n → cut.done ≡ false → Goes cut.block cut.len cut.first cut.held.bytes fed n
 goes_of cut head fed n c d = subst (λ (l : Option ℕ). Goes cut.block l cut.first cut.held.bytes fed n) (sym c.of_len) (c.goes d)
@@ -122,3 +123,40 @@ one_or_more cut head fed n usable cuts d e le lt =
 pub not_ended : (cut : WavCut) (head : WavHead) (fed : List ℕ) → IsBodyEnded (whole_len head) cut.ended fed → cut.ended ≡ false → (ReachesLen (whole_len head) fed → ⊥) → ⊥
 not_ended cut head fed (inl e) f r = cc
 not_ended cut head fed (inr h) f r = r h
+
+-- ---- bytes come
+
+reaches_more : (len : Option ℕ) (ended : Bool) (fed bytes : List ℕ) → ended ≡ false → IsBodyEnded len ended fed → IsBodyEnded len ended (fed ++ bytes)
+reaches_more len ended fed bytes going (inl e) = cc
+reaches_more None ended fed bytes going (inr h) = absurd h
+reaches_more (Some l) ended fed bytes going (inr h) = inr (omega (arith, h, length-append fed bytes))
+
+pub fed_cuts : (cut new : WavCut) (head : WavHead) (fed bytes : List ℕ) (n : ℕ) → cut.ended ≡ false → Cuts cut head fed n
+    → new.head ≡ cut.head → new.block ≡ cut.block → new.len ≡ cut.len → new.first ≡ cut.first → new.ended ≡ cut.ended → new.done ≡ cut.done → new.held.bytes ≡ cut.held.bytes ++ bytes
+    → Cuts new head (fed ++ bytes) n
+fed_cuts cut new head fed bytes n going c eh eb el ef ee ed ek =
+    let len = whole_len head in
+    let used : new.first * new.block ≡ cut.first * cut.block = ap (λ f. f * new.block) ef ∙ ap (λ b. cut.first * b) eb in record {
+      of_head = eh ∙ c.of_head;
+      of_block = eb ∙ c.of_block;
+      of_len = el ∙ c.of_len;
+      goes = λ d.
+          let g = c.goes (sym ed ∙ d) in
+          let b = body-append len fed bytes in
+          let i = g.inside in
+          let l = body_length len fed in record {
+            at = ef ∙ g.at;
+            kept = ek ∙ (ap (λ xs. xs ++ bytes) g.kept ∙ (sym (drop-append-le (cut.first * cut.block) fed bytes (omega (arith, i, l))) ∙ ap (λ k. drop k (fed ++ bytes)) (sym used)));
+            inside = omega (arith, used, i, ap length b.1, length-append (body len fed) b.0);
+          };
+      over = λ d.
+          let o = c.over (sym ed ∙ d) in record {
+            all = subst (λ e. IsBodyEnded len e (fed ++ bytes)) (sym ee) (reaches_more len cut.ended fed bytes going o.all);
+            number = ap (λ k. packet_count k (body len (fed ++ bytes))) eb
+                ∙ (ap (packet_count cut.block) (body_ended len cut.ended fed bytes o.all (λ e. cc)) ∙ o.number);
+          };
+    }
+
+pub on_ok : {A E : Type 0} (r : Result A E) (P Q : Type 0) → OnOk r P → (P → Q) → OnOk r Q
+on_ok (Ok x) P Q h f = f h
+on_ok (Err x) P Q h f = tt

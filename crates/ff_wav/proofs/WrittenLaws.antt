@@ -1,30 +1,36 @@
 -- What is written is read again.
-use Rattle.std.proofs.Common.{◌≡◌, ℕ, ◌+◌, ◌-◌, ◌*◌, ◌/◌, ◌%◌, ◌^◌, ◌<◌, ◌≤◌, Bool, true, false, cond, List, [], ◌∷◌, ◌++◌, take, drop, length, Some, None, Ok, refl, sym, ap, ◌∙◌, subst, arith, append_assoc, append-nil, length-append, lit≤, inl, inr, ◌⊎◌, min, map}
+use Rattle.std.proofs.Common.{◌≡◌, ℕ, suc, ◌+◌, ◌-◌, ◌*◌, ◌/◌, ◌%◌, ◌^◌, ◌<◌, ◌≤◌, Bool, true, false, cond, List, [], ◌∷◌, ◌++◌, take, drop, length, Some, None, Ok, refl, sym, ap, ◌∙◌, subst, arith, append_assoc, append-nil, length-append, inl, inr, ◌⊎◌, min, map}
 use Rattle.std.specs.Option.{option_map}
 use Rattle.std.specs.Prelude.{◌==◌, ◌&&◌, ◌||◌, not, nat_le, nat_lt, codes, if◌then◌else◌}
 use Rattle.std.specs.Str.{bytes_eq}
 use Rattle.std.proofs.lemmas.Bool.Decides.{nat_tests}
 use Rattle.std.proofs.lemmas.Nat.{mul-le}
 use Rattle.ff_time.specs.Fraction.{Fraction}
-use Rattle.ff_frame.specs.Lanes.{IsPcmCodec, sample_bytes}
-use Rattle.ff_frame.specs.declared.head.Codec.{Codec}
-use Rattle.ff_frame.specs.declared.head.Codec.TheVariants.{PcmU8, PcmS16le, PcmS24le, PcmS32le, Flac, RawVideo}
-use Rattle.ff_frame.specs.declared.head.StreamHead.{StreamHead}
-use Rattle.ff_frame.specs.declared.head.StreamHead.TheVariants.{Audio, Video}
-use Rattle.ff_wav.specs.declared.head.Step.TheVariants.{Decide, Skip}
-use Rattle.ff_wav.specs.Chunks.{number_16, number_32, codec_of, stream_of, format_of, fields, tagged, format_chunk, body_len, data_chunk, chunk}
+use Rattle.ff_values.specs.Codecs.{IsPcmCodec, sample_bytes}
+use Rattle.ff_values.specs.declared.head.Codec.{Codec}
+use Rattle.ff_values.specs.declared.head.Codec.TheVariants.{PcmU8, PcmS16le, PcmS24le, PcmS32le, Flac, RawVideo}
+use Rattle.ff_values.specs.declared.head.StreamHead.{StreamHead}
+use Rattle.ff_values.specs.declared.head.StreamHead.TheVariants.{Audio, Video}
+use Rattle.ff_cut.specs.declared.step.Step.TheVariants.{Decide}
+use Rattle.ff_cut.specs.Heads.{early}
+use Rattle.ff_cut.specs.Walks.{agrees, walk, within, head_limit, reading as read_within}
+use Rattle.ff_cut.proofs.AgreeLaws.{bool_cases}
+use Rattle.ff_cut.proofs.AnswerLaws.{head_some}
+use Rattle.ff_cut.proofs.WalkLaws.{walk-drop}
+use Rattle.ff_cut.proofs.ReadingLaws.{reading_at, reading_stays}
+use Rattle.ff_cut.proofs.ReachLaws.{walk_skip, walk_decide}
+use Rattle.ff_wav.specs.Chunks.{passed, number_16, number_32, codec_of, stream_of, format_of, fields, tagged, format_chunk, body_len, data_chunk, chunk}
 use Rattle.ff_wav.specs.Header.{le_16, le_32, is_plain, fields_of, pcm_guid, extension, riff, wave_format, data_id, plain_format, long_format, header, header_len, header_of, longest}
 use Rattle.std.proofs.Math.Seq.{drop-append_seam}
 use Rattle.std.specs.List.{range_with_len}
 use Rattle.std.proofs.Math.Nat.{div-mul-le_self, mul-div_cancel, mul-le-mul_right, zero-mul}
 use Rattle.std.proofs.lemmas.List.{length-take, take-append-le, take_all, take-take}
 use Rattle.ff_wav.specs.declared.head.WavHead.{WavHead}
-use Rattle.ff_wav.specs.Heads.{magic, agrees, walk, within, reading, head_limit}
+use Rattle.ff_wav.specs.Heads.{magic, grammar, reading}
 use Rattle.ff_wav.specs.Packets.{IsPcmSound, IsStream, block_of, body, frames, packet_at, packet_count, packets_of, demuxed}
 use Rattle.ff_wav.specs.Written.{pad_of, says, HeadersAreRead, FilesAreRead, BodiesAreRead}
 use Rattle.ff_wav.proofs.CutLaws.{piece, made, packet_is}
-use Rattle.ff_wav.proofs.HeadLaws.{bool_cases, walk-drop, reading_at, reading-append, head_some}
-use Rattle.ff_wav.proofs.ReachLaws.{walk_skip, walk_decide}
+use Rattle.ff_wav.specs.HeadLaws.{is_lawful}
 use Rattle.ff_wav.proofs.FormatBytes.{word_32, plain_chunk, plain_length, plain_named, plain_other, plain_size, plain_tag, plain_channels, plain_rate, plain_block, plain_bits, long_chunk, long_length, long_named, long_other, long_size, long_tag, long_kind, long_channels, long_rate, long_block, long_bits}
 
 -- ---- the step of a chunk
@@ -66,7 +72,7 @@ tagged_long at bs tag size long kind =
     ∙ (cond_is (nat_lt (length bs) 48) false _ _ (not_less (length bs) 48 long) ∙ cond_is (not (number_16 32 bs == 1)) false _ _ (ap not (same_number (number_16 32 bs) 1 kind))))
 
 fields_are : (at size channels rate block bits : ℕ) (bs : List ℕ) (s : StreamHead) → number_32 4 bs ≡ size → number_16 10 bs ≡ channels → number_32 12 bs ≡ rate → number_16 20 bs ≡ block → number_16 22 bs ≡ bits
-    → format_of at channels rate block bits ≡ Ok s → fields at bs ≡ Skip size (Some s)
+    → format_of at channels rate block bits ≡ Ok s → fields at bs ≡ passed size (Some s)
 fields_are at size channels rate block bits bs s es ec er ek eb ok = let f = ap (λ x. x) es in cc
 
 -- ---- the fields of a stream that is written
@@ -129,7 +135,7 @@ format_back at base rate bits channels codec h =
     ∙ (format_at_depth at channels rate codec h.some_channels h.few_channels h.some_rate h.small_rate ∙ ap Ok (stream_back base rate bits channels codec h))
 
 plain_step : (at : ℕ) (base : Fraction) (rate bits channels : ℕ) (codec : Codec) (more : List ℕ) → IsPcmSound base rate bits channels codec
-    → chunk None at (plain_chunk channels rate (channels * sample_bytes codec) bits ++ more) ≡ Skip 16 (Some (Audio base rate bits channels codec))
+    → chunk None at (plain_chunk channels rate (channels * sample_bytes codec) bits ++ more) ≡ passed 16 (Some (Audio base rate bits channels codec))
 plain_step at base rate bits channels codec more h =
     let block = channels * sample_bytes codec in
     let bs = plain_chunk channels rate block bits ++ more in
@@ -145,7 +151,7 @@ plain_step at base rate bits channels codec more h =
     (plain_block channels rate block bits more (omega (arith, few))) (plain_bits channels rate block bits more low) (format_back at base rate bits channels codec h)))
 
 long_step : (at : ℕ) (base : Fraction) (rate bits channels : ℕ) (codec : Codec) (more : List ℕ) → IsPcmSound base rate bits channels codec
-    → chunk None at (long_chunk channels rate (channels * sample_bytes codec) bits ++ more) ≡ Skip 40 (Some (Audio base rate bits channels codec))
+    → chunk None at (long_chunk channels rate (channels * sample_bytes codec) bits ++ more) ≡ passed 40 (Some (Audio base rate bits channels codec))
 long_step at base rate bits channels codec more h =
     let block = channels * sample_bytes codec in
     let bs = long_chunk channels rate block bits ++ more in
@@ -204,21 +210,22 @@ past : (xs ys : List ℕ) (n : ℕ) → length xs ≡ n → drop n (xs ++ ys) �
 past xs ys n e = ap (λ k. drop k (xs ++ ys)) (sym e) ∙ drop-append_seam xs ys
 
 -- a `fmt ` chunk of an even size that says a stream, and a chunk of the body
-walk_file : (start fmt rest : List ℕ) (size : ℕ) (s : StreamHead) (w : WavHead) → length start ≡ 12 → length fmt ≡ 8 + size → size % 2 ≡ 0
-    → chunk None 12 (fmt ++ rest) ≡ Skip size (Some s) → chunk (Some s) (12 + 8 + size) rest ≡ Decide (Ok w)
-    → walk 12 None 0 (start ++ (fmt ++ rest)) ≡ Some (Ok w)
-walk_file start fmt rest size s w ls lf even format found =
-    let k : 8 + size + size % 2 ≡ 8 + size = omega (arith, even) in
-    let n : 12 + 8 + size + size % 2 ≡ 12 + 8 + size = omega (arith, even) in
-    walk-drop (start ++ (fmt ++ rest)) 12 None 0
-    ∙ (ap (λ xs. walk 0 None 12 xs) (past start (fmt ++ rest) 12 ls)
-    ∙ (walk_skip None (Some s) 12 size (fmt ++ rest) format
-    ∙ (ap (λ m. walk 0 (Some s) m (drop (8 + size + size % 2) (fmt ++ rest))) n
-    ∙ (ap (λ m. walk 0 (Some s) (12 + 8 + size) (drop m (fmt ++ rest))) k
-    ∙ (ap (λ xs. walk 0 (Some s) (12 + 8 + size) xs) (past fmt rest (8 + size) lf) ∙ walk_decide (Some s) (12 + 8 + size) rest (Ok w) found)))))
+walk_file : (start fmt rest : List ℕ) (size : ℕ) (s : StreamHead) (w : WavHead) → length start ≡ 12 → length fmt ≡ 8 + size → size % 2 ≡ 0 → 0 < length rest
+    → chunk None 12 (fmt ++ rest) ≡ passed size (Some s) → chunk (Some s) (12 + 8 + size) rest ≡ Decide (Ok w)
+    → walk chunk 12 None 0 (start ++ (fmt ++ rest)) ≡ Some (Ok w)
+walk_file start fmt rest size s w ls lf even some format found =
+    let k : suc (7 + size + size % 2) ≡ 8 + size = omega (arith, even) in
+    let n : 12 + 1 + (7 + size + size % 2) ≡ 12 + 8 + size = omega (arith, even) in
+    let long : 0 < length (fmt ++ rest) = omega (arith, lf, length-append fmt rest) in
+    walk-drop chunk (start ++ (fmt ++ rest)) 12 None 0
+    ∙ (ap (λ xs. walk chunk 0 None 12 xs) (past start (fmt ++ rest) 12 ls)
+    ∙ (walk_skip chunk None (Some s) 12 (7 + size + size % 2) (fmt ++ rest) long format
+    ∙ (ap (λ m. walk chunk 0 (Some s) m (drop (suc (7 + size + size % 2)) (fmt ++ rest))) n
+    ∙ (ap (λ m. walk chunk 0 (Some s) (12 + 8 + size) (drop m (fmt ++ rest))) k
+    ∙ (ap (λ xs. walk chunk 0 (Some s) (12 + 8 + size) xs) (past fmt rest (8 + size) lf) ∙ walk_decide chunk (Some s) (12 + 8 + size) rest (Ok w) some found)))))
 
-reading_walk : (limit : ℕ) (bs : List ℕ) (w : WavHead) → length bs ≤ limit → agrees magic bs ≡ true → walk 12 None 0 bs ≡ Some (Ok w) → reading limit bs ≡ Some (Ok w)
-reading_walk limit bs w le a e = reading_at limit bs a ∙ ap (λ o. within limit bs o) (ap (λ xs. walk 12 None 0 xs) (take_all limit bs le) ∙ e)
+reading_walk : (limit : ℕ) (bs : List ℕ) (w : WavHead) → length bs ≤ limit → agrees magic bs ≡ true → walk chunk 12 None 0 bs ≡ Some (Ok w) → read_within grammar limit bs ≡ Some (Ok w)
+reading_walk limit bs w le a e = reading_at grammar limit bs a ∙ ap (λ o. within limit bs o) (ap (λ xs. walk chunk 12 None 0 xs) (take_all limit bs le) ∙ e)
 
 -- a header, with the form of its `fmt ` as it is
 abbrev form : Bool → ℕ → ℕ → ℕ → ℕ → List ℕ
@@ -229,7 +236,7 @@ unfolding first_bytes data_bytes riff wave_format data_id
 joined size body_size format = simp append_assoc
 
 plain_read : (base : Fraction) (rate bits channels : ℕ) (codec : Codec) (size body_size : ℕ) → IsPcmSound base rate bits channels codec → body_size < 2 ^ 32
-    → reading head_limit (riff ++ le_32 size ++ wave_format ++ form true channels rate (channels * sample_bytes codec) bits ++ data_id ++ le_32 body_size)
+    → reading (riff ++ le_32 size ++ wave_format ++ form true channels rate (channels * sample_bytes codec) bits ++ data_id ++ le_32 body_size)
     ≡ Some (Ok (record { head = Audio base rate bits channels codec; start = 44; len = body_len body_size }))
 unfolding plain_chunk
 plain_read base rate bits channels codec size body_size h lt =
@@ -241,12 +248,12 @@ plain_read base rate bits channels codec size body_size h lt =
     let lf = plain_length channels rate (channels * sample_bytes codec) bits in
     let few : length whole ≤ head_limit = omega (arith, length-append (first_bytes size) (fmt ++ data_bytes body_size), length-append fmt (data_bytes body_size), first_length size, data_length body_size, lf) in
     let found : chunk (Some stream) 36 (data_bytes body_size) ≡ Decide (Ok w) = subst (λ xs. chunk (Some stream) 36 xs ≡ Decide (Ok w)) (append-nil (data_bytes body_size)) (data_step 36 body_size stream [] lt) in
-    ap (λ bs. reading head_limit bs) (joined size body_size format)
+    ap (λ bs. reading bs) (joined size body_size format)
     ∙ reading_walk head_limit whole w few (first_agree size (fmt ++ data_bytes body_size))
-    (walk_file (first_bytes size) fmt (data_bytes body_size) 16 stream w (first_length size) lf refl (plain_step 12 base rate bits channels codec (data_bytes body_size) h) found)
+    (walk_file (first_bytes size) fmt (data_bytes body_size) 16 stream w (first_length size) lf refl (omega (arith, data_length body_size)) (plain_step 12 base rate bits channels codec (data_bytes body_size) h) found)
 
 long_read : (base : Fraction) (rate bits channels : ℕ) (codec : Codec) (size body_size : ℕ) → IsPcmSound base rate bits channels codec → body_size < 2 ^ 32
-    → reading head_limit (riff ++ le_32 size ++ wave_format ++ form false channels rate (channels * sample_bytes codec) bits ++ data_id ++ le_32 body_size)
+    → reading (riff ++ le_32 size ++ wave_format ++ form false channels rate (channels * sample_bytes codec) bits ++ data_id ++ le_32 body_size)
     ≡ Some (Ok (record { head = Audio base rate bits channels codec; start = 68; len = body_len body_size }))
 unfolding long_chunk
 long_read base rate bits channels codec size body_size h lt =
@@ -258,23 +265,25 @@ long_read base rate bits channels codec size body_size h lt =
     let lf = long_length channels rate (channels * sample_bytes codec) bits in
     let few : length whole ≤ head_limit = omega (arith, length-append (first_bytes size) (fmt ++ data_bytes body_size), length-append fmt (data_bytes body_size), first_length size, data_length body_size, lf) in
     let found : chunk (Some stream) 60 (data_bytes body_size) ≡ Decide (Ok w) = subst (λ xs. chunk (Some stream) 60 xs ≡ Decide (Ok w)) (append-nil (data_bytes body_size)) (data_step 60 body_size stream [] lt) in
-    ap (λ bs. reading head_limit bs) (joined size body_size format)
+    ap (λ bs. reading bs) (joined size body_size format)
     ∙ reading_walk head_limit whole w few (first_agree size (fmt ++ data_bytes body_size))
-    (walk_file (first_bytes size) fmt (data_bytes body_size) 40 stream w (first_length size) lf refl (long_step 12 base rate bits channels codec (data_bytes body_size) h) found)
+    (walk_file (first_bytes size) fmt (data_bytes body_size) 40 stream w (first_length size) lf refl (omega (arith, data_length body_size)) (long_step 12 base rate bits channels codec (data_bytes body_size) h) found)
 
 form_read : (plain : Bool) (base : Fraction) (rate bits channels : ℕ) (codec : Codec) (size body_size : ℕ) → IsPcmSound base rate bits channels codec → body_size < 2 ^ 32
-    → reading head_limit (riff ++ le_32 size ++ wave_format ++ form plain channels rate (channels * sample_bytes codec) bits ++ data_id ++ le_32 body_size)
+    → reading (riff ++ le_32 size ++ wave_format ++ form plain channels rate (channels * sample_bytes codec) bits ++ data_id ++ le_32 body_size)
     ≡ Some (Ok (record { head = Audio base rate bits channels codec; start = if plain then 44 else 68; len = body_len body_size }))
 form_read true = plain_read
 form_read false = long_read
 
-header_read : (head : StreamHead) (size body_size : ℕ) → IsStream head → body_size < 2 ^ 32 → reading head_limit (header head size body_size) ≡ Some (Ok (says head body_size))
+header_read : (head : StreamHead) (size body_size : ℕ) → IsStream head → body_size < 2 ^ 32 → reading (header head size body_size) ≡ Some (Ok (says head body_size))
 header_read (Audio base rate bits channels codec) size body_size h lt = form_read (is_plain channels bits) base rate bits channels codec size body_size h lt
 header_read (Video tb format width height sar_num sar_den) size body_size h lt = absurd h
 
 pub headers : HeadersAreRead
 headers head size body_size rest h fits lt =
-    head_some (header head size body_size ++ rest) (Ok (says head body_size)) (reading-append head_limit (header head size body_size) rest (Ok (says head body_size)) (lit≤ tt) (header_read head size body_size h lt))
+    let is = header_read head size body_size h lt in
+    head_some (read_within grammar head_limit) (early 12) (header head size body_size ++ rest) (Ok (says head body_size))
+    (reading_stays grammar is_lawful (header head size body_size) rest (Ok (says head body_size)) is)
 
 -- ---- a whole file
 

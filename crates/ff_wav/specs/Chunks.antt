@@ -1,14 +1,23 @@
 -- The chunks of a RIFF WAVE (RIFF, "WAVE form definition"), one at a time. All numbers are little-endian.
-use Rattle.std.specs.Prelude.{ℕ, ◌+◌, ◌*◌, ◌/◌, ◌^◌, ◌==◌, ◌&&◌, ◌||◌, nat_lt, nat_le, not, if◌then◌else◌, List, take, length, slice_index, Option, Some, None, Result, Ok, Err, codes}
+use Rattle.std.specs.Prelude.{ℕ, ◌+◌, ◌*◌, ◌/◌, ◌%◌, ◌^◌, ◌==◌, ◌&&◌, ◌||◌, nat_lt, nat_le, not, if◌then◌else◌, List, take, length, slice_index, Option, Some, None, Result, Ok, Err, codes}
 use Rattle.std.specs.Str.{bytes_eq}
-use Rattle.ff_frame.specs.declared.head.StreamHead.{StreamHead}
-use Rattle.ff_frame.specs.declared.head.StreamHead.TheVariants.{Audio}
-use Rattle.ff_frame.specs.declared.head.Codec.{Codec}
-use Rattle.ff_frame.specs.declared.head.Codec.TheVariants.{PcmU8, PcmS16le, PcmS24le, PcmS32le}
-use Rattle.ff_wav.specs.declared.head.HeadFault.{HeadFault}
-use Rattle.ff_wav.specs.declared.head.HeadFault.TheVariants.{Damaged, Unsupported}
-use Rattle.ff_wav.specs.declared.head.Step.{Step}
-use Rattle.ff_wav.specs.declared.head.Step.TheVariants.{Wait, Decide, Skip}
+use Rattle.ff_values.specs.declared.head.StreamHead.{StreamHead}
+use Rattle.ff_values.specs.declared.head.StreamHead.TheVariants.{Audio}
+use Rattle.ff_values.specs.declared.head.Codec.{Codec}
+use Rattle.ff_values.specs.declared.head.Codec.TheVariants.{PcmU8, PcmS16le, PcmS24le, PcmS32le}
+use Rattle.ff_wav.specs.declared.head.WavHead.{WavHead}
+use Rattle.ff_cut.specs.declared.fault.HeadFault.{HeadFault}
+use Rattle.ff_cut.specs.declared.fault.HeadFault.TheVariants.{Damaged, Unsupported}
+use Rattle.ff_cut.specs.declared.step.Step.{Step}
+use Rattle.ff_cut.specs.declared.step.Step.TheVariants.{Wait, Decide, Skip}
+
+-- what a chunk does to the reading of a head: where it is passed over, this is the stream's head from there on
+abbrev pub ChunkStep : Type 0
+ChunkStep = Step WavHead (Option StreamHead)
+
+-- a chunk is 8 bytes, its size, and a pad byte where the size is odd
+abbrev pub passed : ℕ → Option StreamHead → ChunkStep
+passed size format = Skip (7 + size + size % 2) format
 
 -- the number of two bytes at a place, and of four
 abbrev pub number_16 : ℕ → List ℕ → ℕ
@@ -38,16 +47,16 @@ format_of at channels rate block bits =
     else if not (block == channels * (bits / 8)) then Err (Unsupported (at + 20))
     else Ok (stream_of channels rate bits)
 
-abbrev pub step_of : ℕ → Result StreamHead HeadFault → Step
-step_of size (Ok format) = Skip size (Some format)
+abbrev pub step_of : ℕ → Result StreamHead HeadFault → ChunkStep
+step_of size (Ok format) = passed size (Some format)
 step_of size (Err end) = Decide (Err end)
 
 -- the fields after the tag of a `fmt ` chunk that begins the bytes
-abbrev pub fields : ℕ → List ℕ → Step
+abbrev pub fields : ℕ → List ℕ → ChunkStep
 fields at bs = step_of (number_32 4 bs) (format_of at (number_16 10 bs) (number_32 12 bs) (number_16 20 bs) (number_16 22 bs))
 
 -- a `fmt ` chunk whose first 16 bytes are there
-unfoldable pub tagged : ℕ → List ℕ → Step
+unfoldable pub tagged : ℕ → List ℕ → ChunkStep
 tagged at bs =
     if number_16 8 bs == 0xFFFE then
     if nat_lt (number_32 4 bs) 40 then Decide (Err (Damaged at))
@@ -58,8 +67,8 @@ tagged at bs =
     else fields at bs
 
 -- the first `fmt ` counts
-unfoldable pub format_chunk : Option StreamHead → ℕ → List ℕ → Step
-format_chunk (Some format) at bs = Skip (number_32 4 bs) (Some format)
+unfoldable pub format_chunk : Option StreamHead → ℕ → List ℕ → ChunkStep
+format_chunk (Some format) at bs = passed (number_32 4 bs) (Some format)
 format_chunk None at bs =
     if nat_lt (number_32 4 bs) 16 then Decide (Err (Damaged at))
     else if nat_lt (length bs) 24 then Wait
@@ -69,14 +78,14 @@ format_chunk None at bs =
 abbrev pub body_len : ℕ → Option ℕ
 body_len size = if size == 0 || size == 0xFFFFFFFF then None else Some size
 
-abbrev pub data_chunk : Option StreamHead → ℕ → List ℕ → Step
+abbrev pub data_chunk : Option StreamHead → ℕ → List ℕ → ChunkStep
 data_chunk None at bs = Decide (Err (Damaged at))
 data_chunk (Some format) at bs = Decide (Ok (record { head = format; start = at + 8; len = body_len (number_32 4 bs) }))
 
 -- what the chunk does that begins the bytes, at offset at of the input
-unfoldable pub chunk : Option StreamHead → ℕ → List ℕ → Step
+unfoldable pub chunk : Option StreamHead → ℕ → List ℕ → ChunkStep
 chunk format at bs =
     if nat_lt (length bs) 8 then Wait
     else if bytes_eq (take 4 bs) (codes "data") then data_chunk format at bs
     else if bytes_eq (take 4 bs) (codes "fmt ") then format_chunk format at bs
-    else Skip (number_32 4 bs) format
+    else passed (number_32 4 bs) format

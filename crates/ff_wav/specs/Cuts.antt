@@ -1,8 +1,9 @@
 -- A cut does not keep what it was fed and gave: it is tied to it.
-use Rattle.std.specs.Prelude.{◌≡◌, ℕ, ◌+◌, ◌*◌, ◌≤◌, ◌⊎◌, Bool, true, false, List, [], drop, length, Option, Some, None}
+use Rattle.std.specs.Prelude.{◌≡◌, ℕ, ◌+◌, ◌*◌, ◌^◌, ◌≤◌, ◌⊎◌, Bool, true, false, List, drop, length, Option, Some, None}
+use Rattle.ff_cut.specs.Cutters.{Cutter}
 use Rattle.ff_wav.specs.declared.head.WavHead.{WavHead}
 use Rattle.ff_wav.specs.declared.cut.WavCut.{WavCut}
-use Rattle.ff_wav.specs.Packets.{block_of, whole_len, body, packet_count}
+use Rattle.ff_wav.specs.Packets.{block_of, whole_len, body, packet_count, demuxed, IsHead}
 
 -- all bytes of a body of this size came
 abbrev pub ReachesLen : Option ℕ → List ℕ → Type 0
@@ -12,10 +13,6 @@ ReachesLen (Some len) fed = len ≤ length fed
 -- no further byte of the body comes
 abbrev pub IsBodyEnded : Option ℕ → Bool → List ℕ → Type 0
 IsBodyEnded len ended fed = (ended ≡ true) ⊎ ReachesLen len fed
-
--- what may still come: nothing where the input ended
-abbrev pub IsRest : Bool → List ℕ → Type 0
-IsRest ended more = ended ≡ true → more ≡ []
 
 -- the head for which a cut was made
 abbrev pub head_of : WavCut → WavHead
@@ -44,14 +41,6 @@ room_in cut = cut.held.room
 abbrev pub full_packet : WavCut → ℕ
 full_packet cut = 1024 * cut.block
 
--- the same head, place and block, and the same end of the input
-pub record SameElsewhere (before after : WavCut) : Type 0 where
-  pub same_head : after.head ≡ before.head
-  pub same_place : after.first ≡ before.first
-  pub same_block : after.block ≡ before.block
-  pub same_done : after.done ≡ before.done
-  pub same_end : after.ended ≡ before.ended
-
 -- only whole packets were given: the bytes kept are those fed since the end of the last one
 pub record Goes (block : ℕ) (len : Option ℕ) (first : ℕ) (held fed : List ℕ) (n : ℕ) : Type 0 where
   pub at : first ≡ 1024 * n
@@ -70,3 +59,20 @@ pub record Cuts (cut : WavCut) (head : WavHead) (fed : List ℕ) (n : ℕ) : Typ
   pub of_len : cut.len ≡ whole_len head
   pub goes : cut.done ≡ false → Goes cut.block (whole_len head) cut.first cut.held.bytes fed n
   pub over : cut.done ≡ true → IsOver cut.block (whole_len head) cut.ended fed n
+
+-- a cut of WAV, as every cut is seen; a body never breaks off
+abbrev pub wav_cutter : Cutter WavHead WavCut
+wav_cutter = record {
+  IsHead = IsHead;
+  stream_head = λ head. head.head;
+  start = λ head. head.start;
+  demuxed = demuxed;
+  broken_at = λ head rest. None;
+  cuts = Cuts;
+  head_of = head_of;
+  place = place_of;
+  has_ended = has_ended;
+  waiting = waiting_in;
+  room = room_in;
+  longest = 2 ^ 15;
+}

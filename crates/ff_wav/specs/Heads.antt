@@ -1,77 +1,44 @@
 -- The head of a whole input, and what is decided by its first bytes.
-use Rattle.std.specs.Prelude.{◌≡◌, ◌≢◌, ℕ, zero, suc, ◌+◌, ◌%◌, ◌^◌, ◌<◌, ◌==◌, ◌&&◌, nat_lt, nat_le, not, Bool, true, if◌then◌else◌, List, [], ◌∷◌, ◌++◌, take, drop, length, Option, Some, None, unwrap_or, Result, Ok, Err, All}
-use Rattle.ff_frame.specs.declared.head.StreamHead.{StreamHead}
+use Rattle.std.specs.Prelude.{ℕ, Bool, List, [], ◌∷◌, Option, Some, None, Result}
+use Rattle.ff_values.specs.declared.head.StreamHead.{StreamHead}
+use Rattle.ff_values.specs.declared.cut.HeadEnd.{HeadEnd}
+use Rattle.ff_cut.specs.Heads as heads
+use Rattle.ff_cut.specs.Walks as walks
 use Rattle.ff_wav.specs.declared.head.WavHead.{WavHead}
-use Rattle.ff_wav.specs.declared.head.HeadFault.{HeadFault}
-use Rattle.ff_wav.specs.declared.head.HeadFault.TheVariants.{Damaged, Unsupported}
-use Rattle.ff_frame.specs.declared.cut.HeadEnd.{HeadEnd}
-use Rattle.ff_frame.specs.declared.cut.HeadEnd.TheVariants as end
-use Rattle.ff_wav.specs.declared.head.Step.TheVariants.{Wait, Decide, Skip}
 use Rattle.ff_wav.specs.Chunks.{chunk}
 
 -- a head, or the fault for which there is none
 abbrev pub Found : Type 0
-Found = Result WavHead HeadFault
+Found = heads.Found WavHead
 
 -- `RIFF`, four bytes that are not compared, and `WAVE`
 abbrev pub magic : List (Option ℕ)
 magic = Some 82 ∷ Some 73 ∷ Some 70 ∷ Some 70 ∷ None ∷ None ∷ None ∷ None ∷ Some 87 ∷ Some 65 ∷ Some 86 ∷ Some 69 ∷ []
 
--- whether the bytes agree with these, as far as both go
-abbrev pub agrees : List (Option ℕ) → List ℕ → Bool
-agrees [] bs = true
-agrees (w ∷ ws) [] = true
-agrees (Some n ∷ ws) (b ∷ bs) = (b == n) && agrees ws bs
-agrees (None ∷ ws) (b ∷ bs) = agrees ws bs
-
--- The walk over the chunks: so many bytes are passed over, and then a chunk begins. None: the bytes do not decide.
--- A chunk is 8 bytes, its size, and a pad byte where the size is odd.
-abbrev pub walk : ℕ → Option StreamHead → ℕ → List ℕ → Option Found
-walk skip format at [] = None
-walk (suc skip) format at (b ∷ bs) = walk skip format (at + 1) bs
-walk zero format at (b ∷ bs) =
-    elim (chunk format at (b ∷ bs)) [ Wait ↦ None | Decide found ↦ Some found | Skip size next ↦ walk (7 + size + size % 2) next (at + 1) bs ]
-
--- a head that is not complete within the limit is unsupported there
-abbrev pub within : ℕ → List ℕ → Option Found → Option Found
-within limit bs (Some found) = Some found
-within limit bs None = if nat_le limit (length bs) then Some (Err (Unsupported limit)) else None
+-- the chunks behind the first bytes, before which no format is known
+abbrev pub grammar : walks.Grammar WavHead (Option StreamHead)
+grammar = record { magic = magic; start = None; unit = chunk }
 
 -- what the bytes decide, whatever follows
-unfoldable pub reading : ℕ → List ℕ → Option Found
-reading limit bs =
-    if not (agrees magic bs) then Some (Err (Unsupported 0))
-    else within limit bs (walk 12 None 0 (take limit bs))
-
--- an input that ends here, before its head is decided
-abbrev pub early : List ℕ → Found
-early bs = if nat_lt (length bs) 12 then Err (Unsupported 0) else Err (Damaged (length bs))
-
-abbrev pub head_limit : ℕ
-head_limit = 2 ^ 28
+abbrev pub reading : List ℕ → Option Found
+reading bs = walks.reading grammar walks.head_limit bs
 
 -- the head of a whole input
-unfoldable pub head : List ℕ → Found
-head bs = unwrap_or (reading head_limit bs) (early bs)
+abbrev pub head : List ℕ → Found
+head bs = walks.head_by grammar bs
 
 -- a head or its fault, as an answer
 abbrev pub answered : Found → Result WavHead HeadEnd
-answered (Ok found) = Ok found
-answered (Err (Damaged offset)) = Err (end.Damaged offset)
-answered (Err (Unsupported offset)) = Err (end.Unsupported offset)
-
-abbrev pub answered_or : Option Found → Result WavHead HeadEnd → Result WavHead HeadEnd
-answered_or (Some found) other = answered found
-answered_or None other = other
+answered found = heads.answered found
 
 -- the answer at a front of the input, or at the whole
-unfoldable pub answer : Bool → List ℕ → Result WavHead HeadEnd
-answer whole bs = answered_or (reading head_limit bs) (if whole then answered (early bs) else Err end.NotYet)
+abbrev pub answer : Bool → List ℕ → Result WavHead HeadEnd
+answer whole bs = walks.answer_by grammar whole bs
 
 -- some bytes after these decide otherwise than others
 abbrev pub IsOpen : List ℕ → Type 0
-IsOpen bs = (more other : List ℕ) × All (λ b. b < 256) more × All (λ b. b < 256) other × (head (bs ++ more) ≢ head (bs ++ other))
+IsOpen bs = heads.IsOpen head bs
 
 -- The first bytes are the front, whose chunks were read up to this place, at which the next one begins.
 abbrev pub Reached : ℕ → Option StreamHead → List ℕ → Type 0
-Reached at format front = (more : List ℕ) → walk 12 None 0 (front ++ more) ≡ walk 0 format at (drop at (front ++ more))
+Reached at format front = walks.Reached grammar at format front

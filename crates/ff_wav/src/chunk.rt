@@ -1,10 +1,13 @@
-ghost use Rattle.std.specs.Prelude.{◌≡◌, ◌+◌, ◌≤◌, ◌<◌, ◌*◌, ◌^◌, length, take, Ok};
+ghost use Rattle.std.specs.Prelude.{◌≡◌, ◌+◌, ◌≤◌, ◌<◌, ◌*◌, ◌^◌, ℕ, Option, length, take, Ok};
 ghost use Rattle.std.specs.Str.{bytes_eq};
-ghost use Rattle.ff_wav.specs.Chunks.{number_16, number_32, format_of, codec_of, stream_of, step_of, fields, tagged, format_chunk, data_chunk, chunk, body_len};
+ghost use Rattle.ff_values.specs.declared.head.StreamHead.{StreamHead};
+ghost use Rattle.ff_cut.specs.declared.step.Step.TheVariants.{Skip};
+ghost use Rattle.ff_wav.specs.Chunks.{number_16, number_32, format_of, codec_of, stream_of, passed, step_of, fields, tagged, format_chunk, data_chunk, chunk, body_len};
 
-use crate::head::{HeadFault, Step, WavHead};
-use ff_frame::{Codec, StreamHead};
+use crate::head::{ChunkStep, WavHead};
+use ff_cut::{HeadFault, Step};
 use ff_time::{Rational, TimeError};
+use ff_values::{Codec, StreamHead};
 
 fn at_16(bytes: &[u8], place: usize) -> u16
     requires { place + 2 ≤ length bytes.now }
@@ -95,10 +98,19 @@ fn checked(
     stream(at, channels, rate, bits)
 }
 
-fn fields_at(at: u64, bytes: &[u8]) -> Step
+// Passes over a chunk of this size: 8 bytes, the size, and a pad byte where the size is odd.
+fn passed_over(size: u32, format: Option<StreamHead>) -> ChunkStep
+    ensures value { result ≡ passed size format }
+    ensures small { (size : ℕ) (next : Option StreamHead) → result ≡ Skip size next → size ≤ 2 ^ 33 }
+{
+    Step::Skip(7 + size as u64 + size as u64 % 2, format)
+}
+
+fn fields_at(at: u64, bytes: &[u8]) -> ChunkStep
     requires place { at < 2 ^ 32 }
     requires there { 24 ≤ length bytes.now }
-    ensures { result ≡ fields at bytes.now }
+    ensures value { result ≡ fields at bytes.now }
+    ensures small { (size : ℕ) (next : Option StreamHead) → result ≡ Skip size next → size ≤ 2 ^ 33 }
 {
     let size = at_32(bytes, 4);
     match checked(
@@ -108,16 +120,17 @@ fn fields_at(at: u64, bytes: &[u8]) -> Step
         at_16(bytes, 20),
         at_16(bytes, 22),
     ) {
-        Ok(format) => Step::Skip(size, Some(format)),
+        Ok(format) => passed_over(size, Some(format)),
         Err(end) => Step::Decide(Err(end)),
     }
 }
 
 #[tactic(auto, unfolding(crate::specs::Chunks::tagged))]
-fn tagged_at(at: u64, bytes: &[u8]) -> Step
+fn tagged_at(at: u64, bytes: &[u8]) -> ChunkStep
     requires place { at < 2 ^ 32 }
     requires there { 24 ≤ length bytes.now }
-    ensures { result ≡ tagged at bytes.now }
+    ensures value { result ≡ tagged at bytes.now }
+    ensures small { (size : ℕ) (next : Option StreamHead) → result ≡ Skip size next → size ≤ 2 ^ 33 }
 {
     let tag = at_16(bytes, 8);
     if tag == 0xFFFE {
@@ -139,14 +152,15 @@ fn tagged_at(at: u64, bytes: &[u8]) -> Step
 }
 
 #[tactic(auto, unfolding(crate::specs::Chunks::format_chunk))]
-fn format_chunk_at(format: Option<StreamHead>, at: u64, bytes: &[u8]) -> Step
+fn format_chunk_at(format: Option<StreamHead>, at: u64, bytes: &[u8]) -> ChunkStep
     requires place { at < 2 ^ 32 }
     requires there { 8 ≤ length bytes.now }
-    ensures { result ≡ format_chunk format at bytes.now }
+    ensures value { result ≡ format_chunk format at bytes.now }
+    ensures small { (size : ℕ) (next : Option StreamHead) → result ≡ Skip size next → size ≤ 2 ^ 33 }
 {
     let size = at_32(bytes, 4);
     match format {
-        Some(first) => Step::Skip(size, Some(first)),
+        Some(first) => passed_over(size, Some(first)),
         None => {
             if size < 16 {
                 return Step::Decide(Err(HeadFault::Damaged { offset: at }));
@@ -169,10 +183,11 @@ fn body_size(size: u32) -> Option<u64>
     }
 }
 
-fn data_chunk_at(format: Option<StreamHead>, at: u64, bytes: &[u8]) -> Step
+fn data_chunk_at(format: Option<StreamHead>, at: u64, bytes: &[u8]) -> ChunkStep
     requires place { at < 2 ^ 32 }
     requires there { 8 ≤ length bytes.now }
-    ensures { result ≡ data_chunk format at bytes.now }
+    ensures value { result ≡ data_chunk format at bytes.now }
+    ensures small { (size : ℕ) (next : Option StreamHead) → result ≡ Skip size next → size ≤ 2 ^ 33 }
 {
     match format {
         Some(head) => Step::Decide(Ok(WavHead {
@@ -186,9 +201,10 @@ fn data_chunk_at(format: Option<StreamHead>, at: u64, bytes: &[u8]) -> Step
 
 /// What the chunk does that begins the bytes.
 #[tactic(auto, unfolding(crate::specs::Chunks::chunk))]
-pub(crate) fn chunk_at(format: Option<StreamHead>, at: u64, bytes: &[u8]) -> Step
+pub(crate) fn chunk_at(format: Option<StreamHead>, at: u64, bytes: &[u8]) -> ChunkStep
     requires { at < 2 ^ 32 }
-    ensures { result ≡ chunk format at bytes.now }
+    ensures value { result ≡ chunk format at bytes.now }
+    ensures small { (size : ℕ) (next : Option StreamHead) → result ≡ Skip size next → size ≤ 2 ^ 33 }
 {
     if bytes.len() < 8 {
         return Step::Wait;
@@ -199,5 +215,5 @@ pub(crate) fn chunk_at(format: Option<StreamHead>, at: u64, bytes: &[u8]) -> Ste
     if has_id(bytes, b"fmt ") {
         return format_chunk_at(format, at, bytes);
     }
-    Step::Skip(at_32(bytes, 4), format)
+    passed_over(at_32(bytes, 4), format)
 }

@@ -1,13 +1,15 @@
 ghost use Rattle.std.specs.Prelude.{◌≡◌, ◌+◌, ◌-◌, ◌*◌, ◌/◌, ◌^◌, ◌≤◌, ◌<◌, ◌⊎◌, ◌↔◌, ℕ, List, [], ◌++◌, Option, Some, None, true, false, min, length, take, drop, IfOk, OnOk, OnErr, IsOk, IsTrue, slice_get, pos};
 ghost use Rattle.std.specs.Option.{option_map};
-ghost use Rattle.ff_frame.specs.declared.packet.Pkt.{Pkt};
+ghost use Rattle.ff_values.specs.declared.packet.Pkt.{Pkt};
+ghost use Rattle.ff_cut.specs.Cutters.{Feeds, KeepsCut, GivesPacket, GaveAll, SameElsewhere};
 ghost use Rattle.ff_wav.specs.declared.head.WavHead.{WavHead};
 ghost use Rattle.ff_wav.specs.Packets.{block_of, whole_len, body, packet_count, demuxed, IsHead, IsStream};
-ghost use Rattle.ff_frame.specs.Lanes.{IsPcmCodec, sample_bytes};
-ghost use Rattle.ff_frame.specs.Packet.{packet_at as packet_from};
+ghost use Rattle.ff_values.specs.Codecs.{IsPcmCodec, sample_bytes};
+ghost use Rattle.ff_values.specs.Packet.{packet_at as packet_from};
 
 use crate::head::WavHead;
-use ff_frame::{Bytes, Codec, Cut, Held, Pkt, StreamHead};
+use ff_cut::{Held, PacketCut};
+use ff_values::{Bytes, Codec, Cut, Pkt, StreamHead};
 use std::alloc::{AllocError, Global};
 
 /// The packets of a WAV's body, from pieces of any size.
@@ -117,72 +119,7 @@ fn packet(
 }
 
 impl WavCut {
-    ghost use Rattle.ff_wav.specs.Cuts.{ReachesLen, IsBodyEnded, IsRest, Cuts, SameElsewhere, head_of, place_of, has_ended, is_done, waiting_in, room_in, full_packet};
-
-    /// A cut of an input with this head, which `read_head` gave: fed nothing, it has given no packet.
-    pub fn new(alloc: Global, head: &WavHead) -> WavCut
-        requires { IsHead head.now }
-        ensures cuts { Cuts result head.now [] 0 }
-        ensures goes_on { has_ended result ≡ false }
-        ensures none { waiting_in result ≡ [] }
-        ensures head { head_of result ≡ head.now }
-        ensures place { place_of result ≡ head.now.start }
-    {
-        let block = block_of_head(&head.head);
-        WavCut {
-            alloc,
-            head: *head,
-            block,
-            len: whole_size(head.len, block as u64),
-            first: 0,
-            held: Held::new(alloc),
-            ended: false,
-            done: false,
-        }
-    }
-
-    /// Takes further bytes of the input, those after the head. The input must not have ended.
-    pub fn feed(&mut self, bytes: &[u8]) -> Result<(), AllocError>
-        requires { has_ended self.old ≡ false }
-        ensures ok { OnOk result ((head : WavHead) (fed : List ℕ) (n : ℕ) → Cuts self.old head fed n → Cuts self.new head (fed ++ bytes.now) n) }
-        ensures err { OnErr result (self.new ≡ self.old) }
-        ensures succeeds { length bytes.now ≤ room_in self.old → IsOk result }
-        ensures same { OnOk result (SameElsewhere self.old self.new) }
-        ensures held { OnOk result (waiting_in self.new ≡ waiting_in self.old ++ bytes.now) }
-    {
-        self.held.push(bytes)
-    }
-
-    /// Makes room for so many bytes more, which `feed` then takes without fail.
-    pub fn reserve(&mut self, count: usize) -> Result<(), AllocError>
-        ensures cuts { (head : WavHead) (fed : List ℕ) (n : ℕ) → Cuts self.old head fed n → Cuts self.new head fed n }
-        ensures same { SameElsewhere self.old self.new }
-        ensures held { waiting_in self.new ≡ waiting_in self.old }
-        ensures room { OnOk result (count ≤ room_in self.new) }
-        ensures err { OnErr result (self.new ≡ self.old) }
-    {
-        self.held.reserve(count)
-    }
-
-    /// The input ended: nothing more is fed.
-    pub fn end(&mut self)
-        requires { has_ended self.old ≡ false }
-        ensures cuts { (head : WavHead) (fed : List ℕ) (n : ℕ) → Cuts self.old head fed n → Cuts self.new head fed n }
-        ensures ended { has_ended self.new ≡ true }
-        ensures head { head_of self.new ≡ head_of self.old }
-        ensures place { place_of self.new ≡ place_of self.old }
-        ensures held { waiting_in self.new ≡ waiting_in self.old }
-    {
-        self.ended = true;
-    }
-
-    /// How many bytes are kept: those fed since the end of the last packet given, until a short packet was given.
-    pub fn held(&self) -> u64
-        ensures length { result ≡ length (waiting_in self.now) }
-        ensures exact { (head : WavHead) (fed : List ℕ) (n : ℕ) → Cuts self.now head fed n → is_done self.now ≡ false → result ≡ length fed - 1024 * n * block_of head.head }
-    {
-        self.held.len() as u64
-    }
+    ghost use Rattle.ff_wav.specs.Cuts.{ReachesLen, IsBodyEnded, Cuts};
 
     // How many of the bytes that wait belong to the body, and whether no further byte of it comes.
     fn look(&self) -> (usize, bool)
@@ -198,30 +135,96 @@ impl WavCut {
         let (usable, reached) = within(self.len, used, self.held.len());
         (usable, self.ended || reached)
     }
+}
+
+impl PacketCut for WavCut {
+    ghost use Rattle.ff_wav.specs.Cuts.{wav_cutter, ReachesLen, Cuts, head_of, place_of, has_ended, is_done, waiting_in, room_in, full_packet};
+
+    type Head = WavHead;
+
+    ghost is = { wav_cutter };
+
+    fn stream_head(head: &WavHead) -> StreamHead {
+        head.head
+    }
+
+    fn start(head: &WavHead) -> u64 {
+        head.start
+    }
+
+    fn new(alloc: Global, head: &WavHead) -> WavCut {
+        let block = block_of_head(&head.head);
+        WavCut {
+            alloc,
+            head: *head,
+            block,
+            len: whole_size(head.len, block as u64),
+            first: 0,
+            held: Held::new(alloc),
+            ended: false,
+            done: false,
+        }
+    }
+
+    fn feed(&mut self, bytes: &[u8]) -> Result<(), AllocError>
+        requires { has_ended self.old ≡ false }
+        ensures ok { OnOk result (Feeds wav_cutter self.old self.new bytes.now) }
+        ensures err { OnErr result (self.new ≡ self.old) }
+        ensures succeeds { length bytes.now ≤ room_in self.old → IsOk result }
+        ensures same { OnOk result (SameElsewhere wav_cutter self.old self.new) }
+        ensures held { OnOk result (waiting_in self.new ≡ waiting_in self.old ++ bytes.now) }
+        ensures unit { OnOk result (full_packet self.new ≡ full_packet self.old) }
+        ensures done { OnOk result (is_done self.new ≡ is_done self.old) }
+    {
+        self.held.push(bytes)
+    }
+
+    fn reserve(&mut self, count: usize) -> Result<(), AllocError>
+        ensures cuts { KeepsCut wav_cutter self.old self.new }
+        ensures same { SameElsewhere wav_cutter self.old self.new }
+        ensures held { waiting_in self.new ≡ waiting_in self.old }
+        ensures room { OnOk result (count ≤ room_in self.new) }
+        ensures err { OnErr result (self.new ≡ self.old) }
+        ensures unit { full_packet self.new ≡ full_packet self.old }
+        ensures done { is_done self.new ≡ is_done self.old }
+    {
+        self.held.reserve(count)
+    }
+
+    fn end(&mut self) {
+        self.ended = true;
+    }
+
+    /// How many bytes are kept: those fed since the end of the last packet given, until a short packet was given.
+    fn held(&self) -> u64
+        ensures length { result ≡ length (waiting_in self.now) }
+        ensures exact { (head : WavHead) (fed : List ℕ) (n : ℕ) → Cuts self.now head fed n → is_done self.now ≡ false
+            → result ≡ length fed - 1024 * n * block_of head.head }
+    {
+        self.held.len() as u64
+    }
 
     /// The next packet of the bytes so far. The packets given so far end at or before byte 2^50. A packet has 1,024
     /// sample frames, the last one the rest; its times are the numbers of its first sample frame.
-    pub fn pull(&mut self) -> Result<Cut, AllocError>
+    fn pull(&mut self) -> Result<Cut, AllocError>
         requires { place_of self.old ≤ 2 ^ 50 }
-        // It is the next packet of the input, whatever follows.
-        ensures gives { (head : WavHead) (fed : List ℕ) (n : ℕ) → Cuts self.old head fed n → (p : Pkt) → result ≡ Ok (Cut.Pkt p)
-            → Cuts self.new head fed (n + 1) × ((more : List ℕ) → IsRest (has_ended self.old) more → slice_get (demuxed head (fed ++ more)) n ≡ Some p) }
-        // All were given, whatever follows.
-        ensures ends { (head : WavHead) (fed : List ℕ) (n : ℕ) → Cuts self.old head fed n → result ≡ Ok Cut.End
-            → Cuts self.new head fed n × ((more : List ℕ) → IsRest (has_ended self.old) more → length (demuxed head (fed ++ more)) ≡ n) }
-        // Not yet exactly where neither the input nor the body ended, and no packet is whole.
-        ensures waits { (head : WavHead) (fed : List ℕ) (n : ℕ) → Cuts self.old head fed n → result ≡ Ok Cut.NotYet
-            → (self.new ≡ self.old) × (has_ended self.old ≡ false) × (ReachesLen (whole_len head) fed → ⊥) × (length fed < 1024 * (n + 1) * block_of head.head) }
-        ensures wanted { (head : WavHead) (fed : List ℕ) (n : ℕ) → Cuts self.old head fed n → has_ended self.old ≡ false → (ReachesLen (whole_len head) fed → ⊥)
-            → length fed < 1024 * (n + 1) * block_of head.head → result ≡ Ok Cut.NotYet }
+        ensures gives { (p : Pkt) → result ≡ Ok (Cut.Pkt p) → GivesPacket wav_cutter self.old self.new p }
+        ensures ends { result ≡ Ok Cut.End → GaveAll wav_cutter self.old None }
         ensures unbroken { (offset : ℕ) → result ≡ Ok (Cut.Broken offset) → ⊥ }
+        // Not yet exactly where neither the input nor the body ended, and no packet is whole.
+        ensures undecided { (head : WavHead) (fed : List ℕ) (n : ℕ) → Cuts self.old head fed n → result ≡ Ok Cut.NotYet
+            → (ReachesLen (whole_len head) fed → ⊥) × (length fed < 1024 * (n + 1) * block_of head.head) }
+        ensures wanted { (head : WavHead) (fed : List ℕ) (n : ℕ) → Cuts self.old head fed n → has_ended self.old ≡ false
+            → (ReachesLen (whole_len head) fed → ⊥) → length fed < 1024 * (n + 1) * block_of head.head → result ≡ Ok Cut.NotYet }
+        ensures not_yet { result ≡ Ok Cut.NotYet → (has_ended self.old ≡ false) × (length (waiting_in self.old) < full_packet self.old) }
+        ensures few { full_packet self.old ≤ 2 ^ 15 }
+        ensures still { result ≡ Ok Cut.NotYet → self.new ≡ self.old }
+        ensures stops { result ≡ Ok Cut.End → self.new ≡ self.old }
         ensures err { OnErr result (self.new ≡ self.old) }
         ensures ended { has_ended self.new ≡ has_ended self.old }
-        ensures still { result ≡ Ok Cut.NotYet → (self.new ≡ self.old) × (has_ended self.old ≡ false) × (length (waiting_in self.old) < full_packet self.old) }
-        ensures stops { result ≡ Ok Cut.End → self.new ≡ self.old }
         ensures head { head_of self.new ≡ head_of self.old }
         ensures place { (p : Pkt) → result ≡ Ok (Cut.Pkt p) → place_of self.new ≤ p.pos + length p.bytes }
-        ensures bound { (p : Pkt) → result ≡ Ok (Cut.Pkt p) → p.pos + length p.bytes ≤ place_of self.old + full_packet self.old }
+        ensures last { (p : Pkt) → result ≡ Ok (Cut.Pkt p) → p.pos + length p.bytes ≤ place_of self.old + full_packet self.old }
         ensures unit { full_packet self.new ≡ full_packet self.old }
     {
         if self.done {

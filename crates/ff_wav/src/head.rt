@@ -1,4 +1,5 @@
-use ff_frame::StreamHead;
+use ff_cut::Step;
+use ff_values::StreamHead;
 
 /// The head of a WAV: what comes before the bytes of its samples (RIFF WAVE).
 #[derive(Clone, Copy, PartialEq, Eq, Debug)]
@@ -11,22 +12,5 @@ pub struct WavHead {
     pub len: Option<u64>,
 }
 
-/// Why an input has no head.
-#[derive(Clone, Copy, PartialEq, Eq, Debug)]
-pub enum HeadFault {
-    /// The input breaks the grammar at this offset.
-    Damaged { offset: u64 },
-    /// The input is of a kind that isn't read, as the bytes at this offset say.
-    Unsupported { offset: u64 },
-}
-
-/// What a chunk does to the reading of a head.
-#[derive(Clone, Copy, PartialEq, Eq, Debug)]
-pub enum Step {
-    /// More bytes are wanted.
-    Wait,
-    /// The head, or the fault for which there is none.
-    Decide(Result<WavHead, HeadFault>),
-    /// The chunk is passed over: its size, and the stream's head from there on.
-    Skip(u32, Option<StreamHead>),
-}
+/// What a chunk does to the reading of a head: where it is passed over, the stream's head so far goes on.
+pub(crate) type ChunkStep = Step<WavHead, Option<StreamHead>>;

@@ -15,12 +15,8 @@ mod put;
 mod walk;
 
 pub use cut::WavCut;
+pub use ff_cut::HeadFault;
 pub use head::WavHead;
 pub use laws::what_is_written_is_read_again;
 pub use put::{TooLarge, WavPut};
-pub use walk::{WavWalk, read_head};
-
-#[cfg(test)]
-mod put_tests;
-#[cfg(test)]
-mod tests;
+pub use walk::{Wav, WavWalk, read_head};

@@ -1,14 +1,14 @@
 -- What is decided is decided whatever follows, and what is not is open.
-use Rattle.std.proofs.Common.{◌≡◌, ℕ, zero, suc, ◌+◌, ◌<◌, ◌≤◌, ◌⊎◌, inl, inr, Bool, true, false, cond, List, [], ◌∷◌, ◌++◌, drop, length, Option, Some, None, Ok, Err, refl, sym, ap, ◌∙◌, subst, arith, length-append, append-nil, lit<}
-use Rattle.std.specs.Prelude.{nat_lt, not, All, ◌↔◌, ◌==◌, ◌&&◌}
+use Rattle.std.proofs.Common.{◌≡◌, ℕ, zero, suc, ◌+◌, ◌<◌, ◌≤◌, ◌⊎◌, inl, inr, Bool, true, false, cond, List, [], ◌∷◌, ◌++◌, drop, length, Option, Some, None, Err, refl, sym, ap, ◌∙◌, arith, length-append, append-nil, lit<}
+use Rattle.std.specs.Prelude.{nat_lt, not, All, ◌==◌, ◌&&◌}
 use Rattle.std.specs.Option.{option_map}
 use Rattle.std.proofs.lemmas.List.{take-append-le}
 use Rattle.std.proofs.lemmas.List.Elements.{All-nil, All-cons, All-drop}
 use Rattle.std.proofs.lemmas.Bool.Decides.{nat_tests}
-use Rattle.ff_frame.specs.declared.cut.HeadEnd.TheVariants as end
-use Rattle.ff_y4m.specs.declared.parameters.HeadFault.TheVariants.{Damaged, Unsupported}
+use Rattle.ff_cut.proofs.AnswerLaws.{head_none, head_some, early_long, early_short}
+use Rattle.ff_cut.specs.declared.fault.HeadFault.TheVariants.{Damaged, Unsupported}
 use Rattle.ff_y4m.specs.Lines.{begins, line_end, longest_line}
-use Rattle.ff_y4m.specs.Heads.{Found, magic, line_head, found_at, reading, early, head, answered, answer, IsOpen}
+use Rattle.ff_y4m.specs.Heads.{Found, magic, line_head, found_at, reading, early, head, IsOpen}
 use Rattle.ff_y4m.proofs.LineLaws.{bool_cases, option_cases, begins-append, begins_long, NoFeed, line_longer, line_end-append, line_end_some}
 
 -- ---- what is decided
@@ -53,20 +53,6 @@ undecided bs e = elim (bool_cases (begins magic bs)) [
   | inr a ↦ let clash = sym (reading_else bs a) ∙ e in cc
 ]
 
-head_none : (bs : List ℕ) → reading bs ≡ None → head bs ≡ early bs
-unfolding head
-head_none bs e = rw e refl
-
-pub head_some : (bs : List ℕ) (r : Found) → reading bs ≡ Some r → head bs ≡ r
-unfolding head
-head_some bs r e = rw e refl
-
-early_long : (bs : List ℕ) → 10 ≤ length bs → early bs ≡ Err (Damaged (length bs))
-early_long bs le = let e : nat_lt (length bs) 10 ≡ false = grind (arith, nat_tests) in rw e refl
-
-early_short : (bs : List ℕ) → length bs < 10 → early bs ≡ Err (Unsupported 0)
-early_short bs lt = let e : nat_lt (length bs) 10 ≡ true = grind (arith, nat_tests) in rw e refl
-
 -- a byte 0 more is no line feed
 end_zero : (room : ℕ) (bs : List ℕ) → line_end room bs ≡ None → (line_end room (bs ++ 0 ∷ []) ≡ None) ⊎ ((line_end room (bs ++ 0 ∷ []) ≡ Some room) × (length bs + 1 ≡ room))
 end_zero zero bs e = cc
@@ -92,8 +78,8 @@ zero_damage bs le a n =
     let b : begins magic (bs ++ 0 ∷ []) ≡ true = begins_long magic bs (0 ∷ []) (omega (arith, le)) ∙ a in
     let len : length (bs ++ 0 ∷ []) ≡ length bs + 1 = length-append bs (0 ∷ []) in
     elim (end_zero longest_line bs n) [
-      | inl none ↦ head_none (bs ++ 0 ∷ []) (reading_at (bs ++ 0 ∷ []) None b none) ∙ (early_long (bs ++ 0 ∷ []) (omega (arith, len, le)) ∙ ap (λ k. Err (Damaged k)) len)
-      | inr s ↦ head_some (bs ++ 0 ∷ []) (Err (Damaged longest_line)) (reading_at (bs ++ 0 ∷ []) (Some longest_line) b s.0 ∙ ap Some (over_found (bs ++ 0 ∷ []))) ∙ ap (λ k. Err (Damaged k)) (sym s.1)
+      | inl none ↦ head_none reading early (bs ++ 0 ∷ []) (reading_at (bs ++ 0 ∷ []) None b none) ∙ (early_long 10 (bs ++ 0 ∷ []) (omega (arith, len, le)) ∙ ap (λ k. Err (Damaged k)) len)
+      | inr s ↦ head_some reading early (bs ++ 0 ∷ []) (Err (Damaged longest_line)) (reading_at (bs ++ 0 ∷ []) (Some longest_line) b s.0 ∙ ap Some (over_found (bs ++ 0 ∷ []))) ∙ ap (λ k. Err (Damaged k)) (sym s.1)
     ]
 
 byte_zero : All (λ b. b < 256) (0 ∷ [])
@@ -107,7 +93,7 @@ open_long bs e le =
       All-nil (λ b. b < 256),
       byte_zero,
       λ same.
-          let one = ap head (append-nil bs) ∙ (head_none bs e ∙ early_long bs le) in
+          let one = ap head (append-nil bs) ∙ (head_none reading early bs e ∙ early_long 10 bs le) in
           let two = zero_damage bs le u.0 u.1 in
           let clash = sym one ∙ (same ∙ two) in
           let k : length bs ≡ length bs + 1 = cc in absurd (omega (arith, k)),
@@ -145,7 +131,7 @@ unfolding line_head
 shortest_found = refl
 
 shortest_head : head shortest ≡ Err (Damaged 9)
-shortest_head = head_some shortest (Err (Damaged 9)) (reading_at shortest (Some 9) refl refl ∙ ap Some shortest_found)
+shortest_head = head_some reading early shortest (Err (Damaged 9)) (reading_at shortest (Some 9) refl refl ∙ ap Some shortest_found)
 
 open_short : (bs : List ℕ) → reading bs ≡ None → length bs < 10 → IsOpen bs
 open_short bs e lt =
@@ -157,63 +143,13 @@ open_short bs e lt =
       All-nil (λ b. b < 256),
       All-drop (λ b. b < 256) (length bs) shortest shortest_bytes,
       λ same.
-          let one = ap head (append-nil bs) ∙ (head_none bs e ∙ early_short bs lt) in
+          let one = ap head (append-nil bs) ∙ (head_none reading early bs e ∙ early_short 10 bs lt) in
           let two = ap head all ∙ shortest_head in
           let clash = sym one ∙ (same ∙ two) in cc,
     )
 
-is_open : (bs : List ℕ) → reading bs ≡ None → IsOpen bs
+pub is_open : (bs : List ℕ) → reading bs ≡ None → IsOpen bs
 is_open bs e = elim (bool_cases (nat_lt (length bs) 10)) [
   | inl s ↦ open_short bs e (grind (arith, nat_tests))
   | inr l ↦ open_long bs e (grind (arith, nat_tests))
 ]
-
--- ---- the answer
-
-answered_not : (found : Found) → answered found ≡ Err end.NotYet → ⊥
-answered_not (Ok x) e = cc
-answered_not (Err (Damaged p)) e = cc
-answered_not (Err (Unsupported p)) e = cc
-
-answer_none : (whole : Bool) (bs : List ℕ) → reading bs ≡ None → answer whole bs ≡ cond whole (answered (early bs)) (Err end.NotYet)
-unfolding answer
-answer_none whole bs e = rw e refl
-
-answer_some : (whole : Bool) (bs : List ℕ) (r : Found) → reading bs ≡ Some r → answer whole bs ≡ answered r
-unfolding answer
-answer_some whole bs r e = rw e refl
-
--- the head is the same whatever follows
-pub head_stays : (bs more : List ℕ) (r : Found) → reading bs ≡ Some r → head (bs ++ more) ≡ r
-head_stays bs more r e = head_some (bs ++ more) r (reading-append bs more r e)
-
-not_yet_at : (whole : Bool) (bs : List ℕ) (o : Option Found) → reading bs ≡ o → answer whole bs ≡ Err end.NotYet → (whole ≡ false) × IsOpen bs
-not_yet_at true bs None e is = absurd (answered_not (early bs) (sym (answer_none true bs e) ∙ is))
-not_yet_at false bs None e is = (refl, is_open bs e)
-not_yet_at whole bs (Some r) e is = absurd (answered_not r (sym (answer_some whole bs r e) ∙ is))
-
-open_at : (bs : List ℕ) (o : Option Found) → reading bs ≡ o → IsOpen bs → answer false bs ≡ Err end.NotYet
-open_at bs None e h = answer_none false bs e
-open_at bs (Some r) e h = absurd (h.4 (head_stays bs h.0 r e ∙ sym (head_stays bs h.1 r e)))
-
--- not yet exactly where the input goes on, and some bytes decide otherwise than others
-pub answer_not_yet : (whole : Bool) (bs : List ℕ) → (answer whole bs ≡ Err end.NotYet) ↔ ((whole ≡ false) × IsOpen bs)
-answer_not_yet whole bs = (
-  λ is. not_yet_at whole bs (reading bs) refl is,
-  λ h. subst (λ w. answer w bs ≡ Err end.NotYet) (sym h.0) (open_at bs (reading bs) refl h.1),
-)
-
-decided_at : (whole : Bool) (bs : List ℕ) (o : Option Found) → reading bs ≡ o → (answer whole bs ≡ Err end.NotYet → ⊥) → answer whole bs ≡ answered (head bs)
-decided_at true bs None e n = answer_none true bs e ∙ ap answered (sym (head_none bs e))
-decided_at false bs None e n = absurd (n (answer_none false bs e))
-decided_at whole bs (Some r) e n = answer_some whole bs r e ∙ ap answered (sym (head_some bs r e))
-
-pub answer_decided : (whole : Bool) (bs : List ℕ) → (answer whole bs ≡ Err end.NotYet → ⊥) → answer whole bs ≡ answered (head bs)
-answer_decided whole bs n = decided_at whole bs (reading bs) refl n
-
-stays_at : (bs : List ℕ) (o : Option Found) → reading bs ≡ o → (answer false bs ≡ Err end.NotYet → ⊥) → (more : List ℕ) → head (bs ++ more) ≡ head bs
-stays_at bs None e n more = absurd (n (answer_none false bs e))
-stays_at bs (Some r) e n more = head_stays bs more r e ∙ sym (head_some bs r e)
-
-pub answer_stays : (bs : List ℕ) → (answer false bs ≡ Err end.NotYet → ⊥) → (more : List ℕ) → head (bs ++ more) ≡ head bs
-answer_stays bs n = stays_at bs (reading bs) refl n

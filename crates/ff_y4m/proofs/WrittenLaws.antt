@@ -5,23 +5,24 @@ use Rattle.std.specs.Int.{IsGcd, ◌∣◌}
 use Rattle.std.proofs.lemmas.Bool.Decides.{nat_tests}
 use Rattle.std.proofs.Math.Nat.{one-dvd}
 use Rattle.ff_time.specs.Fraction.{Fraction, IsBase, IsReduced}
-use Rattle.ff_frame.specs.Video.{IsSide}
-use Rattle.ff_frame.specs.declared.video.Format.{Format}
-use Rattle.ff_frame.specs.declared.video.Format.TheVariants.{C420, C422, C444, Mono}
-use Rattle.ff_frame.specs.declared.head.StreamHead.{StreamHead}
-use Rattle.ff_frame.specs.declared.head.StreamHead.TheVariants.{Audio, Video}
-use Rattle.ff_y4m.specs.declared.parameters.HeadFault.{HeadFault}
-use Rattle.ff_y4m.specs.declared.parameters.HeadFault.TheVariants.{Damaged, Unsupported}
+use Rattle.ff_values.specs.Video.{IsSide}
+use Rattle.ff_values.specs.declared.video.Format.{Format}
+use Rattle.ff_values.specs.declared.video.Format.TheVariants.{C420, C422, C444, Mono}
+use Rattle.ff_values.specs.declared.head.StreamHead.{StreamHead}
+use Rattle.ff_values.specs.declared.head.StreamHead.TheVariants.{Audio, Video}
+use Rattle.ff_cut.specs.declared.fault.HeadFault.{HeadFault}
+use Rattle.ff_cut.specs.declared.fault.HeadFault.TheVariants.{Damaged, Unsupported}
 use Rattle.ff_y4m.specs.declared.parameters.Parameters.{Parameters}
 use Rattle.ff_y4m.specs.Lines.{line_end, longest_line}
 use Rattle.ff_y4m.specs.Numbers.{base_of}
 use Rattle.ff_y4m.specs.Parameters.{no_parameters, side_in, base_or, base_in, aspect_in, is_progressive, format_of, with_width, with_height, with_base, with_aspect, lettered}
-use Rattle.ff_y4m.specs.Heads.{magic, parameters, finished, line_head, found_at, head as head_read}
+use Rattle.ff_y4m.specs.Heads.{magic, parameters, finished, line_head, found_at, reading, early, head as head_read}
 use Rattle.ff_y4m.specs.Header.{format_name, sides, ratio, header, frames, planes_of}
 use Rattle.ff_y4m.specs.Packets.{packets_from, broken_from}
 use Rattle.ff_y4m.specs.Written.{IsPictures, aspect_again, head_again, planes_size, says, HeadersAreRead, FilesAreRead, FramesAreRead}
+use Rattle.ff_cut.proofs.AnswerLaws.{head_some}
 use Rattle.ff_y4m.proofs.NumberLaws.{base_ok}
-use Rattle.ff_y4m.proofs.HeadLaws.{reading_at, head_some}
+use Rattle.ff_y4m.proofs.HeadLaws.{reading_at}
 use Rattle.ff_y4m.proofs.FrameLaws.{read_frames}
 use Rattle.ff_y4m.proofs.TextLaws.{take_front, drop_front, Lacks, lacks-append, end_lacks, decimal_lacks, decimal_few, whole_decimal, joined, pair_joined, joined_lacks, tail_end, tail_space, word_step}
 
@@ -273,7 +274,7 @@ module _ (tb : Fraction) (format : Format) (width height sar_num sar_den : ℕ) 
         let short : nat_lt (length line) longest_line ≡ true = grind (arith, nat_tests, few) in
         let found : found_at all (length line) ≡ Ok (says stream) =
         ap (λ c. cond c (line_head (take (length line) all)) (Err (Damaged longest_line))) short ∙ (ap line_head (take_front line (10 ∷ rest)) ∙ line_is) in
-        ap head_read (header_text rest) ∙ head_some all (Ok (says stream)) (reading_at all (Some (length line)) refl ends ∙ ap Some found)
+        ap head_read (header_text rest) ∙ head_some reading early all (Ok (says stream)) (reading_at all (Some (length line)) refl ends ∙ ap Some found)
 
 pub headers : HeadersAreRead
 headers (Audio tb rate bits channels codec) rest h = absurd h

@@ -1,13 +1,10 @@
 -- A cut does not keep what it was fed and gave: it is tied to it.
-use Rattle.std.specs.Prelude.{◌≡◌, ℕ, ◌+◌, ◌≤◌, Bool, true, List, [], ◌++◌, drop, length}
-use Rattle.ff_frame.specs.declared.packet.Pkt.{Pkt}
+use Rattle.std.specs.Prelude.{◌≡◌, ℕ, ◌+◌, ◌^◌, ◌≤◌, Bool, List, ◌++◌, drop, length}
+use Rattle.ff_cut.specs.Cutters.{Cutter}
+use Rattle.ff_values.specs.declared.packet.Pkt.{Pkt}
 use Rattle.ff_y4m.specs.declared.head.Y4mHead.{Y4mHead}
 use Rattle.ff_y4m.specs.declared.cut.Y4mCut.{Y4mCut}
-use Rattle.ff_y4m.specs.Packets.{packets_from, broken_from, demuxed, broken_at}
-
--- what may still come: nothing where the input ended
-abbrev pub IsRest : Bool → List ℕ → Type 0
-IsRest ended more = ended ≡ true → more ≡ []
+use Rattle.ff_y4m.specs.Packets.{packets_from, broken_from, demuxed, broken_at, IsHead}
 
 -- the head for which a cut was made
 abbrev pub head_of : Y4mCut → Y4mHead
@@ -32,13 +29,6 @@ room_in cut = cut.held.room
 abbrev pub full_frame : Y4mCut → ℕ
 full_frame cut = 1024 + cut.head.frame_bytes
 
--- the same head and place, and the same end of the input
-pub record SameElsewhere (before after : Y4mCut) : Type 0 where
-  pub same_head : after.head ≡ before.head
-  pub same_place : after.used ≡ before.used
-  pub same_count : after.count ≡ before.count
-  pub same_end : after.ended ≡ before.ended
-
 -- Whatever follows: n packets were given, and what waits is what the others are made of.
 pub record Goes (head : Y4mHead) (used n : ℕ) (held fed more : List ℕ) : Type 0 where
   pub given : List Pkt
@@ -54,3 +44,20 @@ pub record Cuts (cut : Y4mCut) (head : Y4mHead) (fed : List ℕ) (n : ℕ) : Typ
   pub inside : cut.used ≤ length fed
   pub kept : cut.held.bytes ≡ drop cut.used fed
   pub goes : (more : List ℕ) → Goes head cut.used n cut.held.bytes fed more
+
+-- a cut of YUV4MPEG2, as every cut is seen
+abbrev pub y4m_cutter : Cutter Y4mHead Y4mCut
+y4m_cutter = record {
+  IsHead = IsHead;
+  stream_head = λ head. head.head;
+  start = λ head. head.start;
+  demuxed = demuxed;
+  broken_at = broken_at;
+  cuts = Cuts;
+  head_of = head_of;
+  place = place_of;
+  has_ended = has_ended;
+  waiting = waiting_in;
+  room = room_in;
+  longest = 2 ^ 30;
+}

@@ -1,14 +1,14 @@
 -- The head of a whole input, and what is decided by its first bytes (yuv4mpeg(5), "Stream Header").
-use Rattle.std.specs.Prelude.{◌≢◌, ℕ, zero, suc, ◌+◌, ◌<◌, ◌==◌, nat_lt, not, Bool, if◌then◌else◌, List, [], ◌∷◌, ◌++◌, codes, take, drop, length, Option, Some, None, unwrap_or, Result, Ok, Err, All}
+use Rattle.std.specs.Prelude.{ℕ, zero, suc, ◌+◌, ◌==◌, nat_lt, not, Bool, if◌then◌else◌, List, [], ◌∷◌, codes, take, drop, length, Option, Some, None, unwrap_or, Result, Ok, Err}
 use Rattle.std.specs.Option.{option_map}
 use Rattle.ff_time.specs.Fraction.{Fraction}
-use Rattle.ff_frame.specs.Video.{frame_size}
-use Rattle.ff_frame.specs.declared.head.StreamHead.TheVariants.{Video}
-use Rattle.ff_frame.specs.declared.cut.HeadEnd.{HeadEnd}
-use Rattle.ff_frame.specs.declared.cut.HeadEnd.TheVariants as end
+use Rattle.ff_values.specs.Video.{frame_size}
+use Rattle.ff_values.specs.declared.head.StreamHead.TheVariants.{Video}
+use Rattle.ff_values.specs.declared.cut.HeadEnd.{HeadEnd}
+use Rattle.ff_cut.specs.Heads as heads
 use Rattle.ff_y4m.specs.declared.head.Y4mHead.{Y4mHead}
-use Rattle.ff_y4m.specs.declared.parameters.HeadFault.{HeadFault}
-use Rattle.ff_y4m.specs.declared.parameters.HeadFault.TheVariants.{Damaged, Unsupported}
+use Rattle.ff_cut.specs.declared.fault.HeadFault.{HeadFault}
+use Rattle.ff_cut.specs.declared.fault.HeadFault.TheVariants.{Damaged, Unsupported}
 use Rattle.ff_y4m.specs.declared.parameters.Parameters.{Parameters}
 use Rattle.ff_y4m.specs.Lines.{begins, line_end, longest_line}
 use Rattle.ff_y4m.specs.Numbers.{first_place}
@@ -16,7 +16,7 @@ use Rattle.ff_y4m.specs.Parameters.{no_parameters, lettered}
 
 -- a head, or the fault for which there is none
 abbrev pub Found : Type 0
-Found = Result Y4mHead HeadFault
+Found = heads.Found Y4mHead
 
 -- what an input begins with
 abbrev pub magic : List ℕ
@@ -61,26 +61,20 @@ reading bs = if not (begins magic bs) then Some (Err (Unsupported 0)) else optio
 
 -- an input that ends here, before its head is decided
 abbrev pub early : List ℕ → Found
-early bs = if nat_lt (length bs) 10 then Err (Unsupported 0) else Err (Damaged (length bs))
+early bs = heads.early 10 bs
 
 -- the head of a whole input
-unfoldable pub head : List ℕ → Found
-head bs = unwrap_or (reading bs) (early bs)
+abbrev pub head : List ℕ → Found
+head bs = heads.head reading early bs
 
 -- a head or its fault, as an answer
 abbrev pub answered : Found → Result Y4mHead HeadEnd
-answered (Ok found) = Ok found
-answered (Err (Damaged offset)) = Err (end.Damaged offset)
-answered (Err (Unsupported offset)) = Err (end.Unsupported offset)
-
-abbrev pub answered_or : Option Found → Result Y4mHead HeadEnd → Result Y4mHead HeadEnd
-answered_or (Some found) other = answered found
-answered_or None other = other
+answered found = heads.answered found
 
 -- the answer at a front of the input, or at the whole
-unfoldable pub answer : Bool → List ℕ → Result Y4mHead HeadEnd
-answer whole bs = answered_or (reading bs) (if whole then answered (early bs) else Err end.NotYet)
+abbrev pub answer : Bool → List ℕ → Result Y4mHead HeadEnd
+answer whole bs = heads.answer reading early whole bs
 
 -- some bytes after these decide otherwise than others
 abbrev pub IsOpen : List ℕ → Type 0
-IsOpen bs = (more other : List ℕ) × All (λ b. b < 256) more × All (λ b. b < 256) other × (head (bs ++ more) ≢ head (bs ++ other))
+IsOpen bs = heads.IsOpen head bs

@@ -17,10 +17,8 @@ mod parameters;
 mod read;
 
 pub use cut::Y4mCut;
+pub use ff_cut::HeadFault;
 pub use head::Y4mHead;
 pub use header::y4m_header;
 pub use laws::{what_is_written_is_read_again, written_frames_are_read_again};
 pub use read::read_head;
-
-#[cfg(test)]
-mod tests;

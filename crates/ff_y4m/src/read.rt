@@ -2,17 +2,21 @@
 ghost use Rattle.std.specs.Prelude.{◌≡◌, ◌<◌, ◌≤◌, ◌↔◌, List, ◌++◌, Err, false, length, take, drop, IfOk, IfSome, ℕ};
 ghost use Rattle.ff_y4m.specs.Packets.{IsHead};
 ghost use Rattle.ff_y4m.specs.Parameters.{no_parameters, AreSane};
-ghost use Rattle.ff_y4m.specs.Heads.{word_len, parameters, complete, line_head, reading, early, head, answered, answer, IsOpen};
-ghost use Rattle.ff_y4m.specs.declared.parameters.HeadFault.{HeadFault};
+ghost use Rattle.ff_y4m.specs.Heads.{word_len, parameters, complete, line_head, reading, head, answered, IsOpen};
+ghost use Rattle.ff_cut.specs.declared.fault.HeadFault.{HeadFault};
 
 use crate::head::Y4mHead;
 use crate::line::{LONGEST_LINE, begins, line_end};
 use crate::number::{from_place, front, place_of};
-use crate::parameters::{HeadFault, Parameters, with_parameter};
-use ff_frame::{Format, HeadEnd, StreamHead};
+use crate::parameters::{Parameters, with_parameter};
+use ff_cut::{HeadFault, answer_to};
+use ff_values::{Format, HeadEnd, StreamHead};
 
 /// What an input begins with.
 const MAGIC: &[u8] = b"YUV4MPEG2";
+
+/// The bytes by which the format is known: those, and a space or a line feed.
+const SHORTEST: usize = 10;
 
 // Before the first parameter.
 fn nothing_said() -> Parameters
@@ -143,40 +147,6 @@ fn decide(bytes: &[u8]) -> Option<Result<Y4mHead, HeadFault>>
     Some(head_in(front(bytes, end)))
 }
 
-fn answer_of(found: Result<Y4mHead, HeadFault>) -> Result<Y4mHead, HeadEnd>
-    ensures value { result ≡ answered found }
-    ensures sound { IfOk found IsHead → IfOk result IsHead }
-{
-    match found {
-        Ok(head) => Ok(head),
-        Err(HeadFault::Damaged { offset }) => Err(HeadEnd::Damaged { offset }),
-        Err(HeadFault::Unsupported { offset }) => Err(HeadEnd::Unsupported { offset }),
-    }
-}
-
-fn early_end(bytes: &[u8]) -> HeadEnd
-    ensures { Err result ≡ answered (early bytes.now) }
-{
-    if bytes.len() < 10 {
-        return HeadEnd::Unsupported { offset: 0 };
-    }
-    HeadEnd::Damaged {
-        offset: bytes.len() as u64,
-    }
-}
-
-#[tactic(auto, unfolding(crate::specs::Heads::answer))]
-fn answer_to(bytes: &[u8], whole: bool) -> Result<Y4mHead, HeadEnd>
-    ensures value { result ≡ answer whole bytes.now }
-    ensures sound { IfOk result IsHead }
-{
-    match decide(bytes) {
-        Some(found) => answer_of(found),
-        None if whole => Err(early_end(bytes)),
-        None => Err(HeadEnd::NotYet),
-    }
-}
-
 /// The head of an input that begins with these bytes, and where `whole` ends with them (yuv4mpeg(5), "Stream Header").
 /// Unsupported at 0 where the first word isn't `YUV4MPEG2`; Damaged at 1,024 where the first line is longer, and at the
 /// input's length where it ends before the line does. Of the parameters the first fault from left to right counts, at the
@@ -191,7 +161,8 @@ pub fn read_head(bytes: &[u8], whole: bool) -> Result<Y4mHead, HeadEnd>
     // and a head is a sound one,
     ensures sound { IfOk result IsHead }
     // whatever follows.
-    ensures stays { (result ≡ Err HeadEnd.NotYet → ⊥) → whole ≡ false → (more : List ℕ) → head (bytes.now ++ more) ≡ head bytes.now }
+    ensures stays { (result ≡ Err HeadEnd.NotYet → ⊥) → whole ≡ false
+        → (more : List ℕ) → head (bytes.now ++ more) ≡ head bytes.now }
 {
-    answer_to(bytes, whole)
+    answer_to(decide(bytes), SHORTEST, bytes, whole)
 }

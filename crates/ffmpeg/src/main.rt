@@ -1,37 +1,43 @@
 //! The program: it hands its words, the machine's files and standard output to the command, and ends with the number
-//! of the status.
-//!
-//! This crate is the edge that the proofs trust: what a file or standard output holds is told by nobody. The command
-//! itself is `ff_run::ffmpeg`.
+//! of the status. The command itself is `ff_run::ffmpeg`, the files are those of `ff_file_host`.
 #![tactic(auto)]
 
-mod file_host;
-mod file_sink;
-mod file_source;
-mod log_sink;
-#[cfg(test)]
-mod tests;
 mod words;
 
+ghost use Rattle.std.specs.Prelude.{◌≢◌, []};
+ghost use Rattle.ff_run.specs.Texts.{NamesFile};
+
+use ff_file_host::{FileHost, LogSink};
 use ff_host::Sink;
 use ff_run::{Status, WordKind, fault_line, ffmpeg, status_number};
-use file_host::FileHost;
-use log_sink::LogSink;
 use std::alloc::Global;
 use std::io;
 use std::process::ExitCode;
 use words::{WordsEnd, read_words};
 
-// Logs that a word isn't text, and answers the number of that status.
-fn refuse_word(alloc: Global, log: &mut impl Sink, word: u32) -> u8 {
-    let status = Status::Words {
-        word,
-        kind: WordKind::UnknownOption,
-    };
-    if let Ok(line) = fault_line(alloc, &status, &[]) {
+// Logs why the command isn't even called, and answers the number of that status.
+fn refuse(alloc: Global, log: &mut impl Sink, status: &Status) -> u8
+    requires due { status.now ≢ Status.Fine }
+    requires named { NamesFile status.now [] }
+{
+    if let Ok(line) = fault_line(alloc, status, &[]) {
         let _ = log.append(&line);
     }
-    status_number(&status)
+    status_number(status)
+}
+
+// The status of words that couldn't be handed in.
+fn status_of(end: WordsEnd) -> Status
+    ensures due { result ≢ Status.Fine }
+    ensures named { NamesFile result [] }
+{
+    match end {
+        WordsEnd::NotText { word } => Status::Words {
+            word,
+            kind: WordKind::UnknownOption,
+        },
+        WordsEnd::NoMemory => Status::NoMemory,
+    }
 }
 
 fn main(rt: HostRuntime) -> ExitCode {
@@ -39,13 +45,10 @@ fn main(rt: HostRuntime) -> ExitCode {
     let mut log = LogSink::new(io::writer(&rt));
     let words = match read_words(&rt, alloc) {
         Ok(words) => words,
-        Err(WordsEnd::NotText { word }) => {
-            return ExitCode::from(refuse_word(alloc, &mut log, word));
-        }
-        Err(WordsEnd::NoMemory) => return ExitCode::from(status_number(&Status::NoMemory)),
+        Err(end) => return ExitCode::from(refuse(alloc, &mut log, &status_of(end))),
     };
     let Ok(files) = rt.clone() else {
-        return ExitCode::from(status_number(&Status::NoMemory));
+        return ExitCode::from(refuse(alloc, &mut log, &Status::NoMemory));
     };
     let mut host = FileHost::new(alloc, files);
     let report = ffmpeg(&rt, alloc, &words, &mut host, &mut log);

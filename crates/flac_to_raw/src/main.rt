@@ -8,9 +8,10 @@ ghost use Rattle.ff_flac_frame.specs.Frame.{IsStream};
 ghost use Rattle.ff_flac_dec.specs.Streams.{stream_of, IsHead};
 ghost use Rattle.ff_flac_dec.specs.Cuts.{place_of, has_ended};
 
+use ff_cut::PacketCut;
 use ff_flac_dec::{FlacCut, FlacHead, decode, frame_at, read_head};
-use ff_frame::{AFrame, Cut, Pkt};
 use ff_lists::{from_place, front};
+use ff_values::{AFrame, Cut, Pkt};
 use std::alloc::{AllocError, AllocFailed, Global};
 use std::io::{self, Read, Write};
 use std::process::ExitCode;

@@ -1,7 +1,7 @@
 -- What stands before the frames of a file (RFC 9639, sections 6, 8 and 8.2).
 use Rattle.std.specs.Prelude.{ℕ, ◌+◌, ◌-◌, ◌*◌, ◌^◌, List, [], ◌∷◌, ◌++◌, nat_lt, if◌then◌else◌}
 use Rattle.std.specs.Int.{bytes_high_first}
-use Rattle.ff_frame.specs.declared.totals.Totals.{Totals}
+use Rattle.ff_values.specs.declared.totals.Totals.{Totals}
 use Rattle.raw_to_flac.specs.declared.form.Form.{Form}
 
 -- a number in so many bits; 0, which says that it isn't known, where it has more

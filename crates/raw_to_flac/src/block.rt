@@ -1,14 +1,14 @@
 // Raw samples as blocks.
 ghost use Rattle.std.specs.Prelude.{◌≡◌, ◌≤◌, true, All, IfOk};
 ghost use Rattle.std.specs.List.{flat_map};
-ghost use Rattle.ff_frame.specs.Audio.{FitsBits};
+ghost use Rattle.ff_values.specs.Audio.{FitsBits};
 ghost use Rattle.ff_flac_enc.specs.Frame.{IsBlock};
 ghost use Rattle.ff_flac_enc.specs.Totals.{frame_bytes};
 
 use crate::form::Form;
 use crate::sample::samples_of;
 use crate::stop::Stop;
-use ff_frame::{AFrame, Samples};
+use ff_values::{AFrame, Samples};
 use std::alloc::Global;
 
 /// So many sample frames a block has, but the last.

@@ -5,7 +5,7 @@ ghost use Rattle.ff_flac_enc.specs.Totals.{counted};
 
 use crate::stop::Stop;
 use ff_flac_enc::{Counter, NoGate, encode_blocks};
-use ff_frame::{AFrame, Totals};
+use ff_values::{AFrame, Totals};
 use std::alloc::Global;
 use std::thread::Threads;
 

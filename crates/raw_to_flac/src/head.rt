@@ -4,7 +4,7 @@ ghost use Rattle.std.specs.Int.{bytes_high_first};
 ghost use Rattle.raw_to_flac.specs.Head.{told, sound_of, head_bytes};
 
 use crate::form::Form;
-use ff_frame::Totals;
+use ff_values::Totals;
 use std::alloc::{AllocError, Global};
 
 // The mark, the head of the last block of metadata, which has 34 bytes, and the least and the greatest block, both of 4,096

@@ -21,7 +21,7 @@ pub struct Ready {
 }
 
 impl<M: Machine> Node<M> {
-    /// Lets the machine give what it has, and allows a source one ticket.
+    /// Lets the machine give what it has, and allows a source one ticket where nothing is due.
     pub(crate) fn ready(&mut self) -> Ready
         requires outputs { length self.old.outs.items ≡ length (M.out_lanes self.old.machine) }
         ensures stepped { (wires : Wires) → Stepped M.in_lanes M.out_lanes M.source_of M.device_of M.failures M.fault_of M.stands (Prepares M.source_of M.fault_of result.granted result.due self.old self.new) self.old wires self.new wires }
@@ -29,10 +29,19 @@ impl<M: Machine> Node<M> {
         ensures none { result.due ≡ false → NoneHeld self.new.outs.items }
     {
         let due = self.fill_all();
-        let granted = self.allow();
         if due {
-            return Ready { due: true, granted };
+            return Ready {
+                due: true,
+                granted: false,
+            };
         }
+        if self.fault().is_some() {
+            return Ready {
+                due: false,
+                granted: false,
+            };
+        }
+        let granted = self.allow();
         if !granted {
             return Ready {
                 due: false,
@@ -68,13 +77,13 @@ impl<M: Machine> Node<M> {
         ready.granted | took
     }
 
-    /// One turn: at most one ticket, one item taken from each input and one put on each output. A node with a fault
+    /// One turn: at most one ticket, and none where an item is due, one item taken from each input and one put on each output. A node with a fault
     /// sends Broken down each output that goes on, finishes its inputs, and is done.
     pub fn turn(&mut self, wires: &mut Wires) -> Turn
         requires shaped { IsShaped M.in_lanes M.out_lanes self.old wires.old }
         ensures stepped { Stepped M.in_lanes M.out_lanes M.source_of M.device_of M.failures M.fault_of M.stands (Answers M.fault_of result self.old self.new wires.new) self.old wires.old self.new wires.new }
         ensures done { result ≡ Turn.Done → IsDone self.new }
-        ensures closed { (world : ℕ → Wire) (past : Past) → NodeStands M.source_of M.fault_of M.stands self.new world past → (p : ℕ) → p < inputs_of self.new → IsClosed (world (in_wire_of self.new p)).taken → HasFinished self.new p }
+        ensures closed { (world : ℕ → Wire) (past : Past) → NodeStands M.in_lanes M.source_of M.fault_of M.stands self.new world past → (p : ℕ) → p < inputs_of self.new → IsClosed (world (in_wire_of self.new p)).taken → HasFinished self.new p }
         ensures spent { (p : ℕ) → p < inputs_of self.new → M.is_spent (machine_of self.new) p → HasFinished self.new p }
         ensures faulty { (IsSound M.fault_of self.new → ⊥) → (p : ℕ) → p < inputs_of self.new → HasFinished self.new p }
     {

@@ -13,5 +13,5 @@ invariant-loop-k g l =
       lanes : lanes_of l.wires ≡ lanes_of l.fn.wires;
       parts : (tasks : ℕ → Task) → parts_of m.in_lanes m.out_lanes tasks l.nodes ≡ parts_of m.in_lanes m.out_lanes tasks l.fn.nodes;
       fares : (k : ℕ) (d : Node g.row.M.Denot) → k < length l.fn.nodes → FaultStep m.device_of m.failures m.fault_of (slice_index_or l.fn.nodes k d).machine (slice_index_or l.nodes k d).machine;
-      stands : (tasks : ℕ → Task) → NetStands m.source_of m.fault_of m.stands tasks l.fn.nodes l.fn.wires → NetStands m.source_of m.fault_of m.stands tasks l.nodes l.wires;
+      stands : (tasks : ℕ → Task) → NetStands m.in_lanes m.source_of m.fault_of m.stands tasks l.fn.nodes l.fn.wires → NetStands m.in_lanes m.source_of m.fault_of m.stands tasks l.nodes l.wires;
     }

@@ -1,4 +1,4 @@
-use Rattle.std.proofs.Common.{◌≡◌, ℕ, ◌<◌, length, subst, sym, ◌∙◌}
+use Rattle.std.proofs.Common.{ℕ, ◌<◌, subst, sym, ◌∙◌}
 use Rattle.ff_net.proofs.Moments.{fault_then}
 use Rattle.ff_net.proofs.serial.run_to_end.Goals as goal
 

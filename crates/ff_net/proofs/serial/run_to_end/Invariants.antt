@@ -14,5 +14,5 @@ invariant-loop g l =
       count : length l.nodes ≡ length l.fn.nodes;
       parts : (tasks : ℕ → Task) → parts_of m.in_lanes m.out_lanes tasks l.nodes ≡ parts_of m.in_lanes m.out_lanes tasks l.fn.nodes;
       fares : (k : ℕ) (d : Node g.row.M.Denot) → k < length l.fn.nodes → FaultStep m.device_of m.failures m.fault_of (slice_index_or l.fn.nodes k d).machine (slice_index_or l.nodes k d).machine;
-      stands : (tasks : ℕ → Task) → NetStands m.source_of m.fault_of m.stands tasks l.fn.nodes l.fn.wires → NetStands m.source_of m.fault_of m.stands tasks l.nodes l.wires;
+      stands : (tasks : ℕ → Task) → NetStands m.in_lanes m.source_of m.fault_of m.stands tasks l.fn.nodes l.fn.wires → NetStands m.in_lanes m.source_of m.fault_of m.stands tasks l.nodes l.wires;
     }

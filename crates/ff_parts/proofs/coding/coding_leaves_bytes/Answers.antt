@@ -1,11 +1,12 @@
 use Rattle.std.proofs.Common.{◌≡◌, ℕ, ◌*◌, ◌<◌, ℤ, List, map, All, sym, ap, ◌∙◌, subst}
-use Rattle.ff_frame.specs.declared.head.StreamHead.{StreamHead}
-use Rattle.ff_frame.specs.declared.head.StreamHead.TheVariants.{Audio as AudioHead, Video as VideoHead}
+use Rattle.ff_values.specs.declared.head.StreamHead.{StreamHead}
+use Rattle.ff_values.specs.declared.head.StreamHead.TheVariants.{Audio as AudioHead, Video as VideoHead}
 use Rattle.ff_frame.specs.declared.item.Item.TheVariants.{Packet}
-use Rattle.ff_frame.specs.declared.packet.Pkt.{Pkt}
-use Rattle.ff_frame.specs.PcmLaws.{pcm_packet}
-use Rattle.ff_frame.specs.Lanes.{sample_bytes, IsPcm, FitsPackets}
-use Rattle.ff_frame.specs.Packet.{packet_at}
+use Rattle.ff_values.specs.declared.packet.Pkt.{Pkt}
+use Rattle.ff_values.specs.PcmLaws.{pcm_packet}
+use Rattle.ff_values.specs.Codecs.{sample_bytes, IsPcm}
+use Rattle.ff_frame.specs.Lanes.{FitsPackets}
+use Rattle.ff_values.specs.Packet.{packet_at}
 use Rattle.ff_pcm.specs.Bytes.{bytes_of}
 use Rattle.ff_pcm.specs.Depth.{shifted}
 use Rattle.ff_pcm.specs.Frames.{bits_of, channels_of, codec_of, IsPcmHead, frame_of}

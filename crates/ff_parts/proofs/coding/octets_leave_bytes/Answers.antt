@@ -1,5 +1,5 @@
 use Rattle.std.proofs.Common.{ℕ, List, ap}
-use Rattle.ff_frame.specs.declared.packet.Pkt.{Pkt}
+use Rattle.ff_values.specs.declared.packet.Pkt.{Pkt}
 use Rattle.ff_pcm.proofs.SampleLaws.{are_bytes}
 use Rattle.ff_parts.specs.DecodeLaws.{octets_same}
 use Rattle.ff_parts.proofs.coding.octets_leave_bytes.Goals as goal

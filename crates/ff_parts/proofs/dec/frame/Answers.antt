@@ -1,6 +1,6 @@
 use Rattle.std.proofs.Common.{◌≡◌, ℕ, ◌<◌, List, get_or, sym, subst}
 use Rattle.std.specs.Result.{IfOk}
-use Rattle.ff_frame.specs.declared.audio.AFrame.{AFrame}
+use Rattle.ff_values.specs.declared.audio.AFrame.{AFrame}
 use Rattle.ff_pcm.specs.Frames.{frame_of}
 use Rattle.ff_parts.specs.DecodeLaws.{octets_same}
 use Rattle.ff_parts.proofs.dec.frame.Goals as goal

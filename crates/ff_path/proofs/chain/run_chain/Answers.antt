@@ -5,7 +5,7 @@ use Rattle.ff_net.specs.declared.fault.Fault.TheVariants.{NoMemory}
 use Rattle.ff_net.specs.declared.node.Node.{Node}
 use Rattle.ff_net.specs.Laws.{FaultStep, IsOfInputs}
 use Rattle.ff_net.specs.Nets.{solve}
-use Rattle.ff_net.specs.Pasts.{Task, IsIn}
+use Rattle.ff_net.specs.Pasts.{Task, IsIn, no_events}
 use Rattle.ff_net.specs.Nodes.{IsSound, machine_of, in_wires_of}
 use Rattle.ff_net.specs.Serial.{AreShaped, NetStands, Settled, parts_of}
 use Rattle.ff_path.specs.declared.chain.Chain.{Chain}
@@ -19,7 +19,7 @@ run_to_end-requires-clause-shaped g c =
     let m = g.M.Machine in
     let ns = c.in-Ok-nodes_of.nodes in
     let is : c.deref_mut.result.now ≡ listed ns = c.deref_mut.ensures.value ∙ c.gathered-nodes.ensures in
-    let tasks : ℕ → Task = λ k. record { means = λ ss. []; cause = λ ss. None; source = false } in
+    let tasks : ℕ → Task = λ k. record { means = λ ss. []; cause = λ ss. None; source = false; tells = no_events } in
     let row = row_of m.in_lanes m.out_lanes m.source_of m.fault_of m.stands c.args.lanes c.args.machines ns c.in-Ok-nodes_of.ensures.nodes c.requires.lanes tasks in
     subst (λ (xs : List (Node g.row.M.Denot)). AreShaped m.in_lanes m.out_lanes xs c.in-Ok.wires) (sym is) (row_shaped m.in_lanes m.out_lanes m.source_of m.fault_of m.stands c.args.lanes tasks (listed ns) row c.in-Ok.wires c.in-Ok.ensures.lanes)
 
@@ -54,7 +54,7 @@ returns-clause-lanes g c =
     let count : length c.run_to_end.new.nodes ≡ length c.gathered-nodes.result.items = c.run_to_end.auto.nodes ∙ ap length c.deref_mut.ensures.value in
     let ends : c.run_to_end.new.nodes ≡ listed end = sym (written_back c.gathered-nodes.result.len c.run_to_end.new.nodes c.gathered-nodes.result.items c.gathered-nodes.result.ok.0 count) ∙ c.apart-first.ensures in
     let same = same_chain _ _ _ _ _ _ _ _ c.into_machine.ensures c.into_machine-2.ensures c.into_machine-3.ensures c.into_machine-4.ensures in
-    let tasks : ℕ → Task = λ k. record { means = λ ss. []; cause = λ ss. None; source = false } in
+    let tasks : ℕ → Task = λ k. record { means = λ ss. []; cause = λ ss. None; source = false; tells = no_events } in
     let row = row_of m.in_lanes m.out_lanes m.source_of m.fault_of m.stands c.args.lanes c.args.machines ns c.in-Ok-nodes_of.ensures.nodes c.requires.lanes tasks in
     let late = c.run_to_end.ensures.parts tasks ∙ (ap (λ xs. parts_of m.in_lanes m.out_lanes tasks xs) is ∙ row) in
     let later = ap (λ xs. parts_of m.in_lanes m.out_lanes tasks xs) (sym ends) ∙ late in
@@ -74,7 +74,7 @@ returns-clause-part g c tasks s =
     let later = ap (λ xs. parts_of m.in_lanes m.out_lanes tasks xs) (sym ends) ∙ late in
     let net = net_at_start m.in_lanes m.out_lanes m.source_of m.fault_of m.stands c.args.lanes c.args.machines ns c.in-Ok-nodes_of.ensures.nodes c.requires.lanes tasks s c.deref_mut.result.now is c.in-Ok.wires c.in-Ok.ensures.fresh in
     let up = row_upward m.in_lanes m.out_lanes m.source_of m.fault_of m.stands c.args.lanes tasks c.run_to_end.new.nodes late in
-    let below = subst (λ (xs : List (Node g.row.M.Denot)). (net : NetStands m.source_of m.fault_of m.stands tasks xs c.run_to_end.new.wires) × ((k : ℕ) (d : Node g.row.M.Denot) (w : ℕ) → k < length xs → IsIn w (in_wires_of (slice_index_or xs k d)) → LiesBelow (opened (net.world w).taken) (solve (parts_of m.in_lanes m.out_lanes tasks xs) w))) ends (c.run_to_end.ensures.below tasks net up) in
+    let below = subst (λ (xs : List (Node g.row.M.Denot)). (net : NetStands m.in_lanes m.source_of m.fault_of m.stands tasks xs c.run_to_end.new.wires) × ((k : ℕ) (d : Node g.row.M.Denot) (w : ℕ) → k < length xs → IsIn w (in_wires_of (slice_index_or xs k d)) → LiesBelow (opened (net.world w).taken) (solve (parts_of m.in_lanes m.out_lanes tasks xs) w))) ends (c.run_to_end.ensures.below tasks net up) in
     subst (λ (x : Chain g.row.M.Denot). FedPart m.stands tasks x) (sym same) (chain_part m.in_lanes m.out_lanes m.source_of m.fault_of m.stands c.args.lanes tasks end later below.0.world below.0.each below.1)
 
 pub returns-clause-all : goal.returns-clause-all

@@ -8,7 +8,7 @@ invariant-pieces g l =
     let S = g.S.Source in
     record {
       bytes : Consumes (S.left l.fn.src) (S.left l.src) l.bytes.items;
-      reached : Reached l.walk.at l.walk.format l.bytes.items;
+      reached : Reached l.walk.at l.walk.state l.bytes.items;
       short : length l.bytes.items ≤ 2 ^ 28;
       room : 0 < length l.buffer;
       later : S.faults l.fn.src ≤ S.faults l.src;

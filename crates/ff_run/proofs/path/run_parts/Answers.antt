@@ -1,5 +1,5 @@
 use Rattle.std.proofs.Common.{sym, ◌∙◌, subst}
-use Rattle.ff_frame.specs.declared.head.Codec.TheVariants.{PcmU8}
+use Rattle.ff_values.specs.declared.head.Codec.TheVariants.{PcmU8}
 use Rattle.ff_parts.specs.Parts.{part_in_lanes, part_out_lanes}
 use Rattle.ff_path.specs.declared.chain.Lanes.{Lanes}
 use Rattle.ff_path.specs.Chains.{HasLanes}

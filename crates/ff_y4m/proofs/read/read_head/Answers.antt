@@ -1,13 +1,24 @@
 use Rattle.std.proofs.Common.{◌∙◌, ap}
-use Rattle.ff_y4m.specs.Heads.{answer}
-use Rattle.ff_y4m.proofs.HeadLaws.{answer_not_yet, answer_decided, answer_stays}
+use Rattle.ff_cut.proofs.AnswerLaws.{answer_is, answer_not_yet, answer_decided, answer_stays, answered_sound}
+use Rattle.ff_y4m.specs.Heads.{reading, early, answer}
+use Rattle.ff_y4m.specs.Packets.{IsHead}
+use Rattle.ff_y4m.proofs.HeadLaws.{reading-append, is_open}
 use Rattle.ff_y4m.proofs.read.read_head.Goals as goal
 
 pub returns-clause-not_yet : goal.returns-clause-not_yet
-returns-clause-not_yet c = rw c.answer_to.ensures.value (answer_not_yet c.args.whole c.args.bytes.now)
+returns-clause-not_yet c =
+    let is = c.answer_to.ensures ∙ answer_is reading early c.args.whole c.args.bytes.now c.decide.result c.decide.ensures.value in
+    rw is (answer_not_yet reading early reading-append is_open c.args.whole c.args.bytes.now)
 
 pub returns-clause-decided : goal.returns-clause-decided
-returns-clause-decided c = rw c.answer_to.ensures.value (answer_decided c.args.whole c.args.bytes.now)
+returns-clause-decided c =
+    let is = c.answer_to.ensures ∙ answer_is reading early c.args.whole c.args.bytes.now c.decide.result c.decide.ensures.value in
+    rw is (answer_decided reading early c.args.whole c.args.bytes.now)
 
 pub returns-clause-stays : goal.returns-clause-stays
-returns-clause-stays c = λ n w. answer_stays c.args.bytes.now (λ e. n (c.answer_to.ensures.value ∙ (ap (λ b. answer b c.args.bytes.now) w ∙ e)))
+returns-clause-stays c =
+    let is = c.answer_to.ensures ∙ answer_is reading early c.args.whole c.args.bytes.now c.decide.result c.decide.ensures.value in
+    λ n w. answer_stays reading early reading-append c.args.bytes.now (λ e. n (is ∙ (ap (λ b. answer b c.args.bytes.now) w ∙ e)))
+
+pub returns-clause-sound : goal.returns-clause-sound
+returns-clause-sound c = rw c.answer_to.ensures (answered_sound IsHead c.decide.result 10 c.args.whole c.args.bytes.now c.decide.ensures.sound)

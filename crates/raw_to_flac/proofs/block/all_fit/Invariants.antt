@@ -1,6 +1,6 @@
 use Rattle.std.proofs.Common.{take}
 use Rattle.std.specs.List.{All}
-use Rattle.ff_frame.specs.Audio.{FitsBits}
+use Rattle.ff_values.specs.Audio.{FitsBits}
 use Rattle.raw_to_flac.proofs.block.all_fit.Given as goal
 
 abbrev pub invariant-loop-x : goal.invariant-loop-x

@@ -1,5 +1,6 @@
 use Rattle.std.proofs.Common.{◌≡◌, ◌+◌, ℕ, ◌∙◌, refl, ap, sym, List, ◌++◌, ◌∷◌, [], Option, Some, add-one}
-use Rattle.ff_frame.specs.declared.item.Ticket.{Ticket}
+use Rattle.ff_frame.specs.Order.{prefix_self}
+use Rattle.ff_values.specs.declared.event.Ticket.{Ticket}
 use Rattle.ff_net.specs.Pasts.{was_allowed}
 use Rattle.ff_net.specs.Nodes.{tickets}
 use Rattle.ff_net.specs.Steps.{granted}
@@ -29,7 +30,7 @@ returns-in-None-clause-stepped g c wires =
             now = world;
             since = since;
             stand = stand;
-            fits = machine_step m.source_of m.fault_of m.stands node _ world past since was now (λ s. (s.0, fault_back _ _ c.allow.ensures.fares.stays s.1)) (λ r. r) refl refl refl refl refl refl allowed;
+            fits = machine_step m.in_lanes m.source_of m.fault_of m.stands node _ world past since was now (λ s. (s.0, fault_back _ _ c.allow.ensures.fares.stays s.1)) (λ r. r) refl refl c.allow.ensures.in_lanes refl refl refl refl allowed;
             course = course_past _ _ world past since refl (t ∷ [], refl) (λ q i. i);
             so = record {
               moves = λ e. granted (pushed_tickets past.allowed t);
@@ -39,6 +40,37 @@ returns-in-None-clause-stepped g c wires =
               got = refl;
               stopped = refl;
               same = λ e. absurd (true_not_false e);
+            };
+          };
+    }
+
+pub returns-in-Some-allow-clause-stepped : goal.returns-in-Some-allow-clause-stepped
+returns-in-Some-allow-clause-stepped g c wires =
+    let m = g.M.Machine in
+    let node = c.args.self.now in
+    record {
+      ins_same = refl;
+      outs_same = refl;
+      in_lanes_same = c.allow.ensures.in_lanes;
+      out_lanes_same = c.allow.ensures.out_lanes;
+      fares = c.allow.ensures.fares;
+      lanes_same = refl;
+      goes = λ world past stand was.
+          let now = c.in-Some-allow.ensures.back.1 past was.machine in
+          let allowed : past.allowed ≡ tickets (m.source_of c.allow.new.self) node.place = was.allowed ∙ ap (λ (s : Option ℕ). tickets s node.place) (sym c.allow.ensures.source) in record {
+            now = world;
+            since = past;
+            stand = stand;
+            fits = machine_step m.in_lanes m.source_of m.fault_of m.stands node _ world past past was now (λ s. (s.0, fault_back _ _ c.allow.ensures.fares.stays s.1)) (λ r. r) refl refl c.allow.ensures.in_lanes refl refl refl refl allowed;
+            course = course_past _ _ world past past refl (prefix_self past.allowed) (λ q i. i);
+            so = record {
+              moves = λ e. absurd (true_not_false (sym e));
+              sent = λ w. refl;
+              taken = λ w. refl;
+              finished = λ w. refl;
+              got = refl;
+              stopped = refl;
+              same = λ e. refl;
             };
           };
     }

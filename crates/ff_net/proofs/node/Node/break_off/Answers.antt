@@ -37,16 +37,17 @@ returns-in-Done-clause-stepped g c =
       lanes_same = c.try_put.ensures.lanes;
       goes = λ world past stand was.
           let unclosed = (was.outs p there).unclosed busy in
-          let valid = broken_valid m.source_of m.fault_of m.stands node c.args.wires.now world past p (m.in_lanes node.machine) (m.out_lanes node.machine) stand was (laws.valid node.machine past was.machine) (laws.keeps node.machine past was.machine) c.requires.shaped.outs there in
+          let valid = broken_valid m.in_lanes m.source_of m.fault_of m.stands node c.args.wires.now world past p (m.in_lanes node.machine) (m.out_lanes node.machine) stand was (laws.valid node.machine past was.machine) (laws.keeps node.machine past was.machine) c.requires.shaped.outs there in
           let done : Stand c.try_put.new.self (put_on world old.wire Broken) = subst (λ (w : ℕ). Stand c.try_put.new.self (put_on world w Broken)) wire ((c.in-Done.ensures.done refl world stand (rw wire unclosed) (rw wire valid)).1) in record {
             now = put_on world old.wire Broken;
             since = past;
             stand = done;
-            fits = broke m.source_of m.fault_of m.stands node _ world past p (m.out_lanes node.machine) (lanes_of c.args.wires.now) was refl refl refl refl set there c.requires.shaped.outs busy c.requires.faulty;
+            fits = broke m.in_lanes m.source_of m.fault_of m.stands node _ world past p (m.out_lanes node.machine) (lanes_of c.args.wires.now) was refl refl refl refl set there c.requires.shaped.outs busy c.requires.faulty;
             course = course_put _ _ world old.wire Broken past (out_wire_in outs p old.wire there refl) unclosed;
             so = record {
               moves = λ e. put old.wire (λ same. with_item_new (world old.wire).sent Broken unclosed (sym (ap (λ (u : Wire). u.sent) (with_wire_same world old.wire _ old.wire refl)) ∙ same));
               takes_nothing = λ q w. with_wire_keeps (λ (u : Wire). u.taken) world old.wire _ w refl;
+              allows_nothing = refl;
             };
           };
     }
@@ -70,13 +71,13 @@ returns-in-Finished-clause-stepped g c =
       fares = c.stop.ensures.fares;
       lanes_same = c.try_put.ensures.lanes;
       goes = λ world past stand was.
-          let goes_on = busy_goes_on m.source_of m.fault_of m.stands node world past p was busy in
+          let goes_on = busy_goes_on m.in_lanes m.source_of m.fault_of m.stands node world past p was busy in
           let flag : (world old.wire).finished ≡ true = subst (λ (w : ℕ). (world w).finished ≡ true) c.out_wire.ensures (finished_of c.args.wires.now.queues.items world c.out_wire.result stand (in_queues c.args.wires.now.queues.items c.out_wire.result (subst (λ (w : ℕ). w < length (lanes_of c.args.wires.now)) (sym c.out_wire.ensures) (out_wire_there outs _ (lanes_of c.args.wires.now) c.requires.shaped.outs p there))) finished.2) in record {
             now = world;
             since = was_stopped past p;
             stand = subst (λ (w : Wires). Stand w world) (sym finished.1) stand;
-            fits = told m.source_of m.fault_of m.stands node _ world past p old.held was (c.stop.ensures.stopped past was.machine) c.stop.ensures.fares.stays refl c.stop.ensures.source refl refl set there busy flag;
+            fits = told m.in_lanes m.source_of m.fault_of m.stands node _ world past p old.held was (c.stop.ensures.stopped past was.machine) c.stop.ensures.fares.stays refl c.stop.ensures.source c.stop.ensures.in_lanes refl refl set there busy flag;
             course = course_past _ _ world past (was_stopped past p) refl (prefix_self past.allowed) (λ q i. inr i);
-            so = record { moves = λ e. was_told p goes_on (inl refl); takes_nothing = λ q w. refl };
+            so = record { moves = λ e. was_told p goes_on (inl refl); takes_nothing = λ q w. refl; allows_nothing = refl };
           };
     }

@@ -3,7 +3,7 @@ use Rattle.ff_frame.specs.Ports.{IsClosed}
 use Rattle.ff_net.specs.Ways.{Flow}
 use Rattle.ff_net.specs.Worlds.{Wire, Stand, finish_on, lanes_of}
 use Rattle.ff_net.specs.Ports.{in_at, in_wires}
-use Rattle.ff_net.specs.Laws.{OutputsClose}
+use Rattle.ff_net.specs.Laws.{NoMatter}
 use Rattle.ff_net.specs.Nodes.{IsSound, MayClose}
 use Rattle.ff_net.specs.Steps.{finished}
 use Rattle.ff_net.proofs.Moments.{fault_self, with_wire_same, with_wire_keeps}
@@ -36,22 +36,23 @@ returns-clause-stepped g c =
       lanes_same = c.finish.ensures.lanes;
       goes = λ world past stand was.
           let i = was.ins p there in
-          let why : IsSound m.fault_of node → IsClosed (world old.wire).taken ⊎ MayClose node past =
+          let why : IsSound m.fault_of node → IsClosed (world old.wire).taken ⊎ MayClose m.in_lanes node past p =
           λ s. elim (c.if-not-may_finish.ensures.why refl s) [
             | inl spent ↦ elim (laws.spent_only node.machine past p was.machine spent) [
               | inl c ↦ inl (subst (λ (t : Flow). IsClosed t) (i.exact s.0) c)
-              | inr o ↦ inr (subst (λ (n : ℕ). 0 < n) (sym count) o.0, inl (subst (λ (n : ℕ). OutputsClose n past) (sym count) o.1))
+              | inr o ↦ inr (subst (λ (n : ℕ). 0 < n) (sym count) o.0, inl (subst (λ (n : ℕ). NoMatter (m.in_lanes node.machine) n past p) (sym count) o.1))
             ]
             | inr d ↦ inr (d.0, inr d.1)
           ] in record {
             now = finish_on world old.wire;
             since = past;
             stand = subst (λ (w : ℕ). Stand c.finish.new.self (finish_on world w)) wire (c.finish.ensures.finished world stand);
-            fits = closed m.source_of m.fault_of m.stands node _ world past p (m.in_lanes node.machine) (lanes_of c.args.wires.now) was refl refl refl refl set there c.requires.shaped.ins why;
+            fits = closed m.in_lanes m.source_of m.fault_of m.stands node _ world past p (m.in_lanes node.machine) (lanes_of c.args.wires.now) was refl refl refl refl set there c.requires.shaped.ins why;
             course = course_finish _ _ world old.wire past (in_wire_in ins p old.wire there refl);
             so = record {
               moves = λ e. finished old.wire (sym i.flag ∙ busy) (ap (λ (u : Wire). u.finished) (with_wire_same world old.wire _ old.wire refl));
               takes_nothing = λ q w. with_wire_keeps (λ (u : Wire). u.taken) world old.wire _ w refl;
+              allows_nothing = refl;
             };
           };
     }

@@ -2,13 +2,16 @@ use Rattle.std.proofs.Common.{◌≡◌, ◌<◌, ℕ, length, true, false, refl
 use Rattle.ff_frame.specs.Ports.{stream_at}
 use Rattle.ff_net.specs.declared.ports.OutPort.{OutPort}
 use Rattle.ff_net.specs.Ways.{Flow}
-use Rattle.ff_net.specs.Pasts.{due}
+use Rattle.ff_net.specs.Nodes.{IsSound}
+use Rattle.ff_net.specs.Pasts.{Past, due}
 use Rattle.ff_net.specs.Ports.{out_at, NoneHeld}
 use Rattle.ff_net.specs.Steps.{Prepares}
+use Rattle.ff_net.specs.Worlds.{Wire}
+use Rattle.ff_net.proofs.Acting.{none_if_not_some, some_is_faulty}
 use Rattle.ff_net.proofs.Flows.{due_same}
-use Rattle.ff_net.proofs.Moments.{stepped_then, stepped_through, then_moves, moves_then}
+use Rattle.ff_net.proofs.Moments.{stepped_self, stepped_then, stepped_through, then_moves, moves_then}
 use Rattle.ff_net.proofs.Changes.{true_not_false}
-use Rattle.ff_net.proofs.Readying.{none_before, ungranted}
+use Rattle.ff_net.proofs.Readying.{none_before, ungranted, some_not_none}
 use Rattle.ff_net.proofs.node.Node.ready.Goals as goal
 
 pub fill_all-more-requires : goal.fill_all-more-requires
@@ -20,32 +23,39 @@ fill_all-more-requires g c =
 pub returns-then-due-clause-stepped : goal.returns-then-due-clause-stepped
 returns-then-due-clause-stepped g c wires =
     let m = g.M.Machine in
-    let laws = g.met.M.Machine in
     let before = c.args.self.now in
     let filled = c.fill_all-due.new.self in
-    let after = c.allow-granted.new.self in
     let e = c.fill_all-due.ensures in
-    let a = c.allow-granted.ensures in
-    let outs : after.outs.items ≡ filled.outs.items = ap (λ os. os.items) a.outs in
-    let count : length filled.outs.items ≡ length (m.out_lanes filled.machine) = e.count ∙ (c.requires.outputs ∙ ap length (sym e.out_lanes)) in
-    stepped_through m.in_lanes m.out_lanes m.source_of m.device_of m.failures m.fault_of m.stands _ _ (Prepares m.source_of m.fault_of c.allow-granted.result true before after) before wires filled wires after wires
-    (λ w p v q u r was mid x y f s. record {
-      moves = λ t. then_moves _ _ w v u p q r x y (s.moves t);
-      taken = λ k. s.taken k ∙ f.taken k;
+    stepped_then m.in_lanes m.out_lanes m.source_of m.device_of m.failures m.fault_of m.stands _ (λ a p b q. (b ≡ a) × (q ≡ p)) (Prepares m.source_of m.fault_of false true before filled) before wires filled wires filled wires
+    (λ w p v q u r x y f s. record {
+      moves = λ t. absurd (true_not_false (sym t));
+      taken = λ k. ap (λ (z : ℕ → Wire). (z k).taken) s.0 ∙ f.taken k;
+      allows_nothing = λ k d. ap (λ (z : Past). z.allowed) s.1 ∙ f.allowed;
       none_before = λ ok no. absurd (true_not_false no);
       rests = λ no. record {
-        none_due = λ ok.
-            let same : r ≡ q = s.same no in
-            let dues : due r ≡ due p = ap due same ∙ due_same p q x.task f.got f.allowed in
-            subst (λ (os : List OutPort). (k : ℕ) → k < length os → (out_at os k).done ≡ false → (out_at os k).held ≡ None → (u (out_at os k).wire).sent ≡ stream_at (due r) k) (sym outs)
-            (λ k lt busy none. s.sent (out_at filled.outs.items k).wire ∙ (f.sent (out_at filled.outs.items k).wire ∙ (f.none_due (a.sound ok) k lt busy none ∙ ap (λ (ss : List Flow). stream_at ss k) (sym dues))));
-        ungranted = λ ok none k lt busy.
-            elim (ungranted m.source_of m.fault_of m.stands m.out_lanes m.holds laws.ticket_used filled v q w p c.fill_all-due.result e.held mid (a.sound ok) count (subst NoneHeld outs none) f (a.back no) k (subst (λ (os : List OutPort). k < length os) outs lt) (subst (λ (os : List OutPort). (out_at os k).done ≡ false) outs busy)) [
-              | inl n ↦ inl (a.source ∙ n)
-              | inr full ↦ inr (subst (λ (z : ℕ). 2 ^ 64 - 1 ≤ z) (sym (a.place no)) full)
-            ];
+        none_due = λ ok k lt busy none.
+            let dues : due r ≡ due p = ap due s.1 ∙ due_same p q x.task f.got f.allowed in
+            let wire : ℕ = (out_at filled.outs.items k).wire in
+            ap (λ (z : ℕ → Wire). (z wire).sent) s.0 ∙ (f.sent wire ∙ (f.none_due ok k lt busy none ∙ ap (λ (ss : List Flow). stream_at ss k) (sym dues)));
+        ungranted = λ ok none k lt busy. absurd (some_not_none filled.outs.items (e.held c.if-due.true) none);
       };
-    }) (e.stepped wires) (a.stepped wires)
+    }) (e.stepped wires) (stepped_self m.in_lanes m.out_lanes m.source_of m.device_of m.failures m.fault_of m.stands (λ a p b q. (b ≡ a) × (q ≡ p)) filled wires (λ w p. (refl, refl)))
+
+pub returns-then-is_some-clause-stepped : goal.returns-then-is_some-clause-stepped
+returns-then-is_some-clause-stepped g c wires =
+    let m = g.M.Machine in
+    let before = c.args.self.now in
+    let filled = c.fill_all-due.new.self in
+    let e = c.fill_all-due.ensures in
+    let faulty : IsSound m.fault_of filled → ⊥ = λ ok. some_is_faulty c.fault.result (sym c.is_some.ensures ∙ c.if-is_some.true) (c.fault.ensures.none ok) in
+    stepped_then m.in_lanes m.out_lanes m.source_of m.device_of m.failures m.fault_of m.stands _ (λ a p b q. (b ≡ a) × (q ≡ p)) (Prepares m.source_of m.fault_of false false before filled) before wires filled wires filled wires
+    (λ w p v q u r x y f s. record {
+      moves = λ t. absurd (true_not_false (sym t));
+      taken = λ k. ap (λ (z : ℕ → Wire). (z k).taken) s.0 ∙ f.taken k;
+      allows_nothing = λ k d. ap (λ (z : Past). z.allowed) s.1 ∙ f.allowed;
+      none_before = λ ok no. absurd (faulty ok);
+      rests = λ no. record { none_due = λ ok. absurd (faulty ok); ungranted = λ ok. absurd (faulty ok) };
+    }) (e.stepped wires) (stepped_self m.in_lanes m.out_lanes m.source_of m.device_of m.failures m.fault_of m.stands (λ a p b q. (b ≡ a) × (q ≡ p)) filled wires (λ w p. (refl, refl)))
 
 pub returns-then-not-granted-clause-stepped : goal.returns-then-not-granted-clause-stepped
 returns-then-not-granted-clause-stepped g c wires =
@@ -62,7 +72,8 @@ returns-then-not-granted-clause-stepped g c wires =
     (λ w p v q u r was mid x y f s. record {
       moves = λ t. absurd (true_not_false (sym t));
       taken = λ k. s.taken k ∙ f.taken k;
-      none_before = λ ok no. none_before m.source_of m.fault_of m.stands before filled c.fill_all-due.result w v p q e.sound e.count (e.stepped wires).outs_same e.done (e.none c.if-due.false) f (a.sound ok);
+      allows_nothing = λ k d. ap (λ (z : Past). z.allowed) (s.same c.if-not-granted.true) ∙ f.allowed;
+      none_before = λ ok no. none_before m.in_lanes m.source_of m.fault_of m.stands before filled c.fill_all-due.result w v p q e.sound e.count (e.stepped wires).outs_same e.done (e.none c.if-due.false) f (a.sound ok);
       rests = λ no. record {
         none_due = λ ok.
             let same : r ≡ q = s.same c.if-not-granted.true in
@@ -70,7 +81,7 @@ returns-then-not-granted-clause-stepped g c wires =
             subst (λ (os : List OutPort). (k : ℕ) → k < length os → (out_at os k).done ≡ false → (out_at os k).held ≡ None → (u (out_at os k).wire).sent ≡ stream_at (due r) k) (sym outs)
             (λ k lt busy none. s.sent (out_at filled.outs.items k).wire ∙ (f.sent (out_at filled.outs.items k).wire ∙ (f.none_due (a.sound ok) k lt busy none ∙ ap (λ (ss : List Flow). stream_at ss k) (sym dues))));
         ungranted = λ ok none k lt busy.
-            elim (ungranted m.source_of m.fault_of m.stands m.out_lanes m.holds laws.ticket_used filled v q w p c.fill_all-due.result e.held mid (a.sound ok) count (subst NoneHeld outs none) f (a.back c.if-not-granted.true) k (subst (λ (os : List OutPort). k < length os) outs lt) (subst (λ (os : List OutPort). (out_at os k).done ≡ false) outs busy)) [
+            elim (ungranted m.in_lanes m.source_of m.fault_of m.stands m.out_lanes m.holds laws.ticket_used filled v q w p c.fill_all-due.result e.held mid (a.sound ok) count (subst NoneHeld outs none) f (a.back c.if-not-granted.true) k (subst (λ (os : List OutPort). k < length os) outs lt) (subst (λ (os : List OutPort). (out_at os k).done ≡ false) outs busy)) [
               | inl n ↦ inl (a.source ∙ n)
               | inr full ↦ inr (subst (λ (z : ℕ). 2 ^ 64 - 1 ≤ z) (sym (a.place c.if-not-granted.true)) full)
             ];
@@ -87,17 +98,20 @@ returns-clause-stepped g c wires =
     let e = c.fill_all-due.ensures in
     let a = c.allow-granted.ensures in
     let f2 = c.fill_all-more.ensures in
+    let fine : IsSound m.fault_of filled = c.fault.ensures.sound (none_if_not_some c.fault.result (sym c.is_some.ensures ∙ c.if-is_some.false)) in
     let first = stepped_then m.in_lanes m.out_lanes m.source_of m.device_of m.failures m.fault_of m.stands _ _ (Prepares m.source_of m.fault_of true false before after) before wires filled wires after wires
     (λ w p v q u r x y f s. record {
       moves = λ t. then_moves _ _ w v u p q r x y (s.moves c.if-not-granted.false);
       taken = λ k. s.taken k ∙ f.taken k;
-      none_before = λ ok no. none_before m.source_of m.fault_of m.stands before filled c.fill_all-due.result w v p q e.sound e.count (e.stepped wires).outs_same e.done (e.none c.if-due.false) f (a.sound ok);
+      allows_nothing = λ k d. absurd (none_before m.in_lanes m.source_of m.fault_of m.stands before filled c.fill_all-due.result w v p q e.sound e.count (e.stepped wires).outs_same e.done (e.none c.if-due.false) f fine k d);
+      none_before = λ ok no. none_before m.in_lanes m.source_of m.fault_of m.stands before filled c.fill_all-due.result w v p q e.sound e.count (e.stepped wires).outs_same e.done (e.none c.if-due.false) f (a.sound ok);
       rests = λ no. absurd (true_not_false no);
     }) (e.stepped wires) (a.stepped wires) in
     stepped_then m.in_lanes m.out_lanes m.source_of m.device_of m.failures m.fault_of m.stands _ _ (Prepares m.source_of m.fault_of true c.fill_all-more.result before last) before wires after wires last wires
     (λ w p v q u r x y f s. record {
       moves = λ t. moves_then _ _ w v u p q r x y (f.moves refl);
       taken = λ k. s.taken k ∙ f.taken k;
+      allows_nothing = λ k d. s.allowed ∙ f.allows_nothing k d;
       none_before = λ ok no. f.none_before (f2.sound ok) refl;
       rests = λ no. absurd (true_not_false no);
     }) first (f2.stepped wires)

@@ -8,11 +8,11 @@ use Rattle.ff_net.specs.Worlds.{Wire, Stand, take_on, lanes_of}
 use Rattle.ff_net.specs.Pasts.{fed}
 use Rattle.ff_net.specs.Ports.{in_at}
 use Rattle.ff_net.specs.Steps.{took as has_taken}
-use Rattle.ff_net.proofs.Flows.{stream_at-with_item_same, stream_at-with_item_other}
+use Rattle.ff_net.proofs.Flows.{fed_above, stream_at-with_item_same, stream_at-with_item_other}
 use Rattle.ff_net.proofs.Moments.{with_wire_same, with_item_new}
 use Rattle.ff_net.proofs.PortSteps.{in_wire_there, in_wire_in}
-use Rattle.ff_net.proofs.Changes.{true_not_false, course_take, took, may_machine}
-use Rattle.ff_net.proofs.Sendings.{taken_valid, close_fed, may_fed}
+use Rattle.ff_net.proofs.Changes.{true_not_false, course_take, took, may_stay, may_machine}
+use Rattle.ff_net.proofs.Sendings.{taken_valid}
 use Rattle.ff_net.proofs.node.Node.take.Goals as goal
 
 pub try_take-requires : goal.try_take-requires
@@ -48,18 +48,19 @@ returns-in-Ok-clause-stepped g c =
           let got_open : (stream_at past.got p).mark ≡ still_open = ap (λ (s : Flow). s.mark) got ∙ unclosed in
           let valid = laws.valid node.machine past was.machine in
           let since = fed past p x in
-          let valid' = taken_valid m.source_of m.fault_of m.stands node c.args.wires.now world past p (m.in_lanes node.machine) (m.out_lanes node.machine) stand was valid (laws.keeps node.machine past was.machine) x c.try_take.new.self later c.try_take.ensures.lanes c.requires.shaped.ins there got in
+          let valid' = taken_valid m.in_lanes m.source_of m.fault_of m.stands node c.args.wires.now world past p (m.in_lanes node.machine) (m.out_lanes node.machine) stand was valid (laws.keeps node.machine past was.machine) x c.try_take.new.self later c.try_take.ensures.lanes c.requires.shaped.ins there got in
           let grown : stream_at since.got p ≡ with_item (world old.wire).taken x = stream_at-with_item_same past.got p x ∙ ap (λ (s : Flow). with_item s x) got in record {
             now = take_on world old.wire x;
             since = since;
             stand = later;
-            fits = took m.source_of m.fault_of m.stands node after world past since p x (m.in_lanes node.machine) (lanes_of c.args.wires.now) was (c.in-Ok.ensures.accepted past was.machine got_open valid') c.feed.ensures.fares.stays fresh
-                (may_fed node after past since refl (λ n. close_fed n past p x (m.in_lanes node.machine) (laws.monotone node.machine past was.machine) valid valid' got_open))
+            fits = took m.in_lanes m.source_of m.fault_of m.stands node after world past since p x (m.in_lanes node.machine) (lanes_of c.args.wires.now) was (c.in-Ok.ensures.accepted past was.machine got_open valid') c.feed.ensures.fares.stays fresh
+                (may_stay m.in_lanes node after past since c.feed.ensures.in_lanes refl (λ d. d) refl (fed_above past p x got_open) (λ q i. i))
                 refl c.feed.ensures.source refl refl there c.requires.shaped.ins busy refl refl refl (λ q n. stream_at-with_item_other past.got p q x n) (inl grown) (λ r. grown);
             course = course_take _ _ world old.wire x past since refl refl refl (in_wire_in ins p old.wire there refl) unclosed;
             so = record {
               moves = λ e. has_taken old.wire (λ same. with_item_new (world old.wire).taken x unclosed (sym (ap (λ (u : Wire). u.taken) (with_wire_same world old.wire _ old.wire refl)) ∙ same));
               takes_nothing = λ q w. absurd q;
+              allows_nothing = refl;
             };
           };
     }
@@ -93,13 +94,14 @@ returns-in-Err-clause-stepped g c =
             now = take_on world old.wire x;
             since = past;
             stand = later;
-            fits = took m.source_of m.fault_of m.stands node after world past past p x (m.in_lanes node.machine) (lanes_of c.args.wires.now) was (c.in-Err.ensures.unchanged past was.machine) c.feed.ensures.fares.stays fresh
-                (may_machine node after past past refl refl refl (λ q i. i))
+            fits = took m.in_lanes m.source_of m.fault_of m.stands node after world past past p x (m.in_lanes node.machine) (lanes_of c.args.wires.now) was (c.in-Err.ensures.unchanged past was.machine) c.feed.ensures.fares.stays fresh
+                (may_machine m.in_lanes node after past past c.feed.ensures.in_lanes refl refl refl (λ q i. i))
                 refl c.feed.ensures.source refl refl there c.requires.shaped.ins busy refl refl refl (λ q n. refl) (inr (got_open, (x, ap (λ (s : Flow). with_item s x) got))) (λ r. absurd (true_not_false r));
             course = course_take _ _ world old.wire x past past refl refl refl (in_wire_in ins p old.wire there refl) unclosed;
             so = record {
               moves = λ e. has_taken old.wire (λ same. with_item_new (world old.wire).taken x unclosed (sym (ap (λ (u : Wire). u.taken) (with_wire_same world old.wire _ old.wire refl)) ∙ same));
               takes_nothing = λ q w. absurd q;
+              allows_nothing = refl;
             };
           };
     }

@@ -28,4 +28,4 @@ returns-clause-stepped g c =
     let same = e.same still in
     let waits : Waits m.fault_of last wires'' = subst (λ (w : Wires). Waits m.fault_of last w) (sym same.1) (waits_same m.fault_of mid last wires' same.0 (c.act-acted.ensures.waits acted)) in
     let not_done : IsDone last → ⊥ = λ d. true_not_false (sym (c.is_done.ensures.exact d) ∙ t.1) in
-    idle_of m.in_lanes m.out_lanes m.source_of m.fault_of m.stands m.is_spent laws.given laws.is_source laws.closed_spent laws.all_spent last wires'' world past was (rests acted) (in_ports_count last.ins.items _ (lanes_of wires'') shaped.ins) (out_ports_count last.outs.items _ (lanes_of wires'') shaped.outs) e.faulty not_done waits)
+    idle_of m.in_lanes m.out_lanes m.source_of m.fault_of m.stands laws.given laws.is_source laws.valid laws.monotone laws.settles last wires'' world past was (rests acted) (in_ports_count last.ins.items _ (lanes_of wires'') shaped.ins) (out_ports_count last.outs.items _ (lanes_of wires'') shaped.outs) e.faulty not_done waits)

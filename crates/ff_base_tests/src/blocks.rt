@@ -1,0 +1,222 @@
+// Frames whose samples count up, as blocks.
+ghost use Rattle.std.specs.Prelude.{◌≡◌, ◌≤◌, false, Some, None, All, length, IfOk, OnOk};
+ghost use Rattle.ff_values.specs.Audio.{FitsBits, IsAudio};
+ghost use Rattle.ff_flac_enc.specs.Gathered.{format_of};
+ghost use Rattle.ff_flac_enc.specs.Cuts.{IsLike, has_ended, format_in};
+
+use ff_flac_enc::Blocks;
+use ff_values::{AFrame, Samples};
+use std::alloc::{AllocError, Global};
+use std::test::Fail;
+
+// When the first frame starts.
+const START: i64 = 100;
+
+// Sample number i of the stream.
+fn value(i: u32) -> i32
+    ensures { FitsBits 16 result }
+{
+    (i % 65521) as i32 - 32760
+}
+
+fn values(alloc: Global, from: u32, count: u32) -> Result<Vec<i32>, AllocError>
+    requires from { from ≤ 4000000 }
+    requires count { count ≤ 131070 }
+    ensures len { IfOk result (λ v. length v.items ≡ count) }
+    ensures fit { IfOk result (λ v. All (FitsBits 16) v.items) }
+{
+    let mut samples = Vec::new(alloc);
+    for j in 0..count {
+        samples.push(value(from + j))?;
+    }
+    Ok(samples)
+}
+
+// So many sample frames of one or two channels, from number `from` on.
+fn frame(alloc: Global, pts: i64, channels: u8, from: u32, count: u32) -> Result<AFrame, AllocError>
+    requires some { 1 ≤ channels }
+    requires few { channels ≤ 2 }
+    requires from { from ≤ 2000000 }
+    requires count { 1 ≤ count }
+    requires count_few { count ≤ 65535 }
+    ensures sound { IfOk result (λ f. IsAudio f.bits f.channels f.samples) }
+    ensures format { IfOk result (λ f. format_of f ≡ record { rate = 8000; bits = 16; channels = channels }) }
+{
+    let samples = values(alloc, from * channels as u32, count * channels as u32)?;
+    Ok(AFrame::make(pts, 8000, 16, channels, Samples::new(samples)))
+}
+
+// When a block starts, how many samples it has, and whether they are those of its place.
+type Said = (i64, usize, bool);
+
+fn are_from(samples: &[i32], first: u32) -> bool
+    requires { first ≤ 4000000 }
+{
+    let mut same = true;
+    for i in 0..samples.len().min(100000) {
+        same = same & (samples[i] == value(first + i as u32));
+    }
+    same
+}
+
+fn said(block: &AFrame, channels: u8) -> Said
+    requires { channels ≤ 2 }
+{
+    let samples = block.samples.as_slice();
+    let place = block.pts.clamp(START, START + 2000000) - START;
+    (
+        block.pts,
+        samples.len(),
+        are_from(samples, place as u32 * channels as u32),
+    )
+}
+
+// The blocks there are.
+fn drain(blocks: &mut Blocks, channels: u8, out: &mut Vec<Said>) -> Result<(), Fail>
+    requires { channels ≤ 2 }
+    ensures ended { has_ended blocks.new ≡ has_ended blocks.old }
+    ensures format { format_in blocks.new ≡ format_in blocks.old }
+{
+    'turns: for _ in 0..40 {
+        match blocks.pull()? {
+            Some(block) => out.push(said(&block, channels))?,
+            None => return Ok(()),
+        }
+    }
+    Err("too many".into())
+}
+
+fn feed(blocks: &mut Blocks, frame: AFrame) -> Result<(), Fail>
+    requires going { has_ended blocks.old ≡ false }
+    requires sound { IsAudio frame.bits frame.channels frame.samples }
+    requires like { IsLike (format_in blocks.old) frame }
+    ensures going { has_ended blocks.new ≡ false }
+    ensures format { OnOk result (format_in blocks.new ≡ Some (format_of frame)) }
+{
+    if blocks.feed(frame).is_err() {
+        return Err("no memory".into());
+    }
+    Ok(())
+}
+
+// The blocks of frames of these sizes, each of which starts `gap` ticks behind the one before it: taken as they come, or all
+// at the end.
+fn blocks_of(
+    alloc: Global,
+    channels: u8,
+    sizes: &[u32],
+    gap: u32,
+    at_once: bool,
+) -> Result<Vec<Said>, Fail>
+    requires some { 1 ≤ channels }
+    requires few { channels ≤ 2 }
+    requires gap { gap ≤ 1000 }
+{
+    let mut blocks = Blocks::new(alloc);
+    let mut out = Vec::new(alloc);
+    let mut from = 0u32;
+    'frames: for i in 0..sizes.len().min(100) {
+        let size = sizes[i];
+        if size == 0 || size > 65535 || from > 1000000 {
+            return Err("a size".into());
+        }
+        let pts = START + (from + i as u32 * gap) as i64;
+        let frame = frame(alloc, pts, channels, from, size)?;
+        feed(&mut blocks, frame)?;
+        from += size;
+        if at_once {
+            drain(&mut blocks, channels, &mut out)?;
+        }
+    }
+    blocks.end();
+    drain(&mut blocks, channels, &mut out)?;
+    Ok(out)
+}
+
+// So many blocks, the last of so many sample frames.
+fn wanted(alloc: Global, channels: u8, count: u32, last: u32) -> Result<Vec<Said>, Fail>
+    requires channels { channels ≤ 2 }
+    requires count { count ≤ 1000 }
+    requires last { last ≤ 4096 }
+{
+    let mut out = Vec::new(alloc);
+    for k in 0..count {
+        let frames = if k + 1 == count { last } else { 4096 };
+        out.push((
+            START + (4096 * k) as i64,
+            frames as usize * channels as usize,
+            true,
+        ))?;
+    }
+    Ok(out)
+}
+
+#[test]
+fn sizes(rt: HostRuntime) -> Result<(), Fail> {
+    let alloc = rt.alloc();
+    // frames; how many blocks they are, and how long the last one is
+    let rows = [
+        ([].as_slice(), 0, 0),
+        ([1].as_slice(), 1, 1),
+        ([4095].as_slice(), 1, 4095),
+        ([4096].as_slice(), 1, 4096),
+        ([4097].as_slice(), 2, 1),
+        ([65535].as_slice(), 16, 4095),
+        ([1, 4095, 1].as_slice(), 2, 1),
+        ([1024, 1024, 1024, 1024, 1024].as_slice(), 2, 1024),
+        ([4095, 1, 4096, 4097].as_slice(), 4, 1),
+        ([65535, 1, 65535, 4097].as_slice(), 33, 4096),
+        ([4097, 4097, 65535, 4095].as_slice(), 19, 4096),
+    ];
+    for (sizes, count, last) in rows {
+        for channels in [1, 2] {
+            for at_once in [false, true] {
+                let blocks = blocks_of(alloc, channels, sizes, 0, at_once)?;
+                let wanted = wanted(alloc, channels, count, last)?;
+                assert_eq!(rt; blocks.as_slice(), wanted.as_slice(), "{count} blocks");
+            }
+        }
+    }
+    Ok(())
+}
+
+// Each block starts as many ticks behind the first frame as there are sample frames before it.
+#[test]
+fn gaps(rt: HostRuntime) -> Result<(), Fail> {
+    let alloc = rt.alloc();
+    let blocks = blocks_of(alloc, 1, &[4095, 2, 4096], 7, true)?;
+    let wanted = wanted(alloc, 1, 2, 4096)?;
+    assert_eq!(rt; blocks.len(), 3);
+    assert_eq!(rt; &blocks[..2], wanted.as_slice());
+    assert_eq!(rt; blocks[2], (START + 8192, 1, true));
+    Ok(())
+}
+
+fn next(blocks: &mut Blocks) -> Result<Option<Said>, Fail>
+    ensures ended { has_ended blocks.new ≡ has_ended blocks.old }
+    ensures format { format_in blocks.new ≡ format_in blocks.old }
+{
+    match blocks.pull()? {
+        Some(block) => Ok(Some(said(&block, 1))),
+        None => Ok(None),
+    }
+}
+
+#[test]
+fn none(rt: HostRuntime) -> Result<(), Fail> {
+    let alloc = rt.alloc();
+    let mut blocks = Blocks::new(alloc);
+    assert_eq!(rt; next(&mut blocks)?, None);
+    let first = frame(alloc, START, 1, 0, 4095)?;
+    feed(&mut blocks, first)?;
+    assert_eq!(rt; next(&mut blocks)?, None);
+    let second = frame(alloc, START + 4095, 1, 4095, 2)?;
+    feed(&mut blocks, second)?;
+    assert_eq!(rt; next(&mut blocks)?, Some((START, 4096, true)));
+    assert_eq!(rt; next(&mut blocks)?, None);
+    blocks.end();
+    assert_eq!(rt; next(&mut blocks)?, Some((START + 4096, 1, true)));
+    assert_eq!(rt; next(&mut blocks)?, None);
+    assert_eq!(rt; next(&mut blocks)?, None);
+    Ok(())
+}

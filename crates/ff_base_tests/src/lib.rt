@@ -1,0 +1,16 @@
+//! Tests of the crates below the whole command that no row of data can say: threads that meet, hosts whose calls fail in the
+//! middle, the machine's files, and frames of any sizes as blocks.
+#![tactic(auto)]
+
+#[cfg(test)]
+mod at_once;
+#[cfg(test)]
+mod blocks;
+#[cfg(test)]
+mod files;
+#[cfg(test)]
+mod hosts;
+#[cfg(test)]
+mod meeting;
+#[cfg(test)]
+mod times;

@@ -1,0 +1,73 @@
+//! What the library calls answer that the rows of the tables name, and the text of tables: words, escapes, bytes in hex.
+//!
+//! A call takes the words of its row and answers in one line of text, in which an independent reader can write what is wanted.
+#![tactic(auto)]
+
+mod bits;
+mod blocks;
+mod cuts;
+mod cutter;
+mod flac;
+mod framehash;
+mod heads;
+mod lang;
+mod made;
+mod pcm;
+mod pictures;
+mod residuals;
+mod runs;
+mod table;
+mod time;
+mod wav;
+mod words;
+
+use crate::words::Words;
+use std::alloc::Global;
+pub use table::{
+    Stop, bytes_of, escaped, halves, plain, plain_text, plain_words, printable, text_of,
+};
+
+/// The answer of the library call of this name on these words, as text.
+pub fn answer(alloc: Global, name: &str, arguments: &[String]) -> Result<String, Stop> {
+    let words = Words::new(alloc, arguments);
+    match name {
+        "base" => time::base(words),
+        "rescale" => time::rescaled(words),
+        "compare" => time::compared(words),
+        "least_units" => time::least_units(words),
+        "duration" => time::duration(words),
+        "graph" => lang::graph(words),
+        "print" => lang::printed(words),
+        "has_text" => lang::has_text(words),
+        "head" => heads::head(words),
+        "head_fronts" => heads::head_fronts(words),
+        "cut" => cuts::cut(words),
+        "packets" => cuts::packets(words),
+        "cut_pieces" => cuts::cut_pieces(words),
+        "cut_fronts" => cuts::cut_fronts(words),
+        "wav_first" => wav::first(words),
+        "wav_last" => wav::last(words),
+        "y4m_line" => pictures::line(words),
+        "picture" => pictures::picture(words),
+        "pcm_samples" => pcm::samples(words),
+        "pcm_bytes" => pcm::bytes(words),
+        "depth_change" => pcm::depths(words),
+        "bits" => bits::read(words),
+        "written" => bits::written(words),
+        "crc8" => bits::sum_of_8(words),
+        "crc16" => bits::sum_of_16(words),
+        "flac_frame" => flac::frame(words),
+        "flac_frame_fronts" => flac::frame_fronts(words),
+        "flac_sound" => flac::sound(words),
+        "flac_walk" => flac::walk(words),
+        "residual" => residuals::residual(words),
+        "subframe" => residuals::subframe(words),
+        "flac_block" => blocks::encoded(words),
+        "flac_block_made" => blocks::encoded_made(words),
+        "flac_totals" => blocks::totals(words),
+        "framehash_sound" => framehash::sound(alloc, arguments),
+        "framehash_pictures" => framehash::pictures(alloc, arguments),
+        "framehash_line" => framehash::line(alloc, arguments),
+        _ => Err(Stop::Unreadable),
+    }
+}

@@ -1,0 +1,65 @@
+ghost use Rattle.std.specs.Prelude.{IfOk};
+ghost use Rattle.ff_values.specs.Heads.{IsPcmCoded};
+
+use crate::pcm::codec_of;
+use crate::table::Stop;
+use crate::words::Words;
+use ff_pcm::depth_of;
+use ff_time::Rational;
+use ff_values::StreamHead;
+use ff_wav::WavPut;
+
+// The head of `CODEC CHANNELS`, at 44,100 sample frames a second.
+fn head_of(words: Words) -> Result<StreamHead, Stop>
+    ensures { IfOk result IsPcmCoded }
+{
+    let codec = codec_of(words.text(0)?)?;
+    let channels = words.number(1)?;
+    let Ok(tb) = Rational::new(1, 44100) else {
+        return Err(Stop::Unreadable);
+    };
+    if channels > 8 {
+        return Err(Stop::Unreadable);
+    }
+    Ok(StreamHead::Audio {
+        tb,
+        rate: 44100,
+        bits: depth_of(codec),
+        channels: channels as u8,
+        codec,
+    })
+}
+
+/// `wav_first CODEC CHANNELS`: the header of a WAV whose sizes aren't known yet.
+pub fn first(words: Words) -> Result<String, Stop> {
+    let head = head_of(words)?;
+    let bytes = WavPut::new(words.alloc, &head).first()?;
+    Ok(hex::encode(words.alloc, bytes.as_slice())?)
+}
+
+// Counts the sizes that the words from this place on say, and adds for each whether it was taken.
+fn count(words: Words, put: &mut WavPut, text: &mut String) -> Result<(), Stop> {
+    for at in 2..words.len() {
+        let told = match put.add(words.number(at)?) {
+            Ok(()) => "taken ",
+            Err(_) => "refused ",
+        };
+        text.push_str(told)?;
+    }
+    Ok(())
+}
+
+/// `wav_last CODEC CHANNELS SIZE..`: for each size whether so many bytes of the body are taken; the header then; and `pad`
+/// where a byte follows the body.
+pub fn last(words: Words) -> Result<String, Stop> {
+    let head = head_of(words)?;
+    let mut put = WavPut::new(words.alloc, &head);
+    let mut text = String::new(words.alloc);
+    count(words, &mut put, &mut text)?;
+    let bytes = put.last()?;
+    text.push_str(hex::encode(words.alloc, bytes.as_slice())?.as_str())?;
+    if put.pad() {
+        text.push_str(" pad")?;
+    }
+    Ok(text)
+}

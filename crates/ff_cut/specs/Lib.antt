@@ -1,0 +1,4 @@
+pub mod Cutters
+pub mod Heads
+pub mod Kept
+pub mod Walks

@@ -1,0 +1,12 @@
+use crate::fault::HeadFault;
+
+/// What a unit does to the reading of a head: a chunk, a block of metadata, a box.
+#[derive(Clone, Copy)]
+pub enum Step<H, S> {
+    /// More bytes are wanted.
+    Wait,
+    /// The head, or the fault for which there is none.
+    Decide(Result<H, HeadFault>),
+    /// The unit is passed over, so many bytes behind its first, and this is known from there on.
+    Skip(u64, S),
+}

@@ -1,0 +1,171 @@
+// The machine's files as a host.
+ghost use Rattle.std.specs.Prelude.{◌≡◌, ◌+◌, ◌<◌, ◌≤◌, ℕ, List, Some, None, IsTrue, string_bytes};
+ghost use Rattle.ff_host.specs.Tally.{marks_at};
+
+use crate::file_id::{FileId, id_of, is_among, let_go, note};
+use crate::file_sink::FileSink;
+use crate::file_source::FileSource;
+use ff_host::{Failed, Host, HostError, Marks, Table, make_room, marks_of, set_marks};
+use std::alloc::{AllocError, Global};
+use std::collections::BTreeMap;
+use std::fs;
+use std::fs::OpenFile;
+use std::io::{BufReader, BufWriter};
+use std::rt::Files;
+
+/// How many bytes are read or written at a time.
+const BUFFER: usize = 65_536;
+
+/// The machine's files. It tells no content, and counts each failure under the file's name.
+///
+/// While a plain file is read, no sink is created on it, and while one is written, nothing else is opened or created on
+/// it, whatever the name: such a call answers Failed, and the file is left as it is.
+#[derive(Drop)]
+pub struct FileHost<R> {
+    files: R,
+    alloc: Global,
+    table: Table,
+    sources: u64,
+    sinks: u64,
+    /// The plain files that are read, and those that are written.
+    read: Vec<FileId>,
+    written: Vec<FileId>,
+}
+
+impl<R: Files + Drop> FileHost<R> {
+    pub fn new(alloc: Global, files: R) -> Self {
+        FileHost {
+            files,
+            alloc,
+            table: BTreeMap::new(alloc),
+            sources: 0,
+            sinks: 0,
+            read: Vec::new(alloc),
+            written: Vec::new(alloc),
+        }
+    }
+}
+
+impl<R: Files> FileHost<R> {
+    // Opens a file that nothing writes.
+    fn open_other(&self, name: &str) -> Option<(R::File, Option<FileId>)> {
+        let file = fs::open(&self.files, name).ok()?;
+        let id = id_of(&file.metadata().ok()?);
+        if is_among(id, self.written.as_slice()) {
+            return None;
+        }
+        Some((file, id))
+    }
+
+    // Makes a file empty that nothing reads or writes.
+    fn create_other(&self, name: &str) -> Option<(R::File, Option<FileId>)> {
+        if let Ok(there) = fs::metadata(&self.files, name) {
+            let id = id_of(&there);
+            if is_among(id, self.read.as_slice()) || is_among(id, self.written.as_slice()) {
+                return None;
+            }
+        }
+        let file = fs::create(&self.files, name).ok()?;
+        let id = id_of(&file.metadata().ok()?);
+        Some((file, id))
+    }
+}
+
+// Finds out whether there is memory for a buffer, so that no file is made empty where there is none.
+fn look_for_room(alloc: Global) -> Result<(), AllocError> {
+    let _room: Vec<u8> = Vec::with_capacity(alloc, BUFFER)?;
+    Ok(())
+}
+
+impl<R: Files + Drop> Host for FileHost<R>
+where
+    R::File: Send,
+{
+    type Src = FileSource<R::File>;
+
+    type Snk = FileSink<R::File>;
+
+    ghost files = { λ h. None };
+
+    ghost in_faults = { λ h name. (marks_at h.table name).in_faults };
+
+    ghost out_faults = { λ h name. (marks_at h.table name).out_faults };
+
+    ghost opened = { λ h name. IsTrue (marks_at h.table name).opened };
+
+    ghost created = { λ h name. IsTrue (marks_at h.table name).created };
+
+    ghost open_sources = { λ h. h.sources };
+
+    ghost open_sinks = { λ h. h.sinks };
+
+    fn open_source(&mut self, name: &str) -> Result<FileSource<R::File>, HostError> {
+        let Some(sources) = self.sources.checked_add(1) else {
+            return Err(HostError::NoMemory);
+        };
+        make_room(&mut self.table, self.alloc, name)?;
+        let own_name = String::from_str(self.alloc, name)?;
+        self.read.reserve(1)?;
+        let was = marks_of(&self.table, name);
+        let Some((file, id)) = self.open_other(name) else {
+            let in_faults = was.in_faults.saturating_add(1);
+            set_marks(&mut self.table, name, Marks { in_faults, ..was });
+            return Err(HostError::Failed);
+        };
+        let Ok(file) = BufReader::with_capacity(self.alloc, BUFFER, file) else {
+            return Err(HostError::NoMemory);
+        };
+        note(&mut self.read, id)?;
+        let opened = true;
+        set_marks(&mut self.table, name, Marks { opened, ..was });
+        self.sources = sources;
+        Ok(FileSource::new(file, own_name, id))
+    }
+
+    fn create_sink(&mut self, name: &str) -> Result<FileSink<R::File>, HostError> {
+        let Some(sinks) = self.sinks.checked_add(1) else {
+            return Err(HostError::NoMemory);
+        };
+        make_room(&mut self.table, self.alloc, name)?;
+        let own_name = String::from_str(self.alloc, name)?;
+        self.written.reserve(1)?;
+        look_for_room(self.alloc)?;
+        let was = marks_of(&self.table, name);
+        let Some((file, id)) = self.create_other(name) else {
+            let out_faults = was.out_faults.saturating_add(1);
+            set_marks(&mut self.table, name, Marks { out_faults, ..was });
+            return Err(HostError::Failed);
+        };
+        let Ok(file) = BufWriter::with_capacity(self.alloc, BUFFER, file) else {
+            return Err(HostError::NoMemory);
+        };
+        note(&mut self.written, id)?;
+        let created = true;
+        set_marks(&mut self.table, name, Marks { created, ..was });
+        self.sinks = sinks;
+        Ok(FileSink::new(file, own_name, id))
+    }
+
+    fn close_source(&mut self, name: &str, src: FileSource<R::File>) {
+        let was = marks_of(&self.table, name);
+        let in_faults = was.in_faults.saturating_add(src.faults());
+        set_marks(&mut self.table, name, Marks { in_faults, ..was });
+        self.sources = self.sources.saturating_sub(1);
+        let_go(&mut self.read, src.id());
+    }
+
+    fn close_sink(&mut self, name: &str, snk: FileSink<R::File>) -> Result<(), Failed> {
+        let mut snk = snk;
+        self.sinks = self.sinks.saturating_sub(1);
+        let_go(&mut self.written, snk.id());
+        let was = marks_of(&self.table, name);
+        let out_faults = was.out_faults.saturating_add(snk.faults());
+        if snk.finish() {
+            set_marks(&mut self.table, name, Marks { out_faults, ..was });
+            return Ok(());
+        }
+        let out_faults = out_faults.saturating_add(1);
+        set_marks(&mut self.table, name, Marks { out_faults, ..was });
+        Err(Failed)
+    }
+}

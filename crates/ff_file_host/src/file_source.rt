@@ -1,0 +1,80 @@
+// A file that is read.
+ghost use Rattle.std.specs.Prelude.{◌≡◌, ◌+◌, ◌<◌, ◌≤◌, ℕ, List, None, Some, IfSome, length, string_bytes};
+
+use crate::file_id::FileId;
+use ff_host::{Failed, Source};
+use std::io::{BufReader, ErrorKind, Read};
+
+/// A file that is read through a buffer. It tells no content, and counts each failure.
+#[derive(Drop)]
+pub struct FileSource<F: Read + Drop> {
+    file: BufReader<F>,
+    name: String,
+    /// Which plain file it is, if it is one.
+    id: Option<FileId>,
+    faults: u64,
+    failed: bool,
+}
+
+impl<F: Read + Drop> FileSource<F> {
+    /// A source over an open file, under the name on which it was opened.
+    pub fn new(file: BufReader<F>, name: String, id: Option<FileId>) -> Self
+        ensures name { string_bytes result.name ≡ string_bytes name }
+        ensures faults { result.faults ≡ 0 }
+    {
+        FileSource {
+            file,
+            name,
+            id,
+            faults: 0,
+            failed: false,
+        }
+    }
+
+    /// Which plain file it is, if it is one.
+    pub fn id(&self) -> Option<FileId> {
+        self.id
+    }
+
+    /// How often reading failed.
+    pub fn faults(&self) -> u64
+        ensures { result ≡ self.now.faults }
+    {
+        self.faults
+    }
+}
+
+// Reads once, and again where a signal came in between.
+fn read_some<F: Read>(file: &mut BufReader<F>, buf: &mut [u8]) -> Option<usize>
+    ensures { IfSome result (λ count. count ≤ length buf.new) }
+{
+    for _ in 0..u64::MAX {
+        match file.read(buf) {
+            Ok(count) => return Some(count),
+            Err(e) if e.kind() == ErrorKind::Interrupted => {}
+            Err(_) => return None,
+        }
+    }
+    None
+}
+
+impl<F: Read + Drop> Source for FileSource<F> {
+    ghost left = { λ s. None };
+
+    ghost faults = { λ s. s.faults };
+
+    ghost failed = { λ s. s.failed };
+
+    ghost name = { λ s. Some (string_bytes s.name) };
+
+    fn read(&mut self, buf: &mut [u8]) -> Result<usize, Failed> {
+        if !self.failed
+            && let Some(count) = read_some(&mut self.file, buf)
+        {
+            return Ok(count);
+        }
+        self.failed = true;
+        self.faults = self.faults.saturating_add(1);
+        Err(Failed)
+    }
+}

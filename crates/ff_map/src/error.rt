@@ -1,0 +1,21 @@
+ghost use Rattle.std.specs.Prelude.{◌≡◌};
+ghost use Rattle.ff_map.specs.declared.error.MapError.TheVariants.{NoMemory};
+
+use std::alloc::AllocError;
+
+/// Why a text is not read.
+#[derive(Clone, Copy, Debug, PartialEq, Eq)]
+pub enum MapError {
+    /// The text is no map; `at` is the first place, in bytes, at which none goes on.
+    Bad { at: usize },
+    /// There was no memory for the label.
+    NoMemory,
+}
+
+impl From<AllocError> for MapError {
+    ghost from_gives = { λ _ e. e ≡ NoMemory };
+
+    fn from(_: AllocError) -> Self {
+        MapError::NoMemory
+    }
+}

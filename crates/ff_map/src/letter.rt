@@ -1,0 +1,33 @@
+ghost use Rattle.std.specs.Prelude.{◌≡◌};
+ghost use Rattle.ff_map.specs.Reading.{letter_of, IsDecimal};
+
+/// What a byte is in a map.
+#[derive(Clone, Copy)]
+pub(super) enum Letter {
+    /// A digit's value.
+    Digit(u8),
+    Colon,
+    /// The mark of a map that may name nothing.
+    Question,
+    A,
+    V,
+    /// The bracket before a label.
+    Bracket,
+    /// No byte of a map outside of labels.
+    Other,
+}
+
+pub(super) fn classify(byte: u8) -> Letter
+    ensures letter { result ≡ letter_of byte }
+    ensures digit { IsDecimal result }
+{
+    match byte {
+        b'0'..=b'9' => Letter::Digit(byte - b'0'),
+        b':' => Letter::Colon,
+        b'?' => Letter::Question,
+        b'a' => Letter::A,
+        b'v' => Letter::V,
+        b'[' => Letter::Bracket,
+        _ => Letter::Other,
+    }
+}

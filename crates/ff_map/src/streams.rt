@@ -1,0 +1,38 @@
+ghost use Rattle.std.specs.Prelude.{◌≡◌};
+ghost use Rattle.ff_map.specs.Choice.{has_kind as is_of_kind, size as size_of};
+
+use crate::map::Kind;
+use ff_values::StreamHead;
+
+/// A stream by its input and its number there.
+#[derive(Clone, Copy, Debug, PartialEq, Eq)]
+pub struct StreamRef {
+    pub input: u32,
+    pub stream: u32,
+}
+
+/// A stream: where it is, and its head.
+#[derive(Clone, Copy)]
+pub(crate) struct Stream {
+    pub(crate) at: StreamRef,
+    pub(crate) head: StreamHead,
+}
+
+pub(crate) fn has_kind(kind: Kind, head: StreamHead) -> bool
+    ensures { result ≡ is_of_kind kind head }
+{
+    match (kind, head) {
+        (Kind::Audio, StreamHead::Audio { .. }) | (Kind::Video, StreamHead::Video { .. }) => true,
+        _ => false,
+    }
+}
+
+// How large a stream is: the samples of a picture, the channels of sound.
+pub(crate) fn size(head: StreamHead) -> u64
+    ensures { result ≡ size_of head }
+{
+    match head {
+        StreamHead::Audio { channels, .. } => u64::from(channels),
+        StreamHead::Video { width, height, .. } => u64::from(width) * u64::from(height),
+    }
+}

@@ -1,0 +1,10 @@
+use Rattle.std.proofs.Common.{◌∙◌, ap}
+use Rattle.ff_host.specs.declared.tally.Marks.{Marks}
+use Rattle.ff_host.proofs.Noted.{kept_count}
+use Rattle.ff_memory_host.proofs.mem_host.MemHostHost.open_source.Goals as goal
+
+pub returns-clause-out : goal.returns-clause-out
+returns-clause-out c = λ other.
+    let room = c.in_ok-make_room.ensures.same in
+    kept_count (λ m. m.out_faults) c.make_room.new.table c.set_marks-2.new.table c.args.name.now _ c.set_marks-2.ensures (ap (λ (m : Marks). m.out_faults) c.marks_of-was.ensures) other
+    ∙ ap (λ (m : Marks). m.out_faults) (room other)

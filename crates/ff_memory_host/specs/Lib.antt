@@ -1,0 +1,9 @@
+pub mod Contents
+pub mod Given
+pub mod MeetEnds
+pub mod MeetHost
+pub mod MemEnds
+pub mod MemHost
+pub mod Plan
+pub mod QuietEnds
+pub mod QuietHost

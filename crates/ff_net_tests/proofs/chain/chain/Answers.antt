@@ -1,0 +1,10 @@
+use Rattle.std.proofs.Common.{List, subst, sym}
+use Rattle.ff_net_links.specs.declared.linked.Linked.{Linked}
+use Rattle.ff_net_plain.specs.declared.plain.Plain.{Plain}
+use Rattle.ff_net_plain.specs.Packets.{byte_lane}
+use Rattle.ff_net_tests.specs.Chains.{IsChain, chain_tasks}
+use Rattle.ff_net_tests.proofs.Chains.{chain_is}
+use Rattle.ff_net_tests.proofs.chain.chain.Goals as goal
+
+pub returns : goal.returns
+returns c = subst (λ (ls : List (Linked Plain)). IsChain (chain_tasks c.args.count c.args.limit) (byte_lane c.args.tb) ls) (sym c.in_ok-vec.ensures.items) (chain_is c.args.count c.args.limit (byte_lane c.args.tb) c.in_ok-source.source c.in_ok-relay.relay c.in_ok-sink.sink c.in_ok-first.first c.in_ok-third.third c.in_ok-first.second c.in_ok-third.fourth c.in_ok-source.ensures c.in_ok-relay.ensures c.in_ok-sink.ensures c.in_ok-first.ensures.one_link c.in_ok-third.ensures.one_link)

@@ -1,0 +1,41 @@
+// A source, a relay and a sink, in a chain.
+ghost use Rattle.std.specs.Prelude.{◌≡◌, ◌≤◌, ◌^◌, IfOk};
+ghost use Rattle.ff_net_plain.specs.Packets.{IsWhole, byte_lane};
+ghost use Rattle.ff_net_tests.specs.Chains.{IsNewSender, IsNewReceiver, IsChain, chain_tasks};
+
+use crate::node::{relay_node, sink_node, source_node};
+use ff_link::{Receiver, Sender, link};
+use ff_net_links::Linked;
+use ff_net_plain::{Plain, lane_of};
+use ff_time::Rational;
+use std::alloc::{AllocError, Global};
+
+fn new_link(alloc: Global, size: usize, tb: Rational) -> Result<(Sender, Receiver), AllocError>
+    requires { (1 ≤ size) × (size ≤ 1024) }
+    ensures one_link { IfOk result (λ ends. ends.0.link ≡ ends.1.link) }
+    ensures sender { IfOk result (λ ends. IsNewSender (byte_lane tb) ends.0) }
+    ensures receiver { IfOk result (λ ends. IsNewReceiver (byte_lane tb) ends.1) }
+{
+    link(alloc, size, &lane_of(tb))
+}
+
+// A source of so many packets, a relay that ends after `limit` items, and a sink, over links of this size.
+pub fn chain(
+    alloc: Global,
+    tb: Rational,
+    size: usize,
+    count: u32,
+    limit: usize,
+) -> Result<Vec<Linked<Plain>>, AllocError>
+    requires base { IsWhole tb }
+    requires size { (1 ≤ size) × (size ≤ 1024) }
+    requires few { count ≤ 2 ^ 20 }
+    ensures { IfOk result (λ v. IsChain (chain_tasks count limit) (byte_lane tb) v.items) }
+{
+    let (first, second) = new_link(alloc, size, tb)?;
+    let (third, fourth) = new_link(alloc, size, tb)?;
+    let source = source_node(alloc, tb, count, first)?;
+    let relay = relay_node(alloc, tb, limit, second, third)?;
+    let sink = sink_node(alloc, tb, fourth)?;
+    Ok(vec![in alloc; source, relay, sink]?)
+}

@@ -1,0 +1,298 @@
+ghost use Rattle.std.specs.Prelude.{◌≡◌, ◌<◌, ◌≤◌, ◌+◌, ℕ, length, IfOk, [], ◌∷◌};
+ghost use Rattle.ff_net.specs.Nodes.{machine_of, in_wires_of, out_wires_of};
+ghost use Rattle.ff_net_plain.specs.Networks.{Fits};
+ghost use Rattle.ff_net_plain.specs.Plains.{plain_ins, plain_outs};
+ghost use Rattle.ff_net_plain.specs.Trials.{trial_lane};
+
+use crate::trial::{lane, packet};
+use ff_frame::Item;
+use ff_net::{Fault, Node, Wires, run_serial};
+use ff_net_plain::{Join, Plain, Relay, Source};
+use ff_time::Rational;
+use std::alloc::{AllocError, Global};
+
+/// Where a fault is made: at the source's device, or for want of memory at a node.
+#[derive(Clone, Copy, PartialEq, Eq, Debug)]
+pub enum Place {
+    Nowhere,
+    Device,
+    Source,
+    Repeater,
+    Stopper,
+    Join,
+    Sink,
+}
+
+/// A run of the network: so many packets, of which the stopper lets `limit` through, over wires of this size, with the
+/// nodes' turns in this order, and a fault in a place at an item.
+#[derive(Clone, Copy)]
+pub struct Plan {
+    pub count: usize,
+    pub limit: usize,
+    pub size: usize,
+    /// In each round of five turns turn t is that of node `(first + stride * t) % 5`.
+    pub first: usize,
+    pub stride: usize,
+    pub place: Place,
+    pub at: usize,
+}
+
+/// What came of a run.
+#[derive(Clone, Copy, PartialEq, Eq, Debug)]
+pub struct Outcome {
+    /// The packets that the sink was fed.
+    pub packets: u32,
+    /// Whether they are the source's first ones, in order.
+    pub in_order: bool,
+    pub ended: bool,
+    pub broken: bool,
+    /// Whether all nodes are done.
+    pub done: bool,
+    /// The first node with a fault.
+    pub faulty: Option<usize>,
+    /// Its fault.
+    pub fault: Option<Fault>,
+}
+
+fn room(plan: Plan, place: Place) -> usize {
+    if plan.place == place {
+        plan.at
+    } else {
+        usize::MAX
+    }
+}
+
+fn packets(alloc: Global, count: usize) -> Result<Vec<Item>, AllocError>
+    requires { count < 100 }
+{
+    let mut items = Vec::new(alloc);
+    for number in 0..count {
+        let packet = packet(alloc, number)?;
+        items.push(packet)?;
+    }
+    Ok(items)
+}
+
+fn on_wires(
+    alloc: Global,
+    machine: Plain,
+    ins: Vec<usize>,
+    outs: Vec<usize>,
+) -> Result<Node<Plain>, AllocError>
+    ensures ins { IfOk result (λ node. in_wires_of node ≡ ins.items) }
+    ensures outs { IfOk result (λ node. out_wires_of node ≡ outs.items) }
+    ensures machine { IfOk result (λ node. machine_of node ≡ machine) }
+{
+    match Node::new(alloc, machine, ins, outs) {
+        Ok(node) => Ok(node),
+        Err(_) => Err(AllocError),
+    }
+}
+
+fn source_node(alloc: Global, tb: Rational, plan: Plan) -> Result<Node<Plain>, AllocError>
+    requires { plan.count < 100 }
+    ensures { IfOk result (λ node. Fits (trial_lane tb) [] (0 ∷ []) node) }
+{
+    let items = packets(alloc, plan.count)?;
+    let fails_at = room(plan, Place::Device);
+    let refuses_at = room(plan, Place::Source);
+    let source = Source::new(alloc, lane(tb), 0, items, fails_at, refuses_at);
+    let outs = vec![in alloc; 0usize]?;
+    on_wires(alloc, Plain::Source(source), Vec::new(alloc), outs)
+}
+
+fn repeater_node(alloc: Global, tb: Rational, plan: Plan) -> Result<Node<Plain>, AllocError>
+    ensures { IfOk result (λ node. Fits (trial_lane tb) (0 ∷ []) (1 ∷ 2 ∷ []) node) }
+{
+    let relay = Relay::new(alloc, lane(tb), 2, usize::MAX, room(plan, Place::Repeater))?;
+    let ins = vec![in alloc; 0usize]?;
+    let outs = vec![in alloc; 1usize, 2]?;
+    on_wires(alloc, Plain::Relay(relay), ins, outs)
+}
+
+fn stopper_node(alloc: Global, tb: Rational, plan: Plan) -> Result<Node<Plain>, AllocError>
+    ensures { IfOk result (λ node. Fits (trial_lane tb) (1 ∷ []) (3 ∷ []) node) }
+{
+    let relay = Relay::new(alloc, lane(tb), 1, plan.limit, room(plan, Place::Stopper))?;
+    let ins = vec![in alloc; 1usize]?;
+    let outs = vec![in alloc; 3usize]?;
+    on_wires(alloc, Plain::Relay(relay), ins, outs)
+}
+
+fn join_node(alloc: Global, tb: Rational, plan: Plan) -> Result<Node<Plain>, AllocError>
+    ensures { IfOk result (λ node. Fits (trial_lane tb) (3 ∷ 2 ∷ []) (4 ∷ []) node) }
+{
+    let join = Join::new(alloc, lane(tb), room(plan, Place::Join));
+    let ins = vec![in alloc; 3usize, 2]?;
+    let outs = vec![in alloc; 4usize]?;
+    on_wires(alloc, Plain::Join(join), ins, outs)
+}
+
+fn sink_node(alloc: Global, tb: Rational, plan: Plan) -> Result<Node<Plain>, AllocError>
+    ensures { IfOk result (λ node. Fits (trial_lane tb) (4 ∷ []) [] node) }
+{
+    let relay = Relay::new(alloc, lane(tb), 0, usize::MAX, room(plan, Place::Sink))?;
+    let ins = vec![in alloc; 4usize]?;
+    on_wires(alloc, Plain::Relay(relay), ins, Vec::new(alloc))
+}
+
+/// What the sink holds.
+fn look(outcome: Outcome, given: &[Item]) -> Outcome {
+    let mut outcome = outcome;
+    for item in given {
+        outcome = look_at(outcome, item);
+    }
+    outcome
+}
+
+fn look_at(outcome: Outcome, item: &Item) -> Outcome {
+    match item {
+        Item::Packet(packet) => Outcome {
+            packets: outcome.packets.saturating_add(1),
+            in_order: outcome.in_order & (packet.pts == i64::from(outcome.packets)),
+            ..outcome
+        },
+        Item::Audio(_) | Item::Video(_) | Item::Trailer(_) => Outcome {
+            in_order: false,
+            ..outcome
+        },
+        Item::End => Outcome {
+            ended: true,
+            ..outcome
+        },
+        Item::Broken => Outcome {
+            broken: true,
+            ..outcome
+        },
+    }
+}
+
+/// Which node comes next.
+fn next_node(plan: Plan, turn: usize) -> usize
+    requires first { plan.first < 5 }
+    requires stride { plan.stride < 5 }
+    requires turn { turn < 5 }
+    ensures { result < 5 }
+{
+    (plan.first + plan.stride * turn) % 5
+}
+
+/// The network of a source, a machine that repeats its items on two outputs, one that ends early behind the first of
+/// these, one that joins what that gives with the second, and a sink.
+pub fn try_network(alloc: Global, tb: Rational, plan: Plan) -> Result<Outcome, AllocError>
+    requires few { plan.count < 100 }
+    requires size { 1 ≤ plan.size }
+    requires first { plan.first < 5 }
+    requires stride { plan.stride < 5 }
+{
+    let lanes = vec![in alloc; lane(tb), lane(tb), lane(tb), lane(tb), lane(tb)]?;
+    let mut wires = Wires::new(alloc, lanes, plan.size)?;
+    let source = source_node(alloc, tb, plan)?;
+    let repeater = repeater_node(alloc, tb, plan)?;
+    let stopper = stopper_node(alloc, tb, plan)?;
+    let join = join_node(alloc, tb, plan)?;
+    let sink = sink_node(alloc, tb, plan)?;
+    let mut nodes = [source, repeater, stopper, join, sink];
+    for turn in 0usize..400 {
+        let node = next_node(plan, turn % 5);
+        run_serial(&mut nodes, &mut wires, &[node]);
+    }
+    let outcome = summary(&nodes);
+    Ok(held(outcome, last(nodes).into_machine()))
+}
+
+fn last(nodes: [Node<Plain>; 5]) -> Node<Plain> {
+    let [_, _, _, _, sink] = nodes;
+    sink
+}
+
+/// Which nodes are done, and which has a fault.
+fn summary(nodes: &[Node<Plain>]) -> Outcome {
+    let mut outcome = Outcome {
+        packets: 0,
+        in_order: true,
+        ended: false,
+        broken: false,
+        done: true,
+        faulty: None,
+        fault: None,
+    };
+    for (number, node) in nodes.iter().enumerate() {
+        outcome.done = outcome.done & node.is_done();
+        if outcome.faulty.is_none() && node.fault().is_some() {
+            outcome.faulty = Some(number);
+            outcome.fault = node.fault();
+        }
+    }
+    outcome
+}
+
+fn held(outcome: Outcome, sink: Plain) -> Outcome {
+    match sink {
+        Plain::Relay(relay) => look(outcome, relay.given()),
+        Plain::Source(_) | Plain::Join(_) => outcome,
+    }
+}
+
+mod tests {
+    use super::*;
+
+    #[test]
+    fn networks(rt: HostRuntime) {
+        let Ok(tb) = Rational::new(1, 8000) else {
+            panic!(rt; "a time base");
+        };
+        let memory = Some(Fault::NoMemory);
+        // count, limit, place, at; packets, ended, broken, faulty, fault
+        let rows = [
+            ((5, 100, Place::Nowhere, 0), (5, true, false, None, None)),
+            ((6, 3, Place::Nowhere, 0), (3, true, false, None, None)),
+            ((6, 0, Place::Nowhere, 0), (0, true, false, None, None)),
+            ((0, 100, Place::Nowhere, 0), (0, true, false, None, None)),
+            (
+                (5, 100, Place::Device, 2),
+                (2, false, true, Some(0), Some(Fault::Device)),
+            ),
+            (
+                (5, 100, Place::Source, 2),
+                (2, false, true, Some(0), memory),
+            ),
+            (
+                (5, 100, Place::Repeater, 3),
+                (3, false, true, Some(1), memory),
+            ),
+            (
+                (5, 100, Place::Stopper, 1),
+                (1, false, true, Some(2), memory),
+            ),
+            ((5, 100, Place::Join, 1), (0, false, true, Some(3), memory)),
+            ((5, 100, Place::Sink, 2), (2, false, false, Some(4), memory)),
+        ];
+        for ((count, limit, place, at), (packets, ended, broken, faulty, fault)) in rows {
+            let want = Outcome {
+                packets,
+                in_order: true,
+                ended,
+                broken,
+                done: true,
+                faulty,
+                fault,
+            };
+            for size in [1usize, 2, 8] {
+                for (first, stride) in [(0usize, 1usize), (4, 4), (1, 2), (2, 3)] {
+                    let plan = Plan {
+                        count: usize::min(count, 99),
+                        limit,
+                        size: usize::max(size, 1),
+                        first: first % 5,
+                        stride: stride % 5,
+                        place,
+                        at,
+                    };
+                    let got = try_network(rt.alloc(), tb, plan).expect(&rt, "memory");
+                    assert_eq!(rt; got, want, "count {count}, size {size}, first {first}");
+                }
+            }
+        }
+    }
+}

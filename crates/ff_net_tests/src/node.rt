@@ -1,0 +1,125 @@
+// Nodes over new links. All have two wires, of which wire 0 leads from the source and wire 1 to the sink.
+ghost use Rattle.std.specs.Prelude.{◌≡◌, ◌≤◌, ◌^◌, ◌∷◌, [], IfOk};
+ghost use Rattle.ff_net_plain.specs.Packets.{IsWhole, byte_lane, byte_packets};
+ghost use Rattle.ff_net.specs.Pasts.{Task};
+ghost use Rattle.ff_net_links.specs.Ends.{new_in, new_out};
+ghost use Rattle.ff_net_plain.specs.Starts.{list_task, relay_task};
+ghost use Rattle.ff_net_tests.specs.Chains.{IsNewSender, IsNewReceiver, IsNewMachine, AreNewEnds, IsNewNode, sink_task};
+
+use ff_frame::Item;
+use ff_link::{Receiver, Sender};
+use ff_net::{Node, Wires};
+use ff_net_links::{InEnd, Linked, OutEnd};
+use ff_net_plain::{Plain, Relay, Source, lane_of, packet};
+use ff_time::Rational;
+use std::alloc::{AllocError, Global};
+
+// The ports of a node: its wires, and the ends of its links.
+#[derive(Drop)]
+pub struct Ports {
+    pub in_wires: Vec<usize>,
+    pub out_wires: Vec<usize>,
+    pub ins: Vec<InEnd>,
+    pub outs: Vec<OutEnd>,
+}
+
+fn packets(alloc: Global, count: u32) -> Result<Vec<Item>, AllocError>
+    ensures { IfOk result (λ items. items.items ≡ byte_packets count) }
+{
+    let mut items = Vec::new(alloc);
+    for place in 0..count {
+        items.push(packet(alloc, place)?)?;
+    }
+    Ok(items)
+}
+
+// A machine on wires of its own, at these ports.
+fn on_links(
+    alloc: Global,
+    tb: Rational,
+    machine: Plain,
+    ports: Ports,
+) -> Result<Linked<Plain>, AllocError>
+    requires ends { AreNewEnds (byte_lane tb) ports.in_wires.items ports.out_wires.items ports.ins.items ports.outs.items }
+    ensures { IfOk result (λ l. (task : Task) → IsNewMachine task (byte_lane tb) ports.in_wires.items ports.out_wires.items machine → IsNewNode task (byte_lane tb) ports.in_wires.items ports.out_wires.items ports.ins.items ports.outs.items l) }
+{
+    let Ports {
+        in_wires,
+        out_wires,
+        ins,
+        outs,
+    } = ports;
+    let lanes = vec![in alloc; lane_of(tb), lane_of(tb)]?;
+    let wires = Wires::new(alloc, lanes, 1)?;
+    match Node::new(alloc, machine, in_wires, out_wires) {
+        Ok(node) => Ok(Linked::new(node, wires, ins, outs)),
+        Err(_) => Err(AllocError),
+    }
+}
+
+// A source of so many packets.
+pub fn source_node(
+    alloc: Global,
+    tb: Rational,
+    count: u32,
+    sender: Sender,
+) -> Result<Linked<Plain>, AllocError>
+    requires base { IsWhole tb }
+    requires few { count ≤ 2 ^ 20 }
+    requires sender { IsNewSender (byte_lane tb) sender }
+    ensures { IfOk result (λ l. IsNewNode (list_task (byte_packets count)) (byte_lane tb) [] (0 ∷ []) [] (new_out 0 sender ∷ []) l) }
+{
+    let items = packets(alloc, count)?;
+    let source = Source::new(alloc, lane_of(tb), 0, items, usize::MAX, usize::MAX);
+    let ports = Ports {
+        in_wires: Vec::new(alloc),
+        out_wires: vec![in alloc; 0usize]?,
+        ins: Vec::new(alloc),
+        outs: vec![in alloc; OutEnd::new(0, sender)]?,
+    };
+    let node = on_links(alloc, tb, Plain::Source(source), ports)?;
+    Ok(node)
+}
+
+// A relay that ends after so many items.
+pub fn relay_node(
+    alloc: Global,
+    tb: Rational,
+    limit: usize,
+    receiver: Receiver,
+    sender: Sender,
+) -> Result<Linked<Plain>, AllocError>
+    requires receiver { IsNewReceiver (byte_lane tb) receiver }
+    requires sender { IsNewSender (byte_lane tb) sender }
+    ensures { IfOk result (λ l. IsNewNode (relay_task limit 1) (byte_lane tb) (0 ∷ []) (1 ∷ []) (new_in 0 receiver ∷ []) (new_out 1 sender ∷ []) l) }
+{
+    let relay = Relay::new(alloc, lane_of(tb), 1, limit, usize::MAX)?;
+    let ports = Ports {
+        in_wires: vec![in alloc; 0usize]?,
+        out_wires: vec![in alloc; 1usize]?,
+        ins: vec![in alloc; InEnd::new(0, receiver)]?,
+        outs: vec![in alloc; OutEnd::new(1, sender)]?,
+    };
+    let node = on_links(alloc, tb, Plain::Relay(relay), ports)?;
+    Ok(node)
+}
+
+// A sink that keeps what comes.
+pub fn sink_node(
+    alloc: Global,
+    tb: Rational,
+    receiver: Receiver,
+) -> Result<Linked<Plain>, AllocError>
+    requires { IsNewReceiver (byte_lane tb) receiver }
+    ensures { IfOk result (λ l. IsNewNode sink_task (byte_lane tb) (1 ∷ []) [] (new_in 1 receiver ∷ []) [] l) }
+{
+    let sink = Relay::new(alloc, lane_of(tb), 0, usize::MAX, usize::MAX)?;
+    let ports = Ports {
+        in_wires: vec![in alloc; 1usize]?,
+        out_wires: Vec::new(alloc),
+        ins: vec![in alloc; InEnd::new(1, receiver)]?,
+        outs: Vec::new(alloc),
+    };
+    let node = on_links(alloc, tb, Plain::Relay(sink), ports)?;
+    Ok(node)
+}

@@ -1,0 +1,125 @@
+// A run of the chain in threads.
+ghost use Rattle.std.specs.Prelude.{◌≡◌, ◌≤◌, ◌^◌, true, slice_index_or, IfSome};
+ghost use Rattle.ff_net_plain.specs.Packets.{IsWhole};
+ghost use Rattle.ff_net_tests.specs.Chains.{AllSound, WasFed};
+
+use crate::chain::chain;
+use ff_frame::Item;
+use ff_net_links::{Linked, Room, run_threads, settle_all};
+use ff_net_plain::{Plain, is_packet};
+use ff_time::Rational;
+use std::alloc::{AllocError, Global};
+use std::sync::Wait;
+use std::thread::Threads;
+
+/// What came of a run.
+#[derive(Clone, Copy, PartialEq, Eq, Debug)]
+pub struct Outcome {
+    /// The packets that the source gave.
+    pub sent: usize,
+    /// The packets that the sink was fed.
+    pub taken: u32,
+    /// Whether these are the first ones, in order.
+    pub in_order: bool,
+    /// Whether the end came behind them, and nothing else.
+    pub ended: bool,
+    /// Whether no node has a fault.
+    pub sound: bool,
+}
+
+// What the sink was fed.
+fn look(given: &[Item], sent: usize, sound: bool) -> Outcome {
+    let mut outcome = Outcome {
+        sent,
+        taken: 0,
+        in_order: true,
+        ended: false,
+        sound,
+    };
+    for item in given {
+        outcome = look_at(outcome, item);
+    }
+    outcome
+}
+
+fn look_at(outcome: Outcome, item: &Item) -> Outcome {
+    match item {
+        Item::End => Outcome {
+            ended: !outcome.ended,
+            ..outcome
+        },
+        _ => Outcome {
+            taken: outcome.taken.saturating_add(1),
+            in_order: outcome.in_order && !outcome.ended && is_packet(item, outcome.taken),
+            ..outcome
+        },
+    }
+}
+
+// The machines of a chain, first the sink.
+fn outcome_of(sound: bool, mut machines: Vec<Plain>) -> Option<Outcome> {
+    let Plain::Relay(sink) = machines.pop()? else {
+        return None;
+    };
+    machines.pop()?;
+    let Plain::Source(source) = machines.pop()? else {
+        return None;
+    };
+    Some(look(sink.given(), source.given(), sound))
+}
+
+// Whether no node has a fault.
+fn all_sound(nodes: &Vec<Linked<Plain>>) -> bool
+    ensures { result ≡ true → AllSound nodes.now.items }
+{
+    for node in nodes {
+        if node.fault().is_some() {
+            return false;
+        }
+    }
+    true
+}
+
+// The machines of a chain that ran in threads, and whether no node has a fault. None where memory is refused.
+fn machines_of<R: Threads + Wait + Sync>(
+    rt: &R,
+    alloc: Global,
+    tb: Rational,
+    size: usize,
+    count: u32,
+    limit: usize,
+) -> Option<(bool, Vec<Plain>)>
+    requires base { IsWhole tb }
+    requires size { (1 ≤ size) × (size ≤ 1024) }
+    requires few { count ≤ 2 ^ 20 }
+    ensures fed { IfSome result (λ ran. ran.0 ≡ true → (d : _) → WasFed count limit (slice_index_or ran.1.items 2 d)) }
+{
+    let Ok(nodes) = chain(alloc, tb, size, count, limit) else {
+        return None;
+    };
+    let Ok(room) = Room::new(alloc, nodes.len(), 2) else {
+        return None;
+    };
+    let Ok(done) = run_threads(rt, alloc, nodes) else {
+        return None;
+    };
+    let sound = all_sound(&done);
+    Some((sound, settle_all(done, room)))
+}
+
+/// A chain, run in threads. None where memory is refused.
+pub fn run_chain<R: Threads + Wait + Sync>(
+    rt: &R,
+    alloc: Global,
+    tb: Rational,
+    size: usize,
+    count: u32,
+    limit: usize,
+) -> Option<Outcome>
+    requires base { IsWhole tb }
+    requires size { (1 ≤ size) × (size ≤ 1024) }
+    requires few { count ≤ 2 ^ 20 }
+{
+    let (sound, machines) = machines_of(rt, alloc, tb, size, count, limit)?;
+    outcome_of(sound, machines)
+}

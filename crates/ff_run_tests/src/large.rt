@@ -1,0 +1,53 @@
+use crate::gate_host::GateHost;
+use crate::runs::{HEADER, WORDS, host_of, input, log_of, run};
+use ff_run::Status;
+use std::alloc::{AllocError, Global};
+use std::test::Fail;
+
+/// How many packets of 1,024 bytes a body of 1 MB has.
+const PACKETS: usize = 1024;
+
+/// SHA-256 of 1,024 times the letter a.
+const FULL: &str = "2edc986847e209b4016e141a6dc8716d3207350f416969382d431539bf292e4a";
+
+// An input of 1,048,576 times the letter a.
+fn large_input(alloc: Global) -> Result<Vec<u8>, AllocError> {
+    let body = vec![in alloc; b'a'; PACKETS * 1024]?;
+    input(alloc, &body)
+}
+
+// Its output.
+fn large_output(alloc: Global) -> Result<String, AllocError> {
+    let mut text = String::from_str(alloc, HEADER)?;
+    for packet in 0..PACKETS {
+        let time = packet * 1024;
+        let line = format!(in alloc; "0, {time:>10}, {time:>10},     1024,     1024, {FULL}\n")?;
+        text.push_str(&line)?;
+    }
+    Ok(text)
+}
+
+#[test]
+fn one_megabyte(rt: HostRuntime) -> Result<(), Fail> {
+    let alloc = rt.alloc();
+    let mut host = host_of(alloc, large_input(alloc)?)?;
+    let mut log = log_of(alloc, Vec::new(alloc))?;
+    let report = run(&rt, alloc, &WORDS, &mut host, &mut log)?;
+    let output = large_output(alloc)?;
+    assert_eq!(rt; report.status, Status::Fine);
+    assert_eq!(rt; host.file("out").ok_or("no output")?, output.as_bytes());
+    Ok(())
+}
+
+// The input is read further only once the output has begun: a run that read it whole before would wait in vain and fail.
+#[test]
+fn reading_waits_for_writing(rt: HostRuntime) -> Result<(), Fail> {
+    let alloc = rt.alloc();
+    let mut host = GateHost::new(alloc, large_input(alloc)?, 200_000)?;
+    let mut log = log_of(alloc, Vec::new(alloc))?;
+    let report = run(&rt, alloc, &WORDS, &mut host, &mut log)?;
+    let output = large_output(alloc)?;
+    assert_eq!(rt; report.status, Status::Fine);
+    assert_eq!(rt; host.output(), output.as_bytes());
+    Ok(())
+}

@@ -1,0 +1,22 @@
+//! Tests of the command and its parts that no table of ff_rows can say: answers as values, a log that fails, a large input,
+//! a source that waits for the sink, and each part by itself. The expected bytes come from the formats' rules and from `sha256sum`, never from the program.
+#![tactic(auto)]
+
+#[cfg(test)]
+mod coders;
+#[cfg(test)]
+mod demuxers;
+#[cfg(test)]
+mod gate;
+#[cfg(test)]
+mod gate_host;
+#[cfg(test)]
+mod large;
+#[cfg(test)]
+mod lines;
+#[cfg(test)]
+mod muxers;
+#[cfg(test)]
+mod reports;
+#[cfg(test)]
+mod runs;

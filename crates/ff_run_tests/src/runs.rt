@@ -1,0 +1,61 @@
+// What the tests share: inputs, words, and one run of the command.
+use ff_host::Host;
+use ff_memory_host::{FailAt, MemHost, MemSink};
+use ff_run::{Report, ffmpeg};
+use std::alloc::{AllocError, Global};
+use std::sync::Wait;
+use std::test::Fail;
+use std::thread::Threads;
+
+/// The words of the one command.
+pub const WORDS: [&str; 7] = ["-i", "in.wav", "-c:a", "pcm_u8", "-f", "framehash", "out"];
+
+/// The lines of an output at 8,000 sample frames a second, before those of the packets.
+pub const HEADER: &str =
+    "#format: frame checksums\n#version: 2\n#hash: SHA256\n#tb 0: 1/8000\n#media_type 0: audio\n#codec_id 0: pcm_u8\n#sample_rate 0: 8000\n#channel_layout_name 0: mono\n#stream#, dts,        pts, duration,     size, hash\n";
+
+/// The bytes of an input of 8-bit samples on one channel, at 8,000 sample frames a second: its head, and then a body.
+pub fn input(alloc: Global, body: &[u8]) -> Result<Vec<u8>, AllocError> {
+    let mut bytes = Vec::new(alloc);
+    bytes.extend_from_slice(
+        b"RIFF\x28\0\0\0WAVEfmt \x10\0\0\0\x01\0\x01\0\x40\x1f\0\0\x40\x1f\0\0\x01\0\x08\0data",
+    )?;
+    let size = u32::try_from(body.len()).unwrap_or(u32::MAX);
+    bytes.extend_from_slice(&size.to_le_bytes())?;
+    bytes.extend_from_slice(body)?;
+    Ok(bytes)
+}
+
+/// Words of these texts.
+pub fn words_of(alloc: Global, texts: &[&str]) -> Result<Vec<String>, AllocError> {
+    let mut words = Vec::new(alloc);
+    for text in texts {
+        words.push(String::from_str(alloc, text)?)?;
+    }
+    Ok(words)
+}
+
+/// A host with this `in.wav`, and nothing else.
+pub fn host_of(alloc: Global, bytes: Vec<u8>) -> Result<MemHost, AllocError> {
+    let mut files = Vec::new(alloc);
+    files.push((String::from_str(alloc, "in.wav")?, bytes))?;
+    MemHost::new(alloc, files, Vec::new(alloc))
+}
+
+/// An empty log, whose calls fail as planned under the name `log`.
+pub fn log_of(alloc: Global, fails: Vec<FailAt>) -> Result<MemSink, Fail> {
+    let mut host = MemHost::new(alloc, Vec::new(alloc), fails)?;
+    Ok(host.create_sink("log").map_err(|_| "no log")?)
+}
+
+/// Runs the command of these words over this host.
+pub fn run<R: Threads + Wait + Sync, H: Host>(
+    rt: &R,
+    alloc: Global,
+    texts: &[&str],
+    host: &mut H,
+    log: &mut MemSink,
+) -> Result<Report, Fail> {
+    let words = words_of(alloc, texts)?;
+    Ok(ffmpeg(rt, alloc, &words, host, log))
+}

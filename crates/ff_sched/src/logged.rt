@@ -1,0 +1,9 @@
+use ff_values::Event;
+
+/// An event at its place in the history: an entry of the log of a pass.
+#[derive(Clone, Copy, Debug, PartialEq, Eq)]
+pub struct Logged {
+    /// How many events come before it.
+    pub place: u64,
+    pub event: Event,
+}

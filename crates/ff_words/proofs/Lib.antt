@@ -1,0 +1,5 @@
+pub mod Snoc
+pub mod Steps
+pub mod Tokens
+pub mod Names
+pub mod Unique

@@ -1,0 +1,10 @@
+use Rattle.std.proofs.Common.{Ok, Err}
+use Rattle.ff_words.specs.Words.{texts}
+use Rattle.ff_words.proofs.Unique.{known}
+use Rattle.ff_words.proofs.read.read_words_by.Goals as goal
+
+pub returns-clause-command : goal.returns-clause-command
+returns-clause-command c d h = known c.args.table (texts c.args.words.now) c.one_pass.result (Ok d) c.one_pass.ensures h
+
+pub returns-clause-fault : goal.returns-clause-fault
+returns-clause-fault c f h = known c.args.table (texts c.args.words.now) c.one_pass.result (Err f) c.one_pass.ensures h

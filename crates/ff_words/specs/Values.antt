@@ -1,0 +1,129 @@
+-- What a value reads as, or what is wrong with it.
+use Rattle.std.specs.Prelude.{◌≡◌, ℕ, ◌≤◌, ◌<◌, ◌^◌, ◌⊎◌, Bool, if◌then◌else◌, Option, Some, None, Result, Ok, Err, List, length, codes, map}
+use Rattle.std.specs.Str.{bytes_eq}
+use Rattle.std.specs.Char.{to_ascii_lowercase}
+use Rattle.ff_values.specs.declared.head.Codec.{Codec}
+use Rattle.ff_values.specs.declared.hash.HashKind.TheVariants.{Sha256, Md5}
+use Rattle.ff_lang.specs.declared.graph.Graph.{Graph}
+use Rattle.ff_lang.specs.Grammar.{IsGraph}
+use Rattle.ff_lang.specs.Grammar as graph
+use Rattle.ff_time.specs.Duration.{IsDuration}
+use Rattle.ff_time.specs.Duration as time
+use Rattle.ff_map.specs.declared.map.MapSpec.{MapSpec}
+use Rattle.ff_map.specs.Grammar.{IsNumber, IsMap}
+use Rattle.ff_map.specs.Grammar as map_text
+use Rattle.ff_words.specs.declared.error.WordKind.{WordKind}
+use Rattle.ff_words.specs.declared.error.WordKind.TheVariants.{BadValue, BadTime, BadMap, BadGraph}
+use Rattle.ff_words.specs.declared.table.Named.{Named}
+use Rattle.ff_words.specs.declared.table.Table.{Table}
+use Rattle.ff_words.specs.declared.table.Kind.{Kind}
+use Rattle.ff_words.specs.declared.table.Kind.TheVariants as kind
+use Rattle.ff_words.specs.declared.value.Micros.{Micros}
+use Rattle.ff_words.specs.declared.value.Value.{Value}
+use Rattle.ff_words.specs.declared.value.Value.TheVariants as value
+use Rattle.ff_words.specs.Table.{format_named, audio_codec, video_codec, is_level}
+
+-- a value, or that it is outside its set
+abbrev pub or_bad : Option Value → Result Value WordKind
+or_bad (Some v) = Ok v
+or_bad None = Err BadValue
+
+abbrev pub format_value : Option Named → Option Value
+format_value None = None
+format_value (Some n) = Some (value.Format n.format n.read n.written)
+
+abbrev pub codec_value : (Codec → Value) → Option Codec → Option Value
+codec_value make None = None
+codec_value make (Some c) = Some (make c)
+
+abbrev pub level_value : List ℕ → Option Value
+level_value text = if is_level text then Some value.Nothing else None
+
+-- the same text, in either case of letters
+abbrev pub is_spelled : List ℕ → List ℕ → Bool
+is_spelled text name = bytes_eq (map to_ascii_lowercase text) (map to_ascii_lowercase name)
+
+abbrev pub hash_value : List ℕ → Option Value
+hash_value text =
+    if is_spelled text (codes "SHA256") then Some (value.Hash Sha256) else
+    (if is_spelled text (codes "MD5") then Some (value.Hash Md5) else None)
+
+-- a whole number of 1 to 9 digits in its range
+abbrev pub ReadsWhole : ℕ → ℕ → List ℕ → Result ℕ WordKind → Type 0
+ReadsWhole low high text (Ok n) = IsNumber text n × (low ≤ n) × (n ≤ high)
+ReadsWhole low high text (Err k) = (k ≡ BadValue) × ((n : ℕ) → IsNumber text n → low ≤ n → n ≤ high → ⊥)
+
+-- a time of at most 10^15 microseconds; one above is bad at its end
+abbrev pub ReadsTime : List ℕ → Result Micros WordKind → Type 0
+ReadsTime text (Ok m) = IsDuration text m.us
+ReadsTime text (Err k) =
+    ((at : ℕ) × time.IsBadAt text at × (k ≡ BadTime at))
+    ⊎ ((us : ℕ) × IsDuration text us × (10 ^ 15 < us) × (k ≡ BadTime (length text)))
+
+abbrev pub ReadsGraph : List ℕ → Result Graph WordKind → Type 0
+ReadsGraph text (Ok g) = IsGraph text g
+ReadsGraph text (Err k) = (at : ℕ) × graph.IsBadAt text at × (k ≡ BadGraph at)
+
+abbrev pub ReadsMap : List ℕ → Result MapSpec WordKind → Type 0
+ReadsMap text (Ok m) = IsMap text m
+ReadsMap text (Err k) = (at : ℕ) × map_text.IsBadAt text at × (k ≡ BadMap at)
+
+-- what was read as the value of an option
+abbrev pub made : {X : Type 0} → (X → Value) → Result X WordKind → Result Value WordKind
+made make (Ok x) = Ok (make x)
+made make (Err k) = Err k
+
+abbrev pub Makes : {X : Type 0} → (X → Value) → (Result X WordKind → Type 0) → Result Value WordKind → Type 0
+Makes {X} make Is r = (q : Result X WordKind) × Is q × (r ≡ made make q)
+
+-- what an option reads as that has no value
+abbrev pub switched : Kind → Option Value
+switched kind.Nothing = Some value.Nothing
+switched kind.NoVideo = Some value.NoVideo
+switched kind.NoAudio = Some value.NoAudio
+switched kind.Shortest = Some value.Shortest
+switched _ = None
+
+-- the value of a list that the text names
+abbrev pub value_named : Table → Kind → List ℕ → Option Value
+value_named t kind.Level text = level_value text
+value_named t kind.Format text = format_value (format_named t text)
+value_named t kind.AudioCodec text = codec_value value.AudioCodec (audio_codec t text)
+value_named t kind.VideoCodec text = codec_value value.VideoCodec (video_codec t text)
+value_named t kind.Hash text = hash_value text
+value_named t _ text = None
+
+-- kinds whose values are numbers, times or names of a list
+abbrev pub IsSmall : Kind → Type 0
+IsSmall kind.Level = Unit {0}
+IsSmall kind.Queue = Unit {0}
+IsSmall kind.SelfRun = Unit {0}
+IsSmall kind.Format = Unit {0}
+IsSmall kind.Start = Unit {0}
+IsSmall kind.Length = Unit {0}
+IsSmall kind.AudioCodec = Unit {0}
+IsSmall kind.VideoCodec = Unit {0}
+IsSmall kind.Hash = Unit {0}
+IsSmall _ = ⊥
+
+-- the text, as the value of an option of this kind, reads so
+abbrev pub Reads : Table → Kind → List ℕ → Result Value WordKind → Type 0
+Reads t kind.Nothing text r = ⊥
+Reads t kind.NoVideo text r = ⊥
+Reads t kind.NoAudio text r = ⊥
+Reads t kind.Shortest text r = ⊥
+Reads t kind.Level text r = r ≡ or_bad (value_named t kind.Level text)
+Reads t kind.Complex text r = Makes value.Complex (ReadsGraph text) r
+Reads t kind.Queue text r = Makes value.Queue (ReadsWhole 1 1024 text) r
+Reads t kind.Trace text r = r ≡ Ok (value.Trace text)
+Reads t kind.SelfRun text r = Makes value.SelfRun (ReadsWhole 0 3600 text) r
+Reads t kind.Format text r = r ≡ or_bad (value_named t kind.Format text)
+Reads t kind.Start text r = Makes value.Start (ReadsTime text) r
+Reads t kind.Length text r = Makes value.Length (ReadsTime text) r
+Reads t kind.Input text r = r ≡ Ok (value.Input text)
+Reads t kind.Map text r = Makes value.Map (ReadsMap text) r
+Reads t kind.AudioCodec text r = r ≡ or_bad (value_named t kind.AudioCodec text)
+Reads t kind.VideoCodec text r = r ≡ or_bad (value_named t kind.VideoCodec text)
+Reads t kind.VideoGraph text r = Makes value.VideoGraph (ReadsGraph text) r
+Reads t kind.AudioGraph text r = Makes value.AudioGraph (ReadsGraph text) r
+Reads t kind.Hash text r = r ≡ or_bad (value_named t kind.Hash text)

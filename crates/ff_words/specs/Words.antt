@@ -1,0 +1,472 @@
+-- What the words of a command line mean, over the whole list.
+use Rattle.std.specs.Prelude.{◌≡◌, ℕ, ◌+◌, ◌≤◌, ◌⊎◌, Bool, true, false, ◌&&◌, ◌||◌, not, ◌==◌, nat_le, nat_lt, if◌then◌else◌, Option, Some, None, unwrap_or, Result, Ok, Err, List, ◌∷◌, [], ◌++◌, length, is_some, flat_map, option_to_list, String, string_bytes, map}
+use Rattle.std.specs.Prelude.{◌^◌}
+use Rattle.std.specs.Option.{ForSome}
+use Rattle.std.proofs.Common.{lit≤, ap, subst}
+use Rattle.std.specs.List.{list_any}
+use Rattle.std.specs.Str.{bytes_eq}
+use Rattle.std.specs.declared.alloc.Global.{Global}
+use Rattle.ff_values.specs.declared.head.Codec.{Codec}
+use Rattle.ff_lang.specs.declared.graph.Graph.{Graph}
+use Rattle.ff_map.specs.declared.map.MapSpec.{MapSpec}
+use Rattle.ff_words.specs.declared.error.Fault.{Fault}
+use Rattle.ff_words.specs.declared.error.WordKind.{WordKind}
+use Rattle.ff_words.specs.declared.error.WordKind.TheVariants.{UnknownOption, MissingValue, BadValue, Misplaced, TooMany, NoInput, NoOutput, SameName}
+use Rattle.ff_values.specs.declared.hash.HashKind.{HashKind}
+use Rattle.ff_values.specs.declared.hash.HashKind.TheVariants.{Sha256}
+use Rattle.ff_words.specs.declared.job.FileFormat.{FileFormat}
+use Rattle.ff_words.specs.declared.job.FileFormat.TheVariants.{FrameHash}
+use Rattle.ff_words.specs.declared.job.InputJob.{InputJob}
+use Rattle.ff_words.specs.declared.job.OutputJob.{OutputJob}
+use Rattle.ff_words.specs.declared.job.Job.{Job}
+use Rattle.ff_words.specs.declared.job.Command.{Command}
+use Rattle.ff_words.specs.declared.job.Command.TheVariants.{Run, SelfRun}
+use Rattle.ff_time.specs.declared.cut.TimeCut.{TimeCut}
+use Rattle.ff_words.specs.declared.value.Micros.{Micros}
+use Rattle.ff_words.specs.declared.table.Rule.{Rule}
+use Rattle.ff_words.specs.declared.table.Table.{Table}
+use Rattle.ff_words.specs.declared.table.Kind.{Kind}
+use Rattle.ff_words.specs.declared.table.Kind.TheVariants as kind
+use Rattle.ff_words.specs.declared.table.Concern.{Concern}
+use Rattle.ff_words.specs.declared.table.Concern.TheVariants.{All, Alone, Output, Itself}
+use Rattle.ff_words.specs.declared.value.Value.{Value}
+use Rattle.ff_words.specs.declared.value.Value.TheVariants as value
+use Rattle.ff_words.specs.Table.{option_named, format_ending}
+use Rattle.ff_words.specs.Values.{Reads, switched}
+
+-- the words as texts
+abbrev pub texts : List (String Global) → List (List ℕ)
+texts words = map string_bytes words
+
+abbrev pub fault : ℕ → WordKind → Fault
+fault word kind = record { word = word; kind = kind }
+
+-- ---- (a) the words fall into options with their values, inputs and outputs
+
+-- a word that isn't taken as a value, its place, and the word behind it where that is its value
+pub record Token : Type 0 where
+  pub at : ℕ
+  pub word : List ℕ
+  pub value : Option (List ℕ)
+
+-- it begins with `-`
+abbrev pub is_dashed : List ℕ → Bool
+is_dashed [] = false
+is_dashed (b ∷ bs) = b == 45
+
+abbrev pub takes : Option Rule → Bool
+takes None = false
+takes (Some rule) = not (is_some (switched rule.kind))
+
+-- the word is an option with a value
+abbrev pub takes_value : Table → List ℕ → Bool
+takes_value t word = takes (option_named t word)
+
+abbrev pub tokens : Table → ℕ → List (List ℕ) → List Token
+tokens t n [] = []
+tokens t n (w ∷ []) = (record { at = n; word = w; value = None }) ∷ []
+tokens t n (w ∷ v ∷ ws) =
+    if takes_value t w
+    then (record { at = n; word = w; value = Some v }) ∷ tokens t (n + 2) ws
+    else (record { at = n; word = w; value = None }) ∷ tokens t (n + 1) (v ∷ ws)
+
+-- ---- (b) each file has the options between it and the file before
+
+-- a token that was read: its place, whom it concerns and its value
+pub record Entry : Type 0 where
+  pub at : ℕ
+  pub concern : Concern
+  pub value : Value
+
+abbrev pub is_file : Value → Bool
+is_file (value.Input name) = true
+is_file (value.Output name ending) = true
+is_file _ = false
+
+-- a file and its own options
+pub record Group : Type 0 where
+  pub own : List Entry
+  pub file : Value
+
+-- files with their options, and the options behind the last file
+pub record Groups : Type 0 where
+  pub files : List Group
+  pub behind : List Entry
+
+-- one option more in front
+abbrev pub led : Entry → List Group → List Entry → Groups
+led e [] behind = record { files = []; behind = e ∷ behind }
+led e (g ∷ files) behind = record { files = (record { own = e ∷ g.own; file = g.file }) ∷ files; behind = behind }
+
+abbrev pub groups : List Entry → Groups
+groups [] = record { files = []; behind = [] }
+groups (e ∷ es) =
+    if is_file e.value
+    then record { files = (record { own = []; file = e.value }) ∷ (groups es).files; behind = (groups es).behind }
+    else led e (groups es).files (groups es).behind
+
+-- ---- (c) the fields are those options' values
+
+abbrev pub or_else : {X : Type 0} → Option X → Option X → Option X
+or_else (Some x) other = Some x
+or_else None other = other
+
+-- what the last of them gives that gives something
+abbrev pub last : {X : Type 0} → (Value → Option X) → List Entry → Option X
+last f [] = None
+last f (e ∷ es) = or_else (last f es) (f e.value)
+
+-- what all of them give, in their order
+abbrev pub each : {X : Type 0} → (Value → Option X) → List Entry → List X
+each f es = flat_map (λ (e : Entry). option_to_list (f e.value)) es
+
+abbrev pub as_format : Value → Option FileFormat
+as_format (value.Format f read written) = Some f
+as_format _ = None
+
+abbrev pub as_start : Value → Option Micros
+as_start (value.Start m) = Some m
+as_start _ = None
+
+abbrev pub as_length : Value → Option Micros
+as_length (value.Length m) = Some m
+as_length _ = None
+
+abbrev pub as_map : Value → Option MapSpec
+as_map (value.Map m) = Some m
+as_map _ = None
+
+abbrev pub as_audio : Value → Option Codec
+as_audio (value.AudioCodec c) = Some c
+as_audio _ = None
+
+abbrev pub as_video : Value → Option Codec
+as_video (value.VideoCodec c) = Some c
+as_video _ = None
+
+abbrev pub as_vf : Value → Option Graph
+as_vf (value.VideoGraph g) = Some g
+as_vf _ = None
+
+abbrev pub as_af : Value → Option Graph
+as_af (value.AudioGraph g) = Some g
+as_af _ = None
+
+abbrev pub as_no_audio : Value → Option Bool
+as_no_audio value.NoAudio = Some true
+as_no_audio _ = None
+
+abbrev pub as_no_video : Value → Option Bool
+as_no_video value.NoVideo = Some true
+as_no_video _ = None
+
+abbrev pub as_shortest : Value → Option Bool
+as_shortest value.Shortest = Some true
+as_shortest _ = None
+
+abbrev pub as_hash : Value → Option HashKind
+as_hash (value.Hash h) = Some h
+as_hash _ = None
+
+abbrev pub as_queue : Value → Option ℕ
+as_queue (value.Queue n) = Some n
+as_queue _ = None
+
+abbrev pub as_trace : Value → Option (List ℕ)
+as_trace (value.Trace name) = Some name
+as_trace _ = None
+
+abbrev pub as_graph : Value → Option Graph
+as_graph (value.Complex g) = Some g
+as_graph _ = None
+
+abbrev pub as_self_run : Value → Option ℕ
+as_self_run (value.SelfRun n) = Some n
+as_self_run _ = None
+
+-- the cut from a start on, 0 where none is given, and of a length, where one is
+abbrev pub start_of : Option Micros → ℕ
+start_of None = 0
+start_of (Some m) = m.us
+
+abbrev pub length_of : Option Micros → Option ℕ
+length_of None = None
+length_of (Some m) = Some m.us
+
+pub start_of_bound : (o : Option Micros) → start_of o ≤ 10 ^ 15
+start_of_bound None = lit≤ tt
+start_of_bound (Some m) = m.bound
+
+AtNone : Option ℕ → Type 0
+AtNone None = Unit {0}
+AtNone (Some n) = ⊥
+
+none_some : (n : ℕ) → None ≡ Some n → ⊥
+unfolding AtNone
+none_some n e = subst AtNone e tt
+
+same_some : (m n : ℕ) → Some m ≡ Some n → m ≡ n
+same_some m n e = ap (λ o. unwrap_or o m) e
+
+pub length_of_bound : (o : Option Micros) → ForSome (length_of o) (λ n. n ≤ 10 ^ 15)
+length_of_bound None = λ n e. absurd (none_some n e)
+length_of_bound (Some m) = λ n e. subst (λ k. k ≤ 10 ^ 15) (same_some m.us n e) m.bound
+
+abbrev pub cut_of : Option Micros → Option Micros → TimeCut
+cut_of start length =
+    record { start = start_of start; length = length_of length; start_bound = start_of_bound start; length_bound = length_of_bound length }
+
+abbrev pub input_job : List Entry → List ℕ → InputJob
+input_job own name = record { name = name; format = last as_format own; cut = cut_of (last as_start own) (last as_length own) }
+
+-- the format that is given, else the one that the name's ending tells
+abbrev pub output_format : List Entry → Option FileFormat → Option FileFormat
+output_format own ending = or_else (last as_format own) ending
+
+abbrev pub output_job : List Entry → List ℕ → Option FileFormat → OutputJob
+output_job own name ending =
+    record {
+      name = name;
+      format = unwrap_or (output_format own ending) FrameHash;
+      maps = each as_map own;
+      audio = last as_audio own;
+      video = last as_video own;
+      vf = last as_vf own;
+      af = last as_af own;
+      no_audio = unwrap_or (last as_no_audio own) false;
+      no_video = unwrap_or (last as_no_video own) false;
+      cut = cut_of (last as_start own) (last as_length own);
+      shortest = unwrap_or (last as_shortest own) false;
+      hash = unwrap_or (last as_hash own) Sha256;
+    }
+
+abbrev pub group_input : List Entry → Value → List InputJob
+group_input own (value.Input name) = input_job own name ∷ []
+group_input own _ = []
+
+abbrev pub group_output : List Entry → Value → List OutputJob
+group_output own (value.Output name ending) = output_job own name ending ∷ []
+group_output own _ = []
+
+abbrev pub inputs : List Entry → List InputJob
+inputs es = flat_map (λ (g : Group). group_input g.own g.file) (groups es).files
+
+abbrev pub outputs : List Entry → List OutputJob
+outputs es = flat_map (λ (g : Group). group_output g.own g.file) (groups es).files
+
+abbrev pub job : List Entry → Job
+job es =
+    record {
+      queue = unwrap_or (last as_queue es) 8;
+      trace = last as_trace es;
+      graphs = each as_graph es;
+      inputs = inputs es;
+      outputs = outputs es;
+    }
+
+abbrev pub command_by : Option ℕ → List Entry → Command
+command_by (Some n) es = SelfRun n
+command_by None es = Run (job es)
+
+abbrev pub command : List Entry → Command
+command es = command_by (last as_self_run es) es
+
+-- ---- faults, each by itself
+
+-- a word beyond the 1,024th, or of more than 65,536 bytes
+abbrev pub is_too_much : ℕ → List ℕ → Bool
+is_too_much at word = nat_le 1024 at || nat_lt 65536 (length word)
+
+-- the 17th of those that add up
+abbrev pub is_full : List Entry → Kind → Bool
+is_full es kind.Map = nat_le 16 (length (each as_map (groups es).behind))
+is_full es kind.Complex = nat_le 16 (length (each as_graph es))
+is_full es _ = false
+
+abbrev pub value_fault : List Entry → ℕ → Kind → List ℕ → Option Fault
+value_fault es at k v =
+    if is_full es k then Some (fault at TooMany) else
+    (if is_too_much (at + 1) v then Some (fault (at + 1) TooMany) else None)
+
+abbrev pub given_fault : List Entry → ℕ → Kind → Option (List ℕ) → Option Fault
+given_fault es at k None = Some (fault at MissingValue)
+given_fault es at k (Some v) = value_fault es at k v
+
+abbrev pub option_fault : List Entry → Token → Option Rule → Option Fault
+option_fault es t None = Some (fault t.at UnknownOption)
+option_fault es t (Some rule) = if takes (Some rule) then given_fault es t.at rule.kind t.value else None
+
+-- What is wrong with a token behind those that were read, before its value is looked at: the word is too much, it is no
+-- option, its value is missing, it is one too many, or its value is too much.
+abbrev pub early : Table → List Entry → Token → Option Fault
+early table es t =
+    if is_too_much t.at t.word then Some (fault t.at TooMany) else
+    (if is_dashed t.word then option_fault es t (option_named table t.word) else None)
+
+abbrev pub placed : ℕ → Result Value WordKind → Result Value Fault
+placed at (Ok v) = Ok v
+placed at (Err k) = Err (fault at k)
+
+-- what an option reads as
+abbrev pub IsOption : Table → ℕ → Rule → Option Value → Option (List ℕ) → Concern → Result Value Fault → Type 0
+IsOption table at rule (Some v) given concern r = (concern ≡ rule.concern) × (r ≡ Ok v)
+IsOption table at rule None None concern r = ⊥
+IsOption table at rule None (Some text) concern r =
+    (concern ≡ rule.concern) × (read : Result Value WordKind) × Reads table rule.kind text read × (r ≡ placed (at + 1) read)
+
+abbrev pub IsNamed : Table → Token → Option Rule → Concern → Result Value Fault → Type 0
+IsNamed table t None concern r = ⊥
+IsNamed table t (Some rule) concern r = IsOption table t.at rule (switched rule.kind) t.value concern r
+
+-- The token concerns so, and reads as this value or is this fault. A word without a dash is an output.
+abbrev pub IsToken : Table → Token → Bool → Concern → Result Value Fault → Type 0
+IsToken table t false concern r = (concern ≡ Itself) × (r ≡ Ok (value.Output t.word (format_ending table t.word)))
+IsToken table t true concern r = IsNamed table t (option_named table t.word) concern r
+
+abbrev pub TokenReads : Table → Token → Concern → Result Value Fault → Type 0
+TokenReads table t concern r = IsToken table t (is_dashed t.word) concern r
+
+-- the place of the first option for which the test holds
+abbrev pub first_place : (Concern → Bool) → List Entry → Option ℕ
+first_place test [] = None
+first_place test (e ∷ es) = if test e.concern then Some e.at else first_place test es
+
+abbrev pub not_before_input : Concern → Bool
+not_before_input Alone = true
+not_before_input Output = true
+not_before_input _ = false
+
+abbrev pub not_before_output : Concern → Bool
+not_before_output Alone = true
+not_before_output _ = false
+
+abbrev pub not_at_end : Concern → Bool
+not_at_end All = false
+not_at_end Itself = false
+not_at_end _ = true
+
+abbrev pub misplaced : Option ℕ → Option Fault → Option Fault
+misplaced (Some at) other = Some (fault at Misplaced)
+misplaced None other = other
+
+-- the place of a format's value, where an input can't have it, and where an output can't
+abbrev pub unread_place : ℕ → Value → Option (Option ℕ)
+unread_place at (value.Format f read written) = Some (if read then None else Some (at + 1))
+unread_place at _ = None
+
+abbrev pub unwritten_place : ℕ → Value → Option (Option ℕ)
+unwritten_place at (value.Format f read written) = Some (if written then None else Some (at + 1))
+unwritten_place at _ = None
+
+-- that of the last format
+abbrev pub last_place : (ℕ → Value → Option (Option ℕ)) → List Entry → Option (Option ℕ)
+last_place f [] = None
+last_place f (e ∷ es) = or_else (last_place f es) (f e.at e.value)
+
+abbrev pub unreadable : List Entry → Option ℕ
+unreadable own = unwrap_or (last_place unread_place own) None
+
+abbrev pub unwritable : List Entry → Option ℕ
+unwritable own = unwrap_or (last_place unwritten_place own) None
+
+abbrev pub bad_at : Option ℕ → Option Fault
+bad_at None = None
+bad_at (Some at) = Some (fault at BadValue)
+
+-- an output has a name and a format
+abbrev pub is_output : List ℕ → Option FileFormat → Bool
+is_output name format = not (length name == 0) && is_some format
+
+-- What is wrong at a file behind those that were read: an option that doesn't concern it, one file too many, a format or a name
+-- that it can't have.
+abbrev pub input_fault : List Entry → ℕ → Option Fault
+input_fault es at =
+    misplaced (first_place not_before_input (groups es).behind)
+    (if nat_le 16 (length (inputs es)) then Some (fault (at + 1) TooMany) else bad_at (unreadable (groups es).behind))
+
+abbrev pub output_fault : List Entry → ℕ → List ℕ → Option FileFormat → Option Fault
+output_fault es at name ending =
+    misplaced (first_place not_before_output (groups es).behind)
+    (if nat_le 16 (length (outputs es)) then Some (fault at TooMany) else
+    or_else (bad_at (unwritable (groups es).behind))
+    (if is_output name (output_format (groups es).behind ending) then None else Some (fault at BadValue)))
+
+abbrev pub late : List Entry → ℕ → Value → Option Fault
+late es at (value.Input name) = input_fault es at
+late es at (value.Output name ending) = output_fault es at name ending
+late es at _ = None
+
+-- ---- reading
+
+-- the token, behind those that were read, is read as this entry
+abbrev pub IsEntry : Table → List Entry → Token → Entry → Type 0
+IsEntry table es t e = (early table es t ≡ None) × TokenReads table t e.concern (Ok e.value) × (e.at ≡ t.at) × (late es t.at e.value ≡ None)
+
+-- the token, behind those that were read, is this fault
+abbrev pub IsFaultAt : Table → List Entry → Token → Fault → Type 0
+IsFaultAt table es t f =
+    (early table es t ≡ Some f)
+    ⊎ (((concern : Concern) × (early table es t ≡ None) × TokenReads table t concern (Err f))
+    ⊎ ((concern : Concern) × (v : Value) × (early table es t ≡ None) × TokenReads table t concern (Ok v) × (late es t.at v ≡ Some f)))
+
+-- behind entries the tokens are read as more of them
+abbrev pub AreRead : Table → List Entry → List Token → List Entry → Type 0
+AreRead table es [] all = es ≡ all
+AreRead table es (t ∷ ts) all = (e : Entry) × IsEntry table es t e × AreRead table (es ++ e ∷ []) ts all
+
+abbrev pub written : Job → List (List ℕ)
+written j = map (λ (o : OutputJob). o.name) j.outputs ++ option_to_list j.trace
+
+abbrev pub read_names : Job → List (List ℕ)
+read_names j = map (λ (i : InputJob). i.name) j.inputs
+
+-- a name that stands twice among what is written, or there and among what is read
+abbrev pub repeats : List (List ℕ) → List (List ℕ) → Bool
+repeats [] others = false
+repeats (n ∷ ns) others = list_any (λ m. bytes_eq m n) (ns ++ others) || repeats ns others
+
+abbrev pub same_name : Job → Bool
+same_name j = repeats (written j) (read_names j)
+
+abbrev pub run_fault : ℕ → Job → Option Fault
+run_fault count j =
+    if length j.inputs == 0 then Some (fault count NoInput) else
+    (if length j.outputs == 0 then Some (fault count NoOutput) else
+    (if same_name j then Some (fault count SameName) else None))
+
+abbrev pub end_by : ℕ → Command → Option Fault
+end_by count (SelfRun n) = None
+end_by count (Run j) = run_fault count j
+
+-- `-selfrun` with its value stands alone
+abbrev pub stands_alone : ℕ → List Entry → Bool
+stands_alone count es = (count == 2) && is_some (last as_self_run es)
+
+-- what is wrong at the end of so many words
+abbrev pub end_fault : ℕ → List Entry → Option Fault
+end_fault count es =
+    if stands_alone count es then None else
+    misplaced (first_place not_at_end (groups es).behind) (end_by count (command es))
+
+-- behind those that were read, some tokens are read, and the next is this fault
+abbrev pub Stops : Table → List Entry → List Token → Fault → Type 0
+Stops table es ts f =
+    (front : List Token) × (t : Token) × (behind : List Token) × (all : List Entry)
+    × (ts ≡ front ++ t ∷ behind) × AreRead table es front all × IsFaultAt table all t f
+
+-- the words are this command, or this is their first fault
+abbrev pub IsAnswer : Table → List (List ℕ) → Result Command Fault → Type 0
+IsAnswer table words (Ok c) =
+    (es : List Entry) × AreRead table [] (tokens table 0 words) es × (end_fault (length words) es ≡ None) × (c ≡ command es)
+IsAnswer table words (Err f) =
+    Stops table [] (tokens table 0 words) f
+    ⊎ ((es : List Entry) × AreRead table [] (tokens table 0 words) es × (end_fault (length words) es ≡ Some f))
+
+-- whatever follows the words, their last option has its value among them
+abbrev pub EndsBetween : Table → List (List ℕ) → Type 0
+EndsBetween table front =
+    (behind : List (List ℕ)) → tokens table 0 (front ++ behind) ≡ tokens table 0 front ++ tokens table (length front) behind
+
+-- a fault at one of the words, not at their end
+abbrev pub FaultOfFront : Table → List (List ℕ) → Fault → Type 0
+FaultOfFront table front f = Stops table [] (tokens table 0 front) f

@@ -1,0 +1,63 @@
+use ff_lang::{Graph, Sequence, Text};
+use ff_map::MapSpec;
+use ff_time::TimeCut;
+use ff_values::{Codec, HashKind};
+
+/// A format of files.
+#[derive(Clone, Copy, Debug, PartialEq, Eq)]
+pub enum FileFormat {
+    Wav,
+    Flac,
+    /// YUV4MPEG2.
+    Y4m,
+    /// Digests of packets, for outputs alone.
+    FrameHash,
+}
+
+/// An input with its options.
+#[derive(Debug, Drop)]
+pub struct InputJob {
+    pub name: Text,
+    /// Without one the first bytes of the file tell it.
+    pub format: Option<FileFormat>,
+    pub cut: TimeCut,
+}
+
+/// An output with its options.
+#[derive(Debug, Drop)]
+pub struct OutputJob {
+    pub name: Text,
+    pub format: FileFormat,
+    pub maps: Sequence<MapSpec>,
+    pub audio: Option<Codec>,
+    pub video: Option<Codec>,
+    /// The simple graphs of its video and of its audio streams.
+    pub vf: Option<Graph>,
+    pub af: Option<Graph>,
+    pub no_audio: bool,
+    pub no_video: bool,
+    pub cut: TimeCut,
+    pub shortest: bool,
+    pub hash: HashKind,
+}
+
+/// What a command reads and writes.
+#[derive(Debug, Drop)]
+pub struct Job {
+    /// The size of every queue, 1 to 1,024.
+    pub queue: u32,
+    /// The file that gets the scheduler's history.
+    pub trace: Option<Text>,
+    /// The complex graphs.
+    pub graphs: Sequence<Graph>,
+    pub inputs: Sequence<InputJob>,
+    pub outputs: Sequence<OutputJob>,
+}
+
+/// What words ask for.
+#[derive(Debug, Drop)]
+pub enum Command {
+    Run(Job),
+    /// The job over the generated input of so many seconds, 0 to 3,600.
+    SelfRun(u32),
+}

@@ -1,0 +1,18 @@
+//! Laws of the definition of the words. Each is a function that does nothing: its clauses hold of all values.
+ghost use Rattle.std.specs.Prelude.{◌≡◌, ◌++◌, ℕ, List, Result, Err};
+ghost use Rattle.ff_words.specs.Words.{IsAnswer, EndsBetween, FaultOfFront};
+ghost use Rattle.ff_words.specs.declared.error.Fault.{Fault};
+ghost use Rattle.ff_words.specs.declared.job.Command.{Command};
+ghost use Rattle.ff_words.specs.declared.table.Table.{Table};
+
+/// Words have at most one answer.
+pub fn words_have_one_answer()
+    ensures { (table : Table) (words : List (List ℕ)) (answer other : Result Command Fault) → IsAnswer table words answer
+        → IsAnswer table words other → answer ≡ other }
+{}
+
+/// A fault of a front that ends between options is that of any words which begin so: nothing behind it matters.
+pub fn a_fault_stays()
+    ensures { (table : Table) (front behind : List (List ℕ)) (fault : Fault) → EndsBetween table front
+        → FaultOfFront table front fault → IsAnswer table (front ++ behind) (Err fault) }
+{}

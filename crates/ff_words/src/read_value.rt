@@ -1,0 +1,226 @@
+// What the text of a value reads as.
+ghost use Rattle.std.specs.Prelude.{◌≡◌, ◌-◌, ◌^◌, ◌<◌, ◌≤◌, ℕ, length, IfOk, MatchOption, None};
+ghost use Rattle.ff_time.specs.Duration.{IsDigit};
+ghost use Rattle.ff_map.specs.Grammar.{IsNumber};
+ghost use Rattle.ff_words.specs.Values.{Reads, ReadsGraph, ReadsTime, ReadsMap, ReadsWhole, hash_value, is_spelled, switched, value_named, IsSmall};
+
+use crate::error::WordKind;
+use crate::table::{Kind, Table, audio_codec, format_of, is_level, video_codec};
+use crate::value::{Micros, Value};
+use ff_lang::{Graph, LangError, Text, read_graph};
+use ff_map::{MapError, MapSpec, read_map};
+use ff_time::{TimeError, read_duration};
+use ff_values::HashKind;
+use std::alloc::{AllocError, Global};
+
+// A graph, or where it leaves the language.
+fn graph_of(alloc: Global, text: &str) -> Result<Result<Graph, WordKind>, AllocError>
+    ensures { IfOk result (λ r. ReadsGraph text.now r) }
+{
+    match read_graph(alloc, text) {
+        Ok(graph) => Ok(Ok(graph)),
+        Err(LangError::Bad { at }) => Ok(Err(WordKind::BadGraph { at })),
+        Err(LangError::NoMemory) => Err(AllocError),
+    }
+}
+
+// A map, or where it leaves the grammar.
+fn map_of(alloc: Global, text: &str) -> Result<Result<MapSpec, WordKind>, AllocError>
+    ensures { IfOk result (λ r. ReadsMap text.now r) }
+{
+    match read_map(alloc, text) {
+        Ok(map) => Ok(Ok(map)),
+        Err(MapError::Bad { at }) => Ok(Err(WordKind::BadMap { at })),
+        Err(MapError::NoMemory) => Err(AllocError),
+    }
+}
+
+fn micros(us: u64) -> Micros
+    requires { us ≤ 10 ^ 15 }
+    ensures { result.us ≡ us }
+{
+    Micros { us }
+}
+
+// Microseconds, or where the text is no time.
+fn time_of(text: &str) -> Result<Micros, WordKind>
+    ensures { ReadsTime text.now result }
+{
+    match read_duration(text.as_bytes()) {
+        Ok(us) => Ok(micros(us)),
+        Err(TimeError::BadTime { at }) => Err(WordKind::BadTime { at }),
+        Err(_) => Err(WordKind::BadTime { at: text.len() }),
+    }
+}
+
+fn digit_of(byte: u8) -> Option<u8>
+    ensures { MatchOption result (IsDigit byte → ⊥) (λ digit. IsDigit byte × (digit ≡ byte - 48)) }
+{
+    if byte < b'0' || byte > b'9' {
+        None
+    } else {
+        Some(byte - b'0')
+    }
+}
+
+// The number of some digits, at most nine.
+fn number_in(text: &[u8]) -> Option<u32>
+    requires some { 0 < length text.now }
+    requires short { length text.now ≤ 9 }
+    ensures { MatchOption result ((n : ℕ) → IsNumber text.now n → ⊥) (λ n. IsNumber text.now n) }
+{
+    let mut number = 0u32;
+    for byte in text.iter() {
+        match digit_of(*byte) {
+            Some(digit) => number = number * 10 + u32::from(digit),
+            None => return None,
+        }
+    }
+    Some(number)
+}
+
+// The number of 1 to 9 digits.
+fn number_of(text: &[u8]) -> Option<u32>
+    ensures { MatchOption result ((n : ℕ) → IsNumber text.now n → ⊥) (λ n. IsNumber text.now n) }
+{
+    if text.len() == 0 {
+        return None;
+    }
+    if text.len() > 9 {
+        return None;
+    }
+    number_in(text)
+}
+
+// A whole number in its range.
+fn whole_of(text: &str, low: u32, high: u32) -> Result<u32, WordKind>
+    ensures { ReadsWhole low high text.now result }
+{
+    match number_of(text.as_bytes()) {
+        Some(number) => {
+            if low <= number && number <= high {
+                Ok(number)
+            } else {
+                Err(WordKind::BadValue)
+            }
+        }
+        None => Err(WordKind::BadValue),
+    }
+}
+
+fn is_name(text: &str, name: &str) -> bool
+    ensures { result ≡ is_spelled text.now name.now }
+{
+    text.eq_ignore_ascii_case(name)
+}
+
+fn hash_of(text: &str) -> Option<Value>
+    ensures { result ≡ hash_value text.now }
+{
+    if is_name(text, "SHA256") {
+        Some(Value::Hash(HashKind::Sha256))
+    } else if is_name(text, "MD5") {
+        Some(Value::Hash(HashKind::Md5))
+    } else {
+        None
+    }
+}
+
+/// A copy of a text.
+pub(crate) fn text_of(alloc: Global, text: &str) -> Result<Text, AllocError>
+    ensures { IfOk result (λ copy. copy ≡ text.now) }
+{
+    Ok(Text::of(String::from_str(alloc, text)?))
+}
+
+/// What the text reads as, as the value of an option of this kind, which has one.
+pub(crate) fn read_value(
+    alloc: Global,
+    table: Table,
+    kind: Kind,
+    text: &str,
+) -> Result<Result<Value, WordKind>, AllocError>
+    requires { switched kind ≡ None }
+    ensures { IfOk result (λ r. Reads table kind text.now r) }
+{
+    match kind {
+        Kind::Complex => match graph_of(alloc, text)? {
+            Ok(graph) => Ok(Ok(Value::Complex(graph))),
+            Err(kind) => Ok(Err(kind)),
+        },
+        Kind::VideoGraph => match graph_of(alloc, text)? {
+            Ok(graph) => Ok(Ok(Value::VideoGraph(graph))),
+            Err(kind) => Ok(Err(kind)),
+        },
+        Kind::AudioGraph => match graph_of(alloc, text)? {
+            Ok(graph) => Ok(Ok(Value::AudioGraph(graph))),
+            Err(kind) => Ok(Err(kind)),
+        },
+        Kind::Map => match map_of(alloc, text)? {
+            Ok(map) => Ok(Ok(Value::Map(map))),
+            Err(kind) => Ok(Err(kind)),
+        },
+        Kind::Input => Ok(Ok(Value::Input(text_of(alloc, text)?))),
+        Kind::Trace => Ok(Ok(Value::Trace(text_of(alloc, text)?))),
+        kind => Ok(read_small(table, kind, text)),
+    }
+}
+
+// The same of a value that is no text and no structure.
+fn read_small(table: Table, kind: Kind, text: &str) -> Result<Value, WordKind>
+    requires { IsSmall kind }
+    ensures { Reads table kind text.now result }
+{
+    match kind {
+        Kind::Start => match time_of(text) {
+            Ok(micros) => Ok(Value::Start(micros)),
+            Err(kind) => Err(kind),
+        },
+        Kind::Length => match time_of(text) {
+            Ok(micros) => Ok(Value::Length(micros)),
+            Err(kind) => Err(kind),
+        },
+        Kind::Queue => match whole_of(text, 1, 1024) {
+            Ok(size) => Ok(Value::Queue(size)),
+            Err(kind) => Err(kind),
+        },
+        Kind::SelfRun => match whole_of(text, 0, 3600) {
+            Ok(seconds) => Ok(Value::SelfRun(seconds)),
+            Err(kind) => Err(kind),
+        },
+        kind => named_value(table, kind, text).ok_or(WordKind::BadValue),
+    }
+}
+
+// The value of a list that the text names.
+fn named_value(table: Table, kind: Kind, text: &str) -> Option<Value>
+    ensures { result ≡ value_named table kind text.now }
+{
+    match kind {
+        Kind::Format => match format_of(table, text) {
+            Some(named) => Some(Value::Format {
+                format: named.format,
+                read: named.read,
+                written: named.written,
+            }),
+            None => None,
+        },
+        Kind::AudioCodec => match audio_codec(table, text) {
+            Some(codec) => Some(Value::AudioCodec(codec)),
+            None => None,
+        },
+        Kind::VideoCodec => match video_codec(table, text) {
+            Some(codec) => Some(Value::VideoCodec(codec)),
+            None => None,
+        },
+        Kind::Level => {
+            if is_level(text) {
+                Some(Value::Nothing)
+            } else {
+                None
+            }
+        }
+        Kind::Hash => hash_of(text),
+        _ => None,
+    }
+}

@@ -1,0 +1,607 @@
+// What one pass keeps of the words it has read.
+ghost use Rattle.std.specs.Prelude.{◌≡◌, ◌<◌, ◌≤◌, ◌+◌, OnOk, None, [], List, length};
+ghost use Rattle.ff_words.specs.Reading.{Ended, written_names, word_at, Steps, token_at, width, full, Given, pending_format, with_output, output_wrong as wrong_output, input_wrong as wrong_input, with_input, Taken, pending, reader, noted, valued, optioned, place_unless};
+ghost use Rattle.ff_words.specs.Words.{repeats, texts, is_too_much as never_too_much, is_dashed as dashed, Entry, not_before_input as never_before_input, not_before_output as never_before_output, not_at_end as never_at_end};
+ghost use Rattle.ff_words.specs.Values.{switched};
+ghost use Rattle.std.specs.Prelude.{map, drop, option_to_list, ◌||◌};
+ghost use Rattle.std.specs.List.{list_any};
+ghost use Rattle.std.specs.Str.{bytes_eq};
+ghost use Rattle.ff_words.specs.declared.job.InputJob.{InputJob};
+ghost use Rattle.ff_words.specs.declared.job.OutputJob.{OutputJob};
+
+use crate::cuts::cut;
+use crate::error::{Fault, WordError, WordKind};
+use crate::job::{Command, FileFormat, InputJob, Job, OutputJob};
+use crate::read_value::{read_value, text_of};
+use crate::table::{Concern, Kind, Rule, Table, find_option, format_ending};
+use crate::value::{Micros, Value};
+use ff_lang::{Graph, Sequence, Text};
+use ff_map::MapSpec;
+use ff_values::{Codec, HashKind};
+use std::alloc::{AllocError, Global};
+use std::mem;
+
+// How many inputs, outputs, maps of an output and graphs there may be.
+const MOST: usize = 16;
+
+/// The options that wait for their file.
+#[derive(Drop)]
+pub(crate) struct Pending {
+    // The first that can't stand before an input, before an output, and at the end.
+    before_input: Option<u32>,
+    before_output: Option<u32>,
+    at_end: Option<u32>,
+    format: Option<FileFormat>,
+    // The place of the format's value where no input has it, and where no output has.
+    unreadable: Option<u32>,
+    unwritable: Option<u32>,
+    start: Option<Micros>,
+    length: Option<Micros>,
+    maps: Sequence<MapSpec>,
+    audio: Option<Codec>,
+    video: Option<Codec>,
+    vf: Option<Graph>,
+    af: Option<Graph>,
+    no_audio: bool,
+    no_video: bool,
+    shortest: bool,
+    hash: Option<HashKind>,
+}
+
+/// All that was read.
+#[derive(Drop)]
+pub(crate) struct Reader {
+    queue: u32,
+    trace: Option<Text>,
+    self_run: Option<u32>,
+    graphs: Sequence<Graph>,
+    inputs: Sequence<InputJob>,
+    outputs: Sequence<OutputJob>,
+    pending: Pending,
+}
+
+fn not_before_input(concern: Concern) -> bool
+    ensures { result ≡ never_before_input concern }
+{
+    match concern {
+        Concern::Alone | Concern::Output => true,
+        _ => false,
+    }
+}
+
+fn not_before_output(concern: Concern) -> bool
+    ensures { result ≡ never_before_output concern }
+{
+    match concern {
+        Concern::Alone => true,
+        _ => false,
+    }
+}
+
+fn not_at_end(concern: Concern) -> bool
+    ensures { result ≡ never_at_end concern }
+{
+    match concern {
+        Concern::All | Concern::Itself => false,
+        _ => true,
+    }
+}
+
+// The place of a format's value, unless the format can be had.
+fn unless(done: bool, at: u32) -> Option<u32>
+    requires { at < 1024 }
+    ensures { result ≡ place_unless done at }
+{
+    if done { None } else { Some(at + 1) }
+}
+
+impl Pending {
+    fn new(alloc: Global) -> Pending
+        ensures { result ≡ pending [] }
+    {
+        Pending {
+            before_input: None,
+            before_output: None,
+            at_end: None,
+            format: None,
+            unreadable: None,
+            unwritable: None,
+            start: None,
+            length: None,
+            maps: Sequence::new(alloc),
+            audio: None,
+            video: None,
+            vf: None,
+            af: None,
+            no_audio: false,
+            no_video: false,
+            shortest: false,
+            hash: None,
+        }
+    }
+
+    // An option by its concern.
+    fn note(&mut self, at: u32, concern: Concern)
+        ensures { self.new ≡ noted at concern self.old }
+    {
+        if self.before_input.is_none() && not_before_input(concern) {
+            self.before_input = Some(at);
+        }
+        if self.before_output.is_none() && not_before_output(concern) {
+            self.before_output = Some(at);
+        }
+        if self.at_end.is_none() && not_at_end(concern) {
+            self.at_end = Some(at);
+        }
+    }
+
+    // An option by its value; one that doesn't concern a file changes nothing.
+    fn set(&mut self, at: u32, value: Value) -> Result<(), AllocError>
+        requires { at < 1024 }
+        ensures { OnOk result (self.new ≡ valued at value self.old) }
+    {
+        match value {
+            Value::Format {
+                format,
+                read,
+                written,
+            } => {
+                self.format = Some(format);
+                self.unreadable = unless(read, at);
+                self.unwritable = unless(written, at);
+            }
+            Value::Start(us) => self.start = Some(us),
+            Value::Length(us) => self.length = Some(us),
+            Value::Map(map) => self.maps.push(map)?,
+            Value::AudioCodec(codec) => self.audio = Some(codec),
+            Value::VideoCodec(codec) => self.video = Some(codec),
+            Value::VideoGraph(graph) => self.vf = Some(graph),
+            Value::AudioGraph(graph) => self.af = Some(graph),
+            Value::NoAudio => self.no_audio = true,
+            Value::NoVideo => self.no_video = true,
+            Value::Shortest => self.shortest = true,
+            Value::Hash(hash) => self.hash = Some(hash),
+            _value => {}
+        }
+        Ok(())
+    }
+}
+
+impl Reader {
+    pub(crate) fn new(alloc: Global) -> Reader
+        ensures { result ≡ reader [] }
+    {
+        Reader {
+            queue: 8,
+            trace: None,
+            self_run: None,
+            graphs: Sequence::new(alloc),
+            inputs: Sequence::new(alloc),
+            outputs: Sequence::new(alloc),
+            pending: Pending::new(alloc),
+        }
+    }
+
+    // One more option.
+    fn add(&mut self, at: u32, concern: Concern, value: Value) -> Result<(), AllocError>
+        requires { at < 1024 }
+        ensures { OnOk result (self.new ≡ optioned (record { at = at; concern = concern; value = value }) self.old) }
+    {
+        self.pending.note(at, concern);
+        match value {
+            Value::Queue(size) => self.queue = size,
+            Value::Trace(name) => self.trace = Some(name),
+            Value::SelfRun(seconds) => self.self_run = Some(seconds),
+            Value::Complex(graph) => self.graphs.push(graph)?,
+            value => self.pending.set(at, value)?,
+        }
+        Ok(())
+    }
+
+    // What is wrong with an input here.
+    fn input_wrong(&self, at: u32) -> Option<Fault>
+        requires { at < 1024 }
+        ensures { result ≡ wrong_input at self.now }
+    {
+        if let Some(word) = self.pending.before_input {
+            return Some(Fault {
+                word,
+                kind: WordKind::Misplaced,
+            });
+        }
+        if self.inputs.as_slice().len() >= MOST {
+            return Some(Fault {
+                word: at + 1,
+                kind: WordKind::TooMany,
+            });
+        }
+        match self.pending.unreadable {
+            Some(word) => Some(Fault {
+                word,
+                kind: WordKind::BadValue,
+            }),
+            None => None,
+        }
+    }
+
+    // An input with the options that wait.
+    fn add_input(&mut self, alloc: Global, name: Text) -> Result<(), AllocError>
+        ensures { OnOk result (self.new ≡ with_input name self.old) }
+    {
+        let own = mem::replace(&mut self.pending, Pending::new(alloc));
+        self.inputs.push(InputJob {
+            name,
+            format: own.format,
+            cut: cut(own.start, own.length),
+        })
+    }
+
+    // The format of an output whose name's ending tells this one.
+    fn output_format(&self, ending: Option<FileFormat>) -> Option<FileFormat>
+        ensures { result ≡ pending_format self.now.pending ending }
+    {
+        match self.pending.format {
+            Some(format) => Some(format),
+            None => ending,
+        }
+    }
+
+    // What is wrong with an output here.
+    fn output_wrong(&self, at: u32, name: &str, ending: Option<FileFormat>) -> Option<Fault>
+        ensures { result ≡ wrong_output at name.now ending self.now }
+    {
+        if let Some(word) = self.pending.before_output {
+            return Some(Fault {
+                word,
+                kind: WordKind::Misplaced,
+            });
+        }
+        if self.outputs.as_slice().len() >= MOST {
+            return Some(Fault {
+                word: at,
+                kind: WordKind::TooMany,
+            });
+        }
+        if let Some(word) = self.pending.unwritable {
+            return Some(Fault {
+                word,
+                kind: WordKind::BadValue,
+            });
+        }
+        if name.len() != 0 && self.output_format(ending).is_some() {
+            None
+        } else {
+            Some(Fault {
+                word: at,
+                kind: WordKind::BadValue,
+            })
+        }
+    }
+
+    // An output with the options that wait.
+    fn add_output(
+        &mut self,
+        alloc: Global,
+        name: Text,
+        format: FileFormat,
+    ) -> Result<(), AllocError>
+        ensures { OnOk result (self.new ≡ with_output name format self.old) }
+    {
+        let own = mem::replace(&mut self.pending, Pending::new(alloc));
+        self.outputs.push(OutputJob {
+            name,
+            format,
+            maps: own.maps,
+            audio: own.audio,
+            video: own.video,
+            vf: own.vf,
+            af: own.af,
+            no_audio: own.no_audio,
+            no_video: own.no_video,
+            cut: cut(own.start, own.length),
+            shortest: own.shortest,
+            hash: own.hash.unwrap_or(HashKind::Sha256),
+        })
+    }
+
+    // A value behind what was read.
+    fn take(
+        &mut self,
+        alloc: Global,
+        at: u32,
+        concern: Concern,
+        value: Value,
+    ) -> Result<(), WordError>
+        requires { at < 1024 }
+        ensures { (es : List Entry) → self.old ≡ reader es → Taken es at concern value result self.new }
+    {
+        match value {
+            Value::Input(name) => {
+                match self.input_wrong(at) {
+                    Some(fault) => return Err(fault.error()),
+                    None => {}
+                }
+                self.add_input(alloc, name)?;
+                Ok(())
+            }
+            Value::Output(name, ending) => {
+                match self.output_wrong(at, name.as_str(), ending) {
+                    Some(fault) => return Err(fault.error()),
+                    None => {}
+                }
+                match self.output_format(ending) {
+                    Some(format) => self.add_output(alloc, name, format)?,
+                    None => {}
+                }
+                Ok(())
+            }
+            value => {
+                self.add(at, concern, value)?;
+                Ok(())
+            }
+        }
+    }
+
+    // Whether one more of this kind is the 17th of those that add up.
+    fn is_full(&self, kind: Kind) -> bool
+        ensures { result ≡ full kind self.now }
+    {
+        match kind {
+            Kind::Map => self.pending.maps.as_slice().len() >= MOST,
+            Kind::Complex => self.graphs.as_slice().len() >= MOST,
+            _ => false,
+        }
+    }
+
+    // The value of an option.
+    fn given(
+        &mut self,
+        alloc: Global,
+        table: Table,
+        at: u32,
+        rule: Rule,
+        text: &str,
+    ) -> Result<(), WordError>
+        requires bound { at < 1024 }
+        requires valued { switched rule.kind ≡ None }
+        ensures { (es : List Entry) → self.old ≡ reader es → Given table es at rule text.now result self.new }
+    {
+        if self.is_full(rule.kind) {
+            return Err(WordError::At {
+                word: at,
+                kind: WordKind::TooMany,
+            });
+        }
+        if is_too_much(at as usize + 1, text) {
+            return Err(WordError::At {
+                word: at + 1,
+                kind: WordKind::TooMany,
+            });
+        }
+        match read_value(alloc, table, rule.kind, text)? {
+            Ok(value) => self.take(alloc, at, rule.concern, value),
+            Err(kind) => Err(WordError::At { word: at + 1, kind }),
+        }
+    }
+
+    /// The token at a place, behind what was read.
+    pub(crate) fn token(
+        &mut self,
+        alloc: Global,
+        table: Table,
+        words: &[String],
+        at: usize,
+    ) -> Result<(), WordError>
+        requires there { at < length words.now }
+        requires bound { at ≤ 1025 }
+        ensures step { (es : List Entry) → self.old ≡ reader es → Steps table es (token_at table (texts words.now) at) result self.new }
+        ensures bound { OnOk result (at < 1024) }
+    {
+        let word = word_text(words, at);
+        if is_too_much(at, word) {
+            return Err(WordError::At {
+                word: at as u32,
+                kind: WordKind::TooMany,
+            });
+        }
+        if !is_dashed(word) {
+            let ending = format_ending(table, word);
+            let name = text_of(alloc, word)?;
+            return self.take(
+                alloc,
+                at as u32,
+                Concern::Itself,
+                Value::Output(name, ending),
+            );
+        }
+        match find_option(table, word) {
+            None => Err(WordError::At {
+                word: at as u32,
+                kind: WordKind::UnknownOption,
+            }),
+            Some(rule) => match valueless(rule.kind) {
+                Some(value) => self.take(alloc, at as u32, rule.concern, value),
+                None => {
+                    if at + 1 < words.len() {
+                        let text = word_text(words, at + 1);
+                        self.given(alloc, table, at as u32, rule, text)
+                    } else {
+                        Err(WordError::At {
+                            word: at as u32,
+                            kind: WordKind::MissingValue,
+                        })
+                    }
+                }
+            },
+        }
+    }
+
+    // Whether what is written has a name twice, or that of what is read.
+    fn same_name(&self) -> bool
+        ensures { result ≡ repeats (written_names self.now) (map (λ (i : InputJob). i.name) self.now.inputs) }
+    {
+        let outputs = self.outputs.as_slice();
+        let mut at = 0;
+        'outputs: while at < outputs.len() {
+            let name = outputs[at].name.as_str();
+            if self.is_repeated(at + 1, name) {
+                return true;
+            }
+            at += 1;
+        }
+        self.trace_is_read()
+    }
+
+    fn trace_is_read(&self) -> bool
+        ensures { result ≡ repeats (option_to_list self.now.trace) (map (λ (i : InputJob). i.name) self.now.inputs) }
+    {
+        match &self.trace {
+            Some(name) => is_input_name(self.inputs.as_slice(), name.as_str()),
+            None => false,
+        }
+    }
+
+    // Whether one of the outputs from a place on, the trace or an input has this name.
+    fn is_repeated(&self, from: usize, name: &str) -> bool
+        requires { from ≤ length self.now.outputs }
+        ensures { result ≡ ((list_any (λ m. bytes_eq m name.now) (map (λ (o : OutputJob). o.name) (drop from self.now.outputs))
+            || list_any (λ m. bytes_eq m name.now) (option_to_list self.now.trace))
+            || list_any (λ m. bytes_eq m name.now) (map (λ (i : InputJob). i.name) self.now.inputs)) }
+    {
+        is_output_name(&self.outputs.as_slice()[from..], name)
+            || self.is_trace(name)
+            || is_input_name(self.inputs.as_slice(), name)
+    }
+
+    fn is_trace(&self, name: &str) -> bool
+        ensures { result ≡ list_any (λ m. bytes_eq m name.now) (option_to_list self.now.trace) }
+    {
+        match &self.trace {
+            Some(trace) => trace.as_str() == name,
+            None => false,
+        }
+    }
+
+    /// The command, or what is wrong at the end of so many words.
+    pub(crate) fn end(self, count: usize) -> Result<Command, WordError>
+        requires { count ≤ 1025 }
+        ensures { Ended count self result }
+    {
+        if count == 2 {
+            if let Some(seconds) = self.self_run {
+                return Ok(Command::SelfRun(seconds));
+            }
+        }
+        if let Some(word) = self.pending.at_end {
+            return Err(WordError::At {
+                word,
+                kind: WordKind::Misplaced,
+            });
+        }
+        if let Some(seconds) = self.self_run {
+            return Ok(Command::SelfRun(seconds));
+        }
+        if self.inputs.as_slice().len() == 0 {
+            return Err(WordError::At {
+                word: count as u32,
+                kind: WordKind::NoInput,
+            });
+        }
+        if self.outputs.as_slice().len() == 0 {
+            return Err(WordError::At {
+                word: count as u32,
+                kind: WordKind::NoOutput,
+            });
+        }
+        if self.same_name() {
+            return Err(WordError::At {
+                word: count as u32,
+                kind: WordKind::SameName,
+            });
+        }
+        Ok(Command::Run(Job {
+            queue: self.queue,
+            trace: self.trace,
+            graphs: self.graphs,
+            inputs: self.inputs,
+            outputs: self.outputs,
+        }))
+    }
+}
+
+fn is_output_name(outputs: &[OutputJob], name: &str) -> bool
+    ensures { result ≡ list_any (λ m. bytes_eq m name.now) (map (λ (o : OutputJob). o.name) outputs.now) }
+{
+    for output in outputs.iter() {
+        if output.name.as_str() == name {
+            return true;
+        }
+    }
+    false
+}
+
+fn is_input_name(inputs: &[InputJob], name: &str) -> bool
+    ensures { result ≡ list_any (λ m. bytes_eq m name.now) (map (λ (i : InputJob). i.name) inputs.now) }
+{
+    for input in inputs.iter() {
+        if input.name.as_str() == name {
+            return true;
+        }
+    }
+    false
+}
+
+fn word_text(words: &[String], place: usize) -> &str
+    requires { place < length words.now }
+    ensures { result.now ≡ word_at (texts words.now) place }
+{
+    words[place].as_str()
+}
+
+/// Where reading goes on behind the token at a place.
+pub(crate) fn next_place(table: Table, words: &[String], at: usize) -> usize
+    requires there { at < length words.now }
+    requires bound { at < 1024 }
+    ensures { result ≡ at + width (token_at table (texts words.now) at).value }
+{
+    match find_option(table, words[at].as_str()) {
+        None => at + 1,
+        Some(rule) => match valueless(rule.kind) {
+            Some(_value) => at + 1,
+            None => match words.get(at + 1) {
+                None => at + 1,
+                Some(_text) => at + 2,
+            },
+        },
+    }
+}
+
+// Whether a word is beyond the 1,024th, or has more than 65,536 bytes.
+fn is_too_much(at: usize, word: &str) -> bool
+    ensures { result ≡ never_too_much at word.now }
+{
+    at >= 1024 || word.len() > 65536
+}
+
+// Whether a word begins with `-`.
+fn is_dashed(word: &str) -> bool
+    ensures { result ≡ dashed word.now }
+{
+    match word.as_bytes() {
+        [] => false,
+        [first, ..] => *first == b'-',
+    }
+}
+
+// What an option reads as that has no value.
+fn valueless(kind: Kind) -> Option<Value>
+    ensures { result ≡ switched kind }
+{
+    match kind {
+        Kind::Nothing => Some(Value::Nothing),
+        Kind::NoVideo => Some(Value::NoVideo),
+        Kind::NoAudio => Some(Value::NoAudio),
+        Kind::Shortest => Some(Value::Shortest),
+        _ => None,
+    }
+}
