@@ -103,10 +103,12 @@ impl PacketCut for Y4mCut {
         self.held.push(bytes)
     }
 
-    /// Makes room for so many bytes more, which `feed` then takes without fail, and for the rest of the frame in hand.
+    /// Makes room for so many bytes more, which `feed` then takes without fail. Room for the rest of the frame in hand
+    /// grows with what came, to at most twice that: the head alone may promise frames that never come.
     fn reserve(&mut self, count: usize) -> Result<(), AllocError> {
+        let waits = self.held.len();
         let frame = 1024 + self.head.frame_bytes as usize;
-        let lacking = frame.saturating_sub(self.held.len());
+        let lacking = frame.saturating_sub(waits).min(waits);
         self.held.reserve(count.max(lacking))
     }
 
