@@ -282,8 +282,8 @@ impl Parser {
     }
 
     /// The graph, where the text may end here.
-    pub(super) fn end(mut self, alloc: Global) -> Result<Option<Graph>, AllocError>
-        ensures { IfOk result (λ graph. graph ≡ end_of self) }
+    pub(super) fn end(&mut self, alloc: Global) -> Result<Option<Graph>, AllocError>
+        ensures { IfOk result (λ graph. graph ≡ end_of self.old) }
     {
         match self.place {
             Place::Name | Place::Named | Place::Back => {}
@@ -291,6 +291,7 @@ impl Parser {
             _ => return Ok(None),
         }
         self.end_chain(alloc)?;
-        Ok(Some(self.graph))
+        let chains = mem::replace(&mut self.graph.chains, Sequence::new(alloc));
+        Ok(Some(Graph { chains }))
     }
 }

@@ -1,6 +1,7 @@
 ghost use Rattle.std.specs.Prelude.{◌≡◌, ◌⊎◌, ℕ, IfOk, IsErrOf};
 ghost use Rattle.ff_lang.specs.Grammar.{IsGraph, IsBadAt};
 ghost use Rattle.ff_lang.specs.Printing.{IsSound};
+ghost use Rattle.ff_lang.specs.Reading.{start};
 ghost use Rattle.ff_lang.specs.declared.graph.Graph.{Graph};
 
 use crate::error::LangError;
@@ -20,6 +21,20 @@ pub fn read_graph(alloc: Global, text: &str) -> Result<Graph, LangError>
     ensures sound { IfOk result (λ graph. IsSound graph) }
 {
     let mut parser = Parser::new(alloc);
+    parsed(&mut parser, alloc, text)
+}
+
+// The graph of a whole text, by a parser that has read nothing.
+fn parsed(parser: &mut Parser, alloc: Global, text: &str) -> Result<Graph, LangError>
+    requires { parser.old ≡ start }
+    ensures ok { (graph : Graph) → result ≡ Ok graph → IsGraph text.now graph }
+    ensures read { (graph : Graph) → IsGraph text.now graph
+        → (result ≡ Ok graph) ⊎ IsErrOf result LangError.NoMemory }
+    ensures bad { (at : ℕ) → IsErrOf result (LangError.Bad at) → IsBadAt text.now at }
+    ensures refused { (at : ℕ) → IsBadAt text.now at
+        → IsErrOf result (LangError.Bad at) ⊎ IsErrOf result LangError.NoMemory }
+    ensures sound { IfOk result (λ graph. IsSound graph) }
+{
     let mut at = 0;
     for c in text.chars() {
         if !parser.next(alloc, c)? {

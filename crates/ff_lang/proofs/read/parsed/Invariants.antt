@@ -3,7 +3,7 @@ use Rattle.std.proofs.Math.Utf8.{encodes}
 use Rattle.std.specs.Str.Iter.{chars_rest}
 use Rattle.ff_lang.specs.Reading.{start}
 use Rattle.ff_lang.proofs.Runs.{run}
-use Rattle.ff_lang.proofs.read.read_graph.Given as goal
+use Rattle.ff_lang.proofs.read.parsed.Given as goal
 
 abbrev pub invariant-loop-c : goal.invariant-loop-c
 invariant-loop-c l = record {

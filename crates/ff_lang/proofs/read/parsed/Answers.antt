@@ -5,7 +5,7 @@ use Rattle.ff_lang.specs.Reading.{start, char_next}
 use Rattle.ff_lang.proofs.Runs.{run}
 use Rattle.ff_lang.proofs.Places.{Read-bad, Read-ok, bad_char, bad_end, char_on, encodes_push, whole, goes_true, goes_false}
 use Rattle.ff_lang.proofs.SoundGraphs.{graph_sound}
-use Rattle.ff_lang.proofs.read.read_graph.Goals as goal
+use Rattle.ff_lang.proofs.read.parsed.Goals as goal
 
 pub loop-c-init : goal.loop-c-init
 loop-c-init c = record { split = cc; place = refl; so_far = cc }
