@@ -9,7 +9,7 @@ use Rattle.ff_y4m.specs.Header.{frame_line, frames, planes_of}
 use Rattle.ff_y4m.proofs.UnitLaws.{unit_at, frame_made, packets_frame, broken_frame}
 use Rattle.ff_y4m.proofs.CutLaws.{drop-append}
 
-line_frame : (size : ℕ) (xs : List ℕ) → size ≤ length xs → unit size (frame_line ++ xs) ≡ Frame 5
+pub line_frame : (size : ℕ) (xs : List ℕ) → size ≤ length xs → unit size (frame_line ++ xs) ≡ Frame 5
 line_frame size xs le = unit_at size (frame_line ++ xs) refl ∙ frame_made size (length (frame_line ++ xs)) 5 (lit< tt) (omega (arith, le, length-append frame_line xs))
 
 behind : (size : ℕ) (xs ys : List ℕ) → length xs ≡ size → drop (5 + 1 + size) (frame_line ++ (xs ++ ys)) ≡ ys

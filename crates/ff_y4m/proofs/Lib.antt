@@ -5,5 +5,6 @@ pub mod NumberLaws
 pub mod HeadLaws
 pub mod ReadLaws
 pub mod FrameLaws
+pub mod DecidedLaws
 pub mod TextLaws
 pub mod WrittenLaws

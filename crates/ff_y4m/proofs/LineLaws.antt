@@ -20,7 +20,7 @@ and_false : (x y z : Bool) → (y ≡ false → z ≡ false) → (x && y) ≡ fa
 and_false true y z h e = h e
 and_false false y z h e = refl
 
-and_parts : (x y : Bool) → (x && y) ≡ true → (x ≡ true) × (y ≡ true)
+pub and_parts : (x y : Bool) → (x && y) ≡ true → (x ≡ true) × (y ≡ true)
 and_parts true y e = (refl, e)
 and_parts false y e = cc
 

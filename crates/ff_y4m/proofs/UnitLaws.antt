@@ -51,6 +51,15 @@ other_made size count n le =
     let a : nat_lt n longest_line ≡ false = grind (arith, nat_tests) in
     ap (λ t. cond t (cond (nat_lt count (n + 1 + size)) Wait (Frame n)) Other) a
 
+-- the line goes on, or it has ended and planes are lacking
+pub wait_line : (size count : ℕ) (o : Option ℕ) → line_unit size count o ≡ Wait → (o ≡ None) ⊎ ((n : ℕ) × (o ≡ Some n) × (n < 1024))
+wait_line size count None e = inl refl
+wait_line size count (Some n) e = inr (n, refl, pick (nat_lt n longest_line) refl (nat_lt count (n + 1 + size)) e)
+  where
+    pick : (a : Bool) → nat_lt n longest_line ≡ a → (b : Bool) → cond a (cond b Wait (Frame n)) Other ≡ Wait → n < 1024
+    pick false p b e = cc
+    pick true p b e = grind (arith, nat_tests)
+
 wait_is : (size count : ℕ) (o : Option ℕ) → line_unit size count o ≡ Wait → (o ≡ None) ⊎ (count < 1024 + size)
 wait_is size count None e = inl refl
 wait_is size count (Some n) e = inr (pick (nat_lt n longest_line) refl (nat_lt count (n + 1 + size)) refl e)
@@ -72,7 +81,7 @@ frame_at size k bs e = elim (bool_cases (begins frame_word bs)) [
   | inr a ↦ let clash = sym (unit_else size bs a) ∙ e in cc
 ]
 
-five : (bs : List ℕ) (n : ℕ) → begins frame_word bs ≡ true → line_end longest_line bs ≡ Some n → length frame_word < length bs
+pub five : (bs : List ℕ) (n : ℕ) → begins frame_word bs ≡ true → line_end longest_line bs ≡ Some n → length frame_word < length bs
 five bs n a l = line_longer frame_word bs longest_line n word_plain (omega arith) a l
 
 pub frame-append : (size k : ℕ) (bs more : List ℕ) → unit size bs ≡ Frame k → unit size (bs ++ more) ≡ Frame k

@@ -2,6 +2,7 @@ pub mod Lines
 pub mod Numbers
 pub mod Parameters
 pub mod Packets
+pub mod Units
 pub mod Cuts
 pub mod Header
 pub mod Heads

@@ -133,7 +133,7 @@ impl PacketCut for Y4mCut {
             → Cuts self.new head fed (n + 1) × ((more : List ℕ) → slice_get (demuxed head (fed ++ more)) n ≡ Some p) }
         ensures ends { result ≡ Ok Cut.End → GaveAll y4m_cutter self.old None }
         ensures breaks { (offset : ℕ) → result ≡ Ok (Cut.Broken offset) → GaveAll y4m_cutter self.old (Some offset) }
-        // Not yet exactly where the input goes on, and what waits may be the beginning of a frame and is no whole one.
+        // Not yet exactly where the input goes on, and what waits may be the beginning of a frame and is no whole one (`frames_are_decided`).
         ensures not_yet { (result ≡ Ok Cut.NotYet) ↔ ((has_ended self.old ≡ false) × (unit (head_of self.old).frame_bytes (waiting_in self.old) ≡ Wait)) }
         ensures err { OnErr result (self.new ≡ self.old) }
         ensures ended { has_ended self.new ≡ has_ended self.old }

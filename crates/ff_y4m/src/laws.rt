@@ -3,6 +3,7 @@ ghost use Rattle.std.specs.Prelude.{◌≡◌, ℕ, List, None, All, length};
 ghost use Rattle.ff_values.specs.declared.packet.Pkt.{Pkt};
 ghost use Rattle.ff_y4m.specs.Header.{frames, planes_of};
 ghost use Rattle.ff_y4m.specs.Packets.{packets_from, broken_from};
+ghost use Rattle.ff_y4m.specs.Units.{IsDecided};
 ghost use Rattle.ff_y4m.specs.Written.{HeadersAreRead, FilesAreRead, FramesAreRead};
 
 /// The frames that are written of packets, of planes of one size, are read again with those planes, and nothing is left.
@@ -17,4 +18,10 @@ pub fn what_is_written_is_read_again()
     ensures headers { HeadersAreRead }
     ensures files { FilesAreRead }
     ensures frames { FramesAreRead }
+{}
+
+/// What some bytes begin with is decided as soon as it can be: a frame is found exactly where a whole one begins, none exactly
+/// where whatever follows makes none, and more bytes are wanted exactly in between.
+pub fn frames_are_decided()
+    ensures { (size : ℕ) (bytes : List ℕ) → IsDecided size bytes }
 {}

@@ -2,7 +2,8 @@
 //!
 //! A file is a line of parameters, and then frames: each a line that begins with `FRAME`, and the planes Y, Cb and Cr.
 //! `specs/Lines` says where a line ends, `specs/Parameters` what a parameter says, `specs/Heads` what the head of a
-//! whole input is and which first bytes decide it, `specs/Packets` which frames follow the head and where they break off, and
+//! whole input is and which first bytes decide it, `specs/Packets` which frames follow the head and where they break off,
+//! `specs/Units` what may still come of some bytes, and
 //! `specs/Cuts` how a cut's state is tied to what it was fed and gave.
 #![tactic(auto)]
 
@@ -20,5 +21,5 @@ pub use cut::Y4mCut;
 pub use ff_cut::HeadFault;
 pub use head::Y4mHead;
 pub use header::y4m_header;
-pub use laws::{what_is_written_is_read_again, written_frames_are_read_again};
+pub use laws::{frames_are_decided, what_is_written_is_read_again, written_frames_are_read_again};
 pub use read::read_head;

@@ -1,4 +1,4 @@
-use Rattle.std.proofs.Common.{◌≡◌, ◌+◌, ◌∙◌, ap, sym, refl, inl, inr, arith, Some, ℕ, take, drop, length}
+use Rattle.std.proofs.Common.{◌≡◌, ◌+◌, ◌∙◌, ap, sym, refl, inl, inr, arith, Some, take, drop, length}
 use Rattle.std.proofs.lemmas.List.{length-take}
 use Rattle.ff_values.specs.declared.packet.Pkt.{Pkt}
 use Rattle.ff_values.specs.declared.cut.Cut.TheVariants.{End, Broken}
