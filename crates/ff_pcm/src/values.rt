@@ -5,14 +5,16 @@ ghost use Rattle.ff_pcm.specs.Samples.{number, signed};
 
 pub(crate) fn number_2(bytes: &[u8], place: usize) -> u32
     requires { place + 2 ≤ length bytes.now }
-    ensures { result ≡ number 2 place bytes.now }
+    ensures value { result ≡ number 2 place bytes.now }
+    ensures few { result < 2 ^ 16 }
 {
     bytes[place] as u32 + 256 * bytes[place + 1] as u32
 }
 
 pub(crate) fn number_3(bytes: &[u8], place: usize) -> u32
     requires { place + 3 ≤ length bytes.now }
-    ensures { result ≡ number 3 place bytes.now }
+    ensures value { result ≡ number 3 place bytes.now }
+    ensures few { result < 2 ^ 24 }
 {
     bytes[place] as u32 + 256 * bytes[place + 1] as u32 + 65536 * bytes[place + 2] as u32
 }
