@@ -19,6 +19,35 @@ ChunkStep = Step WavHead (Option StreamHead)
 abbrev pub passed : ℕ → Option StreamHead → ChunkStep
 passed size format = Skip (7 + size + size % 2) format
 
+-- where the fields of a `fmt ` chunk stand, from the chunk's first byte (RIFF, "WAVE format chunk")
+abbrev pub chunk_size : ℕ
+chunk_size = 4
+
+abbrev pub format_tag : ℕ
+format_tag = 8
+
+abbrev pub channel_count : ℕ
+channel_count = 10
+
+abbrev pub sample_rate : ℕ
+sample_rate = 12
+
+abbrev pub block_align : ℕ
+block_align = 20
+
+abbrev pub bits_per_sample : ℕ
+bits_per_sample = 22
+
+abbrev pub sub_format : ℕ
+sub_format = 32
+
+-- the tags of linear PCM and of the extensible form, whose identifier begins with the tag that it extends
+abbrev pub tag_pcm : ℕ
+tag_pcm = 1
+
+abbrev pub tag_extensible : ℕ
+tag_extensible = 0xFFFE
+
 -- the number of two bytes at a place, and of four
 abbrev pub number_16 : ℕ → List ℕ → ℕ
 number_16 i bs = slice_index bs i + 256 * slice_index bs (i + 1)
@@ -41,10 +70,10 @@ stream_of channels rate bits = Audio (record { num = 1; den = rate }) rate bits 
 -- what the fields say that follow the tag; each is unsupported at its place, in this order
 unfoldable pub format_of : ℕ → ℕ → ℕ → ℕ → ℕ → Result StreamHead HeadFault
 format_of at channels rate block bits =
-    if not (nat_le 1 channels && nat_le channels 8) then Err (Unsupported (at + 10))
-    else if not (nat_le 1 rate && nat_lt rate (2 ^ 31)) then Err (Unsupported (at + 12))
-    else if not (bits == 8 || bits == 16 || bits == 24 || bits == 32) then Err (Unsupported (at + 22))
-    else if not (block == channels * (bits / 8)) then Err (Unsupported (at + 20))
+    if not (nat_le 1 channels && nat_le channels 8) then Err (Unsupported (at + channel_count))
+    else if not (nat_le 1 rate && nat_lt rate (2 ^ 31)) then Err (Unsupported (at + sample_rate))
+    else if not (bits == 8 || bits == 16 || bits == 24 || bits == 32) then Err (Unsupported (at + bits_per_sample))
+    else if not (block == channels * (bits / 8)) then Err (Unsupported (at + block_align))
     else Ok (stream_of channels rate bits)
 
 abbrev pub step_of : ℕ → Result StreamHead HeadFault → ChunkStep
@@ -53,24 +82,25 @@ step_of size (Err end) = Decide (Err end)
 
 -- the fields after the tag of a `fmt ` chunk that begins the bytes
 abbrev pub fields : ℕ → List ℕ → ChunkStep
-fields at bs = step_of (number_32 4 bs) (format_of at (number_16 10 bs) (number_32 12 bs) (number_16 20 bs) (number_16 22 bs))
+fields at bs = step_of (number_32 chunk_size bs)
+    (format_of at (number_16 channel_count bs) (number_32 sample_rate bs) (number_16 block_align bs) (number_16 bits_per_sample bs))
 
 -- a `fmt ` chunk whose first 16 bytes are there
 unfoldable pub tagged : ℕ → List ℕ → ChunkStep
 tagged at bs =
-    if number_16 8 bs == 0xFFFE then
-    if nat_lt (number_32 4 bs) 40 then Decide (Err (Damaged at))
+    if number_16 format_tag bs == tag_extensible then
+    if nat_lt (number_32 chunk_size bs) 40 then Decide (Err (Damaged at))
     else if nat_lt (length bs) 48 then Wait
-    else if not (number_16 32 bs == 1) then Decide (Err (Unsupported (at + 32)))
+    else if not (number_16 sub_format bs == tag_pcm) then Decide (Err (Unsupported (at + sub_format)))
     else fields at bs
-    else if not (number_16 8 bs == 1) then Decide (Err (Unsupported (at + 8)))
+    else if not (number_16 format_tag bs == tag_pcm) then Decide (Err (Unsupported (at + format_tag)))
     else fields at bs
 
 -- the first `fmt ` counts
 unfoldable pub format_chunk : Option StreamHead → ℕ → List ℕ → ChunkStep
-format_chunk (Some format) at bs = passed (number_32 4 bs) (Some format)
+format_chunk (Some format) at bs = passed (number_32 chunk_size bs) (Some format)
 format_chunk None at bs =
-    if nat_lt (number_32 4 bs) 16 then Decide (Err (Damaged at))
+    if nat_lt (number_32 chunk_size bs) 16 then Decide (Err (Damaged at))
     else if nat_lt (length bs) 24 then Wait
     else tagged at bs
 
@@ -80,7 +110,7 @@ body_len size = if size == 0 || size == 0xFFFFFFFF then None else Some size
 
 abbrev pub data_chunk : Option StreamHead → ℕ → List ℕ → ChunkStep
 data_chunk None at bs = Decide (Err (Damaged at))
-data_chunk (Some format) at bs = Decide (Ok (record { head = format; start = at + 8; len = body_len (number_32 4 bs) }))
+data_chunk (Some format) at bs = Decide (Ok (record { head = format; start = at + 8; len = body_len (number_32 chunk_size bs) }))
 
 -- what the chunk does that begins the bytes, at offset at of the input
 unfoldable pub chunk : Option StreamHead → ℕ → List ℕ → ChunkStep
@@ -88,4 +118,4 @@ chunk format at bs =
     if nat_lt (length bs) 8 then Wait
     else if bytes_eq (take 4 bs) (codes "data") then data_chunk format at bs
     else if bytes_eq (take 4 bs) (codes "fmt ") then format_chunk format at bs
-    else passed (number_32 4 bs) format
+    else passed (number_32 chunk_size bs) format

@@ -1,5 +1,5 @@
 -- The head of a whole input, and what is decided by its first bytes.
-use Rattle.std.specs.Prelude.{ℕ, Bool, List, [], ◌∷◌, Option, Some, None, Result}
+use Rattle.std.specs.Prelude.{ℕ, Bool, List, ◌∷◌, ◌++◌, codes, map, Option, Some, None, Result}
 use Rattle.ff_values.specs.declared.head.StreamHead.{StreamHead}
 use Rattle.ff_values.specs.declared.cut.HeadEnd.{HeadEnd}
 use Rattle.ff_cut.specs.Heads as heads
@@ -13,7 +13,7 @@ Found = heads.Found WavHead
 
 -- `RIFF`, four bytes that are not compared, and `WAVE`
 abbrev pub magic : List (Option ℕ)
-magic = Some 82 ∷ Some 73 ∷ Some 70 ∷ Some 70 ∷ None ∷ None ∷ None ∷ None ∷ Some 87 ∷ Some 65 ∷ Some 86 ∷ Some 69 ∷ []
+magic = map Some (codes "RIFF") ++ (None ∷ None ∷ None ∷ None ∷ map Some (codes "WAVE"))
 
 -- the chunks behind the first bytes, before which no format is known
 abbrev pub grammar : walks.Grammar WavHead (Option StreamHead)

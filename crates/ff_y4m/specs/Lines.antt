@@ -2,10 +2,17 @@
 use Rattle.std.specs.Prelude.{ℕ, zero, suc, ◌==◌, ◌&&◌, ◌||◌, Bool, true, if◌then◌else◌, List, [], ◌∷◌, Option, Some, None}
 use Rattle.std.specs.Option.{option_map}
 
+-- the bytes that part and end the words of a line
+abbrev pub space : ℕ
+space = 32
+
+abbrev pub line_feed : ℕ
+line_feed = 10
+
 -- As far as the bytes go, they are these, and a space or a line feed behind them.
 abbrev pub begins : List ℕ → List ℕ → Bool
 begins [] [] = true
-begins [] (b ∷ bs) = (b == 32) || (b == 10)
+begins [] (b ∷ bs) = (b == space) || (b == line_feed)
 begins (w ∷ ws) [] = true
 begins (w ∷ ws) (b ∷ bs) = (b == w) && begins ws bs
 
@@ -14,7 +21,7 @@ begins (w ∷ ws) (b ∷ bs) = (b == w) && begins ws bs
 abbrev pub line_end : ℕ → List ℕ → Option ℕ
 line_end zero bs = Some 0
 line_end (suc room) [] = None
-line_end (suc room) (b ∷ bs) = if b == 10 then Some 0 else option_map suc (line_end room bs)
+line_end (suc room) (b ∷ bs) = if b == line_feed then Some 0 else option_map suc (line_end room bs)
 
 -- a line has at most so many bytes, with its line feed
 abbrev pub longest_line : ℕ

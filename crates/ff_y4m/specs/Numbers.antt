@@ -30,9 +30,12 @@ abbrev pub around : List ℕ → Option ℕ → Option (ℕ × ℕ)
 around bs None = None
 around bs (Some k) = both (whole (take k bs)) (whole (drop (k + 1) bs))
 
+abbrev pub colon : ℕ
+colon = 58
+
 -- two whole numbers joined by a colon
 unfoldable pub pair : List ℕ → Option (ℕ × ℕ)
-pair bs = around bs (first_place 58 bs)
+pair bs = around bs (first_place colon bs)
 
 -- the greatest common divisor by Euclid's steps, of which so many are made at most
 abbrev pub euclid : ℕ → ℕ → ℕ → ℕ

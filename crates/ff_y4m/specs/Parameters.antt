@@ -72,14 +72,33 @@ abbrev pub with_format : ℕ → Parameters → Option Format → Result Paramet
 with_format at p (Some f) = Ok (record p { format = f })
 with_format at p None = Err (Unsupported at)
 
+-- the letters of the parameters: columns, rows, frames a second, the aspect of a sample, fields, where colours lie
+abbrev pub letter_W : ℕ
+letter_W = 87
+
+abbrev pub letter_H : ℕ
+letter_H = 72
+
+abbrev pub letter_F : ℕ
+letter_F = 70
+
+abbrev pub letter_A : ℕ
+letter_A = 65
+
+abbrev pub letter_I : ℕ
+letter_I = 73
+
+abbrev pub letter_C : ℕ
+letter_C = 67
+
 -- What a parameter of this letter and value, at this offset, adds to those before it: of a letter that comes again the last
 -- value counts, and each is checked. Other letters say nothing.
 unfoldable pub lettered : ℕ → ℕ → List ℕ → Parameters → Result Parameters HeadFault
 lettered at letter value p =
-    if letter == 87 then with_width p (side_in at (whole value))
-    else if letter == 72 then with_height p (side_in at (whole value))
-    else if letter == 70 then with_base p (base_in at (pair value))
-    else if letter == 65 then with_aspect p (aspect_in at (pair value))
-    else if letter == 73 then (if is_progressive value then Ok p else Err (Unsupported at))
-    else if letter == 67 then with_format at p (format_of value)
+    if letter == letter_W then with_width p (side_in at (whole value))
+    else if letter == letter_H then with_height p (side_in at (whole value))
+    else if letter == letter_F then with_base p (base_in at (pair value))
+    else if letter == letter_A then with_aspect p (aspect_in at (pair value))
+    else if letter == letter_I then (if is_progressive value then Ok p else Err (Unsupported at))
+    else if letter == letter_C then with_format at p (format_of value)
     else Ok p
