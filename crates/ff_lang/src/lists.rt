@@ -35,6 +35,13 @@ impl Text {
         Text { string }
     }
 
+    /// The `String`, given back.
+    pub fn into_string(self) -> String
+        ensures { string_bytes result ≡ self }
+    {
+        self.string
+    }
+
     /// The text itself.
     pub fn as_str(&self) -> &str
         ensures { result.now ≡ self.now }
@@ -87,6 +94,13 @@ impl<T> Sequence<T> {
         ensures { result ≡ items.items }
     {
         Sequence { items }
+    }
+
+    /// The `Vec`, given back.
+    pub fn into_vec(self) -> Vec<T>
+        ensures { result.items ≡ self }
+    {
+        self.items
     }
 
     /// The things in their order.
