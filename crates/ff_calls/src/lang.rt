@@ -42,7 +42,8 @@ fn show_chain(out: &mut String, chain: &Chain) -> Result<(), AllocError> {
     Ok(())
 }
 
-fn show(alloc: Global, graph: &Graph) -> Result<String, Stop> {
+/// A graph: `/` before each chain, a blank before each filter, a label as `<LABEL>`, an argument as `{VALUE}` or `{KEY|VALUE}`.
+pub fn show(alloc: Global, graph: &Graph) -> Result<String, Stop> {
     let mut out = String::new(alloc);
     for chain in graph.chains.as_slice() {
         show_chain(&mut out, chain)?;
@@ -50,8 +51,7 @@ fn show(alloc: Global, graph: &Graph) -> Result<String, Stop> {
     Ok(out)
 }
 
-/// `graph TEXT`: the graph of a text: `/` before each chain, a blank before each filter, a label as `<LABEL>`, an argument
-/// as `{VALUE}` or `{KEY|VALUE}`.
+/// `graph TEXT`: the graph of a text.
 pub fn graph(words: Words) -> Result<String, Stop> {
     match read_graph(words.alloc, words.text(0)?) {
         Ok(graph) => show(words.alloc, &graph),

@@ -5,6 +5,7 @@
 
 mod bits;
 mod blocks;
+mod commands;
 mod cuts;
 mod cutter;
 mod flac;
@@ -12,6 +13,7 @@ mod framehash;
 mod heads;
 mod lang;
 mod made;
+mod maps;
 mod pcm;
 mod pictures;
 mod residuals;
@@ -39,6 +41,12 @@ pub fn answer(alloc: Global, name: &str, arguments: &[String]) -> Result<String,
         "graph" => lang::graph(words),
         "print" => lang::printed(words),
         "has_text" => lang::has_text(words),
+        "map" => maps::map(words),
+        "select" => maps::selected(words),
+        "best" => maps::best(words),
+        "command" => commands::command(words),
+        "command_today" => commands::today(words),
+        "command_of" => commands::made(words),
         "head" => heads::head(words),
         "head_fronts" => heads::head_fronts(words),
         "cut" => cuts::cut(words),

@@ -19,6 +19,11 @@ impl<'a> Words<'a> {
         self.words.len()
     }
 
+    /// Each of them.
+    pub fn all(&self) -> &'a [String] {
+        self.words
+    }
+
     /// The word at this place.
     pub fn text(&self, at: usize) -> Result<&'a str, Stop> {
         match self.words.get(at) {
