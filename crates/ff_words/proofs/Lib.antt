@@ -3,3 +3,8 @@ pub mod Steps
 pub mod Tokens
 pub mod Names
 pub mod Unique
+pub mod Spellings
+pub mod Known
+pub mod Goes
+pub mod Few
+pub mod RoundTrip

@@ -36,7 +36,7 @@ token-switch table es ws at rule v result new short dashed named s taken =
 takes-it : (table : Table) (ws : List (List ℕ)) (at : ℕ) (rule : Rule) → option_named table (word_at ws at) ≡ Some rule → switched rule.kind ≡ None → takes_value table (word_at ws at) ≡ true
 takes-it table ws at rule named s = ap takes named ∙ ap (λ o. not (is_some o)) s
 
-value-is : (table : Table) (ws : List (List ℕ)) (at : ℕ) (rule : Rule) → option_named table (word_at ws at) ≡ Some rule → switched rule.kind ≡ None → (token_at table ws at).value ≡ slice_get ws (at + 1)
+pub value-is : (table : Table) (ws : List (List ℕ)) (at : ℕ) (rule : Rule) → option_named table (word_at ws at) ≡ Some rule → switched rule.kind ≡ None → (token_at table ws at).value ≡ slice_get ws (at + 1)
 value-is table ws at rule named s = ap (λ b. if b then slice_get ws (at + 1) else None) (takes-it table ws at rule named s)
 
 pub token-missing : (table : Table) (es : List Entry) (ws : List (List ℕ)) (at : ℕ) (rule : Rule) → is_too_much at (word_at ws at) ≡ false → is_dashed (word_at ws at) ≡ true
@@ -74,7 +74,7 @@ cut : (table : Table) (n : ℕ) (w : List ℕ) (rest : List (List ℕ)) → toke
 cut table n w [] = ap (onward table n w []) (sym (none_if (takes_value table w)))
 cut table n w (y ∷ ys) = two table (takes_value table w) n w y ys
 
-drop_at : (ws : List (List ℕ)) (at : ℕ) → at < length ws → drop at ws ≡ word_at ws at ∷ drop (suc at) ws
+pub drop_at : (ws : List (List ℕ)) (at : ℕ) → at < length ws → drop at ws ≡ word_at ws at ∷ drop (suc at) ws
 drop_at [] at h = absurd (omega (arith, h))
 drop_at (w ∷ ws) zero h = refl
 drop_at (w ∷ ws) (suc i) h = drop_at ws i (omega (arith, h))

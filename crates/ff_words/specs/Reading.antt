@@ -23,7 +23,10 @@ use Rattle.ff_words.specs.declared.table.Rule.{Rule}
 use Rattle.ff_words.specs.declared.table.Kind.{Kind}
 use Rattle.ff_words.specs.declared.table.Kind.TheVariants as kind
 use Rattle.ff_words.specs.Words.{AreRead, is_too_much, is_dashed}
-use Rattle.ff_words.specs.Words.{IsAnswer, end_by, is_output, takes_value, tokens, Token, written, fault, misplaced, bad_at, late, unwritable, cut_of, IsEntry, IsFaultAt, Entry, groups, last, each, first_place, not_before_input, not_before_output, not_at_end, or_else, unreadable, as_format, as_start, as_length, as_map, as_audio, as_video, as_vf, as_af, as_no_audio, as_no_video, as_shortest, as_hash, as_queue, as_trace, as_graph, as_self_run, inputs, outputs}
+use Rattle.ff_words.specs.Words.{IsAnswer, end_by, is_output, takes_value, tokens, Token, written, fault, misplaced, bad_at, late, unwritable, cut_of}
+use Rattle.ff_words.specs.Words.{IsEntry, IsFaultAt, Entry, groups, last, each, first_place, not_before_input, not_before_output, not_at_end, or_else}
+use Rattle.ff_words.specs.Words.{unreadable, as_format, as_start, as_length, as_map, as_audio, as_video, as_vf, as_af, as_no_audio, as_no_video}
+use Rattle.ff_words.specs.Words.{as_shortest, as_hash, as_queue, as_trace, as_graph, as_self_run, inputs, outputs}
 
 -- the options that wait for their file
 abbrev pub pending : List Entry → Pending

@@ -1,7 +1,8 @@
 //! Laws of the definition of the words. Each is a function that does nothing: its clauses hold of all values.
-ghost use Rattle.std.specs.Prelude.{◌≡◌, ◌++◌, ℕ, List, Result, Err};
+ghost use Rattle.std.specs.Prelude.{◌≡◌, ◌++◌, ℕ, List, Result, Ok, Err};
 ghost use Rattle.ff_words.specs.Words.{IsAnswer, EndsBetween, FaultOfFront};
 ghost use Rattle.ff_words.specs.declared.error.Fault.{Fault};
+ghost use Rattle.ff_words.specs.Writing.{IsFineCommand, command_words};
 ghost use Rattle.ff_words.specs.declared.job.Command.{Command};
 ghost use Rattle.ff_words.specs.declared.table.Table.{Table};
 
@@ -9,6 +10,11 @@ ghost use Rattle.ff_words.specs.declared.table.Table.{Table};
 pub fn words_have_one_answer()
     ensures { (table : Table) (words : List (List ℕ)) (answer other : Result Command Fault) → IsAnswer table words answer
         → IsAnswer table words other → answer ≡ other }
+{}
+
+/// The words that are written of a command are read as that command.
+pub fn written_commands_are_read()
+    ensures { (command : Command) → IsFineCommand command → IsAnswer Table.Whole (command_words command) (Ok command) }
 {}
 
 /// A fault of a front that ends between options is that of any words which begin so: nothing behind it matters.

@@ -26,6 +26,6 @@ mod value;
 
 pub use error::{WordError, WordKind};
 pub use job::{Command, FileFormat, InputJob, Job, OutputJob};
-pub use laws::{a_fault_stays, words_have_one_answer};
+pub use laws::{a_fault_stays, words_have_one_answer, written_commands_are_read};
 pub use read::{read_words, read_words_by};
 pub use table::Table;

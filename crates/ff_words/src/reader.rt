@@ -1,7 +1,10 @@
 // What one pass keeps of the words it has read.
 ghost use Rattle.std.specs.Prelude.{◌≡◌, ◌<◌, ◌≤◌, ◌+◌, OnOk, None, [], List, length};
-ghost use Rattle.ff_words.specs.Reading.{Ended, written_names, word_at, Steps, token_at, width, full, Given, pending_format, with_output, output_wrong as wrong_output, input_wrong as wrong_input, with_input, Taken, pending, reader, noted, valued, optioned, place_unless};
-ghost use Rattle.ff_words.specs.Words.{repeats, texts, is_too_much as never_too_much, is_dashed as dashed, Entry, not_before_input as never_before_input, not_before_output as never_before_output, not_at_end as never_at_end};
+ghost use Rattle.ff_words.specs.Reading.{Ended, written_names, word_at, Steps, token_at, width, full, Given, pending_format, with_output};
+ghost use Rattle.ff_words.specs.Reading.{output_wrong as wrong_output, input_wrong as wrong_input, with_input, Taken, pending, reader, noted, valued};
+ghost use Rattle.ff_words.specs.Reading.{optioned, place_unless};
+ghost use Rattle.ff_words.specs.Words.{repeats, texts, is_too_much as never_too_much, is_dashed as dashed, Entry};
+ghost use Rattle.ff_words.specs.Words.{not_before_input as never_before_input, not_before_output as never_before_output, not_at_end as never_at_end};
 ghost use Rattle.ff_words.specs.Values.{switched};
 ghost use Rattle.std.specs.Prelude.{map, drop, option_to_list, ◌||◌};
 ghost use Rattle.std.specs.List.{list_any};

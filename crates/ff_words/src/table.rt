@@ -1,7 +1,9 @@
 //! The options of the command line as one list, and the lists of their values. A further option is a line here; where its
 //! kind of value is new, that is a case in `Kind`, `Value` and what reads it.
 ghost use Rattle.std.specs.Prelude.{◌≡◌};
-ghost use Rattle.ff_words.specs.Table.{counts as is_counted, does as is_done, lines, formats, codecs, names, rule_in, option_named, format_in, format_named, ending_in, format_ending as named_by_ending, codec_in, audio_codec as audio_codec_named, video_codec as video_codec_named, level_in, is_level as level_named};
+ghost use Rattle.ff_words.specs.Table.{counts as is_counted, does as is_done, lines, formats, codecs, names, rule_in, option_named, format_in};
+ghost use Rattle.ff_words.specs.Table.{format_named, ending_in, format_ending as named_by_ending, codec_in, audio_codec as audio_codec_named};
+ghost use Rattle.ff_words.specs.Table.{video_codec as video_codec_named, level_in, is_level as level_named};
 
 use crate::job::FileFormat;
 use ff_values::Codec;

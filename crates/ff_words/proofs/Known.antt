@@ -1,0 +1,201 @@
+-- What the lists say of written words.
+use Rattle.std.proofs.Common.{◌≡◌, ℕ, inl, inr, Bool, true, false, ◌&&◌, Some, None, Ok, List, [], ◌∷◌, refl, sym, ap, subst, ◌∙◌}
+use Rattle.std.specs.Prelude.{codes, map, if◌then◌else◌}
+use Rattle.std.specs.Str.{bytes_eq}
+use Rattle.std.proofs.lemmas.Bool.{cases_Bool}
+use Rattle.std.proofs.lemmas.Slice.Eq.{bytes_eq-Decides}
+use Rattle.ff_lang.specs.declared.graph.Graph.{Graph}
+use Rattle.ff_lang.proofs.Prints.{printed_is}
+use Rattle.ff_lang.specs.Printing.{printed}
+use Rattle.ff_map.specs.declared.map.MapSpec.{MapSpec}
+use Rattle.ff_values.specs.declared.head.Codec.{Codec}
+use Rattle.ff_values.specs.declared.head.Codec.TheVariants as codec
+use Rattle.ff_values.specs.declared.hash.HashKind.{HashKind}
+use Rattle.ff_values.specs.declared.hash.HashKind.TheVariants.{Sha256, Md5}
+use Rattle.ff_words.specs.declared.job.FileFormat.{FileFormat}
+use Rattle.ff_words.specs.declared.job.FileFormat.TheVariants as format
+use Rattle.ff_words.specs.declared.table.Concern.{Concern}
+use Rattle.ff_words.specs.declared.table.Concern.TheVariants.{All, Alone, File, Output, Itself}
+use Rattle.ff_words.specs.declared.table.Kind.{Kind}
+use Rattle.ff_words.specs.declared.table.Kind.TheVariants as kind
+use Rattle.ff_words.specs.declared.table.Named.{Named}
+use Rattle.ff_words.specs.declared.table.Rule.{Rule}
+use Rattle.ff_words.specs.declared.table.Table.TheVariants as table
+use Rattle.ff_words.specs.declared.table.TheConstants.{OPTIONS}
+use Rattle.ff_words.specs.declared.value.Micros.{Micros}
+use Rattle.ff_words.specs.declared.value.Value.TheVariants as value
+use Rattle.ff_words.specs.Table.{rule_in, option_named, format_named, audio_codec, video_codec}
+use Rattle.ff_words.specs.Values.{Reads, or_bad, format_value, codec_value, hash_value}
+use Rattle.ff_words.specs.Words.{is_dashed}
+use Rattle.ff_words.specs.Writing.{format_name, codec_name, hash_name, micros_text, map_text, IsFineMap, IsFineGraph, IsSoundCodec}
+use Rattle.ff_words.proofs.Spellings.{is-duration, is-map}
+
+-- ---- options
+
+abbrev pub rule : Concern → Kind → Rule
+rule c k = record { concern = c; kind = k }
+
+abbrev IsLine : List ℕ → Concern → Kind → Type 0
+IsLine name c k = option_named table.Whole name ≡ Some (rule c k)
+
+pub line-queue : IsLine (codes "-thread_queue_size") All kind.Queue
+unfolding option_named
+line-queue = refl
+
+pub line-trace : IsLine (codes "-sched_trace") All kind.Trace
+unfolding option_named
+line-trace = refl
+
+pub line-self_run : IsLine (codes "-selfrun") Alone kind.SelfRun
+unfolding option_named
+line-self_run = refl
+
+pub line-complex : IsLine (codes "-filter_complex") All kind.Complex
+unfolding option_named
+line-complex = refl
+
+pub line-format : IsLine (codes "-f") File kind.Format
+unfolding option_named
+line-format = refl
+
+pub line-start : IsLine (codes "-ss") File kind.Start
+unfolding option_named
+line-start = refl
+
+pub line-length : IsLine (codes "-t") File kind.Length
+unfolding option_named
+line-length = refl
+
+pub line-input : IsLine (codes "-i") Itself kind.Input
+unfolding option_named
+line-input = refl
+
+pub line-map : IsLine (codes "-map") Output kind.Map
+unfolding option_named
+line-map = refl
+
+pub line-audio : IsLine (codes "-c:a") Output kind.AudioCodec
+unfolding option_named
+line-audio = refl
+
+pub line-video : IsLine (codes "-c:v") Output kind.VideoCodec
+unfolding option_named
+line-video = refl
+
+pub line-vf : IsLine (codes "-vf") Output kind.VideoGraph
+unfolding option_named
+line-vf = refl
+
+pub line-af : IsLine (codes "-af") Output kind.AudioGraph
+unfolding option_named
+line-af = refl
+
+pub line-no_audio : IsLine (codes "-an") Output kind.NoAudio
+unfolding option_named
+line-no_audio = refl
+
+pub line-no_video : IsLine (codes "-vn") Output kind.NoVideo
+unfolding option_named
+line-no_video = refl
+
+pub line-shortest : IsLine (codes "-shortest") Output kind.Shortest
+unfolding option_named
+line-shortest = refl
+
+pub line-hash : IsLine (codes "-hash") Output kind.Hash
+unfolding option_named
+line-hash = refl
+
+-- ---- names of outputs are no options
+
+other-word : (name word : List ℕ) → is_dashed name ≡ true → is_dashed word ≡ false → bytes_eq name word ≡ false
+other-word name word h d = elim (cases_Bool (bytes_eq name word)) [
+  | inl e ↦ (let same : name ≡ word = (bytes_eq-Decides name word).0 e in cc (h, d, ap is_dashed same))
+  | inr e ↦ e
+]
+
+abbrev all_dashed : List (List ℕ × Concern × Kind × Bool) → Bool
+all_dashed [] = true
+all_dashed (line ∷ list) = is_dashed line.0 && all_dashed list
+
+both : (a b : Bool) → (a && b) ≡ true → (a ≡ true) × (b ≡ true)
+both true b h = (refl, h)
+both false b h = cc
+
+none-in : (list : List (List ℕ × Concern × Kind × Bool)) (word : List ℕ) → all_dashed list ≡ true → is_dashed word ≡ false → rule_in table.Whole list word ≡ None
+none-in [] word h d = refl
+none-in (line ∷ list) word h d =
+    let parts : (is_dashed line.0 ≡ true) × (all_dashed list ≡ true) = both (is_dashed line.0) (all_dashed list) h in
+    ap (λ b. if b then Some (rule line.1 line.2) else rule_in table.Whole list word) (other-word line.0 word parts.0 d) ∙ none-in list word parts.1 d
+
+pub no-option : (word : List ℕ) → is_dashed word ≡ false → option_named table.Whole word ≡ None
+unfolding option_named
+no-option word d =
+    let list : List (List ℕ × Concern × Kind × Bool) = map (λ line. (line.0.now, line.1, line.2, line.3)) OPTIONS in
+    none-in list word refl d
+
+-- ---- values
+
+abbrev pub readable : FileFormat → Bool
+readable format.Wav = true
+readable format.Flac = true
+readable format.Y4m = true
+readable format.FrameHash = false
+
+abbrev named_as : FileFormat → Named
+named_as f = record { format = f; read = readable f; written = true }
+
+format-is : (f : FileFormat) → format_named table.Whole (format_name f) ≡ Some (named_as f)
+unfolding format_named
+format-is format.Wav = refl
+format-is format.Flac = refl
+format-is format.Y4m = refl
+format-is format.FrameHash = refl
+
+pub reads-format : (f : FileFormat) → Reads table.Whole kind.Format (format_name f) (Ok (value.Format f (readable f) true))
+reads-format f = sym (ap (λ o. or_bad (format_value o)) (format-is f))
+
+audio-is : (c : Codec) → IsSoundCodec c → audio_codec table.Whole (codec_name c) ≡ Some c
+unfolding audio_codec
+audio-is codec.PcmU8 h = refl
+audio-is codec.PcmS16le h = refl
+audio-is codec.PcmS24le h = refl
+audio-is codec.PcmS32le h = refl
+audio-is codec.Flac h = refl
+audio-is codec.RawVideo h = absurd h
+
+pub reads-audio : (c : Codec) → IsSoundCodec c → Reads table.Whole kind.AudioCodec (codec_name c) (Ok (value.AudioCodec c))
+reads-audio c h = sym (ap (λ o. or_bad (codec_value value.AudioCodec o)) (audio-is c h))
+
+video-is : video_codec table.Whole (codec_name codec.RawVideo) ≡ Some codec.RawVideo
+unfolding video_codec
+video-is = refl
+
+pub reads-video : (c : Codec) → c ≡ codec.RawVideo → Reads table.Whole kind.VideoCodec (codec_name c) (Ok (value.VideoCodec c))
+reads-video c h =
+    subst (λ d. Reads table.Whole kind.VideoCodec (codec_name d) (Ok (value.VideoCodec d))) (sym h) (sym (ap (λ o. or_bad (codec_value value.VideoCodec o)) video-is))
+
+hash-is : (h : HashKind) → hash_value (hash_name h) ≡ Some (value.Hash h)
+hash-is Sha256 = refl
+hash-is Md5 = refl
+
+pub reads-hash : (h : HashKind) → Reads table.Whole kind.Hash (hash_name h) (Ok (value.Hash h))
+reads-hash h = sym (ap or_bad (hash-is h))
+
+pub reads-map : (m : MapSpec) → IsFineMap m → Reads table.Whole kind.Map (map_text m) (Ok (value.Map m))
+reads-map m h = (Ok m, is-map m h, refl)
+
+pub reads-complex : (g : Graph) → IsFineGraph g → Reads table.Whole kind.Complex (printed g) (Ok (value.Complex g))
+reads-complex g h = (Ok g, printed_is g h.0, refl)
+
+pub reads-vf : (g : Graph) → IsFineGraph g → Reads table.Whole kind.VideoGraph (printed g) (Ok (value.VideoGraph g))
+reads-vf g h = (Ok g, printed_is g h.0, refl)
+
+pub reads-af : (g : Graph) → IsFineGraph g → Reads table.Whole kind.AudioGraph (printed g) (Ok (value.AudioGraph g))
+reads-af g h = (Ok g, printed_is g h.0, refl)
+
+pub reads-start : (m : Micros) → Reads table.Whole kind.Start (micros_text m.us) (Ok (value.Start m))
+reads-start m = (Ok m, is-duration m.us m.bound, refl)
+
+pub reads-length : (m : Micros) → Reads table.Whole kind.Length (micros_text m.us) (Ok (value.Length m))
+reads-length m = (Ok m, is-duration m.us m.bound, refl)

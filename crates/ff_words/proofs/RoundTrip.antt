@@ -1,0 +1,516 @@
+-- The words of a command are read as that command.
+use Rattle.std.proofs.Common.{zero, suc, ◌≡◌, ℕ, ◌+◌, ◌<◌, ◌≤◌, ◌^◌, Bool, true, false, ◌&&◌, Option, Some, None, Ok, List, [], ◌∷◌, ◌++◌, length, refl, sym, ap, subst, ◌∙◌, append_assoc, length-append, arith}
+use Rattle.std.specs.Prelude.{if◌then◌else◌, drop, not, nat_le, ◌==◌, flat_map, codes}
+use Rattle.std.specs.List.{AllByRecursion}
+use Rattle.std.specs.Option.{ForSome}
+use Rattle.std.specs.Fmt.{decimal}
+use Rattle.std.proofs.Props.{props}
+use Rattle.std.proofs.lemmas.Bool.{lt-leb, ne_eqb}
+use Rattle.std.proofs.lemmas.List.{append-nil}
+use Rattle.ff_lang.specs.declared.graph.Graph.{Graph}
+use Rattle.ff_lang.specs.Printing.{printed}
+use Rattle.ff_map.specs.declared.map.MapSpec.{MapSpec}
+use Rattle.ff_time.specs.declared.cut.TimeCut.{TimeCut}
+use Rattle.ff_values.specs.declared.head.Codec.{Codec}
+use Rattle.ff_values.specs.declared.head.Codec.TheVariants as codec
+use Rattle.ff_values.specs.declared.hash.HashKind.{HashKind}
+use Rattle.ff_values.specs.declared.hash.HashKind.TheVariants.{Sha256, Md5}
+use Rattle.ff_words.specs.declared.error.WordKind.TheVariants.{TooMany, BadValue, NoInput, NoOutput, SameName}
+use Rattle.ff_words.specs.declared.job.FileFormat.{FileFormat}
+use Rattle.ff_words.specs.declared.job.FileFormat.TheVariants as format
+use Rattle.ff_words.specs.declared.job.InputJob.{InputJob}
+use Rattle.ff_words.specs.declared.job.OutputJob.{OutputJob}
+use Rattle.ff_words.specs.declared.job.Job.{Job}
+use Rattle.ff_words.specs.declared.job.Command.{Command}
+use Rattle.ff_words.specs.declared.job.Command.TheVariants.{Run, SelfRun}
+use Rattle.ff_words.specs.declared.reader.Pending.{Pending}
+use Rattle.ff_words.specs.declared.reader.Reader.{Reader}
+use Rattle.ff_words.specs.declared.table.Concern.TheVariants.{All, Alone, File, Output}
+use Rattle.ff_words.specs.declared.table.Kind.TheVariants as kind
+use Rattle.ff_words.specs.declared.table.Table.TheVariants as table
+use Rattle.ff_words.specs.declared.value.Micros.{Micros}
+use Rattle.ff_words.specs.declared.value.Value.TheVariants as value
+use Rattle.ff_words.specs.Reading.{pending, reader, place_unless, end_wrong}
+use Rattle.ff_words.specs.Words.{IsAnswer, or_else, cut_of, length_of, fault, bad_at, same_name}
+use Rattle.ff_words.specs.Writing.{given, micros_text, format_name, codec_name, hash_name, map_text, format_words, start_words, length_words, input_words, map_words, audio_words, video_words, vf_words, af_words, hash_words, where_some, where_true, output_words, graph_words, trace_words, queue_words, job_words, IsFineText, IsFineGraph, IsFineMap, IsReadFormat, IsSoundCodec, WhereSome, IsFineInput, IsFineOutput, IsFineJob, IsFineCommand, command_words}
+use Rattle.ff_words.proofs.Spellings.{is-number, number-short, micros-short, map-short}
+use Rattle.ff_words.proofs.Known.{readable, line-queue, line-self_run, line-trace, line-complex, line-format, line-start, line-length, line-input, line-map, line-audio, line-video, line-vf, line-af, line-no_audio, line-no_video, line-shortest, line-hash, reads-format, reads-audio, reads-video, reads-hash, reads-map, reads-complex, reads-vf, reads-af, reads-start, reads-length}
+use Rattle.ff_words.proofs.Goes.{Goes, goes-start, goes-by, goes-option, goes-input, goes-switch, goes-output}
+use Rattle.ff_words.proofs.Tokens.{ended}
+use Rattle.ff_words.proofs.Few.{few}
+
+abbrev Text : Type 0
+Text = List ℕ
+
+-- ---- the options of a file that were read
+
+pub record Own : Type 0 where
+  pub maps : List MapSpec
+  pub audio : Option Codec
+  pub video : Option Codec
+  pub vf : Option Graph
+  pub af : Option Graph
+  pub no_audio : Bool
+  pub no_video : Bool
+  pub start : Option Micros
+  pub length : Option Micros
+  pub shortest : Bool
+  pub hash : Option HashKind
+  pub format : Option FileFormat
+
+abbrev own : List MapSpec → Option Codec → Option Codec → Option Graph → Option Graph → Bool → Bool → Option Micros → Option Micros → Bool → Option HashKind → Option FileFormat → Own
+own ms a v x y na nv s l sh h f =
+    record { maps = ms; audio = a; video = v; vf = x; af = y; no_audio = na; no_video = nv; start = s; length = l; shortest = sh; hash = h; format = f }
+
+abbrev held : Option ℕ → Option ℕ → Option ℕ → Own → Pending
+held b u e w =
+    record {
+      before_input = b;
+      before_output = None;
+      at_end = e;
+      format = w.format;
+      unreadable = u;
+      unwritable = None;
+      start = w.start;
+      length = w.length;
+      maps = w.maps;
+      audio = w.audio;
+      video = w.video;
+      vf = w.vf;
+      af = w.af;
+      no_audio = w.no_audio;
+      no_video = w.no_video;
+      shortest = w.shortest;
+      hash = w.hash;
+    }
+
+abbrev in_hand : Reader → Pending → Reader
+in_hand r p = record r { pending = p }
+
+-- before an output the places of options that no input and no end has are of no matter
+abbrev Out : List Text → List Text → Reader → Own → Type 0
+Out ws rest r w = (b : Option ℕ) × (u : Option ℕ) × (e : Option ℕ) × Goes ws rest (in_hand r (held b u e w))
+
+-- before an input only those that no end has
+abbrev In : List Text → List Text → Reader → Own → Type 0
+In ws rest r w = (e : Option ℕ) × Goes ws rest (in_hand r (held None None e w))
+
+out-split : (ws : List Text) (r : Reader) (w : Own) (x y rest : List Text) → Out ws ((x ++ y) ++ rest) r w → Out ws (x ++ (y ++ rest)) r w
+out-split ws r w x y rest h = (h.0, h.1, h.2, goes-by ws ((x ++ y) ++ rest) (x ++ (y ++ rest)) (in_hand r (held h.0 h.1 h.2 w)) (append_assoc x y rest) h.3)
+
+in-split : (ws : List Text) (r : Reader) (w : Own) (x y rest : List Text) → In ws ((x ++ y) ++ rest) r w → In ws (x ++ (y ++ rest)) r w
+in-split ws r w x y rest h = (h.0, goes-by ws ((x ++ y) ++ rest) (x ++ (y ++ rest)) (in_hand r (held None None h.0 w)) (append_assoc x y rest) h.1)
+
+codec-short : (c : Codec) → IsFineText (codec_name c)
+codec-short codec.PcmU8 = omega arith
+codec-short codec.PcmS16le = omega arith
+codec-short codec.PcmS24le = omega arith
+codec-short codec.PcmS32le = omega arith
+codec-short codec.Flac = omega arith
+codec-short codec.RawVideo = omega arith
+
+format-short : (f : FileFormat) → IsFineText (format_name f)
+format-short format.Wav = omega arith
+format-short format.Flac = omega arith
+format-short format.Y4m = omega arith
+format-short format.FrameHash = omega arith
+
+hash-short : (h : HashKind) → IsFineText (hash_name h)
+hash-short Sha256 = omega arith
+hash-short Md5 = omega arith
+
+-- ---- cuts
+
+abbrev Bounded : Option ℕ → Type 0
+Bounded o = ForSome o (λ n. n ≤ 10 ^ 15)
+
+micros_in : (o : Option ℕ) → Bounded o → Option Micros
+micros_in None h = None
+micros_in (Some n) h = Some (record { us = n; bound = h n refl })
+
+abbrev start_in : TimeCut → Micros
+start_in c = record { us = c.start; bound = c.start_bound }
+
+length-is : (o : Option ℕ) (h : Bounded o) → length_of (micros_in o h) ≡ o
+unfolding micros_in
+length-is None h = refl
+length-is (Some n) h = refl
+
+bounded-one : (o : Option ℕ) (p q : Bounded o) → p ≡ q
+bounded-one o p q = (let one : IsProp (Bounded o) = hlevel props in one p q)
+
+abbrev cut_at : (s : ℕ) → s ≤ 10 ^ 15 → (o : Option ℕ) → Bounded o → TimeCut
+cut_at s b o h = record { start = s; length = o; start_bound = b; length_bound = h }
+
+start-one : (s : ℕ) (p q : s ≤ 10 ^ 15) → p ≡ q
+start-one s p q = (let one : IsProp (s ≤ 10 ^ 15) = hlevel props in one p q)
+
+cut-one : (s : ℕ) (b d : s ≤ 10 ^ 15) (o q : Option ℕ) (h : Bounded o) (k : Bounded q) → o ≡ q → cut_at s b o h ≡ cut_at s d q k
+cut-one s b d o q h k e =
+    ap (λ (z : s ≤ 10 ^ 15). cut_at s z o h) (start-one s b d)
+    ∙ subst (λ x. (y : Bounded x) → cut_at s d o h ≡ cut_at s d x y) e (λ y. ap (λ z. cut_at s d o z) (bounded-one o h y)) k
+
+cut-same : (c : TimeCut) → cut_of (Some (start_in c)) (micros_in c.length c.length_bound) ≡ c
+cut-same c =
+    let made : TimeCut = cut_of (Some (start_in c)) (micros_in c.length c.length_bound) in
+    cut-one c.start made.start_bound c.start_bound made.length c.length made.length_bound c.length_bound (length-is c.length c.length_bound)
+
+-- ---- the options of an output, one after the other
+
+maps-step : (ws : List Text) (few : length ws ≤ 1024) (rest : List Text) (r : Reader) (w : Own) (m : MapSpec) (done : List MapSpec) → IsFineMap m → length done < 16
+    → Out ws (map_words m ++ rest) r (record w { maps = done }) → Out ws rest r (record w { maps = done ++ m ∷ [] })
+maps-step ws few rest r w m done fine room h = (
+  or_else h.0 (Some h.3.at),
+  h.1,
+  or_else h.2 (Some h.3.at),
+  goes-option ws few (codes "-map") (map_text m) rest (in_hand r (held h.0 h.1 h.2 (record w { maps = done }))) Output kind.Map (value.Map m) h.3 refl line-map refl (omega arith) (map-short m fine)
+      (lt-leb 16 (length done) room) refl (reads-map m fine),
+)
+
+maps-read : (ws : List Text) (few : length ws ≤ 1024) (rest : List Text) (r : Reader) (w : Own) (ms done : List MapSpec) → AllByRecursion IsFineMap ms → length done + length ms ≤ 16
+    → Out ws (flat_map map_words ms ++ rest) r (record w { maps = done }) → Out ws rest r (record w { maps = done ++ ms })
+maps-read ws few rest r w [] done fine room h = subst (λ t. Out ws rest r (record w { maps = t })) (sym (append-nil done)) h
+maps-read ws few rest r w (m ∷ ms) done fine room h =
+    subst (λ t. Out ws rest r (record w { maps = t })) (append_assoc done (m ∷ []) ms)
+    (maps-read ws few rest r w ms (done ++ m ∷ []) fine.1 (omega (arith, room, length-append done (m ∷ [])))
+    (maps-step ws few (flat_map map_words ms ++ rest) r w m done fine.0 (omega (arith, room)) h))
+
+audio-read : (ws : List Text) (few : length ws ≤ 1024) (y rest : List Text) (r : Reader) (w : Own) (o : Option Codec) → WhereSome IsSoundCodec o
+    → Out ws ((audio_words o ++ y) ++ rest) r (record w { audio = None }) → Out ws (y ++ rest) r (record w { audio = o })
+audio-read ws few y rest r w None fine h = h
+audio-read ws few y rest r w (Some c) fine h = (
+  or_else h.0 (Some h.3.at),
+  h.1,
+  or_else h.2 (Some h.3.at),
+  goes-option ws few (codes "-c:a") (codec_name c) (y ++ rest) (in_hand r (held h.0 h.1 h.2 (record w { audio = None }))) Output kind.AudioCodec (value.AudioCodec c) h.3 refl line-audio refl (omega arith) (codec-short c)
+      refl refl (reads-audio c fine),
+)
+
+video-read : (ws : List Text) (few : length ws ≤ 1024) (y rest : List Text) (r : Reader) (w : Own) (o : Option Codec) → WhereSome (λ c. c ≡ codec.RawVideo) o
+    → Out ws ((video_words o ++ y) ++ rest) r (record w { video = None }) → Out ws (y ++ rest) r (record w { video = o })
+video-read ws few y rest r w None fine h = h
+video-read ws few y rest r w (Some c) fine h = (
+  or_else h.0 (Some h.3.at),
+  h.1,
+  or_else h.2 (Some h.3.at),
+  goes-option ws few (codes "-c:v") (codec_name c) (y ++ rest) (in_hand r (held h.0 h.1 h.2 (record w { video = None }))) Output kind.VideoCodec (value.VideoCodec c) h.3 refl line-video refl (omega arith) (codec-short c)
+      refl refl (reads-video c fine),
+)
+
+vf-read : (ws : List Text) (few : length ws ≤ 1024) (y rest : List Text) (r : Reader) (w : Own) (o : Option Graph) → WhereSome IsFineGraph o
+    → Out ws ((vf_words o ++ y) ++ rest) r (record w { vf = None }) → Out ws (y ++ rest) r (record w { vf = o })
+vf-read ws few y rest r w None fine h = h
+vf-read ws few y rest r w (Some g) fine h = (
+  or_else h.0 (Some h.3.at),
+  h.1,
+  or_else h.2 (Some h.3.at),
+  goes-option ws few (codes "-vf") (printed g) (y ++ rest) (in_hand r (held h.0 h.1 h.2 (record w { vf = None }))) Output kind.VideoGraph (value.VideoGraph g) h.3 refl line-vf refl (omega arith) fine.1
+      refl refl (reads-vf g fine),
+)
+
+af-read : (ws : List Text) (few : length ws ≤ 1024) (y rest : List Text) (r : Reader) (w : Own) (o : Option Graph) → WhereSome IsFineGraph o
+    → Out ws ((af_words o ++ y) ++ rest) r (record w { af = None }) → Out ws (y ++ rest) r (record w { af = o })
+af-read ws few y rest r w None fine h = h
+af-read ws few y rest r w (Some g) fine h = (
+  or_else h.0 (Some h.3.at),
+  h.1,
+  or_else h.2 (Some h.3.at),
+  goes-option ws few (codes "-af") (printed g) (y ++ rest) (in_hand r (held h.0 h.1 h.2 (record w { af = None }))) Output kind.AudioGraph (value.AudioGraph g) h.3 refl line-af refl (omega arith) fine.1
+      refl refl (reads-af g fine),
+)
+
+no_audio-read : (ws : List Text) (few : length ws ≤ 1024) (y rest : List Text) (r : Reader) (w : Own) (o : Bool)
+    → Out ws ((where_true (codes "-an") o ++ y) ++ rest) r (record w { no_audio = false }) → Out ws (y ++ rest) r (record w { no_audio = o })
+no_audio-read ws few y rest r w false h = h
+no_audio-read ws few y rest r w true h = (
+  or_else h.0 (Some h.3.at),
+  h.1,
+  or_else h.2 (Some h.3.at),
+  goes-switch ws few (codes "-an") (y ++ rest) (in_hand r (held h.0 h.1 h.2 (record w { no_audio = false }))) Output kind.NoAudio value.NoAudio h.3 refl line-no_audio refl refl (omega arith) refl,
+)
+
+no_video-read : (ws : List Text) (few : length ws ≤ 1024) (y rest : List Text) (r : Reader) (w : Own) (o : Bool)
+    → Out ws ((where_true (codes "-vn") o ++ y) ++ rest) r (record w { no_video = false }) → Out ws (y ++ rest) r (record w { no_video = o })
+no_video-read ws few y rest r w false h = h
+no_video-read ws few y rest r w true h = (
+  or_else h.0 (Some h.3.at),
+  h.1,
+  or_else h.2 (Some h.3.at),
+  goes-switch ws few (codes "-vn") (y ++ rest) (in_hand r (held h.0 h.1 h.2 (record w { no_video = false }))) Output kind.NoVideo value.NoVideo h.3 refl line-no_video refl refl (omega arith) refl,
+)
+
+shortest-read : (ws : List Text) (few : length ws ≤ 1024) (y rest : List Text) (r : Reader) (w : Own) (o : Bool)
+    → Out ws ((where_true (codes "-shortest") o ++ y) ++ rest) r (record w { shortest = false }) → Out ws (y ++ rest) r (record w { shortest = o })
+shortest-read ws few y rest r w false h = h
+shortest-read ws few y rest r w true h = (
+  or_else h.0 (Some h.3.at),
+  h.1,
+  or_else h.2 (Some h.3.at),
+  goes-switch ws few (codes "-shortest") (y ++ rest) (in_hand r (held h.0 h.1 h.2 (record w { shortest = false }))) Output kind.Shortest value.Shortest h.3 refl line-shortest refl refl (omega arith) refl,
+)
+
+start-read : (ws : List Text) (few : length ws ≤ 1024) (y rest : List Text) (r : Reader) (w : Own) (m : Micros)
+    → Out ws ((start_words m.us ++ y) ++ rest) r w → Out ws (y ++ rest) r (record w { start = Some m })
+start-read ws few y rest r w m h = (
+  or_else h.0 None,
+  h.1,
+  or_else h.2 (Some h.3.at),
+  goes-option ws few (codes "-ss") (micros_text m.us) (y ++ rest) (in_hand r (held h.0 h.1 h.2 w)) File kind.Start (value.Start m) h.3 refl line-start refl (omega arith) (micros-short m.us m.bound)
+      refl refl (reads-start m),
+)
+
+length-read : (ws : List Text) (few : length ws ≤ 1024) (y rest : List Text) (r : Reader) (w : Own) (o : Option ℕ) (k : Bounded o)
+    → Out ws ((length_words o ++ y) ++ rest) r (record w { length = None }) → Out ws (y ++ rest) r (record w { length = micros_in o k })
+unfolding micros_in
+length-read ws few y rest r w None k h = h
+length-read ws few y rest r w (Some n) k h = (
+  or_else h.0 None,
+  h.1,
+  or_else h.2 (Some h.3.at),
+  goes-option ws few (codes "-t") (micros_text n) (y ++ rest) (in_hand r (held h.0 h.1 h.2 (record w { length = None }))) File kind.Length (value.Length (record { us = n; bound = k n refl })) h.3 refl line-length refl (omega arith)
+      (micros-short n (k n refl)) refl refl (reads-length (record { us = n; bound = k n refl })),
+)
+
+hash-read : (ws : List Text) (few : length ws ≤ 1024) (y rest : List Text) (r : Reader) (w : Own) (o : HashKind)
+    → Out ws ((hash_words o ++ y) ++ rest) r w → Out ws (y ++ rest) r (record w { hash = Some o })
+hash-read ws few y rest r w o h = (
+  or_else h.0 (Some h.3.at),
+  h.1,
+  or_else h.2 (Some h.3.at),
+  goes-option ws few (codes "-hash") (hash_name o) (y ++ rest) (in_hand r (held h.0 h.1 h.2 w)) Output kind.Hash (value.Hash o) h.3 refl line-hash refl (omega arith) (hash-short o) refl refl (reads-hash o),
+)
+
+format-read : (ws : List Text) (few : length ws ≤ 1024) (y rest : List Text) (r : Reader) (w : Own) (o : FileFormat)
+    → Out ws ((format_words o ++ y) ++ rest) r w → Out ws (y ++ rest) r (record w { format = Some o })
+format-read ws few y rest r w o h = (
+  or_else h.0 None,
+  place_unless (readable o) h.3.at,
+  or_else h.2 (Some h.3.at),
+  goes-option ws few (codes "-f") (format_name o) (y ++ rest) (in_hand r (held h.0 h.1 h.2 w)) File kind.Format (value.Format o (readable o) true) h.3 refl line-format refl (omega arith) (format-short o) refl refl
+      (reads-format o),
+)
+
+-- ---- an output
+
+abbrev made_output : OutputJob → Own
+made_output o =
+    own o.maps o.audio o.video o.vf o.af o.no_audio o.no_video (Some (start_in o.cut)) (micros_in o.cut.length o.cut.length_bound) o.shortest (Some o.hash) (Some o.format)
+
+output-options : (ws : List Text) (few : length ws ≤ 1024) (rest : List Text) (r : Reader) (o : OutputJob) → IsFineOutput o → Goes ws (output_words o ++ rest) (in_hand r (pending []))
+    → Out ws (o.name ∷ rest) r (made_output o)
+output-options ws few rest r o fine g =
+    let y12 : List Text = o.name ∷ [] in
+    let y11 : List Text = format_words o.format ++ y12 in
+    let y10 : List Text = hash_words o.hash ++ y11 in
+    let y9 : List Text = where_true (codes "-shortest") o.shortest ++ y10 in
+    let y8 : List Text = length_words o.cut.length ++ y9 in
+    let y7 : List Text = start_words o.cut.start ++ y8 in
+    let y6 : List Text = where_true (codes "-vn") o.no_video ++ y7 in
+    let y5 : List Text = where_true (codes "-an") o.no_audio ++ y6 in
+    let y4 : List Text = af_words o.af ++ y5 in
+    let y3 : List Text = vf_words o.vf ++ y4 in
+    let y2 : List Text = video_words o.video ++ y3 in
+    let y1 : List Text = audio_words o.audio ++ y2 in
+    let s : Option Micros = Some (start_in o.cut) in
+    let l : Option Micros = micros_in o.cut.length o.cut.length_bound in
+    let w0 : Own = own [] None None None None false false None None false None None in
+    let h0 : Out ws (flat_map map_words o.maps ++ (y1 ++ rest)) r w0 = out-split ws r w0 (flat_map map_words o.maps) y1 rest (None, None, None, g) in
+    let h1 : Out ws (y1 ++ rest) r (own o.maps None None None None false false None None false None None) = maps-read ws few (y1 ++ rest) r w0 o.maps [] fine.maps (omega (arith, fine.few_maps)) h0 in
+    let h2 : Out ws (y2 ++ rest) r (own o.maps o.audio None None None false false None None false None None) = audio-read ws few y2 rest r (own o.maps None None None None false false None None false None None) o.audio fine.audio h1 in
+    let h3 : Out ws (y3 ++ rest) r (own o.maps o.audio o.video None None false false None None false None None) = video-read ws few y3 rest r (own o.maps o.audio None None None false false None None false None None) o.video fine.video h2 in
+    let h4 : Out ws (y4 ++ rest) r (own o.maps o.audio o.video o.vf None false false None None false None None) = vf-read ws few y4 rest r (own o.maps o.audio o.video None None false false None None false None None) o.vf fine.vf h3 in
+    let h5 : Out ws (y5 ++ rest) r (own o.maps o.audio o.video o.vf o.af false false None None false None None) = af-read ws few y5 rest r (own o.maps o.audio o.video o.vf None false false None None false None None) o.af fine.af h4 in
+    let h6 : Out ws (y6 ++ rest) r (own o.maps o.audio o.video o.vf o.af o.no_audio false None None false None None) = no_audio-read ws few y6 rest r (own o.maps o.audio o.video o.vf o.af false false None None false None None) o.no_audio h5 in
+    let h7 : Out ws (y7 ++ rest) r (own o.maps o.audio o.video o.vf o.af o.no_audio o.no_video None None false None None) = no_video-read ws few y7 rest r (own o.maps o.audio o.video o.vf o.af o.no_audio false None None false None None) o.no_video h6 in
+    let h8 : Out ws (y8 ++ rest) r (own o.maps o.audio o.video o.vf o.af o.no_audio o.no_video s None false None None) = start-read ws few y8 rest r (own o.maps o.audio o.video o.vf o.af o.no_audio o.no_video None None false None None) (start_in o.cut) h7 in
+    let h9 : Out ws (y9 ++ rest) r (own o.maps o.audio o.video o.vf o.af o.no_audio o.no_video s l false None None) = length-read ws few y9 rest r (own o.maps o.audio o.video o.vf o.af o.no_audio o.no_video s None false None None) o.cut.length o.cut.length_bound h8 in
+    let h10 : Out ws (y10 ++ rest) r (own o.maps o.audio o.video o.vf o.af o.no_audio o.no_video s l o.shortest None None) = shortest-read ws few y10 rest r (own o.maps o.audio o.video o.vf o.af o.no_audio o.no_video s l false None None) o.shortest h9 in
+    let h11 : Out ws (y11 ++ rest) r (own o.maps o.audio o.video o.vf o.af o.no_audio o.no_video s l o.shortest (Some o.hash) None) = hash-read ws few y11 rest r (own o.maps o.audio o.video o.vf o.af o.no_audio o.no_video s l o.shortest None None) o.hash h10 in
+    format-read ws few y12 rest r (own o.maps o.audio o.video o.vf o.af o.no_audio o.no_video s l o.shortest (Some o.hash) None) o.format h11
+
+in_bounds : (full empty : Bool) (at : ℕ) → full ≡ false → empty ≡ false
+    → None ≡ (if full then Some (fault at TooMany) else or_else (bad_at None) (if not empty && true then None else Some (fault at BadValue)))
+in_bounds false false at h k = refl
+in_bounds false true at h k = cc
+in_bounds true b at h k = cc
+
+output-same : (o : OutputJob) (c : TimeCut) → c ≡ o.cut → record o { cut = c } ≡ o
+output-same o c e = ap (λ x. record o { cut = x }) e
+
+output-read : (ws : List Text) (few : length ws ≤ 1024) (rest : List Text) (r : Reader) (o : OutputJob) → IsFineOutput o → length r.outputs < 16 → Goes ws (output_words o ++ rest) (in_hand r (pending []))
+    → Goes ws rest (record r { outputs = r.outputs ++ o ∷ []; pending = pending [] })
+output-read ws few rest r o fine room g =
+    let h : Out ws (o.name ∷ rest) r (made_output o) = output-options ws few rest r o fine g in
+    let full : nat_le 16 (length r.outputs) ≡ false = lt-leb 16 (length r.outputs) room in
+    let empty : (length o.name == 0) ≡ false = ne_eqb (length o.name) 0 (λ e. omega (arith, e, fine.some_name)) in
+    let old : Reader = in_hand r (held h.0 h.1 h.2 (made_output o)) in
+    subst (λ x. Goes ws rest (record r { outputs = r.outputs ++ x ∷ []; pending = pending [] }))
+    (output-same o (cut_of (Some (start_in o.cut)) (micros_in o.cut.length o.cut.length_bound)) (cut-same o.cut))
+    (goes-output ws few o.name rest old o.format h.3 fine.plain_name fine.name (λ ending. in_bounds (nat_le 16 (length r.outputs)) (length o.name == 0) h.3.at full empty) refl)
+
+outputs-read : (ws : List Text) (few : length ws ≤ 1024) (rest : List Text) (os : List OutputJob) (r : Reader) → AllByRecursion IsFineOutput os → length r.outputs + length os ≤ 16
+    → Goes ws (flat_map output_words os ++ rest) (in_hand r (pending [])) → Goes ws rest (record r { outputs = r.outputs ++ os; pending = pending [] })
+outputs-read ws few rest [] r fine room g = subst (λ t. Goes ws rest (record r { outputs = t; pending = pending [] })) (sym (append-nil r.outputs)) g
+outputs-read ws few rest (o ∷ os) r fine room g =
+    let after : Reader = record r { outputs = r.outputs ++ o ∷ []; pending = pending [] } in
+    let one : Goes ws (flat_map output_words os ++ rest) after =
+    output-read ws few (flat_map output_words os ++ rest) r o fine.0 (omega (arith, room))
+    (goes-by ws ((output_words o ++ flat_map output_words os) ++ rest) (output_words o ++ (flat_map output_words os ++ rest)) (in_hand r (pending [])) (append_assoc (output_words o) (flat_map output_words os) rest) g) in
+    subst (λ t. Goes ws rest (record r { outputs = t; pending = pending [] })) (append_assoc r.outputs (o ∷ []) os)
+    (outputs-read ws few rest os after fine.1 (omega (arith, room, length-append r.outputs (o ∷ []))) one)
+
+-- ---- an input
+
+is-readable : (f : FileFormat) → IsReadFormat f → readable f ≡ true
+is-readable format.Wav h = refl
+is-readable format.Flac h = refl
+is-readable format.Y4m h = refl
+is-readable format.FrameHash h = absurd h
+
+in-format : (ws : List Text) (few : length ws ≤ 1024) (y rest : List Text) (r : Reader) (w : Own) (o : Option FileFormat) → WhereSome IsReadFormat o
+    → In ws ((where_some format_words o ++ y) ++ rest) r (record w { format = None }) → In ws (y ++ rest) r (record w { format = o })
+in-format ws few y rest r w None fine h = h
+in-format ws few y rest r w (Some f) fine h = (
+  or_else h.0 (Some h.1.at),
+  subst (λ b. Goes ws (y ++ rest) (in_hand r (held None (place_unless b h.1.at) (or_else h.0 (Some h.1.at)) (record w { format = Some f })))) (is-readable f fine)
+      (goes-option ws few (codes "-f") (format_name f) (y ++ rest) (in_hand r (held None None h.0 (record w { format = None }))) File kind.Format (value.Format f (readable f) true) h.1 refl line-format refl (omega arith)
+      (format-short f) refl refl (reads-format f)),
+)
+
+in-start : (ws : List Text) (few : length ws ≤ 1024) (y rest : List Text) (r : Reader) (w : Own) (m : Micros)
+    → In ws ((start_words m.us ++ y) ++ rest) r w → In ws (y ++ rest) r (record w { start = Some m })
+in-start ws few y rest r w m h = (
+  or_else h.0 (Some h.1.at),
+  goes-option ws few (codes "-ss") (micros_text m.us) (y ++ rest) (in_hand r (held None None h.0 w)) File kind.Start (value.Start m) h.1 refl line-start refl (omega arith) (micros-short m.us m.bound)
+      refl refl (reads-start m),
+)
+
+in-length : (ws : List Text) (few : length ws ≤ 1024) (y rest : List Text) (r : Reader) (w : Own) (o : Option ℕ) (k : Bounded o)
+    → In ws ((length_words o ++ y) ++ rest) r (record w { length = None }) → In ws (y ++ rest) r (record w { length = micros_in o k })
+unfolding micros_in
+in-length ws few y rest r w None k h = h
+in-length ws few y rest r w (Some n) k h = (
+  or_else h.0 (Some h.1.at),
+  goes-option ws few (codes "-t") (micros_text n) (y ++ rest) (in_hand r (held None None h.0 (record w { length = None }))) File kind.Length (value.Length (record { us = n; bound = k n refl })) h.1 refl line-length refl (omega arith)
+      (micros-short n (k n refl)) refl refl (reads-length (record { us = n; bound = k n refl })),
+)
+
+in_room : (full : Bool) (at : ℕ) → full ≡ false → None ≡ (if full then Some (fault at TooMany) else bad_at None)
+in_room false at h = refl
+in_room true at h = cc
+
+input-same : (i : InputJob) (c : TimeCut) → c ≡ i.cut → record i { cut = c } ≡ i
+input-same i c e = ap (λ x. record i { cut = x }) e
+
+input-read : (ws : List Text) (few : length ws ≤ 1024) (rest : List Text) (r : Reader) (i : InputJob) → IsFineInput i → length r.inputs < 16 → Goes ws (input_words i ++ rest) (in_hand r (pending []))
+    → Goes ws rest (record r { inputs = r.inputs ++ i ∷ []; pending = pending [] })
+input-read ws few rest r i fine room g =
+    let y3 : List Text = given (codes "-i") i.name in
+    let y2 : List Text = length_words i.cut.length ++ y3 in
+    let y1 : List Text = start_words i.cut.start ++ y2 in
+    let s : Option Micros = Some (start_in i.cut) in
+    let l : Option Micros = micros_in i.cut.length i.cut.length_bound in
+    let w0 : Own = own [] None None None None false false None None false None None in
+    let h1 : In ws (y1 ++ rest) r (own [] None None None None false false None None false None i.format) = in-format ws few y1 rest r w0 i.format fine.format (None, g) in
+    let h2 : In ws (y2 ++ rest) r (own [] None None None None false false s None false None i.format) = in-start ws few y2 rest r (own [] None None None None false false None None false None i.format) (start_in i.cut) h1 in
+    let h3 : In ws (y3 ++ rest) r (own [] None None None None false false s l false None i.format) = in-length ws few y3 rest r (own [] None None None None false false s None false None i.format) i.cut.length i.cut.length_bound h2 in
+    let old : Reader = in_hand r (held None None h3.0 (own [] None None None None false false s l false None i.format)) in
+    let full : nat_le 16 (length r.inputs) ≡ false = lt-leb 16 (length r.inputs) room in
+    subst (λ x. Goes ws rest (record r { inputs = r.inputs ++ x ∷ []; pending = pending [] })) (input-same i (cut_of s l) (cut-same i.cut))
+    (goes-input ws few (codes "-i") i.name rest old h3.1 refl line-input (omega arith) fine.name (in_room (nat_le 16 (length r.inputs)) (h3.1.at + 1) full))
+
+inputs-read : (ws : List Text) (few : length ws ≤ 1024) (rest : List Text) (is : List InputJob) (r : Reader) → AllByRecursion IsFineInput is → length r.inputs + length is ≤ 16
+    → Goes ws (flat_map input_words is ++ rest) (in_hand r (pending [])) → Goes ws rest (record r { inputs = r.inputs ++ is; pending = pending [] })
+inputs-read ws few rest [] r fine room g = subst (λ t. Goes ws rest (record r { inputs = t; pending = pending [] })) (sym (append-nil r.inputs)) g
+inputs-read ws few rest (i ∷ is) r fine room g =
+    let after : Reader = record r { inputs = r.inputs ++ i ∷ []; pending = pending [] } in
+    let one : Goes ws (flat_map input_words is ++ rest) after =
+    input-read ws few (flat_map input_words is ++ rest) r i fine.0 (omega (arith, room))
+    (goes-by ws ((input_words i ++ flat_map input_words is) ++ rest) (input_words i ++ (flat_map input_words is ++ rest)) (in_hand r (pending [])) (append_assoc (input_words i) (flat_map input_words is) rest) g) in
+    subst (λ t. Goes ws rest (record r { inputs = t; pending = pending [] })) (append_assoc r.inputs (i ∷ []) is)
+    (inputs-read ws few rest is after fine.1 (omega (arith, room, length-append r.inputs (i ∷ []))) one)
+
+-- ---- the options of the whole command
+
+graphs-read : (ws : List Text) (few : length ws ≤ 1024) (rest : List Text) (gs : List Graph) (r : Reader) → AllByRecursion IsFineGraph gs → length r.graphs + length gs ≤ 16
+    → Goes ws (flat_map graph_words gs ++ rest) (in_hand r (pending [])) → Goes ws rest (record r { graphs = r.graphs ++ gs; pending = pending [] })
+graphs-read ws few rest [] r fine room g = subst (λ t. Goes ws rest (record r { graphs = t; pending = pending [] })) (sym (append-nil r.graphs)) g
+graphs-read ws few rest (x ∷ gs) r fine room g =
+    let after : Reader = record r { graphs = r.graphs ++ x ∷ []; pending = pending [] } in
+    let one : Goes ws (flat_map graph_words gs ++ rest) after =
+    goes-option ws few (codes "-filter_complex") (printed x) (flat_map graph_words gs ++ rest) (in_hand r (pending [])) All kind.Complex (value.Complex x) g refl line-complex refl (omega arith) fine.0.1
+    (lt-leb 16 (length r.graphs) (omega (arith, room))) refl (reads-complex x fine.0) in
+    subst (λ t. Goes ws rest (record r { graphs = t; pending = pending [] })) (append_assoc r.graphs (x ∷ []) gs)
+    (graphs-read ws few rest gs after fine.1 (omega (arith, room, length-append r.graphs (x ∷ []))) one)
+
+trace-read : (ws : List Text) (few : length ws ≤ 1024) (rest : List Text) (o : Option Text) (r : Reader) → WhereSome IsFineText o
+    → Goes ws (trace_words o ++ rest) (in_hand (record r { trace = None }) (pending [])) → Goes ws rest (in_hand (record r { trace = o }) (pending []))
+trace-read ws few rest None r fine g = g
+trace-read ws few rest (Some name) r fine g =
+    goes-option ws few (codes "-sched_trace") name rest (in_hand (record r { trace = None }) (pending [])) All kind.Trace (value.Trace name) g refl line-trace refl (omega arith) fine refl refl refl
+
+queue-read : (ws : List Text) (few : length ws ≤ 1024) (rest : List Text) (n : ℕ) (r : Reader) → 1 ≤ n → n ≤ 1024
+    → Goes ws (queue_words n ++ rest) (in_hand r (pending [])) → Goes ws rest (in_hand (record r { queue = n }) (pending []))
+queue-read ws few rest n r low high g =
+    let small : n < 10 ^ 9 = omega (arith, high) in
+    goes-option ws few (codes "-thread_queue_size") (decimal n) rest (in_hand r (pending [])) All kind.Queue (value.Queue n) g refl line-queue refl (omega arith) (omega (arith, number-short n small)) refl refl
+    (Ok n, (is-number n small, low, high), refl)
+
+-- ---- the job
+
+abbrev state : ℕ → Option Text → List Graph → List InputJob → List OutputJob → Reader
+state q t gs is os = record { queue = q; trace = t; self_run = None; graphs = gs; inputs = is; outputs = os; pending = pending [] }
+
+abbrev done : Job → Reader
+done j = state j.queue j.trace j.graphs j.inputs j.outputs
+
+all-read : (j : Job) → IsFineJob j → length (job_words j) ≤ 1024 → Goes (job_words j) [] (done j)
+all-read j fine few =
+    let ws : List Text = job_words j in
+    let y4 : List Text = flat_map output_words j.outputs ++ [] in
+    let y3 : List Text = flat_map input_words j.inputs ++ y4 in
+    let y2 : List Text = flat_map graph_words j.graphs ++ y3 in
+    let y1 : List Text = trace_words j.trace ++ y2 in
+    let g1 : Goes ws y1 (state j.queue None [] [] []) = queue-read ws few y1 j.queue (state 8 None [] [] []) fine.some_queue fine.short_queue (goes-start ws) in
+    let g2 : Goes ws y2 (state j.queue j.trace [] [] []) = trace-read ws few y2 j.trace (state j.queue None [] [] []) fine.trace g1 in
+    let g3 : Goes ws y3 (state j.queue j.trace j.graphs [] []) = graphs-read ws few y3 j.graphs (state j.queue j.trace [] [] []) fine.graphs (omega (arith, fine.few_graphs)) g2 in
+    let g4 : Goes ws y4 (state j.queue j.trace j.graphs j.inputs []) = inputs-read ws few y4 j.inputs (state j.queue j.trace j.graphs [] []) fine.inputs (omega (arith, fine.few_inputs)) g3 in
+    outputs-read ws few [] j.outputs (state j.queue j.trace j.graphs j.inputs []) fine.outputs (omega (arith, fine.few_outputs)) g4
+
+none_left : (ws : List Text) (at : ℕ) → drop at ws ≡ [] → length ws ≤ at
+none_left [] at h = omega arith
+none_left (w ∷ ws) zero h = cc
+none_left (w ∷ ws) (suc i) h = (let past : length ws ≤ i = none_left ws i h in omega (arith, past))
+
+fine_end : (alone no_input no_output same : Bool) (count : ℕ) → no_input ≡ false → no_output ≡ false → same ≡ false
+    → (if alone && false then None else (if no_input then Some (fault count NoInput) else (if no_output then Some (fault count NoOutput) else (if same then Some (fault count SameName) else None)))) ≡ None
+fine_end true false false false count h k l = refl
+fine_end false false false false count h k l = refl
+fine_end a true b c count h k l = cc
+fine_end a false true c count h k l = cc
+fine_end a false false true count h k l = cc
+
+job-read : (j : Job) → IsFineJob j → IsAnswer table.Whole (job_words j) (Ok (Run j))
+job-read j fine =
+    let g : Goes (job_words j) [] (done j) = all-read j fine (few j fine) in
+    let no_input : (length j.inputs == 0) ≡ false = ne_eqb (length j.inputs) 0 (λ e. omega (arith, e, fine.some_inputs)) in
+    let no_output : (length j.outputs == 0) ≡ false = ne_eqb (length j.outputs) 0 (λ e. omega (arith, e, fine.some_outputs)) in
+    let right : end_wrong (length (job_words j)) (done j) ≡ None =
+    fine_end (length (job_words j) == 2) (length j.inputs == 0) (length j.outputs == 0) (same_name j) (length (job_words j)) no_input no_output fine.names in
+    ended table.Whole (job_words j) g.at (done j) g.stands (Ok (Run j)) (none_left (job_words j) g.at g.behind) (right, refl)
+
+self_run-read : (n : ℕ) → n ≤ 3600 → IsAnswer table.Whole (command_words (SelfRun n)) (Ok (SelfRun n))
+self_run-read n high =
+    let ws : List Text = command_words (SelfRun n) in
+    let small : n < 10 ^ 9 = omega (arith, high) in
+    let start : Goes ws ws (reader []) = goes-start ws in
+    let old : Reader = state 8 None [] [] [] in
+    let after : Reader = record old { self_run = Some n; pending = record (pending []) { before_input = Some start.at; before_output = Some start.at; at_end = Some start.at } } in
+    let g : Goes ws [] after =
+    goes-option ws (omega arith) (codes "-selfrun") (decimal n) [] old Alone kind.SelfRun (value.SelfRun n) start refl line-self_run refl (omega arith) (omega (arith, number-short n small)) refl refl
+    (Ok n, (is-number n small, omega arith, high), refl) in
+    ended table.Whole ws g.at after g.stands (Ok (SelfRun n)) (none_left ws g.at g.behind) (refl, refl)
+
+pub written-read : (c : Command) → IsFineCommand c → IsAnswer table.Whole (command_words c) (Ok c)
+written-read (Run j) fine = job-read j fine
+written-read (SelfRun n) fine = self_run-read n fine

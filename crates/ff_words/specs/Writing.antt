@@ -1,0 +1,230 @@
+-- Words that ask for a command: of a job its options one by one, then its inputs and its outputs, each behind its own options.
+use Rattle.std.specs.Prelude.{◌≡◌, ℕ, ◌<◌, ◌≤◌, ◌^◌, Bool, true, false, Option, Some, None, List, ◌∷◌, [], ◌++◌, length, flat_map, codes}
+use Rattle.std.specs.List.{AllByRecursion}
+use Rattle.std.specs.Fmt.{decimal}
+use Rattle.ff_values.specs.declared.head.Codec.{Codec}
+use Rattle.ff_values.specs.declared.head.Codec.TheVariants as codec
+use Rattle.ff_values.specs.declared.hash.HashKind.{HashKind}
+use Rattle.ff_values.specs.declared.hash.HashKind.TheVariants.{Sha256, Md5}
+use Rattle.ff_lang.specs.declared.graph.Graph.{Graph}
+use Rattle.ff_lang.specs.Grammar.{IsLabel}
+use Rattle.ff_lang.specs.Printing.{printed, IsSound}
+use Rattle.ff_map.specs.declared.map.Pick.{Pick}
+use Rattle.ff_map.specs.declared.map.Pick.TheVariants as pick
+use Rattle.ff_map.specs.declared.map.MapFrom.{MapFrom}
+use Rattle.ff_map.specs.declared.map.MapFrom.TheVariants.{Input, Label}
+use Rattle.ff_map.specs.declared.map.MapSpec.{MapSpec}
+use Rattle.ff_map.specs.Grammar.{letter, mark}
+use Rattle.ff_words.specs.declared.job.FileFormat.{FileFormat}
+use Rattle.ff_words.specs.declared.job.FileFormat.TheVariants as format
+use Rattle.ff_words.specs.declared.job.InputJob.{InputJob}
+use Rattle.ff_words.specs.declared.job.OutputJob.{OutputJob}
+use Rattle.ff_words.specs.declared.job.Job.{Job}
+use Rattle.ff_words.specs.declared.job.Command.{Command}
+use Rattle.ff_words.specs.declared.job.Command.TheVariants.{Run, SelfRun}
+use Rattle.ff_words.specs.Words.{is_dashed, same_name}
+
+-- ---- values
+
+abbrev pub micros_text : ℕ → List ℕ
+micros_text us = decimal us ++ codes "us"
+
+abbrev pub format_name : FileFormat → List ℕ
+format_name format.Wav = codes "wav"
+format_name format.Flac = codes "flac"
+format_name format.Y4m = codes "yuv4mpegpipe"
+format_name format.FrameHash = codes "framehash"
+
+abbrev pub codec_name : Codec → List ℕ
+codec_name codec.PcmU8 = codes "pcm_u8"
+codec_name codec.PcmS16le = codes "pcm_s16le"
+codec_name codec.PcmS24le = codes "pcm_s24le"
+codec_name codec.PcmS32le = codes "pcm_s32le"
+codec_name codec.Flac = codes "flac"
+codec_name codec.RawVideo = codes "rawvideo"
+
+abbrev pub hash_name : HashKind → List ℕ
+hash_name Sha256 = codes "SHA256"
+hash_name Md5 = codes "MD5"
+
+abbrev pub pick_text : Pick → List ℕ
+pick_text pick.All = []
+pick_text (pick.Index n) = codes ":" ++ decimal n
+pick_text (pick.Kind kind) = codes ":" ++ letter kind
+pick_text (pick.Nth kind n) = codes ":" ++ letter kind ++ codes ":" ++ decimal n
+
+abbrev pub from_text : MapFrom → Bool → List ℕ
+from_text (Input file chosen) optional = decimal file ++ pick_text chosen ++ mark optional
+from_text (Label label) optional = codes "[" ++ label ++ codes "]"
+
+abbrev pub map_text : MapSpec → List ℕ
+map_text map = from_text map.from map.optional
+
+-- ---- words
+
+-- an option with its value
+abbrev pub given : List ℕ → List ℕ → List (List ℕ)
+given name text = name ∷ text ∷ []
+
+-- the words of what is there
+abbrev pub where_some : {X : Type 0} → (X → List (List ℕ)) → Option X → List (List ℕ)
+where_some write None = []
+where_some write (Some x) = write x
+
+abbrev pub where_true : List ℕ → Bool → List (List ℕ)
+where_true name false = []
+where_true name true = name ∷ []
+
+abbrev pub start_words : ℕ → List (List ℕ)
+start_words us = given (codes "-ss") (micros_text us)
+
+abbrev pub length_words : Option ℕ → List (List ℕ)
+length_words o = where_some (λ us. given (codes "-t") (micros_text us)) o
+
+abbrev pub format_words : FileFormat → List (List ℕ)
+format_words f = given (codes "-f") (format_name f)
+
+-- one after the other
+abbrev pub all_of : List (List (List ℕ)) → List (List ℕ)
+all_of [] = []
+all_of (first ∷ others) = first ++ all_of others
+
+abbrev pub input_words : InputJob → List (List ℕ)
+input_words i = all_of (where_some format_words i.format ∷ start_words i.cut.start ∷ length_words i.cut.length ∷ given (codes "-i") i.name ∷ [])
+
+abbrev pub map_words : MapSpec → List (List ℕ)
+map_words m = given (codes "-map") (map_text m)
+
+abbrev pub audio_words : Option Codec → List (List ℕ)
+audio_words o = where_some (λ c. given (codes "-c:a") (codec_name c)) o
+
+abbrev pub video_words : Option Codec → List (List ℕ)
+video_words o = where_some (λ c. given (codes "-c:v") (codec_name c)) o
+
+abbrev pub vf_words : Option Graph → List (List ℕ)
+vf_words o = where_some (λ g. given (codes "-vf") (printed g)) o
+
+abbrev pub af_words : Option Graph → List (List ℕ)
+af_words o = where_some (λ g. given (codes "-af") (printed g)) o
+
+abbrev pub hash_words : HashKind → List (List ℕ)
+hash_words h = given (codes "-hash") (hash_name h)
+
+abbrev pub output_words : OutputJob → List (List ℕ)
+output_words o =
+    all_of (
+    flat_map map_words o.maps ∷
+    audio_words o.audio ∷
+    video_words o.video ∷
+    vf_words o.vf ∷
+    af_words o.af ∷
+    where_true (codes "-an") o.no_audio ∷
+    where_true (codes "-vn") o.no_video ∷
+    start_words o.cut.start ∷
+    length_words o.cut.length ∷
+    where_true (codes "-shortest") o.shortest ∷
+    hash_words o.hash ∷
+    format_words o.format ∷
+    (o.name ∷ []) ∷
+    []
+    )
+
+abbrev pub graph_words : Graph → List (List ℕ)
+graph_words g = given (codes "-filter_complex") (printed g)
+
+abbrev pub trace_words : Option (List ℕ) → List (List ℕ)
+trace_words trace = where_some (given (codes "-sched_trace")) trace
+
+abbrev pub queue_words : ℕ → List (List ℕ)
+queue_words n = given (codes "-thread_queue_size") (decimal n)
+
+abbrev pub job_words : Job → List (List ℕ)
+job_words j =
+    all_of (
+    queue_words j.queue ∷
+    trace_words j.trace ∷
+    flat_map graph_words j.graphs ∷
+    flat_map input_words j.inputs ∷
+    flat_map output_words j.outputs ∷
+    []
+    )
+
+abbrev pub command_words : Command → List (List ℕ)
+command_words (Run j) = job_words j
+command_words (SelfRun n) = given (codes "-selfrun") (decimal n)
+
+-- ---- what words can ask for
+
+abbrev pub IsFineText : List ℕ → Type 0
+IsFineText text = length text ≤ 65536
+
+-- a graph of words and labels, with a text that is short enough
+abbrev pub IsFineGraph : Graph → Type 0
+IsFineGraph g = IsSound g × IsFineText (printed g)
+
+abbrev pub IsFinePick : Pick → Type 0
+IsFinePick pick.All = Unit {0}
+IsFinePick (pick.Index n) = n < 10 ^ 9
+IsFinePick (pick.Kind kind) = Unit {0}
+IsFinePick (pick.Nth kind n) = n < 10 ^ 9
+
+abbrev pub IsFineFrom : MapFrom → Bool → Type 0
+IsFineFrom (Input file chosen) optional = (file < 10 ^ 9) × IsFinePick chosen
+IsFineFrom (Label label) optional = IsLabel label × (optional ≡ false)
+
+-- its numbers have at most nine digits, and a label is one
+abbrev pub IsFineMap : MapSpec → Type 0
+IsFineMap m = IsFineFrom m.from m.optional
+
+abbrev pub IsReadFormat : FileFormat → Type 0
+IsReadFormat format.Wav = Unit {0}
+IsReadFormat format.Flac = Unit {0}
+IsReadFormat format.Y4m = Unit {0}
+IsReadFormat format.FrameHash = ⊥
+
+abbrev pub IsSoundCodec : Codec → Type 0
+IsSoundCodec codec.PcmU8 = Unit {0}
+IsSoundCodec codec.PcmS16le = Unit {0}
+IsSoundCodec codec.PcmS24le = Unit {0}
+IsSoundCodec codec.PcmS32le = Unit {0}
+IsSoundCodec codec.Flac = Unit {0}
+IsSoundCodec codec.RawVideo = ⊥
+
+abbrev pub WhereSome : {X : Type 0} → (X → Type 0) → Option X → Type 0
+WhereSome Is None = Unit {0}
+WhereSome Is (Some x) = Is x
+
+pub record IsFineInput (i : InputJob) : Type 0 where
+  pub name : IsFineText i.name
+  pub format : WhereSome IsReadFormat i.format
+
+pub record IsFineOutput (o : OutputJob) : Type 0 where
+  pub name : IsFineText o.name
+  pub some_name : 0 < length o.name
+  pub plain_name : is_dashed o.name ≡ false
+  pub few_maps : length o.maps ≤ 16
+  pub maps : AllByRecursion IsFineMap o.maps
+  pub audio : WhereSome IsSoundCodec o.audio
+  pub video : WhereSome (λ c. c ≡ codec.RawVideo) o.video
+  pub vf : WhereSome IsFineGraph o.vf
+  pub af : WhereSome IsFineGraph o.af
+
+-- Each number is in its range, each name and text is short enough, the names of outputs are names of outputs, there are one to
+-- sixteen of what there may be sixteen of, and no written name stands twice.
+pub record IsFineJob (j : Job) : Type 0 where
+  pub some_queue : 1 ≤ j.queue
+  pub short_queue : j.queue ≤ 1024
+  pub trace : WhereSome IsFineText j.trace
+  pub few_graphs : length j.graphs ≤ 16
+  pub graphs : AllByRecursion IsFineGraph j.graphs
+  pub some_inputs : 0 < length j.inputs
+  pub few_inputs : length j.inputs ≤ 16
+  pub inputs : AllByRecursion IsFineInput j.inputs
+  pub some_outputs : 0 < length j.outputs
+  pub few_outputs : length j.outputs ≤ 16
+  pub outputs : AllByRecursion IsFineOutput j.outputs
+  pub names : same_name j ≡ false
+
+abbrev pub IsFineCommand : Command → Type 0
+IsFineCommand (Run j) = IsFineJob j
+IsFineCommand (SelfRun n) = n ≤ 3600
