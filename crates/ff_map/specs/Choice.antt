@@ -1,5 +1,6 @@
 -- The streams that a map names, and the choice without one, over whole lists of heads.
-use Rattle.std.specs.Prelude.{◌≡◌, ℕ, ◌+◌, ◌*◌, ◌<◌, ◌≤◌, Bool, true, false, Option, Some, None, List, ◌∷◌, [], ◌++◌, take, drop, map, unwrap_or, slice_get, if◌then◌else◌, option_to_list}
+use Rattle.std.specs.Prelude.{◌≡◌, ℕ, ◌+◌, ◌*◌, ◌<◌, ◌≤◌, Bool, true, false, Option, Some, None, List, ◌∷◌, [], ◌++◌, take, drop, map, unwrap_or}
+use Rattle.std.specs.Prelude.{slice_get, if◌then◌else◌, option_to_list}
 use Rattle.std.specs.List.{AllByRecursion}
 use Rattle.std.specs.declared.alloc.Global.{Global}
 use Rattle.std.specs.declared.vec.Vec.{Vec}

@@ -2,7 +2,8 @@
 ghost use Rattle.std.specs.Prelude.{◌≡◌, ◌+◌, ◌*◌, ◌^◌, ◌<◌, IfOk};
 ghost use Rattle.std.specs.Option.{ForSome};
 ghost use Rattle.ff_lang.specs.Letters.{is_label_byte};
-ghost use Rattle.ff_map.specs.Reading.{IsDecimal, IsSound, byte_next, letter_next, label_next, start_next, file_next, separator_next, index_next, end_of as map_at_end, of_input as map_of_input};
+ghost use Rattle.ff_map.specs.Reading.{IsDecimal, IsSound, byte_next, letter_next, label_next, start_next, file_next, separator_next, index_next};
+ghost use Rattle.ff_map.specs.Reading.{end_of as map_at_end, of_input as map_of_input};
 
 use crate::letter::{Letter, classify};
 use crate::map::{Kind, MapFrom, MapSpec, Pick};
