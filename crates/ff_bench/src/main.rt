@@ -1,4 +1,4 @@
-//! Measures how fast what no command shows by itself runs: bits, links, a codec. What a command takes is measured on the built
+//! Measures how fast what no command shows by itself runs: bits, links, a codec, words. What a command takes is measured on the built
 //! program (`checks/measure-framehash`). With no word it prints its usage.
 #![tactic(auto)]
 
@@ -8,6 +8,7 @@ mod frames;
 mod heads;
 mod links;
 mod pcm;
+mod words;
 
 use std::{env, io};
 
@@ -21,6 +22,7 @@ fn main(rt: HostRuntime) -> io::Result<()> {
         Some(word) if word.as_str() == "heads" => heads::measure(&rt),
         Some(word) if word.as_str() == "links" => links::measure(&rt, rt.alloc()),
         Some(word) if word.as_str() == "pcm" => pcm::measure(&rt),
-        _ => println!(rt; "usage: ff_bench bits|flac|frames|heads|links|pcm"),
+        Some(word) if word.as_str() == "words" => words::measure(&rt),
+        _ => println!(rt; "usage: ff_bench bits|flac|frames|heads|links|pcm|words"),
     }
 }
