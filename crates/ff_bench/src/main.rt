@@ -6,6 +6,7 @@ mod bits;
 mod flac;
 mod frames;
 mod heads;
+mod held;
 mod links;
 mod pcm;
 mod words;
@@ -20,9 +21,10 @@ fn main(rt: HostRuntime) -> io::Result<()> {
         Some(word) if word.as_str() == "flac" => flac::measure(&rt),
         Some(word) if word.as_str() == "frames" => frames::measure(&rt),
         Some(word) if word.as_str() == "heads" => heads::measure(&rt),
+        Some(word) if word.as_str() == "held" => held::measure(&rt),
         Some(word) if word.as_str() == "links" => links::measure(&rt, rt.alloc()),
         Some(word) if word.as_str() == "pcm" => pcm::measure(&rt),
         Some(word) if word.as_str() == "words" => words::measure(&rt),
-        _ => println!(rt; "usage: ff_bench bits|flac|frames|heads|links|pcm|words"),
+        _ => println!(rt; "usage: ff_bench bits|flac|frames|heads|held|links|pcm|words"),
     }
 }

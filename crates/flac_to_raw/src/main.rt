@@ -1,7 +1,9 @@
 //! Reads a FLAC input from standard input and writes its samples to standard output: signed, the lowest byte first, each in
-//! the least number of whole bytes, sample frame after sample frame. Its status is 1 where the input isn't a whole FLAC input
-//! that is read.
+//! the least number of whole bytes, sample frame after sample frame. Where the input isn't a whole FLAC input that is read,
+//! nothing is written there, a line on standard error says why and at which of its bytes, and the status is 1.
 #![tactic(auto)]
+
+mod stop;
 
 ghost use Rattle.std.specs.Prelude.{◌≡◌, ◌≤◌, ◌^◌, IfOk, false};
 ghost use Rattle.ff_flac_frame.specs.Frame.{IsStream};
@@ -9,28 +11,17 @@ ghost use Rattle.ff_flac_dec.specs.Streams.{stream_of, IsHead};
 ghost use Rattle.ff_flac_dec.specs.Cuts.{place_of, has_ended};
 
 use ff_cut::PacketCut;
-use ff_flac_dec::{FlacCut, FlacHead, decode, frame_at, read_head};
+use ff_flac_dec::{DecodeEnd, FlacCut, FlacHead, FrameEnd, decode, frame_at, read_head};
 use ff_lists::{from_place, front};
-use ff_values::{AFrame, Cut, Pkt};
-use std::alloc::{AllocError, AllocFailed, Global};
+use ff_values::{AFrame, Cut, HeadEnd, Pkt};
+use std::alloc::Global;
 use std::io::{self, Read, Write};
 use std::process::ExitCode;
+use stop::Stop;
 
-/// The samples aren't written: the input isn't read, or a device or memory failed.
-#[derive(Clone, Copy, Debug)]
-struct Stop {}
-
-impl From<AllocError> for Stop {
-    fn from(_e: AllocError) -> Stop {
-        Stop {}
-    }
-}
-
-impl<T: Drop> From<AllocFailed<T>> for Stop {
-    fn from(_e: AllocFailed<T>) -> Stop {
-        Stop {}
-    }
-}
+/// The cut is fed so many bytes at least, and as many as it holds where these are more: so all that is read again for frames
+/// that weren't whole is no more than the input.
+const PIECE: usize = 1 << 16;
 
 // The two lowest bytes of each sample.
 fn push_halves(out: &mut Vec<u8>, samples: &[i32]) -> Result<(), Stop> {
@@ -53,15 +44,32 @@ fn push_samples(out: &mut Vec<u8>, frame: &AFrame, width: usize) -> Result<(), S
     Ok(())
 }
 
+// Why there are no samples of the frame at this offset.
+fn without_frame(end: FrameEnd, offset: u64) -> Stop {
+    match end {
+        FrameEnd::NotYet | FrameEnd::Never => Stop::Damaged { offset },
+        FrameEnd::NoMemory => Stop::NoMemory,
+    }
+}
+
+fn without_samples(end: DecodeEnd, offset: u64) -> Stop {
+    match end {
+        DecodeEnd::OutOfDepth => Stop::OutOfDepth { offset },
+        DecodeEnd::NoMemory => Stop::NoMemory,
+    }
+}
+
 // The samples of a packet.
 fn push_packet(alloc: Global, out: &mut Vec<u8>, packet: &Pkt, head: &FlacHead) -> Result<(), Stop>
     requires { IsStream (stream_of head.now.head) }
 {
-    let Ok(frame) = frame_at(alloc, packet.bytes.as_slice(), head) else {
-        return Err(Stop {});
+    let frame = match frame_at(alloc, packet.bytes.as_slice(), head) {
+        Ok(frame) => frame,
+        Err(end) => return Err(without_frame(end, packet.pos)),
     };
-    let Ok(sound) = decode(alloc, &frame, head, packet.pts) else {
-        return Err(Stop {});
+    let sound = match decode(alloc, &frame, head, packet.pts) {
+        Ok(sound) => sound,
+        Err(end) => return Err(without_samples(end, packet.pos)),
     };
     push_samples(out, &sound, sound.bits.div_ceil(8) as usize)
 }
@@ -75,7 +83,7 @@ fn next(cut: &mut FlacCut) -> Result<Cut, Stop>
     let answer = cut.pull()?;
     if let Cut::Pkt(packet) = &answer {
         if packet.bytes.as_slice().len() > (1 << 40) || packet.pos > (1 << 40) {
-            return Err(Stop {});
+            return Err(Stop::TooLong { offset: packet.pos });
         }
     }
     Ok(answer)
@@ -91,11 +99,12 @@ fn drain(alloc: Global, out: &mut Vec<u8>, cut: &mut FlacCut, head: &FlacHead) -
     'packets: for _ in 0..u64::MAX {
         match next(cut)? {
             Cut::Pkt(packet) => push_packet(alloc, out, &packet, head)?,
-            Cut::Broken { .. } => return Err(Stop {}),
+            Cut::Broken { offset } => return Err(Stop::Damaged { offset }),
             _ => return Ok(()),
         }
     }
-    Err(Stop {})
+    // So many frames don't lie within the first 2^40 bytes.
+    Err(Stop::TooLong { offset: 1 << 40 })
 }
 
 // The samples of an input with this head.
@@ -103,29 +112,45 @@ fn convert(alloc: Global, out: &mut Vec<u8>, bytes: &[u8], head: &FlacHead) -> R
     requires { IsHead head.now }
 {
     if head.start > bytes.len() as u64 {
-        return Err(Stop {});
+        return Err(Stop::Damaged {
+            offset: bytes.len() as u64,
+        });
     }
     let mut cut = FlacCut::new(alloc, head);
-    'pieces: for piece in from_place(bytes, head.start as usize).chunks(1 << 16) {
+    let mut rest = from_place(bytes, head.start as usize);
+    'pieces: while !rest.is_empty() {
+        let held = cut.held() as usize;
+        let (piece, behind) = rest.split_at(held.max(PIECE).min(rest.len()));
         cut.feed(piece)?;
         drain(alloc, out, &mut cut, head)?;
+        rest = behind;
     }
     cut.end();
     drain(alloc, out, &mut cut, head)
 }
 
+// Why an input has no head.
+fn without_head(end: HeadEnd, len: u64) -> Stop {
+    match end {
+        HeadEnd::Damaged { offset } => Stop::Damaged { offset },
+        HeadEnd::Unsupported { offset } => Stop::Unsupported { offset },
+        HeadEnd::NotYet => Stop::Damaged { offset: len },
+        HeadEnd::NoMemory => Stop::NoMemory,
+    }
+}
+
 fn run(rt: &HostRuntime, alloc: Global) -> Result<(), Stop> {
     let mut bytes = Vec::new(alloc);
     if rt.reader().read_to_end(&mut bytes).is_err() {
-        return Err(Stop {});
+        return Err(Stop::Input);
     }
     let mut out = Vec::new(alloc);
     match read_head(bytes.as_slice(), true) {
         Ok(head) => convert(alloc, &mut out, bytes.as_slice(), &head)?,
-        Err(_) => return Err(Stop {}),
+        Err(end) => return Err(without_head(end, bytes.len() as u64)),
     }
     if io::writer(rt).write_all(out.as_slice()).is_err() {
-        return Err(Stop {});
+        return Err(Stop::Output);
     }
     Ok(())
 }
@@ -133,6 +158,9 @@ fn run(rt: &HostRuntime, alloc: Global) -> Result<(), Stop> {
 fn main(rt: HostRuntime) -> ExitCode {
     match run(&rt, rt.alloc()) {
         Ok(()) => ExitCode::from(0),
-        Err(_) => ExitCode::from(1),
+        Err(stop) => {
+            let _ = eprintln!(rt; "flac_to_raw: {stop}");
+            ExitCode::from(1)
+        }
     }
 }

@@ -7,7 +7,7 @@ ghost use Rattle.ff_flac_enc.specs.Totals.{frame_bytes};
 
 use crate::form::Form;
 use crate::sample::samples_of;
-use crate::stop::Stop;
+use crate::stop::Unfit;
 use ff_values::{AFrame, Samples};
 use std::alloc::Global;
 
@@ -37,7 +37,7 @@ fn all_fit(samples: &[i32], bits: u8) -> bool
 }
 
 // The block of raw bytes, where they are one.
-fn block(alloc: Global, form: &Form, bytes: &[u8]) -> Result<AFrame, Stop>
+fn block(alloc: Global, form: &Form, bytes: &[u8]) -> Result<AFrame, Unfit>
     ensures block { IfOk result IsBlock }
     ensures samples { IfOk result (λ b. frame_bytes b ≡ bytes.now) }
 {
@@ -45,17 +45,17 @@ fn block(alloc: Global, form: &Form, bytes: &[u8]) -> Result<AFrame, Stop>
     let channels = usize::from(form.channels);
     let count = samples.len() / channels;
     if count < 1 || count > BLOCK || samples.len() != count * channels {
-        return Err(Stop {});
+        return Err(Unfit::Samples);
     }
     if !all_fit(&samples, form.bits) {
-        return Err(Stop {});
+        return Err(Unfit::Samples);
     }
     let samples = Samples::new(samples);
     Ok(AFrame::make(0, form.rate, form.bits, form.channels, samples))
 }
 
 /// The blocks of raw bytes, where they are whole sample frames that fit their bits.
-pub fn blocks_of(alloc: Global, form: &Form, bytes: &[u8]) -> Result<Vec<AFrame>, Stop>
+pub fn blocks_of(alloc: Global, form: &Form, bytes: &[u8]) -> Result<Vec<AFrame>, Unfit>
     ensures blocks { IfOk result (λ v. All IsBlock v.items) }
     ensures samples { IfOk result (λ v. flat_map frame_bytes v.items ≡ bytes.now) }
 {

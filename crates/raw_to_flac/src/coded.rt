@@ -3,7 +3,7 @@ ghost use Rattle.std.specs.Prelude.{◌≤◌, ◌*◌, ◌^◌, All};
 ghost use Rattle.ff_flac_enc.specs.Frame.{IsBlock};
 ghost use Rattle.ff_flac_enc.specs.Totals.{counted};
 
-use crate::stop::Stop;
+use crate::stop::Unfit;
 use ff_flac_enc::{Counter, NoGate, encode_blocks};
 use ff_values::{AFrame, Totals};
 use std::alloc::Global;
@@ -30,14 +30,14 @@ impl Coded {
         }
     }
 
-    fn add(&mut self, block: &AFrame, code: &[u8]) -> Result<(), Stop>
+    fn add(&mut self, block: &AFrame, code: &[u8]) -> Result<(), Unfit>
         requires { IsBlock block.now }
     {
         let Ok(len) = u32::try_from(code.len()) else {
-            return Err(Stop {});
+            return Err(Unfit::TooLong);
         };
         if self.number >= 1 << 30 {
-            return Err(Stop {});
+            return Err(Unfit::TooLong);
         }
         self.frames.extend_from_slice(code)?;
         self.counter.add(block, len)?;
@@ -46,11 +46,11 @@ impl Coded {
     }
 
     /// Codes the next blocks, each in a thread of its own.
-    pub fn add_all<R: Threads + Sync>(&mut self, rt: &R, blocks: &[AFrame]) -> Result<(), Stop>
+    pub fn add_all<R: Threads + Sync>(&mut self, rt: &R, blocks: &[AFrame]) -> Result<(), Unfit>
         requires { All IsBlock blocks.now }
     {
         if blocks.is_empty() || blocks.len() > 8 {
-            return Err(Stop {});
+            return Err(Unfit::TooLong);
         }
         let codes = encode_blocks(rt, self.alloc, blocks, self.number, &NoGate)?;
         'blocks: for (block, code) in blocks.iter().zip(codes.iter()) {

@@ -2,7 +2,7 @@
 ghost use Rattle.std.specs.Prelude.{◌≡◌, ◌≤◌, ◌<◌, ◌*◌, ◌-◌, ◌%◌, ◌^◌, [], ◌∷◌, length, pos, negsuc, IfOk};
 ghost use Rattle.ff_flac_enc.specs.Totals.{sample_bytes, samples_bytes};
 
-use crate::stop::Stop;
+use crate::stop::Unfit;
 use std::alloc::{AllocError, Global};
 
 // The number that this code stands for in two's complement, in which the codes from `half` on are those below 0.
@@ -75,13 +75,13 @@ fn samples_3(alloc: Global, bytes: &[u8]) -> Result<Vec<i32>, AllocError>
 }
 
 /// The samples of raw bytes, each in so many, where they are whole ones.
-pub fn samples_of(alloc: Global, bytes: &[u8], width: usize) -> Result<Vec<i32>, Stop>
+pub fn samples_of(alloc: Global, bytes: &[u8], width: usize) -> Result<Vec<i32>, Unfit>
     requires some { 1 ≤ width }
     requires few { width ≤ 3 }
     ensures { IfOk result (λ v. samples_bytes width v.items ≡ bytes.now) }
 {
     if bytes.len() % width != 0 {
-        return Err(Stop {});
+        return Err(Unfit::Samples);
     }
     Ok(match width {
         1 => samples_1(alloc, bytes)?,

@@ -1,0 +1,8 @@
+use Rattle.std.proofs.Common.{◌≤◌, length}
+use Rattle.raw_to_flac.proofs.code.Given as goal
+
+abbrev pub invariant-pieces : goal.invariant-pieces
+invariant-pieces l = length l.rest.now ≤ length l.bytes
+
+abbrev pub decreases-pieces : goal.decreases-pieces
+decreases-pieces l = length l.rest.now
