@@ -6,5 +6,6 @@ pub mod SoundLemmas
 pub mod FrameLemmas
 pub mod Shortest
 pub mod UnitLaws
+mod ExactLemmas
 pub mod CutLaws
 pub mod Longest

@@ -6,6 +6,7 @@ pub mod Streams
 pub mod Blocks
 pub mod Heads
 pub mod Packets
+pub mod Units
 pub mod Cuts
 pub mod BlockLaws
 pub mod HeadLaws

@@ -2,8 +2,8 @@
 //!
 //! `specs/Blocks` says what one metadata block does to the reading of a head, `specs/Heads` what the head of a whole input is
 //! and which first bytes decide it, `specs/Streams` what a head says of the frames. `specs/Values` says which samples a subframe
-//! stands for, `specs/Channels` which channels a frame has. `specs/Packets` says which packets an input has, and `specs/Cuts`
-//! how a cut's state is tied to what it was fed and gave.
+//! stands for, `specs/Channels` which channels a frame has. `specs/Packets` says which packets an input has, `specs/Units`
+//! what it means that a frame is whole, or isn't yet, and `specs/Cuts` how a cut's state is tied to what it was fed and gave.
 #![tactic(auto)]
 
 mod block;
@@ -15,6 +15,7 @@ mod frame;
 mod front;
 mod head;
 mod interleave;
+mod laws;
 mod linear;
 mod sound;
 mod stereo;
@@ -26,5 +27,6 @@ pub use ff_cut::HeadFault;
 pub use ff_flac_frame::{FlacFrame, FlacStream, FrameEnd, SubKind, Subframe};
 pub use frame::frame_at;
 pub use head::FlacHead;
+pub use laws::units_are_exact;
 pub use sound::decode;
 pub use walk::{Flac, FlacWalk, read_head};
