@@ -1,5 +1,5 @@
 -- The channels of a frame, and the frame of sound.
-use Rattle.std.proofs.Common.{◌≡◌, ℕ, zero, suc, ◌+◌, ◌-◌, ◌*◌, ◌<◌, ◌≤◌, Bool, true, false, cond, ltb, eqb, ◌&&◌, ◌||◌, ◌⊎◌, inl, inr, List, [], ◌∷◌, ◌++◌, length, map, get_or, refl, sym, ap, subst, ◌∙◌, arith, length-append}
+use Rattle.std.proofs.Common.{◌≡◌, ℕ, zero, suc, ◌+◌, ◌-◌, ◌*◌, ◌<◌, ◌≤◌, Bool, true, false, cond, ltb, leb, eqb, ◌&&◌, ◌||◌, ◌⊎◌, inl, inr, List, [], ◌∷◌, ◌++◌, length, map, get_or, refl, sym, ap, subst, ◌∙◌, arith, length-append}
 use Rattle.std.proofs.Common.{ℤ, pos, negsuc}
 use Rattle.std.specs.Prelude.{replicate, slice_index_or}
 use Rattle.std.specs.List.{AllByRecursion, All}
@@ -118,9 +118,9 @@ or_cases false b e = inr e
 two_channels : (channels form : ℕ) → form_fits channels form ≡ true → 8 ≤ form → channels ≡ 2
 unfolding form_fits
 two_channels channels form h le =
-    elim (or_cases (ltb form 8 && eqb (form + 1) channels) ((ltb 7 form && ltb form 11) && eqb channels 2) h) [
+    elim (or_cases (ltb form 8 && eqb (form + 1) channels) ((leb 8 form && leb form 10) && eqb channels 2) h) [
       | inl e ↦ absurd (let k : form < 8 = ltb-true form 8 (and_parts (ltb form 8) (eqb (form + 1) channels) e).0 in omega arith)
-      | inr e ↦ eqb-true channels 2 (and_parts (ltb 7 form && ltb form 11) (eqb channels 2) e).1
+      | inr e ↦ eqb-true channels 2 (and_parts (leb 8 form && leb form 10) (eqb channels 2) e).1
     ]
 
 length_if : (b c : Bool) (l m n : List (List ℤ)) → length l ≡ 2 → length m ≡ 2 → length n ≡ 2 → length (cond b l (cond c m n)) ≡ 2

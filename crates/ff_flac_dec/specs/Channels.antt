@@ -2,7 +2,7 @@
 use Rattle.std.specs.Prelude.{ℕ, zero, suc, ◌+◌, ◌-◌, ◌%◌, ◌==◌, nat_lt, if◌then◌else◌, List, [], ◌∷◌, ◌++◌, map, slice_index_or, ℤ, pos, ◌+ℤ◌, ◌-ℤ◌, ◌*ℤ◌, unsigned_abs}
 use Rattle.std.specs.Int.Signed.{shr_z}
 use Rattle.ff_flac_frame.specs.declared.stream.FlacStream.{FlacStream}
-use Rattle.ff_flac_frame.specs.Codes.{depths}
+use Rattle.ff_flac_frame.specs.Codes.{left_side, side_right, is_alone, depths}
 use Rattle.ff_flac_frame.specs.Frame.{Part, Frame}
 use Rattle.ff_values.specs.declared.audio.AFrame.{AFrame}
 use Rattle.ff_values.specs.Frame.{audio_frame}
@@ -31,11 +31,11 @@ mid_left mid side = shr_z (twice_mid mid side +ℤ side) 2
 abbrev pub mid_right : ℤ → ℤ → ℤ
 mid_right mid side = shr_z (twice_mid mid side -ℤ side) 2
 
--- left and right, of the two subframes under a channel code from 8 on
+-- left and right, of the two subframes under a channel code of left and side, side and right, or mid and side
 abbrev pub left_right : ℕ → List ℤ → List ℤ → List (List ℤ)
 left_right form xs ys =
-    if form == 8 then xs ∷ both less xs ys ∷ []
-    else (if form == 9 then both more xs ys ∷ ys ∷ []
+    if form == left_side then xs ∷ both less xs ys ∷ []
+    else (if form == side_right then both more xs ys ∷ ys ∷ []
     else both mid_left xs ys ∷ both mid_right xs ys ∷ [])
 
 abbrev pub pair : ℕ → List (List ℤ) → List (List ℤ)
@@ -43,7 +43,7 @@ pair form (xs ∷ ys ∷ []) = left_right form xs ys
 pair form channels = channels
 
 abbrev pub separated : ℕ → List (List ℤ) → List (List ℤ)
-separated form channels = if nat_lt form 8 then channels else pair form channels
+separated form channels = if is_alone form then channels else pair form channels
 
 -- the channels of a frame
 unfoldable pub channels_of : Frame → List (List ℤ)
@@ -85,7 +85,7 @@ pub record IsWithinDepths (s : FlacStream) (f : Frame) : Type 0 where
 
 -- the depths of two subframes: a side channel has one bit more
 abbrev pub first_depth : ℕ → ℕ → ℕ
-first_depth form depth = if form == 9 then depth + 1 else depth
+first_depth form depth = if form == side_right then depth + 1 else depth
 
 abbrev pub second_depth : ℕ → ℕ → ℕ
-second_depth form depth = if form == 9 then depth else depth + 1
+second_depth form depth = if form == side_right then depth else depth + 1

@@ -43,7 +43,7 @@ fn without_wasted(
 {
     let own = depth - subframe.wasted as u32;
     match subframe.kind {
-        SubKind::Constant => repeated(alloc, &subframe.warm[0], block),
+        SubKind::Constant => repeated(alloc, &subframe.warm.as_slice()[0], block),
         SubKind::Verbatim => copied(alloc, subframe.warm.as_slice()),
         SubKind::Fixed => restore_fixed(
             alloc,

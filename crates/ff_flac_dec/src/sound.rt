@@ -96,14 +96,15 @@ fn channels(
     ensures out { IsErrOf result DecodeEnd.OutOfDepth → IsWithinDepths stream.now (frame_of 0 frame.now) → ⊥ }
 {
     let depth = stream.bits as u32;
+    let subframes = frame.subframes.as_slice();
     if frame.form < 8 {
-        let alone = independent(alloc, frame.subframes.as_slice(), frame.block, depth)?;
+        let alone = independent(alloc, subframes, frame.block, depth)?;
         return Ok(alone);
     }
     let both = joint(
         alloc,
-        &frame.subframes[0],
-        &frame.subframes[1],
+        &subframes[0],
+        &subframes[1],
         frame.form,
         frame.block,
         depth,

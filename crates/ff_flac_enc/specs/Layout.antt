@@ -1,6 +1,7 @@
 -- How the channels of a frame are written (RFC 9639, sections 4.2 and 9.1.3): a channel code, and a spelling for each subframe.
 use Rattle.std.specs.Prelude.{ℕ, ℤ, pos, negsuc, ◌+◌, ◌-◌, ◌/◌, ◌==◌, nat_lt, if◌then◌else◌, ◌+ℤ◌, ◌-ℤ◌, Bool, List, [], ◌∷◌, ◌++◌, length, map}
 use Rattle.std.specs.List.{flat_map}
+use Rattle.ff_flac_frame.specs.Codes.{left_side, side_right, mid_side, is_alone}
 use Rattle.ff_flac_dec.specs.Channels.{both}
 use Rattle.ff_flac_sub.specs.Subframe.{Spelling, subframe_bits, candidates}
 
@@ -23,11 +24,11 @@ pub record Signal : Type 0 where
 abbrev pub signal : ℕ → List ℤ → Signal
 signal depth samples = record { depth = depth; samples = samples }
 
--- two channels under a channel code from 8 on: a side channel has one bit more
+-- two channels under a channel code by which they stand together: a side channel has one bit more
 abbrev pub joint : ℕ → ℕ → List ℤ → List ℤ → List Signal
 joint bits form left right =
-    if form == 8 then signal bits left ∷ signal (bits + 1) (side_of left right) ∷ []
-    else (if form == 9 then signal (bits + 1) (side_of left right) ∷ signal bits right ∷ []
+    if form == left_side then signal bits left ∷ signal (bits + 1) (side_of left right) ∷ []
+    else (if form == side_right then signal (bits + 1) (side_of left right) ∷ signal bits right ∷ []
     else signal bits (mid_of left right) ∷ signal (bits + 1) (side_of left right) ∷ [])
 
 abbrev pub joined : ℕ → ℕ → List (List ℤ) → List Signal
@@ -36,7 +37,7 @@ joined bits form channels = []
 
 -- what the subframes hold under a channel code
 unfoldable pub signals : ℕ → List (List ℤ) → ℕ → List Signal
-signals bits channels form = if nat_lt form 8 then map (signal bits) channels else joined bits form channels
+signals bits channels form = if is_alone form then map (signal bits) channels else joined bits form channels
 
 -- one spelling for each signal, the first signal's choice first
 unfoldable pub products : List Signal → List (List Spelling)
@@ -56,7 +57,7 @@ pub record Layout : Type 0 where
 
 -- the channel codes of so many channels
 unfoldable pub forms : ℕ → List ℕ
-forms channels = if channels == 2 then 1 ∷ 8 ∷ 9 ∷ 10 ∷ [] else (channels - 1) ∷ []
+forms channels = if channels == 2 then 1 ∷ left_side ∷ side_right ∷ mid_side ∷ [] else (channels - 1) ∷ []
 
 unfoldable pub layouts_with : ℕ → List (List ℤ) → ℕ → List Layout
 layouts_with bits channels form = map (λ ss. record { form = form; spellings = ss }) (products (signals bits channels form))

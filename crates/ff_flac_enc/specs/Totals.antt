@@ -4,6 +4,7 @@ use Rattle.std.specs.List.{flat_map, sum_by}
 use Rattle.md5.specs.Md5.{md5, Holds}
 use Rattle.ff_values.specs.declared.audio.AFrame.{AFrame}
 use Rattle.ff_values.specs.declared.totals.Totals.{Totals}
+use Rattle.ff_flac_sub.specs.Subframe.{code}
 use Rattle.ff_flac_enc.specs.declared.counter.Counter.{Counter}
 use Rattle.ff_flac_enc.specs.declared.counter.Sizes.{Sizes}
 
@@ -27,14 +28,9 @@ abbrev pub number_bytes : ℕ → ℕ → List ℕ
 number_bytes zero n = []
 number_bytes (suc count) n = n % 256 ∷ number_bytes count (n / 256)
 
--- two's complement of so many bits
-abbrev pub signed_code : ℕ → ℤ → ℕ
-signed_code bits (pos n) = n
-signed_code bits (negsuc n) = 2 ^ bits - (n + 1)
-
--- a sample in so many bytes
+-- a sample in so many bytes, as two's complement
 abbrev pub sample_bytes : ℕ → ℤ → List ℕ
-sample_bytes width sample = number_bytes width (signed_code (8 * width) sample)
+sample_bytes width sample = number_bytes width (code (8 * width) sample)
 
 abbrev pub samples_bytes : ℕ → List ℤ → List ℕ
 samples_bytes width samples = flat_map (sample_bytes width) samples

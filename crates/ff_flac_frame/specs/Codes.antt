@@ -1,7 +1,8 @@
 -- What the codes of a frame stand for (RFC 9639, sections 9.1 and 9.2), and which of them a stream allows.
 use Rattle.ff_flac_frame.specs.declared.subframe.SubKind.{SubKind}
 use Rattle.ff_flac_frame.specs.declared.subframe.SubKind.TheVariants.{Constant, Verbatim, Fixed, Lpc}
-use Rattle.std.specs.Prelude.{ℕ, ◌+◌, ◌-◌, ◌/◌, ◌%◌, ◌^◌, Bool, true, false, not, ◌&&◌, ◌||◌, ◌==◌, nat_lt, nat_le, if◌then◌else◌, List, [], ◌∷◌, replicate, slice_index}
+use Rattle.std.specs.Prelude.{ℕ, ◌+◌, ◌-◌, ◌/◌, ◌%◌, ◌^◌, Bool, true, false, not, ◌&&◌, ◌||◌, ◌==◌, nat_lt, nat_le, if◌then◌else◌, List, [], ◌∷◌, ◌++◌, replicate, slice_index}
+use Rattle.ff_bits.specs.Bits.{value_of}
 
 -- any value
 abbrev pub any : ℕ → Bool
@@ -13,9 +14,16 @@ equal w v = v == w
 abbrev pub below : ℕ → ℕ → Bool
 below limit v = nat_lt v limit
 
--- 15 bits of sync (section 9.1)
+-- the sync code: thirteen ones and two zeros (section 9.1)
 abbrev pub sync : ℕ
-sync = 32764
+sync = value_of (replicate 13 true ++ replicate 2 false)
+
+-- The first byte of a coded number of at most 31 bits is below 11111110, and of one of at most 36 bits below 11111111 (section 9.1.5).
+abbrev pub of_31_bits : ℕ
+of_31_bits = 0xfe
+
+abbrev pub of_36_bits : ℕ
+of_36_bits = 0xff
 
 abbrev pub not_zero : ℕ → Bool
 not_zero v = not (v == 0)
@@ -38,9 +46,23 @@ rate_fits rate code =
     else (if code == 14 then (rate % 10 == 0) && nat_lt (rate / 10) 65536
     else false))))
 
--- a channel code of so many channels (section 9.1.3)
+-- the channel codes of two channels of which one is their difference (section 9.1.3)
+abbrev pub left_side : ℕ
+left_side = 8
+
+abbrev pub side_right : ℕ
+side_right = 9
+
+abbrev pub mid_side : ℕ
+mid_side = 10
+
+-- Under a lower code each channel stands alone.
+abbrev pub is_alone : ℕ → Bool
+is_alone code = nat_lt code left_side
+
+-- a channel code of so many channels
 unfoldable pub form_fits : ℕ → ℕ → Bool
-form_fits channels code = (nat_lt code 8 && (code + 1 == channels)) || ((nat_lt 7 code && nat_lt code 11) && (channels == 2))
+form_fits channels code = (is_alone code && (code + 1 == channels)) || ((nat_le left_side code && nat_le code mid_side) && (channels == 2))
 
 -- a depth code of this depth (section 9.1.4)
 unfoldable pub depth_fits : ℕ → ℕ → Bool
@@ -71,5 +93,5 @@ order_fits block order p = nat_lt p 16 && ((block % 2 ^ p == 0) && nat_le order 
 -- the depth of each channel's subframe
 unfoldable pub depths : ℕ → ℕ → ℕ → List ℕ
 depths form channels bits =
-    if nat_lt form 8 then replicate channels bits
-    else (if form == 9 then (bits + 1) ∷ bits ∷ [] else bits ∷ (bits + 1) ∷ [])
+    if is_alone form then replicate channels bits
+    else (if form == side_right then (bits + 1) ∷ bits ∷ [] else bits ∷ (bits + 1) ∷ [])

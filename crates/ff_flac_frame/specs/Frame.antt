@@ -7,7 +7,7 @@ use Rattle.std.specs.Prelude.{◌≡◌, ℕ, zero, suc, ◌+◌, ◌-◌, ◌*�
 use Rattle.ff_bits.specs.Bits.{bits, padding}
 use Rattle.ff_bits.specs.Reading.{Done, Reader, ◌>>=◌, give, field, zeros, with_text, times}
 use Rattle.ff_bits.specs.Crc.{crc8_of, crc16_of}
-use Rattle.ff_flac_frame.specs.Codes.{any, equal, below, sync, not_zero, block_table, rate_fits, form_fits, depth_fits, kind_fits, kind_of, order_of, warm_count, order_fits, depths}
+use Rattle.ff_flac_frame.specs.Codes.{any, equal, below, sync, of_31_bits, of_36_bits, not_zero, block_table, rate_fits, form_fits, depth_fits, kind_fits, kind_of, order_of, warm_count, order_fits, depths}
 
 -- what a stream can say
 pub record IsStream (s : FlacStream) : Type 0 where
@@ -63,7 +63,7 @@ header s = do
   form ← field 4 (form_fits s.channels)
   _ ← field 3 (depth_fits s.bits)
   _ ← field 1 (equal 0)
-  number ← coded_below (if strategy == 0 then 0xfe else 0xff)
+  number ← coded_below (if strategy == 0 then of_31_bits else of_36_bits)
   block ← block_of size
   _ ← rate_of s.rate rate
   give (record { number = number; block = block; form = form })

@@ -10,11 +10,11 @@ abbrev pub header_of : Head → Header
 header_of h = record { number = h.number; block = h.block; form = h.form }
 
 abbrev pub part_of : Subframe → Part
-part_of s = record { wasted = s.wasted; kind = s.kind; order = s.order; shift = s.shift; coefs = s.coefs.items; warm = s.warm.items; rest = s.rest.items }
+part_of s = record { wasted = s.wasted; kind = s.kind; order = s.order; shift = s.shift; coefs = s.coefs; warm = s.warm; rest = s.rest }
 
 -- the frame with this coded number
 abbrev pub frame_of : ℕ → FlacFrame → Frame
-frame_of number f = record { header = record { number = number; block = f.block; form = f.form }; parts = map part_of f.subframes.items }
+frame_of number f = record { header = record { number = number; block = f.block; form = f.form }; parts = map part_of f.subframes }
 
 abbrev pub read_of : Body → Frame
 read_of b = record { header = header_of b.header; parts = map part_of b.parts.items }

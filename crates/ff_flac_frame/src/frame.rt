@@ -9,6 +9,7 @@ use crate::end::FrameEnd;
 use crate::field::read_field;
 use crate::header::{Header, read_header};
 use crate::rule::Rule;
+use crate::sequence::Sequence;
 use crate::stream::FlacStream;
 use crate::subframe::{Subframe, read_subframe};
 use ff_bits::{BitReader, crc8, crc16};
@@ -24,7 +25,7 @@ pub struct FlacFrame {
     /// The channel code: how the channels stand in the subframes (RFC 9639, section 9.1.3).
     pub form: u8,
     /// One for each channel.
-    pub subframes: Vec<Subframe>,
+    pub subframes: Sequence<Subframe>,
 }
 
 /// What a frame's bytes say.
@@ -148,6 +149,6 @@ pub fn frame_at(alloc: Global, bytes: &[u8], stream: &FlacStream) -> Result<Flac
         len,
         block: header.block,
         form: header.form,
-        subframes: parts,
+        subframes: Sequence::of(parts),
     })
 }

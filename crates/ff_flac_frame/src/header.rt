@@ -1,7 +1,7 @@
 ghost use Rattle.std.specs.Prelude.{◌≡◌, ◌<◌, ◌≤◌, if◌then◌else◌, slice_index};
 ghost use Rattle.ff_bits.specs.Reading.{field, give};
 ghost use Rattle.ff_bits.specs.NumberGrammar.{coded_below};
-ghost use Rattle.ff_flac_frame.specs.Codes.{block_table};
+ghost use Rattle.ff_flac_frame.specs.Codes.{block_table, of_31_bits, of_36_bits};
 ghost use Rattle.ff_flac_frame.specs.Frame.{block_of, rate_of, header};
 ghost use Rattle.ff_flac_frame.specs.Gives.{Gives};
 ghost use Rattle.ff_flac_frame.specs.Parts.{header_of};
@@ -23,7 +23,7 @@ pub struct Header {
 
 /// The coded number, of at most 31 bits where blocks have one size, and of at most 36 where they do not.
 fn read_number(reader: &mut BitReader, varies: bool) -> Result<u64, FrameEnd>
-    ensures { Gives (λ v. v) result (coded_below (if varies then 0xff else 0xfe) reader.old) reader.new }
+    ensures { Gives (λ v. v) result (coded_below (if varies then of_36_bits else of_31_bits) reader.old) reader.new }
 {
     let end = if varies { 0xff } else { 0xfe };
     match reader.number_below(end) {

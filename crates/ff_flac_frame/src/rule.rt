@@ -68,7 +68,7 @@ fn is_rate(rate: u32, code: u64) -> bool
 fn is_form(channels: u8, code: u64) -> bool
     ensures { result ≡ form_fits channels code }
 {
-    (code < 8 && code + 1 == u64::from(channels)) || ((7 < code && code < 11) && channels == 2)
+    (code < 8 && code + 1 == u64::from(channels)) || ((8 <= code && code <= 10) && channels == 2)
 }
 
 #[tactic(auto, unfolding(crate::specs::Codes::depth_fits))]

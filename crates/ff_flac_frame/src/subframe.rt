@@ -10,6 +10,7 @@ use crate::field::read_field;
 use crate::number::read_zeros;
 use crate::residual::{read_residual, read_samples};
 use crate::rule::{Rule, order_from};
+use crate::sequence::Sequence;
 use ff_bits::BitReader;
 use std::alloc::Global;
 
@@ -37,11 +38,11 @@ pub struct Subframe {
     /// How far a linear prediction is shifted right.
     pub shift: u8,
     /// The coefficients of a linear predictor, the nearest sample's first.
-    pub coefs: Vec<i32>,
+    pub coefs: Sequence<i32>,
     /// The constant, the verbatim samples, or the warm-up samples.
-    pub warm: Vec<i32>,
+    pub warm: Sequence<i32>,
     /// The residuals.
-    pub rest: Vec<i32>,
+    pub rest: Sequence<i32>,
 }
 
 fn samples(
@@ -185,8 +186,8 @@ pub fn read_subframe(
         kind: kind_from(code),
         order: order_from(code) as u8,
         shift: shift as u8,
-        coefs,
-        warm,
-        rest,
+        coefs: Sequence::of(coefs),
+        warm: Sequence::of(warm),
+        rest: Sequence::of(rest),
     })
 }

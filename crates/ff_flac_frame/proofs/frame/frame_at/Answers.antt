@@ -1,8 +1,9 @@
-use Rattle.std.proofs.Common.{◌∙◌, List, Bool, sym, ap, subst}
+use Rattle.std.proofs.Common.{◌-◌, ◌∙◌, List, Bool, length, map, sym, ap, subst}
 use Rattle.std.proofs.lemmas.Result.{err_from_is_err_and}
-use Rattle.ff_flac_frame.specs.Frame.{frame}
+use Rattle.ff_flac_frame.specs.Frame.{frame, Begins}
+use Rattle.ff_flac_frame.specs.declared.subframe.Subframe.{Subframe}
 use Rattle.ff_flac_frame.specs.Gives.{Fails}
-use Rattle.ff_flac_frame.specs.Parts.{read_of}
+use Rattle.ff_flac_frame.specs.Parts.{header_of, part_of, read_of}
 use Rattle.ff_flac_frame.proofs.Seals.{not_yet_from, never_from, begins}
 use Rattle.ff_flac_frame.proofs.frame.frame_at.Goals as goal
 
@@ -26,4 +27,7 @@ overflow_sub-len c =
 pub returns-clause-ok : goal.returns-clause-ok
 returns-clause-ok c =
     let e = ap (λ (xs : List Bool). frame c.args.stream.now xs) (sym c.new-reader.ensures.bits) ∙ c.in_ok-header.ensures in
-    (c.in_ok-header.field-0.header.number, (begins c.args.stream.now c.requires c.args.bytes.now (read_of c.in_ok-header.field-0) c.read_frame.new.reader c.bytes_left.result e c.bytes_left.ensures).1)
+    let b = (begins c.args.stream.now c.requires c.args.bytes.now (read_of c.in_ok-header.field-0) c.read_frame.new.reader c.bytes_left.result e c.bytes_left.ensures).1 in (
+      c.in_ok-header.field-0.header.number,
+      subst (λ (ss : List Subframe). Begins c.args.stream.now c.args.bytes.now (record { header = header_of c.in_ok-header.field-0.header; parts = map part_of ss }) (length c.args.bytes.now - c.bytes_left.result)) (sym c.of.ensures) b,
+    )
