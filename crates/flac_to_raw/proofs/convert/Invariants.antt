@@ -6,4 +6,4 @@ abbrev pub invariant-pieces : goal.invariant-pieces
 invariant-pieces l = (place_of l.cut ≤ 2 ^ 41) × (has_ended l.cut ≡ false)
 
 abbrev pub decreases-pieces : goal.decreases-pieces
-decreases-pieces l = length l.rest.now
+decreases-pieces l = length l.rest

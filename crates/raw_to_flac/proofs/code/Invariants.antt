@@ -2,7 +2,7 @@ use Rattle.std.proofs.Common.{◌≤◌, length}
 use Rattle.raw_to_flac.proofs.code.Given as goal
 
 abbrev pub invariant-pieces : goal.invariant-pieces
-invariant-pieces l = length l.rest.now ≤ length l.bytes
+invariant-pieces l = length l.rest ≤ length l.bytes
 
 abbrev pub decreases-pieces : goal.decreases-pieces
-decreases-pieces l = length l.rest.now
+decreases-pieces l = length l.rest
