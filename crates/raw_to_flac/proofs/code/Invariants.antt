@@ -2,7 +2,7 @@ use Rattle.std.proofs.Common.{◌≤◌, length}
 use Rattle.raw_to_flac.proofs.code.Given as goal
 
 abbrev pub invariant-pieces : goal.invariant-pieces
-invariant-pieces l = length l.rest ≤ length l.bytes
+invariant-pieces g l = length l.rest ≤ length l.bytes
 
 abbrev pub decreases-pieces : goal.decreases-pieces
-decreases-pieces l = length l.rest
+decreases-pieces g l = length l.rest
