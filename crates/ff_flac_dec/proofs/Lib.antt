@@ -7,5 +7,6 @@ pub mod FrameLemmas
 pub mod Shortest
 pub mod UnitLaws
 mod ExactLemmas
+mod InfoLemmas
 pub mod CutLaws
 pub mod Longest

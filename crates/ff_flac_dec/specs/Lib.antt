@@ -4,6 +4,7 @@ pub mod Channels
 pub mod Joins
 pub mod Streams
 pub mod Blocks
+pub mod Info
 pub mod Heads
 pub mod Packets
 pub mod Units

@@ -1,12 +1,19 @@
-//! What the definitions mean. The function does nothing, and its contract is the law.
+//! What the definitions mean. Each function does nothing, and its contract is the law.
 
-ghost use Rattle.std.specs.Prelude.{ℕ, List};
+ghost use Rattle.std.specs.Prelude.{◌≤◌, ℕ, List, length};
 ghost use Rattle.ff_flac_frame.specs.declared.stream.FlacStream.{FlacStream};
-ghost use Rattle.ff_flac_frame.specs.Frame.{IsStream};
+ghost use Rattle.ff_flac_frame.specs.Frame.{IsStream, IsBytes};
+ghost use Rattle.ff_flac_dec.specs.Info.{IsInfo};
 ghost use Rattle.ff_flac_dec.specs.Units.{IsExact};
 
 /// A cut answers NotYet only where no frame is there and some continuation makes one, and Broken before the input's end only
 /// where none does: what bytes begin with, as the packets are defined by it, is exact.
 pub fn units_are_exact()
     ensures { (s : FlacStream) → IsStream s → (bytes : List ℕ) → IsExact s bytes }
+{}
+
+/// The rate, the channels and the depth that are taken from a block with STREAMINFO are its fields, as the standard lists them
+/// by their widths (RFC 9639, section 8.2).
+pub fn streaminfo_is_its_fields()
+    ensures { (bytes : List ℕ) → IsBytes bytes → 38 ≤ length bytes → IsInfo bytes }
 {}

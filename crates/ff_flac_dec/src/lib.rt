@@ -27,6 +27,6 @@ pub use ff_cut::HeadFault;
 pub use ff_flac_frame::{FlacFrame, FlacStream, FrameEnd, SubKind, Subframe};
 pub use frame::frame_at;
 pub use head::FlacHead;
-pub use laws::units_are_exact;
+pub use laws::{streaminfo_is_its_fields, units_are_exact};
 pub use sound::decode;
 pub use walk::{Flac, FlacWalk, read_head};

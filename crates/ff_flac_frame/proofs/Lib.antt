@@ -7,3 +7,4 @@ pub mod RiceLemmas
 pub mod ResidualLemmas
 pub mod Seals
 pub mod LawLemmas
+mod TypeLemmas

@@ -1,4 +1,5 @@
 pub mod Codes
+pub mod Types
 pub mod Frame
 pub mod Facts
 pub mod Rules

@@ -1,9 +1,10 @@
 //! What the grammar keeps. Each function does nothing, and its contract is the law.
 
-ghost use Rattle.std.specs.Prelude.{◌≡◌, ℕ, List, ◌++◌};
+ghost use Rattle.std.specs.Prelude.{◌≡◌, ◌<◌, ℕ, List, ◌++◌};
 ghost use Rattle.ff_flac_frame.specs.declared.stream.FlacStream.{FlacStream};
 ghost use Rattle.ff_flac_frame.specs.Frame.{Frame, IsStream, Begins};
 ghost use Rattle.ff_flac_frame.specs.Facts.{IsFrame};
+ghost use Rattle.ff_flac_frame.specs.Types.{IsType};
 
 /// Bytes begin with one frame at most, and it has one length.
 pub fn frames_are_apart()
@@ -19,4 +20,9 @@ pub fn what_follows_is_no_matter()
 /// each within its range.
 pub fn frames_are_in_shape()
     ensures { (s : FlacStream) → IsStream s → (bytes : List ℕ) (f : Frame) (n : ℕ) → Begins s bytes f n → IsFrame s f }
+{}
+
+/// The codes of subframe types are read as the standard's table has them (RFC 9639, section 9.2.1).
+pub fn subframe_types_are_the_table()
+    ensures { (block code : ℕ) → code < 64 → IsType block code }
 {}

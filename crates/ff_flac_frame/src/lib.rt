@@ -19,7 +19,9 @@ mod subframe;
 
 pub use end::FrameEnd;
 pub use frame::{FlacFrame, frame_at};
-pub use laws::{frames_are_apart, frames_are_in_shape, what_follows_is_no_matter};
+pub use laws::{
+    frames_are_apart, frames_are_in_shape, subframe_types_are_the_table, what_follows_is_no_matter,
+};
 pub use sequence::Sequence;
 pub use stream::FlacStream;
 pub use subframe::{SubKind, Subframe};
