@@ -1,5 +1,5 @@
 // A file that is written.
-ghost use Rattle.std.specs.Prelude.{◌≡◌, ◌+◌, ◌≤◌, ℕ, List, None, Some, string_bytes};
+ghost use Rattle.std.specs.Prelude.{◌≡◌, ◌+◌, ◌≤◌, ℕ, List, None, Some, false, string_bytes};
 
 use crate::file_id::FileId;
 use ff_host::{Failed, Sink, SinkError};
@@ -23,6 +23,7 @@ impl<F: Write + Drop> FileSink<F> {
     pub fn new(file: BufWriter<F>, name: String, id: Option<FileId>) -> Self
         ensures name { string_bytes result.name ≡ string_bytes name }
         ensures faults { result.faults ≡ 0 }
+        ensures failed { result.failed ≡ false }
     {
         FileSink {
             file,

@@ -1,5 +1,5 @@
 // A file that is read.
-ghost use Rattle.std.specs.Prelude.{◌≡◌, ◌+◌, ◌<◌, ◌≤◌, ℕ, List, None, Some, IfSome, length, string_bytes};
+ghost use Rattle.std.specs.Prelude.{◌≡◌, ◌+◌, ◌<◌, ◌≤◌, ℕ, List, None, Some, false, IfSome, length, string_bytes};
 
 use crate::file_id::FileId;
 use ff_host::{Failed, Source};
@@ -21,6 +21,7 @@ impl<F: Read + Drop> FileSource<F> {
     pub fn new(file: BufReader<F>, name: String, id: Option<FileId>) -> Self
         ensures name { string_bytes result.name ≡ string_bytes name }
         ensures faults { result.faults ≡ 0 }
+        ensures failed { result.failed ≡ false }
     {
         FileSource {
             file,

@@ -1,6 +1,6 @@
-ghost use Rattle.std.specs.Prelude.{◌≡◌, ◌≤◌, ℕ, List, length};
+ghost use Rattle.std.specs.Prelude.{◌≡◌, ◌≤◌, ◌&&◌, ℕ, List, length, true};
 ghost use Rattle.std.specs.Io.KnownBytes.{prepend_known};
-ghost use Rattle.ff_host.specs.Begun.{still_in, failed_of};
+ghost use Rattle.ff_host.specs.Begun.{still_in};
 
 use crate::fill::copy_front;
 use crate::source::{Failed, Source};
@@ -12,7 +12,10 @@ pub struct Begun<S> {
     /// How many of these bytes were given.
     at: usize,
     src: S,
+    /// Whether the source itself was read: all these bytes were given.
+    passed: bool,
     ghost inside: { at ≤ length bytes.items },
+    ghost all_given: { passed ≡ true → at ≡ length bytes.items },
 }
 
 impl<S: Source> Begun<S> {
@@ -22,7 +25,12 @@ impl<S: Source> Begun<S> {
         ensures faults { ⟦<Begun<S> as Source>⟧.faults result ≡ S.faults src }
         ensures name { ⟦<Begun<S> as Source>⟧.name result ≡ S.name src }
     {
-        Begun { bytes, at: 0, src }
+        Begun {
+            bytes,
+            at: 0,
+            src,
+            passed: false,
+        }
     }
 
     /// The source itself. The bytes that were not given yet are lost.
@@ -40,12 +48,13 @@ impl<S: Source> Source for Begun<S> {
 
     ghost faults = { λ b. S.faults b.src };
 
-    ghost failed = { λ b. failed_of b.bytes.items b.at (S.failed b.src) };
+    ghost failed = { λ b. b.passed && S.failed b.src };
 
     ghost name = { λ b. S.name b.src };
 
     fn read(&mut self, buf: &mut [u8]) -> Result<usize, Failed> {
         if self.at == self.bytes.len() {
+            self.passed = true;
             return self.src.read(buf);
         }
         let count = copy_front(buf, &self.bytes[self.at..]);

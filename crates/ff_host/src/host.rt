@@ -1,4 +1,4 @@
-ghost use Rattle.std.specs.Prelude.{◌≡◌, ◌-◌, List, [], ℕ, Option, Some, IfOk, OnOk, OnErr, IsErrOf};
+ghost use Rattle.std.specs.Prelude.{◌≡◌, ◌-◌, List, [], ℕ, false, Option, Some, IfOk, OnOk, OnErr, IsErrOf};
 ghost use Rattle.ff_host.specs.Causes.{HasCause, HasCauseOf, added, SameElsewhere, SameCounts};
 ghost use Rattle.ff_host.specs.Files.{Files, KeepsFiles, PutsFile, GivesFile, HoldsNothing};
 ghost use Rattle.ff_host.specs.Opens.{CountsOpening};
@@ -59,16 +59,19 @@ pub trait Host {
     /// How many of the sinks that it created were not given back.
     ghost open_sinks: { Self → ℕ };
 
-    /// A source of the file, or of nothing where the name is not there. It makes the room that closing needs.
+    /// A source of the file, or of nothing where the name is not there, that has never failed. It makes the room that
+    /// closing needs.
     ///
-    /// Want of memory changes nothing. It is also the answer where the count of open sources can't rise any more.
+    /// Want of memory changes nothing, and an opening that succeeds is no fault. Want of memory is also the answer where the count of open sources can't rise any more.
     fn open_source(&mut self, name: &str) -> Result<Self::Src, HostError>
         ensures source { IfOk result (λ src.
             (Self.Src.name src ≡ Some name.now) × GivesFile (files self.old) name.now (Self.Src.left src)) }
+        ensures unfailed { IfOk result (λ src. (Self.Src.faults src ≡ 0) × (Self.Src.failed src ≡ false)) }
         ensures files { KeepsFiles (files self.old) (files self.new) }
 
         ensures cause { HasCauseOf HostError.Failed (in_faults self.old name.now) (in_faults self.new name.now) result }
         ensures no_memory { IsErrOf result HostError.NoMemory → in_faults self.new name.now ≡ in_faults self.old name.now }
+        ensures ok_faults { OnOk result (in_faults self.new name.now ≡ in_faults self.old name.now) }
         ensures in_others { SameElsewhere name.now (in_faults self.old) (in_faults self.new) }
         ensures out { SameCounts (out_faults self.old) (out_faults self.new) }
 
@@ -79,19 +82,21 @@ pub trait Host {
         ensures open_sources { CountsOpening (open_sources self.old) (open_sources self.new) result }
         ensures open_sinks { open_sinks self.new ≡ open_sinks self.old };
 
-    /// Makes the file empty, also where it was there, and gives a sink that holds nothing. It makes the room that
-    /// closing needs.
+    /// Makes the file empty, also where it was there, and gives a sink that holds nothing and has never failed. It makes
+    /// the room that closing needs.
     ///
-    /// After a refusal the files are as they were. Want of memory changes nothing. It is also the answer where the count
-    /// of open sinks can't rise any more.
+    /// After a refusal the files are as they were. Want of memory changes nothing, and a creating that succeeds is no
+    /// fault. Want of memory is also the answer where the count of open sinks can't rise any more.
     fn create_sink(&mut self, name: &str) -> Result<Self::Snk, HostError>
         ensures sink { IfOk result (λ snk.
             (Self.Snk.name snk ≡ Some name.now) × HoldsNothing (files self.old) (Self.Snk.holds snk)) }
+        ensures unfailed { IfOk result (λ snk. (Self.Snk.faults snk ≡ 0) × (Self.Snk.failed snk ≡ false)) }
         ensures ok { OnOk result (PutsFile (files self.old) (files self.new) name.now (Some [])) }
         ensures err { OnErr result (KeepsFiles (files self.old) (files self.new)) }
 
         ensures cause { HasCauseOf HostError.Failed (out_faults self.old name.now) (out_faults self.new name.now) result }
         ensures no_memory { IsErrOf result HostError.NoMemory → out_faults self.new name.now ≡ out_faults self.old name.now }
+        ensures ok_faults { OnOk result (out_faults self.new name.now ≡ out_faults self.old name.now) }
         ensures out_others { SameElsewhere name.now (out_faults self.old) (out_faults self.new) }
         ensures ins { SameCounts (in_faults self.old) (in_faults self.new) }
 
@@ -109,6 +114,7 @@ pub trait Host {
         ensures files { KeepsFiles (files self.old) (files self.new) }
 
         ensures adds { in_faults self.new name.now ≡ added (in_faults self.old name.now) (Self.Src.faults src) }
+        ensures none { Self.Src.faults src ≡ 0 → in_faults self.new name.now ≡ in_faults self.old name.now }
         ensures in_others { SameElsewhere name.now (in_faults self.old) (in_faults self.new) }
         ensures out { SameCounts (out_faults self.old) (out_faults self.new) }
 
@@ -127,6 +133,7 @@ pub trait Host {
 
         ensures adds { OnOk result
             (out_faults self.new name.now ≡ added (out_faults self.old name.now) (Self.Snk.faults snk)) }
+        ensures none { OnOk result (Self.Snk.faults snk ≡ 0 → out_faults self.new name.now ≡ out_faults self.old name.now) }
         ensures cause { HasCause (added (out_faults self.old name.now) (Self.Snk.faults snk))
             (out_faults self.new name.now) result }
         ensures out_others { SameElsewhere name.now (out_faults self.old) (out_faults self.new) }

@@ -46,7 +46,7 @@ pub trait Sink {
 
     /// Adds the bytes at the end.
     ///
-    /// A failure may leave a prefix of them there. Want of memory changes nothing.
+    /// A failure may leave a prefix of them there. Want of memory changes nothing. An append that succeeds is no fault.
     fn append(&mut self, bytes: &[u8]) -> Result<(), SinkError>
         ensures ok { OnOk result (Appends (holds self.old) (holds self.new) bytes.now) }
         ensures written { OnOk result (written self.new ≡ written self.old + length bytes.now) }
@@ -56,6 +56,8 @@ pub trait Sink {
         ensures cause { HasCauseOf SinkError.Failed (faults self.old) (faults self.new) result }
         ensures stays_failed { IsTrue (failed self.old) → IsErrOf result SinkError.Failed }
         ensures fails { IsErrOf result SinkError.Failed → IsTrue (failed self.new) }
+        ensures ok_faults { OnOk result (faults self.new ≡ faults self.old) }
+        ensures ok_failed { OnOk result (failed self.new ≡ failed self.old) }
 
         ensures no_memory { IsErrOf result SinkError.NoMemory → Keeps (holds self.old) (holds self.new) }
         ensures no_memory_written { IsErrOf result SinkError.NoMemory → written self.new ≡ written self.old }
@@ -64,7 +66,7 @@ pub trait Sink {
 
         ensures name { name self.new ≡ name self.old };
 
-    /// Writes over what stands from a place on, in place. A failure replaces nothing.
+    /// Writes over what stands from a place on, in place. A failure replaces nothing. A patch that succeeds is no fault.
     fn patch(&mut self, at: u64, bytes: &[u8]) -> Result<(), Failed>
         requires { at + length bytes.now ≤ written self.old }
         ensures ok { OnOk result (Patches (holds self.old) (holds self.new) at bytes.now) }
@@ -73,5 +75,7 @@ pub trait Sink {
         ensures cause { HasCause (faults self.old) (faults self.new) result }
         ensures stays_failed { IsTrue (failed self.old) → IsErr result }
         ensures fails { OnErr result (IsTrue (failed self.new)) }
+        ensures ok_faults { OnOk result (faults self.new ≡ faults self.old) }
+        ensures ok_failed { OnOk result (failed self.new ≡ failed self.old) }
         ensures name { name self.new ≡ name self.old };
 }

@@ -1,4 +1,4 @@
-ghost use Rattle.std.specs.Prelude.{◌≡◌, ◌<◌, List, ℕ, Bool, length, Option, OnErr, IsErr, IsTrue};
+ghost use Rattle.std.specs.Prelude.{◌≡◌, ◌<◌, List, ℕ, Bool, length, Option, OnOk, OnErr, IsErr, IsTrue};
 ghost use Rattle.std.specs.Io.{ReadsAtMost};
 ghost use Rattle.std.specs.Io.KnownBytes.{ReadConsumes};
 ghost use Rattle.ff_host.specs.Causes.{HasCause};
@@ -25,7 +25,7 @@ pub trait Source {
 
     /// Reads into the front of the buffer, and answers how many bytes: 0 only at the end.
     ///
-    /// After `Failed` nothing was read, and what the buffer holds is open.
+    /// After `Failed` nothing was read, and what the buffer holds is open. A read that succeeds is no fault.
     fn read(&mut self, buf: &mut [u8]) -> Result<usize, Failed>
         requires { 0 < length buf.old }
         ensures bound { ReadsAtMost result buf.new }
@@ -33,5 +33,7 @@ pub trait Source {
         ensures cause { HasCause (faults self.old) (faults self.new) result }
         ensures stays_failed { IsTrue (failed self.old) → IsErr result }
         ensures fails { OnErr result (IsTrue (failed self.new)) }
+        ensures ok_faults { OnOk result (faults self.new ≡ faults self.old) }
+        ensures ok_failed { OnOk result (failed self.new ≡ failed self.old) }
         ensures name { name self.new ≡ name self.old };
 }

@@ -136,6 +136,7 @@ impl Host for MeetHost {
     fn close_source(&mut self, name: &str, src: MeetSource)
         requires { MeetOpened self.old name.now }
         ensures after { MeetNotes self.old self.new name.now (source_closed src.faults) }
+        ensures none { src.faults ≡ 0 → meet_in_faults self.new name.now ≡ meet_in_faults self.old name.now }
         ensures files { KeepsFiles (Some (meet_files self.old)) (Some (meet_files self.new)) }
         ensures open_sources { meet_sources self.new ≡ meet_sources self.old - 1 }
         ensures open_sinks { meet_sinks self.new ≡ meet_sinks self.old }

@@ -189,6 +189,7 @@ impl Host for MemHost {
     fn close_source(&mut self, name: &str, src: MemSource)
         requires { HasOpened self.old name.now }
         ensures after { Notes self.old self.new name.now (source_closed src.faults) }
+        ensures none { src.faults ≡ 0 → in_faults_of self.new name.now ≡ in_faults_of self.old name.now }
         ensures files { KeepsFiles (Some (files_of self.old)) (Some (files_of self.new)) }
         ensures open_sources { open_sources_of self.new ≡ open_sources_of self.old - 1 }
         ensures open_sinks { open_sinks_of self.new ≡ open_sinks_of self.old }
@@ -207,6 +208,7 @@ impl Host for MemHost {
         ensures after_failed { OnErr result (Notes self.old self.new name.now (close_failed snk.faults)) }
 
         // What these mean for the counts and the names.
+        ensures none { OnOk result (snk.faults ≡ 0 → out_faults_of self.new name.now ≡ out_faults_of self.old name.now) }
         ensures cause { HasCause (added (out_faults_of self.old name.now) snk.faults) (out_faults_of self.new name.now) result }
         ensures ins { SameCounts (in_faults_of self.old) (in_faults_of self.new) }
         ensures still_opened { (other : List ℕ) → HasOpened self.old other → HasOpened self.new other }

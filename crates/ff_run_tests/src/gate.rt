@@ -1,5 +1,5 @@
 // A source that waits for a sink.
-ghost use Rattle.std.specs.Prelude.{◌≡◌, ◌+◌, ◌<◌, ◌≤◌, ℕ, List, length, None, Some, string_bytes};
+ghost use Rattle.std.specs.Prelude.{◌≡◌, ◌+◌, ◌<◌, ◌≤◌, ℕ, List, length, None, Some, false, string_bytes};
 
 use ff_host::{Failed, Sink, SinkError, Source};
 use std::alloc::{AllocError, Global};
@@ -37,6 +37,7 @@ impl GateSource {
     pub fn new(name: String, bytes: Vec<u8>, offset: usize, gate: Arc<AtomicBool>) -> GateSource
         ensures name { string_bytes result.name ≡ string_bytes name }
         ensures faults { result.faults ≡ 0 }
+        ensures failed { result.failed ≡ false }
     {
         GateSource {
             name,
@@ -102,6 +103,7 @@ impl GateSink {
     pub fn new(alloc: Global, name: String, gate: Arc<AtomicBool>) -> GateSink
         ensures name { string_bytes result.name ≡ string_bytes name }
         ensures faults { result.faults ≡ 0 }
+        ensures failed { result.failed ≡ false }
     {
         GateSink {
             name,
