@@ -126,7 +126,7 @@ with_item_new s Broken o e = let m : broken ≡ s.mark = ap (λ (t : Flow). t.ma
 
 module _ {M : Type 0} (device : M → Option (List ℕ)) (failures : M → ℕ) (fault : M → Option Fault) where
   pub fault_self : (m : M) → FaultStep device failures fault m m
-  fault_self m = record { device_same = refl; later = omega arith; stays = λ c e. e; failed = λ n e. absurd (let no = sym n ∙ e in cc (no)) }
+  fault_self m = record { device_same = refl; later = omega arith; stays = λ c e. e; failed = λ n e. absurd (let no = sym n ∙ e in cc (no)); unfailed = λ n. refl; behind = λ c e. refl }
 
   pub fault_then : (a b c : M) → FaultStep device failures fault a b → FaultStep device failures fault b c → FaultStep device failures fault a c
   fault_then a b c r s = record {
@@ -134,6 +134,8 @@ module _ {M : Type 0} (device : M → Option (List ℕ)) (failures : M → ℕ) 
     later = omega (arith, r.later, s.later);
     stays = λ k e. s.stays k (r.stays k e);
     failed = rose (fault b) refl;
+    unfailed = λ n. s.unfailed n ∙ r.unfailed (λ e. n (s.stays Device e));
+    behind = λ k e. s.behind k (r.stays k e) ∙ r.behind k e;
   }
     where
       rose : (f : Option Fault) → fault b ≡ f → fault a ≡ None → fault c ≡ Some Device → Rose (failures a) (failures c)

@@ -12,13 +12,17 @@ use Rattle.ff_net.specs.Pasts.{Past, IsIn, no_events}
 abbrev pub Rose : ℕ → ℕ → Type 0
 Rose before now = min (before + 1) (2 ^ 64 - 1) ≤ now
 
--- from one call to the next: the same source or sink; its count of failures never falls; a fault that is there stays;
--- and the fault of a device comes only where that count rose
+-- From one call to the next: the same source or sink; its count of failures never falls; a fault that is there stays;
+-- and the fault of a device comes only where that count rose. That count changes only where the fault of a device is
+-- there afterwards: it is there from the first call on the source or sink that failed. Behind a fault, of whatever kind,
+-- neither fails any more.
 pub record FaultStep {M : Type 0} (device : M → Option (List ℕ)) (failures : M → ℕ) (fault : M → Option Fault) (old new : M) : Type 0 where
   pub device_same : device new ≡ device old
   pub later : failures old ≤ failures new
   pub stays : (c : Fault) → fault old ≡ Some c → fault new ≡ Some c
   pub failed : fault old ≡ None → fault new ≡ Some Device → Rose (failures old) (failures new)
+  pub unfailed : fault new ≢ Some Device → failures new ≡ failures old
+  pub behind : (c : Fault) → fault old ≡ Some c → failures new ≡ failures old
 
 -- a fault that a machine makes of its inputs, and not of a device or for want of memory
 abbrev pub IsOfInputs : Fault → Type 0

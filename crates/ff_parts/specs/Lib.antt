@@ -12,6 +12,7 @@ pub mod Heads
 pub mod MapLaws
 pub mod Maps
 pub mod MuxLaws
+pub mod Muxers
 pub mod Muxing
 pub mod PartEnds
 pub mod PartLaws

@@ -10,7 +10,8 @@ use Rattle.ff_net.specs.Pasts.{Past, Task, due}
 use Rattle.ff_net.specs.Laws.{CauseStays, IsOfInputs, MaySpend}
 use Rattle.ff_net.proofs.Flows.{due_meant}
 use Rattle.ff_parts.specs.declared.mux.Mux.{Mux}
-use Rattle.ff_parts.specs.Muxing.{unpatched, file, mux_sink, mux_head, mux_stands, mux_in_lanes, mux_fault, mux_spent, HoldsFront}
+use Rattle.ff_parts.specs.Muxing.{unpatched, file, HoldsFront}
+use Rattle.ff_parts.specs.Muxers.{mux_sink, mux_head, mux_stands, mux_in_lanes, mux_fault, mux_spent}
 
 no_fault : (c : Fault) → None ≡ Some c → ⊥
 no_fault c e = cc

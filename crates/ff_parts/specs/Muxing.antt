@@ -7,18 +7,15 @@ use Rattle.ff_values.specs.declared.packet.Pkt.{Pkt}
 use Rattle.ff_values.specs.declared.head.StreamHead.{StreamHead}
 use Rattle.ff_frame.specs.declared.item.Item.{Item}
 use Rattle.ff_frame.specs.declared.item.Item.TheVariants.{Audio, Video, Packet, Trailer, End, Broken}
-use Rattle.ff_frame.specs.declared.item.Lane.{Lane}
 use Rattle.ff_frame.specs.declared.item.Lane.TheVariants.{Packets}
 use Rattle.ff_frame.specs.Stream.{Stream}
 use Rattle.ff_frame.specs.Lanes.{IsValid}
 use Rattle.ff_frame.specs.Ports.{nothing, stream_at, IsClosed}
-use Rattle.ff_mux.specs.Puts.{hash_head}
 use Rattle.ff_mux.specs.FrameHash.{header, packet_line, written, file as file_of}
 use Rattle.ff_net.specs.declared.fault.Fault.{Fault}
 use Rattle.ff_net.specs.Ways.{Flow}
 use Rattle.ff_net.specs.Pasts.{Past, Task, no_events}
 use Rattle.ff_net.specs.Laws.{IsOfInputs, IsSilent}
-use Rattle.ff_parts.specs.declared.mux.Mux.{Mux}
 
 -- the packet that an item is, if it is one
 abbrev pub packet_in : Item → List Pkt
@@ -69,26 +66,6 @@ pub record Muxes (holds : Option (List ℕ)) (head : StreamHead) (begun closed :
 
 abbrev pub MuxStands : Option (List ℕ) → StreamHead → Bool → Bool → Option Fault → Past → Type 0
 MuxStands holds head begun closed fault past = (bytes : List ℕ) × Muxes holds head begun closed fault past bytes
-
--- The same of a machine, over a sink by what it tells.
-abbrev pub mux_sink : {K : Type 0} → Mux K → K
-mux_sink m = m.snk
-
--- the head of its stream
-abbrev pub mux_head : {K : Type 0} → Mux K → StreamHead
-mux_head m = hash_head m.put
-
-abbrev pub mux_stands : {K : Type 0} → (K → Option (List ℕ)) → Mux K → Past → Type 0
-mux_stands holds m past = MuxStands (holds m.snk) (mux_head m) m.begun m.closed m.fault past
-
-abbrev pub mux_in_lanes : {K : Type 0} → Mux K → List Lane
-mux_in_lanes m = Packets (mux_head m) ∷ []
-
-abbrev pub mux_fault : {K : Type 0} → Mux K → Option Fault
-mux_fault m = m.fault
-
-abbrev pub mux_spent : {K : Type 0} → Mux K → ℕ → Type 0
-mux_spent m p = (p < 1) × (m.closed ≡ true)
 
 -- a sink that holds a front of this text
 abbrev pub HoldsFront : Option (List ℕ) → List ℕ → Type 0

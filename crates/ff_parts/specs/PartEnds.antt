@@ -5,7 +5,7 @@ use Rattle.ff_parts.specs.declared.part.Part.TheVariants as part
 use Rattle.ff_parts.specs.declared.part.Ends.{Ends}
 use Rattle.ff_parts.specs.declared.part.Ends.TheVariants as ends
 use Rattle.ff_parts.specs.Demuxers.{demux_device, demux_failures}
-use Rattle.ff_parts.specs.Muxing.{mux_sink}
+use Rattle.ff_parts.specs.Muxers.{mux_sink}
 
 -- a demuxer gives its source, with its name and failures, a muxer its sink, the others neither
 abbrev pub GivesEnd : {S K : Type 0} → (S → Option (List ℕ)) → (S → ℕ) → Part S K → Ends S K → Type 0

@@ -4,6 +4,7 @@ use mathlib.Core.List.{IsPrefix}
 use Rattle.ff_frame.specs.declared.item.Lane.TheVariants.{Frames, Packets}
 use Rattle.ff_frame.specs.Ports.{stream_at, AllBelow, AllUnbroken, IsMonotone, IsCalm, IsClosed}
 use Rattle.ff_net.specs.declared.fault.Fault.{Fault}
+use Rattle.ff_net.specs.declared.fault.Fault.TheVariants.{TooLarge}
 use Rattle.ff_net.specs.Ways.{Flow, AreValid}
 use Rattle.ff_net.specs.Pasts.{Past, due}
 use Rattle.ff_net.specs.Laws.{IsOfInputs, CauseStays, OutputsClose, MaySpend, Settles, IsPending, AllAsked}
@@ -110,3 +111,18 @@ module _ {S K : Type 0} (left : S → Option (List ℕ)) (holds : K → Option (
   part_ticket_used (part.Dec m) past q s i f p a h = h
   part_ticket_used (part.Enc m) past q s i f p a h = h
   part_ticket_used (part.Mux m) past q s i f p a h = h
+
+module _ {S K : Type 0} where
+  -- no part passes a greatest size
+  pub part_fits : (m : Part S K) → part_fault m ≡ Some TooLarge → ⊥
+  part_fits (part.Demux m) e = m.fits e
+  part_fits (part.Dec m) e = map_no_fault TooLarge e
+  part_fits (part.Enc m) e = map_no_fault TooLarge e
+  part_fits (part.Mux m) e = m.own TooLarge e tt
+
+  -- a part without outputs has no fault of its inputs
+  pub part_takes : (m : Part S K) (c : Fault) → part_out_lanes m ≡ [] → part_fault m ≡ Some c → IsOfInputs c → ⊥
+  part_takes (part.Demux m) c o e i = absurd cc
+  part_takes (part.Dec m) c o e i = map_no_fault c e
+  part_takes (part.Enc m) c o e i = map_no_fault c e
+  part_takes (part.Mux m) c o e i = m.own c e i

@@ -7,7 +7,7 @@ use Rattle.ff_parts.specs.declared.part.Part.{Part}
 use Rattle.ff_parts.specs.declared.part.Part.TheVariants as part
 use Rattle.ff_parts.specs.Coders.{dec_in_lanes, dec_out_lanes, dec_spent, dec_stands, enc_in_lanes, enc_out_lanes, enc_spent, enc_stands}
 use Rattle.ff_parts.specs.Demuxers.{demux_in_lanes, demux_out_lanes, demux_source, demux_fault, demux_failures, demux_device, demux_holds, demux_spent, demux_stands}
-use Rattle.ff_parts.specs.Muxing.{mux_sink, mux_stands, mux_in_lanes, mux_fault, mux_spent}
+use Rattle.ff_parts.specs.Muxers.{mux_sink, mux_stands, mux_in_lanes, mux_fault, mux_spent}
 
 abbrev pub part_in_lanes : {S K : Type 0} → Part S K → List Lane
 part_in_lanes (part.Demux m) = demux_in_lanes m

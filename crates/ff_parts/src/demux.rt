@@ -1,4 +1,4 @@
-ghost use Rattle.std.specs.Prelude.{◌≡◌, ◌+◌, ◌-◌, ◌*◌, ◌^◌, ◌≤◌, ◌<◌, ◌⊎◌, ℕ, List, ◌++◌, Option, None, Ok, true, false, length, drop, nat_lt, IfOk, OnOk, OnErr, IfErr, IsTrue};
+ghost use Rattle.std.specs.Prelude.{◌≡◌, ◌≢◌, ◌+◌, ◌-◌, ◌*◌, ◌^◌, ◌≤◌, ◌<◌, ◌⊎◌, ℕ, List, ◌++◌, Option, None, Some, Ok, true, false, length, drop, nat_lt, IfOk, OnOk, OnErr, IfErr, IsErrOf, IsTrue};
 ghost use Rattle.std.specs.Io.KnownBytes.{Keeps};
 ghost use Rattle.ff_host.specs.Causes.{HasCauseOf};
 ghost use Rattle.ff_frame.specs.declared.item.Item.{Item};
@@ -7,6 +7,7 @@ ghost use Rattle.ff_values.specs.declared.packet.Pkt.{Pkt};
 ghost use Rattle.ff_values.specs.Heads.{base_of_head};
 ghost use Rattle.ff_frame.specs.Times.{end_of, ticks};
 ghost use Rattle.ff_net.specs.declared.fault.Fault.{Fault};
+ghost use Rattle.ff_net.specs.declared.fault.Fault.TheVariants.{TooLarge};
 ghost use Rattle.ff_net.specs.Pasts.{Past};
 ghost use Rattle.ff_cut.specs.Cutters.{Feeds, KeepsCut, GivesPacket, GaveAll, SameElsewhere};
 ghost use Rattle.ff_parts.specs.Demuxing.{ends_beyond, passes_in_demux, DemuxStands};
@@ -65,6 +66,7 @@ pub struct Demux<S, C: PacketCut> {
     ghost same_head: { C.is.stream_head (C.is.head_of cut) ≡ head },
     ghost near: { ended ≡ false → C.is.place cut ≤ 2 ^ 50 },
     ghost few: { ended ≡ false → given ≤ 2 ^ 40 },
+    ghost fits: { fault ≢ Some TooLarge },
 }
 
 /// Why no further bytes of the input came.
@@ -160,6 +162,8 @@ fn read_more<S: Source, C: PacketCut>(
     ensures ended { OnErr result (C.is.has_ended cut.new ≡ C.is.has_ended cut.old) }
     ensures cuts { OnErr result (KeepsCut C.is cut.old cut.new) }
     ensures cause { HasCauseOf ReadEnd.Failed (S.faults src.old) (S.faults src.new) result }
+    ensures ok_faults { OnOk result (S.faults src.new ≡ S.faults src.old) }
+    ensures no_memory_faults { IsErrOf result ReadEnd.NoMemory → S.faults src.new ≡ S.faults src.old }
     ensures name { S.name src.new ≡ S.name src.old }
     ensures head { C.is.head_of cut.new ≡ C.is.head_of cut.old }
     ensures place { C.is.place cut.new ≡ C.is.place cut.old }

@@ -7,8 +7,7 @@ ghost use Rattle.ff_frame.specs.Ports.{nothing, stream_at, IsWhole};
 ghost use Rattle.ff_mux.specs.Puts.{hash_head};
 ghost use Rattle.ff_net.specs.Laws.{Rose, IsOfInputs};
 ghost use Rattle.ff_net.specs.Pasts.{Past, start};
-ghost use Rattle.ff_parts.specs.Muxing.{unpatched, file, HoldsFront, mux_task, mux_sink, mux_head, mux_stands, mux_in_lanes, mux_fault, mux_spent, lines_before, lines_of};
-ghost use Rattle.ff_parts.specs.MuxLaws.{mux_source, mux_valid, mux_keeps, mux_monotone, mux_cause_stays, mux_calm, mux_given, mux_unbroken, mux_caused, mux_spent_only, mux_closed_spent, no_output};
+ghost use Rattle.ff_parts.specs.Muxing.{unpatched, file, HoldsFront, mux_task, lines_before, lines_of};
 
 use ff_frame::{Event, Item, Refused, StreamHead, Ticket};
 use ff_host::{Sink, SinkError};
@@ -22,16 +21,19 @@ use std::alloc::{AllocError, Global};
 /// Want of memory in an append is a fault, and the item counts as fed. Behind a fault it takes what comes and writes
 /// nothing.
 #[derive(Drop)]
-pub struct Mux<K: Sink + Drop> {
+pub struct Mux<K> {
     alloc: Global,
     snk: K,
     put: HashPut,
     begun: bool,
     closed: bool,
     fault: Option<Fault>,
+    ghost own: { (c : _) → fault ≡ Some c → IsOfInputs c → ⊥ },
 }
 
 impl<K: Sink + Drop> Mux<K> {
+    ghost use Rattle.ff_parts.specs.Muxers.{mux_sink, mux_head, mux_stands, mux_in_lanes, mux_fault};
+
     /// Over a sink that holds nothing, for the packets of a stream of this head.
     pub fn new(alloc: Global, snk: K, head: StreamHead) -> Mux<K>
         ensures sink { mux_sink result ≡ snk }
@@ -94,6 +96,7 @@ fn write<K: Sink>(snk: &mut K, bytes: &[u8]) -> Option<Fault>
     ensures kinds { IfSome result (λ c. IsOfInputs c → ⊥) }
     ensures later { K.faults snk.old ≤ K.faults snk.new }
     ensures failed { result ≡ Some Fault.Device → Rose (K.faults snk.old) (K.faults snk.new) }
+    ensures unfailed { result ≢ Some Fault.Device → K.faults snk.new ≡ K.faults snk.old }
     ensures name { K.name snk.new ≡ K.name snk.old }
 {
     if bytes.is_empty() {
@@ -113,6 +116,7 @@ fn write_both<K: Sink>(snk: &mut K, first: &[u8], second: &[u8]) -> Option<Fault
     ensures kinds { IfSome result (λ c. IsOfInputs c → ⊥) }
     ensures later { K.faults snk.old ≤ K.faults snk.new }
     ensures failed { result ≡ Some Fault.Device → Rose (K.faults snk.old) (K.faults snk.new) }
+    ensures unfailed { result ≢ Some Fault.Device → K.faults snk.new ≡ K.faults snk.old }
     ensures name { K.name snk.new ≡ K.name snk.old }
 {
     let fault = write(snk, first);
@@ -124,6 +128,8 @@ fn write_both<K: Sink>(snk: &mut K, first: &[u8], second: &[u8]) -> Option<Fault
 
 impl<K: Sink + Drop> Machine for Mux<K> {
     ghost use Rattle.ff_net.specs.Silence.{silent_front};
+    ghost use Rattle.ff_parts.specs.Muxers.{mux_sink, mux_stands, mux_in_lanes, mux_fault, mux_spent};
+    ghost use Rattle.ff_parts.specs.MuxLaws.{mux_source, mux_valid, mux_keeps, mux_monotone, mux_cause_stays, mux_calm, mux_given, mux_unbroken, mux_caused, mux_spent_only, mux_closed_spent, no_output};
 
     ghost in_lanes = { λ m. mux_in_lanes m };
 

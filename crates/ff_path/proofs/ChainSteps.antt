@@ -330,6 +330,21 @@ module _ {M : Type 0} (fault : M → Option Fault) (end : Chain (Node M)) where
   pub chain_fault : (f : NodeFault) → FirstFault fault (listed end) (Some f) → (f.node < 4) × (f.fault ≢ NoMemory → fault (machine_at (machines_of end) f.node) ≡ Some f.fault)
   chain_fault f h = (h.0, λ n. ap fault (sym (at_number f.node h.0)) ∙ h.2 end.first n)
 
+  abbrev found_at : ℕ → Fault → Option NodeFault
+  found_at node c = Some (record { node = node; fault = c })
+
+  -- a fault of the first machine is the first fault
+  pub chain_first : (found : Option NodeFault) → FirstFault fault (listed end) found → (c : Fault) → fault (machine_of end.first) ≡ Some c → found ≡ Some (record { node = 0; fault = c })
+  chain_first None h c e = absurd (let no = sym (h 0 end.first (omega arith)).1 ∙ e in cc (no))
+  chain_first (Some f) h c e = at f.node refl
+    where
+      at : (n : ℕ) → f.node ≡ n → Some f ≡ Some (record { node = 0; fault = c })
+      at zero z =
+          let here : fault (machine_of (slice_index_or (listed end) f.node end.first)) ≡ Some c = ap (λ (k : ℕ). fault (machine_of (slice_index_or (listed end) k end.first))) z ∙ e in
+          let same : f.fault ≡ c = h.3 end.first c here in
+          ap (λ (k : ℕ). found_at k f.fault) z ∙ ap (found_at 0) same
+      at (suc n) z = absurd (let no = sym (h.1 0 end.first (omega (arith, z))).1 ∙ e in cc (no))
+
 module _ {M : Type 0} (device : M → Option (List ℕ)) (failures : M → ℕ) (fault : M → Option Fault) where
   pub chain_fares : (start end : Chain (Node M)) → ((k : ℕ) (d : Node M) → k < length (listed start) → FaultStep device failures fault (machine_of (slice_index_or (listed start) k d)) (machine_of (slice_index_or (listed end) k d)))
       → Fares device failures fault (machines_of start) (machines_of end)

@@ -88,12 +88,13 @@ pub record AreSound {M : Type 0} (fault : M → Option Fault) (chain : Chain M) 
   pub third_sound : fault chain.third ≡ None
   pub last_sound : fault chain.last ≡ None
 
--- the first of some nodes with a fault, if one has: the fault is its machine's, or want of memory
+-- the first of some nodes with a fault, if one has: the fault is its machine's, where that has one, or want of memory
 abbrev pub FirstFault : {M : Type 0} → (M → Option Fault) → List (Node M) → Option NodeFault → Type 0
 FirstFault fault nodes None = (k : ℕ) (d : _) → k < length nodes → IsSound fault (slice_index_or nodes k d)
 FirstFault fault nodes (Some f) = (f.node < length nodes)
     × ((j : ℕ) (d : _) → j < f.node → IsSound fault (slice_index_or nodes j d))
     × ((d : _) → f.fault ≢ NoMemory → fault (machine_of (slice_index_or nodes f.node d)) ≡ Some f.fault)
+    × ((d : _) (c : Fault) → fault (machine_of (slice_index_or nodes f.node d)) ≡ Some c → f.fault ≡ c)
 
 -- the last machine was fed no more than is on the last wire
 pub record FedPart {M : Type 0} (stands : M → Past → Type 0) (tasks : ℕ → Task) (chain : Chain M) : Type 0 where

@@ -4,6 +4,7 @@ ghost use Rattle.ff_frame.specs.declared.item.Lane.{Lane};
 ghost use Rattle.ff_net.specs.Laws.{IsOfInputs};
 ghost use Rattle.ff_net.specs.Pasts.{Task};
 ghost use Rattle.ff_net.specs.Worlds.{Stand, fresh, lanes_of};
+ghost use Rattle.ff_net.specs.declared.fault.Fault.{Fault};
 ghost use Rattle.ff_net.specs.declared.fault.Fault.TheVariants.{NoMemory};
 ghost use Rattle.ff_path.specs.Chains.{HasLanes, IsNode, AreNodes, Start, Fares, AreSound, FirstFault, FedPart, FedAll, machine_at, inputs_of};
 ghost use Rattle.ff_path.specs.declared.chain.NodeFault.{NodeFault};
@@ -217,6 +218,7 @@ pub fn run_chain<R: Wait, M: Machine + Drop>(
     ensures part { IfOk result (λ ran. (tasks : ℕ → Task) → Start M.stands tasks machines → FedPart M.stands tasks ran.machines) }
     ensures all { IfOk result (λ ran. ran.fault ≡ None → (tasks : ℕ → Task) → Start M.stands tasks machines → FedAll M.stands tasks ran.machines) }
     ensures sound { IfOk result (λ ran. ran.fault ≡ None → AreSound M.fault_of ran.machines) }
+    ensures first { IfOk result (λ ran. (c : Fault) → M.fault_of ran.machines.first ≡ Some c → ran.fault ≡ Some (record { node = 0; fault = c })) }
     ensures fault { IfOk result (λ ran. (f : NodeFault) → ran.fault ≡ Some f → (f.node < 4) × (f.fault ≢ NoMemory → M.fault_of (machine_at ran.machines f.node) ≡ Some f.fault)) }
     ensures cause { IfOk result (λ ran. (f : NodeFault) → ran.fault ≡ Some f → IsOfInputs f.fault → (tasks : ℕ → Task) → Start M.stands tasks machines
         → (tasks f.node).cause (inputs_of tasks f.node) ≡ Some f.fault) }

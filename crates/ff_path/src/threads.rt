@@ -5,6 +5,7 @@ ghost use Rattle.ff_net.specs.Laws.{IsOfInputs};
 ghost use Rattle.ff_net.specs.Nodes.{HaveLanes, machine_of};
 ghost use Rattle.ff_net.specs.Pasts.{Task, IsIn};
 ghost use Rattle.ff_net.specs.Worlds.{Stand, fresh, lanes_of};
+ghost use Rattle.ff_net.specs.declared.fault.Fault.{Fault};
 ghost use Rattle.ff_net.specs.declared.fault.Fault.TheVariants.{NoMemory};
 ghost use Rattle.ff_net_links.specs.Nodes.{in_ends_wires, out_ends_wires, node_of};
 ghost use Rattle.ff_net_links.specs.Settling.{nodes_of};
@@ -287,6 +288,7 @@ pub fn run_chain_in_threads<C: Claims, R: Threads + Wait + Sync, M: Machine + Se
     ensures part { IfOk result (λ ran. C.claims ≡ true → (tasks : ℕ → Task) → Start M.stands tasks machines → FedPart M.stands tasks ran.machines) }
     ensures all { IfOk result (λ ran. C.claims ≡ true → ran.fault ≡ None → (tasks : ℕ → Task) → Start M.stands tasks machines → FedAll M.stands tasks ran.machines) }
     ensures sound { IfOk result (λ ran. ran.fault ≡ None → AreSound M.fault_of ran.machines) }
+    ensures first { IfOk result (λ ran. (c : Fault) → M.fault_of ran.machines.first ≡ Some c → ran.fault ≡ Some (record { node = 0; fault = c })) }
     ensures fault { IfOk result (λ ran. (f : NodeFault) → ran.fault ≡ Some f → (f.node < 4) × (f.fault ≢ NoMemory → M.fault_of (machine_at ran.machines f.node) ≡ Some f.fault)) }
     ensures cause { IfOk result (λ ran. C.claims ≡ true → (f : NodeFault) → ran.fault ≡ Some f → IsOfInputs f.fault → (tasks : ℕ → Task) → Start M.stands tasks machines
         → (tasks f.node).cause (inputs_of tasks f.node) ≡ Some f.fault) }

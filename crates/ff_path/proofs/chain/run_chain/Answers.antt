@@ -11,7 +11,7 @@ use Rattle.ff_net.specs.Serial.{AreShaped, NetStands, Settled, parts_of}
 use Rattle.ff_path.specs.declared.chain.Chain.{Chain}
 use Rattle.ff_path.specs.declared.chain.NodeFault.{NodeFault}
 use Rattle.ff_path.specs.Chains.{HasLanes, Fares, AreSound, FedPart, FedAll, FirstFault, machine_at}
-use Rattle.ff_path.proofs.ChainSteps.{written_back, listed, machines_of, same_chain, row_of, row_shaped, row_upward, row_sink, net_at_start, chain_fares, chain_lanes, chain_part, chain_all, chain_sound, chain_fault, chain_cause}
+use Rattle.ff_path.proofs.ChainSteps.{written_back, listed, machines_of, same_chain, row_of, row_shaped, row_upward, row_sink, net_at_start, chain_fares, chain_lanes, chain_part, chain_all, chain_sound, chain_fault, chain_first, chain_cause}
 use Rattle.ff_path.proofs.chain.run_chain.Goals as goal
 
 pub run_to_end-requires-clause-shaped : goal.run_to_end-requires-clause-shaped
@@ -112,6 +112,16 @@ returns-clause-sound g c none =
     let nodes : c.deref.result.now ≡ listed end = c.deref.ensures.value ∙ c.apart-first.ensures in
     let sound : FirstFault m.fault_of (listed end) None = subst (λ (xs : List (Node g.row.M.Denot)). FirstFault m.fault_of xs None) nodes (subst (λ (r : Option NodeFault). FirstFault m.fault_of c.deref.result.now r) none c.first_fault-fault.ensures) in
     subst (λ (x : Chain g.row.M.Denot). AreSound m.fault_of x) (sym same) (chain_sound m.fault_of end sound)
+
+pub returns-clause-first : goal.returns-clause-first
+returns-clause-first g c k e =
+    let m = g.M.Machine in
+    let end = c.apart-first.result in
+    let same = same_chain _ _ _ _ _ _ _ _ c.into_machine.ensures c.into_machine-2.ensures c.into_machine-3.ensures c.into_machine-4.ensures in
+    let nodes : c.deref.result.now ≡ listed end = c.deref.ensures.value ∙ c.apart-first.ensures in
+    let found = c.first_fault-fault.result in
+    let first : FirstFault m.fault_of (listed end) found = subst (λ (xs : List (Node g.row.M.Denot)). FirstFault m.fault_of xs found) nodes c.first_fault-fault.ensures in
+    chain_first m.fault_of end found first k (subst (λ (x : Chain g.row.M.Denot). m.fault_of x.first ≡ Some k) same e)
 
 pub returns-clause-fault : goal.returns-clause-fault
 returns-clause-fault g c f some =

@@ -10,7 +10,7 @@ use Rattle.ff_net_links.proofs.After.{ended_after, linked_after}
 use Rattle.ff_path.specs.declared.chain.Chain.{Chain}
 use Rattle.ff_path.specs.declared.chain.NodeFault.{NodeFault}
 use Rattle.ff_path.specs.Chains.{HasLanes, Fares, AreSound, FirstFault, FedPart, FedAll, machine_at}
-use Rattle.ff_path.proofs.ChainSteps.{listed, machines_of, same_chain, chain_sound, chain_fault}
+use Rattle.ff_path.proofs.ChainSteps.{listed, machines_of, same_chain, chain_sound, chain_fault, chain_first}
 use Rattle.ff_path.proofs.ThreadRuns.{BelowClause, SettledClause, CauseClause, as_chain, nodes_in, same_machines, chain_lawful, chain_linked, threads_fares, threads_lanes, threads_part, threads_all, threads_cause}
 use Rattle.ff_path.proofs.threads.run_chain_in_threads.Goals as goal
 
@@ -111,6 +111,22 @@ returns-in-Ok-run_threads-clause-sound g c none =
     (λ k d e lt. c.settle_all.ensures.machines k d e (subst (λ (n : ℕ). k < n) (sym ran1.0) lt) ∙ ap (λ (xs : List (Linked g.row.M.Denot)). machine_of (node_of (slice_index_or xs k d))) now.1) in
     let first : FirstFault m.fault_of (listed (nodes_in now.0)) None = subst (λ (xs : List (Linked g.row.M.Denot)). FirstFault m.fault_of (nodes_of xs) None) (c.deref.ensures.value ∙ now.1) (subst (λ (r : Option NodeFault). FirstFault m.fault_of (nodes_of c.deref.result.now) r) none c.first_fault-fault.ensures) in
     subst (λ (x : Chain g.row.M.Denot). AreSound m.fault_of x) (sym same) (chain_sound m.fault_of (nodes_in now.0) first)
+
+pub returns-in-Ok-run_threads-clause-first : goal.returns-in-Ok-run_threads-clause-first
+returns-in-Ok-run_threads-clause-first g c k e =
+    let m = g.M.Machine in
+    let up = c.in-Ok-link_chain.ensures.linked in
+    let olds = c.in-Ok-link_chain.linked in
+    let done = c.in-Ok-run_threads.done.items in
+    let ran1 : AllRan m.in_lanes m.out_lanes m.source_of m.device_of m.failures m.fault_of m.stands (listed olds) done =
+    subst (λ (xs : List (Linked g.row.M.Denot)). AllRan m.in_lanes m.out_lanes m.source_of m.device_of m.failures m.fault_of m.stands xs done) c.gathered-nodes.ensures c.in-Ok-run_threads.ensures.ok in
+    let now = as_chain done ran1.0 in
+    let ran : AllRan m.in_lanes m.out_lanes m.source_of m.device_of m.failures m.fault_of m.stands (listed olds) (listed now.0) = subst (λ (xs : List (Linked g.row.M.Denot)). AllRan m.in_lanes m.out_lanes m.source_of m.device_of m.failures m.fault_of m.stands (listed olds) xs) now.1 ran1 in
+    let same : c.apart-machines.result ≡ machines_of (nodes_in now.0) = same_machines c.settle_all.result.items c.apart-machines.result now.0 c.apart-machines.ensures
+    (λ k d e lt. c.settle_all.ensures.machines k d e (subst (λ (n : ℕ). k < n) (sym ran1.0) lt) ∙ ap (λ (xs : List (Linked g.row.M.Denot)). machine_of (node_of (slice_index_or xs k d))) now.1) in
+    let found = c.first_fault-fault.result in
+    let first : FirstFault m.fault_of (listed (nodes_in now.0)) found = subst (λ (xs : List (Linked g.row.M.Denot)). FirstFault m.fault_of (nodes_of xs) found) (c.deref.ensures.value ∙ now.1) c.first_fault-fault.ensures in
+    chain_first m.fault_of (nodes_in now.0) found first k (subst (λ (x : Chain g.row.M.Denot). m.fault_of x.first ≡ Some k) same e)
 
 pub returns-in-Ok-run_threads-clause-fault : goal.returns-in-Ok-run_threads-clause-fault
 returns-in-Ok-run_threads-clause-fault g c f some =

@@ -1,4 +1,4 @@
-use Rattle.std.proofs.Common.{◌≡◌, ◌∙◌, ◌+◌, ℕ, Ok, Some, None, true, false, refl, sym, ap, subst, arith}
+use Rattle.std.proofs.Common.{◌≡◌, ◌∙◌, ◌+◌, ℕ, Ok, Some, None, true, false, refl, sym, ap, subst}
 use Rattle.ff_values.specs.declared.head.StreamHead.{StreamHead}
 use Rattle.ff_frame.specs.declared.item.Item.{Item}
 use Rattle.ff_frame.specs.declared.item.Item.TheVariants.{Packet, End, Broken}
@@ -88,7 +88,6 @@ units-preserved g c =
     let inv = c.units.invariant in
     let S = g.S.Source in
     let w = c.in_ok-packet.ensures.wait (ap Ok c.in-Wait.is) in
-    let more = c.read_more.ensures.cause.later in
     record {
       stands = λ past d.
           let one = subst (λ k. DemuxStands K (S.left m.src) k m.skip m.given m.ticket m.ended m.fault past) (sym w.0) (inv.stands past d) in
@@ -99,7 +98,7 @@ units-preserved g c =
       sound = inv.sound;
       allowed = inv.allowed;
       before = inv.before;
-      later = omega (arith, inv.later, more);
+      unfailed = c.in-Ok.ensures.ok_faults ∙ inv.unfailed;
       name = c.read_more.ensures.name ∙ inv.name;
       input = inv.input;
       head = inv.head;

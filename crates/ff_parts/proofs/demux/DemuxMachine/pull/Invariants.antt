@@ -1,4 +1,4 @@
-use Rattle.std.proofs.Common.{◌≡◌, ◌≤◌, ◌+◌, ◌-◌, length, None, true, false, cond}
+use Rattle.std.proofs.Common.{◌≡◌, ◌+◌, ◌-◌, length, None, true, false, cond}
 use Rattle.ff_net.specs.Pasts.{Past}
 use Rattle.ff_parts.specs.Demuxing.{DemuxStands}
 use Rattle.ff_parts.proofs.demux.DemuxMachine.pull.Given as goal
@@ -14,7 +14,7 @@ invariant-units g l =
       sound : l.self.fault ≡ None;
       allowed : l.self.ticket ≡ true;
       before : l.initial.self.fault ≡ None;
-      later : S.faults l.initial.self.src ≤ S.faults l.self.src;
+      unfailed : S.faults l.self.src ≡ S.faults l.initial.self.src;
       name : S.name l.self.src ≡ S.name l.initial.self.src;
       input : l.self.input ≡ l.initial.self.input;
       head : l.self.head ≡ l.initial.self.head;
