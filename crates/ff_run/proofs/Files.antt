@@ -1,6 +1,6 @@
 -- From the steps of a job to the whole.
 use Rattle.std.proofs.Common.{◌≡◌, ◌⊎◌, ◌++◌, inl, inr, ℕ, true, List, [], Option, Some, None, Ok, Err, IsSome, IfSome, refl, sym, ◌∙◌, ap, subst}
-use Rattle.ff_host.specs.Causes.{Rose}
+use Rattle.ff_host.specs.Causes.{Rose, SameElsewhere}
 use Rattle.ff_host.specs.Files.{Files, bytes_at, KeepsFiles, KeepsOthers, GivesFile, HoldsNothing, PutsFile}
 use Rattle.ff_wav.specs.declared.head.WavHead.{WavHead}
 use Rattle.ff_cut.specs.declared.fault.HeadFault.{HeadFault}
@@ -14,7 +14,7 @@ use Rattle.ff_frame.specs.Stream.{Mark, still_open, whole, broken}
 use Rattle.ff_mux.specs.FrameHash.{once_whole}
 use Rattle.ff_run.specs.Words.{Job}
 use Rattle.ff_run.specs.Meaning.{file_of, file_with, text_of, text_with, framehash, framehash_text}
-use Rattle.ff_run.specs.Answers.{Command, Counts, HoldsMeaning, HoldsFront as HoldsFrontOf, refusal, IsHeadRefused, IsLong, IsInputLong, IsMeaningful, InputFaulted, OutputFaulted}
+use Rattle.ff_run.specs.Answers.{Command, Counts, ComesBeforeOutputs, KeepsInputCount, KeepsOutputCount, KeepsOtherCounts, HoldsMeaning, HoldsFront as HoldsFrontOf, refusal, IsHeadRefused, IsLong, IsInputLong, IsMeaningful, InputFaulted, OutputFaulted}
 use Rattle.ff_run.specs.Steps.{Failures, EndsPath, AreTold, HoldsFile, IsFileAt, IsFrontAt, IsRead, IsInputRead, MeansSomething, EndsJob, EndsHead, status_with_end}
 use Rattle.ff_run.specs.declared.input.InputEnd.{InputEnd}
 use Rattle.ff_run.specs.declared.input.InputEnd.TheVariants as input_end
@@ -141,17 +141,12 @@ job_ends status.Fine job old mid new left begun h ins outs a b k g m same o fine
 job_ends status.NoMemory job old mid new left begun h ins outs a b k g m same o fine i u e = tt
 job_ends (status.Device (Input n)) job old mid new left begun h ins outs a b k g m same o fine i u e = (e.0, i e.1)
 job_ends (status.Device (Output n)) job old mid new left begun h ins outs a b k g m same o fine i u e = (e.0, u e.1, is_read old job left h g m)
-job_ends (status.TooLong node) job None mid new left begun h ins outs a b k g m same o fine i u e = tt
+job_ends (status.TooLong node) job None mid new left begun h ins outs a b k g m same o fine i u e = e.0
 job_ends (status.TooLong node) job (Some f) None new left begun h ins outs a b k g m same o fine i u e = absurd k
 job_ends (status.TooLong node) job (Some f) (Some d) new left begun h ins outs a b k g m same o fine i u e =
     let bytes = bytes_at f job.input in
-    let r = e bytes (told_is d begun bytes (same bytes g)) in
-    (r.0, is_long bytes h (at_input f job.input left h g m) r.1)
-job_ends (status.TooLarge output) job None mid new left begun h ins outs a b k g m same o fine i u e = tt
-job_ends (status.TooLarge output) job (Some f) None new left begun h ins outs a b k g m same o fine i u e = absurd k
-job_ends (status.TooLarge output) job (Some f) (Some d) new left begun h ins outs a b k g m same o fine i u e =
-    let bytes = bytes_at f job.input in
-    absurd (e bytes (told_is d begun bytes (same bytes g)))
+    (e.0, is_long bytes h (at_input f job.input left h g m) (e.1 bytes (told_is d begun bytes (same bytes g))))
+job_ends (status.TooLarge output) job old mid new left begun h ins outs a b k g m same o fine i u e = absurd e
 job_ends (status.Damaged input offset) job None mid new left begun h ins outs a b k g m same o fine i u e = e.0
 job_ends (status.Damaged input offset) job (Some f) None new left begun h ins outs a b k g m same o fine i u e = absurd k
 job_ends (status.Damaged input offset) job (Some f) (Some d) new left begun h ins outs a b k g m same o fine i u e =
@@ -159,6 +154,20 @@ job_ends (status.Damaged input offset) job (Some f) (Some d) new left begun h in
     absurd (e.1 bytes (told_is d begun bytes (same bytes g)))
 job_ends (status.Unsupported input offset) job old mid new left begun h ins outs a b k g m same o fine i u e = absurd e
 job_ends (status.Words word kind) job old mid new left begun h ins outs a b k g m same o fine i u e = absurd e
+
+-- once the output is created, no status comes that comes before outputs, where the files are told
+pub untouched : (s : Status) (old mid new : Option Files) (job : Job) (left : Option (List ℕ)) (h : WavHead) (told : List ℕ → Type 0) (a b : Failures) → KeepsFiles old mid → GivesFile old job.input left
+    → ((files : Files) (bytes : List ℕ) → mid ≡ Some files → left ≡ Some bytes → told bytes) → EndsPath s h told a b → ComesBeforeOutputs s → KeepsFiles old new
+untouched status.Fine old mid new job left h told a b k g t e c = absurd c
+untouched status.NoMemory old mid new job left h told a b k g t e c = absurd c
+untouched (status.Device file) old mid new job left h told a b k g t e c = absurd c
+untouched (status.TooLong node) old mid new job left h told a b k g t e c = absurd c
+untouched (status.TooLarge output) old mid new job left h told a b k g t e c = absurd c
+untouched (status.Damaged input offset) None mid new job left h told a b k g t e c = tt
+untouched (status.Damaged input offset) (Some f) None new job left h told a b k g t e c = absurd k
+untouched (status.Damaged input offset) (Some f) (Some d) new job left h told a b k g t e c = absurd (e.1 (bytes_at f job.input) (t d (bytes_at f job.input) refl g))
+untouched (status.Unsupported input offset) old mid new job left h told a b k g t e c = absurd e
+untouched (status.Words word kind) old mid new job left h told a b k g t e c = absurd e
 
 -- ---- the answers of a command
 
@@ -260,3 +269,14 @@ complete s (Ok other) job (Some f) ins outs c e h n u =
     let same : other ≡ job = cc in
     complete_at s job f ins outs e (subst (λ (j : Job). IsSome (framehash (bytes_at f j.input))) same h)
     (subst (λ (j : Job). Rose (ins.before j.input) (ins.after j.input) → ⊥) same n) (subst (λ (j : Job). Rose (outs.before j.output) (outs.after j.output) → ⊥) same u)
+
+-- counts of the command's own files, and of others, that stay
+pub keeps_input : (command : Command) (job : Job) (ins : Counts) → command ≡ Ok job → ins.after job.input ≡ ins.before job.input → KeepsInputCount command ins
+keeps_input command job ins c e = subst (λ (x : Command). KeepsInputCount x ins) (sym c) e
+
+pub keeps_output : (command : Command) (job : Job) (outs : Counts) → command ≡ Ok job → outs.after job.output ≡ outs.before job.output → KeepsOutputCount command outs
+keeps_output command job outs c e = subst (λ (x : Command). KeepsOutputCount x outs) (sym c) e
+
+pub keeps_others : (command : Command) (job : Job) (ins outs : Counts) → command ≡ Ok job → SameElsewhere job.input ins.before ins.after → SameElsewhere job.output outs.before outs.after
+    → KeepsOtherCounts command ins outs
+keeps_others command job ins outs c i o = subst (λ (x : Command). KeepsOtherCounts x ins outs) (sym c) (i, o)

@@ -22,6 +22,7 @@ use Rattle.ff_wav.specs.Cuts.{wav_cutter}
 use Rattle.ff_parts.specs.Demuxing.{is_too_long}
 use Rattle.ff_parts.specs.Muxing.{packet_in, hash_body, unpatched, HoldsFront}
 use Rattle.ff_parts.specs.Parts.{part_in_lanes, part_out_lanes, part_fault, part_device, part_failures, part_stands}
+use Rattle.ff_parts.specs.PartLaws.{part_fits, part_takes}
 use Rattle.ff_path.specs.declared.chain.Chain.{Chain}
 use Rattle.ff_path.specs.declared.chain.NodeFault.{NodeFault}
 use Rattle.ff_path.specs.Chains.{AreSound, Fares, HasLanes, Start, machine_at, inputs_of}
@@ -89,8 +90,8 @@ module _ {S K : Type 0} (left : S → Option (List ℕ)) (holds : K → Option (
       → (fault ≢ NoMemory → part_fault new.first ≡ Some fault) → (IsOfInputs fault → Caused 0 fault) → EndsPath (status_at 0 fault) h told before after
   demux_end Device s f own cause = (refl, f.first.failed s.first_sound (own (λ x. cc)))
   demux_end (Damaged offset) s f own cause = (refl, λ bytes t. let r = when_long (is_too_long wav_cutter h bytes) (Damaged offset) (cause tt bytes t) in cc)
-  demux_end TooLong s f own cause = λ bytes t. (refl, (when_long (is_too_long wav_cutter h bytes) TooLong (cause tt bytes t)).1)
-  demux_end TooLarge s f own cause = λ bytes t. let r = when_long (is_too_long wav_cutter h bytes) TooLarge (cause tt bytes t) in cc
+  demux_end TooLong s f own cause = (refl, λ bytes t. (when_long (is_too_long wav_cutter h bytes) TooLong (cause tt bytes t)).1)
+  demux_end TooLarge s f own cause = part_fits new.first (own (λ x. cc))
   demux_end NoMemory s f own cause = tt
 
   between_end : (node : ℕ) (fault : Fault) (m : Part S K) → part_fault m ≡ None → (fault ≢ NoMemory → part_fault m ≡ Some fault) → EndsPath (status_at node fault) h told before after
@@ -100,13 +101,13 @@ module _ {S K : Type 0} (left : S → Option (List ℕ)) (holds : K → Option (
   between_end node TooLarge m n own = none_some (part_fault m) TooLarge n (own (λ x. cc))
   between_end node NoMemory m n own = tt
 
-  mux_end : (fault : Fault) → AreSound part_fault old → Fares (part_device named called) (part_failures ins outs) part_fault old new
+  mux_end : (fault : Fault) → part_out_lanes new.last ≡ [] → AreSound part_fault old → Fares (part_device named called) (part_failures ins outs) part_fault old new
       → (fault ≢ NoMemory → part_fault new.last ≡ Some fault) → (IsOfInputs fault → Caused 3 fault) → EndsPath (status_at 3 fault) h told before after
-  mux_end Device s f own cause = (refl, f.last.failed s.last_sound (own (λ x. cc)))
-  mux_end (Damaged offset) s f own cause = (refl, λ bytes t. none_some None (Damaged offset) refl (cause tt bytes t))
-  mux_end TooLong s f own cause = λ bytes t. none_some None TooLong refl (cause tt bytes t)
-  mux_end TooLarge s f own cause = λ bytes t. none_some None TooLarge refl (cause tt bytes t)
-  mux_end NoMemory s f own cause = tt
+  mux_end Device l s f own cause = (refl, f.last.failed s.last_sound (own (λ x. cc)))
+  mux_end (Damaged offset) l s f own cause = (refl, λ bytes t. none_some None (Damaged offset) refl (cause tt bytes t))
+  mux_end TooLong l s f own cause = absurd (part_takes new.last TooLong l (own (λ x. cc)) tt)
+  mux_end TooLarge l s f own cause = part_fits new.last (own (λ x. cc))
+  mux_end NoMemory l s f own cause = tt
 
   end_at : (node : ℕ) (fault : Fault) → HasLanes part_in_lanes part_out_lanes (path_lanes PcmU8 h.head) new → AreSound part_fault old
       → Fares (part_device named called) (part_failures ins outs) part_fault old new → node < 4
@@ -114,7 +115,7 @@ module _ {S K : Type 0} (left : S → Option (List ℕ)) (holds : K → Option (
   end_at zero fault l s f lt own cause = demux_end fault s f own cause
   end_at (suc zero) fault l s f lt own cause = between_end 1 fault new.second (no_fault_between new.second _ _ l.second_ins l.second_outs) own
   end_at (suc (suc zero)) fault l s f lt own cause = between_end 2 fault new.third (no_fault_between new.third _ _ l.third_ins l.third_outs) own
-  end_at (suc (suc (suc zero))) fault l s f lt own cause = mux_end fault s f own cause
+  end_at (suc (suc (suc zero))) fault l s f lt own cause = mux_end fault l.last_outs s f own cause
   end_at (suc (suc (suc (suc n)))) fault l s f lt own cause = absurd (omega arith)
 
   -- how the four end, by the fault of the first node that has one
@@ -128,6 +129,16 @@ module _ {S K : Type 0} (left : S → Option (List ℕ)) (holds : K → Option (
       let o = own x refl in
       end_at x.node x.fault l s f o.0 o.1 (λ i bytes t. cause t.0 x refl i (path_tasks PcmU8 h bytes) t.1)
 
+  -- where the status isn't a fault of the input, the source didn't fail: a fault of the first part is the first fault
+  pub source_kept : (fault : Option NodeFault) → Fares (part_device named called) (part_failures ins outs) part_fault old new
+      → ((c : Fault) → part_fault new.first ≡ Some c → fault ≡ Some (record { node = 0; fault = c })) → status_with fault ≢ status.Device (Input 0)
+      → part_failures ins outs new.first ≡ part_failures ins outs old.first
+  source_kept fault f first other = f.first.unfailed (λ e. other (ap status_with (first Device e)))
+
+  -- where no part has a fault, the sink didn't fail
+  pub sink_kept : Fares (part_device named called) (part_failures ins outs) part_fault old new → AreSound part_fault new → part_failures ins outs new.last ≡ part_failures ins outs old.last
+  sink_kept f s = f.last.unfailed (λ e. none_some (part_fault new.last) Device s.last_sound e)
+
 -- what is told otherwise, and counts that rise with these
 pub ends_told : (s : Status) (h : WavHead) (told others : List ℕ → Type 0) (a b c d : Failures) → ((bytes : List ℕ) → others bytes → told bytes)
     → (Rose a.source b.source → Rose c.source d.source) → (Rose a.sink b.sink → Rose c.sink d.sink) → EndsPath s h told a b → EndsPath s h others c d
@@ -135,8 +146,8 @@ ends_told status.Fine h told others a b c d t i o e = tt
 ends_told status.NoMemory h told others a b c d t i o e = tt
 ends_told (status.Device (Input n)) h told others a b c d t i o e = (e.0, i e.1)
 ends_told (status.Device (Output n)) h told others a b c d t i o e = (e.0, o e.1)
-ends_told (status.TooLong node) h told others a b c d t i o e = λ bytes x. e bytes (t bytes x)
-ends_told (status.TooLarge output) h told others a b c d t i o e = λ bytes x. e bytes (t bytes x)
+ends_told (status.TooLong node) h told others a b c d t i o e = (e.0, λ bytes x. e.1 bytes (t bytes x))
+ends_told (status.TooLarge output) h told others a b c d t i o e = e
 ends_told (status.Damaged input offset) h told others a b c d t i o e = (e.0, λ bytes x. e.1 bytes (t bytes x))
 ends_told (status.Unsupported input offset) h told others a b c d t i o e = e
 ends_told (status.Words word kind) h told others a b c d t i o e = e

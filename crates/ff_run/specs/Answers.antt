@@ -2,7 +2,7 @@
 -- that the host tells, before and after the call. Where they aren't told, a conclusion on them claims nothing, and a
 -- premise on them isn't met.
 use Rattle.std.specs.Prelude.{◌≡◌, ◌⊎◌, ⊤, ℕ, List, ◌++◌, ◌==◌, if◌then◌else◌, true, Option, Some, None, IsSome, Result, Ok, Err}
-use Rattle.ff_host.specs.Causes.{Rose}
+use Rattle.ff_host.specs.Causes.{Rose, SameElsewhere, SameCounts}
 use Rattle.ff_host.specs.Files.{Files, bytes_at, KeepsFiles, KeepsOthers}
 use Rattle.ff_cut.specs.declared.fault.HeadFault.{HeadFault}
 use Rattle.ff_cut.specs.declared.fault.HeadFault.TheVariants as head_fault
@@ -41,6 +41,7 @@ KeepsOtherFiles (Err fault) before after = KeepsFiles before after
 abbrev pub ComesBeforeOutputs : Status → Type 0
 ComesBeforeOutputs (status.Words word kind) = Unit {0}
 ComesBeforeOutputs (status.Unsupported input offset) = Unit {0}
+ComesBeforeOutputs (status.Damaged input offset) = Unit {0}
 ComesBeforeOutputs _ = ⊥
 
 -- the command means something, with files that are told
@@ -77,13 +78,8 @@ IsInputLong command before = ⊥
 -- the words are a command in which the stream of this node is too long, as far as the files are told: it is the demuxer
 abbrev pub IsNodeLong : Command → Option Files → ℕ → Type 0
 IsNodeLong (Ok job) (Some before) node = (node ≡ 0) × IsInputLong (Ok job) (Some before)
-IsNodeLong (Ok job) None node = ⊤
+IsNodeLong (Ok job) None node = node ≡ 0
 IsNodeLong (Err words) before node = ⊥
-
--- the words are a command with files that aren't told
-abbrev pub IsUntold : Command → Option Files → Type 0
-IsUntold (Ok job) None = Unit {0}
-IsUntold command before = ⊥
 
 -- the name of a file of the command
 abbrev pub file_name : Command → FileRef → Option (List ℕ)
@@ -110,3 +106,18 @@ OutputFaulted (Err fault) outs = ⊥
 abbrev pub FileFaulted : Command → Counts → Counts → FileRef → Type 0
 FileFaulted command ins outs (Input i) = (i ≡ 0) × InputFaulted command ins
 FileFaulted command ins outs (Output o) = (o ≡ 0) × OutputFaulted command outs
+
+-- the count of reading under an input's name is what it was
+abbrev pub KeepsInputCount : Command → Counts → Type 0
+KeepsInputCount (Ok job) ins = ins.after job.input ≡ ins.before job.input
+KeepsInputCount (Err fault) ins = ⊤
+
+-- the count of writing under an output's name is what it was
+abbrev pub KeepsOutputCount : Command → Counts → Type 0
+KeepsOutputCount (Ok job) outs = outs.after job.output ≡ outs.before job.output
+KeepsOutputCount (Err fault) outs = ⊤
+
+-- the counts of reading under names that are no input, and of writing under names that are no output, are what they were
+abbrev pub KeepsOtherCounts : Command → Counts → Counts → Type 0
+KeepsOtherCounts (Ok job) ins outs = SameElsewhere job.input ins.before ins.after × SameElsewhere job.output outs.before outs.after
+KeepsOtherCounts (Err fault) ins outs = SameCounts ins.before ins.after × SameCounts outs.before outs.after

@@ -12,7 +12,7 @@ use Rattle.ff_parts.specs.Demuxing.{is_too_long}
 use Rattle.ff_path.specs.declared.chain.NodeFault.{NodeFault}
 use Rattle.ff_run.specs.Words.{Job}
 use Rattle.ff_run.specs.Meaning.{meaning, file_with}
-use Rattle.ff_run.specs.Answers.{Counts, IsRefusedAs, IsNodeLong, IsUntold}
+use Rattle.ff_run.specs.Answers.{Counts, IsRefusedAs, IsNodeLong}
 use Rattle.ff_run.specs.declared.input.InputEnd.{InputEnd}
 use Rattle.ff_run.specs.declared.input.InputEnd.TheVariants as input_end
 use Rattle.ff_run.specs.declared.report.FileRef.TheVariants.{Input, Output}
@@ -57,8 +57,8 @@ EndsPath status.Fine h told before after = ⊤
 EndsPath status.NoMemory h told before after = ⊤
 EndsPath (status.Device (Input i)) h told before after = (i ≡ 0) × Rose before.source after.source
 EndsPath (status.Device (Output o)) h told before after = (o ≡ 0) × Rose before.sink after.sink
-EndsPath (status.TooLong node) h told before after = (bytes : List ℕ) → told bytes → (node ≡ 0) × (is_too_long wav_cutter h bytes ≡ true)
-EndsPath (status.TooLarge output) h told before after = (bytes : List ℕ) → told bytes → ⊥
+EndsPath (status.TooLong node) h told before after = (node ≡ 0) × ((bytes : List ℕ) → told bytes → is_too_long wav_cutter h bytes ≡ true)
+EndsPath (status.TooLarge output) h told before after = ⊥
 EndsPath (status.Damaged input offset) h told before after = (input ≡ 0) × ((bytes : List ℕ) → told bytes → ⊥)
 EndsPath (status.Unsupported input offset) h told before after = ⊥
 EndsPath (status.Words word kind) h told before after = ⊥
@@ -118,5 +118,5 @@ EndsJob job before ins outs (status.Device (Input i)) = (i ≡ 0) × Rose (ins.b
 EndsJob job before ins outs (status.Device (Output o)) =
     (o ≡ 0) × Rose (outs.before job.output) (outs.after job.output) × IsInputRead job before
 EndsJob job before ins outs (status.TooLong node) = IsNodeLong (Ok job) before node
-EndsJob job before ins outs (status.TooLarge output) = IsUntold (Ok job) before
+EndsJob job before ins outs (status.TooLarge output) = ⊥
 EndsJob job before ins outs (status.Words word kind) = ⊥

@@ -1,5 +1,5 @@
 // Reading the head of an input.
-ghost use Rattle.std.specs.Prelude.{◌≡◌, ◌<◌, ◌≤◌, length, vec_len, Ok, IfOk, IfErr, IfSome};
+ghost use Rattle.std.specs.Prelude.{◌≡◌, ◌<◌, ◌≤◌, length, vec_len, ◌≢◌, Ok, IfOk, OnOk, IfErr, IfSome};
 ghost use Rattle.std.specs.Io.KnownBytes.{Consumes};
 ghost use Rattle.ff_host.specs.Causes.{HasCauseOf};
 ghost use Rattle.ff_wav.specs.Heads.{head as head_of};
@@ -65,6 +65,8 @@ fn read_pieces<S: Source>(alloc: Global, src: &mut S, buffer: &mut [u8]) -> Resu
     ensures bytes { IfOk result (λ begin. Consumes (S.left src.old) (S.left src.new) begin.bytes.items) }
     ensures err { IfErr result (λ end. EndsHead end (S.faults src.old) (S.faults src.new) (S.left src.old)) }
     ensures later { S.faults src.old ≤ S.faults src.new }
+    ensures ok_faults { OnOk result (S.faults src.new ≡ S.faults src.old) }
+    ensures err_faults { IfErr result (λ end. end ≢ InputEnd.Failed → S.faults src.new ≡ S.faults src.old) }
     ensures name { S.name src.new ≡ S.name src.old }
 {
     let mut bytes = Vec::new(alloc);
@@ -89,6 +91,8 @@ pub fn read_begin<S: Source>(alloc: Global, src: &mut S) -> Result<Begin, InputE
     ensures bytes { IfOk result (λ begin. Consumes (S.left src.old) (S.left src.new) begin.bytes.items) }
     ensures err { IfErr result (λ end. EndsHead end (S.faults src.old) (S.faults src.new) (S.left src.old)) }
     ensures later { S.faults src.old ≤ S.faults src.new }
+    ensures ok_faults { OnOk result (S.faults src.new ≡ S.faults src.old) }
+    ensures err_faults { IfErr result (λ end. end ≢ InputEnd.Failed → S.faults src.new ≡ S.faults src.old) }
     ensures name { S.name src.new ≡ S.name src.old }
 {
     let mut buffer = zeros(alloc, PIECE)?;

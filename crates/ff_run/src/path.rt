@@ -1,5 +1,5 @@
 // The four parts of a run: built, run until all are done, and taken apart.
-ghost use Rattle.std.specs.Prelude.{◌≡◌, ◌≤◌, true, List, ℕ, [], ◌∷◌, IsSome, None, Some};
+ghost use Rattle.std.specs.Prelude.{◌≡◌, ◌≢◌, ◌≤◌, true, List, ℕ, [], ◌∷◌, IsSome, None, Some};
 ghost use Rattle.ff_values.specs.declared.head.Codec.TheVariants.{PcmU8};
 ghost use Rattle.ff_values.specs.declared.head.StreamHead.{StreamHead};
 ghost use Rattle.ff_frame.specs.declared.item.Lane.TheVariants.{Packets};
@@ -114,6 +114,8 @@ fn run_parts<
     ensures ends { EndsPath result.1 head.now (λ bytes. (C.claims ≡ true) × Start (part_stands Src.left Snk.holds) (path_tasks PcmU8 head.now bytes) parts)
         (record { source = part_failures Src.faults Snk.faults parts.first; sink = part_failures Src.faults Snk.faults parts.last })
         (record { source = part_failures Src.faults Snk.faults result.0.first; sink = part_failures Src.faults Snk.faults result.0.last }) }
+    ensures src_kept { result.1 ≢ Status.Device (FileRef.Input 0) → part_failures Src.faults Snk.faults result.0.first ≡ part_failures Src.faults Snk.faults parts.first }
+    ensures snk_kept { result.1 ≡ Status.Fine → part_failures Src.faults Snk.faults result.0.last ≡ part_failures Src.faults Snk.faults parts.last }
 {
     let lanes = path_lanes(Codec::PcmU8, &head.head);
     match run_chain_in_threads::<C, _, _>(rt, alloc, parts, &lanes, QUEUE) {
@@ -138,6 +140,8 @@ fn run_path_as<
         (record { source = Src.faults src; sink = Snk.faults snk }) (record { source = Src.faults result.src; sink = Snk.faults result.snk }) }
     ensures src_later { Src.faults src ≤ Src.faults result.src }
     ensures snk_later { Snk.faults snk ≤ Snk.faults result.snk }
+    ensures src_kept { result.status ≢ Status.Device (FileRef.Input 0) → Src.faults result.src ≡ Src.faults src }
+    ensures snk_kept { result.status ≡ Status.Fine → Snk.faults result.snk ≡ Snk.faults snk }
     ensures src_name { Src.name result.src ≡ Src.name src }
     ensures snk_name { Snk.name result.snk ≡ Snk.name snk }
 {
@@ -176,6 +180,8 @@ pub fn run_path<R: Threads + Wait + Sync, Src: Source + Send + Drop, Snk: Sink +
         (record { source = Src.faults src; sink = Snk.faults snk }) (record { source = Src.faults result.src; sink = Snk.faults result.snk }) }
     ensures src_later { Src.faults src ≤ Src.faults result.src }
     ensures snk_later { Snk.faults snk ≤ Snk.faults result.snk }
+    ensures src_kept { result.status ≢ Status.Device (FileRef.Input 0) → Src.faults result.src ≡ Src.faults src }
+    ensures snk_kept { result.status ≡ Status.Fine → Snk.faults result.snk ≡ Snk.faults snk }
     ensures src_name { Src.name result.src ≡ Src.name src }
     ensures snk_name { Snk.name result.snk ≡ Snk.name snk }
 {

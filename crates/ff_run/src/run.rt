@@ -1,7 +1,7 @@
 // A run: from the words and the files to the files, the log and the report.
 ghost use Rattle.std.specs.Prelude.{◌≡◌, ◌≢◌, ◌⊎◌, ◌↔◌, ◌-◌, List, [], ℕ, Some, Ok, Err};
 ghost use Rattle.std.specs.Io.KnownBytes.{Appends, Keeps};
-ghost use Rattle.ff_host.specs.Causes.{Rose};
+ghost use Rattle.ff_host.specs.Causes.{Rose, SameElsewhere};
 ghost use Rattle.ff_host.specs.Files.{KeepsFiles, KeepsOthers};
 ghost use Rattle.ff_lists.specs.Appends.{AppendsPrefix};
 ghost use Rattle.ff_wav.specs.Packets.{IsHead};
@@ -9,7 +9,7 @@ ghost use Rattle.ff_cut.specs.declared.fault.HeadFault.{HeadFault};
 ghost use Rattle.ff_cut.specs.declared.fault.HeadFault.TheVariants as head_fault;
 ghost use Rattle.ff_run.specs.Words.{texts, read};
 ghost use Rattle.ff_run.specs.Meaning.{text_with};
-ghost use Rattle.ff_run.specs.Answers.{HoldsMeaning, HoldsFront, KeepsOtherFiles, ComesBeforeOutputs, IsMeaningful, refusal, IsHeadRefused, IsRefusedAs, IsInputLong, IsNodeLong, IsUntold, InputFaulted, OutputFaulted, FileFaulted};
+ghost use Rattle.ff_run.specs.Answers.{HoldsMeaning, HoldsFront, KeepsOtherFiles, ComesBeforeOutputs, IsMeaningful, refusal, IsHeadRefused, IsRefusedAs, IsInputLong, IsNodeLong, InputFaulted, OutputFaulted, FileFaulted, KeepsInputCount, KeepsOutputCount, KeepsOtherCounts};
 ghost use Rattle.ff_run.specs.Texts.{fault_text, NamesFile};
 ghost use Rattle.ff_run.specs.Steps.{status_with_end, EndsPath, AreTold, IsFileAt, IsFrontAt, EndsJob};
 
@@ -66,6 +66,11 @@ fn write_output<R: Threads + Wait + Sync, H: Host>(
     ensures ends { EndsPath result head.now (AreTold (H.files host.old) (⟦<Begun<H::Src> as Source>⟧.left src))
         (record { source = H.in_faults host.old input.now; sink = H.out_faults host.old output.now })
         (record { source = H.in_faults host.new input.now; sink = H.out_faults host.new output.now }) }
+    ensures input_count { ⟦<Begun<H::Src> as Source>⟧.faults src ≡ 0 → result ≢ Status.Device (FileRef.Input 0)
+        → H.in_faults host.new input.now ≡ H.in_faults host.old input.now }
+    ensures output_count { result ≡ Status.Fine → H.out_faults host.new output.now ≡ H.out_faults host.old output.now }
+    ensures other_ins { SameElsewhere input.now (H.in_faults host.old) (H.in_faults host.new) }
+    ensures other_outs { SameElsewhere output.now (H.out_faults host.old) (H.out_faults host.new) }
     ensures closed { (H.open_sources host.new ≡ H.open_sources host.old - 1) × (H.open_sinks host.new ≡ H.open_sinks host.old) }
 {
     let snk = match host.create_sink(output) {
@@ -102,6 +107,10 @@ fn run_job<R: Threads + Wait + Sync, H: Host>(
     ensures ends { EndsJob (record { input = input.now; output = output.now }) (H.files host.old)
         (record { before = H.in_faults host.old; after = H.in_faults host.new })
         (record { before = H.out_faults host.old; after = H.out_faults host.new }) result }
+    ensures input_count { result ≢ Status.Device (FileRef.Input 0) → H.in_faults host.new input.now ≡ H.in_faults host.old input.now }
+    ensures output_count { result ≡ Status.Fine → H.out_faults host.new output.now ≡ H.out_faults host.old output.now }
+    ensures other_ins { SameElsewhere input.now (H.in_faults host.old) (H.in_faults host.new) }
+    ensures other_outs { SameElsewhere output.now (H.out_faults host.old) (H.out_faults host.new) }
     ensures closed { (H.open_sources host.new ≡ H.open_sources host.old) × (H.open_sinks host.new ≡ H.open_sinks host.old) }
 {
     let mut src = match host.open_source(input) {
@@ -143,7 +152,7 @@ fn run_words<R: Threads + Wait + Sync, H: Host>(
         → (InputFaulted (read (texts words.now)) (record { before = H.in_faults host.old; after = H.in_faults host.new }) → ⊥)
         → (OutputFaulted (read (texts words.now)) (record { before = H.out_faults host.old; after = H.out_faults host.new }) → ⊥)
         → (result ≡ Status.TooLong 0) ⊎ (result ≡ Status.NoMemory) }
-    ensures too_large { (output : ℕ) → result ≡ Status.TooLarge output → IsUntold (read (texts words.now)) (H.files host.old) }
+    ensures too_large { (output : ℕ) → result ≡ Status.TooLarge output → ⊥ }
     ensures device { (file : _) → result ≡ Status.Device file → FileFaulted (read (texts words.now))
         (record { before = H.in_faults host.old; after = H.in_faults host.new })
         (record { before = H.out_faults host.old; after = H.out_faults host.new }) file }
@@ -151,6 +160,13 @@ fn run_words<R: Threads + Wait + Sync, H: Host>(
         → (InputFaulted (read (texts words.now)) (record { before = H.in_faults host.old; after = H.in_faults host.new }) → ⊥)
         → (OutputFaulted (read (texts words.now)) (record { before = H.out_faults host.old; after = H.out_faults host.new }) → ⊥)
         → (result ≡ Status.Fine) ⊎ (result ≡ Status.NoMemory) }
+    ensures input_count { result ≢ Status.Device (FileRef.Input 0)
+        → KeepsInputCount (read (texts words.now)) (record { before = H.in_faults host.old; after = H.in_faults host.new }) }
+    ensures output_count { result ≡ Status.Fine
+        → KeepsOutputCount (read (texts words.now)) (record { before = H.out_faults host.old; after = H.out_faults host.new }) }
+    ensures other_counts { KeepsOtherCounts (read (texts words.now))
+        (record { before = H.in_faults host.old; after = H.in_faults host.new })
+        (record { before = H.out_faults host.old; after = H.out_faults host.new }) }
     ensures closed { (H.open_sources host.new ≡ H.open_sources host.old) × (H.open_sinks host.new ≡ H.open_sinks host.old) }
 {
     match first_fault(words) {
@@ -178,8 +194,8 @@ pub fn ffmpeg<R: Threads + Wait + Sync, H: Host, E: Sink>(
     // With status Fine the output holds the bytes that the command means.
     ensures bytes { result.status ≡ Status.Fine → HoldsMeaning (read (texts words.now)) (H.files host.old) (H.files host.new) }
 
-    // Whatever the status, no other file changes. The words or an unsupported input are refused before any file is
-    // created, and a run that fails later leaves a front of what the command writes.
+    // Whatever the status, no other file changes. The words, an unsupported input and a damaged head are refused before
+    // any file is created, and a run that fails later leaves a front of what the command writes.
     ensures others { KeepsOtherFiles (read (texts words.now)) (H.files host.old) (H.files host.new) }
     ensures untouched { ComesBeforeOutputs result.status → KeepsFiles (H.files host.old) (H.files host.new) }
     ensures front { result.status ≢ Status.Fine → HoldsFront (read (texts words.now)) (H.files host.old) (H.files host.new) }
@@ -202,12 +218,22 @@ pub fn ffmpeg<R: Threads + Wait + Sync, H: Host, E: Sink>(
         → (result.status ≡ Status.TooLong 0) ⊎ (result.status ≡ Status.NoMemory) }
 
     // A framehash has no greatest size.
-    ensures too_large { (output : ℕ) → result.status ≡ Status.TooLarge output → IsUntold (read (texts words.now)) (H.files host.old) }
+    ensures too_large { (output : ℕ) → result.status ≡ Status.TooLarge output → ⊥ }
 
     // A fault of a device is answered only where the count of that file's name rose.
     ensures device { (file : _) → result.status ≡ Status.Device file → FileFaulted (read (texts words.now))
         (record { before = H.in_faults host.old; after = H.in_faults host.new })
         (record { before = H.out_faults host.old; after = H.out_faults host.new }) file }
+
+    // No failure is passed over: with status Fine neither count has changed, and a failure of reading is the status,
+    // whatever fails after it. Under other names nothing is counted.
+    ensures input_count { result.status ≢ Status.Device (FileRef.Input 0)
+        → KeepsInputCount (read (texts words.now)) (record { before = H.in_faults host.old; after = H.in_faults host.new }) }
+    ensures output_count { result.status ≡ Status.Fine
+        → KeepsOutputCount (read (texts words.now)) (record { before = H.out_faults host.old; after = H.out_faults host.new }) }
+    ensures other_counts { KeepsOtherCounts (read (texts words.now))
+        (record { before = H.in_faults host.old; after = H.in_faults host.new })
+        (record { before = H.out_faults host.old; after = H.out_faults host.new }) }
 
     // Nothing else keeps the command from being done.
     ensures complete { IsMeaningful (read (texts words.now)) (H.files host.old)

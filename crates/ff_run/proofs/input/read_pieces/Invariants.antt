@@ -11,7 +11,7 @@ invariant-pieces g l =
       reached : Reached l.walk.at l.walk.state l.bytes.items;
       short : length l.bytes.items ≤ 2 ^ 28;
       room : 0 < length l.buffer;
-      later : S.faults l.fn.src ≤ S.faults l.src;
+      unfailed : S.faults l.src ≡ S.faults l.fn.src;
       name : S.name l.src ≡ S.name l.fn.src;
     }
 

@@ -32,5 +32,11 @@ returns-clause-ends g c =
     ends_told c.run_parts-parts.result.1 c.args.head.now _ _ _ _ _ _ (λ bytes fresh. (c.requires.told ∙ tells_fresh bytes fresh, p.starts bytes fresh.0 fresh.1))
     (λ r. rw (sym p.source_failures, s) r) (λ r. rw (sym p.sink_failures, k) r) c.run_parts-parts.ensures.ends
 
+pub returns-clause-src_kept : goal.returns-clause-src_kept
+returns-clause-src_kept g c = λ other. c.source_of.ensures.faults ∙ (c.run_parts-parts.ensures.src_kept other ∙ c.in-Ok.ensures.path.source_failures)
+
+pub returns-clause-snk_kept : goal.returns-clause-snk_kept
+returns-clause-snk_kept g c = λ fine. c.sink_of.ensures.faults ∙ (c.run_parts-parts.ensures.snk_kept fine ∙ c.in-Ok.ensures.path.sink_failures)
+
 pub run_parts-parts-requires-clause-start : goal.run_parts-parts-requires-clause-start
 run_parts-parts-requires-clause-start g c κs within told = (let f = fresh_of (g.Src.Source.left c.args.src) (g.Snk.Sink.holds c.args.snk) (sym c.requires.told ∙ told) in (f.0, c.in-Ok.ensures.path.starts f.0 f.1.0 f.1.1))
