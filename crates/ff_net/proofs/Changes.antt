@@ -45,6 +45,7 @@ course_past ins outs world past since task allowed stopped = record {
   sent_grows = λ w. below_self (world w).sent;
   taken_grows = λ w. below_self (world w).taken;
   stays_finished = λ w f. f;
+  stays_taken = λ w f. refl;
   task = task;
   allowed = allowed;
   stopped = stopped;
@@ -60,13 +61,14 @@ course_put ins outs world w x past i o =
       sent_grows = with_wire_each (λ a b. LiesBelow a.sent b.sent) world w w' (with_item_above (world w).sent x o) (λ u. below_self u.sent);
       taken_grows = with_wire_each (λ a b. LiesBelow a.taken b.taken) world w w' (below_self (world w).taken) (λ u. below_self u.taken);
       stays_finished = λ v f. with_wire_keeps (λ (u : Wire). u.finished) world w w' v refl ∙ f;
+      stays_taken = λ v f. with_wire_keeps (λ (u : Wire). u.taken) world w w' v refl;
       task = refl;
       allowed = prefix_self past.allowed;
       stopped = λ q s. s;
     }
 
-pub course_take : (ins outs : List ℕ) (world : ℕ → Wire) (w : ℕ) (x : Item) (past since : Past) → since.task ≡ past.task → since.allowed ≡ past.allowed → since.stopped ≡ past.stopped → IsIn w ins → (world w).taken.mark ≡ still_open → Course ins outs world (take_on world w x) past since
-course_take ins outs world w x past since task allowed stopped i o =
+pub course_take : (ins outs : List ℕ) (world : ℕ → Wire) (w : ℕ) (x : Item) (past since : Past) → since.task ≡ past.task → since.allowed ≡ past.allowed → since.stopped ≡ past.stopped → IsIn w ins → (world w).finished ≡ false → (world w).taken.mark ≡ still_open → Course ins outs world (take_on world w x) past since
+course_take ins outs world w x past since task allowed stopped i goes o =
     let w' : Wire = record { sent = (world w).sent; taken = with_item (world w).taken x; finished = (world w).finished } in record {
       sent = λ v n. with_wire_keeps (λ (u : Wire). u.sent) world w w' v refl;
       taken = λ v n. ap (λ (u : Wire). u.taken) (with_wire_other world w w' v (λ e. n (subst (λ (r : ℕ). IsIn r ins) (sym e) i)));
@@ -74,6 +76,7 @@ course_take ins outs world w x past since task allowed stopped i o =
       sent_grows = with_wire_each (λ a b. LiesBelow a.sent b.sent) world w w' (below_self (world w).sent) (λ u. below_self u.sent);
       taken_grows = with_wire_each (λ a b. LiesBelow a.taken b.taken) world w w' (with_item_above (world w).taken x o) (λ u. below_self u.taken);
       stays_finished = λ v f. with_wire_keeps (λ (u : Wire). u.finished) world w w' v refl ∙ f;
+      stays_taken = λ v f. ap (λ (u : Wire). u.taken) (with_wire_other world w w' v (λ e. true_not_false (sym f ∙ (ap (λ (u : ℕ). (world u).finished) e ∙ goes))));
       task = task;
       allowed = subst (λ ts. IsPrefix past.allowed ts) (sym allowed) (prefix_self past.allowed);
       stopped = λ q s. subst (λ (qs : List ℕ). IsIn q qs) (sym stopped) s;
@@ -93,6 +96,7 @@ course_finish ins outs world w past i =
       sent_grows = with_wire_each (λ a b. LiesBelow a.sent b.sent) world w w' (below_self (world w).sent) (λ u. below_self u.sent);
       taken_grows = with_wire_each (λ a b. LiesBelow a.taken b.taken) world w w' (below_self (world w).taken) (λ u. below_self u.taken);
       stays_finished = finish_stays world w;
+      stays_taken = λ v f. with_wire_keeps (λ (u : Wire). u.taken) world w w' v refl;
       task = refl;
       allowed = prefix_self past.allowed;
       stopped = λ q s. s;

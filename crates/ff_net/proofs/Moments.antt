@@ -59,6 +59,7 @@ course_self ins outs world past = record {
   sent_grows = λ w. below_self (world w).sent;
   taken_grows = λ w. below_self (world w).taken;
   stays_finished = λ w f. f;
+  stays_taken = λ w f. refl;
   task = refl;
   allowed = prefix_self past.allowed;
   stopped = λ q i. i;
@@ -72,6 +73,7 @@ course_trans ins outs a b c p q r x y = record {
   sent_grows = λ w. below_trans (a w).sent (b w).sent (c w).sent (x.sent_grows w) (y.sent_grows w);
   taken_grows = λ w. below_trans (a w).taken (b w).taken (c w).taken (x.taken_grows w) (y.taken_grows w);
   stays_finished = λ w f. y.stays_finished w (x.stays_finished w f);
+  stays_taken = λ w f. y.stays_taken w (x.stays_finished w f) ∙ x.stays_taken w f;
   task = y.task ∙ x.task;
   allowed = prefix_trans p.allowed q.allowed r.allowed x.allowed y.allowed;
   stopped = λ s i. y.stopped s (x.stopped s i);
@@ -167,6 +169,21 @@ module _ {M : Type 0} (in_lanes out_lanes : M → List Lane) (source : M → Opt
           course = course_trans (in_wires_of node) (out_wires_of node) world x.now y.now past x.since y.since x.course f;
           so = join world past x.now x.since y.now y.since x.course f x.so y.so;
         };
+  }
+
+  -- what follows from how it steps
+  pub stepped_as : (how how' : (ℕ → Wire) → Past → (ℕ → Wire) → Past → Type 0) (node : Node M) (wires : Wires) (node' : Node M) (wires' : Wires) → ((a : ℕ → Wire) (p : Past) (b : ℕ → Wire) (q : Past) → Course (in_wires_of node) (out_wires_of node) a b p q → how a p b q → how' a p b q)
+      → Stepped in_lanes out_lanes source device failures fault stands how node wires node' wires' → Stepped in_lanes out_lanes source device failures fault stands how' node wires node' wires'
+  stepped_as how how' node wires node' wires' f s = record {
+    ins_same = s.ins_same;
+    outs_same = s.outs_same;
+    in_lanes_same = s.in_lanes_same;
+    out_lanes_same = s.out_lanes_same;
+    fares = s.fares;
+    lanes_same = s.lanes_same;
+    goes = λ world past stand was.
+        let x = s.goes world past stand was in
+        record { now = x.now; since = x.since; stand = x.stand; fits = x.fits; course = x.course; so = f world past x.now x.since x.course x.so };
   }
 
   -- the same, where what holds between depends on what is behind the node there

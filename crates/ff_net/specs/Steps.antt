@@ -13,7 +13,8 @@ use Rattle.ff_net.specs.Nodes.{NodeStands, IsSound, in_wires_of, out_wires_of}
 use Rattle.ff_net.specs.Ports.{out_at, NoneHeld}
 use Rattle.ff_frame.specs.Ports.{stream_at}
 
--- from one moment to a later one: only a node's own wires change, and what was done stays done
+-- from one moment to a later one: only a node's own wires change, what was done stays done, and nothing is taken from a
+-- wire that was finished
 pub record Course (ins outs : List ℕ) (old new : ℕ → Wire) (past since : Past) : Type 0 where
   pub sent : (w : ℕ) → (IsIn w outs → ⊥) → (new w).sent ≡ (old w).sent
   pub taken : (w : ℕ) → (IsIn w ins → ⊥) → (new w).taken ≡ (old w).taken
@@ -21,6 +22,7 @@ pub record Course (ins outs : List ℕ) (old new : ℕ → Wire) (past since : P
   pub sent_grows : (w : ℕ) → LiesBelow (old w).sent (new w).sent
   pub taken_grows : (w : ℕ) → LiesBelow (old w).taken (new w).taken
   pub stays_finished : (w : ℕ) → (old w).finished ≡ true → (new w).finished ≡ true
+  pub stays_taken : (w : ℕ) → (old w).finished ≡ true → (new w).taken ≡ (old w).taken
   pub task : since.task ≡ past.task
   pub allowed : IsPrefix past.allowed since.allowed
   pub stopped : (q : ℕ) → IsIn q past.stopped → IsIn q since.stopped
@@ -73,6 +75,22 @@ pub record Readies {M : Type 0} (fault : M → Option Fault) (seen : ℕ → Typ
   pub asked : IsSound fault node → held ≡ false → (q : ℕ) → seen q → (out_at node.outs.items q).done ≡ false → IsIn q since.asked
   pub asks_on : IsSound fault node → held ≡ false → (q : ℕ) → IsIn q past.asked → IsIn q since.asked
 
+-- an item is due on an output: nothing is where it is done; without a fault one is where not all was sent that is to be
+-- given by now, and with one wherever it isn't done
+pub record IsDue {M : Type 0} (fault : M → Option Fault) (node : Node M) (world : ℕ → Wire) (past : Past) (q : ℕ) : Type 0 where
+  pub there : q < length node.outs.items
+  pub goes_on : (out_at node.outs.items q).done ≡ false
+  pub unsent : IsSound fault node → (world (out_at node.outs.items q).wire).sent ≢ stream_at (due past) q
+
+-- the machine of a node gave items to hold, and nothing moved; where the answer is no, no item was due before
+pub record Fills {M : Type 0} (fault : M → Option Fault) (due : Bool) (before : Node M) (old : ℕ → Wire) (past : Past) (new : ℕ → Wire) (since : Past) : Type 0 where
+  pub sent : (w : ℕ) → (new w).sent ≡ (old w).sent
+  pub taken : (w : ℕ) → (new w).taken ≡ (old w).taken
+  pub finished : (w : ℕ) → (new w).finished ≡ (old w).finished
+  pub allowed : since.allowed ≡ past.allowed
+  pub stopped : since.stopped ≡ past.stopped
+  pub none_before : due ≡ false → (q : ℕ) → IsDue fault before old past q → ⊥
+
 -- a ticket was allowed or none, and nothing else moved
 pub record Grants (allowed : Bool) (old : ℕ → Wire) (past : Past) (new : ℕ → Wire) (since : Past) : Type 0 where
   pub moves : allowed ≡ true → Moves old new past since
@@ -82,13 +100,6 @@ pub record Grants (allowed : Bool) (old : ℕ → Wire) (past : Past) (new : ℕ
   pub got : since.got ≡ past.got
   pub stopped : since.stopped ≡ past.stopped
   pub same : allowed ≡ false → since ≡ past
-
--- an item is due on an output: nothing is where it is done; without a fault one is where not all was sent that is to be
--- given by now, and with one wherever it isn't done
-pub record IsDue {M : Type 0} (fault : M → Option Fault) (node : Node M) (world : ℕ → Wire) (past : Past) (q : ℕ) : Type 0 where
-  pub there : q < length node.outs.items
-  pub goes_on : (out_at node.outs.items q).done ≡ false
-  pub unsent : IsSound fault node → (world (out_at node.outs.items q).wire).sent ≢ stream_at (due past) q
 
 -- of a node where nothing moved: an output that goes on and holds nothing has all that is due; and where no output holds
 -- anything, but one goes on, the node is no source, or has used up all places

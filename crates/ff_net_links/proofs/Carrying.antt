@@ -91,12 +91,13 @@ out_lifted end end' lane world w past x wires' o none goes some goes' sender ope
       carried = λ d. subst (λ (h : Option Item). HeldIs h (stream_of end'.sender.sent) (with_item wire.taken x)) (sym some) (ap (λ (s : Flow). with_item s x) (same ∙ was));
       unclosed = λ d. ap (λ (s : Flow). s.mark) same ∙ o.unclosed goes;
       below = subst (λ (s : Flow). LiesBelow s (with_item wire.taken x)) (sym (same ∙ was)) (with_item_above wire.taken x open_before);
+      listening = λ d. o.listening goes;
       done = λ d. absurd (true_not_false (sym d ∙ goes'));
     } in record {
       now = take_on world w x;
       stand = stand;
       fits = subst (λ (u : Wire). OutEndStands end' lane u) (sym (with_wire_same world w wire' w refl)) now;
-      course = course_take (w ∷ []) [] world w x past past refl refl refl (inl refl) open_before;
+      course = course_take (w ∷ []) [] world w x past past refl refl refl (inl refl) (o.listening goes) open_before;
     }
 
 -- the item that is held may be sent
@@ -116,6 +117,7 @@ out_sent end end' lane wire x o some goes none same_lane longer sending closes =
       carried = λ d. subst (λ (h : Option Item). HeldIs h (stream_of end'.sender.sent) wire.taken) (sym none) (now ∙ given);
       unclosed = λ d. ap (λ (s : Flow). s.mark) now ∙ with_item_open (stream_of end.sender.sent) x (λ c. true_not_false (sym (closes.1 c) ∙ d)) (o.unclosed goes);
       below = inl (now ∙ given);
+      listening = λ d. o.listening goes;
       done = λ d. inl (subst (λ (s : Flow). IsClosed s) (sym now) (with_item_closed (stream_of end.sender.sent) x (closes.0 d)));
     }
 
@@ -127,6 +129,7 @@ out_looked end end' lane wire o held done goes same_lane same_sent = record {
   carried = λ d. subst (λ (h : Option Item). HeldIs h (stream_of end'.sender.sent) wire.taken) (sym held) (subst (λ (xs : List Item). HeldIs end.held (stream_of xs) wire.taken) (sym same_sent) (o.carried goes));
   unclosed = λ d. ap (λ (xs : List Item). (stream_of xs).mark) same_sent ∙ o.unclosed goes;
   below = subst (λ (xs : List Item). LiesBelow (stream_of xs) wire.taken) (sym same_sent) o.below;
+  listening = λ d. o.listening goes;
   done = λ d. absurd (true_not_false (sym d ∙ (done ∙ goes)));
 }
 
@@ -142,7 +145,8 @@ out_told end end' lane world w past wires' o done told same_lane same_sent stand
       carried = λ d. absurd (true_not_false (sym done ∙ d));
       unclosed = λ d. absurd (true_not_false (sym done ∙ d));
       below = subst (λ (xs : List Item). LiesBelow (stream_of xs) wire.taken) (sym same_sent) o.below;
-      done = λ d. inr told;
+      listening = λ d. absurd (true_not_false (sym done ∙ d));
+      done = λ d. inr (told, refl);
     } in record {
       now = finish_on world w;
       stand = stand;

@@ -4,4 +4,5 @@ pub mod Linking
 pub mod Meeting
 mod Served
 pub mod Tables
+mod Turns
 mod Senders

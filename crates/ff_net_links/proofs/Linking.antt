@@ -89,14 +89,15 @@ in_end_keep e lane wire wire' sent stays i = record {
   shut = λ t. stays (i.shut t);
 }
 
-pub out_end_keep : (e : OutEnd) (lane : Option Lane) (wire wire' : Wire) → wire'.taken ≡ wire.taken → OutEndStands e lane wire → OutEndStands e lane wire'
-out_end_keep e lane wire wire' taken o = record {
+pub out_end_keep : (e : OutEnd) (lane : Option Lane) (wire wire' : Wire) → wire'.taken ≡ wire.taken → wire'.finished ≡ wire.finished → OutEndStands e lane wire → OutEndStands e lane wire'
+out_end_keep e lane wire wire' taken finished o = record {
   lane_is = o.lane_is;
   sending = o.sending;
   carried = λ d. subst (λ (s : Flow). HeldIs e.held (stream_of e.sender.sent) s) (sym taken) (o.carried d);
   unclosed = o.unclosed;
   below = subst (λ (s : Flow). LiesBelow (stream_of e.sender.sent) s) (sym taken) o.below;
-  done = o.done;
+  listening = λ d. finished ∙ o.listening d;
+  done = λ d. elim (o.done d) [ inl c ↦ inl c | inr t ↦ inr (t.0, finished ∙ t.1) ];
 }
 
 in_new_stands : (w : ℕ) (r : Receiving) (lane : Option Lane) → r.taken ≡ [] → r.link.claims ≡ true → lane ≡ Some r.lane → InEndStands (new_in w r) lane fresh
@@ -115,6 +116,7 @@ out_new_stands w s lane none on = record {
   carried = λ d. ap stream_of none;
   unclosed = λ d. ap (λ (xs : List Item). (stream_of xs).mark) none;
   below = inl (ap stream_of none);
+  listening = λ d. refl;
   done = λ d. absurd (let no : false ≡ true = d in cc (no));
 }
 
@@ -222,7 +224,7 @@ module _ {M : Type 0} (in_lanes out_lanes : M → List Lane) (source : M → Opt
               let e : OutEnd = slice_index_or l.outs.items q d in
               subst (λ (es : List OutEnd). OutEndStands (slice_index_or es q d) (lane_at (lanes_of l'.wires) (slice_index_or es q d).wire) (y.now (slice_index_or es q d).wire)) (sym outs)
               (subst (λ (ls : List Lane). OutEndStands e (lane_at ls e.wire) (y.now e.wire)) (sym lanes)
-              (out_end_keep e (lane_at (lanes_of l.wires) e.wire) (b.world e.wire) (y.now e.wire) (y.course.taken e.wire (λ i. i)) (b.outs q d (subst (λ (es : List OutEnd). q < length es) outs lt))));
+              (out_end_keep e (lane_at (lanes_of l.wires) e.wire) (b.world e.wire) (y.now e.wire) (y.course.taken e.wire (λ i. i)) (y.course.finished e.wire (λ i. i)) (b.outs q d (subst (λ (es : List OutEnd). q < length es) outs lt))));
         }
 
     pub drawn : Follows in_lanes out_lanes source device failures fault stands l l'
@@ -281,7 +283,7 @@ module _ {M : Type 0} (in_lanes out_lanes : M → List Lane) (source : M → Opt
                 let away : e.wire ≢ old.wire = subst (λ (f : OutEnd). e.wire ≢ f.wire) (pours.is d) (outs_differ l.outs.items (out_wires_of l.node) d b.wired.out_wires b.wired.shaped.outs.apart k q klt there other) in
                 subst (λ (f : OutEnd). OutEndStands f (lane_at (lanes_of l'.wires) f.wire) (y.now f.wire)) (sym at)
                 (subst (λ (ls : List Lane). OutEndStands e (lane_at ls e.wire) (y.now e.wire)) (sym lanes)
-                (out_end_keep e (lane_at (lanes_of l.wires) e.wire) (b.world e.wire) (y.now e.wire) (y.course.taken e.wire (only old.wire e.wire away)) (b.outs k d klt)))
+                (out_end_keep e (lane_at (lanes_of l.wires) e.wire) (b.world e.wire) (y.now e.wire) (y.course.taken e.wire (only old.wire e.wire away)) (y.course.finished e.wire (only old.wire e.wire away)) (b.outs k d klt)))
           ];
         }
 
@@ -340,7 +342,7 @@ module _ {M : Type 0} (in_lanes out_lanes : M → List Lane) (source : M → Opt
               let member : IsIn e.wire (out_wires_of l.node) = subst (λ (ws : List ℕ). IsIn e.wire ws) b.wired.out_wires (out_member l.outs.items k d klt) in
               subst (λ (es : List OutEnd). OutEndStands (slice_index_or es k d) (lane_at (lanes_of l'.wires) (slice_index_or es k d).wire) (y.now (slice_index_or es k d).wire)) (sym outs)
               (subst (λ (ls : List Lane). OutEndStands e (lane_at ls e.wire) (y.now e.wire)) (sym step.lanes_same)
-              (out_end_keep e (lane_at (lanes_of l.wires) e.wire) (b.world e.wire) (y.now e.wire) (y.course.taken e.wire (λ i. b.wired.apart e.wire i member)) (b.outs k d klt)));
+              (out_end_keep e (lane_at (lanes_of l.wires) e.wire) (b.world e.wire) (y.now e.wire) (y.course.taken e.wire (λ i. b.wired.apart e.wire i member)) (y.course.finished e.wire (λ i. b.wired.apart e.wire i member)) (b.outs k d klt)));
         };
   }
 

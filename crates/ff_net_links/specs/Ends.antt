@@ -47,14 +47,15 @@ pub record InEndStands (end : InEnd) (lane : Option Lane) (wire : Wire) : Type 0
   pub shut : end.taking ≡ None → wire.finished ≡ true
 
 -- an end that sends: until the link is closed or its receiver has finished, what was sent over the link, with the item
--- that is held, is what was taken from the wire
+-- that is held, is what was taken from the wire; the node is told by its wire that the receiver has finished
 pub record OutEndStands (end : OutEnd) (lane : Option Lane) (wire : Wire) : Type 0 where
   pub lane_is : lane ≡ Some end.sender.lane
   pub sending : IsSending end.sender.lane end.sender.sent
   pub carried : end.done ≡ false → HeldIs end.held (stream_of end.sender.sent) wire.taken
   pub unclosed : end.done ≡ false → (stream_of end.sender.sent).mark ≡ still_open
   pub below : LiesBelow (stream_of end.sender.sent) wire.taken
-  pub done : end.done ≡ true → IsClosed (stream_of end.sender.sent) ⊎ (is_some end.sender.told ≡ true)
+  pub listening : end.done ≡ false → wire.finished ≡ false
+  pub done : end.done ≡ true → IsClosed (stream_of end.sender.sent) ⊎ ((is_some end.sender.told ≡ true) × (wire.finished ≡ true))
 
 -- whether what this end sends is claimed to be valid
 abbrev pub claims_of : OutEnd → Bool

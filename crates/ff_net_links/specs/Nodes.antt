@@ -31,6 +31,10 @@ out_ends_links ends = map (λ e. out_link e) ends
 abbrev pub node_of : {M : Type 0} → Linked M → Node M
 node_of l = l.node
 
+-- its wires
+abbrev pub wires_on : {M : Type 0} → Linked M → Wires
+wires_on l = l.wires
+
 -- the lanes of the links
 abbrev pub lanes_on : {M : Type 0} → Linked M → List Lane
 lanes_on l = lanes_of l.wires

@@ -1,11 +1,12 @@
 // The ends of links at the wires of a node.
-ghost use Rattle.std.specs.Prelude.{◌≡◌, ◌<◌, ℕ, length, slice_index_or, true, false, [], ◌∷◌};
+ghost use Rattle.std.specs.Prelude.{◌≡◌, ◌≢◌, ◌<◌, ◌⊎◌, ℕ, length, slice_index_or, true, false, [], ◌∷◌, None, is_some};
 ghost use Rattle.ff_net.specs.declared.wires.Wires.{Wires};
 ghost use Rattle.ff_net.specs.Pasts.{Past};
 ghost use Rattle.ff_net.specs.Ways.{lane_at};
 ghost use Rattle.ff_net.specs.Worlds.{Wire, Stand, lanes_of};
-ghost use Rattle.ff_net_links.specs.Ends.{InEndStands, OutEndStands, CanPour, OnWires, Draws, Pours, claims_of, in_link, out_link, in_end_at};
+ghost use Rattle.ff_net_links.specs.Ends.{InEndStands, OutEndStands, CanPour, OnWires, Draws, Pours, claims_of, taken_of, in_link, out_link, in_end_at};
 ghost use Rattle.ff_net_links.specs.declared.ends.OutEnd.{OutEnd};
+ghost use Rattle.ff_net_links.specs.Turns.{Shuts, TakesOneAtMost, InMoves, InRests, SendsOneAtMost, OutMoves, OutRests};
 
 use ff_frame::Item;
 use ff_link::{Finished, Put, Receiver, Sender, Take};
@@ -69,6 +70,11 @@ fn shut<R: Wait>(rt: &R, end: &mut InEnd) -> bool
     ensures wire { end.new.wire ≡ end.old.wire }
     ensures link { in_link end.new ≡ in_link end.old }
     ensures stands { (lane : _) (wire : Wire) → wire.finished ≡ true → InEndStands end.old lane wire → InEndStands end.new lane wire }
+    ensures shut { end.new.taking ≡ None }
+    ensures taken { taken_of end.new ≡ taken_of end.old }
+    ensures held { end.new.held ≡ end.old.held }
+    ensures moved { result ≡ true → is_some end.old.taking ≡ true }
+    ensures still { result ≡ false → end.new ≡ end.old }
 {
     match end.taking.take() {
         Some(receiver) => {
@@ -79,11 +85,32 @@ fn shut<R: Wait>(rt: &R, end: &mut InEnd) -> bool
     }
 }
 
+// Takes nothing more from the link where the node has finished its wire, and says whether it did before.
+fn shut_if<R: Wait>(rt: &R, wires: &Wires, end: &mut InEnd) -> bool
+    requires { end.old.wire < length (lanes_of wires.now) }
+    ensures wire { end.new.wire ≡ end.old.wire }
+    ensures link { in_link end.new ≡ in_link end.old }
+    ensures shuts { Shuts end.old end.new }
+    ensures moved { result ≡ true → InMoves end.old end.new }
+    ensures still { result ≡ false → InRests end.old end.new }
+    ensures shut { (world : ℕ → Wire) → Stand wires.now world → (world end.old.wire).finished ≡ true → end.new.taking ≡ None }
+    ensures stands { (world : ℕ → Wire) (past : Past) → Stand wires.now world → InEndStands end.old (lane_at (lanes_of wires.now) end.old.wire) (world end.old.wire)
+        → OnWires [] (end.old.wire ∷ []) wires.now world past (InEndStands end.new (lane_at (lanes_of wires.now) end.old.wire)) end.old.wire }
+{
+    if wires.is_finished(end.wire) {
+        return shut(rt, end);
+    }
+    false
+}
+
 // Takes an item from the link to hold, and says whether there was one.
 fn fetch<R: Wait>(rt: &R, end: &mut InEnd) -> bool
     ensures wire { end.new.wire ≡ end.old.wire }
     ensures link { in_link end.new ≡ in_link end.old }
     ensures stands { (lane : _) (wire : Wire) → wire.finished ≡ false → InEndStands end.old lane wire → InEndStands end.new lane wire }
+    ensures takes { TakesOneAtMost end.old end.new }
+    ensures moved { result ≡ true → taken_of end.new ≢ taken_of end.old }
+    ensures still { result ≡ false → InRests end.old end.new }
 {
     if end.held.is_some() {
         return false;
@@ -105,6 +132,10 @@ fn fetch<R: Wait>(rt: &R, end: &mut InEnd) -> bool
 // Puts what is held on the wire, and says whether it was put.
 fn lay(wires: &mut Wires, end: &mut InEnd) -> bool
     requires { end.old.wire < length (lanes_of wires.old) }
+    ensures taking { end.new.taking ≡ end.old.taking }
+    ensures finished { end.new.finished ≡ end.old.finished }
+    ensures moved { result ≡ true → (is_some end.old.held ≡ true) × (end.new.held ≡ None) }
+    ensures still { result ≡ false → (end.new.held ≡ end.old.held) × (wires.new ≡ wires.old) }
     ensures lanes { lanes_of wires.new ≡ lanes_of wires.old }
     ensures wire { end.new.wire ≡ end.old.wire }
     ensures link { in_link end.new ≡ in_link end.old }
@@ -131,6 +162,9 @@ fn lay(wires: &mut Wires, end: &mut InEnd) -> bool
 /// has finished the wire, nothing more is taken from the link.
 pub fn draw<R: Wait>(rt: &R, wires: &mut Wires, end: &mut InEnd) -> bool
     requires { end.old.wire < length (lanes_of wires.old) }
+    ensures takes { TakesOneAtMost end.old end.new }
+    ensures moved { result ≡ true → InMoves end.old end.new }
+    ensures still { result ≡ false → InRests end.old end.new × (wires.new ≡ wires.old) }
     ensures lanes { lanes_of wires.new ≡ lanes_of wires.old }
     ensures wire { end.new.wire ≡ end.old.wire }
     ensures link { in_link end.new ≡ in_link end.old }
@@ -156,6 +190,9 @@ fn lift(wires: &mut Wires, end: &mut OutEnd) -> bool
     ensures wire { end.new.wire ≡ end.old.wire }
     ensures link { out_link end.new ≡ out_link end.old }
     ensures goes_on { end.new.done ≡ false }
+    ensures sender { end.new.sender ≡ end.old.sender }
+    ensures moved { result ≡ true → (end.old.held ≡ None) × (is_some end.new.held ≡ true) }
+    ensures still { result ≡ false → (end.new ≡ end.old) × (wires.new ≡ wires.old) }
     ensures stands { (world : ℕ → Wire) (past : Past) → Stand wires.old world → OutEndStands end.old (lane_at (lanes_of wires.old) end.old.wire) (world end.old.wire)
         → OnWires (end.old.wire ∷ []) [] wires.new world past (OutEndStands end.new (lane_at (lanes_of wires.old) end.old.wire)) end.old.wire }
 {
@@ -182,6 +219,9 @@ fn send<R: Wait>(rt: &R, wires: &mut Wires, end: &mut OutEnd) -> bool
     ensures lanes { lanes_of wires.new ≡ lanes_of wires.old }
     ensures wire { end.new.wire ≡ end.old.wire }
     ensures link { out_link end.new ≡ out_link end.old }
+    ensures sends { SendsOneAtMost end.old end.new }
+    ensures moved { result ≡ true → (end.new.sender.sent ≢ end.old.sender.sent) ⊎ (end.new.done ≡ true) }
+    ensures still { result ≡ false → OutRests end.old end.new × (wires.new ≡ wires.old) }
     ensures stands { (world : ℕ → Wire) (past : Past) → Stand wires.old world → OutEndStands end.old (lane_at (lanes_of wires.old) end.old.wire) (world end.old.wire)
         → OnWires (end.old.wire ∷ []) [] wires.new world past (OutEndStands end.new (lane_at (lanes_of wires.old) end.old.wire)) end.old.wire }
 {
@@ -215,6 +255,9 @@ fn send<R: Wait>(rt: &R, wires: &mut Wires, end: &mut OutEnd) -> bool
 pub fn pour<R: Wait>(rt: &R, wires: &mut Wires, end: &mut OutEnd) -> bool
     requires there { end.old.wire < length (lanes_of wires.old) }
     requires stands { claims_of end.old ≡ true → CanPour wires.old end.old }
+    ensures sends { SendsOneAtMost end.old end.new }
+    ensures moved { result ≡ true → OutMoves end.old end.new }
+    ensures still { result ≡ false → OutRests end.old end.new × (wires.new ≡ wires.old) }
     ensures lanes { lanes_of wires.new ≡ lanes_of wires.old }
     ensures wire { end.new.wire ≡ end.old.wire }
     ensures link { out_link end.new ≡ out_link end.old }
@@ -237,8 +280,24 @@ pub fn draw_at<R: Wait>(rt: &R, wires: &mut Wires, ins: &mut Vec<InEnd>, p: usiz
     requires wire { (in_end_at ins.old.items p).wire < length (lanes_of wires.old) }
     ensures lanes { lanes_of wires.new ≡ lanes_of wires.old }
     ensures draws { Draws wires.old wires.new ins.old.items ins.new.items p }
+    ensures takes { TakesOneAtMost (in_end_at ins.old.items p) (in_end_at ins.new.items p) }
+    ensures moved { result ≡ true → InMoves (in_end_at ins.old.items p) (in_end_at ins.new.items p) }
+    ensures still { result ≡ false → InRests (in_end_at ins.old.items p) (in_end_at ins.new.items p) × (wires.new ≡ wires.old) }
 {
     draw(rt, wires, &mut ins[p])
+}
+
+/// Finishes the link of the end of this number where the node has finished its wire, and says whether it did.
+pub fn shut_at<R: Wait>(rt: &R, wires: &Wires, ins: &mut Vec<InEnd>, p: usize) -> bool
+    requires there { p < length ins.old.items }
+    requires wire { (in_end_at ins.old.items p).wire < length (lanes_of wires.now) }
+    ensures draws { Draws wires.now wires.now ins.old.items ins.new.items p }
+    ensures shuts { Shuts (in_end_at ins.old.items p) (in_end_at ins.new.items p) }
+    ensures moved { result ≡ true → InMoves (in_end_at ins.old.items p) (in_end_at ins.new.items p) }
+    ensures still { result ≡ false → InRests (in_end_at ins.old.items p) (in_end_at ins.new.items p) }
+    ensures shut { (world : ℕ → Wire) → Stand wires.now world → (world (in_end_at ins.old.items p).wire).finished ≡ true → (in_end_at ins.new.items p).taking ≡ None }
+{
+    shut_if(rt, wires, &mut ins[p])
 }
 
 /// Pours at the end of this number.
@@ -248,6 +307,9 @@ pub fn pour_at<R: Wait>(rt: &R, wires: &mut Wires, outs: &mut Vec<OutEnd>, q: us
     requires stands { (d : OutEnd) → claims_of (slice_index_or outs.old.items q d) ≡ true → CanPour wires.old (slice_index_or outs.old.items q d) }
     ensures lanes { lanes_of wires.new ≡ lanes_of wires.old }
     ensures pours { Pours wires.old wires.new outs.old.items outs.new.items q }
+    ensures sends { (d : OutEnd) → SendsOneAtMost (slice_index_or outs.old.items q d) (slice_index_or outs.new.items q d) }
+    ensures moved { result ≡ true → (d : OutEnd) → OutMoves (slice_index_or outs.old.items q d) (slice_index_or outs.new.items q d) }
+    ensures still { result ≡ false → ((d : OutEnd) → OutRests (slice_index_or outs.old.items q d) (slice_index_or outs.new.items q d)) × (wires.new ≡ wires.old) }
 {
     pour(rt, wires, &mut outs[q])
 }

@@ -1,15 +1,19 @@
 // A node with the ends of its links.
-ghost use Rattle.std.specs.Prelude.{◌≡◌, ◌<◌, ℕ, length, slice_index_or, true, None, Some};
-ghost use Rattle.ff_net_links.specs.Ends.{in_end_at};
+ghost use Rattle.std.specs.Prelude.{◌≡◌, ◌<◌, ◌⊎◌, ℕ, length, slice_index_or, true, false, None, Some};
+ghost use Rattle.ff_frame.specs.Ports.{IsClosed};
+ghost use Rattle.ff_net_links.specs.Ends.{in_end_at, taken_of};
 ghost use Rattle.ff_net_links.specs.declared.ends.OutEnd.{OutEnd};
-ghost use Rattle.ff_net_links.specs.Nodes.{Follows, IsLawful, HasEnded, Behind, IsBeginning, AreWired, IsWired, node_of, lanes_on, ins_of, outs_of};
+ghost use Rattle.ff_net_links.specs.Nodes.{Follows, IsLawful, HasEnded, Behind, IsBeginning, AreWired, IsWired, node_of, wires_on, lanes_on, ins_of, outs_of};
+ghost use Rattle.ff_net_links.specs.Turns.{TakesOneAtMost, InMoves, InRests, Shuts, SendsOneAtMost, OutMoves, OutRests, IsWaiting, HasMoved, HasRested};
 ghost use Rattle.ff_net.specs.declared.fault.Fault.{Fault};
-ghost use Rattle.ff_net.specs.Nodes.{IsSound, machine_of};
-ghost use Rattle.ff_net.specs.Pasts.{Task};
-ghost use Rattle.ff_net.specs.Worlds.{lanes_of};
+ghost use Rattle.ff_net.specs.Nodes.{IsSound, IsDone, NodeStands, HasFinished, machine_of, inputs_of, in_wire_of};
+ghost use Rattle.ff_net.specs.Pasts.{Past, Task};
+ghost use Rattle.ff_net.specs.Steps.{Stepped, Moves, Fills, IsDue};
+ghost use Rattle.ff_net.specs.Turns.{IsIdle};
+ghost use Rattle.ff_net.specs.Worlds.{Wire, Stand, lanes_of, sizes_of};
 
 use crate::bells::Bells;
-use crate::ends::{InEnd, OutEnd, draw_at, pour_at};
+use crate::ends::{InEnd, OutEnd, draw_at, pour_at, shut_at};
 use ff_link::Sender;
 use ff_net::{Fault, Machine, Node, Turn, Wires};
 use std::sync::Wait;
@@ -46,13 +50,24 @@ fn sent_all(outs: &Vec<OutEnd>) -> bool
 }
 
 // Whether an output waits for room.
-fn waits(outs: &Vec<OutEnd>) -> bool {
+fn waits(outs: &Vec<OutEnd>) -> bool
+    ensures { result ≡ false → (q : ℕ) (d : OutEnd) → q < length outs.now.items → IsWaiting (slice_index_or outs.now.items q d) → ⊥ }
+{
     for end in outs {
-        if !end.done && end.held.is_some() {
+        if is_waiting(end) {
             return true;
         }
     }
     false
+}
+
+fn is_waiting(end: &OutEnd) -> bool
+    ensures { result ≡ false → IsWaiting end.now → ⊥ }
+{
+    if end.done {
+        return false;
+    }
+    end.held.is_some()
 }
 
 // How many items are taken from this link, which is full, once an eighth of what it holds is left.
@@ -65,6 +80,7 @@ impl<M: Machine> Linked<M> {
     pub fn new(node: Node<M>, wires: Wires, ins: Vec<InEnd>, outs: Vec<OutEnd>) -> Linked<M>
         ensures node { node_of result ≡ node }
         ensures lanes { lanes_on result ≡ lanes_of wires }
+        ensures sizes { sizes_of (wires_on result) ≡ sizes_of wires }
         ensures ins { ins_of result ≡ ins.items }
         ensures outs { outs_of result ≡ outs.items }
         ensures wired { AreWired M.in_lanes M.out_lanes node wires ins.items outs.items → IsWired M.in_lanes M.out_lanes result }
@@ -113,7 +129,9 @@ impl<M: Machine> Linked<M> {
     }
 
     /// Whether an output waits for room in its link.
-    pub(crate) fn waits_for_room(&self) -> bool {
+    pub(crate) fn waits_for_room(&self) -> bool
+        ensures { result ≡ false → (q : ℕ) (d : OutEnd) → q < length self.now.outs.items → IsWaiting (slice_index_or self.now.outs.items q d) → ⊥ }
+    {
         waits(&self.outs)
     }
 
@@ -175,11 +193,13 @@ impl<M: Machine> Linked<M> {
     // Draws at each end.
     fn draw_all<R: Wait>(&mut self, rt: &R) -> bool
         requires { IsLawful M.in_lanes M.out_lanes M.source_of M.fault_of M.stands self.old }
-        ensures { Follows M.in_lanes M.out_lanes M.source_of M.device_of M.failures M.fault_of M.stands self.old self.new }
+        ensures follows { Follows M.in_lanes M.out_lanes M.source_of M.device_of M.failures M.fault_of M.stands self.old self.new }
+        ensures node { self.new.node ≡ self.old.node }
+        ensures outs { self.new.outs ≡ self.old.outs }
+        ensures takes { (p : ℕ) → TakesOneAtMost (in_end_at self.old.ins.items p) (in_end_at self.new.ins.items p) }
+        ensures moved { result ≡ true → (p : ℕ) × InMoves (in_end_at self.old.ins.items p) (in_end_at self.new.ins.items p) }
+        ensures still { result ≡ false → ((p : ℕ) → InRests (in_end_at self.old.ins.items p) (in_end_at self.new.ins.items p)) × (self.new.wires ≡ self.old.wires) }
     {
-        if self.waits_for_room() {
-            return false;
-        }
         let mut moved = false;
         let count = self.ins.len();
         for p in 0..count {
@@ -189,10 +209,68 @@ impl<M: Machine> Linked<M> {
         moved
     }
 
+    // Draws where no item is due.
+    fn draw_if_free<R: Wait>(&mut self, rt: &R) -> bool
+        requires { IsLawful M.in_lanes M.out_lanes M.source_of M.fault_of M.stands self.old }
+        ensures follows { Follows M.in_lanes M.out_lanes M.source_of M.device_of M.failures M.fault_of M.stands self.old self.new }
+        ensures outs { self.new.outs ≡ self.old.outs }
+        ensures takes { (p : ℕ) → TakesOneAtMost (in_end_at self.old.ins.items p) (in_end_at self.new.ins.items p) }
+        ensures moved { result ≡ true → (p : ℕ) × InMoves (in_end_at self.old.ins.items p) (in_end_at self.new.ins.items p) }
+        ensures still { result ≡ false → ((p : ℕ) → InRests (in_end_at self.old.ins.items p) (in_end_at self.new.ins.items p)) × Stepped M.in_lanes M.out_lanes M.source_of M.device_of M.failures M.fault_of M.stands (λ a p b q. Unit {0}) self.old.node self.old.wires self.new.node self.new.wires }
+        ensures waits { (q : ℕ) (d : OutEnd) → q < length self.old.outs.items → IsWaiting (slice_index_or self.old.outs.items q d) → (p : ℕ) → taken_of (in_end_at self.new.ins.items p) ≡ taken_of (in_end_at self.old.ins.items p) }
+        ensures due { (world : ℕ → Wire) (past : Past) (q : ℕ) → Stand self.old.wires world → NodeStands M.in_lanes M.source_of M.fault_of M.stands self.old.node world past → IsDue M.fault_of self.old.node world past q → (p : ℕ) → taken_of (in_end_at self.new.ins.items p) ≡ taken_of (in_end_at self.old.ins.items p) }
+    {
+        if self.waits_for_room() {
+            return false;
+        }
+        if self.fill() {
+            return false;
+        }
+        self.draw_all(rt)
+    }
+
+    // Lets the machine give what it has, and says whether an item is due.
+    fn fill(&mut self) -> bool
+        requires { IsLawful M.in_lanes M.out_lanes M.source_of M.fault_of M.stands self.old }
+        ensures follows { Follows M.in_lanes M.out_lanes M.source_of M.device_of M.failures M.fault_of M.stands self.old self.new }
+        ensures ins { self.new.ins ≡ self.old.ins }
+        ensures outs { self.new.outs ≡ self.old.outs }
+        ensures wires { self.new.wires ≡ self.old.wires }
+        ensures stepped { Stepped M.in_lanes M.out_lanes M.source_of M.device_of M.failures M.fault_of M.stands (Fills M.fault_of result self.old.node) self.old.node self.old.wires self.new.node self.new.wires }
+    {
+        self.node.is_due()
+    }
+
+    // Finishes the link of each end whose wire the node has finished.
+    fn shut_ends<R: Wait>(&mut self, rt: &R) -> bool
+        requires { IsLawful M.in_lanes M.out_lanes M.source_of M.fault_of M.stands self.old }
+        ensures follows { Follows M.in_lanes M.out_lanes M.source_of M.device_of M.failures M.fault_of M.stands self.old self.new }
+        ensures node { self.new.node ≡ self.old.node }
+        ensures outs { self.new.outs ≡ self.old.outs }
+        ensures wires { self.new.wires ≡ self.old.wires }
+        ensures shuts { (p : ℕ) → Shuts (in_end_at self.old.ins.items p) (in_end_at self.new.ins.items p) }
+        ensures moved { result ≡ true → (p : ℕ) × InMoves (in_end_at self.old.ins.items p) (in_end_at self.new.ins.items p) }
+        ensures still { result ≡ false → (p : ℕ) → InRests (in_end_at self.old.ins.items p) (in_end_at self.new.ins.items p) }
+        ensures shut { (world : ℕ → Wire) → Stand self.old.wires world → (p : ℕ) → p < length self.old.ins.items → (world (in_end_at self.old.ins.items p).wire).finished ≡ true → (in_end_at self.new.ins.items p).taking ≡ None }
+    {
+        let mut moved = false;
+        let count = self.ins.len();
+        for p in 0..count {
+            let shut = shut_at(rt, &self.wires, &mut self.ins, p);
+            moved = moved | shut;
+        }
+        moved
+    }
+
     // Pours at each end.
     fn pour_all<R: Wait>(&mut self, rt: &R) -> bool
         requires { IsLawful M.in_lanes M.out_lanes M.source_of M.fault_of M.stands self.old }
-        ensures { Follows M.in_lanes M.out_lanes M.source_of M.device_of M.failures M.fault_of M.stands self.old self.new }
+        ensures follows { Follows M.in_lanes M.out_lanes M.source_of M.device_of M.failures M.fault_of M.stands self.old self.new }
+        ensures node { self.new.node ≡ self.old.node }
+        ensures ins { self.new.ins ≡ self.old.ins }
+        ensures sends { (q : ℕ) (d : OutEnd) → SendsOneAtMost (slice_index_or self.old.outs.items q d) (slice_index_or self.new.outs.items q d) }
+        ensures moved { result ≡ true → (q : ℕ) × ((d : OutEnd) → OutMoves (slice_index_or self.old.outs.items q d) (slice_index_or self.new.outs.items q d)) }
+        ensures still { result ≡ false → ((q : ℕ) (d : OutEnd) → OutRests (slice_index_or self.old.outs.items q d) (slice_index_or self.new.outs.items q d)) × (self.new.wires ≡ self.old.wires) }
     {
         let mut moved = false;
         let count = self.outs.len();
@@ -203,33 +281,57 @@ impl<M: Machine> Linked<M> {
         moved
     }
 
-    // A turn of the node on its wires.
-    fn turn_node(&mut self) -> bool
+    // A turn of the node on its wires. It says whether something moved, or the node has become done.
+    fn turn_node(&mut self, was_done: bool) -> bool
         requires { IsLawful M.in_lanes M.out_lanes M.source_of M.fault_of M.stands self.old }
-        ensures { Follows M.in_lanes M.out_lanes M.source_of M.device_of M.failures M.fault_of M.stands self.old self.new }
+        ensures follows { Follows M.in_lanes M.out_lanes M.source_of M.device_of M.failures M.fault_of M.stands self.old self.new }
+        ensures ins { self.new.ins ≡ self.old.ins }
+        ensures outs { self.new.outs ≡ self.old.outs }
+        ensures moved { result ≡ true → Stepped M.in_lanes M.out_lanes M.source_of M.device_of M.failures M.fault_of M.stands (λ a p b q. Moves a b p q) self.old.node self.old.wires self.new.node self.new.wires ⊎ ((was_done ≡ false) × IsDone self.new.node) }
+        ensures still { result ≡ false → Stepped M.in_lanes M.out_lanes M.source_of M.device_of M.failures M.fault_of M.stands (λ a p b q. IsIdle M.fault_of self.new.node self.new.wires b q) self.old.node self.old.wires self.new.node self.new.wires ⊎ (was_done ≡ true) }
+        ensures closed { (world : ℕ → Wire) (past : Past) → NodeStands M.in_lanes M.source_of M.fault_of M.stands self.new.node world past → (p : ℕ) → p < inputs_of self.new.node → IsClosed (world (in_wire_of self.new.node p)).taken → HasFinished self.new.node p }
+        ensures spent { (p : ℕ) → p < inputs_of self.new.node → M.is_spent (machine_of self.new.node) p → HasFinished self.new.node p }
+        ensures faulty { (IsSound M.fault_of self.new.node → ⊥) → (p : ℕ) → p < inputs_of self.new.node → HasFinished self.new.node p }
     {
         match self.node.turn(&mut self.wires) {
             Turn::Moved => true,
-            Turn::NotYet | Turn::Done => false,
+            Turn::NotYet => false,
+            Turn::Done => !was_done,
         }
     }
 
-    /// One turn: at most one item is taken from each link and one put on each. Nothing is taken from a link while an
-    /// output waits for room.
+    /// One turn: at most one item is taken from each link and one put on each. Nothing is taken from a link where an item
+    /// is due, or while an output waits for room. At its end the link of each input that the node has finished is
+    /// finished too: where its closing item was taken, it is spent, or the node has a fault.
     pub fn turn<R: Wait>(&mut self, rt: &R) -> Turn
         requires lawful { IsLawful M.in_lanes M.out_lanes M.source_of M.fault_of M.stands self.old }
         ensures follows { Follows M.in_lanes M.out_lanes M.source_of M.device_of M.failures M.fault_of M.stands self.old self.new }
         ensures done { result ≡ Turn.Done → HasEnded self.new }
+        ensures takes { (p : ℕ) → TakesOneAtMost (in_end_at (ins_of self.old) p) (in_end_at (ins_of self.new) p) }
+        ensures sends { (q : ℕ) (d : OutEnd) → SendsOneAtMost (slice_index_or (outs_of self.old) q d) (slice_index_or (outs_of self.new) q d) }
+        ensures waits { (q : ℕ) (d : OutEnd) → q < length (outs_of self.old) → IsWaiting (slice_index_or (outs_of self.old) q d) → (p : ℕ) → taken_of (in_end_at (ins_of self.new) p) ≡ taken_of (in_end_at (ins_of self.old) p) }
+        ensures due { (world : ℕ → Wire) (past : Past) (q : ℕ) → Stand (wires_on self.old) world → NodeStands M.in_lanes M.source_of M.fault_of M.stands (node_of self.old) world past → IsDue M.fault_of (node_of self.old) world past q
+            → (p : ℕ) → taken_of (in_end_at (ins_of self.new) p) ≡ taken_of (in_end_at (ins_of self.old) p) }
+        ensures moved { result ≡ Turn.Moved → HasMoved M.in_lanes M.out_lanes M.source_of M.device_of M.failures M.fault_of M.stands self.old self.new }
+        ensures not_yet { result ≡ Turn.NotYet → HasRested M.in_lanes M.out_lanes M.source_of M.device_of M.failures M.fault_of M.stands self.old self.new }
+        ensures closed { (world : ℕ → Wire) (past : Past) → NodeStands M.in_lanes M.source_of M.fault_of M.stands (node_of self.new) world past → (p : ℕ) → p < inputs_of (node_of self.new) → IsClosed (world (in_wire_of (node_of self.new) p)).taken → HasFinished (node_of self.new) p }
+        ensures spent { (p : ℕ) → p < inputs_of (node_of self.new) → M.is_spent (machine_of (node_of self.new)) p → HasFinished (node_of self.new) p }
+        ensures faulty { (IsSound M.fault_of (node_of self.new) → ⊥) → (p : ℕ) → p < inputs_of (node_of self.new) → HasFinished (node_of self.new) p }
+        ensures shut { (task : Task) → Behind M.in_lanes M.out_lanes M.source_of M.fault_of M.stands task self.old → (p : ℕ) → p < inputs_of (node_of self.new) → HasFinished (node_of self.new) p → (in_end_at (ins_of self.new) p).taking ≡ None }
     {
-        let drawn = self.draw_all(rt);
-        let turned = self.turn_node();
+        let was_done = self.node.is_done();
+        let drawn = self.draw_if_free(rt);
+        let turned = self.turn_node(was_done);
         let poured = self.pour_all(rt);
-        turn_of(self.is_done(), drawn | turned | poured)
+        let shut = self.shut_ends(rt);
+        turn_of(self.is_done(), drawn | turned | poured | shut)
     }
 }
 
 fn turn_of(done: bool, moved: bool) -> Turn
-    ensures { result ≡ Turn.Done → done ≡ true }
+    ensures done { result ≡ Turn.Done → done ≡ true }
+    ensures moved { result ≡ Turn.Moved → moved ≡ true }
+    ensures not_yet { result ≡ Turn.NotYet → moved ≡ false }
 {
     if done {
         Turn::Done

@@ -5,7 +5,7 @@ ghost use Rattle.ff_net.specs.declared.wires.Wires.{Wires};
 ghost use Rattle.ff_net.specs.Pasts.{Past};
 ghost use Rattle.ff_net.specs.Ports.{in_at, out_at, SomeHeld, NoneHeld};
 ghost use Rattle.ff_net.specs.Nodes.{IsShaped, IsSound, IsDone, NodeStands, HasFinished, machine_of, inputs_of, in_wire_of};
-ghost use Rattle.ff_net.specs.Steps.{Stepped, Prepares, Turns};
+ghost use Rattle.ff_net.specs.Steps.{Stepped, Fills, Prepares, Turns};
 ghost use Rattle.ff_net.specs.Turns.{Waits, Answers};
 ghost use Rattle.ff_net.specs.Worlds.{Wire};
 
@@ -75,6 +75,18 @@ impl<M: Machine> Node<M> {
         }
         let took = self.take_all(wires);
         ready.granted | took
+    }
+
+    /// Lets the machine give what it has, and says whether an item is due: an output holds one, or the node has a fault.
+    pub fn is_due(&mut self) -> bool
+        requires shaped { (wires : Wires) × IsShaped M.in_lanes M.out_lanes self.old wires }
+        ensures stepped { (wires : Wires) → Stepped M.in_lanes M.out_lanes M.source_of M.device_of M.failures M.fault_of M.stands (Fills M.fault_of result self.old) self.old wires self.new wires }
+    {
+        let held = self.fill_all();
+        if held {
+            return true;
+        }
+        self.fault().is_some()
     }
 
     /// One turn: at most one ticket, and none where an item is due, one item taken from each input and one put on each output. A node with a fault

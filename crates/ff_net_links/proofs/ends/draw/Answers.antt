@@ -5,6 +5,10 @@ use Rattle.ff_net_links.specs.Ends.{InEndStands}
 use Rattle.ff_net.specs.Steps.{Course}
 use Rattle.ff_net.proofs.Queues.{finished_of, in_queues}
 use Rattle.ff_net_links.proofs.Carrying.{renamed, on_wires_self}
+use Rattle.ff_net.proofs.Rounds.{or_true, or_false}
+use Rattle.ff_net_links.specs.declared.ends.InEnd.{InEnd}
+use Rattle.ff_net_links.specs.Turns.{InRests, ended}
+use Rattle.ff_net_links.proofs.Turns.{shut_takes, draw_takes, draw_moves, draw_rests, in_rests_self}
 use Rattle.ff_net_links.proofs.ends.draw.Goals as goal
 
 pub returns-then-is_finished-clause-stands : goal.returns-then-is_finished-clause-stands
@@ -29,3 +33,25 @@ returns-clause-stands g c world past stand i =
       fits = renamed (InEndStands last) lanes lanes mid.wire end.wire y.now refl (sym f.wire) y.fits;
       course = subst (λ (w : ℕ). Course [] (w ∷ []) world y.now past past) f.wire y.course;
     }
+
+pub returns-then-is_finished-clause-takes : goal.returns-then-is_finished-clause-takes
+returns-then-is_finished-clause-takes g c = shut_takes c.args.end.now _ c.shut.ensures.shut c.shut.ensures.taken
+
+pub returns-clause-takes : goal.returns-clause-takes
+returns-clause-takes g c = draw_takes c.args.end.now c.fetch-fetched.new.end c.lay-laid.new.end c.lay-laid.ensures.taking c.lay-laid.ensures.finished c.fetch-fetched.ensures.takes
+
+pub returns-then-is_finished-clause-moved : goal.returns-then-is_finished-clause-moved
+returns-then-is_finished-clause-moved g c t = ended (c.shut.ensures.moved t) c.shut.ensures.shut
+
+pub returns-clause-moved : goal.returns-clause-moved
+returns-clause-moved g c t =
+    draw_moves c.args.end.now c.fetch-fetched.new.end c.lay-laid.new.end c.lay-laid.ensures.taking c.lay-laid.ensures.finished c.fetch-fetched.result c.lay-laid.result c.fetch-fetched.ensures.moved c.fetch-fetched.ensures.still c.lay-laid.ensures.moved (or_true c.fetch-fetched.result c.lay-laid.result t)
+
+pub returns-then-is_finished-clause-still : goal.returns-then-is_finished-clause-still
+returns-then-is_finished-clause-still g c n = (subst (λ (e : InEnd). InRests c.args.end.now e) (sym (c.shut.ensures.still n)) (in_rests_self c.args.end.now), refl)
+
+pub returns-clause-still : goal.returns-clause-still
+returns-clause-still g c n =
+    let no = or_false c.fetch-fetched.result c.lay-laid.result n in
+    let lays = c.lay-laid.ensures.still no.1 in
+    (draw_rests c.args.end.now c.fetch-fetched.new.end c.lay-laid.new.end c.lay-laid.ensures.taking c.lay-laid.ensures.finished (c.fetch-fetched.ensures.still no.0) lays.0, lays.1)

@@ -1,9 +1,11 @@
-use Rattle.std.proofs.Common.{ℕ, [], ◌∷◌, sym, subst}
+use Rattle.std.proofs.Common.{ℕ, [], ◌∷◌, sym, ◌∙◌, subst}
 use Rattle.ff_net.specs.Worlds.{lanes_of}
 use Rattle.ff_net_links.specs.Ends.{OutEndStands}
 use Rattle.ff_net.specs.Steps.{Course}
 use Rattle.ff_net.proofs.Moments.{course_trans}
 use Rattle.ff_net_links.proofs.Carrying.{some_past, renamed, claimed}
+use Rattle.ff_net.proofs.Rounds.{or_true, or_false}
+use Rattle.ff_net_links.proofs.Turns.{pour_sends, pour_moves, out_rests_then}
 use Rattle.ff_net_links.proofs.ends.pour.Goals as goal
 
 pub send-sent-requires-clause-stands : goal.send-sent-requires-clause-stands
@@ -31,3 +33,17 @@ returns-clause-stands g c world past stand o =
       fits = renamed (OutEndStands last) lanes' lanes mid.wire end.wire y.now (sym l.lanes) (sym l.wire) y.fits;
       course = course_trans (end.wire ∷ []) [] world x.now y.now past past past x.course (subst (λ (w : ℕ). Course (w ∷ []) [] x.now y.now past past) l.wire y.course);
     }
+
+pub returns-clause-sends : goal.returns-clause-sends
+returns-clause-sends g c = pour_sends c.args.end.now c.lift-lifted.new.end c.send-sent.new.end c.if-end.false c.lift-lifted.ensures.goes_on c.lift-lifted.ensures.sender c.send-sent.ensures.sends
+
+pub returns-clause-moved : goal.returns-clause-moved
+returns-clause-moved g c t =
+    pour_moves c.args.end.now c.lift-lifted.new.end c.send-sent.new.end c.if-end.false c.lift-lifted.ensures.goes_on c.lift-lifted.ensures.sender c.lift-lifted.result c.send-sent.result c.send-sent.ensures.moved (λ n. (c.send-sent.ensures.still n).0) c.lift-lifted.ensures.moved (or_true c.lift-lifted.result c.send-sent.result t)
+
+pub returns-clause-still : goal.returns-clause-still
+returns-clause-still g c n =
+    let no = or_false c.lift-lifted.result c.send-sent.result n in
+    let up = c.lift-lifted.ensures.still no.0 in
+    let sends = c.send-sent.ensures.still no.1 in
+    (out_rests_then c.args.end.now c.lift-lifted.new.end c.send-sent.new.end up.0 sends.0, sends.1 ∙ up.1)

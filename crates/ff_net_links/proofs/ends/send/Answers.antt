@@ -1,8 +1,9 @@
-use Rattle.std.proofs.Common.{[], ◌∷◌, arith, Some, refl, sym, ap, ◌∙◌, is_some}
+use Rattle.std.proofs.Common.{[], inl, ◌∷◌, arith, Some, refl, sym, ap, ◌∙◌, is_some}
 use Rattle.ff_frame.specs.declared.item.Item.{Item}
 use Rattle.ff_net.specs.Worlds.{lanes_of}
 use Rattle.ff_link.specs.Views.{Sending}
 use Rattle.ff_net_links.proofs.Carrying.{may_carry, may_send, out_sent, out_looked, out_told, on_wires_self}
+use Rattle.ff_net_links.proofs.Turns.{sent_item, sent_differs, sent_none}
 use Rattle.ff_net_links.proofs.ends.send.Goals as goal
 
 pub try_put-requires : goal.try_put-requires
@@ -30,3 +31,25 @@ pub returns-in-Finished-clause-stands : goal.returns-in-Finished-clause-stands
 returns-in-Finished-clause-stands g c world past stand o =
     let after = c.in-Finished.ensures.after in
     out_told c.args.end.now _ _ world c.args.end.now.wire past _ o refl (ap (λ (s : Sending). is_some s.told) after) (ap (λ (s : Sending). s.lane) after) (ap (λ (s : Sending). s.sent) after) (c.finish.ensures.finished world stand)
+
+pub returns-in-Done-clause-sends : goal.returns-in-Done-clause-sends
+returns-in-Done-clause-sends g c = sent_item c.args.end.now _ c.in-Some.item c.requires.goes_on (ap (λ (s : Sending). s.sent) c.in-Done.ensures.after) c.closes-closes.ensures.1
+
+pub returns-in-Done-clause-moved : goal.returns-in-Done-clause-moved
+returns-in-Done-clause-moved g c t = inl (sent_differs _ _ c.in-Some.item (ap (λ (s : Sending). s.sent) c.in-Done.ensures.after))
+
+pub returns-in-Full-clause-sends : goal.returns-in-Full-clause-sends
+returns-in-Full-clause-sends g c = sent_none c.args.end.now _ c.requires.goes_on (ap (λ (s : Sending). s.sent) c.in-Full.ensures.after)
+
+pub returns-in-Full-clause-still : goal.returns-in-Full-clause-still
+returns-in-Full-clause-still g c n = (
+  record {
+    sent = ap (λ (s : Sending). s.sent) c.in-Full.ensures.after;
+    done = refl;
+    held = ap (λ (x : Item). Some x) c.in-Full.ensures.back ∙ sym (sym c.take.ensures.value ∙ c.in-Some.is);
+  },
+  refl,
+)
+
+pub returns-in-Finished-clause-sends : goal.returns-in-Finished-clause-sends
+returns-in-Finished-clause-sends g c = sent_none c.args.end.now _ c.requires.goes_on (ap (λ (s : Sending). s.sent) c.in-Finished.ensures.after)

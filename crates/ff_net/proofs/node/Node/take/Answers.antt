@@ -56,7 +56,7 @@ returns-in-Ok-clause-stepped g c =
             fits = took m.in_lanes m.source_of m.fault_of m.stands node after world past since p x (m.in_lanes node.machine) (lanes_of c.args.wires.now) was (c.in-Ok.ensures.accepted past was.machine got_open valid') c.feed.ensures.fares.stays fresh
                 (may_stay m.in_lanes node after past since c.feed.ensures.in_lanes refl (λ d. d) refl (fed_above past p x got_open) (λ q i. i))
                 refl c.feed.ensures.source refl refl there c.requires.shaped.ins busy refl refl refl (λ q n. stream_at-with_item_other past.got p q x n) (inl grown) (λ r. grown);
-            course = course_take _ _ world old.wire x past since refl refl refl (in_wire_in ins p old.wire there refl) unclosed;
+            course = course_take _ _ world old.wire x past since refl refl refl (in_wire_in ins p old.wire there refl) (sym (was.ins p there).flag ∙ busy) unclosed;
             so = record {
               moves = λ e. has_taken old.wire (λ same. with_item_new (world old.wire).taken x unclosed (sym (ap (λ (u : Wire). u.taken) (with_wire_same world old.wire _ old.wire refl)) ∙ same));
               takes_nothing = λ q w. absurd q;
@@ -97,7 +97,7 @@ returns-in-Err-clause-stepped g c =
             fits = took m.in_lanes m.source_of m.fault_of m.stands node after world past past p x (m.in_lanes node.machine) (lanes_of c.args.wires.now) was (c.in-Err.ensures.unchanged past was.machine) c.feed.ensures.fares.stays fresh
                 (may_machine m.in_lanes node after past past c.feed.ensures.in_lanes refl refl refl (λ q i. i))
                 refl c.feed.ensures.source refl refl there c.requires.shaped.ins busy refl refl refl (λ q n. refl) (inr (got_open, (x, ap (λ (s : Flow). with_item s x) got))) (λ r. absurd (true_not_false r));
-            course = course_take _ _ world old.wire x past past refl refl refl (in_wire_in ins p old.wire there refl) unclosed;
+            course = course_take _ _ world old.wire x past past refl refl refl (in_wire_in ins p old.wire there refl) (sym (was.ins p there).flag ∙ busy) unclosed;
             so = record {
               moves = λ e. has_taken old.wire (λ same. with_item_new (world old.wire).taken x unclosed (sym (ap (λ (u : Wire). u.taken) (with_wire_same world old.wire _ old.wire refl)) ∙ same));
               takes_nothing = λ q w. absurd q;

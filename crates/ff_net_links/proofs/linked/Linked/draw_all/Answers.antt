@@ -1,7 +1,12 @@
-use Rattle.std.proofs.Common.{ℕ, ◌<◌, length, refl, sym, ◌∙◌, ap, subst}
+use Rattle.std.proofs.Common.{rules, ◌≡◌, ◌≢◌, ℕ, ◌<◌, length, inl, inr, refl, sym, ◌∙◌, ap, subst, arith}
 use Rattle.std.proofs.lemmas.List.{length-set}
+use Rattle.ff_net.proofs.Rounds.{or_true, or_false}
+use Rattle.ff_net_links.specs.declared.ends.InEnd.{InEnd}
 use Rattle.ff_net_links.specs.declared.linked.Linked.{Linked}
-use Rattle.ff_net_links.proofs.Linking.{follows_then, drawn, in_end_there, wired_after}
+use Rattle.ff_net_links.specs.Ends.{in_end_at}
+use Rattle.ff_net_links.specs.Turns.{TakesOneAtMost, InMoves, InRests}
+use Rattle.ff_net_links.proofs.Linking.{follows_self, follows_then, drawn, in_end_there, wired_after}
+use Rattle.ff_net_links.proofs.Turns.{in_other, in_each, takes_self, in_rests_self}
 use Rattle.ff_net_links.proofs.linked.Linked.draw_all.Goals as goal
 
 pub draw_at-drew-requires-clause-wire : goal.draw_at-drew-requires-clause-wire
@@ -11,15 +16,50 @@ draw_at-drew-requires-clause-wire g c =
     let w = wired_after m.in_lanes m.out_lanes m.source_of m.device_of m.failures m.fault_of m.stands c.args.self.now c.loop-p.self i.follows c.requires.wired in
     in_end_there m.in_lanes m.out_lanes m.source_of m.device_of m.failures m.fault_of m.stands c.loop-p.self w c.loop-p.p (subst (λ (n : ℕ). c.loop-p.p < n) i.count c.loop-p-test.true)
 
+pub loop-p-init : goal.loop-p-init
+loop-p-init g c =
+    let m = g.M.Machine in
+    let ends = c.args.self.now.ins.items in record {
+      follows = follows_self m.in_lanes m.out_lanes m.source_of m.device_of m.failures m.fault_of m.stands c.args.self.now;
+      count = search rules;
+      node = refl;
+      outs = refl;
+      takes = λ k. takes_self (in_end_at ends k);
+      later = λ k le. refl;
+      moved = λ t. cc (t);
+      still = λ n. (λ k. in_rests_self (in_end_at ends k), refl);
+    }
+
 pub loop-p-preserved : goal.loop-p-preserved
 loop-p-preserved g c =
     let m = g.M.Machine in
     let i = c.loop-p.invariant in
     let before = c.loop-p.self in
+    let p = c.loop-p.p in
     let after : Linked g.row.M.Denot = record { node = before.node; wires = c.draw_at-drew.new.wires; ins = c.draw_at-drew.new.ins; outs = before.outs } in
-    let there = subst (λ (n : ℕ). c.loop-p.p < n) i.count c.loop-p-test.true in
-    let draws = c.draw_at-drew.ensures.draws in record {
-      follows = follows_then m.in_lanes m.out_lanes m.source_of m.device_of m.failures m.fault_of m.stands c.args.self.now before after i.follows
-          (drawn m.in_lanes m.out_lanes m.source_of m.device_of m.failures m.fault_of m.stands before after c.loop-p.p there refl refl c.draw_at-drew.ensures.lanes draws);
+    let there = subst (λ (n : ℕ). p < n) i.count c.loop-p-test.true in
+    let e = c.draw_at-drew.ensures in
+    let draws = e.draws in
+    let olds = c.args.self.now.ins.items in
+    let same : in_end_at before.ins.items p ≡ in_end_at olds p = i.later p (omega arith) in record {
+      follows = follows_then m.in_lanes m.out_lanes m.source_of m.device_of m.failures m.fault_of m.stands c.args.self.now before after i.follows (drawn m.in_lanes m.out_lanes m.source_of m.device_of m.failures m.fault_of m.stands before after p there refl refl e.lanes draws);
       count = i.count ∙ sym (ap length draws.set ∙ simp length-set);
+      node = i.node;
+      outs = i.outs;
+      takes = in_each TakesOneAtMost olds before.ins.items after.ins.items p draws.end draws.set same e.takes i.takes;
+      later = λ k le. in_other before.ins.items after.ins.items p k draws.end draws.set (let n : k ≢ p = omega (arith, le) in n) ∙ i.later k (omega (arith, le));
+      moved = λ t. elim (or_true c.loop-p.moved c.draw_at-drew.result t) [
+        | inl was ↦
+            let h = i.moved was in
+            let less : h.0 < p = h.1 in
+            let other : h.0 ≢ p = omega (arith, less) in
+            (h.0, omega (arith, less), subst (λ (x : InEnd). InMoves (in_end_at olds h.0) x) (sym (in_other before.ins.items after.ins.items p h.0 draws.end draws.set other)) h.2)
+        | inr now ↦ (p, omega arith, subst (λ (o : InEnd). InMoves o (in_end_at after.ins.items p)) same (e.moved now))
+      ];
+      still = λ n.
+          let nothing = or_false c.loop-p.moved c.draw_at-drew.result n in
+          (in_each InRests olds before.ins.items after.ins.items p draws.end draws.set same (e.still nothing.1).0 (i.still nothing.0).0, (e.still nothing.1).1 ∙ (i.still nothing.0).1);
     }
+
+pub returns-clause-moved : goal.returns-clause-moved
+returns-clause-moved g c t = let h = c.loop-p.invariant.moved t in (h.0, h.2)

@@ -1,5 +1,7 @@
-use Rattle.std.proofs.Common.{◌≡◌, length}
+use Rattle.std.proofs.Common.{◌≡◌, ◌<◌, ◌≤◌, ℕ, length, true, false}
+use Rattle.ff_net_links.specs.Ends.{in_end_at}
 use Rattle.ff_net_links.specs.Nodes.{Follows}
+use Rattle.ff_net_links.specs.Turns.{TakesOneAtMost, InMoves, InRests}
 use Rattle.ff_net_links.proofs.linked.Linked.draw_all.Given as goal
 
 abbrev pub invariant-loop-p : goal.invariant-loop-p
@@ -7,4 +9,10 @@ invariant-loop-p g l =
     let m = g.M.Machine in record {
       follows : Follows m.in_lanes m.out_lanes m.source_of m.device_of m.failures m.fault_of m.stands l.fn.self l.self;
       count : l.count ≡ length l.self.ins.items;
+      node : l.self.node ≡ l.fn.self.node;
+      outs : l.self.outs ≡ l.fn.self.outs;
+      takes : (k : ℕ) → TakesOneAtMost (in_end_at l.fn.self.ins.items k) (in_end_at l.self.ins.items k);
+      later : (k : ℕ) → l.p ≤ k → in_end_at l.self.ins.items k ≡ in_end_at l.fn.self.ins.items k;
+      moved : l.moved ≡ true → (k : ℕ) × (k < l.p) × InMoves (in_end_at l.fn.self.ins.items k) (in_end_at l.self.ins.items k);
+      still : l.moved ≡ false → ((k : ℕ) → InRests (in_end_at l.fn.self.ins.items k) (in_end_at l.self.ins.items k)) × (l.self.wires ≡ l.fn.self.wires);
     }

@@ -1,5 +1,7 @@
-use Rattle.std.proofs.Common.{◌≡◌, length}
+use Rattle.std.proofs.Common.{◌≡◌, ◌<◌, ◌≤◌, ℕ, length, true, false, slice_index_or}
+use Rattle.ff_net_links.specs.declared.ends.OutEnd.{OutEnd}
 use Rattle.ff_net_links.specs.Nodes.{Follows}
+use Rattle.ff_net_links.specs.Turns.{SendsOneAtMost, OutMoves, OutRests}
 use Rattle.ff_net_links.proofs.linked.Linked.pour_all.Given as goal
 
 abbrev pub invariant-loop-q : goal.invariant-loop-q
@@ -7,4 +9,10 @@ invariant-loop-q g l =
     let m = g.M.Machine in record {
       follows : Follows m.in_lanes m.out_lanes m.source_of m.device_of m.failures m.fault_of m.stands l.fn.self l.self;
       count : l.count ≡ length l.self.outs.items;
+      node : l.self.node ≡ l.fn.self.node;
+      ins : l.self.ins ≡ l.fn.self.ins;
+      sends : (k : ℕ) (d : OutEnd) → SendsOneAtMost (slice_index_or l.fn.self.outs.items k d) (slice_index_or l.self.outs.items k d);
+      later : (k : ℕ) (d : OutEnd) → l.q ≤ k → slice_index_or l.self.outs.items k d ≡ slice_index_or l.fn.self.outs.items k d;
+      moved : l.moved ≡ true → (k : ℕ) × (k < l.q) × ((d : OutEnd) → OutMoves (slice_index_or l.fn.self.outs.items k d) (slice_index_or l.self.outs.items k d));
+      still : l.moved ≡ false → ((k : ℕ) (d : OutEnd) → OutRests (slice_index_or l.fn.self.outs.items k d) (slice_index_or l.self.outs.items k d)) × (l.self.wires ≡ l.fn.self.wires);
     }

@@ -1,0 +1,82 @@
+-- What a turn of a node does at its links.
+use Rattle.std.specs.Prelude.{◌≡◌, ◌≢◌, ℕ, ◌<◌, ◌⊎◌, true, false, List, [], ◌∷◌, ◌++◌, length, slice_index_or, Option, None, Some, is_some}
+use Rattle.ff_frame.specs.declared.item.Item.{Item}
+use Rattle.ff_frame.specs.declared.item.Lane.{Lane}
+use Rattle.ff_frame.specs.Items.{Closes}
+use Rattle.ff_net.specs.declared.fault.Fault.{Fault}
+use Rattle.ff_net.specs.Pasts.{Past}
+use Rattle.ff_net.specs.Worlds.{Wire, lanes_of}
+use Rattle.ff_net.specs.Nodes.{IsDone}
+use Rattle.ff_net.specs.Steps.{Moves, Stepped}
+use Rattle.ff_net.specs.Turns.{IsIdle}
+use Rattle.ff_net.specs.declared.wires.Wires.{Wires}
+use Rattle.ff_net_links.specs.declared.ends.InEnd.{InEnd}
+use Rattle.ff_net_links.specs.declared.ends.OutEnd.{OutEnd}
+use Rattle.ff_net_links.specs.declared.linked.Linked.{Linked}
+use Rattle.ff_net_links.specs.Ends.{taken_of, in_end_at}
+use Rattle.ff_net_links.specs.Nodes.{node_of, wires_on, ins_of, outs_of}
+
+-- the same items, or one more
+abbrev pub HasOneMoreAtMost : List Item → List Item → Type 0
+HasOneMoreAtMost old new = (new ≡ old) ⊎ ((x : Item) × (new ≡ old ++ x ∷ []))
+
+-- at an end that takes at most one item more was taken; and once it has finished its link, it stays so and nothing more is
+pub record TakesOneAtMost (old new : InEnd) : Type 0 where
+  pub more : HasOneMoreAtMost (taken_of old) (taken_of new)
+  pub ended : old.taking ≡ None → (new.taking ≡ None) × (taken_of new ≡ taken_of old)
+
+-- an item was taken, the link was finished, or the item that was held was laid on the wire
+pub data InMoves (old new : InEnd) : Type 0 where
+  took : taken_of new ≢ taken_of old → InMoves old new
+  ended : is_some old.taking ≡ true → new.taking ≡ None → InMoves old new
+  laid : is_some old.held ≡ true → new.held ≡ None → InMoves old new
+
+-- nothing moved at an end that takes
+pub record InRests (old new : InEnd) : Type 0 where
+  pub taken : taken_of new ≡ taken_of old
+  pub going : is_some new.taking ≡ is_some old.taking
+  pub held : new.held ≡ old.held
+
+-- from one moment to a later one an end that takes takes nothing, and finishes its link or goes on
+pub record Shuts (old new : InEnd) : Type 0 where
+  pub wire : new.wire ≡ old.wire
+  pub taken : taken_of new ≡ taken_of old
+  pub held : new.held ≡ old.held
+  pub ended : old.taking ≡ None → new.taking ≡ None
+
+-- at an end that sends at most one item more was sent; and once it sent a closing item, or was told that the receiver has
+-- finished, it is done, stays so and sends nothing more
+pub record SendsOneAtMost (old new : OutEnd) : Type 0 where
+  pub more : HasOneMoreAtMost old.sender.sent new.sender.sent
+  pub closes : (x : Item) → Closes x → new.sender.sent ≡ old.sender.sent ++ x ∷ [] → new.done ≡ true
+  pub ended : old.done ≡ true → (new.done ≡ true) × (new.sender.sent ≡ old.sender.sent)
+
+-- an item was sent, the end was told that the receiver has finished, or it lifted an item from the wire to hold
+pub data OutMoves (old new : OutEnd) : Type 0 where
+  sent : new.sender.sent ≢ old.sender.sent → OutMoves old new
+  ended : old.done ≡ false → new.done ≡ true → OutMoves old new
+  lifted : old.held ≡ None → is_some new.held ≡ true → OutMoves old new
+
+-- nothing moved at an end that sends
+pub record OutRests (old new : OutEnd) : Type 0 where
+  pub sent : new.sender.sent ≡ old.sender.sent
+  pub done : new.done ≡ old.done
+  pub held : new.held ≡ old.held
+
+-- an end that sends holds an item for which there was no room
+abbrev pub IsWaiting : OutEnd → Type 0
+IsWaiting end = (end.done ≡ false) × (is_some end.held ≡ true)
+
+module _ {M : Type 0} (in_lanes out_lanes : M → List Lane) (source : M → Option ℕ) (device : M → Option (List ℕ)) (failures : M → ℕ) (fault : M → Option Fault) (stands : M → Past → Type 0) (old new : Linked M) where
+  -- something moved: at an end, or at the node, which has become done or has moved whatever was behind it and its wires
+  pub data HasMoved : Type 0 where
+    at_input : (p : ℕ) → InMoves (in_end_at (ins_of old) p) (in_end_at (ins_of new) p) → HasMoved
+    at_output : (q : ℕ) → ((d : OutEnd) → OutMoves (slice_index_or (outs_of old) q d) (slice_index_or (outs_of new) q d)) → HasMoved
+    at_node : (wires : Wires) → Stepped in_lanes out_lanes source device failures fault stands (λ a p b q. Moves a b p q) (node_of old) (wires_on old) (node_of new) wires → HasMoved
+    at_end : (IsDone (node_of old) → ⊥) → IsDone (node_of new) → HasMoved
+
+  -- nothing moved at any end, and the node is idle, whatever is behind it and its wires, or had been done
+  pub record HasRested : Type 0 where
+    pub ins : (p : ℕ) → InRests (in_end_at (ins_of old) p) (in_end_at (ins_of new) p)
+    pub outs : (q : ℕ) (d : OutEnd) → OutRests (slice_index_or (outs_of old) q d) (slice_index_or (outs_of new) q d)
+    pub node : Stepped in_lanes out_lanes source device failures fault stands (λ a p b q. IsIdle fault (node_of new) (wires_on new) b q) (node_of old) (wires_on old) (node_of new) (wires_on new) ⊎ IsDone (node_of old)
