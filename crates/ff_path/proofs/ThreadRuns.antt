@@ -94,7 +94,7 @@ module _ {M : Type 0} (in_lanes out_lanes : M → List Lane) (source : M → Opt
       → (k : ℕ) (d : Node M) → k < length (nodes_of ls) → ((j : ℕ) (e : Node M) → j < k → IsSound fault (slice_index_or (nodes_of ls) j e))
       → (c : Fault) → fault (machine_of (slice_index_or (nodes_of ls) k d)) ≡ Some c → IsOfInputs c → (tasks k).cause (map (solve (parts_of in_lanes out_lanes tasks (nodes_of ls))) (in_wires_of (slice_index_or (nodes_of ls) k d))) ≡ Some c
 
-module _ {M : Type 0} (in_lanes out_lanes : M → List Lane) (source : M → Option ℕ) (device : M → Option (List ℕ)) (failures : M → ℕ) (fault : M → Option Fault) (stands : M → Past → Type 0) (claims : Bool) (lanes : Lanes) (chain : Chain M) (ls : Chain (Linked M)) (up : AreLinkedUp in_lanes out_lanes source fault stands claims lanes chain ls) where
+module _ {M : Type 0} (in_lanes out_lanes : M → List Lane) (source : M → Option ℕ) (device : M → Option (List ℕ)) (failures : M → ℕ) (fault : M → Option Fault) (stands : M → Past → Type 0) (claims : Bool) (size : ℕ) (lanes : Lanes) (chain : Chain M) (ls : Chain (Linked M)) (up : AreLinkedUp in_lanes out_lanes source fault stands claims size lanes chain ls) where
   pub chain_lawful : (claims ≡ true → (tasks : ℕ → Task) × Start stands tasks chain) → AllLawful in_lanes out_lanes source device failures fault stands (listed ls)
   chain_lawful begin = record {
     each = at_four (λ k l. IsLawful in_lanes out_lanes source fault stands l) ls

@@ -1,9 +1,9 @@
 // Four machines in a row, each on a wire from the one before.
-ghost use Rattle.std.specs.Prelude.{◌≡◌, ◌≢◌, ◌<◌, ◌≤◌, ◌+◌, ◌^◌, ℕ, List, [], ◌∷◌, ◌++◌, length, None, Some, Option, IfOk, IfErr, slice_index_or, vec_len, vec_capacity};
+ghost use Rattle.std.specs.Prelude.{◌≡◌, ◌≢◌, ◌<◌, ◌≤◌, ◌+◌, ◌^◌, ℕ, All, List, [], ◌∷◌, ◌++◌, length, None, Some, Option, IfOk, IfErr, slice_index_or, vec_len, vec_capacity};
 ghost use Rattle.ff_frame.specs.declared.item.Lane.{Lane};
 ghost use Rattle.ff_net.specs.Laws.{IsOfInputs};
 ghost use Rattle.ff_net.specs.Pasts.{Task};
-ghost use Rattle.ff_net.specs.Worlds.{Stand, fresh, lanes_of};
+ghost use Rattle.ff_net.specs.Worlds.{Stand, fresh, lanes_of, sizes_of};
 ghost use Rattle.ff_net.specs.declared.fault.Fault.{Fault};
 ghost use Rattle.ff_net.specs.declared.fault.Fault.TheVariants.{NoMemory};
 ghost use Rattle.ff_path.specs.Chains.{HasLanes, IsNode, AreNodes, Start, Fares, AreSound, FirstFault, FedPart, FedAll, machine_at, inputs_of};
@@ -141,6 +141,7 @@ fn wires_of(alloc: Global, lanes: Lanes, size: usize) -> Result<Wires, AllocErro
     requires { 1 ≤ size }
     ensures fresh { IfOk result (λ wires. Stand wires (λ w. fresh)) }
     ensures lanes { IfOk result (λ wires. lanes_of wires ≡ lanes.first ∷ lanes.second ∷ lanes.third ∷ []) }
+    ensures sizes { IfOk result (λ wires. All (λ n. n ≡ size) (sizes_of wires)) }
 {
     let Lanes {
         first,

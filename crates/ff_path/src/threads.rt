@@ -1,10 +1,10 @@
 // Four machines in a row, each in a thread of its own and on a link from the one before.
-ghost use Rattle.std.specs.Prelude.{◌≡◌, ◌≢◌, ◌<◌, ◌≤◌, ◌^◌, ℕ, List, [], length, true, Some, None, IfOk, IfErr, vec_len};
+ghost use Rattle.std.specs.Prelude.{◌≡◌, ◌≢◌, ◌<◌, ◌≤◌, ◌^◌, ℕ, All, List, [], length, true, Some, None, IfOk, IfErr, vec_len};
 ghost use Rattle.ff_frame.specs.declared.item.Lane.{Lane};
 ghost use Rattle.ff_net.specs.Laws.{IsOfInputs};
 ghost use Rattle.ff_net.specs.Nodes.{HaveLanes, machine_of};
 ghost use Rattle.ff_net.specs.Pasts.{Task, IsIn};
-ghost use Rattle.ff_net.specs.Worlds.{Stand, fresh, lanes_of};
+ghost use Rattle.ff_net.specs.Worlds.{Stand, fresh, lanes_of, sizes_of};
 ghost use Rattle.ff_net.specs.declared.fault.Fault.{Fault};
 ghost use Rattle.ff_net.specs.declared.fault.Fault.TheVariants.{NoMemory};
 ghost use Rattle.ff_net_links.specs.Nodes.{in_ends_wires, out_ends_wires, node_of};
@@ -45,6 +45,7 @@ fn copy_of(lane: &Lane) -> Lane
 fn own_wires(alloc: Global, lanes: &Lanes) -> Result<Wires, AllocError>
     ensures fresh { IfOk result (λ wires. Stand wires (λ w. fresh)) }
     ensures lanes { IfOk result (λ wires. lanes_of wires ≡ link_lanes lanes.now) }
+    ensures sizes { IfOk result (λ wires. All (λ n. n ≡ 1) (sizes_of wires)) }
 {
     let first = copy_of(&lanes.first);
     let second = copy_of(&lanes.second);
@@ -59,7 +60,7 @@ fn new_link<C: Claims>(
     lane: &Lane,
 ) -> Result<(Sender, Receiver), AllocError>
     requires { (1 ≤ size) × (size ≤ 1024) }
-    ensures { IfOk result (λ ends. AreEnds C.claims lane.now ends.0 ends.1) }
+    ensures { IfOk result (λ ends. AreEnds C.claims size lane.now ends.0 ends.1) }
 {
     link_claiming::<C>(alloc, size, lane)
 }
@@ -121,7 +122,7 @@ fn all_ports<C: Claims>(
     size: usize,
 ) -> Result<Chain<Ports>, AllocError>
     requires { (1 ≤ size) × (size ≤ 1024) }
-    ensures { IfOk result (λ ports. AreAllPorts C.claims lanes.now ports) }
+    ensures { IfOk result (λ ports. AreAllPorts C.claims size lanes.now ports) }
 {
     let (sender_0, receiver_0) = new_link::<C>(alloc, size, &lanes.first)?;
     let (sender_1, receiver_1) = new_link::<C>(alloc, size, &lanes.second)?;
@@ -174,7 +175,7 @@ fn linked_up<M: Machine + Drop>(
     chain: Chain<M>,
     ports: Chain<Ports>,
 ) -> Result<Chain<Linked<M>>, Chain<M>>
-    ensures linked { IfOk result (λ linked. (claims : _) (lanes : _) → AreAllPorts claims lanes ports → HasLanes M.in_lanes M.out_lanes lanes chain → AreLinkedUp M.in_lanes M.out_lanes M.source_of M.fault_of M.stands claims lanes chain linked) }
+    ensures linked { IfOk result (λ linked. (claims : _) (size : ℕ) (lanes : _) → AreAllPorts claims size lanes ports → HasLanes M.in_lanes M.out_lanes lanes chain → AreLinkedUp M.in_lanes M.out_lanes M.source_of M.fault_of M.stands claims size lanes chain linked) }
     ensures back { IfErr result (λ back. back ≡ chain) }
 {
     let Chain {
@@ -242,7 +243,7 @@ pub fn link_chain<C: Claims, M: Machine + Drop>(
 ) -> Result<Chain<Linked<M>>, Chain<M>>
     requires lanes { HasLanes M.in_lanes M.out_lanes lanes.now machines }
     requires size { (1 ≤ size) × (size ≤ 1024) }
-    ensures linked { IfOk result (λ linked. AreLinkedUp M.in_lanes M.out_lanes M.source_of M.fault_of M.stands C.claims lanes.now machines linked) }
+    ensures linked { IfOk result (λ linked. AreLinkedUp M.in_lanes M.out_lanes M.source_of M.fault_of M.stands C.claims size lanes.now machines linked) }
     ensures back { IfErr result (λ back. back ≡ machines) }
 {
     match all_ports::<C>(alloc, lanes, size) {

@@ -1,4 +1,4 @@
-use Rattle.std.proofs.Common.{ap, ◌∙◌}
+use Rattle.std.proofs.Common.{◌≡◌, ℕ, List, All, ap, sym, ◌∙◌, subst}
 use Rattle.ff_net.specs.declared.node.Node.{Node}
 use Rattle.ff_net.specs.Nodes.{machine_of, in_wires_of, out_wires_of}
 use Rattle.ff_path.proofs.NewLinks.{ports_wired, ports_begin}
@@ -12,6 +12,7 @@ returns-in-Ok-clause-linked g c claims lanes taking sending h apart hin hout =
     let node = c.in-Ok.node in
     record {
       lanes_are = made.lanes ∙ h.lanes_are;
+      of_one = subst (λ (ns : List ℕ). All (λ n. n ≡ 1) ns) (sym made.sizes) h.of_one;
       in_wires_are = ap (λ (x : Node g.row.M.Denot). in_wires_of x) made.node ∙ (n.ins ∙ h.in_wires_are);
       out_wires_are = ap (λ (x : Node g.row.M.Denot). out_wires_of x) made.node ∙ (n.outs ∙ h.out_wires_are);
       ins_are = made.ins ∙ h.ins_are;

@@ -23,7 +23,7 @@ apart v w x (inl e) (inr i) n = i
 apart v w x (inr i) o n = i
 
 pub returns-in-Ok-linked-3-clause-linked : goal.returns-in-Ok-linked-3-clause-linked
-returns-in-Ok-linked-3-clause-linked g c claims lanes h has =
+returns-in-Ok-linked-3-clause-linked g c claims size lanes h has =
     let ls : List Lane = link_lanes lanes in
     let none : (ports : List Lane) → ports ≡ [] → HaveLanes [] ports ls = λ ports e. subst (λ (xs : List Lane). HaveLanes [] xs ls) (sym e) (has_none ls) in
     let at0 : (ports : List Lane) → ports ≡ lanes.first ∷ [] → HaveLanes (0 ∷ []) ports ls = λ ports e. subst (λ (xs : List Lane). HaveLanes (0 ∷ []) xs ls) (sym e) (has_one 0 lanes.first ls refl) in

@@ -18,7 +18,7 @@ pub run_threads-requires-clause-lawful : goal.run_threads-requires-clause-lawful
 run_threads-requires-clause-lawful g c κs within =
     let m = g.M.Machine in
     let up = c.in-Ok-link_chain.ensures.linked in
-    subst (λ (xs : List (Linked g.row.M.Denot)). AllLawful m.in_lanes m.out_lanes m.source_of m.device_of m.failures m.fault_of m.stands xs) (sym c.gathered-nodes.ensures) (chain_lawful m.in_lanes m.out_lanes m.source_of m.device_of m.failures m.fault_of m.stands g.C.Claims.claims c.args.lanes.now c.args.machines c.in-Ok-link_chain.linked up c.requires.start)
+    subst (λ (xs : List (Linked g.row.M.Denot)). AllLawful m.in_lanes m.out_lanes m.source_of m.device_of m.failures m.fault_of m.stands xs) (sym c.gathered-nodes.ensures) (chain_lawful m.in_lanes m.out_lanes m.source_of m.device_of m.failures m.fault_of m.stands g.C.Claims.claims c.args.size c.args.lanes.now c.args.machines c.in-Ok-link_chain.linked up c.requires.start)
 
 pub settle_all-requires-clause-ended : goal.settle_all-requires-clause-ended
 settle_all-requires-clause-ended g c = let m = g.M.Machine in ended_after m.in_lanes m.out_lanes m.source_of m.device_of m.failures m.fault_of m.stands c.gathered-nodes.result.items c.in-Ok-run_threads.done.items c.in-Ok-run_threads.ensures.ok
@@ -31,7 +31,7 @@ settle_all-requires-clause-linked g c =
     let done = c.in-Ok-run_threads.done.items in
     let ran1 : AllRan m.in_lanes m.out_lanes m.source_of m.device_of m.failures m.fault_of m.stands (listed olds) done =
     subst (λ (xs : List (Linked g.row.M.Denot)). AllRan m.in_lanes m.out_lanes m.source_of m.device_of m.failures m.fault_of m.stands xs done) c.gathered-nodes.ensures c.in-Ok-run_threads.ensures.ok in
-    let linked = chain_linked m.in_lanes m.out_lanes m.source_of m.device_of m.failures m.fault_of m.stands g.C.Claims.claims c.args.lanes.now c.args.machines olds up in
+    let linked = chain_linked m.in_lanes m.out_lanes m.source_of m.device_of m.failures m.fault_of m.stands g.C.Claims.claims c.args.size c.args.lanes.now c.args.machines olds up in
     (linked.0, linked_after m.in_lanes m.out_lanes m.source_of m.device_of m.failures m.fault_of m.stands linked.0 (listed olds) done linked.1 ran1)
 
 pub returns-in-Ok-run_threads-clause-fares : goal.returns-in-Ok-run_threads-clause-fares
@@ -46,7 +46,7 @@ returns-in-Ok-run_threads-clause-fares g c =
     let ran : AllRan m.in_lanes m.out_lanes m.source_of m.device_of m.failures m.fault_of m.stands (listed olds) (listed now.0) = subst (λ (xs : List (Linked g.row.M.Denot)). AllRan m.in_lanes m.out_lanes m.source_of m.device_of m.failures m.fault_of m.stands (listed olds) xs) now.1 ran1 in
     let same : c.apart-machines.result ≡ machines_of (nodes_in now.0) = same_machines c.settle_all.result.items c.apart-machines.result now.0 c.apart-machines.ensures
     (λ k d e lt. c.settle_all.ensures.machines k d e (subst (λ (n : ℕ). k < n) (sym ran1.0) lt) ∙ ap (λ (xs : List (Linked g.row.M.Denot)). machine_of (node_of (slice_index_or xs k d))) now.1) in
-    subst (λ (x : Chain g.row.M.Denot). Fares m.device_of m.failures m.fault_of c.args.machines x) (sym same) (threads_fares m.in_lanes m.out_lanes m.source_of m.device_of m.failures m.fault_of m.stands g.C.Claims.claims c.args.lanes.now c.args.machines olds up now.0 ran c.requires.lanes)
+    subst (λ (x : Chain g.row.M.Denot). Fares m.device_of m.failures m.fault_of c.args.machines x) (sym same) (threads_fares m.in_lanes m.out_lanes m.source_of m.device_of m.failures m.fault_of m.stands g.C.Claims.claims c.args.size c.args.lanes.now c.args.machines olds up now.0 ran c.requires.lanes)
 
 pub returns-in-Ok-run_threads-clause-lanes : goal.returns-in-Ok-run_threads-clause-lanes
 returns-in-Ok-run_threads-clause-lanes g c =
@@ -60,7 +60,7 @@ returns-in-Ok-run_threads-clause-lanes g c =
     let ran : AllRan m.in_lanes m.out_lanes m.source_of m.device_of m.failures m.fault_of m.stands (listed olds) (listed now.0) = subst (λ (xs : List (Linked g.row.M.Denot)). AllRan m.in_lanes m.out_lanes m.source_of m.device_of m.failures m.fault_of m.stands (listed olds) xs) now.1 ran1 in
     let same : c.apart-machines.result ≡ machines_of (nodes_in now.0) = same_machines c.settle_all.result.items c.apart-machines.result now.0 c.apart-machines.ensures
     (λ k d e lt. c.settle_all.ensures.machines k d e (subst (λ (n : ℕ). k < n) (sym ran1.0) lt) ∙ ap (λ (xs : List (Linked g.row.M.Denot)). machine_of (node_of (slice_index_or xs k d))) now.1) in
-    subst (λ (x : Chain g.row.M.Denot). HasLanes m.in_lanes m.out_lanes c.args.lanes.now x) (sym same) (threads_lanes m.in_lanes m.out_lanes m.source_of m.device_of m.failures m.fault_of m.stands g.C.Claims.claims c.args.lanes.now c.args.machines olds up now.0 ran c.requires.lanes)
+    subst (λ (x : Chain g.row.M.Denot). HasLanes m.in_lanes m.out_lanes c.args.lanes.now x) (sym same) (threads_lanes m.in_lanes m.out_lanes m.source_of m.device_of m.failures m.fault_of m.stands g.C.Claims.claims c.args.size c.args.lanes.now c.args.machines olds up now.0 ran c.requires.lanes)
 
 pub returns-in-Ok-run_threads-clause-part : goal.returns-in-Ok-run_threads-clause-part
 returns-in-Ok-run_threads-clause-part g c claims tasks s =
@@ -77,7 +77,7 @@ returns-in-Ok-run_threads-clause-part g c claims tasks s =
     let three : links_of c.in-Ok.room ≡ 3 = c.in-Ok.ensures.links in
     let few : (n : ℕ) → n ≤ 3 → n ≤ links_of c.in-Ok.room = λ n le. subst (λ (k : ℕ). n ≤ k) (sym three) le in
     let below : BelowClause m.in_lanes m.out_lanes m.source_of m.fault_of m.stands (listed now.0) = subst (λ (xs : List (Linked g.row.M.Denot)). BelowClause m.in_lanes m.out_lanes m.source_of m.fault_of m.stands xs) now.1 (λ ts ways behind meeting le. c.settle_all.ensures.below ts ways behind meeting (few (length ways) le)) in
-    subst (λ (x : Chain g.row.M.Denot). FedPart m.stands tasks x) (sym same) (threads_part m.in_lanes m.out_lanes m.source_of m.device_of m.failures m.fault_of m.stands g.C.Claims.claims c.args.lanes.now c.args.machines olds up now.0 ran c.requires.lanes below claims tasks s)
+    subst (λ (x : Chain g.row.M.Denot). FedPart m.stands tasks x) (sym same) (threads_part m.in_lanes m.out_lanes m.source_of m.device_of m.failures m.fault_of m.stands g.C.Claims.claims c.args.size c.args.lanes.now c.args.machines olds up now.0 ran c.requires.lanes below claims tasks s)
 
 pub returns-in-Ok-run_threads-clause-all : goal.returns-in-Ok-run_threads-clause-all
 returns-in-Ok-run_threads-clause-all g c claims none tasks s =
@@ -95,7 +95,7 @@ returns-in-Ok-run_threads-clause-all g c claims none tasks s =
     let few : (n : ℕ) → n ≤ 3 → n ≤ links_of c.in-Ok.room = λ n le. subst (λ (k : ℕ). n ≤ k) (sym three) le in
     let first : FirstFault m.fault_of (listed (nodes_in now.0)) None = subst (λ (xs : List (Linked g.row.M.Denot)). FirstFault m.fault_of (nodes_of xs) None) (c.deref.ensures.value ∙ now.1) (subst (λ (r : Option NodeFault). FirstFault m.fault_of (nodes_of c.deref.result.now) r) none c.first_fault-fault.ensures) in
     let settled : SettledClause m.in_lanes m.out_lanes m.source_of m.fault_of m.stands (listed now.0) = subst (λ (xs : List (Linked g.row.M.Denot)). SettledClause m.in_lanes m.out_lanes m.source_of m.fault_of m.stands xs) now.1 (λ ts ways behind meeting le. c.settle_all.ensures.settled ts ways behind meeting (few (length ways) le)) in
-    subst (λ (x : Chain g.row.M.Denot). FedAll m.stands tasks x) (sym same) (threads_all m.in_lanes m.out_lanes m.source_of m.device_of m.failures m.fault_of m.stands g.C.Claims.claims c.args.lanes.now c.args.machines olds up now.0 ran c.requires.lanes settled first claims tasks s)
+    subst (λ (x : Chain g.row.M.Denot). FedAll m.stands tasks x) (sym same) (threads_all m.in_lanes m.out_lanes m.source_of m.device_of m.failures m.fault_of m.stands g.C.Claims.claims c.args.size c.args.lanes.now c.args.machines olds up now.0 ran c.requires.lanes settled first claims tasks s)
 
 pub returns-in-Ok-run_threads-clause-sound : goal.returns-in-Ok-run_threads-clause-sound
 returns-in-Ok-run_threads-clause-sound g c none =
@@ -159,7 +159,7 @@ returns-in-Ok-run_threads-clause-cause g c claims f some of tasks s =
     let few : (n : ℕ) → n ≤ 3 → n ≤ links_of c.in-Ok.room = λ n le. subst (λ (k : ℕ). n ≤ k) (sym three) le in
     let first : FirstFault m.fault_of (listed (nodes_in now.0)) (Some f) = subst (λ (xs : List (Linked g.row.M.Denot)). FirstFault m.fault_of (nodes_of xs) (Some f)) (c.deref.ensures.value ∙ now.1) (subst (λ (r : Option NodeFault). FirstFault m.fault_of (nodes_of c.deref.result.now) r) some c.first_fault-fault.ensures) in
     let cause : CauseClause m.in_lanes m.out_lanes m.source_of m.fault_of m.stands (listed now.0) = subst (λ (xs : List (Linked g.row.M.Denot)). CauseClause m.in_lanes m.out_lanes m.source_of m.fault_of m.stands xs) now.1 (λ ts ways behind meeting le. c.settle_all.ensures.cause ts ways behind meeting (few (length ways) le)) in
-    threads_cause m.in_lanes m.out_lanes m.source_of m.device_of m.failures m.fault_of m.stands g.C.Claims.claims c.args.lanes.now c.args.machines olds up now.0 ran c.requires.lanes cause claims f first of tasks s
+    threads_cause m.in_lanes m.out_lanes m.source_of m.device_of m.failures m.fault_of m.stands g.C.Claims.claims c.args.size c.args.lanes.now c.args.machines olds up now.0 ran c.requires.lanes cause claims f first of tasks s
 
 pub returns-in-Err-run_threads-clause-back : goal.returns-in-Err-run_threads-clause-back
 returns-in-Err-run_threads-clause-back g c =
