@@ -1,8 +1,8 @@
 -- What the steps of a turn come to.
-use Rattle.std.proofs.Common.{◌≡◌, ◌≢◌, ℕ, zero, suc, ◌<◌, ◌≤◌, ◌⊎◌, inl, inr, Bool, true, false, ◌||◌, List, [], ◌∷◌, ◌++◌, length, slice_index_or, slice_set, refl, ap, sym, ◌∙◌, subst, Option, None, Some, is_some, get_or-set_other}
+use Rattle.std.proofs.Common.{◌≡◌, ◌≢◌, ℕ, zero, suc, ◌<◌, ◌⊎◌, inl, inr, Bool, true, false, ◌||◌, List, [], ◌∷◌, ◌++◌, length, slice_index_or, slice_set, refl, ap, sym, ◌∙◌, subst, Option, None, Some, is_some, get_or-set_other}
 use Rattle.ff_frame.specs.declared.item.Item.{Item}
 use Rattle.ff_frame.specs.Items.{Closes}
-use Rattle.ff_link.specs.Views.{Sending, Receiving, Ended}
+use Rattle.ff_link.specs.Views.{Sending, Receiving}
 use Rattle.ff_frame.specs.declared.item.Lane.{Lane}
 use Rattle.ff_net.specs.declared.fault.Fault.{Fault}
 use Rattle.ff_net.specs.declared.node.Node.{Node}
@@ -21,9 +21,9 @@ use Rattle.ff_net_links.specs.declared.ends.InEnd.{InEnd}
 use Rattle.ff_net_links.specs.declared.ends.OutEnd.{OutEnd}
 use Rattle.ff_net_links.specs.declared.linked.Linked.{Linked}
 use Rattle.ff_net_links.specs.Ends.{taken_in, taken_of, in_end_at}
-use Rattle.ff_net_links.specs.Nodes.{Behind, in_ends_wires}
+use Rattle.ff_net_links.specs.Nodes.{Behind}
 use Rattle.ff_net_links.proofs.Linking.{in_nth, count_map}
-use Rattle.ff_net_links.specs.Turns.{TakesOneAtMost, InMoves, took, ended as in_ended, laid, InRests, Shuts, SendsOneAtMost, OutMoves, sent as was_sent, ended as out_ended, lifted, OutRests, HasMoved, at_input, at_output, at_node, at_end, HasRested}
+use Rattle.ff_net_links.specs.Turns.{TakesOneAtMost, InMoves, took, ended as in_ended, laid, InRests, Shuts, SendsOneAtMost, OutMoves, sent as was_sent, ended as out_ended, lifted, OutRests, HasMoved, at_input, at_output, at_node, at_end}
 
 some_none : {A : Type 0} (o : Option A) (x : A) → o ≡ Some x → o ≡ None → ⊥
 some_none o x e f = cc

@@ -1,11 +1,10 @@
 -- What a turn of a node does at its links.
-use Rattle.std.specs.Prelude.{◌≡◌, ◌≢◌, ℕ, ◌<◌, ◌⊎◌, true, false, List, [], ◌∷◌, ◌++◌, length, slice_index_or, Option, None, Some, is_some}
+use Rattle.std.specs.Prelude.{◌≡◌, ◌≢◌, ℕ, ◌⊎◌, true, false, List, [], ◌∷◌, ◌++◌, slice_index_or, Option, None, is_some}
 use Rattle.ff_frame.specs.declared.item.Item.{Item}
 use Rattle.ff_frame.specs.declared.item.Lane.{Lane}
 use Rattle.ff_frame.specs.Items.{Closes}
 use Rattle.ff_net.specs.declared.fault.Fault.{Fault}
 use Rattle.ff_net.specs.Pasts.{Past}
-use Rattle.ff_net.specs.Worlds.{Wire, lanes_of}
 use Rattle.ff_net.specs.Nodes.{IsDone}
 use Rattle.ff_net.specs.Steps.{Moves, Stepped}
 use Rattle.ff_net.specs.Turns.{IsIdle}

@@ -122,7 +122,8 @@ impl<M: Machine> Node<M> {
         ensures same { result ≡ false → IsSame self.old self.new × (wires.new ≡ wires.old) }
         ensures empty { result ≡ false → (in_at self.old.ins.items p).done ≡ false → self.old.refused ≡ false → IsEmpty wires.old (in_at self.old.ins.items p).wire }
     {
-        if in_done(&self.ins, p) {
+        let finished = in_done(&self.ins, p);
+        if finished {
             return false;
         }
         if self.refused {

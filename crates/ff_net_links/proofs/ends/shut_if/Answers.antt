@@ -1,4 +1,4 @@
-use Rattle.std.proofs.Common.{ℕ, [], ◌∷◌, sym, subst}
+use Rattle.std.proofs.Common.{[], ◌∷◌, sym, subst}
 use Rattle.ff_net.proofs.Queues.{finished_of, in_queues}
 use Rattle.ff_net_links.specs.declared.ends.InEnd.{InEnd}
 use Rattle.ff_net_links.specs.Turns.{InRests}

@@ -1,4 +1,4 @@
-use Rattle.std.proofs.Common.{◌≡◌, ◌<◌, ℕ, true, false, sym, ◌∙◌}
+use Rattle.std.proofs.Common.{true, false, sym, ◌∙◌}
 use Rattle.ff_net.specs.Steps.{Fills}
 use Rattle.ff_net.proofs.Acting.{none_if_not_some}
 use Rattle.ff_net.proofs.Moments.{stepped_as}

@@ -28,7 +28,7 @@ returns-in-Ok-clause-stepped g c =
     let x = c.in-Item.item in
     let there = c.requires.there in
     let old = in_at ins p in
-    let busy : old.done ≡ false = sym c.in_done.ensures ∙ c.if-in_done.false in
+    let busy : old.done ≡ false = sym c.in_done-finished.ensures ∙ c.if-finished.false in
     let fresh : node.refused ≡ false = c.if-self.false in
     let wire : c.in_wire.result ≡ old.wire = c.in_wire.ensures in
     let after : Node _ = record { machine = c.feed.new.self; ins = node.ins; outs = node.outs; refused = node.refused; place = node.place } in
@@ -74,7 +74,7 @@ returns-in-Err-clause-stepped g c =
     let x = c.in-Item.item in
     let there = c.requires.there in
     let old = in_at ins p in
-    let busy : old.done ≡ false = sym c.in_done.ensures ∙ c.if-in_done.false in
+    let busy : old.done ≡ false = sym c.in_done-finished.ensures ∙ c.if-finished.false in
     let fresh : node.refused ≡ false = c.if-self.false in
     let wire : c.in_wire.result ≡ old.wire = c.in_wire.ensures in
     let after : Node _ = record { machine = c.feed.new.self; ins = node.ins; outs = node.outs; refused = true; place = node.place } in

@@ -1,16 +1,13 @@
-use Rattle.std.proofs.Common.{◌≡◌, ℕ, ◌<◌, ◌||◌, Bool, true, false, inl, inr, length, slice_index_or, refl, sym, ◌∙◌, ap, subst, None}
+use Rattle.std.proofs.Common.{◌≡◌, ℕ, ◌<◌, ◌||◌, inl, inr, slice_index_or, sym, ◌∙◌, ap, subst}
 use Rattle.ff_frame.specs.Ports.{IsClosed}
 use Rattle.ff_net.specs.declared.node.Node.{Node}
-use Rattle.ff_net.specs.declared.wires.Wires.{Wires}
 use Rattle.ff_net.specs.Pasts.{Past}
 use Rattle.ff_net.specs.Worlds.{Wire}
-use Rattle.ff_net.specs.Nodes.{IsDone, IsSound, NodeStands, HasFinished, machine_of, inputs_of, in_wire_of}
+use Rattle.ff_net.specs.Nodes.{IsSound, NodeStands, HasFinished, machine_of, inputs_of, in_wire_of}
 use Rattle.ff_net.proofs.Changes.{true_not_false}
-use Rattle.ff_net.proofs.Rounds.{or_true, or_false}
-use Rattle.ff_net_links.specs.declared.ends.InEnd.{InEnd}
-use Rattle.ff_net_links.specs.declared.ends.OutEnd.{OutEnd}
+use Rattle.ff_net.proofs.Rounds.{or_false}
 use Rattle.ff_net_links.specs.Ends.{in_end_at, taken_of}
-use Rattle.ff_net_links.specs.Turns.{TakesOneAtMost, InMoves, InRests, Shuts, SendsOneAtMost, OutMoves, OutRests, HasMoved}
+use Rattle.ff_net_links.specs.Turns.{InMoves, InRests, Shuts, SendsOneAtMost, OutMoves, OutRests}
 use Rattle.ff_net_links.proofs.Linking.{follows_then, lawful_after}
 use Rattle.ff_net_links.proofs.Turns.{takes_then, rests_then, shut_port, node_idle, moved_of}
 use Rattle.ff_net_links.proofs.linked.Linked.turn.Goals as goal

@@ -1,4 +1,4 @@
-use Rattle.std.proofs.Common.{◌≡◌, true, false, refl, sym, ◌∙◌, inl, inr}
+use Rattle.std.proofs.Common.{refl, inl}
 use Rattle.ff_net.proofs.Moments.{stepped_as}
 use Rattle.ff_net_links.proofs.Linking.{turned}
 use Rattle.ff_net_links.proofs.linked.Linked.turn_node.Goals as goal
