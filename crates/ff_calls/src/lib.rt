@@ -18,6 +18,7 @@ mod pcm;
 mod pictures;
 mod residuals;
 mod runs;
+mod sched;
 mod table;
 mod time;
 mod wav;
@@ -73,6 +74,9 @@ pub fn answer(alloc: Global, name: &str, arguments: &[String]) -> Result<String,
         "flac_block" => blocks::encoded(words),
         "flac_block_made" => blocks::encoded_made(words),
         "flac_totals" => blocks::totals(words),
+        "sched_state" => sched::state(words),
+        "unchoked" => sched::sources(words),
+        "scheduled" => sched::scheduled(words),
         "framehash_sound" => framehash::sound(alloc, arguments),
         "framehash_pictures" => framehash::pictures(alloc, arguments),
         "framehash_line" => framehash::line(alloc, arguments),
