@@ -43,7 +43,7 @@ const MOST_ITEMS: u64 = 1 << 40;
 /// The seconds after which no item may end.
 const LAST_SECOND: u128 = 1_000_000_000;
 
-/// The input is read in pieces of at most so many bytes.
+/// The input is read in pieces of at most so many bytes, or as many as wait for the rest of their packet where these are more.
 const PIECE: usize = 65536;
 
 /// Gives the packets of an input of any format, one for each ticket, and reads no further than the next packet wants.
@@ -226,6 +226,17 @@ fn piece_of(alloc: Global, size: usize) -> Result<Vec<u8>, AllocError>
     vec![in alloc; 0u8; size]
 }
 
+// A piece as long as what waits, where there is memory for it: so what is no whole packet yet is looked at anew only once it has
+// doubled, and not once for each piece.
+fn lengthen(piece: &mut Vec<u8>, waiting: u64)
+    requires { 0 < length piece.old.items }
+    ensures { 0 < length piece.new.items }
+{
+    if (piece.len() as u64) < waiting {
+        let _ = piece.resize(waiting as usize, 0);
+    }
+}
+
 impl<S: Source + Drop, C: PacketCut + Drop> Demux<S, C> {
     ghost use Rattle.std.specs.Prelude.{[], ◌∷◌};
     ghost use Rattle.ff_net.specs.Pasts.{start};
@@ -361,19 +372,22 @@ impl<S: Source + Drop, C: Demuxable + Drop> Machine for Demux<S, C> {
                     self.fault = Some(Fault::Damaged { offset });
                     return Ok(Some(Item::Broken));
                 }
-                Unit::Wait => match read_more(
-                    &mut self.src,
-                    &mut self.cut,
-                    &mut self.skip,
-                    self.piece.as_mut_slice(),
-                ) {
-                    Ok(()) => {}
-                    Err(ReadEnd::Failed) => {
-                        self.fault = Some(Fault::Device);
-                        return Ok(None);
+                Unit::Wait => {
+                    lengthen(&mut self.piece, self.cut.held());
+                    match read_more(
+                        &mut self.src,
+                        &mut self.cut,
+                        &mut self.skip,
+                        self.piece.as_mut_slice(),
+                    ) {
+                        Ok(()) => {}
+                        Err(ReadEnd::Failed) => {
+                            self.fault = Some(Fault::Device);
+                            return Ok(None);
+                        }
+                        Err(ReadEnd::NoMemory) => return Err(AllocError),
                     }
-                    Err(ReadEnd::NoMemory) => return Err(AllocError),
-                },
+                }
             }
         }
     }
