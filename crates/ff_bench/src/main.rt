@@ -9,6 +9,7 @@ mod heads;
 mod held;
 mod links;
 mod pcm;
+mod sched;
 mod words;
 
 use std::{env, io};
@@ -24,7 +25,8 @@ fn main(rt: HostRuntime) -> io::Result<()> {
         Some(word) if word.as_str() == "held" => held::measure(&rt),
         Some(word) if word.as_str() == "links" => links::measure(&rt, rt.alloc()),
         Some(word) if word.as_str() == "pcm" => pcm::measure(&rt),
+        Some(word) if word.as_str() == "sched" => sched::measure(&rt, rt.alloc()),
         Some(word) if word.as_str() == "words" => words::measure(&rt),
-        _ => println!(rt; "usage: ff_bench bits|flac|frames|heads|held|links|pcm|words"),
+        _ => println!(rt; "usage: ff_bench bits|flac|frames|heads|held|links|pcm|sched|words"),
     }
 }
