@@ -332,6 +332,9 @@ later_adds e v w u n l k =
       legal = subst (λ (y : View). IsLegal y.routes y.opening u.seen) l.same k.legal;
     }
 
+pub later_stays : (v u w : View) → Later v u → w ≡ u → Later v w
+later_stays v u w l e = subst (Later v) (sym e) l
+
 pub later_known : (v w : View) → Later v w → v.opened ≡ true → w.opened ≡ true
 later_known v w l o = ap (λ (y : View). y.opened) l.same ∙ o
 

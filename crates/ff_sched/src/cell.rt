@@ -1,11 +1,12 @@
-ghost use Rattle.std.specs.Prelude.{◌≡◌, ◌+◌, ◌-◌, ◌<◌, ◌≤◌, ◌^◌, true, List, length, IfOk, OnErr, MatchResult};
+ghost use Rattle.std.specs.Prelude.{◌≡◌, ◌+◌, ◌-◌, ◌<◌, ◌≤◌, ◌^◌, true, false, List, length, slice_index, IfOk, OnErr, MatchResult};
 ghost use Rattle.crossbeam_utils.specs.Seq.{cell_view};
 ghost use Rattle.ff_values.specs.declared.event.Event.{Event};
 ghost use Rattle.ff_sched.specs.State.{State};
 ghost use Rattle.ff_sched.specs.Routes.{AreRoutes};
 ghost use Rattle.ff_sched.specs.Events.{IsSmall, IsInRange, IsTold};
 ghost use Rattle.ff_sched.specs.Histories.{MayCome};
-ghost use Rattle.ff_sched.specs.Rule.{Adds, Refuses, HasAll, joined, less, fresh};
+ghost use Rattle.ff_sched.specs.Rule.{Adds, Refuses, HasAll, joined, less, fresh, Looks as LooksAt};
+ghost use Rattle.ff_sched.specs.Words.{state_of};
 ghost use Rattle.ff_sched.specs.Passing.{Told, IsFirst, IsSplit, IsOpened};
 ghost use Rattle.ff_sched.specs.Answers.{Granted};
 
@@ -54,6 +55,43 @@ impl Model for SchedCell {
     ghost invariant = { λ c. AreRoutes c.routes };
 }
 
+// Looks at the words.
+fn look<R: Wait>(rt: &R, cell: &Cell, seat: &mut Seat) -> [u64; 20]
+    requires cell { seat.old.table_id ≡ cell.now.table.shared.table_id }
+    requires opened { (cell_view seat.old).opened ≡ true }
+    requires share { length (cell_view seat.old).mine < (cell_view seat.old).share }
+    ensures cell { seat.new.table_id ≡ seat.old.table_id }
+    ensures seen { LooksAt (cell_view seat.old) result (cell_view seat.new) }
+{
+    cell.load_as::<Looks, R>(rt, seat)
+}
+
+// Adds the event where the words are still these. Whether it was added.
+fn add<E: Named, R: Wait>(
+    rt: &R,
+    cell: &Cell,
+    seat: &mut Seat,
+    words: [u64; 20],
+    event: Event,
+) -> bool
+    requires cell { seat.old.table_id ≡ cell.now.table.shared.table_id }
+    requires named { event ≡ E.event }
+    requires opened { (cell_view seat.old).opened ≡ true }
+    requires share { length (cell_view seat.old).mine < (cell_view seat.old).share }
+    requires small { IsSmall event }
+    requires few { slice_index words 18 < 2 ^ 62 }
+    requires may { MayCome (cell_view seat.old).routes (state_of words) event }
+    ensures cell { seat.new.table_id ≡ seat.old.table_id }
+    ensures yes { result ≡ true → Adds E.event (cell_view seat.old) (slice_index words 18) (cell_view seat.new) }
+    ensures no { result ≡ false → cell_view seat.new ≡ cell_view seat.old }
+{
+    let next = stepped(words, event);
+    match cell.compare_exchange_as::<Tells<E>, R>(rt, seat, words, next) {
+        Ok(_) => true,
+        Err(_) => false,
+    }
+}
+
 // Adds the event, and gives its place.
 fn tell_as<E: Named, R: Wait>(rt: &R, cell: &Cell, seat: &mut Seat, event: Event) -> u64
     requires cell { seat.old.table_id ≡ cell.now.table.shared.table_id }
@@ -66,11 +104,9 @@ fn tell_as<E: Named, R: Wait>(rt: &R, cell: &Cell, seat: &mut Seat, event: Event
     ensures added { Adds E.event (cell_view seat.old) result (cell_view seat.new) }
 {
     for _ in rt.forever() {
-        let words = cell.load_as::<Looks, R>(rt, seat);
-        let next = stepped(words, event);
-        match cell.compare_exchange_as::<Tells<E>, R>(rt, seat, words, next) {
-            Ok(_) => return words[COUNT],
-            Err(_) => {}
+        let words = look(rt, cell, seat);
+        if add::<E, R>(rt, cell, seat, words, event) {
+            return words[COUNT];
         }
     }
     unreachable!()
@@ -96,15 +132,13 @@ fn grant_as<E: Named, R: Wait>(
         (λ state. Refuses (cell_view seat.old) source state (cell_view seat.new)) }
 {
     for _ in rt.forever() {
-        let words = cell.load_as::<Looks, R>(rt, seat);
+        let words = look(rt, cell, seat);
         let state = SchedState { words };
         if !unchokes(&state, routes, source) {
             return Err(state);
         }
-        let next = stepped(words, Event::Grant(source));
-        match cell.compare_exchange_as::<Tells<E>, R>(rt, seat, words, next) {
-            Ok(_) => return Ok(words[COUNT]),
-            Err(_) => {}
+        if add::<E, R>(rt, cell, seat, words, Event::Grant(source)) {
+            return Ok(words[COUNT]);
         }
     }
     unreachable!()

@@ -1,40 +1,39 @@
-use Rattle.std.proofs.Common.{rules, arith, subst, ◌≡◌, List, ℕ, sym, ap, ◌∙◌}
+use Rattle.std.proofs.Common.{◌≡◌, List, ℕ, subst, sym, ap, true, ◌∙◌}
 use Rattle.crossbeam_utils.specs.Seq.{cell_view}
-use Rattle.ff_sched.specs.Events.{step_of}
 use Rattle.ff_sched.specs.Words.{state_of}
 use Rattle.ff_sched.specs.Histories.{MayCome}
 use Rattle.ff_sched.specs.declared.routes.Routes.{Routes}
-use Rattle.ff_values.specs.declared.event.Event.{Event}
-use Rattle.ff_sched.proofs.Histories.{looks, tells, told, Later, later_looks, later_known, later_spare, later_routes}
-use Rattle.ff_sched.proofs.Steps.{one_more}
+use Rattle.ff_sched.proofs.Histories.{Later, later_looks, later_adds, later_known, later_spare, later_routes, later_stays}
 use Rattle.ff_sched.proofs.cell.tell_as.Goals as goal
 
-pub load_as-words-requires : goal.load_as-words-requires
-load_as-words-requires g c =
-    let v = cell_view c.args.seat.now in let w = cell_view c.loop.seat in let l : Later v w = c.loop.invariant.1 in
-    (search rules, (search rules, (c.loop.invariant.0 ∙ c.requires.cell, looks _ w (later_known v w l c.requires.opened) (let s = later_spare v w l c.requires.share in omega arith))))
+pub look-words-requires-clause-opened : goal.look-words-requires-clause-opened
+look-words-requires-clause-opened g c = later_known _ _ c.loop.invariant.1 c.requires.opened
 
-pub compare_exchange_as-requires : goal.compare_exchange_as-requires
-compare_exchange_as-requires g c =
-    let v = cell_view c.args.seat.now in let w = cell_view c.loop.seat in let u = cell_view c.load_as-words.new.pass in
-    let l : Later v u = later_looks v w u c.load_as-words.result c.loop.invariant.1 c.load_as-words.ensures.rule in
-    let words : List ℕ = c.load_as-words.result in let next : List ℕ = c.stepped-next.result in
-    let s : state_of next ≡ step_of (state_of words) g.E.Named.event = c.stepped-next.ensures ∙ ap (step_of (state_of words)) c.requires.named in (
-      search rules,
-      (
-        search rules,
-        (
-          c.load_as-words.ensures.cell.0 ∙ c.loop.invariant.0 ∙ c.requires.cell,
-          tells _ u g.E.Named.event words next (later_known v u l c.requires.opened) (later_spare v u l c.requires.share) s (one_more words next g.E.Named.event s)
-              (subst (λ (e : Event). MayCome u.routes (state_of words) e) c.requires.named (subst (λ (r : Routes). MayCome r (state_of words) c.args.event) (sym (later_routes v u l)) (c.requires.told (state_of words)))),
-        ),
-      ),
-    )
+pub look-words-requires-clause-share : goal.look-words-requires-clause-share
+look-words-requires-clause-share g c = later_spare _ _ c.loop.invariant.1 c.requires.share
 
-pub returns-in-Ok-clause-added : goal.returns-in-Ok-clause-added
-returns-in-Ok-clause-added g c =
-    let v = cell_view c.args.seat.now in let w = cell_view c.loop.seat in let u = cell_view c.load_as-words.new.pass in
-    let l : Later v u = later_looks v w u c.load_as-words.result c.loop.invariant.1 c.load_as-words.ensures.rule in
-    let words : List ℕ = c.load_as-words.result in let next : List ℕ = c.stepped-next.result in
-    let s : state_of next ≡ step_of (state_of words) g.E.Named.event = c.stepped-next.ensures ∙ ap (step_of (state_of words)) c.requires.named in
-    told g.E.Named.event v u (cell_view c.compare_exchange_as.new.pass) c.in-Ok.field-0 words next l c.in-Ok.ensures.rule.0 c.in-Ok.ensures.rule.1 (one_more words next g.E.Named.event s)
+pub add-requires-clause-opened : goal.add-requires-clause-opened
+add-requires-clause-opened g c = later_known _ _ (later_looks _ _ _ _ c.loop.invariant.1 c.look-words.ensures.seen) c.requires.opened
+
+pub add-requires-clause-share : goal.add-requires-clause-share
+add-requires-clause-share g c = later_spare _ _ (later_looks _ _ _ _ c.loop.invariant.1 c.look-words.ensures.seen) c.requires.share
+
+pub add-requires-clause-few : goal.add-requires-clause-few
+add-requires-clause-few g c = c.look-words.ensures.seen.few (later_spare _ _ c.loop.invariant.1 c.requires.share)
+
+pub add-requires-clause-may : goal.add-requires-clause-may
+add-requires-clause-may g c =
+    let v = cell_view c.args.seat.now in let u = cell_view c.look-words.new.seat in let words : List ℕ = c.look-words.result in
+    let l : Later v u = later_looks v (cell_view c.loop.seat) u words c.loop.invariant.1 c.look-words.ensures.seen in
+    subst (λ (r : Routes). MayCome r (state_of words) c.args.event) (sym (later_routes v u l)) (c.requires.told (state_of words))
+
+pub returns-then-add-clause-added : goal.returns-then-add-clause-added
+returns-then-add-clause-added g c =
+    let v = cell_view c.args.seat.now in let u = cell_view c.look-words.new.seat in let words : List ℕ = c.look-words.result in
+    later_adds g.E.Named.event v u (cell_view c.add.new.seat) _ (later_looks v (cell_view c.loop.seat) u words c.loop.invariant.1 c.look-words.ensures.seen) (c.add.ensures.yes c.if-add.true)
+
+pub loop-preserved : goal.loop-preserved
+loop-preserved g c =
+    let v = cell_view c.args.seat.now in let u = cell_view c.look-words.new.seat in let words : List ℕ = c.look-words.result in
+    let l : Later v u = later_looks v (cell_view c.loop.seat) u words c.loop.invariant.1 c.look-words.ensures.seen in
+    (c.add.ensures.cell ∙ c.look-words.ensures.cell ∙ c.loop.invariant.0, later_stays v u (cell_view c.add.new.seat) l (c.add.ensures.no c.if-add.false))
