@@ -1,10 +1,9 @@
 ghost use Rattle.std.specs.Prelude.{◌≡◌};
 
 use ff_host::{Failed, Host, Source};
-use ff_memory_host::MeetHost;
+use ff_memory_host::{MeetHost, MeetSource};
 use std::alloc::{AllocError, Global};
-use std::test::Fail;
-use std::thread::join;
+use std::thread::{Threads, join};
 
 type Files = Vec<(String, Vec<u8>)>;
 
@@ -19,55 +18,50 @@ fn twice(alloc: Global, bytes: &[u8]) -> Result<Files, AllocError> {
 }
 
 // A read of three bytes: how many came, or a letter where it failed.
-fn read_three<S: Source>(src: &mut S, letters: &mut String) -> Result<(), AllocError>
+fn read_three<S: Source>(src: &mut S) -> u8
     ensures { S.name src.new ≡ S.name src.old }
 {
     let mut buf = [0; 3];
-    letters.push(match src.read(&mut buf) {
-        Ok(0) => '0',
-        Ok(1) => '1',
-        Ok(2) => '2',
-        Ok(_) => '3',
-        Err(Failed) => 'r',
-    })
+    match src.read(&mut buf) {
+        Ok(0) => b'0',
+        Ok(1) => b'1',
+        Ok(2) => b'2',
+        Ok(_) => b'3',
+        Err(Failed) => b'r',
+    }
 }
 
-fn read_four_times<S: Source>(src: &mut S, letters: &mut String) -> Result<(), AllocError>
+fn read_four_times<S: Source>(src: &mut S) -> [u8; 4]
     ensures { S.name src.new ≡ S.name src.old }
 {
-    read_three(src, letters)?;
-    read_three(src, letters)?;
-    read_three(src, letters)?;
-    read_three(src, letters)
+    let a = read_three(src);
+    let b = read_three(src);
+    let c = read_three(src);
+    let d = read_three(src);
+    [a, b, c, d]
 }
 
 // Reads the first source and then, in the same thread, the second, and closes both.
-fn one_by_one<H: Host>(host: &mut H, letters: &mut String) -> Result<(), AllocError> {
-    let Ok(mut a) = host.open_source("a") else {
-        return Ok(());
-    };
-    let Ok(mut b) = host.open_source("b") else {
-        return Ok(());
-    };
-    read_four_times(&mut a, letters)?;
-    read_four_times(&mut b, letters)?;
+fn one_by_one<H: Host>(host: &mut H) -> Option<[[u8; 4]; 2]> {
+    let mut a = host.open_source("a").ok()?;
+    let mut b = host.open_source("b").ok()?;
+    let first = read_four_times(&mut a);
+    let second = read_four_times(&mut b);
     host.close_source("a", a);
     host.close_source("b", b);
-    Ok(())
+    Some([first, second])
 }
 
 // The first one's second read begins before the offset and ends past it. Its third waits in vain, and it fails from then
 // on. As it had begun, the other needs no wait.
 #[test]
-fn one_thread_alone(rt: HostRuntime) -> Result<(), Fail> {
+fn one_thread_alone(rt: HostRuntime) -> Result<(), AllocError> {
     let alloc = rt.alloc();
     let mut host = MeetHost::new(alloc, twice(alloc, b"12345678")?, 4)?;
-    let mut letters = String::new(alloc);
-    one_by_one(&mut host, &mut letters)?;
-    assert_eq!(rt; letters.as_str(), "33rr3320");
+    assert_eq!(rt; one_by_one(&mut host), Some([*b"33rr", *b"3320"]));
     assert_eq!(rt; (host.in_faults("a"), host.in_faults("b")), (2, 0));
-    assert_eq!(rt; host.file("a"), Some(b"12345678".as_slice()));
-    assert_eq!(rt; host.file("c"), None);
+    let files = (host.file("a"), host.file("c"));
+    assert_eq!(rt; files, (Some(b"12345678".as_slice()), None));
     Ok(())
 }
 
@@ -82,19 +76,35 @@ fn gives<S: Source>(src: &mut S, bytes: &[u8]) -> bool {
     src.read(&mut buf) == Ok(0)
 }
 
+fn both_give<R: Threads>(rt: &R, mut a: MeetSource, mut b: MeetSource, bytes: &[u8]) -> bool {
+    join(rt, || gives(&mut a, bytes), || gives(&mut b, bytes)) == (true, true)
+}
+
+// Whether two sources of the host meet, and then the next two.
+fn meet_twice<R: Threads>(
+    rt: &R,
+    alloc: Global,
+    bytes: &[u8],
+    offset: u64,
+) -> Result<bool, AllocError> {
+    let mut host = MeetHost::new(alloc, twice(alloc, bytes)?, offset)?;
+    for _ in 0..2 {
+        let (Ok(a), Ok(b)) = (host.open_source("a"), host.open_source("b")) else {
+            return Ok(false);
+        };
+        if !both_give(rt, a, b, bytes) {
+            return Ok(false);
+        }
+    }
+    Ok(true)
+}
+
 // Each offset twice: the second time with the next two sources of the host.
 #[test]
-fn two_threads_meet(rt: HostRuntime) -> Result<(), Fail> {
-    let alloc = rt.alloc();
-    let bytes = b"12345678";
+fn two_threads_meet(rt: HostRuntime) -> Result<(), AllocError> {
     for offset in [0, 4, 6, 8, 9] {
-        let mut host = MeetHost::new(alloc, twice(alloc, bytes)?, offset)?;
-        for _ in 0..2 {
-            let mut a = host.open_source("a").map_err(|_| "a isn't opened")?;
-            let mut b = host.open_source("b").map_err(|_| "b isn't opened")?;
-            let both = join(&rt, || gives(&mut a, bytes), || gives(&mut b, bytes));
-            assert_eq!(rt; both, (true, true), "offset {offset}");
-        }
+        let met = meet_twice(&rt, rt.alloc(), b"12345678", offset)?;
+        assert!(rt; met, "offset {offset}");
     }
     Ok(())
 }
