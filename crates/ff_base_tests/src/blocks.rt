@@ -7,7 +7,6 @@ ghost use Rattle.ff_flac_enc.specs.Cuts.{IsLike, has_ended, format_in};
 use ff_flac_enc::Blocks;
 use ff_values::{AFrame, Samples};
 use std::alloc::{AllocError, Global};
-use std::test::Fail;
 
 // When the first frame starts.
 const START: i64 = 100;
@@ -72,7 +71,7 @@ fn said(block: &AFrame, channels: u8) -> Said
 }
 
 // The blocks there are.
-fn drain(blocks: &mut Blocks, channels: u8, out: &mut Vec<Said>) -> Result<(), Fail>
+fn drain(blocks: &mut Blocks, channels: u8, out: &mut Vec<Said>) -> Result<(), AllocError>
     requires { channels ≤ 2 }
     ensures ended { has_ended blocks.new ≡ has_ended blocks.old }
     ensures format { format_in blocks.new ≡ format_in blocks.old }
@@ -83,10 +82,10 @@ fn drain(blocks: &mut Blocks, channels: u8, out: &mut Vec<Said>) -> Result<(), F
             None => return Ok(()),
         }
     }
-    Err("too many".into())
+    Err(AllocError)
 }
 
-fn feed(blocks: &mut Blocks, frame: AFrame) -> Result<(), Fail>
+fn feed(blocks: &mut Blocks, frame: AFrame) -> Result<(), AllocError>
     requires going { has_ended blocks.old ≡ false }
     requires sound { IsAudio frame.bits frame.channels frame.samples }
     requires like { IsLike (format_in blocks.old) frame }
@@ -94,7 +93,7 @@ fn feed(blocks: &mut Blocks, frame: AFrame) -> Result<(), Fail>
     ensures format { OnOk result (format_in blocks.new ≡ Some (format_of frame)) }
 {
     if blocks.feed(frame).is_err() {
-        return Err("no memory".into());
+        return Err(AllocError);
     }
     Ok(())
 }
@@ -107,7 +106,7 @@ fn blocks_of(
     sizes: &[u32],
     gap: u32,
     at_once: bool,
-) -> Result<Vec<Said>, Fail>
+) -> Result<Vec<Said>, AllocError>
     requires some { 1 ≤ channels }
     requires few { channels ≤ 2 }
     requires gap { gap ≤ 1000 }
@@ -118,7 +117,7 @@ fn blocks_of(
     'frames: for i in 0..sizes.len().min(100) {
         let size = sizes[i];
         if size == 0 || size > 65535 || from > 1000000 {
-            return Err("a size".into());
+            return Err(AllocError);
         }
         let pts = START + (from + i as u32 * gap) as i64;
         let frame = frame(alloc, pts, channels, from, size)?;
@@ -134,7 +133,7 @@ fn blocks_of(
 }
 
 // So many blocks, the last of so many sample frames.
-fn wanted(alloc: Global, channels: u8, count: u32, last: u32) -> Result<Vec<Said>, Fail>
+fn wanted(alloc: Global, channels: u8, count: u32, last: u32) -> Result<Vec<Said>, AllocError>
     requires channels { channels ≤ 2 }
     requires count { count ≤ 1000 }
     requires last { last ≤ 4096 }
@@ -151,8 +150,36 @@ fn wanted(alloc: Global, channels: u8, count: u32, last: u32) -> Result<Vec<Said
     Ok(out)
 }
 
+// Whether frames of these sizes come to so many blocks, the last of so many sample frames.
+fn are(
+    alloc: Global,
+    channels: u8,
+    sizes: &[u32],
+    at_once: bool,
+    count: u32,
+    last: u32,
+) -> Result<bool, AllocError>
+    requires some { 1 ≤ channels }
+    requires few { channels ≤ 2 }
+    requires count { count ≤ 1000 }
+    requires last { last ≤ 4096 }
+{
+    let wanted = wanted(alloc, channels, count, last)?;
+    let blocks = blocks_of(alloc, channels, sizes, 0, at_once)?;
+    Ok(blocks.as_slice() == wanted.as_slice())
+}
+
+// The same on one channel and on two, taken as they come and all at the end.
+fn are_blocks(alloc: Global, sizes: &[u32], count: u32, last: u32) -> Result<bool, AllocError> {
+    let count = count.min(1000);
+    let last = last.min(4096);
+    let one = are(alloc, 1, sizes, false, count, last)? & are(alloc, 1, sizes, true, count, last)?;
+    let two = are(alloc, 2, sizes, false, count, last)? & are(alloc, 2, sizes, true, count, last)?;
+    Ok(one & two)
+}
+
 #[test]
-fn sizes(rt: HostRuntime) -> Result<(), Fail> {
+fn sizes(rt: HostRuntime) -> Result<(), AllocError> {
     let alloc = rt.alloc();
     // frames; how many blocks they are, and how long the last one is
     let rows = [
@@ -169,54 +196,66 @@ fn sizes(rt: HostRuntime) -> Result<(), Fail> {
         ([4097, 4097, 65535, 4095].as_slice(), 19, 4096),
     ];
     for (sizes, count, last) in rows {
-        for channels in [1, 2] {
-            for at_once in [false, true] {
-                let blocks = blocks_of(alloc, channels, sizes, 0, at_once)?;
-                let wanted = wanted(alloc, channels, count, last)?;
-                assert_eq!(rt; blocks.as_slice(), wanted.as_slice(), "{count} blocks");
-            }
-        }
+        let came = are_blocks(alloc, sizes, count, last)?;
+        assert!(rt; came, "{count} blocks");
     }
     Ok(())
 }
 
 // Each block starts as many ticks behind the first frame as there are sample frames before it.
 #[test]
-fn gaps(rt: HostRuntime) -> Result<(), Fail> {
-    let alloc = rt.alloc();
-    let blocks = blocks_of(alloc, 1, &[4095, 2, 4096], 7, true)?;
-    let wanted = wanted(alloc, 1, 2, 4096)?;
-    assert_eq!(rt; blocks.len(), 3);
-    assert_eq!(rt; &blocks[..2], wanted.as_slice());
-    assert_eq!(rt; blocks[2], (START + 8192, 1, true));
+fn gaps(rt: HostRuntime) -> Result<(), AllocError> {
+    let blocks = blocks_of(rt.alloc(), 1, &[4095, 2, 4096], 7, true)?;
+    let wanted = [
+        (START, 4096, true),
+        (START + 4096, 4096, true),
+        (START + 8192, 1, true),
+    ];
+    assert_eq!(rt; blocks.as_slice(), wanted.as_slice());
     Ok(())
 }
 
-fn next(blocks: &mut Blocks) -> Result<Option<Said>, Fail>
+// What the next block is, if there is one; none of the stream where memory is refused.
+fn next(blocks: &mut Blocks) -> Option<Said>
     ensures ended { has_ended blocks.new ≡ has_ended blocks.old }
     ensures format { format_in blocks.new ≡ format_in blocks.old }
 {
-    match blocks.pull()? {
-        Some(block) => Ok(Some(said(&block, 1))),
-        None => Ok(None),
+    match blocks.pull() {
+        Ok(Some(block)) => Some(said(&block, 1)),
+        Ok(None) => None,
+        Err(_) => Some((0, 0, false)),
     }
 }
 
-#[test]
-fn none(rt: HostRuntime) -> Result<(), Fail> {
-    let alloc = rt.alloc();
-    let mut blocks = Blocks::new(alloc);
-    assert_eq!(rt; next(&mut blocks)?, None);
+// Seven pulls, behind no frame, one, two and the end.
+fn pulls(alloc: Global) -> Result<[Option<Said>; 7], AllocError> {
     let first = frame(alloc, START, 1, 0, 4095)?;
-    feed(&mut blocks, first)?;
-    assert_eq!(rt; next(&mut blocks)?, None);
     let second = frame(alloc, START + 4095, 1, 4095, 2)?;
+    let mut blocks = Blocks::new(alloc);
+    let none = next(&mut blocks);
+    feed(&mut blocks, first)?;
+    let short = next(&mut blocks);
     feed(&mut blocks, second)?;
-    assert_eq!(rt; next(&mut blocks)?, Some((START, 4096, true)));
-    assert_eq!(rt; next(&mut blocks)?, None);
+    let whole = next(&mut blocks);
+    let rest = next(&mut blocks);
     blocks.end();
-    assert_eq!(rt; next(&mut blocks)?, Some((START + 4096, 1, true)));
-    assert_eq!(rt; next(&mut blocks)?, None);
-    assert_eq!(rt; next(&mut blocks)?, None);
+    let last = next(&mut blocks);
+    let behind = next(&mut blocks);
+    let far_behind = next(&mut blocks);
+    Ok([none, short, whole, rest, last, behind, far_behind])
+}
+
+#[test]
+fn none(rt: HostRuntime) -> Result<(), AllocError> {
+    let wanted = [
+        None,
+        None,
+        Some((START, 4096, true)),
+        None,
+        Some((START + 4096, 1, true)),
+        None,
+        None,
+    ];
+    assert_eq!(rt; pulls(rt.alloc())?, wanted);
     Ok(())
 }
