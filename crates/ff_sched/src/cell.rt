@@ -22,7 +22,6 @@ use crate::words::{COUNT, stepped};
 use ff_values::{Event, Ticket};
 use std::alloc::{AllocError, Global};
 use std::marker::{Brand, Model};
-use std::snapshot::Snapshot;
 use std::sync::Wait;
 
 /// The answer to a source that asks for a grant.
@@ -41,7 +40,7 @@ pub struct SchedCell {
     pub(crate) alloc: Global,
     pub(crate) cell: Cell,
     routes: Routes,
-    opening: Snapshot<SchedState>,
+    opening: SchedState,
 }
 
 impl Model for SchedCell {
@@ -50,7 +49,7 @@ impl Model for SchedCell {
 
     ghost Value = { Scheduler };
 
-    ghost view = { λ c. record { table = c.cell.table.shared.table_id; routes = c.routes; opening = c.opening.value } };
+    ghost view = { λ c. record { table = c.cell.table.shared.table_id; routes = c.routes; opening = c.opening } };
 
     ghost invariant = { λ c. AreRoutes c.routes };
 }
@@ -205,7 +204,7 @@ impl SchedCell {
         requires routes { AreRoutes routes }
         ensures { IfOk result (λ r. (r.0.routes ≡ routes) × (r.0.opening ≡ state) × IsFirst r.0 r.1) }
     {
-        let opening = Snapshot::of(&state);
+        let opening = state.again();
         let (cell, seat) = open_as::<Brand, R>(rt, alloc, &state, &routes)?;
         let pass = Pass {
             seat,
