@@ -8,15 +8,17 @@ use std::alloc::{AllocError, Global};
 use std::io;
 use std::rt::Clock;
 use std::sync::Wait;
+use std::thread::{Threads, join_mut};
 use std::time::Instant;
 
 /// How many events there are of each kind.
 const EVENTS: u64 = 1 << 19;
 
-/// Prints how many nanoseconds a grant, a tell and a refusal take.
-pub fn measure<R: Wait + Print + Clock>(rt: &R, alloc: Global) -> io::Result<()> {
+/// Prints how many nanoseconds a grant, a tell and a refusal take, and a call where two threads meet on the cell.
+pub fn measure<R: Threads + Wait + Sync + Print + Clock>(rt: &R, alloc: Global) -> io::Result<()> {
     alone(rt, alloc)?;
-    refused(rt, alloc)
+    refused(rt, alloc)?;
+    together(rt, alloc)
 }
 
 fn two_routes(alloc: Global) -> Result<Routes, AllocError>
@@ -119,4 +121,29 @@ fn refused<R: Wait + Print + Clock>(rt: &R, alloc: Global) -> io::Result<()> {
     ask_all(rt, &cell, &mut pass);
     let refusal = nanos_each(rt, start, EVENTS)?;
     println!(rt; "a refusal {refusal} ns ({} events)", pass.logged())
+}
+
+/// One thread tells, the other asks.
+fn together<R: Threads + Wait + Sync + Print + Clock>(rt: &R, alloc: Global) -> io::Result<()> {
+    let (cell, mut teller) = cell_for(rt, alloc, EVENTS)?;
+    let mut asker = cell.split(&mut teller, EVENTS)?;
+    asker.reserve(EVENTS as usize)?;
+    let start = Instant::now(rt)?;
+    at_once(rt, &cell, &mut teller, &mut asker);
+    let each = nanos_each(rt, start, 2 * EVENTS)?;
+    let logged = teller.logged().saturating_add(asker.logged());
+    println!(rt; "two threads, one tells and one asks: {each} ns a call ({logged} events)")
+}
+
+fn at_once<R: Threads + Wait + Sync>(rt: &R, cell: &SchedCell, teller: &mut Pass, asker: &mut Pass)
+    requires routes { (cell.now.routes.sources ≡ 2) × (length cell.now.routes.streams ≡ 2) }
+    requires cell { (teller.old.cell ≡ cell.now) × (asker.old.cell ≡ cell.now) }
+{
+    let mut tells = || -> ()
+        requires { (cell.now.routes.sources ≡ 2) × (length cell.now.routes.streams ≡ 2) × (teller.now.cell ≡ cell.now) }
+    { tell_all(rt, cell, teller) };
+    let mut asks = || -> ()
+        requires { (cell.now.routes.sources ≡ 2) × (length cell.now.routes.streams ≡ 2) × (asker.now.cell ≡ cell.now) }
+    { ask_all(rt, cell, asker) };
+    join_mut(rt, &mut tells, &mut asks);
 }
