@@ -1,5 +1,6 @@
 ghost use Rattle.std.specs.Prelude.{◌≡◌, ◌<◌, ◌≤◌, ◌+◌, ℕ, length, IfOk, [], ◌∷◌};
 ghost use Rattle.ff_net.specs.Nodes.{machine_of, in_wires_of, out_wires_of};
+ghost use Rattle.ff_net.specs.Serial.{AreShaped};
 ghost use Rattle.ff_net_plain.specs.Networks.{Fits};
 ghost use Rattle.ff_net_plain.specs.Plains.{plain_ins, plain_outs};
 ghost use Rattle.ff_net_plain.specs.Trials.{trial_lane};
@@ -30,7 +31,7 @@ pub struct Plan {
     pub count: usize,
     pub limit: usize,
     pub size: usize,
-    /// In each round of five turns turn t is that of node `(first + stride * t) % 5`.
+    /// In each round of five turns turn t is that of node `(first + stride * t) % 5`; both are below 5.
     pub first: usize,
     pub stride: usize,
     pub place: Place,
@@ -90,10 +91,9 @@ fn on_wires(
 }
 
 fn source_node(alloc: Global, tb: Rational, plan: Plan) -> Result<Node<Plain>, AllocError>
-    requires { plan.count < 100 }
     ensures { IfOk result (λ node. Fits (trial_lane tb) [] (0 ∷ []) node) }
 {
-    let items = packets(alloc, plan.count)?;
+    let items = packets(alloc, plan.count.min(99))?;
     let fails_at = room(plan, Place::Device);
     let refuses_at = room(plan, Place::Source);
     let source = Source::new(alloc, lane(tb), 0, items, fails_at, refuses_at);
@@ -169,34 +169,43 @@ fn look_at(outcome: Outcome, item: &Item) -> Outcome {
 
 /// Which node comes next.
 fn next_node(plan: Plan, turn: usize) -> usize
-    requires first { plan.first < 5 }
-    requires stride { plan.stride < 5 }
-    requires turn { turn < 5 }
     ensures { result < 5 }
 {
-    (plan.first + plan.stride * turn) % 5
+    (plan.first % 5 + plan.stride % 5 * (turn % 5)) % 5
+}
+
+// A turn of the node of this number.
+fn turn(nodes: &mut [Node<Plain>], wires: &mut Wires, node: usize)
+    requires shaped { AreShaped plain_ins plain_outs nodes.old wires.old }
+    requires node { node < length nodes.old }
+    ensures shaped { AreShaped plain_ins plain_outs nodes.new wires.new }
+    ensures count { length nodes.new ≡ length nodes.old }
+{
+    run_serial(nodes, wires, &[node]);
+}
+
+// 400 turns, in the order of the plan.
+fn turns(nodes: &mut [Node<Plain>], wires: &mut Wires, plan: Plan)
+    requires shaped { AreShaped plain_ins plain_outs nodes.old wires.old }
+    requires count { length nodes.old ≡ 5 }
+{
+    for number in 0usize..400 {
+        turn(nodes, wires, next_node(plan, number));
+    }
 }
 
 /// The network of a source, a machine that repeats its items on two outputs, one that ends early behind the first of
-/// these, one that joins what that gives with the second, and a sink.
-pub fn try_network(alloc: Global, tb: Rational, plan: Plan) -> Result<Outcome, AllocError>
-    requires few { plan.count < 100 }
-    requires size { 1 ≤ plan.size }
-    requires first { plan.first < 5 }
-    requires stride { plan.stride < 5 }
-{
+/// these, one that joins what that gives with the second, and a sink. No more than 99 packets are sent.
+pub fn try_network(alloc: Global, tb: Rational, plan: Plan) -> Result<Outcome, AllocError> {
     let lanes = vec![in alloc; lane(tb), lane(tb), lane(tb), lane(tb), lane(tb)]?;
-    let mut wires = Wires::new(alloc, lanes, plan.size)?;
+    let mut wires = Wires::new(alloc, lanes, plan.size.max(1))?;
     let source = source_node(alloc, tb, plan)?;
     let repeater = repeater_node(alloc, tb, plan)?;
     let stopper = stopper_node(alloc, tb, plan)?;
     let join = join_node(alloc, tb, plan)?;
     let sink = sink_node(alloc, tb, plan)?;
     let mut nodes = [source, repeater, stopper, join, sink];
-    for turn in 0usize..400 {
-        let node = next_node(plan, turn % 5);
-        run_serial(&mut nodes, &mut wires, &[node]);
-    }
+    turns(&mut nodes, &mut wires, plan);
     let outcome = summary(&nodes);
     Ok(held(outcome, last(nodes).into_machine()))
 }
@@ -234,65 +243,98 @@ fn held(outcome: Outcome, sink: Plain) -> Outcome {
     }
 }
 
-mod tests {
-    use super::*;
-
-    #[test]
-    fn networks(rt: HostRuntime) {
-        let Ok(tb) = Rational::new(1, 8000) else {
-            panic!(rt; "a time base");
+// Whether runs over wires of this size, in four orders of turns, come to this.
+fn are_all(alloc: Global, tb: Rational, plan: Plan, want: Outcome) -> Result<bool, AllocError> {
+    let mut same = true;
+    for (first, stride) in [(0usize, 1usize), (4, 4), (1, 2), (2, 3)] {
+        let plan = Plan {
+            first,
+            stride,
+            ..plan
         };
-        let memory = Some(Fault::NoMemory);
-        // count, limit, place, at; packets, ended, broken, faulty, fault
-        let rows = [
-            ((5, 100, Place::Nowhere, 0), (5, true, false, None, None)),
-            ((6, 3, Place::Nowhere, 0), (3, true, false, None, None)),
-            ((6, 0, Place::Nowhere, 0), (0, true, false, None, None)),
-            ((0, 100, Place::Nowhere, 0), (0, true, false, None, None)),
-            (
-                (5, 100, Place::Device, 2),
-                (2, false, true, Some(0), Some(Fault::Device)),
-            ),
-            (
-                (5, 100, Place::Source, 2),
-                (2, false, true, Some(0), memory),
-            ),
-            (
-                (5, 100, Place::Repeater, 3),
-                (3, false, true, Some(1), memory),
-            ),
-            (
-                (5, 100, Place::Stopper, 1),
-                (1, false, true, Some(2), memory),
-            ),
-            ((5, 100, Place::Join, 1), (0, false, true, Some(3), memory)),
-            ((5, 100, Place::Sink, 2), (2, false, false, Some(4), memory)),
-        ];
-        for ((count, limit, place, at), (packets, ended, broken, faulty, fault)) in rows {
-            let want = Outcome {
-                packets,
-                in_order: true,
-                ended,
-                broken,
-                done: true,
-                faulty,
-                fault,
-            };
-            for size in [1usize, 2, 8] {
-                for (first, stride) in [(0usize, 1usize), (4, 4), (1, 2), (2, 3)] {
-                    let plan = Plan {
-                        count: usize::min(count, 99),
-                        limit,
-                        size: usize::max(size, 1),
-                        first: first % 5,
-                        stride: stride % 5,
-                        place,
-                        at,
-                    };
-                    let got = try_network(rt.alloc(), tb, plan).expect(&rt, "memory");
-                    assert_eq!(rt; got, want, "count {count}, size {size}, first {first}");
-                }
-            }
-        }
+        same &= try_network(alloc, tb, plan)? == want;
     }
+    Ok(same)
+}
+
+// The same over wires of three sizes.
+fn in_sizes(alloc: Global, tb: Rational, plan: Plan, want: Outcome) -> Result<bool, AllocError> {
+    let one = are_all(alloc, tb, Plan { size: 1, ..plan }, want)?;
+    let two = are_all(alloc, tb, Plan { size: 2, ..plan }, want)?;
+    let eight = are_all(alloc, tb, Plan { size: 8, ..plan }, want)?;
+    Ok(one & two & eight)
+}
+
+// A run of so many packets, with a fault in a place at an item.
+fn plan_of(count: usize, limit: usize, place: Place, at: usize) -> Plan {
+    Plan {
+        count,
+        limit,
+        size: 1,
+        first: 0,
+        stride: 1,
+        place,
+        at,
+    }
+}
+
+// An outcome whose packets are in order, with all nodes done.
+fn outcome_of(
+    packets: u32,
+    ended: bool,
+    broken: bool,
+    faulty: Option<usize>,
+    fault: Option<Fault>,
+) -> Outcome {
+    Outcome {
+        packets,
+        in_order: true,
+        ended,
+        broken,
+        done: true,
+        faulty,
+        fault,
+    }
+}
+
+#[test]
+fn networks(rt: HostRuntime) -> Result<(), AllocError> {
+    let Ok(tb) = Rational::new(1, 8000) else {
+        panic!(rt; "a time base");
+    };
+    let memory = Some(Fault::NoMemory);
+    // count, limit, place, at; packets, ended, broken, faulty, fault
+    let rows = [
+        ((5, 100, Place::Nowhere, 0), (5, true, false, None, None)),
+        ((6, 3, Place::Nowhere, 0), (3, true, false, None, None)),
+        ((6, 0, Place::Nowhere, 0), (0, true, false, None, None)),
+        ((0, 100, Place::Nowhere, 0), (0, true, false, None, None)),
+        (
+            (5, 100, Place::Device, 2),
+            (2, false, true, Some(0), Some(Fault::Device)),
+        ),
+        (
+            (5, 100, Place::Source, 2),
+            (2, false, true, Some(0), memory),
+        ),
+        (
+            (5, 100, Place::Repeater, 3),
+            (3, false, true, Some(1), memory),
+        ),
+        (
+            (5, 100, Place::Stopper, 1),
+            (1, false, true, Some(2), memory),
+        ),
+        ((5, 100, Place::Join, 1), (0, false, true, Some(3), memory)),
+        ((5, 100, Place::Sink, 2), (2, false, false, Some(4), memory)),
+    ];
+    for ((count, limit, place, at), (packets, ended, broken, faulty, fault)) in rows {
+        let plan = plan_of(count, limit, place, at);
+        let want = outcome_of(packets, ended, broken, faulty, fault);
+        assert!(rt;
+            in_sizes(rt.alloc(), tb, plan, want)?,
+            "{place:?} {at}, count {count}"
+        );
+    }
+    Ok(())
 }

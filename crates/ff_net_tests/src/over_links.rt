@@ -1,48 +1,56 @@
 use crate::run::{Outcome, run_chain};
 use ff_net_plain::one_over;
-use std::test::Fail;
+use std::alloc::Global;
+use std::sync::Wait;
+use std::thread::Threads;
+
+// A run of a source of 10,000 packets and a relay that ends after so many, over links of this size.
+fn outcome<R: Threads + Wait + Sync>(
+    rt: &R,
+    alloc: Global,
+    size: usize,
+    limit: usize,
+) -> Option<Outcome> {
+    let tb = one_over(8000)?;
+    run_chain(rt, alloc, tb, size.clamp(1, 1024), 10_000, limit)
+}
+
+// Whether the sink was fed so many packets, and at most six more were sent.
+fn is_spent(got: Option<Outcome>, limit: usize, taken: u32) -> bool {
+    let Some(got) = got else {
+        return false;
+    };
+    let want = Outcome {
+        taken,
+        in_order: true,
+        ended: true,
+        sound: true,
+        ..got
+    };
+    (got == want) & (got.sent <= limit.saturating_add(6))
+}
 
 // A relay that ends early stops the source: at most six packets more are on their way, one at each port, wire, end and
 // link between them.
 #[test]
-fn spent(rt: HostRuntime) -> Result<(), Fail> {
+fn spent(rt: HostRuntime) {
     for (limit, taken) in [(0usize, 0u32), (1, 1), (2, 2), (3, 3)] {
-        let Some(tb) = one_over(8000) else {
-            panic!(rt; "no time base")
-        };
-        let Some(got) = run_chain(&rt, rt.alloc(), tb, 1, 10_000, limit) else {
-            panic!(rt; "no memory")
-        };
-        let want = Outcome {
-            taken,
-            in_order: true,
-            ended: true,
-            sound: true,
-            ..got
-        };
-        assert_eq!(rt; got, want, "limit {limit}");
-        assert!(rt; got.sent <= limit + 6, "limit {limit}: {got:?}");
+        let got = outcome(&rt, rt.alloc(), 1, limit);
+        assert!(rt; is_spent(got, limit, taken), "limit {limit}: {got:?}");
     }
-    Ok(())
 }
 
 #[test]
-fn streams(rt: HostRuntime) -> Result<(), Fail> {
+fn streams(rt: HostRuntime) {
+    let want = Outcome {
+        sent: 10_000,
+        taken: 10_000,
+        in_order: true,
+        ended: true,
+        sound: true,
+    };
     for size in [1usize, 2, 8, 1_024] {
-        let Some(tb) = one_over(8000) else {
-            panic!(rt; "no time base")
-        };
-        let Some(got) = run_chain(&rt, rt.alloc(), tb, size, 10_000, usize::MAX) else {
-            panic!(rt; "no memory")
-        };
-        let want = Outcome {
-            sent: 10_000,
-            taken: 10_000,
-            in_order: true,
-            ended: true,
-            sound: true,
-        };
-        assert_eq!(rt; got, want, "size {size}");
+        let got = outcome(&rt, rt.alloc(), size, usize::MAX);
+        assert_eq!(rt; got, Some(want), "size {size}");
     }
-    Ok(())
 }

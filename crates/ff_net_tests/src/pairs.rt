@@ -1,35 +1,40 @@
 // Two paths at once, whose sources meet behind the heads.
-ghost use Rattle.std.specs.Prelude.{◌≡◌, ◌∷◌, [], IfOk};
+ghost use Rattle.std.specs.Prelude.{◌≡◌, ◌∷◌, [], IfOk, IfSome};
+ghost use Rattle.ff_values.specs.declared.head.Codec.TheVariants.{PcmU8};
+ghost use Rattle.ff_wav.specs.Packets.{IsHead};
+ghost use Rattle.ff_parts.specs.Parts.{part_in_lanes, part_out_lanes};
 ghost use Rattle.ff_net_links.specs.Runs.{AllLawful};
 ghost use Rattle.ff_path.specs.Chains.{HasLanes};
+ghost use Rattle.ff_path.specs.Path.{path_lanes};
 ghost use Rattle.ff_net_tests.specs.Pairs.{AreLawful};
 
-use crate::inputs::{head_of, parts, sink_of};
+use crate::inputs::{head_of, opened, parts, sink_of};
 use ff_frame::Codec;
-use ff_host::Host;
 use ff_memory_host::{MeetHost, MeetSource, QuietSink};
 use ff_net::Machine;
 use ff_net_links::{Linked, run_threads};
 use ff_parts::Part;
 use ff_path::{Chain, Lanes, NodeFault, Ran, link_chain, path_lanes, run_chain_in_threads};
+use ff_wav::WavHead;
 use std::alloc::{AllocError, Global};
 use std::marker::Brand;
 use std::sync::Wait;
-use std::test::Fail;
 use std::thread::Threads;
+
+type MeetPart = Part<MeetSource, QuietSink>;
 
 // The machines on new links that claim nothing.
 fn linked<M: Machine + Drop>(
     alloc: Global,
     machines: Chain<M>,
     lanes: &Lanes,
-) -> Result<Chain<Linked<M>>, Fail>
+) -> Result<Chain<Linked<M>>, AllocError>
     requires { HasLanes M.in_lanes M.out_lanes lanes.now machines }
     ensures { IfOk result (λ linked. AreLawful M.in_lanes M.out_lanes M.source_of M.fault_of M.stands linked) }
 {
     match link_chain::<Brand, M>(alloc, machines, lanes, 8) {
         Ok(linked) => Ok(linked),
-        Err(_) => Err("no memory".into()),
+        Err(_) => Err(AllocError),
     }
 }
 
@@ -60,7 +65,7 @@ fn run_two<R: Threads + Wait + Sync, M: Machine + Send + Drop>(
     left: Chain<M>,
     right: Chain<M>,
     lanes: &Lanes,
-) -> Result<Vec<Linked<M>>, Fail>
+) -> Result<Vec<Linked<M>>, AllocError>
     requires left { HasLanes M.in_lanes M.out_lanes lanes.now left }
     requires right { HasLanes M.in_lanes M.out_lanes lanes.now right }
 {
@@ -69,80 +74,145 @@ fn run_two<R: Threads + Wait + Sync, M: Machine + Send + Drop>(
     let nodes = all_nodes(alloc, left, right)?;
     match run_threads(rt, alloc, nodes) {
         Ok(nodes) => Ok(nodes),
-        Err(_) => Err("no memory".into()),
+        Err(_) => Err(AllocError),
     }
 }
 
 // A host of two inputs.
-fn meeting(alloc: Global, left: &[u8], right: &[u8]) -> Result<MeetHost, Fail> {
+fn meeting(alloc: Global, left: &[u8], right: &[u8]) -> Result<MeetHost, AllocError> {
     let mut files = Vec::new(alloc);
     files.push((String::from_str(alloc, "left.wav")?, left.to_vec(alloc)?))?;
     files.push((String::from_str(alloc, "right.wav")?, right.to_vec(alloc)?))?;
-    Ok(MeetHost::new(alloc, files, 44)?)
+    MeetHost::new(alloc, files, 44)
 }
 
-fn opened(host: &mut MeetHost, input: &str, output: &str) -> Result<(MeetSource, QuietSink), Fail> {
-    let src = host.open_source(input).map_err(|_| "no source")?;
-    let snk = host.create_sink(output).map_err(|_| "no sink")?;
-    Ok((src, snk))
-}
-
-// What the last muxer of the nodes wrote, where none of its chain's nodes has a fault.
-fn pop_text(
+// The path from an input of a host.
+fn chain_on(
     alloc: Global,
-    nodes: &mut Vec<Linked<Part<MeetSource, QuietSink>>>,
-) -> Result<Vec<u8>, Fail> {
-    let Some(last) = nodes.pop() else {
-        return Err("no node".into());
-    };
-    if last.fault().is_some() {
-        return Err("a fault".into());
-    }
-    for _ in 0..3 {
-        let Some(node) = nodes.pop() else {
-            return Err("no node".into());
-        };
-        if node.fault().is_some() {
-            return Err("a fault".into());
-        }
-    }
-    Ok(sink_of(last.into_machine())?.bytes().to_vec(alloc)?)
+    host: &mut MeetHost,
+    head: &WavHead,
+    input: &str,
+    output: &str,
+) -> Option<Chain<MeetPart>>
+    requires { IsHead head.now }
+    ensures { IfSome result (HasLanes part_in_lanes part_out_lanes (path_lanes PcmU8 head.now.head)) }
+{
+    let (src, snk) = opened(host, input, output)?;
+    parts(alloc, head, src, snk)
 }
 
-/// The framehashes of two inputs with one head, made at once.
+// The paths from two inputs with one head.
+fn two_chains(
+    alloc: Global,
+    head: &WavHead,
+    left: &[u8],
+    right: &[u8],
+) -> Option<(Chain<MeetPart>, Chain<MeetPart>)>
+    requires { IsHead head.now }
+    ensures left { IfSome result (λ both. HasLanes part_in_lanes part_out_lanes (path_lanes PcmU8 head.now.head) both.0) }
+    ensures right { IfSome result (λ both. HasLanes part_in_lanes part_out_lanes (path_lanes PcmU8 head.now.head) both.1) }
+{
+    let Ok(mut host) = meeting(alloc, left, right) else {
+        return None;
+    };
+    let first = chain_on(alloc, &mut host, head, "left.wav", "left.txt")?;
+    let second = chain_on(alloc, &mut host, head, "right.wav", "right.txt")?;
+    Some((first, second))
+}
+
+// Whether no node has a fault.
+fn are_sound<M: Machine + Drop>(nodes: &[Linked<M>]) -> bool {
+    let mut sound = true;
+    for node in nodes {
+        sound &= node.fault().is_none();
+    }
+    sound
+}
+
+// The last machine of each chain of four nodes, where no node has a fault.
+fn lasts<M: Machine + Drop>(nodes: Vec<Linked<M>>) -> Option<(M, M)> {
+    if !are_sound(&nodes) {
+        return None;
+    }
+    let mut nodes = nodes;
+    let right = nodes.pop()?;
+    nodes.truncate(4);
+    let left = nodes.pop()?;
+    Some((left.into_machine(), right.into_machine()))
+}
+
+// The last machines of two chains that ran at once.
+fn lasts_of_two<R: Threads + Wait + Sync, M: Machine + Send + Drop>(
+    rt: &R,
+    alloc: Global,
+    left: Chain<M>,
+    right: Chain<M>,
+    lanes: &Lanes,
+) -> Option<(M, M)>
+    requires left { HasLanes M.in_lanes M.out_lanes lanes.now left }
+    requires right { HasLanes M.in_lanes M.out_lanes lanes.now right }
+{
+    match run_two(rt, alloc, left, right, lanes) {
+        Ok(nodes) => lasts(nodes),
+        Err(_) => None,
+    }
+}
+
+// What a muxer wrote.
+fn text_of(alloc: Global, last: MeetPart) -> Option<Vec<u8>> {
+    let sink = sink_of(last)?;
+    sink.bytes().to_vec(alloc).ok()
+}
+
+// The muxers of the paths from two inputs with one head, after they ran.
+fn muxers<R: Threads + Wait + Sync>(
+    rt: &R,
+    alloc: Global,
+    left: &[u8],
+    right: &[u8],
+) -> Option<(MeetPart, MeetPart)> {
+    let head = head_of(left)?;
+    let (first, second) = two_chains(alloc, &head, left, right)?;
+    let lanes = path_lanes(Codec::PcmU8, &head.head);
+    lasts_of_two(rt, alloc, first, second, &lanes)
+}
+
+/// The framehashes of two inputs with one head, made at once, where no node has a fault.
 pub fn texts<R: Threads + Wait + Sync>(
     rt: &R,
     alloc: Global,
     left: &[u8],
     right: &[u8],
-) -> Result<(Vec<u8>, Vec<u8>), Fail> {
-    let head = head_of(left)?;
-    let lanes = path_lanes(Codec::PcmU8, &head.head);
-    let mut host = meeting(alloc, left, right)?;
-    let (src, snk) = opened(&mut host, "left.wav", "left.txt")?;
-    let first = parts(alloc, &head, src, snk)?;
-    let (src, snk) = opened(&mut host, "right.wav", "right.txt")?;
-    let second = parts(alloc, &head, src, snk)?;
-    let mut nodes = run_two(rt, alloc, first, second, &lanes)?;
-    let right = pop_text(alloc, &mut nodes)?;
-    let left = pop_text(alloc, &mut nodes)?;
-    Ok((left, right))
+) -> (Option<Vec<u8>>, Option<Vec<u8>>) {
+    match muxers(rt, alloc, left, right) {
+        Some((first, second)) => (text_of(alloc, first), text_of(alloc, second)),
+        None => (None, None),
+    }
 }
 
-/// The first fault of a path whose source meets one that is never read.
+// The first fault of a chain that ran in threads; none where it doesn't come to run.
+fn fault_in_threads<R: Threads + Wait + Sync, M: Machine + Send + Drop>(
+    rt: &R,
+    alloc: Global,
+    chain: Chain<M>,
+    lanes: &Lanes,
+) -> Option<NodeFault>
+    requires { HasLanes M.in_lanes M.out_lanes lanes.now chain }
+{
+    match run_chain_in_threads::<Brand, _, _>(rt, alloc, chain, lanes, 8) {
+        Ok(Ran { fault, .. }) => fault,
+        Err(_) => None,
+    }
+}
+
+/// The first fault of a path whose source meets one that is never read; none where it doesn't come to run.
 pub fn lone_fault<R: Threads + Wait + Sync>(
     rt: &R,
     alloc: Global,
     bytes: &[u8],
-) -> Result<Option<NodeFault>, Fail> {
+) -> Option<NodeFault> {
     let head = head_of(bytes)?;
+    let (chain, _unread) = two_chains(alloc, &head, bytes, bytes)?;
     let lanes = path_lanes(Codec::PcmU8, &head.head);
-    let mut host = meeting(alloc, bytes, bytes)?;
-    let (src, snk) = opened(&mut host, "left.wav", "left.txt")?;
-    let (_unread, _) = opened(&mut host, "right.wav", "right.txt")?;
-    let chain = parts(alloc, &head, src, snk)?;
-    match run_chain_in_threads::<Brand, _, _>(rt, alloc, chain, &lanes, 8) {
-        Ok(Ran { fault, .. }) => Ok(fault),
-        Err(_) => Err("no memory".into()),
-    }
+    fault_in_threads(rt, alloc, chain, &lanes)
 }

@@ -56,16 +56,14 @@ fn look_at(outcome: Outcome, item: &Item) -> Outcome {
     }
 }
 
-// The machines of a chain, first the sink.
-fn outcome_of(sound: bool, mut machines: Vec<Plain>) -> Option<Outcome> {
-    let Plain::Relay(sink) = machines.pop()? else {
-        return None;
-    };
-    machines.pop()?;
-    let Plain::Source(source) = machines.pop()? else {
-        return None;
-    };
-    Some(look(sink.given(), source.given(), sound))
+// What came of a run that left these machines.
+fn outcome_of(sound: bool, machines: &[Plain]) -> Option<Outcome> {
+    match machines {
+        [Plain::Source(source), _, Plain::Relay(sink)] => {
+            Some(look(sink.given(), source.given(), sound))
+        }
+        _ => None,
+    }
 }
 
 // Whether no node has a fault.
@@ -121,5 +119,5 @@ pub fn run_chain<R: Threads + Wait + Sync>(
     requires few { count ≤ 2 ^ 20 }
 {
     let (sound, machines) = machines_of(rt, alloc, tb, size, count, limit)?;
-    outcome_of(sound, machines)
+    outcome_of(sound, &machines)
 }

@@ -1,6 +1,7 @@
 ghost use Rattle.std.specs.Prelude.{◌≡◌, ◌<◌, ◌≤◌, ◌+◌, ℕ, length, IfOk, []};
 ghost use Rattle.ff_net.specs.Worlds.{lanes_of};
-ghost use Rattle.ff_net_plain.specs.Trials.{trial_lane};
+ghost use Rattle.ff_net.specs.Serial.{AreShaped};
+ghost use Rattle.ff_net_plain.specs.Trials.{trial_lane, relay_ins, relay_outs};
 
 use ff_frame::{Bytes, Codec, Item, Lane, Pkt, StreamHead};
 use ff_net::{Node, Put, Take, Wires, run_serial};
@@ -117,27 +118,40 @@ fn noted(trial: Trial, take: &Take) -> Trial
     }
 }
 
-/// A relay of one output between two wires of this size, by so many turns: it is sent `count` packets and the end, ends
-/// itself after `limit` items, and refuses what comes after `room`.
-pub fn try_relay(
+// A turn of the relay between an item that is offered, where it is wanted, and one that is taken: whether the first went, and
+// what has come out.
+fn turn(
+    nodes: &mut [Node<Relay>],
+    wires: &mut Wires,
+    next: Item,
+    wanted: bool,
+    trial: Trial,
+) -> (bool, Trial)
+    requires shaped { AreShaped relay_ins relay_outs nodes.old wires.old }
+    requires lanes { length (lanes_of wires.old) ≡ 2 }
+    requires count { length nodes.old ≡ 1 }
+    requires few { trial.items < 1000 }
+    ensures shaped { AreShaped relay_ins relay_outs nodes.new wires.new }
+    ensures lanes { length (lanes_of wires.new) ≡ 2 }
+    ensures count { length nodes.new ≡ 1 }
+    ensures items { result.1.items ≤ trial.items + 1 }
+{
+    let went = offer(wires, next, wanted);
+    run_serial(nodes, wires, &[0]);
+    (went, collect(wires, trial))
+}
+
+// What came of the relay by so many turns.
+fn turns(
     alloc: Global,
-    tb: Rational,
-    size: usize,
-    limit: usize,
-    room: usize,
+    nodes: &mut [Node<Relay>],
+    wires: &mut Wires,
     count: usize,
 ) -> Result<Trial, AllocError>
-    requires { 1 ≤ size }
+    requires shaped { AreShaped relay_ins relay_outs nodes.old wires.old }
+    requires lanes { length (lanes_of wires.old) ≡ 2 }
+    requires count { length nodes.old ≡ 1 }
 {
-    let lanes = vec![in alloc; lane(tb), lane(tb)]?;
-    let mut wires = Wires::new(alloc, lanes, size)?;
-    let machine = Relay::new(alloc, lane(tb), 1, limit, room)?;
-    let ins = vec![in alloc; 0usize]?;
-    let outs = vec![in alloc; 1usize]?;
-    let Ok(node) = Node::new(alloc, machine, ins, outs) else {
-        return Err(AllocError);
-    };
-    let mut nodes = [node];
     let mut trial = Trial {
         items: 0,
         ended: false,
@@ -148,10 +162,9 @@ pub fn try_relay(
     let mut sent = 0usize;
     for _turn in 0usize..40 {
         let next = item(alloc, sent, count)?;
-        let went = offer(&mut wires, next, sent <= count);
+        let (went, after) = turn(nodes, wires, next, sent <= count, trial);
         sent += usize::from(went);
-        run_serial(&mut nodes, &mut wires, &[0]);
-        trial = collect(&mut wires, trial);
+        trial = after;
     }
     let node = &nodes[0];
     trial.done = node.is_done();
@@ -159,41 +172,61 @@ pub fn try_relay(
     Ok(trial)
 }
 
-mod tests {
-    use super::*;
+/// A relay of one output between two wires of this size, by so many turns: it is sent `count` packets and the end, ends
+/// itself after `limit` items, and refuses what comes after `room`.
+pub fn try_relay(
+    alloc: Global,
+    tb: Rational,
+    size: usize,
+    limit: usize,
+    room: usize,
+    count: usize,
+) -> Result<Trial, AllocError> {
+    let lanes = vec![in alloc; lane(tb), lane(tb)]?;
+    let mut wires = Wires::new(alloc, lanes, size.max(1))?;
+    let machine = Relay::new(alloc, lane(tb), 1, limit, room)?;
+    let ins = vec![in alloc; 0usize]?;
+    let outs = vec![in alloc; 1usize]?;
+    let Ok(node) = Node::new(alloc, machine, ins, outs) else {
+        return Err(AllocError);
+    };
+    let mut nodes = [node];
+    turns(alloc, &mut nodes, &mut wires, count)
+}
 
-    #[test]
-    fn relays(rt: HostRuntime) {
-        let Ok(tb) = Rational::new(1, 8000) else {
-            panic!(rt; "a time base");
-        };
-        // size, limit, room, count; items, ended, broken, done, faulty
-        let rows = [
-            ((1, 100, 100, 3), (3, true, false, true, false)),
-            ((2, 100, 100, 3), (3, true, false, true, false)),
-            ((8, 100, 100, 3), (3, true, false, true, false)),
-            ((8, 100, 100, 0), (0, true, false, true, false)),
-            ((1, 2, 100, 3), (2, true, false, true, false)),
-            ((8, 0, 100, 3), (0, true, false, true, false)),
-            ((1, 100, 2, 3), (2, false, true, true, true)),
-            ((8, 100, 2, 3), (2, false, true, true, true)),
-        ];
-        for ((size, limit, room, count), (items, ended, broken, done, faulty)) in rows {
-            let want = Trial {
-                items,
-                ended,
-                broken,
-                done,
-                faulty,
-            };
-            let got = try_relay(rt.alloc(), tb, usize::max(size, 1), limit, room, count).expect(
-                &rt, "memory",
-            );
-            assert_eq!(rt;
-                got,
-                want,
-                "size {size}, limit {limit}, room {room}, count {count}"
-            );
-        }
+// What comes of a relay that isn't faulty, or is.
+fn outcome(items: usize, ended: bool, broken: bool, done: bool, faulty: bool) -> Trial {
+    Trial {
+        items,
+        ended,
+        broken,
+        done,
+        faulty,
     }
+}
+
+#[test]
+fn relays(rt: HostRuntime) -> Result<(), AllocError> {
+    let Ok(tb) = Rational::new(1, 8000) else {
+        panic!(rt; "a time base");
+    };
+    // size, limit, room, count; items, ended, broken, done, faulty
+    for ((size, limit, room, count), want) in [
+        ((1, 100, 100, 3), outcome(3, true, false, true, false)),
+        ((2, 100, 100, 3), outcome(3, true, false, true, false)),
+        ((8, 100, 100, 3), outcome(3, true, false, true, false)),
+        ((8, 100, 100, 0), outcome(0, true, false, true, false)),
+        ((1, 2, 100, 3), outcome(2, true, false, true, false)),
+        ((8, 0, 100, 3), outcome(0, true, false, true, false)),
+        ((1, 100, 2, 3), outcome(2, false, true, true, true)),
+        ((8, 100, 2, 3), outcome(2, false, true, true, true)),
+    ] {
+        let got = try_relay(rt.alloc(), tb, size, limit, room, count)?;
+        assert_eq!(rt;
+            got,
+            want,
+            "size {size}, limit {limit}, room {room}, count {count}"
+        );
+    }
+    Ok(())
 }

@@ -2,7 +2,7 @@ use Rattle.std.proofs.Common.{◌≡◌, ◌≤◌, length}
 use Rattle.ff_net.specs.Serial.{AreShaped}
 use Rattle.ff_net.specs.Worlds.{lanes_of}
 use Rattle.ff_net_plain.specs.Trials.{relay_ins, relay_outs}
-use Rattle.ff_net_tests.proofs.trial.try_relay.Given as goal
+use Rattle.ff_net_tests.proofs.trial.turns.Given as goal
 
 abbrev pub invariant-loop-turn : goal.invariant-loop-turn
 invariant-loop-turn l = record {
