@@ -1,13 +1,14 @@
 // The head is written out by hand from the RIFF WAVE layout.
+ghost use Rattle.std.specs.Prelude.{◌+◌, ◌<◌, ◌≤◌, ◌^◌, length, IfOk};
+
 use ff_frame::{Bytes, Codec, Item, Pkt, StreamHead, Ticket};
 use ff_host::{Failed, Host, Source};
-use ff_memory_host::{FailAt, HostCall, MemHost};
+use ff_memory_host::{FailAt, HostCall, MemHost, MemSource};
 use ff_net::{Fault, Machine};
 use ff_parts::{Demux, is_long};
 use ff_time::Rational;
 use ff_wav::{WavCut, read_head};
 use std::alloc::{AllocError, Global};
-use std::test::Fail;
 
 // 8-bit samples on one channel at 8,000 a second, a body of 2,500 bytes.
 const HEAD: [u8; 44] = [
@@ -36,86 +37,123 @@ fn files(alloc: Global) -> Result<Vec<(String, Vec<u8>)>, AllocError> {
     Ok(files)
 }
 
-fn next<S: Source + Drop>(demux: &mut Demux<S, WavCut>) -> Result<Given, AllocError> {
-    Ok(match demux.pull(0)? {
-        Some(Item::Packet(p)) => {
+// A demuxer of that file, whose calls fail as planned.
+fn demuxer(alloc: Global, plan: Vec<FailAt>) -> Result<Demux<MemSource, WavCut>, AllocError> {
+    let mut host = MemHost::new(alloc, files(alloc)?, plan)?;
+    let (Ok(src), Ok(head)) = (host.open_source("in"), read_head(&HEAD, false)) else {
+        return Err(AllocError);
+    };
+    match Demux::new(alloc, 7, src, &head) {
+        Ok(demux) => Ok(demux),
+        Err(_) => Err(AllocError),
+    }
+}
+
+fn next<S: Source + Drop>(demux: &mut Demux<S, WavCut>) -> Given {
+    match demux.pull(0) {
+        Ok(Some(Item::Packet(p))) => {
             Given::Packet(p.pts, p.duration, p.pos, p.bytes.as_slice().len())
         }
-        Some(Item::End) => Given::End,
-        Some(_item) => Given::Other,
-        None => Given::Nothing,
-    })
+        Ok(Some(Item::End)) => Given::End,
+        Ok(None) => Given::Nothing,
+        _ => Given::Other,
+    }
+}
+
+const TICKET: Ticket = Ticket {
+    source: 7,
+    place: 0,
+};
+
+// What comes with the next ticket, where nothing came before, and there is no room for a second one.
+fn next_allowed<S: Source + Drop>(demux: &mut Demux<S, WavCut>) -> Given {
+    let before = next(demux);
+    let first = demux.allow(TICKET);
+    let second = demux.allow(TICKET);
+    if (before == Given::Nothing) & first.is_none() & (second == Some(TICKET)) {
+        next(demux)
+    } else {
+        Given::Other
+    }
 }
 
 #[test]
-fn packets(rt: HostRuntime) -> Result<(), Fail> {
-    let alloc = rt.alloc();
-    let mut host = MemHost::new(alloc, files(alloc)?, Vec::new(alloc))?;
-    let src = host.open_source("in").map_err(|_| "not opened")?;
-    let head = read_head(&HEAD, false)?;
-    let mut demux = Demux::new(alloc, 7, src, &head).map_err(|_| "no memory")?;
-    assert_eq!(rt; demux.source(), Some(7));
+fn packets(rt: HostRuntime) -> Result<(), AllocError> {
+    let mut demux = demuxer(rt.alloc(), Vec::new(rt.alloc()))?;
     for expected in [
         Given::Packet(0, 1024, 44, 1024),
         Given::Packet(1024, 1024, 1068, 1024),
         Given::Packet(2048, 452, 2092, 452),
         Given::End,
     ] {
-        assert_eq!(rt; next(&mut demux)?, Given::Nothing);
-        let ticket = Ticket {
-            source: 7,
-            place: 0,
-        };
-        assert_eq!(rt; demux.allow(ticket), None);
-        assert_eq!(rt; demux.allow(ticket), Some(ticket));
-        assert_eq!(rt; next(&mut demux)?, expected);
+        assert_eq!(rt; next_allowed(&mut demux), expected);
     }
-    assert_eq!(rt; next(&mut demux)?, Given::Nothing);
-    assert_eq!(rt; demux.fault(), None);
+    let last = (next(&mut demux), demux.source(), demux.fault());
+    assert_eq!(rt; last, (Given::Nothing, Some(7), None));
     Ok(())
 }
 
-#[test]
-fn device(rt: HostRuntime) -> Result<(), Fail> {
-    let alloc = rt.alloc();
+// The first read of `in` fails.
+fn first_read(alloc: Global) -> Result<Vec<FailAt>, AllocError> {
     let mut plan = Vec::new(alloc);
-    let name = String::from_str(alloc, "in")?;
     plan.push(FailAt {
-        name,
+        name: String::from_str(alloc, "in")?,
         call: HostCall::Read,
         number: 1,
     })?;
-    let mut host = MemHost::new(alloc, files(alloc)?, plan)?;
-    let src = host.open_source("in").map_err(|_| "not opened")?;
-    let head = read_head(&HEAD, false)?;
-    let mut demux = Demux::new(alloc, 7, src, &head).map_err(|_| "no memory")?;
-    assert_eq!(rt;
-        demux.allow(Ticket {
-            source: 7,
-            place: 0
-        }),
-        None
-    );
-    for _ in 0..2 {
-        assert_eq!(rt; next(&mut demux)?, Given::Nothing);
-        assert_eq!(rt; demux.fault(), Some(Fault::Device));
-    }
+    Ok(plan)
+}
+
+#[test]
+fn device(rt: HostRuntime) -> Result<(), AllocError> {
+    let mut demux = demuxer(rt.alloc(), first_read(rt.alloc())?)?;
+    let allowed = demux.allow(TICKET);
+    let first = (next(&mut demux), demux.fault());
+    let second = (next(&mut demux), demux.fault());
+    let failed = (Given::Nothing, Some(Fault::Device));
+    assert_eq!(rt; (allowed, first, second), (None, failed, failed));
     let mut src = demux.into_source();
     assert_eq!(rt; src.read(&mut [0; 4]), Err(Failed));
     Ok(())
 }
 
-// At one tick a second: the first second past the last, the first number past the last, the first byte past the last.
-#[test]
-fn limits(rt: HostRuntime) -> Result<(), Fail> {
-    let alloc = rt.alloc();
-    let head = StreamHead::Audio {
-        tb: Rational::new(1, 1)?,
+// A packet of one byte.
+fn packet(alloc: Global, pts: i64, pos: u64) -> Result<Pkt, AllocError>
+    requires { pos ≤ 2 ^ 41 }
+    ensures { IfOk result (λ packet. packet.pos + length packet.bytes < 2 ^ 64) }
+{
+    let bytes = vec![in alloc; 128u8; 1]?;
+    Ok(Pkt {
+        pts,
+        dts: pts,
+        duration: 1,
+        pos,
+        bytes: Bytes::new(bytes),
+    })
+}
+
+fn head() -> Option<StreamHead> {
+    Some(StreamHead::Audio {
+        tb: Rational::new(1, 1).ok()?,
         rate: 1,
         bits: 8,
         channels: 1,
         codec: Codec::PcmU8,
-    };
+    })
+}
+
+// Whether it is long at one tick a second.
+fn is_long_at(alloc: Global, before: u64, pts: i64, pos: u64) -> Result<Option<bool>, AllocError> {
+    let packet = packet(alloc, pts, pos.min(1 << 41))?;
+    Ok(match head() {
+        Some(head) => Some(is_long(&head, before.min(1 << 40), &packet)),
+        None => None,
+    })
+}
+
+// At one tick a second: the first second past the last, the first number past the last, the first byte past the last.
+#[test]
+fn limits(rt: HostRuntime) -> Result<(), AllocError> {
     for (before, pts, pos, long) in [
         (0, 0, 0, false),
         (1_099_511_627_775, 999_999_999, 1_099_511_627_775, false),
@@ -123,14 +161,7 @@ fn limits(rt: HostRuntime) -> Result<(), Fail> {
         (1_099_511_627_775, 1_000_000_000, 1_099_511_627_775, true),
         (1_099_511_627_775, 999_999_999, 1_099_511_627_776, true),
     ] {
-        let packet = Pkt {
-            pts,
-            dts: pts,
-            duration: 1,
-            pos,
-            bytes: Bytes::new(vec![in alloc; 128u8; 1]?),
-        };
-        assert_eq!(rt; is_long(&head, before, &packet), long);
+        assert_eq!(rt; is_long_at(rt.alloc(), before, pts, pos)?, Some(long));
     }
     Ok(())
 }

@@ -1,8 +1,10 @@
 use crate::gate_host::GateHost;
-use crate::runs::{HEADER, WORDS, host_of, input, log_of, run};
-use ff_run::Status;
+use crate::runs::{HEADER, WORDS, comes_to, host_of, input};
+use ff_host::Host;
+use ff_run::{Line, Status};
 use std::alloc::{AllocError, Global};
-use std::test::Fail;
+use std::sync::Wait;
+use std::thread::Threads;
 
 /// How many packets of 1,024 bytes a body of 1 MB has.
 const PACKETS: usize = 1024;
@@ -27,27 +29,32 @@ fn large_output(alloc: Global) -> Result<String, AllocError> {
     Ok(text)
 }
 
+// Whether the command of these inputs is fine over this host.
+fn is_fine<R: Threads + Wait + Sync, H: Host>(
+    rt: &R,
+    alloc: Global,
+    host: &mut H,
+) -> Result<bool, AllocError> {
+    comes_to(rt, alloc, &WORDS, host, Status::Fine, Line::NotDue)
+}
+
 #[test]
-fn one_megabyte(rt: HostRuntime) -> Result<(), Fail> {
+fn one_megabyte(rt: HostRuntime) -> Result<(), AllocError> {
     let alloc = rt.alloc();
-    let mut host = host_of(alloc, large_input(alloc)?)?;
-    let mut log = log_of(alloc, Vec::new(alloc))?;
-    let report = run(&rt, alloc, &WORDS, &mut host, &mut log)?;
     let output = large_output(alloc)?;
-    assert_eq!(rt; report.status, Status::Fine);
-    assert_eq!(rt; host.file("out").ok_or("no output")?, output.as_bytes());
+    let mut host = host_of(alloc, large_input(alloc)?)?;
+    assert!(rt; is_fine(&rt, alloc, &mut host)?);
+    assert_eq!(rt; host.file("out"), Some(output.as_bytes()));
     Ok(())
 }
 
 // The input is read further only once the output has begun: a run that read it whole before would wait in vain and fail.
 #[test]
-fn reading_waits_for_writing(rt: HostRuntime) -> Result<(), Fail> {
+fn reading_waits_for_writing(rt: HostRuntime) -> Result<(), AllocError> {
     let alloc = rt.alloc();
-    let mut host = GateHost::new(alloc, large_input(alloc)?, 200_000)?;
-    let mut log = log_of(alloc, Vec::new(alloc))?;
-    let report = run(&rt, alloc, &WORDS, &mut host, &mut log)?;
     let output = large_output(alloc)?;
-    assert_eq!(rt; report.status, Status::Fine);
+    let mut host = GateHost::new(alloc, large_input(alloc)?, 200_000)?;
+    assert!(rt; is_fine(&rt, alloc, &mut host)?);
     assert_eq!(rt; host.output(), output.as_bytes());
     Ok(())
 }

@@ -1,10 +1,9 @@
 // What the tests share: inputs, words, and one run of the command.
 use ff_host::Host;
 use ff_memory_host::{FailAt, MemHost, MemSink};
-use ff_run::{Report, ffmpeg};
+use ff_run::{Line, Report, Status, ffmpeg};
 use std::alloc::{AllocError, Global};
 use std::sync::Wait;
-use std::test::Fail;
 use std::thread::Threads;
 
 /// The words of the one command.
@@ -43,9 +42,12 @@ pub fn host_of(alloc: Global, bytes: Vec<u8>) -> Result<MemHost, AllocError> {
 }
 
 /// An empty log, whose calls fail as planned under the name `log`.
-pub fn log_of(alloc: Global, fails: Vec<FailAt>) -> Result<MemSink, Fail> {
+pub fn log_of(alloc: Global, fails: Vec<FailAt>) -> Result<MemSink, AllocError> {
     let mut host = MemHost::new(alloc, Vec::new(alloc), fails)?;
-    Ok(host.create_sink("log").map_err(|_| "no log")?)
+    match host.create_sink("log") {
+        Ok(log) => Ok(log),
+        Err(_) => Err(AllocError),
+    }
 }
 
 /// Runs the command of these words over this host.
@@ -55,7 +57,22 @@ pub fn run<R: Threads + Wait + Sync, H: Host>(
     texts: &[&str],
     host: &mut H,
     log: &mut MemSink,
-) -> Result<Report, Fail> {
+) -> Result<Report, AllocError> {
     let words = words_of(alloc, texts)?;
     Ok(ffmpeg(rt, alloc, &words, host, log))
+}
+
+/// Whether the command of these words over this host comes to this status and this line, with nothing scheduled.
+pub fn comes_to<R: Threads + Wait + Sync, H: Host>(
+    rt: &R,
+    alloc: Global,
+    texts: &[&str],
+    host: &mut H,
+    status: Status,
+    line: Line,
+) -> Result<bool, AllocError> {
+    let mut log = log_of(alloc, Vec::new(alloc))?;
+    let report = run(rt, alloc, texts, host, &mut log)?;
+    let nothing = report.history.events().is_empty() & report.reads.is_empty();
+    Ok(nothing & (report.status == status) & (report.line == line))
 }
