@@ -1,6 +1,5 @@
 -- What a node does once it is ready.
 use Rattle.std.proofs.Common.{◌≡◌, ℕ, inl, inr, Bool, true, false, ◌||◌, List, refl, ap, sym, ◌∙◌, subst, Option, None, Some, is_some}
-use Rattle.ff_frame.specs.declared.item.Lane.{Lane}
 use Rattle.ff_net.specs.declared.fault.Fault.{Fault}
 use Rattle.ff_net.specs.declared.node.Node.{Node}
 use Rattle.ff_net.specs.declared.wires.Wires.{Wires}
@@ -8,15 +7,16 @@ use Rattle.ff_net.specs.Pasts.{Past}
 use Rattle.ff_net.specs.Worlds.{Wire, Stand}
 use Rattle.ff_net.specs.Nodes.{IsSound, IsSame, NodeStands, in_wires_of, out_wires_of}
 use Rattle.ff_net.specs.Steps.{Course, Acts, IsDue, Turns, Prepares, Later, Stepped}
+use Rattle.ff_net.specs.Views.{View}
 use Rattle.ff_net.proofs.Moments.{fault_then, stepped_self, then_moves, course_trans}
 use Rattle.ff_net.proofs.Changes.{true_not_false, same_stands}
 use Rattle.ff_net.proofs.Rounds.{or_true, or_false}
 use Rattle.ff_net.proofs.Readying.{rests_same}
 
-module _ {M : Type 0} (in_lanes out_lanes : M → List Lane) (source : M → Option ℕ) (device : M → Option (List ℕ)) (failures : M → ℕ) (fault : M → Option Fault) (stands : M → Past → Type 0) where
+module _ {M : Type 0} (view : M → View) where
   -- a node with a fault isn't made ready
-  pub unready : (node : Node M) (wires : Wires) → (IsSound fault node → ⊥) → Stepped in_lanes out_lanes source device failures fault stands (Prepares source fault false true node node) node wires node wires
-  unready node wires faulty = stepped_self in_lanes out_lanes source device failures fault stands (Prepares source fault false true node node) node wires (λ w p. record {
+  pub unready : (node : Node M) (wires : Wires) → (IsSound view node → ⊥) → Stepped view (Prepares view false true node node) node wires node wires
+  unready node wires faulty = stepped_self view (Prepares view false true node node) node wires (λ w p. record {
     moves = λ e. absurd (true_not_false (sym e));
     taken = λ v. refl;
     allows_nothing = λ k d. refl;
@@ -25,10 +25,10 @@ module _ {M : Type 0} (in_lanes out_lanes : M → List Lane) (source : M → Opt
   })
 
   module _ (granted held : Bool) (K : Type 0) (before after last : Node M) (wires wires' : Wires)
-      (ready : Stepped in_lanes out_lanes source device failures fault stands (Prepares source fault granted held before after) before wires after wires)
-      (quiet : (a : ℕ → Wire) (p : Past) (b : ℕ → Wire) (q : Past) → Prepares source fault granted held before after a p b q → (k : ℕ) → IsDue fault before a p k → K) where
-    moved_on : (world : ℕ → Wire) (past : Past) → Stepped in_lanes out_lanes source device failures fault stands (Acts (true ≡ true) K) after wires last wires' → Stand wires world → NodeStands in_lanes source fault stands before world past
-        → Later in_lanes source fault stands (Turns source fault (granted || true) before last) (in_wires_of before) (out_wires_of before) last wires' world past
+      (ready : Stepped view (Prepares view granted held before after) before wires after wires)
+      (quiet : (a : ℕ → Wire) (p : Past) (b : ℕ → Wire) (q : Past) → Prepares view granted held before after a p b q → (k : ℕ) → IsDue view before a p k → K) where
+    moved_on : (world : ℕ → Wire) (past : Past) → Stepped view (Acts (true ≡ true) K) after wires last wires' → Stand wires world → NodeStands view before world past
+        → Later view (Turns view (granted || true) before last) (in_wires_of before) (out_wires_of before) last wires' world past
     moved_on world past act stand was =
         let x = ready.goes world past stand was in
         let y = act.goes x.now x.since x.stand x.fits in
@@ -46,30 +46,30 @@ module _ {M : Type 0} (in_lanes out_lanes : M → List Lane) (source : M → Opt
           };
         }
 
-    rested : (world : ℕ → Wire) (past : Past) → IsSame after last → wires' ≡ wires → Stand wires world → NodeStands in_lanes source fault stands before world past
-        → Later in_lanes source fault stands (Turns source fault (granted || false) before last) (in_wires_of before) (out_wires_of before) last wires' world past
+    rested : (world : ℕ → Wire) (past : Past) → IsSame after last → wires' ≡ wires → Stand wires world → NodeStands view before world past
+        → Later view (Turns view (granted || false) before last) (in_wires_of before) (out_wires_of before) last wires' world past
     rested world past same same_wires stand was =
         let x = ready.goes world past stand was in record {
           now = x.now;
           since = x.since;
           stand = subst (λ (w : Wires). Stand w x.now) (sym same_wires) x.stand;
-          fits = same_stands in_lanes source fault stands after last x.now x.since same x.fits;
+          fits = same_stands view after last x.now x.since same x.fits;
           course = x.course;
           so = record {
             moves = λ e. elim (or_true granted false e) [ inl g ↦ x.so.moves g | inr n ↦ absurd (true_not_false (sym n)) ];
             takes_nothing = λ k d w. x.so.taken w;
             allows_nothing = x.so.allows_nothing;
-            rests = λ n. rests_same in_lanes source fault stands after last x.now x.since same (x.so.rests ((or_false granted false n).0));
+            rests = λ n. rests_same view after last x.now x.since same (x.so.rests ((or_false granted false n).0));
           };
         }
 
-    pub turn_after : (moved : Bool) → Stepped in_lanes out_lanes source device failures fault stands (Acts (moved ≡ true) K) after wires last wires' → (moved ≡ false → IsSame after last × (wires' ≡ wires)) → Stepped in_lanes out_lanes source device failures fault stands (Turns source fault (granted || moved) before last) before wires last wires'
+    pub turn_after : (moved : Bool) → Stepped view (Acts (moved ≡ true) K) after wires last wires' → (moved ≡ false → IsSame after last × (wires' ≡ wires)) → Stepped view (Turns view (granted || moved) before last) before wires last wires'
     turn_after true act same = record {
       ins_same = act.ins_same ∙ ready.ins_same;
       outs_same = act.outs_same ∙ ready.outs_same;
       in_lanes_same = act.in_lanes_same ∙ ready.in_lanes_same;
       out_lanes_same = act.out_lanes_same ∙ ready.out_lanes_same;
-      fares = fault_then device failures fault _ _ _ ready.fares act.fares;
+      fares = fault_then _ _ _ ready.fares act.fares;
       lanes_same = act.lanes_same;
       goes = λ world past stand was. moved_on world past act stand was;
     }
@@ -78,7 +78,7 @@ module _ {M : Type 0} (in_lanes out_lanes : M → List Lane) (source : M → Opt
       outs_same = act.outs_same ∙ ready.outs_same;
       in_lanes_same = act.in_lanes_same ∙ ready.in_lanes_same;
       out_lanes_same = act.out_lanes_same ∙ ready.out_lanes_same;
-      fares = fault_then device failures fault _ _ _ ready.fares act.fares;
+      fares = fault_then _ _ _ ready.fares act.fares;
       lanes_same = act.lanes_same;
       goes = λ world past stand was. let s = same refl in rested world past s.0 s.1 stand was;
     }

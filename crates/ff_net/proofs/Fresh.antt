@@ -2,15 +2,14 @@
 use Rattle.std.proofs.Common.{◌≡◌, ℕ, zero, suc, ◌<◌, Bool, false, List, [], ◌∷◌, map, length, refl, ap, sym, ◌∙◌, subst, arith, inl, Option, None, Some}
 use Rattle.ff_frame.specs.Order.{below_self}
 use Rattle.ff_frame.specs.Ports.{nothing}
-use Rattle.ff_frame.specs.declared.item.Lane.{Lane}
-use Rattle.ff_net.specs.declared.fault.Fault.{Fault}
 use Rattle.ff_net.specs.declared.ports.InPort.{InPort}
 use Rattle.ff_net.specs.declared.ports.OutPort.{OutPort}
 use Rattle.ff_net.specs.declared.node.Node.{Node}
-use Rattle.ff_net.specs.Pasts.{Past, Task, start}
+use Rattle.ff_net.specs.Pasts.{Task, start}
 use Rattle.ff_net.specs.Ports.{in_at, out_at, in_wires, out_wires}
 use Rattle.ff_net.specs.Worlds.{fresh}
 use Rattle.ff_net.specs.Nodes.{InStands, OutStands, NodeStands, IsSound, MayClose, tickets}
+use Rattle.ff_net.specs.Views.{View}
 use Rattle.ff_net.proofs.Changes.{true_not_false}
 
 abbrev pub in_new : ℕ → InPort
@@ -53,15 +52,15 @@ no_tickets : (s : Option ℕ) → tickets s 0 ≡ []
 no_tickets None = refl
 no_tickets (Some s) = refl
 
-pub node_fresh : {M : Type 0} (in_lanes : M → List Lane) (source : M → Option ℕ) (fault : M → Option Fault) (stands : M → Past → Type 0) (node : Node M) (ins outs : List ℕ) (task : Task) → node.ins.items ≡ map in_new ins → node.outs.items ≡ map out_new outs → node.place ≡ 0 → stands node.machine (start task)
-    → NodeStands in_lanes source fault stands node (λ w. fresh) (start task)
-node_fresh in_lanes source fault stands node ins outs task i o z s = record {
+pub node_fresh : {M : Type 0} (view : M → View) (node : Node M) (ins outs : List ℕ) (task : Task) → node.ins.items ≡ map in_new ins → node.outs.items ≡ map out_new outs → node.place ≡ 0 → (view node.machine).stands (start task)
+    → NodeStands view node (λ w. fresh) (start task)
+node_fresh view node ins outs task i o z s = record {
   machine = s;
-  ins = λ p lt. in_stands (in_at node.ins.items p) node.refused (IsSound fault node) (MayClose in_lanes node (start task) p) (subst (λ (ports : List InPort). (in_at ports p).done ≡ false) (sym i) (in_fresh ins p (subst (λ (ports : List InPort). p < length ports) i lt)));
+  ins = λ p lt. in_stands (in_at node.ins.items p) node.refused (IsSound view node) (MayClose view node (start task) p) (subst (λ (ports : List InPort). (in_at ports p).done ≡ false) (sym i) (in_fresh ins p (subst (λ (ports : List InPort). p < length ports) i lt)));
   outs = λ p lt.
       let e = out_fresh outs p (subst (λ (ports : List OutPort). p < length ports) o lt) in
-      out_stands (out_at node.outs.items p) ⊥ (IsSound fault node) (subst (λ (ports : List OutPort). (out_at ports p).done ≡ false) (sym o) e.0) (subst (λ (ports : List OutPort). (out_at ports p).held ≡ None) (sym o) e.1);
+      out_stands (out_at node.outs.items p) ⊥ (IsSound view node) (subst (λ (ports : List OutPort). (out_at ports p).done ≡ false) (sym o) e.0) (subst (λ (ports : List OutPort). (out_at ports p).held ≡ None) (sym o) e.1);
   beyond = λ p le. refl;
   stopped = λ p n. absurd n;
-  allowed = sym (ap (λ (n : ℕ). tickets (source node.machine) n) z ∙ no_tickets (source node.machine));
+  allowed = sym (ap (λ (n : ℕ). tickets (view node.machine).source n) z ∙ no_tickets (view node.machine).source);
 }

@@ -1,24 +1,23 @@
 -- Where nothing moved.
 use Rattle.std.proofs.Common.{◌≡◌, ℕ, zero, suc, ◌<◌, ◌⊎◌, inl, inr, Bool, true, false, List, [], ◌∷◌, length, refl, ap, sym, ◌∙◌, subst, arith, Option, None, Some, is_some}
 use Rattle.ff_frame.specs.declared.item.Item.{Item}
-use Rattle.ff_frame.specs.declared.item.Lane.{Lane}
 use Rattle.ff_frame.specs.Stream.{LiesBelow}
 use Rattle.ff_frame.specs.Items.{with_item}
 use Rattle.ff_frame.specs.Order.{below_both, with_item_above}
-use Rattle.ff_frame.specs.Ports.{stream_at, AllBelow, IsClosed, IsMonotone}
-use Rattle.ff_net.specs.declared.fault.Fault.{Fault}
+use Rattle.ff_frame.specs.Ports.{stream_at, IsClosed}
 use Rattle.ff_net.specs.declared.node.Node.{Node}
 use Rattle.ff_net.specs.declared.ports.InPort.{InPort}
 use Rattle.ff_net.specs.declared.ports.OutPort.{OutPort}
 use Rattle.ff_net.specs.declared.wires.Wires.{Wires}
-use Rattle.ff_net.specs.Ways.{Flow, AreValid}
+use Rattle.ff_net.specs.Ways.{Flow}
 use Rattle.ff_net.specs.Pasts.{Past, due}
-use Rattle.ff_net.specs.Laws.{OutputsClose, NoMatter, Settles}
+use Rattle.ff_net.specs.Laws.{OutputsClose, NoMatter, Laws}
 use Rattle.ff_net.specs.Ports.{in_at, out_at, AreDone, SomeHeld, NoneHeld}
 use Rattle.ff_net.specs.Worlds.{Wire, IsFull, IsEmpty}
 use Rattle.ff_net.specs.Nodes.{HeldIs, IsSound, IsSame, IsDone, NodeStands}
 use Rattle.ff_net.specs.Steps.{IsDue, Rests}
 use Rattle.ff_net.specs.Turns.{Waits, with_fault, with_items, for_items, IsRefused, full, empty, no_place, IsIdle}
+use Rattle.ff_net.specs.Views.{View}
 use Rattle.ff_net.proofs.Flows.{due_meant}
 use Rattle.ff_net.proofs.Matters.{all_close}
 use Rattle.ff_net.proofs.Moments.{with_item_new}
@@ -54,20 +53,17 @@ some_item : (o : Option Item) → is_some o ≡ true → (x : Item) × (o ≡ So
 some_item None e = absurd (true_not_false (sym e))
 some_item (Some x) e = (x, refl)
 
-pub waits_same : {M : Type 0} (fault : M → Option Fault) (node node' : Node M) (wires : Wires) → IsSame node node' → Waits fault node wires → Waits fault node' wires
-waits_same fault node node' wires same (with_fault f h) = with_fault (λ ok. f (sym same.refused ∙ ok.0, ap fault (sym same.machine) ∙ ok.1)) (subst (λ (os : List OutPort). (q : ℕ) → q < length os → (out_at os q).done ≡ false → IsFull wires (out_at os q).wire) (sym same.outs) h)
-waits_same fault node node' wires same (with_items ok s h) = with_items (same.refused ∙ ok.0, ap fault same.machine ∙ ok.1) (subst (λ (os : List OutPort). SomeHeld os) (sym same.outs) s) (subst (λ (os : List OutPort). (q : ℕ) → q < length os → (out_at os q).done ≡ false → is_some (out_at os q).held ≡ true → IsFull wires (out_at os q).wire) (sym same.outs) h)
-waits_same fault node node' wires same (for_items ok n h) = for_items (same.refused ∙ ok.0, ap fault same.machine ∙ ok.1) (subst (λ (os : List OutPort). NoneHeld os) (sym same.outs) n) (subst (λ (os : List InPort). (q : ℕ) → q < length os → (in_at os q).done ≡ false → IsEmpty wires (in_at os q).wire) (sym same.ins) h)
+pub waits_same : {M : Type 0} (view : M → View) (node node' : Node M) (wires : Wires) → IsSame node node' → Waits view node wires → Waits view node' wires
+waits_same view node node' wires same (with_fault f h) = with_fault (λ ok. f (sym same.refused ∙ ok.0, ap (λ m. (view m).fault) (sym same.machine) ∙ ok.1)) (subst (λ (os : List OutPort). (q : ℕ) → q < length os → (out_at os q).done ≡ false → IsFull wires (out_at os q).wire) (sym same.outs) h)
+waits_same view node node' wires same (with_items ok s h) = with_items (same.refused ∙ ok.0, ap (λ m. (view m).fault) same.machine ∙ ok.1) (subst (λ (os : List OutPort). SomeHeld os) (sym same.outs) s) (subst (λ (os : List OutPort). (q : ℕ) → q < length os → (out_at os q).done ≡ false → is_some (out_at os q).held ≡ true → IsFull wires (out_at os q).wire) (sym same.outs) h)
+waits_same view node node' wires same (for_items ok n h) = for_items (same.refused ∙ ok.0, ap (λ m. (view m).fault) same.machine ∙ ok.1) (subst (λ (os : List OutPort). NoneHeld os) (sym same.outs) n) (subst (λ (os : List InPort). (q : ℕ) → q < length os → (in_at os q).done ≡ false → IsEmpty wires (in_at os q).wire) (sym same.ins) h)
 
-module _ {M : Type 0} (in_lanes out_lanes : M → List Lane) (source : M → Option ℕ) (fault : M → Option Fault) (stands : M → Past → Type 0)
-    (given : (m : M) (past : Past) → stands m past → AllBelow past.gave (due past)) (is_source : (m : M) (past : Past) → stands m past → past.task.source ≡ is_some (source m))
-    (valid : (m : M) (past : Past) → stands m past → AreValid (in_lanes m) past.got) (monotone : (m : M) (past : Past) → stands m past → IsMonotone (AreValid (in_lanes m)) past.task.means)
-    (settles : (m : M) (past : Past) → stands m past → source m ≡ None → Settles (in_lanes m) (length (out_lanes m)) past.task.means)
-    (node : Node M) (wires : Wires) (world : ℕ → Wire) (past : Past) (was : NodeStands in_lanes source fault stands node world past) (rests : Rests source fault node world past)
-    (ins_count : length node.ins.items ≡ length (in_lanes node.machine)) (outs_count : length node.outs.items ≡ length (out_lanes node.machine))
-    (faulty : (IsSound fault node → ⊥) → (p : ℕ) → p < length node.ins.items → (in_at node.ins.items p).done ≡ true) (not_done : IsDone node → ⊥) where
+module _ {M : Type 0} (view : M → View) (laws : (m : M) → Laws (view m))
+    (node : Node M) (wires : Wires) (world : ℕ → Wire) (past : Past) (was : NodeStands view node world past) (rests : Rests view node world past)
+    (ins_count : length node.ins.items ≡ length (view node.machine).in_lanes) (outs_count : length node.outs.items ≡ length (view node.machine).out_lanes)
+    (faulty : (IsSound view node → ⊥) → (p : ℕ) → p < length node.ins.items → (in_at node.ins.items p).done ≡ true) (not_done : IsDone node → ⊥) where
   -- an output that holds an item has one due
-  held_due : (q : ℕ) → q < length node.outs.items → (out_at node.outs.items q).done ≡ false → is_some (out_at node.outs.items q).held ≡ true → IsDue fault node world past q
+  held_due : (q : ℕ) → q < length node.outs.items → (out_at node.outs.items q).done ≡ false → is_some (out_at node.outs.items q).held ≡ true → IsDue view node world past q
   held_due q lt busy some = record {
     there = lt;
     goes_on = busy;
@@ -76,32 +72,32 @@ module _ {M : Type 0} (in_lanes out_lanes : M → List Lane) (source : M → Opt
         let sent : Flow = (world (out_at node.outs.items q).wire).sent in
         let x = some_item (out_at node.outs.items q).held some in
         let gave : with_item sent x.0 ≡ stream_at past.gave q = subst (λ (h : Option Item). HeldIs h sent (stream_at past.gave q)) x.1 (o.held busy) in
-        let below : LiesBelow (with_item sent x.0) sent = subst (λ (s : Flow). LiesBelow s sent) (sym gave) (subst (λ (s : Flow). LiesBelow (stream_at past.gave q) s) (sym e) (given node.machine past was.machine q)) in
+        let below : LiesBelow (with_item sent x.0) sent = subst (λ (s : Flow). LiesBelow s sent) (sym gave) (subst (λ (s : Flow). LiesBelow (stream_at past.gave q) s) (sym e) ((laws node.machine).given past was.machine q)) in
         with_item_new sent x.0 (o.unclosed busy) (below_both (with_item sent x.0) sent below (with_item_above sent x.0 (o.unclosed busy)));
   }
 
   -- a node that is no source, whose inputs are all finished and that holds nothing, has only outputs that are done
-  stuck : IsSound fault node → NoneHeld node.outs.items → ((p : ℕ) → p < length node.ins.items → (in_at node.ins.items p).done ≡ true) → source node.machine ≡ None → (q : ℕ) → q < length node.outs.items → (out_at node.outs.items q).done ≡ false → ⊥
-  stuck ok none ins no_source q lt busy = closes (all_close (in_lanes node.machine) past (length (out_lanes node.machine)) (valid node.machine past was.machine) (monotone node.machine past was.machine) (settles node.machine past was.machine no_source) (λ p plt. over p (subst (λ (n : ℕ). p < n) (sym ins_count) plt)))
+  stuck : IsSound view node → NoneHeld node.outs.items → ((p : ℕ) → p < length node.ins.items → (in_at node.ins.items p).done ≡ true) → (view node.machine).source ≡ None → (q : ℕ) → q < length node.outs.items → (out_at node.outs.items q).done ≡ false → ⊥
+  stuck ok none ins no_source q lt busy = closes (all_close (view node.machine).in_lanes past (length (view node.machine).out_lanes) ((laws node.machine).valid past was.machine) ((laws node.machine).monotone past was.machine) ((laws node.machine).settles past was.machine no_source) (λ p plt. over p (subst (λ (n : ℕ). p < n) (sym ins_count) plt)))
     where
-      closes : OutputsClose (length (out_lanes node.machine)) past → ⊥
+      closes : OutputsClose (length (view node.machine).out_lanes) past → ⊥
       closes c =
-          let meant : due past ≡ past.task.means past.got = due_meant past (is_source node.machine past was.machine ∙ ap (λ (o : Option ℕ). is_some o) no_source) in
+          let meant : due past ≡ past.task.means past.got = due_meant past ((laws node.machine).is_source past was.machine ∙ ap (λ (o : Option ℕ). is_some o) no_source) in
           let sent : (world (out_at node.outs.items q).wire).sent ≡ stream_at (past.task.means past.got) q = rests.none_due ok q lt busy (none q lt busy) ∙ ap (λ (ss : List Flow). stream_at ss q) meant in
-          c q (subst (λ (n : ℕ). q < n) outs_count lt) (busy_goes_on in_lanes source fault stands node world past q was busy) (ap (λ (s : Flow). s.mark) (sym sent) ∙ (was.outs q lt).unclosed busy)
+          c q (subst (λ (n : ℕ). q < n) outs_count lt) (busy_goes_on view node world past q was busy) (ap (λ (s : Flow). s.mark) (sym sent) ∙ (was.outs q lt).unclosed busy)
 
-      over : (p : ℕ) → p < length node.ins.items → IsClosed (stream_at past.got p) ⊎ NoMatter (in_lanes node.machine) (length (out_lanes node.machine)) past p
+      over : (p : ℕ) → p < length node.ins.items → IsClosed (stream_at past.got p) ⊎ NoMatter (view node.machine).in_lanes (length (view node.machine).out_lanes) past p
       over p plt =
           let i = was.ins p plt in
           elim (i.reason (ins p plt) ok) [
             | inl c ↦ inl (subst (λ (s : Flow). IsClosed s) (sym (i.exact ok.0)) c)
             | inr may ↦ elim (may.1) [
-              | inl h ↦ inr (subst (λ (n : ℕ). NoMatter (in_lanes node.machine) n past p) outs_count h)
+              | inl h ↦ inr (subst (λ (n : ℕ). NoMatter (view node.machine).in_lanes n past p) outs_count h)
               | inr d ↦ absurd (true_not_false (sym (d q lt) ∙ busy))
             ]
           ]
 
-  room : Waits fault node wires → (q : ℕ) → IsDue fault node world past q → IsFull wires (out_at node.outs.items q).wire
+  room : Waits view node wires → (q : ℕ) → IsDue view node world past q → IsFull wires (out_at node.outs.items q).wire
   room (with_fault f h) q d = h q d.there d.goes_on
   room (with_items ok s h) q d = pick (is_some (out_at node.outs.items q).held) refl
     where
@@ -110,12 +106,12 @@ module _ {M : Type 0} (in_lanes out_lanes : M → List Lane) (source : M → Opt
       pick false e = absurd (d.unsent ok (rests.none_due ok q d.there d.goes_on (none_held (out_at node.outs.items q).held e)))
   room (for_items ok n h) q d = absurd (d.unsent ok (rests.none_due ok q d.there d.goes_on (n q d.there d.goes_on)))
 
-  item : Waits fault node wires → ((q : ℕ) → IsDue fault node world past q → ⊥) → (p : ℕ) → p < length node.ins.items → (in_at node.ins.items p).done ≡ false → IsEmpty wires (in_at node.ins.items p).wire
+  item : Waits view node wires → ((q : ℕ) → IsDue view node world past q → ⊥) → (p : ℕ) → p < length node.ins.items → (in_at node.ins.items p).done ≡ false → IsEmpty wires (in_at node.ins.items p).wire
   item (with_fault f h) none p lt busy = absurd (true_not_false (sym (faulty f p lt) ∙ busy))
   item (with_items ok s h) none p lt busy = absurd (none s.place (held_due s.place s.there s.goes_on s.held))
   item (for_items ok n h) none p lt busy = h p lt busy
 
-  refusal : Waits fault node wires → IsRefused node wires
+  refusal : Waits view node wires → IsRefused node wires
   refusal (with_fault f h) = elim (find_busy node.outs.items) [
     | inl all ↦ absurd (not_done (record { ins = faulty f; outs = all }))
     | inr b ↦ full b.0 b.1 (h b.0 b.1 b.2)
@@ -129,5 +125,5 @@ module _ {M : Type 0} (in_lanes out_lanes : M → List Lane) (source : M → Opt
     | inr b ↦ empty b.0 b.1 (h b.0 b.1 b.2)
   ]
 
-  pub idle_of : Waits fault node wires → IsIdle fault node wires world past
+  pub idle_of : Waits view node wires → IsIdle view node wires world past
   idle_of w = record { no_room = room w; no_item = item w; refused = refusal w }

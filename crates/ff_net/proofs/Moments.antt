@@ -4,7 +4,6 @@ use Rattle.std.proofs.lemmas.Bool.Decides.{nat_tests}
 use mathlib.Core.List.{IsPrefix}
 use Rattle.ff_frame.specs.declared.item.Item.{Item}
 use Rattle.ff_frame.specs.declared.item.Item.TheVariants.{Audio, Video, Packet, Trailer, End, Broken}
-use Rattle.ff_frame.specs.declared.item.Lane.{Lane}
 use Rattle.ff_values.specs.declared.event.Ticket.{Ticket}
 use Rattle.ff_frame.specs.Stream.{still_open, whole, broken, LiesBelow}
 use Rattle.ff_frame.specs.Items.{with_item}
@@ -19,6 +18,7 @@ use Rattle.ff_net.specs.Pasts.{Past}
 use Rattle.ff_net.specs.Worlds.{Wire, with_wire}
 use Rattle.ff_net.specs.Nodes.{NodeStands, in_wires_of, out_wires_of}
 use Rattle.ff_net.specs.Steps.{Course, Moves, took, put, finished, granted, told, Stepped}
+use Rattle.ff_net.specs.Views.{View}
 use Rattle.ff_net.proofs.Flows.{same_or_not}
 
 pub with_wire_same : (world : ℕ → Wire) (w : ℕ) (wire : Wire) (v : ℕ) → v ≡ w → with_wire world w wire v ≡ wire
@@ -126,37 +126,36 @@ with_item_new s (Trailer x) o e = longer s.items (Trailer x) (ap (λ (t : Flow).
 with_item_new s End o e = let m : whole ≡ s.mark = ap (λ (t : Flow). t.mark) e in cc
 with_item_new s Broken o e = let m : broken ≡ s.mark = ap (λ (t : Flow). t.mark) e in cc
 
-module _ {M : Type 0} (device : M → Option (List ℕ)) (failures : M → ℕ) (fault : M → Option Fault) where
-  pub fault_self : (m : M) → FaultStep device failures fault m m
-  fault_self m = record { device_same = refl; later = omega arith; stays = λ c e. e; failed = λ n e. absurd (let no = sym n ∙ e in cc (no)); unfailed = λ n. refl; behind = λ c e. refl }
+pub fault_self : (v : View) → FaultStep v v
+fault_self v = record { device_same = refl; later = omega arith; stays = λ c e. e; failed = λ n e. absurd (let no = sym n ∙ e in cc (no)); unfailed = λ n. refl; behind = λ c e. refl }
 
-  pub fault_then : (a b c : M) → FaultStep device failures fault a b → FaultStep device failures fault b c → FaultStep device failures fault a c
-  fault_then a b c r s = record {
-    device_same = s.device_same ∙ r.device_same;
-    later = omega (arith, r.later, s.later);
-    stays = λ k e. s.stays k (r.stays k e);
-    failed = rose (fault b) refl;
-    unfailed = λ n. s.unfailed n ∙ r.unfailed (λ e. n (s.stays Device e));
-    behind = λ k e. s.behind k (r.stays k e) ∙ r.behind k e;
-  }
-    where
-      rose : (f : Option Fault) → fault b ≡ f → fault a ≡ None → fault c ≡ Some Device → Rose (failures a) (failures c)
-      rose None e n d = let up = s.failed e d in omega (arith, up, r.later)
-      rose (Some k) e n d =
-          let same : Some k ≡ Some Device = sym (s.stays k e) ∙ d in
-          let up = r.failed n (e ∙ same) in omega (arith, up, s.later)
+pub fault_then : (a b c : View) → FaultStep a b → FaultStep b c → FaultStep a c
+fault_then a b c r s = record {
+  device_same = s.device_same ∙ r.device_same;
+  later = omega (arith, r.later, s.later);
+  stays = λ k e. s.stays k (r.stays k e);
+  failed = rose b.fault refl;
+  unfailed = λ n. s.unfailed n ∙ r.unfailed (λ e. n (s.stays Device e));
+  behind = λ k e. s.behind k (r.stays k e) ∙ r.behind k e;
+}
+  where
+    rose : (f : Option Fault) → b.fault ≡ f → a.fault ≡ None → c.fault ≡ Some Device → Rose a.failures c.failures
+    rose None e n d = let up = s.failed e d in omega (arith, up, r.later)
+    rose (Some k) e n d =
+        let same : Some k ≡ Some Device = sym (s.stays k e) ∙ d in
+        let up = r.failed n (e ∙ same) in omega (arith, up, s.later)
 
-module _ {M : Type 0} (in_lanes out_lanes : M → List Lane) (source : M → Option ℕ) (device : M → Option (List ℕ)) (failures : M → ℕ) (fault : M → Option Fault) (stands : M → Past → Type 0) where
+module _ {M : Type 0} (view : M → View) where
   -- one step after the other
   pub stepped_then : (how how' how'' : (ℕ → Wire) → Past → (ℕ → Wire) → Past → Type 0) (node : Node M) (wires : Wires) (node' : Node M) (wires' : Wires) (node'' : Node M) (wires'' : Wires)
       → ((a : ℕ → Wire) (p : Past) (b : ℕ → Wire) (q : Past) (c : ℕ → Wire) (r : Past) → Course (in_wires_of node) (out_wires_of node) a b p q → Course (in_wires_of node) (out_wires_of node) b c q r → how a p b q → how' b q c r → how'' a p c r)
-      → Stepped in_lanes out_lanes source device failures fault stands how node wires node' wires' → Stepped in_lanes out_lanes source device failures fault stands how' node' wires' node'' wires'' → Stepped in_lanes out_lanes source device failures fault stands how'' node wires node'' wires''
+      → Stepped view how node wires node' wires' → Stepped view how' node' wires' node'' wires'' → Stepped view how'' node wires node'' wires''
   stepped_then how how' how'' node wires node' wires' node'' wires'' join a b = record {
     ins_same = b.ins_same ∙ a.ins_same;
     outs_same = b.outs_same ∙ a.outs_same;
     in_lanes_same = b.in_lanes_same ∙ a.in_lanes_same;
     out_lanes_same = b.out_lanes_same ∙ a.out_lanes_same;
-    fares = fault_then device failures fault _ _ _ a.fares b.fares;
+    fares = fault_then _ _ _ a.fares b.fares;
     lanes_same = b.lanes_same ∙ a.lanes_same;
     goes = λ world past stand was.
         let x = a.goes world past stand was in
@@ -173,7 +172,7 @@ module _ {M : Type 0} (in_lanes out_lanes : M → List Lane) (source : M → Opt
 
   -- what follows from how it steps
   pub stepped_as : (how how' : (ℕ → Wire) → Past → (ℕ → Wire) → Past → Type 0) (node : Node M) (wires : Wires) (node' : Node M) (wires' : Wires) → ((a : ℕ → Wire) (p : Past) (b : ℕ → Wire) (q : Past) → Course (in_wires_of node) (out_wires_of node) a b p q → how a p b q → how' a p b q)
-      → Stepped in_lanes out_lanes source device failures fault stands how node wires node' wires' → Stepped in_lanes out_lanes source device failures fault stands how' node wires node' wires'
+      → Stepped view how node wires node' wires' → Stepped view how' node wires node' wires'
   stepped_as how how' node wires node' wires' f s = record {
     ins_same = s.ins_same;
     outs_same = s.outs_same;
@@ -188,14 +187,14 @@ module _ {M : Type 0} (in_lanes out_lanes : M → List Lane) (source : M → Opt
 
   -- the same, where what holds between depends on what is behind the node there
   pub stepped_through : (how how' how'' : (ℕ → Wire) → Past → (ℕ → Wire) → Past → Type 0) (node : Node M) (wires : Wires) (node' : Node M) (wires' : Wires) (node'' : Node M) (wires'' : Wires)
-      → ((a : ℕ → Wire) (p : Past) (b : ℕ → Wire) (q : Past) (c : ℕ → Wire) (r : Past) → NodeStands in_lanes source fault stands node a p → NodeStands in_lanes source fault stands node' b q → Course (in_wires_of node) (out_wires_of node) a b p q → Course (in_wires_of node) (out_wires_of node) b c q r → how a p b q → how' b q c r → how'' a p c r)
-      → Stepped in_lanes out_lanes source device failures fault stands how node wires node' wires' → Stepped in_lanes out_lanes source device failures fault stands how' node' wires' node'' wires'' → Stepped in_lanes out_lanes source device failures fault stands how'' node wires node'' wires''
+      → ((a : ℕ → Wire) (p : Past) (b : ℕ → Wire) (q : Past) (c : ℕ → Wire) (r : Past) → NodeStands view node a p → NodeStands view node' b q → Course (in_wires_of node) (out_wires_of node) a b p q → Course (in_wires_of node) (out_wires_of node) b c q r → how a p b q → how' b q c r → how'' a p c r)
+      → Stepped view how node wires node' wires' → Stepped view how' node' wires' node'' wires'' → Stepped view how'' node wires node'' wires''
   stepped_through how how' how'' node wires node' wires' node'' wires'' join a b = record {
     ins_same = b.ins_same ∙ a.ins_same;
     outs_same = b.outs_same ∙ a.outs_same;
     in_lanes_same = b.in_lanes_same ∙ a.in_lanes_same;
     out_lanes_same = b.out_lanes_same ∙ a.out_lanes_same;
-    fares = fault_then device failures fault _ _ _ a.fares b.fares;
+    fares = fault_then _ _ _ a.fares b.fares;
     lanes_same = b.lanes_same ∙ a.lanes_same;
     goes = λ world past stand was.
         let x = a.goes world past stand was in
@@ -210,13 +209,13 @@ module _ {M : Type 0} (in_lanes out_lanes : M → List Lane) (source : M → Opt
         };
   }
 
-  pub stepped_self : (how : (ℕ → Wire) → Past → (ℕ → Wire) → Past → Type 0) (node : Node M) (wires : Wires) → ((w : ℕ → Wire) (p : Past) → how w p w p) → Stepped in_lanes out_lanes source device failures fault stands how node wires node wires
+  pub stepped_self : (how : (ℕ → Wire) → Past → (ℕ → Wire) → Past → Type 0) (node : Node M) (wires : Wires) → ((w : ℕ → Wire) (p : Past) → how w p w p) → Stepped view how node wires node wires
   stepped_self how node wires h = record {
     ins_same = refl;
     outs_same = refl;
     in_lanes_same = refl;
     out_lanes_same = refl;
-    fares = fault_self device failures fault node.machine;
+    fares = fault_self (view node.machine);
     lanes_same = refl;
     goes = λ world past stand was. record { now = world; since = past; stand = stand; fits = was; course = course_self (in_wires_of node) (out_wires_of node) world past; so = h world past };
   }

@@ -1,10 +1,9 @@
 -- One port changes, and the others stay.
-use Rattle.std.proofs.Common.{◌≡◌, ◌≢◌, ℕ, zero, suc, ◌<◌, ◌≤◌, inl, inr, Bool, true, false, List, [], ◌∷◌, map, length, slice_index_or, slice_set, refl, ap, sym, ◌∙◌, subst, arith, get_or-set_same, get_or-set_other, Option, Some}
+use Rattle.std.proofs.Common.{◌≡◌, ◌≢◌, ℕ, zero, suc, ◌<◌, ◌≤◌, inl, inr, Bool, true, false, List, [], ◌∷◌, map, length, slice_index_or, slice_set, refl, ap, sym, ◌∙◌, subst, arith, get_or-set_same, get_or-set_other, Some}
 use Rattle.std.proofs.lemmas.List.{length-set, length-map}
 use Rattle.ff_frame.specs.declared.item.Lane.{Lane}
 use Rattle.ff_frame.specs.Stream.{LiesBelow, opened}
 use Rattle.ff_frame.specs.Ports.{stream_at, IsClosed}
-use Rattle.ff_net.specs.declared.fault.Fault.{Fault}
 use Rattle.ff_net.specs.declared.ports.InPort.{InPort}
 use Rattle.ff_net.specs.declared.ports.OutPort.{OutPort}
 use Rattle.ff_net.specs.declared.node.Node.{Node}
@@ -13,6 +12,7 @@ use Rattle.ff_net.specs.Pasts.{Past, IsIn}
 use Rattle.ff_net.specs.Ports.{in_at, out_at, in_wires, out_wires}
 use Rattle.ff_net.specs.Worlds.{Wire}
 use Rattle.ff_net.specs.Nodes.{tickets, HeldIs, FedAllButOne, OutStands, InStands, IsSound, MayClose, NodeStands, HaveLanes}
+use Rattle.ff_net.specs.Views.{View}
 use Rattle.ff_net.proofs.Flows.{same_or_not, there_lane}
 
 pub in_wire_at : (ports : List InPort) (p : ℕ) → slice_index_or (in_wires ports) p 0 ≡ (in_at ports p).wire
@@ -131,20 +131,20 @@ out_keep port wire wire' gave stopped stopped' sound sound' same stays stops bac
   done = λ d. elim (o.done d) [ inl c ↦ inl (λ e. c (sym (ap (λ (s : Flow). s.mark) same) ∙ e)) | inr f ↦ inr (stays f.0, stops f.1) ];
 }
 
-module _ {M : Type 0} (in_lanes : M → List Lane) (source : M → Option ℕ) (fault : M → Option Fault) (stands : M → Past → Type 0) (node node' : Node M) (world world' : ℕ → Wire) (past past' : Past) (p : ℕ)
-    (was : NodeStands in_lanes source fault stands node world past) (now : stands node'.machine past') (back : IsSound fault node' → IsSound fault node) (may : (q : ℕ) → MayClose in_lanes node past q → MayClose in_lanes node' past' q)
-    (allowed : past'.allowed ≡ past.allowed) (same_place : node'.place ≡ node.place) (same_source : source node'.machine ≡ source node.machine) (fine : node'.refused ≡ false → node.refused ≡ false)
+module _ {M : Type 0} (view : M → View) (node node' : Node M) (world world' : ℕ → Wire) (past past' : Past) (p : ℕ)
+    (was : NodeStands view node world past) (now : (view node'.machine).stands past') (back : IsSound view node' → IsSound view node) (may : (q : ℕ) → MayClose view node past q → MayClose view node' past' q)
+    (allowed : past'.allowed ≡ past.allowed) (same_place : node'.place ≡ node.place) (same_source : (view node'.machine).source ≡ (view node.machine).source) (fine : node'.refused ≡ false → node.refused ≡ false)
     (stopped_grows : (q : ℕ) → IsIn q past.stopped → IsIn q past'.stopped) where
-  allowed_now : past'.allowed ≡ tickets (source node'.machine) node'.place
+  allowed_now : past'.allowed ≡ tickets (view node'.machine).source node'.place
   allowed_now = allowed ∙ (was.allowed ∙ cc (same_place, same_source))
 
   -- an output changes
   pub out_step : (port : OutPort) → node'.ins.items ≡ node.ins.items → node'.outs.items ≡ slice_set node.outs.items p port → p < length node.outs.items → past'.got ≡ past.got
       → ((v : ℕ) → (world' v).taken ≡ (world v).taken) → ((v : ℕ) → (world' v).finished ≡ (world v).finished) → ((q : ℕ) → q ≢ p → stream_at past'.gave q ≡ stream_at past.gave q)
       → ((q : ℕ) → q < length node.outs.items → q ≢ p → (world' (out_at node.outs.items q).wire).sent ≡ (world (out_at node.outs.items q).wire).sent)
-      → OutStands port (world' port.wire) (stream_at past'.gave p) (IsIn p past'.stopped) (IsSound fault node')
+      → OutStands port (world' port.wire) (stream_at past'.gave p) (IsIn p past'.stopped) (IsSound view node')
       → ((q : ℕ) → IsIn q past'.stopped → q ≢ p → IsIn q past.stopped) → (IsIn p past'.stopped → port.done ≡ true)
-      → NodeStands in_lanes source fault stands node' world' past'
+      → NodeStands view node' world' past'
   out_step port same_ins outs_set there got taken finished gave others here stopped_other stopped_here =
       let at : (q : ℕ) → out_at node'.outs.items q ≡ out_at (slice_set node.outs.items p port) q = λ q. ap (λ (os : List OutPort). out_at os q) outs_set in
       let at_p : out_at node'.outs.items p ≡ port = at p ∙ get_or-set_same node.outs.items p port _ there in
@@ -153,18 +153,18 @@ module _ {M : Type 0} (in_lanes : M → List Lane) (source : M → Option ℕ) (
         machine = now;
         ins = λ q lt.
             let i : InPort = in_at node.ins.items q in
-            subst (λ (is : List InPort). InStands (in_at is q) (world' (in_at is q).wire) (stream_at past'.got q) node'.refused (IsSound fault node') (MayClose in_lanes node' past' q)) (sym same_ins)
-            (subst (λ (ss : List Flow). InStands i (world' i.wire) (stream_at ss q) node'.refused (IsSound fault node') (MayClose in_lanes node' past' q)) (sym got)
-            (in_keep i (world i.wire) (world' i.wire) (stream_at past.got q) node.refused node'.refused (IsSound fault node) (IsSound fault node') (MayClose in_lanes node past q) (MayClose in_lanes node' past' q) (taken i.wire) (finished i.wire) fine back (may q) (was.ins q (subst (λ (is : List InPort). q < length is) same_ins lt))));
+            subst (λ (is : List InPort). InStands (in_at is q) (world' (in_at is q).wire) (stream_at past'.got q) node'.refused (IsSound view node') (MayClose view node' past' q)) (sym same_ins)
+            (subst (λ (ss : List Flow). InStands i (world' i.wire) (stream_at ss q) node'.refused (IsSound view node') (MayClose view node' past' q)) (sym got)
+            (in_keep i (world i.wire) (world' i.wire) (stream_at past.got q) node.refused node'.refused (IsSound view node) (IsSound view node') (MayClose view node past q) (MayClose view node' past' q) (taken i.wire) (finished i.wire) fine back (may q) (was.ins q (subst (λ (is : List InPort). q < length is) same_ins lt))));
         outs = λ q lt. elim (same_or_not q p) [
-          | inl e ↦ subst (λ (r : ℕ). OutStands (out_at node'.outs.items r) (world' (out_at node'.outs.items r).wire) (stream_at past'.gave r) (IsIn r past'.stopped) (IsSound fault node')) (sym e)
-              (subst (λ (o : OutPort). OutStands o (world' o.wire) (stream_at past'.gave p) (IsIn p past'.stopped) (IsSound fault node')) (sym at_p) here)
+          | inl e ↦ subst (λ (r : ℕ). OutStands (out_at node'.outs.items r) (world' (out_at node'.outs.items r).wire) (stream_at past'.gave r) (IsIn r past'.stopped) (IsSound view node')) (sym e)
+              (subst (λ (o : OutPort). OutStands o (world' o.wire) (stream_at past'.gave p) (IsIn p past'.stopped) (IsSound view node')) (sym at_p) here)
           | inr n ↦
               let o : OutPort = out_at node.outs.items q in
               let qlt : q < length node.outs.items = subst (λ (k : ℕ). q < k) len lt in
-              subst (λ (r : OutPort). OutStands r (world' r.wire) (stream_at past'.gave q) (IsIn q past'.stopped) (IsSound fault node')) (sym (at_q q n))
-              (subst (λ (s : Flow). OutStands o (world' o.wire) s (IsIn q past'.stopped) (IsSound fault node')) (sym (gave q n))
-              (out_keep o (world o.wire) (world' o.wire) (stream_at past.gave q) (IsIn q past.stopped) (IsIn q past'.stopped) (IsSound fault node) (IsSound fault node') (others q qlt n) (λ f. finished o.wire ∙ f) (stopped_grows q) back (was.outs q qlt)))
+              subst (λ (r : OutPort). OutStands r (world' r.wire) (stream_at past'.gave q) (IsIn q past'.stopped) (IsSound view node')) (sym (at_q q n))
+              (subst (λ (s : Flow). OutStands o (world' o.wire) s (IsIn q past'.stopped) (IsSound view node')) (sym (gave q n))
+              (out_keep o (world o.wire) (world' o.wire) (stream_at past.gave q) (IsIn q past.stopped) (IsIn q past'.stopped) (IsSound view node) (IsSound view node') (others q qlt n) (λ f. finished o.wire ∙ f) (stopped_grows q) back (was.outs q qlt)))
         ];
         beyond = λ q le. ap (λ (ss : List Flow). stream_at ss q) got ∙ was.beyond q (subst (λ (is : List InPort). length is ≤ q) same_ins le);
         stopped = λ q i. elim (same_or_not q p) [
@@ -178,8 +178,8 @@ module _ {M : Type 0} (in_lanes : M → List Lane) (source : M → Option ℕ) (
   pub in_step : (port : InPort) → node'.outs.items ≡ node.outs.items → node'.ins.items ≡ slice_set node.ins.items p port → p < length node.ins.items → past'.gave ≡ past.gave → past'.stopped ≡ past.stopped
       → ((q : ℕ) → q ≢ p → stream_at past'.got q ≡ stream_at past.got q) → ((v : ℕ) → (world' v).sent ≡ (world v).sent) → ((v : ℕ) → (world v).finished ≡ true → (world' v).finished ≡ true)
       → ((q : ℕ) → q < length node.ins.items → q ≢ p → ((world' (in_at node.ins.items q).wire).taken ≡ (world (in_at node.ins.items q).wire).taken) × ((world' (in_at node.ins.items q).wire).finished ≡ (world (in_at node.ins.items q).wire).finished))
-      → InStands port (world' port.wire) (stream_at past'.got p) node'.refused (IsSound fault node') (MayClose in_lanes node' past' p)
-      → NodeStands in_lanes source fault stands node' world' past'
+      → InStands port (world' port.wire) (stream_at past'.got p) node'.refused (IsSound view node') (MayClose view node' past' p)
+      → NodeStands view node' world' past'
   in_step port same_outs ins_set there gave stopped got sent finished others here =
       let at : (q : ℕ) → in_at node'.ins.items q ≡ in_at (slice_set node.ins.items p port) q = λ q. ap (λ (os : List InPort). in_at os q) ins_set in
       let at_p : in_at node'.ins.items p ≡ port = at p ∙ get_or-set_same node.ins.items p port _ there in
@@ -187,21 +187,21 @@ module _ {M : Type 0} (in_lanes : M → List Lane) (source : M → Option ℕ) (
       let len : length node'.ins.items ≡ length node.ins.items = ap length ins_set ∙ simp length-set in record {
         machine = now;
         ins = λ q lt. elim (same_or_not q p) [
-          | inl e ↦ subst (λ (r : ℕ). InStands (in_at node'.ins.items r) (world' (in_at node'.ins.items r).wire) (stream_at past'.got r) node'.refused (IsSound fault node') (MayClose in_lanes node' past' r)) (sym e)
-              (subst (λ (i : InPort). InStands i (world' i.wire) (stream_at past'.got p) node'.refused (IsSound fault node') (MayClose in_lanes node' past' p)) (sym at_p) here)
+          | inl e ↦ subst (λ (r : ℕ). InStands (in_at node'.ins.items r) (world' (in_at node'.ins.items r).wire) (stream_at past'.got r) node'.refused (IsSound view node') (MayClose view node' past' r)) (sym e)
+              (subst (λ (i : InPort). InStands i (world' i.wire) (stream_at past'.got p) node'.refused (IsSound view node') (MayClose view node' past' p)) (sym at_p) here)
           | inr n ↦
               let i : InPort = in_at node.ins.items q in
               let qlt : q < length node.ins.items = subst (λ (k : ℕ). q < k) len lt in
               let o = others q qlt n in
-              subst (λ (r : InPort). InStands r (world' r.wire) (stream_at past'.got q) node'.refused (IsSound fault node') (MayClose in_lanes node' past' q)) (sym (at_q q n))
-              (subst (λ (s : Flow). InStands i (world' i.wire) s node'.refused (IsSound fault node') (MayClose in_lanes node' past' q)) (sym (got q n))
-              (in_keep i (world i.wire) (world' i.wire) (stream_at past.got q) node.refused node'.refused (IsSound fault node) (IsSound fault node') (MayClose in_lanes node past q) (MayClose in_lanes node' past' q) o.0 o.1 fine back (may q) (was.ins q qlt)))
+              subst (λ (r : InPort). InStands r (world' r.wire) (stream_at past'.got q) node'.refused (IsSound view node') (MayClose view node' past' q)) (sym (at_q q n))
+              (subst (λ (s : Flow). InStands i (world' i.wire) s node'.refused (IsSound view node') (MayClose view node' past' q)) (sym (got q n))
+              (in_keep i (world i.wire) (world' i.wire) (stream_at past.got q) node.refused node'.refused (IsSound view node) (IsSound view node') (MayClose view node past q) (MayClose view node' past' q) o.0 o.1 fine back (may q) (was.ins q qlt)))
         ];
         outs = λ q lt.
             let o : OutPort = out_at node.outs.items q in
-            subst (λ (os : List OutPort). OutStands (out_at os q) (world' (out_at os q).wire) (stream_at past'.gave q) (IsIn q past'.stopped) (IsSound fault node')) (sym same_outs)
-            (subst (λ (ss : List Flow). OutStands o (world' o.wire) (stream_at ss q) (IsIn q past'.stopped) (IsSound fault node')) (sym gave)
-            (out_keep o (world o.wire) (world' o.wire) (stream_at past.gave q) (IsIn q past.stopped) (IsIn q past'.stopped) (IsSound fault node) (IsSound fault node') (sent o.wire) (finished o.wire) (stopped_grows q) back (was.outs q (subst (λ (os : List OutPort). q < length os) same_outs lt))));
+            subst (λ (os : List OutPort). OutStands (out_at os q) (world' (out_at os q).wire) (stream_at past'.gave q) (IsIn q past'.stopped) (IsSound view node')) (sym same_outs)
+            (subst (λ (ss : List Flow). OutStands o (world' o.wire) (stream_at ss q) (IsIn q past'.stopped) (IsSound view node')) (sym gave)
+            (out_keep o (world o.wire) (world' o.wire) (stream_at past.gave q) (IsIn q past.stopped) (IsIn q past'.stopped) (IsSound view node) (IsSound view node') (sent o.wire) (finished o.wire) (stopped_grows q) back (was.outs q (subst (λ (os : List OutPort). q < length os) same_outs lt))));
         beyond = λ q le. let le' : length node.ins.items ≤ q = subst (λ (n : ℕ). n ≤ q) len le in let other : q ≢ p = omega arith in got q other ∙ was.beyond q le';
         stopped = λ q i. ap (λ (os : List OutPort). (out_at os q).done) same_outs ∙ was.stopped q (subst (λ (qs : List ℕ). IsIn q qs) stopped i);
         allowed = allowed_now;

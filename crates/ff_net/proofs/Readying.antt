@@ -1,19 +1,18 @@
 -- What a node is ready for.
 use Rattle.std.proofs.Common.{◌≡◌, ℕ, ◌-◌, ◌^◌, ◌<◌, ◌≤◌, ◌⊎◌, inl, inr, Bool, true, false, List, length, refl, ap, sym, ◌∙◌, subst, Option, None, Some, is_some, IsSome, slice_index_or}
 use Rattle.ff_frame.specs.declared.item.Item.{Item}
-use Rattle.ff_frame.specs.declared.item.Lane.{Lane}
 use Rattle.ff_frame.specs.Order.{closed_below}
 use Rattle.ff_frame.specs.Ports.{stream_at}
-use Rattle.ff_net.specs.declared.fault.Fault.{Fault}
 use Rattle.ff_net.specs.declared.ports.OutPort.{OutPort}
 use Rattle.ff_net.specs.declared.node.Node.{Node}
 use Rattle.ff_net.specs.Ways.{Flow}
 use Rattle.ff_net.specs.Pasts.{Past, due}
-use Rattle.ff_net.specs.Laws.{IsPending, AllAsked}
+use Rattle.ff_net.specs.Laws.{IsPending, Laws}
 use Rattle.ff_net.specs.Ports.{out_at, out_wires, SomeHeld, NoneHeld}
 use Rattle.ff_net.specs.Worlds.{Wire}
 use Rattle.ff_net.specs.Nodes.{HeldIs, IsSound, IsSame, NodeStands, out_wires_of}
 use Rattle.ff_net.specs.Steps.{Readies, IsDue, Rests}
+use Rattle.ff_net.specs.Views.{View}
 use Rattle.ff_net.proofs.PortSteps.{out_wire_at}
 use Rattle.ff_net.proofs.Changes.{true_not_false, busy_goes_on}
 
@@ -26,10 +25,10 @@ some_not_none ports s n =
     let none : (out_at ports s.place).held ≡ None = n s.place s.there s.goes_on in
     true_not_false (sym s.held ∙ ap (λ (h : Option Item). is_some h) none)
 
-module _ {M : Type 0} (in_lanes : M → List Lane) (source : M → Option ℕ) (fault : M → Option Fault) (stands : M → Past → Type 0) where
+module _ {M : Type 0} (view : M → View) where
   -- after the outputs were filled, none is due before where none holds anything
-  pub none_before : (before filled : Node M) (held : Bool) (old new : ℕ → Wire) (past since : Past) → (IsSound fault filled → IsSound fault before) → length filled.outs.items ≡ length before.outs.items → out_wires_of filled ≡ out_wires_of before → ((q : ℕ) → (out_at filled.outs.items q).done ≡ (out_at before.outs.items q).done) → NoneHeld filled.outs.items
-      → Readies fault (λ q. q < length filled.outs.items) held filled old past new since → IsSound fault filled → (q : ℕ) → IsDue fault before old past q → ⊥
+  pub none_before : (before filled : Node M) (held : Bool) (old new : ℕ → Wire) (past since : Past) → (IsSound view filled → IsSound view before) → length filled.outs.items ≡ length before.outs.items → out_wires_of filled ≡ out_wires_of before → ((q : ℕ) → (out_at filled.outs.items q).done ≡ (out_at before.outs.items q).done) → NoneHeld filled.outs.items
+      → Readies view (λ q. q < length filled.outs.items) held filled old past new since → IsSound view filled → (q : ℕ) → IsDue view before old past q → ⊥
   none_before before filled held old new past since back count wires done none f ok q d =
       let lt : q < length filled.outs.items = subst (λ (n : ℕ). q < n) (sym count) d.there in
       let busy : (out_at filled.outs.items q).done ≡ false = done q ∙ d.goes_on in
@@ -37,7 +36,7 @@ module _ {M : Type 0} (in_lanes : M → List Lane) (source : M → Option ℕ) (
       d.unsent (back ok) (subst (λ (w : ℕ). (old w).sent ≡ stream_at (due past) q) (wire_kept before.outs.items filled.outs.items wires q) given)
 
   -- a pending output goes on
-  pub pending_busy : (node : Node M) (world : ℕ → Wire) (past : Past) (n q : ℕ) → NodeStands in_lanes source fault stands node world past → IsSound fault node → length node.outs.items ≡ n → IsPending n past q → (q < length node.outs.items) × ((out_at node.outs.items q).done ≡ false)
+  pub pending_busy : (node : Node M) (world : ℕ → Wire) (past : Past) (n q : ℕ) → NodeStands view node world past → IsSound view node → length node.outs.items ≡ n → IsPending n past q → (q < length node.outs.items) × ((out_at node.outs.items q).done ≡ false)
   pending_busy node world past n q was ok count p =
       let lt : q < length node.outs.items = subst (λ (k : ℕ). q < k) (sym count) p.there in
       (lt, pick (out_at node.outs.items q).done refl lt)
@@ -51,41 +50,41 @@ module _ {M : Type 0} (in_lanes : M → List Lane) (source : M → Option ℕ) (
             | inr t ↦ p.goes_on t.1
           ])
 
-  pub rests_same : (node node' : Node M) (world : ℕ → Wire) (past : Past) → IsSame node node' → Rests source fault node world past → Rests source fault node' world past
+  pub rests_same : (node node' : Node M) (world : ℕ → Wire) (past : Past) → IsSame node node' → Rests view node world past → Rests view node' world past
   rests_same node node' world past same r =
-      let back : IsSound fault node' → IsSound fault node = λ s. (sym same.refused ∙ s.0, ap fault (sym same.machine) ∙ s.1) in record {
+      let back : IsSound view node' → IsSound view node = λ s. (sym same.refused ∙ s.0, ap (λ m. (view m).fault) (sym same.machine) ∙ s.1) in record {
         none_due = λ s. subst (λ (os : List OutPort). (q : ℕ) → q < length os → (out_at os q).done ≡ false → (out_at os q).held ≡ None → (world (out_at os q).wire).sent ≡ stream_at (due past) q) (sym same.outs) (r.none_due (back s));
         ungranted = λ s n q lt busy.
             let u = r.ungranted (back s) (subst (λ (os : List OutPort). NoneHeld os) same.outs n) q (subst (λ (os : List OutPort). q < length os) same.outs lt) (subst (λ (os : List OutPort). (out_at os q).done ≡ false) same.outs busy) in
-            elim u [ inl a ↦ inl (ap source same.machine ∙ a) | inr b ↦ inr (subst (λ (k : ℕ). 2 ^ 64 - 1 ≤ k) (sym same.place) b) ];
+            elim u [ inl a ↦ inl (ap (λ m. (view m).source) same.machine ∙ a) | inr b ↦ inr (subst (λ (k : ℕ). 2 ^ 64 - 1 ≤ k) (sym same.place) b) ];
       }
 
-  module _ (out_lanes : M → List Lane) (holds : M → Type 0) (used : (m : M) (past : Past) (q : ℕ) → stands m past → IsSome (source m) → fault m ≡ None → IsPending (length (out_lanes m)) past q → AllAsked (length (out_lanes m)) past → holds m → ⊥) where
-    no_ticket : (node : Node M) (world : ℕ → Wire) (past : Past) (old : ℕ → Wire) (before : Past) → NodeStands in_lanes source fault stands node world past → IsSound fault node → length node.outs.items ≡ length (out_lanes node.machine) → NoneHeld node.outs.items → Readies fault (λ q. q < length node.outs.items) false node old before world past
-        → (q : ℕ) → q < length node.outs.items → (out_at node.outs.items q).done ≡ false → IsSome (source node.machine) → holds node.machine → ⊥
+  module _ (laws : (m : M) → Laws (view m)) where
+    no_ticket : (node : Node M) (world : ℕ → Wire) (past : Past) (old : ℕ → Wire) (before : Past) → NodeStands view node world past → IsSound view node → length node.outs.items ≡ length (view node.machine).out_lanes → NoneHeld node.outs.items → Readies view (λ q. q < length node.outs.items) false node old before world past
+        → (q : ℕ) → q < length node.outs.items → (out_at node.outs.items q).done ≡ false → IsSome (view node.machine).source → (view node.machine).holds → ⊥
     no_ticket node world past old before was ok count none f q lt busy is held =
         let o = was.outs q lt in
         let same : (world (out_at node.outs.items q).wire).sent ≡ stream_at past.gave q = subst (λ (h : Option Item). HeldIs h (world (out_at node.outs.items q).wire).sent (stream_at past.gave q)) (none q lt busy) (o.held busy) in
-        used node.machine past q was.machine is ok.1
+        (laws node.machine).ticket_used past q was.machine is ok.1
         (record {
           there = subst (λ (n : ℕ). q < n) count lt;
-          goes_on = busy_goes_on in_lanes source fault stands node world past q was busy;
+          goes_on = busy_goes_on view node world past q was busy;
           unclosed = ap (λ (s : Flow). s.mark) (sym same) ∙ o.unclosed busy;
         })
-        (λ k pending. let b = pending_busy node world past (length (out_lanes node.machine)) k was ok count pending in f.asked ok refl k b.0 b.1) held
+        (λ k pending. let b = pending_busy node world past (length (view node.machine).out_lanes) k was ok count pending in f.asked ok refl k b.0 b.1) held
 
     some_source : (o : Option ℕ) → (o ≡ None) ⊎ IsSome o
     some_source None = inl refl
     some_source (Some s) = inr refl
 
-    pub ungranted : (node : Node M) (world : ℕ → Wire) (past : Past) (old : ℕ → Wire) (before : Past) (held : Bool) → (held ≡ true → SomeHeld node.outs.items) → NodeStands in_lanes source fault stands node world past → IsSound fault node → length node.outs.items ≡ length (out_lanes node.machine) → NoneHeld node.outs.items → Readies fault (λ q. q < length node.outs.items) held node old before world past
-        → (source node.machine ≡ None) ⊎ holds node.machine ⊎ (2 ^ 64 - 1 ≤ node.place) → (q : ℕ) → q < length node.outs.items → (out_at node.outs.items q).done ≡ false → (source node.machine ≡ None) ⊎ (2 ^ 64 - 1 ≤ node.place)
+    pub ungranted : (node : Node M) (world : ℕ → Wire) (past : Past) (old : ℕ → Wire) (before : Past) (held : Bool) → (held ≡ true → SomeHeld node.outs.items) → NodeStands view node world past → IsSound view node → length node.outs.items ≡ length (view node.machine).out_lanes → NoneHeld node.outs.items → Readies view (λ q. q < length node.outs.items) held node old before world past
+        → ((view node.machine).source ≡ None) ⊎ (view node.machine).holds ⊎ (2 ^ 64 - 1 ≤ node.place) → (q : ℕ) → q < length node.outs.items → (out_at node.outs.items q).done ≡ false → ((view node.machine).source ≡ None) ⊎ (2 ^ 64 - 1 ≤ node.place)
     ungranted node world past old before true some was ok count none f back q lt busy = absurd (some_not_none node.outs.items (some refl) none)
     ungranted node world past old before false some was ok count none f back q lt busy =
         elim back [
           | inl a ↦ inl a
           | inr rest ↦ elim rest [
-            | inl h ↦ elim (some_source (source node.machine)) [
+            | inl h ↦ elim (some_source (view node.machine).source) [
               | inl a ↦ inl a
               | inr is ↦ absurd (no_ticket node world past old before was ok count none f q lt busy is h)
             ]

@@ -1,8 +1,7 @@
 -- Steps at one port after another.
-use Rattle.std.proofs.Common.{◌≡◌, ◌≢◌, ℕ, ◌+◌, ◌<◌, ◌⊎◌, inl, inr, Bool, true, false, ◌||◌, List, length, refl, ap, sym, ◌∙◌, subst, arith, Option}
+use Rattle.std.proofs.Common.{◌≡◌, ◌≢◌, ℕ, ◌+◌, ◌<◌, ◌⊎◌, inl, inr, Bool, true, false, ◌||◌, List, length, refl, ap, sym, ◌∙◌, subst, arith}
 use Rattle.ff_frame.specs.declared.item.Lane.{Lane}
 use Rattle.ff_frame.specs.Ports.{stream_at}
-use Rattle.ff_net.specs.declared.fault.Fault.{Fault}
 use Rattle.ff_net.specs.declared.ports.OutPort.{OutPort}
 use Rattle.ff_net.specs.declared.node.Node.{Node}
 use Rattle.ff_net.specs.declared.wires.Wires.{Wires}
@@ -12,6 +11,7 @@ use Rattle.ff_net.specs.Ports.{out_at}
 use Rattle.ff_net.specs.Worlds.{Wire, lanes_of}
 use Rattle.ff_net.specs.Nodes.{IsSound, IsSame, IsShaped, HaveLanes, in_wires_of, out_wires_of}
 use Rattle.ff_net.specs.Steps.{Course, Acts, Readies, Stepped}
+use Rattle.ff_net.specs.Views.{View}
 use Rattle.ff_net.proofs.Flows.{same_or_not, due_same}
 use Rattle.ff_net.proofs.Moments.{moves_then, then_moves}
 use Rattle.ff_net.proofs.PortSteps.{in_count, out_count}
@@ -39,18 +39,18 @@ same_self node = record { machine = refl; ins = refl; outs = refl; refused = ref
 pub same_trans : {M : Type 0} (a b c : Node M) → IsSame a b → IsSame b c → IsSame a c
 same_trans a b c x y = record { machine = y.machine ∙ x.machine; ins = y.ins ∙ x.ins; outs = y.outs ∙ x.outs; refused = y.refused ∙ x.refused; place = y.place ∙ x.place }
 
-module _ {M : Type 0} (in_lanes out_lanes : M → List Lane) (source : M → Option ℕ) (device : M → Option (List ℕ)) (failures : M → ℕ) (fault : M → Option Fault) (stands : M → Past → Type 0) where
+module _ {M : Type 0} (view : M → View) where
   -- a node keeps its shape
-  pub shaped_later : (how : (ℕ → Wire) → Past → (ℕ → Wire) → Past → Type 0) (node : Node M) (wires : Wires) (node' : Node M) (wires' : Wires) → Stepped in_lanes out_lanes source device failures fault stands how node wires node' wires' → IsShaped in_lanes out_lanes node wires → IsShaped in_lanes out_lanes node' wires'
+  pub shaped_later : (how : (ℕ → Wire) → Past → (ℕ → Wire) → Past → Type 0) (node : Node M) (wires : Wires) (node' : Node M) (wires' : Wires) → Stepped view how node wires node' wires' → IsShaped view node wires → IsShaped view node' wires'
   shaped_later how node wires node' wires' s h = record {
-    ins = subst (λ (ws : List ℕ). HaveLanes ws (in_lanes node'.machine) (lanes_of wires')) (sym s.ins_same) (subst (λ (ls : List Lane). HaveLanes (in_wires_of node) ls (lanes_of wires')) (sym s.in_lanes_same) (subst (λ (ls : List Lane). HaveLanes (in_wires_of node) (in_lanes node.machine) ls) (sym s.lanes_same) h.ins));
-    outs = subst (λ (ws : List ℕ). HaveLanes ws (out_lanes node'.machine) (lanes_of wires')) (sym s.outs_same) (subst (λ (ls : List Lane). HaveLanes (out_wires_of node) ls (lanes_of wires')) (sym s.out_lanes_same) (subst (λ (ls : List Lane). HaveLanes (out_wires_of node) (out_lanes node.machine) ls) (sym s.lanes_same) h.outs));
+    ins = subst (λ (ws : List ℕ). HaveLanes ws (view node'.machine).in_lanes (lanes_of wires')) (sym s.ins_same) (subst (λ (ls : List Lane). HaveLanes (in_wires_of node) ls (lanes_of wires')) (sym s.in_lanes_same) (subst (λ (ls : List Lane). HaveLanes (in_wires_of node) (view node.machine).in_lanes ls) (sym s.lanes_same) h.ins));
+    outs = subst (λ (ws : List ℕ). HaveLanes ws (view node'.machine).out_lanes (lanes_of wires')) (sym s.outs_same) (subst (λ (ls : List Lane). HaveLanes (out_wires_of node) ls (lanes_of wires')) (sym s.out_lanes_same) (subst (λ (ls : List Lane). HaveLanes (out_wires_of node) (view node.machine).out_lanes ls) (sym s.lanes_same) h.outs));
   }
 
-  pub outs_kept : (how : (ℕ → Wire) → Past → (ℕ → Wire) → Past → Type 0) (node : Node M) (wires : Wires) (node' : Node M) (wires' : Wires) → Stepped in_lanes out_lanes source device failures fault stands how node wires node' wires' → length node'.outs.items ≡ length node.outs.items
+  pub outs_kept : (how : (ℕ → Wire) → Past → (ℕ → Wire) → Past → Type 0) (node : Node M) (wires : Wires) (node' : Node M) (wires' : Wires) → Stepped view how node wires node' wires' → length node'.outs.items ≡ length node.outs.items
   outs_kept how node wires node' wires' s = sym (out_count node'.outs.items) ∙ (ap length s.outs_same ∙ out_count node.outs.items)
 
-  pub ins_kept : (how : (ℕ → Wire) → Past → (ℕ → Wire) → Past → Type 0) (node : Node M) (wires : Wires) (node' : Node M) (wires' : Wires) → Stepped in_lanes out_lanes source device failures fault stands how node wires node' wires' → length node'.ins.items ≡ length node.ins.items
+  pub ins_kept : (how : (ℕ → Wire) → Past → (ℕ → Wire) → Past → Type 0) (node : Node M) (wires : Wires) (node' : Node M) (wires' : Wires) → Stepped view how node wires node' wires' → length node'.ins.items ≡ length node.ins.items
   ins_kept how node wires node' wires' s = sym (in_count node'.ins.items) ∙ (ap length s.ins_same ∙ in_count node.ins.items)
 
 -- each of a row of outputs waits, and the next
@@ -62,9 +62,9 @@ full_more P n below here q lt =
     ]
 
 -- filled up to an output, and at it
-pub readies_join : {M : Type 0} (fault : M → Option Fault) (n : ℕ) (due' held : Bool) (node node' : Node M) (a b c : ℕ → Wire) (p q r : Past) → (IsSound fault node' → IsSound fault node) → ((k : ℕ) → k ≢ n → out_at node'.outs.items k ≡ out_at node.outs.items k) → q.task ≡ p.task
-    → Readies fault (λ k. k < n) due' node a p b q → Readies fault (λ k. k ≡ n) held node' b q c r → Readies fault (λ k. k < n + 1) (due' || held) node' a p c r
-readies_join fault n due' held node node' a b c p q r back others task f s = record {
+pub readies_join : {M : Type 0} (view : M → View) (n : ℕ) (due' held : Bool) (node node' : Node M) (a b c : ℕ → Wire) (p q r : Past) → (IsSound view node' → IsSound view node) → ((k : ℕ) → k ≢ n → out_at node'.outs.items k ≡ out_at node.outs.items k) → q.task ≡ p.task
+    → Readies view (λ k. k < n) due' node a p b q → Readies view (λ k. k ≡ n) held node' b q c r → Readies view (λ k. k < n + 1) (due' || held) node' a p c r
+readies_join view n due' held node node' a b c p q r back others task f s = record {
   sent = λ w. s.sent w ∙ f.sent w;
   taken = λ w. s.taken w ∙ f.taken w;
   finished = λ w. s.finished w ∙ f.finished w;

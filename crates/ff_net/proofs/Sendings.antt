@@ -5,7 +5,6 @@ use Rattle.ff_frame.specs.declared.item.Item.TheVariants.{Broken}
 use Rattle.ff_frame.specs.declared.item.Lane.{Lane}
 use Rattle.ff_frame.specs.Items.{with_item}
 use Rattle.ff_frame.specs.Ports.{stream_at, AllBelow}
-use Rattle.ff_net.specs.declared.fault.Fault.{Fault}
 use Rattle.ff_net.specs.declared.node.Node.{Node}
 use Rattle.ff_net.specs.declared.wires.Wires.{Wires}
 use Rattle.ff_net.specs.Ways.{Flow, lane_at, IsValidOn, AreValid}
@@ -13,12 +12,13 @@ use Rattle.ff_net.specs.Pasts.{Past, due, fed}
 use Rattle.ff_net.specs.Ports.{in_at, out_at}
 use Rattle.ff_net.specs.Worlds.{Wire, Stand, lanes_of, take_on}
 use Rattle.ff_net.specs.Nodes.{HeldIs, NodeStands, HaveLanes, in_wires_of, out_wires_of}
+use Rattle.ff_net.specs.Views.{View}
 use Rattle.ff_net.proofs.Flows.{valid_on_below, broken_valid_on, given_below, fed_valid}
 use Rattle.ff_net.proofs.PortSteps.{out_lane, in_lane, out_wire_there}
 use Rattle.ff_net.proofs.Moments.{with_wire_same}
 
-module _ {M : Type 0} (in_lanes : M → List Lane) (source : M → Option ℕ) (fault : M → Option Fault) (stands : M → Past → Type 0) (node : Node M) (wires : Wires) (world : ℕ → Wire) (past : Past) (p : ℕ) (ins outs : List Lane)
-    (stand : Stand wires world) (was : NodeStands in_lanes source fault stands node world past) (valid : AreValid ins past.got) (keeps : (ss : List Flow) → AreValid ins ss → AreValid outs (past.task.means ss)) where
+module _ {M : Type 0} (view : M → View) (node : Node M) (wires : Wires) (world : ℕ → Wire) (past : Past) (p : ℕ) (ins outs : List Lane)
+    (stand : Stand wires world) (was : NodeStands view node world past) (valid : AreValid ins past.got) (keeps : (ss : List Flow) → AreValid ins ss → AreValid outs (past.task.means ss)) where
   pub sent_valid : (x : Item) → AllBelow past.gave (due past) → HaveLanes (out_wires_of node) outs (lanes_of wires) → p < length node.outs.items → (out_at node.outs.items p).done ≡ false → (out_at node.outs.items p).held ≡ Some x
       → IsValidOn (lane_at (lanes_of wires) (out_at node.outs.items p).wire) (with_item (world (out_at node.outs.items p).wire).sent x)
   sent_valid x given shaped there busy held =

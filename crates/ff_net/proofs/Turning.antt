@@ -1,7 +1,5 @@
 -- A turn from its parts.
-use Rattle.std.proofs.Common.{◌≡◌, ℕ, inl, inr, Bool, true, false, ◌||◌, List, refl, sym, ◌∙◌, subst, Option}
-use Rattle.ff_frame.specs.declared.item.Lane.{Lane}
-use Rattle.ff_net.specs.declared.fault.Fault.{Fault}
+use Rattle.std.proofs.Common.{◌≡◌, ℕ, inl, inr, Bool, true, false, ◌||◌, List, refl, sym, ◌∙◌, subst}
 use Rattle.ff_net.specs.declared.node.Node.{Node}
 use Rattle.ff_net.specs.declared.node.Turn.{Turn}
 use Rattle.ff_net.specs.declared.node.Turn.TheVariants.{Moved, NotYet}
@@ -11,16 +9,17 @@ use Rattle.ff_net.specs.Worlds.{Wire, Stand}
 use Rattle.ff_net.specs.Nodes.{IsSame, NodeStands, in_wires_of, out_wires_of}
 use Rattle.ff_net.specs.Steps.{Course, Acts, Rests, Turns, Later, Stepped}
 use Rattle.ff_net.specs.Turns.{IsIdle, Answers}
+use Rattle.ff_net.specs.Views.{View}
 use Rattle.ff_net.proofs.Moments.{fault_then, then_moves, course_trans}
 use Rattle.ff_net.proofs.Changes.{true_not_false, same_stands}
 use Rattle.ff_net.proofs.Rounds.{or_true, or_false}
 use Rattle.ff_net.proofs.Readying.{rests_same}
 
-module _ {M : Type 0} (in_lanes out_lanes : M → List Lane) (source : M → Option ℕ) (device : M → Option (List ℕ)) (failures : M → ℕ) (fault : M → Option Fault) (stands : M → Past → Type 0) (acted : Bool) (turn : Turn) (before mid last : Node M) (wires wires' wires'' : Wires)
-    (act : Stepped in_lanes out_lanes source device failures fault stands (Turns source fault acted before mid) before wires mid wires') where
+module _ {M : Type 0} (view : M → View) (acted : Bool) (turn : Turn) (before mid last : Node M) (wires wires' wires'' : Wires)
+    (act : Stepped view (Turns view acted before mid) before wires mid wires') where
   module _ (moved : turn ≡ Moved → (acted || true) ≡ true) (not_yet : turn ≡ NotYet → (acted || true) ≡ false) where
-    closing : Stepped in_lanes out_lanes source device failures fault stands (Acts (true ≡ true) (Unit {0})) mid wires' last wires'' → (world : ℕ → Wire) (past : Past) → Stand wires world → NodeStands in_lanes source fault stands before world past
-        → Later in_lanes source fault stands (Answers fault turn before last wires'') (in_wires_of before) (out_wires_of before) last wires'' world past
+    closing : Stepped view (Acts (true ≡ true) (Unit {0})) mid wires' last wires'' → (world : ℕ → Wire) (past : Past) → Stand wires world → NodeStands view before world past
+        → Later view (Answers view turn before last wires'') (in_wires_of before) (out_wires_of before) last wires'' world past
     closing close world past stand was =
         let x = act.goes world past stand was in
         let y = close.goes x.now x.since x.stand x.fits in
@@ -38,12 +37,12 @@ module _ {M : Type 0} (in_lanes out_lanes : M → List Lane) (source : M → Opt
           };
         }
 
-  module _ (moved : turn ≡ Moved → (acted || false) ≡ true) (idle : turn ≡ NotYet → (world : ℕ → Wire) (past : Past) → NodeStands in_lanes source fault stands last world past → (acted ≡ false → Rests source fault last world past) → IsIdle fault last wires'' world past) where
-    resting : IsSame mid last → wires'' ≡ wires' → (world : ℕ → Wire) (past : Past) → Stand wires world → NodeStands in_lanes source fault stands before world past
-        → Later in_lanes source fault stands (Answers fault turn before last wires'') (in_wires_of before) (out_wires_of before) last wires'' world past
+  module _ (moved : turn ≡ Moved → (acted || false) ≡ true) (idle : turn ≡ NotYet → (world : ℕ → Wire) (past : Past) → NodeStands view last world past → (acted ≡ false → Rests view last world past) → IsIdle view last wires'' world past) where
+    resting : IsSame mid last → wires'' ≡ wires' → (world : ℕ → Wire) (past : Past) → Stand wires world → NodeStands view before world past
+        → Later view (Answers view turn before last wires'') (in_wires_of before) (out_wires_of before) last wires'' world past
     resting same same_wires world past stand was =
         let x = act.goes world past stand was in
-        let fits = same_stands in_lanes source fault stands mid last x.now x.since same x.fits in record {
+        let fits = same_stands view mid last x.now x.since same x.fits in record {
           now = x.now;
           since = x.since;
           stand = subst (λ (w : Wires). Stand w x.now) (sym same_wires) x.stand;
@@ -51,21 +50,21 @@ module _ {M : Type 0} (in_lanes out_lanes : M → List Lane) (source : M → Opt
           course = x.course;
           so = record {
             moved = λ e. elim (or_true acted false (moved e)) [ inl t ↦ x.so.moves t | inr n ↦ absurd (true_not_false (sym n)) ];
-            not_yet = λ e. idle e x.now x.since fits (λ n. rests_same in_lanes source fault stands mid last x.now x.since same (x.so.rests n));
+            not_yet = λ e. idle e x.now x.since fits (λ n. rests_same view mid last x.now x.since same (x.so.rests n));
             takes_nothing = x.so.takes_nothing;
             allows_nothing = x.so.allows_nothing;
           };
         }
 
-  pub turn_answers : (closed : Bool) → (turn ≡ Moved → (acted || closed) ≡ true) → (turn ≡ NotYet → (acted || closed) ≡ false) → Stepped in_lanes out_lanes source device failures fault stands (Acts (closed ≡ true) (Unit {0})) mid wires' last wires'' → (closed ≡ false → IsSame mid last × (wires'' ≡ wires'))
-      → (closed ≡ false → turn ≡ NotYet → (world : ℕ → Wire) (past : Past) → NodeStands in_lanes source fault stands last world past → (acted ≡ false → Rests source fault last world past) → IsIdle fault last wires'' world past)
-      → Stepped in_lanes out_lanes source device failures fault stands (Answers fault turn before last wires'') before wires last wires''
+  pub turn_answers : (closed : Bool) → (turn ≡ Moved → (acted || closed) ≡ true) → (turn ≡ NotYet → (acted || closed) ≡ false) → Stepped view (Acts (closed ≡ true) (Unit {0})) mid wires' last wires'' → (closed ≡ false → IsSame mid last × (wires'' ≡ wires'))
+      → (closed ≡ false → turn ≡ NotYet → (world : ℕ → Wire) (past : Past) → NodeStands view last world past → (acted ≡ false → Rests view last world past) → IsIdle view last wires'' world past)
+      → Stepped view (Answers view turn before last wires'') before wires last wires''
   turn_answers true moved not_yet close same idle = record {
     ins_same = close.ins_same ∙ act.ins_same;
     outs_same = close.outs_same ∙ act.outs_same;
     in_lanes_same = close.in_lanes_same ∙ act.in_lanes_same;
     out_lanes_same = close.out_lanes_same ∙ act.out_lanes_same;
-    fares = fault_then device failures fault _ _ _ act.fares close.fares;
+    fares = fault_then _ _ _ act.fares close.fares;
     lanes_same = close.lanes_same ∙ act.lanes_same;
     goes = λ world past stand was. closing moved not_yet close world past stand was;
   }
@@ -74,7 +73,7 @@ module _ {M : Type 0} (in_lanes out_lanes : M → List Lane) (source : M → Opt
     outs_same = close.outs_same ∙ act.outs_same;
     in_lanes_same = close.in_lanes_same ∙ act.in_lanes_same;
     out_lanes_same = close.out_lanes_same ∙ act.out_lanes_same;
-    fares = fault_then device failures fault _ _ _ act.fares close.fares;
+    fares = fault_then _ _ _ act.fares close.fares;
     lanes_same = close.lanes_same ∙ act.lanes_same;
     goes = λ world past stand was. let s = same refl in resting moved (idle refl) s.0 s.1 world past stand was;
   }

@@ -3,20 +3,22 @@ use Rattle.std.proofs.Common.{◌≡◌, ℕ, zero, suc, ◌<◌, ◌≤◌, ◌
 use Rattle.ff_frame.specs.declared.item.Lane.{Lane}
 use Rattle.ff_frame.specs.Stream.{LiesBelow, opened}
 use Rattle.ff_frame.specs.Order.{below_self, below_trans, nothing_below, unbroken_below, closed_below, whole_if_closed, all_trans, stream_at-opened, with_item_above}
-use Rattle.ff_frame.specs.Ports.{nothing, stream_at, AllBelow, AllUnbroken, IsClosed, IsWhole, IsUnbroken, IsMonotone, IsCalm}
+use Rattle.ff_frame.specs.Ports.{nothing, stream_at, AllBelow, AllUnbroken, IsClosed, IsWhole, IsUnbroken}
 use Rattle.ff_net.specs.declared.fault.Fault.{Fault}
 use Rattle.ff_net.specs.declared.ports.InPort.{InPort}
 use Rattle.ff_net.specs.declared.ports.OutPort.{OutPort}
 use Rattle.ff_net.specs.declared.node.Node.{Node}
 use Rattle.ff_net.specs.declared.wires.Wires.{Wires}
 use Rattle.ff_net.specs.Ways.{Flow, lane_at, IsValidOn, AreValid}
-use Rattle.ff_net.specs.Pasts.{Past, Task, IsIn, due}
-use Rattle.ff_net.specs.Laws.{IsOfInputs, CauseStays}
+use Rattle.ff_net.specs.Pasts.{Past, Task, IsIn}
+use Rattle.ff_net.specs.Laws.{Laws}
 use Rattle.ff_net.specs.Ports.{in_at, out_at, in_wires, out_wires}
 use Rattle.ff_net.specs.Worlds.{Wire, lanes_of}
 use Rattle.ff_net.specs.Nodes.{FedAllButOne, NodeStands, IsSound, IsDone, HaveLanes, in_wires_of, out_wires_of}
 use Rattle.ff_net.specs.Nets.{Part, IsUpward, solve}
-use Rattle.ff_net.specs.Serial.{AreShaped, NetStands, Moment, part_of, parts_of, Settled}
+use Rattle.ff_net.specs.Serial.{AreShaped, NetStands, Moment, part_of, parts_of}
+use Rattle.ff_net.specs.Theorem.{Settled}
+use Rattle.ff_net.specs.Views.{View}
 use Rattle.ff_net.proofs.Flows.{given_below, valid_on_below}
 use Rattle.ff_net.proofs.PortSteps.{in_wire_in}
 use Rattle.ff_net.proofs.Changes.{true_not_false}
@@ -57,43 +59,39 @@ pub fed_below : (got taken : Flow) → FedAllButOne got taken → LiesBelow got 
 fed_below got taken (inl e) = inl e
 fed_below got taken (inr x) = subst (λ (t : Flow). LiesBelow got t) x.1.1 (with_item_above got x.1.0 x.0)
 
-module _ {M : Type 0} (in_lanes out_lanes : M → List Lane) (source : M → Option ℕ) (fault : M → Option Fault) (stands : M → Past → Type 0)
-    (valid : (m : M) (past : Past) → stands m past → AreValid (in_lanes m) past.got) (keeps : (m : M) (past : Past) → stands m past → (ss : List Flow) → AreValid (in_lanes m) ss → AreValid (out_lanes m) (past.task.means ss))
-    (monotone : (m : M) (past : Past) → stands m past → IsMonotone (AreValid (in_lanes m)) past.task.means) (cause_stays : (m : M) (past : Past) → stands m past → CauseStays (in_lanes m) past.task.cause) (calm : (m : M) (past : Past) → stands m past → IsCalm (AreValid (in_lanes m)) past.task.means)
-    (given : (m : M) (past : Past) → stands m past → AllBelow past.gave (due past)) (unbroken : (m : M) (past : Past) → stands m past → fault m ≡ None → AllUnbroken past.got → AllUnbroken past.gave)
-    (caused : (m : M) (past : Past) (c : Fault) → stands m past → fault m ≡ Some c → IsOfInputs c → past.task.cause past.got ≡ Some c) where
+module _ {M : Type 0} (view : M → View) (laws : (m : M) → Laws (view m)) where
   abbrev pub placed_of : Task → Node M → Placed
-  placed_of task node = record { part = part_of in_lanes out_lanes task node; faulty = node.refused || is_some (fault node.machine) }
+  placed_of task node = record { part = part_of view task node; faulty = node.refused || is_some (view node.machine).fault }
 
   abbrev pub all_placed : (ℕ → Task) → List (Node M) → List Placed
   all_placed tasks [] = []
   all_placed tasks (n ∷ ns) = placed_of (tasks zero) n ∷ all_placed (λ k. tasks (suc k)) ns
 
-  pub parts_are : (tasks : ℕ → Task) (nodes : List (Node M)) → parts (all_placed tasks nodes) ≡ parts_of in_lanes out_lanes tasks nodes
+  pub parts_are : (tasks : ℕ → Task) (nodes : List (Node M)) → parts (all_placed tasks nodes) ≡ parts_of view tasks nodes
   parts_are tasks [] = refl
-  parts_are tasks (n ∷ ns) = ap (λ (ps : List Part). part_of in_lanes out_lanes (tasks zero) n ∷ ps) (parts_are (λ k. tasks (suc k)) ns)
+  parts_are tasks (n ∷ ns) = ap (λ (ps : List Part). part_of view (tasks zero) n ∷ ps) (parts_are (λ k. tasks (suc k)) ns)
 
   module _ (lanes : List Lane) (world : ℕ → Wire) (ordered : (w : ℕ) → LiesBelow (world w).taken (world w).sent) (valid_sent : (w : ℕ) → IsValidOn (lane_at lanes w) (world w).sent) where
     taken_valid : (w : ℕ) → IsValidOn (lane_at lanes w) (world w).taken
     taken_valid w = valid_on_below (lane_at lanes w) (world w).taken (world w).sent (ordered w) (valid_sent w)
 
-    lawful_at : (node : Node M) (past : Past) → HaveLanes (in_wires_of node) (in_lanes node.machine) lanes → HaveLanes (out_wires_of node) (out_lanes node.machine) lanes → NodeStands in_lanes source fault stands node world past → IsLawful lanes world (part_of in_lanes out_lanes past.task node) (node.refused || is_some (fault node.machine))
+    lawful_at : (node : Node M) (past : Past) → HaveLanes (in_wires_of node) (view node.machine).in_lanes lanes → HaveLanes (out_wires_of node) (view node.machine).out_lanes lanes → NodeStands view node world past → IsLawful lanes world (part_of view past.task node) (node.refused || is_some (view node.machine).fault)
     lawful_at node past shaped_ins shaped_outs was =
-        let part = part_of in_lanes out_lanes past.task node in
+        let part = part_of view past.task node in
         let got : AllBelow past.got (got_of world part) = all_in node.ins.items (λ w. (world w).taken) past.got (λ p lt. fed_below (stream_at past.got p) (world (in_at node.ins.items p).wire).taken ((was.ins p lt).fed)) was.beyond in
-        let got_ok : AreValid (in_lanes node.machine) (got_of world part) = map_valid lanes (λ w. (world w).taken) part.ins part.in_lanes shaped_ins.lanes_are taken_valid in
-        let mono = monotone node.machine past was.machine in
-        let above : AllBelow past.gave (past.task.means (got_of world part)) = all_trans past.gave (past.task.means past.got) (past.task.means (got_of world part)) (given_below past (given node.machine past was.machine)) (mono past.got (got_of world part) (valid node.machine past was.machine) got_ok got) in record {
+        let got_ok : AreValid (view node.machine).in_lanes (got_of world part) = map_valid lanes (λ w. (world w).taken) part.ins part.in_lanes shaped_ins.lanes_are taken_valid in
+        let mono = (laws node.machine).monotone past was.machine in
+        let above : AllBelow past.gave (past.task.means (got_of world part)) = all_trans past.gave (past.task.means past.got) (past.task.means (got_of world part)) (given_below past ((laws node.machine).given past was.machine)) (mono past.got (got_of world part) ((laws node.machine).valid past was.machine) got_ok got) in record {
           ins_lanes = shaped_ins.lanes_are;
           outs_lanes = shaped_outs.lanes_are;
           monotone = mono;
-          calm = calm node.machine past was.machine;
-          keeps = keeps node.machine past was.machine;
+          calm = (laws node.machine).calm past was.machine;
+          keeps = (laws node.machine).keeps past was.machine;
           gives = λ ok. all_out node.outs.items (λ w. (world w).sent) (past.task.means (got_of world part)) (λ p lt.
-              below_trans (world (out_at node.outs.items p).wire).sent (stream_at past.gave p) (stream_at (past.task.means (got_of world part)) p) ((was.outs p lt).exact (sound_bool node.refused (fault node.machine) ok)) (above p));
+              below_trans (world (out_at node.outs.items p).wire).sent (stream_at past.gave p) (stream_at (past.task.means (got_of world part)) p) ((was.outs p lt).exact (sound_bool node.refused (view node.machine).fault ok)) (above p));
           gives_opened = λ p. rw (stream_at-opened (gave_of world part) p) (opened_at (past.task.means (got_of world part)) above p);
           breaks_nothing = λ ok ins w i.
-              let sound = sound_bool node.refused (fault node.machine) ok in
+              let sound = sound_bool node.refused (view node.machine).fault ok in
               let place = out_place node.outs.items w i in
               let o = was.outs place.0 place.1 in
               let gots : AllUnbroken past.got = λ p. elim (below_or p (length node.ins.items)) [
@@ -102,7 +100,7 @@ module _ {M : Type 0} (in_lanes out_lanes : M → List Lane) (source : M → Opt
                     unbroken_below (stream_at past.got p) (world q.wire).taken (fed_below (stream_at past.got p) (world q.wire).taken (was.ins p lt).fed) (ins q.wire (in_wire_in node.ins.items p q.wire lt refl))
                 | inr le ↦ subst IsUnbroken (sym (was.beyond p le)) (λ b. cc)
               ] in
-              subst (λ (v : ℕ). IsUnbroken (world v).sent) place.2 (unbroken_below (world (out_at node.outs.items place.0).wire).sent (stream_at past.gave place.0) (o.exact sound) (unbroken node.machine past was.machine sound.1 gots place.0));
+              subst (λ (v : ℕ). IsUnbroken (world v).sent) place.2 (unbroken_below (world (out_at node.outs.items place.0).wire).sent (stream_at past.gave place.0) (o.exact sound) ((laws node.machine).unbroken past was.machine sound.1 gots place.0));
         }
       where
         opened_at : (ss : List Flow) → AllBelow past.gave ss → (p : ℕ) → LiesBelow (opened (stream_at (map (λ w. (world w).sent) (out_wires_of node)) p)) (stream_at ss p)
@@ -115,24 +113,24 @@ module _ {M : Type 0} (in_lanes out_lanes : M → List Lane) (source : M → Opt
             opened_map (w ∷ ws) zero = refl
             opened_map (w ∷ ws) (suc q) = opened_map ws q
 
-    are_lawful : (nodes : List (Node M)) (tasks : ℕ → Task) → ((k : ℕ) (d : Node M) → k < length nodes → HaveLanes (in_wires_of (slice_index_or nodes k d)) (in_lanes (slice_index_or nodes k d).machine) lanes) → ((k : ℕ) (d : Node M) → k < length nodes → HaveLanes (out_wires_of (slice_index_or nodes k d)) (out_lanes (slice_index_or nodes k d).machine) lanes) → ((k : ℕ) (d : Node M) → k < length nodes → (past : Past) × NodeStands in_lanes source fault stands (slice_index_or nodes k d) world past × (past.task ≡ tasks k)) → AreLawful lanes world (all_placed tasks nodes)
+    are_lawful : (nodes : List (Node M)) (tasks : ℕ → Task) → ((k : ℕ) (d : Node M) → k < length nodes → HaveLanes (in_wires_of (slice_index_or nodes k d)) (view (slice_index_or nodes k d).machine).in_lanes lanes) → ((k : ℕ) (d : Node M) → k < length nodes → HaveLanes (out_wires_of (slice_index_or nodes k d)) (view (slice_index_or nodes k d).machine).out_lanes lanes) → ((k : ℕ) (d : Node M) → k < length nodes → (past : Past) × NodeStands view (slice_index_or nodes k d) world past × (past.task ≡ tasks k)) → AreLawful lanes world (all_placed tasks nodes)
     are_lawful [] tasks shaped_ins shaped_outs each = tt
     are_lawful (n ∷ ns) tasks shaped_ins shaped_outs each =
         let mine = each zero n (omega arith) in (
-          subst (λ (t : Task). IsLawful lanes world (part_of in_lanes out_lanes t n) (n.refused || is_some (fault n.machine))) mine.2 (lawful_at n mine.0 (shaped_ins zero n (omega arith)) (shaped_outs zero n (omega arith)) mine.1),
+          subst (λ (t : Task). IsLawful lanes world (part_of view t n) (n.refused || is_some (view n.machine).fault)) mine.2 (lawful_at n mine.0 (shaped_ins zero n (omega arith)) (shaped_outs zero n (omega arith)) mine.1),
           are_lawful ns (λ k. tasks (suc k)) (λ k d lt. shaped_ins (suc k) d (omega arith)) (λ k d lt. shaped_outs (suc k) d (omega arith)) (λ k d lt. each (suc k) d (omega arith)),
         )
 
-  are_faultless : (nodes : List (Node M)) (tasks : ℕ → Task) → ((k : ℕ) (d : Node M) → k < length nodes → IsSound fault (slice_index_or nodes k d)) → AreFaultless (all_placed tasks nodes)
+  are_faultless : (nodes : List (Node M)) (tasks : ℕ → Task) → ((k : ℕ) (d : Node M) → k < length nodes → IsSound view (slice_index_or nodes k d)) → AreFaultless (all_placed tasks nodes)
   are_faultless [] tasks each = tt
-  are_faultless (n ∷ ns) tasks each = (bool_sound n.refused (fault n.machine) (each zero n (omega arith)), are_faultless ns (λ k. tasks (suc k)) (λ k d lt. each (suc k) d (omega arith)))
+  are_faultless (n ∷ ns) tasks each = (bool_sound n.refused (view n.machine).fault (each zero n (omega arith)), are_faultless ns (λ k. tasks (suc k)) (λ k d lt. each (suc k) d (omega arith)))
 
   is_input : (nodes : List (Node M)) (tasks : ℕ → Task) (k : ℕ) (d : Node M) (w : ℕ) → k < length nodes → IsIn w (in_wires_of (slice_index_or nodes k d)) → IsInputOf (all_placed tasks nodes) w
   is_input [] tasks k d w lt i = absurd (omega arith)
   is_input (n ∷ ns) tasks zero d w lt i = inl i
   is_input (n ∷ ns) tasks (suc k) d w lt i = inr (is_input ns (λ j. tasks (suc j)) k d w (omega arith) i)
 
-  module _ (nodes : List (Node M)) (lanes : List Lane) (world : ℕ → Wire) (tasks : ℕ → Task) (net : Moment in_lanes out_lanes source fault stands tasks nodes lanes world) (up : IsUpward [] (parts_of in_lanes out_lanes tasks nodes)) where
+  module _ (nodes : List (Node M)) (lanes : List Lane) (world : ℕ → Wire) (tasks : ℕ → Task) (net : Moment view tasks nodes lanes world) (up : IsUpward [] (parts_of view tasks nodes)) where
     pub net_of : IsNet lanes (all_placed tasks nodes) world
     net_of = record {
       lawful = are_lawful lanes world net.ordered net.valid nodes tasks net.ins net.outs net.each;
@@ -141,15 +139,15 @@ module _ {M : Type 0} (in_lanes out_lanes : M → List Lane) (source : M → Opt
       valid = net.valid;
     }
 
-    pub opened_below_solution : (k : ℕ) (d : Node M) (w : ℕ) → k < length nodes → IsIn w (in_wires_of (slice_index_or nodes k d)) → LiesBelow (opened (world w).taken) (solve (parts_of in_lanes out_lanes tasks nodes) w)
+    pub opened_below_solution : (k : ℕ) (d : Node M) (w : ℕ) → k < length nodes → IsIn w (in_wires_of (slice_index_or nodes k d)) → LiesBelow (opened (world w).taken) (solve (parts_of view tasks nodes) w)
     opened_below_solution k d w lt i = subst (λ (ps : List Part). LiesBelow (opened (world w).taken) (solve ps w)) (parts_are tasks nodes) (opened_solve lanes (all_placed tasks nodes) world w net_of (is_input nodes tasks k d w lt i))
 
-    module _ (sound : (k : ℕ) (d : Node M) → k < length nodes → IsSound fault (slice_index_or nodes k d)) (k : ℕ) (d : Node M) (lt : k < length nodes) (done : IsDone (slice_index_or nodes k d)) (sink : length (slice_index_or nodes k d).outs.items ≡ 0) where
+    module _ (sound : (k : ℕ) (d : Node M) → k < length nodes → IsSound view (slice_index_or nodes k d)) (k : ℕ) (d : Node M) (lt : k < length nodes) (done : IsDone (slice_index_or nodes k d)) (sink : length (slice_index_or nodes k d).outs.items ≡ 0) where
       node : Node M
       node = slice_index_or nodes k d
 
       at_port : (p : ℕ) → p < length (slice_index_or nodes k d).ins.items
-          → ((world (in_at (slice_index_or nodes k d).ins.items p).wire).taken ≡ solve (parts_of in_lanes out_lanes tasks nodes) (in_at (slice_index_or nodes k d).ins.items p).wire) × IsWhole (world (in_at (slice_index_or nodes k d).ins.items p).wire).taken
+          → ((world (in_at (slice_index_or nodes k d).ins.items p).wire).taken ≡ solve (parts_of view tasks nodes) (in_at (slice_index_or nodes k d).ins.items p).wire) × IsWhole (world (in_at (slice_index_or nodes k d).ins.items p).wire).taken
       at_port p plt =
           let mine = net.each k d lt in
           let i = mine.1.ins p plt in
@@ -162,7 +160,7 @@ module _ {M : Type 0} (in_lanes out_lanes : M → List Lane) (source : M → Opt
             whole_if_closed (world w).taken closed (unbroken_below (world w).taken (world w).sent (net.ordered w) (sent_unbroken lanes (all_placed tasks nodes) world w net_of fine input)),
           )
 
-      pub settled_of : Settled stands (tasks k) (parts_of in_lanes out_lanes tasks nodes) (slice_index_or nodes k d)
+      pub settled_of : Settled view (tasks k) (parts_of view tasks nodes) (slice_index_or nodes k d)
       settled_of =
           let mine = net.each k d lt in record {
             past = mine.0;
@@ -173,9 +171,9 @@ module _ {M : Type 0} (in_lanes out_lanes : M → List Lane) (source : M → Opt
           }
 
 -- nodes on wires at one moment
-pub moment_of : {M : Type 0} (in_lanes out_lanes : M → List Lane) (source : M → Option ℕ) (fault : M → Option Fault) (stands : M → Past → Type 0) (tasks : ℕ → Task) (nodes : List (Node M)) (wires : Wires) (net : NetStands in_lanes source fault stands tasks nodes wires) → AreShaped in_lanes out_lanes nodes wires
-    → Moment in_lanes out_lanes source fault stands tasks nodes (lanes_of wires) net.world
-moment_of in_lanes out_lanes source fault stands tasks nodes wires net shaped = record {
+pub moment_of : {M : Type 0} (view : M → View) (tasks : ℕ → Task) (nodes : List (Node M)) (wires : Wires) (net : NetStands view tasks nodes wires) → AreShaped view nodes wires
+    → Moment view tasks nodes (lanes_of wires) net.world
+moment_of view tasks nodes wires net shaped = record {
   ins = λ k d lt. (shaped.each k d lt).ins;
   outs = λ k d lt. (shaped.each k d lt).outs;
   outs_apart = shaped.outs_apart;

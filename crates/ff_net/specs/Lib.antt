@@ -6,6 +6,8 @@ pub mod Ports
 pub mod Serial
 pub mod Silence
 pub mod Steps
+pub mod Theorem
 pub mod Turns
+pub mod Views
 pub mod Ways
 pub mod Worlds

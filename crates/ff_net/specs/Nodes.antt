@@ -6,7 +6,6 @@ use Rattle.ff_values.specs.declared.event.Ticket.{Ticket}
 use Rattle.ff_frame.specs.Stream.{still_open, LiesBelow, opened}
 use Rattle.ff_frame.specs.Items.{with_item}
 use Rattle.ff_frame.specs.Ports.{nothing, stream_at, IsClosed}
-use Rattle.ff_net.specs.declared.fault.Fault.{Fault}
 use Rattle.ff_net.specs.declared.node.Node.{Node}
 use Rattle.ff_net.specs.declared.ports.InPort.{InPort}
 use Rattle.ff_net.specs.declared.ports.OutPort.{OutPort}
@@ -16,6 +15,7 @@ use Rattle.ff_net.specs.Pasts.{Past, IsIn}
 use Rattle.ff_net.specs.Laws.{NoMatter}
 use Rattle.ff_net.specs.Ports.{in_at, out_at, in_wires, out_wires, AreDone}
 use Rattle.ff_net.specs.Worlds.{Wire, lanes_of}
+use Rattle.ff_net.specs.Views.{View}
 
 -- what was sent, with the item that is held, is what the machine gave
 abbrev pub HeldIs : Option Item → Flow → Flow → Type 0
@@ -62,12 +62,12 @@ abbrev pub HasFinished : {M : Type 0} → Node M → ℕ → Type 0
 HasFinished node p = (in_at node.ins.items p).done ≡ true
 
 -- the node has no fault
-abbrev pub IsSound : {M : Type 0} → (M → Option Fault) → Node M → Type 0
-IsSound fault node = (node.refused ≡ false) × (fault node.machine ≡ None)
+abbrev pub IsSound : {M : Type 0} → (M → View) → Node M → Type 0
+IsSound view node = (node.refused ≡ false) × ((view node.machine).fault ≡ None)
 
 -- the node has outputs, and nothing more of this input matters, or nothing more goes on any
-abbrev pub MayClose : {M : Type 0} → (M → List Lane) → Node M → Past → ℕ → Type 0
-MayClose in_lanes node past p = (0 < length node.outs.items) × (NoMatter (in_lanes node.machine) (length node.outs.items) past p ⊎ AreDone node.outs.items)
+abbrev pub MayClose : {M : Type 0} → (M → View) → Node M → Past → ℕ → Type 0
+MayClose view node past p = (0 < length node.outs.items) × (NoMatter (view node.machine).in_lanes (length node.outs.items) past p ⊎ AreDone node.outs.items)
 
 -- the tickets with the places 0, 1, 2 and so on
 abbrev pub tickets : Option ℕ → ℕ → List Ticket
@@ -76,13 +76,13 @@ tickets (Some s) zero = []
 tickets (Some s) (suc n) = tickets (Some s) n ++ record { source = s; place = n } ∷ []
 
 -- the node can be where it is after this was sent and taken on its wires, and its machine after this past
-pub record NodeStands {M : Type 0} (in_lanes : M → List Lane) (source : M → Option ℕ) (fault : M → Option Fault) (stands : M → Past → Type 0) (node : Node M) (world : ℕ → Wire) (past : Past) : Type 0 where
-  pub machine : stands node.machine past
-  pub ins : (p : ℕ) → p < length node.ins.items → InStands (in_at node.ins.items p) (world (in_at node.ins.items p).wire) (stream_at past.got p) node.refused (IsSound fault node) (MayClose in_lanes node past p)
-  pub outs : (p : ℕ) → p < length node.outs.items → OutStands (out_at node.outs.items p) (world (out_at node.outs.items p).wire) (stream_at past.gave p) (IsIn p past.stopped) (IsSound fault node)
+pub record NodeStands {M : Type 0} (view : M → View) (node : Node M) (world : ℕ → Wire) (past : Past) : Type 0 where
+  pub machine : (view node.machine).stands past
+  pub ins : (p : ℕ) → p < length node.ins.items → InStands (in_at node.ins.items p) (world (in_at node.ins.items p).wire) (stream_at past.got p) node.refused (IsSound view node) (MayClose view node past p)
+  pub outs : (p : ℕ) → p < length node.outs.items → OutStands (out_at node.outs.items p) (world (out_at node.outs.items p).wire) (stream_at past.gave p) (IsIn p past.stopped) (IsSound view node)
   pub beyond : (p : ℕ) → length node.ins.items ≤ p → stream_at past.got p ≡ nothing
   pub stopped : (p : ℕ) → IsIn p past.stopped → (out_at node.outs.items p).done ≡ true
-  pub allowed : past.allowed ≡ tickets (source node.machine) node.place
+  pub allowed : past.allowed ≡ tickets (view node.machine).source node.place
 
 -- nothing has changed, wherever the ports lie
 pub record IsSame {M : Type 0} (old new : Node M) : Type 0 where
@@ -108,9 +108,9 @@ pub record HaveLanes (wires : List ℕ) (ports lanes : List Lane) : Type 0 where
   pub apart : AreApart wires
 
 -- a node's wires are there and have its ports' lanes, and no two of its inputs and no two of its outputs have one wire
-pub record IsShaped {M : Type 0} (in_lanes out_lanes : M → List Lane) (node : Node M) (wires : Wires) : Type 0 where
-  pub ins : HaveLanes (in_wires_of node) (in_lanes node.machine) (lanes_of wires)
-  pub outs : HaveLanes (out_wires_of node) (out_lanes node.machine) (lanes_of wires)
+pub record IsShaped {M : Type 0} (view : M → View) (node : Node M) (wires : Wires) : Type 0 where
+  pub ins : HaveLanes (in_wires_of node) (view node.machine).in_lanes (lanes_of wires)
+  pub outs : HaveLanes (out_wires_of node) (view node.machine).out_lanes (lanes_of wires)
 
 -- each input was finished, and each output is closed and given or was told that its receiver has finished
 pub record IsDone {M : Type 0} (node : Node M) : Type 0 where

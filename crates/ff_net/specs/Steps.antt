@@ -1,9 +1,7 @@
 -- What a node does, whatever it and its wires have behind them.
-use Rattle.std.specs.Prelude.{◌≡◌, ◌≢◌, ℕ, ◌<◌, ◌≤◌, ◌-◌, ◌^◌, ◌⊎◌, Bool, true, false, List, length, Option, None}
+use Rattle.std.specs.Prelude.{◌≡◌, ◌≢◌, ℕ, ◌<◌, ◌≤◌, ◌-◌, ◌^◌, ◌⊎◌, Bool, true, false, List, length, None}
 use mathlib.Core.List.{IsPrefix}
-use Rattle.ff_frame.specs.declared.item.Lane.{Lane}
 use Rattle.ff_frame.specs.Stream.{LiesBelow}
-use Rattle.ff_net.specs.declared.fault.Fault.{Fault}
 use Rattle.ff_net.specs.declared.node.Node.{Node}
 use Rattle.ff_net.specs.declared.wires.Wires.{Wires}
 use Rattle.ff_net.specs.Laws.{FaultStep}
@@ -11,6 +9,7 @@ use Rattle.ff_net.specs.Pasts.{Past, IsIn, due}
 use Rattle.ff_net.specs.Worlds.{Wire, Stand, lanes_of}
 use Rattle.ff_net.specs.Nodes.{NodeStands, IsSound, in_wires_of, out_wires_of}
 use Rattle.ff_net.specs.Ports.{out_at, NoneHeld}
+use Rattle.ff_net.specs.Views.{View}
 use Rattle.ff_frame.specs.Ports.{stream_at}
 
 -- from one moment to a later one: only a node's own wires change, what was done stays done, and nothing is taken from a
@@ -37,24 +36,24 @@ pub data Moves (old new : ℕ → Wire) (past since : Past) : Type 0 where
   told : (q : ℕ) → (IsIn q past.stopped → ⊥) → IsIn q since.stopped → Moves old new past since
 
 -- something that can be behind the node and its wires now, and goes on from what was behind them
-pub record Later {M : Type 0} (in_lanes : M → List Lane) (source : M → Option ℕ) (fault : M → Option Fault) (stands : M → Past → Type 0) (how : (ℕ → Wire) → Past → (ℕ → Wire) → Past → Type 0) (ins outs : List ℕ) (node : Node M) (wires : Wires) (world : ℕ → Wire) (past : Past) : Type 0 where
+pub record Later {M : Type 0} (view : M → View) (how : (ℕ → Wire) → Past → (ℕ → Wire) → Past → Type 0) (ins outs : List ℕ) (node : Node M) (wires : Wires) (world : ℕ → Wire) (past : Past) : Type 0 where
   pub now : ℕ → Wire
   pub since : Past
   pub stand : Stand wires now
-  pub fits : NodeStands in_lanes source fault stands node now since
+  pub fits : NodeStands view node now since
   pub course : Course ins outs world now past since
   pub so : how world past now since
 
 -- the node keeps its wires, and the wires and the machine their lanes; and whatever was behind node and wires, something
 -- that goes on from it so is behind them now
-pub record Stepped {M : Type 0} (in_lanes out_lanes : M → List Lane) (source : M → Option ℕ) (device : M → Option (List ℕ)) (failures : M → ℕ) (fault : M → Option Fault) (stands : M → Past → Type 0) (how : (ℕ → Wire) → Past → (ℕ → Wire) → Past → Type 0) (node : Node M) (wires : Wires) (node' : Node M) (wires' : Wires) : Type 0 where
+pub record Stepped {M : Type 0} (view : M → View) (how : (ℕ → Wire) → Past → (ℕ → Wire) → Past → Type 0) (node : Node M) (wires : Wires) (node' : Node M) (wires' : Wires) : Type 0 where
   pub ins_same : in_wires_of node' ≡ in_wires_of node
   pub outs_same : out_wires_of node' ≡ out_wires_of node
-  pub in_lanes_same : in_lanes node'.machine ≡ in_lanes node.machine
-  pub out_lanes_same : out_lanes node'.machine ≡ out_lanes node.machine
+  pub in_lanes_same : (view node'.machine).in_lanes ≡ (view node.machine).in_lanes
+  pub out_lanes_same : (view node'.machine).out_lanes ≡ (view node.machine).out_lanes
   pub lanes_same : lanes_of wires' ≡ lanes_of wires
-  pub fares : FaultStep device failures fault node.machine node'.machine
-  pub goes : (world : ℕ → Wire) (past : Past) → Stand wires world → NodeStands in_lanes source fault stands node world past → Later in_lanes source fault stands how (in_wires_of node) (out_wires_of node) node' wires' world past
+  pub fares : FaultStep (view node.machine) (view node'.machine)
+  pub goes : (world : ℕ → Wire) (past : Past) → Stand wires world → NodeStands view node world past → Later view how (in_wires_of node) (out_wires_of node) node' wires' world past
 
 -- something moved, or nothing was taken, where these hold, and no ticket was allowed
 pub record Acts (moved quiet : Type 0) (old : ℕ → Wire) (past : Past) (new : ℕ → Wire) (since : Past) : Type 0 where
@@ -64,32 +63,32 @@ pub record Acts (moved quiet : Type 0) (old : ℕ → Wire) (past : Past) (new :
 
 -- the machine of a node gave items to hold, and nothing moved; of the outputs that were seen, one that holds nothing has
 -- all that is due, and where none holds anything, each was asked
-pub record Readies {M : Type 0} (fault : M → Option Fault) (seen : ℕ → Type 0) (held : Bool) (node : Node M) (old : ℕ → Wire) (past : Past) (new : ℕ → Wire) (since : Past) : Type 0 where
+pub record Readies {M : Type 0} (view : M → View) (seen : ℕ → Type 0) (held : Bool) (node : Node M) (old : ℕ → Wire) (past : Past) (new : ℕ → Wire) (since : Past) : Type 0 where
   pub sent : (w : ℕ) → (new w).sent ≡ (old w).sent
   pub taken : (w : ℕ) → (new w).taken ≡ (old w).taken
   pub finished : (w : ℕ) → (new w).finished ≡ (old w).finished
   pub got : since.got ≡ past.got
   pub allowed : since.allowed ≡ past.allowed
   pub stopped : since.stopped ≡ past.stopped
-  pub none_due : IsSound fault node → (q : ℕ) → seen q → (out_at node.outs.items q).done ≡ false → (out_at node.outs.items q).held ≡ None → (old (out_at node.outs.items q).wire).sent ≡ stream_at (due past) q
-  pub asked : IsSound fault node → held ≡ false → (q : ℕ) → seen q → (out_at node.outs.items q).done ≡ false → IsIn q since.asked
-  pub asks_on : IsSound fault node → held ≡ false → (q : ℕ) → IsIn q past.asked → IsIn q since.asked
+  pub none_due : IsSound view node → (q : ℕ) → seen q → (out_at node.outs.items q).done ≡ false → (out_at node.outs.items q).held ≡ None → (old (out_at node.outs.items q).wire).sent ≡ stream_at (due past) q
+  pub asked : IsSound view node → held ≡ false → (q : ℕ) → seen q → (out_at node.outs.items q).done ≡ false → IsIn q since.asked
+  pub asks_on : IsSound view node → held ≡ false → (q : ℕ) → IsIn q past.asked → IsIn q since.asked
 
 -- an item is due on an output: nothing is where it is done; without a fault one is where not all was sent that is to be
 -- given by now, and with one wherever it isn't done
-pub record IsDue {M : Type 0} (fault : M → Option Fault) (node : Node M) (world : ℕ → Wire) (past : Past) (q : ℕ) : Type 0 where
+pub record IsDue {M : Type 0} (view : M → View) (node : Node M) (world : ℕ → Wire) (past : Past) (q : ℕ) : Type 0 where
   pub there : q < length node.outs.items
   pub goes_on : (out_at node.outs.items q).done ≡ false
-  pub unsent : IsSound fault node → (world (out_at node.outs.items q).wire).sent ≢ stream_at (due past) q
+  pub unsent : IsSound view node → (world (out_at node.outs.items q).wire).sent ≢ stream_at (due past) q
 
 -- the machine of a node gave items to hold, and nothing moved; where the answer is no, no item was due before
-pub record Fills {M : Type 0} (fault : M → Option Fault) (due : Bool) (before : Node M) (old : ℕ → Wire) (past : Past) (new : ℕ → Wire) (since : Past) : Type 0 where
+pub record Fills {M : Type 0} (view : M → View) (due : Bool) (before : Node M) (old : ℕ → Wire) (past : Past) (new : ℕ → Wire) (since : Past) : Type 0 where
   pub sent : (w : ℕ) → (new w).sent ≡ (old w).sent
   pub taken : (w : ℕ) → (new w).taken ≡ (old w).taken
   pub finished : (w : ℕ) → (new w).finished ≡ (old w).finished
   pub allowed : since.allowed ≡ past.allowed
   pub stopped : since.stopped ≡ past.stopped
-  pub none_before : due ≡ false → (q : ℕ) → IsDue fault before old past q → ⊥
+  pub none_before : due ≡ false → (q : ℕ) → IsDue view before old past q → ⊥
 
 -- a ticket was allowed or none, and nothing else moved
 pub record Grants (allowed : Bool) (old : ℕ → Wire) (past : Past) (new : ℕ → Wire) (since : Past) : Type 0 where
@@ -103,21 +102,21 @@ pub record Grants (allowed : Bool) (old : ℕ → Wire) (past : Past) (new : ℕ
 
 -- of a node where nothing moved: an output that goes on and holds nothing has all that is due; and where no output holds
 -- anything, but one goes on, the node is no source, or has used up all places
-pub record Rests {M : Type 0} (source : M → Option ℕ) (fault : M → Option Fault) (node : Node M) (world : ℕ → Wire) (past : Past) : Type 0 where
-  pub none_due : IsSound fault node → (q : ℕ) → q < length node.outs.items → (out_at node.outs.items q).done ≡ false → (out_at node.outs.items q).held ≡ None → (world (out_at node.outs.items q).wire).sent ≡ stream_at (due past) q
-  pub ungranted : IsSound fault node → NoneHeld node.outs.items → (q : ℕ) → q < length node.outs.items → (out_at node.outs.items q).done ≡ false → (source node.machine ≡ None) ⊎ (2 ^ 64 - 1 ≤ node.place)
+pub record Rests {M : Type 0} (view : M → View) (node : Node M) (world : ℕ → Wire) (past : Past) : Type 0 where
+  pub none_due : IsSound view node → (q : ℕ) → q < length node.outs.items → (out_at node.outs.items q).done ≡ false → (out_at node.outs.items q).held ≡ None → (world (out_at node.outs.items q).wire).sent ≡ stream_at (due past) q
+  pub ungranted : IsSound view node → NoneHeld node.outs.items → (q : ℕ) → q < length node.outs.items → (out_at node.outs.items q).done ≡ false → ((view node.machine).source ≡ None) ⊎ (2 ^ 64 - 1 ≤ node.place)
 
 -- something moved or the node rests, and nothing was taken and no ticket allowed where an item was due before
-pub record Turns {M : Type 0} (source : M → Option ℕ) (fault : M → Option Fault) (moved : Bool) (before node : Node M) (old : ℕ → Wire) (past : Past) (new : ℕ → Wire) (since : Past) : Type 0 where
+pub record Turns {M : Type 0} (view : M → View) (moved : Bool) (before node : Node M) (old : ℕ → Wire) (past : Past) (new : ℕ → Wire) (since : Past) : Type 0 where
   pub moves : moved ≡ true → Moves old new past since
-  pub takes_nothing : (q : ℕ) → IsDue fault before old past q → (w : ℕ) → (new w).taken ≡ (old w).taken
-  pub allows_nothing : (q : ℕ) → IsDue fault before old past q → since.allowed ≡ past.allowed
-  pub rests : moved ≡ false → Rests source fault node new since
+  pub takes_nothing : (q : ℕ) → IsDue view before old past q → (w : ℕ) → (new w).taken ≡ (old w).taken
+  pub allows_nothing : (q : ℕ) → IsDue view before old past q → since.allowed ≡ past.allowed
+  pub rests : moved ≡ false → Rests view node new since
 
 -- a source has one ticket more, or none where an item was due, and the machine of a node gave items to hold
-pub record Prepares {M : Type 0} (source : M → Option ℕ) (fault : M → Option Fault) (granted held : Bool) (before node : Node M) (old : ℕ → Wire) (past : Past) (new : ℕ → Wire) (since : Past) : Type 0 where
+pub record Prepares {M : Type 0} (view : M → View) (granted held : Bool) (before node : Node M) (old : ℕ → Wire) (past : Past) (new : ℕ → Wire) (since : Past) : Type 0 where
   pub moves : granted ≡ true → Moves old new past since
   pub taken : (w : ℕ) → (new w).taken ≡ (old w).taken
-  pub allows_nothing : (q : ℕ) → IsDue fault before old past q → since.allowed ≡ past.allowed
-  pub none_before : IsSound fault node → held ≡ false → (q : ℕ) → IsDue fault before old past q → ⊥
-  pub rests : granted ≡ false → Rests source fault node new since
+  pub allows_nothing : (q : ℕ) → IsDue view before old past q → since.allowed ≡ past.allowed
+  pub none_before : IsSound view node → held ≡ false → (q : ℕ) → IsDue view before old past q → ⊥
+  pub rests : granted ≡ false → Rests view node new since

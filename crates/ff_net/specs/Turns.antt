@@ -1,6 +1,5 @@
 -- What a turn of a node says.
-use Rattle.std.specs.Prelude.{◌≡◌, ℕ, ◌<◌, ◌≤◌, ◌-◌, ◌^◌, true, false, length, Option, is_some}
-use Rattle.ff_net.specs.declared.fault.Fault.{Fault}
+use Rattle.std.specs.Prelude.{◌≡◌, ℕ, ◌<◌, ◌≤◌, ◌-◌, ◌^◌, true, false, length, is_some}
 use Rattle.ff_net.specs.declared.node.Node.{Node}
 use Rattle.ff_net.specs.declared.node.Turn.{Turn}
 use Rattle.ff_net.specs.declared.node.Turn.TheVariants.{Moved, NotYet}
@@ -10,13 +9,14 @@ use Rattle.ff_net.specs.Ports.{in_at, out_at, SomeHeld, NoneHeld}
 use Rattle.ff_net.specs.Worlds.{Wire, IsFull, IsEmpty}
 use Rattle.ff_net.specs.Nodes.{IsSound}
 use Rattle.ff_net.specs.Steps.{Moves, IsDue}
+use Rattle.ff_net.specs.Views.{View}
 
 -- where nothing moved, ports wait: with a fault each output that goes on for room; without one each that holds an item
 -- for room, or, where none holds any, each input that goes on for an item
-pub data Waits {M : Type 0} (fault : M → Option Fault) (node : Node M) (wires : Wires) : Type 0 where
-  with_fault : (IsSound fault node → ⊥) → ((q : ℕ) → q < length node.outs.items → (out_at node.outs.items q).done ≡ false → IsFull wires (out_at node.outs.items q).wire) → Waits fault node wires
-  with_items : IsSound fault node → SomeHeld node.outs.items → ((q : ℕ) → q < length node.outs.items → (out_at node.outs.items q).done ≡ false → is_some (out_at node.outs.items q).held ≡ true → IsFull wires (out_at node.outs.items q).wire) → Waits fault node wires
-  for_items : IsSound fault node → NoneHeld node.outs.items → ((p : ℕ) → p < length node.ins.items → (in_at node.ins.items p).done ≡ false → IsEmpty wires (in_at node.ins.items p).wire) → Waits fault node wires
+pub data Waits {M : Type 0} (view : M → View) (node : Node M) (wires : Wires) : Type 0 where
+  with_fault : (IsSound view node → ⊥) → ((q : ℕ) → q < length node.outs.items → (out_at node.outs.items q).done ≡ false → IsFull wires (out_at node.outs.items q).wire) → Waits view node wires
+  with_items : IsSound view node → SomeHeld node.outs.items → ((q : ℕ) → q < length node.outs.items → (out_at node.outs.items q).done ≡ false → is_some (out_at node.outs.items q).held ≡ true → IsFull wires (out_at node.outs.items q).wire) → Waits view node wires
+  for_items : IsSound view node → NoneHeld node.outs.items → ((p : ℕ) → p < length node.ins.items → (in_at node.ins.items p).done ≡ false → IsEmpty wires (in_at node.ins.items p).wire) → Waits view node wires
 
 -- some wire has no room or no item, or a source has used up all places of tickets
 pub data IsRefused {M : Type 0} (node : Node M) (wires : Wires) : Type 0 where
@@ -25,15 +25,15 @@ pub data IsRefused {M : Type 0} (node : Node M) (wires : Wires) : Type 0 where
   no_place : 2 ^ 64 - 1 ≤ node.place → IsRefused node wires
 
 -- every output with an item due has no room; where none has one, every input that isn't finished has no item
-pub record IsIdle {M : Type 0} (fault : M → Option Fault) (node : Node M) (wires : Wires) (world : ℕ → Wire) (past : Past) : Type 0 where
-  pub no_room : (q : ℕ) → IsDue fault node world past q → IsFull wires (out_at node.outs.items q).wire
-  pub no_item : ((q : ℕ) → IsDue fault node world past q → ⊥) → (p : ℕ) → p < length node.ins.items → (in_at node.ins.items p).done ≡ false → IsEmpty wires (in_at node.ins.items p).wire
+pub record IsIdle {M : Type 0} (view : M → View) (node : Node M) (wires : Wires) (world : ℕ → Wire) (past : Past) : Type 0 where
+  pub no_room : (q : ℕ) → IsDue view node world past q → IsFull wires (out_at node.outs.items q).wire
+  pub no_item : ((q : ℕ) → IsDue view node world past q → ⊥) → (p : ℕ) → p < length node.ins.items → (in_at node.ins.items p).done ≡ false → IsEmpty wires (in_at node.ins.items p).wire
   pub refused : IsRefused node wires
 
 -- of a turn with this answer: Moved comes only where something moved, NotYet only where the node is idle, and nothing was
 -- taken and no ticket allowed where an item was due before
-pub record Answers {M : Type 0} (fault : M → Option Fault) (turn : Turn) (before node : Node M) (wires : Wires) (old : ℕ → Wire) (past : Past) (new : ℕ → Wire) (since : Past) : Type 0 where
+pub record Answers {M : Type 0} (view : M → View) (turn : Turn) (before node : Node M) (wires : Wires) (old : ℕ → Wire) (past : Past) (new : ℕ → Wire) (since : Past) : Type 0 where
   pub moved : turn ≡ Moved → Moves old new past since
-  pub not_yet : turn ≡ NotYet → IsIdle fault node wires new since
-  pub takes_nothing : (q : ℕ) → IsDue fault before old past q → (w : ℕ) → (new w).taken ≡ (old w).taken
-  pub allows_nothing : (q : ℕ) → IsDue fault before old past q → since.allowed ≡ past.allowed
+  pub not_yet : turn ≡ NotYet → IsIdle view node wires new since
+  pub takes_nothing : (q : ℕ) → IsDue view before old past q → (w : ℕ) → (new w).taken ≡ (old w).taken
+  pub allows_nothing : (q : ℕ) → IsDue view before old past q → since.allowed ≡ past.allowed

@@ -41,8 +41,8 @@ impl<M: Machine> Node<M> {
         ensures ins { IfOk result (λ node. in_wires_of node ≡ ins.items) }
         ensures outs { IfOk result (λ node. out_wires_of node ≡ outs.items) }
         ensures machine { IfOk result (λ node. machine_of node ≡ machine) }
-        ensures fresh { IfOk result (λ node. (task : Task) → M.stands machine (start task) → NodeStands M.in_lanes M.source_of M.fault_of M.stands node (λ w. fresh) (start task)) }
-        ensures sound { IfOk result (λ node. M.fault_of machine ≡ None → IsSound M.fault_of node) }
+        ensures fresh { IfOk result (λ node. (task : Task) → (M.view machine).stands (start task) → NodeStands M.view node (λ w. fresh) (start task)) }
+        ensures sound { IfOk result (λ node. (M.view machine).fault ≡ None → IsSound M.view node) }
         ensures back { IfErr result (λ m. m ≡ machine) }
     {
         let ins: Vec<InPort> = match in_ports(alloc, &ins) {
@@ -64,10 +64,10 @@ impl<M: Machine> Node<M> {
 
     /// What went wrong here: the machine's fault, or that memory was refused.
     pub fn fault(&self) -> Option<Fault>
-        ensures sound { result ≡ None → IsSound M.fault_of self.now }
-        ensures none { IsSound M.fault_of self.now → result ≡ None }
-        ensures machine { (c : Fault) → M.fault_of (machine_of self.now) ≡ Some c → result ≡ Some c }
-        ensures refused { M.fault_of (machine_of self.now) ≡ None → (IsSound M.fault_of self.now → ⊥) → result ≡ Some Fault.NoMemory }
+        ensures sound { result ≡ None → IsSound M.view self.now }
+        ensures none { IsSound M.view self.now → result ≡ None }
+        ensures machine { (c : Fault) → (M.view (machine_of self.now)).fault ≡ Some c → result ≡ Some c }
+        ensures refused { (M.view (machine_of self.now)).fault ≡ None → (IsSound M.view self.now → ⊥) → result ≡ Some Fault.NoMemory }
     {
         match self.machine.fault() {
             Some(fault) => Some(fault),

@@ -26,16 +26,16 @@ impl<M: Machine> Node<M> {
 
     /// Fills each output, and says whether one holds an item.
     pub(crate) fn fill_all(&mut self) -> bool
-        requires outputs { length self.old.outs.items ≡ length (M.out_lanes self.old.machine) }
-        ensures stepped { (wires : Wires) → Stepped M.in_lanes M.out_lanes M.source_of M.device_of M.failures M.fault_of M.stands (Readies M.fault_of (λ q. q < length self.new.outs.items) result self.new) self.old wires self.new wires }
+        requires outputs { length self.old.outs.items ≡ length (M.view self.old.machine).out_lanes }
+        ensures stepped { (wires : Wires) → Stepped M.view (Readies M.view (λ q. q < length self.new.outs.items) result self.new) self.old wires self.new wires }
         ensures held { result ≡ true → SomeHeld self.new.outs.items }
         ensures none { result ≡ false → NoneHeld self.new.outs.items }
         ensures done { (q : ℕ) → (out_at self.new.outs.items q).done ≡ (out_at self.old.outs.items q).done }
         ensures count { length self.new.outs.items ≡ length self.old.outs.items }
-        ensures out_lanes { M.out_lanes self.new.machine ≡ M.out_lanes self.old.machine }
+        ensures out_lanes { (M.view self.new.machine).out_lanes ≡ (M.view self.old.machine).out_lanes }
         ensures ins { self.new.ins ≡ self.old.ins }
-        ensures sound { IsSound M.fault_of self.new → IsSound M.fault_of self.old }
-        ensures source { M.source_of self.new.machine ≡ M.source_of self.old.machine }
+        ensures sound { IsSound M.view self.new → IsSound M.view self.old }
+        ensures source { (M.view self.new.machine).source ≡ (M.view self.old.machine).source }
     {
         let mut due = false;
         let count = self.outs.len();
@@ -48,8 +48,8 @@ impl<M: Machine> Node<M> {
 
     /// Puts what is held on each output, and says whether something moved.
     pub(crate) fn send_all(&mut self, wires: &mut Wires) -> bool
-        requires shaped { IsShaped M.in_lanes M.out_lanes self.old wires.old }
-        ensures stepped { Stepped M.in_lanes M.out_lanes M.source_of M.device_of M.failures M.fault_of M.stands (Acts (result ≡ true) (Unit {0})) self.old wires.old self.new wires.new }
+        requires shaped { IsShaped M.view self.old wires.old }
+        ensures stepped { Stepped M.view (Acts (result ≡ true) (Unit {0})) self.old wires.old self.new wires.new }
         ensures same { result ≡ false → IsSame self.old self.new × (wires.new ≡ wires.old) }
         ensures full { result ≡ false → (q : ℕ) → q < length self.old.outs.items → (out_at self.old.outs.items q).done ≡ false → is_some (out_at self.old.outs.items q).held ≡ true → IsFull wires.old (out_at self.old.outs.items q).wire }
     {
@@ -64,8 +64,8 @@ impl<M: Machine> Node<M> {
 
     /// Takes from each input, and says whether something moved.
     pub(crate) fn take_all(&mut self, wires: &mut Wires) -> bool
-        requires shaped { IsShaped M.in_lanes M.out_lanes self.old wires.old }
-        ensures stepped { Stepped M.in_lanes M.out_lanes M.source_of M.device_of M.failures M.fault_of M.stands (Acts (result ≡ true) (⊥)) self.old wires.old self.new wires.new }
+        requires shaped { IsShaped M.view self.old wires.old }
+        ensures stepped { Stepped M.view (Acts (result ≡ true) (⊥)) self.old wires.old self.new wires.new }
         ensures same { result ≡ false → IsSame self.old self.new × (wires.new ≡ wires.old) }
         ensures empty { result ≡ false → self.old.refused ≡ false → (p : ℕ) → p < length self.old.ins.items → (in_at self.old.ins.items p).done ≡ false → IsEmpty wires.old (in_at self.old.ins.items p).wire }
     {
@@ -80,11 +80,11 @@ impl<M: Machine> Node<M> {
 
     /// Puts Broken on each output, and says whether something moved.
     pub(crate) fn break_all(&mut self, wires: &mut Wires) -> bool
-        requires shaped { IsShaped M.in_lanes M.out_lanes self.old wires.old }
-        requires faulty { IsSound M.fault_of self.old → ⊥ }
-        ensures stepped { Stepped M.in_lanes M.out_lanes M.source_of M.device_of M.failures M.fault_of M.stands (Acts (result ≡ true) (Unit {0})) self.old wires.old self.new wires.new }
+        requires shaped { IsShaped M.view self.old wires.old }
+        requires faulty { IsSound M.view self.old → ⊥ }
+        ensures stepped { Stepped M.view (Acts (result ≡ true) (Unit {0})) self.old wires.old self.new wires.new }
         ensures same { result ≡ false → IsSame self.old self.new × (wires.new ≡ wires.old) }
-        ensures faulty { IsSound M.fault_of self.new → ⊥ }
+        ensures faulty { IsSound M.view self.new → ⊥ }
         ensures full { result ≡ false → (q : ℕ) → q < length self.old.outs.items → (out_at self.old.outs.items q).done ≡ false → IsFull wires.old (out_at self.old.outs.items q).wire }
     {
         let mut moved = false;
@@ -98,14 +98,14 @@ impl<M: Machine> Node<M> {
 
     /// Finishes each input that can matter no more, and says whether something moved.
     pub(crate) fn close_all(&mut self, wires: &mut Wires) -> bool
-        requires shaped { IsShaped M.in_lanes M.out_lanes self.old wires.old }
-        ensures stepped { Stepped M.in_lanes M.out_lanes M.source_of M.device_of M.failures M.fault_of M.stands (Acts (result ≡ true) (Unit {0})) self.old wires.old self.new wires.new }
+        requires shaped { IsShaped M.view self.old wires.old }
+        ensures stepped { Stepped M.view (Acts (result ≡ true) (Unit {0})) self.old wires.old self.new wires.new }
         ensures same { result ≡ false → IsSame self.old self.new × (wires.new ≡ wires.old) }
         ensures machine { self.new.machine ≡ self.old.machine }
         ensures outs { self.new.outs ≡ self.old.outs }
         ensures refused { self.new.refused ≡ self.old.refused }
-        ensures spent { (p : ℕ) → p < length self.new.ins.items → M.is_spent self.new.machine p → (in_at self.new.ins.items p).done ≡ true }
-        ensures faulty { (IsSound M.fault_of self.new → ⊥) → (p : ℕ) → p < length self.new.ins.items → (in_at self.new.ins.items p).done ≡ true }
+        ensures spent { (p : ℕ) → p < length self.new.ins.items → (M.view self.new.machine).spent p → (in_at self.new.ins.items p).done ≡ true }
+        ensures faulty { (IsSound M.view self.new → ⊥) → (p : ℕ) → p < length self.new.ins.items → (in_at self.new.ins.items p).done ≡ true }
         ensures done { 0 < length self.new.outs.items → AreDone self.new.outs.items → (p : ℕ) → p < length self.new.ins.items → (in_at self.new.ins.items p).done ≡ true }
     {
         let mut moved = false;

@@ -19,17 +19,17 @@ impl<M: Machine> Node<M> {
     /// Lets the machine give the next item of an output to hold, and says whether one is held.
     pub(crate) fn fill(&mut self, p: usize) -> bool
         requires there { p < length self.old.outs.items }
-        requires outputs { length self.old.outs.items ≡ length (M.out_lanes self.old.machine) }
-        ensures stepped { (wires : Wires) → Stepped M.in_lanes M.out_lanes M.source_of M.device_of M.failures M.fault_of M.stands (Readies M.fault_of (λ q. q ≡ p) result self.new) self.old wires self.new wires }
+        requires outputs { length self.old.outs.items ≡ length (M.view self.old.machine).out_lanes }
+        ensures stepped { (wires : Wires) → Stepped M.view (Readies M.view (λ q. q ≡ p) result self.new) self.old wires self.new wires }
         ensures held { result ≡ true → ((out_at self.new.outs.items p).done ≡ false) × (is_some (out_at self.new.outs.items p).held ≡ true) }
         ensures empty { result ≡ false → (out_at self.new.outs.items p).done ≡ false → (out_at self.new.outs.items p).held ≡ None }
         ensures others { (q : ℕ) → q ≢ p → out_at self.new.outs.items q ≡ out_at self.old.outs.items q }
         ensures done { (out_at self.new.outs.items p).done ≡ (out_at self.old.outs.items p).done }
         ensures ins { self.new.ins ≡ self.old.ins }
         ensures count { length self.new.outs.items ≡ length self.old.outs.items }
-        ensures out_lanes { M.out_lanes self.new.machine ≡ M.out_lanes self.old.machine }
-        ensures sound { IsSound M.fault_of self.new → IsSound M.fault_of self.old }
-        ensures source { M.source_of self.new.machine ≡ M.source_of self.old.machine }
+        ensures out_lanes { (M.view self.new.machine).out_lanes ≡ (M.view self.old.machine).out_lanes }
+        ensures sound { IsSound M.view self.new → IsSound M.view self.old }
+        ensures source { (M.view self.new.machine).source ≡ (M.view self.old.machine).source }
     {
         if out_done(&self.outs, p) {
             return false;
@@ -52,14 +52,14 @@ impl<M: Machine> Node<M> {
 
     /// Allows a source one ticket more, and says whether it took it.
     pub(crate) fn allow(&mut self) -> bool
-        ensures stepped { (wires : Wires) → Stepped M.in_lanes M.out_lanes M.source_of M.device_of M.failures M.fault_of M.stands (Grants result) self.old wires self.new wires }
+        ensures stepped { (wires : Wires) → Stepped M.view (Grants result) self.old wires self.new wires }
         ensures outs { self.new.outs ≡ self.old.outs }
         ensures ins { self.new.ins ≡ self.old.ins }
-        ensures out_lanes { M.out_lanes self.new.machine ≡ M.out_lanes self.old.machine }
-        ensures sound { IsSound M.fault_of self.new → IsSound M.fault_of self.old }
-        ensures source { M.source_of self.new.machine ≡ M.source_of self.old.machine }
+        ensures out_lanes { (M.view self.new.machine).out_lanes ≡ (M.view self.old.machine).out_lanes }
+        ensures sound { IsSound M.view self.new → IsSound M.view self.old }
+        ensures source { (M.view self.new.machine).source ≡ (M.view self.old.machine).source }
         ensures place { result ≡ false → self.new.place ≡ self.old.place }
-        ensures back { result ≡ false → (M.source_of self.old.machine ≡ None) ⊎ M.holds self.old.machine ⊎ (2 ^ 64 - 1 ≤ self.old.place) }
+        ensures back { result ≡ false → ((M.view self.old.machine).source ≡ None) ⊎ (M.view self.old.machine).holds ⊎ (2 ^ 64 - 1 ≤ self.old.place) }
     {
         let Some(source) = self.machine.source() else {
             return false;
@@ -79,9 +79,9 @@ impl<M: Machine> Node<M> {
 
     /// Puts what an output holds.
     pub(crate) fn send(&mut self, wires: &mut Wires, p: usize) -> bool
-        requires shaped { IsShaped M.in_lanes M.out_lanes self.old wires.old }
+        requires shaped { IsShaped M.view self.old wires.old }
         requires there { p < length self.old.outs.items }
-        ensures stepped { Stepped M.in_lanes M.out_lanes M.source_of M.device_of M.failures M.fault_of M.stands (Acts (result ≡ true) (Unit {0})) self.old wires.old self.new wires.new }
+        ensures stepped { Stepped M.view (Acts (result ≡ true) (Unit {0})) self.old wires.old self.new wires.new }
         ensures same { result ≡ false → IsSame self.old self.new × (wires.new ≡ wires.old) }
         ensures full { result ≡ false → (out_at self.old.outs.items p).done ≡ false → is_some (out_at self.old.outs.items p).held ≡ true → IsFull wires.old (out_at self.old.outs.items p).wire }
     {
@@ -116,9 +116,9 @@ impl<M: Machine> Node<M> {
 
     /// Takes an item from a wire, and feeds it.
     pub(crate) fn take(&mut self, wires: &mut Wires, p: usize) -> bool
-        requires shaped { IsShaped M.in_lanes M.out_lanes self.old wires.old }
+        requires shaped { IsShaped M.view self.old wires.old }
         requires there { p < length self.old.ins.items }
-        ensures stepped { Stepped M.in_lanes M.out_lanes M.source_of M.device_of M.failures M.fault_of M.stands (Acts (result ≡ true) (⊥)) self.old wires.old self.new wires.new }
+        ensures stepped { Stepped M.view (Acts (result ≡ true) (⊥)) self.old wires.old self.new wires.new }
         ensures same { result ≡ false → IsSame self.old self.new × (wires.new ≡ wires.old) }
         ensures empty { result ≡ false → (in_at self.old.ins.items p).done ≡ false → self.old.refused ≡ false → IsEmpty wires.old (in_at self.old.ins.items p).wire }
     {
@@ -145,10 +145,10 @@ impl<M: Machine> Node<M> {
     /// Whether an input can matter no more.
     pub(crate) fn may_finish(&self, p: usize) -> bool
         requires there { p < length self.now.ins.items }
-        requires inputs { length self.now.ins.items ≡ length (M.in_lanes self.now.machine) }
-        ensures why { result ≡ true → IsSound M.fault_of self.now → M.is_spent self.now.machine p ⊎ ((0 < length self.now.outs.items) × AreDone self.now.outs.items) }
-        ensures spent { M.is_spent self.now.machine p → result ≡ true }
-        ensures faulty { (IsSound M.fault_of self.now → ⊥) → result ≡ true }
+        requires inputs { length self.now.ins.items ≡ length (M.view self.now.machine).in_lanes }
+        ensures why { result ≡ true → IsSound M.view self.now → (M.view self.now.machine).spent p ⊎ ((0 < length self.now.outs.items) × AreDone self.now.outs.items) }
+        ensures spent { (M.view self.now.machine).spent p → result ≡ true }
+        ensures faulty { (IsSound M.view self.now → ⊥) → result ≡ true }
         ensures done { 0 < length self.now.outs.items → AreDone self.now.outs.items → result ≡ true }
     {
         if self.machine.spent(p) {
@@ -162,16 +162,16 @@ impl<M: Machine> Node<M> {
 
     /// Finishes an input that can matter no more, and says whether it did.
     pub(crate) fn close(&mut self, wires: &mut Wires, p: usize) -> bool
-        requires shaped { IsShaped M.in_lanes M.out_lanes self.old wires.old }
+        requires shaped { IsShaped M.view self.old wires.old }
         requires there { p < length self.old.ins.items }
-        ensures stepped { Stepped M.in_lanes M.out_lanes M.source_of M.device_of M.failures M.fault_of M.stands (Acts (result ≡ true) (Unit {0})) self.old wires.old self.new wires.new }
+        ensures stepped { Stepped M.view (Acts (result ≡ true) (Unit {0})) self.old wires.old self.new wires.new }
         ensures same { result ≡ false → IsSame self.old self.new × (wires.new ≡ wires.old) }
         ensures machine { self.new.machine ≡ self.old.machine }
         ensures outs { self.new.outs ≡ self.old.outs }
         ensures refused { self.new.refused ≡ self.old.refused }
         ensures others { (q : ℕ) → q ≢ p → in_at self.new.ins.items q ≡ in_at self.old.ins.items q }
-        ensures spent { M.is_spent self.old.machine p → (in_at self.new.ins.items p).done ≡ true }
-        ensures faulty { (IsSound M.fault_of self.old → ⊥) → (in_at self.new.ins.items p).done ≡ true }
+        ensures spent { (M.view self.old.machine).spent p → (in_at self.new.ins.items p).done ≡ true }
+        ensures faulty { (IsSound M.view self.old → ⊥) → (in_at self.new.ins.items p).done ≡ true }
         ensures done { 0 < length self.old.outs.items → AreDone self.old.outs.items → (in_at self.new.ins.items p).done ≡ true }
     {
         if in_done(&self.ins, p) {
@@ -187,12 +187,12 @@ impl<M: Machine> Node<M> {
 
     /// Puts Broken in place of what an output holds.
     pub(crate) fn break_off(&mut self, wires: &mut Wires, p: usize) -> bool
-        requires shaped { IsShaped M.in_lanes M.out_lanes self.old wires.old }
+        requires shaped { IsShaped M.view self.old wires.old }
         requires there { p < length self.old.outs.items }
-        requires faulty { IsSound M.fault_of self.old → ⊥ }
-        ensures stepped { Stepped M.in_lanes M.out_lanes M.source_of M.device_of M.failures M.fault_of M.stands (Acts (result ≡ true) (Unit {0})) self.old wires.old self.new wires.new }
+        requires faulty { IsSound M.view self.old → ⊥ }
+        ensures stepped { Stepped M.view (Acts (result ≡ true) (Unit {0})) self.old wires.old self.new wires.new }
         ensures same { result ≡ false → IsSame self.old self.new × (wires.new ≡ wires.old) }
-        ensures faulty { IsSound M.fault_of self.new → ⊥ }
+        ensures faulty { IsSound M.view self.new → ⊥ }
         ensures full { result ≡ false → (out_at self.old.outs.items p).done ≡ false → IsFull wires.old (out_at self.old.outs.items p).wire }
     {
         if out_done(&self.outs, p) {

@@ -23,8 +23,8 @@ pub struct Ready {
 impl<M: Machine> Node<M> {
     /// Lets the machine give what it has, and allows a source one ticket where nothing is due.
     pub(crate) fn ready(&mut self) -> Ready
-        requires outputs { length self.old.outs.items ≡ length (M.out_lanes self.old.machine) }
-        ensures stepped { (wires : Wires) → Stepped M.in_lanes M.out_lanes M.source_of M.device_of M.failures M.fault_of M.stands (Prepares M.source_of M.fault_of result.granted result.due self.old self.new) self.old wires self.new wires }
+        requires outputs { length self.old.outs.items ≡ length (M.view self.old.machine).out_lanes }
+        ensures stepped { (wires : Wires) → Stepped M.view (Prepares M.view result.granted result.due self.old self.new) self.old wires self.new wires }
         ensures held { result.due ≡ true → SomeHeld self.new.outs.items }
         ensures none { result.due ≡ false → NoneHeld self.new.outs.items }
     {
@@ -57,9 +57,9 @@ impl<M: Machine> Node<M> {
 
     /// Sends what is held, or takes, or breaks off, and says whether something moved.
     pub(crate) fn act(&mut self, wires: &mut Wires) -> bool
-        requires shaped { IsShaped M.in_lanes M.out_lanes self.old wires.old }
-        ensures stepped { Stepped M.in_lanes M.out_lanes M.source_of M.device_of M.failures M.fault_of M.stands (Turns M.source_of M.fault_of result self.old self.new) self.old wires.old self.new wires.new }
-        ensures waits { result ≡ false → Waits M.fault_of self.new wires.new }
+        requires shaped { IsShaped M.view self.old wires.old }
+        ensures stepped { Stepped M.view (Turns M.view result self.old self.new) self.old wires.old self.new wires.new }
+        ensures waits { result ≡ false → Waits M.view self.new wires.new }
     {
         if self.fault().is_some() {
             return self.break_all(wires);
@@ -79,8 +79,8 @@ impl<M: Machine> Node<M> {
 
     /// Lets the machine give what it has, and says whether an item is due: an output holds one, or the node has a fault.
     pub fn is_due(&mut self) -> bool
-        requires shaped { (wires : Wires) × IsShaped M.in_lanes M.out_lanes self.old wires }
-        ensures stepped { (wires : Wires) → Stepped M.in_lanes M.out_lanes M.source_of M.device_of M.failures M.fault_of M.stands (Fills M.fault_of result self.old) self.old wires self.new wires }
+        requires shaped { (wires : Wires) × IsShaped M.view self.old wires }
+        ensures stepped { (wires : Wires) → Stepped M.view (Fills M.view result self.old) self.old wires self.new wires }
     {
         let held = self.fill_all();
         if held {
@@ -92,12 +92,12 @@ impl<M: Machine> Node<M> {
     /// One turn: at most one ticket, and none where an item is due, one item taken from each input and one put on each output. A node with a fault
     /// sends Broken down each output that goes on, finishes its inputs, and is done.
     pub fn turn(&mut self, wires: &mut Wires) -> Turn
-        requires shaped { IsShaped M.in_lanes M.out_lanes self.old wires.old }
-        ensures stepped { Stepped M.in_lanes M.out_lanes M.source_of M.device_of M.failures M.fault_of M.stands (Answers M.fault_of result self.old self.new wires.new) self.old wires.old self.new wires.new }
+        requires shaped { IsShaped M.view self.old wires.old }
+        ensures stepped { Stepped M.view (Answers M.view result self.old self.new wires.new) self.old wires.old self.new wires.new }
         ensures done { result ≡ Turn.Done → IsDone self.new }
-        ensures closed { (world : ℕ → Wire) (past : Past) → NodeStands M.in_lanes M.source_of M.fault_of M.stands self.new world past → (p : ℕ) → p < inputs_of self.new → IsClosed (world (in_wire_of self.new p)).taken → HasFinished self.new p }
-        ensures spent { (p : ℕ) → p < inputs_of self.new → M.is_spent (machine_of self.new) p → HasFinished self.new p }
-        ensures faulty { (IsSound M.fault_of self.new → ⊥) → (p : ℕ) → p < inputs_of self.new → HasFinished self.new p }
+        ensures closed { (world : ℕ → Wire) (past : Past) → NodeStands M.view self.new world past → (p : ℕ) → p < inputs_of self.new → IsClosed (world (in_wire_of self.new p)).taken → HasFinished self.new p }
+        ensures spent { (p : ℕ) → p < inputs_of self.new → (M.view (machine_of self.new)).spent p → HasFinished self.new p }
+        ensures faulty { (IsSound M.view self.new → ⊥) → (p : ℕ) → p < inputs_of self.new → HasFinished self.new p }
     {
         let acted = self.act(wires);
         let closed = self.close_all(wires);

@@ -10,27 +10,27 @@ use Rattle.ff_net.proofs.node.Node.allow.Goals as goal
 
 pub returns-in-None-clause-stepped : goal.returns-in-None-clause-stepped
 returns-in-None-clause-stepped g c wires =
-    let m = g.M.Machine in
+    let view = g.M.Machine.view in
     let node = c.args.self.now in
     let t : Ticket = record { source = c.in-Some.source; place = node.place } in
-    let is_source : m.source_of node.machine ≡ Some c.in-Some.source = sym c.source.ensures ∙ c.in-Some.is in
+    let is_source : (view node.machine).source ≡ Some c.in-Some.source = sym c.source.ensures ∙ c.in-Some.is in
     record {
       ins_same = refl;
       outs_same = refl;
-      in_lanes_same = c.allow.ensures.in_lanes;
-      out_lanes_same = c.allow.ensures.out_lanes;
+      in_lanes_same = c.allow.ensures.shape.in_lanes;
+      out_lanes_same = c.allow.ensures.shape.out_lanes;
       fares = c.allow.ensures.fares;
       lanes_same = refl;
       goes = λ world past stand was.
           let since = was_allowed past t in
           let now = c.in-None.ensures.taken refl past was.machine in
           let places : past.allowed ≡ tickets (Some c.in-Some.source) node.place = was.allowed ∙ ap (λ (s : Option ℕ). tickets s node.place) is_source in
-          let allowed : since.allowed ≡ tickets (m.source_of c.allow.new.self) (node.place + 1) =
-          ap (λ (ts : List Ticket). ts ++ t ∷ []) places ∙ (ap (λ (n : ℕ). tickets (Some c.in-Some.source) n) (sym (add-one node.place)) ∙ ap (λ (s : Option ℕ). tickets s (node.place + 1)) (sym (c.allow.ensures.source ∙ is_source))) in record {
+          let allowed : since.allowed ≡ tickets (view c.allow.new.self).source (node.place + 1) =
+          ap (λ (ts : List Ticket). ts ++ t ∷ []) places ∙ (ap (λ (n : ℕ). tickets (Some c.in-Some.source) n) (sym (add-one node.place)) ∙ ap (λ (s : Option ℕ). tickets s (node.place + 1)) (sym (c.allow.ensures.shape.source ∙ is_source))) in record {
             now = world;
             since = since;
             stand = stand;
-            fits = machine_step m.in_lanes m.source_of m.fault_of m.stands node _ world past since was now (λ s. (s.0, fault_back _ _ c.allow.ensures.fares.stays s.1)) (λ r. r) refl refl c.allow.ensures.in_lanes refl refl refl refl allowed;
+            fits = machine_step view node _ world past since was now (λ s. (s.0, fault_back _ _ c.allow.ensures.fares.stays s.1)) (λ r. r) refl refl c.allow.ensures.shape.in_lanes refl refl refl refl allowed;
             course = course_past _ _ world past since refl (t ∷ [], refl) (λ q i. i);
             so = record {
               moves = λ e. granted (pushed_tickets past.allowed t);
@@ -46,22 +46,22 @@ returns-in-None-clause-stepped g c wires =
 
 pub returns-in-Some-allow-clause-stepped : goal.returns-in-Some-allow-clause-stepped
 returns-in-Some-allow-clause-stepped g c wires =
-    let m = g.M.Machine in
+    let view = g.M.Machine.view in
     let node = c.args.self.now in
     record {
       ins_same = refl;
       outs_same = refl;
-      in_lanes_same = c.allow.ensures.in_lanes;
-      out_lanes_same = c.allow.ensures.out_lanes;
+      in_lanes_same = c.allow.ensures.shape.in_lanes;
+      out_lanes_same = c.allow.ensures.shape.out_lanes;
       fares = c.allow.ensures.fares;
       lanes_same = refl;
       goes = λ world past stand was.
           let now = c.in-Some-allow.ensures.back.1 past was.machine in
-          let allowed : past.allowed ≡ tickets (m.source_of c.allow.new.self) node.place = was.allowed ∙ ap (λ (s : Option ℕ). tickets s node.place) (sym c.allow.ensures.source) in record {
+          let allowed : past.allowed ≡ tickets (view c.allow.new.self).source node.place = was.allowed ∙ ap (λ (s : Option ℕ). tickets s node.place) (sym c.allow.ensures.shape.source) in record {
             now = world;
             since = past;
             stand = stand;
-            fits = machine_step m.in_lanes m.source_of m.fault_of m.stands node _ world past past was now (λ s. (s.0, fault_back _ _ c.allow.ensures.fares.stays s.1)) (λ r. r) refl refl c.allow.ensures.in_lanes refl refl refl refl allowed;
+            fits = machine_step view node _ world past past was now (λ s. (s.0, fault_back _ _ c.allow.ensures.fares.stays s.1)) (λ r. r) refl refl c.allow.ensures.shape.in_lanes refl refl refl refl allowed;
             course = course_past _ _ world past past refl (prefix_self past.allowed) (λ q i. i);
             so = record {
               moves = λ e. absurd (true_not_false (sym e));

@@ -10,16 +10,16 @@ use Rattle.ff_net.proofs.node.Node.break_all.Goals as goal
 
 pub loop-p-preserved : goal.loop-p-preserved
 loop-p-preserved g c =
-    let m = g.M.Machine in
+    let view = g.M.Machine.view in
     let before = c.loop-p.self in
     let after = c.break_off-broke.new.self in
     let e = c.break_off-broke.ensures in
     let i = c.loop-p.invariant in
     let p = c.loop-p.p in
     let wires = c.break_off-broke.new.wires in record {
-      shaped = shaped_later m.in_lanes m.out_lanes m.source_of m.device_of m.failures m.fault_of m.stands _ before c.loop-p.wires after wires e.stepped i.shaped;
-      count = i.count ∙ sym (outs_kept m.in_lanes m.out_lanes m.source_of m.device_of m.failures m.fault_of m.stands _ before c.loop-p.wires after wires e.stepped);
-      stepped = stepped_then m.in_lanes m.out_lanes m.source_of m.device_of m.failures m.fault_of m.stands _ _ (Acts ((c.loop-p.moved || c.break_off-broke.result) ≡ true) (Unit {0})) c.args.self.now c.args.wires.now before c.loop-p.wires after wires
+      shaped = shaped_later view _ before c.loop-p.wires after wires e.stepped i.shaped;
+      count = i.count ∙ sym (outs_kept view _ before c.loop-p.wires after wires e.stepped);
+      stepped = stepped_then view _ _ (Acts ((c.loop-p.moved || c.break_off-broke.result) ≡ true) (Unit {0})) c.args.self.now c.args.wires.now before c.loop-p.wires after wires
           (λ a o b q d r x y f s. let j = acts_join _ _ c.loop-p.moved c.break_off-broke.result a b d o q r (Unit {0}) (Unit {0}) x y f s in record { moves = j.moves; takes_nothing = λ t. j.takes_nothing (tt, tt); allows_nothing = j.allows_nothing }) i.stepped e.stepped;
       same = λ n. let no = or_false c.loop-p.moved c.break_off-broke.result n in let was = i.same no.0 in let now = e.same no.1 in (same_trans c.args.self.now before after was.0 now.0, now.1 ∙ was.1);
       faulty = e.faulty;

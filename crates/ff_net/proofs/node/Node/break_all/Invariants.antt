@@ -7,11 +7,11 @@ use Rattle.ff_net.proofs.node.Node.break_all.Given as goal
 
 abbrev pub invariant-loop-p : goal.invariant-loop-p
 invariant-loop-p g l =
-    let m = g.M.Machine in record {
-      shaped : IsShaped m.in_lanes m.out_lanes l.self l.wires;
+    let view = g.M.Machine.view in record {
+      shaped : IsShaped view l.self l.wires;
       count : l.count ≡ length l.self.outs.items;
-      stepped : Stepped m.in_lanes m.out_lanes m.source_of m.device_of m.failures m.fault_of m.stands (Acts (l.moved ≡ true) (Unit {0})) l.fn.self l.fn.wires l.self l.wires;
+      stepped : Stepped view (Acts (l.moved ≡ true) (Unit {0})) l.fn.self l.fn.wires l.self l.wires;
       same : l.moved ≡ false → IsSame l.fn.self l.self × (l.wires ≡ l.fn.wires);
-      faulty : IsSound m.fault_of l.self → ⊥;
+      faulty : IsSound view l.self → ⊥;
       full : l.moved ≡ false → (q : ℕ) → q < l.p → (out_at l.fn.self.outs.items q).done ≡ false → IsFull l.fn.wires (out_at l.fn.self.outs.items q).wire;
     }

@@ -16,8 +16,8 @@ finish-requires g c = subst (λ (w : ℕ). w < length (lanes_of c.args.wires.now
 
 pub returns-clause-stepped : goal.returns-clause-stepped
 returns-clause-stepped g c =
-    let m = g.M.Machine in
-    let laws = g.met.M.Machine in
+    let view = g.M.Machine.view in
+    let laws = g.met.M.Machine.laws in
     let node = c.args.self.now in
     let ins = node.ins.items in
     let p = c.args.p in
@@ -26,28 +26,28 @@ returns-clause-stepped g c =
     let busy : old.done ≡ false = sym c.in_done.ensures ∙ c.if-in_done.false in
     let set = c.finish_in.ensures in
     let wire : c.in_wire.result ≡ old.wire = c.in_wire.ensures in
-    let count : length node.outs.items ≡ length (m.out_lanes node.machine) = out_ports_count node.outs.items _ (lanes_of c.args.wires.now) c.requires.shaped.outs in
+    let count : length node.outs.items ≡ length (view node.machine).out_lanes = out_ports_count node.outs.items _ (lanes_of c.args.wires.now) c.requires.shaped.outs in
     record {
       ins_same = ap (λ is. in_wires is) set ∙ in_wires_set ins p _ there refl;
       outs_same = refl;
       in_lanes_same = refl;
       out_lanes_same = refl;
-      fares = fault_self m.device_of m.failures m.fault_of node.machine;
+      fares = fault_self (view node.machine);
       lanes_same = c.finish.ensures.lanes;
       goes = λ world past stand was.
           let i = was.ins p there in
-          let why : IsSound m.fault_of node → IsClosed (world old.wire).taken ⊎ MayClose m.in_lanes node past p =
+          let why : IsSound view node → IsClosed (world old.wire).taken ⊎ MayClose view node past p =
           λ s. elim (c.if-not-may_finish.ensures.why refl s) [
-            | inl spent ↦ elim (laws.spent_only node.machine past p was.machine spent) [
+            | inl spent ↦ elim ((laws node.machine).spent_only past p was.machine spent) [
               | inl c ↦ inl (subst (λ (t : Flow). IsClosed t) (i.exact s.0) c)
-              | inr o ↦ inr (subst (λ (n : ℕ). 0 < n) (sym count) o.0, inl (subst (λ (n : ℕ). NoMatter (m.in_lanes node.machine) n past p) (sym count) o.1))
+              | inr o ↦ inr (subst (λ (n : ℕ). 0 < n) (sym count) o.0, inl (subst (λ (n : ℕ). NoMatter (view node.machine).in_lanes n past p) (sym count) o.1))
             ]
             | inr d ↦ inr (d.0, inr d.1)
           ] in record {
             now = finish_on world old.wire;
             since = past;
             stand = subst (λ (w : ℕ). Stand c.finish.new.self (finish_on world w)) wire (c.finish.ensures.finished world stand);
-            fits = closed m.in_lanes m.source_of m.fault_of m.stands node _ world past p (m.in_lanes node.machine) (lanes_of c.args.wires.now) was refl refl refl refl set there c.requires.shaped.ins why;
+            fits = closed view node _ world past p (view node.machine).in_lanes (lanes_of c.args.wires.now) was refl refl refl refl set there c.requires.shaped.ins why;
             course = course_finish _ _ world old.wire past (in_wire_in ins p old.wire there refl);
             so = record {
               moves = λ e. finished old.wire (sym i.flag ∙ busy) (ap (λ (u : Wire). u.finished) (with_wire_same world old.wire _ old.wire refl));

@@ -6,15 +6,15 @@ use Rattle.ff_net.proofs.node.Node.close_all.Given as goal
 
 abbrev pub invariant-loop-p : goal.invariant-loop-p
 invariant-loop-p g l =
-    let m = g.M.Machine in record {
-      shaped : IsShaped m.in_lanes m.out_lanes l.self l.wires;
+    let view = g.M.Machine.view in record {
+      shaped : IsShaped view l.self l.wires;
       count : l.count ≡ length l.self.ins.items;
-      stepped : Stepped m.in_lanes m.out_lanes m.source_of m.device_of m.failures m.fault_of m.stands (Acts (l.moved ≡ true) (Unit {0})) l.fn.self l.fn.wires l.self l.wires;
+      stepped : Stepped view (Acts (l.moved ≡ true) (Unit {0})) l.fn.self l.fn.wires l.self l.wires;
       same : l.moved ≡ false → IsSame l.fn.self l.self × (l.wires ≡ l.fn.wires);
       machine : l.self.machine ≡ l.fn.self.machine;
       outs : l.self.outs ≡ l.fn.self.outs;
       refused : l.self.refused ≡ l.fn.self.refused;
-      spent : (q : ℕ) → q < l.p → m.is_spent l.self.machine q → (in_at l.self.ins.items q).done ≡ true;
-      broken : (IsSound m.fault_of l.self → ⊥) → (q : ℕ) → q < l.p → (in_at l.self.ins.items q).done ≡ true;
+      spent : (q : ℕ) → q < l.p → (view l.self.machine).spent q → (in_at l.self.ins.items q).done ≡ true;
+      broken : (IsSound view l.self → ⊥) → (q : ℕ) → q < l.p → (in_at l.self.ins.items q).done ≡ true;
       done : 0 < length l.self.outs.items → AreDone l.self.outs.items → (q : ℕ) → q < l.p → (in_at l.self.ins.items q).done ≡ true;
     }

@@ -14,7 +14,7 @@ use Rattle.ff_net.proofs.node.Node.fill.Goals as goal
 
 pub returns-in-Ok-Some-clause-stepped : goal.returns-in-Ok-Some-clause-stepped
 returns-in-Ok-Some-clause-stepped g c wires =
-    let m = g.M.Machine in
+    let view = g.M.Machine.view in
     let node = c.args.self.now in
     let p = c.args.p in
     let x = c.in-Ok-Some.item in
@@ -25,16 +25,16 @@ returns-in-Ok-Some-clause-stepped g c wires =
     record {
       ins_same = refl;
       outs_same = ap (λ os. out_wires os) set ∙ out_wires_set node.outs.items p _ there refl;
-      in_lanes_same = c.pull.ensures.in_lanes;
-      out_lanes_same = c.pull.ensures.out_lanes;
+      in_lanes_same = c.pull.ensures.shape.in_lanes;
+      out_lanes_same = c.pull.ensures.shape.out_lanes;
       fares = c.pull.ensures.fares;
       lanes_same = refl;
       goes = λ world past stand was.
-          let gives = c.in-Ok-Some.ensures.gives x (ap (λ (o : Option Item). Ok o) c.in-Ok-Some.field-0-is) past was.machine (busy_goes_on m.in_lanes m.source_of m.fault_of m.stands node world past p was busy) in record {
+          let gives = c.in-Ok-Some.ensures.gives x (ap (λ (o : Option Item). Ok o) c.in-Ok-Some.field-0-is) past was.machine (busy_goes_on view node world past p was busy) in record {
             now = world;
             since = gave_item past p x;
             stand = stand;
-            fits = fill_some m.in_lanes m.source_of m.fault_of m.stands node _ world past p x was gives.0 c.pull.ensures.fares.stays refl c.pull.ensures.source c.pull.ensures.in_lanes refl refl set there none busy gives.1;
+            fits = fill_some view node _ world past p x was gives.0 c.pull.ensures.fares.stays refl c.pull.ensures.shape.source c.pull.ensures.shape.in_lanes refl refl set there none busy gives.1;
             course = course_past _ _ world past (gave_item past p x) refl (prefix_self past.allowed) (λ q i. i);
             so = record {
               sent = λ w. refl;
@@ -56,7 +56,7 @@ returns-in-Ok-Some-clause-stepped g c wires =
 
 pub returns-in-Ok-None-clause-stepped : goal.returns-in-Ok-None-clause-stepped
 returns-in-Ok-None-clause-stepped g c wires =
-    let m = g.M.Machine in
+    let view = g.M.Machine.view in
     let node = c.args.self.now in
     let p = c.args.p in
     let there = c.requires.there in
@@ -65,17 +65,17 @@ returns-in-Ok-None-clause-stepped g c wires =
     record {
       ins_same = refl;
       outs_same = refl;
-      in_lanes_same = c.pull.ensures.in_lanes;
-      out_lanes_same = c.pull.ensures.out_lanes;
+      in_lanes_same = c.pull.ensures.shape.in_lanes;
+      out_lanes_same = c.pull.ensures.shape.out_lanes;
       fares = c.pull.ensures.fares;
       lanes_same = refl;
       goes = λ world past stand was.
-          let goes_on = busy_goes_on m.in_lanes m.source_of m.fault_of m.stands node world past p was busy in
+          let goes_on = busy_goes_on view node world past p was busy in
           let now = c.in-Ok-None.ensures.waits (ap (λ (o : Option Item). Ok o) c.in-Ok-None.field-0-is) past was.machine goes_on in record {
             now = world;
             since = was_asked past p;
             stand = stand;
-            fits = machine_step m.in_lanes m.source_of m.fault_of m.stands node _ world past (was_asked past p) was now (λ s. (s.0, fault_back _ _ c.pull.ensures.fares.stays s.1)) (λ r. r) refl refl c.pull.ensures.in_lanes refl refl refl refl (was.allowed ∙ ap (λ s. tickets s node.place) (sym c.pull.ensures.source));
+            fits = machine_step view node _ world past (was_asked past p) was now (λ s. (s.0, fault_back _ _ c.pull.ensures.fares.stays s.1)) (λ r. r) refl refl c.pull.ensures.shape.in_lanes refl refl refl refl (was.allowed ∙ ap (λ s. tickets s node.place) (sym c.pull.ensures.shape.source));
             course = course_past _ _ world past (was_asked past p) refl (prefix_self past.allowed) (λ q i. i);
             so = record {
               sent = λ w. refl;
@@ -85,8 +85,8 @@ returns-in-Ok-None-clause-stepped g c wires =
               allowed = refl;
               stopped = refl;
               none_due = λ s q e d h.
-                  let fine : m.fault_of node.machine ≡ None = fault_back _ _ c.pull.ensures.fares.stays s.1 in
-                  let goes : GoesOn (m.fault_of node.machine) = subst (λ (f : Option Fault). GoesOn f) (sym fine) tt in
+                  let fine : (view node.machine).fault ≡ None = fault_back _ _ c.pull.ensures.fares.stays s.1 in
+                  let goes : GoesOn (view node.machine).fault = subst (λ (f : Option Fault). GoesOn f) (sym fine) tt in
                   let given : (world (out_at node.outs.items p).wire).sent ≡ stream_at past.gave p = subst (λ (h : Option Item). HeldIs h (world (out_at node.outs.items p).wire).sent (stream_at past.gave p)) none ((was.outs p there).held busy) in
                   let all : stream_at past.gave p ≡ stream_at (due past) p = elim (c.in-Ok-None.ensures.none_due (ap (λ (o : Option Item). Ok o) c.in-Ok-None.field-0-is) goes past was.machine goes_on) [ inl same ↦ same | inr device ↦ absurd (let no = sym s.1 ∙ device in cc (no)) ] in
                   subst (λ (r : ℕ). (world (out_at node.outs.items r).wire).sent ≡ stream_at (due past) r) (sym e) (given ∙ all);

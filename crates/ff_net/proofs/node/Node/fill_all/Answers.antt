@@ -9,7 +9,7 @@ use Rattle.ff_net.proofs.node.Node.fill_all.Goals as goal
 
 pub loop-p-preserved : goal.loop-p-preserved
 loop-p-preserved g c =
-    let m = g.M.Machine in
+    let view = g.M.Machine.view in
     let before = c.loop-p.self in
     let after = c.fill-held.new.self in
     let e = c.fill-held.ensures in
@@ -17,8 +17,8 @@ loop-p-preserved g c =
     let p = c.loop-p.p in record {
       count = i.count ∙ sym e.count;
       outputs = e.count ∙ (i.outputs ∙ ap length (sym e.out_lanes));
-      stepped = λ wires. stepped_then m.in_lanes m.out_lanes m.source_of m.device_of m.failures m.fault_of m.stands _ _ (Readies m.fault_of (λ q. q < p + 1) (c.loop-p.due || c.fill-held.result) after) c.args.self.now wires before wires after wires
-          (λ a o b q d r x y f s. readies_join m.fault_of p c.loop-p.due c.fill-held.result before after a b d o q r e.sound e.others x.task f s) (i.stepped wires) (e.stepped wires);
+      stepped = λ wires. stepped_then view _ _ (Readies view (λ q. q < p + 1) (c.loop-p.due || c.fill-held.result) after) c.args.self.now wires before wires after wires
+          (λ a o b q d r x y f s. readies_join view p c.loop-p.due c.fill-held.result before after a b d o q r e.sound e.others x.task f s) (i.stepped wires) (e.stepped wires);
       held = λ t. elim (or_true c.loop-p.due c.fill-held.result t) [
         | inl was ↦
             let h = i.held was in
@@ -53,10 +53,10 @@ loop-p-preserved g c =
 
 pub returns-clause-stepped : goal.returns-clause-stepped
 returns-clause-stepped g c wires =
-    let m = g.M.Machine in
+    let view = g.M.Machine.view in
     let i = c.loop-p.invariant in
     let all : c.loop-p.p ≡ length c.loop-p.self.outs.items = omega (arith, i.count) in
-    subst (λ (n : ℕ). Stepped m.in_lanes m.out_lanes m.source_of m.device_of m.failures m.fault_of m.stands (Readies m.fault_of (λ q. q < n) c.loop-p.due c.loop-p.self) c.args.self.now wires c.loop-p.self wires) all (i.stepped wires)
+    subst (λ (n : ℕ). Stepped view (Readies view (λ q. q < n) c.loop-p.due c.loop-p.self) c.args.self.now wires c.loop-p.self wires) all (i.stepped wires)
 
 pub returns-clause-held : goal.returns-clause-held
 returns-clause-held g c t = (c.loop-p.invariant.held t).0

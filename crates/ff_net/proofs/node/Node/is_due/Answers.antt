@@ -1,4 +1,4 @@
-use Rattle.std.proofs.Common.{true, false, sym, ◌∙◌}
+use Rattle.std.proofs.Common.{true, sym, ◌∙◌}
 use Rattle.ff_net.specs.Steps.{Fills}
 use Rattle.ff_net.proofs.Acting.{none_if_not_some}
 use Rattle.ff_net.proofs.Moments.{stepped_as}
@@ -15,25 +15,25 @@ fill_all-held-requires g c =
 
 pub returns-then-held : goal.returns-then-held
 returns-then-held g c =
-    let m = g.M.Machine in
+    let view = g.M.Machine.view in
     let e = c.fill_all-held.ensures in record {
-      stepped = λ wires. stepped_as m.in_lanes m.out_lanes m.source_of m.device_of m.failures m.fault_of m.stands _ (Fills m.fault_of true c.args.self.now) c.args.self.now wires c.fill_all-held.new.self wires
+      stepped = λ wires. stepped_as view _ (Fills view true c.args.self.now) c.args.self.now wires c.fill_all-held.new.self wires
           (λ a p b q x f. record { sent = f.sent; taken = f.taken; finished = f.finished; allowed = f.allowed; stopped = f.stopped; none_before = λ no. absurd (true_not_false no) }) (e.stepped wires);
     }
 
 pub returns : goal.returns
 returns g c =
-    let m = g.M.Machine in
+    let view = g.M.Machine.view in
     let before = c.args.self.now in
     let filled = c.fill_all-held.new.self in
     let e = c.fill_all-held.ensures in record {
-      stepped = λ wires. stepped_as m.in_lanes m.out_lanes m.source_of m.device_of m.failures m.fault_of m.stands _ (Fills m.fault_of c.is_some.result before) before wires filled wires
+      stepped = λ wires. stepped_as view _ (Fills view c.is_some.result before) before wires filled wires
           (λ a p b q x f. record {
             sent = f.sent;
             taken = f.taken;
             finished = f.finished;
             allowed = f.allowed;
             stopped = f.stopped;
-            none_before = λ no k d. none_before m.in_lanes m.source_of m.fault_of m.stands before filled c.fill_all-held.result a b p q e.sound e.count (e.stepped wires).outs_same e.done (e.none c.if-held.false) f (c.fault.ensures.sound (none_if_not_some c.fault.result (sym c.is_some.ensures ∙ no))) k d;
+            none_before = λ no k d. none_before view before filled c.fill_all-held.result a b p q e.sound e.count (e.stepped wires).outs_same e.done (e.none c.if-held.false) f (c.fault.ensures.sound (none_if_not_some c.fault.result (sym c.is_some.ensures ∙ no))) k d;
           }) (e.stepped wires);
     }

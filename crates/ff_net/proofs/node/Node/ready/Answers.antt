@@ -22,11 +22,11 @@ fill_all-more-requires g c =
 
 pub returns-then-due-clause-stepped : goal.returns-then-due-clause-stepped
 returns-then-due-clause-stepped g c wires =
-    let m = g.M.Machine in
+    let view = g.M.Machine.view in
     let before = c.args.self.now in
     let filled = c.fill_all-due.new.self in
     let e = c.fill_all-due.ensures in
-    stepped_then m.in_lanes m.out_lanes m.source_of m.device_of m.failures m.fault_of m.stands _ (λ a p b q. (b ≡ a) × (q ≡ p)) (Prepares m.source_of m.fault_of false true before filled) before wires filled wires filled wires
+    stepped_then view _ (λ a p b q. (b ≡ a) × (q ≡ p)) (Prepares view false true before filled) before wires filled wires filled wires
     (λ w p v q u r x y f s. record {
       moves = λ t. absurd (true_not_false (sym t));
       taken = λ k. ap (λ (z : ℕ → Wire). (z k).taken) s.0 ∙ f.taken k;
@@ -39,41 +39,41 @@ returns-then-due-clause-stepped g c wires =
             ap (λ (z : ℕ → Wire). (z wire).sent) s.0 ∙ (f.sent wire ∙ (f.none_due ok k lt busy none ∙ ap (λ (ss : List Flow). stream_at ss k) (sym dues)));
         ungranted = λ ok none k lt busy. absurd (some_not_none filled.outs.items (e.held c.if-due.true) none);
       };
-    }) (e.stepped wires) (stepped_self m.in_lanes m.out_lanes m.source_of m.device_of m.failures m.fault_of m.stands (λ a p b q. (b ≡ a) × (q ≡ p)) filled wires (λ w p. (refl, refl)))
+    }) (e.stepped wires) (stepped_self view (λ a p b q. (b ≡ a) × (q ≡ p)) filled wires (λ w p. (refl, refl)))
 
 pub returns-then-is_some-clause-stepped : goal.returns-then-is_some-clause-stepped
 returns-then-is_some-clause-stepped g c wires =
-    let m = g.M.Machine in
+    let view = g.M.Machine.view in
     let before = c.args.self.now in
     let filled = c.fill_all-due.new.self in
     let e = c.fill_all-due.ensures in
-    let faulty : IsSound m.fault_of filled → ⊥ = λ ok. some_is_faulty c.fault.result (sym c.is_some.ensures ∙ c.if-is_some.true) (c.fault.ensures.none ok) in
-    stepped_then m.in_lanes m.out_lanes m.source_of m.device_of m.failures m.fault_of m.stands _ (λ a p b q. (b ≡ a) × (q ≡ p)) (Prepares m.source_of m.fault_of false false before filled) before wires filled wires filled wires
+    let faulty : IsSound view filled → ⊥ = λ ok. some_is_faulty c.fault.result (sym c.is_some.ensures ∙ c.if-is_some.true) (c.fault.ensures.none ok) in
+    stepped_then view _ (λ a p b q. (b ≡ a) × (q ≡ p)) (Prepares view false false before filled) before wires filled wires filled wires
     (λ w p v q u r x y f s. record {
       moves = λ t. absurd (true_not_false (sym t));
       taken = λ k. ap (λ (z : ℕ → Wire). (z k).taken) s.0 ∙ f.taken k;
       allows_nothing = λ k d. ap (λ (z : Past). z.allowed) s.1 ∙ f.allowed;
       none_before = λ ok no. absurd (faulty ok);
       rests = λ no. record { none_due = λ ok. absurd (faulty ok); ungranted = λ ok. absurd (faulty ok) };
-    }) (e.stepped wires) (stepped_self m.in_lanes m.out_lanes m.source_of m.device_of m.failures m.fault_of m.stands (λ a p b q. (b ≡ a) × (q ≡ p)) filled wires (λ w p. (refl, refl)))
+    }) (e.stepped wires) (stepped_self view (λ a p b q. (b ≡ a) × (q ≡ p)) filled wires (λ w p. (refl, refl)))
 
 pub returns-then-not-granted-clause-stepped : goal.returns-then-not-granted-clause-stepped
 returns-then-not-granted-clause-stepped g c wires =
-    let m = g.M.Machine in
-    let laws = g.met.M.Machine in
+    let view = g.M.Machine.view in
+    let laws = g.met.M.Machine.laws in
     let before = c.args.self.now in
     let filled = c.fill_all-due.new.self in
     let after = c.allow-granted.new.self in
     let e = c.fill_all-due.ensures in
     let a = c.allow-granted.ensures in
     let outs : after.outs.items ≡ filled.outs.items = ap (λ os. os.items) a.outs in
-    let count : length filled.outs.items ≡ length (m.out_lanes filled.machine) = e.count ∙ (c.requires.outputs ∙ ap length (sym e.out_lanes)) in
-    stepped_through m.in_lanes m.out_lanes m.source_of m.device_of m.failures m.fault_of m.stands _ _ (Prepares m.source_of m.fault_of false false before after) before wires filled wires after wires
+    let count : length filled.outs.items ≡ length (view filled.machine).out_lanes = e.count ∙ (c.requires.outputs ∙ ap length (sym e.out_lanes)) in
+    stepped_through view _ _ (Prepares view false false before after) before wires filled wires after wires
     (λ w p v q u r was mid x y f s. record {
       moves = λ t. absurd (true_not_false (sym t));
       taken = λ k. s.taken k ∙ f.taken k;
       allows_nothing = λ k d. ap (λ (z : Past). z.allowed) (s.same c.if-not-granted.true) ∙ f.allowed;
-      none_before = λ ok no. none_before m.in_lanes m.source_of m.fault_of m.stands before filled c.fill_all-due.result w v p q e.sound e.count (e.stepped wires).outs_same e.done (e.none c.if-due.false) f (a.sound ok);
+      none_before = λ ok no. none_before view before filled c.fill_all-due.result w v p q e.sound e.count (e.stepped wires).outs_same e.done (e.none c.if-due.false) f (a.sound ok);
       rests = λ no. record {
         none_due = λ ok.
             let same : r ≡ q = s.same c.if-not-granted.true in
@@ -81,7 +81,7 @@ returns-then-not-granted-clause-stepped g c wires =
             subst (λ (os : List OutPort). (k : ℕ) → k < length os → (out_at os k).done ≡ false → (out_at os k).held ≡ None → (u (out_at os k).wire).sent ≡ stream_at (due r) k) (sym outs)
             (λ k lt busy none. s.sent (out_at filled.outs.items k).wire ∙ (f.sent (out_at filled.outs.items k).wire ∙ (f.none_due (a.sound ok) k lt busy none ∙ ap (λ (ss : List Flow). stream_at ss k) (sym dues))));
         ungranted = λ ok none k lt busy.
-            elim (ungranted m.in_lanes m.source_of m.fault_of m.stands m.out_lanes m.holds laws.ticket_used filled v q w p c.fill_all-due.result e.held mid (a.sound ok) count (subst NoneHeld outs none) f (a.back c.if-not-granted.true) k (subst (λ (os : List OutPort). k < length os) outs lt) (subst (λ (os : List OutPort). (out_at os k).done ≡ false) outs busy)) [
+            elim (ungranted view laws filled v q w p c.fill_all-due.result e.held mid (a.sound ok) count (subst NoneHeld outs none) f (a.back c.if-not-granted.true) k (subst (λ (os : List OutPort). k < length os) outs lt) (subst (λ (os : List OutPort). (out_at os k).done ≡ false) outs busy)) [
               | inl n ↦ inl (a.source ∙ n)
               | inr full ↦ inr (subst (λ (z : ℕ). 2 ^ 64 - 1 ≤ z) (sym (a.place c.if-not-granted.true)) full)
             ];
@@ -90,7 +90,7 @@ returns-then-not-granted-clause-stepped g c wires =
 
 pub returns-clause-stepped : goal.returns-clause-stepped
 returns-clause-stepped g c wires =
-    let m = g.M.Machine in
+    let view = g.M.Machine.view in
     let before = c.args.self.now in
     let filled = c.fill_all-due.new.self in
     let after = c.allow-granted.new.self in
@@ -98,16 +98,16 @@ returns-clause-stepped g c wires =
     let e = c.fill_all-due.ensures in
     let a = c.allow-granted.ensures in
     let f2 = c.fill_all-more.ensures in
-    let fine : IsSound m.fault_of filled = c.fault.ensures.sound (none_if_not_some c.fault.result (sym c.is_some.ensures ∙ c.if-is_some.false)) in
-    let first = stepped_then m.in_lanes m.out_lanes m.source_of m.device_of m.failures m.fault_of m.stands _ _ (Prepares m.source_of m.fault_of true false before after) before wires filled wires after wires
+    let fine : IsSound view filled = c.fault.ensures.sound (none_if_not_some c.fault.result (sym c.is_some.ensures ∙ c.if-is_some.false)) in
+    let first = stepped_then view _ _ (Prepares view true false before after) before wires filled wires after wires
     (λ w p v q u r x y f s. record {
       moves = λ t. then_moves _ _ w v u p q r x y (s.moves c.if-not-granted.false);
       taken = λ k. s.taken k ∙ f.taken k;
-      allows_nothing = λ k d. absurd (none_before m.in_lanes m.source_of m.fault_of m.stands before filled c.fill_all-due.result w v p q e.sound e.count (e.stepped wires).outs_same e.done (e.none c.if-due.false) f fine k d);
-      none_before = λ ok no. none_before m.in_lanes m.source_of m.fault_of m.stands before filled c.fill_all-due.result w v p q e.sound e.count (e.stepped wires).outs_same e.done (e.none c.if-due.false) f (a.sound ok);
+      allows_nothing = λ k d. absurd (none_before view before filled c.fill_all-due.result w v p q e.sound e.count (e.stepped wires).outs_same e.done (e.none c.if-due.false) f fine k d);
+      none_before = λ ok no. none_before view before filled c.fill_all-due.result w v p q e.sound e.count (e.stepped wires).outs_same e.done (e.none c.if-due.false) f (a.sound ok);
       rests = λ no. absurd (true_not_false no);
     }) (e.stepped wires) (a.stepped wires) in
-    stepped_then m.in_lanes m.out_lanes m.source_of m.device_of m.failures m.fault_of m.stands _ _ (Prepares m.source_of m.fault_of true c.fill_all-more.result before last) before wires after wires last wires
+    stepped_then view _ _ (Prepares view true c.fill_all-more.result before last) before wires after wires last wires
     (λ w p v q u r x y f s. record {
       moves = λ t. moves_then _ _ w v u p q r x y (f.moves refl);
       taken = λ k. s.taken k ∙ f.taken k;

@@ -19,8 +19,8 @@ try_put-requires g c = subst (λ (w : ℕ). w < length (lanes_of c.args.wires.no
 
 pub returns-in-Done-clause-stepped : goal.returns-in-Done-clause-stepped
 returns-in-Done-clause-stepped g c =
-    let m = g.M.Machine in
-    let laws = g.met.M.Machine in
+    let view = g.M.Machine.view in
+    let laws = g.met.M.Machine.laws in
     let node = c.args.self.now in
     let outs = node.outs.items in
     let p = c.args.p in
@@ -37,16 +37,16 @@ returns-in-Done-clause-stepped g c =
       outs_same = ap (λ os. out_wires os) set ∙ out_wires_set outs p _ there refl;
       in_lanes_same = refl;
       out_lanes_same = refl;
-      fares = fault_self m.device_of m.failures m.fault_of node.machine;
+      fares = fault_self (view node.machine);
       lanes_same = c.try_put.ensures.lanes;
       goes = λ world past stand was.
           let unclosed = (was.outs p there).unclosed busy in
-          let valid = sent_valid m.in_lanes m.source_of m.fault_of m.stands node c.args.wires.now world past p (m.in_lanes node.machine) (m.out_lanes node.machine) stand was (laws.valid node.machine past was.machine) (laws.keeps node.machine past was.machine) x (laws.given node.machine past was.machine) c.requires.shaped.outs there busy held in
+          let valid = sent_valid view node c.args.wires.now world past p (view node.machine).in_lanes (view node.machine).out_lanes stand was ((laws node.machine).valid past was.machine) ((laws node.machine).keeps past was.machine) x ((laws node.machine).given past was.machine) c.requires.shaped.outs there busy held in
           let done : Stand c.try_put.new.self (put_on world old.wire x) = subst (λ (w : ℕ). Stand c.try_put.new.self (put_on world w x)) wire ((c.in-Done.ensures.done refl world stand (rw wire unclosed) (rw wire valid)).1) in record {
             now = put_on world old.wire x;
             since = past;
             stand = done;
-            fits = send_done m.in_lanes m.source_of m.fault_of m.stands node _ world past p x c.closes-closes.result (m.out_lanes node.machine) (lanes_of c.args.wires.now) was refl refl refl refl set there c.requires.shaped.outs held busy c.closes-closes.ensures;
+            fits = send_done view node _ world past p x c.closes-closes.result (view node.machine).out_lanes (lanes_of c.args.wires.now) was refl refl refl refl set there c.requires.shaped.outs held busy c.closes-closes.ensures;
             course = course_put _ _ world old.wire x past (out_wire_in outs p old.wire there refl) unclosed;
             so = record {
               moves = λ e. put old.wire (λ same. with_item_new (world old.wire).sent x unclosed (sym (ap (λ (u : Wire). u.sent) (with_wire_same world old.wire _ old.wire refl)) ∙ same));
@@ -74,19 +74,19 @@ returns-in-Full-clause-same g c is =
 
 pub returns-in-Full-clause-stepped : goal.returns-in-Full-clause-stepped
 returns-in-Full-clause-stepped g c =
-    let m = g.M.Machine in
+    let view = g.M.Machine.view in
     let same = returns-in-Full-clause-same g c refl in record {
       ins_same = refl;
       outs_same = ap (λ os. out_wires os) same.0.outs;
       in_lanes_same = refl;
       out_lanes_same = refl;
-      fares = fault_self m.device_of m.failures m.fault_of c.args.self.now.machine;
+      fares = fault_self (view c.args.self.now.machine);
       lanes_same = c.try_put.ensures.lanes;
       goes = λ world past stand was. record {
         now = world;
         since = past;
         stand = subst (λ (w : Wires). Stand w world) (sym same.1) stand;
-        fits = same_stands m.in_lanes m.source_of m.fault_of m.stands c.args.self.now _ world past same.0 was;
+        fits = same_stands view c.args.self.now _ world past same.0 was;
         course = course_past _ _ world past past refl (prefix_self past.allowed) (λ q i. i);
         so = record { moves = λ e. absurd (true_not_false (sym e)); takes_nothing = λ q w. refl; allows_nothing = refl };
       };
@@ -94,7 +94,7 @@ returns-in-Full-clause-stepped g c =
 
 pub returns-in-Finished-clause-stepped : goal.returns-in-Finished-clause-stepped
 returns-in-Finished-clause-stepped g c =
-    let m = g.M.Machine in
+    let view = g.M.Machine.view in
     let node = c.args.self.now in
     let outs = node.outs.items in
     let p = c.args.p in
@@ -107,17 +107,17 @@ returns-in-Finished-clause-stepped g c =
     record {
       ins_same = refl;
       outs_same = ap (λ os. out_wires os) set ∙ out_wires_set outs p _ there refl;
-      in_lanes_same = c.stop.ensures.in_lanes;
-      out_lanes_same = c.stop.ensures.out_lanes;
+      in_lanes_same = c.stop.ensures.shape.in_lanes;
+      out_lanes_same = c.stop.ensures.shape.out_lanes;
       fares = c.stop.ensures.fares;
       lanes_same = c.try_put.ensures.lanes;
       goes = λ world past stand was.
-          let goes_on = busy_goes_on m.in_lanes m.source_of m.fault_of m.stands node world past p was busy in
+          let goes_on = busy_goes_on view node world past p was busy in
           let flag : (world old.wire).finished ≡ true = subst (λ (w : ℕ). (world w).finished ≡ true) c.out_wire-wire.ensures (finished_of c.args.wires.now.queues.items world c.out_wire-wire.result stand (in_queues c.args.wires.now.queues.items c.out_wire-wire.result (subst (λ (w : ℕ). w < length (lanes_of c.args.wires.now)) (sym c.out_wire-wire.ensures) (out_wire_there outs _ (lanes_of c.args.wires.now) c.requires.shaped.outs p there))) finished.2) in record {
             now = world;
             since = was_stopped past p;
             stand = subst (λ (w : Wires). Stand w world) (sym finished.1) stand;
-            fits = told m.in_lanes m.source_of m.fault_of m.stands node _ world past p None was (c.stop.ensures.stopped past was.machine) c.stop.ensures.fares.stays refl c.stop.ensures.source c.stop.ensures.in_lanes refl refl set there busy flag;
+            fits = told view node _ world past p None was (c.stop.ensures.stopped past was.machine) c.stop.ensures.fares.stays refl c.stop.ensures.shape.source c.stop.ensures.shape.in_lanes refl refl set there busy flag;
             course = course_past _ _ world past (was_stopped past p) refl (prefix_self past.allowed) (λ q i. inr i);
             so = record { moves = λ e. was_told p goes_on (inl refl); takes_nothing = λ q w. refl; allows_nothing = refl };
           };

@@ -20,8 +20,8 @@ try_take-requires g c = subst (λ (w : ℕ). w < length (lanes_of c.args.wires.n
 
 pub returns-in-Ok-clause-stepped : goal.returns-in-Ok-clause-stepped
 returns-in-Ok-clause-stepped g c =
-    let m = g.M.Machine in
-    let laws = g.met.M.Machine in
+    let view = g.M.Machine.view in
+    let laws = g.met.M.Machine.laws in
     let node = c.args.self.now in
     let ins = node.ins.items in
     let p = c.args.p in
@@ -35,8 +35,8 @@ returns-in-Ok-clause-stepped g c =
     record {
       ins_same = refl;
       outs_same = refl;
-      in_lanes_same = c.feed.ensures.in_lanes;
-      out_lanes_same = c.feed.ensures.out_lanes;
+      in_lanes_same = c.feed.ensures.shape.in_lanes;
+      out_lanes_same = c.feed.ensures.shape.out_lanes;
       fares = c.feed.ensures.fares;
       lanes_same = c.try_take.ensures.lanes;
       goes = λ world past stand was.
@@ -46,16 +46,16 @@ returns-in-Ok-clause-stepped g c =
           let i = was.ins p there in
           let got : stream_at past.got p ≡ (world old.wire).taken = i.exact fresh in
           let got_open : (stream_at past.got p).mark ≡ still_open = ap (λ (s : Flow). s.mark) got ∙ unclosed in
-          let valid = laws.valid node.machine past was.machine in
+          let valid = (laws node.machine).valid past was.machine in
           let since = fed past p x in
-          let valid' = taken_valid m.in_lanes m.source_of m.fault_of m.stands node c.args.wires.now world past p (m.in_lanes node.machine) (m.out_lanes node.machine) stand was valid (laws.keeps node.machine past was.machine) x c.try_take.new.self later c.try_take.ensures.lanes c.requires.shaped.ins there got in
+          let valid' = taken_valid view node c.args.wires.now world past p (view node.machine).in_lanes (view node.machine).out_lanes stand was valid ((laws node.machine).keeps past was.machine) x c.try_take.new.self later c.try_take.ensures.lanes c.requires.shaped.ins there got in
           let grown : stream_at since.got p ≡ with_item (world old.wire).taken x = stream_at-with_item_same past.got p x ∙ ap (λ (s : Flow). with_item s x) got in record {
             now = take_on world old.wire x;
             since = since;
             stand = later;
-            fits = took m.in_lanes m.source_of m.fault_of m.stands node after world past since p x (m.in_lanes node.machine) (lanes_of c.args.wires.now) was (c.in-Ok.ensures.accepted past was.machine got_open valid') c.feed.ensures.fares.stays fresh
-                (may_stay m.in_lanes node after past since c.feed.ensures.in_lanes refl (λ d. d) refl (fed_above past p x got_open) (λ q i. i))
-                refl c.feed.ensures.source refl refl there c.requires.shaped.ins busy refl refl refl (λ q n. stream_at-with_item_other past.got p q x n) (inl grown) (λ r. grown);
+            fits = took view node after world past since p x (view node.machine).in_lanes (lanes_of c.args.wires.now) was (c.in-Ok.ensures.accepted past was.machine got_open valid') c.feed.ensures.fares.stays fresh
+                (may_stay view node after past since c.feed.ensures.shape.in_lanes refl (λ d. d) refl (fed_above past p x got_open) (λ q i. i))
+                refl c.feed.ensures.shape.source refl refl there c.requires.shaped.ins busy refl refl refl (λ q n. stream_at-with_item_other past.got p q x n) (inl grown) (λ r. grown);
             course = course_take _ _ world old.wire x past since refl refl refl (in_wire_in ins p old.wire there refl) (sym (was.ins p there).flag ∙ busy) unclosed;
             so = record {
               moves = λ e. has_taken old.wire (λ same. with_item_new (world old.wire).taken x unclosed (sym (ap (λ (u : Wire). u.taken) (with_wire_same world old.wire _ old.wire refl)) ∙ same));
@@ -67,7 +67,7 @@ returns-in-Ok-clause-stepped g c =
 
 pub returns-in-Err-clause-stepped : goal.returns-in-Err-clause-stepped
 returns-in-Err-clause-stepped g c =
-    let m = g.M.Machine in
+    let view = g.M.Machine.view in
     let node = c.args.self.now in
     let ins = node.ins.items in
     let p = c.args.p in
@@ -81,8 +81,8 @@ returns-in-Err-clause-stepped g c =
     record {
       ins_same = refl;
       outs_same = refl;
-      in_lanes_same = c.feed.ensures.in_lanes;
-      out_lanes_same = c.feed.ensures.out_lanes;
+      in_lanes_same = c.feed.ensures.shape.in_lanes;
+      out_lanes_same = c.feed.ensures.shape.out_lanes;
       fares = c.feed.ensures.fares;
       lanes_same = c.try_take.ensures.lanes;
       goes = λ world past stand was.
@@ -94,9 +94,9 @@ returns-in-Err-clause-stepped g c =
             now = take_on world old.wire x;
             since = past;
             stand = later;
-            fits = took m.in_lanes m.source_of m.fault_of m.stands node after world past past p x (m.in_lanes node.machine) (lanes_of c.args.wires.now) was (c.in-Err.ensures.unchanged past was.machine) c.feed.ensures.fares.stays fresh
-                (may_machine m.in_lanes node after past past c.feed.ensures.in_lanes refl refl refl (λ q i. i))
-                refl c.feed.ensures.source refl refl there c.requires.shaped.ins busy refl refl refl (λ q n. refl) (inr (got_open, (x, ap (λ (s : Flow). with_item s x) got))) (λ r. absurd (true_not_false r));
+            fits = took view node after world past past p x (view node.machine).in_lanes (lanes_of c.args.wires.now) was (c.in-Err.ensures.unchanged past was.machine) c.feed.ensures.fares.stays fresh
+                (may_machine view node after past past c.feed.ensures.shape.in_lanes refl refl refl (λ q i. i))
+                refl c.feed.ensures.shape.source refl refl there c.requires.shaped.ins busy refl refl refl (λ q n. refl) (inr (got_open, (x, ap (λ (s : Flow). with_item s x) got))) (λ r. absurd (true_not_false r));
             course = course_take _ _ world old.wire x past past refl refl refl (in_wire_in ins p old.wire there refl) (sym (was.ins p there).flag ∙ busy) unclosed;
             so = record {
               moves = λ e. has_taken old.wire (λ same. with_item_new (world old.wire).taken x unclosed (sym (ap (λ (u : Wire). u.taken) (with_wire_same world old.wire _ old.wire refl)) ∙ same));

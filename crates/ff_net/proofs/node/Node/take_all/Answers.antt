@@ -10,16 +10,16 @@ use Rattle.ff_net.proofs.node.Node.take_all.Goals as goal
 
 pub loop-p-preserved : goal.loop-p-preserved
 loop-p-preserved g c =
-    let m = g.M.Machine in
+    let view = g.M.Machine.view in
     let before = c.loop-p.self in
     let after = c.take-took.new.self in
     let e = c.take-took.ensures in
     let i = c.loop-p.invariant in
     let p = c.loop-p.p in
     let wires = c.take-took.new.wires in record {
-      shaped = shaped_later m.in_lanes m.out_lanes m.source_of m.device_of m.failures m.fault_of m.stands _ before c.loop-p.wires after wires e.stepped i.shaped;
-      count = i.count ∙ sym (ins_kept m.in_lanes m.out_lanes m.source_of m.device_of m.failures m.fault_of m.stands _ before c.loop-p.wires after wires e.stepped);
-      stepped = stepped_then m.in_lanes m.out_lanes m.source_of m.device_of m.failures m.fault_of m.stands _ _ (Acts ((c.loop-p.moved || c.take-took.result) ≡ true) (⊥)) c.args.self.now c.args.wires.now before c.loop-p.wires after wires
+      shaped = shaped_later view _ before c.loop-p.wires after wires e.stepped i.shaped;
+      count = i.count ∙ sym (ins_kept view _ before c.loop-p.wires after wires e.stepped);
+      stepped = stepped_then view _ _ (Acts ((c.loop-p.moved || c.take-took.result) ≡ true) (⊥)) c.args.self.now c.args.wires.now before c.loop-p.wires after wires
           (λ a o b q d r x y f s. let j = acts_join _ _ c.loop-p.moved c.take-took.result a b d o q r ⊥ ⊥ x y f s in record { moves = j.moves; takes_nothing = λ t w. absurd t; allows_nothing = j.allows_nothing }) i.stepped e.stepped;
       same = λ n. let no = or_false c.loop-p.moved c.take-took.result n in let was = i.same no.0 in let now = e.same no.1 in (same_trans c.args.self.now before after was.0 now.0, now.1 ∙ was.1);
       empty = λ n fresh. let no = or_false c.loop-p.moved c.take-took.result n in let was = i.same no.0 in

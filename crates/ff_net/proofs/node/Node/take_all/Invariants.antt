@@ -7,10 +7,10 @@ use Rattle.ff_net.proofs.node.Node.take_all.Given as goal
 
 abbrev pub invariant-loop-p : goal.invariant-loop-p
 invariant-loop-p g l =
-    let m = g.M.Machine in record {
-      shaped : IsShaped m.in_lanes m.out_lanes l.self l.wires;
+    let view = g.M.Machine.view in record {
+      shaped : IsShaped view l.self l.wires;
       count : l.count ≡ length l.self.ins.items;
-      stepped : Stepped m.in_lanes m.out_lanes m.source_of m.device_of m.failures m.fault_of m.stands (Acts (l.moved ≡ true) (⊥)) l.fn.self l.fn.wires l.self l.wires;
+      stepped : Stepped view (Acts (l.moved ≡ true) (⊥)) l.fn.self l.fn.wires l.self l.wires;
       same : l.moved ≡ false → IsSame l.fn.self l.self × (l.wires ≡ l.fn.wires);
       empty : l.moved ≡ false → l.fn.self.refused ≡ false → (q : ℕ) → q < l.p → (in_at l.fn.self.ins.items q).done ≡ false → IsEmpty l.fn.wires (in_at l.fn.self.ins.items q).wire;
     }
