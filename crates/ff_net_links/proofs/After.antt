@@ -2,8 +2,8 @@
 use Rattle.std.proofs.Common.{◌≡◌, ℕ, zero, suc, ◌<◌, inl, inr, List, [], ◌∷◌, length, slice_index_or, refl, ap, sym, ◌∙◌, subst, arith, Option, None, Some}
 use Rattle.ff_frame.specs.declared.item.Lane.{Lane}
 use Rattle.ff_link.specs.Views.{Link}
-use Rattle.ff_net.specs.declared.fault.Fault.{Fault}
-use Rattle.ff_net.specs.Pasts.{Past, Task, IsIn}
+use Rattle.ff_net.specs.Pasts.{Task, IsIn}
+use Rattle.ff_net.specs.Views.{View}
 use Rattle.ff_net_links.specs.declared.ends.InEnd.{InEnd}
 use Rattle.ff_net_links.specs.declared.ends.OutEnd.{OutEnd}
 use Rattle.ff_net_links.specs.declared.linked.Linked.{Linked}
@@ -18,9 +18,9 @@ link_nth [] p = refl
 link_nth (e ∷ es) zero = refl
 link_nth (e ∷ es) (suc p) = link_nth es p
 
-module _ {M : Type 0} (in_lanes out_lanes : M → List Lane) (source : M → Option ℕ) (device : M → Option (List ℕ)) (failures : M → ℕ) (fault : M → Option Fault) (stands : M → Past → Type 0) where
+module _ {M : Type 0} (view : M → View) where
   abbrev Run : List (Linked M) → List (Linked M) → Type 0
-  Run olds news = AllRan in_lanes out_lanes source device failures fault stands olds news
+  Run olds news = AllRan view olds news
 
   run_rest : (o n : Linked M) (os ns : List (Linked M)) → Run (o ∷ os) (n ∷ ns) → Run os ns
   run_rest o n os ns r = (let same = r.0 in omega arith, λ i d lt. r.1 (suc i) d (omega arith))
@@ -28,7 +28,7 @@ module _ {M : Type 0} (in_lanes out_lanes : M → List Lane) (source : M → Opt
   pub ended_after : (olds news : List (Linked M)) → Run olds news → AllEnded news
   ended_after olds news r = record { each = λ k d lt. (r.1 k d (subst (λ (n : ℕ). k < n) r.0 lt)).1 }
 
-  pub behind_after : (tasks : ℕ → Task) (olds news : List (Linked M)) → ((k : ℕ) (d : Linked M) → k < length olds → Behind in_lanes out_lanes source fault stands (tasks k) (slice_index_or olds k d)) → Run olds news → AllBehind in_lanes out_lanes source fault stands tasks news
+  pub behind_after : (tasks : ℕ → Task) (olds news : List (Linked M)) → ((k : ℕ) (d : Linked M) → k < length olds → Behind view (tasks k) (slice_index_or olds k d)) → Run olds news → AllBehind view tasks news
   behind_after tasks olds [] h r = tt
   behind_after tasks [] (n ∷ ns) h r = absurd (let same = r.0 in omega arith)
   behind_after tasks (o ∷ os) (n ∷ ns) h r = (
@@ -36,7 +36,7 @@ module _ {M : Type 0} (in_lanes out_lanes : M → List Lane) (source : M → Opt
     behind_after (λ k. tasks (suc k)) os ns (λ k d lt. h (suc k) d (omega arith)) (run_rest o n os ns r),
   )
 
-  in_link_after : (links : ℕ → Link) (old new : Linked M) → Follows in_lanes out_lanes source device failures fault stands old new → ((p : ℕ) → p < length (ins_of old) → in_link (in_end_at (ins_of old) p) ≡ Some (links (in_end_at (ins_of old) p).wire))
+  in_link_after : (links : ℕ → Link) (old new : Linked M) → Follows view old new → ((p : ℕ) → p < length (ins_of old) → in_link (in_end_at (ins_of old) p) ≡ Some (links (in_end_at (ins_of old) p).wire))
       → (p : ℕ) → p < length (ins_of new) → in_link (in_end_at (ins_of new) p) ≡ Some (links (in_end_at (ins_of new) p).wire)
   in_link_after links old new f h p lt =
       let count : length (ins_of new) ≡ length (ins_of old) = sym (count_map (λ (e : InEnd). e.wire) (ins_of new)) ∙ (ap length f.in_ends_same ∙ count_map (λ (e : InEnd). e.wire) (ins_of old)) in
@@ -44,7 +44,7 @@ module _ {M : Type 0} (in_lanes out_lanes : M → List Lane) (source : M → Opt
       let wire : (in_end_at (ins_of new) p).wire ≡ (in_end_at (ins_of old) p).wire = sym (in_nth (ins_of new) p) ∙ (ap (λ (ws : List ℕ). slice_index_or ws p 0) f.in_ends_same ∙ in_nth (ins_of old) p) in
       link ∙ (h p (subst (λ (n : ℕ). p < n) count lt) ∙ ap (λ (w : ℕ). Some (links w)) (sym wire))
 
-  out_link_after : (links : ℕ → Link) (old new : Linked M) → Follows in_lanes out_lanes source device failures fault stands old new → ((q : ℕ) (e : OutEnd) → q < length (outs_of old) → out_link (slice_index_or (outs_of old) q e) ≡ Some (links (slice_index_or (outs_of old) q e).wire))
+  out_link_after : (links : ℕ → Link) (old new : Linked M) → Follows view old new → ((q : ℕ) (e : OutEnd) → q < length (outs_of old) → out_link (slice_index_or (outs_of old) q e) ≡ Some (links (slice_index_or (outs_of old) q e).wire))
       → (q : ℕ) (e : OutEnd) → q < length (outs_of new) → out_link (slice_index_or (outs_of new) q e) ≡ Some (links (slice_index_or (outs_of new) q e).wire)
   out_link_after links old new f h q e lt =
       let count : length (outs_of new) ≡ length (outs_of old) = sym (count_map (λ (x : OutEnd). x.wire) (outs_of new)) ∙ (ap length f.out_ends_same ∙ count_map (λ (x : OutEnd). x.wire) (outs_of old)) in

@@ -8,7 +8,6 @@ use Rattle.ff_frame.specs.declared.item.Item.{Item}
 use Rattle.ff_link.specs.Sendings.{stream_of, IsSending}
 use Rattle.ff_link.proofs.Sendings.{nothing_sent}
 use Rattle.ff_link.specs.Views.{Link, Sending, Receiving}
-use Rattle.ff_net.specs.declared.fault.Fault.{Fault}
 use Rattle.ff_net.specs.declared.node.Node.{Node}
 use Rattle.ff_net.specs.declared.wires.Wires.{Wires}
 use Rattle.ff_net.specs.Ways.{Flow, lane_at, IsValidOn}
@@ -17,6 +16,7 @@ use Rattle.ff_net.specs.Pasts.{Past, Task, IsIn, start}
 use Rattle.ff_net.specs.Worlds.{Wire, fresh, lanes_of}
 use Rattle.ff_net.specs.Nodes.{HeldIs, NodeStands, IsShaped, HaveLanes, AreApart, in_wires_of, out_wires_of}
 use Rattle.ff_net.specs.Steps.{Stepped}
+use Rattle.ff_net.specs.Views.{View}
 use Rattle.ff_net.proofs.Flows.{same_or_not, there_lane}
 use Rattle.ff_net.proofs.Moments.{fault_self, fault_then}
 use Rattle.ff_net.proofs.NetSteps.{other_stands}
@@ -134,8 +134,8 @@ only : (w v : ℕ) → v ≢ w → IsIn v (w ∷ []) → ⊥
 only w v n (inl e) = n (sym e)
 only w v n (inr i) = i
 
-module _ {M : Type 0} (in_lanes out_lanes : M → List Lane) (source : M → Option ℕ) (device : M → Option (List ℕ)) (failures : M → ℕ) (fault : M → Option Fault) (stands : M → Past → Type 0) where
-  pub follows_self : (l : Linked M) → Follows in_lanes out_lanes source device failures fault stands l l
+module _ {M : Type 0} (view : M → View) where
+  pub follows_self : (l : Linked M) → Follows view l l
   follows_self l = record {
     ins_same = refl;
     outs_same = refl;
@@ -146,11 +146,11 @@ module _ {M : Type 0} (in_lanes out_lanes : M → List Lane) (source : M → Opt
     out_ends_same = refl;
     in_links_same = refl;
     out_links_same = refl;
-    fares = fault_self device failures fault l.node.machine;
+    fares = fault_self (view l.node.machine);
     goes = λ task b. b;
   }
 
-  pub follows_then : (a b c : Linked M) → Follows in_lanes out_lanes source device failures fault stands a b → Follows in_lanes out_lanes source device failures fault stands b c → Follows in_lanes out_lanes source device failures fault stands a c
+  pub follows_then : (a b c : Linked M) → Follows view a b → Follows view b c → Follows view a c
   follows_then a b c x y = record {
     ins_same = y.ins_same ∙ x.ins_same;
     outs_same = y.outs_same ∙ x.outs_same;
@@ -161,23 +161,23 @@ module _ {M : Type 0} (in_lanes out_lanes : M → List Lane) (source : M → Opt
     out_ends_same = y.out_ends_same ∙ x.out_ends_same;
     in_links_same = y.in_links_same ∙ x.in_links_same;
     out_links_same = y.out_links_same ∙ x.out_links_same;
-    fares = fault_then device failures fault _ _ _ x.fares y.fares;
+    fares = fault_then _ _ _ x.fares y.fares;
     goes = λ task s. y.goes task (x.goes task s);
   }
 
-  relaned : (node : Node M) (wires wires' : Wires) → lanes_of wires' ≡ lanes_of wires → IsShaped in_lanes out_lanes node wires → IsShaped in_lanes out_lanes node wires'
+  relaned : (node : Node M) (wires wires' : Wires) → lanes_of wires' ≡ lanes_of wires → IsShaped view node wires → IsShaped view node wires'
   relaned node wires wires' same s = record {
-    ins = subst (λ (ls : List Lane). HaveLanes (in_wires_of node) (in_lanes node.machine) ls) (sym same) s.ins;
-    outs = subst (λ (ls : List Lane). HaveLanes (out_wires_of node) (out_lanes node.machine) ls) (sym same) s.outs;
+    ins = subst (λ (ls : List Lane). HaveLanes (in_wires_of node) (view node.machine).in_lanes ls) (sym same) s.ins;
+    outs = subst (λ (ls : List Lane). HaveLanes (out_wires_of node) (view node.machine).out_lanes ls) (sym same) s.outs;
   }
 
-  pub in_end_there : (l : Linked M) → IsWired in_lanes out_lanes l → (p : ℕ) → p < length l.ins.items → (in_end_at l.ins.items p).wire < length (lanes_of l.wires)
-  in_end_there l wired p lt = wire_there (in_wires_of l.node) (in_lanes l.node.machine) (lanes_of l.wires) wired.shaped.ins.lanes_are (in_end_at l.ins.items p).wire (subst (λ (ws : List ℕ). IsIn (in_end_at l.ins.items p).wire ws) wired.in_wires (in_member l.ins.items p lt))
+  pub in_end_there : (l : Linked M) → IsWired view l → (p : ℕ) → p < length l.ins.items → (in_end_at l.ins.items p).wire < length (lanes_of l.wires)
+  in_end_there l wired p lt = wire_there (in_wires_of l.node) (view l.node.machine).in_lanes (lanes_of l.wires) wired.shaped.ins.lanes_are (in_end_at l.ins.items p).wire (subst (λ (ws : List ℕ). IsIn (in_end_at l.ins.items p).wire ws) wired.in_wires (in_member l.ins.items p lt))
 
-  pub out_end_there : (l : Linked M) → IsWired in_lanes out_lanes l → (q : ℕ) (d : OutEnd) → q < length l.outs.items → (slice_index_or l.outs.items q d).wire < length (lanes_of l.wires)
-  out_end_there l wired q d lt = wire_there (out_wires_of l.node) (out_lanes l.node.machine) (lanes_of l.wires) wired.shaped.outs.lanes_are (slice_index_or l.outs.items q d).wire (subst (λ (ws : List ℕ). IsIn (slice_index_or l.outs.items q d).wire ws) wired.out_wires (out_member l.outs.items q d lt))
+  pub out_end_there : (l : Linked M) → IsWired view l → (q : ℕ) (d : OutEnd) → q < length l.outs.items → (slice_index_or l.outs.items q d).wire < length (lanes_of l.wires)
+  out_end_there l wired q d lt = wire_there (out_wires_of l.node) (view l.node.machine).out_lanes (lanes_of l.wires) wired.shaped.outs.lanes_are (slice_index_or l.outs.items q d).wire (subst (λ (ws : List ℕ). IsIn (slice_index_or l.outs.items q d).wire ws) wired.out_wires (out_member l.outs.items q d lt))
 
-  pub can_pour : (l : Linked M) → IsLawful in_lanes out_lanes source fault stands l → (q : ℕ) (d : OutEnd) → q < length l.outs.items → claims_of (slice_index_or l.outs.items q d) ≡ true → CanPour l.wires (slice_index_or l.outs.items q d)
+  pub can_pour : (l : Linked M) → IsLawful view l → (q : ℕ) (d : OutEnd) → q < length l.outs.items → claims_of (slice_index_or l.outs.items q d) ≡ true → CanPour l.wires (slice_index_or l.outs.items q d)
   can_pour l h q d lt claims = (let b = (h.vouched q d lt claims).1 in record { world = b.world; stand = b.stand; fits = b.outs q d lt })
 
   module _ (l l' : Linked M) (p : ℕ) (there : p < length l.ins.items) (node : l'.node ≡ l.node) (outs : l'.outs.items ≡ l.outs.items) (lanes : lanes_of l'.wires ≡ lanes_of l.wires) (draws : Draws l.wires l'.wires l.ins.items l'.ins.items p) where
@@ -187,14 +187,14 @@ module _ {M : Type 0} (in_lanes out_lanes : M → List Lane) (source : M → Opt
     in_wires_kept : in_ends_wires l'.ins.items ≡ in_ends_wires l.ins.items
     in_wires_kept = ap in_ends_wires draws.set ∙ map_set_same (λ (e : InEnd). e.wire) l.ins.items p draws.end _ there draws.wire
 
-    drawn_goes : (task : Task) → Behind in_lanes out_lanes source fault stands task l → Behind in_lanes out_lanes source fault stands task l'
+    drawn_goes : (task : Task) → Behind view task l → Behind view task l'
     drawn_goes task b =
         let old : InEnd = in_end_at l.ins.items p in
         let y = draws.stands b.world b.past b.stand (b.ins p there) in
         let member : IsIn old.wire (in_wires_of l.node) = subst (λ (ws : List ℕ). IsIn old.wire ws) b.wired.in_wires (in_member l.ins.items p there) in
         let len : length l'.ins.items ≡ length l.ins.items = ap length draws.set ∙ simp length-set in record {
           wired = record {
-            shaped = subst (λ (n : Node M). IsShaped in_lanes out_lanes n l'.wires) (sym node) (relaned l.node l.wires l'.wires lanes b.wired.shaped);
+            shaped = subst (λ (n : Node M). IsShaped view n l'.wires) (sym node) (relaned l.node l.wires l'.wires lanes b.wired.shaped);
             apart = subst (λ (n : Node M). (w : ℕ) → IsIn w (in_wires_of n) → IsIn w (out_wires_of n) → ⊥) (sym node) b.wired.apart;
             in_wires = in_wires_kept ∙ (b.wired.in_wires ∙ ap (λ (n : Node M). in_wires_of n) (sym node));
             out_wires = ap out_ends_wires outs ∙ (b.wired.out_wires ∙ ap (λ (n : Node M). out_wires_of n) (sym node));
@@ -202,8 +202,8 @@ module _ {M : Type 0} (in_lanes out_lanes : M → List Lane) (source : M → Opt
           world = y.now;
           past = b.past;
           stand = y.stand;
-          fits = subst (λ (n : Node M). NodeStands in_lanes source fault stands n y.now b.past) (sym node)
-              (other_stands in_lanes source fault stands l.node [] (old.wire ∷ []) b.world y.now b.past b.past b.past y.course (λ w a i. i) (λ w a i. elim i [ inl e ↦ b.wired.apart w (subst (λ (v : ℕ). IsIn v (in_wires_of l.node)) e member) a | inr n ↦ n ]) b.fits);
+          fits = subst (λ (n : Node M). NodeStands view n y.now b.past) (sym node)
+              (other_stands view l.node [] (old.wire ∷ []) b.world y.now b.past b.past b.past y.course (λ w a i. i) (λ w a i. elim i [ inl e ↦ b.wired.apart w (subst (λ (v : ℕ). IsIn v (in_wires_of l.node)) e member) a | inr n ↦ n ]) b.fits);
           task_is = b.task_is;
           ins = λ k lt. elim (same_or_not k p) [
             | inl same ↦
@@ -227,18 +227,18 @@ module _ {M : Type 0} (in_lanes out_lanes : M → List Lane) (source : M → Opt
               (out_end_keep e (lane_at (lanes_of l.wires) e.wire) (b.world e.wire) (y.now e.wire) (y.course.taken e.wire (λ i. i)) (y.course.finished e.wire (λ i. i)) (b.outs q d (subst (λ (es : List OutEnd). q < length es) outs lt))));
         }
 
-    pub drawn : Follows in_lanes out_lanes source device failures fault stands l l'
+    pub drawn : Follows view l l'
     drawn = record {
       ins_same = ap (λ (n : Node M). in_wires_of n) node;
       outs_same = ap (λ (n : Node M). out_wires_of n) node;
-      in_lanes_same = ap (λ (n : Node M). in_lanes n.machine) node;
-      out_lanes_same = ap (λ (n : Node M). out_lanes n.machine) node;
+      in_lanes_same = ap (λ (n : Node M). (view n.machine).in_lanes) node;
+      out_lanes_same = ap (λ (n : Node M). (view n.machine).out_lanes) node;
       lanes_same = lanes;
       in_ends_same = in_wires_kept;
       out_ends_same = ap out_ends_wires outs;
       in_links_same = ap in_ends_links draws.set ∙ map_set_same (λ (e : InEnd). in_link e) l.ins.items p draws.end _ there draws.link;
       out_links_same = ap out_ends_links outs;
-      fares = subst (λ (n : Node M). FaultStep device failures fault l.node.machine n.machine) (sym node) (fault_self device failures fault l.node.machine);
+      fares = subst (λ (n : Node M). FaultStep (view l.node.machine) (view n.machine)) (sym node) (fault_self (view l.node.machine));
       goes = drawn_goes;
     }
 
@@ -246,14 +246,14 @@ module _ {M : Type 0} (in_lanes out_lanes : M → List Lane) (source : M → Opt
     out_wires_kept : out_ends_wires l'.outs.items ≡ out_ends_wires l.outs.items
     out_wires_kept = ap out_ends_wires pours.set ∙ map_set_same (λ (e : OutEnd). e.wire) l.outs.items q pours.end pours.old there (pours.wire ∙ ap (λ (e : OutEnd). e.wire) (sym (pours.is pours.old)))
 
-    poured_goes : (task : Task) → Behind in_lanes out_lanes source fault stands task l → Behind in_lanes out_lanes source fault stands task l'
+    poured_goes : (task : Task) → Behind view task l → Behind view task l'
     poured_goes task b =
         let old : OutEnd = pours.old in
         let y = pours.stands b.world b.past b.stand (subst (λ (e : OutEnd). OutEndStands e (lane_at (lanes_of l.wires) e.wire) (b.world e.wire)) (pours.is old) (b.outs q old there)) in
         let member : IsIn old.wire (out_wires_of l.node) = subst (λ (ws : List ℕ). IsIn old.wire ws) b.wired.out_wires (subst (λ (e : OutEnd). IsIn e.wire (out_ends_wires l.outs.items)) (pours.is old) (out_member l.outs.items q old there)) in
         let len : length l'.outs.items ≡ length l.outs.items = ap length pours.set ∙ simp length-set in record {
           wired = record {
-            shaped = subst (λ (n : Node M). IsShaped in_lanes out_lanes n l'.wires) (sym node) (relaned l.node l.wires l'.wires lanes b.wired.shaped);
+            shaped = subst (λ (n : Node M). IsShaped view n l'.wires) (sym node) (relaned l.node l.wires l'.wires lanes b.wired.shaped);
             apart = subst (λ (n : Node M). (w : ℕ) → IsIn w (in_wires_of n) → IsIn w (out_wires_of n) → ⊥) (sym node) b.wired.apart;
             in_wires = ap in_ends_wires ins ∙ (b.wired.in_wires ∙ ap (λ (n : Node M). in_wires_of n) (sym node));
             out_wires = out_wires_kept ∙ (b.wired.out_wires ∙ ap (λ (n : Node M). out_wires_of n) (sym node));
@@ -261,8 +261,8 @@ module _ {M : Type 0} (in_lanes out_lanes : M → List Lane) (source : M → Opt
           world = y.now;
           past = b.past;
           stand = y.stand;
-          fits = subst (λ (n : Node M). NodeStands in_lanes source fault stands n y.now b.past) (sym node)
-              (other_stands in_lanes source fault stands l.node (old.wire ∷ []) [] b.world y.now b.past b.past b.past y.course (λ w a i. elim i [ inl e ↦ b.wired.apart w a (subst (λ (v : ℕ). IsIn v (out_wires_of l.node)) e member) | inr n ↦ n ]) (λ w a i. i) b.fits);
+          fits = subst (λ (n : Node M). NodeStands view n y.now b.past) (sym node)
+              (other_stands view l.node (old.wire ∷ []) [] b.world y.now b.past b.past b.past y.course (λ w a i. elim i [ inl e ↦ b.wired.apart w a (subst (λ (v : ℕ). IsIn v (out_wires_of l.node)) e member) | inr n ↦ n ]) (λ w a i. i) b.fits);
           task_is = b.task_is;
           ins = λ k lt.
               let klt : k < length l.ins.items = subst (λ (es : List InEnd). k < length es) ins lt in
@@ -287,24 +287,24 @@ module _ {M : Type 0} (in_lanes out_lanes : M → List Lane) (source : M → Opt
           ];
         }
 
-    pub poured : Follows in_lanes out_lanes source device failures fault stands l l'
+    pub poured : Follows view l l'
     poured = record {
       ins_same = ap (λ (n : Node M). in_wires_of n) node;
       outs_same = ap (λ (n : Node M). out_wires_of n) node;
-      in_lanes_same = ap (λ (n : Node M). in_lanes n.machine) node;
-      out_lanes_same = ap (λ (n : Node M). out_lanes n.machine) node;
+      in_lanes_same = ap (λ (n : Node M). (view n.machine).in_lanes) node;
+      out_lanes_same = ap (λ (n : Node M). (view n.machine).out_lanes) node;
       lanes_same = lanes;
       in_ends_same = ap in_ends_wires ins;
       out_ends_same = out_wires_kept;
       in_links_same = ap in_ends_links ins;
       out_links_same = ap out_ends_links pours.set ∙ map_set_same (λ (e : OutEnd). out_link e) l.outs.items q pours.end pours.old there (pours.link ∙ ap (λ (e : OutEnd). out_link e) (sym (pours.is pours.old)));
-      fares = subst (λ (n : Node M). FaultStep device failures fault l.node.machine n.machine) (sym node) (fault_self device failures fault l.node.machine);
+      fares = subst (λ (n : Node M). FaultStep (view l.node.machine) (view n.machine)) (sym node) (fault_self (view l.node.machine));
       goes = poured_goes;
     }
 
   -- the node takes a turn on its wires
-  pub turned : (how : (ℕ → Wire) → Past → (ℕ → Wire) → Past → Type 0) (l l' : Linked M) → l'.ins.items ≡ l.ins.items → l'.outs.items ≡ l.outs.items → Stepped in_lanes out_lanes source device failures fault stands how l.node l.wires l'.node l'.wires
-      → Follows in_lanes out_lanes source device failures fault stands l l'
+  pub turned : (how : (ℕ → Wire) → Past → (ℕ → Wire) → Past → Type 0) (l l' : Linked M) → l'.ins.items ≡ l.ins.items → l'.outs.items ≡ l.outs.items → Stepped view how l.node l.wires l'.node l'.wires
+      → Follows view l l'
   turned how l l' ins outs step = record {
     ins_same = step.ins_same;
     outs_same = step.outs_same;
@@ -319,7 +319,7 @@ module _ {M : Type 0} (in_lanes out_lanes : M → List Lane) (source : M → Opt
     goes = λ task b.
         let y = step.goes b.world b.past b.stand b.fits in record {
           wired = record {
-            shaped = shaped_later in_lanes out_lanes source device failures fault stands how l.node l.wires l'.node l'.wires step b.wired.shaped;
+            shaped = shaped_later view how l.node l.wires l'.node l'.wires step b.wired.shaped;
             apart = λ w i o. b.wired.apart w (subst (λ (ws : List ℕ). IsIn w ws) step.ins_same i) (subst (λ (ws : List ℕ). IsIn w ws) step.outs_same o);
             in_wires = ap in_ends_wires ins ∙ (b.wired.in_wires ∙ sym step.ins_same);
             out_wires = ap out_ends_wires outs ∙ (b.wired.out_wires ∙ sym step.outs_same);
@@ -347,7 +347,7 @@ module _ {M : Type 0} (in_lanes out_lanes : M → List Lane) (source : M → Opt
   }
 
   -- how a node begins
-  pub begins : (task : Task) (l : Linked M) → IsBeginning in_lanes out_lanes source fault stands task l.node l.wires l.ins.items l.outs.items → Behind in_lanes out_lanes source fault stands task l
+  pub begins : (task : Task) (l : Linked M) → IsBeginning view task l.node l.wires l.ins.items l.outs.items → Behind view task l
   begins task l b = record {
     wired = record { shaped = b.shaped; apart = b.apart; in_wires = b.in_wires; out_wires = b.out_wires };
     world = λ w. fresh;
@@ -366,11 +366,11 @@ module _ {M : Type 0} (in_lanes out_lanes : M → List Lane) (source : M → Opt
   }
 
   -- a node that goes on stays wired
-  pub wired_after : (old new : Linked M) → Follows in_lanes out_lanes source device failures fault stands old new → IsWired in_lanes out_lanes old → IsWired in_lanes out_lanes new
+  pub wired_after : (old new : Linked M) → Follows view old new → IsWired view old → IsWired view new
   wired_after old new f w = record {
     shaped = record {
-      ins = have_after (in_wires_of old.node) (in_wires_of new.node) (in_lanes old.node.machine) (in_lanes new.node.machine) (lanes_of old.wires) (lanes_of new.wires) f.ins_same f.in_lanes_same f.lanes_same w.shaped.ins;
-      outs = have_after (out_wires_of old.node) (out_wires_of new.node) (out_lanes old.node.machine) (out_lanes new.node.machine) (lanes_of old.wires) (lanes_of new.wires) f.outs_same f.out_lanes_same f.lanes_same w.shaped.outs;
+      ins = have_after (in_wires_of old.node) (in_wires_of new.node) (view old.node.machine).in_lanes (view new.node.machine).in_lanes (lanes_of old.wires) (lanes_of new.wires) f.ins_same f.in_lanes_same f.lanes_same w.shaped.ins;
+      outs = have_after (out_wires_of old.node) (out_wires_of new.node) (view old.node.machine).out_lanes (view new.node.machine).out_lanes (lanes_of old.wires) (lanes_of new.wires) f.outs_same f.out_lanes_same f.lanes_same w.shaped.outs;
     };
     apart = λ v a b. w.apart v (subst (λ (ws : List ℕ). IsIn v ws) f.ins_same a) (subst (λ (ws : List ℕ). IsIn v ws) f.outs_same b);
     in_wires = f.in_ends_same ∙ (w.in_wires ∙ sym f.ins_same);
@@ -378,7 +378,7 @@ module _ {M : Type 0} (in_lanes out_lanes : M → List Lane) (source : M → Opt
   }
 
   -- and lawful
-  pub lawful_after : (old new : Linked M) → Follows in_lanes out_lanes source device failures fault stands old new → IsLawful in_lanes out_lanes source fault stands old → IsLawful in_lanes out_lanes source fault stands new
+  pub lawful_after : (old new : Linked M) → Follows view old new → IsLawful view old → IsLawful view new
   lawful_after old new f l = record {
     wired = wired_after old new f l.wired;
     vouched = λ q d lt claims.

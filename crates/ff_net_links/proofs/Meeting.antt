@@ -1,5 +1,5 @@
 -- What settled links tell of the nodes.
-use Rattle.std.proofs.Common.{◌≡◌, ℕ, zero, suc, ◌<◌, ◌⊎◌, inl, inr, true, List, [], ◌∷◌, ◌++◌, length, slice_index_or, refl, ap, sym, ◌∙◌, subst, arith, Option}
+use Rattle.std.proofs.Common.{◌≡◌, ℕ, zero, suc, ◌<◌, ◌⊎◌, inl, inr, true, List, [], ◌∷◌, ◌++◌, length, slice_index_or, refl, ap, sym, ◌∙◌, subst, arith}
 use mathlib.Core.List.{IsPrefix}
 use Rattle.ff_frame.specs.declared.item.Item.{Item}
 use Rattle.ff_frame.specs.declared.item.Lane.{Lane}
@@ -8,7 +8,6 @@ use Rattle.ff_frame.specs.Items.{with_item, Leads}
 use Rattle.ff_frame.specs.Order.{below_trans, nothing_below, leads_below}
 use Rattle.ff_frame.specs.Ports.{nothing, stream_at}
 use Rattle.ff_link.specs.Sendings.{stream_from, stream_of, IsSending}
-use Rattle.ff_net.specs.declared.fault.Fault.{Fault}
 use Rattle.ff_net.specs.declared.node.Node.{Node}
 use Rattle.ff_net.specs.declared.ports.InPort.{InPort}
 use Rattle.ff_net.specs.declared.ports.OutPort.{OutPort}
@@ -18,6 +17,7 @@ use Rattle.ff_net.specs.Ports.{in_at, out_at}
 use Rattle.ff_net.specs.Worlds.{Wire}
 use Rattle.ff_net.specs.Nodes.{NodeStands, HaveLanes, IsSound, MayClose, in_wires_of, out_wires_of}
 use Rattle.ff_net.specs.Serial.{Moment}
+use Rattle.ff_net.specs.Views.{View}
 use Rattle.ff_net.proofs.Flows.{same_or_not}
 use Rattle.ff_net.proofs.PortSteps.{in_keep, out_keep, in_wire_in, out_wire_in}
 use Rattle.ff_net.proofs.Queues.{nothing_valid_on}
@@ -62,22 +62,22 @@ in_place [] w i = absurd i
 in_place (e ∷ es) w (inl same) = (zero, omega arith, same)
 in_place (e ∷ es) w (inr i) = let r = in_place es w i in (suc r.0, (let lt : r.0 < length es = r.1 in omega arith), r.2)
 
-module _ {M : Type 0} (in_lanes out_lanes : M → List Lane) (source : M → Option ℕ) (fault : M → Option Fault) (stands : M → Past → Type 0) where
+module _ {M : Type 0} (view : M → View) where
   -- what the nodes put on their wires, and what they took from them
-  abbrev sent_by : (tasks : ℕ → Task) (ls : List (Linked M)) → AllBehind in_lanes out_lanes source fault stands tasks ls → ℕ → Flow
+  abbrev sent_by : (tasks : ℕ → Task) (ls : List (Linked M)) → AllBehind view tasks ls → ℕ → Flow
   sent_by tasks [] bs w = nothing
   sent_by tasks (l ∷ ls) bs w = choose (among w (out_wires_of l.node)) (bs.0.world w).sent (sent_by (λ k. tasks (suc k)) ls bs.1 w)
 
-  abbrev taken_by : (tasks : ℕ → Task) (ls : List (Linked M)) → AllBehind in_lanes out_lanes source fault stands tasks ls → ℕ → Flow
+  abbrev taken_by : (tasks : ℕ → Task) (ls : List (Linked M)) → AllBehind view tasks ls → ℕ → Flow
   taken_by tasks [] bs w = nothing
   taken_by tasks (l ∷ ls) bs w = choose (among w (in_wires_of l.node)) (bs.0.world w).taken (taken_by (λ k. tasks (suc k)) ls bs.1 w)
 
   -- on each node's wires these streams are what it put and took
-  abbrev Own : (σ τ : ℕ → Flow) (tasks : ℕ → Task) (ls : List (Linked M)) → AllBehind in_lanes out_lanes source fault stands tasks ls → Type 0
+  abbrev Own : (σ τ : ℕ → Flow) (tasks : ℕ → Task) (ls : List (Linked M)) → AllBehind view tasks ls → Type 0
   Own σ τ tasks [] bs = Unit {0}
   Own σ τ tasks (l ∷ ls) bs = ((w : ℕ) → IsIn w (out_wires_of l.node) → σ w ≡ (bs.0.world w).sent) × ((w : ℕ) → IsIn w (in_wires_of l.node) → τ w ≡ (bs.0.world w).taken) × Own σ τ (λ k. tasks (suc k)) ls bs.1
 
-  own_other : (σ σ' τ τ' : ℕ → Flow) (tasks : ℕ → Task) (ls : List (Linked M)) (bs : AllBehind in_lanes out_lanes source fault stands tasks ls) → ((w : ℕ) → IsOutOf ls w → σ' w ≡ σ w) → ((w : ℕ) → IsInOf ls w → τ' w ≡ τ w) → Own σ τ tasks ls bs → Own σ' τ' tasks ls bs
+  own_other : (σ σ' τ τ' : ℕ → Flow) (tasks : ℕ → Task) (ls : List (Linked M)) (bs : AllBehind view tasks ls) → ((w : ℕ) → IsOutOf ls w → σ' w ≡ σ w) → ((w : ℕ) → IsInOf ls w → τ' w ≡ τ w) → Own σ τ tasks ls bs → Own σ' τ' tasks ls bs
   own_other σ σ' τ τ' tasks [] bs f g own = tt
   own_other σ σ' τ τ' tasks (l ∷ ls) bs f g own = (
     λ w i. f w (inl i) ∙ own.0 w i,
@@ -85,7 +85,7 @@ module _ {M : Type 0} (in_lanes out_lanes : M → List Lane) (source : M → Opt
     own_other σ σ' τ τ' (λ k. tasks (suc k)) ls bs.1 (λ w i. f w (inr i)) (λ w i. g w (inr i)) own.2,
   )
 
-  own : (lanes : List Lane) (tasks : ℕ → Task) (ls : List (Linked M)) (bs : AllBehind in_lanes out_lanes source fault stands tasks ls) → AreMeeting lanes ls → Own (sent_by tasks ls bs) (taken_by tasks ls bs) tasks ls bs
+  own : (lanes : List Lane) (tasks : ℕ → Task) (ls : List (Linked M)) (bs : AllBehind view tasks ls) → AreMeeting lanes ls → Own (sent_by tasks ls bs) (taken_by tasks ls bs) tasks ls bs
   own lanes tasks [] bs m = tt
   own lanes tasks (l ∷ ls) bs m =
       let rest : ℕ → Task = λ k. tasks (suc k) in (
@@ -97,7 +97,7 @@ module _ {M : Type 0} (in_lanes out_lanes : M → List Lane) (source : M → Opt
             (own lanes rest ls bs.1 m.4),
       )
 
-  sent_is_out : (w : ℕ) (xs : List Item) (tasks : ℕ → Task) (ls : List (Linked M)) → AllBehind in_lanes out_lanes source fault stands tasks ls → WasSent ls w xs → IsOutOf ls w
+  sent_is_out : (w : ℕ) (xs : List Item) (tasks : ℕ → Task) (ls : List (Linked M)) → AllBehind view tasks ls → WasSent ls w xs → IsOutOf ls w
   sent_is_out w xs tasks [] bs s = absurd s
   sent_is_out w xs tasks (l ∷ ls) bs (inl s) =
       let d : OutEnd = some_out l.outs.items s.0 s.1 in
@@ -109,7 +109,7 @@ module _ {M : Type 0} (in_lanes out_lanes : M → List Lane) (source : M → Opt
   sent_is_out w xs tasks (l ∷ ls) bs (inr s) = inr (sent_is_out w xs (λ k. tasks (suc k)) ls bs.1 s)
 
   -- what was sent over a link lies below what was put on the wire of its number
-  sent_below : (lanes : List Lane) (w : ℕ) (xs ys : List Item) (tasks : ℕ → Task) (ls : List (Linked M)) (bs : AllBehind in_lanes out_lanes source fault stands tasks ls) → AreMeeting lanes ls → WasSent ls w ys → IsPrefix xs ys → LiesBelow (stream_of xs) (sent_by tasks ls bs w)
+  sent_below : (lanes : List Lane) (w : ℕ) (xs ys : List Item) (tasks : ℕ → Task) (ls : List (Linked M)) (bs : AllBehind view tasks ls) → AreMeeting lanes ls → WasSent ls w ys → IsPrefix xs ys → LiesBelow (stream_of xs) (sent_by tasks ls bs w)
   sent_below lanes w xs ys tasks [] bs m s p = absurd s
   sent_below lanes w xs ys tasks (l ∷ ls) bs m (inl s) p = head l.outs.items refl
     where
@@ -129,7 +129,7 @@ module _ {M : Type 0} (in_lanes out_lanes : M → List Lane) (source : M → Opt
       (sent_below lanes w xs ys (λ k. tasks (suc k)) ls bs.1 m.4 s p)
 
   -- what was taken from a wire lies below what was sent on the wire of this number
-  taken_below : (σ : ℕ → Flow) (all : List (Linked M)) → ((w : ℕ) (xs ys : List Item) → WasSent all w ys → IsPrefix xs ys → LiesBelow (stream_of xs) (σ w)) → (tasks : ℕ → Task) (ls : List (Linked M)) (bs : AllBehind in_lanes out_lanes source fault stands tasks ls) → AreFed all ls → (w : ℕ) → LiesBelow (taken_by tasks ls bs w) (σ w)
+  taken_below : (σ : ℕ → Flow) (all : List (Linked M)) → ((w : ℕ) (xs ys : List Item) → WasSent all w ys → IsPrefix xs ys → LiesBelow (stream_of xs) (σ w)) → (tasks : ℕ → Task) (ls : List (Linked M)) (bs : AllBehind view tasks ls) → AreFed all ls → (w : ℕ) → LiesBelow (taken_by tasks ls bs w) (σ w)
   taken_below σ all h tasks [] bs fed w = nothing_below (σ w)
   taken_below σ all h tasks (l ∷ ls) bs fed w = pick (among w (in_wires_of l.node)) (taken_below σ all h (λ k. tasks (suc k)) ls bs.1 fed.1 w)
     where
@@ -143,7 +143,7 @@ module _ {M : Type 0} (in_lanes out_lanes : M → List Lane) (source : M → Opt
           below_trans (bs.0.world w).taken (bs.0.world w).sent (σ w) (bs.0.stand.ordered w) (below_trans (bs.0.world w).sent (stream_of (taken_of end)) (σ w) below above)
       pick (inr n) rest = rest
 
-  sent_valid : (lanes : List Lane) (tasks : ℕ → Task) (ls : List (Linked M)) (bs : AllBehind in_lanes out_lanes source fault stands tasks ls) → AreMeeting lanes ls → (w : ℕ) → IsValidOn (lane_at lanes w) (sent_by tasks ls bs w)
+  sent_valid : (lanes : List Lane) (tasks : ℕ → Task) (ls : List (Linked M)) (bs : AllBehind view tasks ls) → AreMeeting lanes ls → (w : ℕ) → IsValidOn (lane_at lanes w) (sent_by tasks ls bs w)
   sent_valid lanes tasks [] bs m w = nothing_valid_on (lane_at lanes w)
   sent_valid lanes tasks (l ∷ ls) bs m w = pick (among w (out_wires_of l.node)) (sent_valid lanes (λ k. tasks (suc k)) ls bs.1 m.4 w)
     where
@@ -152,8 +152,8 @@ module _ {M : Type 0} (in_lanes out_lanes : M → List Lane) (source : M → Opt
       pick (inr n) rest = rest
 
   -- a node that has ended stands on the wires of all as on its own
-  node_stands : (σ τ : ℕ → Flow) (task : Task) (l : Linked M) (b : Behind in_lanes out_lanes source fault stands task l) → HasEnded l → ((w : ℕ) → IsIn w (out_wires_of l.node) → σ w ≡ (b.world w).sent) → ((w : ℕ) → IsIn w (in_wires_of l.node) → τ w ≡ (b.world w).taken)
-      → NodeStands in_lanes source fault stands l.node (λ w. record { sent = σ w; taken = τ w; finished = true }) b.past
+  node_stands : (σ τ : ℕ → Flow) (task : Task) (l : Linked M) (b : Behind view task l) → HasEnded l → ((w : ℕ) → IsIn w (out_wires_of l.node) → σ w ≡ (b.world w).sent) → ((w : ℕ) → IsIn w (in_wires_of l.node) → τ w ≡ (b.world w).taken)
+      → NodeStands view l.node (λ w. record { sent = σ w; taken = τ w; finished = true }) b.past
   node_stands σ τ task l b ended f g =
       let world : ℕ → Wire = λ w. record { sent = σ w; taken = τ w; finished = true } in
       let was = b.fits in record {
@@ -161,27 +161,27 @@ module _ {M : Type 0} (in_lanes out_lanes : M → List Lane) (source : M → Opt
         ins = λ q lt.
             let i : InPort = in_at l.node.ins.items q in
             let flag : true ≡ (b.world i.wire).finished = sym (ended.node.ins q lt) ∙ (was.ins q lt).flag in
-            in_keep i (b.world i.wire) (world i.wire) (stream_at b.past.got q) l.node.refused l.node.refused (IsSound fault l.node) (IsSound fault l.node) (MayClose in_lanes l.node b.past q) (MayClose in_lanes l.node b.past q) (g i.wire (in_wire_in l.node.ins.items q i.wire lt refl)) flag (λ r. r) (λ s. s) (λ m. m) (was.ins q lt);
+            in_keep i (b.world i.wire) (world i.wire) (stream_at b.past.got q) l.node.refused l.node.refused (IsSound view l.node) (IsSound view l.node) (MayClose view l.node b.past q) (MayClose view l.node b.past q) (g i.wire (in_wire_in l.node.ins.items q i.wire lt refl)) flag (λ r. r) (λ s. s) (λ m. m) (was.ins q lt);
         outs = λ q lt.
             let o : OutPort = out_at l.node.outs.items q in
-            out_keep o (b.world o.wire) (world o.wire) (stream_at b.past.gave q) (IsIn q b.past.stopped) (IsIn q b.past.stopped) (IsSound fault l.node) (IsSound fault l.node) (f o.wire (out_wire_in l.node.outs.items q o.wire lt refl)) (λ e. refl) (λ s. s) (λ s. s) (was.outs q lt);
+            out_keep o (b.world o.wire) (world o.wire) (stream_at b.past.gave q) (IsIn q b.past.stopped) (IsIn q b.past.stopped) (IsSound view l.node) (IsSound view l.node) (f o.wire (out_wire_in l.node.outs.items q o.wire lt refl)) (λ e. refl) (λ s. s) (λ s. s) (was.outs q lt);
         beyond = was.beyond;
         stopped = was.stopped;
         allowed = was.allowed;
       }
 
-  each_stands : (σ τ : ℕ → Flow) (lanes : List Lane) (tasks : ℕ → Task) (ls : List (Linked M)) (bs : AllBehind in_lanes out_lanes source fault stands tasks ls) → AreMeeting lanes ls → Own σ τ tasks ls bs → (k : ℕ) (d : Node M) → k < length (nodes_of ls)
-      → (past : Past) × NodeStands in_lanes source fault stands (slice_index_or (nodes_of ls) k d) (λ w. record { sent = σ w; taken = τ w; finished = true }) past × (past.task ≡ tasks k)
+  each_stands : (σ τ : ℕ → Flow) (lanes : List Lane) (tasks : ℕ → Task) (ls : List (Linked M)) (bs : AllBehind view tasks ls) → AreMeeting lanes ls → Own σ τ tasks ls bs → (k : ℕ) (d : Node M) → k < length (nodes_of ls)
+      → (past : Past) × NodeStands view (slice_index_or (nodes_of ls) k d) (λ w. record { sent = σ w; taken = τ w; finished = true }) past × (past.task ≡ tasks k)
   each_stands σ τ lanes tasks [] bs m o k d lt = absurd (omega arith)
   each_stands σ τ lanes tasks (l ∷ ls) bs m o zero d lt = (bs.0.past, node_stands σ τ (tasks zero) l bs.0 m.0 o.0 o.1, bs.0.task_is)
   each_stands σ τ lanes tasks (l ∷ ls) bs m o (suc k) d lt = each_stands σ τ lanes (λ j. tasks (suc j)) ls bs.1 m.4 o.2 k d (omega arith)
 
-  each_shaped : (lanes : List Lane) (tasks : ℕ → Task) (ls : List (Linked M)) → AllBehind in_lanes out_lanes source fault stands tasks ls → AreMeeting lanes ls → (k : ℕ) (d : Node M) → k < length (nodes_of ls)
-      → HaveLanes (in_wires_of (slice_index_or (nodes_of ls) k d)) (in_lanes (slice_index_or (nodes_of ls) k d).machine) lanes × HaveLanes (out_wires_of (slice_index_or (nodes_of ls) k d)) (out_lanes (slice_index_or (nodes_of ls) k d).machine) lanes
+  each_shaped : (lanes : List Lane) (tasks : ℕ → Task) (ls : List (Linked M)) → AllBehind view tasks ls → AreMeeting lanes ls → (k : ℕ) (d : Node M) → k < length (nodes_of ls)
+      → HaveLanes (in_wires_of (slice_index_or (nodes_of ls) k d)) (view (slice_index_or (nodes_of ls) k d).machine).in_lanes lanes × HaveLanes (out_wires_of (slice_index_or (nodes_of ls) k d)) (view (slice_index_or (nodes_of ls) k d).machine).out_lanes lanes
   each_shaped lanes tasks [] bs m k d lt = absurd (omega arith)
   each_shaped lanes tasks (l ∷ ls) bs m zero d lt = (
-    subst (λ (vs : List Lane). HaveLanes (in_wires_of l.node) (in_lanes l.node.machine) vs) m.1 bs.0.wired.shaped.ins,
-    subst (λ (vs : List Lane). HaveLanes (out_wires_of l.node) (out_lanes l.node.machine) vs) m.1 bs.0.wired.shaped.outs,
+    subst (λ (vs : List Lane). HaveLanes (in_wires_of l.node) (view l.node.machine).in_lanes vs) m.1 bs.0.wired.shaped.ins,
+    subst (λ (vs : List Lane). HaveLanes (out_wires_of l.node) (view l.node.machine).out_lanes vs) m.1 bs.0.wired.shaped.outs,
   )
   each_shaped lanes tasks (l ∷ ls) bs m (suc k) d lt = each_shaped lanes (λ j. tasks (suc j)) ls bs.1 m.4 k d (omega arith)
 
@@ -198,8 +198,8 @@ module _ {M : Type 0} (in_lanes out_lanes : M → List Lane) (source : M → Opt
   outs_apart lanes (l ∷ ls) m (suc j) (suc k) w d jlt klt a b = ap suc (outs_apart lanes ls m.4 j k w d (omega arith) (omega arith) a b)
 
   -- all nodes at one moment
-  pub moment_of_links : (lanes : List Lane) (tasks : ℕ → Task) (ls : List (Linked M)) → AllBehind in_lanes out_lanes source fault stands tasks ls → AreMeeting lanes ls → AreFed ls ls
-      → (world : ℕ → Wire) × Moment in_lanes out_lanes source fault stands tasks (nodes_of ls) lanes world
+  pub moment_of_links : (lanes : List Lane) (tasks : ℕ → Task) (ls : List (Linked M)) → AllBehind view tasks ls → AreMeeting lanes ls → AreFed ls ls
+      → (world : ℕ → Wire) × Moment view tasks (nodes_of ls) lanes world
   moment_of_links lanes tasks ls bs m fed =
       let σ = sent_by tasks ls bs in
       let τ = taken_by tasks ls bs in (

@@ -2,12 +2,12 @@
 use Rattle.std.proofs.Common.{◌≡◌, ℕ, zero, suc, ◌<◌, ◌≤◌, ◌⊎◌, inl, inr, List, [], ◌∷◌, ◌++◌, length, slice_index_or, slice_set, refl, ap, sym, ◌∙◌, subst, arith, Option, None, Some, get_or-set_same, get_or-set_other}
 use Rattle.ff_frame.specs.declared.item.Lane.{Lane}
 use Rattle.ff_link.specs.Views.{Sending}
-use Rattle.ff_net.specs.declared.fault.Fault.{Fault}
 use Rattle.ff_net.specs.Nets.{IsUpward}
-use Rattle.ff_net.specs.Pasts.{Past, Task, IsIn}
+use Rattle.ff_net.specs.Pasts.{Task, IsIn}
 use Rattle.ff_net.specs.Nodes.{AreApart, in_wires_of, out_wires_of}
 use Rattle.ff_net.specs.Serial.{parts_of}
 use Rattle.ff_net.specs.Worlds.{lanes_of}
+use Rattle.ff_net.specs.Views.{View}
 use Rattle.ff_net.proofs.Flows.{same_or_not}
 use Rattle.ff_net_links.specs.declared.ends.OutEnd.{OutEnd}
 use Rattle.ff_net_links.specs.declared.linked.Linked.{Linked}
@@ -47,31 +47,31 @@ in_either w [] vs i = inr i
 in_either w (u ∷ us) vs (inl e) = inl (inl e)
 in_either w (u ∷ us) vs (inr i) = elim (in_either w us vs i) [ inl a ↦ inl (inr a) | inr b ↦ inr b ]
 
-module _ {M : Type 0} (in_lanes out_lanes : M → List Lane) (source : M → Option ℕ) (fault : M → Option Fault) (stands : M → Past → Type 0) where
-  come_apart : (tasks : ℕ → Task) (ls : List (Linked M)) → AllBehind in_lanes out_lanes source fault stands tasks ls → (k : ℕ) (d : Linked M) → k < length ls → AreApart (in_ends_wires (ins_of (slice_index_or ls k d)))
+module _ {M : Type 0} (view : M → View) where
+  come_apart : (tasks : ℕ → Task) (ls : List (Linked M)) → AllBehind view tasks ls → (k : ℕ) (d : Linked M) → k < length ls → AreApart (in_ends_wires (ins_of (slice_index_or ls k d)))
   come_apart tasks [] bs k d lt = absurd (omega arith)
   come_apart tasks (l ∷ ls) bs zero d lt = subst AreApart (sym bs.0.wired.in_wires) bs.0.wired.shaped.ins.apart
   come_apart tasks (l ∷ ls) bs (suc k) d lt = come_apart (λ j. tasks (suc j)) ls bs.1 k d (omega arith)
 
-  come_there : (lanes : List Lane) (tasks : ℕ → Task) (ls : List (Linked M)) → AllBehind in_lanes out_lanes source fault stands tasks ls → AreMeeting lanes ls → (k w : ℕ) (d : Linked M) → k < length ls → IsIn w (in_ends_wires (ins_of (slice_index_or ls k d))) → w < length lanes
+  come_there : (lanes : List Lane) (tasks : ℕ → Task) (ls : List (Linked M)) → AllBehind view tasks ls → AreMeeting lanes ls → (k w : ℕ) (d : Linked M) → k < length ls → IsIn w (in_ends_wires (ins_of (slice_index_or ls k d))) → w < length lanes
   come_there lanes tasks [] bs m k w d lt i = absurd (omega arith)
   come_there lanes tasks (l ∷ ls) bs m zero w d lt i =
-      subst (λ (vs : List Lane). w < length vs) m.1 (wire_there (in_wires_of l.node) (in_lanes l.node.machine) (lanes_of l.wires) bs.0.wired.shaped.ins.lanes_are w (subst (λ (ws : List ℕ). IsIn w ws) bs.0.wired.in_wires i))
+      subst (λ (vs : List Lane). w < length vs) m.1 (wire_there (in_wires_of l.node) (view l.node.machine).in_lanes (lanes_of l.wires) bs.0.wired.shaped.ins.lanes_are w (subst (λ (ws : List ℕ). IsIn w ws) bs.0.wired.in_wires i))
   come_there lanes tasks (l ∷ ls) bs m (suc k) w d lt i = come_there lanes (λ j. tasks (suc j)) ls bs.1 m.4 k w d (omega arith) i
 
-  come_in : (tasks : ℕ → Task) (ls : List (Linked M)) → AllBehind in_lanes out_lanes source fault stands tasks ls → (k w : ℕ) (d : Linked M) → k < length ls → IsIn w (in_ends_wires (ins_of (slice_index_or ls k d))) → IsInOf ls w
+  come_in : (tasks : ℕ → Task) (ls : List (Linked M)) → AllBehind view tasks ls → (k w : ℕ) (d : Linked M) → k < length ls → IsIn w (in_ends_wires (ins_of (slice_index_or ls k d))) → IsInOf ls w
   come_in tasks [] bs k w d lt i = absurd (omega arith)
   come_in tasks (l ∷ ls) bs zero w d lt i = inl (subst (λ (ws : List ℕ). IsIn w ws) bs.0.wired.in_wires i)
   come_in tasks (l ∷ ls) bs (suc k) w d lt i = inr (come_in (λ j. tasks (suc j)) ls bs.1 k w d (omega arith) i)
 
-  come_once : (lanes : List Lane) (tasks : ℕ → Task) (ls : List (Linked M)) → AllBehind in_lanes out_lanes source fault stands tasks ls → AreMeeting lanes ls → (j k w : ℕ) (d : Linked M) → j < length ls → k < length ls → IsIn w (in_ends_wires (ins_of (slice_index_or ls j d))) → IsIn w (in_ends_wires (ins_of (slice_index_or ls k d))) → j ≡ k
+  come_once : (lanes : List Lane) (tasks : ℕ → Task) (ls : List (Linked M)) → AllBehind view tasks ls → AreMeeting lanes ls → (j k w : ℕ) (d : Linked M) → j < length ls → k < length ls → IsIn w (in_ends_wires (ins_of (slice_index_or ls j d))) → IsIn w (in_ends_wires (ins_of (slice_index_or ls k d))) → j ≡ k
   come_once lanes tasks [] bs m j k w d jlt klt a b = absurd (omega arith)
   come_once lanes tasks (l ∷ ls) bs m zero zero w d jlt klt a b = refl
   come_once lanes tasks (l ∷ ls) bs m zero (suc k) w d jlt klt a b = absurd (m.3 w (subst (λ (ws : List ℕ). IsIn w ws) bs.0.wired.in_wires a) (come_in (λ i. tasks (suc i)) ls bs.1 k w d (omega arith) b))
   come_once lanes tasks (l ∷ ls) bs m (suc j) zero w d jlt klt a b = absurd (m.3 w (subst (λ (ws : List ℕ). IsIn w ws) bs.0.wired.in_wires b) (come_in (λ i. tasks (suc i)) ls bs.1 j w d (omega arith) a))
   come_once lanes tasks (l ∷ ls) bs m (suc j) (suc k) w d jlt klt a b = ap suc (come_once lanes (λ i. tasks (suc i)) ls bs.1 m.4 j k w d (omega arith) (omega arith) a b)
 
-  come_earlier : (ws : List ℕ) (tasks : ℕ → Task) (ls : List (Linked M)) → AllBehind in_lanes out_lanes source fault stands tasks ls → IsUpward ws (parts_of in_lanes out_lanes tasks (nodes_of ls)) → (k w : ℕ) (d : Linked M) → k < length ls → IsIn w (in_ends_wires (ins_of (slice_index_or ls k d)))
+  come_earlier : (ws : List ℕ) (tasks : ℕ → Task) (ls : List (Linked M)) → AllBehind view tasks ls → IsUpward ws (parts_of view tasks (nodes_of ls)) → (k w : ℕ) (d : Linked M) → k < length ls → IsIn w (in_ends_wires (ins_of (slice_index_or ls k d)))
       → IsIn w ws ⊎ ((j : ℕ) × (j < k) × IsIn w (out_ends_wires (outs_of (slice_index_or ls j d))))
   come_earlier ws tasks [] bs up k w d lt i = absurd (omega arith)
   come_earlier ws tasks (l ∷ ls) bs up zero w d lt i = inl (up.0 w (subst (λ (vs : List ℕ). IsIn w vs) bs.0.wired.in_wires i))
@@ -84,7 +84,7 @@ module _ {M : Type 0} (in_lanes out_lanes : M → List Lane) (source : M → Opt
   ]
 
   -- nodes whose links lead upward come after those that feed them
-  pub come_after : (links : ℕ) (lanes : List Lane) (tasks : ℕ → Task) (ls : List (Linked M)) → AllBehind in_lanes out_lanes source fault stands tasks ls → AreMeeting lanes ls → length lanes ≤ links → IsUpward [] (parts_of in_lanes out_lanes tasks (nodes_of ls)) → ComeAfter links ls
+  pub come_after : (links : ℕ) (lanes : List Lane) (tasks : ℕ → Task) (ls : List (Linked M)) → AllBehind view tasks ls → AreMeeting lanes ls → length lanes ≤ links → IsUpward [] (parts_of view tasks (nodes_of ls)) → ComeAfter links ls
   come_after links lanes tasks ls bs m few up = record {
     apart = come_apart tasks ls bs;
     once = come_once lanes tasks ls bs m;

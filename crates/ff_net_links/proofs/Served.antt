@@ -1,12 +1,10 @@
 -- Lists of workers and what they give back.
-use Rattle.std.proofs.Common.{◌≡◌, ◌≢◌, ℕ, zero, suc, ◌+◌, ◌<◌, List, [], ◌∷◌, ◌++◌, length, set, get_or, take, drop, sym, refl, ap, ◌∙◌, subst, arith, Option}
+use Rattle.std.proofs.Common.{◌≡◌, ◌≢◌, ℕ, zero, suc, ◌+◌, ◌<◌, List, [], ◌∷◌, ◌++◌, length, set, get_or, take, drop, sym, refl, ap, ◌∙◌, subst, arith}
 use Rattle.std.proofs.lemmas.List.{get_or-set_same, get_or-set_other}
 use Rattle.std.proofs.Math.ListN.{length-set}
 use native.Mathlib.Decide.{ℕ_discrete}
 use mathlib.Core.Logic.{dite}
-use Rattle.ff_frame.specs.declared.item.Lane.{Lane}
-use Rattle.ff_net.specs.declared.fault.Fault.{Fault}
-use Rattle.ff_net.specs.Pasts.{Past}
+use Rattle.ff_net.specs.Views.{View}
 use Rattle.ff_net_links.specs.declared.linked.Linked.{Linked}
 use Rattle.ff_net_links.specs.declared.worker.Worker.{Worker}
 use Rattle.ff_net_links.specs.Workers.{Serves, AllServe}
@@ -17,17 +15,17 @@ each_snoc P [] y d h here (suc k) lt = absurd (omega arith)
 each_snoc P (x ∷ xs) y d h here zero lt = h 0 (omega arith)
 each_snoc P (x ∷ xs) y d h here (suc k) lt = each_snoc (λ n. P (suc n)) xs y d (λ j l. h (suc j) (omega arith)) here k (omega arith)
 
-module _ {M : Type 0} (in_lanes out_lanes : M → List Lane) (source : M → Option ℕ) (device : M → Option (List ℕ)) (failures : M → ℕ) (fault : M → Option Fault) (stands : M → Past → Type 0) where
+module _ {M : Type 0} (view : M → View) where
   -- a worker that changes serves whom it served
-  pub serve_set : (ms : List (Linked M)) (ws : List (Worker M)) (j : ℕ) (w w' : Worker M) → AllServe in_lanes out_lanes source device failures fault stands ms ws → w ≡ get_or ws j w → ((m : Linked M) → Serves in_lanes out_lanes source device failures fault stands m w → Serves in_lanes out_lanes source device failures fault stands m w') → AllServe in_lanes out_lanes source device failures fault stands ms (set ws j w')
+  pub serve_set : (ms : List (Linked M)) (ws : List (Worker M)) (j : ℕ) (w w' : Worker M) → AllServe view ms ws → w ≡ get_or ws j w → ((m : Linked M) → Serves view m w → Serves view m w') → AllServe view ms (set ws j w')
   serve_set ms ws j w w' all here keeps = (
     length-set ws j w' ∙ all.0,
     λ i d e lt. dite (ℕ_discrete i j)
         (λ (same : i ≡ j). let long : j < length ws = let l = all.0 in omega arith in
         let now : w' ≡ get_or (set ws j w') i e = sym (ap (λ k. get_or (set ws j w') k e) same ∙ get_or-set_same ws j w' e long) in
         let was : get_or ws i w ≡ w = ap (λ k. get_or ws k w) same ∙ sym here in
-        subst (Serves in_lanes out_lanes source device failures fault stands (get_or ms i d)) now (keeps (get_or ms i d) (subst (Serves in_lanes out_lanes source device failures fault stands (get_or ms i d)) was (all.1 i d w lt))))
-        (λ (other : i ≢ j). subst (Serves in_lanes out_lanes source device failures fault stands (get_or ms i d)) (sym (get_or-set_other ws j i w' e other)) (all.1 i d e lt)),
+        subst (Serves view (get_or ms i d)) now (keeps (get_or ms i d) (subst (Serves view (get_or ms i d)) was (all.1 i d w lt))))
+        (λ (other : i ≢ j). subst (Serves view (get_or ms i d)) (sym (get_or-set_other ws j i w' e other)) (all.1 i d e lt)),
   )
 
 -- what is written through a slice of a whole vector is what the vector then has
@@ -57,12 +55,12 @@ nth_of (x ∷ xs) zero lt = x
 nth_of (x ∷ xs) (suc i) lt = nth_of xs i (omega arith)
 
 -- whom a worker serves
-module _ {M : Type 0} (in_lanes out_lanes : M → List Lane) (source : M → Option ℕ) (device : M → Option (List ℕ)) (failures : M → ℕ) (fault : M → Option Fault) (stands : M → Past → Type 0) where
-  pub someone : (ns : List (Linked M)) (ws : List (Worker M)) (i : ℕ) (w : Worker M) → AllServe in_lanes out_lanes source device failures fault stands ns ws → i < length ws → w ≡ get_or ws i w → (n : Linked M) × Serves in_lanes out_lanes source device failures fault stands n w
+module _ {M : Type 0} (view : M → View) where
+  pub someone : (ns : List (Linked M)) (ws : List (Worker M)) (i : ℕ) (w : Worker M) → AllServe view ns ws → i < length ws → w ≡ get_or ws i w → (n : Linked M) × Serves view n w
   someone ns ws i w all lt is =
       let there : i < length ns = let same = all.0 in omega arith in
       let d : Linked M = nth_of ns i there in
-      (get_or ns i d, subst (λ (v : Worker M). Serves in_lanes out_lanes source device failures fault stands (get_or ns i d) v) (sym is) (all.1 i d w there))
+      (get_or ns i d, subst (λ (v : Worker M). Serves view (get_or ns i d) v) (sym is) (all.1 i d w there))
 
 pub rest_first : {A : Type 0} (xs items : List A) (n k : ℕ) (d : A) → xs ≡ items → n ≡ 0 → get_or xs k d ≡ get_or items (n + k) d
 rest_first xs items n k d e z =

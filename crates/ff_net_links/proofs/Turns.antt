@@ -3,17 +3,16 @@ use Rattle.std.proofs.Common.{◌≡◌, ◌≢◌, ℕ, zero, suc, ◌<◌, ◌
 use Rattle.ff_frame.specs.declared.item.Item.{Item}
 use Rattle.ff_frame.specs.Items.{Closes}
 use Rattle.ff_link.specs.Views.{Sending, Receiving}
-use Rattle.ff_frame.specs.declared.item.Lane.{Lane}
-use Rattle.ff_net.specs.declared.fault.Fault.{Fault}
 use Rattle.ff_net.specs.declared.node.Node.{Node}
 use Rattle.ff_net.specs.declared.ports.InPort.{InPort}
 use Rattle.ff_net.specs.declared.wires.Wires.{Wires}
-use Rattle.ff_net.specs.Pasts.{Past, Task}
+use Rattle.ff_net.specs.Pasts.{Task}
 use Rattle.ff_net.specs.Ports.{in_at, in_wires}
 use Rattle.ff_net.specs.Worlds.{Wire, Stand}
 use Rattle.ff_net.specs.Nodes.{IsDone}
 use Rattle.ff_net.specs.Steps.{Moves, Stepped}
 use Rattle.ff_net.specs.Turns.{IsIdle}
+use Rattle.ff_net.specs.Views.{View}
 use Rattle.ff_net.proofs.Flows.{same_or_not}
 use Rattle.ff_net.proofs.Moments.{stepped_then, then_moves}
 use Rattle.ff_net.proofs.Changes.{true_not_false}
@@ -195,36 +194,36 @@ port_nth [] p = refl
 port_nth (x ∷ xs) zero = refl
 port_nth (x ∷ xs) (suc p) = port_nth xs p
 
-module _ {M : Type 0} (in_lanes out_lanes : M → List Lane) (source : M → Option ℕ) (device : M → Option (List ℕ)) (failures : M → ℕ) (fault : M → Option Fault) (stands : M → Past → Type 0) where
+module _ {M : Type 0} (view : M → View) where
   -- where the node has finished an input, its link is finished
-  pub shut_port : (l : Linked M) (task : Task) → Behind in_lanes out_lanes source fault stands task l → (last : List InEnd) → ((world : ℕ → Wire) → Stand l.wires world → (p : ℕ) → p < length l.ins.items → (world (in_end_at l.ins.items p).wire).finished ≡ true → (in_end_at last p).taking ≡ None)
+  pub shut_port : (l : Linked M) (task : Task) → Behind view task l → (last : List InEnd) → ((world : ℕ → Wire) → Stand l.wires world → (p : ℕ) → p < length l.ins.items → (world (in_end_at l.ins.items p).wire).finished ≡ true → (in_end_at last p).taking ≡ None)
       → (p : ℕ) → p < length l.node.ins.items → (in_at l.node.ins.items p).done ≡ true → (in_end_at last p).taking ≡ None
   shut_port l task b last shut p lt done =
       let wire : (in_end_at l.ins.items p).wire ≡ (in_at l.node.ins.items p).wire = sym (in_nth l.ins.items p) ∙ (ap (λ (ws : List ℕ). slice_index_or ws p 0) b.wired.in_wires ∙ port_nth l.node.ins.items p) in
       let count : length l.node.ins.items ≡ length l.ins.items = sym (count_map (λ (x : InPort). x.wire) l.node.ins.items) ∙ (ap length (sym b.wired.in_wires) ∙ count_map (λ (x : InEnd). x.wire) l.ins.items) in
       shut b.world b.stand p (subst (λ (n : ℕ). p < n) count lt) (subst (λ (w : ℕ). (b.world w).finished ≡ true) (sym wire) (sym (b.fits.ins p lt).flag ∙ done))
 
-  module _ (old drawn turned last : Linked M) (filled : Stepped in_lanes out_lanes source device failures fault stands (λ a p b q. Unit {0}) old.node old.wires drawn.node drawn.wires) (node : last.node ≡ turned.node) where
+  module _ (old drawn turned last : Linked M) (filled : Stepped view (λ a p b q. Unit {0}) old.node old.wires drawn.node drawn.wires) (node : last.node ≡ turned.node) where
     -- the node moved
-    pub node_moved : Stepped in_lanes out_lanes source device failures fault stands (λ a p b q. Moves a b p q) drawn.node drawn.wires turned.node turned.wires → HasMoved in_lanes out_lanes source device failures fault stands old last
-    node_moved step = at_node turned.wires (subst (λ (n : Node M). Stepped in_lanes out_lanes source device failures fault stands (λ a p b q. Moves a b p q) old.node old.wires n turned.wires) (sym node)
-        (stepped_then in_lanes out_lanes source device failures fault stands (λ a p b q. Unit {0}) (λ a p b q. Moves a b p q) (λ a p b q. Moves a b p q) old.node old.wires drawn.node drawn.wires turned.node turned.wires (λ a p b q c r x y u m. then_moves _ _ a b c p q r x y m) filled step))
+    pub node_moved : Stepped view (λ a p b q. Moves a b p q) drawn.node drawn.wires turned.node turned.wires → HasMoved view old last
+    node_moved step = at_node turned.wires (subst (λ (n : Node M). Stepped view (λ a p b q. Moves a b p q) old.node old.wires n turned.wires) (sym node)
+        (stepped_then view (λ a p b q. Unit {0}) (λ a p b q. Moves a b p q) (λ a p b q. Moves a b p q) old.node old.wires drawn.node drawn.wires turned.node turned.wires (λ a p b q c r x y u m. then_moves _ _ a b c p q r x y m) filled step))
 
     -- the node is idle
-    pub node_idle : last.wires ≡ turned.wires → Stepped in_lanes out_lanes source device failures fault stands (λ a p b q. IsIdle fault turned.node turned.wires b q) drawn.node drawn.wires turned.node turned.wires
-        → Stepped in_lanes out_lanes source device failures fault stands (λ a p b q. IsIdle fault last.node last.wires b q) old.node old.wires last.node last.wires
-    node_idle wires step = subst (λ (n : Node M). Stepped in_lanes out_lanes source device failures fault stands (λ a p b q. IsIdle fault n last.wires b q) old.node old.wires n last.wires) (sym node)
-        (subst (λ (w : Wires). Stepped in_lanes out_lanes source device failures fault stands (λ a p b q. IsIdle fault turned.node w b q) old.node old.wires turned.node w) (sym wires)
-        (stepped_then in_lanes out_lanes source device failures fault stands (λ a p b q. Unit {0}) (λ a p b q. IsIdle fault turned.node turned.wires b q) (λ a p b q. IsIdle fault turned.node turned.wires b q) old.node old.wires drawn.node drawn.wires turned.node turned.wires (λ a p b q c r x y u i. i) filled step))
+    pub node_idle : last.wires ≡ turned.wires → Stepped view (λ a p b q. IsIdle view turned.node turned.wires b q) drawn.node drawn.wires turned.node turned.wires
+        → Stepped view (λ a p b q. IsIdle view last.node last.wires b q) old.node old.wires last.node last.wires
+    node_idle wires step = subst (λ (n : Node M). Stepped view (λ a p b q. IsIdle view n last.wires b q) old.node old.wires n last.wires) (sym node)
+        (subst (λ (w : Wires). Stepped view (λ a p b q. IsIdle view turned.node w b q) old.node old.wires turned.node w) (sym wires)
+        (stepped_then view (λ a p b q. Unit {0}) (λ a p b q. IsIdle view turned.node turned.wires b q) (λ a p b q. IsIdle view turned.node turned.wires b q) old.node old.wires drawn.node drawn.wires turned.node turned.wires (λ a p b q c r x y u i. i) filled step))
 
   -- what moved in a turn, by its parts
   pub moved_of : (old drawn turned last : Linked M) (draws turns pours shuts : Bool) → last.node ≡ turned.node → ((p : ℕ) → Shuts (in_end_at drawn.ins.items p) (in_end_at last.ins.items p)) → ((p : ℕ) → TakesOneAtMost (in_end_at old.ins.items p) (in_end_at drawn.ins.items p))
       → (draws ≡ true → (p : ℕ) × InMoves (in_end_at old.ins.items p) (in_end_at drawn.ins.items p))
-      → (draws ≡ false → ((p : ℕ) → InRests (in_end_at old.ins.items p) (in_end_at drawn.ins.items p)) × Stepped in_lanes out_lanes source device failures fault stands (λ a p b q. Unit {0}) old.node old.wires drawn.node drawn.wires)
-      → (turns ≡ true → Stepped in_lanes out_lanes source device failures fault stands (λ a p b q. Moves a b p q) drawn.node drawn.wires turned.node turned.wires ⊎ ((IsDone old.node → ⊥) × IsDone turned.node))
+      → (draws ≡ false → ((p : ℕ) → InRests (in_end_at old.ins.items p) (in_end_at drawn.ins.items p)) × Stepped view (λ a p b q. Unit {0}) old.node old.wires drawn.node drawn.wires)
+      → (turns ≡ true → Stepped view (λ a p b q. Moves a b p q) drawn.node drawn.wires turned.node turned.wires ⊎ ((IsDone old.node → ⊥) × IsDone turned.node))
       → (pours ≡ true → (q : ℕ) × ((d : OutEnd) → OutMoves (slice_index_or old.outs.items q d) (slice_index_or last.outs.items q d)))
       → (shuts ≡ true → (p : ℕ) × InMoves (in_end_at drawn.ins.items p) (in_end_at last.ins.items p))
-      → (((draws || turns) || pours) || shuts) ≡ true → HasMoved in_lanes out_lanes source device failures fault stands old last
+      → (((draws || turns) || pours) || shuts) ≡ true → HasMoved view old last
   moved_of old drawn turned last true turns pours shuts node ends takes draw rest turn pour shut e =
       let h = draw refl in
       at_input h.0 (moves_shuts (in_end_at old.ins.items h.0) (in_end_at drawn.ins.items h.0) (in_end_at last.ins.items h.0) h.1 (ends h.0))

@@ -1,16 +1,14 @@
 -- What running does to each node.
-use Rattle.std.specs.Prelude.{◌≡◌, ℕ, ◌<◌, true, List, slice_index_or, length, Option}
-use Rattle.ff_frame.specs.declared.item.Lane.{Lane}
-use Rattle.ff_net.specs.declared.fault.Fault.{Fault}
-use Rattle.ff_net.specs.Pasts.{Past}
+use Rattle.std.specs.Prelude.{◌≡◌, ℕ, ◌<◌, true, List, slice_index_or, length}
+use Rattle.ff_net.specs.Views.{View}
 use Rattle.ff_net_links.specs.declared.linked.Linked.{Linked}
 use Rattle.ff_net_links.specs.declared.worker.Back.{Back}
 use Rattle.ff_net_links.specs.Nodes.{Follows, IsLawful, HasEnded}
 
-module _ {M : Type 0} (in_lanes out_lanes : M → List Lane) (source : M → Option ℕ) (device : M → Option (List ℕ)) (failures : M → ℕ) (fault : M → Option Fault) (stands : M → Past → Type 0) where
+module _ {M : Type 0} (view : M → View) where
   -- it was turned until it was done
   abbrev pub Ran : Linked M → Linked M → Type 0
-  Ran old new = Follows in_lanes out_lanes source device failures fault stands old new × HasEnded new
+  Ran old new = Follows view old new × HasEnded new
 
   -- and so was each, in order
   abbrev pub AllRan : List (Linked M) → List (Linked M) → Type 0
@@ -18,8 +16,8 @@ module _ {M : Type 0} (in_lanes out_lanes : M → List Lane) (source : M → Opt
 
   -- each is lawful
   pub record AllLawful (nodes : List (Linked M)) : Type 0 where
-    pub each : (i : ℕ) (d : Linked M) → i < length nodes → IsLawful in_lanes out_lanes source fault stands (slice_index_or nodes i d)
+    pub each : (i : ℕ) (d : Linked M) → i < length nodes → IsLawful view (slice_index_or nodes i d)
 
   -- what came back is the node after some turns, and where it says so, it is done
   abbrev pub Came : Linked M → Back M → Type 0
-  Came n b = Follows in_lanes out_lanes source device failures fault stands n b.node × IsLawful in_lanes out_lanes source fault stands b.node × (b.done ≡ true → HasEnded b.node)
+  Came n b = Follows view n b.node × IsLawful view b.node × (b.done ≡ true → HasEnded b.node)

@@ -4,10 +4,10 @@ use mathlib.Core.List.{IsPrefix}
 use Rattle.ff_frame.specs.declared.item.Item.{Item}
 use Rattle.ff_frame.specs.declared.item.Lane.{Lane}
 use Rattle.ff_link.specs.Views.{Link, Sending}
-use Rattle.ff_net.specs.declared.fault.Fault.{Fault}
 use Rattle.ff_net.specs.declared.node.Node.{Node}
-use Rattle.ff_net.specs.Pasts.{Past, Task, IsIn}
+use Rattle.ff_net.specs.Pasts.{Task, IsIn}
 use Rattle.ff_net.specs.Nodes.{AreApart, in_wires_of, out_wires_of}
+use Rattle.ff_net.specs.Views.{View}
 use Rattle.ff_net_links.specs.declared.ends.InEnd.{InEnd}
 use Rattle.ff_net_links.specs.declared.ends.OutEnd.{OutEnd}
 use Rattle.ff_net_links.specs.declared.linked.Linked.{Linked}
@@ -19,9 +19,9 @@ abbrev pub nodes_of : {M : Type 0} → List (Linked M) → List (Node M)
 nodes_of ls = map node_of ls
 
 -- with these tasks something can be behind each
-abbrev pub AllBehind : {M : Type 0} → (M → List Lane) → (M → List Lane) → (M → Option ℕ) → (M → Option Fault) → (M → Past → Type 0) → (ℕ → Task) → List (Linked M) → Type 0
-AllBehind in_lanes out_lanes source fault stands tasks [] = Unit {0}
-AllBehind in_lanes out_lanes source fault stands tasks (l ∷ ls) = Behind in_lanes out_lanes source fault stands (tasks zero) l × AllBehind in_lanes out_lanes source fault stands (λ k. tasks (suc k)) ls
+abbrev pub AllBehind : {M : Type 0} → (M → View) → (ℕ → Task) → List (Linked M) → Type 0
+AllBehind view tasks [] = Unit {0}
+AllBehind view tasks (l ∷ ls) = Behind view (tasks zero) l × AllBehind view (λ k. tasks (suc k)) ls
 
 -- the link of this number leads from one of the nodes, or to one
 abbrev pub IsOutOf : {M : Type 0} → List (Linked M) → ℕ → Type 0

@@ -1,18 +1,16 @@
 -- Which node a worker has.
-use Rattle.std.specs.Prelude.{◌≡◌, ℕ, ◌<◌, List, length, slice_index_or, Option}
-use Rattle.ff_frame.specs.declared.item.Lane.{Lane}
-use Rattle.ff_net.specs.declared.fault.Fault.{Fault}
-use Rattle.ff_net.specs.Pasts.{Past}
+use Rattle.std.specs.Prelude.{◌≡◌, ℕ, ◌<◌, List, length, slice_index_or}
+use Rattle.ff_net.specs.Views.{View}
 use Rattle.ff_net_links.specs.declared.linked.Linked.{Linked}
 use Rattle.ff_net_links.specs.declared.worker.Worker.{Worker}
 use Rattle.ff_net_links.specs.declared.worker.Worker.TheVariants.{Runs, Here}
 use Rattle.ff_net_links.specs.Runs.{Came}
 
-module _ {M : Type 0} (in_lanes out_lanes : M → List Lane) (source : M → Option ℕ) (device : M → Option (List ℕ)) (failures : M → ℕ) (fault : M → Option Fault) (stands : M → Past → Type 0) where
+module _ {M : Type 0} (view : M → View) where
   -- the worker was given this node, or has what became of it
   abbrev pub Serves : Linked M → Worker M → Type 0
   Serves n (Runs h) = h.promise.0.value ≡ n
-  Serves n (Here b) = Came in_lanes out_lanes source device failures fault stands n b
+  Serves n (Here b) = Came view n b
 
   -- each worker has the node at its place
   abbrev pub AllServe : List (Linked M) → List (Worker M) → Type 0

@@ -83,8 +83,8 @@ impl<M: Machine> Linked<M> {
         ensures sizes { sizes_of (wires_on result) ≡ sizes_of wires }
         ensures ins { ins_of result ≡ ins.items }
         ensures outs { outs_of result ≡ outs.items }
-        ensures wired { AreWired M.in_lanes M.out_lanes node wires ins.items outs.items → IsWired M.in_lanes M.out_lanes result }
-        ensures lawful { (task : Task) → IsBeginning M.in_lanes M.out_lanes M.source_of M.fault_of M.stands task node wires ins.items outs.items → Behind M.in_lanes M.out_lanes M.source_of M.fault_of M.stands task result }
+        ensures wired { AreWired M.view node wires ins.items outs.items → IsWired M.view result }
+        ensures lawful { (task : Task) → IsBeginning M.view task node wires ins.items outs.items → Behind M.view task result }
     {
         Linked {
             node,
@@ -96,10 +96,10 @@ impl<M: Machine> Linked<M> {
 
     /// What went wrong here: the machine's fault, or that memory was refused.
     pub fn fault(&self) -> Option<Fault>
-        ensures sound { result ≡ None → IsSound M.fault_of (node_of self.now) }
-        ensures none { IsSound M.fault_of (node_of self.now) → result ≡ None }
-        ensures machine { (c : Fault) → M.fault_of (machine_of (node_of self.now)) ≡ Some c → result ≡ Some c }
-        ensures refused { M.fault_of (machine_of (node_of self.now)) ≡ None → (IsSound M.fault_of (node_of self.now) → ⊥) → result ≡ Some Fault.NoMemory }
+        ensures sound { result ≡ None → IsSound M.view (node_of self.now) }
+        ensures none { IsSound M.view (node_of self.now) → result ≡ None }
+        ensures machine { (c : Fault) → (M.view (machine_of (node_of self.now))).fault ≡ Some c → result ≡ Some c }
+        ensures refused { (M.view (machine_of (node_of self.now))).fault ≡ None → (IsSound M.view (node_of self.now) → ⊥) → result ≡ Some Fault.NoMemory }
     {
         self.node.fault()
     }
@@ -192,8 +192,8 @@ impl<M: Machine> Linked<M> {
 
     // Draws at each end.
     fn draw_all<R: Wait>(&mut self, rt: &R) -> bool
-        requires { IsLawful M.in_lanes M.out_lanes M.source_of M.fault_of M.stands self.old }
-        ensures follows { Follows M.in_lanes M.out_lanes M.source_of M.device_of M.failures M.fault_of M.stands self.old self.new }
+        requires { IsLawful M.view self.old }
+        ensures follows { Follows M.view self.old self.new }
         ensures node { self.new.node ≡ self.old.node }
         ensures outs { self.new.outs ≡ self.old.outs }
         ensures takes { (p : ℕ) → TakesOneAtMost (in_end_at self.old.ins.items p) (in_end_at self.new.ins.items p) }
@@ -211,14 +211,14 @@ impl<M: Machine> Linked<M> {
 
     // Draws where no item is due.
     fn draw_if_free<R: Wait>(&mut self, rt: &R) -> bool
-        requires { IsLawful M.in_lanes M.out_lanes M.source_of M.fault_of M.stands self.old }
-        ensures follows { Follows M.in_lanes M.out_lanes M.source_of M.device_of M.failures M.fault_of M.stands self.old self.new }
+        requires { IsLawful M.view self.old }
+        ensures follows { Follows M.view self.old self.new }
         ensures outs { self.new.outs ≡ self.old.outs }
         ensures takes { (p : ℕ) → TakesOneAtMost (in_end_at self.old.ins.items p) (in_end_at self.new.ins.items p) }
         ensures moved { result ≡ true → (p : ℕ) × InMoves (in_end_at self.old.ins.items p) (in_end_at self.new.ins.items p) }
-        ensures still { result ≡ false → ((p : ℕ) → InRests (in_end_at self.old.ins.items p) (in_end_at self.new.ins.items p)) × Stepped M.in_lanes M.out_lanes M.source_of M.device_of M.failures M.fault_of M.stands (λ a p b q. Unit {0}) self.old.node self.old.wires self.new.node self.new.wires }
+        ensures still { result ≡ false → ((p : ℕ) → InRests (in_end_at self.old.ins.items p) (in_end_at self.new.ins.items p)) × Stepped M.view (λ a p b q. Unit {0}) self.old.node self.old.wires self.new.node self.new.wires }
         ensures waits { (q : ℕ) (d : OutEnd) → q < length self.old.outs.items → IsWaiting (slice_index_or self.old.outs.items q d) → (p : ℕ) → taken_of (in_end_at self.new.ins.items p) ≡ taken_of (in_end_at self.old.ins.items p) }
-        ensures due { (world : ℕ → Wire) (past : Past) (q : ℕ) → Stand self.old.wires world → NodeStands M.in_lanes M.source_of M.fault_of M.stands self.old.node world past → IsDue M.fault_of self.old.node world past q → (p : ℕ) → taken_of (in_end_at self.new.ins.items p) ≡ taken_of (in_end_at self.old.ins.items p) }
+        ensures due { (world : ℕ → Wire) (past : Past) (q : ℕ) → Stand self.old.wires world → NodeStands M.view self.old.node world past → IsDue M.view self.old.node world past q → (p : ℕ) → taken_of (in_end_at self.new.ins.items p) ≡ taken_of (in_end_at self.old.ins.items p) }
     {
         if self.waits_for_room() {
             return false;
@@ -231,20 +231,20 @@ impl<M: Machine> Linked<M> {
 
     // Lets the machine give what it has, and says whether an item is due.
     fn fill(&mut self) -> bool
-        requires { IsLawful M.in_lanes M.out_lanes M.source_of M.fault_of M.stands self.old }
-        ensures follows { Follows M.in_lanes M.out_lanes M.source_of M.device_of M.failures M.fault_of M.stands self.old self.new }
+        requires { IsLawful M.view self.old }
+        ensures follows { Follows M.view self.old self.new }
         ensures ins { self.new.ins ≡ self.old.ins }
         ensures outs { self.new.outs ≡ self.old.outs }
         ensures wires { self.new.wires ≡ self.old.wires }
-        ensures stepped { Stepped M.in_lanes M.out_lanes M.source_of M.device_of M.failures M.fault_of M.stands (Fills M.fault_of result self.old.node) self.old.node self.old.wires self.new.node self.new.wires }
+        ensures stepped { Stepped M.view (Fills M.view result self.old.node) self.old.node self.old.wires self.new.node self.new.wires }
     {
         self.node.is_due()
     }
 
     // Finishes the link of each end whose wire the node has finished.
     fn shut_ends<R: Wait>(&mut self, rt: &R) -> bool
-        requires { IsLawful M.in_lanes M.out_lanes M.source_of M.fault_of M.stands self.old }
-        ensures follows { Follows M.in_lanes M.out_lanes M.source_of M.device_of M.failures M.fault_of M.stands self.old self.new }
+        requires { IsLawful M.view self.old }
+        ensures follows { Follows M.view self.old self.new }
         ensures node { self.new.node ≡ self.old.node }
         ensures outs { self.new.outs ≡ self.old.outs }
         ensures wires { self.new.wires ≡ self.old.wires }
@@ -264,8 +264,8 @@ impl<M: Machine> Linked<M> {
 
     // Pours at each end.
     fn pour_all<R: Wait>(&mut self, rt: &R) -> bool
-        requires { IsLawful M.in_lanes M.out_lanes M.source_of M.fault_of M.stands self.old }
-        ensures follows { Follows M.in_lanes M.out_lanes M.source_of M.device_of M.failures M.fault_of M.stands self.old self.new }
+        requires { IsLawful M.view self.old }
+        ensures follows { Follows M.view self.old self.new }
         ensures node { self.new.node ≡ self.old.node }
         ensures ins { self.new.ins ≡ self.old.ins }
         ensures sends { (q : ℕ) (d : OutEnd) → SendsOneAtMost (slice_index_or self.old.outs.items q d) (slice_index_or self.new.outs.items q d) }
@@ -283,15 +283,15 @@ impl<M: Machine> Linked<M> {
 
     // A turn of the node on its wires. It says whether something moved, or the node has become done.
     fn turn_node(&mut self, was_done: bool) -> bool
-        requires { IsLawful M.in_lanes M.out_lanes M.source_of M.fault_of M.stands self.old }
-        ensures follows { Follows M.in_lanes M.out_lanes M.source_of M.device_of M.failures M.fault_of M.stands self.old self.new }
+        requires { IsLawful M.view self.old }
+        ensures follows { Follows M.view self.old self.new }
         ensures ins { self.new.ins ≡ self.old.ins }
         ensures outs { self.new.outs ≡ self.old.outs }
-        ensures moved { result ≡ true → Stepped M.in_lanes M.out_lanes M.source_of M.device_of M.failures M.fault_of M.stands (λ a p b q. Moves a b p q) self.old.node self.old.wires self.new.node self.new.wires ⊎ ((was_done ≡ false) × IsDone self.new.node) }
-        ensures still { result ≡ false → Stepped M.in_lanes M.out_lanes M.source_of M.device_of M.failures M.fault_of M.stands (λ a p b q. IsIdle M.fault_of self.new.node self.new.wires b q) self.old.node self.old.wires self.new.node self.new.wires ⊎ (was_done ≡ true) }
-        ensures closed { (world : ℕ → Wire) (past : Past) → NodeStands M.in_lanes M.source_of M.fault_of M.stands self.new.node world past → (p : ℕ) → p < inputs_of self.new.node → IsClosed (world (in_wire_of self.new.node p)).taken → HasFinished self.new.node p }
-        ensures spent { (p : ℕ) → p < inputs_of self.new.node → M.is_spent (machine_of self.new.node) p → HasFinished self.new.node p }
-        ensures faulty { (IsSound M.fault_of self.new.node → ⊥) → (p : ℕ) → p < inputs_of self.new.node → HasFinished self.new.node p }
+        ensures moved { result ≡ true → Stepped M.view (λ a p b q. Moves a b p q) self.old.node self.old.wires self.new.node self.new.wires ⊎ ((was_done ≡ false) × IsDone self.new.node) }
+        ensures still { result ≡ false → Stepped M.view (λ a p b q. IsIdle M.view self.new.node self.new.wires b q) self.old.node self.old.wires self.new.node self.new.wires ⊎ (was_done ≡ true) }
+        ensures closed { (world : ℕ → Wire) (past : Past) → NodeStands M.view self.new.node world past → (p : ℕ) → p < inputs_of self.new.node → IsClosed (world (in_wire_of self.new.node p)).taken → HasFinished self.new.node p }
+        ensures spent { (p : ℕ) → p < inputs_of self.new.node → (M.view (machine_of self.new.node)).spent p → HasFinished self.new.node p }
+        ensures faulty { (IsSound M.view self.new.node → ⊥) → (p : ℕ) → p < inputs_of self.new.node → HasFinished self.new.node p }
     {
         match self.node.turn(&mut self.wires) {
             Turn::Moved => true,
@@ -304,20 +304,20 @@ impl<M: Machine> Linked<M> {
     /// is due, or while an output waits for room. At its end the link of each input that the node has finished is
     /// finished too: where its closing item was taken, it is spent, or the node has a fault.
     pub fn turn<R: Wait>(&mut self, rt: &R) -> Turn
-        requires lawful { IsLawful M.in_lanes M.out_lanes M.source_of M.fault_of M.stands self.old }
-        ensures follows { Follows M.in_lanes M.out_lanes M.source_of M.device_of M.failures M.fault_of M.stands self.old self.new }
+        requires lawful { IsLawful M.view self.old }
+        ensures follows { Follows M.view self.old self.new }
         ensures done { result ≡ Turn.Done → HasEnded self.new }
         ensures takes { (p : ℕ) → TakesOneAtMost (in_end_at (ins_of self.old) p) (in_end_at (ins_of self.new) p) }
         ensures sends { (q : ℕ) (d : OutEnd) → SendsOneAtMost (slice_index_or (outs_of self.old) q d) (slice_index_or (outs_of self.new) q d) }
         ensures waits { (q : ℕ) (d : OutEnd) → q < length (outs_of self.old) → IsWaiting (slice_index_or (outs_of self.old) q d) → (p : ℕ) → taken_of (in_end_at (ins_of self.new) p) ≡ taken_of (in_end_at (ins_of self.old) p) }
-        ensures due { (world : ℕ → Wire) (past : Past) (q : ℕ) → Stand (wires_on self.old) world → NodeStands M.in_lanes M.source_of M.fault_of M.stands (node_of self.old) world past → IsDue M.fault_of (node_of self.old) world past q
+        ensures due { (world : ℕ → Wire) (past : Past) (q : ℕ) → Stand (wires_on self.old) world → NodeStands M.view (node_of self.old) world past → IsDue M.view (node_of self.old) world past q
             → (p : ℕ) → taken_of (in_end_at (ins_of self.new) p) ≡ taken_of (in_end_at (ins_of self.old) p) }
-        ensures moved { result ≡ Turn.Moved → HasMoved M.in_lanes M.out_lanes M.source_of M.device_of M.failures M.fault_of M.stands self.old self.new }
-        ensures not_yet { result ≡ Turn.NotYet → HasRested M.in_lanes M.out_lanes M.source_of M.device_of M.failures M.fault_of M.stands self.old self.new }
-        ensures closed { (world : ℕ → Wire) (past : Past) → NodeStands M.in_lanes M.source_of M.fault_of M.stands (node_of self.new) world past → (p : ℕ) → p < inputs_of (node_of self.new) → IsClosed (world (in_wire_of (node_of self.new) p)).taken → HasFinished (node_of self.new) p }
-        ensures spent { (p : ℕ) → p < inputs_of (node_of self.new) → M.is_spent (machine_of (node_of self.new)) p → HasFinished (node_of self.new) p }
-        ensures faulty { (IsSound M.fault_of (node_of self.new) → ⊥) → (p : ℕ) → p < inputs_of (node_of self.new) → HasFinished (node_of self.new) p }
-        ensures shut { (task : Task) → Behind M.in_lanes M.out_lanes M.source_of M.fault_of M.stands task self.old → (p : ℕ) → p < inputs_of (node_of self.new) → HasFinished (node_of self.new) p → (in_end_at (ins_of self.new) p).taking ≡ None }
+        ensures moved { result ≡ Turn.Moved → HasMoved M.view self.old self.new }
+        ensures not_yet { result ≡ Turn.NotYet → HasRested M.view self.old self.new }
+        ensures closed { (world : ℕ → Wire) (past : Past) → NodeStands M.view (node_of self.new) world past → (p : ℕ) → p < inputs_of (node_of self.new) → IsClosed (world (in_wire_of (node_of self.new) p)).taken → HasFinished (node_of self.new) p }
+        ensures spent { (p : ℕ) → p < inputs_of (node_of self.new) → (M.view (machine_of (node_of self.new))).spent p → HasFinished (node_of self.new) p }
+        ensures faulty { (IsSound M.view (node_of self.new) → ⊥) → (p : ℕ) → p < inputs_of (node_of self.new) → HasFinished (node_of self.new) p }
+        ensures shut { (task : Task) → Behind M.view task self.old → (p : ℕ) → p < inputs_of (node_of self.new) → HasFinished (node_of self.new) p → (in_end_at (ins_of self.new) p).taking ≡ None }
     {
         let was_done = self.node.is_done();
         let drawn = self.draw_if_free(rt);

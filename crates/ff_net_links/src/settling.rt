@@ -1,14 +1,13 @@
 // The links of nodes that have ended, settled.
-ghost use Rattle.std.specs.Prelude.{◌≡◌, ◌<◌, ◌≤◌, ℕ, List, [], length, slice_index_or, vec_len, vec_capacity, map, true, None, Some};
+ghost use Rattle.std.specs.Prelude.{◌≡◌, ◌<◌, ◌≤◌, ℕ, List, [], length, slice_index_or, vec_len, vec_capacity, None, Some};
 ghost use Rattle.ff_frame.specs.declared.item.Lane.{Lane};
-ghost use Rattle.ff_frame.specs.Stream.{LiesBelow, opened};
-ghost use Rattle.ff_net.specs.declared.fault.Fault.{Fault};
-ghost use Rattle.ff_net.specs.Laws.{IsOfInputs};
-ghost use Rattle.ff_net.specs.Nets.{IsUpward, solve};
+ghost use Rattle.ff_net.specs.Nets.{IsUpward};
 ghost use Rattle.ff_net.specs.Pasts.{Task, IsIn};
-ghost use Rattle.ff_net.specs.Serial.{Moment, Settled, parts_of};
+ghost use Rattle.ff_net.specs.Serial.{Moment, parts_of};
+ghost use Rattle.ff_net.specs.Theorem.{AllFare, MeetsSolution};
+ghost use Rattle.ff_net.specs.declared.node.Node.{Node};
 ghost use Rattle.ff_net.specs.Worlds.{Wire};
-ghost use Rattle.ff_net.specs.Nodes.{AreApart, IsSound, IsDone, machine_of, outputs_of, in_wires_of};
+ghost use Rattle.ff_net.specs.Nodes.{AreApart, machine_of};
 ghost use Rattle.ff_net_links.specs.Nodes.{in_ends_wires, out_ends_wires, node_of};
 ghost use Rattle.ff_link.specs.Views.{Link};
 ghost use Rattle.ff_net_links.specs.declared.ends.OutEnd.{OutEnd};
@@ -117,10 +116,8 @@ fn settle_in<M: Machine + Drop>(
 /// order of the nodes. It asks for no memory.
 ///
 /// Where no link leads from two nodes or to two, and each that leads to a node leaves an earlier one, what was taken from
-/// a link is the beginning of what was sent over it; so what a node took lies below the solution of the network
-/// (`below`), and with its breaks where no node with a lower number has a fault (`before`); then its own fault of the
-/// inputs is the cause of the solution's streams (`cause`). Where none has a fault, the machine of each node without
-/// outputs was fed the streams of the solution, and they are whole (`settled`).
+/// a link is the beginning of what was sent over it; so the nodes meet the solution of the network (`solved`), as those of
+/// which they came.
 pub fn settle_all<M: Machine + Drop>(nodes: Vec<Linked<M>>, room: Room<M>) -> Vec<M>
     requires ended { AllEnded nodes.items }
     requires linked { (links : ℕ → Link) × AreLinked links nodes.items }
@@ -128,16 +125,8 @@ pub fn settle_all<M: Machine + Drop>(nodes: Vec<Linked<M>>, room: Room<M>) -> Ve
     requires fits { length nodes.items ≤ most_nodes room }
     ensures count { length result.items ≡ length nodes.items }
     ensures machines { (k : ℕ) (d : _) (e : _) → k < length nodes.items → slice_index_or result.items k e ≡ machine_of (node_of (slice_index_or nodes.items k d)) }
-    ensures below { (tasks : ℕ → Task) (lanes : List Lane) → AllBehind M.in_lanes M.out_lanes M.source_of M.fault_of M.stands tasks nodes.items → AreMeeting lanes nodes.items → length lanes ≤ links_of room → IsUpward [] (parts_of M.in_lanes M.out_lanes tasks (nodes_of nodes.items))
-        → (world : ℕ → Wire) × Moment M.in_lanes M.out_lanes M.source_of M.fault_of M.stands tasks (nodes_of nodes.items) lanes world × ((k : ℕ) (d : _) (w : ℕ) → k < length (nodes_of nodes.items) → IsIn w (in_wires_of (slice_index_or (nodes_of nodes.items) k d)) → LiesBelow (opened (world w).taken) (solve (parts_of M.in_lanes M.out_lanes tasks (nodes_of nodes.items)) w)) }
-    ensures before { (tasks : ℕ → Task) (lanes : List Lane) → AllBehind M.in_lanes M.out_lanes M.source_of M.fault_of M.stands tasks nodes.items → AreMeeting lanes nodes.items → length lanes ≤ links_of room → IsUpward [] (parts_of M.in_lanes M.out_lanes tasks (nodes_of nodes.items))
-        → (world : ℕ → Wire) × Moment M.in_lanes M.out_lanes M.source_of M.fault_of M.stands tasks (nodes_of nodes.items) lanes world × ((k : ℕ) (d : _) → k < length (nodes_of nodes.items) → ((j : ℕ) (e : _) → j < k → IsSound M.fault_of (slice_index_or (nodes_of nodes.items) j e))
-        → (w : ℕ) → IsIn w (in_wires_of (slice_index_or (nodes_of nodes.items) k d)) → LiesBelow (world w).taken (solve (parts_of M.in_lanes M.out_lanes tasks (nodes_of nodes.items)) w)) }
-    ensures cause { (tasks : ℕ → Task) (lanes : List Lane) → AllBehind M.in_lanes M.out_lanes M.source_of M.fault_of M.stands tasks nodes.items → AreMeeting lanes nodes.items → length lanes ≤ links_of room → IsUpward [] (parts_of M.in_lanes M.out_lanes tasks (nodes_of nodes.items))
-        → (k : ℕ) (d : _) → k < length (nodes_of nodes.items) → ((j : ℕ) (e : _) → j < k → IsSound M.fault_of (slice_index_or (nodes_of nodes.items) j e))
-        → (c : Fault) → M.fault_of (machine_of (slice_index_or (nodes_of nodes.items) k d)) ≡ Some c → IsOfInputs c → (tasks k).cause (map (solve (parts_of M.in_lanes M.out_lanes tasks (nodes_of nodes.items))) (in_wires_of (slice_index_or (nodes_of nodes.items) k d))) ≡ Some c }
-    ensures settled { (tasks : ℕ → Task) (lanes : List Lane) → AllBehind M.in_lanes M.out_lanes M.source_of M.fault_of M.stands tasks nodes.items → AreMeeting lanes nodes.items → length lanes ≤ links_of room → IsUpward [] (parts_of M.in_lanes M.out_lanes tasks (nodes_of nodes.items)) → ((k : ℕ) (d : _) → k < length (nodes_of nodes.items) → IsSound M.fault_of (slice_index_or (nodes_of nodes.items) k d))
-        → (k : ℕ) (d : _) → k < length (nodes_of nodes.items) → IsDone (slice_index_or (nodes_of nodes.items) k d) → outputs_of (slice_index_or (nodes_of nodes.items) k d) ≡ 0 → Settled M.stands (tasks k) (parts_of M.in_lanes M.out_lanes tasks (nodes_of nodes.items)) (slice_index_or (nodes_of nodes.items) k d) }
+    ensures solved { (tasks : ℕ → Task) (lanes : List Lane) (begun : List (Node _)) → AllBehind M.view tasks nodes.items → AreMeeting lanes nodes.items → length lanes ≤ links_of room → IsUpward [] (parts_of M.view tasks (nodes_of nodes.items)) → AllFare M.view begun (nodes_of nodes.items)
+        → (world : ℕ → Wire) × Moment M.view tasks (nodes_of nodes.items) lanes world × MeetsSolution M.view tasks begun (nodes_of nodes.items) world }
 {
     let (table, machines) = room.into_parts();
     settle_in(table, nodes, machines)

@@ -28,8 +28,8 @@ fn round_of(all: bool, moved: bool) -> Turn {
 
 // One turn of each node that is here. Done where each is done.
 fn round<M: Machine, R: Wait>(rt: &R, bells: &Bells, workers: &mut [Worker<M>]) -> Turn
-    requires { (ns : List (Linked _)) × AllServe M.in_lanes M.out_lanes M.source_of M.device_of M.failures M.fault_of M.stands ns workers.old }
-    ensures { (ns : List (Linked _)) → AllServe M.in_lanes M.out_lanes M.source_of M.device_of M.failures M.fault_of M.stands ns workers.old → AllServe M.in_lanes M.out_lanes M.source_of M.device_of M.failures M.fault_of M.stands ns workers.new }
+    requires { (ns : List (Linked _)) × AllServe M.view ns workers.old }
+    ensures { (ns : List (Linked _)) → AllServe M.view ns workers.old → AllServe M.view ns workers.new }
 {
     let mut all = true;
     let mut moved = false;
@@ -43,8 +43,8 @@ fn round<M: Machine, R: Wait>(rt: &R, bells: &Bells, workers: &mut [Worker<M>]) 
 
 // Turns the nodes that are here, one turn each in rounds, until each is done.
 fn rounds<M: Machine, R: Wait>(rt: &R, bells: &Bells, workers: &mut [Worker<M>])
-    requires { (ns : List (Linked _)) × AllServe M.in_lanes M.out_lanes M.source_of M.device_of M.failures M.fault_of M.stands ns workers.old }
-    ensures { (ns : List (Linked _)) → AllServe M.in_lanes M.out_lanes M.source_of M.device_of M.failures M.fault_of M.stands ns workers.old → AllServe M.in_lanes M.out_lanes M.source_of M.device_of M.failures M.fault_of M.stands ns workers.new }
+    requires { (ns : List (Linked _)) × AllServe M.view ns workers.old }
+    ensures { (ns : List (Linked _)) → AllServe M.view ns workers.old → AllServe M.view ns workers.new }
 {
     let mut rest = Rest::new();
     for _ in rt.forever() {
@@ -75,10 +75,10 @@ fn start_all<'s, E, M: Machine + Send + Drop + 's, R: Threads + Wait + Sync>(
     nodes: Vec<Linked<M>>,
     mut workers: Vec<Worker<M>>,
 ) -> Vec<Worker<M>>
-    requires lawful { AllLawful M.in_lanes M.out_lanes M.source_of M.device_of M.failures M.fault_of M.stands nodes.items }
+    requires lawful { AllLawful M.view nodes.items }
     requires flags { vec_len nodes ≤ length flags.now }
     requires room { (workers.items ≡ []) × (vec_len nodes ≤ vec_capacity workers) }
-    ensures { AllServe M.in_lanes M.out_lanes M.source_of M.device_of M.failures M.fault_of M.stands nodes.items result.items }
+    ensures { AllServe M.view nodes.items result.items }
 {
     let mut next = 0;
     for node in nodes {
@@ -94,9 +94,9 @@ fn finish_all<M: Machine + Drop, R: Threads + Wait>(
     workers: Vec<Worker<M>>,
     mut done: Vec<Linked<M>>,
 ) -> Vec<Linked<M>>
-    requires serve { (ns : List (Linked _)) × AllServe M.in_lanes M.out_lanes M.source_of M.device_of M.failures M.fault_of M.stands ns workers.items }
+    requires serve { (ns : List (Linked _)) × AllServe M.view ns workers.items }
     requires room { (done.items ≡ []) × (vec_len workers ≤ vec_capacity done) }
-    ensures { (ns : List (Linked _)) → AllServe M.in_lanes M.out_lanes M.source_of M.device_of M.failures M.fault_of M.stands ns workers.items → AllRan M.in_lanes M.out_lanes M.source_of M.device_of M.failures M.fault_of M.stands ns result.items }
+    ensures { (ns : List (Linked _)) → AllServe M.view ns workers.items → AllRan M.view ns result.items }
 {
     for worker in workers {
         done.push_reserved(finish(rt, bells, worker));
@@ -113,11 +113,11 @@ fn run_in<'s, E, M: Machine + Send + Drop + 's, R: Threads + Wait + Sync>(
     workers: Vec<Worker<M>>,
     done: Vec<Linked<M>>,
 ) -> Vec<Linked<M>>
-    requires lawful { AllLawful M.in_lanes M.out_lanes M.source_of M.device_of M.failures M.fault_of M.stands nodes.items }
+    requires lawful { AllLawful M.view nodes.items }
     requires flags { vec_len nodes ≤ length flags.now }
     requires workers { (workers.items ≡ []) × (vec_len nodes ≤ vec_capacity workers) }
     requires done { (done.items ≡ []) × (vec_len nodes ≤ vec_capacity done) }
-    ensures { AllRan M.in_lanes M.out_lanes M.source_of M.device_of M.failures M.fault_of M.stands nodes.items result.items }
+    ensures { AllRan M.view nodes.items result.items }
 {
     let mut workers = start_all(scope, rt, flags, bells, nodes, workers);
     rounds(rt, bells, workers.as_mut_slice());
@@ -133,18 +133,18 @@ fn run_scoped<M: Machine + Send + Drop, R: Threads + Wait + Sync>(
     workers: Vec<Worker<M>>,
     done: Vec<Linked<M>>,
 ) -> Vec<Linked<M>>
-    requires lawful { AllLawful M.in_lanes M.out_lanes M.source_of M.device_of M.failures M.fault_of M.stands nodes.items }
+    requires lawful { AllLawful M.view nodes.items }
     requires flags { vec_len nodes ≤ length flags.now }
     requires workers { (workers.items ≡ []) × (vec_len nodes ≤ vec_capacity workers) }
     requires done { (done.items ≡ []) × (vec_len nodes ≤ vec_capacity done) }
-    ensures { AllRan M.in_lanes M.out_lanes M.source_of M.device_of M.failures M.fault_of M.stands nodes.items result.items }
+    ensures { AllRan M.view nodes.items result.items }
 {
     thread::scope(
         thread::scope_env(),
         rt,
         |scope| -> Vec<Linked<M>>
-            requires { AllLawful M.in_lanes M.out_lanes M.source_of M.device_of M.failures M.fault_of M.stands nodes.items × (vec_len nodes ≤ length flags.now) × (workers.items ≡ []) × (vec_len nodes ≤ vec_capacity workers) × (done.items ≡ []) × (vec_len nodes ≤ vec_capacity done) }
-            ensures { AllRan M.in_lanes M.out_lanes M.source_of M.device_of M.failures M.fault_of M.stands nodes.items result.items }
+            requires { AllLawful M.view nodes.items × (vec_len nodes ≤ length flags.now) × (workers.items ≡ []) × (vec_len nodes ≤ vec_capacity workers) × (done.items ≡ []) × (vec_len nodes ≤ vec_capacity done) }
+            ensures { AllRan M.view nodes.items result.items }
         { run_in(scope, rt, flags, bells, nodes, workers, done) },
     )
 }
@@ -191,8 +191,8 @@ pub fn run_threads<M: Machine + Send + Drop, R: Threads + Wait + Sync>(
     alloc: Global,
     nodes: Vec<Linked<M>>,
 ) -> Result<Vec<Linked<M>>, Vec<Linked<M>>>
-    requires lawful { AllLawful M.in_lanes M.out_lanes M.source_of M.device_of M.failures M.fault_of M.stands nodes.items }
-    ensures ok { IfOk result (λ v. AllRan M.in_lanes M.out_lanes M.source_of M.device_of M.failures M.fault_of M.stands nodes.items v.items) }
+    requires lawful { AllLawful M.view nodes.items }
+    ensures ok { IfOk result (λ v. AllRan M.view nodes.items v.items) }
     ensures err { IfErr result (λ v. v.items ≡ nodes.items) }
 {
     let Ok(bells) = bells_of(alloc, &nodes) else {

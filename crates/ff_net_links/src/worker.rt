@@ -29,7 +29,7 @@ pub struct CameFrom<M>(Snapshot<Linked<M>>);
 impl<M: Machine> Promise<Back<M>> for CameFrom<M> {
     ghost use Rattle.ff_net_links.specs.Runs.{Came};
 
-    ghost kept_by = { λ p b. Came M.in_lanes M.out_lanes M.source_of M.device_of M.failures M.fault_of M.stands p.0.value b };
+    ghost kept_by = { λ p b. Came M.view p.0.value b };
 }
 
 /// A node with its thread, or here.
@@ -41,8 +41,8 @@ pub enum Worker<M: Machine> {
 
 /// Turns a node until it is done.
 pub fn run<M: Machine, R: Wait>(rt: &R, bells: &Bells, worker: usize, node: &mut Linked<M>)
-    requires { IsLawful M.in_lanes M.out_lanes M.source_of M.fault_of M.stands node.old }
-    ensures { Ran M.in_lanes M.out_lanes M.source_of M.device_of M.failures M.fault_of M.stands node.old node.new }
+    requires { IsLawful M.view node.old }
+    ensures { Ran M.view node.old node.new }
 {
     let mut rest = Rest::new();
     for _ in rt.forever() {
@@ -99,8 +99,8 @@ fn work<M: Machine, R: Wait>(
     worker: usize,
     mut node: Linked<M>,
 ) -> Back<M>
-    requires { IsLawful M.in_lanes M.out_lanes M.source_of M.fault_of M.stands node }
-    ensures { Came M.in_lanes M.out_lanes M.source_of M.device_of M.failures M.fault_of M.stands node result }
+    requires { IsLawful M.view node }
+    ensures { Came M.view node result }
 {
     if refused.load(Ordering::SeqCst) {
         return Back { node, done: false };
@@ -118,15 +118,15 @@ pub fn start<'s, E, M: Machine + Send + Drop + 's, R: Threads + Wait + Sync>(
     worker: usize,
     node: Linked<M>,
 ) -> Worker<M>
-    requires { IsLawful M.in_lanes M.out_lanes M.source_of M.fault_of M.stands node }
-    ensures { Serves M.in_lanes M.out_lanes M.source_of M.device_of M.failures M.fault_of M.stands node result }
+    requires { IsLawful M.view node }
+    ensures { Serves M.view node result }
 {
     let from = CameFrom(Snapshot::of(&node));
     match scope.spawn_with(
         from,
         move || -> Back<M>
-            requires { IsLawful M.in_lanes M.out_lanes M.source_of M.fault_of M.stands node }
-            ensures { Came M.in_lanes M.out_lanes M.source_of M.device_of M.failures M.fault_of M.stands node result }
+            requires { IsLawful M.view node }
+            ensures { Came M.view node result }
         { work(rt, refused, bells, worker, node) },
     ) {
         Ok(handle) => Worker::Runs(handle),
@@ -140,8 +140,8 @@ pub fn start<'s, E, M: Machine + Send + Drop + 's, R: Threads + Wait + Sync>(
 
 /// One turn of a node that is here. Done where it runs in a thread.
 pub fn turn_here<M: Machine, R: Wait>(rt: &R, bells: &Bells, worker: &mut Worker<M>) -> Turn
-    requires { (n : Linked _) × Serves M.in_lanes M.out_lanes M.source_of M.device_of M.failures M.fault_of M.stands n worker.old }
-    ensures keeps { (n : Linked _) → Serves M.in_lanes M.out_lanes M.source_of M.device_of M.failures M.fault_of M.stands n worker.old → Serves M.in_lanes M.out_lanes M.source_of M.device_of M.failures M.fault_of M.stands n worker.new }
+    requires { (n : Linked _) × Serves M.view n worker.old }
+    ensures keeps { (n : Linked _) → Serves M.view n worker.old → Serves M.view n worker.new }
 {
     match worker {
         Worker::Runs(_) => Turn::Done,
@@ -158,8 +158,8 @@ fn tell_and_ask<M: Machine>(bells: &Bells, node: &Linked<M>, asks: bool) {
 }
 
 fn turn_back<M: Machine, R: Wait>(rt: &R, bells: &Bells, back: &mut Back<M>) -> Turn
-    requires { IsLawful M.in_lanes M.out_lanes M.source_of M.fault_of M.stands back.old.node }
-    ensures { (n : Linked _) → Came M.in_lanes M.out_lanes M.source_of M.device_of M.failures M.fault_of M.stands n back.old → Came M.in_lanes M.out_lanes M.source_of M.device_of M.failures M.fault_of M.stands n back.new }
+    requires { IsLawful M.view back.old.node }
+    ensures { (n : Linked _) → Came M.view n back.old → Came M.view n back.new }
 {
     if back.done {
         return Turn::Done;
@@ -176,8 +176,8 @@ pub fn finish<M: Machine + Drop, R: Threads + Wait>(
     bells: &Bells,
     worker: Worker<M>,
 ) -> Linked<M>
-    requires { (n : Linked _) × Serves M.in_lanes M.out_lanes M.source_of M.device_of M.failures M.fault_of M.stands n worker }
-    ensures { (n : Linked _) → Serves M.in_lanes M.out_lanes M.source_of M.device_of M.failures M.fault_of M.stands n worker → Ran M.in_lanes M.out_lanes M.source_of M.device_of M.failures M.fault_of M.stands n result }
+    requires { (n : Linked _) × Serves M.view n worker }
+    ensures { (n : Linked _) → Serves M.view n worker → Ran M.view n result }
 {
     match worker {
         Worker::Runs(handle) => finish_back(rt, bells, handle.join(rt)),
@@ -186,8 +186,8 @@ pub fn finish<M: Machine + Drop, R: Threads + Wait>(
 }
 
 fn finish_back<M: Machine, R: Wait>(rt: &R, bells: &Bells, back: Back<M>) -> Linked<M>
-    requires { IsLawful M.in_lanes M.out_lanes M.source_of M.fault_of M.stands back.node }
-    ensures { (n : Linked _) → Came M.in_lanes M.out_lanes M.source_of M.device_of M.failures M.fault_of M.stands n back → Ran M.in_lanes M.out_lanes M.source_of M.device_of M.failures M.fault_of M.stands n result }
+    requires { IsLawful M.view back.node }
+    ensures { (n : Linked _) → Came M.view n back → Ran M.view n result }
 {
     let Back { mut node, done } = back;
     if !done {

@@ -10,7 +10,7 @@ use Rattle.ff_net_links.proofs.threads.finish_all.Goals as goal
 
 pub finish-requires : goal.finish-requires
 finish-requires g c =
-    let m = g.M.Machine in
+    let view = g.M.Machine.view in
     let was = c.loop-worker.invariant in
     let step = c.in-Some.ensures.steps in
     let n = vec_len c.loop-worker.done in
@@ -19,11 +19,11 @@ finish-requires g c =
     let some : 0 < into_iter_len c.loop-worker.worker-iterator = let one = step.1 in omega arith in
     let next : c.in-Some.worker ≡ get_or (vec_items c.args.workers) n c.in-Some.worker = first_next _ _ (vec_items c.args.workers) c.in-Some.worker c.in-Some.worker n step.0 (was.rest 0 c.in-Some.worker some) in
     let there : n < length c.args.workers.items = let left = was.left in let one = step.1 in let ok = c.args.workers.ok.0 in omega arith in
-    someone m.in_lanes m.out_lanes m.source_of m.device_of m.failures m.fault_of m.stands ns c.args.workers.items n c.in-Some.worker all there next
+    someone view ns c.args.workers.items n c.in-Some.worker all there next
 
 pub loop-worker-preserved : goal.loop-worker-preserved
 loop-worker-preserved g c =
-    let m = g.M.Machine in
+    let view = g.M.Machine.view in
     let was = c.loop-worker.invariant in let step = c.in-Some.ensures.steps in let n = vec_len c.loop-worker.done in
     let some : 0 < into_iter_len c.loop-worker.worker-iterator = let one = step.1 in omega arith in
     let next : c.in-Some.worker ≡ get_or (vec_items c.args.workers) n c.in-Some.worker = first_next _ _ (vec_items c.args.workers) c.in-Some.worker c.in-Some.worker n step.0 (was.rest 0 c.in-Some.worker some) in
@@ -34,9 +34,9 @@ loop-worker-preserved g c =
           let more : suc k < into_iter_len c.loop-worker.worker-iterator = let one = step.1 in omega arith in
           rest_next _ _ (vec_items c.args.workers) c.in-Some.worker d n k step.0 (was.rest (suc k) d more) ∙ ap (λ (z : ℕ). get_or (vec_items c.args.workers) z d) (let len = c.push_reserved.ensures.len in omega arith);
       ran = λ ms all k d below.
-          let P : ℕ → Linked g.row.M.Denot → Type 0 = λ i x. Ran m.in_lanes m.out_lanes m.source_of m.device_of m.failures m.fault_of m.stands (get_or ms i d) x in
+          let P : ℕ → Linked g.row.M.Denot → Type 0 = λ i x. Ran view (get_or ms i d) x in
           let long : length c.loop-worker.done.items ≡ n = sym c.loop-worker.done.ok.0 in let got = c.args.workers.ok.0 in let left = was.left in let one = step.1 in let same = all.0 in let len = c.push_reserved.ensures.len in
-          let here : P n c.finish.result = c.finish.ensures (get_or ms n d) (subst (λ (w : Worker g.row.M.Denot). Serves m.in_lanes m.out_lanes m.source_of m.device_of m.failures m.fault_of m.stands (get_or ms n d) w) (sym next) (all.1 n d c.in-Some.worker (omega arith))) in
+          let here : P n c.finish.result = c.finish.ensures (get_or ms n d) (subst (λ (w : Worker g.row.M.Denot). Serves view (get_or ms n d) w) (sym next) (all.1 n d c.in-Some.worker (omega arith))) in
           subst (P k) (ap (λ xs. get_or xs k d) (sym c.push_reserved.ensures.items)) (each_snoc P c.loop-worker.done.items c.finish.result d (λ i lt. was.ran ms all i d (omega arith)) (subst (λ (i : ℕ). P i c.finish.result) (sym long) here) k (omega arith));
     }
 

@@ -10,5 +10,5 @@ invariant-loop-worker g l = let rest = l.worker-iterator in let n = vec_len l.do
   left : n + into_iter_len rest ≡ vec_len l.fn.workers;
   room : vec_capacity l.initial.done ≤ vec_capacity l.done;
   rest : (k : ℕ) (d : _) → k < into_iter_len rest → get_or (into_iter_items rest) k d ≡ get_or (vec_items l.fn.workers) (n + k) d;
-  ran : (ms : List (Linked g.row.M.Denot)) → AllServe g.M.Machine.in_lanes g.M.Machine.out_lanes g.M.Machine.source_of g.M.Machine.device_of g.M.Machine.failures g.M.Machine.fault_of g.M.Machine.stands ms (vec_items l.fn.workers) → (k : ℕ) (d : _) → k < n → Ran g.M.Machine.in_lanes g.M.Machine.out_lanes g.M.Machine.source_of g.M.Machine.device_of g.M.Machine.failures g.M.Machine.fault_of g.M.Machine.stands (get_or ms k d) (get_or (vec_items l.done) k d);
+  ran : (ms : List (Linked g.row.M.Denot)) → AllServe g.M.Machine.view ms (vec_items l.fn.workers) → (k : ℕ) (d : _) → k < n → Ran g.M.Machine.view (get_or ms k d) (get_or (vec_items l.done) k d);
 }

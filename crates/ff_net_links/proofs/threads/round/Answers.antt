@@ -7,9 +7,9 @@ use Rattle.ff_net_links.proofs.threads.round.Goals as goal
 
 pub turn_here-turn-requires : goal.turn_here-turn-requires
 turn_here-turn-requires g c =
-    let m = g.M.Machine in
-    subst (λ (w : Worker g.row.M.Denot). (x : Linked g.row.M.Denot) × Serves m.in_lanes m.out_lanes m.source_of m.device_of m.failures m.fault_of m.stands x w) c.worker-item.is
-    (someone m.in_lanes m.out_lanes m.source_of m.device_of m.failures m.fault_of m.stands c.requires.0 c.loop-worker.workers c.loop-worker.worker-index c.worker-item.result (c.loop-worker.invariant c.requires.0 c.requires.1) (subst (λ (n : ℕ). c.loop-worker.worker-index < n) (c.requires.1.0 ∙ sym (c.loop-worker.invariant c.requires.0 c.requires.1).0) c.loop-worker-test.true) c.worker-item.is)
+    let view = g.M.Machine.view in
+    subst (λ (w : Worker g.row.M.Denot). (x : Linked g.row.M.Denot) × Serves view x w) c.worker-item.is
+    (someone view c.requires.0 c.loop-worker.workers c.loop-worker.worker-index c.worker-item.result (c.loop-worker.invariant c.requires.0 c.requires.1) (subst (λ (n : ℕ). c.loop-worker.worker-index < n) (c.requires.1.0 ∙ sym (c.loop-worker.invariant c.requires.0 c.requires.1).0) c.loop-worker-test.true) c.worker-item.is)
 
 pub loop-worker-preserved : goal.loop-worker-preserved
-loop-worker-preserved g c = let m = g.M.Machine in λ ms all. serve_set m.in_lanes m.out_lanes m.source_of m.device_of m.failures m.fault_of m.stands ms c.loop-worker.workers c.loop-worker.worker-index c.worker-item.result c.turn_here-turn.new.worker (c.loop-worker.invariant ms all) c.worker-item.is (λ n s. c.turn_here-turn.ensures.keeps n (subst (λ (w : Worker g.row.M.Denot). Serves m.in_lanes m.out_lanes m.source_of m.device_of m.failures m.fault_of m.stands n w) c.worker-item.is s))
+loop-worker-preserved g c = let view = g.M.Machine.view in λ ms all. serve_set view ms c.loop-worker.workers c.loop-worker.worker-index c.worker-item.result c.turn_here-turn.new.worker (c.loop-worker.invariant ms all) c.worker-item.is (λ n s. c.turn_here-turn.ensures.keeps n (subst (λ (w : Worker g.row.M.Denot). Serves view n w) c.worker-item.is s))

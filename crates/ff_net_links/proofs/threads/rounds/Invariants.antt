@@ -4,4 +4,4 @@ use Rattle.ff_net_links.specs.Workers.{AllServe}
 use Rattle.ff_net_links.proofs.threads.rounds.Given as goal
 
 abbrev pub invariant-loop : goal.invariant-loop
-invariant-loop g l = (ms : List (Linked g.row.M.Denot)) → AllServe g.M.Machine.in_lanes g.M.Machine.out_lanes g.M.Machine.source_of g.M.Machine.device_of g.M.Machine.failures g.M.Machine.fault_of g.M.Machine.stands ms l.initial.workers → AllServe g.M.Machine.in_lanes g.M.Machine.out_lanes g.M.Machine.source_of g.M.Machine.device_of g.M.Machine.failures g.M.Machine.fault_of g.M.Machine.stands ms l.workers
+invariant-loop g l = (ms : List (Linked g.row.M.Denot)) → AllServe g.M.Machine.view ms l.initial.workers → AllServe g.M.Machine.view ms l.workers

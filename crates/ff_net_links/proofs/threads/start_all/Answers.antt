@@ -10,18 +10,18 @@ use Rattle.ff_net_links.proofs.threads.start_all.Goals as goal
 
 pub start-requires-after_bounds : goal.start-requires-after_bounds
 start-requires-after_bounds g c = λ κs b.
-    let m = g.M.Machine in
+    let view = g.M.Machine.view in
     let was = c.loop-node.invariant in
     let step = c.in-Some.ensures.steps in
     let n = c.loop-node.next in
     let some : 0 < into_iter_len c.loop-node.node-iterator = let one = step.1 in omega arith in
     let next : c.in-Some.node ≡ get_or (vec_items c.args.nodes) n c.in-Some.node = first_next _ _ (vec_items c.args.nodes) c.in-Some.node c.in-Some.node n step.0 (was.rest 0 c.in-Some.node some) in
     let there : n < length (vec_items c.args.nodes) = let left = was.left in let one = step.1 in let ok = c.args.nodes.ok.0 in omega arith in
-    subst (λ (x : Linked g.row.M.Denot). IsLawful m.in_lanes m.out_lanes m.source_of m.fault_of m.stands x) (sym next) (c.requires.lawful.each n c.in-Some.node there)
+    subst (λ (x : Linked g.row.M.Denot). IsLawful view x) (sym next) (c.requires.lawful.each n c.in-Some.node there)
 
 pub loop-node-preserved : goal.loop-node-preserved
 loop-node-preserved g c =
-    let m = g.M.Machine in
+    let view = g.M.Machine.view in
     let was = c.loop-node.invariant in let step = c.in-Some.ensures.steps in let n = c.loop-node.next in
     let some : 0 < into_iter_len c.loop-node.node-iterator = let one = step.1 in omega arith in
     record {
@@ -32,10 +32,10 @@ loop-node-preserved g c =
           let more : suc k < into_iter_len c.loop-node.node-iterator = let one = step.1 in omega arith in
           rest_next _ _ (vec_items c.args.nodes) c.in-Some.node d n k step.0 (was.rest (suc k) d more);
       started = λ k d e below.
-          let P : ℕ → Worker g.row.M.Denot → Type 0 = λ i w. Serves m.in_lanes m.out_lanes m.source_of m.device_of m.failures m.fault_of m.stands (get_or (vec_items c.args.nodes) i d) w in
+          let P : ℕ → Worker g.row.M.Denot → Type 0 = λ i w. Serves view (get_or (vec_items c.args.nodes) i d) w in
           let long : length c.loop-node.workers.items ≡ n = sym c.loop-node.workers.ok.0 ∙ sym was.counted in
           let next : c.in-Some.node ≡ get_or (vec_items c.args.nodes) n d = first_next _ _ (vec_items c.args.nodes) c.in-Some.node d n step.0 (was.rest 0 d some) in
-          let here : P n c.start.result = subst (λ (x : Linked g.row.M.Denot). Serves m.in_lanes m.out_lanes m.source_of m.device_of m.failures m.fault_of m.stands x c.start.result) next c.start.ensures in
+          let here : P n c.start.result = subst (λ (x : Linked g.row.M.Denot). Serves view x c.start.result) next c.start.ensures in
           subst (P k) (ap (λ xs. get_or xs k e) (sym c.push_reserved.ensures.items)) (each_snoc P c.loop-node.workers.items c.start.result e (λ i lt. was.started i d e (omega arith)) (subst (λ (i : ℕ). P i c.start.result) (sym long) here) k (omega arith));
     }
 

@@ -9,5 +9,5 @@ invariant-loop-node g l = let rest = l.node-iterator in record {
   left : l.next + into_iter_len rest ≡ vec_len l.fn.nodes;
   room : vec_capacity l.initial.workers ≤ vec_capacity l.workers;
   rest : (k : ℕ) (d : _) → k < into_iter_len rest → get_or (into_iter_items rest) k d ≡ get_or (vec_items l.fn.nodes) (l.next + k) d;
-  started : (k : ℕ) (d e : _) → k < l.next → Serves g.M.Machine.in_lanes g.M.Machine.out_lanes g.M.Machine.source_of g.M.Machine.device_of g.M.Machine.failures g.M.Machine.fault_of g.M.Machine.stands (get_or (vec_items l.fn.nodes) k d) (get_or (vec_items l.workers) k e);
+  started : (k : ℕ) (d e : _) → k < l.next → Serves g.M.Machine.view (get_or (vec_items l.fn.nodes) k d) (get_or (vec_items l.workers) k e);
 }

@@ -7,11 +7,11 @@ use Rattle.ff_net_links.proofs.worker.finish.Goals as goal
 
 pub returns-in-Runs : goal.returns-in-Runs
 returns-in-Runs g c n s =
-    let m = g.M.Machine in
-    let same : c.in-Runs.handle.promise.0.value ≡ n = subst (λ (w : Worker g.row.M.Denot). Serves m.in_lanes m.out_lanes m.source_of m.device_of m.failures m.fault_of m.stands n w) c.in-Runs.is s in
-    c.finish_back.ensures n (subst (λ (x : Linked g.row.M.Denot). Came m.in_lanes m.out_lanes m.source_of m.device_of m.failures m.fault_of m.stands x c.join.result) same c.join.ensures)
+    let view = g.M.Machine.view in
+    let same : c.in-Runs.handle.promise.0.value ≡ n = subst (λ (w : Worker g.row.M.Denot). Serves view n w) c.in-Runs.is s in
+    c.finish_back.ensures n (subst (λ (x : Linked g.row.M.Denot). Came view x c.join.result) same c.join.ensures)
 
 pub returns-in-Here : goal.returns-in-Here
 returns-in-Here g c n s =
-    let m = g.M.Machine in
-    c.finish_back-in-Here.ensures n (subst (λ (w : Worker g.row.M.Denot). Serves m.in_lanes m.out_lanes m.source_of m.device_of m.failures m.fault_of m.stands n w) c.in-Here.is s)
+    let view = g.M.Machine.view in
+    c.finish_back-in-Here.ensures n (subst (λ (w : Worker g.row.M.Denot). Serves view n w) c.in-Here.is s)

@@ -2,16 +2,16 @@ use Rattle.ff_net_links.proofs.Linking.{follows_self, follows_then, lawful_after
 use Rattle.ff_net_links.proofs.worker.run.Goals as goal
 
 pub loop-init : goal.loop-init
-loop-init g c = let m = g.M.Machine in follows_self m.in_lanes m.out_lanes m.source_of m.device_of m.failures m.fault_of m.stands c.args.node.now
+loop-init g c = let view = g.M.Machine.view in follows_self view c.args.node.now
 
 pub turn-requires : goal.turn-requires
-turn-requires g c = let m = g.M.Machine in record { lawful = lawful_after m.in_lanes m.out_lanes m.source_of m.device_of m.failures m.fault_of m.stands c.args.node.now c.loop.node c.loop.invariant c.requires }
+turn-requires g c = let view = g.M.Machine.view in record { lawful = lawful_after view c.args.node.now c.loop.node c.loop.invariant c.requires }
 
 pub returns-in-Done : goal.returns-in-Done
-returns-in-Done g c = let m = g.M.Machine in (follows_then m.in_lanes m.out_lanes m.source_of m.device_of m.failures m.fault_of m.stands c.args.node.now c.loop.node c.turn.new.self c.loop.invariant c.turn.ensures.follows, c.turn.ensures.done c.in-Done.is)
+returns-in-Done g c = let view = g.M.Machine.view in (follows_then view c.args.node.now c.loop.node c.turn.new.self c.loop.invariant c.turn.ensures.follows, c.turn.ensures.done c.in-Done.is)
 
 pub loop-preserved-in-Moved : goal.loop-preserved-in-Moved
-loop-preserved-in-Moved g c = let m = g.M.Machine in follows_then m.in_lanes m.out_lanes m.source_of m.device_of m.failures m.fault_of m.stands c.args.node.now c.loop.node c.turn.new.self c.loop.invariant c.turn.ensures.follows
+loop-preserved-in-Moved g c = let view = g.M.Machine.view in follows_then view c.args.node.now c.loop.node c.turn.new.self c.loop.invariant c.turn.ensures.follows
 
 pub loop-preserved : goal.loop-preserved
-loop-preserved g c = let m = g.M.Machine in follows_then m.in_lanes m.out_lanes m.source_of m.device_of m.failures m.fault_of m.stands c.args.node.now c.loop.node c.turn.new.self c.loop.invariant c.turn.ensures.follows
+loop-preserved g c = let view = g.M.Machine.view in follows_then view c.args.node.now c.loop.node c.turn.new.self c.loop.invariant c.turn.ensures.follows

@@ -4,8 +4,8 @@ use Rattle.ff_net_links.proofs.worker.turn_back.Goals as goal
 
 pub returns : goal.returns
 returns g c n came =
-    let m = g.M.Machine in (
-      follows_then m.in_lanes m.out_lanes m.source_of m.device_of m.failures m.fault_of m.stands n c.args.back.now.node c.turn-turn.new.self came.0 c.turn-turn.ensures.follows,
-      lawful_after m.in_lanes m.out_lanes m.source_of m.device_of m.failures m.fault_of m.stands c.args.back.now.node c.turn-turn.new.self c.turn-turn.ensures.follows c.requires,
+    let view = g.M.Machine.view in (
+      follows_then view n c.args.back.now.node c.turn-turn.new.self came.0 c.turn-turn.ensures.follows,
+      lawful_after view c.args.back.now.node c.turn-turn.new.self c.turn-turn.ensures.follows c.requires,
       λ done. c.turn-turn.ensures.done (search rules),
     )

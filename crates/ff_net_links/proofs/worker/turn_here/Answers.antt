@@ -5,6 +5,6 @@ use Rattle.ff_net_links.proofs.worker.turn_here.Goals as goal
 
 pub returns-in-Here : goal.returns-in-Here
 returns-in-Here g c =
-    let m = g.M.Machine in record {
-      keeps = λ n s. c.turn_back.ensures n (subst (λ (w : Worker g.row.M.Denot). Serves m.in_lanes m.out_lanes m.source_of m.device_of m.failures m.fault_of m.stands n w) c.in-Here.is s);
+    let view = g.M.Machine.view in record {
+      keeps = λ n s. c.turn_back.ensures n (subst (λ (w : Worker g.row.M.Denot). Serves view n w) c.in-Here.is s);
     }

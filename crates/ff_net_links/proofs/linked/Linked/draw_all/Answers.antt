@@ -11,16 +11,16 @@ use Rattle.ff_net_links.proofs.linked.Linked.draw_all.Goals as goal
 
 pub draw_at-drew-requires-clause-wire : goal.draw_at-drew-requires-clause-wire
 draw_at-drew-requires-clause-wire g c =
-    let m = g.M.Machine in
+    let view = g.M.Machine.view in
     let i = c.loop-p.invariant in
-    let w = wired_after m.in_lanes m.out_lanes m.source_of m.device_of m.failures m.fault_of m.stands c.args.self.now c.loop-p.self i.follows c.requires.wired in
-    in_end_there m.in_lanes m.out_lanes m.source_of m.device_of m.failures m.fault_of m.stands c.loop-p.self w c.loop-p.p (subst (λ (n : ℕ). c.loop-p.p < n) i.count c.loop-p-test.true)
+    let w = wired_after view c.args.self.now c.loop-p.self i.follows c.requires.wired in
+    in_end_there view c.loop-p.self w c.loop-p.p (subst (λ (n : ℕ). c.loop-p.p < n) i.count c.loop-p-test.true)
 
 pub loop-p-init : goal.loop-p-init
 loop-p-init g c =
-    let m = g.M.Machine in
+    let view = g.M.Machine.view in
     let ends = c.args.self.now.ins.items in record {
-      follows = follows_self m.in_lanes m.out_lanes m.source_of m.device_of m.failures m.fault_of m.stands c.args.self.now;
+      follows = follows_self view c.args.self.now;
       count = search rules;
       node = refl;
       outs = refl;
@@ -32,7 +32,7 @@ loop-p-init g c =
 
 pub loop-p-preserved : goal.loop-p-preserved
 loop-p-preserved g c =
-    let m = g.M.Machine in
+    let view = g.M.Machine.view in
     let i = c.loop-p.invariant in
     let before = c.loop-p.self in
     let p = c.loop-p.p in
@@ -42,7 +42,7 @@ loop-p-preserved g c =
     let draws = e.draws in
     let olds = c.args.self.now.ins.items in
     let same : in_end_at before.ins.items p ≡ in_end_at olds p = i.later p (omega arith) in record {
-      follows = follows_then m.in_lanes m.out_lanes m.source_of m.device_of m.failures m.fault_of m.stands c.args.self.now before after i.follows (drawn m.in_lanes m.out_lanes m.source_of m.device_of m.failures m.fault_of m.stands before after p there refl refl e.lanes draws);
+      follows = follows_then view c.args.self.now before after i.follows (drawn view before after p there refl refl e.lanes draws);
       count = i.count ∙ sym (ap length draws.set ∙ simp length-set);
       node = i.node;
       outs = i.outs;

@@ -1,4 +1,4 @@
-use Rattle.std.proofs.Common.{false, sym, ◌∙◌, ap, subst}
+use Rattle.std.proofs.Common.{sym, ◌∙◌, ap, subst}
 use Rattle.ff_net.specs.declared.node.Node.{Node}
 use Rattle.ff_net.specs.declared.wires.Wires.{Wires}
 use Rattle.ff_net.specs.Steps.{Stepped}
@@ -10,25 +10,25 @@ use Rattle.ff_net_links.proofs.Turns.{takes_self, in_rests_self}
 use Rattle.ff_net_links.proofs.linked.Linked.draw_if_free.Goals as goal
 
 pub draw_all-requires : goal.draw_all-requires
-draw_all-requires g c = let m = g.M.Machine in lawful_after m.in_lanes m.out_lanes m.source_of m.device_of m.failures m.fault_of m.stands c.args.self.now c.fill.new.self c.fill.ensures.follows c.requires
+draw_all-requires g c = lawful_after g.M.Machine.view c.args.self.now c.fill.new.self c.fill.ensures.follows c.requires
 
 pub returns-then-waits_for_room-clause-follows : goal.returns-then-waits_for_room-clause-follows
-returns-then-waits_for_room-clause-follows g c = let m = g.M.Machine in follows_self m.in_lanes m.out_lanes m.source_of m.device_of m.failures m.fault_of m.stands c.args.self.now
+returns-then-waits_for_room-clause-follows g c = let view = g.M.Machine.view in follows_self view c.args.self.now
 
 pub returns-then-waits_for_room-clause-takes : goal.returns-then-waits_for_room-clause-takes
 returns-then-waits_for_room-clause-takes g c p = takes_self (in_end_at c.args.self.now.ins.items p)
 
 pub returns-then-waits_for_room-clause-still : goal.returns-then-waits_for_room-clause-still
-returns-then-waits_for_room-clause-still g c n = let m = g.M.Machine in (λ p. in_rests_self (in_end_at c.args.self.now.ins.items p), stepped_self m.in_lanes m.out_lanes m.source_of m.device_of m.failures m.fault_of m.stands _ c.args.self.now.node c.args.self.now.wires (λ w p. tt))
+returns-then-waits_for_room-clause-still g c n = let view = g.M.Machine.view in (λ p. in_rests_self (in_end_at c.args.self.now.ins.items p), stepped_self view _ c.args.self.now.node c.args.self.now.wires (λ w p. tt))
 
 pub returns-then-fill-clause-takes : goal.returns-then-fill-clause-takes
 returns-then-fill-clause-takes g c p = subst (λ ends. TakesOneAtMost (in_end_at c.args.self.now.ins.items p) (in_end_at ends.items p)) (sym c.fill.ensures.ins) (takes_self (in_end_at c.args.self.now.ins.items p))
 
 pub returns-then-fill-clause-still : goal.returns-then-fill-clause-still
 returns-then-fill-clause-still g c n =
-    let m = g.M.Machine in (
+    let view = g.M.Machine.view in (
       λ p. subst (λ ends. InRests (in_end_at c.args.self.now.ins.items p) (in_end_at ends.items p)) (sym c.fill.ensures.ins) (in_rests_self (in_end_at c.args.self.now.ins.items p)),
-      stepped_as m.in_lanes m.out_lanes m.source_of m.device_of m.failures m.fault_of m.stands _ _ c.args.self.now.node c.args.self.now.wires c.fill.new.self.node c.fill.new.self.wires (λ a p b q x f. tt) c.fill.ensures.stepped,
+      stepped_as view _ _ c.args.self.now.node c.args.self.now.wires c.fill.new.self.node c.fill.new.self.wires (λ a p b q x f. tt) c.fill.ensures.stepped,
     )
 
 pub returns-then-fill-clause-waits : goal.returns-then-fill-clause-waits
@@ -38,7 +38,7 @@ pub returns-then-fill-clause-due : goal.returns-then-fill-clause-due
 returns-then-fill-clause-due g c world past q stand was d p = ap (λ ends. taken_of (in_end_at ends.items p)) c.fill.ensures.ins
 
 pub returns-clause-follows : goal.returns-clause-follows
-returns-clause-follows g c = let m = g.M.Machine in follows_then m.in_lanes m.out_lanes m.source_of m.device_of m.failures m.fault_of m.stands c.args.self.now c.fill.new.self c.draw_all.new.self c.fill.ensures.follows c.draw_all.ensures.follows
+returns-clause-follows g c = let view = g.M.Machine.view in follows_then view c.args.self.now c.fill.new.self c.draw_all.new.self c.fill.ensures.follows c.draw_all.ensures.follows
 
 pub returns-clause-outs : goal.returns-clause-outs
 returns-clause-outs g c = c.draw_all.ensures.outs ∙ c.fill.ensures.outs
@@ -53,15 +53,15 @@ returns-clause-moved g c t =
 
 pub returns-clause-still : goal.returns-clause-still
 returns-clause-still g c n =
-    let m = g.M.Machine in
+    let view = g.M.Machine.view in
     let h = c.draw_all.ensures.still n in
     let before = c.args.self.now in
     let filled = c.fill.new.self in
     let last = c.draw_all.new.self in (
       λ p. subst (λ ends. InRests (in_end_at ends.items p) (in_end_at last.ins.items p)) c.fill.ensures.ins (h.0 p),
-      subst (λ (w : Wires). Stepped m.in_lanes m.out_lanes m.source_of m.device_of m.failures m.fault_of m.stands (λ a p b q. Unit {0}) before.node before.wires last.node w) (sym h.1)
-          (subst (λ (k : Node _). Stepped m.in_lanes m.out_lanes m.source_of m.device_of m.failures m.fault_of m.stands (λ a p b q. Unit {0}) before.node before.wires k filled.wires) (sym c.draw_all.ensures.node)
-          (stepped_as m.in_lanes m.out_lanes m.source_of m.device_of m.failures m.fault_of m.stands _ (λ a p b q. Unit {0}) before.node before.wires filled.node filled.wires (λ a p b q x f. tt) c.fill.ensures.stepped)),
+      subst (λ (w : Wires). Stepped view (λ a p b q. Unit {0}) before.node before.wires last.node w) (sym h.1)
+          (subst (λ (k : Node _). Stepped view (λ a p b q. Unit {0}) before.node before.wires k filled.wires) (sym c.draw_all.ensures.node)
+          (stepped_as view _ (λ a p b q. Unit {0}) before.node before.wires filled.node filled.wires (λ a p b q x f. tt) c.fill.ensures.stepped)),
     )
 
 pub returns-clause-waits : goal.returns-clause-waits

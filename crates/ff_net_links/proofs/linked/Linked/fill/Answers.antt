@@ -6,4 +6,4 @@ pub is_due-requires : goal.is_due-requires
 is_due-requires g c = record { shaped = (c.args.self.now.wires, c.requires.wired.shaped) }
 
 pub returns-clause-follows : goal.returns-clause-follows
-returns-clause-follows g c = let m = g.M.Machine in turned m.in_lanes m.out_lanes m.source_of m.device_of m.failures m.fault_of m.stands _ c.args.self.now _ refl refl (c.is_due.ensures.stepped c.args.self.now.wires)
+returns-clause-follows g c = let view = g.M.Machine.view in turned view _ c.args.self.now _ refl refl (c.is_due.ensures.stepped c.args.self.now.wires)

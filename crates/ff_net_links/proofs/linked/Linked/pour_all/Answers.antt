@@ -10,23 +10,23 @@ use Rattle.ff_net_links.proofs.linked.Linked.pour_all.Goals as goal
 
 pub pour_at-poured-requires-clause-wire : goal.pour_at-poured-requires-clause-wire
 pour_at-poured-requires-clause-wire g c d =
-    let m = g.M.Machine in
+    let view = g.M.Machine.view in
     let i = c.loop-q.invariant in
-    let w = wired_after m.in_lanes m.out_lanes m.source_of m.device_of m.failures m.fault_of m.stands c.args.self.now c.loop-q.self i.follows c.requires.wired in
-    out_end_there m.in_lanes m.out_lanes m.source_of m.device_of m.failures m.fault_of m.stands c.loop-q.self w c.loop-q.q d (subst (λ (n : ℕ). c.loop-q.q < n) i.count c.loop-q-test.true)
+    let w = wired_after view c.args.self.now c.loop-q.self i.follows c.requires.wired in
+    out_end_there view c.loop-q.self w c.loop-q.q d (subst (λ (n : ℕ). c.loop-q.q < n) i.count c.loop-q-test.true)
 
 pub pour_at-poured-requires-clause-stands : goal.pour_at-poured-requires-clause-stands
 pour_at-poured-requires-clause-stands g c d =
-    let m = g.M.Machine in
+    let view = g.M.Machine.view in
     let i = c.loop-q.invariant in
-    let h = lawful_after m.in_lanes m.out_lanes m.source_of m.device_of m.failures m.fault_of m.stands c.args.self.now c.loop-q.self i.follows c.requires in
-    can_pour m.in_lanes m.out_lanes m.source_of m.device_of m.failures m.fault_of m.stands c.loop-q.self h c.loop-q.q d (subst (λ (n : ℕ). c.loop-q.q < n) i.count c.loop-q-test.true)
+    let h = lawful_after view c.args.self.now c.loop-q.self i.follows c.requires in
+    can_pour view c.loop-q.self h c.loop-q.q d (subst (λ (n : ℕ). c.loop-q.q < n) i.count c.loop-q-test.true)
 
 pub loop-q-init : goal.loop-q-init
 loop-q-init g c =
-    let m = g.M.Machine in
+    let view = g.M.Machine.view in
     let ends = c.args.self.now.outs.items in record {
-      follows = follows_self m.in_lanes m.out_lanes m.source_of m.device_of m.failures m.fault_of m.stands c.args.self.now;
+      follows = follows_self view c.args.self.now;
       count = search rules;
       node = refl;
       ins = refl;
@@ -38,7 +38,7 @@ loop-q-init g c =
 
 pub loop-q-preserved : goal.loop-q-preserved
 loop-q-preserved g c =
-    let m = g.M.Machine in
+    let view = g.M.Machine.view in
     let i = c.loop-q.invariant in
     let before = c.loop-q.self in
     let q = c.loop-q.q in
@@ -48,7 +48,7 @@ loop-q-preserved g c =
     let pours = e.pours in
     let olds = c.args.self.now.outs.items in
     let same : (d : OutEnd) → slice_index_or before.outs.items q d ≡ slice_index_or olds q d = λ d. i.later q d (omega arith) in record {
-      follows = follows_then m.in_lanes m.out_lanes m.source_of m.device_of m.failures m.fault_of m.stands c.args.self.now before after i.follows (poured m.in_lanes m.out_lanes m.source_of m.device_of m.failures m.fault_of m.stands before after q there refl refl e.lanes pours);
+      follows = follows_then view c.args.self.now before after i.follows (poured view before after q there refl refl e.lanes pours);
       count = i.count ∙ sym (ap length pours.set ∙ simp length-set);
       node = i.node;
       ins = i.ins;

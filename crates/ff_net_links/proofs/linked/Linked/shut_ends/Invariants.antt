@@ -7,8 +7,8 @@ use Rattle.ff_net_links.proofs.linked.Linked.shut_ends.Given as goal
 
 abbrev pub invariant-loop-p : goal.invariant-loop-p
 invariant-loop-p g l =
-    let m = g.M.Machine in record {
-      follows : Follows m.in_lanes m.out_lanes m.source_of m.device_of m.failures m.fault_of m.stands l.fn.self l.self;
+    let view = g.M.Machine.view in record {
+      follows : Follows view l.fn.self l.self;
       count : l.count ≡ length l.self.ins.items;
       counts : l.count ≡ length l.fn.self.ins.items;
       node : l.self.node ≡ l.fn.self.node;

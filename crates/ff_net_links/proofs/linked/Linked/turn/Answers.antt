@@ -13,27 +13,27 @@ use Rattle.ff_net_links.proofs.Turns.{takes_then, rests_then, shut_port, node_id
 use Rattle.ff_net_links.proofs.linked.Linked.turn.Goals as goal
 
 pub turn_node-turned-requires : goal.turn_node-turned-requires
-turn_node-turned-requires g c = let m = g.M.Machine in lawful_after m.in_lanes m.out_lanes m.source_of m.device_of m.failures m.fault_of m.stands c.args.self.now c.draw_if_free-drawn.new.self c.draw_if_free-drawn.ensures.follows c.requires.lawful
+turn_node-turned-requires g c = lawful_after g.M.Machine.view c.args.self.now c.draw_if_free-drawn.new.self c.draw_if_free-drawn.ensures.follows c.requires.lawful
 
 pub pour_all-poured-requires : goal.pour_all-poured-requires
 pour_all-poured-requires g c =
-    let m = g.M.Machine in
-    lawful_after m.in_lanes m.out_lanes m.source_of m.device_of m.failures m.fault_of m.stands c.draw_if_free-drawn.new.self c.turn_node-turned.new.self c.turn_node-turned.ensures.follows
-    (lawful_after m.in_lanes m.out_lanes m.source_of m.device_of m.failures m.fault_of m.stands c.args.self.now c.draw_if_free-drawn.new.self c.draw_if_free-drawn.ensures.follows c.requires.lawful)
+    let view = g.M.Machine.view in
+    lawful_after view c.draw_if_free-drawn.new.self c.turn_node-turned.new.self c.turn_node-turned.ensures.follows
+    (lawful_after view c.args.self.now c.draw_if_free-drawn.new.self c.draw_if_free-drawn.ensures.follows c.requires.lawful)
 
 pub shut_ends-shut-requires : goal.shut_ends-shut-requires
 shut_ends-shut-requires g c =
-    let m = g.M.Machine in
-    lawful_after m.in_lanes m.out_lanes m.source_of m.device_of m.failures m.fault_of m.stands c.turn_node-turned.new.self c.pour_all-poured.new.self c.pour_all-poured.ensures.follows
-    (lawful_after m.in_lanes m.out_lanes m.source_of m.device_of m.failures m.fault_of m.stands c.draw_if_free-drawn.new.self c.turn_node-turned.new.self c.turn_node-turned.ensures.follows
-    (lawful_after m.in_lanes m.out_lanes m.source_of m.device_of m.failures m.fault_of m.stands c.args.self.now c.draw_if_free-drawn.new.self c.draw_if_free-drawn.ensures.follows c.requires.lawful))
+    let view = g.M.Machine.view in
+    lawful_after view c.turn_node-turned.new.self c.pour_all-poured.new.self c.pour_all-poured.ensures.follows
+    (lawful_after view c.draw_if_free-drawn.new.self c.turn_node-turned.new.self c.turn_node-turned.ensures.follows
+    (lawful_after view c.args.self.now c.draw_if_free-drawn.new.self c.draw_if_free-drawn.ensures.follows c.requires.lawful))
 
 pub returns-clause-follows : goal.returns-clause-follows
 returns-clause-follows g c =
-    let m = g.M.Machine in
-    follows_then m.in_lanes m.out_lanes m.source_of m.device_of m.failures m.fault_of m.stands c.args.self.now c.pour_all-poured.new.self c.shut_ends-shut.new.self
-    (follows_then m.in_lanes m.out_lanes m.source_of m.device_of m.failures m.fault_of m.stands c.args.self.now c.turn_node-turned.new.self c.pour_all-poured.new.self
-    (follows_then m.in_lanes m.out_lanes m.source_of m.device_of m.failures m.fault_of m.stands c.args.self.now c.draw_if_free-drawn.new.self c.turn_node-turned.new.self c.draw_if_free-drawn.ensures.follows c.turn_node-turned.ensures.follows) c.pour_all-poured.ensures.follows)
+    let view = g.M.Machine.view in
+    follows_then view c.args.self.now c.pour_all-poured.new.self c.shut_ends-shut.new.self
+    (follows_then view c.args.self.now c.turn_node-turned.new.self c.pour_all-poured.new.self
+    (follows_then view c.args.self.now c.draw_if_free-drawn.new.self c.turn_node-turned.new.self c.draw_if_free-drawn.ensures.follows c.turn_node-turned.ensures.follows) c.pour_all-poured.ensures.follows)
     c.shut_ends-shut.ensures.follows
 
 pub returns-clause-takes : goal.returns-clause-takes
@@ -62,7 +62,7 @@ returns-clause-due g c world past q stand was d p =
 
 pub returns-clause-moved : goal.returns-clause-moved
 returns-clause-moved g c says =
-    let m = g.M.Machine in
+    let view = g.M.Machine.view in
     let old = c.args.self.now in
     let drawn = c.draw_if_free-drawn.new.self in
     let turned = c.turn_node-turned.new.self in
@@ -71,7 +71,7 @@ returns-clause-moved g c says =
     let node : last.node ≡ turned.node = c.shut_ends-shut.ensures.node ∙ c.pour_all-poured.ensures.node in
     let same = c.pour_all-poured.ensures.ins ∙ c.turn_node-turned.ensures.ins in
     let shuts : (p : ℕ) → Shuts (in_end_at drawn.ins.items p) (in_end_at last.ins.items p) = λ p. subst (λ ends. Shuts (in_end_at ends.items p) (in_end_at last.ins.items p)) same (c.shut_ends-shut.ensures.shuts p) in
-    moved_of m.in_lanes m.out_lanes m.source_of m.device_of m.failures m.fault_of m.stands old drawn turned last c.draw_if_free-drawn.result c.turn_node-turned.result c.pour_all-poured.result c.shut_ends-shut.result node shuts c.draw_if_free-drawn.ensures.takes c.draw_if_free-drawn.ensures.moved c.draw_if_free-drawn.ensures.still
+    moved_of view old drawn turned last c.draw_if_free-drawn.result c.turn_node-turned.result c.pour_all-poured.result c.shut_ends-shut.result node shuts c.draw_if_free-drawn.ensures.takes c.draw_if_free-drawn.ensures.moved c.draw_if_free-drawn.ensures.still
     (λ t. elim (c.turn_node-turned.ensures.moved t) [ inl s ↦ inl s | inr d ↦ inr (λ was. true_not_false (sym (c.is_done-was_done.ensures.exact was) ∙ d.0), d.1) ])
     (λ t. let h = c.pour_all-poured.ensures.moved t in (
       h.0,
@@ -83,7 +83,7 @@ returns-clause-moved g c says =
 
 pub returns-clause-not_yet : goal.returns-clause-not_yet
 returns-clause-not_yet g c says =
-    let m = g.M.Machine in
+    let view = g.M.Machine.view in
     let old = c.args.self.now in
     let drawn = c.draw_if_free-drawn.new.self in
     let turned = c.turn_node-turned.new.self in
@@ -103,30 +103,30 @@ returns-clause-not_yet g c says =
       outs = λ q x. subst (λ ends. OutRests (slice_index_or ends.items q x) (slice_index_or last.outs.items q x)) (c.turn_node-turned.ensures.outs ∙ c.draw_if_free-drawn.ensures.outs)
           (subst (λ ends. OutRests (slice_index_or turned.outs.items q x) (slice_index_or ends.items q x)) (sym c.shut_ends-shut.ensures.outs) (pours.0 q x));
       node = elim (c.turn_node-turned.ensures.still e.1) [
-        | inl s ↦ inl (node_idle m.in_lanes m.out_lanes m.source_of m.device_of m.failures m.fault_of m.stands old drawn turned last draws.1 node (c.shut_ends-shut.ensures.wires ∙ pours.1) s)
+        | inl s ↦ inl (node_idle view old drawn turned last draws.1 node (c.shut_ends-shut.ensures.wires ∙ pours.1) s)
         | inr was ↦ inr (c.is_done-was_done.ensures.done was)
       ];
     }
 
 pub returns-clause-closed : goal.returns-clause-closed
 returns-clause-closed g c =
-    let m = g.M.Machine in
-    subst (λ (n : Node _). (world : ℕ → Wire) (past : Past) → NodeStands m.in_lanes m.source_of m.fault_of m.stands n world past → (p : ℕ) → p < inputs_of n → IsClosed (world (in_wire_of n p)).taken → HasFinished n p) (sym (c.shut_ends-shut.ensures.node ∙ c.pour_all-poured.ensures.node)) c.turn_node-turned.ensures.closed
+    let view = g.M.Machine.view in
+    subst (λ (n : Node _). (world : ℕ → Wire) (past : Past) → NodeStands view n world past → (p : ℕ) → p < inputs_of n → IsClosed (world (in_wire_of n p)).taken → HasFinished n p) (sym (c.shut_ends-shut.ensures.node ∙ c.pour_all-poured.ensures.node)) c.turn_node-turned.ensures.closed
 
 pub returns-clause-spent : goal.returns-clause-spent
 returns-clause-spent g c =
-    let m = g.M.Machine in
-    subst (λ (n : Node _). (p : ℕ) → p < inputs_of n → m.is_spent (machine_of n) p → HasFinished n p) (sym (c.shut_ends-shut.ensures.node ∙ c.pour_all-poured.ensures.node)) c.turn_node-turned.ensures.spent
+    let view = g.M.Machine.view in
+    subst (λ (n : Node _). (p : ℕ) → p < inputs_of n → (view (machine_of n)).spent p → HasFinished n p) (sym (c.shut_ends-shut.ensures.node ∙ c.pour_all-poured.ensures.node)) c.turn_node-turned.ensures.spent
 
 pub returns-clause-faulty : goal.returns-clause-faulty
 returns-clause-faulty g c =
-    let m = g.M.Machine in
-    subst (λ (n : Node _). (IsSound m.fault_of n → ⊥) → (p : ℕ) → p < inputs_of n → HasFinished n p) (sym (c.shut_ends-shut.ensures.node ∙ c.pour_all-poured.ensures.node)) c.turn_node-turned.ensures.faulty
+    let view = g.M.Machine.view in
+    subst (λ (n : Node _). (IsSound view n → ⊥) → (p : ℕ) → p < inputs_of n → HasFinished n p) (sym (c.shut_ends-shut.ensures.node ∙ c.pour_all-poured.ensures.node)) c.turn_node-turned.ensures.faulty
 
 pub returns-clause-shut : goal.returns-clause-shut
 returns-clause-shut g c task b p lt done =
-    let m = g.M.Machine in
+    let view = g.M.Machine.view in
     let poured = c.pour_all-poured.new.self in
     let there = c.pour_all-poured.ensures.follows.goes task (c.turn_node-turned.ensures.follows.goes task (c.draw_if_free-drawn.ensures.follows.goes task b)) in
     let node = c.shut_ends-shut.ensures.node in
-    shut_port m.in_lanes m.out_lanes m.source_of m.device_of m.failures m.fault_of m.stands poured task there c.shut_ends-shut.new.self.ins.items c.shut_ends-shut.ensures.shut p (subst (λ (n : Node _). p < inputs_of n) node lt) (subst (λ (n : Node _). HasFinished n p) node done)
+    shut_port view poured task there c.shut_ends-shut.new.self.ins.items c.shut_ends-shut.ensures.shut p (subst (λ (n : Node _). p < inputs_of n) node lt) (subst (λ (n : Node _). HasFinished n p) node done)

@@ -4,16 +4,16 @@ use Rattle.ff_net_links.proofs.Linking.{turned}
 use Rattle.ff_net_links.proofs.linked.Linked.turn_node.Goals as goal
 
 pub returns-in-Moved-clause-follows : goal.returns-in-Moved-clause-follows
-returns-in-Moved-clause-follows g c = let m = g.M.Machine in turned m.in_lanes m.out_lanes m.source_of m.device_of m.failures m.fault_of m.stands _ c.args.self.now _ refl refl c.turn.ensures.stepped
+returns-in-Moved-clause-follows g c = let view = g.M.Machine.view in turned view _ c.args.self.now _ refl refl c.turn.ensures.stepped
 
 pub returns-in-NotYet-clause-follows : goal.returns-in-NotYet-clause-follows
-returns-in-NotYet-clause-follows g c = let m = g.M.Machine in turned m.in_lanes m.out_lanes m.source_of m.device_of m.failures m.fault_of m.stands _ c.args.self.now _ refl refl c.turn.ensures.stepped
+returns-in-NotYet-clause-follows g c = let view = g.M.Machine.view in turned view _ c.args.self.now _ refl refl c.turn.ensures.stepped
 
 pub returns-in-Done-clause-follows : goal.returns-in-Done-clause-follows
-returns-in-Done-clause-follows g c = let m = g.M.Machine in turned m.in_lanes m.out_lanes m.source_of m.device_of m.failures m.fault_of m.stands _ c.args.self.now _ refl refl c.turn.ensures.stepped
+returns-in-Done-clause-follows g c = let view = g.M.Machine.view in turned view _ c.args.self.now _ refl refl c.turn.ensures.stepped
 
 pub returns-in-Moved-clause-moved : goal.returns-in-Moved-clause-moved
-returns-in-Moved-clause-moved g c t = let m = g.M.Machine in inl (stepped_as m.in_lanes m.out_lanes m.source_of m.device_of m.failures m.fault_of m.stands _ _ c.args.self.now.node c.args.self.now.wires c.turn.new.self c.turn.new.wires (λ a p b q x s. s.moved c.in-Moved.is) c.turn.ensures.stepped)
+returns-in-Moved-clause-moved g c t = let view = g.M.Machine.view in inl (stepped_as view _ _ c.args.self.now.node c.args.self.now.wires c.turn.new.self c.turn.new.wires (λ a p b q x s. s.moved c.in-Moved.is) c.turn.ensures.stepped)
 
 pub returns-in-NotYet-clause-still : goal.returns-in-NotYet-clause-still
-returns-in-NotYet-clause-still g c n = let m = g.M.Machine in inl (stepped_as m.in_lanes m.out_lanes m.source_of m.device_of m.failures m.fault_of m.stands _ _ c.args.self.now.node c.args.self.now.wires c.turn.new.self c.turn.new.wires (λ a p b q x s. s.not_yet c.in-NotYet.is) c.turn.ensures.stepped)
+returns-in-NotYet-clause-still g c n = let view = g.M.Machine.view in inl (stepped_as view _ _ c.args.self.now.node c.args.self.now.wires c.turn.new.self c.turn.new.wires (λ a p b q x s. s.not_yet c.in-NotYet.is) c.turn.ensures.stepped)
