@@ -10,7 +10,7 @@ use Rattle.ff_frame.specs.declared.item.Item.TheVariants.{Packet, End, Broken}
 use Rattle.ff_frame.specs.declared.item.Lane.TheVariants.{Packets}
 use Rattle.ff_values.specs.declared.event.Ticket.{Ticket}
 use Rattle.ff_values.specs.declared.packet.Pkt.{Pkt}
-use Rattle.ff_frame.specs.Stream.{Mark, still_open, whole, broken, LiesBelow}
+use Rattle.ff_frame.specs.Stream.{Mark, still_open, broken, LiesBelow}
 use Rattle.ff_frame.specs.Items.{with_item}
 use Rattle.ff_frame.specs.Ports.{stream_at}
 use Rattle.ff_frame.specs.Within.{before_pass}

@@ -1,5 +1,5 @@
 -- Packets in shape are valid for their lane, up to the limits.
-use Rattle.std.specs.Prelude.{◌≡◌, ℕ, ◌+◌, ◌||◌, Bool, true, false, cond, List, [], ◌∷◌, refl}
+use Rattle.std.specs.Prelude.{ℕ, ◌+◌, ◌||◌, Bool, true, false, cond, List, [], ◌∷◌, refl}
 use Rattle.std.proofs.Common.{ap}
 use mathlib.Core.List.{IsPrefix}
 use Rattle.ff_cut.specs.Cutters.{Cutter}

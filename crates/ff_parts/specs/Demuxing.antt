@@ -4,7 +4,6 @@ use Rattle.ff_frame.specs.declared.item.Item.{Item}
 use Rattle.ff_frame.specs.declared.item.Item.TheVariants.{Audio, Video, Packet, Trailer, End, Broken}
 use Rattle.ff_frame.specs.declared.item.Lane.{Lane}
 use Rattle.ff_frame.specs.declared.item.Lane.TheVariants.{Packets}
-use Rattle.ff_values.specs.declared.packet.Pkt.{Pkt}
 use Rattle.ff_frame.specs.Stream.{Mark, whole, broken}
 use Rattle.ff_frame.specs.Within.{some_pass, within, passes_limits}
 use Rattle.ff_cut.specs.Cutters.{Cutter}

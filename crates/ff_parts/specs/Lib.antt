@@ -9,6 +9,7 @@ pub mod Demuxing
 pub mod EncodeLaws
 pub mod Encoding
 pub mod Heads
+pub mod Kinds
 pub mod MapLaws
 pub mod Maps
 pub mod MuxLaws

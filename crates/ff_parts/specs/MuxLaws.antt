@@ -1,5 +1,5 @@
 -- The laws of the part that writes framehash text.
-use Rattle.std.specs.Prelude.{◌≡◌, ◌≢◌, ℕ, zero, suc, ◌<◌, ◌⊎◌, false, List, [], Option, Some, None, refl}
+use Rattle.std.specs.Prelude.{◌≡◌, ◌≢◌, ℕ, zero, suc, ◌<◌, false, List, [], Option, Some, None, refl}
 use Rattle.std.proofs.Common.{sym, subst, ap, inl, ◌∙◌, arith}
 use Rattle.ff_frame.specs.Stream.{still_open, whole}
 use Rattle.ff_frame.specs.Order.{below_self}

@@ -1,7 +1,7 @@
 -- The packets of a WAV are in shape for their lane.
-use Rattle.std.specs.Prelude.{◌≡◌, ℕ, zero, suc, ◌+◌, ◌-◌, ◌*◌, ◌<◌, ◌≤◌, min, List, [], ◌∷◌, take, drop, map, length, All, refl}
+use Rattle.std.specs.Prelude.{◌≡◌, ℕ, zero, suc, ◌+◌, ◌-◌, ◌*◌, ◌<◌, ◌≤◌, min, List, ◌∷◌, take, drop, map, length, All, refl}
 use Rattle.std.specs.List.{range_with_len}
-use Rattle.std.proofs.Common.{ap, arith}
+use Rattle.std.proofs.Common.{arith}
 use Rattle.std.proofs.lemmas.Int.{ints}
 use Rattle.std.proofs.lemmas.List.{length-take, length-drop}
 use Rattle.std.proofs.lemmas.List.Elements.{All-nil}
@@ -17,8 +17,7 @@ use Rattle.ff_frame.specs.declared.item.Lane.TheVariants.{Packets}
 use Rattle.ff_values.specs.PcmLaws.{packet_pcm}
 use Rattle.ff_values.specs.Codecs.{IsPcmCodec, sample_bytes}
 use Rattle.ff_frame.specs.Lanes.{IsItemFor, InOrder, Follows, AreInShape}
-use Rattle.ff_wav.specs.declared.head.WavHead.{WavHead}
-use Rattle.ff_wav.specs.Packets.{block_of, frames, packet_at, packet_count, packets_of, body, whole_len, IsHead, IsStream}
+use Rattle.ff_wav.specs.Packets.{block_of, frames, packet_at, packet_count, packets_of, body, whole_len, IsStream}
 use Rattle.ff_wav.specs.Cuts.{wav_cutter}
 use Rattle.ff_parts.specs.DemuxShapes.{IsShaped}
 

@@ -92,29 +92,9 @@ fn decode(alloc: Global, head: &StreamHead, item: Item) -> Result<Item, Refused>
 }
 
 impl Machine for Dec {
-    ghost use Rattle.ff_net.specs.Silence.{silent_front};
-    ghost use Rattle.std.specs.Prelude.{None};
-    ghost use Rattle.ff_frame.specs.declared.item.Lane.TheVariants.{Frames, Packets};
-    ghost use Rattle.ff_parts.specs.MapLaws.{map_no_fault, maps_valid, maps_keeps, maps_monotone, maps_cause_stays, maps_calm, maps_given, maps_unbroken, maps_spent_only, maps_closed_spent, maps_done_spent, maps_settles};
-    ghost use Rattle.ff_parts.specs.Coders.{dec_in_lanes, dec_out_lanes, dec_spent, dec_stands};
+    ghost use Rattle.ff_parts.specs.Kinds.{dec_view, dec_laws};
 
-    ghost in_lanes = { dec_in_lanes };
-
-    ghost out_lanes = { dec_out_lanes };
-
-    ghost source_of = { λ m. None };
-
-    ghost fault_of = { λ m. None };
-
-    ghost failures = { λ m. 0 };
-
-    ghost device_of = { λ m. None };
-
-    ghost holds = { λ m. ⊥ };
-
-    ghost is_spent = { dec_spent };
-
-    ghost stands = { dec_stands };
+    ghost view = { dec_view };
 
     fn inputs(&self) -> usize {
         1
@@ -169,33 +149,5 @@ impl Machine for Dec {
         None
     }
 
-    ghost is_source = { λ m past s. s.plain };
-
-    ghost valid = { λ m past s. maps_valid (Packets m.head) (Frames m.head) (decoded_item m.head) m.ready past s };
-
-    ghost keeps = { λ m past s. maps_keeps (Packets m.head) (Frames m.head) (decoded_item m.head) m.ready past s };
-
-    ghost monotone = { λ m past s. maps_monotone (Packets m.head) (Frames m.head) (decoded_item m.head) m.ready past s };
-
-    ghost cause_stays = { λ m past s. maps_cause_stays (Packets m.head) (Frames m.head) (decoded_item m.head) m.ready past s };
-
-    ghost calm = { λ m past s. maps_calm (Packets m.head) (Frames m.head) (decoded_item m.head) m.ready past s };
-
-    ghost given = { λ m past s. maps_given (Packets m.head) (Frames m.head) (decoded_item m.head) m.ready past s };
-
-    ghost unbroken = { λ m past s f u. maps_unbroken (Packets m.head) (Frames m.head) (decoded_item m.head) m.ready past s u };
-
-    ghost caused = { λ m past c s e i. absurd (map_no_fault c e) };
-
-    ghost spent_only = { λ m past p s h. maps_spent_only (Packets m.head) (Frames m.head) (decoded_item m.head) m.ready past s p h };
-
-    ghost closed_spent = { λ m past p s lt c. maps_closed_spent (Packets m.head) (Frames m.head) (decoded_item m.head) m.ready past s p lt c };
-
-    ghost done_spent = { λ m past p s lt z c a. maps_done_spent (Packets m.head) (Frames m.head) (decoded_item m.head) m.ready past s p lt c };
-
-    ghost settles = { λ m past s n. maps_settles (Packets m.head) (Frames m.head) (decoded_item m.head) m.ready past s };
-
-    ghost told = { λ m past s. silent_front past s.silent };
-
-    ghost ticket_used = { λ m past q s i f p a h. h };
+    ghost laws = { dec_laws };
 }

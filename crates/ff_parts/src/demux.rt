@@ -282,30 +282,9 @@ impl<S: Source + Drop, C: PacketCut + Drop> Demux<S, C> {
 }
 
 impl<S: Source + Drop, C: Demuxable + Drop> Machine for Demux<S, C> {
-    ghost use Rattle.ff_net.specs.Silence.{silent_front};
-    ghost use Rattle.ff_parts.specs.Demuxers.{demux_in_lanes, demux_out_lanes, demux_source, demux_fault, demux_failures, demux_device, demux_holds, demux_spent, demux_stands};
-    ghost use Rattle.ff_parts.specs.DemuxLaws.{demux_is_source, demux_fed, demux_keeps, demux_monotone, demux_cause_stays, demux_calm, demux_given, demux_unbroken, demux_caused, demux_ticket_used};
-    ghost use Rattle.ff_parts.specs.DemuxClaims.{no_input, is_some_source, holds_none};
-    ghost use Rattle.std.specs.Prelude.{[]};
-    ghost use Rattle.ff_net.specs.Ways.{AreValid};
+    ghost use Rattle.ff_parts.specs.Kinds.{demux_view, demux_laws};
 
-    ghost in_lanes = { demux_in_lanes };
-
-    ghost out_lanes = { demux_out_lanes };
-
-    ghost source_of = { demux_source };
-
-    ghost fault_of = { demux_fault };
-
-    ghost device_of = { demux_device S.name };
-
-    ghost failures = { demux_failures S.faults };
-
-    ghost holds = { demux_holds };
-
-    ghost is_spent = { demux_spent };
-
-    ghost stands = { demux_stands S.left };
+    ghost view = { demux_view S.left S.name S.faults };
 
     fn inputs(&self) -> usize {
         0
@@ -404,33 +383,5 @@ impl<S: Source + Drop, C: Demuxable + Drop> Machine for Demux<S, C> {
         None
     }
 
-    ghost is_source = { λ m past s. demux_is_source C.is (S.left m.src) m.cut m.skip m.given m.ticket m.ended m.fault past s };
-
-    ghost valid = { λ m past s. demux_fed C.is (S.left m.src) m.cut m.skip m.given m.ticket m.ended m.fault past s };
-
-    ghost keeps = { λ m past s. demux_keeps C.is (S.left m.src) m.cut m.skip m.given m.ticket m.ended m.fault past s C.in_shape m.head m.same_head };
-
-    ghost monotone = { λ m past s. demux_monotone C.is (S.left m.src) m.cut m.skip m.given m.ticket m.ended m.fault past s (AreValid []) };
-
-    ghost cause_stays = { λ m past s. demux_cause_stays C.is (S.left m.src) m.cut m.skip m.given m.ticket m.ended m.fault past s [] };
-
-    ghost calm = { λ m past s. demux_calm C.is (S.left m.src) m.cut m.skip m.given m.ticket m.ended m.fault past s (AreValid []) };
-
-    ghost given = { λ m past s. demux_given C.is (S.left m.src) m.cut m.skip m.given m.ticket m.ended m.fault past s };
-
-    ghost unbroken = { λ m past s f u. demux_unbroken C.is (S.left m.src) m.cut m.skip m.given m.ticket m.ended m.fault past s f };
-
-    ghost caused = { λ m past c s e i. demux_caused C.is (S.left m.src) m.cut m.skip m.given m.ticket m.ended m.fault past s c e i };
-
-    ghost spent_only = { λ m past p s i. absurd i };
-
-    ghost closed_spent = { λ m past p s lt c. no_input p lt };
-
-    ghost done_spent = { λ m past p s lt z c a. no_input p lt };
-
-    ghost settles = { λ m past s n. is_some_source m.input n };
-
-    ghost told = { λ m past s. silent_front past s.3.sources.silent };
-
-    ghost ticket_used = { λ m past q s i f p a h. holds_none m.ticket h (demux_ticket_used C.is (S.left m.src) m.cut m.skip m.given m.ticket m.ended m.fault past s q f p a) };
+    ghost laws = { λ m. demux_laws S.left S.name S.faults C.in_shape m m.same_head };
 }

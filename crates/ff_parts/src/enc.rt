@@ -107,30 +107,9 @@ fn encode(alloc: Global, codec: Codec, item: Item) -> Result<Item, Refused>
 }
 
 impl Machine for Enc {
-    ghost use Rattle.ff_net.specs.Silence.{silent_front};
-    ghost use Rattle.std.specs.Prelude.{None};
-    ghost use Rattle.ff_frame.specs.declared.item.Lane.TheVariants.{Frames, Packets};
-    ghost use Rattle.ff_parts.specs.Encoding.{coded_head};
-    ghost use Rattle.ff_parts.specs.MapLaws.{map_no_fault, maps_valid, maps_keeps, maps_monotone, maps_cause_stays, maps_calm, maps_given, maps_unbroken, maps_spent_only, maps_closed_spent, maps_done_spent, maps_settles};
-    ghost use Rattle.ff_parts.specs.Coders.{enc_in_lanes, enc_out_lanes, enc_spent, enc_stands};
+    ghost use Rattle.ff_parts.specs.Kinds.{enc_view, enc_laws};
 
-    ghost in_lanes = { enc_in_lanes };
-
-    ghost out_lanes = { enc_out_lanes };
-
-    ghost source_of = { λ m. None };
-
-    ghost fault_of = { λ m. None };
-
-    ghost failures = { λ m. 0 };
-
-    ghost device_of = { λ m. None };
-
-    ghost holds = { λ m. ⊥ };
-
-    ghost is_spent = { enc_spent };
-
-    ghost stands = { enc_stands };
+    ghost view = { enc_view };
 
     fn inputs(&self) -> usize {
         1
@@ -185,33 +164,5 @@ impl Machine for Enc {
         None
     }
 
-    ghost is_source = { λ m past s. s.plain };
-
-    ghost valid = { λ m past s. maps_valid (Frames m.head) (Packets (coded_head m.codec m.head)) (encoded_item m.codec) m.ready past s };
-
-    ghost keeps = { λ m past s. maps_keeps (Frames m.head) (Packets (coded_head m.codec m.head)) (encoded_item m.codec) m.ready past s };
-
-    ghost monotone = { λ m past s. maps_monotone (Frames m.head) (Packets (coded_head m.codec m.head)) (encoded_item m.codec) m.ready past s };
-
-    ghost cause_stays = { λ m past s. maps_cause_stays (Frames m.head) (Packets (coded_head m.codec m.head)) (encoded_item m.codec) m.ready past s };
-
-    ghost calm = { λ m past s. maps_calm (Frames m.head) (Packets (coded_head m.codec m.head)) (encoded_item m.codec) m.ready past s };
-
-    ghost given = { λ m past s. maps_given (Frames m.head) (Packets (coded_head m.codec m.head)) (encoded_item m.codec) m.ready past s };
-
-    ghost unbroken = { λ m past s f u. maps_unbroken (Frames m.head) (Packets (coded_head m.codec m.head)) (encoded_item m.codec) m.ready past s u };
-
-    ghost caused = { λ m past c s e i. absurd (map_no_fault c e) };
-
-    ghost spent_only = { λ m past p s h. maps_spent_only (Frames m.head) (Packets (coded_head m.codec m.head)) (encoded_item m.codec) m.ready past s p h };
-
-    ghost closed_spent = { λ m past p s lt c. maps_closed_spent (Frames m.head) (Packets (coded_head m.codec m.head)) (encoded_item m.codec) m.ready past s p lt c };
-
-    ghost done_spent = { λ m past p s lt z c a. maps_done_spent (Frames m.head) (Packets (coded_head m.codec m.head)) (encoded_item m.codec) m.ready past s p lt c };
-
-    ghost settles = { λ m past s n. maps_settles (Frames m.head) (Packets (coded_head m.codec m.head)) (encoded_item m.codec) m.ready past s };
-
-    ghost told = { λ m past s. silent_front past s.silent };
-
-    ghost ticket_used = { λ m past q s i f p a h. h };
+    ghost laws = { enc_laws };
 }

@@ -127,27 +127,9 @@ fn write_both<K: Sink>(snk: &mut K, first: &[u8], second: &[u8]) -> Option<Fault
 }
 
 impl<K: Sink + Drop> Machine for Mux<K> {
-    ghost use Rattle.ff_net.specs.Silence.{silent_front};
-    ghost use Rattle.ff_parts.specs.Muxers.{mux_sink, mux_stands, mux_in_lanes, mux_fault, mux_spent};
-    ghost use Rattle.ff_parts.specs.MuxLaws.{mux_source, mux_valid, mux_keeps, mux_monotone, mux_cause_stays, mux_calm, mux_given, mux_unbroken, mux_caused, mux_spent_only, mux_closed_spent, no_output};
+    ghost use Rattle.ff_parts.specs.Kinds.{mux_view, mux_laws};
 
-    ghost in_lanes = { λ m. mux_in_lanes m };
-
-    ghost out_lanes = { λ m. [] };
-
-    ghost source_of = { λ m. None };
-
-    ghost fault_of = { λ m. mux_fault m };
-
-    ghost device_of = { λ m. K.name (mux_sink m) };
-
-    ghost failures = { λ m. K.faults (mux_sink m) };
-
-    ghost holds = { λ m. ⊥ };
-
-    ghost is_spent = { λ m p. mux_spent m p };
-
-    ghost stands = { λ m past. mux_stands K.holds m past };
+    ghost view = { mux_view K.holds K.name K.faults };
 
     fn inputs(&self) -> usize {
         1
@@ -207,33 +189,5 @@ impl<K: Sink + Drop> Machine for Mux<K> {
         None
     }
 
-    ghost is_source = { λ m past s. mux_source K.holds m past s };
-
-    ghost valid = { λ m past s. mux_valid K.holds m past s };
-
-    ghost keeps = { λ m past s ss v. mux_keeps K.holds m past s ss };
-
-    ghost monotone = { λ m past s. mux_monotone K.holds m past s };
-
-    ghost cause_stays = { λ m past s. mux_cause_stays K.holds m past s };
-
-    ghost calm = { λ m past s. mux_calm K.holds m past s };
-
-    ghost given = { λ m past s. mux_given K.holds m past s };
-
-    ghost unbroken = { λ m past s f u. mux_unbroken K.holds m past s };
-
-    ghost caused = { λ m past c s e i. mux_caused K.holds m past s c e i };
-
-    ghost spent_only = { λ m past p s. mux_spent_only K.holds m past s p };
-
-    ghost closed_spent = { λ m past p s. mux_closed_spent K.holds m past s p };
-
-    ghost done_spent = { λ m past p s lt z c a. absurd (no_output 0 z) };
-
-    ghost settles = { λ m past s n ss v c q lt. absurd (no_output q lt) };
-
-    ghost told = { λ m past s. silent_front past s.1.silent };
-
-    ghost ticket_used = { λ m past q s i f p a h. h };
+    ghost laws = { mux_laws K.holds K.name K.faults };
 }

@@ -35,26 +35,10 @@ pub enum Ends<Src: Source + Drop, Snk: Sink + Drop> {
 }
 
 impl<Src: Source + Drop, Snk: Sink + Drop> Machine for Part<Src, Snk> {
-    ghost use Rattle.ff_parts.specs.Parts.{part_in_lanes, part_out_lanes, part_source, part_fault, part_device, part_failures, part_holds, part_spent, part_stands};
-    ghost use Rattle.ff_parts.specs.PartLaws.{part_is_source, part_valid, part_keeps, part_monotone, part_cause_stays, part_calm, part_given, part_unbroken, part_caused, part_spent_only, part_closed_spent, part_done_spent, part_settles, part_told, part_ticket_used};
+    ghost use Rattle.ff_parts.specs.Parts.{part_view};
+    ghost use Rattle.ff_parts.specs.PartLaws.{part_laws};
 
-    ghost in_lanes = { part_in_lanes };
-
-    ghost out_lanes = { part_out_lanes };
-
-    ghost source_of = { part_source };
-
-    ghost fault_of = { part_fault };
-
-    ghost device_of = { part_device Src.name Snk.name };
-
-    ghost failures = { part_failures Src.faults Snk.faults };
-
-    ghost holds = { part_holds };
-
-    ghost is_spent = { part_spent };
-
-    ghost stands = { part_stands Src.left Snk.holds };
+    ghost view = { part_view Src.left Src.name Src.faults Snk.holds Snk.name Snk.faults };
 
     fn inputs(&self) -> usize {
         match self {
@@ -146,35 +130,7 @@ impl<Src: Source + Drop, Snk: Sink + Drop> Machine for Part<Src, Snk> {
         }
     }
 
-    ghost is_source = { part_is_source Src.left Snk.holds };
-
-    ghost valid = { part_valid Src.left Snk.holds };
-
-    ghost keeps = { part_keeps Src.left Snk.holds };
-
-    ghost monotone = { part_monotone Src.left Snk.holds };
-
-    ghost cause_stays = { part_cause_stays Src.left Snk.holds };
-
-    ghost calm = { part_calm Src.left Snk.holds };
-
-    ghost given = { part_given Src.left Snk.holds };
-
-    ghost unbroken = { part_unbroken Src.left Snk.holds };
-
-    ghost caused = { part_caused Src.left Snk.holds };
-
-    ghost spent_only = { part_spent_only Src.left Snk.holds };
-
-    ghost closed_spent = { part_closed_spent Src.left Snk.holds };
-
-    ghost done_spent = { part_done_spent Src.left Snk.holds };
-
-    ghost settles = { part_settles Src.left Snk.holds };
-
-    ghost told = { part_told Src.left Snk.holds };
-
-    ghost ticket_used = { part_ticket_used Src.left Snk.holds };
+    ghost laws = { part_laws Src.left Src.name Src.faults Snk.holds Snk.name Snk.faults };
 }
 
 impl<Src: Source + Drop, Snk: Sink + Drop> Part<Src, Snk> {
