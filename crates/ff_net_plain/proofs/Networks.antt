@@ -9,7 +9,7 @@ use Rattle.ff_net.specs.Worlds.{lanes_of}
 use Rattle.ff_net.specs.Nodes.{AreApart, HaveLanes, IsShaped, in_wires_of, out_wires_of}
 use Rattle.ff_net.specs.Serial.{AreShaped}
 use Rattle.ff_net_plain.specs.declared.plain.Plain.{Plain}
-use Rattle.ff_net_plain.specs.Plains.{plain_ins, plain_outs}
+use Rattle.ff_net_plain.specs.Plains.{plain_view}
 use Rattle.ff_net_plain.specs.Networks.{Fits}
 
 -- the node to which a wire leads, and that which it leaves
@@ -82,10 +82,10 @@ have ws l lanes e a = record { lanes_are = e ∙ sym (each_some ws); apart = a }
     each_some [] = refl
     each_some (v ∷ vs) = ap (λ os. Some l ∷ os) (each_some vs)
 
-pub fits_shaped : (l : Lane) (ins outs : List ℕ) (node : Node Plain) (wires : Wires) → Fits l ins outs node → HaveLanes ins (map (λ w. l) ins) (lanes_of wires) → HaveLanes outs (map (λ w. l) outs) (lanes_of wires) → IsShaped plain_ins plain_outs node wires
+pub fits_shaped : (l : Lane) (ins outs : List ℕ) (node : Node Plain) (wires : Wires) → Fits l ins outs node → HaveLanes ins (map (λ w. l) ins) (lanes_of wires) → HaveLanes outs (map (λ w. l) outs) (lanes_of wires) → IsShaped plain_view node wires
 fits_shaped l ins outs node wires f i o = record {
-  ins = subst (λ (ws : List ℕ). HaveLanes ws (plain_ins node.machine) (lanes_of wires)) (sym f.ins_are) (subst (λ (ls : List Lane). HaveLanes ins ls (lanes_of wires)) (sym f.in_lanes_are) i);
-  outs = subst (λ (ws : List ℕ). HaveLanes ws (plain_outs node.machine) (lanes_of wires)) (sym f.outs_are) (subst (λ (ls : List Lane). HaveLanes outs ls (lanes_of wires)) (sym f.out_lanes_are) o);
+  ins = subst (λ (ws : List ℕ). HaveLanes ws (plain_view node.machine).in_lanes (lanes_of wires)) (sym f.ins_are) (subst (λ (ls : List Lane). HaveLanes ins ls (lanes_of wires)) (sym f.in_lanes_are) i);
+  outs = subst (λ (ws : List ℕ). HaveLanes ws (plain_view node.machine).out_lanes (lanes_of wires)) (sym f.outs_are) (subst (λ (ls : List Lane). HaveLanes outs ls (lanes_of wires)) (sym f.out_lanes_are) o);
 }
 
 module _ (a b c d e : Node Plain) (wires : Wires) (l : Lane) (lanes : lanes_of wires ≡ l ∷ l ∷ l ∷ l ∷ l ∷ []) (fa : Fits l [] (0 ∷ []) a) (fb : Fits l (0 ∷ []) (1 ∷ 2 ∷ []) b) (fc : Fits l (1 ∷ []) (3 ∷ []) c) (fd : Fits l (3 ∷ 2 ∷ []) (4 ∷ []) d) (fe : Fits l (4 ∷ []) [] e) where
@@ -95,7 +95,7 @@ module _ (a b c d e : Node Plain) (wires : Wires) (l : Lane) (lanes : lanes_of w
   on : (ws : List ℕ) → map (lane_at five_lanes) ws ≡ map (λ w. Some l) ws → AreApart ws → HaveLanes ws (map (λ w. l) ws) (lanes_of wires)
   on ws same apart = subst (λ (ls : List Lane). HaveLanes ws (map (λ w. l) ws) ls) (sym lanes) (have ws l five_lanes same apart)
 
-  five_each : EachOf (λ n. IsShaped plain_ins plain_outs n wires) (a ∷ b ∷ c ∷ d ∷ e ∷ [])
+  five_each : EachOf (λ n. IsShaped plain_view n wires) (a ∷ b ∷ c ∷ d ∷ e ∷ [])
   five_each = (
     fits_shaped l [] (0 ∷ []) a wires fa (on [] refl no_wires) (on (0 ∷ []) refl (one_wire 0)),
     (
@@ -143,9 +143,9 @@ module _ (a b c d e : Node Plain) (wires : Wires) (l : Lane) (lanes : lanes_of w
     ),
   )
 
-  pub five_shaped : (nodes : List (Node Plain)) → nodes ≡ a ∷ b ∷ c ∷ d ∷ e ∷ [] → AreShaped plain_ins plain_outs nodes wires
-  five_shaped nodes is = subst (λ (ns : List (Node Plain)). AreShaped plain_ins plain_outs ns wires) (sym is) record {
-    each = each_at (λ n. IsShaped plain_ins plain_outs n wires) (a ∷ b ∷ c ∷ d ∷ e ∷ []) five_each;
+  pub five_shaped : (nodes : List (Node Plain)) → nodes ≡ a ∷ b ∷ c ∷ d ∷ e ∷ [] → AreShaped plain_view nodes wires
+  five_shaped nodes is = subst (λ (ns : List (Node Plain)). AreShaped plain_view ns wires) (sym is) record {
+    each = each_at (λ n. IsShaped plain_view n wires) (a ∷ b ∷ c ∷ d ∷ e ∷ []) five_each;
     ins_apart = owned_apart leads_to (λ n. in_wires_of n) (a ∷ b ∷ c ∷ d ∷ e ∷ []) five_in;
     outs_apart = owned_apart leaves (λ n. out_wires_of n) (a ∷ b ∷ c ∷ d ∷ e ∷ []) five_out;
   }

@@ -1,5 +1,6 @@
 pub mod JoinLaws
 pub mod Joins
+pub mod Kinds
 pub mod ListLaws
 pub mod Lists
 pub mod Networks

@@ -5,11 +5,11 @@ use Rattle.ff_frame.specs.declared.item.Lane.{Lane}
 use Rattle.ff_net.specs.declared.node.Node.{Node}
 use Rattle.ff_net.specs.Nodes.{machine_of, in_wires_of, out_wires_of}
 use Rattle.ff_net_plain.specs.declared.plain.Plain.{Plain}
-use Rattle.ff_net_plain.specs.Plains.{plain_ins, plain_outs}
+use Rattle.ff_net_plain.specs.Plains.{plain_view}
 
 -- a node on these wires, all of one lane
 pub record Fits (lane : Lane) (ins outs : List ℕ) (node : Node Plain) : Type 0 where
   pub ins_are : in_wires_of node ≡ ins
   pub outs_are : out_wires_of node ≡ outs
-  pub in_lanes_are : plain_ins (machine_of node) ≡ map (λ w. lane) ins
-  pub out_lanes_are : plain_outs (machine_of node) ≡ map (λ w. lane) outs
+  pub in_lanes_are : (plain_view (machine_of node)).in_lanes ≡ map (λ w. lane) ins
+  pub out_lanes_are : (plain_view (machine_of node)).out_lanes ≡ map (λ w. lane) outs

@@ -4,8 +4,6 @@ ghost use Rattle.ff_frame.specs.Stream.{still_open};
 ghost use Rattle.ff_frame.specs.Items.{with_item};
 ghost use Rattle.ff_frame.specs.Ports.{nothing};
 ghost use Rattle.ff_net_plain.specs.Joins.{Joins, joined, mark_of, kept_of, is_spent_join};
-ghost use Rattle.ff_net_plain.specs.JoinLaws.{joins_valid, joins_keeps, joins_monotone, joins_cause_stays, joins_calm, joins_given, joins_unbroken, joins_spent_only, joins_closed_spent, joins_done_spent, joins_settles};
-ghost use Rattle.ff_net_plain.specs.RelayLaws.{relays_no_fault};
 
 use ff_frame::{Event, Item, Lane, Refused, Ticket};
 use ff_net::{Fault, Machine};
@@ -160,25 +158,9 @@ fn closing_item(ending: Ending) -> Option<Item>
 }
 
 impl Machine for Join {
-    ghost use Rattle.ff_net.specs.Silence.{silent_front};
+    ghost use Rattle.ff_net_plain.specs.Kinds.{join_view, join_laws};
 
-    ghost in_lanes = { λ m. m.lane ∷ m.lane ∷ [] };
-
-    ghost out_lanes = { λ m. m.lane ∷ [] };
-
-    ghost source_of = { λ m. None };
-
-    ghost fault_of = { λ m. None };
-
-    ghost device_of = { λ m. None };
-
-    ghost failures = { λ m. 0 };
-
-    ghost holds = { λ m. ⊥ };
-
-    ghost is_spent = { λ m p. is_spent_join (kept_of m.first) (kept_of m.second) m.stopped p };
-
-    ghost stands = { λ m past. Joins m.lane (kept_of m.first) (kept_of m.second) m.next m.ended m.stopped past };
+    ghost view = { join_view };
 
     fn inputs(&self) -> usize {
         2
@@ -253,33 +235,5 @@ impl Machine for Join {
         None
     }
 
-    ghost is_source = { λ m past s. s.plain };
-
-    ghost valid = { λ m past s. joins_valid m.lane (kept_of m.first) (kept_of m.second) m.next m.ended m.stopped past s };
-
-    ghost keeps = { λ m past s. joins_keeps m.lane (kept_of m.first) (kept_of m.second) m.next m.ended m.stopped past s };
-
-    ghost monotone = { λ m past s. joins_monotone m.lane (kept_of m.first) (kept_of m.second) m.next m.ended m.stopped past s };
-
-    ghost cause_stays = { λ m past s. joins_cause_stays m.lane (kept_of m.first) (kept_of m.second) m.next m.ended m.stopped past s };
-
-    ghost calm = { λ m past s. joins_calm m.lane (kept_of m.first) (kept_of m.second) m.next m.ended m.stopped past s };
-
-    ghost given = { λ m past s. joins_given m.lane (kept_of m.first) (kept_of m.second) m.next m.ended m.stopped past s };
-
-    ghost unbroken = { λ m past s f u. joins_unbroken m.lane (kept_of m.first) (kept_of m.second) m.next m.ended m.stopped past s u };
-
-    ghost caused = { λ m past c s e i. absurd (relays_no_fault c e) };
-
-    ghost spent_only = { λ m past p s. joins_spent_only m.lane (kept_of m.first) (kept_of m.second) m.next m.ended m.stopped past s p };
-
-    ghost closed_spent = { λ m past p s. joins_closed_spent m.lane (kept_of m.first) (kept_of m.second) m.next m.ended m.stopped past s p };
-
-    ghost done_spent = { λ m past p s lt z c a. joins_done_spent m.lane (kept_of m.first) (kept_of m.second) m.next m.ended m.stopped past s p lt c };
-
-    ghost settles = { λ m past s n. joins_settles m.lane (kept_of m.first) (kept_of m.second) m.next m.ended m.stopped past s };
-
-    ghost told = { λ m past s. silent_front past s.silent };
-
-    ghost ticket_used = { λ m past q s i f p a h. h };
+    ghost laws = { join_laws };
 }

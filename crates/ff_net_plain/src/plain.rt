@@ -17,27 +17,10 @@ pub enum Plain {
 }
 
 impl Machine for Plain {
-    ghost use Rattle.std.specs.Prelude.{None};
-    ghost use Rattle.ff_net_plain.specs.Plains.{plain_ins, plain_outs, plain_source, plain_fault, plain_failures, plain_holds, plain_spent, plain_stands};
-    ghost use Rattle.ff_net_plain.specs.PlainLaws.{plain_is_source, plain_valid, plain_keeps, plain_monotone, plain_cause_stays, plain_calm, plain_given, plain_unbroken, plain_caused, plain_spent_only, plain_closed_spent, plain_done_spent, plain_settles, plain_told, plain_ticket_used};
+    ghost use Rattle.ff_net_plain.specs.Plains.{plain_view};
+    ghost use Rattle.ff_net_plain.specs.PlainLaws.{plain_laws};
 
-    ghost in_lanes = { plain_ins };
-
-    ghost out_lanes = { plain_outs };
-
-    ghost source_of = { plain_source };
-
-    ghost fault_of = { plain_fault };
-
-    ghost device_of = { λ m. None };
-
-    ghost failures = { plain_failures };
-
-    ghost holds = { plain_holds };
-
-    ghost is_spent = { plain_spent };
-
-    ghost stands = { plain_stands };
+    ghost view = { plain_view };
 
     fn inputs(&self) -> usize {
         match self {
@@ -119,33 +102,5 @@ impl Machine for Plain {
         }
     }
 
-    ghost is_source = { plain_is_source };
-
-    ghost valid = { plain_valid };
-
-    ghost keeps = { plain_keeps };
-
-    ghost monotone = { plain_monotone };
-
-    ghost cause_stays = { plain_cause_stays };
-
-    ghost calm = { plain_calm };
-
-    ghost given = { plain_given };
-
-    ghost unbroken = { plain_unbroken };
-
-    ghost caused = { plain_caused };
-
-    ghost spent_only = { plain_spent_only };
-
-    ghost closed_spent = { plain_closed_spent };
-
-    ghost done_spent = { plain_done_spent };
-
-    ghost settles = { plain_settles };
-
-    ghost told = { plain_told };
-
-    ghost ticket_used = { plain_ticket_used };
+    ghost laws = { plain_laws };
 }

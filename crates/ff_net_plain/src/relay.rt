@@ -1,6 +1,5 @@
 ghost use Rattle.std.specs.Prelude.{◌≡◌, ◌<◌, ◌⊎◌, ℕ, length, replicate, true, false, None, Some, Ok, Err, ◌∷◌, []};
 ghost use Rattle.ff_net_plain.specs.Relays.{Relays, is_spent_relay, outs_stopped};
-ghost use Rattle.ff_net_plain.specs.RelayLaws.{relays_no_fault, relays_valid, relays_keeps, relays_monotone, relays_cause_stays, relays_calm, relays_given, relays_unbroken, relays_spent_only, relays_closed_spent, relays_done_spent, relays_settles};
 
 use ff_frame::{Event, Item, Lane, Refused, Ticket};
 use ff_net::{Fault, Machine};
@@ -85,25 +84,9 @@ fn all_stopped(outs: &Vec<Out>) -> bool
 }
 
 impl Machine for Relay {
-    ghost use Rattle.ff_net.specs.Silence.{silent_front};
+    ghost use Rattle.ff_net_plain.specs.Kinds.{relay_view, relay_laws};
 
-    ghost in_lanes = { λ m. m.lane ∷ [] };
-
-    ghost out_lanes = { λ m. replicate (length m.outs.items) m.lane };
-
-    ghost source_of = { λ m. None };
-
-    ghost fault_of = { λ m. None };
-
-    ghost device_of = { λ m. None };
-
-    ghost failures = { λ m. 0 };
-
-    ghost holds = { λ m. ⊥ };
-
-    ghost is_spent = { λ m p. is_spent_relay m.left m.closed m.outs.items p };
-
-    ghost stands = { λ m past. Relays m.lane m.limit m.left m.closed m.given.items m.outs.items past };
+    ghost view = { relay_view };
 
     fn inputs(&self) -> usize {
         1
@@ -194,33 +177,5 @@ impl Machine for Relay {
         None
     }
 
-    ghost is_source = { λ m past s. s.plain };
-
-    ghost valid = { λ m past s. relays_valid m.lane m.limit m.left m.closed m.given.items m.outs.items past s };
-
-    ghost keeps = { λ m past s. relays_keeps m.lane m.limit m.left m.closed m.given.items m.outs.items past s };
-
-    ghost monotone = { λ m past s. relays_monotone m.lane m.limit m.left m.closed m.given.items m.outs.items past s };
-
-    ghost cause_stays = { λ m past s. relays_cause_stays m.lane m.limit m.left m.closed m.given.items m.outs.items past s };
-
-    ghost calm = { λ m past s. relays_calm m.lane m.limit m.left m.closed m.given.items m.outs.items past s };
-
-    ghost given = { λ m past s. relays_given m.lane m.limit m.left m.closed m.given.items m.outs.items past s };
-
-    ghost unbroken = { λ m past s f u. relays_unbroken m.lane m.limit m.left m.closed m.given.items m.outs.items past s u };
-
-    ghost caused = { λ m past c s e i. absurd (relays_no_fault c e) };
-
-    ghost spent_only = { λ m past p s. relays_spent_only m.lane m.limit m.left m.closed m.given.items m.outs.items past s p };
-
-    ghost closed_spent = { λ m past p s. relays_closed_spent m.lane m.limit m.left m.closed m.given.items m.outs.items past s p };
-
-    ghost done_spent = { λ m past p s lt z c a. relays_done_spent m.lane m.limit m.left m.closed m.given.items m.outs.items past s p lt z c };
-
-    ghost settles = { λ m past s n. relays_settles m.lane m.limit m.left m.closed m.given.items m.outs.items past s };
-
-    ghost told = { λ m past s. silent_front past s.silent };
-
-    ghost ticket_used = { λ m past q s i f p a h. h };
+    ghost laws = { relay_laws };
 }

@@ -1,6 +1,5 @@
 ghost use Rattle.std.specs.Prelude.{◌≡◌, ◌<◌, ◌⊎◌, ℕ, length, true, false, None, Some, Ok, Err, ◌∷◌, []};
 ghost use Rattle.ff_net_plain.specs.Lists.{Lists, fault_if, as_count};
-ghost use Rattle.ff_net_plain.specs.ListLaws.{lists_keeps, lists_monotone, lists_cause_stays, lists_calm, lists_given, lists_unbroken, lists_caused, lists_ticket_used, lists_no_port, lists_is_source};
 
 use ff_frame::{Event, Item, Lane, Refused, Ticket};
 use ff_net::{Fault, Machine};
@@ -65,25 +64,9 @@ impl Source {
 }
 
 impl Machine for Source {
-    ghost use Rattle.ff_net.specs.Silence.{silent_front};
+    ghost use Rattle.ff_net_plain.specs.Kinds.{source_view, source_laws};
 
-    ghost in_lanes = { λ m. [] };
-
-    ghost out_lanes = { λ m. m.lane ∷ [] };
-
-    ghost source_of = { λ m. Some m.number };
-
-    ghost fault_of = { λ m. fault_if m.failed };
-
-    ghost device_of = { λ m. None };
-
-    ghost failures = { λ m. as_count m.failed };
-
-    ghost holds = { λ m. m.ticket ≡ true };
-
-    ghost is_spent = { λ m p. ⊥ };
-
-    ghost stands = { λ m past. Lists m.lane m.items.items m.next m.ended m.ticket m.failed past };
+    ghost view = { source_view };
 
     fn inputs(&self) -> usize {
         0
@@ -161,33 +144,5 @@ impl Machine for Source {
         None
     }
 
-    ghost is_source = { λ m past s. s.source };
-
-    ghost valid = { λ m past s. s.got };
-
-    ghost keeps = { λ m past s. lists_keeps m.lane m.items.items m.next m.ended m.ticket m.failed past s };
-
-    ghost monotone = { λ m past s. lists_monotone m.lane m.items.items m.next m.ended m.ticket m.failed past s };
-
-    ghost cause_stays = { λ m past s. lists_cause_stays m.lane m.items.items m.next m.ended m.ticket m.failed past s };
-
-    ghost calm = { λ m past s. lists_calm m.lane m.items.items m.next m.ended m.ticket m.failed past s };
-
-    ghost given = { λ m past s. lists_given m.lane m.items.items m.next m.ended m.ticket m.failed past s };
-
-    ghost unbroken = { λ m past s f u. lists_unbroken m.lane m.items.items m.next m.ended m.ticket m.failed past s };
-
-    ghost caused = { λ m past c s e i. absurd (lists_caused m.failed c e i) };
-
-    ghost spent_only = { λ m past p s e. absurd e };
-
-    ghost closed_spent = { λ m past p s lt c. absurd (lists_no_port p lt) };
-
-    ghost done_spent = { λ m past p s lt z c a. absurd (lists_no_port p lt) };
-
-    ghost settles = { λ m past s n. absurd (lists_is_source m.number n) };
-
-    ghost told = { λ m past s. silent_front past s.silent };
-
-    ghost ticket_used = { λ m past q s i f p a h. lists_ticket_used m.lane m.items.items m.next m.ended m.ticket m.failed past s q f p a h };
+    ghost laws = { source_laws };
 }
