@@ -18,7 +18,9 @@ use Rattle.ff_net.specs.Laws.{FaultStep, IsOfInputs}
 use Rattle.ff_net.specs.Ports.{in_at, in_wires}
 use Rattle.ff_net.specs.Worlds.{Wire, Stand, fresh, lanes_of}
 use Rattle.ff_net.specs.Nodes.{AreApart, HaveLanes, IsShaped, IsSound, NodeStands, machine_of, in_wires_of, out_wires_of}
-use Rattle.ff_net.specs.Serial.{AreShaped, NetStands, Settled, part_of, parts_of}
+use Rattle.ff_net.specs.Serial.{AreShaped, NetStands, part_of, parts_of}
+use Rattle.ff_net.specs.Theorem.{AllFare, MeetsSolution, Settled}
+use Rattle.ff_net.specs.Views.{View}
 use Rattle.ff_net.proofs.Whole.{fed_below}
 use Rattle.ff_path.specs.declared.chain.Chain.{Chain}
 use Rattle.ff_path.specs.declared.chain.Lanes.{Lanes}
@@ -131,23 +133,23 @@ of_inputs TooLong i e = cc
 of_inputs TooLarge i e = cc
 of_inputs NoMemory i e = i
 
-module _ {M : Type 0} (in_lanes out_lanes : M → List Lane) (source : M → Option ℕ) (fault : M → Option Fault) (stands : M → Past → Type 0) (lanes : Lanes) where
-  parts_at : (tasks : ℕ → Task) (ns : List (Node M)) (k : ℕ) (d : Node M) → k < length ns → part_at (parts_of in_lanes out_lanes tasks ns) k ≡ part_of in_lanes out_lanes (tasks k) (slice_index_or ns k d)
+module _ {M : Type 0} (view : M → View) (lanes : Lanes) where
+  parts_at : (tasks : ℕ → Task) (ns : List (Node M)) (k : ℕ) (d : Node M) → k < length ns → part_at (parts_of view tasks ns) k ≡ part_of view (tasks k) (slice_index_or ns k d)
   parts_at tasks [] k d lt = absurd (omega (arith, lt))
   parts_at tasks (n ∷ ns) zero d lt = refl
   parts_at tasks (n ∷ ns) (suc k) d lt = parts_at (λ j. tasks (suc j)) ns k d (omega (arith, lt))
 
-  parts_count : (tasks : ℕ → Task) (ns : List (Node M)) → length (parts_of in_lanes out_lanes tasks ns) ≡ length ns
+  parts_count : (tasks : ℕ → Task) (ns : List (Node M)) → length (parts_of view tasks ns) ≡ length ns
   parts_count tasks [] = refl
   parts_count tasks (n ∷ ns) = ap suc (parts_count (λ j. tasks (suc j)) ns)
 
   -- something can be behind each node in this world, with these tasks
   abbrev EachStands : (ℕ → Task) → List (Node M) → (ℕ → Wire) → Type 0
-  EachStands tasks ns world = (k : ℕ) (d : Node M) → k < length ns → (past : Past) × NodeStands in_lanes source fault stands (slice_index_or ns k d) world past × (past.task ≡ tasks k)
+  EachStands tasks ns world = (k : ℕ) (d : Node M) → k < length ns → (past : Past) × NodeStands view (slice_index_or ns k d) world past × (past.task ≡ tasks k)
 
   -- the nodes are these four, with these tasks
   abbrev pub IsRow : (ℕ → Task) → List (Node M) → Type 0
-  IsRow tasks ns = parts_of in_lanes out_lanes tasks ns ≡ nodes tasks lanes
+  IsRow tasks ns = parts_of view tasks ns ≡ nodes tasks lanes
 
   module _ (tasks : ℕ → Task) (ns : List (Node M)) (row : IsRow tasks ns) where
     four : length ns ≡ 4
@@ -156,7 +158,7 @@ module _ {M : Type 0} (in_lanes out_lanes : M → List Lane) (source : M → Opt
     there : (k : ℕ) → k < 4 → k < length ns
     there k lt = subst (λ (n : ℕ). k < n) (sym four) lt
 
-    part_is : (k : ℕ) (d : Node M) → k < 4 → part_of in_lanes out_lanes (tasks k) (slice_index_or ns k d) ≡ part_at (nodes tasks lanes) k
+    part_is : (k : ℕ) (d : Node M) → k < 4 → part_of view (tasks k) (slice_index_or ns k d) ≡ part_at (nodes tasks lanes) k
     part_is k d lt = sym (parts_at tasks ns k d (there k lt)) ∙ ap (λ (ps : List Part). part_at ps k) row
 
     ins_is : (k : ℕ) (d : Node M) → k < 4 → in_wires_of (slice_index_or ns k d) ≡ (part_at (nodes tasks lanes) k).ins
@@ -165,24 +167,24 @@ module _ {M : Type 0} (in_lanes out_lanes : M → List Lane) (source : M → Opt
     outs_is : (k : ℕ) (d : Node M) → k < 4 → out_wires_of (slice_index_or ns k d) ≡ (part_at (nodes tasks lanes) k).outs
     outs_is k d lt = ap (λ (p : Part). p.outs) (part_is k d lt)
 
-    pub in_lanes_is : (k : ℕ) (d : Node M) → k < 4 → in_lanes (machine_of (slice_index_or ns k d)) ≡ (part_at (nodes tasks lanes) k).in_lanes
+    pub in_lanes_is : (k : ℕ) (d : Node M) → k < 4 → (view (machine_of (slice_index_or ns k d))).in_lanes ≡ (part_at (nodes tasks lanes) k).in_lanes
     in_lanes_is k d lt = ap (λ (p : Part). p.in_lanes) (part_is k d lt)
 
-    pub out_lanes_is : (k : ℕ) (d : Node M) → k < 4 → out_lanes (machine_of (slice_index_or ns k d)) ≡ (part_at (nodes tasks lanes) k).out_lanes
+    pub out_lanes_is : (k : ℕ) (d : Node M) → k < 4 → (view (machine_of (slice_index_or ns k d))).out_lanes ≡ (part_at (nodes tasks lanes) k).out_lanes
     out_lanes_is k d lt = ap (λ (p : Part). p.out_lanes) (part_is k d lt)
 
-    shaped_at : (wires : Wires) → lanes_of wires ≡ wire_lanes tasks lanes → (k : ℕ) (d : Node M) → k < 4 → IsShaped in_lanes out_lanes (slice_index_or ns k d) wires
+    shaped_at : (wires : Wires) → lanes_of wires ≡ wire_lanes tasks lanes → (k : ℕ) (d : Node M) → k < 4 → IsShaped view (slice_index_or ns k d) wires
     shaped_at wires e k d lt = record {
-      ins = subst (λ (ws : List ℕ). HaveLanes ws (in_lanes (machine_of (slice_index_or ns k d))) (lanes_of wires)) (sym (ins_is k d lt))
+      ins = subst (λ (ws : List ℕ). HaveLanes ws (view (machine_of (slice_index_or ns k d))).in_lanes (lanes_of wires)) (sym (ins_is k d lt))
           (subst (λ (ls : List Lane). HaveLanes (part_at (nodes tasks lanes) k).ins ls (lanes_of wires)) (sym (in_lanes_is k d lt)) (has_ins tasks lanes k (lanes_of wires) lt e));
-      outs = subst (λ (ws : List ℕ). HaveLanes ws (out_lanes (machine_of (slice_index_or ns k d))) (lanes_of wires)) (sym (outs_is k d lt))
+      outs = subst (λ (ws : List ℕ). HaveLanes ws (view (machine_of (slice_index_or ns k d))).out_lanes (lanes_of wires)) (sym (outs_is k d lt))
           (subst (λ (ls : List Lane). HaveLanes (part_at (nodes tasks lanes) k).outs ls (lanes_of wires)) (sym (out_lanes_is k d lt)) (has_outs tasks lanes k (lanes_of wires) lt e));
     }
 
     below_four : (k : ℕ) → k < length ns → k < 4
     below_four k lt = subst (λ (n : ℕ). k < n) four lt
 
-    pub row_shaped : (wires : Wires) → lanes_of wires ≡ wire_lanes tasks lanes → AreShaped in_lanes out_lanes ns wires
+    pub row_shaped : (wires : Wires) → lanes_of wires ≡ wire_lanes tasks lanes → AreShaped view ns wires
     row_shaped wires e = record {
       each = λ k d lt. shaped_at wires e k d (below_four k lt);
       ins_apart = λ j k w d jlt klt a b.
@@ -195,10 +197,10 @@ module _ {M : Type 0} (in_lanes out_lanes : M → List Lane) (source : M → Opt
           sym x ∙ y;
     }
 
-    pub row_upward : IsUpward [] (parts_of in_lanes out_lanes tasks ns)
+    pub row_upward : IsUpward [] (parts_of view tasks ns)
     row_upward = subst (λ (ps : List Part). IsUpward [] ps) (sym row) (upward tasks lanes)
 
-    pub row_inputs : (k : ℕ) (d : Node M) → k < 4 → map (solve (parts_of in_lanes out_lanes tasks ns)) (in_wires_of (slice_index_or ns k d)) ≡ inputs_of tasks k
+    pub row_inputs : (k : ℕ) (d : Node M) → k < 4 → map (solve (parts_of view tasks ns)) (in_wires_of (slice_index_or ns k d)) ≡ inputs_of tasks k
     row_inputs k d lt =
         ap (λ (ps : List Part). map (solve ps) (in_wires_of (slice_index_or ns k d))) row
         ∙ (ap (λ (ws : List ℕ). map (solve (nodes tasks lanes)) ws) (ins_is k d lt) ∙ solved tasks lanes k lt)
@@ -207,7 +209,7 @@ module _ {M : Type 0} (in_lanes out_lanes : M → List Lane) (source : M → Opt
     pub row_sink : (d : Node M) → length (slice_index_or ns 3 d).outs.items ≡ 0
     row_sink d = sym (length-map (slice_index_or ns 3 d).outs.items (λ (p : OutPort). p.wire)) ∙ ap length (outs_is 3 d (omega arith))
 
-    last_solved : solve (parts_of in_lanes out_lanes tasks ns) 2 ≡ on_wire tasks 2
+    last_solved : solve (parts_of view tasks ns) 2 ≡ on_wire tasks 2
     last_solved = ap (λ (ps : List Part). solve ps 2) row
 
     -- of the last node, which is this one
@@ -216,11 +218,11 @@ module _ {M : Type 0} (in_lanes out_lanes : M → List Lane) (source : M → Opt
       last_port = first_wire n.ins.items 2 (ap in_wires_of (sym is) ∙ ins_is 3 n (omega arith))
 
       pub last_part : (world : ℕ → Wire) → EachStands tasks ns world
-          → ((w : ℕ) → IsIn w (in_wires_of (slice_index_or ns 3 n)) → LiesBelow (opened (world w).taken) (solve (parts_of in_lanes out_lanes tasks ns) w))
-          → (past : Past) × stands n.machine past × (past.task ≡ tasks 3) × LiesBelow (opened (stream_at past.got 0)) (on_wire tasks 2)
+          → ((w : ℕ) → IsIn w (in_wires_of (slice_index_or ns 3 n)) → LiesBelow (opened (world w).taken) (solve (parts_of view tasks ns) w))
+          → (past : Past) × (view n.machine).stands past × (past.task ≡ tasks 3) × LiesBelow (opened (stream_at past.got 0)) (on_wire tasks 2)
       last_part world each below =
           let mine = each 3 n (there 3 (omega arith)) in
-          let here : NodeStands in_lanes source fault stands n world mine.0 = subst (λ (m : Node M). NodeStands in_lanes source fault stands m world mine.0) is mine.1 in
+          let here : NodeStands view n world mine.0 = subst (λ (m : Node M). NodeStands view m world mine.0) is mine.1 in
           let w = (in_at n.ins.items 0).wire in
           let two : w ≡ 2 = last_port.1 in
           let fed : LiesBelow (stream_at mine.0.got 0) (world w).taken = fed_below (stream_at mine.0.got 0) (world w).taken ((here.ins 0 last_port.0).fed) in
@@ -233,11 +235,11 @@ module _ {M : Type 0} (in_lanes out_lanes : M → List Lane) (source : M → Opt
             below_trans (opened (stream_at mine.0.got 0)) (opened (world 2).taken) (on_wire tasks 2) (opened_keeps (stream_at mine.0.got 0) (world 2).taken fed2) under,
           )
 
-      pub last_all : Settled stands (tasks 3) (parts_of in_lanes out_lanes tasks ns) (slice_index_or ns 3 n)
-          → (past : Past) × stands n.machine past × (past.task ≡ tasks 3) × (stream_at past.got 0 ≡ on_wire tasks 2) × IsWhole (on_wire tasks 2)
+      pub last_all : Settled view (tasks 3) (parts_of view tasks ns) (slice_index_or ns 3 n)
+          → (past : Past) × (view n.machine).stands past × (past.task ≡ tasks 3) × (stream_at past.got 0 ≡ on_wire tasks 2) × IsWhole (on_wire tasks 2)
       last_all s =
-          let t : Settled stands (tasks 3) (parts_of in_lanes out_lanes tasks ns) n = subst (λ (m : Node M). Settled stands (tasks 3) (parts_of in_lanes out_lanes tasks ns) m) is s in
-          let same : solve (parts_of in_lanes out_lanes tasks ns) (in_at n.ins.items 0).wire ≡ on_wire tasks 2 = ap (λ (v : ℕ). solve (parts_of in_lanes out_lanes tasks ns) v) last_port.1 ∙ last_solved in (
+          let t : Settled view (tasks 3) (parts_of view tasks ns) n = subst (λ (m : Node M). Settled view (tasks 3) (parts_of view tasks ns) m) is s in
+          let same : solve (parts_of view tasks ns) (in_at n.ins.items 0).wire ≡ on_wire tasks 2 = ap (λ (v : ℕ). solve (parts_of view tasks ns) v) last_port.1 ∙ last_solved in (
             t.past,
             t.machine,
             t.task_is,
@@ -245,22 +247,22 @@ module _ {M : Type 0} (in_lanes out_lanes : M → List Lane) (source : M → Opt
             subst IsWhole same (t.whole 0 last_port.0),
           )
 
-  pub same_part : (task : Task) (node : Node M) (i o : List Lane) (ins outs : List ℕ) → in_lanes node.machine ≡ i → out_lanes node.machine ≡ o → in_wires_of node ≡ ins → out_wires_of node ≡ outs
-      → part_of in_lanes out_lanes task node ≡ record { means = task.means; in_lanes = i; out_lanes = o; ins = ins; outs = outs }
+  pub same_part : (task : Task) (node : Node M) (i o : List Lane) (ins outs : List ℕ) → (view node.machine).in_lanes ≡ i → (view node.machine).out_lanes ≡ o → in_wires_of node ≡ ins → out_wires_of node ≡ outs
+      → part_of view task node ≡ record { means = task.means; in_lanes = i; out_lanes = o; ins = ins; outs = outs }
   same_part task node i o ins outs ei eo ew ev =
       let make : List Lane → List Lane → List ℕ → List ℕ → Part = λ a b v w. record { means = task.means; in_lanes = a; out_lanes = b; ins = v; outs = w } in
-      ap (λ x. make x (out_lanes node.machine) (in_wires_of node) (out_wires_of node)) ei ∙ (ap (λ x. make i x (in_wires_of node) (out_wires_of node)) eo ∙ (ap (λ x. make i o x (out_wires_of node)) ew ∙ ap (λ x. make i o ins x) ev))
+      ap (λ x. make x (view node.machine).out_lanes (in_wires_of node) (out_wires_of node)) ei ∙ (ap (λ x. make i x (in_wires_of node) (out_wires_of node)) eo ∙ (ap (λ x. make i o x (out_wires_of node)) ew ∙ ap (λ x. make i o ins x) ev))
 
-  module _ (chain : Chain M) (ns : Chain (Node M)) (are : AreNodes in_lanes source fault stands chain ns) (has : HasLanes in_lanes out_lanes lanes chain) where
+  module _ (chain : Chain M) (ns : Chain (Node M)) (are : AreNodes view chain ns) (has : HasLanes view lanes chain) where
     pub row_of : (tasks : ℕ → Task) → IsRow tasks (listed ns)
     row_of tasks =
-        let a = same_part (tasks 0) ns.first [] (lanes.first ∷ []) [] (0 ∷ []) (ap in_lanes are.first_is.machine_is ∙ has.first_ins) (ap out_lanes are.first_is.machine_is ∙ has.first_outs) are.first_is.ins_are are.first_is.outs_are in
-        let b = same_part (tasks 1) ns.second (lanes.first ∷ []) (lanes.second ∷ []) (0 ∷ []) (1 ∷ []) (ap in_lanes are.second_is.machine_is ∙ has.second_ins) (ap out_lanes are.second_is.machine_is ∙ has.second_outs) are.second_is.ins_are are.second_is.outs_are in
-        let c = same_part (tasks 2) ns.third (lanes.second ∷ []) (lanes.third ∷ []) (1 ∷ []) (2 ∷ []) (ap in_lanes are.third_is.machine_is ∙ has.third_ins) (ap out_lanes are.third_is.machine_is ∙ has.third_outs) are.third_is.ins_are are.third_is.outs_are in
-        let d = same_part (tasks 3) ns.last (lanes.third ∷ []) [] (2 ∷ []) [] (ap in_lanes are.last_is.machine_is ∙ has.last_ins) (ap out_lanes are.last_is.machine_is ∙ has.last_outs) are.last_is.ins_are are.last_is.outs_are in
+        let a = same_part (tasks 0) ns.first [] (lanes.first ∷ []) [] (0 ∷ []) (ap (λ m. (view m).in_lanes) are.first_is.machine_is ∙ has.first_ins) (ap (λ m. (view m).out_lanes) are.first_is.machine_is ∙ has.first_outs) are.first_is.ins_are are.first_is.outs_are in
+        let b = same_part (tasks 1) ns.second (lanes.first ∷ []) (lanes.second ∷ []) (0 ∷ []) (1 ∷ []) (ap (λ m. (view m).in_lanes) are.second_is.machine_is ∙ has.second_ins) (ap (λ m. (view m).out_lanes) are.second_is.machine_is ∙ has.second_outs) are.second_is.ins_are are.second_is.outs_are in
+        let c = same_part (tasks 2) ns.third (lanes.second ∷ []) (lanes.third ∷ []) (1 ∷ []) (2 ∷ []) (ap (λ m. (view m).in_lanes) are.third_is.machine_is ∙ has.third_ins) (ap (λ m. (view m).out_lanes) are.third_is.machine_is ∙ has.third_outs) are.third_is.ins_are are.third_is.outs_are in
+        let d = same_part (tasks 3) ns.last (lanes.third ∷ []) [] (2 ∷ []) [] (ap (λ m. (view m).in_lanes) are.last_is.machine_is ∙ has.last_ins) (ap (λ m. (view m).out_lanes) are.last_is.machine_is ∙ has.last_outs) are.last_is.ins_are are.last_is.outs_are in
         cc (a, b, c, d)
 
-    pub starts_at : (tasks : ℕ → Task) → Start stands tasks chain → (k : ℕ) (d : Node M) → k < length (listed ns) → (past : Past) × NodeStands in_lanes source fault stands (slice_index_or (listed ns) k d) (λ w. fresh) past × (past.task ≡ tasks k)
+    pub starts_at : (tasks : ℕ → Task) → Start view tasks chain → (k : ℕ) (d : Node M) → k < length (listed ns) → (past : Past) × NodeStands view (slice_index_or (listed ns) k d) (λ w. fresh) past × (past.task ≡ tasks k)
     starts_at tasks s zero d lt = (start (tasks 0), are.first_is.starts (tasks 0) s.first, refl)
     starts_at tasks s (suc zero) d lt = (start (tasks 1), are.second_is.starts (tasks 1) s.second, refl)
     starts_at tasks s (suc (suc zero)) d lt = (start (tasks 2), are.third_is.starts (tasks 2) s.third, refl)
@@ -268,13 +270,13 @@ module _ {M : Type 0} (in_lanes out_lanes : M → List Lane) (source : M → Opt
     starts_at tasks s (suc (suc (suc (suc k)))) d lt = absurd (omega (arith, lt))
 
     -- nothing is on the wires yet
-    pub net_at_start : (tasks : ℕ → Task) → Start stands tasks chain → (xs : List (Node M)) → xs ≡ listed ns → (wires : Wires) → Stand wires (λ w. fresh) → NetStands in_lanes source fault stands tasks xs wires
+    pub net_at_start : (tasks : ℕ → Task) → Start view tasks chain → (xs : List (Node M)) → xs ≡ listed ns → (wires : Wires) → Stand wires (λ w. fresh) → NetStands view tasks xs wires
     net_at_start tasks s xs is wires stand =
-        subst (λ (ys : List (Node M)). NetStands in_lanes source fault stands tasks ys wires) (sym is) (record { world = λ w. fresh; stand = stand; each = starts_at tasks s })
+        subst (λ (ys : List (Node M)). NetStands view tasks ys wires) (sym is) (record { world = λ w. fresh; stand = stand; each = starts_at tasks s })
 
   -- the four nodes afterwards, as a list
   module _ (tasks : ℕ → Task) (end : Chain (Node M)) (row : IsRow tasks (listed end)) where
-    pub chain_lanes : HasLanes in_lanes out_lanes lanes (machines_of end)
+    pub chain_lanes : HasLanes view lanes (machines_of end)
     chain_lanes =
         let at_in = in_lanes_is tasks (listed end) row in
         let at_out = out_lanes_is tasks (listed end) row in
@@ -289,30 +291,25 @@ module _ {M : Type 0} (in_lanes out_lanes : M → List Lane) (source : M → Opt
           last_outs = at_out 3 end.first (omega arith);
         }
 
-    pub chain_part : (world : ℕ → Wire) → EachStands tasks (listed end) world
-        → ((k : ℕ) (d : Node M) (w : ℕ) → k < length (listed end) → IsIn w (in_wires_of (slice_index_or (listed end) k d)) → LiesBelow (opened (world w).taken) (solve (parts_of in_lanes out_lanes tasks (listed end)) w))
-        → FedPart stands tasks (machines_of end)
-    chain_part world each below =
-        let p = last_part tasks (listed end) row end.last refl world each (λ w i. below 3 end.last w (omega arith) i) in
+    pub chain_part : (begun : List (Node M)) (world : ℕ → Wire) → EachStands tasks (listed end) world → MeetsSolution view tasks begun (listed end) world → FedPart view tasks (machines_of end)
+    chain_part begun world each m =
+        let p = last_part tasks (listed end) row end.last refl world each (λ w i. m.below 3 end.last w (omega arith) i) in
         record { past = p.0; machine = p.1; task_is = p.2; got = p.3 }
 
-    pub chain_all : Settled stands (tasks 3) (parts_of in_lanes out_lanes tasks (listed end)) end.last → FedAll stands tasks (machines_of end)
+    pub chain_all : Settled view (tasks 3) (parts_of view tasks (listed end)) end.last → FedAll view tasks (machines_of end)
     chain_all s =
         let p = last_all tasks (listed end) row end.last refl s in
         record { past = p.0; machine = p.1; task_is = p.2; got = p.3; whole = p.4 }
 
     -- the first fault is the cause of the solution's streams
-    pub chain_cause : (f : NodeFault) → FirstFault fault (listed end) (Some f) → IsOfInputs f.fault
-        → ((k : ℕ) (d : Node M) → k < length (listed end) → ((j : ℕ) (e : Node M) → j < k → IsSound fault (slice_index_or (listed end) j e)) → (c : Fault) → fault (machine_of (slice_index_or (listed end) k d)) ≡ Some c → IsOfInputs c
-        → (tasks k).cause (map (solve (parts_of in_lanes out_lanes tasks (listed end))) (in_wires_of (slice_index_or (listed end) k d))) ≡ Some c)
-        → (tasks f.node).cause (inputs_of tasks f.node) ≡ Some f.fault
-    chain_cause f h i cause =
+    pub chain_cause : (begun : List (Node M)) (world : ℕ → Wire) → MeetsSolution view tasks begun (listed end) world → (f : NodeFault) → FirstFault view (listed end) (Some f) → IsOfInputs f.fault → (tasks f.node).cause (inputs_of tasks f.node) ≡ Some f.fault
+    chain_cause begun world m f h i =
         let lt : f.node < 4 = h.0 in
         ap (λ ss. (tasks f.node).cause ss) (sym (row_inputs tasks (listed end) row f.node end.first lt))
-        ∙ cause f.node end.first h.0 h.1 f.fault (h.2 end.first (of_inputs f.fault i)) i
+        ∙ m.cause f.node end.first h.0 h.1 f.fault (h.2 end.first (of_inputs f.fault i)) i
 
-module _ {M : Type 0} (fault : M → Option Fault) (end : Chain (Node M)) where
-  pub chain_sound : FirstFault fault (listed end) None → AreSound fault (machines_of end)
+module _ {M : Type 0} (view : M → View) (end : Chain (Node M)) where
+  pub chain_sound : FirstFault view (listed end) None → AreSound view (machines_of end)
   chain_sound h = record {
     first_sound = (h 0 end.first (omega arith)).1;
     second_sound = (h 1 end.first (omega arith)).1;
@@ -327,27 +324,27 @@ module _ {M : Type 0} (fault : M → Option Fault) (end : Chain (Node M)) where
   at_number (suc (suc (suc zero))) lt = refl
   at_number (suc (suc (suc (suc k)))) lt = absurd (omega (arith, lt))
 
-  pub chain_fault : (f : NodeFault) → FirstFault fault (listed end) (Some f) → (f.node < 4) × (f.fault ≢ NoMemory → fault (machine_at (machines_of end) f.node) ≡ Some f.fault)
-  chain_fault f h = (h.0, λ n. ap fault (sym (at_number f.node h.0)) ∙ h.2 end.first n)
+  pub chain_fault : (f : NodeFault) → FirstFault view (listed end) (Some f) → (f.node < 4) × (f.fault ≢ NoMemory → (view (machine_at (machines_of end) f.node)).fault ≡ Some f.fault)
+  chain_fault f h = (h.0, λ n. ap (λ m. (view m).fault) (sym (at_number f.node h.0)) ∙ h.2 end.first n)
 
   abbrev found_at : ℕ → Fault → Option NodeFault
   found_at node c = Some (record { node = node; fault = c })
 
   -- a fault of the first machine is the first fault
-  pub chain_first : (found : Option NodeFault) → FirstFault fault (listed end) found → (c : Fault) → fault (machine_of end.first) ≡ Some c → found ≡ Some (record { node = 0; fault = c })
+  pub chain_first : (found : Option NodeFault) → FirstFault view (listed end) found → (c : Fault) → (view (machine_of end.first)).fault ≡ Some c → found ≡ Some (record { node = 0; fault = c })
   chain_first None h c e = absurd (let no = sym (h 0 end.first (omega arith)).1 ∙ e in cc (no))
   chain_first (Some f) h c e = at f.node refl
     where
       at : (n : ℕ) → f.node ≡ n → Some f ≡ Some (record { node = 0; fault = c })
       at zero z =
-          let here : fault (machine_of (slice_index_or (listed end) f.node end.first)) ≡ Some c = ap (λ (k : ℕ). fault (machine_of (slice_index_or (listed end) k end.first))) z ∙ e in
+          let here : (view (machine_of (slice_index_or (listed end) f.node end.first))).fault ≡ Some c = ap (λ (k : ℕ). (view (machine_of (slice_index_or (listed end) k end.first))).fault) z ∙ e in
           let same : f.fault ≡ c = h.3 end.first c here in
           ap (λ (k : ℕ). found_at k f.fault) z ∙ ap (found_at 0) same
       at (suc n) z = absurd (let no = sym (h.1 0 end.first (omega (arith, z))).1 ∙ e in cc (no))
 
-module _ {M : Type 0} (device : M → Option (List ℕ)) (failures : M → ℕ) (fault : M → Option Fault) where
-  pub chain_fares : (start end : Chain (Node M)) → ((k : ℕ) (d : Node M) → k < length (listed start) → FaultStep device failures fault (machine_of (slice_index_or (listed start) k d)) (machine_of (slice_index_or (listed end) k d)))
-      → Fares device failures fault (machines_of start) (machines_of end)
+module _ {M : Type 0} (view : M → View) where
+  pub chain_fares : (start end : Chain (Node M)) → AllFare view (listed start) (listed end)
+      → Fares view (machines_of start) (machines_of end)
   chain_fares start end h = record {
     first = h 0 start.first (omega arith);
     second = h 1 start.first (omega arith);

@@ -6,6 +6,7 @@ use Rattle.ff_net.specs.declared.fault.Fault.{Fault}
 use Rattle.ff_net.specs.declared.node.Node.{Node}
 use Rattle.ff_net.specs.Pasts.{Past, Task, IsIn, start}
 use Rattle.ff_net.specs.Ways.{lane_at}
+use Rattle.ff_net.specs.Views.{View}
 use Rattle.ff_net.specs.Worlds.{fresh, lanes_of}
 use Rattle.ff_net.specs.Nodes.{NodeStands, HaveLanes, machine_of, in_wires_of, out_wires_of}
 use Rattle.ff_net_links.specs.declared.ends.InEnd.{InEnd}
@@ -58,27 +59,27 @@ moved_lanes : (ws ws' : List ℕ) (ports ports' lanes lanes' : List Lane) → ws
 moved_lanes ws ws' ports ports' lanes lanes' e f g h =
     subst (λ (vs : List ℕ). HaveLanes vs ports lanes) (sym e) (subst (λ (ls : List Lane). HaveLanes ws' ls lanes) (sym f) (subst (λ (ls : List Lane). HaveLanes ws' ports' ls) (sym g) h))
 
-module _ {M : Type 0} (in_lanes out_lanes : M → List Lane) (source : M → Option ℕ) (fault : M → Option Fault) (stands : M → Past → Type 0) where
+module _ {M : Type 0} (view : M → View) where
   -- a new node at these ports, before its ends are joined to it
-  module _ (claims : Bool) (lanes : List Lane) (taking : Option InEnd) (sending : Option OutEnd) (ports : Ports) (machine : M) (node : Node M) (h : ArePorts claims lanes taking sending ports) (apart : (w : ℕ) → IsIn w (in_ends_wires (at_most_one taking)) → IsIn w (out_ends_wires (at_most_one sending)) → ⊥) (hin : HaveLanes (in_ends_wires (at_most_one taking)) (in_lanes machine) lanes) (hout : HaveLanes (out_ends_wires (at_most_one sending)) (out_lanes machine) lanes) (ins_are : in_wires_of node ≡ ports.in_wires.items) (outs_are : out_wires_of node ≡ ports.out_wires.items) (machine_is : machine_of node ≡ machine) where
+  module _ (claims : Bool) (lanes : List Lane) (taking : Option InEnd) (sending : Option OutEnd) (ports : Ports) (machine : M) (node : Node M) (h : ArePorts claims lanes taking sending ports) (apart : (w : ℕ) → IsIn w (in_ends_wires (at_most_one taking)) → IsIn w (out_ends_wires (at_most_one sending)) → ⊥) (hin : HaveLanes (in_ends_wires (at_most_one taking)) (view machine).in_lanes lanes) (hout : HaveLanes (out_ends_wires (at_most_one sending)) (view machine).out_lanes lanes) (ins_are : in_wires_of node ≡ ports.in_wires.items) (outs_are : out_wires_of node ≡ ports.out_wires.items) (machine_is : machine_of node ≡ machine) where
     in_wires : in_wires_of node ≡ in_ends_wires (at_most_one taking)
     in_wires = ins_are ∙ h.in_wires_are
 
     out_wires : out_wires_of node ≡ out_ends_wires (at_most_one sending)
     out_wires = outs_are ∙ h.out_wires_are
 
-    pub ports_wired : AreWired in_lanes out_lanes node ports.wires ports.ins.items ports.outs.items
+    pub ports_wired : AreWired view node ports.wires ports.ins.items ports.outs.items
     ports_wired = record {
       shaped = record {
-        ins = moved_lanes (in_wires_of node) (in_ends_wires (at_most_one taking)) (in_lanes node.machine) (in_lanes machine) (lanes_of ports.wires) lanes in_wires (ap in_lanes machine_is) h.lanes_are hin;
-        outs = moved_lanes (out_wires_of node) (out_ends_wires (at_most_one sending)) (out_lanes node.machine) (out_lanes machine) (lanes_of ports.wires) lanes out_wires (ap out_lanes machine_is) h.lanes_are hout;
+        ins = moved_lanes (in_wires_of node) (in_ends_wires (at_most_one taking)) (view node.machine).in_lanes (view machine).in_lanes (lanes_of ports.wires) lanes in_wires (ap (λ m. (view m).in_lanes) machine_is) h.lanes_are hin;
+        outs = moved_lanes (out_wires_of node) (out_ends_wires (at_most_one sending)) (view node.machine).out_lanes (view machine).out_lanes (lanes_of ports.wires) lanes out_wires (ap (λ m. (view m).out_lanes) machine_is) h.lanes_are hout;
       };
       apart = λ w a b. apart w (subst (λ (ws : List ℕ). IsIn w ws) in_wires a) (subst (λ (ws : List ℕ). IsIn w ws) out_wires b);
       in_wires = ap in_ends_wires h.ins_are ∙ sym in_wires;
       out_wires = ap out_ends_wires h.outs_are ∙ sym out_wires;
     }
 
-    pub ports_begin : claims ≡ true → (task : Task) → NodeStands in_lanes source fault stands node (λ w. fresh) (start task) → IsBeginning in_lanes out_lanes source fault stands task node ports.wires ports.ins.items ports.outs.items
+    pub ports_begin : claims ≡ true → (task : Task) → NodeStands view node (λ w. fresh) (start task) → IsBeginning view task node ports.wires ports.ins.items ports.outs.items
     ports_begin vouched task new = record {
       shaped = ports_wired.shaped;
       apart = ports_wired.apart;
@@ -98,8 +99,8 @@ module _ {M : Type 0} (in_lanes out_lanes : M → List Lane) (source : M → Opt
   claims_nth claims (Some x) outs e all (suc q) d lt = absurd (let one : length outs ≡ 1 = ap length e in omega (arith, one, lt))
 
   -- a machine at new ports may be turned
-  pub linked_lawful : (claims : Bool) (lanes : List Lane) (taking : Option InEnd) (sending : Option OutEnd) (machine : M) (l : Linked M) → IsLinked in_lanes out_lanes source fault stands claims lanes taking sending machine l
-      → ((e : OutEnd) → sending ≡ Some e → claims_of e ≡ claims) → (claims ≡ true → (task : Task) × stands machine (start task)) → IsLawful in_lanes out_lanes source fault stands l
+  pub linked_lawful : (claims : Bool) (lanes : List Lane) (taking : Option InEnd) (sending : Option OutEnd) (machine : M) (l : Linked M) → IsLinked view claims lanes taking sending machine l
+      → ((e : OutEnd) → sending ≡ Some e → claims_of e ≡ claims) → (claims ≡ true → (task : Task) × (view machine).stands (start task)) → IsLawful view l
   linked_lawful claims lanes taking sending machine l h all starts = record {
     wired = h.wired;
     vouched = λ q d lt c.

@@ -8,7 +8,9 @@ use Rattle.ff_net.specs.declared.node.Node.{Node}
 use Rattle.ff_net.specs.Laws.{FaultStep, IsOfInputs}
 use Rattle.ff_net.specs.Nets.{IsUpward, solve}
 use Rattle.ff_net.specs.Pasts.{Past, Task, IsIn, no_events}
-use Rattle.ff_net.specs.Serial.{Moment, Settled, parts_of}
+use Rattle.ff_net.specs.Serial.{Moment, parts_of}
+use Rattle.ff_net.specs.Theorem.{AllFare, MeetsSolution}
+use Rattle.ff_net.specs.Views.{View}
 use Rattle.ff_net.specs.Worlds.{Wire}
 use Rattle.ff_net.specs.Nodes.{IsSound, IsDone, machine_of, outputs_of, in_wires_of, out_wires_of}
 use Rattle.ff_net_links.specs.declared.ends.InEnd.{InEnd}
@@ -22,7 +24,7 @@ use Rattle.ff_net_links.proofs.After.{behind_after, meeting_after}
 use Rattle.ff_path.specs.declared.chain.Chain.{Chain}
 use Rattle.ff_path.specs.declared.chain.Lanes.{Lanes}
 use Rattle.ff_path.specs.declared.chain.NodeFault.{NodeFault}
-use Rattle.ff_path.specs.Chains.{HasLanes, Start, Fares, FirstFault, FedPart, FedAll, inputs_of}
+use Rattle.ff_path.specs.Chains.{HasLanes, Start, Fares, FirstFault, FedPart, FedAll, MeetsInRow, inputs_of}
 use Rattle.ff_path.specs.Links.{AreLinkedUp, link_lanes}
 use Rattle.ff_path.proofs.ChainSteps.{listed, machines_of, IsRow, same_chain, same_part, row_upward, row_sink, chain_lanes, chain_part, chain_all, chain_cause, chain_fares}
 use Rattle.ff_path.proofs.NewLinks.{linked_lawful}
@@ -79,29 +81,20 @@ module _ (links : ℕ → Link) where
   out_one w s e zero d lt = ap (λ (k : Link). Some k) e
   out_one w s e (suc q) d lt = absurd (omega (arith, lt))
 
-module _ {M : Type 0} (in_lanes out_lanes : M → List Lane) (source : M → Option ℕ) (fault : M → Option Fault) (stands : M → Past → Type 0) where
+module _ {M : Type 0} (view : M → View) where
   -- what settling the links of these nodes shows
-  abbrev pub BelowClause : List (Linked M) → Type 0
-  BelowClause ls = (tasks : ℕ → Task) (ways : List Lane) → AllBehind in_lanes out_lanes source fault stands tasks ls → AreMeeting ways ls → length ways ≤ 3 → IsUpward [] (parts_of in_lanes out_lanes tasks (nodes_of ls))
-      → (world : ℕ → Wire) × Moment in_lanes out_lanes source fault stands tasks (nodes_of ls) ways world × ((k : ℕ) (d : Node M) (w : ℕ) → k < length (nodes_of ls) → IsIn w (in_wires_of (slice_index_or (nodes_of ls) k d)) → LiesBelow (opened (world w).taken) (solve (parts_of in_lanes out_lanes tasks (nodes_of ls)) w))
+  abbrev pub SolvedClause : List (Linked M) → Type 0
+  SolvedClause ls = (tasks : ℕ → Task) (ways : List Lane) (begun : List (Node M)) → AllBehind view tasks ls → AreMeeting ways ls → length ways ≤ 3 → IsUpward [] (parts_of view tasks (nodes_of ls)) → AllFare view begun (nodes_of ls)
+      → (world : ℕ → Wire) × Moment view tasks (nodes_of ls) ways world × MeetsSolution view tasks begun (nodes_of ls) world
 
-  abbrev pub SettledClause : List (Linked M) → Type 0
-  SettledClause ls = (tasks : ℕ → Task) (ways : List Lane) → AllBehind in_lanes out_lanes source fault stands tasks ls → AreMeeting ways ls → length ways ≤ 3 → IsUpward [] (parts_of in_lanes out_lanes tasks (nodes_of ls)) → ((k : ℕ) (d : Node M) → k < length (nodes_of ls) → IsSound fault (slice_index_or (nodes_of ls) k d))
-      → (k : ℕ) (d : Node M) → k < length (nodes_of ls) → IsDone (slice_index_or (nodes_of ls) k d) → outputs_of (slice_index_or (nodes_of ls) k d) ≡ 0 → Settled stands (tasks k) (parts_of in_lanes out_lanes tasks (nodes_of ls)) (slice_index_or (nodes_of ls) k d)
-
-  abbrev pub CauseClause : List (Linked M) → Type 0
-  CauseClause ls = (tasks : ℕ → Task) (ways : List Lane) → AllBehind in_lanes out_lanes source fault stands tasks ls → AreMeeting ways ls → length ways ≤ 3 → IsUpward [] (parts_of in_lanes out_lanes tasks (nodes_of ls))
-      → (k : ℕ) (d : Node M) → k < length (nodes_of ls) → ((j : ℕ) (e : Node M) → j < k → IsSound fault (slice_index_or (nodes_of ls) j e))
-      → (c : Fault) → fault (machine_of (slice_index_or (nodes_of ls) k d)) ≡ Some c → IsOfInputs c → (tasks k).cause (map (solve (parts_of in_lanes out_lanes tasks (nodes_of ls))) (in_wires_of (slice_index_or (nodes_of ls) k d))) ≡ Some c
-
-module _ {M : Type 0} (in_lanes out_lanes : M → List Lane) (source : M → Option ℕ) (device : M → Option (List ℕ)) (failures : M → ℕ) (fault : M → Option Fault) (stands : M → Past → Type 0) (claims : Bool) (size : ℕ) (lanes : Lanes) (chain : Chain M) (ls : Chain (Linked M)) (up : AreLinkedUp in_lanes out_lanes source fault stands claims size lanes chain ls) where
-  pub chain_lawful : (claims ≡ true → (tasks : ℕ → Task) × Start stands tasks chain) → AllLawful in_lanes out_lanes source device failures fault stands (listed ls)
+module _ {M : Type 0} (view : M → View) (claims : Bool) (size : ℕ) (lanes : Lanes) (chain : Chain M) (ls : Chain (Linked M)) (up : AreLinkedUp view claims size lanes chain ls) where
+  pub chain_lawful : (claims ≡ true → (tasks : ℕ → Task) × Start view tasks chain) → AllLawful view (listed ls)
   chain_lawful begin = record {
-    each = at_four (λ k l. IsLawful in_lanes out_lanes source fault stands l) ls
-        (linked_lawful in_lanes out_lanes source fault stands claims (link_lanes lanes) None (Some (new_out 0 up.s0)) chain.first ls.first up.first (claims_some claims 0 up.s0 up.link0.claims_are) (λ v. let b = begin v in (b.0 0, b.1.first)))
-        (linked_lawful in_lanes out_lanes source fault stands claims (link_lanes lanes) (Some (new_in 0 up.r0)) (Some (new_out 1 up.s1)) chain.second ls.second up.second (claims_some claims 1 up.s1 up.link1.claims_are) (λ v. let b = begin v in (b.0 1, b.1.second)))
-        (linked_lawful in_lanes out_lanes source fault stands claims (link_lanes lanes) (Some (new_in 1 up.r1)) (Some (new_out 2 up.s2)) chain.third ls.third up.third (claims_some claims 2 up.s2 up.link2.claims_are) (λ v. let b = begin v in (b.0 2, b.1.third)))
-        (linked_lawful in_lanes out_lanes source fault stands claims (link_lanes lanes) (Some (new_in 2 up.r2)) None chain.last ls.last up.last (claims_none claims) (λ v. let b = begin v in (b.0 3, b.1.last)));
+    each = at_four (λ k l. IsLawful view l) ls
+        (linked_lawful view claims (link_lanes lanes) None (Some (new_out 0 up.s0)) chain.first ls.first up.first (claims_some claims 0 up.s0 up.link0.claims_are) (λ v. let b = begin v in (b.0 0, b.1.first)))
+        (linked_lawful view claims (link_lanes lanes) (Some (new_in 0 up.r0)) (Some (new_out 1 up.s1)) chain.second ls.second up.second (claims_some claims 1 up.s1 up.link1.claims_are) (λ v. let b = begin v in (b.0 1, b.1.second)))
+        (linked_lawful view claims (link_lanes lanes) (Some (new_in 1 up.r1)) (Some (new_out 2 up.s2)) chain.third ls.third up.third (claims_some claims 2 up.s2 up.link2.claims_are) (λ v. let b = begin v in (b.0 2, b.1.third)))
+        (linked_lawful view claims (link_lanes lanes) (Some (new_in 2 up.r2)) None chain.last ls.last up.last (claims_none claims) (λ v. let b = begin v in (b.0 3, b.1.last)));
   }
 
   -- the links by number
@@ -166,62 +159,65 @@ module _ {M : Type 0} (in_lanes out_lanes : M → List Lane) (source : M → Opt
   )
 
   -- the same four after the run
-  module _ (now : Chain (Linked M)) (ran : AllRan in_lanes out_lanes source device failures fault stands (listed ls) (listed now)) (has : HasLanes in_lanes out_lanes lanes chain) where
+  module _ (now : Chain (Linked M)) (ran : AllRan view (listed ls) (listed now)) (has : HasLanes view lanes chain) where
     abbrev pub end : Chain (Node M)
     end = nodes_in now
 
-    one : (k : ℕ) → k < 4 → Follows in_lanes out_lanes source device failures fault stands (slice_index_or (listed ls) k ls.first) (slice_index_or (listed now) k ls.first)
+    one : (k : ℕ) → k < 4 → Follows view (slice_index_or (listed ls) k ls.first) (slice_index_or (listed now) k ls.first)
     one k lt = (ran.1 k ls.first lt).0
 
     -- each is the part that it was
-    pub chain_row : (tasks : ℕ → Task) → IsRow in_lanes out_lanes source fault stands lanes tasks (listed end)
+    pub chain_row : (tasks : ℕ → Task) → IsRow view lanes tasks (listed end)
     chain_row tasks =
         let f0 = one 0 (omega arith) in
         let f1 = one 1 (omega arith) in
         let f2 = one 2 (omega arith) in
         let f3 = one 3 (omega arith) in
-        let a = same_part in_lanes out_lanes source fault stands lanes (tasks 0) end.first [] (lanes.first ∷ []) [] (0 ∷ []) (f0.in_lanes_same ∙ (ap in_lanes up.first.machine_is ∙ has.first_ins)) (f0.out_lanes_same ∙ (ap out_lanes up.first.machine_is ∙ has.first_outs)) (f0.ins_same ∙ up.first.in_wires_are) (f0.outs_same ∙ up.first.out_wires_are) in
-        let b = same_part in_lanes out_lanes source fault stands lanes (tasks 1) end.second (lanes.first ∷ []) (lanes.second ∷ []) (0 ∷ []) (1 ∷ []) (f1.in_lanes_same ∙ (ap in_lanes up.second.machine_is ∙ has.second_ins)) (f1.out_lanes_same ∙ (ap out_lanes up.second.machine_is ∙ has.second_outs)) (f1.ins_same ∙ up.second.in_wires_are) (f1.outs_same ∙ up.second.out_wires_are) in
-        let c = same_part in_lanes out_lanes source fault stands lanes (tasks 2) end.third (lanes.second ∷ []) (lanes.third ∷ []) (1 ∷ []) (2 ∷ []) (f2.in_lanes_same ∙ (ap in_lanes up.third.machine_is ∙ has.third_ins)) (f2.out_lanes_same ∙ (ap out_lanes up.third.machine_is ∙ has.third_outs)) (f2.ins_same ∙ up.third.in_wires_are) (f2.outs_same ∙ up.third.out_wires_are) in
-        let d = same_part in_lanes out_lanes source fault stands lanes (tasks 3) end.last (lanes.third ∷ []) [] (2 ∷ []) [] (f3.in_lanes_same ∙ (ap in_lanes up.last.machine_is ∙ has.last_ins)) (f3.out_lanes_same ∙ (ap out_lanes up.last.machine_is ∙ has.last_outs)) (f3.ins_same ∙ up.last.in_wires_are) (f3.outs_same ∙ up.last.out_wires_are) in
+        let a = same_part view lanes (tasks 0) end.first [] (lanes.first ∷ []) [] (0 ∷ []) (f0.in_lanes_same ∙ (ap (λ m. (view m).in_lanes) up.first.machine_is ∙ has.first_ins)) (f0.out_lanes_same ∙ (ap (λ m. (view m).out_lanes) up.first.machine_is ∙ has.first_outs)) (f0.ins_same ∙ up.first.in_wires_are) (f0.outs_same ∙ up.first.out_wires_are) in
+        let b = same_part view lanes (tasks 1) end.second (lanes.first ∷ []) (lanes.second ∷ []) (0 ∷ []) (1 ∷ []) (f1.in_lanes_same ∙ (ap (λ m. (view m).in_lanes) up.second.machine_is ∙ has.second_ins)) (f1.out_lanes_same ∙ (ap (λ m. (view m).out_lanes) up.second.machine_is ∙ has.second_outs)) (f1.ins_same ∙ up.second.in_wires_are) (f1.outs_same ∙ up.second.out_wires_are) in
+        let c = same_part view lanes (tasks 2) end.third (lanes.second ∷ []) (lanes.third ∷ []) (1 ∷ []) (2 ∷ []) (f2.in_lanes_same ∙ (ap (λ m. (view m).in_lanes) up.third.machine_is ∙ has.third_ins)) (f2.out_lanes_same ∙ (ap (λ m. (view m).out_lanes) up.third.machine_is ∙ has.third_outs)) (f2.ins_same ∙ up.third.in_wires_are) (f2.outs_same ∙ up.third.out_wires_are) in
+        let d = same_part view lanes (tasks 3) end.last (lanes.third ∷ []) [] (2 ∷ []) [] (f3.in_lanes_same ∙ (ap (λ m. (view m).in_lanes) up.last.machine_is ∙ has.last_ins)) (f3.out_lanes_same ∙ (ap (λ m. (view m).out_lanes) up.last.machine_is ∙ has.last_outs)) (f3.ins_same ∙ up.last.in_wires_are) (f3.outs_same ∙ up.last.out_wires_are) in
         cc (a, b, c, d)
 
-    pub threads_fares : Fares device failures fault chain (machines_of end)
-    threads_fares =
-        let from : machines_of (nodes_in ls) ≡ chain = same_chain _ _ _ _ _ _ _ _ up.first.machine_is up.second.machine_is up.third.machine_is up.last.machine_is in
-        subst (λ (x : Chain M). Fares device failures fault x (machines_of end)) from
-        (chain_fares device failures fault (nodes_in ls) end (λ k d lt. at_four (λ k n. FaultStep device failures fault (machine_of (slice_index_or (listed (nodes_in ls)) k d)) (machine_of n)) end (one 0 (omega arith)).fares (one 1 (omega arith)).fares (one 2 (omega arith)).fares (one 3 (omega arith)).fares k d lt))
+    came : machines_of (nodes_in ls) ≡ chain
+    came = same_chain _ _ _ _ _ _ _ _ up.first.machine_is up.second.machine_is up.third.machine_is up.last.machine_is
 
-    behind : (tasks : ℕ → Task) → claims ≡ true → Start stands tasks chain → AllBehind in_lanes out_lanes source fault stands tasks (listed now)
-    behind tasks v s = behind_after in_lanes out_lanes source device failures fault stands tasks (listed ls) (listed now)
-        (at_four (λ k l. Behind in_lanes out_lanes source fault stands (tasks k) l) ls (up.first.starts v (tasks 0) s.first) (up.second.starts v (tasks 1) s.second) (up.third.starts v (tasks 2) s.third) (up.last.starts v (tasks 3) s.last)) ran
+    steps : AllFare view (listed (nodes_in ls)) (listed end)
+    steps k d lt = at_four (λ k n. FaultStep (view (machine_of (slice_index_or (listed (nodes_in ls)) k d))) (view (machine_of n))) end (one 0 (omega arith)).fares (one 1 (omega arith)).fares (one 2 (omega arith)).fares (one 3 (omega arith)).fares k d lt
+
+    pub threads_fares : Fares view chain (machines_of end)
+    threads_fares = subst (λ (x : Chain M). Fares view x (machines_of end)) came (chain_fares view (nodes_in ls) end steps)
+
+    behind : (tasks : ℕ → Task) → claims ≡ true → Start view tasks chain → AllBehind view tasks (listed now)
+    behind tasks v s = behind_after view tasks (listed ls) (listed now)
+        (at_four (λ k l. Behind view (tasks k) l) ls (up.first.starts v (tasks 0) s.first) (up.second.starts v (tasks 1) s.second) (up.third.starts v (tasks 2) s.third) (up.last.starts v (tasks 3) s.last)) ran
 
     meeting : AreMeeting (link_lanes lanes) (listed now)
-    meeting = meeting_after in_lanes out_lanes source device failures fault stands (link_lanes lanes) (listed ls) (listed now) joined ran
+    meeting = meeting_after view (link_lanes lanes) (listed ls) (listed now) joined ran
 
-    upward : (tasks : ℕ → Task) → IsUpward [] (parts_of in_lanes out_lanes tasks (nodes_of (listed now)))
-    upward tasks = row_upward in_lanes out_lanes source fault stands lanes tasks (listed end) (chain_row tasks)
+    upward : (tasks : ℕ → Task) → IsUpward [] (parts_of view tasks (nodes_of (listed now)))
+    upward tasks = row_upward view lanes tasks (listed end) (chain_row tasks)
 
-    pub threads_part : BelowClause in_lanes out_lanes source fault stands (listed now)
-        → claims ≡ true → (tasks : ℕ → Task) → Start stands tasks chain → FedPart stands tasks (machines_of end)
-    threads_part below v tasks s =
-        let z = below tasks (link_lanes lanes) (behind tasks v s) meeting (omega arith) (upward tasks) in
-        chain_part in_lanes out_lanes source fault stands lanes tasks end (chain_row tasks) z.0 z.1.each z.2
+    module _ (solved : SolvedClause view (listed now)) (v : claims ≡ true) (tasks : ℕ → Task) (s : Start view tasks chain) where
+      solution : (world : ℕ → Wire) × Moment view tasks (listed end) (link_lanes lanes) world × MeetsSolution view tasks (listed (nodes_in ls)) (listed end) world
+      solution = solved tasks (link_lanes lanes) (listed (nodes_in ls)) (behind tasks v s) meeting (omega arith) (upward tasks) steps
 
-    pub threads_all : SettledClause in_lanes out_lanes source fault stands (listed now)
-        → FirstFault fault (listed end) None → claims ≡ true → (tasks : ℕ → Task) → Start stands tasks chain → FedAll stands tasks (machines_of end)
-    threads_all settled none v tasks s =
-        let done : IsDone end.last = (ran.1 3 ls.first (omega arith)).1.node in
-        chain_all in_lanes out_lanes source fault stands lanes tasks end (chain_row tasks)
-        (settled tasks (link_lanes lanes) (behind tasks v s) meeting (omega arith) (upward tasks) none 3 end.last (omega arith) done (row_sink in_lanes out_lanes source fault stands lanes tasks (listed end) (chain_row tasks) end.last))
+      pub threads_solved : MeetsInRow view lanes tasks chain (machines_of end)
+      threads_solved = record { begun = listed (nodes_in ls); ended = listed end; world = solution.0; begun_are = ap (λ (x : Chain M). listed x) came; ended_are = refl; parts_are = chain_row tasks; meets = solution.2 }
 
-    pub threads_cause : CauseClause in_lanes out_lanes source fault stands (listed now)
-        → claims ≡ true → (f : NodeFault) → FirstFault fault (listed end) (Some f) → IsOfInputs f.fault → (tasks : ℕ → Task) → Start stands tasks chain → (tasks f.node).cause (inputs_of tasks f.node) ≡ Some f.fault
-    threads_cause cause v f first of tasks s =
-        chain_cause in_lanes out_lanes source fault stands lanes tasks end (chain_row tasks) f first of (cause tasks (link_lanes lanes) (behind tasks v s) meeting (omega arith) (upward tasks))
+      pub threads_part : FedPart view tasks (machines_of end)
+      threads_part = chain_part view lanes tasks end (chain_row tasks) (listed (nodes_in ls)) solution.0 solution.1.each solution.2
 
-    pub threads_lanes : HasLanes in_lanes out_lanes lanes (machines_of end)
-    threads_lanes = (let tasks : ℕ → Task = λ k. record { means = λ ss. []; cause = λ ss. None; source = false; tells = no_events } in chain_lanes in_lanes out_lanes source fault stands lanes tasks end (chain_row tasks))
+      pub threads_all : FirstFault view (listed end) None → FedAll view tasks (machines_of end)
+      threads_all none =
+          let done : IsDone end.last = (ran.1 3 ls.first (omega arith)).1.node in
+          chain_all view lanes tasks end (chain_row tasks) (solution.2.settled none 3 end.last (omega arith) done (row_sink view lanes tasks (listed end) (chain_row tasks) end.last))
+
+      pub threads_cause : (f : NodeFault) → FirstFault view (listed end) (Some f) → IsOfInputs f.fault → (tasks f.node).cause (inputs_of tasks f.node) ≡ Some f.fault
+      threads_cause f first of = chain_cause view lanes tasks end (chain_row tasks) (listed (nodes_in ls)) solution.0 solution.2 f first of
+
+    pub threads_lanes : HasLanes view lanes (machines_of end)
+    threads_lanes = (let tasks : ℕ → Task = λ k. record { means = λ ss. []; cause = λ ss. None; source = false; tells = no_events } in chain_lanes view lanes tasks end (chain_row tasks))
 
 -- the machines that came of four nodes
 pub same_machines : {M : Type 0} (machines : List M) (c : Chain M) (now : Chain (Linked M)) → machines ≡ listed c → ((k : ℕ) (d : Linked M) (e : M) → k < 4 → slice_index_or machines k e ≡ machine_of (node_of (slice_index_or (listed now) k d))) → c ≡ machines_of (nodes_in now)

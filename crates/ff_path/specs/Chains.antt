@@ -1,5 +1,5 @@
 -- Four machines in a row, each on a wire from the one before: what is on the wires.
-use Rattle.std.specs.Prelude.{◌≡◌, ◌≢◌, ℕ, zero, suc, ◌<◌, List, [], ◌∷◌, length, Option, None, Some, slice_index_or}
+use Rattle.std.specs.Prelude.{◌≡◌, ◌≢◌, ℕ, zero, suc, ◌<◌, List, [], ◌∷◌, length, map, Option, None, Some, slice_index_or}
 use Rattle.ff_frame.specs.declared.item.Lane.{Lane}
 use Rattle.ff_frame.specs.Stream.{LiesBelow, opened}
 use Rattle.ff_frame.specs.Ports.{stream_at, IsWhole}
@@ -14,7 +14,10 @@ use Rattle.ff_net.specs.Nodes.{IsSound, NodeStands, machine_of, in_wires_of, out
 use Rattle.ff_path.specs.declared.chain.NodeFault.{NodeFault}
 use Rattle.ff_path.specs.declared.chain.Chain.{Chain}
 use Rattle.ff_path.specs.declared.chain.Lanes.{Lanes}
-use Rattle.ff_net.specs.Worlds.{fresh}
+use Rattle.ff_net.specs.Serial.{parts_of}
+use Rattle.ff_net.specs.Theorem.{MeetsSolution}
+use Rattle.ff_net.specs.Worlds.{Wire, fresh}
+use Rattle.ff_net.specs.Views.{View}
 
 -- the four nodes, with these tasks
 abbrev pub nodes : (ℕ → Task) → Lanes → List Part
@@ -36,43 +39,43 @@ inputs_of tasks zero = []
 inputs_of tasks (suc k) = on_wire tasks k ∷ []
 
 -- the ports of the four machines have the lanes of the wires
-pub record HasLanes {M : Type 0} (in_lanes out_lanes : M → List Lane) (lanes : Lanes) (chain : Chain M) : Type 0 where
-  pub first_ins : in_lanes chain.first ≡ []
-  pub first_outs : out_lanes chain.first ≡ lanes.first ∷ []
-  pub second_ins : in_lanes chain.second ≡ lanes.first ∷ []
-  pub second_outs : out_lanes chain.second ≡ lanes.second ∷ []
-  pub third_ins : in_lanes chain.third ≡ lanes.second ∷ []
-  pub third_outs : out_lanes chain.third ≡ lanes.third ∷ []
-  pub last_ins : in_lanes chain.last ≡ lanes.third ∷ []
-  pub last_outs : out_lanes chain.last ≡ []
+pub record HasLanes {M : Type 0} (view : M → View) (lanes : Lanes) (chain : Chain M) : Type 0 where
+  pub first_ins : (view chain.first).in_lanes ≡ []
+  pub first_outs : (view chain.first).out_lanes ≡ lanes.first ∷ []
+  pub second_ins : (view chain.second).in_lanes ≡ lanes.first ∷ []
+  pub second_outs : (view chain.second).out_lanes ≡ lanes.second ∷ []
+  pub third_ins : (view chain.third).in_lanes ≡ lanes.second ∷ []
+  pub third_outs : (view chain.third).out_lanes ≡ lanes.third ∷ []
+  pub last_ins : (view chain.last).in_lanes ≡ lanes.third ∷ []
+  pub last_outs : (view chain.last).out_lanes ≡ []
 
 -- a node of this machine on these wires, on which nothing was done yet
-pub record IsNode {M : Type 0} (in_lanes : M → List Lane) (source : M → Option ℕ) (fault : M → Option Fault) (stands : M → Past → Type 0) (ins outs : List ℕ) (machine : M) (node : Node M) : Type 0 where
+pub record IsNode {M : Type 0} (view : M → View) (ins outs : List ℕ) (machine : M) (node : Node M) : Type 0 where
   pub ins_are : in_wires_of node ≡ ins
   pub outs_are : out_wires_of node ≡ outs
   pub machine_is : machine_of node ≡ machine
-  pub starts : (task : Task) → stands machine (start task) → NodeStands in_lanes source fault stands node (λ w. fresh) (start task)
+  pub starts : (task : Task) → (view machine).stands (start task) → NodeStands view node (λ w. fresh) (start task)
 
 -- the machines as nodes, each on the wire from the one before
-pub record AreNodes {M : Type 0} (in_lanes : M → List Lane) (source : M → Option ℕ) (fault : M → Option Fault) (stands : M → Past → Type 0) (chain : Chain M) (nodes : Chain (Node M)) : Type 0 where
-  pub first_is : IsNode in_lanes source fault stands [] (0 ∷ []) chain.first nodes.first
-  pub second_is : IsNode in_lanes source fault stands (0 ∷ []) (1 ∷ []) chain.second nodes.second
-  pub third_is : IsNode in_lanes source fault stands (1 ∷ []) (2 ∷ []) chain.third nodes.third
-  pub last_is : IsNode in_lanes source fault stands (2 ∷ []) [] chain.last nodes.last
+pub record AreNodes {M : Type 0} (view : M → View) (chain : Chain M) (nodes : Chain (Node M)) : Type 0 where
+  pub first_is : IsNode view [] (0 ∷ []) chain.first nodes.first
+  pub second_is : IsNode view (0 ∷ []) (1 ∷ []) chain.second nodes.second
+  pub third_is : IsNode view (1 ∷ []) (2 ∷ []) chain.third nodes.third
+  pub last_is : IsNode view (2 ∷ []) [] chain.last nodes.last
 
 -- nothing was done yet with the machines, and they are for these tasks
-pub record Start {M : Type 0} (stands : M → Past → Type 0) (tasks : ℕ → Task) (chain : Chain M) : Type 0 where
-  pub first : stands chain.first (start (tasks 0))
-  pub second : stands chain.second (start (tasks 1))
-  pub third : stands chain.third (start (tasks 2))
-  pub last : stands chain.last (start (tasks 3))
+pub record Start {M : Type 0} (view : M → View) (tasks : ℕ → Task) (chain : Chain M) : Type 0 where
+  pub first : (view chain.first).stands (start (tasks 0))
+  pub second : (view chain.second).stands (start (tasks 1))
+  pub third : (view chain.third).stands (start (tasks 2))
+  pub last : (view chain.last).stands (start (tasks 3))
 
 -- each machine keeps its source or sink, and has the fault of a device only where that failed
-pub record Fares {M : Type 0} (device : M → Option (List ℕ)) (failures : M → ℕ) (fault : M → Option Fault) (old new : Chain M) : Type 0 where
-  pub first : FaultStep device failures fault old.first new.first
-  pub second : FaultStep device failures fault old.second new.second
-  pub third : FaultStep device failures fault old.third new.third
-  pub last : FaultStep device failures fault old.last new.last
+pub record Fares {M : Type 0} (view : M → View) (old new : Chain M) : Type 0 where
+  pub first : FaultStep (view old.first) (view new.first)
+  pub second : FaultStep (view old.second) (view new.second)
+  pub third : FaultStep (view old.third) (view new.third)
+  pub last : FaultStep (view old.last) (view new.last)
 
 -- the machine of this number
 abbrev pub machine_at : {M : Type 0} → Chain M → ℕ → M
@@ -82,31 +85,41 @@ machine_at chain (suc (suc zero)) = chain.third
 machine_at chain (suc (suc (suc k))) = chain.last
 
 -- no machine has a fault
-pub record AreSound {M : Type 0} (fault : M → Option Fault) (chain : Chain M) : Type 0 where
-  pub first_sound : fault chain.first ≡ None
-  pub second_sound : fault chain.second ≡ None
-  pub third_sound : fault chain.third ≡ None
-  pub last_sound : fault chain.last ≡ None
+pub record AreSound {M : Type 0} (view : M → View) (chain : Chain M) : Type 0 where
+  pub first_sound : (view chain.first).fault ≡ None
+  pub second_sound : (view chain.second).fault ≡ None
+  pub third_sound : (view chain.third).fault ≡ None
+  pub last_sound : (view chain.last).fault ≡ None
 
 -- the first of some nodes with a fault, if one has: the fault is its machine's, where that has one, or want of memory
-abbrev pub FirstFault : {M : Type 0} → (M → Option Fault) → List (Node M) → Option NodeFault → Type 0
-FirstFault fault nodes None = (k : ℕ) (d : _) → k < length nodes → IsSound fault (slice_index_or nodes k d)
-FirstFault fault nodes (Some f) = (f.node < length nodes)
-    × ((j : ℕ) (d : _) → j < f.node → IsSound fault (slice_index_or nodes j d))
-    × ((d : _) → f.fault ≢ NoMemory → fault (machine_of (slice_index_or nodes f.node d)) ≡ Some f.fault)
-    × ((d : _) (c : Fault) → fault (machine_of (slice_index_or nodes f.node d)) ≡ Some c → f.fault ≡ c)
+abbrev pub FirstFault : {M : Type 0} → (M → View) → List (Node M) → Option NodeFault → Type 0
+FirstFault view nodes None = (k : ℕ) (d : _) → k < length nodes → IsSound view (slice_index_or nodes k d)
+FirstFault view nodes (Some f) = (f.node < length nodes)
+    × ((j : ℕ) (d : _) → j < f.node → IsSound view (slice_index_or nodes j d))
+    × ((d : _) → f.fault ≢ NoMemory → (view (machine_of (slice_index_or nodes f.node d))).fault ≡ Some f.fault)
+    × ((d : _) (c : Fault) → (view (machine_of (slice_index_or nodes f.node d))).fault ≡ Some c → f.fault ≡ c)
 
 -- the last machine was fed no more than is on the last wire
-pub record FedPart {M : Type 0} (stands : M → Past → Type 0) (tasks : ℕ → Task) (chain : Chain M) : Type 0 where
+pub record FedPart {M : Type 0} (view : M → View) (tasks : ℕ → Task) (chain : Chain M) : Type 0 where
   pub past : Past
-  pub machine : stands chain.last past
+  pub machine : (view chain.last).stands past
   pub task_is : past.task ≡ tasks 3
   pub got : LiesBelow (opened (stream_at past.got 0)) (on_wire tasks 2)
 
 -- the last machine was fed the last wire's stream, to its end
-pub record FedAll {M : Type 0} (stands : M → Past → Type 0) (tasks : ℕ → Task) (chain : Chain M) : Type 0 where
+pub record FedAll {M : Type 0} (view : M → View) (tasks : ℕ → Task) (chain : Chain M) : Type 0 where
   pub past : Past
-  pub machine : stands chain.last past
+  pub machine : (view chain.last).stands past
   pub task_is : past.task ≡ tasks 3
   pub got : stream_at past.got 0 ≡ on_wire tasks 2
   pub whole : IsWhole (on_wire tasks 2)
+
+-- nodes in a row, with the machines as they were and as they are, that meet the solution of the row
+pub record MeetsInRow {M : Type 0} (view : M → View) (lanes : Lanes) (tasks : ℕ → Task) (old new : Chain M) : Type 0 where
+  pub begun : List (Node M)
+  pub ended : List (Node M)
+  pub world : ℕ → Wire
+  pub begun_are : map machine_of begun ≡ old.first ∷ old.second ∷ old.third ∷ old.last ∷ []
+  pub ended_are : map machine_of ended ≡ new.first ∷ new.second ∷ new.third ∷ new.last ∷ []
+  pub parts_are : parts_of view tasks ended ≡ nodes tasks lanes
+  pub meets : MeetsSolution view tasks begun ended world

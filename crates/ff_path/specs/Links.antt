@@ -5,6 +5,7 @@ use Rattle.ff_link.specs.Views.{Sending, Receiving}
 use Rattle.ff_net.specs.declared.fault.Fault.{Fault}
 use Rattle.ff_net.specs.Pasts.{Past, Task, start}
 use Rattle.ff_net.specs.Ways.{lane_at}
+use Rattle.ff_net.specs.Views.{View}
 use Rattle.ff_net.specs.Worlds.{Stand, fresh, lanes_of, sizes_of}
 use Rattle.ff_net.specs.Nodes.{machine_of, in_wires_of, out_wires_of}
 use Rattle.ff_net_links.specs.declared.ends.InEnd.{InEnd}
@@ -87,7 +88,7 @@ pub record AreAllPorts (claims : Bool) (size : ℕ) (lanes : Lanes) (ports : Cha
   pub last : ArePorts claims (link_lanes lanes) (Some (new_in 2 r2)) None ports.last
 
 -- a machine at these ports, on wires of one item each, on which nothing was done yet
-pub record IsLinked {M : Type 0} (in_lanes out_lanes : M → List Lane) (source : M → Option ℕ) (fault : M → Option Fault) (stands : M → Past → Type 0) (claims : Bool) (lanes : List Lane) (taking : Option InEnd) (sending : Option OutEnd) (machine : M) (l : Linked M) : Type 0 where
+pub record IsLinked {M : Type 0} (view : M → View) (claims : Bool) (lanes : List Lane) (taking : Option InEnd) (sending : Option OutEnd) (machine : M) (l : Linked M) : Type 0 where
   pub lanes_are : lanes_on l ≡ lanes
   pub of_one : All (λ n. n ≡ 1) (sizes_of (wires_on l))
   pub in_wires_are : in_wires_of (node_of l) ≡ in_ends_wires (at_most_one taking)
@@ -95,11 +96,11 @@ pub record IsLinked {M : Type 0} (in_lanes out_lanes : M → List Lane) (source 
   pub ins_are : ins_of l ≡ at_most_one taking
   pub outs_are : outs_of l ≡ at_most_one sending
   pub machine_is : machine_of (node_of l) ≡ machine
-  pub wired : IsWired in_lanes out_lanes l
-  pub starts : claims ≡ true → (task : Task) → stands machine (start task) → Behind in_lanes out_lanes source fault stands task l
+  pub wired : IsWired view l
+  pub starts : claims ≡ true → (task : Task) → (view machine).stands (start task) → Behind view task l
 
 -- and each of four at its own, on links of this size
-pub record AreLinkedUp {M : Type 0} (in_lanes out_lanes : M → List Lane) (source : M → Option ℕ) (fault : M → Option Fault) (stands : M → Past → Type 0) (claims : Bool) (size : ℕ) (lanes : Lanes) (chain : Chain M) (linked : Chain (Linked M)) : Type 0 where
+pub record AreLinkedUp {M : Type 0} (view : M → View) (claims : Bool) (size : ℕ) (lanes : Lanes) (chain : Chain M) (linked : Chain (Linked M)) : Type 0 where
   pub s0 : Sending
   pub r0 : Receiving
   pub s1 : Sending
@@ -109,7 +110,7 @@ pub record AreLinkedUp {M : Type 0} (in_lanes out_lanes : M → List Lane) (sour
   pub link0 : AreEnds claims size lanes.first s0 r0
   pub link1 : AreEnds claims size lanes.second s1 r1
   pub link2 : AreEnds claims size lanes.third s2 r2
-  pub first : IsLinked in_lanes out_lanes source fault stands claims (link_lanes lanes) None (Some (new_out 0 s0)) chain.first linked.first
-  pub second : IsLinked in_lanes out_lanes source fault stands claims (link_lanes lanes) (Some (new_in 0 r0)) (Some (new_out 1 s1)) chain.second linked.second
-  pub third : IsLinked in_lanes out_lanes source fault stands claims (link_lanes lanes) (Some (new_in 1 r1)) (Some (new_out 2 s2)) chain.third linked.third
-  pub last : IsLinked in_lanes out_lanes source fault stands claims (link_lanes lanes) (Some (new_in 2 r2)) None chain.last linked.last
+  pub first : IsLinked view claims (link_lanes lanes) None (Some (new_out 0 s0)) chain.first linked.first
+  pub second : IsLinked view claims (link_lanes lanes) (Some (new_in 0 r0)) (Some (new_out 1 s1)) chain.second linked.second
+  pub third : IsLinked view claims (link_lanes lanes) (Some (new_in 1 r1)) (Some (new_out 2 s2)) chain.third linked.third
+  pub last : IsLinked view claims (link_lanes lanes) (Some (new_in 2 r2)) None chain.last linked.last

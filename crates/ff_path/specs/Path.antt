@@ -15,7 +15,7 @@ use Rattle.ff_parts.specs.Decoding.{decoded, dec_task}
 use Rattle.ff_parts.specs.Encoding.{coded_head, encoded, enc_task}
 use Rattle.ff_parts.specs.Muxing.{mux_task}
 use Rattle.ff_path.specs.Chains.{AreSound, HasLanes, Start}
-use Rattle.ff_parts.specs.Parts.{part_in_lanes, part_out_lanes, part_fault, part_device, part_failures, part_stands}
+use Rattle.ff_parts.specs.Parts.{part_view}
 
 -- what each of the four is there for, of an input with this head
 abbrev pub path_tasks : Codec → WavHead → List ℕ → ℕ → Task
@@ -34,10 +34,10 @@ coded codec head file = encoded codec head.head (decoded head.head (demux_of wav
 
 -- the four parts over this source and this sink, to which nothing was done yet
 pub record IsPath {S K : Type 0} (left : S → Option (List ℕ)) (named : S → Option (List ℕ)) (failed : S → ℕ) (holds : K → Option (List ℕ)) (called : K → Option (List ℕ)) (faults : K → ℕ) (codec : Codec) (head : WavHead) (src : S) (snk : K) (chain : Chain (Part S K)) : Type 0 where
-  pub lanes : HasLanes part_in_lanes part_out_lanes (path_lanes codec head.head) chain
-  pub sound : AreSound part_fault chain
-  pub source_name : part_device named called chain.first ≡ named src
-  pub source_failures : part_failures failed faults chain.first ≡ failed src
-  pub sink_name : part_device named called chain.last ≡ called snk
-  pub sink_failures : part_failures failed faults chain.last ≡ faults snk
-  pub starts : (file : List ℕ) → left src ≡ Some file → holds snk ≡ Some [] → Start (part_stands left holds) (path_tasks codec head file) chain
+  pub lanes : HasLanes (part_view left named failed holds called faults) (path_lanes codec head.head) chain
+  pub sound : AreSound (part_view left named failed holds called faults) chain
+  pub source_name : (part_view left named failed holds called faults chain.first).device ≡ named src
+  pub source_failures : (part_view left named failed holds called faults chain.first).failures ≡ failed src
+  pub sink_name : (part_view left named failed holds called faults chain.last).device ≡ called snk
+  pub sink_failures : (part_view left named failed holds called faults chain.last).failures ≡ faults snk
+  pub starts : (file : List ℕ) → left src ≡ Some file → holds snk ≡ Some [] → Start (part_view left named failed holds called faults) (path_tasks codec head file) chain

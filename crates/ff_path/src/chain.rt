@@ -6,7 +6,7 @@ ghost use Rattle.ff_net.specs.Pasts.{Task};
 ghost use Rattle.ff_net.specs.Worlds.{Stand, fresh, lanes_of, sizes_of};
 ghost use Rattle.ff_net.specs.declared.fault.Fault.{Fault};
 ghost use Rattle.ff_net.specs.declared.fault.Fault.TheVariants.{NoMemory};
-ghost use Rattle.ff_path.specs.Chains.{HasLanes, IsNode, AreNodes, Start, Fares, AreSound, FirstFault, FedPart, FedAll, machine_at, inputs_of};
+ghost use Rattle.ff_path.specs.Chains.{HasLanes, IsNode, AreNodes, Start, Fares, AreSound, FirstFault, FedPart, FedAll, MeetsInRow, machine_at, inputs_of};
 ghost use Rattle.ff_path.specs.declared.chain.NodeFault.{NodeFault};
 
 use ff_frame::Lane;
@@ -41,7 +41,7 @@ pub struct NodeFault {
 // The first node with a fault, and its fault.
 fn first_fault<M: Machine>(nodes: &[Node<M>]) -> Option<NodeFault>
     requires { length nodes.now < 2 ^ 32 }
-    ensures { FirstFault M.fault_of nodes.now result }
+    ensures { FirstFault M.view nodes.now result }
 {
     for k in 0..nodes.len() {
         if let Some(fault) = nodes[k].fault() {
@@ -56,7 +56,7 @@ fn first_fault<M: Machine>(nodes: &[Node<M>]) -> Option<NodeFault>
 
 // A machine on these wires.
 fn node<M: Machine>(alloc: Global, machine: M, ins: &[usize], outs: &[usize]) -> Result<Node<M>, M>
-    ensures node { IfOk result (IsNode M.in_lanes M.source_of M.fault_of M.stands ins.now outs.now machine) }
+    ensures node { IfOk result (IsNode M.view ins.now outs.now machine) }
     ensures back { IfErr result (λ m. m ≡ machine) }
 {
     let Ok(ins) = ins.to_vec(alloc) else {
@@ -70,7 +70,7 @@ fn node<M: Machine>(alloc: Global, machine: M, ins: &[usize], outs: &[usize]) ->
 
 // The machines as nodes on the wires 0, 1 and 2.
 fn nodes_of<M: Machine>(alloc: Global, chain: Chain<M>) -> Result<Chain<Node<M>>, Chain<M>>
-    ensures nodes { IfOk result (AreNodes M.in_lanes M.source_of M.fault_of M.stands chain) }
+    ensures nodes { IfOk result (AreNodes M.view chain) }
     ensures back { IfErr result (λ back. back ≡ chain) }
 {
     let Chain {
@@ -210,18 +210,19 @@ pub fn run_chain<R: Wait, M: Machine + Drop>(
     size: usize,
     order: &[usize],
 ) -> Result<Ran<M>, Chain<M>>
-    requires lanes { HasLanes M.in_lanes M.out_lanes lanes machines }
+    requires lanes { HasLanes M.view lanes machines }
     requires size { 1 ≤ size }
     requires order { (i : ℕ) (d : ℕ) → i < length order.now → slice_index_or order.now i d < 4 }
     ensures back { IfErr result (λ back. back ≡ machines) }
-    ensures fares { IfOk result (λ ran. Fares M.device_of M.failures M.fault_of machines ran.machines) }
-    ensures lanes { IfOk result (λ ran. HasLanes M.in_lanes M.out_lanes lanes ran.machines) }
-    ensures part { IfOk result (λ ran. (tasks : ℕ → Task) → Start M.stands tasks machines → FedPart M.stands tasks ran.machines) }
-    ensures all { IfOk result (λ ran. ran.fault ≡ None → (tasks : ℕ → Task) → Start M.stands tasks machines → FedAll M.stands tasks ran.machines) }
-    ensures sound { IfOk result (λ ran. ran.fault ≡ None → AreSound M.fault_of ran.machines) }
-    ensures first { IfOk result (λ ran. (c : Fault) → M.fault_of ran.machines.first ≡ Some c → ran.fault ≡ Some (record { node = 0; fault = c })) }
-    ensures fault { IfOk result (λ ran. (f : NodeFault) → ran.fault ≡ Some f → (f.node < 4) × (f.fault ≢ NoMemory → M.fault_of (machine_at ran.machines f.node) ≡ Some f.fault)) }
-    ensures cause { IfOk result (λ ran. (f : NodeFault) → ran.fault ≡ Some f → IsOfInputs f.fault → (tasks : ℕ → Task) → Start M.stands tasks machines
+    ensures fares { IfOk result (λ ran. Fares M.view machines ran.machines) }
+    ensures lanes { IfOk result (λ ran. HasLanes M.view lanes ran.machines) }
+    ensures solved { IfOk result (λ ran. (tasks : ℕ → Task) → Start M.view tasks machines → MeetsInRow M.view lanes tasks machines ran.machines) }
+    ensures part { IfOk result (λ ran. (tasks : ℕ → Task) → Start M.view tasks machines → FedPart M.view tasks ran.machines) }
+    ensures all { IfOk result (λ ran. ran.fault ≡ None → (tasks : ℕ → Task) → Start M.view tasks machines → FedAll M.view tasks ran.machines) }
+    ensures sound { IfOk result (λ ran. ran.fault ≡ None → AreSound M.view ran.machines) }
+    ensures first { IfOk result (λ ran. (c : Fault) → (M.view ran.machines.first).fault ≡ Some c → ran.fault ≡ Some (record { node = 0; fault = c })) }
+    ensures fault { IfOk result (λ ran. (f : NodeFault) → ran.fault ≡ Some f → (f.node < 4) × (f.fault ≢ NoMemory → (M.view (machine_at ran.machines f.node)).fault ≡ Some f.fault)) }
+    ensures cause { IfOk result (λ ran. (f : NodeFault) → ran.fault ≡ Some f → IsOfInputs f.fault → (tasks : ℕ → Task) → Start M.view tasks machines
         → (tasks f.node).cause (inputs_of tasks f.node) ≡ Some f.fault) }
 {
     let Ok(mut wires) = wires_of(alloc, lanes, size) else {

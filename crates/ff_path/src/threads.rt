@@ -9,7 +9,7 @@ ghost use Rattle.ff_net.specs.declared.fault.Fault.{Fault};
 ghost use Rattle.ff_net.specs.declared.fault.Fault.TheVariants.{NoMemory};
 ghost use Rattle.ff_net_links.specs.Nodes.{in_ends_wires, out_ends_wires, node_of};
 ghost use Rattle.ff_net_links.specs.Settling.{nodes_of};
-ghost use Rattle.ff_path.specs.Chains.{HasLanes, Start, Fares, AreSound, FirstFault, FedPart, FedAll, machine_at, inputs_of};
+ghost use Rattle.ff_path.specs.Chains.{HasLanes, Start, Fares, AreSound, FirstFault, FedPart, FedAll, MeetsInRow, machine_at, inputs_of};
 ghost use Rattle.ff_path.specs.Links.{AreEnds, MayBeIn, MayBeOut, ArePorts, AreAllPorts, IsLinked, AreLinkedUp, at_most_one, link_lanes};
 ghost use Rattle.ff_path.specs.declared.chain.NodeFault.{NodeFault};
 
@@ -152,7 +152,7 @@ fn all_ports<C: Claims>(
 // A machine at these ports.
 fn linked<M: Machine>(alloc: Global, machine: M, ports: Ports) -> Result<Linked<M>, M>
     ensures linked { IfOk result (λ l. (claims : _) (lanes : List Lane) (taking : _) (sending : _) → ArePorts claims lanes taking sending ports → ((w : ℕ) → IsIn w (in_ends_wires (at_most_one taking)) → IsIn w (out_ends_wires (at_most_one sending)) → ⊥)
-        → HaveLanes (in_ends_wires (at_most_one taking)) (M.in_lanes machine) lanes → HaveLanes (out_ends_wires (at_most_one sending)) (M.out_lanes machine) lanes → IsLinked M.in_lanes M.out_lanes M.source_of M.fault_of M.stands claims lanes taking sending machine l) }
+        → HaveLanes (in_ends_wires (at_most_one taking)) (M.view machine).in_lanes lanes → HaveLanes (out_ends_wires (at_most_one sending)) (M.view machine).out_lanes lanes → IsLinked M.view claims lanes taking sending machine l) }
     ensures machine { IfOk result (λ l. machine_of (node_of l) ≡ machine) }
     ensures back { IfErr result (λ m. m ≡ machine) }
 {
@@ -175,7 +175,7 @@ fn linked_up<M: Machine + Drop>(
     chain: Chain<M>,
     ports: Chain<Ports>,
 ) -> Result<Chain<Linked<M>>, Chain<M>>
-    ensures linked { IfOk result (λ linked. (claims : _) (size : ℕ) (lanes : _) → AreAllPorts claims size lanes ports → HasLanes M.in_lanes M.out_lanes lanes chain → AreLinkedUp M.in_lanes M.out_lanes M.source_of M.fault_of M.stands claims size lanes chain linked) }
+    ensures linked { IfOk result (λ linked. (claims : _) (size : ℕ) (lanes : _) → AreAllPorts claims size lanes ports → HasLanes M.view lanes chain → AreLinkedUp M.view claims size lanes chain linked) }
     ensures back { IfErr result (λ back. back ≡ chain) }
 {
     let Chain {
@@ -241,9 +241,9 @@ pub fn link_chain<C: Claims, M: Machine + Drop>(
     lanes: &Lanes,
     size: usize,
 ) -> Result<Chain<Linked<M>>, Chain<M>>
-    requires lanes { HasLanes M.in_lanes M.out_lanes lanes.now machines }
+    requires lanes { HasLanes M.view lanes.now machines }
     requires size { (1 ≤ size) × (size ≤ 1024) }
-    ensures linked { IfOk result (λ linked. AreLinkedUp M.in_lanes M.out_lanes M.source_of M.fault_of M.stands C.claims size lanes.now machines linked) }
+    ensures linked { IfOk result (λ linked. AreLinkedUp M.view C.claims size lanes.now machines linked) }
     ensures back { IfErr result (λ back. back ≡ machines) }
 {
     match all_ports::<C>(alloc, lanes, size) {
@@ -255,7 +255,7 @@ pub fn link_chain<C: Claims, M: Machine + Drop>(
 // The first node with a fault, and its fault.
 fn first_fault<M: Machine>(nodes: &[Linked<M>]) -> Option<NodeFault>
     requires { length nodes.now < 2 ^ 32 }
-    ensures { FirstFault M.fault_of (nodes_of nodes.now) result }
+    ensures { FirstFault M.view (nodes_of nodes.now) result }
 {
     for k in 0..nodes.len() {
         if let Some(fault) = nodes[k].fault() {
@@ -280,18 +280,19 @@ pub fn run_chain_in_threads<C: Claims, R: Threads + Wait + Sync, M: Machine + Se
     lanes: &Lanes,
     size: usize,
 ) -> Result<Ran<M>, Chain<M>>
-    requires lanes { HasLanes M.in_lanes M.out_lanes lanes.now machines }
+    requires lanes { HasLanes M.view lanes.now machines }
     requires size { (1 ≤ size) × (size ≤ 1024) }
-    requires start { C.claims ≡ true → (tasks : ℕ → Task) × Start M.stands tasks machines }
+    requires start { C.claims ≡ true → (tasks : ℕ → Task) × Start M.view tasks machines }
     ensures back { IfErr result (λ back. back ≡ machines) }
-    ensures fares { IfOk result (λ ran. Fares M.device_of M.failures M.fault_of machines ran.machines) }
-    ensures lanes { IfOk result (λ ran. HasLanes M.in_lanes M.out_lanes lanes.now ran.machines) }
-    ensures part { IfOk result (λ ran. C.claims ≡ true → (tasks : ℕ → Task) → Start M.stands tasks machines → FedPart M.stands tasks ran.machines) }
-    ensures all { IfOk result (λ ran. C.claims ≡ true → ran.fault ≡ None → (tasks : ℕ → Task) → Start M.stands tasks machines → FedAll M.stands tasks ran.machines) }
-    ensures sound { IfOk result (λ ran. ran.fault ≡ None → AreSound M.fault_of ran.machines) }
-    ensures first { IfOk result (λ ran. (c : Fault) → M.fault_of ran.machines.first ≡ Some c → ran.fault ≡ Some (record { node = 0; fault = c })) }
-    ensures fault { IfOk result (λ ran. (f : NodeFault) → ran.fault ≡ Some f → (f.node < 4) × (f.fault ≢ NoMemory → M.fault_of (machine_at ran.machines f.node) ≡ Some f.fault)) }
-    ensures cause { IfOk result (λ ran. C.claims ≡ true → (f : NodeFault) → ran.fault ≡ Some f → IsOfInputs f.fault → (tasks : ℕ → Task) → Start M.stands tasks machines
+    ensures fares { IfOk result (λ ran. Fares M.view machines ran.machines) }
+    ensures lanes { IfOk result (λ ran. HasLanes M.view lanes.now ran.machines) }
+    ensures solved { IfOk result (λ ran. C.claims ≡ true → (tasks : ℕ → Task) → Start M.view tasks machines → MeetsInRow M.view lanes.now tasks machines ran.machines) }
+    ensures part { IfOk result (λ ran. C.claims ≡ true → (tasks : ℕ → Task) → Start M.view tasks machines → FedPart M.view tasks ran.machines) }
+    ensures all { IfOk result (λ ran. C.claims ≡ true → ran.fault ≡ None → (tasks : ℕ → Task) → Start M.view tasks machines → FedAll M.view tasks ran.machines) }
+    ensures sound { IfOk result (λ ran. ran.fault ≡ None → AreSound M.view ran.machines) }
+    ensures first { IfOk result (λ ran. (c : Fault) → (M.view ran.machines.first).fault ≡ Some c → ran.fault ≡ Some (record { node = 0; fault = c })) }
+    ensures fault { IfOk result (λ ran. (f : NodeFault) → ran.fault ≡ Some f → (f.node < 4) × (f.fault ≢ NoMemory → (M.view (machine_at ran.machines f.node)).fault ≡ Some f.fault)) }
+    ensures cause { IfOk result (λ ran. C.claims ≡ true → (f : NodeFault) → ran.fault ≡ Some f → IsOfInputs f.fault → (tasks : ℕ → Task) → Start M.view tasks machines
         → (tasks f.node).cause (inputs_of tasks f.node) ≡ Some f.fault) }
 {
     let Ok(room) = Room::new(alloc, 4, 3) else {

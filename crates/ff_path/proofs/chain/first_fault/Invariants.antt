@@ -4,4 +4,4 @@ use Rattle.ff_net.specs.Nodes.{IsSound}
 use Rattle.ff_path.proofs.chain.first_fault.Given as goal
 
 abbrev pub invariant-loop-k : goal.invariant-loop-k
-invariant-loop-k g l = record { before : (j : ℕ) (d : Node g.row.M.Denot) → j < l.k → IsSound g.M.Machine.fault_of (slice_index_or l.nodes j d) }
+invariant-loop-k g l = record { before : (j : ℕ) (d : Node g.row.M.Denot) → j < l.k → IsSound g.M.Machine.view (slice_index_or l.nodes j d) }

@@ -9,10 +9,10 @@ use Rattle.ff_path.proofs.threads.first_fault.Goals as goal
 
 pub loop-k-preserved : goal.loop-k-preserved
 loop-k-preserved g c =
-    let fault = g.M.Machine.fault_of in
+    let view = g.M.Machine.view in
     let k = c.loop-k.k in
     let nodes = c.args.nodes.now in
-    let here : IsSound fault (node_of c.index-nodes-k.result) = c.fault.ensures.sound (search rules) in
-    let at : (d : Node g.row.M.Denot) → IsSound fault (slice_index_or (nodes_of nodes) k d) = λ d.
-    subst (λ (n : Node g.row.M.Denot). IsSound fault n) (sym (nodes_at nodes k d c.index-nodes-k.result (search rules) ∙ ap (λ (l : Linked g.row.M.Denot). node_of l) (sym c.index-nodes-k.is))) here in
-    record { before = λ j d lt. each_next (λ n. IsSound fault (slice_index_or (nodes_of nodes) n d)) k (λ i l. c.loop-k.invariant.before i d l) (at d) j lt }
+    let here : IsSound view (node_of c.index-nodes-k.result) = c.fault.ensures.sound (search rules) in
+    let at : (d : Node g.row.M.Denot) → IsSound view (slice_index_or (nodes_of nodes) k d) = λ d.
+    subst (λ (n : Node g.row.M.Denot). IsSound view n) (sym (nodes_at nodes k d c.index-nodes-k.result (search rules) ∙ ap (λ (l : Linked g.row.M.Denot). node_of l) (sym c.index-nodes-k.is))) here in
+    record { before = λ j d lt. each_next (λ n. IsSound view (slice_index_or (nodes_of nodes) n d)) k (λ i l. c.loop-k.invariant.before i d l) (at d) j lt }

@@ -6,7 +6,7 @@ use Rattle.ff_path.proofs.threads.linked.Goals as goal
 
 pub returns-in-Ok-clause-linked : goal.returns-in-Ok-clause-linked
 returns-in-Ok-clause-linked g c claims lanes taking sending h apart hin hout =
-    let m = g.M.Machine in
+    let view = g.M.Machine.view in
     let n = c.in-Ok.ensures in
     let made = c.new-in-Ok.ensures in
     let node = c.in-Ok.node in
@@ -18,6 +18,6 @@ returns-in-Ok-clause-linked g c claims lanes taking sending h apart hin hout =
       ins_are = made.ins ∙ h.ins_are;
       outs_are = made.outs ∙ h.outs_are;
       machine_is = ap (λ (x : Node g.row.M.Denot). machine_of x) made.node ∙ n.machine;
-      wired = made.wired (ports_wired m.in_lanes m.out_lanes m.source_of m.fault_of m.stands claims lanes taking sending c.args.ports c.args.machine node h apart hin hout n.ins n.outs n.machine);
-      starts = λ vouched task s. made.lawful task (ports_begin m.in_lanes m.out_lanes m.source_of m.fault_of m.stands claims lanes taking sending c.args.ports c.args.machine node h apart hin hout n.ins n.outs n.machine vouched task (n.fresh task s));
+      wired = made.wired (ports_wired view claims lanes taking sending c.args.ports c.args.machine node h apart hin hout n.ins n.outs n.machine);
+      starts = λ vouched task s. made.lawful task (ports_begin view claims lanes taking sending c.args.ports c.args.machine node h apart hin hout n.ins n.outs n.machine vouched task (n.fresh task s));
     }
