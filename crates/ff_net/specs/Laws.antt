@@ -1,5 +1,5 @@
 -- The laws of a machine, and their words.
-use Rattle.std.specs.Prelude.{◌≡◌, ◌≢◌, ℕ, ◌<◌, ◌≤◌, ◌⊎◌, ◌+◌, ◌-◌, ◌^◌, min, List, [], length, Option, None, Some, is_some, IsSome}
+use Rattle.std.specs.Prelude.{◌≡◌, ◌≢◌, ℕ, ◌<◌, ◌≤◌, ◌⊎◌, ◌+◌, ◌-◌, ◌^◌, min, List, [], map, length, take, Option, None, Some, is_some, IsSome}
 use mathlib.Core.List.{IsPrefix}
 use Rattle.ff_frame.specs.declared.item.Lane.{Lane}
 use Rattle.ff_frame.specs.Stream.{still_open}
@@ -7,7 +7,7 @@ use Rattle.ff_frame.specs.Ports.{stream_at, AllBelow, AllUnbroken, IsMonotone, I
 use Rattle.ff_net.specs.declared.fault.Fault.{Fault}
 use Rattle.ff_net.specs.declared.fault.Fault.TheVariants.{Device, Damaged, TooLong, TooLarge, NoMemory}
 use Rattle.ff_net.specs.Ways.{Flow, AreValid}
-use Rattle.ff_net.specs.Pasts.{Past, IsIn, no_events, due}
+use Rattle.ff_net.specs.Pasts.{Past, IsIn, no_events, due, cut_to}
 use Rattle.ff_net.specs.Views.{View}
 
 -- a count that has come from before to now has risen, or stands at its last value
@@ -85,6 +85,10 @@ IsSilent past = (past.task.tells ≡ no_events) × (past.told ≡ [])
 abbrev pub AllAsked : ℕ → Past → Type 0
 AllAsked outputs past = (q : ℕ) → IsPending outputs past q → IsIn q past.asked
 
+-- the places of the tickets under which a source has tried a unit: a front of those that it was allowed
+abbrev pub reads_of : View → Past → List ℕ
+reads_of v past = take v.tried (map (λ t. t.place) past.allowed)
+
 -- what each machine owes, by its view: for each past that can be behind it
 pub record Laws (v : View) : Type 0 where
   -- a source's past is a source's
@@ -119,3 +123,7 @@ pub record Laws (v : View) : Type 0 where
   pub told : (past : Past) → v.stands past → IsPrefix past.told (past.task.tells past.feeds)
   -- a source without a fault that has a pending output holds no ticket once each had nothing to give
   pub ticket_used : (past : Past) (q : ℕ) → v.stands past → IsSome v.source → v.fault ≡ None → IsPending (length v.out_lanes) past q → AllAsked (length v.out_lanes) past → v.holds → ⊥
+  -- it tried a unit under no more tickets than it was allowed
+  pub tried_allowed : (past : Past) → v.stands past → v.tried ≤ length past.allowed
+  -- and a source gave no more than the units that it tried, or the end that it found in place of one
+  pub tried_units : (past : Past) → v.stands past → IsSome v.source → AllBelow past.gave (map (cut_to v.tried) (past.task.means past.got))

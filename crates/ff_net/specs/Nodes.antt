@@ -61,6 +61,14 @@ in_wire_of node p = (in_at node.ins.items p).wire
 abbrev pub HasFinished : {M : Type 0} → Node M → ℕ → Type 0
 HasFinished node p = (in_at node.ins.items p).done ≡ true
 
+-- the wire of an output
+abbrev pub out_wire_of : {M : Type 0} → Node M → ℕ → ℕ
+out_wire_of node q = (out_at node.outs.items q).wire
+
+-- nothing more goes on an output
+abbrev pub IsOver : {M : Type 0} → Node M → ℕ → Type 0
+IsOver node q = (out_at node.outs.items q).done ≡ true
+
 -- the node has no fault
 abbrev pub IsSound : {M : Type 0} → (M → View) → Node M → Type 0
 IsSound view node = (node.refused ≡ false) × ((view node.machine).fault ≡ None)

@@ -17,6 +17,8 @@ pub record View : Type 1 where
   pub failures : ℕ
   -- it holds a ticket
   pub holds : Type 0
+  -- of a source: under how many of its tickets, from the first on, it has tried a unit
+  pub tried : ℕ
   -- nothing more of an input can matter
   pub spent : ℕ → Type 0
   -- it can be where it is after this past

@@ -4,7 +4,7 @@ ghost use Rattle.ff_net.specs.declared.wires.Wires.{Wires};
 ghost use Rattle.ff_net.specs.Ports.{in_at, out_at, AreDone, SomeHeld, NoneHeld};
 ghost use Rattle.ff_net.specs.Nodes.{IsShaped, IsSound, IsSame};
 ghost use Rattle.ff_net.specs.Steps.{Stepped, Acts, Readies};
-ghost use Rattle.ff_net.specs.Worlds.{IsFull, IsEmpty};
+ghost use Rattle.ff_net.specs.Worlds.{Wire, Stand, IsFull, IsEmpty};
 
 use crate::machine::Machine;
 use crate::node::Node;
@@ -60,6 +60,22 @@ impl<M: Machine> Node<M> {
             moved = moved | sent;
         }
         moved
+    }
+
+    /// Stops each output whose receiver has finished, and says whether it stopped one.
+    pub(crate) fn stop_all(&mut self, wires: &Wires) -> bool
+        requires shaped { IsShaped M.view self.old wires.now }
+        ensures stepped { Stepped M.view (Acts (result ≡ true) (Unit {0})) self.old wires.now self.new wires.now }
+        ensures same { result ≡ false → self.new ≡ self.old }
+        ensures stops { (world : ℕ → Wire) → Stand wires.now world → (q : ℕ) → q < length self.old.outs.items → (world (out_at self.old.outs.items q).wire).finished ≡ true → (out_at self.new.outs.items q).done ≡ true }
+    {
+        let mut stopped = false;
+        let count = self.outs.len();
+        for p in 0..count {
+            let here = self.stop_at(wires, p);
+            stopped = stopped | here;
+        }
+        stopped
     }
 
     /// Takes from each input, and says whether something moved.

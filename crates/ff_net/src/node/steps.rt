@@ -4,7 +4,7 @@ ghost use Rattle.ff_net.specs.declared.wires.Wires.{Wires};
 ghost use Rattle.ff_net.specs.Ports.{in_at, out_at, AreDone};
 ghost use Rattle.ff_net.specs.Nodes.{IsShaped, IsSound, IsSame};
 ghost use Rattle.ff_net.specs.Steps.{Stepped, Acts, Readies, Grants};
-ghost use Rattle.ff_net.specs.Worlds.{IsFull, IsEmpty};
+ghost use Rattle.ff_net.specs.Worlds.{Wire, Stand, IsFull, IsEmpty};
 
 use crate::machine::Machine;
 use crate::node::Node;
@@ -112,6 +112,27 @@ impl<M: Machine> Node<M> {
                 true
             }
         }
+    }
+
+    /// Stops an output whose receiver has finished, and says whether it did.
+    pub(crate) fn stop_at(&mut self, wires: &Wires, p: usize) -> bool
+        requires shaped { IsShaped M.view self.old wires.now }
+        requires there { p < length self.old.outs.items }
+        ensures stepped { Stepped M.view (Acts (result ≡ true) (Unit {0})) self.old wires.now self.new wires.now }
+        ensures same { result ≡ false → self.new ≡ self.old }
+        ensures ins { self.new.ins ≡ self.old.ins }
+        ensures others { (q : ℕ) → q ≢ p → out_at self.new.outs.items q ≡ out_at self.old.outs.items q }
+        ensures stops { (world : ℕ → Wire) → Stand wires.now world → (world (out_at self.old.outs.items p).wire).finished ≡ true → (out_at self.new.outs.items p).done ≡ true }
+    {
+        if out_done(&self.outs, p) {
+            return false;
+        }
+        if !wires.is_finished(out_wire(&self.outs, p)) {
+            return false;
+        }
+        self.machine.stop(p);
+        close_out(&mut self.outs, p, true);
+        true
     }
 
     /// Takes an item from a wire, and feeds it.

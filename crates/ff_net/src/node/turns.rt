@@ -4,10 +4,10 @@ ghost use Rattle.ff_frame.specs.Ports.{IsClosed};
 ghost use Rattle.ff_net.specs.declared.wires.Wires.{Wires};
 ghost use Rattle.ff_net.specs.Pasts.{Past};
 ghost use Rattle.ff_net.specs.Ports.{in_at, out_at, SomeHeld, NoneHeld};
-ghost use Rattle.ff_net.specs.Nodes.{IsShaped, IsSound, IsDone, NodeStands, HasFinished, machine_of, inputs_of, in_wire_of};
-ghost use Rattle.ff_net.specs.Steps.{Stepped, Fills, Prepares, Turns};
+ghost use Rattle.ff_net.specs.Nodes.{IsShaped, IsSound, IsDone, NodeStands, HasFinished, IsOver, machine_of, inputs_of, outputs_of, in_wire_of, out_wire_of};
+ghost use Rattle.ff_net.specs.Steps.{Stepped, Acts, Fills, Prepares, Turns};
 ghost use Rattle.ff_net.specs.Turns.{Waits, Answers};
-ghost use Rattle.ff_net.specs.Worlds.{Wire};
+ghost use Rattle.ff_net.specs.Worlds.{Wire, Stand};
 
 use crate::machine::Machine;
 use crate::node::{Node, Turn};
@@ -102,6 +102,25 @@ impl<M: Machine> Node<M> {
         let acted = self.act(wires);
         let closed = self.close_all(wires);
         turn_of(self.is_done(), acted | closed)
+    }
+
+    /// Stops each output whose receiver has finished, and finishes each input that matters no more then. It says whether
+    /// something moved.
+    pub fn stop_finished(&mut self, wires: &mut Wires) -> bool
+        requires shaped { IsShaped M.view self.old wires.old }
+        ensures stepped { Stepped M.view (Acts (result ≡ true) (Unit {0})) self.old wires.old self.new wires.new }
+        ensures same { result ≡ false → (self.new ≡ self.old) × (wires.new ≡ wires.old) }
+        ensures stops { (world : ℕ → Wire) → Stand wires.old world → (q : ℕ) → q < outputs_of self.old → (world (out_wire_of self.old q)).finished ≡ true → IsOver self.new q }
+        ensures closed { result ≡ true → (world : ℕ → Wire) (past : Past) → NodeStands M.view self.new world past → (p : ℕ) → p < inputs_of self.new → IsClosed (world (in_wire_of self.new p)).taken → HasFinished self.new p }
+        ensures spent { result ≡ true → (p : ℕ) → p < inputs_of self.new → (M.view (machine_of self.new)).spent p → HasFinished self.new p }
+        ensures faulty { result ≡ true → (IsSound M.view self.new → ⊥) → (p : ℕ) → p < inputs_of self.new → HasFinished self.new p }
+    {
+        let stopped = self.stop_all(wires);
+        if !stopped {
+            return false;
+        }
+        let _closed = self.close_all(wires);
+        true
     }
 }
 
