@@ -2,12 +2,18 @@
 use Rattle.std.proofs.Common.{◌≡◌, ◌≢◌, ℕ, zero, suc, ◌<◌, ◌⊎◌, inl, inr, Bool, true, false, ◌||◌, List, [], ◌∷◌, ◌++◌, length, slice_index_or, slice_set, refl, ap, sym, ◌∙◌, subst, Option, None, Some, is_some, get_or-set_other}
 use Rattle.ff_frame.specs.declared.item.Item.{Item}
 use Rattle.ff_frame.specs.Items.{Closes}
+use Rattle.ff_frame.specs.Order.{closed_below}
+use Rattle.ff_frame.specs.Ports.{IsClosed}
+use Rattle.ff_link.specs.Sendings.{stream_of}
+use Rattle.ff_net.specs.Ways.{Flow}
+use Rattle.ff_net.proofs.PortSteps.{out_wire_at}
 use Rattle.ff_link.specs.Views.{Sending, Receiving}
 use Rattle.ff_net.specs.declared.node.Node.{Node}
 use Rattle.ff_net.specs.declared.ports.InPort.{InPort}
+use Rattle.ff_net.specs.declared.ports.OutPort.{OutPort}
 use Rattle.ff_net.specs.declared.wires.Wires.{Wires}
 use Rattle.ff_net.specs.Pasts.{Task}
-use Rattle.ff_net.specs.Ports.{in_at, in_wires}
+use Rattle.ff_net.specs.Ports.{in_at, in_wires, out_at}
 use Rattle.ff_net.specs.Worlds.{Wire, Stand}
 use Rattle.ff_net.specs.Nodes.{IsDone}
 use Rattle.ff_net.specs.Steps.{Moves, Stepped}
@@ -21,7 +27,7 @@ use Rattle.ff_net_links.specs.declared.ends.OutEnd.{OutEnd}
 use Rattle.ff_net_links.specs.declared.linked.Linked.{Linked}
 use Rattle.ff_net_links.specs.Ends.{taken_in, taken_of, in_end_at}
 use Rattle.ff_net_links.specs.Nodes.{Behind}
-use Rattle.ff_net_links.proofs.Linking.{in_nth, count_map}
+use Rattle.ff_net_links.proofs.Linking.{in_nth, out_nth, count_map}
 use Rattle.ff_net_links.specs.Turns.{TakesOneAtMost, InMoves, took, ended as in_ended, laid, InRests, Shuts, SendsOneAtMost, OutMoves, sent as was_sent, ended as out_ended, lifted, OutRests, HasMoved, at_input, at_output, at_node, at_end}
 
 some_none : {A : Type 0} (o : Option A) (x : A) → o ≡ Some x → o ≡ None → ⊥
@@ -216,24 +222,63 @@ module _ {M : Type 0} (view : M → View) where
         (subst (λ (w : Wires). Stepped view (λ a p b q. IsIdle view turned.node w b q) old.node old.wires turned.node w) (sym wires)
         (stepped_then view (λ a p b q. Unit {0}) (λ a p b q. IsIdle view turned.node turned.wires b q) (λ a p b q. IsIdle view turned.node turned.wires b q) old.node old.wires drawn.node drawn.wires turned.node turned.wires (λ a p b q c r x y u i. i) filled step))
 
+  -- where the receiver of a link has finished, or a closing item was sent, nothing more goes on the node's output
+  pub stop_port : (poured last : Linked M) (task : Task) → Behind view task poured → Behind view task last → last.outs.items ≡ poured.outs.items → ((world : ℕ → Wire) → Stand poured.wires world → (q : ℕ) → q < length poured.node.outs.items → (world (out_at poured.node.outs.items q).wire).finished ≡ true → (out_at last.node.outs.items q).done ≡ true)
+      → (q : ℕ) (d : OutEnd) → q < length last.node.outs.items → (slice_index_or last.outs.items q d).done ≡ true → (out_at last.node.outs.items q).done ≡ true
+  stop_port poured last task b a same stops q d lt done =
+      let was : OutEnd = slice_index_or poured.outs.items q d in
+      let now : OutEnd = slice_index_or last.outs.items q d in
+      let here : q < length last.outs.items = subst (λ (n : ℕ). q < n) (ends_count last a) lt in
+      let there : q < length poured.outs.items = subst (λ (es : List OutEnd). q < length es) same here in
+      elim ((b.outs q d there).done (subst (λ (es : List OutEnd). (slice_index_or es q d).done ≡ true) same done)) [
+        | inl closed ↦
+            let sent : IsClosed (stream_of now.sender.sent) = subst (λ (es : List OutEnd). IsClosed (stream_of (slice_index_or es q d).sender.sent)) (sym same) closed in
+            let taken : IsClosed (a.world now.wire).taken = subst (λ (r : Flow). IsClosed r) (closed_below (stream_of now.sender.sent) (a.world now.wire).taken (a.outs q d here).below sent) sent in
+            let put : IsClosed (a.world now.wire).sent = subst (λ (r : Flow). IsClosed r) (closed_below (a.world now.wire).taken (a.world now.wire).sent (a.stand.ordered now.wire) taken) taken in
+            over (out_at last.node.outs.items q).done refl (subst (λ (w : ℕ). IsClosed (a.world w).sent) (end_wire last a here) put)
+        | inr told ↦
+            stops b.world b.stand q (subst (λ (n : ℕ). q < n) (sym (ends_count poured b)) there) (subst (λ (w : ℕ). (b.world w).finished ≡ true) (end_wire poured b there) told.1)
+      ]
+    where
+      ends_count : (l : Linked M) → Behind view task l → length l.node.outs.items ≡ length l.outs.items
+      ends_count l s = sym (count_map (λ (x : OutPort). x.wire) l.node.outs.items) ∙ (ap length (sym s.wired.out_wires) ∙ count_map (λ (x : OutEnd). x.wire) l.outs.items)
+
+      end_wire : (l : Linked M) → Behind view task l → q < length l.outs.items → (slice_index_or l.outs.items q d).wire ≡ (out_at l.node.outs.items q).wire
+      end_wire l s less = sym (out_nth l.outs.items q d less) ∙ (ap (λ (ws : List ℕ). slice_index_or ws q 0) s.wired.out_wires ∙ out_wire_at l.node.outs.items q)
+
+      over : (o : Bool) → (out_at last.node.outs.items q).done ≡ o → IsClosed (a.world (out_at last.node.outs.items q).wire).sent → (out_at last.node.outs.items q).done ≡ true
+      over true is c = is
+      over false is c = absurd (c ((a.fits.outs q lt).unclosed is))
+
+  -- what a node has that moved after it was turned, or did not
+  pub after_stop : (P : Node M → Type 0) (turned poured stopped last : Linked M) (stops : Bool) → poured.node ≡ turned.node → last.node ≡ stopped.node → (stops ≡ false → stopped.node ≡ poured.node) → P turned.node → (stops ≡ true → P stopped.node) → P last.node
+  after_stop P turned poured stopped last true pour shut still was now = subst P (sym shut) (now refl)
+  after_stop P turned poured stopped last false pour shut still was now = subst P (sym (shut ∙ (still refl ∙ pour))) was
+
   -- what moved in a turn, by its parts
-  pub moved_of : (old drawn turned last : Linked M) (draws turns pours shuts : Bool) → last.node ≡ turned.node → ((p : ℕ) → Shuts (in_end_at drawn.ins.items p) (in_end_at last.ins.items p)) → ((p : ℕ) → TakesOneAtMost (in_end_at old.ins.items p) (in_end_at drawn.ins.items p))
+  pub moved_of : (old drawn turned stopped last : Linked M) (draws turns pours stops shuts : Bool) → last.node ≡ stopped.node → (stops ≡ false → stopped.node ≡ turned.node) → ((p : ℕ) → Shuts (in_end_at drawn.ins.items p) (in_end_at last.ins.items p)) → ((p : ℕ) → TakesOneAtMost (in_end_at old.ins.items p) (in_end_at drawn.ins.items p))
       → (draws ≡ true → (p : ℕ) × InMoves (in_end_at old.ins.items p) (in_end_at drawn.ins.items p))
       → (draws ≡ false → ((p : ℕ) → InRests (in_end_at old.ins.items p) (in_end_at drawn.ins.items p)) × Stepped view (λ a p b q. Unit {0}) old.node old.wires drawn.node drawn.wires)
+      → Stepped view (λ a p b q. Unit {0}) drawn.node drawn.wires turned.node turned.wires
       → (turns ≡ true → Stepped view (λ a p b q. Moves a b p q) drawn.node drawn.wires turned.node turned.wires ⊎ ((IsDone old.node → ⊥) × IsDone turned.node))
       → (pours ≡ true → (q : ℕ) × ((d : OutEnd) → OutMoves (slice_index_or old.outs.items q d) (slice_index_or last.outs.items q d)))
+      → (pours ≡ false → stops ≡ true → Stepped view (λ a p b q. Moves a b p q) turned.node turned.wires stopped.node stopped.wires)
       → (shuts ≡ true → (p : ℕ) × InMoves (in_end_at drawn.ins.items p) (in_end_at last.ins.items p))
-      → (((draws || turns) || pours) || shuts) ≡ true → HasMoved view old last
-  moved_of old drawn turned last true turns pours shuts node ends takes draw rest turn pour shut e =
+      → ((((draws || turns) || pours) || stops) || shuts) ≡ true → HasMoved view old last
+  moved_of old drawn turned stopped last true turns pours stops shuts node kept ends takes draw rest step turn pour stop shut e =
       let h = draw refl in
       at_input h.0 (moves_shuts (in_end_at old.ins.items h.0) (in_end_at drawn.ins.items h.0) (in_end_at last.ins.items h.0) h.1 (ends h.0))
-  moved_of old drawn turned last false true pours shuts node ends takes draw rest turn pour shut e =
+  moved_of old drawn turned stopped last false turns true stops shuts node kept ends takes draw rest step turn pour stop shut e = let h = pour refl in at_output h.0 h.1
+  moved_of old drawn turned stopped last false turns false true shuts node kept ends takes draw rest step turn pour stop shut e =
+      node_moved old turned stopped last
+      (stepped_then view (λ a p b q. Unit {0}) (λ a p b q. Unit {0}) (λ a p b q. Unit {0}) old.node old.wires drawn.node drawn.wires turned.node turned.wires (λ a p b q c r x y u m. tt) (rest refl).1 step)
+      node (stop refl refl)
+  moved_of old drawn turned stopped last false true false false shuts node kept ends takes draw rest step turn pour stop shut e =
       elim (turn refl) [
-        | inl s ↦ node_moved old drawn turned last (rest refl).1 node s
-        | inr d ↦ at_end d.0 (subst (λ (n : Node M). IsDone n) (sym node) d.1)
+        | inl s ↦ node_moved old drawn turned last (rest refl).1 (node ∙ kept refl) s
+        | inr d ↦ at_end d.0 (subst (λ (n : Node M). IsDone n) (sym (node ∙ kept refl)) d.1)
       ]
-  moved_of old drawn turned last false false true shuts node ends takes draw rest turn pour shut e = let h = pour refl in at_output h.0 h.1
-  moved_of old drawn turned last false false false shuts node ends takes draw rest turn pour shut e =
+  moved_of old drawn turned stopped last false false false false shuts node kept ends takes draw rest step turn pour stop shut e =
       let h = shut e in
       let o : InEnd = in_end_at old.ins.items h.0 in
       let d : InEnd = in_end_at drawn.ins.items h.0 in

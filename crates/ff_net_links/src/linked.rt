@@ -6,7 +6,7 @@ ghost use Rattle.ff_net_links.specs.declared.ends.OutEnd.{OutEnd};
 ghost use Rattle.ff_net_links.specs.Nodes.{Follows, IsLawful, HasEnded, Behind, IsBeginning, AreWired, IsWired, node_of, wires_on, lanes_on, ins_of, outs_of};
 ghost use Rattle.ff_net_links.specs.Turns.{TakesOneAtMost, InMoves, InRests, Shuts, SendsOneAtMost, OutMoves, OutRests, IsWaiting, HasMoved, HasRested};
 ghost use Rattle.ff_net.specs.declared.fault.Fault.{Fault};
-ghost use Rattle.ff_net.specs.Nodes.{IsSound, IsDone, NodeStands, HasFinished, machine_of, inputs_of, in_wire_of};
+ghost use Rattle.ff_net.specs.Nodes.{IsSound, IsDone, NodeStands, HasFinished, IsOver, machine_of, inputs_of, outputs_of, in_wire_of, out_wire_of};
 ghost use Rattle.ff_net.specs.Pasts.{Past, Task};
 ghost use Rattle.ff_net.specs.Steps.{Stepped, Moves, Fills, IsDue};
 ghost use Rattle.ff_net.specs.Turns.{IsIdle};
@@ -287,6 +287,7 @@ impl<M: Machine> Linked<M> {
         ensures follows { Follows M.view self.old self.new }
         ensures ins { self.new.ins ≡ self.old.ins }
         ensures outs { self.new.outs ≡ self.old.outs }
+        ensures stepped { Stepped M.view (λ a p b q. Unit {0}) self.old.node self.old.wires self.new.node self.new.wires }
         ensures moved { result ≡ true → Stepped M.view (λ a p b q. Moves a b p q) self.old.node self.old.wires self.new.node self.new.wires ⊎ ((was_done ≡ false) × IsDone self.new.node) }
         ensures still { result ≡ false → Stepped M.view (λ a p b q. IsIdle M.view self.new.node self.new.wires b q) self.old.node self.old.wires self.new.node self.new.wires ⊎ (was_done ≡ true) }
         ensures closed { (world : ℕ → Wire) (past : Past) → NodeStands M.view self.new.node world past → (p : ℕ) → p < inputs_of self.new.node → IsClosed (world (in_wire_of self.new.node p)).taken → HasFinished self.new.node p }
@@ -300,9 +301,26 @@ impl<M: Machine> Linked<M> {
         }
     }
 
+    // Stops each output of the node whose link's receiver has finished, and says whether something moved.
+    fn stop_finished(&mut self) -> bool
+        requires { IsLawful M.view self.old }
+        ensures follows { Follows M.view self.old self.new }
+        ensures ins { self.new.ins ≡ self.old.ins }
+        ensures outs { self.new.outs ≡ self.old.outs }
+        ensures moved { result ≡ true → Stepped M.view (λ a p b q. Moves a b p q) self.old.node self.old.wires self.new.node self.new.wires }
+        ensures still { result ≡ false → (self.new.node ≡ self.old.node) × (self.new.wires ≡ self.old.wires) }
+        ensures stops { (world : ℕ → Wire) → Stand self.old.wires world → (q : ℕ) → q < outputs_of self.old.node → (world (out_wire_of self.old.node q)).finished ≡ true → IsOver self.new.node q }
+        ensures closed { result ≡ true → (world : ℕ → Wire) (past : Past) → NodeStands M.view self.new.node world past → (p : ℕ) → p < inputs_of self.new.node → IsClosed (world (in_wire_of self.new.node p)).taken → HasFinished self.new.node p }
+        ensures spent { result ≡ true → (p : ℕ) → p < inputs_of self.new.node → (M.view (machine_of self.new.node)).spent p → HasFinished self.new.node p }
+        ensures faulty { result ≡ true → (IsSound M.view self.new.node → ⊥) → (p : ℕ) → p < inputs_of self.new.node → HasFinished self.new.node p }
+    {
+        self.node.stop_finished(&mut self.wires)
+    }
+
     /// One turn: at most one item is taken from each link and one put on each. Nothing is taken from a link where an item
-    /// is due, or while an output waits for room. At its end the link of each input that the node has finished is
-    /// finished too: where its closing item was taken, it is spent, or the node has a fault.
+    /// is due, or while an output waits for room. At its end each output that was told that its receiver has finished is
+    /// stopped, and the link of each input that the node has finished is finished too: where its closing item was taken, it
+    /// is spent, or the node has a fault.
     pub fn turn<R: Wait>(&mut self, rt: &R) -> Turn
         requires lawful { IsLawful M.view self.old }
         ensures follows { Follows M.view self.old self.new }
@@ -317,14 +335,16 @@ impl<M: Machine> Linked<M> {
         ensures closed { (world : ℕ → Wire) (past : Past) → NodeStands M.view (node_of self.new) world past → (p : ℕ) → p < inputs_of (node_of self.new) → IsClosed (world (in_wire_of (node_of self.new) p)).taken → HasFinished (node_of self.new) p }
         ensures spent { (p : ℕ) → p < inputs_of (node_of self.new) → (M.view (machine_of (node_of self.new))).spent p → HasFinished (node_of self.new) p }
         ensures faulty { (IsSound M.view (node_of self.new) → ⊥) → (p : ℕ) → p < inputs_of (node_of self.new) → HasFinished (node_of self.new) p }
+        ensures stopped { (task : Task) → Behind M.view task self.old → (q : ℕ) (d : OutEnd) → q < outputs_of (node_of self.new) → (slice_index_or (outs_of self.new) q d).done ≡ true → IsOver (node_of self.new) q }
         ensures shut { (task : Task) → Behind M.view task self.old → (p : ℕ) → p < inputs_of (node_of self.new) → HasFinished (node_of self.new) p → (in_end_at (ins_of self.new) p).taking ≡ None }
     {
         let was_done = self.node.is_done();
         let drawn = self.draw_if_free(rt);
         let turned = self.turn_node(was_done);
         let poured = self.pour_all(rt);
+        let stopped = self.stop_finished();
         let shut = self.shut_ends(rt);
-        turn_of(self.is_done(), drawn | turned | poured | shut)
+        turn_of(self.is_done(), drawn | turned | poured | stopped | shut)
     }
 }
 

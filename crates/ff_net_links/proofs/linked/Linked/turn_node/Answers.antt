@@ -17,3 +17,12 @@ returns-in-Moved-clause-moved g c t = let view = g.M.Machine.view in inl (steppe
 
 pub returns-in-NotYet-clause-still : goal.returns-in-NotYet-clause-still
 returns-in-NotYet-clause-still g c n = let view = g.M.Machine.view in inl (stepped_as view _ _ c.args.self.now.node c.args.self.now.wires c.turn.new.self c.turn.new.wires (λ a p b q x s. s.not_yet c.in-NotYet.is) c.turn.ensures.stepped)
+
+pub returns-in-Moved-clause-stepped : goal.returns-in-Moved-clause-stepped
+returns-in-Moved-clause-stepped g c = stepped_as g.M.Machine.view _ _ c.args.self.now.node c.args.self.now.wires c.turn.new.self c.turn.new.wires (λ a p b q x s. tt) c.turn.ensures.stepped
+
+pub returns-in-NotYet-clause-stepped : goal.returns-in-NotYet-clause-stepped
+returns-in-NotYet-clause-stepped g c = stepped_as g.M.Machine.view _ _ c.args.self.now.node c.args.self.now.wires c.turn.new.self c.turn.new.wires (λ a p b q x s. tt) c.turn.ensures.stepped
+
+pub returns-in-Done-clause-stepped : goal.returns-in-Done-clause-stepped
+returns-in-Done-clause-stepped g c = stepped_as g.M.Machine.view _ _ c.args.self.now.node c.args.self.now.wires c.turn.new.self c.turn.new.wires (λ a p b q x s. tt) c.turn.ensures.stepped
