@@ -1,5 +1,5 @@
 -- The laws of the part that gives an input's packets.
-use Rattle.std.specs.Prelude.{◌≡◌, ℕ, zero, suc, ◌<◌, Bool, true, false, cond, List, [], ◌∷◌, ◌++◌, Option, None, Some, refl}
+use Rattle.std.specs.Prelude.{◌≡◌, ℕ, zero, suc, ◌<◌, ◌≤◌, Bool, true, false, cond, List, [], ◌∷◌, ◌++◌, map, length, Option, None, Some, refl}
 use Rattle.std.proofs.Common.{sym, subst, ap, ◌∙◌, arith}
 use Rattle.ff_values.specs.declared.head.StreamHead.{StreamHead}
 use Rattle.ff_frame.specs.declared.item.Lane.{Lane}
@@ -10,12 +10,12 @@ use Rattle.ff_frame.specs.Within.{before_pass}
 use Rattle.ff_net.specs.declared.fault.Fault.{Fault}
 use Rattle.ff_net.specs.declared.fault.Fault.TheVariants.{TooLong}
 use Rattle.ff_net.specs.Laws.{IsOfInputs, CauseStays, IsPending, AllAsked}
-use Rattle.ff_net.specs.Pasts.{Past, due}
+use Rattle.ff_net.specs.Pasts.{Past, due, cut_to}
 use Rattle.ff_net.specs.Ways.{Flow, AreValid}
 use Rattle.ff_cut.specs.Cutters.{Cutter}
 use Rattle.ff_parts.specs.Demuxing.{mark_at, damage_at, items_of, break_of, demux_of, is_too_long, fault_in, passes_in_demux, DemuxStands}
 use Rattle.ff_parts.specs.DemuxShapes.{IsShaped, demux_valid}
-use Rattle.ff_parts.specs.Sources.{source_valid, source_keeps, source_monotone, source_calm, source_unbroken, source_given}
+use Rattle.ff_parts.specs.Sources.{source_valid, source_keeps, source_monotone, source_calm, source_unbroken, source_given, tried_of, source_tried, source_units}
 
 module _ {H C : Type 0} (cutter : Cutter H C) where
   pub demux_mark : (head : H) (file : List ℕ) (b : Bool) → is_too_long cutter head file ≡ b → (demux_of cutter head file).mark ≡ cond b broken (mark_at (break_of cutter head file))
@@ -75,6 +75,12 @@ module _ {H C : Type 0} (cutter : Cutter H C) (left : Option (List ℕ)) (cut : 
 
   pub demux_given : AllBelow past.gave (due past)
   demux_given = source_given stream given ended ticket past d.3.sources
+
+  pub demux_tried : tried_of given ended ≤ length past.allowed
+  demux_tried = source_tried stream given ended ticket past d.3.sources
+
+  pub demux_units : AllBelow past.gave (map (cut_to (tried_of given ended)) (past.task.means past.got))
+  demux_units = source_units stream given ended ticket past d.3.sources
 
   pub demux_unbroken : fault ≡ None → AllUnbroken past.gave
   demux_unbroken none = source_unbroken stream given ended ticket past d.3.sources (λ e b. let m = demux_whole cutter d.0 file (d.3.sound none e) in cc (m, b))

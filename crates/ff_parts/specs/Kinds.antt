@@ -1,6 +1,7 @@
 -- Each kind of part as the laws of machines see it, and these laws. What a source has left, what a sink holds, and their
 -- names and failures are passed in.
-use Rattle.std.specs.Prelude.{◌≡◌, ℕ, List, [], Option, None}
+use Rattle.std.specs.Prelude.{◌≡◌, ℕ, true, false, List, [], Option, None}
+use Rattle.std.proofs.Common.{arith}
 use Rattle.ff_cut.specs.declared.cutter.PacketCut.{Ghosts}
 use Rattle.ff_frame.specs.declared.item.Lane.TheVariants.{Frames, Packets}
 use Rattle.ff_net.specs.Laws.{Laws}
@@ -17,14 +18,18 @@ use Rattle.ff_parts.specs.Coders.{dec_in_lanes, dec_out_lanes, dec_spent, dec_st
 use Rattle.ff_parts.specs.Demuxers.{demux_in_lanes, demux_out_lanes, demux_source, demux_fault, demux_failures, demux_device, demux_holds, demux_spent, demux_stands}
 use Rattle.ff_parts.specs.Muxers.{mux_sink, mux_stands, mux_in_lanes, mux_fault, mux_spent}
 use Rattle.ff_parts.specs.DemuxClaims.{no_input, is_some_source, holds_none}
-use Rattle.ff_parts.specs.DemuxLaws.{demux_is_source, demux_fed, demux_keeps, demux_monotone, demux_cause_stays, demux_calm, demux_given, demux_unbroken, demux_caused, demux_ticket_used}
+use Rattle.ff_parts.specs.Sources.{tried_of}
+use Rattle.ff_parts.specs.DemuxLaws.{demux_is_source, demux_fed, demux_keeps, demux_monotone, demux_cause_stays, demux_calm, demux_given, demux_unbroken, demux_caused, demux_ticket_used, demux_tried, demux_units}
 use Rattle.ff_parts.specs.DemuxShapes.{IsShaped}
 use Rattle.ff_parts.specs.MapLaws.{map_no_fault, maps_valid, maps_keeps, maps_monotone, maps_cause_stays, maps_calm, maps_given, maps_unbroken, maps_spent_only, maps_closed_spent, maps_done_spent, maps_settles}
 use Rattle.ff_parts.specs.MuxLaws.{mux_source, mux_valid, mux_keeps, mux_monotone, mux_cause_stays, mux_calm, mux_given, mux_unbroken, mux_caused, mux_spent_only, mux_closed_spent, no_output}
 
+no_source : false ≡ true → ⊥
+no_source e = cc
+
 module _ {S C H : Type 0} {G : Ghosts C H} (left : S → Option (List ℕ)) (named : S → Option (List ℕ)) (failed : S → ℕ) where
   abbrev pub demux_view : Demux S C H G → View
-  demux_view m = record { in_lanes = demux_in_lanes m; out_lanes = demux_out_lanes m; source = demux_source m; fault = demux_fault m; device = demux_device named m; failures = demux_failures failed m; holds = demux_holds m; spent = demux_spent m; stands = demux_stands left m }
+  demux_view m = record { in_lanes = demux_in_lanes m; out_lanes = demux_out_lanes m; source = demux_source m; fault = demux_fault m; device = demux_device named m; failures = demux_failures failed m; holds = demux_holds m; tried = tried_of m.given m.ended; spent = demux_spent m; stands = demux_stands left m }
 
   pub demux_laws : IsShaped G.is → (m : Demux S C H G) → G.is.stream_head (G.is.head_of m.cut) ≡ m.head → Laws (demux_view m)
   demux_laws shaped m same_head = record {
@@ -43,10 +48,12 @@ module _ {S C H : Type 0} {G : Ghosts C H} (left : S → Option (List ℕ)) (nam
     settles = λ past s n. is_some_source m.input n;
     told = λ past s. silent_front past s.3.sources.silent;
     ticket_used = λ past q s i f p a h. holds_none m.ticket h (demux_ticket_used G.is (left m.src) m.cut m.skip m.given m.ticket m.ended m.fault past s q f p a);
+    tried_allowed = λ past s. demux_tried G.is (left m.src) m.cut m.skip m.given m.ticket m.ended m.fault past s;
+    tried_units = λ past s i. demux_units G.is (left m.src) m.cut m.skip m.given m.ticket m.ended m.fault past s;
   }
 
 abbrev pub dec_view : Dec → View
-dec_view m = record { in_lanes = dec_in_lanes m; out_lanes = dec_out_lanes m; source = None; fault = None; device = None; failures = 0; holds = ⊥; spent = dec_spent m; stands = dec_stands m }
+dec_view m = record { in_lanes = dec_in_lanes m; out_lanes = dec_out_lanes m; source = None; fault = None; device = None; failures = 0; holds = ⊥; tried = 0; spent = dec_spent m; stands = dec_stands m }
 
 pub dec_laws : (m : Dec) → Laws (dec_view m)
 dec_laws m = record {
@@ -65,10 +72,12 @@ dec_laws m = record {
   settles = λ past s n. maps_settles (Packets m.head) (Frames m.head) (decoded_item m.head) m.ready past s;
   told = λ past s. silent_front past s.silent;
   ticket_used = λ past q s i f p a h. h;
+  tried_allowed = λ past s. omega arith;
+  tried_units = λ past s i. absurd (no_source i);
 }
 
 abbrev pub enc_view : Enc → View
-enc_view m = record { in_lanes = enc_in_lanes m; out_lanes = enc_out_lanes m; source = None; fault = None; device = None; failures = 0; holds = ⊥; spent = enc_spent m; stands = enc_stands m }
+enc_view m = record { in_lanes = enc_in_lanes m; out_lanes = enc_out_lanes m; source = None; fault = None; device = None; failures = 0; holds = ⊥; tried = 0; spent = enc_spent m; stands = enc_stands m }
 
 pub enc_laws : (m : Enc) → Laws (enc_view m)
 enc_laws m = record {
@@ -87,11 +96,13 @@ enc_laws m = record {
   settles = λ past s n. maps_settles (Frames m.head) (Packets (coded_head m.codec m.head)) (encoded_item m.codec) m.ready past s;
   told = λ past s. silent_front past s.silent;
   ticket_used = λ past q s i f p a h. h;
+  tried_allowed = λ past s. omega arith;
+  tried_units = λ past s i. absurd (no_source i);
 }
 
 module _ {K : Type 0} (holds : K → Option (List ℕ)) (called : K → Option (List ℕ)) (faults : K → ℕ) where
   abbrev pub mux_view : Mux K → View
-  mux_view m = record { in_lanes = mux_in_lanes m; out_lanes = []; source = None; fault = mux_fault m; device = called (mux_sink m); failures = faults (mux_sink m); holds = ⊥; spent = mux_spent m; stands = mux_stands holds m }
+  mux_view m = record { in_lanes = mux_in_lanes m; out_lanes = []; source = None; fault = mux_fault m; device = called (mux_sink m); failures = faults (mux_sink m); holds = ⊥; tried = 0; spent = mux_spent m; stands = mux_stands holds m }
 
   pub mux_laws : (m : Mux K) → Laws (mux_view m)
   mux_laws m = record {
@@ -110,4 +121,6 @@ module _ {K : Type 0} (holds : K → Option (List ℕ)) (called : K → Option (
     settles = λ past s n ss v c q lt. absurd (no_output q lt);
     told = λ past s. silent_front past s.1.silent;
     ticket_used = λ past q s i f p a h. h;
+    tried_allowed = λ past s. omega arith;
+    tried_units = λ past s i. absurd (no_source i);
   }

@@ -122,6 +122,26 @@ pub source_given : (s : Flow) (n : ℕ) (ended ticket : Bool) (past : Past) → 
 source_given s n ended ticket past l zero = given_at s n ended ticket past l
 source_given s n ended ticket past l (suc p) = inl (l.others p ∙ sym (source_none s n ended ticket past l p))
 
+-- under how many of its tickets it has tried a unit: each that it gave, and the end
+abbrev pub tried_of : ℕ → Bool → ℕ
+tried_of n ended = n + count ended
+
+pub source_tried : (s : Flow) (n : ℕ) (ended ticket : Bool) (past : Past) → Sources s n ended ticket past → tried_of n ended ≤ length past.allowed
+source_tried s n ended ticket past l = omega (arith, l.tickets)
+
+units_at : (s : Flow) (n : ℕ) (ended ticket : Bool) (past : Past) → Sources s n ended ticket past → LiesBelow (stream_at past.gave 0) (cut_to (tried_of n ended) s)
+units_at s n true ticket past l =
+    let all : n ≡ length s.items = l.at_end refl in
+    inl (l.gave ∙ (ap (λ (i : ℕ). part_of s i true) all ∙ sym (cut_end s (n + 1) (omega (arith, all)))))
+units_at s n false ticket past l =
+    let same : n + 0 ≡ n = omega arith in
+    inl (l.gave ∙ sym (ap (λ (i : ℕ). cut_to i s) same ∙ cut_at s n l.in_range))
+
+-- what it gave are these units, or the end in place of one
+pub source_units : (s : Flow) (n : ℕ) (ended ticket : Bool) (past : Past) → Sources s n ended ticket past → AllBelow past.gave (map (cut_to (tried_of n ended)) (past.task.means past.got))
+source_units s n ended ticket past l zero = subst (λ (f : List Flow → List Flow). LiesBelow (stream_at past.gave 0) (stream_at (map (cut_to (tried_of n ended)) (f past.got)) 0)) (sym l.means) (units_at s n ended ticket past l)
+source_units s n ended ticket past l (suc p) = subst (λ (f : List Flow → List Flow). LiesBelow (stream_at past.gave (suc p)) (stream_at (map (cut_to (tried_of n ended)) (f past.got)) (suc p))) (sym l.means) (inl (l.others p))
+
 get_within : (xs : List Item) (n : ℕ) (x : Item) → slice_get xs n ≡ Some x → n < length xs
 get_within [] n x e = cc
 get_within (y ∷ ys) zero x e = omega arith
