@@ -9,11 +9,13 @@ ghost use Rattle.ff_values.specs.Heads.{IsSoundHead};
 ghost use Rattle.ff_values.specs.Codecs.{IsPcmCodec};
 ghost use Rattle.ff_frame.specs.Lanes.{FitsLane, IsValid};
 ghost use Rattle.ff_values.specs.Packet.{packet_at};
+ghost use Rattle.ff_frame.specs.Breaks.{KeepsBrokenRule};
+ghost use Rattle.ff_frame.specs.Ports.{stream_at};
 ghost use Rattle.ff_frame.specs.Within.{within, passes_limits};
 ghost use Rattle.ff_pcm.specs.Frames.{codec_of, IsPcmHead};
 ghost use Rattle.ff_net.specs.Ways.{Flow};
-ghost use Rattle.ff_parts.specs.Decoding.{octets, decoded_item, decoded};
-ghost use Rattle.ff_parts.specs.Encoding.{coded_head, encoded_item, encoded};
+ghost use Rattle.ff_parts.specs.Decoding.{octets, decoded_item, decoded, dec_task};
+ghost use Rattle.ff_parts.specs.Encoding.{coded_head, encoded_item, encoded, enc_task};
 
 /// The frames of valid packets pass no limit: cutting them there changes nothing.
 pub fn decoding_passes_no_limit()
@@ -34,4 +36,11 @@ pub fn octets_leave_bytes()
 pub fn coding_leaves_bytes()
     ensures { (head : StreamHead) (packet : Pkt) → IsPcmHead head → FitsLane (Packets head) (Packet packet) → All (λ b. b < 256) packet.bytes
         → encoded_item (codec_of head) (decoded_item head (Packet packet)) ≡ Packet (packet_at packet.pts packet.duration 0 packet.bytes) }
+{}
+
+/// What a decoder and an encoder mean keeps the broken rule: a broken input counts as open without a further item, and the
+/// output is broken exactly where the input is.
+pub fn coding_keeps_the_broken_rule()
+    ensures decoding { (head : StreamHead) → KeepsBrokenRule (λ ss. Unit {0}) (λ ss. stream_at ((dec_task head).means ss) 0) }
+    ensures encoding { (codec : Codec) (head : StreamHead) → KeepsBrokenRule (λ ss. Unit {0}) (λ ss. stream_at ((enc_task codec head).means ss) 0) }
 {}
