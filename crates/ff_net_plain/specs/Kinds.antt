@@ -1,5 +1,6 @@
 -- Each kind of machine as the laws of machines see it, and these laws.
-use Rattle.std.specs.Prelude.{◌≡◌, [], true, None, Some}
+use Rattle.std.specs.Prelude.{◌≡◌, ◌+◌, [], true, false, None, Some}
+use Rattle.std.proofs.Common.{arith}
 use Rattle.ff_net.specs.Laws.{Laws}
 use Rattle.ff_net.specs.Silence.{silent_front}
 use Rattle.ff_net.specs.Views.{View}
@@ -11,12 +12,15 @@ use Rattle.ff_net_plain.specs.Lists.{fault_if, as_count}
 use Rattle.ff_net_plain.specs.Relays.{is_spent_relay}
 use Rattle.ff_net_plain.specs.Starts.{source_stands, relay_stands, join_stands}
 use Rattle.ff_net_plain.specs.Trials.{source_outs, relay_ins, relay_outs, join_ins, join_outs}
-use Rattle.ff_net_plain.specs.ListLaws.{lists_keeps, lists_monotone, lists_cause_stays, lists_calm, lists_given, lists_unbroken, lists_caused, lists_ticket_used, lists_no_port, lists_is_source}
+use Rattle.ff_net_plain.specs.ListLaws.{lists_keeps, lists_monotone, lists_cause_stays, lists_calm, lists_given, lists_tried, lists_units, lists_unbroken, lists_caused, lists_ticket_used, lists_no_port, lists_is_source}
 use Rattle.ff_net_plain.specs.RelayLaws.{relays_no_fault, relays_valid, relays_keeps, relays_monotone, relays_cause_stays, relays_calm, relays_given, relays_unbroken, relays_spent_only, relays_closed_spent, relays_done_spent, relays_settles}
 use Rattle.ff_net_plain.specs.JoinLaws.{joins_valid, joins_keeps, joins_monotone, joins_cause_stays, joins_calm, joins_given, joins_unbroken, joins_spent_only, joins_closed_spent, joins_done_spent, joins_settles}
 
+no_source : false ≡ true → ⊥
+no_source e = cc
+
 abbrev pub source_view : Source → View
-source_view m = record { in_lanes = []; out_lanes = source_outs m; source = Some m.number; fault = fault_if m.failed; device = None; failures = as_count m.failed; holds = m.ticket ≡ true; spent = λ p. ⊥; stands = source_stands m }
+source_view m = record { in_lanes = []; out_lanes = source_outs m; source = Some m.number; fault = fault_if m.failed; device = None; failures = as_count m.failed; holds = m.ticket ≡ true; tried = m.next + as_count m.ended; spent = λ p. ⊥; stands = source_stands m }
 
 pub source_laws : (m : Source) → Laws (source_view m)
 source_laws m = record {
@@ -35,10 +39,12 @@ source_laws m = record {
   settles = λ past s n. absurd (lists_is_source m.number n);
   told = λ past s. silent_front past s.silent;
   ticket_used = λ past q s i f p a h. lists_ticket_used m.lane m.items.items m.next m.ended m.ticket m.failed past s q f p a h;
+  tried_allowed = λ past s. lists_tried m.lane m.items.items m.next m.ended m.ticket m.failed past s;
+  tried_units = λ past s i. lists_units m.lane m.items.items m.next m.ended m.ticket m.failed past s;
 }
 
 abbrev pub relay_view : Relay → View
-relay_view m = record { in_lanes = relay_ins m; out_lanes = relay_outs m; source = None; fault = None; device = None; failures = 0; holds = ⊥; spent = λ p. is_spent_relay m.left m.closed m.outs.items p; stands = relay_stands m }
+relay_view m = record { in_lanes = relay_ins m; out_lanes = relay_outs m; source = None; fault = None; device = None; failures = 0; holds = ⊥; tried = 0; spent = λ p. is_spent_relay m.left m.closed m.outs.items p; stands = relay_stands m }
 
 pub relay_laws : (m : Relay) → Laws (relay_view m)
 relay_laws m = record {
@@ -57,10 +63,12 @@ relay_laws m = record {
   settles = λ past s n. relays_settles m.lane m.limit m.left m.closed m.given.items m.outs.items past s;
   told = λ past s. silent_front past s.silent;
   ticket_used = λ past q s i f p a h. h;
+  tried_allowed = λ past s. omega arith;
+  tried_units = λ past s i. absurd (no_source i);
 }
 
 abbrev pub join_view : Join → View
-join_view m = record { in_lanes = join_ins m; out_lanes = join_outs m; source = None; fault = None; device = None; failures = 0; holds = ⊥; spent = λ p. is_spent_join (kept_of m.first) (kept_of m.second) m.stopped p; stands = join_stands m }
+join_view m = record { in_lanes = join_ins m; out_lanes = join_outs m; source = None; fault = None; device = None; failures = 0; holds = ⊥; tried = 0; spent = λ p. is_spent_join (kept_of m.first) (kept_of m.second) m.stopped p; stands = join_stands m }
 
 pub join_laws : (m : Join) → Laws (join_view m)
 join_laws m = record {
@@ -79,4 +87,6 @@ join_laws m = record {
   settles = λ past s n. joins_settles m.lane (kept_of m.first) (kept_of m.second) m.next m.ended m.stopped past s;
   told = λ past s. silent_front past s.silent;
   ticket_used = λ past q s i f p a h. h;
+  tried_allowed = λ past s. omega arith;
+  tried_units = λ past s i. absurd (no_source i);
 }

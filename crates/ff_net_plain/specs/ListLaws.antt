@@ -1,5 +1,5 @@
 -- The laws of the machine that gives a list.
-use Rattle.std.specs.Prelude.{◌≡◌, ◌≢◌, ℕ, zero, suc, ◌+◌, ◌<◌, ◌≤◌, Bool, true, false, cond, List, [], ◌∷◌, length, take, nat_le, Option, None, Some, refl}
+use Rattle.std.specs.Prelude.{◌≡◌, ◌≢◌, ℕ, zero, suc, ◌+◌, ◌<◌, ◌≤◌, Bool, true, false, cond, List, [], ◌∷◌, map, length, take, nat_le, Option, None, Some, refl}
 use Rattle.std.proofs.Common.{sym, subst, ap, inl, inr, ◌∙◌, arith}
 use Rattle.std.proofs.lemmas.Bool.Decides.{nat_tests}
 use mathlib.Core.List.{IsPrefix}
@@ -97,6 +97,21 @@ module _ (lane : Lane) (items : List Item) (next : ℕ) (ended ticket failed : B
   pub lists_given : AllBelow past.gave (due past)
   lists_given zero = rw (s.gave, lists_due) below_due
   lists_given (suc q) = rw (s.beyond (suc q) (omega arith), due_beyond q) (below_self nothing)
+
+  pub lists_tried : next + as_count ended ≤ length past.allowed
+  lists_tried = omega (arith, s.tickets)
+
+  units_at : LiesBelow (given_of items next ended) (cut_to (next + as_count ended) (whole_stream items))
+  units_at = pick ended refl
+    where
+      pick : (b : Bool) → ended ≡ b → LiesBelow (given_of items next b) (cut_to (next + as_count b) (whole_stream items))
+      pick true e = let all : next ≡ length items = s.at_end e in inl (ap (λ (k : ℕ). given_of items k true) all ∙ sym (cut_after (next + 1) items (omega (arith, all))))
+      pick false e = let same : next + 0 ≡ next = omega arith in inl (sym (ap (λ (k : ℕ). cut_to k (whole_stream items)) same ∙ cut_before next items s.in_range))
+
+  -- what it gave are the units that it tried, or the end in place of one
+  pub lists_units : AllBelow past.gave (map (cut_to (next + as_count ended)) (past.task.means past.got))
+  lists_units zero = rw (s.gave, s.means) units_at
+  lists_units (suc q) = rw (s.beyond (suc q) (omega arith), s.means) (below_self nothing)
 
   pub lists_unbroken : AllUnbroken past.gave
   lists_unbroken zero = subst IsUnbroken (sym s.gave) (mark_unbroken ended)
