@@ -1,11 +1,12 @@
-ghost use Rattle.std.specs.Prelude.{◌≡◌, ◌≤◌, ◌&&◌, ℕ, List, length, true};
+ghost use Rattle.std.specs.Prelude.{◌≡◌, ◌≤◌, ◌+◌, ◌&&◌, ℕ, List, length, true, vec_capacity};
 ghost use Rattle.std.specs.Io.KnownBytes.{prepend_known};
 ghost use Rattle.ff_host.specs.Begun.{still_in};
 
 use crate::fill::copy_front;
 use crate::source::{Failed, Source};
 
-/// A source of which some bytes were read already: it gives these first, and then those of the source.
+/// A source of which some bytes were read already: it gives these first, and then those of the source. With the last of these
+/// bytes their memory is given back.
 #[derive(Drop)]
 pub struct Begun<S> {
     bytes: Vec<u8>,
@@ -16,6 +17,7 @@ pub struct Begun<S> {
     passed: bool,
     ghost inside: { at ≤ length bytes.items },
     ghost all_given: { passed ≡ true → at ≡ length bytes.items },
+    ghost let_go: { at ≡ length bytes.items → vec_capacity bytes ≡ 0 },
 }
 
 impl<S: Source> Begun<S> {
@@ -25,6 +27,10 @@ impl<S: Source> Begun<S> {
         ensures faults { ⟦<Begun<S> as Source>⟧.faults result ≡ S.faults src }
         ensures name { ⟦<Begun<S> as Source>⟧.name result ≡ S.name src }
     {
+        let mut bytes = bytes;
+        if bytes.is_empty() {
+            bytes.shrink_to_fit();
+        }
         Begun {
             bytes,
             at: 0,
@@ -40,6 +46,21 @@ impl<S: Source> Begun<S> {
         ensures name { S.name result ≡ ⟦<Begun<S> as Source>⟧.name self }
     {
         self.src
+    }
+
+    // Passes over so many of these bytes, and with the last of them gives back their memory.
+    fn pass(&mut self, count: usize)
+        requires { self.old.at + count ≤ length self.old.bytes.items }
+        ensures still_in { still_in self.new.bytes.items self.new.at ≡ still_in self.old.bytes.items (self.old.at + count) }
+        ensures source { (self.new.src ≡ self.old.src) × (self.new.passed ≡ self.old.passed) }
+    {
+        if count < self.bytes.len() - self.at {
+            self.at += count;
+            return;
+        }
+        self.at = 0;
+        self.bytes.clear();
+        self.bytes.shrink_to_fit();
     }
 }
 
@@ -58,7 +79,7 @@ impl<S: Source> Source for Begun<S> {
             return self.src.read(buf);
         }
         let count = copy_front(buf, &self.bytes[self.at..]);
-        self.at += count;
+        self.pass(count);
         Ok(count)
     }
 }
