@@ -1,0 +1,31 @@
+ghost use Rattle.std.specs.Prelude.{◌≡◌};
+ghost use Rattle.ff_edges.specs.Ports.{leads_to, leaves};
+
+use ff_frame::Lane;
+
+/// From an output of a node to an input of another. Nodes and ports have numbers from 0.
+#[derive(Debug, Drop)]
+pub struct Edge {
+    pub from: u32,
+    pub out_port: u32,
+    pub to: u32,
+    pub in_port: u32,
+    /// Which items go along it.
+    pub lane: Lane,
+}
+
+impl Edge {
+    /// Whether it leads to this input of this node.
+    pub fn is_at_input(&self, node: usize, port: usize) -> bool
+        ensures { result ≡ leads_to node port self.now }
+    {
+        self.to as usize == node && self.in_port as usize == port
+    }
+
+    /// Whether it leaves this output of this node.
+    pub fn is_at_output(&self, node: usize, port: usize) -> bool
+        ensures { result ≡ leaves node port self.now }
+    {
+        self.from as usize == node && self.out_port as usize == port
+    }
+}
