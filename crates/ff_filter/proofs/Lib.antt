@@ -1,0 +1,4 @@
+pub mod Chaining
+pub mod Moves
+pub mod Stepping
+pub mod Taking

@@ -1,0 +1,11 @@
+pub mod ChainLaws
+pub mod Chains
+pub mod Inlets
+pub mod Joins
+pub mod Joint
+pub mod LimitLaws
+pub mod Limits
+pub mod Made
+pub mod Runs
+pub mod StepperLaws
+pub mod Views

@@ -1,0 +1,29 @@
+ghost use Rattle.std.specs.Prelude.{◌≡◌};
+ghost use Rattle.ff_filter.specs.Made.{closing};
+
+use ff_frame::Item;
+
+/// How a stream goes on behind an item.
+#[derive(Clone, Copy, PartialEq, Eq, Debug)]
+pub enum After {
+    /// More may come.
+    More,
+    /// That was all.
+    Whole,
+    /// It breaks off here.
+    Broke,
+}
+
+/// What an item that closes its stream says of it.
+pub fn closing_of(item: &Item) -> Option<After>
+    ensures { result ≡ closing item.now }
+{
+    match item {
+        Item::Audio(_) | Item::Video(_) | Item::Packet(_) | Item::Trailer(_) => None,
+        Item::End => Some(After::Whole),
+        Item::Broken => Some(After::Broke),
+    }
+}
+
+/// Lets an item go that nobody wants.
+pub fn discard(_item: Item) {}

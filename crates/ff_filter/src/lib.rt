@@ -1,0 +1,29 @@
+//! Filters: functions on whole streams, and the machines that meet them an item at a time.
+//!
+//! ```text
+//!   fed so far          still to come
+//!   ─────────────►│ filter │─────────────►
+//!   what it gave       what it still gives for what still comes: its view
+//! ```
+//!
+//! A filter is seen as what it still gives for what is still to come. Each call is an equation between two such views:
+//! what was fed stands before what still comes, and what was given before what is still given. No past is kept.
+#![tactic(auto)]
+
+mod after;
+mod chain;
+mod filter;
+mod inlet;
+mod limited;
+mod outlet;
+mod step;
+mod stepper;
+
+pub use after::{After, closing_of, discard};
+pub use chain::Chain;
+pub use filter::Filter;
+pub use inlet::{Inlet, Next};
+pub use limited::{Limited, shared};
+pub use outlet::Outlet;
+pub use step::{Given, Step};
+pub use stepper::Stepper;

@@ -1,0 +1,128 @@
+ghost use Rattle.std.specs.Prelude.{◌≡◌, ◌≤◌, ◌<◌, ◌*◌, ◌/◌, ◌^◌, ◌≤ℤ◌, pos, negsuc, nat_lt, refl, Option, IsTrue};
+ghost use Rattle.ff_values.specs.Heads.{base_of_head};
+ghost use Rattle.ff_frame.specs.Times.{end_of, ticks};
+ghost use Rattle.ff_frame.specs.Within.{passes_limits};
+ghost use Rattle.ff_frame.specs.declared.item.Lane.TheVariants.{Frames};
+ghost use Rattle.ff_filter.specs.Views.{closes};
+ghost use Rattle.ff_filter.specs.Runs.{run_below, run_calm, run_settles, no_more};
+ghost use Rattle.ff_filter.specs.Limits.{limit_step, limited};
+ghost use Rattle.ff_filter.specs.LimitLaws.{limited-waits, limited-ends, limited-breaks, limited-below, limited-calm, limited-settles};
+
+use crate::after::After;
+use crate::step::{Given, Step};
+use ff_frame::{Item, Refused, StreamHead};
+use ff_time::Rational;
+
+// The limits.
+const LAST_SECOND: u128 = 1_000_000_000;
+
+const MOST_ITEMS: u64 = 1 << 40;
+
+/// A function of one stream, with the limits of every stream behind it: its output breaks off before the item number 2^40
+/// (counted from 0), and before an item that ends past 1,000,000,000 seconds.
+#[derive(Drop)]
+pub struct Limited<A: Step> {
+    /// The function.
+    pub inner: A,
+    /// The head of its output.
+    pub head: StreamHead,
+    /// How many items it gave.
+    pub before: u64,
+    pub ghost few: { before ≤ 2 ^ 40 },
+    pub ghost frames: { A.lane_out inner ≡ Frames head },
+}
+
+fn time_base(head: &StreamHead) -> Rational
+    ensures { result ≡ base_of_head head.now }
+{
+    match *head {
+        StreamHead::Audio { tb, .. } => tb,
+        StreamHead::Video { tb, .. } => tb,
+    }
+}
+
+/// So many samples, shared out to so many channels; none where there is no channel.
+pub fn shared(samples: usize, channels: usize) -> usize
+    ensures { result ≡ samples / channels }
+{
+    if channels == 0 { 0 } else { samples / channels }
+}
+
+/// When an item ends, in ticks.
+fn end_of_item(item: &Item) -> i128
+    ensures end { result ≡ end_of item.now }
+    ensures small { result ≤ℤ pos (2 ^ 65) }
+    ensures large { negsuc (2 ^ 65) ≤ℤ result }
+{
+    match item {
+        Item::Audio(frame) => {
+            let count = shared(frame.samples.as_slice().len(), frame.channels as usize);
+            frame.pts as i128 + count as i128
+        }
+        Item::Video(frame) => frame.pts as i128 + frame.duration as i128,
+        Item::Packet(packet) => packet.pts as i128 + packet.duration as i128,
+        Item::Trailer(_) | Item::End | Item::Broken => 0,
+    }
+}
+
+// Whether an item ends past the last second.
+fn ends_late(head: &StreamHead, item: &Item) -> bool
+    ensures { result ≡ nat_lt (1000000000 * (base_of_head head.now).den) (ticks (end_of item.now) * (base_of_head head.now).num) }
+{
+    let tb = time_base(head);
+    let end = end_of_item(item);
+    if end <= 0 {
+        return false;
+    }
+    LAST_SECOND * (tb.den() as u128) < (end as u128) * (tb.num() as u128)
+}
+
+// Whether an item passes a limit, where so many came before it.
+fn is_long(head: &StreamHead, before: u64, item: &Item) -> bool
+    requires few { before ≤ 2 ^ 40 }
+    ensures { result ≡ passes_limits (Frames head.now) before item.now }
+{
+    (MOST_ITEMS < before + 1) | ends_late(head, item)
+}
+
+impl<A: Step> Step for Limited<A> {
+    ghost lane_in = { λ m. A.lane_in m.inner };
+
+    ghost lane_out = { λ m. A.lane_out m.inner };
+
+    ghost runs = { λ m s. limited (passes_limits (Frames m.head)) m.before (A.runs m.inner s) };
+
+    fn step(&mut self, item: Item) -> Result<Given, Refused> {
+        match self.inner.step(item) {
+            Err(refused) => Err(refused),
+            Ok(Given { item, after }) => match item {
+                None => Ok(Given { item: None, after }),
+                Some(made) => {
+                    if is_long(&self.head, self.before, &made) {
+                        return Ok(Given {
+                            item: None,
+                            after: After::Broke,
+                        });
+                    }
+                    self.before += 1;
+                    Ok(Given {
+                        item: Some(made),
+                        after,
+                    })
+                }
+            },
+        }
+    }
+
+    ghost waits = { λ m. limited-waits (passes_limits (Frames m.head)) m.before (A.runs m.inner) (A.waits m.inner) };
+
+    ghost ends = { λ m. limited-ends (passes_limits (Frames m.head)) m.before (A.runs m.inner) (A.ends m.inner) };
+
+    ghost breaks = { λ m. limited-breaks (passes_limits (Frames m.head)) m.before (A.runs m.inner) (A.breaks m.inner) };
+
+    ghost below = { λ m. limited-below (passes_limits (Frames m.head)) m.before (A.runs m.inner) (A.below m.inner) };
+
+    ghost calm = { λ m. limited-calm (passes_limits (Frames m.head)) m.before (A.runs m.inner) (A.calm m.inner) };
+
+    ghost settles = { λ m. limited-settles (passes_limits (Frames m.head)) m.before (A.runs m.inner) (A.settles m.inner) };
+}
