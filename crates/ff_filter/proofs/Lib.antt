@@ -1,4 +1,5 @@
 pub mod Chaining
 pub mod Moves
+pub mod Setting
 pub mod Stepping
 pub mod Taking

@@ -6,6 +6,10 @@ pub mod Joint
 pub mod LimitLaws
 pub mod Limits
 pub mod Made
+pub mod Options
+pub mod Ranges
 pub mod Runs
+pub mod Shifts
+pub mod Singles
 pub mod StepperLaws
 pub mod Views

@@ -32,7 +32,8 @@ pub struct Limited<A: Step> {
     pub ghost frames: { A.lane_out inner ≡ Frames head },
 }
 
-fn time_base(head: &StreamHead) -> Rational
+/// The time base of a stream.
+pub fn time_base(head: &StreamHead) -> Rational
     ensures { result ≡ base_of_head head.now }
 {
     match *head {

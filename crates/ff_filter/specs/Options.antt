@@ -1,0 +1,83 @@
+-- How the arguments of a filter set its options.
+use Rattle.std.specs.Prelude.{◌≡◌, ◌⊎◌, ℕ, ◌+◌, ◌-◌, ◌*◌, ◌≤◌, ◌^◌, nat_le, nat_lt, ◌&&◌, Bool, true, false, ◌||◌, not, cond, if◌then◌else◌, is_some, Option, Some, None, List, [], ◌∷◌, length, Result, Ok, Err}
+use Rattle.std.specs.Str.{bytes_eq}
+use Rattle.ff_time.specs.Duration.{IsDuration}
+use Rattle.ff_values.specs.declared.config.ConfigError.{ConfigError}
+use Rattle.ff_values.specs.declared.config.ConfigError.TheVariants.{UnknownOption, BadOption, Pads, Kind}
+use Rattle.ff_values.specs.declared.head.StreamHead.{StreamHead}
+use Rattle.ff_values.specs.declared.head.StreamHead.TheVariants.{Audio, Video}
+use Rattle.ff_lang.specs.declared.graph.Arg.{Arg}
+
+-- the options of a filter, whose values make settings S
+pub record Manual (S : Type 0) : Type 1 where
+  -- each name of an option, with the option's number
+  pub names : List (List ℕ × ℕ)
+  -- the options from 0 to below this one may be given by place
+  pub places : ℕ
+  -- from these settings, a value of the option of this number makes those; values that it doesn't take make none
+  pub Sets : S → ℕ → List ℕ → S → Type 0
+
+-- the option of this name
+abbrev pub named : List (List ℕ × ℕ) → List ℕ → Option ℕ
+named [] key = None
+named (n ∷ ns) key = if bytes_eq key n.0 then Some n.1 else named ns key
+
+-- The option that an argument gives: by its key, or by its place where it has none, and none before it has one.
+abbrev pub option_of : {S : Type 0} → Manual S → Bool → ℕ → Option (List ℕ) → Option ℕ
+option_of manual keyed place (Some key) = named manual.names key
+option_of manual keyed place None = if nat_lt place manual.places && not keyed then Some place else None
+
+-- one argument: no such option, or a value that it doesn't take, or settings from which the others go on
+abbrev pub IsReadBy : {S : Type 0} → Manual S → S → List ℕ → (S → Result S ConfigError → Type 0) → Option ℕ → Result S ConfigError → Type 0
+IsReadBy manual s value others None r = r ≡ Err UnknownOption
+IsReadBy {S} manual s value others (Some option) r = ((t : S) × manual.Sets s option value t × others t r) ⊎ (((t : S) → manual.Sets s option value t → ⊥) × (r ≡ Err BadOption))
+
+-- The arguments from the one at a place on, in their order: the first that is at fault decides, and of an option that is
+-- given more than once the last value counts. `keyed` says that one before them had a key.
+abbrev pub AreRead : {S : Type 0} → Manual S → Bool → ℕ → S → List Arg → Result S ConfigError → Type 0
+AreRead manual keyed place s [] r = r ≡ Ok s
+AreRead manual keyed place s (a ∷ others) r = IsReadBy manual s a.value (λ t. AreRead manual (keyed || is_some a.key) (place + 1) t others) (option_of manual keyed place a.key) r
+
+-- a time of at most 10^15 microseconds
+abbrev pub IsTime : List ℕ → ℕ → Type 0
+IsTime text us = IsDuration text us × (us ≤ 10 ^ 15)
+
+abbrev pub is_digit : ℕ → Bool
+is_digit b = nat_le 48 b && nat_le b 57
+
+-- the number that digits write behind those of n
+abbrev pub digits_from : ℕ → List ℕ → Option ℕ
+digits_from n [] = Some n
+digits_from n (b ∷ bs) = if is_digit b then digits_from (10 * n + (b - 48)) bs else None
+
+-- a whole number of 1 to so many digits
+abbrev pub number_of : ℕ → List ℕ → Option ℕ
+number_of most text = if nat_le 1 (length text) && nat_le (length text) most then digits_from 0 text else None
+
+abbrev pub is_sound : StreamHead → Bool
+is_sound (Audio tb rate bits channels codec) = true
+is_sound (Video tb format width height sar_num sar_den) = false
+
+abbrev pub is_video : StreamHead → Bool
+is_video (Audio tb rate bits channels codec) = false
+is_video (Video tb format width height sar_num sar_den) = true
+
+-- the head of the only input, which has to be of the kind that is wanted
+abbrev pub only_head : (StreamHead → Bool) → List StreamHead → Result StreamHead ConfigError
+only_head wanted [] = Err Pads
+only_head wanted (h ∷ []) = cond (wanted h) (Ok h) (Err Kind)
+only_head wanted (h ∷ i ∷ hs) = Err Pads
+
+-- what the settings make, where the arguments were read
+abbrev pub AfterArgs : {S X : Type 0} → (S → Result X ConfigError → Type 0) → Result X ConfigError → Result S ConfigError → Type 0
+AfterArgs makes r (Ok settings) = makes settings r
+AfterArgs makes r (Err e) = r ≡ Err e
+
+abbrev pub AfterHead : {S X : Type 0} → Manual S → S → (StreamHead → S → Result X ConfigError → Type 0) → List Arg → Result X ConfigError → Result StreamHead ConfigError → Type 0
+AfterHead {S} manual s makes args r (Ok head) = (read : Result S ConfigError) × AreRead manual false 0 s args read × AfterArgs (makes head) r read
+AfterHead manual s makes args r (Err e) = r ≡ Err e
+
+-- A filter of one input by its arguments: first the number of inputs and their kind, then the arguments in their order,
+-- and then what the settings make with the head.
+abbrev pub IsConfigured : {S X : Type 0} → (StreamHead → Bool) → Manual S → S → (StreamHead → S → Result X ConfigError → Type 0) → List Arg → List StreamHead → Result X ConfigError → Type 0
+IsConfigured wanted manual s makes args heads r = AfterHead manual s makes args r (only_head wanted heads)

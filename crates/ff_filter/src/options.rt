@@ -1,0 +1,129 @@
+ghost use Rattle.std.specs.Prelude.{◌≡◌, ◌↔◌, ◌<◌, ◌≤◌, ◌^◌, ℕ, length, IfSome, IsNone, Some, false};
+ghost use Rattle.ff_filter.specs.Options.{Manual, named, option_of as option_at, AreRead, IsTime, digits_from, number_of, only_head, is_sound, is_video};
+
+use ff_frame::{ConfigError, StreamHead};
+use ff_lang::Arg;
+use ff_time::read_duration;
+
+/// The settings of a filter, as its arguments make them.
+pub trait Settings: Copy {
+    /// The options, their names, places and values.
+    ghost manual: { Manual Self };
+
+    /// The number of the option of this name.
+    fn option(key: &str) -> Option<usize>
+        ensures { result ≡ named manual.names key.now };
+
+    /// How many options may be given by place.
+    fn places() -> usize
+        ensures { result ≡ manual.places };
+
+    /// The settings with this value of an option. None where it isn't taken.
+    fn set(self, option: usize, value: &str) -> Option<Self>
+        ensures set { IfSome result (λ s. manual.Sets self option value.now s) }
+        ensures not_taken { IsNone result → (s : Self) → manual.Sets self option value.now s → ⊥ };
+}
+
+// The option that an argument gives.
+fn option_of<S: Settings>(arg: &Arg, keyed: bool, place: usize) -> Option<usize>
+    ensures { result ≡ option_at S.manual keyed place arg.now.key }
+{
+    match &arg.key {
+        Some(key) => S::option(key.as_str()),
+        None => {
+            if place < S::places() && !keyed {
+                Some(place)
+            } else {
+                None
+            }
+        }
+    }
+}
+
+/// What the arguments make of these settings. The first one at fault refuses all: `UnknownOption` for a key that the filter
+/// doesn't have, too many arguments by place, or one without a key behind one with a key; `BadOption` for a value that the
+/// option doesn't take.
+pub fn read_args<S: Settings>(settings: S, args: &[Arg]) -> Result<S, ConfigError>
+    ensures read { AreRead S.manual false 0 settings args.now result }
+{
+    let mut settings = settings;
+    let mut keyed = false;
+    'each: for place in 0..args.len() {
+        let arg = &args[place];
+        match option_of::<S>(arg, keyed, place) {
+            None => return Err(ConfigError::UnknownOption),
+            Some(option) => match settings.set(option, arg.value.as_str()) {
+                None => return Err(ConfigError::BadOption),
+                Some(next) => settings = next,
+            },
+        }
+        keyed = keyed | arg.key.is_some();
+    }
+    Ok(settings)
+}
+
+/// A time in microseconds, at most 10^15 of them.
+pub fn read_time(text: &str) -> Option<u64>
+    ensures value { (us : ℕ) → (result ≡ Some us) ↔ IsTime text.now us }
+    ensures near { IfSome result (λ us. us ≤ 10 ^ 15) }
+{
+    match read_duration(text.as_bytes()) {
+        Ok(us) => Some(us),
+        Err(_) => None,
+    }
+}
+
+// The number that at most ten digits write.
+fn digits(bytes: &[u8]) -> Option<u64>
+    requires { length bytes.now ≤ 10 }
+    ensures value { result ≡ digits_from 0 bytes.now }
+    ensures few { IfSome result (λ n. n < 10 ^ 10) }
+{
+    let mut value: u64 = 0;
+    'digits: for i in 0..bytes.len() {
+        if bytes[i] < b'0' || bytes[i] > b'9' {
+            return None;
+        }
+        value = 10 * value + (bytes[i] - b'0') as u64;
+    }
+    Some(value)
+}
+
+/// A whole number of 1 to `most` digits.
+pub fn read_number(text: &str, most: usize) -> Option<u64>
+    requires { most ≤ 10 }
+    ensures value { result ≡ number_of most text.now }
+    ensures few { IfSome result (λ n. n < 10 ^ 10) }
+{
+    let bytes = text.as_bytes();
+    if bytes.len() >= 1 && bytes.len() <= most {
+        return digits(bytes);
+    }
+    None
+}
+
+/// The head of the only input, which has to be video. `Pads` where there isn't one input, `Kind` where it is sound.
+pub fn only_video(heads: &[StreamHead]) -> Result<StreamHead, ConfigError>
+    ensures { result ≡ only_head is_video heads.now }
+{
+    match heads {
+        [head] => match head {
+            StreamHead::Video { .. } => Ok(*head),
+            StreamHead::Audio { .. } => Err(ConfigError::Kind),
+        },
+        _ => Err(ConfigError::Pads),
+    }
+}
+
+/// The head of the only input, which has to be sound. `Pads` where there isn't one input, `Kind` where it is video.
+pub fn only_sound(heads: &[StreamHead]) -> Result<StreamHead, ConfigError>
+    ensures { result ≡ only_head is_sound heads.now }
+{
+    match heads {
+        [head] => match head {
+            StreamHead::Audio { .. } => Ok(*head),
+            StreamHead::Video { .. } => Err(ConfigError::Kind),
+        },
+        _ => Err(ConfigError::Pads),
+    }
+}
