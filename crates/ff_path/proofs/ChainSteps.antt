@@ -14,10 +14,10 @@ use Rattle.ff_net.specs.declared.wires.Wires.{Wires}
 use Rattle.ff_net.specs.Ways.{Flow, lane_at}
 use Rattle.ff_net.specs.Nets.{Part, solve, IsUpward}
 use Rattle.ff_net.specs.Pasts.{Past, Task, IsIn, start}
-use Rattle.ff_net.specs.Laws.{FaultStep, IsOfInputs}
+use Rattle.ff_net.specs.Laws.{IsOfInputs}
 use Rattle.ff_net.specs.Ports.{in_at, in_wires}
 use Rattle.ff_net.specs.Worlds.{Wire, Stand, fresh, lanes_of}
-use Rattle.ff_net.specs.Nodes.{AreApart, HaveLanes, IsShaped, IsSound, NodeStands, machine_of, in_wires_of, out_wires_of}
+use Rattle.ff_net.specs.Nodes.{AreApart, HaveLanes, IsShaped, NodeStands, machine_of, in_wires_of, out_wires_of}
 use Rattle.ff_net.specs.Serial.{AreShaped, NetStands, part_of, parts_of}
 use Rattle.ff_net.specs.Theorem.{AllFare, MeetsSolution, Settled}
 use Rattle.ff_net.specs.Views.{View}

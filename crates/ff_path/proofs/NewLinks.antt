@@ -2,9 +2,8 @@
 use Rattle.std.proofs.Common.{◌≡◌, ℕ, zero, suc, ◌+◌, ◌<◌, ◌⊎◌, Bool, true, List, [], ◌∷◌, length, slice_index_or, Option, None, Some, refl, ap, sym, ◌∙◌, subst, arith, inl, inr}
 use Rattle.ff_frame.specs.declared.item.Lane.{Lane}
 use Rattle.ff_link.specs.Views.{Sending, Receiving}
-use Rattle.ff_net.specs.declared.fault.Fault.{Fault}
 use Rattle.ff_net.specs.declared.node.Node.{Node}
-use Rattle.ff_net.specs.Pasts.{Past, Task, IsIn, start}
+use Rattle.ff_net.specs.Pasts.{Task, IsIn, start}
 use Rattle.ff_net.specs.Ways.{lane_at}
 use Rattle.ff_net.specs.Views.{View}
 use Rattle.ff_net.specs.Worlds.{fresh, lanes_of}

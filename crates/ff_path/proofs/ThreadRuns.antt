@@ -1,18 +1,16 @@
 -- What four machines in threads come to.
-use Rattle.std.proofs.Common.{◌≡◌, ℕ, zero, suc, ◌<◌, ◌≤◌, Bool, true, false, List, [], ◌∷◌, length, map, slice_index_or, Option, None, Some, refl, ap, sym, ◌∙◌, subst, arith, inl, inr}
+use Rattle.std.proofs.Common.{◌≡◌, ℕ, zero, suc, ◌<◌, ◌≤◌, Bool, true, false, List, [], ◌∷◌, length, slice_index_or, None, Some, refl, ap, sym, ◌∙◌, subst, arith, inl, inr}
 use Rattle.ff_frame.specs.declared.item.Lane.{Lane}
-use Rattle.ff_frame.specs.Stream.{LiesBelow, opened}
 use Rattle.ff_link.specs.Views.{Link, Sending, Receiving}
-use Rattle.ff_net.specs.declared.fault.Fault.{Fault}
 use Rattle.ff_net.specs.declared.node.Node.{Node}
 use Rattle.ff_net.specs.Laws.{FaultStep, IsOfInputs}
-use Rattle.ff_net.specs.Nets.{IsUpward, solve}
-use Rattle.ff_net.specs.Pasts.{Past, Task, IsIn, no_events}
+use Rattle.ff_net.specs.Nets.{IsUpward}
+use Rattle.ff_net.specs.Pasts.{Task, IsIn, no_events}
 use Rattle.ff_net.specs.Serial.{Moment, parts_of}
 use Rattle.ff_net.specs.Theorem.{AllFare, MeetsSolution}
 use Rattle.ff_net.specs.Views.{View}
 use Rattle.ff_net.specs.Worlds.{Wire}
-use Rattle.ff_net.specs.Nodes.{IsSound, IsDone, machine_of, outputs_of, in_wires_of, out_wires_of}
+use Rattle.ff_net.specs.Nodes.{IsDone, machine_of, in_wires_of, out_wires_of}
 use Rattle.ff_net_links.specs.declared.ends.InEnd.{InEnd}
 use Rattle.ff_net_links.specs.declared.ends.OutEnd.{OutEnd}
 use Rattle.ff_net_links.specs.declared.linked.Linked.{Linked}

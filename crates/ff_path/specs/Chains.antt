@@ -1,6 +1,5 @@
 -- Four machines in a row, each on a wire from the one before: what is on the wires.
 use Rattle.std.specs.Prelude.{◌≡◌, ◌≢◌, ℕ, zero, suc, ◌<◌, List, [], ◌∷◌, length, map, Option, None, Some, slice_index_or}
-use Rattle.ff_frame.specs.declared.item.Lane.{Lane}
 use Rattle.ff_frame.specs.Stream.{LiesBelow, opened}
 use Rattle.ff_frame.specs.Ports.{stream_at, IsWhole}
 use Rattle.ff_net.specs.declared.fault.Fault.{Fault}

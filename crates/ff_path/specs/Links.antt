@@ -2,8 +2,7 @@
 use Rattle.std.specs.Prelude.{◌≡◌, ℕ, All, Bool, true, List, [], ◌∷◌, Option, None, Some}
 use Rattle.ff_frame.specs.declared.item.Lane.{Lane}
 use Rattle.ff_link.specs.Views.{Sending, Receiving}
-use Rattle.ff_net.specs.declared.fault.Fault.{Fault}
-use Rattle.ff_net.specs.Pasts.{Past, Task, start}
+use Rattle.ff_net.specs.Pasts.{Task, start}
 use Rattle.ff_net.specs.Ways.{lane_at}
 use Rattle.ff_net.specs.Views.{View}
 use Rattle.ff_net.specs.Worlds.{Stand, fresh, lanes_of, sizes_of}

@@ -1,12 +1,7 @@
-use Rattle.std.proofs.Common.{◌≡◌, ◌≢◌, ℕ, ◌<◌, false, List, [], map, length, slice_index_or, Option, None, Some, refl, ap, sym, ◌∙◌, subst, arith}
-use Rattle.ff_frame.specs.Stream.{LiesBelow, opened}
-use Rattle.ff_net.specs.declared.fault.Fault.{Fault}
+use Rattle.std.proofs.Common.{◌≡◌, ◌≢◌, ℕ, ◌<◌, false, List, [], length, slice_index_or, Option, None, Some, refl, ap, sym, ◌∙◌, subst, arith}
 use Rattle.ff_net.specs.declared.fault.Fault.TheVariants.{NoMemory}
 use Rattle.ff_net.specs.declared.node.Node.{Node}
-use Rattle.ff_net.specs.Laws.{FaultStep, IsOfInputs}
-use Rattle.ff_net.specs.Nets.{solve}
-use Rattle.ff_net.specs.Pasts.{Task, IsIn, no_events}
-use Rattle.ff_net.specs.Nodes.{IsSound, machine_of, in_wires_of}
+use Rattle.ff_net.specs.Pasts.{Task, no_events}
 use Rattle.ff_net.specs.Serial.{AreShaped, NetStands, parts_of}
 use Rattle.ff_net.specs.Theorem.{AllFare, MeetsSolution, Settled}
 use Rattle.ff_net.proofs.Before.{meets_since}
