@@ -1,0 +1,21 @@
+//! Whole pictures: mirrored, cut, put on black, and set side by side or one below the other.
+//!
+//! ```text
+//!   width columns          a pixel of the result is a pixel of the picture:
+//!  ┌───────────────┐       hflip   the same row, column w - 1 - column
+//!  │ Y             │ rows  vflip   row h - 1 - row, the same column
+//!  ├───────┬───────┘       crop    row + y, column + x
+//!  │ Cb    │               pad     row - y, column - x; black outside
+//!  ├───────┤
+//!  │ Cr    │               w, h, x and y are those of the plane
+//!  └───────┘
+//! ```
+//!
+//! A picture is the bytes of its planes Y, Cb and Cr one after the other (yuv4mpeg(5), "Frame Format"). `specs/Grid` says
+//! where a pixel lies, and what a picture is whose pixels a function gives; `Flips`, `Parts` and `Stacks` say by such a
+//! function what each of the calls makes. The calls work by whole rows, and where they can in the picture's own memory.
+#![tactic(auto)]
+
+mod flips;
+
+pub use flips::{hflip, vflip};
