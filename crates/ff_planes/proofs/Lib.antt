@@ -1,3 +1,5 @@
 pub mod RowLaws
 pub mod PlaneLaws
 pub mod TurnLaws
+pub mod PartLaws
+pub mod PadLaws

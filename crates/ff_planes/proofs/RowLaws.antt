@@ -1,9 +1,9 @@
 -- Rows one below the other.
-use Rattle.std.proofs.Common.{◌≡◌, ℕ, zero, suc, ◌+◌, ◌-◌, ◌*◌, ◌<◌, ◌≤◌, List, [], ◌∷◌, ◌++◌, map, take, drop, length, get_or, refl, sym, ap, ◌∙◌, subst, arith, add-one, zero-mul, suc-mul, zero-add}
+use Rattle.std.proofs.Common.{◌≡◌, ℕ, zero, suc, ◌+◌, ◌-◌, ◌*◌, ◌<◌, ◌≤◌, List, [], ◌∷◌, ◌++◌, map, take, drop, length, get_or, refl, sym, ap, ◌∙◌, subst, arith, add-one, zero-mul, suc-mul, zero-add, add-zero, replicate}
 use Rattle.std.specs.List.{range_with_len}
-use Rattle.std.proofs.lemmas.List.{length-append, append_assoc, append-nil, take-append-drop, get_or-take, get_or-drop, length-take-le, length-drop, drop-drop, take_all, take-take, drop-take, length-reverse, get_or-reverse, take_at, drop_at, ext_get_or}
+use Rattle.std.proofs.lemmas.List.{length-append, append_assoc, append-nil, take-append-drop, get_or-take, get_or-drop, length-take-le, length-drop, drop-drop, take_all, take-take, drop-take, length-reverse, get_or-reverse, take_at, drop_at, ext_get_or, length-replicate, get_or-replicate}
 use Rattle.std.proofs.lemmas.Nat.{row_fits}
-use Rattle.std.proofs.lemmas.List.FromFn.{fill_by_all, length-map-range_with_len}
+use Rattle.std.proofs.lemmas.List.FromFn.{fill_by_all, length-map-range_with_len, get_or-map-range_with_len, map-range_with_len_more}
 use mathlib.Core.List.{reverse}
 use borrow.Rule.Slice.PartMut.{put_mid}
 use Rattle.ff_planes.specs.Grid.{line, lines, row_of, plane_of, sample}
@@ -106,3 +106,30 @@ lines_of_plane c n xs long = front_lines c n xs (omega arith) ∙ take_all (n * 
 
 pub line_is_row : (c n r : ℕ) (xs : List ℕ) → length xs ≡ n * c → r < n → line c xs r ≡ row_of c (sample c xs r)
 line_is_row c n r xs long lt = part_is_row (r * c) c xs (omega (arith, row_fits r c n c lt (omega arith)))
+
+-- ---- rows and lines in parts
+
+pub row-same : (n : ℕ) (f g : ℕ → ℕ) → ((k : ℕ) → k < n → f k ≡ g k) → row_of n f ≡ row_of n g
+row-same n f g same =
+    fill_by_all g (row_of n f) n 0 (length-map-range_with_len f 0 n) (λ k lt. get_or-map-range_with_len f 0 n k k 0 lt (zero-add k) ∙ same k lt)
+
+pub row-add : (m n : ℕ) (f : ℕ → ℕ) → row_of (m + n) f ≡ row_of m f ++ row_of n (λ k. f (m + k))
+row-add m zero f = ap (λ k. row_of k f) (add-zero m) ∙ sym (append-nil (row_of m f))
+row-add m (suc n) f =
+    let last : row_of (m + n + 1) f ≡ row_of (m + n) f ++ f (m + n) ∷ [] = map-range_with_len_more f 0 (m + n) (m + n) (zero-add (m + n)) in
+    let also : row_of (n + 1) (λ k. f (m + k)) ≡ row_of n (λ k. f (m + k)) ++ f (m + n) ∷ [] = map-range_with_len_more (λ k. f (m + k)) 0 n n (zero-add n) in
+    let size : m + suc n ≡ m + n + 1 = omega arith in
+    let less : n + 1 ≡ suc n = omega arith in
+    ap (λ k. row_of k f) size ∙ last ∙ ap (λ xs. xs ++ f (m + n) ∷ []) (row-add m n f)
+    ∙ append_assoc (row_of m f) (row_of n (λ k. f (m + k))) (f (m + n) ∷ [])
+    ∙ ap (λ xs. row_of m f ++ xs) (sym also) ∙ ap (λ j. row_of m f ++ row_of j (λ k. f (m + k))) less
+
+pub row_is_one_value : (n v : ℕ) → row_of n (λ k. v) ≡ replicate n v
+row_is_one_value n v = sym (fill_by_all (λ k. v) (replicate n v) n 0 (length-replicate n v) (λ k lt. get_or-replicate n k v 0 lt))
+
+pub lines-add : (m n : ℕ) (f : ℕ → List ℕ) → lines (m + n) f ≡ lines m f ++ lines n (λ r. f (m + r))
+lines-add m zero f = ap (λ k. lines k f) (add-zero m) ∙ sym (append-nil (lines m f))
+lines-add m (suc n) f =
+    let size : m + suc n ≡ m + n + 1 = omega arith in
+    ap (λ k. lines k f) size ∙ lines-more (m + n) f ∙ ap (λ xs. xs ++ f (m + n)) (lines-add m n f)
+    ∙ append_assoc (lines m f) (lines n (λ r. f (m + r))) (f (m + n))

@@ -16,6 +16,11 @@
 //! function what each of the calls makes. The calls work by whole rows, and where they can in the picture's own memory.
 #![tactic(auto)]
 
+mod cropping;
 mod flips;
+mod padding;
+mod rectangle;
+mod split;
 
+pub use cropping::crop;
 pub use flips::{hflip, vflip};
