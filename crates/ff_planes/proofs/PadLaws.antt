@@ -7,7 +7,9 @@ use Rattle.std.proofs.lemmas.List.{append_assoc, replicate-append-replicate}
 use Rattle.ff_values.specs.declared.video.Format.{Format}
 use Rattle.ff_values.specs.Video.{chroma_width, chroma_height}
 use Rattle.ff_planes.specs.declared.rectangle.Rectangle.{Rectangle}
-use Rattle.ff_planes.specs.Grid.{Component, luma, blue, red, plane, line, lines, row_of, sample}
+use Rattle.ff_planes.specs.declared.component.Component.{Component}
+use Rattle.ff_planes.specs.declared.component.Component.TheVariants.{Luma, Blue, Red}
+use Rattle.ff_planes.specs.Grid.{plane, line, lines, row_of, sample}
 use Rattle.ff_planes.specs.Parts.{IsPart, in_chroma, holds, padded, on_black, between_values}
 use Rattle.ff_planes.proofs.RowLaws.{lines-same, lines-add, row-same, row-add, row_is_one_value, line_is_row}
 use Rattle.ff_planes.proofs.PartLaws.{three_planes}
@@ -100,15 +102,15 @@ pushed_on_black value columns rows right below r bytes out a b d long inside acr
 
 pub padded_by_planes : (format : Format) (width height cw ch : ℕ) (r chroma : Rectangle) (planes first second third a b d : List ℕ) →
     chroma ≡ in_chroma format r → cw ≡ chroma_width format width → ch ≡ chroma_height format height →
-    first ≡ plane format r.width r.height planes luma → second ≡ plane format r.width r.height planes blue → third ≡ plane format r.width r.height planes red →
+    first ≡ plane format r.width r.height planes Luma → second ≡ plane format r.width r.height planes Blue → third ≡ plane format r.width r.height planes Red →
     a ≡ [] ++ on_black 16 width height r first → b ≡ a ++ on_black 128 cw ch chroma second → d ≡ b ++ on_black 128 cw ch chroma third → d ≡ padded format width height r planes
 unfolding padded
 padded_by_planes format width height cw ch r chroma planes first second third a b d part wide high f s t x y z =
     let one : ℕ → ℕ → Rectangle → List ℕ → List ℕ = on_black 128 in
     three_planes (on_black 16 width height r first) (one cw ch chroma second) (one cw ch chroma third) a b d x y z
     ∙ ap (λ xs. on_black 16 width height r xs ++ (one cw ch chroma second ++ one cw ch chroma third)) f
-    ∙ ap (λ j. on_black 16 width height r (plane format r.width r.height planes luma) ++ (one j ch chroma second ++ one j ch chroma third)) wide
-    ∙ ap (λ j. on_black 16 width height r (plane format r.width r.height planes luma) ++ (one (chroma_width format width) j chroma second ++ one (chroma_width format width) j chroma third)) high
-    ∙ ap (λ q. on_black 16 width height r (plane format r.width r.height planes luma) ++ (one (chroma_width format width) (chroma_height format height) q second ++ one (chroma_width format width) (chroma_height format height) q third)) part
-    ∙ ap (λ xs. on_black 16 width height r (plane format r.width r.height planes luma) ++ (one (chroma_width format width) (chroma_height format height) (in_chroma format r) xs ++ one (chroma_width format width) (chroma_height format height) (in_chroma format r) third)) s
-    ∙ ap (λ xs. on_black 16 width height r (plane format r.width r.height planes luma) ++ (one (chroma_width format width) (chroma_height format height) (in_chroma format r) (plane format r.width r.height planes blue) ++ one (chroma_width format width) (chroma_height format height) (in_chroma format r) xs)) t
+    ∙ ap (λ j. on_black 16 width height r (plane format r.width r.height planes Luma) ++ (one j ch chroma second ++ one j ch chroma third)) wide
+    ∙ ap (λ j. on_black 16 width height r (plane format r.width r.height planes Luma) ++ (one (chroma_width format width) j chroma second ++ one (chroma_width format width) j chroma third)) high
+    ∙ ap (λ q. on_black 16 width height r (plane format r.width r.height planes Luma) ++ (one (chroma_width format width) (chroma_height format height) q second ++ one (chroma_width format width) (chroma_height format height) q third)) part
+    ∙ ap (λ xs. on_black 16 width height r (plane format r.width r.height planes Luma) ++ (one (chroma_width format width) (chroma_height format height) (in_chroma format r) xs ++ one (chroma_width format width) (chroma_height format height) (in_chroma format r) third)) s
+    ∙ ap (λ xs. on_black 16 width height r (plane format r.width r.height planes Luma) ++ (one (chroma_width format width) (chroma_height format height) (in_chroma format r) (plane format r.width r.height planes Blue) ++ one (chroma_width format width) (chroma_height format height) (in_chroma format r) xs)) t

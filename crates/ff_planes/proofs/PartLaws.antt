@@ -5,7 +5,9 @@ use Rattle.std.proofs.lemmas.List.{append_assoc}
 use Rattle.ff_values.specs.declared.video.Format.{Format}
 use Rattle.ff_values.specs.Video.{chroma_width, chroma_height}
 use Rattle.ff_planes.specs.declared.rectangle.Rectangle.{Rectangle}
-use Rattle.ff_planes.specs.Grid.{Component, luma, blue, red, plane, lines, row_of, sample}
+use Rattle.ff_planes.specs.declared.component.Component.{Component}
+use Rattle.ff_planes.specs.declared.component.Component.TheVariants.{Luma, Blue, Red}
+use Rattle.ff_planes.specs.Grid.{plane, lines, row_of, sample}
 use Rattle.ff_planes.specs.Parts.{IsPart, in_chroma, cropped, part_of}
 use Rattle.ff_planes.proofs.RowLaws.{lines-more, part_is_row, row-same}
 
@@ -36,13 +38,13 @@ three_planes x y z a b d e f g = g ∙ ap (λ xs. xs ++ z) (f ∙ ap (λ xs. xs 
 
 pub cropped_by_planes : (format : Format) (width height cw : ℕ) (r chroma : Rectangle) (planes first second third a b d : List ℕ) →
     chroma ≡ in_chroma format r → cw ≡ chroma_width format width →
-    first ≡ plane format width height planes luma → second ≡ plane format width height planes blue → third ≡ plane format width height planes red →
+    first ≡ plane format width height planes Luma → second ≡ plane format width height planes Blue → third ≡ plane format width height planes Red →
     a ≡ [] ++ part_of width first r → b ≡ a ++ part_of cw second chroma → d ≡ b ++ part_of cw third chroma → d ≡ cropped format width height r planes
 unfolding cropped
 cropped_by_planes format width height cw r chroma planes first second third a b d part wide f s t x y z =
     three_planes (part_of width first r) (part_of cw second chroma) (part_of cw third chroma) a b d x y z
     ∙ ap (λ xs. part_of width xs r ++ (part_of cw second chroma ++ part_of cw third chroma)) f
-    ∙ ap (λ j. part_of width (plane format width height planes luma) r ++ (part_of j second chroma ++ part_of j third chroma)) wide
-    ∙ ap (λ q. part_of width (plane format width height planes luma) r ++ (part_of (chroma_width format width) second q ++ part_of (chroma_width format width) third q)) part
-    ∙ ap (λ xs. part_of width (plane format width height planes luma) r ++ (part_of (chroma_width format width) xs (in_chroma format r) ++ part_of (chroma_width format width) third (in_chroma format r))) s
-    ∙ ap (λ xs. part_of width (plane format width height planes luma) r ++ (part_of (chroma_width format width) (plane format width height planes blue) (in_chroma format r) ++ part_of (chroma_width format width) xs (in_chroma format r))) t
+    ∙ ap (λ j. part_of width (plane format width height planes Luma) r ++ (part_of j second chroma ++ part_of j third chroma)) wide
+    ∙ ap (λ q. part_of width (plane format width height planes Luma) r ++ (part_of (chroma_width format width) second q ++ part_of (chroma_width format width) third q)) part
+    ∙ ap (λ xs. part_of width (plane format width height planes Luma) r ++ (part_of (chroma_width format width) xs (in_chroma format r) ++ part_of (chroma_width format width) third (in_chroma format r))) s
+    ∙ ap (λ xs. part_of width (plane format width height planes Luma) r ++ (part_of (chroma_width format width) (plane format width height planes Blue) (in_chroma format r) ++ part_of (chroma_width format width) xs (in_chroma format r))) t

@@ -2,21 +2,23 @@
 use Rattle.std.proofs.Common.{◌≡◌, ℕ, ◌+◌, ◌-◌, ◌*◌, List, ◌++◌, take, drop, refl, sym, ap, ◌∙◌}
 use Rattle.ff_values.specs.declared.video.Format.{Format}
 use Rattle.ff_values.specs.Video.{chroma_width, chroma_height}
-use Rattle.ff_planes.specs.Grid.{Component, luma, blue, red, columns, rows, plane}
+use Rattle.ff_planes.specs.declared.component.Component.{Component}
+use Rattle.ff_planes.specs.declared.component.Component.TheVariants.{Luma, Blue, Red}
+use Rattle.ff_planes.specs.Grid.{columns, rows, plane}
 use Rattle.ff_planes.specs.Flips.{hflipped, vflipped, mirrored, turned_over}
 
 -- each plane by itself, one behind the other
 abbrev pub each_plane : (ℕ → ℕ → List ℕ → List ℕ) → Format → ℕ → ℕ → List ℕ → List ℕ
 each_plane make format width height planes =
-    make width height (plane format width height planes luma)
-    ++ (make (chroma_width format width) (chroma_height format height) (plane format width height planes blue)
-    ++ make (chroma_width format width) (chroma_height format height) (plane format width height planes red))
+    make width height (plane format width height planes Luma)
+    ++ (make (chroma_width format width) (chroma_height format height) (plane format width height planes Blue)
+    ++ make (chroma_width format width) (chroma_height format height) (plane format width height planes Red))
 
 -- the planes as they are split off
 pub record IsSplit (format : Format) (width height : ℕ) (planes first second third : List ℕ) : Type 0 where
-  pub first_is : first ≡ plane format width height planes luma
-  pub second_is : second ≡ plane format width height planes blue
-  pub third_is : third ≡ plane format width height planes red
+  pub first_is : first ≡ plane format width height planes Luma
+  pub second_is : second ≡ plane format width height planes Blue
+  pub third_is : third ≡ plane format width height planes Red
 
 pub split_planes : (format : Format) (width height cw ch : ℕ) (planes first rest second third : List ℕ) →
     cw ≡ chroma_width format width → ch ≡ chroma_height format height →
@@ -30,14 +32,14 @@ pub made_of_planes : (make : ℕ → ℕ → List ℕ → List ℕ) (format : Fo
     cw ≡ chroma_width format width → ch ≡ chroma_height format height → IsSplit format width height planes first second third →
     a ≡ make width height first → b ≡ make cw ch second → d ≡ make cw ch third → a ++ (b ++ d) ≡ each_plane make format width height planes
 made_of_planes make format width height cw ch planes first second third a b d w h s x y z =
-    let luma_is : a ≡ make width height (plane format width height planes luma) = x ∙ ap (make width height) s.first_is in
-    let blue_is : b ≡ make (chroma_width format width) (chroma_height format height) (plane format width height planes blue) =
+    let luma_is : a ≡ make width height (plane format width height planes Luma) = x ∙ ap (make width height) s.first_is in
+    let blue_is : b ≡ make (chroma_width format width) (chroma_height format height) (plane format width height planes Blue) =
         y ∙ ap (λ n. make n ch second) w ∙ ap (λ n. make (chroma_width format width) n second) h ∙ ap (make (chroma_width format width) (chroma_height format height)) s.second_is in
-    let red_is : d ≡ make (chroma_width format width) (chroma_height format height) (plane format width height planes red) =
+    let red_is : d ≡ make (chroma_width format width) (chroma_height format height) (plane format width height planes Red) =
         z ∙ ap (λ n. make n ch third) w ∙ ap (λ n. make (chroma_width format width) n third) h ∙ ap (make (chroma_width format width) (chroma_height format height)) s.third_is in
     ap (λ xs. xs ++ (b ++ d)) luma_is
-    ∙ ap (λ xs. make width height (plane format width height planes luma) ++ (xs ++ d)) blue_is
-    ∙ ap (λ xs. make width height (plane format width height planes luma) ++ (make (chroma_width format width) (chroma_height format height) (plane format width height planes blue) ++ xs)) red_is
+    ∙ ap (λ xs. make width height (plane format width height planes Luma) ++ (xs ++ d)) blue_is
+    ∙ ap (λ xs. make width height (plane format width height planes Luma) ++ (make (chroma_width format width) (chroma_height format height) (plane format width height planes Blue) ++ xs)) red_is
 
 pub hflipped_by_planes : (format : Format) (width height : ℕ) (planes : List ℕ) → each_plane mirrored format width height planes ≡ hflipped format width height planes
 unfolding hflipped

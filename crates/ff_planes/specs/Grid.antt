@@ -3,23 +3,19 @@ use Rattle.std.specs.Prelude.{ℕ, zero, suc, ◌+◌, ◌*◌, List, [], ◌++�
 use Rattle.std.specs.List.{range_with_len}
 use Rattle.ff_values.specs.declared.video.Format.{Format}
 use Rattle.ff_values.specs.Video.{chroma_width, chroma_height}
-
--- which plane: Y, Cb or Cr
-pub data Component : Type 0 where
-  luma : Component
-  blue : Component
-  red : Component
+use Rattle.ff_planes.specs.declared.component.Component.{Component}
+use Rattle.ff_planes.specs.declared.component.Component.TheVariants.{Luma, Blue, Red}
 
 -- the columns of a plane, and its rows; without colour Cb and Cr have none
 abbrev pub columns : Format → ℕ → Component → ℕ
-columns format width luma = width
-columns format width blue = chroma_width format width
-columns format width red = chroma_width format width
+columns format width Luma = width
+columns format width Blue = chroma_width format width
+columns format width Red = chroma_width format width
 
 abbrev pub rows : Format → ℕ → Component → ℕ
-rows format height luma = height
-rows format height blue = chroma_height format height
-rows format height red = chroma_height format height
+rows format height Luma = height
+rows format height Blue = chroma_height format height
+rows format height Red = chroma_height format height
 
 -- how many pixels a plane has
 abbrev pub area : Format → ℕ → ℕ → Component → ℕ
@@ -27,9 +23,9 @@ area format width height c = rows format height c * columns format width c
 
 -- the bytes of a plane: Y comes first, then Cb, then Cr
 abbrev pub plane : Format → ℕ → ℕ → List ℕ → Component → List ℕ
-plane format width height planes luma = take (area format width height luma) planes
-plane format width height planes blue = take (area format width height blue) (drop (area format width height luma) planes)
-plane format width height planes red = drop (area format width height blue) (drop (area format width height luma) planes)
+plane format width height planes Luma = take (area format width height Luma) planes
+plane format width height planes Blue = take (area format width height Blue) (drop (area format width height Luma) planes)
+plane format width height planes Red = drop (area format width height Blue) (drop (area format width height Luma) planes)
 
 -- the pixel of a plane at a row and a column
 abbrev pub sample : ℕ → List ℕ → ℕ → ℕ → ℕ
@@ -58,6 +54,6 @@ plane_of columns rows at = lines rows (λ row. row_of columns (at row))
 -- the picture whose pixel of a plane at a row and a column a function gives
 abbrev pub picture_of : Format → ℕ → ℕ → (Component → ℕ → ℕ → ℕ) → List ℕ
 picture_of format width height at =
-    plane_of (columns format width luma) (rows format height luma) (at luma)
-    ++ (plane_of (columns format width blue) (rows format height blue) (at blue)
-    ++ plane_of (columns format width red) (rows format height red) (at red))
+    plane_of (columns format width Luma) (rows format height Luma) (at Luma)
+    ++ (plane_of (columns format width Blue) (rows format height Blue) (at Blue)
+    ++ plane_of (columns format width Red) (rows format height Red) (at Red))

@@ -4,7 +4,9 @@ use Rattle.ff_values.specs.declared.video.Format.{Format}
 use Rattle.ff_values.specs.declared.video.Format.TheVariants.{C420, C422, C444, Mono}
 use Rattle.ff_values.specs.Video.{chroma_width, chroma_height}
 use Rattle.ff_planes.specs.declared.rectangle.Rectangle.{Rectangle}
-use Rattle.ff_planes.specs.Grid.{Component, luma, blue, red, line, columns, rows, pixel, sample, plane_of, picture_of}
+use Rattle.ff_planes.specs.declared.component.Component.{Component}
+use Rattle.ff_planes.specs.declared.component.Component.TheVariants.{Luma, Blue, Red}
+use Rattle.ff_planes.specs.Grid.{line, columns, rows, pixel, sample, plane_of, picture_of}
 
 -- the columns of Cb and of Cr left of a column of Y, and their rows above a row of Y
 abbrev pub chroma_left : Format → ℕ → ℕ
@@ -24,9 +26,9 @@ abbrev pub in_chroma : Format → Rectangle → Rectangle
 in_chroma format r = record { x = chroma_left format r.x; y = chroma_top format r.y; width = chroma_width format r.width; height = chroma_height format r.height }
 
 abbrev pub in_plane : Format → Rectangle → Component → Rectangle
-in_plane format r luma = r
-in_plane format r blue = in_chroma format r
-in_plane format r red = in_chroma format r
+in_plane format r Luma = r
+in_plane format r Blue = in_chroma format r
+in_plane format r Red = in_chroma format r
 
 -- the rectangle lies in so many columns and rows
 pub record IsPart (width height : ℕ) (r : Rectangle) : Type 0 where
@@ -44,9 +46,9 @@ cropped format width height r planes =
 
 -- black: 16 in Y, and 128 in Cb and in Cr, which is no colour (ITU-R BT.601, section 2.5.3)
 abbrev pub black : Component → ℕ
-black luma = 16
-black blue = 128
-black red = 128
+black Luma = 16
+black Blue = 128
+black Red = 128
 
 -- a picture as large as a rectangle, shown in it by a picture of so many columns and rows that is black elsewhere
 unfoldable pub padded : Format → ℕ → ℕ → Rectangle → List ℕ → List ℕ

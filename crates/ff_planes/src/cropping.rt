@@ -2,8 +2,8 @@ ghost use Rattle.std.specs.Prelude.{◌≡◌, ◌+◌, ◌*◌, ◌≤◌, ◌+
 ghost use Rattle.ff_values.specs.Video.{IsVideo};
 ghost use Rattle.ff_planes.specs.Parts.{IsPart, cropped, part_of};
 
+use crate::component::Component;
 use crate::rectangle::Rectangle;
-use crate::split::planes_of;
 use ff_values::Format;
 use std::alloc::{AllocError, Global};
 
@@ -29,7 +29,9 @@ pub fn crop(alloc: Global, format: Format, width: u32, height: u32, part: Rectan
     let chroma_part = part.in_chroma(format);
     let columns = format.chroma_width(width) as usize;
     let rows = format.chroma_height(height) as usize;
-    let (luma, blue, red) = planes_of(format, width, height, planes);
+    let luma = Component::Luma.plane(format, width, height, planes);
+    let blue = Component::Blue.plane(format, width, height, planes);
+    let red = Component::Red.plane(format, width, height, planes);
     let mut out = Vec::with_capacity(alloc, format.frame_size(part.width, part.height))?;
     push_part(&mut out, width as usize, height as usize, part, luma)?;
     push_part(&mut out, columns, rows, chroma_part, blue)?;

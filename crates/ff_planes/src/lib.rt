@@ -16,11 +16,13 @@
 //! function what each of the calls makes. The calls work by whole rows, and where they can in the picture's own memory.
 #![tactic(auto)]
 
+mod component;
 mod cropping;
 mod flips;
 mod padding;
 mod rectangle;
-mod split;
 
+
+pub use component::Component;
 pub use cropping::crop;
 pub use flips::{hflip, vflip};

@@ -3,8 +3,8 @@ ghost use Rattle.ff_values.specs.Video.{IsSide, IsVideo};
 ghost use Rattle.ff_planes.specs.Grid.{lines};
 ghost use Rattle.ff_planes.specs.Parts.{IsPart, padded, on_black, between_values};
 
+use crate::component::Component;
 use crate::rectangle::Rectangle;
-use crate::split::planes_of;
 use ff_values::Format;
 use std::alloc::{AllocError, Global};
 
@@ -56,7 +56,9 @@ pub fn pad(alloc: Global, format: Format, width: u32, height: u32, part: Rectang
     let chroma_part = part.in_chroma(format);
     let columns = format.chroma_width(width);
     let rows = format.chroma_height(height);
-    let (luma, blue, red) = planes_of(format, part.width, part.height, planes);
+    let luma = Component::Luma.plane(format, part.width, part.height, planes);
+    let blue = Component::Blue.plane(format, part.width, part.height, planes);
+    let red = Component::Red.plane(format, part.width, part.height, planes);
     let mut out = Vec::with_capacity(alloc, format.frame_size(width, height))?;
     push_on_black(&mut out, 16, width, height, part, luma)?;
     push_on_black(&mut out, 128, columns, rows, chroma_part, blue)?;
