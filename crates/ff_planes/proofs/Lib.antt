@@ -3,3 +3,4 @@ pub mod PlaneLaws
 pub mod TurnLaws
 pub mod PartLaws
 pub mod PadLaws
+pub mod StackLaws

@@ -50,20 +50,20 @@ module _ (value : ℕ) (r : Rectangle) (bytes : List ℕ) where
   mixed_row right row long lt =
       let at : ℕ → ℕ = shown (r.y + row) in
       let left_is : row_of r.x at ≡ replicate r.x value =
-          row-same r.x at (λ column. value) (λ column less. ap (λ b. if b then sample r.width bytes (r.y + row - r.y) (column - r.x) else value) (not_left r (r.y + row) column less))
-          ∙ row_is_one_value r.x value in
+      row-same r.x at (λ column. value) (λ column less. ap (λ b. if b then sample r.width bytes (r.y + row - r.y) (column - r.x) else value) (not_left r (r.y + row) column less))
+      ∙ row_is_one_value r.x value in
       let middle_is : row_of r.width (λ k. at (r.x + k)) ≡ line r.width bytes row =
-          row-same r.width (λ k. at (r.x + k)) (sample r.width bytes row)
-              (λ k less.
-                  let up : r.y + row - r.y ≡ row = omega arith in
-                  let along : r.x + k - r.x ≡ k = omega arith in
-                  ap (λ b. if b then sample r.width bytes (r.y + row - r.y) (r.x + k - r.x) else value) (holds_inside r (r.y + row) (r.x + k) (omega arith) (omega arith) (omega arith) (omega arith))
-                  ∙ ap (λ m. sample r.width bytes m (r.x + k - r.x)) up ∙ ap (sample r.width bytes row) along)
-          ∙ sym (line_is_row r.width r.height row bytes long lt) in
+      row-same r.width (λ k. at (r.x + k)) (sample r.width bytes row)
+      (λ k less.
+      let up : r.y + row - r.y ≡ row = omega arith in
+      let along : r.x + k - r.x ≡ k = omega arith in
+      ap (λ b. if b then sample r.width bytes (r.y + row - r.y) (r.x + k - r.x) else value) (holds_inside r (r.y + row) (r.x + k) (omega arith) (omega arith) (omega arith) (omega arith))
+      ∙ ap (λ m. sample r.width bytes m (r.x + k - r.x)) up ∙ ap (sample r.width bytes row) along)
+      ∙ sym (line_is_row r.width r.height row bytes long lt) in
       let right_is : row_of right (λ k. at (r.x + (r.width + k))) ≡ replicate right value =
-          row-same right (λ k. at (r.x + (r.width + k))) (λ k. value)
-              (λ k less. ap (λ b. if b then sample r.width bytes (r.y + row - r.y) (r.x + (r.width + k) - r.x) else value) (not_right r (r.y + row) (r.x + (r.width + k)) (omega arith)))
-          ∙ row_is_one_value right value in
+      row-same right (λ k. at (r.x + (r.width + k))) (λ k. value)
+      (λ k less. ap (λ b. if b then sample r.width bytes (r.y + row - r.y) (r.x + (r.width + k) - r.x) else value) (not_right r (r.y + row) (r.x + (r.width + k)) (omega arith)))
+      ∙ row_is_one_value right value in
       row-add r.x (r.width + right) at
       ∙ ap (λ xs. row_of r.x at ++ xs) (row-add r.width right (λ k. at (r.x + k)))
       ∙ ap (λ xs. xs ++ (row_of r.width (λ k. at (r.x + k)) ++ row_of right (λ k. at (r.x + (r.width + k))))) left_is
@@ -75,12 +75,12 @@ module _ (value : ℕ) (r : Rectangle) (bytes : List ℕ) where
   on_black_parts columns right below long wide =
       let at : ℕ → List ℕ = λ row. row_of columns (shown row) in
       let above_is : lines r.y at ≡ replicate (r.y * columns) value =
-          lines_of_one_value r.y columns value at (λ row lt. black_row columns row (λ column. not_above r row column lt)) in
+      lines_of_one_value r.y columns value at (λ row lt. black_row columns row (λ column. not_above r row column lt)) in
       let middle_is : lines r.height (λ k. at (r.y + k)) ≡ lines r.height (between_values value r.x right r.width bytes) =
-          lines-same r.height (λ k. at (r.y + k)) (between_values value r.x right r.width bytes)
-              (λ k lt. ap (λ n. row_of n (shown (r.y + k))) wide ∙ mixed_row right k long lt) in
+      lines-same r.height (λ k. at (r.y + k)) (between_values value r.x right r.width bytes)
+      (λ k lt. ap (λ n. row_of n (shown (r.y + k))) wide ∙ mixed_row right k long lt) in
       let below_is : lines below (λ k. at (r.y + (r.height + k))) ≡ replicate (below * columns) value =
-          lines_of_one_value below columns value (λ k. at (r.y + (r.height + k))) (λ k lt. black_row columns (r.y + (r.height + k)) (λ column. not_below r (r.y + (r.height + k)) column (omega arith))) in
+      lines_of_one_value below columns value (λ k. at (r.y + (r.height + k))) (λ k lt. black_row columns (r.y + (r.height + k)) (λ column. not_below r (r.y + (r.height + k)) column (omega arith))) in
       lines-add r.y (r.height + below) at
       ∙ ap (λ xs. lines r.y at ++ xs) (lines-add r.height below (λ k. at (r.y + k)))
       ∙ ap (λ xs. xs ++ (lines r.height (λ k. at (r.y + k)) ++ lines below (λ k. at (r.y + (r.height + k))))) above_is

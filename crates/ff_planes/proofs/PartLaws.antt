@@ -22,10 +22,10 @@ one_more_part columns rows row k r bytes out long inside low high wide =
     let here : row - r.y + r.y ≡ row = omega arith in
     let next : row + 1 - r.y ≡ row - r.y + 1 = omega arith in
     let part : take r.width (drop (row * columns + r.x) bytes) ≡ part_row columns bytes r (row - r.y) =
-        part_is_row (row * columns + r.x) r.width bytes (omega (arith, inside.columns))
-        ∙ row-same r.width (λ c. get_or bytes (row * columns + r.x + c) 0) (λ c. sample columns bytes (row - r.y + r.y) (c + r.x))
-            (λ c lt. let place : row * columns + r.x + c ≡ row * columns + (c + r.x) = omega arith in
-                ap (λ j. get_or bytes j 0) place ∙ ap (λ j. get_or bytes (j * columns + (c + r.x)) 0) (sym here)) in
+    part_is_row (row * columns + r.x) r.width bytes (omega (arith, inside.columns))
+    ∙ row-same r.width (λ c. get_or bytes (row * columns + r.x + c) 0) (λ c. sample columns bytes (row - r.y + r.y) (c + r.x))
+    (λ c lt. let place : row * columns + r.x + c ≡ row * columns + (c + r.x) = omega arith in
+    ap (λ j. get_or bytes j 0) place ∙ ap (λ j. get_or bytes (j * columns + (c + r.x)) 0) (sym here)) in
     append_assoc out (lines (row - r.y) (part_row columns bytes r)) (take k (drop (row * columns + r.x) bytes))
     ∙ ap (λ j. out ++ (lines (row - r.y) (part_row columns bytes r) ++ take j (drop (row * columns + r.x) bytes))) wide
     ∙ ap (λ xs. out ++ (lines (row - r.y) (part_row columns bytes r) ++ xs)) part

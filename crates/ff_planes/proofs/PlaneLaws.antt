@@ -34,9 +34,9 @@ pub made_of_planes : (make : ℕ → ℕ → List ℕ → List ℕ) (format : Fo
 made_of_planes make format width height cw ch planes first second third a b d w h s x y z =
     let luma_is : a ≡ make width height (plane format width height planes Luma) = x ∙ ap (make width height) s.first_is in
     let blue_is : b ≡ make (chroma_width format width) (chroma_height format height) (plane format width height planes Blue) =
-        y ∙ ap (λ n. make n ch second) w ∙ ap (λ n. make (chroma_width format width) n second) h ∙ ap (make (chroma_width format width) (chroma_height format height)) s.second_is in
+    y ∙ ap (λ n. make n ch second) w ∙ ap (λ n. make (chroma_width format width) n second) h ∙ ap (make (chroma_width format width) (chroma_height format height)) s.second_is in
     let red_is : d ≡ make (chroma_width format width) (chroma_height format height) (plane format width height planes Red) =
-        z ∙ ap (λ n. make n ch third) w ∙ ap (λ n. make (chroma_width format width) n third) h ∙ ap (make (chroma_width format width) (chroma_height format height)) s.third_is in
+    z ∙ ap (λ n. make n ch third) w ∙ ap (λ n. make (chroma_width format width) n third) h ∙ ap (make (chroma_width format width) (chroma_height format height)) s.third_is in
     ap (λ xs. xs ++ (b ++ d)) luma_is
     ∙ ap (λ xs. make width height (plane format width height planes Luma) ++ (xs ++ d)) blue_is
     ∙ ap (λ xs. make width height (plane format width height planes Luma) ++ (make (chroma_width format width) (chroma_height format height) (plane format width height planes Blue) ++ xs)) red_is

@@ -38,7 +38,7 @@ take_add m n xs = ap (λ ys. take m xs ++ ys) (sym (drop-take m n xs)) ∙ ap (�
 pub part_is_row : (from n : ℕ) (xs : List ℕ) → from + n ≤ length xs → take n (drop from xs) ≡ row_of n (λ c. get_or xs (from + c) 0)
 part_is_row from n xs room =
     fill_by_all (λ c. get_or xs (from + c) 0) (take n (drop from xs)) n 0 (length-slice from n xs room)
-        (λ k lt. get_or-take n (drop from xs) k 0 lt ∙ get_or-drop from xs k 0)
+    (λ k lt. get_or-take n (drop from xs) k 0 lt ∙ get_or-drop from xs k 0)
 
 abbrev pub mirrored_row : ℕ → List ℕ → ℕ → List ℕ
 mirrored_row columns bytes r = row_of columns (λ c. sample columns bytes r (columns - 1 - c))
@@ -48,10 +48,10 @@ part_reversed from n xs room =
     let part : List ℕ = take n (drop from xs) in
     let long : length part ≡ n = length-slice from n xs room in
     fill_by_all (λ c. get_or xs (from + (n - 1 - c)) 0) (reverse part) n 0 (length-reverse part ∙ long)
-        (λ k lt. get_or-reverse part k 0 (omega arith)
-            ∙ ap (λ m. get_or part (m - 1 - k) 0) long
-            ∙ get_or-take n (drop from xs) (n - 1 - k) 0 (omega arith)
-            ∙ get_or-drop from xs (n - 1 - k) 0)
+    (λ k lt. get_or-reverse part k 0 (omega arith)
+    ∙ ap (λ m. get_or part (m - 1 - k) 0) long
+    ∙ get_or-take n (drop from xs) (n - 1 - k) 0 (omega arith)
+    ∙ get_or-drop from xs (n - 1 - k) 0)
 
 -- the first rows of a plane are done, and the next one too
 pub one_more_line : (columns r k : ℕ) (f : ℕ → List ℕ) (old now new : List ℕ) → ((i : ℕ) → i < r → length (f i) ≡ columns) → k ≡ columns →
@@ -82,7 +82,7 @@ one_more_mirrored columns rows r k old now new lt long same e n =
     let wide : (i : ℕ) → i < r → length (mirrored_row columns old i) ≡ columns = λ i il. length-map-range_with_len (λ c. sample columns old i (columns - 1 - c)) 0 columns in
     let room : r * columns + columns ≤ length old = omega (arith, row_fits r columns rows columns lt (omega arith)) in
     let row : new ≡ mirrored_row columns old r =
-        n ∙ ap (λ xs. reverse (take k xs)) (lines_left columns r (mirrored_row columns old) old now wide e) ∙ ap (λ m. reverse (take m (drop (r * columns) old))) same ∙ part_reversed (r * columns) columns old room in
+    n ∙ ap (λ xs. reverse (take k xs)) (lines_left columns r (mirrored_row columns old) old now wide e) ∙ ap (λ m. reverse (take m (drop (r * columns) old))) same ∙ part_reversed (r * columns) columns old room in
     one_more_line columns r k (mirrored_row columns old) old now new wide same e row
 
 -- ---- a plane by its rows
@@ -90,9 +90,9 @@ one_more_mirrored columns rows r k old now new lt long same e n =
 pub line_same : (c r s : ℕ) (xs ys : List ℕ) → r * c + c ≤ length xs → s * c + c ≤ length ys → ((k : ℕ) → k < c → get_or xs (r * c + k) 0 ≡ get_or ys (s * c + k) 0) → line c xs r ≡ line c ys s
 line_same c r s xs ys room also same =
     ext_get_or 0 (line c xs r) (line c ys s) (length-slice (r * c) c xs room ∙ sym (length-slice (s * c) c ys also))
-        (λ k lt. let below : k < c = omega (arith, length-slice (r * c) c xs room) in
-            get_or-take c (drop (r * c) xs) k 0 below ∙ get_or-drop (r * c) xs k 0 ∙ same k below
-            ∙ sym (get_or-take c (drop (s * c) ys) k 0 below ∙ get_or-drop (s * c) ys k 0))
+    (λ k lt. let below : k < c = omega (arith, length-slice (r * c) c xs room) in
+    get_or-take c (drop (r * c) xs) k 0 below ∙ get_or-drop (r * c) xs k 0 ∙ same k below
+    ∙ sym (get_or-take c (drop (s * c) ys) k 0 below ∙ get_or-drop (s * c) ys k 0))
 
 front_lines : (c n : ℕ) (xs : List ℕ) → n * c ≤ length xs → lines n (line c xs) ≡ take (n * c) xs
 front_lines c zero xs room = ap (λ m. take m xs) (sym (zero-mul c))

@@ -15,19 +15,20 @@ pub record IsTurnedSoFar (columns rows done : ℕ) (old now : List ℕ) : Type 0
   pub lower : (r : ℕ) → r < done → line columns now (rows - 1 - r) ≡ line columns old r
   pub middle : (r : ℕ) → done ≤ r → r + done < rows → line columns now r ≡ line columns old r
 
-
 -- row number r, once all pairs have changed places
 turned_line : (columns rows : ℕ) (old now : List ℕ) → IsTurnedSoFar columns rows (rows / 2) old now → (r : ℕ) → r < rows → line columns now r ≡ line columns old (rows - 1 - r)
 turned_line columns rows old now t r lt =
     elim (cases_lt r (rows / 2)) [
-      inl above ↦ t.upper r above |
-      inr h ↦ elim (cases_lt (rows - 1 - r) (rows / 2)) [
-        inl below ↦
-          let back : rows - 1 - (rows - 1 - r) ≡ r = omega arith in
-          ap (line columns now) (sym back) ∙ t.lower (rows - 1 - r) below |
-        inr g ↦
-          let same : r ≡ rows - 1 - r = omega arith in
-          t.middle r h (omega arith) ∙ ap (line columns old) same ] ]
+      | inl above ↦ t.upper r above
+      | inr h ↦ elim (cases_lt (rows - 1 - r) (rows / 2)) [
+        | inl below ↦
+            let back : rows - 1 - (rows - 1 - r) ≡ r = omega arith in
+            ap (line columns now) (sym back) ∙ t.lower (rows - 1 - r) below
+        | inr g ↦
+            let same : r ≡ rows - 1 - r = omega arith in
+            t.middle r h (omega arith) ∙ ap (line columns old) same
+      ]
+    ]
 
 pub all_turned : (columns rows done : ℕ) (old now : List ℕ) → length old ≡ rows * columns → length now ≡ rows * columns → rows / 2 ≤ done → IsTurnedSoFar columns rows done old now →
     now ≡ turned_over columns rows old
@@ -36,7 +37,7 @@ all_turned columns rows done old now long also many so_far =
     let t : IsTurnedSoFar columns rows (rows / 2) old now = subst (λ n. IsTurnedSoFar columns rows n old now) all so_far in
     sym (lines_of_plane columns rows now also)
     ∙ lines-same rows (line columns now) (λ r. row_of columns (sample columns old (rows - 1 - r)))
-        (λ r lt. turned_line columns rows old now t r lt ∙ line_is_row columns rows (rows - 1 - r) old long (omega arith))
+    (λ r lt. turned_line columns rows old now t r lt ∙ line_is_row columns rows (rows - 1 - r) old long (omega arith))
 
 pub none_turned : (columns rows : ℕ) (old : List ℕ) → IsTurnedSoFar columns rows 0 old old
 none_turned columns rows old = record { few = omega arith; upper = λ r lt. absurd (omega arith); lower = λ r lt. absurd (omega arith); middle = λ r h lt. refl }
@@ -48,11 +49,13 @@ pub one_more_turned : (columns rows done : ℕ) (old now new : List ℕ) → don
 one_more_turned columns rows done old now new lt t up low others = record {
   few = omega arith;
   upper = λ r less. elim (cases_eq r done) [
-    inl here ↦ ap (line columns new) here ∙ up ∙ t.middle (rows - 1 - done) (omega arith) (omega arith) ∙ ap (λ m. line columns old (rows - 1 - m)) (sym here) |
-    inr away ↦ others r (omega arith) away (λ e. absurd (omega arith)) ∙ t.upper r (omega arith) ];
+    | inl here ↦ ap (line columns new) here ∙ up ∙ t.middle (rows - 1 - done) (omega arith) (omega arith) ∙ ap (λ m. line columns old (rows - 1 - m)) (sym here)
+    | inr away ↦ others r (omega arith) away (λ e. absurd (omega arith)) ∙ t.upper r (omega arith)
+  ];
   lower = λ r less. elim (cases_eq r done) [
-    inl here ↦ ap (λ m. line columns new (rows - 1 - m)) here ∙ low ∙ t.middle done (omega arith) (omega arith) ∙ ap (line columns old) (sym here) |
-    inr away ↦ others (rows - 1 - r) (omega arith) (λ e. absurd (omega arith)) (λ e. absurd (omega arith)) ∙ t.lower r (omega arith) ];
+    | inl here ↦ ap (λ m. line columns new (rows - 1 - m)) here ∙ low ∙ t.middle done (omega arith) (omega arith) ∙ ap (line columns old) (sym here)
+    | inr away ↦ others (rows - 1 - r) (omega arith) (λ e. absurd (omega arith)) (λ e. absurd (omega arith)) ∙ t.lower r (omega arith)
+  ];
   middle = λ r h less. others r (omega arith) (λ e. absurd (omega arith)) (λ e. absurd (omega arith)) ∙ t.middle r (omega arith) (omega arith);
 }
 
@@ -86,23 +89,25 @@ swapped_others c n u l k r front back x y old same size there order long wide al
     let upper : u * c + c ≤ l * c = row_fits u c l c order (omega arith) in
     let kept : length p ≡ length front = length-put (u * c) k front x (omega arith) (omega arith) in
     elim (cases_lt r l) [
-      inl before ↦
-        let room : r * c + c ≤ l * c = row_fits r c l c before (omega arith) in
-        front_line c r p (y ++ drop c back) (omega arith)
-        ∙ elim (cases_lt r u) [
-            inl above ↦
-              let far : r * c + c ≤ u * c = row_fits r c u c above (omega arith) in
-              let room_u : r * c + c ≤ length (take (u * c) front) = omega (arith, length-take-le (u * c) front (omega arith)) in
-              front_line c r (take (u * c) front) (x ++ drop k (drop (u * c) front)) room_u
-              ∙ sym (front_line c r (take (u * c) front) (drop (u * c) front) room_u)
-              ∙ ap (λ xs. line c xs r) (take-append-drop (u * c) front) |
-            inr below ↦
-              let far : u * c + c ≤ r * c = row_fits u c r c (omega arith) (omega arith) in
-              ap (take c) (drop-put_mid (u * c) k front x (r * c) (omega arith) (omega arith) (omega arith)) ]
-        ∙ sym (front_line c r front back (omega arith))
-        ∙ ap (λ xs. line c xs r) (sym whole) |
-      inr h ↦
-        let after : l * c + c ≤ r * c = row_fits l c r c (omega arith) (omega arith) in
-        let tail : drop c back ≡ drop (l * c + c) old = ap (drop c) behind ∙ drop-drop c (l * c) old in
-        ap (λ xs. line c xs r) (sym (append_assoc p y (drop c back)) ∙ ap (λ zs. (p ++ y) ++ zs) tail)
-        ∙ ap (take c) (drop-append-drop (l * c + c) old (p ++ y) (r * c) after (length-append p y ∙ omega arith)) ]
+      | inl before ↦
+          let room : r * c + c ≤ l * c = row_fits r c l c before (omega arith) in
+          front_line c r p (y ++ drop c back) (omega arith)
+          ∙ elim (cases_lt r u) [
+            | inl above ↦
+                let far : r * c + c ≤ u * c = row_fits r c u c above (omega arith) in
+                let room_u : r * c + c ≤ length (take (u * c) front) = omega (arith, length-take-le (u * c) front (omega arith)) in
+                front_line c r (take (u * c) front) (x ++ drop k (drop (u * c) front)) room_u
+                ∙ sym (front_line c r (take (u * c) front) (drop (u * c) front) room_u)
+                ∙ ap (λ xs. line c xs r) (take-append-drop (u * c) front)
+            | inr below ↦
+                let far : u * c + c ≤ r * c = row_fits u c r c (omega arith) (omega arith) in
+                ap (take c) (drop-put_mid (u * c) k front x (r * c) (omega arith) (omega arith) (omega arith))
+          ]
+          ∙ sym (front_line c r front back (omega arith))
+          ∙ ap (λ xs. line c xs r) (sym whole)
+      | inr h ↦
+          let after : l * c + c ≤ r * c = row_fits l c r c (omega arith) (omega arith) in
+          let tail : drop c back ≡ drop (l * c + c) old = ap (drop c) behind ∙ drop-drop c (l * c) old in
+          ap (λ xs. line c xs r) (sym (append_assoc p y (drop c back)) ∙ ap (λ zs. (p ++ y) ++ zs) tail)
+          ∙ ap (take c) (drop-append-drop (l * c + c) old (p ++ y) (r * c) after (length-append p y ∙ omega arith))
+    ]

@@ -1,3 +1,4 @@
 pub mod Grid
 pub mod Flips
 pub mod Parts
+pub mod Stacks

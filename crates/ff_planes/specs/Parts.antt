@@ -54,9 +54,9 @@ black Red = 128
 unfoldable pub padded : Format → ℕ → ℕ → Rectangle → List ℕ → List ℕ
 padded format width height r planes =
     picture_of format width height (λ c row column.
-        if holds (in_plane format r c) row column
-        then pixel format r.width r.height planes c (row - (in_plane format r c).y) (column - (in_plane format r c).x)
-        else black c)
+    if holds (in_plane format r c) row column
+    then pixel format r.width r.height planes c (row - (in_plane format r c).y) (column - (in_plane format r c).x)
+    else black c)
 
 -- the same of one plane
 abbrev pub part_of : ℕ → List ℕ → Rectangle → List ℕ

@@ -12,7 +12,7 @@ pub enum Component {
 }
 
 impl Component {
-    ghost use Rattle.std.specs.Prelude.{◌≡◌, ◌≤◌};
+    ghost use Rattle.std.specs.Prelude.{◌≡◌, ◌≤◌, ◌*◌, length};
     ghost use Rattle.ff_values.specs.Video.{IsVideo};
     ghost use Rattle.ff_planes.specs.Grid.{columns as columns_of, rows as rows_of, plane as plane_of};
 
@@ -41,10 +41,12 @@ impl Component {
     /// This plane of a picture.
     pub fn plane(self, format: Format, width: u32, height: u32, planes: &[u8]) -> &[u8]
         requires { IsVideo format width height planes.now }
-        ensures { result.now ≡ plane_of format width height planes.now self }
+        ensures bytes { result.now ≡ plane_of format width height planes.now self }
+        ensures long { length result.now ≡ rows_of format height self * columns_of format width self }
     {
         let luma_size = height as usize * width as usize;
-        let chroma_size = format.chroma_height(height) as usize * format.chroma_width(width) as usize;
+        let chroma_size = format.chroma_height(height) as usize
+            * format.chroma_width(width) as usize;
         match self {
             Component::Luma => &planes[..luma_size],
             Component::Blue => &planes[luma_size..luma_size + chroma_size],

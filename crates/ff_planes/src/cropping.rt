@@ -8,7 +8,13 @@ use ff_values::Format;
 use std::alloc::{AllocError, Global};
 
 // Adds what a rectangle shows of a plane.
-fn push_part(out: &mut Vec<u8>, columns: usize, rows: usize, part: Rectangle, bytes: &[u8]) -> Result<(), AllocError>
+fn push_part(
+    out: &mut Vec<u8>,
+    columns: usize,
+    rows: usize,
+    part: Rectangle,
+    bytes: &[u8],
+) -> Result<(), AllocError>
     requires size { length bytes.now ≡ rows * columns }
     requires inside { IsPart columns rows part }
     ensures { OnOk result (out.new.items ≡ out.old.items ++ part_of columns bytes.now part) }
@@ -21,7 +27,14 @@ fn push_part(out: &mut Vec<u8>, columns: usize, rows: usize, part: Rectangle, by
 }
 
 /// The part of a picture that a rectangle shows; of a picture with colour, with the pixels of Cb and Cr that stand for it.
-pub fn crop(alloc: Global, format: Format, width: u32, height: u32, part: Rectangle, planes: &[u8]) -> Result<Vec<u8>, AllocError>
+pub fn crop(
+    alloc: Global,
+    format: Format,
+    width: u32,
+    height: u32,
+    part: Rectangle,
+    planes: &[u8],
+) -> Result<Vec<u8>, AllocError>
     requires picture { IsVideo format width height planes.now }
     requires inside { IsPart width height part }
     ensures { IfOk result (λ out. out.items ≡ cropped format width height part planes.now) }

@@ -21,7 +21,7 @@ mod cropping;
 mod flips;
 mod padding;
 mod rectangle;
-
+mod stacking;
 
 pub use component::Component;
 pub use cropping::crop;

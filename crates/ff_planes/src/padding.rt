@@ -16,7 +16,15 @@ fn push_value(out: &mut Vec<u8>, count: u32, value: u8) -> Result<(), AllocError
 }
 
 // Adds so many rows, each between pixels of one value.
-fn push_rows(out: &mut Vec<u8>, value: u8, left: u32, right: u32, columns: usize, rows: usize, bytes: &[u8]) -> Result<(), AllocError>
+fn push_rows(
+    out: &mut Vec<u8>,
+    value: u8,
+    left: u32,
+    right: u32,
+    columns: usize,
+    rows: usize,
+    bytes: &[u8],
+) -> Result<(), AllocError>
     requires { length bytes.now ≡ rows * columns }
     ensures { OnOk result (out.new.items ≡ out.old.items ++ lines rows (between_values value left right columns bytes.now)) }
 {
@@ -30,7 +38,14 @@ fn push_rows(out: &mut Vec<u8>, value: u8, left: u32, right: u32, columns: usize
 }
 
 // Adds a plane of so many columns and rows that shows another in a rectangle, and has one value elsewhere.
-fn push_on_black(out: &mut Vec<u8>, value: u8, columns: u32, rows: u32, part: Rectangle, bytes: &[u8]) -> Result<(), AllocError>
+fn push_on_black(
+    out: &mut Vec<u8>,
+    value: u8,
+    columns: u32,
+    rows: u32,
+    part: Rectangle,
+    bytes: &[u8],
+) -> Result<(), AllocError>
     requires size { length bytes.now ≡ part.height * part.width }
     requires inside { IsPart columns rows part }
     requires wide { columns ≤ 16384 }
@@ -40,13 +55,28 @@ fn push_on_black(out: &mut Vec<u8>, value: u8, columns: u32, rows: u32, part: Re
     let right = columns - part.x - part.width;
     let below = rows - part.y - part.height;
     push_value(out, part.y * columns, value)?;
-    push_rows(out, value, part.x, right, part.width as usize, part.height as usize, bytes)?;
+    push_rows(
+        out,
+        value,
+        part.x,
+        right,
+        part.width as usize,
+        part.height as usize,
+        bytes,
+    )?;
     push_value(out, below * columns, value)?;
     Ok(())
 }
 
 /// The picture of so many columns and rows that shows a picture in a rectangle of its size, and is black elsewhere.
-pub fn pad(alloc: Global, format: Format, width: u32, height: u32, part: Rectangle, planes: &[u8]) -> Result<Vec<u8>, AllocError>
+pub fn pad(
+    alloc: Global,
+    format: Format,
+    width: u32,
+    height: u32,
+    part: Rectangle,
+    planes: &[u8],
+) -> Result<Vec<u8>, AllocError>
     requires picture { IsVideo format part.width part.height planes.now }
     requires columns { IsSide width }
     requires rows { IsSide height }

@@ -9,7 +9,7 @@ returns-clause-upper c =
     let above : c.args.upper * c.args.columns + c.args.columns ≤ c.args.lower * c.args.columns = row_fits c.args.upper c.args.columns c.args.lower c.args.columns c.requires.order (omega arith) in
     let below : c.args.lower * c.args.columns + c.args.columns ≤ c.args.rows * c.args.columns = row_fits c.args.lower c.args.columns c.args.rows c.args.columns c.requires.there (omega arith) in
     let wide : length c.swap_with_slice.new.self ≡ c.args.columns =
-        ap length c.swap_with_slice.ensures.after ∙ length-take-le c.args.columns c.split_at_mut-front.result.1.now (omega (arith, c.split_at_mut-front.ensures.back_len, c.requires.size)) in
+    ap length c.swap_with_slice.ensures.after ∙ length-take-le c.args.columns c.split_at_mut-front.result.1.now (omega (arith, c.split_at_mut-front.ensures.back_len, c.requires.size)) in
     swapped_upper c.args.columns c.args.upper c.args.lower _ _ _ _ _ c.args.bytes.now (omega (arith, c.split_at_mut-front.ensures.front_len)) wide c.swap_with_slice.ensures.after c.split_at_mut-front.ensures.back
 
 pub returns-clause-others : goal.returns-clause-others
