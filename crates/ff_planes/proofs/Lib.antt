@@ -4,3 +4,4 @@ pub mod TurnLaws
 pub mod PartLaws
 pub mod PadLaws
 pub mod StackLaws
+pub mod PixelLaws

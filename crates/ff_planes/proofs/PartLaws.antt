@@ -1,11 +1,10 @@
 -- Parts of planes, and planes on black, row by row.
-use Rattle.std.proofs.Common.{◌≡◌, ℕ, zero, suc, ◌+◌, ◌-◌, ◌*◌, ◌<◌, ◌≤◌, List, [], ◌∷◌, ◌++◌, take, drop, length, get_or, refl, sym, ap, ◌∙◌, subst, arith}
+use Rattle.std.proofs.Common.{◌≡◌, ℕ, ◌+◌, ◌-◌, ◌*◌, ◌<◌, ◌≤◌, List, [], ◌++◌, take, drop, length, get_or, sym, ap, ◌∙◌, arith}
 use Rattle.std.proofs.lemmas.Nat.{row_fits}
 use Rattle.std.proofs.lemmas.List.{append_assoc}
 use Rattle.ff_values.specs.declared.video.Format.{Format}
-use Rattle.ff_values.specs.Video.{chroma_width, chroma_height}
+use Rattle.ff_values.specs.Video.{chroma_width}
 use Rattle.ff_planes.specs.declared.rectangle.Rectangle.{Rectangle}
-use Rattle.ff_planes.specs.declared.component.Component.{Component}
 use Rattle.ff_planes.specs.declared.component.Component.TheVariants.{Luma, Blue, Red}
 use Rattle.ff_planes.specs.Grid.{plane, lines, row_of, sample}
 use Rattle.ff_planes.specs.Parts.{IsPart, in_chroma, cropped, part_of}

@@ -1,6 +1,5 @@
 -- Rows one below the other.
-use Rattle.std.proofs.Common.{◌≡◌, ℕ, zero, suc, ◌+◌, ◌-◌, ◌*◌, ◌<◌, ◌≤◌, List, [], ◌∷◌, ◌++◌, map, take, drop, length, get_or, refl, sym, ap, ◌∙◌, subst, arith, add-one, zero-mul, suc-mul, zero-add, add-zero, replicate}
-use Rattle.std.specs.List.{range_with_len}
+use Rattle.std.proofs.Common.{◌≡◌, ℕ, zero, suc, ◌+◌, ◌-◌, ◌*◌, ◌<◌, ◌≤◌, List, [], ◌∷◌, ◌++◌, take, drop, length, get_or, refl, sym, ap, ◌∙◌, arith, add-one, zero-mul, suc-mul, zero-add, add-zero, replicate}
 use Rattle.std.proofs.lemmas.List.{length-append, append_assoc, append-nil, take-append-drop, get_or-take, get_or-drop, length-take-le, length-drop, drop-drop, take_all, take-take, drop-take, length-reverse, get_or-reverse, take_at, drop_at, ext_get_or, length-replicate, get_or-replicate}
 use Rattle.std.proofs.lemmas.Nat.{row_fits}
 use Rattle.std.proofs.lemmas.List.FromFn.{fill_by_all, length-map-range_with_len, get_or-map-range_with_len, map-range_with_len_more}

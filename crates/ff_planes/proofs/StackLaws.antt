@@ -1,16 +1,14 @@
 -- Pictures side by side, row by row, and one below the other, plane by plane.
-use Rattle.std.proofs.Common.{◌≡◌, ℕ, zero, suc, ◌+◌, ◌-◌, ◌*◌, ◌<◌, ◌≤◌, true, false, List, [], ◌∷◌, ◌++◌, take, drop, length, get_or, refl, sym, ap, ◌∙◌, subst, arith, mul_comm}
+use Rattle.std.proofs.Common.{◌≡◌, ℕ, suc, ◌+◌, ◌-◌, ◌*◌, ◌<◌, true, false, List, [], ◌∷◌, ◌++◌, drop, length, refl, sym, ap, ◌∙◌, subst, arith, mul_comm}
 use Rattle.std.specs.Prelude.{All, nat_lt, if◌then◌else◌}
-use Rattle.std.specs.List.{flat_map}
 use Rattle.std.proofs.lemmas.Bool.Decides.{nat_tests}
-use Rattle.std.proofs.lemmas.Nat.{row_fits}
-use Rattle.std.proofs.lemmas.List.{append_assoc, length-take-le, length-drop}
+use Rattle.std.proofs.lemmas.List.{length-take-le, length-drop}
 use Rattle.ff_values.specs.declared.video.Format.{Format}
 use Rattle.ff_values.specs.declared.video.VFrame.{VFrame}
-use Rattle.ff_values.specs.Video.{IsVideo, frame_size, chroma_width, chroma_height}
+use Rattle.ff_values.specs.Video.{IsVideo, chroma_width, chroma_height}
 use Rattle.ff_planes.specs.declared.component.Component.{Component}
 use Rattle.ff_planes.specs.declared.component.Component.TheVariants.{Luma, Blue, Red}
-use Rattle.ff_planes.specs.Grid.{columns, rows, area, plane, line, lines, row_of, plane_of, sample, pixel}
+use Rattle.ff_planes.specs.Grid.{columns, rows, plane, line, lines, row_of, plane_of, sample}
 use Rattle.ff_planes.specs.Stacks.{all_columns, all_rows, beside, below, hstacked, vstacked, IsAsHigh, IsAsWide, FillColumns, FillRows, beside_row, below_plane}
 use Rattle.ff_planes.proofs.RowLaws.{lines-same, lines-add, row-same, row-add, line_is_row, lines_of_plane}
 use Rattle.ff_planes.proofs.PartLaws.{three_planes}

@@ -1,11 +1,11 @@
 -- A plane whose rows change places two by two, from outside to inside.
-use Rattle.std.proofs.Common.{◌≡◌, ◌≢◌, ℕ, ◌+◌, ◌-◌, ◌*◌, ◌/◌, ◌<◌, ◌≤◌, List, ◌++◌, take, drop, length, get_or, refl, sym, ap, ◌∙◌, subst, arith, ◌⊎◌, inl, inr}
+use Rattle.std.proofs.Common.{◌≡◌, ◌≢◌, ℕ, ◌+◌, ◌-◌, ◌*◌, ◌/◌, ◌<◌, ◌≤◌, List, ◌++◌, take, drop, length, refl, sym, ap, ◌∙◌, subst, arith, inl, inr}
 use borrow.Rule.Slice.PartMut.{put_mid}
 use Rattle.std.proofs.lemmas.List.{length-append, append_assoc, take-append-drop, length-take-le, length-drop, drop-drop, take_at, drop_at, drop-append-le, take-append-le}
 use Rattle.std.proofs.lemmas.Slice.{drop-put_mid, drop-append-drop}
 use Rattle.std.proofs.lemmas.Nat.{row_fits}
 use Rattle.std.proofs.lemmas.Bool.{cases_lt, cases_eq}
-use Rattle.ff_planes.specs.Grid.{line, lines, row_of, sample}
+use Rattle.ff_planes.specs.Grid.{line, row_of, sample}
 use Rattle.ff_planes.specs.Flips.{turned_over}
 use Rattle.ff_planes.proofs.RowLaws.{lines-same, lines_of_plane, line_is_row}
 

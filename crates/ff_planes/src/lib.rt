@@ -19,6 +19,7 @@
 mod component;
 mod cropping;
 mod flips;
+mod laws;
 mod padding;
 mod rectangle;
 mod stacking;

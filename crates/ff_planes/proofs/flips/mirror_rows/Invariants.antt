@@ -1,4 +1,4 @@
-use Rattle.std.proofs.Common.{◌≡◌, ◌+◌, ◌*◌, ◌++◌, drop}
+use Rattle.std.proofs.Common.{◌≡◌, ◌*◌, ◌++◌, drop}
 use Rattle.ff_planes.specs.Grid.{lines}
 use Rattle.ff_planes.proofs.RowLaws.{mirrored_row}
 use Rattle.ff_planes.proofs.flips.mirror_rows.Given as goal

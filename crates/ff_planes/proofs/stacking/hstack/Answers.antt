@@ -1,7 +1,7 @@
 use Rattle.std.proofs.Common.{◌∙◌, ap, ◌++◌}
 use Rattle.ff_planes.specs.declared.component.Component.TheVariants.{Luma}
 use Rattle.ff_planes.specs.Grid.{rows, lines}
-use Rattle.ff_planes.specs.Stacks.{beside_row, below_plane}
+use Rattle.ff_planes.specs.Stacks.{beside_row}
 use Rattle.ff_planes.proofs.StackLaws.{hstacked_by_planes}
 use Rattle.ff_planes.proofs.stacking.hstack.Goals as goal
 

@@ -1,0 +1,28 @@
+// What follows of the definitions alone.
+ghost use Rattle.std.specs.Prelude.{◌≡◌, ◌<◌, ℕ, List, [], ◌∷◌, length};
+ghost use Rattle.ff_values.specs.declared.video.Format.{Format};
+ghost use Rattle.ff_values.specs.declared.video.Format.TheVariants.{C420, C422, C444, Mono};
+ghost use Rattle.ff_values.specs.Video.{frame_size};
+ghost use Rattle.ff_planes.specs.declared.component.Component.{Component};
+ghost use Rattle.ff_planes.specs.Grid.{columns, rows, pixel, picture_of};
+ghost use Rattle.ff_planes.specs.Flips.{hflipped, vflipped};
+ghost use Rattle.ff_planes.specs.Parts.{cropped, padded};
+ghost use Rattle.ff_planes.specs.Stacks.{hstacked, vstacked};
+ghost use Rattle.ff_planes.specs.Examples.{three_by_two, right_column, in_the_middle, grey, two_by_one};
+
+/// The picture whose pixels a function gives has these pixels, and no more bytes than they are.
+pub fn a_picture_has_the_pixels_that_make_it()
+    ensures pixels { (format : Format) (width height : ℕ) (at : Component → ℕ → ℕ → ℕ) (c : Component) (row column : ℕ) → row < rows format height c → column < columns format width c
+        → pixel format width height (picture_of format width height at) c row column ≡ at c row column }
+    ensures size { (format : Format) (width height : ℕ) (at : Component → ℕ → ℕ → ℕ) → length (picture_of format width height at) ≡ frame_size format width height }
+{}
+
+/// Small pictures, mirrored, cut, put on black and stacked.
+pub fn small_pictures()
+    ensures hflip { hflipped C420 3 2 three_by_two ≡ 3 ∷ 2 ∷ 1 ∷ 6 ∷ 5 ∷ 4 ∷ 8 ∷ 7 ∷ 10 ∷ 9 ∷ [] }
+    ensures vflip { vflipped C420 3 2 three_by_two ≡ 4 ∷ 5 ∷ 6 ∷ 1 ∷ 2 ∷ 3 ∷ 7 ∷ 8 ∷ 9 ∷ 10 ∷ [] }
+    ensures crop { cropped C420 3 2 right_column three_by_two ≡ 3 ∷ 6 ∷ 8 ∷ 10 ∷ [] }
+    ensures pad { padded C420 4 2 in_the_middle (1 ∷ 2 ∷ 3 ∷ 4 ∷ 5 ∷ 6 ∷ []) ≡ 16 ∷ 16 ∷ 1 ∷ 2 ∷ 16 ∷ 16 ∷ 3 ∷ 4 ∷ 128 ∷ 5 ∷ 128 ∷ 6 ∷ [] }
+    ensures hstack { hstacked Mono 3 2 (grey 2 2 (1 ∷ 2 ∷ 3 ∷ 4 ∷ []) ∷ grey 1 2 (5 ∷ 6 ∷ []) ∷ []) ≡ 1 ∷ 2 ∷ 5 ∷ 3 ∷ 4 ∷ 6 ∷ [] }
+    ensures vstack { vstacked C422 2 2 (two_by_one (1 ∷ 2 ∷ 3 ∷ 4 ∷ []) ∷ two_by_one (5 ∷ 6 ∷ 7 ∷ 8 ∷ []) ∷ []) ≡ 1 ∷ 2 ∷ 5 ∷ 6 ∷ 3 ∷ 7 ∷ 4 ∷ 8 ∷ [] }
+{}
