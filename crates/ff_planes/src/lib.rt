@@ -27,3 +27,7 @@ mod stacking;
 pub use component::Component;
 pub use cropping::crop;
 pub use flips::{hflip, vflip};
+pub use laws::{a_picture_has_the_pixels_that_make_it, small_pictures};
+pub use padding::pad;
+pub use rectangle::Rectangle;
+pub use stacking::{hstack, vstack};
