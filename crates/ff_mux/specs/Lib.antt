@@ -1,2 +1,3 @@
 pub mod FrameHash
+pub mod HashTexts
 pub mod Puts

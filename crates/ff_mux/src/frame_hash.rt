@@ -1,21 +1,30 @@
 // The text of a framehash file, in the pieces in which it is written.
-ghost use Rattle.std.specs.Prelude.{◌≡◌, ℕ, ◌++◌, IfOk, OnOk, decimal, string_bytes};
+ghost use Rattle.std.specs.Prelude.{◌≡◌, ℕ, ◌<◌, ◌^◌, ◌++◌, IfOk, OnOk, decimal, length, string_bytes};
 ghost use Rattle.std.specs.Fmt.{signed_decimal};
-ghost use Rattle.ff_mux.specs.FrameHash.{base_name, codec_name, layout_name, size_name, aspect_name, about, stream_lines, header as header_of, column, digest_text, packet_line as line_of};
+ghost use Rattle.ff_mux.specs.FrameHash.{base_name, codec_name, layout_name, size_name, aspect_name, about, stream_lines, column};
+ghost use Rattle.ff_mux.specs.HashTexts.{digest_by, first_by, streams_from, text_before, line_by};
 
+use crate::digest::digest_text;
 use ff_time::Rational;
-use ff_values::{Codec, Format, Pkt, StreamHead};
-use sha2::{Digest, Sha256};
+use ff_values::{Codec, Format, HashKind, Pkt, StreamHead};
 use std::alloc::{AllocError, Global};
-
-/// The lines before those on the streams.
-const FIRST_LINES: &[u8] = b"#format: frame checksums\n#version: 2\n#hash: SHA256\n";
 
 /// The line behind those on the streams, over the columns of the packets.
 const COLUMNS: &[u8] = b"#stream#, dts,        pts, duration,     size, hash\n";
 
 /// The length of a packet's line, where its numbers keep to their columns.
 const LINE_LEN: usize = 114;
+
+// The lines before those on the streams.
+#[tactic(auto, unfolding(crate::specs::HashTexts::first_by))]
+fn first_lines(kind: HashKind) -> &'static [u8]
+    ensures { result.now ≡ first_by kind }
+{
+    match kind {
+        HashKind::Sha256 => b"#format: frame checksums\n#version: 2\n#hash: SHA256\n",
+        HashKind::Md5 => b"#format: frame checksums\n#version: 2\n#hash: MD5\n",
+    }
+}
 
 fn name_of_codec(codec: Codec) -> &'static str
     ensures { result.now ≡ codec_name codec }
@@ -159,13 +168,30 @@ fn push_stream(
     }
 }
 
-/// The lines before those of the packets, of a file with one stream.
-#[tactic(auto, unfolding(crate::specs::FrameHash::header, crate::specs::FrameHash::first_lines, crate::specs::FrameHash::columns))]
-pub fn header(alloc: Global, head: &StreamHead) -> Result<Vec<u8>, AllocError>
-    ensures { IfOk result (λ text. text.items ≡ header_of head.now) }
+// Adds the lines on these streams.
+fn push_streams(alloc: Global, out: &mut Vec<u8>, heads: &[StreamHead]) -> Result<(), AllocError>
+    requires { length heads.now < 2 ^ 32 }
+    ensures { OnOk result (out.new.items ≡ out.old.items ++ streams_from 0 heads.now) }
 {
-    let mut text = Vec::from_slice(alloc, FIRST_LINES)?;
-    push_stream(alloc, &mut text, 0, head)?;
+    'streams: for i in 0..heads.len() {
+        push_stream(alloc, out, i as u32, &heads[i])?;
+    }
+    Ok(())
+}
+
+/// The lines before those of the packets, of a file with these streams: which digest stands for the bytes of a packet, and what
+/// is known of each stream.
+#[tactic(auto, unfolding(crate::specs::HashTexts::text_before, crate::specs::FrameHash::columns))]
+pub fn hash_header(
+    alloc: Global,
+    kind: HashKind,
+    heads: &[StreamHead],
+) -> Result<Vec<u8>, AllocError>
+    requires { length heads.now < 2 ^ 32 }
+    ensures { IfOk result (λ text. text.items ≡ text_before kind heads.now) }
+{
+    let mut text = Vec::from_slice(alloc, first_lines(kind))?;
+    push_streams(alloc, &mut text, heads)?;
     text.extend_from_slice(COLUMNS)?;
     Ok(text)
 }
@@ -202,28 +228,45 @@ fn push_size(alloc: Global, line: &mut Vec<u8>, width: usize, size: usize) -> Re
     push_column(alloc, line, width, text.as_str())
 }
 
-// Adds the digest of some bytes.
-#[tactic(auto, unfolding(crate::specs::FrameHash::digest_text))]
-fn push_digest(alloc: Global, line: &mut Vec<u8>, bytes: &[u8]) -> Result<(), AllocError>
-    ensures { OnOk result (line.new.items ≡ line.old.items ++ digest_text bytes.now) }
+// Adds the number of a stream.
+fn push_number(alloc: Global, line: &mut Vec<u8>, number: u32) -> Result<(), AllocError>
+    ensures { OnOk result (line.new.items ≡ line.old.items ++ decimal number) }
 {
-    let digest = hex::encode(alloc, Sha256::digest(bytes))?;
+    let text = number.to_string(alloc)?;
+    line.extend_from_slice(text.as_bytes())
+}
+
+// Adds the digest of some bytes.
+fn push_digest(
+    alloc: Global,
+    line: &mut Vec<u8>,
+    kind: HashKind,
+    bytes: &[u8],
+) -> Result<(), AllocError>
+    ensures { OnOk result (line.new.items ≡ line.old.items ++ digest_by kind bytes.now) }
+{
+    let digest = digest_text(alloc, kind, bytes)?;
     line.extend_from_slice(digest.as_bytes())
 }
 
-/// The line of a packet of stream 0: its times, duration and size, and the digest of its bytes.
-pub fn packet_line(alloc: Global, pkt: &Pkt) -> Result<Vec<u8>, AllocError>
-    ensures { IfOk result (λ line. line.items ≡ line_of 0 pkt.now) }
+/// The line of a packet of a stream: its times, duration and size, each of them right in its column, and the digest of its bytes.
+pub fn hash_line(
+    alloc: Global,
+    kind: HashKind,
+    stream: u32,
+    pkt: &Pkt,
+) -> Result<Vec<u8>, AllocError>
+    ensures { IfOk result (λ line. line.items ≡ line_by kind stream pkt.now) }
 {
     let bytes = pkt.bytes.as_slice();
     let mut line = Vec::with_capacity(alloc, LINE_LEN)?;
-    line.push(b'0')?;
+    push_number(alloc, &mut line, stream)?;
     push_ticks(alloc, &mut line, 10, pkt.dts)?;
     push_ticks(alloc, &mut line, 10, pkt.pts)?;
     push_ticks(alloc, &mut line, 8, pkt.duration)?;
     push_size(alloc, &mut line, 8, bytes.len())?;
     line.extend_from_slice(b", ")?;
-    push_digest(alloc, &mut line, bytes)?;
+    push_digest(alloc, &mut line, kind, bytes)?;
     line.push(b'\n')?;
     Ok(line)
 }

@@ -1,10 +1,13 @@
 //! What is written to files that hold packets or tell of them: the texts and headers, as pure functions.
 //!
-//! [`HashPut`] gives the text of a framehash file, in the pieces in which it is written: the lines before the packets,
-//! and a line for each packet. `specs/FrameHash` has the text as a whole.
+//! [`hash_header`] and [`hash_line`] give the text of a framehash file, in the pieces in which it is written: the lines before the
+//! packets, and a line for each packet; `specs/HashTexts` has them, for any number of streams and either digest. [`HashPut`] gives
+//! that of one stream with SHA-256, of which `specs/FrameHash` has the text as a whole.
 #![tactic(auto)]
 
+mod digest;
 mod frame_hash;
 mod put;
 
+pub use frame_hash::{hash_header, hash_line};
 pub use put::HashPut;

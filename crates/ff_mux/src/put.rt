@@ -1,7 +1,7 @@
 ghost use Rattle.std.specs.Prelude.{◌≡◌, IfOk};
 
-use crate::frame_hash::{header, packet_line};
-use ff_values::{Pkt, StreamHead};
+use crate::frame_hash::{hash_header, hash_line};
+use ff_values::{HashKind, Pkt, StreamHead};
 use std::alloc::{AllocError, Global};
 
 /// The text of a framehash file of one stream, with the SHA-256 of each packet's bytes.
@@ -26,7 +26,7 @@ impl HashPut {
     pub fn first(&self) -> Result<Vec<u8>, AllocError>
         ensures { IfOk result (λ text. text.items ≡ header_of (hash_head self.now)) }
     {
-        header(self.alloc, &self.head)
+        hash_header(self.alloc, HashKind::Sha256, &[self.head])
     }
 
     /// The line of a packet: its times, duration and size, each of them right in its column, and the digest of its
@@ -34,6 +34,6 @@ impl HashPut {
     pub fn line(&self, pkt: &Pkt) -> Result<Vec<u8>, AllocError>
         ensures { IfOk result (λ line. line.items ≡ line_of 0 pkt.now) }
     {
-        packet_line(self.alloc, pkt)
+        hash_line(self.alloc, HashKind::Sha256, 0, pkt)
     }
 }

@@ -1,0 +1,55 @@
+-- The finished files of the formats.
+use Rattle.std.proofs.Common.{◌≡◌, ℕ, ◌+◌, ◌≤◌, ◌*◌, true, List, [], ◌∷◌, ◌++◌, take, drop, length, Option, Some, refl, sym, ap, ◌∙◌, arith, cond, append_assoc, append-nil}
+use Rattle.std.specs.Prelude.{map, nat_le, ◌-◌, ◌%◌}
+use Rattle.std.specs.List.{flat_map}
+use Rattle.std.proofs.lemmas.Bool.Decides.{nat_tests}
+use Rattle.ff_host.specs.Files.{patched}
+use Rattle.ff_values.specs.declared.hash.HashKind.TheVariants.{Sha256}
+use Rattle.ff_values.specs.declared.packet.Pkt.{Pkt}
+use Rattle.ff_values.specs.declared.head.StreamHead.{StreamHead}
+use Rattle.ff_wav.specs.Header.{header, header_of, header_len, longest}
+use Rattle.ff_wav.specs.Written.{pad_of, file_of}
+use Rattle.ff_y4m.specs.Header as y4m
+use Rattle.ff_mux.specs.FrameHash as hash
+use Rattle.ff_mux.specs.HashTexts.{text_before, line_by}
+use Rattle.ff_mux.proofs.HashLaws.{header_same, line_same}
+use Rattle.ff_writers.specs.Layouts.{with_last, text_of}
+use Rattle.ff_writers.specs.Formats.{wav_layout}
+use Rattle.ff_writers.specs.Finished.{bytes_in, WavsAreFiles, PicturesAreFiles, HashesAreTexts}
+use Rattle.ff_writers.specs.InsideLaws.{same_length}
+
+behind : (xs ys : List ℕ) (n : ℕ) → n ≡ length xs → drop n (xs ++ ys) ≡ ys
+behind [] ys n e = rw e refl
+behind (x ∷ xs) ys n e = rw e (behind xs ys (length xs) refl)
+
+-- bytes in the place of as many at the beginning
+at_front : (old new rest : List ℕ) → length new ≡ length old → patched (old ++ rest) 0 new ≡ new ++ rest
+at_front old new rest e = ap (λ xs. new ++ xs) (behind old rest (0 + length new) (omega (arith, e)))
+
+wav_text : (head : StreamHead) (body : List ℕ) → patched (header head 0 0 ++ body ++ pad_of (length body)) 0 (header_of head (length body)) ≡ file_of head body
+wav_text head body =
+    ap (λ xs. patched xs 0 (header_of head (length body))) (append_assoc (header head 0 0) body (pad_of (length body)))
+    ∙ at_front (header head 0 0) (header_of head (length body)) (body ++ pad_of (length body))
+    (same_length head (header_len head - 8 + length body + length body % 2) (length body) 0 0)
+
+pub wavs_are_files : WavsAreFiles
+wavs_are_files head totals packets le =
+    let fits : nat_le (length (bytes_in packets)) longest ≡ true = grind (arith, nat_tests) in
+    rw fits (ap Some (wav_text head (bytes_in packets)))
+
+frames_of : (packets : List (ℕ × Pkt)) → flat_map (λ (p : ℕ × Pkt). y4m.frame_line ++ p.1.bytes) packets ≡ y4m.frames (map (λ p. p.1) packets)
+frames_of [] = refl
+frames_of (p ∷ packets) = ap (λ xs. y4m.frame_line ++ p.1.bytes ++ xs) (frames_of packets)
+
+pub pictures_are_files : PicturesAreFiles
+pictures_are_files head totals packets =
+    ap Some (append-nil (y4m.header head ++ flat_map (λ (p : ℕ × Pkt). y4m.frame_line ++ p.1.bytes) packets) ∙ ap (λ xs. y4m.header head ++ xs) (frames_of packets))
+
+lines_of : (packets : List Pkt) → flat_map (λ (p : ℕ × Pkt). line_by Sha256 p.0 p.1) (map (λ p. (0, p)) packets) ≡ flat_map (hash.packet_line 0) packets
+lines_of [] = refl
+lines_of (p ∷ packets) = ap (λ xs. xs ++ flat_map (λ (q : ℕ × Pkt). line_by Sha256 q.0 q.1) (map (λ q. (0, q)) packets)) (line_same 0 p) ∙ ap (λ xs. hash.packet_line 0 p ++ xs) (lines_of packets)
+
+pub hashes_are_texts : HashesAreTexts
+hashes_are_texts head totals packets =
+    ap Some (append-nil (text_before Sha256 (head ∷ []) ++ flat_map (λ (p : ℕ × Pkt). line_by Sha256 p.0 p.1) (map (λ p. (0, p)) packets))
+    ∙ (ap (λ xs. xs ++ flat_map (λ (p : ℕ × Pkt). line_by Sha256 p.0 p.1) (map (λ p. (0, p)) packets)) (header_same head) ∙ ap (λ xs. hash.header head ++ xs) (lines_of packets)))

@@ -1,0 +1,7 @@
+use Rattle.ff_writers.proofs.any.AnyWriterWriter.add.Goals as goal
+
+pub returns-in-Y4m-clause-too_large : goal.returns-in-Y4m-clause-too_large
+returns-in-Y4m-clause-too_large c = rw c.in-Y4m.is c.add-in-Y4m.ensures.too_large
+
+pub returns-in-Hash-clause-too_large : goal.returns-in-Hash-clause-too_large
+returns-in-Hash-clause-too_large c = rw c.in-Hash.is c.add-in-Hash.ensures.too_large

@@ -1,0 +1,7 @@
+use Rattle.ff_writers.proofs.any.AnyWriterWriter.last.Goals as goal
+
+pub returns-in-Y4m : goal.returns-in-Y4m
+returns-in-Y4m c = rw c.in-Y4m.is c.last-in-Y4m.ensures
+
+pub returns-in-Hash : goal.returns-in-Hash
+returns-in-Hash c = rw c.in-Hash.is c.last-in-Hash.ensures

@@ -1,0 +1,29 @@
+-- The finished files of the formats, by the formats' own definitions.
+use Rattle.std.specs.Prelude.{◌≡◌, ℕ, ◌≤◌, List, [], ◌∷◌, map, length, Option, Some}
+use Rattle.std.specs.List.{flat_map}
+use Rattle.ff_values.specs.declared.hash.HashKind.TheVariants.{Sha256}
+use Rattle.ff_values.specs.declared.packet.Pkt.{Pkt}
+use Rattle.ff_values.specs.declared.totals.Totals.{Totals}
+use Rattle.ff_values.specs.declared.head.StreamHead.{StreamHead}
+use Rattle.ff_wav.specs.Header.{longest}
+use Rattle.ff_wav.specs.Written.{file_of}
+use Rattle.ff_y4m.specs.Header as y4m
+use Rattle.ff_mux.specs.FrameHash as hash
+use Rattle.ff_writers.specs.Layouts.{finished}
+use Rattle.ff_writers.specs.Formats.{wav_layout, y4m_layout, hash_layout}
+
+-- the bytes of packets one behind the other
+abbrev pub bytes_in : List (ℕ × Pkt) → List ℕ
+bytes_in packets = flat_map (λ p. p.1.bytes) packets
+
+abbrev pub WavsAreFiles : Type 0
+WavsAreFiles = (head : StreamHead) (totals : Option Totals) (packets : List (ℕ × Pkt)) → length (bytes_in packets) ≤ longest
+    → finished (wav_layout head) totals packets ≡ Some (file_of head (bytes_in packets))
+
+abbrev pub PicturesAreFiles : Type 0
+PicturesAreFiles = (head : StreamHead) (totals : Option Totals) (packets : List (ℕ × Pkt))
+    → finished (y4m_layout head) totals packets ≡ Some (y4m.written head (map (λ p. p.1) packets))
+
+abbrev pub HashesAreTexts : Type 0
+HashesAreTexts = (head : StreamHead) (totals : Option Totals) (packets : List Pkt)
+    → finished (hash_layout Sha256 (head ∷ [])) totals (map (λ p. (0, p)) packets) ≡ Some (hash.written head packets)

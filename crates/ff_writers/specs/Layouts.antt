@@ -1,0 +1,50 @@
+-- What a format writes, and by it the file of some packets, in any format.
+use Rattle.std.specs.Prelude.{ℕ, ◌<◌, nat_le, Bool, true, if◌then◌else◌, List, ◌++◌, length, Option, Some, None}
+use Rattle.std.specs.List.{flat_map}
+use Rattle.ff_host.specs.Files.{patched}
+use Rattle.ff_values.specs.declared.packet.Pkt.{Pkt}
+use Rattle.ff_values.specs.declared.totals.Totals.{Totals}
+
+pub record Layout : Type 0 where
+  -- before the first packet
+  pub header : List ℕ
+  -- of a packet of the stream of this number
+  pub text : ℕ → Pkt → List ℕ
+  -- behind so many bytes of packets, once every stream is whole
+  pub pad : ℕ → List ℕ
+  -- what then takes the place of as many bytes, from a place on, by what a coder of sound told at the end
+  pub last : ℕ → Option Totals → Option (ℕ × List ℕ)
+  -- the most bytes of packets
+  pub longest : Option ℕ
+
+-- more bytes of packets than that
+abbrev pub IsBeyond : Option ℕ → ℕ → Type 0
+IsBeyond None n = ⊥
+IsBeyond (Some most) n = most < n
+
+-- ---- the file of packets, each with the number of its stream, in the order in which they are written
+
+-- the bytes of the packets
+abbrev pub body : Layout → List (ℕ × Pkt) → List ℕ
+body layout packets = flat_map (λ p. layout.text p.0 p.1) packets
+
+-- what is written of them so far
+abbrev pub written : Layout → List (ℕ × Pkt) → List ℕ
+written layout packets = layout.header ++ body layout packets
+
+-- the text as a whole, once every stream is whole
+abbrev pub text_of : Layout → List (ℕ × Pkt) → List ℕ
+text_of layout packets = written layout packets ++ layout.pad (length (body layout packets))
+
+abbrev pub with_last : Option (ℕ × List ℕ) → List ℕ → List ℕ
+with_last None text = text
+with_last (Some p) text = patched text p.0 p.1
+
+abbrev pub fits : Option ℕ → ℕ → Bool
+fits None n = true
+fits (Some most) n = nat_le n most
+
+-- the finished file, where the packets aren't too many bytes
+abbrev pub finished : Layout → Option Totals → List (ℕ × Pkt) → Option (List ℕ)
+finished layout totals packets =
+    if fits layout.longest (length (body layout packets)) then Some (with_last (layout.last (length (body layout packets)) totals) (text_of layout packets)) else None

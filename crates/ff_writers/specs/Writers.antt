@@ -1,0 +1,17 @@
+-- What writers write of.
+use Rattle.std.specs.Prelude.{List}
+use Rattle.ff_values.specs.declared.hash.HashKind.{HashKind}
+use Rattle.ff_values.specs.declared.head.StreamHead.{StreamHead}
+use Rattle.ff_writers.specs.declared.y4m.Y4mWriter.{Y4mWriter}
+use Rattle.ff_writers.specs.declared.frame_hash.HashWriter.{HashWriter}
+
+-- the head of the stream of pictures
+abbrev pub y4m_head : Y4mWriter → StreamHead
+y4m_head w = w.head
+
+-- the digest, and the heads of the streams
+abbrev pub hash_kind : HashWriter → HashKind
+hash_kind w = w.kind
+
+abbrev pub hash_heads : HashWriter → List StreamHead
+hash_heads w = w.heads.items

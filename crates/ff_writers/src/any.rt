@@ -1,0 +1,67 @@
+ghost use Rattle.ff_writers.specs.AnyWriters.{any_layout, any_counts, any_inside};
+
+use crate::frame_hash::HashWriter;
+use crate::writer::{Patch, Writer};
+use crate::y4m::Y4mWriter;
+use ff_values::{Pkt, Totals};
+use ff_wav::{TooLarge, WavPut};
+use std::alloc::AllocError;
+
+/// The writer of any format that is written.
+#[derive(Drop)]
+pub enum AnyWriter {
+    /// RIFF WAVE.
+    Wav(WavPut),
+    /// YUV4MPEG2.
+    Y4m(Y4mWriter),
+    /// Digests.
+    Hash(HashWriter),
+}
+
+impl Writer for AnyWriter {
+    ghost layout = { any_layout };
+
+    ghost counts = { any_counts };
+
+    fn first(&self) -> Result<Vec<u8>, AllocError> {
+        match self {
+            AnyWriter::Wav(put) => Writer::first(put),
+            AnyWriter::Y4m(writer) => writer.first(),
+            AnyWriter::Hash(writer) => writer.first(),
+        }
+    }
+
+    fn text(&self, stream: u32, packet: Pkt) -> Result<Vec<u8>, Pkt> {
+        match self {
+            AnyWriter::Wav(put) => put.text(stream, packet),
+            AnyWriter::Y4m(writer) => writer.text(stream, packet),
+            AnyWriter::Hash(writer) => writer.text(stream, packet),
+        }
+    }
+
+    fn add(&mut self, count: u64) -> Result<(), TooLarge> {
+        match self {
+            AnyWriter::Wav(put) => Writer::add(put, count),
+            AnyWriter::Y4m(writer) => writer.add(count),
+            AnyWriter::Hash(writer) => writer.add(count),
+        }
+    }
+
+    fn pad(&self) -> &'static [u8] {
+        match self {
+            AnyWriter::Wav(put) => Writer::pad(put),
+            AnyWriter::Y4m(writer) => writer.pad(),
+            AnyWriter::Hash(writer) => writer.pad(),
+        }
+    }
+
+    fn last(&self, totals: Option<Totals>) -> Result<Option<Patch>, AllocError> {
+        match self {
+            AnyWriter::Wav(put) => Writer::last(put, totals),
+            AnyWriter::Y4m(writer) => writer.last(totals),
+            AnyWriter::Hash(writer) => writer.last(totals),
+        }
+    }
+
+    ghost inside = { any_inside };
+}

@@ -1,0 +1,64 @@
+// The files of digests.
+ghost use Rattle.std.specs.Prelude.{◌≡◌, ◌<◌, ◌^◌, ◌↔◌, length, vec_len, ⊤};
+ghost use Rattle.ff_writers.specs.Formats.{hash_layout};
+
+use crate::writer::{Patch, Writer};
+use ff_mux::{hash_header, hash_line};
+use ff_values::{HashKind, Pkt, StreamHead, Totals};
+use ff_wav::TooLarge;
+use std::alloc::{AllocError, Global};
+
+/// Gives the text of a framehash file: the lines on its streams, and of each packet a line with the digest of its bytes.
+#[derive(Drop)]
+pub struct HashWriter {
+    alloc: Global,
+    kind: HashKind,
+    heads: Vec<StreamHead>,
+    ghost few: { length heads.items < 2 ^ 32 },
+}
+
+impl HashWriter {
+    ghost use Rattle.ff_writers.specs.Writers.{hash_kind, hash_heads};
+
+    /// For the packets of these streams, fewer than 2^32, with this digest.
+    pub fn new(alloc: Global, kind: HashKind, heads: Vec<StreamHead>) -> HashWriter
+        requires { length heads.items < 2 ^ 32 }
+        ensures kind { hash_kind result ≡ kind }
+        ensures heads { hash_heads result ≡ heads.items }
+    {
+        HashWriter { alloc, kind, heads }
+    }
+}
+
+impl Writer for HashWriter {
+    ghost use Rattle.ff_writers.specs.Writers.{hash_kind, hash_heads};
+
+    ghost layout = { λ w. hash_layout (hash_kind w) (hash_heads w) };
+
+    ghost counts = { λ w n. ⊤ };
+
+    fn first(&self) -> Result<Vec<u8>, AllocError> {
+        hash_header(self.alloc, self.kind, &self.heads)
+    }
+
+    fn text(&self, stream: u32, packet: Pkt) -> Result<Vec<u8>, Pkt> {
+        match hash_line(self.alloc, self.kind, stream, &packet) {
+            Ok(line) => Ok(line),
+            Err(_) => Err(packet),
+        }
+    }
+
+    fn add(&mut self, _count: u64) -> Result<(), TooLarge> {
+        Ok(())
+    }
+
+    fn pad(&self) -> &'static [u8] {
+        &[]
+    }
+
+    fn last(&self, _totals: Option<Totals>) -> Result<Option<Patch>, AllocError> {
+        Ok(None)
+    }
+
+    ghost inside = { λ w n totals. tt };
+}

@@ -1,0 +1,17 @@
+// What follows of the definitions alone.
+ghost use Rattle.ff_writers.specs.Finished.{WavsAreFiles, PicturesAreFiles, HashesAreTexts};
+
+/// The finished file of a WAV is its header with both sizes, the packets' bytes, and a pad byte where they are odd.
+pub fn finished_wavs_are_riff()
+    ensures { WavsAreFiles }
+{}
+
+/// The finished file of pictures is its first line and the frames of the packets.
+pub fn finished_pictures_are_yuv4mpeg2()
+    ensures { PicturesAreFiles }
+{}
+
+/// The finished text of one stream with SHA-256 is its header and the lines of the packets.
+pub fn finished_hashes_are_texts()
+    ensures { HashesAreTexts }
+{}

@@ -1,0 +1,42 @@
+// The files of WAV.
+ghost use Rattle.std.specs.Prelude.{◌≡◌};
+ghost use Rattle.ff_wav.specs.Header.{written_head, body_size};
+ghost use Rattle.ff_writers.specs.Formats.{wav_layout};
+ghost use Rattle.ff_writers.specs.InsideLaws.{wav_inside};
+
+use crate::writer::{Patch, Writer};
+use ff_values::{Pkt, Totals};
+use ff_wav::{TooLarge, WavPut};
+use std::alloc::AllocError;
+
+impl Writer for WavPut {
+    ghost layout = { λ put. wav_layout (written_head put) };
+
+    ghost counts = { λ put n. body_size put ≡ n };
+
+    fn first(&self) -> Result<Vec<u8>, AllocError> {
+        WavPut::first(self)
+    }
+
+    fn text(&self, _stream: u32, packet: Pkt) -> Result<Vec<u8>, Pkt> {
+        Ok(packet.bytes.into_vec())
+    }
+
+    fn add(&mut self, count: u64) -> Result<(), TooLarge> {
+        WavPut::add(self, count)
+    }
+
+    fn pad(&self) -> &'static [u8] {
+        if WavPut::pad(self) {
+            return &[0];
+        }
+        &[]
+    }
+
+    fn last(&self, _totals: Option<Totals>) -> Result<Option<Patch>, AllocError> {
+        let bytes = WavPut::last(self)?;
+        Ok(Some(Patch { at: 0, bytes }))
+    }
+
+    ghost inside = { λ put n totals. wav_inside (written_head put) n };
+}

@@ -1,0 +1,78 @@
+// The files of YUV4MPEG2.
+ghost use Rattle.std.specs.Prelude.{◌≡◌, ◌++◌, ◌↔◌, IfOk, OnOk, ⊤};
+ghost use Rattle.ff_y4m.specs.Header.{IsVideoHead, frame_line};
+ghost use Rattle.ff_writers.specs.Formats.{y4m_layout};
+ghost use Rattle.ff_writers.specs.Pictures.{IsVideoHead-prop};
+
+use crate::writer::{Patch, Writer};
+use ff_values::{Pkt, StreamHead, Totals};
+use ff_wav::TooLarge;
+use ff_y4m::y4m_header;
+use std::alloc::{AllocError, Global};
+
+/// The line of a frame.
+const FRAME: &[u8] = b"FRAME\n";
+
+/// Gives the text of a YUV4MPEG2 file (yuv4mpeg(5)): the first line, and of each packet a line and its planes.
+#[derive(Drop)]
+pub struct Y4mWriter {
+    alloc: Global,
+    head: StreamHead,
+    ghost pictures: { IsVideoHead head } by { IsVideoHead-prop head },
+}
+
+impl Y4mWriter {
+    ghost use Rattle.ff_writers.specs.Writers.{y4m_head};
+
+    /// For the packets of a stream of pictures.
+    pub fn new(alloc: Global, head: StreamHead) -> Y4mWriter
+        requires { IsVideoHead head }
+        ensures { y4m_head result ≡ head }
+    {
+        Y4mWriter { alloc, head }
+    }
+}
+
+// A frame: its line, and its planes.
+fn framed(alloc: Global, planes: &[u8]) -> Result<Vec<u8>, AllocError>
+    ensures { IfOk result (λ text. text.items ≡ frame_line ++ planes.now) }
+{
+    let mut text = Vec::new(alloc);
+    text.reserve(planes.len())?;
+    text.extend_from_slice(FRAME)?;
+    text.extend_from_slice(planes)?;
+    Ok(text)
+}
+
+impl Writer for Y4mWriter {
+    ghost use Rattle.ff_writers.specs.Writers.{y4m_head};
+
+    ghost layout = { λ w. y4m_layout (y4m_head w) };
+
+    ghost counts = { λ w n. ⊤ };
+
+    fn first(&self) -> Result<Vec<u8>, AllocError> {
+        y4m_header(self.alloc, &self.head)
+    }
+
+    fn text(&self, _stream: u32, packet: Pkt) -> Result<Vec<u8>, Pkt> {
+        match framed(self.alloc, packet.bytes.as_slice()) {
+            Ok(text) => Ok(text),
+            Err(_) => Err(packet),
+        }
+    }
+
+    fn add(&mut self, _count: u64) -> Result<(), TooLarge> {
+        Ok(())
+    }
+
+    fn pad(&self) -> &'static [u8] {
+        &[]
+    }
+
+    fn last(&self, _totals: Option<Totals>) -> Result<Option<Patch>, AllocError> {
+        Ok(None)
+    }
+
+    ghost inside = { λ w n totals. tt };
+}
