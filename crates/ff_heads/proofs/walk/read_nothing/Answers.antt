@@ -1,0 +1,8 @@
+use Rattle.ff_heads.proofs.Walking.{nothing_whole, nothing_yet}
+use Rattle.ff_heads.proofs.walk.read_nothing.Goals as goal
+
+pub returns-then-whole : goal.returns-then-whole
+returns-then-whole c = rw c.if-whole.true nothing_whole
+
+pub returns : goal.returns
+returns c = rw c.if-whole.false nothing_yet

@@ -1,0 +1,4 @@
+pub mod Heads
+pub mod Formats
+pub mod Answers
+pub mod Places
