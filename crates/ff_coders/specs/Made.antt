@@ -1,0 +1,27 @@
+-- What codecs owe to whoever runs them.
+use Rattle.std.specs.Prelude.{◌≡◌, Option, IfSome, IsSomeAnd}
+use Rattle.ff_values.specs.declared.packet.Pkt.{Pkt}
+use Rattle.ff_values.specs.declared.head.StreamHead.{StreamHead}
+use Rattle.ff_frame.specs.declared.item.Item.{Item}
+use Rattle.ff_frame.specs.declared.item.Item.TheVariants.{Packet}
+use Rattle.ff_frame.specs.declared.item.Lane.{Lane}
+use Rattle.ff_frame.specs.declared.item.Lane.TheVariants.{Frames, Packets}
+use Rattle.ff_frame.specs.Lanes.{FitsLane}
+use Rattle.ff_frame.specs.Times.{HasTime, start_of, end_of}
+
+-- an item that was made of another fits its lane, and starts and ends when that does
+pub record IsMadeOf (lane : Lane) (before after : Item) : Type 0 where
+  pub fits : FitsLane lane after
+  pub timed : HasTime after
+  pub starts : start_of after ≡ start_of before
+  pub ends : end_of after ≡ end_of before
+
+-- a packet of the lane is taken, and so is its frame, if it has one
+pub record IsDecoded (head : StreamHead) (packet : Pkt) (Taken : Type 0) (frame : Option Item) : Type 0 where
+  pub taken : Taken
+  pub made : IfSome frame (IsMadeOf (Frames head) (Packet packet))
+
+-- a frame of the lane is taken, and has a packet
+pub record IsEncoded (head : StreamHead) (frame : Item) (Taken : Type 0) (packet : Option Pkt) : Type 0 where
+  pub taken : Taken
+  pub made : IsSomeAnd packet (λ p. IsMadeOf (Packets head) frame (Packet p))

@@ -1,0 +1,76 @@
+ghost use Rattle.ff_coders.specs.AnyCoders.{any_head, any_takes, any_frame, any_decoded, any_serves, any_coded, any_accepts, any_packet, any_encoded};
+
+use crate::decoder::Decoder;
+use crate::encoder::Encoder;
+use crate::pcm::{PcmDecoder, PcmEncoder};
+use crate::raw::{RawDecoder, RawEncoder};
+use ff_frame::Item;
+use ff_values::Pkt;
+
+/// The decoder of any codec that is read.
+#[derive(Drop)]
+pub enum AnyDecoder {
+    /// Linear PCM.
+    Pcm(PcmDecoder),
+    /// Raw video.
+    Raw(RawDecoder),
+}
+
+impl Decoder for AnyDecoder {
+    ghost head = { any_head };
+
+    ghost takes = { any_takes };
+
+    ghost made = { any_frame };
+
+    fn can_take(&self, packet: &Pkt) -> bool {
+        match self {
+            AnyDecoder::Pcm(decoder) => decoder.can_take(packet),
+            AnyDecoder::Raw(decoder) => decoder.can_take(packet),
+        }
+    }
+
+    fn decode(&self, packet: Pkt) -> Result<Option<Item>, Pkt> {
+        match self {
+            AnyDecoder::Pcm(decoder) => decoder.decode(packet),
+            AnyDecoder::Raw(decoder) => decoder.decode(packet),
+        }
+    }
+
+    ghost carries = { any_decoded };
+}
+
+/// The encoder to any codec that is written.
+#[derive(Drop)]
+pub enum AnyEncoder {
+    /// Linear PCM.
+    Pcm(PcmEncoder),
+    /// Raw video.
+    Raw(RawEncoder),
+}
+
+impl Encoder for AnyEncoder {
+    ghost serves = { any_serves };
+
+    ghost coded = { any_coded };
+
+    ghost takes = { any_accepts };
+
+    ghost made = { any_packet };
+
+    fn can_take(&self, frame: &Item) -> bool {
+        match self {
+            AnyEncoder::Pcm(encoder) => encoder.can_take(frame),
+            AnyEncoder::Raw(encoder) => encoder.can_take(frame),
+        }
+    }
+
+    fn encode(&self, frame: Item) -> Result<Pkt, Item> {
+        match self {
+            AnyEncoder::Pcm(encoder) => encoder.encode(frame),
+            AnyEncoder::Raw(encoder) => encoder.encode(frame),
+        }
+    }
+
+    ghost carries = { any_encoded };
+}

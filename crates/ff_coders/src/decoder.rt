@@ -1,0 +1,35 @@
+ghost use Rattle.std.specs.Prelude.{◌≡◌, ◌↔◌, Option, IsTrue, IfOk, IfErr};
+ghost use Rattle.ff_values.specs.declared.head.StreamHead.{StreamHead};
+ghost use Rattle.ff_values.specs.declared.packet.Pkt.{Pkt};
+ghost use Rattle.ff_frame.specs.declared.item.Item.{Item};
+ghost use Rattle.ff_frame.specs.declared.item.Item.TheVariants.{Packet};
+ghost use Rattle.ff_frame.specs.Lanes.{FitsPackets};
+ghost use Rattle.ff_coders.specs.Made.{IsDecoded};
+
+use ff_frame::Item;
+use ff_values::Pkt;
+
+/// Makes a frame of each packet of a stream.
+pub trait Decoder {
+    /// The head of its stream.
+    ghost head: { Self → StreamHead };
+
+    /// What packets it can be given.
+    ghost takes: { Self → Pkt → Type 0 };
+
+    /// The frame that a packet stands for; none where its bytes stand for no frame.
+    ghost made: { Self → Pkt → Option Item };
+
+    /// Whether it can be given this packet.
+    fn can_take(&self, packet: &Pkt) -> bool
+        ensures { IsTrue result ↔ takes self.now packet.now };
+
+    /// The frame of a packet; None where its bytes stand for none. Without memory the packet comes back.
+    fn decode(&self, packet: Pkt) -> Result<Option<Item>, Pkt>
+        requires { takes self.now packet }
+        ensures made { IfOk result (λ frame. frame ≡ made self.now packet) }
+        ensures back { IfErr result (λ back. back ≡ packet) };
+
+    /// What the lane of its packets carries it can be given, and the frame fits the lane of frames and has the packet's times.
+    ghost carries: { (d : Self) (p : Pkt) → FitsPackets (head d) (Packet p) → IsDecoded (head d) p (takes d p) (made d p) };
+}

@@ -1,0 +1,22 @@
+//! What decodes the packets of a stream and encodes its frames, one for one, as pure state.
+//!
+//! ```text
+//! packet ──► Decoder ──► frame, with the packet's times        frame ──► Encoder ──► packet, with the frame's times
+//! ```
+//!
+//! `Decoder` and `Encoder` say what a codec is to whoever runs it: which items it takes, what it makes of each, and that this fits
+//! the lane and keeps the times. A codec has a file here and a variant of `AnyDecoder` and `AnyEncoder`: linear PCM, and raw
+//! video, whose planes are moved. `specs/Decoding` and `specs/Encoding` have what they make.
+#![tactic(auto)]
+
+mod any;
+mod decoder;
+mod encoder;
+mod pcm;
+mod raw;
+
+pub use any::{AnyDecoder, AnyEncoder};
+pub use decoder::Decoder;
+pub use encoder::Encoder;
+pub use pcm::{PcmDecoder, PcmEncoder};
+pub use raw::{RawDecoder, RawEncoder};
