@@ -1,0 +1,101 @@
+-- Steps over the files of a run.
+use Rattle.std.proofs.Common.{◌≡◌, ◌≢◌, inl, inr, ℕ, ◌+◌, ◌<◌, List, [], ◌∷◌, ◌++◌, length, Option, None, Some, Bool, true, false, refl, sym, ap, ◌∙◌, subst, arith}
+use Rattle.ff_host.specs.Causes.{Rose, SameElsewhere, SameCounts}
+use Rattle.ff_host.specs.Files.{Files, KeepsFiles, KeepsOthers, HoldsAt}
+use Rattle.ff_files.specs.Names.{name_at, KeepsAllBut}
+use Rattle.ff_files.specs.Counts.{KeepsCounts}
+use Rattle.ff_files.specs.Hosts.{IsLater, Later, AreOpen}
+use Rattle.ff_files.specs.Outputs.{FailsAt, AreClosed, first_failed}
+use Rattle.ff_files.proofs.Lists.{each_pushed, length_snoc, same_or_not}
+
+-- files that are kept, twice
+pub files_same : (a : Option Files) → KeepsFiles a a
+files_same None = tt
+files_same (Some f) = λ name. refl
+
+pub files_on : (a b c : Option Files) → KeepsFiles a b → KeepsFiles b c → KeepsFiles a c
+files_on None b c p q = tt
+files_on (Some f) None c p q = absurd p
+files_on (Some f) (Some e) None p q = absurd q
+files_on (Some f) (Some e) (Some d) p q = λ name. q name ∙ p name
+
+-- and kept but for some names
+pub but_more : (a b c : Option Files) (names : List (List ℕ)) (k : ℕ) → KeepsAllBut a b names k → KeepsOthers b c (name_at names k) → KeepsAllBut a c names (k + 1)
+but_more None b c names k p q = tt
+but_more (Some f) None c names k p q = absurd p
+but_more (Some f) (Some e) None names k p q = absurd q
+but_more (Some f) (Some e) (Some d) names k p q = λ other h. q other (λ same. h k (omega arith) (sym same)) ∙ p other (λ j lt. h j (omega (arith, lt)))
+
+-- what was put under another name stays there
+pub put_on : (a b c : Option Files) (names : List (List ℕ)) (n : ℕ) (name other : List ℕ) (held : Option (List ℕ)) → KeepsAllBut a b names n → KeepsOthers b c other → name ≢ other → HoldsAt a b name held → HoldsAt a c name held
+put_on None b c names n name other held p k ne h = tt
+put_on (Some f) None c names n name other held p k ne h = absurd p
+put_on (Some f) (Some e) None names n name other held p k ne h = absurd k
+put_on (Some f) (Some e) (Some d) names n name other None p k ne h = tt
+put_on (Some f) (Some e) (Some d) names n name other (Some bytes) p k ne h = k name ne ∙ h
+
+-- and what is put now is there
+pub put_here : (a b c : Option Files) (names : List (List ℕ)) (k : ℕ) (name : List ℕ) (held : Option (List ℕ)) → KeepsAllBut a b names k → HoldsAt b c name held → HoldsAt a c name held
+put_here None b c names k name held p h = tt
+put_here (Some f) None c names k name held p h = absurd p
+put_here (Some f) (Some e) c names k name held p h = h
+
+-- a count that has risen has risen since earlier, and until later
+pub rose_on : (a b c d : ℕ) → IsLater a b → IsLater c d → Rose b c → Rose a d
+rose_on a b c d p q r = omega (arith, p, q, r)
+
+-- the first that failed, once one more was closed
+pub fails_on : (before mid now : List ℕ → ℕ) (names : List (List ℕ)) (k : ℕ) (first : Option ℕ) (failed : Bool) → ((i : ℕ) → Rose (before (name_at names i)) (mid (name_at names i)) → Rose (before (name_at names i)) (now (name_at names i)))
+    → FailsAt before mid names k first → (failed ≡ true → Rose (before (name_at names k)) (now (name_at names k))) → FailsAt before now names (k + 1) (first_failed first failed k)
+fails_on before mid now names k (Some j) failed on was f = (omega (arith, was.0), on j was.1)
+fails_on before mid now names k None true on was f = (omega arith, f refl)
+fails_on before mid now names k None false on was f = tt
+
+-- those that are closed below a number, once one more was closed
+pub closed_before : (first : Option ℕ) (failed : Bool) (k count : ℕ) → AreClosed (first_failed first failed k) count → AreClosed first count
+closed_before (Some j) failed k count c = c
+closed_before None failed k count c = tt
+
+pub closed_here : (before now : List ℕ → ℕ) (names : List (List ℕ)) (first : Option ℕ) (failed : Bool) (k count : ℕ) → FailsAt before now names k first → AreClosed (first_failed first failed k) count → k < count → failed ≡ false
+closed_here before now names (Some j) failed k count f c lt = absurd (let below = f.0 in omega (arith, below, c, lt))
+closed_here before now names None true k count f c lt = absurd (omega (arith, c, lt))
+closed_here before now names None false k count f c lt = refl
+
+-- counts that are kept, with one more step that changes the count of one name at most
+pub counts_on : (before mid now : List ℕ → ℕ) (names : List (List ℕ)) (k count : ℕ) → k < length names → KeepsCounts before mid names count → SameElsewhere (name_at names k) mid now
+    → (k < count → now (name_at names k) ≡ mid (name_at names k)) → KeepsCounts before now names count
+counts_on before mid now names k count lt was others here = λ name below. elim (same_or_not name (name_at names k)) [
+  | inl same ↦ subst (λ (n : List ℕ). now n ≡ mid n) (sym same) (here (below k lt (sym same))) ∙ was name below
+  | inr other ↦ others name other ∙ was name below
+]
+
+-- counts of which none changed in the step
+pub counts_still : (before mid now : List ℕ → ℕ) (names : List (List ℕ)) (count : ℕ) → KeepsCounts before mid names count → SameCounts mid now → KeepsCounts before now names count
+counts_still before mid now names count was same = λ name below. same name ∙ was name below
+
+module _ {H : Type 0} (ins outs : H → List ℕ → ℕ) (opened created : H → List ℕ → Type 0) where
+  pub later_same : (a : H) → Later ins outs opened created a a
+  later_same a = record { ins_later = λ n. omega arith; outs_later = λ n. omega arith; still_opened = λ n o. o; still_created = λ n o. o }
+
+  pub later_on : (a b c : H) → Later ins outs opened created a b → Later ins outs opened created b c → Later ins outs opened created a c
+  later_on a b c p q = record {
+    ins_later = λ n. (let x = p.ins_later n in let y = q.ins_later n in omega (arith, x, y));
+    outs_later = λ n. (let x = p.outs_later n in let y = q.outs_later n in omega (arith, x, y));
+    still_opened = λ n o. q.still_opened n (p.still_opened n o);
+    still_created = λ n o. q.still_created n (p.still_created n o);
+  }
+
+-- what may be closed still may, and one more
+module _ {H E : Type 0} (may : H → List ℕ → Type 0) (named : E → Option (List ℕ)) where
+  pub open_more : (old new : H) (names : List (List ℕ)) (xs ys : List E) (y : E) (k : ℕ) → ((n : List ℕ) → may old n → may new n) → AreOpen may named old names xs → ys ≡ xs ++ y ∷ [] → length xs ≡ k → k < length names
+      → named y ≡ Some (name_at names k) → may new (name_at names k) → AreOpen may named new names ys
+  open_more old new names xs ys y k still was is long lt own may_too =
+      let more : length ys ≡ k + 1 = ap (λ (l : List E). length l) is ∙ (length_snoc xs y ∙ ap (λ (n : ℕ). n + 1) long) in
+      record {
+        few = omega (arith, more, lt);
+        own = λ j d below. each_pushed (λ i x. named x ≡ Some (name_at names i)) xs ys y k is long (λ i e l. was.own i e (omega (arith, l, long))) own j d (omega (arith, below, more));
+        may_close = λ j below. each_pushed (λ i x. may new (name_at names i)) xs ys y k is long (λ i e l. still (name_at names i) (was.may_close i (omega (arith, l, long)))) may_too j y (omega (arith, below, more));
+      }
+
+  pub open_still : (old new : H) (names : List (List ℕ)) (xs : List E) → ((n : List ℕ) → may old n → may new n) → AreOpen may named old names xs → AreOpen may named new names xs
+  open_still old new names xs still was = record { few = was.few; own = was.own; may_close = λ k lt. still (name_at names k) (was.may_close k lt) }

@@ -1,0 +1,6 @@
+pub mod Names
+pub mod Counts
+pub mod Hosts
+pub mod Heads
+pub mod Inputs
+pub mod Outputs

@@ -1,0 +1,41 @@
+-- The outputs of a run: created, and closed.
+use Rattle.std.specs.Prelude.{⊤, ℕ, ◌<◌, ◌≤◌, List, length, slice_index_or, Option, Some, None, Bool, if◌then◌else◌, Result, Ok, Err}
+use Rattle.ff_host.specs.Causes.{Rose}
+use Rattle.ff_host.specs.Files.{Files, HoldsNothing, HoldsAt}
+use Rattle.ff_host.specs.declared.host.HostError.{HostError}
+use Rattle.ff_host.specs.declared.host.HostError.TheVariants as host_error
+use Rattle.ff_files.specs.Names.{name_at}
+use Rattle.ff_files.specs.declared.outputs.OutputRefusal.{OutputRefusal}
+
+-- each sink holds nothing
+abbrev pub AreEmpty : {K : Type 0} → (K → Option (List ℕ)) → Option Files → List K → Type 0
+AreEmpty {K} holds files snks = (k : ℕ) (d : K) → k < length snks → HoldsNothing files (holds (slice_index_or snks k d))
+
+-- why not all outputs were created: memory, or a fault that was counted under the name
+abbrev pub EndsOutputs : (List ℕ → ℕ) → (List ℕ → ℕ) → List (List ℕ) → ℕ → HostError → Type 0
+EndsOutputs before now names k host_error.NoMemory = k < length names
+EndsOutputs before now names k host_error.Failed = (k < length names) × Rose (before (name_at names k)) (now (name_at names k))
+
+-- how many of the outputs in front were created without a fault
+abbrev pub sound_outputs : Result Unit OutputRefusal → ℕ → ℕ
+sound_outputs (Ok done) all = all
+sound_outputs (Err refusal) all = refusal.output
+
+-- the files hold what these sinks held
+abbrev pub ArePut : {K : Type 0} → (K → Option (List ℕ)) → Option Files → Option Files → List (List ℕ) → List K → Type 0
+ArePut {K} holds before now names snks = (k : ℕ) (d : K) → k < length snks → HoldsAt before now (name_at names k) (holds (slice_index_or snks k d))
+
+-- the first that failed, if one did, is one of these, and its fault was counted under its name
+abbrev pub FailsAt : (List ℕ → ℕ) → (List ℕ → ℕ) → List (List ℕ) → ℕ → Option ℕ → Type 0
+FailsAt before now names count None = ⊤
+FailsAt before now names count (Some k) = (k < count) × Rose (before (name_at names k)) (now (name_at names k))
+
+-- each below this number was closed without a failure of the closing itself, where this is the first that failed
+abbrev pub AreClosed : Option ℕ → ℕ → Type 0
+AreClosed None count = ⊤
+AreClosed (Some k) count = count ≤ k
+
+-- the first number that failed
+abbrev pub first_failed : Option ℕ → Bool → ℕ → Option ℕ
+first_failed (Some j) failed k = Some j
+first_failed None failed k = if failed then Some k else None

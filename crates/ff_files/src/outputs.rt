@@ -1,0 +1,70 @@
+// The outputs of a run: created by number.
+ghost use Rattle.std.specs.Prelude.{◌≡◌, ◌<◌, ◌≤◌, ◌+◌, ◌^◌, ℕ, List, [], length, vec_len, vec_capacity, IfOk, IfErr, OnOk, OnErr, IsErrOf, Some};
+ghost use Rattle.ff_host.specs.Causes.{HasCauseOf, SameElsewhere, SameCounts};
+ghost use Rattle.ff_host.specs.Files.{KeepsFiles, KeepsOthers, HoldsNothing};
+ghost use Rattle.ff_files.specs.Names.{names_of, KeepsAllBut};
+ghost use Rattle.ff_files.specs.Counts.{KeepsCounts, AreUnfailed};
+ghost use Rattle.ff_files.specs.Hosts.{Later, AreOpen};
+ghost use Rattle.ff_files.specs.Outputs.{AreEmpty, EndsOutputs, sound_outputs};
+
+use crate::named::{Named, name_at};
+use ff_host::{Host, HostError, Sink};
+
+/// The first output that wasn't created, and why.
+#[derive(Clone, Copy, Debug, PartialEq, Eq)]
+pub struct OutputRefusal {
+    /// Its number, from 0.
+    pub output: u32,
+    pub end: HostError,
+}
+
+// Creates an output.
+fn create_output<H: Host>(host: &mut H, name: &str) -> Result<H::Snk, HostError>
+    ensures later { Later H.in_faults H.out_faults H.opened H.created host.old host.new }
+    ensures ok { OnOk result (KeepsOthers (H.files host.old) (H.files host.new) name.now) }
+    ensures err { OnErr result (KeepsFiles (H.files host.old) (H.files host.new)) }
+    ensures name { IfOk result (λ snk. H.Snk.name snk ≡ Some name.now) }
+    ensures created { OnOk result (H.created host.new name.now) }
+    ensures empty { IfOk result (λ snk. HoldsNothing (H.files host.old) (H.Snk.holds snk)) }
+    ensures unfailed { IfOk result (λ snk. H.Snk.faults snk ≡ 0) }
+    ensures ok_counts { OnOk result (SameCounts (H.out_faults host.old) (H.out_faults host.new)) }
+    ensures cause { HasCauseOf HostError.Failed (H.out_faults host.old name.now) (H.out_faults host.new name.now) result }
+    ensures out_others { SameElsewhere name.now (H.out_faults host.old) (H.out_faults host.new) }
+    ensures ins { SameCounts (H.in_faults host.old) (H.in_faults host.new) }
+    ensures open_sources { H.open_sources host.new ≡ H.open_sources host.old }
+    ensures open_sinks { OnOk result (H.open_sinks host.new ≡ H.open_sinks host.old + 1) }
+    ensures refused { OnErr result (H.open_sinks host.new ≡ H.open_sinks host.old) }
+{
+    host.create_sink(name)
+}
+
+/// Creates the outputs by number, until one is refused. `snks` are then those that were created, which are to be closed
+/// whatever comes. Refused for a fault of the host, and for want of memory.
+pub fn create_outputs<H: Host, N: Named>(
+    host: &mut H,
+    outputs: &[N],
+    snks: &mut Vec<H::Snk>,
+) -> Result<(), OutputRefusal>
+    requires few { length outputs.now < 2 ^ 32 }
+    requires snks { (snks.old.items ≡ []) × (length outputs.now ≤ vec_capacity snks.old) }
+    ensures later { Later H.in_faults H.out_faults H.opened H.created host.old host.new }
+    ensures files { KeepsAllBut (H.files host.old) (H.files host.new) (names_of N.name_text outputs.now) (vec_len snks.new) }
+    ensures own { AreOpen H.created H.Snk.name host.new (names_of N.name_text outputs.now) snks.new.items }
+    ensures empty { AreEmpty H.Snk.holds (H.files host.old) snks.new.items }
+    ensures unfailed { AreUnfailed H.Snk.faults snks.new.items (length outputs.now) }
+    ensures counts { KeepsCounts (H.out_faults host.old) (H.out_faults host.new) (names_of N.name_text outputs.now) (sound_outputs result (length outputs.now)) }
+    ensures ins { SameCounts (H.in_faults host.old) (H.in_faults host.new) }
+    ensures open_sources { H.open_sources host.new ≡ H.open_sources host.old }
+    ensures open_sinks { H.open_sinks host.new ≡ H.open_sinks host.old + vec_len snks.new }
+    ensures all { OnOk result (vec_len snks.new ≡ length outputs.now) }
+    ensures refused { IfErr result (λ r. EndsOutputs (H.out_faults host.old) (H.out_faults host.new) (names_of N.name_text outputs.now) r.output r.end) }
+{
+    for k in 0..outputs.len() {
+        let output = k as u32;
+        match create_output(host, name_at(outputs, k)) {
+            Ok(snk) => snks.push_reserved(snk),
+            Err(end) => return Err(OutputRefusal { output, end }),
+        }
+    }
+    Ok(())
+}
