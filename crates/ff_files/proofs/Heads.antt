@@ -58,22 +58,19 @@ take_len [] (suc k) le = absurd (omega (arith, le))
 take_len (x ∷ xs) zero le = refl
 take_len (x ∷ xs) (suc k) le = (let rest = take_len xs k (omega (arith, le)) in omega (arith, rest))
 
-found_heads : {H : Type 0} → List H → Heads H
+abbrev found_heads : {H : Type 0} → List H → Heads H
 found_heads hs = Ok hs
 
-no_heads : {H : Type 0} → Refusal → Heads H
+abbrev no_heads : {H : Type 0} → Refusal → Heads H
 no_heads refusal = Err refusal
 
-not_both : {H : Type 0} {P : Type 0} (hs : List H) (r : Refusal) → found_heads hs ≡ no_heads r → P
-unfolding found_heads no_heads
+pub not_both : {H : Type 0} {P : Type 0} (hs : List H) (r : Refusal) → found_heads hs ≡ no_heads r → P
 not_both hs r e = absurd (cc (e))
 
-same_heads : {H : Type 0} (hs gs : List H) → found_heads hs ≡ found_heads gs → hs ≡ gs
-unfolding found_heads
+pub same_heads : {H : Type 0} (hs gs : List H) → found_heads hs ≡ found_heads gs → hs ≡ gs
 same_heads hs gs e = cc
 
-same_refusal : {H : Type 0} (r q : Refusal) → no_heads {H = H} r ≡ no_heads q → r ≡ q
-unfolding no_heads
+pub same_refusal : {H : Type 0} (r q : Refusal) → no_heads {H = H} r ≡ no_heads q → r ≡ q
 same_refusal r q e = cc
 
 with_none : {H : Type 0} (r : Heads H) → r ≡ with_heads [] r
@@ -91,7 +88,6 @@ module _ {I H : Type 0} (name : I → List ℕ) (head : I → List ℕ → Found
   -- heads that were found in front stand in front of those that follow
   heads_append : (files : Files) (k : ℕ) (xs ys : List I) (heads : List H) → heads_from name head files k xs ≡ Ok heads
       → heads_from name head files k (xs ++ ys) ≡ with_heads heads (heads_from name head files (k + length xs) ys)
-  unfolding found_heads no_heads
   heads_append files k [] ys heads e =
       from_same files k (k + 0) ys (omega arith) ∙ (with_none (heads_from name head files (k + 0) ys)
       ∙ ap (λ (hs : List H). with_heads hs (heads_from name head files (k + 0) ys)) (same_heads [] heads e))
@@ -106,6 +102,42 @@ module _ {I H : Type 0} (name : I → List ℕ) (head : I → List ℕ → Found
           next_two hs k h (head_in name head files x) (heads_from name head files (suc k) (xs ++ ys)) (heads_from name head files (suc k + length xs) ys) is more
           ∙ (ap (λ (r : Heads H). with_heads (h ∷ hs) r) (from_same files (suc k + length xs) (k + length (x ∷ xs)) ys (omega arith))
           ∙ ap (λ (l : List H). with_heads l (heads_from name head files (k + length (x ∷ xs)) ys)) (same_heads (h ∷ hs) heads e))
+
+  -- the heads of those in front, where all have heads
+  front_heads : (files : Files) (k : ℕ) (xs ys : List I) (heads : List H) → heads_from name head files k (xs ++ ys) ≡ Ok heads → (front : List H) × (heads_from name head files k xs ≡ Ok front)
+  front_heads files k [] ys heads e = ([], refl)
+  front_heads files k (x ∷ xs) ys heads e = by_head (λ hs rest. front_heads files (suc k) xs ys hs rest) (head_in name head files x) (heads_from name head files (suc k) (xs ++ ys)) refl refl e
+    where
+      by_head : ((hs : List H) → heads_from name head files (suc k) (xs ++ ys) ≡ Ok hs → (front : List H) × (heads_from name head files (suc k) xs ≡ Ok front)) → (found : Found H) (r : Heads H) → head_in name head files x ≡ found
+          → heads_from name head files (suc k) (xs ++ ys) ≡ r → next_head k found r ≡ Ok heads → (front : List H) × (heads_from name head files k (x ∷ xs) ≡ Ok front)
+      by_head on (Err f) r is rest e = not_both heads (record { input = k; fault = f }) (sym e)
+      by_head on (Ok h) (Err refusal) is rest e = not_both heads refusal (sym e)
+      by_head on (Ok h) (Ok hs) is rest e =
+          let front = on hs rest in
+          (h ∷ front.0, ap (λ (x : Found H). next_head k x (heads_from name head files (suc k) xs)) is ∙ ap (λ (r : Heads H). with_heads (h ∷ []) r) front.1)
+
+  pub front_have : (files : Files) (inputs : List I) (k : ℕ) (heads : List H) → heads_of name head files inputs ≡ Ok heads → HaveHeads name head (Some files) inputs k
+  front_have files inputs k heads e = front_heads files 0 (take k inputs) (drop k inputs) heads (ap (λ (l : List I). heads_of name head files l) (sym (parts inputs k)) ∙ e)
+
+  -- a refused head is none of those before the first of these
+  inside : (front : List H) (r : Heads H) (refusal : Refusal) → with_heads front r ≡ Err refusal → r ≡ Err refusal
+  inside front (Ok hs) refusal e = not_both (front ++ hs) refusal e
+  inside front (Err other) refusal e = e
+
+  err_from : (files : Files) (k : ℕ) (xs : List I) (refusal : Refusal) → heads_from name head files k xs ≡ Err refusal → k ≤ refusal.input
+  err_from files k [] refusal e = not_both [] refusal e
+  err_from files k (x ∷ xs) refusal e = by_head (λ rest. err_from files (suc k) xs refusal rest) (head_in name head files x) e
+    where
+      by_head : (heads_from name head files (suc k) xs ≡ Err refusal → suc k ≤ refusal.input) → (found : Found H) → next_head k found (heads_from name head files (suc k) xs) ≡ Err refusal → k ≤ refusal.input
+      by_head on (Err f) e = (let here = ap (λ (r : Refusal). r.input) (same_refusal {H = H} (record { input = k; fault = f }) refusal e) in omega (arith, here))
+      by_head on (Ok h) e = (let more = on (inside (h ∷ []) (heads_from name head files (suc k) xs) refusal e) in omega (arith, more))
+
+  pub refused_after : (files : Files) (inputs : List I) (k : ℕ) (front : List H) (refusal : Refusal) → k ≤ length inputs → heads_of name head files (take k inputs) ≡ Ok front → heads_of name head files inputs ≡ Err refusal → k ≤ refusal.input
+  refused_after files inputs k front refusal le so e =
+      let len = take_len inputs k le in
+      let rest = err_from files (0 + length (take k inputs)) (drop k inputs) refusal (inside front (heads_from name head files (0 + length (take k inputs)) (drop k inputs)) refusal
+      (sym (heads_append files 0 (take k inputs) (drop k inputs) front so) ∙ (ap (λ (l : List I). heads_of name head files l) (sym (parts inputs k)) ∙ e))) in
+      omega (arith, rest, len)
 
   -- one head more
   pub heads_more : (files : Files) (inputs : List I) (k : ℕ) (input : I) (front : List H) (h : H) → k < length inputs → get_or inputs k input ≡ input → heads_of name head files (take k inputs) ≡ Ok front

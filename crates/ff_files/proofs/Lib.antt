@@ -1,3 +1,5 @@
 pub mod Lists
 pub mod Steps
 pub mod Heads
+pub mod Wholes
+pub mod EndLaws

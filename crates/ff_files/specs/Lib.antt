@@ -4,3 +4,5 @@ pub mod Hosts
 pub mod Heads
 pub mod Inputs
 pub mod Outputs
+pub mod Works
+pub mod Ends

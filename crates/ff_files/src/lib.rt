@@ -2,24 +2,30 @@
 //! closed again, over one host.
 //!
 //! ```text
-//!  inputs   0 1 2 ..   opened ──► head read ──┐                        ┌──► sources closed, 0 1 2 ..
-//!                                             ├──► outputs created ────┤
-//!  outputs  0 1 2 ..                          │                        └──► sinks closed, 0 1 2 ..
+//!  inputs   0 1 2 ..   opened ──► head read ──┐                                  ┌──► sources closed, 0 1 2 ..
+//!                                             ├──► planned ──► created ──► run ──┤
+//!  outputs  0 1 2 ..                          │                                  └──► sinks closed, 0 1 2 ..
 //!                                   refused ──┴──► only the closings follow
 //! ```
 //!
-//! What an input's head is, and how it is read, an [`InputFile`] says: this crate knows no format. After a refusal the list that
-//! the caller handed in holds what is open, and the closings take it.
+//! What an input's head is, and how it is read, an [`InputFile`] says: this crate knows no format. What is done between the
+//! opening and the closing is a [`Work`]: it plans by the heads, and runs.
 #![tactic(auto)]
 
 mod closing;
+mod end;
 mod head;
 mod inputs;
 mod named;
 mod outputs;
+mod whole;
+mod work;
 
 pub use closing::{close_all, close_sinks, close_sources};
+pub use end::RunEnd;
 pub use head::{Begin, InputEnd, InputFile, read_begin};
 pub use inputs::{InputRefusal, Opened, open_inputs};
 pub use named::Named;
 pub use outputs::{OutputRefusal, create_outputs};
+pub use whole::over_files;
+pub use work::{Done, PlanEnd, Work, WorkEnd};

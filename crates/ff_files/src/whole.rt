@@ -1,0 +1,217 @@
+// A command over files, from the names to the files.
+ghost use Rattle.std.specs.Prelude.{◌≡◌, ◌⊎◌, Option, Some, None, ◌<◌, ◌≤◌, ◌-◌, ◌^◌, ℕ, List, [], length, vec_len, vec_capacity, IfOk};
+ghost use Rattle.std.specs.List.{All};
+ghost use Rattle.ff_host.specs.Files.{Files, KeepsFiles};
+ghost use Rattle.ff_cut.specs.declared.fault.HeadFault.{HeadFault};
+ghost use Rattle.ff_files.specs.Names.{names_of, AreApart, KeepsAllBut};
+ghost use Rattle.ff_files.specs.Counts.{Faulted, KeepsCounts, AreUnfailed};
+ghost use Rattle.ff_files.specs.Hosts.{AreOpen};
+ghost use Rattle.ff_files.specs.Inputs.{AreBegun};
+ghost use Rattle.ff_files.specs.Works.{command_of, HoldMeaning, HoldWritten};
+ghost use Rattle.ff_files.specs.Ends.{Ends, ComesBeforeOutputs, sound_inputs, sound_outputs, refusal, IsFirstRefused, HasNoPlan, CanBeDone};
+
+use crate::closing::{close_all, close_sources};
+use crate::end::{RunEnd, end_of, end_of_output, end_of_plan, end_with};
+use crate::head::InputFile;
+use crate::inputs::{InputRefusal, open_inputs};
+use crate::named::Named;
+use crate::outputs::{OutputRefusal, create_outputs};
+use crate::work::{Done, Work};
+use ff_host::{Begun, Host, Source};
+use std::alloc::{AllocError, Global};
+
+// An empty list with room for so many.
+fn room_for<T: Drop>(alloc: Global, count: usize) -> Result<Vec<T>, AllocError>
+    ensures { IfOk result (λ list. (list.items ≡ []) × (count ≤ vec_capacity list)) }
+{
+    let mut list = Vec::new(alloc);
+    list.reserve(count)?;
+    Ok(list)
+}
+
+// Creates the outputs, runs the plan, and closes all, over inputs that have their heads.
+fn write_outputs<H: Host, I: InputFile, N: Named, W: Work<I::Head, Begun<H::Src>, H::Snk>>(
+    host: &mut H,
+    inputs: &[I],
+    outputs: &[N],
+    work: &W,
+    plan: W::Plan,
+    heads: &[I::Head],
+    srcs: Vec<Begun<H::Src>>,
+    mut snks: Vec<H::Snk>,
+) -> RunEnd<W::Refusal, W::Fault>
+    requires few { length outputs.now < 2 ^ 32 }
+    requires apart { AreApart (names_of N.name_text outputs.now) }
+    requires plan { W.is_plan work.now heads.now plan }
+    requires planned { (W.means work.now).refusal heads.now ≡ None }
+    requires own { AreOpen H.opened ⟦<Begun<H::Src> as Source>⟧.name host.old (names_of I.name_text inputs.now) srcs.items }
+    requires many { length srcs.items ≡ length inputs.now }
+    requires unfailed { AreUnfailed ⟦<Begun<H::Src> as Source>⟧.faults srcs.items (length inputs.now) }
+    requires snks { (snks.items ≡ []) × (length outputs.now ≤ vec_capacity snks) }
+    ensures bytes { result ≡ RunEnd.Fine → (before : Option Files) → KeepsFiles before (H.files host.old)
+        → AreBegun I.name_text I.head ⟦<Begun<H::Src> as Source>⟧.left before inputs.now srcs.items heads.now
+        → HoldMeaning (command_of I.name_text I.head N.name_text inputs.now outputs.now (W.means work.now)) before (H.files host.new) }
+    ensures front { (before : Option Files) → KeepsFiles before (H.files host.old)
+        → AreBegun I.name_text I.head ⟦<Begun<H::Src> as Source>⟧.left before inputs.now srcs.items heads.now
+        → HoldWritten (command_of I.name_text I.head N.name_text inputs.now outputs.now (W.means work.now)) before (H.files host.new) }
+    ensures others { KeepsAllBut (H.files host.old) (H.files host.new) (names_of N.name_text outputs.now) (length outputs.now) }
+    ensures ends { (before : Option Files) → KeepsFiles before (H.files host.old)
+        → AreBegun I.name_text I.head ⟦<Begun<H::Src> as Source>⟧.left before inputs.now srcs.items heads.now
+        → Ends (command_of I.name_text I.head N.name_text inputs.now outputs.now (W.means work.now)) before
+        (record { before = H.in_faults host.old; after = H.in_faults host.new })
+        (record { before = H.out_faults host.old; after = H.out_faults host.new }) result }
+    ensures not_before { ComesBeforeOutputs result → ⊥ }
+    ensures in_counts { KeepsCounts (H.in_faults host.old) (H.in_faults host.new) (names_of I.name_text inputs.now)
+        (sound_inputs (command_of I.name_text I.head N.name_text inputs.now outputs.now (W.means work.now)) result) }
+    ensures out_counts { KeepsCounts (H.out_faults host.old) (H.out_faults host.new) (names_of N.name_text outputs.now)
+        (sound_outputs (command_of I.name_text I.head N.name_text inputs.now outputs.now (W.means work.now)) result) }
+    ensures open_sources { H.open_sources host.new ≡ H.open_sources host.old - vec_len srcs }
+    ensures open_sinks { H.open_sinks host.new ≡ H.open_sinks host.old }
+{
+    match create_outputs(host, outputs, &mut snks) {
+        Err(OutputRefusal { output, end }) => {
+            close_all(host, inputs, outputs, srcs, snks);
+            end_of_output(output, end)
+        }
+        Ok(()) => {
+            let Done { end, srcs, snks } = work.run(plan, heads, srcs, snks);
+            let unclosed = close_all(host, inputs, outputs, srcs, snks);
+            end_with(end, unclosed)
+        }
+    }
+}
+
+// Plans by the heads, and goes on with the outputs, over inputs that have their heads.
+fn plan_outputs<H: Host, I: InputFile, N: Named, W: Work<I::Head, Begun<H::Src>, H::Snk>>(
+    host: &mut H,
+    inputs: &[I],
+    outputs: &[N],
+    work: &W,
+    heads: &[I::Head],
+    srcs: Vec<Begun<H::Src>>,
+    snks: Vec<H::Snk>,
+) -> RunEnd<W::Refusal, W::Fault>
+    requires few { length outputs.now < 2 ^ 32 }
+    requires apart { AreApart (names_of N.name_text outputs.now) }
+    requires own { AreOpen H.opened ⟦<Begun<H::Src> as Source>⟧.name host.old (names_of I.name_text inputs.now) srcs.items }
+    requires many { length srcs.items ≡ length inputs.now }
+    requires unfailed { AreUnfailed ⟦<Begun<H::Src> as Source>⟧.faults srcs.items (length inputs.now) }
+    requires snks { (snks.items ≡ []) × (length outputs.now ≤ vec_capacity snks) }
+    ensures bytes { result ≡ RunEnd.Fine → (before : Option Files) → KeepsFiles before (H.files host.old)
+        → AreBegun I.name_text I.head ⟦<Begun<H::Src> as Source>⟧.left before inputs.now srcs.items heads.now
+        → HoldMeaning (command_of I.name_text I.head N.name_text inputs.now outputs.now (W.means work.now)) before (H.files host.new) }
+    ensures front { (before : Option Files) → KeepsFiles before (H.files host.old)
+        → AreBegun I.name_text I.head ⟦<Begun<H::Src> as Source>⟧.left before inputs.now srcs.items heads.now
+        → HoldWritten (command_of I.name_text I.head N.name_text inputs.now outputs.now (W.means work.now)) before (H.files host.new) }
+    ensures others { KeepsAllBut (H.files host.old) (H.files host.new) (names_of N.name_text outputs.now) (length outputs.now) }
+    ensures untouched { ComesBeforeOutputs result → KeepsFiles (H.files host.old) (H.files host.new) }
+    ensures ends { (before : Option Files) → KeepsFiles before (H.files host.old)
+        → AreBegun I.name_text I.head ⟦<Begun<H::Src> as Source>⟧.left before inputs.now srcs.items heads.now
+        → Ends (command_of I.name_text I.head N.name_text inputs.now outputs.now (W.means work.now)) before
+        (record { before = H.in_faults host.old; after = H.in_faults host.new })
+        (record { before = H.out_faults host.old; after = H.out_faults host.new }) result }
+    ensures in_counts { KeepsCounts (H.in_faults host.old) (H.in_faults host.new) (names_of I.name_text inputs.now)
+        (sound_inputs (command_of I.name_text I.head N.name_text inputs.now outputs.now (W.means work.now)) result) }
+    ensures out_counts { KeepsCounts (H.out_faults host.old) (H.out_faults host.new) (names_of N.name_text outputs.now)
+        (sound_outputs (command_of I.name_text I.head N.name_text inputs.now outputs.now (W.means work.now)) result) }
+    ensures open_sources { H.open_sources host.new ≡ H.open_sources host.old - vec_len srcs }
+    ensures open_sinks { H.open_sinks host.new ≡ H.open_sinks host.old }
+{
+    match work.plan(heads) {
+        Err(end) => {
+            close_sources(host, inputs, srcs);
+            end_of_plan(end)
+        }
+        Ok(plan) => write_outputs(host, inputs, outputs, work, plan, heads, srcs, snks),
+    }
+}
+
+// The same from the names on, without what follows of how it ends.
+fn run_files<H: Host, I: InputFile, N: Named, W: Work<I::Head, Begun<H::Src>, H::Snk>>(
+    alloc: Global,
+    host: &mut H,
+    inputs: &[I],
+    outputs: &[N],
+    work: &W,
+) -> RunEnd<W::Refusal, W::Fault>
+    requires few_inputs { length inputs.now < 2 ^ 32 }
+    requires few_outputs { length outputs.now < 2 ^ 32 }
+    requires apart { AreApart (names_of N.name_text outputs.now) }
+    ensures bytes { result ≡ RunEnd.Fine
+        → HoldMeaning (command_of I.name_text I.head N.name_text inputs.now outputs.now (W.means work.now)) (H.files host.old) (H.files host.new) }
+    ensures front { HoldWritten (command_of I.name_text I.head N.name_text inputs.now outputs.now (W.means work.now)) (H.files host.old) (H.files host.new) }
+    ensures others { KeepsAllBut (H.files host.old) (H.files host.new) (names_of N.name_text outputs.now) (length outputs.now) }
+    ensures untouched { ComesBeforeOutputs result → KeepsFiles (H.files host.old) (H.files host.new) }
+    ensures ends { Ends (command_of I.name_text I.head N.name_text inputs.now outputs.now (W.means work.now)) (H.files host.old)
+        (record { before = H.in_faults host.old; after = H.in_faults host.new })
+        (record { before = H.out_faults host.old; after = H.out_faults host.new }) result }
+    ensures in_counts { KeepsCounts (H.in_faults host.old) (H.in_faults host.new) (names_of I.name_text inputs.now)
+        (sound_inputs (command_of I.name_text I.head N.name_text inputs.now outputs.now (W.means work.now)) result) }
+    ensures out_counts { KeepsCounts (H.out_faults host.old) (H.out_faults host.new) (names_of N.name_text outputs.now)
+        (sound_outputs (command_of I.name_text I.head N.name_text inputs.now outputs.now (W.means work.now)) result) }
+    ensures closed { (H.open_sources host.new ≡ H.open_sources host.old) × (H.open_sinks host.new ≡ H.open_sinks host.old) }
+{
+    let Ok(mut srcs) = room_for(alloc, inputs.len()) else {
+        return RunEnd::NoMemory;
+    };
+    let Ok(mut heads) = room_for(alloc, inputs.len()) else {
+        return RunEnd::NoMemory;
+    };
+    let Ok(snks) = room_for(alloc, outputs.len()) else {
+        return RunEnd::NoMemory;
+    };
+    match open_inputs(alloc, host, inputs, &mut srcs, &mut heads) {
+        Err(InputRefusal { input, end }) => {
+            close_sources(host, inputs, srcs);
+            end_of(input, end)
+        }
+        Ok(()) => plan_outputs(host, inputs, outputs, work, &heads, srcs, snks),
+    }
+}
+
+/// A command over files: all that is done between its words and its status.
+///
+/// It opens the inputs by number, each with its head, plans by the heads, creates the outputs by number, runs, and closes the
+/// sources and then the sinks by number. Where a step is refused, only the closings still follow, and the first refusal is the
+/// end. Two inputs may have one name, which is then read twice; two outputs may not. Want of memory may end it at any step.
+pub fn over_files<H: Host, I: InputFile, N: Named, W: Work<I::Head, Begun<H::Src>, H::Snk>>(
+    alloc: Global,
+    host: &mut H,
+    inputs: &[I],
+    outputs: &[N],
+    work: &W,
+) -> RunEnd<W::Refusal, W::Fault>
+    requires few_inputs { length inputs.now < 2 ^ 32 }
+    requires few_outputs { length outputs.now < 2 ^ 32 }
+    requires apart { AreApart (names_of N.name_text outputs.now) }
+    ensures bytes { result ≡ RunEnd.Fine
+        → HoldMeaning (command_of I.name_text I.head N.name_text inputs.now outputs.now (W.means work.now)) (H.files host.old) (H.files host.new) }
+    ensures front { HoldWritten (command_of I.name_text I.head N.name_text inputs.now outputs.now (W.means work.now)) (H.files host.old) (H.files host.new) }
+    ensures others { KeepsAllBut (H.files host.old) (H.files host.new) (names_of N.name_text outputs.now) (length outputs.now) }
+    ensures untouched { ComesBeforeOutputs result → KeepsFiles (H.files host.old) (H.files host.new) }
+    ensures ends { Ends (command_of I.name_text I.head N.name_text inputs.now outputs.now (W.means work.now)) (H.files host.old)
+        (record { before = H.in_faults host.old; after = H.in_faults host.new })
+        (record { before = H.out_faults host.old; after = H.out_faults host.new }) result }
+    ensures in_counts { KeepsCounts (H.in_faults host.old) (H.in_faults host.new) (names_of I.name_text inputs.now)
+        (sound_inputs (command_of I.name_text I.head N.name_text inputs.now outputs.now (W.means work.now)) result) }
+    ensures out_counts { KeepsCounts (H.out_faults host.old) (H.out_faults host.new) (names_of N.name_text outputs.now)
+        (sound_outputs (command_of I.name_text I.head N.name_text inputs.now outputs.now (W.means work.now)) result) }
+    ensures closed { (H.open_sources host.new ≡ H.open_sources host.old) × (H.open_sinks host.new ≡ H.open_sinks host.old) }
+    // An input is refused exactly where it is the first whose head is, unless it or one before it couldn't be opened or read.
+    ensures refused { (k : ℕ) (why : HeadFault)
+        → IsFirstRefused (command_of I.name_text I.head N.name_text inputs.now outputs.now (W.means work.now)) (H.files host.old) k why
+        → ((i : ℕ) → i ≤ k → Faulted (record { before = H.in_faults host.old; after = H.in_faults host.new }) (names_of I.name_text inputs.now) i → ⊥)
+        → (result ≡ refusal k why) ⊎ (result ≡ RunEnd.NoMemory) }
+    // The plan is refused exactly where the heads give none, unless an input couldn't be opened or read.
+    ensures no_plan { (why : W.Refusal)
+        → HasNoPlan (command_of I.name_text I.head N.name_text inputs.now outputs.now (W.means work.now)) (H.files host.old) why
+        → ((i : ℕ) → Faulted (record { before = H.in_faults host.old; after = H.in_faults host.new }) (names_of I.name_text inputs.now) i → ⊥)
+        → (result ≡ RunEnd.Refused why) ⊎ (result ≡ RunEnd.NoMemory) }
+    // Nothing else keeps it from being done.
+    ensures complete { CanBeDone (command_of I.name_text I.head N.name_text inputs.now outputs.now (W.means work.now)) (H.files host.old)
+        → ((i : ℕ) → Faulted (record { before = H.in_faults host.old; after = H.in_faults host.new }) (names_of I.name_text inputs.now) i → ⊥)
+        → ((j : ℕ) → Faulted (record { before = H.out_faults host.old; after = H.out_faults host.new }) (names_of N.name_text outputs.now) j → ⊥)
+        → (result ≡ RunEnd.Fine) ⊎ (result ≡ RunEnd.NoMemory) }
+{
+    run_files(alloc, host, inputs, outputs, work)
+}

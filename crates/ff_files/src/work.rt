@@ -1,0 +1,82 @@
+// What is done between the opening and the closing.
+ghost use Rattle.std.specs.Prelude.{◌≡◌, ◌≢◌, List, ℕ, Some, None, IfErr, OnOk, IfOk, length, slice_index_or};
+ghost use Rattle.std.specs.List.{All};
+ghost use Rattle.ff_files.specs.Works.{Meaning, AreTold, HoldFiles, HoldParts, KeepEnds, FailNoMore, EndsWork, sound_sources, sound_sinks};
+
+use ff_host::{Sink, Source};
+
+/// Why heads gave no plan.
+#[derive(Clone, Copy, Debug, PartialEq, Eq)]
+pub enum PlanEnd<R> {
+    /// There is none for them.
+    Refused(R),
+    /// There was no memory for it.
+    NoMemory,
+}
+
+/// How a run ended.
+#[derive(Clone, Copy, Debug, PartialEq, Eq)]
+pub enum WorkEnd<F> {
+    /// All was done.
+    Fine,
+    /// Reading this input failed.
+    Input { input: u32 },
+    /// Writing this output failed.
+    Output { output: u32 },
+    /// Something of the inputs' bytes ended it.
+    Broken(F),
+    /// There was no memory to go on.
+    NoMemory,
+}
+
+/// How a run ended, and its sources and sinks as they are then.
+#[derive(Drop)]
+pub struct Done<F: Copy, Src: Drop, Snk: Drop> {
+    pub end: WorkEnd<F>,
+    pub srcs: Vec<Src>,
+    pub snks: Vec<Snk>,
+}
+
+/// What is done between the opening of all inputs and the closing: a plan by their heads, and a run of it.
+pub trait Work<H, Src: Source + Send + Drop, Snk: Sink + Send + Drop> {
+    type Plan: Drop;
+
+    /// Why heads give no plan.
+    type Refusal: Copy;
+
+    /// What of the inputs' bytes may end a run.
+    type Fault: Copy;
+
+    /// All that contracts see of it.
+    ghost means: { Self → Meaning H Self.Refusal Self.Fault };
+
+    /// It is a plan for these heads.
+    ghost is_plan: { Self → List H → Self.Plan → Type 0 };
+
+    /// The plan for these heads, by the number of their inputs.
+    fn plan(&self, heads: &[H]) -> Result<Self::Plan, PlanEnd<Self::Refusal>>
+        ensures ok { IfOk result (λ plan. is_plan self.now heads.now plan) }
+        ensures some { OnOk result ((means self.now).refusal heads.now ≡ None) }
+        ensures refused { (why : _) → IfErr result (λ end. end ≡ PlanEnd.Refused why → (means self.now).refusal heads.now ≡ Some why) };
+
+    /// Runs a plan over the sources of the inputs, which give these from the first byte on, and the sinks of the outputs, which
+    /// hold nothing. The end is the fault of the first that has one, the inputs before the outputs.
+    fn run(
+        &self,
+        plan: Self::Plan,
+        heads: &[H],
+        srcs: Vec<Src>,
+        snks: Vec<Snk>,
+    ) -> Done<Self::Fault, Src, Snk>
+        requires { is_plan self.now heads.now plan }
+        ensures fine { result.end ≡ WorkEnd.Fine → (bytes : List (List ℕ)) → AreTold Src.left Snk.holds srcs.items snks.items bytes
+            → HoldFiles Snk.holds ((means self.now).file heads.now bytes) result.snks.items }
+        ensures parts { (bytes : List (List ℕ)) → AreTold Src.left Snk.holds srcs.items snks.items bytes
+            → HoldParts Snk.holds ((means self.now).text heads.now bytes) ((means self.now).file heads.now bytes) result.snks.items }
+        ensures srcs { KeepEnds Src.name srcs.items result.srcs.items }
+        ensures snks { KeepEnds Snk.name snks.items result.snks.items }
+        ensures ends { EndsWork (means self.now) Src.faults Snk.faults srcs.items snks.items result.srcs.items result.snks.items heads.now
+            (AreTold Src.left Snk.holds srcs.items snks.items) result.end }
+        ensures sound_srcs { FailNoMore Src.faults srcs.items result.srcs.items (sound_sources (means self.now) result.end (length srcs.items)) }
+        ensures sound_snks { FailNoMore Snk.faults snks.items result.snks.items (sound_sinks (means self.now) result.end (length snks.items)) };
+}
