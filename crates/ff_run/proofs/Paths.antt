@@ -14,6 +14,7 @@ use Rattle.ff_wav.specs.declared.head.WavHead.{WavHead}
 use Rattle.ff_net.specs.declared.fault.Fault.{Fault}
 use Rattle.ff_net.specs.declared.fault.Fault.TheVariants.{Device, Damaged, TooLong, TooLarge, NoMemory}
 use Rattle.ff_net.specs.Ways.{Flow}
+use Rattle.ff_net.specs.Views.{View}
 use Rattle.ff_net.specs.Pasts.{Task}
 use Rattle.ff_net.specs.Laws.{IsOfInputs}
 use Rattle.ff_parts.specs.declared.part.Part.{Part}
@@ -21,7 +22,7 @@ use Rattle.ff_parts.specs.declared.part.Part.TheVariants as part
 use Rattle.ff_wav.specs.Cuts.{wav_cutter}
 use Rattle.ff_parts.specs.Demuxing.{is_too_long}
 use Rattle.ff_parts.specs.Muxing.{packet_in, hash_body, unpatched, HoldsFront}
-use Rattle.ff_parts.specs.Parts.{part_in_lanes, part_out_lanes, part_fault, part_device, part_failures, part_stands}
+use Rattle.ff_parts.specs.Parts.{part_view}
 use Rattle.ff_parts.specs.PartLaws.{part_fits, part_takes}
 use Rattle.ff_path.specs.declared.chain.Chain.{Chain}
 use Rattle.ff_path.specs.declared.chain.NodeFault.{NodeFault}
@@ -58,11 +59,12 @@ fine_only None e = refl
 fine_only (Some f) e = absurd (fine_at f.node f.fault e)
 
 -- a part between two wires has no fault
-no_fault_between : {S K : Type 0} (m : Part S K) (a b : Lane) → part_in_lanes m ≡ a ∷ [] → part_out_lanes m ≡ b ∷ [] → part_fault m ≡ None
-no_fault_between (part.Demux m) a b i o = absurd cc
-no_fault_between (part.Dec m) a b i o = refl
-no_fault_between (part.Enc m) a b i o = refl
-no_fault_between (part.Mux m) a b i o = absurd cc
+no_fault_between : {S K : Type 0} (left : S → Option (List ℕ)) (holds : K → Option (List ℕ)) (named : S → Option (List ℕ)) (called : K → Option (List ℕ)) (ins : S → ℕ) (outs : K → ℕ) (m : Part S K) (a b : Lane)
+    → (part_view left named ins holds called outs m).in_lanes ≡ a ∷ [] → (part_view left named ins holds called outs m).out_lanes ≡ b ∷ [] → (part_view left named ins holds called outs m).fault ≡ None
+no_fault_between left holds named called ins outs (part.Demux m) a b i o = absurd cc
+no_fault_between left holds named called ins outs (part.Dec m) a b i o = refl
+no_fault_between left holds named called ins outs (part.Enc m) a b i o = refl
+no_fault_between left holds named called ins outs (part.Mux m) a b i o = absurd cc
 
 none_some : {P : Type 0} (o : Option Fault) (fault : Fault) → o ≡ None → o ≡ Some fault → P
 none_some o fault n s = let e : None ≡ Some fault = sym n ∙ s in absurd cc
@@ -73,56 +75,59 @@ when_long false fault e = absurd cc
 
 module _ {S K : Type 0} (left : S → Option (List ℕ)) (holds : K → Option (List ℕ)) (named : S → Option (List ℕ)) (called : K → Option (List ℕ)) (ins : S → ℕ) (outs : K → ℕ)
     (claims : Bool) (h : WavHead) (old new : Chain (Part S K)) where
+  abbrev view : Part S K → View
+  view = part_view left named ins holds called outs
+
   abbrev told : List ℕ → Type 0
-  told bytes = (claims ≡ true) × Start (part_stands left holds) (path_tasks PcmU8 h bytes) old
+  told bytes = (claims ≡ true) × Start view (path_tasks PcmU8 h bytes) old
 
   abbrev before : Failures
-  before = record { source = part_failures ins outs old.first; sink = part_failures ins outs old.last }
+  before = record { source = (view old.first).failures; sink = (view old.last).failures }
 
   abbrev after : Failures
-  after = record { source = part_failures ins outs new.first; sink = part_failures ins outs new.last }
+  after = record { source = (view new.first).failures; sink = (view new.last).failures }
 
   -- a fault that the inputs of a node make
   abbrev Caused : ℕ → Fault → Type 0
   Caused node fault = (bytes : List ℕ) → told bytes → (path_tasks PcmU8 h bytes node).cause (inputs_of (path_tasks PcmU8 h bytes) node) ≡ Some fault
 
-  demux_end : (fault : Fault) → AreSound part_fault old → Fares (part_device named called) (part_failures ins outs) part_fault old new
-      → (fault ≢ NoMemory → part_fault new.first ≡ Some fault) → (IsOfInputs fault → Caused 0 fault) → EndsPath (status_at 0 fault) h told before after
+  demux_end : (fault : Fault) → AreSound view old → Fares view old new
+      → (fault ≢ NoMemory → (view new.first).fault ≡ Some fault) → (IsOfInputs fault → Caused 0 fault) → EndsPath (status_at 0 fault) h told before after
   demux_end Device s f own cause = (refl, f.first.failed s.first_sound (own (λ x. cc)))
   demux_end (Damaged offset) s f own cause = (refl, λ bytes t. let r = when_long (is_too_long wav_cutter h bytes) (Damaged offset) (cause tt bytes t) in cc)
   demux_end TooLong s f own cause = (refl, λ bytes t. (when_long (is_too_long wav_cutter h bytes) TooLong (cause tt bytes t)).1)
-  demux_end TooLarge s f own cause = part_fits new.first (own (λ x. cc))
+  demux_end TooLarge s f own cause = part_fits left named ins holds called outs new.first (own (λ x. cc))
   demux_end NoMemory s f own cause = tt
 
-  between_end : (node : ℕ) (fault : Fault) (m : Part S K) → part_fault m ≡ None → (fault ≢ NoMemory → part_fault m ≡ Some fault) → EndsPath (status_at node fault) h told before after
-  between_end node Device m n own = none_some (part_fault m) Device n (own (λ x. cc))
-  between_end node (Damaged offset) m n own = none_some (part_fault m) (Damaged offset) n (own (λ x. cc))
-  between_end node TooLong m n own = none_some (part_fault m) TooLong n (own (λ x. cc))
-  between_end node TooLarge m n own = none_some (part_fault m) TooLarge n (own (λ x. cc))
+  between_end : (node : ℕ) (fault : Fault) (m : Part S K) → (view m).fault ≡ None → (fault ≢ NoMemory → (view m).fault ≡ Some fault) → EndsPath (status_at node fault) h told before after
+  between_end node Device m n own = none_some (view m).fault Device n (own (λ x. cc))
+  between_end node (Damaged offset) m n own = none_some (view m).fault (Damaged offset) n (own (λ x. cc))
+  between_end node TooLong m n own = none_some (view m).fault TooLong n (own (λ x. cc))
+  between_end node TooLarge m n own = none_some (view m).fault TooLarge n (own (λ x. cc))
   between_end node NoMemory m n own = tt
 
-  mux_end : (fault : Fault) → part_out_lanes new.last ≡ [] → AreSound part_fault old → Fares (part_device named called) (part_failures ins outs) part_fault old new
-      → (fault ≢ NoMemory → part_fault new.last ≡ Some fault) → (IsOfInputs fault → Caused 3 fault) → EndsPath (status_at 3 fault) h told before after
+  mux_end : (fault : Fault) → (view new.last).out_lanes ≡ [] → AreSound view old → Fares view old new
+      → (fault ≢ NoMemory → (view new.last).fault ≡ Some fault) → (IsOfInputs fault → Caused 3 fault) → EndsPath (status_at 3 fault) h told before after
   mux_end Device l s f own cause = (refl, f.last.failed s.last_sound (own (λ x. cc)))
   mux_end (Damaged offset) l s f own cause = (refl, λ bytes t. none_some None (Damaged offset) refl (cause tt bytes t))
-  mux_end TooLong l s f own cause = absurd (part_takes new.last TooLong l (own (λ x. cc)) tt)
-  mux_end TooLarge l s f own cause = part_fits new.last (own (λ x. cc))
+  mux_end TooLong l s f own cause = absurd (part_takes left named ins holds called outs new.last TooLong l (own (λ x. cc)) tt)
+  mux_end TooLarge l s f own cause = part_fits left named ins holds called outs new.last (own (λ x. cc))
   mux_end NoMemory l s f own cause = tt
 
-  end_at : (node : ℕ) (fault : Fault) → HasLanes part_in_lanes part_out_lanes (path_lanes PcmU8 h.head) new → AreSound part_fault old
-      → Fares (part_device named called) (part_failures ins outs) part_fault old new → node < 4
-      → (fault ≢ NoMemory → part_fault (machine_at new node) ≡ Some fault) → (IsOfInputs fault → Caused node fault) → EndsPath (status_at node fault) h told before after
+  end_at : (node : ℕ) (fault : Fault) → HasLanes view (path_lanes PcmU8 h.head) new → AreSound view old
+      → Fares view old new → node < 4
+      → (fault ≢ NoMemory → (view (machine_at new node)).fault ≡ Some fault) → (IsOfInputs fault → Caused node fault) → EndsPath (status_at node fault) h told before after
   end_at zero fault l s f lt own cause = demux_end fault s f own cause
-  end_at (suc zero) fault l s f lt own cause = between_end 1 fault new.second (no_fault_between new.second _ _ l.second_ins l.second_outs) own
-  end_at (suc (suc zero)) fault l s f lt own cause = between_end 2 fault new.third (no_fault_between new.third _ _ l.third_ins l.third_outs) own
+  end_at (suc zero) fault l s f lt own cause = between_end 1 fault new.second (no_fault_between left holds named called ins outs new.second _ _ l.second_ins l.second_outs) own
+  end_at (suc (suc zero)) fault l s f lt own cause = between_end 2 fault new.third (no_fault_between left holds named called ins outs new.third _ _ l.third_ins l.third_outs) own
   end_at (suc (suc (suc zero))) fault l s f lt own cause = mux_end fault l.last_outs s f own cause
   end_at (suc (suc (suc (suc n)))) fault l s f lt own cause = absurd (omega arith)
 
   -- how the four end, by the fault of the first node that has one
-  pub path_end : (fault : Option NodeFault) → HasLanes part_in_lanes part_out_lanes (path_lanes PcmU8 h.head) new → AreSound part_fault old
-      → Fares (part_device named called) (part_failures ins outs) part_fault old new
-      → ((f : NodeFault) → fault ≡ Some f → (f.node < 4) × (f.fault ≢ NoMemory → part_fault (machine_at new f.node) ≡ Some f.fault))
-      → (claims ≡ true → (f : NodeFault) → fault ≡ Some f → IsOfInputs f.fault → (tasks : ℕ → Task) → Start (part_stands left holds) tasks old → (tasks f.node).cause (inputs_of tasks f.node) ≡ Some f.fault)
+  pub path_end : (fault : Option NodeFault) → HasLanes view (path_lanes PcmU8 h.head) new → AreSound view old
+      → Fares view old new
+      → ((f : NodeFault) → fault ≡ Some f → (f.node < 4) × (f.fault ≢ NoMemory → (view (machine_at new f.node)).fault ≡ Some f.fault))
+      → (claims ≡ true → (f : NodeFault) → fault ≡ Some f → IsOfInputs f.fault → (tasks : ℕ → Task) → Start view tasks old → (tasks f.node).cause (inputs_of tasks f.node) ≡ Some f.fault)
       → EndsPath (status_with fault) h told before after
   path_end None l s f own cause = tt
   path_end (Some x) l s f own cause =
@@ -130,14 +135,14 @@ module _ {S K : Type 0} (left : S → Option (List ℕ)) (holds : K → Option (
       end_at x.node x.fault l s f o.0 o.1 (λ i bytes t. cause t.0 x refl i (path_tasks PcmU8 h bytes) t.1)
 
   -- where the status isn't a fault of the input, the source didn't fail: a fault of the first part is the first fault
-  pub source_kept : (fault : Option NodeFault) → Fares (part_device named called) (part_failures ins outs) part_fault old new
-      → ((c : Fault) → part_fault new.first ≡ Some c → fault ≡ Some (record { node = 0; fault = c })) → status_with fault ≢ status.Device (Input 0)
-      → part_failures ins outs new.first ≡ part_failures ins outs old.first
+  pub source_kept : (fault : Option NodeFault) → Fares view old new
+      → ((c : Fault) → (view new.first).fault ≡ Some c → fault ≡ Some (record { node = 0; fault = c })) → status_with fault ≢ status.Device (Input 0)
+      → (view new.first).failures ≡ (view old.first).failures
   source_kept fault f first other = f.first.unfailed (λ e. other (ap status_with (first Device e)))
 
   -- where no part has a fault, the sink didn't fail
-  pub sink_kept : Fares (part_device named called) (part_failures ins outs) part_fault old new → AreSound part_fault new → part_failures ins outs new.last ≡ part_failures ins outs old.last
-  sink_kept f s = f.last.unfailed (λ e. none_some (part_fault new.last) Device s.last_sound e)
+  pub sink_kept : Fares view old new → AreSound view new → (view new.last).failures ≡ (view old.last).failures
+  sink_kept f s = f.last.unfailed (λ e. none_some (view new.last).fault Device s.last_sound e)
 
 -- what is told otherwise, and counts that rise with these
 pub ends_told : (s : Status) (h : WavHead) (told others : List ℕ → Type 0) (a b c d : Failures) → ((bytes : List ℕ) → others bytes → told bytes)

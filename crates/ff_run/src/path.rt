@@ -7,7 +7,6 @@ ghost use Rattle.ff_frame.specs.Ports.{stream_at, IsWhole};
 ghost use Rattle.ff_wav.specs.Packets.{IsHead};
 ghost use Rattle.ff_net.specs.Pasts.{Past};
 ghost use Rattle.ff_parts.specs.Muxing.{unpatched, file, HoldsFront as HoldsFrontOf};
-ghost use Rattle.ff_parts.specs.Parts.{part_in_lanes, part_out_lanes, part_fault, part_device, part_failures, part_stands};
 ghost use Rattle.ff_path.specs.Chains.{AreSound, Fares, FedAll, FedPart, HasLanes, Start};
 ghost use Rattle.ff_path.specs.Path.{path_lanes as path_lanes_of, path_tasks};
 ghost use Rattle.ff_run.specs.Meaning.{text_with};
@@ -17,7 +16,7 @@ use crate::report::{FileRef, Status};
 use ff_frame::Codec;
 use ff_host::{Sink, Source};
 use ff_link::Claims;
-use ff_net::Fault;
+use ff_net::{Fault, Machine};
 use ff_parts::{Ends, Part};
 use ff_path::{Chain, NodeFault, Ran, build, path_lanes, run_chain_in_threads};
 use ff_wav::WavHead;
@@ -42,9 +41,9 @@ pub struct Ended<Src: Source + Drop, Snk: Sink + Drop> {
 
 // The source of a demuxer.
 fn source_of<Src: Source + Drop, Snk: Sink + Drop>(part: Part<Src, Snk>) -> Src
-    requires { part_in_lanes part ≡ [] }
-    ensures name { Src.name result ≡ part_device Src.name Snk.name part }
-    ensures faults { Src.faults result ≡ part_failures Src.faults Snk.faults part }
+    requires { (⟦<Part<Src, Snk> as Machine>⟧.view part).in_lanes ≡ [] }
+    ensures name { Src.name result ≡ (⟦<Part<Src, Snk> as Machine>⟧.view part).device }
+    ensures faults { Src.faults result ≡ (⟦<Part<Src, Snk> as Machine>⟧.view part).failures }
 {
     match part.into_ends() {
         Ends::Source(src) => src,
@@ -54,12 +53,12 @@ fn source_of<Src: Source + Drop, Snk: Sink + Drop>(part: Part<Src, Snk>) -> Src
 
 // The sink of a muxer.
 fn sink_of<Src: Source + Drop, Snk: Sink + Drop>(part: Part<Src, Snk>) -> Snk
-    requires { part_out_lanes part ≡ [] }
-    ensures name { Snk.name result ≡ part_device Src.name Snk.name part }
-    ensures faults { Snk.faults result ≡ part_failures Src.faults Snk.faults part }
-    ensures whole { (past : Past) (head : StreamHead) → part_stands Src.left Snk.holds part past → part_in_lanes part ≡ Packets head ∷ [] → part_fault part ≡ None
+    requires { (⟦<Part<Src, Snk> as Machine>⟧.view part).out_lanes ≡ [] }
+    ensures name { Snk.name result ≡ (⟦<Part<Src, Snk> as Machine>⟧.view part).device }
+    ensures faults { Snk.faults result ≡ (⟦<Part<Src, Snk> as Machine>⟧.view part).failures }
+    ensures whole { (past : Past) (head : StreamHead) → (⟦<Part<Src, Snk> as Machine>⟧.view part).stands past → (⟦<Part<Src, Snk> as Machine>⟧.view part).in_lanes ≡ Packets head ∷ [] → (⟦<Part<Src, Snk> as Machine>⟧.view part).fault ≡ None
         → IsWhole (stream_at past.got 0) → IsSome (file head (stream_at past.got 0)) × (Snk.holds result ≡ file head (stream_at past.got 0)) }
-    ensures front { (past : Past) (head : StreamHead) → part_stands Src.left Snk.holds part past → part_in_lanes part ≡ Packets head ∷ []
+    ensures front { (past : Past) (head : StreamHead) → (⟦<Part<Src, Snk> as Machine>⟧.view part).stands past → (⟦<Part<Src, Snk> as Machine>⟧.view part).in_lanes ≡ Packets head ∷ []
         → HoldsFrontOf (Snk.holds result) (unpatched head (stream_at past.got 0)) }
 {
     match part.into_ends() {
@@ -101,21 +100,21 @@ fn run_parts<
     head: &WavHead,
     parts: Chain<Part<Src, Snk>>,
 ) -> (Chain<Part<Src, Snk>>, Status)
-    requires lanes { HasLanes part_in_lanes part_out_lanes (path_lanes_of PcmU8 head.now.head) parts }
-    requires sound { AreSound part_fault parts }
-    requires start { C.claims ≡ true → (bytes : List ℕ) × Start (part_stands Src.left Snk.holds) (path_tasks PcmU8 head.now bytes) parts }
-    ensures lanes { HasLanes part_in_lanes part_out_lanes (path_lanes_of PcmU8 head.now.head) result.0 }
-    ensures fares { Fares (part_device Src.name Snk.name) (part_failures Src.faults Snk.faults) part_fault parts result.0 }
-    ensures fine { result.1 ≡ Status.Fine → C.claims ≡ true → (bytes : List ℕ) → Start (part_stands Src.left Snk.holds) (path_tasks PcmU8 head.now bytes) parts
-        → FedAll (part_stands Src.left Snk.holds) (path_tasks PcmU8 head.now bytes) result.0 }
-    ensures done { result.1 ≡ Status.Fine → AreSound part_fault result.0 }
-    ensures front { C.claims ≡ true → (bytes : List ℕ) → Start (part_stands Src.left Snk.holds) (path_tasks PcmU8 head.now bytes) parts
-        → FedPart (part_stands Src.left Snk.holds) (path_tasks PcmU8 head.now bytes) result.0 }
-    ensures ends { EndsPath result.1 head.now (λ bytes. (C.claims ≡ true) × Start (part_stands Src.left Snk.holds) (path_tasks PcmU8 head.now bytes) parts)
-        (record { source = part_failures Src.faults Snk.faults parts.first; sink = part_failures Src.faults Snk.faults parts.last })
-        (record { source = part_failures Src.faults Snk.faults result.0.first; sink = part_failures Src.faults Snk.faults result.0.last }) }
-    ensures src_kept { result.1 ≢ Status.Device (FileRef.Input 0) → part_failures Src.faults Snk.faults result.0.first ≡ part_failures Src.faults Snk.faults parts.first }
-    ensures snk_kept { result.1 ≡ Status.Fine → part_failures Src.faults Snk.faults result.0.last ≡ part_failures Src.faults Snk.faults parts.last }
+    requires lanes { HasLanes ⟦<Part<Src, Snk> as Machine>⟧.view (path_lanes_of PcmU8 head.now.head) parts }
+    requires sound { AreSound ⟦<Part<Src, Snk> as Machine>⟧.view parts }
+    requires start { C.claims ≡ true → (bytes : List ℕ) × Start ⟦<Part<Src, Snk> as Machine>⟧.view (path_tasks PcmU8 head.now bytes) parts }
+    ensures lanes { HasLanes ⟦<Part<Src, Snk> as Machine>⟧.view (path_lanes_of PcmU8 head.now.head) result.0 }
+    ensures fares { Fares ⟦<Part<Src, Snk> as Machine>⟧.view parts result.0 }
+    ensures fine { result.1 ≡ Status.Fine → C.claims ≡ true → (bytes : List ℕ) → Start ⟦<Part<Src, Snk> as Machine>⟧.view (path_tasks PcmU8 head.now bytes) parts
+        → FedAll ⟦<Part<Src, Snk> as Machine>⟧.view (path_tasks PcmU8 head.now bytes) result.0 }
+    ensures done { result.1 ≡ Status.Fine → AreSound ⟦<Part<Src, Snk> as Machine>⟧.view result.0 }
+    ensures front { C.claims ≡ true → (bytes : List ℕ) → Start ⟦<Part<Src, Snk> as Machine>⟧.view (path_tasks PcmU8 head.now bytes) parts
+        → FedPart ⟦<Part<Src, Snk> as Machine>⟧.view (path_tasks PcmU8 head.now bytes) result.0 }
+    ensures ends { EndsPath result.1 head.now (λ bytes. (C.claims ≡ true) × Start ⟦<Part<Src, Snk> as Machine>⟧.view (path_tasks PcmU8 head.now bytes) parts)
+        (record { source = (⟦<Part<Src, Snk> as Machine>⟧.view parts.first).failures; sink = (⟦<Part<Src, Snk> as Machine>⟧.view parts.last).failures })
+        (record { source = (⟦<Part<Src, Snk> as Machine>⟧.view result.0.first).failures; sink = (⟦<Part<Src, Snk> as Machine>⟧.view result.0.last).failures }) }
+    ensures src_kept { result.1 ≢ Status.Device (FileRef.Input 0) → (⟦<Part<Src, Snk> as Machine>⟧.view result.0.first).failures ≡ (⟦<Part<Src, Snk> as Machine>⟧.view parts.first).failures }
+    ensures snk_kept { result.1 ≡ Status.Fine → (⟦<Part<Src, Snk> as Machine>⟧.view result.0.last).failures ≡ (⟦<Part<Src, Snk> as Machine>⟧.view parts.last).failures }
 {
     let lanes = path_lanes(Codec::PcmU8, &head.head);
     match run_chain_in_threads::<C, _, _>(rt, alloc, parts, &lanes, QUEUE) {

@@ -1,6 +1,6 @@
 use Rattle.std.proofs.Common.{sym, ◌∙◌, subst}
 use Rattle.ff_values.specs.declared.head.Codec.TheVariants.{PcmU8}
-use Rattle.ff_parts.specs.Parts.{part_in_lanes, part_out_lanes}
+use Rattle.ff_parts.specs.Parts.{part_view}
 use Rattle.ff_path.specs.declared.chain.Lanes.{Lanes}
 use Rattle.ff_path.specs.Chains.{HasLanes}
 use Rattle.ff_path.specs.Path.{path_tasks}
@@ -20,7 +20,7 @@ returns-in-Ok-clause-ends g c =
     let K = g.Snk.Sink in
     rw c.status_of.ensures
     (path_end S.left K.holds S.name K.name S.faults K.faults g.C.Claims.claims c.args.head.now c.args.parts c.in-Ok.field-0.machines c.in-Ok.field-0.fault
-    (subst (λ (l : Lanes). HasLanes part_in_lanes part_out_lanes l c.in-Ok.field-0.machines) c.path_lanes-lanes.ensures c.in-Ok.ensures.lanes) c.requires.sound c.in-Ok.ensures.fares c.in-Ok.ensures.fault c.in-Ok.ensures.cause)
+    (subst (λ (l : Lanes). HasLanes (part_view S.left S.name S.faults K.holds K.name K.faults) l c.in-Ok.field-0.machines) c.path_lanes-lanes.ensures c.in-Ok.ensures.lanes) c.requires.sound c.in-Ok.ensures.fares c.in-Ok.ensures.fault c.in-Ok.ensures.cause)
 
 pub returns-in-Ok-clause-done : goal.returns-in-Ok-clause-done
 returns-in-Ok-clause-done g c = λ fine. c.in-Ok.ensures.sound (fine_only c.in-Ok.field-0.fault (sym c.status_of.ensures ∙ fine))
