@@ -1,4 +1,5 @@
 pub mod Chaining
+pub mod Configuring
 pub mod Moves
 pub mod Setting
 pub mod Stepping

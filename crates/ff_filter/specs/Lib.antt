@@ -7,6 +7,7 @@ pub mod LimitLaws
 pub mod Limits
 pub mod Made
 pub mod Options
+pub mod Plain
 pub mod Ranges
 pub mod Runs
 pub mod Shifts

@@ -3,10 +3,11 @@ use Rattle.std.specs.Prelude.{◌≡◌, ◌⊎◌, ℕ, ◌+◌, ◌-◌, ◌*�
 use Rattle.std.specs.Str.{bytes_eq}
 use Rattle.ff_time.specs.Duration.{IsDuration}
 use Rattle.ff_values.specs.declared.config.ConfigError.{ConfigError}
-use Rattle.ff_values.specs.declared.config.ConfigError.TheVariants.{UnknownOption, BadOption, Pads, Kind}
+use Rattle.ff_values.specs.declared.config.ConfigError.TheVariants.{UnknownOption, BadOption, Pads, Kind, NoMemory}
 use Rattle.ff_values.specs.declared.head.StreamHead.{StreamHead}
 use Rattle.ff_values.specs.declared.head.StreamHead.TheVariants.{Audio, Video}
 use Rattle.ff_lang.specs.declared.graph.Arg.{Arg}
+use Rattle.ff_filter.specs.Views.{View}
 
 -- the options of a filter, whose values make settings S
 pub record Manual (S : Type 0) : Type 1 where
@@ -68,16 +69,32 @@ only_head wanted [] = Err Pads
 only_head wanted (h ∷ []) = cond (wanted h) (Ok h) (Err Kind)
 only_head wanted (h ∷ i ∷ hs) = Err Pads
 
--- what the settings make, where the arguments were read
-abbrev pub AfterArgs : {S X : Type 0} → (S → Result X ConfigError → Type 0) → Result X ConfigError → Result S ConfigError → Type 0
-AfterArgs makes r (Ok settings) = makes settings r
-AfterArgs makes r (Err e) = r ≡ Err e
+abbrev pub with_head : {S : Type 0} → StreamHead → Result S ConfigError → Result (StreamHead × S) ConfigError
+with_head head (Ok s) = Ok (head, s)
+with_head head (Err e) = Err e
 
-abbrev pub AfterHead : {S X : Type 0} → Manual S → S → (StreamHead → S → Result X ConfigError → Type 0) → List Arg → Result X ConfigError → Result StreamHead ConfigError → Type 0
-AfterHead {S} manual s makes args r (Ok head) = (read : Result S ConfigError) × AreRead manual false 0 s args read × AfterArgs (makes head) r read
-AfterHead manual s makes args r (Err e) = r ≡ Err e
+abbrev pub AfterHead : {S : Type 0} → Manual S → S → List Arg → Result (StreamHead × S) ConfigError → Result StreamHead ConfigError → Type 0
+AfterHead {S} manual s args q (Ok head) = (read : Result S ConfigError) × AreRead manual false 0 s args read × (q ≡ with_head head read)
+AfterHead manual s args q (Err e) = q ≡ Err e
 
--- A filter of one input by its arguments: first the number of inputs and their kind, then the arguments in their order,
--- and then what the settings make with the head.
+-- The head and the settings of a filter of one input: first the number of inputs and their kind decide, then the
+-- arguments in their order.
+abbrev pub AreSet : {S : Type 0} → (StreamHead → Bool) → Manual S → S → List Arg → List StreamHead → Result (StreamHead × S) ConfigError → Type 0
+AreSet wanted manual s args heads q = AfterHead manual s args q (only_head wanted heads)
+
+-- what a head and settings make
+abbrev pub AfterSet : {S X : Type 0} → (StreamHead → S → Result X ConfigError → Type 0) → Result (StreamHead × S) ConfigError → Result X ConfigError → Type 0
+AfterSet makes (Ok p) r = makes p.0 p.1 r
+AfterSet makes (Err e) r = r ≡ Err e
+
+-- a filter of one input by its arguments
 abbrev pub IsConfigured : {S X : Type 0} → (StreamHead → Bool) → Manual S → S → (StreamHead → S → Result X ConfigError → Type 0) → List Arg → List StreamHead → Result X ConfigError → Type 0
-IsConfigured wanted manual s makes args heads r = AfterHead manual s makes args r (only_head wanted heads)
+IsConfigured {S} wanted manual s makes args heads r = (q : Result (StreamHead × S) ConfigError) × AreSet wanted manual s args heads q × AfterSet makes q r
+
+-- A machine that is configured so and shown as its function before anything was fed, and the head of its output
+abbrev pub IsMade : {X : Type 0} → (Result X ConfigError → Type 0) → (X → View) → (X → StreamHead) → View → List StreamHead → Type 0
+IsMade {X} configured shown head v heads = (m : X) × configured (Ok m) × (v ≡ shown m) × (heads ≡ head m ∷ [])
+
+-- there was no memory, or the refusal is that of the arguments and heads
+abbrev pub IsRefused : {X : Type 0} → (Result X ConfigError → Type 0) → ConfigError → Type 0
+IsRefused configured e = (e ≡ NoMemory) ⊎ configured (Err e)

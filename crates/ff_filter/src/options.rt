@@ -1,5 +1,5 @@
 ghost use Rattle.std.specs.Prelude.{◌≡◌, ◌↔◌, ◌<◌, ◌≤◌, ◌^◌, ℕ, length, IfSome, IsNone, Some, false};
-ghost use Rattle.ff_filter.specs.Options.{Manual, named, option_of as option_at, AreRead, IsTime, digits_from, number_of, only_head, is_sound, is_video};
+ghost use Rattle.ff_filter.specs.Options.{Manual, named, option_of as option_at, AreRead, IsTime, digits_from, number_of, only_head, is_sound, is_video, AreSet};
 
 use ff_frame::{ConfigError, StreamHead};
 use ff_lang::Arg;
@@ -102,8 +102,8 @@ pub fn read_number(text: &str, most: usize) -> Option<u64>
     None
 }
 
-/// The head of the only input, which has to be video. `Pads` where there isn't one input, `Kind` where it is sound.
-pub fn only_video(heads: &[StreamHead]) -> Result<StreamHead, ConfigError>
+// The head of the only input, which has to be video. `Pads` where there isn't one input, `Kind` where it is sound.
+fn only_video(heads: &[StreamHead]) -> Result<StreamHead, ConfigError>
     ensures { result ≡ only_head is_video heads.now }
 {
     match heads {
@@ -115,8 +115,8 @@ pub fn only_video(heads: &[StreamHead]) -> Result<StreamHead, ConfigError>
     }
 }
 
-/// The head of the only input, which has to be sound. `Pads` where there isn't one input, `Kind` where it is video.
-pub fn only_sound(heads: &[StreamHead]) -> Result<StreamHead, ConfigError>
+// The head of the only input, which has to be sound. `Pads` where there isn't one input, `Kind` where it is video.
+fn only_sound(heads: &[StreamHead]) -> Result<StreamHead, ConfigError>
     ensures { result ≡ only_head is_sound heads.now }
 {
     match heads {
@@ -125,5 +125,41 @@ pub fn only_sound(heads: &[StreamHead]) -> Result<StreamHead, ConfigError>
             StreamHead::Video { .. } => Err(ConfigError::Kind),
         },
         _ => Err(ConfigError::Pads),
+    }
+}
+
+/// The head of the only input, which has to be video, and the settings that the arguments make. `Pads` where there isn't
+/// one input, then `Kind` where it is sound, then as `read_args`.
+pub fn video_settings<S: Settings>(
+    settings: S,
+    args: &[Arg],
+    heads: &[StreamHead],
+) -> Result<(StreamHead, S), ConfigError>
+    ensures { AreSet is_video S.manual settings args.now heads.now result }
+{
+    match only_video(heads) {
+        Err(error) => Err(error),
+        Ok(head) => match read_args(settings, args) {
+            Err(error) => Err(error),
+            Ok(settings) => Ok((head, settings)),
+        },
+    }
+}
+
+/// The head of the only input, which has to be sound, and the settings that the arguments make. `Pads` where there isn't
+/// one input, then `Kind` where it is video, then as `read_args`.
+pub fn sound_settings<S: Settings>(
+    settings: S,
+    args: &[Arg],
+    heads: &[StreamHead],
+) -> Result<(StreamHead, S), ConfigError>
+    ensures { AreSet is_sound S.manual settings args.now heads.now result }
+{
+    match only_sound(heads) {
+        Err(error) => Err(error),
+        Ok(head) => match read_args(settings, args) {
+            Err(error) => Err(error),
+            Ok(settings) => Ok((head, settings)),
+        },
     }
 }

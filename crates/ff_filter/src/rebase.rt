@@ -1,4 +1,4 @@
-ghost use Rattle.std.specs.Prelude.{◌≡◌, ◌-◌, pos, refl, false, Some};
+ghost use Rattle.std.specs.Prelude.{◌≡◌, ◌-◌, ◌<◌, ◌^◌, pos, refl, false, Some};
 ghost use Rattle.ff_frame.specs.declared.item.Lane.TheVariants.{Frames};
 ghost use Rattle.ff_frame.specs.Stream.{opened, still_open, whole, broken};
 ghost use Rattle.ff_frame.specs.Order.{below_self};
@@ -19,9 +19,10 @@ pub struct Rebase {
     pub first: Option<u64>,
 }
 
-// A time as ticks from 0.
-fn ticks_of(time: i64) -> u64
-    ensures { result ≡ ticks time }
+/// A time as ticks from 0; what lies before 0 counts as 0.
+pub fn ticks_of(time: i64) -> u64
+    ensures is { result ≡ ticks time }
+    ensures near { result < 2 ^ 63 }
 {
     if time < 0 { 0 } else { time as u64 }
 }

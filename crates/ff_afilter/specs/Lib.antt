@@ -1,0 +1,2 @@
+pub mod TrimLaws
+pub mod Trims

@@ -1,0 +1,176 @@
+ghost use Rattle.std.specs.Prelude.{◌≡◌, ◌+◌, ◌-◌, ◌*◌, ◌/◌, ◌<◌, ◌≤◌, ◌^◌, pos, length, IfOk, IfErr, IfSome, Some, false};
+ghost use Rattle.ff_frame.specs.declared.item.Item.{Item};
+ghost use Rattle.ff_frame.specs.declared.item.Item.TheVariants.{Audio};
+ghost use Rattle.ff_frame.specs.declared.item.Lane.TheVariants.{Frames};
+ghost use Rattle.ff_frame.specs.Times.{ticks};
+ghost use Rattle.ff_filter.specs.Views.{closes};
+ghost use Rattle.ff_filter.specs.Made.{listed_option};
+ghost use Rattle.ff_filter.specs.Ranges.{is_past};
+
+use ff_filter::{
+    After, Filter, Given, Limited, Range, RangeSettings, Step, Stepper, machine_of, shared,
+    sound_settings, ticks_of,
+};
+use ff_frame::{AFrame, ConfigError, Item, Refused, StreamHead};
+use ff_lang::Arg;
+use std::alloc::Global;
+
+/// `atrim`: the sound from a start to below an end, cut at the sample frame. The output ends with the first frame that ends
+/// at or past the end.
+#[derive(Drop)]
+pub struct ATrim {
+    /// The head of its input and of its output.
+    pub head: StreamHead,
+    /// The times that it keeps.
+    pub range: Range,
+}
+
+// Whether what starts there with so many sample frames ends at or past the stop.
+fn ends_past_stop(stop: Option<u64>, start: u64, count: u64) -> bool
+    ensures { result ≡ is_past stop (start + count) }
+{
+    match stop {
+        None => false,
+        Some(stop) => stop as u128 <= start as u128 + count as u128,
+    }
+}
+
+impl ATrim {
+    ghost use Rattle.ff_afilter.specs.Trims.{before_stop as below_stop, part, kept, ends_past, after_if};
+
+    // Of so many sample frames from a start on, the number of those that start before the stop.
+    fn before_stop(stop: Option<u64>, start: u64, count: u64) -> u64
+        ensures is { result ≡ below_stop stop start count }
+        ensures few { result ≤ count }
+    {
+        match stop {
+            None => count,
+            Some(stop) => count.min(stop.saturating_sub(start)),
+        }
+    }
+
+    // The frame from sample frame number `skip` to below number `until`, if there is one.
+    #[tactic(auto, using(crate::proofs::Cutting::samples_there))]
+    fn part_of(mut frame: AFrame, skip: u64, until: u64) -> Option<Item>
+        requires there { until ≤ length frame.samples / frame.channels }
+        requires near { ticks frame.pts + skip < 2 ^ 63 }
+        ensures is { listed_option result ≡ part frame skip until }
+        ensures goes_on { IfSome result (λ y. closes y ≡ false) }
+    {
+        if until <= skip {
+            return None;
+        }
+        let channels = frame.channels as usize;
+        let count = until - skip;
+        frame.pts = (ticks_of(frame.pts) + skip) as i64;
+        frame
+            .samples
+            .keep(skip as usize * channels, count as usize * channels);
+        Some(Item::Audio(frame))
+    }
+
+    // What is kept of a frame, and how the output stands behind it.
+    fn cut(&self, frame: AFrame) -> Given
+        ensures item { listed_option result.item ≡ kept self.now.range (Audio frame) }
+        ensures after { result.after ≡ after_if (ends_past self.now.range (Audio frame)) }
+        ensures goes_on { IfSome result.item (λ y. closes y ≡ false) }
+    {
+        let start = ticks_of(frame.pts);
+        let count = shared(frame.samples.as_slice().len(), frame.channels as usize) as u64;
+        let until = ATrim::before_stop(self.range.stop, start, count);
+        let skip = self.range.start.saturating_sub(start);
+        let after = if ends_past_stop(self.range.stop, start, count) {
+            After::Whole
+        } else {
+            After::More
+        };
+        Given {
+            item: ATrim::part_of(frame, skip, until),
+            after,
+        }
+    }
+}
+
+impl Step for ATrim {
+    ghost use Rattle.ff_afilter.specs.Trims.{sound_trimmed};
+    ghost use Rattle.ff_afilter.specs.TrimLaws.{trimmed-below, trimmed-calm, trimmed-settles, trimmed-bare};
+    ghost use Rattle.ff_frame.specs.Stream.{still_open, whole, broken};
+
+    ghost lane_in = { λ m. Frames m.head };
+
+    ghost lane_out = { λ m. Frames m.head };
+
+    ghost runs = { λ m s. sound_trimmed m.range s };
+
+    fn step(&mut self, item: Item) -> Result<Given, Refused> {
+        match item {
+            Item::Audio(frame) => Ok(self.cut(frame)),
+            Item::Video(frame) => Ok(ATrim::passed(Item::Video(frame))),
+            Item::Packet(packet) => Ok(ATrim::passed(Item::Packet(packet))),
+            Item::Trailer(totals) => Ok(ATrim::passed(Item::Trailer(totals))),
+            Item::End => Ok(ATrim::passed(Item::End)),
+            Item::Broken => Ok(ATrim::passed(Item::Broken)),
+        }
+    }
+
+    ghost waits = { λ m. trimmed-bare m.range still_open };
+
+    ghost below = { λ m r s h. trimmed-below m.range r s h };
+
+    ghost calm = { λ m r. trimmed-calm m.range r };
+
+    ghost settles = { λ m r c. trimmed-settles m.range r c };
+
+    ghost ends = { λ m. trimmed-bare m.range whole };
+
+    ghost breaks = { λ m. trimmed-bare m.range broken };
+}
+
+impl ATrim {
+    ghost use Rattle.ff_filter.specs.declared.after.After.TheVariants.{More};
+    ghost use Rattle.ff_filter.specs.Options.{IsMade, IsRefused};
+    ghost use Rattle.ff_afilter.specs.Trims.{IsATrim, atrim_view, at_once as over_at_once};
+
+    // An item that isn't sound stays as it is.
+    fn passed(item: Item) -> Given
+        ensures item { result.item ≡ Some item }
+        ensures after { result.after ≡ More }
+    {
+        Given {
+            item: Some(item),
+            after: After::More,
+        }
+    }
+
+    // Where the end is at 0, the output ends before anything comes.
+    fn at_once(stop: Option<u64>) -> After
+        ensures { result ≡ over_at_once stop }
+    {
+        match stop {
+            Some(0) => After::Whole,
+            Some(_) => After::More,
+            None => After::More,
+        }
+    }
+
+    /// The filter by its arguments and the head of its input; the head of its output beside it. The options are `start`,
+    /// which is 0 where it isn't given, and `end`: durations, in this order of places. It refuses in this order: `Pads`,
+    /// `Kind`, `UnknownOption` and `BadOption` by argument.
+    pub fn configure(
+        alloc: Global,
+        args: &[Arg],
+        heads: &[StreamHead],
+    ) -> Result<(Stepper<Limited<ATrim>>, Vec<StreamHead>), ConfigError>
+        ensures made { IfOk result (λ r. IsMade (IsATrim args.now heads.now) atrim_view (λ m. m.head) (⟦<Stepper<Limited<ATrim>> as Filter>⟧.view r.0) r.1.items) }
+        ensures refused { IfErr result (IsRefused (IsATrim args.now heads.now)) }
+    {
+        match sound_settings(RangeSettings::ALL, args, heads) {
+            Err(error) => Err(error),
+            Ok((head, settings)) => {
+                let range = Range::of(settings, &head);
+                let after = ATrim::at_once(range.stop);
+                machine_of(alloc, ATrim { head, range }, &head, after)
+            }
+        }
+    }
+}

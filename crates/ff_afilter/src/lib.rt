@@ -1,0 +1,19 @@
+//! Filters of sound with one input.
+//!
+//! ```text
+//!   arguments, heads ──► T::configure ──► its machine, the heads of its outputs
+//!                                          feed │ pull │ stop │ spent
+//! ```
+//!
+//! Each filter is a function on whole streams, in `specs/`, behind the limits of every stream. `configure` says which
+//! function it is by its arguments, or refuses; its machine meets `ff_filter::Filter`. A tick of a stream of sound is a
+//! sample frame.
+#![tactic(auto)]
+
+mod anull;
+mod aset_pts;
+mod atrim;
+
+pub use anull::ANull;
+pub use aset_pts::ASetPts;
+pub use atrim::ATrim;

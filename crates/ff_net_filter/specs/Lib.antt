@@ -1,0 +1,5 @@
+pub mod AloneLaws
+pub mod Alones
+pub mod Limiting
+pub mod StandLaws
+pub mod Tasks

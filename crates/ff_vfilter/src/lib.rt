@@ -1,0 +1,18 @@
+//! Filters of video with one input.
+//!
+//! ```text
+//!   arguments, heads ──► T::configure ──► its machine, the heads of its outputs
+//!                                          feed │ pull │ stop │ spent
+//! ```
+//!
+//! Each filter is a function on whole streams, in `specs/`, behind the limits of every stream. `configure` says which
+//! function it is by its arguments, or refuses; its machine meets `ff_filter::Filter`.
+#![tactic(auto)]
+
+mod null;
+mod set_pts;
+mod trim;
+
+pub use null::Null;
+pub use set_pts::SetPts;
+pub use trim::Trim;
