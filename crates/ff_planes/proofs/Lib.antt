@@ -5,3 +5,4 @@ pub mod PartLaws
 pub mod PadLaws
 pub mod StackLaws
 pub mod PixelLaws
+pub mod RoundLaws

@@ -12,7 +12,7 @@ use Rattle.ff_planes.specs.Parts.{IsPart, in_chroma, holds, padded, on_black, be
 use Rattle.ff_planes.proofs.RowLaws.{lines-same, lines-add, row-same, row-add, row_is_one_value, line_is_row}
 use Rattle.ff_planes.proofs.PartLaws.{three_planes}
 
-holds_inside : (r : Rectangle) (row column : ℕ) → r.y ≤ row → row < r.y + r.height → r.x ≤ column → column < r.x + r.width → holds r row column ≡ true
+pub holds_inside : (r : Rectangle) (row column : ℕ) → r.y ≤ row → row < r.y + r.height → r.x ≤ column → column < r.x + r.width → holds r row column ≡ true
 holds_inside r row column a b c d = grind (arith, nat_tests)
 
 not_above : (r : Rectangle) (row column : ℕ) → row < r.y → holds r row column ≡ false

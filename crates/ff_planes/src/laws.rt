@@ -2,11 +2,12 @@
 ghost use Rattle.std.specs.Prelude.{◌≡◌, ◌<◌, ℕ, List, [], ◌∷◌, length};
 ghost use Rattle.ff_values.specs.declared.video.Format.{Format};
 ghost use Rattle.ff_values.specs.declared.video.Format.TheVariants.{C420, C422, C444, Mono};
-ghost use Rattle.ff_values.specs.Video.{frame_size};
+ghost use Rattle.ff_values.specs.Video.{IsVideo, frame_size};
 ghost use Rattle.ff_planes.specs.declared.component.Component.{Component};
+ghost use Rattle.ff_planes.specs.declared.rectangle.Rectangle.{Rectangle};
 ghost use Rattle.ff_planes.specs.Grid.{columns, rows, pixel, picture_of};
 ghost use Rattle.ff_planes.specs.Flips.{hflipped, vflipped};
-ghost use Rattle.ff_planes.specs.Parts.{cropped, padded};
+ghost use Rattle.ff_planes.specs.Parts.{IsPart, cropped, padded};
 ghost use Rattle.ff_planes.specs.Stacks.{hstacked, vstacked};
 ghost use Rattle.ff_planes.specs.Examples.{three_by_two, right_column, in_the_middle, grey, two_by_one};
 
@@ -15,6 +16,18 @@ pub fn a_picture_has_the_pixels_that_make_it()
     ensures pixels { (format : Format) (width height : ℕ) (at : Component → ℕ → ℕ → ℕ) (c : Component) (row column : ℕ) → row < rows format height c → column < columns format width c
         → pixel format width height (picture_of format width height at) c row column ≡ at c row column }
     ensures size { (format : Format) (width height : ℕ) (at : Component → ℕ → ℕ → ℕ) → length (picture_of format width height at) ≡ frame_size format width height }
+{}
+
+/// A picture that is mirrored twice is the picture.
+pub fn mirrors_undo_themselves()
+    ensures hflip { (format : Format) (width height : ℕ) (planes : List ℕ) → IsVideo format width height planes → hflipped format width height (hflipped format width height planes) ≡ planes }
+    ensures vflip { (format : Format) (width height : ℕ) (planes : List ℕ) → IsVideo format width height planes → vflipped format width height (vflipped format width height planes) ≡ planes }
+{}
+
+/// What a rectangle shows of a picture that was put there on black is that picture.
+pub fn a_crop_undoes_a_pad()
+    ensures { (format : Format) (width height : ℕ) (part : Rectangle) (planes : List ℕ) → IsVideo format part.width part.height planes → IsPart width height part
+        → cropped format width height part (padded format width height part planes) ≡ planes }
 {}
 
 /// Small pictures, mirrored, cut, put on black and stacked.
