@@ -55,6 +55,7 @@ abbrev pub any_packet : AnyEncoder → Item → Option Pkt
 any_packet (to.Pcm e) x = pcm_packet_of (pcm_codec e) x
 any_packet (to.Raw e) x = raw_packet_of x
 
-pub any_encoded : (e : AnyEncoder) (head : StreamHead) (x : Item) → any_serves e head → FitsFrames head x → IsEncoded (any_coded e head) x (any_accepts e x) (any_packet e x)
+pub any_encoded : (e : AnyEncoder) (head : StreamHead) (x : Item) → any_serves e head → FitsFrames head x
+    → IsEncoded (any_coded e head) x (any_accepts e x) (any_packet e x)
 any_encoded (to.Pcm e) head x serves fits = pcm_encoded (pcm_codec e) head x e.pcm serves fits
 any_encoded (to.Raw e) head x serves fits = raw_encoded head x serves fits

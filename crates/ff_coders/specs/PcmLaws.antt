@@ -46,7 +46,9 @@ module _ (head : StreamHead) (p : Pkt) (h : IsPcmHead head) (b : IsPcm (channels
   whole_octets = length-map p.bytes (λ (n : ℕ). n % 256) ∙ b.whole_blocks
 
   octets_stand : StandFor (codec_of head) (octets p).bytes (frame_of head (octets p)).samples
-  octets_stand = samples_stand (codec_of head) (octets p).bytes (b.blocks * channels_of head) (whole_octets ∙ turned b.blocks (channels_of head) (sample_bytes (codec_of head)))
+  octets_stand =
+      samples_stand (codec_of head) (octets p).bytes (b.blocks * channels_of head)
+      (whole_octets ∙ turned b.blocks (channels_of head) (sample_bytes (codec_of head)))
 
   packet_frame : IsFrameOf (rate_of head) (bits_of head) (channels_of head) (frame_of head (octets p))
   packet_frame =
@@ -55,14 +57,18 @@ module _ (head : StreamHead) (p : Pkt) (h : IsPcmHead head) (b : IsPcm (channels
         rate_is = refl;
         bits_are = refl;
         channels_are = refl;
-        audio = packet_audio head (octets p).bytes (frame_of head (octets p)).samples h whole octets_stand (all_fit (codec_of head) (octets p).bytes (octets_small p.bytes));
+        audio = packet_audio head (octets p).bytes (frame_of head (octets p)).samples h whole octets_stand
+            (all_fit (codec_of head) (octets p).bytes (octets_small p.bytes));
       }
 
   -- a frame has as many sample frames as its packet lasts
   frame_lasts : p.pts +ℤ pos (length (frame_of head (octets p)).samples / channels_of head) ≡ p.pts +ℤ p.duration
   frame_lasts =
-      let count : length (frame_of head (octets p)).samples ≡ b.blocks * channels_of head = interleaved (codec_of head) (length (octets p).bytes) b.blocks (channels_of head) (length (frame_of head (octets p)).samples) whole_octets octets_stand.size in
-      let over : length (frame_of head (octets p)).samples / channels_of head ≡ b.blocks = ap (λ (n : ℕ). n / channels_of head) count ∙ mul-div_cancel b.blocks h.some_channels in
+      let count : length (frame_of head (octets p)).samples ≡ b.blocks * channels_of head =
+      interleaved (codec_of head) (length (octets p).bytes) b.blocks (channels_of head) (length (frame_of head (octets p)).samples)
+      whole_octets octets_stand.size in
+      let over : length (frame_of head (octets p)).samples / channels_of head ≡ b.blocks =
+      ap (λ (n : ℕ). n / channels_of head) count ∙ mul-div_cancel b.blocks h.some_channels in
       ap (λ (z : ℤ). p.pts +ℤ z) (ap pos over ∙ sym b.lasts)
 
 pub pcm_decoded : (head : StreamHead) (p : Pkt) → IsPcmHead head → FitsPackets head (Packet p) → IsDecoded head p (HasBlocks head p.bytes) (pcm_frame head p)
@@ -84,7 +90,8 @@ counted b c m n e = ap (λ (k : ℕ). m * k) e ∙ sym (turned b c m)
 frame_packet : (codec : Codec) (rate bits channels : ℕ) (f : AFrame) → IsFrameOf rate bits channels f → IsPcm (channels * sample_bytes codec) (packet_of codec f)
 frame_packet codec rate bits channels f t =
     let samples : List ℤ = map (shifted f.bits (depth codec)) f.samples in
-    let count : length samples ≡ t.audio.sample_frames * channels = length-map f.samples (shifted f.bits (depth codec)) ∙ (t.audio.interleaved ∙ ap (λ (c : ℕ). t.audio.sample_frames * c) t.channels_are) in
+    let count : length samples ≡ t.audio.sample_frames * channels =
+    length-map f.samples (shifted f.bits (depth codec)) ∙ (t.audio.interleaved ∙ ap (λ (c : ℕ). t.audio.sample_frames * c) t.channels_are) in
     record {
       blocks = t.audio.sample_frames;
       some_blocks = t.audio.some_sample_frames;
@@ -93,7 +100,8 @@ frame_packet codec rate bits channels f t =
       lasts = ap pos (ap (λ (n : ℕ). n / f.channels) t.audio.interleaved ∙ mul-div_cancel t.audio.sample_frames t.audio.some_channels);
     }
 
-pub pcm_encoded : (codec : Codec) (head : StreamHead) (x : Item) → IsPcmCodec codec → IsSoundHead head → FitsFrames head x → IsEncoded (coded_head codec head) x (IsSound x) (pcm_packet_of codec x)
+pub pcm_encoded : (codec : Codec) (head : StreamHead) (x : Item) → IsPcmCodec codec → IsSoundHead head → FitsFrames head x
+    → IsEncoded (coded_head codec head) x (IsSound x) (pcm_packet_of codec x)
 pcm_encoded codec (AudioHead tb rate bits channels from) (Audio f) h s t = record {
   taken = t.audio;
   made = record { fits = (refl, packet_pcm codec channels (packet_of codec f) h (frame_packet codec rate bits channels f t)); timed = tt; starts = refl; ends = refl };

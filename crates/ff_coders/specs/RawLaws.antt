@@ -27,7 +27,11 @@ raw_encoded (AudioHead tb rate bits channels codec) x s t = absurd s
 raw_encoded (VideoHead tb format width height sar_num sar_den) (Video f) s t = record {
   taken = tt;
   made = record {
-    fits = (refl, t.video.samples ∙ ap (λ k. frame_size k f.width f.height) t.format_is ∙ ap (λ k. frame_size format k f.height) t.columns_are ∙ ap (λ k. frame_size format width k) t.rows_are);
+    fits = (
+      refl,
+      t.video.samples ∙ ap (λ k. frame_size k f.width f.height) t.format_is
+          ∙ ap (λ k. frame_size format k f.height) t.columns_are ∙ ap (λ k. frame_size format width k) t.rows_are,
+    );
     timed = tt;
     starts = refl;
     ends = refl;

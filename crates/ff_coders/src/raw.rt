@@ -57,7 +57,7 @@ impl Decoder for RawDecoder {
                 height,
                 ..
             } => are_planes(format, width, height, packet.bytes.as_slice()),
-            StreamHead::Audio { .. } => false,
+            StreamHead::Audio { .. } => unreachable!(),
         }
     }
 

@@ -30,7 +30,8 @@ parts a x x' b c d y y' e f = omega (
 
 pub same_length : (head : StreamHead) (m n m' n' : ℕ) → length (header head m n) ≡ length (header head m' n')
 same_length (Audio base rate bits channels codec) m n m' n' =
-    parts riff (le_32 m) (le_32 m') wave_format (format_bytes channels rate (channels * sample_bytes codec) bits) data_id (le_32 n) (le_32 n') (four m ∙ sym (four m')) (four n ∙ sym (four n'))
+    let format = format_bytes channels rate (channels * sample_bytes codec) bits in
+    parts riff (le_32 m) (le_32 m') wave_format format data_id (le_32 n) (le_32 n') (four m ∙ sym (four m')) (four n ∙ sym (four n'))
 same_length (Video tb format width height sar_num sar_den) m n m' n' = refl
 
 pub wav_inside : (head : StreamHead) (n : ℕ) → 0 + length (header_of head n) ≤ length (header head 0 0)
