@@ -1,5 +1,5 @@
 -- How a command over files ends, from how its steps do.
-use Rattle.std.proofs.Common.{◌≡◌, ◌⊎◌, inl, inr, ℕ, ◌<◌, ◌≤◌, List, length, get_or, Option, None, Some, Result, Ok, Err, refl, sym, ap, ◌∙◌, subst, arith}
+use Rattle.std.proofs.Common.{◌≡◌, ◌⊎◌, inl, inr, ℕ, ◌<◌, ◌≤◌, List, length, get_or, Option, None, Some, Ok, Err, refl, sym, ap, ◌∙◌, arith}
 use Rattle.ff_host.specs.Causes.{Rose}
 use Rattle.ff_host.specs.Files.{Files, KeepsFiles}
 use Rattle.ff_host.specs.declared.host.HostError.{HostError}
@@ -12,7 +12,7 @@ use Rattle.ff_files.specs.Heads.{Refusal, HaveHeads}
 use Rattle.ff_files.specs.Hosts.{IsLater}
 use Rattle.ff_files.specs.Inputs.{AreBegun, EndsInputs, sound_before}
 use Rattle.ff_files.specs.Outputs.{EndsOutputs, FailsAt, AreClosed}
-use Rattle.ff_files.specs.Works.{Meaning, Command, FailNoMore, EndsWork, sound_sources, sound_sinks, all_heads, all_bytes, HoldWritten}
+use Rattle.ff_files.specs.Works.{Command, FailNoMore, EndsWork, sound_sources, sound_sinks, all_heads, all_bytes, HoldWritten}
 use Rattle.ff_files.specs.Ends.{Ends, IsPlanned, IsPlanRefused, IsBroken, end_of_input, end_of_plan, end_of_output, end_after, refusal, sound_inputs, sound_outputs, IsFirstRefused, HasNoPlan, CanBeDone}
 use Rattle.ff_files.specs.declared.head.InputEnd.{InputEnd}
 use Rattle.ff_files.specs.declared.head.InputEnd.TheVariants as input_end

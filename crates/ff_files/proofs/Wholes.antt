@@ -1,15 +1,13 @@
 -- From the steps of a command over files to the whole.
-use Rattle.std.proofs.Common.{◌≡◌, ◌⊎◌, inl, inr, ℕ, zero, suc, ◌<◌, ◌≤◌, List, [], ◌∷◌, ◌++◌, length, map, take, get_or, Option, None, Some, IsSome, Result, Ok, Err, refl, sym, ap, ◌∙◌, subst, arith}
+use Rattle.std.proofs.Common.{◌≡◌, ◌⊎◌, inl, inr, ℕ, zero, suc, ◌<◌, ◌≤◌, List, [], ◌∷◌, length, map, get_or, Option, None, Some, IsSome, Ok, refl, sym, ap, ◌∙◌, subst, arith}
 use Rattle.std.proofs.lemmas.List.{length-map}
-use Rattle.ff_host.specs.Causes.{Rose}
 use Rattle.ff_host.specs.Files.{Files, bytes_at, KeepsFiles, HoldsAt, HoldsNothing}
-use Rattle.ff_cut.specs.Heads.{Found}
 use Rattle.ff_files.specs.Names.{names_of, name_at, KeepsAllBut}
 use Rattle.ff_files.specs.Counts.{KeepsCounts, AreUnfailed}
 use Rattle.ff_files.specs.Hosts.{AreOpen}
 use Rattle.ff_files.specs.Inputs.{AreBegun}
 use Rattle.ff_files.specs.Outputs.{AreEmpty, ArePut}
-use Rattle.ff_files.specs.Works.{Meaning, Command, AreTold, HoldFiles, HoldsPart, HoldParts, KeepEnds, FailNoMore, file_with, text_with, file_of, text_of, all_heads, all_bytes, meaning, written, HoldMeaning, HoldWritten}
+use Rattle.ff_files.specs.Works.{Command, AreTold, HoldFiles, HoldsPart, HoldParts, KeepEnds, FailNoMore, file_with, text_with, file_of, text_of, all_heads, all_bytes, meaning, written, HoldMeaning, HoldWritten}
 use Rattle.ff_files.proofs.Lists.{some_of}
 
 -- the bytes of an input that is there, by its number

@@ -1,6 +1,6 @@
 -- How a command over files ends, and when each end comes. Where the files aren't told, a conclusion on them claims nothing, and
 -- a premise on them isn't met.
-use Rattle.std.specs.Prelude.{◌≡◌, ⊤, ℕ, ◌<◌, ◌≤◌, List, length, Option, Some, None, Ok, Err}
+use Rattle.std.specs.Prelude.{◌≡◌, ⊤, ℕ, ◌<◌, List, length, Option, Some, None, Ok}
 use Rattle.ff_host.specs.Files.{Files}
 use Rattle.ff_host.specs.declared.host.HostError.{HostError}
 use Rattle.ff_host.specs.declared.host.HostError.TheVariants as host_error
@@ -9,7 +9,7 @@ use Rattle.ff_cut.specs.declared.fault.HeadFault.TheVariants as fault
 use Rattle.ff_files.specs.Names.{names_of}
 use Rattle.ff_files.specs.Counts.{Counts, Faulted}
 use Rattle.ff_files.specs.Heads.{HaveHeads, IsRefused}
-use Rattle.ff_files.specs.Works.{Meaning, Command, all_heads, all_bytes}
+use Rattle.ff_files.specs.Works.{Command, all_heads, all_bytes}
 use Rattle.ff_files.specs.declared.head.InputEnd.{InputEnd}
 use Rattle.ff_files.specs.declared.head.InputEnd.TheVariants as input_end
 use Rattle.ff_files.specs.declared.work.WorkEnd.{WorkEnd}

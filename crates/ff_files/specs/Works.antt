@@ -1,5 +1,5 @@
 -- What is done between the opening and the closing, and what an output holds by it.
-use Rattle.std.specs.Prelude.{◌≡◌, ◌⊎◌, ⊤, ℕ, ◌<◌, List, [], ◌++◌, length, map, slice_index_or, Option, Some, None, IsSome, Result, Ok, Err}
+use Rattle.std.specs.Prelude.{◌≡◌, ◌⊎◌, ⊤, ℕ, ◌<◌, List, [], ◌++◌, length, map, slice_index_or, Option, Some, None, IsSome, Ok, Err}
 use Rattle.ff_host.specs.Causes.{Rose}
 use Rattle.ff_host.specs.Files.{Files, bytes_at}
 use Rattle.ff_cut.specs.Heads.{Found}

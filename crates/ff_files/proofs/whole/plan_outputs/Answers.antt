@@ -1,4 +1,4 @@
-use Rattle.std.proofs.Common.{◌≤◌, length, arith}
+use Rattle.std.proofs.Common.{length, arith}
 use Rattle.ff_files.specs.Names.{names_of}
 use Rattle.ff_files.specs.Works.{command_of}
 use Rattle.ff_files.specs.Ends.{sound_inputs}

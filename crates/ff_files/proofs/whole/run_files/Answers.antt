@@ -1,4 +1,4 @@
-use Rattle.std.proofs.Common.{◌≤◌, List, length, arith, sym, subst, ◌∙◌}
+use Rattle.std.proofs.Common.{List, length, arith, sym, subst}
 use Rattle.ff_files.specs.Names.{names_of}
 use Rattle.ff_files.specs.Counts.{Counts, KeepsCounts}
 use Rattle.ff_files.specs.Inputs.{AreBegun, begun_left, begun_faults, sound_before}

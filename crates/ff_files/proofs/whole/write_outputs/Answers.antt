@@ -1,11 +1,10 @@
-use Rattle.std.proofs.Common.{◌≡◌, ◌≤◌, ℕ, List, length, vec_len, Option, arith, sym, ◌∙◌, subst}
+use Rattle.std.proofs.Common.{◌≡◌, ◌≤◌, ℕ, length, vec_len, arith, sym, ◌∙◌, subst}
 use Rattle.ff_files.specs.Names.{names_of, KeepsAllBut}
 use Rattle.ff_files.specs.Counts.{Counts, KeepsCounts}
 use Rattle.ff_files.specs.Inputs.{begun_left, begun_name, begun_faults}
 use Rattle.ff_files.specs.Outputs.{FailsAt}
 use Rattle.ff_files.specs.Works.{AreTold, FailNoMore, command_of, sound_sources}
 use Rattle.ff_files.specs.Ends.{Ends, sound_inputs, sound_outputs}
-use Rattle.ff_files.specs.declared.end.RunEnd.{RunEnd}
 use Rattle.ff_files.proofs.Lists.{names_len}
 use Rattle.ff_files.proofs.Steps.{open_still}
 use Rattle.ff_files.proofs.Wholes.{meant, fronts, none_written, told_of, kept_open, still_unfailed, counts_all, counts_twice}
