@@ -3,3 +3,4 @@ pub mod Steps
 pub mod Heads
 pub mod Wholes
 pub mod EndLaws
+pub mod AnswerLaws
