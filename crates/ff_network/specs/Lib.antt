@@ -1,0 +1,5 @@
+pub mod Fits
+pub mod Networks
+pub mod Nodes
+pub mod Runs
+pub mod Tables

@@ -1,0 +1,35 @@
+//! Any number of machines as the nodes of a network, on links between threads.
+//!
+//! Machines have numbers, by their places in a list, and an edge leads from an output of one to an input of a later one.
+//! Each edge becomes a link of `ff_link`, each machine a node of `ff_net_links` at the ends of its links, and each node
+//! runs in a thread of its own.
+//!
+//! ```text
+//!     machines [m0, m1, m2, m3]      edges [m0.0 -> m1.0,  m0.1 -> m2.0,  m1.0 -> m3.0,  m2.0 -> m3.1]
+//!                    |                                  |
+//!                    +----------- wire_up --------------+
+//!                                    v
+//!                    +--- link 0 --> m1 --- link 2 ---+
+//!                    |                                v
+//!                   m0                               m3        a thread for each node
+//!                    |                                ^
+//!                    +--- link 1 --> m2 --- link 3 ---+
+//!                                    |
+//!                                 run_net
+//!                                    v
+//!            the machines in their order, and the fault of the first that has one
+//! ```
+//!
+//! The edges have to fit the machines (`specs/Fits`): at each port stands an edge of its lane, and the edge at each input
+//! leaves an earlier machine. Then what each machine was fed is known by the solution of the network (`specs/Runs`),
+//! whatever the sizes of the links and the order of the threads. That a run ends is not promised.
+#![tactic(auto)]
+
+mod node;
+mod run;
+mod tables;
+mod taking;
+mod wiring;
+
+pub use run::{NodeFault, Ran, run_net, run_network};
+pub use wiring::{into_machines, wire_up};

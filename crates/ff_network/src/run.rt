@@ -1,0 +1,117 @@
+// Nodes on links, each in a thread of its own.
+ghost use Rattle.std.specs.Prelude.{◌≡◌, ◌<◌, ◌≤◌, ◌^◌, ℕ, List, length, true, IfOk, IfErr};
+ghost use Rattle.ff_frame.specs.declared.item.Lane.{Lane};
+ghost use Rattle.ff_link.specs.Views.{Link};
+ghost use Rattle.ff_net.specs.Pasts.{Task};
+ghost use Rattle.ff_net.specs.Serial.{parts_of};
+ghost use Rattle.ff_net_links.specs.Runs.{AllLawful};
+ghost use Rattle.ff_net_links.specs.Settling.{AreLinked, nodes_of};
+ghost use Rattle.ff_network.specs.Fits.{ins_at, outs_at, network};
+ghost use Rattle.ff_network.specs.Networks.{Begins, Fits, AllStart, machines_in, ports_of};
+ghost use Rattle.ff_network.specs.Runs.{FirstFault, AllKept, TellsFault, MeetsNetwork, ins_in, outs_in};
+
+use crate::wiring::{into_machines, wire_up};
+use ff_edges::Edge;
+use ff_link::Claims;
+use ff_net::{Fault, Machine};
+use ff_net_links::{Linked, Room, run_threads, settle_all};
+use std::alloc::Global;
+use std::sync::Wait;
+use std::thread::Threads;
+
+/// What went wrong, and at which node, by number from 0.
+#[derive(Clone, Copy, Debug, PartialEq, Eq)]
+pub struct NodeFault {
+    pub node: u32,
+    pub fault: Fault,
+}
+
+/// What became of the machines of a network, in the order of the nodes.
+#[derive(Drop)]
+pub struct Ran<M> {
+    pub machines: Vec<M>,
+    /// The fault of the first node that has one.
+    pub fault: Option<NodeFault>,
+}
+
+// The first node with a fault, and its fault.
+fn first_fault<M: Machine>(nodes: &[Linked<M>]) -> Option<NodeFault>
+    requires { length nodes.now < 2 ^ 32 }
+    ensures { FirstFault M.view (nodes_of nodes.now) result }
+{
+    for k in 0..nodes.len() {
+        if let Some(fault) = nodes[k].fault() {
+            return Some(NodeFault {
+                node: k as u32,
+                fault,
+            });
+        }
+    }
+    None
+}
+
+/// Runs nodes on links with numbers below `links`, each in a thread of its own until it is done, and settles their links.
+/// That this comes isn't claimed. The nodes come back as they were where memory is refused before the start.
+///
+/// What holds of streams holds for all tasks that the machines can have, of which there may be none.
+pub fn run_net<R: Threads + Wait + Sync, M: Machine + Send + Drop>(
+    rt: &R,
+    alloc: Global,
+    nodes: Vec<Linked<M>>,
+    links: usize,
+) -> Result<Ran<M>, Vec<Linked<M>>>
+    requires few { length nodes.items < 2 ^ 32 }
+    requires lawful { AllLawful M.view nodes.items }
+    requires linked { (by_number : ℕ → Link) × AreLinked by_number nodes.items }
+    ensures back { IfErr result (λ back. back.items ≡ nodes.items) }
+    ensures kept { IfOk result (λ ran. AllKept M.view (machines_in nodes.items) ran.machines.items) }
+    ensures fault { IfOk result (λ ran. TellsFault M.view ran.machines.items ran.fault) }
+    ensures solved { IfOk result (λ ran. (tasks : ℕ → Task) (lanes : List Lane) → Begins M.view tasks lanes nodes.items → length lanes ≤ links
+        → MeetsNetwork M.view tasks (parts_of M.view tasks (nodes_of nodes.items)) (ins_in nodes.items) (outs_in nodes.items) ran.machines.items ran.fault) }
+{
+    let Ok(room) = Room::new(alloc, nodes.len(), links) else {
+        return Err(nodes);
+    };
+    match run_threads(rt, alloc, nodes) {
+        Ok(done) => {
+            let fault = first_fault(&done);
+            let machines = settle_all(done, room);
+            Ok(Ran { machines, fault })
+        }
+        Err(nodes) => Err(nodes),
+    }
+}
+
+/// Runs machines as the nodes of a network, on a new link of this size for each edge, each in a thread of its own until it
+/// is done. That this comes isn't claimed. They come back as they were where memory is refused before the start.
+///
+/// `C` claims that what the machines are for is known. Where it claims nothing, only that each machine keeps its source or
+/// sink and has the fault of its own device is promised.
+pub fn run_network<C: Claims, R: Threads + Wait + Sync, M: Machine + Send + Drop>(
+    rt: &R,
+    alloc: Global,
+    machines: Vec<M>,
+    edges: &[Edge],
+    size: usize,
+) -> Result<Ran<M>, Vec<M>>
+    requires few { length machines.items < 2 ^ 32 }
+    requires size { (1 ≤ size) × (size ≤ 1024) }
+    requires fits { Fits M.view edges.now machines.items }
+    requires start { C.claims ≡ true → (tasks : ℕ → Task) × AllStart M.view tasks machines.items }
+    ensures back { IfErr result (λ back. back.items ≡ machines.items) }
+    ensures kept { IfOk result (λ ran. AllKept M.view machines.items ran.machines.items) }
+    ensures fault { IfOk result (λ ran. TellsFault M.view ran.machines.items ran.fault) }
+    ensures solved { IfOk result (λ ran. C.claims ≡ true → (tasks : ℕ → Task) → AllStart M.view tasks machines.items
+        → MeetsNetwork M.view tasks (network tasks (ports_of M.view machines.items) edges.now (length machines.items)) (ins_at (ports_of M.view machines.items) edges.now) (outs_at (ports_of M.view machines.items) edges.now) ran.machines.items ran.fault) }
+{
+    let Ok(back) = Vec::with_capacity(alloc, machines.len()) else {
+        return Err(machines);
+    };
+    match wire_up::<C, M>(alloc, machines, edges, size) {
+        Ok(nodes) => match run_net(rt, alloc, nodes, edges.len()) {
+            Ok(ran) => Ok(ran),
+            Err(nodes) => Err(into_machines(nodes, back)),
+        },
+        Err(machines) => Err(machines),
+    }
+}
