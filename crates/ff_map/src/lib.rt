@@ -21,4 +21,4 @@ pub use laws::maps_have_one_meaning;
 pub use map::{Kind, MapFrom, MapSpec, Pick};
 pub use read::read_map;
 pub use selecting::select;
-pub use streams::StreamRef;
+pub use streams::{Stream, StreamRef};

@@ -12,10 +12,10 @@ pub struct StreamRef {
 }
 
 /// A stream: where it is, and its head.
-#[derive(Clone, Copy)]
-pub(crate) struct Stream {
-    pub(crate) at: StreamRef,
-    pub(crate) head: StreamHead,
+#[derive(Clone, Copy, Debug, PartialEq, Eq)]
+pub struct Stream {
+    pub at: StreamRef,
+    pub head: StreamHead,
 }
 
 pub(crate) fn has_kind(kind: Kind, head: StreamHead) -> bool

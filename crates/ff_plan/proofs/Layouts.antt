@@ -1,0 +1,212 @@
+-- The wires of a layout go upward.
+use Rattle.std.proofs.Common.{◌≡◌, ℕ, zero, suc, ◌+◌, ◌<◌, ◌≤◌, ◌⊎◌, inl, inr, ◌==◌, Bool, true, false, cond, List, [], ◌∷◌, ◌++◌, map, length, refl, sym, ap, ◌∙◌, subst, arith}
+use Rattle.std.specs.Prelude.{None}
+use Rattle.ff_plan.specs.Wires.{edges_of}
+use Rattle.ff_plan.specs.Ports.{shape_of, IsFed}
+use Rattle.ff_plan.proofs.Numbered.{has_ins, has_outs}
+use Rattle.ff_plan.proofs.Upward.{go_upward, is_fed}
+use Rattle.std.specs.List.{position_or_len, AllByRecursion, flat_map, list_any, range_with_len}
+use Rattle.std.proofs.lemmas.Bool.Decides.{nat_tests}
+use Rattle.ff_values.specs.declared.head.StreamHead.{StreamHead}
+use Rattle.ff_map.specs.declared.streams.StreamRef.{StreamRef}
+use Rattle.ff_map.specs.declared.streams.Stream.{Stream}
+use Rattle.ff_map.specs.Choice.{numbered, streams_from, all_streams}
+use Rattle.ff_plan.specs.declared.layout.InPad.{InPad}
+use Rattle.ff_plan.specs.declared.layout.Origin.{Origin}
+use Rattle.ff_plan.specs.declared.layout.Origin.TheVariants as origin
+use Rattle.ff_plan.specs.declared.layout.OutStream.{OutStream}
+use Rattle.ff_plan.specs.declared.layout.Placed.{Placed}
+use Rattle.ff_plan.specs.Layout.{IsAmong, Laid, Layout, same_ref, place_row, place_from, placed, origins, shows, used, is_used, used_inputs}
+use Rattle.ff_plan.specs.Nodes.{before_decs, before_graphs, before_shortests, node_count, shortests, output_numbers, demux_at, dec_at, graph_at, origin_at, origin_port, nodes_of, demux_wire, pad_wire, pad_wires, shortest_wire, enc_wire, mux_wire, shortest_wires, wires_of}
+use Rattle.ff_plan.specs.declared.planned.PlanNode.TheVariants as node
+use Rattle.ff_plan.specs.Laws.{IsThere, IsLaid, IsUp, IsNextOf, HasOuts, IsNoGraph, GraphsHaveOuts}
+use Rattle.ff_plan.proofs.Among.{all_joined, all_map, all_flat, any_among, place_among, kept_among, was_among, among_left, among_right, among_either, among_map, among_flat, in_range}
+
+same_self : (s : StreamRef) → same_ref s s ≡ true
+same_self s = grind (arith, nat_tests)
+
+pub nat_self : (i : ℕ) → (i == i) ≡ true
+nat_self i = grind (arith, nat_tests)
+
+-- the input of each stream is there
+known_row : (input stream : ℕ) (hs : List StreamHead) (k : Stream) → IsAmong k (numbered input stream hs) → k.at.input ≡ input
+known_row input stream [] k i = absurd i
+known_row input stream (h ∷ hs) k (inl e) = sym (ap (λ (k : Stream). k.at.input) e)
+known_row input stream (h ∷ hs) k (inr i) = known_row input (stream + 1) hs k i
+
+known_in : (input : ℕ) (rows : List (List StreamHead)) (k : Stream) → IsAmong k (streams_from input rows) → k.at.input < input + length rows
+known_in input [] k i = absurd i
+known_in input (row ∷ rows) k i = elim (among_either k (numbered input 0 row) (streams_from (input + 1) rows) i) [
+  | inl j ↦ (let e = known_row input 0 row k j in omega (arith, e))
+  | inr j ↦ (let lt = known_in (input + 1) rows k j in omega (arith, lt))
+]
+
+-- the numbers of a stream of an output
+pub row_length : (number output stream : ℕ) (ss : List OutStream) → length (place_row number output stream ss) ≡ length ss
+row_length number output stream [] = refl
+row_length number output stream (s ∷ ss) = ap suc (row_length (number + 1) output (stream + 1) ss)
+
+row_in : (number output stream : ℕ) (ss : List OutStream) (p : Placed) → IsAmong p (place_row number output stream ss) → (p.number < number + length ss) × (p.output ≡ output)
+row_in number output stream [] p i = absurd i
+row_in number output stream (s ∷ ss) p (inl e) = (let n : number ≡ p.number = ap (λ (p : Placed). p.number) e in (omega (arith, n), sym (ap (λ (p : Placed). p.output) e)))
+row_in number output stream (s ∷ ss) p (inr i) = (let r = row_in (number + 1) output (stream + 1) ss p i in let lt = r.0 in (omega (arith, lt), r.1))
+
+pub joined_length : {A : Type 0} (xs ys : List A) → length (xs ++ ys) ≡ length xs + length ys
+joined_length [] ys = omega arith
+joined_length (x ∷ xs) ys = (let e = joined_length xs ys in omega (arith, e))
+
+pub place_in : (number output : ℕ) (rows : List (List OutStream)) (p : Placed) → IsAmong p (place_from number output rows) → (p.number < number + length (place_from number output rows)) × (p.output < output + length rows)
+place_in number output [] p i = absurd i
+place_in number output (row ∷ rows) p i =
+    let long = joined_length (place_row number output 0 row) (place_from (number + length row) (output + 1) rows) in
+    let here = row_length number output 0 row in
+    elim (among_either p (place_row number output 0 row) (place_from (number + length row) (output + 1) rows) i) [
+      | inl j ↦ (let r = row_in number output 0 row p j in let lt = r.0 in let e = r.1 in (omega (arith, lt, long, here), omega (arith, e)))
+      | inr j ↦ (let r = place_in (number + length row) (output + 1) rows p j in let lt = r.0 in let out = r.1 in (omega (arith, lt, long, here), omega (arith, out)))
+    ]
+
+pub map_length : {A B : Type 0} (f : A → B) (xs : List A) → length (map f xs) ≡ length xs
+map_length f [] = refl
+map_length f (x ∷ xs) = ap suc (map_length f xs)
+
+pub range_length : (a n : ℕ) → length (range_with_len a n) ≡ n
+range_length a zero = refl
+range_length a (suc n) = ap suc (range_length (a + 1) n)
+
+less_or : (k a : ℕ) → (k < a) ⊎ (a ≤ k)
+less_or k zero = inr (omega arith)
+less_or zero (suc a) = inl (omega arith)
+less_or (suc k) (suc a) = elim (less_or k a) [ inl lt ↦ inl (omega (arith, lt)) | inr le ↦ inr (omega (arith, le)) ]
+
+module _ (l : Layout) where
+  pub counted : length (nodes_of l) ≡ node_count l
+  counted =
+      let a = map (λ i. node.Demux i) (used_inputs l) in let b = map (λ k. node.Dec k.at) (used l) in let c = map (λ g. node.Graph g.graph) l.graphs in
+      let d = map (λ o. node.Shortest o) (shortests l) in let e = map (λ p. node.Enc p.output p.stream) (placed l) in let f = map (λ o. node.Mux o) (output_numbers l) in
+      let j1 = joined_length a (b ++ (c ++ (d ++ (e ++ f)))) in let j2 = joined_length b (c ++ (d ++ (e ++ f))) in let j3 = joined_length c (d ++ (e ++ f)) in
+      let j4 = joined_length d (e ++ f) in let j5 = joined_length e f in
+      let la = map_length (λ i. node.Demux i) (used_inputs l) in let lb = map_length (λ k. node.Dec k.at) (used l) in let lc = map_length (λ g. node.Graph g.graph) l.graphs in
+      let ld = map_length (λ o. node.Shortest o) (shortests l) in let le = map_length (λ p. node.Enc p.output p.stream) (placed l) in let lf = map_length (λ o. node.Mux o) (output_numbers l) in
+      let lr = range_length 0 (length l.outputs) in
+      omega (arith, j1, j2, j3, j4, j5, la, lb, lc, ld, le, lf, lr)
+
+  number_in : (p : Placed) → IsAmong p (placed l) → p.number < length (placed l)
+  number_in p i = (let r = place_in 0 0 l.outputs p i in let lt = r.0 in omega (arith, lt))
+
+  output_in : (p : Placed) → IsAmong p (placed l) → p.output < length l.outputs
+  output_in p i = (let r = place_in 0 0 l.outputs p i in let lt = r.1 in omega (arith, lt))
+
+  pub demux_below : (k : Stream) → IsAmong k (used l) → demux_at l k.at.input < before_decs l
+  demux_below k i =
+      let was = was_among (λ k. list_any (shows k.at) (origins l)) k (all_streams l.heads) i in
+      let below = known_in 0 l.heads k was.0 in
+      let asked : is_used l k.at.input ≡ true = any_among (λ j. j.at.input == k.at.input) k (used l) i (nat_self k.at.input) in
+      let kept = kept_among (is_used l) k.at.input (range_with_len 0 (length l.heads)) (in_range 0 (length l.heads) k.at.input (omega arith) below) asked in
+      place_among (λ j. j == k.at.input) k.at.input (used_inputs l) kept (nat_self k.at.input)
+
+  pub dec_below : (k : Stream) → IsAmong k (used l) → dec_at l k.at < before_graphs l
+  dec_below k i = (let lt = place_among (λ j. same_ref j.at k.at) k (used l) i (same_self k.at) in omega (arith, lt))
+
+  -- a stream that something shows is used
+  pub is_used_stream : (s : StreamRef) (k : Stream) → IsAmong k (all_streams l.heads) → k.at ≡ s → IsAmong (origin.Stream s) (origins l) → IsAmong k (used l)
+  is_used_stream s k i e o = kept_among (λ k. list_any (shows k.at) (origins l)) k (all_streams l.heads) i (any_among (shows k.at) (origin.Stream s) (origins l) o (subst (λ (r : StreamRef). same_ref k.at r ≡ true) e (same_self k.at)))
+
+  origin_below : (before : ℕ) (source : Origin) → IsThere l before source → IsAmong source (origins l) → origin_at l source < before_graphs l + before
+  origin_below before (origin.Stream s) (k, i, e) o =
+      let lt = subst (λ (r : StreamRef). dec_at l r < before_graphs l) e (dec_below k (is_used_stream s k i e o)) in
+      omega (arith, lt)
+  origin_below before (origin.Pad g p) lt o = omega (arith, lt)
+
+  stream_origin : (p : Placed) → IsAmong p (placed l) → IsAmong p.what.source (origins l)
+  stream_origin p i = among_right p.what.source (flat_map (λ g. map (λ i. i.source) g.ins) l.graphs) (map (λ p. p.what.source) (placed l)) (among_map (λ p. p.what.source) p (placed l) i)
+
+  pad_origin : (g : Laid) (i : InPad) → IsAmong g l.graphs → IsAmong i g.ins → IsAmong i.source (origins l)
+  pad_origin g i ga ia = among_left i.source (flat_map (λ g. map (λ i. i.source) g.ins) l.graphs) (map (λ p. p.what.source) (placed l)) (among_flat (λ g. map (λ i. i.source) g.ins) i.source g l.graphs ga (among_map (λ i. i.source) i g.ins ia))
+
+  module _ (laid : IsLaid l) where
+    stream_below : (p : Placed) → IsAmong p (placed l) → origin_at l p.what.source < before_shortests l
+    stream_below p i = origin_below (length l.graphs) p.what.source (laid.streams p i) (stream_origin p i)
+
+    graph_below : (g : Laid) → IsAmong g l.graphs → graph_at l g.graph < before_shortests l
+    graph_below g i = (let lt = place_among (λ x. x.graph == g.graph) g l.graphs i (nat_self g.graph) in omega (arith, lt))
+
+    demux_up : (k : Stream) → IsAmong k (used l) → IsUp (node_count l) (demux_wire l k)
+    demux_up k i = (let a = demux_below k i in let b = dec_below k i in (omega (arith, a), omega (arith, b)))
+
+    pad_up : (g : Laid) → IsAmong g l.graphs → (i : InPad) → IsAmong i g.ins → IsUp (node_count l) (pad_wire l g.graph i)
+    pad_up g ga i ia = (origin_below (position_or_len (λ x. x.graph == g.graph) l.graphs) i.source (laid.graphs g i ga ia) (pad_origin g i ga ia), (let lt = graph_below g ga in omega (arith, lt)))
+
+    shortest_up : l.joint ≡ true → (p : Placed) → IsAmong p (placed l) → IsUp (node_count l) (shortest_wire l p)
+    shortest_up joint p i =
+        let a = stream_below p i in let o = output_in p i in
+        let n : length (shortests l) ≡ length l.outputs = ap (λ (b : Bool). length (cond b (output_numbers l) [])) joint ∙ range_length 0 (length l.outputs) in
+        (omega (arith, a), omega (arith, o, n))
+
+    shortests_up : (b : Bool) → l.joint ≡ b → AllByRecursion (IsUp (node_count l)) (shortest_wires l b)
+    shortests_up true e = all_map (IsUp (node_count l)) (shortest_wire l) (placed l) (shortest_up e)
+    shortests_up false e = tt
+
+    enc_up : (b : Bool) → l.joint ≡ b → (p : Placed) → IsAmong p (placed l) → IsUp (node_count l) (enc_wire l b p)
+    enc_up true joint p i =
+        let o = output_in p i in let m = number_in p i in
+        let n : length (shortests l) ≡ length l.outputs = ap (λ (b : Bool). length (cond b (output_numbers l) [])) joint ∙ range_length 0 (length l.outputs) in
+        (omega (arith, o, n), omega (arith, m))
+    enc_up false joint p i = (let a = stream_below p i in let m = number_in p i in (omega (arith, a), omega (arith, m)))
+
+    mux_up : (p : Placed) → IsAmong p (placed l) → IsUp (node_count l) (mux_wire l p)
+    mux_up p i = (let o = output_in p i in let m = number_in p i in (omega (arith, m), omega (arith, o)))
+
+    pub wires_up : AllByRecursion (IsUp (node_count l)) (wires_of l)
+    wires_up =
+        let P = IsUp (node_count l) in
+        let shorts = shortest_wires l l.joint in let encs = map (enc_wire l l.joint) (placed l) in let muxes = map (mux_wire l) (placed l) in
+        all_joined P (map (demux_wire l) (used l)) (flat_map (pad_wires l) l.graphs ++ (shorts ++ (encs ++ muxes))) (all_map P (demux_wire l) (used l) demux_up)
+        (all_joined P (flat_map (pad_wires l) l.graphs) (shorts ++ (encs ++ muxes)) (all_flat P (pad_wires l) l.graphs (λ g i. all_map P (pad_wire l g.graph) g.ins (pad_up g i)))
+        (all_joined P shorts (encs ++ muxes) (shortests_up l.joint refl)
+        (all_joined P encs muxes (all_map P (enc_wire l l.joint) (placed l) (enc_up l.joint refl)) (all_map P (mux_wire l) (placed l) mux_up))))
+
+    -- only a graph's ports are named
+    origin_next : (k before : ℕ) → IsNoGraph l k → before ≤ length l.graphs → (source : Origin) → IsThere l before source → origin_at l source ≡ k → origin_port source ≡ None
+    origin_next k before free le (origin.Stream s) is e = refl
+    origin_next k before (inl lt) le (origin.Pad g p) is e = absurd (omega (arith, lt, e))
+    origin_next k before (inr above) le (origin.Pad g p) is e = absurd (omega (arith, above, e, is, le))
+
+    module _ (k : ℕ) (free : IsNoGraph l k) where
+      stream_next : (p : Placed) → IsAmong p (placed l) → origin_at l p.what.source ≡ k → origin_port p.what.source ≡ None
+      stream_next p i e = origin_next k (length l.graphs) free (omega arith) p.what.source (laid.streams p i) e
+
+      pad_next : (g : Laid) → IsAmong g l.graphs → (i : InPad) → IsAmong i g.ins → IsNextOf k (pad_wire l g.graph i)
+      pad_next g ga i ia e = (let lt = place_among (λ x. x.graph == g.graph) g l.graphs ga (nat_self g.graph) in
+          origin_next k (position_or_len (λ x. x.graph == g.graph) l.graphs) free (omega (arith, lt)) i.source (laid.graphs g i ga ia) e)
+
+      shortests_next : (b : Bool) → AllByRecursion (IsNextOf k) (shortest_wires l b)
+      shortests_next true = all_map (IsNextOf k) (shortest_wire l) (placed l) stream_next
+      shortests_next false = tt
+
+      enc_next : (b : Bool) → (p : Placed) → IsAmong p (placed l) → IsNextOf k (enc_wire l b p)
+      enc_next true p i e = refl
+      enc_next false p i e = stream_next p i e
+
+      wires_next : AllByRecursion (IsNextOf k) (wires_of l)
+      wires_next =
+          let P = IsNextOf k in
+          let shorts = shortest_wires l l.joint in let encs = map (enc_wire l l.joint) (placed l) in let muxes = map (mux_wire l) (placed l) in
+          all_joined P (map (demux_wire l) (used l)) (flat_map (pad_wires l) l.graphs ++ (shorts ++ (encs ++ muxes))) (all_map P (demux_wire l) (used l) (λ k i e. refl))
+          (all_joined P (flat_map (pad_wires l) l.graphs) (shorts ++ (encs ++ muxes)) (all_flat P (pad_wires l) l.graphs (λ g i. all_map P (pad_wire l g.graph) g.ins (pad_next g i)))
+          (all_joined P shorts (encs ++ muxes) (shortests_next l.joint)
+          (all_joined P encs muxes (all_map P (enc_wire l l.joint) (placed l) (enc_next l.joint)) (all_map P (mux_wire l) (placed l) (λ p i e. refl)))))
+
+      pub no_graph_outs : HasOuts (edges_of (wires_of l)) k
+      no_graph_outs = has_outs k (wires_of l) wires_next
+
+    low_or_not : (k a b : ℕ) → ((k < a) ⊎ (b ≤ k)) ⊎ ((a ≤ k) × (k < b))
+    low_or_not k a b = elim (less_or k a) [ inl lt ↦ inl (inl lt) | inr le ↦ elim (less_or k b) [ inl lt ↦ inr (le, lt) | inr above ↦ inl (inr above) ] ]
+
+    pub outs_all : GraphsHaveOuts l → (k : ℕ) → HasOuts (edges_of (wires_of l)) k
+    outs_all outs k = elim (low_or_not k (before_graphs l) (before_shortests l)) [ inl free ↦ no_graph_outs k free | inr in_graphs ↦ outs k in_graphs.0 in_graphs.1 ]
+
+    pub fed : GraphsHaveOuts l → IsFed (shape_of (edges_of (wires_of l))) (node_count l) (edges_of (wires_of l))
+    fed outs = is_fed (node_count l) (edges_of (wires_of l)) (λ k. has_ins k (wires_of l)) (outs_all outs) (go_upward (node_count l) (wires_of l) wires_up)
+
+    pub plain_fed : l.graphs ≡ [] → IsFed (shape_of (edges_of (wires_of l))) (node_count l) (edges_of (wires_of l))
+    plain_fed none = fed (λ k low high. absurd (let n : length l.graphs ≡ 0 = ap (λ (gs : List Laid). length gs) none in omega (arith, n, low, high)))

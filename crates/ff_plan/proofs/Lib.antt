@@ -1,0 +1,17 @@
+mod Among
+mod Best
+mod Filters
+mod Fronts
+mod Known
+mod Laid
+mod Layouts
+mod Limits
+mod Named
+mod Numbered
+mod Places
+mod Plain
+mod Results
+mod Small
+mod Steps
+mod Today
+mod Upward

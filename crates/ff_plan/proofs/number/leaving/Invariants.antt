@@ -1,0 +1,10 @@
+use Rattle.std.proofs.Common.{◌≡◌, ◌≤◌, ◌==◌, take}
+use Rattle.ff_plan.specs.declared.planned.Edge.{Edge}
+use Rattle.ff_plan.specs.Wires.{tally}
+use Rattle.ff_plan.proofs.number.leaving.Given as goal
+
+abbrev pub invariant-loop-edge : goal.invariant-loop-edge
+invariant-loop-edge l = record {
+  counted : l.count ≡ tally (λ (e : Edge). e.from == l.node) (take l.edge-index l.edges);
+  low : l.count ≤ l.edge-index;
+}

@@ -1,0 +1,86 @@
+-- What holds of the edges of every plan.
+use Rattle.std.specs.Prelude.{◌≡◌, ◌⊎◌, ℕ, ◌<◌, ◌≤◌, ◌==◌, ◌&&◌, false, cond, List, [], ◌∷◌, length, slice_index_or, Some, None, Ok}
+use Rattle.std.specs.List.{AllByRecursion, position_or_len, cons_option, IsDistinct}
+use Rattle.ff_values.specs.declared.head.StreamHead.{StreamHead}
+use Rattle.ff_words.specs.declared.job.Job.{Job}
+use Rattle.ff_plan.specs.declared.planned.Edge.{Edge}
+use Rattle.ff_map.specs.declared.streams.Stream.{Stream}
+use Rattle.ff_map.specs.Choice.{all_streams}
+use Rattle.ff_plan.specs.declared.layout.Origin.{Origin}
+use Rattle.ff_plan.specs.declared.layout.Origin.TheVariants as origin
+use Rattle.ff_plan.specs.declared.layout.InPad.{InPad}
+use Rattle.ff_plan.specs.declared.layout.Placed.{Placed}
+use Rattle.ff_plan.specs.Layout.{IsAmong, Laid, Layout, placed}
+use Rattle.ff_plan.specs.Nodes.{before_graphs, before_shortests, wires_of}
+use Rattle.ff_plan.specs.Planned.{laid_out}
+use Rattle.ff_plan.specs.Rules.{Rules}
+use Rattle.ff_plan.specs.Wires.{Wire, edges_of, tally}
+
+-- On one side of the edges, where `key` is the node and `port` its port there: each port of node k has an edge, and each
+-- edge at k has one of its ports and is the one there.
+pub record EachPort (key port : Edge → ℕ) (edges : List Edge) (k : ℕ) : Type 0 where
+  pub there : (p : ℕ) → p < tally (λ e. key e == k) edges → position_or_len (λ e. (key e == k) && (port e == p)) edges < length edges
+  pub range : (w : ℕ) (d : Edge) → w < length edges → key (slice_index_or edges w d) ≡ k → port (slice_index_or edges w d) < tally (λ e. key e == k) edges
+  pub at : (w : ℕ) (d : Edge) → w < length edges → key (slice_index_or edges w d) ≡ k
+      → position_or_len (λ e. (key e == k) && (port e == port (slice_index_or edges w d))) edges ≡ w
+
+-- of the inputs of a node, and of its outputs
+abbrev pub HasIns : List Edge → ℕ → Type 0
+HasIns edges k = EachPort (λ e. e.to) (λ e. e.in_port) edges k
+
+abbrev pub HasOuts : List Edge → ℕ → Type 0
+HasOuts edges k = EachPort (λ e. e.from) (λ e. e.out_port) edges k
+
+-- each edge goes upward, to a node that is there
+pub record GoUpward (count : ℕ) (edges : List Edge) : Type 0 where
+  pub upward : (w : ℕ) (d : Edge) → w < length edges → (slice_index_or edges w d).from < (slice_index_or edges w d).to
+  pub in_range : (w : ℕ) (d : Edge) → w < length edges → (slice_index_or edges w d).to < count
+
+-- where the wire leaves this node, its port is the next one
+abbrev pub IsNextOf : ℕ → Wire → Type 0
+IsNextOf k w = w.from ≡ k → w.port ≡ None
+
+-- the wire goes upward, to one of so many nodes
+abbrev pub IsUp : ℕ → Wire → Type 0
+IsUp count w = (w.from < w.to) × (w.to < count)
+
+-- the origin is there: a stream by its input's heads, a graph before this one in the order of nodes
+abbrev pub IsThere : Layout → ℕ → Origin → Type 0
+IsThere l before (origin.Stream s) = (k : Stream) × IsAmong k (all_streams l.heads) × (k.at ≡ s)
+IsThere l before (origin.Pad g p) = position_or_len (λ x. x.graph == g) l.graphs < before
+
+-- a layout whose origins are all there, each graph after those that feed it
+pub record IsLaid (l : Layout) : Type 0 where
+  pub graphs : (g : Laid) (i : InPad) → IsAmong g l.graphs → IsAmong i g.ins → IsThere l (position_or_len (λ x. x.graph == g.graph) l.graphs) i.source
+  pub streams : (p : Placed) → IsAmong p (placed l) → IsThere l (length l.graphs) p.what.source
+
+-- the number is that of no graph
+abbrev pub IsNoGraph : Layout → ℕ → Type 0
+IsNoGraph l k = (k < before_graphs l) ⊎ (before_shortests l ≤ k)
+
+-- each open output pad of each graph is used once; `edges_have_outs` shows this of all other nodes
+abbrev pub GraphsHaveOuts : Layout → Type 0
+GraphsHaveOuts l = (k : ℕ) → before_graphs l ≤ k → k < before_shortests l → HasOuts (edges_of (wires_of l)) k
+
+-- the job has no complex graph, and the rules lay out this
+abbrev pub IsLaidOut : Rules → Job → List (List StreamHead) → Layout → Type 0
+IsLaidOut rules job heads l = (job.graphs ≡ []) × (laid_out rules job heads ≡ Ok l)
+
+-- no stream passes through a simple graph
+abbrev pub HasNoGraphs : Rules → Job → Type 0
+HasNoGraphs rules job = (rules.nulls ≡ false) × AllByRecursion (λ out. (out.vf ≡ None) × (out.af ≡ None)) job.outputs
+
+-- where the wire leaves this node, its port is named
+abbrev pub IsNamedOf : ℕ → Wire → Type 0
+IsNamedOf k w = w.from ≡ k → (q : ℕ) × (w.port ≡ Some q)
+
+-- the named ports of a node, in the order of the wires
+abbrev pub named_at : ℕ → List Wire → List ℕ
+named_at k [] = []
+named_at k (w ∷ ws) = cond (w.from == k) (cons_option w.port (named_at k ws)) (named_at k ws)
+
+-- each number below the length, once
+pub record EachOnce (ps : List ℕ) : Type 0 where
+  pub all : (q : ℕ) → q < length ps → IsAmong q ps
+  pub below : (q : ℕ) → IsAmong q ps → q < length ps
+  pub distinct : IsDistinct (λ p q. p == q) ps

@@ -1,0 +1,15 @@
+pub mod Choice
+pub mod Examples
+pub mod Labels
+pub mod Layout
+pub mod Laws
+pub mod Nodes
+pub mod Order
+pub mod Pads
+pub mod Plain
+pub mod Planned
+pub mod Ports
+pub mod Rules
+pub mod Streams
+pub mod Today
+pub mod Wires

@@ -1,0 +1,64 @@
+-- What the plan takes from the crates below it, and words on results.
+use Rattle.std.specs.Prelude.{ℕ, Bool, true, false, List, Option, Some, None, Result, Ok, Err}
+use Rattle.std.specs.List.{list_any}
+use Rattle.std.specs.Str.{bytes_eq}
+use Rattle.ff_values.specs.declared.head.StreamHead.{StreamHead}
+use Rattle.ff_lang.specs.declared.graph.Graph.{Graph}
+use Rattle.ff_map.specs.declared.map.Kind.{Kind}
+use Rattle.ff_map.specs.declared.map.MapSpec.{MapSpec}
+use Rattle.ff_values.specs.declared.config.ConfigError.{ConfigError}
+use Rattle.ff_plan.specs.declared.planned.PlanError.{PlanError}
+
+-- an input pad of a graph that no filter of it feeds
+pub record OpenIn : Type 0 where
+  pub label : Option (List ℕ)
+  pub kind : Kind
+
+-- an output pad of a graph that feeds no filter of it
+pub record OpenOut : Type 0 where
+  pub label : Option (List ℕ)
+  pub head : StreamHead
+
+-- the refusal of a filter of a graph
+pub record Refused : Type 0 where
+  pub filter : ℕ
+  pub kind : ConfigError
+
+-- Of ff_map the map that a text is, of ff_graph the rest: whether a filter's name is known, whether the filters of a graph
+-- feed each other in a loop, its open input pads in the order of writing, and its open output pads with their heads where the
+-- open input pads have these heads (None where a pad found no stream), or the refusal that comes first.
+-- `nulls` is whether a stream without a simple graph passes through `null` or `anull`.
+pub record Rules : Type 0 where
+  pub map_of : List ℕ → Option MapSpec
+  pub known : List ℕ → Bool
+  pub loops : Graph → Bool
+  pub open_ins : Graph → List OpenIn
+  pub configured : Graph → List (Option StreamHead) → Result (List OpenOut) Refused
+  pub nulls : Bool
+  pub joint : Bool
+
+abbrev pub Planned : Type 0 → Type 0
+Planned X = Result X PlanError
+
+-- the rest, where there is no refusal before
+abbrev pub behind : {X Y : Type 0} → Planned X → (X → Planned Y) → Planned Y
+behind (Ok x) rest = rest x
+behind (Err e) rest = Err e
+
+-- the rest, unless there is this refusal
+abbrev pub unless : {Y : Type 0} → Option PlanError → Planned Y → Planned Y
+unless None rest = rest
+unless (Some e) rest = Err e
+
+-- the first of two refusals
+abbrev pub or_else : Option PlanError → Option PlanError → Option PlanError
+or_else None second = second
+or_else (Some e) second = Some e
+
+-- the refusal, if so
+abbrev pub where_so : Bool → PlanError → Option PlanError
+where_so true e = Some e
+where_so false e = None
+
+abbrev pub is_one_of : List ℕ → List (List ℕ) → Bool
+is_one_of text texts = list_any (bytes_eq text) texts

@@ -1,0 +1,30 @@
+//! The plan of a run: which nodes it has, and which of their ports are joined.
+//!
+//! ```text
+//! job, heads ─► streams by output ─► nodes, wires ─► edges
+//!
+//! -i a.wav -i v.y4m -map 0:a -map 1:v out.txt
+//!   0 Demux 0 ──► 2 Dec 0:0 ──► 4 Enc 0 0 ──►0
+//!   1 Demux 1 ──► 3 Dec 1:0 ──► 5 Enc 0 1 ──►1 6 Mux 0
+//! ```
+//!
+//! `planned` of `specs/Planned` says which plan a job has with the heads of its inputs, or which refusal: first which streams
+//! each output has (`Streams`), then the numbers of the nodes and the wires between them (`Nodes`), then the ports (`Wires`),
+//! of which each that isn't named is the next one of its node. `specs/Laws` says what holds of the edges of every plan. The
+//! definitions are those of whole jobs, with graphs; `specs/Today` says which jobs are planned, and how another is refused.
+#![tactic(auto)]
+
+mod choosing;
+mod examples;
+mod laws;
+mod layout;
+mod nodes;
+mod number;
+mod outputs;
+mod planned;
+mod planning;
+mod takes;
+
+pub use number::{Wire, number_ports};
+pub use planned::{Edge, Plan, PlanError, PlanNode, Unbuilt};
+pub use planning::plan;

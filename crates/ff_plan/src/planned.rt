@@ -1,0 +1,116 @@
+ghost use Rattle.std.specs.Prelude.{◌≡◌};
+ghost use Rattle.ff_plan.specs.declared.planned.PlanError.TheVariants.{NoMemory};
+
+use ff_frame::Lane;
+use ff_lang::{Sequence, Text};
+use ff_map::StreamRef;
+use ff_sched::Routes;
+use ff_values::ConfigError;
+use std::alloc::AllocError;
+
+/// A node of a plan. Inputs, outputs and graphs have numbers from 0, over the whole job; so do the streams of an output.
+#[derive(Clone, Copy, Debug, PartialEq, Eq)]
+pub enum PlanNode {
+    /// Cuts the bytes of an input into packets.
+    Demux { input: u32 },
+    /// Decodes a stream of an input.
+    Dec { stream: StreamRef },
+    /// Filters frames.
+    Graph { graph: u32 },
+    /// Ends all streams of an output with the shortest of them.
+    Shortest { output: u32 },
+    /// Codes a stream of an output.
+    Enc { output: u32, stream: u32 },
+    /// Writes an output.
+    Mux { output: u32 },
+}
+
+/// From an output of a node to an input of a later one. Nodes have the numbers of their places in the plan, the outputs and
+/// the inputs of each node have numbers from 0.
+#[derive(Debug, Drop)]
+pub struct Edge {
+    pub from: u32,
+    pub out_port: u32,
+    pub to: u32,
+    pub in_port: u32,
+    /// Packets out of a Demux or an Enc, frames out of any other node.
+    pub lane: Lane,
+}
+
+/// The nodes of a run, the edges between them, and how the output streams hang on the sources.
+#[derive(Debug, Drop)]
+pub struct Plan {
+    pub nodes: Sequence<PlanNode>,
+    pub edges: Sequence<Edge>,
+    pub routes: Routes,
+}
+
+/// What a job may ask for and no plan has yet.
+#[derive(Clone, Copy, Debug, PartialEq, Eq)]
+pub enum Unbuilt {
+    /// A graph over several streams.
+    Complex,
+    /// A graph over the video or the audio streams of an output, each by itself.
+    Simple { output: u32 },
+    /// An output whose streams end with the shortest of them.
+    Shortest { output: u32 },
+}
+
+/// Why there is no plan.
+#[derive(Debug, Drop)]
+pub enum PlanError {
+    /// A map names an input that isn't there, or without `?` no stream of one.
+    NoStream {
+        output: u32,
+        map: u32,
+    },
+    /// An output gets no stream.
+    NoStreams {
+        output: u32,
+    },
+    /// A label that no graph gives and that is no stream.
+    UnknownLabel {
+        label: Text,
+    },
+    /// A label that a graph gives and nothing uses.
+    UnusedLabel {
+        label: Text,
+    },
+    /// A label that is given or used twice.
+    LabelTwice {
+        label: Text,
+    },
+    /// The filters of a graph, or it and further graphs, feed each other in a circle.
+    Loop {
+        graph: u32,
+    },
+    /// A filter of a graph can't be had.
+    Config {
+        graph: u32,
+        filter: u32,
+        kind: ConfigError,
+    },
+    /// The format of an output doesn't take this stream, or no further one. The stream counts within its output.
+    Takes {
+        output: u32,
+        stream: u32,
+    },
+    /// More than 16 streams of outputs.
+    TooManyStreams,
+    /// More than 16 graphs.
+    TooManyGraphs,
+    /// The job asks for something that no plan has yet.
+    Unbuilt {
+        part: Unbuilt,
+    },
+    /// There was no memory.
+    NoMemory,
+}
+
+impl From<AllocError> for PlanError {
+    ghost from_gives = { λ _ e. e ≡ NoMemory };
+
+    fn from(_: AllocError) -> Self {
+        PlanError::NoMemory
+    }
+}

@@ -1,0 +1,107 @@
+ghost use Rattle.std.specs.Prelude.{◌≡◌, ◌≤◌, None, Some, Ok, IfOk, IfErr, length, vec_len};
+ghost use Rattle.std.specs.List.{AllByRecursion};
+ghost use Rattle.ff_map.specs.Choice.{lists};
+ghost use Rattle.ff_plan.specs.Laws.{GoUpward};
+ghost use Rattle.ff_plan.specs.Plain.{plain_plan, IsRefused, IsSmall, IsWithinLimits};
+ghost use Rattle.ff_plan.specs.Ports.{shape_of, IsFed};
+ghost use Rattle.ff_plan.specs.Today.{planned_today, unbuilt, unbuilt_in};
+
+use crate::layout::Placed;
+use crate::nodes::{all_nodes, place, used_inputs, used_streams, ways, wire_up};
+use crate::number::number_ports;
+use crate::outputs::all_outputs;
+use crate::planned::{Plan, PlanError, Unbuilt};
+use ff_lang::Sequence;
+use ff_sched::{Graphs, Routes, Ways};
+use ff_values::StreamHead;
+use ff_words::{Job, OutputJob};
+use std::alloc::{AllocError, Global};
+
+fn has_parts(output: u32, out: &OutputJob) -> Result<(), PlanError>
+    ensures all { IfOk result (λ _. unbuilt_in output out.now ≡ None) }
+    ensures missing { IfErr result (λ e. unbuilt_in output out.now ≡ Some e) }
+{
+    let part = if out.vf.is_some() || out.af.is_some() {
+        Unbuilt::Simple { output }
+    } else if out.shortest {
+        Unbuilt::Shortest { output }
+    } else {
+        return Ok(());
+    };
+    Err(PlanError::Unbuilt { part })
+}
+
+// Whether all that the job asks for is built.
+fn is_built(job: &Job) -> Result<(), PlanError>
+    requires { length job.now.outputs ≤ 16 }
+    ensures all { IfOk result (λ _. unbuilt job.now ≡ None) }
+    ensures missing { IfErr result (λ e. unbuilt job.now ≡ Some e) }
+{
+    if !job.graphs.as_slice().is_empty() {
+        return Err(PlanError::Unbuilt {
+            part: Unbuilt::Complex,
+        });
+    }
+    for (output, out) in job.outputs.as_slice().iter().enumerate() {
+        has_parts(output as u32, out)?;
+    }
+    Ok(())
+}
+
+// The plan of so many outputs with these streams.
+fn numbered(
+    alloc: Global,
+    heads: &[Vec<StreamHead>],
+    placed: &[Placed],
+    outputs: u32,
+) -> Result<Plan, AllocError>
+    requires inputs { length heads.now ≤ 16 }
+    requires streams { AllByRecursion (λ v. vec_len v ≤ 16) heads.now }
+    requires few { length placed.now ≤ 16 }
+    requires small { AllByRecursion IsSmall placed.now }
+    ensures { IfOk result (λ p. p ≡ plain_plan (lists heads.now) placed.now outputs) }
+{
+    let streams = used_streams(alloc, heads, placed)?;
+    let inputs = used_inputs(alloc, heads.len(), streams.as_slice())?;
+    let wires = wire_up(alloc, inputs.as_slice(), streams.as_slice(), placed)?;
+    let nodes = all_nodes(
+        alloc,
+        inputs.as_slice(),
+        streams.as_slice(),
+        placed,
+        outputs,
+    )?;
+    let edges = number_ports(alloc, wires.as_slice())?;
+    let routes = Routes {
+        sources: heads.len() as u32,
+        streams: Ways::new(ways(alloc, placed)?),
+        graphs: Graphs::new(Vec::new(alloc)),
+    };
+    Ok(Plan {
+        nodes: Sequence::of(nodes),
+        edges: Sequence::of(edges),
+        routes,
+    })
+}
+
+/// The plan of a job with these heads of each of its inputs, or the refusal that comes first: of what isn't built, then of
+/// each output in turn its maps, its lack of streams and what its format takes, then of too many streams. `NoMemory` may come
+/// in place of any answer.
+pub fn plan(alloc: Global, job: &Job, heads: &[Vec<StreamHead>]) -> Result<Plan, PlanError>
+    requires limits { IsWithinLimits job.now (lists heads.now) }
+    ensures made { IfOk result (λ p. planned_today job.now (lists heads.now) ≡ Ok p) }
+    ensures refused { IfErr result (IsRefused (planned_today job.now (lists heads.now))) }
+    ensures upward { IfOk result (λ p. GoUpward (length p.nodes) p.edges) }
+    ensures fed { IfOk result (λ p. IsFed (shape_of p.edges) (length p.nodes) p.edges) }
+    ensures few { IfOk result (λ p. length p.routes.streams ≤ 16) }
+{
+    is_built(job)?;
+    let outs = job.outputs.as_slice();
+    let all = all_outputs(alloc, heads, outs)?;
+    let placed = place(alloc, all.as_slice())?;
+    if placed.len() > 16 {
+        return Err(PlanError::TooManyStreams);
+    }
+    let plan = numbered(alloc, heads, placed.as_slice(), outs.len() as u32)?;
+    Ok(plan)
+}
