@@ -19,6 +19,9 @@ fault_stays : (long long' : Bool) → (long ≡ true → long' ≡ true) → (c 
 fault_stays true long' h c e = ap fault_by (h refl) ∙ e
 fault_stays false long' h c e = cc
 
+no_source : false ≡ true → ⊥
+no_source e = cc
+
 no_device : (long : Bool) → fault_by long ≡ Some Device → ⊥
 no_device true e = cc
 no_device false e = cc
@@ -55,4 +58,6 @@ alone_laws v spends hurt long only shut done = record {
   settles = λ past s n ss a c q lt. task_settles v hurt long past s ss c q lt;
   told = λ past s. silent_front past s.silent;
   ticket_used = λ past q s i f p a h. h;
+  tried_allowed = λ past s. omega arith;
+  tried_units = λ past s i. absurd (no_source i);
 }

@@ -22,6 +22,7 @@ alone_view v spends hurt long = record {
   device = None;
   failures = 0;
   holds = ⊥;
+  tried = 0;
   spent = λ p. (p < length v.ins) × (spends p ≡ true);
   stands = λ past. Stands v hurt long past;
 }
