@@ -21,10 +21,10 @@ use Rattle.ff_bits.proofs.Slices.{absorbed, remainder_below}
 
 -- ---- the shortest
 
-record IsFewest (v k : ℕ) : Type 0 where
-  few : k ≤ 6
-  room : v < 2 ^ capacity k
-  least : (j : ℕ) → v < 2 ^ capacity j → k ≤ j
+pub record IsFewest (v k : ℕ) : Type 0 where
+  pub few : k ≤ 6
+  pub room : v < 2 ^ capacity k
+  pub least : (j : ℕ) → v < 2 ^ capacity j → k ≤ j
 
 least_than : (k v : ℕ) → 2 ^ capacity k ≤ v → (j : ℕ) → v < 2 ^ capacity j → k < j
 least_than k v h j l = elim (cases_lt k j) [
@@ -41,7 +41,7 @@ least_than k v h j l = elim (cases_lt k j) [
     capacity_le (suc j) zero h = absurd (omega arith)
     capacity_le (suc j) (suc k) h = omega arith
 
-fewest_is : (v : ℕ) → v < 2 ^ 36 → IsFewest v (fewest v)
+pub fewest_is : (v : ℕ) → v < 2 ^ 36 → IsFewest v (fewest v)
 fewest_is v top = elim (cases_lt v (2 ^ 7)) [
   | inl l ↦ rw (lt-ltb v (2 ^ 7) l) (record { few = omega arith; room = l; least = λ j h. omega arith })
   | inr a ↦ elim (cases_lt v (2 ^ 11)) [

@@ -18,3 +18,4 @@ pub mod CrcLemmas
 pub mod Tables
 pub mod Slices
 pub mod LawLemmas
+pub mod NumberBelow

@@ -73,6 +73,18 @@ coded-forward k v rest h l =
     ∙ ap (λ (a : Answer ℕ). on a (λ byte. sixes (follow byte) (opened byte))) got
     ∙ ap (λ (j : ℕ). sixes j (opened b) more) f.2 ∙ ap (λ (x : ℕ). sixes k x more) f.3 ∙ sixes-forward k v rest
 
+-- a value behind its first byte
+pub value_small : (b v : ℕ) (ys rest : List Bool) → is_within 0x80 0xc0 0xff b ≡ true → sixes (follow b) (opened b) ys ≡ Done v rest → v < 2 ^ capacity (follow b)
+value_small b v ys rest p e =
+    let o = opening b p in
+    let k : ℕ = follow b in
+    let i = sixes-backward k (opened b) v ys rest e in
+    let o2 : IsOpening b k (high_part k v) = subst (λ (x : ℕ). IsOpening b k x) (sym i.1) o in
+    subst (λ (j : ℕ). v < 2 ^ j) (sym (room-capacity k o.few)) (from_high_part v (room k) (6 * k) o2.small)
+  where
+    from_high_part : (v a b : ℕ) → v / 2 ^ b < 2 ^ a → v < 2 ^ (a + b)
+    from_high_part v a b h = let s = shr_split v b in let l = mod_below v (2 ^ b) (pow_pos b) in let e = pow-add 2 a b in let m = mul-add-lt (v / 2 ^ b) (2 ^ b) (v % 2 ^ b) (2 ^ a) h l in omega arith
+
 pub coded-backward : (v : ℕ) (xs rest : List Bool) → coded xs ≡ Done v rest → (k : ℕ) × (k ≤ 6) × (v < 2 ^ capacity k) × (xs ≡ code_with k v ++ rest)
 unfolding coded
 coded-backward v xs rest e =
@@ -83,11 +95,8 @@ coded-backward v xs rest e =
     let k : ℕ = follow b in
     let i = sixes-backward k (opened b) v d.1 rest d.3 in
     let o2 : IsOpening b k (high_part k v) = subst (λ (x : ℕ). IsOpening b k x) (sym i.1) o in
-    let small : v < 2 ^ capacity k = subst (λ (j : ℕ). v < 2 ^ j) (sym (room-capacity k o.few)) (from_high_part v (room k) (6 * k) o2.small) in
+    let small : v < 2 ^ capacity k = value_small b v d.1 rest f.1 d.3 in
     (k, o.few, small, f.0 ∙ ap (λ (ys : List Bool). bits_of 8 b ++ ys) i.0 ∙ sym (append_assoc (bits_of 8 b) (further_bytes k v) rest) ∙ ap (λ (ys : List Bool). (ys ++ further_bytes k v) ++ rest) (sym (first_bits b k v o2)))
-  where
-    from_high_part : (v a b : ℕ) → v / 2 ^ b < 2 ^ a → v < 2 ^ (a + b)
-    from_high_part v a b h = let s = shr_split v b in let l = mod_below v (2 ^ b) (pow_pos b) in let e = pow-add 2 a b in let m = mul-add-lt (v / 2 ^ b) (2 ^ b) (v % 2 ^ b) (2 ^ a) h l in omega arith
 
 -- ---- and its reader keeps the laws of readers
 

@@ -1,4 +1,5 @@
 pub mod Bits
+pub mod Integers
 pub mod Number
 pub mod Crc
 pub mod Reads

@@ -52,6 +52,13 @@ sixes (suc k) v = further >>= λ byte. sixes k (v * 64 + (byte - 0x80))
 unfoldable pub coded : Reader ℕ
 coded = first >>= λ byte. sixes (follow byte) (opened byte)
 
--- the same with a first byte below this end
+-- The first byte of a coded number of at most 31 bits is below 11111110, and of one of at most 36 bits below 11111111.
+abbrev pub of_31_bits : ℕ
+of_31_bits = 0xfe
+
+abbrev pub of_36_bits : ℕ
+of_36_bits = 0xff
+
+-- a coded number with a first byte below this end
 unfoldable pub coded_below : ℕ → Reader ℕ
 coded_below end = field 8 (is_within 0x80 0xc0 end) >>= λ byte. sixes (follow byte) (opened byte)

@@ -5,6 +5,8 @@ ghost use Rattle.ff_bits.specs.Bits.{bits};
 ghost use Rattle.ff_bits.specs.Crc.{crc8_of, crc16_of};
 ghost use Rattle.ff_bits.specs.Number.{IsCode, IsPartOfCode, BeginsNoCode, shortest};
 ghost use Rattle.ff_bits.specs.Reads.{IsNumber};
+ghost use Rattle.ff_bits.specs.Reading.{Done};
+ghost use Rattle.ff_bits.specs.NumberGrammar.{coded_below, of_31_bits, of_36_bits};
 ghost use Rattle.ff_bits.specs.Pieces.{Piece, AreWritable, AreRead, written_pieces, values_in};
 
 /// Values and coded numbers that were written one after the other, in any number and order, are read back as they
@@ -19,6 +21,15 @@ pub fn coded_numbers_are_apart()
     ensures one { (bits rest other : List Bool) (v w : ℕ) → IsNumber bits v rest → IsNumber bits w other → (v ≡ w) × (rest ≡ other) }
     ensures whole { (bits rest : List Bool) (v : ℕ) → IsNumber bits v rest → IsPartOfCode bits → ⊥ }
     ensures some { (bits : List Bool) → IsPartOfCode bits → BeginsNoCode bits → ⊥ }
+{}
+
+/// The coded numbers with a first byte below 11111110 are those of at most 31 bits, and the ones with a first byte below 11111111
+/// those of at most 36: a value that is read has no more bits, and each value of so many is read from its shortest form.
+pub fn coded_numbers_have_31_or_36_bits()
+    ensures few_31 { (bits rest : List Bool) (v : ℕ) → coded_below of_31_bits bits ≡ Done v rest → v < 2 ^ 31 }
+    ensures all_31 { (v : ℕ) (rest : List Bool) → v < 2 ^ 31 → coded_below of_31_bits (shortest v ++ rest) ≡ Done v rest }
+    ensures few_36 { (bits rest : List Bool) (v : ℕ) → coded_below of_36_bits bits ≡ Done v rest → v < 2 ^ 36 }
+    ensures all_36 { (v : ℕ) (rest : List Bool) → v < 2 ^ 36 → coded_below of_36_bits (shortest v ++ rest) ≡ Done v rest }
 {}
 
 /// The writer's form of a coded number is one of this value, and none of this value is shorter.

@@ -17,8 +17,8 @@ mod writer;
 
 pub use crc::{crc8, crc16};
 pub use laws::{
-    a_sum_behind_its_bytes_leaves_nothing, coded_numbers_are_apart, shortest_is_shortest,
-    what_was_written_is_read,
+    a_sum_behind_its_bytes_leaves_nothing, coded_numbers_are_apart,
+    coded_numbers_have_31_or_36_bits, shortest_is_shortest, what_was_written_is_read,
 };
 pub use reader::{BitEnd, BitReader};
 pub use writer::BitWriter;

@@ -1,5 +1,5 @@
-ghost use Rattle.std.specs.Prelude.{◌≡◌, ◌<◌, ◌≤◌, ◌-◌, ◌^◌, true, All};
-ghost use Rattle.ff_flac_sub.specs.Subframe.{magnitude};
+ghost use Rattle.std.specs.Prelude.{◌≡◌, ◌≤◌, true, All};
+ghost use Rattle.ff_values.specs.Audio.{FitsBits};
 
 use crate::table::Stop;
 use crate::words::Words;
@@ -36,7 +36,7 @@ pub fn residual(words: Words) -> Result<String, Stop> {
 fn fits(x: i32, depth: u32) -> bool
     requires some { 1 ≤ depth }
     requires few { depth ≤ 25 }
-    ensures { result ≡ true → magnitude x < 2 ^ (depth - 1) }
+    ensures { result ≡ true → FitsBits depth x }
 {
     let half = 1i64 << (depth - 1);
     -half <= x as i64 && (x as i64) < half
@@ -45,7 +45,7 @@ fn fits(x: i32, depth: u32) -> bool
 fn all_fit(samples: &[i32], depth: u32) -> bool
     requires some { 1 ≤ depth }
     requires few { depth ≤ 25 }
-    ensures { result ≡ true → All (λ x. magnitude x < 2 ^ (depth - 1)) samples.now }
+    ensures { result ≡ true → All (FitsBits depth) samples.now }
 {
     for x in samples {
         if !fits(*x, depth) {

@@ -17,16 +17,17 @@ use Rattle.std.proofs.Math.Nat.{pow-le-pow_right}
 use Rattle.ff_flac_frame.specs.declared.subframe.SubKind.{SubKind}
 use Rattle.ff_flac_frame.specs.declared.subframe.SubKind.TheVariants.{Constant, Verbatim, Fixed, Lpc}
 use Rattle.ff_flac_frame.specs.Frame.{Part}
-use Rattle.ff_flac_frame.specs.Facts.{InDepth, HasShape, IsPart}
-use Rattle.ff_flac_frame.proofs.FrameSound.{InDepth-wider}
+use Rattle.ff_values.specs.Audio.{FitsBits}
+use Rattle.ff_flac_frame.specs.Facts.{HasShape, IsPart}
+use Rattle.ff_flac_frame.proofs.FrameSound.{FitsBits-wider}
 use Rattle.ff_flac_dec.specs.Values.{fixed, linear, restored, samples_as, coded_samples, AllInDepth}
 
-pub all_from : (depth : ℕ) (xs : List ℤ) → AllByRecursion (InDepth depth) xs → AllInDepth depth xs
+pub all_from : (depth : ℕ) (xs : List ℤ) → AllByRecursion (FitsBits depth) xs → AllInDepth depth xs
 all_from depth [] h k lt = absurd (omega arith)
 all_from depth (x ∷ xs) h zero lt = h.0
 all_from depth (x ∷ xs) h (suc k) lt = all_from depth xs h.1 k (omega arith)
 
-pub all_replicate : (depth n : ℕ) (x : ℤ) → InDepth depth x → AllInDepth depth (replicate n x)
+pub all_replicate : (depth n : ℕ) (x : ℤ) → FitsBits depth x → AllInDepth depth (replicate n x)
 all_replicate depth zero x h k lt = absurd (omega arith)
 all_replicate depth (suc n) x h zero lt = h
 all_replicate depth (suc n) x h (suc k) lt = all_replicate depth n x h k (omega arith)
@@ -52,13 +53,13 @@ abbrev pub Within : ℕ → ℤ → Type 0
 Within h (pos n) = n < h
 Within h (negsuc n) = n < h
 
-pub within_from : (d : ℕ) (x : ℤ) → InDepth d x → Within (2 ^ (d - 1)) x
-within_from d (pos n) h = let high : (pos n +ℤ pos 1) ≤ℤ pos (2 ^ (d - 1)) = h.high in omega (arith, ints)
-within_from d (negsuc n) h = let low : neg_ℤ (pos (2 ^ (d - 1))) ≤ℤ negsuc n = h.low in omega (arith, ints)
+pub within_from : (d : ℕ) (x : ℤ) → FitsBits d x → Within (2 ^ (d - 1)) x
+within_from d (pos n) h = h
+within_from d (negsuc n) h = h
 
-pub in_from : (d : ℕ) (x : ℤ) → Within (2 ^ (d - 1)) x → InDepth d x
-in_from d (pos n) h = record { low = omega (arith, ints); high = omega (arith, ints) }
-in_from d (negsuc n) h = record { low = omega (arith, ints); high = omega (arith, ints) }
+pub in_from : (d : ℕ) (x : ℤ) → Within (2 ^ (d - 1)) x → FitsBits d x
+in_from d (pos n) h = h
+in_from d (negsuc n) h = h
 
 suc_le : (n h : ℕ) → n < h → suc n ≤ h
 suc_le n h lt = omega arith
@@ -75,7 +76,7 @@ within_times h p (pos n) some lt = mul-lt-mul_of_pos_right lt some
 within_times h p (negsuc n) some lt = within_negative (h * p) (suc n * p) (omega (arith, some_product n p some)) (mul-le-mul_right p (suc_le n h lt))
 
 -- a sample of fewer bits, with so many zeros behind it
-pub raised_in : (depth w : ℕ) (x : ℤ) → w < depth → InDepth (depth - w) x → InDepth depth (x *ℤ pos (2 ^ w))
+pub raised_in : (depth w : ℕ) (x : ℤ) → w < depth → FitsBits (depth - w) x → FitsBits depth (x *ℤ pos (2 ^ w))
 raised_in depth w x lt h =
     let t = within_times (2 ^ (depth - w - 1)) (2 ^ w) x (pow_pos w) (within_from (depth - w) x h) in
     let k : depth - 1 ≡ (depth - w - 1) + w = omega arith in
@@ -83,7 +84,7 @@ raised_in depth w x lt h =
     in_from depth (x *ℤ pos (2 ^ w)) (subst (λ (n : ℕ). Within n (x *ℤ pos (2 ^ w))) (sym p) t)
 
 pub all_wider : (depth wide : ℕ) (xs : List ℤ) → depth ≤ wide → AllInDepth depth xs → AllInDepth wide xs
-all_wider depth wide xs le h k lt = InDepth-wider depth wide (slice_index_or xs k (pos 0)) le (h k lt)
+all_wider depth wide xs le h k lt = FitsBits-wider depth wide (slice_index_or xs k (pos 0)) le (h k lt)
 
 any_default : (xs : List ℤ) (k : ℕ) (d e : ℤ) → k < length xs → get_or xs k d ≡ get_or xs k e
 any_default [] k d e lt = absurd (omega arith)

@@ -11,12 +11,11 @@ use Rattle.ff_flac_frame.specs.declared.stream.FlacStream.{FlacStream}
 use Rattle.ff_flac_frame.specs.declared.subframe.Subframe.{Subframe}
 use Rattle.ff_flac_frame.specs.Codes.{form_fits, depths}
 use Rattle.ff_flac_frame.specs.Frame.{IsStream, Part, Frame}
-use Rattle.ff_flac_frame.specs.Facts.{InDepth, IsPart, AreParts, IsFrame}
+use Rattle.ff_flac_frame.specs.Facts.{IsPart, AreParts, IsFrame}
 use Rattle.ff_flac_frame.specs.declared.frame.FlacFrame.{FlacFrame}
 use Rattle.ff_flac_frame.specs.Parts.{part_of, frame_of}
 use Rattle.ff_flac_dec.specs.Values.{channel_samples, AllInDepth}
 use Rattle.ff_flac_dec.specs.Channels.{IsCoded, AllCoded, AllChannels, IsWithinDepths, first_depth, second_depth, left_right, pair, channels_of, sample_frame, interleaved_from, interleaved}
-use Rattle.ff_flac_dec.proofs.ChannelLemmas.{within_from}
 
 -- ---- channels that stand by themselves
 
@@ -76,14 +75,10 @@ two_parts block a b (p ∷ q ∷ r ∷ ps) h = absurd h.1.1
 
 -- ---- the frame of sound
 
-fits_from : (d : ℕ) (x : ℤ) → InDepth d x → FitsBits d x
-fits_from d (pos n) h = within_from d (pos n) h
-fits_from d (negsuc n) h = within_from d (negsuc n) h
-
 fits_at : (d : ℕ) (xs : List ℤ) (t : ℕ) → AllInDepth d xs → FitsBits d (slice_index_or xs t (pos 0))
 fits_at d xs t h =
     elim (cases_lt t (length xs)) [
-      | inl lt ↦ fits_from d (slice_index_or xs t (pos 0)) (h t lt)
+      | inl lt ↦ h t lt
       | inr le ↦ subst (λ (x : ℤ). FitsBits d x) (sym (get_or_past xs t (pos 0) le)) (pow_pos (d - 1))
     ]
 

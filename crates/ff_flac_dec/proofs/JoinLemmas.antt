@@ -6,7 +6,7 @@ use Rattle.std.proofs.Common.{to_z, of_z}
 use Rattle.std.specs.Int.{w32, w64}
 use Rattle.std.specs.Int.RustNames.{FitsSigned}
 use Rattle.std.proofs.lemmas.Int.{ints, to_z-of_z, fits_signed_from_abs}
-use Rattle.ff_flac_frame.specs.Facts.{InDepth}
+use Rattle.ff_values.specs.Audio.{FitsBits}
 use Rattle.ff_flac_dec.proofs.ValueLemmas.{IsSmall-in_depth, small_same}
 use Rattle.ff_flac_dec.proofs.LinearLemmas.{abs_in_depth, sum_bound, shr_bound}
 use Rattle.ff_flac_dec.specs.Channels.{mid_left, mid_right}
@@ -46,7 +46,7 @@ diff_bound (pos m) (negsuc n) = omega (arith, ints)
 diff_bound (negsuc m) (pos n) = omega (arith, ints)
 diff_bound (negsuc m) (negsuc n) = omega (arith, ints)
 
-module _ (x y : ℤ) (hx : InDepth 25 x) (hy : InDepth 25 y) where
+module _ (x y : ℤ) (hx : FitsBits 25 x) (hy : FitsBits 25 y) where
   same_x : to_z w64 (of_z w64 (to_z w32 (of_z w32 x))) ≡ x
   same_x = small_same x (IsSmall-in_depth 25 x (omega arith) hx)
 

@@ -6,15 +6,15 @@ use Rattle.std.specs.Int.Signed.{shr_z}
 use Rattle.std.proofs.lemmas.Int.{ints, to_z-of_z, unsigned_abs-mul, fits_signed_from_abs}
 use Rattle.std.proofs.lemmas.List.{drop_more, drop_all}
 use Rattle.std.proofs.Math.Nat.{mul-le-mul}
-use Rattle.ff_flac_frame.specs.Facts.{InDepth}
+use Rattle.ff_values.specs.Audio.{FitsBits}
 use Rattle.ff_flac_dec.specs.Values.{ago, weighted}
 
 -- how far a number within a depth is from 0
-pub abs_in_depth : (depth : ℕ) (x : ℤ) → InDepth depth x → unsigned_abs x ≤ 2 ^ (depth - 1)
-abs_in_depth depth (pos n) h = let high : (pos n +ℤ pos 1) ≤ℤ pos (2 ^ (depth - 1)) = h.high in omega (arith, ints)
-abs_in_depth depth (negsuc n) h = let low : neg_ℤ (pos (2 ^ (depth - 1))) ≤ℤ negsuc n = h.low in omega (arith, ints)
+pub abs_in_depth : (depth : ℕ) (x : ℤ) → FitsBits depth x → unsigned_abs x ≤ 2 ^ (depth - 1)
+abs_in_depth depth (pos n) h = omega (arith, ints, h)
+abs_in_depth depth (negsuc n) h = omega (arith, ints, h)
 
-pub product_bound : (c x : ℤ) → InDepth 15 c → InDepth 25 x → unsigned_abs (c *ℤ x) ≤ 2 ^ 38
+pub product_bound : (c x : ℤ) → FitsBits 15 c → FitsBits 25 x → unsigned_abs (c *ℤ x) ≤ 2 ^ 38
 product_bound c x h g =
     let a : unsigned_abs c ≤ 16384 = abs_in_depth 15 c h in
     let b : unsigned_abs x ≤ 16777216 = abs_in_depth 25 x g in

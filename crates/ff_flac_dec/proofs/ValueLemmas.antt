@@ -6,21 +6,22 @@ use Rattle.std.proofs.lemmas.Int.{ints, to_z-of_z}
 use Rattle.std.proofs.lemmas.Bool.{cases_lt}
 use Rattle.std.proofs.lemmas.List.{get_or_append_left, get_or_push, length_push, drop_more, drop_all, append-nil, get_or_at}
 use Rattle.std.proofs.Math.Nat.{pow-le-pow_right}
-use Rattle.ff_flac_frame.specs.Facts.{InDepth}
+use Rattle.ff_values.specs.Audio.{FitsBits}
+use Rattle.ff_flac_frame.proofs.FrameSound.{fits_low, fits_high}
 use Rattle.ff_flac_dec.specs.Bounds.{IsSmall, IsBounded, IsWide}
 use Rattle.ff_flac_dec.specs.Values.{restored, AllInDepth}
 use Rattle.ff_flac_dec.specs.Channels.{both}
 
-pub IsSmall-in_depth : (depth : ℕ) (x : ℤ) → depth ≤ 25 → InDepth depth x → IsSmall x
+pub IsSmall-in_depth : (depth : ℕ) (x : ℤ) → depth ≤ 25 → FitsBits depth x → IsSmall x
 IsSmall-in_depth depth x le h =
     let two : 0 < 2 = omega arith in
     let k : depth - 1 ≤ 24 = omega arith in
     let m : 2 ^ (depth - 1) ≤ 2 ^ 24 = pow-le-pow_right two k in
-    let low : neg_ℤ (pos (2 ^ (depth - 1))) ≤ℤ x = h.low in
-    let high : (x +ℤ pos 1) ≤ℤ pos (2 ^ (depth - 1)) = h.high in
+    let low = fits_low depth x h in
+    let high = fits_high depth x h in
     record { low = omega (arith, ints); high = omega (arith, ints) }
 
-pub AllInDepth-push : (depth : ℕ) (xs : List ℤ) (x : ℤ) → AllInDepth depth xs → InDepth depth x → AllInDepth depth (xs ++ x ∷ [])
+pub AllInDepth-push : (depth : ℕ) (xs : List ℤ) (x : ℤ) → AllInDepth depth xs → FitsBits depth x → AllInDepth depth (xs ++ x ∷ [])
 AllInDepth-push depth xs x h g k lt =
     elim (cases_lt k (length xs)) [
       | inl l ↦ rw (get_or_append_left xs (x ∷ []) (pos 0) k l) (h k l)
@@ -42,16 +43,16 @@ pub restored-step : (f : List ℤ → ℤ) (xs rest : List ℤ) (i : ℕ) → i 
 restored-step f xs rest i lt = rw (drop_more rest i (pos 0) lt) refl
 
 -- a sample that leaves its depth is in the whole
-pub leaves : (depth : ℕ) (f : List ℤ → ℤ) (xs rest total : List ℤ) (i : ℕ) (x : ℤ) → i < length rest → x ≡ f xs +ℤ get_or rest i (pos 0) → restored f xs (drop i rest) ≡ total → (InDepth depth x → ⊥) → AllInDepth depth total → ⊥
+pub leaves : (depth : ℕ) (f : List ℤ → ℤ) (xs rest total : List ℤ) (i : ℕ) (x : ℤ) → i < length rest → x ≡ f xs +ℤ get_or rest i (pos 0) → restored f xs (drop i rest) ≡ total → (FitsBits depth x → ⊥) → AllInDepth depth total → ⊥
 leaves depth f xs rest total i x lt x-is so_far out all =
     let y : ℤ = f xs +ℤ get_or rest i (pos 0) in
     let t = restored-front f (xs ++ y ∷ []) (drop (i + 1) rest) in
     let e : total ≡ xs ++ (y ∷ t.0) = sym so_far ∙ restored-step f xs rest i lt ∙ t.1 ∙ append_assoc xs (y ∷ []) t.0 in
     let a : AllInDepth depth (xs ++ (y ∷ t.0)) = subst (λ (zs : List ℤ). AllInDepth depth zs) e all in
     let in_whole : length xs < length (xs ++ (y ∷ t.0)) = omega (arith, length-append xs (y ∷ t.0)) in
-    let at : InDepth depth (get_or (xs ++ (y ∷ t.0)) (length xs) (pos 0)) = a (length xs) in_whole in
-    let here : InDepth depth y = subst (λ (z : ℤ). InDepth depth z) (get_or_at xs y t.0 (pos 0) (length xs) refl) at in
-    out (subst (λ (z : ℤ). InDepth depth z) (sym x-is) here)
+    let at : FitsBits depth (get_or (xs ++ (y ∷ t.0)) (length xs) (pos 0)) = a (length xs) in_whole in
+    let here : FitsBits depth y = subst (λ (z : ℤ). FitsBits depth z) (get_or_at xs y t.0 (pos 0) (length xs) refl) at in
+    out (subst (λ (z : ℤ). FitsBits depth z) (sym x-is) here)
 
 pub small_same : (x : ℤ) → IsSmall x → to_z w64 (of_z w64 (to_z w32 (of_z w32 x))) ≡ x
 small_same x h =
@@ -82,9 +83,9 @@ both_goes_on f out xs ys total i x lt lt' x-is so_far =
     append_assoc out (x ∷ []) (both f (drop (i + 1) xs) (drop (i + 1) ys)) ∙ ap (λ (y : ℤ). out ++ (y ∷ both f (drop (i + 1) xs) (drop (i + 1) ys))) x-is ∙ ap (λ (m : List ℤ). out ++ m) (sym (both-step f xs ys i lt lt')) ∙ so_far
 
 -- an element of the whole leaves its depth
-pub part_leaves : (depth : ℕ) (out more total : List ℤ) (x : ℤ) → (out ++ x ∷ []) ++ more ≡ total → (InDepth depth x → ⊥) → AllInDepth depth total → ⊥
+pub part_leaves : (depth : ℕ) (out more total : List ℤ) (x : ℤ) → (out ++ x ∷ []) ++ more ≡ total → (FitsBits depth x → ⊥) → AllInDepth depth total → ⊥
 part_leaves depth out more total x e away all =
     let f : total ≡ out ++ (x ∷ more) = sym e ∙ append_assoc out (x ∷ []) more in
     let a : AllInDepth depth (out ++ (x ∷ more)) = subst (λ (zs : List ℤ). AllInDepth depth zs) f all in
     let in_whole : length out < length (out ++ (x ∷ more)) = omega (arith, length-append out (x ∷ more)) in
-    away (subst (λ (z : ℤ). InDepth depth z) (get_or_at out x more (pos 0) (length out) refl) (a (length out) in_whole))
+    away (subst (λ (z : ℤ). FitsBits depth z) (get_or_at out x more (pos 0) (length out) refl) (a (length out) in_whole))

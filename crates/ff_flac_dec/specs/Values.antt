@@ -4,7 +4,7 @@ use Rattle.std.specs.Int.Signed.{shr_z}
 use Rattle.ff_flac_frame.specs.declared.subframe.SubKind.{SubKind}
 use Rattle.ff_flac_frame.specs.declared.subframe.SubKind.TheVariants.{Constant, Verbatim, Fixed, Lpc}
 use Rattle.ff_flac_frame.specs.Frame.{Part}
-use Rattle.ff_flac_frame.specs.Facts.{InDepth}
+use Rattle.ff_values.specs.Audio.{FitsBits}
 
 -- the sample k before the next one
 abbrev pub ago : ℕ → List ℤ → ℤ
@@ -48,4 +48,4 @@ channel_samples block p = map (λ x. x *ℤ pos (2 ^ p.wasted)) (coded_samples b
 
 -- each sample is within the depth
 abbrev pub AllInDepth : ℕ → List ℤ → Type 0
-AllInDepth depth xs = (k : ℕ) → k < length xs → InDepth depth (slice_index_or xs k (pos 0))
+AllInDepth depth xs = (k : ℕ) → k < length xs → FitsBits depth (slice_index_or xs k (pos 0))

@@ -1,7 +1,8 @@
 ghost use Rattle.std.specs.Prelude.{◌≡◌, ◌<◌, ◌≤◌, ◌^◌, ◌-◌, ◌*ℤ◌, IfOk, IsErrOf, IfErr, length, pos, map, replicate, All, FitsSigned};
 ghost use Rattle.std.specs.Int.{w32};
 ghost use Rattle.ff_flac_frame.specs.Parts.{part_of};
-ghost use Rattle.ff_flac_frame.specs.Facts.{IsPart, InDepth};
+ghost use Rattle.ff_values.specs.Audio.{FitsBits};
+ghost use Rattle.ff_flac_frame.specs.Facts.{IsPart};
 ghost use Rattle.ff_flac_dec.specs.Values.{coded_samples, channel_samples, AllInDepth};
 
 use crate::end::DecodeEnd;

@@ -1,6 +1,6 @@
 ghost use Rattle.std.specs.Prelude.{◌≡◌, ◌<◌, ◌≤◌, ◌^◌, ◌-◌, IfOk, IsErrOf, IsTrue, ◌↔◌, length, pos, ◌≤ℤ◌, neg_ℤ, ◌*ℤ◌, ◌-ℤ◌, ◌+ℤ◌, FitsSigned};
 ghost use Rattle.std.specs.Int.{w64};
-ghost use Rattle.ff_flac_frame.specs.Facts.{InDepth};
+ghost use Rattle.ff_values.specs.Audio.{FitsBits};
 ghost use Rattle.ff_flac_dec.specs.Values.{ago, fixed, restored, AllInDepth};
 ghost use Rattle.ff_flac_dec.specs.Bounds.{IsSmall, IsBounded, IsWide};
 
@@ -11,7 +11,7 @@ use std::alloc::Global;
 pub fn is_in_depth(depth: u32, x: i64) -> bool
     requires low { 1 ≤ depth }
     requires high { depth ≤ 25 }
-    ensures { IsTrue result ↔ InDepth depth x }
+    ensures { IsTrue result ↔ FitsBits depth x }
 {
     let limit = 1i64 << (depth - 1);
     -limit <= x && x < limit

@@ -1,6 +1,6 @@
 ghost use Rattle.std.specs.Prelude.{◌≡◌, ◌<◌, ◌≤◌, ◌+◌, ◌^◌, ◌-◌, ◌*◌, IfOk, IsErrOf, drop, length, pos, ◌*ℤ◌, ◌+ℤ◌, FitsSigned, unsigned_abs};
 ghost use Rattle.std.specs.Int.{w64};
-ghost use Rattle.ff_flac_frame.specs.Facts.{InDepth};
+ghost use Rattle.ff_values.specs.Audio.{FitsBits};
 ghost use Rattle.ff_flac_dec.specs.Values.{weighted, linear, restored, AllInDepth};
 
 use crate::end::DecodeEnd;
@@ -9,8 +9,8 @@ use std::alloc::Global;
 
 /// A coefficient times a sample.
 fn product(c: &i32, x: &i32) -> i64
-    requires coefficient { InDepth 15 c.now }
-    requires sample { InDepth 25 x.now }
+    requires coefficient { FitsBits 15 c.now }
+    requires sample { FitsBits 25 x.now }
     ensures value { result ≡ c.now *ℤ x.now }
     ensures bound { unsigned_abs result ≤ 2 ^ 38 }
 {

@@ -1,6 +1,6 @@
 ghost use Rattle.std.specs.Prelude.{◌≡◌, ◌<◌, ◌≤◌, ◌+◌, ◌∷◌, [], IfOk, IfErr, IsErrOf, length, pos, map, FitsSigned};
 ghost use Rattle.std.specs.Int.{w64};
-ghost use Rattle.ff_flac_frame.specs.Facts.{InDepth};
+ghost use Rattle.ff_values.specs.Audio.{FitsBits};
 ghost use Rattle.ff_flac_dec.specs.Values.{AllInDepth};
 ghost use Rattle.ff_flac_dec.specs.Channels.{both, left_right, AllChannels};
 ghost use Rattle.ff_flac_dec.specs.Joins.{joins, items_of};
@@ -24,8 +24,8 @@ pub enum Join {
 
 /// A sample of a channel that is made of two.
 fn joined(join: Join, x: &i32, y: &i32) -> i64
-    requires first { InDepth 25 x.now }
-    requires second { InDepth 25 y.now }
+    requires first { FitsBits 25 x.now }
+    requires second { FitsBits 25 y.now }
     ensures value { result ≡ joins join x.now y.now }
     ensures fits { FitsSigned w64 result }
 {

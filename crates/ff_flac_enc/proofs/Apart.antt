@@ -11,7 +11,8 @@ use Rattle.std.proofs.lemmas.List.Elements.{All-get_or, All-same, All-from_recur
 use Rattle.std.proofs.Math.Nat.{div-mul-le_self, mul-le-mul_right, le-div_iff_mul-le, div-le_of_le-mul}
 use Rattle.ff_flac_rice.specs.Least.{least}
 use Rattle.ff_flac_rice.proofs.LeastLemmas.{pick_is, range_more}
-use Rattle.ff_flac_sub.specs.Subframe.{Spelling, subframe_bits, candidates, magnitude, fixed_of, predictors, all_are, first_or_zero}
+use Rattle.ff_values.specs.Audio.{FitsBits}
+use Rattle.ff_flac_sub.specs.Subframe.{Spelling, subframe_bits, candidates, fixed_of, predictors, all_are, first_or_zero}
 use Rattle.ff_flac_sub.specs.Subframe.Spelling.{constant, verbatim}
 use Rattle.ff_flac_sub.specs.Plan.{size}
 use Rattle.ff_flac_enc.specs.Layout.{signal, signals, joined, bodies, forms, layouts, layouts_with, layout_size, body, Layout}
@@ -170,13 +171,13 @@ unfolding channels_in
 two_is samples l r h g = ap (λ xs. xs ∷ r ∷ []) h ∙ ap (λ xs. channel_of 2 samples 0 ∷ xs ∷ []) g
 
 pub can_write : (bits n c : ℕ) (samples xs : List ℤ) → xs ≡ channel_of n samples c → 0 < n → c < n → 0 < bits → bits ≤ 24 → n ≤ length samples → length samples ≤ 4096 * n
-    → All (λ x. magnitude x < 2 ^ (bits - 1)) samples → CanWrite bits xs
+    → All (FitsBits bits) samples → CanWrite bits xs
 can_write bits n c samples xs e h l b d m k f = record {
   some_samples = some_in_channel n c samples xs e h m;
   len = few_in_channel n c samples xs e k;
   positive = b;
   within = omega (arith, d);
-  fits = channel_all (λ x. magnitude x < 2 ^ (bits - 1)) n c samples xs e l f;
+  fits = channel_all (FitsBits bits) n c samples xs e l f;
 }
 
 pub if_ok : {A E : Type 0} (P Q : A → Type 0) (r : Result A E) → ((a : A) → P a → Q a) → IfOk r P → IfOk r Q

@@ -4,6 +4,7 @@ use Rattle.std.specs.List.{flat_map, All, AllByRecursion}
 use Rattle.std.proofs.lemmas.List.{length-append, append-nil, append_assoc}
 use Rattle.std.proofs.lemmas.Bool.Decides.{nat_tests}
 use Rattle.ff_flac_rice.specs.Least.{choose, least}
+use Rattle.ff_values.specs.Audio.{FitsBits}
 use Rattle.ff_flac_sub.specs.Subframe.{Spelling, subframe_bits, candidates, magnitude}
 use Rattle.ff_flac_sub.specs.Plan.{size, spelling_of}
 use Rattle.ff_flac_sub.specs.declared.subframe.Planned.{Planned}
@@ -20,7 +21,7 @@ use Rattle.ff_flac_enc.specs.Layout.{Signal, forms, signals, products, bodies, L
 use Rattle.std.specs.Prelude.{Result, Ok, Err, OnOk, ◌+ℤ◌, ◌-ℤ◌, ◌<ℤ◌, ◌≤ℤ◌, neg_ℤ}
 use Rattle.std.proofs.lemmas.Int.{ints}
 use Rattle.std.proofs.lemmas.List.Elements.{All-same, All-from_recursion, recursion_from_All}
-use Rattle.ff_flac_sub.proofs.Predict.{step_small, above, from_below, between}
+use Rattle.ff_flac_sub.proofs.Predict.{magnitude_of, fits_of, step_small, above, from_below, between}
 
 -- each signal is best written so
 abbrev pub AreBest : List Signal → List Spelling → Type 0
@@ -152,17 +153,22 @@ length-both f [] ys e = refl
 length-both f (x ∷ xs) [] e = absurd (omega arith)
 length-both f (x ∷ xs) (y ∷ ys) e = ap suc (length-both f xs ys (omega arith))
 
-pub mid_small : (m : ℕ) (xs ys mids : List ℤ) → mids ≡ mid_of xs ys → All (λ x. magnitude x < m) xs → All (λ x. magnitude x < m) ys → All (λ x. magnitude x < m) mids
+pub mid_small : (bits : ℕ) (xs ys mids : List ℤ) → mids ≡ mid_of xs ys → All (FitsBits bits) xs → All (FitsBits bits) ys → All (FitsBits bits) mids
 unfolding mid_of
-mid_small m xs ys mids e h g =
-    All-same (λ x. magnitude x < m) mids (mid_of xs ys) e
-    (zip_all (λ x. magnitude x < m) (λ x. magnitude x < m) (λ x y. half (x +ℤ y)) (λ x y a b. half_small m (x +ℤ y) (sum_small m x y a b)) xs ys h g)
+mid_small bits xs ys mids e h g =
+    let m : ℕ = 2 ^ (bits - 1) in
+    All-same (FitsBits bits) mids (mid_of xs ys) e
+    (zip_all (FitsBits bits) (FitsBits bits) (λ x y. half (x +ℤ y)) (λ x y a b. fits_of bits (half (x +ℤ y)) (half_small m (x +ℤ y) (sum_small m x y (magnitude_of bits x a) (magnitude_of bits y b)))) xs ys h g)
 
-pub side_small : (m : ℕ) (xs ys sides : List ℤ) → sides ≡ side_of xs ys → All (λ x. magnitude x < m) xs → All (λ x. magnitude x < m) ys → All (λ x. magnitude x < 2 * m) sides
+pub side_small : (bits : ℕ) (xs ys sides : List ℤ) → 0 < bits → sides ≡ side_of xs ys → All (FitsBits bits) xs → All (FitsBits bits) ys → All (FitsBits (bits + 1)) sides
 unfolding side_of
-side_small m xs ys sides e h g =
-    All-same (λ x. magnitude x < 2 * m) sides (side_of xs ys) e
-    (zip_all (λ x. magnitude x < m) (λ x. magnitude x < 2 * m) (λ x y. x -ℤ y) (λ x y a b. step_small m y x b a) xs ys h g)
+side_small bits xs ys sides some e h g =
+    let m : ℕ = 2 ^ (bits - 1) in
+    let b : suc (bits - 1) ≡ bits + 1 - 1 = omega (arith, some) in
+    let p : 2 * m ≡ 2 ^ (bits + 1 - 1) = omega (arith, pow-suc 2 (bits - 1)) ∙ ap (λ k. 2 ^ k) b in
+    All-same (FitsBits (bits + 1)) sides (side_of xs ys) e
+    (zip_all (FitsBits bits) (FitsBits (bits + 1)) (λ x y. x -ℤ y)
+    (λ x y a b. fits_of (bits + 1) (x -ℤ y) (subst (λ (k : ℕ). magnitude (x -ℤ y) < k) p (step_small m y x (magnitude_of bits y b) (magnitude_of bits x a)))) xs ys h g)
 
 pub length_mid : (xs ys mids : List ℤ) → mids ≡ mid_of xs ys → length xs ≡ length ys → length mids ≡ length xs
 unfolding mid_of
@@ -189,23 +195,21 @@ can_mid bits xs ys mids h g l e =
       len = omega (arith, n, h.len);
       positive = h.positive;
       within = h.within;
-      fits = mid_small (2 ^ (bits - 1)) xs ys mids e h.fits g.fits;
+      fits = mid_small bits xs ys mids e h.fits g.fits;
     }
 
 pub can_side : (bits : ℕ) (xs ys sides : List ℤ) → bits ≤ 24 → CanWrite bits xs → CanWrite bits ys → length xs ≡ length ys → sides ≡ side_of xs ys → CanWrite (bits + 1) sides
 can_side bits xs ys sides w h g l e =
     let n : length sides ≡ length xs = length_side xs ys sides e l in
-    let b : suc (bits - 1) ≡ bits + 1 - 1 = omega (arith, h.positive) in
-    let p : 2 * 2 ^ (bits - 1) ≡ 2 ^ (bits + 1 - 1) = omega (arith, pow-suc 2 (bits - 1)) ∙ ap (λ k. 2 ^ k) b in
     record {
       some_samples = omega (arith, n, h.some_samples);
       len = omega (arith, n, h.len);
       positive = omega arith;
       within = omega (arith, w);
-      fits = subst (λ m. All (λ x. magnitude x < m) sides) p (side_small (2 ^ (bits - 1)) xs ys sides e h.fits g.fits);
+      fits = side_small bits xs ys sides h.positive e h.fits g.fits;
     }
 
-pub small_channel : (bits : ℕ) (xs : List ℤ) → CanWrite bits xs → All (λ x. magnitude x < 2 ^ 24) xs
+pub small_channel : (bits : ℕ) (xs : List ℤ) → CanWrite bits xs → All (FitsBits 25) xs
 small_channel bits xs h = first_small bits xs h.within h.fits
 
 -- ---- the best of the four forms

@@ -21,7 +21,8 @@ use Rattle.ff_flac_rice.proofs.ReadsRice.{all-map, all-flat_map, all-weaker}
 use Rattle.ff_flac_dec.specs.Values.{channel_samples}
 use Rattle.ff_flac_sub.specs.Subframe.{Spelling, subframe_bits, candidates}
 use Rattle.ff_flac_sub.specs.Part.{part_for}
-use Rattle.ff_flac_sub.proofs.ReadsSub.{Fits, IsReadBack, candidates_read}
+use Rattle.ff_values.specs.Audio.{FitsBits}
+use Rattle.ff_flac_sub.proofs.ReadsSub.{IsReadBack, candidates_read}
 use Rattle.ff_flac_sub.proofs.Restored.{StandsFor, candidates_stand}
 use Rattle.ff_flac_enc.specs.declared.head.Head.{Head}
 use Rattle.ff_flac_enc.specs.Head.{IsHead, block_code, block_bits_by, rate_code, depth_code, codes_bits, header_bits, opened, closed, filled}
@@ -122,7 +123,7 @@ pub record IsSignal (block : ℕ) (x : Signal) : Type 0 where
   pub within : x.depth ≤ 25
   pub some_samples : 0 < block
   pub count : length x.samples ≡ block
-  pub fits : AllByRecursion (Fits x.depth) x.samples
+  pub fits : AllByRecursion (FitsBits x.depth) x.samples
 
 pub parts_for : List Signal → List Spelling → List Part
 parts_for [] ss = []

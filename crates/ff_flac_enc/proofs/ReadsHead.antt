@@ -1,21 +1,16 @@
 -- A header that was written is read back.
 use Rattle.std.proofs.Common.{◌≡◌, ℕ, zero, suc, ◌+◌, ◌-◌, ◌*◌, ◌^◌, ◌<◌, ◌≤◌, Bool, true, false, cond, eqb, ltb, leb, ◌&&◌, List, [], ◌++◌, length, refl, sym, ap, subst, ◌∙◌, arith, length-append, append_assoc, inl, inr}
-use Rattle.std.proofs.lemmas.Bool.{lt-ltb, eqb-true, leb-true, or_cases, or_left, or_right, and_parts, and_from}
-use Rattle.std.proofs.lemmas.Bool.Decides.{nat_tests}
+use Rattle.std.proofs.lemmas.Bool.{lt-ltb, eqb-true, leb-true}
 use Rattle.ff_bits.specs.Bits.{bits_of}
-use Rattle.ff_bits.specs.Number.{shortest, code_with, capacity, fewest, first_byte, further_bytes}
-use Rattle.ff_bits.specs.NumberGrammar.{is_within, follow, opened as opened_byte, first, sixes, coded, coded_below}
-use Rattle.ff_bits.specs.Reading.{Reader, Answer, ◌>>=◌, on, give, field}
-use Rattle.ff_bits.proofs.LawLemmas.{shortest_is_code}
-use Rattle.ff_bits.proofs.FirstByte.{mark, room, first_is, first_bits, high_part, opened_by, length-first_byte}
-use Rattle.ff_bits.proofs.OneByte.{field-byte}
-use Rattle.ff_bits.proofs.NumberLemmas.{coded-forward}
+use Rattle.ff_bits.specs.Number.{shortest}
+use Rattle.ff_bits.specs.NumberGrammar.{coded_below, of_31_bits}
+use Rattle.ff_bits.specs.Reading.{◌>>=◌, give, field}
+use Rattle.ff_bits.proofs.NumberBelow.{reads_31}
 use Rattle.ff_flac_frame.specs.Codes.{any, not_zero, rate_fits, depth_fits}
 use Rattle.ff_flac_frame.specs.Frame.{block_of, rate_of}
 use Rattle.ff_flac_rice.specs.Spells.{Reads}
-use Rattle.ff_flac_rice.proofs.ReadsBack.{reads-map, reads-bits, reads-value, reads-field}
+use Rattle.ff_flac_rice.proofs.ReadsBack.{reads-map, reads-value, reads-field}
 use Rattle.ff_flac_enc.specs.Head.{block_code, block_bits_by, rate_code, depth_code}
-use Rattle.ff_flac_enc.proofs.HeadLemmas.{length-further_bytes}
 
 -- ---- the codes
 
@@ -101,48 +96,5 @@ depth_code_is bits =
 
 -- ---- the number
 
-within_fe : (b : ℕ) → is_within 0x80 0xc0 0xff b ≡ true → b < 0xfe → is_within 0x80 0xc0 0xfe b ≡ true
-within_fe b h l = elim (or_cases (ltb b 0x80) (ltb b 0xff && leb 0xc0 b) h) [
-  | inl low ↦ or_left (ltb b 0x80) (ltb b 0xfe && leb 0xc0 b) low
-  | inr high ↦ or_right (ltb b 0x80) (ltb b 0xfe && leb 0xc0 b) (and_from (ltb b 0xfe) (leb 0xc0 b) (lt-ltb b 0xfe l) (and_parts (ltb b 0xff) (leb 0xc0 b) high).1)
-]
-
-first_low : (k b x : ℕ) → k ≤ 5 → b ≡ mark k + x → x < 2 ^ room k → b < 0xfe
-first_low zero b x h e l = omega arith
-first_low (suc zero) b x h e l = omega arith
-first_low (suc (suc zero)) b x h e l = omega arith
-first_low (suc (suc (suc zero))) b x h e l = omega arith
-first_low (suc (suc (suc (suc zero)))) b x h e l = omega arith
-first_low (suc (suc (suc (suc (suc zero))))) b x h e l = omega arith
-first_low (suc (suc (suc (suc (suc (suc k)))))) b x h e l = absurd (omega arith)
-
-reads-code : (k v : ℕ) → k ≤ 5 → v < 2 ^ capacity k → Reads (coded_below 0xfe) (code_with k v) v
-unfolding coded coded_below
-reads-code k v h l rest =
-    let b : ℕ = mark k + high_part k v in
-    let six : k ≤ 6 = omega arith in
-    let o = opened_by k v six l in
-    let f = first_is b k (high_part k v) o in
-    let more : List Bool = further_bytes k v ++ rest in
-    let F : ℕ → Reader ℕ = λ byte. sixes (follow byte) (opened_byte byte) in
-    let low : b < 0xfe = first_low k b (high_part k v) h o.whole o.small in
-    let text : code_with k v ++ rest ≡ bits_of 8 b ++ more = ap (λ (ys : List Bool). (ys ++ further_bytes k v) ++ rest) (first_bits b k v o) ∙ append_assoc (bits_of 8 b) (further_bytes k v) rest in
-    let got = field-byte (is_within 0x80 0xc0 0xff) b more f.1 f.0 in
-    let got_low = field-byte (is_within 0x80 0xc0 0xfe) b more f.1 (within_fe b f.0 low) in
-    ap (λ (xs : List Bool). on (field 8 (is_within 0x80 0xc0 0xfe) xs) F) text ∙ ap (λ (a : Answer ℕ). on a F) got_low
-    ∙ sym (ap (λ (xs : List Bool). on (first xs) F) text ∙ ap (λ (a : Answer ℕ). on a F) got)
-    ∙ coded-forward k v rest six l
-
-fewest_low : (v : ℕ) → v < 2 ^ 31 → fewest v ≤ 5
-fewest_low v h = grind (arith, nat_tests)
-
-length-code : (k v : ℕ) → k ≤ 6 → length (code_with k v) ≡ 8 + 8 * k
-length-code k v h = length-append (first_byte k v) (further_bytes k v) ∙ omega (arith, length-first_byte k v h, length-further_bytes k v)
-
-pub reads-number : (v : ℕ) → v < 2 ^ 31 → Reads (coded_below 0xfe) (shortest v) v
-unfolding shortest
-reads-number v h =
-    let c = shortest_is_code v (omega (arith, h)) in
-    let f : fewest v ≤ 5 = fewest_low v h in
-    let few : c.0 ≤ 5 = omega (arith, ap length c.3, length-code (fewest v) v (omega arith), length-code c.0 v c.1, f) in
-    reads-bits (coded_below 0xfe) (code_with c.0 v) (code_with (fewest v) v) v c.3 (reads-code c.0 v few c.2)
+pub reads-number : (v : ℕ) → v < 2 ^ 31 → Reads (coded_below of_31_bits) (shortest v) v
+reads-number v h rest = reads_31 v rest h

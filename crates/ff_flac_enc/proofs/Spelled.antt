@@ -6,7 +6,7 @@ use Rattle.std.proofs.Math.Nat.{pow-suc, mul-div_cancel, mul-le-mul_right, div-l
 use Rattle.std.proofs.lemmas.Bool.{lt-ltb, eq-eqb, eqb-true, or_left, and_from}
 use Rattle.std.proofs.lemmas.List.{length-take, length-drop, get_or-take, get_or-drop, drop-drop, drop_at, take_all}
 use Rattle.std.proofs.lemmas.List.FromFn.{fill_by_all, get_or-map-range_with_len}
-use Rattle.std.proofs.lemmas.List.Elements.{recursion_from_All, All-weaker}
+use Rattle.std.proofs.lemmas.List.Elements.{recursion_from_All}
 use Rattle.std.proofs.lemmas.Simd.{map-map}
 use Rattle.std.proofs.Math.Seq.{take-add}
 use Rattle.ff_bits.specs.Bits.{bits as bits_in}
@@ -22,7 +22,6 @@ use Rattle.ff_flac_rice.specs.Least.{least}
 use Rattle.ff_flac_rice.specs.Spells.{Reads}
 use Rattle.ff_flac_rice.proofs.LeastLemmas.{least_holds}
 use Rattle.ff_flac_rice.proofs.ReadsRice.{all-map, all-flat_map, all-weaker}
-use Rattle.ff_flac_sub.specs.Subframe.{magnitude}
 use Rattle.ff_flac_enc.specs.declared.head.Head.{Head}
 use Rattle.ff_flac_enc.specs.Head.{IsHead, opened, closed}
 use Rattle.ff_flac_enc.specs.Layout.{Signal, signal, signals, mid_of, side_of, products, bodies, Layout, layouts, layouts_with, layout_size, forms, body}
@@ -79,7 +78,7 @@ module _ (n : ℕ) (samples : List ℤ) (block : ℕ) (whole : length samples �
 
 record IsChannel (bits block : ℕ) (xs : List ℤ) : Type 0 where
   pub count : length xs ≡ block
-  pub fits : All (λ x. magnitude x < 2 ^ (bits - 1)) xs
+  pub fits : All (FitsBits bits) xs
 
 pub record IsForm (bits block : ℕ) (channels : List (List ℤ)) (form : ℕ) : Type 0 where
   pub small : form < 16
@@ -93,8 +92,8 @@ record IsSize (bits block : ℕ) : Type 0 where
   pub within : bits ≤ 24
   pub some_samples : 0 < block
 
-signal_is : (bits block depth : ℕ) (xs : List ℤ) → IsSize bits block → 0 < depth → depth ≤ 25 → length xs ≡ block → All (λ x. magnitude x < 2 ^ (depth - 1)) xs → IsSignal block (signal depth xs)
-signal_is bits block depth xs s p w n f = record { positive = p; within = w; some_samples = s.some_samples; count = n; fits = recursion_from_All (λ x. magnitude x < 2 ^ (depth - 1)) xs f }
+signal_is : (bits block depth : ℕ) (xs : List ℤ) → IsSize bits block → 0 < depth → depth ≤ 25 → length xs ≡ block → All (FitsBits depth) xs → IsSignal block (signal depth xs)
+signal_is bits block depth xs s p w n f = record { positive = p; within = w; some_samples = s.some_samples; count = n; fits = recursion_from_All (FitsBits depth) xs f }
 
 channel_signal : (bits block : ℕ) (xs : List ℤ) → IsSize bits block → IsChannel bits block xs → IsSignal block (signal bits xs)
 channel_signal bits block xs s h = signal_is bits block bits xs s s.positive (omega (arith, s.within)) h.count h.fits
@@ -102,15 +101,12 @@ channel_signal bits block xs s h = signal_is bits block bits xs s s.positive (om
 mid_signal : (bits block : ℕ) (l r : List ℤ) → IsSize bits block → IsChannel bits block l → IsChannel bits block r → IsSignal block (signal bits (mid_of l r))
 mid_signal bits block l r s h g =
     let n : length (mid_of l r) ≡ block = length_mid l r (mid_of l r) refl (h.count ∙ sym g.count) ∙ h.count in
-    signal_is bits block bits (mid_of l r) s s.positive (omega (arith, s.within)) n (mid_small (2 ^ (bits - 1)) l r (mid_of l r) refl h.fits g.fits)
+    signal_is bits block bits (mid_of l r) s s.positive (omega (arith, s.within)) n (mid_small bits l r (mid_of l r) refl h.fits g.fits)
 
 side_signal : (bits block : ℕ) (l r : List ℤ) → IsSize bits block → IsChannel bits block l → IsChannel bits block r → IsSignal block (signal (bits + 1) (side_of l r))
 side_signal bits block l r s h g =
     let n : length (side_of l r) ≡ block = length_side l r (side_of l r) refl (h.count ∙ sym g.count) ∙ h.count in
-    let b : suc (bits - 1) ≡ bits + 1 - 1 = omega (arith, s.positive) in
-    let p : 2 * 2 ^ (bits - 1) ≡ 2 ^ (bits + 1 - 1) = omega (arith, pow-suc 2 (bits - 1)) ∙ ap (λ (k : ℕ). 2 ^ k) b in
-    signal_is bits block (bits + 1) (side_of l r) s (omega arith) (omega (arith, s.within)) n
-    (subst (λ (m : ℕ). All (λ x. magnitude x < m) (side_of l r)) p (side_small (2 ^ (bits - 1)) l r (side_of l r) refl h.fits g.fits))
+    signal_is bits block (bits + 1) (side_of l r) s (omega arith) (omega (arith, s.within)) n (side_small bits l r (side_of l r) s.positive refl h.fits g.fits)
 
 -- the four codes of two channels
 module _ (bits block : ℕ) (l r : List ℤ) (s : IsSize bits block) (h : IsChannel bits block l) (g : IsChannel bits block r) where
@@ -215,10 +211,6 @@ layouts_good bits block channels s n few h =
     (all-weaker (IsForm bits block channels) (λ form. AllByRecursion (IsGood bits block channels) (layouts_with bits channels form)) (λ form f. good_with bits block channels form f)
     (forms (length channels)) (forms_are bits block channels s n few h))
 
-fits_is : (bits : ℕ) (x : ℤ) → FitsBits bits x → magnitude x < 2 ^ (bits - 1)
-fits_is bits (pos n) h = h
-fits_is bits (negsuc n) h = h
-
 module _ (a : AFrame) (number : ℕ) (is : IsBlock a) where
   n : ℕ
   n = a.channels
@@ -250,16 +242,13 @@ module _ (a : AFrame) (number : ℕ) (is : IsBlock a) where
       let le : length a.samples ≤ a.channels * 4096 = omega (arith, is.few_samples) in
       div-le_of_le-mul a.channels le
 
-  fits_all : All (λ x. magnitude x < 2 ^ (a.bits - 1)) a.samples
-  fits_all = All-weaker (FitsBits a.bits) (λ x. magnitude x < 2 ^ (a.bits - 1)) (fits_is a.bits) a.samples is.sound.within_bits
-
   channels_are : AllByRecursion (IsChannel a.bits block) chs
   unfolding chs channels_in block
   channels_are =
       all-map (IsChannel a.bits (length a.samples / a.channels)) (channel_of a.channels a.samples) (range_with_len 0 a.channels)
       (all_range (λ c. IsChannel a.bits (length a.samples / a.channels) (channel_of a.channels a.samples c)) 0 a.channels (λ c g l. record {
         count = length-channel_of a.channels c a.samples;
-        fits = channel_all (λ x. magnitude x < 2 ^ (a.bits - 1)) a.channels c a.samples (channel_of a.channels a.samples c) refl (omega (arith, l)) fits_all;
+        fits = channel_all (FitsBits a.bits) a.channels c a.samples (channel_of a.channels a.samples c) refl (omega (arith, l)) is.sound.within_bits;
       }))
 
   count_chs : length chs ≡ a.channels

@@ -1,7 +1,8 @@
-use Rattle.std.specs.Prelude.{◌≡◌, ℕ, ℤ, Some, ◌-◌, ◌^◌, ◌<◌, ◌≤◌, List, length}
+use Rattle.std.specs.Prelude.{◌≡◌, ℕ, ℤ, Some, ◌^◌, ◌<◌, ◌≤◌, List, length}
 use Rattle.std.specs.List.{All}
+use Rattle.ff_values.specs.Audio.{FitsBits}
 use Rattle.ff_flac_rice.specs.Least.{least}
-use Rattle.ff_flac_sub.specs.Subframe.{magnitude, candidates}
+use Rattle.ff_flac_sub.specs.Subframe.{candidates}
 use Rattle.ff_flac_sub.specs.Plan.{spelling_of, size, PlanFits}
 use Rattle.ff_flac_sub.specs.declared.subframe.Planned.{Planned}
 
@@ -11,7 +12,7 @@ pub record CanWrite (depth : ℕ) (xs : List ℤ) : Type 0 where
   pub len : length xs ≤ 4096
   pub positive : 0 < depth
   pub within : depth ≤ 25
-  pub fits : All (λ x. magnitude x < 2 ^ (depth - 1)) xs
+  pub fits : All (FitsBits depth) xs
 
 -- the plan of the least spelling
 pub record IsLeast (depth : ℕ) (xs : List ℤ) (p : Planned) : Type 0 where

@@ -1,10 +1,10 @@
 -- What is known of a coded stream once it has ended (RFC 9639, section 8.2).
-use Rattle.std.specs.Prelude.{◌≡◌, ◌≢◌, ℕ, zero, suc, ℤ, pos, negsuc, ◌+◌, ◌-◌, ◌*◌, ◌/◌, ◌%◌, ◌^◌, min, max, List, [], ◌∷◌, length, map, Option, Some, None}
+use Rattle.std.specs.Prelude.{◌≡◌, ◌≢◌, ℕ, ℤ, ◌+◌, ◌*◌, ◌/◌, min, max, List, [], ◌∷◌, length, map, Option, Some, None}
 use Rattle.std.specs.List.{flat_map, sum_by}
 use Rattle.md5.specs.Md5.{md5, Holds}
+use Rattle.ff_bits.specs.Integers.{unsigned, number_bytes}
 use Rattle.ff_values.specs.declared.audio.AFrame.{AFrame}
 use Rattle.ff_values.specs.declared.totals.Totals.{Totals}
-use Rattle.ff_flac_sub.specs.Subframe.{code}
 use Rattle.ff_flac_enc.specs.declared.counter.Counter.{Counter}
 use Rattle.ff_flac_enc.specs.declared.counter.Sizes.{Sizes}
 
@@ -23,14 +23,9 @@ sample_frames f = length f.samples / f.channels
 abbrev pub width_of : ℕ → ℕ
 width_of bits = (bits + 7) / 8
 
--- so many bytes of a number, the lowest first
-abbrev pub number_bytes : ℕ → ℕ → List ℕ
-number_bytes zero n = []
-number_bytes (suc count) n = n % 256 ∷ number_bytes count (n / 256)
-
 -- a sample in so many bytes, as two's complement
 abbrev pub sample_bytes : ℕ → ℤ → List ℕ
-sample_bytes width sample = number_bytes width (code (8 * width) sample)
+sample_bytes width sample = number_bytes width (unsigned (8 * width) sample)
 
 abbrev pub samples_bytes : ℕ → List ℤ → List ℕ
 samples_bytes width samples = flat_map (sample_bytes width) samples

@@ -2,8 +2,8 @@
 
 ghost use Rattle.std.specs.Prelude.{◌≡◌, ◌+◌, ◌-◌, ◌*◌, ◌/◌, ◌^◌, ◌<◌, ◌≤◌, ◌≢◌, ◌++◌, length, map, IfOk, OnOk, All, Some};
 ghost use Rattle.std.specs.List.{flat_map, range_with_len};
+ghost use Rattle.ff_values.specs.Audio.{FitsBits};
 ghost use Rattle.ff_flac_rice.specs.Least.{least};
-ghost use Rattle.ff_flac_sub.specs.Subframe.{magnitude};
 ghost use Rattle.ff_flac_enc.specs.Head.{IsHead, opened};
 ghost use Rattle.ff_flac_enc.specs.Layout.{Layout, layouts, layout_size, body};
 ghost use Rattle.ff_flac_enc.specs.Channels.{channel_of, channels_in, best_bits};
@@ -49,7 +49,7 @@ fn write_channel(
     requires few_bits { bits ≤ 24 }
     requires some_samples { n ≤ length samples.now }
     requires few_samples { length samples.now ≤ 4096 * n }
-    requires fits { All (λ x. magnitude x < 2 ^ (bits - 1)) samples.now }
+    requires fits { All (FitsBits bits) samples.now }
     ensures { OnOk result (out.new ≡ out.old ++ best_bits bits (channel_of n samples.now c)) }
 {
     let samples = channel(alloc, samples, n, c)?;
@@ -71,7 +71,7 @@ fn write_channels(
     requires few_bits { bits ≤ 24 }
     requires some_samples { n ≤ length samples.now }
     requires few_samples { length samples.now ≤ 4096 * n }
-    requires fits { All (λ x. magnitude x < 2 ^ (bits - 1)) samples.now }
+    requires fits { All (FitsBits bits) samples.now }
     ensures { OnOk result (out.new ≡ out.old ++ flat_map (λ c. best_bits bits (channel_of n samples.now c)) (range_with_len 0 n)) }
 {
     for c in 0..n {
@@ -96,7 +96,7 @@ fn write_apart(
     requires few_bits { bits ≤ 24 }
     requires some_samples { n ≤ length samples.now }
     requires few_samples { length samples.now ≤ 4096 * n }
-    requires fits { All (λ x. magnitude x < 2 ^ (bits - 1)) samples.now }
+    requires fits { All (FitsBits bits) samples.now }
     ensures { IfOk result (λ out. (y : Layout) × (least (layout_size bits (channels_in n samples.now)) (layouts bits (channels_in n samples.now)) ≡ Some y)
         × (out ≡ opened head.now y.form ++ body bits (channels_in n samples.now) y)) }
 {
@@ -117,7 +117,7 @@ fn write_two(
     requires few_bits { bits ≤ 24 }
     requires some_samples { 2 ≤ length samples.now }
     requires few_samples { length samples.now ≤ 4096 * 2 }
-    requires fits { All (λ x. magnitude x < 2 ^ (bits - 1)) samples.now }
+    requires fits { All (FitsBits bits) samples.now }
     ensures { IfOk result (λ out. (y : Layout) × (least (layout_size bits (channels_in 2 samples.now)) (layouts bits (channels_in 2 samples.now)) ≡ Some y)
         × (out ≡ opened head.now y.form ++ body bits (channels_in 2 samples.now) y)) }
 {
@@ -141,7 +141,7 @@ fn write_body(
     requires few_bits { bits ≤ 24 }
     requires some_samples { n ≤ length samples.now }
     requires few_samples { length samples.now ≤ 4096 * n }
-    requires fits { All (λ x. magnitude x < 2 ^ (bits - 1)) samples.now }
+    requires fits { All (FitsBits bits) samples.now }
     ensures { IfOk result (λ out. (y : Layout) × (least (layout_size bits (channels_in n samples.now)) (layouts bits (channels_in n samples.now)) ≡ Some y)
         × (out ≡ opened head.now y.form ++ body bits (channels_in n samples.now) y)) }
 {

@@ -1,22 +1,22 @@
 //! The middle and the difference of two channels.
 
 ghost use Rattle.std.specs.Prelude.{◌≡◌, ◌+◌, ◌-◌, ◌^◌, ◌<◌, ◌≤◌, ◌+ℤ◌, ◌-ℤ◌, length, IfOk, All};
-ghost use Rattle.ff_flac_sub.specs.Subframe.{magnitude};
+ghost use Rattle.ff_values.specs.Audio.{FitsBits};
 ghost use Rattle.ff_flac_enc.specs.Layout.{half, mid_of, side_of};
 
 use std::alloc::{AllocError, Global};
 
 fn middle(x: i32, y: i32) -> i32
-    requires x { magnitude x < 2 ^ 24 }
-    requires y { magnitude y < 2 ^ 24 }
+    requires x { FitsBits 25 x }
+    requires y { FitsBits 25 y }
     ensures { result ≡ half (x +ℤ y) }
 {
     (x + y) >> 1
 }
 
 fn difference(x: i32, y: i32) -> i32
-    requires x { magnitude x < 2 ^ 24 }
-    requires y { magnitude y < 2 ^ 24 }
+    requires x { FitsBits 25 x }
+    requires y { FitsBits 25 y }
     ensures { result ≡ x -ℤ y }
 {
     x - y
@@ -24,8 +24,8 @@ fn difference(x: i32, y: i32) -> i32
 
 /// The middle of two channels.
 pub fn mid_samples(alloc: Global, left: &[i32], right: &[i32]) -> Result<Vec<i32>, AllocError>
-    requires left { All (λ x. magnitude x < 2 ^ 24) left.now }
-    requires right { All (λ x. magnitude x < 2 ^ 24) right.now }
+    requires left { All (FitsBits 25) left.now }
+    requires right { All (FitsBits 25) right.now }
     requires len { length left.now ≡ length right.now }
     ensures { IfOk result (λ v. v.items ≡ mid_of left.now right.now) }
 {
@@ -38,8 +38,8 @@ pub fn mid_samples(alloc: Global, left: &[i32], right: &[i32]) -> Result<Vec<i32
 
 /// The difference of two channels.
 pub fn side_samples(alloc: Global, left: &[i32], right: &[i32]) -> Result<Vec<i32>, AllocError>
-    requires left { All (λ x. magnitude x < 2 ^ 24) left.now }
-    requires right { All (λ x. magnitude x < 2 ^ 24) right.now }
+    requires left { All (FitsBits 25) left.now }
+    requires right { All (FitsBits 25) right.now }
     requires len { length left.now ≡ length right.now }
     ensures { IfOk result (λ v. v.items ≡ side_of left.now right.now) }
 {

@@ -1,6 +1,7 @@
 -- The grammar of a frame is sound: more bits may make a value exactly where some do. And what holds of each frame.
 use Rattle.std.proofs.Common.{◌≡◌, ℕ, zero, suc, ◌+◌, ◌-◌, ◌*◌, ◌/◌, ◌%◌, ◌^◌, ◌<◌, ◌≤◌, Bool, true, false, cond, ◌||◌, ◌&&◌, ◌⊎◌, leb, ltb, eqb, List, [], ◌∷◌, ◌++◌, length, refl, subst, ap, ◌∙◌, arith, inl, inr, length-append}
-use Rattle.std.proofs.Common.{ℤ, pos, neg_ℤ, ◌+ℤ◌, ◌≤ℤ◌}
+use Rattle.std.proofs.Common.{ℤ, pos, negsuc, neg_ℤ, ◌-ℤ◌, ◌≤ℤ◌}
+use Rattle.std.specs.Prelude.{◌<ℤ◌}
 use Rattle.std.specs.List.{AllByRecursion}
 use Rattle.std.proofs.lemmas.Int.{ints}
 use Rattle.std.proofs.lemmas.Bool.{ltb-true, ltb-false, lt-ltb, eq-eqb, leb-true, le-leb, and_parts, and_from, eqb-true, eqb-false, or_left, or_right, ne_eqb, cases_lt, le-ltb, cond_both}
@@ -11,6 +12,7 @@ use Rattle.ff_bits.specs.Crc.{crc8_of, crc16_of}
 use Rattle.ff_bits.proofs.BitsLemmas.{digit_below}
 use Rattle.ff_bits.proofs.CrcLemmas.{IsRemainder-crc8_of, IsRemainder-crc16_of}
 use Rattle.std.proofs.lemmas.Nat.{pow_pos, div-add-mod'}
+use Rattle.ff_bits.specs.Integers.{signed}
 use Rattle.ff_bits.specs.NumberGrammar.{is_within, follow, opened, sixes, coded_below}
 use Rattle.ff_bits.specs.Reading.{Reader, Done, give, some, field, field_from, times}
 use Rattle.ff_bits.proofs.Sound.{IsSound, IsSound-give, IsSound-chain, IsSound-weaker, IsSound-field, IsSound-zeros, cond_done, cond_more_done}
@@ -18,8 +20,9 @@ use Rattle.ff_bits.proofs.SoundTexts.{IsSound-with_text, IsSound-times}
 use Rattle.ff_flac_frame.specs.declared.stream.FlacStream.{FlacStream}
 use Rattle.ff_flac_frame.specs.declared.subframe.SubKind.TheVariants.{Fixed, Lpc}
 use Rattle.ff_flac_frame.specs.Codes.{any, equal, below, sync, not_zero, block_table, rate_fits, form_fits, depth_fits, kind_fits, kind_of, order_of, warm_count, order_fits, depths}
-use Rattle.ff_flac_frame.specs.Frame.{IsStream, Part, block_of, rate_of, header, signed, sample, zigzag, residual_limit, quotient_limit, rice, partition, partitions, residual, wasted_bits, predictor, subframe, subframes, sealed_header, unpadded, padded, frame}
-use Rattle.ff_flac_frame.specs.Facts.{InDepth, IsResidual, HasShape, IsPart, AreParts, IsHeader, IsFrame}
+use Rattle.ff_flac_frame.specs.Frame.{IsStream, Part, block_of, rate_of, header, sample, zigzag, residual_limit, quotient_limit, rice, partition, partitions, residual, wasted_bits, predictor, subframe, subframes, sealed_header, unpadded, padded, frame}
+use Rattle.ff_values.specs.Audio.{FitsBits}
+use Rattle.ff_flac_frame.specs.Facts.{IsResidual, HasShape, IsPart, AreParts, IsHeader, IsFrame}
 
 -- ---- tools
 
@@ -189,32 +192,44 @@ IsSound-header s h =
 
 -- ---- samples and residuals
 
-pub signed_in : (depth v : ℕ) → v < 2 ^ depth → InDepth depth (signed depth v)
+pub fits_from : (bits : ℕ) (x : ℤ) → neg_ℤ (pos (2 ^ (bits - 1))) ≤ℤ x → x <ℤ pos (2 ^ (bits - 1)) → FitsBits bits x
+fits_from bits (pos n) low high = omega (arith, ints)
+fits_from bits (negsuc n) low high = omega (arith, ints)
+
+pub fits_low : (bits : ℕ) (x : ℤ) → FitsBits bits x → neg_ℤ (pos (2 ^ (bits - 1))) ≤ℤ x
+fits_low bits (pos n) h = omega (arith, ints)
+fits_low bits (negsuc n) h = omega (arith, ints)
+
+pub fits_high : (bits : ℕ) (x : ℤ) → FitsBits bits x → x <ℤ pos (2 ^ (bits - 1))
+fits_high bits (pos n) h = omega (arith, ints)
+fits_high bits (negsuc n) h = omega (arith, ints)
+
+pub signed_in : (depth v : ℕ) → v < 2 ^ depth → FitsBits depth (signed depth v)
 signed_in depth v h =
     let two : 2 ^ depth ≤ 2 * 2 ^ (depth - 1) = twice depth in
-    elim (ltb v (2 ^ (depth - 1))) as (λ b. ltb v (2 ^ (depth - 1)) ≡ b → InDepth depth (cond b (pos v) (neg_ℤ (pos (2 ^ depth - v))))) [
-      | true ↦ λ e. let l : v < 2 ^ (depth - 1) = ltb-true _ _ e in record { low = omega (arith, ints); high = omega (arith, ints) }
-      | false ↦ λ e. let l : 2 ^ (depth - 1) ≤ v = ltb-false _ _ e in record { low = omega (arith, ints); high = omega (arith, ints) }
+    elim (ltb v (2 ^ (depth - 1))) as (λ b. ltb v (2 ^ (depth - 1)) ≡ b → FitsBits depth (cond b (pos v) (pos v -ℤ pos (2 ^ depth)))) [
+      | true ↦ λ e. ltb-true _ _ e
+      | false ↦ λ e. let l : 2 ^ (depth - 1) ≤ v = ltb-false _ _ e in fits_from depth (pos v -ℤ pos (2 ^ depth)) (omega (arith, ints)) (omega (arith, ints))
     ] refl
   where
     twice : (d : ℕ) → 2 ^ d ≤ 2 * 2 ^ (d - 1)
     twice zero = omega arith
     twice (suc d) = let e : 2 ^ suc d ≡ 2 ^ d * 2 = pow-suc 2 d in let k : suc d - 1 ≡ d = omega arith in rw k (omega arith)
 
-pub InDepth-wider : (depth wide : ℕ) (x : ℤ) → depth ≤ wide → InDepth depth x → InDepth wide x
-InDepth-wider depth wide x le h =
+pub FitsBits-wider : (bits wide : ℕ) (x : ℤ) → bits ≤ wide → FitsBits bits x → FitsBits wide x
+FitsBits-wider bits wide x le h =
     let two : 0 < 2 = omega arith in
-    let k : depth - 1 ≤ wide - 1 = omega arith in
-    let m : 2 ^ (depth - 1) ≤ 2 ^ (wide - 1) = pow-le-pow_right two k in
-    let low : neg_ℤ (pos (2 ^ (depth - 1))) ≤ℤ x = h.low in
-    let high : (x +ℤ pos 1) ≤ℤ pos (2 ^ (depth - 1)) = h.high in
-    record { low = omega (arith, ints); high = omega (arith, ints) }
+    let k : bits - 1 ≤ wide - 1 = omega arith in
+    let m : 2 ^ (bits - 1) ≤ 2 ^ (wide - 1) = pow-le-pow_right two k in
+    let low = fits_low bits x h in
+    let high = fits_high bits x h in
+    fits_from wide x (omega (arith, ints)) (omega (arith, ints))
 
-IsResidual-in : (width : ℕ) (x : ℤ) → width < 32 → InDepth width x → IsResidual x
+IsResidual-in : (width : ℕ) (x : ℤ) → width < 32 → FitsBits width x → IsResidual x
 IsResidual-in width x le h =
-    let w = InDepth-wider width 31 x (omega arith) h in
-    let low : neg_ℤ (pos 1073741824) ≤ℤ x = w.low in
-    let high : (x +ℤ pos 1) ≤ℤ pos 1073741824 = w.high in
+    let w = FitsBits-wider width 31 x (omega arith) h in
+    let low : neg_ℤ (pos 1073741824) ≤ℤ x = fits_low 31 x w in
+    let high : x <ℤ pos 1073741824 = fits_high 31 x w in
     record { low = omega (arith, ints); high = omega (arith, ints) }
 
 zigzag_in : (u : ℕ) → u < residual_limit → IsResidual (zigzag u)
@@ -226,9 +241,9 @@ zigzag_in u h =
           let l : u / 2 + 1 ≤ 2147483647 = omega arith in record { low = omega (arith, ints); high = omega (arith, ints) }
     ] refl
 
-IsSound-sample : (depth : ℕ) → IsSound (InDepth depth) (sample depth)
+IsSound-sample : (depth : ℕ) → IsSound (FitsBits depth) (sample depth)
 unfolding sample
-IsSound-sample depth = IsSound-chain (λ v. (any v ≡ true) × (v < 2 ^ depth)) (InDepth depth) _ _ (IsSound-bounded depth any (IsSound-any depth)) (λ v h. IsSound-give (InDepth depth) (signed depth v) (signed_in depth v h.1))
+IsSound-sample depth = IsSound-chain (λ v. (any v ≡ true) × (v < 2 ^ depth)) (FitsBits depth) _ _ (IsSound-bounded depth any (IsSound-any depth)) (λ v h. IsSound-give (FitsBits depth) (signed depth v) (signed_in depth v h.1))
 
 -- so many residuals
 abbrev pub AreResiduals : ℕ → List ℤ → Type 0
@@ -268,9 +283,9 @@ IsSound-rice k =
 
 IsSound-escaped : (count width : ℕ) → width < 32 → IsSound (AreResiduals count) (times count (sample width))
 IsSound-escaped count width h =
-    IsSound-weaker (λ xs. (length xs ≡ count) × AllByRecursion (InDepth width) xs) (AreResiduals count) _
-    (λ xs g. (g.0, AllByRecursion-weaker (InDepth width) IsResidual (λ x. IsResidual-in width x h) xs g.1))
-    (IsSound-times (InDepth width) count (sample width) (IsSound-sample width))
+    IsSound-weaker (λ xs. (length xs ≡ count) × AllByRecursion (FitsBits width) xs) (AreResiduals count) _
+    (λ xs g. (g.0, AllByRecursion-weaker (FitsBits width) IsResidual (λ x. IsResidual-in width x h) xs g.1))
+    (IsSound-times (FitsBits width) count (sample width) (IsSound-sample width))
 
 IsSound-partition : (w count : ℕ) → IsSound (AreResiduals count) (partition w count)
 unfolding partition
@@ -333,7 +348,7 @@ IsSound-wasted_bits depth h =
 record IsPredictor (order : ℕ) (by : ℕ × List ℤ) : Type 0 where
   shift : by.0 ≤ 15
   count : length by.1 ≡ order
-  coefs : AllByRecursion (InDepth 15) by.1
+  coefs : AllByRecursion (FitsBits 15) by.1
 
 IsSound-predictor : (order : ℕ) → IsSound (IsPredictor order) (predictor order)
 unfolding predictor
@@ -341,11 +356,11 @@ IsSound-predictor order =
     let A = IsPredictor order in
     IsSound-chain (λ v. below 15 v ≡ true) A _ _ (IsSound-below 4 15 (omega arith)) (λ precision l.
     IsSound-chain (λ v. below 16 v ≡ true) A _ _ (IsSound-below 5 16 (omega arith)) (λ shift k.
-    IsSound-chain (λ xs. (length xs ≡ order) × AllByRecursion (InDepth (precision + 1)) xs) A _ _ (IsSound-times (InDepth (precision + 1)) order (sample (precision + 1)) (IsSound-sample (precision + 1))) (λ coefs c.
+    IsSound-chain (λ xs. (length xs ≡ order) × AllByRecursion (FitsBits (precision + 1)) xs) A _ _ (IsSound-times (FitsBits (precision + 1)) order (sample (precision + 1)) (IsSound-sample (precision + 1))) (λ coefs c.
     IsSound-give A _ (record {
       shift = (let m : shift < 16 = ltb-true _ _ k in omega arith);
       count = c.0;
-      coefs = AllByRecursion-weaker (InDepth (precision + 1)) (InDepth 15) (λ x. InDepth-wider (precision + 1) 15 x (let m : precision < 15 = ltb-true _ _ l in omega arith)) coefs c.1;
+      coefs = AllByRecursion-weaker (FitsBits (precision + 1)) (FitsBits 15) (λ x. FitsBits-wider (precision + 1) 15 x (let m : precision < 15 = ltb-true _ _ l in omega arith)) coefs c.1;
     }))))
 
 IsSound-kind : (block : ℕ) → IsSound (λ v. (kind_fits block v ≡ true) × (v < 2 ^ 6)) (field 6 (kind_fits block))
@@ -358,7 +373,7 @@ order_in block kind h = leb-true _ _ (and_parts _ _ h).1
 
 -- what a predictor and residuals there are
 abbrev ByOf : ℕ → ℕ × List ℤ → Type 0
-ByOf code by = (by.0 ≤ 15) × AllByRecursion (InDepth 15) by.1 × (ltb code 32 ≡ false → length by.1 ≡ order_of code)
+ByOf code by = (by.0 ≤ 15) × AllByRecursion (FitsBits 15) by.1 × (ltb code 32 ≡ false → length by.1 ≡ order_of code)
 
 abbrev RestOf : ℕ → ℕ → List ℤ → Type 0
 RestOf block code rest = AllByRecursion IsResidual rest × (ltb code 2 ≡ false → length rest ≡ block - order_of code)
@@ -456,7 +471,7 @@ IsSound-subframe block depth h =
     IsSound-chain (λ v. equal 0 v ≡ true) A _ _ (IsSound-equal 1 0 (omega arith)) (λ _ _.
     IsSound-chain (λ v. (kind_fits block v ≡ true) × (v < 2 ^ 6)) A _ _ (IsSound-kind block) (λ code code_ok.
     IsSound-chain (λ k. k < depth) A _ _ (IsSound-wasted_bits depth h) (λ wasted wasted_ok.
-    IsSound-chain (λ xs. (length xs ≡ warm_count block code) × AllByRecursion (InDepth (depth - wasted)) xs) A _ _ (IsSound-times (InDepth (depth - wasted)) (warm_count block code) _ (IsSound-sample (depth - wasted))) (λ warm warm_ok.
+    IsSound-chain (λ xs. (length xs ≡ warm_count block code) × AllByRecursion (FitsBits (depth - wasted)) xs) A _ _ (IsSound-times (FitsBits (depth - wasted)) (warm_count block code) _ (IsSound-sample (depth - wasted))) (λ warm warm_ok.
     IsSound-chain (ByOf code) A _ _ (IsSound-by code) (λ by by_ok.
     IsSound-chain (RestOf block code) A _ _ (IsSound-rest block code (order_in block code code_ok.0)) (λ rest rest_ok.
     IsSound-give A _ (record {

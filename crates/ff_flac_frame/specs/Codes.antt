@@ -18,13 +18,6 @@ below limit v = nat_lt v limit
 abbrev pub sync : ℕ
 sync = value_of (replicate 13 true ++ replicate 2 false)
 
--- The first byte of a coded number of at most 31 bits is below 11111110, and of one of at most 36 bits below 11111111 (section 9.1.5).
-abbrev pub of_31_bits : ℕ
-of_31_bits = 0xfe
-
-abbrev pub of_36_bits : ℕ
-of_36_bits = 0xff
-
 abbrev pub not_zero : ℕ → Bool
 not_zero v = not (v == 0)
 

@@ -1,16 +1,12 @@
 -- What holds of each frame of the grammar.
-use Rattle.std.specs.Prelude.{◌≡◌, ℕ, ◌-◌, ◌^◌, ◌<◌, ◌≤◌, true, List, [], ◌∷◌, length, ℤ, pos, neg_ℤ, ◌+ℤ◌, ◌≤ℤ◌}
+use Rattle.std.specs.Prelude.{◌≡◌, ℕ, ◌-◌, ◌<◌, ◌≤◌, true, List, [], ◌∷◌, length, ℤ, pos, neg_ℤ, ◌≤ℤ◌}
 use Rattle.std.specs.List.{AllByRecursion}
+use Rattle.ff_values.specs.Audio.{FitsBits}
 use Rattle.ff_flac_frame.specs.declared.stream.FlacStream.{FlacStream}
 use Rattle.ff_flac_frame.specs.declared.subframe.SubKind.{SubKind}
 use Rattle.ff_flac_frame.specs.declared.subframe.SubKind.TheVariants.{Constant, Verbatim, Fixed, Lpc}
 use Rattle.ff_flac_frame.specs.Codes.{form_fits, depths}
 use Rattle.ff_flac_frame.specs.Frame.{Header, Part, Frame}
-
--- a signed number of so many bits
-pub record InDepth (depth : ℕ) (x : ℤ) : Type 0 where
-  pub low : neg_ℤ (pos (2 ^ (depth - 1))) ≤ℤ x
-  pub high : (x +ℤ pos 1) ≤ℤ pos (2 ^ (depth - 1))
 
 -- from -(2^31 - 1) to 2^31 - 1
 pub record IsResidual (x : ℤ) : Type 0 where
@@ -28,8 +24,8 @@ HasShape block p Lpc = (1 ≤ p.order) × (p.order ≤ 32) × (p.order ≤ block
 pub record IsPart (block depth : ℕ) (p : Part) : Type 0 where
   pub wasted : p.wasted < depth
   pub shift : p.shift ≤ 15
-  pub coefs : AllByRecursion (InDepth 15) p.coefs
-  pub warm : AllByRecursion (InDepth (depth - p.wasted)) p.warm
+  pub coefs : AllByRecursion (FitsBits 15) p.coefs
+  pub warm : AllByRecursion (FitsBits (depth - p.wasted)) p.warm
   pub rest : AllByRecursion IsResidual p.rest
   pub shape : HasShape block p p.kind
 

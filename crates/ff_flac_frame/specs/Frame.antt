@@ -2,12 +2,13 @@
 -- it: so a reader gives no value as soon as no further bits could make one.
 use Rattle.ff_flac_frame.specs.declared.stream.FlacStream.{FlacStream}
 use Rattle.ff_flac_frame.specs.declared.subframe.SubKind.{SubKind}
-use Rattle.ff_bits.specs.NumberGrammar.{coded_below}
+use Rattle.ff_bits.specs.NumberGrammar.{coded_below, of_31_bits, of_36_bits}
 use Rattle.std.specs.Prelude.{◌≡◌, ℕ, zero, suc, ◌+◌, ◌-◌, ◌*◌, ◌/◌, ◌%◌, ◌^◌, ◌<◌, ◌≤◌, ◌==◌, nat_lt, if◌then◌else◌, List, [], ◌∷◌, ◌++◌, length, drop, slice_index, ℤ, pos, neg_ℤ}
 use Rattle.ff_bits.specs.Bits.{bits, padding}
+use Rattle.ff_bits.specs.Integers.{signed}
 use Rattle.ff_bits.specs.Reading.{Done, Reader, ◌>>=◌, give, field, zeros, with_text, times}
 use Rattle.ff_bits.specs.Crc.{crc8_of, crc16_of}
-use Rattle.ff_flac_frame.specs.Codes.{any, equal, below, sync, of_31_bits, of_36_bits, not_zero, block_table, rate_fits, form_fits, depth_fits, kind_fits, kind_of, order_of, warm_count, order_fits, depths}
+use Rattle.ff_flac_frame.specs.Codes.{any, equal, below, sync, not_zero, block_table, rate_fits, form_fits, depth_fits, kind_fits, kind_of, order_of, warm_count, order_fits, depths}
 
 -- what a stream can say
 pub record IsStream (s : FlacStream) : Type 0 where
@@ -70,10 +71,7 @@ header s = do
 
 -- ---- a subframe (section 9.2)
 
--- a number of so many bits with a sign
-abbrev pub signed : ℕ → ℕ → ℤ
-signed depth v = if nat_lt v (2 ^ (depth - 1)) then pos v else neg_ℤ (pos (2 ^ depth - v))
-
+-- a number of so many bits with a sign, in two's complement
 unfoldable pub sample : ℕ → Reader ℤ
 sample depth = field depth any >>= λ v. give (signed depth v)
 

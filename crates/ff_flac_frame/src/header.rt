@@ -1,7 +1,7 @@
 ghost use Rattle.std.specs.Prelude.{◌≡◌, ◌<◌, ◌≤◌, if◌then◌else◌, slice_index};
 ghost use Rattle.ff_bits.specs.Reading.{field, give};
-ghost use Rattle.ff_bits.specs.NumberGrammar.{coded_below};
-ghost use Rattle.ff_flac_frame.specs.Codes.{block_table, of_31_bits, of_36_bits};
+ghost use Rattle.ff_bits.specs.NumberGrammar.{coded_below, of_31_bits, of_36_bits};
+ghost use Rattle.ff_flac_frame.specs.Codes.{block_table};
 ghost use Rattle.ff_flac_frame.specs.Frame.{block_of, rate_of, header};
 ghost use Rattle.ff_flac_frame.specs.Gives.{Gives};
 ghost use Rattle.ff_flac_frame.specs.Parts.{header_of};

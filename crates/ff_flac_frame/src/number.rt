@@ -1,7 +1,8 @@
 ghost use Rattle.std.specs.Prelude.{◌≡◌, ◌<◌, ◌≤◌, ◌+◌, ◌*◌, ◌^◌, IfOk, IfErr, FitsSigned};
 ghost use Rattle.std.specs.Int.{w32};
 ghost use Rattle.ff_bits.specs.Reading.{zeros};
-ghost use Rattle.ff_flac_frame.specs.Frame.{signed, zigzag, sample, rice, residual_limit, quotient_limit};
+ghost use Rattle.ff_bits.specs.Integers.{signed};
+ghost use Rattle.ff_flac_frame.specs.Frame.{zigzag, sample, rice, residual_limit, quotient_limit};
 ghost use Rattle.ff_flac_frame.specs.Gives.{Gives};
 
 use crate::end::FrameEnd;

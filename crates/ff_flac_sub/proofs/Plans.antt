@@ -12,6 +12,7 @@ use Rattle.ff_flac_sub.specs.declared.subframe.Planned.{Planned}
 use Rattle.ff_flac_sub.specs.declared.subframe.Plan.TheVariants.{Verbatim}
 use Rattle.ff_flac_rice.specs.Least.{choose, least}
 use Rattle.ff_flac_rice.specs.Rice.{zigzagged, Coding, codings, residual_bits, best_at}
+use Rattle.ff_values.specs.Audio.{FitsBits}
 use Rattle.ff_flac_sub.specs.Subframe.{Spelling, magnitude, steps, subframe_bits, sample_bits, rest_of, fixed_of, predictors, candidates, all_are, first_or_zero}
 use Rattle.ff_flac_sub.specs.Subframe.Spelling.{constant, fixed, verbatim}
 use Rattle.ff_flac_sub.specs.Plan.{spelling_of, size, IsBestPlan, PlanFits, constants}
@@ -19,7 +20,7 @@ use Rattle.ff_flac_rice.proofs.LeastLemmas.{least-append, least-map, least-same,
 use Rattle.ff_flac_rice.proofs.Levels.{coding_cost}
 use Rattle.ff_flac_rice.proofs.Orders.{filter_all, filter_none, range_between, range_split}
 use Rattle.ff_flac_rice.proofs.RowLemmas.{range_below}
-use Rattle.ff_flac_sub.proofs.Predict.{length-samples, length-sample_bits, length-rest_of, steps_small, rest_of-suc}
+use Rattle.ff_flac_sub.proofs.Predict.{magnitude_of, fits_of, length-samples, length-sample_bits, length-rest_of, steps_small, rest_of-suc}
 
 pow_two : (m n : ℕ) → n ≡ suc m → 2 ^ n ≡ 2 * 2 ^ m
 pow_two m n e = ap (λ k. 2 ^ k) e ∙ omega (arith, pow-suc 2 m)
@@ -174,9 +175,12 @@ next_rest order xs rest next e h =
     let s : suc order ≡ order + 1 = omega arith in
     h ∙ ap steps e ∙ sym (rest_of-suc order xs) ∙ ap (λ m. rest_of m xs) s
 
-pub first_small : (depth : ℕ) (xs : List ℤ) → depth ≤ 25 → All (λ x. magnitude x < 2 ^ (depth - 1)) xs → All (λ x. magnitude x < 2 ^ 24) xs
+pub first_small : (depth : ℕ) (xs : List ℤ) → depth ≤ 25 → All (FitsBits depth) xs → All (FitsBits 25) xs
 first_small depth xs h a =
-    All-weaker (λ x. magnitude x < 2 ^ (depth - 1)) (λ x. magnitude x < 2 ^ 24) (λ x l. omega (arith, l, pow_le (depth - 1) 24 (omega arith))) xs a
+    All-weaker (FitsBits depth) (FitsBits 25) (λ x l. fits_of 25 x (omega (arith, magnitude_of depth x l, pow_le (depth - 1) 24 (omega arith)))) xs a
+
+pub magnitudes : (xs : List ℤ) → All (FitsBits 25) xs → All (λ x. magnitude x < 2 ^ 24) xs
+magnitudes xs a = All-weaker (FitsBits 25) (λ x. magnitude x < 2 ^ 24) (magnitude_of 25) xs a
 
 pub length_us : (order : ℕ) (xs rest : List ℤ) (us vs : List ℕ) → rest ≡ rest_of order xs → us ≡ map zigzagged rest → vs ≡ us → length vs ≡ length xs - order
 length_us order xs rest us vs r u v = ap length v ∙ ap length u ∙ length-map rest zigzagged ∙ ap length r ∙ length-rest_of order xs

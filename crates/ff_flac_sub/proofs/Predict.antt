@@ -1,10 +1,11 @@
-use Rattle.std.proofs.Common.{◌≡◌, ℕ, zero, suc, ◌+◌, ◌-◌, ◌*◌, ◌<◌, ◌≤◌, ℤ, pos, negsuc, List, [], ◌∷◌, ◌++◌, length, get_or, set, take, drop, refl, sym, ap, ◌∙◌, arith}
+use Rattle.std.proofs.Common.{◌≡◌, ℕ, zero, ◌^◌, suc, ◌+◌, ◌-◌, ◌*◌, ◌<◌, ◌≤◌, ℤ, pos, negsuc, List, [], ◌∷◌, ◌++◌, length, get_or, set, take, drop, refl, sym, ap, ◌∙◌, arith}
 use Rattle.std.specs.Prelude.{◌+ℤ◌, ◌*ℤ◌, ◌-ℤ◌, ◌<ℤ◌, ◌≤ℤ◌, neg_ℤ}
 use Rattle.std.proofs.lemmas.Int.{ints}
 use Rattle.std.specs.List.{flat_map, All, AllByRecursion}
 use Rattle.std.proofs.lemmas.List.Elements.{All-from_recursion, recursion_from_All, All-same, All-drop}
 use Rattle.std.proofs.lemmas.List.{length-append, length-drop, append_assoc, append-nil, drop_more, drop-drop, drop-set-lt, take_more_set}
 use Rattle.ff_bits.proofs.BitsLemmas.{length-bits_of}
+use Rattle.ff_values.specs.Audio.{FitsBits}
 use Rattle.ff_flac_sub.specs.Subframe.{steps, steps_from, rest_of, magnitude, sample_bits}
 
 pub step_next : (xs all : List ℤ) (i : ℕ) (d : ℤ) → i + 1 < length xs → d ≡ get_or xs (i + 1) (pos 0) -ℤ get_or xs i (pos 0)
@@ -59,6 +60,14 @@ pub length-rest_of : (order : ℕ) (xs : List ℤ) → length (rest_of order xs)
 length-rest_of zero xs = omega (arith, ap length (rest_of-zero xs))
 length-rest_of (suc order) xs =
     ap length (rest_of-suc order xs) ∙ length-steps (rest_of order xs) ∙ omega (arith, length-rest_of order xs)
+
+pub magnitude_of : (bits : ℕ) (x : ℤ) → FitsBits bits x → magnitude x < 2 ^ (bits - 1)
+magnitude_of bits (pos n) h = h
+magnitude_of bits (negsuc n) h = h
+
+pub fits_of : (bits : ℕ) (x : ℤ) → magnitude x < 2 ^ (bits - 1) → FitsBits bits x
+fits_of bits (pos n) h = h
+fits_of bits (negsuc n) h = h
 
 pub above : (m : ℕ) (x : ℤ) → magnitude x < m → x <ℤ pos m
 above m (pos n) h = omega (arith, ints)

@@ -1,6 +1,6 @@
 -- A subframe that was written is read back.
 use Rattle.std.proofs.Common.{◌≡◌, ℕ, zero, suc, ◌+◌, ◌-◌, ◌*◌, ◌^◌, ◌<◌, ◌≤◌, Bool, true, false, cond, eqb, ltb, leb, ℤ, pos, negsuc, List, [], ◌∷◌, ◌++◌, length, map, take, refl, sym, ap, subst, ◌∙◌, arith, append_assoc}
-use Rattle.std.specs.Prelude.{◌≤ℤ◌, ◌<ℤ◌, neg_ℤ}
+use Rattle.std.specs.Prelude.{◌≤ℤ◌, ◌<ℤ◌, ◌-ℤ◌, neg_ℤ}
 use Rattle.std.specs.List.{flat_map, AllByRecursion, filter, range_with_len}
 use Rattle.std.proofs.lemmas.Int.{ints}
 use Rattle.std.proofs.lemmas.Bool.{lt-ltb, le-ltb, le-leb, ltb-true, and_from}
@@ -8,55 +8,54 @@ use Rattle.std.proofs.lemmas.List.{append-nil, map-id, length-take}
 use Rattle.std.proofs.lemmas.List.Elements.{All-from_recursion, recursion_from_All, All-take}
 use Rattle.std.proofs.Math.Nat.{pow-suc, pow-le-pow_right}
 use Rattle.ff_bits.specs.Bits.{bits_of}
+use Rattle.ff_bits.specs.Integers.{signed, unsigned}
+use Rattle.ff_values.specs.Audio.{FitsBits}
 use Rattle.ff_bits.specs.Reading.{Reader, ◌>>=◌, give, field, zeros, times}
 use Rattle.ff_bits.proofs.BitsOf.{bits_of-add}
 use Rattle.ff_flac_frame.specs.declared.subframe.SubKind.{SubKind}
 use Rattle.ff_flac_frame.specs.declared.subframe.SubKind.TheVariants.{Constant, Verbatim, Fixed}
 use Rattle.ff_flac_frame.specs.Codes.{any, equal, kind_fits, kind_of, order_of, warm_count}
-use Rattle.ff_flac_frame.specs.Frame.{Part, signed, sample, residual, wasted_bits, predictor, subframe}
+use Rattle.ff_flac_frame.specs.Frame.{Part, sample, residual, wasted_bits, predictor, subframe}
 use Rattle.ff_flac_frame.specs.Facts.{IsResidual}
 use Rattle.ff_flac_rice.specs.Spells.{Reads}
 use Rattle.ff_flac_rice.specs.Rice.{zigzagged, Coding, codings, residual_bits}
 use Rattle.ff_flac_rice.proofs.ReadsBack.{reads-give, reads-then, reads-map, reads-bits, reads-value, reads-if_false, reads-if_true, reads-field, reads-times}
 use Rattle.ff_flac_rice.proofs.ReadsRice.{all-map, all-flat_map, all-weaker, all-filter, codings_read}
 use Rattle.ff_flac_rice.proofs.RowLemmas.{range_below}
-use Rattle.ff_flac_sub.specs.Subframe.{Spelling, magnitude, code, sample_bits, subframe_bits, steps, rest_of, first_or_zero, all_are, fixed_of, predictors, candidates}
+use Rattle.ff_flac_sub.specs.Subframe.{Spelling, magnitude, sample_bits, subframe_bits, steps, rest_of, first_or_zero, all_are, fixed_of, predictors, candidates}
 use Rattle.ff_flac_sub.specs.Subframe.Spelling.{constant, fixed, verbatim}
 use Rattle.ff_flac_sub.specs.Part.{part_for}
-use Rattle.ff_flac_sub.proofs.Predict.{length-rest_of, from_below, above, steps_small, rest_of-suc, rest_of-zero}
-
--- a sample of so many bits
-abbrev pub Fits : ℕ → ℤ → Type 0
-Fits depth x = magnitude x < 2 ^ (depth - 1)
+use Rattle.ff_flac_sub.proofs.Predict.{magnitude_of, length-rest_of, from_below, above, steps_small, rest_of-suc, rest_of-zero}
 
 two_halves : (depth : ℕ) → 0 < depth → 2 ^ depth ≡ 2 * 2 ^ (depth - 1)
 two_halves depth h =
     let e : suc (depth - 1) ≡ depth = omega arith in
     ap (λ (n : ℕ). 2 ^ n) (sym e) ∙ omega (arith, pow-suc 2 (depth - 1))
 
-code_below : (depth : ℕ) (x : ℤ) → 0 < depth → Fits depth x → code depth x < 2 ^ depth
-code_below depth (pos n) h f = omega (arith, two_halves depth h, f)
-code_below depth (negsuc n) h f = omega (arith, two_halves depth h, f)
+unsigned_below : (depth : ℕ) (x : ℤ) → 0 < depth → FitsBits depth x → unsigned depth x < 2 ^ depth
+unsigned_below depth (pos n) h f = omega (arith, two_halves depth h, f)
+unsigned_below depth (negsuc n) h f = omega (arith, two_halves depth h, f)
 
-signed-code : (depth : ℕ) (x : ℤ) → 0 < depth → Fits depth x → signed depth (code depth x) ≡ x
-signed-code depth (pos n) h f = ap (λ b. cond b (pos n) (neg_ℤ (pos (2 ^ depth - n)))) (lt-ltb n (2 ^ (depth - 1)) f)
-signed-code depth (negsuc n) h f =
-    let v : ℕ = 2 ^ depth - suc n in
+signed-unsigned : (depth : ℕ) (x : ℤ) → 0 < depth → FitsBits depth x → signed depth (unsigned depth x) ≡ x
+signed-unsigned depth (pos n) h f = ap (λ b. cond b (pos n) (pos n -ℤ pos (2 ^ depth))) (lt-ltb n (2 ^ (depth - 1)) f)
+signed-unsigned depth (negsuc n) h f =
+    let v : ℕ = 2 ^ depth - (n + 1) in
     let over : 2 ^ (depth - 1) ≤ v = omega (arith, two_halves depth h, f) in
-    let back : 2 ^ depth - v ≡ suc n = omega (arith, two_halves depth h, f) in
-    ap (λ b. cond b (pos v) (neg_ℤ (pos (2 ^ depth - v)))) (le-ltb v (2 ^ (depth - 1)) over) ∙ ap (λ (m : ℕ). neg_ℤ (pos m)) back
+    let room : n + 1 ≤ 2 ^ depth = omega (arith, two_halves depth h, f) in
+    let back : pos v -ℤ pos (2 ^ depth) ≡ negsuc n = omega (arith, ints, room) in
+    ap (λ b. cond b (pos v) (pos v -ℤ pos (2 ^ depth))) (le-ltb v (2 ^ (depth - 1)) over) ∙ back
 
-pub reads-sample : (depth : ℕ) (x : ℤ) → 0 < depth → Fits depth x → Reads (sample depth) (sample_bits depth x) x
+pub reads-sample : (depth : ℕ) (x : ℤ) → 0 < depth → FitsBits depth x → Reads (sample depth) (sample_bits depth x) x
 unfolding sample sample_bits
 reads-sample depth x h f =
-    reads-value (field depth any >>= λ v. give (signed depth v)) (bits_of depth (code depth x)) (signed depth (code depth x)) x (signed-code depth x h f)
-    (reads-map (field depth any) (λ v. signed depth v) (bits_of depth (code depth x)) (code depth x) (reads-field depth any (code depth x) (code_below depth x h f) refl))
+    reads-value (field depth any >>= λ v. give (signed depth v)) (bits_of depth (unsigned depth x)) (signed depth (unsigned depth x)) x (signed-unsigned depth x h f)
+    (reads-map (field depth any) (λ v. signed depth v) (bits_of depth (unsigned depth x)) (unsigned depth x) (reads-field depth any (unsigned depth x) (unsigned_below depth x h f) refl))
 
-reads-each : (depth : ℕ) (xs : List ℤ) → 0 < depth → AllByRecursion (Fits depth) xs → AllByRecursion (λ x. Reads (sample depth) (sample_bits depth x) x) xs
+reads-each : (depth : ℕ) (xs : List ℤ) → 0 < depth → AllByRecursion (FitsBits depth) xs → AllByRecursion (λ x. Reads (sample depth) (sample_bits depth x) x) xs
 reads-each depth [] h f = tt
 reads-each depth (x ∷ xs) h f = (reads-sample depth x h f.0, reads-each depth xs h f.1)
 
-pub reads-samples : (depth : ℕ) (xs : List ℤ) → 0 < depth → AllByRecursion (Fits depth) xs → Reads (times (length xs) (sample depth)) (flat_map (sample_bits depth) xs) xs
+pub reads-samples : (depth : ℕ) (xs : List ℤ) → 0 < depth → AllByRecursion (FitsBits depth) xs → Reads (times (length xs) (sample depth)) (flat_map (sample_bits depth) xs) xs
 reads-samples depth xs h f =
     reads-value (times (length xs) (sample depth)) (flat_map (sample_bits depth) xs) (map (λ x. x) xs) xs (map-id xs)
     (reads-times (sample depth) (sample_bits depth) (λ x. x) xs (reads-each depth xs h f))
@@ -165,7 +164,7 @@ code_fixed block (suc (suc (suc zero))) h le = record { small = omega arith; fit
 code_fixed block (suc (suc (suc (suc zero)))) h le = record { small = omega arith; fits = and_from true (leb 4 block) refl (le-leb 4 block le); kind_is = refl; order_is = refl; count_is = refl }
 code_fixed block (suc (suc (suc (suc (suc m))))) h le = absurd (omega arith)
 
-first_fits : (depth : ℕ) (xs : List ℤ) → 0 < length xs → AllByRecursion (Fits depth) xs → Fits depth (first_or_zero xs)
+first_fits : (depth : ℕ) (xs : List ℤ) → 0 < length xs → AllByRecursion (FitsBits depth) xs → FitsBits depth (first_or_zero xs)
 first_fits depth [] n h = absurd (omega arith)
 first_fits depth (x ∷ xs) n h = h.0
 
@@ -173,7 +172,7 @@ first_fits depth (x ∷ xs) n h = h.0
 abbrev pub IsReadBack : ℕ → List ℤ → Spelling → Type 0
 IsReadBack depth xs s = Reads (subframe (length xs) depth) (subframe_bits depth xs s) (part_for xs s)
 
-read_constant : (depth : ℕ) (xs : List ℤ) → 0 < depth → 0 < length xs → AllByRecursion (Fits depth) xs → IsReadBack depth xs constant
+read_constant : (depth : ℕ) (xs : List ℤ) → 0 < depth → 0 < length xs → AllByRecursion (FitsBits depth) xs → IsReadBack depth xs constant
 unfolding subframe_bits part_with
 read_constant depth xs h n f =
     let x : ℤ = first_or_zero xs in
@@ -183,7 +182,7 @@ read_constant depth xs h n f =
     reads-bits (subframe (length xs) depth) (bits_of 8 0 ++ wb ++ []) (bits_of 8 0 ++ wb) (part_with Constant 0 (x ∷ []) []) (sym (append-nil (bits_of 8 0 ++ wb)))
     (reads-subframe_of (length xs) depth 0 Constant 0 1 wb [] (x ∷ []) [] (code_constant (length xs)) one (reads-give []))
 
-read_verbatim : (depth : ℕ) (xs : List ℤ) → 0 < depth → AllByRecursion (Fits depth) xs → IsReadBack depth xs verbatim
+read_verbatim : (depth : ℕ) (xs : List ℤ) → 0 < depth → AllByRecursion (FitsBits depth) xs → IsReadBack depth xs verbatim
 unfolding subframe_bits part_with
 read_verbatim depth xs h f =
     let wb : List Bool = flat_map (sample_bits depth) xs in
@@ -220,14 +219,14 @@ rest_residuals order xs le h =
     let p : 2 ^ (24 + order) ≤ 2 ^ 30 = pow-le-pow_right two q in
     all-weaker (λ x. magnitude x < 2 ^ (24 + order)) IsResidual (λ x l. residual_small x (omega (arith, l, p))) (rest_of order xs) (rest_small order xs h)
 
-within_24 : (depth : ℕ) (xs : List ℤ) → depth ≤ 25 → AllByRecursion (Fits depth) xs → AllByRecursion (λ x. magnitude x < 2 ^ 24) xs
+within_24 : (depth : ℕ) (xs : List ℤ) → depth ≤ 25 → AllByRecursion (FitsBits depth) xs → AllByRecursion (λ x. magnitude x < 2 ^ 24) xs
 within_24 depth xs le h =
     let two : 0 < 2 = omega arith in
     let q : depth - 1 ≤ 24 = omega arith in
     let p : 2 ^ (depth - 1) ≤ 2 ^ 24 = pow-le-pow_right two q in
-    all-weaker (Fits depth) (λ x. magnitude x < 2 ^ 24) (λ x l. omega (arith, l, p)) xs h
+    all-weaker (FitsBits depth) (λ x. magnitude x < 2 ^ 24) (λ x l. omega (arith, magnitude_of depth x l, p)) xs h
 
-read_fixed : (depth order : ℕ) (xs : List ℤ) (c : Coding) → 0 < depth → order ≤ 4 → order ≤ length xs → AllByRecursion (Fits depth) xs
+read_fixed : (depth order : ℕ) (xs : List ℤ) (c : Coding) → 0 < depth → order ≤ 4 → order ≤ length xs → AllByRecursion (FitsBits depth) xs
     → Reads (residual (length (rest_of order xs) + order) order) (residual_bits order c (map zigzagged (rest_of order xs))) (rest_of order xs) → IsReadBack depth xs (fixed order c)
 unfolding subframe_bits part_with
 read_fixed depth order xs c h le n f r =
@@ -235,7 +234,7 @@ read_fixed depth order xs c h le n f r =
     let rb : List Bool = residual_bits order c (map zigzagged (rest_of order xs)) in
     let lw : length (take order xs) ≡ order = omega (arith, length-take order xs, n) in
     let block : length (rest_of order xs) + order ≡ length xs = omega (arith, length-rest_of order xs, n) in
-    let fits : AllByRecursion (Fits depth) (take order xs) = recursion_from_All (Fits depth) (take order xs) (All-take (Fits depth) order xs (All-from_recursion (Fits depth) xs f)) in
+    let fits : AllByRecursion (FitsBits depth) (take order xs) = recursion_from_All (FitsBits depth) (take order xs) (All-take (FitsBits depth) order xs (All-from_recursion (FitsBits depth) xs f)) in
     let warm : Reads (times order (sample depth)) wb (take order xs) = subst (λ (m : ℕ). Reads (times m (sample depth)) wb (take order xs)) lw (reads-samples depth (take order xs) h fits) in
     let two : 2 ≤ 8 + order = omega arith in
     let rest : Reads (rest_reader (length xs) (8 + order) order) rb (rest_of order xs) =
@@ -246,7 +245,7 @@ read_fixed depth order xs c h le n f r =
     (ap (λ (m : ℕ). bits_of 8 m ++ wb ++ rb) e)
     (reads-subframe_of (length xs) depth (8 + order) Fixed order order wb rb (take order xs) (rest_of order xs) (code_fixed (length xs) order le n) warm rest)
 
-read_fixed_of : (depth : ℕ) (xs : List ℤ) (order : ℕ) → 0 < depth → depth ≤ 25 → order ≤ 4 → order ≤ length xs → AllByRecursion (Fits depth) xs
+read_fixed_of : (depth : ℕ) (xs : List ℤ) (order : ℕ) → 0 < depth → depth ≤ 25 → order ≤ 4 → order ≤ length xs → AllByRecursion (FitsBits depth) xs
     → AllByRecursion (IsReadBack depth xs) (fixed_of (length xs) order)
 unfolding fixed_of
 read_fixed_of depth xs order h d le n f =
@@ -281,6 +280,6 @@ all-candidates P xs one some all =
     all-append P (cond test (constant ∷ []) [] ++ flat_map (fixed_of n) (filter (λ order. ltb order n) (range_with_len 0 5))) (verbatim ∷ [])
     (all-append P (cond test (constant ∷ []) []) (flat_map (fixed_of n) (filter (λ order. ltb order n) (range_with_len 0 5))) constants fixeds) (all, tt)
 
-pub candidates_read : (depth : ℕ) (xs : List ℤ) → 0 < depth → depth ≤ 25 → 0 < length xs → AllByRecursion (Fits depth) xs → AllByRecursion (IsReadBack depth xs) (candidates xs)
+pub candidates_read : (depth : ℕ) (xs : List ℤ) → 0 < depth → depth ≤ 25 → 0 < length xs → AllByRecursion (FitsBits depth) xs → AllByRecursion (IsReadBack depth xs) (candidates xs)
 candidates_read depth xs h d n f =
     all-candidates (IsReadBack depth xs) xs (λ e. read_constant depth xs h n f) (λ order le m. read_fixed_of depth xs order h d le m f) (read_verbatim depth xs h f)

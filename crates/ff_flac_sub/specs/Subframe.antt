@@ -2,6 +2,7 @@ use Rattle.std.specs.Prelude.{ℕ, ℤ, pos, negsuc, ◌+◌, ◌-◌, ◌*◌, 
 use Rattle.std.specs.Ordering.{int_eq}
 use Rattle.std.specs.List.{flat_map, range_with_len, list_all}
 use Rattle.ff_bits.specs.Bits.{bits_of}
+use Rattle.ff_bits.specs.Integers.{unsigned}
 use Rattle.ff_flac_rice.specs.Rice.{zigzagged, residual_bits, Coding, codings}
 
 -- how a subframe is written
@@ -11,12 +12,8 @@ pub data Spelling : Type 0 where
   verbatim : Spelling
 
 -- a sample in two's complement
-abbrev pub code : ℕ → ℤ → ℕ
-code depth (pos n) = n
-code depth (negsuc n) = 2 ^ depth - suc n
-
 unfoldable pub sample_bits : ℕ → ℤ → List Bool
-sample_bits depth x = bits_of depth (code depth x)
+sample_bits depth x = bits_of depth (unsigned depth x)
 
 -- what follows the one before
 abbrev pub steps_from : ℤ → List ℤ → List ℤ

@@ -1,19 +1,20 @@
 //! What the definitions of this crate keep. Each function does nothing, and its contract is the law.
 
-ghost use Rattle.std.specs.Prelude.{◌≡◌, ℕ, ℤ, ◌-◌, ◌^◌, ◌<◌, ◌≤◌, List, length, Some};
+ghost use Rattle.std.specs.Prelude.{◌≡◌, ℕ, ℤ, ◌<◌, ◌≤◌, List, length, Some};
 ghost use Rattle.std.specs.List.{AllByRecursion};
+ghost use Rattle.ff_values.specs.Audio.{FitsBits};
 ghost use Rattle.ff_flac_frame.specs.Frame.{subframe};
 ghost use Rattle.ff_flac_dec.specs.Values.{channel_samples};
 ghost use Rattle.ff_flac_rice.specs.Least.{least, IsFirstLeast};
 ghost use Rattle.ff_flac_rice.specs.Spells.{Reads};
-ghost use Rattle.ff_flac_sub.specs.Subframe.{Spelling, magnitude, subframe_bits, candidates};
+ghost use Rattle.ff_flac_sub.specs.Subframe.{Spelling, subframe_bits, candidates};
 ghost use Rattle.ff_flac_sub.specs.Part.{part_for};
 ghost use Rattle.ff_flac_sub.specs.Plan.{size};
 
 /// Whichever candidate writes samples of this depth, a reader of the grammar takes its bits, whatever follows them, and gives
 /// the subframe that was written.
 pub fn subframes_are_read_back()
-    ensures { (depth : ℕ) (xs : List ℤ) → 0 < depth → depth ≤ 25 → 0 < length xs → AllByRecursion (λ x. magnitude x < 2 ^ (depth - 1)) xs
+    ensures { (depth : ℕ) (xs : List ℤ) → 0 < depth → depth ≤ 25 → 0 < length xs → AllByRecursion (FitsBits depth) xs
         → AllByRecursion (λ s. Reads (subframe (length xs) depth) (subframe_bits depth xs s) (part_for xs s)) (candidates xs) }
 {}
 

@@ -4,7 +4,9 @@ ghost use Rattle.std.specs.Prelude.{◌≡◌, ◌+◌, ◌-◌, ◌*◌, ◌^�
 ghost use Rattle.std.specs.List.{flat_map, list_all};
 ghost use Rattle.std.specs.Ordering.{int_eq};
 ghost use Rattle.ff_flac_rice.specs.Rice.{zigzagged};
-ghost use Rattle.ff_flac_sub.specs.Subframe.{steps, magnitude, code, sample_bits, all_are, first_or_zero};
+ghost use Rattle.ff_bits.specs.Integers.{unsigned};
+ghost use Rattle.ff_values.specs.Audio.{FitsBits};
+ghost use Rattle.ff_flac_sub.specs.Subframe.{steps, magnitude, sample_bits, all_are, first_or_zero};
 
 use ff_bits::BitWriter;
 use std::alloc::{AllocError, Global};
@@ -79,8 +81,8 @@ pub fn zigzags_of(alloc: Global, xs: &[i32]) -> Result<Vec<u32>, AllocError>
 fn code_of(x: i32, depth: u32) -> u64
     requires some { 0 < depth }
     requires within { depth ≤ 32 }
-    requires fits { magnitude x < 2 ^ (depth - 1) }
-    ensures is { result ≡ code depth x }
+    requires fits { FitsBits depth x }
+    ensures is { result ≡ unsigned depth x }
     ensures below { result < 2 ^ depth }
 {
     if x >= 0 {
@@ -93,7 +95,7 @@ fn code_of(x: i32, depth: u32) -> u64
 pub fn put_sample(out: &mut BitWriter, x: i32, depth: u32) -> Result<(), AllocError>
     requires some { 0 < depth }
     requires within { depth ≤ 32 }
-    requires fits { magnitude x < 2 ^ (depth - 1) }
+    requires fits { FitsBits depth x }
     ensures { OnOk result (out.new ≡ out.old ++ sample_bits depth x) }
 {
     out.put(code_of(x, depth), depth)?;
@@ -104,7 +106,7 @@ pub fn put_sample(out: &mut BitWriter, x: i32, depth: u32) -> Result<(), AllocEr
 pub fn put_samples(out: &mut BitWriter, xs: &[i32], depth: u32) -> Result<(), AllocError>
     requires some { 0 < depth }
     requires within { depth ≤ 32 }
-    requires fits { All (λ x. magnitude x < 2 ^ (depth - 1)) xs.now }
+    requires fits { All (FitsBits depth) xs.now }
     ensures { OnOk result (out.new ≡ out.old ++ flat_map (sample_bits depth) xs.now) }
 {
     for x in xs {

@@ -2,6 +2,7 @@
 
 ghost use Rattle.std.specs.Prelude.{◌≡◌, ◌+◌, ◌-◌, ◌*◌, ◌^◌, ◌<◌, ◌≤◌, ◌++◌, length, IfOk, OnOk, All, Some, ℕ};
 ghost use Rattle.ff_flac_rice.specs.Least.{choose, least};
+ghost use Rattle.ff_values.specs.Audio.{FitsBits};
 ghost use Rattle.ff_flac_sub.specs.Subframe.{magnitude, rest_of, subframe_bits, candidates, fixed_of, Spelling};
 ghost use Rattle.ff_flac_sub.specs.Plan.{spelling_of, size, IsBestPlan, PlanFits, constants};
 
@@ -81,7 +82,7 @@ pub fn plan_of(alloc: Global, samples: &[i32], depth: u32) -> Result<Planned, Al
     requires some { 0 < length samples.now }
     requires len { length samples.now ≤ 4096 }
     requires depth { depth ≤ 25 }
-    requires fits { All (λ x. magnitude x < 2 ^ 24) samples.now }
+    requires fits { All (FitsBits 25) samples.now }
     ensures least { IfOk result (λ p. least (size depth samples.now) (candidates samples.now) ≡ Some (spelling_of samples.now p.plan)) }
     ensures cost { IfOk result (λ p. p.cost ≡ size depth samples.now (spelling_of samples.now p.plan)) }
     ensures fits { IfOk result (λ p. PlanFits samples.now p.plan) }
@@ -105,7 +106,7 @@ pub fn plan_of(alloc: Global, samples: &[i32], depth: u32) -> Result<Planned, Al
 /// The residuals of an order.
 fn rest_by(alloc: Global, samples: &[i32], order: usize) -> Result<Vec<i32>, AllocError>
     requires order { order ≤ 4 }
-    requires fits { All (λ x. magnitude x < 2 ^ 24) samples.now }
+    requires fits { All (FitsBits 25) samples.now }
     ensures is { IfOk result (λ v. v.items ≡ rest_of order samples.now) }
     ensures small { IfOk result (λ v. All (λ x. magnitude x < 2 ^ 30) v.items) }
 {
@@ -129,7 +130,7 @@ fn write_fixed(
     requires depth { 0 < depth }
     requires within { depth ≤ 25 }
     requires len { length samples.now ≤ 4096 }
-    requires fits { All (λ x. magnitude x < 2 ^ (depth - 1)) samples.now }
+    requires fits { All (FitsBits depth) samples.now }
     requires plan { PlanFits samples.now (Plan.Fixed order method partition_order) }
     ensures { OnOk result (out.new ≡ out.old ++ subframe_bits depth samples.now (spelling_of samples.now (Plan.Fixed order method partition_order))) }
 {
@@ -153,7 +154,7 @@ pub fn write_plan(
     requires depth { 0 < depth }
     requires within { depth ≤ 25 }
     requires len { length samples.now ≤ 4096 }
-    requires fits { All (λ x. magnitude x < 2 ^ (depth - 1)) samples.now }
+    requires fits { All (FitsBits depth) samples.now }
     requires plan { PlanFits samples.now plan }
     ensures { OnOk result (out.new ≡ out.old ++ subframe_bits depth samples.now (spelling_of samples.now plan)) }
 {
@@ -191,7 +192,7 @@ pub fn write_subframe(
     requires len { length samples.now ≤ 4096 }
     requires depth { 0 < depth }
     requires within { depth ≤ 25 }
-    requires fits { All (λ x. magnitude x < 2 ^ (depth - 1)) samples.now }
+    requires fits { All (FitsBits depth) samples.now }
     ensures { OnOk result ((s : Spelling) × (least (size depth samples.now) (candidates samples.now) ≡ Some s) × (out.new ≡ out.old ++ subframe_bits depth samples.now s)) }
 {
     let best = plan_of(alloc, samples, depth)?;

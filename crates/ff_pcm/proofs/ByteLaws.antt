@@ -8,8 +8,9 @@ use Rattle.ff_values.specs.Audio.{FitsBits}
 use Rattle.ff_values.specs.Codecs.{IsPcmCodec, sample_bytes}
 use Rattle.ff_values.specs.declared.head.Codec.{Codec}
 use Rattle.ff_values.specs.declared.head.Codec.TheVariants.{PcmU8, PcmS16le, PcmS24le, PcmS32le, Flac, RawVideo}
-use Rattle.ff_pcm.specs.Bytes.{number_bytes, unsigned, from_middle, sample_number, bytes_of}
-use Rattle.ff_pcm.specs.Samples.{number, signed, depth, sample_at, StandFor}
+use Rattle.ff_bits.specs.Integers.{signed, unsigned, number_bytes}
+use Rattle.ff_pcm.specs.Bytes.{from_middle, sample_number, bytes_of}
+use Rattle.ff_pcm.specs.Samples.{number, depth, sample_at, StandFor}
 use Rattle.ff_pcm.proofs.SampleLaws.{told, all_stand_fit, are_bytes}
 
 number_length : (count n : ℕ) → length (number_bytes count n) ≡ count

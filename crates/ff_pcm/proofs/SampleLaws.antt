@@ -14,7 +14,8 @@ use Rattle.ff_values.specs.declared.head.StreamHead.{StreamHead}
 use Rattle.ff_values.specs.declared.packet.Pkt.{Pkt}
 use Rattle.ff_pcm.specs.Frames.{codec_of, rate_of, bits_of, channels_of, IsPcmHead, HasBlocks, frame_of}
 use Rattle.ff_values.specs.declared.head.Codec.TheVariants.{PcmU8, PcmS16le, PcmS24le, PcmS32le, Flac, RawVideo}
-use Rattle.ff_pcm.specs.Samples.{number, signed, depth, sample_at, samples_of, StandFor}
+use Rattle.ff_bits.specs.Integers.{signed}
+use Rattle.ff_pcm.specs.Samples.{number, depth, sample_at, samples_of, StandFor}
 
 -- so many samples have so many bytes
 pub count_of : (codec : Codec) (n count : ℕ) → n ≡ sample_bytes codec * count → n / sample_bytes codec ≡ count

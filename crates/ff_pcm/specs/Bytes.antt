@@ -1,19 +1,10 @@
 -- Linear PCM (RIFF WAVE): the bytes that stand for samples. Numbers have the lowest byte first.
-use Rattle.std.specs.Prelude.{ℕ, zero, suc, ◌+◌, ◌-◌, ◌/◌, ◌%◌, ◌^◌, ℤ, pos, negsuc, List, [], ◌∷◌}
+use Rattle.std.specs.Prelude.{ℕ, ◌+◌, ◌-◌, ℤ, pos, negsuc, List}
 use Rattle.std.specs.List.{flat_map}
+use Rattle.ff_bits.specs.Integers.{unsigned, number_bytes}
 use Rattle.ff_values.specs.Codecs.{sample_bytes}
 use Rattle.ff_values.specs.declared.head.Codec.{Codec}
 use Rattle.ff_values.specs.declared.head.Codec.TheVariants.{PcmU8, PcmS16le, PcmS24le, PcmS32le, Flac, RawVideo}
-
--- so many bytes of a number
-abbrev pub number_bytes : ℕ → ℕ → List ℕ
-number_bytes zero n = []
-number_bytes (suc count) n = n % 256 ∷ number_bytes count (n / 256)
-
--- two's complement of so many bits
-abbrev pub unsigned : ℕ → ℤ → ℕ
-unsigned bits (pos n) = n
-unsigned bits (negsuc n) = 2 ^ bits - (n + 1)
 
 -- counted from a middle
 abbrev pub from_middle : ℕ → ℤ → ℕ

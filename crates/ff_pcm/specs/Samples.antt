@@ -1,6 +1,7 @@
 -- Linear PCM (RIFF WAVE): the samples that bytes stand for. Numbers have the lowest byte first.
-use Rattle.std.specs.Prelude.{◌≡◌, ℕ, zero, suc, ◌+◌, ◌-◌, ◌*◌, ◌/◌, ◌^◌, ◌<◌, nat_lt, if◌then◌else◌, ℤ, pos, ◌-ℤ◌, List, length, map, slice_index, slice_index_or}
+use Rattle.std.specs.Prelude.{◌≡◌, ℕ, zero, suc, ◌+◌, ◌*◌, ◌/◌, ◌<◌, ℤ, pos, ◌-ℤ◌, List, length, map, slice_index, slice_index_or}
 use Rattle.std.specs.List.{range_with_len}
+use Rattle.ff_bits.specs.Integers.{signed}
 use Rattle.ff_values.specs.Codecs.{sample_bytes}
 use Rattle.ff_values.specs.declared.head.Codec.{Codec}
 use Rattle.ff_values.specs.declared.head.Codec.TheVariants.{PcmU8, PcmS16le, PcmS24le, PcmS32le, Flac, RawVideo}
@@ -9,10 +10,6 @@ use Rattle.ff_values.specs.declared.head.Codec.TheVariants.{PcmU8, PcmS16le, Pcm
 abbrev pub number : ℕ → ℕ → List ℕ → ℕ
 number zero place bytes = 0
 number (suc count) place bytes = slice_index bytes place + 256 * number count (place + 1) bytes
-
--- a number of so many bits as two's complement
-abbrev pub signed : ℕ → ℕ → ℤ
-signed bits n = if nat_lt n (2 ^ (bits - 1)) then pos n else pos n -ℤ pos (2 ^ bits)
 
 -- the bits of a PCM codec's samples
 abbrev pub depth : Codec → ℕ

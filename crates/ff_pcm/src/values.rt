@@ -1,7 +1,8 @@
 // One sample and its bytes.
 ghost use Rattle.std.specs.Prelude.{◌≡◌, ◌+◌, ◌*◌, ◌<◌, ◌≤◌, ◌^◌, ◌⊎◌, ℕ, length, slice_index, pos, ◌-ℤ◌};
 ghost use Rattle.ff_values.specs.Audio.{FitsBits};
-ghost use Rattle.ff_pcm.specs.Samples.{number, signed};
+ghost use Rattle.ff_bits.specs.Integers.{signed};
+ghost use Rattle.ff_pcm.specs.Samples.{number};
 
 pub(crate) fn number_2(bytes: &[u8], place: usize) -> u32
     requires { place + 2 ≤ length bytes.now }

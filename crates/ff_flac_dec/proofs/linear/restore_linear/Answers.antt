@@ -1,7 +1,7 @@
 use Rattle.std.proofs.Common.{◌≡◌, ◌∙◌, ◌+◌, ◌<◌, ◌++◌, ◌∷◌, [], ℤ, pos, ◌+ℤ◌, List, length, drop, get_or, to_z, of_z, refl, sym, ap, subst, arith, length-append}
 use Rattle.std.specs.Int.{w32, w64}
 use Rattle.std.proofs.lemmas.Int.{ints, to_z-of_z}
-use Rattle.ff_flac_frame.specs.Facts.{InDepth}
+use Rattle.ff_values.specs.Audio.{FitsBits}
 use Rattle.ff_flac_dec.specs.Values.{linear, restored, AllInDepth}
 use Rattle.ff_flac_dec.proofs.ValueLemmas.{leaves, IsSmall-in_depth, AllInDepth-push, restored-step}
 use Rattle.ff_flac_dec.proofs.ChannelLemmas.{all_wider}
@@ -16,13 +16,13 @@ returns-then-not-is_in_depth-clause-out c =
     let s = to_z-of_z w64 x c.next_sample-x.ensures.fits in
     let x-is = c.next_sample-x.ensures.value ∙ ap (λ (ys : List ℤ). linear c.args.coefs.now c.args.shift ys +ℤ get_or c.args.rest.now c.loop-r.r-index (pos 0)) c.as_slice.ensures.value in
     λ k all. leaves c.args.depth (linear c.args.coefs.now c.args.shift) c.loop-r.out.items c.args.rest.now _ c.loop-r.r-index x (omega arith) x-is c.loop-r.invariant.total
-    (λ g. let t = c.if-not-is_in_depth.ensures.1 (subst (λ (y : ℤ). InDepth c.args.depth y) (sym s) g) in cc) all
+    (λ g. let t = c.if-not-is_in_depth.ensures.1 (subst (λ (y : ℤ). FitsBits c.args.depth y) (sym s) g) in cc) all
 
 pub overflow_cast-x : goal.overflow_cast-x
 overflow_cast-x c =
     let x = c.next_sample-x.result in
     let s = to_z-of_z w64 x c.next_sample-x.ensures.fits in
-    let m = IsSmall-in_depth c.args.depth x c.requires.depth_high (subst (λ (y : ℤ). InDepth c.args.depth y) s (c.if-not-is_in_depth.ensures.0 refl)) in
+    let m = IsSmall-in_depth c.args.depth x c.requires.depth_high (subst (λ (y : ℤ). FitsBits c.args.depth y) s (c.if-not-is_in_depth.ensures.0 refl)) in
     rw s (omega (arith, ints))
 
 pub loop-r-preserved : goal.loop-r-preserved
@@ -31,7 +31,7 @@ loop-r-preserved c =
     let x = c.next_sample-x.result in
     let s = to_z-of_z w64 x c.next_sample-x.ensures.fits in
     let x-is = c.next_sample-x.ensures.value ∙ ap (λ (ys : List ℤ). linear c.args.coefs.now c.args.shift ys +ℤ get_or c.args.rest.now l.r-index (pos 0)) c.as_slice.ensures.value in
-    let g = subst (λ (y : ℤ). InDepth c.args.depth y) s (c.if-not-is_in_depth.ensures.0 refl) in
+    let g = subst (λ (y : ℤ). FitsBits c.args.depth y) s (c.if-not-is_in_depth.ensures.0 refl) in
     let m = IsSmall-in_depth c.args.depth x c.requires.depth_high g in
     let s32 : to_z w32 (of_z w32 x) ≡ x = to_z-of_z w32 x (omega (arith, ints)) in
     let e : to_z w32 (of_z w32 (to_z w64 (of_z w64 x))) ≡ x = rw s s32 in

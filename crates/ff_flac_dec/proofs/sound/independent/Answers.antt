@@ -10,6 +10,12 @@ use Rattle.ff_flac_dec.specs.Joins.{items_of}
 use Rattle.ff_flac_dec.proofs.SoundLemmas.{next_part, channels_go_on, channels_push}
 use Rattle.ff_flac_dec.proofs.sound.independent.Goals as goal
 
+pub samples_of-requires-clause-part : goal.samples_of-requires-clause-part
+samples_of-requires-clause-part c =
+    let l = c.loop-subframe in
+    let e = next_part c.args.subframes.now l.subframe-index c.subframe-item.result (omega arith) c.subframe-item.is in
+    (subst (λ (ps : List Part). AllByRecursion (IsPart c.args.block c.args.depth) ps) e l.invariant.parts).0
+
 pub loop-subframe-preserved : goal.loop-subframe-preserved
 loop-subframe-preserved c =
     let l = c.loop-subframe in

@@ -2,7 +2,7 @@ use Rattle.std.proofs.Common.{◌≡◌, ◌∙◌, ◌++◌, ◌∷◌, [], ◌
 use Rattle.std.specs.Int.{w32, w64}
 use Rattle.std.proofs.lemmas.Int.{ints, to_z-of_z}
 use Rattle.std.proofs.lemmas.List.{append-nil}
-use Rattle.ff_flac_frame.specs.Facts.{InDepth}
+use Rattle.ff_values.specs.Audio.{FitsBits}
 use Rattle.ff_flac_dec.specs.Values.{AllInDepth}
 use Rattle.ff_flac_dec.specs.Channels.{both}
 use Rattle.ff_flac_dec.specs.Joins.{joins}
@@ -16,13 +16,13 @@ returns-then-not-is_in_depth-clause-out c =
     let s = to_z-of_z w64 x c.joined-x.ensures.fits in
     let go = both_goes_on (joins c.args.join) l.out.items c.args.first.now c.args.second.now _ l.i x (omega arith) (omega arith) c.joined-x.ensures.value l.invariant.total in
     λ k all. part_leaves c.args.depth l.out.items _ _ x go
-    (λ g. let t = c.if-not-is_in_depth.ensures.1 (subst (λ (y : ℤ). InDepth c.args.depth y) (sym s) g) in cc) all
+    (λ g. let t = c.if-not-is_in_depth.ensures.1 (subst (λ (y : ℤ). FitsBits c.args.depth y) (sym s) g) in cc) all
 
 pub overflow_cast-x : goal.overflow_cast-x
 overflow_cast-x c =
     let x = c.joined-x.result in
     let s = to_z-of_z w64 x c.joined-x.ensures.fits in
-    let m = IsSmall-in_depth c.args.depth x c.requires.depth_high (subst (λ (y : ℤ). InDepth c.args.depth y) s (c.if-not-is_in_depth.ensures.0 refl)) in
+    let m = IsSmall-in_depth c.args.depth x c.requires.depth_high (subst (λ (y : ℤ). FitsBits c.args.depth y) s (c.if-not-is_in_depth.ensures.0 refl)) in
     rw s (omega (arith, ints))
 
 pub loop-i-preserved : goal.loop-i-preserved
@@ -30,7 +30,7 @@ loop-i-preserved c =
     let l = c.loop-i in
     let x = c.joined-x.result in
     let s = to_z-of_z w64 x c.joined-x.ensures.fits in
-    let g = subst (λ (y : ℤ). InDepth c.args.depth y) s (c.if-not-is_in_depth.ensures.0 refl) in
+    let g = subst (λ (y : ℤ). FitsBits c.args.depth y) s (c.if-not-is_in_depth.ensures.0 refl) in
     let m = IsSmall-in_depth c.args.depth x c.requires.depth_high g in
     let s32 : to_z w32 (of_z w32 x) ≡ x = to_z-of_z w32 x (omega (arith, ints)) in
     let e : to_z w32 (of_z w32 (to_z w64 (of_z w64 x))) ≡ x = rw s s32 in

@@ -1,5 +1,5 @@
-use Rattle.std.proofs.Common.{◌-◌, ◌^◌, ◌<◌, ◌∙◌}
-use Rattle.ff_flac_sub.specs.Subframe.{magnitude}
+use Rattle.std.proofs.Common.{◌∙◌}
+use Rattle.ff_values.specs.Audio.{FitsBits}
 use Rattle.ff_flac_enc.proofs.Apart.{some_in_channel, few_in_channel, channel_all, best_written}
 use Rattle.ff_flac_enc.proofs.frame.write_channel.Goals as goal
 
@@ -11,7 +11,7 @@ write_subframe-requires-clause-len c = few_in_channel c.args.n c.args.c c.args.s
 
 pub write_subframe-requires-clause-fits : goal.write_subframe-requires-clause-fits
 write_subframe-requires-clause-fits c =
-    channel_all (λ x. magnitude x < 2 ^ (c.args.bits - 1)) c.args.n c.args.c c.args.samples.now c.deref.result.now (c.deref.ensures.value ∙ c.in_ok-samples.ensures) c.requires.one c.requires.fits
+    channel_all (FitsBits c.args.bits) c.args.n c.args.c c.args.samples.now c.deref.result.now (c.deref.ensures.value ∙ c.in_ok-samples.ensures) c.requires.one c.requires.fits
 
 pub returns : goal.returns
 returns c =

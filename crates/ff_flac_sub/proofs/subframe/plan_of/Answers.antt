@@ -3,14 +3,14 @@ use Rattle.std.proofs.lemmas.List.Elements.{All-same}
 use Rattle.std.proofs.lemmas.Nat.{mul-le}
 use Rattle.ff_flac_sub.specs.Subframe.{magnitude}
 use Rattle.ff_flac_sub.proofs.Predict.{rest_of-zero}
-use Rattle.ff_flac_sub.proofs.Plans.{so_far, so_far-none, so_far-more, same_spellings, plan_next, small_enough, next_small, next_rest, plan_last}
+use Rattle.ff_flac_sub.proofs.Plans.{magnitudes, so_far, so_far-none, so_far-more, same_spellings, plan_next, small_enough, next_small, next_rest, plan_last}
 use Rattle.ff_flac_sub.proofs.subframe.plan_of.Goals as goal
 
 pub loop-order-init : goal.loop-order-init
 loop-order-init c = record {
   best = same_spellings c.args.depth c.args.samples.now _ _ c.constant_plan-best.result (sym (so_far-none c.args.samples.now)) c.constant_plan-best.ensures;
   rest = c.in_ok-rest.ensures.items ∙ sym (rest_of-zero c.args.samples.now);
-  small = All-same (λ x. magnitude x < 2 ^ 24) c.in_ok-rest.rest.items c.args.samples.now c.in_ok-rest.ensures.items c.requires.fits;
+  small = All-same (λ x. magnitude x < 2 ^ 24) c.in_ok-rest.rest.items c.args.samples.now c.in_ok-rest.ensures.items (magnitudes c.args.samples.now c.requires.fits);
 }
 
 pub fixed_plan-requires-clause-small : goal.fixed_plan-requires-clause-small

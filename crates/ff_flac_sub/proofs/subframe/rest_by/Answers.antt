@@ -2,13 +2,13 @@ use Rattle.std.proofs.Common.{◌≡◌, ◌<◌, ◌^◌, ap, sym, ◌∙◌, a
 use Rattle.std.proofs.lemmas.List.Elements.{All-same}
 use Rattle.ff_flac_sub.specs.Subframe.{magnitude, rest_of}
 use Rattle.ff_flac_sub.proofs.Predict.{rest_of-zero}
-use Rattle.ff_flac_sub.proofs.Plans.{small_enough, next_small, next_rest}
+use Rattle.ff_flac_sub.proofs.Plans.{magnitudes, small_enough, next_small, next_rest}
 use Rattle.ff_flac_sub.proofs.subframe.rest_by.Goals as goal
 
 pub loop-done-init : goal.loop-done-init
 loop-done-init c = record {
   rest = c.in_ok-rest.ensures.items ∙ sym (rest_of-zero c.args.samples.now);
-  small = All-same (λ x. magnitude x < 2 ^ 24) c.in_ok-rest.rest.items c.args.samples.now c.in_ok-rest.ensures.items c.requires.fits;
+  small = All-same (λ x. magnitude x < 2 ^ 24) c.in_ok-rest.rest.items c.args.samples.now c.in_ok-rest.ensures.items (magnitudes c.args.samples.now c.requires.fits);
 }
 
 pub take_steps-requires : goal.take_steps-requires
