@@ -1,13 +1,12 @@
 -- What loops over maps, streams and outputs keep.
-use Rattle.std.proofs.Common.{◌≡◌, ◌⊎◌, inl, inr, ℕ, zero, suc, ◌+◌, ◌<◌, ◌≤◌, Bool, true, false, not, List, [], ◌∷◌, ◌++◌, map, drop, length, get_or, Option, None, Some, refl, sym, ap, ◌∙◌, append_assoc, arith}
+use Rattle.std.proofs.Common.{◌≡◌, inl, inr, ℕ, zero, suc, ◌+◌, ◌<◌, ◌≤◌, Bool, true, false, not, List, [], ◌∷◌, ◌++◌, map, drop, length, get_or, Option, refl, sym, ap, ◌∙◌, append_assoc, arith}
 use Rattle.std.proofs.lemmas.List.{append-nil}
 use Rattle.std.specs.Prelude.{Ok, Err}
-use Rattle.std.specs.List.{AllByRecursion, flat_map, cons_option}
+use Rattle.std.specs.List.{AllByRecursion, flat_map}
 use Rattle.std.specs.declared.alloc.Global.{Global}
 use Rattle.std.specs.declared.vec.Vec.{Vec}
 use Rattle.ff_values.specs.declared.head.StreamHead.{StreamHead}
 use Rattle.ff_lang.specs.declared.graph.Graph.{Graph}
-use Rattle.ff_map.specs.declared.map.Kind.{Kind}
 use Rattle.ff_map.specs.declared.map.MapFrom.{MapFrom}
 use Rattle.ff_map.specs.declared.map.MapFrom.TheVariants as from
 use Rattle.ff_map.specs.declared.map.MapSpec.{MapSpec}
@@ -23,7 +22,7 @@ use Rattle.ff_plan.specs.Layout.{Laid}
 use Rattle.ff_plan.specs.Plain.{plain, rows, unfiltered, IsBare, IsRefused}
 use Rattle.ff_plan.specs.Planned.{outputs_from, labels_of, graphs_of}
 use Rattle.ff_plan.specs.Rules.{Planned, behind, unless, where_so}
-use Rattle.ff_plan.specs.Streams.{Passed, mapped, all_mapped, asked, chosen, some_or, front_with, label_in, takes, packed_as, passed, passed_from, passed_by, as_it_is, all_passed, graph_of, simple_of}
+use Rattle.ff_plan.specs.Streams.{Passed, mapped, all_mapped, asked, chosen, some_or, front_with, label_in, takes, packed_as, passed, passed_from, passed_by, all_passed, graph_of}
 use Rattle.ff_plan.specs.Today.{no_filters}
 use Rattle.ff_plan.proofs.Plain.{simple_none}
 

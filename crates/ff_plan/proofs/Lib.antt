@@ -6,6 +6,7 @@ mod Known
 mod Laid
 mod Layouts
 mod Limits
+mod Memory
 mod Named
 mod Numbered
 mod Places

@@ -1,16 +1,15 @@
 -- What the limits of a job give.
-use Rattle.std.proofs.Common.{◌≡◌, ℕ, zero, suc, ◌+◌, ◌*◌, ◌^◌, ◌<◌, ◌≤◌, Bool, true, false, cond, List, [], ◌∷◌, ◌++◌, map, length, vec_len, refl, sym, ap, ◌∙◌, subst, arith}
+use Rattle.std.proofs.Common.{◌≡◌, ℕ, suc, ◌+◌, ◌*◌, ◌^◌, ◌<◌, ◌≤◌, Bool, true, false, cond, List, [], ◌∷◌, ◌++◌, length, vec_len, refl, ap, arith}
 use Rattle.std.specs.List.{AllByRecursion, filter, range_with_len}
 use Rattle.std.specs.declared.alloc.Global.{Global}
 use Rattle.std.specs.declared.vec.Vec.{Vec}
 use Rattle.ff_values.specs.declared.head.StreamHead.{StreamHead}
-use Rattle.ff_words.specs.declared.job.OutputJob.{OutputJob}
 use Rattle.ff_map.specs.Choice.{lists, numbered, streams_from, all_streams}
 use Rattle.ff_plan.specs.declared.layout.OutStream.{OutStream}
 use Rattle.ff_plan.specs.declared.layout.Placed.{Placed}
-use Rattle.ff_plan.specs.Layout.{IsAmong, place_from}
+use Rattle.ff_plan.specs.Layout.{place_from}
 use Rattle.ff_map.specs.declared.streams.Stream.{Stream}
-use Rattle.ff_plan.specs.Plain.{rows, shown_by, IsSmall, plain_streams, plain_inputs, plain_wires, demux_wires, enc_wires, mux_wires, demux_wire_of, enc_wire_of, mux_wire_of}
+use Rattle.ff_plan.specs.Plain.{rows, shown_by, IsSmall, plain_streams, plain_wires, demux_wires, enc_wires, mux_wires, demux_wire_of, enc_wire_of, mux_wire_of}
 use Rattle.ff_plan.proofs.Among.{all_among}
 use Rattle.ff_plan.proofs.Layouts.{joined_length, map_length, place_in, range_length}
 

@@ -19,7 +19,7 @@ use Rattle.ff_plan.specs.Laws.{GoUpward}
 use Rattle.ff_plan.specs.Nodes.{plan_of}
 use Rattle.ff_plan.specs.Ports.{shape_of, IsFed}
 use Rattle.ff_plan.specs.Plain.{plain, plain_layout, plain_plan, rows, unfiltered, IsBare, IsRefused}
-use Rattle.ff_plan.specs.Planned.{outputs_from, limited, laid_out, planned, simple_graphs, layout_of}
+use Rattle.ff_plan.specs.Planned.{outputs_from, limited, planned, simple_graphs, layout_of}
 use Rattle.ff_plan.specs.Rules.{Planned, behind, unless, or_else, where_so}
 use Rattle.ff_plan.specs.Streams.{Passed, graph_of}
 use Rattle.ff_plan.specs.Today.{no_filters, unbuilt, unbuilt_complex, unbuilt_simple, unbuilt_in, unbuilt_from, planned_today}

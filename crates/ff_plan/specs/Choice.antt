@@ -1,6 +1,6 @@
 -- The streams behind their places, and the automatic choice as a function. Which streams a map names, and which are the best
 -- of their kind, is said in ff_map.
-use Rattle.std.specs.Prelude.{ℕ, nat_lt, Bool, true, false, cond, if◌then◌else◌, List, [], ◌∷◌, ◌++◌, Option, Some, None, slice_get, unwrap_or, option_to_list}
+use Rattle.std.specs.Prelude.{nat_lt, Bool, true, false, cond, if◌then◌else◌, List, [], ◌∷◌, ◌++◌, Option, Some, None, slice_get, unwrap_or, option_to_list}
 use Rattle.std.specs.List.{filter_map}
 use Rattle.ff_values.specs.declared.head.StreamHead.{StreamHead}
 use Rattle.ff_values.specs.declared.head.StreamHead.TheVariants as stream_head

@@ -1,6 +1,6 @@
 -- What is built: plans of jobs without graphs and without `-shortest`. A job that asks for more is refused by what it asks for
 -- first: a graph over several streams, then by output a graph for its video, one for its audio, its `-shortest`.
-use Rattle.std.specs.Prelude.{ℕ, ◌+◌, Bool, false, List, [], ◌∷◌, Option, Some, None, Err}
+use Rattle.std.specs.Prelude.{ℕ, ◌+◌, false, List, [], ◌∷◌, Option, Some, None, Err}
 use Rattle.ff_values.specs.declared.config.ConfigError.TheVariants as config
 use Rattle.ff_values.specs.declared.head.StreamHead.{StreamHead}
 use Rattle.ff_lang.specs.declared.graph.Graph.{Graph}

@@ -1,6 +1,12 @@
 // What holds of the edges of every plan.
 ghost use Rattle.std.specs.Prelude.{◌≡◌, ◌<◌, ◌≤◌, Some, slice_get, ℕ, List, [], length, Ok};
 ghost use Rattle.std.specs.List.{AllByRecursion};
+ghost use Rattle.std.specs.Prelude.{Err, Bool};
+ghost use Rattle.ff_map.specs.Choice.{AreBest};
+ghost use Rattle.ff_map.specs.declared.streams.StreamRef.{StreamRef};
+ghost use Rattle.ff_plan.specs.Choice.{best};
+ghost use Rattle.ff_plan.specs.Today.{planned_today};
+ghost use Rattle.ff_plan.specs.declared.planned.PlanError.TheVariants as fault;
 ghost use Rattle.ff_plan.specs.Wires.{Wire, edges_of};
 ghost use Rattle.ff_plan.specs.Ports.{shape_of, IsFed};
 ghost use Rattle.ff_values.specs.declared.head.StreamHead.{StreamHead};
@@ -84,4 +90,14 @@ pub fn plans_have_few_streams()
 /// The Mux of an output stands at its number.
 pub fn muxes_are_last()
     ensures { (l : Layout) (o : ℕ) → o < length l.outputs → slice_get (nodes_of l) (mux_at l o) ≡ Some (node.Mux o) }
+{}
+
+/// The automatic choice is the best choice of the streams, and no other is.
+pub fn best_choices_are_one()
+    ensures { (video audio : Bool) (heads : List (List StreamHead)) (refs : List StreamRef) → AreBest video audio heads refs → best heads video audio ≡ refs }
+{}
+
+/// No plan is refused for want of memory: that answer says nothing of the job.
+pub fn plans_never_want_memory()
+    ensures { (job : Job) (heads : List (List StreamHead)) → planned_today job heads ≡ Err fault.NoMemory → ⊥ }
 {}

@@ -27,4 +27,4 @@ mod takes;
 
 pub use number::{Wire, number_ports};
 pub use planned::{Edge, Plan, PlanError, PlanNode, Unbuilt};
-pub use planning::plan;
+pub use planning::{is_within_limits, plan};

@@ -1,4 +1,4 @@
-ghost use Rattle.std.specs.Prelude.{◌≡◌, ◌≤◌, None, Some, Ok, IfOk, IfErr, length, vec_len};
+ghost use Rattle.std.specs.Prelude.{◌≡◌, ◌≤◌, true, false, None, Some, Ok, IfOk, IfErr, length, vec_len};
 ghost use Rattle.std.specs.List.{AllByRecursion};
 ghost use Rattle.ff_map.specs.Choice.{lists};
 ghost use Rattle.ff_plan.specs.Laws.{GoUpward};
@@ -16,6 +16,9 @@ use ff_sched::{Graphs, Routes, Ways};
 use ff_values::StreamHead;
 use ff_words::{Job, OutputJob};
 use std::alloc::{AllocError, Global};
+
+// How many inputs, streams of one, outputs and maps of one there may be.
+const MOST: usize = 16;
 
 fn has_parts(output: u32, out: &OutputJob) -> Result<(), PlanError>
     ensures all { IfOk result (λ _. unbuilt_in output out.now ≡ None) }
@@ -82,6 +85,43 @@ fn numbered(
         edges: Sequence::of(edges),
         routes,
     })
+}
+
+// Whether each input has few streams.
+fn are_narrow(heads: &[Vec<StreamHead>]) -> bool
+    ensures yes { result ≡ true → AllByRecursion (λ hs. length hs ≤ 16) (lists heads.now) }
+    ensures no { result ≡ false → AllByRecursion (λ hs. length hs ≤ 16) (lists heads.now) → ⊥ }
+{
+    for streams in heads {
+        if streams.as_slice().len() > MOST {
+            return false;
+        }
+    }
+    true
+}
+
+// Whether each output has few maps.
+fn have_few_maps(outs: &[OutputJob]) -> bool
+    ensures yes { result ≡ true → AllByRecursion (λ out. length out.maps ≤ 16) outs.now }
+    ensures no { result ≡ false → AllByRecursion (λ out. length out.maps ≤ 16) outs.now → ⊥ }
+{
+    for out in outs {
+        if out.maps.as_slice().len() > MOST {
+            return false;
+        }
+    }
+    true
+}
+
+/// Whether a job and the heads of its inputs are within the limits that `plan` asks for: at most 16 inputs of at most 16
+/// streams, and at most 16 outputs of at most 16 maps.
+pub fn is_within_limits(job: &Job, heads: &[Vec<StreamHead>]) -> bool
+    ensures yes { result ≡ true → IsWithinLimits job.now (lists heads.now) }
+    ensures no { result ≡ false → IsWithinLimits job.now (lists heads.now) → ⊥ }
+{
+    let outs = job.outputs.as_slice();
+    let few = heads.len() <= MOST && outs.len() <= MOST;
+    few && are_narrow(heads) && have_few_maps(outs)
 }
 
 /// The plan of a job with these heads of each of its inputs, or the refusal that comes first: of what isn't built, then of

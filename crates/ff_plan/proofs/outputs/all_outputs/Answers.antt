@@ -1,4 +1,4 @@
-use Rattle.std.proofs.Common.{◌≡◌, ℕ, ◌+◌, ◌≤◌, List, [], ◌∷◌, ◌++◌, map, drop, vec_len, sym, ap, ◌∙◌, subst, arith}
+use Rattle.std.proofs.Common.{◌+◌, ◌≤◌, List, [], map, drop, vec_len, sym, ap, ◌∙◌, subst, arith}
 use Rattle.std.specs.List.{AllByRecursion}
 use Rattle.std.specs.declared.alloc.Global.{Global}
 use Rattle.std.specs.declared.vec.Vec.{Vec}
@@ -8,9 +8,9 @@ use Rattle.ff_plan.specs.declared.layout.OutStream.{OutStream}
 use Rattle.ff_plan.specs.Plain.{plain, rows, unfiltered}
 use Rattle.ff_plan.specs.Planned.{outputs_from}
 use Rattle.ff_plan.specs.Rules.{Planned, behind}
-use Rattle.ff_plan.specs.Streams.{Passed, all_passed, front_with}
+use Rattle.ff_plan.specs.Streams.{all_passed, front_with}
 use Rattle.ff_plan.specs.Today.{no_filters}
-use Rattle.ff_plan.proofs.Fronts.{output_streams, output_next, all_more}
+use Rattle.ff_plan.proofs.Fronts.{output_next, all_more}
 use Rattle.ff_plan.proofs.outputs.all_outputs.Goals as goal
 
 pub loop-output-preserved : goal.loop-output-preserved

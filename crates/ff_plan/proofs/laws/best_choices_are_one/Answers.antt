@@ -1,0 +1,5 @@
+use Rattle.ff_plan.proofs.Best.{best_is}
+use Rattle.ff_plan.proofs.laws.best_choices_are_one.Goals as goal
+
+pub returns : goal.returns
+returns c = λ video audio heads refs h. best_is video audio heads refs h
