@@ -1,6 +1,7 @@
 pub mod Chaining
 pub mod Configuring
 pub mod Moves
+pub mod Parts
 pub mod Setting
 pub mod Stepping
 pub mod Taking

@@ -12,5 +12,6 @@ pub mod Ranges
 pub mod Runs
 pub mod Shifts
 pub mod Singles
+pub mod Sound
 pub mod StepperLaws
 pub mod Views

@@ -1,14 +1,13 @@
 -- The laws of a filter as a machine, from those of the filter.
-use Rattle.std.specs.Prelude.{◌≡◌, ℕ, ◌<◌, ◌≤◌, Bool, true, false, [], length, Option, None, Some, refl}
-use Rattle.std.proofs.Common.{sym, ◌∙◌, arith, subst, ap}
+use Rattle.std.specs.Prelude.{◌≡◌, ℕ, ◌<◌, Bool, true, false, length, Some, refl}
+use Rattle.std.proofs.Common.{◌∙◌, arith, ap}
 use Rattle.ff_net.specs.declared.fault.Fault.{Fault}
 use Rattle.ff_net.specs.declared.fault.Fault.TheVariants.{Device}
-use Rattle.ff_net.specs.Views.{View as NetView, IsSameShape}
+use Rattle.ff_net.specs.Views.{IsSameShape}
 use Rattle.ff_net.specs.Laws.{FaultStep, Laws}
 use Rattle.ff_net.specs.Silence.{silent_front}
 use Rattle.ff_net.proofs.Matters.{may_spend}
 use Rattle.ff_filter.specs.Views.{View, SamePorts, IsSpent, AllDone}
-use Rattle.ff_net_filter.specs.Tasks.{Stands}
 use Rattle.ff_net_filter.specs.Alones.{fault_by, alone_view, not_too_long, fault_caused}
 use Rattle.ff_net_filter.specs.StandLaws.{task_keeps, task_monotone, task_calm, task_settles, given, spent_only, all_done}
 

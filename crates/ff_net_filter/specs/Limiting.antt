@@ -1,21 +1,18 @@
 -- Functions behind limits, and one behind another.
-use Rattle.std.specs.Prelude.{◌≡◌, ◌≢◌, ℕ, zero, suc, ◌+◌, ◌<◌, ◌≤◌, ◌⊎◌, Bool, true, false, ◌||◌, ◌&&◌, ◌==◌, cond, List, [], ◌∷◌, ◌++◌, length, Option, None, Some, refl}
+use Rattle.std.specs.Prelude.{◌≡◌, ◌≢◌, ℕ, zero, suc, ◌+◌, ◌<◌, ◌⊎◌, Bool, true, false, ◌||◌, ◌&&◌, ◌==◌, cond, List, [], ◌∷◌, ◌++◌, length, Option, None, Some, refl}
 use Rattle.std.proofs.Common.{inl, inr, ap, sym, ◌∙◌, subst, arith}
 use Rattle.std.proofs.lemmas.Bool.Decides.{nat_tests}
 use Rattle.ff_frame.specs.declared.item.Item.{Item}
 use Rattle.ff_frame.specs.declared.item.Lane.{Lane}
 use Rattle.ff_frame.specs.Stream.{Mark, still_open, whole, broken, LiesBelow, opened}
-use Rattle.ff_frame.specs.Ports.{nothing, stream_at, AllBelow, AllUnbroken, IsUnbroken, IsClosed, IsMonotone}
-use Rattle.ff_frame.specs.Order.{all_trans, prefix_self, below_both, below_self, below_trans, below_items, closed_below}
+use Rattle.ff_frame.specs.Ports.{nothing, stream_at, AllBelow, AllUnbroken, IsUnbroken}
+use Rattle.ff_frame.specs.Order.{below_self, below_trans, below_items, closed_below}
 use Rattle.ff_frame.specs.Lanes.{AreInShape, IsValid}
 use Rattle.ff_frame.specs.Within.{some_pass, passes_limits}
 use Rattle.ff_frame.specs.WithinLaws.{within_valid}
 use Rattle.ff_net.specs.declared.fault.Fault.{Fault}
 use Rattle.ff_net.specs.declared.fault.Fault.TheVariants.{TooLong}
-use Rattle.ff_net.specs.Ways.{lane_at, IsValidOn, AreValid}
-use Rattle.ff_net.specs.Pasts.{Task, Past, IsIn}
-use Rattle.ff_net.specs.Laws.{OutputsClose}
-use Rattle.ff_net.proofs.Flows.{broken_valid_on, same_or_not}
+use Rattle.ff_net.specs.Ways.{AreValid}
 use Rattle.ff_filter.specs.Joins.{Flow, Ports, EachBelow, all_opened, Grows, HidesBreaks}
 use Rattle.ff_filter.specs.Chains.{wire}
 use Rattle.ff_filter.specs.Limits.{limited, limited_is}

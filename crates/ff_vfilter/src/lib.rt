@@ -9,10 +9,12 @@
 //! function it is by its arguments, or refuses; its machine meets `ff_filter::Filter`.
 #![tactic(auto)]
 
+mod laws;
 mod null;
 mod set_pts;
 mod trim;
 
+pub use laws::pictures_kept_are_valid;
 pub use null::Null;
 pub use set_pts::SetPts;
 pub use trim::Trim;
