@@ -1,2 +1,3 @@
-pub mod Trimming
+pub mod Resizing
 pub mod TrimSound
+pub mod Trimming
