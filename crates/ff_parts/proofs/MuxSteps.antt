@@ -20,7 +20,7 @@ use Rattle.ff_net.specs.Ways.{Flow, AreValid}
 use Rattle.ff_net.specs.Pasts.{Past, fed}
 use Rattle.ff_net.specs.Laws.{IsOfInputs}
 use Rattle.ff_net.proofs.Flows.{stream_at-with_item_same, stream_at-with_item_other}
-use Rattle.ff_parts.specs.Muxing.{packet_in, hash_body, unpatched, MuxStands, lines_before, lines_of}
+use Rattle.ff_parts.specs.Muxing.{packet_in, hash_body, written, MuxStands, lines_before, lines_of}
 
 -- ---- bytes that are told
 
@@ -41,25 +41,25 @@ lines_added xs x =
     ap (flat_map (packet_line 0)) (flat_map-append packet_in xs (x ∷ []) ∙ ap (λ ps. flat_map packet_in xs ++ ps) (append-nil (packet_in x)))
     ∙ flat_map-append (packet_line 0) (flat_map packet_in xs) (packet_in x)
 
-item_added : (head : StreamHead) (s : Flow) (x : Item) → unpatched head (with_item s x) ≡ unpatched head s ++ lines_of x
+item_added : (head : StreamHead) (s : Flow) (x : Item) → written head (with_item s x) ≡ written head s ++ lines_of x
 item_added head s (Audio f) = ap (λ b. header head ++ b) (lines_added s.items (Audio f)) ∙ sym (append_assoc (header head) (hash_body s.items) (lines_of (Audio f)))
 item_added head s (Video f) = ap (λ b. header head ++ b) (lines_added s.items (Video f)) ∙ sym (append_assoc (header head) (hash_body s.items) (lines_of (Video f)))
 item_added head s (Packet p) = ap (λ b. header head ++ b) (lines_added s.items (Packet p)) ∙ sym (append_assoc (header head) (hash_body s.items) (lines_of (Packet p)))
 item_added head s (Trailer x) = ap (λ b. header head ++ b) (lines_added s.items (Trailer x)) ∙ sym (append_assoc (header head) (hash_body s.items) (lines_of (Trailer x)))
-item_added head s End = sym (append-nil (unpatched head s))
-item_added head s Broken = sym (append-nil (unpatched head s))
+item_added head s End = sym (append-nil (written head s))
+item_added head s Broken = sym (append-nil (written head s))
 
 -- what stands, the lines before the packets where nothing stands, and the item's line
-grown : (head : StreamHead) (begun : Bool) (s : Flow) (x : Item) (bytes : List ℕ) → (begun ≡ false → s ≡ nothing) → (begun ≡ true → s ≢ nothing) → (s ≡ nothing → bytes ≡ []) → (s ≢ nothing → bytes ≡ unpatched head s)
-    → bytes ++ (lines_before begun head ++ lines_of x) ≡ unpatched head (with_item s x)
+grown : (head : StreamHead) (begun : Bool) (s : Flow) (x : Item) (bytes : List ℕ) → (begun ≡ false → s ≡ nothing) → (begun ≡ true → s ≢ nothing) → (s ≡ nothing → bytes ≡ []) → (s ≢ nothing → bytes ≡ written head s)
+    → bytes ++ (lines_before begun head ++ lines_of x) ≡ written head (with_item s x)
 grown head true s x bytes not has fresh exact = ap (λ w. w ++ lines_of x) (exact (has refl)) ∙ sym (item_added head s x)
 grown head false s x bytes not has fresh exact =
     let e : s ≡ nothing = not refl in
     ap (λ w. w ++ (header head ++ lines_of x)) (fresh e)
     ∙ (ap (λ h. h ++ lines_of x) (sym (append-nil (header head)))
-    ∙ (sym (item_added head nothing x) ∙ ap (λ (t : Flow). unpatched head (with_item t x)) (sym e)))
+    ∙ (sym (item_added head nothing x) ∙ ap (λ (t : Flow). written head (with_item t x)) (sym e)))
 
-front_added : (head : StreamHead) (s : Flow) (x : Item) (bytes : List ℕ) → IsPrefix bytes (unpatched head s) → IsPrefix bytes (unpatched head (with_item s x))
+front_added : (head : StreamHead) (s : Flow) (x : Item) (bytes : List ℕ) → IsPrefix bytes (written head s) → IsPrefix bytes (written head (with_item s x))
 front_added head s x bytes p = (p.0 ++ lines_of x, sym (append_assoc bytes p.0 (lines_of x)) ∙ (ap (λ w. w ++ lines_of x) p.1 ∙ sym (item_added head s x)))
 
 -- ---- flags
@@ -90,7 +90,7 @@ none_is (Some c) e = cc
 module _ (holds now : Option (List ℕ)) (head : StreamHead) (begun closed closes : Bool) (fault : Option Fault) (past : Past) (x : Item) (s : MuxStands holds head begun closed fault past) (flag : closes ≡ true ↔ Closes x) where
   -- an item was fed to an open stream
   fed_one : (fault' : Option Fault) (bytes : List ℕ) → (stream_at past.got 0).mark ≡ still_open → IsValid (Packets head) (stream_at (fed past 0 x).got 0) → now ≡ Some bytes
-      → (fault' ≡ None → bytes ≡ unpatched head (with_item (stream_at past.got 0) x)) → IsPrefix bytes (unpatched head (with_item (stream_at past.got 0) x)) → ((c : Fault) → fault' ≡ Some c → IsOfInputs c → ⊥)
+      → (fault' ≡ None → bytes ≡ written head (with_item (stream_at past.got 0) x)) → IsPrefix bytes (written head (with_item (stream_at past.got 0) x)) → ((c : Fault) → fault' ≡ Some c → IsOfInputs c → ⊥)
       → MuxStands now head true (closed || closes) fault' (fed past 0 x)
   fed_one fault' bytes o v told exact front own =
       let got = stream_at past.got 0 in

@@ -10,7 +10,7 @@ use Rattle.ff_net.specs.Pasts.{Past, Task, due}
 use Rattle.ff_net.specs.Laws.{CauseStays, IsOfInputs, MaySpend}
 use Rattle.ff_net.proofs.Flows.{due_meant}
 use Rattle.ff_parts.specs.declared.mux.Mux.{Mux}
-use Rattle.ff_parts.specs.Muxing.{unpatched, file, HoldsFront}
+use Rattle.ff_parts.specs.Muxing.{written, file, HoldsFront}
 use Rattle.ff_parts.specs.Muxers.{mux_sink, mux_head, mux_stands, mux_in_lanes, mux_fault, mux_spent}
 
 no_fault : (c : Fault) → None ≡ Some c → ⊥
@@ -65,16 +65,16 @@ module _ {K : Type 0} (holds : K → Option (List ℕ)) (m : Mux K) (past : Past
   mux_holds_nothing e = s.1.told ∙ ap (λ (b : List ℕ). Some b) (s.1.fresh e).0
 
   -- without a fault it holds afterwards what is written of the stream
-  pub mux_holds : mux_fault m ≡ None → stream_at past.got 0 ≢ nothing → holds (mux_sink m) ≡ Some (unpatched (mux_head m) (stream_at past.got 0))
+  pub mux_holds : mux_fault m ≡ None → stream_at past.got 0 ≢ nothing → holds (mux_sink m) ≡ Some (written (mux_head m) (stream_at past.got 0))
   mux_holds f n = s.1.told ∙ ap (λ (b : List ℕ). Some b) (s.1.exact f n)
 
   -- of a whole stream that is its file
   pub mux_holds_file : mux_fault m ≡ None → IsWhole (stream_at past.got 0) → holds (mux_sink m) ≡ file (mux_head m) (stream_at past.got 0)
   mux_holds_file f w = mux_holds f (λ e. let o : still_open ≡ whole = ap (λ (t : Flow). t.mark) (sym e) ∙ w in cc) ∙ sym (its_file (stream_at past.got 0) w)
     where
-      its_file : (t : Flow) → t.mark ≡ whole → file (mux_head m) t ≡ Some (unpatched (mux_head m) t)
+      its_file : (t : Flow) → t.mark ≡ whole → file (mux_head m) t ≡ Some (written (mux_head m) t)
       its_file t w = rw w refl
 
   -- whatever went wrong, it holds a front of that
-  pub mux_holds_front : HoldsFront (holds (mux_sink m)) (unpatched (mux_head m) (stream_at past.got 0))
+  pub mux_holds_front : HoldsFront (holds (mux_sink m)) (written (mux_head m) (stream_at past.got 0))
   mux_holds_front = (s.0, s.1.told, s.1.front)

@@ -11,7 +11,8 @@ use Rattle.ff_frame.specs.declared.item.Lane.TheVariants.{Packets}
 use Rattle.ff_frame.specs.Stream.{Stream}
 use Rattle.ff_frame.specs.Lanes.{IsValid}
 use Rattle.ff_frame.specs.Ports.{nothing, stream_at, IsClosed}
-use Rattle.ff_mux.specs.FrameHash.{header, packet_line, written, file as file_of}
+use Rattle.ff_mux.specs.FrameHash.{header, packet_line}
+use Rattle.ff_mux.specs.FrameHash as frame_hash
 use Rattle.ff_net.specs.declared.fault.Fault.{Fault}
 use Rattle.ff_net.specs.Ways.{Flow}
 use Rattle.ff_net.specs.Pasts.{Past, Task, no_events}
@@ -34,12 +35,12 @@ abbrev pub hash_body : List Item → List ℕ
 hash_body xs = flat_map (packet_line 0) (flat_map packet_in xs)
 
 -- what is written of a stream so far
-abbrev pub unpatched : StreamHead → Flow → List ℕ
-unpatched head s = written head (packets_in s).items
+abbrev pub written : StreamHead → Flow → List ℕ
+written head s = frame_hash.written head (packets_in s).items
 
 -- the file of a stream, once it is whole
 abbrev pub file : StreamHead → Flow → Option (List ℕ)
-file head s = file_of head (packets_in s)
+file head s = frame_hash.file head (packets_in s)
 
 -- it gives no stream, and no fault of its own
 abbrev pub mux_task : StreamHead → Task
@@ -59,9 +60,9 @@ pub record Muxes (holds : Option (List ℕ)) (head : StreamHead) (begun closed :
   -- before the first item: nothing, and no fault
   pub fresh : stream_at past.got 0 ≡ nothing → (bytes ≡ []) × (fault ≡ None)
   -- without a fault: all that is written of the stream
-  pub exact : fault ≡ None → stream_at past.got 0 ≢ nothing → bytes ≡ unpatched head (stream_at past.got 0)
+  pub exact : fault ≡ None → stream_at past.got 0 ≢ nothing → bytes ≡ written head (stream_at past.got 0)
   -- with one: a front of that
-  pub front : IsPrefix bytes (unpatched head (stream_at past.got 0))
+  pub front : IsPrefix bytes (written head (stream_at past.got 0))
   pub own : (c : Fault) → fault ≡ Some c → IsOfInputs c → ⊥
 
 abbrev pub MuxStands : Option (List ℕ) → StreamHead → Bool → Bool → Option Fault → Past → Type 0

@@ -7,7 +7,7 @@ ghost use Rattle.ff_frame.specs.Ports.{nothing, stream_at, IsWhole};
 ghost use Rattle.ff_mux.specs.Puts.{hash_head};
 ghost use Rattle.ff_net.specs.Laws.{Rose, IsOfInputs};
 ghost use Rattle.ff_net.specs.Pasts.{Past, start};
-ghost use Rattle.ff_parts.specs.Muxing.{unpatched, file, HoldsFront, mux_task, lines_before, lines_of};
+ghost use Rattle.ff_parts.specs.Muxing.{written, file, HoldsFront, mux_task, lines_before, lines_of};
 
 use ff_frame::{Event, Item, Refused, StreamHead, Ticket};
 use ff_host::{Sink, SinkError};
@@ -58,10 +58,10 @@ impl<K: Sink + Drop> Mux<K> {
         ensures sink { result ≡ mux_sink self }
         ensures fresh { (past : Past) → mux_stands K.holds self past → stream_at past.got 0 ≡ nothing → K.holds result ≡ Some [] }
         ensures exact { (past : Past) → mux_stands K.holds self past → mux_fault self ≡ None → stream_at past.got 0 ≢ nothing
-            → K.holds result ≡ Some (unpatched (mux_head self) (stream_at past.got 0)) }
+            → K.holds result ≡ Some (written (mux_head self) (stream_at past.got 0)) }
         ensures whole { (past : Past) → mux_stands K.holds self past → mux_fault self ≡ None → IsWhole (stream_at past.got 0)
             → K.holds result ≡ file (mux_head self) (stream_at past.got 0) }
-        ensures front { (past : Past) → mux_stands K.holds self past → HoldsFront (K.holds result) (unpatched (mux_head self) (stream_at past.got 0)) }
+        ensures front { (past : Past) → mux_stands K.holds self past → HoldsFront (K.holds result) (written (mux_head self) (stream_at past.got 0)) }
     {
         self.snk
     }

@@ -1,19 +1,21 @@
 -- From the steps of a job to the whole.
 use Rattle.std.proofs.Common.{◌≡◌, ◌⊎◌, ◌++◌, inl, inr, ℕ, true, List, [], Option, Some, None, Ok, Err, IsSome, IfSome, refl, sym, ◌∙◌, ap, subst}
+use Rattle.std.specs.Option.{option_map, option_and_then}
+use Rattle.std.specs.Result.{result_ok}
 use Rattle.ff_host.specs.Causes.{Rose, SameElsewhere}
 use Rattle.ff_host.specs.Files.{Files, bytes_at, KeepsFiles, KeepsOthers, GivesFile, HoldsNothing, PutsFile}
 use Rattle.ff_wav.specs.declared.head.WavHead.{WavHead}
 use Rattle.ff_cut.specs.declared.fault.HeadFault.{HeadFault}
 use Rattle.ff_cut.specs.declared.fault.HeadFault.TheVariants as head_fault
 use Rattle.ff_wav.specs.Heads.{Found, head}
-use Rattle.ff_parts.specs.Muxing.{HoldsFront}
+use Rattle.ff_parts.specs.Muxing.{written, file, HoldsFront}
 use Rattle.ff_wav.specs.Cuts.{wav_cutter}
 use Rattle.ff_parts.specs.Demuxing.{demux_of, is_too_long}
 use Rattle.ff_parts.specs.DemuxLaws.{demux_mark}
 use Rattle.ff_frame.specs.Stream.{Mark, still_open, whole, broken}
 use Rattle.ff_mux.specs.FrameHash.{once_whole}
 use Rattle.ff_run.specs.Words.{Job}
-use Rattle.ff_run.specs.Meaning.{file_of, file_with, text_of, text_with, framehash, framehash_text}
+use Rattle.ff_run.specs.Meaning.{out_head, out_packets, file_of_input, written_of_input}
 use Rattle.ff_run.specs.Answers.{Command, Counts, ComesBeforeOutputs, KeepsInputCount, KeepsOutputCount, KeepsOtherCounts, HoldsMeaning, HoldsFront as HoldsFrontOf, refusal, IsHeadRefused, IsLong, IsInputLong, IsMeaningful, InputFaulted, OutputFaulted}
 use Rattle.ff_run.specs.Steps.{Failures, EndsPath, AreTold, HoldsFile, IsFileAt, IsFrontAt, IsRead, IsInputRead, MeansSomething, EndsJob, EndsHead, status_with_end}
 use Rattle.ff_run.specs.declared.input.InputEnd.{InputEnd}
@@ -28,7 +30,7 @@ fresh None left held bytes n t = absurd cc
 fresh (Some f) left held bytes n t = n
 
 file_put : (now : Files) (name : List ℕ) (held : Option (List ℕ)) (h : WavHead) (bytes : List ℕ) → ((b : List ℕ) → held ≡ Some b → now name ≡ Some b) → HoldsFile h bytes held → HoldsFile h bytes (now name)
-file_put now name None h bytes p f = let n : file_with h bytes ≡ None = sym f.1 in absurd (subst (λ (o : Option (List ℕ)). IsSome o → ⊥) (sym n) (λ x. cc) f.0)
+file_put now name None h bytes p f = let n : file (out_head h) (out_packets h bytes) ≡ None = sym f.1 in absurd (subst (λ (o : Option (List ℕ)). IsSome o → ⊥) (sym n) (λ x. cc) f.0)
 file_put now name (Some b) h bytes p f = (f.0, p b refl ∙ f.1)
 
 -- the file that a sink held is there once it is closed
@@ -59,17 +61,20 @@ closed_front (Some a) (Some b) (Some c) (Some d) left (Some x) name text bytes m
 told_is : (files : Files) (left : Option (List ℕ)) (bytes : List ℕ) → left ≡ Some bytes → AreTold (Some files) left bytes
 told_is files left bytes e = (refl, e)
 
-framehash_is : (bytes : List ℕ) (h : WavHead) → head bytes ≡ Ok h → framehash bytes ≡ file_with h bytes
-unfolding framehash
-framehash_is bytes h e = ap (λ (f : Found). file_of f bytes) e
+abbrev file_of_found : Found → List ℕ → Option (List ℕ)
+file_of_found found bytes = option_and_then (λ h. file (out_head h) (out_packets h bytes)) (result_ok found)
 
-text_is : (bytes : List ℕ) (h : WavHead) → head bytes ≡ Ok h → framehash_text bytes ≡ Some (text_with h bytes)
-unfolding framehash_text
-text_is bytes h e = ap (λ (f : Found). text_of f bytes) e
+file_is : (bytes : List ℕ) (h : WavHead) → head bytes ≡ Ok h → file_of_input bytes ≡ file (out_head h) (out_packets h bytes)
+unfolding file_of_input
+file_is bytes h e = ap (λ (f : Found). file_of_found f bytes) e
 
-pub refused_none : (bytes : List ℕ) (fault : HeadFault) → head bytes ≡ Err fault → framehash bytes ≡ None
-unfolding framehash
-refused_none bytes fault e = ap (λ (f : Found). file_of f bytes) e
+written_is : (bytes : List ℕ) (h : WavHead) → head bytes ≡ Ok h → written_of_input bytes ≡ Some (written (out_head h) (out_packets h bytes))
+unfolding written_of_input
+written_is bytes h e = ap (λ (f : Found). option_map (λ k. written (out_head k) (out_packets k bytes)) (result_ok f)) e
+
+pub refused_none : (bytes : List ℕ) (fault : HeadFault) → head bytes ≡ Err fault → file_of_input bytes ≡ None
+unfolding file_of_input
+refused_none bytes fault e = ap (λ (f : Found). file_of_found f bytes) e
 
 -- what the input has: its head, told of all that the source had
 at_input : (files : Files) (name : List ℕ) (left : Option (List ℕ)) (h : WavHead) → GivesFile (Some files) name left → IfSome left (λ all. head all ≡ Ok h) → head (bytes_at files name) ≡ Ok h
@@ -83,7 +88,7 @@ means (Some a) None new job left begun h k g m b f = absurd k
 means (Some a) (Some e) None job left begun h k g m b f = tt
 means (Some a) (Some e) (Some d) job left begun h k g m b f =
     let bytes = bytes_at a job.input in
-    let is = framehash_is bytes h (at_input a job.input left h g m) in
+    let is = file_is bytes h (at_input a job.input left h g m) in
     let held = f bytes (told_is e begun bytes (b bytes g)) in
     (subst (λ (o : Option (List ℕ)). IsSome o) (sym is) held.0, held.1 ∙ sym is)
 
@@ -94,14 +99,14 @@ others (Some f) (Some e) None name k o = absurd o
 others (Some f) (Some e) (Some after) name k o = λ other ne. o other ne ∙ k other
 
 pub front : (old mid new : Option Files) (job : Job) (left begun : Option (List ℕ)) (h : WavHead) → KeepsFiles old mid → GivesFile old job.input left
-    → IfSome left (λ all. head all ≡ Ok h) → ((all : List ℕ) → left ≡ Some all → begun ≡ Some all) → ((bytes : List ℕ) → AreTold mid begun bytes → IsFrontAt mid new job.output (text_with h bytes))
+    → IfSome left (λ all. head all ≡ Ok h) → ((all : List ℕ) → left ≡ Some all → begun ≡ Some all) → ((bytes : List ℕ) → AreTold mid begun bytes → IsFrontAt mid new job.output (written (out_head h) (out_packets h bytes)))
     → HoldsFrontOf (Ok job) old new
 front None mid new job left begun h k g m b f = tt
 front (Some a) None new job left begun h k g m b f = absurd k
 front (Some a) (Some e) None job left begun h k g m b f = tt
 front (Some a) (Some e) (Some d) job left begun h k g m b f =
     let bytes = bytes_at a job.input in
-    let is = text_is bytes h (at_input a job.input left h g m) in
+    let is = written_is bytes h (at_input a job.input left h g m) in
     elim (f bytes (told_is e begun bytes (b bytes g))) [
       | inl same ↦ inl (same ∙ k job.output)
       | inr part ↦ inr (part.0, part.1, part.2, is ∙ ap (λ (l : List ℕ). Some l) part.3)
@@ -212,15 +217,15 @@ once_broken still_open text e s = cc
 once_broken broken text e s = cc
 
 -- an input that is too long means nothing
-long_some : (found : Found) (bytes : List ℕ) → IsLong found bytes → IsSome (file_of found bytes) → ⊥
+long_some : (found : Found) (bytes : List ℕ) → IsLong found bytes → IsSome (file_of_found found bytes) → ⊥
 long_some (Err fault) bytes l s = absurd l
-long_some (Ok h) bytes l s = once_broken (demux_of wav_cutter h bytes).mark (text_with h bytes) (demux_mark wav_cutter h bytes true l) s
+long_some (Ok h) bytes l s = once_broken (demux_of wav_cutter h bytes).mark (written (out_head h) (out_packets h bytes)) (demux_mark wav_cutter h bytes true l) s
 
-long_meant : (bytes : List ℕ) → IsLong (head bytes) bytes → IsSome (framehash bytes) → ⊥
-unfolding framehash
+long_meant : (bytes : List ℕ) → IsLong (head bytes) bytes → IsSome (file_of_input bytes) → ⊥
+unfolding file_of_input
 long_meant bytes l s = long_some (head bytes) bytes l s
 
-refused_meant : (bytes : List ℕ) (fault : HeadFault) → head bytes ≡ Err fault → IsSome (framehash bytes) → ⊥
+refused_meant : (bytes : List ℕ) (fault : HeadFault) → head bytes ≡ Err fault → IsSome (file_of_input bytes) → ⊥
 refused_meant bytes fault e s = subst (λ (o : Option (List ℕ)). IsSome o → ⊥) (sym (refused_none bytes fault e)) (λ x. cc) s
 
 long_refused : (found : Found) (fault : HeadFault) (bytes : List ℕ) → IsLong found bytes → found ≡ Err fault → ⊥
@@ -248,7 +253,7 @@ long s (Ok other) job (Some f) ins outs c e h n u =
     long_at s job f ins outs e (subst (λ (j : Job). IsLong (head (bytes_at f j.input)) (bytes_at f j.input)) same h)
     (subst (λ (j : Job). Rose (ins.before j.input) (ins.after j.input) → ⊥) same n) (subst (λ (j : Job). Rose (outs.before j.output) (outs.after j.output) → ⊥) same u)
 
-complete_at : (s : Status) (job : Job) (f : Files) (ins outs : Counts) → EndsJob job (Some f) ins outs s → IsSome (framehash (bytes_at f job.input))
+complete_at : (s : Status) (job : Job) (f : Files) (ins outs : Counts) → EndsJob job (Some f) ins outs s → IsSome (file_of_input (bytes_at f job.input))
     → (Rose (ins.before job.input) (ins.after job.input) → ⊥) → (Rose (outs.before job.output) (outs.after job.output) → ⊥) → (s ≡ status.Fine) ⊎ (s ≡ status.NoMemory)
 complete_at status.Fine job f ins outs e m n u = inl refl
 complete_at status.NoMemory job f ins outs e m n u = inr refl
@@ -267,7 +272,7 @@ complete s (Err words) job before ins outs c e h n u = absurd h
 complete s (Ok other) job None ins outs c e h n u = absurd h
 complete s (Ok other) job (Some f) ins outs c e h n u =
     let same : other ≡ job = cc in
-    complete_at s job f ins outs e (subst (λ (j : Job). IsSome (framehash (bytes_at f j.input))) same h)
+    complete_at s job f ins outs e (subst (λ (j : Job). IsSome (file_of_input (bytes_at f j.input))) same h)
     (subst (λ (j : Job). Rose (ins.before j.input) (ins.after j.input) → ⊥) same n) (subst (λ (j : Job). Rose (outs.before j.output) (outs.after j.output) → ⊥) same u)
 
 -- counts of the command's own files, and of others, that stay

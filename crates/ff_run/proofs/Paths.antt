@@ -21,7 +21,7 @@ use Rattle.ff_parts.specs.declared.part.Part.{Part}
 use Rattle.ff_parts.specs.declared.part.Part.TheVariants as part
 use Rattle.ff_wav.specs.Cuts.{wav_cutter}
 use Rattle.ff_parts.specs.Demuxing.{is_too_long}
-use Rattle.ff_parts.specs.Muxing.{packet_in, hash_body, unpatched, HoldsFront}
+use Rattle.ff_parts.specs.Muxing.{packet_in, hash_body, written, HoldsFront}
 use Rattle.ff_parts.specs.Parts.{part_view}
 use Rattle.ff_parts.specs.PartLaws.{part_fits, part_takes}
 use Rattle.ff_path.specs.declared.chain.Chain.{Chain}
@@ -166,7 +166,7 @@ front_text head xs ys p =
     (hash_body p.0, append_assoc (header head) (hash_body xs) (hash_body p.0) ∙ ap (λ l. header head ++ l) (sym (body_more xs p.0) ∙ ap hash_body p.1))
 
 -- what is written of a part of a stream is a front of what is written of it
-pub front_below : (head : StreamHead) (s t : Flow) → LiesBelow (opened s) t → IsPrefix (unpatched head s) (unpatched head t)
+pub front_below : (head : StreamHead) (s t : Flow) → LiesBelow (opened s) t → IsPrefix (written head s) (written head t)
 front_below head s t (inl same) =
     front_text head s.items t.items ([], append-nil s.items ∙ ap (λ (x : Flow). x.items) same)
 front_below head s t (inr part) = front_text head s.items t.items part.1

@@ -10,7 +10,7 @@ use Rattle.ff_wav.specs.Heads.{Found, head}
 use Rattle.ff_wav.specs.Cuts.{wav_cutter}
 use Rattle.ff_parts.specs.Demuxing.{is_too_long}
 use Rattle.ff_run.specs.Words.{Job, Fault}
-use Rattle.ff_run.specs.Meaning.{meaning, written}
+use Rattle.ff_run.specs.Meaning.{meaning, written_of_input}
 use Rattle.ff_run.specs.declared.report.FileRef.{FileRef}
 use Rattle.ff_run.specs.declared.report.FileRef.TheVariants.{Input, Output}
 use Rattle.ff_run.specs.declared.report.Status.{Status}
@@ -29,7 +29,7 @@ HoldsMeaning (Err fault) before after = ⊥
 -- the output is as it was, or holds a front of what the command writes
 abbrev pub HoldsFront : Command → Option Files → Option Files → Type 0
 HoldsFront (Ok job) (Some before) (Some after) = (after job.output ≡ before job.output)
-    ⊎ ((front rest : List ℕ) × (after job.output ≡ Some front) × (written job before ≡ Some (front ++ rest)))
+    ⊎ ((front rest : List ℕ) × (after job.output ≡ Some front) × (written_of_input (bytes_at before job.input) ≡ Some (front ++ rest)))
 HoldsFront command before after = ⊤
 
 -- every file that isn't an output of the command is as it was, or still isn't there

@@ -11,7 +11,8 @@ use Rattle.ff_wav.specs.Cuts.{wav_cutter}
 use Rattle.ff_parts.specs.Demuxing.{is_too_long}
 use Rattle.ff_path.specs.declared.chain.NodeFault.{NodeFault}
 use Rattle.ff_run.specs.Words.{Job}
-use Rattle.ff_run.specs.Meaning.{meaning, file_with}
+use Rattle.ff_parts.specs.Muxing.{file}
+use Rattle.ff_run.specs.Meaning.{meaning, out_head, out_packets}
 use Rattle.ff_run.specs.Answers.{Counts, IsRefusedAs, IsNodeLong}
 use Rattle.ff_run.specs.declared.input.InputEnd.{InputEnd}
 use Rattle.ff_run.specs.declared.input.InputEnd.TheVariants as input_end
@@ -76,7 +77,7 @@ tells None holds = false
 
 -- the file of an input with this head and these bytes is held, and there is one
 abbrev pub HoldsFile : WavHead → List ℕ → Option (List ℕ) → Type 0
-HoldsFile h bytes held = IsSome (file_with h bytes) × (held ≡ file_with h bytes)
+HoldsFile h bytes held = IsSome (file (out_head h) (out_packets h bytes)) × (held ≡ file (out_head h) (out_packets h bytes))
 
 -- the files are told, and a source tells that these bytes are left
 abbrev pub AreTold : Option Files → Option (List ℕ) → List ℕ → Type 0

@@ -6,10 +6,10 @@ ghost use Rattle.ff_frame.specs.declared.item.Lane.TheVariants.{Packets};
 ghost use Rattle.ff_frame.specs.Ports.{stream_at, IsWhole};
 ghost use Rattle.ff_wav.specs.Packets.{IsHead};
 ghost use Rattle.ff_net.specs.Pasts.{Past};
-ghost use Rattle.ff_parts.specs.Muxing.{unpatched, file, HoldsFront as HoldsFrontOf};
+ghost use Rattle.ff_parts.specs.Muxing.{written, file, HoldsFront as HoldsFrontOf};
 ghost use Rattle.ff_path.specs.Chains.{AreSound, Fares, FedAll, FedPart, HasLanes, Start};
 ghost use Rattle.ff_path.specs.Path.{path_lanes as path_lanes_of, path_tasks};
-ghost use Rattle.ff_run.specs.Meaning.{text_with};
+ghost use Rattle.ff_run.specs.Meaning.{out_head, out_packets};
 ghost use Rattle.ff_run.specs.Steps.{AreFresh, EndsPath, HoldsFile, status_with, tells};
 
 use crate::report::{FileRef, Status};
@@ -59,7 +59,7 @@ fn sink_of<Src: Source + Drop, Snk: Sink + Drop>(part: Part<Src, Snk>) -> Snk
     ensures whole { (past : Past) (head : StreamHead) → (⟦<Part<Src, Snk> as Machine>⟧.view part).stands past → (⟦<Part<Src, Snk> as Machine>⟧.view part).in_lanes ≡ Packets head ∷ [] → (⟦<Part<Src, Snk> as Machine>⟧.view part).fault ≡ None
         → IsWhole (stream_at past.got 0) → IsSome (file head (stream_at past.got 0)) × (Snk.holds result ≡ file head (stream_at past.got 0)) }
     ensures front { (past : Past) (head : StreamHead) → (⟦<Part<Src, Snk> as Machine>⟧.view part).stands past → (⟦<Part<Src, Snk> as Machine>⟧.view part).in_lanes ≡ Packets head ∷ []
-        → HoldsFrontOf (Snk.holds result) (unpatched head (stream_at past.got 0)) }
+        → HoldsFrontOf (Snk.holds result) (written head (stream_at past.got 0)) }
 {
     match part.into_ends() {
         Ends::Sink(snk) => snk,
@@ -134,7 +134,7 @@ fn run_path_as<
     requires head { IsHead head.now }
     requires told { C.claims ≡ tells (Src.left src) (Snk.holds snk) }
     ensures fine { result.status ≡ Status.Fine → (bytes : List ℕ) → AreFresh (Src.left src) (Snk.holds snk) bytes → HoldsFile head.now bytes (Snk.holds result.snk) }
-    ensures front { (bytes : List ℕ) → AreFresh (Src.left src) (Snk.holds snk) bytes → HoldsFrontOf (Snk.holds result.snk) (text_with head.now bytes) }
+    ensures front { (bytes : List ℕ) → AreFresh (Src.left src) (Snk.holds snk) bytes → HoldsFrontOf (Snk.holds result.snk) (written (out_head head.now) (out_packets head.now bytes)) }
     ensures ends { EndsPath result.status head.now (AreFresh (Src.left src) (Snk.holds snk))
         (record { source = Src.faults src; sink = Snk.faults snk }) (record { source = Src.faults result.src; sink = Snk.faults result.snk }) }
     ensures src_later { Src.faults src ≤ Src.faults result.src }
@@ -174,7 +174,7 @@ pub fn run_path<R: Threads + Wait + Sync, Src: Source + Send + Drop, Snk: Sink +
 ) -> Ended<Src, Snk>
     requires { IsHead head.now }
     ensures fine { result.status ≡ Status.Fine → (bytes : List ℕ) → AreFresh (Src.left src) (Snk.holds snk) bytes → HoldsFile head.now bytes (Snk.holds result.snk) }
-    ensures front { (bytes : List ℕ) → AreFresh (Src.left src) (Snk.holds snk) bytes → HoldsFrontOf (Snk.holds result.snk) (text_with head.now bytes) }
+    ensures front { (bytes : List ℕ) → AreFresh (Src.left src) (Snk.holds snk) bytes → HoldsFrontOf (Snk.holds result.snk) (written (out_head head.now) (out_packets head.now bytes)) }
     ensures ends { EndsPath result.status head.now (AreFresh (Src.left src) (Snk.holds snk))
         (record { source = Src.faults src; sink = Snk.faults snk }) (record { source = Src.faults result.src; sink = Snk.faults result.snk }) }
     ensures src_later { Src.faults src ≤ Src.faults result.src }

@@ -8,7 +8,8 @@ ghost use Rattle.ff_wav.specs.Packets.{IsHead};
 ghost use Rattle.ff_cut.specs.declared.fault.HeadFault.{HeadFault};
 ghost use Rattle.ff_cut.specs.declared.fault.HeadFault.TheVariants as head_fault;
 ghost use Rattle.ff_run.specs.Words.{texts, read};
-ghost use Rattle.ff_run.specs.Meaning.{text_with};
+ghost use Rattle.ff_parts.specs.Muxing.{written};
+ghost use Rattle.ff_run.specs.Meaning.{out_head, out_packets};
 ghost use Rattle.ff_run.specs.Answers.{HoldsMeaning, HoldsFront, KeepsOtherFiles, ComesBeforeOutputs, IsMeaningful, refusal, IsHeadRefused, IsRefusedAs, IsInputLong, IsNodeLong, InputFaulted, OutputFaulted, FileFaulted, KeepsInputCount, KeepsOutputCount, KeepsOtherCounts};
 ghost use Rattle.ff_run.specs.Texts.{fault_text, NamesFile};
 ghost use Rattle.ff_run.specs.Steps.{status_with_end, EndsPath, AreTold, IsFileAt, IsFrontAt, EndsJob};
@@ -61,7 +62,7 @@ fn write_output<R: Threads + Wait + Sync, H: Host>(
     ensures fine { result ≡ Status.Fine → (bytes : List ℕ) → AreTold (H.files host.old) (⟦<Begun<H::Src> as Source>⟧.left src) bytes
         → IsFileAt (H.files host.new) output.now head.now bytes }
     ensures front { (bytes : List ℕ) → AreTold (H.files host.old) (⟦<Begun<H::Src> as Source>⟧.left src) bytes
-        → IsFrontAt (H.files host.old) (H.files host.new) output.now (text_with head.now bytes) }
+        → IsFrontAt (H.files host.old) (H.files host.new) output.now (written (out_head head.now) (out_packets head.now bytes)) }
     ensures others { KeepsOthers (H.files host.old) (H.files host.new) output.now }
     ensures ends { EndsPath result head.now (AreTold (H.files host.old) (⟦<Begun<H::Src> as Source>⟧.left src))
         (record { source = H.in_faults host.old input.now; sink = H.out_faults host.old output.now })

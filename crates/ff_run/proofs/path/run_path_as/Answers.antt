@@ -1,7 +1,7 @@
 use Rattle.std.proofs.Common.{◌≡◌, ◌∙◌, IsSome, sym, subst}
 use Rattle.ff_frame.specs.Ports.{stream_at, IsWhole}
 use Rattle.ff_net.specs.Ways.{Flow}
-use Rattle.ff_parts.specs.Muxing.{unpatched, file}
+use Rattle.ff_parts.specs.Muxing.{written, file}
 use Rattle.ff_run.specs.Meaning.{out_head, out_packets}
 use Rattle.ff_run.proofs.Paths.{tells_fresh, fresh_of, ends_told, front_below, holds_more}
 use Rattle.ff_run.proofs.path.run_path_as.Goals as goal
@@ -21,7 +21,7 @@ returns-clause-front g c = λ bytes fresh.
     let start = c.in-Ok.ensures.path.starts bytes fresh.0 fresh.1 in
     let fed = c.run_parts-parts.ensures.front (c.requires.told ∙ tells_fresh bytes fresh) bytes start in
     let held = c.sink_of.ensures.front fed.past (out_head h) fed.machine c.run_parts-parts.ensures.lanes.last_ins in
-    holds_more (g.Snk.Sink.holds c.sink_of.result) (unpatched (out_head h) (stream_at fed.past.got 0)) (unpatched (out_head h) (out_packets h bytes)) held
+    holds_more (g.Snk.Sink.holds c.sink_of.result) (written (out_head h) (stream_at fed.past.got 0)) (written (out_head h) (out_packets h bytes)) held
     (front_below (out_head h) (stream_at fed.past.got 0) (out_packets h bytes) fed.got)
 
 pub returns-clause-ends : goal.returns-clause-ends

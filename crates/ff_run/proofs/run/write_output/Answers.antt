@@ -1,6 +1,7 @@
 use Rattle.std.proofs.Common.{arith, ◌≡◌, ◌∙◌, drop}
 use Rattle.std.specs.Io.KnownBytes.{prepend_known}
-use Rattle.ff_run.specs.Meaning.{text_with}
+use Rattle.ff_parts.specs.Muxing.{written}
+use Rattle.ff_run.specs.Meaning.{out_head, out_packets}
 use Rattle.ff_run.proofs.Files.{fresh, closed_front}
 use Rattle.ff_run.proofs.Paths.{ends_told}
 use Rattle.ff_run.proofs.run.write_output.Goals as goal
@@ -11,7 +12,7 @@ returns-clause-front g c = λ bytes told.
     let left = prepend_known (drop c.args.src.at c.args.src.bytes.items) (g.H.Src.Source.left c.args.src.src) in
     let made = c.in-Ok.ensures in
     closed_front (H.files c.args.host.now) (H.files c.create_sink.new.self) (H.files c.close_source-2.new.self) (H.files c.close_sink-closed.new.self) left (g.H.Snk.Sink.holds c.run_path-status.result.snk)
-    c.args.output.now (text_with c.args.head.now bytes) bytes made.ok c.close_source-2.ensures.files c.close_sink-closed.ensures.files told
+    c.args.output.now (written (out_head c.args.head.now) (out_packets c.args.head.now bytes)) bytes made.ok c.close_source-2.ensures.files c.close_sink-closed.ensures.files told
     (c.run_path-status.ensures.front bytes (told.1, fresh (H.files c.args.host.now) left (g.H.Snk.Sink.holds c.in-Ok.snk) bytes made.sink.1 told))
 
 pub returns-then-is_err-clause-front : goal.returns-then-is_err-clause-front
@@ -20,7 +21,7 @@ returns-then-is_err-clause-front g c = λ bytes told.
     let left = prepend_known (drop c.args.src.at c.args.src.bytes.items) (g.H.Src.Source.left c.args.src.src) in
     let made = c.in-Ok.ensures in
     closed_front (H.files c.args.host.now) (H.files c.create_sink.new.self) (H.files c.close_source-2.new.self) (H.files c.close_sink-closed.new.self) left (g.H.Snk.Sink.holds c.run_path-status.result.snk)
-    c.args.output.now (text_with c.args.head.now bytes) bytes made.ok c.close_source-2.ensures.files c.close_sink-closed.ensures.files told
+    c.args.output.now (written (out_head c.args.head.now) (out_packets c.args.head.now bytes)) bytes made.ok c.close_source-2.ensures.files c.close_sink-closed.ensures.files told
     (c.run_path-status.ensures.front bytes (told.1, fresh (H.files c.args.host.now) left (g.H.Snk.Sink.holds c.in-Ok.snk) bytes made.sink.1 told))
 
 pub returns-clause-ends : goal.returns-clause-ends
