@@ -1,3 +1,4 @@
+pub mod Keeping
 pub mod Resizing
 pub mod TrimSound
 pub mod Trimming

@@ -5,19 +5,18 @@ use Rattle.ff_time.specs.Fraction.{Fraction}
 use Rattle.ff_values.specs.declared.config.ConfigError.{ConfigError}
 use Rattle.ff_values.specs.declared.config.ConfigError.TheVariants.{BadSize}
 use Rattle.ff_values.specs.declared.head.StreamHead.{StreamHead}
-use Rattle.ff_values.specs.declared.head.StreamHead.TheVariants.{Audio, Video}
+use Rattle.ff_values.specs.declared.head.StreamHead.TheVariants.{Video}
 use Rattle.ff_values.specs.declared.video.Format.{Format}
 use Rattle.ff_values.specs.declared.video.VFrame.{VFrame}
 use Rattle.ff_frame.specs.declared.item.Lane.TheVariants.{Frames}
 use Rattle.ff_filter.specs.declared.after.After.TheVariants.{More}
 use Rattle.ff_filter.specs.Singles.{single_view}
-use Rattle.ff_filter.specs.Views.{View}
 use Rattle.ff_planes.specs.declared.rectangle.Rectangle.{Rectangle}
 use Rattle.ff_vfilter.specs.declared.crop.CropSettings.{CropSettings}
 use Rattle.ff_vfilter.specs.declared.pad.PadSettings.{PadSettings}
 use Rattle.ff_vfilter.specs.Pictures.{repainted}
 use Rattle.ff_vfilter.specs.Sizes.{sized}
-use Rattle.ff_vfilter.specs.Crops.{crop_frame, crop_part, can_crop, crop_makes}
+use Rattle.ff_vfilter.specs.Crops.{crop_part, can_crop, crop_makes}
 use Rattle.ff_vfilter.specs.Pads.{pad_frame, Padded, pad_of, can_pad, pad_makes}
 
 -- the heads of the outputs, where the head is this one

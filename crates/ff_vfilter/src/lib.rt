@@ -22,7 +22,7 @@ mod vflip;
 
 pub use crop::{Crop, CropSettings};
 pub use hflip::HFlip;
-pub use laws::pictures_kept_are_sound;
+pub use laws::{pictures_kept_are_sound, pictures_painted_are_valid};
 pub use null::Null;
 pub use pad::{Pad, PadSettings};
 pub use repaint::{Paint, Repaint};

@@ -1,4 +1,4 @@
-use Rattle.std.proofs.Common.{◌≡◌, ◌∙◌, ap, refl, Ok, Result}
+use Rattle.std.proofs.Common.{◌∙◌, ap, refl, Ok, Result}
 use Rattle.ff_values.specs.declared.config.ConfigError.{ConfigError}
 use Rattle.ff_values.specs.declared.head.StreamHead.{StreamHead}
 use Rattle.ff_values.specs.declared.head.StreamHead.TheVariants.{Video}
