@@ -6,3 +6,4 @@ pub mod PadLaws
 pub mod StackLaws
 pub mod PixelLaws
 pub mod RoundLaws
+pub mod GridLaws

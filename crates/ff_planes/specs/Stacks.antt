@@ -1,7 +1,8 @@
 -- Pictures side by side, and one below the other.
-use Rattle.std.specs.Prelude.{◌≡◌, ℕ, ◌+◌, ◌-◌, nat_lt, if◌then◌else◌, List, [], ◌∷◌}
+use Rattle.std.specs.Prelude.{◌≡◌, ℕ, ◌+◌, ◌-◌, ◌%◌, nat_lt, if◌then◌else◌, List, [], ◌∷◌}
 use Rattle.std.specs.List.{flat_map}
 use Rattle.ff_values.specs.declared.video.Format.{Format}
+use Rattle.ff_values.specs.declared.video.Format.TheVariants.{C420, C422, C444, Mono}
 use Rattle.ff_values.specs.declared.video.VFrame.{VFrame}
 use Rattle.ff_values.specs.Heads.{IsPictureOf}
 use Rattle.ff_planes.specs.declared.component.Component.{Component}
@@ -62,3 +63,27 @@ beside_row format height c fs row = flat_map (λ f. line (columns format f.width
 -- a plane of pictures one below the other
 abbrev pub below_plane : Format → ℕ → Component → List VFrame → List ℕ
 below_plane format width c fs = flat_map (λ f. plane format width f.height f.planes c) fs
+
+-- so many columns or rows of Y are whole pixels of Cb and of Cr
+abbrev pub IsOnColumns : Format → ℕ → Type 0
+IsOnColumns C420 n = n % 2 ≡ 0
+IsOnColumns C422 n = n % 2 ≡ 0
+IsOnColumns C444 n = Unit {0}
+IsOnColumns Mono n = Unit {0}
+
+abbrev pub IsOnRows : Format → ℕ → Type 0
+IsOnRows C420 n = n % 2 ≡ 0
+IsOnRows C422 n = Unit {0}
+IsOnRows C444 n = Unit {0}
+IsOnRows Mono n = Unit {0}
+
+-- all pictures but the last are as wide, or as high, as whole pixels of Cb and of Cr are
+abbrev pub AreOnColumns : Format → List VFrame → Type 0
+AreOnColumns format [] = Unit {0}
+AreOnColumns format (f ∷ []) = Unit {0}
+AreOnColumns format (f ∷ g ∷ fs) = IsOnColumns format f.width × AreOnColumns format (g ∷ fs)
+
+abbrev pub AreOnRows : Format → List VFrame → Type 0
+AreOnRows format [] = Unit {0}
+AreOnRows format (f ∷ []) = Unit {0}
+AreOnRows format (f ∷ g ∷ fs) = IsOnRows format f.height × AreOnRows format (g ∷ fs)

@@ -4,11 +4,13 @@ ghost use Rattle.ff_values.specs.declared.video.Format.{Format};
 ghost use Rattle.ff_values.specs.declared.video.Format.TheVariants.{C420, C422, C444, Mono};
 ghost use Rattle.ff_values.specs.Video.{IsVideo, frame_size};
 ghost use Rattle.ff_planes.specs.declared.component.Component.{Component};
+ghost use Rattle.ff_values.specs.declared.video.VFrame.{VFrame};
+ghost use Rattle.ff_planes.specs.declared.component.Component.TheVariants.{Luma};
 ghost use Rattle.ff_planes.specs.declared.rectangle.Rectangle.{Rectangle};
 ghost use Rattle.ff_planes.specs.Grid.{columns, rows, pixel, picture_of};
 ghost use Rattle.ff_planes.specs.Flips.{hflipped, vflipped};
 ghost use Rattle.ff_planes.specs.Parts.{IsPart, cropped, padded};
-ghost use Rattle.ff_planes.specs.Stacks.{hstacked, vstacked};
+ghost use Rattle.ff_planes.specs.Stacks.{hstacked, vstacked, all_columns, all_rows, AreOnColumns, AreOnRows, FillColumns, FillRows};
 ghost use Rattle.ff_planes.specs.Examples.{three_by_two, right_column, in_the_middle, grey, two_by_one};
 
 /// The picture whose pixels a function gives has these pixels, and no more bytes than they are.
@@ -28,6 +30,13 @@ pub fn mirrors_undo_themselves()
 pub fn a_crop_undoes_a_pad()
     ensures { (format : Format) (width height : ℕ) (part : Rectangle) (planes : List ℕ) → IsVideo format part.width part.height planes → IsPart width height part
         → cropped format width height part (padded format width height part planes) ≡ planes }
+{}
+
+/// Pictures of which all but the last have whole pixels of Cb and of Cr in the direction of stacking fill the columns, or the
+/// rows, of Y, of Cb and of Cr that they have in all.
+pub fn pictures_on_the_grid_fill_it()
+    ensures columns { (format : Format) (fs : List VFrame) → AreOnColumns format fs → FillColumns format (all_columns format fs Luma) fs }
+    ensures rows { (format : Format) (fs : List VFrame) → AreOnRows format fs → FillRows format (all_rows format fs Luma) fs }
 {}
 
 /// Small pictures, mirrored, cut, put on black and stacked.

@@ -29,7 +29,7 @@ pub use cropping::crop;
 pub use flips::{hflip, vflip};
 pub use laws::{
     a_crop_undoes_a_pad, a_picture_has_the_pixels_that_make_it, mirrors_undo_themselves,
-    small_pictures,
+    pictures_on_the_grid_fill_it, small_pictures,
 };
 pub use padding::pad;
 pub use rectangle::Rectangle;
