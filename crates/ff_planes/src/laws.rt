@@ -15,15 +15,17 @@ ghost use Rattle.ff_planes.specs.Examples.{three_by_two, right_column, in_the_mi
 
 /// The picture whose pixels a function gives has these pixels, and no more bytes than they are.
 pub fn a_picture_has_the_pixels_that_make_it()
-    ensures pixels { (format : Format) (width height : ℕ) (at : Component → ℕ → ℕ → ℕ) (c : Component) (row column : ℕ) → row < rows format height c → column < columns format width c
-        → pixel format width height (picture_of format width height at) c row column ≡ at c row column }
+    ensures pixels { (format : Format) (width height : ℕ) (at : Component → ℕ → ℕ → ℕ) (c : Component) (row column : ℕ)
+        → row < rows format height c → column < columns format width c → pixel format width height (picture_of format width height at) c row column ≡ at c row column }
     ensures size { (format : Format) (width height : ℕ) (at : Component → ℕ → ℕ → ℕ) → length (picture_of format width height at) ≡ frame_size format width height }
 {}
 
 /// A picture that is mirrored twice is the picture.
 pub fn mirrors_undo_themselves()
-    ensures hflip { (format : Format) (width height : ℕ) (planes : List ℕ) → IsVideo format width height planes → hflipped format width height (hflipped format width height planes) ≡ planes }
-    ensures vflip { (format : Format) (width height : ℕ) (planes : List ℕ) → IsVideo format width height planes → vflipped format width height (vflipped format width height planes) ≡ planes }
+    ensures hflip { (format : Format) (width height : ℕ) (planes : List ℕ) → IsVideo format width height planes
+        → hflipped format width height (hflipped format width height planes) ≡ planes }
+    ensures vflip { (format : Format) (width height : ℕ) (planes : List ℕ) → IsVideo format width height planes
+        → vflipped format width height (vflipped format width height planes) ≡ planes }
 {}
 
 /// What a rectangle shows of a picture that was put there on black is that picture.

@@ -37,7 +37,8 @@ repainted-below g r s (inr h) =
     inr (h.0, (map (with_picture g) h.1.0, sym (map-append (with_picture g) r.items h.1.0) ∙ ap (λ (zs : List Item). map (with_picture g) zs) h.1.1))
 
 -- the next item, and then the others
-pub repainted-next : (g : VFrame → VFrame) (x : Item) (t : Flow) → closes x ≡ false → repainted g (before x t) ≡ joined (made_of (Some (with_picture g x)) More) (repainted g t)
+pub repainted-next : (g : VFrame → VFrame) (x : Item) (t : Flow) → closes x ≡ false
+    → repainted g (before x t) ≡ joined (made_of (Some (with_picture g x)) More) (repainted g t)
 repainted-next g (Audio f) t c = refl
 repainted-next g (Video f) t c = refl
 repainted-next g (Packet f) t c = refl

@@ -39,7 +39,8 @@ impl HFlip {
         args: &[Arg],
         heads: &[StreamHead],
     ) -> Result<(Stepper<Limited<Repaint<HFlip>>>, Vec<StreamHead>), ConfigError>
-        ensures made { IfOk result (λ r. IsMade (IsHFlip args.now heads.now) hflip_view (λ head. head) (⟦<Stepper<Limited<Repaint<HFlip>>> as Filter>⟧.view r.0) r.1.items) }
+        ensures made { IfOk result (λ r. IsMade (IsHFlip args.now heads.now) hflip_view (λ head. head)
+            (⟦<Stepper<Limited<Repaint<HFlip>>> as Filter>⟧.view r.0) r.1.items) }
         ensures refused { IfErr result (IsRefused (IsHFlip args.now heads.now)) }
     {
         match video_settings(NoSettings {}, args, heads) {

@@ -26,11 +26,16 @@ pub fn pictures_kept_are_sound()
 /// and size with all their samples, with the times of those that came; an unbroken one doesn't break off.
 pub fn pictures_painted_are_valid()
     ensures hflip { (tb : Fraction) (format : Format) (width height sar_num sar_den : ℕ)
-        → IsSound (Frames (VideoHead tb format width height sar_num sar_den)) (Frames (VideoHead tb format width height sar_num sar_den)) (λ s. repainted hflip_frame s) }
+        → IsSound (Frames (VideoHead tb format width height sar_num sar_den)) (Frames (VideoHead tb format width height sar_num sar_den))
+        (λ s. repainted hflip_frame s) }
     ensures vflip { (tb : Fraction) (format : Format) (width height sar_num sar_den : ℕ)
-        → IsSound (Frames (VideoHead tb format width height sar_num sar_den)) (Frames (VideoHead tb format width height sar_num sar_den)) (λ s. repainted vflip_frame s) }
-    ensures crop { (tb : Fraction) (format : Format) (width height sar_num sar_den : ℕ) (r : Part) → IsPart width height r → IsSide r.width → IsSide r.height
-        → IsSound (Frames (VideoHead tb format width height sar_num sar_den)) (Frames (VideoHead tb format r.width r.height sar_num sar_den)) (λ s. repainted (crop_frame r) s) }
-    ensures pad { (tb : Fraction) (format : Format) (width height sar_num sar_den w h : ℕ) (r : Part) → r.width ≡ width → r.height ≡ height → IsSide w → IsSide h
+        → IsSound (Frames (VideoHead tb format width height sar_num sar_den)) (Frames (VideoHead tb format width height sar_num sar_den))
+        (λ s. repainted vflip_frame s) }
+    ensures crop { (tb : Fraction) (format : Format) (width height sar_num sar_den : ℕ) (r : Part)
+        → IsPart width height r → IsSide r.width → IsSide r.height
+        → IsSound (Frames (VideoHead tb format width height sar_num sar_den)) (Frames (VideoHead tb format r.width r.height sar_num sar_den))
+        (λ s. repainted (crop_frame r) s) }
+    ensures pad { (tb : Fraction) (format : Format) (width height sar_num sar_den w h : ℕ) (r : Part)
+        → r.width ≡ width → r.height ≡ height → IsSide w → IsSide h
         → IsSound (Frames (VideoHead tb format width height sar_num sar_den)) (Frames (VideoHead tb format w h sar_num sar_den)) (λ s. repainted (pad_frame w h r) s) }
 {}

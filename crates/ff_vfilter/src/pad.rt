@@ -111,7 +111,9 @@ impl Pad {
         settings: PadSettings,
     ) -> Option<Pad>
         ensures none { IsNone result ↔ (can_pad (pad_of head.now format width height settings) ≡ false) }
-        ensures some { IfSome result (λ p. (p.width ≡ (pad_of head.now format width height settings).width) × (p.height ≡ (pad_of head.now format width height settings).height) × (p.part ≡ (pad_of head.now format width height settings).part)) }
+        ensures some { IfSome result (λ p. (p.width ≡ (pad_of head.now format width height settings).width)
+            × (p.height ≡ (pad_of head.now format width height settings).height)
+            × (p.part ≡ (pad_of head.now format width height settings).part)) }
     {
         let columns = width_of(format, settings.sizes.width, width);
         let rows = height_of(format, settings.sizes.height, height);

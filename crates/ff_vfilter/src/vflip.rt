@@ -39,7 +39,8 @@ impl VFlip {
         args: &[Arg],
         heads: &[StreamHead],
     ) -> Result<(Stepper<Limited<Repaint<VFlip>>>, Vec<StreamHead>), ConfigError>
-        ensures made { IfOk result (λ r. IsMade (IsVFlip args.now heads.now) vflip_view (λ head. head) (⟦<Stepper<Limited<Repaint<VFlip>>> as Filter>⟧.view r.0) r.1.items) }
+        ensures made { IfOk result (λ r. IsMade (IsVFlip args.now heads.now) vflip_view (λ head. head)
+            (⟦<Stepper<Limited<Repaint<VFlip>>> as Filter>⟧.view r.0) r.1.items) }
         ensures refused { IfErr result (IsRefused (IsVFlip args.now heads.now)) }
     {
         match video_settings(NoSettings {}, args, heads) {
