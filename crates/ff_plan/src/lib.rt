@@ -24,6 +24,7 @@ mod outputs;
 mod planned;
 mod planning;
 mod takes;
+mod wires;
 
 pub use number::{Wire, number_ports};
 pub use planned::{Edge, Plan, PlanError, PlanNode, Unbuilt};

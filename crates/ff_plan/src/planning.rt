@@ -7,10 +7,11 @@ ghost use Rattle.ff_plan.specs.Ports.{shape_of, IsFed};
 ghost use Rattle.ff_plan.specs.Today.{planned_today, unbuilt, unbuilt_in};
 
 use crate::layout::Placed;
-use crate::nodes::{all_nodes, place, used_inputs, used_streams, ways, wire_up};
+use crate::nodes::{all_nodes, place, used_inputs, used_streams, ways};
 use crate::number::number_ports;
 use crate::outputs::all_outputs;
 use crate::planned::{Plan, PlanError, Unbuilt};
+use crate::wires::wire_up;
 use ff_lang::Sequence;
 use ff_sched::{Graphs, Routes, Ways};
 use ff_values::StreamHead;

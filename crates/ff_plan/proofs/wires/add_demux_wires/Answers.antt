@@ -4,7 +4,7 @@ use Rattle.ff_map.specs.declared.streams.Stream.{Stream}
 use Rattle.ff_plan.specs.declared.number.Wire.{Wire}
 use Rattle.ff_plan.specs.Plain.{demux_wires, demux_wire_of, demux_number}
 use Rattle.ff_plan.proofs.Fronts.{drop_next}
-use Rattle.ff_plan.proofs.nodes.add_demux_wires.Goals as goal
+use Rattle.ff_plan.proofs.wires.add_demux_wires.Goals as goal
 
 pub loop-stream-preserved : goal.loop-stream-preserved
 loop-stream-preserved c =
