@@ -1,0 +1,12 @@
+use Rattle.std.proofs.Common.{List, sym, ◌∙◌, subst, arith}
+use Rattle.ff_edges.specs.declared.edge.Edge.{Edge}
+use Rattle.ff_net_plain.specs.Plains.{plain_view}
+use Rattle.ff_network.specs.Networks.{Fits}
+use Rattle.ff_network_tests.proofs.Fives.{five_count, five_fit}
+use Rattle.ff_network_tests.proofs.five.run_five.Goals as goal
+
+pub run_network-requires-clause-few : goal.run_network-requires-clause-few
+run_network-requires-clause-few g c = (let n = five_count _ c.in-Ok.machines.items c.in-Ok.ensures in omega (arith, n))
+
+pub run_network-requires-clause-fits : goal.run_network-requires-clause-fits
+run_network-requires-clause-fits g c κs within = subst (λ (es : List Edge). Fits plain_view es c.in-Ok.machines.items) (sym (c.deref.ensures.value ∙ c.in-Ok-edges.ensures)) (five_fit _ c.in-Ok.machines.items c.in-Ok.ensures)

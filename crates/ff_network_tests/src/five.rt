@@ -1,0 +1,134 @@
+// A source, a machine that repeats its items on two outputs, one that ends early behind the first of these, one that joins
+// what that gives with the second, and a sink.
+ghost use Rattle.std.specs.Prelude.{◌≡◌, ◌≤◌, IfOk};
+ghost use Rattle.ff_net_plain.specs.Packets.{byte_lane};
+ghost use Rattle.ff_network_tests.specs.Five.{HasPorts, AreFive, five_edges};
+
+use ff_edges::Edge;
+use ff_frame::Item;
+use ff_net_plain::{Join, Plain, Relay, Source, is_packet, lane_of, one_over, packet};
+use ff_network::{Ran, run_network};
+use ff_time::Rational;
+use std::alloc::{AllocError, Global};
+use std::marker::Brand;
+use std::sync::Wait;
+use std::thread::Threads;
+
+fn edge(tb: Rational, from: u32, out_port: u32, to: u32, in_port: u32) -> Edge
+    ensures { result ≡ record { from = from; out_port = out_port; to = to; in_port = in_port; lane = byte_lane tb } }
+{
+    Edge {
+        from,
+        out_port,
+        to,
+        in_port,
+        lane: lane_of(tb),
+    }
+}
+
+fn edges(alloc: Global, tb: Rational) -> Result<Vec<Edge>, AllocError>
+    ensures { IfOk result (λ list. list.items ≡ five_edges (byte_lane tb)) }
+{
+    let first = edge(tb, 0, 0, 1, 0);
+    let second = edge(tb, 1, 0, 2, 0);
+    let third = edge(tb, 1, 1, 3, 1);
+    let fourth = edge(tb, 2, 0, 3, 0);
+    let fifth = edge(tb, 3, 0, 4, 0);
+    Ok(vec![in alloc; first, second, third, fourth, fifth]?)
+}
+
+fn packets(alloc: Global, count: u32) -> Result<Vec<Item>, AllocError> {
+    let mut items = Vec::new(alloc);
+    for place in 0..count {
+        items.push(packet(alloc, place)?)?;
+    }
+    Ok(items)
+}
+
+fn source(alloc: Global, tb: Rational, count: u32) -> Result<Plain, AllocError>
+    ensures { IfOk result (λ m. HasPorts (byte_lane tb) 0 1 m) }
+{
+    let items = packets(alloc, count)?;
+    let source = Source::new(alloc, lane_of(tb), 0, items, usize::MAX, usize::MAX);
+    Ok(Plain::Source(source))
+}
+
+fn relay(alloc: Global, tb: Rational, outs: usize, limit: usize) -> Result<Plain, AllocError>
+    ensures { IfOk result (λ m. HasPorts (byte_lane tb) 1 outs m) }
+{
+    let relay = Relay::new(alloc, lane_of(tb), outs, limit, usize::MAX)?;
+    Ok(Plain::Relay(relay))
+}
+
+fn join(alloc: Global, tb: Rational) -> Plain
+    ensures { HasPorts (byte_lane tb) 2 1 result }
+{
+    Plain::Join(Join::new(alloc, lane_of(tb), usize::MAX))
+}
+
+fn machines(alloc: Global, tb: Rational, count: u32, limit: usize) -> Result<Vec<Plain>, AllocError>
+    ensures { IfOk result (λ list. AreFive (byte_lane tb) list.items) }
+{
+    let source = source(alloc, tb, count)?;
+    let repeater = relay(alloc, tb, 2, usize::MAX)?;
+    let stopper = relay(alloc, tb, 1, limit)?;
+    let join = join(alloc, tb);
+    let sink = relay(alloc, tb, 0, usize::MAX)?;
+    Ok(vec![in alloc; source, repeater, stopper, join, sink]?)
+}
+
+// The five, run in threads over links of this size. None where memory is refused.
+fn run_five<R: Threads + Wait + Sync>(
+    rt: &R,
+    alloc: Global,
+    size: usize,
+    count: u32,
+    limit: usize,
+) -> Option<Ran<Plain>>
+    requires { (1 ≤ size) × (size ≤ 1024) }
+{
+    let tb = one_over(8000)?;
+    let Ok(machines) = machines(alloc, tb, count, limit) else {
+        return None;
+    };
+    let Ok(edges) = edges(alloc, tb) else {
+        return None;
+    };
+    run_network::<Brand, R, Plain>(rt, alloc, machines, &edges, size).ok()
+}
+
+// Whether these are the first packets, so many, and the end.
+fn are_packets(given: &[Item], count: u32) -> bool {
+    let mut place: u32 = 0;
+    let mut right = given.len() as u64 == u64::from(count) + 1;
+    for item in given {
+        right &= if place < count {
+            is_packet(item, place)
+        } else {
+            matches!(item, Item::End)
+        };
+        place = place.saturating_add(1);
+    }
+    right
+}
+
+// Whether no node has a fault, and the sink was fed the first packets, so many, and the end.
+fn comes_to(ran: Option<Ran<Plain>>, count: u32) -> bool {
+    let Some(ran) = ran else {
+        return false;
+    };
+    match ran.machines.last() {
+        Some(Plain::Relay(sink)) => ran.fault.is_none() && are_packets(sink.given(), count),
+        _ => false,
+    }
+}
+
+#[test]
+fn sizes(rt: HostRuntime) {
+    for size in [1usize, 2, 8] {
+        let all = run_five(&rt, rt.alloc(), size, 300, usize::MAX);
+        assert!(rt; comes_to(all, 300), "size {size}");
+        let first = run_five(&rt, rt.alloc(), size, 300, 7);
+        assert!(rt; comes_to(first, 7), "size {size}, the first 7");
+    }
+}

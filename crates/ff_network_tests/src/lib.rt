@@ -1,0 +1,5 @@
+//! Tests of networks of machines in threads: five machines with a fork and a join, over links of several sizes.
+#![tactic(auto)]
+
+#[cfg(test)]
+mod five;
