@@ -28,9 +28,9 @@ use Rattle.ff_net_plain.specs.declared.relay.Relay.{Relay as RelayOf}
 use Rattle.ff_net_plain.specs.Starts.{list_task, relay_task, source_stands, relay_stands}
 use Rattle.ff_net_plain.specs.Trials.{source_outs, relay_ins, relay_outs}
 use Rattle.ff_net_plain.specs.Networks.{Fits}
-use Rattle.ff_net_plain.specs.Plains.{plain_ins, plain_outs, plain_source, plain_fault, plain_failures, plain_stands}
+use Rattle.ff_net_plain.specs.Plains.{plain_view}
 use Rattle.ff_net_plain.proofs.Networks.{have, fits_shaped, no_wires, one_wire}
-use Rattle.ff_net_tests.specs.Chains.{IsNewSender, IsNewReceiver, IsNewMachine, AreNewEnds, IsNewNode, IsChain, sink_task, chain_tasks, chain_ins, chain_outs, no_device}
+use Rattle.ff_net_tests.specs.Chains.{IsNewSender, IsNewReceiver, IsNewMachine, AreNewEnds, IsNewNode, IsChain, sink_task, chain_tasks, chain_ins, chain_outs}
 
 abbrev two : Lane → List Lane
 two lane = lane ∷ lane ∷ []
@@ -104,14 +104,14 @@ packets_valid lane tb n items l i w few = subst (λ (xs : List Item). IsValid la
 -- a new node on new wires is at its beginning
 pub begins : (lane : Lane) (ins outs : List ℕ) (in_ends : List InEnd) (out_ends : List OutEnd) (m : Plain) (node : Node Plain) (wires : Wires) (task : Task) → IsNewMachine task lane ins outs m
     → AreNewEnds lane ins outs in_ends out_ends → machine_of node ≡ m → in_wires_of node ≡ ins → out_wires_of node ≡ outs → lanes_of wires ≡ lane ∷ lane ∷ []
-    → NodeStands plain_ins plain_source plain_fault plain_stands node (λ w. fresh) (start task) → Stand wires (λ w. fresh)
-    → IsBeginning plain_ins plain_outs plain_source plain_fault plain_stands task node wires in_ends out_ends
+    → NodeStands plain_view node (λ w. fresh) (start task) → Stand wires (λ w. fresh)
+    → IsBeginning plain_view task node wires in_ends out_ends
 begins lane ins outs in_ends out_ends m node wires task new ends machine i o lanes stands stand =
     let fits : Fits lane ins outs node = record {
       ins_are = i;
       outs_are = o;
-      in_lanes_are = ap (λ (x : Plain). plain_ins x) machine ∙ new.in_lanes;
-      out_lanes_are = ap (λ (x : Plain). plain_outs x) machine ∙ new.out_lanes;
+      in_lanes_are = ap (λ (x : Plain). (plain_view x).in_lanes) machine ∙ new.in_lanes;
+      out_lanes_are = ap (λ (x : Plain). (plain_view x).out_lanes) machine ∙ new.out_lanes;
     } in
     let in_have : HaveLanes ins (map (λ w. lane) ins) (lanes_of wires) = subst (λ (ls : List Lane). HaveLanes ins (map (λ w. lane) ins) ls) (sym lanes) (have ins lane (two lane) ends.ins_on ends.ins_apart) in
     let out_have : HaveLanes outs (map (λ w. lane) outs) (lanes_of wires) = subst (λ (ls : List Lane). HaveLanes outs (map (λ w. lane) outs) ls) (sym lanes) (have outs lane (two lane) ends.outs_on ends.outs_apart) in
@@ -204,7 +204,7 @@ module _ (count limit : ℕ) (lane : Lane) (a b c : Linked Plain) (s s' : Sendin
   pub chain_is : s.link ≡ r.link → s'.link ≡ r'.link → IsChain (chain_tasks count limit) lane (a ∷ b ∷ c ∷ [])
   chain_is e e' = record {
     three = refl;
-    behind = at_three (λ k l. Behind plain_ins plain_outs plain_source plain_fault plain_stands (chain_tasks count limit k) l) a b c first.behind second.behind third.behind;
+    behind = at_three (λ k l. Behind plain_view (chain_tasks count limit k) l) a b c first.behind second.behind third.behind;
     lanes = at_three (λ k l. lanes_on l ≡ lane ∷ lane ∷ []) a b c first.lanes_are second.lanes_are third.lanes_are;
     ins = at_three (λ k l. in_wires_of (node_of l) ≡ chain_ins k) a b c first.in_wires_are second.in_wires_are third.in_wires_are;
     outs = at_three (λ k l. out_wires_of (node_of l) ≡ chain_outs k) a b c first.out_wires_are second.out_wires_are third.out_wires_are;
@@ -216,9 +216,9 @@ module _ (count limit : ℕ) (lane : Lane) (a b c : Linked Plain) (s s' : Sendin
   }
 
 abbrev Run : List (Linked Plain) → List (Linked Plain) → Type 0
-Run olds news = AllRan plain_ins plain_outs plain_source no_device plain_failures plain_fault plain_stands olds news
+Run olds news = AllRan plain_view olds news
 
-pub chain_lawful : (tasks : ℕ → Task) (lane : Lane) (ls : List (Linked Plain)) → IsChain tasks lane ls → AllLawful plain_ins plain_outs plain_source no_device plain_failures plain_fault plain_stands ls
+pub chain_lawful : (tasks : ℕ → Task) (lane : Lane) (ls : List (Linked Plain)) → IsChain tasks lane ls → AllLawful plain_view ls
 chain_lawful tasks lane ls h = record { each = λ k d lt. (let b = h.behind k d lt in record { wired = b.wired; vouched = λ q e there claims. (tasks k, b) }) }
 
 -- a run keeps the chain
@@ -230,5 +230,5 @@ chain_after tasks lane olds news h r = record {
   ins = λ k d lt. (let lt' = subst (λ (n : ℕ). k < n) r.0 lt in (r.1 k d lt').0.ins_same ∙ h.ins k d lt');
   outs = λ k d lt. (let lt' = subst (λ (n : ℕ). k < n) r.0 lt in (r.1 k d lt').0.outs_same ∙ h.outs k d lt');
   links = h.links;
-  linked = linked_after plain_ins plain_outs plain_source no_device plain_failures plain_fault plain_stands h.links olds news h.linked r;
+  linked = linked_after plain_view h.links olds news h.linked r;
 }

@@ -8,14 +8,17 @@ use Rattle.ff_net.specs.declared.ports.InPort.{InPort}
 use Rattle.ff_net.specs.Nets.{Part, IsUpward, solve}
 use Rattle.ff_net.specs.Pasts.{Task, IsIn}
 use Rattle.ff_net.specs.Ports.{in_at, in_wires}
-use Rattle.ff_net.specs.Serial.{Settled, parts_of}
-use Rattle.ff_net.specs.Nodes.{IsSound, IsDone, machine_of, outputs_of, in_wires_of, out_wires_of}
+use Rattle.ff_net.specs.Serial.{Moment, parts_of}
+use Rattle.ff_net.specs.Theorem.{AllFare, MeetsSolution}
+use Rattle.ff_net.specs.Worlds.{Wire}
+use Rattle.ff_net.proofs.Moments.{fault_self}
+use Rattle.ff_net.specs.Nodes.{IsSound, machine_of, outputs_of, in_wires_of, out_wires_of}
 use Rattle.ff_net_links.specs.declared.linked.Linked.{Linked}
 use Rattle.ff_net_links.specs.Nodes.{node_of}
 use Rattle.ff_net_links.specs.Settling.{AllBehind, AllEnded, AreMeeting, IsInOf, IsOutOf, nodes_of}
 use Rattle.ff_net_links.proofs.Linking.{count_map}
 use Rattle.ff_net_plain.specs.declared.plain.Plain.{Plain}
-use Rattle.ff_net_plain.specs.Plains.{plain_ins, plain_outs, plain_source, plain_fault, plain_stands}
+use Rattle.ff_net_plain.specs.Plains.{plain_view}
 use Rattle.ff_net_plain.specs.Relays.{stopped_at}
 use Rattle.ff_net_tests.specs.Chains.{IsChain, AllSound, WasFed, chain_tasks}
 use Rattle.ff_net_tests.proofs.Chains.{apart_0_1}
@@ -31,15 +34,15 @@ sole_wire : (ports : List InPort) (w : ℕ) → in_wires ports ≡ w ∷ [] → 
 sole_wire [] w e = absurd (let n : 0 ≡ 1 = ap length e in omega (arith, n))
 sole_wire (p ∷ ps) w e = ap (λ (ws : List ℕ). slice_index_or ws 0 0) e
 
-abbrev SettledClause : List (Linked Plain) → Type 0
-SettledClause ls = (tasks : ℕ → Task) (lanes : List Lane) → AllBehind plain_ins plain_outs plain_source plain_fault plain_stands tasks ls → AreMeeting lanes ls → length lanes ≤ 2 → IsUpward [] (parts_of plain_ins plain_outs tasks (nodes_of ls)) → ((k : ℕ) (d : Node Plain) → k < length (nodes_of ls) → IsSound plain_fault (slice_index_or (nodes_of ls) k d))
-    → (k : ℕ) (d : Node Plain) → k < length (nodes_of ls) → IsDone (slice_index_or (nodes_of ls) k d) → outputs_of (slice_index_or (nodes_of ls) k d) ≡ 0 → Settled plain_stands (tasks k) (parts_of plain_ins plain_outs tasks (nodes_of ls)) (slice_index_or (nodes_of ls) k d)
+abbrev SolvedClause : List (Linked Plain) → Type 0
+SolvedClause ls = (tasks : ℕ → Task) (lanes : List Lane) (begun : List (Node Plain)) → AllBehind plain_view tasks ls → AreMeeting lanes ls → length lanes ≤ 2 → IsUpward [] (parts_of plain_view tasks (nodes_of ls)) → AllFare plain_view begun (nodes_of ls)
+    → (world : ℕ → Wire) × Moment plain_view tasks (nodes_of ls) lanes world × MeetsSolution plain_view tasks begun (nodes_of ls) world
 
 module _ (count limit : ℕ) (lane : Lane) (a b c : Linked Plain) (h : IsChain (chain_tasks count limit) lane (a ∷ b ∷ c ∷ [])) (e : AllEnded (a ∷ b ∷ c ∷ [])) (s : AllSound (a ∷ b ∷ c ∷ [])) where
   abbrev tasks : ℕ → Task
   tasks = chain_tasks count limit
 
-  all_behind : AllBehind plain_ins plain_outs plain_source plain_fault plain_stands tasks (a ∷ b ∷ c ∷ [])
+  all_behind : AllBehind plain_view tasks (a ∷ b ∷ c ∷ [])
   all_behind = (h.behind 0 a (omega arith), (h.behind 1 a (omega arith), (h.behind 2 a (omega arith), tt)))
 
   in_a : (w : ℕ) → IsIn w (in_wires_of (node_of a)) → ⊥
@@ -92,7 +95,7 @@ module _ (count limit : ℕ) (lane : Lane) (a b c : Linked Plain) (h : IsChain (
   behind_one w x ws (inl i) = inl i
   behind_one w x ws (inr i) = absurd i
 
-  upward : IsUpward [] (parts_of plain_ins plain_outs tasks (nodes_of (a ∷ b ∷ c ∷ [])))
+  upward : IsUpward [] (parts_of plain_view tasks (nodes_of (a ∷ b ∷ c ∷ [])))
   upward = (
     in_a,
     (
@@ -101,7 +104,7 @@ module _ (count limit : ℕ) (lane : Lane) (a b c : Linked Plain) (h : IsChain (
     ),
   )
 
-  sound_at : (k : ℕ) (d : Node Plain) → k < length (nodes_of (a ∷ b ∷ c ∷ [])) → IsSound plain_fault (slice_index_or (nodes_of (a ∷ b ∷ c ∷ [])) k d)
+  sound_at : (k : ℕ) (d : Node Plain) → k < length (nodes_of (a ∷ b ∷ c ∷ [])) → IsSound plain_view (slice_index_or (nodes_of (a ∷ b ∷ c ∷ [])) k d)
   sound_at zero d lt = s.each 0 a (omega arith)
   sound_at (suc zero) d lt = s.each 1 a (omega arith)
   sound_at (suc (suc zero)) d lt = s.each 2 a (omega arith)
@@ -113,22 +116,23 @@ module _ (count limit : ℕ) (lane : Lane) (a b c : Linked Plain) (h : IsChain (
   one_in : length (node_of c).ins.items ≡ 1
   one_in = sym (count_map (λ p. p.wire) (node_of c).ins.items) ∙ ap length (h.ins 2 a (omega arith))
 
-  fed_three : SettledClause (a ∷ b ∷ c ∷ []) → WasFed count limit (machine_of (node_of c))
-  fed_three settled =
-      let z = settled tasks (lane ∷ lane ∷ []) all_behind meeting (omega arith) upward sound_at 2 (node_of a) (omega arith) (e.each 2 a (omega arith)).node no_outs in
+  fed_three : SolvedClause (a ∷ b ∷ c ∷ []) → WasFed count limit (machine_of (node_of c))
+  fed_three solved =
+      let all = solved tasks (lane ∷ lane ∷ []) (nodes_of (a ∷ b ∷ c ∷ [])) all_behind meeting (omega arith) upward (λ k d lt. fault_self _) in
+      let z = all.2.settled sound_at 2 (node_of a) (omega arith) (e.each 2 a (omega arith)).node no_outs in
       let one = one_in in
       let wire : (in_at (node_of c).ins.items 0).wire ≡ 1 = sole_wire (node_of c).ins.items 1 (h.ins 2 a (omega arith)) in
       record {
         past = z.past;
         stands = z.machine;
         task_is = z.task_is;
-        got = z.got 0 (omega (arith, one)) ∙ (ap (λ (w : ℕ). solve (parts_of plain_ins plain_outs tasks (nodes_of (a ∷ b ∷ c ∷ []))) w) wire
-            ∙ solve_is count limit (plain_ins (node_of a).machine) (plain_outs (node_of a).machine) (plain_ins (node_of b).machine) (plain_outs (node_of b).machine) (plain_ins (node_of c).machine) (plain_outs (node_of c).machine) (in_wires_of (node_of a)) (out_wires_of (node_of a)) (in_wires_of (node_of b)) (out_wires_of (node_of b)) (in_wires_of (node_of c)) (out_wires_of (node_of c))
+        got = z.got 0 (omega (arith, one)) ∙ (ap (λ (w : ℕ). solve (parts_of plain_view tasks (nodes_of (a ∷ b ∷ c ∷ []))) w) wire
+            ∙ solve_is count limit (plain_view (node_of a).machine).in_lanes (plain_view (node_of a).machine).out_lanes (plain_view (node_of b).machine).in_lanes (plain_view (node_of b).machine).out_lanes (plain_view (node_of c).machine).in_lanes (plain_view (node_of c).machine).out_lanes (in_wires_of (node_of a)) (out_wires_of (node_of a)) (in_wires_of (node_of b)) (out_wires_of (node_of b)) (in_wires_of (node_of c)) (out_wires_of (node_of c))
             (h.ins 0 a (omega arith)) (h.outs 0 a (omega arith)) (h.ins 1 a (omega arith)) (h.outs 1 a (omega arith)) (h.ins 2 a (omega arith)) (h.outs 2 a (omega arith)));
       }
 
 -- the sink was fed the first packets and the end
-pub sink_was_fed : (count limit : ℕ) (lane : Lane) (ls : List (Linked Plain)) (machines : List Plain) → IsChain (chain_tasks count limit) lane ls → AllEnded ls → AllSound ls → SettledClause ls
+pub sink_was_fed : (count limit : ℕ) (lane : Lane) (ls : List (Linked Plain)) (machines : List Plain) → IsChain (chain_tasks count limit) lane ls → AllEnded ls → AllSound ls → SolvedClause ls
     → ((k : ℕ) (d : Linked Plain) (x : Plain) → k < length ls → slice_index_or machines k x ≡ machine_of (node_of (slice_index_or ls k d))) → (x : Plain) → WasFed count limit (slice_index_or machines 2 x)
 sink_was_fed count limit lane [] machines h e s c m x = absurd (let n : 0 ≡ 3 = h.three in omega (arith, n))
 sink_was_fed count limit lane (a ∷ []) machines h e s c m x = absurd (let n : 1 ≡ 3 = h.three in omega (arith, n))

@@ -17,7 +17,7 @@ use Rattle.ff_net_links.specs.Settling.{AreLinked}
 use Rattle.ff_net_plain.specs.declared.plain.Plain.{Plain}
 use Rattle.ff_net_plain.specs.Relays.{stopped_at}
 use Rattle.ff_net_plain.specs.Starts.{list_task, relay_task}
-use Rattle.ff_net_plain.specs.Plains.{plain_ins, plain_outs, plain_source, plain_fault, plain_stands}
+use Rattle.ff_net_plain.specs.Plains.{plain_view}
 
 -- the two ends of new links of this lane
 pub record IsNewSender (lane : Lane) (s : Sending) : Type 0 where
@@ -31,9 +31,9 @@ pub record IsNewReceiver (lane : Lane) (r : Receiving) : Type 0 where
 
 -- a machine is at the start of this task, and has these lanes
 pub record IsNewMachine (task : Task) (lane : Lane) (ins outs : List ℕ) (m : Plain) : Type 0 where
-  pub begins : plain_stands m (start task)
-  pub in_lanes : plain_ins m ≡ map (λ w. lane) ins
-  pub out_lanes : plain_outs m ≡ map (λ w. lane) outs
+  pub begins : (plain_view m).stands (start task)
+  pub in_lanes : (plain_view m).in_lanes ≡ map (λ w. lane) ins
+  pub out_lanes : (plain_view m).out_lanes ≡ map (λ w. lane) outs
 
 -- new ends at two wires of this lane
 pub record AreNewEnds (lane : Lane) (ins outs : List ℕ) (in_ends : List InEnd) (out_ends : List OutEnd) : Type 0 where
@@ -49,15 +49,12 @@ pub record AreNewEnds (lane : Lane) (ins outs : List ℕ) (in_ends : List InEnd)
 
 -- this task is behind a node at these wires, with these ends
 pub record IsNewNode (task : Task) (lane : Lane) (in_wires out_wires : List ℕ) (ins : List InEnd) (outs : List OutEnd) (l : Linked Plain) : Type 0 where
-  pub behind : Behind plain_ins plain_outs plain_source plain_fault plain_stands task l
+  pub behind : Behind plain_view task l
   pub lanes_are : lanes_on l ≡ lane ∷ lane ∷ []
   pub in_wires_are : in_wires_of (node_of l) ≡ in_wires
   pub out_wires_are : out_wires_of (node_of l) ≡ out_wires
   pub ins_are : ins_of l ≡ ins
   pub outs_are : outs_of l ≡ outs
-
-abbrev pub no_device : Plain → Option (List ℕ)
-no_device m = None
 
 -- a sink keeps all
 abbrev pub sink_task : Task
@@ -83,7 +80,7 @@ chain_tasks count limit (suc (suc k)) = sink_task
 -- three nodes in a chain, with these tasks behind them
 pub record IsChain (tasks : ℕ → Task) (lane : Lane) (ls : List (Linked Plain)) : Type 0 where
   pub three : length ls ≡ 3
-  pub behind : (k : ℕ) (d : Linked Plain) → k < length ls → Behind plain_ins plain_outs plain_source plain_fault plain_stands (tasks k) (slice_index_or ls k d)
+  pub behind : (k : ℕ) (d : Linked Plain) → k < length ls → Behind plain_view (tasks k) (slice_index_or ls k d)
   pub lanes : (k : ℕ) (d : Linked Plain) → k < length ls → lanes_on (slice_index_or ls k d) ≡ lane ∷ lane ∷ []
   pub ins : (k : ℕ) (d : Linked Plain) → k < length ls → in_wires_of (node_of (slice_index_or ls k d)) ≡ chain_ins k
   pub outs : (k : ℕ) (d : Linked Plain) → k < length ls → out_wires_of (node_of (slice_index_or ls k d)) ≡ chain_outs k
@@ -92,11 +89,11 @@ pub record IsChain (tasks : ℕ → Task) (lane : Lane) (ls : List (Linked Plain
 
 -- no node has a fault
 pub record AllSound (ls : List (Linked Plain)) : Type 0 where
-  pub each : (k : ℕ) (d : Linked Plain) → k < length ls → IsSound plain_fault (node_of (slice_index_or ls k d))
+  pub each : (k : ℕ) (d : Linked Plain) → k < length ls → IsSound plain_view (node_of (slice_index_or ls k d))
 
 -- a sink was fed the first packets, and the end behind them where so many were there
 pub record WasFed (count limit : ℕ) (m : Plain) : Type 0 where
   pub past : Past
-  pub stands : plain_stands m past
+  pub stands : (plain_view m).stands past
   pub task_is : past.task ≡ sink_task
   pub got : stream_at past.got 0 ≡ stopped_at limit (whole_stream (byte_packets count))

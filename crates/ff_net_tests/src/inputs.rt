@@ -2,12 +2,12 @@
 ghost use Rattle.std.specs.Prelude.{IfSome};
 ghost use Rattle.ff_values.specs.declared.head.Codec.TheVariants.{PcmU8};
 ghost use Rattle.ff_wav.specs.Packets.{IsHead};
-ghost use Rattle.ff_parts.specs.Parts.{part_in_lanes, part_out_lanes};
 ghost use Rattle.ff_path.specs.Chains.{HasLanes};
 ghost use Rattle.ff_path.specs.Path.{path_lanes};
 
 use ff_frame::Codec;
 use ff_host::{Host, Sink, Source};
+use ff_net::Machine;
 use ff_parts::{Ends, Part};
 use ff_path::{Chain, build};
 use ff_wav::{WavHead, read_head};
@@ -55,7 +55,7 @@ pub fn parts<Src: Source + Drop, Snk: Sink + Drop>(
     snk: Snk,
 ) -> Option<Chain<Part<Src, Snk>>>
     requires { IsHead head.now }
-    ensures { IfSome result (λ chain. HasLanes part_in_lanes part_out_lanes (path_lanes PcmU8 head.now.head) chain) }
+    ensures { IfSome result (λ chain. HasLanes ⟦<Part<Src, Snk> as Machine>⟧.view (path_lanes PcmU8 head.now.head) chain) }
 {
     match build(alloc, Codec::PcmU8, head, src, snk) {
         Ok(chain) => Some(chain),

@@ -2,7 +2,7 @@ ghost use Rattle.std.specs.Prelude.{◌≡◌, ◌<◌, ◌≤◌, ◌+◌, ℕ,
 ghost use Rattle.ff_net.specs.Nodes.{machine_of, in_wires_of, out_wires_of};
 ghost use Rattle.ff_net.specs.Serial.{AreShaped};
 ghost use Rattle.ff_net_plain.specs.Networks.{Fits};
-ghost use Rattle.ff_net_plain.specs.Plains.{plain_ins, plain_outs};
+ghost use Rattle.ff_net_plain.specs.Plains.{plain_view};
 ghost use Rattle.ff_net_plain.specs.Trials.{trial_lane};
 
 use crate::trial::{lane, packet};
@@ -176,9 +176,9 @@ fn next_node(plan: Plan, turn: usize) -> usize
 
 // A turn of the node of this number.
 fn turn(nodes: &mut [Node<Plain>], wires: &mut Wires, node: usize)
-    requires shaped { AreShaped plain_ins plain_outs nodes.old wires.old }
+    requires shaped { AreShaped plain_view nodes.old wires.old }
     requires node { node < length nodes.old }
-    ensures shaped { AreShaped plain_ins plain_outs nodes.new wires.new }
+    ensures shaped { AreShaped plain_view nodes.new wires.new }
     ensures count { length nodes.new ≡ length nodes.old }
 {
     run_serial(nodes, wires, &[node]);
@@ -186,7 +186,7 @@ fn turn(nodes: &mut [Node<Plain>], wires: &mut Wires, node: usize)
 
 // 400 turns, in the order of the plan.
 fn turns(nodes: &mut [Node<Plain>], wires: &mut Wires, plan: Plan)
-    requires shaped { AreShaped plain_ins plain_outs nodes.old wires.old }
+    requires shaped { AreShaped plain_view nodes.old wires.old }
     requires count { length nodes.old ≡ 5 }
 {
     for number in 0usize..400 {

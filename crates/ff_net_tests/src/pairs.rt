@@ -2,7 +2,6 @@
 ghost use Rattle.std.specs.Prelude.{◌≡◌, ◌∷◌, [], IfOk, IfSome};
 ghost use Rattle.ff_values.specs.declared.head.Codec.TheVariants.{PcmU8};
 ghost use Rattle.ff_wav.specs.Packets.{IsHead};
-ghost use Rattle.ff_parts.specs.Parts.{part_in_lanes, part_out_lanes};
 ghost use Rattle.ff_net_links.specs.Runs.{AllLawful};
 ghost use Rattle.ff_path.specs.Chains.{HasLanes};
 ghost use Rattle.ff_path.specs.Path.{path_lanes};
@@ -29,8 +28,8 @@ fn linked<M: Machine + Drop>(
     machines: Chain<M>,
     lanes: &Lanes,
 ) -> Result<Chain<Linked<M>>, AllocError>
-    requires { HasLanes M.in_lanes M.out_lanes lanes.now machines }
-    ensures { IfOk result (λ linked. AreLawful M.in_lanes M.out_lanes M.source_of M.fault_of M.stands linked) }
+    requires { HasLanes M.view lanes.now machines }
+    ensures { IfOk result (λ linked. AreLawful M.view linked) }
 {
     match link_chain::<Brand, M>(alloc, machines, lanes, 8) {
         Ok(linked) => Ok(linked),
@@ -66,8 +65,8 @@ fn run_two<R: Threads + Wait + Sync, M: Machine + Send + Drop>(
     right: Chain<M>,
     lanes: &Lanes,
 ) -> Result<Vec<Linked<M>>, AllocError>
-    requires left { HasLanes M.in_lanes M.out_lanes lanes.now left }
-    requires right { HasLanes M.in_lanes M.out_lanes lanes.now right }
+    requires left { HasLanes M.view lanes.now left }
+    requires right { HasLanes M.view lanes.now right }
 {
     let left = linked(alloc, left, lanes)?;
     let right = linked(alloc, right, lanes)?;
@@ -95,7 +94,7 @@ fn chain_on(
     output: &str,
 ) -> Option<Chain<MeetPart>>
     requires { IsHead head.now }
-    ensures { IfSome result (HasLanes part_in_lanes part_out_lanes (path_lanes PcmU8 head.now.head)) }
+    ensures { IfSome result (HasLanes ⟦<MeetPart as Machine>⟧.view (path_lanes PcmU8 head.now.head)) }
 {
     let (src, snk) = opened(host, input, output)?;
     parts(alloc, head, src, snk)
@@ -109,8 +108,8 @@ fn two_chains(
     right: &[u8],
 ) -> Option<(Chain<MeetPart>, Chain<MeetPart>)>
     requires { IsHead head.now }
-    ensures left { IfSome result (λ both. HasLanes part_in_lanes part_out_lanes (path_lanes PcmU8 head.now.head) both.0) }
-    ensures right { IfSome result (λ both. HasLanes part_in_lanes part_out_lanes (path_lanes PcmU8 head.now.head) both.1) }
+    ensures left { IfSome result (λ both. HasLanes ⟦<MeetPart as Machine>⟧.view (path_lanes PcmU8 head.now.head) both.0) }
+    ensures right { IfSome result (λ both. HasLanes ⟦<MeetPart as Machine>⟧.view (path_lanes PcmU8 head.now.head) both.1) }
 {
     let Ok(mut host) = meeting(alloc, left, right) else {
         return None;
@@ -149,8 +148,8 @@ fn lasts_of_two<R: Threads + Wait + Sync, M: Machine + Send + Drop>(
     right: Chain<M>,
     lanes: &Lanes,
 ) -> Option<(M, M)>
-    requires left { HasLanes M.in_lanes M.out_lanes lanes.now left }
-    requires right { HasLanes M.in_lanes M.out_lanes lanes.now right }
+    requires left { HasLanes M.view lanes.now left }
+    requires right { HasLanes M.view lanes.now right }
 {
     match run_two(rt, alloc, left, right, lanes) {
         Ok(nodes) => lasts(nodes),
@@ -197,7 +196,7 @@ fn fault_in_threads<R: Threads + Wait + Sync, M: Machine + Send + Drop>(
     chain: Chain<M>,
     lanes: &Lanes,
 ) -> Option<NodeFault>
-    requires { HasLanes M.in_lanes M.out_lanes lanes.now chain }
+    requires { HasLanes M.view lanes.now chain }
 {
     match run_chain_in_threads::<Brand, _, _>(rt, alloc, chain, lanes, 8) {
         Ok(Ran { fault, .. }) => fault,

@@ -1,6 +1,5 @@
 // One path, in one thread and in threads.
 ghost use Rattle.std.specs.Prelude.{◌≤◌, ◌<◌, ℕ, length, slice_index_or, IfSome};
-ghost use Rattle.ff_parts.specs.Parts.{part_in_lanes, part_out_lanes};
 ghost use Rattle.ff_path.specs.Chains.{HasLanes};
 
 use crate::inputs::{head_of, opened, parts, sink_of};
@@ -34,7 +33,7 @@ fn ends(alloc: Global, bytes: &[u8]) -> Option<(QuietSource, QuietSink)> {
 
 // The path from an input, and its lanes.
 fn path(alloc: Global, bytes: &[u8]) -> Option<(Chain<Part<QuietSource, QuietSink>>, Lanes)>
-    ensures { IfSome result (λ made. HasLanes part_in_lanes part_out_lanes made.1 made.0) }
+    ensures { IfSome result (λ made. HasLanes ⟦<Part<QuietSource, QuietSink> as Machine>⟧.view made.1 made.0) }
 {
     let head = head_of(bytes)?;
     let (src, snk) = ends(alloc, bytes)?;
@@ -61,7 +60,7 @@ fn last_in_turns<R: Wait, M: Machine + Drop>(
     size: usize,
     order: &[usize],
 ) -> Option<M>
-    requires lanes { HasLanes M.in_lanes M.out_lanes lanes chain }
+    requires lanes { HasLanes M.view lanes chain }
     requires size { 1 ≤ size }
     requires order { (i : ℕ) (d : ℕ) → i < length order.now → slice_index_or order.now i d < 4 }
 {
@@ -79,7 +78,7 @@ fn last_in_threads<R: Threads + Wait + Sync, M: Machine + Send + Drop>(
     lanes: Lanes,
     size: usize,
 ) -> Option<M>
-    requires lanes { HasLanes M.in_lanes M.out_lanes lanes chain }
+    requires lanes { HasLanes M.view lanes chain }
     requires size { (1 ≤ size) × (size ≤ 1024) }
 {
     match run_chain_in_threads::<Brand, _, _>(rt, alloc, chain, &lanes, size) {

@@ -1,7 +1,8 @@
 ghost use Rattle.std.specs.Prelude.{◌≡◌, ◌<◌, ◌≤◌, ◌+◌, ℕ, length, IfOk, []};
 ghost use Rattle.ff_net.specs.Worlds.{lanes_of};
 ghost use Rattle.ff_net.specs.Serial.{AreShaped};
-ghost use Rattle.ff_net_plain.specs.Trials.{trial_lane, relay_ins, relay_outs};
+ghost use Rattle.ff_net_plain.specs.Kinds.{relay_view};
+ghost use Rattle.ff_net_plain.specs.Trials.{trial_lane};
 
 use ff_frame::{Bytes, Codec, Item, Lane, Pkt, StreamHead};
 use ff_net::{Node, Put, Take, Wires, run_serial};
@@ -127,11 +128,11 @@ fn turn(
     wanted: bool,
     trial: Trial,
 ) -> (bool, Trial)
-    requires shaped { AreShaped relay_ins relay_outs nodes.old wires.old }
+    requires shaped { AreShaped relay_view nodes.old wires.old }
     requires lanes { length (lanes_of wires.old) ≡ 2 }
     requires count { length nodes.old ≡ 1 }
     requires few { trial.items < 1000 }
-    ensures shaped { AreShaped relay_ins relay_outs nodes.new wires.new }
+    ensures shaped { AreShaped relay_view nodes.new wires.new }
     ensures lanes { length (lanes_of wires.new) ≡ 2 }
     ensures count { length nodes.new ≡ 1 }
     ensures items { result.1.items ≤ trial.items + 1 }
@@ -148,7 +149,7 @@ fn turns(
     wires: &mut Wires,
     count: usize,
 ) -> Result<Trial, AllocError>
-    requires shaped { AreShaped relay_ins relay_outs nodes.old wires.old }
+    requires shaped { AreShaped relay_view nodes.old wires.old }
     requires lanes { length (lanes_of wires.old) ≡ 2 }
     requires count { length nodes.old ≡ 1 }
 {

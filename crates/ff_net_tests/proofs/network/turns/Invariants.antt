@@ -1,10 +1,10 @@
 use Rattle.std.proofs.Common.{◌≡◌, length}
 use Rattle.ff_net.specs.Serial.{AreShaped}
-use Rattle.ff_net_plain.specs.Plains.{plain_ins, plain_outs}
+use Rattle.ff_net_plain.specs.Plains.{plain_view}
 use Rattle.ff_net_tests.proofs.network.turns.Given as goal
 
 abbrev pub invariant-loop-number : goal.invariant-loop-number
 invariant-loop-number l = record {
-  shaped : AreShaped plain_ins plain_outs l.nodes l.wires;
+  shaped : AreShaped plain_view l.nodes l.wires;
   count : length l.nodes ≡ 5;
 }

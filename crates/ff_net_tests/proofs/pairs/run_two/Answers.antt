@@ -6,8 +6,8 @@ use Rattle.ff_net_tests.proofs.pairs.run_two.Goals as goal
 
 pub run_threads-requires-clause-lawful : goal.run_threads-requires-clause-lawful
 run_threads-requires-clause-lawful g c κs within =
-    let m = g.M.Machine in
-    let Lawful : Linked g.row.M.Denot → Type 0 = λ l. IsLawful m.in_lanes m.out_lanes m.source_of m.fault_of m.stands l in
+    let view = g.M.Machine.view in
+    let Lawful : Linked g.row.M.Denot → Type 0 = λ l. IsLawful view l in
     let items = c.in_ok-nodes.ensures in
     let l = c.in_ok-left.ensures in
     let r = c.in_ok-right.ensures in record {

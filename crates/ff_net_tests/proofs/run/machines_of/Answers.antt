@@ -1,9 +1,9 @@
 use Rattle.std.proofs.Common.{◌≡◌, ◌≤◌, ℕ, length, sym, subst}
 use Rattle.ff_net_links.specs.Rooms.{links_of}
 use Rattle.ff_net_plain.specs.Packets.{byte_lane}
-use Rattle.ff_net_tests.specs.Chains.{chain_tasks, no_device}
+use Rattle.ff_net_tests.specs.Chains.{chain_tasks}
 use Rattle.ff_net_links.proofs.After.{ended_after}
-use Rattle.ff_net_plain.specs.Plains.{plain_ins, plain_outs, plain_source, plain_fault, plain_failures, plain_stands}
+use Rattle.ff_net_plain.specs.Plains.{plain_view}
 use Rattle.ff_net_tests.proofs.Solved.{sink_was_fed}
 use Rattle.ff_net_tests.proofs.Chains.{chain_lawful, chain_after}
 use Rattle.ff_net_tests.proofs.run.machines_of.Goals as goal
@@ -21,9 +21,9 @@ returns g c = record {
       let news = c.in-Ok-run_threads.done.items in
       let ran = c.in-Ok-run_threads.ensures.ok in
       let after = chain_after (chain_tasks c.args.count c.args.limit) (byte_lane c.args.tb) olds news c.in-Ok.ensures ran in
-      let ended = ended_after plain_ins plain_outs plain_source no_device plain_failures plain_fault plain_stands olds news ran in
+      let ended = ended_after plain_view olds news ran in
       let settled = c.settle_all.ensures in
       let links : links_of c.in-Ok-new.room ≡ 2 = c.in-Ok-new.ensures.links in
       sink_was_fed c.args.count c.args.limit (byte_lane c.args.tb) news c.settle_all.result.items after ended (c.all_sound-sound.ensures sound)
-      (λ tasks lanes behind meeting le. settled.settled tasks lanes behind meeting (subst (λ (n : ℕ). length lanes ≤ n) (sym links) le)) settled.machines;
+      (λ tasks lanes begun behind meeting le. settled.solved tasks lanes begun behind meeting (subst (λ (n : ℕ). length lanes ≤ n) (sym links) le)) settled.machines;
 }
