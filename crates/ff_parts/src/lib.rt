@@ -13,7 +13,8 @@ mod part;
 mod ready;
 
 pub use coding::{
-    coding_keeps_the_broken_rule, coding_leaves_bytes, decoding_passes_no_limit, encoding_passes_no_limit, octets_leave_bytes,
+    coding_keeps_the_broken_rule, coding_leaves_bytes, decoding_passes_no_limit,
+    encoding_passes_no_limit, octets_leave_bytes,
 };
 pub use dec::Dec;
 pub use demux::{Demux, Demuxable, is_long};
