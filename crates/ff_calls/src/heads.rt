@@ -127,7 +127,8 @@ fn head_of(alloc: Global, format: &str, whole: bool, bytes: &[u8]) -> Result<Str
     }
 }
 
-fn is_whole(words: Words, at: usize) -> Result<bool, Stop> {
+/// Whether an input ends behind its bytes.
+pub fn is_whole(words: Words, at: usize) -> Result<bool, Stop> {
     match words.text(at)? {
         "whole" => Ok(true),
         "begun" => Ok(false),

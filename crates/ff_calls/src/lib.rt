@@ -8,9 +8,11 @@ mod blocks;
 mod commands;
 mod cuts;
 mod cutter;
+mod files;
 mod flac;
 mod framehash;
 mod heads;
+mod inputs;
 mod lang;
 mod made;
 mod maps;
@@ -50,6 +52,13 @@ pub fn answer(alloc: Global, name: &str, arguments: &[String]) -> Result<String,
         "command_of" => commands::made(words),
         "head" => heads::head(words),
         "head_fronts" => heads::head_fronts(words),
+        "input" => inputs::head(words),
+        "input_fronts" => inputs::head_fronts(words),
+        "input_pieces" => inputs::pieces(words),
+        "input_streams" => inputs::streams(words),
+        "wav_file" => files::wav(words),
+        "y4m_file" => files::y4m(words),
+        "hash_file" => files::hashes(words),
         "cut" => cuts::cut(words),
         "packets" => cuts::packets(words),
         "cut_pieces" => cuts::cut_pieces(words),

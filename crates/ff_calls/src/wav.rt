@@ -9,8 +9,8 @@ use ff_time::Rational;
 use ff_values::StreamHead;
 use ff_wav::WavPut;
 
-// The head of `CODEC CHANNELS`, at 44,100 sample frames a second.
-fn head_of(words: Words) -> Result<StreamHead, Stop>
+/// The head of `CODEC CHANNELS`, at 44,100 sample frames a second.
+pub fn head_of(words: Words) -> Result<StreamHead, Stop>
     ensures { IfOk result IsPcmCoded }
 {
     let codec = codec_of(words.text(0)?)?;

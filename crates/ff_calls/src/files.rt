@@ -1,0 +1,107 @@
+// Files of packets, as the writers of the formats give them.
+use crate::table::Stop;
+use crate::wav::head_of;
+use crate::words::Words;
+use ff_time::Rational;
+use ff_values::{Bytes, Format, HashKind, Pkt, StreamHead};
+use ff_writers::{AnyWriter, HashWriter, WavPut, Writer, Y4mWriter};
+use std::alloc::Global;
+
+// The packet of this number, a tick long, of the bytes that the word at this place says.
+fn packet(words: Words, at: usize, number: i64) -> Result<Pkt, Stop> {
+    Ok(Pkt {
+        pts: number,
+        dts: number,
+        duration: 1,
+        pos: 0,
+        bytes: Bytes::new(words.bytes(at)?),
+    })
+}
+
+fn push_hex(alloc: Global, out: &mut String, bytes: &[u8]) -> Result<(), Stop> {
+    out.push_str(hex::encode(alloc, bytes)?.as_str())?;
+    Ok(())
+}
+
+// What is written of the packets of the words from a place on.
+fn write_packets(
+    words: Words,
+    from: usize,
+    writer: &mut AnyWriter,
+    out: &mut String,
+) -> Result<(), Stop> {
+    let mut number = 0;
+    for at in from..words.len() {
+        let Ok(text) = writer.text(0, packet(words, at, number)?) else {
+            return Err(Stop::Broken);
+        };
+        if writer.add(text.len() as u64).is_err() {
+            return Err(Stop::Unreadable);
+        }
+        push_hex(words.alloc, out, text.as_slice())?;
+        number = number.saturating_add(1);
+    }
+    Ok(())
+}
+
+// The text as a whole, and behind a blank what takes the place of bytes of it, and from which place on.
+fn file(words: Words, from: usize, writer: AnyWriter) -> Result<String, Stop> {
+    let mut writer = writer;
+    let mut out = String::new(words.alloc);
+    push_hex(words.alloc, &mut out, writer.first()?.as_slice())?;
+    write_packets(words, from, &mut writer, &mut out)?;
+    push_hex(words.alloc, &mut out, writer.pad())?;
+    if let Some(patch) = writer.last(None)? {
+        let at = patch.at;
+        out.push_str(format!(in words.alloc; " {at} ")?.as_str())?;
+        push_hex(words.alloc, &mut out, patch.bytes.as_slice())?;
+    }
+    Ok(out)
+}
+
+/// `wav_file CODEC CHANNELS PACKET..`: the WAV of these packets, at 44,100 sample frames a second.
+pub fn wav(words: Words) -> Result<String, Stop> {
+    let head = head_of(words)?;
+    file(words, 2, AnyWriter::Wav(WavPut::new(words.alloc, &head)))
+}
+
+fn base(num: i64, den: i64) -> Result<Rational, Stop> {
+    match Rational::new(num, den) {
+        Ok(base) => Ok(base),
+        Err(_) => Err(Stop::Unreadable),
+    }
+}
+
+/// `y4m_file PACKET..`: the YUV4MPEG2 of these packets, of 2 columns and 1 row of Y alone, 25 frames a second.
+pub fn y4m(words: Words) -> Result<String, Stop> {
+    let head = StreamHead::Video {
+        tb: base(1, 25)?,
+        format: Format::Mono,
+        width: 2,
+        height: 1,
+        sar_num: 0,
+        sar_den: 0,
+    };
+    file(words, 0, AnyWriter::Y4m(Y4mWriter::new(words.alloc, head)))
+}
+
+fn kind_of(word: &str) -> Result<HashKind, Stop> {
+    match word {
+        "sha256" => Ok(HashKind::Sha256),
+        "md5" => Ok(HashKind::Md5),
+        _ => Err(Stop::Unreadable),
+    }
+}
+
+/// `hash_file CODEC CHANNELS sha256|md5 PACKET..`: the framehash of these packets, at 44,100 sample frames a second.
+pub fn hashes(words: Words) -> Result<String, Stop> {
+    let head = head_of(words)?;
+    let kind = kind_of(words.text(2)?)?;
+    let mut heads = Vec::with_capacity(words.alloc, 1)?;
+    heads.push(head)?;
+    file(
+        words,
+        3,
+        AnyWriter::Hash(HashWriter::new(words.alloc, kind, heads)),
+    )
+}
