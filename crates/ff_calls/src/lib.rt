@@ -18,6 +18,7 @@ mod made;
 mod maps;
 mod pcm;
 mod pictures;
+mod plans;
 mod residuals;
 mod runs;
 mod sched;
@@ -50,6 +51,7 @@ pub fn answer(alloc: Global, name: &str, arguments: &[String]) -> Result<String,
         "command" => commands::command(words),
         "command_today" => commands::today(words),
         "command_of" => commands::made(words),
+        "plan" => plans::plan_of(words),
         "head" => heads::head(words),
         "head_fronts" => heads::head_fronts(words),
         "input" => inputs::head(words),

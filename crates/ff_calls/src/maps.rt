@@ -103,7 +103,7 @@ fn head(text: &str) -> Result<StreamHead, Stop> {
 }
 
 // The streams of an input with commas between them; `-` has none.
-fn streams(alloc: Global, text: &str) -> Result<Vec<StreamHead>, Stop> {
+pub fn streams(alloc: Global, text: &str) -> Result<Vec<StreamHead>, Stop> {
     let mut heads = Vec::new(alloc);
     if text != "-" {
         for one in text.split(',') {
