@@ -7,8 +7,8 @@ use crate::work::{PlanEnd, WorkEnd};
 use ff_host::HostError;
 
 /// How a command over files ends: what refuses its plan is an `R`, what of the bytes ends its run an `F`.
-#[derive(Clone, Copy, Debug, PartialEq, Eq)]
-pub enum RunEnd<R, F> {
+#[derive(Debug, Drop)]
+pub enum RunEnd<R: Drop, F: Copy> {
     /// All was done.
     Fine,
     /// Opening or reading this input failed.
@@ -28,7 +28,7 @@ pub enum RunEnd<R, F> {
 }
 
 /// The end of an input without a head.
-pub(crate) fn end_of<R, F>(input: u32, end: InputEnd) -> RunEnd<R, F>
+pub(crate) fn end_of<R: Drop, F: Copy>(input: u32, end: InputEnd) -> RunEnd<R, F>
     ensures { result ≡ end_of_input input end }
 {
     match end {
@@ -40,7 +40,7 @@ pub(crate) fn end_of<R, F>(input: u32, end: InputEnd) -> RunEnd<R, F>
 }
 
 /// The end where there is no plan.
-pub(crate) fn end_of_plan<R: Copy, F>(end: PlanEnd<R>) -> RunEnd<R, F>
+pub(crate) fn end_of_plan<R: Drop, F: Copy>(end: PlanEnd<R>) -> RunEnd<R, F>
     ensures { result ≡ end_by_plan end }
 {
     match end {
@@ -50,7 +50,7 @@ pub(crate) fn end_of_plan<R: Copy, F>(end: PlanEnd<R>) -> RunEnd<R, F>
 }
 
 /// The end where an output wasn't created.
-pub(crate) fn end_of_output<R, F>(output: u32, end: HostError) -> RunEnd<R, F>
+pub(crate) fn end_of_output<R: Drop, F: Copy>(output: u32, end: HostError) -> RunEnd<R, F>
     ensures { result ≡ end_by_output output end }
 {
     match end {
@@ -60,7 +60,7 @@ pub(crate) fn end_of_output<R, F>(output: u32, end: HostError) -> RunEnd<R, F>
 }
 
 /// The end of a run: its own, or that of the first sink whose closing failed.
-pub(crate) fn end_with<R, F: Copy>(end: WorkEnd<F>, unclosed: Option<u32>) -> RunEnd<R, F>
+pub(crate) fn end_with<R: Drop, F: Copy>(end: WorkEnd<F>, unclosed: Option<u32>) -> RunEnd<R, F>
     ensures { result ≡ end_after end unclosed }
 {
     match end {

@@ -88,6 +88,7 @@ pub fn open_inputs<H: Host, I: InputFile>(
     ensures open_sources { H.open_sources host.new ≡ H.open_sources host.old + vec_len srcs.new }
     ensures open_sinks { H.open_sinks host.new ≡ H.open_sinks host.old }
     ensures sound { All I.is_sound heads.new.items }
+    ensures all { OnOk result (length heads.new.items ≡ length inputs.now) }
     ensures begun { OnOk result (AreBegun I.name_text I.head ⟦<Begun<H::Src> as Source>⟧.left (H.files host.old) inputs.now srcs.new.items heads.new.items) }
     ensures refused { IfErr result (λ r. EndsInputs I.name_text I.head ⟦<Begun<H::Src> as Source>⟧.faults (H.files host.old)
         (H.in_faults host.old) (H.in_faults host.new) (names_of I.name_text inputs.now) inputs.now srcs.new.items r.input r.end) }

@@ -93,6 +93,7 @@ fn plan_outputs<H: Host, I: InputFile, N: Named, W: Work<I::Head, Begun<H::Src>,
 ) -> RunEnd<W::Refusal, W::Fault>
     requires few { length outputs.now < 2 ^ 32 }
     requires apart { AreApart (names_of N.name_text outputs.now) }
+    requires heads { W.accepts work.now heads.now }
     requires own { AreOpen H.opened ⟦<Begun<H::Src> as Source>⟧.name host.old (names_of I.name_text inputs.now) srcs.items }
     requires many { length srcs.items ≡ length inputs.now }
     requires unfailed { AreUnfailed ⟦<Begun<H::Src> as Source>⟧.faults srcs.items (length inputs.now) }
@@ -137,6 +138,7 @@ fn run_files<H: Host, I: InputFile, N: Named, W: Work<I::Head, Begun<H::Src>, H:
     requires few_inputs { length inputs.now < 2 ^ 32 }
     requires few_outputs { length outputs.now < 2 ^ 32 }
     requires apart { AreApart (names_of N.name_text outputs.now) }
+    requires accepts { (heads : List I.Head) → length heads ≡ length inputs.now → All I.is_sound heads → W.accepts work.now heads }
     ensures bytes { result ≡ RunEnd.Fine
         → HoldMeaning (command_of I.name_text I.head N.name_text inputs.now outputs.now (W.means work.now)) (H.files host.old) (H.files host.new) }
     ensures front { HoldWritten (command_of I.name_text I.head N.name_text inputs.now outputs.now (W.means work.now)) (H.files host.old) (H.files host.new) }
@@ -184,6 +186,7 @@ pub fn over_files<H: Host, I: InputFile, N: Named, W: Work<I::Head, Begun<H::Src
     requires few_inputs { length inputs.now < 2 ^ 32 }
     requires few_outputs { length outputs.now < 2 ^ 32 }
     requires apart { AreApart (names_of N.name_text outputs.now) }
+    requires accepts { (heads : List I.Head) → length heads ≡ length inputs.now → All I.is_sound heads → W.accepts work.now heads }
     ensures bytes { result ≡ RunEnd.Fine
         → HoldMeaning (command_of I.name_text I.head N.name_text inputs.now outputs.now (W.means work.now)) (H.files host.old) (H.files host.new) }
     ensures front { HoldWritten (command_of I.name_text I.head N.name_text inputs.now outputs.now (W.means work.now)) (H.files host.old) (H.files host.new) }

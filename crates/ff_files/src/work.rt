@@ -6,8 +6,8 @@ ghost use Rattle.ff_files.specs.Works.{Meaning, AreTold, HoldFiles, HoldParts, K
 use ff_host::{Sink, Source};
 
 /// Why heads gave no plan.
-#[derive(Clone, Copy, Debug, PartialEq, Eq)]
-pub enum PlanEnd<R> {
+#[derive(Debug, Drop)]
+pub enum PlanEnd<R: Drop> {
     /// There is none for them.
     Refused(R),
     /// There was no memory for it.
@@ -42,7 +42,7 @@ pub trait Work<H, Src: Source + Send + Drop, Snk: Sink + Send + Drop> {
     type Plan: Drop;
 
     /// Why heads give no plan.
-    type Refusal: Copy;
+    type Refusal: Drop;
 
     /// What of the inputs' bytes may end a run.
     type Fault: Copy;
@@ -50,11 +50,15 @@ pub trait Work<H, Src: Source + Send + Drop, Snk: Sink + Send + Drop> {
     /// All that contracts see of it.
     ghost means: { Self → Meaning H Self.Refusal Self.Fault };
 
+    /// What the heads of all inputs have to be.
+    ghost accepts: { Self → List H → Type 0 };
+
     /// It is a plan for these heads.
     ghost is_plan: { Self → List H → Self.Plan → Type 0 };
 
     /// The plan for these heads, by the number of their inputs.
     fn plan(&self, heads: &[H]) -> Result<Self::Plan, PlanEnd<Self::Refusal>>
+        requires { accepts self.now heads.now }
         ensures ok { IfOk result (λ plan. is_plan self.now heads.now plan) }
         ensures some { OnOk result ((means self.now).refusal heads.now ≡ None) }
         ensures refused { (why : _) → IfErr result (λ end. end ≡ PlanEnd.Refused why → (means self.now).refusal heads.now ≡ Some why) };

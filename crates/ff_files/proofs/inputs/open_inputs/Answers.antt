@@ -145,3 +145,14 @@ returns-clause-begun g c =
       told_heads = λ told e. heads_end g.I.Named.name_text g.I.InputFile.head told inputs k c.loop-k.heads.items (omega (arith, end)) (was.told_heads told e);
       told_bytes = λ told e j i d there. was.told_bytes told e j i d (omega (arith, there, long));
     }
+
+pub returns-clause-all : goal.returns-clause-all
+returns-clause-all g c =
+    let was = c.loop-k.invariant in
+    let k = c.loop-k.k in
+    let inputs = c.args.inputs.now in
+    let len = names_len g.I.Named.name_text inputs in
+    let long : length c.loop-k.srcs.items ≡ k = (let count = was.count in let ok = c.loop-k.srcs.ok.0 in omega arith) in
+    let long_heads : length c.loop-k.heads.items ≡ k = (let count = was.count_heads in let ok = c.loop-k.heads.ok.0 in omega arith) in
+    let end : k ≡ length inputs = (let test = c.loop-k-test.false in let few = was.own.few in omega (arith, test, few, len, long)) in
+    long_heads ∙ end
