@@ -1,0 +1,2 @@
+pub mod DemuxSteps
+pub mod LimitSteps

@@ -1,0 +1,39 @@
+-- A demuxer, as the laws of machines see it. What its source tells is passed in.
+use Rattle.std.specs.Prelude.{◌≡◌, ℕ, true, List, [], ◌∷◌, Option, Some}
+use Rattle.ff_frame.specs.declared.item.Lane.{Lane}
+use Rattle.ff_frame.specs.declared.item.Lane.TheVariants.{Packets}
+use Rattle.ff_net.specs.declared.fault.Fault.{Fault}
+use Rattle.ff_net.specs.Pasts.{Past}
+use Rattle.ff_cut.specs.declared.cutter.PacketCut.{Ghosts}
+use Rattle.ff_demuxing.specs.Demuxing.{DemuxStands}
+use Rattle.ff_demuxing.specs.declared.demux.Demux.{Demux}
+
+module _ {S C H : Type 0} {G : Ghosts C H} where
+  abbrev pub demux_in_lanes : Demux S C H G → List Lane
+  demux_in_lanes m = []
+
+  abbrev pub demux_out_lanes : Demux S C H G → List Lane
+  demux_out_lanes m = Packets m.head ∷ []
+
+  abbrev pub demux_source : Demux S C H G → Option ℕ
+  demux_source m = Some m.input
+
+  abbrev pub demux_fault : Demux S C H G → Option Fault
+  demux_fault m = m.fault
+
+  -- how often its source failed
+  abbrev pub demux_failures : (S → ℕ) → Demux S C H G → ℕ
+  demux_failures faults m = faults m.src
+
+  -- the name of its source
+  abbrev pub demux_device : (S → Option (List ℕ)) → Demux S C H G → Option (List ℕ)
+  demux_device name m = name m.src
+
+  abbrev pub demux_holds : Demux S C H G → Type 0
+  demux_holds m = m.ticket ≡ true
+
+  abbrev pub demux_spent : Demux S C H G → ℕ → Type 0
+  demux_spent m p = ⊥
+
+  abbrev pub demux_stands : (S → Option (List ℕ)) → Demux S C H G → Past → Type 0
+  demux_stands left m past = DemuxStands G.is (left m.src) m.cut m.skip m.given m.ticket m.ended m.fault past

@@ -1,0 +1,205 @@
+ghost use Rattle.std.specs.Prelude.{◌≡◌, ◌≢◌, ◌^◌, ◌≤◌, ◌<◌, ℕ, List, Some, None, Err, true, false, length, IfOk, IfErr};
+ghost use Rattle.ff_frame.specs.declared.item.Lane.TheVariants.{Packets};
+ghost use Rattle.ff_net.specs.declared.fault.Fault.TheVariants.{TooLarge};
+
+use crate::demuxable::Demuxable;
+use crate::reading::{ReadEnd, read_more};
+use crate::unit::{Unit, next_unit};
+use ff_cut::PacketCut;
+use ff_frame::{Event, Item, Refused, StreamHead, Ticket};
+use ff_host::Source;
+use ff_net::{Fault, Machine};
+use std::alloc::{AllocError, Global};
+
+/// The input is read in pieces of at most so many bytes, or as many as wait for the rest of their packet where these are more.
+const PIECE: usize = 65536;
+
+/// Gives the packets of an input of any format, one for each ticket, and reads no further than the next packet wants.
+#[derive(Drop)]
+pub struct Demux<S, C: PacketCut> {
+    input: u32,
+    head: StreamHead,
+    src: S,
+    cut: C,
+    /// A piece of the input, as it is read.
+    piece: Vec<u8>,
+    /// How many bytes of the head are still to come.
+    skip: u64,
+    /// How many packets were given.
+    given: u64,
+    ticket: bool,
+    ended: bool,
+    fault: Option<Fault>,
+    ghost some_piece: { 0 < length piece.items },
+    ghost same_head: { C.is.stream_head (C.is.head_of cut) ≡ head },
+    ghost near: { ended ≡ false → C.is.place cut ≤ 2 ^ 50 },
+    ghost few: { ended ≡ false → given ≤ 2 ^ 40 },
+    ghost fits: { fault ≢ Some TooLarge },
+}
+
+fn piece_of(alloc: Global, size: usize) -> Result<Vec<u8>, AllocError>
+    requires { 0 < size }
+    ensures { IfOk result (λ v. 0 < length v.items) }
+{
+    vec![in alloc; 0u8; size]
+}
+
+// A piece as long as what waits, where there is memory for it: so what is no whole packet yet is looked at anew only once it has
+// doubled, and not once for each piece.
+fn lengthen(piece: &mut Vec<u8>, waiting: u64)
+    requires { 0 < length piece.old.items }
+    ensures { 0 < length piece.new.items }
+{
+    if (piece.len() as u64) < waiting {
+        let _ = piece.resize(waiting as usize, 0);
+    }
+}
+
+impl<S: Source + Drop, C: PacketCut + Drop> Demux<S, C> {
+    ghost use Rattle.std.specs.Prelude.{[], ◌∷◌};
+    ghost use Rattle.ff_net.specs.Pasts.{start};
+    ghost use Rattle.ff_demuxing.specs.Demuxing.{demux_task};
+    ghost use Rattle.ff_demuxing.specs.Demuxers.{demux_out_lanes, demux_source, demux_fault, demux_failures, demux_device, demux_stands};
+
+    /// Over a source that gives the input from its first byte on, whose head this is. The source comes back where there
+    /// was no memory.
+    pub fn new(alloc: Global, input: u32, src: S, head: &C::Head) -> Result<Demux<S, C>, S>
+        requires { C.is.IsHead head.now }
+        ensures fault { IfOk result (λ m. demux_fault m ≡ None) }
+        ensures source { IfOk result (λ m. demux_source m ≡ Some input) }
+        ensures lanes { IfOk result (λ m. demux_out_lanes m ≡ Packets (C.is.stream_head head.now) ∷ []) }
+        ensures device { IfOk result (λ m. demux_device S.name m ≡ S.name src) }
+        ensures failures { IfOk result (λ m. demux_failures S.faults m ≡ S.faults src) }
+        ensures stands { IfOk result (λ m. (file : List ℕ) → S.left src ≡ Some file → demux_stands S.left m (start (demux_task C.is head.now file))) }
+        ensures refused { IfErr result (λ s. s ≡ src) }
+    {
+        let Ok(piece) = piece_of(alloc, PIECE) else {
+            return Err(src);
+        };
+        Ok(Demux {
+            input,
+            head: C::stream_head(head),
+            src,
+            cut: C::new(alloc, head),
+            piece,
+            skip: C::start(head),
+            given: 0,
+            ticket: false,
+            ended: false,
+            fault: None,
+        })
+    }
+
+    /// The source, as it is now.
+    pub fn into_source(self) -> S
+        ensures name { S.name result ≡ demux_device S.name self }
+        ensures faults { S.faults result ≡ demux_failures S.faults self }
+    {
+        self.src
+    }
+}
+
+impl<S: Source + Drop, C: Demuxable + Drop> Machine for Demux<S, C> {
+    ghost use Rattle.ff_demuxing.specs.DemuxViews.{demux_view, demux_laws};
+
+    ghost view = { demux_view S.left S.name S.faults };
+
+    fn inputs(&self) -> usize {
+        0
+    }
+
+    fn outputs(&self) -> usize {
+        1
+    }
+
+    fn source(&self) -> Option<u32> {
+        Some(self.input)
+    }
+
+    fn fault(&self) -> Option<Fault> {
+        self.fault
+    }
+
+    fn allow(&mut self, ticket: Ticket) -> Option<Ticket> {
+        if self.ticket {
+            return Some(ticket);
+        }
+        self.ticket = true;
+        None
+    }
+
+    fn feed(&mut self, _port: usize, item: Item) -> Result<(), Refused>
+        ensures same { self.new ≡ self.old }
+        ensures err { result ≡ Err (record { item = item }) }
+    {
+        Err(Refused { item })
+    }
+
+    fn pull(&mut self, _port: usize) -> Result<Option<Item>, AllocError> {
+        if self.ended {
+            return Ok(None);
+        }
+        if self.fault.is_some() {
+            return Ok(None);
+        }
+        if !self.ticket {
+            return Ok(None);
+        }
+        'units: loop {
+            match next_unit(&mut self.cut, &self.head, self.given)? {
+                Unit::Packet(packet) => {
+                    self.ticket = false;
+                    self.given += 1;
+                    return Ok(Some(Item::Packet(packet)));
+                }
+                Unit::Long => {
+                    self.ticket = false;
+                    self.ended = true;
+                    self.fault = Some(Fault::TooLong);
+                    return Ok(Some(Item::Broken));
+                }
+                Unit::End => {
+                    self.ticket = false;
+                    self.ended = true;
+                    return Ok(Some(Item::End));
+                }
+                Unit::Broken(offset) => {
+                    self.ticket = false;
+                    self.ended = true;
+                    self.fault = Some(Fault::Damaged { offset });
+                    return Ok(Some(Item::Broken));
+                }
+                Unit::Wait => {
+                    lengthen(&mut self.piece, self.cut.held());
+                    match read_more(
+                        &mut self.src,
+                        &mut self.cut,
+                        &mut self.skip,
+                        self.piece.as_mut_slice(),
+                    ) {
+                        Ok(()) => {}
+                        Err(ReadEnd::Failed) => {
+                            self.fault = Some(Fault::Device);
+                            return Ok(None);
+                        }
+                        Err(ReadEnd::NoMemory) => return Err(AllocError),
+                    }
+                }
+            }
+        }
+    }
+
+    fn stop(&mut self, _port: usize) {}
+
+    fn spent(&self, _port: usize) -> bool
+        ensures { result ≡ false }
+    {
+        false
+    }
+
+    fn next_event(&mut self) -> Option<Event> {
+        None
+    }
+
+    ghost laws = { λ m. demux_laws S.left S.name S.faults C.in_shape m m.same_head };
+}

@@ -1,0 +1,15 @@
+use ff_cut::PacketCut;
+use ff_wav::WavCut;
+
+/// A format whose inputs can be demuxed: of each the packets are in shape for their lane.
+pub trait Demuxable: PacketCut {
+    ghost use Rattle.ff_demuxing.specs.DemuxShapes.{IsShaped};
+
+    ghost in_shape: { IsShaped Self.is };
+}
+
+impl Demuxable for WavCut {
+    ghost use Rattle.ff_demuxing.specs.WavShapes.{wav_shaped};
+
+    ghost in_shape = { wav_shaped };
+}

@@ -1,0 +1,57 @@
+// The limits that no packet passes.
+ghost use Rattle.std.specs.Prelude.{◌≡◌, ◌+◌, ◌*◌, ◌^◌, ◌≤◌, ◌<◌, length, nat_lt};
+ghost use Rattle.ff_frame.specs.declared.item.Item.{Item};
+ghost use Rattle.ff_frame.specs.declared.item.Lane.TheVariants.{Packets};
+ghost use Rattle.ff_frame.specs.Times.{end_of, ticks};
+ghost use Rattle.ff_values.specs.Heads.{base_of_head};
+ghost use Rattle.ff_demuxing.specs.Demuxing.{ends_beyond, passes_in_demux};
+
+use ff_frame::{Pkt, StreamHead};
+use ff_time::Rational;
+
+/// The last byte at which a packet may end.
+const LAST_BYTE: u64 = 1 << 40;
+
+/// The most items of a stream.
+const MOST_ITEMS: u64 = 1 << 40;
+
+/// The seconds after which no item may end.
+const LAST_SECOND: u128 = 1_000_000_000;
+
+fn time_base(head: &StreamHead) -> Rational
+    ensures { result ≡ base_of_head head.now }
+{
+    match *head {
+        StreamHead::Audio { tb, .. } => tb,
+        StreamHead::Video { tb, .. } => tb,
+    }
+}
+
+// Whether a packet ends past the last second.
+fn ends_late(head: &StreamHead, packet: &Pkt) -> bool
+    ensures { result ≡ nat_lt (1000000000 * (base_of_head head.now).den) (ticks (end_of (Item.Packet packet.now)) * (base_of_head head.now).num) }
+{
+    let tb = time_base(head);
+    let end = packet.pts as i128 + packet.duration as i128;
+    if end <= 0 {
+        return false;
+    }
+    LAST_SECOND * (tb.den() as u128) < (end as u128) * (tb.num() as u128)
+}
+
+// Whether a packet ends past the last byte.
+fn ends_far(packet: &Pkt) -> bool
+    requires { packet.now.pos + length packet.now.bytes < 2 ^ 64 }
+    ensures { result ≡ ends_beyond (Item.Packet packet.now) }
+{
+    LAST_BYTE < packet.pos + packet.bytes.as_slice().len() as u64
+}
+
+/// Whether a packet passes a limit, where so many came before it: it makes its stream too long.
+pub fn is_long(head: &StreamHead, before: u64, packet: &Pkt) -> bool
+    requires place { packet.now.pos + length packet.now.bytes < 2 ^ 64 }
+    requires few { before ≤ 2 ^ 40 }
+    ensures { result ≡ passes_in_demux (Packets head.now) before (Item.Packet packet.now) }
+{
+    (MOST_ITEMS < before + 1) | ends_late(head, packet) | ends_far(packet)
+}
