@@ -6,3 +6,4 @@ pub mod Demuxers
 pub mod Demuxing
 pub mod Sources
 pub mod WavShapes
+pub mod Y4mShapes

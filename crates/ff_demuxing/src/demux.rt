@@ -100,6 +100,7 @@ impl<S: Source + Drop, C: PacketCut + Drop> Demux<S, C> {
 }
 
 impl<S: Source + Drop, C: Demuxable + Drop> Machine for Demux<S, C> {
+    ghost use Rattle.ff_demuxing.specs.Demuxers.{demux_fault};
     ghost use Rattle.ff_demuxing.specs.DemuxViews.{demux_view, demux_laws};
 
     ghost view = { demux_view S.left S.name S.faults };
@@ -116,7 +117,10 @@ impl<S: Source + Drop, C: Demuxable + Drop> Machine for Demux<S, C> {
         Some(self.input)
     }
 
-    fn fault(&self) -> Option<Fault> {
+    fn fault(&self) -> Option<Fault>
+        ensures value { result ≡ demux_fault self.now }
+        ensures fits { demux_fault self.now ≢ Some TooLarge }
+    {
         self.fault
     }
 

@@ -1,5 +1,6 @@
 use ff_cut::PacketCut;
 use ff_wav::WavCut;
+use ff_y4m::Y4mCut;
 
 /// A format whose inputs can be demuxed: of each the packets are in shape for their lane.
 pub trait Demuxable: PacketCut {
@@ -12,4 +13,10 @@ impl Demuxable for WavCut {
     ghost use Rattle.ff_demuxing.specs.WavShapes.{wav_shaped};
 
     ghost in_shape = { wav_shaped };
+}
+
+impl Demuxable for Y4mCut {
+    ghost use Rattle.ff_demuxing.specs.Y4mShapes.{y4m_shaped};
+
+    ghost in_shape = { y4m_shaped };
 }
