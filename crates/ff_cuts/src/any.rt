@@ -1,0 +1,79 @@
+use ff_cut::PacketCut;
+use ff_heads::InputHead;
+use ff_values::{Cut, StreamHead};
+use ff_wav::WavCut;
+use ff_y4m::Y4mCut;
+use std::alloc::{AllocError, Global};
+
+/// The packets of an input in any format that is read, from pieces of any size.
+#[derive(Drop)]
+pub enum AnyCut {
+    /// RIFF WAVE.
+    Wav(WavCut),
+    /// YUV4MPEG2.
+    Y4m(Y4mCut),
+}
+
+impl PacketCut for AnyCut {
+    ghost use Rattle.ff_cuts.specs.AnyCutters.{any_cutter};
+
+    type Head = InputHead;
+
+    ghost is = { any_cutter };
+
+    fn stream_head(head: &InputHead) -> StreamHead {
+        match head {
+            InputHead::Wav(head) => WavCut::stream_head(head),
+            InputHead::Y4m(head) => Y4mCut::stream_head(head),
+        }
+    }
+
+    fn start(head: &InputHead) -> u64 {
+        match head {
+            InputHead::Wav(head) => WavCut::start(head),
+            InputHead::Y4m(head) => Y4mCut::start(head),
+        }
+    }
+
+    fn new(alloc: Global, head: &InputHead) -> AnyCut {
+        match head {
+            InputHead::Wav(head) => AnyCut::Wav(WavCut::new(alloc, head)),
+            InputHead::Y4m(head) => AnyCut::Y4m(Y4mCut::new(alloc, head)),
+        }
+    }
+
+    fn feed(&mut self, bytes: &[u8]) -> Result<(), AllocError> {
+        match self {
+            AnyCut::Wav(cut) => cut.feed(bytes),
+            AnyCut::Y4m(cut) => cut.feed(bytes),
+        }
+    }
+
+    fn reserve(&mut self, count: usize) -> Result<(), AllocError> {
+        match self {
+            AnyCut::Wav(cut) => cut.reserve(count),
+            AnyCut::Y4m(cut) => cut.reserve(count),
+        }
+    }
+
+    fn end(&mut self) {
+        match self {
+            AnyCut::Wav(cut) => cut.end(),
+            AnyCut::Y4m(cut) => cut.end(),
+        }
+    }
+
+    fn held(&self) -> u64 {
+        match self {
+            AnyCut::Wav(cut) => cut.held(),
+            AnyCut::Y4m(cut) => cut.held(),
+        }
+    }
+
+    fn pull(&mut self) -> Result<Cut, AllocError> {
+        match self {
+            AnyCut::Wav(cut) => cut.pull(),
+            AnyCut::Y4m(cut) => cut.pull(),
+        }
+    }
+}
