@@ -1,3 +1,4 @@
+pub mod AnyShapes
 pub mod DemuxClaims
 pub mod DemuxLaws
 pub mod DemuxShapes

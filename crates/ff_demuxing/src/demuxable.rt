@@ -1,4 +1,5 @@
 use ff_cut::PacketCut;
+use ff_cuts::AnyCut;
 use ff_wav::WavCut;
 use ff_y4m::Y4mCut;
 
@@ -19,4 +20,10 @@ impl Demuxable for Y4mCut {
     ghost use Rattle.ff_demuxing.specs.Y4mShapes.{y4m_shaped};
 
     ghost in_shape = { y4m_shaped };
+}
+
+impl Demuxable for AnyCut {
+    ghost use Rattle.ff_demuxing.specs.AnyShapes.{any_shaped};
+
+    ghost in_shape = { any_shaped };
 }
