@@ -47,7 +47,8 @@ from_0 n = omega arith
 on_port : (P : ℕ → Type 0) (port : ℕ) → port < 1 → P 0 → P port
 on_port P port lt p = subst P (let z : 0 ≡ port = omega arith in z) p
 
-consumed : (left now : Option (List ℕ)) (rest piece : List ℕ) → left ≡ Some rest → Consumes left now piece → (r : List ℕ) × (now ≡ Some r) × (rest ≡ piece ++ r)
+consumed : (left now : Option (List ℕ)) (rest piece : List ℕ) → left ≡ Some rest → Consumes left now piece → (r : List ℕ) × (now ≡ Some r)
+    × (rest ≡ piece ++ r)
 consumed None now rest piece e c = cc
 consumed (Some xs) None rest piece e c = absurd c
 consumed (Some xs) (Some ys) rest piece e c = let same : xs ≡ rest = cc in (ys, refl, sym same ∙ c)
@@ -61,7 +62,8 @@ kept None now rest e k = cc
 kept (Some xs) None rest e k = absurd k
 kept (Some xs) (Some ys) rest e k = ap (λ (z : List ℕ). Some z) k ∙ e
 
-pub smaller : (skip skip' unit held held' : ℕ) (e e' : Bool) → e ≡ false → held < unit → ((e' ≡ true) × (skip' ≡ skip) × (held' ≡ held)) ⊎ ((e' ≡ false) × (held + skip' < held' + skip) × (skip' ≤ skip))
+pub smaller : (skip skip' unit held held' : ℕ) (e e' : Bool) → e ≡ false → held < unit
+    → ((e' ≡ true) × (skip' ≡ skip) × (held' ≡ held)) ⊎ ((e' ≡ false) × (held + skip' < held' + skip) × (skip' ≤ skip))
     → skip' + (unit - held') + cond e' 0 1 < skip + (unit - held) + cond e 0 1
 smaller skip skip' unit held held' true e' f lt h = cc
 smaller skip skip' unit held held' false true f lt (inl h) = omega (arith, h.1, h.2)
@@ -85,7 +87,9 @@ past_min k xs n e = take_all (length xs - n) (drop n xs) (omega (arith, length-d
 
 module _ {H C : Type 0} (cutter : Cutter H C) where
   -- a packet of the input, by its number
-  item_at : (head : H) (read rest : List ℕ) (n : ℕ) (p : Pkt) → slice_get (cutter.demuxed head (drop (cutter.start head) read ++ drop (cutter.start head - length read) rest)) n ≡ Some p → slice_get (items_of cutter head (read ++ rest)) n ≡ Some (Packet p)
+  item_at : (head : H) (read rest : List ℕ) (n : ℕ) (p : Pkt)
+      → slice_get (cutter.demuxed head (drop (cutter.start head) read ++ drop (cutter.start head - length read) rest)) n ≡ Some p
+      → slice_get (items_of cutter head (read ++ rest)) n ≡ Some (Packet p)
   item_at head read rest n p e =
       slice_get-map Packet (cutter.demuxed head (drop (cutter.start head) (read ++ rest))) n
       ∙ ap (λ (x : Option Pkt). option_map Packet x) (ap (λ (xs : List ℕ). slice_get (cutter.demuxed head xs) n) (drop-append (cutter.start head) read rest) ∙ e)
@@ -95,11 +99,14 @@ module _ {H C : Type 0} (cutter : Cutter H C) where
     within_items : n ≤ length (before_pass (passes_in_demux (Packets (cutter.stream_head head))) 0 (items_of cutter head file))
     within_items = subst (λ (xs : List Item). n ≤ length xs) (demux_items cutter head file) inside
 
-    short_item : (x : Item) → slice_get (items_of cutter head file) n ≡ Some x → passes_in_demux (Packets (cutter.stream_head head)) n x ≡ false → slice_get (demux_of cutter head file).items n ≡ Some x
+    short_item : (x : Item) → slice_get (items_of cutter head file) n ≡ Some x → passes_in_demux (Packets (cutter.stream_head head)) n x ≡ false
+        → slice_get (demux_of cutter head file).items n ≡ Some x
     short_item x get few =
-        ap (λ (xs : List Item). slice_get xs n) (demux_items cutter head file) ∙ before_get (passes_in_demux (Packets (cutter.stream_head head))) 0 (items_of cutter head file) n x get within_items (subst (λ (i : ℕ). passes_in_demux (Packets (cutter.stream_head head)) i x ≡ false) (from_0 n) few)
+        ap (λ (xs : List Item). slice_get xs n) (demux_items cutter head file)
+        ∙ before_get (passes_in_demux (Packets (cutter.stream_head head))) 0 (items_of cutter head file) n x get within_items (subst (λ (i : ℕ). passes_in_demux (Packets (cutter.stream_head head)) i x ≡ false) (from_0 n) few)
 
-    long_item : (x : Item) → slice_get (items_of cutter head file) n ≡ Some x → passes_in_demux (Packets (cutter.stream_head head)) n x ≡ true → (n ≡ length (demux_of cutter head file).items) × (is_too_long cutter head file ≡ true)
+    long_item : (x : Item) → slice_get (items_of cutter head file) n ≡ Some x → passes_in_demux (Packets (cutter.stream_head head)) n x ≡ true
+        → (n ≡ length (demux_of cutter head file).items) × (is_too_long cutter head file ≡ true)
     unfolding is_too_long
     long_item x get many =
         let r = before_stop (passes_in_demux (Packets (cutter.stream_head head))) 0 (items_of cutter head file) n x get within_items (subst (λ (i : ℕ). passes_in_demux (Packets (cutter.stream_head head)) i x ≡ true) (from_0 n) many) in
@@ -114,11 +121,14 @@ module _ {H C : Type 0} (cutter : Cutter H C) where
   -- an item or the end was given on the one port, and so the state
   abbrev pub Gives : Option (List ℕ) → C → ℕ → ℕ → Bool → Option Fault → Past → ℕ → Item → Type 0
   Gives left cut skip given ended fault past port x =
-      DemuxStands cutter left cut skip given false ended fault (gave_item past port x) × ((stream_at past.gave port).mark ≡ still_open) × LiesBelow (with_item (stream_at past.gave port) x) (stream_at (due past) port)
+      DemuxStands cutter left cut skip given false ended fault (gave_item past port x) × ((stream_at past.gave port).mark ≡ still_open)
+      × LiesBelow (with_item (stream_at past.gave port) x) (stream_at (due past) port)
 
   -- the cut gave a packet within the limits
-  pub demux_packet : (left : Option (List ℕ)) (cut new : C) (skip given : ℕ) (past : Past) (port : ℕ) (p : Pkt) → port < 1 → passes_in_demux (Packets (cutter.stream_head (cutter.head_of cut))) given (Packet p) ≡ false
-      → cutter.head_of new ≡ cutter.head_of cut → cutter.has_ended new ≡ cutter.has_ended cut → GivesPacket cutter cut new p → DemuxStands cutter left cut skip given true false None past
+  pub demux_packet : (left : Option (List ℕ)) (cut new : C) (skip given : ℕ) (past : Past) (port : ℕ) (p : Pkt) → port < 1
+      → passes_in_demux (Packets (cutter.stream_head (cutter.head_of cut))) given (Packet p) ≡ false
+      → cutter.head_of new ≡ cutter.head_of cut → cutter.has_ended new ≡ cutter.has_ended cut → GivesPacket cutter cut new p
+      → DemuxStands cutter left cut skip given true false None past
       → Gives left new skip (given + 1) false None past port (Packet p)
   demux_packet left cut new skip given past port p lt few eh ee gives (head, read, rest, s) =
       let g = gives head (drop (cutter.start head) read) given (s.cuts refl) in
@@ -151,8 +161,10 @@ module _ {H C : Type 0} (cutter : Cutter H C) where
       )
 
   -- the cut gave a packet that passes a limit
-  pub demux_long : (left : Option (List ℕ)) (cut new : C) (skip given : ℕ) (past : Past) (port : ℕ) (p : Pkt) → port < 1 → passes_in_demux (Packets (cutter.stream_head (cutter.head_of cut))) given (Packet p) ≡ true
-      → cutter.head_of new ≡ cutter.head_of cut → cutter.has_ended new ≡ cutter.has_ended cut → GivesPacket cutter cut new p → DemuxStands cutter left cut skip given true false None past
+  pub demux_long : (left : Option (List ℕ)) (cut new : C) (skip given : ℕ) (past : Past) (port : ℕ) (p : Pkt) → port < 1
+      → passes_in_demux (Packets (cutter.stream_head (cutter.head_of cut))) given (Packet p) ≡ true
+      → cutter.head_of new ≡ cutter.head_of cut → cutter.has_ended new ≡ cutter.has_ended cut → GivesPacket cutter cut new p
+      → DemuxStands cutter left cut skip given true false None past
       → Gives left new skip given true (Some TooLong) past port Broken
   demux_long left cut new skip given past port p lt many eh ee gives (head, read, rest, s) =
       let g = gives head (drop (cutter.start head) read) given (s.cuts refl) in
@@ -187,7 +199,8 @@ module _ {H C : Type 0} (cutter : Cutter H C) where
 
   -- the cut gave all, up to where the input ends or its packets break off
   demux_stop : (broke : Option ℕ) (x : Item) → ((r : Flow) → with_item r x ≡ record { items = r.items; mark = mark_at broke })
-      → (left : Option (List ℕ)) (cut : C) (skip given : ℕ) (past : Past) (port : ℕ) → port < 1 → GaveAll cutter cut broke → DemuxStands cutter left cut skip given true false None past
+      → (left : Option (List ℕ)) (cut : C) (skip given : ℕ) (past : Past) (port : ℕ) → port < 1 → GaveAll cutter cut broke
+      → DemuxStands cutter left cut skip given true false None past
       → Gives left cut skip given true (damage_at broke) past port x
   demux_stop broke x is left cut skip given past port lt gave (head, read, rest, s) =
       let more = drop (cutter.start head - length read) rest in
@@ -197,10 +210,13 @@ module _ {H C : Type 0} (cutter : Cutter H C) where
       ∙ (ap (λ (xs : List ℕ). length (cutter.demuxed head xs)) body ∙ all.0) in
       let where_is : break_of cutter head (read ++ rest) ≡ broke = ap (λ (xs : List ℕ). cutter.broken_at head xs) body ∙ all.1 in
       let stop = no_item head (read ++ rest) given s.sources.in_range size in
-      let mark : (demux_of cutter head (read ++ rest)).mark ≡ mark_at broke = demux_mark cutter head (read ++ rest) false stop.1 ∙ ap (λ (b : Option ℕ). mark_at b) where_is in
+      let mark : (demux_of cutter head (read ++ rest)).mark ≡ mark_at broke = demux_mark cutter head (read ++ rest) false stop.1
+      ∙ ap (λ (b : Option ℕ). mark_at b) where_is in
       let cause : fault_in cutter head (read ++ rest) ≡ damage_at broke =
-      ap (λ (b : Bool). cond b (Some TooLong) (damage_at (break_of cutter head (read ++ rest)))) stop.1 ∙ ap (λ (b : Option ℕ). damage_at b) where_is in
-      let r = source_ends (demux_of cutter head (read ++ rest)) given past x stop.0 (λ y. is y ∙ ap (λ (m : Mark). record { items = y.items; mark = m }) (sym mark)) s.sources in
+      ap (λ (b : Bool). cond b (Some TooLong) (damage_at (break_of cutter head (read ++ rest)))) stop.1
+      ∙ ap (λ (b : Option ℕ). damage_at b) where_is in
+      let r = source_ends (demux_of cutter head (read ++ rest)) given past x stop.0 (λ y. is y
+      ∙ ap (λ (m : Mark). record { items = y.items; mark = m }) (sym mark)) s.sources in
       on_port (λ (q : ℕ). Gives left cut skip given true (damage_at broke) past q x) port lt (
         (
           head,
@@ -226,18 +242,22 @@ module _ {H C : Type 0} (cutter : Cutter H C) where
       )
 
   -- the input ended
-  pub demux_end : (left : Option (List ℕ)) (cut : C) (skip given : ℕ) (past : Past) (port : ℕ) → port < 1 → GaveAll cutter cut None → DemuxStands cutter left cut skip given true false None past
+  pub demux_end : (left : Option (List ℕ)) (cut : C) (skip given : ℕ) (past : Past) (port : ℕ) → port < 1 → GaveAll cutter cut None
+      → DemuxStands cutter left cut skip given true false None past
       → Gives left cut skip given true None past port End
   demux_end = demux_stop None End (λ r. refl)
 
   -- no further packet begins here, or one that isn't whole
-  pub demux_break : (offset : ℕ) (left : Option (List ℕ)) (cut : C) (skip given : ℕ) (past : Past) (port : ℕ) → port < 1 → GaveAll cutter cut (Some offset) → DemuxStands cutter left cut skip given true false None past
+  pub demux_break : (offset : ℕ) (left : Option (List ℕ)) (cut : C) (skip given : ℕ) (past : Past) (port : ℕ) → port < 1
+      → GaveAll cutter cut (Some offset) → DemuxStands cutter left cut skip given true false None past
       → Gives left cut skip given true (Some (Damaged offset)) past port Broken
   demux_break offset = demux_stop (Some offset) Broken (λ r. refl)
 
   -- nothing was given where there was no ticket, or nothing more to give, or a fault
-  pub demux_asked : (left : Option (List ℕ)) (cut : C) (skip given : ℕ) (ticket ended : Bool) (fault : Option Fault) (past : Past) (port : ℕ) → (fault ≡ None → ended ≡ false → ticket ≡ false)
-      → DemuxStands cutter left cut skip given ticket ended fault past → DemuxStands cutter left cut skip given ticket ended fault (was_asked past port)
+  pub demux_asked : (left : Option (List ℕ)) (cut : C) (skip given : ℕ) (ticket ended : Bool) (fault : Option Fault) (past : Past) (port : ℕ)
+      → (fault ≡ None → ended ≡ false → ticket ≡ false)
+      → DemuxStands cutter left cut skip given ticket ended fault past
+      → DemuxStands cutter left cut skip given ticket ended fault (was_asked past port)
   demux_asked left cut skip given ticket ended fault past port none (head, read, rest, s) =
       let l = s.sources in (
         head,
@@ -260,19 +280,23 @@ module _ {H C : Type 0} (cutter : Cutter H C) where
       )
 
   -- with no ticket, and after the end, all that is due was given
-  pub demux_waits : (left : Option (List ℕ)) (cut : C) (skip given : ℕ) (fault : Option Fault) (past : Past) (port : ℕ) → port < 1 → DemuxStands cutter left cut skip given false false fault past → stream_at past.gave port ≡ stream_at (due past) port
+  pub demux_waits : (left : Option (List ℕ)) (cut : C) (skip given : ℕ) (fault : Option Fault) (past : Past) (port : ℕ) → port < 1
+      → DemuxStands cutter left cut skip given false false fault past → stream_at past.gave port ≡ stream_at (due past) port
   demux_waits left cut skip given fault past port lt (head, read, rest, s) = on_port (λ (q : ℕ). stream_at past.gave q ≡ stream_at (due past) q) port lt (source_waits (demux_of cutter head (read ++ rest)) given past s.sources)
 
-  pub demux_over : (left : Option (List ℕ)) (cut : C) (skip given : ℕ) (ticket : Bool) (fault : Option Fault) (past : Past) (port : ℕ) → port < 1 → DemuxStands cutter left cut skip given ticket true fault past → stream_at past.gave port ≡ stream_at (due past) port
+  pub demux_over : (left : Option (List ℕ)) (cut : C) (skip given : ℕ) (ticket : Bool) (fault : Option Fault) (past : Past) (port : ℕ) → port < 1
+      → DemuxStands cutter left cut skip given ticket true fault past → stream_at past.gave port ≡ stream_at (due past) port
   demux_over left cut skip given ticket fault past port lt (head, read, rest, s) = on_port (λ (q : ℕ). stream_at past.gave q ≡ stream_at (due past) q) port lt (source_over (demux_of cutter head (read ++ rest)) given ticket past s.sources)
 
   -- a fault before the end is the source's
-  pub demux_failed : (left : Option (List ℕ)) (cut : C) (skip given : ℕ) (ticket : Bool) (fault : Option Fault) (past : Past) → is_some fault ≡ true → DemuxStands cutter left cut skip given ticket false fault past → fault ≡ Some Device
+  pub demux_failed : (left : Option (List ℕ)) (cut : C) (skip given : ℕ) (ticket : Bool) (fault : Option Fault) (past : Past) → is_some fault ≡ true
+      → DemuxStands cutter left cut skip given ticket false fault past → fault ≡ Some Device
   demux_failed left cut skip given ticket None past e d = cc
   demux_failed left cut skip given ticket (Some f) past e (head, read, rest, s) = elim (s.device f refl) [ inl h ↦ ap (λ (x : Fault). Some x) h | inr h ↦ cc ]
 
   -- a ticket
-  pub demux_allowed : (left : Option (List ℕ)) (cut : C) (skip given : ℕ) (ended : Bool) (fault : Option Fault) (past : Past) (t : Ticket) → DemuxStands cutter left cut skip given false ended fault past → DemuxStands cutter left cut skip given true ended fault (was_allowed past t)
+  pub demux_allowed : (left : Option (List ℕ)) (cut : C) (skip given : ℕ) (ended : Bool) (fault : Option Fault) (past : Past) (t : Ticket)
+      → DemuxStands cutter left cut skip given false ended fault past → DemuxStands cutter left cut skip given true ended fault (was_allowed past t)
   demux_allowed left cut skip given ended fault past t (head, read, rest, s) =
       let l = s.sources in (
         head,
@@ -294,7 +318,9 @@ module _ {H C : Type 0} (cutter : Cutter H C) where
         },
       )
 
-  pub demux_stopped : (left : Option (List ℕ)) (cut : C) (skip given : ℕ) (ticket ended : Bool) (fault : Option Fault) (past : Past) (port : ℕ) → DemuxStands cutter left cut skip given ticket ended fault past → DemuxStands cutter left cut skip given ticket ended fault (was_stopped past port)
+  pub demux_stopped : (left : Option (List ℕ)) (cut : C) (skip given : ℕ) (ticket ended : Bool) (fault : Option Fault) (past : Past) (port : ℕ)
+      → DemuxStands cutter left cut skip given ticket ended fault past
+      → DemuxStands cutter left cut skip given ticket ended fault (was_stopped past port)
   demux_stopped left cut skip given ticket ended fault past port (head, read, rest, s) =
       let l = s.sources in (
         head,
@@ -318,8 +344,10 @@ module _ {H C : Type 0} (cutter : Cutter H C) where
 
   -- the same input, of which a piece more was read
   moved : (old left : Option (List ℕ)) (cut new : C) (skip now given : ℕ) (ticket : Bool) (fault : Option Fault) (past : Past) (head : H) (read rest piece more : List ℕ)
-      → left ≡ Some more → rest ≡ piece ++ more → now ≡ skip - length piece → cutter.head_of new ≡ cutter.head_of cut → (cutter.has_ended new ≡ true → more ≡ [])
-      → cutter.cuts new head (drop (cutter.start head) read ++ drop skip piece) given → Demuxes cutter old cut skip given ticket false fault past head read rest
+      → left ≡ Some more → rest ≡ piece ++ more → now ≡ skip - length piece → cutter.head_of new ≡ cutter.head_of cut
+      → (cutter.has_ended new ≡ true → more ≡ [])
+      → cutter.cuts new head (drop (cutter.start head) read ++ drop skip piece) given
+      → Demuxes cutter old cut skip given ticket false fault past head read rest
       → Demuxes cutter left new now given ticket false fault past head (read ++ piece) more
   moved old left cut new skip now given ticket fault past head read rest piece more told parts skipped eh ended cuts s =
       let file : (read ++ piece) ++ more ≡ read ++ rest = append_assoc read piece more ∙ ap (λ (xs : List ℕ). read ++ xs) (sym parts) in
@@ -340,7 +368,8 @@ module _ {H C : Type 0} (cutter : Cutter H C) where
       }
 
   pub demux_read : (left now : Option (List ℕ)) (cut new : C) (skip skip' given : ℕ) (ticket : Bool) (fault : Option Fault) (past : Past) (piece : List ℕ)
-      → Consumes left now piece → skip' ≡ skip - length piece → cutter.head_of new ≡ cutter.head_of cut → cutter.has_ended new ≡ false → Feeds cutter cut new (drop skip piece)
+      → Consumes left now piece → skip' ≡ skip - length piece → cutter.head_of new ≡ cutter.head_of cut → cutter.has_ended new ≡ false
+      → Feeds cutter cut new (drop skip piece)
       → DemuxStands cutter left cut skip given ticket false fault past → DemuxStands cutter now new skip' given ticket false fault past
   demux_read left now cut new skip skip' given ticket fault past piece c k eh going feeds (head, read, rest, s) =
       let r = consumed left now rest piece s.told c in
@@ -358,7 +387,8 @@ module _ {H C : Type 0} (cutter : Cutter H C) where
 
   -- a read failed, or only room was made in the cut
   pub demux_kept : (left now : Option (List ℕ)) (cut new : C) (skip given : ℕ) (ticket : Bool) (fault fault' : Option Fault) (past : Past)
-      → Keeps left now → cutter.head_of new ≡ cutter.head_of cut → cutter.has_ended new ≡ cutter.has_ended cut → ((f : Fault) → fault' ≡ Some f → f ≡ Device) → (fault' ≡ None → fault ≡ None) → KeepsCut cutter cut new
+      → Keeps left now → cutter.head_of new ≡ cutter.head_of cut → cutter.has_ended new ≡ cutter.has_ended cut
+      → ((f : Fault) → fault' ≡ Some f → f ≡ Device) → (fault' ≡ None → fault ≡ None) → KeepsCut cutter cut new
       → DemuxStands cutter left cut skip given ticket false fault past → DemuxStands cutter now new skip given ticket false fault' past
   demux_kept left now cut new skip given ticket fault fault' past k eh ee own back keeps (head, read, rest, s) = (
     head,
@@ -381,7 +411,8 @@ module _ {H C : Type 0} (cutter : Cutter H C) where
   )
 
   -- nothing was done yet
-  pub demux_start : (left : Option (List ℕ)) (cut : C) (head : H) (file : List ℕ) → cutter.IsHead head → cutter.head_of cut ≡ head → cutter.has_ended cut ≡ false → cutter.cuts cut head [] 0 → left ≡ Some file
+  pub demux_start : (left : Option (List ℕ)) (cut : C) (head : H) (file : List ℕ) → cutter.IsHead head → cutter.head_of cut ≡ head
+      → cutter.has_ended cut ≡ false → cutter.cuts cut head [] 0 → left ≡ Some file
       → DemuxStands cutter left cut (cutter.start head) 0 false false None (start (demux_task cutter head file))
   demux_start left cut head file good eh going cuts told = (
     head,
@@ -409,7 +440,8 @@ module _ {H C : Type 0} (cutter : Cutter H C) where
   flags left cut skip given ticket ended fault past t e f et ee ef d =
       subst (λ (x : Option Fault). DemuxStands cutter left cut skip given t e x past) ef (subst (λ (x : Bool). DemuxStands cutter left cut skip given t x fault past) ee (subst (λ (x : Bool). DemuxStands cutter left cut skip given x ended fault past) et d))
 
-  pub gives_flags : (left : Option (List ℕ)) (cut : C) (skip given : ℕ) (past : Past) (port : ℕ) (x : Item) (ended e : Bool) (fault f : Option Fault) → ended ≡ e → fault ≡ f
+  pub gives_flags : (left : Option (List ℕ)) (cut : C) (skip given : ℕ) (past : Past) (port : ℕ) (x : Item) (ended e : Bool) (fault f : Option Fault)
+      → ended ≡ e → fault ≡ f
       → Gives left cut skip given ended fault past port x → Gives left cut skip given e f past port x
   gives_flags left cut skip given past port x ended e fault f ee ef h =
       subst (λ (y : Option Fault). Gives left cut skip given e y past port x) ef (subst (λ (b : Bool). Gives left cut skip given b fault past port x) ee h)

@@ -18,11 +18,13 @@ use Rattle.ff_demuxing.specs.DemuxShapes.{IsShaped, demux_valid}
 use Rattle.ff_demuxing.specs.Sources.{source_valid, source_keeps, source_monotone, source_calm, source_unbroken, source_given, tried_of, source_tried, source_units}
 
 module _ {H C : Type 0} (cutter : Cutter H C) where
-  pub demux_mark : (head : H) (file : List ℕ) (b : Bool) → is_too_long cutter head file ≡ b → (demux_of cutter head file).mark ≡ cond b broken (mark_at (break_of cutter head file))
+  pub demux_mark : (head : H) (file : List ℕ) (b : Bool) → is_too_long cutter head file ≡ b
+      → (demux_of cutter head file).mark ≡ cond b broken (mark_at (break_of cutter head file))
   unfolding demux_of is_too_long
   demux_mark head file b e = ap (λ (x : Bool). cond x broken (mark_at (break_of cutter head file))) e
 
-  pub demux_items : (head : H) (file : List ℕ) → (demux_of cutter head file).items ≡ before_pass (passes_in_demux (Packets (cutter.stream_head head))) 0 (items_of cutter head file)
+  pub demux_items : (head : H) (file : List ℕ)
+      → (demux_of cutter head file).items ≡ before_pass (passes_in_demux (Packets (cutter.stream_head head))) 0 (items_of cutter head file)
   unfolding demux_of
   demux_items head file = refl
 
@@ -36,7 +38,8 @@ module _ {H C : Type 0} (cutter : Cutter H C) where
 
   -- an input without a fault has a whole stream
   pub demux_whole : (head : H) (file : List ℕ) → fault_in cutter head file ≡ None → (demux_of cutter head file).mark ≡ whole
-  demux_whole head file none = demux_mark head file (is_too_long cutter head file) refl ∙ sound (is_too_long cutter head file) (break_of cutter head file) none
+  demux_whole head file none = demux_mark head file (is_too_long cutter head file) refl
+      ∙ sound (is_too_long cutter head file) (break_of cutter head file) none
     where
       sound : (b : Bool) (broke : Option ℕ) → cond b (Some TooLong) (damage_at broke) ≡ None → cond b broken (mark_at broke) ≡ whole
       sound true broke e = cc
@@ -56,7 +59,8 @@ module _ {H C : Type 0} (cutter : Cutter H C) (left : Option (List ℕ)) (cut : 
   pub demux_fed : AreValid [] past.got
   demux_fed = source_valid stream given ended ticket past d.3.sources
 
-  pub demux_keeps : IsShaped cutter → (head : StreamHead) → cutter.stream_head (cutter.head_of cut) ≡ head → (ss : List Flow) → AreValid [] ss → AreValid (Packets head ∷ []) (past.task.means ss)
+  pub demux_keeps : IsShaped cutter → (head : StreamHead) → cutter.stream_head (cutter.head_of cut) ≡ head → (ss : List Flow) → AreValid [] ss
+      → AreValid (Packets head ∷ []) (past.task.means ss)
   demux_keeps shaped head e ss v =
       let same : cutter.stream_head d.0 ≡ head = ap (λ (h : H). cutter.stream_head h) (sym d.3.of_head) ∙ e in
       subst (λ (h : StreamHead). AreValid (Packets h ∷ []) (past.task.means ss)) same

@@ -25,12 +25,15 @@ module _ {A : Type 0} (weak strong : ℕ → A → Bool) where
   fewer n [] = ([], refl)
   fewer n (x ∷ xs) = pick (weak n x) (strong n x) (fewer (n + 1) xs)
     where
-      pick : (w s : Bool) → IsPrefix (before_pass both (n + 1) xs) (before_pass weak (n + 1) xs) → IsPrefix (cond (w || s) [] (x ∷ before_pass both (n + 1) xs)) (cond w [] (x ∷ before_pass weak (n + 1) xs))
+      pick : (w s : Bool) → IsPrefix (before_pass both (n + 1) xs) (before_pass weak (n + 1) xs)
+          → IsPrefix (cond (w || s) [] (x ∷ before_pass both (n + 1) xs)) (cond w [] (x ∷ before_pass weak (n + 1) xs))
       pick true s r = ([], refl)
       pick false true r = (x ∷ before_pass weak (n + 1) xs, refl)
       pick false false r = (r.0, ap (λ (ys : List A). x ∷ ys) r.1)
 
-pub demux_valid : {H C : Type 0} (cutter : Cutter H C) (head : H) (file : List ℕ) → AreInShape (Packets (cutter.stream_head head)) (items_of cutter head file) → IsValid (Packets (cutter.stream_head head)) (demux_of cutter head file)
+pub demux_valid : {H C : Type 0} (cutter : Cutter H C) (head : H) (file : List ℕ)
+    → AreInShape (Packets (cutter.stream_head head)) (items_of cutter head file)
+    → IsValid (Packets (cutter.stream_head head)) (demux_of cutter head file)
 unfolding demux_of
 demux_valid cutter head file shape =
     let lane = Packets (cutter.stream_head head) in

@@ -15,7 +15,18 @@ use Rattle.ff_demuxing.specs.Sources.{tried_of}
 
 module _ {S C H : Type 0} {G : Ghosts C H} (left : S → Option (List ℕ)) (named : S → Option (List ℕ)) (failed : S → ℕ) where
   abbrev pub demux_view : Demux S C H G → View
-  demux_view m = record { in_lanes = demux_in_lanes m; out_lanes = demux_out_lanes m; source = demux_source m; fault = demux_fault m; device = demux_device named m; failures = demux_failures failed m; holds = demux_holds m; tried = tried_of m.given m.ended; spent = demux_spent m; stands = demux_stands left m }
+  demux_view m = record {
+    in_lanes = demux_in_lanes m;
+    out_lanes = demux_out_lanes m;
+    source = demux_source m;
+    fault = demux_fault m;
+    device = demux_device named m;
+    failures = demux_failures failed m;
+    holds = demux_holds m;
+    tried = tried_of m.given m.ended;
+    spent = demux_spent m;
+    stands = demux_stands left m;
+  }
 
   pub demux_laws : IsShaped G.is → (m : Demux S C H G) → G.is.stream_head (G.is.head_of m.cut) ≡ m.head → Laws (demux_view m)
   demux_laws shaped m same_head = record {

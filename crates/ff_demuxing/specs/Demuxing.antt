@@ -50,7 +50,8 @@ module _ {H C : Type 0} (cutter : Cutter H C) where
 
   -- the stream of a whole input with this head, up to the limits
   unfoldable pub demux_of : H → List ℕ → Flow
-  demux_of head file = within (passes_in_demux (Packets (cutter.stream_head head))) (record { items = items_of head file; mark = mark_at (break_of head file) })
+  demux_of head file =
+      within (passes_in_demux (Packets (cutter.stream_head head))) (record { items = items_of head file; mark = mark_at (break_of head file) })
 
   -- whether some packet passes a limit
   unfoldable pub is_too_long : H → List ℕ → Bool
@@ -85,4 +86,5 @@ pub record Demuxes {H C : Type 0} (cutter : Cutter H C) (left : Option (List ℕ
 module _ {H C : Type 0} (cutter : Cutter H C) where
   -- the source tells what it has left, and the state fits the past
   abbrev pub DemuxStands : Option (List ℕ) → C → ℕ → ℕ → Bool → Bool → Option Fault → Past → Type 0
-  DemuxStands left cut skip given ticket ended fault past = (head : H) × (read rest : List ℕ) × Demuxes cutter left cut skip given ticket ended fault past head read rest
+  DemuxStands left cut skip given ticket ended fault past = (head : H) × (read rest : List ℕ)
+      × Demuxes cutter left cut skip given ticket ended fault past head read rest

@@ -109,10 +109,12 @@ source_waits s n past l =
     let k : length past.allowed ≡ n = omega (arith, l.tickets) in
     l.gave ∙ sym (source_due s n false false past l ∙ (cut_at s (length past.allowed) le ∙ ap (λ (i : ℕ). part_of s i false) k))
 
-going_below : (s : Flow) (n : ℕ) (ticket : Bool) (past : Past) → Sources s n false ticket past → LiesBelow (part_of s n false) (cut_to (length past.allowed) s)
+going_below : (s : Flow) (n : ℕ) (ticket : Bool) (past : Past) → Sources s n false ticket past
+    → LiesBelow (part_of s n false) (cut_to (length past.allowed) s)
 going_below s n ticket past l = inr (refl, take_less n (length past.allowed) s.items (omega (arith, l.tickets)))
 
-given_at : (s : Flow) (n : ℕ) (ended ticket : Bool) (past : Past) → Sources s n ended ticket past → LiesBelow (stream_at past.gave 0) (stream_at (due past) 0)
+given_at : (s : Flow) (n : ℕ) (ended ticket : Bool) (past : Past) → Sources s n ended ticket past
+    → LiesBelow (stream_at past.gave 0) (stream_at (due past) 0)
 given_at s n true ticket past l = inl (source_over s n ticket past l)
 given_at s n false ticket past l =
     subst (λ (r : Flow). LiesBelow r (stream_at (due past) 0)) (sym l.gave)
@@ -129,7 +131,8 @@ tried_of n ended = n + count ended
 pub source_tried : (s : Flow) (n : ℕ) (ended ticket : Bool) (past : Past) → Sources s n ended ticket past → tried_of n ended ≤ length past.allowed
 source_tried s n ended ticket past l = omega (arith, l.tickets)
 
-units_at : (s : Flow) (n : ℕ) (ended ticket : Bool) (past : Past) → Sources s n ended ticket past → LiesBelow (stream_at past.gave 0) (cut_to (tried_of n ended) s)
+units_at : (s : Flow) (n : ℕ) (ended ticket : Bool) (past : Past) → Sources s n ended ticket past
+    → LiesBelow (stream_at past.gave 0) (cut_to (tried_of n ended) s)
 units_at s n true ticket past l =
     let all : n ≡ length s.items = l.at_end refl in
     inl (l.gave ∙ (ap (λ (i : ℕ). part_of s i true) all ∙ sym (cut_end s (n + 1) (omega (arith, all)))))
@@ -138,7 +141,8 @@ units_at s n false ticket past l =
     inl (l.gave ∙ sym (ap (λ (i : ℕ). cut_to i s) same ∙ cut_at s n l.in_range))
 
 -- what it gave are these units, or the end in place of one
-pub source_units : (s : Flow) (n : ℕ) (ended ticket : Bool) (past : Past) → Sources s n ended ticket past → AllBelow past.gave (map (cut_to (tried_of n ended)) (past.task.means past.got))
+pub source_units : (s : Flow) (n : ℕ) (ended ticket : Bool) (past : Past) → Sources s n ended ticket past
+    → AllBelow past.gave (map (cut_to (tried_of n ended)) (past.task.means past.got))
 source_units s n ended ticket past l zero = subst (λ (f : List Flow → List Flow). LiesBelow (stream_at past.gave 0) (stream_at (map (cut_to (tried_of n ended)) (f past.got)) 0)) (sym l.means) (units_at s n ended ticket past l)
 source_units s n ended ticket past l (suc p) = subst (λ (f : List Flow → List Flow). LiesBelow (stream_at past.gave (suc p)) (stream_at (map (cut_to (tried_of n ended)) (f past.got)) (suc p))) (sym l.means) (inl (l.others p))
 
@@ -159,14 +163,16 @@ pub record Gave (s : Flow) (n : ℕ) (ended : Bool) (past : Past) (x : Item) : T
   pub below : LiesBelow (with_item (stream_at past.gave 0) x) (stream_at (due past) 0)
 
 -- the next item
-pub source_gives : (s : Flow) (n : ℕ) (past : Past) (x : Item) → slice_get s.items n ≡ Some x → ((r : Flow) → with_item r x ≡ record { items = r.items ++ x ∷ []; mark = r.mark }) → Sources s n false true past
+pub source_gives : (s : Flow) (n : ℕ) (past : Past) (x : Item) → slice_get s.items n ≡ Some x
+    → ((r : Flow) → with_item r x ≡ record { items = r.items ++ x ∷ []; mark = r.mark }) → Sources s n false true past
     → Gave s (n + 1) false past x
 source_gives s n past x get is l =
     let more = get_within s.items n x get in
     let k : length past.allowed ≡ n + 1 = omega (arith, l.tickets) in
     let le : length past.allowed ≤ length s.items = omega (arith, k, more) in
     let grown : with_item (stream_at past.gave 0) x ≡ part_of s (n + 1) false =
-    ap (λ (r : Flow). with_item r x) l.gave ∙ (is (part_of s n false) ∙ ap (λ (xs : List Item). record { items = xs; mark = still_open }) (sym (take_one_more s.items n x get))) in
+    ap (λ (r : Flow). with_item r x) l.gave
+    ∙ (is (part_of s n false) ∙ ap (λ (xs : List Item). record { items = xs; mark = still_open }) (sym (take_one_more s.items n x get))) in
     record {
       now = record {
         means = l.means;
@@ -185,7 +191,8 @@ source_gives s n past x get is l =
     }
 
 -- the closing item
-pub source_ends : (s : Flow) (n : ℕ) (past : Past) (x : Item) → n ≡ length s.items → ((r : Flow) → with_item r x ≡ record { items = r.items; mark = s.mark }) → Sources s n false true past
+pub source_ends : (s : Flow) (n : ℕ) (past : Past) (x : Item) → n ≡ length s.items
+    → ((r : Flow) → with_item r x ≡ record { items = r.items; mark = s.mark }) → Sources s n false true past
     → Gave s n true past x
 source_ends s n past x all is l =
     let k : length past.allowed ≡ n + 1 = omega (arith, l.tickets) in

@@ -64,11 +64,13 @@ module _ (tb : Fraction) (rate bits channels : ℕ) (codec : Codec) (coded : IsP
     apart = λ t. omega (arith, ints, lt);
   }
 
-  each_from : (a n : ℕ) → a + n ≤ packet_count block xs → All (IsItemFor lane) (map Packet (map (λ k. packet_at start block xs (1024 * k)) (range_with_len a n)))
+  each_from : (a n : ℕ) → a + n ≤ packet_count block xs
+      → All (IsItemFor lane) (map Packet (map (λ k. packet_at start block xs (1024 * k)) (range_with_len a n)))
   each_from a zero le = All-nil (IsItemFor lane)
   each_from a (suc n) le = all_first (IsItemFor lane) (item a) (map Packet (map (λ k. packet_at start block xs (1024 * k)) (range_with_len (a + 1) n))) (item_for a (omega (arith, le))) (each_from (a + 1) n (omega (arith, le)))
 
-  order_from : (a n : ℕ) → a + n ≤ packet_count block xs → InOrder lane (map Packet (map (λ k. packet_at start block xs (1024 * k)) (range_with_len a n)))
+  order_from : (a n : ℕ) → a + n ≤ packet_count block xs
+      → InOrder lane (map Packet (map (λ k. packet_at start block xs (1024 * k)) (range_with_len a n)))
   order_from a zero le = tt
   order_from a (suc zero) le = tt
   order_from a (suc (suc n)) le = (follows a (omega (arith, le)), order_from (a + 1) (suc n) (omega (arith, le)))
@@ -76,7 +78,8 @@ module _ (tb : Fraction) (rate bits channels : ℕ) (codec : Codec) (coded : IsP
   packets_in_shape : AreInShape lane (map Packet (packets_of start block xs))
   packets_in_shape = record { each = each_from 0 (packet_count block xs) (omega arith); in_order = order_from 0 (packet_count block xs) (omega arith) }
 
-in_shape : (head : StreamHead) (start : ℕ) (xs : List ℕ) → IsStream head → AreInShape (Packets head) (map Packet (packets_of start (block_of head) xs))
+in_shape : (head : StreamHead) (start : ℕ) (xs : List ℕ) → IsStream head
+    → AreInShape (Packets head) (map Packet (packets_of start (block_of head) xs))
 in_shape (AudioHead tb rate bits channels codec) start xs h = packets_in_shape tb rate bits channels codec h.coded start xs
 in_shape (VideoHead tb format width height sar_num sar_den) start xs h = absurd h
 

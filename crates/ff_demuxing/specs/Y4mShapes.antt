@@ -49,7 +49,8 @@ are_numbered size [] (suc skip) at n = tt
 are_numbered size (b ∷ bs) (suc skip) at n = are_numbered size bs skip (at + 1) n
 are_numbered size (b ∷ bs) zero at n = pick (unit size (b ∷ bs)) refl (λ skip. are_numbered size bs skip (at + 1) (n + 1))
   where
-    pick : (front : Front) → unit size (b ∷ bs) ≡ front → ((skip : ℕ) → AreNumbered size (n + 1) (packets_from size skip (at + 1) (n + 1) bs)) → AreNumbered size n (packets_step front size at n b bs)
+    pick : (front : Front) → unit size (b ∷ bs) ≡ front → ((skip : ℕ) → AreNumbered size (n + 1) (packets_from size skip (at + 1) (n + 1) bs))
+        → AreNumbered size n (packets_step front size at n b bs)
     pick Wait e next = tt
     pick Other e next = tt
     pick (Frame line) e next = (numbered size at n line (b ∷ bs) e, next (line + size))
@@ -87,7 +88,8 @@ module _ (tb : Fraction) (format : Format) (width height sar_num sar_den size : 
       let ps = packets_from size 0 start 0 bs in
       let h = are_numbered size bs 0 start 0 in record { each = each_fits 0 ps h; in_order = in_order 0 ps h }
 
-in_shape : (head : StreamHead) (size start : ℕ) (bs : List ℕ) → IsStream head size → AreInShape (Packets head) (map Packet (packets_from size 0 start 0 bs))
+in_shape : (head : StreamHead) (size start : ℕ) (bs : List ℕ) → IsStream head size
+    → AreInShape (Packets head) (map Packet (packets_from size 0 start 0 bs))
 in_shape (AudioHead tb rate bits channels codec) size start bs h = absurd h
 in_shape (VideoHead tb format width height sar_num sar_den) size start bs h = frames_in_shape tb format width height sar_num sar_den size h.2 start bs
 

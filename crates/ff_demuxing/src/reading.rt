@@ -61,7 +61,9 @@ pub(crate) fn read_more<S: Source, C: PacketCut>(
 ) -> Result<(), ReadEnd>
     requires going { C.is.has_ended cut.old ≡ false }
     requires some { 0 < length piece.old }
-    ensures read { OnOk result ((given : ℕ) (ticket : _) (fault : Option Fault) (past : Past) → DemuxStands C.is (S.left src.old) cut.old skip.old given ticket false fault past → DemuxStands C.is (S.left src.new) cut.new skip.new given ticket false fault past) }
+    ensures read { OnOk result ((given : ℕ) (ticket : _) (fault : Option Fault) (past : Past)
+        → DemuxStands C.is (S.left src.old) cut.old skip.old given ticket false fault past
+        → DemuxStands C.is (S.left src.new) cut.new skip.new given ticket false fault past) }
     ensures left { OnErr result (Keeps (S.left src.old) (S.left src.new)) }
     ensures skip { OnErr result (skip.new ≡ skip.old) }
     ensures ended { OnErr result (C.is.has_ended cut.new ≡ C.is.has_ended cut.old) }
@@ -72,7 +74,8 @@ pub(crate) fn read_more<S: Source, C: PacketCut>(
     ensures name { S.name src.new ≡ S.name src.old }
     ensures head { C.is.head_of cut.new ≡ C.is.head_of cut.old }
     ensures place { C.is.place cut.new ≡ C.is.place cut.old }
-    ensures nearer { OnOk result (((C.is.has_ended cut.new ≡ true) × (skip.new ≡ skip.old) × (length (C.is.waiting cut.new) ≡ length (C.is.waiting cut.old))) ⊎ ((C.is.has_ended cut.new ≡ false) × (length (C.is.waiting cut.old) + skip.new < length (C.is.waiting cut.new) + skip.old) × (skip.new ≤ skip.old))) }
+    ensures nearer { OnOk result (((C.is.has_ended cut.new ≡ true) × (skip.new ≡ skip.old) × (length (C.is.waiting cut.new) ≡ length (C.is.waiting cut.old)))
+        ⊎ ((C.is.has_ended cut.new ≡ false) × (length (C.is.waiting cut.old) + skip.new < length (C.is.waiting cut.new) + skip.old) × (skip.new ≤ skip.old))) }
 {
     cut.reserve(piece.len())?;
     let count = src.read(piece)?;

@@ -32,9 +32,11 @@ pub(crate) fn next_unit<C: PacketCut>(
 ) -> Result<Unit, AllocError>
     requires near { C.is.place cut.old ≤ 2 ^ 50 }
     requires few { given ≤ 2 ^ 40 }
-    ensures packet { (p : Pkt) → result ≡ Ok (Unit.Packet p) → GivesPacket C.is cut.old cut.new p × (passes_in_demux (Packets head.now) given (Item.Packet p) ≡ false) }
+    ensures packet { (p : Pkt) → result ≡ Ok (Unit.Packet p)
+        → GivesPacket C.is cut.old cut.new p × (passes_in_demux (Packets head.now) given (Item.Packet p) ≡ false) }
     ensures within { (p : Pkt) → result ≡ Ok (Unit.Packet p) → (C.is.place cut.new ≤ 2 ^ 50) × (given + 1 ≤ 2 ^ 40) }
-    ensures long { result ≡ Ok Unit.Long → (p : Pkt) × GivesPacket C.is cut.old cut.new p × (passes_in_demux (Packets head.now) given (Item.Packet p) ≡ true) }
+    ensures long { result ≡ Ok Unit.Long
+        → (p : Pkt) × GivesPacket C.is cut.old cut.new p × (passes_in_demux (Packets head.now) given (Item.Packet p) ≡ true) }
     ensures all { result ≡ Ok Unit.End → (cut.new ≡ cut.old) × GaveAll C.is cut.old None }
     ensures broken { (offset : ℕ) → result ≡ Ok (Unit.Broken offset) → (cut.new ≡ cut.old) × GaveAll C.is cut.old (Some offset) }
     ensures wait { result ≡ Ok Unit.Wait → (cut.new ≡ cut.old) × (C.is.has_ended cut.old ≡ false) × (length (C.is.waiting cut.old) < C.is.longest) }

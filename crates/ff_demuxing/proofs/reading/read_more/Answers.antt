@@ -9,7 +9,8 @@ returns-then-count-eq0-clause-read g c = λ given ticket fault past d.
     let none = c.if-count-eq0.true in
     let got : Consumes (S.left c.args.src.now) (S.left c.read.new.self) [] = subst (λ (n : ℕ). Consumes (S.left c.args.src.now) (S.left c.read.new.self) (take n c.read.new.buf)) none c.in_ok-count.ensures.bytes.0 in
     demux_read_end g.C.PacketCut.is (S.left c.args.src.now) (S.left c.read.new.self) c.args.cut.now c.end.new.self c.args.skip.now given ticket fault past
-    got (c.in_ok-count.ensures.bytes.1 none (omega (arith, c.requires.some, c.in_ok-count.ensures.bound))) (c.end.ensures.head ∙ c.reserve.ensures.same.same_head) (λ head fed n cuts. c.end.ensures.cuts head fed n (c.reserve.ensures.cuts head fed n cuts)) d
+    got (c.in_ok-count.ensures.bytes.1 none (omega (arith, c.requires.some, c.in_ok-count.ensures.bound))) (c.end.ensures.head
+    ∙ c.reserve.ensures.same.same_head) (λ head fed n cuts. c.end.ensures.cuts head fed n (c.reserve.ensures.cuts head fed n cuts)) d
 
 pub returns-clause-read : goal.returns-clause-read
 returns-clause-read g c = λ given ticket fault past d.

@@ -25,7 +25,8 @@ pub returns-else-is_long-clause-packet : goal.returns-else-is_long-clause-packet
 returns-else-is_long-clause-packet g c = λ p e.
     let same : c.in-Pkt.packet ≡ p = cc in
     let short = sym c.is_long.ensures ∙ c.if-is_long.false in
-    subst (λ (x : Pkt). GivesPacket g.C.PacketCut.is c.args.cut.now c.pull.new.self x × (passes_in_demux (Packets c.args.head.now) c.args.given (Packet x) ≡ false)) same
+    subst (λ (x : Pkt). GivesPacket g.C.PacketCut.is c.args.cut.now c.pull.new.self x
+    × (passes_in_demux (Packets c.args.head.now) c.args.given (Packet x) ≡ false)) same
     (c.in_ok-pull.ensures.gives c.in-Pkt.packet (ap Ok c.in-Pkt.is), short)
 
 pub returns-else-is_long-clause-within : goal.returns-else-is_long-clause-within

@@ -15,7 +15,8 @@ returns-in_err-packet-clause-unchanged g c =
     let m = c.units.self in
     let a = c.args.self.now in
     let S = g.S.Source in
-    let same : (past : Past) → DemuxStands K (S.left a.src) a.cut a.skip a.given a.ticket a.ended a.fault past → DemuxStands K (S.left m.src) c.next_unit.new.cut m.skip m.given m.ticket m.ended m.fault past =
+    let same : (past : Past) → DemuxStands K (S.left a.src) a.cut a.skip a.given a.ticket a.ended a.fault past
+    → DemuxStands K (S.left m.src) c.next_unit.new.cut m.skip m.given m.ticket m.ended m.fault past =
     λ past d. subst (λ k. DemuxStands K (S.left m.src) k m.skip m.given m.ticket m.ended m.fault past) (sym c.in_err-packet.ensures.err) (c.units.invariant.stands past d) in
     on_err _ _ same
 
