@@ -12,12 +12,12 @@ use Rattle.ff_coders.specs.declared.any.AnyDecoder.{AnyDecoder}
 use Rattle.ff_coders.specs.declared.any.AnyDecoder.TheVariants as from
 use Rattle.ff_coders.specs.declared.any.AnyEncoder.{AnyEncoder}
 use Rattle.ff_coders.specs.declared.any.AnyEncoder.TheVariants as to
-use Rattle.ff_coders.specs.Made.{IsDecoded, IsEncoded}
+use Rattle.ff_coders.specs.Made.{IsDecoded, IsEncoded, HasSameTimes}
 use Rattle.ff_coders.specs.Decoding.{pcm_frame, raw_frame}
 use Rattle.ff_coders.specs.Encoding.{coded_head, pcm_packet_of, raw_packet_of, IsSound, IsPicture, IsPictures}
 use Rattle.ff_coders.specs.Coders.{pcm_head, raw_head, pcm_codec}
-use Rattle.ff_coders.specs.PcmLaws.{pcm_decoded, pcm_encoded}
-use Rattle.ff_coders.specs.RawLaws.{raw_decoded, raw_encoded}
+use Rattle.ff_coders.specs.PcmLaws.{pcm_decoded, pcm_encoded, pcm_times}
+use Rattle.ff_coders.specs.RawLaws.{raw_decoded, raw_encoded, raw_times}
 
 -- ---- decoders
 
@@ -59,3 +59,7 @@ pub any_encoded : (e : AnyEncoder) (head : StreamHead) (x : Item) → any_serves
     → IsEncoded (any_coded e head) x (any_accepts e x) (any_packet e x)
 any_encoded (to.Pcm e) head x serves fits = pcm_encoded (pcm_codec e) head x e.pcm serves fits
 any_encoded (to.Raw e) head x serves fits = raw_encoded head x serves fits
+
+pub any_times : (e : AnyEncoder) (head : StreamHead) → any_serves e head → HasSameTimes head (any_coded e head)
+any_times (to.Pcm e) head serves = pcm_times (pcm_codec e) head
+any_times (to.Raw e) head serves = raw_times head

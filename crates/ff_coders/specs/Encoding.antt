@@ -1,9 +1,8 @@
 -- The packets of frames.
-use Rattle.std.specs.Prelude.{◌≡◌, ◌/◌, pos, length, Option, Some, None}
+use Rattle.std.specs.Prelude.{◌/◌, pos, length, Option, Some, None}
 use Rattle.ff_values.specs.Audio.{IsAudio}
 use Rattle.ff_values.specs.Packet.{packet_at}
 use Rattle.ff_values.specs.declared.audio.AFrame.{AFrame}
-use Rattle.ff_values.specs.declared.video.VFrame.{VFrame}
 use Rattle.ff_values.specs.declared.packet.Pkt.{Pkt}
 use Rattle.ff_values.specs.declared.head.Codec.{Codec}
 use Rattle.ff_values.specs.declared.head.StreamHead.{StreamHead}

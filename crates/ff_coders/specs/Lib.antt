@@ -6,3 +6,4 @@ pub mod PcmLaws
 pub mod RawLaws
 pub mod Coders
 pub mod AnyCoders
+pub mod Choices

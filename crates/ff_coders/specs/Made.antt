@@ -6,7 +6,8 @@ use Rattle.ff_frame.specs.declared.item.Item.{Item}
 use Rattle.ff_frame.specs.declared.item.Item.TheVariants.{Packet}
 use Rattle.ff_frame.specs.declared.item.Lane.{Lane}
 use Rattle.ff_frame.specs.declared.item.Lane.TheVariants.{Frames, Packets}
-use Rattle.ff_frame.specs.Lanes.{FitsLane}
+use Rattle.ff_values.specs.Heads.{base_of_head}
+use Rattle.ff_frame.specs.Lanes.{FitsLane, StartsAfter}
 use Rattle.ff_frame.specs.Times.{HasTime, start_of, end_of}
 
 -- an item that was made of another fits its lane, and starts and ends when that does
@@ -25,3 +26,9 @@ pub record IsDecoded (head : StreamHead) (packet : Pkt) (Taken : Type 0) (frame 
 pub record IsEncoded (head : StreamHead) (frame : Item) (Taken : Type 0) (packet : Option Pkt) : Type 0 where
   pub taken : Taken
   pub made : IsSomeAnd packet (λ p. IsMadeOf (Packets head) frame (Packet p))
+
+-- the times of a stream of one head are those of a stream of another: they have one time base, and what starts after
+-- something in the one does in the other
+pub record HasSameTimes (before after : StreamHead) : Type 0 where
+  pub base : base_of_head after ≡ base_of_head before
+  pub apart : (x y : Item) → StartsAfter before x y → StartsAfter after x y

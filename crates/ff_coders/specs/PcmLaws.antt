@@ -20,7 +20,7 @@ use Rattle.ff_pcm.specs.Frames.{rate_of, channels_of, bits_of, codec_of, IsPcmHe
 use Rattle.ff_pcm.specs.Samples.{StandFor, depth}
 use Rattle.ff_pcm.proofs.ByteLaws.{bytes_length}
 use Rattle.ff_pcm.proofs.SampleLaws.{all_fit, samples_stand, packet_audio, interleaved}
-use Rattle.ff_coders.specs.Made.{IsDecoded, IsEncoded}
+use Rattle.ff_coders.specs.Made.{IsDecoded, IsEncoded, HasSameTimes}
 use Rattle.ff_coders.specs.Decoding.{octets, pcm_frame}
 use Rattle.ff_coders.specs.Encoding.{coded_head, packet_of, pcm_packet_of, IsSound}
 
@@ -112,3 +112,7 @@ pcm_encoded codec (AudioHead tb rate bits channels from) (Trailer x) h s t = abs
 pcm_encoded codec (AudioHead tb rate bits channels from) End h s t = absurd t
 pcm_encoded codec (AudioHead tb rate bits channels from) Broken h s t = absurd t
 pcm_encoded codec (VideoHead tb format width height sar_num sar_den) x h s t = absurd s
+
+pub pcm_times : (codec : Codec) (head : StreamHead) → HasSameTimes head (coded_head codec head)
+pcm_times codec (AudioHead tb rate bits channels from) = record { base = refl; apart = λ x y a. a }
+pcm_times codec (VideoHead tb format width height sar_num sar_den) = record { base = refl; apart = λ x y a. a }

@@ -1,6 +1,6 @@
 -- What raw video makes of what a lane carries.
-use Rattle.std.specs.Prelude.{◌≡◌, refl}
-use Rattle.std.proofs.Common.{sym, ap, ◌∙◌}
+use Rattle.std.specs.Prelude.{refl}
+use Rattle.std.proofs.Common.{ap, ◌∙◌}
 use Rattle.ff_values.specs.declared.packet.Pkt.{Pkt}
 use Rattle.ff_values.specs.declared.head.StreamHead.{StreamHead}
 use Rattle.ff_values.specs.declared.head.StreamHead.TheVariants.{Audio as AudioHead, Video as VideoHead}
@@ -9,7 +9,7 @@ use Rattle.ff_frame.specs.declared.item.Item.{Item}
 use Rattle.ff_frame.specs.declared.item.Item.TheVariants.{Audio, Video, Packet, Trailer, End, Broken}
 use Rattle.ff_frame.specs.Lanes.{FitsFrames, FitsPackets}
 use Rattle.ff_pcm.specs.Raw.{HasFrame}
-use Rattle.ff_coders.specs.Made.{IsDecoded, IsEncoded}
+use Rattle.ff_coders.specs.Made.{IsDecoded, IsEncoded, HasSameTimes}
 use Rattle.ff_coders.specs.Decoding.{raw_frame, IsPictureHead}
 use Rattle.ff_coders.specs.Encoding.{raw_packet_of, IsPicture, IsPictures}
 
@@ -42,3 +42,6 @@ raw_encoded (VideoHead tb format width height sar_num sar_den) (Packet p) s t = 
 raw_encoded (VideoHead tb format width height sar_num sar_den) (Trailer x) s t = absurd t
 raw_encoded (VideoHead tb format width height sar_num sar_den) End s t = absurd t
 raw_encoded (VideoHead tb format width height sar_num sar_den) Broken s t = absurd t
+
+pub raw_times : (head : StreamHead) → HasSameTimes head head
+raw_times head = record { base = refl; apart = λ x y a. a }

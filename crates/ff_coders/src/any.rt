@@ -1,4 +1,4 @@
-ghost use Rattle.ff_coders.specs.AnyCoders.{any_head, any_takes, any_frame, any_decoded, any_serves, any_coded, any_accepts, any_packet, any_encoded};
+ghost use Rattle.ff_coders.specs.AnyCoders.{any_head, any_takes, any_frame, any_decoded, any_serves, any_coded, any_accepts, any_packet, any_encoded, any_times};
 
 use crate::decoder::Decoder;
 use crate::encoder::Encoder;
@@ -73,4 +73,6 @@ impl Encoder for AnyEncoder {
     }
 
     ghost carries = { any_encoded };
+
+    ghost keeps_times = { any_times };
 }

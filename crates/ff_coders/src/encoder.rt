@@ -3,7 +3,7 @@ ghost use Rattle.ff_values.specs.declared.head.StreamHead.{StreamHead};
 ghost use Rattle.ff_values.specs.declared.packet.Pkt.{Pkt};
 ghost use Rattle.ff_frame.specs.declared.item.Item.{Item};
 ghost use Rattle.ff_frame.specs.Lanes.{FitsFrames};
-ghost use Rattle.ff_coders.specs.Made.{IsEncoded};
+ghost use Rattle.ff_coders.specs.Made.{HasSameTimes, IsEncoded};
 
 use ff_frame::Item;
 use ff_values::Pkt;
@@ -33,4 +33,7 @@ pub trait Encoder {
 
     /// What the lane of such frames carries it can be given, and the packet fits the lane of packets and has the frame's times.
     ghost carries: { (e : Self) (h : StreamHead) (x : Item) → serves e h → FitsFrames h x → IsEncoded (coded e h) x (takes e x) (made e x) };
+
+    /// What it makes of a stream has the stream's times.
+    ghost keeps_times: { (e : Self) (h : StreamHead) → serves e h → HasSameTimes h (coded e h) };
 }

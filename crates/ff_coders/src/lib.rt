@@ -10,12 +10,14 @@
 #![tactic(auto)]
 
 mod any;
+mod choice;
 mod decoder;
 mod encoder;
 mod pcm;
 mod raw;
 
 pub use any::{AnyDecoder, AnyEncoder};
+pub use choice::{decoder_of, encoder_of};
 pub use decoder::Decoder;
 pub use encoder::Encoder;
 pub use pcm::{PcmDecoder, PcmEncoder};

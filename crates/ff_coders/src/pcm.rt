@@ -8,7 +8,7 @@ ghost use Rattle.ff_pcm.specs.Frames.{IsPcmHead, HasBlocks, frame_of};
 ghost use Rattle.ff_coders.specs.Props.{IsPcmHead-prop};
 ghost use Rattle.ff_coders.specs.Decoding.{octets, pcm_frame};
 ghost use Rattle.ff_coders.specs.Encoding.{coded_head, packet_of, pcm_packet_of, IsSound};
-ghost use Rattle.ff_coders.specs.PcmLaws.{pcm_decoded, pcm_encoded};
+ghost use Rattle.ff_coders.specs.PcmLaws.{pcm_decoded, pcm_encoded, pcm_times};
 
 use crate::decoder::Decoder;
 use crate::encoder::Encoder;
@@ -153,4 +153,6 @@ impl Encoder for PcmEncoder {
     }
 
     ghost carries = { λ e head x serves fits. pcm_encoded (pcm_codec e) head x e.pcm serves fits };
+
+    ghost keeps_times = { λ e head serves. pcm_times (pcm_codec e) head };
 }

@@ -5,7 +5,7 @@ ghost use Rattle.ff_pcm.specs.Raw.{HasFrame};
 ghost use Rattle.ff_coders.specs.Props.{IsPictureHead-prop};
 ghost use Rattle.ff_coders.specs.Decoding.{raw_frame, IsPictureHead};
 ghost use Rattle.ff_coders.specs.Encoding.{raw_packet_of, IsPicture, IsPictures};
-ghost use Rattle.ff_coders.specs.RawLaws.{raw_decoded, raw_encoded};
+ghost use Rattle.ff_coders.specs.RawLaws.{raw_decoded, raw_encoded, raw_times};
 
 use crate::decoder::Decoder;
 use crate::encoder::Encoder;
@@ -118,4 +118,6 @@ impl Encoder for RawEncoder {
     }
 
     ghost carries = { λ e head x serves fits. raw_encoded head x serves fits };
+
+    ghost keeps_times = { λ e head serves. raw_times head };
 }

@@ -1,0 +1,35 @@
+// The codecs of a head.
+ghost use Rattle.std.specs.Prelude.{◌≡◌};
+ghost use Rattle.ff_coders.specs.AnyCoders.{any_head, any_frame, any_serves, any_coded, any_packet};
+ghost use Rattle.ff_coders.specs.Choices.{CanDecode, CanEncode, frame_made, packet_made};
+
+use crate::any::{AnyDecoder, AnyEncoder};
+use crate::pcm::{PcmDecoder, PcmEncoder};
+use crate::raw::{RawDecoder, RawEncoder};
+use ff_values::StreamHead;
+use std::alloc::Global;
+
+/// The decoder of packets of this head.
+pub fn decoder_of(alloc: Global, head: &StreamHead) -> AnyDecoder
+    requires { CanDecode head.now }
+    ensures head { any_head result ≡ head.now }
+    ensures frame { any_frame result ≡ frame_made head.now }
+{
+    match head {
+        StreamHead::Audio { .. } => AnyDecoder::Pcm(PcmDecoder::new(alloc, *head)),
+        StreamHead::Video { .. } => AnyDecoder::Raw(RawDecoder::new(*head)),
+    }
+}
+
+/// The encoder of frames of the first head to packets of the second.
+pub fn encoder_of(alloc: Global, head: &StreamHead, coded: &StreamHead) -> AnyEncoder
+    requires { CanEncode head.now coded.now }
+    ensures serves { any_serves result head.now }
+    ensures coded { any_coded result head.now ≡ coded.now }
+    ensures packet { any_packet result ≡ packet_made coded.now }
+{
+    match coded {
+        StreamHead::Audio { codec, .. } => AnyEncoder::Pcm(PcmEncoder::new(alloc, *codec)),
+        StreamHead::Video { .. } => AnyEncoder::Raw(RawEncoder),
+    }
+}
