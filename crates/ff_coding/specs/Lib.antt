@@ -1,0 +1,15 @@
+pub mod Coders
+pub mod DecodeLaws
+pub mod Decoding
+pub mod EncodeLaws
+pub mod Encoding
+pub mod Kinds
+pub mod Lines
+pub mod Making
+pub mod MakingLaws
+pub mod Puts
+pub mod SpreadLaws
+pub mod Spreads
+pub mod Standing
+pub mod Steps
+pub mod Taken

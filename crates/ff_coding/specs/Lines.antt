@@ -1,0 +1,36 @@
+-- The outputs of a machine, as they are.
+use Rattle.std.specs.Prelude.{◌≡◌, ℕ, zero, suc, ◌<◌, true, List, [], ◌∷◌, length, All, Option, None}
+use Rattle.std.specs.VecDeque.{deque_len, deque_capacity}
+use Rattle.ff_frame.specs.declared.item.Item.{Item}
+use Rattle.ff_frame.specs.declared.item.Lane.{Lane}
+use Rattle.ff_net.specs.Pasts.{Past}
+use Rattle.ff_coding.specs.declared.ready.Ready.{Ready}
+use Rattle.ff_coding.specs.Making.{Outcome}
+use Rattle.ff_coding.specs.Spreads.{Line}
+
+abbrev pub line_of : Ready → Line
+line_of ready = record { queue = ready.queue.items; stopped = ready.stopped }
+
+-- the output of this number; where there is none, nothing is wanted
+abbrev pub line_at : List Ready → ℕ → Line
+line_at [] q = record { queue = []; stopped = true }
+line_at (r ∷ rs) zero = line_of r
+line_at (r ∷ rs) (suc q) = line_at rs q
+
+-- the item that is to be put on it next
+abbrev pub next_at : List Ready → ℕ → Option Item
+next_at [] q = None
+next_at (r ∷ rs) zero = r.next
+next_at (r ∷ rs) (suc q) = next_at rs q
+
+-- there is room for an item more
+abbrev pub HasRoom : Ready → Type 0
+HasRoom ready = deque_len ready.queue < deque_capacity ready.queue
+
+abbrev pub HaveRoom : List Ready → Type 0
+HaveRoom outs = All HasRoom outs
+
+-- nothing that can be seen has changed
+pub record AreSame (old new : List Ready) : Type 0 where
+  pub count : length new ≡ length old
+  pub lines : (q : ℕ) → line_at new q ≡ line_at old q

@@ -1,0 +1,188 @@
+ghost use Rattle.std.specs.Prelude.{◌≡◌, ◌↔◌, [], ◌∷◌, replicate, true, None, Some, Option, IsTrue, IfOk, IfErr, OnOk, OnErr};
+ghost use Rattle.ff_values.specs.declared.packet.Pkt.{Pkt};
+ghost use Rattle.ff_frame.specs.declared.item.Item.{Item};
+ghost use Rattle.ff_frame.specs.declared.item.Item.TheVariants.{Packet};
+ghost use Rattle.ff_coding.specs.Decoding.{decoded_item};
+ghost use Rattle.ff_coding.specs.Steps.{FollowsFrom, GivesBack};
+ghost use Rattle.ff_coding.specs.Taken.{IsTakenPacket};
+
+use crate::spread::Spread;
+use crate::step::{Step, closing, discard};
+use ff_coders::Decoder;
+use ff_frame::{Event, Item, Pkt, Refused, Ticket};
+use ff_net::{Fault, Machine};
+use std::alloc::{AllocError, Global};
+
+/// Decodes the packets of a stream, whatever its codec: gives the frame of each packet on each output, and how the stream
+/// ends. A packet that has no frame breaks it off, with the fault that the input is damaged there.
+#[derive(Drop)]
+pub struct Dec<D> {
+    alloc: Global,
+    decoder: D,
+    spread: Spread,
+}
+
+impl<D: Decoder + Drop> Dec<D> {
+    ghost use Rattle.std.specs.Prelude.{◌≤◌};
+    ghost use Rattle.ff_frame.specs.declared.item.Lane.TheVariants.{Frames, Packets};
+    ghost use Rattle.ff_net.specs.Pasts.{start};
+    ghost use Rattle.ff_coding.specs.Decoding.{dec_task};
+    ghost use Rattle.ff_coding.specs.Coders.{dec_in_lanes, dec_out_lanes, dec_fault, dec_stands};
+
+    /// A decoder to which nothing was fed, with so many outputs.
+    pub fn new(alloc: Global, decoder: D, outputs: usize) -> Result<Dec<D>, AllocError>
+        requires some { 1 ≤ outputs }
+        ensures in_lanes { IfOk result (λ m. dec_in_lanes D.head m ≡ Packets (D.head decoder) ∷ []) }
+        ensures out_lanes { IfOk result (λ m. dec_out_lanes D.head m ≡ replicate outputs (Frames (D.head decoder))) }
+        ensures fault { IfOk result (λ m. dec_fault m ≡ None) }
+        ensures stands { IfOk result (λ m. dec_stands D.head D.made m (start (dec_task (D.made decoder) outputs))) }
+    {
+        let spread = Spread::new(alloc, outputs)?;
+        Ok(Dec {
+            alloc,
+            decoder,
+            spread,
+        })
+    }
+}
+
+// What a packet gives: its frame, or the break where it has none.
+fn decode<D: Decoder>(
+    alloc: Global,
+    decoder: &D,
+    packet: Pkt,
+    shared: bool,
+) -> Result<Step, Refused>
+    requires { D.takes decoder.now packet }
+    ensures follows { IfOk result (λ step. FollowsFrom (decoded_item (D.made decoder.now)) (Packet packet) step) }
+    ensures spare { IfOk result (λ step. shared ≡ true → GivesBack (Packet packet) step) }
+    ensures back { IfErr result (λ refused. refused.item ≡ Packet packet) }
+{
+    let spare = match copy_if(alloc, &packet, shared) {
+        Ok(spare) => spare,
+        Err(_) => {
+            return Err(Refused {
+                item: Item::Packet(packet),
+            });
+        }
+    };
+    let offset = packet.pos;
+    match decoder.decode(packet) {
+        Ok(Some(frame)) => Ok(Step::Puts {
+            made: frame,
+            damage: None,
+            spare,
+        }),
+        Ok(None) => Ok(Step::Puts {
+            made: Item::Broken,
+            damage: Some(offset),
+            spare,
+        }),
+        Err(packet) => Err(Refused {
+            item: Item::Packet(packet),
+        }),
+    }
+}
+
+// An equal packet, where one may have to be given back.
+fn copy_if(alloc: Global, packet: &Pkt, shared: bool) -> Result<Option<Item>, AllocError>
+    ensures { IfOk result (λ copy. shared ≡ true → copy ≡ Some (Packet packet.now)) }
+{
+    if !shared {
+        return Ok(None);
+    }
+    let copy = packet.try_copy(alloc)?;
+    Ok(Some(Item::Packet(copy)))
+}
+
+// What is to be done for an item.
+fn step<D: Decoder>(
+    alloc: Global,
+    decoder: &D,
+    item: Item,
+    shared: bool,
+) -> Result<Step, Refused>
+    ensures follows { IfOk result (λ step. IsTakenPacket (D.takes decoder.now) item → FollowsFrom (decoded_item (D.made decoder.now)) item step) }
+    ensures spare { IfOk result (λ step. shared ≡ true → GivesBack item step) }
+    ensures back { IfErr result (λ refused. refused.item ≡ item) }
+{
+    if item.closes() {
+        return Ok(closing(item));
+    }
+    match item {
+        Item::Packet(packet) => if decoder.can_take(&packet) {
+            decode(alloc, decoder, packet, shared)
+        } else {
+            discard(Item::Packet(packet));
+            Ok(Step::Passes)
+        },
+        Item::Trailer(_totals) => Ok(Step::Passes),
+        Item::Audio(frame) => {
+            discard(Item::Audio(frame));
+            Ok(Step::Passes)
+        }
+        Item::Video(frame) => {
+            discard(Item::Video(frame));
+            Ok(Step::Passes)
+        }
+        Item::End | Item::Broken => unreachable!(),
+    }
+}
+
+impl<D: Decoder + Drop> Machine for Dec<D> {
+    ghost use Rattle.ff_coding.specs.Kinds.{dec_view, dec_laws};
+
+    ghost view = { dec_view D.head D.made };
+
+    fn inputs(&self) -> usize {
+        1
+    }
+
+    fn outputs(&self) -> usize {
+        self.spread.count()
+    }
+
+    fn source(&self) -> Option<u32> {
+        None
+    }
+
+    fn fault(&self) -> Option<Fault> {
+        self.spread.fault()
+    }
+
+    fn allow(&mut self, ticket: Ticket) -> Option<Ticket> {
+        Some(ticket)
+    }
+
+    fn feed(&mut self, _port: usize, item: Item) -> Result<(), Refused> {
+        if self.spread.is_closed() {
+            discard(item);
+            return Ok(());
+        }
+        if self.spread.reserve().is_err() {
+            return Err(Refused { item });
+        }
+        match step(self.alloc, &self.decoder, item, self.spread.is_shared()) {
+            Ok(step) => self.spread.follow(self.alloc, step),
+            Err(refused) => Err(refused),
+        }
+    }
+
+    fn pull(&mut self, port: usize) -> Result<Option<Item>, AllocError> {
+        Ok(self.spread.take(port))
+    }
+
+    fn stop(&mut self, port: usize) {
+        self.spread.stop(port);
+    }
+
+    fn spent(&self, _port: usize) -> bool {
+        self.spread.is_spent()
+    }
+
+    fn next_event(&mut self) -> Option<Event> {
+        None
+    }
+
+    ghost laws = { dec_laws D.head D.made };
+}

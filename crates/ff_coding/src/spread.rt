@@ -1,0 +1,171 @@
+// A machine of one input and some outputs, which gives what it makes of the input on each.
+ghost use Rattle.std.specs.Prelude.{◌≡◌, ◌<◌, ◌≤◌, ◌⊎◌, ◌↔◌, ◌∷◌, [], ℕ, true, false, None, Some, IsTrue, OnOk, OnErr, IfOk, IfErr, length};
+ghost use Rattle.ff_frame.specs.declared.item.Item.{Item};
+ghost use Rattle.ff_frame.specs.declared.item.Lane.{Lane};
+ghost use Rattle.ff_frame.specs.Stream.{still_open, LiesBelow};
+ghost use Rattle.ff_frame.specs.Items.{with_item};
+ghost use Rattle.ff_frame.specs.Ports.{stream_at};
+ghost use Rattle.ff_net.specs.Ways.{AreValid};
+ghost use Rattle.ff_net.specs.Pasts.{Task, Past, IsIn, fed, gave_item, was_asked, was_stopped, due, start};
+ghost use Rattle.ff_coding.specs.Making.{Outcome, fault_by};
+ghost use Rattle.ff_coding.specs.Spreads.{Carries, AllStopped};
+ghost use Rattle.ff_coding.specs.Steps.{FollowsFrom, GivesBack, HasSpare, IsPut};
+ghost use Rattle.ff_coding.specs.Lines.{line_at, HaveRoom};
+
+use crate::outs::{last_wanted, put_on_all, reserve_all};
+use crate::ready::Ready;
+use crate::step::Step;
+use ff_frame::{Item, Refused};
+use ff_net::Fault;
+use std::alloc::{AllocError, Global};
+
+/// The outputs, and what is known of the input.
+#[derive(Drop)]
+pub struct Spread {
+    outs: Vec<Ready>,
+    /// Whether nothing more is made: the input has closed, or broke off here.
+    closed: bool,
+    /// Where the input is damaged, if it broke off here.
+    damage: Option<u64>,
+}
+
+impl Spread {
+    ghost use Rattle.ff_coding.specs.Standing.{SpreadStands, IsSameSpread, GoesOnSpread, IsSpreadTask};
+
+    /// Nothing was made yet, for so many outputs.
+    pub fn new(alloc: Global, outputs: usize) -> Result<Spread, AllocError>
+        requires { 1 ≤ outputs }
+        ensures count { IfOk result (λ m. length m.outs.items ≡ outputs) }
+        ensures sound { IfOk result (λ m. m.damage ≡ None) }
+        ensures stands { IfOk result (λ m. (lane_in lane_out : Lane) (f : Item → Outcome) (task : Task) → Carries lane_in lane_out f → IsSpreadTask outputs f task → SpreadStands lane_in lane_out f m (start task)) }
+    {
+        let mut outs = Vec::new(alloc);
+        for _q in 0..outputs {
+            outs.push(Ready::new(alloc))?;
+        }
+        Ok(Spread {
+            outs,
+            closed: false,
+            damage: None,
+        })
+    }
+
+    /// How many outputs there are.
+    pub fn count(&self) -> usize
+        ensures { result ≡ length self.now.outs.items }
+    {
+        self.outs.len()
+    }
+
+    /// That the input is damaged, where it broke off here.
+    pub fn fault(&self) -> Option<Fault>
+        ensures { result ≡ fault_by self.now.damage }
+    {
+        match self.damage {
+            None => None,
+            Some(offset) => Some(Fault::Damaged { offset }),
+        }
+    }
+
+    /// Whether nothing more is made.
+    pub fn is_closed(&self) -> bool
+        ensures { result ≡ self.now.closed }
+    {
+        self.closed
+    }
+
+    /// Makes room for an item more.
+    pub fn reserve(&mut self) -> Result<(), AllocError>
+        ensures same { IsSameSpread self.old self.new }
+        ensures room { OnOk result (HaveRoom self.new.outs.items) }
+    {
+        reserve_all(&mut self.outs)
+    }
+
+    /// Whether an item that is made has to be copied: there is more than one output.
+    pub fn is_shared(&self) -> bool
+        ensures { 2 ≤ length self.now.outs.items → result ≡ true }
+    {
+        self.outs.len() > 1
+    }
+
+    // Puts an item on each output that is wanted.
+    fn put(&mut self, alloc: Global, made: Item, damage: Option<u64>) -> Result<(), AllocError>
+        requires { HaveRoom self.old.outs.items }
+        ensures accepted { OnOk result ((lane_in lane_out : Lane) (f : Item → Outcome) (past : Past) (port : ℕ) (x : Item) → SpreadStands lane_in lane_out f self.old past → self.old.closed ≡ false → port < 1 → (stream_at past.got port).mark ≡ still_open
+            → AreValid (lane_in ∷ []) (fed past port x).got → IsPut f x made damage → SpreadStands lane_in lane_out f self.new (fed past port x)) }
+        ensures goes_on { GoesOnSpread self.old self.new }
+        ensures same { OnErr result (IsSameSpread self.old self.new) }
+        ensures shared { OnErr result (2 ≤ length self.old.outs.items) }
+    {
+        let closes = made.closes();
+        put_on_all(alloc, &mut self.outs, made)?;
+        self.closed = self.closed | closes;
+        if self.damage.is_none() {
+            self.damage = damage;
+        }
+        Ok(())
+    }
+
+    /// Does this step. Without memory for it the item comes back that was fed.
+    pub fn follow(&mut self, alloc: Global, step: Step) -> Result<(), Refused>
+        requires room { HaveRoom self.old.outs.items }
+        requires spare { 2 ≤ length self.old.outs.items → HasSpare step }
+        ensures accepted { OnOk result ((lane_in lane_out : Lane) (f : Item → Outcome) (past : Past) (port : ℕ) (x : Item) → SpreadStands lane_in lane_out f self.old past → self.old.closed ≡ false → port < 1 → (stream_at past.got port).mark ≡ still_open
+            → AreValid (lane_in ∷ []) (fed past port x).got → FollowsFrom f x step → SpreadStands lane_in lane_out f self.new (fed past port x)) }
+        ensures back { (x : Item) → (2 ≤ length self.old.outs.items → GivesBack x step) → IfErr result (λ refused. refused.item ≡ x) }
+        ensures goes_on { GoesOnSpread self.old self.new }
+        ensures same { OnErr result (IsSameSpread self.old self.new) }
+    {
+        match step {
+            Step::Passes => Ok(()),
+            Step::Puts {
+                made,
+                damage,
+                spare,
+            } => match self.put(alloc, made, damage) {
+                Ok(()) => Ok(()),
+                Err(_) => match spare {
+                    Some(item) => Err(Refused { item }),
+                    None => unreachable!(),
+                },
+            },
+        }
+    }
+
+    /// The next item that is ready on an output.
+    pub fn take(&mut self, port: usize) -> Option<Item>
+        requires { port < length self.old.outs.items }
+        ensures gives { (lane_in lane_out : Lane) (f : Item → Outcome) (past : Past) (x : Item) → result ≡ Some x → SpreadStands lane_in lane_out f self.old past → (IsIn port past.stopped → ⊥)
+            → SpreadStands lane_in lane_out f self.new (gave_item past port x) × ((stream_at past.gave port).mark ≡ still_open) × LiesBelow (with_item (stream_at past.gave port) x) (stream_at (due past) port) }
+        ensures waits { (lane_in lane_out : Lane) (f : Item → Outcome) (past : Past) → result ≡ None → SpreadStands lane_in lane_out f self.old past → SpreadStands lane_in lane_out f self.new (was_asked past port) }
+        ensures none_due { (lane_in lane_out : Lane) (f : Item → Outcome) (past : Past) → result ≡ None → SpreadStands lane_in lane_out f self.old past → (IsIn port past.stopped → ⊥) → stream_at past.gave port ≡ stream_at (due past) port }
+        ensures count { length self.new.outs.items ≡ length self.old.outs.items }
+        ensures damage { self.new.damage ≡ self.old.damage }
+    {
+        let out = &mut self.outs[port];
+        out.queue.pop_front()
+    }
+
+    /// Nothing more is wanted on an output: what is ready there is let go.
+    pub fn stop(&mut self, port: usize)
+        requires { port < length self.old.outs.items }
+        ensures stopped { (lane_in lane_out : Lane) (f : Item → Outcome) (past : Past) → SpreadStands lane_in lane_out f self.old past → SpreadStands lane_in lane_out f self.new (was_stopped past port) }
+        ensures count { length self.new.outs.items ≡ length self.old.outs.items }
+        ensures damage { self.new.damage ≡ self.old.damage }
+    {
+        let out = &mut self.outs[port];
+        out.stopped = true;
+        out.queue.clear();
+    }
+
+    /// Whether nothing more of the input can matter.
+    pub fn is_spent(&self) -> bool
+        ensures { IsTrue result ↔ ((self.now.closed ≡ true) ⊎ AllStopped (length self.now.outs.items) (line_at self.now.outs.items)) }
+    {
+        if self.closed {
+            return true;
+        }
+        last_wanted(&self.outs).is_none()
+    }
+}

@@ -1,0 +1,45 @@
+// What a machine does on its outputs for an item that it is fed.
+ghost use Rattle.std.specs.Prelude.{◌≡◌, ℕ};
+ghost use Rattle.ff_frame.specs.declared.item.Item.{Item};
+ghost use Rattle.ff_frame.specs.Items.{Closes};
+ghost use Rattle.ff_coding.specs.Making.{Outcome};
+ghost use Rattle.ff_coding.specs.Steps.{FollowsFrom, GivesBack};
+
+use ff_frame::Item;
+
+/// What is to be done on the outputs.
+#[derive(Drop)]
+pub enum Step {
+    /// An item is put on each, the last one where the input is damaged at an offset.
+    Puts {
+        made: Item,
+        damage: Option<u64>,
+        /// The item that was fed, where it may have to be given back.
+        spare: Option<Item>,
+    },
+    /// Nothing.
+    Passes,
+}
+
+pub(crate) fn discard(_item: Item) {}
+
+/// An input that closes closes each output.
+pub fn closing(item: Item) -> Step
+    requires { Closes item }
+    ensures follows { (f : Item → Outcome) → FollowsFrom f item result }
+    ensures back { GivesBack item result }
+{
+    match item {
+        Item::End => Step::Puts {
+            made: Item::End,
+            damage: None,
+            spare: Some(Item::End),
+        },
+        Item::Broken => Step::Puts {
+            made: Item::Broken,
+            damage: None,
+            spare: Some(Item::Broken),
+        },
+        Item::Audio(_) | Item::Video(_) | Item::Packet(_) | Item::Trailer(_) => unreachable!(),
+    }
+}
