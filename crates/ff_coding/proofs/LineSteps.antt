@@ -1,6 +1,6 @@
 -- One output changes, and the others are as they were.
-use Rattle.std.proofs.Common.{◌≡◌, ◌≢◌, ℕ, zero, suc, ◌+◌, ◌<◌, ◌≤◌, List, [], ◌∷◌, ◌++◌, ◌⊎◌, length, slice_index_or, slice_set, All, Option, Some, true, Bool, refl, ap, sym, ◌∙◌, subst, arith, inl, inr, get_or-set_same, get_or-set_other, false}
-use Rattle.std.proofs.lemmas.List.{length-set, get_or_default}
+use Rattle.std.proofs.Common.{◌≡◌, ◌≢◌, ℕ, zero, suc, ◌+◌, ◌<◌, ◌≤◌, List, [], ◌∷◌, ◌++◌, ◌⊎◌, length, slice_index_or, slice_set, Some, true, Bool, refl, ap, sym, ◌∙◌, subst, arith, inl, inr, get_or-set_same, get_or-set_other, false}
+use Rattle.std.proofs.lemmas.List.{length-set}
 use Rattle.ff_frame.specs.declared.item.Item.{Item}
 use Rattle.ff_net.proofs.Flows.{same_or_not}
 use Rattle.ff_coding.specs.declared.ready.Ready.{Ready}

@@ -1,25 +1,28 @@
 -- What a machine that spreads what it makes does at each call.
-use Rattle.std.proofs.Common.{All, ◌≡◌, ◌≢◌, ◌↔◌, ℕ, zero, suc, ◌<◌, ◌≤◌, ◌⊎◌, inl, inr, Bool, true, false, ◌||◌, List, [], ◌∷◌, ◌++◌, Option, None, Some, refl, ap, sym, ◌∙◌, subst, arith}
+use Rattle.std.proofs.Common.{All, ◌≡◌, ◌≢◌, ◌↔◌, ℕ, zero, suc, ◌<◌, ◌≤◌, ◌⊎◌, inl, inr, Bool, true, false, ◌||◌, List, [], ◌∷◌, ◌++◌, Option, None, Some, length, Ok, Err, refl, ap, sym, ◌∙◌, subst, arith}
+use Rattle.std.specs.Result.{OnOk}
+use Rattle.std.specs.declared.result.Result.{Result}
 use Rattle.std.proofs.lemmas.List.{append-nil}
 use Rattle.ff_frame.specs.declared.item.Item.{Item}
 use Rattle.ff_frame.specs.declared.item.Item.TheVariants.{Audio, Video, Packet, Trailer, End, Broken}
 use Rattle.ff_frame.specs.declared.item.Lane.{Lane}
 use Rattle.ff_frame.specs.Stream.{Mark, still_open, whole, broken, LiesBelow}
 use Rattle.ff_frame.specs.Items.{Closes, with_item, Leads}
-use Rattle.ff_frame.specs.Order.{same_stream, below_self, below_trans, leads_below, leads_push, with_item_above, with_item_open, with_item_closed, nothing_below}
+use Rattle.ff_frame.specs.Order.{same_stream, below_trans, leads_below, leads_push, with_item_above, with_item_open, with_item_closed, nothing_below}
 use Rattle.ff_frame.specs.Ports.{nothing, stream_at, IsClosed}
-use Rattle.ff_frame.specs.Lanes.{FitsLane, FitsFrames, FitsPackets, IsItemFor, IsValid}
+use Rattle.ff_frame.specs.Lanes.{FitsLane, IsItemFor, IsValid}
 use Rattle.ff_frame.specs.Times.{HasTime}
 use Rattle.ff_frame.specs.LaneLaws.{nothing_valid}
-use Rattle.ff_coders.specs.Made.{IsMadeOf}
 use Rattle.ff_net.specs.Ways.{Flow, AreValid}
 use Rattle.ff_net.specs.Pasts.{Task, Past, IsIn, due, fed, gave_item, was_asked, was_stopped, start}
 use Rattle.ff_net.proofs.Flows.{same_or_not, stream_at-with_item_same, stream_at-with_item_other}
 use Rattle.ff_coding.specs.Making.{Outcome, gives, passes, breaks, made_items, damage_in, mark_by, made_stream}
-use Rattle.ff_coding.specs.MakingLaws.{damage_after, items_after, damage_kept, items_kept, some_or_none, made_below, made_closed}
+use Rattle.ff_coding.specs.MakingLaws.{damage_after, items_after, damage_kept, items_kept, some_or_none}
 use Rattle.ff_coding.specs.Spreads.{IsOutcomeOf, Carries, Line, spread, Spreads}
 use Rattle.ff_coding.specs.SpreadLaws.{at_replicate, spreads_due}
-use Rattle.ff_coding.specs.Standing.{IsSpreadTask, first_damage}
+use Rattle.ff_coding.specs.declared.spread.Spread.{Spread}
+use Rattle.ff_coding.specs.Lines.{line_at}
+use Rattle.ff_coding.specs.Standing.{IsSpreadTask, IsSameSpread, SpreadStands, first_damage}
 use Rattle.ff_coding.specs.Steps.{IsPut, IsPutFor}
 
 pub only_port : (p : ℕ) → p < 1 → p ≡ 0
@@ -379,12 +382,12 @@ module _ (lane_in lane_out : Lane) (f : Item → Outcome) (n : ℕ) (lines : ℕ
     stops = λ q less. elim (same_or_not q p) as (λ _. ((rows q).stopped ≡ true) ↔ ((p ≡ q) ⊎ IsIn q past.stopped)) [
       | inl e ↦ (λ t. inl (sym e), λ i. ap (λ (j : ℕ). (rows j).stopped) e ∙ here)
       | inr m ↦ (
-          λ t. inr ((s.stops q (subst (λ (j : ℕ). q < j) c less)).0 (sym (ap (λ (l : Line). l.stopped) (other q m)) ∙ t)),
-          λ i. elim i as (λ _. (rows q).stopped ≡ true) [
-            | inl e ↦ absurd (m (sym e))
-            | inr j ↦ ap (λ (l : Line). l.stopped) (other q m) ∙ (s.stops q (subst (λ (h : ℕ). q < h) c less)).1 j
-          ],
-        )
+        λ t. inr ((s.stops q (subst (λ (j : ℕ). q < j) c less)).0 (sym (ap (λ (l : Line). l.stopped) (other q m)) ∙ t)),
+        λ i. elim i as (λ _. (rows q).stopped ≡ true) [
+          | inl e ↦ absurd (m (sym e))
+          | inr j ↦ ap (λ (l : Line). l.stopped) (other q m) ∙ (s.stops q (subst (λ (h : ℕ). q < h) c less)).1 j
+        ],
+      )
     ];
   }
 
@@ -407,3 +410,17 @@ new_at lane_in lane_out f n k rows task le c t e fresh = record {
   beyond = λ q l. refl;
   stops = λ q lt. (λ b. absurd (not_both (rows q).stopped b (ap (λ (l : Line). l.stopped) (fresh q (subst (λ (j : ℕ). q < j) e lt)))), λ i. absurd i);
 }
+
+-- ---- whole machines
+
+pub spread_same : (lane_in lane_out : Lane) (f : Item → Outcome) (m k : Spread) (past : Past) → IsSameSpread m k → SpreadStands lane_in lane_out f m past → SpreadStands lane_in lane_out f k past
+spread_same lane_in lane_out f m k past same s =
+    let n : ℕ = length k.outs.items in
+    let lines : ℕ → Line = line_at k.outs.items in
+    subst (λ (b : Bool). Spreads lane_in lane_out f n lines b k.damage past) (sym same.closed)
+    (subst (λ (d : Option ℕ). Spreads lane_in lane_out f n lines m.closed d past) (sym same.damage)
+    (same_stands lane_in lane_out f (length m.outs.items) (line_at m.outs.items) m.closed m.damage past s n lines same.outs.count same.outs.lines))
+
+pub on_ok : {A E : Type 0} (r : Result A E) (P Q : Type 0) → (P → Q) → OnOk r P → OnOk r Q
+on_ok (Ok a) P Q f p = f p
+on_ok (Err e) P Q f p = tt

@@ -1,15 +1,17 @@
 -- What decoding makes of what a lane of packets carries.
-use Rattle.std.specs.Prelude.{◌≡◌, Option, None, Some, IfSome, refl}
+use Rattle.std.specs.Prelude.{Option, None, Some, IfSome, refl}
 use Rattle.ff_values.specs.declared.packet.Pkt.{Pkt}
 use Rattle.ff_values.specs.declared.head.StreamHead.{StreamHead}
 use Rattle.ff_values.specs.declared.head.StreamHead.TheVariants.{Audio as AudioHead, Video as VideoHead}
 use Rattle.ff_frame.specs.declared.item.Item.{Item}
 use Rattle.ff_frame.specs.declared.item.Item.TheVariants.{Audio, Video, Packet, Trailer, End, Broken}
 use Rattle.ff_frame.specs.declared.item.Lane.TheVariants.{Frames, Packets}
+use Rattle.ff_frame.specs.Items.{Closes}
 use Rattle.ff_frame.specs.Lanes.{FitsPackets}
 use Rattle.ff_coders.specs.Made.{IsMadeOf, IsDecoded}
 use Rattle.ff_coding.specs.Decoding.{frame_or_damage, decoded_item}
 use Rattle.ff_coding.specs.Spreads.{IsOutcomeOf, Carries}
+use Rattle.ff_coding.specs.Taken.{IsTakenPacket}
 
 module _ (head : StreamHead) (takes : Pkt → Type 0) (made : Pkt → Option Item) (law : (p : Pkt) → FitsPackets head (Packet p) → IsDecoded head p (takes p) (made p)) where
   by_frame : (p : Pkt) (x : Option Item) → IfSome x (IsMadeOf (Frames head) (Packet p)) → IsOutcomeOf (Frames head) (Packet p) (frame_or_damage p x)
@@ -35,3 +37,12 @@ module _ (head : StreamHead) (takes : Pkt → Type 0) (made : Pkt → Option Ite
   -- decoding takes a lane of packets to the lane of their frames
   pub decoding_carries : Carries (Packets head) (Frames head) (decoded_item made)
   decoding_carries = record { base = refl; apart = λ x y a. a; made = outcome }
+
+  -- what the lane carries is taken
+  pub taken_packet : (x : Item) → ((Closes x → ⊥) → FitsPackets head x) → IsTakenPacket takes x
+  taken_packet (Audio f) fits = tt
+  taken_packet (Video f) fits = tt
+  taken_packet (Packet p) fits = (law p (fits (λ c. c))).taken
+  taken_packet (Trailer t) fits = tt
+  taken_packet End fits = tt
+  taken_packet Broken fits = tt

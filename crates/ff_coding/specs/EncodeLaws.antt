@@ -6,12 +6,14 @@ use Rattle.ff_values.specs.declared.head.StreamHead.TheVariants.{Audio as AudioH
 use Rattle.ff_frame.specs.declared.item.Item.{Item}
 use Rattle.ff_frame.specs.declared.item.Item.TheVariants.{Audio, Video, Packet, Trailer, End, Broken}
 use Rattle.ff_frame.specs.declared.item.Lane.TheVariants.{Frames, Packets}
+use Rattle.ff_frame.specs.Items.{Closes}
 use Rattle.ff_frame.specs.Lanes.{FitsFrames}
 use Rattle.ff_frame.specs.Times.{HasTime}
 use Rattle.ff_coders.specs.Made.{HasSameTimes, IsMadeOf, IsEncoded}
 use Rattle.ff_coding.specs.Encoding.{packet_or_nothing, encoded_item}
 use Rattle.ff_coding.specs.Making.{or_damage, damage_in}
 use Rattle.ff_coding.specs.Spreads.{IsOutcomeOf, Carries}
+use Rattle.ff_coding.specs.Taken.{IsTakenFrame}
 
 -- a frame has a time
 frame_timed : (head : StreamHead) (x : Item) → FitsFrames head x → HasTime x
@@ -38,6 +40,15 @@ module _ (head coded : StreamHead) (takes : Item → Type 0) (made : Item → Op
     apart = times.apart;
     made = λ x t. by_packet x (made x) (frame_timed head x t) (law x t).made;
   }
+
+  -- what the lane carries is taken
+  pub taken_frame : (x : Item) → ((Closes x → ⊥) → FitsFrames head x) → IsTakenFrame takes x
+  taken_frame (Audio f) fits = (law (Audio f) (fits (λ c. c))).taken
+  taken_frame (Video f) fits = (law (Video f) (fits (λ c. c))).taken
+  taken_frame (Packet p) fits = (law (Packet p) (fits (λ c. c))).taken
+  taken_frame (Trailer t) fits = (law (Trailer t) (fits (λ c. c))).taken
+  taken_frame End fits = tt
+  taken_frame Broken fits = tt
 
 -- encoding breaks nothing off
 pub no_damage : (made : Item → Option Pkt) (xs : List Item) → damage_in (encoded_item made) xs ≡ None

@@ -1,5 +1,5 @@
 -- Encoding, as what a part of a run means: the packet of each frame.
-use Rattle.std.specs.Prelude.{◌≡◌, [], ◌∷◌, List, Option, None, Some, false}
+use Rattle.std.specs.Prelude.{[], ◌∷◌, List, Option, None, Some, false}
 use Rattle.ff_values.specs.declared.packet.Pkt.{Pkt}
 use Rattle.ff_frame.specs.declared.item.Item.{Item}
 use Rattle.ff_frame.specs.declared.item.Item.TheVariants.{Packet}

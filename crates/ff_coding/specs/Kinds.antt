@@ -1,6 +1,6 @@
 -- The decoder and the encoder as the laws of machines see them, and these laws.
-use Rattle.std.specs.Prelude.{◌≡◌, ℕ, zero, suc, true, false, List, [], ◌∷◌, replicate, Option, None, Some, refl}
-use Rattle.std.proofs.Common.{arith, ap, sym, ◌∙◌}
+use Rattle.std.specs.Prelude.{◌≡◌, ℕ, true, false, List, [], ◌∷◌, replicate, Option, None, Some, refl}
+use Rattle.std.proofs.Common.{arith, ap, ◌∙◌}
 use Rattle.ff_values.specs.declared.packet.Pkt.{Pkt}
 use Rattle.ff_values.specs.declared.head.StreamHead.{StreamHead}
 use Rattle.ff_frame.specs.declared.item.Item.{Item}
@@ -14,7 +14,7 @@ use Rattle.ff_net.specs.Views.{View, IsSameShape}
 use Rattle.ff_coding.specs.declared.dec.Dec.{Dec}
 use Rattle.ff_coding.specs.declared.enc.Enc.{Enc}
 use Rattle.ff_coding.specs.declared.spread.Spread.{Spread}
-use Rattle.ff_coding.specs.Coders.{dec_in_lanes, dec_out_lanes, dec_spent, dec_stands, enc_in_lanes, enc_out_lanes, enc_spent, enc_stands}
+use Rattle.ff_coding.specs.Coders.{dec_stands, enc_stands}
 use Rattle.ff_coding.specs.Decoding.{decoded_item}
 use Rattle.ff_coding.specs.Encoding.{encoded_item}
 use Rattle.ff_coding.specs.Lines.{line_at}

@@ -3,6 +3,7 @@ pub mod DecodeLaws
 pub mod Decoding
 pub mod EncodeLaws
 pub mod Encoding
+pub mod Feeding
 pub mod Kinds
 pub mod Lines
 pub mod Making

@@ -2,10 +2,7 @@
 use Rattle.std.specs.Prelude.{◌≡◌, ℕ, zero, suc, ◌<◌, true, List, [], ◌∷◌, length, All, Option, None}
 use Rattle.std.specs.VecDeque.{deque_len, deque_capacity}
 use Rattle.ff_frame.specs.declared.item.Item.{Item}
-use Rattle.ff_frame.specs.declared.item.Lane.{Lane}
-use Rattle.ff_net.specs.Pasts.{Past}
 use Rattle.ff_coding.specs.declared.ready.Ready.{Ready}
-use Rattle.ff_coding.specs.Making.{Outcome}
 use Rattle.ff_coding.specs.Spreads.{Line}
 
 abbrev pub line_of : Ready → Line

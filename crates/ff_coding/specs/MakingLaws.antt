@@ -1,22 +1,19 @@
 -- What is made of a stream that goes on, breaks off or is valid.
-use Rattle.std.specs.Prelude.{◌≡◌, ℕ, zero, suc, ◌^◌, ◌<◌, ◌≤◌, ◌⊎◌, ℤ, List, [], ◌∷◌, ◌++◌, map, length, All, Option, None, Some, refl}
+use Rattle.std.specs.Prelude.{◌≡◌, ℕ, zero, suc, ◌^◌, ◌≤◌, ◌⊎◌, ℤ, List, [], ◌∷◌, ◌++◌, length, All, Option, None, Some, refl}
 use Rattle.std.proofs.Common.{sym, subst, ap, inl, inr, ◌∙◌, arith}
-use Rattle.std.proofs.lemmas.List.{append-nil}
-use mathlib.Core.List.{IsPrefix}
 use Rattle.ff_time.specs.Fraction.{Fraction}
 use Rattle.ff_values.specs.declared.head.StreamHead.{StreamHead}
 use Rattle.ff_values.specs.declared.head.StreamHead.TheVariants.{Audio as AudioHead, Video as VideoHead}
 use Rattle.ff_frame.specs.declared.item.Item.{Item}
 use Rattle.ff_frame.specs.declared.item.Lane.{Lane}
-use Rattle.ff_frame.specs.Stream.{Mark, still_open, whole, broken, LiesBelow, opened, opened_mark}
-use Rattle.ff_frame.specs.Order.{below_self, prefix_self, same_stream}
+use Rattle.ff_frame.specs.Stream.{Mark, still_open, LiesBelow, opened, opened_mark}
+use Rattle.ff_frame.specs.Order.{prefix_self, same_stream}
 use Rattle.ff_frame.specs.Ports.{IsClosed, IsUnbroken}
-use Rattle.ff_frame.specs.Lanes.{base_of, head_of, FitsLane, StartsAfter, Follows, InOrder, IsItemFor, EndsInTime, IsValid}
+use Rattle.ff_frame.specs.Lanes.{base_of, head_of, StartsAfter, Follows, InOrder, IsItemFor, EndsInTime, IsValid}
 use Rattle.ff_frame.specs.Times.{HasTime, start_of, end_of, ticks, IsInTime}
 use Rattle.ff_coders.specs.Made.{IsMadeOf}
-use Rattle.ff_net.specs.declared.fault.Fault.{Fault}
 use Rattle.ff_net.specs.Ways.{Flow}
-use Rattle.ff_coding.specs.Making.{Outcome, gives, passes, breaks, and_items, made_items, or_damage, damage_in, mark_by, made_stream, fault_by}
+use Rattle.ff_coding.specs.Making.{Outcome, gives, passes, breaks, and_items, made_items, or_damage, damage_in, mark_by, made_stream}
 use Rattle.ff_coding.specs.Spreads.{IsOutcomeOf, Carries}
 
 -- ---- one stream after another

@@ -1,5 +1,5 @@
 -- The laws of a machine that gives what it makes of its input on each of its outputs, whatever it makes.
-use Rattle.std.specs.Prelude.{◌≡◌, ◌↔◌, ℕ, zero, suc, ◌<◌, ◌≤◌, ◌⊎◌, Bool, true, false, List, [], ◌∷◌, map, length, replicate, Option, None, Some, refl}
+use Rattle.std.specs.Prelude.{◌≡◌, ℕ, zero, suc, ◌<◌, ◌≤◌, ◌⊎◌, Bool, true, false, List, [], ◌∷◌, map, length, replicate, Option, None, Some, refl}
 use Rattle.std.proofs.Common.{sym, subst, ap, inl, inr, ◌∙◌, arith}
 use Rattle.std.proofs.lemmas.List.{length-replicate}
 use Rattle.ff_frame.specs.declared.item.Item.{Item}
@@ -16,7 +16,7 @@ use Rattle.ff_net.proofs.Flows.{due_meant}
 use Rattle.ff_net.proofs.Matters.{may_spend}
 use Rattle.ff_coding.specs.Making.{Outcome, damage_in, made_stream, fault_by}
 use Rattle.ff_coding.specs.MakingLaws.{made_below, made_calm, made_closed, made_unbroken, made_valid, damage_stays}
-use Rattle.ff_coding.specs.Spreads.{spread, damage_cause, Line, AllStopped, is_spent_spread, Spreads}
+use Rattle.ff_coding.specs.Spreads.{spread, Line, AllStopped, is_spent_spread, Spreads}
 
 -- ---- one stream for each port
 
@@ -173,14 +173,17 @@ module _ (lane_in lane_out : Lane) (f : Item → Outcome) (n : ℕ) (lines : ℕ
   not_both b t e = let clash : true ≡ false = sym t ∙ e in cc
 
   pub spreads_done_spent : (p : ℕ) → p < 1 → OutputsClose (length (replicate n lane_out)) past → is_spent_spread n lines closed p
-  spreads_done_spent p lt c = (lt, elim (some_goes_on n lines) as (λ _. (closed ≡ true) ⊎ AllStopped n lines) [
-    | inl all ↦ inr all
-    | inr b ↦ (
-        let there : b.0 < n = b.1 in
-        let on : IsIn b.0 past.stopped → ⊥ = λ i. not_both (lines b.0).stopped ((s.stops b.0 there).1 i) b.2 in
-        inl (s.closed_is.1 (subst (λ (x : Flow). IsClosed x) (meant_at b.0 there) (c b.0 (subst (λ (k : ℕ). b.0 < k) (sym out_count) there) on)))
-        )
-  ])
+  spreads_done_spent p lt c = (
+    lt,
+    elim (some_goes_on n lines) as (λ _. (closed ≡ true) ⊎ AllStopped n lines) [
+      | inl all ↦ inr all
+      | inr b ↦ (
+          let there : b.0 < n = b.1 in
+          let on : IsIn b.0 past.stopped → ⊥ = λ i. not_both (lines b.0).stopped ((s.stops b.0 there).1 i) b.2 in
+          inl (s.closed_is.1 (subst (λ (x : Flow). IsClosed x) (meant_at b.0 there) (c b.0 (subst (λ (k : ℕ). b.0 < k) (sym out_count) there) on)))
+          )
+    ],
+  )
 
   settles_at : Settles (lane_in ∷ []) (length (replicate n lane_out)) (spread n f)
   settles_at ss v c q lt =

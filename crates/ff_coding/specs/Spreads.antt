@@ -1,9 +1,9 @@
 -- A machine that makes something of each item of one input, and gives it on each of its outputs.
-use Rattle.std.specs.Prelude.{◌≡◌, ◌↔◌, ℕ, zero, suc, ◌<◌, ◌≤◌, ◌⊎◌, Bool, true, false, List, [], ◌∷◌, replicate, Option, None}
+use Rattle.std.specs.Prelude.{◌≡◌, ◌↔◌, ℕ, ◌<◌, ◌≤◌, ◌⊎◌, Bool, true, false, List, replicate, Option}
 use Rattle.ff_frame.specs.declared.item.Item.{Item}
 use Rattle.ff_frame.specs.declared.item.Lane.{Lane}
 use Rattle.ff_frame.specs.Stream.{LiesBelow}
-use Rattle.ff_frame.specs.Items.{Closes, Leads}
+use Rattle.ff_frame.specs.Items.{Leads}
 use Rattle.ff_frame.specs.Lanes.{base_of, head_of, FitsLane, StartsAfter, IsValid}
 use Rattle.ff_frame.specs.Ports.{nothing, stream_at, IsClosed}
 use Rattle.ff_frame.specs.Times.{HasTime}

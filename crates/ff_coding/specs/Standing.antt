@@ -2,7 +2,6 @@
 use Rattle.std.specs.Prelude.{◌≡◌, ℕ, length, false, List, Option, None, Some}
 use Rattle.ff_frame.specs.declared.item.Item.{Item}
 use Rattle.ff_frame.specs.declared.item.Lane.{Lane}
-use Rattle.ff_net.specs.declared.fault.Fault.{Fault}
 use Rattle.ff_net.specs.Ways.{Flow}
 use Rattle.ff_net.specs.Pasts.{Task, Past, no_events}
 use Rattle.ff_coding.specs.declared.spread.Spread.{Spread}

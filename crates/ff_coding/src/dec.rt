@@ -96,12 +96,7 @@ fn copy_if(alloc: Global, packet: &Pkt, shared: bool) -> Result<Option<Item>, Al
 }
 
 // What is to be done for an item.
-fn step<D: Decoder>(
-    alloc: Global,
-    decoder: &D,
-    item: Item,
-    shared: bool,
-) -> Result<Step, Refused>
+fn step<D: Decoder>(alloc: Global, decoder: &D, item: Item, shared: bool) -> Result<Step, Refused>
     ensures follows { IfOk result (λ step. IsTakenPacket (D.takes decoder.now) item → FollowsFrom (decoded_item (D.made decoder.now)) item step) }
     ensures spare { IfOk result (λ step. shared ≡ true → GivesBack item step) }
     ensures back { IfErr result (λ refused. refused.item ≡ item) }

@@ -84,12 +84,7 @@ fn copy_if(alloc: Global, frame: &Item, shared: bool) -> Result<Option<Item>, Al
 }
 
 // What is to be done for an item.
-fn step<E: Encoder>(
-    alloc: Global,
-    encoder: &E,
-    item: Item,
-    shared: bool,
-) -> Result<Step, Refused>
+fn step<E: Encoder>(alloc: Global, encoder: &E, item: Item, shared: bool) -> Result<Step, Refused>
     ensures follows { IfOk result (λ step. IsTakenFrame (E.takes encoder.now) item → FollowsFrom (encoded_item (E.made encoder.now)) item step) }
     ensures spare { IfOk result (λ step. shared ≡ true → GivesBack item step) }
     ensures back { IfErr result (λ refused. refused.item ≡ item) }

@@ -31,6 +31,7 @@ pub struct Spread {
 
 impl Spread {
     ghost use Rattle.ff_coding.specs.Standing.{SpreadStands, IsSameSpread, GoesOnSpread, IsSpreadTask};
+    ghost use Rattle.ff_coding.specs.Feeding.{IsFedPut, IsFollowed};
 
     /// Nothing was made yet, for so many outputs.
     pub fn new(alloc: Global, outputs: usize) -> Result<Spread, AllocError>
@@ -92,8 +93,7 @@ impl Spread {
     // Puts an item on each output that is wanted.
     fn put(&mut self, alloc: Global, made: Item, damage: Option<u64>) -> Result<(), AllocError>
         requires { HaveRoom self.old.outs.items }
-        ensures accepted { OnOk result ((lane_in lane_out : Lane) (f : Item → Outcome) (past : Past) (port : ℕ) (x : Item) → SpreadStands lane_in lane_out f self.old past → self.old.closed ≡ false → port < 1 → (stream_at past.got port).mark ≡ still_open
-            → AreValid (lane_in ∷ []) (fed past port x).got → IsPut f x made damage → SpreadStands lane_in lane_out f self.new (fed past port x)) }
+        ensures accepted { OnOk result (IsFedPut self.old self.new made damage) }
         ensures goes_on { GoesOnSpread self.old self.new }
         ensures same { OnErr result (IsSameSpread self.old self.new) }
         ensures shared { OnErr result (2 ≤ length self.old.outs.items) }
@@ -111,8 +111,7 @@ impl Spread {
     pub fn follow(&mut self, alloc: Global, step: Step) -> Result<(), Refused>
         requires room { HaveRoom self.old.outs.items }
         requires spare { 2 ≤ length self.old.outs.items → HasSpare step }
-        ensures accepted { OnOk result ((lane_in lane_out : Lane) (f : Item → Outcome) (past : Past) (port : ℕ) (x : Item) → SpreadStands lane_in lane_out f self.old past → self.old.closed ≡ false → port < 1 → (stream_at past.got port).mark ≡ still_open
-            → AreValid (lane_in ∷ []) (fed past port x).got → FollowsFrom f x step → SpreadStands lane_in lane_out f self.new (fed past port x)) }
+        ensures accepted { OnOk result (IsFollowed self.old self.new step) }
         ensures back { (x : Item) → (2 ≤ length self.old.outs.items → GivesBack x step) → IfErr result (λ refused. refused.item ≡ x) }
         ensures goes_on { GoesOnSpread self.old self.new }
         ensures same { OnErr result (IsSameSpread self.old self.new) }

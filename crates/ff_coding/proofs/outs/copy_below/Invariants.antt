@@ -1,4 +1,3 @@
-use Rattle.std.proofs.Common.{ℕ}
 use Rattle.ff_coding.specs.Lines.{HaveRoom, AreSame}
 use Rattle.ff_coding.specs.Puts.{AreNext}
 use Rattle.ff_coding.proofs.outs.copy_below.Given as goal

@@ -1,4 +1,4 @@
-use Rattle.std.proofs.Common.{ℕ, ◌<◌, ◌≤◌, length, arith, Ok, Err}
+use Rattle.std.proofs.Common.{◌<◌, ◌≤◌, length, arith, Ok, Err}
 use Rattle.std.specs.Result.{OnErr}
 use Rattle.std.specs.declared.result.Result.{Result}
 use Rattle.ff_coding.specs.Puts.{IsLast}

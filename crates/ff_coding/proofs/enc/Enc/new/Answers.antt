@@ -1,8 +1,6 @@
-use Rattle.std.proofs.Common.{◌≡◌, List, [], ◌∷◌, Option, None, refl, ap, sym}
-use Rattle.ff_values.specs.declared.packet.Pkt.{Pkt}
-use Rattle.ff_frame.specs.declared.item.Item.{Item}
+use Rattle.std.proofs.Common.{refl, ap, sym}
 use Rattle.ff_frame.specs.declared.item.Lane.TheVariants.{Frames, Packets}
-use Rattle.ff_coding.specs.Making.{damage_in, fault_by}
+use Rattle.ff_coding.specs.Making.{fault_by}
 use Rattle.ff_coding.specs.Encoding.{encoded_item, enc_task}
 use Rattle.ff_coding.specs.EncodeLaws.{encoding_carries, no_damage}
 use Rattle.ff_coding.proofs.enc.Enc.new.Goals as goal
@@ -14,7 +12,7 @@ returns-clause-stands g c =
     let made = g.E.Encoder.made c.args.encoder in (
       c.requires.serves,
       c.in_ok-spread.ensures.stands (Frames head) (Packets coded) (encoded_item made) (enc_task made)
-      (encoding_carries head coded (g.E.Encoder.takes c.args.encoder) made (g.met.E.Encoder.keeps_times c.args.encoder head c.requires.serves)
-      (λ x fits. g.met.E.Encoder.carries c.args.encoder head x c.requires.serves fits))
-      (record { means = refl; cause = λ ss. sym (ap fault_by (no_damage made _)); plain = refl; silent = refl }),
+          (encoding_carries head coded (g.E.Encoder.takes c.args.encoder) made (g.met.E.Encoder.keeps_times c.args.encoder head c.requires.serves)
+          (λ x fits. g.met.E.Encoder.carries c.args.encoder head x c.requires.serves fits))
+          (record { means = refl; cause = λ ss. sym (ap fault_by (no_damage made _)); plain = refl; silent = refl }),
     )

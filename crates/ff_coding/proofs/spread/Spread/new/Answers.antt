@@ -1,4 +1,4 @@
-use Rattle.std.proofs.Common.{◌≡◌, ◌<◌, ℕ, [], ◌∷◌, ◌++◌, List, false, length, length-append, arith, ap, sym, ◌∙◌, subst, inl, inr}
+use Rattle.std.proofs.Common.{◌≡◌, [], ◌∷◌, ◌++◌, List, false, length, length-append, arith, ap, sym, ◌∙◌, subst, inl, inr}
 use Rattle.ff_coding.specs.declared.ready.Ready.{Ready}
 use Rattle.ff_coding.specs.Lines.{line_at}
 use Rattle.ff_coding.specs.Spreads.{Line}

@@ -1,4 +1,4 @@
-use Rattle.std.proofs.Common.{◌≡◌, ◌++◌, ◌∷◌, [], ◌≤◌, ◌<◌, ℕ, true, false, Bool, None, Some, Option, refl, ap, ◌∙◌}
+use Rattle.std.proofs.Common.{◌≡◌, ℕ, false, None, Some, Option, refl}
 use Rattle.std.specs.Option.{is_some}
 use Rattle.ff_coding.specs.Puts.{ArePut}
 use Rattle.ff_coding.specs.Standing.{first_damage}
@@ -10,7 +10,7 @@ none_first None e h = refl
 none_first (Some offset) e h = cc
 
 pub returns-then-is_none-clause-accepted : goal.returns-then-is_none-clause-accepted
-returns-then-is_none-clause-accepted c lane_in lane_out f past port x s e lt o v h =
+returns-then-is_none-clause-accepted c lane_in lane_out f port x e lt h past s o v =
     let m = c.args.self.now in
     let puts : ArePut c.args.made m.outs.items c.put_on_all.new.outs.items = c.in_ok-put_on_all.ensures.puts in
     put_at lane_in lane_out f _ _ m.closed m.damage past s port x c.args.made c.args.damage c.args.damage c.closes-closes.result _ _ e lt o v h c.closes-closes.ensures

@@ -1,4 +1,4 @@
-use Rattle.std.proofs.Common.{ap, ◌∙◌}
+use Rattle.std.proofs.Common.{ap}
 use Rattle.ff_coding.specs.Spreads.{Line}
 use Rattle.ff_coding.proofs.LineSteps.{line_set_same, line_set_other, set_count}
 use Rattle.ff_coding.proofs.SpreadSteps.{stopped_at}
