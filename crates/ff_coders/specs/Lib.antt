@@ -7,3 +7,4 @@ pub mod RawLaws
 pub mod Coders
 pub mod AnyCoders
 pub mod Choices
+pub mod ChoiceLaws

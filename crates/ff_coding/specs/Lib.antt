@@ -1,4 +1,5 @@
 pub mod Coders
+pub mod CodingLaws
 pub mod DecodeLaws
 pub mod Decoding
 pub mod EncodeLaws

@@ -1,6 +1,19 @@
 //! Decoding and encoding as machines of a network, over any codec.
+//!
+//! ```text
+//!                  ┌──► frames            frames ──► Enc ──► packets
+//! packets ──► Dec ─┼──► frames
+//!                  └──► frames
+//! ```
+//!
+//! [`Dec`] gives the frame of each packet on each of its outputs: a frame is decoded once, copied for all outputs that are
+//! still wanted but the last, and moved to that. A packet that has no frame breaks the outputs off, with the fault that the
+//! input is damaged there. [`Enc`] gives the packet of each frame. Which codec it is they know by the traits of ff_coders
+//! alone. `specs/Making` says what is made of a stream item by item, `Decoding` and `Encoding` what the two mean, and
+//! `Spreads` what a machine of one input and some outputs keeps, from which every law of a machine follows once for both.
 #![tactic(auto)]
 
+mod coding;
 mod dec;
 mod enc;
 mod outs;
@@ -8,5 +21,10 @@ mod ready;
 mod spread;
 mod step;
 
+pub use coding::{
+    coding_is_on_each_output, coding_keeps_the_broken_rule, decoding_ends_at_damage,
+    decoding_is_by_packets, decoding_passes_no_limit, encoding_passes_no_limit,
+    plain_packets_are_undamaged,
+};
 pub use dec::Dec;
 pub use enc::Enc;
