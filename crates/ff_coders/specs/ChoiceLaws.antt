@@ -24,22 +24,28 @@ abbrev pub IsTakenFor : StreamHead → Item → Type 0
 IsTakenFor (AudioHead tb rate bits channels codec) x = IsSound x
 IsTakenFor (VideoHead tb format width height sar_num sar_den) x = IsPicture x
 
-pub choice_decoded : (head : StreamHead) (p : Pkt) → CanDecode head → FitsPackets head (Packet p) → IsDecoded head p (IsTakenOf head p) (frame_made head p)
+pub choice_decoded : (head : StreamHead) (p : Pkt) → CanDecode head → FitsPackets head (Packet p)
+    → IsDecoded head p (IsTakenOf head p) (frame_made head p)
 choice_decoded (AudioHead tb rate bits channels codec) p c fits = pcm_decoded (AudioHead tb rate bits channels codec) p c fits
 choice_decoded (VideoHead tb format width height sar_num sar_den) p c fits = raw_decoded (VideoHead tb format width height sar_num sar_den) p c fits
 
-pub choice_encoded : (head coded : StreamHead) (x : Item) → CanEncode head coded → FitsFrames head x → IsEncoded coded x (IsTakenFor coded x) (packet_made coded x)
+pub choice_encoded : (head coded : StreamHead) (x : Item) → CanEncode head coded → FitsFrames head x
+    → IsEncoded coded x (IsTakenFor coded x) (packet_made coded x)
 choice_encoded (AudioHead tb rate bits channels from) (AudioHead tb' rate' bits' channels' codec) x c fits =
-    subst (λ (h : StreamHead). IsEncoded h x (IsTakenFor h x) (packet_made h x)) (sym c.1) (pcm_encoded codec (AudioHead tb rate bits channels from) x c.0 tt fits)
+    subst (λ (h : StreamHead). IsEncoded h x (IsTakenFor h x) (packet_made h x)) (sym c.1)
+    (pcm_encoded codec (AudioHead tb rate bits channels from) x c.0 tt fits)
 choice_encoded (AudioHead tb rate bits channels from) (VideoHead tb' format width height sar_num sar_den) x c fits = absurd c
 choice_encoded (VideoHead tb format width height sar_num sar_den) (AudioHead tb' rate bits channels codec) x c fits = absurd c
 choice_encoded (VideoHead tb format width height sar_num sar_den) (VideoHead tb' format' width' height' sar_num' sar_den') x c fits =
-    subst (λ (h : StreamHead). IsEncoded h x (IsTakenFor h x) (packet_made h x)) (sym c) (raw_encoded (VideoHead tb format width height sar_num sar_den) x tt fits)
+    subst (λ (h : StreamHead). IsEncoded h x (IsTakenFor h x) (packet_made h x)) (sym c)
+    (raw_encoded (VideoHead tb format width height sar_num sar_den) x tt fits)
 
 pub choice_times : (head coded : StreamHead) → CanEncode head coded → HasSameTimes head coded
 choice_times (AudioHead tb rate bits channels from) (AudioHead tb' rate' bits' channels' codec) c =
-    subst (λ (h : StreamHead). HasSameTimes (AudioHead tb rate bits channels from) h) (sym c.1) (pcm_times codec (AudioHead tb rate bits channels from))
+    subst (λ (h : StreamHead). HasSameTimes (AudioHead tb rate bits channels from) h) (sym c.1)
+    (pcm_times codec (AudioHead tb rate bits channels from))
 choice_times (AudioHead tb rate bits channels from) (VideoHead tb' format width height sar_num sar_den) c = absurd c
 choice_times (VideoHead tb format width height sar_num sar_den) (AudioHead tb' rate bits channels codec) c = absurd c
 choice_times (VideoHead tb format width height sar_num sar_den) (VideoHead tb' format' width' height' sar_num' sar_den') c =
-    subst (λ (h : StreamHead). HasSameTimes (VideoHead tb format width height sar_num sar_den) h) (sym c) (raw_times (VideoHead tb format width height sar_num sar_den))
+    subst (λ (h : StreamHead). HasSameTimes (VideoHead tb format width height sar_num sar_den) h) (sym c)
+    (raw_times (VideoHead tb format width height sar_num sar_den))

@@ -52,7 +52,8 @@ pub set_count : (rs : List Ready) (q : ℕ) (r : Ready) → length (slice_set rs
 set_count rs q r = simp length-set
 
 -- an output that is as it was
-pub same_set : (rs : List Ready) (q : ℕ) (old new : Ready) → q < length rs → old ≡ slice_index_or rs q old → line_of new ≡ line_of old → AreSame rs (slice_set rs q new)
+pub same_set : (rs : List Ready) (q : ℕ) (old new : Ready) → q < length rs → old ≡ slice_index_or rs q old → line_of new ≡ line_of old
+    → AreSame rs (slice_set rs q new)
 same_set rs q old new lt is e = record {
   count = set_count rs q new;
   lines = λ k. elim (same_or_not k q) as (λ _. line_at (slice_set rs q new) k ≡ line_at rs k) [
@@ -87,7 +88,8 @@ pub lower_or_same : (k q : ℕ) → k < q + 1 → (k < q) ⊎ (k ≡ q)
 lower_or_same k q lt = elim (same_or_not k q) as (λ _. (k < q) ⊎ (k ≡ q)) [ inl e ↦ inr e | inr n ↦ inl (omega (arith, lt, n)) ]
 
 -- each below it has room, and it has
-pub room_more : (rs : List Ready) (q : ℕ) (new : Ready) → q < length rs → ((k : ℕ) (d : Ready) → k < q → k < length rs → HasRoom (slice_index_or rs k d)) → HasRoom new
+pub room_more : (rs : List Ready) (q : ℕ) (new : Ready) → q < length rs
+    → ((k : ℕ) (d : Ready) → k < q → k < length rs → HasRoom (slice_index_or rs k d)) → HasRoom new
     → (k : ℕ) (d : Ready) → k < q + 1 → k < length (slice_set rs q new) → HasRoom (slice_index_or (slice_set rs q new) k d)
 room_more rs q new lt h r k d low less = elim (lower_or_same k q low) as (λ _. HasRoom (slice_index_or (slice_set rs q new) k d)) [
   | inl l ↦ (let n : k ≢ q = omega (arith, l) in rw (get_or-set_other rs q k new d n) (h k d l (subst (λ (m : ℕ). k < m) (set_count rs q new) less)))
@@ -105,7 +107,8 @@ not_both : (b : Bool) → b ≡ true → b ≡ false → ⊥
 not_both b t e = let clash : true ≡ false = sym t ∙ e in cc
 
 -- it is to be put next there as well
-pub next_more : (made : Item) (rs : List Ready) (q : ℕ) (old new : Ready) → q < length rs → old ≡ slice_index_or rs q old → line_of new ≡ line_of old → AreNext made q rs → (old.stopped ≡ false → new.next ≡ Some made)
+pub next_more : (made : Item) (rs : List Ready) (q : ℕ) (old new : Ready) → q < length rs → old ≡ slice_index_or rs q old
+    → line_of new ≡ line_of old → AreNext made q rs → (old.stopped ≡ false → new.next ≡ Some made)
     → AreNext made (q + 1) (slice_set rs q new)
 next_more made rs q old new lt is e h n k low on = elim (lower_or_same k q low) as (λ _. next_at (slice_set rs q new) k ≡ Some made) [
   | inl l ↦ (let other : k ≢ q = omega (arith, l) in next_set_other rs q k new other ∙ h k l (sym (ap (λ (x : Line). x.stopped) (line_set_other rs q k new other)) ∙ on))
@@ -114,7 +117,8 @@ next_more made rs q old new lt is e h n k low on = elim (lower_or_same k q low) 
 ]
 
 -- below the last that is wanted and there, so everywhere
-pub next_all : (made : Item) (outs rs : List Ready) (q : ℕ) (old new : Ready) → IsLast outs q → AreSame outs rs → old ≡ slice_index_or rs q old → line_of new ≡ line_of old → AreNext made q rs → new.next ≡ Some made
+pub next_all : (made : Item) (outs rs : List Ready) (q : ℕ) (old new : Ready) → IsLast outs q → AreSame outs rs → old ≡ slice_index_or rs q old
+    → line_of new ≡ line_of old → AreNext made q rs → new.next ≡ Some made
     → AreNext made (length outs) (slice_set rs q new)
 next_all made outs rs q old new last same is e h n k less on = elim (same_or_not k q) as (λ _. next_at (slice_set rs q new) k ≡ Some made) [
   | inl s ↦ subst (λ (j : ℕ). next_at (slice_set rs q new) j ≡ Some made) (sym s) (next_set_same rs q new lt ∙ n)
@@ -135,25 +139,31 @@ next_all made outs rs q old new last same is e h n k less on = elim (same_or_not
     lower_or_above zero zero m = absurd (m refl)
     lower_or_above zero (suc b) m = inl (omega arith)
     lower_or_above (suc a) zero m = inr (omega arith)
-    lower_or_above (suc a) (suc b) m = elim (lower_or_above a b (λ s. m (ap suc s))) as (λ _. (suc a < suc b) ⊎ (suc b < suc a)) [ inl l ↦ inl (omega arith) | inr g ↦ inr (omega arith) ]
+    lower_or_above (suc a) (suc b) m =
+        elim (lower_or_above a b (λ s. m (ap suc s))) as (λ _. (suc a < suc b) ⊎ (suc b < suc a)) [ inl l ↦ inl (omega arith) | inr g ↦ inr (omega arith) ]
 
 -- the item that was to be put next was put
-pub put_queue : (made : Item) (first rs : List Ready) (q : ℕ) (old new : Ready) → q < length rs → old ≡ slice_index_or rs q old → line_at rs q ≡ line_at first q → next_at rs q ≡ next_at first q → next_at first q ≡ Some made → (line_at first q).stopped ≡ false
-    → ((x : Item) → old.next ≡ Some x → old.stopped ≡ false → new.queue.items ≡ old.queue.items ++ x ∷ []) → (line_at (slice_set rs q new) q).queue ≡ (line_at first q).queue ++ made ∷ []
+pub put_queue : (made : Item) (first rs : List Ready) (q : ℕ) (old new : Ready) → q < length rs → old ≡ slice_index_or rs q old
+    → line_at rs q ≡ line_at first q → next_at rs q ≡ next_at first q → next_at first q ≡ Some made → (line_at first q).stopped ≡ false
+    → ((x : Item) → old.next ≡ Some x → old.stopped ≡ false → new.queue.items ≡ old.queue.items ++ x ∷ [])
+    → (line_at (slice_set rs q new) q).queue ≡ (line_at first q).queue ++ made ∷ []
 put_queue made first rs q old new lt is line next some on puts =
     let old_line : line_of old ≡ line_at first q = sym (line_is rs q old lt is) ∙ line in
     let old_next : old.next ≡ Some made = sym (next_is rs q old lt is) ∙ (next ∙ some) in
     let goes : old.stopped ≡ false = ap (λ (x : Line). x.stopped) old_line ∙ on in
     ap (λ (x : Line). x.queue) (line_set_same rs q new lt) ∙ (puts made old_next goes ∙ ap (λ (x : Line). x.queue ++ made ∷ []) old_line)
 
-pub put_stopped : (first rs : List Ready) (q k : ℕ) (old new : Ready) → q < length rs → old ≡ slice_index_or rs q old → new.stopped ≡ old.stopped → (line_at rs k).stopped ≡ (line_at first k).stopped → (line_at (slice_set rs q new) k).stopped ≡ (line_at first k).stopped
-put_stopped first rs q k old new lt is same was = elim (same_or_not k q) as (λ _. (line_at (slice_set rs q new) k).stopped ≡ (line_at first k).stopped) [
-  | inl s ↦ (
-      let here : (line_at (slice_set rs q new) q).stopped ≡ (line_at rs q).stopped = ap (λ (x : Line). x.stopped) (line_set_same rs q new lt) ∙ (same ∙ sym (ap (λ (x : Line). x.stopped) (line_is rs q old lt is))) in
-      subst (λ (j : ℕ). (line_at (slice_set rs q new) j).stopped ≡ (line_at rs j).stopped) (sym s) here ∙ was
-      )
-  | inr n ↦ ap (λ (x : Line). x.stopped) (line_set_other rs q k new n) ∙ was
-]
+pub put_stopped : (first rs : List Ready) (q k : ℕ) (old new : Ready) → q < length rs → old ≡ slice_index_or rs q old → new.stopped ≡ old.stopped
+    → (line_at rs k).stopped ≡ (line_at first k).stopped → (line_at (slice_set rs q new) k).stopped ≡ (line_at first k).stopped
+put_stopped first rs q k old new lt is same was =
+    elim (same_or_not k q) as (λ _. (line_at (slice_set rs q new) k).stopped ≡ (line_at first k).stopped) [
+      | inl s ↦ (
+          let here : (line_at (slice_set rs q new) q).stopped ≡ (line_at rs q).stopped =
+          ap (λ (x : Line). x.stopped) (line_set_same rs q new lt) ∙ (same ∙ sym (ap (λ (x : Line). x.stopped) (line_is rs q old lt is))) in
+          subst (λ (j : ℕ). (line_at (slice_set rs q new) j).stopped ≡ (line_at rs j).stopped) (sym s) here ∙ was
+          )
+      | inr n ↦ ap (λ (x : Line). x.stopped) (line_set_other rs q k new n) ∙ was
+    ]
 
 -- of the outputs below q the last that is wanted is this one, or none is
 abbrev pub NoneBelow : List Ready → ℕ → Type 0
@@ -163,7 +173,8 @@ abbrev pub LastBelow : List Ready → ℕ → ℕ → Type 0
 LastBelow rs q k = (k < q) × ((line_at rs k).stopped ≡ false) × ((j : ℕ) → k < j → j < q → (line_at rs j).stopped ≡ true)
 
 pub none_more : (rs : List Ready) (q : ℕ) → (line_at rs q).stopped ≡ true → NoneBelow rs q → NoneBelow rs (q + 1)
-none_more rs q t h k low = elim (lower_or_same k q low) as (λ _. (line_at rs k).stopped ≡ true) [ inl l ↦ h k l | inr s ↦ ap (λ (j : ℕ). (line_at rs j).stopped) s ∙ t ]
+none_more rs q t h k low =
+    elim (lower_or_same k q low) as (λ _. (line_at rs k).stopped ≡ true) [ inl l ↦ h k l | inr s ↦ ap (λ (j : ℕ). (line_at rs j).stopped) s ∙ t ]
 
 pub last_more : (rs : List Ready) (q k : ℕ) → (line_at rs q).stopped ≡ true → LastBelow rs q k → LastBelow rs (q + 1) k
 last_more rs q k t h = (

@@ -44,7 +44,8 @@ all_last P (y ∷ xs) x a = all_last P xs x (λ k d lt. a (suc k) d (omega arith
 
 -- the item that makes a stream valid fits the lane, unless it closes the stream
 pub last_fits : (lane : Lane) (t : Flow) (x : Item) → IsValid lane (with_item t x) → (Closes x → ⊥) → FitsLane lane x
-last_fits lane t x v c = (all_last (IsItemFor lane) t.items x (subst (λ (r : Flow). All (IsItemFor lane) r.items) (data_item t x c) v.shape.each)).fits
+last_fits lane t x v c =
+    (all_last (IsItemFor lane) t.items x (subst (λ (r : Flow). All (IsItemFor lane) r.items) (data_item t x c) v.shape.each)).fits
 
 timed_goes_on : (x : Item) → HasTime x → Closes x → ⊥
 timed_goes_on (Audio f) t c = c
@@ -58,9 +59,11 @@ timed_goes_on Broken t c = t
 
 module _ (f : Item → Outcome) where
   -- where something broke off, nothing more is made
-  more_kept : (xs ys : List Item) (m k : Mark) (offset : ℕ) → damage_in f xs ≡ Some offset → made_stream f (record { items = xs ++ ys; mark = k }) ≡ made_stream f (record { items = xs; mark = m })
+  more_kept : (xs ys : List Item) (m k : Mark) (offset : ℕ) → damage_in f xs ≡ Some offset
+      → made_stream f (record { items = xs ++ ys; mark = k }) ≡ made_stream f (record { items = xs; mark = m })
   more_kept xs ys m k offset e =
-      same_stream (made_stream f (record { items = xs ++ ys; mark = k })) (made_stream f (record { items = xs; mark = m })) (items_kept f xs ys offset e)
+      same_stream (made_stream f (record { items = xs ++ ys; mark = k })) (made_stream f (record { items = xs; mark = m }))
+      (items_kept f xs ys offset e)
       (ap (λ (d : Option ℕ). mark_by d k) (damage_kept f xs ys offset e) ∙ sym (ap (λ (d : Option ℕ). mark_by d m) e))
 
   with_kept : (t : Flow) (x : Item) (offset : ℕ) → damage_in f t.items ≡ Some offset → made_stream f (with_item t x) ≡ made_stream f t
@@ -68,8 +71,12 @@ module _ (f : Item → Outcome) where
   with_kept t (Video a) offset e = more_kept t.items (Video a ∷ []) t.mark t.mark offset e
   with_kept t (Packet a) offset e = more_kept t.items (Packet a ∷ []) t.mark t.mark offset e
   with_kept t (Trailer a) offset e = more_kept t.items (Trailer a ∷ []) t.mark t.mark offset e
-  with_kept t End offset e = same_stream (made_stream f (with_item t End)) (made_stream f t) refl (ap (λ (d : Option ℕ). mark_by d whole) e ∙ sym (ap (λ (d : Option ℕ). mark_by d t.mark) e))
-  with_kept t Broken offset e = same_stream (made_stream f (with_item t Broken)) (made_stream f t) refl (ap (λ (d : Option ℕ). mark_by d broken) e ∙ sym (ap (λ (d : Option ℕ). mark_by d t.mark) e))
+  with_kept t End offset e =
+      same_stream (made_stream f (with_item t End)) (made_stream f t) refl
+      (ap (λ (d : Option ℕ). mark_by d whole) e ∙ sym (ap (λ (d : Option ℕ). mark_by d t.mark) e))
+  with_kept t Broken offset e =
+      same_stream (made_stream f (with_item t Broken)) (made_stream f t) refl
+      (ap (λ (d : Option ℕ). mark_by d broken) e ∙ sym (ap (λ (d : Option ℕ). mark_by d t.mark) e))
 
   with_damage_kept : (t : Flow) (x : Item) (offset : ℕ) → damage_in f t.items ≡ Some offset → damage_in f (with_item t x).items ≡ Some offset
   with_damage_kept t (Audio a) offset e = damage_kept f t.items (Audio a ∷ []) offset e
@@ -91,7 +98,9 @@ module _ (f : Item → Outcome) where
     grown_damage o c e = ap (λ (r : Flow). damage_in f r.items) (data_item t x c) ∙ (damage_after f t.items (x ∷ []) none ∙ one_damage o x e)
 
     grown_items : (o : Outcome) → (Closes x → ⊥) → f x ≡ o → made_items f (with_item t x).items ≡ made_items f t.items ++ made_items (λ y. o) (x ∷ [])
-    grown_items o c e = ap (λ (r : Flow). made_items f r.items) (data_item t x c) ∙ (items_after f t.items (x ∷ []) none ∙ ap (λ (ys : List Item). made_items f t.items ++ ys) (one_items o x e))
+    grown_items o c e =
+        ap (λ (r : Flow). made_items f r.items) (data_item t x c)
+        ∙ (items_after f t.items (x ∷ []) none ∙ ap (λ (ys : List Item). made_items f t.items ++ ys) (one_items o x e))
 
     grown_mark : (Closes x → ⊥) → (with_item t x).mark ≡ t.mark
     grown_mark c = ap (λ (r : Flow). r.mark) (data_item t x c)
@@ -121,20 +130,24 @@ module _ (f : Item → Outcome) where
         (grown_items (breaks offset) c e ∙ append-nil (made_items f t.items))
         (ap (λ (d : Option ℕ). mark_by d (with_item t x).mark) (grown_damage (breaks offset) c e))
 
-  closed_stream : (t : Flow) (x : Item) → damage_in f t.items ≡ None → Closes x → (made_stream f (with_item t x) ≡ with_item (made_stream f t) x) × (damage_in f (with_item t x).items ≡ None)
+  closed_stream : (t : Flow) (x : Item) → damage_in f t.items ≡ None → Closes x
+      → (made_stream f (with_item t x) ≡ with_item (made_stream f t) x) × (damage_in f (with_item t x).items ≡ None)
   closed_stream t (Audio a) e c = absurd c
   closed_stream t (Video a) e c = absurd c
   closed_stream t (Packet a) e c = absurd c
   closed_stream t (Trailer a) e c = absurd c
-  closed_stream t End e c = (same_stream (made_stream f (with_item t End)) (with_item (made_stream f t) End) refl (ap (λ (d : Option ℕ). mark_by d whole) e), e)
-  closed_stream t Broken e c = (same_stream (made_stream f (with_item t Broken)) (with_item (made_stream f t) Broken) refl (ap (λ (d : Option ℕ). mark_by d broken) e), e)
+  closed_stream t End e c =
+      (same_stream (made_stream f (with_item t End)) (with_item (made_stream f t) End) refl (ap (λ (d : Option ℕ). mark_by d whole) e), e)
+  closed_stream t Broken e c =
+      (same_stream (made_stream f (with_item t Broken)) (with_item (made_stream f t) Broken) refl (ap (λ (d : Option ℕ). mark_by d broken) e), e)
 
 -- what is put for an item of the lane makes of the stream what is made of it with the item
 pub record PutsOn (f : Item → Outcome) (t : Flow) (x made : Item) (damage : Option ℕ) : Type 0 where
   pub stream : made_stream f (with_item t x) ≡ with_item (made_stream f t) made
   pub found : damage_in f (with_item t x).items ≡ damage
 
-puts_on : (lane_in lane_out : Lane) (f : Item → Outcome) (t : Flow) (x made : Item) (damage : Option ℕ) → Carries lane_in lane_out f → damage_in f t.items ≡ None → ((Closes x → ⊥) → FitsLane lane_in x) → IsPut f x made damage → PutsOn f t x made damage
+puts_on : (lane_in lane_out : Lane) (f : Item → Outcome) (t : Flow) (x made : Item) (damage : Option ℕ) → Carries lane_in lane_out f
+    → damage_in f t.items ≡ None → ((Closes x → ⊥) → FitsLane lane_in x) → IsPut f x made damage → PutsOn f t x made damage
 puts_on lane_in lane_out f t x made damage c none fits (inl k) =
     let r = closed_stream f t x none k.0 in
     record {
@@ -176,7 +189,8 @@ open_or broken = inr (λ e. cc)
 
 -- ---- the calls
 
-module _ (lane_in lane_out : Lane) (f : Item → Outcome) (n : ℕ) (lines : ℕ → Line) (closed : Bool) (found : Option ℕ) (past : Past) (s : Spreads lane_in lane_out f n lines closed found past) where
+module _ (lane_in lane_out : Lane) (f : Item → Outcome) (n : ℕ) (lines : ℕ → Line) (closed : Bool) (found : Option ℕ) (past : Past)
+    (s : Spreads lane_in lane_out f n lines closed found past) where
   got_of : (x : Item) → stream_at (fed past 0 x).got 0 ≡ with_item (stream_at past.got 0) x
   got_of x = stream_at-with_item_same past.got 0 x
 
@@ -205,16 +219,20 @@ module _ (lane_in lane_out : Lane) (f : Item → Outcome) (n : ℕ) (lines : ℕ
     closed_is = s.closed_is;
     found_is = s.found_is;
     below = λ q lt. s.below q (subst (λ (j : ℕ). q < j) e lt);
-    gave = λ q lt on. subst (λ (l : Line). Leads (stream_at past.gave q) l.queue (made_stream f (stream_at past.got 0))) (sym (h q)) (s.gave q (subst (λ (j : ℕ). q < j) e lt) (sym (ap (λ (l : Line). l.stopped) (h q)) ∙ on));
+    gave =
+        λ q lt on. subst (λ (l : Line). Leads (stream_at past.gave q) l.queue (made_stream f (stream_at past.got 0))) (sym (h q)) (s.gave q (subst (λ (j : ℕ). q < j) e lt) (sym (ap (λ (l : Line). l.stopped) (h q)) ∙ on));
     beyond = λ q le. s.beyond q (subst (λ (j : ℕ). j ≤ q) e le);
     stops = λ q lt. subst (λ (l : Line). (l.stopped ≡ true) ↔ IsIn q past.stopped) (sym (h q)) (s.stops q (subst (λ (j : ℕ). q < j) e lt));
   }
 
   -- an item was fed of which nothing is made
-  same_fed : (x : Item) → AreValid (lane_in ∷ []) (fed past 0 x).got → made_stream f (with_item (stream_at past.got 0) x) ≡ made_stream f (stream_at past.got 0) → damage_in f (with_item (stream_at past.got 0) x).items ≡ damage_in f (stream_at past.got 0).items
+  same_fed : (x : Item) → AreValid (lane_in ∷ []) (fed past 0 x).got
+      → made_stream f (with_item (stream_at past.got 0) x) ≡ made_stream f (stream_at past.got 0)
+      → damage_in f (with_item (stream_at past.got 0) x).items ≡ damage_in f (stream_at past.got 0).items
       → Spreads lane_in lane_out f n lines closed found (fed past 0 x)
   same_fed x v e d =
-      let same : made_stream f (stream_at (fed past 0 x).got 0) ≡ made_stream f (stream_at past.got 0) = ap (λ (t : Flow). made_stream f t) (got_of x) ∙ e in
+      let same : made_stream f (stream_at (fed past 0 x).got 0) ≡ made_stream f (stream_at past.got 0) =
+      ap (λ (t : Flow). made_stream f t) (got_of x) ∙ e in
       record {
         carries = s.carries;
         some = s.some;
@@ -239,38 +257,49 @@ module _ (lane_in lane_out : Lane) (f : Item → Outcome) (n : ℕ) (lines : ℕ
     | inr none ↦ none
   ]
 
-  passed_to : (x : Item) → closed ≡ false → AreValid (lane_in ∷ []) (fed past 0 x).got → (Closes x → ⊥) → f x ≡ passes → Spreads lane_in lane_out f n lines closed found (fed past 0 x)
+  passed_to : (x : Item) → closed ≡ false → AreValid (lane_in ∷ []) (fed past 0 x).got → (Closes x → ⊥) → f x ≡ passes
+      → Spreads lane_in lane_out f n lines closed found (fed past 0 x)
   passed_to x e v c p =
       let none = open_none e in
       same_fed x v (passed_stream f (stream_at past.got 0) x none c p) (passed_damage f (stream_at past.got 0) x none c p ∙ sym none)
 
   -- an item that gives nothing was fed
-  pub passed_at : (p : ℕ) (x : Item) → closed ≡ false → p < 1 → AreValid (lane_in ∷ []) (fed past p x).got → (Closes x → ⊥) → f x ≡ passes → Spreads lane_in lane_out f n lines closed found (fed past p x)
+  pub passed_at : (p : ℕ) (x : Item) → closed ≡ false → p < 1 → AreValid (lane_in ∷ []) (fed past p x).got → (Closes x → ⊥) → f x ≡ passes
+      → Spreads lane_in lane_out f n lines closed found (fed past p x)
   passed_at zero x e lt v c o = passed_to x e v c o
   passed_at (suc p) x e lt v c o = absurd (omega arith)
 
-  over_to : (x : Item) → closed ≡ true → (stream_at past.got 0).mark ≡ still_open → AreValid (lane_in ∷ []) (fed past 0 x).got → Spreads lane_in lane_out f n lines closed found (fed past 0 x)
-  over_to x e o v = elim (some_or_none (damage_in f (stream_at past.got 0).items)) as (λ _. Spreads lane_in lane_out f n lines closed found (fed past 0 x)) [
-    | inl d ↦ same_fed x v (with_kept f (stream_at past.got 0) x d.0 d.1) (with_damage_kept f (stream_at past.got 0) x d.0 d.1 ∙ sym d.1)
-    | inr none ↦ absurd (s.closed_is.0 e (ap (λ (k : Option ℕ). mark_by k (stream_at past.got 0).mark) none ∙ o))
-  ]
+  over_to : (x : Item) → closed ≡ true → (stream_at past.got 0).mark ≡ still_open → AreValid (lane_in ∷ []) (fed past 0 x).got
+      → Spreads lane_in lane_out f n lines closed found (fed past 0 x)
+  over_to x e o v =
+      elim (some_or_none (damage_in f (stream_at past.got 0).items)) as (λ _. Spreads lane_in lane_out f n lines closed found (fed past 0 x)) [
+        | inl d ↦ same_fed x v (with_kept f (stream_at past.got 0) x d.0 d.1) (with_damage_kept f (stream_at past.got 0) x d.0 d.1 ∙ sym d.1)
+        | inr none ↦ absurd (s.closed_is.0 e (ap (λ (k : Option ℕ). mark_by k (stream_at past.got 0).mark) none ∙ o))
+      ]
 
   -- an item was fed after the stream broke off here
-  pub over_at : (p : ℕ) (x : Item) → closed ≡ true → p < 1 → (stream_at past.got p).mark ≡ still_open → AreValid (lane_in ∷ []) (fed past p x).got → Spreads lane_in lane_out f n lines closed found (fed past p x)
+  pub over_at : (p : ℕ) (x : Item) → closed ≡ true → p < 1 → (stream_at past.got p).mark ≡ still_open → AreValid (lane_in ∷ []) (fed past p x).got
+      → Spreads lane_in lane_out f n lines closed found (fed past p x)
   over_at zero x e lt o v = over_to x e o v
   over_at (suc p) x e lt o v = absurd (omega arith)
 
-  put_to : (x made : Item) (damage now : Option ℕ) (closes : Bool) (k : ℕ) (rows : ℕ → Line) → closed ≡ false → (stream_at past.got 0).mark ≡ still_open → AreValid (lane_in ∷ []) (fed past 0 x).got → IsPut f x made damage → (closes ≡ true) ↔ Closes made
-      → now ≡ first_damage found damage → k ≡ n → ((q : ℕ) → (rows q).stopped ≡ (lines q).stopped) → ((q : ℕ) → q < n → (lines q).stopped ≡ false → (rows q).queue ≡ (lines q).queue ++ made ∷ [])
+  put_to : (x made : Item) (damage now : Option ℕ) (closes : Bool) (k : ℕ) (rows : ℕ → Line) → closed ≡ false
+      → (stream_at past.got 0).mark ≡ still_open → AreValid (lane_in ∷ []) (fed past 0 x).got → IsPut f x made damage
+      → (closes ≡ true) ↔ Closes made
+      → now ≡ first_damage found damage → k ≡ n → ((q : ℕ) → (rows q).stopped ≡ (lines q).stopped)
+      → ((q : ℕ) → q < n → (lines q).stopped ≡ false → (rows q).queue ≡ (lines q).queue ++ made ∷ [])
       → Spreads lane_in lane_out f k rows (closed || closes) now (fed past 0 x)
   put_to x made damage now closes k rows e o v p h d c stops queues =
       let t : Flow = stream_at past.got 0 in
       let none = open_none e in
       let puts = puts_on lane_in lane_out f t x made damage s.carries none (fed_fits x v) p in
       let was : (made_stream f t).mark ≡ still_open = ap (λ (j : Option ℕ). mark_by j t.mark) none ∙ o in
-      let above : LiesBelow (made_stream f t) (made_stream f (with_item t x)) = subst (λ (r : Flow). LiesBelow (made_stream f t) r) (sym puts.stream) (with_item_above (made_stream f t) made was) in
-      let grown : made_stream f (stream_at (fed past 0 x).got 0) ≡ with_item (made_stream f t) made = ap (λ (r : Flow). made_stream f r) (got_of x) ∙ puts.stream in
-      let flag : ((closed || closes) ≡ true) ↔ (closes ≡ true) = subst (λ (b : Bool). ((b || closes) ≡ true) ↔ (closes ≡ true)) (sym e) (or_true closes) in
+      let above : LiesBelow (made_stream f t) (made_stream f (with_item t x)) =
+      subst (λ (r : Flow). LiesBelow (made_stream f t) r) (sym puts.stream) (with_item_above (made_stream f t) made was) in
+      let grown : made_stream f (stream_at (fed past 0 x).got 0) ≡ with_item (made_stream f t) made =
+      ap (λ (r : Flow). made_stream f r) (got_of x) ∙ puts.stream in
+      let flag : ((closed || closes) ≡ true) ↔ (closes ≡ true) =
+      subst (λ (b : Bool). ((b || closes) ≡ true) ↔ (closes ≡ true)) (sym e) (or_true closes) in
       record {
         carries = s.carries;
         some = subst (λ (j : ℕ). 1 ≤ j) (sym c) s.some;
@@ -287,19 +316,26 @@ module _ (lane_in lane_out : Lane) (f : Item → Outcome) (n : ℕ) (lines : ℕ
             | inr m ↦ absurd (b (with_item_open (made_stream f t) made m was))
           ]),
         );
-        found_is = d ∙ (ap (λ (j : Option ℕ). first_damage j damage) (s.found_is ∙ none) ∙ (sym puts.found ∙ ap (λ (r : Flow). damage_in f r.items) (sym (got_of x))));
-        below = λ q lt. subst (λ (r : Flow). LiesBelow (stream_at past.gave q) (made_stream f r)) (sym (got_of x)) (below_trans (stream_at past.gave q) (made_stream f t) (made_stream f (with_item t x)) (s.below q (subst (λ (j : ℕ). q < j) c lt)) above);
+        found_is =
+            d
+            ∙ (ap (λ (j : Option ℕ). first_damage j damage) (s.found_is ∙ none) ∙ (sym puts.found ∙ ap (λ (r : Flow). damage_in f r.items) (sym (got_of x))));
+        below =
+            λ q lt. subst (λ (r : Flow). LiesBelow (stream_at past.gave q) (made_stream f r)) (sym (got_of x)) (below_trans (stream_at past.gave q) (made_stream f t) (made_stream f (with_item t x)) (s.below q (subst (λ (j : ℕ). q < j) c lt)) above);
         gave = λ q lt on.
             let here : q < n = subst (λ (j : ℕ). q < j) c lt in
             let goes : (lines q).stopped ≡ false = sym (stops q) ∙ on in
-            subst (λ (r : Flow). Leads (stream_at past.gave q) (rows q).queue r) (sym grown) (subst (λ (ys : List Item). Leads (stream_at past.gave q) ys (with_item (made_stream f t) made)) (sym (queues q here goes)) (leads_push (lines q).queue (stream_at past.gave q) (made_stream f t) made (s.gave q here goes) was));
+            subst (λ (r : Flow). Leads (stream_at past.gave q) (rows q).queue r) (sym grown)
+            (subst (λ (ys : List Item). Leads (stream_at past.gave q) ys (with_item (made_stream f t) made)) (sym (queues q here goes)) (leads_push (lines q).queue (stream_at past.gave q) (made_stream f t) made (s.gave q here goes) was));
         beyond = λ q le. s.beyond q (subst (λ (j : ℕ). j ≤ q) c le);
         stops = λ q lt. subst (λ (b : Bool). (b ≡ true) ↔ IsIn q past.stopped) (sym (stops q)) (s.stops q (subst (λ (j : ℕ). q < j) c lt));
       }
 
   -- an item was fed, and what is made of it put on each output that is wanted
-  pub put_at : (p : ℕ) (x made : Item) (damage now : Option ℕ) (closes : Bool) (k : ℕ) (rows : ℕ → Line) → closed ≡ false → p < 1 → (stream_at past.got p).mark ≡ still_open → AreValid (lane_in ∷ []) (fed past p x).got → IsPut f x made damage → (closes ≡ true) ↔ Closes made
-      → now ≡ first_damage found damage → k ≡ n → ((q : ℕ) → (rows q).stopped ≡ (lines q).stopped) → ((q : ℕ) → q < n → (lines q).stopped ≡ false → (rows q).queue ≡ (lines q).queue ++ made ∷ [])
+  pub put_at : (p : ℕ) (x made : Item) (damage now : Option ℕ) (closes : Bool) (k : ℕ) (rows : ℕ → Line) → closed ≡ false → p < 1
+      → (stream_at past.got p).mark ≡ still_open → AreValid (lane_in ∷ []) (fed past p x).got → IsPut f x made damage
+      → (closes ≡ true) ↔ Closes made
+      → now ≡ first_damage found damage → k ≡ n → ((q : ℕ) → (rows q).stopped ≡ (lines q).stopped)
+      → ((q : ℕ) → q < n → (lines q).stopped ≡ false → (rows q).queue ≡ (lines q).queue ++ made ∷ [])
       → Spreads lane_in lane_out f k rows (closed || closes) now (fed past p x)
   put_at zero x made damage now closes k rows e lt o v i h d c stops queues = put_to x made damage now closes k rows e o v i h d c stops queues
   put_at (suc p) x made damage now closes k rows e lt o v i h d c stops queues = absurd (omega arith)
@@ -312,11 +348,13 @@ module _ (lane_in lane_out : Lane) (f : Item → Outcome) (n : ℕ) (lines : ℕ
   goes_on q lt on = is_false (lines q).stopped (λ e. on ((s.stops q lt).0 e))
 
   -- the first item that waits on an output was given there
-  pub gives_at : (p : ℕ) (x : Item) (rest : List Item) (k : ℕ) (rows : ℕ → Line) → p < n → (lines p).queue ≡ x ∷ rest → (IsIn p past.stopped → ⊥) → k ≡ n → rows p ≡ record { queue = rest; stopped = (lines p).stopped } → ((q : ℕ) → q ≢ p → rows q ≡ lines q)
+  pub gives_at : (p : ℕ) (x : Item) (rest : List Item) (k : ℕ) (rows : ℕ → Line) → p < n → (lines p).queue ≡ x ∷ rest → (IsIn p past.stopped → ⊥)
+      → k ≡ n → rows p ≡ record { queue = rest; stopped = (lines p).stopped } → ((q : ℕ) → q ≢ p → rows q ≡ lines q)
       → Spreads lane_in lane_out f k rows closed found (gave_item past p x) × ((stream_at past.gave p).mark ≡ still_open) × LiesBelow (with_item (stream_at past.gave p) x) (stream_at (due past) p)
   gives_at p x rest k rows lt is on c here other =
       let out : Flow = made_stream f (stream_at past.got 0) in
-      let leads : Leads (stream_at past.gave p) (x ∷ rest) out = subst (λ (ys : List Item). Leads (stream_at past.gave p) ys out) is (s.gave p lt (goes_on p lt on)) in
+      let leads : Leads (stream_at past.gave p) (x ∷ rest) out =
+      subst (λ (ys : List Item). Leads (stream_at past.gave p) ys out) is (s.gave p lt (goes_on p lt on)) in
       let given : stream_at (gave_item past p x).gave p ≡ with_item (stream_at past.gave p) x = stream_at-with_item_same past.gave p x in
       let below : LiesBelow (with_item (stream_at past.gave p) x) out = leads_below rest (with_item (stream_at past.gave p) x) out leads.1 in (
         record {
@@ -340,14 +378,18 @@ module _ (lane_in lane_out : Lane) (f : Item → Outcome) (n : ℕ) (lines : ℕ
             | inr m ↦ subst (λ (r : Flow). Leads r (rows q).queue out) (sym (stream_at-with_item_other past.gave p q x m))
                 (subst (λ (l : Line). Leads (stream_at past.gave q) l.queue out) (sym (other q m)) (s.gave q (subst (λ (j : ℕ). q < j) c less) (sym (ap (λ (l : Line). l.stopped) (other q m)) ∙ go)))
           ];
-          beyond = λ q le. let le' : n ≤ q = subst (λ (j : ℕ). j ≤ q) c le in let m : q ≢ p = omega (arith, le', lt) in stream_at-with_item_other past.gave p q x m ∙ s.beyond q le';
+          beyond =
+              λ q le. let le' : n ≤ q = subst (λ (j : ℕ). j ≤ q) c le in let m : q ≢ p = omega (arith, le', lt) in stream_at-with_item_other past.gave p q x m
+              ∙ s.beyond q le';
           stops = λ q less. elim (same_or_not q p) as (λ _. ((rows q).stopped ≡ true) ↔ IsIn q past.stopped) [
             | inl e ↦ subst (λ (j : ℕ). ((rows j).stopped ≡ true) ↔ IsIn j past.stopped) (sym e) (subst (λ (l : Line). (l.stopped ≡ true) ↔ IsIn p past.stopped) (sym here) (s.stops p lt))
             | inr m ↦ subst (λ (l : Line). (l.stopped ≡ true) ↔ IsIn q past.stopped) (sym (other q m)) (s.stops q (subst (λ (j : ℕ). q < j) c less))
           ];
         },
         leads.0,
-        subst (λ (r : Flow). LiesBelow (with_item (stream_at past.gave p) x) r) (sym (ap (λ (ss : List Flow). stream_at ss p) (spreads_due lane_in lane_out f n lines closed found past s) ∙ at_replicate n p out lt)) below,
+        subst (λ (r : Flow). LiesBelow (with_item (stream_at past.gave p) x) r)
+            (sym (ap (λ (ss : List Flow). stream_at ss p) (spreads_due lane_in lane_out f n lines closed found past s) ∙ at_replicate n p out lt))
+            below,
       )
 
   -- where nothing waits all that is due was given
@@ -358,10 +400,13 @@ module _ (lane_in lane_out : Lane) (f : Item → Outcome) (n : ℕ) (lines : ℕ
       all ∙ sym (ap (λ (ss : List Flow). stream_at ss p) (spreads_due lane_in lane_out f n lines closed found past s) ∙ at_replicate n p out lt)
 
   pub asked_at : (p : ℕ) → Spreads lane_in lane_out f n lines closed found (was_asked past p)
-  asked_at p = record { carries = s.carries; some = s.some; means = s.means; silent = s.silent; cause = s.cause; plain = s.plain; others = s.others; valid = s.valid; closed_is = s.closed_is; found_is = s.found_is; below = s.below; gave = s.gave; beyond = s.beyond; stops = s.stops }
+  asked_at p =
+      record
+      { carries = s.carries; some = s.some; means = s.means; silent = s.silent; cause = s.cause; plain = s.plain; others = s.others; valid = s.valid; closed_is = s.closed_is; found_is = s.found_is; below = s.below; gave = s.gave; beyond = s.beyond; stops = s.stops }
 
   -- an output was stopped
-  pub stopped_at : (p : ℕ) (k : ℕ) (rows : ℕ → Line) → p < n → k ≡ n → (rows p).stopped ≡ true → ((q : ℕ) → q ≢ p → rows q ≡ lines q) → Spreads lane_in lane_out f k rows closed found (was_stopped past p)
+  pub stopped_at : (p : ℕ) (k : ℕ) (rows : ℕ → Line) → p < n → k ≡ n → (rows p).stopped ≡ true → ((q : ℕ) → q ≢ p → rows q ≡ lines q)
+      → Spreads lane_in lane_out f k rows closed found (was_stopped past p)
   stopped_at p k rows lt c here other = record {
     carries = s.carries;
     some = subst (λ (j : ℕ). 1 ≤ j) (sym c) s.some;
@@ -392,7 +437,8 @@ module _ (lane_in lane_out : Lane) (f : Item → Outcome) (n : ℕ) (lines : ℕ
   }
 
 -- nothing was fed and given yet
-pub new_at : (lane_in lane_out : Lane) (f : Item → Outcome) (n k : ℕ) (rows : ℕ → Line) (task : Task) → 1 ≤ n → Carries lane_in lane_out f → IsSpreadTask n f task → k ≡ n → ((q : ℕ) → q < n → rows q ≡ record { queue = []; stopped = false })
+pub new_at : (lane_in lane_out : Lane) (f : Item → Outcome) (n k : ℕ) (rows : ℕ → Line) (task : Task) → 1 ≤ n → Carries lane_in lane_out f
+    → IsSpreadTask n f task → k ≡ n → ((q : ℕ) → q < n → rows q ≡ record { queue = []; stopped = false })
     → Spreads lane_in lane_out f k rows false None (start task)
 new_at lane_in lane_out f n k rows task le c t e fresh = record {
   carries = c;
@@ -413,7 +459,8 @@ new_at lane_in lane_out f n k rows task le c t e fresh = record {
 
 -- ---- whole machines
 
-pub spread_same : (lane_in lane_out : Lane) (f : Item → Outcome) (m k : Spread) (past : Past) → IsSameSpread m k → SpreadStands lane_in lane_out f m past → SpreadStands lane_in lane_out f k past
+pub spread_same : (lane_in lane_out : Lane) (f : Item → Outcome) (m k : Spread) (past : Past) → IsSameSpread m k
+    → SpreadStands lane_in lane_out f m past → SpreadStands lane_in lane_out f k past
 spread_same lane_in lane_out f m k past same s =
     let n : ℕ = length k.outs.items in
     let lines : ℕ → Line = line_at k.outs.items in

@@ -47,4 +47,5 @@ abbrev pub enc_spent : {E : Type 0} → Enc E → ℕ → Type 0
 enc_spent m p = spread_spent m.spread p
 
 abbrev pub enc_stands : {E : Type 0} → (E → StreamHead → Type 0) → (E → StreamHead → StreamHead) → (E → Item → Option Pkt) → Enc E → Past → Type 0
-enc_stands serves coded made m past = serves m.encoder m.head × SpreadStands (Frames m.head) (Packets (coded m.encoder m.head)) (encoded_item (made m.encoder)) m.spread past
+enc_stands serves coded made m past =
+    serves m.encoder m.head × SpreadStands (Frames m.head) (Packets (coded m.encoder m.head)) (encoded_item (made m.encoder)) m.spread past

@@ -43,7 +43,9 @@ ended_above : (s : Flow) (ss : List Flow) → s ≡ stream_at ss 0 → s.mark �
 unfolding ended
 ended_above s [] e o zero = inr (refl, (s.items, refl))
 ended_above s [] e o (suc p) = inl refl
-ended_above s (r ∷ ss) e o zero = inr (ap (λ (x : Flow). x.mark) (sym e) ∙ o, subst (λ (xs : List Item). IsPrefix r.items xs) (ap (λ (x : Flow). x.items) (sym e)) (prefix_self r.items))
+ended_above s (r ∷ ss) e o zero =
+    inr
+    (ap (λ (x : Flow). x.mark) (sym e) ∙ o, subst (λ (xs : List Item). IsPrefix r.items xs) (ap (λ (x : Flow). x.items) (sym e)) (prefix_self r.items))
 ended_above s (r ∷ ss) e o (suc p) = inl refl
 
 module _ (f : Item → Outcome) where
@@ -59,13 +61,15 @@ module _ (f : Item → Outcome) where
     not_whole = λ w. let clash : broken ≡ whole = sym e ∙ w in cc;
     no_further = λ ts n above.
         let was : (stream_at ss 0).mark ≡ broken = sym (own_mark ss none) ∙ e in
-        let same : stream_at ss 0 ≡ stream_at ts 0 = closed_below (stream_at ss 0) (stream_at ts 0) (above 0) (λ o. let clash : broken ≡ still_open = sym was ∙ o in cc) in (
+        let same : stream_at ss 0 ≡ stream_at ts 0 =
+        closed_below (stream_at ss 0) (stream_at ts 0) (above 0) (λ o. let clash : broken ≡ still_open = sym was ∙ o in cc) in (
           ap (λ (s : Flow). made_items f s.items) (sym same),
           λ w. let clash : broken ≡ whole = sym e ∙ (ap (λ (s : Flow). (made_stream f s).mark) same ∙ w) in cc,
         );
   }
 
-  is_broken : (ss : List Flow) → IsUndamaged f ss → (m : Mark) → (stream_at ss 0).mark ≡ m → IsBrokenOff (IsUndamaged f) out ss → (out ss).mark ≡ broken
+  is_broken : (ss : List Flow) → IsUndamaged f ss → (m : Mark) → (stream_at ss 0).mark ≡ m → IsBrokenOff (IsUndamaged f) out ss
+      → (out ss).mark ≡ broken
   is_broken ss none whole e b = absurd (b.not_whole (own_mark ss none ∙ e))
   is_broken ss none broken e b = own_mark ss none ∙ e
   is_broken ss none still_open e b =
@@ -78,19 +82,22 @@ module _ (f : Item → Outcome) where
   pub made_keeps_broken_rule : KeepsBrokenRule (IsUndamaged f) out
   made_keeps_broken_rule = record {
     items = λ ss none. ap (λ (s : Flow). made_items f s.items) (sym (stream_at-opened ss 0));
-    wholeness = λ ss none. subst (λ (s : Flow). ((out ss).mark ≡ whole) ↔ ((made_stream f s).mark ≡ whole)) (sym (stream_at-opened ss 0)) (whole_by (damage_in f (stream_at ss 0).items) (stream_at ss 0).mark);
+    wholeness =
+        λ ss none. subst (λ (s : Flow). ((out ss).mark ≡ whole) ↔ ((made_stream f s).mark ≡ whole)) (sym (stream_at-opened ss 0)) (whole_by (damage_in f (stream_at ss 0).items) (stream_at ss 0).mark);
     breaks = λ ss none. (breaks_off ss none, is_broken ss none (stream_at ss 0).mark refl);
   }
 
 -- where nothing ever is, whatever the stream
-pub always_keeps_broken_rule : (f : Item → Outcome) → ((ss : List Flow) → IsUndamaged f ss) → KeepsBrokenRule (λ ss. Unit {0}) (λ ss. made_stream f (stream_at ss 0))
+pub always_keeps_broken_rule : (f : Item → Outcome) → ((ss : List Flow) → IsUndamaged f ss)
+    → KeepsBrokenRule (λ ss. Unit {0}) (λ ss. made_stream f (stream_at ss 0))
 always_keeps_broken_rule f none =
     let rule = made_keeps_broken_rule f in
     record {
       items = λ ss u. rule.items ss (none ss);
       wholeness = λ ss u. rule.wholeness ss (none ss);
       breaks = λ ss u. (
-        λ e. let b = (rule.breaks ss (none ss)).0 e in record { input = b.input; not_whole = b.not_whole; no_further = λ ts v above. b.no_further ts (none ts) above },
+        λ e. let b =
+            (rule.breaks ss (none ss)).0 e in record { input = b.input; not_whole = b.not_whole; no_further = λ ts v above. b.no_further ts (none ts) above },
         λ b. (rule.breaks ss (none ss)).1 (record { input = b.input; not_whole = b.not_whole; no_further = λ ts v above. b.no_further ts tt above }),
       );
     }
@@ -98,9 +105,11 @@ always_keeps_broken_rule f none =
 -- ---- damage
 
 -- where the stream broke off, nothing more is made, however it goes on
-pub ends_at_damage : (f : Item → Outcome) (r s : Flow) (offset : ℕ) → damage_in f r.items ≡ Some offset → LiesBelow r s → made_stream f s ≡ made_stream f r
+pub ends_at_damage : (f : Item → Outcome) (r s : Flow) (offset : ℕ) → damage_in f r.items ≡ Some offset → LiesBelow r s
+    → made_stream f s ≡ made_stream f r
 ends_at_damage f r s offset d b =
-    let closed : (made_stream f r).mark ≡ still_open → ⊥ = λ o. (let clash : broken ≡ still_open = sym (ap (λ (k : Option ℕ). mark_by k r.mark) d) ∙ o in cc) in
+    let closed : (made_stream f r).mark ≡ still_open → ⊥ =
+    λ o. (let clash : broken ≡ still_open = sym (ap (λ (k : Option ℕ). mark_by k r.mark) d) ∙ o in cc) in
     sym (closed_below (made_stream f r) (made_stream f s) (made_below f r s b) closed)
 
 -- ---- item by item
@@ -126,12 +135,14 @@ module _ (made : Pkt → Option Item) where
       let first : made p ≡ Some x = cc (e) in
       let rest : map made packets ≡ map some_frame frames = cc (e) in
       let r = frames_before packets frames more rest in (
-        ap (λ (o : Option Item). and_items (frame_or_damage p o) (made_items (decoded_item made) (packets_in packets ++ more))) first ∙ ap (λ (xs : List Item). x ∷ xs) r.0,
+        ap (λ (o : Option Item). and_items (frame_or_damage p o) (made_items (decoded_item made) (packets_in packets ++ more))) first
+            ∙ ap (λ (xs : List Item). x ∷ xs) r.0,
         ap (λ (o : Option Item). or_damage (frame_or_damage p o) (damage_in (decoded_item made) (packets_in packets ++ more))) first ∙ r.1,
       )
 
   -- a packet that has none
-  pub none_behind : (p : Pkt) (more : List Item) → made p ≡ None → (made_items (decoded_item made) (Packet p ∷ more) ≡ []) × (damage_in (decoded_item made) (Packet p ∷ more) ≡ Some p.pos)
+  pub none_behind : (p : Pkt) (more : List Item) → made p ≡ None
+      → (made_items (decoded_item made) (Packet p ∷ more) ≡ []) × (damage_in (decoded_item made) (Packet p ∷ more) ≡ Some p.pos)
   none_behind p more e = (
     ap (λ (o : Option Item). and_items (frame_or_damage p o) (made_items (decoded_item made) more)) e,
     ap (λ (o : Option Item). or_damage (frame_or_damage p o) (damage_in (decoded_item made) more)) e,
@@ -144,7 +155,8 @@ module _ (made : Pkt → Option Item) where
   never_damaged all (Video f ∷ xs) = never_damaged all xs
   never_damaged all (Packet p ∷ xs) = by (made p) (all p) (never_damaged all xs)
     where
-      by : (o : Option Item) → IsSome o → damage_in (decoded_item made) xs ≡ None → or_damage (frame_or_damage p o) (damage_in (decoded_item made) xs) ≡ None
+      by : (o : Option Item) → IsSome o → damage_in (decoded_item made) xs ≡ None
+          → or_damage (frame_or_damage p o) (damage_in (decoded_item made) xs) ≡ None
       by (Some x) i e = e
       by None i e = cc
   never_damaged all (Trailer t ∷ xs) = never_damaged all xs

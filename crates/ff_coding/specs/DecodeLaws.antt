@@ -13,7 +13,8 @@ use Rattle.ff_coding.specs.Decoding.{frame_or_damage, decoded_item}
 use Rattle.ff_coding.specs.Spreads.{IsOutcomeOf, Carries}
 use Rattle.ff_coding.specs.Taken.{IsTakenPacket}
 
-module _ (head : StreamHead) (takes : Pkt → Type 0) (made : Pkt → Option Item) (law : (p : Pkt) → FitsPackets head (Packet p) → IsDecoded head p (takes p) (made p)) where
+module _ (head : StreamHead) (takes : Pkt → Type 0) (made : Pkt → Option Item)
+    (law : (p : Pkt) → FitsPackets head (Packet p) → IsDecoded head p (takes p) (made p)) where
   by_frame : (p : Pkt) (x : Option Item) → IfSome x (IsMadeOf (Frames head) (Packet p)) → IsOutcomeOf (Frames head) (Packet p) (frame_or_damage p x)
   by_frame p (Some x) m = (m, tt)
   by_frame p None m = tt

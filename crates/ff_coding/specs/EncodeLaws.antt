@@ -29,7 +29,8 @@ frame_timed (VideoHead tb format width height sar_num sar_den) Broken t = t
 
 module _ (head coded : StreamHead) (takes : Item → Type 0) (made : Item → Option Pkt) (times : HasSameTimes head coded)
     (law : (x : Item) → FitsFrames head x → IsEncoded coded x (takes x) (made x)) where
-  by_packet : (x : Item) (p : Option Pkt) → HasTime x → IsSomeAnd p (λ q. IsMadeOf (Packets coded) x (Packet q)) → IsOutcomeOf (Packets coded) x (packet_or_nothing p)
+  by_packet : (x : Item) (p : Option Pkt) → HasTime x → IsSomeAnd p (λ q. IsMadeOf (Packets coded) x (Packet q))
+      → IsOutcomeOf (Packets coded) x (packet_or_nothing p)
   by_packet x (Some p) t m = (m, t)
   by_packet x None t m = absurd m
 

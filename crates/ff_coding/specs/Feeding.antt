@@ -14,11 +14,13 @@ use Rattle.ff_coding.specs.Steps.{IsPut, FollowsFrom}
 
 -- fed this item on this input, which hadn't closed, one that stood so stands so
 abbrev pub StandsFed : List Lane → ℕ → Item → (Past → Type 0) → (Past → Type 0) → Type 0
-StandsFed lanes port x before after = (past : Past) → before past → (stream_at past.got port).mark ≡ still_open → AreValid lanes (fed past port x).got → after (fed past port x)
+StandsFed lanes port x before after =
+    (past : Past) → before past → (stream_at past.got port).mark ≡ still_open → AreValid lanes (fed past port x).got → after (fed past port x)
 
 -- whatever item is fed that this is put for
 abbrev pub IsFedPut : Spread → Spread → Item → Option ℕ → Type 0
-IsFedPut old new made damage = (lane_in lane_out : Lane) (f : Item → Outcome) (port : ℕ) (x : Item) → old.closed ≡ false → port < 1 → IsPut f x made damage
+IsFedPut old new made damage =
+    (lane_in lane_out : Lane) (f : Item → Outcome) (port : ℕ) (x : Item) → old.closed ≡ false → port < 1 → IsPut f x made damage
     → StandsFed (lane_in ∷ []) port x (SpreadStands lane_in lane_out f old) (SpreadStands lane_in lane_out f new)
 
 -- whatever item is fed that this step follows from

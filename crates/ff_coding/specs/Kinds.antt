@@ -25,14 +25,17 @@ use Rattle.ff_coding.specs.Spreads.{Line}
 
 -- a machine that is no source, and whose only fault is a damaged input
 abbrev pub coder_view : List Lane → List Lane → Option ℕ → (ℕ → Type 0) → (Past → Type 0) → View
-coder_view ins outs damage spent stands = record { in_lanes = ins; out_lanes = outs; source = None; fault = fault_by damage; device = None; failures = 0; holds = ⊥; tried = 0; spent = spent; stands = stands }
+coder_view ins outs damage spent stands =
+    record
+    { in_lanes = ins; out_lanes = outs; source = None; fault = fault_by damage; device = None; failures = 0; holds = ⊥; tried = 0; spent = spent; stands = stands }
 
 -- damage that was found stays
 fault_stays : (d e : Option ℕ) → ((offset : ℕ) → d ≡ Some offset → e ≡ Some offset) → (c : Fault) → fault_by d ≡ Some c → fault_by e ≡ Some c
 fault_stays None e h c f = cc
 fault_stays (Some offset) e h c f = ap fault_by (h offset refl) ∙ f
 
-pub coder_fares : (ins outs ins' outs' : List Lane) (d e : Option ℕ) (spent spent' : ℕ → Type 0) (stands stands' : Past → Type 0) → ((offset : ℕ) → d ≡ Some offset → e ≡ Some offset)
+pub coder_fares : (ins outs ins' outs' : List Lane) (d e : Option ℕ) (spent spent' : ℕ → Type 0) (stands stands' : Past → Type 0)
+    → ((offset : ℕ) → d ≡ Some offset → e ≡ Some offset)
     → FaultStep (coder_view ins outs d spent stands) (coder_view ins' outs' e spent' stands')
 coder_fares ins outs ins' outs' d e spent spent' stands stands' h = record {
   device_same = refl;
@@ -50,7 +53,8 @@ abbrev pub spread_view : Lane → Lane → Spread → (Past → Type 0) → View
 spread_view lane_in lane_out m stands = coder_view (lane_in ∷ []) (replicate (outputs_of m) lane_out) m.damage (spread_spent m) stands
 
 -- the laws of what gives on each output what it makes of its input
-module _ (lane_in lane_out : Lane) (f : Item → Outcome) (m : Spread) (stands : Past → Type 0) (is : (past : Past) → stands past → SpreadStands lane_in lane_out f m past) where
+module _ (lane_in lane_out : Lane) (f : Item → Outcome) (m : Spread) (stands : Past → Type 0)
+    (is : (past : Past) → stands past → SpreadStands lane_in lane_out f m past) where
   abbrev n : ℕ
   n = outputs_of m
 
@@ -83,17 +87,26 @@ module _ {D : Type 0} (head : D → StreamHead) (made : D → Pkt → Option Ite
   dec_view m = spread_view (Packets (head m.decoder)) (Frames (head m.decoder)) m.spread (dec_stands head made m)
 
   pub dec_laws : (m : Dec D) → Laws (dec_view m)
-  dec_laws m = spread_laws (Packets (head m.decoder)) (Frames (head m.decoder)) (decoded_item (made m.decoder)) m.spread (dec_stands head made m) (λ past s. s)
+  dec_laws m =
+      spread_laws (Packets (head m.decoder)) (Frames (head m.decoder)) (decoded_item (made m.decoder)) m.spread (dec_stands head made m)
+      (λ past s. s)
 
 module _ {E : Type 0} (serves : E → StreamHead → Type 0) (coded : E → StreamHead → StreamHead) (made : E → Item → Option Pkt) where
   abbrev pub enc_view : Enc E → View
   enc_view m = spread_view (Frames m.head) (Packets (coded m.encoder m.head)) m.spread (enc_stands serves coded made m)
 
   pub enc_laws : (m : Enc E) → Laws (enc_view m)
-  enc_laws m = spread_laws (Frames m.head) (Packets (coded m.encoder m.head)) (encoded_item (made m.encoder)) m.spread (enc_stands serves coded made m) (λ past s. s.1)
+  enc_laws m =
+      spread_laws (Frames m.head) (Packets (coded m.encoder m.head)) (encoded_item (made m.encoder)) m.spread (enc_stands serves coded made m)
+      (λ past s. s.1)
 
-pub same_shape : (lane_in lane_out : Lane) (m k : Spread) (stands stands' : Past → Type 0) → outputs_of k ≡ outputs_of m → IsSameShape (spread_view lane_in lane_out m stands) (spread_view lane_in lane_out k stands')
+pub same_shape : (lane_in lane_out : Lane) (m k : Spread) (stands stands' : Past → Type 0) → outputs_of k ≡ outputs_of m
+    → IsSameShape (spread_view lane_in lane_out m stands) (spread_view lane_in lane_out k stands')
 same_shape lane_in lane_out m k stands stands' e = record { in_lanes = refl; out_lanes = ap (λ (j : ℕ). replicate j lane_out) e; source = refl }
 
-pub fares : (lane_in lane_out : Lane) (m k : Spread) (stands stands' : Past → Type 0) → ((offset : ℕ) → m.damage ≡ Some offset → k.damage ≡ Some offset) → FaultStep (spread_view lane_in lane_out m stands) (spread_view lane_in lane_out k stands')
-fares lane_in lane_out m k stands stands' h = coder_fares (lane_in ∷ []) (replicate (outputs_of m) lane_out) (lane_in ∷ []) (replicate (outputs_of k) lane_out) m.damage k.damage (spread_spent m) (spread_spent k) stands stands' h
+pub fares : (lane_in lane_out : Lane) (m k : Spread) (stands stands' : Past → Type 0)
+    → ((offset : ℕ) → m.damage ≡ Some offset → k.damage ≡ Some offset)
+    → FaultStep (spread_view lane_in lane_out m stands) (spread_view lane_in lane_out k stands')
+fares lane_in lane_out m k stands stands' h =
+    coder_fares (lane_in ∷ []) (replicate (outputs_of m) lane_out) (lane_in ∷ []) (replicate (outputs_of k) lane_out) m.damage k.damage
+    (spread_spent m) (spread_spent k) stands stands' h

@@ -47,7 +47,8 @@ items_step (breaks offset) d xs ys = refl
 items_append : (f : Item → Outcome) (xs ys : List Item) → made_items f (xs ++ ys) ≡ then_items (damage_in f xs) (made_items f xs) (made_items f ys)
 unfolding then_items
 items_append f [] ys = refl
-items_append f (x ∷ xs) ys = ap (λ (zs : List Item). and_items (f x) zs) (items_append f xs ys) ∙ items_step (f x) (damage_in f xs) (made_items f xs) (made_items f ys)
+items_append f (x ∷ xs) ys =
+    ap (λ (zs : List Item). and_items (f x) zs) (items_append f xs ys) ∙ items_step (f x) (damage_in f xs) (made_items f xs) (made_items f ys)
 
 module _ (f : Item → Outcome) (xs ys : List Item) where
   -- where nothing broke off, more comes of more
@@ -87,12 +88,14 @@ module _ (f : Item → Outcome) where
   made_below r s (inl e) = inl (ap (λ (t : Flow). made_stream f t) e)
   made_below r s (inr p) =
       let left : r ≡ record { items = r.items; mark = still_open } = same_stream r (record { items = r.items; mark = still_open }) refl p.0 in
-      let right : record { items = r.items ++ p.1.0; mark = s.mark } ≡ s = same_stream (record { items = r.items ++ p.1.0; mark = s.mark }) s p.1.1 refl in
+      let right : record { items = r.items ++ p.1.0; mark = s.mark } ≡ s =
+      same_stream (record { items = r.items ++ p.1.0; mark = s.mark }) s p.1.1 refl in
       subst (λ (t : Flow). LiesBelow (made_stream f t) (made_stream f s)) (sym left)
       (subst (λ (t : Flow). LiesBelow (made_stream f (record { items = r.items; mark = still_open })) (made_stream f t)) right
       (longer_below r.items p.1.0 s.mark (some_or_none (damage_in f r.items))))
 
-  calm_by : (d : Option ℕ) (xs : List Item) (m : Mark) → LiesBelow (record { items = xs; mark = opened_mark (mark_by d m) }) (record { items = xs; mark = mark_by d (opened_mark m) })
+  calm_by : (d : Option ℕ) (xs : List Item) (m : Mark)
+      → LiesBelow (record { items = xs; mark = opened_mark (mark_by d m) }) (record { items = xs; mark = mark_by d (opened_mark m) })
   calm_by None xs m = inl refl
   calm_by (Some offset) xs m = inr (refl, prefix_self xs)
 
@@ -144,7 +147,8 @@ module _ (lane_in lane_out : Lane) (f : Item → Outcome) (c : Carries lane_in l
       let h = front_all (IsItemFor lane_in) x xs a in
       by (f x) (c.made x (h.0).fits) (h.0) (all_for xs (h.1))
     where
-      by : (o : Outcome) → IsOutcomeOf lane_out x o → IsItemFor lane_in x → All (IsItemFor lane_out) (made_items f xs) → All (IsItemFor lane_out) (and_items o (made_items f xs))
+      by : (o : Outcome) → IsOutcomeOf lane_out x o → IsItemFor lane_in x → All (IsItemFor lane_out) (made_items f xs)
+          → All (IsItemFor lane_out) (and_items o (made_items f xs))
       by (gives y) m i rest = all_cons (IsItemFor lane_out) y (made_items f xs) (item_for x y i m.0 m.1) rest
       by passes m i rest = rest
       by (breaks offset) m i rest = no_items (IsItemFor lane_out)
@@ -156,8 +160,12 @@ module _ (lane_in lane_out : Lane) (f : Item → Outcome) (c : Carries lane_in l
       let k = front_all (EndsInTime lane_in) x xs t in
       by (f x) (c.made x (h.0).fits) (k.0) (time_for xs (h.1) (k.1))
     where
-      by : (o : Outcome) → IsOutcomeOf lane_out x o → EndsInTime lane_in x → All (EndsInTime lane_out) (made_items f xs) → All (EndsInTime lane_out) (and_items o (made_items f xs))
-      by (gives y) m e rest = all_cons (EndsInTime lane_out) y (made_items f xs) (subst (λ (b : Fraction). IsInTime b (ticks (end_of y))) (sym c.base) (subst (λ (n : ℤ). IsInTime (base_of lane_in) (ticks n)) (sym (m.0).ends) e)) rest
+      by : (o : Outcome) → IsOutcomeOf lane_out x o → EndsInTime lane_in x → All (EndsInTime lane_out) (made_items f xs)
+          → All (EndsInTime lane_out) (and_items o (made_items f xs))
+      by (gives y) m e rest =
+          all_cons (EndsInTime lane_out) y (made_items f xs)
+          (subst (λ (b : Fraction). IsInTime b (ticks (end_of y))) (sym c.base) (subst (λ (n : ℤ). IsInTime (base_of lane_in) (ticks n)) (sym (m.0).ends) e))
+          rest
       by passes m e rest = rest
       by (breaks offset) m e rest = no_items (EndsInTime lane_out)
 
@@ -170,7 +178,8 @@ module _ (lane_in lane_out : Lane) (f : Item → Outcome) (c : Carries lane_in l
   }
 
   -- an item before what is made of those behind it
-  order_behind : (x x' : Item) (xs : List Item) → IsMadeOf lane_out x x' → All (IsItemFor lane_in) xs → InOrder lane_in (x ∷ xs) → InOrder lane_out (made_items f xs) → InOrder lane_out (x' ∷ made_items f xs)
+  order_behind : (x x' : Item) (xs : List Item) → IsMadeOf lane_out x x' → All (IsItemFor lane_in) xs → InOrder lane_in (x ∷ xs)
+      → InOrder lane_out (made_items f xs) → InOrder lane_out (x' ∷ made_items f xs)
   order_behind x x' [] m a o r = tt
   order_behind x x' (y ∷ ys) m a o r = by (f y) (c.made y ((front_all (IsItemFor lane_in) y ys a).0).fits) r
     where
@@ -178,7 +187,8 @@ module _ (lane_in lane_out : Lane) (f : Item → Outcome) (c : Carries lane_in l
       none_behind [] n p = tt
       none_behind (z ∷ zs) n p = absurd (n (p.0).timed)
 
-      by : (u : Outcome) → IsOutcomeOf lane_out y u → InOrder lane_out (and_items u (made_items f ys)) → InOrder lane_out (x' ∷ and_items u (made_items f ys))
+      by : (u : Outcome) → IsOutcomeOf lane_out y u → InOrder lane_out (and_items u (made_items f ys))
+          → InOrder lane_out (x' ∷ and_items u (made_items f ys))
       by (gives y') n s = (follows_for x y x' y' o.0 m n.0 n.1, s)
       by passes n s = none_behind ys n o.1
       by (breaks offset) n s = tt
@@ -193,7 +203,8 @@ module _ (lane_in lane_out : Lane) (f : Item → Outcome) (c : Carries lane_in l
       let h = front_all (IsItemFor lane_in) x xs a in
       by (f x) (c.made x (h.0).fits) (h.1) (order_for xs (h.1) (order_tail x xs o))
     where
-      by : (u : Outcome) → IsOutcomeOf lane_out x u → All (IsItemFor lane_in) xs → InOrder lane_out (made_items f xs) → InOrder lane_out (and_items u (made_items f xs))
+      by : (u : Outcome) → IsOutcomeOf lane_out x u → All (IsItemFor lane_in) xs → InOrder lane_out (made_items f xs)
+          → InOrder lane_out (and_items u (made_items f xs))
       by (gives x') m b r = order_behind x x' xs m.0 b o r
       by passes m b r = r
       by (breaks offset) m b r = tt

@@ -83,7 +83,8 @@ some_goes_on (suc n) lines = elim (some_goes_on n lines) as (λ _. AllStopped (s
     pick all true e = inl (last all e)
     pick all false e = inr (n, omega arith, e)
 
-module _ (lane_in lane_out : Lane) (f : Item → Outcome) (n : ℕ) (lines : ℕ → Line) (closed : Bool) (found : Option ℕ) (past : Past) (s : Spreads lane_in lane_out f n lines closed found past) where
+module _ (lane_in lane_out : Lane) (f : Item → Outcome) (n : ℕ) (lines : ℕ → Line) (closed : Bool) (found : Option ℕ) (past : Past)
+    (s : Spreads lane_in lane_out f n lines closed found past) where
   pub spreads_valid : AreValid (lane_in ∷ []) past.got
   spreads_valid zero = s.valid
   spreads_valid (suc p) = s.others (suc p) (omega arith)
@@ -112,7 +113,8 @@ module _ (lane_in lane_out : Lane) (f : Item → Outcome) (n : ℕ) (lines : ℕ
   calm_at rs q =
       let out = made_stream f (stream_at rs 0) in
       let later = made_stream f (stream_at (map opened rs) 0) in
-      let here : LiesBelow (opened out) later = subst (λ (x : Flow). LiesBelow (opened out) (made_stream f x)) (sym (stream_at-opened rs 0)) (made_calm f (stream_at rs 0)) in
+      let here : LiesBelow (opened out) later =
+      subst (λ (x : Flow). LiesBelow (opened out) (made_stream f x)) (sym (stream_at-opened rs 0)) (made_calm f (stream_at rs 0)) in
       rw (stream_at-opened (spread n f rs) q) (elim (below_or q n) [
         | inl lt ↦ rw (at_replicate n q out lt, at_replicate n q later lt) here
         | inr le ↦ rw (past_replicate n q out le, past_replicate n q later le) (below_self nothing)

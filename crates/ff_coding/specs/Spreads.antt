@@ -51,7 +51,8 @@ abbrev pub is_spent_spread : ℕ → (ℕ → Line) → Bool → ℕ → Type 0
 is_spent_spread n lines closed p = (p < 1) × ((closed ≡ true) ⊎ AllStopped n lines)
 
 -- `lines` of n outputs were made and not yet given; `closed` says that nothing more is made, `found` what broke off here
-pub record Spreads (lane_in lane_out : Lane) (f : Item → Outcome) (n : ℕ) (lines : ℕ → Line) (closed : Bool) (found : Option ℕ) (past : Past) : Type 0 where
+pub record Spreads (lane_in lane_out : Lane) (f : Item → Outcome) (n : ℕ) (lines : ℕ → Line) (closed : Bool) (found : Option ℕ)
+    (past : Past) : Type 0 where
   pub carries : Carries lane_in lane_out f
   pub some : 1 ≤ n
   pub means : past.task.means ≡ spread n f

@@ -22,13 +22,15 @@ ghost use Rattle.ff_coding.specs.Encoding.{encoded, enc_task};
 pub fn decoding_is_by_packets()
     ensures whole { (made : Pkt → Option Item) (packets : List Pkt) (frames : List Item) (mark : Mark) → map made packets ≡ map (λ x. Some x) frames
         → decoded made (record { items = packets_in packets; mark = mark }) ≡ record { items = frames; mark = mark } }
-    ensures damaged { (made : Pkt → Option Item) (packets : List Pkt) (frames : List Item) (packet : Pkt) (more : List Item) (mark : Mark) → map made packets ≡ map (λ x. Some x) frames → made packet ≡ None
+    ensures damaged { (made : Pkt → Option Item) (packets : List Pkt) (frames : List Item) (packet : Pkt) (more : List Item) (mark : Mark)
+        → map made packets ≡ map (λ x. Some x) frames → made packet ≡ None
         → decoded made (record { items = packets_in packets ++ Packet packet ∷ more; mark = mark }) ≡ record { items = frames; mark = broken } }
 {}
 
 /// Where a packet has no frame, nothing more is made, however the packets go on.
 pub fn decoding_ends_at_damage()
-    ensures { (made : Pkt → Option Item) (packets later : Flow) (offset : ℕ) → damage_in (decoded_item made) packets.items ≡ Some offset → LiesBelow packets later → decoded made later ≡ decoded made packets }
+    ensures { (made : Pkt → Option Item) (packets later : Flow) (offset : ℕ) → damage_in (decoded_item made) packets.items ≡ Some offset
+        → LiesBelow packets later → decoded made later ≡ decoded made packets }
 {}
 
 /// Every packet of linear PCM and of raw video has a frame: no stream of these is damaged.
@@ -46,18 +48,23 @@ pub fn coding_keeps_the_broken_rule()
 
 /// Each output of a decoder has the frames, and the output of an encoder the packets.
 pub fn coding_is_on_each_output()
-    ensures decoding { (made : Pkt → Option Item) (outputs q : ℕ) (ss : List Flow) → q < outputs → stream_at ((dec_task made outputs).means ss) q ≡ decoded made (stream_at ss 0) }
+    ensures decoding { (made : Pkt → Option Item) (outputs q : ℕ) (ss : List Flow) → q < outputs
+        → stream_at ((dec_task made outputs).means ss) q ≡ decoded made (stream_at ss 0) }
     ensures encoding { (made : Item → Option Pkt) (ss : List Flow) → stream_at ((enc_task made).means ss) 0 ≡ encoded made (stream_at ss 0) }
 {}
 
 /// The frames of valid packets are valid, and pass no limit: cutting them there changes nothing.
 pub fn decoding_passes_no_limit()
-    ensures valid { (head : StreamHead) (packets : Flow) → CanDecode head → IsValid (Packets head) packets → IsValid (Frames head) (decoded (frame_made head) packets) }
-    ensures within_limits { (head : StreamHead) (packets : Flow) → CanDecode head → IsValid (Packets head) packets → within (passes_limits (Frames head)) (decoded (frame_made head) packets) ≡ decoded (frame_made head) packets }
+    ensures valid { (head : StreamHead) (packets : Flow) → CanDecode head → IsValid (Packets head) packets
+        → IsValid (Frames head) (decoded (frame_made head) packets) }
+    ensures within_limits { (head : StreamHead) (packets : Flow) → CanDecode head → IsValid (Packets head) packets
+        → within (passes_limits (Frames head)) (decoded (frame_made head) packets) ≡ decoded (frame_made head) packets }
 {}
 
 /// The packets of valid frames are valid, and pass no limit: cutting them there changes nothing.
 pub fn encoding_passes_no_limit()
-    ensures valid { (head coded : StreamHead) (frames : Flow) → CanEncode head coded → IsValid (Frames head) frames → IsValid (Packets coded) (encoded (packet_made coded) frames) }
-    ensures within_limits { (head coded : StreamHead) (frames : Flow) → CanEncode head coded → IsValid (Frames head) frames → within (passes_limits (Packets coded)) (encoded (packet_made coded) frames) ≡ encoded (packet_made coded) frames }
+    ensures valid { (head coded : StreamHead) (frames : Flow) → CanEncode head coded → IsValid (Frames head) frames
+        → IsValid (Packets coded) (encoded (packet_made coded) frames) }
+    ensures within_limits { (head coded : StreamHead) (frames : Flow) → CanEncode head coded → IsValid (Frames head) frames
+        → within (passes_limits (Packets coded)) (encoded (packet_made coded) frames) ≡ encoded (packet_made coded) frames }
 {}

@@ -135,10 +135,13 @@ impl Spread {
     /// The next item that is ready on an output.
     pub fn take(&mut self, port: usize) -> Option<Item>
         requires { port < length self.old.outs.items }
-        ensures gives { (lane_in lane_out : Lane) (f : Item → Outcome) (past : Past) (x : Item) → result ≡ Some x → SpreadStands lane_in lane_out f self.old past → (IsIn port past.stopped → ⊥)
+        ensures gives { (lane_in lane_out : Lane) (f : Item → Outcome) (past : Past) (x : Item) → result ≡ Some x
+            → SpreadStands lane_in lane_out f self.old past → (IsIn port past.stopped → ⊥)
             → SpreadStands lane_in lane_out f self.new (gave_item past port x) × ((stream_at past.gave port).mark ≡ still_open) × LiesBelow (with_item (stream_at past.gave port) x) (stream_at (due past) port) }
-        ensures waits { (lane_in lane_out : Lane) (f : Item → Outcome) (past : Past) → result ≡ None → SpreadStands lane_in lane_out f self.old past → SpreadStands lane_in lane_out f self.new (was_asked past port) }
-        ensures none_due { (lane_in lane_out : Lane) (f : Item → Outcome) (past : Past) → result ≡ None → SpreadStands lane_in lane_out f self.old past → (IsIn port past.stopped → ⊥) → stream_at past.gave port ≡ stream_at (due past) port }
+        ensures waits { (lane_in lane_out : Lane) (f : Item → Outcome) (past : Past) → result ≡ None → SpreadStands lane_in lane_out f self.old past
+            → SpreadStands lane_in lane_out f self.new (was_asked past port) }
+        ensures none_due { (lane_in lane_out : Lane) (f : Item → Outcome) (past : Past) → result ≡ None
+            → SpreadStands lane_in lane_out f self.old past → (IsIn port past.stopped → ⊥) → stream_at past.gave port ≡ stream_at (due past) port }
         ensures count { length self.new.outs.items ≡ length self.old.outs.items }
         ensures damage { self.new.damage ≡ self.old.damage }
     {
@@ -149,7 +152,8 @@ impl Spread {
     /// Nothing more is wanted on an output: what is ready there is let go.
     pub fn stop(&mut self, port: usize)
         requires { port < length self.old.outs.items }
-        ensures stopped { (lane_in lane_out : Lane) (f : Item → Outcome) (past : Past) → SpreadStands lane_in lane_out f self.old past → SpreadStands lane_in lane_out f self.new (was_stopped past port) }
+        ensures stopped { (lane_in lane_out : Lane) (f : Item → Outcome) (past : Past) → SpreadStands lane_in lane_out f self.old past
+            → SpreadStands lane_in lane_out f self.new (was_stopped past port) }
         ensures count { length self.new.outs.items ≡ length self.old.outs.items }
         ensures damage { self.new.damage ≡ self.old.damage }
     {

@@ -10,8 +10,11 @@ use Rattle.ff_coding.specs.DecodeLaws.{decoding_carries}
 use Rattle.ff_coding.specs.MakingLaws.{made_valid}
 use Rattle.ff_coding.proofs.coding.decoding_passes_no_limit.Goals as goal
 
-valid_frames : (head : StreamHead) (packets : Flow) → CanDecode head → IsValid (Packets head) packets → IsValid (Frames head) (decoded (frame_made head) packets)
-valid_frames head packets c v = made_valid (Packets head) (Frames head) (decoded_item (frame_made head)) (decoding_carries head (IsTakenOf head) (frame_made head) (λ p fits. choice_decoded head p c fits)) packets v
+valid_frames : (head : StreamHead) (packets : Flow) → CanDecode head → IsValid (Packets head) packets
+    → IsValid (Frames head) (decoded (frame_made head) packets)
+valid_frames head packets c v =
+    made_valid (Packets head) (Frames head) (decoded_item (frame_made head))
+    (decoding_carries head (IsTakenOf head) (frame_made head) (λ p fits. choice_decoded head p c fits)) packets v
 
 pub returns-clause-valid : goal.returns-clause-valid
 returns-clause-valid c head packets can v = valid_frames head packets can v

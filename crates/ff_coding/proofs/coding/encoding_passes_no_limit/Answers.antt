@@ -10,7 +10,8 @@ use Rattle.ff_coding.specs.EncodeLaws.{encoding_carries}
 use Rattle.ff_coding.specs.MakingLaws.{made_valid}
 use Rattle.ff_coding.proofs.coding.encoding_passes_no_limit.Goals as goal
 
-valid_packets : (head coded : StreamHead) (frames : Flow) → CanEncode head coded → IsValid (Frames head) frames → IsValid (Packets coded) (encoded (packet_made coded) frames)
+valid_packets : (head coded : StreamHead) (frames : Flow) → CanEncode head coded → IsValid (Frames head) frames
+    → IsValid (Packets coded) (encoded (packet_made coded) frames)
 valid_packets head coded frames c v =
     made_valid (Frames head) (Packets coded) (encoded_item (packet_made coded))
     (encoding_carries head coded (IsTakenFor coded) (packet_made coded) (choice_times head coded c) (λ x fits. choice_encoded head coded x c fits)) frames v
@@ -19,4 +20,5 @@ pub returns-clause-valid : goal.returns-clause-valid
 returns-clause-valid c head coded frames can v = valid_packets head coded frames can v
 
 pub returns-clause-within_limits : goal.returns-clause-within_limits
-returns-clause-within_limits c head coded frames can v = valid_within (Packets coded) (encoded (packet_made coded) frames) (valid_packets head coded frames can v)
+returns-clause-within_limits c head coded frames can v =
+    valid_within (Packets coded) (encoded (packet_made coded) frames) (valid_packets head coded frames can v)

@@ -10,11 +10,14 @@ loop-q-preserved c =
     let rs = c.args.outs.now.items in
     let q = c.loop-q.q in
     let lt : q < length rs = omega arith in
-    let here : (line_at rs q).stopped ≡ c.index-out.result.now.stopped = ap (λ (x : Line). x.stopped) (line_is rs q c.index-out.result.now lt c.index-out.ensures) in
+    let here : (line_at rs q).stopped ≡ c.index-out.result.now.stopped =
+    ap (λ (x : Line). x.stopped) (line_is rs q c.index-out.result.now lt c.index-out.ensures) in
     elim c.if-not-out.branch [
       | then-not-out w ↦ record {
         none = λ e. let clash : Some q ≡ None = sym w.last-is ∙ e in cc;
-        some = λ k e. let same : Some q ≡ Some k = sym w.last-is ∙ e in let at : q ≡ k = cc in subst (λ (j : ℕ). LastBelow rs (q + 1) j) at (last_here rs q (here ∙ w.if-not-out.true));
+        some =
+            λ k e. let same : Some q ≡ Some k = sym w.last-is
+            ∙ e in let at : q ≡ k = cc in subst (λ (j : ℕ). LastBelow rs (q + 1) j) at (last_here rs q (here ∙ w.if-not-out.true));
       }
       | else-not-out w ↦ record {
         none = λ e. none_more rs q (here ∙ w.if-not-out.false) (c.loop-q.invariant.none (sym w.last-is ∙ e));

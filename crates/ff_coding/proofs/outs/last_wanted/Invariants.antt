@@ -6,5 +6,6 @@ use Rattle.ff_coding.proofs.outs.last_wanted.Given as goal
 abbrev pub invariant-loop-q : goal.invariant-loop-q
 invariant-loop-q l = record {
   none : l.last ≡ None → AllStopped l.q (line_at l.outs.items);
-  some : (k : ℕ) → l.last ≡ Some k → (k < l.q) × ((line_at l.outs.items k).stopped ≡ false) × ((j : ℕ) → k < j → j < l.q → (line_at l.outs.items j).stopped ≡ true);
+  some : (k : ℕ) → l.last ≡ Some k
+      → (k < l.q) × ((line_at l.outs.items k).stopped ≡ false) × ((j : ℕ) → k < j → j < l.q → (line_at l.outs.items j).stopped ≡ true);
 }

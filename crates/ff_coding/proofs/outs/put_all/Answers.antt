@@ -20,9 +20,10 @@ loop-q-preserved c =
       next = λ k le. next_set_other rs q k new (later k le) ∙ inv.next k (omega (arith, le));
       lines = λ k le. line_set_other rs q k new (later k le) ∙ inv.lines k (omega (arith, le));
       stopped = λ k. put_stopped first rs q k old new lt c.index_mut-out.ensures.value c.put_next.ensures.stopped (inv.stopped k);
-      queues = λ made next k low on. elim (lower_or_same k q low) as (λ _. (line_at (slice_set rs q new) k).queue ≡ (line_at first k).queue ++ made ∷ []) [
-        | inl l ↦ (let other : k ≢ q = omega (arith, l) in ap (λ (x : Line). x.queue) (line_set_other rs q k new other) ∙ inv.queues made next k l on)
-        | inr s ↦ subst (λ (j : ℕ). (line_at (slice_set rs q new) j).queue ≡ (line_at first j).queue ++ made ∷ []) (sym s)
-            (put_queue made first rs q old new lt c.index_mut-out.ensures.value (inv.lines q (omega arith)) (inv.next q (omega arith)) (next q (omega (arith, inv.count)) (subst (λ (j : ℕ). (line_at first j).stopped ≡ false) s on)) (subst (λ (j : ℕ). (line_at first j).stopped ≡ false) s on) c.put_next.ensures.puts)
-      ];
+      queues =
+          λ made next k low on. elim (lower_or_same k q low) as (λ _. (line_at (slice_set rs q new) k).queue ≡ (line_at first k).queue ++ made ∷ []) [
+            | inl l ↦ (let other : k ≢ q = omega (arith, l) in ap (λ (x : Line). x.queue) (line_set_other rs q k new other) ∙ inv.queues made next k l on)
+            | inr s ↦ subst (λ (j : ℕ). (line_at (slice_set rs q new) j).queue ≡ (line_at first j).queue ++ made ∷ []) (sym s)
+                (put_queue made first rs q old new lt c.index_mut-out.ensures.value (inv.lines q (omega arith)) (inv.next q (omega arith)) (next q (omega (arith, inv.count)) (subst (λ (j : ℕ). (line_at first j).stopped ≡ false) s on)) (subst (λ (j : ℕ). (line_at first j).stopped ≡ false) s on) c.put_next.ensures.puts)
+          ];
     }

@@ -12,5 +12,6 @@ invariant-loop-q l = record {
   next : (k : ℕ) → l.q ≤ k → next_at l.outs.items k ≡ next_at l.fn.outs.items k;
   lines : (k : ℕ) → l.q ≤ k → line_at l.outs.items k ≡ line_at l.fn.outs.items k;
   stopped : (k : ℕ) → (line_at l.outs.items k).stopped ≡ (line_at l.fn.outs.items k).stopped;
-  queues : (made : Item) → AreNext made (length l.fn.outs.items) l.fn.outs.items → (k : ℕ) → k < l.q → (line_at l.fn.outs.items k).stopped ≡ false → (line_at l.outs.items k).queue ≡ (line_at l.fn.outs.items k).queue ++ made ∷ [];
+  queues : (made : Item) → AreNext made (length l.fn.outs.items) l.fn.outs.items → (k : ℕ) → k < l.q → (line_at l.fn.outs.items k).stopped ≡ false
+      → (line_at l.outs.items k).queue ≡ (line_at l.fn.outs.items k).queue ++ made ∷ [];
 }

@@ -30,10 +30,12 @@ returns-in_ok-copy_below-in-Some-clause-same c =
     let last : IsLast c.args.outs.now.items c.in-Some.last = c.last_wanted.ensures.last c.in-Some.last c.in-Some.is in
     let rs = c.copy_below.new.outs.items in
     let lt : c.in-Some.last < length rs = omega (arith, last.there, c.copy_below.ensures.same.count) in
-    same_then _ _ _ c.copy_below.ensures.same (same_set rs c.in-Some.last c.index_mut-out.result.now c.set_next.new.self lt c.index_mut-out.ensures.value c.set_next.ensures.same)
+    same_then _ _ _ c.copy_below.ensures.same
+    (same_set rs c.in-Some.last c.index_mut-out.result.now c.set_next.new.self lt c.index_mut-out.ensures.value c.set_next.ensures.same)
 
 pub returns-in_ok-copy_below-in-Some-clause-next : goal.returns-in_ok-copy_below-in-Some-clause-next
 returns-in_ok-copy_below-in-Some-clause-next c =
     let last : IsLast c.args.outs.now.items c.in-Some.last = c.last_wanted.ensures.last c.in-Some.last c.in-Some.is in
     let rs = c.copy_below.new.outs.items in
-    next_all c.args.made c.args.outs.now.items rs c.in-Some.last c.index_mut-out.result.now c.set_next.new.self last c.copy_below.ensures.same c.index_mut-out.ensures.value c.set_next.ensures.same c.in_ok-copy_below-in-Some.ensures.next c.set_next.ensures.next
+    next_all c.args.made c.args.outs.now.items rs c.in-Some.last c.index_mut-out.result.now c.set_next.new.self last c.copy_below.ensures.same
+    c.index_mut-out.ensures.value c.set_next.ensures.same c.in_ok-copy_below-in-Some.ensures.next c.set_next.ensures.next

@@ -13,7 +13,8 @@ returns-then-is_closed-clause-accepted g c past s o v =
     let lane_in = Packets (g.D.Decoder.head m.decoder) in
     let lane_out = Frames (g.D.Decoder.head m.decoder) in
     let f = decoded_item (g.D.Decoder.made m.decoder) in
-    over_at lane_in lane_out f _ _ m.spread.closed m.spread.damage past s c.args._port c.args.item (sym c.is_closed.ensures ∙ c.if-is_closed.true) c.requires o v
+    over_at lane_in lane_out f _ _ m.spread.closed m.spread.damage past s c.args._port c.args.item (sym c.is_closed.ensures ∙ c.if-is_closed.true)
+    c.requires o v
 
 pub returns-in-Ok-clause-accepted : goal.returns-in-Ok-clause-accepted
 returns-in-Ok-clause-accepted g c =
@@ -31,7 +32,8 @@ returns-in-Ok-clause-accepted g c =
     (λ h past s o v.
     let taken = taken_packet head (g.D.Decoder.takes m.decoder) made
     (λ q fits. g.met.D.Decoder.carries m.decoder q fits) x (fits_at lane_in lane_out f _ _ m.spread.closed m.spread.damage past s p x c.requires v) in
-    h lane_in lane_out f p x open_now c.requires (c.in-Ok.ensures.follows taken) past (spread_same lane_in lane_out f m.spread c.reserve.new.self past c.reserve.ensures.same s) o v)
+    h lane_in lane_out f p x open_now c.requires (c.in-Ok.ensures.follows taken) past
+    (spread_same lane_in lane_out f m.spread c.reserve.new.self past c.reserve.ensures.same s) o v)
     c.follow.ensures.accepted
 
 pub returns-in-Ok-clause-refused : goal.returns-in-Ok-clause-refused

@@ -17,13 +17,15 @@ loop-q-preserved c =
     let count : length rs ≡ c.loop-q._q = c.loop-q.invariant.count in
     record {
       count = ap (λ (xs : List Ready). length xs) is ∙ (length-append rs (r ∷ []) ∙ omega (arith, count));
-      lines = λ k lt. subst (λ (xs : List Ready). line_at xs k ≡ fresh) (sym is) (elim (lower_or_same k c.loop-q._q lt) as (λ _. line_at (rs ++ r ∷ []) k ≡ fresh) [
-        | inl l ↦ line_front rs r k (omega (arith, l, count)) ∙ c.loop-q.invariant.lines k l
-        | inr e ↦ line_last rs r k (e ∙ sym count) ∙ c.new.ensures
-      ]);
+      lines =
+          λ k lt. subst (λ (xs : List Ready). line_at xs k ≡ fresh) (sym is) (elim (lower_or_same k c.loop-q._q lt) as (λ _. line_at (rs ++ r ∷ []) k ≡ fresh) [
+            | inl l ↦ line_front rs r k (omega (arith, l, count)) ∙ c.loop-q.invariant.lines k l
+            | inr e ↦ line_last rs r k (e ∙ sym count) ∙ c.new.ensures
+          ]);
     }
 
 pub returns-clause-stands : goal.returns-clause-stands
 returns-clause-stands c lane_in lane_out f task carries t =
     let same : c.args.outputs ≡ c.loop-q._q = omega arith in
-    new_at lane_in lane_out f c.args.outputs _ _ task c.requires carries t (c.loop-q.invariant.count ∙ sym same) (λ q lt. c.loop-q.invariant.lines q (omega (arith, lt, same)))
+    new_at lane_in lane_out f c.args.outputs _ _ task c.requires carries t (c.loop-q.invariant.count ∙ sym same)
+    (λ q lt. c.loop-q.invariant.lines q (omega (arith, lt, same)))

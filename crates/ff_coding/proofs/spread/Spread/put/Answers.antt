@@ -13,5 +13,6 @@ pub returns-then-is_none-clause-accepted : goal.returns-then-is_none-clause-acce
 returns-then-is_none-clause-accepted c lane_in lane_out f port x e lt h past s o v =
     let m = c.args.self.now in
     let puts : ArePut c.args.made m.outs.items c.put_on_all.new.outs.items = c.in_ok-put_on_all.ensures.puts in
-    put_at lane_in lane_out f _ _ m.closed m.damage past s port x c.args.made c.args.damage c.args.damage c.closes-closes.result _ _ e lt o v h c.closes-closes.ensures
+    put_at lane_in lane_out f _ _ m.closed m.damage past s port x c.args.made c.args.damage c.args.damage c.closes-closes.result _ _ e lt o v h
+    c.closes-closes.ensures
     (none_first m.damage c.args.damage c.if-is_none.ensures) puts.count puts.stopped puts.queues

@@ -9,4 +9,5 @@ returns-clause-stopped c lane_in lane_out f past s =
     let m = c.args.self.now in
     let rs = m.outs.items in
     let p = c.args.port in
-    stopped_at lane_in lane_out f _ _ m.closed m.damage past s p _ _ c.requires (set_count rs p _) (ap (λ (l : Line). l.stopped) (line_set_same rs p _ c.requires)) (λ q n. line_set_other rs p q _ n)
+    stopped_at lane_in lane_out f _ _ m.closed m.damage past s p _ _ c.requires (set_count rs p _)
+    (ap (λ (l : Line). l.stopped) (line_set_same rs p _ c.requires)) (λ q n. line_set_other rs p q _ n)

@@ -17,7 +17,8 @@ returns-clause-gives c lane_in lane_out f past x is s on =
     let p = c.args.port in
     let rest : List Item = c.pop_front.new.self.items in
     let line = line_is rs p c.index_mut-out.result.now c.requires c.index_mut-out.ensures.value in
-    let front : c.index_mut-out.result.now.queue.items ≡ x ∷ rest = c.pop_front.ensures.items ∙ ap (λ (o : Option Item). option_to_list o ++ rest) is in
+    let front : c.index_mut-out.result.now.queue.items ≡ x ∷ rest =
+    c.pop_front.ensures.items ∙ ap (λ (o : Option Item). option_to_list o ++ rest) is in
     gives_at lane_in lane_out f _ _ m.closed m.damage past s p x rest _ _ c.requires (ap (λ (l : Line). l.queue) line ∙ front) on (set_count rs p _)
     (line_set_same rs p _ c.requires ∙ ap (λ (l : Line). let k : Line = record { queue = rest; stopped = l.stopped } in k) (sym line)) (λ q n. line_set_other rs p q _ n)
 
@@ -26,7 +27,8 @@ returns-clause-waits c lane_in lane_out f past is s =
     let m = c.args.self.now in
     let rs = m.outs.items in
     let p = c.args.port in
-    let kept : c.index_mut-out.result.now.queue.items ≡ c.pop_front.new.self.items = c.pop_front.ensures.items ∙ ap (λ (o : Option Item). option_to_list o ++ c.pop_front.new.self.items) is in
+    let kept : c.index_mut-out.result.now.queue.items ≡ c.pop_front.new.self.items =
+    c.pop_front.ensures.items ∙ ap (λ (o : Option Item). option_to_list o ++ c.pop_front.new.self.items) is in
     let line : record { queue = c.pop_front.new.self.items; stopped = c.index_mut-out.result.now.stopped } ≡ line_of c.index_mut-out.result.now =
     ap (λ (xs : List Item). let l : Line = record { queue = xs; stopped = c.index_mut-out.result.now.stopped } in l) (sym kept) in
     let same = same_set rs p c.index_mut-out.result.now _ c.requires c.index_mut-out.ensures.value line in
