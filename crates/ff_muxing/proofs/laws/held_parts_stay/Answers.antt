@@ -1,0 +1,5 @@
+use Rattle.ff_muxing.specs.Held.{held_parts_stay}
+use Rattle.ff_muxing.proofs.laws.held_parts_stay.Goals as goal
+
+pub returns : goal.returns
+returns c = held_parts_stay

@@ -1,0 +1,14 @@
+use Rattle.ff_muxing.specs.MuxLaws.{mux_holds_nothing, mux_holds, mux_holds_file, mux_holds_part}
+use Rattle.ff_muxing.proofs.mux.Mux.into_sink.Goals as goal
+
+pub returns-clause-fresh : goal.returns-clause-fresh
+returns-clause-fresh g c = λ past s. mux_holds_nothing c.args.self past s
+
+pub returns-clause-exact : goal.returns-clause-exact
+returns-clause-exact g c = λ past s. mux_holds c.args.self past s
+
+pub returns-clause-whole : goal.returns-clause-whole
+returns-clause-whole g c = λ past s. mux_holds_file c.args.self past s
+
+pub returns-clause-front : goal.returns-clause-front
+returns-clause-front g c = λ past s. mux_holds_part c.args.self past s

@@ -1,0 +1,12 @@
+//! The part of a run that writes an output in any format.
+//!
+//! [`Mux`] is a machine of one input over a sink and a writer of a format. `specs/Muxing` says what of a stream it writes, and which
+//! file that is once the stream is whole, by the format's layout alone.
+#![tactic(auto)]
+
+mod laws;
+mod mux;
+mod write;
+
+pub use laws::held_parts_stay;
+pub use mux::Mux;

@@ -1,0 +1,153 @@
+// The part that writes a stream of packets in any format.
+ghost use Rattle.std.specs.Prelude.{◌≡◌, ◌≢◌, ◌≤◌, ◌⊎◌, ℕ, [], ◌∷◌, true, length, None, Some, Ok, IsSome};
+ghost use Rattle.ff_frame.specs.declared.item.Lane.TheVariants.{Packets};
+ghost use Rattle.ff_frame.specs.Ports.{nothing, stream_at, IsWhole};
+ghost use Rattle.ff_net.specs.Pasts.{Past, start};
+ghost use Rattle.ff_muxing.specs.Muxing.{mux_task, unpatched, file};
+ghost use Rattle.ff_muxing.specs.Held.{HoldsPart};
+
+use crate::write::{text_before, write, write_end, write_packet};
+use ff_frame::{Event, Item, Refused, StreamHead, Ticket};
+use ff_host::Sink;
+use ff_net::{Fault, Machine};
+use ff_writers::Writer;
+use std::alloc::{AllocError, Global};
+
+/// Writes a stream of packets in a writer's format on its sink.
+#[derive(Drop)]
+pub struct Mux<K: Sink, W: Writer> {
+    alloc: Global,
+    snk: K,
+    writer: W,
+    head: StreamHead,
+    begun: bool,
+    closed: bool,
+    fault: Option<Fault>,
+    ghost counted: { ((n : ℕ) → W.counts writer n → ⊥) → ⊥ },
+    ghost room: { begun ≡ true → fault ≡ None → length (W.layout writer).header ≤ K.written snk },
+}
+
+impl<K: Sink + Drop, W: Writer + Drop> Mux<K, W> {
+    ghost use Rattle.ff_muxing.specs.Muxers.{mux_sink, mux_layout, mux_stands, mux_in_lanes, mux_fault};
+
+    /// Over a sink that holds nothing, for the packets of a stream of this head.
+    pub fn new(alloc: Global, snk: K, writer: W, head: StreamHead) -> Mux<K, W>
+        requires fresh { W.counts writer 0 }
+        ensures sink { mux_sink result ≡ snk }
+        ensures layout { mux_layout result ≡ W.layout writer }
+        ensures lanes { mux_in_lanes result ≡ Packets head ∷ [] }
+        ensures fault { mux_fault result ≡ None }
+        ensures fresh { K.holds snk ≡ Some [] → mux_stands result (start (mux_task (W.layout writer))) }
+    {
+        Mux {
+            alloc,
+            snk,
+            writer,
+            head,
+            begun: false,
+            closed: false,
+            fault: None,
+        }
+    }
+
+    /// Gives the sink back. It holds nothing before the first item, afterwards what is written of the stream, and once that is whole
+    /// its file; where there is a fault a front of what is written, or the file.
+    pub fn into_sink(self) -> K
+        ensures sink { result ≡ mux_sink self }
+        ensures fresh { (past : Past) → mux_stands self past → stream_at past.got 0 ≡ nothing → K.holds result ≡ Some [] }
+        ensures exact { (past : Past) → mux_stands self past → mux_fault self ≡ None → stream_at past.got 0 ≢ nothing → (IsWhole (stream_at past.got 0) → ⊥)
+            → K.holds result ≡ Some (unpatched (mux_layout self) (stream_at past.got 0)) }
+        ensures whole { (past : Past) → mux_stands self past → mux_fault self ≡ None → IsWhole (stream_at past.got 0)
+            → IsSome (file (mux_layout self) (stream_at past.got 0)) × (K.holds result ≡ file (mux_layout self) (stream_at past.got 0)) }
+        ensures front { (past : Past) → mux_stands self past
+            → HoldsPart (K.holds result) (unpatched (mux_layout self) (stream_at past.got 0)) (file (mux_layout self) (stream_at past.got 0)) }
+    {
+        self.snk
+    }
+}
+
+impl<K: Sink + Drop, W: Writer + Drop> Machine for Mux<K, W> {
+    ghost use Rattle.ff_muxing.specs.Kinds.{mux_view, mux_laws};
+
+    ghost view = { mux_view };
+
+    fn inputs(&self) -> usize {
+        1
+    }
+
+    fn outputs(&self) -> usize {
+        0
+    }
+
+    fn source(&self) -> Option<u32> {
+        None
+    }
+
+    fn fault(&self) -> Option<Fault> {
+        self.fault
+    }
+
+    fn allow(&mut self, ticket: Ticket) -> Option<Ticket> {
+        Some(ticket)
+    }
+
+    fn feed(&mut self, _port: usize, item: Item) -> Result<(), Refused> {
+        let closes = item.closes();
+        if self.fault.is_some() {
+            self.begun = true;
+            self.closed = self.closed | closes;
+            return Ok(());
+        }
+        let Ok(before) = text_before(self.alloc, &self.writer, self.begun) else {
+            return Err(Refused { item });
+        };
+        match item {
+            Item::Packet(packet) => match self.writer.text(0, packet) {
+                Ok(text) => {
+                    self.begun = true;
+                    self.fault = write_packet(&mut self.snk, &mut self.writer, &before, &text);
+                    Ok(())
+                }
+                Err(packet) => Err(Refused {
+                    item: Item::Packet(packet),
+                }),
+            },
+            Item::End => match self.writer.last(None) {
+                Ok(patch) => {
+                    self.begun = true;
+                    self.closed = true;
+                    self.fault = write_end(&mut self.snk, &before, self.writer.pad(), patch);
+                    Ok(())
+                }
+                Err(_) => Err(Refused { item: Item::End }),
+            },
+            Item::Audio(_) | Item::Video(_) | Item::Trailer(_) | Item::Broken => {
+                self.begun = true;
+                self.closed = self.closed | closes;
+                self.fault = write(&mut self.snk, &before);
+                Ok(())
+            }
+        }
+    }
+
+    fn pull(&mut self, _port: usize) -> Result<Option<Item>, AllocError>
+        ensures same { self.new ≡ self.old }
+        ensures none { result ≡ Ok None }
+    {
+        Ok(None)
+    }
+
+    fn stop(&mut self, _port: usize)
+        ensures { self.new ≡ self.old }
+    {}
+
+    fn spent(&self, _port: usize) -> bool {
+        self.closed
+    }
+
+    fn next_event(&mut self) -> Option<Event> {
+        None
+    }
+
+    ghost laws = { mux_laws };
+}
