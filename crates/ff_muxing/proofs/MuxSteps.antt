@@ -23,13 +23,24 @@ use Rattle.ff_net.specs.Pasts.{Past, fed}
 use Rattle.ff_net.specs.Laws.{IsOfInputs}
 use Rattle.ff_net.proofs.Flows.{stream_at-with_item_same, stream_at-with_item_other}
 use Rattle.ff_writers.specs.Layouts.{Layout, body, written, text_of, fits, finished, with_last, IsBeyond}
+use Rattle.ff_muxing.specs.Adding.{IsIdle, IsEnd, IsTextOf}
 use Rattle.ff_muxing.specs.Growing.{body_more, written_more, open_text, held_grows, cause_grows}
 use Rattle.ff_muxing.specs.Muxing.{packets_in, packets_of, text_by, unpatched, file, file_by, body_size, mux_cause, HoldsOf, MuxStands, Muxes}
 use Rattle.ff_muxing.specs.Writing.{text_before, Replaces, EndsAs}
 
 -- ---- bytes that are told
 
-appreplaced_then : (before now : Option (List ℕ)) (b : List ℕ) (replaced : Option (ℕ × List ℕ)) → before ≡ Some b → Replaces before now replaced → now ≡ Some (with_last replaced b)
+appended : (holds now : Option (List ℕ)) (b xs : List ℕ) → holds ≡ Some b → Appends holds now xs → now ≡ Some (b ++ xs)
+appended None now b xs e a = cc
+appended (Some y) None b xs e a = absurd a
+appended (Some y) (Some z) b xs e a = let same : y ≡ b = cc in ap (λ (w : List ℕ). Some w) (a ∙ ap (λ w. w ++ xs) same)
+
+prefixed : (holds now : Option (List ℕ)) (b xs : List ℕ) → holds ≡ Some b → AppendsPrefix holds now xs → (front rest : List ℕ) × (xs ≡ front ++ rest) × (now ≡ Some (b ++ front))
+prefixed None now b xs e a = cc
+prefixed (Some y) None b xs e a = absurd a
+prefixed (Some y) (Some z) b xs e a = let same : y ≡ b = cc in (a.0, a.1, a.2, ap (λ (w : List ℕ). Some w) (a.3 ∙ ap (λ w. w ++ a.0) same))
+
+replaced_then : (before now : Option (List ℕ)) (b : List ℕ) (replaced : Option (ℕ × List ℕ)) → before ≡ Some b → Replaces before now replaced → now ≡ Some (with_last replaced b)
 replaced_then before now b None e r = r ∙ e
 replaced_then None now b (Some p) e r = cc
 replaced_then (Some y) None b (Some p) e r = absurd r
@@ -65,15 +76,6 @@ not_whole : (s : Flow) → s.mark ≡ still_open → IsWhole s → ⊥
 not_whole s o w = let e : still_open ≡ whole = sym o ∙ w in cc
 
 -- ---- what an item adds
-
--- neither a packet nor the end of all
-abbrev pub IsIdle : Item → Type 0
-IsIdle (Audio f) = Unit {0}
-IsIdle (Video f) = Unit {0}
-IsIdle (Packet p) = ⊥
-IsIdle (Trailer t) = Unit {0}
-IsIdle End = ⊥
-IsIdle Broken = Unit {0}
 
 module _ (layout : Layout) where
   -- what stands, and the text before the packets where nothing stands, is what is written
@@ -223,7 +225,7 @@ module _ (holds now : Option (List ℕ)) (layout : Layout) (counts counts' : ℕ
         → MuxStands now layout counts' head true (closed || closes) None (fed past 0 x)
     wrote_one o v w e all counted small =
         fed_one None (s.0 ++ (text_before begun layout ++ added)) o v (appended holds now s.0 (text_before begun layout ++ added) s.1.told all)
-        (λ e. counted) (λ e. small) (λ e w. adds o e) (λ e k. absurd (w k)) (inl ([], append-nil (s.0 ++ (text_before begun layout ++ added)) ∙ adds o e))
+        (λ n. counted) (λ n. small) (λ n k. adds o e) (λ n k. absurd (w k)) (inl ([], append-nil (s.0 ++ (text_before begun layout ++ added)) ∙ adds o e))
         (λ c e i. let clash : None ≡ Some c = e in cc)
 
 module _ (holds now : Option (List ℕ)) (layout : Layout) (counts counts' : ℕ → Type 0) (head : StreamHead) (begun closed closes : Bool) (fault : Option Fault) (past : Past) (s : MuxStands holds layout counts head begun closed fault past) (none : fault ≡ None) where
@@ -252,16 +254,26 @@ module _ (holds now : Option (List ℕ)) (layout : Layout) (counts counts' : ℕ
       failed_one holds now layout counts counts' head begun closed closes fault past (Packet p) s flag (layout.text 0 p) none f o v (packet_text layout got p o) part
       (λ i. let e = kinds i in beyond e ∙ ap (λ (c : Fault). Some c) (sym e))
 
-  pub mux_packet : (port : ℕ) → port < 1 → (p : Pkt) → closes ≡ true ↔ Closes (Packet p) → (fault' : Option Fault)
-      → (IsNone fault' → Appends holds now (text_before begun layout ++ layout.text 0 p)) → AppendsPrefix holds now (text_before begun layout ++ layout.text 0 p)
+  pub mux_text : (port : ℕ) → port < 1 → (x : Item) (text : List ℕ) → IsTextOf layout x text → closes ≡ true ↔ Closes x → (fault' : Option Fault)
+      → (IsNone fault' → Appends holds now (text_before begun layout ++ text)) → AppendsPrefix holds now (text_before begun layout ++ text)
       → IfSome fault' (λ c. IsOfInputs c → c ≡ TooLarge)
-      → (IsNone fault' → (n : ℕ) → counts n → counts' (n + length (layout.text 0 p)))
-      → (IsNone fault' → (n : ℕ) → counts n → IsBeyond layout.longest (n + length (layout.text 0 p)) → ⊥)
-      → (fault' ≡ Some TooLarge → (n : ℕ) → counts n → IsBeyond layout.longest (n + length (layout.text 0 p)))
-      → (stream_at past.got port).mark ≡ still_open → AreValid (Packets head ∷ []) (fed past port (Packet p)).got
-      → MuxStands now layout counts' head true (closed || closes) fault' (fed past port (Packet p))
-  mux_packet (suc port) lt p flag fault' all part kinds counting within large o v = absurd (omega arith)
-  mux_packet zero lt p flag fault' all part kinds counting within large o v = packet_now p flag fault' all part kinds counting within large o (v 0)
+      → (IsNone fault' → (n : ℕ) → counts n → counts' (n + length text))
+      → (IsNone fault' → (n : ℕ) → counts n → IsBeyond layout.longest (n + length text) → ⊥)
+      → (fault' ≡ Some TooLarge → (n : ℕ) → counts n → IsBeyond layout.longest (n + length text))
+      → (stream_at past.got port).mark ≡ still_open → AreValid (Packets head ∷ []) (fed past port x).got
+      → MuxStands now layout counts' head true (closed || closes) fault' (fed past port x)
+  mux_text (suc port) lt x text is flag fault' all part kinds counting within large o v = absurd (omega arith)
+  mux_text zero lt (Audio f) text is flag fault' all part kinds counting within large o v = absurd is
+  mux_text zero lt (Video f) text is flag fault' all part kinds counting within large o v = absurd is
+  mux_text zero lt (Packet p) text is flag fault' all part kinds counting within large o v =
+      packet_now p flag fault' (λ e. subst (λ (w : List ℕ). Appends holds now (text_before begun layout ++ w)) is (all e))
+      (subst (λ (w : List ℕ). AppendsPrefix holds now (text_before begun layout ++ w)) is part) kinds
+      (λ e. subst (λ (w : List ℕ). (n : ℕ) → counts n → counts' (n + length w)) is (counting e))
+      (λ e. subst (λ (w : List ℕ). (n : ℕ) → counts n → IsBeyond layout.longest (n + length w) → ⊥) is (within e))
+      (λ e. subst (λ (w : List ℕ). (n : ℕ) → counts n → IsBeyond layout.longest (n + length w)) is (large e)) o (v 0)
+  mux_text zero lt (Trailer t) text is flag fault' all part kinds counting within large o v = absurd is
+  mux_text zero lt End text is flag fault' all part kinds counting within large o v = absurd is
+  mux_text zero lt Broken text is flag fault' all part kinds counting within large o v = absurd is
 
 module _ (holds now : Option (List ℕ)) (layout : Layout) (counts : ℕ → Type 0) (head : StreamHead) (begun closed closes : Bool) (fault : Option Fault) (past : Past) (s : MuxStands holds layout counts head begun closed fault past) (none : fault ≡ None) where
   -- what follows the packets was written, or a front of it, and then bytes were replaced, or not
@@ -290,16 +302,21 @@ module _ (holds now : Option (List ℕ)) (layout : Layout) (counts : ℕ → Typ
       let got = stream_at past.got 0 in
       failed_one holds now layout counts counts head begun closed closes fault past End s flag pad none f o v
       (ap (λ w. written layout (packets_of got) ++ w) (pads (body_size layout got) (s.1.counted none)) ∙ end_text layout got)
-      (part tt) (λ i. absurd (kinds i))
+      (part refl) (λ i. absurd (kinds i))
 
-  pub mux_end : (port : ℕ) → port < 1 → closes ≡ true ↔ Closes End → (fault' : Option Fault) (pad : List ℕ) (replaced : Option (ℕ × List ℕ))
+  pub mux_end : (port : ℕ) → port < 1 → (x : Item) → IsEnd x → closes ≡ true ↔ Closes x → (fault' : Option Fault) (pad : List ℕ) (replaced : Option (ℕ × List ℕ))
       → ((n : ℕ) → counts n → pad ≡ layout.pad n) → ((n : ℕ) → counts n → replaced ≡ layout.last n None)
       → (IsNone fault' → EndsAs holds now (text_before begun layout ++ pad) replaced) → (IsSome fault' → AppendsPrefix holds now (text_before begun layout ++ pad))
       → IfSome fault' (λ c. IsOfInputs c → ⊥)
-      → (stream_at past.got port).mark ≡ still_open → AreValid (Packets head ∷ []) (fed past port End).got
-      → MuxStands now layout counts head true (closed || closes) fault' (fed past port End)
-  mux_end (suc port) lt flag fault' pad replaced pads lasts ends part kinds o v = absurd (omega arith)
-  mux_end zero lt flag fault' pad replaced pads lasts ends part kinds o v = end_now flag fault' pad replaced pads lasts ends part kinds o (v 0)
+      → (stream_at past.got port).mark ≡ still_open → AreValid (Packets head ∷ []) (fed past port x).got
+      → MuxStands now layout counts head true (closed || closes) fault' (fed past port x)
+  mux_end (suc port) lt x is flag fault' pad replaced pads lasts ends part kinds o v = absurd (omega arith)
+  mux_end zero lt (Audio f) is flag fault' pad replaced pads lasts ends part kinds o v = absurd is
+  mux_end zero lt (Video f) is flag fault' pad replaced pads lasts ends part kinds o v = absurd is
+  mux_end zero lt (Packet p) is flag fault' pad replaced pads lasts ends part kinds o v = absurd is
+  mux_end zero lt (Trailer t) is flag fault' pad replaced pads lasts ends part kinds o v = absurd is
+  mux_end zero lt End is flag fault' pad replaced pads lasts ends part kinds o v = end_now flag fault' pad replaced pads lasts ends part kinds o (v 0)
+  mux_end zero lt Broken is flag fault' pad replaced pads lasts ends part kinds o v = absurd is
 
   -- of another item what stands before the packets was written, or a front of it
   idle_now : (x : Item) → IsIdle x → closes ≡ true ↔ Closes x → (fault' : Option Fault)

@@ -31,7 +31,7 @@ module _ (layout : Layout) where
   written_front whole packets = (layout.pad (length (body layout packets)), refl)
   written_front broken packets = prefix_self (written layout packets)
 
-  open_text : (r : Flow) → r.mark ≡ still_open → unpatched layout r ≡ written layout (packets_of r)
+  pub open_text : (r : Flow) → r.mark ≡ still_open → unpatched layout r ≡ written layout (packets_of r)
   open_text r o = ap (λ (m : Mark). text_by layout m (packets_of r)) o
 
   open_file : (r : Flow) → r.mark ≡ still_open → file layout r ≡ None

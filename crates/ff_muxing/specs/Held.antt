@@ -19,17 +19,17 @@ HeldPartsStay = (layout : Layout) (held : Option (List ℕ)) (r s : Flow) → Li
     → HoldsPart held (unpatched layout r) (file layout r) → HoldsPart held (unpatched layout s) (file layout s)
 
 some_is : (o : Option (List ℕ)) → IsSome o → (bytes : List ℕ) × (o ≡ Some bytes)
-some_is None h = absurd h
+some_is None h = cc
 some_is (Some bytes) h = (bytes, refl)
 
-is_some : (o : Option (List ℕ)) (bytes : List ℕ) → o ≡ Some bytes → IsSome o
-is_some None bytes e = cc
-is_some (Some b) bytes e = tt
+pub there_is : (o : Option (List ℕ)) (bytes : List ℕ) → o ≡ Some bytes → IsSome o
+there_is None bytes e = cc
+there_is (Some b) bytes e = refl
 
 module _ (layout : Layout) where
   pub part_of : (held : Option (List ℕ)) (bytes : List ℕ) (s : Flow) → held ≡ Some bytes → HoldsOf layout bytes s → HoldsPart held (unpatched layout s) (file layout s)
   part_of held bytes s told (inl p) = inl (bytes, p.0, told, sym p.1)
-  part_of held bytes s told (inr f) = inr (is_some (file layout s) bytes f, told ∙ sym f)
+  part_of held bytes s told (inr f) = inr (there_is (file layout s) bytes f, told ∙ sym f)
 
   of_part : (held : Option (List ℕ)) (s : Flow) → HoldsPart held (unpatched layout s) (file layout s) → (bytes : List ℕ) × (held ≡ Some bytes) × HoldsOf layout bytes s
   of_part held s (inl p) = (p.0, p.2, inl (p.1, sym p.3))

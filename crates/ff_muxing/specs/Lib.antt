@@ -1,3 +1,4 @@
+pub mod Adding
 pub mod Growing
 pub mod Held
 pub mod Kinds

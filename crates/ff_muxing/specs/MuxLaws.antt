@@ -13,7 +13,7 @@ use Rattle.ff_host.specs.declared.sink.Sink.{Ghosts as SinkGhosts}
 use Rattle.ff_writers.specs.declared.writer.Writer.{Ghosts as WriterGhosts}
 use Rattle.ff_muxing.specs.declared.mux.Mux.{Mux}
 use Rattle.ff_muxing.specs.Growing.{cause_grows}
-use Rattle.ff_muxing.specs.Held.{HoldsPart, part_of, is_some}
+use Rattle.ff_muxing.specs.Held.{HoldsPart, part_of, there_is}
 use Rattle.ff_muxing.specs.Muxing.{unpatched, file}
 use Rattle.ff_muxing.specs.Muxers.{mux_sink, mux_layout, mux_stands, mux_in_lanes, mux_fault, mux_spent}
 
@@ -76,7 +76,7 @@ module _ {K W : Type 0} {S : SinkGhosts K} {F : WriterGhosts W} (m : Mux K W S F
       → IsSome (file (mux_layout m) (stream_at past.got 0)) × (S.holds (mux_sink m) ≡ file (mux_layout m) (stream_at past.got 0))
   mux_holds_file f w =
       let e = s.1.finished_is f w in
-      (is_some (file (mux_layout m) (stream_at past.got 0)) s.0 e, s.1.told ∙ sym e)
+      (there_is (file (mux_layout m) (stream_at past.got 0)) s.0 e, s.1.told ∙ sym e)
 
   -- whatever went wrong, it holds a front of what is written, or the file
   pub mux_holds_part : HoldsPart (S.holds (mux_sink m)) (unpatched (mux_layout m) (stream_at past.got 0)) (file (mux_layout m) (stream_at past.got 0))

@@ -4,6 +4,7 @@
 //! file that is once the stream is whole, by the format's layout alone.
 #![tactic(auto)]
 
+mod added;
 mod laws;
 mod mux;
 mod write;

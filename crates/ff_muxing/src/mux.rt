@@ -6,6 +6,7 @@ ghost use Rattle.ff_net.specs.Pasts.{Past, start};
 ghost use Rattle.ff_muxing.specs.Muxing.{mux_task, unpatched, file};
 ghost use Rattle.ff_muxing.specs.Held.{HoldsPart};
 
+use crate::added::{Added, added_by};
 use crate::write::{text_before, write, write_end, write_packet};
 use ff_frame::{Event, Item, Refused, StreamHead, Ticket};
 use ff_host::Sink;
@@ -101,29 +102,19 @@ impl<K: Sink + Drop, W: Writer + Drop> Machine for Mux<K, W> {
         let Ok(before) = text_before(self.alloc, &self.writer, self.begun) else {
             return Err(Refused { item });
         };
-        match item {
-            Item::Packet(packet) => match self.writer.text(0, packet) {
-                Ok(text) => {
-                    self.begun = true;
-                    self.fault = write_packet(&mut self.snk, &mut self.writer, &before, &text);
-                    Ok(())
-                }
-                Err(packet) => Err(Refused {
-                    item: Item::Packet(packet),
-                }),
-            },
-            Item::End => match self.writer.last(None) {
-                Ok(patch) => {
-                    self.begun = true;
-                    self.closed = true;
-                    self.fault = write_end(&mut self.snk, &before, self.writer.pad(), patch);
-                    Ok(())
-                }
-                Err(_) => Err(Refused { item: Item::End }),
-            },
-            Item::Audio(_) | Item::Video(_) | Item::Trailer(_) | Item::Broken => {
-                self.begun = true;
-                self.closed = self.closed | closes;
+        let added = added_by(&self.writer, item)?;
+        self.begun = true;
+        self.closed = self.closed | closes;
+        match added {
+            Added::Text(text) => {
+                self.fault = write_packet(&mut self.snk, &mut self.writer, &before, &text);
+                Ok(())
+            }
+            Added::End(patch) => {
+                self.fault = write_end(&mut self.snk, &before, self.writer.pad(), patch);
+                Ok(())
+            }
+            Added::Nothing => {
                 self.fault = write(&mut self.snk, &before);
                 Ok(())
             }
