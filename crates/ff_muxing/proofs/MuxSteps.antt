@@ -1,9 +1,8 @@
 -- What the part that writes a stream of packets does at each item.
-use Rattle.std.proofs.Common.{◌≡◌, ◌≢◌, ◌↔◌, ◌⊎◌, inl, inr, ℕ, zero, suc, ◌<◌, ◌≤◌, ◌+◌, Bool, true, false, ◌||◌, if◌then◌else◌, List, [], ◌∷◌, ◌++◌, length, Option, Some, None, is_some, IsNone, IsSome, IfSome, refl, ap, sym, ◌∙◌, subst, arith, append_assoc, append-nil, length-append}
+use Rattle.std.proofs.Common.{◌≡◌, ◌≢◌, ◌↔◌, inl, inr, ℕ, zero, suc, ◌<◌, ◌+◌, Bool, true, false, ◌||◌, if◌then◌else◌, List, [], ◌∷◌, ◌++◌, length, Option, Some, None, is_some, IsNone, IsSome, IfSome, refl, ap, sym, ◌∙◌, subst, arith, append_assoc, append-nil, length-append}
 use Rattle.std.specs.Prelude.{nat_le}
 use Rattle.std.specs.Io.KnownBytes.{Appends}
 use Rattle.std.proofs.lemmas.Bool.Decides.{nat_tests}
-use mathlib.Core.List.{IsPrefix}
 use Rattle.ff_host.specs.Files.{patched}
 use Rattle.ff_lists.specs.Appends.{AppendsPrefix}
 use Rattle.ff_values.specs.declared.head.StreamHead.{StreamHead}
@@ -11,7 +10,7 @@ use Rattle.ff_values.specs.declared.packet.Pkt.{Pkt}
 use Rattle.ff_frame.specs.declared.item.Item.{Item}
 use Rattle.ff_frame.specs.declared.item.Item.TheVariants.{Audio, Video, Packet, Trailer, End, Broken}
 use Rattle.ff_frame.specs.declared.item.Lane.TheVariants.{Packets}
-use Rattle.ff_frame.specs.Stream.{Mark, still_open, whole, broken}
+use Rattle.ff_frame.specs.Stream.{still_open, whole}
 use Rattle.ff_frame.specs.Items.{Closes, with_item}
 use Rattle.ff_frame.specs.Lanes.{IsValid}
 use Rattle.ff_frame.specs.Order.{with_item_open, with_item_closed, with_item_above}
@@ -22,10 +21,10 @@ use Rattle.ff_net.specs.Ways.{Flow, AreValid}
 use Rattle.ff_net.specs.Pasts.{Past, fed}
 use Rattle.ff_net.specs.Laws.{IsOfInputs}
 use Rattle.ff_net.proofs.Flows.{stream_at-with_item_same, stream_at-with_item_other}
-use Rattle.ff_writers.specs.Layouts.{Layout, body, written, text_of, fits, finished, with_last, IsBeyond}
+use Rattle.ff_writers.specs.Layouts.{Layout, body, written, text_of, fits, with_last, IsBeyond}
 use Rattle.ff_muxing.specs.Adding.{IsIdle, IsEnd, IsTextOf}
 use Rattle.ff_muxing.specs.Growing.{body_more, written_more, open_text, held_grows, cause_grows}
-use Rattle.ff_muxing.specs.Muxing.{packets_in, packets_of, text_by, unpatched, file, file_by, body_size, mux_cause, HoldsOf, MuxStands, Muxes}
+use Rattle.ff_muxing.specs.Muxing.{packets_in, packets_of, unpatched, file, body_size, mux_cause, HoldsOf, MuxStands}
 use Rattle.ff_muxing.specs.Writing.{text_before, Replaces, EndsAs}
 
 -- ---- bytes that are told
@@ -249,8 +248,8 @@ module _ (holds now : Option (List ℕ)) (layout : Layout) (counts counts' : ℕ
       let got = stream_at past.got 0 in
       let size : body_size layout (with_item got (Packet p)) ≡ body_size layout got + length (layout.text 0 p) = packet_size layout got p in
       let beyond : f ≡ TooLarge → mux_cause layout (with_item got (Packet p)) ≡ Some TooLarge = λ e.
-          beyond_cause layout layout.longest (body_size layout (with_item got (Packet p)))
-          (subst (λ (n : ℕ). IsBeyond layout.longest n) (sym size) (large (ap (λ (c : Fault). Some c) e) (body_size layout got) (s.1.counted none))) in
+      beyond_cause layout layout.longest (body_size layout (with_item got (Packet p)))
+      (subst (λ (n : ℕ). IsBeyond layout.longest n) (sym size) (large (ap (λ (c : Fault). Some c) e) (body_size layout got) (s.1.counted none))) in
       failed_one holds now layout counts counts' head begun closed closes fault past (Packet p) s flag (layout.text 0 p) none f o v (packet_text layout got p o) part
       (λ i. let e = kinds i in beyond e ∙ ap (λ (c : Fault). Some c) (sym e))
 
@@ -289,12 +288,12 @@ module _ (holds now : Option (List ℕ)) (layout : Layout) (counts : ℕ → Typ
       let counted = s.1.counted none in
       let all = s.0 ++ (text_before begun layout ++ pad) in
       let text : all ≡ unpatched layout (with_item got End) =
-          ap (λ w. s.0 ++ (text_before begun layout ++ w)) (pads n counted)
-          ∙ adds holds now layout counts counts head begun closed closes fault past End s flag (layout.pad n) none o (end_text layout got) in
+      ap (λ w. s.0 ++ (text_before begun layout ++ w)) (pads n counted)
+      ∙ adds holds now layout counts counts head begun closed closes fault past End s flag (layout.pad n) none o (end_text layout got) in
       let done : file layout (with_item got End) ≡ Some (with_last replaced all) =
-          end_file layout got (s.1.small none)
-          ∙ (ap (λ (r : Option (ℕ × List ℕ)). Some (with_last r (unpatched layout (with_item got End)))) (sym (lasts n counted))
-          ∙ ap (λ (t : List ℕ). Some (with_last replaced t)) (sym text)) in
+      end_file layout got (s.1.small none)
+      ∙ (ap (λ (r : Option (ℕ × List ℕ)). Some (with_last r (unpatched layout (with_item got End)))) (sym (lasts n counted))
+      ∙ ap (λ (t : List ℕ). Some (with_last replaced t)) (sym text)) in
       fed_one holds now layout counts counts head begun closed closes fault past End s flag None (with_last replaced all) o v
       (ended holds now s.0 (text_before begun layout ++ pad) replaced s.1.told (ends refl))
       (λ e. counted) (λ e. s.1.small none) (λ e w. absurd (w refl)) (λ e w. done) (inr done) (λ c e i. let clash : None ≡ Some c = e in cc)

@@ -1,5 +1,5 @@
 -- What an item adds to an output.
-use Rattle.std.specs.Prelude.{◌≡◌, ℕ, List, Option, None}
+use Rattle.std.specs.Prelude.{◌≡◌, ℕ, List, None}
 use Rattle.ff_frame.specs.declared.item.Item.{Item}
 use Rattle.ff_frame.specs.declared.item.Item.TheVariants.{Audio, Video, Packet, Trailer, End as EndItem, Broken}
 use Rattle.ff_writers.specs.Layouts.{Layout}

@@ -1,7 +1,6 @@
 -- What is written of a stream grows with it.
-use Rattle.std.specs.Prelude.{◌≡◌, ℕ, ◌+◌, ◌≤◌, nat_le, Bool, true, false, if◌then◌else◌, List, [], ◌∷◌, ◌++◌, length, Option, Some, None, IsSome, refl}
-use Rattle.std.specs.List.{flat_map}
-use Rattle.std.proofs.Common.{◌⊎◌, inl, inr, ap, sym, ◌∙◌, subst, arith, append_assoc, append-nil, length-append}
+use Rattle.std.specs.Prelude.{◌≡◌, ℕ, ◌≤◌, Bool, true, false, if◌then◌else◌, List, ◌++◌, length, Option, Some, None, refl}
+use Rattle.std.proofs.Common.{inl, inr, ap, sym, ◌∙◌, subst, arith, append_assoc, length-append}
 use Rattle.std.proofs.lemmas.Bool.Decides.{nat_tests}
 use Rattle.std.proofs.lemmas.List.Concat.{flat_map-append}
 use mathlib.Core.List.{IsPrefix}
@@ -11,7 +10,7 @@ use Rattle.ff_frame.specs.Stream.{Mark, still_open, whole, broken, LiesBelow, op
 use Rattle.ff_frame.specs.Order.{prefix_self, prefix_trans, below_items}
 use Rattle.ff_net.specs.declared.fault.Fault.{Fault}
 use Rattle.ff_net.specs.Ways.{Flow}
-use Rattle.ff_writers.specs.Layouts.{Layout, body, written, text_of, fits}
+use Rattle.ff_writers.specs.Layouts.{Layout, body, written, fits}
 use Rattle.ff_muxing.specs.Muxing.{packet_in, packets_in, packets_of, text_by, file_by, unpatched, file, body_size, mux_cause, HoldsOf}
 
 module _ (layout : Layout) where
@@ -40,7 +39,7 @@ module _ (layout : Layout) where
   items_more : (xs ys zs : List Item) (m : Mark) → xs ++ zs ≡ ys → IsPrefix (written layout (packets_in 0 xs)) (text_by layout m (packets_in 0 ys))
   items_more xs ys zs m e =
       let more : written layout (packets_in 0 xs) ++ body layout (packets_in 0 zs) ≡ written layout (packets_in 0 ys) =
-          sym (written_more xs zs) ∙ ap (λ (is : List Item). written layout (packets_in 0 is)) e in
+      sym (written_more xs zs) ∙ ap (λ (is : List Item). written layout (packets_in 0 is)) e in
       prefix_trans (written layout (packets_in 0 xs)) (written layout (packets_in 0 ys)) (text_by layout m (packets_in 0 ys))
       (body layout (packets_in 0 zs), more) (written_front m (packets_in 0 ys))
 
@@ -74,7 +73,7 @@ module _ (layout : Layout) where
   size_more : (xs ys zs : List Item) → xs ++ zs ≡ ys → length (body layout (packets_in 0 xs)) ≤ length (body layout (packets_in 0 ys))
   size_more xs ys zs e =
       let more : body layout (packets_in 0 xs) ++ body layout (packets_in 0 zs) ≡ body layout (packets_in 0 ys) =
-          sym (body_more xs zs) ∙ ap (λ (is : List Item). body layout (packets_in 0 is)) e in
+      sym (body_more xs zs) ∙ ap (λ (is : List Item). body layout (packets_in 0 is)) e in
       omega (arith, ap length more, length-append (body layout (packets_in 0 xs)) (body layout (packets_in 0 zs)))
 
   pub size_grows : (r s : Flow) → LiesBelow r s → body_size layout r ≤ body_size layout s

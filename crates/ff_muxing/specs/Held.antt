@@ -1,7 +1,6 @@
 -- What a muxer's sink holds of the stream that it was fed is held of each stream that goes on from it.
 use Rattle.std.specs.Prelude.{◌≡◌, ℕ, ◌⊎◌, List, ◌++◌, Option, Some, None, IsSome, refl}
-use Rattle.std.proofs.Common.{inl, inr, ap, sym, ◌∙◌, subst}
-use mathlib.Core.List.{IsPrefix}
+use Rattle.std.proofs.Common.{inl, inr, sym, ◌∙◌}
 use Rattle.ff_frame.specs.Stream.{LiesBelow, opened}
 use Rattle.ff_net.specs.Ways.{Flow}
 use Rattle.ff_writers.specs.Layouts.{Layout}

@@ -5,4 +5,5 @@ pub mod Kinds
 pub mod MuxLaws
 pub mod Muxers
 pub mod Muxing
+pub mod Outputs
 pub mod Writing

@@ -1,7 +1,6 @@
 -- The laws of the part that writes a stream of packets.
-use Rattle.std.specs.Prelude.{◌≡◌, ◌≢◌, ℕ, zero, suc, ◌<◌, false, List, [], Option, Some, None, IsSome, refl}
+use Rattle.std.specs.Prelude.{◌≡◌, ◌≢◌, ℕ, zero, suc, ◌<◌, false, List, [], Some, None, IsSome, refl}
 use Rattle.std.proofs.Common.{sym, subst, ap, inl, ◌∙◌, arith}
-use Rattle.ff_frame.specs.Stream.{still_open, whole}
 use Rattle.ff_frame.specs.Order.{below_self}
 use Rattle.ff_frame.specs.Ports.{nothing, stream_at, AllBelow, AllUnbroken, IsClosed, IsUnbroken, IsWhole, IsMonotone, IsCalm}
 use Rattle.ff_net.specs.declared.fault.Fault.{Fault}

@@ -7,7 +7,9 @@
 mod added;
 mod laws;
 mod mux;
+mod output;
 mod write;
 
 pub use laws::held_parts_stay;
 pub use mux::Mux;
+pub use output::writer_of;

@@ -1,4 +1,4 @@
-use Rattle.std.proofs.Common.{◌≡◌, ◌++◌, [], sym, ◌∙◌, refl, append-nil}
+use Rattle.std.proofs.Common.{◌++◌, [], sym, ◌∙◌, refl, append-nil}
 use Rattle.ff_lists.proofs.Written.{grows, front_of, front_after}
 use Rattle.ff_muxing.proofs.Ends.{front_kept}
 use Rattle.ff_muxing.proofs.write.write_end.Goals as goal
@@ -18,11 +18,12 @@ returns-then-is_some-2-clause-front g c = λ some.
 
 pub returns-clause-ok : goal.returns-clause-ok
 returns-clause-ok g c = λ none.
-    let holds = g.K.Sink.holds in
-    (holds c.write-fault-2.new.snk,
-    grows (holds c.args.snk.now) (holds c.write-fault.new.snk) (holds c.write-fault-2.new.snk) c.args.before.now c.args.pad.now
-    (c.write-fault.ensures.ok (sym c.is_some.ensures ∙ c.if-is_some.false)) (c.write-fault-2.ensures.ok (sym c.is_some-2.ensures ∙ c.if-is_some-2.false)),
-    c.replace.ensures.ok none)
+    let holds = g.K.Sink.holds in (
+      holds c.write-fault-2.new.snk,
+      grows (holds c.args.snk.now) (holds c.write-fault.new.snk) (holds c.write-fault-2.new.snk) c.args.before.now c.args.pad.now
+          (c.write-fault.ensures.ok (sym c.is_some.ensures ∙ c.if-is_some.false)) (c.write-fault-2.ensures.ok (sym c.is_some-2.ensures ∙ c.if-is_some-2.false)),
+      c.replace.ensures.ok none,
+    )
 
 pub returns-clause-front : goal.returns-clause-front
 returns-clause-front g c = λ some.

@@ -1,4 +1,4 @@
-use Rattle.std.proofs.Common.{◌≡◌, ◌||◌, true, ◌++◌, List, ℕ, Option, None, refl, sym, ◌∙◌, ap, subst}
+use Rattle.std.proofs.Common.{◌≡◌, ◌||◌, true, ◌++◌, List, ℕ, None, refl, sym, ◌∙◌, subst}
 use Rattle.std.specs.Io.KnownBytes.{Appends}
 use Rattle.ff_lists.specs.Appends.{AppendsPrefix}
 use Rattle.ff_net.specs.Pasts.{fed}

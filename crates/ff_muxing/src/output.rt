@@ -1,0 +1,31 @@
+// The writer of an output's format.
+ghost use Rattle.std.specs.Prelude.{◌≡◌, IfOk};
+ghost use Rattle.ff_writers.specs.AnyWriters.{any_layout, any_counts};
+ghost use Rattle.ff_muxing.specs.Outputs.{CanWrite, layout_of};
+
+use ff_values::{HashKind, StreamHead};
+use ff_words::FileFormat;
+use ff_writers::{AnyWriter, HashWriter, WavPut, Y4mWriter};
+use std::alloc::{AllocError, Global};
+
+/// The writer of a format for the packets of one stream, with this digest where the format has one. No byte of a packet was counted.
+pub fn writer_of(
+    alloc: Global,
+    format: FileFormat,
+    hash: HashKind,
+    head: &StreamHead,
+) -> Result<AnyWriter, AllocError>
+    requires { CanWrite format head.now }
+    ensures layout { IfOk result (λ writer. any_layout writer ≡ layout_of format hash head.now) }
+    ensures counts { IfOk result (λ writer. any_counts writer 0) }
+{
+    match format {
+        FileFormat::Wav => Ok(AnyWriter::Wav(WavPut::new(alloc, head))),
+        FileFormat::Y4m => Ok(AnyWriter::Y4m(Y4mWriter::new(alloc, *head))),
+        FileFormat::FrameHash => {
+            let heads = Vec::from_slice(alloc, &[*head])?;
+            Ok(AnyWriter::Hash(HashWriter::new(alloc, hash, heads)))
+        }
+        FileFormat::Flac => unreachable!(),
+    }
+}
