@@ -1,6 +1,6 @@
 -- What a muxer's sink holds of the stream that it was fed is held of each stream that goes on from it.
 use Rattle.std.specs.Prelude.{◌≡◌, ℕ, ◌⊎◌, List, ◌++◌, Option, Some, None, IsSome, refl}
-use Rattle.std.proofs.Common.{inl, inr, sym, ◌∙◌}
+use Rattle.std.proofs.Common.{subst, inl, inr, sym, ◌∙◌}
 use Rattle.ff_frame.specs.Stream.{LiesBelow, opened}
 use Rattle.ff_net.specs.Ways.{Flow}
 use Rattle.ff_writers.specs.Layouts.{Layout}
@@ -24,6 +24,11 @@ some_is (Some bytes) h = (bytes, refl)
 pub there_is : (o : Option (List ℕ)) (bytes : List ℕ) → o ≡ Some bytes → IsSome o
 there_is None bytes e = cc
 there_is (Some b) bytes e = refl
+
+-- by another name of the text and of the file
+pub part_by : (held : Option (List ℕ)) {a b : List ℕ} {f g : Option (List ℕ)} → a ≡ b → f ≡ g → HoldsPart held a f → HoldsPart held b g
+part_by held {a} {b} {f} {g} same_text same_file h =
+    subst (λ (t : List ℕ). HoldsPart held t g) same_text (subst (λ (o : Option (List ℕ)). HoldsPart held a o) same_file h)
 
 module _ (layout : Layout) where
   pub part_of : (held : Option (List ℕ)) (bytes : List ℕ) (s : Flow) → held ≡ Some bytes → HoldsOf layout bytes s → HoldsPart held (unpatched layout s) (file layout s)

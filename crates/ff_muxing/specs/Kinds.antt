@@ -33,7 +33,7 @@ module _ {K W : Type 0} {S : SinkGhosts K} {F : WriterGhosts W} where
   mux_laws m = record {
     is_source = λ past s. mux_source m past s;
     valid = λ past s. mux_valid m past s;
-    keeps = λ past s ss v. mux_keeps m past s ss;
+    keeps = λ past s ss v. mux_keeps m past s ss v;
     monotone = λ past s. mux_monotone m past s;
     cause_stays = λ past s. mux_cause_stays m past s;
     calm = λ past s. mux_calm m past s;

@@ -6,4 +6,5 @@ pub mod MuxLaws
 pub mod Muxers
 pub mod Muxing
 pub mod Outputs
+pub mod TaskLaws
 pub mod Writing

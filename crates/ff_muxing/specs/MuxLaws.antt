@@ -9,11 +9,14 @@ use Rattle.ff_net.specs.Pasts.{Past, Task, due}
 use Rattle.ff_net.specs.Laws.{CauseStays, IsOfInputs, MaySpend}
 use Rattle.ff_net.proofs.Flows.{due_meant}
 use Rattle.ff_host.specs.declared.sink.Sink.{Ghosts as SinkGhosts}
+use Rattle.ff_frame.specs.declared.item.Lane.TheVariants.{Packets}
+use Rattle.ff_writers.specs.Layouts.{Layout}
 use Rattle.ff_writers.specs.declared.writer.Writer.{Ghosts as WriterGhosts}
 use Rattle.ff_muxing.specs.declared.mux.Mux.{Mux}
 use Rattle.ff_muxing.specs.Growing.{cause_grows}
-use Rattle.ff_muxing.specs.Held.{HoldsPart, part_of, there_is}
-use Rattle.ff_muxing.specs.Muxing.{unpatched, file}
+use Rattle.ff_muxing.specs.Held.{HoldsPart, part_of, part_by, there_is}
+use Rattle.ff_muxing.specs.Muxing.{unpatched, file, mux_task}
+use Rattle.ff_muxing.specs.TaskLaws.{means_none, means_keeps, means_monotone, means_calm, same_text, same_file}
 use Rattle.ff_muxing.specs.Muxers.{mux_sink, mux_layout, mux_stands, mux_in_lanes, mux_fault, mux_spent}
 
 -- there is no output
@@ -28,21 +31,21 @@ module _ {K W : Type 0} {S : SinkGhosts K} {F : WriterGhosts W} (m : Mux K W S F
   mux_valid zero = s.1.valid
   mux_valid (suc p) = s.1.others (suc p) (omega arith)
 
-  pub mux_keeps : (ss : List Flow) → AreValid [] (past.task.means ss)
-  mux_keeps ss = subst (λ (t : Task). AreValid [] (t.means ss)) (sym s.1.task) (λ p. refl)
+  pub mux_keeps : (ss : List Flow) → AreValid (mux_in_lanes m) ss → AreValid [] (past.task.means ss)
+  mux_keeps ss v = subst (λ (t : Task). AreValid [] (t.means ss)) (sym s.1.task) (means_keeps (mux_layout m) (Packets m.head) ss v)
 
   pub mux_monotone : IsMonotone (AreValid (mux_in_lanes m)) past.task.means
-  mux_monotone = subst (λ (t : Task). IsMonotone (AreValid (mux_in_lanes m)) t.means) (sym s.1.task) (λ rs ss v w b p. below_self nothing)
+  mux_monotone = subst (λ (t : Task). IsMonotone (AreValid (mux_in_lanes m)) t.means) (sym s.1.task) (means_monotone (mux_layout m) (Packets m.head))
 
   pub mux_cause_stays : CauseStays (mux_in_lanes m) past.task.cause
   mux_cause_stays = subst (λ (t : Task). CauseStays (mux_in_lanes m) t.cause) (sym s.1.task)
       (λ rs ss c v w b e. cause_grows (mux_layout m) (stream_at rs 0) (stream_at ss 0) c (b 0) e)
 
   pub mux_calm : IsCalm (AreValid (mux_in_lanes m)) past.task.means
-  mux_calm = subst (λ (t : Task). IsCalm (AreValid (mux_in_lanes m)) t.means) (sym s.1.task) (λ rs v p. below_self nothing)
+  mux_calm = subst (λ (t : Task). IsCalm (AreValid (mux_in_lanes m)) t.means) (sym s.1.task) (means_calm (mux_layout m) (Packets m.head))
 
   due_is : due past ≡ []
-  due_is = due_meant past mux_source ∙ ap (λ (t : Task). t.means past.got) s.1.task
+  due_is = due_meant past mux_source ∙ (ap (λ (t : Task). t.means past.got) s.1.task ∙ means_none (mux_layout m) past.got (s.1.others 1 (omega arith)))
 
   pub mux_given : AllBelow past.gave (due past)
   mux_given p = rw (due_is, s.1.gave p) (below_self nothing)
@@ -65,18 +68,27 @@ module _ {K W : Type 0} {S : SinkGhosts K} {F : WriterGhosts W} (m : Mux K W S F
   pub mux_holds_nothing : stream_at past.got 0 ≡ nothing → S.holds (mux_sink m) ≡ Some []
   mux_holds_nothing e = s.1.told ∙ ap (λ (b : List ℕ). Some b) (s.1.fresh e).0
 
-  -- without a fault it holds afterwards what is written of the stream, until that is whole
-  pub mux_holds : mux_fault m ≡ None → stream_at past.got 0 ≢ nothing → (IsWhole (stream_at past.got 0) → ⊥)
-      → S.holds (mux_sink m) ≡ Some (unpatched (mux_layout m) (stream_at past.got 0))
-  mux_holds f n w = s.1.told ∙ ap (λ (b : List ℕ). Some b) (s.1.exact f n w)
+  -- what is written is what the task says, by whatever layout
+  module _ (layout : Layout) (is : past.task ≡ mux_task layout) where
+    its_text : unpatched (mux_layout m) (stream_at past.got 0) ≡ unpatched layout (stream_at past.got 0)
+    its_text = same_text (mux_layout m) layout (sym s.1.task ∙ is) (stream_at past.got 0)
 
-  -- of a whole stream it holds the file, which there is
-  pub mux_holds_file : mux_fault m ≡ None → IsWhole (stream_at past.got 0)
-      → IsSome (file (mux_layout m) (stream_at past.got 0)) × (S.holds (mux_sink m) ≡ file (mux_layout m) (stream_at past.got 0))
-  mux_holds_file f w =
-      let e = s.1.finished_is f w in
-      (there_is (file (mux_layout m) (stream_at past.got 0)) s.0 e, s.1.told ∙ sym e)
+    its_file : file (mux_layout m) (stream_at past.got 0) ≡ file layout (stream_at past.got 0)
+    its_file = same_file (mux_layout m) layout (sym s.1.task ∙ is) (stream_at past.got 0)
 
-  -- whatever went wrong, it holds a front of what is written, or the file
-  pub mux_holds_part : HoldsPart (S.holds (mux_sink m)) (unpatched (mux_layout m) (stream_at past.got 0)) (file (mux_layout m) (stream_at past.got 0))
-  mux_holds_part = part_of (mux_layout m) (S.holds (mux_sink m)) s.0 (stream_at past.got 0) s.1.told s.1.front
+    -- without a fault the sink holds afterwards what is written of the stream, until that is whole
+    pub mux_holds : mux_fault m ≡ None → stream_at past.got 0 ≢ nothing → (IsWhole (stream_at past.got 0) → ⊥)
+        → S.holds (mux_sink m) ≡ Some (unpatched layout (stream_at past.got 0))
+    mux_holds f n w = s.1.told ∙ ap (λ (b : List ℕ). Some b) (s.1.exact f n w ∙ its_text)
+
+    -- of a whole stream it holds the file, which there is
+    pub mux_holds_file : mux_fault m ≡ None → IsWhole (stream_at past.got 0)
+        → IsSome (file layout (stream_at past.got 0)) × (S.holds (mux_sink m) ≡ file layout (stream_at past.got 0))
+    mux_holds_file f w =
+        let e = sym its_file ∙ s.1.finished_is f w in
+        (there_is (file layout (stream_at past.got 0)) s.0 e, s.1.told ∙ sym e)
+
+    -- whatever went wrong, it holds a front of what is written, or the file
+    pub mux_holds_part : HoldsPart (S.holds (mux_sink m)) (unpatched layout (stream_at past.got 0)) (file layout (stream_at past.got 0))
+    mux_holds_part = part_by (S.holds (mux_sink m)) its_text its_file
+        (part_of (mux_layout m) (S.holds (mux_sink m)) s.0 (stream_at past.got 0) s.1.told s.1.front)

@@ -1,14 +1,15 @@
 -- The part that writes one stream of packets in any format: what stands before the packets in one append, before its first
 -- item, then one append for each packet, and once the stream is whole what follows them and what takes the place of bytes.
-use Rattle.std.specs.Prelude.{◌≡◌, ◌≢◌, ◌↔◌, ℕ, ◌≤◌, ◌⊎◌, Bool, true, false, if◌then◌else◌, List, [], ◌∷◌, length, Option, Some, None}
+use Rattle.std.specs.Prelude.{pos, ◌≡◌, ◌≢◌, ◌↔◌, ℕ, ◌≤◌, ◌⊎◌, Bool, true, false, if◌then◌else◌, List, [], ◌∷◌, length, Option, Some, None}
 use Rattle.std.specs.List.{flat_map}
 use mathlib.Core.List.{IsPrefix}
 use Rattle.ff_values.specs.declared.packet.Pkt.{Pkt}
 use Rattle.ff_values.specs.declared.head.StreamHead.{StreamHead}
+use Rattle.ff_values.specs.Packet.{packet_at}
 use Rattle.ff_frame.specs.declared.item.Item.{Item}
 use Rattle.ff_frame.specs.declared.item.Item.TheVariants.{Audio, Video, Packet, Trailer, End, Broken}
 use Rattle.ff_frame.specs.declared.item.Lane.TheVariants.{Packets}
-use Rattle.ff_frame.specs.Stream.{Mark, still_open, whole, broken}
+use Rattle.ff_frame.specs.Stream.{Mark, still_open, whole, broken, whole_stream}
 use Rattle.ff_frame.specs.Lanes.{IsValid}
 use Rattle.ff_frame.specs.Ports.{nothing, stream_at, IsClosed, IsWhole}
 use Rattle.ff_net.specs.declared.fault.Fault.{Fault}
@@ -33,6 +34,14 @@ packets_in stream xs = flat_map (packet_in stream) xs
 -- the packets of an output's only stream
 abbrev pub packets_of : Flow → List (ℕ × Pkt)
 packets_of s = packets_in 0 s.items
+
+-- a stream of one packet with these bytes
+abbrev pub shown : List ℕ → Flow
+shown bytes = whole_stream (Packet (packet_at (pos 0) (pos 0) 0 bytes) ∷ [])
+
+abbrev pub shown_file : Option (List ℕ) → List Flow
+shown_file None = []
+shown_file (Some bytes) = shown bytes ∷ []
 
 module _ (layout : Layout) where
   -- the text of packets while more may come, or once all have come
@@ -62,9 +71,19 @@ module _ (layout : Layout) where
   abbrev pub mux_cause : Flow → Option Fault
   mux_cause s = if fits layout.longest (body_size s) then None else Some TooLarge
 
-  -- it gives no stream
+  -- What a muxer writes is in no stream that it gives. So that its task says it all the same, it is what the task means where a
+  -- second input is closed, which is never valid: by a whole one a packet of the text, by a broken one a packet of the file.
+  abbrev pub mux_answer : Flow → Mark → List Flow
+  mux_answer s still_open = []
+  mux_answer s whole = shown (unpatched s) ∷ []
+  mux_answer s broken = shown_file (file s)
+
+  abbrev pub mux_means : List Flow → List Flow
+  mux_means ss = mux_answer (stream_at ss 0) (stream_at ss 1).mark
+
+  -- it gives no stream of valid inputs
   abbrev pub mux_task : Task
-  mux_task = record { means = λ ss. []; cause = λ ss. mux_cause (stream_at ss 0); source = false; tells = no_events }
+  mux_task = record { means = mux_means; cause = λ ss. mux_cause (stream_at ss 0); source = false; tells = no_events }
 
   -- a front of what is written is held, or the file
   abbrev pub HoldsOf : List ℕ → Flow → Type 0

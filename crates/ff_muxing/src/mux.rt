@@ -3,6 +3,7 @@ ghost use Rattle.std.specs.Prelude.{◌≡◌, ◌≢◌, ◌≤◌, ◌⊎◌, 
 ghost use Rattle.ff_frame.specs.declared.item.Lane.TheVariants.{Packets};
 ghost use Rattle.ff_frame.specs.Ports.{nothing, stream_at, IsWhole};
 ghost use Rattle.ff_net.specs.Pasts.{Past, start};
+ghost use Rattle.ff_writers.specs.Layouts.{Layout};
 ghost use Rattle.ff_muxing.specs.Muxing.{mux_task, unpatched, file};
 ghost use Rattle.ff_muxing.specs.Held.{HoldsPart};
 
@@ -29,13 +30,12 @@ pub struct Mux<K: Sink, W: Writer> {
 }
 
 impl<K: Sink + Drop, W: Writer + Drop> Mux<K, W> {
-    ghost use Rattle.ff_muxing.specs.Muxers.{mux_sink, mux_layout, mux_stands, mux_in_lanes, mux_fault};
+    ghost use Rattle.ff_muxing.specs.Muxers.{mux_sink, mux_stands, mux_in_lanes, mux_fault};
 
     /// Over a sink that holds nothing, for the packets of a stream of this head.
     pub fn new(alloc: Global, snk: K, writer: W, head: StreamHead) -> Mux<K, W>
         requires fresh { W.counts writer 0 }
         ensures sink { mux_sink result ≡ snk }
-        ensures layout { mux_layout result ≡ W.layout writer }
         ensures lanes { mux_in_lanes result ≡ Packets head ∷ [] }
         ensures fault { mux_fault result ≡ None }
         ensures fresh { K.holds snk ≡ Some [] → mux_stands result (start (mux_task (W.layout writer))) }
@@ -52,16 +52,16 @@ impl<K: Sink + Drop, W: Writer + Drop> Mux<K, W> {
     }
 
     /// Gives the sink back. It holds nothing before the first item, afterwards what is written of the stream, and once that is whole
-    /// its file; where there is a fault a front of what is written, or the file.
+    /// its file; where there is a fault a front of what is written, or the file. The layout is whichever the muxer's task is of.
     pub fn into_sink(self) -> K
         ensures sink { result ≡ mux_sink self }
         ensures fresh { (past : Past) → mux_stands self past → stream_at past.got 0 ≡ nothing → K.holds result ≡ Some [] }
-        ensures exact { (past : Past) → mux_stands self past → mux_fault self ≡ None → stream_at past.got 0 ≢ nothing → (IsWhole (stream_at past.got 0) → ⊥)
-            → K.holds result ≡ Some (unpatched (mux_layout self) (stream_at past.got 0)) }
-        ensures whole { (past : Past) → mux_stands self past → mux_fault self ≡ None → IsWhole (stream_at past.got 0)
-            → IsSome (file (mux_layout self) (stream_at past.got 0)) × (K.holds result ≡ file (mux_layout self) (stream_at past.got 0)) }
-        ensures front { (past : Past) → mux_stands self past
-            → HoldsPart (K.holds result) (unpatched (mux_layout self) (stream_at past.got 0)) (file (mux_layout self) (stream_at past.got 0)) }
+        ensures exact { (past : Past) (layout : Layout) → mux_stands self past → past.task ≡ mux_task layout → mux_fault self ≡ None
+            → stream_at past.got 0 ≢ nothing → (IsWhole (stream_at past.got 0) → ⊥) → K.holds result ≡ Some (unpatched layout (stream_at past.got 0)) }
+        ensures whole { (past : Past) (layout : Layout) → mux_stands self past → past.task ≡ mux_task layout → mux_fault self ≡ None
+            → IsWhole (stream_at past.got 0) → IsSome (file layout (stream_at past.got 0)) × (K.holds result ≡ file layout (stream_at past.got 0)) }
+        ensures front { (past : Past) (layout : Layout) → mux_stands self past → past.task ≡ mux_task layout
+            → HoldsPart (K.holds result) (unpatched layout (stream_at past.got 0)) (file layout (stream_at past.got 0)) }
     {
         self.snk
     }

@@ -5,10 +5,10 @@ pub returns-clause-fresh : goal.returns-clause-fresh
 returns-clause-fresh g c = λ past s. mux_holds_nothing c.args.self past s
 
 pub returns-clause-exact : goal.returns-clause-exact
-returns-clause-exact g c = λ past s. mux_holds c.args.self past s
+returns-clause-exact g c = λ past layout s is. mux_holds c.args.self past s layout is
 
 pub returns-clause-whole : goal.returns-clause-whole
-returns-clause-whole g c = λ past s. mux_holds_file c.args.self past s
+returns-clause-whole g c = λ past layout s is. mux_holds_file c.args.self past s layout is
 
 pub returns-clause-front : goal.returns-clause-front
-returns-clause-front g c = λ past s. mux_holds_part c.args.self past s
+returns-clause-front g c = λ past layout s is. mux_holds_part c.args.self past s layout is
