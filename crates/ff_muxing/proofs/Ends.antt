@@ -10,24 +10,29 @@ use Rattle.ff_writers.specs.Patches.{StandsIn, IsInside}
 use Rattle.ff_muxing.specs.Writing.{text_before}
 
 -- they gained all, and stay so
-pub front_kept : (before between now : Option (List ℕ)) (bytes : List ℕ) → Appends before between bytes → Keeps between now → AppendsPrefix before now bytes
+pub front_kept : (before between now : Option (List ℕ)) (bytes : List ℕ) → Appends before between bytes → Keeps between now
+    → AppendsPrefix before now bytes
 front_kept None between now bytes a k = tt
 front_kept (Some x) None now bytes a k = absurd a
 front_kept (Some x) (Some y) None bytes a k = absurd k
 front_kept (Some x) (Some y) (Some z) bytes a k = (bytes, [], sym (append-nil bytes), k ∙ a)
 
 -- what takes the place of bytes stands in what was written
-inside_then : (layout : Layout) (written : ℕ) (begun : Bool) (fault : Option Fault) (before : List ℕ) → (begun ≡ true → fault ≡ None → length layout.header ≤ written) → fault ≡ None → before ≡ text_before begun layout
+inside_then : (layout : Layout) (written : ℕ) (begun : Bool) (fault : Option Fault) (before : List ℕ)
+    → (begun ≡ true → fault ≡ None → length layout.header ≤ written) → fault ≡ None → before ≡ text_before begun layout
     → length layout.header ≤ written + length before
 inside_then layout written true fault before room none e = let h = room refl none in omega (arith, h)
 inside_then layout written false fault before room none e = omega (arith, ap length e)
 
 -- where some number was counted, of which it isn't known which
-pub replaced_inside : (layout : Layout) (counts : ℕ → Type 0) (written : ℕ) (begun : Bool) (fault : Option Fault) (before : List ℕ) (replaced : Option (ℕ × List ℕ))
-    → (((n : ℕ) → counts n → ⊥) → ⊥) → (begun ≡ true → fault ≡ None → length layout.header ≤ written) → fault ≡ None → before ≡ text_before begun layout
+pub replaced_inside : (layout : Layout) (counts : ℕ → Type 0) (written : ℕ) (begun : Bool) (fault : Option Fault)
+    (before : List ℕ) (replaced : Option (ℕ × List ℕ))
+    → (((n : ℕ) → counts n → ⊥) → ⊥) → (begun ≡ true → fault ≡ None → length layout.header ≤ written) → fault ≡ None
+    → before ≡ text_before begun layout
     → ((n : ℕ) → counts n → replaced ≡ layout.last n None) → ((n : ℕ) → IsInside layout n None) → StandsIn replaced (written + length before)
 replaced_inside layout counts written begun fault before None counted room none e last inside = tt
-replaced_inside layout counts written begun fault before (Some p) counted room none e last inside = pick (nat_le (p.0 + length p.1) (written + length before)) refl
+replaced_inside layout counts written begun fault before (Some p) counted room none e last inside =
+    pick (nat_le (p.0 + length p.1) (written + length before)) refl
   where
     here : (n : ℕ) → counts n → p.0 + length p.1 ≤ length layout.header
     here n c = subst (λ (r : Option (ℕ × List ℕ)). StandsIn r (length layout.header)) (sym (last n c)) (inside n)

@@ -1,160 +1,37 @@
 -- What the part that writes a stream of packets does at each item.
-use Rattle.std.proofs.Common.{◌≡◌, ◌≢◌, ◌↔◌, inl, inr, ℕ, zero, suc, ◌<◌, ◌+◌, Bool, true, false, ◌||◌, if◌then◌else◌, List, [], ◌∷◌, ◌++◌, length, Option, Some, None, is_some, IsNone, IsSome, IfSome, refl, ap, sym, ◌∙◌, subst, arith, append_assoc, append-nil, length-append}
-use Rattle.std.specs.Prelude.{nat_le}
+use Rattle.std.proofs.Common.{◌≡◌, ◌≢◌, ◌↔◌, inl, inr, ℕ, zero, suc, ◌<◌, ◌+◌, Bool, true, false, ◌||◌, List, [], ◌∷◌, ◌++◌, length, Option, Some, None, is_some, IsNone, IsSome, IfSome, refl, ap, sym, ◌∙◌, subst, arith, append_assoc, append-nil}
 use Rattle.std.specs.Io.KnownBytes.{Appends}
-use Rattle.std.proofs.lemmas.Bool.Decides.{nat_tests}
-use Rattle.ff_host.specs.Files.{patched}
 use Rattle.ff_lists.specs.Appends.{AppendsPrefix}
 use Rattle.ff_values.specs.declared.head.StreamHead.{StreamHead}
 use Rattle.ff_values.specs.declared.packet.Pkt.{Pkt}
 use Rattle.ff_frame.specs.declared.item.Item.{Item}
 use Rattle.ff_frame.specs.declared.item.Item.TheVariants.{Audio, Video, Packet, Trailer, End, Broken}
 use Rattle.ff_frame.specs.declared.item.Lane.TheVariants.{Packets}
-use Rattle.ff_frame.specs.Stream.{still_open, whole}
+use Rattle.ff_frame.specs.Stream.{still_open}
 use Rattle.ff_frame.specs.Items.{Closes, with_item}
 use Rattle.ff_frame.specs.Lanes.{IsValid}
-use Rattle.ff_frame.specs.Order.{with_item_open, with_item_closed, with_item_above}
-use Rattle.ff_frame.specs.Ports.{nothing, stream_at, IsClosed, IsWhole}
+use Rattle.ff_frame.specs.Order.{with_item_above}
+use Rattle.ff_frame.specs.Ports.{stream_at, IsWhole}
 use Rattle.ff_net.specs.declared.fault.Fault.{Fault}
 use Rattle.ff_net.specs.declared.fault.Fault.TheVariants.{TooLarge}
 use Rattle.ff_net.specs.Ways.{Flow, AreValid}
 use Rattle.ff_net.specs.Pasts.{Past, fed}
 use Rattle.ff_net.specs.Laws.{IsOfInputs}
 use Rattle.ff_net.proofs.Flows.{stream_at-with_item_same, stream_at-with_item_other}
-use Rattle.ff_writers.specs.Layouts.{Layout, body, written, text_of, fits, with_last, IsBeyond}
+use Rattle.ff_writers.specs.Layouts.{Layout, written, fits, with_last, IsBeyond}
 use Rattle.ff_muxing.specs.Adding.{IsIdle, IsEnd, IsTextOf}
-use Rattle.ff_muxing.specs.Growing.{body_more, written_more, open_text, held_grows, cause_grows}
-use Rattle.ff_muxing.specs.Muxing.{packets_in, packets_of, unpatched, file, body_size, mux_cause, HoldsOf, MuxStands}
-use Rattle.ff_muxing.specs.Writing.{text_before, Replaces, EndsAs}
-
--- ---- bytes that are told
-
-appended : (holds now : Option (List ℕ)) (b xs : List ℕ) → holds ≡ Some b → Appends holds now xs → now ≡ Some (b ++ xs)
-appended None now b xs e a = cc
-appended (Some y) None b xs e a = absurd a
-appended (Some y) (Some z) b xs e a = let same : y ≡ b = cc in ap (λ (w : List ℕ). Some w) (a ∙ ap (λ w. w ++ xs) same)
-
-prefixed : (holds now : Option (List ℕ)) (b xs : List ℕ) → holds ≡ Some b → AppendsPrefix holds now xs → (front rest : List ℕ) × (xs ≡ front ++ rest) × (now ≡ Some (b ++ front))
-prefixed None now b xs e a = cc
-prefixed (Some y) None b xs e a = absurd a
-prefixed (Some y) (Some z) b xs e a = let same : y ≡ b = cc in (a.0, a.1, a.2, ap (λ (w : List ℕ). Some w) (a.3 ∙ ap (λ w. w ++ a.0) same))
-
-replaced_then : (before now : Option (List ℕ)) (b : List ℕ) (replaced : Option (ℕ × List ℕ)) → before ≡ Some b → Replaces before now replaced → now ≡ Some (with_last replaced b)
-replaced_then before now b None e r = r ∙ e
-replaced_then None now b (Some p) e r = cc
-replaced_then (Some y) None b (Some p) e r = absurd r
-replaced_then (Some y) (Some z) b (Some p) e r = let same : y ≡ b = cc in ap (λ (w : List ℕ). Some w) (r ∙ ap (λ w. patched w p.0 p.1) same)
-
-ended : (holds now : Option (List ℕ)) (b xs : List ℕ) (replaced : Option (ℕ × List ℕ)) → holds ≡ Some b → EndsAs holds now xs replaced → now ≡ Some (with_last replaced (b ++ xs))
-ended holds now b xs replaced e a = replaced_then a.0 now (b ++ xs) replaced (appended holds a.0 b xs e a.1) a.2
-
--- ---- flags
-
-not_empty : (xs : List Item) (x : Item) → xs ++ x ∷ [] ≢ []
-not_empty [] x e = cc
-not_empty (y ∷ xs) x e = cc
-
-something : (s : Flow) (x : Item) → with_item s x ≢ nothing
-something s (Audio f) e = not_empty s.items (Audio f) (ap (λ (t : Flow). t.items) e)
-something s (Video f) e = not_empty s.items (Video f) (ap (λ (t : Flow). t.items) e)
-something s (Packet p) e = not_empty s.items (Packet p) (ap (λ (t : Flow). t.items) e)
-something s (Trailer x) e = not_empty s.items (Trailer x) (ap (λ (t : Flow). t.items) e)
-something s End e = let m = ap (λ (t : Flow). t.mark) e in cc
-something s Broken e = let m = ap (λ (t : Flow). t.mark) e in cc
-
-closed_then : (closed closes : Bool) (s : Flow) (x : Item) → (closed ≡ true → IsClosed s) → s.mark ≡ still_open → (closes ≡ true ↔ Closes x) → ((closed || closes) ≡ true) ↔ IsClosed (with_item s x)
-closed_then true closes s x c o h = absurd (c refl o)
-closed_then false true s x c o h = (λ e. with_item_closed s x (h.0 refl), λ n. refl)
-closed_then false false s x c o h = (λ e. cc, λ n. absurd (n (with_item_open s x (λ k. let t : false ≡ true = h.1 k in cc) o)))
-
-pub none_is : (o : Option Fault) → is_some o ≡ false → o ≡ None
-none_is None e = refl
-none_is (Some c) e = cc
-
-not_whole : (s : Flow) → s.mark ≡ still_open → IsWhole s → ⊥
-not_whole s o w = let e : still_open ≡ whole = sym o ∙ w in cc
-
--- ---- what an item adds
-
-module _ (layout : Layout) where
-  -- what stands, and the text before the packets where nothing stands, is what is written
-  stands_then : (begun : Bool) (s : Flow) (bytes : List ℕ) → s.mark ≡ still_open → (begun ≡ false → s ≡ nothing) → (begun ≡ true → s ≢ nothing) → (s ≡ nothing → bytes ≡ [])
-      → (s ≢ nothing → (IsWhole s → ⊥) → bytes ≡ unpatched layout s) → bytes ++ text_before begun layout ≡ written layout (packets_of s)
-  stands_then true s bytes o not has fresh exact = append-nil bytes ∙ (exact (has refl) (not_whole s o) ∙ open_text layout s o)
-  stands_then false s bytes o not has fresh exact =
-      let e : s ≡ nothing = not refl in
-      ap (λ w. w ++ layout.header) (fresh e) ∙ (sym (append-nil layout.header) ∙ ap (λ (t : Flow). written layout (packets_of t)) (sym e))
-
-  packet_text : (s : Flow) (p : Pkt) → s.mark ≡ still_open → written layout (packets_of s) ++ layout.text 0 p ≡ unpatched layout (with_item s (Packet p))
-  packet_text s p o =
-      ap (λ w. written layout (packets_of s) ++ w) (sym (append-nil (layout.text 0 p)))
-      ∙ (sym (written_more layout s.items (Packet p ∷ [])) ∙ sym (open_text layout (with_item s (Packet p)) o))
-
-  packet_size : (s : Flow) (p : Pkt) → body_size layout (with_item s (Packet p)) ≡ body_size layout s + length (layout.text 0 p)
-  packet_size s p =
-      ap length (body_more layout s.items (Packet p ∷ []))
-      ∙ (length-append (body layout (packets_of s)) (layout.text 0 p ++ [])
-      ∙ ap (λ w. body_size layout s + length w) (append-nil (layout.text 0 p)))
-
-  end_text : (s : Flow) → written layout (packets_of s) ++ layout.pad (body_size layout s) ≡ unpatched layout (with_item s End)
-  end_text s = refl
-
-  end_file : (s : Flow) → fits layout.longest (body_size layout s) ≡ true
-      → file layout (with_item s End) ≡ Some (with_last (layout.last (body_size layout s) None) (unpatched layout (with_item s End)))
-  end_file s f = ap (λ (b : Bool). if b then Some (with_last (layout.last (body_size layout s) None) (text_of layout (packets_of s))) else None) f
-
-  idle_written : (xs : List Item) (x : Item) → body layout (packets_in 0 (x ∷ [])) ≡ [] → written layout (packets_in 0 (xs ++ x ∷ [])) ≡ written layout (packets_in 0 xs)
-  idle_written xs x e = written_more layout xs (x ∷ []) ∙ (ap (λ w. written layout (packets_in 0 xs) ++ w) e ∙ append-nil (written layout (packets_in 0 xs)))
-
-  idle_text : (s : Flow) (x : Item) → IsIdle x → s.mark ≡ still_open → written layout (packets_of s) ≡ unpatched layout (with_item s x)
-  idle_text s (Audio f) i o = sym (idle_written s.items (Audio f) refl) ∙ sym (open_text layout (with_item s (Audio f)) o)
-  idle_text s (Video f) i o = sym (idle_written s.items (Video f) refl) ∙ sym (open_text layout (with_item s (Video f)) o)
-  idle_text s (Packet p) i o = absurd i
-  idle_text s (Trailer t) i o = sym (idle_written s.items (Trailer t) refl) ∙ sym (open_text layout (with_item s (Trailer t)) o)
-  idle_text s End i o = absurd i
-  idle_text s Broken i o = refl
-
-  idle_body : (xs : List Item) (x : Item) → body layout (packets_in 0 (x ∷ [])) ≡ [] → length (body layout (packets_in 0 (xs ++ x ∷ []))) ≡ length (body layout (packets_in 0 xs))
-  idle_body xs x e = ap length (body_more layout xs (x ∷ []) ∙ (ap (λ w. body layout (packets_in 0 xs) ++ w) e ∙ append-nil (body layout (packets_in 0 xs))))
-
-  idle_size : (s : Flow) (x : Item) → IsIdle x → body_size layout (with_item s x) ≡ body_size layout s
-  idle_size s (Audio f) i = idle_body s.items (Audio f) refl
-  idle_size s (Video f) i = idle_body s.items (Video f) refl
-  idle_size s (Packet p) i = absurd i
-  idle_size s (Trailer t) i = idle_body s.items (Trailer t) refl
-  idle_size s End i = absurd i
-  idle_size s Broken i = refl
-
-  idle_open : (s : Flow) (x : Item) → IsIdle x → s.mark ≡ still_open → IsWhole (with_item s x) → ⊥
-  idle_open s (Audio f) i o w = not_whole s o w
-  idle_open s (Video f) i o w = not_whole s o w
-  idle_open s (Packet p) i o w = i
-  idle_open s (Trailer t) i o w = not_whole s o w
-  idle_open s End i o w = i
-  idle_open s Broken i o w = cc
-
-  -- the size is beyond the longest, or fits
-  beyond_cause : (longest : Option ℕ) (n : ℕ) → IsBeyond longest n → (if fits longest n then None else Some TooLarge) ≡ Some TooLarge
-  beyond_cause None n b = absurd b
-  beyond_cause (Some most) n b =
-      let f : nat_le n most ≡ false = grind (arith, nat_tests) in
-      ap (λ (v : Bool). let r : Option Fault = if v then None else Some TooLarge in r) f
-
-  within_fits : (longest : Option ℕ) (n : ℕ) → (IsBeyond longest n → ⊥) → fits longest n ≡ true
-  within_fits None n b = refl
-  within_fits (Some most) n b = pick (nat_le n most) refl
-    where
-      pick : (v : Bool) → nat_le n most ≡ v → v ≡ true
-      pick true e = refl
-      pick false e = let lt : most < n = grind (arith, nat_tests) in absurd (b lt)
-
--- ---- steps
+use Rattle.ff_muxing.specs.Growing.{held_grows, cause_grows}
+use Rattle.ff_muxing.specs.Muxing.{packets_of, unpatched, file, body_size, mux_cause, HoldsOf, MuxStands}
+use Rattle.ff_muxing.specs.Writing.{text_before, EndsAs}
+use Rattle.ff_muxing.proofs.Texts.{appended, prefixed, ended, something, closed_then, not_whole, stands_then, packet_text, packet_size, end_text, end_file, idle_text, idle_size, idle_open, beyond_cause, within_fits}
 
 -- no fault of the inputs
 abbrev IsNotOfInputs : Option Fault → Type 0
 IsNotOfInputs fault = (c : Fault) → fault ≡ Some c → IsOfInputs c → ⊥
 
-module _ (holds now : Option (List ℕ)) (layout : Layout) (counts counts' : ℕ → Type 0) (head : StreamHead) (begun closed closes : Bool) (fault : Option Fault) (past : Past) (x : Item) (s : MuxStands holds layout counts head begun closed fault past) (flag : closes ≡ true ↔ Closes x) where
+module _ (holds now : Option (List ℕ)) (layout : Layout) (counts counts' : ℕ → Type 0) (head : StreamHead) (begun closed closes : Bool)
+    (fault : Option Fault) (past : Past) (x : Item) (s : MuxStands holds layout counts head begun closed fault past)
+    (flag : closes ≡ true ↔ Closes x) where
   abbrev got : Flow
   got = stream_at past.got 0
 
@@ -162,9 +39,11 @@ module _ (holds now : Option (List ℕ)) (layout : Layout) (counts counts' : ℕ
   then_got = with_item got x
 
   -- an item was fed to an open stream
-  fed_one : (fault' : Option Fault) (bytes : List ℕ) → got.mark ≡ still_open → IsValid (Packets head) (stream_at (fed past 0 x).got 0) → now ≡ Some bytes
+  fed_one : (fault' : Option Fault) (bytes : List ℕ) → got.mark ≡ still_open → IsValid (Packets head) (stream_at (fed past 0 x).got 0)
+      → now ≡ Some bytes
       → (fault' ≡ None → counts' (body_size layout then_got)) → (fault' ≡ None → fits layout.longest (body_size layout then_got) ≡ true)
-      → (fault' ≡ None → (IsWhole then_got → ⊥) → bytes ≡ unpatched layout then_got) → (fault' ≡ None → IsWhole then_got → file layout then_got ≡ Some bytes)
+      → (fault' ≡ None → (IsWhole then_got → ⊥) → bytes ≡ unpatched layout then_got)
+      → (fault' ≡ None → IsWhole then_got → file layout then_got ≡ Some bytes)
       → HoldsOf layout bytes then_got → ((c : Fault) → fault' ≡ Some c → IsOfInputs c → mux_cause layout then_got ≡ Some c)
       → MuxStands now layout counts' head true (closed || closes) fault' (fed past 0 x)
   fed_one fault' bytes o v told counted small exact finished_is front caused =
@@ -191,7 +70,8 @@ module _ (holds now : Option (List ℕ)) (layout : Layout) (counts counts' : ℕ
       )
 
   -- with a fault nothing is written
-  pub mux_after : (port : ℕ) → port < 1 → is_some fault ≡ true → now ≡ holds → (stream_at past.got port).mark ≡ still_open → AreValid (Packets head ∷ []) (fed past port x).got
+  pub mux_after : (port : ℕ) → port < 1 → is_some fault ≡ true → now ≡ holds → (stream_at past.got port).mark ≡ still_open
+      → AreValid (Packets head ∷ []) (fed past port x).got
       → MuxStands now layout counts' head true (closed || closes) fault (fed past port x)
   mux_after (suc port) lt some same o v = absurd (omega arith)
   mux_after zero lt some same o v =
@@ -202,13 +82,15 @@ module _ (holds now : Option (List ℕ)) (layout : Layout) (counts counts' : ℕ
 
   -- what stands before the packets and this text was written, or a front of it
   module _ (added : List ℕ) (none : fault ≡ None) where
-    adds : got.mark ≡ still_open → written layout (packets_of got) ++ added ≡ unpatched layout then_got → s.0 ++ (text_before begun layout ++ added) ≡ unpatched layout then_got
+    adds : got.mark ≡ still_open → written layout (packets_of got) ++ added ≡ unpatched layout then_got
+        → s.0 ++ (text_before begun layout ++ added) ≡ unpatched layout then_got
     adds o e =
         sym (append_assoc s.0 (text_before begun layout) added)
         ∙ (ap (λ w. w ++ added) (stands_then layout begun got s.0 o s.1.not_begun s.1.has_begun (λ e. (s.1.fresh e).0) (s.1.exact none)) ∙ e)
 
     -- with a fault, a front
-    failed_one : (f : Fault) → got.mark ≡ still_open → IsValid (Packets head) (stream_at (fed past 0 x).got 0) → written layout (packets_of got) ++ added ≡ unpatched layout then_got
+    failed_one : (f : Fault) → got.mark ≡ still_open → IsValid (Packets head) (stream_at (fed past 0 x).got 0)
+        → written layout (packets_of got) ++ added ≡ unpatched layout then_got
         → AppendsPrefix holds now (text_before begun layout ++ added) → (IsOfInputs f → mux_cause layout then_got ≡ Some f)
         → MuxStands now layout counts' head true (closed || closes) (Some f) (fed past 0 x)
     failed_one f o v e part caused =
@@ -219,18 +101,23 @@ module _ (holds now : Option (List ℕ)) (layout : Layout) (counts counts' : ℕ
         (λ c e i. let same : f ≡ c = cc in subst (λ (k : Fault). mux_cause layout then_got ≡ Some k) same (caused (subst IsOfInputs (sym same) i)))
 
     -- without one, all
-    wrote_one : got.mark ≡ still_open → IsValid (Packets head) (stream_at (fed past 0 x).got 0) → (IsWhole then_got → ⊥) → written layout (packets_of got) ++ added ≡ unpatched layout then_got
-        → Appends holds now (text_before begun layout ++ added) → counts' (body_size layout then_got) → fits layout.longest (body_size layout then_got) ≡ true
+    wrote_one : got.mark ≡ still_open → IsValid (Packets head) (stream_at (fed past 0 x).got 0) → (IsWhole then_got → ⊥)
+        → written layout (packets_of got) ++ added ≡ unpatched layout then_got
+        → Appends holds now (text_before begun layout ++ added) → counts' (body_size layout then_got)
+        → fits layout.longest (body_size layout then_got) ≡ true
         → MuxStands now layout counts' head true (closed || closes) None (fed past 0 x)
     wrote_one o v w e all counted small =
         fed_one None (s.0 ++ (text_before begun layout ++ added)) o v (appended holds now s.0 (text_before begun layout ++ added) s.1.told all)
-        (λ n. counted) (λ n. small) (λ n k. adds o e) (λ n k. absurd (w k)) (inl ([], append-nil (s.0 ++ (text_before begun layout ++ added)) ∙ adds o e))
+        (λ n. counted) (λ n. small) (λ n k. adds o e) (λ n k. absurd (w k))
+        (inl ([], append-nil (s.0 ++ (text_before begun layout ++ added)) ∙ adds o e))
         (λ c e i. let clash : None ≡ Some c = e in cc)
 
-module _ (holds now : Option (List ℕ)) (layout : Layout) (counts counts' : ℕ → Type 0) (head : StreamHead) (begun closed closes : Bool) (fault : Option Fault) (past : Past) (s : MuxStands holds layout counts head begun closed fault past) (none : fault ≡ None) where
+module _ (holds now : Option (List ℕ)) (layout : Layout) (counts counts' : ℕ → Type 0) (head : StreamHead) (begun closed closes : Bool)
+    (fault : Option Fault) (past : Past) (s : MuxStands holds layout counts head begun closed fault past) (none : fault ≡ None) where
   -- a packet was counted and written, or a front of it, or it makes the packets too many bytes
   packet_now : (p : Pkt) → closes ≡ true ↔ Closes (Packet p) → (fault' : Option Fault)
-      → (IsNone fault' → Appends holds now (text_before begun layout ++ layout.text 0 p)) → AppendsPrefix holds now (text_before begun layout ++ layout.text 0 p)
+      → (IsNone fault' → Appends holds now (text_before begun layout ++ layout.text 0 p))
+      → AppendsPrefix holds now (text_before begun layout ++ layout.text 0 p)
       → IfSome fault' (λ c. IsOfInputs c → c ≡ TooLarge)
       → (IsNone fault' → (n : ℕ) → counts n → counts' (n + length (layout.text 0 p)))
       → (IsNone fault' → (n : ℕ) → counts n → IsBeyond layout.longest (n + length (layout.text 0 p)) → ⊥)
@@ -240,7 +127,8 @@ module _ (holds now : Option (List ℕ)) (layout : Layout) (counts counts' : ℕ
   packet_now p flag None all part kinds counting within large o v =
       let got = stream_at past.got 0 in
       let size : body_size layout (with_item got (Packet p)) ≡ body_size layout got + length (layout.text 0 p) = packet_size layout got p in
-      wrote_one holds now layout counts counts' head begun closed closes fault past (Packet p) s flag (layout.text 0 p) none o v (not_whole got o) (packet_text layout got p o) (all refl)
+      wrote_one holds now layout counts counts' head begun closed closes fault past (Packet p) s flag
+      (layout.text 0 p) none o v (not_whole got o) (packet_text layout got p o) (all refl)
       (subst counts' (sym size) (counting refl (body_size layout got) (s.1.counted none)))
       (subst (λ (n : ℕ). fits layout.longest n ≡ true) (sym size)
       (within_fits layout layout.longest (body_size layout got + length (layout.text 0 p)) (within refl (body_size layout got) (s.1.counted none))))
@@ -250,7 +138,8 @@ module _ (holds now : Option (List ℕ)) (layout : Layout) (counts counts' : ℕ
       let beyond : f ≡ TooLarge → mux_cause layout (with_item got (Packet p)) ≡ Some TooLarge = λ e.
       beyond_cause layout layout.longest (body_size layout (with_item got (Packet p)))
       (subst (λ (n : ℕ). IsBeyond layout.longest n) (sym size) (large (ap (λ (c : Fault). Some c) e) (body_size layout got) (s.1.counted none))) in
-      failed_one holds now layout counts counts' head begun closed closes fault past (Packet p) s flag (layout.text 0 p) none f o v (packet_text layout got p o) part
+      failed_one holds now layout counts counts' head begun closed closes fault past (Packet p) s flag
+      (layout.text 0 p) none f o v (packet_text layout got p o) part
       (λ i. let e = kinds i in beyond e ∙ ap (λ (c : Fault). Some c) (sym e))
 
   pub mux_text : (port : ℕ) → port < 1 → (x : Item) (text : List ℕ) → IsTextOf layout x text → closes ≡ true ↔ Closes x → (fault' : Option Fault)
@@ -274,11 +163,13 @@ module _ (holds now : Option (List ℕ)) (layout : Layout) (counts counts' : ℕ
   mux_text zero lt End text is flag fault' all part kinds counting within large o v = absurd is
   mux_text zero lt Broken text is flag fault' all part kinds counting within large o v = absurd is
 
-module _ (holds now : Option (List ℕ)) (layout : Layout) (counts : ℕ → Type 0) (head : StreamHead) (begun closed closes : Bool) (fault : Option Fault) (past : Past) (s : MuxStands holds layout counts head begun closed fault past) (none : fault ≡ None) where
+module _ (holds now : Option (List ℕ)) (layout : Layout) (counts : ℕ → Type 0) (head : StreamHead) (begun closed closes : Bool)
+    (fault : Option Fault) (past : Past) (s : MuxStands holds layout counts head begun closed fault past) (none : fault ≡ None) where
   -- what follows the packets was written, or a front of it, and then bytes were replaced, or not
   end_now : closes ≡ true ↔ Closes End → (fault' : Option Fault) (pad : List ℕ) (replaced : Option (ℕ × List ℕ))
       → ((n : ℕ) → counts n → pad ≡ layout.pad n) → ((n : ℕ) → counts n → replaced ≡ layout.last n None)
-      → (IsNone fault' → EndsAs holds now (text_before begun layout ++ pad) replaced) → (IsSome fault' → AppendsPrefix holds now (text_before begun layout ++ pad))
+      → (IsNone fault' → EndsAs holds now (text_before begun layout ++ pad) replaced)
+      → (IsSome fault' → AppendsPrefix holds now (text_before begun layout ++ pad))
       → IfSome fault' (λ c. IsOfInputs c → ⊥)
       → (stream_at past.got 0).mark ≡ still_open → IsValid (Packets head) (stream_at (fed past 0 End).got 0)
       → MuxStands now layout counts head true (closed || closes) fault' (fed past 0 End)
@@ -303,9 +194,11 @@ module _ (holds now : Option (List ℕ)) (layout : Layout) (counts : ℕ → Typ
       (ap (λ w. written layout (packets_of got) ++ w) (pads (body_size layout got) (s.1.counted none)) ∙ end_text layout got)
       (part refl) (λ i. absurd (kinds i))
 
-  pub mux_end : (port : ℕ) → port < 1 → (x : Item) → IsEnd x → closes ≡ true ↔ Closes x → (fault' : Option Fault) (pad : List ℕ) (replaced : Option (ℕ × List ℕ))
+  pub mux_end : (port : ℕ) → port < 1 → (x : Item) → IsEnd x → closes ≡ true ↔ Closes x
+      → (fault' : Option Fault) (pad : List ℕ) (replaced : Option (ℕ × List ℕ))
       → ((n : ℕ) → counts n → pad ≡ layout.pad n) → ((n : ℕ) → counts n → replaced ≡ layout.last n None)
-      → (IsNone fault' → EndsAs holds now (text_before begun layout ++ pad) replaced) → (IsSome fault' → AppendsPrefix holds now (text_before begun layout ++ pad))
+      → (IsNone fault' → EndsAs holds now (text_before begun layout ++ pad) replaced)
+      → (IsSome fault' → AppendsPrefix holds now (text_before begun layout ++ pad))
       → IfSome fault' (λ c. IsOfInputs c → ⊥)
       → (stream_at past.got port).mark ≡ still_open → AreValid (Packets head ∷ []) (fed past port x).got
       → MuxStands now layout counts head true (closed || closes) fault' (fed past port x)
@@ -319,7 +212,8 @@ module _ (holds now : Option (List ℕ)) (layout : Layout) (counts : ℕ → Typ
 
   -- of another item what stands before the packets was written, or a front of it
   idle_now : (x : Item) → IsIdle x → closes ≡ true ↔ Closes x → (fault' : Option Fault)
-      → (IsNone fault' → Appends holds now (text_before begun layout)) → AppendsPrefix holds now (text_before begun layout) → IfSome fault' (λ c. IsOfInputs c → ⊥)
+      → (IsNone fault' → Appends holds now (text_before begun layout)) → AppendsPrefix holds now (text_before begun layout)
+      → IfSome fault' (λ c. IsOfInputs c → ⊥)
       → (stream_at past.got 0).mark ≡ still_open → IsValid (Packets head) (stream_at (fed past 0 x).got 0)
       → MuxStands now layout counts head true (closed || closes) fault' (fed past 0 x)
   idle_now x idle flag None all part kinds o v =
@@ -336,7 +230,8 @@ module _ (holds now : Option (List ℕ)) (layout : Layout) (counts : ℕ → Typ
       (subst (λ (w : List ℕ). AppendsPrefix holds now w) (sym (append-nil (text_before begun layout))) part) (λ i. absurd (kinds i))
 
   pub mux_idle : (port : ℕ) → port < 1 → (x : Item) → IsIdle x → closes ≡ true ↔ Closes x → (fault' : Option Fault)
-      → (IsNone fault' → Appends holds now (text_before begun layout)) → AppendsPrefix holds now (text_before begun layout) → IfSome fault' (λ c. IsOfInputs c → ⊥)
+      → (IsNone fault' → Appends holds now (text_before begun layout)) → AppendsPrefix holds now (text_before begun layout)
+      → IfSome fault' (λ c. IsOfInputs c → ⊥)
       → (stream_at past.got port).mark ≡ still_open → AreValid (Packets head ∷ []) (fed past port x).got
       → MuxStands now layout counts head true (closed || closes) fault' (fed past port x)
   mux_idle (suc port) lt x idle flag fault' all part kinds o v = absurd (omega arith)

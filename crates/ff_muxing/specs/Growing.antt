@@ -21,8 +21,11 @@ module _ (layout : Layout) where
   pub body_more : (xs ys : List Item) → body layout (packets_in 0 (xs ++ ys)) ≡ body layout (packets_in 0 xs) ++ body layout (packets_in 0 ys)
   body_more xs ys = ap (body layout) (packets_more xs ys) ∙ flat_map-append (λ (p : ℕ × Pkt). layout.text p.0 p.1) (packets_in 0 xs) (packets_in 0 ys)
 
-  pub written_more : (xs ys : List Item) → written layout (packets_in 0 (xs ++ ys)) ≡ written layout (packets_in 0 xs) ++ body layout (packets_in 0 ys)
-  written_more xs ys = ap (λ b. layout.header ++ b) (body_more xs ys) ∙ sym (append_assoc layout.header (body layout (packets_in 0 xs)) (body layout (packets_in 0 ys)))
+  pub written_more : (xs ys : List Item)
+      → written layout (packets_in 0 (xs ++ ys)) ≡ written layout (packets_in 0 xs) ++ body layout (packets_in 0 ys)
+  written_more xs ys =
+      ap (λ b. layout.header ++ b) (body_more xs ys)
+      ∙ sym (append_assoc layout.header (body layout (packets_in 0 xs)) (body layout (packets_in 0 ys)))
 
   -- what is written of the packets stands in front of the text
   written_front : (m : Mark) (packets : List (ℕ × Pkt)) → IsPrefix (written layout packets) (text_by layout m packets)
@@ -83,11 +86,15 @@ module _ (layout : Layout) where
   fits_less None a b le f = refl
   fits_less (Some most) a b le f = grind (arith, nat_tests)
 
-  cause_at : (longest : Option ℕ) (a b : ℕ) (c : Fault) (fault : Fault) → a ≤ b → (if fits longest a then None else Some fault) ≡ Some c → (if fits longest b then None else Some fault) ≡ Some c
+  cause_at : (longest : Option ℕ) (a b : ℕ) (c : Fault) (fault : Fault) → a ≤ b → (if fits longest a then None else Some fault) ≡ Some c
+      → (if fits longest b then None else Some fault) ≡ Some c
   cause_at longest a b c fault le e = pick (fits longest b) refl
     where
       pick : (v : Bool) → fits longest b ≡ v → (if v then None else Some fault) ≡ Some c
-      pick true f = let g : fits longest a ≡ true = fits_less longest a b le f in let none : None ≡ Some c = ap (λ (w : Bool). if w then None else Some fault) (sym g) ∙ e in cc
+      pick true f =
+          let g : fits longest a ≡ true = fits_less longest a b le f in
+          let none : None ≡ Some c = ap (λ (w : Bool). if w then None else Some fault) (sym g) ∙ e in
+          cc
       pick false f = pick_a (fits longest a) e
         where
           pick_a : (w : Bool) → (if w then None else Some fault) ≡ Some c → Some fault ≡ Some c

@@ -31,11 +31,13 @@ part_by held {a} {b} {f} {g} same_text same_file h =
     subst (λ (t : List ℕ). HoldsPart held t g) same_text (subst (λ (o : Option (List ℕ)). HoldsPart held a o) same_file h)
 
 module _ (layout : Layout) where
-  pub part_of : (held : Option (List ℕ)) (bytes : List ℕ) (s : Flow) → held ≡ Some bytes → HoldsOf layout bytes s → HoldsPart held (unpatched layout s) (file layout s)
+  pub part_of : (held : Option (List ℕ)) (bytes : List ℕ) (s : Flow) → held ≡ Some bytes → HoldsOf layout bytes s
+      → HoldsPart held (unpatched layout s) (file layout s)
   part_of held bytes s told (inl p) = inl (bytes, p.0, told, sym p.1)
   part_of held bytes s told (inr f) = inr (there_is (file layout s) bytes f, told ∙ sym f)
 
-  of_part : (held : Option (List ℕ)) (s : Flow) → HoldsPart held (unpatched layout s) (file layout s) → (bytes : List ℕ) × (held ≡ Some bytes) × HoldsOf layout bytes s
+  of_part : (held : Option (List ℕ)) (s : Flow) → HoldsPart held (unpatched layout s) (file layout s)
+      → (bytes : List ℕ) × (held ≡ Some bytes) × HoldsOf layout bytes s
   of_part held s (inl p) = (p.0, p.2, inl (p.1, sym p.3))
   of_part held s (inr f) = let b = some_is (file layout s) f.0 in (b.0, f.1 ∙ b.1, inr b.1)
 

@@ -1,5 +1,5 @@
 -- The laws of the part that writes a stream of packets.
-use Rattle.std.specs.Prelude.{◌≡◌, ◌≢◌, ℕ, zero, suc, ◌<◌, false, List, [], Some, None, IsSome, refl}
+use Rattle.std.specs.Prelude.{◌≡◌, ◌≢◌, ℕ, zero, suc, ◌<◌, false, List, [], Some, None, IsSome}
 use Rattle.std.proofs.Common.{sym, subst, ap, inl, ◌∙◌, arith}
 use Rattle.ff_frame.specs.Order.{below_self}
 use Rattle.ff_frame.specs.Ports.{nothing, stream_at, AllBelow, AllUnbroken, IsClosed, IsUnbroken, IsWhole, IsMonotone, IsCalm}
@@ -45,7 +45,9 @@ module _ {K W : Type 0} {S : SinkGhosts K} {F : WriterGhosts W} (m : Mux K W S F
   mux_calm = subst (λ (t : Task). IsCalm (AreValid (mux_in_lanes m)) t.means) (sym s.1.task) (means_calm (mux_layout m) (Packets m.head))
 
   due_is : due past ≡ []
-  due_is = due_meant past mux_source ∙ (ap (λ (t : Task). t.means past.got) s.1.task ∙ means_none (mux_layout m) past.got (s.1.others 1 (omega arith)))
+  due_is =
+      due_meant past mux_source
+      ∙ (ap (λ (t : Task). t.means past.got) s.1.task ∙ means_none (mux_layout m) past.got (s.1.others 1 (omega arith)))
 
   pub mux_given : AllBelow past.gave (due past)
   mux_given p = rw (due_is, s.1.gave p) (below_self nothing)

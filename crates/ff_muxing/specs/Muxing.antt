@@ -90,7 +90,8 @@ module _ (layout : Layout) where
   HoldsOf bytes s = IsPrefix bytes (unpatched s) ⊎ (file s ≡ Some bytes)
 
 -- The sink holds these bytes, of the stream that was fed. `counts` ties the writer to how many bytes of packets it counted.
-pub record Muxes (holds : Option (List ℕ)) (layout : Layout) (counts : ℕ → Type 0) (head : StreamHead) (begun closed : Bool) (fault : Option Fault) (past : Past) (bytes : List ℕ) : Type 0 where
+pub record Muxes (holds : Option (List ℕ)) (layout : Layout) (counts : ℕ → Type 0) (head : StreamHead) (begun closed : Bool)
+    (fault : Option Fault) (past : Past) (bytes : List ℕ) : Type 0 where
   pub task : past.task ≡ mux_task layout
   pub silent : IsSilent past
   pub valid : IsValid (Packets head) (stream_at past.got 0)

@@ -1,16 +1,16 @@
 -- A muxer's task: it gives no stream, and says what is written.
 use Rattle.std.specs.Prelude.{◌≡◌, ℕ, List, [], ◌∷◌, map, Option, Some, None, refl}
-use Rattle.std.proofs.Common.{ap, sym, ◌∙◌, subst}
+use Rattle.std.proofs.Common.{ap, sym, ◌∙◌}
 use Rattle.ff_frame.specs.declared.item.Item.{Item}
 use Rattle.ff_frame.specs.declared.item.Item.TheVariants.{Audio, Video, Packet, Trailer, End, Broken}
-use Rattle.ff_frame.specs.Stream.{Mark, whole, broken, LiesBelow, opened}
+use Rattle.ff_frame.specs.Stream.{Mark, whole, broken, opened}
 use Rattle.ff_frame.specs.Order.{below_self, stream_at-opened}
-use Rattle.ff_frame.specs.Ports.{nothing, stream_at, AllBelow, IsMonotone, IsCalm}
+use Rattle.ff_frame.specs.Ports.{nothing, stream_at, IsMonotone, IsCalm}
 use Rattle.ff_frame.specs.declared.item.Lane.{Lane}
 use Rattle.ff_net.specs.Pasts.{Task}
 use Rattle.ff_net.specs.Ways.{Flow, AreValid}
 use Rattle.ff_writers.specs.Layouts.{Layout}
-use Rattle.ff_muxing.specs.Muxing.{unpatched, file, mux_answer, mux_means, mux_task, shown, shown_file}
+use Rattle.ff_muxing.specs.Muxing.{unpatched, file, mux_answer, mux_means, mux_task, shown_file}
 
 module _ (layout : Layout) where
   -- without a second input it gives nothing

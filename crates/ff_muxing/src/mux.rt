@@ -15,7 +15,13 @@ use ff_net::{Fault, Machine};
 use ff_writers::Writer;
 use std::alloc::{AllocError, Global};
 
-/// Writes a stream of packets in a writer's format on its sink.
+/// Writes a stream of packets in a writer's format on its sink: what stands before the packets in one append, before its first item,
+/// the text of each packet in one append, and once the stream has ended whole what follows them in one append and what takes the
+/// place of bytes in one patch.
+///
+/// A packet that makes the packets more bytes than the format holds is the fault TooLarge, and nothing of it is written. Want of memory
+/// in an append is a fault, and the item counts as fed. Behind a fault it takes what comes and writes nothing. What a trailer tells
+/// isn't passed on yet.
 #[derive(Drop)]
 pub struct Mux<K: Sink, W: Writer> {
     alloc: Global,
@@ -25,6 +31,7 @@ pub struct Mux<K: Sink, W: Writer> {
     begun: bool,
     closed: bool,
     fault: Option<Fault>,
+    // some number of bytes was counted, and the sink has room for what takes their place
     ghost counted: { ((n : ℕ) → W.counts writer n → ⊥) → ⊥ },
     ghost room: { begun ≡ true → fault ≡ None → length (W.layout writer).header ≤ K.written snk },
 }
@@ -32,7 +39,7 @@ pub struct Mux<K: Sink, W: Writer> {
 impl<K: Sink + Drop, W: Writer + Drop> Mux<K, W> {
     ghost use Rattle.ff_muxing.specs.Muxers.{mux_sink, mux_stands, mux_in_lanes, mux_fault};
 
-    /// Over a sink that holds nothing, for the packets of a stream of this head.
+    /// Over a sink that holds nothing and a writer that counted nothing, for the packets of a stream of this head.
     pub fn new(alloc: Global, snk: K, writer: W, head: StreamHead) -> Mux<K, W>
         requires fresh { W.counts writer 0 }
         ensures sink { mux_sink result ≡ snk }
@@ -57,7 +64,8 @@ impl<K: Sink + Drop, W: Writer + Drop> Mux<K, W> {
         ensures sink { result ≡ mux_sink self }
         ensures fresh { (past : Past) → mux_stands self past → stream_at past.got 0 ≡ nothing → K.holds result ≡ Some [] }
         ensures exact { (past : Past) (layout : Layout) → mux_stands self past → past.task ≡ mux_task layout → mux_fault self ≡ None
-            → stream_at past.got 0 ≢ nothing → (IsWhole (stream_at past.got 0) → ⊥) → K.holds result ≡ Some (unpatched layout (stream_at past.got 0)) }
+            → stream_at past.got 0 ≢ nothing → (IsWhole (stream_at past.got 0) → ⊥)
+            → K.holds result ≡ Some (unpatched layout (stream_at past.got 0)) }
         ensures whole { (past : Past) (layout : Layout) → mux_stands self past → past.task ≡ mux_task layout → mux_fault self ≡ None
             → IsWhole (stream_at past.got 0) → IsSome (file layout (stream_at past.got 0)) × (K.holds result ≡ file layout (stream_at past.got 0)) }
         ensures front { (past : Past) (layout : Layout) → mux_stands self past → past.task ≡ mux_task layout

@@ -6,7 +6,8 @@ use Rattle.ff_muxing.proofs.write.write_end.Goals as goal
 pub returns-then-is_some-clause-front : goal.returns-then-is_some-clause-front
 returns-then-is_some-clause-front g c = λ some.
     let holds = g.K.Sink.holds in
-    front_of (holds c.args.snk.now) (holds c.write-fault.new.snk) c.args.before.now c.args.pad.now (c.args.before.now ++ c.args.pad.now) c.write-fault.ensures.front refl
+    front_of (holds c.args.snk.now) (holds c.write-fault.new.snk) c.args.before.now c.args.pad.now
+    (c.args.before.now ++ c.args.pad.now) c.write-fault.ensures.front refl
 
 pub returns-then-is_some-2-clause-front : goal.returns-then-is_some-2-clause-front
 returns-then-is_some-2-clause-front g c = λ some.
@@ -21,7 +22,8 @@ returns-clause-ok g c = λ none.
     let holds = g.K.Sink.holds in (
       holds c.write-fault-2.new.snk,
       grows (holds c.args.snk.now) (holds c.write-fault.new.snk) (holds c.write-fault-2.new.snk) c.args.before.now c.args.pad.now
-          (c.write-fault.ensures.ok (sym c.is_some.ensures ∙ c.if-is_some.false)) (c.write-fault-2.ensures.ok (sym c.is_some-2.ensures ∙ c.if-is_some-2.false)),
+          (c.write-fault.ensures.ok (sym c.is_some.ensures ∙ c.if-is_some.false))
+          (c.write-fault-2.ensures.ok (sym c.is_some-2.ensures ∙ c.if-is_some-2.false)),
       c.replace.ensures.ok none,
     )
 
@@ -30,5 +32,6 @@ returns-clause-front g c = λ some.
     let holds = g.K.Sink.holds in
     front_kept (holds c.args.snk.now) (holds c.write-fault-2.new.snk) (holds c.replace.new.snk) (c.args.before.now ++ c.args.pad.now)
     (grows (holds c.args.snk.now) (holds c.write-fault.new.snk) (holds c.write-fault-2.new.snk) c.args.before.now c.args.pad.now
-    (c.write-fault.ensures.ok (sym c.is_some.ensures ∙ c.if-is_some.false)) (c.write-fault-2.ensures.ok (sym c.is_some-2.ensures ∙ c.if-is_some-2.false)))
+    (c.write-fault.ensures.ok (sym c.is_some.ensures ∙ c.if-is_some.false))
+    (c.write-fault-2.ensures.ok (sym c.is_some-2.ensures ∙ c.if-is_some-2.false)))
     (c.replace.ensures.same some)
