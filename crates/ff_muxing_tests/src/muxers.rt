@@ -1,0 +1,200 @@
+ghost use Rattle.std.specs.Prelude.{IfSome};
+ghost use Rattle.ff_values.specs.Heads.{IsPcmCoded};
+ghost use Rattle.ff_y4m.specs.Header.{IsVideoHead};
+
+use ff_frame::{Item, Refused, Ticket};
+use ff_host::{Host, Sink};
+use ff_memory_host::{FailAt, HostCall, MemHost, MemSink};
+use ff_muxing::{Mux, writer_of};
+use ff_net::{Fault, Machine};
+use ff_time::Rational;
+use ff_values::{Bytes, Codec, Format, HashKind, Pkt, StreamHead};
+use ff_words::FileFormat;
+use ff_writers::{AnyWriter, Writer};
+use std::alloc::{AllocError, Global};
+
+type OutMux = Mux<MemSink, AnyWriter>;
+
+// The header of a WAV of 8-bit samples with sizes 0, and of bodies of 0, 3 and 6 bytes.
+const OPEN: &str = "524946460000000057415645666d7420100000000100010044ac000044ac0000010008006461746100000000";
+const OF_0: &str = "524946462400000057415645666d7420100000000100010044ac000044ac0000010008006461746100000000";
+const OF_3: &str = "524946462800000057415645666d7420100000000100010044ac000044ac0000010008006461746103000000";
+const OF_6: &str = "524946462a00000057415645666d7420100000000100010044ac000044ac0000010008006461746106000000";
+
+// The bytes of a packet, `abc`.
+const ABC: &str = "616263";
+
+// The first line of pictures of 2 columns and 1 row, and the line of a frame.
+const PICTURES: &str = "595556344d50454732205732204831204632353a312049702041303a3020436d6f6e6f0a";
+const FRAME: &str = "4652414d450a";
+
+fn sound() -> Option<StreamHead>
+    ensures { IfSome result (λ head. IsPcmCoded head) }
+{
+    let tb = Rational::new(1, 44100).ok()?;
+    Some(StreamHead::Audio {
+        tb,
+        rate: 44100,
+        bits: 8,
+        channels: 1,
+        codec: Codec::PcmU8,
+    })
+}
+
+fn pictures() -> Option<StreamHead>
+    ensures { IfSome result (λ head. IsVideoHead head) }
+{
+    let tb = Rational::new(1, 25).ok()?;
+    Some(StreamHead::Video {
+        tb,
+        format: Format::Mono,
+        width: 2,
+        height: 1,
+        sar_num: 0,
+        sar_den: 0,
+    })
+}
+
+// A sink of which the call of this kind and number fails.
+fn sink(alloc: Global, call: HostCall, number: u32) -> Result<MemSink, AllocError> {
+    let name = String::from_str(alloc, "out")?;
+    let plan = vec![in alloc; FailAt { name, call, number }]?;
+    let mut host = MemHost::new(alloc, Vec::new(alloc), plan)?;
+    match host.create_sink("out") {
+        Ok(snk) => Ok(snk),
+        Err(_) => Err(AllocError),
+    }
+}
+
+fn wav(alloc: Global, snk: MemSink) -> Result<OutMux, AllocError> {
+    let Some(head) = sound() else {
+        return Err(AllocError);
+    };
+    let writer = writer_of(alloc, FileFormat::Wav, HashKind::Sha256, &head)?;
+    Ok(Mux::new(alloc, snk, writer, head))
+}
+
+fn y4m(alloc: Global, snk: MemSink) -> Result<OutMux, AllocError> {
+    let Some(head) = pictures() else {
+        return Err(AllocError);
+    };
+    let writer = writer_of(alloc, FileFormat::Y4m, HashKind::Sha256, &head)?;
+    Ok(Mux::new(alloc, snk, writer, head))
+}
+
+fn digests(alloc: Global, snk: MemSink) -> Result<OutMux, AllocError> {
+    let Some(head) = sound() else {
+        return Err(AllocError);
+    };
+    let writer = writer_of(alloc, FileFormat::FrameHash, HashKind::Md5, &head)?;
+    Ok(Mux::new(alloc, snk, writer, head))
+}
+
+fn packet(alloc: Global, time: i64) -> Result<Item, AllocError> {
+    Ok(Item::Packet(Pkt {
+        pts: time,
+        dts: time,
+        duration: 3,
+        pos: 0,
+        bytes: Bytes::new("abc".as_bytes().to_vec(alloc)?),
+    }))
+}
+
+fn went(fed: Result<(), Refused>) -> Result<(), AllocError> {
+    match fed {
+        Ok(()) => Ok(()),
+        Err(_) => Err(AllocError),
+    }
+}
+
+// Feeds so many packets, and then an item that closes the stream.
+fn feed_all<K: Sink + Drop, W: Writer + Drop>(
+    alloc: Global,
+    mux: &mut Mux<K, W>,
+    packets: u8,
+    breaks: bool,
+) -> Result<(), AllocError> {
+    for number in 0..packets {
+        let item = packet(alloc, 3 * i64::from(number))?;
+        went(mux.feed(0, item))?;
+    }
+    let last = if breaks { Item::Broken } else { Item::End };
+    went(mux.feed(0, last))
+}
+
+// Whether so many packets and their end, and no less, spend the muxer's input, with this fault, and its sink then holds the bytes
+// of these texts.
+fn leaves(
+    alloc: Global,
+    mux: OutMux,
+    packets: u8,
+    breaks: bool,
+    texts: &[&str],
+    fault: Option<Fault>,
+) -> Result<bool, AllocError> {
+    let mut mux = mux;
+    let before = mux.spent(0);
+    feed_all(alloc, &mut mux, packets, breaks)?;
+    let ended = !before & mux.spent(0) & (mux.fault() == fault);
+    let held = hex::encode(alloc, mux.into_sink().bytes())?;
+    let mut wanted = String::new(alloc);
+    for text in texts {
+        wanted.push_str(text)?;
+    }
+    Ok(ended & (held.as_str() == wanted.as_str()))
+}
+
+#[test]
+fn writes_sound(rt: HostRuntime) -> Result<(), AllocError> {
+    // packets, whether the stream breaks, the call that fails; the texts that are held, the fault
+    for (packets, breaks, call, number, texts, fault) in [
+        (0, false, HostCall::Append, 0, [OF_0, "", ""], None),
+        (1, false, HostCall::Append, 0, [OF_3, ABC, "00"], None),
+        (2, false, HostCall::Append, 0, [OF_6, ABC, ABC], None),
+        (1, true, HostCall::Append, 0, [OPEN, ABC, ""], None),
+        (0, true, HostCall::Append, 0, [OPEN, "", ""], None),
+        (1, false, HostCall::Append, 1, ["", "", ""], Some(Fault::Device)),
+        (1, false, HostCall::Append, 2, [OPEN, "", ""], Some(Fault::Device)),
+        (1, false, HostCall::Append, 3, [OPEN, ABC, ""], Some(Fault::Device)),
+        (1, false, HostCall::Patch, 1, [OPEN, ABC, "00"], Some(Fault::Device)),
+        (1, true, HostCall::Patch, 1, [OPEN, ABC, ""], None),
+    ] {
+        let mux = wav(rt.alloc(), sink(rt.alloc(), call, number)?)?;
+        let came = leaves(rt.alloc(), mux, packets, breaks, &texts, fault)?;
+        assert!(rt; came, "{packets} packets, {number}");
+    }
+    Ok(())
+}
+
+#[test]
+fn writes_pictures(rt: HostRuntime) -> Result<(), AllocError> {
+    let mux = y4m(rt.alloc(), sink(rt.alloc(), HostCall::Patch, 1)?)?;
+    let came = leaves(rt.alloc(), mux, 1, false, &[PICTURES, FRAME, ABC], None)?;
+    assert!(rt; came);
+    Ok(())
+}
+
+#[test]
+fn writes_digests(rt: HostRuntime) -> Result<(), AllocError> {
+    let mux = digests(rt.alloc(), sink(rt.alloc(), HostCall::Append, 2)?)?;
+    let text = "23666f726d61743a206672616d6520636865636b73756d730a2376657273696f6e3a20320a23686173683a204d44350a23746220303a20312f34343130300a236d656469615f7479706520303a20617564696f0a23636f6465635f696420303a2070636d5f75380a2373616d706c655f7261746520303a2034343130300a236368616e6e656c5f6c61796f75745f6e616d6520303a206d6f6e6f0a2373747265616d232c206474732c20202020202020207074732c206475726174696f6e2c202020202073697a652c20686173680a";
+    let came = leaves(rt.alloc(), mux, 1, false, &[text], Some(Fault::Device))?;
+    assert!(rt; came);
+    Ok(())
+}
+
+#[test]
+fn gives_nothing(rt: HostRuntime) -> Result<(), AllocError> {
+    let mut mux = wav(rt.alloc(), sink(rt.alloc(), HostCall::Append, 0)?)?;
+    let ticket = Ticket {
+        source: 0,
+        place: 0,
+    };
+    let ports = (mux.inputs(), mux.outputs(), mux.source());
+    assert_eq!(rt; (ports, mux.allow(ticket)), ((1, 0, None), Some(ticket)));
+    let pulled = matches!(mux.pull(0), Ok(None));
+    mux.stop(0);
+    assert_eq!(rt; (pulled, mux.spent(0)), (true, false));
+    assert!(rt; mux.into_sink().bytes().is_empty());
+    Ok(())
+}
