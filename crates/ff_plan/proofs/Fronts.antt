@@ -121,7 +121,7 @@ from_plain : (out : OutputJob) (g : ℕ) (i : InPad) (source : Origin) → IsBar
 from_plain out g i (origin.Pad h p) bare = refl
 from_plain out g i (origin.Stream s) bare = ap (λ (o : Option Graph). passed_by no_filters out g i false o) (simple_none out (kind_of i.head) bare)
 
-pub passed_plain : (out : OutputJob) (o g n : ℕ) (i : InPad) (b : Bool) → IsBare out → takes out n i ≡ b → passed no_filters out o g n i ≡ unless (where_so (not b) (fault.Takes o n)) (Ok (unfiltered (coded out i)))
+pub passed_plain : (out : OutputJob) (o g n : ℕ) (i : InPad) (b : Bool) → IsBare out → takes no_filters out n i ≡ b → passed no_filters out o g n i ≡ unless (where_so (not b) (fault.Takes o n)) (Ok (unfiltered (coded out i)))
 passed_plain out o g n i b bare e =
     ap (λ (t : Bool). unless (where_so (not t) (fault.Takes o n)) (passed_from no_filters out g i i.source)) e
     ∙ ap (λ (r : Planned Passed). unless (where_so (not b) (fault.Takes o n)) r) (from_plain out g i i.source bare)
@@ -134,7 +134,7 @@ map_more : {A B : Type 0} (f : A → B) (xs : List A) (y : A) → map f (xs ++ y
 map_more f [] y = refl
 map_more {A} {B} f (x ∷ xs) y = ap (λ (l : List B). f x ∷ l) (map_more f xs y)
 
-pub stream_next : (out : OutputJob) (o n : ℕ) (pads : List InPad) (x : InPad) (front : List OutStream) (whole : Planned (List Passed)) → IsBare out → n < length pads → x ≡ get_or pads n x → takes out n x ≡ true
+pub stream_next : (out : OutputJob) (o n : ℕ) (pads : List InPad) (x : InPad) (front : List OutStream) (whole : Planned (List Passed)) → IsBare out → n < length pads → x ≡ get_or pads n x → takes no_filters out n x ≡ true
     → whole ≡ front_with (map unfiltered front) (all_passed no_filters out o 0 n (drop n pads))
     → whole ≡ front_with (map unfiltered (front ++ coded out x ∷ [])) (all_passed no_filters out o 0 (n + 1) (drop (n + 1) pads))
 stream_next out o n pads x front whole bare lt at taken w =
@@ -144,7 +144,7 @@ stream_next out o n pads x front whole bare lt at taken w =
     ∙ (ap (λ (r : Planned Passed). front_with (map unfiltered front) (behind r (streams_from out o n (drop (n + 1) pads)))) (passed_plain out o 0 n x true bare taken)
     ∙ (front_front (map unfiltered front) (unfiltered (coded out x) ∷ []) rest ∙ ap (λ (ps : List Passed). front_with ps rest) (sym (map_more unfiltered front (coded out x))))))
 
-pub stream_refused : (out : OutputJob) (o n : ℕ) (pads : List InPad) (x : InPad) (front : List OutStream) (whole : Planned (List Passed)) → IsBare out → n < length pads → x ≡ get_or pads n x → takes out n x ≡ false
+pub stream_refused : (out : OutputJob) (o n : ℕ) (pads : List InPad) (x : InPad) (front : List OutStream) (whole : Planned (List Passed)) → IsBare out → n < length pads → x ≡ get_or pads n x → takes no_filters out n x ≡ false
     → whole ≡ front_with (map unfiltered front) (all_passed no_filters out o 0 n (drop n pads)) → whole ≡ Err (fault.Takes o n)
 stream_refused out o n pads x front whole bare lt at refused w =
     let here : drop n pads ≡ x ∷ drop (n + 1) pads = drop_next pads n x lt ∙ ap (λ (y : InPad). y ∷ drop (n + 1) pads) (sym at) in

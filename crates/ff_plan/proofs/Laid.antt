@@ -20,6 +20,7 @@ use Rattle.ff_plan.specs.declared.layout.OutStream.{OutStream}
 use Rattle.ff_plan.specs.Layout.{IsAmong, Laid, Layout, placed, place_row, place_from}
 use Rattle.ff_plan.proofs.Known.{known_among}
 use Rattle.ff_plan.specs.Laws.{IsThere, IsLaid, IsLaidOut}
+use Rattle.ff_plan.specs.Plain.{plain}
 use Rattle.ff_plan.specs.Rules.{Rules, OpenOut, behind, where_so}
 use Rattle.ff_plan.specs.Labels.{filters_of}
 use Rattle.ff_plan.specs.declared.planned.PlanError.TheVariants as fault
@@ -29,6 +30,48 @@ use Rattle.ff_plan.specs.Planned.{labels_of, graphs_of, outputs_from, layout_of,
 use Rattle.ff_plan.proofs.Among.{all_joined, all_map, place_among, was_among, among_either, among_flat}
 use Rattle.ff_plan.proofs.Layouts.{nat_self}
 use Rattle.ff_plan.proofs.Results.{not_ok, same_ok, behind_ok, unless_ok}
+
+-- the streams of an output before its codecs are those of inputs
+module _ (heads : List (List StreamHead)) (Holds : InPad → Type 0) (shown : (k : Stream) → IsAmong k (all_streams heads) → Holds (as_pad k)) where
+  pads_hold : (ks : List Stream) → ((k : Stream) → IsAmong k ks → IsAmong k (all_streams heads)) → AllByRecursion Holds (map as_pad ks)
+  pads_hold ks each = all_map Holds as_pad ks (λ k i. shown k (each k i))
+
+  automatic_hold : (out : OutputJob) (before : List InPad) → AllByRecursion Holds (automatic (plain heads) out before)
+  automatic_hold out before =
+      let refs = best heads (is_wanted out before kind.Video) (is_wanted out before kind.Audio) in
+      pads_hold (known heads refs) (λ k i. known_among heads refs k i)
+
+  mapped_hold : (out : OutputJob) (o m : ℕ) (used : List (List ℕ)) (optional : Bool) (spec : MapFrom) (pads : List InPad) → mapped (plain heads) out o m used optional spec ≡ Ok pads → AllByRecursion Holds pads
+  mapped_hold out o m used optional (from.Input file p) pads h =
+      let refs = selected (from.Input file p) heads in
+      let chosen_in = filter (is_kept out) (known heads refs) in
+      let is = same_ok (map as_pad chosen_in) pads (unless_ok _ (Ok (map as_pad chosen_in)) pads h) in
+      subst (λ (ps : List InPad). AllByRecursion Holds ps) is (pads_hold chosen_in (λ k i. known_among heads refs k (was_among (is_kept out) k (known heads refs) i).0))
+  mapped_hold out o m used optional (from.Label label) pads h = absurd (not_ok _ pads h)
+
+  joined_hold : (a b : List InPad) → AllByRecursion Holds a → AllByRecursion Holds b → AllByRecursion Holds (a ++ b)
+  joined_hold a b p q = all_joined Holds a b p q
+
+  all_mapped_hold : (out : OutputJob) (o m : ℕ) (used : List (List ℕ)) (specs : List MapSpec) (pads : List InPad) → all_mapped (plain heads) out o m used specs ≡ Ok pads → AllByRecursion Holds pads
+  all_mapped_hold out o m used [] pads h = subst (λ (ps : List InPad). AllByRecursion Holds ps) (same_ok [] pads h) tt
+  all_mapped_hold out o m used (spec ∷ specs) pads h =
+      let first = behind_ok (mapped (plain heads) out o m used spec.optional spec.from) (λ ps. front_with ps (all_mapped (plain heads) out o (m + 1) (label_in spec.from ++ used) specs)) pads h in
+      let rest = behind_ok (all_mapped (plain heads) out o (m + 1) (label_in spec.from ++ used) specs) (λ ys. Ok (first.0 ++ ys)) pads first.2 in
+      subst (λ (ps : List InPad). AllByRecursion Holds ps) (same_ok (first.0 ++ rest.0) pads rest.2)
+      (joined_hold first.0 rest.0 (mapped_hold out o m used spec.optional spec.from first.0 first.1) (all_mapped_hold out o (m + 1) (label_in spec.from ++ used) specs rest.0 rest.1))
+
+  asked_hold : (out : OutputJob) (o : ℕ) (used : List (List ℕ)) (maps : List MapSpec) (pads : List InPad) → asked (plain heads) out o used [] maps ≡ Ok pads → AllByRecursion Holds pads
+  asked_hold out o used [] pads h = subst (λ (ps : List InPad). AllByRecursion Holds ps) (same_ok (automatic (plain heads) out []) pads h) (automatic_hold out [])
+  asked_hold out o used (m ∷ ms) pads h = all_mapped_hold out o 0 used (m ∷ ms) pads h
+
+  some_hold : (o : ℕ) (is pads : List InPad) → some_or o is ≡ Ok pads → AllByRecursion Holds is → AllByRecursion Holds pads
+  some_hold o [] pads h k = absurd (not_ok _ pads h)
+  some_hold o (i ∷ is) pads h k = subst (λ (ps : List InPad). AllByRecursion Holds ps) (same_ok (i ∷ is) pads h) k
+
+  pub chosen_hold : (out : OutputJob) (o : ℕ) (used : List (List ℕ)) (pads : List InPad) → chosen (plain heads) out o used [] ≡ Ok pads → AllByRecursion Holds pads
+  chosen_hold out o used pads h =
+      let first = behind_ok (asked (plain heads) out o used [] out.maps) (λ ps. some_or o ps) pads h in
+      some_hold o first.0 pads first.2 (asked_hold out o used out.maps first.0 first.1)
 
 module _ (rules : Rules) (heads : List (List StreamHead)) where
   abbrev pub inside : Inside
@@ -41,45 +84,8 @@ module _ (rules : Rules) (heads : List (List StreamHead)) where
   abbrev Knows : InPad → Type 0
   Knows i = IsKnown i.source
 
-  pads_known : (ks : List Stream) → ((k : Stream) → IsAmong k ks → IsAmong k (all_streams heads)) → AllByRecursion Knows (map as_pad ks)
-  pads_known ks each = all_map Knows as_pad ks (λ k i. (k, each k i, refl))
-
-  automatic_known : (out : OutputJob) (before : List InPad) → AllByRecursion Knows (automatic inside out before)
-  automatic_known out before =
-      let refs = best heads (is_wanted out before kind.Video) (is_wanted out before kind.Audio) in
-      pads_known (known heads refs) (λ k i. known_among heads refs k i)
-
-  mapped_known : (out : OutputJob) (o m : ℕ) (used : List (List ℕ)) (optional : Bool) (spec : MapFrom) (pads : List InPad) → mapped inside out o m used optional spec ≡ Ok pads → AllByRecursion Knows pads
-  mapped_known out o m used optional (from.Input file p) pads h =
-      let refs = selected (from.Input file p) heads in
-      let chosen_in = filter (is_kept out) (known heads refs) in
-      let is = same_ok (map as_pad chosen_in) pads (unless_ok _ (Ok (map as_pad chosen_in)) pads h) in
-      subst (λ (ps : List InPad). AllByRecursion Knows ps) is (pads_known chosen_in (λ k i. known_among heads refs k (was_among (is_kept out) k (known heads refs) i).0))
-  mapped_known out o m used optional (from.Label label) pads h = absurd (not_ok _ pads h)
-
-  joined_known : (a b : List InPad) → AllByRecursion Knows a → AllByRecursion Knows b → AllByRecursion Knows (a ++ b)
-  joined_known a b p q = all_joined Knows a b p q
-
-  all_mapped_known : (out : OutputJob) (o m : ℕ) (used : List (List ℕ)) (specs : List MapSpec) (pads : List InPad) → all_mapped inside out o m used specs ≡ Ok pads → AllByRecursion Knows pads
-  all_mapped_known out o m used [] pads h = subst (λ (ps : List InPad). AllByRecursion Knows ps) (same_ok [] pads h) tt
-  all_mapped_known out o m used (spec ∷ specs) pads h =
-      let first = behind_ok (mapped inside out o m used spec.optional spec.from) (λ ps. front_with ps (all_mapped inside out o (m + 1) (label_in spec.from ++ used) specs)) pads h in
-      let rest = behind_ok (all_mapped inside out o (m + 1) (label_in spec.from ++ used) specs) (λ ys. Ok (first.0 ++ ys)) pads first.2 in
-      subst (λ (ps : List InPad). AllByRecursion Knows ps) (same_ok (first.0 ++ rest.0) pads rest.2)
-      (joined_known first.0 rest.0 (mapped_known out o m used spec.optional spec.from first.0 first.1) (all_mapped_known out o (m + 1) (label_in spec.from ++ used) specs rest.0 rest.1))
-
-  asked_known : (out : OutputJob) (o : ℕ) (used : List (List ℕ)) (maps : List MapSpec) (pads : List InPad) → asked inside out o used [] maps ≡ Ok pads → AllByRecursion Knows pads
-  asked_known out o used [] pads h = subst (λ (ps : List InPad). AllByRecursion Knows ps) (same_ok (automatic inside out []) pads h) (automatic_known out [])
-  asked_known out o used (m ∷ ms) pads h = all_mapped_known out o 0 used (m ∷ ms) pads h
-
-  some_known : (o : ℕ) (is pads : List InPad) → some_or o is ≡ Ok pads → AllByRecursion Knows is → AllByRecursion Knows pads
-  some_known o [] pads h k = absurd (not_ok _ pads h)
-  some_known o (i ∷ is) pads h k = subst (λ (ps : List InPad). AllByRecursion Knows ps) (same_ok (i ∷ is) pads h) k
-
   chosen_known : (out : OutputJob) (o : ℕ) (used : List (List ℕ)) (pads : List InPad) → chosen inside out o used [] ≡ Ok pads → AllByRecursion Knows pads
-  chosen_known out o used pads h =
-      let first = behind_ok (asked inside out o used [] out.maps) (λ ps. some_or o ps) pads h in
-      some_known o first.0 pads first.2 (asked_known out o used out.maps first.0 first.1)
+  chosen_known out o used pads h = chosen_hold heads Knows (λ k i. (k, i, refl)) out o used pads h
 
   -- a stream of an output comes from an input, or from its own simple graph, which a stream of an input feeds
   abbrev Comes : Passed → Type 0
@@ -113,7 +119,7 @@ module _ (rules : Rules) (heads : List (List StreamHead)) where
   passed_from_comes out g i (origin.Stream s) p h k = passed_by_comes out g i rules.nulls (simple_of out (kind_of i.head)) p h k
 
   passed_comes : (out : OutputJob) (o g n : ℕ) (i : InPad) (p : Passed) → passed rules out o g n i ≡ Ok p → Knows i → Comes p
-  passed_comes out o g n i p h k = passed_from_comes out g i i.source p (unless_ok (where_so (not (takes out n i)) (fault.Takes o n)) (passed_from rules out g i i.source) p h) k
+  passed_comes out o g n i p h k = passed_from_comes out g i i.source p (unless_ok (where_so (not (takes rules out n i)) (fault.Takes o n)) (passed_from rules out g i i.source) p h) k
 
   all_come : (out : OutputJob) (o g n : ℕ) (is : List InPad) (ps : List Passed) → all_passed rules out o g n is ≡ Ok ps → AllByRecursion Knows is → AllByRecursion Comes ps
   all_come out o g n [] ps h k = subst (λ (qs : List Passed). AllByRecursion Comes qs) (same_ok [] ps h) tt

@@ -2,7 +2,7 @@
 use Rattle.std.proofs.Common.{◌≡◌, ℕ, zero, suc, ◌+◌, ◌<◌, ◌≤◌, ◌⊎◌, inl, inr, ◌==◌, Bool, true, false, cond, List, [], ◌∷◌, ◌++◌, map, length, refl, sym, ap, ◌∙◌, subst, arith}
 use Rattle.std.specs.Prelude.{None}
 use Rattle.ff_plan.specs.Wires.{edges_of}
-use Rattle.ff_plan.specs.Ports.{shape_of, IsFed}
+use Rattle.ff_edges.specs.Ports.{shape_of, IsFed}
 use Rattle.ff_plan.proofs.Numbered.{has_ins, has_outs}
 use Rattle.ff_plan.proofs.Upward.{go_upward, is_fed}
 use Rattle.std.specs.List.{position_or_len, AllByRecursion, flat_map, list_any, range_with_len}
@@ -19,10 +19,11 @@ use Rattle.ff_plan.specs.declared.layout.Placed.{Placed}
 use Rattle.ff_plan.specs.Layout.{IsAmong, Laid, Layout, same_ref, place_row, place_from, placed, origins, shows, used, is_used, used_inputs}
 use Rattle.ff_plan.specs.Nodes.{before_decs, before_graphs, before_shortests, node_count, shortests, output_numbers, demux_at, dec_at, graph_at, origin_at, origin_port, nodes_of, demux_wire, pad_wire, pad_wires, shortest_wire, enc_wire, mux_wire, shortest_wires, wires_of}
 use Rattle.ff_plan.specs.declared.planned.PlanNode.TheVariants as node
-use Rattle.ff_plan.specs.Laws.{IsThere, IsLaid, IsUp, IsNextOf, HasOuts, IsNoGraph, GraphsHaveOuts}
+use Rattle.ff_plan.specs.Laws.{IsThere, IsLaid, IsUp, IsNextOf, IsNoGraph, GraphsHaveOuts}
+use Rattle.ff_edges.specs.Ports.{HasOuts}
 use Rattle.ff_plan.proofs.Among.{all_joined, all_map, all_flat, any_among, place_among, kept_among, was_among, among_left, among_right, among_either, among_map, among_flat, in_range}
 
-same_self : (s : StreamRef) → same_ref s s ≡ true
+pub same_self : (s : StreamRef) → same_ref s s ≡ true
 same_self s = grind (arith, nat_tests)
 
 pub nat_self : (i : ℕ) → (i == i) ≡ true
@@ -73,7 +74,7 @@ pub range_length : (a n : ℕ) → length (range_with_len a n) ≡ n
 range_length a zero = refl
 range_length a (suc n) = ap suc (range_length (a + 1) n)
 
-less_or : (k a : ℕ) → (k < a) ⊎ (a ≤ k)
+pub less_or : (k a : ℕ) → (k < a) ⊎ (a ≤ k)
 less_or k zero = inr (omega arith)
 less_or zero (suc a) = inl (omega arith)
 less_or (suc k) (suc a) = elim (less_or k a) [ inl lt ↦ inl (omega (arith, lt)) | inr le ↦ inr (omega (arith, le)) ]

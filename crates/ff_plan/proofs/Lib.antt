@@ -1,9 +1,13 @@
 mod Among
 mod Best
 mod Filters
+mod Fitting
 mod Fronts
+mod Kept
+mod NodeKinds
 mod Known
 mod Laid
+mod Lanes
 mod Layouts
 mod Limits
 mod Memory
@@ -11,7 +15,10 @@ mod Named
 mod Numbered
 mod Places
 mod Plain
+mod Plans
 mod Results
+mod Rows
+mod Singles
 mod Small
 mod Steps
 mod Today

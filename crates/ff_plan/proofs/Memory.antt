@@ -1,5 +1,5 @@
 -- No plan is refused for want of memory.
-use Rattle.std.proofs.Common.{◌≡◌, ℕ, ◌+◌, ◌==◌, ◌&&◌, ◌||◌, nat_le, nat_lt, Bool, true, false, not, List, [], ◌∷◌, ◌++◌, map, length, Option, None, Some, refl, sym, subst}
+use Rattle.std.proofs.Common.{◌≡◌, ℕ, ◌+◌, ◌&&◌, ◌||◌, nat_le, nat_lt, Bool, true, false, not, List, [], ◌∷◌, ◌++◌, length, Option, None, Some, refl, sym, subst}
 use Rattle.std.specs.Prelude.{Ok, Err}
 use Rattle.std.specs.List.{AllByRecursion, flat_map}
 use Rattle.ff_values.specs.declared.head.StreamHead.{StreamHead}
@@ -18,7 +18,7 @@ use Rattle.ff_plan.specs.Nodes.{plan_of}
 use Rattle.ff_plan.specs.Plain.{plain, unfiltered, IsBare}
 use Rattle.ff_plan.specs.Planned.{outputs_from, labels_of, graphs_of, limited, planned, simple_graphs, layout_of}
 use Rattle.ff_plan.specs.Rules.{Planned, behind, unless, or_else, where_so}
-use Rattle.ff_plan.specs.Streams.{Passed, mapped, all_mapped, asked, automatic, chosen, some_or, front_with, label_in, is_empty, takes, passed, all_passed, graph_of}
+use Rattle.ff_plan.specs.Streams.{Passed, mapped, all_mapped, asked, chosen, some_or, front_with, label_in, is_empty, takes, passed, all_passed, graph_of}
 use Rattle.ff_plan.specs.Today.{no_filters, unbuilt, unbuilt_complex, unbuilt_simple, unbuilt_in, unbuilt_from, planned_today}
 use Rattle.ff_plan.specs.declared.planned.Plan.{Plan}
 use Rattle.ff_plan.proofs.Among.{never}
@@ -108,8 +108,8 @@ module _ (heads : List (List StreamHead)) where
 
   passed_free : (out : OutputJob) (o g n : ℕ) (i : InPad) → IsBare out → IsFree (passed no_filters out o g n i)
   passed_free out o g n i bare =
-      subst (λ (r : Planned Passed). IsFree r) (sym (passed_plain out o g n i (takes out n i) bare refl))
-      (unless_free (where_so (not (takes out n i)) (fault.Takes o n)) (Ok (unfiltered (coded out i))) (where_free (not (takes out n i)) (fault.Takes o n) refl) tt)
+      subst (λ (r : Planned Passed). IsFree r) (sym (passed_plain out o g n i (takes no_filters out n i) bare refl))
+      (unless_free (where_so (not (takes no_filters out n i)) (fault.Takes o n)) (Ok (unfiltered (coded out i))) (where_free (not (takes no_filters out n i)) (fault.Takes o n) refl) tt)
 
   all_passed_free : (out : OutputJob) (o g n : ℕ) (is : List InPad) → IsBare out → IsFree (all_passed no_filters out o g n is)
   all_passed_free out o g n [] bare = tt

@@ -2,9 +2,11 @@
 use Rattle.std.proofs.Common.{◌≡◌, ℕ, zero, suc, ◌+◌, ◌<◌, ◌≤◌, ◌⊎◌, inl, inr, ◌==◌, ◌&&◌, Bool, true, false, not, cond, List, [], ◌∷◌, length, slice_index_or, Option, refl, ap, ◌∙◌, subst, arith}
 use Rattle.std.specs.List.{position_or_len, AllByRecursion}
 use Rattle.std.proofs.lemmas.Bool.Decides.{nat_tests}
-use Rattle.ff_plan.specs.declared.planned.Edge.{Edge}
-use Rattle.ff_plan.specs.Wires.{Wire, tally, leaves_node, enters_node, port_or, edge_behind, edges_behind, edges_of}
-use Rattle.ff_plan.specs.Laws.{EachPort, HasIns, HasOuts, IsNextOf}
+use Rattle.ff_edges.specs.declared.edge.Edge.{Edge}
+use Rattle.ff_plan.specs.Wires.{Wire, leaves_node, enters_node, port_or, edge_behind, edges_behind, edges_of}
+use Rattle.ff_edges.specs.Ports.{tally}
+use Rattle.ff_plan.specs.Laws.{IsNextOf}
+use Rattle.ff_edges.specs.Ports.{EachPort, HasIns, HasOuts}
 
 pub hit : {A : Type 0} (p : A → Bool) (x : A) (xs : List A) → p x ≡ true → position_or_len p (x ∷ xs) ≡ 0
 hit p x xs e = ap (λ (b : Bool). cond (not b) (1 + position_or_len p xs) 0) e
@@ -27,7 +29,7 @@ same_or_above (suc n) (suc p) le = elim (same_or_above n p (omega (arith, le))) 
 pub both : (a k b p : ℕ) → (a == k) ≡ true → b ≡ p → ((a == k) && (b == p)) ≡ true
 both a k b p e f = grind (arith, nat_tests)
 
-other_port : (a k b p : ℕ) → b < p → ((a == k) && (b == p)) ≡ false
+pub other_port : (a k b p : ℕ) → b < p → ((a == k) && (b == p)) ≡ false
 other_port a k b p lt = grind (arith, nat_tests)
 
 pub other_key : (a k b p : ℕ) → (a == k) ≡ false → ((a == k) && (b == p)) ≡ false
@@ -122,8 +124,14 @@ module _ (k : ℕ) where
   outs_behind before [] next = tt
   outs_behind before (w ∷ ws) next = out_step before w (edges_behind (w ∷ before) ws) (w.from == k) refl next.0 (outs_behind (w ∷ before) ws next.1)
 
+  pub ins_numbered : (wires : List Wire) → Ins 0 (edges_of wires)
+  ins_numbered wires = ins_behind [] wires
+
+  pub outs_numbered : (wires : List Wire) → AllByRecursion (IsNextOf k) wires → Outs 0 (edges_of wires)
+  outs_numbered wires next = outs_behind [] wires next
+
   pub has_ins : (wires : List Wire) → HasIns (edges_of wires) k
-  has_ins wires = each_port (λ e. e.to) (λ e. e.in_port) k (edges_of wires) (ins_behind [] wires)
+  has_ins wires = each_port (λ e. e.to) (λ e. e.in_port) k (edges_of wires) (ins_numbered wires)
 
   pub has_outs : (wires : List Wire) → AllByRecursion (IsNextOf k) wires → HasOuts (edges_of wires) k
-  has_outs wires next = each_port (λ e. e.from) (λ e. e.out_port) k (edges_of wires) (outs_behind [] wires next)
+  has_outs wires next = each_port (λ e. e.from) (λ e. e.out_port) k (edges_of wires) (outs_numbered wires next)

@@ -19,7 +19,7 @@ use Rattle.ff_plan.specs.Plain.{IsBare}
 use Rattle.ff_plan.specs.Laws.{HasNoGraphs, GoUpward}
 use Rattle.ff_plan.specs.Nodes.{node_count, plan_of, wires_of}
 use Rattle.ff_plan.specs.Planned.{labels_of, graphs_of, outputs_from, layout_of, limited, laid_out, planned, unused_label, simple_graphs}
-use Rattle.ff_plan.specs.Ports.{shape_of, IsFed}
+use Rattle.ff_edges.specs.Ports.{shape_of, IsFed}
 use Rattle.ff_plan.specs.Rules.{Rules, behind, where_so}
 use Rattle.ff_plan.specs.Streams.{Inside, front_with, chosen, Passed, as_it_is, passed_by, passed_from, passed, graph_of, all_passed, simple_of, packed_as, takes}
 use Rattle.ff_plan.proofs.Laid.{inside, laid}
@@ -57,7 +57,7 @@ module _ (rules : Rules) (heads : List (List StreamHead)) (nulls : rules.nulls �
       let first = behind_ok (passed rules out o g n i) (λ p. front_with (p ∷ []) (all_passed rules out o (g + length (graph_of p)) (n + 1) is)) ps h in
       let rest = behind_ok (all_passed rules out o (g + length (graph_of first.0)) (n + 1) is) (λ ys. Ok (first.0 ∷ [] ++ ys)) ps first.2 in
       subst (λ (qs : List Passed). AllByRecursion Bare qs) (same_ok (first.0 ∷ rest.0) ps rest.2)
-      (from_bare out g i i.source first.0 bare (unless_ok (where_so (not (takes out n i)) (fault.Takes o n)) (passed_from rules out g i i.source) first.0 first.1), all_bare out o (g + length (graph_of first.0)) (n + 1) is rest.0 bare rest.1)
+      (from_bare out g i i.source first.0 bare (unless_ok (where_so (not (takes rules out n i)) (fault.Takes o n)) (passed_from rules out g i i.source) first.0 first.1), all_bare out o (g + length (graph_of first.0)) (n + 1) is rest.0 bare rest.1)
 
   abbrev AllBare : List (List Passed) → Type 0
   AllBare outs = AllByRecursion (λ ps. AllByRecursion Bare ps) outs

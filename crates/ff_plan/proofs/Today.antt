@@ -17,7 +17,7 @@ use Rattle.ff_plan.specs.declared.planned.PlanError.TheVariants as fault
 use Rattle.ff_plan.specs.Layout.{Laid, Layout, place_from}
 use Rattle.ff_plan.specs.Laws.{GoUpward}
 use Rattle.ff_plan.specs.Nodes.{plan_of}
-use Rattle.ff_plan.specs.Ports.{shape_of, IsFed}
+use Rattle.ff_edges.specs.Ports.{shape_of, IsFed}
 use Rattle.ff_plan.specs.Plain.{plain, plain_layout, plain_plan, rows, unfiltered, IsBare, IsRefused}
 use Rattle.ff_plan.specs.Planned.{outputs_from, limited, planned, simple_graphs, layout_of}
 use Rattle.ff_plan.specs.Rules.{Planned, behind, unless, or_else, where_so}
@@ -104,7 +104,7 @@ module _ (job : Job) (heads : List (List StreamHead)) where
   same_job h = ap (λ (gs : List Graph). record { queue = job.queue; trace = job.trace; graphs = gs; inputs = job.inputs; outputs = job.outputs }) (job_has_no_graphs job h)
 
   -- behind the outputs
-  abbrev behind_outputs : List (List Passed) → Planned Plan
+  abbrev pub behind_outputs : List (List Passed) → Planned Plan
   behind_outputs outs = behind (limited no_filters bare heads [] outs) (λ l. Ok (plan_of l))
 
   two_steps : {X Y Z : Type 0} (r : Planned X) (f : X → Planned Y) (g : Y → Planned Z) → behind (behind r f) g ≡ behind r (λ x. behind (f x) g)

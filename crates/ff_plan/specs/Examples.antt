@@ -18,12 +18,13 @@ use Rattle.ff_map.specs.declared.map.MapFrom.TheVariants as from
 use Rattle.ff_map.specs.declared.map.MapSpec.{MapSpec}
 use Rattle.ff_words.specs.declared.job.OutputJob.{OutputJob}
 use Rattle.ff_map.specs.declared.map.Pick.TheVariants as pick
-use Rattle.ff_plan.specs.declared.planned.Edge.{Edge}
+use Rattle.ff_edges.specs.declared.edge.Edge.{Edge}
 use Rattle.ff_plan.specs.declared.planned.Plan.{Plan}
 use Rattle.ff_plan.specs.declared.planned.PlanNode.TheVariants as node
 use Rattle.ff_sched.specs.declared.routes.Way.TheVariants as way
 use Rattle.ff_plan.specs.Labels.{taken_in, given_in}
 use Rattle.ff_plan.specs.Rules.{Rules}
+use Rattle.ff_plan.specs.Streams.{most_streams}
 
 -- the texts that the examples use as labels of streams
 abbrev pub example_map : List ℕ → Option MapSpec
@@ -45,6 +46,7 @@ example_rules nulls joint taken given k other = record {
   configured = λ g hs. Ok (record { label = given; head = first_or other hs } ∷ []);
   nulls = nulls;
   joint = joint;
+  most = most_streams;
 }
 
 abbrev pub example_output : TimeCut → FileFormat → List MapSpec → OutputJob
@@ -176,6 +178,7 @@ labelled_rules other = record {
   configured = λ g hs. Ok (record { label = first_label (given_in g); head = first_or other hs } ∷ []);
   nulls = false;
   joint = false;
+  most = most_streams;
 }
 
 -- `[b]anull[o]` and `[0:a]anull[b]`: graph 1 feeds graph 0

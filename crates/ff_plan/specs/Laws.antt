@@ -1,9 +1,9 @@
 -- What holds of the edges of every plan.
-use Rattle.std.specs.Prelude.{◌≡◌, ◌⊎◌, ℕ, ◌<◌, ◌≤◌, ◌==◌, ◌&&◌, false, cond, List, [], ◌∷◌, length, slice_index_or, Some, None, Ok}
+use Rattle.std.specs.Prelude.{◌≡◌, ◌⊎◌, ℕ, ◌<◌, ◌≤◌, ◌==◌, false, cond, List, [], ◌∷◌, length, slice_index_or, Some, None, Ok}
 use Rattle.std.specs.List.{AllByRecursion, position_or_len, cons_option, IsDistinct}
 use Rattle.ff_values.specs.declared.head.StreamHead.{StreamHead}
 use Rattle.ff_words.specs.declared.job.Job.{Job}
-use Rattle.ff_plan.specs.declared.planned.Edge.{Edge}
+use Rattle.ff_edges.specs.declared.edge.Edge.{Edge}
 use Rattle.ff_map.specs.declared.streams.Stream.{Stream}
 use Rattle.ff_map.specs.Choice.{all_streams}
 use Rattle.ff_plan.specs.declared.layout.Origin.{Origin}
@@ -14,22 +14,8 @@ use Rattle.ff_plan.specs.Layout.{IsAmong, Laid, Layout, placed}
 use Rattle.ff_plan.specs.Nodes.{before_graphs, before_shortests, wires_of}
 use Rattle.ff_plan.specs.Planned.{laid_out}
 use Rattle.ff_plan.specs.Rules.{Rules}
-use Rattle.ff_plan.specs.Wires.{Wire, edges_of, tally}
-
--- On one side of the edges, where `key` is the node and `port` its port there: each port of node k has an edge, and each
--- edge at k has one of its ports and is the one there.
-pub record EachPort (key port : Edge → ℕ) (edges : List Edge) (k : ℕ) : Type 0 where
-  pub there : (p : ℕ) → p < tally (λ e. key e == k) edges → position_or_len (λ e. (key e == k) && (port e == p)) edges < length edges
-  pub range : (w : ℕ) (d : Edge) → w < length edges → key (slice_index_or edges w d) ≡ k → port (slice_index_or edges w d) < tally (λ e. key e == k) edges
-  pub at : (w : ℕ) (d : Edge) → w < length edges → key (slice_index_or edges w d) ≡ k
-      → position_or_len (λ e. (key e == k) && (port e == port (slice_index_or edges w d))) edges ≡ w
-
--- of the inputs of a node, and of its outputs
-abbrev pub HasIns : List Edge → ℕ → Type 0
-HasIns edges k = EachPort (λ e. e.to) (λ e. e.in_port) edges k
-
-abbrev pub HasOuts : List Edge → ℕ → Type 0
-HasOuts edges k = EachPort (λ e. e.from) (λ e. e.out_port) edges k
+use Rattle.ff_plan.specs.Wires.{Wire, edges_of}
+use Rattle.ff_edges.specs.Ports.{HasOuts}
 
 -- each edge goes upward, to a node that is there
 pub record GoUpward (count : ℕ) (edges : List Edge) : Type 0 where

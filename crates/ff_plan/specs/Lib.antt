@@ -1,14 +1,14 @@
 pub mod Choice
 pub mod Examples
+pub mod Fitting
 pub mod Labels
-pub mod Layout
 pub mod Laws
+pub mod Layout
 pub mod Nodes
 pub mod Order
 pub mod Pads
 pub mod Plain
 pub mod Planned
-pub mod Ports
 pub mod Rules
 pub mod Streams
 pub mod Today

@@ -4,6 +4,7 @@ use Rattle.std.specs.List.{list_any}
 use Rattle.std.specs.Str.{bytes_eq}
 use Rattle.ff_values.specs.declared.head.StreamHead.{StreamHead}
 use Rattle.ff_lang.specs.declared.graph.Graph.{Graph}
+use Rattle.ff_words.specs.declared.job.FileFormat.{FileFormat}
 use Rattle.ff_map.specs.declared.map.Kind.{Kind}
 use Rattle.ff_map.specs.declared.map.MapSpec.{MapSpec}
 use Rattle.ff_values.specs.declared.config.ConfigError.{ConfigError}
@@ -27,7 +28,8 @@ pub record Refused : Type 0 where
 -- Of ff_map the map that a text is, of ff_graph the rest: whether a filter's name is known, whether the filters of a graph
 -- feed each other in a loop, its open input pads in the order of writing, and its open output pads with their heads where the
 -- open input pads have these heads (None where a pad found no stream), or the refusal that comes first.
--- `nulls` is whether a stream without a simple graph passes through `null` or `anull`.
+-- `nulls` is whether a stream without a simple graph passes through `null` or `anull`, `joint` whether each output has a
+-- Shortest node, `most` how many streams an output of a format may have.
 pub record Rules : Type 0 where
   pub map_of : List ℕ → Option MapSpec
   pub known : List ℕ → Bool
@@ -36,6 +38,7 @@ pub record Rules : Type 0 where
   pub configured : Graph → List (Option StreamHead) → Result (List OpenOut) Refused
   pub nulls : Bool
   pub joint : Bool
+  pub most : FileFormat → ℕ
 
 abbrev pub Planned : Type 0 → Type 0
 Planned X = Result X PlanError

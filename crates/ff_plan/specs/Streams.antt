@@ -141,6 +141,7 @@ abbrev pub takes_head : OutputJob → StreamHead → Bool
 takes_head out (stream_head.Audio tb rate bits channels c) = takes_kind out.format kind.Audio && takes_sound out.format (audio_codec out out.format) rate
 takes_head out (stream_head.Video tb f width height sar_num sar_den) = takes_kind out.format kind.Video
 
+-- how many streams a format can hold
 abbrev pub most_streams : FileFormat → ℕ
 most_streams format.FrameHash = 16
 most_streams other = 1
@@ -158,9 +159,9 @@ abbrev pub is_pad : Origin → Bool
 is_pad (origin.Stream s) = false
 is_pad (origin.Pad g p) = true
 
--- whether output o takes this as its n-th stream
-abbrev pub takes : OutputJob → ℕ → InPad → Bool
-takes out n i = takes_head out i.head && nat_lt n (most_streams out.format) && not (is_pad i.source && is_graph (simple_of out (kind_of i.head)))
+-- whether an output takes this as its n-th stream
+abbrev pub takes : Rules → OutputJob → ℕ → InPad → Bool
+takes rules out n i = takes_head out i.head && nat_lt n (rules.most out.format) && not (is_pad i.source && is_graph (simple_of out (kind_of i.head)))
 
 -- the first label that stands at two pads of one direction
 abbrev pub twice_in : List (List ℕ) → List (List ℕ) → List Filter → Option PlanError
@@ -220,7 +221,7 @@ passed_from rules out g i (origin.Pad h p) = as_it_is out i
 passed_from rules out g i (origin.Stream s) = passed_by rules out g i rules.nulls (simple_of out (kind_of i.head))
 
 abbrev pub passed : Rules → OutputJob → ℕ → ℕ → ℕ → InPad → Planned Passed
-passed rules out o g n i = unless (where_so (not (takes out n i)) (fault.Takes o n)) (passed_from rules out g i i.source)
+passed rules out o g n i = unless (where_so (not (takes rules out n i)) (fault.Takes o n)) (passed_from rules out g i i.source)
 
 abbrev pub graph_of : Passed → List Laid
 graph_of p = cons_option p.graph []

@@ -1,4 +1,4 @@
--- What is built: plans of jobs without graphs and without `-shortest`. A job that asks for more is refused by what it asks for
+-- What is built: plans of jobs without graphs and without `-shortest`, of outputs of one stream each. A job that asks for more is refused by what it asks for
 -- first: a graph over several streams, then by output a graph for its video, one for its audio, its `-shortest`.
 use Rattle.std.specs.Prelude.{ℕ, ◌+◌, false, List, [], ◌∷◌, Option, Some, None, Err}
 use Rattle.ff_values.specs.declared.config.ConfigError.TheVariants as config
@@ -33,7 +33,7 @@ unbuilt_from o (out ∷ outs) = or_else (unbuilt_in o out) (unbuilt_from (o + 1)
 abbrev pub unbuilt : Job → Option PlanError
 unbuilt job = or_else (unbuilt_complex job.graphs) (unbuilt_from 0 job.outputs)
 
--- no filter is built, no stream passes through one, and no output has a Shortest node
+-- no filter is built, no stream passes through one, no output has a Shortest node, and each has one stream
 abbrev pub no_filters : Rules
 no_filters = record {
   map_of = λ text. None;
@@ -43,6 +43,7 @@ no_filters = record {
   configured = λ g hs. Err (record { filter = 0; kind = config.UnknownFilter });
   nulls = false;
   joint = false;
+  most = λ f. 1;
 }
 
 abbrev pub planned_today : Job → List (List StreamHead) → Planned Plan

@@ -1,12 +1,8 @@
 -- Edges out of wires: a port that isn't named is the next one of its node.
-use Rattle.std.specs.Prelude.{ℕ, suc, ◌==◌, Bool, cond, List, [], ◌∷◌, Option, Some, None}
+use Rattle.std.specs.Prelude.{ℕ, ◌==◌, Bool, List, [], ◌∷◌, Option, Some, None}
 pub use Rattle.ff_plan.specs.declared.number.Wire.{Wire}
-use Rattle.ff_plan.specs.declared.planned.Edge.{Edge}
-
--- how many pass
-abbrev pub tally : {X : Type 0} → (X → Bool) → List X → ℕ
-tally p [] = 0
-tally p (x ∷ xs) = cond (p x) (suc (tally p xs)) (tally p xs)
+use Rattle.ff_edges.specs.declared.edge.Edge.{Edge}
+use Rattle.ff_edges.specs.Ports.{tally}
 
 abbrev pub leaves_node : ℕ → Wire → Bool
 leaves_node k w = w.from == k

@@ -8,7 +8,7 @@ ghost use Rattle.ff_plan.specs.Choice.{best};
 ghost use Rattle.ff_plan.specs.Today.{planned_today};
 ghost use Rattle.ff_plan.specs.declared.planned.PlanError.TheVariants as fault;
 ghost use Rattle.ff_plan.specs.Wires.{Wire, edges_of};
-ghost use Rattle.ff_plan.specs.Ports.{shape_of, IsFed};
+ghost use Rattle.ff_edges.specs.Ports.{shape_of, IsFed};
 ghost use Rattle.ff_values.specs.declared.head.StreamHead.{StreamHead};
 ghost use Rattle.ff_words.specs.declared.job.Job.{Job};
 ghost use Rattle.ff_plan.specs.declared.planned.PlanNode.TheVariants as node;
@@ -17,7 +17,8 @@ ghost use Rattle.ff_plan.specs.Rules.{Rules};
 ghost use Rattle.ff_plan.specs.Planned.{laid_out, planned};
 ghost use Rattle.ff_plan.specs.declared.planned.Plan.{Plan};
 ghost use Rattle.ff_plan.specs.Nodes.{mux_at, node_count, nodes_of, wires_of};
-ghost use Rattle.ff_plan.specs.Laws.{IsLaid, HasIns, HasOuts, GoUpward, IsNextOf, IsUp, IsNamedOf, named_at, EachOnce, IsNoGraph, GraphsHaveOuts, IsLaidOut};
+ghost use Rattle.ff_plan.specs.Laws.{IsLaid, GoUpward, IsNextOf, IsUp, IsNamedOf, named_at, EachOnce, IsNoGraph, GraphsHaveOuts, IsLaidOut};
+ghost use Rattle.ff_edges.specs.Ports.{HasIns, HasOuts};
 ghost use Rattle.ff_plan.specs.Laws.{HasNoGraphs};
 
 /// Every input of every node has one edge.

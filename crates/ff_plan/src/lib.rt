@@ -26,6 +26,7 @@ mod planning;
 mod takes;
 mod wires;
 
+pub use ff_edges::Edge;
 pub use number::{Wire, number_ports};
-pub use planned::{Edge, Plan, PlanError, PlanNode, Unbuilt};
+pub use planned::{Plan, PlanError, PlanNode, Unbuilt};
 pub use planning::{is_within_limits, plan};

@@ -1,9 +1,10 @@
 // Numbers of ports.
 ghost use Rattle.std.specs.Prelude.{◌≡◌, ◌<◌, ◌==◌, ◌^◌, length, IfOk};
-ghost use Rattle.ff_plan.specs.declared.planned.Edge.{Edge};
-ghost use Rattle.ff_plan.specs.Wires.{tally, edges_of};
+ghost use Rattle.ff_edges.specs.declared.edge.Edge.{Edge};
+ghost use Rattle.ff_plan.specs.Wires.{edges_of};
+ghost use Rattle.ff_edges.specs.Ports.{tally};
 
-use crate::planned::Edge;
+use ff_edges::Edge;
 use ff_frame::Lane;
 use std::alloc::{AllocError, Global};
 

@@ -1,7 +1,7 @@
 ghost use Rattle.std.specs.Prelude.{◌≡◌};
 ghost use Rattle.ff_plan.specs.declared.planned.PlanError.TheVariants.{NoMemory};
 
-use ff_frame::Lane;
+use ff_edges::Edge;
 use ff_lang::{Sequence, Text};
 use ff_map::StreamRef;
 use ff_sched::Routes;
@@ -23,18 +23,6 @@ pub enum PlanNode {
     Enc { output: u32, stream: u32 },
     /// Writes an output.
     Mux { output: u32 },
-}
-
-/// From an output of a node to an input of a later one. Nodes have the numbers of their places in the plan, the outputs and
-/// the inputs of each node have numbers from 0.
-#[derive(Debug, Drop)]
-pub struct Edge {
-    pub from: u32,
-    pub out_port: u32,
-    pub to: u32,
-    pub in_port: u32,
-    /// Packets out of a Demux or an Enc, frames out of any other node.
-    pub lane: Lane,
 }
 
 /// The nodes of a run, the edges between them, and how the output streams hang on the sources.

@@ -1,9 +1,10 @@
-ghost use Rattle.std.specs.Prelude.{◌≡◌, ◌≤◌, true, false, None, Some, Ok, IfOk, IfErr, length, vec_len};
+ghost use Rattle.std.specs.Prelude.{◌≡◌, ◌≤◌, ℕ, true, false, None, Some, Ok, IfOk, IfErr, length, vec_len};
 ghost use Rattle.std.specs.List.{AllByRecursion};
 ghost use Rattle.ff_map.specs.Choice.{lists};
+ghost use Rattle.ff_plan.specs.Fitting.{HasSingles, HasKinds, FitNodes};
 ghost use Rattle.ff_plan.specs.Laws.{GoUpward};
 ghost use Rattle.ff_plan.specs.Plain.{plain_plan, IsRefused, IsSmall, IsWithinLimits};
-ghost use Rattle.ff_plan.specs.Ports.{shape_of, IsFed};
+ghost use Rattle.ff_edges.specs.Ports.{shape_of, IsFed, HasIns, HasOuts};
 ghost use Rattle.ff_plan.specs.Today.{planned_today, unbuilt, unbuilt_in};
 
 use crate::layout::Placed;
@@ -134,7 +135,11 @@ pub fn plan(alloc: Global, job: &Job, heads: &[Vec<StreamHead>]) -> Result<Plan,
     ensures refused { IfErr result (IsRefused (planned_today job.now (lists heads.now))) }
     ensures upward { IfOk result (λ p. GoUpward (length p.nodes) p.edges) }
     ensures fed { IfOk result (λ p. IsFed (shape_of p.edges) (length p.nodes) p.edges) }
+    ensures ins { IfOk result (λ p. (k : ℕ) → HasIns p.edges k) }
+    ensures outs { IfOk result (λ p. (k : ℕ) → HasOuts p.edges k) }
     ensures few { IfOk result (λ p. length p.routes.streams ≤ 16) }
+    ensures kinds { IfOk result (λ p. HasKinds (length heads.now) (length job.now.outputs) p.nodes) }
+    ensures fit { IfOk result (λ p. HasSingles (lists heads.now) → FitNodes (lists heads.now) job.now.outputs p) }
 {
     is_built(job)?;
     let outs = job.outputs.as_slice();

@@ -2,8 +2,9 @@
 ghost use Rattle.std.specs.Prelude.{◌≡◌, []};
 ghost use Rattle.ff_plan.specs.Choice.{kind_of as kind_in};
 ghost use Rattle.ff_plan.specs.Streams.{takes_kind as kind_taken, audio_codec as codec_of_sound, codec_or, packed_bits as bits_packed, packed_as as head_packed};
-ghost use Rattle.ff_plan.specs.Streams.{is_pcm as of_pcm, takes_sound as sound_taken, takes_head as head_taken, most_streams as streams_at_most};
+ghost use Rattle.ff_plan.specs.Streams.{is_pcm as of_pcm, takes_sound as sound_taken, takes_head as head_taken};
 ghost use Rattle.ff_plan.specs.Streams.{drops as is_dropped, simple_of, is_graph, is_pad as shows_pad, takes as is_taken, is_wanted};
+ghost use Rattle.ff_plan.specs.Today.{no_filters};
 
 use crate::layout::{InPad, Origin};
 use ff_map::Kind;
@@ -156,16 +157,8 @@ fn takes_head(out: &OutputJob, head: StreamHead) -> bool
     }
 }
 
-fn most_streams(format: FileFormat) -> usize
-    ensures { result ≡ streams_at_most format }
-{
-    match format {
-        FileFormat::FrameHash => 16,
-        FileFormat::Wav => 1,
-        FileFormat::Flac => 1,
-        FileFormat::Y4m => 1,
-    }
-}
+// How many streams an output may have.
+const MOST: usize = 1;
 
 // Whether an output has a simple graph for a kind.
 fn has_graph(out: &OutputJob, kind: Kind) -> bool
@@ -188,8 +181,8 @@ fn is_pad(source: Origin) -> bool
 
 /// Whether an output takes this as its n-th stream.
 pub(crate) fn takes(out: &OutputJob, n: usize, pad: InPad) -> bool
-    ensures { result ≡ is_taken out.now n pad }
+    ensures { result ≡ is_taken no_filters out.now n pad }
 {
     let filtered_twice = is_pad(pad.source) && has_graph(out, kind_of(pad.head));
-    takes_head(out, pad.head) && n < most_streams(out.format) && !filtered_twice
+    takes_head(out, pad.head) && n < MOST && !filtered_twice
 }

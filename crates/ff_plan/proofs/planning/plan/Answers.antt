@@ -1,4 +1,4 @@
-use Rattle.std.proofs.Common.{◌≡◌, inr, ◌^◌, ◌<◌, ◌≤◌, List, length, vec_len, sym, ap, ◌∙◌, subst, arith}
+use Rattle.std.proofs.Common.{◌≡◌, ℕ, inr, ◌^◌, ◌<◌, ◌≤◌, List, length, vec_len, sym, ap, ◌∙◌, subst, arith}
 use Rattle.std.specs.List.{AllByRecursion}
 use Rattle.std.specs.declared.alloc.Global.{Global}
 use Rattle.std.specs.declared.vec.Vec.{Vec}
@@ -7,10 +7,12 @@ use Rattle.ff_map.specs.Choice.{lists}
 use Rattle.ff_words.specs.declared.job.OutputJob.{OutputJob}
 use Rattle.ff_plan.specs.declared.layout.OutStream.{OutStream}
 use Rattle.ff_plan.specs.declared.layout.Placed.{Placed}
+use Rattle.ff_plan.specs.Fitting.{HasKinds}
 use Rattle.ff_plan.specs.Layout.{place_from}
 use Rattle.ff_plan.specs.Plain.{rows, IsBare, IsSmall}
 use Rattle.ff_plan.proofs.Layouts.{map_length}
-use Rattle.ff_plan.proofs.Limits.{all_imply, few_in_lists, below_word, small_places}
+use Rattle.ff_plan.proofs.Limits.{all_imply, few_in_lists, below_word, lists_length, small_places}
+use Rattle.ff_plan.proofs.Plans.{ins_by, outs_by, fit_by, kinds_by}
 use Rattle.ff_plan.proofs.Today.{outputs_are_bare, made_by, too_large_by, upward_by, fed_by}
 use Rattle.ff_plan.proofs.planning.plan.Goals as goal
 
@@ -58,3 +60,17 @@ returns-clause-upward c = upward_by c.args.job.now (lists c.args.heads.now) c.in
 
 pub returns-clause-fed : goal.returns-clause-fed
 returns-clause-fed c = fed_by c.args.job.now (lists c.args.heads.now) c.in_ok-is_built.ensures.all c.in_ok-plan.plan (returns-clause-made c)
+
+pub returns-clause-ins : goal.returns-clause-ins
+returns-clause-ins c = ins_by c.args.job.now (lists c.args.heads.now) c.in_ok-is_built.ensures.all c.in_ok-plan.plan (returns-clause-made c)
+
+pub returns-clause-outs : goal.returns-clause-outs
+returns-clause-outs c = outs_by c.args.job.now (lists c.args.heads.now) c.in_ok-is_built.ensures.all c.in_ok-plan.plan (returns-clause-made c)
+
+pub returns-clause-kinds : goal.returns-clause-kinds
+returns-clause-kinds c =
+    subst (λ (n : ℕ). HasKinds n (length c.args.job.now.outputs) c.in_ok-plan.plan.nodes) (lists_length c.args.heads.now)
+    (kinds_by c.args.job.now (lists c.args.heads.now) c.in_ok-is_built.ensures.all c.in_ok-plan.plan (returns-clause-made c) c.requires.limits)
+
+pub returns-clause-fit : goal.returns-clause-fit
+returns-clause-fit c = fit_by c.args.job.now (lists c.args.heads.now) c.in_ok-is_built.ensures.all c.in_ok-plan.plan (returns-clause-made c)
