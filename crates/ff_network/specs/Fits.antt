@@ -2,7 +2,7 @@
 use Rattle.std.specs.Prelude.{◌≡◌, ℕ, zero, suc, ◌<◌, List, [], ◌∷◌, length, map, Some}
 use Rattle.ff_frame.specs.declared.item.Lane.{Lane}
 use Rattle.ff_edges.specs.declared.edge.Edge.{Edge}
-use Rattle.ff_edges.specs.Ports.{Shape, edges_to, edges_from, IsFed}
+use Rattle.ff_edges.specs.Ports.{Shape, edges_to, edges_from, IsFed, lanes_into, lanes_out_of}
 use Rattle.ff_net.specs.Nets.{Part}
 use Rattle.ff_net.specs.Pasts.{Task}
 use Rattle.ff_net.specs.Ways.{lane_at}
@@ -11,6 +11,10 @@ use Rattle.ff_net.specs.Ways.{lane_at}
 pub record Ports : Type 0 where
   pub ins : ℕ → List Lane
   pub outs : ℕ → List Lane
+
+-- ports with the lanes of the edges at them
+abbrev pub ports_by : List Edge → Ports
+ports_by edges = record { ins = lanes_into edges; outs = lanes_out_of edges }
 
 -- how many of each it has
 abbrev pub shapes_of : Ports → ℕ → Shape

@@ -25,6 +25,7 @@
 //! whatever the sizes of the links and the order of the threads. That a run ends is not promised.
 #![tactic(auto)]
 
+mod laws;
 mod node;
 mod run;
 mod tables;
