@@ -3,15 +3,16 @@
 //! ```text
 //! job, heads ─► streams by output ─► nodes, wires ─► edges
 //!
-//! -i a.wav -i v.y4m -map 0:a -map 1:v out.txt
-//!   0 Demux 0 ──► 2 Dec 0:0 ──► 4 Enc 0 0 ──►0
-//!   1 Demux 1 ──► 3 Dec 1:0 ──► 5 Enc 0 1 ──►1 6 Mux 0
+//! -i a.wav -i v.y4m -map 0:a o.wav -map 1:v p.y4m
+//!   0 Demux 0 ──► 2 Dec 0:0 ──► 4 Enc 0 0 ──► 6 Mux 0
+//!   1 Demux 1 ──► 3 Dec 1:0 ──► 5 Enc 1 0 ──► 7 Mux 1
 //! ```
 //!
 //! `planned` of `specs/Planned` says which plan a job has with the heads of its inputs, or which refusal: first which streams
 //! each output has (`Streams`), then the numbers of the nodes and the wires between them (`Nodes`), then the ports (`Wires`),
-//! of which each that isn't named is the next one of its node. `specs/Laws` says what holds of the edges of every plan. The
-//! definitions are those of whole jobs, with graphs; `specs/Today` says which jobs are planned, and how another is refused.
+//! of which each that isn't named is the next one of its node. `specs/Laws` says what holds of the edges of every plan,
+//! `specs/Fitting` what stands at the ports of each node and in which order the nodes stand. The definitions are those of whole
+//! jobs, with graphs; `specs/Today` says which jobs are planned, and how another is refused. Each output has one stream today.
 #![tactic(auto)]
 
 mod choosing;
