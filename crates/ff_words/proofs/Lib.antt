@@ -8,3 +8,4 @@ pub mod Known
 pub mod Goes
 pub mod Few
 pub mod RoundTrip
+pub mod Bounds

@@ -220,7 +220,7 @@ ended : (es : List Entry) (e : Entry) → is_file e.value ≡ true → groups (e
 ended es e file = groups-snoc es e ∙ ap (λ b. groups_added b e (groups es)) file
 
 -- the reader behind a file, by the values of its own options
-abbrev filed : Value → List Entry → Reader
+abbrev pub filed : Value → List Entry → Reader
 filed v es =
     record {
       queue = unwrap_or (or_else (as_queue v) (last as_queue es)) 8;
@@ -232,7 +232,7 @@ filed v es =
       pending = pending [];
     }
 
-filed-is : (es : List Entry) (e : Entry) → is_file e.value ≡ true → reader (es ++ e ∷ []) ≡ filed e.value es
+pub filed-is : (es : List Entry) (e : Entry) → is_file e.value ≡ true → reader (es ++ e ∷ []) ≡ filed e.value es
 filed-is es e file =
     simp (
       last-snoc as_queue es e,
@@ -244,13 +244,13 @@ filed-is es e file =
       flat_snoc (λ (g : Group). group_output g.own g.file) (groups es).files (record { own = (groups es).behind; file = e.value }),
     ) refl
 
-abbrev entry : ℕ → Concern → Value → Entry
+abbrev pub entry : ℕ → Concern → Value → Entry
 entry at concern v = record { at = at; concern = concern; value = v }
 
 input-filed : (name : List ℕ) (es : List Entry) → filed (value.Input name) es ≡ with_input name (reader es)
 input-filed name es = ap (λ t. record (with_input name (reader es)) { outputs = t }) (append-nil (outputs es))
 
-output-filed : (name : List ℕ) (ending : Option FileFormat) (es : List Entry)
+pub output-filed : (name : List ℕ) (ending : Option FileFormat) (es : List Entry)
     → filed (value.Output name ending) es ≡ with_output name (unwrap_or (output_format (groups es).behind ending) FrameHash) (reader es)
 output-filed name ending es =
     ap (λ t. record (with_output name (unwrap_or (output_format (groups es).behind ending) FrameHash) (reader es)) { inputs = t }) (append-nil (inputs es))

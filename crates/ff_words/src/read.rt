@@ -1,8 +1,10 @@
-ghost use Rattle.std.specs.Prelude.{◌≡◌, ◌⊎◌, Ok, Err, IsErrOf};
+ghost use Rattle.std.specs.Prelude.{◌≡◌, ◌⊎◌, ℕ, Ok, Err, IsErrOf};
+ghost use Rattle.ff_words.specs.Bounds.{IsBounded, IsPlain};
 ghost use Rattle.ff_words.specs.Reading.{Answers, as_error};
 ghost use Rattle.ff_words.specs.Words.{texts, IsAnswer};
 ghost use Rattle.ff_words.specs.declared.error.Fault.{Fault};
 ghost use Rattle.ff_words.specs.declared.job.Command.{Command};
+ghost use Rattle.ff_words.specs.declared.job.Job.{Job};
 
 use crate::error::WordError;
 use crate::job::Command;
@@ -17,6 +19,9 @@ pub fn read_words(alloc: Global, words: &[String]) -> Result<Command, WordError>
         → (result ≡ Ok c) ⊎ IsErrOf result WordError.NoMemory }
     ensures fault { (f : Fault) → IsAnswer Table.Today (texts words.now) (Err f)
         → IsErrOf result (as_error f) ⊎ IsErrOf result WordError.NoMemory }
+    ensures bounded { (job : Job) → result ≡ Ok (Command.Run job) → IsBounded job }
+    ensures plain { (job : Job) → result ≡ Ok (Command.Run job) → IsPlain job }
+    ensures no_self_run { (seconds : ℕ) → result ≡ Ok (Command.SelfRun seconds) → ⊥ }
 {
     read_words_by(alloc, Table::Today, words)
 }
@@ -28,6 +33,7 @@ pub fn read_words_by(alloc: Global, table: Table, words: &[String]) -> Result<Co
         → (result ≡ Ok c) ⊎ IsErrOf result WordError.NoMemory }
     ensures fault { (f : Fault) → IsAnswer table (texts words.now) (Err f)
         → IsErrOf result (as_error f) ⊎ IsErrOf result WordError.NoMemory }
+    ensures bounded { (job : Job) → result ≡ Ok (Command.Run job) → IsBounded job }
 {
     one_pass(alloc, table, words)
 }

@@ -92,42 +92,42 @@ pub struct Named {
 
 /// Each option, whom it concerns, its kind of value, and whether the command does it today.
 pub static OPTIONS: [(&'static str, Concern, Kind, bool); 30] = [
-    ("-y", Concern::All, Kind::Nothing, false),
-    ("-hide_banner", Concern::All, Kind::Nothing, false),
-    ("-nostdin", Concern::All, Kind::Nothing, false),
-    ("-nostats", Concern::All, Kind::Nothing, false),
-    ("-loglevel", Concern::All, Kind::Level, false),
-    ("-v", Concern::All, Kind::Level, false),
+    ("-y", Concern::All, Kind::Nothing, true),
+    ("-hide_banner", Concern::All, Kind::Nothing, true),
+    ("-nostdin", Concern::All, Kind::Nothing, true),
+    ("-nostats", Concern::All, Kind::Nothing, true),
+    ("-loglevel", Concern::All, Kind::Level, true),
+    ("-v", Concern::All, Kind::Level, true),
     ("-filter_complex", Concern::All, Kind::Complex, false),
     ("-lavfi", Concern::All, Kind::Complex, false),
-    ("-thread_queue_size", Concern::All, Kind::Queue, false),
+    ("-thread_queue_size", Concern::All, Kind::Queue, true),
     ("-sched_trace", Concern::All, Kind::Trace, false),
     ("-selfrun", Concern::Alone, Kind::SelfRun, false),
     ("-f", Concern::File, Kind::Format, true),
     ("-ss", Concern::File, Kind::Start, false),
     ("-t", Concern::File, Kind::Length, false),
     ("-i", Concern::Itself, Kind::Input, true),
-    ("-map", Concern::Output, Kind::Map, false),
+    ("-map", Concern::Output, Kind::Map, true),
     ("-c:a", Concern::Output, Kind::AudioCodec, true),
-    ("-codec:a", Concern::Output, Kind::AudioCodec, false),
-    ("-acodec", Concern::Output, Kind::AudioCodec, false),
-    ("-c:v", Concern::Output, Kind::VideoCodec, false),
-    ("-codec:v", Concern::Output, Kind::VideoCodec, false),
-    ("-vcodec", Concern::Output, Kind::VideoCodec, false),
+    ("-codec:a", Concern::Output, Kind::AudioCodec, true),
+    ("-acodec", Concern::Output, Kind::AudioCodec, true),
+    ("-c:v", Concern::Output, Kind::VideoCodec, true),
+    ("-codec:v", Concern::Output, Kind::VideoCodec, true),
+    ("-vcodec", Concern::Output, Kind::VideoCodec, true),
     ("-vf", Concern::Output, Kind::VideoGraph, false),
     ("-filter:v", Concern::Output, Kind::VideoGraph, false),
     ("-af", Concern::Output, Kind::AudioGraph, false),
     ("-filter:a", Concern::Output, Kind::AudioGraph, false),
-    ("-vn", Concern::Output, Kind::NoVideo, false),
-    ("-an", Concern::Output, Kind::NoAudio, false),
+    ("-vn", Concern::Output, Kind::NoVideo, true),
+    ("-an", Concern::Output, Kind::NoAudio, true),
     ("-shortest", Concern::Output, Kind::Shortest, false),
-    ("-hash", Concern::Output, Kind::Hash, false),
+    ("-hash", Concern::Output, Kind::Hash, true),
 ];
 
 /// The values of `-f`, each with how the names of such files end (empty where no ending tells), and whether inputs and
 /// outputs of the format are done.
 pub static FORMATS: [(&'static str, &'static str, FileFormat, Doing, Doing); 4] = [
-    ("wav", ".wav", FileFormat::Wav, Doing::Today, Doing::Later),
+    ("wav", ".wav", FileFormat::Wav, Doing::Today, Doing::Today),
     (
         "flac",
         ".flac",
@@ -139,8 +139,8 @@ pub static FORMATS: [(&'static str, &'static str, FileFormat, Doing, Doing); 4] 
         "yuv4mpegpipe",
         ".y4m",
         FileFormat::Y4m,
-        Doing::Later,
-        Doing::Later,
+        Doing::Today,
+        Doing::Today,
     ),
     (
         "framehash",
@@ -154,14 +154,14 @@ pub static FORMATS: [(&'static str, &'static str, FileFormat, Doing, Doing); 4] 
 /// The codecs of sound, and whether the command writes them today.
 pub static AUDIO_CODECS: [(&'static str, Codec, bool); 5] = [
     ("pcm_u8", Codec::PcmU8, true),
-    ("pcm_s16le", Codec::PcmS16le, false),
-    ("pcm_s24le", Codec::PcmS24le, false),
-    ("pcm_s32le", Codec::PcmS32le, false),
+    ("pcm_s16le", Codec::PcmS16le, true),
+    ("pcm_s24le", Codec::PcmS24le, true),
+    ("pcm_s32le", Codec::PcmS32le, true),
     ("flac", Codec::Flac, false),
 ];
 
 /// The same of pictures.
-pub static VIDEO_CODECS: [(&'static str, Codec, bool); 1] = [("rawvideo", Codec::RawVideo, false)];
+pub static VIDEO_CODECS: [(&'static str, Codec, bool); 1] = [("rawvideo", Codec::RawVideo, true)];
 
 /// The values of `-loglevel`.
 pub static LEVELS: [&'static str; 8] = [

@@ -1,5 +1,7 @@
-use Rattle.std.proofs.Common.{Ok, Err}
+use Rattle.std.proofs.Common.{Ok, Err, subst}
 use Rattle.ff_words.specs.Words.{texts}
+use Rattle.ff_words.specs.Reading.{Answers}
+use Rattle.ff_words.proofs.Bounds.{bounded}
 use Rattle.ff_words.proofs.Unique.{known}
 use Rattle.ff_words.proofs.read.read_words_by.Goals as goal
 
@@ -8,3 +10,6 @@ returns-clause-command c d h = known c.args.table (texts c.args.words.now) c.one
 
 pub returns-clause-fault : goal.returns-clause-fault
 returns-clause-fault c f h = known c.args.table (texts c.args.words.now) c.one_pass.result (Err f) c.one_pass.ensures h
+
+pub returns-clause-bounded : goal.returns-clause-bounded
+returns-clause-bounded c j e = bounded c.args.table (texts c.args.words.now) j (subst (Answers c.args.table (texts c.args.words.now)) e c.one_pass.ensures)

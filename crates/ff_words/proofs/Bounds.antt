@@ -1,0 +1,511 @@
+-- What holds of every job that words ask for: of what one pass keeps, by each further entry.
+use Rattle.std.proofs.Common.{◌≡◌, ℕ, ◌+◌, ◌≤◌, Bool, true, false, Option, Some, None, Result, Ok, Err, List, [], ◌∷◌, ◌++◌, length, refl, sym, ap, subst, ◌∙◌, arith, length-append}
+use Rattle.std.specs.Prelude.{codes}
+use Rattle.std.specs.Prelude.{if◌then◌else◌, not, is_some, nat_le, unwrap_or, ◌&&◌, ◌==◌, map}
+use Rattle.std.specs.List.{AllByRecursion}
+use Rattle.std.specs.Str.{bytes_eq}
+use Rattle.ff_lang.specs.declared.graph.Graph.{Graph}
+use Rattle.ff_map.specs.declared.map.MapSpec.{MapSpec}
+use Rattle.ff_values.specs.declared.head.Codec.{Codec}
+use Rattle.ff_values.specs.declared.hash.HashKind.TheVariants.{Sha256, Md5}
+use Rattle.ff_words.specs.declared.error.Fault.{Fault}
+use Rattle.ff_words.specs.declared.error.WordKind.{WordKind}
+use Rattle.ff_words.specs.declared.error.WordKind.TheVariants.{TooMany, BadValue, NoInput, NoOutput, SameName}
+use Rattle.ff_words.specs.declared.job.FileFormat.{FileFormat}
+use Rattle.ff_words.specs.declared.job.FileFormat.TheVariants.{FrameHash}
+use Rattle.ff_words.specs.declared.job.InputJob.{InputJob}
+use Rattle.ff_words.specs.declared.job.OutputJob.{OutputJob}
+use Rattle.ff_words.specs.declared.job.Job.{Job}
+use Rattle.ff_words.specs.declared.job.Command.TheVariants.{Run, SelfRun}
+use Rattle.ff_words.specs.declared.table.Concern.{Concern}
+use Rattle.ff_words.specs.declared.table.Kind.{Kind}
+use Rattle.ff_words.specs.declared.table.Kind.TheVariants as kind
+use Rattle.ff_words.specs.declared.table.Named.{Named}
+use Rattle.ff_words.specs.declared.table.Rule.{Rule}
+use Rattle.ff_words.specs.declared.table.Table.{Table}
+use Rattle.ff_words.specs.declared.table.Table.TheVariants as table
+use Rattle.ff_words.specs.declared.table.TheConstants.{OPTIONS}
+use Rattle.ff_words.specs.declared.reader.Reader.{Reader}
+use Rattle.ff_words.specs.declared.value.Micros.{Micros}
+use Rattle.ff_words.specs.declared.value.Value.{Value}
+use Rattle.ff_words.specs.declared.value.Value.TheVariants as value
+use Rattle.ff_words.specs.Bounds.{HasFewMaps, IsBounded, IsUncut, IsPlainOutput, IsPlain}
+use Rattle.ff_words.specs.Table.{rule_in, option_named, format_named, audio_codec, video_codec, is_level}
+use Rattle.ff_words.specs.Values.{Reads, ReadsWhole, ReadsTime, ReadsGraph, ReadsMap, Makes, made, switched, or_bad, format_value, codec_value, level_value, hash_value, is_spelled}
+use Rattle.ff_words.specs.Table.{format_ending}
+use Rattle.ff_words.specs.Words.{Token, Entry, fault, early, option_fault, given_fault, is_full, is_too_much, is_dashed, is_file, is_output, late, misplaced, bad_at, or_else, takes, placed, IsOption, IsNamed, IsToken, TokenReads, IsEntry, AreRead, IsAnswer, tokens, command, job, last, as_self_run, end_fault, end_by, stands_alone, run_fault, groups, inputs, outputs, same_name, output_format, command_by, start_of, length_of, cut_of, first_place, not_before_input, not_before_output, not_at_end, unreadable, unwritable}
+use Rattle.ff_words.specs.Reading.{reader, optioned, with_input, with_output}
+use Rattle.ff_words.proofs.Snoc.{entry, filed-is, output-filed, reader-snoc, reader-input}
+use Rattle.ff_words.proofs.Steps.{early-option}
+
+-- ---- what an option of a kind reads as
+
+-- the kinds whose options may read as this value
+abbrev OfKind : Value → Kind → Type 0
+OfKind value.Shortest k = k ≡ kind.Shortest
+OfKind (value.Complex g) k = k ≡ kind.Complex
+OfKind (value.Queue n) k = (1 ≤ n) × (n ≤ 1024)
+OfKind (value.Trace n) k = k ≡ kind.Trace
+OfKind (value.SelfRun n) k = k ≡ kind.SelfRun
+OfKind (value.Start m) k = k ≡ kind.Start
+OfKind (value.Length m) k = k ≡ kind.Length
+OfKind (value.Map m) k = k ≡ kind.Map
+OfKind (value.VideoGraph g) k = k ≡ kind.VideoGraph
+OfKind (value.AudioGraph g) k = k ≡ kind.AudioGraph
+OfKind (value.Output n x) k = ⊥
+OfKind _ k = Unit {0}
+
+makes-ok : {X : Type 0} (make : X → Value) (Is : Result X WordKind → Type 0) (v : Value) (q : Result X WordKind) → Is q → Ok v ≡ made make q → (x : X) × Is (Ok x) × (v ≡ make x)
+makes-ok make Is v (Ok x) is e = (x, is, cc)
+makes-ok make Is v (Err k) is e = absurd cc
+
+of-made : {X : Type 0} (make : X → Value) (Is : Result X WordKind → Type 0) (v : Value) (k : Kind) → ((x : X) → Is (Ok x) → OfKind (make x) k) → Makes make Is (Ok v) → OfKind v k
+of-made make Is v k each h = (let m = makes-ok make Is v h.0 h.1 h.2 in subst (λ w. OfKind w k) (sym m.2) (each m.0 m.1))
+
+of-named : (v : Value) (k : Kind) (o : Option Value) → ((w : Value) → o ≡ Some w → OfKind w k) → Ok v ≡ or_bad o → OfKind v k
+of-named v k (Some w) each e = (let same : v ≡ w = cc in subst (λ x. OfKind x k) (sym same) (each w refl))
+of-named v k None each e = absurd cc
+
+of-format : (k : Kind) (o : Option Named) (w : Value) → format_value o ≡ Some w → OfKind w k
+of-format k (Some n) w e = (let same : value.Format n.format n.read n.written ≡ w = cc in subst (λ x. OfKind x k) same tt)
+of-format k None w e = absurd cc
+
+of-codec : (make : Codec → Value) (k : Kind) → ((c : Codec) → OfKind (make c) k) → (o : Option Codec) (w : Value) → codec_value make o ≡ Some w → OfKind w k
+of-codec make k each (Some c) w e = (let same : make c ≡ w = cc in subst (λ x. OfKind x k) same (each c))
+of-codec make k each None w e = absurd cc
+
+of-test : (v : Value) (k : Kind) → OfKind v k → (b : Bool) (o : Option Value) → ((w : Value) → o ≡ Some w → OfKind w k) → (w : Value) → (if b then Some v else o) ≡ Some w → OfKind w k
+of-test v k is true o other w e = (let same : v ≡ w = cc in subst (λ x. OfKind x k) same is)
+of-test v k is false o other w e = other w e
+
+of-none : (k : Kind) (w : Value) → None ≡ Some w → OfKind w k
+of-none k w e = absurd cc
+
+reads-kind : (t : Table) (k : Kind) (text : List ℕ) (v : Value) → Reads t k text (Ok v) → OfKind v k
+reads-kind t kind.Nothing text v h = absurd h
+reads-kind t kind.NoVideo text v h = absurd h
+reads-kind t kind.NoAudio text v h = absurd h
+reads-kind t kind.Shortest text v h = absurd h
+reads-kind t kind.Level text v h = of-named v kind.Level (level_value text) (of-test value.Nothing kind.Level tt (is_level text) None (of-none kind.Level)) h
+reads-kind t kind.Complex text v h = of-made value.Complex (ReadsGraph text) v kind.Complex (λ x is. refl) h
+reads-kind t kind.Queue text v h = of-made value.Queue (ReadsWhole 1 1024 text) v kind.Queue (λ x is. (is.1, is.2)) h
+reads-kind t kind.Trace text v h = (let same : value.Trace text ≡ v = cc in subst (λ x. OfKind x kind.Trace) same refl)
+reads-kind t kind.SelfRun text v h = of-made value.SelfRun (ReadsWhole 0 3600 text) v kind.SelfRun (λ x is. refl) h
+reads-kind t kind.Format text v h = of-named v kind.Format (format_value (format_named t text)) (of-format kind.Format (format_named t text)) h
+reads-kind t kind.Start text v h = of-made value.Start (ReadsTime text) v kind.Start (λ x is. refl) h
+reads-kind t kind.Length text v h = of-made value.Length (ReadsTime text) v kind.Length (λ x is. refl) h
+reads-kind t kind.Input text v h = (let same : value.Input text ≡ v = cc in subst (λ x. OfKind x kind.Input) same tt)
+reads-kind t kind.Map text v h = of-made value.Map (ReadsMap text) v kind.Map (λ x is. refl) h
+reads-kind t kind.AudioCodec text v h = of-named v kind.AudioCodec (codec_value value.AudioCodec (audio_codec t text)) (of-codec value.AudioCodec kind.AudioCodec (λ c. tt) (audio_codec t text)) h
+reads-kind t kind.VideoCodec text v h = of-named v kind.VideoCodec (codec_value value.VideoCodec (video_codec t text)) (of-codec value.VideoCodec kind.VideoCodec (λ c. tt) (video_codec t text)) h
+reads-kind t kind.VideoGraph text v h = of-made value.VideoGraph (ReadsGraph text) v kind.VideoGraph (λ x is. refl) h
+reads-kind t kind.AudioGraph text v h = of-made value.AudioGraph (ReadsGraph text) v kind.AudioGraph (λ x is. refl) h
+reads-kind t kind.Hash text v h =
+    of-named v kind.Hash (hash_value text)
+    (of-test (value.Hash Sha256) kind.Hash tt (is_spelled text (codes "SHA256")) (if is_spelled text (codes "MD5") then Some (value.Hash Md5) else None)
+    (of-test (value.Hash Md5) kind.Hash tt (is_spelled text (codes "MD5")) None (of-none kind.Hash)))
+    h
+
+switched-kind : (k : Kind) (w : Value) → switched k ≡ Some w → OfKind w k
+switched-kind kind.Nothing w e = (let same : value.Nothing ≡ w = cc in subst (λ x. OfKind x kind.Nothing) same tt)
+switched-kind kind.NoVideo w e = (let same : value.NoVideo ≡ w = cc in subst (λ x. OfKind x kind.NoVideo) same tt)
+switched-kind kind.NoAudio w e = (let same : value.NoAudio ≡ w = cc in subst (λ x. OfKind x kind.NoAudio) same tt)
+switched-kind kind.Shortest w e = (let same : value.Shortest ≡ w = cc in subst (λ x. OfKind x kind.Shortest) same refl)
+switched-kind kind.Level w e = absurd cc
+switched-kind kind.Complex w e = absurd cc
+switched-kind kind.Queue w e = absurd cc
+switched-kind kind.Trace w e = absurd cc
+switched-kind kind.SelfRun w e = absurd cc
+switched-kind kind.Format w e = absurd cc
+switched-kind kind.Start w e = absurd cc
+switched-kind kind.Length w e = absurd cc
+switched-kind kind.Input w e = absurd cc
+switched-kind kind.Map w e = absurd cc
+switched-kind kind.AudioCodec w e = absurd cc
+switched-kind kind.VideoCodec w e = absurd cc
+switched-kind kind.VideoGraph w e = absurd cc
+switched-kind kind.AudioGraph w e = absurd cc
+switched-kind kind.Hash w e = absurd cc
+
+placed-kind : (t : Table) (at : ℕ) (rule : Rule) (text : List ℕ) (v : Value) (read : Result Value WordKind) → Reads t rule.kind text read → Ok v ≡ placed (at + 1) read → OfKind v rule.kind
+placed-kind t at rule text v (Ok w) reads e = (let same : w ≡ v = cc in reads-kind t rule.kind text v (subst (λ x. Reads t rule.kind text (Ok x)) same reads))
+placed-kind t at rule text v (Err k) reads e = absurd cc
+
+option-kind : (t : Table) (at : ℕ) (rule : Rule) (o : Option Value) (given : Option (List ℕ)) (concern : Concern) (v : Value) → switched rule.kind ≡ o → IsOption t at rule o given concern (Ok v) → OfKind v rule.kind
+option-kind t at rule (Some w) given concern v s h = (let same : w ≡ v = (let e : Ok v ≡ Ok w = h.1 in cc) in subst (λ x. OfKind x rule.kind) same (switched-kind rule.kind w s))
+option-kind t at rule None None concern v s h = absurd h
+option-kind t at rule None (Some text) concern v s h = placed-kind t at rule text v h.1 h.2 h.3
+
+-- a value that is no output is that of an option in the list
+abbrev HasRule : Table → Token → Value → Type 0
+HasRule t token v = (rule : Rule) × (is_dashed token.word ≡ true) × (option_named t token.word ≡ Some rule) × OfKind v rule.kind
+
+named-rule : (t : Table) (token : Token) (o : Option Rule) (concern : Concern) (v : Value) → is_dashed token.word ≡ true → option_named t token.word ≡ o → IsNamed t token o concern (Ok v) → HasRule t token v
+named-rule t token None concern v dashed named h = absurd h
+named-rule t token (Some rule) concern v dashed named h = (rule, dashed, named, option-kind t token.at rule (switched rule.kind) token.value concern v refl h)
+
+abbrev is_written : Value → Bool
+is_written (value.Output name ending) = true
+is_written _ = false
+
+token-rule : (t : Table) (token : Token) (b : Bool) (concern : Concern) (v : Value) → is_dashed token.word ≡ b → is_written v ≡ false → IsToken t token b concern (Ok v) → HasRule t token v
+token-rule t token false concern v dashed not_written h = absurd (let same : v ≡ value.Output token.word (format_ending t token.word) = (let e = h.1 in cc) in (let w : is_written v ≡ true = ap is_written same in cc))
+token-rule t token true concern v dashed not_written h = named-rule t token (option_named t token.word) concern v dashed refl h
+
+-- ---- what the faults of a token leave
+
+none-of : {X : Type 0} (b : Bool) (x : X) (o : Option X) → (if b then Some x else o) ≡ None → (b ≡ false) × (o ≡ None)
+none-of true x o e = absurd cc
+none-of false x o e = (refl, e)
+
+none-behind : (o : Option ℕ) (other : Option Fault) → misplaced o other ≡ None → other ≡ None
+none-behind (Some at) other e = absurd cc
+none-behind None other e = e
+
+not-full : (n : ℕ) → nat_le 16 n ≡ false → n + 1 ≤ 16
+not-full n e = grind arith
+
+given-room : (es : List Entry) (at : ℕ) (k : Kind) (given : Option (List ℕ)) → given_fault es at k given ≡ None → is_full es k ≡ false
+given-room es at k None e = absurd cc
+given-room es at k (Some v) e = (none-of (is_full es k) (fault at TooMany) (if is_too_much (at + 1) v then Some (fault (at + 1) TooMany) else None) e).0
+
+-- a token whose option adds up isn't one too many
+has-room : (t : Table) (es : List Entry) (token : Token) (rule : Rule) → early t es token ≡ None → is_dashed token.word ≡ true → option_named t token.word ≡ Some rule → takes (Some rule) ≡ true
+    → is_full es rule.kind ≡ false
+has-room t es token rule fine dashed named valued =
+    let short : is_too_much token.at token.word ≡ false = (none-of (is_too_much token.at token.word) (fault token.at TooMany) (if is_dashed token.word then option_fault es token (option_named t token.word) else None) fine).0 in
+    let given : given_fault es token.at rule.kind token.value ≡ None =
+    ap (λ b. if b then given_fault es token.at rule.kind token.value else None) (sym valued) ∙ (sym (early-option t es token rule short dashed named) ∙ fine) in
+    given-room es token.at rule.kind token.value given
+
+-- ---- how many there are
+
+-- of what a reader keeps: the size of the queues, and how many there are of what may be sixteen
+record Few (queue : ℕ) (graphs : List Graph) (ins : List InputJob) (outs : List OutputJob) (maps : List MapSpec) : Type 0 where
+  some_queue : 1 ≤ queue
+  short_queue : queue ≤ 1024
+  few_graphs : length graphs ≤ 16
+  few_inputs : length ins ≤ 16
+  few_outputs : length outs ≤ 16
+  few_maps : AllByRecursion HasFewMaps outs
+  few_waiting : length maps ≤ 16
+
+abbrev Small : Reader → Type 0
+Small r = Few r.queue r.graphs r.inputs r.outputs r.pending.maps
+
+one-more : {X : Type 0} (xs : List X) (x : X) → length xs + 1 ≤ 16 → length (xs ++ x ∷ []) ≤ 16
+one-more xs x e = omega (arith, length-append xs (x ∷ []), e)
+
+all-more : {X : Type 0} (P : X → Type 0) (xs : List X) (x : X) → AllByRecursion P xs → P x → AllByRecursion P (xs ++ x ∷ [])
+all-more P [] x all is = (is, tt)
+all-more P (y ∷ xs) x all is = (all.0, all-more P xs x all.1 is)
+
+kind-room : (t : Table) (es : List Entry) (token : Token) (rule : Rule) (k : Kind) → early t es token ≡ None → is_dashed token.word ≡ true → option_named t token.word ≡ Some rule → rule.kind ≡ k → switched k ≡ None
+    → is_full es k ≡ false
+kind-room t es token rule k fine dashed named is valued =
+    subst (λ l. is_full es l ≡ false) is
+    (has-room t es token rule fine dashed named (ap (λ l. not (is_some (switched l))) is ∙ ap (λ o. not (is_some o)) valued))
+
+-- an option that waits or concerns all
+small-option : (t : Table) (es : List Entry) (token : Token) (at : ℕ) (concern : Concern) (v : Value) → is_file v ≡ false → early t es token ≡ None → HasRule t token v
+    → Small (reader es) → Small (optioned (entry at concern v) (reader es))
+small-option t es token at concern value.Nothing plain fine h s = s
+small-option t es token at concern value.NoVideo plain fine h s = s
+small-option t es token at concern value.NoAudio plain fine h s = s
+small-option t es token at concern value.Shortest plain fine h s = s
+small-option t es token at concern (value.Complex g) plain fine h s = record { some_queue = s.some_queue; short_queue = s.short_queue; few_graphs = one-more (reader es).graphs g (not-full (length (reader es).graphs) (kind-room t es token h.0 kind.Complex fine h.1 h.2 h.3 refl)); few_inputs = s.few_inputs; few_outputs = s.few_outputs; few_maps = s.few_maps; few_waiting = s.few_waiting }
+small-option t es token at concern (value.Queue n) plain fine h s = record { some_queue = h.3.0; short_queue = h.3.1; few_graphs = s.few_graphs; few_inputs = s.few_inputs; few_outputs = s.few_outputs; few_maps = s.few_maps; few_waiting = s.few_waiting }
+small-option t es token at concern (value.Trace n) plain fine h s = s
+small-option t es token at concern (value.SelfRun n) plain fine h s = s
+small-option t es token at concern (value.Format f read written) plain fine h s = s
+small-option t es token at concern (value.Start m) plain fine h s = s
+small-option t es token at concern (value.Length m) plain fine h s = s
+small-option t es token at concern (value.Input n) plain fine h s = absurd cc
+small-option t es token at concern (value.Map m) plain fine h s = record { some_queue = s.some_queue; short_queue = s.short_queue; few_graphs = s.few_graphs; few_inputs = s.few_inputs; few_outputs = s.few_outputs; few_maps = s.few_maps; few_waiting = one-more (reader es).pending.maps m (not-full (length (reader es).pending.maps) (kind-room t es token h.0 kind.Map fine h.1 h.2 h.3 refl)) }
+small-option t es token at concern (value.AudioCodec c) plain fine h s = s
+small-option t es token at concern (value.VideoCodec c) plain fine h s = s
+small-option t es token at concern (value.VideoGraph g) plain fine h s = s
+small-option t es token at concern (value.AudioGraph g) plain fine h s = s
+small-option t es token at concern (value.Hash d) plain fine h s = s
+small-option t es token at concern (value.Output n x) plain fine h s = absurd cc
+
+small-input : (es : List Entry) (at : ℕ) (name : List ℕ) → late es at (value.Input name) ≡ None → Small (reader es) → Small (with_input name (reader es))
+small-input es at name fine s =
+    let room : nat_le 16 (length (inputs es)) ≡ false = (none-of (nat_le 16 (length (inputs es))) (fault (at + 1) TooMany) (bad_at (unreadable (groups es).behind)) (none-behind (first_place not_before_input (groups es).behind) (if nat_le 16 (length (inputs es)) then Some (fault (at + 1) TooMany) else bad_at (unreadable (groups es).behind)) fine)).0 in
+    record {
+      some_queue = s.some_queue;
+      short_queue = s.short_queue;
+      few_graphs = s.few_graphs;
+      few_inputs = one-more (inputs es) _ (not-full (length (inputs es)) room);
+      few_outputs = s.few_outputs;
+      few_maps = s.few_maps;
+      few_waiting = omega arith;
+    }
+
+small-output : (es : List Entry) (at : ℕ) (name : List ℕ) (ending : Option FileFormat) (format : FileFormat) → late es at (value.Output name ending) ≡ None → Small (reader es) → Small (with_output name format (reader es))
+small-output es at name ending format fine s =
+    let behind : Option Fault = or_else (bad_at (unwritable (groups es).behind)) (if is_output name (output_format (groups es).behind ending) then None else Some (fault at BadValue)) in
+    let room : nat_le 16 (length (outputs es)) ≡ false = (none-of (nat_le 16 (length (outputs es))) (fault at TooMany) behind (none-behind (first_place not_before_output (groups es).behind) (if nat_le 16 (length (outputs es)) then Some (fault at TooMany) else behind) fine)).0 in
+    record {
+      some_queue = s.some_queue;
+      short_queue = s.short_queue;
+      few_graphs = s.few_graphs;
+      few_inputs = s.few_inputs;
+      few_outputs = one-more (outputs es) _ (not-full (length (outputs es)) room);
+      few_maps = all-more HasFewMaps (outputs es) _ s.few_maps s.few_waiting;
+      few_waiting = omega arith;
+    }
+
+-- ---- by each further entry
+
+-- what holds of what was read behind no entry, and behind one more holds still, holds behind all
+along : (t : Table) (P : List Entry → Type 0) → ((es : List Entry) (token : Token) (e : Entry) → IsEntry t es token e → P es → P (es ++ e ∷ []))
+    → (es : List Entry) (ts : List Token) (all : List Entry) → AreRead t es ts all → P es → P all
+along t P step es [] all read p = subst P read p
+along t P step es (token ∷ ts) all read p = along t P step (es ++ read.0 ∷ []) ts all read.2 (step es token read.0 read.1 p)
+
+-- one more entry, by whether it is a file
+by-value : (t : Table) (P : Reader → Type 0) (es : List Entry) (token : Token) (at : ℕ) (concern : Concern) (v : Value) → early t es token ≡ None → TokenReads t token concern (Ok v) → late es token.at v ≡ None
+    → (is_file v ≡ false → HasRule t token v → P (optioned (entry at concern v) (reader es)))
+    → ((name : List ℕ) → late es token.at (value.Input name) ≡ None → P (with_input name (reader es)))
+    → ((name : List ℕ) (ending : Option FileFormat) (format : FileFormat) → late es token.at (value.Output name ending) ≡ None → P (with_output name format (reader es)))
+    → P (reader (es ++ entry at concern v ∷ []))
+by-value t P es token at concern value.Nothing before reads fine option ins outs = subst P (sym (reader-snoc es (entry at concern value.Nothing) refl)) (option refl (token-rule t token (is_dashed token.word) concern value.Nothing refl refl reads))
+by-value t P es token at concern value.NoVideo before reads fine option ins outs = subst P (sym (reader-snoc es (entry at concern value.NoVideo) refl)) (option refl (token-rule t token (is_dashed token.word) concern value.NoVideo refl refl reads))
+by-value t P es token at concern value.NoAudio before reads fine option ins outs = subst P (sym (reader-snoc es (entry at concern value.NoAudio) refl)) (option refl (token-rule t token (is_dashed token.word) concern value.NoAudio refl refl reads))
+by-value t P es token at concern value.Shortest before reads fine option ins outs = subst P (sym (reader-snoc es (entry at concern value.Shortest) refl)) (option refl (token-rule t token (is_dashed token.word) concern value.Shortest refl refl reads))
+by-value t P es token at concern (value.Complex g) before reads fine option ins outs = subst P (sym (reader-snoc es (entry at concern (value.Complex g)) refl)) (option refl (token-rule t token (is_dashed token.word) concern (value.Complex g) refl refl reads))
+by-value t P es token at concern (value.Queue n) before reads fine option ins outs = subst P (sym (reader-snoc es (entry at concern (value.Queue n)) refl)) (option refl (token-rule t token (is_dashed token.word) concern (value.Queue n) refl refl reads))
+by-value t P es token at concern (value.Trace n) before reads fine option ins outs = subst P (sym (reader-snoc es (entry at concern (value.Trace n)) refl)) (option refl (token-rule t token (is_dashed token.word) concern (value.Trace n) refl refl reads))
+by-value t P es token at concern (value.SelfRun n) before reads fine option ins outs = subst P (sym (reader-snoc es (entry at concern (value.SelfRun n)) refl)) (option refl (token-rule t token (is_dashed token.word) concern (value.SelfRun n) refl refl reads))
+by-value t P es token at concern (value.Format f read written) before reads fine option ins outs = subst P (sym (reader-snoc es (entry at concern (value.Format f read written)) refl)) (option refl (token-rule t token (is_dashed token.word) concern (value.Format f read written) refl refl reads))
+by-value t P es token at concern (value.Start m) before reads fine option ins outs = subst P (sym (reader-snoc es (entry at concern (value.Start m)) refl)) (option refl (token-rule t token (is_dashed token.word) concern (value.Start m) refl refl reads))
+by-value t P es token at concern (value.Length m) before reads fine option ins outs = subst P (sym (reader-snoc es (entry at concern (value.Length m)) refl)) (option refl (token-rule t token (is_dashed token.word) concern (value.Length m) refl refl reads))
+by-value t P es token at concern (value.Input n) before reads fine option ins outs = subst P (sym (reader-input es at concern n)) (ins n fine)
+by-value t P es token at concern (value.Map m) before reads fine option ins outs = subst P (sym (reader-snoc es (entry at concern (value.Map m)) refl)) (option refl (token-rule t token (is_dashed token.word) concern (value.Map m) refl refl reads))
+by-value t P es token at concern (value.AudioCodec c) before reads fine option ins outs = subst P (sym (reader-snoc es (entry at concern (value.AudioCodec c)) refl)) (option refl (token-rule t token (is_dashed token.word) concern (value.AudioCodec c) refl refl reads))
+by-value t P es token at concern (value.VideoCodec c) before reads fine option ins outs = subst P (sym (reader-snoc es (entry at concern (value.VideoCodec c)) refl)) (option refl (token-rule t token (is_dashed token.word) concern (value.VideoCodec c) refl refl reads))
+by-value t P es token at concern (value.VideoGraph g) before reads fine option ins outs = subst P (sym (reader-snoc es (entry at concern (value.VideoGraph g)) refl)) (option refl (token-rule t token (is_dashed token.word) concern (value.VideoGraph g) refl refl reads))
+by-value t P es token at concern (value.AudioGraph g) before reads fine option ins outs = subst P (sym (reader-snoc es (entry at concern (value.AudioGraph g)) refl)) (option refl (token-rule t token (is_dashed token.word) concern (value.AudioGraph g) refl refl reads))
+by-value t P es token at concern (value.Hash h) before reads fine option ins outs = subst P (sym (reader-snoc es (entry at concern (value.Hash h)) refl)) (option refl (token-rule t token (is_dashed token.word) concern (value.Hash h) refl refl reads))
+by-value t P es token at concern (value.Output n x) before reads fine option ins outs = subst P (sym (filed-is es (entry at concern (value.Output n x)) refl ∙ output-filed n x es)) (outs n x (unwrap_or (output_format (groups es).behind x) FrameHash) fine)
+
+small-step : (t : Table) (es : List Entry) (token : Token) (e : Entry) → IsEntry t es token e → Small (reader es) → Small (reader (es ++ e ∷ []))
+small-step t es token e is s =
+    by-value t Small es token e.at e.concern e.value is.0 is.1 is.3
+    (λ plain has. small-option t es token e.at e.concern e.value plain is.0 has s)
+    (λ name fine. small-input es token.at name fine s)
+    (λ name ending format fine. small-output es token.at name ending format fine s)
+
+small-none : Small (reader [])
+small-none = record { some_queue = omega arith; short_queue = omega arith; few_graphs = omega arith; few_inputs = omega arith; few_outputs = omega arith; few_maps = tt; few_waiting = omega arith }
+
+small-all : (t : Table) (es : List Entry) (ts : List Token) → AreRead t [] ts es → Small (reader es)
+small-all t es ts read = along t (λ xs. Small (reader xs)) (small-step t) [] ts es read small-none
+
+-- ---- the end
+
+not-none : (n : ℕ) → (n == 0) ≡ false → 1 ≤ n
+not-none n e = grind arith
+
+bounded-job : (es : List Entry) (count : ℕ) → Small (reader es) → run_fault count (job es) ≡ None → IsBounded (job es)
+bounded-job es count s fine =
+    let ins = none-of (length (job es).inputs == 0) (fault count NoInput) (if length (job es).outputs == 0 then Some (fault count NoOutput) else (if same_name (job es) then Some (fault count SameName) else None)) fine in
+    let outs = none-of (length (job es).outputs == 0) (fault count NoOutput) (if same_name (job es) then Some (fault count SameName) else None) ins.1 in
+    let names = none-of (same_name (job es)) (fault count SameName) None outs.1 in
+    record {
+      some_queue = s.some_queue;
+      short_queue = s.short_queue;
+      few_graphs = s.few_graphs;
+      some_inputs = not-none (length (job es).inputs) ins.0;
+      few_inputs = s.few_inputs;
+      some_outputs = not-none (length (job es).outputs) outs.0;
+      few_outputs = s.few_outputs;
+      few_maps = s.few_maps;
+      names = names.0;
+    }
+
+never : (b : Bool) → (b && false) ≡ false
+never true = refl
+never false = refl
+
+stands-not : (count : ℕ) (o : Option ℕ) → o ≡ None → ((count == 2) && is_some o) ≡ false
+stands-not count o none = ap (λ (x : Option ℕ). (count == 2) && is_some x) none ∙ never (count == 2)
+
+none-when : {X : Type 0} (b : Bool) (o : Option X) → b ≡ false → (if b then None else o) ≡ None → o ≡ None
+none-when true o is e = absurd cc
+none-when false o is e = e
+
+-- the end of words that ask for a run
+ends-run : (es : List Entry) (count : ℕ) (o : Option ℕ) (j : Job) → last as_self_run es ≡ o → end_fault count es ≡ None → Run j ≡ command_by o es → (j ≡ job es) × (run_fault count (job es) ≡ None)
+ends-run es count (Some n) j self fine is = absurd cc
+ends-run es count None j self fine is =
+    let alone : stands_alone count es ≡ false = stands-not count (last as_self_run es) self in
+    let behind : misplaced (first_place not_at_end (groups es).behind) (end_by count (command es)) ≡ None = (none-when (stands_alone count es) (misplaced (first_place not_at_end (groups es).behind) (end_by count (command es))) alone fine) in
+    let ended : end_by count (command es) ≡ None = none-behind (first_place not_at_end (groups es).behind) (end_by count (command es)) behind in
+    (cc, ap (λ c. end_by count (command_by c es)) (sym self) ∙ ended)
+
+pub bounded : (t : Table) (words : List (List ℕ)) (j : Job) → IsAnswer t words (Ok (Run j)) → IsBounded j
+bounded t words j h =
+    let end = ends-run h.0 (length words) (last as_self_run h.0) j refl h.2 h.3 in
+    subst IsBounded (sym end.0) (bounded-job h.0 (length words) (small-all t h.0 (tokens t 0 words) h.1) end.1)
+
+-- ---- what is done today
+
+-- the kinds of option that the list of today has
+abbrev IsDone : Kind → Type 0
+IsDone kind.Complex = ⊥
+IsDone kind.Trace = ⊥
+IsDone kind.SelfRun = ⊥
+IsDone kind.Start = ⊥
+IsDone kind.Length = ⊥
+IsDone kind.VideoGraph = ⊥
+IsDone kind.AudioGraph = ⊥
+IsDone kind.Shortest = ⊥
+IsDone _ = Unit {0}
+
+abbrev Line : Type 0
+Line = List ℕ × Concern × Kind × Bool
+
+-- a line of what is done has such a kind
+abbrev IsFineLine : Line → Type 0
+IsFineLine line = line.3 ≡ true → IsDone line.2
+
+abbrev kind_in : Kind → Option Rule → Kind
+kind_in k None = k
+kind_in k (Some rule) = rule.kind
+
+done-line : (b c : Bool) (concern : Concern) (k : Kind) (rest : Option Rule) (rule : Rule) → (b ≡ true → IsDone k) → (rest ≡ Some rule → IsDone rule.kind)
+    → (if b && c then Some (record { concern = concern; kind = k }) else rest) ≡ Some rule → IsDone rule.kind
+done-line true true concern k rest rule here there e = (let same : k ≡ rule.kind = ap (kind_in k) e in subst IsDone same (here refl))
+done-line true false concern k rest rule here there e = there e
+done-line false c concern k rest rule here there e = there e
+
+done-in : (list : List Line) (word : List ℕ) (rule : Rule) → AllByRecursion IsFineLine list → rule_in table.Today list word ≡ Some rule → IsDone rule.kind
+done-in [] word rule fine e = absurd cc
+done-in (line ∷ list) word rule fine e = done-line line.3 (bytes_eq line.0 word) line.1 line.2 (rule_in table.Today list word) rule fine.0 (done-in list word rule fine.1) e
+
+done-kind : (word : List ℕ) (rule : Rule) → option_named table.Today word ≡ Some rule → IsDone rule.kind
+unfolding option_named
+done-kind word rule e =
+    done-in (map (λ line. (line.0.now, line.1, line.2, line.3)) OPTIONS) word rule
+    (λ e. tt, (λ e. tt, (λ e. tt, (λ e. tt, (λ e. tt, (λ e. tt, (λ e. absurd cc, (λ e. absurd cc, (λ e. tt, (λ e. absurd cc, (λ e. absurd cc, (λ e. tt, (λ e. absurd cc, (λ e. absurd cc, (λ e. tt, (λ e. tt, (λ e. tt, (λ e. tt, (λ e. tt, (λ e. tt, (λ e. tt, (λ e. tt, (λ e. absurd cc, (λ e. absurd cc, (λ e. absurd cc, (λ e. absurd cc, (λ e. tt, (λ e. tt, (λ e. absurd cc, (λ e. tt, tt))))))))))))))))))))))))))))))
+    e
+
+-- of what a reader keeps: nothing that isn't done yet
+record Plain (trace : Option (List ℕ)) (self_run : Option ℕ) (graphs : List Graph) (ins : List InputJob) (outs : List OutputJob) (start length : Option Micros) (vf af : Option Graph) (shortest : Bool) : Type 0 where
+  no_trace : trace ≡ None
+  no_self_run : self_run ≡ None
+  no_graphs : graphs ≡ []
+  ins_uncut : AllByRecursion (λ (i : InputJob). IsUncut i.cut) ins
+  outs_plain : AllByRecursion IsPlainOutput outs
+  no_start : start ≡ None
+  no_length : length ≡ None
+  no_vf : vf ≡ None
+  no_af : af ≡ None
+  whole : shortest ≡ false
+
+abbrev IsPlainReader : Reader → Type 0
+IsPlainReader r = Plain r.trace r.self_run r.graphs r.inputs r.outputs r.pending.start r.pending.length r.pending.vf r.pending.af r.pending.shortest
+
+never-done : (token : Token) (rule : Rule) (k : Kind) → option_named table.Today token.word ≡ Some rule → rule.kind ≡ k → IsDone k
+never-done token rule k named is = subst IsDone is (done-kind token.word rule named)
+
+plain-option : (es : List Entry) (token : Token) (at : ℕ) (concern : Concern) (v : Value) → is_file v ≡ false → HasRule table.Today token v
+    → IsPlainReader (reader es) → IsPlainReader (optioned (entry at concern v) (reader es))
+plain-option es token at concern value.Nothing plain h s = s
+plain-option es token at concern value.NoVideo plain h s = s
+plain-option es token at concern value.NoAudio plain h s = s
+plain-option es token at concern value.Shortest plain h s = absurd (never-done token h.0 kind.Shortest h.2 h.3)
+plain-option es token at concern (value.Complex g) plain h s = absurd (never-done token h.0 kind.Complex h.2 h.3)
+plain-option es token at concern (value.Queue n) plain h s = s
+plain-option es token at concern (value.Trace n) plain h s = absurd (never-done token h.0 kind.Trace h.2 h.3)
+plain-option es token at concern (value.SelfRun n) plain h s = absurd (never-done token h.0 kind.SelfRun h.2 h.3)
+plain-option es token at concern (value.Format f read written) plain h s = s
+plain-option es token at concern (value.Start m) plain h s = absurd (never-done token h.0 kind.Start h.2 h.3)
+plain-option es token at concern (value.Length m) plain h s = absurd (never-done token h.0 kind.Length h.2 h.3)
+plain-option es token at concern (value.Input n) plain h s = absurd cc
+plain-option es token at concern (value.Map m) plain h s = s
+plain-option es token at concern (value.AudioCodec c) plain h s = s
+plain-option es token at concern (value.VideoCodec c) plain h s = s
+plain-option es token at concern (value.VideoGraph g) plain h s = absurd (never-done token h.0 kind.VideoGraph h.2 h.3)
+plain-option es token at concern (value.AudioGraph g) plain h s = absurd (never-done token h.0 kind.AudioGraph h.2 h.3)
+plain-option es token at concern (value.Hash d) plain h s = s
+plain-option es token at concern (value.Output n x) plain h s = absurd cc
+
+uncut : (start length : Option Micros) → start ≡ None → length ≡ None → IsUncut (cut_of start length)
+uncut start length e f = (ap start_of e, ap length_of f)
+
+plain-input : (es : List Entry) (name : List ℕ) → IsPlainReader (reader es) → IsPlainReader (with_input name (reader es))
+plain-input es name s =
+    record {
+      no_trace = s.no_trace;
+      no_self_run = s.no_self_run;
+      no_graphs = s.no_graphs;
+      outs_plain = s.outs_plain;
+      ins_uncut = all-more (λ (i : InputJob). IsUncut i.cut) (inputs es) _ s.ins_uncut (uncut (reader es).pending.start (reader es).pending.length s.no_start s.no_length);
+      no_start = refl;
+      no_length = refl;
+      no_vf = refl;
+      no_af = refl;
+      whole = refl;
+    }
+
+plain-output : (es : List Entry) (name : List ℕ) (format : FileFormat) → IsPlainReader (reader es) → IsPlainReader (with_output name format (reader es))
+plain-output es name format s =
+    record {
+      no_trace = s.no_trace;
+      no_self_run = s.no_self_run;
+      no_graphs = s.no_graphs;
+      ins_uncut = s.ins_uncut;
+      outs_plain = all-more IsPlainOutput (outputs es) _ s.outs_plain (record {
+        vf = s.no_vf;
+        af = s.no_af;
+        uncut = uncut (reader es).pending.start (reader es).pending.length s.no_start s.no_length;
+        whole = s.whole;
+      });
+      no_start = refl;
+      no_length = refl;
+      no_vf = refl;
+      no_af = refl;
+      whole = refl;
+    }
+
+plain-step : (es : List Entry) (token : Token) (e : Entry) → IsEntry table.Today es token e → IsPlainReader (reader es) → IsPlainReader (reader (es ++ e ∷ []))
+plain-step es token e is s =
+    by-value table.Today IsPlainReader es token e.at e.concern e.value is.0 is.1 is.3
+    (λ plain has. plain-option es token e.at e.concern e.value plain has s)
+    (λ name fine. plain-input es name s)
+    (λ name ending format fine. plain-output es name format s)
+
+plain-none : IsPlainReader (reader [])
+plain-none = record {
+  no_trace = refl;
+  no_self_run = refl;
+  no_graphs = refl;
+  ins_uncut = tt;
+  outs_plain = tt;
+  no_start = refl;
+  no_length = refl;
+  no_vf = refl;
+  no_af = refl;
+  whole = refl;
+}
+
+plain-all : (es : List Entry) (ts : List Token) → AreRead table.Today [] ts es → IsPlainReader (reader es)
+plain-all es ts read = along table.Today (λ xs. IsPlainReader (reader xs)) plain-step [] ts es read plain-none
+
+plain-job : (es : List Entry) → IsPlainReader (reader es) → IsPlain (job es)
+plain-job es s = record { graphs = s.no_graphs; trace = s.no_trace; inputs = s.ins_uncut; outputs = s.outs_plain }
+
+pub plain : (words : List (List ℕ)) (j : Job) → IsAnswer table.Today words (Ok (Run j)) → IsPlain j
+plain words j h =
+    let end = ends-run h.0 (length words) (last as_self_run h.0) j refl h.2 h.3 in
+    subst IsPlain (sym end.0) (plain-job h.0 (plain-all h.0 (tokens table.Today 0 words) h.1))
+
+no-self : (es : List Entry) (o : Option ℕ) (n : ℕ) → o ≡ None → SelfRun n ≡ command_by o es → ⊥
+no-self es (Some m) n none is = cc
+no-self es None n none is = cc
+
+pub never-generated : (words : List (List ℕ)) (n : ℕ) → IsAnswer table.Today words (Ok (SelfRun n)) → ⊥
+never-generated words n h = no-self h.0 (last as_self_run h.0) n (plain-all h.0 (tokens table.Today 0 words) h.1).no_self_run h.3
