@@ -8,14 +8,15 @@
 //!                                   refused ──┴──► only the closings follow
 //! ```
 //!
-//! What an input's head is, and how it is read, an [`InputFile`] says: this crate knows no format. What is done between the
-//! opening and the closing is a [`Work`]: it plans by the heads, and runs.
+//! What an input's head is, and how it is read, an [`InputFile`] says: nothing here but `job` knows formats. What is done between
+//! the opening and the closing is a [`Work`]: it plans by the heads, and runs.
 #![tactic(auto)]
 
 mod closing;
 mod end;
 mod head;
 mod inputs;
+mod job;
 mod named;
 mod outputs;
 mod whole;

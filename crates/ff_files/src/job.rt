@@ -1,0 +1,51 @@
+//! The inputs and the outputs of a job: their names, and how the heads of the inputs are read.
+ghost use Rattle.ff_heads.specs.Formats.{input_head};
+ghost use Rattle.ff_heads.specs.Heads.{IsHead};
+ghost use Rattle.ff_heads.specs.Places.{Reached};
+
+use crate::head::InputFile;
+use crate::named::Named;
+use ff_heads::{InputHead, InputWalk};
+use ff_values::HeadEnd;
+use ff_words::{InputJob, OutputJob};
+
+impl Named for InputJob {
+    ghost name_text = { λ job. job.name };
+
+    fn name(&self) -> &str {
+        self.name.as_str()
+    }
+}
+
+impl Named for OutputJob {
+    ghost name_text = { λ job. job.name };
+
+    fn name(&self) -> &str {
+        self.name.as_str()
+    }
+}
+
+impl InputFile for InputJob {
+    type Head = InputHead;
+
+    type Walk = InputWalk;
+
+    ghost head = { λ job. input_head job.format };
+
+    ghost is_sound = { IsHead };
+
+    ghost reached = { λ job walk front. Reached walk job.format front };
+
+    fn begin(&self) -> InputWalk {
+        InputWalk::new(self.format)
+    }
+
+    fn read_head(
+        &self,
+        walk: &mut InputWalk,
+        bytes: &[u8],
+        whole: bool,
+    ) -> Result<InputHead, HeadEnd> {
+        walk.read(bytes, whole)
+    }
+}
