@@ -2,5 +2,9 @@
 #![tactic(auto)]
 
 mod fault;
+mod kinds;
+mod lanes;
+mod tables;
 
 pub use fault::RunFault;
+pub use kinds::{Ends, Kinds};

@@ -1,0 +1,61 @@
+-- The kinds of node of a plan: what each is there for, and what of a part is seen from outside.
+use Rattle.std.specs.Prelude.{◌≡◌, ℕ, List, [], ◌∷◌, Option, None, Some, IsSome}
+use Rattle.ff_values.specs.declared.head.StreamHead.{StreamHead}
+use Rattle.ff_frame.specs.declared.item.Lane.{Lane}
+use Rattle.ff_frame.specs.declared.item.Lane.TheVariants.{Frames, Packets}
+use Rattle.ff_frame.specs.Ports.{stream_at, IsWhole}
+use Rattle.ff_words.specs.declared.job.OutputJob.{OutputJob}
+use Rattle.ff_net.specs.Pasts.{Past, Task, start}
+use Rattle.ff_net.specs.Views.{View}
+use Rattle.ff_net.specs.Ways.{Flow}
+use Rattle.ff_files.specs.Works.{HoldsPart}
+use Rattle.ff_running.specs.declared.kinds.Ends.{Ends}
+use Rattle.ff_running.specs.declared.kinds.Ends.TheVariants as ends
+
+-- of heads H of inputs
+pub record KindsOf (H : Type 0) : Type 1 where
+  -- what is true of every head that is read, and what it tells of its one stream
+  pub IsHead : H → Type 0
+  pub stream : H → StreamHead
+  -- what the demuxer of an input with this head and these bytes is there for
+  pub demux_task : H → List ℕ → Task
+  -- the streams that can be decoded, and what a decoder with so many outputs is there for
+  pub CanDecode : StreamHead → Type 0
+  pub dec_task : StreamHead → ℕ → Task
+  -- the streams that can be coded as others, and what an encoder is there for
+  pub CanEncode : StreamHead → StreamHead → Type 0
+  pub enc_task : StreamHead → StreamHead → Task
+  -- the packets that can be written to an output, what a muxer of these is there for, the file of a stream of them, which is
+  -- none while it isn't whole, and the text of which a front is held until then
+  pub CanMux : OutputJob → StreamHead → Type 0
+  pub mux_task : OutputJob → StreamHead → Task
+  pub file : OutputJob → StreamHead → Flow → Option (List ℕ)
+  pub text : OutputJob → StreamHead → Flow → List ℕ
+
+-- a part that nothing was done with: the lanes of its ports, no fault, and the name and the failures of its source or sink
+pub record IsNew (ins outs : List Lane) (device : Option (List ℕ)) (failures : ℕ) (v : View) : Type 0 where
+  pub in_lanes : v.in_lanes ≡ ins
+  pub out_lanes : v.out_lanes ≡ outs
+  pub sound : v.fault ≡ None
+  pub device_is : v.device ≡ device
+  pub failures_are : v.failures ≡ failures
+
+-- the source of a part
+pub record IsSourceOf {S : Type 0} (named : S → Option (List ℕ)) (failed : S → ℕ) (v : View) (src : S) : Type 0 where
+  pub name : named src ≡ v.device
+  pub faults : failed src ≡ v.failures
+
+-- the sink of a part, and what it holds where the part is a muxer that was fed something
+pub record IsSinkOf {H K : Type 0} (is : KindsOf H) (holds called : K → Option (List ℕ)) (faulted : K → ℕ) (v : View) (snk : K) : Type 0 where
+  pub name : called snk ≡ v.device
+  pub faults : faulted snk ≡ v.failures
+  pub whole : (past : Past) (out : OutputJob) (coded : StreamHead) → v.stands past → past.task ≡ is.mux_task out coded → v.fault ≡ None
+      → IsWhole (stream_at past.got 0) → IsSome (is.file out coded (stream_at past.got 0)) × (holds snk ≡ is.file out coded (stream_at past.got 0))
+  pub part : (past : Past) (out : OutputJob) (coded : StreamHead) → v.stands past → past.task ≡ is.mux_task out coded
+      → HoldsPart (holds snk) (is.text out coded (stream_at past.got 0)) (is.file out coded (stream_at past.got 0))
+
+-- what a part gives back: a demuxer, which has no inputs, its source, a muxer, which has no outputs, its sink
+abbrev pub GivesEnds : {H S K : Type 0} → KindsOf H → (S → Option (List ℕ)) → (S → ℕ) → (K → Option (List ℕ)) → (K → Option (List ℕ)) → (K → ℕ) → View → Ends S K → Type 0
+GivesEnds is named failed holds called faulted v (ends.Source src) = IsSourceOf named failed v src × (v.out_lanes ≡ [] → ⊥)
+GivesEnds is named failed holds called faulted v (ends.Sink snk) = IsSinkOf is holds called faulted v snk × (v.in_lanes ≡ [] → ⊥)
+GivesEnds is named failed holds called faulted v ends.Neither = (v.in_lanes ≡ [] → ⊥) × (v.out_lanes ≡ [] → ⊥)

@@ -1,0 +1,93 @@
+// The kinds of node of a plan.
+ghost use Rattle.std.specs.Prelude.{◌≡◌, ◌≢◌, ◌≤◌, ℕ, true, List, [], ◌∷◌, Option, Some, None, IfOk, IfErr, replicate};
+ghost use Rattle.ff_frame.specs.declared.item.Lane.TheVariants.{Frames, Packets};
+ghost use Rattle.ff_frame.specs.Stream.{LiesBelow, opened};
+ghost use Rattle.ff_net.specs.Pasts.{start};
+ghost use Rattle.ff_net.specs.Ways.{Flow};
+ghost use Rattle.ff_files.specs.Works.{HoldsPart};
+ghost use Rattle.ff_plan.specs.Streams.{packed_as, takes_head};
+ghost use Rattle.ff_words.specs.declared.job.FileFormat.TheVariants.{Flac};
+ghost use Rattle.ff_words.specs.declared.job.OutputJob.{OutputJob};
+ghost use Rattle.ff_values.specs.declared.head.StreamHead.{StreamHead};
+ghost use Rattle.ff_running.specs.Kinds.{KindsOf, IsNew, GivesEnds};
+
+use ff_host::{Sink, Source};
+use ff_net::Machine;
+use ff_values::StreamHead;
+use ff_words::OutputJob;
+use std::alloc::{AllocError, Global};
+
+/// What a part gives back of its source or sink.
+#[derive(Drop)]
+pub enum Ends<Src: Drop, Snk: Drop> {
+    /// The source of a demuxer.
+    Source(Src),
+    /// The sink of a muxer.
+    Sink(Snk),
+    /// The part has neither.
+    Neither,
+}
+
+/// The kinds of node of a plan, each a machine, and all of one type.
+pub trait Kinds<Src: Source + Send + Drop, Snk: Sink + Send + Drop> {
+    /// What was read of an input before its packets.
+    type Head: Drop;
+
+    /// A node of any kind.
+    type Part: Machine + Send + Drop;
+
+    /// All that contracts see of them.
+    ghost is: { KindsOf Self.Head };
+
+    /// What a head tells of its one stream.
+    fn stream(head: &Self::Head) -> StreamHead
+        ensures { result ≡ is.stream head.now };
+
+    /// Cuts what a source gives into packets; it gives the input of this number from the first byte on. The source comes back
+    /// where memory is refused.
+    fn demuxer(alloc: Global, input: u32, head: &Self::Head, src: Src) -> Result<Self::Part, Src>
+        requires { is.IsHead head.now }
+        ensures new { IfOk result (λ m. IsNew [] (Packets (is.stream head.now) ∷ []) (Src.name src) (Src.faults src) (Self.Part.view m)) }
+        ensures starts { IfOk result (λ m. (bytes : List ℕ) → Src.left src ≡ Some bytes → (Self.Part.view m).stands (start (is.demux_task head.now bytes))) }
+        ensures back { IfErr result (λ back. back ≡ src) };
+
+    /// Decodes the packets of a stream, for so many outputs.
+    fn decoder(alloc: Global, head: &StreamHead, outputs: usize) -> Result<Self::Part, AllocError>
+        requires can { is.CanDecode head.now }
+        requires some { 1 ≤ outputs }
+        ensures new { IfOk result (λ m. IsNew (Packets head.now ∷ []) (replicate outputs (Frames head.now)) None 0 (Self.Part.view m)) }
+        ensures starts { IfOk result (λ m. (Self.Part.view m).stands (start (is.dec_task head.now outputs))) };
+
+    /// Codes the frames of a stream as packets with this head.
+    fn encoder(alloc: Global, head: &StreamHead, coded: &StreamHead) -> Result<Self::Part, AllocError>
+        requires { is.CanEncode head.now coded.now }
+        ensures new { IfOk result (λ m. IsNew (Frames head.now ∷ []) (Packets coded.now ∷ []) None 0 (Self.Part.view m)) }
+        ensures starts { IfOk result (λ m. (Self.Part.view m).stands (start (is.enc_task head.now coded.now))) };
+
+    /// Writes packets with this head to the output of this number, over a sink that holds nothing. The sink comes back where
+    /// memory is refused.
+    fn muxer(alloc: Global, output: u32, out: &OutputJob, coded: &StreamHead, snk: Snk) -> Result<Self::Part, Snk>
+        requires { is.CanMux out.now coded.now }
+        ensures new { IfOk result (λ m. IsNew (Packets coded.now ∷ []) [] (Snk.name snk) (Snk.faults snk) (Self.Part.view m)) }
+        ensures starts { IfOk result (λ m. Snk.holds snk ≡ Some [] → (Self.Part.view m).stands (start (is.mux_task out.now coded.now))) }
+        ensures back { IfErr result (λ back. back ≡ snk) };
+
+    /// The source or the sink of a part, as it is now.
+    fn into_ends(part: Self::Part) -> Ends<Src, Snk>
+        ensures { GivesEnds is Src.name Src.faults Snk.holds Snk.name Snk.faults (Self.Part.view part) result };
+
+    /// What a head tells of its stream can be decoded,
+    ghost decodes: { (h : Self.Head) → is.IsHead h → is.CanDecode (is.stream h) };
+
+    /// coded as an output takes it that is written today,
+    ghost encodes: { (h : Self.Head) (out : OutputJob) → is.IsHead h → takes_head out (is.stream h) ≡ true → out.format ≢ Flac
+        → is.CanEncode (is.stream h) (packed_as out (is.stream h)) };
+
+    /// and written to it.
+    ghost writes: { (h : Self.Head) (out : OutputJob) → is.IsHead h → takes_head out (is.stream h) ≡ true → out.format ≢ Flac
+        → is.CanMux out (packed_as out (is.stream h)) };
+
+    /// What is held of a stream is held of a longer one.
+    ghost holds_on: { (out : OutputJob) (coded : StreamHead) (held : Option (List ℕ)) (r s : Flow) → LiesBelow (opened r) s
+        → HoldsPart held (is.text out coded r) (is.file out coded r) → HoldsPart held (is.text out coded s) (is.file out coded s) };
+}

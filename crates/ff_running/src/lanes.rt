@@ -1,0 +1,92 @@
+// The lanes at the ports of a node.
+ghost use Rattle.std.specs.Prelude.{◌≡◌, IfOk};
+ghost use Rattle.std.specs.List.{filter_map};
+ghost use Rattle.ff_frame.specs.Lanes.{head_of as head_of_lane};
+ghost use Rattle.ff_edges.specs.Ports.{shape_of};
+ghost use Rattle.ff_running.specs.Lanes.{lane_of, lanes_into as lanes_into_of, lanes_out_of as lanes_out_of_node};
+
+use ff_edges::{Edge, edges_into, edges_out_of};
+use ff_frame::{Lane, StreamHead};
+use std::alloc::{AllocError, Global};
+
+/// The head of the streams on a lane.
+pub(crate) fn head_of(lane: &Lane) -> StreamHead
+    ensures { result ≡ head_of_lane lane.now }
+{
+    match lane {
+        Lane::Frames(head) | Lane::Packets(head) => *head,
+    }
+}
+
+fn copy_of(lane: &Lane) -> Lane
+    ensures { result ≡ lane.now }
+{
+    match lane {
+        Lane::Frames(head) => Lane::Frames(*head),
+        Lane::Packets(head) => Lane::Packets(*head),
+    }
+}
+
+// How many edges lead to a node.
+fn count_into(edges: &[Edge], node: usize) -> usize
+    ensures { result ≡ (shape_of edges.now node).inputs }
+{
+    let mut count: usize = 0;
+    for k in 0..edges.len() {
+        if edges[k].to as usize == node {
+            count += 1;
+        }
+    }
+    count
+}
+
+// How many edges leave a node.
+fn count_out_of(edges: &[Edge], node: usize) -> usize
+    ensures { result ≡ (shape_of edges.now node).outputs }
+{
+    let mut count: usize = 0;
+    for k in 0..edges.len() {
+        if edges[k].from as usize == node {
+            count += 1;
+        }
+    }
+    count
+}
+
+// The lanes of the edges of these numbers, as far as they are there.
+fn lanes_of(alloc: Global, edges: &[Edge], numbers: &[usize]) -> Result<Vec<Lane>, AllocError>
+    ensures { IfOk result (λ lanes. lanes.items ≡ filter_map (lane_of edges.now) numbers.now) }
+{
+    let mut lanes = Vec::new(alloc);
+    for k in 0..numbers.len() {
+        let number = numbers[k];
+        if number < edges.len() {
+            lanes.push(copy_of(&edges[number].lane))?;
+        }
+    }
+    Ok(lanes)
+}
+
+/// The lanes of the edges at the inputs of a node, by port.
+pub(crate) fn lanes_into(
+    alloc: Global,
+    edges: &[Edge],
+    node: usize,
+) -> Result<Vec<Lane>, AllocError>
+    ensures { IfOk result (λ lanes. lanes.items ≡ lanes_into_of edges.now node) }
+{
+    let numbers = edges_into(alloc, edges, node, count_into(edges, node))?;
+    lanes_of(alloc, edges, &numbers)
+}
+
+/// The lanes of the edges at its outputs.
+pub(crate) fn lanes_out_of(
+    alloc: Global,
+    edges: &[Edge],
+    node: usize,
+) -> Result<Vec<Lane>, AllocError>
+    ensures { IfOk result (λ lanes. lanes.items ≡ lanes_out_of_node edges.now node) }
+{
+    let numbers = edges_out_of(alloc, edges, node, count_out_of(edges, node))?;
+    lanes_of(alloc, edges, &numbers)
+}
