@@ -1,0 +1,132 @@
+-- How words are answered: by the job that they ask for, or by what is wrong with them.
+use Rattle.std.proofs.Common.{◌≡◌, ◌≢◌, ◌⊎◌, inl, inr, ℕ, List, Option, Some, None, Result, Ok, Err, refl, sym, ap, subst, ◌∙◌}
+use Rattle.ff_host.specs.Causes.{SameCounts}
+use Rattle.ff_host.specs.Files.{Files, KeepsFiles}
+use Rattle.ff_cut.specs.declared.fault.HeadFault.{HeadFault}
+use Rattle.ff_words.specs.declared.job.Job.{Job}
+use Rattle.ff_words.specs.declared.job.Command.{Command}
+use Rattle.ff_words.specs.declared.job.Command.TheVariants.{Run}
+use Rattle.ff_words.specs.declared.error.Fault.{Fault}
+use Rattle.ff_words.specs.declared.error.WordError.{WordError}
+use Rattle.ff_words.specs.declared.error.WordError.TheVariants.{At, NoMemory}
+use Rattle.ff_words.specs.declared.error.WordKind.{WordKind}
+use Rattle.ff_words.specs.declared.table.Table.TheVariants.{Today}
+use Rattle.ff_words.specs.Words.{fault as wrong_at}
+use Rattle.ff_words.specs.Reading as reading
+use Rattle.ff_words.proofs.Unique.{answer-one}
+use Rattle.ff_heads.specs.declared.head.InputHead.{InputHead}
+use Rattle.ff_plan.specs.declared.planned.PlanError.{PlanError}
+use Rattle.ff_plan.specs.declared.planned.PlanError.TheVariants as why
+use Rattle.ff_running.specs.declared.fault.RunFault.{RunFault}
+use Rattle.ff_files.specs.Counts.{Counts}
+use Rattle.ff_files.specs.Works.{Meaning, HoldWritten}
+use Rattle.ff_files.specs.Ends.{IsFirstRefused, HasNoPlan, CanBeDone}
+use Rattle.ff_command.specs.declared.report.FileRef.{FileRef}
+use Rattle.ff_command.specs.declared.report.Status.{Status}
+use Rattle.ff_command.specs.declared.report.Status.TheVariants as status
+use Rattle.ff_command.specs.Command.{Ask, AskFor, AreWrong, AreSoundTo, InputsAreSound, OutputsAreSound, refused_head, over, HoldsFront, GivesNoHead, GivesNoPlan, GivesAll}
+use Rattle.ff_command.specs.Steps.{wrong_words, Comes, Ran, Answered}
+
+-- words ask for one job at most
+same-job : (words : List (List ℕ)) (job other : Job) → Ask words job → Ask words other → job ≡ other
+same-job words job other a b = (let same : (let x : Result Command Fault = Ok (Run job) in x) ≡ Ok (Run other) = answer-one Today words (Ok (Run job)) (Ok (Run other)) a b in cc)
+
+-- and none where they are wrong
+not-both : (words : List (List ℕ)) (job : Job) (f : Fault) → Ask words job → AreWrong words f → ⊥
+not-both words job f a w = (let same : (let x : Result Command Fault = Ok (Run job) in x) ≡ Err f = answer-one Today words (Ok (Run job)) (Err f) a w in cc)
+
+same-fault : (words : List (List ℕ)) (f g : Fault) → AreWrong words f → AreWrong words g → f ≡ g
+same-fault words f g a b = (let same : (let x : Result Command Fault = Err f in x) ≡ Err g = answer-one Today words (Err f) (Err g) a b in cc)
+
+fault-of : (place p : ℕ) (kind k : WordKind) → status.Words place kind ≡ status.Words p k → wrong_at place kind ≡ wrong_at p k
+fault-of place p kind k e = (let a : place ≡ p = cc in (let b : kind ≡ k = cc in ap (λ n. wrong_at n kind) a ∙ ap (λ x. wrong_at p x) b))
+
+keeps-same : (files : Option Files) → KeepsFiles files files
+keeps-same None = tt
+keeps-same (Some files) = λ name. refl
+
+module _ (means : Job → Meaning InputHead PlanError RunFault) where
+  front-same : (job : Job) (files : Option Files) → HoldWritten (over means job) files files
+  front-same job None = tt
+  front-same job (Some files) = λ j below. inl refl
+
+  pub job-answered : (words : List (List ℕ)) (job : Job) (before after : Option Files) (ins outs : Counts) (answer : Status) → Ask words job → Ran means job before after ins outs answer
+      → Answered means words before after ins outs answer
+  job-answered words job before after ins outs answer asks r =
+      let here : (other : Job) → Ask words other → job ≡ other = λ other a. same-job words job other asks a in
+      let back : (other : Job) → Ask words other → other ≡ job = λ other a. same-job words other job a asks in
+      let by : (s : Status) → answer ≡ s → Comes means job before after ins outs s = λ s e. subst (Comes means job before after ins outs) e r.comes in
+      record {
+        bytes = λ e. (job, asks, r.bytes e);
+        front = λ other a. subst (λ x. HoldWritten (over means x) before after) (here other a) r.front;
+        others = inr (job, asks, r.others);
+        untouched = r.untouched;
+        words_at = λ place kind e. absurd (by (status.Words place kind) e);
+        wrong = λ f w. absurd (not-both words job f asks w);
+        plan = λ w e. (job, asks, by (status.Plan w) e);
+        plan_memory = r.plan_memory;
+        unsupported = λ k offset e. (job, asks, by (status.Unsupported k offset) e);
+        damaged = λ k offset e. (job, asks, by (status.Damaged k offset) e);
+        too_long = λ node e. (job, asks, by (status.TooLong node) e);
+        too_large = λ output e. (job, asks, by (status.TooLarge output) e);
+        device = λ file e. (job, asks, (by (status.Device file) e).1);
+        no_head = λ k w g. r.no_head k w (subst (λ x. IsFirstRefused (over means x) before k w) (back g.0 g.1) g.2.0) (subst (λ x. AreSoundTo ins x k) (back g.0 g.1) g.2.1);
+        no_plan = λ w g. r.no_plan w (subst (λ x. HasNoPlan (over means x) before w) (back g.0 g.1) g.2.0) (subst (λ x. InputsAreSound ins x) (back g.0 g.1) g.2.1);
+        complete = λ g.
+            r.complete (subst (λ x. CanBeDone (over means x) before) (back g.0 g.1) g.2.0) (subst (λ x. InputsAreSound ins x) (back g.0 g.1) g.2.1)
+            (subst (λ x. OutputsAreSound outs x) (back g.0 g.1) g.2.2);
+        in_counts = inr (job, asks, r.in_counts);
+        out_counts = inr (job, asks, r.out_counts);
+      }
+
+  -- nothing was done
+  module _ (words : List (List ℕ)) (files : Option Files) (ins outs : Counts) (same_ins : SameCounts ins.before ins.after) (same_outs : SameCounts outs.before outs.after) where
+    wrong-answered : (place : ℕ) (kind : WordKind) → AreWrong words (wrong_at place kind) → Answered means words files files ins outs (status.Words place kind)
+    wrong-answered place kind wrong =
+        record {
+          bytes = λ e. absurd cc;
+          front = λ job a. front-same job files;
+          others = inl (keeps-same files);
+          untouched = λ h. keeps-same files;
+          words_at = λ p k e. subst (λ (f : Fault). AreWrong words f) (fault-of place p kind k e) wrong;
+          wrong = λ f w. inl (ap (λ (x : Fault). status.Words x.word x.kind) (same-fault words (wrong_at place kind) f wrong w));
+          plan = λ w e. absurd cc;
+          plan_memory = λ e. cc;
+          unsupported = λ k offset e. absurd cc;
+          damaged = λ k offset e. absurd cc;
+          too_long = λ node e. absurd cc;
+          too_large = λ output e. absurd cc;
+          device = λ file e. absurd cc;
+          no_head = λ k w g. absurd (not-both words g.0 (wrong_at place kind) g.1 wrong);
+          no_plan = λ w g. absurd (not-both words g.0 (wrong_at place kind) g.1 wrong);
+          complete = λ g. absurd (not-both words g.0 (wrong_at place kind) g.1 wrong);
+          in_counts = inl same_ins;
+          out_counts = inl same_outs;
+        }
+
+    none-answered : Answered means words files files ins outs status.NoMemory
+    none-answered =
+        record {
+          bytes = λ e. absurd cc;
+          front = λ job a. front-same job files;
+          others = inl (keeps-same files);
+          untouched = λ h. keeps-same files;
+          words_at = λ p k e. absurd cc;
+          wrong = λ f w. inr refl;
+          plan = λ w e. absurd cc;
+          plan_memory = λ e. cc;
+          unsupported = λ k offset e. absurd cc;
+          damaged = λ k offset e. absurd cc;
+          too_long = λ node e. absurd cc;
+          too_large = λ output e. absurd cc;
+          device = λ file e. absurd cc;
+          no_head = λ k w g. inr refl;
+          no_plan = λ w g. inr refl;
+          complete = λ g. inr refl;
+          in_counts = inl same_ins;
+          out_counts = inl same_outs;
+        }
+
+    pub words-answered : (error : WordError) (answer : Status) → reading.Answers Today words (Err error) → answer ≡ wrong_words error → Answered means words files files ins outs answer
+    words-answered (At place kind) answer wrong is = subst (Answered means words files files ins outs) (sym is) (wrong-answered place kind wrong)
+    words-answered NoMemory answer wrong is = subst (Answered means words files files ins outs) (sym is) none-answered

@@ -1,0 +1,192 @@
+-- What a command means, when each of its answers comes, and what stands then. `before` and `after` are the files that the host
+-- tells, before and after the call; `ins` and `outs` are its counts of faults of reading and of writing by name, at both moments.
+-- Where the files aren't told, a conclusion on them claims nothing, and a premise on them isn't met.
+use Rattle.std.specs.Prelude.{◌≡◌, ◌⊎◌, ⊤, ℕ, ◌<◌, ◌≤◌, List, length, Option, Some, None, Ok, Err}
+use Rattle.ff_host.specs.Causes.{SameCounts}
+use Rattle.ff_host.specs.Files.{Files, KeepsFiles}
+use Rattle.ff_cut.specs.declared.fault.HeadFault.{HeadFault}
+use Rattle.ff_cut.specs.declared.fault.HeadFault.TheVariants as fault
+use Rattle.ff_words.specs.declared.job.InputJob.{InputJob}
+use Rattle.ff_words.specs.declared.job.OutputJob.{OutputJob}
+use Rattle.ff_words.specs.declared.job.Job.{Job}
+use Rattle.ff_words.specs.declared.job.Command.TheVariants.{Run}
+use Rattle.ff_words.specs.declared.error.Fault.{Fault}
+use Rattle.ff_words.specs.declared.table.Table.TheVariants.{Today}
+use Rattle.ff_words.specs.Words.{IsAnswer}
+use Rattle.ff_heads.specs.declared.head.InputHead.{InputHead}
+use Rattle.ff_heads.specs.Formats.{input_head}
+use Rattle.ff_plan.specs.declared.planned.PlanError.{PlanError}
+use Rattle.ff_plan.specs.declared.planned.PlanError.TheVariants as why
+use Rattle.ff_running.specs.declared.fault.RunFault.{RunFault}
+use Rattle.ff_running.specs.declared.fault.RunFault.TheVariants as run_fault
+use Rattle.ff_files.specs.Names.{name_at, names_of, KeepsAllBut}
+use Rattle.ff_files.specs.Counts.{Counts, Faulted, KeepsCounts}
+use Rattle.ff_files.specs.Heads.{HaveHeads, IsRefused}
+use Rattle.ff_files.specs.Works.{Meaning, Command, command_of, HoldMeaning, HoldWritten}
+use Rattle.ff_files.specs.Ends.{IsPlanned, IsPlanRefused, IsBroken, IsFirstRefused, HasNoPlan, CanBeDone}
+use Rattle.ff_command.specs.declared.report.FileRef.{FileRef}
+use Rattle.ff_command.specs.declared.report.FileRef.TheVariants.{Input, Output}
+use Rattle.ff_command.specs.declared.report.Status.{Status}
+use Rattle.ff_command.specs.declared.report.Status.TheVariants as status
+
+-- ---- what words ask for
+
+-- the words ask for this job, by the options that are done today
+abbrev pub Ask : List (List ℕ) → Job → Type 0
+Ask words job = IsAnswer Today words (Ok (Run job))
+
+-- they ask for a job, of which this is so
+abbrev pub AskFor : List (List ℕ) → (Job → Type 0) → Type 0
+AskFor words Is = (job : Job) × Ask words job × Is job
+
+-- this is so of what they ask for, which is one job at most
+abbrev pub IfAsked : List (List ℕ) → (Job → Type 0) → Type 0
+IfAsked words Is = (job : Job) → Ask words job → Is job
+
+-- they ask for nothing, and this is what is wrong first
+abbrev pub AreWrong : List (List ℕ) → Fault → Type 0
+AreWrong words f = IsAnswer Today words (Err f)
+
+-- ---- the files of a job, by number
+
+abbrev pub input_names : Job → List (List ℕ)
+input_names job = names_of (λ (i : InputJob). i.name) job.inputs
+
+abbrev pub output_names : Job → List (List ℕ)
+output_names job = names_of (λ (o : OutputJob). o.name) job.outputs
+
+-- the job has a file of this number
+abbrev pub HasFile : Job → FileRef → Type 0
+HasFile job (Input i) = i < length job.inputs
+HasFile job (Output o) = o < length job.outputs
+
+-- its name
+abbrev pub file_name : Job → FileRef → List ℕ
+file_name job (Input i) = name_at (input_names job) i
+file_name job (Output o) = name_at (output_names job) o
+
+-- where the status is a device's fault, this is the name of the file of the job that the words ask for
+abbrev pub IsNamed : List (List ℕ) → Status → List ℕ → Type 0
+IsNamed words (status.Device file) name = AskFor words (λ job. HasFile job file × (name ≡ file_name job file))
+IsNamed words _ name = ⊤
+
+-- ---- what stands, whatever a job means
+
+-- every file that isn't an output of the job is as it was, and every file where the words ask for none
+abbrev pub KeepsOtherFiles : List (List ℕ) → Option Files → Option Files → Type 0
+KeepsOtherFiles words before after = KeepsFiles before after ⊎ AskFor words (λ job. KeepsAllBut before after (output_names job) (length job.outputs))
+
+-- the status comes before any output is created
+abbrev pub ComesBeforeOutputs : Status → Type 0
+ComesBeforeOutputs (status.Words word kind) = Unit {0}
+ComesBeforeOutputs (status.Plan why) = Unit {0}
+ComesBeforeOutputs (status.Unsupported input offset) = Unit {0}
+ComesBeforeOutputs _ = ⊥
+
+-- no count of reading has risen under the names of the inputs up to this number
+abbrev pub AreSoundTo : Counts → Job → ℕ → Type 0
+AreSoundTo ins job k = (i : ℕ) → i ≤ k → Faulted ins (input_names job) i → ⊥
+
+-- no count of reading has risen under the name of an input
+abbrev pub InputsAreSound : Counts → Job → Type 0
+InputsAreSound ins job = (i : ℕ) → Faulted ins (input_names job) i → ⊥
+
+-- no count of writing has risen under the name of an output
+abbrev pub OutputsAreSound : Counts → Job → Type 0
+OutputsAreSound outs job = (o : ℕ) → Faulted outs (output_names job) o → ⊥
+
+-- the status of an input whose head is refused so
+abbrev pub refused_head : ℕ → HeadFault → Status
+refused_head k (fault.Damaged offset) = status.Damaged k offset
+refused_head k (fault.Unsupported offset) = status.Unsupported k offset
+
+-- the status of a plan that is refused so
+abbrev pub refused_plan : PlanError → Status
+refused_plan why.NoMemory = status.NoMemory
+refused_plan why = status.Plan why
+
+-- ---- what jobs mean: of what is done between opening and closing, a worker says what it means for each job
+
+module _ (means : Job → Meaning InputHead PlanError RunFault) where
+  -- the job over its files: their names, the heads of the inputs, each in the format that was given or that its bytes tell, and
+  -- what is done with them
+  abbrev pub over : Job → Command InputJob InputHead PlanError RunFault
+  over job = command_of (λ (i : InputJob). i.name) (λ (i : InputJob). input_head i.format) (λ (o : OutputJob). o.name) job.inputs job.outputs (means job)
+
+  -- the words ask for a job that means some bytes for each of its outputs, and each holds these
+  abbrev pub HoldsMeaning : List (List ℕ) → Option Files → Option Files → Type 0
+  HoldsMeaning words before after = AskFor words (λ job. HoldMeaning (over job) before after)
+
+  -- each output is as it was, or holds a front of what is written to it, or all that it is meant to hold
+  abbrev pub HoldsFront : List (List ℕ) → Option Files → Option Files → Type 0
+  HoldsFront words before after = IfAsked words (λ job. HoldWritten (over job) before after)
+
+  -- ---- when each answer comes
+
+  -- the head of this input is the first that is refused, and it is refused so
+  abbrev pub IsHeadRefused : Job → Option Files → ℕ → HeadFault → Type 0
+  IsHeadRefused job before k why = (k < length job.inputs) × IsRefused (over job).name (over job).head before job.inputs k why
+
+  -- the head of this input is damaged, and no file was changed; or what follows a head is damaged
+  abbrev pub IsDamaged : Job → Option Files → Option Files → ℕ → ℕ → Type 0
+  IsDamaged job before after k offset =
+      (IsHeadRefused job before k (fault.Damaged offset) × KeepsFiles before after) ⊎ IsBroken (over job) before (run_fault.Damaged k offset)
+
+  -- the stream of this node is too long, behind nodes that read so many inputs
+  abbrev pub IsTooLong : Job → Option Files → ℕ → Type 0
+  IsTooLong job before node = (count : ℕ) × IsBroken (over job) before (run_fault.TooLong node count)
+
+  -- reading this input failed, behind inputs that all have heads; or writing this output, of a job that has a plan
+  abbrev pub HasFailed : Job → Option Files → Counts → Counts → FileRef → Type 0
+  HasFailed job before ins outs (Input i) = Faulted ins (input_names job) i × HaveHeads (over job).name (over job).head before job.inputs i
+  HasFailed job before ins outs (Output o) = Faulted outs (output_names job) o × IsPlanned (over job) before
+
+  -- Of the words' job, files that are told have a head that is refused so, and no input up to it has failed.
+  abbrev pub GivesNoHead : List (List ℕ) → Option Files → Counts → ℕ → HeadFault → Type 0
+  GivesNoHead words before ins k why = AskFor words (λ job. IsFirstRefused (over job) before k why × AreSoundTo ins job k)
+
+  -- Of the words' job, files that are told have heads and no plan, for this reason, and no input has failed.
+  abbrev pub GivesNoPlan : List (List ℕ) → Option Files → Counts → PlanError → Type 0
+  GivesNoPlan words before ins why = AskFor words (λ job. HasNoPlan (over job) before why × InputsAreSound ins job)
+
+  -- Of the words' job, files that are told have heads and a plan and nothing that breaks the run, and no file has failed.
+  abbrev pub GivesAll : List (List ℕ) → Option Files → Counts → Counts → Type 0
+  GivesAll words before ins outs = AskFor words (λ job. CanBeDone (over job) before × InputsAreSound ins job × OutputsAreSound outs job)
+
+  -- ---- which counts of faults are what they were
+
+  -- How many inputs come before the end: those in front of one that failed or, where the run breaks, of what breaks it.
+  abbrev pub KeepsInputs : Job → Option Files → Counts → Status → Type 0
+  KeepsInputs job before ins status.Fine = SameCounts ins.before ins.after
+  KeepsInputs job before ins (status.Words word kind) = SameCounts ins.before ins.after
+  KeepsInputs job before ins (status.Plan why) = SameCounts ins.before ins.after
+  KeepsInputs job before ins (status.Unsupported k offset) = SameCounts ins.before ins.after
+  KeepsInputs job before ins (status.Device (Input i)) = KeepsCounts ins.before ins.after (input_names job) i
+  KeepsInputs job before ins (status.Device (Output o)) = SameCounts ins.before ins.after
+  KeepsInputs job before ins (status.Damaged k offset) =
+      SameCounts ins.before ins.after
+      ⊎ (IsBroken (over job) before (run_fault.Damaged k offset)
+      × KeepsCounts ins.before ins.after (input_names job) ((means job).comes_after (run_fault.Damaged k offset)))
+  KeepsInputs job before ins (status.TooLong node) =
+      (count : ℕ) × IsBroken (over job) before (run_fault.TooLong node count)
+      × KeepsCounts ins.before ins.after (input_names job) ((means job).comes_after (run_fault.TooLong node count))
+  KeepsInputs job before ins (status.TooLarge o) = KeepsCounts ins.before ins.after (input_names job) ((means job).comes_after (run_fault.TooLarge o))
+  KeepsInputs job before ins status.NoMemory = KeepsCounts ins.before ins.after (input_names job) 1
+
+  -- the counts under names that are no output, and under all where no output was written or each was
+  abbrev pub KeepsOutputs : Job → Option Files → Counts → Status → Type 0
+  KeepsOutputs job before outs status.Fine = SameCounts outs.before outs.after
+  KeepsOutputs job before outs (status.Words word kind) = SameCounts outs.before outs.after
+  KeepsOutputs job before outs (status.Plan why) = SameCounts outs.before outs.after
+  KeepsOutputs job before outs (status.Unsupported k offset) = SameCounts outs.before outs.after
+  KeepsOutputs job before outs (status.Damaged k offset) =
+      SameCounts outs.before outs.after
+      ⊎ (IsBroken (over job) before (run_fault.Damaged k offset) × KeepsCounts outs.before outs.after (output_names job) 0)
+  KeepsOutputs job before outs _ = KeepsCounts outs.before outs.after (output_names job) 0
+
+  -- the same by the words: where they ask for nothing, no count has risen
+  abbrev pub KeepsInputCounts : List (List ℕ) → Option Files → Counts → Status → Type 0
+  KeepsInputCounts words before ins status = SameCounts ins.before ins.after ⊎ AskFor words (λ job. KeepsInputs job before ins status)
+
+  abbrev pub KeepsOutputCounts : List (List ℕ) → Option Files → Counts → Status → Type 0
+  KeepsOutputCounts words before outs status = SameCounts outs.before outs.after ⊎ AskFor words (λ job. KeepsOutputs job before outs status)

@@ -1,0 +1,111 @@
+-- What a job's run leaves, and what the words' run does, each as one record.
+use Rattle.std.specs.Prelude.{◌≡◌, ◌≢◌, ◌⊎◌, ℕ, List, length, Option, Some, None}
+use Rattle.std.specs.List.{All}
+use Rattle.ff_host.specs.Files.{Files, KeepsFiles}
+use Rattle.ff_cut.specs.declared.fault.HeadFault.{HeadFault}
+use Rattle.ff_cut.specs.declared.fault.HeadFault.TheVariants as fault
+use Rattle.ff_words.specs.declared.job.Job.{Job}
+use Rattle.ff_words.specs.declared.error.Fault.{Fault}
+use Rattle.ff_words.specs.declared.error.WordError.{WordError}
+use Rattle.ff_words.specs.declared.error.WordError.TheVariants.{At, NoMemory}
+use Rattle.ff_words.specs.Bounds.{IsBounded, IsPlain}
+use Rattle.ff_words.specs.Words.{fault as wrong_at}
+use Rattle.ff_heads.specs.declared.head.InputHead.{InputHead}
+use Rattle.ff_heads.specs.Heads.{IsHead}
+use Rattle.ff_plan.specs.declared.planned.PlanError.{PlanError}
+use Rattle.ff_plan.specs.declared.planned.PlanError.TheVariants as why
+use Rattle.ff_running.specs.declared.fault.RunFault.{RunFault}
+use Rattle.ff_running.specs.declared.fault.RunFault.TheVariants as run_fault
+use Rattle.ff_files.specs.Names.{KeepsAllBut}
+use Rattle.ff_files.specs.Counts.{Counts}
+use Rattle.ff_files.specs.Works.{Meaning, HoldMeaning, HoldWritten}
+use Rattle.ff_files.specs.Ends.{IsPlanRefused, IsBroken, IsFirstRefused, HasNoPlan, CanBeDone}
+use Rattle.ff_files.specs.declared.end.RunEnd.{RunEnd}
+use Rattle.ff_files.specs.declared.end.RunEnd.TheVariants as run_end
+use Rattle.ff_command.specs.declared.report.FileRef.{FileRef}
+use Rattle.ff_command.specs.declared.report.FileRef.TheVariants.{Input, Output}
+use Rattle.ff_command.specs.declared.report.Status.{Status}
+use Rattle.ff_command.specs.declared.report.Status.TheVariants as status
+use Rattle.ff_command.specs.Command.{AskFor, IfAsked, AreWrong, input_names, output_names, KeepsOtherFiles, ComesBeforeOutputs, AreSoundTo, InputsAreSound, OutputsAreSound, refused_head, refused_plan, over, HoldsMeaning, HoldsFront, IsHeadRefused, IsDamaged, IsTooLong, HasFailed, HasFile, GivesNoHead, GivesNoPlan, GivesAll, KeepsInputs, KeepsOutputs, KeepsInputCounts, KeepsOutputCounts}
+
+-- the heads of all inputs of a job that words may ask for
+pub record AreAllHeads (job : Job) (heads : List InputHead) : Type 0 where
+  pub as_many : length heads ≡ length job.inputs
+  pub heads_are : All IsHead heads
+  pub bounded : IsBounded job
+  pub plain : IsPlain job
+
+-- the status of words that ask for nothing
+abbrev pub wrong_words : WordError → Status
+wrong_words (At word kind) = status.Words word kind
+wrong_words NoMemory = status.NoMemory
+
+-- the status of a run that something of the inputs' bytes ended
+abbrev pub broken_run : RunFault → Status
+broken_run (run_fault.Damaged input offset) = status.Damaged input offset
+broken_run (run_fault.TooLong node count) = status.TooLong node
+broken_run (run_fault.TooLarge output) = status.TooLarge output
+
+-- the status of a job over its files
+abbrev pub status_of : RunEnd PlanError RunFault → Status
+status_of run_end.Fine = status.Fine
+status_of (run_end.InputFailed input) = status.Device (Input input)
+status_of (run_end.OutputFailed output) = status.Device (Output output)
+status_of (run_end.Damaged input offset) = status.Damaged input offset
+status_of (run_end.Unsupported input offset) = status.Unsupported input offset
+status_of (run_end.Refused why) = refused_plan why
+status_of (run_end.Broken why) = broken_run why
+status_of run_end.NoMemory = status.NoMemory
+
+-- the file is one of this job
+abbrev pub IsOfJob : Option Job → FileRef → Type 0
+IsOfJob None file = ⊥
+IsOfJob (Some job) file = HasFile job file
+
+module _ (means : Job → Meaning InputHead PlanError RunFault) where
+  -- when each status of a job comes
+  abbrev pub Comes : Job → Option Files → Option Files → Counts → Counts → Status → Type 0
+  Comes job before after ins outs status.Fine = Unit {0}
+  Comes job before after ins outs (status.Words place kind) = ⊥
+  Comes job before after ins outs (status.Plan why) = IsPlanRefused (over means job) before why
+  Comes job before after ins outs (status.Device file) = HasFile job file × HasFailed means job before ins outs file
+  Comes job before after ins outs (status.Damaged k offset) = IsDamaged means job before after k offset
+  Comes job before after ins outs (status.TooLong node) = IsTooLong means job before node
+  Comes job before after ins outs (status.Unsupported k offset) = IsHeadRefused means job before k (fault.Unsupported offset)
+  Comes job before after ins outs (status.TooLarge output) = IsBroken (over means job) before (run_fault.TooLarge output)
+  Comes job before after ins outs status.NoMemory = Unit {0}
+
+  -- a job was run over its files
+  pub record Ran (job : Job) (before after : Option Files) (ins outs : Counts) (answer : Status) : Type 0 where
+    pub bytes : answer ≡ status.Fine → HoldMeaning (over means job) before after
+    pub front : HoldWritten (over means job) before after
+    pub others : KeepsAllBut before after (output_names job) (length job.outputs)
+    pub untouched : ComesBeforeOutputs answer → KeepsFiles before after
+    pub comes : Comes job before after ins outs answer
+    pub plan_memory : answer ≢ status.Plan why.NoMemory
+    pub no_head : (k : ℕ) (why : HeadFault) → IsFirstRefused (over means job) before k why → AreSoundTo ins job k → (answer ≡ refused_head k why) ⊎ (answer ≡ status.NoMemory)
+    pub no_plan : (why : PlanError) → HasNoPlan (over means job) before why → InputsAreSound ins job → (answer ≡ refused_plan why) ⊎ (answer ≡ status.NoMemory)
+    pub complete : CanBeDone (over means job) before → InputsAreSound ins job → OutputsAreSound outs job → (answer ≡ status.Fine) ⊎ (answer ≡ status.NoMemory)
+    pub in_counts : KeepsInputs means job before ins answer
+    pub out_counts : KeepsOutputs means job before outs answer
+
+  -- words were run
+  pub record Answered (words : List (List ℕ)) (before after : Option Files) (ins outs : Counts) (answer : Status) : Type 0 where
+    pub bytes : answer ≡ status.Fine → HoldsMeaning means words before after
+    pub front : HoldsFront means words before after
+    pub others : KeepsOtherFiles words before after
+    pub untouched : ComesBeforeOutputs answer → KeepsFiles before after
+    pub words_at : (place : ℕ) (kind : _) → answer ≡ status.Words place kind → AreWrong words (wrong_at place kind)
+    pub wrong : (f : Fault) → AreWrong words f → (answer ≡ status.Words f.word f.kind) ⊎ (answer ≡ status.NoMemory)
+    pub plan : (why : PlanError) → answer ≡ status.Plan why → AskFor words (λ job. IsPlanRefused (over means job) before why)
+    pub plan_memory : answer ≢ status.Plan why.NoMemory
+    pub unsupported : (k offset : ℕ) → answer ≡ status.Unsupported k offset → AskFor words (λ job. IsHeadRefused means job before k (fault.Unsupported offset))
+    pub damaged : (k offset : ℕ) → answer ≡ status.Damaged k offset → AskFor words (λ job. IsDamaged means job before after k offset)
+    pub too_long : (node : ℕ) → answer ≡ status.TooLong node → AskFor words (λ job. IsTooLong means job before node)
+    pub too_large : (output : ℕ) → answer ≡ status.TooLarge output → AskFor words (λ job. IsBroken (over means job) before (run_fault.TooLarge output))
+    pub device : (file : FileRef) → answer ≡ status.Device file → AskFor words (λ job. HasFailed means job before ins outs file)
+    pub no_head : (k : ℕ) (why : HeadFault) → GivesNoHead means words before ins k why → (answer ≡ refused_head k why) ⊎ (answer ≡ status.NoMemory)
+    pub no_plan : (why : PlanError) → GivesNoPlan means words before ins why → (answer ≡ refused_plan why) ⊎ (answer ≡ status.NoMemory)
+    pub complete : GivesAll means words before ins outs → (answer ≡ status.Fine) ⊎ (answer ≡ status.NoMemory)
+    pub in_counts : KeepsInputCounts means words before ins answer
+    pub out_counts : KeepsOutputCounts means words before outs answer

@@ -1,0 +1,189 @@
+// A command: from the words and the files to the files, the log and the report.
+ghost use Rattle.std.specs.Prelude.{◌≡◌, ◌≢◌, ◌⊎◌, ◌↔◌, [], ℕ, List, IfSome};
+ghost use Rattle.std.specs.Io.KnownBytes.{Appends, Keeps};
+ghost use Rattle.ff_host.specs.Causes.{Rose};
+ghost use Rattle.ff_host.specs.Files.{KeepsFiles};
+ghost use Rattle.ff_lists.specs.Appends.{AppendsPrefix};
+ghost use Rattle.ff_cut.specs.declared.fault.HeadFault.{HeadFault};
+ghost use Rattle.ff_cut.specs.declared.fault.HeadFault.TheVariants as head_fault;
+ghost use Rattle.ff_words.specs.Words.{texts, fault};
+ghost use Rattle.ff_words.specs.declared.error.Fault.{Fault};
+ghost use Rattle.ff_running.specs.declared.fault.RunFault.TheVariants as run_fault;
+ghost use Rattle.ff_files.specs.Ends.{IsPlanRefused, IsBroken};
+ghost use Rattle.ff_command.specs.Command.{Ask, AskFor, AreWrong, IsNamed, HasFile, file_name, KeepsOtherFiles, ComesBeforeOutputs};
+ghost use Rattle.ff_command.specs.Command.{refused_head, refused_plan, over, HoldsMeaning, HoldsFront, IsHeadRefused, IsDamaged, IsTooLong};
+ghost use Rattle.ff_command.specs.Command.{HasFailed, GivesNoHead, GivesNoPlan, GivesAll, KeepsInputCounts, KeepsOutputCounts};
+ghost use Rattle.ff_command.specs.Steps.{wrong_words, IsOfJob, Answered};
+ghost use Rattle.ff_command.specs.Texts.{fault_text};
+
+use crate::history::History;
+use crate::log::log_fault;
+use crate::report::{FileRef, Line, Report, Status};
+use crate::run::run_job;
+use crate::worker::Worker;
+use ff_host::{Begun, Host, Sink};
+use ff_plan::PlanError;
+use ff_words::{Command, Job, WordError, WordKind, read_words};
+use std::alloc::Global;
+
+// The status of words that ask for nothing.
+fn status_of_words(error: WordError) -> Status
+    ensures { result ≡ wrong_words error }
+{
+    match error {
+        WordError::At { word, kind } => Status::Words { word, kind },
+        WordError::NoMemory => Status::NoMemory,
+    }
+}
+
+// The name of a file of a job.
+fn name_of_file(job: &Job, file: FileRef) -> &str
+    requires { HasFile job.now file }
+    ensures { result.now ≡ file_name job.now file }
+{
+    match file {
+        FileRef::Input(input) => job.inputs.as_slice()[input as usize].name.as_str(),
+        FileRef::Output(output) => job.outputs.as_slice()[output as usize].name.as_str(),
+    }
+}
+
+/// How words were run, and the job that they ask for, where they do.
+#[derive(Drop)]
+struct Worked {
+    status: Status,
+    job: Option<Job>,
+}
+
+// Reads the words, and runs the job that they ask for.
+fn run_words<H: Host, P: Worker<Begun<H::Src>, H::Snk>>(
+    alloc: Global,
+    worker: &P,
+    words: &[String],
+    host: &mut H,
+) -> Worked
+    ensures answered { Answered (P.means worker.now) (texts words.now) (H.files host.old) (H.files host.new)
+        (record { before = H.in_faults host.old; after = H.in_faults host.new })
+        (record { before = H.out_faults host.old; after = H.out_faults host.new }) result.status }
+    ensures asked { IfSome result.job (λ job. Ask (texts words.now) job) }
+    ensures named { (file : _) → result.status ≡ Status.Device file → IsOfJob result.job file }
+    ensures closed { (H.open_sources host.new ≡ H.open_sources host.old) × (H.open_sinks host.new ≡ H.open_sinks host.old) }
+{
+    match read_words(alloc, words) {
+        Err(error) => Worked {
+            status: status_of_words(error),
+            job: None,
+        },
+        Ok(Command::SelfRun(_)) => unreachable!(),
+        Ok(Command::Run(job)) => {
+            let status = run_job(alloc, worker, &job, host);
+            Worked {
+                status,
+                job: Some(job),
+            }
+        }
+    }
+}
+
+// The name of the file of a device's fault; the empty text for any other status.
+fn name_of<'a>(status: &Status, job: &'a Option<Job>) -> &'a str
+    requires { (file : _) → status.now ≡ Status.Device file → IsOfJob job.now file }
+    ensures { (words : List (List ℕ)) → IfSome job.now (λ job. Ask words job) → IsNamed words status.now result.now }
+{
+    match status {
+        Status::Device { file } => match job {
+            Some(job) => name_of_file(job, *file),
+            None => unreachable!(),
+        },
+        _ => "",
+    }
+}
+
+/// A command: all that the program does, whatever works its jobs.
+///
+/// It reads the words, opens the inputs by number, each with its head, plans by the heads, creates the outputs by number, and runs;
+/// then it closes the inputs and then the outputs by number, and appends the line of a fault to the log. Where a step is refused,
+/// only the closings and the line still follow, and the first refusal is the status; in the run it is the fault of the first node
+/// that has one. Want of memory may end it at any step. That the run ends isn't claimed.
+pub fn run_command<H: Host, E: Sink, P: Worker<Begun<H::Src>, H::Snk>>(
+    alloc: Global,
+    worker: &P,
+    words: &[String],
+    host: &mut H,
+    log: &mut E,
+) -> Report
+    // With status Fine the words ask for a job, and each of its outputs holds the bytes that the job means.
+    ensures bytes { result.status ≡ Status.Fine → HoldsMeaning (P.means worker.now) (texts words.now) (H.files host.old) (H.files host.new) }
+
+    // Whatever the status, no other file changes. Words, heads and plans are refused before any file is created, and a run that
+    // fails later leaves of each output what was there, a front of what is written to it, or all of it.
+    ensures others { KeepsOtherFiles (texts words.now) (H.files host.old) (H.files host.new) }
+    ensures untouched { ComesBeforeOutputs result.status → KeepsFiles (H.files host.old) (H.files host.new) }
+    ensures front { HoldsFront (P.means worker.now) (texts words.now) (H.files host.old) (H.files host.new) }
+
+    // The words are refused exactly where they ask for nothing.
+    ensures words { (w : ℕ) (kind : _) → result.status ≡ Status.Words w kind → AreWrong (texts words.now) (fault w kind) }
+    ensures wrong { (f : Fault) → AreWrong (texts words.now) f → (result.status ≡ Status.Words f.word f.kind) ⊎ (result.status ≡ Status.NoMemory) }
+
+    // A head is refused exactly where it is the first that is, unless reading it or one before it failed.
+    ensures unsupported { (i offset : ℕ) → result.status ≡ Status.Unsupported i offset
+        → AskFor (texts words.now) (λ job. IsHeadRefused (P.means worker.now) job (H.files host.old) i (head_fault.Unsupported offset)) }
+    ensures damaged { (i offset : ℕ) → result.status ≡ Status.Damaged i offset
+        → AskFor (texts words.now) (λ job. IsDamaged (P.means worker.now) job (H.files host.old) (H.files host.new) i offset) }
+    ensures refused { (i : ℕ) (why : HeadFault)
+        → GivesNoHead (P.means worker.now) (texts words.now) (H.files host.old) (record { before = H.in_faults host.old; after = H.in_faults host.new }) i why
+        → (result.status ≡ refused_head i why) ⊎ (result.status ≡ Status.NoMemory) }
+
+    // The plan is refused exactly where the heads give none, unless reading failed.
+    ensures plan { (why : PlanError) → result.status ≡ Status.Plan why
+        → AskFor (texts words.now) (λ job. IsPlanRefused (over (P.means worker.now) job) (H.files host.old) why) }
+    ensures no_plan { (why : PlanError)
+        → GivesNoPlan (P.means worker.now) (texts words.now) (H.files host.old) (record { before = H.in_faults host.old; after = H.in_faults host.new }) why
+        → (result.status ≡ refused_plan why) ⊎ (result.status ≡ Status.NoMemory) }
+    ensures plan_memory { result.status ≢ Status.Plan PlanError.NoMemory }
+
+    // A run breaks only of the bytes of its inputs.
+    ensures too_long { (node : ℕ) → result.status ≡ Status.TooLong node → AskFor (texts words.now) (λ job. IsTooLong (P.means worker.now) job (H.files host.old) node) }
+    ensures too_large { (output : ℕ) → result.status ≡ Status.TooLarge output
+        → AskFor (texts words.now) (λ job. IsBroken (over (P.means worker.now) job) (H.files host.old) (run_fault.TooLarge output)) }
+
+    // A fault of a device is answered only where the count of that file's name rose.
+    ensures device { (file : _) → result.status ≡ Status.Device file → AskFor (texts words.now) (λ job. HasFailed (P.means worker.now) job (H.files host.old)
+        (record { before = H.in_faults host.old; after = H.in_faults host.new })
+        (record { before = H.out_faults host.old; after = H.out_faults host.new }) file) }
+
+    // No failure is passed over: with status Fine no count has changed, and a failure of reading is the status, unless a fault
+    // came before it. Under names that are no input, or no output, nothing is counted.
+    ensures in_counts { KeepsInputCounts (P.means worker.now) (texts words.now) (H.files host.old) (record { before = H.in_faults host.old; after = H.in_faults host.new }) result.status }
+    ensures out_counts { KeepsOutputCounts (P.means worker.now) (texts words.now) (H.files host.old) (record { before = H.out_faults host.old; after = H.out_faults host.new }) result.status }
+
+    // Nothing else keeps the command from being done.
+    ensures complete { GivesAll (P.means worker.now) (texts words.now) (H.files host.old)
+        (record { before = H.in_faults host.old; after = H.in_faults host.new })
+        (record { before = H.out_faults host.old; after = H.out_faults host.new })
+        → (result.status ≡ Status.Fine) ⊎ (result.status ≡ Status.NoMemory) }
+
+    // Whatever the status, each source and each sink that it opened is given back.
+    ensures closed { (H.open_sources host.new ≡ H.open_sources host.old) × (H.open_sinks host.new ≡ H.open_sinks host.old) }
+
+    // The line of a fault; that of a device's names the file.
+    ensures line_not_due { (result.line ≡ Line.NotDue) ↔ (result.status ≡ Status.Fine) }
+    ensures not_logged { result.line ≡ Line.NotDue → Keeps (E.holds log.old) (E.holds log.new) }
+    ensures logged { result.line ≡ Line.Whole → (name : List ℕ) × IsNamed (texts words.now) result.status name
+        × Appends (E.holds log.old) (E.holds log.new) (fault_text result.status name) }
+    ensures log_failed { result.line ≡ Line.Failed → Rose (E.faults log.old) (E.faults log.new)
+        × ((name : List ℕ) × IsNamed (texts words.now) result.status name × AppendsPrefix (E.holds log.old) (E.holds log.new) (fault_text result.status name)) }
+    ensures line_no_memory { result.line ≡ Line.NoMemory → Keeps (E.holds log.old) (E.holds log.new) }
+
+    // Nothing is scheduled.
+    ensures history { result.history ≡ [] }
+    ensures reads { result.reads.items ≡ [] }
+{
+    let Worked { status, job } = run_words(alloc, worker, words, host);
+    let line = log_fault(alloc, &status, name_of(&status, &job), log);
+    Report {
+        status,
+        history: History::new(alloc),
+        reads: Vec::new(alloc),
+        line,
+    }
+}

@@ -1,0 +1,26 @@
+//! The command: its words, its meaning, and the call that does all that the program does, whatever works its jobs.
+//!
+//! ```text
+//! words ──► job ──► inputs opened, heads read ──► planned ──► outputs created ──► run ──► closed ──► status ──► the line of a fault
+//!   └─ wrong ────────────┴─ refused ─────────────────┴─ refused ─────┴─ failed ─────┴──────────────────┘
+//! ```
+//!
+//! `specs/Command` says, readable alone, what a command means, when each answer comes, and what stands then; `specs/Texts` has the
+//! lines of faults and the numbers. [`run_command`] is proved to keep to them over any host, any log and any [`Worker`]: what is done
+//! of a job between the opening of its inputs and the closing of its outputs a worker says, and does.
+#![tactic(auto)]
+
+mod command;
+mod history;
+mod log;
+mod report;
+mod run;
+mod texts;
+mod worker;
+
+pub use command::run_command;
+pub use ff_values::Event;
+pub use history::History;
+pub use report::{FileRef, Line, Report, Status, status_number};
+pub use texts::fault_line;
+pub use worker::Worker;

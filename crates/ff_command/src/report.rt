@@ -1,0 +1,82 @@
+// What a run answers.
+ghost use Rattle.std.specs.Prelude.{◌≡◌};
+ghost use Rattle.ff_command.specs.Texts.{number_of};
+
+use crate::history::History;
+use ff_plan::PlanError;
+use ff_words::WordKind;
+
+/// A file that a command names.
+#[derive(Clone, Copy, Debug, PartialEq, Eq)]
+pub enum FileRef {
+    /// An input, by its number from 0.
+    Input(u32),
+    /// An output, by its number from 0.
+    Output(u32),
+}
+
+/// How a run ended. Words, inputs, outputs and nodes have numbers from 0.
+#[derive(Debug, Drop)]
+pub enum Status {
+    /// All was done.
+    Fine,
+    /// The words ask for nothing: what is wrong first, and at which word; it is the number of words where they end too early.
+    Words { word: u32, kind: WordKind },
+    /// There is no plan for the heads of the inputs. It isn't for want of memory.
+    Plan(PlanError),
+    /// Opening, reading or closing an input failed, or creating, writing or closing an output.
+    Device { file: FileRef },
+    /// The head of an input, or what follows it, breaks its format at this offset in bytes.
+    Damaged { input: u32, offset: u64 },
+    /// The stream of a node has more items than a stream may have, or one that ends too late.
+    TooLong { node: u32 },
+    /// The head of an input is of a kind that isn't read, found at this offset in bytes.
+    Unsupported { input: u32, offset: u64 },
+    /// An output passes the greatest size of its format.
+    TooLarge { output: u32 },
+    /// There was no memory to go on.
+    NoMemory,
+}
+
+/// What became of the line of a fault.
+#[derive(Clone, Copy, Debug, PartialEq, Eq)]
+pub enum Line {
+    /// All was done, and there is no line.
+    NotDue,
+    /// The log gained the line.
+    Whole,
+    /// The log failed, and gained a front of the line.
+    Failed,
+    /// There was no memory for the line, and the log is as it was.
+    NoMemory,
+}
+
+/// What a run answers.
+#[derive(Drop)]
+pub struct Report {
+    /// How the run ended.
+    pub status: Status,
+    /// The events of the scheduler; none, since nothing is scheduled.
+    pub history: History,
+    /// For each input the places in `history` of the grants under which its packets were read; none likewise.
+    pub reads: Vec<Vec<u64>>,
+    /// What became of the line of the fault.
+    pub line: Line,
+}
+
+/// The number that the program ends with.
+pub fn status_number(status: &Status) -> u8
+    ensures { result ≡ number_of status.now }
+{
+    match status {
+        Status::Fine => 0,
+        Status::Words { .. } => 1,
+        Status::Plan(_) => 2,
+        Status::Device { .. } => 3,
+        Status::Damaged { .. } => 4,
+        Status::TooLong { .. } => 5,
+        Status::Unsupported { .. } => 6,
+        Status::TooLarge { .. } => 7,
+        Status::NoMemory => 9,
+    }
+}

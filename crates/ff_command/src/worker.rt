@@ -1,0 +1,111 @@
+//! How jobs are worked.
+ghost use Rattle.std.specs.Prelude.{◌≡◌, List, ℕ, None, Some, IfErr, OnOk, IfOk, length};
+ghost use Rattle.ff_files.specs.Works.{Meaning, AreTold, HoldFiles, HoldParts, KeepEnds, FailNoMore, EndsWork, sound_sources, sound_sinks};
+ghost use Rattle.ff_heads.specs.declared.head.InputHead.{InputHead};
+ghost use Rattle.ff_plan.specs.declared.planned.PlanError.{PlanError};
+ghost use Rattle.ff_running.specs.declared.fault.RunFault.{RunFault};
+ghost use Rattle.ff_words.specs.declared.job.Job.{Job};
+ghost use Rattle.ff_command.specs.Steps.{AreAllHeads};
+
+use ff_files::{Done, PlanEnd, Work, WorkEnd};
+use ff_heads::InputHead;
+use ff_host::{Sink, Source};
+use ff_plan::PlanError;
+use ff_running::RunFault;
+use ff_words::Job;
+
+/// How jobs are worked: of each a plan by the heads of its inputs, and a run of it.
+pub trait Worker<Src: Source + Send + Drop, Snk: Sink + Send + Drop> {
+    type Plan: Drop;
+
+    /// What a job means: all that contracts see of its work.
+    ghost means: { Self → Job → Meaning InputHead PlanError RunFault };
+
+    /// It is a plan of the job for these heads.
+    ghost is_plan: { Self → Job → List InputHead → Self.Plan → Type 0 };
+
+    /// The plan of a job for these heads, by the number of their inputs.
+    fn plan(&self, job: &Job, heads: &[InputHead]) -> Result<Self::Plan, PlanEnd<PlanError>>
+        requires { AreAllHeads job.now heads.now }
+        ensures ok { IfOk result (λ plan. is_plan self.now job.now heads.now plan) }
+        ensures some { OnOk result ((means self.now job.now).refusal heads.now ≡ None) }
+        ensures refused { (why : _) → IfErr result (λ end. end ≡ PlanEnd.Refused why → (means self.now job.now).refusal heads.now ≡ Some why) };
+
+    /// Runs a plan over the sources of the inputs, which give these from the first byte on, and the sinks of the outputs, which
+    /// hold nothing. The end is the fault of the first that has one, the inputs before the outputs.
+    fn run(
+        &self,
+        job: &Job,
+        plan: Self::Plan,
+        heads: &[InputHead],
+        srcs: Vec<Src>,
+        snks: Vec<Snk>,
+    ) -> Done<RunFault, Src, Snk>
+        requires { is_plan self.now job.now heads.now plan }
+        ensures fine { result.end ≡ WorkEnd.Fine → (bytes : List (List ℕ)) → AreTold Src.left Snk.holds srcs.items snks.items bytes
+            → HoldFiles Snk.holds ((means self.now job.now).file heads.now bytes) result.snks.items }
+        ensures parts { (bytes : List (List ℕ)) → AreTold Src.left Snk.holds srcs.items snks.items bytes
+            → HoldParts Snk.holds ((means self.now job.now).text heads.now bytes) ((means self.now job.now).file heads.now bytes) result.snks.items }
+        ensures srcs { KeepEnds Src.name srcs.items result.srcs.items }
+        ensures snks { KeepEnds Snk.name snks.items result.snks.items }
+        ensures ends { EndsWork (means self.now job.now) Src.faults Snk.faults srcs.items snks.items result.srcs.items result.snks.items heads.now
+            (AreTold Src.left Snk.holds srcs.items snks.items) result.end }
+        ensures sound_srcs { FailNoMore Src.faults srcs.items result.srcs.items (sound_sources (means self.now job.now) result.end (length srcs.items)) }
+        ensures sound_snks { FailNoMore Snk.faults snks.items result.snks.items (sound_sinks (means self.now job.now) result.end (length snks.items)) };
+}
+
+/// A job, and how it is worked.
+#[derive(Drop)]
+pub(crate) struct JobWork<'a, P> {
+    pub(crate) worker: &'a P,
+    pub(crate) job: &'a Job,
+}
+
+impl<'a, Src: Source + Send + Drop, Snk: Sink + Send + Drop, P: Worker<Src, Snk>> Work<
+    InputHead,
+    Src,
+    Snk,
+> for JobWork<'a, P> {
+    type Plan = P::Plan;
+
+    type Refusal = PlanError;
+
+    type Fault = RunFault;
+
+    ghost means = { λ work. P.means work.worker.now work.job.now };
+
+    ghost accepts = { λ work heads. AreAllHeads work.job.now heads };
+
+    ghost is_plan = { λ work heads plan. P.is_plan work.worker.now work.job.now heads plan };
+
+    fn plan(&self, heads: &[InputHead]) -> Result<P::Plan, PlanEnd<PlanError>>
+        requires { AreAllHeads self.now.job.now heads.now }
+        ensures ok { IfOk result (λ plan. P.is_plan self.now.worker.now self.now.job.now heads.now plan) }
+        ensures some { OnOk result ((P.means self.now.worker.now self.now.job.now).refusal heads.now ≡ None) }
+        ensures refused { (why : _) → IfErr result (λ end. end ≡ PlanEnd.Refused why → (P.means self.now.worker.now self.now.job.now).refusal heads.now ≡ Some why) }
+    {
+        self.worker.plan(self.job, heads)
+    }
+
+    fn run(
+        &self,
+        plan: P::Plan,
+        heads: &[InputHead],
+        srcs: Vec<Src>,
+        snks: Vec<Snk>,
+    ) -> Done<RunFault, Src, Snk>
+        requires { P.is_plan self.now.worker.now self.now.job.now heads.now plan }
+        ensures fine { result.end ≡ WorkEnd.Fine → (bytes : List (List ℕ)) → AreTold Src.left Snk.holds srcs.items snks.items bytes
+            → HoldFiles Snk.holds ((P.means self.now.worker.now self.now.job.now).file heads.now bytes) result.snks.items }
+        ensures parts { (bytes : List (List ℕ)) → AreTold Src.left Snk.holds srcs.items snks.items bytes
+            → HoldParts Snk.holds ((P.means self.now.worker.now self.now.job.now).text heads.now bytes) ((P.means self.now.worker.now self.now.job.now).file heads.now bytes) result.snks.items }
+        ensures srcs { KeepEnds Src.name srcs.items result.srcs.items }
+        ensures snks { KeepEnds Snk.name snks.items result.snks.items }
+        ensures ends { EndsWork (P.means self.now.worker.now self.now.job.now) Src.faults Snk.faults srcs.items snks.items result.srcs.items result.snks.items heads.now
+            (AreTold Src.left Snk.holds srcs.items snks.items) result.end }
+        ensures sound_srcs { FailNoMore Src.faults srcs.items result.srcs.items (sound_sources (P.means self.now.worker.now self.now.job.now) result.end (length srcs.items)) }
+        ensures sound_snks { FailNoMore Snk.faults snks.items result.snks.items (sound_sinks (P.means self.now.worker.now self.now.job.now) result.end (length snks.items)) }
+    {
+        self.worker.run(self.job, plan, heads, srcs, snks)
+    }
+}
