@@ -1,2 +1,6 @@
 pub mod Kinds
 pub mod Lanes
+pub mod Tasks
+pub mod Meaning
+pub mod Parts
+pub mod Runs

@@ -1,7 +1,10 @@
 //! A plan's nodes: built, run in threads, and taken apart.
 #![tactic(auto)]
 
+mod build;
+mod end;
 mod fault;
+mod gather;
 mod kinds;
 mod lanes;
 mod tables;

@@ -1,0 +1,136 @@
+-- What a run of the plan of a job comes to, by the heads and the bytes of its inputs.
+use Rattle.std.specs.Prelude.{◌≡◌, ℕ, ◌+◌, ◌-◌, ◌^◌, ◌<◌, List, [], ◌∷◌, length, map, slice_get, slice_index_or, Option, None, Some, Ok, Err}
+use Rattle.ff_values.specs.declared.head.StreamHead.{StreamHead}
+use Rattle.ff_words.specs.declared.job.Job.{Job}
+use Rattle.ff_words.specs.declared.job.OutputJob.{OutputJob}
+use Rattle.ff_edges.specs.declared.edge.Edge.{Edge}
+use Rattle.ff_net.specs.declared.fault.Fault.{Fault}
+use Rattle.ff_net.specs.declared.fault.Fault.TheVariants as net_fault
+use Rattle.ff_net.specs.Nets.{solve}
+use Rattle.ff_net.specs.Pasts.{Task}
+use Rattle.ff_net.specs.Ways.{Flow}
+use Rattle.ff_network.specs.Fits.{Ports, ins_at, network}
+use Rattle.ff_plan.specs.declared.planned.Plan.{Plan}
+use Rattle.ff_plan.specs.declared.planned.PlanError.{PlanError}
+use Rattle.ff_plan.specs.declared.planned.PlanNode.{PlanNode}
+use Rattle.ff_plan.specs.declared.planned.PlanNode.TheVariants as node
+use Rattle.ff_plan.specs.Rules.{Planned}
+use Rattle.ff_plan.specs.Today.{planned_today}
+use Rattle.ff_files.specs.Works.{Meaning}
+use Rattle.ff_running.specs.declared.fault.RunFault.{RunFault}
+use Rattle.ff_running.specs.declared.fault.RunFault.TheVariants as run_fault
+use Rattle.ff_running.specs.Kinds.{KindsOf}
+use Rattle.ff_running.specs.Lanes.{lanes_into, lanes_out_of}
+use Rattle.ff_running.specs.Tasks.{idle, first_head, task_of}
+
+-- the lanes at the ports of each node
+abbrev pub ports_by : List Edge → Ports
+ports_by edges = record { ins = lanes_into edges; outs = lanes_out_of edges }
+
+-- the edges at the inputs of a node
+abbrev pub edges_into : List Edge → ℕ → List ℕ
+edges_into edges k = ins_at (ports_by edges) edges k
+
+-- the input that a node cuts or decodes
+abbrev pub Reads : PlanNode → ℕ → Type 0
+Reads (node.Demux i) input = i ≡ input
+Reads (node.Dec at) input = at.input ≡ input
+Reads (node.Graph g) input = ⊥
+Reads (node.Shortest o) input = ⊥
+Reads (node.Enc o j) input = ⊥
+Reads (node.Mux o) input = ⊥
+
+-- inputs below this number are read by nodes before it, as far as they are used
+abbrev pub read_before : ℕ → PlanNode → ℕ
+read_before inputs (node.Demux i) = i
+read_before inputs (node.Dec at) = inputs
+read_before inputs (node.Graph g) = inputs
+read_before inputs (node.Shortest o) = inputs
+read_before inputs (node.Enc o j) = inputs
+read_before inputs (node.Mux o) = inputs
+
+module _ {H : Type 0} (is : KindsOf H) (outputs : List OutputJob) (heads : List H) (bytes : List (List ℕ)) (nodes : List PlanNode) (edges : List Edge) where
+  abbrev pub task_by : Option PlanNode → ℕ → Task
+  task_by None k = idle
+  task_by (Some n) k = task_of is outputs heads bytes (lanes_into edges k) (lanes_out_of edges k) n
+
+  abbrev pub task_at : ℕ → Task
+  task_at k = task_by (slice_get nodes k) k
+
+  -- the streams on all edges
+  abbrev pub solution : ℕ → Flow
+  solution = solve (network task_at (ports_by edges) edges (length nodes))
+
+  -- the stream at the first input of a node
+  abbrev pub stream_into : ℕ → Flow
+  stream_into k = solution (slice_index_or (edges_into edges k) 0 0)
+
+  -- the fault that the streams at its inputs make at a node
+  abbrev pub cause_at : ℕ → Option Fault
+  cause_at k = (task_at k).cause (map solution (edges_into edges k))
+
+  -- the Mux nodes stand last, one for each output
+  abbrev pub mux_node : ℕ → ℕ
+  mux_node o = (length nodes - length outputs) + o
+
+  abbrev pub file_by : Option OutputJob → Option StreamHead → Flow → Option (List ℕ)
+  file_by None coded s = None
+  file_by (Some out) None s = None
+  file_by (Some out) (Some coded) s = is.file out coded s
+
+  abbrev pub text_by : Option OutputJob → Option StreamHead → Flow → List ℕ
+  text_by None coded s = []
+  text_by (Some out) None s = []
+  text_by (Some out) (Some coded) s = is.text out coded s
+
+  -- the file of an output, and the text of which a front is held until it is done
+  abbrev pub file_in : ℕ → Option (List ℕ)
+  file_in o = file_by (slice_get outputs o) (first_head (lanes_into edges (mux_node o))) (stream_into (mux_node o))
+
+  abbrev pub text_in : ℕ → List ℕ
+  text_in o = text_by (slice_get outputs o) (first_head (lanes_into edges (mux_node o))) (stream_into (mux_node o))
+
+  -- a node that is damaged, too long or too large by the streams at its inputs
+  abbrev pub BreaksIn : RunFault → Type 0
+  BreaksIn (run_fault.Damaged input offset) =
+      (k : ℕ) × (n : PlanNode) × (slice_get nodes k ≡ Some n) × Reads n input × (cause_at k ≡ Some (net_fault.Damaged offset))
+  BreaksIn (run_fault.TooLong k before) =
+      (n : PlanNode) × (slice_get nodes k ≡ Some n) × (before ≡ read_before (length heads) n) × (cause_at k ≡ Some net_fault.TooLong)
+  BreaksIn (run_fault.TooLarge output) =
+      (k : ℕ) × (slice_get nodes k ≡ Some (node.Mux output)) × (cause_at k ≡ Some net_fault.TooLarge)
+
+-- inputs below this number come before the fault
+abbrev pub comes_after : RunFault → ℕ
+comes_after (run_fault.Damaged input offset) = input
+comes_after (run_fault.TooLong k before) = before
+comes_after (run_fault.TooLarge output) = 2 ^ 32
+
+module _ {H : Type 0} (is : KindsOf H) (job : Job) where
+  abbrev pub plan_for : List H → Planned Plan
+  plan_for heads = planned_today job (map (λ h. is.stream h ∷ []) heads)
+
+  abbrev pub refusal_of : Planned Plan → Option PlanError
+  refusal_of (Ok plan) = None
+  refusal_of (Err refusal) = Some refusal
+
+  abbrev pub file_of : Planned Plan → List H → List (List ℕ) → ℕ → Option (List ℕ)
+  file_of (Ok plan) heads bytes o = file_in is job.outputs heads bytes plan.nodes plan.edges o
+  file_of (Err refusal) heads bytes o = None
+
+  abbrev pub text_of : Planned Plan → List H → List (List ℕ) → ℕ → List ℕ
+  text_of (Ok plan) heads bytes o = text_in is job.outputs heads bytes plan.nodes plan.edges o
+  text_of (Err refusal) heads bytes o = []
+
+  abbrev pub BreaksBy : Planned Plan → List H → List (List ℕ) → RunFault → Type 0
+  BreaksBy (Ok plan) heads bytes why = BreaksIn is job.outputs heads bytes plan.nodes plan.edges why
+  BreaksBy (Err refusal) heads bytes why = ⊥
+
+  -- all that contracts see of a run of a job's plan
+  abbrev pub means : Meaning H PlanError RunFault
+  means = record {
+    refusal = λ heads. refusal_of (plan_for heads);
+    file = λ heads bytes o. file_of (plan_for heads) heads bytes o;
+    text = λ heads bytes o. text_of (plan_for heads) heads bytes o;
+    Breaks = λ heads bytes why. BreaksBy (plan_for heads) heads bytes why;
+    comes_after = comes_after;
+  }

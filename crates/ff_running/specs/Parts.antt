@@ -1,0 +1,123 @@
+-- The parts of a plan's nodes, and the sources and sinks that are in them or stand aside.
+use Rattle.std.specs.Prelude.{◌≡◌, ◌⊎◌, ℕ, ◌<◌, ◌≤◌, List, [], ◌∷◌, length, replicate, slice_get, Option, None, Some}
+use Rattle.ff_values.specs.declared.head.StreamHead.{StreamHead}
+use Rattle.ff_frame.specs.declared.item.Lane.{Lane}
+use Rattle.ff_frame.specs.declared.item.Lane.TheVariants.{Frames, Packets}
+use Rattle.ff_words.specs.declared.job.OutputJob.{OutputJob}
+use Rattle.ff_edges.specs.declared.edge.Edge.{Edge}
+use Rattle.ff_net.specs.Pasts.{start}
+use Rattle.ff_net.specs.Views.{View}
+use Rattle.ff_plan.specs.declared.planned.PlanNode.{PlanNode}
+use Rattle.ff_plan.specs.declared.planned.PlanNode.TheVariants as node
+use Rattle.ff_files.specs.Works.{AreTold}
+use Rattle.ff_running.specs.Kinds.{KindsOf, IsSourceOf, IsSinkOf}
+use Rattle.ff_running.specs.Lanes.{lanes_into, lanes_out_of}
+use Rattle.ff_running.specs.Tasks.{task_of}
+
+-- ---- what a part can be made of: a head and the lanes at the ports
+
+module _ {H : Type 0} (is : KindsOf H) where
+  pub record FitsDemux (heads : List H) (ins outs : List Lane) (i : ℕ) : Type 0 where
+    pub head : H
+    pub there : slice_get heads i ≡ Some head
+    pub sound : is.IsHead head
+    pub ins_are : ins ≡ []
+    pub outs_are : outs ≡ Packets (is.stream head) ∷ []
+
+  pub record FitsDec (ins outs : List Lane) : Type 0 where
+    pub head : StreamHead
+    pub can : is.CanDecode head
+    pub some : 1 ≤ length outs
+    pub ins_are : ins ≡ Packets head ∷ []
+    pub outs_are : outs ≡ replicate (length outs) (Frames head)
+
+  pub record FitsEnc (ins outs : List Lane) : Type 0 where
+    pub head : StreamHead
+    pub coded : StreamHead
+    pub can : is.CanEncode head coded
+    pub ins_are : ins ≡ Frames head ∷ []
+    pub outs_are : outs ≡ Packets coded ∷ []
+
+  pub record FitsMux (outputs : List OutputJob) (ins outs : List Lane) (o : ℕ) : Type 0 where
+    pub out : OutputJob
+    pub there : slice_get outputs o ≡ Some out
+    pub coded : StreamHead
+    pub can : is.CanMux out coded
+    pub ins_are : ins ≡ Packets coded ∷ []
+    pub outs_are : outs ≡ []
+
+  -- a node with these lanes at its ports
+  abbrev pub IsFitting : List OutputJob → List H → List Lane → List Lane → PlanNode → Type 0
+  IsFitting outputs heads ins outs (node.Demux i) = FitsDemux heads ins outs i
+  IsFitting outputs heads ins outs (node.Dec at) = FitsDec ins outs
+  IsFitting outputs heads ins outs (node.Graph g) = ⊥
+  IsFitting outputs heads ins outs (node.Shortest o) = ⊥
+  IsFitting outputs heads ins outs (node.Enc o j) = FitsEnc ins outs
+  IsFitting outputs heads ins outs (node.Mux o) = FitsMux outputs ins outs o
+
+-- each node by its edges
+abbrev pub AreFitting : {H : Type 0} → KindsOf H → List OutputJob → List H → List Edge → List PlanNode → Type 0
+AreFitting is outputs heads edges nodes =
+    (k : ℕ) (n : PlanNode) → slice_get nodes k ≡ Some n → IsFitting is outputs heads (lanes_into edges k) (lanes_out_of edges k) n
+
+-- ---- which nodes there are
+
+-- the node stands among the first so many
+abbrev pub IsBefore : List PlanNode → ℕ → PlanNode → Type 0
+IsBefore nodes count n = (j : ℕ) × (j < count) × (slice_get nodes j ≡ Some n)
+
+-- First stand the Demux nodes, by the numbers of their inputs, and last the Mux nodes, one for each output.
+pub record AreOrdered (inputs outputs : ℕ) (nodes : List PlanNode) : Type 0 where
+  pub inputs_there : (k i : ℕ) → slice_get nodes k ≡ Some (node.Demux i) → i < inputs
+  pub outputs_there : (k o : ℕ) → slice_get nodes k ≡ Some (node.Mux o) → o < outputs
+  pub rising : (j k i i' : ℕ) → slice_get nodes j ≡ Some (node.Demux i) → slice_get nodes k ≡ Some (node.Demux i') → j < k → i < i'
+  pub first : (j k i : ℕ) (n : PlanNode) → slice_get nodes j ≡ Some (node.Demux i) → slice_get nodes k ≡ Some n → k ≤ j → (i' : ℕ) × (n ≡ node.Demux i')
+  pub muxes_rise : (j k o o' : ℕ) → slice_get nodes j ≡ Some (node.Mux o) → slice_get nodes k ≡ Some (node.Mux o') → j < k → o < o'
+
+-- ---- sources and sinks in their places
+
+-- one is in its place
+abbrev pub IsAside : {T : Type 0} → List T → List (Option T) → ℕ → Type 0
+IsAside {T} all places i = (x : T) × (slice_get all i ≡ Some x) × (slice_get places i ≡ Some (Some x))
+
+-- and so each
+pub record AllAside {T : Type 0} (all : List T) (places : List (Option T)) : Type 0 where
+  pub count : length places ≡ length all
+  pub each : (i : ℕ) → i < length all → IsAside all places i
+
+-- a demuxer has no inputs, a muxer no outputs
+pub record HasEnds (n : PlanNode) (v : View) : Type 0 where
+  pub source : (i : ℕ) → n ≡ node.Demux i → v.in_lanes ≡ []
+  pub sink : (o : ℕ) → n ≡ node.Mux o → v.out_lanes ≡ []
+
+module _ {H S K : Type 0} (is : KindsOf H) (left named : S → Option (List ℕ)) (failed : S → ℕ) (holds called : K → Option (List ℕ)) (faulted : K → ℕ) where
+  -- a part with these lanes at its ports that nothing was done with, as this node of a plan over these sources and sinks
+  pub record IsPart (outputs : List OutputJob) (heads : List H) (srcs : List S) (snks : List K) (ins outs : List Lane) (n : PlanNode) (v : View) : Type 0 where
+    pub in_lanes : v.in_lanes ≡ ins
+    pub out_lanes : v.out_lanes ≡ outs
+    pub sound : v.fault ≡ None
+    pub source : (i : ℕ) (s : S) → n ≡ node.Demux i → slice_get srcs i ≡ Some s → (v.device ≡ named s) × (v.failures ≡ failed s)
+    pub sink : (o : ℕ) (s : K) → n ≡ node.Mux o → slice_get snks o ≡ Some s → (v.device ≡ called s) × (v.failures ≡ faulted s)
+    pub starts : (bytes : List (List ℕ)) → AreTold left holds srcs snks bytes → v.stands (start (task_of is outputs heads bytes ins outs n))
+
+  -- the parts of the first nodes, and all sources and sinks that are in none of them in their places
+  pub record AreParts {M : Type 0} (view : M → View) (outputs : List OutputJob) (heads : List H) (edges : List Edge) (nodes : List PlanNode) (srcs : List S) (snks : List K)
+      (parts : List M) (src_places : List (Option S)) (snk_places : List (Option K)) : Type 0 where
+    pub few : length parts ≤ length nodes
+    pub each : (k : ℕ) (n : PlanNode) (m : M) → slice_get nodes k ≡ Some n → slice_get parts k ≡ Some m
+        → IsPart outputs heads srcs snks (lanes_into edges k) (lanes_out_of edges k) n (view m)
+    pub srcs_aside : (i : ℕ) → i < length srcs → (IsBefore nodes (length parts) (node.Demux i) → ⊥) → IsAside srcs src_places i
+    pub snks_aside : (o : ℕ) → o < length snks → (IsBefore nodes (length parts) (node.Mux o) → ⊥) → IsAside snks snk_places o
+    pub src_count : length src_places ≡ length srcs
+    pub snk_count : length snk_places ≡ length snks
+
+  -- the sources and sinks of parts are back: each that was in one as it is there now, and each other as it was
+  pub record AreBack {M : Type 0} (view : M → View) (nodes : List PlanNode) (parts : List M) (srcs : List S) (snks : List K) (srcs' : List S) (snks' : List K) : Type 0 where
+    pub src_count : length srcs' ≡ length srcs
+    pub snk_count : length snks' ≡ length snks
+    pub sources : (k i : ℕ) (m : M) → slice_get nodes k ≡ Some (node.Demux i) → slice_get parts k ≡ Some m
+        → (s : S) × (slice_get srcs' i ≡ Some s) × IsSourceOf named failed (view m) s
+    pub sinks : (k o : ℕ) (m : M) → slice_get nodes k ≡ Some (node.Mux o) → slice_get parts k ≡ Some m
+        → (s : K) × (slice_get snks' o ≡ Some s) × IsSinkOf is holds called faulted (view m) s
+    pub other_srcs : (i : ℕ) → (IsBefore nodes (length parts) (node.Demux i) → ⊥) → slice_get srcs' i ≡ slice_get srcs i
+    pub other_snks : (o : ℕ) → (IsBefore nodes (length parts) (node.Mux o) → ⊥) → slice_get snks' o ≡ slice_get snks o

@@ -1,0 +1,47 @@
+-- What each node of a plan is there for, by the heads and the bytes of the inputs and the lanes at its ports.
+use Rattle.std.specs.Prelude.{ℕ, false, List, [], ◌∷◌, length, slice_get, slice_index_or, Option, None, Some}
+use Rattle.ff_values.specs.declared.head.StreamHead.{StreamHead}
+use Rattle.ff_frame.specs.declared.item.Lane.{Lane}
+use Rattle.ff_frame.specs.Lanes.{head_of}
+use Rattle.ff_words.specs.declared.job.OutputJob.{OutputJob}
+use Rattle.ff_net.specs.Pasts.{Task, no_events}
+use Rattle.ff_plan.specs.declared.planned.PlanNode.{PlanNode}
+use Rattle.ff_plan.specs.declared.planned.PlanNode.TheVariants as node
+use Rattle.ff_running.specs.Kinds.{KindsOf}
+
+-- that of a node that isn't there
+abbrev pub idle : Task
+idle = record { means = λ ss. []; cause = λ ss. None; source = false; tells = no_events }
+
+-- the head of the stream on the first of some lanes
+abbrev pub first_head : List Lane → Option StreamHead
+first_head [] = None
+first_head (l ∷ ls) = Some (head_of l)
+
+module _ {H : Type 0} (is : KindsOf H) where
+  abbrev pub demux_by : Option H → List ℕ → Task
+  demux_by None bytes = idle
+  demux_by (Some head) bytes = is.demux_task head bytes
+
+  abbrev pub dec_by : Option StreamHead → ℕ → Task
+  dec_by None outputs = idle
+  dec_by (Some head) outputs = is.dec_task head outputs
+
+  abbrev pub enc_by : Option StreamHead → Option StreamHead → Task
+  enc_by None coded = idle
+  enc_by (Some head) None = idle
+  enc_by (Some head) (Some coded) = is.enc_task head coded
+
+  abbrev pub mux_by : Option OutputJob → Option StreamHead → Task
+  mux_by None coded = idle
+  mux_by (Some out) None = idle
+  mux_by (Some out) (Some coded) = is.mux_task out coded
+
+  -- of a node with these lanes at its inputs and at its outputs; graphs and Shortest nodes come later
+  abbrev pub task_of : List OutputJob → List H → List (List ℕ) → List Lane → List Lane → PlanNode → Task
+  task_of outputs heads bytes ins outs (node.Demux i) = demux_by (slice_get heads i) (slice_index_or bytes i [])
+  task_of outputs heads bytes ins outs (node.Dec at) = dec_by (first_head ins) (length outs)
+  task_of outputs heads bytes ins outs (node.Graph g) = idle
+  task_of outputs heads bytes ins outs (node.Shortest o) = idle
+  task_of outputs heads bytes ins outs (node.Enc o j) = enc_by (first_head ins) (first_head outs)
+  task_of outputs heads bytes ins outs (node.Mux o) = mux_by (slice_get outputs o) (first_head ins)

@@ -1,0 +1,183 @@
+// The part of each node of a plan.
+ghost use Rattle.std.specs.Prelude.{◌≡◌, ◌<◌, ◌≤◌, ℕ, List, [], ◌∷◌, length, slice_get, vec_capacity, Option, Some, None, IfSome, IsNone, IfOk, IfErr};
+ghost use Rattle.ff_frame.specs.declared.item.Lane.{Lane};
+ghost use Rattle.ff_frame.specs.declared.item.Lane.TheVariants.{Packets};
+ghost use Rattle.ff_net.specs.Pasts.{start};
+ghost use Rattle.ff_words.specs.declared.job.OutputJob.{OutputJob};
+ghost use Rattle.ff_plan.specs.declared.planned.PlanNode.TheVariants.{Demux as DemuxNode, Mux as MuxNode};
+ghost use Rattle.ff_running.specs.Kinds.{IsNew};
+ghost use Rattle.ff_running.specs.Parts.{FitsDemux, IsFitting, IsAside, IsPart, AreFitting, AreOrdered, AllAside, AreParts};
+ghost use Rattle.ff_running.specs.Lanes.{lanes_into as lanes_into_of, lanes_out_of as lanes_out_of_node};
+ghost use Rattle.ff_plan.specs.declared.planned.PlanNode.{PlanNode};
+
+use crate::kinds::Kinds;
+use crate::lanes::{head_of, lanes_into, lanes_out_of};
+use crate::tables::{put, take};
+use ff_edges::Edge;
+use ff_frame::{Lane, StreamHead};
+use ff_host::{Sink, Source};
+use ff_plan::PlanNode;
+use ff_words::OutputJob;
+use std::alloc::Global;
+
+/// The sources and sinks of a run in their places, by number; a place is empty while a part has what belongs there.
+#[derive(Drop)]
+pub(crate) struct Places<Src: Drop, Snk: Drop> {
+    pub(crate) srcs: Vec<Option<Src>>,
+    pub(crate) snks: Vec<Option<Snk>>,
+}
+
+// The demuxer of an input, over the source in its place.
+fn demuxer_at<K: Kinds<Src, Snk>, Src: Source + Send + Drop, Snk: Sink + Send + Drop>(
+    alloc: Global,
+    input: u32,
+    heads: &[K::Head],
+    srcs: &mut Vec<Option<Src>>,
+) -> Option<K::Part>
+    requires there { (src : Src) × (slice_get srcs.old.items input ≡ Some (Some src)) }
+    requires fits { (ins outs : List Lane) × FitsDemux K.is heads.now ins outs input }
+    ensures made { IfSome result (λ m. (src : Src) → slice_get srcs.old.items input ≡ Some (Some src) → (ins outs : List Lane) → FitsDemux K.is heads.now ins outs input
+        → IsNew ins outs (Src.name src) (Src.faults src) (K.Part.view m)) }
+    ensures starts { IfSome result (λ m. (src : Src) → slice_get srcs.old.items input ≡ Some (Some src) → (head : K.Head) → slice_get heads.now input ≡ Some head
+        → (bytes : List ℕ) → Src.left src ≡ Some bytes → (K.Part.view m).stands (start (K.is.demux_task head bytes))) }
+    ensures back { IsNone result → (w : ℕ) → slice_get srcs.new.items w ≡ slice_get srcs.old.items w }
+    ensures kept { (w : ℕ) → (w ≡ input → ⊥) → slice_get srcs.new.items w ≡ slice_get srcs.old.items w }
+    ensures as_many { length srcs.new.items ≡ length srcs.old.items }
+{
+    let place = input as usize;
+    let src = take(srcs, place);
+    match K::demuxer(alloc, input, &heads[place], src) {
+        Ok(part) => Some(part),
+        Err(src) => {
+            put(srcs, place, src);
+            None
+        }
+    }
+}
+
+// The muxer of an output, over the sink in its place.
+fn muxer_at<K: Kinds<Src, Snk>, Src: Source + Send + Drop, Snk: Sink + Send + Drop>(
+    alloc: Global,
+    output: u32,
+    outputs: &[OutputJob],
+    coded: &StreamHead,
+    snks: &mut Vec<Option<Snk>>,
+) -> Option<K::Part>
+    requires there { (snk : Snk) × (slice_get snks.old.items output ≡ Some (Some snk)) }
+    requires fits { (out : OutputJob) × (slice_get outputs.now output ≡ Some out) × K.is.CanMux out coded.now }
+    ensures made { IfSome result (λ m. (snk : Snk) → slice_get snks.old.items output ≡ Some (Some snk)
+        → IsNew (Packets coded.now ∷ []) [] (Snk.name snk) (Snk.faults snk) (K.Part.view m)) }
+    ensures starts { IfSome result (λ m. (snk : Snk) → slice_get snks.old.items output ≡ Some (Some snk) → (out : OutputJob) → slice_get outputs.now output ≡ Some out
+        → Snk.holds snk ≡ Some [] → (K.Part.view m).stands (start (K.is.mux_task out coded.now))) }
+    ensures back { IsNone result → (w : ℕ) → slice_get snks.new.items w ≡ slice_get snks.old.items w }
+    ensures kept { (w : ℕ) → (w ≡ output → ⊥) → slice_get snks.new.items w ≡ slice_get snks.old.items w }
+    ensures as_many { length snks.new.items ≡ length snks.old.items }
+{
+    let place = output as usize;
+    let snk = take(snks, place);
+    match K::muxer(alloc, output, &outputs[place], coded, snk) {
+        Ok(part) => Some(part),
+        Err(snk) => {
+            put(snks, place, snk);
+            None
+        }
+    }
+}
+
+// The part of a node with these lanes at its inputs and outputs. None where memory is refused; then all is in its place.
+fn part_at<K: Kinds<Src, Snk>, Src: Source + Send + Drop, Snk: Sink + Send + Drop>(
+    alloc: Global,
+    node: PlanNode,
+    ins: &[Lane],
+    outs: &[Lane],
+    heads: &[K::Head],
+    outputs: &[OutputJob],
+    places: &mut Places<Src, Snk>,
+) -> Option<K::Part>
+    requires fits { IsFitting K.is outputs.now heads.now ins.now outs.now node }
+    requires source { (i : ℕ) → node ≡ DemuxNode i → (s : Src) × (slice_get places.old.srcs.items i ≡ Some (Some s)) }
+    requires sink { (o : ℕ) → node ≡ MuxNode o → (s : Snk) × (slice_get places.old.snks.items o ≡ Some (Some s)) }
+    ensures made { IfSome result (λ m. (srcs : List Src) (snks : List Snk) → ((i : ℕ) → node ≡ DemuxNode i → IsAside srcs places.old.srcs.items i)
+        → ((o : ℕ) → node ≡ MuxNode o → IsAside snks places.old.snks.items o)
+        → IsPart K.is Src.left Src.name Src.faults Snk.holds Snk.name Snk.faults outputs.now heads.now srcs snks ins.now outs.now node (K.Part.view m)) }
+    ensures srcs_back { IsNone result → (w : ℕ) → slice_get places.new.srcs.items w ≡ slice_get places.old.srcs.items w }
+    ensures snks_back { IsNone result → (w : ℕ) → slice_get places.new.snks.items w ≡ slice_get places.old.snks.items w }
+    ensures srcs_kept { (w : ℕ) → (node ≡ DemuxNode w → ⊥) → slice_get places.new.srcs.items w ≡ slice_get places.old.srcs.items w }
+    ensures snks_kept { (w : ℕ) → (node ≡ MuxNode w → ⊥) → slice_get places.new.snks.items w ≡ slice_get places.old.snks.items w }
+    ensures src_count { length places.new.srcs.items ≡ length places.old.srcs.items }
+    ensures snk_count { length places.new.snks.items ≡ length places.old.snks.items }
+{
+    match node {
+        PlanNode::Demux { input } => {
+            demuxer_at::<K, Src, Snk>(alloc, input, heads, &mut places.srcs)
+        }
+        PlanNode::Dec { .. } => K::decoder(alloc, &head_of(&ins[0]), outs.len()).ok(),
+        PlanNode::Enc { .. } => K::encoder(alloc, &head_of(&ins[0]), &head_of(&outs[0])).ok(),
+        PlanNode::Mux { output } => {
+            let coded = head_of(&ins[0]);
+            muxer_at::<K, Src, Snk>(alloc, output, outputs, &coded, &mut places.snks)
+        }
+        PlanNode::Graph { .. } | PlanNode::Shortest { .. } => unreachable!(),
+    }
+}
+
+// The part of the node of this number, by its edges.
+fn part_of<K: Kinds<Src, Snk>, Src: Source + Send + Drop, Snk: Sink + Send + Drop>(
+    alloc: Global,
+    number: usize,
+    nodes: &[PlanNode],
+    edges: &[Edge],
+    heads: &[K::Head],
+    outputs: &[OutputJob],
+    places: &mut Places<Src, Snk>,
+) -> Option<K::Part>
+    requires there { number < length nodes.now }
+    requires fitting { AreFitting K.is outputs.now heads.now edges.now nodes.now }
+    requires source { (i : ℕ) → slice_get nodes.now number ≡ Some (DemuxNode i) → (s : Src) × (slice_get places.old.srcs.items i ≡ Some (Some s)) }
+    requires sink { (o : ℕ) → slice_get nodes.now number ≡ Some (MuxNode o) → (s : Snk) × (slice_get places.old.snks.items o ≡ Some (Some s)) }
+    ensures made { IfSome result (λ m. (n : PlanNode) → slice_get nodes.now number ≡ Some n → (srcs : List Src) (snks : List Snk)
+        → ((i : ℕ) → n ≡ DemuxNode i → IsAside srcs places.old.srcs.items i) → ((o : ℕ) → n ≡ MuxNode o → IsAside snks places.old.snks.items o)
+        → IsPart K.is Src.left Src.name Src.faults Snk.holds Snk.name Snk.faults outputs.now heads.now srcs snks
+            (lanes_into_of edges.now number) (lanes_out_of_node edges.now number) n (K.Part.view m)) }
+    ensures srcs_back { IsNone result → (w : ℕ) → slice_get places.new.srcs.items w ≡ slice_get places.old.srcs.items w }
+    ensures snks_back { IsNone result → (w : ℕ) → slice_get places.new.snks.items w ≡ slice_get places.old.snks.items w }
+    ensures srcs_kept { (w : ℕ) → (slice_get nodes.now number ≡ Some (DemuxNode w) → ⊥) → slice_get places.new.srcs.items w ≡ slice_get places.old.srcs.items w }
+    ensures snks_kept { (w : ℕ) → (slice_get nodes.now number ≡ Some (MuxNode w) → ⊥) → slice_get places.new.snks.items w ≡ slice_get places.old.snks.items w }
+    ensures src_count { length places.new.srcs.items ≡ length places.old.srcs.items }
+    ensures snk_count { length places.new.snks.items ≡ length places.old.snks.items }
+{
+    let ins = lanes_into(alloc, edges, number).ok()?;
+    let outs = lanes_out_of(alloc, edges, number).ok()?;
+    part_at::<K, Src, Snk>(alloc, nodes[number], &ins, &outs, heads, outputs, places)
+}
+
+/// The parts of all nodes, or where memory is refused those of the nodes in front.
+pub(crate) fn build<K: Kinds<Src, Snk>, Src: Source + Send + Drop, Snk: Sink + Send + Drop>(
+    alloc: Global,
+    nodes: &[PlanNode],
+    edges: &[Edge],
+    heads: &[K::Head],
+    outputs: &[OutputJob],
+    mut parts: Vec<K::Part>,
+    places: &mut Places<Src, Snk>,
+) -> Result<Vec<K::Part>, Vec<K::Part>>
+    requires room { (parts.items ≡ []) × (length nodes.now ≤ vec_capacity parts) }
+    requires fitting { AreFitting K.is outputs.now heads.now edges.now nodes.now }
+    requires ordered { AreOrdered (length places.old.srcs.items) (length places.old.snks.items) nodes.now }
+    requires aside { (srcs : List Src) × (snks : List Snk) × AllAside srcs places.old.srcs.items × AllAside snks places.old.snks.items }
+    ensures all { IfOk result (λ parts. length parts.items ≡ length nodes.now) }
+    ensures ok { IfOk result (λ parts. (srcs : List Src) (snks : List Snk) → AllAside srcs places.old.srcs.items → AllAside snks places.old.snks.items
+        → AreParts K.is Src.left Src.name Src.faults Snk.holds Snk.name Snk.faults K.Part.view outputs.now heads.now edges.now nodes.now srcs snks
+            parts.items places.new.srcs.items places.new.snks.items) }
+    ensures err { IfErr result (λ parts. (srcs : List Src) (snks : List Snk) → AllAside srcs places.old.srcs.items → AllAside snks places.old.snks.items
+        → AreParts K.is Src.left Src.name Src.faults Snk.holds Snk.name Snk.faults K.Part.view outputs.now heads.now edges.now nodes.now srcs snks
+            parts.items places.new.srcs.items places.new.snks.items) }
+{
+    for number in 0..nodes.len() {
+        match part_of::<K, Src, Snk>(alloc, number, nodes, edges, heads, outputs, places) {
+            Some(part) => parts.push_reserved(part),
+            None => return Err(parts),
+        }
+    }
+    Ok(parts)
+}
