@@ -1,6 +1,11 @@
+pub mod Backs
 pub mod Building
+pub mod Gathering
+pub mod Making
 pub mod Moves
 pub mod Networks
 pub mod Numbers
+pub mod Outcomes
 pub mod Places
 pub mod Tally
+pub mod Telling

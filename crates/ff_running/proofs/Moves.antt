@@ -53,8 +53,8 @@ module _ {T M : Type 0} (named : T → Option (List ℕ)) (failed : T → ℕ) (
         was_at = was.1;
         is_at = g.1;
         name = g.2.name ∙ (step.device_same ∙ b.1);
-        same = λ no. to ∙ (step.unfailed no ∙ from);
-        rose = λ yes. subst (λ (n : ℕ). Rose n (failed g.0)) from (subst (λ (n : ℕ). Rose (view old.0).failures n) (sym to) (step.failed b.0 yes));
+        same = λ never. to ∙ (step.unfailed never ∙ from);
+        rose = λ sure. subst (λ (n : ℕ). Rose n (failed g.0)) from (subst (λ (n : ℕ). Rose (view old.0).failures n) (sym to) (step.failed b.0 sure));
       }
 
   -- at a number, whatever the default
@@ -74,7 +74,7 @@ module _ {T M : Type 0} (named : T → Option (List ℕ)) (failed : T → ℕ) (
         let h = moved e b.0 i m.0 b.2 m.1 in
         let at = at_both i m.0 h d in
         ap named at.0 ∙ (h.name ∙ sym (ap named at.1))
-      | inr no ↦ ap named (untouched i d lt (e.other i no))
+      | inr never ↦ ap named (untouched i d lt (e.other i never))
     ];
   }
 
@@ -87,14 +87,14 @@ module _ {T M : Type 0} (named : T → Option (List ℕ)) (failed : T → ℕ) (
       let h = moved e b.0 i m.0 b.2 m.1 in
       let at = at_both i m.0 h d in
       ap failed at.0 ∙ (h.same (quiet b.0 m.0 b.2 m.1) ∙ sym (ap failed at.1))
-    | inr no ↦ ap failed (untouched i d lt (e.other i no))
+    | inr never ↦ ap failed (untouched i d lt (e.other i never))
   ]
 
   -- and one whose part has one has failed once more
   pub has_risen : AreEnds → (k i : ℕ) (m : M) → slice_get nodes k ≡ Some (mk i) → slice_get news k ≡ Some m → (view m).fault ≡ Some Device
       → (i < length all) × ((d : T) → Rose (failed (slice_index_or all i d)) (failed (slice_index_or all' i d)))
-  has_risen e k i m at now yes =
+  has_risen e k i m at now sure =
       let h = moved e k i m at now in
       (e.in_range k i at, λ d.
       let at = at_both i m h d in
-      subst (λ (x : T). Rose (failed x) (failed (slice_index_or all' i d))) (sym at.1) (subst (λ (x : T). Rose (failed h.was) (failed x)) (sym at.0) (h.rose yes)))
+      subst (λ (x : T). Rose (failed x) (failed (slice_index_or all' i d))) (sym at.1) (subst (λ (x : T). Rose (failed h.was) (failed x)) (sym at.0) (h.rose sure)))

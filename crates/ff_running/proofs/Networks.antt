@@ -74,7 +74,7 @@ module _ {M : Type 0} (view : M → View) where
     later = omega arith;
     stays = λ c e. e;
     failed = λ none some. absurd cc;
-    unfailed = λ no. refl;
+    unfailed = λ never. refl;
     behind = λ c e. refl;
   }
 

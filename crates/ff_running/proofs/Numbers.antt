@@ -29,10 +29,10 @@ pub one_below : (P : ℕ → Type 0) → ((j : ℕ) → P j ⊎ (P j → ⊥)) �
 one_below P decide zero = inr (λ b. let lt = b.1 in omega (arith, lt))
 one_below P decide (suc n) = elim (one_below P decide n) [
   | inl b ↦ inl (let lt = b.1 in (b.0, omega (arith, lt), b.2))
-  | inr no ↦ elim (decide n) [
+  | inr never ↦ elim (decide n) [
     | inl here ↦ inl (n, omega arith, here)
     | inr other ↦ inr (λ b. elim (ordered b.0 n) [
-      | inl lt ↦ no (b.0, lt, b.2)
+      | inl lt ↦ never (b.0, lt, b.2)
       | inr r ↦ elim r [ inl e ↦ other (subst P e b.2) | inr over ↦ (let lt = b.1 in absurd (omega (arith, lt, over))) ]
     ])
   ]
@@ -40,7 +40,7 @@ one_below P decide (suc n) = elim (one_below P decide n) [
 
 demux_or : (o : Option PlanNode) (i : ℕ) → (o ≡ Some (node.Demux i)) ⊎ (o ≡ Some (node.Demux i) → ⊥)
 demux_or None i = inr (λ e. cc)
-demux_or (Some (node.Demux j)) i = elim (same_or j i) [ inl e ↦ inl (ap (λ (n : ℕ). Some (node.Demux n)) e) | inr no ↦ inr (λ e. no cc) ]
+demux_or (Some (node.Demux j)) i = elim (same_or j i) [ inl e ↦ inl (ap (λ (n : ℕ). Some (node.Demux n)) e) | inr never ↦ inr (λ e. never cc) ]
 demux_or (Some (node.Dec at)) i = inr (λ e. cc)
 demux_or (Some (node.Graph g)) i = inr (λ e. cc)
 demux_or (Some (node.Shortest o)) i = inr (λ e. cc)
@@ -54,7 +54,7 @@ mux_or (Some (node.Dec at)) o = inr (λ e. cc)
 mux_or (Some (node.Graph g)) o = inr (λ e. cc)
 mux_or (Some (node.Shortest p)) o = inr (λ e. cc)
 mux_or (Some (node.Enc p j)) o = inr (λ e. cc)
-mux_or (Some (node.Mux p)) o = elim (same_or p o) [ inl e ↦ inl (ap (λ (n : ℕ). Some (node.Mux n)) e) | inr no ↦ inr (λ e. no cc) ]
+mux_or (Some (node.Mux p)) o = elim (same_or p o) [ inl e ↦ inl (ap (λ (n : ℕ). Some (node.Mux n)) e) | inr never ↦ inr (λ e. never cc) ]
 
 -- whether an input or an output has its node among the first so many
 pub demux_before : (nodes : List PlanNode) (count i : ℕ) → IsBefore nodes count (node.Demux i) ⊎ (IsBefore nodes count (node.Demux i) → ⊥)

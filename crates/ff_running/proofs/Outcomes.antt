@@ -1,5 +1,5 @@
 -- What a run of a plan's parts comes to, for its sources and sinks.
-use Rattle.std.proofs.Common.{◌≡◌, ◌≢◌, ◌⊎◌, inl, inr, ℕ, zero, suc, ◌+◌, ◌-◌, ◌<◌, ◌≤◌, true, Bool, List, [], ◌∷◌, length, map, slice_get, slice_index_or, Option, Some, None, IsSome, refl, sym, ap, ◌∙◌, subst, arith, tt}
+use Rattle.std.proofs.Common.{◌≡◌, ◌≢◌, ◌⊎◌, inl, inr, ℕ, zero, suc, ◌+◌, ◌-◌, ◌<◌, ◌≤◌, true, Bool, List, [], ◌∷◌, length, map, slice_get, slice_index_or, Option, Some, None, IsSome, refl, sym, ap, ◌∙◌, subst, arith}
 use Rattle.std.proofs.lemmas.Option.{slice_get_within, get_or_from_slice_get}
 use Rattle.ff_host.specs.Causes.{Rose}
 use Rattle.ff_values.specs.declared.head.StreamHead.{StreamHead}
@@ -28,10 +28,11 @@ use Rattle.ff_running.specs.declared.fault.RunFault.{RunFault}
 use Rattle.ff_running.specs.declared.fault.RunFault.TheVariants as run_fault
 use Rattle.ff_running.specs.Kinds.{KindsOf, IsSourceOf, IsSinkOf}
 use Rattle.ff_running.specs.Lanes.{lanes_into, lanes_out_of}
-use Rattle.ff_running.specs.Tasks.{first_head}
+use Rattle.ff_running.specs.Tasks.{first_head, mux_by}
 use Rattle.ff_running.specs.Meaning.{edges_into, read_before, comes_after, task_by, task_at, solution, stream_into, mux_node, file_by, text_by, file_in, text_in, BreaksIn}
 use Rattle.ff_running.specs.Parts.{FitsMux, AreFitting, IsBefore, AreOrdered, AreParts, AreBack}
 use Rattle.ff_running.specs.Runs.{AreRun, TellsRun, device_end, damaged_end, large_end, end_at, end_in, end_with}
+use Rattle.ff_running.proofs.Gathering.{mux_once}
 use Rattle.ff_running.proofs.Moves.{AreEnds, moved, keep_ends, unfailed, has_risen}
 use Rattle.ff_running.proofs.Numbers.{there, same_some, ordered, demux_before, mux_before}
 
@@ -121,7 +122,7 @@ module _ {H S K M : Type 0} (is : KindsOf H) (left named : S → Option (List �
   -- before the fault that is reported, or at it where it is another
   quiet : (f : NodeFault) → fault ≡ Some f → (k : ℕ) (m : M) → (k < f.node) ⊎ ((k ≡ f.node) × (f.fault ≢ Device)) → slice_get news k ≡ Some m → (view m).fault ≢ Some Device
   quiet f e k m (inl lt) at = quiet_at k m Device (run.tells.before f e k m lt at)
-  quiet f e k m (inr h) at = λ yes. h.1 (run.tells.first f e m Device (subst (λ (j : ℕ). slice_get news j ≡ Some m) h.0 at) yes)
+  quiet f e k m (inr h) at = λ sure. h.1 (run.tells.first f e m Device (subst (λ (j : ℕ). slice_get news j ≡ Some m) h.0 at) sure)
 
   -- a Demux node before one that is none, and before one of a greater input
   earlier : (k i : ℕ) (g : ℕ) (n : PlanNode) → slice_get nodes k ≡ Some (node.Demux i) → slice_get nodes g ≡ Some n → IsBehind n → k < g
@@ -169,10 +170,10 @@ module _ {H S K M : Type 0} (is : KindsOf H) (left named : S → Option (List �
   -- ---- sources and sinks that have not failed
 
   sources_below : (count : ℕ) → ((k i : ℕ) (m : M) → i < count → slice_get nodes k ≡ Some (node.Demux i) → slice_get news k ≡ Some m → (view m).fault ≢ Some Device) → FailNoMore failed srcs srcs' count
-  sources_below count no = λ i d lt below. unfailed named failed view node.Demux nodes srcs srcs' olds news source_ends i lt (λ k m at now. no k i m below at now) d
+  sources_below count never = λ i d lt below. unfailed named failed view node.Demux nodes srcs srcs' olds news source_ends i lt (λ k m at now. never k i m below at now) d
 
   sinks_below : (count : ℕ) → ((k o : ℕ) (m : M) → o < count → slice_get nodes k ≡ Some (node.Mux o) → slice_get news k ≡ Some m → (view m).fault ≢ Some Device) → FailNoMore faulted snks snks' count
-  sinks_below count no = λ o d lt below. unfailed called faulted view node.Mux nodes snks snks' olds news sink_ends o lt (λ k m at now. no k o m below at now) d
+  sinks_below count never = λ o d lt below. unfailed called faulted view node.Mux nodes snks snks' olds news sink_ends o lt (λ k m at now. never k o m below at now) d
 
   no_sinks : FailNoMore faulted snks snks' 0
   no_sinks = λ o d lt below. absurd (omega (arith, below))
@@ -191,3 +192,178 @@ module _ {H S K M : Type 0} (is : KindsOf H) (left named : S → Option (List �
     first_source other = sources_below 1 (λ k i m below at now.
         let zero_is = input_zero k i at below in
         quiet f reported k m (elim (ordered k f.node) [ inl lt ↦ inl lt | inr r ↦ elim r [ inl e ↦ inr (e, other) | inr over ↦ absurd (omega (arith, over, zero_is)) ] ]) now)
+
+  -- ---- the end, and which ends came before it
+
+  abbrev pub inputs : ℕ
+  inputs = length heads
+
+  -- a fault that comes of the streams, where these are told
+  BrokenBy : RunFault → Type 0
+  BrokenBy why = (bytes : List (List ℕ)) → claims ≡ true → AreTold left holds srcs snks bytes → BreaksIn is outputs heads bytes nodes edges why
+
+  -- what an end says, by cases
+  Says : WorkEnd RunFault → Type 0
+  Says work_end.Fine = (fault ≡ None) × FailNoMore failed srcs srcs' (length srcs) × FailNoMore faulted snks snks' (length snks)
+  Says (work_end.Input i) = ((i < length srcs) × ((d : S) → Rose (failed (slice_index_or srcs i d)) (failed (slice_index_or srcs' i d)))) × FailNoMore failed srcs srcs' i
+  Says (work_end.Output o) = ((o < length snks) × ((d : K) → Rose (faulted (slice_index_or snks o d)) (faulted (slice_index_or snks' o d)))) × FailNoMore failed srcs srcs' (length srcs) × FailNoMore faulted snks snks' o
+  Says (work_end.Broken why) = BrokenBy why × FailNoMore failed srcs srcs' (comes_after why)
+  Says work_end.NoMemory = FailNoMore failed srcs srcs' 1
+
+  module _ (f : NodeFault) (reported : fault ≡ Some f) where
+    cause_of : IsOfInputs f.fault → (bytes : List (List ℕ)) → claims ≡ true → AreTold left holds srcs snks bytes
+        → (task_at is outputs heads bytes nodes edges f.node).cause (map (solution is outputs heads bytes nodes edges) (edges_into edges f.node)) ≡ Some f.fault
+    cause_of i bytes vouched told = (run.meets vouched bytes told).cause f reported i
+
+    device_says : (n : PlanNode) → slice_get nodes f.node ≡ Some n → f.fault ≡ Device → Says (device_end n)
+    device_says (node.Demux i) at c =
+        let own = run.tells.own f reported (λ never. let both : Device ≡ NoMemory = sym c ∙ never in cc) in
+        (has_risen named failed view node.Demux nodes srcs srcs' olds news source_ends f.node i own.0 at own.1 (own.2 ∙ ap (λ (x : Fault). Some x) c), sources_until f reported i at)
+    device_says (node.Dec s) at c = all_sources f reported (node.Dec s) 1 at (λ i e. cc)
+    device_says (node.Graph g) at c = all_sources f reported (node.Graph g) 1 at (λ i e. cc)
+    device_says (node.Shortest o) at c = all_sources f reported (node.Shortest o) 1 at (λ i e. cc)
+    device_says (node.Enc o j) at c = all_sources f reported (node.Enc o j) 1 at (λ i e. cc)
+    device_says (node.Mux o) at c =
+        let own = run.tells.own f reported (λ never. let both : Device ≡ NoMemory = sym c ∙ never in cc) in
+        (has_risen called faulted view node.Mux nodes snks snks' olds news sink_ends f.node o own.0 at own.1 (own.2 ∙ ap (λ (x : Fault). Some x) c), all_sources f reported (node.Mux o) (length srcs) at (λ i e. cc),
+        sinks_below o (λ k p m below here now. quiet f reported k m (inl (mux_rises k p f.node o here at below)) now))
+
+    damaged_says : (offset : ℕ) (n : PlanNode) → slice_get nodes f.node ≡ Some n → f.fault ≡ Damaged offset → Says (damaged_end offset n)
+    damaged_says offset (node.Demux i) at c =
+        (λ bytes vouched told. (f.node, node.Demux i, at, refl, cause_of (subst IsOfInputs (sym c) tt) bytes vouched told ∙ ap (λ (x : Fault). Some x) c), sources_until f reported i at)
+    damaged_says offset (node.Dec s) at c =
+        (λ bytes vouched told. (f.node, node.Dec s, at, refl, cause_of (subst IsOfInputs (sym c) tt) bytes vouched told ∙ ap (λ (x : Fault). Some x) c), all_sources f reported (node.Dec s) s.input at (λ i e. cc))
+    damaged_says offset (node.Graph g) at c = all_sources f reported (node.Graph g) 1 at (λ i e. cc)
+    damaged_says offset (node.Shortest o) at c = all_sources f reported (node.Shortest o) 1 at (λ i e. cc)
+    damaged_says offset (node.Enc o j) at c = all_sources f reported (node.Enc o j) 1 at (λ i e. cc)
+    damaged_says offset (node.Mux o) at c = all_sources f reported (node.Mux o) 1 at (λ i e. cc)
+
+    large_says : (n : PlanNode) → slice_get nodes f.node ≡ Some n → f.fault ≡ TooLarge → Says (large_end n)
+    large_says (node.Demux i) at c = first_source f reported (λ d. let both : TooLarge ≡ Device = sym c ∙ d in cc)
+    large_says (node.Dec s) at c = all_sources f reported (node.Dec s) 1 at (λ i e. cc)
+    large_says (node.Graph g) at c = all_sources f reported (node.Graph g) 1 at (λ i e. cc)
+    large_says (node.Shortest o) at c = all_sources f reported (node.Shortest o) 1 at (λ i e. cc)
+    large_says (node.Enc o j) at c = all_sources f reported (node.Enc o j) 1 at (λ i e. cc)
+    large_says (node.Mux o) at c =
+        (λ bytes vouched told. (f.node, at, cause_of (subst IsOfInputs (sym c) tt) bytes vouched told ∙ ap (λ (x : Fault). Some x) c), all_sources f reported (node.Mux o) (comes_after (run_fault.TooLarge o)) at (λ i e. cc))
+
+    before_says : (n : PlanNode) → slice_get nodes f.node ≡ Some n → FailNoMore failed srcs srcs' (read_before inputs n)
+    before_says (node.Demux i) at = sources_until f reported i at
+    before_says (node.Dec s) at = all_sources f reported (node.Dec s) inputs at (λ i e. cc)
+    before_says (node.Graph g) at = all_sources f reported (node.Graph g) inputs at (λ i e. cc)
+    before_says (node.Shortest o) at = all_sources f reported (node.Shortest o) inputs at (λ i e. cc)
+    before_says (node.Enc o j) at = all_sources f reported (node.Enc o j) inputs at (λ i e. cc)
+    before_says (node.Mux o) at = all_sources f reported (node.Mux o) inputs at (λ i e. cc)
+
+    node_says : (c : Fault) (n : PlanNode) → slice_get nodes f.node ≡ Some n → f.fault ≡ c → Says (end_at inputs f.node c n)
+    node_says Device n at c = device_says n at c
+    node_says (Damaged offset) n at c = damaged_says offset n at c
+    node_says TooLong n at c =
+        (λ bytes vouched told. (n, at, refl, cause_of (subst IsOfInputs (sym c) tt) bytes vouched told ∙ ap (λ (x : Fault). Some x) c), before_says n at)
+    node_says TooLarge n at c = large_says n at c
+    node_says NoMemory n at c = first_source f reported (λ d. let both : NoMemory ≡ Device = sym c ∙ d in cc)
+
+    none_says : slice_get nodes f.node ≡ None → FailNoMore failed srcs srcs' 1
+    none_says none = sources_below 1 (λ k i m below at now.
+        quiet f reported k m (inl (elim (ordered k f.node) [
+          | inl lt ↦ lt
+          | inr r ↦ absurd (
+            let le : f.node ≤ k = elim r [ inl e ↦ omega (arith, e) | inr over ↦ omega (arith, over) ] in
+            let w = slice_get_within nodes k (node.Demux i) at in
+            let x = there nodes f.node (omega (arith, w, le)) in
+            let both : None ≡ Some x.0 = sym none ∙ x.1 in cc)
+        ])) now)
+
+    some_says : (o : Option PlanNode) → slice_get nodes f.node ≡ o → Says (end_in inputs f.node f.fault o)
+    some_says None at = none_says at
+    some_says (Some n) at = node_says f.fault n at refl
+
+  fault_says : (r : Option NodeFault) → fault ≡ r → Says (end_with inputs nodes r)
+  fault_says None none = (none, sources_below (length srcs) (λ k i m below at now. quiet_at k m Device (run.tells.sound none k m now)), sinks_below (length snks) (λ k o m below at now. quiet_at k m Device (run.tells.sound none k m now)))
+  fault_says (Some f) reported = some_says f reported (slice_get nodes f.node) refl
+
+  -- what holds of the end that is reported
+  pub says : Says (end_with inputs nodes fault)
+  says = fault_says fault refl
+
+  -- ---- what the sinks hold
+
+  module _ (bytes : List (List ℕ)) (vouched : claims ≡ true) (told : AreTold left holds srcs snks bytes) (fitting : AreFitting is outputs heads edges nodes)
+      (muxes : (o : ℕ) → o < length snks → slice_get nodes (mux_node is outputs heads bytes nodes edges o) ≡ Some (node.Mux o)) where
+    -- a Mux node's task, and its output's file and text
+    mux_is : (k o : ℕ) → slice_get nodes k ≡ Some (node.Mux o) → (fits : FitsMux is outputs (lanes_into edges k) (lanes_out_of edges k) o) → task_at is outputs heads bytes nodes edges k ≡ is.mux_task fits.out fits.coded
+    mux_is k o at fits =
+        ap (λ (n : Option PlanNode). task_by is outputs heads bytes nodes edges n k) at
+        ∙ (ap (λ (x : Option OutputJob). mux_by is x (first_head (lanes_into edges k))) fits.there ∙ ap (λ (ls : List Lane). mux_by is (Some fits.out) (first_head ls)) fits.ins_are)
+
+    file_is : (o : ℕ) (fits : FitsMux is outputs (lanes_into edges (mux_node is outputs heads bytes nodes edges o)) (lanes_out_of edges (mux_node is outputs heads bytes nodes edges o)) o)
+        → file_in is outputs heads bytes nodes edges o ≡ is.file fits.out fits.coded (stream_into is outputs heads bytes nodes edges (mux_node is outputs heads bytes nodes edges o))
+    file_is o fits =
+        let k = mux_node is outputs heads bytes nodes edges o in
+        let s = stream_into is outputs heads bytes nodes edges k in
+        ap (λ (x : Option OutputJob). file_by is outputs heads bytes nodes edges x (first_head (lanes_into edges k)) s) fits.there
+        ∙ ap (λ (ls : List Lane). file_by is outputs heads bytes nodes edges (Some fits.out) (first_head ls) s) fits.ins_are
+
+    text_is : (o : ℕ) (fits : FitsMux is outputs (lanes_into edges (mux_node is outputs heads bytes nodes edges o)) (lanes_out_of edges (mux_node is outputs heads bytes nodes edges o)) o)
+        → text_in is outputs heads bytes nodes edges o ≡ is.text fits.out fits.coded (stream_into is outputs heads bytes nodes edges (mux_node is outputs heads bytes nodes edges o))
+    text_is o fits =
+        let k = mux_node is outputs heads bytes nodes edges o in
+        let s = stream_into is outputs heads bytes nodes edges k in
+        ap (λ (x : Option OutputJob). text_by is outputs heads bytes nodes edges x (first_head (lanes_into edges k)) s) fits.there
+        ∙ ap (λ (ls : List Lane). text_by is outputs heads bytes nodes edges (Some fits.out) (first_head ls) s) fits.ins_are
+
+    one_edge : (k : ℕ) (l : Lane) → lanes_into edges k ≡ l ∷ [] → 0 < length (edges_into edges k)
+    one_edge k l e =
+        let count : length (edges_into edges k) ≡ length (lanes_into edges k) = count_ports (edge_to edges k) (length (lanes_into edges k)) in
+        let one : length (lanes_into edges k) ≡ 1 = ap length e in
+        omega (arith, count, one)
+
+    lt_snks : (o : ℕ) → o < length snks' → o < length snks
+    lt_snks o lt = (let c = back.snk_count in omega (arith, lt, c))
+
+    -- without a fault each holds its file
+    pub holds_file : fault ≡ None → HoldFiles holds (file_in is outputs heads bytes nodes edges) snks'
+    holds_file none o d lt =
+        let k = mux_node is outputs heads bytes nodes edges o in
+        let at = muxes o (lt_snks o lt) in
+        let fits = fitting k (node.Mux o) at in
+        let m = there news k (
+            let w = slice_get_within nodes k (node.Mux o) at in
+            let all = run.all none in
+            let many = run.kept.count in
+            omega (arith, w, all, many)) in
+        let sink = back.sinks k o m.0 at m.1 in
+        let fed = (run.meets vouched bytes told).settled none k m.0 m.1 fits.outs_are in
+        let zero_lt = one_edge k (Packets fits.coded) fits.ins_are in
+        let got = fed.got 0 zero_lt in
+        let whole : IsWhole (stream_at fed.past.got 0) = subst (λ (s : Flow). IsWhole s) (sym got) (fed.whole 0 zero_lt) in
+        let held = sink.2.whole fed.past fits.out fits.coded fed.fits (fed.task_is ∙ mux_is k o at fits) (run.tells.sound none k m.0 m.1) whole in
+        let same : is.file fits.out fits.coded (stream_at fed.past.got 0) ≡ file_in is outputs heads bytes nodes edges o = ap (is.file fits.out fits.coded) got ∙ sym (file_is o fits) in
+        let snk : slice_index_or snks' o d ≡ sink.0 = get_or_from_slice_get snks' o sink.0 d sink.1 in
+        (subst (λ (x : Option (List ℕ)). IsSome x) same held.0, ap holds snk ∙ (held.1 ∙ same))
+
+    -- and whatever the fault a front of its text, or its file
+    pub holds_part : ((out : OutputJob) (coded : StreamHead) (held : Option (List ℕ)) (r s : Flow) → LiesBelow (opened r) s → HoldsPart held (is.text out coded r) (is.file out coded r) → HoldsPart held (is.text out coded s) (is.file out coded s))
+        → HoldParts holds (text_in is outputs heads bytes nodes edges) (file_in is outputs heads bytes nodes edges) snks'
+    holds_part holds_on o d lt = elim (mux_before nodes (length news) o) [
+      | inl b ↦
+        let k = mux_node is outputs heads bytes nodes edges o in
+        let at = muxes o (lt_snks o lt) in
+        let fits = fitting k (node.Mux o) at in
+        let here : b.0 ≡ k = mux_once (length srcs) (length snks) nodes order b.0 k o b.2 at in
+        let m = there news k (subst (λ (j : ℕ). j < length news) here b.1) in
+        let sink = back.sinks k o m.0 at m.1 in
+        let fed = (run.meets vouched bytes told).below k m.0 m.1 in
+        let lies = fed.got 0 (one_edge k (Packets fits.coded) fits.ins_are) in
+        let part = sink.2.part fed.past fits.out fits.coded fed.fits (fed.task_is ∙ mux_is k o at fits) in
+        let more = holds_on fits.out fits.coded (holds sink.0) (stream_at fed.past.got 0) (stream_into is outputs heads bytes nodes edges k) lies part in
+        let snk : slice_index_or snks' o d ≡ sink.0 = get_or_from_slice_get snks' o sink.0 d sink.1 in
+        subst (λ (x : K). HoldsPart (holds x) (text_in is outputs heads bytes nodes edges o) (file_in is outputs heads bytes nodes edges o)) (sym snk)
+        (subst (λ (t : List ℕ). HoldsPart (holds sink.0) t (file_in is outputs heads bytes nodes edges o)) (sym (text_is o fits))
+        (subst (λ (x : Option (List ℕ)). HoldsPart (holds sink.0) (is.text fits.out fits.coded (stream_into is outputs heads bytes nodes edges k)) x) (sym (file_is o fits)) more))
+      | inr never ↦
+        let x = there snks o (lt_snks o lt) in
+        let now : slice_index_or snks' o d ≡ x.0 = get_or_from_slice_get snks' o x.0 d (back.other_snks o never ∙ x.1) in
+        let empty : holds (slice_index_or snks' o d) ≡ Some [] = ap holds (now ∙ sym (get_or_from_slice_get snks o x.0 d x.1)) ∙ told.empty o d (lt_snks o lt) in
+        inl ([], text_in is outputs heads bytes nodes edges o, empty, refl)
+    ]

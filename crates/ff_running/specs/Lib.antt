@@ -4,3 +4,5 @@ pub mod Tasks
 pub mod Meaning
 pub mod Parts
 pub mod Runs
+pub mod Claims
+pub mod Rooms

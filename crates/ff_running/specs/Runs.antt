@@ -20,7 +20,7 @@ use Rattle.ff_running.specs.declared.fault.RunFault.TheVariants as run_fault
 use Rattle.ff_running.specs.Kinds.{KindsOf}
 use Rattle.ff_running.specs.Lanes.{lanes_out_of}
 use Rattle.ff_running.specs.Meaning.{edges_into, read_before, task_at, solution, cause_at}
-use Rattle.ff_running.specs.Parts.{AreParts}
+use Rattle.ff_running.specs.Parts.{AreParts, AreBack}
 
 -- ---- the end by the fault that is reported
 
@@ -93,3 +93,15 @@ module _ {H S K : Type 0} (is : KindsOf H) (left named : S → Option (List ℕ)
     pub tells : TellsRun view news fault
     pub meets : claims ≡ true → (bytes : List (List ℕ)) → AreTold left holds srcs snks bytes
         → MeetsStreams view (task_at is outputs heads bytes nodes edges) (solution is outputs heads bytes nodes edges) edges news fault
+
+  -- a plan's nodes were built, run and taken apart: this is the end, and these are the sources and the sinks then
+  pub record IsDone {M : Type 0} (view : M → View) (outputs : List OutputJob) (heads : List H) (edges : List Edge) (nodes : List PlanNode) (srcs : List S) (snks : List K)
+      (claims : Bool) (end : WorkEnd RunFault) (srcs' : List S) (snks' : List K) : Type 0 where
+    pub olds : List M
+    pub news : List M
+    pub src_places : List (Option S)
+    pub snk_places : List (Option K)
+    pub fault : Option NodeFault
+    pub run : AreRun view outputs heads edges nodes srcs snks claims olds news src_places snk_places fault
+    pub back : AreBack is named failed holds called faulted view nodes news srcs snks srcs' snks'
+    pub end_is : end ≡ end_with (length heads) nodes fault

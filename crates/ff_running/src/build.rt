@@ -146,8 +146,12 @@ fn part_of<K: Kinds<Src, Snk>, Src: Source + Send + Drop, Snk: Sink + Send + Dro
     ensures src_count { length places.new.srcs.items ≡ length places.old.srcs.items }
     ensures snk_count { length places.new.snks.items ≡ length places.old.snks.items }
 {
-    let ins = lanes_into(alloc, edges, number).ok()?;
-    let outs = lanes_out_of(alloc, edges, number).ok()?;
+    let Ok(ins) = lanes_into(alloc, edges, number) else {
+        return None;
+    };
+    let Ok(outs) = lanes_out_of(alloc, edges, number) else {
+        return None;
+    };
     part_at::<K, Src, Snk>(alloc, nodes[number], &ins, &outs, heads, outputs, places)
 }
 

@@ -7,6 +7,7 @@ mod fault;
 mod gather;
 mod kinds;
 mod lanes;
+mod run;
 mod tables;
 
 pub use fault::RunFault;

@@ -1,14 +1,16 @@
 // The nodes of a plan: built, run in threads, and taken apart.
-ghost use Rattle.std.specs.Prelude.{◌≡◌, ◌<◌, ◌≤◌, ◌^◌, ℕ, List, Bool, true, length, map, slice_get, vec_capacity, [], None, Some, IfOk};
+ghost use Rattle.std.specs.Prelude.{◌≡◌, ◌<◌, ◌≤◌, ◌^◌, ℕ, List, Bool, true, [], length, map, slice_get, vec_capacity, Option, None, Some, IfOk};
+ghost use Rattle.ff_net.specs.declared.fault.Fault.TheVariants.{NoMemory as NoMemoryFault};
 ghost use Rattle.ff_net.specs.Pasts.{Task};
 ghost use Rattle.ff_network.specs.Fits.{ins_at, outs_at, network, AreFit};
 ghost use Rattle.ff_network.specs.Networks.{Fits, AllStart, ports_of};
 ghost use Rattle.ff_network.specs.Runs.{AllKept, MeetsNetwork};
 ghost use Rattle.ff_files.specs.Works.{AreTold};
 ghost use Rattle.ff_running.specs.Claims.{tell_all};
-ghost use Rattle.ff_running.specs.Meaning.{ports_by, file_in, text_in, BreaksIn, task_at, solution};
-ghost use Rattle.ff_running.specs.Parts.{AreFitting, AreOrdered, AllAside, AreParts, AreBack};
-ghost use Rattle.ff_running.specs.Runs.{TellsRun, MeetsStreams, AreRun, end_with as end_with_of};
+ghost use Rattle.ff_running.specs.Meaning.{ports_by};
+ghost use Rattle.ff_running.specs.Parts.{AreFitting, AreOrdered, AllAside};
+ghost use Rattle.ff_running.specs.Rooms.{HasRoom};
+ghost use Rattle.ff_running.specs.Runs.{TellsRun, AreRun, IsDone};
 
 use crate::build::{Places, build};
 use crate::end::end_with;
@@ -17,7 +19,7 @@ use crate::gather::gather;
 use crate::kinds::Kinds;
 use crate::tables::{listed, tabled};
 use ff_edges::Edge;
-use ff_files::{Done, WorkEnd};
+use ff_files::Done;
 use ff_host::{Sink, Source};
 use ff_link::Claims;
 use ff_net::{Fault, Machine};
@@ -30,7 +32,7 @@ use std::thread::Threads;
 
 // Want of memory before the start.
 fn no_memory() -> Option<NodeFault>
-    ensures { result ≡ Some (record { node = 0; fault = NoMemory }) }
+    ensures { result ≡ Some (record { node = 0; fault = NoMemoryFault }) }
 {
     Some(NodeFault {
         node: 0,
@@ -59,5 +61,123 @@ fn run_parts<C: Claims, R: Threads + Wait + Sync, M: Machine + Send + Drop>(
     match run_network::<C, R, M>(rt, alloc, parts, edges, size) {
         Ok(Ran { machines, fault }) => (machines, fault),
         Err(parts) => (parts, no_memory()),
+    }
+}
+
+// Builds the parts of all nodes, and runs them. Where memory is refused before the start, those that were made are as they were.
+fn build_and_run<
+    C: Claims,
+    K: Kinds<Src, Snk>,
+    R: Threads + Wait + Sync,
+    Src: Source + Send + Drop,
+    Snk: Sink + Send + Drop,
+>(
+    rt: &R,
+    alloc: Global,
+    nodes: &[PlanNode],
+    edges: &[Edge],
+    size: usize,
+    heads: &[K::Head],
+    outputs: &[OutputJob],
+    parts: Vec<K::Part>,
+    places: &mut Places<Src, Snk>,
+) -> (Vec<K::Part>, Option<NodeFault>)
+    requires room { (parts.items ≡ []) × (length nodes.now ≤ vec_capacity parts) }
+    requires few { length nodes.now < 2 ^ 32 }
+    requires size { (1 ≤ size) × (size ≤ 1024) }
+    requires fits { AreFit (ports_by edges.now) (length nodes.now) edges.now }
+    requires fitting { AreFitting K.is outputs.now heads.now edges.now nodes.now }
+    requires ordered { AreOrdered (length places.old.srcs.items) (length places.old.snks.items) nodes.now }
+    requires aside { (srcs : List Src) × (snks : List Snk) × AllAside srcs places.old.srcs.items × AllAside snks places.old.snks.items
+        × (C.claims ≡ true → (bytes : List (List ℕ)) × AreTold Src.left Snk.holds srcs snks bytes) }
+    ensures ran { (srcs : List Src) (snks : List Snk) → AllAside srcs places.old.srcs.items → AllAside snks places.old.snks.items
+        → (olds : List K.Part) × AreRun K.is Src.left Src.name Src.faults Snk.holds Snk.name Snk.faults K.Part.view outputs.now heads.now edges.now nodes.now srcs snks C.claims
+            olds result.0.items places.new.srcs.items places.new.snks.items result.1 }
+{
+    match build::<K, Src, Snk>(alloc, nodes, edges, heads, outputs, parts, places) {
+        Ok(parts) => run_parts::<C, R, K::Part>(rt, alloc, parts, edges, size),
+        Err(parts) => (parts, no_memory()),
+    }
+}
+
+/// Room for the parts of a run, and for the sources and sinks in their places and behind it.
+#[derive(Drop)]
+pub(crate) struct Room<Part: Drop, Src: Drop, Snk: Drop> {
+    parts: Vec<Part>,
+    src_places: Vec<Option<Src>>,
+    snk_places: Vec<Option<Snk>>,
+    srcs: Vec<Src>,
+    snks: Vec<Snk>,
+}
+
+impl<Part: Drop, Src: Drop, Snk: Drop> Room<Part, Src, Snk> {
+    ghost use Rattle.ff_running.specs.Rooms.{HasRoom};
+
+    /// Room for so many of each.
+    pub(crate) fn new(alloc: Global, parts: usize, srcs: usize, snks: usize) -> Result<Self, AllocError>
+        ensures { IfOk result (HasRoom parts srcs snks) }
+    {
+        Ok(Room {
+            parts: Vec::with_capacity(alloc, parts)?,
+            src_places: Vec::with_capacity(alloc, srcs)?,
+            snk_places: Vec::with_capacity(alloc, snks)?,
+            srcs: Vec::with_capacity(alloc, srcs)?,
+            snks: Vec::with_capacity(alloc, snks)?,
+        })
+    }
+}
+
+/// Builds the nodes of a plan over these sources and sinks, runs them in threads, and takes them apart again. `C` says whether
+/// all sources tell what is left and all sinks that they hold nothing.
+pub(crate) fn run_nodes<
+    C: Claims,
+    K: Kinds<Src, Snk>,
+    R: Threads + Wait + Sync,
+    Src: Source + Send + Drop,
+    Snk: Sink + Send + Drop,
+>(
+    rt: &R,
+    alloc: Global,
+    nodes: &[PlanNode],
+    edges: &[Edge],
+    size: usize,
+    heads: &[K::Head],
+    outputs: &[OutputJob],
+    srcs: Vec<Src>,
+    snks: Vec<Snk>,
+    room: Room<K::Part, Src, Snk>,
+) -> Done<RunFault, Src, Snk>
+    requires room { HasRoom (length nodes.now) (length srcs.items) (length snks.items) room }
+    requires few { (length nodes.now < 2 ^ 32) × (length heads.now < 2 ^ 32) }
+    requires size { (1 ≤ size) × (size ≤ 1024) }
+    requires fits { AreFit (ports_by edges.now) (length nodes.now) edges.now }
+    requires fitting { AreFitting K.is outputs.now heads.now edges.now nodes.now }
+    requires ordered { AreOrdered (length srcs.items) (length snks.items) nodes.now }
+    requires told { C.claims ≡ tell_all Src.left Snk.holds srcs.items snks.items }
+    ensures { IsDone K.is Src.left Src.name Src.faults Snk.holds Snk.name Snk.faults K.Part.view outputs.now heads.now edges.now nodes.now srcs.items snks.items C.claims
+        result.end result.srcs.items result.snks.items }
+{
+    let mut places = Places {
+        srcs: tabled(srcs, room.src_places),
+        snks: tabled(snks, room.snk_places),
+    };
+    let (parts, fault) = build_and_run::<C, K, R, Src, Snk>(
+        rt,
+        alloc,
+        nodes,
+        edges,
+        size,
+        heads,
+        outputs,
+        room.parts,
+        &mut places,
+    );
+    let end = end_with(heads.len() as u32, nodes, fault);
+    gather::<K, Src, Snk>(nodes, parts, &mut places);
+    let Places { srcs, snks } = places;
+    Done {
+        end,
+        srcs: listed(srcs, room.srcs),
+        snks: listed(snks, room.snks),
     }
 }

@@ -1,0 +1,65 @@
+-- A part that was made, as the part of its node.
+use Rattle.std.proofs.Common.{◌≡◌, ℕ, List, [], ◌∷◌, length, slice_get, slice_index_or, get_or, Option, Some, None, IfSome, refl, sym, ap, ◌∙◌, subst}
+use Rattle.std.proofs.lemmas.Option.{slice_get_within, get_or_from_slice_get}
+use Rattle.ff_values.specs.declared.head.StreamHead.{StreamHead}
+use Rattle.ff_frame.specs.declared.item.Lane.{Lane}
+use Rattle.ff_frame.specs.declared.item.Lane.TheVariants.{Packets}
+use Rattle.ff_words.specs.declared.job.OutputJob.{OutputJob}
+use Rattle.ff_net.specs.Pasts.{Task, start}
+use Rattle.ff_net.specs.Views.{View}
+use Rattle.ff_plan.specs.declared.planned.PlanNode.TheVariants as node
+use Rattle.ff_files.specs.Works.{AreTold}
+use Rattle.ff_running.specs.Kinds.{KindsOf, IsNew}
+use Rattle.ff_running.specs.Tasks.{first_head, demux_by, mux_by}
+use Rattle.ff_running.specs.Parts.{FitsDemux, FitsMux, IsAside, IsPart}
+use Rattle.ff_running.proofs.Numbers.{same_some}
+
+pub if_both : {A : Type 0} (P Q R : A → Type 0) (o : Option A) → IfSome o P → IfSome o Q → ((x : A) → P x → Q x → R x) → IfSome o R
+if_both P Q R None p q f = tt
+if_both P Q R (Some x) p q f = f x p q
+
+-- the first of one
+pub first_is : {A : Type 0} (xs : List A) (x d : A) → xs ≡ x ∷ [] → get_or xs 0 d ≡ x
+first_is {A} xs x d e = ap (λ (ys : List A). get_or ys 0 d) e
+
+module _ {H S K : Type 0} (is : KindsOf H) (left named : S → Option (List ℕ)) (failed : S → ℕ) (holds called : K → Option (List ℕ)) (faulted : K → ℕ)
+    (outputs : List OutputJob) (heads : List H) (srcs : List S) (snks : List K) (ins outs : List Lane) (v : View) where
+  pub demux_part : (i : ℕ) (fits : FitsDemux is heads ins outs i) (src : S) → slice_get srcs i ≡ Some src → IsNew ins outs (named src) (failed src) v
+      → ((head : H) → slice_get heads i ≡ Some head → (bytes : List ℕ) → left src ≡ Some bytes → v.stands (start (is.demux_task head bytes)))
+      → IsPart is left named failed holds called faulted outputs heads srcs snks ins outs (node.Demux i) v
+  demux_part i fits src at new starts = record {
+    in_lanes = new.in_lanes;
+    out_lanes = new.out_lanes;
+    sound = new.sound;
+    source = λ j s e there.
+        let same : i ≡ j = cc in
+        let is_src : src ≡ s = same_some (slice_get srcs i) src s at (subst (λ (n : ℕ). slice_get srcs n ≡ Some s) (sym same) there) in
+        (new.device_is ∙ ap named is_src, new.failures_are ∙ ap failed is_src);
+    sink = λ o s e. absurd cc;
+    starts = λ bytes told.
+        let tells : left src ≡ Some (slice_index_or bytes i []) = ap left (sym (get_or_from_slice_get srcs i src src at)) ∙ told.left_is i src (slice_get_within srcs i src at) in
+        subst (λ (h : Option H). v.stands (start (demux_by is h (slice_index_or bytes i [])))) (sym fits.there) (starts fits.head fits.there (slice_index_or bytes i []) tells);
+  }
+
+  pub mux_part : (o : ℕ) (fits : FitsMux is outputs ins outs o) (coded : StreamHead) → coded ≡ fits.coded → (snk : K) → slice_get snks o ≡ Some snk → IsNew (Packets coded ∷ []) [] (called snk) (faulted snk) v
+      → ((out : OutputJob) → slice_get outputs o ≡ Some out → holds snk ≡ Some [] → v.stands (start (is.mux_task out coded)))
+      → IsPart is left named failed holds called faulted outputs heads srcs snks ins outs (node.Mux o) v
+  mux_part o fits coded e snk at new starts = record {
+    in_lanes = new.in_lanes ∙ (ap (λ (h : StreamHead). Packets h ∷ []) e ∙ sym fits.ins_are);
+    out_lanes = new.out_lanes ∙ sym fits.outs_are;
+    sound = new.sound;
+    source = λ i s e. absurd cc;
+    sink = λ p s e there.
+        let same : o ≡ p = cc in
+        let is_snk : snk ≡ s = same_some (slice_get snks o) snk s at (subst (λ (n : ℕ). slice_get snks n ≡ Some s) (sym same) there) in
+        (new.device_is ∙ ap called is_snk, new.failures_are ∙ ap faulted is_snk);
+    starts = λ bytes told.
+        let tells : holds snk ≡ Some [] = ap holds (sym (get_or_from_slice_get snks o snk snk at)) ∙ told.empty o snk (slice_get_within snks o snk at) in
+        let first : first_head ins ≡ Some coded = ap first_head fits.ins_are ∙ ap (λ (h : StreamHead). Some h) (sym e) in
+        subst (λ (h : Option StreamHead). v.stands (start (mux_by is (slice_get outputs o) h))) (sym first)
+        (subst (λ (x : Option OutputJob). v.stands (start (mux_by is x (Some coded)))) (sym fits.there) (starts fits.out fits.there tells));
+  }
+
+pub if_more : {A : Type 0} (P R : A → Type 0) (o : Option A) → IfSome o P → ((x : A) → P x → R x) → IfSome o R
+if_more P R None p f = tt
+if_more P R (Some x) p f = f x p

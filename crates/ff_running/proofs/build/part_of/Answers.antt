@@ -1,0 +1,54 @@
+use Rattle.std.proofs.Common.{◌≡◌, ℕ, List, slice_get, slice_index_or, Option, Some, refl, sym, ap, ◌∙◌, subst}
+use Rattle.std.proofs.lemmas.Option.{slice_get-get_or}
+use Rattle.ff_frame.specs.declared.item.Lane.{Lane}
+use Rattle.ff_plan.specs.declared.planned.PlanNode.{PlanNode}
+use Rattle.ff_plan.specs.declared.planned.PlanNode.TheVariants as node
+use Rattle.ff_running.specs.Lanes.{lanes_into, lanes_out_of}
+use Rattle.ff_running.specs.Parts.{IsFitting, IsAside, IsPart}
+use Rattle.ff_running.proofs.Making.{if_more}
+use Rattle.ff_running.proofs.Numbers.{same_some}
+use Rattle.ff_running.proofs.build.part_of.Goals as goal
+
+pub part_at-requires-clause-fits : goal.part_at-requires-clause-fits
+part_at-requires-clause-fits g c κs within =
+    let is = g.K.Kinds.is in
+    let x = slice_index_or c.args.nodes.now c.args.number (node.Demux 0) in
+    let at : slice_get c.args.nodes.now c.args.number ≡ Some x = slice_get-get_or c.args.nodes.now c.args.number (node.Demux 0) c.requires.there in
+    let ins : c.deref.result.now ≡ lanes_into c.args.edges.now c.args.number = c.deref.ensures.value ∙ c.in-Ok.ensures in
+    let outs : c.deref-2.result.now ≡ lanes_out_of c.args.edges.now c.args.number = c.deref-2.ensures.value ∙ c.in-Ok-lanes_out_of.ensures in
+    subst (λ (ls : List Lane). IsFitting is c.args.outputs.now c.args.heads.now ls c.deref-2.result.now x) (sym ins)
+    (subst (λ (ls : List Lane). IsFitting is c.args.outputs.now c.args.heads.now (lanes_into c.args.edges.now c.args.number) ls x) (sym outs) (c.requires.fitting c.args.number x at))
+
+pub part_at-requires-clause-source : goal.part_at-requires-clause-source
+part_at-requires-clause-source g c κs within = λ i e.
+    c.requires.source i (slice_get-get_or c.args.nodes.now c.args.number (node.Demux 0) c.requires.there ∙ ap (λ (n : PlanNode). Some n) e)
+
+pub part_at-requires-clause-sink : goal.part_at-requires-clause-sink
+part_at-requires-clause-sink g c κs within = λ o e.
+    c.requires.sink o (slice_get-get_or c.args.nodes.now c.args.number (node.Demux 0) c.requires.there ∙ ap (λ (n : PlanNode). Some n) e)
+
+pub returns-clause-srcs_kept : goal.returns-clause-srcs_kept
+returns-clause-srcs_kept g c = λ w out. c.part_at.ensures.srcs_kept w (λ e. out (slice_get-get_or c.args.nodes.now c.args.number (node.Demux 0) c.requires.there ∙ ap (λ (n : PlanNode). Some n) e))
+
+pub returns-clause-snks_kept : goal.returns-clause-snks_kept
+returns-clause-snks_kept g c = λ w out. c.part_at.ensures.snks_kept w (λ e. out (slice_get-get_or c.args.nodes.now c.args.number (node.Demux 0) c.requires.there ∙ ap (λ (n : PlanNode). Some n) e))
+
+pub returns-clause-made : goal.returns-clause-made
+returns-clause-made g c =
+    let is = g.K.Kinds.is in
+    let S = g.Src.Source in
+    let K = g.Snk.Sink in
+    let view = g.K.Part.Machine.view in
+    let outputs = c.args.outputs.now in
+    let heads = c.args.heads.now in
+    let k = c.args.number in
+    let x = slice_index_or c.args.nodes.now k (node.Demux 0) in
+    let at : slice_get c.args.nodes.now k ≡ Some x = slice_get-get_or c.args.nodes.now k (node.Demux 0) c.requires.there in
+    let ins : c.deref.result.now ≡ lanes_into c.args.edges.now k = c.deref.ensures.value ∙ c.in-Ok.ensures in
+    let outs : c.deref-2.result.now ≡ lanes_out_of c.args.edges.now k = c.deref-2.ensures.value ∙ c.in-Ok-lanes_out_of.ensures in
+    if_more _ _ c.part_at.result c.part_at.ensures.made (λ m made n there srcs snks src_aside snk_aside.
+    let same : x ≡ n = same_some (slice_get c.args.nodes.now k) x n at there in
+    let part = made srcs snks (λ i e. src_aside i (sym same ∙ e)) (λ o e. snk_aside o (sym same ∙ e)) in
+    subst (λ (z : PlanNode). IsPart is S.left S.name S.faults K.holds K.name K.faults outputs heads srcs snks (lanes_into c.args.edges.now k) (lanes_out_of c.args.edges.now k) z (view m)) same
+    (subst (λ (ls : List Lane). IsPart is S.left S.name S.faults K.holds K.name K.faults outputs heads srcs snks ls (lanes_out_of c.args.edges.now k) x (view m)) ins
+    (subst (λ (ls : List Lane). IsPart is S.left S.name S.faults K.holds K.name K.faults outputs heads srcs snks c.deref.result.now ls x (view m)) outs part)))
