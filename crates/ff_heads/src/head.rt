@@ -16,8 +16,8 @@ pub enum InputHead {
 }
 
 impl InputHead {
-    // What it says of its one stream.
-    fn stream(&self) -> StreamHead
+    /// What it says of its one stream.
+    pub fn stream(&self) -> StreamHead
         ensures { result ≡ stream_in self.now }
     {
         match self {

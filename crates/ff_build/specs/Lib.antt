@@ -1,0 +1,4 @@
+pub mod PartViews
+pub mod PartLaws
+pub mod Parts
+pub mod Takes

@@ -1,0 +1,29 @@
+-- What the nodes of a plan are there for, by the definitions of formats and codecs.
+use Rattle.std.specs.Prelude.{List, ℕ}
+use Rattle.ff_coders.specs.Choices.{CanDecode, CanEncode, frame_made, packet_made}
+use Rattle.ff_coding.specs.Decoding.{dec_task}
+use Rattle.ff_coding.specs.Encoding.{enc_task}
+use Rattle.ff_cuts.specs.AnyCutters.{any_cutter}
+use Rattle.ff_demuxing.specs.Demuxing.{demux_task}
+use Rattle.ff_heads.specs.declared.head.InputHead.{InputHead}
+use Rattle.ff_heads.specs.Heads.{IsHead, stream_in}
+use Rattle.ff_muxing.specs.Muxing.{mux_task, unpatched, file}
+use Rattle.ff_muxing.specs.Outputs.{CanWrite, layout_of}
+use Rattle.ff_running.specs.Kinds.{KindsOf}
+
+-- a demuxer gives an input's packets, a decoder their frames, an encoder packets of frames, and a muxer writes them in the output's
+-- format
+abbrev pub all_kinds : KindsOf InputHead
+all_kinds = record {
+  IsHead = IsHead;
+  stream = stream_in;
+  demux_task = demux_task any_cutter;
+  CanDecode = CanDecode;
+  dec_task = λ head outputs. dec_task (frame_made head) outputs;
+  CanEncode = CanEncode;
+  enc_task = λ head coded. enc_task (packet_made coded);
+  CanMux = λ out coded. CanWrite out.format coded;
+  mux_task = λ out coded. mux_task (layout_of out.format out.hash coded);
+  file = λ out coded s. file (layout_of out.format out.hash coded) s;
+  text = λ out coded s. unpatched (layout_of out.format out.hash coded) s;
+}

@@ -1,0 +1,17 @@
+//! The nodes of a plan: parts of any kind, each built from the heads at its edges.
+//!
+//! ```text
+//!  InputHead ──► Demux ── packets ──► Dec ── frames ──► Enc ── packets ──► Mux ──► the bytes of an output
+//!     AnyCut ──────┘     AnyDecoder ───┘   AnyEncoder ───┘    AnyWriter ────┘
+//! ```
+//!
+//! A [`Part`] is one of the four machines, over the enum of all formats or codecs that it knows; so a further format or codec is a line
+//! in that enum, and none here. [`Parts`] builds them (`Kinds` of `ff_running`): `specs/Parts` has what each is there for, by the
+//! definitions of its format or codec alone.
+#![tactic(auto)]
+
+mod part;
+mod parts;
+
+pub use part::Part;
+pub use parts::Parts;

@@ -1,0 +1,91 @@
+// The kinds of node, built.
+use crate::part::Part;
+use ff_coders::{decoder_of, encoder_of};
+use ff_coding::{Dec, Enc};
+use ff_demuxing::Demux;
+use ff_heads::InputHead;
+use ff_host::{Sink, Source};
+use ff_muxing::{Mux, writer_of};
+use ff_running::{Ends, Kinds};
+use ff_values::StreamHead;
+use ff_words::OutputJob;
+use std::alloc::{AllocError, Global};
+
+/// The kinds of node of a plan, over any format and codec that is read or written.
+#[derive(Drop)]
+pub struct Parts;
+
+impl<Src: Source + Send + Drop, Snk: Sink + Send + Drop> Kinds<Src, Snk> for Parts {
+    ghost use Rattle.ff_build.specs.Parts.{all_kinds};
+    ghost use Rattle.ff_build.specs.Takes.{heads_decode, heads_encode, heads_are_written};
+    ghost use Rattle.ff_muxing.specs.Held.{held_parts_stay};
+    ghost use Rattle.ff_muxing.specs.Outputs.{layout_of};
+
+    type Head = InputHead;
+    type Part = Part<Src, Snk>;
+
+    ghost is = { all_kinds };
+
+    fn stream(head: &InputHead) -> StreamHead {
+        head.stream()
+    }
+
+    fn demuxer(
+        alloc: Global,
+        input: u32,
+        head: &InputHead,
+        src: Src,
+    ) -> Result<Part<Src, Snk>, Src> {
+        match Demux::new(alloc, input, src, head) {
+            Ok(demux) => Ok(Part::Demux(demux)),
+            Err(src) => Err(src),
+        }
+    }
+
+    fn decoder(
+        alloc: Global,
+        head: &StreamHead,
+        outputs: usize,
+    ) -> Result<Part<Src, Snk>, AllocError> {
+        let dec = Dec::new(alloc, decoder_of(alloc, head), outputs)?;
+        Ok(Part::Dec(dec))
+    }
+
+    fn encoder(
+        alloc: Global,
+        head: &StreamHead,
+        coded: &StreamHead,
+    ) -> Result<Part<Src, Snk>, AllocError> {
+        let enc = Enc::new(alloc, encoder_of(alloc, head, coded), *head)?;
+        Ok(Part::Enc(enc))
+    }
+
+    fn muxer(
+        alloc: Global,
+        _output: u32,
+        out: &OutputJob,
+        coded: &StreamHead,
+        snk: Snk,
+    ) -> Result<Part<Src, Snk>, Snk> {
+        let Ok(writer) = writer_of(alloc, out.format, out.hash, coded) else {
+            return Err(snk);
+        };
+        Ok(Part::Mux(Mux::new(alloc, snk, writer, *coded)))
+    }
+
+    fn into_ends(part: Part<Src, Snk>) -> Ends<Src, Snk> {
+        match part {
+            Part::Demux(m) => Ends::Source(m.into_source()),
+            Part::Dec(_) | Part::Enc(_) => Ends::Neither,
+            Part::Mux(m) => Ends::Sink(m.into_sink()),
+        }
+    }
+
+    ghost decodes = { heads_decode };
+
+    ghost encodes = { heads_encode };
+
+    ghost writes = { heads_are_written };
+
+    ghost holds_on = { λ out coded. held_parts_stay (layout_of out.format out.hash coded) };
+}
