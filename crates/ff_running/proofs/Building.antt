@@ -7,7 +7,7 @@ use Rattle.ff_plan.specs.declared.planned.PlanNode.{PlanNode}
 use Rattle.ff_plan.specs.declared.planned.PlanNode.TheVariants as node
 use Rattle.ff_words.specs.declared.job.OutputJob.{OutputJob}
 use Rattle.ff_running.specs.Kinds.{KindsOf}
-use Rattle.ff_running.specs.Lanes.{lanes_into, lanes_out_of}
+use Rattle.ff_edges.specs.Ports.{lanes_into, lanes_out_of}
 use Rattle.ff_running.specs.Parts.{IsBefore, AreOrdered, IsAside, AllAside, IsPart, AreParts}
 
 pub length_more : {A : Type 0} (xs : List A) (y : A) → length (xs ++ y ∷ []) ≡ length xs + 1

@@ -17,8 +17,9 @@ use Rattle.ff_network.specs.declared.run.NodeFault.{NodeFault}
 use Rattle.ff_network.specs.Fits.{Ports, AreFit, edge_lanes, ins_at, outs_at, part_at, parts_from, network}
 use Rattle.ff_network.specs.Networks.{AllStart, lanes_at, ports_of}
 use Rattle.ff_network.specs.Runs.{AllKept, FedPart, FedAll, MeetsNetwork, TellsFault}
-use Rattle.ff_running.specs.Lanes.{lanes_out_of}
-use Rattle.ff_running.specs.Meaning.{ports_by, edges_into}
+use Rattle.ff_edges.specs.Ports.{lanes_out_of}
+use Rattle.ff_network.specs.Fits.{ports_by}
+use Rattle.ff_running.specs.Meaning.{edges_into}
 use Rattle.ff_running.specs.Runs.{TellsRun, MeetsStreams}
 use Rattle.ff_running.proofs.Numbers.{there, same_some}
 

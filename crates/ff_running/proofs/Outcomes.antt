@@ -27,7 +27,7 @@ use Rattle.ff_files.specs.Works.{AreTold, HoldFiles, HoldParts, HoldsPart, KeepE
 use Rattle.ff_running.specs.declared.fault.RunFault.{RunFault}
 use Rattle.ff_running.specs.declared.fault.RunFault.TheVariants as run_fault
 use Rattle.ff_running.specs.Kinds.{KindsOf, IsSourceOf, IsSinkOf}
-use Rattle.ff_running.specs.Lanes.{lanes_into, lanes_out_of}
+use Rattle.ff_edges.specs.Ports.{lanes_into, lanes_out_of}
 use Rattle.ff_running.specs.Tasks.{first_head, mux_by}
 use Rattle.ff_running.specs.Meaning.{edges_into, read_before, comes_after, task_by, task_at, solution, stream_into, mux_node, file_by, text_by, file_in, text_in, BreaksIn}
 use Rattle.ff_running.specs.Parts.{FitsMux, AreFitting, IsBefore, AreOrdered, AreParts, AreBack}

@@ -6,7 +6,7 @@ use Rattle.std.proofs.lemmas.List.Elements.{filter_map-append}
 use Rattle.ff_frame.specs.declared.item.Lane.{Lane}
 use Rattle.ff_edges.specs.declared.edge.Edge.{Edge}
 use Rattle.ff_edges.specs.Ports.{tally}
-use Rattle.ff_running.specs.Lanes.{lane_of}
+use Rattle.ff_edges.specs.Ports.{lane_of}
 
 pub same_yes : (a b : ℕ) → a ≡ b → (a == b) ≡ true
 same_yes a b e = grind (arith, nat_tests)

@@ -1,5 +1,4 @@
 pub mod Kinds
-pub mod Lanes
 pub mod Tasks
 pub mod Meaning
 pub mod Parts

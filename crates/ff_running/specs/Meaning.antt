@@ -9,7 +9,7 @@ use Rattle.ff_net.specs.declared.fault.Fault.TheVariants as net_fault
 use Rattle.ff_net.specs.Nets.{solve}
 use Rattle.ff_net.specs.Pasts.{Task}
 use Rattle.ff_net.specs.Ways.{Flow}
-use Rattle.ff_network.specs.Fits.{Ports, ins_at, network}
+use Rattle.ff_network.specs.Fits.{ports_by, ins_at, network}
 use Rattle.ff_plan.specs.declared.planned.Plan.{Plan}
 use Rattle.ff_plan.specs.declared.planned.PlanError.{PlanError}
 use Rattle.ff_plan.specs.declared.planned.PlanNode.{PlanNode}
@@ -20,12 +20,8 @@ use Rattle.ff_files.specs.Works.{Meaning}
 use Rattle.ff_running.specs.declared.fault.RunFault.{RunFault}
 use Rattle.ff_running.specs.declared.fault.RunFault.TheVariants as run_fault
 use Rattle.ff_running.specs.Kinds.{KindsOf}
-use Rattle.ff_running.specs.Lanes.{lanes_into, lanes_out_of}
+use Rattle.ff_edges.specs.Ports.{lanes_into, lanes_out_of}
 use Rattle.ff_running.specs.Tasks.{idle, first_head, task_of}
-
--- the lanes at the ports of each node
-abbrev pub ports_by : List Edge → Ports
-ports_by edges = record { ins = lanes_into edges; outs = lanes_out_of edges }
 
 -- the edges at the inputs of a node
 abbrev pub edges_into : List Edge → ℕ → List ℕ

@@ -11,7 +11,7 @@ use Rattle.ff_plan.specs.declared.planned.PlanNode.{PlanNode}
 use Rattle.ff_plan.specs.declared.planned.PlanNode.TheVariants as node
 use Rattle.ff_files.specs.Works.{AreTold}
 use Rattle.ff_running.specs.Kinds.{KindsOf, IsSourceOf, IsSinkOf}
-use Rattle.ff_running.specs.Lanes.{lanes_into, lanes_out_of}
+use Rattle.ff_edges.specs.Ports.{lanes_into, lanes_out_of}
 use Rattle.ff_running.specs.Tasks.{task_of}
 
 -- ---- what a part can be made of: a head and the lanes at the ports

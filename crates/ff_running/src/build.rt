@@ -7,7 +7,7 @@ ghost use Rattle.ff_words.specs.declared.job.OutputJob.{OutputJob};
 ghost use Rattle.ff_plan.specs.declared.planned.PlanNode.TheVariants.{Demux as DemuxNode, Mux as MuxNode};
 ghost use Rattle.ff_running.specs.Kinds.{IsNew};
 ghost use Rattle.ff_running.specs.Parts.{FitsDemux, IsFitting, IsAside, IsPart, AreFitting, AreOrdered, AllAside, AreParts};
-ghost use Rattle.ff_running.specs.Lanes.{lanes_into as lanes_into_of, lanes_out_of as lanes_out_of_node};
+ghost use Rattle.ff_edges.specs.Ports.{lanes_into as lanes_into_of, lanes_out_of as lanes_out_of_node};
 ghost use Rattle.ff_plan.specs.declared.planned.PlanNode.{PlanNode};
 
 use crate::kinds::Kinds;

@@ -3,7 +3,7 @@ ghost use Rattle.std.specs.Prelude.{◌≡◌, IfOk};
 ghost use Rattle.std.specs.List.{filter_map};
 ghost use Rattle.ff_frame.specs.Lanes.{head_of as head_of_lane};
 ghost use Rattle.ff_edges.specs.Ports.{shape_of};
-ghost use Rattle.ff_running.specs.Lanes.{lane_of, lanes_into as lanes_into_of, lanes_out_of as lanes_out_of_node};
+ghost use Rattle.ff_edges.specs.Ports.{lane_of, lanes_into as lanes_into_of, lanes_out_of as lanes_out_of_node};
 
 use ff_edges::{Edge, edges_into, edges_out_of};
 use ff_frame::{Lane, StreamHead};

@@ -7,7 +7,7 @@ ghost use Rattle.ff_network.specs.Networks.{Fits, AllStart, ports_of};
 ghost use Rattle.ff_network.specs.Runs.{AllKept, MeetsNetwork};
 ghost use Rattle.ff_files.specs.Works.{AreTold};
 ghost use Rattle.ff_running.specs.Claims.{tell_all};
-ghost use Rattle.ff_running.specs.Meaning.{ports_by};
+ghost use Rattle.ff_network.specs.Fits.{ports_by};
 ghost use Rattle.ff_running.specs.Parts.{AreFitting, AreOrdered, AllAside};
 ghost use Rattle.ff_running.specs.Rooms.{HasRoom};
 ghost use Rattle.ff_running.specs.Runs.{TellsRun, AreRun, IsDone};

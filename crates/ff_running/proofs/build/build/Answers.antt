@@ -3,7 +3,7 @@ use Rattle.std.proofs.lemmas.Option.{slice_get-get_or}
 use Rattle.std.proofs.lemmas.Grind.{common_steps}
 use Rattle.ff_plan.specs.declared.planned.PlanNode.{PlanNode}
 use Rattle.ff_plan.specs.declared.planned.PlanNode.TheVariants as node
-use Rattle.ff_running.specs.Lanes.{lanes_into, lanes_out_of}
+use Rattle.ff_edges.specs.Ports.{lanes_into, lanes_out_of}
 use Rattle.ff_running.specs.Parts.{AreOrdered, IsPart}
 use Rattle.ff_running.proofs.Numbers.{same_some}
 use Rattle.ff_running.proofs.Building.{no_parts, same_places, source_there, sink_there, next_part}

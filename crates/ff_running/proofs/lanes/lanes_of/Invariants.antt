@@ -1,6 +1,6 @@
 use Rattle.std.proofs.Common.{◌≡◌, take, vec_items}
 use Rattle.std.specs.List.{filter_map}
-use Rattle.ff_running.specs.Lanes.{lane_of}
+use Rattle.ff_edges.specs.Ports.{lane_of}
 use Rattle.ff_running.proofs.lanes.lanes_of.Given as goal
 
 abbrev pub invariant-loop-k : goal.invariant-loop-k
