@@ -1,21 +1,20 @@
-//! The command: its words, its meaning, and the call that does all that the program does.
+//! The call that does all that the program does, for any command.
 //!
-//! `specs/Meaning.antt` says which bytes a command's output holds, as a function of the files before the run: what the
-//! four parts of ff_path come to on the whole of the input, a demuxer, a decoder, an encoder and a muxer.
-//! `specs/Words.antt` says what a command is, and `specs/Answers.antt` when each status comes. [`ffmpeg`] is proved to
-//! keep to them over any host and any log.
+//! ```text
+//! words, files ──► ff_command: read, opened, closed, answered
+//!                       └─ Threaded: planned (ff_plan), built (ff_build), run in threads and gathered (ff_running)
+//! ```
+//!
+//! `specs/Meaning` says what a job means: which bytes each of its outputs holds, as a function of the heads and the bytes of its
+//! inputs. `Command` of ff_command's specs says by that when each answer comes and what stands then. [`ffmpeg`] is proved to keep
+//! to them over any host and any log, whatever the sizes of its queues and the order in which its threads ran.
 #![tactic(auto)]
 
-mod history;
-mod input;
-mod log;
-mod path;
-mod report;
 mod run;
-mod words;
+mod worker;
 
-pub use ff_values::Event;
-pub use history::History;
-pub use log::fault_line;
-pub use report::{FileRef, Line, Report, Status, WordKind, status_number};
+pub use ff_command::{
+    Event, FileRef, History, Line, Report, Status, fault_line, status_number,
+};
+pub use ff_words::WordKind;
 pub use run::ffmpeg;

@@ -5,9 +5,11 @@ use ff_frame::{Bytes, Codec, Item, Pkt, StreamHead, Ticket};
 use ff_host::{Failed, Host, Source};
 use ff_memory_host::{FailAt, HostCall, MemHost, MemSource};
 use ff_net::{Fault, Machine};
-use ff_parts::{Demux, is_long};
+use ff_cuts::AnyCut;
+use ff_demuxing::{Demux, is_long};
+use ff_heads::read_input_head;
 use ff_time::Rational;
-use ff_wav::{WavCut, read_head};
+
 use std::alloc::{AllocError, Global};
 
 // 8-bit samples on one channel at 8,000 a second, a body of 2,500 bytes.
@@ -38,9 +40,9 @@ fn files(alloc: Global) -> Result<Vec<(String, Vec<u8>)>, AllocError> {
 }
 
 // A demuxer of that file, whose calls fail as planned.
-fn demuxer(alloc: Global, plan: Vec<FailAt>) -> Result<Demux<MemSource, WavCut>, AllocError> {
+fn demuxer(alloc: Global, plan: Vec<FailAt>) -> Result<Demux<MemSource, AnyCut>, AllocError> {
     let mut host = MemHost::new(alloc, files(alloc)?, plan)?;
-    let (Ok(src), Ok(head)) = (host.open_source("in"), read_head(&HEAD, false)) else {
+    let (Ok(src), Ok(head)) = (host.open_source("in"), read_input_head(None, &HEAD, false)) else {
         return Err(AllocError);
     };
     match Demux::new(alloc, 7, src, &head) {
@@ -49,7 +51,7 @@ fn demuxer(alloc: Global, plan: Vec<FailAt>) -> Result<Demux<MemSource, WavCut>,
     }
 }
 
-fn next<S: Source + Drop>(demux: &mut Demux<S, WavCut>) -> Given {
+fn next<S: Source + Drop>(demux: &mut Demux<S, AnyCut>) -> Given {
     match demux.pull(0) {
         Ok(Some(Item::Packet(p))) => {
             Given::Packet(p.pts, p.duration, p.pos, p.bytes.as_slice().len())
@@ -66,7 +68,7 @@ const TICKET: Ticket = Ticket {
 };
 
 // What comes with the next ticket, where nothing came before, and there is no room for a second one.
-fn next_allowed<S: Source + Drop>(demux: &mut Demux<S, WavCut>) -> Given {
+fn next_allowed<S: Source + Drop>(demux: &mut Demux<S, AnyCut>) -> Given {
     let before = next(demux);
     let first = demux.allow(TICKET);
     let second = demux.allow(TICKET);

@@ -1,7 +1,6 @@
 use crate::gate_host::GateHost;
 use crate::runs::{HEADER, WORDS, comes_to, host_of, input};
 use ff_host::Host;
-use ff_run::{Line, Status};
 use std::alloc::{AllocError, Global};
 use std::sync::Wait;
 use std::thread::Threads;
@@ -35,7 +34,7 @@ fn is_fine<R: Threads + Wait + Sync, H: Host>(
     alloc: Global,
     host: &mut H,
 ) -> Result<bool, AllocError> {
-    comes_to(rt, alloc, &WORDS, host, Status::Fine, Line::NotDue)
+    comes_to(rt, alloc, &WORDS, host, 0, "")
 }
 
 #[test]

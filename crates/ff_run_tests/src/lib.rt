@@ -1,9 +1,8 @@
 //! Tests of the command and its parts that no table of ff_rows can say: answers as values, a log that fails, a large input,
-//! a source that waits for the sink, and each part by itself. The expected bytes come from the formats' rules and from `sha256sum`, never from the program.
+//! a source that waits for the sink, two sources that wait for each other, and a demuxer by itself. The expected bytes come from the
+//! formats' rules and from `sha256sum`, never from the program.
 #![tactic(auto)]
 
-#[cfg(test)]
-mod coders;
 #[cfg(test)]
 mod demuxers;
 #[cfg(test)]
@@ -15,7 +14,9 @@ mod large;
 #[cfg(test)]
 mod lines;
 #[cfg(test)]
-mod muxers;
+mod many;
+#[cfg(test)]
+mod meetings;
 #[cfg(test)]
 mod reports;
 #[cfg(test)]

@@ -1,70 +1,33 @@
-use crate::runs::{WORDS, comes_to, host_of, input, log_of, run};
+use crate::runs::{WORDS, host_of, input, log_of, run};
 use ff_memory_host::{FailAt, HostCall, MemHost};
 use ff_run::{FileRef, Line, Status, WordKind};
 use std::alloc::{AllocError, Global};
 use std::sync::Wait;
 use std::thread::Threads;
 
-// Whether the one command on an input of these bytes comes to this status and line.
-fn on_input<R: Threads + Wait + Sync>(
-    rt: &R,
-    alloc: Global,
-    bytes: Vec<u8>,
-    status: Status,
-    line: Line,
-) -> Result<bool, AllocError> {
-    let mut host = host_of(alloc, bytes)?;
-    comes_to(rt, alloc, &WORDS, &mut host, status, line)
-}
-
-#[test]
-fn a_run_that_is_fine(rt: HostRuntime) -> Result<(), AllocError> {
-    let bytes = input(rt.alloc(), b"abc")?;
-    assert!(rt; on_input(&rt, rt.alloc(), bytes, Status::Fine, Line::NotDue)?);
-    Ok(())
-}
-
-#[test]
-fn refused_inputs(rt: HostRuntime) -> Result<(), AllocError> {
-    let unsupported = Status::Unsupported {
-        input: 0,
-        offset: 0,
-    };
-    let damaged = Status::Damaged {
-        input: 0,
-        offset: 13,
-    };
-    let (first, second) = (
-        b"riff".to_vec(rt.alloc())?,
-        b"RIFF....WAVEf".to_vec(rt.alloc())?,
-    );
-    assert!(rt; on_input(&rt, rt.alloc(), first, unsupported, Line::Whole)?);
-    assert!(rt; on_input(&rt, rt.alloc(), second, damaged, Line::Whole)?);
-    Ok(())
-}
-
-// Whether these words over a host without files come to this status, with its line.
-fn on_nothing<R: Threads + Wait + Sync>(
+// The status of these words over a host with this `in.wav`.
+fn status_on<R: Threads + Wait + Sync>(
     rt: &R,
     alloc: Global,
     texts: &[&str],
-    status: Status,
-) -> Result<bool, AllocError> {
-    let mut host = MemHost::new(alloc, Vec::new(alloc), Vec::new(alloc))?;
-    comes_to(rt, alloc, texts, &mut host, status, Line::Whole)
+    bytes: Vec<u8>,
+) -> Result<Status, AllocError> {
+    let mut host = host_of(alloc, bytes)?;
+    let mut log = log_of(alloc, Vec::new(alloc))?;
+    Ok(run(rt, alloc, texts, &mut host, &mut log)?.status)
 }
 
 #[test]
-fn no_input_and_no_words(rt: HostRuntime) -> Result<(), AllocError> {
-    let missing = Status::Device {
-        file: FileRef::Input(0),
-    };
-    let refused = Status::Words {
-        word: 0,
-        kind: WordKind::UnknownOption,
-    };
-    assert!(rt; on_nothing(&rt, rt.alloc(), &WORDS, missing)?);
-    assert!(rt; on_nothing(&rt, rt.alloc(), &[], refused)?);
+fn statuses(rt: HostRuntime) -> Result<(), AllocError> {
+    let alloc = rt.alloc();
+    let fine = status_on(&rt, alloc, &WORDS, input(alloc, b"abc")?)?;
+    assert!(rt; matches!(fine, Status::Fine));
+    let damaged = status_on(&rt, alloc, &WORDS, b"RIFF....WAVEf".to_vec(alloc)?)?;
+    assert!(rt; matches!(damaged, Status::Damaged { input: 0, offset: 13 }));
+    let missing = status_on(&rt, alloc, &["-i", "no.wav", "o.wav"], Vec::new(alloc))?;
+    assert!(rt; matches!(missing, Status::Device { file: FileRef::Input(0) }));
+    let refused = status_on(&rt, alloc, &[], Vec::new(alloc))?;
+    assert!(rt; matches!(refused, Status::Words { word: 0, kind: WordKind::NoInput }));
     Ok(())
 }
 
@@ -96,7 +59,7 @@ fn logs<R: Threads + Wait + Sync>(
 // The line goes to the log in one append: the first may fail, and a second never comes.
 #[test]
 fn log_failures(rt: HostRuntime) -> Result<(), AllocError> {
-    let text = "ffmpeg: word 0: unknown option\n";
+    let text = "ffmpeg: word 0: no input\n";
     assert!(rt; logs(&rt, rt.alloc(), 1, Line::Failed, "")?);
     assert!(rt; logs(&rt, rt.alloc(), 2, Line::Whole, text)?);
     Ok(())

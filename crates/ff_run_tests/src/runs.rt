@@ -1,12 +1,12 @@
 // What the tests share: inputs, words, and one run of the command.
 use ff_host::Host;
 use ff_memory_host::{FailAt, MemHost, MemSink};
-use ff_run::{Line, Report, Status, ffmpeg};
+use ff_run::{Line, Report, ffmpeg, status_number};
 use std::alloc::{AllocError, Global};
 use std::sync::Wait;
 use std::thread::Threads;
 
-/// The words of the one command.
+/// The words of a command.
 pub const WORDS: [&str; 7] = ["-i", "in.wav", "-c:a", "pcm_u8", "-f", "framehash", "out"];
 
 /// The lines of an output at 8,000 sample frames a second, before those of the packets.
@@ -62,17 +62,23 @@ pub fn run<R: Threads + Wait + Sync, H: Host>(
     Ok(ffmpeg(rt, alloc, &words, host, log))
 }
 
-/// Whether the command of these words over this host comes to this status and this line, with nothing scheduled.
+/// Whether the command of these words over this host comes to this number and logs this text, with nothing scheduled.
 pub fn comes_to<R: Threads + Wait + Sync, H: Host>(
     rt: &R,
     alloc: Global,
     texts: &[&str],
     host: &mut H,
-    status: Status,
-    line: Line,
+    number: u8,
+    text: &str,
 ) -> Result<bool, AllocError> {
     let mut log = log_of(alloc, Vec::new(alloc))?;
     let report = run(rt, alloc, texts, host, &mut log)?;
     let nothing = report.history.events().is_empty() & report.reads.is_empty();
-    Ok(nothing & (report.status == status) & (report.line == line))
+    let line = if text.is_empty() {
+        Line::NotDue
+    } else {
+        Line::Whole
+    };
+    let said = (report.line == line) & (log.bytes() == text.as_bytes());
+    Ok(nothing & said & (status_number(&report.status) == number))
 }

@@ -1,4 +1,0 @@
-pub mod DemuxSteps
-pub mod Limits
-pub mod MapSteps
-pub mod MuxSteps

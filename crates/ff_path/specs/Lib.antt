@@ -1,4 +1,0 @@
-pub mod Chains
-pub mod Links
-pub mod Path
-pub mod PathLaws
