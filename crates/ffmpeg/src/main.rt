@@ -4,8 +4,7 @@
 
 mod words;
 
-ghost use Rattle.std.specs.Prelude.{◌≢◌, []};
-ghost use Rattle.ff_run.specs.Texts.{NamesFile};
+ghost use Rattle.std.specs.Prelude.{◌≢◌};
 
 use ff_file_host::{FileHost, LogSink};
 use ff_host::Sink;
@@ -18,9 +17,8 @@ use words::{WordsEnd, read_words};
 // Logs why the command isn't even called, and answers the number of that status.
 fn refuse(alloc: Global, log: &mut impl Sink, status: &Status) -> u8
     requires due { status.now ≢ Status.Fine }
-    requires named { NamesFile status.now [] }
 {
-    if let Ok(line) = fault_line(alloc, status, &[]) {
+    if let Ok(line) = fault_line(alloc, status, "") {
         let _ = log.append(&line);
     }
     status_number(status)
@@ -29,7 +27,6 @@ fn refuse(alloc: Global, log: &mut impl Sink, status: &Status) -> u8
 // The status of words that couldn't be handed in.
 fn status_of(end: WordsEnd) -> Status
     ensures due { result ≢ Status.Fine }
-    ensures named { NamesFile result [] }
 {
     match end {
         WordsEnd::NotText { word } => Status::Words {
