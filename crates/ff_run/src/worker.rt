@@ -16,6 +16,7 @@ use std::sync::Wait;
 use std::thread::Threads;
 
 /// Each node of a plan in a thread of its own.
+#[derive(Drop)]
 pub(crate) struct Threaded<'a, R: Threads + Wait + Sync> {
     pub(crate) rt: &'a R,
     pub(crate) alloc: Global,
