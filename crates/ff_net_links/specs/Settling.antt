@@ -1,12 +1,15 @@
 -- Nodes whose links are settled.
-use Rattle.std.specs.Prelude.{◌≡◌, ℕ, zero, suc, ◌<◌, ◌⊎◌, List, [], ◌∷◌, length, slice_index_or, map, Option, Some}
+use Rattle.std.specs.Prelude.{◌≡◌, ℕ, zero, suc, ◌<◌, ◌⊎◌, List, [], ◌∷◌, length, slice_index_or, map, Option, None, Some, ◌+◌, ◌≤◌}
 use mathlib.Core.List.{IsPrefix}
 use Rattle.ff_frame.specs.declared.item.Item.{Item}
 use Rattle.ff_frame.specs.declared.item.Lane.{Lane}
 use Rattle.ff_link.specs.Views.{Link, Sending}
+use Rattle.ff_link.specs.declared.answers.Settled.{Settled}
 use Rattle.ff_net.specs.declared.node.Node.{Node}
 use Rattle.ff_net.specs.Pasts.{Task, IsIn}
-use Rattle.ff_net.specs.Nodes.{AreApart, in_wires_of, out_wires_of}
+use Rattle.ff_net.specs.Nodes.{AreApart, IsSound, in_wires_of, machine_of, out_wires_of}
+use Rattle.ff_net.specs.declared.fault.Fault.{Fault}
+use Rattle.ff_net.specs.declared.fault.Fault.TheVariants.{NoMemory}
 use Rattle.ff_net.specs.Views.{View}
 use Rattle.ff_net_links.specs.declared.ends.InEnd.{InEnd}
 use Rattle.ff_net_links.specs.declared.ends.OutEnd.{OutEnd}
@@ -69,17 +72,44 @@ pub record AreLinked {M : Type 0} (links : ℕ → Link) (ls : List (Linked M)) 
 pub record AllEnded {M : Type 0} (ls : List (Linked M)) : Type 0 where
   pub each : (k : ℕ) (d : Linked M) → k < length ls → HasEnded (slice_index_or ls k d)
 
+-- one of these ends sends over the link of this number, by this sender
+abbrev pub IsSenderIn : List (List OutEnd) → ℕ → Sending → Type 0
+IsSenderIn [] w s = ⊥
+IsSenderIn (es ∷ ess) w s = ((q : ℕ) × (q < length es) × ((d : OutEnd) → ((slice_index_or es q d).wire ≡ w) × ((slice_index_or es q d).sender ≡ s))) ⊎ IsSenderIn ess w s
+
 -- each sender in the table is one of these ends', at the number of its link
 pub record IsTable (all : List (List OutEnd)) (links : ℕ → Link) (table : List (Option Sending)) : Type 0 where
-  pub each : (w : ℕ) (d : Option Sending) (s : Sending) → w < length table → slice_index_or table w d ≡ Some s → WasSentIn all w s.sent × (s.link ≡ links w)
+  pub each : (w : ℕ) (d : Option Sending) (s : Sending) → w < length table → slice_index_or table w d ≡ Some s → IsSenderIn all w s × (s.link ≡ links w)
 
 -- an end took the beginning of what one of these ends sent over its link
 abbrev pub IsFed : List (List OutEnd) → InEnd → Type 0
 IsFed all end = (xs : List Item) × IsPrefix (taken_of end) xs × WasSentIn all end.wire xs
 
--- and so did each end of the nodes
-pub record AllFed {M : Type 0} (ls : List (Linked M)) : Type 0 where
-  pub each : (k p : ℕ) (d : Linked M) → k < length ls → p < length (ins_of (slice_index_or ls k d)) → IsFed (ends_of ls) (in_end_at (ins_of (slice_index_or ls k d)) p)
+-- the link of an end that took is settled, with one of these ends as the one that sent
+pub record IsSettled (all : List (List OutEnd)) (settled : List Settled) (end : InEnd) : Type 0 where
+  pub sender : Sending
+  pub is_sender : IsSenderIn all end.wire sender
+  -- what was taken is the beginning of what was sent, and the rest is at most the link's size
+  pub in_order : IsPrefix (taken_of end) sender.sent
+  pub within : length sender.sent ≤ length (taken_of end) + sender.room
+  -- and this is noted at the number of the link
+  pub noted : (d : Settled) → slice_index_or settled end.wire d ≡ record { sent = length sender.sent; taken = length (taken_of end) }
+
+-- and so is that of each end of the nodes
+pub record AllSettled {M : Type 0} (settled : List Settled) (ls : List (Linked M)) : Type 0 where
+  pub each : (k p : ℕ) (d : Linked M) → k < length ls → p < length (ins_of (slice_index_or ls k d)) → IsSettled (ends_of ls) settled (in_end_at (ins_of (slice_index_or ls k d)) p)
+
+-- the fault of a node: its machine's, where that has one, else want of memory, if it was refused memory
+pub record IsFaultOf {M : Type 0} (view : M → View) (node : Node M) (fault : Option Fault) : Type 0 where
+  pub sound : fault ≡ None → IsSound view node
+  pub none : IsSound view node → fault ≡ None
+  pub machine : (c : Fault) → (view (machine_of node)).fault ≡ Some c → fault ≡ Some c
+  pub refused : (view (machine_of node)).fault ≡ None → (IsSound view node → ⊥) → fault ≡ Some NoMemory
+
+-- the faults of nodes, by their numbers
+pub record AreFaultsOf {M : Type 0} (view : M → View) (nodes : List (Node M)) (faults : List (Option Fault)) : Type 0 where
+  pub as_many : length faults ≡ length nodes
+  pub each : (k : ℕ) (d : Node M) (e : Option Fault) → k < length nodes → IsFaultOf view (slice_index_or nodes k d) (slice_index_or faults k e)
 
 -- the table has a sender at this number
 pub record HasSender (table : List (Option Sending)) (w : ℕ) : Type 0 where

@@ -25,5 +25,6 @@ mod worker;
 pub use ends::{InEnd, OutEnd};
 pub use linked::Linked;
 pub use room::Room;
-pub use settling::settle_all;
+pub use ff_link::Settled;
+pub use settling::{Ran, settle_all};
 pub use threads::run_threads;

@@ -1,15 +1,27 @@
 // The memory in which links are settled, taken before the nodes run.
 ghost use Rattle.std.specs.Prelude.{◌≡◌, ◌<◌, ◌≤◌, ℕ, [], length, slice_index_or, vec_capacity, None, IfOk};
-ghost use Rattle.ff_net_links.specs.Rooms.{IsUnused, links_of, most_nodes};
 
-use ff_link::Sender;
+use ff_link::{Sender, Settled};
+use ff_net::Fault;
 use std::alloc::{AllocError, Global};
 
 /// Room for settling the links of so many nodes, numbered below so many.
 #[derive(Drop)]
 pub struct Room<M> {
     table: Vec<Option<Sender>>,
+    settled: Vec<Settled>,
     machines: Vec<M>,
+    faults: Vec<Option<Fault>>,
+    ghost places: { length settled.items ≡ length table.items },
+}
+
+/// The lists of a room.
+#[derive(Drop)]
+pub(crate) struct Lists<M> {
+    pub(crate) table: Vec<Option<Sender>>,
+    pub(crate) settled: Vec<Settled>,
+    pub(crate) machines: Vec<M>,
+    pub(crate) faults: Vec<Option<Fault>>,
 }
 
 // A table without a sender, with so many places.
@@ -24,7 +36,16 @@ fn new_table(alloc: Global, links: usize) -> Result<Vec<Option<Sender>>, AllocEr
     Ok(table)
 }
 
+// Links over which nothing went, so many.
+fn none_settled(alloc: Global, links: usize) -> Result<Vec<Settled>, AllocError>
+    ensures { IfOk result (λ settled. length settled.items ≡ links) }
+{
+    vec![in alloc; Settled { sent: 0, taken: 0 }; links]
+}
+
 impl<M: Drop> Room<M> {
+    ghost use Rattle.ff_net_links.specs.Rooms.{IsUnused, links_of, most_nodes};
+
     /// Room for at least so many nodes, and for links with numbers below this. `Err` where memory is refused.
     pub fn new(alloc: Global, nodes: usize, links: usize) -> Result<Room<M>, AllocError>
         ensures unused { IfOk result (λ r. IsUnused r) }
@@ -32,18 +53,33 @@ impl<M: Drop> Room<M> {
         ensures links { IfOk result (λ r. links_of r ≡ links) }
     {
         let table = new_table(alloc, links)?;
+        let settled = none_settled(alloc, links)?;
         let mut machines = Vec::new(alloc);
         machines.reserve(nodes)?;
-        Ok(Room { table, machines })
+        let mut faults = Vec::new(alloc);
+        faults.reserve(nodes)?;
+        Ok(Room {
+            table,
+            settled,
+            machines,
+            faults,
+        })
     }
 
-    /// The table of senders, and the list for the machines.
-    pub(crate) fn into_parts(self) -> (Vec<Option<Sender>>, Vec<M>)
-        ensures table { IsUnused self → (w : ℕ) (d : _) → w < length result.0.items → slice_index_or result.0.items w d ≡ None }
-        ensures links { length result.0.items ≡ links_of self }
-        ensures machines { IsUnused self → result.1.items ≡ [] }
-        ensures nodes { vec_capacity result.1 ≡ most_nodes self }
+    /// Its lists: of senders by link, of what went over each link, and for the machines and their faults.
+    pub(crate) fn into_lists(self) -> Lists<M>
+        ensures table { IsUnused self → (w : ℕ) (d : _) → w < length result.table.items → slice_index_or result.table.items w d ≡ None }
+        ensures links { length result.table.items ≡ links_of self }
+        ensures places { length result.settled.items ≡ links_of self }
+        ensures machines { IsUnused self → result.machines.items ≡ [] }
+        ensures faults { IsUnused self → result.faults.items ≡ [] }
+        ensures nodes { (most_nodes self ≤ vec_capacity result.machines) × (most_nodes self ≤ vec_capacity result.faults) }
     {
-        (self.table, self.machines)
+        Lists {
+            table: self.table,
+            settled: self.settled,
+            machines: self.machines,
+            faults: self.faults,
+        }
     }
 }

@@ -102,7 +102,7 @@ fn machines_of<R: Threads + Wait + Sync>(
         return None;
     };
     let sound = all_sound(&done);
-    Some((sound, settle_all(done, room)))
+    Some((sound, settle_all(done, room).machines))
 }
 
 /// A chain, run in threads. None where memory is refused.

@@ -75,8 +75,11 @@ pub fn run_net<R: Threads + Wait + Sync, M: Machine + Send + Drop>(
     match run_threads(rt, alloc, nodes) {
         Ok(done) => {
             let fault = first_fault(&done);
-            let machines = settle_all(done, room);
-            Ok(Ran { machines, fault })
+            let ran = settle_all(done, room);
+            Ok(Ran {
+                machines: ran.machines,
+                fault,
+            })
         }
         Err(nodes) => Err(nodes),
     }

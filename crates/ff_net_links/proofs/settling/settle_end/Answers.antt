@@ -1,12 +1,13 @@
-use Rattle.std.proofs.Common.{◌≡◌, ◌<◌, length, List, sym, subst, ◌∙◌, arith, Some, slice_index_or}
+use Rattle.std.proofs.Common.{◌≡◌, ◌≤◌, ◌<◌, ◌+◌, ℕ, length, List, sym, subst, ap, ◌∙◌, arith, Some, slice_index_or, get_or-set_same, get_or-set_other}
 use mathlib.Core.List.{IsPrefix}
 use Rattle.ff_frame.specs.declared.item.Item.{Item}
+use Rattle.ff_link.specs.declared.answers.Settled.{Settled}
 use Rattle.ff_net_links.proofs.Senders.{sender_there, sender_kept}
 use Rattle.ff_net_links.proofs.Tables.{table_set, no_sender, link_ended, taken_ended}
 use Rattle.ff_net_links.proofs.settling.settle_end.Goals as goal
 
-pub settle-settled-requires : goal.settle-settled-requires
-settle-settled-requires c =
+pub settle-requires : goal.settle-requires
+settle-requires c =
     let w = c.args.end.wire in
     let r = c.requires.linked in
     let there : w < length c.args.table.now.items = let no = c.if-wire-len.false in let ok = c.args.table.now.ok.0 in omega arith in
@@ -16,17 +17,9 @@ settle-settled-requires c =
 pub returns-clause-table : goal.returns-clause-table
 returns-clause-table c all links t = table_set all links c.args.table.now.items c.args.end.wire c.take.new.self (λ s e. absurd (no_sender c.take.new.self s c.take.ensures.after e)) t
 
-pub returns-clause-fed : goal.returns-clause-fed
-returns-clause-fed c is all links t =
-    let w = c.args.end.wire in
-    let there : w < length c.args.table.now.items = let no = c.if-wire-len.false in let ok = c.args.table.now.ok.0 in omega arith in
-    let found : slice_index_or c.args.table.now.items w c.index_mut-slot.result.now ≡ Some c.in-Some.sender = sym c.index_mut-slot.ensures.value ∙ (sym c.take.ensures.value ∙ c.in-Some.is) in
-    let same = taken_ended c.args.end c.in-Some-finished.finished c.requires.shut c.in-Some-finished.is in
-    (c.in-Some.sender.sent, subst (λ (xs : List Item). IsPrefix xs c.in-Some.sender.sent) (sym same) c.settle-settled.ensures.in_order, (t.each w c.index_mut-slot.result.now c.in-Some.sender there found).0)
-
 pub returns-clause-kept : goal.returns-clause-kept
 returns-clause-kept c w n h = sender_kept c.args.table.now.items c.args.end.wire w c.take.new.self n h
 
-pub returns-then-wire-len-clause-fed : goal.returns-then-wire-len-clause-fed
-returns-then-wire-len-clause-fed c h =
+pub returns-then-wire-len-clause-settled : goal.returns-then-wire-len-clause-settled
+returns-then-wire-len-clause-settled c h =
     absurd (let there : c.args.end.wire < length c.args.table.now.items = sender_there c.args.table.now.items c.args.end.wire h in let no = c.if-wire-len.true in let ok = c.args.table.now.ok.0 in omega arith)

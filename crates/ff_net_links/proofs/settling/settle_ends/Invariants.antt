@@ -1,13 +1,14 @@
 use Rattle.std.proofs.Common.{◌≡◌, ◌+◌, ◌<◌, ℕ, List, length, slice_index_or, vec_items, vec_len}
 use Rattle.std.specs.Vec.Iter.{into_iter_items, into_iter_len}
 use Rattle.ff_link.specs.Views.{Link}
+use Rattle.ff_link.specs.declared.answers.Settled.{Settled}
 use Rattle.ff_net.specs.Nodes.{AreApart}
 use Rattle.ff_net.specs.Pasts.{IsIn}
 use Rattle.ff_net_links.specs.declared.ends.InEnd.{InEnd}
 use Rattle.ff_net_links.specs.declared.ends.OutEnd.{OutEnd}
 use Rattle.ff_net_links.specs.Ends.{in_end_at}
 use Rattle.ff_net_links.specs.Nodes.{in_ends_wires}
-use Rattle.ff_net_links.specs.Settling.{IsTable, IsFed, HasSender}
+use Rattle.ff_net_links.specs.Settling.{IsTable, IsSettled, HasSender}
 use Rattle.ff_net_links.proofs.settling.settle_ends.Given as goal
 
 abbrev pub invariant-loop-end : goal.invariant-loop-end
@@ -17,5 +18,8 @@ invariant-loop-end l = let rest = l.end-iterator in record {
   table : (all : List (List OutEnd)) (links : ℕ → Link) → IsTable all links l.initial.table.items → IsTable all links l.table.items;
   count : length l.table.items ≡ length l.initial.table.items;
   kept : (w : ℕ) → ((p : ℕ) → p < l.next → (in_end_at (vec_items l.fn.ends) p).wire ≡ w → ⊥) → HasSender l.initial.table.items w → HasSender l.table.items w;
-  fed : AreApart (in_ends_wires (vec_items l.fn.ends)) → ((w : ℕ) → IsIn w (in_ends_wires (vec_items l.fn.ends)) → HasSender l.initial.table.items w) → (all : List (List OutEnd)) (links : ℕ → Link) → IsTable all links l.initial.table.items → (p : ℕ) → p < l.next → IsFed all (in_end_at (vec_items l.fn.ends) p);
+  places : length l.settled.items ≡ length l.initial.settled.items;
+  others : (w : ℕ) (d : Settled) → ((p : ℕ) → p < l.next → (in_end_at (vec_items l.fn.ends) p).wire ≡ w → ⊥) → slice_index_or l.settled.items w d ≡ slice_index_or l.initial.settled.items w d;
+  settled : AreApart (in_ends_wires (vec_items l.fn.ends)) → ((w : ℕ) → IsIn w (in_ends_wires (vec_items l.fn.ends)) → HasSender l.initial.table.items w) → (all : List (List OutEnd)) (links : ℕ → Link) → IsTable all links l.initial.table.items → (p : ℕ) → p < l.next
+      → IsSettled all l.settled.items (in_end_at (vec_items l.fn.ends) p);
 }

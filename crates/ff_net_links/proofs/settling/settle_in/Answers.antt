@@ -9,10 +9,10 @@ use Rattle.ff_net_links.specs.declared.ends.OutEnd.{OutEnd}
 use Rattle.ff_net_links.specs.declared.linked.Linked.{Linked}
 use Rattle.ff_net_links.specs.Ends.{in_end_at, in_link, out_link}
 use Rattle.ff_net_links.specs.Nodes.{HasEnded, in_ends_wires, out_ends_wires, node_of, ins_of, outs_of}
-use Rattle.ff_net_links.specs.Settling.{HasSender, IsFed, WasSentIn, ends_of}
-use Rattle.ff_net_links.proofs.Linking.{count_map}
+use Rattle.ff_net_links.specs.Settling.{HasSender, IsSettled, IsSenderIn, ends_of}
+use Rattle.ff_net_links.proofs.Linking.{count_map, in_member}
 use Rattle.ff_net_links.proofs.Served.{rest_next, first_next, rest_first, each_snoc}
-use Rattle.ff_net_links.proofs.Tables.{at_map, was_sent_at}
+use Rattle.ff_net_links.proofs.Tables.{at_map, is_sender_at, settled_still}
 use Rattle.ff_net_links.proofs.settling.settle_in.Goals as goal
 
 pub loop-linked-init : goal.loop-linked-init
@@ -25,7 +25,8 @@ loop-linked-init g c =
       rest = λ k d below. rest_first _ _ (vec_len c.args.machines) k d c.into_iter-linked-iterator.ensures.into_iter_gives.0 (omega arith);
       machines = λ k d e below. absurd (omega arith);
       table = λ links al. c.requires.table links;
-      fed = λ w links al k p d below plt. absurd (omega arith);
+      places = c.requires.places;
+      settled = λ w links al k p d below plt. absurd (omega arith);
       count = refl;
       senders = λ after j w d below wlt i away. absurd (omega arith);
     }
@@ -92,24 +93,32 @@ loop-linked-preserved g c =
           let qlt : q < length (outs_of l) = subst (λ (es : List OutEnd). q < length es) outs lt in
           let same : slice_index_or (ends_of all) n (outs_of l) ≡ outs_of l = at_map (λ (x : Linked g.row.M.Denot). outs_of x) all n l (outs_of l) there ∙ ap (λ (x : Linked g.row.M.Denot). outs_of x) (sym (here l)) in
           let klt : n < length (ends_of all) = subst (λ (z : ℕ). n < z) (sym (count_map (λ (x : Linked g.row.M.Denot). outs_of x) all)) there in
-          subst (λ (es : List OutEnd). WasSentIn (ends_of all) (slice_index_or es q d).wire (slice_index_or es q d).sender.sent × (out_link (slice_index_or es q d) ≡ Some (links (slice_index_or es q d).wire))) (sym outs) (
-            was_sent_at (ends_of all) (outs_of l) n q d klt same qlt,
+          subst (λ (es : List OutEnd). IsSenderIn (ends_of all) (slice_index_or es q d).wire (slice_index_or es q d).sender × (out_link (slice_index_or es q d) ≡ Some (links (slice_index_or es q d).wire))) (sym outs) (
+            is_sender_at (ends_of all) (outs_of l) n q d klt same qlt,
             subst (λ (x : Linked g.row.M.Denot). out_link (slice_index_or (outs_of x) q d) ≡ Some (links (slice_index_or (outs_of x) q d).wire)) (sym (here l)) (al.outs n q l d there (subst (λ (x : Linked g.row.M.Denot). q < length (outs_of x)) (here l) qlt)),
           ));
-      fed = λ after links al k p d below plt.
+      places = c.settle_ends.ensures.places ∙ (was.places ∙ sym (c.store_ends.ensures.count ∙ c.settle_ends.ensures.count));
+      settled = λ after links al k p d below plt.
+          let mine : ins_of (slice_index_or all n l) ≡ c.into_parts-node.result.1.items = sym (ins ∙ ap (λ (x : Linked g.row.M.Denot). ins_of x) (here l)) in
           elim (same_or_not k n) [
             | inl same ↦
                 let at : slice_index_or all k d ≡ l = ap (λ (z : ℕ). slice_index_or all z d) same ∙ sym (here d) in
                 let plt' : p < length (ins_of l) = subst (λ (x : Linked g.row.M.Denot). p < length (ins_of x)) at plt in
-                let mine : ins_of (slice_index_or all n l) ≡ c.into_parts-node.result.1.items = sym (ins ∙ ap (λ (x : Linked g.row.M.Denot). ins_of x) (here l)) in
                 let senders : (w : ℕ) → IsIn w (in_ends_wires c.into_parts-node.result.1.items) → HasSender c.loop-linked.table.items w = λ w e.
                 let e' : IsIn w (in_ends_wires (ins_of (slice_index_or all n l))) = subst (λ (es : List InEnd). IsIn w (in_ends_wires es)) (sym mine) e in
                 let from = after.earlier n w l there e' in
                 was.senders after from.0 w l from.1 (after.there n w l there e') from.2 (λ i ilt f. let once : i ≡ n = after.once i n w l (omega (arith, ilt, there)) there f e' in omega (arith, ilt, once)) in
-                let fed = c.settle_ends.ensures.fed (subst (λ (es : List InEnd). AreApart (in_ends_wires es)) mine (after.apart n l there)) senders (ends_of all) links (was.table links al) p (subst (λ (es : List InEnd). p < length es) (sym ins) plt') in
-                subst (λ (x : Linked g.row.M.Denot). IsFed (ends_of all) (in_end_at (ins_of x) p)) (sym at)
-                (subst (λ (es : List InEnd). IsFed (ends_of all) (in_end_at es p)) ins fed)
-            | inr other ↦ was.fed after links al k p d (omega (arith, other, below, len)) plt
+                let done = c.settle_ends.ensures.settled (subst (λ (es : List InEnd). AreApart (in_ends_wires es)) mine (after.apart n l there)) senders (ends_of all) links (was.table links al) p (subst (λ (es : List InEnd). p < length es) (sym ins) plt') in
+                subst (λ (x : Linked g.row.M.Denot). IsSettled (ends_of all) c.settle_ends.new.settled.items (in_end_at (ins_of x) p)) (sym at)
+                (subst (λ (es : List InEnd). IsSettled (ends_of all) c.settle_ends.new.settled.items (in_end_at es p)) ins done)
+            | inr other ↦
+                let before : k < n = omega (arith, other, below, len) in
+                let end = in_end_at (ins_of (slice_index_or all k d)) p in
+                let own : IsIn end.wire (in_ends_wires (ins_of (slice_index_or all k d))) = in_member (ins_of (slice_index_or all k d)) p plt in
+                let at : slice_index_or all n d ≡ l = sym (here d) in
+                settled_still (ends_of all) c.loop-linked.settled.items c.settle_ends.new.settled.items end
+                (λ e. c.settle_ends.ensures.others end.wire e (λ i. other (after.once k n end.wire d (omega (arith, before, there)) there own (subst (λ (x : Linked g.row.M.Denot). IsIn end.wire (in_ends_wires (ins_of x))) (sym at) (subst (λ (es : List InEnd). IsIn end.wire (in_ends_wires es)) ins i)))))
+                (was.settled after links al k p d before plt)
           ];
       count = c.store_ends.ensures.count ∙ (c.settle_ends.ensures.count ∙ was.count);
       senders = λ after j w d below wlt i away.
@@ -127,10 +136,10 @@ loop-linked-preserved g c =
           ];
     }
 
-pub returns-clause-fed : goal.returns-clause-fed
-returns-clause-fed g c after = record {
+pub returns-clause-settled : goal.returns-clause-settled
+returns-clause-settled g c after = record {
   each = λ k p d lt plt.
       let was = c.loop-linked.invariant in
       let there : k < vec_len c.loop-linked.machines = let left = was.left in let none = c.in-None.ensures.steps.0 in let ok = c.args.nodes.ok.0 in omega arith in
-      was.fed after c.requires.linked.0 c.requires.linked.1 k p d there plt;
+      was.settled after c.requires.linked.0 c.requires.linked.1 k p d there plt;
 }

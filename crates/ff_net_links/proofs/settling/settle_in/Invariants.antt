@@ -6,7 +6,7 @@ use Rattle.ff_net.specs.Nodes.{machine_of}
 use Rattle.ff_net_links.specs.declared.linked.Linked.{Linked}
 use Rattle.ff_net_links.specs.Ends.{in_end_at}
 use Rattle.ff_net_links.specs.Nodes.{in_ends_wires, out_ends_wires, node_of, ins_of, outs_of}
-use Rattle.ff_net_links.specs.Settling.{HasSender, ComeAfter, IsTable, IsFed, AreLinked, ends_of}
+use Rattle.ff_net_links.specs.Settling.{HasSender, ComeAfter, IsTable, IsSettled, AreLinked, ends_of}
 use Rattle.ff_net_links.proofs.settling.settle_in.Given as goal
 
 abbrev pub invariant-loop-linked : goal.invariant-loop-linked
@@ -18,5 +18,6 @@ invariant-loop-linked g l = let rest = l.linked-iterator in let n = vec_len l.ma
   table : (links : ℕ → Link) → AreLinked links all → IsTable (ends_of all) links l.table.items;
   count : length l.table.items ≡ length l.initial.table.items;
   senders : ComeAfter (length l.initial.table.items) all → (j w : ℕ) (d : Linked g.row.M.Denot) → j < n → w < length l.initial.table.items → IsIn w (out_ends_wires (outs_of (slice_index_or all j d))) → ((k : ℕ) → k < n → IsIn w (in_ends_wires (ins_of (slice_index_or all k d))) → ⊥) → HasSender l.table.items w;
-  fed : ComeAfter (length l.initial.table.items) all → (links : ℕ → Link) → AreLinked links all → (k p : ℕ) (d : Linked g.row.M.Denot) → k < n → p < length (ins_of (slice_index_or all k d)) → IsFed (ends_of all) (in_end_at (ins_of (slice_index_or all k d)) p);
+  places : length l.settled.items ≡ length l.table.items;
+  settled : ComeAfter (length l.initial.table.items) all → (links : ℕ → Link) → AreLinked links all → (k p : ℕ) (d : Linked g.row.M.Denot) → k < n → p < length (ins_of (slice_index_or all k d)) → IsSettled (ends_of all) l.settled.items (in_end_at (ins_of (slice_index_or all k d)) p);
 }

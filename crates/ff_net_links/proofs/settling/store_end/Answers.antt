@@ -1,12 +1,12 @@
 use Rattle.std.proofs.Common.{◌≡◌, subst, Some}
 use Rattle.ff_link.specs.Views.{Sending}
-use Rattle.ff_net_links.specs.Settling.{WasSentIn}
+use Rattle.ff_net_links.specs.Settling.{IsSenderIn}
 use Rattle.ff_net_links.proofs.Senders.{sender_still, sender_stored}
 use Rattle.ff_net_links.proofs.Tables.{table_set}
 use Rattle.ff_net_links.proofs.settling.store_end.Goals as goal
 
 pub returns-clause-table : goal.returns-clause-table
-returns-clause-table c all links t sent link = table_set all links c.args.table.now.items c.args.end.wire (Some c.args.end.sender) (λ s e. let same : c.args.end.sender ≡ s = cc (e) in let on : c.args.end.sender.link ≡ links c.args.end.wire = cc (link) in subst (λ (z : Sending). WasSentIn all c.args.end.wire z.sent × (z.link ≡ links c.args.end.wire)) same (sent, on)) t
+returns-clause-table c all links t sent link = table_set all links c.args.table.now.items c.args.end.wire (Some c.args.end.sender) (λ s e. let same : c.args.end.sender ≡ s = cc (e) in let on : c.args.end.sender.link ≡ links c.args.end.wire = cc (link) in subst (λ (z : Sending). IsSenderIn all c.args.end.wire z × (z.link ≡ links c.args.end.wire)) same (sent, on)) t
 
 pub returns-clause-kept : goal.returns-clause-kept
 returns-clause-kept c w h = sender_still c.args.table.now.items c.args.end.wire w c.args.end.sender h

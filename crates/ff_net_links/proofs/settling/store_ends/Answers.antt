@@ -3,7 +3,7 @@ use Rattle.std.specs.Vec.Iter.{into_iter_len}
 use Rattle.ff_net.proofs.Flows.{same_or_not}
 use Rattle.ff_net_links.specs.declared.ends.OutEnd.{OutEnd}
 use Rattle.ff_net_links.specs.Ends.{out_link}
-use Rattle.ff_net_links.specs.Settling.{HasSender, WasSentIn}
+use Rattle.ff_net_links.specs.Settling.{HasSender, IsSenderIn}
 use Rattle.ff_net_links.proofs.Senders.{out_place_of, some_out}
 use Rattle.ff_net_links.proofs.Served.{rest_next, first_next}
 use Rattle.ff_net_links.proofs.settling.store_ends.Goals as goal
@@ -22,7 +22,7 @@ loop-end-preserved c =
           let more : suc k < into_iter_len c.loop-end.end-iterator = let one = step.1 in omega arith in
           rest_next _ _ ends c.in-Some.end d n k step.0 (was.rest (suc k) d more);
       table = λ all links t h.
-          let mine = subst (λ (e : OutEnd). WasSentIn all e.wire e.sender.sent × (out_link e ≡ Some (links e.wire))) (sym here) (h n c.in-Some.end there) in
+          let mine = subst (λ (e : OutEnd). IsSenderIn all e.wire e.sender × (out_link e ≡ Some (links e.wire))) (sym here) (h n c.in-Some.end there) in
           c.store_end.ensures.table all links (was.table all links t h) mine.0 mine.1;
       count = c.store_end.ensures.count ∙ was.count;
       kept = λ w h. c.store_end.ensures.kept w (was.kept w h);

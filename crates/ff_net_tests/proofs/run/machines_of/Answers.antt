@@ -24,6 +24,6 @@ returns g c = record {
       let ended = ended_after plain_view olds news ran in
       let settled = c.settle_all.ensures in
       let links : links_of c.in-Ok-new.room ≡ 2 = c.in-Ok-new.ensures.links in
-      sink_was_fed c.args.count c.args.limit (byte_lane c.args.tb) news c.settle_all.result.items after ended (c.all_sound-sound.ensures sound)
+      sink_was_fed c.args.count c.args.limit (byte_lane c.args.tb) news c.settle_all.result.machines.items after ended (c.all_sound-sound.ensures sound)
       (λ tasks lanes begun behind meeting le. settled.solved tasks lanes begun behind meeting (subst (λ (n : ℕ). length lanes ≤ n) (sym links) le)) settled.machines;
 }
