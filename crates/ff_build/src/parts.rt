@@ -22,6 +22,7 @@ impl<Src: Source + Send + Drop, Snk: Sink + Send + Drop> Kinds<Src, Snk> for Par
     ghost use Rattle.ff_muxing.specs.Outputs.{layout_of};
 
     type Head = InputHead;
+
     type Part = Part<Src, Snk>;
 
     ghost is = { all_kinds };

@@ -23,8 +23,8 @@ mod threads;
 mod worker;
 
 pub use ends::{InEnd, OutEnd};
+pub use ff_link::Settled;
 pub use linked::Linked;
 pub use room::Room;
-pub use ff_link::Settled;
 pub use settling::{Ran, settle_all};
 pub use threads::run_threads;

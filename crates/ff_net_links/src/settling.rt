@@ -97,7 +97,10 @@ fn store_ends(table: &mut Vec<Option<Sender>>, ends: Vec<OutEnd>)
 }
 
 // The faults of nodes, by their numbers, in a list with room.
-fn note_faults<M: Machine>(nodes: &[Linked<M>], mut faults: Vec<Option<Fault>>) -> Vec<Option<Fault>>
+fn note_faults<M: Machine>(
+    nodes: &[Linked<M>],
+    mut faults: Vec<Option<Fault>>,
+) -> Vec<Option<Fault>>
     requires { (faults.items ≡ []) × (length nodes.now ≤ vec_capacity faults) }
     ensures { AreFaultsOf M.view (nodes_of nodes.now) result.items }
 {

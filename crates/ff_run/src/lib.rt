@@ -13,8 +13,6 @@
 mod run;
 mod worker;
 
-pub use ff_command::{
-    Event, FileRef, History, Line, Report, Status, fault_line, status_number,
-};
+pub use ff_command::{Event, FileRef, History, Line, Report, Status, fault_line, status_number};
 pub use ff_words::WordKind;
 pub use run::ffmpeg;

@@ -22,9 +22,10 @@ pub(crate) struct Threaded<'a, R: Threads + Wait + Sync> {
     pub(crate) alloc: Global,
 }
 
-impl<'a, R: Threads + Wait + Sync, Src: Source + Send + Drop, Snk: Sink + Send + Drop>
-    Worker<Src, Snk> for Threaded<'a, R>
-{
+impl<'a, R: Threads + Wait + Sync, Src: Source + Send + Drop, Snk: Sink + Send + Drop> Worker<
+    Src,
+    Snk,
+> for Threaded<'a, R> {
     type Plan = Plan;
 
     ghost means = { λ worker job. job_means job };

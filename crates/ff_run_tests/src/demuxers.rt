@@ -1,15 +1,14 @@
 // The head is written out by hand from the RIFF WAVE layout.
 ghost use Rattle.std.specs.Prelude.{◌+◌, ◌<◌, ◌≤◌, ◌^◌, length, IfOk};
 
+use ff_cuts::AnyCut;
+use ff_demuxing::{Demux, is_long};
 use ff_frame::{Bytes, Codec, Item, Pkt, StreamHead, Ticket};
+use ff_heads::read_input_head;
 use ff_host::{Failed, Host, Source};
 use ff_memory_host::{FailAt, HostCall, MemHost, MemSource};
 use ff_net::{Fault, Machine};
-use ff_cuts::AnyCut;
-use ff_demuxing::{Demux, is_long};
-use ff_heads::read_input_head;
 use ff_time::Rational;
-
 use std::alloc::{AllocError, Global};
 
 // 8-bit samples on one channel at 8,000 a second, a body of 2,500 bytes.

@@ -23,11 +23,34 @@ fn statuses(rt: HostRuntime) -> Result<(), AllocError> {
     let fine = status_on(&rt, alloc, &WORDS, input(alloc, b"abc")?)?;
     assert!(rt; matches!(fine, Status::Fine));
     let damaged = status_on(&rt, alloc, &WORDS, b"RIFF....WAVEf".to_vec(alloc)?)?;
-    assert!(rt; matches!(damaged, Status::Damaged { input: 0, offset: 13 }));
+    assert!(rt;
+        matches!(
+            damaged,
+            Status::Damaged {
+                input: 0,
+                offset: 13
+            }
+        )
+    );
     let missing = status_on(&rt, alloc, &["-i", "no.wav", "o.wav"], Vec::new(alloc))?;
-    assert!(rt; matches!(missing, Status::Device { file: FileRef::Input(0) }));
+    assert!(rt;
+        matches!(
+            missing,
+            Status::Device {
+                file: FileRef::Input(0)
+            }
+        )
+    );
     let refused = status_on(&rt, alloc, &[], Vec::new(alloc))?;
-    assert!(rt; matches!(refused, Status::Words { word: 0, kind: WordKind::NoInput }));
+    assert!(rt;
+        matches!(
+            refused,
+            Status::Words {
+                word: 0,
+                kind: WordKind::NoInput
+            }
+        )
+    );
     Ok(())
 }
 
