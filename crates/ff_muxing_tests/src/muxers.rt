@@ -16,16 +16,24 @@ use std::alloc::{AllocError, Global};
 type OutMux = Mux<MemSink, AnyWriter>;
 
 // The header of a WAV of 8-bit samples with sizes 0, and of bodies of 0, 3 and 6 bytes.
-const OPEN: &str = "524946460000000057415645666d7420100000000100010044ac000044ac0000010008006461746100000000";
-const OF_0: &str = "524946462400000057415645666d7420100000000100010044ac000044ac0000010008006461746100000000";
-const OF_3: &str = "524946462800000057415645666d7420100000000100010044ac000044ac0000010008006461746103000000";
-const OF_6: &str = "524946462a00000057415645666d7420100000000100010044ac000044ac0000010008006461746106000000";
+const OPEN: &str =
+    "524946460000000057415645666d7420100000000100010044ac000044ac0000010008006461746100000000";
+
+const OF_0: &str =
+    "524946462400000057415645666d7420100000000100010044ac000044ac0000010008006461746100000000";
+
+const OF_3: &str =
+    "524946462800000057415645666d7420100000000100010044ac000044ac0000010008006461746103000000";
+
+const OF_6: &str =
+    "524946462a00000057415645666d7420100000000100010044ac000044ac0000010008006461746106000000";
 
 // The bytes of a packet, `abc`.
 const ABC: &str = "616263";
 
 // The first line of pictures of 2 columns and 1 row, and the line of a frame.
 const PICTURES: &str = "595556344d50454732205732204831204632353a312049702041303a3020436d6f6e6f0a";
+
 const FRAME: &str = "4652414d450a";
 
 fn sound() -> Option<StreamHead>
@@ -153,10 +161,38 @@ fn writes_sound(rt: HostRuntime) -> Result<(), AllocError> {
         (2, false, HostCall::Append, 0, [OF_6, ABC, ABC], None),
         (1, true, HostCall::Append, 0, [OPEN, ABC, ""], None),
         (0, true, HostCall::Append, 0, [OPEN, "", ""], None),
-        (1, false, HostCall::Append, 1, ["", "", ""], Some(Fault::Device)),
-        (1, false, HostCall::Append, 2, [OPEN, "", ""], Some(Fault::Device)),
-        (1, false, HostCall::Append, 3, [OPEN, ABC, ""], Some(Fault::Device)),
-        (1, false, HostCall::Patch, 1, [OPEN, ABC, "00"], Some(Fault::Device)),
+        (
+            1,
+            false,
+            HostCall::Append,
+            1,
+            ["", "", ""],
+            Some(Fault::Device),
+        ),
+        (
+            1,
+            false,
+            HostCall::Append,
+            2,
+            [OPEN, "", ""],
+            Some(Fault::Device),
+        ),
+        (
+            1,
+            false,
+            HostCall::Append,
+            3,
+            [OPEN, ABC, ""],
+            Some(Fault::Device),
+        ),
+        (
+            1,
+            false,
+            HostCall::Patch,
+            1,
+            [OPEN, ABC, "00"],
+            Some(Fault::Device),
+        ),
         (1, true, HostCall::Patch, 1, [OPEN, ABC, ""], None),
     ] {
         let mux = wav(rt.alloc(), sink(rt.alloc(), call, number)?)?;
@@ -177,7 +213,8 @@ fn writes_pictures(rt: HostRuntime) -> Result<(), AllocError> {
 #[test]
 fn writes_digests(rt: HostRuntime) -> Result<(), AllocError> {
     let mux = digests(rt.alloc(), sink(rt.alloc(), HostCall::Append, 2)?)?;
-    let text = "23666f726d61743a206672616d6520636865636b73756d730a2376657273696f6e3a20320a23686173683a204d44350a23746220303a20312f34343130300a236d656469615f7479706520303a20617564696f0a23636f6465635f696420303a2070636d5f75380a2373616d706c655f7261746520303a2034343130300a236368616e6e656c5f6c61796f75745f6e616d6520303a206d6f6e6f0a2373747265616d232c206474732c20202020202020207074732c206475726174696f6e2c202020202073697a652c20686173680a";
+    let text =
+        "23666f726d61743a206672616d6520636865636b73756d730a2376657273696f6e3a20320a23686173683a204d44350a23746220303a20312f34343130300a236d656469615f7479706520303a20617564696f0a23636f6465635f696420303a2070636d5f75380a2373616d706c655f7261746520303a2034343130300a236368616e6e656c5f6c61796f75745f6e616d6520303a206d6f6e6f0a2373747265616d232c206474732c20202020202020207074732c206475726174696f6e2c202020202073697a652c20686173680a";
     let came = leaves(rt.alloc(), mux, 1, false, &[text], Some(Fault::Device))?;
     assert!(rt; came);
     Ok(())
