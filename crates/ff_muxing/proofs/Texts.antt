@@ -18,7 +18,7 @@ use Rattle.ff_net.specs.Ways.{Flow}
 use Rattle.ff_writers.specs.Layouts.{Layout, body, written, text_of, fits, with_last, IsBeyond}
 use Rattle.ff_muxing.specs.Adding.{IsIdle}
 use Rattle.ff_muxing.specs.Growing.{body_more, written_more, open_text}
-use Rattle.ff_muxing.specs.Muxing.{packets_in, packets_of, unpatched, file, body_size}
+use Rattle.ff_muxing.specs.Muxing.{packets_in, packets_of, unpatched, file, body_size, mux_cause}
 use Rattle.ff_muxing.specs.Writing.{text_before, Replaces, EndsAs}
 
 -- ---- bytes that are told
@@ -143,6 +143,9 @@ module _ (layout : Layout) where
   beyond_cause (Some most) n b =
       let f : nat_le n most ≡ false = grind (arith, nat_tests) in
       ap (λ (v : Bool). let r : Option Fault = if v then None else Some TooLarge in r) f
+
+  pub small_cause : (s : Flow) → fits layout.longest (body_size layout s) ≡ true → mux_cause layout s ≡ None
+  small_cause s f = ap (λ (v : Bool). let r : Option Fault = if v then None else Some TooLarge in r) f
 
   pub within_fits : (longest : Option ℕ) (n : ℕ) → (IsBeyond longest n → ⊥) → fits longest n ≡ true
   within_fits None n b = refl

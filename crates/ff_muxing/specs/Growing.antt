@@ -11,7 +11,7 @@ use Rattle.ff_frame.specs.Order.{prefix_self, prefix_trans, below_items}
 use Rattle.ff_net.specs.declared.fault.Fault.{Fault}
 use Rattle.ff_net.specs.Ways.{Flow}
 use Rattle.ff_writers.specs.Layouts.{Layout, body, written, fits}
-use Rattle.ff_muxing.specs.Muxing.{packet_in, packets_in, packets_of, text_by, file_by, unpatched, file, body_size, mux_cause, HoldsOf}
+use Rattle.ff_muxing.specs.Muxing.{packet_in, packets_in, packets_of, text_by, file_by, unpatched, file, body_size, mux_cause, HoldsOf, HoldsSmall}
 
 module _ (layout : Layout) where
   -- further items are further packets, and these are further bytes
@@ -55,6 +55,9 @@ module _ (layout : Layout) where
   held_grows bytes r s (inl e) h = subst (λ (t : Flow). HoldsOf layout bytes t) e h
   held_grows bytes r s (inr b) (inl p) = inl (prefix_trans bytes (unpatched layout r) (unpatched layout s) p (text_grows r s b.0 b.1))
   held_grows bytes r s (inr b) (inr f) = let none : None ≡ Some bytes = sym (open_file r b.0) ∙ f in cc
+
+  pub small_held : (bytes : List ℕ) (s : Flow) → HoldsSmall layout bytes s → HoldsOf layout bytes s
+  small_held bytes s h = held_grows bytes h.0 s h.1 h.3
 
   -- nobody who isn't told of a break sees another text
   opened_text : (m : Mark) (packets : List (ℕ × Pkt)) → text_by layout (opened_mark m) packets ≡ text_by layout m packets

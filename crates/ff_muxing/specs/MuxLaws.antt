@@ -2,6 +2,7 @@
 use Rattle.std.specs.Prelude.{◌≡◌, ◌≢◌, ℕ, zero, suc, ◌<◌, false, List, [], Some, None, IsSome}
 use Rattle.std.proofs.Common.{sym, subst, ap, inl, ◌∙◌, arith}
 use Rattle.ff_frame.specs.Order.{below_self}
+use Rattle.ff_frame.specs.Stream.{LiesBelow}
 use Rattle.ff_frame.specs.Ports.{nothing, stream_at, AllBelow, AllUnbroken, IsClosed, IsUnbroken, IsWhole, IsMonotone, IsCalm}
 use Rattle.ff_net.specs.declared.fault.Fault.{Fault}
 use Rattle.ff_net.specs.Ways.{Flow, AreValid}
@@ -13,10 +14,10 @@ use Rattle.ff_frame.specs.declared.item.Lane.TheVariants.{Packets}
 use Rattle.ff_writers.specs.Layouts.{Layout}
 use Rattle.ff_writers.specs.declared.writer.Writer.{Ghosts as WriterGhosts}
 use Rattle.ff_muxing.specs.declared.mux.Mux.{Mux}
-use Rattle.ff_muxing.specs.Growing.{cause_grows}
+use Rattle.ff_muxing.specs.Growing.{cause_grows, small_held}
 use Rattle.ff_muxing.specs.Held.{HoldsPart, part_of, part_by, there_is}
-use Rattle.ff_muxing.specs.Muxing.{unpatched, file, mux_task}
-use Rattle.ff_muxing.specs.TaskLaws.{means_none, means_keeps, means_monotone, means_calm, same_text, same_file}
+use Rattle.ff_muxing.specs.Muxing.{unpatched, file, mux_cause, mux_task}
+use Rattle.ff_muxing.specs.TaskLaws.{means_none, means_keeps, means_monotone, means_calm, same_text, same_file, same_cause}
 use Rattle.ff_muxing.specs.Muxers.{mux_sink, mux_layout, mux_stands, mux_in_lanes, mux_fault, mux_spent}
 
 -- there is no output
@@ -93,4 +94,17 @@ module _ {K W : Type 0} {S : SinkGhosts K} {F : WriterGhosts W} (m : Mux K W S F
     -- whatever went wrong, it holds a front of what is written, or the file
     pub mux_holds_part : HoldsPart (S.holds (mux_sink m)) (unpatched layout (stream_at past.got 0)) (file layout (stream_at past.got 0))
     mux_holds_part = part_by (S.holds (mux_sink m)) its_text its_file
-        (part_of (mux_layout m) (S.holds (mux_sink m)) s.0 (stream_at past.got 0) s.1.told s.1.front)
+        (part_of (mux_layout m) (S.holds (mux_sink m)) s.0 (stream_at past.got 0) s.1.told
+        (small_held (mux_layout m) s.0 (stream_at past.got 0) s.1.front))
+
+    -- and that of a stream whose packets aren't too many bytes
+    pub mux_holds_small : (r : Flow) × LiesBelow r (stream_at past.got 0) × (mux_cause layout r ≡ None) × HoldsPart (S.holds (mux_sink m)) (unpatched layout r) (file layout r)
+    mux_holds_small =
+        let same = sym s.1.task ∙ is in
+        let r = s.1.front.0 in (
+          r,
+          s.1.front.1,
+          sym (same_cause (mux_layout m) layout same r) ∙ s.1.front.2,
+          part_by (S.holds (mux_sink m)) (same_text (mux_layout m) layout same r) (same_file (mux_layout m) layout same r)
+              (part_of (mux_layout m) (S.holds (mux_sink m)) s.0 r s.1.told s.1.front.3),
+        )

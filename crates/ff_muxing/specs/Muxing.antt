@@ -9,7 +9,7 @@ use Rattle.ff_values.specs.Packet.{packet_at}
 use Rattle.ff_frame.specs.declared.item.Item.{Item}
 use Rattle.ff_frame.specs.declared.item.Item.TheVariants.{Audio, Video, Packet, Trailer, End, Broken}
 use Rattle.ff_frame.specs.declared.item.Lane.TheVariants.{Packets}
-use Rattle.ff_frame.specs.Stream.{Mark, still_open, whole, broken, whole_stream}
+use Rattle.ff_frame.specs.Stream.{Mark, still_open, whole, broken, whole_stream, LiesBelow}
 use Rattle.ff_frame.specs.Lanes.{IsValid}
 use Rattle.ff_frame.specs.Ports.{nothing, stream_at, IsClosed, IsWhole}
 use Rattle.ff_net.specs.declared.fault.Fault.{Fault}
@@ -89,6 +89,10 @@ module _ (layout : Layout) where
   abbrev pub HoldsOf : List ℕ → Flow → Type 0
   HoldsOf bytes s = IsPrefix bytes (unpatched s) ⊎ (file s ≡ Some bytes)
 
+  -- and that of a stream below, whose packets aren't too many bytes
+  abbrev pub HoldsSmall : List ℕ → Flow → Type 0
+  HoldsSmall bytes s = (r : Flow) × LiesBelow r s × (mux_cause r ≡ None) × HoldsOf bytes r
+
 -- The sink holds these bytes, of the stream that was fed. `counts` ties the writer to how many bytes of packets it counted.
 pub record Muxes (holds : Option (List ℕ)) (layout : Layout) (counts : ℕ → Type 0) (head : StreamHead) (begun closed : Bool)
     (fault : Option Fault) (past : Past) (bytes : List ℕ) : Type 0 where
@@ -110,8 +114,8 @@ pub record Muxes (holds : Option (List ℕ)) (layout : Layout) (counts : ℕ →
   pub exact : fault ≡ None → stream_at past.got 0 ≢ nothing → (IsWhole (stream_at past.got 0) → ⊥) → bytes ≡ unpatched layout (stream_at past.got 0)
   -- and once it is whole its file
   pub finished_is : fault ≡ None → IsWhole (stream_at past.got 0) → file layout (stream_at past.got 0) ≡ Some bytes
-  -- with a fault: a front of that, or the file
-  pub front : HoldsOf layout bytes (stream_at past.got 0)
+  -- with a fault: a front of that, or the file, and nothing of a packet that makes the packets too many bytes, or of a later one
+  pub front : HoldsSmall layout bytes (stream_at past.got 0)
   pub caused : (c : Fault) → fault ≡ Some c → IsOfInputs c → mux_cause layout (stream_at past.got 0) ≡ Some c
 
 abbrev pub MuxStands : Option (List ℕ) → Layout → (ℕ → Type 0) → StreamHead → Bool → Bool → Option Fault → Past → Type 0

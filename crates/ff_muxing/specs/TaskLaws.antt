@@ -10,7 +10,7 @@ use Rattle.ff_frame.specs.declared.item.Lane.{Lane}
 use Rattle.ff_net.specs.Pasts.{Task}
 use Rattle.ff_net.specs.Ways.{Flow, AreValid}
 use Rattle.ff_writers.specs.Layouts.{Layout}
-use Rattle.ff_muxing.specs.Muxing.{unpatched, file, mux_answer, mux_means, mux_task, shown_file}
+use Rattle.ff_muxing.specs.Muxing.{unpatched, file, mux_answer, mux_cause, mux_means, mux_task, shown_file}
 
 module _ (layout : Layout) where
   -- without a second input it gives nothing
@@ -62,3 +62,6 @@ module _ (a b : Layout) (same : mux_task a ≡ mux_task b) where
 
   pub same_file : (s : Flow) → file a s ≡ file b s
   same_file s = sym (file_shown (file a s)) ∙ (ap (λ (t : Task). file_in (t.means (ask s broken))) same ∙ file_shown (file b s))
+
+  pub same_cause : (s : Flow) → mux_cause a s ≡ mux_cause b s
+  same_cause s = ap (λ (t : Task). t.cause (s ∷ [])) same

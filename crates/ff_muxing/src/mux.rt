@@ -1,10 +1,12 @@
 // The part that writes a stream of packets in any format.
 ghost use Rattle.std.specs.Prelude.{◌≡◌, ◌≢◌, ◌≤◌, ◌⊎◌, ℕ, [], ◌∷◌, true, length, None, Some, Ok, IsSome};
 ghost use Rattle.ff_frame.specs.declared.item.Lane.TheVariants.{Packets};
+ghost use Rattle.ff_frame.specs.Stream.{LiesBelow};
 ghost use Rattle.ff_frame.specs.Ports.{nothing, stream_at, IsWhole};
 ghost use Rattle.ff_net.specs.Pasts.{Past, start};
+ghost use Rattle.ff_net.specs.Ways.{Flow};
 ghost use Rattle.ff_writers.specs.Layouts.{Layout};
-ghost use Rattle.ff_muxing.specs.Muxing.{mux_task, unpatched, file};
+ghost use Rattle.ff_muxing.specs.Muxing.{mux_cause, mux_task, unpatched, file};
 ghost use Rattle.ff_muxing.specs.Held.{HoldsPart};
 
 use crate::added::{Added, added_by};
@@ -59,7 +61,8 @@ impl<K: Sink + Drop, W: Writer + Drop> Mux<K, W> {
     }
 
     /// Gives the sink back. It holds nothing before the first item, afterwards what is written of the stream, and once that is whole
-    /// its file; where there is a fault a front of what is written, or the file. The layout is whichever the muxer's task is of.
+    /// its file; where there is a fault a front of what is written, or the file, and none of the packets from the first on that makes
+    /// them too many bytes. The layout is whichever the muxer's task is of.
     pub fn into_sink(self) -> K
         ensures sink { result ≡ mux_sink self }
         ensures fresh { (past : Past) → mux_stands self past → stream_at past.got 0 ≡ nothing → K.holds result ≡ Some [] }
@@ -70,6 +73,8 @@ impl<K: Sink + Drop, W: Writer + Drop> Mux<K, W> {
             → IsWhole (stream_at past.got 0) → IsSome (file layout (stream_at past.got 0)) × (K.holds result ≡ file layout (stream_at past.got 0)) }
         ensures front { (past : Past) (layout : Layout) → mux_stands self past → past.task ≡ mux_task layout
             → HoldsPart (K.holds result) (unpatched layout (stream_at past.got 0)) (file layout (stream_at past.got 0)) }
+        ensures small { (past : Past) (layout : Layout) → mux_stands self past → past.task ≡ mux_task layout
+            → (r : Flow) × LiesBelow r (stream_at past.got 0) × (mux_cause layout r ≡ None) × HoldsPart (K.holds result) (unpatched layout r) (file layout r) }
     {
         self.snk
     }

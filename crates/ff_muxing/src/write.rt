@@ -1,5 +1,5 @@
 // What is written to a sink at each item.
-ghost use Rattle.std.specs.Prelude.{◌≡◌, ◌≢◌, ◌+◌, ◌≤◌, ℕ, ◌++◌, length, None, Some, IfOk, IsNone, IsSome, IfSome};
+ghost use Rattle.std.specs.Prelude.{◌≡◌, ◌≢◌, ◌+◌, ◌≤◌, ◌⊎◌, ℕ, ◌++◌, length, None, Some, IfOk, IsNone, IsSome, IfSome};
 ghost use Rattle.std.specs.Io.KnownBytes.{Appends, Keeps};
 ghost use Rattle.ff_lists.specs.Appends.{AppendsPrefix};
 ghost use Rattle.ff_net.specs.declared.fault.Fault.TheVariants.{TooLarge};
@@ -58,7 +58,9 @@ pub(crate) fn write_packet<K: Sink, W: Writer>(
 ) -> Option<Fault>
     ensures ok { IsNone result → Appends (K.holds snk.old) (K.holds snk.new) (before.now ++ text.now) }
     ensures written { IsNone result → K.written snk.old + length before.now ≤ K.written snk.new }
-    ensures front { AppendsPrefix (K.holds snk.old) (K.holds snk.new) (before.now ++ text.now) }
+    ensures front { AppendsPrefix (K.holds snk.old) (K.holds snk.new) before.now
+        ⊎ (((n : ℕ) → W.counts writer.old n → IsBeyond (W.layout writer.old).longest (n + length text.now) → ⊥)
+        × AppendsPrefix (K.holds snk.old) (K.holds snk.new) (before.now ++ text.now)) }
     ensures kinds { IfSome result (λ c. IsOfInputs c → c ≡ TooLarge) }
     ensures later { K.faults snk.old ≤ K.faults snk.new }
     ensures failed { result ≡ Some Fault.Device → Rose (K.faults snk.old) (K.faults snk.new) }

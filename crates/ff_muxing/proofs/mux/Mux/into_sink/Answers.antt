@@ -1,4 +1,4 @@
-use Rattle.ff_muxing.specs.MuxLaws.{mux_holds_nothing, mux_holds, mux_holds_file, mux_holds_part}
+use Rattle.ff_muxing.specs.MuxLaws.{mux_holds_nothing, mux_holds, mux_holds_file, mux_holds_part, mux_holds_small}
 use Rattle.ff_muxing.proofs.mux.Mux.into_sink.Goals as goal
 
 pub returns-clause-fresh : goal.returns-clause-fresh
@@ -12,3 +12,6 @@ returns-clause-whole g c = λ past layout s is. mux_holds_file c.args.self past 
 
 pub returns-clause-front : goal.returns-clause-front
 returns-clause-front g c = λ past layout s is. mux_holds_part c.args.self past s layout is
+
+pub returns-clause-small : goal.returns-clause-small
+returns-clause-small g c = λ past layout s is. mux_holds_small c.args.self past s layout is

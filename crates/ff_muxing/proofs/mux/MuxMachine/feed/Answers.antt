@@ -1,8 +1,8 @@
-use Rattle.std.proofs.Common.{◌≡◌, ◌||◌, true, ◌++◌, List, ℕ, None, refl, sym, ◌∙◌, subst}
+use Rattle.std.proofs.Common.{◌≡◌, ◌⊎◌, ◌+◌, length, ◌||◌, true, ◌++◌, List, ℕ, None, refl, sym, ◌∙◌, subst}
 use Rattle.std.specs.Io.KnownBytes.{Appends}
 use Rattle.ff_lists.specs.Appends.{AppendsPrefix}
 use Rattle.ff_net.specs.Pasts.{fed}
-use Rattle.ff_writers.specs.Layouts.{Layout}
+use Rattle.ff_writers.specs.Layouts.{Layout, IsBeyond}
 use Rattle.ff_writers.specs.Patches.{replacing}
 use Rattle.ff_muxing.specs.declared.added.Added.{Added}
 use Rattle.ff_muxing.specs.declared.added.Added.TheVariants as added
@@ -40,7 +40,8 @@ returns-in-Text-clause-accepted g c = λ past s o v.
     let done = mux_text holds now layout counts counts' m.head m.begun m.closed c.closes-closes.result m.fault past s none
     c.args._port c.requires c.args.item text is c.closes-closes.ensures c.write_packet-self.result
     (λ n. subst (λ (w : List ℕ). Appends holds now (w ++ text)) before (c.write_packet-self.ensures.ok n))
-    (subst (λ (w : List ℕ). AppendsPrefix holds now (w ++ text)) before c.write_packet-self.ensures.front)
+    (subst (λ (w : List ℕ). AppendsPrefix holds now w
+    ⊎ (((n : ℕ) → counts n → IsBeyond layout.longest (n + length text) → ⊥) × AppendsPrefix holds now (w ++ text))) before c.write_packet-self.ensures.front)
     c.write_packet-self.ensures.kinds c.write_packet-self.ensures.counts c.write_packet-self.ensures.within
     c.write_packet-self.ensures.too_large o v in
     let closed = m.closed || c.closes-closes.result in
