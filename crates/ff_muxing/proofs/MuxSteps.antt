@@ -170,7 +170,8 @@ module _ (holds now : Option (List ℕ)) (layout : Layout) (counts counts' : ℕ
   packet_now : (p : Pkt) → closes ≡ true ↔ Closes (Packet p) → (fault' : Option Fault)
       → (IsNone fault' → Appends holds now (text_before begun layout ++ layout.text 0 p))
       → AppendsPrefix holds now (text_before begun layout)
-      ⊎ (((n : ℕ) → counts n → IsBeyond layout.longest (n + length (layout.text 0 p)) → ⊥) × AppendsPrefix holds now (text_before begun layout ++ layout.text 0 p))
+      ⊎ (((n : ℕ) → counts n → IsBeyond layout.longest (n + length (layout.text 0 p)) → ⊥)
+      × AppendsPrefix holds now (text_before begun layout ++ layout.text 0 p))
       → IfSome fault' (λ c. IsOfInputs c → c ≡ TooLarge)
       → (IsNone fault' → (n : ℕ) → counts n → counts' (n + length (layout.text 0 p)))
       → (IsNone fault' → (n : ℕ) → counts n → IsBeyond layout.longest (n + length (layout.text 0 p)) → ⊥)
@@ -191,9 +192,11 @@ module _ (holds now : Option (List ℕ)) (layout : Layout) (counts counts' : ℕ
       let beyond : f ≡ TooLarge → mux_cause layout (with_item got (Packet p)) ≡ Some TooLarge = λ e.
       beyond_cause layout layout.longest (body_size layout (with_item got (Packet p)))
       (subst (λ (n : ℕ). IsBeyond layout.longest n) (sym size) (large (ap (λ (c : Fault). Some c) e) (body_size layout got) (s.1.counted none))) in
-      let caused : IsOfInputs f → mux_cause layout (with_item got (Packet p)) ≡ Some f = λ i. let e = kinds i in beyond e ∙ ap (λ (c : Fault). Some c) (sym e) in
+      let caused : IsOfInputs f → mux_cause layout (with_item got (Packet p)) ≡ Some f =
+      λ i. let e = kinds i in beyond e ∙ ap (λ (c : Fault). Some c) (sym e) in
       elim part [
-        | inl q ↦ failed_before holds now layout counts counts' head begun closed closes fault past (Packet p) s flag (layout.text 0 p) none f o v q caused
+        | inl q ↦ failed_before holds now layout counts counts' head begun closed closes fault past (Packet p) s flag
+            (layout.text 0 p) none f o v q caused
         | inr q ↦ failed_one holds now layout counts counts' head begun closed closes fault past (Packet p) s flag (layout.text 0 p) none f
             (subst (λ (n : ℕ). fits layout.longest n ≡ true) (sym size)
             (within_fits layout layout.longest (body_size layout got + length (layout.text 0 p)) (q.0 (body_size layout got) (s.1.counted none))))

@@ -98,7 +98,8 @@ module _ {K W : Type 0} {S : SinkGhosts K} {F : WriterGhosts W} (m : Mux K W S F
         (small_held (mux_layout m) s.0 (stream_at past.got 0) s.1.front))
 
     -- and that of a stream whose packets aren't too many bytes
-    pub mux_holds_small : (r : Flow) × LiesBelow r (stream_at past.got 0) × (mux_cause layout r ≡ None) × HoldsPart (S.holds (mux_sink m)) (unpatched layout r) (file layout r)
+    pub mux_holds_small : (r : Flow) × LiesBelow r (stream_at past.got 0) × (mux_cause layout r ≡ None)
+        × HoldsPart (S.holds (mux_sink m)) (unpatched layout r) (file layout r)
     mux_holds_small =
         let same = sym s.1.task ∙ is in
         let r = s.1.front.0 in (

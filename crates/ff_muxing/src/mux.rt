@@ -74,7 +74,8 @@ impl<K: Sink + Drop, W: Writer + Drop> Mux<K, W> {
         ensures front { (past : Past) (layout : Layout) → mux_stands self past → past.task ≡ mux_task layout
             → HoldsPart (K.holds result) (unpatched layout (stream_at past.got 0)) (file layout (stream_at past.got 0)) }
         ensures small { (past : Past) (layout : Layout) → mux_stands self past → past.task ≡ mux_task layout
-            → (r : Flow) × LiesBelow r (stream_at past.got 0) × (mux_cause layout r ≡ None) × HoldsPart (K.holds result) (unpatched layout r) (file layout r) }
+            → (r : Flow) × LiesBelow r (stream_at past.got 0) × (mux_cause layout r ≡ None)
+            × HoldsPart (K.holds result) (unpatched layout r) (file layout r) }
     {
         self.snk
     }

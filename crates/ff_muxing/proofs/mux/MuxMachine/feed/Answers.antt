@@ -41,7 +41,8 @@ returns-in-Text-clause-accepted g c = λ past s o v.
     c.args._port c.requires c.args.item text is c.closes-closes.ensures c.write_packet-self.result
     (λ n. subst (λ (w : List ℕ). Appends holds now (w ++ text)) before (c.write_packet-self.ensures.ok n))
     (subst (λ (w : List ℕ). AppendsPrefix holds now w
-    ⊎ (((n : ℕ) → counts n → IsBeyond layout.longest (n + length text) → ⊥) × AppendsPrefix holds now (w ++ text))) before c.write_packet-self.ensures.front)
+    ⊎ (((n : ℕ) → counts n → IsBeyond layout.longest (n + length text) → ⊥)
+    × AppendsPrefix holds now (w ++ text))) before c.write_packet-self.ensures.front)
     c.write_packet-self.ensures.kinds c.write_packet-self.ensures.counts c.write_packet-self.ensures.within
     c.write_packet-self.ensures.too_large o v in
     let closed = m.closed || c.closes-closes.result in
@@ -72,7 +73,8 @@ returns-in-End-clause-accepted g c = λ past s o v.
     let is_added : IsAdded layout counts c.args.item (added.End c.in-End.patch) =
     subst (λ (a : Added). IsAdded layout counts c.args.item a) c.in-End.is c.in_ok-added.ensures.added in
     mux_end holds now layout counts m.head m.begun m.closed c.closes-closes.result m.fault past s
-    (none_is m.fault (sym c.is_some.ensures ∙ c.if-is_some.false)) c.args._port c.requires c.args.item is_added.0 c.closes-closes.ensures c.write_end-self.result pad replaced c.pad.ensures is_added.1
+    (none_is m.fault (sym c.is_some.ensures ∙ c.if-is_some.false)) c.args._port c.requires c.args.item
+    is_added.0 c.closes-closes.ensures c.write_end-self.result pad replaced c.pad.ensures is_added.1
     (λ n. subst (λ (w : List ℕ). EndsAs holds now (w ++ pad) replaced) before (c.write_end-self.ensures.ok n))
     (λ n. subst (λ (w : List ℕ). AppendsPrefix holds now (w ++ pad)) before (c.write_end-self.ensures.front n))
     c.write_end-self.ensures.kinds o v
@@ -87,7 +89,8 @@ returns-clause-accepted g c = λ past s o v.
     let before : c.deref-in-Nothing.result.now ≡ text_before m.begun layout = c.deref-in-Nothing.ensures.value ∙ c.in-Ok.ensures in
     let idle : IsIdle c.args.item = subst (λ (a : Added). IsAdded layout counts c.args.item a) c.in-Nothing.is c.in_ok-added.ensures.added in
     mux_idle holds now layout counts m.head m.begun m.closed c.closes-closes.result m.fault past s
-    (none_is m.fault (sym c.is_some.ensures ∙ c.if-is_some.false)) c.args._port c.requires c.args.item idle c.closes-closes.ensures c.write-self.result
+    (none_is m.fault (sym c.is_some.ensures ∙ c.if-is_some.false)) c.args._port c.requires c.args.item idle
+    c.closes-closes.ensures c.write-self.result
     (λ n. subst (λ (w : List ℕ). Appends holds now w) before (c.write-self.ensures.ok n))
     (subst (λ (w : List ℕ). AppendsPrefix holds now w) before c.write-self.ensures.front)
     c.write-self.ensures.kinds o v
