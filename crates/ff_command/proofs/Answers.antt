@@ -1,8 +1,7 @@
 -- How words are answered: by the job that they ask for, or by what is wrong with them.
-use Rattle.std.proofs.Common.{◌≡◌, ◌≢◌, ◌⊎◌, inl, inr, ℕ, List, Option, Some, None, Result, Ok, Err, refl, sym, ap, subst, ◌∙◌}
+use Rattle.std.proofs.Common.{◌≡◌, inl, inr, ℕ, List, Option, Some, None, Result, Ok, Err, refl, sym, ap, subst, ◌∙◌}
 use Rattle.ff_host.specs.Causes.{SameCounts}
 use Rattle.ff_host.specs.Files.{Files, KeepsFiles}
-use Rattle.ff_cut.specs.declared.fault.HeadFault.{HeadFault}
 use Rattle.ff_words.specs.declared.job.Job.{Job}
 use Rattle.ff_words.specs.declared.job.Command.{Command}
 use Rattle.ff_words.specs.declared.job.Command.TheVariants.{Run}
@@ -16,15 +15,13 @@ use Rattle.ff_words.specs.Reading as reading
 use Rattle.ff_words.proofs.Unique.{answer-one}
 use Rattle.ff_heads.specs.declared.head.InputHead.{InputHead}
 use Rattle.ff_plan.specs.declared.planned.PlanError.{PlanError}
-use Rattle.ff_plan.specs.declared.planned.PlanError.TheVariants as why
 use Rattle.ff_running.specs.declared.fault.RunFault.{RunFault}
 use Rattle.ff_files.specs.Counts.{Counts}
 use Rattle.ff_files.specs.Works.{Meaning, HoldWritten}
 use Rattle.ff_files.specs.Ends.{IsFirstRefused, HasNoPlan, CanBeDone}
-use Rattle.ff_command.specs.declared.report.FileRef.{FileRef}
 use Rattle.ff_command.specs.declared.report.Status.{Status}
 use Rattle.ff_command.specs.declared.report.Status.TheVariants as status
-use Rattle.ff_command.specs.Command.{Ask, AskFor, AreWrong, AreSoundTo, InputsAreSound, OutputsAreSound, refused_head, over, HoldsFront, GivesNoHead, GivesNoPlan, GivesAll}
+use Rattle.ff_command.specs.Command.{Ask, AreWrong, AreSoundTo, InputsAreSound, OutputsAreSound, over}
 use Rattle.ff_command.specs.Steps.{wrong_words, Comes, Ran, Answered}
 
 -- words ask for one job at most

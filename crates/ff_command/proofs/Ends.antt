@@ -1,5 +1,5 @@
 -- How a job ends, as its status says, by how the work over its files ends.
-use Rattle.std.proofs.Common.{◌≡◌, ◌≢◌, ◌⊎◌, inl, inr, ℕ, ◌<◌, ◌≤◌, List, length, Option, Some, None, refl, sym, ap, subst, ◌∙◌, arith}
+use Rattle.std.proofs.Common.{◌≡◌, ◌≢◌, ◌⊎◌, inl, inr, ℕ, ◌<◌, ◌≤◌, List, length, Option, refl, sym, ap, subst, ◌∙◌}
 use Rattle.ff_host.specs.Causes.{SameCounts}
 use Rattle.ff_host.specs.Files.{Files, KeepsFiles}
 use Rattle.ff_cut.specs.declared.fault.HeadFault.{HeadFault}
@@ -23,8 +23,8 @@ use Rattle.ff_files.specs.declared.end.RunEnd.TheVariants as run_end
 use Rattle.ff_files.proofs.Lists.{names_len}
 use Rattle.ff_command.specs.declared.report.Status.{Status}
 use Rattle.ff_command.specs.declared.report.Status.TheVariants as status
-use Rattle.ff_command.specs.Command.{input_names, output_names, ComesBeforeOutputs, AreSoundTo, InputsAreSound, OutputsAreSound, refused_head, refused_plan, over, KeepsInputs, KeepsOutputs}
-use Rattle.ff_command.specs.Steps.{broken_run, status_of, Comes, Ran}
+use Rattle.ff_command.specs.Command.{input_names, output_names, ComesBeforeOutputs, refused_head, refused_plan, over, KeepsInputs, KeepsOutputs}
+use Rattle.ff_command.specs.Steps.{status_of, Comes, Ran}
 
 abbrev End : Type 0
 End = RunEnd PlanError RunFault

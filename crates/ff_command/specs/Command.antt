@@ -1,7 +1,7 @@
 -- What a command means, when each of its answers comes, and what stands then. `before` and `after` are the files that the host
 -- tells, before and after the call; `ins` and `outs` are its counts of faults of reading and of writing by name, at both moments.
 -- Where the files aren't told, a conclusion on them claims nothing, and a premise on them isn't met.
-use Rattle.std.specs.Prelude.{◌≡◌, ◌⊎◌, ⊤, ℕ, ◌<◌, ◌≤◌, List, length, Option, Some, None, Ok, Err}
+use Rattle.std.specs.Prelude.{◌≡◌, ◌⊎◌, ⊤, ℕ, ◌<◌, ◌≤◌, List, length, Option, Ok, Err}
 use Rattle.ff_host.specs.Causes.{SameCounts}
 use Rattle.ff_host.specs.Files.{Files, KeepsFiles}
 use Rattle.ff_cut.specs.declared.fault.HeadFault.{HeadFault}
@@ -23,7 +23,7 @@ use Rattle.ff_files.specs.Names.{name_at, names_of, KeepsAllBut}
 use Rattle.ff_files.specs.Counts.{Counts, Faulted, KeepsCounts}
 use Rattle.ff_files.specs.Heads.{HaveHeads, IsRefused}
 use Rattle.ff_files.specs.Works.{Meaning, Command, command_of, HoldMeaning, HoldWritten}
-use Rattle.ff_files.specs.Ends.{IsPlanned, IsPlanRefused, IsBroken, IsFirstRefused, HasNoPlan, CanBeDone}
+use Rattle.ff_files.specs.Ends.{IsPlanned, IsBroken, IsFirstRefused, HasNoPlan, CanBeDone}
 use Rattle.ff_command.specs.declared.report.FileRef.{FileRef}
 use Rattle.ff_command.specs.declared.report.FileRef.TheVariants.{Input, Output}
 use Rattle.ff_command.specs.declared.report.Status.{Status}

@@ -26,7 +26,7 @@ use Rattle.ff_command.specs.declared.report.FileRef.{FileRef}
 use Rattle.ff_command.specs.declared.report.FileRef.TheVariants.{Input, Output}
 use Rattle.ff_command.specs.declared.report.Status.{Status}
 use Rattle.ff_command.specs.declared.report.Status.TheVariants as status
-use Rattle.ff_command.specs.Command.{AskFor, IfAsked, AreWrong, input_names, output_names, KeepsOtherFiles, ComesBeforeOutputs, AreSoundTo, InputsAreSound, OutputsAreSound, refused_head, refused_plan, over, HoldsMeaning, HoldsFront, IsHeadRefused, IsDamaged, IsTooLong, HasFailed, HasFile, GivesNoHead, GivesNoPlan, GivesAll, KeepsInputs, KeepsOutputs, KeepsInputCounts, KeepsOutputCounts}
+use Rattle.ff_command.specs.Command.{AskFor, AreWrong, output_names, KeepsOtherFiles, ComesBeforeOutputs, AreSoundTo, InputsAreSound, OutputsAreSound, refused_head, refused_plan, over, HoldsMeaning, HoldsFront, IsHeadRefused, IsDamaged, IsTooLong, HasFailed, HasFile, GivesNoHead, GivesNoPlan, GivesAll, KeepsInputs, KeepsOutputs, KeepsInputCounts, KeepsOutputCounts}
 
 -- the heads of all inputs of a job that words may ask for
 pub record AreAllHeads (job : Job) (heads : List InputHead) : Type 0 where

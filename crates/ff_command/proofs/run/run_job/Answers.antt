@@ -8,7 +8,7 @@ use Rattle.ff_command.proofs.run.run_job.Goals as goal
 
 pub over_files-end-requires-clause-apart : goal.over_files-end-requires-clause-apart
 over_files-end-requires-clause-apart g c =
-    ?
+    λ lifetimes lives. subst (λ outs. AreApart (names_of (λ (o : OutputJob). o.name) outs)) (sym c.as_slice-2.ensures) (names-apart c.args.job.now c.requires.bounded.names)
 
 pub returns-clause-ran : goal.returns-clause-ran
 returns-clause-ran g c =
