@@ -2,8 +2,13 @@
 use Rattle.std.proofs.Common.{◌≡◌, ◌⊎◌, inl, inr, ℕ, zero, suc, ◌<◌, ◌≤◌, List, [], ◌∷◌, length, map, slice_get, Option, Some, None, refl, sym, ap, ◌∙◌, subst, arith}
 use Rattle.std.proofs.lemmas.Option.{slice_get_within, slice_get_past}
 use Rattle.ff_plan.specs.declared.planned.PlanNode.{PlanNode}
-use Rattle.ff_running.specs.Parts.{IsBefore, IsAside, AllAside}
-use Rattle.ff_running.proofs.Numbers.{there, ordered}
+use Rattle.ff_plan.specs.declared.planned.PlanNode.TheVariants as node
+use Rattle.ff_words.specs.declared.job.OutputJob.{OutputJob}
+use Rattle.ff_edges.specs.declared.edge.Edge.{Edge}
+use Rattle.ff_net.specs.Views.{View}
+use Rattle.ff_running.specs.Kinds.{KindsOf, IsSourceOf, IsSinkOf}
+use Rattle.ff_running.specs.Parts.{IsBefore, IsAside, AllAside, AreParts, AreBack}
+use Rattle.ff_running.proofs.Numbers.{there, ordered, demux_before, mux_before}
 
 -- places none of which is empty
 pub full : {T : Type 0} (places : List (Option T)) → ((i : ℕ) → i < length places → (x : T) × (slice_get places i ≡ Some (Some x))) → (all : List T) × (places ≡ map Some all)
@@ -61,3 +66,35 @@ module _ {T : Type 0} (nodes : List PlanNode) (mk : ℕ → PlanNode) (count cou
       let long : length all' ≡ length all = sym (length_places all') ∙ (sym (ap length e) ∙ (as_many ∙ many)) in
       slice_get_past all' i (omega (arith, le, long)) ∙ sym (slice_get_past all i le)
   ]
+
+module _ {H S K M : Type 0} (is : KindsOf H) (left named : S → Option (List ℕ)) (failed : S → ℕ) (holds called : K → Option (List ℕ)) (faulted : K → ℕ) (view : M → View)
+    (outputs : List OutputJob) (heads : List H) (edges : List Edge) (nodes : List PlanNode) (srcs : List S) (snks : List K) (olds news : List M)
+    (sp sp' : List (Option S)) (kp kp' : List (Option K))
+    (parts : AreParts is left named failed holds called faulted view outputs heads edges nodes srcs snks olds sp kp) (many : length news ≡ length olds)
+    (sources : (k i : ℕ) (m : M) → slice_get nodes k ≡ Some (node.Demux i) → slice_get news k ≡ Some m → (s : S) × (slice_get sp' i ≡ Some (Some s)) × IsSourceOf named failed (view m) s)
+    (sinks : (k o : ℕ) (m : M) → slice_get nodes k ≡ Some (node.Mux o) → slice_get news k ≡ Some m → (s : K) × (slice_get kp' o ≡ Some (Some s)) × IsSinkOf is holds called faulted (view m) s)
+    (other_srcs : (i : ℕ) → (IsBefore nodes (length news) (node.Demux i) → ⊥) → slice_get sp' i ≡ slice_get sp i)
+    (other_snks : (o : ℕ) → (IsBefore nodes (length news) (node.Mux o) → ⊥) → slice_get kp' o ≡ slice_get kp o)
+    (src_many : length sp' ≡ length sp) (snk_many : length kp' ≡ length kp) where
+  src_filled : (i : ℕ) → IsBefore nodes (length news) (node.Demux i) → (x : S) × (slice_get sp' i ≡ Some (Some x))
+  src_filled i b = (let m = there news b.0 b.1 in let s = sources b.0 i m.0 b.2 m.1 in (s.0, s.1))
+
+  snk_filled : (o : ℕ) → IsBefore nodes (length news) (node.Mux o) → (x : K) × (slice_get kp' o ≡ Some (Some x))
+  snk_filled o b = (let m = there news b.0 b.1 in let s = sinks b.0 o m.0 b.2 m.1 in (s.0, s.1))
+
+  -- no place is empty
+  pub srcs_full : (all : List S) × (sp' ≡ map Some all)
+  srcs_full = full sp' (all_full nodes node.Demux (length olds) (length news) many srcs sp sp' parts.src_count src_many (demux_before nodes (length news)) parts.srcs_aside src_filled other_srcs)
+
+  pub snks_full : (all : List K) × (kp' ≡ map Some all)
+  snks_full = full kp' (all_full nodes node.Mux (length olds) (length news) many snks kp kp' parts.snk_count snk_many (mux_before nodes (length news)) parts.snks_aside snk_filled other_snks)
+
+  pub are_back : (srcs' : List S) (snks' : List K) → sp' ≡ map Some srcs' → kp' ≡ map Some snks' → AreBack is left named failed holds called faulted view nodes news srcs snks srcs' snks'
+  are_back srcs' snks' es ek = record {
+    src_count = sym (length_places srcs') ∙ (sym (ap length es) ∙ (src_many ∙ parts.src_count));
+    snk_count = sym (length_places snks') ∙ (sym (ap length ek) ∙ (snk_many ∙ parts.snk_count));
+    sources = λ k i m at now. (let s = sources k i m at now in (s.0, at_place srcs' i s.0 (sym (ap (λ (ps : List (Option S)). slice_get ps i) es) ∙ s.1), s.2));
+    sinks = λ k o m at now. (let s = sinks k o m at now in (s.0, at_place snks' o s.0 (sym (ap (λ (ps : List (Option K)). slice_get ps o) ek) ∙ s.1), s.2));
+    other_srcs = others_same nodes node.Demux (length olds) (length news) many srcs sp sp' parts.src_count src_many (demux_before nodes (length news)) parts.srcs_aside src_filled other_srcs srcs' es;
+    other_snks = others_same nodes node.Mux (length olds) (length news) many snks kp kp' parts.snk_count snk_many (mux_before nodes (length news)) parts.snks_aside snk_filled other_snks snks' ek;
+  }

@@ -1,5 +1,6 @@
 pub mod Backs
 pub mod Building
+pub mod Ending
 pub mod Gathering
 pub mod Making
 pub mod Moves
@@ -7,5 +8,7 @@ pub mod Networks
 pub mod Numbers
 pub mod Outcomes
 pub mod Places
+pub mod Running
+pub mod Planning
 pub mod Tally
 pub mod Telling

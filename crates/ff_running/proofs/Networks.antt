@@ -68,6 +68,10 @@ fed_nothing v task streams edges s = record {
   got = λ p lt. inr (refl, ((streams (slice_index_or edges p 0)).items, refl));
 }
 
+-- want of memory before the start
+abbrev pub unstarted : Option NodeFault
+unstarted = Some (record { node = 0; fault = NoMemory })
+
 module _ {M : Type 0} (view : M → View) where
   step_same : (v : View) → FaultStep v v
   step_same v = record {
@@ -90,10 +94,6 @@ module _ {M : Type 0} (view : M → View) where
         subst (λ (m : M). FaultStep (view m) (view (slice_index_or parts k e))) (sym (get_or_from_slice_get parts k x.0 d x.1))
         (subst (λ (m : M). FaultStep (view x.0) (view m)) (sym (get_or_from_slice_get parts k x.0 e x.1)) (step_same (view x.0)));
   }
-
-  -- want of memory before the start
-  abbrev pub unstarted : Option NodeFault
-  unstarted = Some (record { node = 0; fault = NoMemory })
 
   pub unstarted_tells : (parts : List M) (fault : Option NodeFault) → fault ≡ unstarted → ((k : ℕ) (m : M) → slice_get parts k ≡ Some m → (view m).fault ≡ None) → TellsRun view parts fault
   unstarted_tells parts fault is sound = record {

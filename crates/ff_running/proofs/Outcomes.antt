@@ -199,11 +199,11 @@ module _ {H S K M : Type 0} (is : KindsOf H) (left named : S → Option (List �
   inputs = length heads
 
   -- a fault that comes of the streams, where these are told
-  BrokenBy : RunFault → Type 0
+  abbrev pub BrokenBy : RunFault → Type 0
   BrokenBy why = (bytes : List (List ℕ)) → claims ≡ true → AreTold left holds srcs snks bytes → BreaksIn is outputs heads bytes nodes edges why
 
   -- what an end says, by cases
-  Says : WorkEnd RunFault → Type 0
+  abbrev pub Says : WorkEnd RunFault → Type 0
   Says work_end.Fine = (fault ≡ None) × FailNoMore failed srcs srcs' (length srcs) × FailNoMore faulted snks snks' (length snks)
   Says (work_end.Input i) = ((i < length srcs) × ((d : S) → Rose (failed (slice_index_or srcs i d)) (failed (slice_index_or srcs' i d)))) × FailNoMore failed srcs srcs' i
   Says (work_end.Output o) = ((o < length snks) × ((d : K) → Rose (faulted (slice_index_or snks o d)) (faulted (slice_index_or snks' o d)))) × FailNoMore failed srcs srcs' (length srcs) × FailNoMore faulted snks snks' o

@@ -5,3 +5,5 @@ pub mod Parts
 pub mod Runs
 pub mod Claims
 pub mod Rooms
+pub mod Accepting
+pub mod PlanRuns

@@ -103,5 +103,5 @@ module _ {H S K : Type 0} (is : KindsOf H) (left named : S → Option (List ℕ)
     pub snk_places : List (Option K)
     pub fault : Option NodeFault
     pub run : AreRun view outputs heads edges nodes srcs snks claims olds news src_places snk_places fault
-    pub back : AreBack is named failed holds called faulted view nodes news srcs snks srcs' snks'
+    pub back : AreBack is left named failed holds called faulted view nodes news srcs snks srcs' snks'
     pub end_is : end ≡ end_with (length heads) nodes fault

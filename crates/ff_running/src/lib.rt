@@ -9,6 +9,8 @@ mod kinds;
 mod lanes;
 mod run;
 mod tables;
+mod work;
 
 pub use fault::RunFault;
 pub use kinds::{Ends, Kinds};
+pub use work::PlanRun;

@@ -1,0 +1,109 @@
+-- The clauses of a run that was done, and of one that was not begun.
+use Rattle.std.proofs.Common.{◌≡◌, ◌⊎◌, inl, inr, ℕ, ◌+◌, ◌-◌, ◌<◌, true, Bool, List, [], ◌∷◌, length, slice_get, slice_index_or, Option, Some, None, Ok, refl, sym, ap, ◌∙◌, subst, arith}
+use Rattle.ff_frame.specs.Stream.{LiesBelow, opened}
+use Rattle.ff_values.specs.declared.head.StreamHead.{StreamHead}
+use Rattle.ff_words.specs.declared.job.Job.{Job}
+use Rattle.ff_words.specs.declared.job.OutputJob.{OutputJob}
+use Rattle.ff_net.specs.Views.{View}
+use Rattle.ff_net.specs.Ways.{Flow}
+use Rattle.ff_plan.specs.declared.planned.Plan.{Plan}
+use Rattle.ff_plan.specs.declared.planned.PlanError.{PlanError}
+use Rattle.ff_plan.specs.declared.planned.PlanNode.TheVariants as node
+use Rattle.ff_plan.specs.Rules.{Planned}
+use Rattle.ff_files.specs.declared.work.WorkEnd.{WorkEnd}
+use Rattle.ff_files.specs.declared.work.WorkEnd.TheVariants as work_end
+use Rattle.ff_files.specs.Works.{AreTold, HoldFiles, HoldParts, HoldsPart, KeepEnds, FailNoMore, EndsWork, sound_sources, sound_sinks}
+use Rattle.ff_running.specs.declared.fault.RunFault.{RunFault}
+use Rattle.ff_running.specs.Kinds.{KindsOf}
+use Rattle.ff_running.specs.Claims.{tell_all}
+use Rattle.ff_running.specs.Meaning.{mux_node, BreaksBy, BreaksIn, file_of, text_of, file_in, text_in, comes_after, means}
+use Rattle.ff_running.specs.Accepting.{IsPlanFor}
+use Rattle.ff_running.specs.Parts.{AreOrdered}
+use Rattle.ff_running.specs.Runs.{IsDone}
+use Rattle.ff_running.proofs.Outcomes as outcome
+use Rattle.ff_running.proofs.Telling.{tells_told}
+
+-- ---- where nothing was begun
+
+pub ends_kept : {E : Type 0} (named : E → Option (List ℕ)) (ends : List E) → KeepEnds named ends ends
+ends_kept named ends = record { as_many = refl; same_name = λ k d lt. refl }
+
+pub none_failed : {E : Type 0} (faults : E → ℕ) (ends : List E) (count : ℕ) → FailNoMore faults ends ends count
+none_failed faults ends count = λ k d lt below. refl
+
+pub empty_parts : {S K : Type 0} (left : S → Option (List ℕ)) (holds : K → Option (List ℕ)) (srcs : List S) (snks : List K) (text : ℕ → List ℕ) (file : ℕ → Option (List ℕ)) (bytes : List (List ℕ))
+    → AreTold left holds srcs snks bytes → HoldParts holds text file snks
+empty_parts left holds srcs snks text file bytes told = λ j d lt. inl ([], text j, told.empty j d lt, refl)
+
+-- ---- where it was done
+
+module _ {H S K M : Type 0} (is : KindsOf H) (left named : S → Option (List ℕ)) (failed : S → ℕ) (holds called : K → Option (List ℕ)) (faulted : K → ℕ) (view : M → View)
+    (job : Job) (plan : Plan) (heads : List H) (srcs : List S) (snks : List K) (claims : Bool) (end : WorkEnd RunFault) (srcs' : List S) (snks' : List K)
+    (for : IsPlanFor is job heads plan) (src_count : length srcs ≡ length heads) (snk_count : length snks ≡ length job.outputs) (claimed : claims ≡ tell_all left holds srcs snks)
+    (done : IsDone is left named failed holds called faulted view job.outputs heads plan.edges plan.nodes srcs snks claims end srcs' snks') where
+  order : AreOrdered (length srcs) (length snks) plan.nodes
+  order =
+      subst (λ (n : ℕ). AreOrdered n (length snks) plan.nodes) (sym src_count) (subst (λ (n : ℕ). AreOrdered (length heads) n plan.nodes) (sym snk_count) for.ordered)
+
+  abbrev Says : WorkEnd RunFault → Type 0
+  Says = outcome.Says is left named failed holds called faulted view job.outputs heads plan.edges plan.nodes srcs snks claims done.olds done.news done.src_places done.snk_places done.fault srcs' snks' order done.run done.back
+
+  said : Says end
+  said = subst Says (sym done.end_is)
+      (outcome.says is left named failed holds called faulted view job.outputs heads plan.edges plan.nodes srcs snks claims done.olds done.news done.src_places done.snk_places done.fault srcs' snks' order done.run done.back)
+
+  vouched : (bytes : List (List ℕ)) → AreTold left holds srcs snks bytes → claims ≡ true
+  vouched bytes told = claimed ∙ tells_told left holds srcs snks bytes told
+
+  muxes : (bytes : List (List ℕ)) (o : ℕ) → o < length snks → slice_get plan.nodes (mux_node is job.outputs heads bytes plan.nodes plan.edges o) ≡ Some (node.Mux o)
+  muxes bytes o lt = for.muxes o (subst (λ (n : ℕ). o < n) snk_count lt)
+
+  ends_say : (e : WorkEnd RunFault) → Says e → EndsWork (means is job) failed faulted srcs snks srcs' snks' heads (AreTold left holds srcs snks) e
+  ends_say work_end.Fine s = tt
+  ends_say work_end.NoMemory s = tt
+  ends_say (work_end.Input i) s = s.0
+  ends_say (work_end.Output o) s = s.0
+  ends_say (work_end.Broken why) s = λ bytes told.
+      subst (λ (p : Planned Plan). BreaksBy is job p heads bytes why) (sym for.made) (s.0 bytes (vouched bytes told) told)
+
+  sources_say : (e : WorkEnd RunFault) → Says e → FailNoMore failed srcs srcs' (sound_sources (means is job) e (length srcs))
+  sources_say work_end.Fine s = s.1
+  sources_say work_end.NoMemory s = s
+  sources_say (work_end.Input i) s = s.1
+  sources_say (work_end.Output o) s = s.1
+  sources_say (work_end.Broken why) s = s.1
+
+  sinks_say : (e : WorkEnd RunFault) → Says e → FailNoMore faulted snks snks' (sound_sinks (means is job) e (length snks))
+  sinks_say work_end.Fine s = s.2
+  sinks_say work_end.NoMemory s = λ o d lt below. absurd (omega (arith, below))
+  sinks_say (work_end.Input i) s = λ o d lt below. absurd (omega (arith, below))
+  sinks_say (work_end.Output o) s = s.2
+  sinks_say (work_end.Broken why) s = λ o d lt below. absurd (omega (arith, below))
+
+  pub all_ends : EndsWork (means is job) failed faulted srcs snks srcs' snks' heads (AreTold left holds srcs snks) end
+  all_ends = ends_say end said
+
+  pub all_sources : FailNoMore failed srcs srcs' (sound_sources (means is job) end (length srcs))
+  all_sources = sources_say end said
+
+  pub all_sinks : FailNoMore faulted snks snks' (sound_sinks (means is job) end (length snks))
+  all_sinks = sinks_say end said
+
+  pub keeps_sources : KeepEnds named srcs srcs'
+  keeps_sources = outcome.keeps_sources is left named failed holds called faulted view job.outputs heads plan.edges plan.nodes srcs snks claims done.olds done.news done.src_places done.snk_places done.fault srcs' snks' order done.run done.back
+
+  pub keeps_sinks : KeepEnds called snks snks'
+  keeps_sinks = outcome.keeps_sinks is left named failed holds called faulted view job.outputs heads plan.edges plan.nodes srcs snks claims done.olds done.news done.src_places done.snk_places done.fault srcs' snks' order done.run done.back
+
+  pub all_files : end ≡ work_end.Fine → (bytes : List (List ℕ)) → AreTold left holds srcs snks bytes → HoldFiles holds ((means is job).file heads bytes) snks'
+  all_files fine bytes told =
+      subst (λ (p : Planned Plan). HoldFiles holds (λ o. file_of is job p heads bytes o) snks') (sym for.made)
+      (outcome.holds_file is left named failed holds called faulted view job.outputs heads plan.edges plan.nodes srcs snks claims done.olds done.news done.src_places done.snk_places done.fault srcs' snks' order done.run done.back
+      bytes (vouched bytes told) told for.fitting (muxes bytes) (outcome.fine_only (length heads) plan.nodes done.fault (sym done.end_is ∙ fine)))
+
+  pub all_parts : ((out : OutputJob) (coded : StreamHead) (held : Option (List ℕ)) (r s : Flow) → LiesBelow (opened r) s → HoldsPart held (is.text out coded r) (is.file out coded r) → HoldsPart held (is.text out coded s) (is.file out coded s))
+      → (bytes : List (List ℕ)) → AreTold left holds srcs snks bytes → HoldParts holds ((means is job).text heads bytes) ((means is job).file heads bytes) snks'
+  all_parts holds_on bytes told =
+      subst (λ (p : Planned Plan). HoldParts holds (λ o. text_of is job p heads bytes o) (λ o. file_of is job p heads bytes o) snks') (sym for.made)
+      (outcome.holds_part is left named failed holds called faulted view job.outputs heads plan.edges plan.nodes srcs snks claims done.olds done.news done.src_places done.snk_places done.fault srcs' snks' order done.run done.back
+      bytes (vouched bytes told) told for.fitting (muxes bytes) holds_on)

@@ -1,0 +1,69 @@
+-- The run of parts that were built.
+use Rattle.std.proofs.Common.{◌≡◌, ℕ, ◌<◌, true, Bool, List, length, slice_get, slice_index_or, Option, Some, None, refl, sym, ap, ◌∙◌, subst, arith}
+use Rattle.std.proofs.lemmas.Option.{slice_get_within, get_or_from_slice_get}
+use Rattle.ff_words.specs.declared.job.OutputJob.{OutputJob}
+use Rattle.ff_edges.specs.declared.edge.Edge.{Edge}
+use Rattle.ff_edges.specs.Ports.{lanes_into, lanes_out_of}
+use Rattle.ff_net.specs.Pasts.{Task, start}
+use Rattle.ff_net.specs.Views.{View}
+use Rattle.ff_network.specs.declared.run.NodeFault.{NodeFault}
+use Rattle.ff_network.specs.Fits.{AreFit, ports_by, ins_at, outs_at, network}
+use Rattle.ff_network.specs.Networks.{AllStart, ports_of}
+use Rattle.ff_network.specs.Runs.{AllKept, MeetsNetwork}
+use Rattle.ff_plan.specs.declared.planned.PlanNode.{PlanNode}
+use Rattle.ff_files.specs.Works.{AreTold}
+use Rattle.ff_running.specs.Kinds.{KindsOf}
+use Rattle.ff_running.specs.Meaning.{task_by, task_at}
+use Rattle.ff_running.specs.Parts.{IsPart, AreParts}
+use Rattle.ff_running.specs.Runs.{TellsRun, AreRun}
+use Rattle.ff_running.proofs.Networks.{unstarted, kept_same, unstarted_tells, unstarted_streams, parts_fit, meets_streams}
+use Rattle.ff_running.proofs.Numbers.{there}
+
+module _ {H S K M : Type 0} (is : KindsOf H) (left named : S → Option (List ℕ)) (failed : S → ℕ) (holds called : K → Option (List ℕ)) (faulted : K → ℕ) (view : M → View)
+    (outputs : List OutputJob) (heads : List H) (edges : List Edge) (nodes : List PlanNode) (srcs : List S) (snks : List K) (olds : List M) (sp : List (Option S)) (kp : List (Option K))
+    (parts : AreParts is left named failed holds called faulted view outputs heads edges nodes srcs snks olds sp kp) where
+  node_there : (k : ℕ) (m : M) → slice_get olds k ≡ Some m → (n : PlanNode) × (slice_get nodes k ≡ Some n)
+  node_there k m at = there nodes k (let w = slice_get_within olds k m at in let few = parts.few in omega (arith, w, few))
+
+  part_lanes : (k : ℕ) (m : M) → slice_get olds k ≡ Some m → ((view m).in_lanes ≡ lanes_into edges k) × ((view m).out_lanes ≡ lanes_out_of edges k)
+  part_lanes k m at = (let n = node_there k m at in let p = parts.each k n.0 m n.1 at in (p.in_lanes, p.out_lanes))
+
+  pub part_sound : (k : ℕ) (m : M) → slice_get olds k ≡ Some m → (view m).fault ≡ None
+  part_sound k m at = (let n = node_there k m at in (parts.each k n.0 m n.1 at).sound)
+
+  part_stands : (bytes : List (List ℕ)) → AreTold left holds srcs snks bytes → (k : ℕ) (m : M) → slice_get olds k ≡ Some m → (view m).stands (start (task_at is outputs heads bytes nodes edges k))
+  part_stands bytes told k m at =
+      let n = node_there k m at in
+      subst (λ (o : Option PlanNode). (view m).stands (start (task_by is outputs heads bytes nodes edges o k))) (sym n.1) ((parts.each k n.0 m n.1 at).starts bytes told)
+
+  -- the parts start with the tasks of their nodes
+  pub all_start : (bytes : List (List ℕ)) → AreTold left holds srcs snks bytes → AllStart view (task_at is outputs heads bytes nodes edges) olds
+  all_start bytes told = λ k d lt.
+      let x = there olds k lt in
+      subst (λ (m : M). (view m).stands (start (task_at is outputs heads bytes nodes edges k))) (sym (get_or_from_slice_get olds k x.0 d x.1)) (part_stands bytes told k x.0 x.1)
+
+  pub all_fit : length olds ≡ length nodes → AreFit (ports_by edges) (length nodes) edges → AreFit (ports_of view olds) (length olds) edges
+  all_fit long h = parts_fit view edges olds (length nodes) long part_lanes h
+
+  pub run_ok : length olds ≡ length nodes → (news : List M) (fault : Option NodeFault) (claims : Bool) → AllKept view olds news → TellsRun view news fault
+      → (claims ≡ true → (tasks : ℕ → Task) → AllStart view tasks olds
+      → MeetsNetwork view tasks (network tasks (ports_of view olds) edges (length olds)) (ins_at (ports_of view olds) edges) (outs_at (ports_of view olds) edges) news fault)
+      → AreRun is left named failed holds called faulted view outputs heads edges nodes srcs snks claims olds news sp kp fault
+  run_ok long news fault claims kept tells solved = record {
+    parts = parts;
+    all = λ none. long;
+    kept = kept;
+    tells = tells;
+    meets = λ vouched bytes told.
+        meets_streams view edges olds (length nodes) long part_lanes (task_at is outputs heads bytes nodes edges) news fault kept.count tells
+        (solved vouched (task_at is outputs heads bytes nodes edges) (all_start bytes told));
+  }
+
+  pub run_err : (fault : Option NodeFault) (claims : Bool) → fault ≡ unstarted → AreRun is left named failed holds called faulted view outputs heads edges nodes srcs snks claims olds olds sp kp fault
+  run_err fault claims e = record {
+    parts = parts;
+    all = λ none. absurd (let both : None ≡ unstarted = sym none ∙ e in cc);
+    kept = kept_same view olds;
+    tells = unstarted_tells view olds fault e part_sound;
+    meets = λ vouched bytes told. unstarted_streams view (task_at is outputs heads bytes nodes edges) _ edges olds fault e (part_stands bytes told);
+  }
