@@ -74,7 +74,7 @@ fine_only inputs nodes None e = refl
 fine_only inputs nodes (Some f) e = absurd (fine_at inputs f.node f.fault (slice_get nodes f.node) e)
 
 -- a node that is no Demux
-IsBehind : PlanNode → Type 0
+abbrev IsBehind : PlanNode → Type 0
 IsBehind n = (i : ℕ) → n ≡ node.Demux i → ⊥
 
 module _ {H S K M : Type 0} (is : KindsOf H) (left named : S → Option (List ℕ)) (failed : S → ℕ) (holds called : K → Option (List ℕ)) (faulted : K → ℕ) (view : M → View)

@@ -25,10 +25,10 @@ use Rattle.ff_running.proofs.Numbers.{there, same_some}
 
 module _ (inputs outputs : ℕ) (nodes : List PlanNode) (kinds : fitting.HasKinds inputs outputs nodes) where
   -- a node in front is a Demux, one at the end a Mux, and one between decodes or codes
-  IsFront : ℕ → PlanNode → Type 0
+  abbrev IsFront : ℕ → PlanNode → Type 0
   IsFront k n = (k < length kinds.demuxed) × (n ≡ node.Demux (slice_index_or kinds.demuxed k 0))
 
-  IsLast : ℕ → PlanNode → Type 0
+  abbrev IsLast : ℕ → PlanNode → Type 0
   IsLast k n = (o : ℕ) × (o < outputs) × (k ≡ (length nodes - outputs) + o) × (n ≡ node.Mux o)
 
   kind_of : (k : ℕ) (n : PlanNode) → slice_get nodes k ≡ Some n → IsFront k n ⊎ (((length kinds.demuxed ≤ k) × fitting.IsCoder n) ⊎ ((length kinds.demuxed ≤ k) × IsLast k n))
@@ -44,14 +44,14 @@ module _ (inputs outputs : ℕ) (nodes : List PlanNode) (kinds : fitting.HasKind
             let o = k - (length nodes - outputs) in
             let o_lt : o < outputs = omega (arith, lt, last, room) in
             let k_is : k ≡ (length nodes - outputs) + o = omega (arith, lt, last, room) in
-            inr (behind, o, o_lt, k_is, sym is ∙ (ap (λ (j : ℕ). slice_index_or nodes j n) k_is ∙ kinds.muxes o n o_lt))
+            inr (behind, (o, o_lt, k_is, sym is ∙ (ap (λ (j : ℕ). slice_index_or nodes j n) k_is ∙ kinds.muxes o n o_lt)))
         ])
       ]
 
   front_is : (k i : ℕ) → slice_get nodes k ≡ Some (node.Demux i) → (k < length kinds.demuxed) × (i ≡ slice_index_or kinds.demuxed k 0)
   front_is k i at = elim (kind_of k (node.Demux i) at) [
     | inl h ↦ (h.0, (let same : node.Demux i ≡ node.Demux (slice_index_or kinds.demuxed k 0) = h.1 in cc))
-    | inr r ↦ elim r [ inl h ↦ absurd h.1 | inr h ↦ absurd (let same : node.Demux i ≡ node.Mux h.1 = h.4 in cc) ]
+    | inr r ↦ elim r [ inl h ↦ absurd h.1 | inr h ↦ absurd (let same : node.Demux i ≡ node.Mux h.1.0 = h.1.3 in cc) ]
   ]
 
   last_is : (k o : ℕ) → slice_get nodes k ≡ Some (node.Mux o) → (o < outputs) × (k ≡ (length nodes - outputs) + o)
@@ -60,9 +60,9 @@ module _ (inputs outputs : ℕ) (nodes : List PlanNode) (kinds : fitting.HasKind
     | inr r ↦ elim r [
       | inl h ↦ absurd h.1
       | inr h ↦
-        let same : node.Mux o ≡ node.Mux h.1 = h.4 in
-        let equal : h.1 ≡ o = cc in
-        (subst (λ (p : ℕ). p < outputs) equal h.2, subst (λ (p : ℕ). k ≡ (length nodes - outputs) + p) equal h.3)
+        let same : node.Mux o ≡ node.Mux h.1.0 = h.1.3 in
+        let equal : h.1.0 ≡ o = cc in
+        (subst (λ (p : ℕ). p < outputs) equal h.1.1, subst (λ (p : ℕ). k ≡ (length nodes - outputs) + p) equal h.1.2)
     ]
   ]
 

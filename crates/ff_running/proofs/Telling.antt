@@ -25,7 +25,7 @@ tells_each tells [] h = refl
 tells_each tells (x ∷ xs) h = both_true (tells x) (all_tell tells xs) (h 0 x (omega arith)) (tells_each tells xs (λ k d lt. h (suc k) d (omega (arith, lt))))
 
 -- the bytes that are left, where it is told
-bytes_in : Option (List ℕ) → List ℕ
+abbrev bytes_in : Option (List ℕ) → List ℕ
 bytes_in None = []
 bytes_in (Some bytes) = bytes
 
