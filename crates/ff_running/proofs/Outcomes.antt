@@ -187,6 +187,14 @@ module _ {H S K M : Type 0} (is : KindsOf H) (left named : S → Option (List �
     sources_until : (j : ℕ) → slice_get nodes f.node ≡ Some (node.Demux j) → FailNoMore failed srcs srcs' j
     sources_until j here = sources_below j (λ k i m below at now. quiet f reported k m (inl (rises k i f.node j at here below)) now)
 
+    -- and this input's too, where the fault is another
+    sources_through : (j : ℕ) → slice_get nodes f.node ≡ Some (node.Demux j) → f.fault ≢ Device → FailNoMore failed srcs srcs' (j + 1)
+    sources_through j here other = sources_below (j + 1) (λ k i m below at now.
+        quiet f reported k m (elim (ordered k f.node) [
+          | inl lt ↦ inl lt
+          | inr r ↦ elim r [ inl e ↦ inr (e, other) | inr over ↦ absurd (let up = order.rising f.node k j i here at over in omega (arith, below, up)) ]
+        ]) now)
+
     -- the first one, where the fault is another
     first_source : f.fault ≢ Device → FailNoMore failed srcs srcs' 1
     first_source other = sources_below 1 (λ k i m below at now.
@@ -230,9 +238,9 @@ module _ {H S K M : Type 0} (is : KindsOf H) (left named : S → Option (List �
 
     damaged_says : (offset : ℕ) (n : PlanNode) → slice_get nodes f.node ≡ Some n → f.fault ≡ Damaged offset → Says (damaged_end offset n)
     damaged_says offset (node.Demux i) at c =
-        (λ bytes vouched told. (f.node, node.Demux i, at, refl, cause_of (subst IsOfInputs (sym c) tt) bytes vouched told ∙ ap (λ (x : Fault). Some x) c), sources_until f reported i at)
+        (λ bytes vouched told. (f.node, node.Demux i, at, refl, cause_of (subst IsOfInputs (sym c) tt) bytes vouched told ∙ ap (λ (x : Fault). Some x) c), sources_through f reported i at (λ d. let both : Damaged offset ≡ Device = sym c ∙ d in cc))
     damaged_says offset (node.Dec s) at c =
-        (λ bytes vouched told. (f.node, node.Dec s, at, refl, cause_of (subst IsOfInputs (sym c) tt) bytes vouched told ∙ ap (λ (x : Fault). Some x) c), all_sources f reported (node.Dec s) s.input at (λ i e. cc))
+        (λ bytes vouched told. (f.node, node.Dec s, at, refl, cause_of (subst IsOfInputs (sym c) tt) bytes vouched told ∙ ap (λ (x : Fault). Some x) c), all_sources f reported (node.Dec s) (s.input + 1) at (λ i e. cc))
     damaged_says offset (node.Graph g) at c = all_sources f reported (node.Graph g) 1 at (λ i e. cc)
     damaged_says offset (node.Shortest o) at c = all_sources f reported (node.Shortest o) 1 at (λ i e. cc)
     damaged_says offset (node.Enc o j) at c = all_sources f reported (node.Enc o j) 1 at (λ i e. cc)
@@ -247,19 +255,19 @@ module _ {H S K M : Type 0} (is : KindsOf H) (left named : S → Option (List �
     large_says (node.Mux o) at c =
         (λ bytes vouched told. (f.node, at, cause_of (subst IsOfInputs (sym c) tt) bytes vouched told ∙ ap (λ (x : Fault). Some x) c), all_sources f reported (node.Mux o) (comes_after (run_fault.TooLarge o)) at (λ i e. cc))
 
-    before_says : (n : PlanNode) → slice_get nodes f.node ≡ Some n → FailNoMore failed srcs srcs' (read_before inputs n)
-    before_says (node.Demux i) at = sources_until f reported i at
-    before_says (node.Dec s) at = all_sources f reported (node.Dec s) inputs at (λ i e. cc)
-    before_says (node.Graph g) at = all_sources f reported (node.Graph g) inputs at (λ i e. cc)
-    before_says (node.Shortest o) at = all_sources f reported (node.Shortest o) inputs at (λ i e. cc)
-    before_says (node.Enc o j) at = all_sources f reported (node.Enc o j) inputs at (λ i e. cc)
-    before_says (node.Mux o) at = all_sources f reported (node.Mux o) inputs at (λ i e. cc)
+    before_says : (n : PlanNode) → slice_get nodes f.node ≡ Some n → f.fault ≢ Device → FailNoMore failed srcs srcs' (read_before inputs n + 1)
+    before_says (node.Demux i) at other = sources_through f reported i at other
+    before_says (node.Dec s) at other = all_sources f reported (node.Dec s) (inputs + 1) at (λ i e. cc)
+    before_says (node.Graph g) at other = all_sources f reported (node.Graph g) (inputs + 1) at (λ i e. cc)
+    before_says (node.Shortest o) at other = all_sources f reported (node.Shortest o) (inputs + 1) at (λ i e. cc)
+    before_says (node.Enc o j) at other = all_sources f reported (node.Enc o j) (inputs + 1) at (λ i e. cc)
+    before_says (node.Mux o) at other = all_sources f reported (node.Mux o) (inputs + 1) at (λ i e. cc)
 
     node_says : (c : Fault) (n : PlanNode) → slice_get nodes f.node ≡ Some n → f.fault ≡ c → Says (end_at inputs f.node c n)
     node_says Device n at c = device_says n at c
     node_says (Damaged offset) n at c = damaged_says offset n at c
     node_says TooLong n at c =
-        (λ bytes vouched told. (n, at, refl, cause_of (subst IsOfInputs (sym c) tt) bytes vouched told ∙ ap (λ (x : Fault). Some x) c), before_says n at)
+        (λ bytes vouched told. (n, at, refl, cause_of (subst IsOfInputs (sym c) tt) bytes vouched told ∙ ap (λ (x : Fault). Some x) c), before_says n at (λ d. let both : TooLong ≡ Device = sym c ∙ d in cc))
     node_says TooLarge n at c = large_says n at c
     node_says NoMemory n at c = first_source f reported (λ d. let both : NoMemory ≡ Device = sym c ∙ d in cc)
 

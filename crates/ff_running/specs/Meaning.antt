@@ -95,10 +95,10 @@ module _ {H : Type 0} (is : KindsOf H) (outputs : List OutputJob) (heads : List 
   BreaksIn (run_fault.TooLarge output) =
       (k : ℕ) × (slice_get nodes k ≡ Some (node.Mux output)) × (cause_at k ≡ Some net_fault.TooLarge)
 
--- inputs below this number come before the fault
+-- inputs below this number come before the fault, with the one whose node has it: that node's own source hasn't failed
 abbrev pub comes_after : RunFault → ℕ
-comes_after (run_fault.Damaged input offset) = input
-comes_after (run_fault.TooLong k before) = before
+comes_after (run_fault.Damaged input offset) = input + 1
+comes_after (run_fault.TooLong k before) = before + 1
 comes_after (run_fault.TooLarge output) = 2 ^ 32
 
 module _ {H : Type 0} (is : KindsOf H) (job : Job) where
