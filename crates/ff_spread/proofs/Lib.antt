@@ -1,0 +1,3 @@
+pub mod Configuring
+pub mod Putting
+pub mod Spreading

@@ -1,0 +1,11 @@
+use Rattle.std.proofs.Common.{◌≡◌, ◌≤◌, ℕ, length}
+use Rattle.std.specs.Prelude.{vec_capacity}
+use Rattle.ff_spread.specs.Lines.{lines, fresh}
+use Rattle.ff_spread.proofs.outlets.fresh_outlets.Given as goal
+
+abbrev pub invariant-made : goal.invariant-made
+invariant-made l = record {
+  count : length l.outlets.items ≡ l.i;
+  room : l.count ≤ vec_capacity l.outlets;
+  empty : (q : ℕ) → lines l.outlets.items q ≡ fresh;
+}

@@ -1,0 +1,11 @@
+use Rattle.std.proofs.Common.{◌<◌, length, arith, ap, ◌∙◌}
+use Rattle.ff_spread.specs.Lines.{Line}
+use Rattle.ff_spread.specs.LineLaws.{lines_read}
+use Rattle.ff_spread.proofs.Putting.{stopped_more}
+use Rattle.ff_spread.proofs.outlets.is_wanted.Goals as goal
+
+pub stopped-preserved : goal.stopped-preserved
+stopped-preserved c =
+    let os = c.args.outlets.now.items in
+    let lt : c.stopped.port < length os = omega arith in
+    stopped_more os c.args.from c.stopped.port c.stopped.invariant (ap (λ (l : Line). l.stopped) (lines_read os c.stopped.port c.index.result.now c.index.result.now lt c.index.ensures) ∙ c.if-not-index.false)

@@ -1,0 +1,6 @@
+pub mod LineLaws
+pub mod Lines
+pub mod Many
+pub mod Splits
+pub mod SpreadLaws
+pub mod Spreads
