@@ -17,6 +17,7 @@ mod pad;
 mod repaint;
 mod set_pts;
 mod sizes;
+mod split;
 mod trim;
 mod vflip;
 
@@ -28,5 +29,6 @@ pub use pad::{Pad, PadSettings};
 pub use repaint::{Paint, Repaint};
 pub use set_pts::SetPts;
 pub use sizes::Sizes;
+pub use split::Split;
 pub use trim::Trim;
 pub use vflip::VFlip;
