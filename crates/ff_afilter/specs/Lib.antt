@@ -1,2 +1,4 @@
+pub mod ChannelLaws
+pub mod Channels
 pub mod TrimLaws
 pub mod Trims

@@ -12,8 +12,12 @@
 
 mod anull;
 mod aset_pts;
+mod asplit;
 mod atrim;
+mod channel_split;
 
 pub use anull::ANull;
 pub use aset_pts::ASetPts;
+pub use asplit::ASplit;
 pub use atrim::ATrim;
+pub use channel_split::{ChannelSplit, Channels};

@@ -72,7 +72,7 @@ put_all os os' p o o1 o2 o3 y f lt at same len front at' is put ended stopped be
     let lt1 : p < length (slice_set os p o1) = omega (arith, lt, size) in
     let lt2 : p < length os' = omega (arith, lt1, len) in
     let here : line_of o2 ≡ lines os p =
-        sym (lines_read os' p o2 o2 lt2 at') ∙ (front_line (p + 1) (slice_set os p o1) os' p o lt1 len front (omega arith) ∙ (lines_set os p o1 lt ∙ (same ∙ sym (lines_read os p o o lt at)))) in
+    sym (lines_read os' p o2 o2 lt2 at') ∙ (front_line (p + 1) (slice_set os p o1) os' p o lt1 len front (omega arith) ∙ (lines_set os p o1 lt ∙ (same ∙ sym (lines_read os p o o lt at)))) in
     let one : IsPut (line_of o2) (line_of o3) y = record { ended = ended; stopped = stopped; queue = put } in
     elim (same_or_not q p) as (λ _. IsPut (lines os q) (lines (slice_set os' p o3) q) (f q)) [
       | inl k ↦ subst (λ (i : ℕ). IsPut (lines os i) (lines (slice_set os' p o3) i) (f i)) (sym k)

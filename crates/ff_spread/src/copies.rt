@@ -73,8 +73,8 @@ impl Settings for SplitSettings {
     }
 }
 
-// So many times the same head.
-fn same_heads(
+/// So many times the same head.
+pub fn same_heads(
     alloc: Global,
     head: &StreamHead,
     count: usize,

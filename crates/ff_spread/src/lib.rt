@@ -16,6 +16,6 @@ mod outlets;
 mod share;
 mod spreader;
 
-pub use copies::{Copies, SplitSettings, copies_of};
+pub use copies::{Copies, SplitSettings, copies_of, same_heads};
 pub use share::Share;
 pub use spreader::Spreader;
