@@ -1,3 +1,4 @@
 pub mod Configuring
+pub mod OneRule
 pub mod Putting
 pub mod Spreading

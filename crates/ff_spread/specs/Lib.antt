@@ -4,3 +4,4 @@ pub mod Many
 pub mod Splits
 pub mod SpreadLaws
 pub mod Spreads
+pub mod Valid

@@ -1,7 +1,11 @@
 pub mod Crops
+pub mod FpsOptions
 pub mod HFlips
 pub mod Pads
 pub mod Pictures
+pub mod RateLaws
+pub mod RateViews
+pub mod Rates
 pub mod Sizes
 pub mod TrimLaws
 pub mod Trims

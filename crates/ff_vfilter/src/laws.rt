@@ -1,11 +1,20 @@
 //! Laws of the filters' functions: functions that do nothing, whose clauses hold of all values.
-ghost use Rattle.std.specs.Prelude.{◌≡◌, ℕ};
-ghost use Rattle.ff_time.specs.Fraction.{Fraction};
+ghost use Rattle.std.specs.Prelude.{◌≡◌, ◌*◌, ℕ, List, None, pos};
+ghost use Rattle.ff_time.specs.Fraction.{Fraction, IsBase};
+ghost use Rattle.ff_time.specs.Rescale.{IsRescaled};
 ghost use Rattle.ff_values.specs.declared.head.StreamHead.TheVariants.{Video as VideoHead};
 ghost use Rattle.ff_values.specs.declared.video.Format.{Format};
+ghost use Rattle.ff_values.specs.declared.video.VFrame.{VFrame};
 ghost use Rattle.ff_values.specs.Video.{IsSide};
 ghost use Rattle.ff_frame.specs.declared.item.Lane.{Lane};
 ghost use Rattle.ff_frame.specs.declared.item.Lane.TheVariants.{Frames};
+ghost use Rattle.ff_frame.specs.Breaks.{KeepsBrokenRule};
+ghost use Rattle.ff_frame.specs.Lanes.{IsValid};
+ghost use Rattle.ff_frame.specs.Ports.{stream_at};
+ghost use Rattle.ff_filter.specs.Joins.{Flow};
+ghost use Rattle.ff_filter.specs.Shifts.{shifted};
+ghost use Rattle.ff_vfilter.specs.declared.scale.Scale.{Scale};
+ghost use Rattle.ff_vfilter.specs.Rates.{even, nearest, none_held, rated};
 ghost use Rattle.ff_planes.specs.declared.rectangle.Rectangle.{Rectangle as Part};
 ghost use Rattle.ff_planes.specs.Parts.{IsPart};
 ghost use Rattle.ff_vfilter.specs.Pictures.{repainted};
@@ -38,4 +47,26 @@ pub fn pictures_painted_are_valid()
     ensures pad { (tb : Fraction) (format : Format) (width height sar_num sar_den w h : ℕ) (r : Part)
         → r.width ≡ width → r.height ≡ height → IsSide w → IsSide h
         → IsSound (Frames (VideoHead tb format width height sar_num sar_den)) (Frames (VideoHead tb format w h sar_num sar_den)) (λ s. repainted (pad_frame w h r) s) }
+{}
+
+/// The filters of video keep the broken rule: a broken input counts as open without a further item, and the output is broken
+/// exactly where it is broken off.
+pub fn pictures_keep_the_broken_rule()
+    ensures same { (lane : Lane) → KeepsBrokenRule (λ (ss : List Flow). IsValid lane (stream_at ss 0)) (λ (ss : List Flow). stream_at ss 0) }
+    ensures shifted { (lane : Lane) → KeepsBrokenRule (λ (ss : List Flow). IsValid lane (stream_at ss 0)) (λ (ss : List Flow). shifted None (stream_at ss 0)) }
+    ensures trimmed { (lane : Lane) (range : Range)
+        → KeepsBrokenRule (λ (ss : List Flow). IsValid lane (stream_at ss 0)) (λ (ss : List Flow). trimmed range (stream_at ss 0)) }
+    ensures painted { (lane : Lane) (paint : VFrame → VFrame)
+        → KeepsBrokenRule (λ (ss : List Flow). IsValid lane (stream_at ss 0)) (λ (ss : List Flow). repainted paint (stream_at ss 0)) }
+    ensures even { (lane : Lane) (scale : Scale)
+        → KeepsBrokenRule (λ (ss : List Flow). IsValid lane (stream_at ss 0)) (λ (ss : List Flow). even scale (stream_at ss 0)) }
+{}
+
+/// At an even rate number n shows the last picture whose own number is at most n, and a number is the time rescaled to the
+/// nearest, halves upwards.
+pub fn pictures_at_an_even_rate()
+    ensures even { (scale : Scale) → IsBase scale.from → IsBase scale.to → (tb : Fraction) (format : Format) (width height sar_num sar_den : ℕ) (t : Flow)
+        → IsValid (Frames (VideoHead tb format width height sar_num sar_den)) t → rated scale none_held t ≡ even scale t }
+    ensures rescaled { (from to : Fraction) → IsBase from → IsBase to → (t : ℕ)
+        → IsRescaled (pos t) from to (pos (nearest (t * (from.num * to.den)) (from.den * to.num))) }
 {}

@@ -10,24 +10,35 @@
 #![tactic(auto)]
 
 mod crop;
+mod fps;
 mod hflip;
 mod laws;
 mod null;
 mod pad;
+mod rate;
 mod repaint;
+mod scale;
 mod set_pts;
+mod showing;
 mod sizes;
 mod split;
 mod trim;
 mod vflip;
 
 pub use crop::{Crop, CropSettings};
+pub use fps::{Fps, FpsSettings};
 pub use hflip::HFlip;
-pub use laws::{pictures_kept_are_sound, pictures_painted_are_valid};
+pub use laws::{
+    pictures_at_an_even_rate, pictures_keep_the_broken_rule, pictures_kept_are_sound,
+    pictures_painted_are_valid,
+};
 pub use null::Null;
 pub use pad::{Pad, PadSettings};
+pub use rate::{Rate, Work};
 pub use repaint::{Paint, Repaint};
+pub use scale::Scale;
 pub use set_pts::SetPts;
+pub use showing::{Ahead, Showing};
 pub use sizes::Sizes;
 pub use split::Split;
 pub use trim::Trim;

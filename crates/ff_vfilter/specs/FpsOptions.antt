@@ -1,0 +1,68 @@
+-- `fps` by its arguments.
+use Rattle.std.specs.Prelude.{◌≡◌, ℕ, nat_lt, Bool, false, pos, if◌then◌else◌, ◌==◌, Option, Some, None, List, [], ◌∷◌, codes, length, Result, Ok}
+use Rattle.std.specs.List.{position_or_len, before_first, after_first}
+use Rattle.ff_time.specs.Fraction.{Fraction, IsBase, IsLowestOf}
+use Rattle.ff_values.specs.declared.config.ConfigError.{ConfigError}
+use Rattle.ff_values.specs.declared.head.StreamHead.{StreamHead}
+use Rattle.ff_values.specs.declared.head.StreamHead.TheVariants.{Audio, Video}
+use Rattle.ff_values.specs.Heads.{base_of_head}
+use Rattle.ff_frame.specs.declared.item.Lane.TheVariants.{Frames}
+use Rattle.ff_frame.specs.Within.{within, passes_limits}
+use Rattle.ff_lang.specs.declared.graph.Arg.{Arg}
+use Rattle.ff_filter.specs.Views.{View}
+use Rattle.ff_filter.specs.Options.{Manual, number_of, is_video, IsConfigured}
+use Rattle.ff_vfilter.specs.declared.fps.FpsSettings.{FpsSettings}
+use Rattle.ff_vfilter.specs.Rates.{rated, none_held}
+
+abbrev pub is_slash : ℕ → Bool
+is_slash b = b == 47
+
+abbrev pub over_one : Option ℕ → Option (ℕ × ℕ)
+over_one None = None
+over_one (Some n) = Some (n, 1)
+
+abbrev pub both : Option ℕ → Option ℕ → Option (ℕ × ℕ)
+both None d = None
+both (Some n) None = None
+both (Some n) (Some d) = Some (n, d)
+
+-- N, or N/D: whole numbers of 1 to 10 digits
+abbrev pub ratio_of : List ℕ → Option (ℕ × ℕ)
+ratio_of text = if nat_lt (position_or_len is_slash text) (length text) then both (number_of 10 (before_first is_slash text)) (number_of 10 (after_first is_slash text)) else over_one (number_of 10 text)
+
+-- `fps` is N or N/D pictures a second; the time base is 1/fps in lowest terms, of two positive numbers of at most 2^31 - 1
+pub record SetsFps (value : List ℕ) (t : FpsSettings) : Type 0 where
+  pub n : ℕ
+  pub d : ℕ
+  pub ratio : ratio_of value ≡ Some (n, d)
+  pub lowest : IsLowestOf (pos d) (pos n) t.base
+  pub small : IsBase t.base
+
+abbrev pub fps_manual : Manual FpsSettings
+fps_manual = record {
+  names = (codes "fps", 0) ∷ [];
+  places = 1;
+  Sets = λ s option value t. SetsFps value t;
+}
+
+-- the head of the input, and the time base of the output: 1/25 where it isn't given
+abbrev pub IsFps : List Arg → List StreamHead → Result (StreamHead × Fraction) ConfigError → Type 0
+IsFps args heads r = IsConfigured is_video fps_manual (record { base = record { num = 1; den = 25 } }) (λ head s q. q ≡ Ok (head, s.base)) args heads r
+
+-- the same pictures in another time base
+abbrev pub fps_head : StreamHead × Fraction → StreamHead
+fps_head m = in_base m.1 m.0
+  where
+    in_base : Fraction → StreamHead → StreamHead
+    in_base base (Audio tb rate bits channels codec) = Audio base rate bits channels codec
+    in_base base (Video tb format width height sar_num sar_den) = Video base format width height sar_num sar_den
+
+abbrev pub fps_view : StreamHead × Fraction → View
+fps_view m = record {
+  ins = Frames m.0 ∷ [];
+  outs = Frames (fps_head m) ∷ [];
+  rest = λ ext q. within (passes_limits (Frames (fps_head m))) (rated (record { from = base_of_head m.0; to = m.1 }) none_held (ext 0));
+  shut = λ p. false;
+  ended = λ q. false;
+  stopped = λ q. false;
+}

@@ -1,0 +1,194 @@
+ghost use Rattle.std.specs.Prelude.{◌≡◌, ◌<◌, ◌^◌, ◌∷◌, [], pos, None, Some, ℕ, IfSome, IsNone, IfOk, IfErr};
+ghost use Rattle.ff_time.specs.Fraction.{Fraction, IsBase, IsLowestOf};
+ghost use Rattle.ff_values.specs.declared.config.ConfigError.TheVariants.{NoMemory};
+ghost use Rattle.ff_vfilter.specs.FpsOptions.{ratio_of, fps_head, fps_view};
+
+use crate::rate::Rate;
+use crate::scale::Scale;
+use crate::showing::{Ahead, Showing};
+use ff_filter::{Filter, Inlet, Settings, read_number, time_base, video_settings};
+use ff_frame::{ConfigError, StreamHead};
+use ff_lang::Arg;
+use ff_time::Rational;
+use std::alloc::Global;
+
+/// The settings of `fps`.
+#[derive(Clone, Copy, Debug)]
+pub struct FpsSettings {
+    /// The time base of the output, which is one over the pictures a second.
+    pub base: Rational,
+}
+
+// N, or N/D: whole numbers of 1 to 10 digits.
+fn ratio(text: &str) -> Option<(u64, u64)>
+    ensures value { result ≡ ratio_of text.now }
+    ensures few { IfSome result (λ r. (r.0 < 10 ^ 10) × (r.1 < 10 ^ 10)) }
+{
+    match text.split_once('/') {
+        None => match read_number(text, 10) {
+            None => None,
+            Some(n) => Some((n, 1)),
+        },
+        Some((first, second)) => match read_number(first, 10) {
+            None => None,
+            Some(n) => match read_number(second, 10) {
+                None => None,
+                Some(d) => Some((n, d)),
+            },
+        },
+    }
+}
+
+// The fraction in lowest terms, where both numbers are positive and the lowest terms below 2^31.
+fn lowest(num: i64, den: i64) -> Option<Rational>
+    ensures is { IfSome result (IsLowestOf num den) }
+    ensures base { IfSome result IsBase }
+    ensures none { IsNone result → (b : Fraction) → IsLowestOf num den b → IsBase b → ⊥ }
+{
+    match Rational::new(num, den) {
+        Ok(base) => Some(base),
+        Err(_) => None,
+    }
+}
+
+// One over n/d in lowest terms, where both are positive and the lowest terms below 2^31.
+fn one_over(n: u64, d: u64) -> Option<Rational>
+    requires first { n < 10 ^ 10 }
+    requires second { d < 10 ^ 10 }
+    ensures is { IfSome result (λ b. IsLowestOf (pos d) (pos n) b) }
+    ensures base { IfSome result IsBase }
+    ensures none { IsNone result → (b : Fraction) → IsLowestOf (pos d) (pos n) b → IsBase b → ⊥ }
+{
+    lowest(d as i64, n as i64)
+}
+
+impl Settings for FpsSettings {
+    ghost use Rattle.ff_vfilter.specs.FpsOptions.{fps_manual};
+
+    ghost manual = { fps_manual };
+
+    fn option(key: &str) -> Option<usize> {
+        if key == "fps" { Some(0) } else { None }
+    }
+
+    fn places() -> usize {
+        1
+    }
+
+    fn set(self, _option: usize, value: &str) -> Option<FpsSettings> {
+        match ratio(value) {
+            None => None,
+            Some((n, d)) => match one_over(n, d) {
+                None => None,
+                Some(base) => Some(FpsSettings { base }),
+            },
+        }
+    }
+}
+
+// The same pictures in another time base.
+fn in_base(head: &StreamHead, base: Rational) -> StreamHead
+    ensures { result ≡ fps_head (head.now, base) }
+{
+    match *head {
+        StreamHead::Audio {
+            rate,
+            bits,
+            channels,
+            codec,
+            ..
+        } => StreamHead::Audio {
+            tb: base,
+            rate,
+            bits,
+            channels,
+            codec,
+        },
+        StreamHead::Video {
+            format,
+            width,
+            height,
+            sar_num,
+            sar_den,
+            ..
+        } => StreamHead::Video {
+            tb: base,
+            format,
+            width,
+            height,
+            sar_num,
+            sar_den,
+        },
+    }
+}
+
+// The machine to which nothing was done.
+fn rate_of(alloc: Global, head: &StreamHead, base: Rational) -> Rate
+    ensures { ⟦<Rate as Filter>⟧.view result ≡ fps_view (head.now, base) }
+{
+    Rate {
+        alloc,
+        head: *head,
+        given: in_base(head, base),
+        showing: Showing {
+            scale: Scale {
+                from: time_base(head),
+                to: base,
+            },
+            picture: None,
+            number: 0,
+            before: 0,
+            ahead: Ahead::Unknown,
+        },
+        input: Inlet::new(alloc),
+        ended: false,
+        stopped: false,
+    }
+}
+
+// The machine and the head of its output. `NoMemory` where there was none.
+fn rate_and_head(
+    alloc: Global,
+    head: &StreamHead,
+    base: Rational,
+) -> Result<(Rate, Vec<StreamHead>), ConfigError>
+    ensures view { IfOk result (λ r. ⟦<Rate as Filter>⟧.view r.0 ≡ fps_view (head.now, base)) }
+    ensures heads { IfOk result (λ r. r.1.items ≡ fps_head (head.now, base) ∷ []) }
+    ensures err { IfErr result (λ e. e ≡ NoMemory) }
+{
+    let machine = rate_of(alloc, head, base);
+    let mut heads = Vec::new(alloc);
+    match heads.push(in_base(head, base)) {
+        Ok(()) => Ok((machine, heads)),
+        Err(_) => Err(ConfigError::NoMemory),
+    }
+}
+
+/// `fps`: pictures at an even rate. Number n shows the last picture whose own time, rounded to a number, is at most n.
+pub struct Fps {}
+
+impl Fps {
+    ghost use Rattle.ff_filter.specs.Options.{IsMade, IsRefused};
+    ghost use Rattle.ff_vfilter.specs.FpsOptions.{IsFps};
+
+    /// The filter by its arguments and the head of its input; the head of its output beside it, whose time base is one over the
+    /// pictures a second. The option `fps`, which may be given by place, is N or N/D, whole numbers of 1 to 10 digits, and 25
+    /// where it isn't given. It refuses in this order: `Pads`, `Kind`, `UnknownOption` and `BadOption` by argument.
+    pub fn configure(
+        alloc: Global,
+        args: &[Arg],
+        heads: &[StreamHead],
+    ) -> Result<(Rate, Vec<StreamHead>), ConfigError>
+        ensures made { IfOk result (λ r. IsMade (IsFps args.now heads.now) fps_view fps_head (⟦<Rate as Filter>⟧.view r.0) r.1.items) }
+        ensures refused { IfErr result (IsRefused (IsFps args.now heads.now)) }
+    {
+        // 1/25 is a time base: the other arm is never taken.
+        let Ok(base) = Rational::new(1, 25) else {
+            return Err(ConfigError::NoMemory);
+        };
+        match video_settings(FpsSettings { base }, args, heads) {
+            Err(error) => Err(error),
+            Ok((head, settings)) => rate_and_head(alloc, &head, settings.base),
+        }
+    }
+}

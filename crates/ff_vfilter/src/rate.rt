@@ -1,0 +1,245 @@
+ghost use Rattle.std.specs.Prelude.{◌≡◌, ◌<◌, ◌≤◌, ◌^◌, ◌⊎◌, OnErr, Some, None, Ok, true, false};
+ghost use Rattle.ff_frame.specs.declared.item.Item.{Item as AnItem};
+ghost use Rattle.ff_frame.specs.declared.item.Lane.TheVariants.{Frames};
+ghost use Rattle.ff_values.specs.declared.video.VFrame.{VFrame as AFrame};
+ghost use Rattle.ff_frame.specs.Within.{passes_limits};
+ghost use Rattle.ff_filter.specs.Views.{Gave, Waits, Same};
+ghost use Rattle.ff_filter.specs.Made.{is_over};
+ghost use Rattle.ff_vfilter.specs.Rates.{number_of, shown};
+ghost use Rattle.ff_vfilter.specs.RateViews.{rate_view, rate_spent, limit_of, work_left};
+
+use crate::showing::{Ahead, Showing};
+use ff_filter::{Filter, Inlet, Next, discard, time_base};
+use ff_frame::{Item, Refused, StreamHead, VFrame};
+use std::alloc::{AllocError, Global};
+use std::mem::replace;
+
+// The limits.
+const LAST_SECOND: u128 = 1_000_000_000;
+
+const MOST_ITEMS: u128 = 1 << 40;
+
+/// Gives pictures at an even rate, within the limits of every stream.
+#[derive(Drop)]
+pub struct Rate {
+    /// Where the memory of copies comes from.
+    pub alloc: Global,
+    /// The head of its input.
+    pub head: StreamHead,
+    /// The head of its output.
+    pub given: StreamHead,
+    /// The picture that is shown, and how far.
+    pub showing: Showing,
+    /// What waits on its input.
+    pub input: Inlet,
+    /// Whether the closing item was given.
+    pub ended: bool,
+    /// Whether the output isn't wanted any more.
+    pub stopped: bool,
+}
+
+/// What one step of the work came to.
+#[derive(Drop)]
+pub enum Work {
+    /// It went on, and gave nothing.
+    On,
+    /// It gave this.
+    Gave(Item),
+    /// Nothing is due.
+    Waits,
+}
+
+// Whether the picture of this number passes a limit, where so many were given before it.
+fn is_long(given: &StreamHead, before: u64, number: u64) -> bool
+    requires { number < 2 ^ 62 }
+    ensures { (f : AFrame) → result ≡ passes_limits (Frames given.now) before (shown number f) }
+{
+    let tb = time_base(given);
+    let end = number as u128 + 1;
+    (MOST_ITEMS < before as u128 + 1)
+        | (LAST_SECOND * (tb.den() as u128) < end * (tb.num() as u128))
+}
+
+impl Rate {
+    // The next picture, where one is due; the closing item where it would pass a limit.
+    fn give(&mut self) -> Result<Option<Item>, AllocError>
+        requires { self.old.ended ≡ false }
+        ensures gave { (x : AnItem) → result ≡ Ok (Some x) → Gave (rate_view self.old.head self.old.given self.old.showing self.old.input.queue.items self.old.input.after self.old.ended self.old.stopped) (rate_view self.new.head self.new.given self.new.showing self.new.input.queue.items self.new.input.after self.new.ended self.new.stopped) 0 x }
+        ensures same { result ≡ Ok None → self.new ≡ self.old }
+        ensures none { result ≡ Ok None → (self.old.showing.picture ≡ None) ⊎ (limit_of self.old.showing.scale self.old.showing.picture self.old.showing.ahead ≤ self.old.showing.number) }
+        ensures unchanged { OnErr result (Same (rate_view self.old.head self.old.given self.old.showing self.old.input.queue.items self.old.input.after self.old.ended self.old.stopped) (rate_view self.new.head self.new.given self.new.showing self.new.input.queue.items self.new.input.after self.new.ended self.new.stopped)) }
+    {
+        let limit = self.showing.limit();
+        let number = self.showing.number;
+        if self.showing.picture.is_none() || limit <= number {
+            return Ok(None);
+        }
+        if is_long(&self.given, self.showing.before, number) {
+            self.ended = true;
+            return Ok(Some(Item::Broken));
+        }
+        match self.showing.picture.take() {
+            None => Ok(None),
+            Some(frame) => {
+                if number + 1 == limit {
+                    return Ok(Some(self.showing.show_last(frame)));
+                }
+                match self.showing.show_one(self.alloc, frame) {
+                    Ok(item) => Ok(Some(item)),
+                    Err(error) => Err(error),
+                }
+            }
+        }
+    }
+
+    // Looks at what comes next; false where that isn't known.
+    fn look(&mut self) -> bool
+        requires { self.old.showing.ahead ≡ Ahead.Unknown }
+        ensures same { Same (rate_view self.old.head self.old.given self.old.showing self.old.input.queue.items self.old.input.after self.old.ended self.old.stopped) (rate_view self.new.head self.new.given self.new.showing self.new.input.queue.items self.new.input.after self.new.ended self.new.stopped) }
+        ensures less { result ≡ true → work_left self.new.input.queue.items self.new.showing.ahead < work_left self.old.input.queue.items self.old.showing.ahead }
+        ensures ended { self.new.ended ≡ self.old.ended }
+        ensures waits { result ≡ false → Waits (rate_view self.old.head self.old.given self.old.showing self.old.input.queue.items self.old.input.after self.old.ended self.old.stopped) (rate_view self.new.head self.new.given self.new.showing self.new.input.queue.items self.new.input.after self.new.ended self.new.stopped) 0 }
+    {
+        match self.input.next() {
+            Next::Data(Item::Video(frame)) => {
+                self.showing.ahead = Ahead::Picture(frame);
+                true
+            }
+            Next::Data(item) => {
+                discard(item);
+                true
+            }
+            Next::Whole => {
+                self.showing.ahead = Ahead::Whole;
+                true
+            }
+            Next::Lost => {
+                self.showing.ahead = Ahead::Lost;
+                true
+            }
+            Next::Unknown => false,
+        }
+    }
+
+    // Shows the picture that comes next.
+    fn take_up(&mut self, frame: VFrame)
+        requires unknown { self.old.showing.ahead ≡ Ahead.Unknown }
+        requires due { (self.old.showing.picture ≡ None) ⊎ (number_of self.old.showing.scale frame ≤ self.old.showing.number) }
+        ensures same { Same (rate_view self.old.head self.old.given (record self.old.showing { ahead = Ahead.Picture frame }) self.old.input.queue.items self.old.input.after self.old.ended self.old.stopped) (rate_view self.new.head self.new.given self.new.showing self.new.input.queue.items self.new.input.after self.new.ended self.new.stopped) }
+        ensures less { work_left self.new.input.queue.items self.new.showing.ahead < work_left self.old.input.queue.items (Ahead.Picture frame) }
+        ensures ended { self.new.ended ≡ self.old.ended }
+    {
+        if self.showing.picture.is_none() {
+            self.showing.number = self.showing.scale.number_of(&frame);
+        }
+        self.showing.picture = Some(frame);
+    }
+
+    // Goes on until a picture is due, or nothing is known.
+    fn step(&mut self) -> Result<Work, AllocError>
+        requires { self.old.ended ≡ false }
+        ensures same { result ≡ Ok Work.On → Same (rate_view self.old.head self.old.given self.old.showing self.old.input.queue.items self.old.input.after self.old.ended self.old.stopped) (rate_view self.new.head self.new.given self.new.showing self.new.input.queue.items self.new.input.after self.new.ended self.new.stopped) }
+        ensures less { result ≡ Ok Work.On → work_left self.new.input.queue.items self.new.showing.ahead < work_left self.old.input.queue.items self.old.showing.ahead }
+        ensures on { result ≡ Ok Work.On → self.new.ended ≡ false }
+        ensures gave { (x : AnItem) → result ≡ Ok (Work.Gave x) → Gave (rate_view self.old.head self.old.given self.old.showing self.old.input.queue.items self.old.input.after self.old.ended self.old.stopped) (rate_view self.new.head self.new.given self.new.showing self.new.input.queue.items self.new.input.after self.new.ended self.new.stopped) 0 x }
+        ensures waits { result ≡ Ok Work.Waits → Waits (rate_view self.old.head self.old.given self.old.showing self.old.input.queue.items self.old.input.after self.old.ended self.old.stopped) (rate_view self.new.head self.new.given self.new.showing self.new.input.queue.items self.new.input.after self.new.ended self.new.stopped) 0 }
+        ensures unchanged { OnErr result (Same (rate_view self.old.head self.old.given self.old.showing self.old.input.queue.items self.old.input.after self.old.ended self.old.stopped) (rate_view self.new.head self.new.given self.new.showing self.new.input.queue.items self.new.input.after self.new.ended self.new.stopped)) }
+    {
+        match self.give() {
+            Err(error) => return Err(error),
+            Ok(Some(item)) => return Ok(Work::Gave(item)),
+            Ok(None) => {}
+        }
+        match replace(&mut self.showing.ahead, Ahead::Unknown) {
+            Ahead::Unknown => {
+                if self.look() {
+                    Ok(Work::On)
+                } else {
+                    Ok(Work::Waits)
+                }
+            }
+            Ahead::Picture(frame) => {
+                self.take_up(frame);
+                Ok(Work::On)
+            }
+            Ahead::Whole => {
+                self.showing.ahead = Ahead::Whole;
+                self.ended = true;
+                Ok(Work::Gave(Item::End))
+            }
+            Ahead::Lost => {
+                self.showing.ahead = Ahead::Lost;
+                self.ended = true;
+                Ok(Work::Gave(Item::Broken))
+            }
+        }
+    }
+}
+
+impl Filter for Rate {
+    ghost use Rattle.ff_vfilter.specs.RateLaws.{rate-grows, rate-hides, rate-settles, rate-quiet, rate-spent_only, rate-shut_spent, rate-done_spent};
+
+    ghost view = { λ m. rate_view m.head m.given m.showing m.input.queue.items m.input.after m.ended m.stopped };
+
+    ghost spends = { λ m p. rate_spent m.input.after m.ended m.stopped };
+
+    fn inputs(&self) -> usize {
+        1
+    }
+
+    fn outputs(&self) -> usize {
+        1
+    }
+
+    fn is_shut(&self, _port: usize) -> bool {
+        self.input.is_shut()
+    }
+
+    fn is_stopped(&self, _port: usize) -> bool {
+        self.stopped
+    }
+
+    fn feed(&mut self, _port: usize, item: Item) -> Result<(), Refused> {
+        if self.input.reserve().is_err() {
+            return Err(Refused { item });
+        }
+        self.input.take_in(item);
+        Ok(())
+    }
+
+    fn pull(&mut self, _port: usize) -> Result<Option<Item>, AllocError> {
+        if self.ended {
+            return Ok(None);
+        }
+        loop {
+            match self.step() {
+                Err(error) => return Err(error),
+                Ok(Work::Gave(item)) => return Ok(Some(item)),
+                Ok(Work::Waits) => return Ok(None),
+                Ok(Work::On) => {}
+            }
+        }
+    }
+
+    fn stop(&mut self, _port: usize) {
+        self.stopped = true;
+    }
+
+    fn spent(&self, _port: usize) -> bool {
+        self.input.is_shut() | (self.ended | self.stopped)
+    }
+
+    ghost grows = { λ m. rate-grows m.head m.given m.showing m.input.queue.items m.input.after m.ended m.stopped };
+
+    ghost hides = { λ m. rate-hides m.head m.given m.showing m.input.queue.items m.input.after m.ended m.stopped };
+
+    ghost settles = { λ m. rate-settles m.head m.given m.showing m.input.queue.items m.input.after m.ended m.stopped };
+
+    ghost quiet = { λ m q e ext. rate-quiet m.head m.given m.showing m.input.queue.items m.input.after m.ended m.stopped q e ext };
+
+    ghost spent_only = { λ m p lt e. rate-spent_only m.head m.given m.showing m.input.queue.items m.input.after m.ended m.stopped p e };
+
+    ghost shut_spent = { λ m p lt e. rate-shut_spent m.input.after m.ended m.stopped e };
+
+    ghost done_spent = { λ m p lt z d. rate-done_spent m.head m.given m.showing m.input.queue.items m.input.after m.ended m.stopped d };
+}
