@@ -1,3 +1,5 @@
+pub mod ChannelSound
 pub mod Cutting
 pub mod Picking
+pub mod TrimSound
 pub mod Trimming

@@ -15,9 +15,11 @@ mod aset_pts;
 mod asplit;
 mod atrim;
 mod channel_split;
+mod laws;
 
 pub use anull::ANull;
 pub use aset_pts::ASetPts;
 pub use asplit::ASplit;
 pub use atrim::ATrim;
 pub use channel_split::{ChannelSplit, Channels};
+pub use laws::{channels_are_valid, sound_keeps_the_broken_rule, sound_kept_is_sound};
