@@ -21,7 +21,8 @@ impl ASplit {
         args: &[Arg],
         heads: &[StreamHead],
     ) -> Result<(Spreader<Copies>, Vec<StreamHead>), ConfigError>
-        ensures made { IfOk result (λ r. AreMade (IsSplit is_sound args.now heads.now) split_view split_heads (⟦<Spreader<Copies> as Filter>⟧.view r.0) r.1.items) }
+        ensures made { IfOk result (λ r. AreMade (IsSplit is_sound args.now heads.now) split_view split_heads
+            (⟦<Spreader<Copies> as Filter>⟧.view r.0) r.1.items) }
         ensures refused { IfErr result (IsRefused (IsSplit is_sound args.now heads.now)) }
     {
         match sound_settings(SplitSettings { outputs: 2 }, args, heads) {

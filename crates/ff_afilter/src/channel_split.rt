@@ -193,7 +193,8 @@ impl ChannelSplit {
         args: &[Arg],
         heads: &[StreamHead],
     ) -> Result<(Spreader<Channels>, Vec<StreamHead>), ConfigError>
-        ensures made { IfOk result (λ r. AreMade (IsChannelSplit args.now heads.now) channels_view mono_heads (⟦<Spreader<Channels> as Filter>⟧.view r.0) r.1.items) }
+        ensures made { IfOk result (λ r. AreMade (IsChannelSplit args.now heads.now) channels_view mono_heads
+            (⟦<Spreader<Channels> as Filter>⟧.view r.0) r.1.items) }
         ensures refused { IfErr result (IsRefused (IsChannelSplit args.now heads.now)) }
     {
         match sound_settings(NoSettings {}, args, heads) {

@@ -33,8 +33,10 @@ pub fn channels_are_valid()
 /// The filters of sound keep the broken rule: a broken input counts as open without a further item, and the output is broken
 /// exactly where it is broken off.
 pub fn sound_keeps_the_broken_rule()
-    ensures same { (lane : Lane) → KeepsBrokenRule (λ (ss : List Flow). IsValid lane (stream_at ss 0)) (λ (ss : List Flow). stream_at ss 0) }
-    ensures shifted { (lane : Lane) → KeepsBrokenRule (λ (ss : List Flow). IsValid lane (stream_at ss 0)) (λ (ss : List Flow). shifted None (stream_at ss 0)) }
+    ensures same { (lane : Lane)
+        → KeepsBrokenRule (λ (ss : List Flow). IsValid lane (stream_at ss 0)) (λ (ss : List Flow). stream_at ss 0) }
+    ensures shifted { (lane : Lane)
+        → KeepsBrokenRule (λ (ss : List Flow). IsValid lane (stream_at ss 0)) (λ (ss : List Flow). shifted None (stream_at ss 0)) }
     ensures trimmed { (lane : Lane) (range : Range)
         → KeepsBrokenRule (λ (ss : List Flow). IsValid lane (stream_at ss 0)) (λ (ss : List Flow). sound_trimmed range (stream_at ss 0)) }
     ensures channel { (lane : Lane) (q : ℕ)

@@ -13,5 +13,7 @@
 #![tactic(auto)]
 
 mod alone;
+mod laws;
 
 pub use alone::Alone;
+pub use laws::filters_are_limited;

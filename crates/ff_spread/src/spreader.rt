@@ -27,7 +27,8 @@ impl<S: Share + Drop> Spreader<S> {
     /// Nothing was fed yet.
     pub fn new(alloc: Global, share: S, count: usize) -> Result<Spreader<S>, AllocError>
         requires count { length (S.lanes_out share) ≡ count }
-        ensures view { IfOk result (λ m. spread_view (S.lane_in m.share) (S.lanes_out m.share) (S.shared m.share) (lines m.outlets.items) m.after
+        ensures view { IfOk result (λ m. spread_view (S.lane_in m.share) (S.lanes_out m.share) (S.shared m.share)
+        (lines m.outlets.items) m.after
             ≡ spread_start (S.lane_in share) (S.lanes_out share) (S.shared share)) }
         ensures share { IfOk result (λ m. m.share ≡ share) }
     {
@@ -42,7 +43,9 @@ impl<S: Share + Drop> Spreader<S> {
     /// Whether nothing more of the input can matter: exactly where it has closed, or where there are outputs and each one that
     /// is wanted is closed by what was fed.
     pub fn is_spent(&self) -> bool
-        ensures exact { IsTrue result ↔ IsSpent (spread_view (S.lane_in self.now.share) (S.lanes_out self.now.share) (S.shared self.now.share) (lines self.now.outlets.items) self.now.after) 0 }
+        ensures exact { IsTrue result
+            ↔ IsSpent (spread_view (S.lane_in self.now.share) (S.lanes_out self.now.share) (S.shared self.now.share)
+            (lines self.now.outlets.items) self.now.after) 0 }
         ensures is { result ≡ spread_spent self.now.after self.now.outlets.items }
     {
         (self.after != After::More) | ((0 < self.outlets.len()) & all_done(&self.outlets))
@@ -50,7 +53,8 @@ impl<S: Share + Drop> Spreader<S> {
 }
 
 impl<S: Share + Drop> Filter for Spreader<S> {
-    ghost view = { λ m. spread_view (S.lane_in m.share) (S.lanes_out m.share) (S.shared m.share) (lines m.outlets.items) m.after };
+    ghost view = { λ m. spread_view (S.lane_in m.share) (S.lanes_out m.share) (S.shared m.share)
+        (lines m.outlets.items) m.after };
 
     ghost spends = { λ m p. spread_spent m.after m.outlets.items };
 
@@ -93,17 +97,24 @@ impl<S: Share + Drop> Filter for Spreader<S> {
         self.is_spent()
     }
 
-    ghost grows = { λ m. spread-grows (S.lane_in m.share) (S.lanes_out m.share) (S.shared m.share) (lines m.outlets.items) m.after };
+    ghost grows = { λ m. spread-grows (S.lane_in m.share) (S.lanes_out m.share) (S.shared m.share)
+        (lines m.outlets.items) m.after };
 
-    ghost hides = { λ m. spread-hides (S.lane_in m.share) (S.lanes_out m.share) (S.shared m.share) (lines m.outlets.items) m.after };
+    ghost hides = { λ m. spread-hides (S.lane_in m.share) (S.lanes_out m.share) (S.shared m.share)
+        (lines m.outlets.items) m.after };
 
-    ghost settles = { λ m. spread-settles (S.lane_in m.share) (S.lanes_out m.share) (S.shared m.share) (lines m.outlets.items) m.after };
+    ghost settles = { λ m. spread-settles (S.lane_in m.share) (S.lanes_out m.share) (S.shared m.share)
+        (lines m.outlets.items) m.after };
 
-    ghost quiet = { λ m q e ext. spread-quiet (S.lane_in m.share) (S.lanes_out m.share) (S.shared m.share) (lines m.outlets.items) m.after q e ext };
+    ghost quiet = { λ m q e ext. spread-quiet (S.lane_in m.share) (S.lanes_out m.share) (S.shared m.share)
+        (lines m.outlets.items) m.after q e ext };
 
-    ghost spent_only = { λ m p lt e. spread-spent_only (S.lane_in m.share) (S.lanes_out m.share) (S.shared m.share) m.outlets.items m.after m.count p e };
+    ghost spent_only = { λ m p lt e. spread-spent_only (S.lane_in m.share) (S.lanes_out m.share) (S.shared m.share)
+        m.outlets.items m.after m.count p e };
 
-    ghost shut_spent = { λ m p lt e. spread-shut_spent (S.lane_in m.share) (S.lanes_out m.share) (S.shared m.share) m.outlets.items m.after m.count e };
+    ghost shut_spent = { λ m p lt e. spread-shut_spent (S.lane_in m.share) (S.lanes_out m.share) (S.shared m.share)
+        m.outlets.items m.after m.count e };
 
-    ghost done_spent = { λ m p lt z d. spread-done_spent (S.lane_in m.share) (S.lanes_out m.share) (S.shared m.share) m.outlets.items m.after m.count z d };
+    ghost done_spent = { λ m p lt z d. spread-done_spent (S.lane_in m.share) (S.lanes_out m.share) (S.shared m.share)
+        m.outlets.items m.after m.count z d };
 }

@@ -4,6 +4,7 @@ pub mod HFlips
 pub mod Pads
 pub mod Pictures
 pub mod RateLaws
+pub mod RateSeen
 pub mod RateViews
 pub mod Rates
 pub mod Sizes

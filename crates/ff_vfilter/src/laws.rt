@@ -46,14 +46,17 @@ pub fn pictures_painted_are_valid()
         (λ s. repainted (crop_frame r) s) }
     ensures pad { (tb : Fraction) (format : Format) (width height sar_num sar_den w h : ℕ) (r : Part)
         → r.width ≡ width → r.height ≡ height → IsSide w → IsSide h
-        → IsSound (Frames (VideoHead tb format width height sar_num sar_den)) (Frames (VideoHead tb format w h sar_num sar_den)) (λ s. repainted (pad_frame w h r) s) }
+        → IsSound (Frames (VideoHead tb format width height sar_num sar_den)) (Frames (VideoHead tb format w h sar_num sar_den))
+        (λ s. repainted (pad_frame w h r) s) }
 {}
 
 /// The filters of video keep the broken rule: a broken input counts as open without a further item, and the output is broken
 /// exactly where it is broken off.
 pub fn pictures_keep_the_broken_rule()
-    ensures same { (lane : Lane) → KeepsBrokenRule (λ (ss : List Flow). IsValid lane (stream_at ss 0)) (λ (ss : List Flow). stream_at ss 0) }
-    ensures shifted { (lane : Lane) → KeepsBrokenRule (λ (ss : List Flow). IsValid lane (stream_at ss 0)) (λ (ss : List Flow). shifted None (stream_at ss 0)) }
+    ensures same { (lane : Lane)
+        → KeepsBrokenRule (λ (ss : List Flow). IsValid lane (stream_at ss 0)) (λ (ss : List Flow). stream_at ss 0) }
+    ensures shifted { (lane : Lane)
+        → KeepsBrokenRule (λ (ss : List Flow). IsValid lane (stream_at ss 0)) (λ (ss : List Flow). shifted None (stream_at ss 0)) }
     ensures trimmed { (lane : Lane) (range : Range)
         → KeepsBrokenRule (λ (ss : List Flow). IsValid lane (stream_at ss 0)) (λ (ss : List Flow). trimmed range (stream_at ss 0)) }
     ensures painted { (lane : Lane) (paint : VFrame → VFrame)
@@ -65,7 +68,8 @@ pub fn pictures_keep_the_broken_rule()
 /// At an even rate number n shows the last picture whose own number is at most n, and a number is the time rescaled to the
 /// nearest, halves upwards.
 pub fn pictures_at_an_even_rate()
-    ensures even { (scale : Scale) → IsBase scale.from → IsBase scale.to → (tb : Fraction) (format : Format) (width height sar_num sar_den : ℕ) (t : Flow)
+    ensures even { (scale : Scale) → IsBase scale.from → IsBase scale.to
+        → (tb : Fraction) (format : Format) (width height sar_num sar_den : ℕ) (t : Flow)
         → IsValid (Frames (VideoHead tb format width height sar_num sar_den)) t → rated scale none_held t ≡ even scale t }
     ensures rescaled { (from to : Fraction) → IsBase from → IsBase to → (t : ℕ)
         → IsRescaled (pos t) from to (pos (nearest (t * (from.num * to.den)) (from.den * to.num))) }

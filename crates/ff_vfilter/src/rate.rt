@@ -6,7 +6,8 @@ ghost use Rattle.ff_frame.specs.Within.{passes_limits};
 ghost use Rattle.ff_filter.specs.Views.{Gave, Waits, Same};
 ghost use Rattle.ff_filter.specs.Made.{is_over};
 ghost use Rattle.ff_vfilter.specs.Rates.{number_of, shown};
-ghost use Rattle.ff_vfilter.specs.RateViews.{rate_view, rate_spent, limit_of, work_left};
+ghost use Rattle.ff_vfilter.specs.RateViews.{rate_spent, limit_of, work_left};
+ghost use Rattle.ff_vfilter.specs.RateSeen.{seen};
 
 use crate::showing::{Ahead, Showing};
 use ff_filter::{Filter, Inlet, Next, discard, time_base};
@@ -64,10 +65,12 @@ impl Rate {
     // The next picture, where one is due; the closing item where it would pass a limit.
     fn give(&mut self) -> Result<Option<Item>, AllocError>
         requires { self.old.ended ≡ false }
-        ensures gave { (x : AnItem) → result ≡ Ok (Some x) → Gave (rate_view self.old.head self.old.given self.old.showing self.old.input.queue.items self.old.input.after self.old.ended self.old.stopped) (rate_view self.new.head self.new.given self.new.showing self.new.input.queue.items self.new.input.after self.new.ended self.new.stopped) 0 x }
+        ensures gave { (x : AnItem) → result ≡ Ok (Some x) → Gave (seen self.old) (seen self.new) 0 x }
         ensures same { result ≡ Ok None → self.new ≡ self.old }
-        ensures none { result ≡ Ok None → (self.old.showing.picture ≡ None) ⊎ (limit_of self.old.showing.scale self.old.showing.picture self.old.showing.ahead ≤ self.old.showing.number) }
-        ensures unchanged { OnErr result (Same (rate_view self.old.head self.old.given self.old.showing self.old.input.queue.items self.old.input.after self.old.ended self.old.stopped) (rate_view self.new.head self.new.given self.new.showing self.new.input.queue.items self.new.input.after self.new.ended self.new.stopped)) }
+        ensures none { result ≡ Ok None
+            → (self.old.showing.picture ≡ None)
+            ⊎ (limit_of self.old.showing.scale self.old.showing.picture self.old.showing.ahead ≤ self.old.showing.number) }
+        ensures unchanged { OnErr result (Same (seen self.old) (seen self.new)) }
     {
         let limit = self.showing.limit();
         let number = self.showing.number;
@@ -95,10 +98,11 @@ impl Rate {
     // Looks at what comes next; false where that isn't known.
     fn look(&mut self) -> bool
         requires { self.old.showing.ahead ≡ Ahead.Unknown }
-        ensures same { Same (rate_view self.old.head self.old.given self.old.showing self.old.input.queue.items self.old.input.after self.old.ended self.old.stopped) (rate_view self.new.head self.new.given self.new.showing self.new.input.queue.items self.new.input.after self.new.ended self.new.stopped) }
-        ensures less { result ≡ true → work_left self.new.input.queue.items self.new.showing.ahead < work_left self.old.input.queue.items self.old.showing.ahead }
+        ensures same { Same (seen self.old) (seen self.new) }
+        ensures less { result ≡ true
+            → work_left self.new.input.queue.items self.new.showing.ahead < work_left self.old.input.queue.items self.old.showing.ahead }
         ensures ended { self.new.ended ≡ self.old.ended }
-        ensures waits { result ≡ false → Waits (rate_view self.old.head self.old.given self.old.showing self.old.input.queue.items self.old.input.after self.old.ended self.old.stopped) (rate_view self.new.head self.new.given self.new.showing self.new.input.queue.items self.new.input.after self.new.ended self.new.stopped) 0 }
+        ensures waits { result ≡ false → Waits (seen self.old) (seen self.new) 0 }
     {
         match self.input.next() {
             Next::Data(Item::Video(frame)) => {
@@ -125,7 +129,7 @@ impl Rate {
     fn take_up(&mut self, frame: VFrame)
         requires unknown { self.old.showing.ahead ≡ Ahead.Unknown }
         requires due { (self.old.showing.picture ≡ None) ⊎ (number_of self.old.showing.scale frame ≤ self.old.showing.number) }
-        ensures same { Same (rate_view self.old.head self.old.given (record self.old.showing { ahead = Ahead.Picture frame }) self.old.input.queue.items self.old.input.after self.old.ended self.old.stopped) (rate_view self.new.head self.new.given self.new.showing self.new.input.queue.items self.new.input.after self.new.ended self.new.stopped) }
+        ensures same { Same (seen (record self.old { showing = record self.old.showing { ahead = Ahead.Picture frame } })) (seen self.new) }
         ensures less { work_left self.new.input.queue.items self.new.showing.ahead < work_left self.old.input.queue.items (Ahead.Picture frame) }
         ensures ended { self.new.ended ≡ self.old.ended }
     {
@@ -138,12 +142,13 @@ impl Rate {
     // Goes on until a picture is due, or nothing is known.
     fn step(&mut self) -> Result<Work, AllocError>
         requires { self.old.ended ≡ false }
-        ensures same { result ≡ Ok Work.On → Same (rate_view self.old.head self.old.given self.old.showing self.old.input.queue.items self.old.input.after self.old.ended self.old.stopped) (rate_view self.new.head self.new.given self.new.showing self.new.input.queue.items self.new.input.after self.new.ended self.new.stopped) }
-        ensures less { result ≡ Ok Work.On → work_left self.new.input.queue.items self.new.showing.ahead < work_left self.old.input.queue.items self.old.showing.ahead }
+        ensures same { result ≡ Ok Work.On → Same (seen self.old) (seen self.new) }
+        ensures less { result ≡ Ok Work.On
+            → work_left self.new.input.queue.items self.new.showing.ahead < work_left self.old.input.queue.items self.old.showing.ahead }
         ensures on { result ≡ Ok Work.On → self.new.ended ≡ false }
-        ensures gave { (x : AnItem) → result ≡ Ok (Work.Gave x) → Gave (rate_view self.old.head self.old.given self.old.showing self.old.input.queue.items self.old.input.after self.old.ended self.old.stopped) (rate_view self.new.head self.new.given self.new.showing self.new.input.queue.items self.new.input.after self.new.ended self.new.stopped) 0 x }
-        ensures waits { result ≡ Ok Work.Waits → Waits (rate_view self.old.head self.old.given self.old.showing self.old.input.queue.items self.old.input.after self.old.ended self.old.stopped) (rate_view self.new.head self.new.given self.new.showing self.new.input.queue.items self.new.input.after self.new.ended self.new.stopped) 0 }
-        ensures unchanged { OnErr result (Same (rate_view self.old.head self.old.given self.old.showing self.old.input.queue.items self.old.input.after self.old.ended self.old.stopped) (rate_view self.new.head self.new.given self.new.showing self.new.input.queue.items self.new.input.after self.new.ended self.new.stopped)) }
+        ensures gave { (x : AnItem) → result ≡ Ok (Work.Gave x) → Gave (seen self.old) (seen self.new) 0 x }
+        ensures waits { result ≡ Ok Work.Waits → Waits (seen self.old) (seen self.new) 0 }
+        ensures unchanged { OnErr result (Same (seen self.old) (seen self.new)) }
     {
         match self.give() {
             Err(error) => return Err(error),
@@ -179,7 +184,7 @@ impl Rate {
 impl Filter for Rate {
     ghost use Rattle.ff_vfilter.specs.RateLaws.{rate-grows, rate-hides, rate-settles, rate-quiet, rate-spent_only, rate-shut_spent, rate-done_spent};
 
-    ghost view = { λ m. rate_view m.head m.given m.showing m.input.queue.items m.input.after m.ended m.stopped };
+    ghost view = { λ m. seen m };
 
     ghost spends = { λ m p. rate_spent m.input.after m.ended m.stopped };
 

@@ -21,7 +21,8 @@ impl Split {
         args: &[Arg],
         heads: &[StreamHead],
     ) -> Result<(Spreader<Copies>, Vec<StreamHead>), ConfigError>
-        ensures made { IfOk result (λ r. AreMade (IsSplit is_video args.now heads.now) split_view split_heads (⟦<Spreader<Copies> as Filter>⟧.view r.0) r.1.items) }
+        ensures made { IfOk result (λ r. AreMade (IsSplit is_video args.now heads.now) split_view split_heads
+            (⟦<Spreader<Copies> as Filter>⟧.view r.0) r.1.items) }
         ensures refused { IfErr result (IsRefused (IsSplit is_video args.now heads.now)) }
     {
         match video_settings(SplitSettings { outputs: 2 }, args, heads) {
