@@ -1,10 +1,10 @@
 -- A function of one stream that goes by its items, and by whether it is whole, keeps the broken rule.
-use Rattle.std.proofs.Common.{◌≡◌, ℕ, zero, suc, inl, inr, Bool, true, false, cond, List, [], ◌∷◌, map, refl, ap, sym, ◌∙◌, subst}
+use Rattle.std.proofs.Common.{◌≡◌, zero, suc, inl, inr, Bool, true, false, cond, List, [], ◌∷◌, refl, ap, sym, ◌∙◌, subst}
 use Rattle.std.specs.Prelude.{◌↔◌}
 use mathlib.Core.List.{IsPrefix}
 use Rattle.ff_frame.specs.declared.item.Item.{Item}
 use Rattle.ff_frame.specs.declared.item.Lane.{Lane}
-use Rattle.ff_frame.specs.Stream.{Mark, still_open, whole, broken, LiesBelow, opened, opened_mark}
+use Rattle.ff_frame.specs.Stream.{Mark, still_open, whole, broken, opened_mark}
 use Rattle.ff_frame.specs.Ports.{stream_at, AllBelow}
 use Rattle.ff_frame.specs.Order.{prefix_self, closed_below, stream_at-opened}
 use Rattle.ff_frame.specs.Lanes.{IsValid}

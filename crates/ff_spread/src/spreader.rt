@@ -28,7 +28,7 @@ impl<S: Share + Drop> Spreader<S> {
     pub fn new(alloc: Global, share: S, count: usize) -> Result<Spreader<S>, AllocError>
         requires count { length (S.lanes_out share) ≡ count }
         ensures view { IfOk result (λ m. spread_view (S.lane_in m.share) (S.lanes_out m.share) (S.shared m.share)
-        (lines m.outlets.items) m.after
+            (lines m.outlets.items) m.after
             ≡ spread_start (S.lane_in share) (S.lanes_out share) (S.shared share)) }
         ensures share { IfOk result (λ m. m.share ≡ share) }
     {
