@@ -1,0 +1,2 @@
+//! Filters of several inputs.
+#![tactic(auto)]
