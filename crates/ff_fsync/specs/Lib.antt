@@ -1,6 +1,8 @@
 pub mod Events
 pub mod Ranges
 pub mod Rising
+pub mod SideLaws
+pub mod Sides
 pub mod SyncBreaks
 pub mod SyncLaws
 pub mod SyncStreams

@@ -400,7 +400,7 @@ module _ {A : Type 0} where
         let le = past_at k.at k.inputs ss p lt in
         omega (arith, less, le)
 
-    goes_on_by : (ss : ℕ → Stream A) (t p : ℕ) → p < k.inputs → is_broken (ss p).mark ≡ true → may_come k ss t ≡ true → goes_on k ss ≡ true
+    pub goes_on_by : (ss : ℕ → Stream A) (t p : ℕ) → p < k.inputs → is_broken (ss p).mark ≡ true → may_come k ss t ≡ true → goes_on k ss ≡ true
     goes_on_by ss t p lt b e = or_right (is_complete k (all_ended ss)) _ (lt-ltb 0 _ (events_some (may_come k ss) 0 (horizon k ss) t (omega arith) (let l = may_come_below ss t p lt b e in omega (arith, l)) e))
 
     pub goes_on_cases : (ss : ℕ → Stream A) → goes_on k ss ≡ true → (is_complete k (all_ended ss) ≡ true) ⊎ ((t : ℕ) × (may_come k ss t ≡ true))
