@@ -1,2 +1,4 @@
 pub mod Dropping
+pub mod Finding
+pub mod Inputting
 pub mod Showing

@@ -23,6 +23,8 @@ use Rattle.ff_fsync.specs.SyncLaws.{EachBelow, Risen, AllReached, clash, shown_s
 use Rattle.ff_fsync.specs.SyncStreams.{synced-below}
 use Rattle.ff_fsync.specs.Sides.{time_among, Side, side_at, coming, kept, streams, standing, timing, shown_as, left_to_show, sync_view, Sound}
 use Rattle.ff_fsync.specs.SideLaws.{all_risen, standing_below, standing_is}
+use Rattle.ff_fsync.specs.Inputs.{Trims}
+use Rattle.ff_fsync.specs.Syncs.{IsDue}
 use Rattle.ff_fsync.proofs.Dropping.{Drops, drop_synced}
 
 no_other : (q : ℕ) → q < 1 → q ≢ 0 → ⊥
@@ -33,13 +35,6 @@ gave_there v w p x lt g = let z : 0 ≡ p = omega arith in subst (λ (q : ℕ). 
 
 pub waits_there : (v w : View) (p : ℕ) → p < 1 → Waits v w 0 → Waits v w p
 waits_there v w p lt g = let z : 0 ≡ p = omega arith in subst (λ (q : ℕ). Waits v w q) z g
-
--- the next to be shown is at this time
-pub record IsDue {A : Type 0} (k : Timing A) (from : ℕ) (ss : ℕ → Stream A) (t : ℕ) : Type 0 where
-  pub late : from ≤ t
-  pub shown : is_shown k ss t ≡ true
-  pub first : (u : ℕ) → from ≤ u → u < t → is_shown k ss u ≡ false
-
 
 module _ {A : Type 0} (k : Timing A) (rs ss : ℕ → Stream A) (h : EachBelow rs ss) (rising : Risen k ss) where
   pub due_above : (from t : ℕ) → IsDue k from rs t → IsDue k from ss t
@@ -167,18 +162,6 @@ fed_by shows shortest lane from ss ts p s x ended stopped r going shut takes =
 
     all : (ext : Ports) → streams lane ts ext ≡ streams lane ss (before_at p x ext)
     all ext i q = at ext q i
-
--- of one input, all but the last picture by a time was let go
-pub record Trims (t : ℕ) (s r : Side) : Type 0 where
-  pub lane : r.lane ≡ s.lane
-  pub after : r.after ≡ s.after
-  pub next : r.next ≡ s.next
-  pub gone : List Item
-  pub first : Item
-  pub others : List Item
-  pub was : s.waits ≡ gone ++ first ∷ others
-  pub now : r.waits ≡ first ∷ others
-  pub by : start_ticks first ≤ t
 
 trims_drop : (t : ℕ) (s r : Side) (u : Flow) → Trims t s r → Drops start_ticks t (coming s u) (coming r u)
 trims_drop t s r u d =

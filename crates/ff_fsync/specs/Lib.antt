@@ -1,4 +1,5 @@
 pub mod Events
+pub mod Inputs
 pub mod Ranges
 pub mod Rising
 pub mod SideLaws
@@ -7,3 +8,4 @@ pub mod SyncBreaks
 pub mod SyncLaws
 pub mod SyncStreams
 pub mod Synced
+pub mod Syncs

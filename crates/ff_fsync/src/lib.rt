@@ -1,2 +1,11 @@
 //! Filters of several inputs.
 #![tactic(auto)]
+
+mod input;
+mod framesync;
+mod stack;
+mod time;
+
+pub use framesync::Framesync;
+pub use input::Input;
+pub use stack::Stack;

@@ -1,0 +1,8 @@
+use Rattle.std.proofs.Common.{◌≡◌, true}
+use Rattle.ff_fsync.specs.Ranges.{all_to}
+use Rattle.ff_fsync.specs.Synced.{is_known}
+use Rattle.ff_fsync.specs.Syncs.{standing_of, timing_of}
+use Rattle.ff_fsync.proofs.framesync.Framesync.is_known.Given as goal
+
+abbrev pub invariant-inputs : goal.invariant-inputs
+invariant-inputs g l = all_to l.p (is_known (timing_of l.self.shortest l.self.inputs.items) (standing_of l.self.head l.self.inputs.items) l.time) ≡ true

@@ -1,0 +1,15 @@
+use Rattle.std.proofs.Common.{◌≡◌, true, length}
+use Rattle.ff_fsync.specs.Sides.{fills_to}
+use Rattle.ff_fsync.specs.Inputs.{items_of, GoesTo}
+use Rattle.ff_fsync.proofs.input.Input.trim.Given as goal
+
+abbrev pub invariant-pictures : goal.invariant-pictures
+invariant-pictures l = record {
+  left : GoesTo l.fn.self.queue.items l.self.queue.items l.time;
+  head : l.self.head ≡ l.fn.self.head;
+  after : l.self.after ≡ l.fn.self.after;
+  next : l.self.next ≡ l.fn.self.next;
+}
+
+abbrev pub decreases-pictures : goal.decreases-pictures
+decreases-pictures l = length l.self.queue.items

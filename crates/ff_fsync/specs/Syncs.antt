@@ -1,0 +1,69 @@
+-- The machine of framesync as the definitions see it.
+use Rattle.std.specs.Prelude.{◌≡◌, ℕ, zero, suc, ◌+◌, ◌<◌, ◌≤◌, ◌^◌, ◌⊎◌, Bool, true, false, ◌||◌, ◌&&◌, not, nat_le, nat_lt, cond, Option, None, Some, List, [], ◌∷◌, map, length, refl}
+use Rattle.std.proofs.Common.{arith}
+use Rattle.ff_values.specs.declared.video.VFrame.{VFrame}
+use Rattle.ff_values.specs.declared.head.StreamHead.{StreamHead}
+use Rattle.ff_frame.specs.declared.item.Item.{Item}
+use Rattle.ff_frame.specs.declared.item.Lane.{Lane}
+use Rattle.ff_frame.specs.declared.item.Lane.TheVariants.{Frames}
+use Rattle.ff_filter.specs.declared.after.After.{After}
+use Rattle.ff_frame.specs.Stream.{Stream}
+use Rattle.ff_filter.specs.Joins.{Flow}
+use Rattle.ff_filter.specs.Made.{mark_after}
+use Rattle.ff_filter.specs.Views.{View}
+use Rattle.ff_fsync.specs.declared.input.Input.{Input}
+use Rattle.ff_fsync.specs.Ranges.{all_to, any_to}
+use Rattle.ff_fsync.specs.Synced.{Timing, starts, begun, reached, is_known, is_shown, pictures, synced_mark, is_complete, goes_on, is_whole, is_empty, mark_by}
+use Rattle.ff_fsync.specs.Sides.{Side, side_at, streams, standing, timing, shown_as, sync_view, sync_spent, fills_to, Sound}
+use Rattle.ff_fsync.specs.Inputs.{side_by, Trims}
+
+abbrev pub side_of : Input → Side
+side_of i = side_by i.head i.queue.items i.after i.next
+
+abbrev pub sides_of : List Input → List Side
+sides_of is = map side_of is
+
+pub sides_sound : (lane : Lane) (is : List Input) → Sound lane (sides_of is)
+sides_sound lane [] p = refl
+sides_sound lane (i ∷ is) zero = i.filled
+sides_sound lane (i ∷ is) (suc p) = sides_sound lane is p
+
+-- what came so far on so many inputs, and how it is timed
+abbrev pub standing_of : StreamHead → List Input → ℕ → Flow
+standing_of head is = standing (Frames head) (sides_of is)
+
+abbrev pub timing_of : Bool → List Input → Timing Item
+timing_of shortest is = timing shortest (sides_of is)
+
+-- so many inputs have begun at this time, and before it something is shown at no time
+pub record IsStart (head : StreamHead) (shortest : Bool) (is : List Input) (from lo n : ℕ) : Type 0 where
+  pub late : from ≤ lo
+  pub all : (p : ℕ) → p < n → begun (timing_of shortest is) (standing_of head is) lo p ≡ true
+  pub none : (u : ℕ) → from ≤ u → u < lo → is_shown (timing_of shortest is) (standing_of head is) u ≡ false
+
+-- nothing is shown from this time on
+abbrev pub NoneFrom : StreamHead → Bool → List Input → ℕ → Type 0
+NoneFrom head shortest is from = (u : ℕ) → from ≤ u → is_shown (timing_of shortest is) (standing_of head is) u ≡ false
+
+-- the first time from lo on at which one of so many inputs starts a picture, if one does
+pub record IsLeast (head : StreamHead) (shortest : Bool) (is : List Input) (lo n t : ℕ) : Type 0 where
+  pub late : lo ≤ t
+  pub near : t < 2 ^ 63
+  pub some : (p : ℕ) × (p < n) × (starts (timing_of shortest is) (standing_of head is) t p ≡ true)
+  pub none : (u : ℕ) → lo ≤ u → u < t → (p : ℕ) → p < n → starts (timing_of shortest is) (standing_of head is) u p ≡ false
+
+abbrev pub LeastOf : StreamHead → Bool → List Input → ℕ → ℕ → Option ℕ → Type 0
+LeastOf head shortest is lo n None = (u : ℕ) → lo ≤ u → (p : ℕ) → p < n → starts (timing_of shortest is) (standing_of head is) u p ≡ false
+LeastOf head shortest is lo n (Some t) = IsLeast head shortest is lo n t
+
+-- the next to be shown is at this time
+pub record IsDue {A : Type 0} (k : Timing A) (from : ℕ) (ss : ℕ → Stream A) (t : ℕ) : Type 0 where
+  pub late : from ≤ t
+  pub shown : is_shown k ss t ≡ true
+  pub first : (u : ℕ) → from ≤ u → u < t → is_shown k ss u ≡ false
+
+-- the sooner of two times
+abbrev pub sooner_of : Option ℕ → Option ℕ → Option ℕ
+sooner_of None b = b
+sooner_of (Some x) None = Some x
+sooner_of (Some x) (Some y) = cond (nat_lt y x) (Some y) (Some x)

@@ -1,0 +1,182 @@
+ghost use Rattle.std.specs.Prelude.{◌≡◌, ◌<◌, ◌≤◌, ◌^◌, ℕ, ◌||◌, ◌&&◌, not, [], ◌∷◌, true, false, nat_le, IfOk, IfSome, IsNone, OnOk};
+ghost use Rattle.std.specs.VecDeque.{deque_len, deque_capacity};
+ghost use Rattle.ff_frame.specs.declared.item.Lane.TheVariants.{Frames};
+ghost use Rattle.ff_filter.specs.Joins.{Flow, before};
+ghost use Rattle.ff_filter.specs.Made.{is_over, mark_after};
+ghost use Rattle.ff_filter.specs.Views.{closes};
+ghost use Rattle.ff_fsync.specs.Synced.{is_empty as none_waits, is_whole as whole_mark};
+ghost use Rattle.ff_fsync.specs.Sides.{coming, no_side, fills_to, frames_of};
+ghost use Rattle.ff_fsync.specs.Inputs.{items_of, side_by, begun_by, reaches, last_by, Trims, IsNextIn, IsLastBy, second_by as second_starts_by};
+
+use crate::time::time_among;
+use ff_filter::{After, discard};
+use ff_frame::{Item, StreamHead, VFrame};
+use std::alloc::{AllocError, Global};
+use std::collections::VecDeque;
+
+/// An input of pictures, which keeps what may still be shown: the last picture that was shown, and those after it.
+#[derive(Drop)]
+pub struct Input {
+    /// The head of its stream.
+    pub head: StreamHead,
+    /// The pictures, at rising times.
+    pub queue: VecDeque<VFrame>,
+    /// How the stream stands behind them.
+    pub after: After,
+    /// The time from which on the next picture may start.
+    pub next: u64,
+    pub ghost filled: { fills_to 0 (items_of queue.items) next ≡ true },
+    pub ghost near: { next ≤ 2 ^ 63 },
+}
+
+impl Input {
+    /// Nothing came yet.
+    pub fn new(alloc: Global, head: StreamHead) -> Input
+        ensures { side_by result.head result.queue.items result.after result.next ≡ no_side (Frames head) }
+    {
+        Input {
+            head,
+            queue: VecDeque::new(alloc),
+            after: After::More,
+            next: 0,
+        }
+    }
+
+    /// Whether the closing item came.
+    pub fn is_shut(&self) -> bool
+        ensures { result ≡ is_over self.now.after }
+    {
+        self.after != After::More
+    }
+
+    /// Whether all has come.
+    pub fn is_whole(&self) -> bool
+        ensures { result ≡ whole_mark (mark_after self.now.after) }
+    {
+        self.after == After::Whole
+    }
+
+    /// Whether no picture came.
+    pub fn is_empty(&self) -> bool
+        ensures { result ≡ none_waits (items_of self.now.queue.items) }
+    {
+        self.queue.is_empty()
+    }
+
+    /// Makes room for one picture more.
+    pub fn reserve(&mut self) -> Result<(), AllocError>
+        ensures same { side_by self.new.head self.new.queue.items self.new.after self.new.next ≡ side_by self.old.head self.old.queue.items self.old.after self.old.next }
+        ensures room { OnOk result (deque_len self.new.queue < deque_capacity self.new.queue) }
+    {
+        self.queue.reserve(1)
+    }
+
+    // Takes a picture in, where it starts after those before; another is let go.
+    fn take_frame(&mut self, frame: VFrame)
+        requires room { deque_len self.old.queue < deque_capacity self.old.queue }
+        requires open { self.old.after ≡ After.More }
+        ensures taken { (t : Flow) → coming (side_by self.new.head self.new.queue.items self.new.after self.new.next) t ≡ coming (side_by self.old.head self.old.queue.items self.old.after self.old.next) (before (Item.Video frame) t) }
+        ensures after { self.new.after ≡ After.More }
+        ensures head { self.new.head ≡ self.old.head }
+    {
+        let start = time_among(&frame);
+        if start < self.next {
+            discard(Item::Video(frame));
+            return;
+        }
+        self.queue.push_back_reserved(frame);
+        self.next = start + 1;
+    }
+
+    /// Takes an item in. What isn't a picture that starts after those before is let go.
+    pub fn take_in(&mut self, item: Item)
+        requires room { deque_len self.old.queue < deque_capacity self.old.queue }
+        requires open { is_over self.old.after ≡ false }
+        ensures taken { (t : Flow) → coming (side_by self.new.head self.new.queue.items self.new.after self.new.next) t ≡ coming (side_by self.old.head self.old.queue.items self.old.after self.old.next) (before item t) }
+        ensures shut { is_over self.new.after ≡ closes item }
+        ensures head { self.new.head ≡ self.old.head }
+    {
+        match item {
+            Item::Video(frame) => self.take_frame(frame),
+            Item::End => self.after = After::Whole,
+            Item::Broken => self.after = After::Broke,
+            Item::Audio(frame) => discard(Item::Audio(frame)),
+            Item::Packet(packet) => discard(Item::Packet(packet)),
+            Item::Trailer(totals) => discard(Item::Trailer(totals)),
+        }
+    }
+
+    /// Whether some picture starts at or after a time.
+    pub fn reaches(&self, time: u64) -> bool
+        ensures { result ≡ reaches (items_of self.now.queue.items) time }
+    {
+        time < self.next
+    }
+
+    /// Whether it is known which of its pictures is the last by a time, and may be shown: one starts at or after it; or all
+    /// have come, and the output doesn't end with them.
+    pub fn is_known(&self, time: u64, shortest: bool) -> bool
+        ensures { result ≡ (reaches (items_of self.now.queue.items) time || (whole_mark (mark_after self.now.after) && not shortest)) }
+    {
+        self.reaches(time) || self.is_whole() && !shortest
+    }
+
+    /// When its first picture starts.
+    pub fn start(&self) -> Option<u64>
+        ensures none { IsNone result → self.now.queue.items ≡ [] }
+        ensures begun { IfSome result (λ s. (u : ℕ) → begun_by (items_of self.now.queue.items) u ≡ nat_le s u) }
+        ensures near { IfSome result (λ s. s < 2 ^ 63) }
+    {
+        match self.queue.front() {
+            None => None,
+            Some(frame) => Some(time_among(frame)),
+        }
+    }
+
+    /// When the first of its pictures starts that doesn't start before a time.
+    pub fn start_from(&self, lo: u64) -> Option<u64>
+        ensures next { IsNextIn (items_of self.now.queue.items) lo result }
+        ensures near { IfSome result (λ t. t < 2 ^ 63) }
+    {
+        'pictures: for i in 0..self.queue.len() {
+            let start = time_among(&self.queue[i]);
+            if start >= lo {
+                return Some(start);
+            }
+        }
+        None
+    }
+
+    // Whether its second picture starts by a time.
+    fn second_by(&self, time: u64) -> bool
+        ensures { result ≡ second_starts_by self.now.queue.items time }
+    {
+        match self.queue.get(1) {
+            None => false,
+            Some(frame) => time_among(frame) <= time,
+        }
+    }
+
+    // Lets its pictures go before the last one by a time.
+    fn trim(&mut self, time: u64)
+        requires begun { begun_by (items_of self.old.queue.items) time ≡ true }
+        ensures trims { Trims time (side_by self.old.head self.old.queue.items self.old.after self.old.next) (side_by self.new.head self.new.queue.items self.new.after self.new.next) }
+        ensures last { IsLastBy self.new.queue.items time }
+    {
+        'pictures: while self.second_by(time) {
+            if let Some(frame) = self.queue.pop_front() {
+                discard(Item::Video(frame));
+            }
+        }
+    }
+
+    /// The last of its pictures by a time. Those before it are let go.
+    pub fn shown(&mut self, alloc: Global, time: u64) -> Result<VFrame, AllocError>
+        requires begun { begun_by (items_of self.old.queue.items) time ≡ true }
+        ensures trims { Trims time (side_by self.old.head self.old.queue.items self.old.after self.old.next) (side_by self.new.head self.new.queue.items self.new.after self.new.next) }
+        ensures last { IfOk result (λ f. last_by (items_of self.new.queue.items) time ≡ Item.Video f ∷ []) }
+    {
+        self.trim(time);
+        self.queue[0].try_copy(alloc)
+    }
+}

@@ -1,0 +1,13 @@
+ghost use Rattle.std.specs.Prelude.{◌≡◌, ◌<◌, ◌^◌};
+ghost use Rattle.ff_frame.specs.Times.{ticks};
+
+use ff_filter::ticks_of;
+use ff_frame::VFrame;
+
+/// When a picture starts, among those of all inputs: in ticks of the time base that they share.
+pub(crate) fn time_among(frame: &VFrame) -> u64
+    ensures is { result ≡ ticks frame.now.pts }
+    ensures near { result < 2 ^ 63 }
+{
+    ticks_of(frame.pts)
+}
