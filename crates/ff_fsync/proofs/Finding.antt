@@ -2,7 +2,6 @@
 use Rattle.std.specs.Prelude.{◌≡◌, ℕ, zero, suc, ◌+◌, ◌<◌, ◌≤◌, ◌^◌, ◌⊎◌, Bool, true, false, ◌||◌, ◌&&◌, not, cond, nat_lt, nat_le, nat_eq, Option, None, Some, IfSome, IsNone, List, [], ◌∷◌, map, length, refl}
 use Rattle.std.proofs.Common.{inl, inr, ap, sym, ◌∙◌, subst, arith, get_or}
 use Rattle.std.proofs.lemmas.Bool.{cases_Bool, cases_lt, cases_order, and_parts, and_from, and_left, and_right, or_cases, or_left, or_right, or_from, or_parts, le-leb, lt-leb, lt-ltb, le-ltb, leb-true, false_from_ne_true}
-use Rattle.std.proofs.lemmas.List.{length-map}
 use Rattle.ff_values.specs.declared.video.VFrame.{VFrame}
 use Rattle.ff_values.specs.declared.head.StreamHead.{StreamHead}
 use Rattle.ff_frame.specs.declared.item.Item.{Item}
@@ -26,7 +25,8 @@ side_there lane (j ∷ is) zero i lt e = ap (λ (x : Input). side_of x) (sym e)
 side_there lane (j ∷ is) (suc p) i lt e = side_there lane is p i (omega (arith, lt)) e
 
 pub long_sides : (is : List Input) → length (sides_of is) ≡ length is
-long_sides is = length-map side_of is
+long_sides [] = refl
+long_sides (i ∷ is) = let e = long_sides is in omega (arith, e)
 
 below_more : (p q : ℕ) → q < p + 1 → (q ≡ p) ⊎ (q < p)
 below_more p q lt = elim (cases_order q p) as (λ _. (q ≡ p) ⊎ (q < p)) [
@@ -92,7 +92,7 @@ module _ (head : StreamHead) (shortest : Bool) (is : List Input) where
   known_fails t p i lt e k = sym (fails_from (length is) (is_known (timing_of shortest is) (standing_of head is) t) p lt (known_at p i lt e t ∙ k))
 
   pub least_more : (lo p : ℕ) (i : Input) (a b : Option ℕ) → LeastOf head shortest is lo p a → p < length is → i ≡ get_or is p i → IsNextIn (items_of i.queue.items) lo b → IfSome b (λ t. t < 2 ^ 63) → LeastOf head shortest is lo (p + 1) (sooner_of a b)
-  least_more lo p i None None h lt e n near u le q l = elim (below_more p q l) as (λ _. starts (timing_of shortest is) (standing_of head is) u q ≡ false) [
+  least_more lo p i None None h lt e n near = λ u le q l. elim (below_more p q l) as (λ _. starts (timing_of shortest is) (standing_of head is) u q ≡ false) [
     | inl same ↦ subst (λ r. starts (timing_of shortest is) (standing_of head is) u r ≡ false) (sym same) (starts_there p i lt e u ∙ n u le)
     | inr less ↦ h u le q less
   ]

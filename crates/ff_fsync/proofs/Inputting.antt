@@ -1,7 +1,8 @@
 -- What is known of an input's pictures by their times.
-use Rattle.std.specs.Prelude.{◌≡◌, ℕ, zero, suc, ◌+◌, ◌<◌, ◌≤◌, Bool, true, false, ◌||◌, ◌&&◌, nat_lt, nat_le, nat_eq, List, [], ◌∷◌, ◌++◌, length, map, take, drop, slice_index_or, refl}
+use Rattle.std.specs.Prelude.{◌≡◌, ℕ, zero, suc, ◌+◌, ◌<◌, ◌≤◌, Bool, true, false, ◌||◌, ◌&&◌, not, min, nat_lt, nat_le, nat_eq, List, [], ◌∷◌, ◌++◌, length, map, take, drop, slice_index_or, refl}
 use Rattle.std.proofs.Common.{inl, inr, ap, sym, ◌∙◌, subst, arith, get_or, append_assoc}
 use Rattle.std.proofs.lemmas.Bool.{cases_Bool, cases_lt, and_parts, and_from, or_left, or_right, le-leb, lt-leb, le-ltb, eq-eqb, ne_eqb, leb-true, leb-false, eqb-true}
+use Rattle.std.proofs.lemmas.Bool.Decides.{nat_tests}
 use Rattle.std.proofs.lemmas.List.{map-append, take_more, take-append-drop}
 use Rattle.std.proofs.Math.Seq.{drop-cons}
 use Rattle.ff_values.specs.declared.video.VFrame.{VFrame}
@@ -13,12 +14,12 @@ use Rattle.ff_frame.specs.Stream.{still_open, whole, broken}
 use Rattle.ff_filter.specs.declared.after.After.{After}
 use Rattle.ff_filter.specs.declared.after.After.TheVariants.{More, Whole, Broke}
 use Rattle.ff_filter.specs.Joins.{Flow, before}
-use Rattle.ff_filter.specs.Made.{behind, is_over}
+use Rattle.ff_filter.specs.Made.{behind, is_over, mark_after}
 use Rattle.ff_filter.specs.Shifts.{start_ticks}
 use Rattle.ff_filter.specs.Views.{closes}
 use Rattle.ff_values.specs.declared.head.StreamHead.{StreamHead}
 use Rattle.ff_fsync.specs.Events.{put_if}
-use Rattle.ff_fsync.specs.Synced.{some_of, last_of, later_of, pick}
+use Rattle.ff_fsync.specs.Synced.{is_open, is_whole, some_of, each_of, last_of, later_of, pick}
 use Rattle.ff_fsync.specs.Rising.{Rises, some_append, none_last, none_starts, none_begun}
 use Rattle.ff_fsync.specs.Sides.{Side, coming, kept, kept_from, fits_at, next_by, fills_to, frames_of}
 use Rattle.ff_fsync.specs.SideLaws.{fills_rise, fills_reach}
@@ -27,7 +28,7 @@ use Rattle.ff_fsync.specs.Inputs.{items_of, side_by, starts_at, begun_by, reache
 pub reaches_is : (xs : List Item) (next t : ℕ) → fills_to 0 xs next ≡ true → nat_lt t next ≡ reaches xs t
 reaches_is xs next t e = fills_reach 0 next t xs e ∙ ap (λ b. b || reaches xs t) (le-ltb t 0 (omega arith))
 
-rises_of : (lo : ℕ) (xs : List Item) (next : ℕ) → fills_to lo xs next ≡ true → Rises start_ticks lo xs
+pub rises_of : (lo : ℕ) (xs : List Item) (next : ℕ) → fills_to lo xs next ≡ true → Rises start_ticks lo xs
 rises_of lo [] next e = tt
 rises_of lo (x ∷ xs) next e = let b = and_parts (nat_le lo (start_ticks x)) (fills_to (suc (start_ticks x)) xs next) e in (leb-true lo (start_ticks x) b.0, rises_of (suc (start_ticks x)) xs next b.1)
 
@@ -191,3 +192,46 @@ pub trimmed_as : (head head' : StreamHead) (a a' : After) (next next' : ℕ) (ol
 trimmed_as head head' a a' next next' old fs t sh sa sn r s f =
     let d = (trimmed head' a' old fs t next' r s f).0 in
     record { lane = ap (λ (h : StreamHead). Frames h) sh; after = sa; next = sn; gone = d.gone; first = d.first; others = d.others; was = d.was; now = d.now; by = d.by }
+
+lesser : (t a b : ℕ) → nat_lt t (min a b) ≡ (nat_lt t a && nat_lt t b)
+lesser t a b = grind (arith, nat_tests)
+
+pub bound_by : (xs : List Item) (next bound least t : ℕ) (rest : Bool) → fills_to 0 xs next ≡ true → least ≡ min bound next → rest ≡ false → nat_lt t least ≡ (nat_lt t bound && (reaches xs t || rest))
+bound_by xs next bound least t rest e l n = ap (λ m. nat_lt t m) l ∙ (lesser t bound next ∙ (ap (λ b. nat_lt t bound && b) (reaches_is xs next t e) ∙ rw n (ap (λ b. nat_lt t bound && b) (at (reaches xs t)))))
+  where
+    at : (b : Bool) → b ≡ (b || false)
+    at true = refl
+    at false = refl
+
+-- whether another input has come as far
+each_before : (lo hi n : ℕ) (x : Item) (xs : List Item) → fills_to lo (x ∷ xs) hi ≡ true → each_of (λ y. nat_lt (start_ticks y) n) (x ∷ xs) ≡ nat_le hi n
+each_before lo hi n x [] e =
+    let b = and_parts (nat_le lo (start_ticks x)) (fills_to (suc (start_ticks x)) [] hi) e in
+    let same = eqb-true (suc (start_ticks x)) hi b.1 in
+    subst (λ h. (nat_lt (start_ticks x) n && true) ≡ nat_le h n) same (at (start_ticks x))
+  where
+    at : (a : ℕ) → (nat_lt a n && true) ≡ nat_le (suc a) n
+    at a = grind (arith, nat_tests)
+each_before lo hi n x (y ∷ ys) e =
+    let t = fills_tail lo hi x (y ∷ ys) e in
+    ap (λ b. nat_lt (start_ticks x) n && b) (each_before (suc (start_ticks x)) hi n y ys t.1) ∙ at (start_ticks x) t.0
+  where
+    at : (a : ℕ) → a < hi → (nat_lt a n && nat_le hi n) ≡ nat_le hi n
+    at a lt = grind (arith, nat_tests)
+
+each_same : (f g : Item → Bool) (xs : List Item) → ((x : Item) → f x ≡ g x) → each_of f xs ≡ each_of g xs
+each_same f g [] h = refl
+each_same f g (x ∷ xs) h = rw (h x, each_same f g xs h) refl
+
+pub outlasts_is : (xs ys : List Item) (m n : ℕ) → fills_to 0 xs m ≡ true → fills_to 0 ys n ≡ true → each_of (λ x. reaches ys (start_ticks x)) xs ≡ nat_le m n
+outlasts_is [] ys m n e f = let same = eqb-true 0 m e in sym (le-leb m n (omega (arith, same)))
+outlasts_is (x ∷ xs) ys m n e f =
+    each_same (λ z. reaches ys (start_ticks z)) (λ z. nat_lt (start_ticks z) n) (x ∷ xs) (λ z. sym (reaches_is ys n (start_ticks z) f)) ∙ each_before 0 m n x xs e
+
+pub bound_whole : (xs : List Item) (next bound least t : ℕ) (a : After) (shortest : Bool) → fills_to 0 xs next ≡ true → least ≡ min bound next → a ≡ Whole → shortest ≡ true
+    → nat_lt t least ≡ (nat_lt t bound && (is_open (mark_after a) || (reaches xs t || (is_whole (mark_after a) && not shortest))))
+bound_whole xs next bound least t a shortest e l is short = rw (is, short) (bound_by xs next bound least t (true && not true) e l refl)
+
+pub bound_broke : (xs : List Item) (next bound least t : ℕ) (a : After) (shortest : Bool) → fills_to 0 xs next ≡ true → least ≡ min bound next → a ≡ Broke
+    → nat_lt t least ≡ (nat_lt t bound && (is_open (mark_after a) || (reaches xs t || (is_whole (mark_after a) && not shortest))))
+bound_broke xs next bound least t a shortest e l is = rw is (bound_by xs next bound least t (false && not shortest) e l refl)

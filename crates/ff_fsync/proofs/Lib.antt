@@ -1,4 +1,6 @@
 pub mod Dropping
 pub mod Finding
 pub mod Inputting
+pub mod MarkLaws
 pub mod Showing
+pub mod Taken

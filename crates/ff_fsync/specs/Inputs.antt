@@ -1,5 +1,5 @@
 -- An input of framesync as the definitions see it.
-use Rattle.std.specs.Prelude.{◌≡◌, ℕ, ◌≤◌, ◌<◌, Bool, false, true, Option, None, Some, List, [], ◌∷◌, ◌++◌, map, nat_le, nat_eq}
+use Rattle.std.specs.Prelude.{◌≡◌, ℕ, ◌≤◌, ◌<◌, ◌||◌, ◌&&◌, Bool, false, true, Option, None, Some, List, [], ◌∷◌, ◌++◌, map, nat_le, nat_eq}
 use Rattle.ff_values.specs.declared.video.VFrame.{VFrame}
 use Rattle.ff_frame.specs.declared.item.Item.{Item}
 use Rattle.ff_frame.specs.declared.item.Item.TheVariants.{Video}
@@ -9,7 +9,8 @@ use Rattle.ff_filter.specs.declared.after.After.{After}
 use Rattle.ff_filter.specs.Shifts.{start_ticks}
 use Rattle.ff_values.specs.declared.head.StreamHead.{StreamHead}
 use Rattle.ff_fsync.specs.Sides.{Side}
-use Rattle.ff_fsync.specs.Synced.{some_of, last_of}
+use Rattle.ff_fsync.specs.Synced.{some_of, last_of, is_whole, is_open}
+use Rattle.ff_frame.specs.Stream.{Mark}
 use Rattle.ff_fsync.specs.Sides.{frames_of}
 
 abbrev pub items_of : List VFrame → List Item
@@ -72,3 +73,7 @@ pub record IsLastBy (fs : List VFrame) (t : ℕ) : Type 0 where
 abbrev pub IsNextIn : List Item → ℕ → Option ℕ → Type 0
 IsNextIn xs lo None = (u : ℕ) → lo ≤ u → starts_at xs u ≡ false
 IsNextIn xs lo (Some t) = IsNextStart xs lo t
+
+-- the mark says whole, or is open where that counts as whole
+abbrev pub whole_if : Bool → Mark → Bool
+whole_if ended m = is_whole m || (ended && is_open m)

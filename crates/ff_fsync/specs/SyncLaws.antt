@@ -338,7 +338,7 @@ module _ {A : Type 0} where
       | inr o ↦ (let b = and_parts (is_open (ss p).mark) (is_empty (ss p).items || begun k ss t p) o in inr (b.0, or_cases (is_empty (ss p).items) (begun k ss t p) b.1))
     ]
 
-    allows_from : (ss : ℕ → Stream A) (t p : ℕ) → Allows ss t p → allows k ss t p ≡ true
+    pub allows_from : (ss : ℕ → Stream A) (t p : ℕ) → Allows ss t p → allows k ss t p ≡ true
     allows_from ss t p (inl r) = or_left _ _ r
     allows_from ss t p (inr o) = or_right _ _ (and_from _ _ o.0 (or_of _ _ o.1))
 

@@ -4,18 +4,19 @@ use Rattle.std.proofs.Common.{arith}
 use Rattle.ff_values.specs.declared.video.VFrame.{VFrame}
 use Rattle.ff_values.specs.declared.head.StreamHead.{StreamHead}
 use Rattle.ff_frame.specs.declared.item.Item.{Item}
+use Rattle.ff_frame.specs.declared.item.Item.TheVariants.{Video}
 use Rattle.ff_frame.specs.declared.item.Lane.{Lane}
 use Rattle.ff_frame.specs.declared.item.Lane.TheVariants.{Frames}
 use Rattle.ff_filter.specs.declared.after.After.{After}
-use Rattle.ff_frame.specs.Stream.{Stream}
+use Rattle.ff_frame.specs.Stream.{Stream, Mark}
 use Rattle.ff_filter.specs.Joins.{Flow}
 use Rattle.ff_filter.specs.Made.{mark_after}
 use Rattle.ff_filter.specs.Views.{View}
 use Rattle.ff_fsync.specs.declared.input.Input.{Input}
-use Rattle.ff_fsync.specs.Ranges.{all_to, any_to}
-use Rattle.ff_fsync.specs.Synced.{Timing, starts, begun, reached, is_known, is_shown, pictures, synced_mark, is_complete, goes_on, is_whole, is_empty, mark_by}
+use Rattle.ff_fsync.specs.Ranges.{all_to, any_to, list_to}
+use Rattle.ff_fsync.specs.Synced.{Timing, starts, begun, reached, is_known, is_shown, pictures, synced_mark, is_complete, goes_on, is_whole, is_open, is_broken, is_empty, all_ended, mark_by}
 use Rattle.ff_fsync.specs.Sides.{Side, side_at, streams, standing, timing, shown_as, sync_view, sync_spent, fills_to, Sound}
-use Rattle.ff_fsync.specs.Inputs.{side_by, Trims}
+use Rattle.ff_fsync.specs.Inputs.{side_by, last_by, Trims}
 
 abbrev pub side_of : Input → Side
 side_of i = side_by i.head i.queue.items i.after i.next
@@ -67,3 +68,34 @@ abbrev pub sooner_of : Option ℕ → Option ℕ → Option ℕ
 sooner_of None b = b
 sooner_of (Some x) None = Some x
 sooner_of (Some x) (Some y) = cond (nat_lt y x) (Some y) (Some x)
+
+-- the same, or where so asked as if each open input had ended
+abbrev pub ended_if : Bool → (ℕ → Flow) → ℕ → Flow
+ended_if true ss = all_ended ss
+ended_if false ss = ss
+
+-- an input doesn't bind what is still to be shown at this time
+abbrev pub is_free : StreamHead → Bool → List Input → ℕ → ℕ → Bool
+is_free head shortest is t p = is_open (standing_of head is p).mark || is_known (timing_of shortest is) (standing_of head is) t p
+
+-- so many inputs leave free just the times before this one
+abbrev pub IsBound : StreamHead → Bool → List Input → ℕ → ℕ → Type 0
+IsBound head shortest is n bound = (t : ℕ) → t < 18446744073709551615 → all_to n (is_free head shortest is t) ≡ nat_lt t bound
+
+-- some input broke off
+abbrev pub is_lost : StreamHead → List Input → Bool
+is_lost head is = any_to (length is) (λ p. is_broken (standing_of head is p).mark)
+
+-- each input stayed as it was, or all but the last picture by a time was let go
+pub record AreTrimmed (head : StreamHead) (old new : List Input) (t : ℕ) : Type 0 where
+  pub long : length (sides_of new) ≡ length (sides_of old)
+  pub lanes : map (λ (s : Side). s.lane) (sides_of new) ≡ map (λ (s : Side). s.lane) (sides_of old)
+  pub sides : (q : ℕ) → (side_at (Frames head) (sides_of new) q ≡ side_at (Frames head) (sides_of old) q) ⊎ Trims t (side_at (Frames head) (sides_of old) q) (side_at (Frames head) (sides_of new) q)
+
+-- of so many inputs the last picture by a time was taken, and those before it let go
+pub record AreTaken (head : StreamHead) (old new : List Input) (t n : ℕ) (fs : List VFrame) : Type 0 where
+  pub long : length new ≡ length old
+  pub lanes : map (λ (s : Side). s.lane) (sides_of new) ≡ map (λ (s : Side). s.lane) (sides_of old)
+  pub done : (q : ℕ) → q < n → Trims t (side_at (Frames head) (sides_of old) q) (side_at (Frames head) (sides_of new) q)
+  pub others : (q : ℕ) → n ≤ q → side_at (Frames head) (sides_of new) q ≡ side_at (Frames head) (sides_of old) q
+  pub pictures : list_to n (λ q. last_by (side_at (Frames head) (sides_of new) q).waits t) ≡ map Video fs

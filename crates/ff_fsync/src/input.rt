@@ -1,12 +1,12 @@
-ghost use Rattle.std.specs.Prelude.{◌≡◌, ◌<◌, ◌≤◌, ◌^◌, ℕ, ◌||◌, ◌&&◌, not, [], ◌∷◌, true, false, nat_le, IfOk, IfSome, IsNone, OnOk};
+ghost use Rattle.std.specs.Prelude.{◌≡◌, ◌<◌, ◌≤◌, ◌^◌, ℕ, ◌||◌, ◌&&◌, not, min, nat_lt, [], ◌∷◌, true, false, nat_le, IfOk, IfSome, IsNone, OnOk};
 ghost use Rattle.std.specs.VecDeque.{deque_len, deque_capacity};
 ghost use Rattle.ff_frame.specs.declared.item.Lane.TheVariants.{Frames};
 ghost use Rattle.ff_filter.specs.Joins.{Flow, before};
 ghost use Rattle.ff_filter.specs.Made.{is_over, mark_after};
 ghost use Rattle.ff_filter.specs.Views.{closes};
-ghost use Rattle.ff_fsync.specs.Synced.{is_empty as none_waits, is_whole as whole_mark};
+ghost use Rattle.ff_fsync.specs.Synced.{is_empty as none_waits, is_whole as whole_mark, is_open as open_mark, is_broken as broken_mark};
 ghost use Rattle.ff_fsync.specs.Sides.{coming, no_side, fills_to, frames_of};
-ghost use Rattle.ff_fsync.specs.Inputs.{items_of, side_by, begun_by, reaches, last_by, Trims, IsNextIn, IsLastBy, second_by as second_starts_by};
+ghost use Rattle.ff_fsync.specs.Inputs.{items_of, side_by, begun_by, reaches, last_by, Trims, IsNextIn, IsLastBy, whole_if, second_by as second_starts_by};
 
 use crate::time::time_among;
 use ff_filter::{After, discard};
@@ -121,6 +121,84 @@ impl Input {
         self.reaches(time) || self.is_whole() && !shortest
     }
 
+    /// Whether all has come; of an open input, whether that counts as if it had.
+    pub fn has_ended(&self, ended: bool) -> bool
+        ensures { result ≡ whole_if ended (mark_after self.now.after) }
+    {
+        match self.after {
+            After::More => ended,
+            After::Whole => true,
+            After::Broke => false,
+        }
+    }
+
+    /// Whether all has come, or of an open input that counts as if it had; or it has come to below a time.
+    pub fn outlasts(&self, next: u64, ended: bool) -> bool
+        ensures { result ≡ (whole_if ended (mark_after self.now.after) || nat_le next self.now.next) }
+    {
+        self.has_ended(ended) || next <= self.next
+    }
+
+    /// Whether the output may end with it: all has come, or counts as if it had; and it has no picture, or the output ends
+    /// where it does.
+    pub fn may_end(&self, ended: bool, shortest: bool) -> bool
+        ensures { result ≡ (whole_if ended (mark_after self.now.after) && (shortest || none_waits (items_of self.now.queue.items))) }
+    {
+        self.has_ended(ended) && (shortest || self.is_empty())
+    }
+
+    /// Whether it broke off.
+    pub fn is_broken(&self) -> bool
+        ensures { result ≡ broken_mark (mark_after self.now.after) }
+    {
+        self.after == After::Broke
+    }
+
+    /// Whether it is open, and hasn't come to a time.
+    pub fn is_behind(&self, time: u64) -> bool
+        ensures { result ≡ (open_mark (mark_after self.now.after) && not (reaches (items_of self.now.queue.items) time)) }
+    {
+        self.after == After::More && !self.reaches(time)
+    }
+
+    /// Whether its first picture starts by a time.
+    pub fn begins_by(&self, time: u64) -> bool
+        ensures { result ≡ begun_by (items_of self.now.queue.items) time }
+    {
+        match self.start() {
+            None => false,
+            Some(start) => start <= time,
+        }
+    }
+
+    /// Whether it is no hindrance to something further at a time: it has begun and is known there; or it is open, and has
+    /// begun by then or has no picture yet.
+    pub fn allows(&self, time: u64, shortest: bool) -> bool
+        ensures { result ≡ ((begun_by (items_of self.now.queue.items) time && (reaches (items_of self.now.queue.items) time || (whole_mark (mark_after self.now.after) && not shortest))) || (open_mark (mark_after self.now.after) && (none_waits (items_of self.now.queue.items) || begun_by (items_of self.now.queue.items) time))) }
+    {
+        let begun = self.begins_by(time);
+        begun && self.is_known(time, shortest)
+            || self.after == After::More && (self.is_empty() || begun)
+    }
+
+    /// The sooner of a time and the one from which on it binds what is still to be shown, if it does.
+    pub fn bound(&self, bound: u64, shortest: bool) -> u64
+        ensures bound { (t : ℕ) → nat_lt t result ≡ (nat_lt t bound && (open_mark (mark_after self.now.after) || (reaches (items_of self.now.queue.items) t || (whole_mark (mark_after self.now.after) && not shortest)))) }
+        ensures no_later { result ≤ bound }
+    {
+        match self.after {
+            After::More => bound,
+            After::Whole => {
+                if shortest {
+                    least_of(bound, self.next)
+                } else {
+                    bound
+                }
+            }
+            After::Broke => least_of(bound, self.next),
+        }
+    }
+
     /// When its first picture starts.
     pub fn start(&self) -> Option<u64>
         ensures none { IsNone result → self.now.queue.items ≡ [] }
@@ -179,4 +257,11 @@ impl Input {
         self.trim(time);
         self.queue[0].try_copy(alloc)
     }
+}
+
+// The lesser of two times.
+fn least_of(a: u64, b: u64) -> u64
+    ensures { result ≡ min a b }
+{
+    if a < b { a } else { b }
 }

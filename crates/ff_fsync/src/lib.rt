@@ -2,6 +2,8 @@
 #![tactic(auto)]
 
 mod input;
+mod machine;
+mod marking;
 mod framesync;
 mod stack;
 mod time;

@@ -1,0 +1,134 @@
+-- Of each input the last picture by a time is taken.
+use Rattle.std.specs.Prelude.{◌≡◌, ◌≢◌, ℕ, zero, suc, ◌+◌, ◌<◌, ◌≤◌, ◌⊎◌, Bool, true, false, ◌||◌, ◌&&◌, not, nat_le, List, [], ◌∷◌, ◌++◌, map, length, refl}
+use Rattle.std.proofs.Common.{inl, inr, ap, sym, ◌∙◌, subst, arith, get_or, set}
+use Rattle.std.proofs.lemmas.Bool.{cases_lt, cases_eq, cases_Bool, and_parts, false_from_ne_true}
+use Rattle.std.proofs.lemmas.List.{map-append, length-set}
+use Rattle.ff_values.specs.declared.video.VFrame.{VFrame}
+use Rattle.ff_values.specs.declared.head.StreamHead.{StreamHead}
+use Rattle.ff_frame.specs.declared.item.Item.{Item}
+use Rattle.ff_frame.specs.declared.item.Item.TheVariants.{Audio, Video, Packet, Trailer, End, Broken}
+use Rattle.ff_frame.specs.declared.item.Lane.{Lane}
+use Rattle.ff_frame.specs.declared.item.Lane.TheVariants.{Frames}
+use Rattle.ff_frame.specs.Stream.{Stream}
+use Rattle.ff_filter.specs.Joins.{Flow}
+use Rattle.ff_filter.specs.Made.{mark_after}
+use Rattle.ff_filter.specs.Shifts.{start_ticks}
+use Rattle.ff_filter.specs.Views.{Same, Gave}
+use Rattle.ff_fsync.specs.declared.input.Input.{Input}
+use Rattle.ff_fsync.specs.Ranges.{all_to, any_to, list_to, list_same}
+use Rattle.ff_fsync.specs.Synced.{last_of, begun, is_shown, pictures, Timing}
+use Rattle.ff_fsync.specs.SyncLaws.{clash, Risen, ready_at, shown_reached}
+use Rattle.ff_fsync.specs.Rising.{Rises}
+use Rattle.ff_fsync.specs.Sides.{Side, side_at, standing, timing, frames_of, Sound, sync_view, shown_as}
+use Rattle.ff_fsync.specs.SideLaws.{coming_risen}
+use Rattle.ff_fsync.specs.Inputs.{items_of, last_by, begun_by, Trims}
+use Rattle.ff_fsync.specs.Syncs.{side_of, sides_of, sides_sound, standing_of, timing_of, IsDue, AreTrimmed, AreTaken}
+use Rattle.ff_fsync.proofs.Inputting.{rises_of}
+use Rattle.ff_fsync.proofs.Finding.{side_there, long_sides}
+use Rattle.ff_fsync.proofs.Dropping.{Drops, drop_shown, drop_no_more, drop_pictures}
+use Rattle.ff_fsync.proofs.Showing.{timing_same, trims_same, Replaced}
+
+pub set_here : (lane : Lane) (is : List Input) (p : ℕ) (i : Input) → p < length is → side_at lane (sides_of (set is p i)) p ≡ side_of i
+set_here lane [] p i lt = absurd (omega (arith, lt))
+set_here lane (j ∷ is) zero i lt = refl
+set_here lane (j ∷ is) (suc p) i lt = set_here lane is p i (omega (arith, lt))
+
+pub set_others : (lane : Lane) (is : List Input) (p q : ℕ) (i : Input) → q ≢ p → side_at lane (sides_of (set is p i)) q ≡ side_at lane (sides_of is) q
+set_others lane [] p q i n = refl
+set_others lane (j ∷ is) zero zero i n = absurd (n refl)
+set_others lane (j ∷ is) zero (suc q) i n = refl
+set_others lane (j ∷ is) (suc p) zero i n = refl
+set_others lane (j ∷ is) (suc p) (suc q) i n = set_others lane is p q i (λ e. n (ap suc e))
+
+pub set_lanes : (is : List Input) (p : ℕ) (i j : Input) → p < length is → j ≡ get_or is p j → (side_of i).lane ≡ (side_of j).lane → map (λ (s : Side). s.lane) (sides_of (set is p i)) ≡ map (λ (s : Side). s.lane) (sides_of is)
+set_lanes [] p i j lt e l = refl
+set_lanes (k ∷ is) zero i j lt e l = ap (λ (x : Lane). x ∷ map (λ (s : Side). s.lane) (sides_of is)) (l ∙ ap (λ (x : Input). (side_of x).lane) e)
+set_lanes (k ∷ is) (suc p) i j lt e l = ap (λ (xs : List Lane). (side_of k).lane ∷ xs) (set_lanes is p i j (omega (arith, lt)) e l)
+
+pub replaced : (lane : Lane) (is : List Input) (p : ℕ) (i j : Input) → p < length is → j ≡ get_or is p j → (side_of i).lane ≡ (side_of j).lane → Replaced lane (sides_of is) (sides_of (set is p i)) p (side_of i)
+replaced lane is p i j lt e l = record {
+  long = long_sides (set is p i) ∙ (length-set is p i ∙ sym (long_sides is));
+  lanes = set_lanes is p i j lt e l;
+  here = set_here lane is p i lt;
+  others = λ q n. set_others lane is p q i n;
+}
+
+pub taken_none : (head : StreamHead) (is : List Input) (t : ℕ) → AreTaken head is is t 0 []
+taken_none head is t = record { long = refl; lanes = refl; done = λ q lt. absurd (omega arith); others = λ q le. refl; pictures = refl }
+
+pub taken_more : (head : StreamHead) (old is : List Input) (t p : ℕ) (fs gs : List VFrame) (i j : Input) (f : VFrame) → AreTaken head old is t p fs → p < length is → j ≡ get_or is p j → Trims t (side_of j) (side_of i)
+    → last_by (items_of i.queue.items) t ≡ Video f ∷ [] → gs ≡ fs ++ f ∷ [] → AreTaken head old (set is p i) t (p + 1) gs
+taken_more head old is t p fs gs i j f h lt e d last more = record {
+  long = length-set is p i ∙ h.long;
+  lanes = set_lanes is p i j lt e d.lane ∙ h.lanes;
+  done = λ q l. elim (cases_eq q p) as (λ _. Trims t (side_at (Frames head) (sides_of old) q) (side_at (Frames head) (sides_of (set is p i)) q)) [
+    | inl same ↦ subst (λ r. Trims t (side_at (Frames head) (sides_of old) r) (side_at (Frames head) (sides_of (set is p i)) r)) (sym same)
+        (subst (λ (s : Side). Trims t s (side_at (Frames head) (sides_of (set is p i)) p)) (sym (side_there (Frames head) is p j lt e) ∙ h.others p (omega arith))
+        (subst (λ (s : Side). Trims t (side_of j) s) (sym (set_here (Frames head) is p i lt)) d))
+    | inr n ↦ subst (λ (s : Side). Trims t (side_at (Frames head) (sides_of old) q) s) (sym (set_others (Frames head) is p q i n)) (h.done q (omega (arith, l, n)))
+  ];
+  others = λ q le. set_others (Frames head) is p q i (λ same. omega (arith, same, le)) ∙ h.others q (omega (arith, le));
+  pictures =
+    let f' : ℕ → List Item = λ q. last_by (side_at (Frames head) (sides_of (set is p i)) q).waits t in
+    let g' : ℕ → List Item = λ q. last_by (side_at (Frames head) (sides_of is) q).waits t in
+    one_more p f' ∙ (ap (λ (xs : List Item). xs ++ f' p) (list_same p f' g' (λ q l. ap (λ (s : Side). last_by s.waits t) (set_others (Frames head) is p q i (λ same. omega (arith, same, l)))))
+    ∙ (ap (λ (xs : List Item). xs ++ f' p) h.pictures ∙ (ap (λ (xs : List Item). map Video fs ++ xs) (ap (λ (s : Side). last_by s.waits t) (set_here (Frames head) is p i lt) ∙ last)
+    ∙ (sym (map-append Video fs (f ∷ [])) ∙ ap (λ (hs : List VFrame). map Video hs) (sym more)))));
+}
+  where
+    one_more : (n : ℕ) (f : ℕ → List Item) → list_to (n + 1) f ≡ list_to n f ++ f n
+    one_more n f = let e : n + 1 ≡ suc n = omega arith in ap (λ m. list_to m f) e
+
+pub trimmed_of : (head : StreamHead) (old new : List Input) (t n : ℕ) (fs : List VFrame) → AreTaken head old new t n fs → AreTrimmed head old new t
+trimmed_of head old new t n fs h = record {
+  long = long_sides new ∙ (h.long ∙ sym (long_sides old));
+  lanes = h.lanes;
+  sides = λ q. elim (cases_lt q n) as (λ _. (side_at (Frames head) (sides_of new) q ≡ side_at (Frames head) (sides_of old) q) ⊎ Trims t (side_at (Frames head) (sides_of old) q) (side_at (Frames head) (sides_of new) q)) [ inl lt ↦ inr (h.done q lt) | inr le ↦ inl (h.others q le) ];
+}
+
+-- where one more was trimmed and not taken
+pub trimmed_more : (head : StreamHead) (old is : List Input) (t p : ℕ) (fs : List VFrame) (i j : Input) → AreTaken head old is t p fs → p < length is → j ≡ get_or is p j → Trims t (side_of j) (side_of i) → AreTrimmed head old (set is p i) t
+trimmed_more head old is t p fs i j h lt e d = record {
+  long = long_sides (set is p i) ∙ (length-set is p i ∙ (h.long ∙ sym (long_sides old)));
+  lanes = set_lanes is p i j lt e d.lane ∙ h.lanes;
+  sides = λ q. elim (cases_eq q p) as (λ _. (side_at (Frames head) (sides_of (set is p i)) q ≡ side_at (Frames head) (sides_of old) q) ⊎ Trims t (side_at (Frames head) (sides_of old) q) (side_at (Frames head) (sides_of (set is p i)) q)) [
+    | inl same ↦ inr (subst (λ r. Trims t (side_at (Frames head) (sides_of old) r) (side_at (Frames head) (sides_of (set is p i)) r)) (sym same)
+        (subst (λ (s : Side). Trims t s (side_at (Frames head) (sides_of (set is p i)) p)) (sym (side_there (Frames head) is p j lt e) ∙ h.others p (omega arith))
+        (subst (λ (s : Side). Trims t (side_of j) s) (sym (set_here (Frames head) is p i lt)) d)))
+    | inr n ↦ elim (cases_lt q p) as (λ _. (side_at (Frames head) (sides_of (set is p i)) q ≡ side_at (Frames head) (sides_of old) q) ⊎ Trims t (side_at (Frames head) (sides_of old) q) (side_at (Frames head) (sides_of (set is p i)) q)) [
+      | inl l ↦ inr (subst (λ (s : Side). Trims t (side_at (Frames head) (sides_of old) q) s) (sym (set_others (Frames head) is p q i n)) (h.done q l))
+      | inr le ↦ inl (set_others (Frames head) is p q i n ∙ h.others q le)
+    ]
+  ];
+}
+
+-- the input has begun, as it was when the time was found
+pub begun_still : (head : StreamHead) (shortest : Bool) (old is : List Input) (from t p : ℕ) (fs : List VFrame) (j : Input) → IsDue (timing_of shortest old) from (standing_of head old) t → AreTaken head old is t p fs → p < length is → j ≡ get_or is p j → begun_by (items_of j.queue.items) t ≡ true
+begun_still head shortest old is from t p fs j due h lt e =
+    let b = (ready_at (timing_of shortest old) (standing_of head old) t due.shown p (let l = long_sides old in let m = h.long in omega (arith, l, m, lt))).0 in
+    ap (λ (s : Side). begun_by s.waits t) (sym (side_there (Frames head) is p j lt e) ∙ h.others p (omega arith)) ∙ b
+
+pub pictures_taken : (head : StreamHead) (shortest : Bool) (old is : List Input) (t n : ℕ) (fs : List VFrame) → n ≡ length is → AreTaken head old is t n fs → pictures (timing_of shortest is) (standing_of head is) t ≡ map Video fs
+pictures_taken head shortest old is t n fs e h = ap (λ m. list_to m (λ q. last_by (side_at (Frames head) (sides_of is) q).waits t)) (long_sides is ∙ sym e) ∙ h.pictures
+
+stand_drop : (t : ℕ) (s r : Side) → Trims t s r → Drops start_ticks t (let a : Flow = record { items = s.waits; mark = mark_after s.after } in a) (let b : Flow = record { items = r.waits; mark = mark_after r.after } in b)
+stand_drop t s r d = record { gone = d.gone; first = d.first; others = d.others; was = d.was; now = d.now; by = d.by; mark = sym (ap mark_after d.after) }
+
+-- what is due is due still
+pub due_still : (head : StreamHead) (shortest : Bool) (old new : List Input) (from t : ℕ) → AreTrimmed head old new t → IsDue (timing_of shortest old) from (standing_of head old) t → IsDue (timing_of shortest new) from (standing_of head new) t
+due_still head shortest old new from t h due =
+    let k = timing_of shortest old in
+    let risen : Risen k (standing_of head old) = λ p. rises_of 0 (side_at (Frames head) (sides_of old) p).waits (side_at (Frames head) (sides_of old) p).next (sides_sound (Frames head) old p) in
+    let how : (p : ℕ) → p < k.inputs → (standing_of head old p ≡ standing_of head new p) ⊎ Drops start_ticks t (standing_of head old p) (standing_of head new p) = λ p lt. elim (h.sides p) as (λ _. (standing_of head old p ≡ standing_of head new p) ⊎ Drops start_ticks t (standing_of head old p) (standing_of head new p)) [
+      | inl e ↦ inl (sym (ap (λ (s : Side). let a : Flow = record { items = s.waits; mark = mark_after s.after } in a) e))
+      | inr d ↦ inr (stand_drop t (side_at (Frames head) (sides_of old) p) (side_at (Frames head) (sides_of new) p) d)
+    ] in
+    subst (λ (c : Timing Item). IsDue c from (standing_of head new) t) (sym (timing_same shortest (sides_of old) (sides_of new) h.long)) (record {
+      late = due.late;
+      shown = sym (drop_shown k t (standing_of head old) (standing_of head new) risen how t (omega arith)) ∙ due.shown;
+      first = λ u le lt. false_from_ne_true (is_shown k (standing_of head new) u) (λ e. clash (is_shown k (standing_of head old) u) (drop_no_more k t (standing_of head old) (standing_of head new) risen how u e) (due.first u le lt));
+    })
+
+pub frames_back : (fs : List VFrame) → frames_of (map Video fs) ≡ fs
+frames_back [] = refl
+frames_back (f ∷ fs) = ap (λ (gs : List VFrame). f ∷ gs) (frames_back fs)

@@ -1,0 +1,18 @@
+use Rattle.std.proofs.Common.{◌≡◌, true, false, ◌||◌, ◌&&◌, not, ℕ, Bool, ap, ◌∙◌, sym, arith, refl, subst, ◌+◌, length}
+use Rattle.ff_fsync.specs.Ranges.{all_to, any_to}
+use Rattle.ff_fsync.specs.Synced.{is_open, is_whole, is_broken, reached, allows, outlasts, ends_with, is_complete}
+use Rattle.ff_fsync.specs.Syncs.{standing_of, timing_of, ended_if, IsBound}
+use Rattle.ff_fsync.proofs.MarkLaws.{all_more, all_fails, any_more, any_found, whole_at, broken_at, behind_at, allows_there, outlast_at, ends_there, complete_there, bound_more, bound_none, goes_on_ended, goes_on_free, goes_on_not, mark_complete, mark_unbroken, mark_lost}
+use Rattle.ff_fsync.proofs.framesync.Framesync.all_ended.Goals as goal
+
+pub returns-then-not-has_ended : goal.returns-then-not-has_ended
+returns-then-not-has_ended g c =
+    let s = c.args.self.now in
+    let f : ℕ → Bool = λ p. is_whole (ended_if c.args.ended (standing_of s.head s.inputs.items) p).mark in
+    all_fails f (length s.inputs.items) c.inputs.p c.has_ended.result (omega (arith, c.inputs-test.true, c.len-p-end.ensures, s.inputs.ok.0)) (whole_at s.head s.shortest s.inputs.items c.args.ended c.inputs.p c.index.result.now (omega (arith, c.inputs-test.true, c.len-p-end.ensures, s.inputs.ok.0)) c.index.ensures ∙ sym c.has_ended.ensures) c.if-not-has_ended.true
+
+pub inputs-preserved : goal.inputs-preserved
+inputs-preserved g c =
+    let s = c.args.self.now in
+    let f : ℕ → Bool = λ p. is_whole (ended_if c.args.ended (standing_of s.head s.inputs.items) p).mark in
+    all_more f c.inputs.p c.has_ended.result c.inputs.invariant (whole_at s.head s.shortest s.inputs.items c.args.ended c.inputs.p c.index.result.now (omega (arith, c.inputs-test.true, c.len-p-end.ensures, s.inputs.ok.0)) c.index.ensures ∙ sym c.has_ended.ensures) c.if-not-has_ended.false

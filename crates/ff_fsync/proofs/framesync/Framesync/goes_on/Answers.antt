@@ -1,0 +1,23 @@
+use Rattle.std.proofs.Common.{◌≡◌, true, false, ◌||◌, ◌&&◌, not, ℕ, Bool, ap, ◌∙◌, sym, arith, refl, subst, ◌+◌, ◌-◌, length}
+use Rattle.ff_fsync.specs.Ranges.{all_to, any_to}
+use Rattle.ff_fsync.specs.Synced.{is_open, is_whole, is_broken, reached, allows, outlasts, ends_with, is_complete}
+use Rattle.ff_fsync.specs.Syncs.{standing_of, timing_of, ended_if, IsBound}
+use Rattle.ff_fsync.proofs.MarkLaws.{all_more, all_fails, any_more, any_found, whole_at, broken_at, behind_at, allows_there, outlast_at, ends_there, complete_there, bound_more, bound_none, goes_on_ended, goes_on_free, goes_on_not, mark_complete, mark_unbroken, mark_lost}
+use Rattle.ff_fsync.proofs.framesync.Framesync.goes_on.Goals as goal
+
+pub returns-then-bound-eq0 : goal.returns-then-bound-eq0
+returns-then-bound-eq0 g c =
+    let s = c.args.self.now in
+    goes_on_not s.head s.shortest s.inputs.items c.bound-bound.result c.requires.lost (sym c.is_complete.ensures ∙ c.if-is_complete.false) c.bound-bound.ensures c.if-bound-eq0.true
+
+pub returns-then-some_behind : goal.returns-then-some_behind
+returns-then-some_behind g c =
+    let s = c.args.self.now in
+    let y = c.all_allow.result in
+    sym (ap (λ b. b && y) c.if-some_behind.true) ∙ goes_on_free s.head s.shortest s.inputs.items c.bound-bound.result c.some_behind.result y c.requires.lost (sym c.is_complete.ensures ∙ c.if-is_complete.false) c.bound-bound.ensures (omega (arith, c.if-bound-eq0.false)) (omega (arith, c.bound-bound.type_inv)) c.some_behind.ensures c.all_allow.ensures
+
+pub returns-else-some_behind : goal.returns-else-some_behind
+returns-else-some_behind g c =
+    let s = c.args.self.now in
+    let y : Bool = all_to (length s.inputs.items) (allows (timing_of s.shortest s.inputs.items) (standing_of s.head s.inputs.items) (c.bound-bound.result - 1)) in
+    c.if-some_behind.false ∙ (sym (ap (λ b. b && y) c.if-some_behind.false) ∙ goes_on_free s.head s.shortest s.inputs.items c.bound-bound.result c.some_behind.result y c.requires.lost (sym c.is_complete.ensures ∙ c.if-is_complete.false) c.bound-bound.ensures (omega (arith, c.if-bound-eq0.false)) (omega (arith, c.bound-bound.type_inv)) c.some_behind.ensures refl)

@@ -1,0 +1,8 @@
+use Rattle.std.proofs.Common.{◌≡◌, true, false, ◌||◌, ◌&&◌, not, ℕ, Bool, ap, ◌∙◌, sym, arith, refl, subst, ◌+◌}
+use Rattle.ff_fsync.specs.Ranges.{all_to, any_to}
+use Rattle.ff_fsync.specs.Synced.{is_open, is_whole, is_broken, reached, allows, outlasts, ends_with, is_complete}
+use Rattle.ff_fsync.specs.Syncs.{standing_of, timing_of, ended_if, IsBound}
+use Rattle.ff_fsync.proofs.framesync.Framesync.some_behind.Given as goal
+
+abbrev pub invariant-inputs : goal.invariant-inputs
+invariant-inputs g l = any_to l.p (λ p. is_open ((standing_of l.self.head l.self.inputs.items) p).mark && not (reached (timing_of l.self.shortest l.self.inputs.items) (standing_of l.self.head l.self.inputs.items) l.time p)) ≡ false
