@@ -75,8 +75,8 @@ impl<S: Stack> Framesync<S> {
         true
     }
 
-    // The time of what is to be shown next.
-    fn due(&self) -> Option<u64>
+    /// The time of what is to be shown next.
+    pub(crate) fn due(&self) -> Option<u64>
         ensures none { IsNone result → NoneFrom self.now.head self.now.shortest self.now.inputs.items self.now.from }
         ensures due { IfSome result (λ t. IsDue (timing_of self.now.shortest self.now.inputs.items) self.now.from (standing_of self.now.head self.now.inputs.items) t) }
         ensures near { IfSome result (λ t. t < 2 ^ 63) }

@@ -1,11 +1,12 @@
 ghost use Rattle.std.specs.Prelude.{◌≡◌, ◌↔◌, ◌<◌, ◌≤◌, ◌^◌, ◌+◌, List, length, map, IsTrue, IfOk, OnOk, OnErr, IfErr, Ok, Some, None, true, false};
+ghost use Rattle.ff_frame.specs.declared.item.Item.{Item as AnItem};
 ghost use Rattle.ff_frame.specs.declared.item.Item.TheVariants.{Video};
 ghost use Rattle.ff_frame.specs.declared.item.Lane.TheVariants.{Frames};
 ghost use Rattle.ff_filter.specs.Views.{Fed, Same, Gave, Waits, IsSpent};
 ghost use Rattle.ff_fsync.specs.Synced.{pictures};
 ghost use Rattle.ff_fsync.specs.Sides.{side_at, shown_as, sync_view, sync_spent};
 ghost use Rattle.ff_fsync.specs.SideLaws.{sync-grows, sync-hides, sync-settles, sync-quiet, sync-spent_only, sync-shut_spent, sync-done_spent};
-ghost use Rattle.ff_fsync.specs.Syncs.{sides_of, sides_sound, standing_of, timing_of, IsDue, AreTrimmed};
+ghost use Rattle.ff_fsync.specs.Syncs.{sides_of, sides_sound, standing_of, timing_of, IsDue, NoneFrom, AreTrimmed};
 
 use crate::framesync::Framesync;
 use crate::stack::Stack;
@@ -40,4 +41,122 @@ impl<S: Stack> Framesync<S> {
         }
         Ok(pictures)
     }
+}
+
+impl<S: Stack> Framesync<S> {
+    // The closing item, where nothing is due any more.
+    fn close(&mut self) -> Option<Item>
+        requires none { NoneFrom self.old.head self.old.shortest self.old.inputs.items self.old.from }
+        requires going { self.old.ended ≡ false }
+        ensures gives { (x : AnItem) → result ≡ Some x → Gave (sync_view (S.shows self.old.stack) self.old.shortest (Frames self.old.head) self.old.from (sides_of self.old.inputs.items) self.old.ended self.old.stopped) (sync_view (S.shows self.new.stack) self.new.shortest (Frames self.new.head) self.new.from (sides_of self.new.inputs.items) self.new.ended self.new.stopped) 0 x }
+        ensures waits { result ≡ None → Waits (sync_view (S.shows self.old.stack) self.old.shortest (Frames self.old.head) self.old.from (sides_of self.old.inputs.items) self.old.ended self.old.stopped) (sync_view (S.shows self.new.stack) self.new.shortest (Frames self.new.head) self.new.from (sides_of self.new.inputs.items) self.new.ended self.new.stopped) 0 }
+    {
+        match self.mark() {
+            After::More => None,
+            After::Whole => {
+                self.ended = true;
+                Some(Item::End)
+            }
+            After::Broke => {
+                self.ended = true;
+                Some(Item::Broken)
+            }
+        }
+    }
+
+    // What is shown at the time of what is due.
+    fn show(&mut self, time: u64) -> Result<VFrame, AllocError>
+        requires due { IsDue (timing_of self.old.shortest self.old.inputs.items) self.old.from (standing_of self.old.head self.old.inputs.items) time }
+        requires near { time < 2 ^ 63 }
+        ensures same { Same (sync_view (S.shows self.old.stack) self.old.shortest (Frames self.old.head) self.old.from (sides_of self.old.inputs.items) self.old.ended self.old.stopped) (sync_view (S.shows self.new.stack) self.new.shortest (Frames self.new.head) self.new.from (sides_of self.new.inputs.items) self.new.ended self.new.stopped) }
+        ensures due { IsDue (timing_of self.new.shortest self.new.inputs.items) self.new.from (standing_of self.new.head self.new.inputs.items) time }
+        ensures shows { IfOk result (λ f. shown_as (S.shows self.new.stack) time (pictures (timing_of self.new.shortest self.new.inputs.items) (standing_of self.new.head self.new.inputs.items) time) ≡ Video f) }
+        ensures ended { self.new.ended ≡ self.old.ended }
+        ensures stopped { self.new.stopped ≡ self.old.stopped }
+    {
+        let pictures = match self.pictures(time) {
+            Err(error) => return Err(error),
+            Ok(pictures) => pictures,
+        };
+        self.stack.show(time, pictures.as_slice())
+    }
+
+    // The next item, where the output isn't closed.
+    fn pull_on(&mut self) -> Result<Option<Item>, AllocError>
+        requires going { self.old.ended ≡ false }
+        requires wanted { self.old.stopped ≡ false }
+        ensures gives { (x : AnItem) → result ≡ Ok (Some x) → Gave (sync_view (S.shows self.old.stack) self.old.shortest (Frames self.old.head) self.old.from (sides_of self.old.inputs.items) self.old.ended self.old.stopped) (sync_view (S.shows self.new.stack) self.new.shortest (Frames self.new.head) self.new.from (sides_of self.new.inputs.items) self.new.ended self.new.stopped) 0 x }
+        ensures waits { result ≡ Ok None → Waits (sync_view (S.shows self.old.stack) self.old.shortest (Frames self.old.head) self.old.from (sides_of self.old.inputs.items) self.old.ended self.old.stopped) (sync_view (S.shows self.new.stack) self.new.shortest (Frames self.new.head) self.new.from (sides_of self.new.inputs.items) self.new.ended self.new.stopped) 0 }
+        ensures unchanged { OnErr result (Same (sync_view (S.shows self.old.stack) self.old.shortest (Frames self.old.head) self.old.from (sides_of self.old.inputs.items) self.old.ended self.old.stopped) (sync_view (S.shows self.new.stack) self.new.shortest (Frames self.new.head) self.new.from (sides_of self.new.inputs.items) self.new.ended self.new.stopped)) }
+    {
+        let Some(time) = self.due() else {
+            return Ok(self.close());
+        };
+        match self.show(time) {
+            Err(error) => Err(error),
+            Ok(frame) => {
+                self.from = time + 1;
+                Ok(Some(Item::Video(frame)))
+            }
+        }
+    }
+}
+
+impl<S: Stack> Filter for Framesync<S> {
+    ghost view = { λ m. sync_view (S.shows m.stack) m.shortest (Frames m.head) m.from (sides_of m.inputs.items) m.ended m.stopped };
+
+    ghost spends = { λ m p. sync_spent m.shortest (Frames m.head) (sides_of m.inputs.items) m.ended m.stopped p };
+
+    fn inputs(&self) -> usize {
+        self.inputs.len()
+    }
+
+    fn outputs(&self) -> usize {
+        1
+    }
+
+    fn is_shut(&self, port: usize) -> bool {
+        self.inputs[port].is_shut()
+    }
+
+    fn is_stopped(&self, _port: usize) -> bool {
+        self.stopped
+    }
+
+    fn feed(&mut self, port: usize, item: Item) -> Result<(), Refused> {
+        if self.inputs[port].reserve().is_err() {
+            return Err(Refused { item });
+        }
+        self.inputs[port].take_in(item);
+        Ok(())
+    }
+
+    fn pull(&mut self, _port: usize) -> Result<Option<Item>, AllocError> {
+        if self.ended {
+            return Ok(None);
+        }
+        self.pull_on()
+    }
+
+    fn stop(&mut self, _port: usize) {
+        self.stopped = true;
+    }
+
+    fn spent(&self, port: usize) -> bool {
+        self.stopped || self.ended || self.inputs[port].is_shut() || self.mark() != After::More
+    }
+
+    ghost grows = { λ m. sync-grows (S.shows m.stack) m.shortest (Frames m.head) m.from (sides_of m.inputs.items) (sides_sound (Frames m.head) m.inputs.items) m.ended m.stopped };
+
+    ghost hides = { λ m. sync-hides (S.shows m.stack) m.shortest (Frames m.head) m.from (sides_of m.inputs.items) (sides_sound (Frames m.head) m.inputs.items) m.ended m.stopped };
+
+    ghost settles = { λ m. sync-settles (S.shows m.stack) m.shortest (Frames m.head) m.from (sides_of m.inputs.items) (sides_sound (Frames m.head) m.inputs.items) m.ended m.stopped };
+
+    ghost quiet = { λ m q e ext. sync-quiet (S.shows m.stack) m.shortest (Frames m.head) m.from (sides_of m.inputs.items) (sides_sound (Frames m.head) m.inputs.items) m.ended m.stopped q e ext };
+
+    ghost spent_only = { λ m p lt e. sync-spent_only (S.shows m.stack) m.shortest (Frames m.head) m.from (sides_of m.inputs.items) (sides_sound (Frames m.head) m.inputs.items) m.ended m.stopped p e };
+
+    ghost shut_spent = { λ m p lt e. sync-shut_spent (S.shows m.stack) m.shortest (Frames m.head) m.from (sides_of m.inputs.items) (sides_sound (Frames m.head) m.inputs.items) m.ended m.stopped p e };
+
+    ghost done_spent = { λ m p lt z d. sync-done_spent (S.shows m.stack) m.shortest (Frames m.head) m.from (sides_of m.inputs.items) (sides_sound (Frames m.head) m.inputs.items) m.ended m.stopped p d };
 }
