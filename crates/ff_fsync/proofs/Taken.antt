@@ -1,5 +1,5 @@
 -- Of each input the last picture by a time is taken.
-use Rattle.std.specs.Prelude.{◌≡◌, ◌≢◌, ℕ, zero, suc, ◌+◌, ◌<◌, ◌≤◌, ◌⊎◌, Bool, true, false, ◌||◌, ◌&&◌, not, nat_le, List, [], ◌∷◌, ◌++◌, map, length, refl}
+use Rattle.std.specs.Prelude.{◌≡◌, ◌≢◌, ℕ, zero, suc, ◌+◌, ◌<◌, ◌≤◌, ◌⊎◌, Bool, true, false, ◌||◌, ◌&&◌, not, nat_le, Result, Ok, Err, IfOk, is_ok, is_err, if◌then◌else◌, List, [], ◌∷◌, ◌++◌, map, length, refl}
 use Rattle.std.proofs.Common.{inl, inr, ap, sym, ◌∙◌, subst, arith, get_or, set}
 use Rattle.std.proofs.lemmas.Bool.{cases_lt, cases_eq, cases_Bool, and_parts, false_from_ne_true}
 use Rattle.std.proofs.lemmas.List.{map-append, length-set}
@@ -132,3 +132,23 @@ due_still head shortest old new from t h due =
 pub frames_back : (fs : List VFrame) → frames_of (map Video fs) ≡ fs
 frames_back [] = refl
 frames_back (f ∷ fs) = ap (λ (gs : List VFrame). f ∷ gs) (frames_back fs)
+
+pub set_same : (is : List Input) (p : ℕ) (i j : Input) → p < length is → j ≡ get_or is p j → side_of i ≡ side_of j → sides_of (set is p i) ≡ sides_of is
+set_same [] p i j lt e s = refl
+set_same (k ∷ is) zero i j lt e s = ap (λ (x : Side). x ∷ sides_of is) (s ∙ ap (λ (x : Input). side_of x) e)
+set_same (k ∷ is) (suc p) i j lt e s = ap (λ (xs : List Side). side_of k ∷ xs) (set_same is p i j (omega (arith, lt)) e s)
+
+long_lanes : (is : List Input) → length (map (λ (s : Side). s.lane) (sides_of is)) ≡ length is
+long_lanes [] = refl
+long_lanes (i ∷ is) = let e = long_lanes is in omega (arith, e)
+
+pub ports_there : (is : List Input) (p : ℕ) → p < length (map (λ (s : Side). s.lane) (sides_of is)) → p < length is
+ports_there is p lt = let e = long_lanes is in omega (arith, lt, e)
+
+pub if_ok : {A E : Type 0} (r : Result A E) (P Q : A → Type 0) → ((x : A) → P x → Q x) → IfOk r P → IfOk r Q
+if_ok (Ok x) P Q h p = h x p
+if_ok (Err e) P Q h p = tt
+
+pub pushed : {E : Type 0} (r : Result (Unit {0}) E) (fs gs : List VFrame) (f : VFrame) → gs ≡ (if is_ok r then fs ++ f ∷ [] else fs) → is_err r ≡ false → gs ≡ fs ++ f ∷ []
+pushed (Ok u) fs gs f e n = e
+pushed (Err x) fs gs f e n = cc

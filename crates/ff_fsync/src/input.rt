@@ -1,4 +1,4 @@
-ghost use Rattle.std.specs.Prelude.{◌≡◌, ◌<◌, ◌≤◌, ◌^◌, ℕ, ◌||◌, ◌&&◌, not, min, nat_lt, [], ◌∷◌, true, false, nat_le, IfOk, IfSome, IsNone, OnOk};
+ghost use Rattle.std.specs.Prelude.{◌≡◌, ◌<◌, ◌≤◌, ◌^◌, ℕ, ◌||◌, ◌&&◌, not, min, nat_lt, [], ◌∷◌, true, false, nat_le, IfOk, IfErr, IfSome, IsNone, OnOk, OnErr};
 ghost use Rattle.std.specs.VecDeque.{deque_len, deque_capacity};
 ghost use Rattle.ff_frame.specs.declared.item.Lane.TheVariants.{Frames};
 ghost use Rattle.ff_filter.specs.Joins.{Flow, before};
@@ -10,7 +10,7 @@ ghost use Rattle.ff_fsync.specs.Inputs.{items_of, side_by, begun_by, reaches, la
 
 use crate::time::time_among;
 use ff_filter::{After, discard};
-use ff_frame::{Item, StreamHead, VFrame};
+use ff_frame::{Item, Refused, StreamHead, VFrame};
 use std::alloc::{AllocError, Global};
 use std::collections::VecDeque;
 
@@ -65,7 +65,10 @@ impl Input {
 
     /// Makes room for one picture more.
     pub fn reserve(&mut self) -> Result<(), AllocError>
-        ensures same { side_by self.new.head self.new.queue.items self.new.after self.new.next ≡ side_by self.old.head self.old.queue.items self.old.after self.old.next }
+        ensures queue { self.new.queue.items ≡ self.old.queue.items }
+        ensures head { self.new.head ≡ self.old.head }
+        ensures after { self.new.after ≡ self.old.after }
+        ensures next { self.new.next ≡ self.old.next }
         ensures room { OnOk result (deque_len self.new.queue < deque_capacity self.new.queue) }
     {
         self.queue.reserve(1)
@@ -91,7 +94,7 @@ impl Input {
     /// Takes an item in. What isn't a picture that starts after those before is let go.
     pub fn take_in(&mut self, item: Item)
         requires room { deque_len self.old.queue < deque_capacity self.old.queue }
-        requires open { is_over self.old.after ≡ false }
+        requires going { is_over self.old.after ≡ false }
         ensures taken { (t : Flow) → coming (side_by self.new.head self.new.queue.items self.new.after self.new.next) t ≡ coming (side_by self.old.head self.old.queue.items self.old.after self.old.next) (before item t) }
         ensures shut { is_over self.new.after ≡ closes item }
         ensures head { self.new.head ≡ self.old.head }
@@ -104,6 +107,22 @@ impl Input {
             Item::Packet(packet) => discard(Item::Packet(packet)),
             Item::Trailer(totals) => discard(Item::Trailer(totals)),
         }
+    }
+
+    /// Takes an item in. For want of memory it comes back, and nothing has changed.
+    pub fn feed(&mut self, item: Item) -> Result<(), Refused>
+        requires going { is_over self.old.after ≡ false }
+        ensures taken { OnOk result ((t : Flow) → coming (side_by self.new.head self.new.queue.items self.new.after self.new.next) t ≡ coming (side_by self.old.head self.old.queue.items self.old.after self.old.next) (before item t)) }
+        ensures shut { OnOk result (is_over self.new.after ≡ closes item) }
+        ensures refused { IfErr result (λ r. r.item ≡ item) }
+        ensures unchanged { OnErr result (side_by self.new.head self.new.queue.items self.new.after self.new.next ≡ side_by self.old.head self.old.queue.items self.old.after self.old.next) }
+        ensures head { self.new.head ≡ self.old.head }
+    {
+        if self.reserve().is_err() {
+            return Err(Refused { item });
+        }
+        self.take_in(item);
+        Ok(())
     }
 
     /// Whether some picture starts at or after a time.

@@ -4,7 +4,7 @@ ghost use Rattle.ff_frame.specs.declared.item.Item.TheVariants.{Video};
 ghost use Rattle.ff_frame.specs.declared.item.Lane.TheVariants.{Frames};
 ghost use Rattle.ff_filter.specs.Views.{Fed, Same, Gave, Waits, IsSpent};
 ghost use Rattle.ff_fsync.specs.Synced.{pictures};
-ghost use Rattle.ff_fsync.specs.Sides.{side_at, shown_as, sync_view, sync_spent};
+ghost use Rattle.ff_fsync.specs.Sides.{side_at, shown_as, sync_view, sync_spent, is_done as is_done_by};
 ghost use Rattle.ff_fsync.specs.SideLaws.{sync-grows, sync-hides, sync-settles, sync-quiet, sync-spent_only, sync-shut_spent, sync-done_spent};
 ghost use Rattle.ff_fsync.specs.Syncs.{sides_of, sides_sound, standing_of, timing_of, IsDue, NoneFrom, AreTrimmed};
 
@@ -61,6 +61,17 @@ impl<S: Stack> Framesync<S> {
                 self.ended = true;
                 Some(Item::Broken)
             }
+        }
+    }
+
+    // Whether the output is closed by what came so far.
+    fn is_done(&self) -> bool
+        ensures { result ≡ is_done_by self.now.shortest (Frames self.now.head) (sides_of self.now.inputs.items) }
+    {
+        match self.mark() {
+            After::More => false,
+            After::Whole => true,
+            After::Broke => true,
         }
     }
 
@@ -124,11 +135,10 @@ impl<S: Stack> Filter for Framesync<S> {
     }
 
     fn feed(&mut self, port: usize, item: Item) -> Result<(), Refused> {
-        if self.inputs[port].reserve().is_err() {
-            return Err(Refused { item });
+        match self.inputs[port].feed(item) {
+            Ok(()) => Ok(()),
+            Err(refused) => Err(refused),
         }
-        self.inputs[port].take_in(item);
-        Ok(())
     }
 
     fn pull(&mut self, _port: usize) -> Result<Option<Item>, AllocError> {
@@ -143,7 +153,9 @@ impl<S: Stack> Filter for Framesync<S> {
     }
 
     fn spent(&self, port: usize) -> bool {
-        self.stopped || self.ended || self.inputs[port].is_shut() || self.mark() != After::More
+        let shut = self.inputs[port].is_shut();
+        let done = self.is_done();
+        self.stopped | (self.ended | (shut | done))
     }
 
     ghost grows = { λ m. sync-grows (S.shows m.stack) m.shortest (Frames m.head) m.from (sides_of m.inputs.items) (sides_sound (Frames m.head) m.inputs.items) m.ended m.stopped };
