@@ -1,5 +1,6 @@
 pub mod Events
 pub mod Inputs
+pub mod Pictures
 pub mod Ranges
 pub mod Rising
 pub mod SideLaws

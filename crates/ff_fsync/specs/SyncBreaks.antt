@@ -13,6 +13,10 @@ use Rattle.ff_fsync.specs.Rising.{Rises, some_append, rises_from}
 use Rattle.ff_fsync.specs.SyncLaws.{complete_here, shown_here, EachBelow, Risen, Allows, allows_cases, clash, broken_is, open_is, shown_stays, shown_below, shown_reached, shown_enough, ended_above, goes_on_cases}
 use Rattle.ff_fsync.specs.SyncStreams.{opened_at, items_same, stuck_shown, stuck_incomplete, items_opened, complete_opened}
 
+-- so many streams, each of items at rising times
+abbrev pub AreRisen : {A : Type 0} → Timing A → List (Stream A) → Type 0
+AreRisen k ss = (length ss ≡ k.inputs) × Risen k (stream_at ss)
+
 module _ {A : Type 0} where
   -- an item more, where the stream is open and has none at or after its time
   abbrev pub filled_at : Bool → A → Stream A → Stream A
@@ -81,10 +85,6 @@ module _ {A : Type 0} where
 
     -- the rule ---------------------------------------------------------------------------------------------------------
 
-    -- so many streams, each of items at rising times
-    abbrev pub AreRisen : List (Stream A) → Type 0
-    AreRisen ss = (length ss ≡ k.inputs) × Risen k (stream_at ss)
-
     -- the streams of the first so many ports, as a list
     abbrev listed_at : ℕ → (ℕ → Stream A) → List (Stream A)
     listed_at zero ss = []
@@ -117,7 +117,7 @@ module _ {A : Type 0} where
         | inr le ↦ inl (sym (listed_past p le))
       ]
 
-      listed_risen : Risen k (stream_at ss) → Risen k ws → AreRisen listed
+      listed_risen : Risen k (stream_at ss) → Risen k ws → AreRisen k listed
       listed_risen r h = (length-listed_at k.inputs ws, λ p. elim (cases_lt p k.inputs) as (λ _. Rises (k.at p) 0 (stream_at listed p).items) [
         | inl lt ↦ subst (λ (s : Stream A). Rises (k.at p) 0 s.items) (sym (listed_here k.inputs ws p lt)) (h p)
         | inr le ↦ subst (λ (s : Stream A). Rises (k.at p) 0 s.items) (sym (listed_past p le)) (r p)
@@ -149,7 +149,7 @@ module _ {A : Type 0} where
       opened_is : (ss : List (Stream A)) → stream_at (map opened ss) ≡ opened_at (stream_at ss)
       opened_is ss i p = stream_at-opened ss p i
 
-      broken_off : (ss : List (Stream A)) → AreRisen ss → (means ss).mark ≡ broken → IsBrokenOff AreRisen means ss
+      broken_off : (ss : List (Stream A)) → AreRisen k ss → (means ss).mark ≡ broken → IsBrokenOff (AreRisen k) means ss
       broken_off ss risen e =
           let b = broken_by (is_complete k (stream_at ss)) (any_to k.inputs (λ p. is_broken (stream_at ss p).mark)) (goes_on k (stream_at ss)) e in
           let s = any_at k.inputs (λ p. is_broken (stream_at ss p).mark) b.1 in
@@ -162,7 +162,7 @@ module _ {A : Type 0} where
             );
           }
 
-      no_going_on : (ss : List (Stream A)) → AreRisen ss → IsBrokenOff AreRisen means ss → goes_on k (stream_at ss) ≡ false
+      no_going_on : (ss : List (Stream A)) → AreRisen k ss → IsBrokenOff (AreRisen k) means ss → goes_on k (stream_at ss) ≡ false
       no_going_on ss risen off = false_from_ne_true (goes_on k (stream_at ss)) (λ g. elim (goes_on_cases k (stream_at ss) g) as (λ _. ⊥) [
         | inl c ↦ (
             let ws : ℕ → Stream A = all_ended (stream_at ss) in
@@ -191,7 +191,7 @@ module _ {A : Type 0} where
 
       -- the broken rule, of items at rising times: a break counts as open without a further item, and the output is broken
       -- exactly where nothing further can come of the inputs, nor the output become whole
-      pub synced-keeps : KeepsBrokenRule AreRisen means
+      pub synced-keeps : KeepsBrokenRule (AreRisen k) means
       synced-keeps = record {
         items = λ ss risen. sym (items_opened k show 0 (stream_at ss)) ∙ ap (λ (r : ℕ → Stream A). (synced k show r).items) (sym (opened_is ss));
         wholeness = λ ss risen.
@@ -208,7 +208,7 @@ module _ {A : Type 0} where
         );
       }
         where
-          here : (ss : List (Stream A)) → AreRisen ss → (p : ℕ) → (stream_at ss p).mark ≡ broken → p < k.inputs
+          here : (ss : List (Stream A)) → AreRisen k ss → (p : ℕ) → (stream_at ss p).mark ≡ broken → p < k.inputs
           here ss risen p e = elim (cases_lt p k.inputs) as (λ _. p < k.inputs) [
             | inl lt ↦ lt
             | inr le ↦ absurd (let none : still_open ≡ broken = sym (ap (λ (s : Stream A). s.mark) (none_past ss p (omega (arith, risen.0, le)))) ∙ e in cc)

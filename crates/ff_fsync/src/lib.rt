@@ -1,13 +1,26 @@
 //! Filters of several inputs.
+//!
+//! ```text
+//!   input 0  ──a────────b──────────c───────►
+//!   input 1  ─────x─────────y──────────────►        shown: at each time at which an input starts a picture, of each
+//!            ─────┬─────┬───┬──────┬───────►        the last one by then, once it is known which one that is
+//!                 ax    bx  by     cy
+//! ```
+//!
+//! Framesync is one part for any number of inputs: `specs/Synced` says on whole streams at which times something is shown, of
+//! which pictures, and when the output is whole or broken. Its machine keeps of each input the picture that is shown and
+//! those after it. What is shown of the pictures is said by a `Stack`.
 #![tactic(auto)]
 
+mod framesync;
 mod input;
+mod laws;
 mod machine;
 mod marking;
-mod framesync;
 mod stack;
 mod time;
 
 pub use framesync::Framesync;
 pub use input::Input;
+pub use laws::framesync_keeps_the_broken_rule;
 pub use stack::Stack;

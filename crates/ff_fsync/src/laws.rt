@@ -1,0 +1,13 @@
+//! A law of what framesync shows: a function that does nothing, whose clause holds of all values.
+ghost use Rattle.std.specs.Prelude.{ℕ, Bool, List};
+ghost use Rattle.ff_frame.specs.declared.item.Item.{Item};
+ghost use Rattle.ff_frame.specs.Breaks.{KeepsBrokenRule};
+ghost use Rattle.ff_fsync.specs.SyncBreaks.{AreRisen};
+ghost use Rattle.ff_fsync.specs.Pictures.{timed, shown_of};
+
+/// Of streams with rising times, what is shown keeps the broken rule: a broken input counts as open without a further item,
+/// and the output is broken exactly where an input is, it isn't whole, and however the inputs go on it gets no further item
+/// and isn't made whole.
+pub fn framesync_keeps_the_broken_rule()
+    ensures { (n : ℕ) (shortest : Bool) (show : ℕ → List Item → Item) → KeepsBrokenRule (AreRisen (timed n shortest)) (shown_of n shortest show) }
+{}
