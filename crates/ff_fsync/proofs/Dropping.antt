@@ -1,14 +1,14 @@
 -- What no longer matters is let go: nothing that is still shown changes.
-use Rattle.std.specs.Prelude.{◌≡◌, ◌≢◌, ℕ, zero, suc, ◌+◌, ◌-◌, ◌<◌, ◌≤◌, ◌⊎◌, Bool, true, false, ◌||◌, ◌&&◌, not, nat_le, nat_eq, List, [], ◌∷◌, ◌++◌, refl}
+use Rattle.std.specs.Prelude.{◌≡◌, ℕ, suc, ◌+◌, ◌<◌, ◌≤◌, ◌⊎◌, Bool, true, false, ◌||◌, ◌&&◌, not, nat_le, nat_eq, List, [], ◌∷◌, ◌++◌, refl}
 use Rattle.std.proofs.Common.{inl, inr, ap, sym, ◌∙◌, subst, arith}
-use Rattle.std.proofs.lemmas.Bool.{cases_Bool, cases_lt, or_cases, or_left, or_right, and_parts, and_from, and_left, le-leb, lt-leb, leb-true, ne_eqb, false_from_ne_true}
-use Rattle.ff_frame.specs.Stream.{Mark, still_open, whole, broken, Stream}
+use Rattle.std.proofs.lemmas.Bool.{cases_Bool, cases_lt, or_left, or_right, and_parts, and_from, and_left, le-leb, lt-leb, ne_eqb, false_from_ne_true}
+use Rattle.ff_frame.specs.Stream.{Stream}
 use Rattle.ff_frame.specs.Order.{same_stream}
-use Rattle.ff_fsync.specs.Events.{events, events_same}
-use Rattle.ff_fsync.specs.Ranges.{all_to, any_to, all_at, all_from, any_at, any_from, none_from, all_same, any_same, not_any}
-use Rattle.ff_fsync.specs.Synced.{is_open, is_whole, is_broken, is_empty, some_of, each_of, last_of, later_of, pick, all_ended, ended_mark, mark_by, Timing, starts, begun, reached, is_known, is_ready, is_shown, pictures, horizon, outlasts, ends_with, is_complete, allows, may_come, goes_on, synced_mark, synced_from}
-use Rattle.ff_fsync.specs.Rising.{Rises, some_append, last_append, some_found, rises_drop}
-use Rattle.ff_fsync.specs.SyncLaws.{open_is, Risen, Alike, AllReached, Ends, ends_at, clash, alike_shown, alike_pictures, reached_sooner, complete_cases, complete_all, complete_ends, shown_enough, goes_on_cases, goes_on_by}
+use Rattle.ff_fsync.specs.Events.{events_same}
+use Rattle.ff_fsync.specs.Ranges.{all_to, any_to, all_at, all_from, any_at, any_from, none_from, all_same, any_same}
+use Rattle.ff_fsync.specs.Synced.{is_open, is_whole, is_broken, is_empty, some_of, each_of, last_of, later_of, pick, all_ended, ended_mark, mark_by, Timing, starts, begun, reached, is_known, is_ready, is_shown, pictures, horizon, outlasts, is_complete, allows, may_come, goes_on, synced_mark, synced_from}
+use Rattle.ff_fsync.specs.Rising.{Rises, some_append, last_append, rises_drop}
+use Rattle.ff_fsync.specs.SyncLaws.{open_is, Risen, Alike, AllReached, clash, alike_shown, alike_pictures, reached_sooner, complete_cases, complete_all, complete_ends, shown_enough, goes_on_cases, goes_on_by}
 
 same_bool : (a b : Bool) → (a ≡ true → b ≡ true) → (b ≡ true → a ≡ true) → a ≡ b
 same_bool true b f g = sym (f refl)
@@ -130,8 +130,8 @@ module _ {A : Type 0} where
         let s = any_at k.inputs (starts k ss u) b.0 in
         and_from _ _ (any_from k.inputs (starts k rs u) s.0 s.1 (some_drop (λ x. nat_eq (k.at s.0 x) u) s.0 s.1 s.2))
         (all_from k.inputs (is_ready k rs u) (λ p lt.
-          let r = and_parts (begun k ss u p) (is_known k ss u p) (all_at k.inputs (is_ready k ss u) b.1 p lt) in
-          and_from _ _ (some_drop (λ x. nat_le (k.at p x) u) p lt r.0) (rw (drop_reached u p lt, mark_same p lt) r.1)))
+        let r = and_parts (begun k ss u p) (is_known k ss u p) (all_at k.inputs (is_ready k ss u) b.1 p lt) in
+        and_from _ _ (some_drop (λ x. nat_le (k.at p x) u) p lt r.0) (rw (drop_reached u p lt, mark_same p lt) r.1)))
 
     empty_same : (p : ℕ) → p < k.inputs → is_empty (rs p).items ≡ is_empty (ss p).items
     empty_same p lt = elim (how p lt) as (λ _. is_empty (rs p).items ≡ is_empty (ss p).items) [
@@ -180,20 +180,20 @@ module _ {A : Type 0} where
         there e = elim (complete_cases k rs e) as (λ _. is_complete k ss ≡ true) [
           | inl all ↦ complete_all k ss (λ p lt. sym (whole_same p lt) ∙ all p lt)
           | inr s ↦ complete_ends k ss s.0 s.1 (record {
-              is_all = sym (whole_same s.0 s.1) ∙ (s.2).is_all;
-              how = elim ((s.2).how) as (λ _. (k.shortest ≡ true) ⊎ (is_empty (ss s.0).items ≡ true)) [ inl a ↦ inl a | inr b ↦ inr (sym (empty_same s.0 s.1) ∙ b) ];
-              others = λ q lt. elim ((s.2).others q lt) as (λ _. (is_whole (ss q).mark ≡ true) ⊎ (outlasts k ss s.0 q ≡ true)) [ inl w ↦ inl (sym (whole_same q lt) ∙ w) | inr o ↦ inr (outlasts_fewer s.0 q s.1 lt o) ];
-            })
+            is_all = sym (whole_same s.0 s.1) ∙ (s.2).is_all;
+            how = elim ((s.2).how) as (λ _. (k.shortest ≡ true) ⊎ (is_empty (ss s.0).items ≡ true)) [ inl a ↦ inl a | inr b ↦ inr (sym (empty_same s.0 s.1) ∙ b) ];
+            others = λ q lt. elim ((s.2).others q lt) as (λ _. (is_whole (ss q).mark ≡ true) ⊎ (outlasts k ss s.0 q ≡ true)) [ inl w ↦ inl (sym (whole_same q lt) ∙ w) | inr o ↦ inr (outlasts_fewer s.0 q s.1 lt o) ];
+          })
         ]
 
         back : is_complete k ss ≡ true → is_complete k rs ≡ true
         back e = elim (complete_cases k ss e) as (λ _. is_complete k rs ≡ true) [
           | inl all ↦ complete_all k rs (λ p lt. whole_same p lt ∙ all p lt)
           | inr s ↦ complete_ends k rs s.0 s.1 (record {
-              is_all = whole_same s.0 s.1 ∙ (s.2).is_all;
-              how = elim ((s.2).how) as (λ _. (k.shortest ≡ true) ⊎ (is_empty (rs s.0).items ≡ true)) [ inl a ↦ inl a | inr b ↦ inr (empty_same s.0 s.1 ∙ b) ];
-              others = λ q lt. elim ((s.2).others q lt) as (λ _. (is_whole (rs q).mark ≡ true) ⊎ (outlasts k rs s.0 q ≡ true)) [ inl w ↦ inl (whole_same q lt ∙ w) | inr o ↦ inr (outlasts_more s.0 q s.1 lt o) ];
-            })
+            is_all = whole_same s.0 s.1 ∙ (s.2).is_all;
+            how = elim ((s.2).how) as (λ _. (k.shortest ≡ true) ⊎ (is_empty (rs s.0).items ≡ true)) [ inl a ↦ inl a | inr b ↦ inr (empty_same s.0 s.1 ∙ b) ];
+            others = λ q lt. elim ((s.2).others q lt) as (λ _. (is_whole (rs q).mark ≡ true) ⊎ (outlasts k rs s.0 q ≡ true)) [ inl w ↦ inl (whole_same q lt ∙ w) | inr o ↦ inr (outlasts_more s.0 q s.1 lt o) ];
+          })
         ]
 
     drop_allows : (u p : ℕ) → p < k.inputs → t ≤ u → allows k rs u p ≡ allows k ss u p
@@ -216,10 +216,10 @@ module _ {A : Type 0} where
       | inl less ↦ rw (behind_same k t rs ss risen how u, all_same k.inputs (allows k rs u) (allows k ss u) (λ p lt. drop_allows k t rs ss risen how u p lt (omega (arith, less)))) refl
       | inr le ↦ (
           let none : any_to k.inputs (λ p. is_open (rs p).mark && not (reached k rs u p)) ≡ false =
-              none_from k.inputs (λ p. is_open (rs p).mark && not (reached k rs u p)) (λ p lt. elim (cases_Bool (is_open (rs p).mark)) as (λ _. (is_open (rs p).mark && not (reached k rs u p)) ≡ false) [
-                | inl o ↦ rw (reached_sooner k rs t u p le (came p lt (open_is (rs p).mark o)), o) refl
-                | inr c ↦ and_left _ _ c
-              ]) in
+          none_from k.inputs (λ p. is_open (rs p).mark && not (reached k rs u p)) (λ p lt. elim (cases_Bool (is_open (rs p).mark)) as (λ _. (is_open (rs p).mark && not (reached k rs u p)) ≡ false) [
+            | inl o ↦ rw (reached_sooner k rs t u p le (came p lt (open_is (rs p).mark o)), o) refl
+            | inr c ↦ and_left _ _ c
+          ]) in
           and_left _ _ none ∙ sym (and_left _ _ (sym (behind_same k t rs ss risen how u) ∙ none))
           )
     ]
@@ -263,7 +263,7 @@ module _ {A : Type 0} where
           | inr ge ↦ ap (show u) (drop_pictures k t rs ss risen how u ge)
         ] in
         let items : (synced_from k show from rs).items ≡ (synced_from k show from ss).items =
-            shown_enough k (λ u. show u (pictures k rs u)) from j rs (omega arith)
-            ∙ (events_same (is_shown k rs) (is_shown k ss) (λ u. show u (pictures k rs u)) (λ u. show u (pictures k ss u)) from j same says
-            ∙ sym (shown_enough k (λ u. show u (pictures k ss u)) from j ss (omega arith))) in
+        shown_enough k (λ u. show u (pictures k rs u)) from j rs (omega arith)
+        ∙ (events_same (is_shown k rs) (is_shown k ss) (λ u. show u (pictures k rs u)) (λ u. show u (pictures k ss u)) from j same says
+        ∙ sym (shown_enough k (λ u. show u (pictures k ss u)) from j ss (omega arith))) in
         same_stream (synced_from k show from rs) (synced_from k show from ss) items drop_mark

@@ -1,22 +1,20 @@
 -- How the time of what is to be shown next is found.
-use Rattle.std.specs.Prelude.{◌≡◌, ℕ, zero, suc, ◌+◌, ◌<◌, ◌≤◌, ◌^◌, ◌⊎◌, Bool, true, false, ◌||◌, ◌&&◌, not, cond, nat_lt, nat_le, nat_eq, Option, None, Some, IfSome, IsNone, List, [], ◌∷◌, map, length, refl}
+use Rattle.std.specs.Prelude.{◌≡◌, ℕ, zero, suc, ◌+◌, ◌<◌, ◌≤◌, ◌^◌, ◌⊎◌, Bool, true, false, ◌||◌, ◌&&◌, not, cond, nat_lt, nat_le, Option, None, Some, IfSome, List, [], ◌∷◌, length, refl}
 use Rattle.std.proofs.Common.{inl, inr, ap, sym, ◌∙◌, subst, arith, get_or}
-use Rattle.std.proofs.lemmas.Bool.{cases_Bool, cases_lt, cases_order, and_parts, and_from, and_left, and_right, or_cases, or_left, or_right, or_from, or_parts, le-leb, lt-leb, lt-ltb, le-ltb, leb-true, false_from_ne_true}
+use Rattle.std.proofs.lemmas.Bool.{cases_lt, cases_order, and_from, and_left, and_right, or_cases, or_left, or_right, le-leb, lt-leb, lt-ltb, le-ltb, leb-true, false_from_ne_true}
 use Rattle.ff_values.specs.declared.video.VFrame.{VFrame}
 use Rattle.ff_values.specs.declared.head.StreamHead.{StreamHead}
-use Rattle.ff_frame.specs.declared.item.Item.{Item}
 use Rattle.ff_frame.specs.declared.item.Lane.{Lane}
 use Rattle.ff_frame.specs.declared.item.Lane.TheVariants.{Frames}
-use Rattle.ff_frame.specs.Stream.{Stream, Mark}
 use Rattle.ff_filter.specs.Made.{mark_after}
 use Rattle.ff_filter.specs.Shifts.{start_ticks}
 use Rattle.ff_fsync.specs.declared.input.Input.{Input}
-use Rattle.ff_fsync.specs.Ranges.{all_to, any_to, all_at, all_from, any_from, none_from, not_all, fails_from}
-use Rattle.ff_fsync.specs.Synced.{some_of, is_whole, starts, begun, reached, is_known, is_ready, is_shown}
+use Rattle.ff_fsync.specs.Ranges.{all_to, all_at, all_from, any_from, none_from, not_all, fails_from}
+use Rattle.ff_fsync.specs.Synced.{is_whole, starts, begun, reached, is_known, is_ready, is_shown}
 use Rattle.ff_fsync.specs.Rising.{some_found}
 use Rattle.ff_fsync.specs.SyncLaws.{clash, reached_sooner}
 use Rattle.ff_fsync.specs.Sides.{Side, side_at}
-use Rattle.ff_fsync.specs.Inputs.{items_of, starts_at, begun_by, reaches, IsNextStart, IsNextIn}
+use Rattle.ff_fsync.specs.Inputs.{items_of, starts_at, begun_by, reaches, IsNextIn}
 use Rattle.ff_fsync.specs.Syncs.{side_of, sides_of, standing_of, timing_of, IsStart, NoneFrom, IsLeast, LeastOf, IsDue, sooner_of}
 
 pub side_there : (lane : Lane) (is : List Input) (p : ℕ) (i : Input) → p < length is → i ≡ get_or is p i → side_at lane (sides_of is) p ≡ side_of i
@@ -116,23 +114,23 @@ module _ (head : StreamHead) (shortest : Bool) (is : List Input) where
   }
   least_more lo p i (Some s) (Some t) h lt e n near = elim (cases_lt t s) as (λ _. LeastOf head shortest is lo (p + 1) (cond (nat_lt t s) (Some t) (Some s))) [
     | inl sooner ↦ rw (lt-ltb t s sooner) (record {
-        late = n.late;
-        near = near;
-        some = (p, omega arith, starts_there p i lt e t ∙ n.here);
-        none = λ u a c q l. elim (below_more p q l) as (λ _. starts (timing_of shortest is) (standing_of head is) u q ≡ false) [
-          | inl same ↦ subst (λ r. starts (timing_of shortest is) (standing_of head is) u r ≡ false) (sym same) (starts_there p i lt e u ∙ n.none u a c)
-          | inr less ↦ h.none u a (omega (arith, c, sooner)) q less
-        ];
-      })
+      late = n.late;
+      near = near;
+      some = (p, omega arith, starts_there p i lt e t ∙ n.here);
+      none = λ u a c q l. elim (below_more p q l) as (λ _. starts (timing_of shortest is) (standing_of head is) u q ≡ false) [
+        | inl same ↦ subst (λ r. starts (timing_of shortest is) (standing_of head is) u r ≡ false) (sym same) (starts_there p i lt e u ∙ n.none u a c)
+        | inr less ↦ h.none u a (omega (arith, c, sooner)) q less
+      ];
+    })
     | inr later ↦ rw (le-ltb t s later) (record {
-        late = h.late;
-        near = h.near;
-        some = (h.some.0, omega (arith, h.some.1), h.some.2);
-        none = λ u a c q l. elim (below_more p q l) as (λ _. starts (timing_of shortest is) (standing_of head is) u q ≡ false) [
-          | inl same ↦ subst (λ r. starts (timing_of shortest is) (standing_of head is) u r ≡ false) (sym same) (starts_there p i lt e u ∙ n.none u a (omega (arith, c, later)))
-          | inr less ↦ h.none u a c q less
-        ];
-      })
+      late = h.late;
+      near = h.near;
+      some = (h.some.0, omega (arith, h.some.1), h.some.2);
+      none = λ u a c q l. elim (below_more p q l) as (λ _. starts (timing_of shortest is) (standing_of head is) u q ≡ false) [
+        | inl same ↦ subst (λ r. starts (timing_of shortest is) (standing_of head is) u r ≡ false) (sym same) (starts_there p i lt e u ∙ n.none u a (omega (arith, c, later)))
+        | inr less ↦ h.none u a c q less
+      ];
+    })
   ]
 
   known_sooner : (u v p : ℕ) → u ≤ v → is_known (timing_of shortest is) (standing_of head is) v p ≡ true → is_known (timing_of shortest is) (standing_of head is) u p ≡ true
@@ -169,8 +167,8 @@ module _ (head : StreamHead) (shortest : Bool) (is : List Input) where
       record {
         late = let a = st.late in let b = m.late in omega (arith, a, b);
         shown = and_from _ _
-          (any_from (length (sides_of is)) (starts (timing_of shortest is) (standing_of head is) t) m.some.0 (let l = m.some.1 in omega (arith, l, long)) m.some.2)
-          (all_from (length (sides_of is)) (is_ready (timing_of shortest is) (standing_of head is) t) (λ p l.
+            (any_from (length (sides_of is)) (starts (timing_of shortest is) (standing_of head is) t) m.some.0 (let l = m.some.1 in omega (arith, l, long)) m.some.2)
+            (all_from (length (sides_of is)) (is_ready (timing_of shortest is) (standing_of head is) t) (λ p l.
             and_from _ _ (begun_later lo t p m.late (st.all p (omega (arith, l, long)))) (all_at (length is) (is_known (timing_of shortest is) (standing_of head is) t) e p (omega (arith, l, long)))));
         first = λ u a b. elim (cases_lt u lo) as (λ _. is_shown (timing_of shortest is) (standing_of head is) u ≡ false) [ inl less ↦ st.none u a less | inr ge ↦ no_start u (λ p l. m.none u ge b p l) ];
       }

@@ -1,7 +1,7 @@
 -- What is known of an input's pictures by their times.
-use Rattle.std.specs.Prelude.{◌≡◌, ℕ, zero, suc, ◌+◌, ◌<◌, ◌≤◌, Bool, true, false, ◌||◌, ◌&&◌, not, min, nat_lt, nat_le, nat_eq, List, [], ◌∷◌, ◌++◌, length, map, take, drop, slice_index_or, refl}
+use Rattle.std.specs.Prelude.{◌≡◌, ℕ, suc, ◌+◌, ◌<◌, ◌≤◌, Bool, true, false, ◌||◌, ◌&&◌, not, min, nat_lt, nat_le, nat_eq, List, [], ◌∷◌, ◌++◌, length, take, drop, refl}
 use Rattle.std.proofs.Common.{inl, inr, ap, sym, ◌∙◌, subst, arith, get_or, append_assoc}
-use Rattle.std.proofs.lemmas.Bool.{cases_Bool, cases_lt, and_parts, and_from, or_left, or_right, le-leb, lt-leb, le-ltb, eq-eqb, ne_eqb, leb-true, leb-false, eqb-true}
+use Rattle.std.proofs.lemmas.Bool.{cases_lt, and_parts, and_from, or_left, or_right, le-leb, lt-leb, le-ltb, eq-eqb, ne_eqb, leb-true, leb-false, eqb-true}
 use Rattle.std.proofs.lemmas.Bool.Decides.{nat_tests}
 use Rattle.std.proofs.lemmas.List.{map-append, take_more, take-append-drop}
 use Rattle.std.proofs.Math.Seq.{drop-cons}
@@ -10,19 +10,18 @@ use Rattle.ff_frame.specs.declared.item.Item.{Item}
 use Rattle.ff_frame.specs.declared.item.Item.TheVariants.{Audio, Video, Packet, Trailer, End, Broken}
 use Rattle.ff_frame.specs.declared.item.Lane.TheVariants.{Frames}
 use Rattle.ff_frame.specs.Times.{ticks}
-use Rattle.ff_frame.specs.Stream.{still_open, whole, broken}
 use Rattle.ff_filter.specs.declared.after.After.{After}
 use Rattle.ff_filter.specs.declared.after.After.TheVariants.{More, Whole, Broke}
 use Rattle.ff_filter.specs.Joins.{Flow, before}
-use Rattle.ff_filter.specs.Made.{behind, is_over, mark_after}
+use Rattle.ff_filter.specs.Made.{is_over, mark_after}
 use Rattle.ff_filter.specs.Shifts.{start_ticks}
 use Rattle.ff_filter.specs.Views.{closes}
 use Rattle.ff_values.specs.declared.head.StreamHead.{StreamHead}
 use Rattle.ff_fsync.specs.Events.{put_if}
-use Rattle.ff_fsync.specs.Synced.{is_open, is_whole, some_of, each_of, last_of, later_of, pick}
+use Rattle.ff_fsync.specs.Synced.{is_open, is_whole, each_of, later_of, pick}
 use Rattle.ff_fsync.specs.Rising.{Rises, some_append, none_last, none_starts, none_begun}
-use Rattle.ff_fsync.specs.Sides.{Side, coming, kept, kept_from, fits_at, next_by, fills_to, frames_of}
-use Rattle.ff_fsync.specs.SideLaws.{fills_rise, fills_reach}
+use Rattle.ff_fsync.specs.Sides.{Side, coming, kept, kept_from, fits_at, next_by, fills_to}
+use Rattle.ff_fsync.specs.SideLaws.{fills_reach}
 use Rattle.ff_fsync.specs.Inputs.{items_of, side_by, starts_at, begun_by, reaches, last_by, Trims, IsNextStart, second_by, GoesTo, IsLastBy}
 
 pub reaches_is : (xs : List Item) (next t : ℕ) → fills_to 0 xs next ≡ true → nat_lt t next ≡ reaches xs t
@@ -62,8 +61,8 @@ push_takes head head' fs gs a a' f next start sh going sa le same is t =
     let xs : List Item = kept_from (start + 1) t.items in
     let long : next_by true next (Video f) ≡ start + 1 = let e : suc (ticks f.pts) ≡ start + 1 = omega (arith, same) in e in
     let items : items_of gs ++ xs ≡ items_of fs ++ kept_from next (Video f ∷ t.items) =
-        ap (λ (hs : List VFrame). items_of hs ++ xs) is ∙ (ap (λ (ys : List Item). ys ++ xs) (map-append Video fs (f ∷ [])) ∙ (append_assoc (items_of fs) (Video f ∷ []) xs
-        ∙ ap (λ (ys : List Item). items_of fs ++ ys) (sym (ap (λ b. put_if b (Video f) (kept_from (next_by b next (Video f)) t.items)) fit ∙ ap (λ n. Video f ∷ kept_from n t.items) long)))) in
+    ap (λ (hs : List VFrame). items_of hs ++ xs) is ∙ (ap (λ (ys : List Item). ys ++ xs) (map-append Video fs (f ∷ [])) ∙ (append_assoc (items_of fs) (Video f ∷ []) xs
+    ∙ ap (λ (ys : List Item). items_of fs ++ ys) (sym (ap (λ b. put_if b (Video f) (kept_from (next_by b next (Video f)) t.items)) fit ∙ ap (λ n. Video f ∷ kept_from n t.items) long)))) in
     rw (sa, going) (ap (λ (ys : List Item). let r : Flow = record { items = ys; mark = t.mark } in r) items)
 
 -- an item that is no such picture is let go
@@ -113,7 +112,7 @@ next_start fs next i lo f e lt is none le =
       late = le;
       here = ap (λ (xs : List Item). starts_at xs (ticks f.pts)) split ∙ (some_append (λ x. nat_eq (start_ticks x) (ticks f.pts)) sooner (Video f ∷ bs) ∙ or_right (starts_at sooner (ticks f.pts)) _ (or_left (nat_eq (ticks f.pts) (ticks f.pts)) _ (eq-eqb (ticks f.pts) (ticks f.pts) refl)));
       none = λ u a b. ap (λ (xs : List Item). starts_at xs u) split ∙ (some_append (λ x. nat_eq (start_ticks x) u) sooner (Video f ∷ bs)
-        ∙ rw (none u a, ne_eqb (ticks f.pts) u (λ c. omega (arith, c, b))) (none_starts start_ticks (suc (ticks f.pts)) u bs late (omega (arith, b))));
+          ∙ rw (none u a, ne_eqb (ticks f.pts) u (λ c. omega (arith, c, b))) (none_starts start_ticks (suc (ticks f.pts)) u bs late (omega (arith, b))));
     }
 
 pub none_more : (fs : List VFrame) (i lo : ℕ) (f : VFrame) → i < length fs → f ≡ get_or fs i f → ((u : ℕ) → lo ≤ u → starts_at (items_of (take i fs)) u ≡ false) → ticks f.pts < lo → (u : ℕ) → lo ≤ u → starts_at (items_of (take (i + 1) fs)) u ≡ false
@@ -165,17 +164,19 @@ pub trimmed : (head : StreamHead) (a : After) (old fs : List VFrame) (t next : �
     → Trims t (side_by head old a next) (side_by head fs a next) × IsLastBy fs t
 trimmed head a old [] t next r s f = let c : false ≡ true = r.begun in cc
 trimmed head a old (g ∷ fs) t next r s f = (
-      record {
-        lane = refl; after = refl; next = refl;
-        gone = items_of r.gone;
-        first = Video g;
-        others = items_of fs;
-        was = ap (λ (hs : List VFrame). items_of hs) r.is ∙ map-append Video r.gone (g ∷ fs);
-        now = refl;
-        by = first;
-      },
-      record { frame = g; others = fs; is = refl; last = ap (λ (xs : List Item). later_of xs (pick (nat_le (ticks g.pts) t) (Video g))) (none_behind fs s (fills_tail 0 next (Video g) (items_of fs) f).1) ∙ ap (λ b. pick b (Video g)) (le-leb (ticks g.pts) t first) },
-    )
+  record {
+    lane = refl;
+    after = refl;
+    next = refl;
+    gone = items_of r.gone;
+    first = Video g;
+    others = items_of fs;
+    was = ap (λ (hs : List VFrame). items_of hs) r.is ∙ map-append Video r.gone (g ∷ fs);
+    now = refl;
+    by = first;
+  },
+  record { frame = g; others = fs; is = refl; last = ap (λ (xs : List Item). later_of xs (pick (nat_le (ticks g.pts) t) (Video g))) (none_behind fs s (fills_tail 0 next (Video g) (items_of fs) f).1) ∙ ap (λ b. pick b (Video g)) (le-leb (ticks g.pts) t first) },
+)
   where
     first : ticks g.pts ≤ t
     first = leb-true (ticks g.pts) t (sym (first_is (Video g) (items_of fs) 0 t (rises_of 0 (items_of (g ∷ fs)) next f)) ∙ r.begun)

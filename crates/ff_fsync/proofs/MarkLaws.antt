@@ -1,26 +1,24 @@
 -- How the mark of the output is found.
-use Rattle.std.specs.Prelude.{◌≡◌, ℕ, zero, suc, ◌+◌, ◌-◌, ◌<◌, ◌≤◌, ◌^◌, ◌⊎◌, Bool, true, false, ◌||◌, ◌&&◌, not, cond, nat_lt, nat_le, List, [], ◌∷◌, map, length, refl}
+use Rattle.std.specs.Prelude.{◌≡◌, ℕ, zero, suc, ◌+◌, ◌-◌, ◌<◌, ◌≤◌, ◌⊎◌, Bool, true, false, ◌||◌, ◌&&◌, not, nat_lt, nat_le, List, [], ◌∷◌, length, refl}
 use Rattle.std.proofs.Common.{inl, inr, ap, sym, ◌∙◌, subst, arith, get_or}
-use Rattle.std.proofs.lemmas.Bool.{cases_Bool, cases_lt, and_parts, and_from, and_left, and_right, or_cases, or_left, or_right, or_from, le-leb, lt-leb, lt-ltb, le-ltb, ltb-true, leb-true, not-true, not_from_false, false_from_ne_true}
+use Rattle.std.proofs.lemmas.Bool.{cases_lt, and_parts, and_from, or_cases, or_left, or_right, le-leb, lt-ltb, ltb-true, leb-true, not-true, not_from_false, false_from_ne_true}
 use Rattle.ff_values.specs.declared.head.StreamHead.{StreamHead}
 use Rattle.ff_frame.specs.declared.item.Item.{Item}
 use Rattle.ff_frame.specs.declared.item.Lane.TheVariants.{Frames}
-use Rattle.ff_frame.specs.Stream.{Stream, Mark, still_open, whole, broken}
+use Rattle.ff_frame.specs.Stream.{Mark, still_open, whole, broken}
 use Rattle.ff_filter.specs.Joins.{Flow}
-use Rattle.ff_filter.specs.declared.after.After.{After}
-use Rattle.ff_filter.specs.declared.after.After.TheVariants.{More, Whole, Broke}
 use Rattle.ff_filter.specs.Made.{mark_after}
 use Rattle.ff_filter.specs.Shifts.{start_ticks}
 use Rattle.ff_fsync.specs.declared.input.Input.{Input}
-use Rattle.ff_fsync.specs.Ranges.{all_to, any_to, all_at, all_from, any_at, any_from, none_from, not_all, fails_from, all_same, any_same, not_any}
-use Rattle.ff_fsync.specs.Synced.{some_of, each_of, is_whole, is_open, is_broken, is_empty, ended_mark, all_ended, mark_by, starts, begun, reached, is_known, is_ready, is_shown, outlasts, ends_with, is_complete, allows, may_come, goes_on, synced_mark}
+use Rattle.ff_fsync.specs.Ranges.{all_to, any_to, all_at, all_from, any_at, any_from, none_from, fails_from, not_any}
+use Rattle.ff_fsync.specs.Synced.{each_of, is_whole, is_open, is_broken, is_empty, ended_mark, all_ended, mark_by, begun, reached, is_known, outlasts, ends_with, is_complete, allows, may_come, goes_on, synced_mark}
 use Rattle.ff_fsync.specs.Rising.{some_found}
-use Rattle.ff_fsync.specs.SyncLaws.{clash, Allows, allows_cases, allows_from, reached_sooner, goes_on_cases, goes_on_by, broken_is, open_is, known_open, may_come_below}
-use Rattle.ff_fsync.specs.Sides.{Side, side_at}
+use Rattle.ff_fsync.specs.SyncLaws.{clash, Allows, allows_cases, allows_from, reached_sooner, goes_on_cases, goes_on_by, broken_is, known_open}
+use Rattle.ff_fsync.specs.Sides.{Side}
 use Rattle.ff_fsync.specs.Inputs.{items_of, begun_by, reaches, whole_if}
-use Rattle.ff_fsync.specs.Syncs.{side_of, sides_of, standing_of, timing_of, ended_if, is_free, IsBound, is_lost}
+use Rattle.ff_fsync.specs.Syncs.{sides_of, standing_of, timing_of, ended_if, is_free, IsBound, is_lost}
 use Rattle.ff_fsync.proofs.Inputting.{outlasts_is, reaches_is}
-use Rattle.ff_fsync.proofs.Finding.{side_there, long_sides, known_at}
+use Rattle.ff_fsync.proofs.Finding.{side_there, long_sides}
 
 -- loops over tests
 below_more : (p q : ℕ) → q < p + 1 → (q ≡ p) ⊎ (q < p)
@@ -93,7 +91,7 @@ module _ (head : StreamHead) (shortest : Bool) (is : List Input) where
   ends_there b r p i lt e o =
       let here : is_empty (ended_if b (standing_of head is) p).items ≡ is_empty (items_of i.queue.items) = ap (λ (xs : List Item). is_empty xs) (items_if b (standing_of head is) p ∙ ap (λ (s : Flow). s.items) (stands p i lt e)) in
       let all : all_to (length (sides_of is)) (λ q. is_whole (ended_if b (standing_of head is) q).mark || outlasts (timing_of shortest is) (ended_if b (standing_of head is)) p q) ≡ r =
-          ap (λ n. all_to n (λ q. is_whole (ended_if b (standing_of head is) q).mark || outlasts (timing_of shortest is) (ended_if b (standing_of head is)) p q)) (long_sides is) ∙ sym o in
+      ap (λ n. all_to n (λ q. is_whole (ended_if b (standing_of head is) q).mark || outlasts (timing_of shortest is) (ended_if b (standing_of head is)) p q)) (long_sides is) ∙ sym o in
       sym (rw (whole_at b p i lt e, here, all) (sym (and_assoc (whole_if b (mark_after i.after)) (shortest || is_empty (items_of i.queue.items)) r)))
     where
       and_assoc : (x y z : Bool) → ((x && y) && z) ≡ (x && (y && z))
@@ -112,7 +110,7 @@ module _ (head : StreamHead) (shortest : Bool) (is : List Input) where
       same_bool (all_to (p + 1) (is_free head shortest is t)) (nat_lt t least)
       (λ a. b t ∙ and_from _ _ (sym (h t small) ∙ all_from p (is_free head shortest is t) (λ q l. all_at (p + 1) (is_free head shortest is t) a q (omega (arith, l)))) (sym (free_at t p i lt e) ∙ all_at (p + 1) (is_free head shortest is t) a p (omega arith)))
       (λ a. let c = and_parts (nat_lt t bound) (is_open (mark_after i.after) || (reaches (items_of i.queue.items) t || (is_whole (mark_after i.after) && not shortest))) (sym (b t) ∙ a) in
-        all_more (is_free head shortest is t) p _ (h t small ∙ c.0) (free_at t p i lt e) c.1)
+      all_more (is_free head shortest is t) p _ (h t small ∙ c.0) (free_at t p i lt e) c.1)
     where
       same_bool : (a b : Bool) → (a ≡ true → b ≡ true) → (b ≡ true → a ≡ true) → a ≡ b
       same_bool true b f g = sym (f refl)

@@ -1,25 +1,23 @@
 -- What each call of the machine of framesync does to how it is seen.
-use Rattle.std.specs.Prelude.{◌≡◌, ◌≢◌, ℕ, zero, suc, ◌+◌, ◌-◌, ◌<◌, ◌≤◌, ◌⊎◌, ◌==◌, Bool, true, false, ◌||◌, ◌&&◌, not, cond, nat_le, List, [], ◌∷◌, ◌++◌, length, map, refl}
+use Rattle.std.specs.Prelude.{◌≡◌, ◌≢◌, ℕ, suc, ◌-◌, ◌<◌, ◌≤◌, ◌⊎◌, Bool, true, false, ◌||◌, cond, List, [], ◌∷◌, ◌++◌, length, map, refl}
 use Rattle.std.proofs.Common.{inl, inr, ap, sym, ◌∙◌, subst, arith, append_assoc}
-use Rattle.std.proofs.lemmas.Bool.{cases_Bool, cases_lt, cases_eq, eq-eqb, ne_eqb}
+use Rattle.std.proofs.lemmas.Bool.{cases_Bool, cases_eq, eq-eqb, ne_eqb}
 use Rattle.ff_values.specs.declared.video.VFrame.{VFrame}
 use Rattle.ff_frame.specs.declared.item.Item.{Item}
 use Rattle.ff_frame.specs.declared.item.Item.TheVariants.{Audio, Video, Packet, Trailer, End, Broken}
 use Rattle.ff_frame.specs.declared.item.Lane.{Lane}
-use Rattle.ff_frame.specs.Stream.{Mark, still_open, whole, broken, Stream, LiesBelow}
-use Rattle.ff_frame.specs.Ports.{nothing, IsClosed}
+use Rattle.ff_frame.specs.Stream.{Mark, still_open, whole, broken, Stream}
+use Rattle.ff_frame.specs.Ports.{nothing}
 use Rattle.ff_frame.specs.Order.{closed_below, same_stream}
 use Rattle.ff_filter.specs.declared.after.After.{After}
-use Rattle.ff_filter.specs.declared.after.After.TheVariants.{More, Whole, Broke}
 use Rattle.ff_filter.specs.Joins.{Flow, Ports, silence, one, before, before_at, before_if}
-use Rattle.ff_filter.specs.Made.{behind, is_over, mark_after}
+use Rattle.ff_filter.specs.Made.{behind, is_over}
 use Rattle.ff_filter.specs.Shifts.{start_ticks}
-use Rattle.ff_filter.specs.Views.{View, Same, Fed, Gave, Waits, Stopped, closes}
+use Rattle.ff_filter.specs.Views.{View, Same, Fed, Gave, Waits, closes}
 use Rattle.ff_filter.proofs.Moves.{same_self}
 use Rattle.ff_fsync.specs.Events.{events, events_none, events_first}
-use Rattle.ff_fsync.specs.Synced.{Timing, reached, begun, is_ready, is_shown, pictures, horizon, synced_mark, synced_from}
-use Rattle.ff_fsync.specs.Rising.{Rises}
-use Rattle.ff_fsync.specs.SyncLaws.{EachBelow, Risen, AllReached, clash, shown_stays, shown_in_order, shown_below, shown_reached, reached_above}
+use Rattle.ff_fsync.specs.Synced.{Timing, is_shown, pictures, horizon, synced_mark, synced_from}
+use Rattle.ff_fsync.specs.SyncLaws.{EachBelow, Risen, clash, shown_stays, shown_in_order, shown_below, shown_reached}
 use Rattle.ff_fsync.specs.SyncStreams.{synced-below}
 use Rattle.ff_fsync.specs.Sides.{time_among, Side, side_at, coming, kept, streams, standing, timing, shown_as, left_to_show, sync_view, Sound}
 use Rattle.ff_fsync.specs.SideLaws.{all_risen, standing_below, standing_is}
@@ -71,11 +69,11 @@ module _ (shows : ℕ → List VFrame → VFrame) (shortest : Bool) (lane : Lane
         ports = record { ins = refl; outs = refl };
         open_before = going;
         rest_here = λ ext.
-          let all : ℕ → Flow = streams lane ss ext in
-          let h = standing_below shows shortest lane from ss sound ext in
-          let r = all_risen shows shortest lane from ss sound ext in
-          rw going (first_shown k (shown_as shows) from all t f (due_above k (standing lane ss) all h r from t due)
-          (sym (ap (shown_as shows t) ((shown_stays k (standing lane ss) all t h r due.shown).1)) ∙ says));
+            let all : ℕ → Flow = streams lane ss ext in
+            let h = standing_below shows shortest lane from ss sound ext in
+            let r = all_risen shows shortest lane from ss sound ext in
+            rw going (first_shown k (shown_as shows) from all t f (due_above k (standing lane ss) all h r from t due)
+            (sym (ap (shown_as shows t) ((shown_stays k (standing lane ss) all t h r due.shown).1)) ∙ says));
         rest_others = λ ext o lt n w. absurd (no_other o lt n);
         shut = λ p. refl;
         ended_here = going;
@@ -145,8 +143,8 @@ fed_by shows shortest lane from ss ts p s x ended stopped r going shut takes =
     record {
       ports = record { ins = r.lanes; outs = refl };
       rest = λ ext q on. ap (λ (u : Flow). cond ended nothing u)
-        (ap (λ (k : Timing Item). synced_from k (shown_as shows) from (streams lane ts ext)) (timing_same shortest ss ts r.long)
-        ∙ ap (λ (u : ℕ → Flow). synced_from (timing shortest ss) (shown_as shows) from u) (all ext));
+          (ap (λ (k : Timing Item). synced_from k (shown_as shows) from (streams lane ts ext)) (timing_same shortest ss ts r.long)
+          ∙ ap (λ (u : ℕ → Flow). synced_from (timing shortest ss) (shown_as shows) from u) (all ext));
       shut_here = ap (λ (s : Side). is_over s.after) r.here ∙ (shut ∙ sym (ap (λ b. b || closes x) going));
       shut_others = λ i lt n. ap (λ (s : Side). is_over s.after) (r.others i n);
       ended = λ q. refl;
@@ -186,7 +184,7 @@ pub trims_same : (shows : ℕ → List VFrame → VFrame) (shortest : Bool) (lan
 trims_same shows shortest lane from t ss ts ended stopped sound long lanes how due = record {
   ports = record { ins = lanes; outs = refl };
   rest = λ ext q on. ap (λ (u : Flow). cond ended nothing u)
-    (ap (λ (k : Timing Item). synced_from k (shown_as shows) from (streams lane ts ext)) (timing_same shortest ss ts long) ∙ sym (same ext));
+      (ap (λ (k : Timing Item). synced_from k (shown_as shows) from (streams lane ts ext)) (timing_same shortest ss ts long) ∙ sym (same ext));
   shut = λ p. elim (how p) as (λ _. is_over (side_at lane ts p).after ≡ is_over (side_at lane ss p).after) [ inl e ↦ ap (λ (s : Side). is_over s.after) e | inr d ↦ ap is_over d.after ];
   ended = λ q. refl;
   stopped = λ q. refl;

@@ -1,32 +1,28 @@
 -- Of each input the last picture by a time is taken.
-use Rattle.std.specs.Prelude.{◌≡◌, ◌≢◌, ℕ, zero, suc, ◌+◌, ◌<◌, ◌≤◌, ◌⊎◌, Bool, true, false, ◌||◌, ◌&&◌, not, nat_le, Result, Ok, Err, IfOk, is_ok, is_err, if◌then◌else◌, List, [], ◌∷◌, ◌++◌, map, length, refl}
+use Rattle.std.specs.Prelude.{◌≡◌, ◌≢◌, ℕ, zero, suc, ◌+◌, ◌<◌, ◌⊎◌, Bool, true, false, Result, Ok, Err, IfOk, is_ok, is_err, if◌then◌else◌, List, [], ◌∷◌, ◌++◌, map, length, refl}
 use Rattle.std.proofs.Common.{inl, inr, ap, sym, ◌∙◌, subst, arith, get_or, set}
-use Rattle.std.proofs.lemmas.Bool.{cases_lt, cases_eq, cases_Bool, and_parts, false_from_ne_true}
+use Rattle.std.proofs.lemmas.Bool.{cases_lt, cases_eq, false_from_ne_true}
 use Rattle.std.proofs.lemmas.List.{map-append, length-set}
 use Rattle.ff_values.specs.declared.video.VFrame.{VFrame}
 use Rattle.ff_values.specs.declared.head.StreamHead.{StreamHead}
 use Rattle.ff_frame.specs.declared.item.Item.{Item}
-use Rattle.ff_frame.specs.declared.item.Item.TheVariants.{Audio, Video, Packet, Trailer, End, Broken}
+use Rattle.ff_frame.specs.declared.item.Item.TheVariants.{Video}
 use Rattle.ff_frame.specs.declared.item.Lane.{Lane}
 use Rattle.ff_frame.specs.declared.item.Lane.TheVariants.{Frames}
-use Rattle.ff_frame.specs.Stream.{Stream}
 use Rattle.ff_filter.specs.Joins.{Flow}
 use Rattle.ff_filter.specs.Made.{mark_after}
 use Rattle.ff_filter.specs.Shifts.{start_ticks}
-use Rattle.ff_filter.specs.Views.{Same, Gave}
 use Rattle.ff_fsync.specs.declared.input.Input.{Input}
-use Rattle.ff_fsync.specs.Ranges.{all_to, any_to, list_to, list_same}
-use Rattle.ff_fsync.specs.Synced.{last_of, begun, is_shown, pictures, Timing}
-use Rattle.ff_fsync.specs.SyncLaws.{clash, Risen, ready_at, shown_reached}
-use Rattle.ff_fsync.specs.Rising.{Rises}
-use Rattle.ff_fsync.specs.Sides.{Side, side_at, standing, timing, frames_of, Sound, sync_view, shown_as}
-use Rattle.ff_fsync.specs.SideLaws.{coming_risen}
+use Rattle.ff_fsync.specs.Ranges.{list_to, list_same}
+use Rattle.ff_fsync.specs.Synced.{is_shown, pictures, Timing}
+use Rattle.ff_fsync.specs.SyncLaws.{clash, Risen, ready_at}
+use Rattle.ff_fsync.specs.Sides.{Side, side_at, frames_of}
 use Rattle.ff_fsync.specs.Inputs.{items_of, last_by, begun_by, Trims}
 use Rattle.ff_fsync.specs.Syncs.{side_of, sides_of, sides_sound, standing_of, timing_of, IsDue, AreTrimmed, AreTaken}
 use Rattle.ff_fsync.proofs.Inputting.{rises_of}
 use Rattle.ff_fsync.proofs.Finding.{side_there, long_sides}
-use Rattle.ff_fsync.proofs.Dropping.{Drops, drop_shown, drop_no_more, drop_pictures}
-use Rattle.ff_fsync.proofs.Showing.{timing_same, trims_same, Replaced}
+use Rattle.ff_fsync.proofs.Dropping.{Drops, drop_shown, drop_no_more}
+use Rattle.ff_fsync.proofs.Showing.{timing_same, Replaced}
 
 pub set_here : (lane : Lane) (is : List Input) (p : ℕ) (i : Input) → p < length is → side_at lane (sides_of (set is p i)) p ≡ side_of i
 set_here lane [] p i lt = absurd (omega (arith, lt))
@@ -69,11 +65,11 @@ taken_more head old is t p fs gs i j f h lt e d last more = record {
   ];
   others = λ q le. set_others (Frames head) is p q i (λ same. omega (arith, same, le)) ∙ h.others q (omega (arith, le));
   pictures =
-    let f' : ℕ → List Item = λ q. last_by (side_at (Frames head) (sides_of (set is p i)) q).waits t in
-    let g' : ℕ → List Item = λ q. last_by (side_at (Frames head) (sides_of is) q).waits t in
-    one_more p f' ∙ (ap (λ (xs : List Item). xs ++ f' p) (list_same p f' g' (λ q l. ap (λ (s : Side). last_by s.waits t) (set_others (Frames head) is p q i (λ same. omega (arith, same, l)))))
-    ∙ (ap (λ (xs : List Item). xs ++ f' p) h.pictures ∙ (ap (λ (xs : List Item). map Video fs ++ xs) (ap (λ (s : Side). last_by s.waits t) (set_here (Frames head) is p i lt) ∙ last)
-    ∙ (sym (map-append Video fs (f ∷ [])) ∙ ap (λ (hs : List VFrame). map Video hs) (sym more)))));
+      let f' : ℕ → List Item = λ q. last_by (side_at (Frames head) (sides_of (set is p i)) q).waits t in
+      let g' : ℕ → List Item = λ q. last_by (side_at (Frames head) (sides_of is) q).waits t in
+      one_more p f' ∙ (ap (λ (xs : List Item). xs ++ f' p) (list_same p f' g' (λ q l. ap (λ (s : Side). last_by s.waits t) (set_others (Frames head) is p q i (λ same. omega (arith, same, l)))))
+      ∙ (ap (λ (xs : List Item). xs ++ f' p) h.pictures ∙ (ap (λ (xs : List Item). map Video fs ++ xs) (ap (λ (s : Side). last_by s.waits t) (set_here (Frames head) is p i lt) ∙ last)
+      ∙ (sym (map-append Video fs (f ∷ [])) ∙ ap (λ (hs : List VFrame). map Video hs) (sym more)))));
 }
   where
     one_more : (n : ℕ) (f : ℕ → List Item) → list_to (n + 1) f ≡ list_to n f ++ f n

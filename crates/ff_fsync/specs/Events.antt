@@ -1,9 +1,8 @@
 -- What happens at the times of a stretch at which something holds, in order.
 use Rattle.std.specs.Prelude.{◌≡◌, ℕ, zero, suc, ◌+◌, ◌<◌, ◌≤◌, Bool, true, false, List, [], ◌∷◌, ◌++◌, length, refl}
-use Rattle.std.proofs.Common.{inl, inr, ap, sym, ◌∙◌, subst, arith}
+use Rattle.std.proofs.Common.{inl, inr, ap, sym, subst, arith}
 use Rattle.std.proofs.lemmas.Bool.{cases_Bool, cases_order}
 use mathlib.Core.List.{IsPrefix}
-use Rattle.ff_frame.specs.Order.{prefix_self}
 
 abbrev pub put_if : {B : Type 0} → Bool → B → List B → List B
 put_if true x xs = x ∷ xs
@@ -40,8 +39,12 @@ module _ {B : Type 0} where
       → (j : ℕ) × (suc t + j ≡ lo + k) × (events p f lo k ≡ f t ∷ events p f (suc t) j)
   events_first p f lo zero t le lt none e = absurd (omega arith)
   events_first p f lo (suc k) t le lt none e = elim (cases_order lo t) as (λ _. (j : ℕ) × (suc t + j ≡ lo + suc k) × (events p f lo (suc k) ≡ f t ∷ events p f (suc t) j)) [
-    | inl same ↦ (k, omega arith, let here : p lo ≡ true = subst (λ u. p u ≡ true) (sym same) e in
-        rw here (ap (λ u. f u ∷ events p f (suc u) k) same))
+    | inl same ↦ (
+      k,
+      omega arith,
+      let here : p lo ≡ true = subst (λ u. p u ≡ true) (sym same) e in
+          rw here (ap (λ u. f u ∷ events p f (suc u) k) same),
+    )
     | inr (inl less) ↦ (let r = events_first p f (suc lo) k t (omega arith) (omega arith) (λ u a b. none u (omega arith) b) e in
         (r.0, omega (arith, r.1), rw (none lo (omega arith) less) r.2))
     | inr (inr more) ↦ absurd (omega arith)

@@ -11,7 +11,6 @@ use Rattle.ff_values.specs.declared.head.StreamHead.{StreamHead}
 use Rattle.ff_fsync.specs.Sides.{Side}
 use Rattle.ff_fsync.specs.Synced.{some_of, last_of, is_whole, is_open}
 use Rattle.ff_frame.specs.Stream.{Mark}
-use Rattle.ff_fsync.specs.Sides.{frames_of}
 
 abbrev pub items_of : List VFrame → List Item
 items_of fs = map Video fs

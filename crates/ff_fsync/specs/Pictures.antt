@@ -1,15 +1,8 @@
 -- Framesync of streams of pictures: a law of its definition, and what it is of valid streams.
-use Rattle.std.specs.Prelude.{◌≡◌, ℕ, zero, suc, ◌<◌, ◌≤◌, ◌≤ℤ◌, ◌<ℤ◌, ℤ, pos, negsuc, Bool, true, false, List, [], ◌∷◌, All, refl}
-use Rattle.std.proofs.Common.{ap, sym, ◌∙◌, subst, arith}
-use Rattle.std.proofs.lemmas.Bool.{and_from, le-leb}
-use Rattle.ff_time.specs.Fraction.{Fraction}
-use Rattle.ff_values.specs.declared.video.Format.{Format}
+use Rattle.std.specs.Prelude.{ℕ, pos, Bool, List, [], ◌∷◌, refl}
 use Rattle.ff_values.specs.declared.video.Format.TheVariants.{Mono}
-use Rattle.ff_values.specs.declared.head.StreamHead.TheVariants.{Video as VideoHead}
 use Rattle.ff_frame.specs.declared.item.Item.{Item}
-use Rattle.ff_frame.specs.declared.item.Item.TheVariants.{Audio, Video, Packet, Trailer, End, Broken}
-use Rattle.ff_frame.specs.declared.item.Lane.{Lane}
-use Rattle.ff_frame.specs.declared.item.Lane.TheVariants.{Frames}
+use Rattle.ff_frame.specs.declared.item.Item.TheVariants.{Video}
 use Rattle.ff_frame.specs.Breaks.{KeepsBrokenRule}
 use Rattle.ff_frame.specs.Ports.{stream_at}
 use Rattle.ff_filter.specs.Joins.{Flow}

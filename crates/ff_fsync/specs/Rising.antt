@@ -1,8 +1,8 @@
 -- Items at rising times, and what is known of them up to a time that one of them has reached.
-use Rattle.std.specs.Prelude.{◌≡◌, ℕ, zero, suc, ◌<◌, ◌≤◌, ◌⊎◌, Bool, true, false, ◌||◌, ◌&&◌, cond, nat_le, nat_eq, List, [], ◌∷◌, ◌++◌, refl}
-use Rattle.std.proofs.Common.{inl, inr, ap, sym, ◌∙◌, subst, arith}
-use Rattle.std.proofs.lemmas.Bool.{cases_Bool, cases_order, cases_lt, le-leb, lt-leb, leb-true, leb-false, ne_eqb, eqb-true, or_cases, or_parts, or_left, or_right, and_from, and_parts}
-use Rattle.ff_fsync.specs.Synced.{some_of, each_of, last_of, later_of, pick, past}
+use Rattle.std.specs.Prelude.{◌≡◌, ℕ, suc, ◌<◌, ◌≤◌, Bool, true, false, ◌||◌, nat_le, nat_eq, List, [], ◌∷◌, ◌++◌, refl}
+use Rattle.std.proofs.Common.{inl, inr, ap, ◌∙◌, arith}
+use Rattle.std.proofs.lemmas.Bool.{lt-leb, leb-true, ne_eqb, eqb-true, or_cases, or_parts, or_left, or_right}
+use Rattle.ff_fsync.specs.Synced.{some_of, last_of, later_of, pick, past}
 
 -- each item starts after the one before, and none before this time
 abbrev pub Rises : {A : Type 0} → (A → ℕ) → ℕ → List A → Type 0

@@ -1,23 +1,22 @@
 -- The laws of the machine of framesync.
-use Rattle.std.specs.Prelude.{◌≡◌, ◌≢◌, ◌↔◌, ℕ, zero, suc, ◌<◌, ◌≤◌, ◌⊎◌, Bool, true, false, ◌||◌, ◌&&◌, not, cond, nat_lt, nat_le, nat_eq, List, [], ◌∷◌, ◌++◌, length, map, IsTrue, refl}
+use Rattle.std.specs.Prelude.{◌≡◌, ◌≢◌, ℕ, suc, ◌≤◌, ◌⊎◌, Bool, true, false, ◌||◌, not, cond, nat_lt, nat_le, List, [], ◌∷◌, ◌++◌, length, map, refl}
 use Rattle.std.proofs.Common.{inl, inr, ap, sym, ◌∙◌, subst, arith, append_assoc}
-use Rattle.std.proofs.lemmas.Bool.{cases_Bool, cases_lt, and_parts, and_from, or_cases, or_left, or_right, leb-true, eqb-true, le-leb, not_from_false}
+use Rattle.std.proofs.lemmas.Bool.{cases_Bool, and_parts, or_cases, or_left, or_right, leb-true, eqb-true}
 use Rattle.std.proofs.lemmas.Bool.Decides.{nat_tests}
 use Rattle.std.proofs.lemmas.List.{append-nil}
 use mathlib.Core.List.{IsPrefix}
 use Rattle.ff_values.specs.declared.video.VFrame.{VFrame}
 use Rattle.ff_frame.specs.declared.item.Item.{Item}
-use Rattle.ff_frame.specs.declared.item.Item.TheVariants.{Audio, Video, Packet, Trailer, End, Broken}
 use Rattle.ff_frame.specs.declared.item.Lane.{Lane}
-use Rattle.ff_frame.specs.Stream.{Mark, still_open, whole, broken, LiesBelow, opened, opened_mark}
+use Rattle.ff_frame.specs.Stream.{Mark, still_open, whole, broken, LiesBelow, opened}
 use Rattle.ff_frame.specs.Ports.{nothing, IsClosed}
-use Rattle.ff_frame.specs.Order.{below_self, below_trans, prefix_self, nothing_below}
+use Rattle.ff_frame.specs.Order.{below_self, prefix_self, nothing_below}
 use Rattle.ff_filter.specs.declared.after.After.{After}
 use Rattle.ff_filter.specs.declared.after.After.TheVariants.{More, Whole, Broke}
-use Rattle.ff_filter.specs.Joins.{Flow, Ports, silence, one, Grows, HidesBreaks}
+use Rattle.ff_filter.specs.Joins.{Flow, Ports, silence, Grows, HidesBreaks}
 use Rattle.ff_filter.specs.Made.{behind, is_over, mark_after}
 use Rattle.ff_filter.specs.Shifts.{start_ticks}
-use Rattle.ff_filter.specs.Views.{View, Settles, IsSpent, IsOver, AllDone}
+use Rattle.ff_filter.specs.Views.{Settles, IsSpent, IsOver, AllDone}
 use Rattle.ff_fsync.specs.Events.{put_if}
 use Rattle.ff_fsync.specs.Synced.{some_of, is_open, synced_mark, synced_from}
 use Rattle.ff_fsync.specs.Rising.{Rises}

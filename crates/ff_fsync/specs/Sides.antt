@@ -4,10 +4,7 @@ use Rattle.ff_values.specs.declared.video.VFrame.{VFrame}
 use Rattle.ff_frame.specs.declared.item.Item.{Item}
 use Rattle.ff_frame.specs.declared.item.Item.TheVariants.{Audio, Video, Packet, Trailer, End, Broken}
 use Rattle.ff_frame.specs.declared.item.Lane.{Lane}
-use Rattle.ff_frame.specs.declared.item.Lane.TheVariants.{Frames, Packets}
-use Rattle.ff_frame.specs.Stream.{Stream}
 use Rattle.ff_frame.specs.Ports.{nothing}
-use Rattle.ff_frame.specs.Times.{ticks}
 use Rattle.ff_filter.specs.declared.after.After.{After}
 use Rattle.ff_filter.specs.declared.after.After.TheVariants.{More}
 use Rattle.ff_filter.specs.Joins.{Flow, Ports}

@@ -1,15 +1,15 @@
 -- Framesync keeps the broken rule.
-use Rattle.std.specs.Prelude.{◌≡◌, ◌≢◌, ◌↔◌, ℕ, zero, suc, ◌+◌, ◌<◌, ◌≤◌, ◌⊎◌, Bool, true, false, ◌||◌, ◌&&◌, not, nat_le, nat_eq, List, [], ◌∷◌, ◌++◌, length, map, refl}
+use Rattle.std.specs.Prelude.{◌≡◌, ℕ, zero, suc, ◌+◌, ◌<◌, ◌≤◌, Bool, true, false, ◌||◌, ◌&&◌, not, nat_le, nat_eq, List, [], ◌∷◌, ◌++◌, length, map, refl}
 use Rattle.std.proofs.Common.{inl, inr, ap, sym, ◌∙◌, subst, arith}
-use Rattle.std.proofs.lemmas.Bool.{cases_Bool, and_parts, and_from, or_cases, or_left, or_right, or_parts, leb-false, le-leb, eq-eqb, cases_lt, not-true, false_from_ne_true}
-use Rattle.ff_frame.specs.Stream.{Mark, still_open, whole, broken, Stream, LiesBelow, opened}
+use Rattle.std.proofs.lemmas.Bool.{cases_Bool, and_parts, and_from, or_left, or_right, or_parts, leb-false, le-leb, eq-eqb, cases_lt, not-true, false_from_ne_true}
+use Rattle.ff_frame.specs.Stream.{still_open, whole, broken, Stream, LiesBelow, opened}
 use Rattle.ff_frame.specs.Ports.{stream_at, AllBelow, nothing}
-use Rattle.ff_frame.specs.Order.{prefix_self, stream_at-opened}
+use Rattle.ff_frame.specs.Order.{stream_at-opened}
 use Rattle.ff_frame.specs.Breaks.{IsBrokenOff, KeepsBrokenRule}
 use Rattle.ff_fsync.specs.Events.{events, events_longer}
 use Rattle.ff_fsync.specs.Ranges.{all_to, any_to, all_at, all_from, any_at, any_from}
-use Rattle.ff_fsync.specs.Synced.{is_open, is_whole, is_broken, is_empty, some_of, all_ended, mark_by, Timing, starts, begun, reached, is_known, is_ready, is_shown, pictures, horizon, is_complete, allows, may_come, goes_on, synced_mark, synced_from, synced}
-use Rattle.ff_fsync.specs.Rising.{Rises, some_append, rises_from}
+use Rattle.ff_fsync.specs.Synced.{is_open, is_whole, is_broken, is_empty, some_of, all_ended, mark_by, Timing, starts, begun, reached, is_known, is_ready, is_shown, pictures, horizon, is_complete, allows, may_come, goes_on, synced}
+use Rattle.ff_fsync.specs.Rising.{Rises, some_append}
 use Rattle.ff_fsync.specs.SyncLaws.{complete_here, shown_here, EachBelow, Risen, Allows, allows_cases, clash, broken_is, open_is, shown_stays, shown_below, shown_reached, shown_enough, ended_above, goes_on_cases}
 use Rattle.ff_fsync.specs.SyncStreams.{opened_at, items_same, stuck_shown, stuck_incomplete, items_opened, complete_opened}
 
@@ -78,8 +78,8 @@ module _ {A : Type 0} where
         let s = any_at k.inputs (λ p. is_open (ss p).mark && not (reached k ss t p)) b.0 in
         let o = and_parts (is_open (ss s.0).mark) (not (reached k ss t s.0)) s.2 in (
           and_from _ _
-            (any_from k.inputs (starts k (filled t ss) t) s.0 s.1 (filled_starts t ss s.0 (is_open (ss s.0).mark && not (reached k ss t s.0)) s.2))
-            (all_from k.inputs (is_ready k (filled t ss) t) (λ p lt. let r = filled_ready t ss p (is_open (ss p).mark && not (reached k ss t p)) refl (allows_cases k ss t p (all_at k.inputs (allows k ss t) b.1 p lt)) in and_from _ _ r.0 r.1)),
+              (any_from k.inputs (starts k (filled t ss) t) s.0 s.1 (filled_starts t ss s.0 (is_open (ss s.0).mark && not (reached k ss t s.0)) s.2))
+              (all_from k.inputs (is_ready k (filled t ss) t) (λ p lt. let r = filled_ready t ss p (is_open (ss p).mark && not (reached k ss t p)) refl (allows_cases k ss t p (all_at k.inputs (allows k ss t) b.1 p lt)) in and_from _ _ r.0 r.1)),
           false_from_ne_true (is_shown k ss t) (λ g. clash (reached k ss t s.0) (shown_reached k ss t g s.0 s.1 (open_is (ss s.0).mark o.0)) (not-true (reached k ss t s.0) o.1)),
         )
 
@@ -118,10 +118,13 @@ module _ {A : Type 0} where
       ]
 
       listed_risen : Risen k (stream_at ss) → Risen k ws → AreRisen k listed
-      listed_risen r h = (length-listed_at k.inputs ws, λ p. elim (cases_lt p k.inputs) as (λ _. Rises (k.at p) 0 (stream_at listed p).items) [
-        | inl lt ↦ subst (λ (s : Stream A). Rises (k.at p) 0 s.items) (sym (listed_here k.inputs ws p lt)) (h p)
-        | inr le ↦ subst (λ (s : Stream A). Rises (k.at p) 0 s.items) (sym (listed_past p le)) (r p)
-      ])
+      listed_risen r h = (
+        length-listed_at k.inputs ws,
+        λ p. elim (cases_lt p k.inputs) as (λ _. Rises (k.at p) 0 (stream_at listed p).items) [
+          | inl lt ↦ subst (λ (s : Stream A). Rises (k.at p) 0 s.items) (sym (listed_here k.inputs ws p lt)) (h p)
+          | inr le ↦ subst (λ (s : Stream A). Rises (k.at p) 0 s.items) (sym (listed_past p le)) (r p)
+        ],
+      )
 
     module _ {B : Type 0} (show : ℕ → List A → B) where
       abbrev means : List (Stream A) → Stream B
@@ -181,7 +184,7 @@ module _ {A : Type 0} where
             let j = horizon k (stream_at ss) + horizon k (stream_at ts) in
             let lt = shown_below k (stream_at ts) t there in
             let longer = events_longer (is_shown k (stream_at ss)) (is_shown k (stream_at ts)) (λ u. show u (pictures k (stream_at ss) u)) (λ u. show u (pictures k (stream_at ts) u)) 0 j
-              (λ u e. (shown_stays k (stream_at ss) (stream_at ts) u above rising.1 e).0) t (omega arith) (omega (arith, lt)) there s.1 in
+            (λ u e. (shown_stays k (stream_at ss) (stream_at ts) u above rising.1 e).0) t (omega arith) (omega (arith, lt)) there s.1 in
             let same : length (means ts).items ≡ length (means ss).items = ap length ((off.no_further ts rising above).0) in
             let a : length (means ss).items ≡ length (events (is_shown k (stream_at ss)) (λ u. show u (pictures k (stream_at ss) u)) 0 j) = ap length (shown_enough k (λ u. show u (pictures k (stream_at ss) u)) 0 j (stream_at ss) (omega arith)) in
             let b : length (means ts).items ≡ length (events (is_shown k (stream_at ts)) (λ u. show u (pictures k (stream_at ts) u)) 0 j) = ap length (shown_enough k (λ u. show u (pictures k (stream_at ts) u)) 0 j (stream_at ts) (omega arith)) in
@@ -195,16 +198,16 @@ module _ {A : Type 0} where
       synced-keeps = record {
         items = λ ss risen. sym (items_opened k show 0 (stream_at ss)) ∙ ap (λ (r : ℕ → Stream A). (synced k show r).items) (sym (opened_is ss));
         wholeness = λ ss risen.
-          let same : is_complete k (stream_at (map opened ss)) ≡ is_complete k (stream_at ss) = ap (λ (r : ℕ → Stream A). is_complete k r) (opened_is ss) ∙ complete_opened k show (stream_at ss) in (
-            λ e. whole_from _ _ _ (same ∙ whole_by _ _ _ e),
-            λ e. whole_from _ _ _ (sym same ∙ whole_by _ _ _ e),
-          );
+            let same : is_complete k (stream_at (map opened ss)) ≡ is_complete k (stream_at ss) = ap (λ (r : ℕ → Stream A). is_complete k r) (opened_is ss) ∙ complete_opened k show (stream_at ss) in (
+              λ e. whole_from _ _ _ (same ∙ whole_by _ _ _ e),
+              λ e. whole_from _ _ _ (sym same ∙ whole_by _ _ _ e),
+            );
         breaks = λ ss risen. (
           broken_off ss risen,
           λ off. broken_from _ _ _
-            (false_from_ne_true (is_complete k (stream_at ss)) (λ c. off.not_whole (whole_from _ _ _ c)))
-            (any_from k.inputs (λ p. is_broken (stream_at ss p).mark) off.input.0 (here ss risen off.input.0 off.input.1) (ap is_broken off.input.1))
-            (no_going_on ss risen off),
+              (false_from_ne_true (is_complete k (stream_at ss)) (λ c. off.not_whole (whole_from _ _ _ c)))
+              (any_from k.inputs (λ p. is_broken (stream_at ss p).mark) off.input.0 (here ss risen off.input.0 off.input.1) (ap is_broken off.input.1))
+              (no_going_on ss risen off),
         );
       }
         where

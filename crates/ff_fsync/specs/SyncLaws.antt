@@ -1,15 +1,14 @@
 -- Framesync: streams further on show no less, and what was shown stays.
-use Rattle.std.specs.Prelude.{◌≡◌, ◌≢◌, ℕ, zero, suc, ◌+◌, ◌-◌, ◌<◌, ◌≤◌, ◌⊎◌, Bool, true, false, ◌||◌, ◌&&◌, not, cond, nat_lt, nat_le, nat_eq, List, [], ◌∷◌, ◌++◌, length, refl}
+use Rattle.std.specs.Prelude.{◌≡◌, ◌≢◌, ℕ, zero, suc, ◌+◌, ◌-◌, ◌<◌, ◌≤◌, ◌⊎◌, Bool, true, false, ◌||◌, ◌&&◌, not, nat_lt, nat_le, nat_eq, List, [], ◌∷◌, ◌++◌, length, refl}
 use Rattle.std.proofs.Common.{inl, inr, ap, sym, ◌∙◌, subst, arith}
-use Rattle.std.proofs.lemmas.Bool.{cases_Bool, cases_order, cases_lt, le-leb, lt-leb, lt-ltb, ltb-true, leb-true, leb-false, or_cases, or_left, or_right, or_parts, or_from, and_from, and_parts, and_cases, and_left, and_right, not-true, not_from_false}
-use mathlib.Core.List.{IsPrefix}
-use Rattle.ff_frame.specs.Stream.{Mark, still_open, whole, broken, Stream, LiesBelow, opened, opened_mark}
+use Rattle.std.proofs.lemmas.Bool.{cases_Bool, cases_order, cases_lt, le-leb, lt-leb, lt-ltb, ltb-true, leb-true, or_cases, or_left, or_right, or_from, and_from, and_parts, and_left, and_right, not-true, not_from_false}
+use Rattle.ff_frame.specs.Stream.{Mark, still_open, whole, broken, Stream, LiesBelow}
 use Rattle.ff_frame.specs.Ports.{IsClosed}
-use Rattle.ff_frame.specs.Order.{below_trans, closed_below, prefix_self, same_stream}
-use Rattle.ff_fsync.specs.Events.{events, events_none, events_same, events_enough, events_prefix, events_some, events_found}
-use Rattle.ff_fsync.specs.Ranges.{all_to, any_to, list_to, all_at, all_from, any_at, any_from, not_all, not_any, none_from, fails_from, all_same, any_same, list_same}
-use Rattle.ff_fsync.specs.Synced.{is_open, is_whole, is_broken, is_empty, some_of, each_of, last_of, later_of, past, past_to, ended_mark, all_ended, mark_by, Timing, starts, begun, reached, is_known, is_ready, is_shown, pictures, horizon, outlasts, ends_with, is_complete, allows, may_come, goes_on, synced_mark, synced_from}
-use Rattle.ff_fsync.specs.Rising.{Rises, some_append, last_append, some_found, none_found, none_last, rises_from, rises_drop, rises_take, rises_past, none_starts, none_begun, past_starts, past_reached}
+use Rattle.ff_frame.specs.Order.{below_trans, closed_below, prefix_self}
+use Rattle.ff_fsync.specs.Events.{events, events_enough, events_some, events_found}
+use Rattle.ff_fsync.specs.Ranges.{all_to, any_to, all_at, all_from, any_at, any_from, not_any, fails_from, all_same, any_same, list_same}
+use Rattle.ff_fsync.specs.Synced.{is_open, is_whole, is_broken, is_empty, some_of, each_of, last_of, later_of, past, past_to, ended_mark, all_ended, Timing, starts, begun, reached, is_known, is_ready, is_shown, pictures, horizon, outlasts, ends_with, is_complete, allows, may_come, goes_on}
+use Rattle.ff_fsync.specs.Rising.{Rises, some_append, last_append, some_found, none_last, rises_past, none_starts, none_begun, past_starts, past_reached}
 
 -- input by input
 abbrev pub EachBelow : {A : Type 0} → (ℕ → Stream A) → (ℕ → Stream A) → Type 0
@@ -110,7 +109,7 @@ module _ {A : Type 0} where
         let goes : xs ++ zs ≡ (ss p).items = h.1.1 in
         let late = rises_past (k.at p) 0 t xs zs (subst (λ (ys : List A). Rises (k.at p) 0 ys) (sym goes) rising) (held h.0) in
         let begun_same : begun k rs u p ≡ begun k ss u p =
-            sym (ap (λ (ys : List A). some_of (λ x. nat_le (k.at p x) u) ys) (sym goes) ∙ (some_append (λ x. nat_le (k.at p x) u) xs zs ∙ (ap (λ b. some_of (λ x. nat_le (k.at p x) u) xs || b) (none_begun (k.at p) (suc t) u zs late (omega (arith, le))) ∙ or_nothing _))) in
+        sym (ap (λ (ys : List A). some_of (λ x. nat_le (k.at p x) u) ys) (sym goes) ∙ (some_append (λ x. nat_le (k.at p x) u) xs zs ∙ (ap (λ b. some_of (λ x. nat_le (k.at p x) u) xs || b) (none_begun (k.at p) (suc t) u zs late (omega (arith, le))) ∙ or_nothing _))) in
         let here : reached k rs u p ≡ true = reached_sooner rs t u p le (held h.0) in
         let there : reached k ss u p ≡ true = reached_above rs ss u p (inr h) here in
         record {
@@ -257,9 +256,9 @@ module _ {A : Type 0} where
           let same : rs p ≡ ss p = whole_stays (rs p) (ss p) (h p) r.is_all in
           elim (cases_Bool (reached k rs t p)) as (λ _. is_shown k rs t ≡ is_shown k ss t) [
             | inl here ↦ alike_shown rs ss t (all_alike rs ss t t h rising (λ q lt o. elim (r.others q lt) as (λ _. reached k rs t q ≡ true) [
-                | inl w ↦ clash (is_whole (rs q).mark) w (open_not_whole (rs q).mark o)
-                | inr l ↦ outlasts_reached rs t p q l here
-              ]) (omega arith))
+              | inl w ↦ clash (is_whole (rs q).mark) w (open_not_whole (rs q).mark o)
+              | inr l ↦ outlasts_reached rs t p q l here
+            ]) (omega arith))
             | inr past ↦ (
                 let mine = ends_before rs t p r.how past in
                 not_ready rs t p s.1 mine ∙ sym (not_ready ss t p s.1 (sym ((same_alike rs ss t p same).ready_same) ∙ mine))
@@ -349,12 +348,15 @@ module _ {A : Type 0} where
     -- an input that is no hindrance was none
     allows_at : (rs ss : ℕ → Stream A) (t p : ℕ) → LiesBelow (rs p) (ss p) → Rises (k.at p) 0 (ss p).items → Allows ss t p → allows k rs t p ≡ true
     allows_at rs ss t p (inl same) rising a = allows_from rs t p (subst (λ (s : Stream A).
-      ((some_of (λ x. nat_le (k.at p x) t) s.items && (some_of (λ x. nat_le t (k.at p x)) s.items || (is_whole s.mark && not k.shortest))) ≡ true)
-      ⊎ ((is_open s.mark ≡ true) × ((is_empty s.items ≡ true) ⊎ (some_of (λ x. nat_le (k.at p x) t) s.items ≡ true)))) (sym same) a)
-    allows_at rs ss t p (inr h) rising a = allows_from rs t p (inr (ap is_open h.0, elim (begun_of ss t p a) as (λ _. (is_empty (rs p).items ≡ true) ⊎ (begun k rs t p ≡ true)) [
-      | inl e ↦ inl (empty_sooner (rs p) (ss p) (inr h) e)
-      | inr e ↦ begun_sooner (k.at p) t (rs p).items h.1.0 (subst (λ (xs : List A). Rises (k.at p) 0 xs) (sym h.1.1) rising) (subst (λ (xs : List A). some_of (λ x. nat_le (k.at p x) t) xs ≡ true) (sym h.1.1) e)
-    ]))
+        ((some_of (λ x. nat_le (k.at p x) t) s.items && (some_of (λ x. nat_le t (k.at p x)) s.items || (is_whole s.mark && not k.shortest))) ≡ true)
+        ⊎ ((is_open s.mark ≡ true) × ((is_empty s.items ≡ true) ⊎ (some_of (λ x. nat_le (k.at p x) t) s.items ≡ true)))) (sym same) a)
+    allows_at rs ss t p (inr h) rising a = allows_from rs t p (inr (
+      ap is_open h.0,
+      elim (begun_of ss t p a) as (λ _. (is_empty (rs p).items ≡ true) ⊎ (begun k rs t p ≡ true)) [
+        | inl e ↦ inl (empty_sooner (rs p) (ss p) (inr h) e)
+        | inr e ↦ begun_sooner (k.at p) t (rs p).items h.1.0 (subst (λ (xs : List A). Rises (k.at p) 0 xs) (sym h.1.1) rising) (subst (λ (xs : List A). some_of (λ x. nat_le (k.at p x) t) xs ≡ true) (sym h.1.1) e)
+      ],
+    ))
 
     -- a time at which something further is shown is one at which it might come
     pub further_may_come : (rs ss : ℕ → Stream A) (t : ℕ) → EachBelow rs ss → Risen ss → is_shown k ss t ≡ true → is_shown k rs t ≡ false → may_come k rs t ≡ true
@@ -433,10 +435,10 @@ module _ {A : Type 0} where
     complete_closed ss c e = elim (complete_cases (all_ended ss) e) as (λ _. is_complete k ss ≡ true) [
       | inl all ↦ complete_all ss (λ p lt. whole_closed (ss p).mark (c p lt) (all p lt))
       | inr s ↦ complete_ends ss s.0 s.1 (record {
-          is_all = whole_closed (ss s.0).mark (c s.0 s.1) (s.2).is_all;
-          how = (s.2).how;
-          others = λ q lt. elim ((s.2).others q lt) as (λ _. (is_whole (ss q).mark ≡ true) ⊎ (outlasts k ss s.0 q ≡ true)) [ inl w ↦ inl (whole_closed (ss q).mark (c q lt) w) | inr o ↦ inr o ];
-        })
+        is_all = whole_closed (ss s.0).mark (c s.0 s.1) (s.2).is_all;
+        how = (s.2).how;
+        others = λ q lt. elim ((s.2).others q lt) as (λ _. (is_whole (ss q).mark ≡ true) ⊎ (outlasts k ss s.0 q ≡ true)) [ inl w ↦ inl (whole_closed (ss q).mark (c q lt) w) | inr o ↦ inr o ];
+      })
     ]
 
     -- only the inputs count

@@ -1,15 +1,15 @@
 -- Framesync as a function of streams: streams further on give streams further on, whoever isn't told of breaks gets no less,
 -- and where each input closes, so does the output.
-use Rattle.std.specs.Prelude.{◌≡◌, ◌≢◌, ℕ, ◌+◌, ◌-◌, ◌<◌, ◌≤◌, ◌⊎◌, Bool, true, false, ◌||◌, ◌&&◌, not, nat_lt, List, [], ◌∷◌, length, refl}
+use Rattle.std.specs.Prelude.{◌≡◌, ◌≢◌, ℕ, ◌+◌, ◌<◌, ◌≤◌, Bool, true, false, ◌||◌, ◌&&◌, not, List, refl}
 use Rattle.std.proofs.Common.{inl, inr, ap, sym, ◌∙◌, subst, arith}
-use Rattle.std.proofs.lemmas.Bool.{cases_Bool, and_left, or_from, le-ltb, false_from_ne_true}
+use Rattle.std.proofs.lemmas.Bool.{cases_Bool, and_left, false_from_ne_true}
 use mathlib.Core.List.{IsPrefix}
 use Rattle.ff_frame.specs.Stream.{Mark, still_open, whole, broken, Stream, LiesBelow, opened, opened_mark}
 use Rattle.ff_frame.specs.Ports.{IsClosed}
-use Rattle.ff_fsync.specs.Events.{events, events_none, events_same, events_prefix}
-use Rattle.ff_fsync.specs.Ranges.{all_to, any_to, any_at, any_from, not_any, none_from, all_same, any_same}
-use Rattle.ff_fsync.specs.Synced.{is_open, is_whole, is_broken, is_empty, starts, begun, outlasts, ended_mark, all_ended, mark_by, Timing, is_shown, pictures, horizon, ends_with, is_complete, allows, may_come, goes_on, synced_mark, synced_from, reached}
-use Rattle.ff_fsync.specs.SyncLaws.{EachBelow, Risen, whole_is, broken_is, closed_is, clash, shown_stays, shown_in_order, shown_below, shown_enough, complete_stays, complete_alike, complete_all, complete_closed, goes_on_for, goes_on_sooner, goes_on_cases}
+use Rattle.ff_fsync.specs.Events.{events, events_same, events_prefix}
+use Rattle.ff_fsync.specs.Ranges.{all_to, any_to, any_at, any_from, not_any, none_from}
+use Rattle.ff_fsync.specs.Synced.{is_open, is_whole, is_broken, is_empty, starts, begun, outlasts, ended_mark, all_ended, mark_by, Timing, is_shown, pictures, horizon, is_complete, may_come, goes_on, synced_mark, synced_from, reached}
+use Rattle.ff_fsync.specs.SyncLaws.{EachBelow, Risen, closed_is, clash, shown_stays, shown_in_order, shown_enough, complete_stays, complete_alike, complete_all, complete_closed, goes_on_for, goes_on_sooner, goes_on_cases}
 
 abbrev pub opened_at : {A : Type 0} → (ℕ → Stream A) → ℕ → Stream A
 opened_at ss p = opened (ss p)
@@ -27,8 +27,8 @@ module _ {A B : Type 0} (k : Timing A) (show : ℕ → List A → B) where
       let j = horizon k rs + horizon k ss in
       rw (items_at from j rs (omega arith), items_at from j ss (omega arith))
       (events_prefix (is_shown k rs) (is_shown k ss) (says rs) (says ss) from j
-        (λ t e. let s = shown_stays k rs ss t h rising e in (s.0, ap (show t) s.1))
-        (λ t u e n lt. shown_in_order k rs ss t u h rising e n lt))
+      (λ t e. let s = shown_stays k rs ss t h rising e in (s.0, ap (show t) s.1))
+      (λ t u e n lt. shown_in_order k rs ss t u h rising e n lt))
 
   pub items_same : (from : ℕ) (rs ss : ℕ → Stream A) → EachBelow rs ss → Risen k ss → ((t : ℕ) → is_shown k rs t ≡ is_shown k ss t) → (synced_from k show from rs).items ≡ (synced_from k show from ss).items
   items_same from rs ss h rising same =

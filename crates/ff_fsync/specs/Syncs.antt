@@ -1,21 +1,17 @@
 -- The machine of framesync as the definitions see it.
-use Rattle.std.specs.Prelude.{◌≡◌, ℕ, zero, suc, ◌+◌, ◌<◌, ◌≤◌, ◌^◌, ◌⊎◌, Bool, true, false, ◌||◌, ◌&&◌, not, nat_le, nat_lt, cond, Option, None, Some, List, [], ◌∷◌, map, length, refl}
-use Rattle.std.proofs.Common.{arith}
+use Rattle.std.specs.Prelude.{◌≡◌, ℕ, zero, suc, ◌<◌, ◌≤◌, ◌^◌, ◌⊎◌, Bool, true, false, ◌||◌, nat_lt, cond, Option, None, Some, List, [], ◌∷◌, map, length, refl}
 use Rattle.ff_values.specs.declared.video.VFrame.{VFrame}
 use Rattle.ff_values.specs.declared.head.StreamHead.{StreamHead}
 use Rattle.ff_frame.specs.declared.item.Item.{Item}
 use Rattle.ff_frame.specs.declared.item.Item.TheVariants.{Video}
 use Rattle.ff_frame.specs.declared.item.Lane.{Lane}
 use Rattle.ff_frame.specs.declared.item.Lane.TheVariants.{Frames}
-use Rattle.ff_filter.specs.declared.after.After.{After}
-use Rattle.ff_frame.specs.Stream.{Stream, Mark}
+use Rattle.ff_frame.specs.Stream.{Stream}
 use Rattle.ff_filter.specs.Joins.{Flow}
-use Rattle.ff_filter.specs.Made.{mark_after}
-use Rattle.ff_filter.specs.Views.{View}
 use Rattle.ff_fsync.specs.declared.input.Input.{Input}
 use Rattle.ff_fsync.specs.Ranges.{all_to, any_to, list_to}
-use Rattle.ff_fsync.specs.Synced.{Timing, starts, begun, reached, is_known, is_shown, pictures, synced_mark, is_complete, goes_on, is_whole, is_open, is_broken, is_empty, all_ended, mark_by}
-use Rattle.ff_fsync.specs.Sides.{Side, side_at, streams, standing, timing, shown_as, sync_view, sync_spent, fills_to, Sound}
+use Rattle.ff_fsync.specs.Synced.{Timing, starts, begun, is_known, is_shown, is_open, is_broken, all_ended}
+use Rattle.ff_fsync.specs.Sides.{Side, side_at, standing, timing, Sound}
 use Rattle.ff_fsync.specs.Inputs.{side_by, last_by, Trims}
 
 abbrev pub side_of : Input → Side

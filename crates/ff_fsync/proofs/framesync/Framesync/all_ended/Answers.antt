@@ -1,8 +1,7 @@
-use Rattle.std.proofs.Common.{◌≡◌, true, false, ◌||◌, ◌&&◌, not, ℕ, Bool, ap, ◌∙◌, sym, arith, refl, subst, ◌+◌, length}
-use Rattle.ff_fsync.specs.Ranges.{all_to, any_to}
-use Rattle.ff_fsync.specs.Synced.{is_open, is_whole, is_broken, reached, allows, outlasts, ends_with, is_complete}
-use Rattle.ff_fsync.specs.Syncs.{standing_of, timing_of, ended_if, IsBound}
-use Rattle.ff_fsync.proofs.MarkLaws.{all_more, all_fails, any_more, any_found, whole_at, broken_at, behind_at, allows_there, outlast_at, ends_there, complete_there, bound_more, bound_none, goes_on_ended, goes_on_free, goes_on_not, mark_complete, mark_unbroken, mark_lost}
+use Rattle.std.proofs.Common.{ℕ, Bool, ◌∙◌, sym, arith, length}
+use Rattle.ff_fsync.specs.Synced.{is_whole}
+use Rattle.ff_fsync.specs.Syncs.{standing_of, ended_if}
+use Rattle.ff_fsync.proofs.MarkLaws.{all_more, all_fails, whole_at}
 use Rattle.ff_fsync.proofs.framesync.Framesync.all_ended.Goals as goal
 
 pub returns-then-not-has_ended : goal.returns-then-not-has_ended

@@ -1,7 +1,4 @@
-use Rattle.std.proofs.Common.{◌≡◌, true, false, ◌||◌, ◌&&◌, not, ℕ, Bool, ap, ◌∙◌, sym, arith, refl, subst, ◌+◌}
-use Rattle.ff_fsync.specs.Ranges.{all_to, any_to}
-use Rattle.ff_fsync.specs.Synced.{is_open, is_whole, is_broken, reached, allows, outlasts, ends_with, is_complete}
-use Rattle.ff_fsync.specs.Syncs.{standing_of, timing_of, ended_if, IsBound}
+use Rattle.ff_fsync.specs.Syncs.{IsBound}
 use Rattle.ff_fsync.proofs.framesync.Framesync.bound.Given as goal
 
 abbrev pub invariant-inputs : goal.invariant-inputs

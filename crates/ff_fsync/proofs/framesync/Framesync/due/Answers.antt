@@ -1,5 +1,4 @@
-use Rattle.std.proofs.Common.{◌≡◌, ap, ◌∙◌, sym, arith, refl, subst, ℕ, Some, None, Option}
-use Rattle.ff_fsync.specs.Syncs.{LeastOf}
+use Rattle.std.proofs.Common.{◌∙◌, sym}
 use Rattle.ff_fsync.proofs.Finding.{none_by_known, none_by_start, none_by_time, due_by}
 use Rattle.ff_fsync.proofs.framesync.Framesync.due.Goals as goal
 

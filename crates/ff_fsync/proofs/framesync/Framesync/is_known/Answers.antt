@@ -1,4 +1,4 @@
-use Rattle.std.proofs.Common.{◌≡◌, ap, ◌∙◌, sym, arith, refl, subst, ℕ, ◌+◌}
+use Rattle.std.proofs.Common.{◌∙◌, sym, arith}
 use Rattle.ff_fsync.proofs.Finding.{known_more, known_fails}
 use Rattle.ff_fsync.proofs.framesync.Framesync.is_known.Goals as goal
 

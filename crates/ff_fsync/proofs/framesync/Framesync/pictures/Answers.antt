@@ -1,7 +1,5 @@
-use Rattle.std.proofs.Common.{◌≡◌, ◌<◌, ap, ◌∙◌, sym, arith, refl, subst, ℕ, ◌+◌, ◌++◌, ◌∷◌, [], length, List}
-use Rattle.ff_values.specs.declared.video.VFrame.{VFrame}
-use Rattle.ff_fsync.specs.Syncs.{AreTaken}
-use Rattle.ff_fsync.proofs.Taken.{taken_none, taken_more, trimmed_of, trimmed_more, begun_still, pictures_taken, pushed}
+use Rattle.std.proofs.Common.{◌∙◌, sym, arith}
+use Rattle.ff_fsync.proofs.Taken.{taken_more, trimmed_more, begun_still, pushed}
 use Rattle.ff_fsync.proofs.framesync.Framesync.pictures.Goals as goal
 
 pub shown-requires : goal.shown-requires
@@ -29,7 +27,7 @@ inputs-preserved g c =
     let v = c.inputs.invariant in
     record {
       taken = taken_more s.head s.inputs.items i.items c.args.time c.inputs.p c.inputs.pictures.items c.push.new.self.items c.shown.new.self c.index_mut.result.now c.in-Ok.picture v.taken (omega (arith, c.inputs-test.true, c.len-p-end.ensures, s.inputs.ok.0, v.taken.long)) c.index_mut.ensures.value c.shown.ensures.trims c.in-Ok.ensures.last
-        (pushed c.push.result c.inputs.pictures.items c.push.new.self.items c.in-Ok.picture c.push.ensures.items (sym c.is_err.ensures.value ∙ c.if-is_err.false));
+          (pushed c.push.result c.inputs.pictures.items c.push.new.self.items c.in-Ok.picture c.push.ensures.items (sym c.is_err.ensures.value ∙ c.if-is_err.false));
       stack = v.stack;
       head = v.head;
       shortest = v.shortest;

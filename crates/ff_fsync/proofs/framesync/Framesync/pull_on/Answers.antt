@@ -1,18 +1,12 @@
-use Rattle.std.proofs.Common.{◌≡◌, ◌<◌, ap, ◌∙◌, sym, arith, refl, subst, ℕ, ◌+◌, suc, length, List, Bool, true, false, not, Ok, Err, Some, None, Option, Result}
-use Rattle.ff_values.specs.declared.video.VFrame.{VFrame}
+use Rattle.std.proofs.Common.{◌≡◌, ◌∙◌, arith, subst, ◌+◌, suc}
 use Rattle.ff_frame.specs.declared.item.Item.{Item}
-use Rattle.ff_frame.specs.declared.item.Item.TheVariants.{Video, End, Broken}
+use Rattle.ff_frame.specs.declared.item.Item.TheVariants.{Video}
 use Rattle.ff_frame.specs.declared.item.Lane.TheVariants.{Frames}
-use Rattle.ff_frame.specs.Stream.{Mark}
-use Rattle.ff_filter.specs.Made.{mark_after, is_over}
-use Rattle.ff_filter.specs.Views.{View, Gave, Same}
-use Rattle.ff_fsync.specs.Synced.{is_open, pictures}
-use Rattle.ff_fsync.specs.Sides.{Side, side_at, sync_view, shown_as, frames_of}
-use Rattle.ff_fsync.specs.Syncs.{side_of, sides_of, sides_sound, standing_of, timing_of}
-use Rattle.ff_filter.proofs.Moves.{same_self, same_gave, same_waits}
-use Rattle.ff_fsync.proofs.Showing.{shown_gave, closed_gave, none_waits, fed_by, trims_same, gave_there, waits_there}
-use Rattle.ff_fsync.proofs.Finding.{side_there, long_sides}
-use Rattle.ff_fsync.proofs.Taken.{due_still, frames_back, replaced, set_same, ports_there, if_ok}
+use Rattle.ff_filter.specs.Views.{View, Gave}
+use Rattle.ff_fsync.specs.Sides.{sync_view}
+use Rattle.ff_fsync.specs.Syncs.{sides_of, sides_sound}
+use Rattle.ff_filter.proofs.Moves.{same_gave}
+use Rattle.ff_fsync.proofs.Showing.{shown_gave}
 use Rattle.ff_fsync.proofs.framesync.Framesync.pull_on.Goals as goal
 
 pub returns-in_default-clause-gives : goal.returns-in_default-clause-gives
@@ -28,7 +22,7 @@ returns-in-Ok-clause-gives g c x e =
     let v : View = sync_view (g.S.Stack.shows new.stack) new.shortest (Frames new.head) new.from (sides_of new.inputs.items) new.ended new.stopped in
     let next : suc t ≡ t + 1 = omega arith in
     let gave = shown_gave (g.S.Stack.shows new.stack) new.shortest (Frames new.head) (sides_of new.inputs.items) (sides_sound (Frames new.head) new.inputs.items) new.from t new.ended new.stopped c.in-Ok.frame
-        (c.show.ensures.ended ∙ c.requires.going) c.show.ensures.due c.in-Ok.ensures.shows in
+    (c.show.ensures.ended ∙ c.requires.going) c.show.ensures.due c.in-Ok.ensures.shows in
     let there = subst (λ n. Gave v (sync_view (g.S.Stack.shows new.stack) new.shortest (Frames new.head) n (sides_of new.inputs.items) new.ended new.stopped) 0 (Video c.in-Ok.frame)) next gave in
     subst (λ (y : Item). Gave u (sync_view (g.S.Stack.shows new.stack) new.shortest (Frames new.head) (t + 1) (sides_of new.inputs.items) new.ended new.stopped) 0 y) is
     (same_gave u v (sync_view (g.S.Stack.shows new.stack) new.shortest (Frames new.head) (t + 1) (sides_of new.inputs.items) new.ended new.stopped) 0 (Video c.in-Ok.frame) c.requires.wanted c.show.ensures.same there)

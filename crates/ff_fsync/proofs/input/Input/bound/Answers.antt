@@ -1,8 +1,5 @@
-use Rattle.std.proofs.Common.{◌≡◌, true, false, ◌&&◌, not, ap, ◌∙◌, sym, refl}
-use Rattle.ff_filter.specs.Made.{mark_after}
-use Rattle.ff_fsync.specs.Synced.{is_whole}
 use Rattle.ff_fsync.specs.Inputs.{items_of}
-use Rattle.ff_fsync.proofs.Inputting.{bound_by, bound_whole, bound_broke}
+use Rattle.ff_fsync.proofs.Inputting.{bound_whole, bound_broke}
 use Rattle.ff_fsync.proofs.input.Input.bound.Goals as goal
 
 pub returns-then-shortest-clause-bound : goal.returns-then-shortest-clause-bound

@@ -1,4 +1,4 @@
-use Rattle.std.proofs.Common.{◌≡◌, ap, ◌∙◌, sym, nat_le, arith, refl}
+use Rattle.std.proofs.Common.{ap, ◌∙◌, sym, nat_le, arith, refl}
 use Rattle.ff_fsync.proofs.Inputting.{front_begun}
 use Rattle.ff_fsync.proofs.input.Input.start.Goals as goal
 

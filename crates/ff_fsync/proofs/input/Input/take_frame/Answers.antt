@@ -1,4 +1,4 @@
-use Rattle.ff_fsync.proofs.Inputting.{push_fills, push_takes, drops_takes}
+use Rattle.ff_fsync.proofs.Inputting.{push_fills}
 use Rattle.ff_fsync.proofs.input.Input.take_frame.Goals as goal
 
 pub invariant_of-self-clause-filled : goal.invariant_of-self-clause-filled

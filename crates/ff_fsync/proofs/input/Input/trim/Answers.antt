@@ -1,5 +1,4 @@
-use Rattle.std.proofs.Common.{◌≡◌, ap, ◌∙◌, sym, subst, arith, ◌++◌}
-use Rattle.std.specs.Prelude.{option_to_list}
+use Rattle.std.proofs.Common.{◌∙◌, sym}
 use Rattle.ff_fsync.proofs.Inputting.{trims_more, trimmed, trimmed_as}
 use Rattle.ff_fsync.proofs.input.Input.trim.Goals as goal
 

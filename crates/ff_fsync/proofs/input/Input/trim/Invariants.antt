@@ -1,6 +1,5 @@
-use Rattle.std.proofs.Common.{◌≡◌, true, length}
-use Rattle.ff_fsync.specs.Sides.{fills_to}
-use Rattle.ff_fsync.specs.Inputs.{items_of, GoesTo}
+use Rattle.std.proofs.Common.{◌≡◌, length}
+use Rattle.ff_fsync.specs.Inputs.{GoesTo}
 use Rattle.ff_fsync.proofs.input.Input.trim.Given as goal
 
 abbrev pub invariant-pictures : goal.invariant-pictures
