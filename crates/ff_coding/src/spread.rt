@@ -27,6 +27,7 @@ pub struct Spread {
     closed: bool,
     /// Where the input is damaged, if it broke off here.
     damage: Option<u64>,
+    ghost some: { 1 ≤ length outs.items },
 }
 
 impl Spread {
