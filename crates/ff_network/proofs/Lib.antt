@@ -5,4 +5,4 @@ pub mod NewNodes
 pub mod Joining
 pub mod WiredUp
 pub mod Runs
-mod PortLanes
+pub mod PortLanes

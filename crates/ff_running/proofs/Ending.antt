@@ -4,10 +4,12 @@ use Rattle.ff_frame.specs.Stream.{LiesBelow, opened}
 use Rattle.ff_values.specs.declared.head.StreamHead.{StreamHead}
 use Rattle.ff_words.specs.declared.job.Job.{Job}
 use Rattle.ff_words.specs.declared.job.OutputJob.{OutputJob}
+use Rattle.ff_edges.specs.declared.edge.Edge.{Edge}
 use Rattle.ff_net.specs.Views.{View}
 use Rattle.ff_net.specs.Ways.{Flow}
 use Rattle.ff_plan.specs.declared.planned.Plan.{Plan}
 use Rattle.ff_plan.specs.declared.planned.PlanError.{PlanError}
+use Rattle.ff_plan.specs.declared.planned.PlanNode.{PlanNode}
 use Rattle.ff_plan.specs.declared.planned.PlanNode.TheVariants as node
 use Rattle.ff_plan.specs.Rules.{Planned}
 use Rattle.ff_files.specs.declared.work.WorkEnd.{WorkEnd}
@@ -107,3 +109,13 @@ module _ {H S K M : Type 0} (is : KindsOf H) (left named : S → Option (List �
       subst (λ (p : Planned Plan). HoldParts holds (λ o. text_of is job p heads bytes o) (λ o. file_of is job p heads bytes o) snks') (sym for.made)
       (outcome.holds_part is left named failed holds called faulted view job.outputs heads plan.edges plan.nodes srcs snks claims done.olds done.news done.src_places done.snk_places done.fault srcs' snks' order done.run done.back
       bytes (vouched bytes told) told for.fitting (muxes bytes) holds_on)
+
+-- by the parts of the plan and of the job
+pub done_for : {H S K M : Type 0} (is : KindsOf H) (left named : S → Option (List ℕ)) (failed : S → ℕ) (holds called : K → Option (List ℕ)) (faulted : K → ℕ) (view : M → View)
+    (outputs outputs' : List OutputJob) (heads : List H) (edges edges' : List Edge) (nodes nodes' : List PlanNode) (srcs : List S) (snks : List K) (claims : Bool) (end : WorkEnd RunFault) (srcs' : List S) (snks' : List K)
+    → outputs ≡ outputs' → edges ≡ edges' → nodes ≡ nodes' → IsDone is left named failed holds called faulted view outputs heads edges nodes srcs snks claims end srcs' snks'
+    → IsDone is left named failed holds called faulted view outputs' heads edges' nodes' srcs snks claims end srcs' snks'
+done_for is left named failed holds called faulted view outputs outputs' heads edges edges' nodes nodes' srcs snks claims end srcs' snks' o e n h =
+    subst (λ (x : List OutputJob). IsDone is left named failed holds called faulted view x heads edges' nodes' srcs snks claims end srcs' snks') o
+    (subst (λ (x : List Edge). IsDone is left named failed holds called faulted view outputs heads x nodes' srcs snks claims end srcs' snks') e
+    (subst (λ (x : List PlanNode). IsDone is left named failed holds called faulted view outputs heads edges x srcs snks claims end srcs' snks') n h))

@@ -10,5 +10,6 @@ pub mod Outcomes
 pub mod Places
 pub mod Running
 pub mod Planning
+pub mod Plans
 pub mod Tally
 pub mod Telling

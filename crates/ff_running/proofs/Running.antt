@@ -14,7 +14,7 @@ use Rattle.ff_plan.specs.declared.planned.PlanNode.{PlanNode}
 use Rattle.ff_files.specs.Works.{AreTold}
 use Rattle.ff_running.specs.Kinds.{KindsOf}
 use Rattle.ff_running.specs.Meaning.{task_by, task_at}
-use Rattle.ff_running.specs.Parts.{IsPart, AreParts}
+use Rattle.ff_running.specs.Parts.{FitsDemux, FitsMux, IsFitting, AreFitting, IsPart, HasEnds, AreParts}
 use Rattle.ff_running.specs.Runs.{TellsRun, AreRun}
 use Rattle.ff_running.proofs.Networks.{unstarted, kept_same, unstarted_tells, unstarted_streams, parts_fit, meets_streams}
 use Rattle.ff_running.proofs.Numbers.{there}
@@ -67,3 +67,24 @@ module _ {H S K M : Type 0} (is : KindsOf H) (left named : S → Option (List �
     tells = unstarted_tells view olds fault e part_sound;
     meets = λ vouched bytes told. unstarted_streams view (task_at is outputs heads bytes nodes edges) _ edges olds fault e (part_stands bytes told);
   }
+
+-- a demuxer that was run has no inputs, and a muxer no outputs
+module _ {H S K M : Type 0} (is : KindsOf H) (left named : S → Option (List ℕ)) (failed : S → ℕ) (holds called : K → Option (List ℕ)) (faulted : K → ℕ) (view : M → View)
+    (outputs : List OutputJob) (heads : List H) (edges : List Edge) (nodes : List PlanNode) (srcs : List S) (snks : List K) (olds news : List M) (sp : List (Option S)) (kp : List (Option K))
+    (parts : AreParts is left named failed holds called faulted view outputs heads edges nodes srcs snks olds sp kp) (kept : AllKept view olds news) (fitting : AreFitting is outputs heads edges nodes) where
+  pub have_ends : (k : ℕ) (n : PlanNode) (m : M) → slice_get nodes k ≡ Some n → slice_get news k ≡ Some m → HasEnds n (view m)
+  have_ends k n m at now =
+      let lt : k < length olds = (let w = slice_get_within news k m now in let c = kept.count in omega (arith, w, c)) in
+      let old = there olds k lt in
+      let part = parts.each k n old.0 at old.1 in
+      let ins : (view m).in_lanes ≡ lanes_into edges k =
+          ap (λ (x : M). (view x).in_lanes) (sym (get_or_from_slice_get news k m m now)) ∙ (kept.in_lanes k old.0 m lt ∙ (ap (λ (x : M). (view x).in_lanes) (get_or_from_slice_get olds k old.0 old.0 old.1) ∙ part.in_lanes)) in
+      let outs : (view m).out_lanes ≡ lanes_out_of edges k =
+          ap (λ (x : M). (view x).out_lanes) (sym (get_or_from_slice_get news k m m now)) ∙ (kept.out_lanes k old.0 m lt ∙ (ap (λ (x : M). (view x).out_lanes) (get_or_from_slice_get olds k old.0 old.0 old.1) ∙ part.out_lanes)) in record {
+          source = λ i e.
+              let fits : FitsDemux is heads (lanes_into edges k) (lanes_out_of edges k) i = subst (λ (x : PlanNode). IsFitting is outputs heads (lanes_into edges k) (lanes_out_of edges k) x) e (fitting k n at) in
+              ins ∙ fits.ins_are;
+          sink = λ o e.
+              let fits : FitsMux is outputs (lanes_into edges k) (lanes_out_of edges k) o = subst (λ (x : PlanNode). IsFitting is outputs heads (lanes_into edges k) (lanes_out_of edges k) x) e (fitting k n at) in
+              outs ∙ fits.outs_are;
+        }

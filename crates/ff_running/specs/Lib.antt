@@ -6,4 +6,3 @@ pub mod Runs
 pub mod Claims
 pub mod Rooms
 pub mod Accepting
-pub mod PlanRuns

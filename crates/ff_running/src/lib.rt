@@ -13,4 +13,4 @@ mod work;
 
 pub use fault::RunFault;
 pub use kinds::{Ends, Kinds};
-pub use work::PlanRun;
+pub use work::{make_plan, run_plan};

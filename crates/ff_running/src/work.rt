@@ -1,4 +1,4 @@
-// The plan of a job and its run, as what is done between the opening and the closing of files.
+// The plan of a job and its run, which are done between the opening and the closing of files.
 ghost use Rattle.std.specs.Prelude.{◌≡◌, ℕ, List, [], ◌∷◌, length, map, None, Some, Ok, IfOk, IfErr, OnOk};
 ghost use Rattle.ff_map.specs.Choice.{lists};
 ghost use Rattle.ff_files.specs.Works.{AreTold, HoldFiles, HoldParts, KeepEnds, FailNoMore, EndsWork, sound_sources, sound_sinks};
@@ -8,13 +8,13 @@ ghost use Rattle.ff_running.specs.Meaning.{plan_for, refusal_of, means as means_
 use crate::fault::RunFault;
 use crate::kinds::Kinds;
 use crate::run::{Room, run_nodes};
-use ff_files::{Done, PlanEnd, Work, WorkEnd};
+use ff_files::{Done, PlanEnd, WorkEnd};
 use ff_host::{Sink, Source};
 use ff_plan::{Plan, PlanError, plan as plan_of};
 use ff_values::StreamHead;
 use ff_words::Job;
 use std::alloc::{AllocError, Global};
-use std::marker::{Brand, PhantomData};
+use std::marker::Brand;
 use std::sync::Wait;
 use std::thread::Threads;
 
@@ -34,8 +34,8 @@ fn streams_of<K: Kinds<Src, Snk>, Src: Source + Send + Drop, Snk: Sink + Send + 
     Ok(streams)
 }
 
-// The plan of a job for the heads of its inputs.
-fn make_plan<K: Kinds<Src, Snk>, Src: Source + Send + Drop, Snk: Sink + Send + Drop>(
+/// The plan of a job for the heads of its inputs.
+pub fn make_plan<K: Kinds<Src, Snk>, Src: Source + Send + Drop, Snk: Sink + Send + Drop>(
     alloc: Global,
     job: &Job,
     heads: &[K::Head],
@@ -55,8 +55,8 @@ fn make_plan<K: Kinds<Src, Snk>, Src: Source + Send + Drop, Snk: Sink + Send + D
     }
 }
 
-// Runs a plan. Where there is no memory to begin, the sources and sinks are as they were.
-fn run_plan<
+/// Runs a plan, each node of it in a thread of its own. Where there is no memory to begin, the sources and sinks are as they were.
+pub fn run_plan<
     K: Kinds<Src, Snk>,
     R: Threads + Wait + Sync,
     Src: Source + Send + Drop,
@@ -103,70 +103,4 @@ fn run_plan<
     run_nodes::<Brand, K, R, Src, Snk>(
         rt, alloc, nodes, edges, size, heads, outputs, srcs, snks, room,
     )
-}
-
-/// The run of a job's plan, each node of it in a thread of its own, over parts of these kinds.
-pub struct PlanRun<'a, R: Threads + Wait + Sync, K> {
-    rt: &'a R,
-    alloc: Global,
-    job: &'a Job,
-    kinds: PhantomData<K>,
-}
-
-impl<'a, R: Threads + Wait + Sync, K> PlanRun<'a, R, K> {
-    ghost use Rattle.ff_running.specs.PlanRuns.{job_of};
-
-    /// The run of this job.
-    pub fn new(rt: &'a R, alloc: Global, job: &'a Job) -> Self
-        ensures { job_of result ≡ job.now }
-    {
-        PlanRun {
-            rt,
-            alloc,
-            job,
-            kinds: PhantomData,
-        }
-    }
-}
-
-impl<'a, R: Threads + Wait + Sync, K: Kinds<Src, Snk>, Src: Source + Send + Drop, Snk: Sink + Send + Drop>
-    Work<K::Head, Src, Snk> for PlanRun<'a, R, K>
-{
-    ghost use Rattle.ff_running.specs.PlanRuns.{job_of};
-
-    type Plan = Plan;
-    type Refusal = PlanError;
-    type Fault = RunFault;
-
-    ghost means = { λ w. means_of K.is (job_of w) };
-
-    ghost accepts = { λ w heads. IsAccepted K.is (job_of w) heads };
-
-    ghost is_plan = { λ w heads plan. IsPlanFor K.is (job_of w) heads plan };
-
-    fn plan(&self, heads: &[K::Head]) -> Result<Plan, PlanEnd<PlanError>> {
-        make_plan::<K, Src, Snk>(self.alloc, self.job, heads)
-    }
-
-    fn run(
-        &self,
-        plan: Plan,
-        heads: &[K::Head],
-        srcs: Vec<Src>,
-        snks: Vec<Snk>,
-    ) -> Done<RunFault, Src, Snk>
-        requires { IsPlanFor K.is (job_of self.now) heads.now plan }
-        ensures fine { result.end ≡ WorkEnd.Fine → (bytes : List (List ℕ)) → AreTold Src.left Snk.holds srcs.items snks.items bytes
-            → HoldFiles Snk.holds ((means_of K.is (job_of self.now)).file heads.now bytes) result.snks.items }
-        ensures parts { (bytes : List (List ℕ)) → AreTold Src.left Snk.holds srcs.items snks.items bytes
-            → HoldParts Snk.holds ((means_of K.is (job_of self.now)).text heads.now bytes) ((means_of K.is (job_of self.now)).file heads.now bytes) result.snks.items }
-        ensures srcs { KeepEnds Src.name srcs.items result.srcs.items }
-        ensures snks { KeepEnds Snk.name snks.items result.snks.items }
-        ensures ends { EndsWork (means_of K.is (job_of self.now)) Src.faults Snk.faults srcs.items snks.items result.srcs.items result.snks.items heads.now
-            (AreTold Src.left Snk.holds srcs.items snks.items) result.end }
-        ensures sound_srcs { FailNoMore Src.faults srcs.items result.srcs.items (sound_sources (means_of K.is (job_of self.now)) result.end (length srcs.items)) }
-        ensures sound_snks { FailNoMore Snk.faults snks.items result.snks.items (sound_sinks (means_of K.is (job_of self.now)) result.end (length snks.items)) }
-    {
-        run_plan::<K, R, Src, Snk>(self.rt, self.alloc, self.job, &plan, heads, srcs, snks)
-    }
 }

@@ -1,0 +1,31 @@
+-- What the making of a plan says, and its run.
+use Rattle.std.specs.Prelude.{◌≡◌, ℕ, List, length, Option, None, Some, Result, IfOk, IfErr, OnOk}
+use Rattle.ff_words.specs.declared.job.Job.{Job}
+use Rattle.ff_plan.specs.declared.planned.Plan.{Plan}
+use Rattle.ff_plan.specs.declared.planned.PlanError.{PlanError}
+use Rattle.ff_files.specs.declared.work.PlanEnd.{PlanEnd}
+use Rattle.ff_files.specs.declared.work.PlanEnd.TheVariants as plan_end
+use Rattle.ff_files.specs.declared.work.WorkEnd.{WorkEnd}
+use Rattle.ff_files.specs.declared.work.WorkEnd.TheVariants as work_end
+use Rattle.ff_files.specs.Works.{AreTold, HoldFiles, HoldParts, KeepEnds, FailNoMore, EndsWork, sound_sources, sound_sinks}
+use Rattle.ff_running.specs.declared.fault.RunFault.{RunFault}
+use Rattle.ff_running.specs.Kinds.{KindsOf}
+use Rattle.ff_running.specs.Accepting.{IsPlanFor}
+use Rattle.ff_running.specs.Meaning.{plan_for, refusal_of, means}
+
+-- of a job and the heads of its inputs
+pub record PlanSays {H : Type 0} (is : KindsOf H) (job : Job) (heads : List H) (result : Result Plan (PlanEnd PlanError)) : Type 0 where
+  pub ok : IfOk result (λ plan. IsPlanFor is job heads plan)
+  pub some : OnOk result (refusal_of is job (plan_for is job heads) ≡ None)
+  pub refused : (why : PlanError) → IfErr result (λ end. end ≡ plan_end.Refused why → refusal_of is job (plan_for is job heads) ≡ Some why)
+
+-- over these sources and sinks, which are these afterwards
+pub record RunSays {H S K : Type 0} (is : KindsOf H) (left named : S → Option (List ℕ)) (failed : S → ℕ) (holds called : K → Option (List ℕ)) (faulted : K → ℕ)
+    (job : Job) (heads : List H) (srcs : List S) (snks : List K) (end : WorkEnd RunFault) (srcs' : List S) (snks' : List K) : Type 0 where
+  pub fine : end ≡ work_end.Fine → (bytes : List (List ℕ)) → AreTold left holds srcs snks bytes → HoldFiles holds ((means is job).file heads bytes) snks'
+  pub parts : (bytes : List (List ℕ)) → AreTold left holds srcs snks bytes → HoldParts holds ((means is job).text heads bytes) ((means is job).file heads bytes) snks'
+  pub srcs_kept : KeepEnds named srcs srcs'
+  pub snks_kept : KeepEnds called snks snks'
+  pub ends : EndsWork (means is job) failed faulted srcs snks srcs' snks' heads (AreTold left holds srcs snks) end
+  pub sound_srcs : FailNoMore failed srcs srcs' (sound_sources (means is job) end (length srcs))
+  pub sound_snks : FailNoMore faulted snks snks' (sound_sinks (means is job) end (length snks))
