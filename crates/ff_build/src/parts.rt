@@ -15,15 +15,13 @@ use std::alloc::{AllocError, Global};
 #[derive(Drop)]
 pub struct Parts;
 
-impl<Src: Source + Send + Drop, Snk: Sink + Send + Drop> Kinds<Src, Snk> for Parts {
+impl<Src: Source + Send + Drop, Snk: Sink + Send + Drop> Kinds<Src, Snk, Part<Src, Snk>> for Parts {
     ghost use Rattle.ff_build.specs.Parts.{all_kinds};
     ghost use Rattle.ff_build.specs.Takes.{heads_decode, heads_encode, heads_are_written};
     ghost use Rattle.ff_muxing.specs.Held.{held_parts_stay};
     ghost use Rattle.ff_muxing.specs.Outputs.{layout_of};
 
     type Head = InputHead;
-
-    type Part = Part<Src, Snk>;
 
     ghost is = { all_kinds };
 

@@ -61,6 +61,7 @@ fn run_words<H: Host, P: Worker<Begun<H::Src>, H::Snk>>(
     words: &[String],
     host: &mut H,
 ) -> Worked
+    requires { P.is_able worker.now }
     ensures answered { Answered (P.means worker.now) (texts words.now) (H.files host.old) (H.files host.new)
         (record { before = H.in_faults host.old; after = H.in_faults host.new })
         (record { before = H.out_faults host.old; after = H.out_faults host.new }) result.status }
@@ -111,6 +112,8 @@ pub fn run_command<H: Host, E: Sink, P: Worker<Begun<H::Src>, H::Snk>>(
     host: &mut H,
     log: &mut E,
 ) -> Report
+    requires { P.is_able worker.now }
+
     // With status Fine the words ask for a job, and each of its outputs holds the bytes that the job means.
     ensures bytes { result.status ≡ Status.Fine → HoldsMeaning (P.means worker.now) (texts words.now) (H.files host.old) (H.files host.new) }
 

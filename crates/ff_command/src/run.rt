@@ -61,6 +61,7 @@ pub(crate) fn run_job<H: Host, P: Worker<Begun<H::Src>, H::Snk>>(
     job: &Job,
     host: &mut H,
 ) -> Status
+    requires able { P.is_able worker.now }
     requires bounded { IsBounded job.now }
     requires plain { IsPlain job.now }
     ensures ran { Ran (P.means worker.now) job.now (H.files host.old) (H.files host.new)

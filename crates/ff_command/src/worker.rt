@@ -21,12 +21,15 @@ pub trait Worker<Src: Source + Send + Drop, Snk: Sink + Send + Drop> {
     /// What a job means: all that contracts see of its work.
     ghost means: { Self → Job → Meaning InputHead PlanError RunFault };
 
+    /// It can be worked with: what has to hold of it before.
+    ghost is_able: { Self → Type 0 };
+
     /// It is a plan of the job for these heads.
     ghost is_plan: { Self → Job → List InputHead → Self.Plan → Type 0 };
 
     /// The plan of a job for these heads, by the number of their inputs.
     fn plan(&self, job: &Job, heads: &[InputHead]) -> Result<Self::Plan, PlanEnd<PlanError>>
-        requires { AreAllHeads job.now heads.now }
+        requires { is_able self.now × AreAllHeads job.now heads.now }
         ensures ok { IfOk result (λ plan. is_plan self.now job.now heads.now plan) }
         ensures some { OnOk result ((means self.now job.now).refusal heads.now ≡ None) }
         ensures refused { (why : _) → IfErr result (λ end. end ≡ PlanEnd.Refused why → (means self.now job.now).refusal heads.now ≡ Some why) };
@@ -74,12 +77,12 @@ impl<'a, Src: Source + Send + Drop, Snk: Sink + Send + Drop, P: Worker<Src, Snk>
 
     ghost means = { λ work. P.means work.worker.now work.job.now };
 
-    ghost accepts = { λ work heads. AreAllHeads work.job.now heads };
+    ghost accepts = { λ work heads. P.is_able work.worker.now × AreAllHeads work.job.now heads };
 
     ghost is_plan = { λ work heads plan. P.is_plan work.worker.now work.job.now heads plan };
 
     fn plan(&self, heads: &[InputHead]) -> Result<P::Plan, PlanEnd<PlanError>>
-        requires { AreAllHeads self.now.job.now heads.now }
+        requires { P.is_able self.now.worker.now × AreAllHeads self.now.job.now heads.now }
         ensures ok { IfOk result (λ plan. P.is_plan self.now.worker.now self.now.job.now heads.now plan) }
         ensures some { OnOk result ((P.means self.now.worker.now self.now.job.now).refusal heads.now ≡ None) }
         ensures refused { (why : _) → IfErr result (λ end. end ≡ PlanEnd.Refused why → (P.means self.now.worker.now self.now.job.now).refusal heads.now ≡ Some why) }

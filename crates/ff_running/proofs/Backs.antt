@@ -1,6 +1,6 @@
 -- All sources and sinks in their places again, as lists.
-use Rattle.std.proofs.Common.{◌≡◌, ◌⊎◌, inl, inr, ℕ, zero, suc, ◌<◌, ◌≤◌, List, [], ◌∷◌, length, map, slice_get, Option, Some, None, refl, sym, ap, ◌∙◌, subst, arith}
-use Rattle.std.proofs.lemmas.Option.{slice_get_within, slice_get_past}
+use Rattle.std.proofs.Common.{◌≡◌, ◌⊎◌, inl, inr, ℕ, zero, suc, ◌<◌, ◌≤◌, List, [], ◌∷◌, length, map, slice_get, Option, Some, refl, sym, ap, ◌∙◌, arith}
+use Rattle.std.proofs.lemmas.Option.{slice_get_past}
 use Rattle.ff_plan.specs.declared.planned.PlanNode.{PlanNode}
 use Rattle.ff_plan.specs.declared.planned.PlanNode.TheVariants as node
 use Rattle.ff_words.specs.declared.job.OutputJob.{OutputJob}
@@ -59,12 +59,12 @@ module _ {T : Type 0} (nodes : List PlanNode) (mk : ℕ → PlanNode) (count cou
   pub others_same : (all' : List T) → now ≡ map Some all' → (i : ℕ) → (IsBefore nodes count' (mk i) → ⊥) → slice_get all' i ≡ slice_get all i
   others_same all' e i out = elim (ordered i (length all)) [
     | inl lt ↦
-      let a = aside i lt (fewer i out) in
-      at_place all' i a.0 (sym (ap (λ (ps : List (Option T)). slice_get ps i) e) ∙ (other i out ∙ a.2)) ∙ sym a.1
+        let a = aside i lt (fewer i out) in
+        at_place all' i a.0 (sym (ap (λ (ps : List (Option T)). slice_get ps i) e) ∙ (other i out ∙ a.2)) ∙ sym a.1
     | inr r ↦
-      let le : length all ≤ i = elim r [ inl same ↦ omega (arith, same) | inr over ↦ omega (arith, over) ] in
-      let long : length all' ≡ length all = sym (length_places all') ∙ (sym (ap length e) ∙ (as_many ∙ many)) in
-      slice_get_past all' i (omega (arith, le, long)) ∙ sym (slice_get_past all i le)
+        let le : length all ≤ i = elim r [ inl same ↦ omega (arith, same) | inr over ↦ omega (arith, over) ] in
+        let long : length all' ≡ length all = sym (length_places all') ∙ (sym (ap length e) ∙ (as_many ∙ many)) in
+        slice_get_past all' i (omega (arith, le, long)) ∙ sym (slice_get_past all i le)
   ]
 
 module _ {H S K M : Type 0} (is : KindsOf H) (left named : S → Option (List ℕ)) (failed : S → ℕ) (holds called : K → Option (List ℕ)) (faulted : K → ℕ) (view : M → View)

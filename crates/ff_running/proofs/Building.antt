@@ -1,6 +1,6 @@
 -- Parts and places, one node more.
-use Rattle.std.proofs.Common.{◌≡◌, ◌⊎◌, inl, inr, ℕ, zero, suc, ◌+◌, ◌<◌, ◌≤◌, List, [], ◌∷◌, ◌++◌, length, slice_get, get_or, Option, Some, None, refl, sym, ap, ◌∙◌, subst, arith}
-use Rattle.std.proofs.lemmas.Option.{slice_get_within, get_or_from_slice_get}
+use Rattle.std.proofs.Common.{◌≡◌, ◌⊎◌, inl, inr, ℕ, zero, suc, ◌+◌, ◌<◌, List, [], ◌∷◌, ◌++◌, length, slice_get, Option, Some, refl, sym, ap, ◌∙◌, subst, arith}
+use Rattle.std.proofs.lemmas.Option.{slice_get_within}
 use Rattle.ff_edges.specs.declared.edge.Edge.{Edge}
 use Rattle.ff_net.specs.Views.{View}
 use Rattle.ff_plan.specs.declared.planned.PlanNode.{PlanNode}
@@ -81,10 +81,10 @@ module _ {H S K M : Type 0} (is : KindsOf H) (left named : S → Option (List �
         each = λ j x y nj pj. elim (pushed parts m y j (subst (λ (ps : List M). slice_get ps j ≡ Some y) more pj)) [
           | inl old ↦ h.each j x y nj old
           | inr last ↦
-            let nx : n ≡ x = some_same (slice_get nodes (length parts)) n x at (subst (λ (i : ℕ). slice_get nodes i ≡ Some x) last.0 nj) in
-            subst (λ (i : ℕ). IsPart is left named failed holds called faulted outputs heads srcs snks (lanes_into edges i) (lanes_out_of edges i) x (view y)) (sym last.0)
-            (subst (λ (z : PlanNode). IsPart is left named failed holds called faulted outputs heads srcs snks (lanes_into edges (length parts)) (lanes_out_of edges (length parts)) z (view y)) nx
-            (subst (λ (z : M). IsPart is left named failed holds called faulted outputs heads srcs snks (lanes_into edges (length parts)) (lanes_out_of edges (length parts)) n (view z)) last.1 new))
+              let nx : n ≡ x = some_same (slice_get nodes (length parts)) n x at (subst (λ (i : ℕ). slice_get nodes i ≡ Some x) last.0 nj) in
+              subst (λ (i : ℕ). IsPart is left named failed holds called faulted outputs heads srcs snks (lanes_into edges i) (lanes_out_of edges i) x (view y)) (sym last.0)
+              (subst (λ (z : PlanNode). IsPart is left named failed holds called faulted outputs heads srcs snks (lanes_into edges (length parts)) (lanes_out_of edges (length parts)) z (view y)) nx
+              (subst (λ (z : M). IsPart is left named failed holds called faulted outputs heads srcs snks (lanes_into edges (length parts)) (lanes_out_of edges (length parts)) n (view z)) last.1 new))
         ];
         srcs_aside = λ i lt out.
             let x = h.srcs_aside i lt (λ b. out (before (node.Demux i) b)) in

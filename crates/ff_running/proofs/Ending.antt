@@ -1,5 +1,5 @@
 -- The clauses of a run that was done, and of one that was not begun.
-use Rattle.std.proofs.Common.{◌≡◌, ◌⊎◌, inl, inr, ℕ, ◌+◌, ◌-◌, ◌<◌, true, Bool, List, [], ◌∷◌, length, slice_get, slice_index_or, Option, Some, None, Ok, refl, sym, ap, ◌∙◌, subst, arith}
+use Rattle.std.proofs.Common.{◌≡◌, inl, ℕ, ◌<◌, true, Bool, List, [], length, slice_get, Option, Some, refl, sym, ◌∙◌, subst, arith}
 use Rattle.ff_frame.specs.Stream.{LiesBelow, opened}
 use Rattle.ff_values.specs.declared.head.StreamHead.{StreamHead}
 use Rattle.ff_words.specs.declared.job.Job.{Job}
@@ -8,7 +8,6 @@ use Rattle.ff_edges.specs.declared.edge.Edge.{Edge}
 use Rattle.ff_net.specs.Views.{View}
 use Rattle.ff_net.specs.Ways.{Flow}
 use Rattle.ff_plan.specs.declared.planned.Plan.{Plan}
-use Rattle.ff_plan.specs.declared.planned.PlanError.{PlanError}
 use Rattle.ff_plan.specs.declared.planned.PlanNode.{PlanNode}
 use Rattle.ff_plan.specs.declared.planned.PlanNode.TheVariants as node
 use Rattle.ff_plan.specs.Rules.{Planned}
@@ -18,7 +17,7 @@ use Rattle.ff_files.specs.Works.{AreTold, HoldFiles, HoldParts, HoldsPart, KeepE
 use Rattle.ff_running.specs.declared.fault.RunFault.{RunFault}
 use Rattle.ff_running.specs.Kinds.{KindsOf}
 use Rattle.ff_running.specs.Claims.{tell_all}
-use Rattle.ff_running.specs.Meaning.{mux_node, BreaksBy, BreaksIn, file_of, text_of, file_in, text_in, comes_after, means}
+use Rattle.ff_running.specs.Meaning.{mux_node, BreaksBy, file_of, text_of, means}
 use Rattle.ff_running.specs.Accepting.{IsPlanFor}
 use Rattle.ff_running.specs.Parts.{AreOrdered}
 use Rattle.ff_running.specs.Runs.{IsDone}

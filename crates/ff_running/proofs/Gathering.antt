@@ -1,5 +1,5 @@
 -- Places that are filled again, one part more.
-use Rattle.std.proofs.Common.{◌≡◌, ◌⊎◌, inl, inr, ℕ, zero, suc, ◌+◌, ◌<◌, ◌≤◌, List, [], ◌∷◌, length, drop, slice_get, Option, Some, None, refl, sym, ap, ◌∙◌, subst, arith, add-one}
+use Rattle.std.proofs.Common.{◌≡◌, inl, inr, ℕ, zero, suc, ◌+◌, ◌<◌, ◌≤◌, List, [], ◌∷◌, length, drop, slice_get, Option, Some, ap, ◌∙◌, subst, arith, add-one}
 use Rattle.ff_plan.specs.declared.planned.PlanNode.{PlanNode}
 use Rattle.ff_plan.specs.declared.planned.PlanNode.TheVariants as node
 use Rattle.ff_running.specs.Parts.{IsBefore, AreOrdered}
@@ -42,14 +42,14 @@ module _ {T M : Type 0} (Back : M → T → Type 0) (mk : ℕ → PlanNode) (nod
       → (k i : ℕ) (y : M) → k < n + 1 → slice_get nodes k ≡ Some (mk i) → slice_get parts k ≡ Some y → (s : T) × (slice_get now i ≡ Some (Some s)) × Back y s
   back_next once before put k i y lt nk pk = elim (ordered k n) [
     | inl below ↦
-      let b = before k i y below nk pk in
-      (b.0, kept i (λ e. let same : k ≡ n = once k n i nk (at ∙ ap (λ (z : PlanNode). Some z) e) in omega (arith, below, same)) ∙ b.1, b.2)
+        let b = before k i y below nk pk in
+        (b.0, kept i (λ e. let same : k ≡ n = once k n i nk (at ∙ ap (λ (z : PlanNode). Some z) e) in omega (arith, below, same)) ∙ b.1, b.2)
     | inr r ↦ elim r [
       | inl e ↦
-        let is : x ≡ mk i = same_some (slice_get nodes n) x (mk i) at (subst (λ (j : ℕ). slice_get nodes j ≡ Some (mk i)) e nk) in
-        let same : m ≡ y = same_some (slice_get parts n) m y here (subst (λ (j : ℕ). slice_get parts j ≡ Some y) e pk) in
-        let p = put i is in
-        (p.0, p.1, subst (λ (z : M). Back z p.0) same p.2)
+          let is : x ≡ mk i = same_some (slice_get nodes n) x (mk i) at (subst (λ (j : ℕ). slice_get nodes j ≡ Some (mk i)) e nk) in
+          let same : m ≡ y = same_some (slice_get parts n) m y here (subst (λ (j : ℕ). slice_get parts j ≡ Some y) e pk) in
+          let p = put i is in
+          (p.0, p.1, subst (λ (z : M). Back z p.0) same p.2)
       | inr over ↦ absurd (omega (arith, lt, over))
     ]
   ]

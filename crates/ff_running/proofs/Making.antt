@@ -1,17 +1,16 @@
 -- A part that was made, as the part of its node.
-use Rattle.std.proofs.Common.{◌≡◌, ℕ, List, [], ◌∷◌, length, slice_get, slice_index_or, get_or, Option, Some, None, IfSome, refl, sym, ap, ◌∙◌, subst}
+use Rattle.std.proofs.Common.{◌≡◌, ℕ, List, [], ◌∷◌, slice_get, slice_index_or, get_or, Option, Some, None, IfSome, sym, ap, ◌∙◌, subst}
 use Rattle.std.proofs.lemmas.Option.{slice_get_within, get_or_from_slice_get}
 use Rattle.ff_values.specs.declared.head.StreamHead.{StreamHead}
 use Rattle.ff_frame.specs.declared.item.Lane.{Lane}
 use Rattle.ff_frame.specs.declared.item.Lane.TheVariants.{Packets}
 use Rattle.ff_words.specs.declared.job.OutputJob.{OutputJob}
-use Rattle.ff_net.specs.Pasts.{Task, start}
+use Rattle.ff_net.specs.Pasts.{start}
 use Rattle.ff_net.specs.Views.{View}
 use Rattle.ff_plan.specs.declared.planned.PlanNode.TheVariants as node
-use Rattle.ff_files.specs.Works.{AreTold}
 use Rattle.ff_running.specs.Kinds.{KindsOf, IsNew}
 use Rattle.ff_running.specs.Tasks.{first_head, demux_by, mux_by}
-use Rattle.ff_running.specs.Parts.{FitsDemux, FitsMux, IsAside, IsPart}
+use Rattle.ff_running.specs.Parts.{FitsDemux, FitsMux, IsPart}
 use Rattle.ff_running.proofs.Numbers.{same_some}
 
 pub if_both : {A : Type 0} (P Q R : A → Type 0) (o : Option A) → IfSome o P → IfSome o Q → ((x : A) → P x → Q x → R x) → IfSome o R

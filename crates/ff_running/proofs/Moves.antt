@@ -1,8 +1,7 @@
 -- What a run does to the ends of its parts: sources, or sinks.
-use Rattle.std.proofs.Common.{◌≡◌, ◌≢◌, ◌⊎◌, inl, inr, ℕ, ◌<◌, List, length, slice_get, slice_index_or, Option, Some, None, refl, sym, ap, ◌∙◌, subst, arith}
+use Rattle.std.proofs.Common.{◌≡◌, ◌≢◌, ◌⊎◌, inl, inr, ℕ, ◌<◌, List, length, slice_get, slice_index_or, Option, Some, None, sym, ap, ◌∙◌, subst, arith}
 use Rattle.std.proofs.lemmas.Option.{slice_get_within, get_or_from_slice_get}
 use Rattle.ff_host.specs.Causes.{Rose}
-use Rattle.ff_net.specs.declared.fault.Fault.{Fault}
 use Rattle.ff_net.specs.declared.fault.Fault.TheVariants.{Device}
 use Rattle.ff_net.specs.Laws.{FaultStep}
 use Rattle.ff_net.specs.Views.{View}
@@ -11,7 +10,7 @@ use Rattle.ff_plan.specs.declared.planned.PlanNode.{PlanNode}
 use Rattle.ff_files.specs.Works.{KeepEnds}
 use Rattle.ff_running.specs.Kinds.{IsSourceOf}
 use Rattle.ff_running.specs.Parts.{IsBefore}
-use Rattle.ff_running.proofs.Numbers.{there, same_some}
+use Rattle.ff_running.proofs.Numbers.{there}
 
 module _ {T M : Type 0} (named : T → Option (List ℕ)) (failed : T → ℕ) (view : M → View) (mk : ℕ → PlanNode) (nodes : List PlanNode) (all all' : List T) (olds news : List M) where
   -- of the nodes that have such an end: what a part has before the run, and what it gives back after it
@@ -70,10 +69,10 @@ module _ {T M : Type 0} (named : T → Option (List ℕ)) (failed : T → ℕ) (
     as_many = e.count;
     same_name = λ i d lt. elim (e.or i) [
       | inl b ↦
-        let m = there news b.0 b.1 in
-        let h = moved e b.0 i m.0 b.2 m.1 in
-        let at = at_both i m.0 h d in
-        ap named at.0 ∙ (h.name ∙ sym (ap named at.1))
+          let m = there news b.0 b.1 in
+          let h = moved e b.0 i m.0 b.2 m.1 in
+          let at = at_both i m.0 h d in
+          ap named at.0 ∙ (h.name ∙ sym (ap named at.1))
       | inr never ↦ ap named (untouched i d lt (e.other i never))
     ];
   }
@@ -83,10 +82,10 @@ module _ {T M : Type 0} (named : T → Option (List ℕ)) (failed : T → ℕ) (
       → (d : T) → failed (slice_index_or all' i d) ≡ failed (slice_index_or all i d)
   unfailed e i lt quiet d = elim (e.or i) [
     | inl b ↦
-      let m = there news b.0 b.1 in
-      let h = moved e b.0 i m.0 b.2 m.1 in
-      let at = at_both i m.0 h d in
-      ap failed at.0 ∙ (h.same (quiet b.0 m.0 b.2 m.1) ∙ sym (ap failed at.1))
+        let m = there news b.0 b.1 in
+        let h = moved e b.0 i m.0 b.2 m.1 in
+        let at = at_both i m.0 h d in
+        ap failed at.0 ∙ (h.same (quiet b.0 m.0 b.2 m.1) ∙ sym (ap failed at.1))
     | inr never ↦ ap failed (untouched i d lt (e.other i never))
   ]
 
@@ -94,7 +93,9 @@ module _ {T M : Type 0} (named : T → Option (List ℕ)) (failed : T → ℕ) (
   pub has_risen : AreEnds → (k i : ℕ) (m : M) → slice_get nodes k ≡ Some (mk i) → slice_get news k ≡ Some m → (view m).fault ≡ Some Device
       → (i < length all) × ((d : T) → Rose (failed (slice_index_or all i d)) (failed (slice_index_or all' i d)))
   has_risen e k i m at now sure =
-      let h = moved e k i m at now in
-      (e.in_range k i at, λ d.
-      let at = at_both i m h d in
-      subst (λ (x : T). Rose (failed x) (failed (slice_index_or all' i d))) (sym at.1) (subst (λ (x : T). Rose (failed h.was) (failed x)) (sym at.0) (h.rose sure)))
+      let h = moved e k i m at now in (
+        e.in_range k i at,
+        λ d.
+            let at = at_both i m h d in
+            subst (λ (x : T). Rose (failed x) (failed (slice_index_or all' i d))) (sym at.1) (subst (λ (x : T). Rose (failed h.was) (failed x)) (sym at.0) (h.rose sure)),
+      )

@@ -1,12 +1,9 @@
 -- The network of parts with the lanes of a plan's edges.
-use Rattle.std.proofs.Common.{◌≡◌, ◌≢◌, ℕ, zero, suc, ◌+◌, ◌<◌, ◌≤◌, inl, inr, List, [], ◌∷◌, ◌++◌, length, map, slice_get, slice_index_or, Option, Some, None, refl, sym, ap, ◌∙◌, subst, arith}
+use Rattle.std.proofs.Common.{◌≡◌, ℕ, zero, suc, ◌+◌, ◌<◌, ◌≤◌, inr, List, [], ◌∷◌, length, map, slice_get, slice_index_or, Option, Some, None, refl, sym, ap, ◌∙◌, subst, arith}
 use Rattle.std.proofs.lemmas.Option.{slice_get_within, get_or_from_slice_get}
 use Rattle.ff_frame.specs.declared.item.Lane.{Lane}
-use Rattle.ff_frame.specs.Stream.{LiesBelow, opened}
-use Rattle.ff_frame.specs.Ports.{stream_at}
 use Rattle.ff_edges.specs.declared.edge.Edge.{Edge}
 use Rattle.ff_edges.specs.Ports.{edge_to, edge_from, at_ports}
-use Rattle.ff_net.specs.declared.fault.Fault.{Fault}
 use Rattle.ff_net.specs.declared.fault.Fault.TheVariants.{NoMemory}
 use Rattle.ff_net.specs.Laws.{FaultStep, IsOfInputs}
 use Rattle.ff_net.specs.Nets.{Part, solve}
@@ -149,12 +146,12 @@ module _ {M : Type 0} (view : M → View) where
         → MeetsStreams view tasks (solve (network tasks (ports_by edges) edges count)) edges news fault
     meets_streams tasks news fault as_many tells h =
         let net : solve (network tasks (ports_of view parts) edges (length parts)) ≡ solve (network tasks (ports_by edges) edges count) =
-            ap solve (network_same tasks edges (ports_by edges) (ports_of view parts) (length parts) same_ports ∙ ap (λ (n : ℕ). network tasks (ports_by edges) edges n) long) in
+        ap solve (network_same tasks edges (ports_by edges) (ports_of view parts) (length parts) same_ports ∙ ap (λ (n : ℕ). network tasks (ports_by edges) edges n) long) in
         let below : (k : ℕ) (m : M) → slice_get news k ≡ Some m → k < length parts = λ k m at. (let w = slice_get_within news k m at in omega (arith, w, as_many)) in
         let ins : (k : ℕ) → k < length parts → ins_at (ports_of view parts) edges k ≡ edges_into edges k =
-            λ k lt. ap (λ (ls : List Lane). at_ports (edge_to edges k) (length ls)) (same_ports.ins k lt) in
+        λ k lt. ap (λ (ls : List Lane). at_ports (edge_to edges k) (length ls)) (same_ports.ins k lt) in
         let outs : (k : ℕ) → k < length parts → lanes_out_of edges k ≡ [] → outs_at (ports_of view parts) edges k ≡ [] =
-            λ k lt none. ap (λ (ls : List Lane). at_ports (edge_from edges k) (length ls)) (same_ports.outs k lt ∙ none) in record {
+        λ k lt none. ap (λ (ls : List Lane). at_ports (edge_from edges k) (length ls)) (same_ports.outs k lt ∙ none) in record {
           below = λ k m at.
               subst (λ (σ : ℕ → Flow). FedPart (view m) (tasks k) σ (edges_into edges k)) net
               (subst (λ (ws : List ℕ). FedPart (view m) (tasks k) (solve (network tasks (ports_of view parts) edges (length parts))) ws) (ins k (below k m at))

@@ -1,5 +1,5 @@
 -- What a run of a plan's parts comes to, for its sources and sinks.
-use Rattle.std.proofs.Common.{◌≡◌, ◌≢◌, ◌⊎◌, inl, inr, ℕ, zero, suc, ◌+◌, ◌-◌, ◌<◌, ◌≤◌, true, Bool, List, [], ◌∷◌, length, map, slice_get, slice_index_or, Option, Some, None, IsSome, refl, sym, ap, ◌∙◌, subst, arith}
+use Rattle.std.proofs.Common.{◌≡◌, ◌≢◌, ◌⊎◌, inl, inr, ℕ, zero, suc, ◌+◌, ◌<◌, ◌≤◌, true, Bool, List, [], ◌∷◌, length, map, slice_get, slice_index_or, Option, Some, None, IsSome, refl, sym, ap, ◌∙◌, subst, arith}
 use Rattle.std.proofs.lemmas.Option.{slice_get_within, get_or_from_slice_get}
 use Rattle.ff_host.specs.Causes.{Rose}
 use Rattle.ff_values.specs.declared.head.StreamHead.{StreamHead}
@@ -9,15 +9,13 @@ use Rattle.ff_frame.specs.Stream.{LiesBelow, opened}
 use Rattle.ff_frame.specs.Ports.{stream_at, IsWhole}
 use Rattle.ff_words.specs.declared.job.OutputJob.{OutputJob}
 use Rattle.ff_edges.specs.declared.edge.Edge.{Edge}
-use Rattle.ff_edges.specs.Ports.{edge_to, at_ports}
+use Rattle.ff_edges.specs.Ports.{edge_to}
 use Rattle.ff_net.specs.declared.fault.Fault.{Fault}
 use Rattle.ff_net.specs.declared.fault.Fault.TheVariants.{Device, Damaged, TooLong, TooLarge, NoMemory}
 use Rattle.ff_net.specs.Laws.{IsOfInputs}
-use Rattle.ff_net.specs.Pasts.{Task}
 use Rattle.ff_net.specs.Views.{View}
 use Rattle.ff_net.specs.Ways.{Flow}
 use Rattle.ff_network.specs.declared.run.NodeFault.{NodeFault}
-use Rattle.ff_network.specs.Runs.{FedPart, FedAll}
 use Rattle.ff_network.proofs.Fitting.{count_ports}
 use Rattle.ff_plan.specs.declared.planned.PlanNode.{PlanNode}
 use Rattle.ff_plan.specs.declared.planned.PlanNode.TheVariants as node
@@ -26,14 +24,14 @@ use Rattle.ff_files.specs.declared.work.WorkEnd.TheVariants as work_end
 use Rattle.ff_files.specs.Works.{AreTold, HoldFiles, HoldParts, HoldsPart, KeepEnds, FailNoMore}
 use Rattle.ff_running.specs.declared.fault.RunFault.{RunFault}
 use Rattle.ff_running.specs.declared.fault.RunFault.TheVariants as run_fault
-use Rattle.ff_running.specs.Kinds.{KindsOf, IsSourceOf, IsSinkOf}
+use Rattle.ff_running.specs.Kinds.{KindsOf}
 use Rattle.ff_edges.specs.Ports.{lanes_into, lanes_out_of}
 use Rattle.ff_running.specs.Tasks.{first_head, mux_by}
 use Rattle.ff_running.specs.Meaning.{edges_into, read_before, comes_after, task_by, task_at, solution, stream_into, mux_node, file_by, text_by, file_in, text_in, BreaksIn}
-use Rattle.ff_running.specs.Parts.{FitsMux, AreFitting, IsBefore, AreOrdered, AreParts, AreBack}
-use Rattle.ff_running.specs.Runs.{AreRun, TellsRun, device_end, damaged_end, large_end, end_at, end_in, end_with}
+use Rattle.ff_running.specs.Parts.{FitsMux, AreFitting, AreOrdered, AreBack}
+use Rattle.ff_running.specs.Runs.{AreRun, device_end, damaged_end, large_end, end_at, end_in, end_with}
 use Rattle.ff_running.proofs.Gathering.{mux_once}
-use Rattle.ff_running.proofs.Moves.{AreEnds, moved, keep_ends, unfailed, has_risen}
+use Rattle.ff_running.proofs.Moves.{AreEnds, keep_ends, unfailed, has_risen}
 use Rattle.ff_running.proofs.Numbers.{there, same_some, ordered, demux_before, mux_before}
 
 -- only a run without a fault is fine
@@ -129,9 +127,9 @@ module _ {H S K M : Type 0} (is : KindsOf H) (left named : S → Option (List �
   earlier k i g n at here behind = elim (ordered k g) [
     | inl lt ↦ lt
     | inr r ↦ absurd (
-      let le : g ≤ k = elim r [ inl e ↦ omega (arith, e) | inr over ↦ omega (arith, over) ] in
-      let found = order.first k g i n at here le in
-      behind found.0 found.1)
+        let le : g ≤ k = elim r [ inl e ↦ omega (arith, e) | inr over ↦ omega (arith, over) ] in
+        let found = order.first k g i n at here le in
+        behind found.0 found.1)
   ]
 
   rises : (k i : ℕ) (g j : ℕ) → slice_get nodes k ≡ Some (node.Demux i) → slice_get nodes g ≡ Some (node.Demux j) → i < j → k < g
@@ -139,9 +137,9 @@ module _ {H S K M : Type 0} (is : KindsOf H) (left named : S → Option (List �
     | inl below ↦ below
     | inr r ↦ elim r [
       | inl e ↦ absurd (
-        let same = same_some (slice_get nodes g) (node.Demux i) (node.Demux j) (subst (λ (x : ℕ). slice_get nodes x ≡ Some (node.Demux i)) e at) here in
-        let equal : i ≡ j = cc in
-        omega (arith, lt, equal))
+          let same = same_some (slice_get nodes g) (node.Demux i) (node.Demux j) (subst (λ (x : ℕ). slice_get nodes x ≡ Some (node.Demux i)) e at) here in
+          let equal : i ≡ j = cc in
+          omega (arith, lt, equal))
       | inr over ↦ absurd (let other = order.rising g k j i here at over in omega (arith, lt, other))
     ]
   ]
@@ -151,9 +149,9 @@ module _ {H S K M : Type 0} (is : KindsOf H) (left named : S → Option (List �
     | inl below ↦ below
     | inr r ↦ elim r [
       | inl e ↦ absurd (
-        let same = same_some (slice_get nodes g) (node.Mux o) (node.Mux p) (subst (λ (x : ℕ). slice_get nodes x ≡ Some (node.Mux o)) e at) here in
-        let equal : o ≡ p = cc in
-        omega (arith, lt, equal))
+          let same = same_some (slice_get nodes g) (node.Mux o) (node.Mux p) (subst (λ (x : ℕ). slice_get nodes x ≡ Some (node.Mux o)) e at) here in
+          let equal : o ≡ p = cc in
+          omega (arith, lt, equal))
       | inr over ↦ absurd (let other = order.muxes_rise g k p o here at over in omega (arith, lt, other))
     ]
   ]
@@ -232,9 +230,11 @@ module _ {H S K M : Type 0} (is : KindsOf H) (left named : S → Option (List �
     device_says (node.Shortest o) at c = all_sources f reported (node.Shortest o) 1 at (λ i e. cc)
     device_says (node.Enc o j) at c = all_sources f reported (node.Enc o j) 1 at (λ i e. cc)
     device_says (node.Mux o) at c =
-        let own = run.tells.own f reported (λ never. let both : Device ≡ NoMemory = sym c ∙ never in cc) in
-        (has_risen called faulted view node.Mux nodes snks snks' olds news sink_ends f.node o own.0 at own.1 (own.2 ∙ ap (λ (x : Fault). Some x) c), all_sources f reported (node.Mux o) (length srcs) at (λ i e. cc),
-        sinks_below o (λ k p m below here now. quiet f reported k m (inl (mux_rises k p f.node o here at below)) now))
+        let own = run.tells.own f reported (λ never. let both : Device ≡ NoMemory = sym c ∙ never in cc) in (
+          has_risen called faulted view node.Mux nodes snks snks' olds news sink_ends f.node o own.0 at own.1 (own.2 ∙ ap (λ (x : Fault). Some x) c),
+          all_sources f reported (node.Mux o) (length srcs) at (λ i e. cc),
+          sinks_below o (λ k p m below here now. quiet f reported k m (inl (mux_rises k p f.node o here at below)) now),
+        )
 
     damaged_says : (offset : ℕ) (n : PlanNode) → slice_get nodes f.node ≡ Some n → f.fault ≡ Damaged offset → Says (damaged_end offset n)
     damaged_says offset (node.Demux i) at c =
@@ -276,10 +276,10 @@ module _ {H S K M : Type 0} (is : KindsOf H) (left named : S → Option (List �
         quiet f reported k m (inl (elim (ordered k f.node) [
           | inl lt ↦ lt
           | inr r ↦ absurd (
-            let le : f.node ≤ k = elim r [ inl e ↦ omega (arith, e) | inr over ↦ omega (arith, over) ] in
-            let w = slice_get_within nodes k (node.Demux i) at in
-            let x = there nodes f.node (omega (arith, w, le)) in
-            let both : None ≡ Some x.0 = sym none ∙ x.1 in cc)
+              let le : f.node ≤ k = elim r [ inl e ↦ omega (arith, e) | inr over ↦ omega (arith, over) ] in
+              let w = slice_get_within nodes k (node.Demux i) at in
+              let x = there nodes f.node (omega (arith, w, le)) in
+              let both : None ≡ Some x.0 = sym none ∙ x.1 in cc)
         ])) now)
 
     some_says : (o : Option PlanNode) → slice_get nodes f.node ≡ o → Says (end_in inputs f.node f.fault o)
@@ -336,10 +336,10 @@ module _ {H S K M : Type 0} (is : KindsOf H) (left named : S → Option (List �
         let at = muxes o (lt_snks o lt) in
         let fits = fitting k (node.Mux o) at in
         let m = there news k (
-            let w = slice_get_within nodes k (node.Mux o) at in
-            let all = run.all none in
-            let many = run.kept.count in
-            omega (arith, w, all, many)) in
+        let w = slice_get_within nodes k (node.Mux o) at in
+        let all = run.all none in
+        let many = run.kept.count in
+        omega (arith, w, all, many)) in
         let sink = back.sinks k o m.0 at m.1 in
         let fed = (run.meets vouched bytes told).settled none k m.0 m.1 fits.outs_are in
         let zero_lt = one_edge k (Packets fits.coded) fits.ins_are in
@@ -355,23 +355,23 @@ module _ {H S K M : Type 0} (is : KindsOf H) (left named : S → Option (List �
         → HoldParts holds (text_in is outputs heads bytes nodes edges) (file_in is outputs heads bytes nodes edges) snks'
     holds_part holds_on o d lt = elim (mux_before nodes (length news) o) [
       | inl b ↦
-        let k = mux_node is outputs heads bytes nodes edges o in
-        let at = muxes o (lt_snks o lt) in
-        let fits = fitting k (node.Mux o) at in
-        let here : b.0 ≡ k = mux_once (length srcs) (length snks) nodes order b.0 k o b.2 at in
-        let m = there news k (subst (λ (j : ℕ). j < length news) here b.1) in
-        let sink = back.sinks k o m.0 at m.1 in
-        let fed = (run.meets vouched bytes told).below k m.0 m.1 in
-        let lies = fed.got 0 (one_edge k (Packets fits.coded) fits.ins_are) in
-        let part = sink.2.part fed.past fits.out fits.coded fed.fits (fed.task_is ∙ mux_is k o at fits) in
-        let more = holds_on fits.out fits.coded (holds sink.0) (stream_at fed.past.got 0) (stream_into is outputs heads bytes nodes edges k) lies part in
-        let snk : slice_index_or snks' o d ≡ sink.0 = get_or_from_slice_get snks' o sink.0 d sink.1 in
-        subst (λ (x : K). HoldsPart (holds x) (text_in is outputs heads bytes nodes edges o) (file_in is outputs heads bytes nodes edges o)) (sym snk)
-        (subst (λ (t : List ℕ). HoldsPart (holds sink.0) t (file_in is outputs heads bytes nodes edges o)) (sym (text_is o fits))
-        (subst (λ (x : Option (List ℕ)). HoldsPart (holds sink.0) (is.text fits.out fits.coded (stream_into is outputs heads bytes nodes edges k)) x) (sym (file_is o fits)) more))
+          let k = mux_node is outputs heads bytes nodes edges o in
+          let at = muxes o (lt_snks o lt) in
+          let fits = fitting k (node.Mux o) at in
+          let here : b.0 ≡ k = mux_once (length srcs) (length snks) nodes order b.0 k o b.2 at in
+          let m = there news k (subst (λ (j : ℕ). j < length news) here b.1) in
+          let sink = back.sinks k o m.0 at m.1 in
+          let fed = (run.meets vouched bytes told).below k m.0 m.1 in
+          let lies = fed.got 0 (one_edge k (Packets fits.coded) fits.ins_are) in
+          let part = sink.2.part fed.past fits.out fits.coded fed.fits (fed.task_is ∙ mux_is k o at fits) in
+          let more = holds_on fits.out fits.coded (holds sink.0) (stream_at fed.past.got 0) (stream_into is outputs heads bytes nodes edges k) lies part in
+          let snk : slice_index_or snks' o d ≡ sink.0 = get_or_from_slice_get snks' o sink.0 d sink.1 in
+          subst (λ (x : K). HoldsPart (holds x) (text_in is outputs heads bytes nodes edges o) (file_in is outputs heads bytes nodes edges o)) (sym snk)
+          (subst (λ (t : List ℕ). HoldsPart (holds sink.0) t (file_in is outputs heads bytes nodes edges o)) (sym (text_is o fits))
+          (subst (λ (x : Option (List ℕ)). HoldsPart (holds sink.0) (is.text fits.out fits.coded (stream_into is outputs heads bytes nodes edges k)) x) (sym (file_is o fits)) more))
       | inr never ↦
-        let x = there snks o (lt_snks o lt) in
-        let now : slice_index_or snks' o d ≡ x.0 = get_or_from_slice_get snks' o x.0 d (back.other_snks o never ∙ x.1) in
-        let empty : holds (slice_index_or snks' o d) ≡ Some [] = ap holds (now ∙ sym (get_or_from_slice_get snks o x.0 d x.1)) ∙ told.empty o d (lt_snks o lt) in
-        inl ([], text_in is outputs heads bytes nodes edges o, empty, refl)
+          let x = there snks o (lt_snks o lt) in
+          let now : slice_index_or snks' o d ≡ x.0 = get_or_from_slice_get snks' o x.0 d (back.other_snks o never ∙ x.1) in
+          let empty : holds (slice_index_or snks' o d) ≡ Some [] = ap holds (now ∙ sym (get_or_from_slice_get snks o x.0 d x.1)) ∙ told.empty o d (lt_snks o lt) in
+          inl ([], text_in is outputs heads bytes nodes edges o, empty, refl)
     ]

@@ -1,5 +1,5 @@
 -- Lists of places, none of which is empty.
-use Rattle.std.proofs.Common.{◌≡◌, List, [], ◌∷◌, ◌++◌, map, Option, Some, None, ap, refl, length, arith}
+use Rattle.std.proofs.Common.{◌≡◌, List, [], ◌∷◌, ◌++◌, map, Option, Some, None, refl, length, arith}
 
 -- an empty place isn't among them
 pub no_empty : {A : Type 0} (front all : List A) (rest : List (Option A)) → map Some front ++ None ∷ rest ≡ map Some all → ⊥

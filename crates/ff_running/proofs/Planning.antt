@@ -1,11 +1,10 @@
 -- What a plan's nodes and edges are to the kinds of part.
-use Rattle.std.proofs.Common.{◌≡◌, ◌≢◌, ◌⊎◌, inl, inr, ℕ, zero, suc, ◌+◌, ◌-◌, ◌<◌, ◌≤◌, true, List, [], ◌∷◌, length, map, replicate, slice_get, slice_index_or, unwrap_or, Option, Some, None, refl, sym, ap, ◌∙◌, subst, arith}
+use Rattle.std.proofs.Common.{◌≡◌, ◌≢◌, ◌⊎◌, inl, inr, ℕ, zero, suc, ◌+◌, ◌-◌, ◌<◌, ◌≤◌, true, List, [], ◌∷◌, length, map, replicate, slice_get, slice_index_or, unwrap_or, Some, refl, sym, ap, ◌∙◌, subst, arith}
 use Rattle.std.specs.List.{All}
 use Rattle.std.proofs.lemmas.Option.{slice_get_within, get_or_from_slice_get, slice_get-get_or}
 use Rattle.std.proofs.lemmas.Bool.{cases_lt}
 use Rattle.std.proofs.lemmas.List.{length-replicate}
 use Rattle.ff_values.specs.declared.head.StreamHead.{StreamHead}
-use Rattle.ff_frame.specs.declared.item.Lane.{Lane}
 use Rattle.ff_frame.specs.declared.item.Lane.TheVariants.{Frames, Packets}
 use Rattle.ff_map.specs.declared.streams.StreamRef.{StreamRef}
 use Rattle.ff_words.specs.declared.job.FileFormat.TheVariants.{Flac}
@@ -19,7 +18,6 @@ use Rattle.ff_plan.specs.Fitting as fitting
 use Rattle.ff_plan.specs.Streams.{packed_as, takes_head}
 use Rattle.ff_running.specs.Kinds.{KindsOf}
 use Rattle.ff_running.specs.Parts.{IsFitting, AreOrdered}
-use Rattle.ff_running.proofs.Numbers.{there, same_some}
 
 -- ---- the order of the nodes
 
@@ -41,10 +39,10 @@ module _ (inputs outputs : ℕ) (nodes : List PlanNode) (kinds : fitting.HasKind
         | inr behind ↦ inr (elim (cases_lt (k + outputs) (length nodes)) [
           | inl coder ↦ inl (behind, subst (λ (x : PlanNode). fitting.IsCoder x) is (kinds.coders k n behind coder))
           | inr last ↦
-            let o = k - (length nodes - outputs) in
-            let o_lt : o < outputs = omega (arith, lt, last, room) in
-            let k_is : k ≡ (length nodes - outputs) + o = omega (arith, lt, last, room) in
-            inr (behind, (o, o_lt, k_is, sym is ∙ (ap (λ (j : ℕ). slice_index_or nodes j n) k_is ∙ kinds.muxes o n o_lt)))
+              let o = k - (length nodes - outputs) in
+              let o_lt : o < outputs = omega (arith, lt, last, room) in
+              let k_is : k ≡ (length nodes - outputs) + o = omega (arith, lt, last, room) in
+              inr (behind, (o, o_lt, k_is, sym is ∙ (ap (λ (j : ℕ). slice_index_or nodes j n) k_is ∙ kinds.muxes o n o_lt)))
         ])
       ]
 
@@ -60,9 +58,9 @@ module _ (inputs outputs : ℕ) (nodes : List PlanNode) (kinds : fitting.HasKind
     | inr r ↦ elim r [
       | inl h ↦ absurd h.1
       | inr h ↦
-        let same : node.Mux o ≡ node.Mux h.1.0 = h.1.3 in
-        let equal : h.1.0 ≡ o = cc in
-        (subst (λ (p : ℕ). p < outputs) equal h.1.1, subst (λ (p : ℕ). k ≡ (length nodes - outputs) + p) equal h.1.2)
+          let same : node.Mux o ≡ node.Mux h.1.0 = h.1.3 in
+          let equal : h.1.0 ≡ o = cc in
+          (subst (λ (p : ℕ). p < outputs) equal h.1.1, subst (λ (p : ℕ). k ≡ (length nodes - outputs) + p) equal h.1.2)
     ]
   ]
 

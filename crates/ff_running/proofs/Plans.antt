@@ -1,6 +1,6 @@
 -- The plan that is made for heads which are accepted.
-use Rattle.std.proofs.Common.{◌≡◌, ◌≢◌, ◌⊎◌, inl, inr, ℕ, ◌<◌, ◌≤◌, ◌^◌, true, List, [], ◌∷◌, length, map, Option, Some, None, Result, Ok, Err, refl, sym, ap, ◌∙◌, subst, arith}
-use Rattle.std.specs.List.{All, AllByRecursion}
+use Rattle.std.proofs.Common.{◌≡◌, ◌≢◌, inl, inr, ℕ, ◌≤◌, true, List, [], ◌∷◌, length, map, Some, None, Ok, refl, sym, ap, ◌∙◌, subst, arith}
+use Rattle.std.specs.List.{AllByRecursion}
 use Rattle.std.proofs.lemmas.List.{length-map}
 use Rattle.ff_values.specs.declared.head.StreamHead.{StreamHead}
 use Rattle.ff_words.specs.declared.job.FileFormat.TheVariants.{Flac}
@@ -13,7 +13,6 @@ use Rattle.ff_plan.specs.declared.planned.PlanError.{PlanError}
 use Rattle.ff_plan.specs.declared.planned.PlanError.TheVariants.{NoMemory}
 use Rattle.ff_plan.specs.Fitting.{HasKinds, HasSingles, FitNodes}
 use Rattle.ff_plan.specs.Plain.{IsRefused, IsWithinLimits}
-use Rattle.ff_plan.specs.Rules.{Planned}
 use Rattle.ff_plan.specs.Streams.{packed_as, takes_head}
 use Rattle.ff_plan.specs.Today.{planned_today}
 use Rattle.ff_running.specs.Kinds.{KindsOf}

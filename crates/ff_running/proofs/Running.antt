@@ -1,5 +1,5 @@
 -- The run of parts that were built.
-use Rattle.std.proofs.Common.{◌≡◌, ℕ, ◌<◌, true, Bool, List, length, slice_get, slice_index_or, Option, Some, None, refl, sym, ap, ◌∙◌, subst, arith}
+use Rattle.std.proofs.Common.{◌≡◌, ℕ, ◌<◌, true, Bool, List, length, slice_get, Option, Some, None, sym, ap, ◌∙◌, subst, arith}
 use Rattle.std.proofs.lemmas.Option.{slice_get_within, get_or_from_slice_get}
 use Rattle.ff_words.specs.declared.job.OutputJob.{OutputJob}
 use Rattle.ff_edges.specs.declared.edge.Edge.{Edge}
@@ -14,7 +14,7 @@ use Rattle.ff_plan.specs.declared.planned.PlanNode.{PlanNode}
 use Rattle.ff_files.specs.Works.{AreTold}
 use Rattle.ff_running.specs.Kinds.{KindsOf}
 use Rattle.ff_running.specs.Meaning.{task_by, task_at}
-use Rattle.ff_running.specs.Parts.{FitsDemux, FitsMux, IsFitting, AreFitting, IsPart, HasEnds, AreParts}
+use Rattle.ff_running.specs.Parts.{FitsDemux, FitsMux, IsFitting, AreFitting, HasEnds, AreParts}
 use Rattle.ff_running.specs.Runs.{TellsRun, AreRun}
 use Rattle.ff_running.proofs.Networks.{unstarted, kept_same, unstarted_tells, unstarted_streams, parts_fit, meets_streams}
 use Rattle.ff_running.proofs.Numbers.{there}
@@ -78,13 +78,13 @@ module _ {H S K M : Type 0} (is : KindsOf H) (left named : S → Option (List �
       let old = there olds k lt in
       let part = parts.each k n old.0 at old.1 in
       let ins : (view m).in_lanes ≡ lanes_into edges k =
-          ap (λ (x : M). (view x).in_lanes) (sym (get_or_from_slice_get news k m m now)) ∙ (kept.in_lanes k old.0 m lt ∙ (ap (λ (x : M). (view x).in_lanes) (get_or_from_slice_get olds k old.0 old.0 old.1) ∙ part.in_lanes)) in
+      ap (λ (x : M). (view x).in_lanes) (sym (get_or_from_slice_get news k m m now)) ∙ (kept.in_lanes k old.0 m lt ∙ (ap (λ (x : M). (view x).in_lanes) (get_or_from_slice_get olds k old.0 old.0 old.1) ∙ part.in_lanes)) in
       let outs : (view m).out_lanes ≡ lanes_out_of edges k =
-          ap (λ (x : M). (view x).out_lanes) (sym (get_or_from_slice_get news k m m now)) ∙ (kept.out_lanes k old.0 m lt ∙ (ap (λ (x : M). (view x).out_lanes) (get_or_from_slice_get olds k old.0 old.0 old.1) ∙ part.out_lanes)) in record {
-          source = λ i e.
-              let fits : FitsDemux is heads (lanes_into edges k) (lanes_out_of edges k) i = subst (λ (x : PlanNode). IsFitting is outputs heads (lanes_into edges k) (lanes_out_of edges k) x) e (fitting k n at) in
-              ins ∙ fits.ins_are;
-          sink = λ o e.
-              let fits : FitsMux is outputs (lanes_into edges k) (lanes_out_of edges k) o = subst (λ (x : PlanNode). IsFitting is outputs heads (lanes_into edges k) (lanes_out_of edges k) x) e (fitting k n at) in
-              outs ∙ fits.outs_are;
-        }
+      ap (λ (x : M). (view x).out_lanes) (sym (get_or_from_slice_get news k m m now)) ∙ (kept.out_lanes k old.0 m lt ∙ (ap (λ (x : M). (view x).out_lanes) (get_or_from_slice_get olds k old.0 old.0 old.1) ∙ part.out_lanes)) in record {
+        source = λ i e.
+            let fits : FitsDemux is heads (lanes_into edges k) (lanes_out_of edges k) i = subst (λ (x : PlanNode). IsFitting is outputs heads (lanes_into edges k) (lanes_out_of edges k) x) e (fitting k n at) in
+            ins ∙ fits.ins_are;
+        sink = λ o e.
+            let fits : FitsMux is outputs (lanes_into edges k) (lanes_out_of edges k) o = subst (λ (x : PlanNode). IsFitting is outputs heads (lanes_into edges k) (lanes_out_of edges k) x) e (fitting k n at) in
+            outs ∙ fits.outs_are;
+      }

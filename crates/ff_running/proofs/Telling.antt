@@ -51,12 +51,14 @@ module _ {S K : Type 0} (left : S → Option (List ℕ)) (holds : K → Option (
   pub told_of : tell_all left holds srcs snks ≡ true → (bytes : List (List ℕ)) × AreTold left holds srcs snks bytes
   told_of e =
       let ins = both_left (all_tell (λ s. tells_left (left s)) srcs) (all_tell (λ k. tells_empty (holds k)) snks) e in
-      let outs = both_right (all_tell (λ s. tells_left (left s)) srcs) (all_tell (λ k. tells_empty (holds k)) snks) e in
-      (map (λ s. bytes_in (left s)) srcs, record {
-        as_many = length_mapped (λ s. bytes_in (left s)) srcs;
-        left_is = λ i d lt. left_in (left (slice_index_or srcs i d)) (each_tells (λ s. tells_left (left s)) srcs ins i d lt) ∙ ap (λ (b : List ℕ). Some b) (sym (at_mapped (λ s. bytes_in (left s)) srcs i d [] lt));
-        empty = λ j d lt. empty_in (holds (slice_index_or snks j d)) (each_tells (λ k. tells_empty (holds k)) snks outs j d lt);
-      })
+      let outs = both_right (all_tell (λ s. tells_left (left s)) srcs) (all_tell (λ k. tells_empty (holds k)) snks) e in (
+        map (λ s. bytes_in (left s)) srcs,
+        record {
+          as_many = length_mapped (λ s. bytes_in (left s)) srcs;
+          left_is = λ i d lt. left_in (left (slice_index_or srcs i d)) (each_tells (λ s. tells_left (left s)) srcs ins i d lt) ∙ ap (λ (b : List ℕ). Some b) (sym (at_mapped (λ s. bytes_in (left s)) srcs i d [] lt));
+          empty = λ j d lt. empty_in (holds (slice_index_or snks j d)) (each_tells (λ k. tells_empty (holds k)) snks outs j d lt);
+        },
+      )
 
   pub tells_told : (bytes : List (List ℕ)) → AreTold left holds srcs snks bytes → tell_all left holds srcs snks ≡ true
   tells_told bytes t =

@@ -1,11 +1,10 @@
 -- The kinds of node of a plan: what each is there for, and what of a part is seen from outside.
-use Rattle.std.specs.Prelude.{◌≡◌, ℕ, List, [], ◌∷◌, Option, None, Some, IsSome}
+use Rattle.std.specs.Prelude.{◌≡◌, ℕ, List, [], Option, None, IsSome}
 use Rattle.ff_values.specs.declared.head.StreamHead.{StreamHead}
 use Rattle.ff_frame.specs.declared.item.Lane.{Lane}
-use Rattle.ff_frame.specs.declared.item.Lane.TheVariants.{Frames, Packets}
 use Rattle.ff_frame.specs.Ports.{stream_at, IsWhole}
 use Rattle.ff_words.specs.declared.job.OutputJob.{OutputJob}
-use Rattle.ff_net.specs.Pasts.{Past, Task, start}
+use Rattle.ff_net.specs.Pasts.{Past, Task}
 use Rattle.ff_net.specs.Views.{View}
 use Rattle.ff_net.specs.Ways.{Flow}
 use Rattle.ff_files.specs.Works.{HoldsPart}

@@ -19,7 +19,7 @@ use Rattle.ff_running.specs.declared.fault.RunFault.{RunFault}
 use Rattle.ff_running.specs.declared.fault.RunFault.TheVariants as run_fault
 use Rattle.ff_running.specs.Kinds.{KindsOf}
 use Rattle.ff_edges.specs.Ports.{lanes_out_of}
-use Rattle.ff_running.specs.Meaning.{edges_into, read_before, task_at, solution, cause_at}
+use Rattle.ff_running.specs.Meaning.{edges_into, read_before, task_at, solution}
 use Rattle.ff_running.specs.Parts.{AreParts, AreBack}
 
 -- ---- the end by the fault that is reported

@@ -16,6 +16,7 @@ use crate::tables::{put, take};
 use ff_edges::Edge;
 use ff_frame::{Lane, StreamHead};
 use ff_host::{Sink, Source};
+use ff_net::Machine;
 use ff_plan::PlanNode;
 use ff_words::OutputJob;
 use std::alloc::Global;
@@ -28,18 +29,18 @@ pub(crate) struct Places<Src: Drop, Snk: Drop> {
 }
 
 // The demuxer of an input, over the source in its place.
-fn demuxer_at<K: Kinds<Src, Snk>, Src: Source + Send + Drop, Snk: Sink + Send + Drop>(
-    alloc: Global,
-    input: u32,
-    heads: &[K::Head],
-    srcs: &mut Vec<Option<Src>>,
-) -> Option<K::Part>
+fn demuxer_at<
+    K: Kinds<Src, Snk, M>,
+    Src: Source + Send + Drop,
+    Snk: Sink + Send + Drop,
+    M: Machine + Send + Drop,
+>(alloc: Global, input: u32, heads: &[K::Head], srcs: &mut Vec<Option<Src>>) -> Option<M>
     requires there { (src : Src) × (slice_get srcs.old.items input ≡ Some (Some src)) }
     requires fits { (ins outs : List Lane) × FitsDemux K.is heads.now ins outs input }
     ensures made { IfSome result (λ m. (src : Src) → slice_get srcs.old.items input ≡ Some (Some src) → (ins outs : List Lane) → FitsDemux K.is heads.now ins outs input
-        → IsNew ins outs (Src.name src) (Src.faults src) (K.Part.view m)) }
+        → IsNew ins outs (Src.name src) (Src.faults src) (M.view m)) }
     ensures starts { IfSome result (λ m. (src : Src) → slice_get srcs.old.items input ≡ Some (Some src) → (head : K.Head) → slice_get heads.now input ≡ Some head
-        → (bytes : List ℕ) → Src.left src ≡ Some bytes → (K.Part.view m).stands (start (K.is.demux_task head bytes))) }
+        → (bytes : List ℕ) → Src.left src ≡ Some bytes → (M.view m).stands (start (K.is.demux_task head bytes))) }
     ensures back { IsNone result → (w : ℕ) → slice_get srcs.new.items w ≡ slice_get srcs.old.items w }
     ensures kept { (w : ℕ) → (w ≡ input → ⊥) → slice_get srcs.new.items w ≡ slice_get srcs.old.items w }
     ensures as_many { length srcs.new.items ≡ length srcs.old.items }
@@ -56,19 +57,24 @@ fn demuxer_at<K: Kinds<Src, Snk>, Src: Source + Send + Drop, Snk: Sink + Send + 
 }
 
 // The muxer of an output, over the sink in its place.
-fn muxer_at<K: Kinds<Src, Snk>, Src: Source + Send + Drop, Snk: Sink + Send + Drop>(
+fn muxer_at<
+    K: Kinds<Src, Snk, M>,
+    Src: Source + Send + Drop,
+    Snk: Sink + Send + Drop,
+    M: Machine + Send + Drop,
+>(
     alloc: Global,
     output: u32,
     outputs: &[OutputJob],
     coded: &StreamHead,
     snks: &mut Vec<Option<Snk>>,
-) -> Option<K::Part>
+) -> Option<M>
     requires there { (snk : Snk) × (slice_get snks.old.items output ≡ Some (Some snk)) }
     requires fits { (out : OutputJob) × (slice_get outputs.now output ≡ Some out) × K.is.CanMux out coded.now }
     ensures made { IfSome result (λ m. (snk : Snk) → slice_get snks.old.items output ≡ Some (Some snk)
-        → IsNew (Packets coded.now ∷ []) [] (Snk.name snk) (Snk.faults snk) (K.Part.view m)) }
+        → IsNew (Packets coded.now ∷ []) [] (Snk.name snk) (Snk.faults snk) (M.view m)) }
     ensures starts { IfSome result (λ m. (snk : Snk) → slice_get snks.old.items output ≡ Some (Some snk) → (out : OutputJob) → slice_get outputs.now output ≡ Some out
-        → Snk.holds snk ≡ Some [] → (K.Part.view m).stands (start (K.is.mux_task out coded.now))) }
+        → Snk.holds snk ≡ Some [] → (M.view m).stands (start (K.is.mux_task out coded.now))) }
     ensures back { IsNone result → (w : ℕ) → slice_get snks.new.items w ≡ slice_get snks.old.items w }
     ensures kept { (w : ℕ) → (w ≡ output → ⊥) → slice_get snks.new.items w ≡ slice_get snks.old.items w }
     ensures as_many { length snks.new.items ≡ length snks.old.items }
@@ -85,7 +91,12 @@ fn muxer_at<K: Kinds<Src, Snk>, Src: Source + Send + Drop, Snk: Sink + Send + Dr
 }
 
 // The part of a node with these lanes at its inputs and outputs. None where memory is refused; then all is in its place.
-fn part_at<K: Kinds<Src, Snk>, Src: Source + Send + Drop, Snk: Sink + Send + Drop>(
+fn part_at<
+    K: Kinds<Src, Snk, M>,
+    Src: Source + Send + Drop,
+    Snk: Sink + Send + Drop,
+    M: Machine + Send + Drop,
+>(
     alloc: Global,
     node: PlanNode,
     ins: &[Lane],
@@ -93,13 +104,13 @@ fn part_at<K: Kinds<Src, Snk>, Src: Source + Send + Drop, Snk: Sink + Send + Dro
     heads: &[K::Head],
     outputs: &[OutputJob],
     places: &mut Places<Src, Snk>,
-) -> Option<K::Part>
+) -> Option<M>
     requires fits { IsFitting K.is outputs.now heads.now ins.now outs.now node }
     requires source { (i : ℕ) → node ≡ DemuxNode i → (s : Src) × (slice_get places.old.srcs.items i ≡ Some (Some s)) }
     requires sink { (o : ℕ) → node ≡ MuxNode o → (s : Snk) × (slice_get places.old.snks.items o ≡ Some (Some s)) }
     ensures made { IfSome result (λ m. (srcs : List Src) (snks : List Snk) → ((i : ℕ) → node ≡ DemuxNode i → IsAside srcs places.old.srcs.items i)
         → ((o : ℕ) → node ≡ MuxNode o → IsAside snks places.old.snks.items o)
-        → IsPart K.is Src.left Src.name Src.faults Snk.holds Snk.name Snk.faults outputs.now heads.now srcs snks ins.now outs.now node (K.Part.view m)) }
+        → IsPart K.is Src.left Src.name Src.faults Snk.holds Snk.name Snk.faults outputs.now heads.now srcs snks ins.now outs.now node (M.view m)) }
     ensures srcs_back { IsNone result → (w : ℕ) → slice_get places.new.srcs.items w ≡ slice_get places.old.srcs.items w }
     ensures snks_back { IsNone result → (w : ℕ) → slice_get places.new.snks.items w ≡ slice_get places.old.snks.items w }
     ensures srcs_kept { (w : ℕ) → (node ≡ DemuxNode w → ⊥) → slice_get places.new.srcs.items w ≡ slice_get places.old.srcs.items w }
@@ -109,20 +120,25 @@ fn part_at<K: Kinds<Src, Snk>, Src: Source + Send + Drop, Snk: Sink + Send + Dro
 {
     match node {
         PlanNode::Demux { input } => {
-            demuxer_at::<K, Src, Snk>(alloc, input, heads, &mut places.srcs)
+            demuxer_at::<K, Src, Snk, M>(alloc, input, heads, &mut places.srcs)
         }
         PlanNode::Dec { .. } => K::decoder(alloc, &head_of(&ins[0]), outs.len()).ok(),
         PlanNode::Enc { .. } => K::encoder(alloc, &head_of(&ins[0]), &head_of(&outs[0])).ok(),
         PlanNode::Mux { output } => {
             let coded = head_of(&ins[0]);
-            muxer_at::<K, Src, Snk>(alloc, output, outputs, &coded, &mut places.snks)
+            muxer_at::<K, Src, Snk, M>(alloc, output, outputs, &coded, &mut places.snks)
         }
         PlanNode::Graph { .. } | PlanNode::Shortest { .. } => unreachable!(),
     }
 }
 
 // The part of the node of this number, by its edges.
-fn part_of<K: Kinds<Src, Snk>, Src: Source + Send + Drop, Snk: Sink + Send + Drop>(
+fn part_of<
+    K: Kinds<Src, Snk, M>,
+    Src: Source + Send + Drop,
+    Snk: Sink + Send + Drop,
+    M: Machine + Send + Drop,
+>(
     alloc: Global,
     number: usize,
     nodes: &[PlanNode],
@@ -130,7 +146,7 @@ fn part_of<K: Kinds<Src, Snk>, Src: Source + Send + Drop, Snk: Sink + Send + Dro
     heads: &[K::Head],
     outputs: &[OutputJob],
     places: &mut Places<Src, Snk>,
-) -> Option<K::Part>
+) -> Option<M>
     requires there { number < length nodes.now }
     requires fitting { AreFitting K.is outputs.now heads.now edges.now nodes.now }
     requires source { (i : ℕ) → slice_get nodes.now number ≡ Some (DemuxNode i) → (s : Src) × (slice_get places.old.srcs.items i ≡ Some (Some s)) }
@@ -138,7 +154,7 @@ fn part_of<K: Kinds<Src, Snk>, Src: Source + Send + Drop, Snk: Sink + Send + Dro
     ensures made { IfSome result (λ m. (n : PlanNode) → slice_get nodes.now number ≡ Some n → (srcs : List Src) (snks : List Snk)
         → ((i : ℕ) → n ≡ DemuxNode i → IsAside srcs places.old.srcs.items i) → ((o : ℕ) → n ≡ MuxNode o → IsAside snks places.old.snks.items o)
         → IsPart K.is Src.left Src.name Src.faults Snk.holds Snk.name Snk.faults outputs.now heads.now srcs snks
-            (lanes_into_of edges.now number) (lanes_out_of_node edges.now number) n (K.Part.view m)) }
+        (lanes_into_of edges.now number) (lanes_out_of_node edges.now number) n (M.view m)) }
     ensures srcs_back { IsNone result → (w : ℕ) → slice_get places.new.srcs.items w ≡ slice_get places.old.srcs.items w }
     ensures snks_back { IsNone result → (w : ℕ) → slice_get places.new.snks.items w ≡ slice_get places.old.snks.items w }
     ensures srcs_kept { (w : ℕ) → (slice_get nodes.now number ≡ Some (DemuxNode w) → ⊥) → slice_get places.new.srcs.items w ≡ slice_get places.old.srcs.items w }
@@ -152,33 +168,38 @@ fn part_of<K: Kinds<Src, Snk>, Src: Source + Send + Drop, Snk: Sink + Send + Dro
     let Ok(outs) = lanes_out_of(alloc, edges, number) else {
         return None;
     };
-    part_at::<K, Src, Snk>(alloc, nodes[number], &ins, &outs, heads, outputs, places)
+    part_at::<K, Src, Snk, M>(alloc, nodes[number], &ins, &outs, heads, outputs, places)
 }
 
 /// The parts of all nodes, or where memory is refused those of the nodes in front.
-pub(crate) fn build<K: Kinds<Src, Snk>, Src: Source + Send + Drop, Snk: Sink + Send + Drop>(
+pub(crate) fn build<
+    K: Kinds<Src, Snk, M>,
+    Src: Source + Send + Drop,
+    Snk: Sink + Send + Drop,
+    M: Machine + Send + Drop,
+>(
     alloc: Global,
     nodes: &[PlanNode],
     edges: &[Edge],
     heads: &[K::Head],
     outputs: &[OutputJob],
-    mut parts: Vec<K::Part>,
+    mut parts: Vec<M>,
     places: &mut Places<Src, Snk>,
-) -> Result<Vec<K::Part>, Vec<K::Part>>
+) -> Result<Vec<M>, Vec<M>>
     requires room { (parts.items ≡ []) × (length nodes.now ≤ vec_capacity parts) }
     requires fitting { AreFitting K.is outputs.now heads.now edges.now nodes.now }
     requires ordered { AreOrdered (length places.old.srcs.items) (length places.old.snks.items) nodes.now }
     requires aside { (srcs : List Src) × (snks : List Snk) × AllAside srcs places.old.srcs.items × AllAside snks places.old.snks.items }
     ensures all { IfOk result (λ parts. length parts.items ≡ length nodes.now) }
     ensures ok { IfOk result (λ parts. (srcs : List Src) (snks : List Snk) → AllAside srcs places.old.srcs.items → AllAside snks places.old.snks.items
-        → AreParts K.is Src.left Src.name Src.faults Snk.holds Snk.name Snk.faults K.Part.view outputs.now heads.now edges.now nodes.now srcs snks
-            parts.items places.new.srcs.items places.new.snks.items) }
+        → AreParts K.is Src.left Src.name Src.faults Snk.holds Snk.name Snk.faults M.view outputs.now heads.now edges.now nodes.now srcs snks
+        parts.items places.new.srcs.items places.new.snks.items) }
     ensures err { IfErr result (λ parts. (srcs : List Src) (snks : List Snk) → AllAside srcs places.old.srcs.items → AllAside snks places.old.snks.items
-        → AreParts K.is Src.left Src.name Src.faults Snk.holds Snk.name Snk.faults K.Part.view outputs.now heads.now edges.now nodes.now srcs snks
-            parts.items places.new.srcs.items places.new.snks.items) }
+        → AreParts K.is Src.left Src.name Src.faults Snk.holds Snk.name Snk.faults M.view outputs.now heads.now edges.now nodes.now srcs snks
+        parts.items places.new.srcs.items places.new.snks.items) }
 {
     for number in 0..nodes.len() {
-        match part_of::<K, Src, Snk>(alloc, number, nodes, edges, heads, outputs, places) {
+        match part_of::<K, Src, Snk, M>(alloc, number, nodes, edges, heads, outputs, places) {
             Some(part) => parts.push_reserved(part),
             None => return Err(parts),
         }

@@ -28,13 +28,10 @@ pub enum Ends<Src: Drop, Snk: Drop> {
     Neither,
 }
 
-/// The kinds of node of a plan, each a machine, and all of one type.
-pub trait Kinds<Src: Source + Send + Drop, Snk: Sink + Send + Drop> {
+/// The kinds of node of a plan, each a machine, and all of one type `Part`.
+pub trait Kinds<Src: Source + Send + Drop, Snk: Sink + Send + Drop, Part: Machine + Send + Drop> {
     /// What was read of an input before its packets.
     type Head: Drop;
-
-    /// A node of any kind.
-    type Part: Machine + Send + Drop;
 
     /// All that contracts see of them.
     ghost is: { KindsOf Self.Head };
@@ -45,36 +42,42 @@ pub trait Kinds<Src: Source + Send + Drop, Snk: Sink + Send + Drop> {
 
     /// Cuts what a source gives into packets; it gives the input of this number from the first byte on. The source comes back
     /// where memory is refused.
-    fn demuxer(alloc: Global, input: u32, head: &Self::Head, src: Src) -> Result<Self::Part, Src>
+    fn demuxer(alloc: Global, input: u32, head: &Self::Head, src: Src) -> Result<Part, Src>
         requires { is.IsHead head.now }
-        ensures new { IfOk result (λ m. IsNew [] (Packets (is.stream head.now) ∷ []) (Src.name src) (Src.faults src) (Self.Part.view m)) }
-        ensures starts { IfOk result (λ m. (bytes : List ℕ) → Src.left src ≡ Some bytes → (Self.Part.view m).stands (start (is.demux_task head.now bytes))) }
+        ensures new { IfOk result (λ m. IsNew [] (Packets (is.stream head.now) ∷ []) (Src.name src) (Src.faults src) (Part.view m)) }
+        ensures starts { IfOk result (λ m. (bytes : List ℕ) → Src.left src ≡ Some bytes → (Part.view m).stands (start (is.demux_task head.now bytes))) }
         ensures back { IfErr result (λ back. back ≡ src) };
 
     /// Decodes the packets of a stream, for so many outputs.
-    fn decoder(alloc: Global, head: &StreamHead, outputs: usize) -> Result<Self::Part, AllocError>
+    fn decoder(alloc: Global, head: &StreamHead, outputs: usize) -> Result<Part, AllocError>
         requires can { is.CanDecode head.now }
         requires some { 1 ≤ outputs }
-        ensures new { IfOk result (λ m. IsNew (Packets head.now ∷ []) (replicate outputs (Frames head.now)) None 0 (Self.Part.view m)) }
-        ensures starts { IfOk result (λ m. (Self.Part.view m).stands (start (is.dec_task head.now outputs))) };
+        ensures new { IfOk result (λ m. IsNew (Packets head.now ∷ []) (replicate outputs (Frames head.now)) None 0 (Part.view m)) }
+        ensures starts { IfOk result (λ m. (Part.view m).stands (start (is.dec_task head.now outputs))) };
 
     /// Codes the frames of a stream as packets with this head.
-    fn encoder(alloc: Global, head: &StreamHead, coded: &StreamHead) -> Result<Self::Part, AllocError>
+    fn encoder(alloc: Global, head: &StreamHead, coded: &StreamHead) -> Result<Part, AllocError>
         requires { is.CanEncode head.now coded.now }
-        ensures new { IfOk result (λ m. IsNew (Frames head.now ∷ []) (Packets coded.now ∷ []) None 0 (Self.Part.view m)) }
-        ensures starts { IfOk result (λ m. (Self.Part.view m).stands (start (is.enc_task head.now coded.now))) };
+        ensures new { IfOk result (λ m. IsNew (Frames head.now ∷ []) (Packets coded.now ∷ []) None 0 (Part.view m)) }
+        ensures starts { IfOk result (λ m. (Part.view m).stands (start (is.enc_task head.now coded.now))) };
 
     /// Writes packets with this head to the output of this number, over a sink that holds nothing. The sink comes back where
     /// memory is refused.
-    fn muxer(alloc: Global, output: u32, out: &OutputJob, coded: &StreamHead, snk: Snk) -> Result<Self::Part, Snk>
+    fn muxer(
+        alloc: Global,
+        output: u32,
+        out: &OutputJob,
+        coded: &StreamHead,
+        snk: Snk,
+    ) -> Result<Part, Snk>
         requires { is.CanMux out.now coded.now }
-        ensures new { IfOk result (λ m. IsNew (Packets coded.now ∷ []) [] (Snk.name snk) (Snk.faults snk) (Self.Part.view m)) }
-        ensures starts { IfOk result (λ m. Snk.holds snk ≡ Some [] → (Self.Part.view m).stands (start (is.mux_task out.now coded.now))) }
+        ensures new { IfOk result (λ m. IsNew (Packets coded.now ∷ []) [] (Snk.name snk) (Snk.faults snk) (Part.view m)) }
+        ensures starts { IfOk result (λ m. Snk.holds snk ≡ Some [] → (Part.view m).stands (start (is.mux_task out.now coded.now))) }
         ensures back { IfErr result (λ back. back ≡ snk) };
 
     /// The source or the sink of a part, as it is now.
-    fn into_ends(part: Self::Part) -> Ends<Src, Snk>
-        ensures { GivesEnds is Src.name Src.faults Snk.holds Snk.name Snk.faults (Self.Part.view part) result };
+    fn into_ends(part: Part) -> Ends<Src, Snk>
+        ensures { GivesEnds is Src.name Src.faults Snk.holds Snk.name Snk.faults (Part.view part) result };
 
     /// What a head tells of its stream can be decoded,
     ghost decodes: { (h : Self.Head) → is.IsHead h → is.CanDecode (is.stream h) };

@@ -67,10 +67,11 @@ fn run_parts<C: Claims, R: Threads + Wait + Sync, M: Machine + Send + Drop>(
 // Builds the parts of all nodes, and runs them. Where memory is refused before the start, those that were made are as they were.
 fn build_and_run<
     C: Claims,
-    K: Kinds<Src, Snk>,
+    K: Kinds<Src, Snk, M>,
     R: Threads + Wait + Sync,
     Src: Source + Send + Drop,
     Snk: Sink + Send + Drop,
+    M: Machine + Send + Drop,
 >(
     rt: &R,
     alloc: Global,
@@ -79,9 +80,9 @@ fn build_and_run<
     size: usize,
     heads: &[K::Head],
     outputs: &[OutputJob],
-    parts: Vec<K::Part>,
+    parts: Vec<M>,
     places: &mut Places<Src, Snk>,
-) -> (Vec<K::Part>, Option<NodeFault>)
+) -> (Vec<M>, Option<NodeFault>)
     requires room { (parts.items ≡ []) × (length nodes.now ≤ vec_capacity parts) }
     requires few { length nodes.now < 2 ^ 32 }
     requires size { (1 ≤ size) × (size ≤ 1024) }
@@ -91,11 +92,11 @@ fn build_and_run<
     requires aside { (srcs : List Src) × (snks : List Snk) × AllAside srcs places.old.srcs.items × AllAside snks places.old.snks.items
         × (C.claims ≡ true → (bytes : List (List ℕ)) × AreTold Src.left Snk.holds srcs snks bytes) }
     ensures ran { (srcs : List Src) (snks : List Snk) → AllAside srcs places.old.srcs.items → AllAside snks places.old.snks.items
-        → (olds : List K.Part) × AreRun K.is Src.left Src.name Src.faults Snk.holds Snk.name Snk.faults K.Part.view outputs.now heads.now edges.now nodes.now srcs snks C.claims
-            olds result.0.items places.new.srcs.items places.new.snks.items result.1 }
+        → (olds : List M) × AreRun K.is Src.left Src.name Src.faults Snk.holds Snk.name Snk.faults M.view outputs.now heads.now edges.now nodes.now srcs snks C.claims
+        olds result.0.items places.new.srcs.items places.new.snks.items result.1 }
 {
-    match build::<K, Src, Snk>(alloc, nodes, edges, heads, outputs, parts, places) {
-        Ok(parts) => run_parts::<C, R, K::Part>(rt, alloc, parts, edges, size),
+    match build::<K, Src, Snk, M>(alloc, nodes, edges, heads, outputs, parts, places) {
+        Ok(parts) => run_parts::<C, R, M>(rt, alloc, parts, edges, size),
         Err(parts) => (parts, no_memory()),
     }
 }
@@ -114,7 +115,12 @@ impl<Part: Drop, Src: Drop, Snk: Drop> Room<Part, Src, Snk> {
     ghost use Rattle.ff_running.specs.Rooms.{HasRoom};
 
     /// Room for so many of each.
-    pub(crate) fn new(alloc: Global, parts: usize, srcs: usize, snks: usize) -> Result<Self, AllocError>
+    pub(crate) fn new(
+        alloc: Global,
+        parts: usize,
+        srcs: usize,
+        snks: usize,
+    ) -> Result<Self, AllocError>
         ensures { IfOk result (HasRoom parts srcs snks) }
     {
         Ok(Room {
@@ -131,10 +137,11 @@ impl<Part: Drop, Src: Drop, Snk: Drop> Room<Part, Src, Snk> {
 /// all sources tell what is left and all sinks that they hold nothing.
 pub(crate) fn run_nodes<
     C: Claims,
-    K: Kinds<Src, Snk>,
+    K: Kinds<Src, Snk, M>,
     R: Threads + Wait + Sync,
     Src: Source + Send + Drop,
     Snk: Sink + Send + Drop,
+    M: Machine + Send + Drop,
 >(
     rt: &R,
     alloc: Global,
@@ -145,7 +152,7 @@ pub(crate) fn run_nodes<
     outputs: &[OutputJob],
     srcs: Vec<Src>,
     snks: Vec<Snk>,
-    room: Room<K::Part, Src, Snk>,
+    room: Room<M, Src, Snk>,
 ) -> Done<RunFault, Src, Snk>
     requires room { HasRoom (length nodes.now) (length srcs.items) (length snks.items) room }
     requires few { (length nodes.now < 2 ^ 32) × (length heads.now < 2 ^ 32) }
@@ -154,14 +161,14 @@ pub(crate) fn run_nodes<
     requires fitting { AreFitting K.is outputs.now heads.now edges.now nodes.now }
     requires ordered { AreOrdered (length srcs.items) (length snks.items) nodes.now }
     requires told { C.claims ≡ tell_all Src.left Snk.holds srcs.items snks.items }
-    ensures { IsDone K.is Src.left Src.name Src.faults Snk.holds Snk.name Snk.faults K.Part.view outputs.now heads.now edges.now nodes.now srcs.items snks.items C.claims
+    ensures { IsDone K.is Src.left Src.name Src.faults Snk.holds Snk.name Snk.faults M.view outputs.now heads.now edges.now nodes.now srcs.items snks.items C.claims
         result.end result.srcs.items result.snks.items }
 {
     let mut places = Places {
         srcs: tabled(srcs, room.src_places),
         snks: tabled(snks, room.snk_places),
     };
-    let (parts, fault) = build_and_run::<C, K, R, Src, Snk>(
+    let (parts, fault) = build_and_run::<C, K, R, Src, Snk, M>(
         rt,
         alloc,
         nodes,
@@ -173,7 +180,7 @@ pub(crate) fn run_nodes<
         &mut places,
     );
     let end = end_with(heads.len() as u32, nodes, fault);
-    gather::<K, Src, Snk>(nodes, parts, &mut places);
+    gather::<K, Src, Snk, M>(nodes, parts, &mut places);
     let Places { srcs, snks } = places;
     Done {
         end,

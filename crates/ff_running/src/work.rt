@@ -10,6 +10,7 @@ use crate::kinds::Kinds;
 use crate::run::{Room, run_nodes};
 use ff_files::{Done, PlanEnd, WorkEnd};
 use ff_host::{Sink, Source};
+use ff_net::Machine;
 use ff_plan::{Plan, PlanError, plan as plan_of};
 use ff_values::StreamHead;
 use ff_words::Job;
@@ -19,10 +20,12 @@ use std::sync::Wait;
 use std::thread::Threads;
 
 // The streams of each input: the one of its head.
-fn streams_of<K: Kinds<Src, Snk>, Src: Source + Send + Drop, Snk: Sink + Send + Drop>(
-    alloc: Global,
-    heads: &[K::Head],
-) -> Result<Vec<Vec<StreamHead>>, AllocError>
+fn streams_of<
+    K: Kinds<Src, Snk, M>,
+    Src: Source + Send + Drop,
+    Snk: Sink + Send + Drop,
+    M: Machine + Send + Drop,
+>(alloc: Global, heads: &[K::Head]) -> Result<Vec<Vec<StreamHead>>, AllocError>
     ensures { IfOk result (λ streams. lists streams.items ≡ map (λ h. K.is.stream h ∷ []) heads.now) }
 {
     let mut streams = Vec::new(alloc);
@@ -35,17 +38,18 @@ fn streams_of<K: Kinds<Src, Snk>, Src: Source + Send + Drop, Snk: Sink + Send + 
 }
 
 /// The plan of a job for the heads of its inputs.
-pub fn make_plan<K: Kinds<Src, Snk>, Src: Source + Send + Drop, Snk: Sink + Send + Drop>(
-    alloc: Global,
-    job: &Job,
-    heads: &[K::Head],
-) -> Result<Plan, PlanEnd<PlanError>>
+pub fn make_plan<
+    K: Kinds<Src, Snk, M>,
+    Src: Source + Send + Drop,
+    Snk: Sink + Send + Drop,
+    M: Machine + Send + Drop,
+>(alloc: Global, job: &Job, heads: &[K::Head]) -> Result<Plan, PlanEnd<PlanError>>
     requires { IsAccepted K.is job.now heads.now }
     ensures ok { IfOk result (λ plan. IsPlanFor K.is job.now heads.now plan) }
     ensures some { OnOk result (refusal_of K.is job.now (plan_for K.is job.now heads.now) ≡ None) }
     ensures refused { (why : _) → IfErr result (λ end. end ≡ PlanEnd.Refused why → refusal_of K.is job.now (plan_for K.is job.now heads.now) ≡ Some why) }
 {
-    let Ok(streams) = streams_of::<K, Src, Snk>(alloc, heads) else {
+    let Ok(streams) = streams_of::<K, Src, Snk, M>(alloc, heads) else {
         return Err(PlanEnd::NoMemory);
     };
     match plan_of(alloc, job, &streams) {
@@ -57,10 +61,11 @@ pub fn make_plan<K: Kinds<Src, Snk>, Src: Source + Send + Drop, Snk: Sink + Send
 
 /// Runs a plan, each node of it in a thread of its own. Where there is no memory to begin, the sources and sinks are as they were.
 pub fn run_plan<
-    K: Kinds<Src, Snk>,
+    K: Kinds<Src, Snk, M>,
     R: Threads + Wait + Sync,
     Src: Source + Send + Drop,
     Snk: Sink + Send + Drop,
+    M: Machine + Send + Drop,
 >(
     rt: &R,
     alloc: Global,
@@ -100,7 +105,7 @@ pub fn run_plan<
         };
     };
     let size = job.queue as usize;
-    run_nodes::<Brand, K, R, Src, Snk>(
+    run_nodes::<Brand, K, R, Src, Snk, M>(
         rt, alloc, nodes, edges, size, heads, outputs, srcs, snks, room,
     )
 }

@@ -1,10 +1,10 @@
-use Rattle.std.proofs.Common.{◌≡◌, ℕ, List, slice_get, slice_index_or, Option, Some, refl, sym, ap, ◌∙◌, subst}
+use Rattle.std.proofs.Common.{◌≡◌, List, slice_get, slice_index_or, Some, sym, ap, ◌∙◌, subst}
 use Rattle.std.proofs.lemmas.Option.{slice_get-get_or}
 use Rattle.ff_frame.specs.declared.item.Lane.{Lane}
 use Rattle.ff_plan.specs.declared.planned.PlanNode.{PlanNode}
 use Rattle.ff_plan.specs.declared.planned.PlanNode.TheVariants as node
 use Rattle.ff_edges.specs.Ports.{lanes_into, lanes_out_of}
-use Rattle.ff_running.specs.Parts.{IsFitting, IsAside, IsPart}
+use Rattle.ff_running.specs.Parts.{IsFitting, IsPart}
 use Rattle.ff_running.proofs.Making.{if_more}
 use Rattle.ff_running.proofs.Numbers.{same_some}
 use Rattle.ff_running.proofs.build.part_of.Goals as goal
@@ -38,7 +38,7 @@ returns-clause-made g c =
     let is = g.K.Kinds.is in
     let S = g.Src.Source in
     let K = g.Snk.Sink in
-    let view = g.K.Part.Machine.view in
+    let view = g.M.Machine.view in
     let outputs = c.args.outputs.now in
     let heads = c.args.heads.now in
     let k = c.args.number in

@@ -1,4 +1,4 @@
-use Rattle.std.proofs.Common.{◌≡◌, ◌+◌, ◌<◌, ◌≤◌, ℕ, List, [], ◌∷◌, length, drop, slice_get, slice_index_or, Option, Some, refl, sym, ap, ◌∙◌, subst, arith, rules}
+use Rattle.std.proofs.Common.{◌≡◌, ◌<◌, ◌≤◌, length, slice_get, slice_index_or, Some, sym, ap, ◌∙◌, arith}
 use Rattle.std.proofs.lemmas.Option.{slice_get-get_or, slice_get_within}
 use Rattle.std.specs.Vec.Iter.{into_iter_items}
 use Rattle.ff_plan.specs.declared.planned.PlanNode.{PlanNode}
@@ -47,7 +47,7 @@ loop-number-preserved g c =
     let nodes = c.args.nodes.now in
     let parts = c.args.parts.items in
     let part = c.in-Some.part in
-    let view = g.K.Part.Machine.view in
+    let view = g.M.Machine.view in
     let S = g.Src.Source in
     let K = g.Snk.Sink in
     let old = c.loop-number.places in

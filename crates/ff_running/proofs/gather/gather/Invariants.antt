@@ -1,4 +1,4 @@
-use Rattle.std.proofs.Common.{◌≡◌, ◌<◌, ◌≤◌, ℕ, List, length, drop, slice_get, Some, vec_items, vec_len}
+use Rattle.std.proofs.Common.{◌≡◌, ◌<◌, ℕ, length, drop, slice_get, Some, vec_items}
 use Rattle.std.specs.Vec.Iter.{into_iter_items}
 use Rattle.ff_plan.specs.declared.planned.PlanNode.TheVariants as node
 use Rattle.ff_running.specs.Kinds.{IsSourceOf, IsSinkOf}
@@ -7,7 +7,7 @@ use Rattle.ff_running.proofs.gather.gather.Given as goal
 
 abbrev pub invariant-loop-number : goal.invariant-loop-number
 invariant-loop-number g l =
-    let view = g.K.Part.Machine.view in
+    let view = g.M.Machine.view in
     let parts = vec_items l.fn.parts in record {
       left : into_iter_items l.left ≡ drop l.number parts;
       src_count : length l.places.srcs.items ≡ length l.fn.places.srcs.items;

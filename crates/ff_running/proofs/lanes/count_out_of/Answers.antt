@@ -1,4 +1,4 @@
-use Rattle.std.proofs.Common.{◌≡◌, ℕ, ◌+◌, ◌==◌, Bool, sym, ap, ◌∙◌, arith}
+use Rattle.std.proofs.Common.{ℕ, ◌+◌, ◌==◌, Bool, sym, ap, ◌∙◌, arith}
 use Rattle.ff_edges.specs.declared.edge.Edge.{Edge}
 use Rattle.ff_running.proofs.Tally.{same_yes, same_no, tally_yes, tally_no}
 use Rattle.ff_running.proofs.lanes.count_out_of.Goals.{then-edges-k, else-edges-k}
@@ -14,11 +14,11 @@ loop-k-preserved c =
     let edge = c.index-edges-k.result in
     elim c.if-edges-k.branch [
       | then-edges-k w ↦ record {
-          so_far = w.count-is ∙ (ap (λ (n : ℕ). n + 1) was.so_far ∙ sym (tally_yes p edges k edge c.loop-k-test.true (same_yes _ _ w.if-edges-k.true)));
-          few = (let is = w.count-is in omega (arith, is, few));
-        }
+        so_far = w.count-is ∙ (ap (λ (n : ℕ). n + 1) was.so_far ∙ sym (tally_yes p edges k edge c.loop-k-test.true (same_yes _ _ w.if-edges-k.true)));
+        few = (let is = w.count-is in omega (arith, is, few));
+      }
       | else-edges-k w ↦ record {
-          so_far = w.count-is ∙ (was.so_far ∙ sym (tally_no p edges k edge c.loop-k-test.true (same_no _ _ w.if-edges-k.false)));
-          few = (let is = w.count-is in omega (arith, is, few));
-        }
+        so_far = w.count-is ∙ (was.so_far ∙ sym (tally_no p edges k edge c.loop-k-test.true (same_no _ _ w.if-edges-k.false)));
+        few = (let is = w.count-is in omega (arith, is, few));
+      }
     ]

@@ -1,4 +1,4 @@
-use Rattle.std.proofs.Common.{◌≡◌, ◌++◌, ◌∷◌, [], get_or, refl, sym, ap, ◌∙◌, vec_items}
+use Rattle.std.proofs.Common.{◌++◌, ◌∷◌, [], get_or, refl, ap, ◌∙◌, vec_items}
 use Rattle.ff_frame.specs.declared.item.Lane.{Lane}
 use Rattle.ff_running.proofs.Tally.{lane_more, lane_passed}
 use Rattle.ff_running.proofs.lanes.lanes_of.Goals.{then-number-edges+in_ok-push, else-number-edges}
@@ -14,7 +14,7 @@ loop-k-preserved c =
     let was = c.loop-k.invariant in
     elim c.if-number-edges.branch [
       | then-number-edges+in_ok-push w ↦
-        ap vec_items w.lanes-is ∙ (w.in_ok-push.ensures.items ∙ (ap (λ (l : Lane). lanes ++ l ∷ []) w.copy_of.ensures
-        ∙ lane_more edges numbers k lt (get_or numbers k 0) w.index-edges-number.result lanes refl w.if-number-edges.true was))
+          ap vec_items w.lanes-is ∙ (w.in_ok-push.ensures.items ∙ (ap (λ (l : Lane). lanes ++ l ∷ []) w.copy_of.ensures
+          ∙ lane_more edges numbers k lt (get_or numbers k 0) w.index-edges-number.result lanes refl w.if-number-edges.true was))
       | else-number-edges w ↦ ap vec_items w.lanes-is ∙ lane_passed edges numbers k lt (get_or numbers k 0) lanes refl w.if-number-edges.false was
     ]

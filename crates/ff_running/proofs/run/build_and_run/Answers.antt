@@ -7,7 +7,7 @@ run_parts-requires-clause-fits g c κs within =
     let S = g.Src.Source in
     let K = g.Snk.Sink in
     let aside = c.requires.aside in
-    all_fit g.K.Kinds.is S.left S.name S.faults K.holds K.name K.faults g.K.Part.Machine.view c.args.outputs.now c.args.heads.now c.args.edges.now c.args.nodes.now aside.0 aside.1 c.in-Ok.parts.items
+    all_fit g.K.Kinds.is S.left S.name S.faults K.holds K.name K.faults g.M.Machine.view c.args.outputs.now c.args.heads.now c.args.edges.now c.args.nodes.now aside.0 aside.1 c.in-Ok.parts.items
     c.build.new.places.srcs.items c.build.new.places.snks.items (c.in-Ok.ensures.ok aside.0 aside.1 aside.2 aside.3) c.in-Ok.ensures.all c.requires.fits
 
 pub run_parts-requires-clause-start : goal.run_parts-requires-clause-start
@@ -15,34 +15,39 @@ run_parts-requires-clause-start g c κs within = λ vouched.
     let S = g.Src.Source in
     let K = g.Snk.Sink in
     let aside = c.requires.aside in
-    let told = aside.4 vouched in
-    (task_at g.K.Kinds.is c.args.outputs.now c.args.heads.now told.0 c.args.nodes.now c.args.edges.now,
-    all_start g.K.Kinds.is S.left S.name S.faults K.holds K.name K.faults g.K.Part.Machine.view c.args.outputs.now c.args.heads.now c.args.edges.now c.args.nodes.now aside.0 aside.1 c.in-Ok.parts.items
-    c.build.new.places.srcs.items c.build.new.places.snks.items (c.in-Ok.ensures.ok aside.0 aside.1 aside.2 aside.3) told.0 told.1)
+    let told = aside.4 vouched in (
+      task_at g.K.Kinds.is c.args.outputs.now c.args.heads.now told.0 c.args.nodes.now c.args.edges.now,
+      all_start g.K.Kinds.is S.left S.name S.faults K.holds K.name K.faults g.M.Machine.view c.args.outputs.now c.args.heads.now c.args.edges.now c.args.nodes.now aside.0 aside.1 c.in-Ok.parts.items
+          c.build.new.places.srcs.items c.build.new.places.snks.items (c.in-Ok.ensures.ok aside.0 aside.1 aside.2 aside.3) told.0 told.1,
+    )
 
 pub run_parts-requires-clause-sound : goal.run_parts-requires-clause-sound
 run_parts-requires-clause-sound g c κs within =
     let S = g.Src.Source in
     let K = g.Snk.Sink in
     let aside = c.requires.aside in
-    part_sound g.K.Kinds.is S.left S.name S.faults K.holds K.name K.faults g.K.Part.Machine.view c.args.outputs.now c.args.heads.now c.args.edges.now c.args.nodes.now aside.0 aside.1 c.in-Ok.parts.items
+    part_sound g.K.Kinds.is S.left S.name S.faults K.holds K.name K.faults g.M.Machine.view c.args.outputs.now c.args.heads.now c.args.edges.now c.args.nodes.now aside.0 aside.1 c.in-Ok.parts.items
     c.build.new.places.srcs.items c.build.new.places.snks.items (c.in-Ok.ensures.ok aside.0 aside.1 aside.2 aside.3)
 
 pub returns-in-Ok : goal.returns-in-Ok
 returns-in-Ok g c = record {
   ran = λ srcs snks a b.
       let S = g.Src.Source in
-      let K = g.Snk.Sink in
-      (c.in-Ok.parts.items, run_ok g.K.Kinds.is S.left S.name S.faults K.holds K.name K.faults g.K.Part.Machine.view c.args.outputs.now c.args.heads.now c.args.edges.now c.args.nodes.now srcs snks c.in-Ok.parts.items
-      c.build.new.places.srcs.items c.build.new.places.snks.items (c.in-Ok.ensures.ok srcs snks a b) c.in-Ok.ensures.all c.run_parts.result.0.items c.run_parts.result.1 g.C.Claims.claims
-      c.run_parts.ensures.kept c.run_parts.ensures.tells c.run_parts.ensures.solved);
+      let K = g.Snk.Sink in (
+        c.in-Ok.parts.items,
+        run_ok g.K.Kinds.is S.left S.name S.faults K.holds K.name K.faults g.M.Machine.view c.args.outputs.now c.args.heads.now c.args.edges.now c.args.nodes.now srcs snks c.in-Ok.parts.items
+            c.build.new.places.srcs.items c.build.new.places.snks.items (c.in-Ok.ensures.ok srcs snks a b) c.in-Ok.ensures.all c.run_parts.result.0.items c.run_parts.result.1 g.C.Claims.claims
+            c.run_parts.ensures.kept c.run_parts.ensures.tells c.run_parts.ensures.solved,
+      );
 }
 
 pub returns-in-Err : goal.returns-in-Err
 returns-in-Err g c = record {
   ran = λ srcs snks a b.
       let S = g.Src.Source in
-      let K = g.Snk.Sink in
-      (c.in-Err.parts.items, run_err g.K.Kinds.is S.left S.name S.faults K.holds K.name K.faults g.K.Part.Machine.view c.args.outputs.now c.args.heads.now c.args.edges.now c.args.nodes.now srcs snks c.in-Err.parts.items
-      c.build.new.places.srcs.items c.build.new.places.snks.items (c.in-Err.ensures.err srcs snks a b) c.no_memory.result g.C.Claims.claims c.no_memory.ensures);
+      let K = g.Snk.Sink in (
+        c.in-Err.parts.items,
+        run_err g.K.Kinds.is S.left S.name S.faults K.holds K.name K.faults g.M.Machine.view c.args.outputs.now c.args.heads.now c.args.edges.now c.args.nodes.now srcs snks c.in-Err.parts.items
+            c.build.new.places.srcs.items c.build.new.places.snks.items (c.in-Err.ensures.err srcs snks a b) c.no_memory.result g.C.Claims.claims c.no_memory.ensures,
+      );
 }

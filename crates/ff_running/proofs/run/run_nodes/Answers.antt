@@ -1,4 +1,4 @@
-use Rattle.std.proofs.Common.{◌≡◌, ◌≤◌, ℕ, List, length, map, Option, Some, sym, ap, ◌∙◌, subst, arith}
+use Rattle.std.proofs.Common.{ℕ, List, length, map, Some, sym, ap, ◌∙◌, subst, arith}
 use Rattle.ff_running.specs.Parts.{AreOrdered}
 use Rattle.ff_running.proofs.Backs.{all_aside, srcs_full, snks_full, are_back}
 use Rattle.ff_running.proofs.Running.{have_ends}
@@ -8,9 +8,13 @@ use Rattle.ff_running.proofs.run.run_nodes.Goals as goal
 pub build_and_run-parts-requires-clause-aside : goal.build_and_run-parts-requires-clause-aside
 build_and_run-parts-requires-clause-aside g c κs within =
     let srcs = c.args.srcs.items in
-    let snks = c.args.snks.items in
-    (srcs, snks, all_aside srcs c.tabled.result.items c.tabled.ensures, all_aside snks c.tabled-2.result.items c.tabled-2.ensures,
-    λ vouched. told_of g.Src.Source.left g.Snk.Sink.holds srcs snks (sym c.requires.told ∙ vouched))
+    let snks = c.args.snks.items in (
+      srcs,
+      snks,
+      all_aside srcs c.tabled.result.items c.tabled.ensures,
+      all_aside snks c.tabled-2.result.items c.tabled-2.ensures,
+      λ vouched. told_of g.Src.Source.left g.Snk.Sink.holds srcs snks (sym c.requires.told ∙ vouched),
+    )
 
 pub gather-requires-clause-few : goal.gather-requires-clause-few
 gather-requires-clause-few g c κs within =
@@ -25,7 +29,7 @@ gather-requires-clause-ends g c κs within =
     let K = g.Snk.Sink in
     let places = c.build_and_run-parts.new.places in
     let ran = c.build_and_run-parts.ensures.ran c.args.srcs.items c.args.snks.items (all_aside c.args.srcs.items c.tabled.result.items c.tabled.ensures) (all_aside c.args.snks.items c.tabled-2.result.items c.tabled-2.ensures) in
-    have_ends g.K.Kinds.is S.left S.name S.faults K.holds K.name K.faults g.K.Part.Machine.view c.args.outputs.now c.args.heads.now c.args.edges.now c.args.nodes.now c.args.srcs.items c.args.snks.items
+    have_ends g.K.Kinds.is S.left S.name S.faults K.holds K.name K.faults g.M.Machine.view c.args.outputs.now c.args.heads.now c.args.edges.now c.args.nodes.now c.args.srcs.items c.args.snks.items
     ran.0 c.build_and_run-parts.result.0.items places.srcs.items places.snks.items ran.1.parts ran.1.kept c.requires.fitting
 
 pub gather-requires-clause-ordered : goal.gather-requires-clause-ordered
@@ -43,7 +47,7 @@ listed-requires-clause-full g c =
     let back = c.gather.new.places in
     let gave = c.gather.ensures in
     let ran = c.build_and_run-parts.ensures.ran c.args.srcs.items c.args.snks.items (all_aside c.args.srcs.items c.tabled.result.items c.tabled.ensures) (all_aside c.args.snks.items c.tabled-2.result.items c.tabled-2.ensures) in
-    srcs_full g.K.Kinds.is S.left S.name S.faults K.holds K.name K.faults g.K.Part.Machine.view c.args.outputs.now c.args.heads.now c.args.edges.now c.args.nodes.now c.args.srcs.items c.args.snks.items
+    srcs_full g.K.Kinds.is S.left S.name S.faults K.holds K.name K.faults g.M.Machine.view c.args.outputs.now c.args.heads.now c.args.edges.now c.args.nodes.now c.args.srcs.items c.args.snks.items
     ran.0 c.build_and_run-parts.result.0.items places.srcs.items back.srcs.items places.snks.items back.snks.items ran.1.parts ran.1.kept.count
     gave.sources gave.sinks gave.other_srcs gave.other_snks gave.src_count gave.snk_count
 
@@ -55,7 +59,7 @@ listed-requires-2-clause-full g c =
     let back = c.gather.new.places in
     let gave = c.gather.ensures in
     let ran = c.build_and_run-parts.ensures.ran c.args.srcs.items c.args.snks.items (all_aside c.args.srcs.items c.tabled.result.items c.tabled.ensures) (all_aside c.args.snks.items c.tabled-2.result.items c.tabled-2.ensures) in
-    snks_full g.K.Kinds.is S.left S.name S.faults K.holds K.name K.faults g.K.Part.Machine.view c.args.outputs.now c.args.heads.now c.args.edges.now c.args.nodes.now c.args.srcs.items c.args.snks.items
+    snks_full g.K.Kinds.is S.left S.name S.faults K.holds K.name K.faults g.M.Machine.view c.args.outputs.now c.args.heads.now c.args.edges.now c.args.nodes.now c.args.srcs.items c.args.snks.items
     ran.0 c.build_and_run-parts.result.0.items places.srcs.items back.srcs.items places.snks.items back.snks.items ran.1.parts ran.1.kept.count
     gave.sources gave.sinks gave.other_srcs gave.other_snks gave.src_count gave.snk_count
 
@@ -78,7 +82,7 @@ listed-requires-2-clause-room g c =
 pub returns : goal.returns
 returns g c =
     let is = g.K.Kinds.is in
-    let view = g.K.Part.Machine.view in
+    let view = g.M.Machine.view in
     let S = g.Src.Source in
     let K = g.Snk.Sink in
     let outputs = c.args.outputs.now in
@@ -93,9 +97,9 @@ returns g c =
     let gave = c.gather.ensures in
     let ran = c.build_and_run-parts.ensures.ran srcs snks (all_aside srcs c.tabled.result.items c.tabled.ensures) (all_aside snks c.tabled-2.result.items c.tabled-2.ensures) in
     let all_srcs = srcs_full is S.left S.name S.faults K.holds K.name K.faults view outputs heads edges nodes srcs snks ran.0 news places.srcs.items back.srcs.items places.snks.items back.snks.items ran.1.parts ran.1.kept.count
-        gave.sources gave.sinks gave.other_srcs gave.other_snks gave.src_count gave.snk_count in
+    gave.sources gave.sinks gave.other_srcs gave.other_snks gave.src_count gave.snk_count in
     let all_snks = snks_full is S.left S.name S.faults K.holds K.name K.faults view outputs heads edges nodes srcs snks ran.0 news places.srcs.items back.srcs.items places.snks.items back.snks.items ran.1.parts ran.1.kept.count
-        gave.sources gave.sinks gave.other_srcs gave.other_snks gave.src_count gave.snk_count in record {
+    gave.sources gave.sinks gave.other_srcs gave.other_snks gave.src_count gave.snk_count in record {
       olds = ran.0;
       news = news;
       src_places = places.srcs.items;

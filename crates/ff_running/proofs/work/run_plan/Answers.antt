@@ -6,7 +6,7 @@ use Rattle.ff_running.proofs.work.run_plan.Goals as goal
 pub returns-clause-fine : goal.returns-clause-fine
 returns-clause-fine g c =
     let is = g.K.Kinds.is in
-    let view = g.K.Part.Machine.view in
+    let view = g.M.Machine.view in
     let S = g.Src.Source in
     let K = g.Snk.Sink in
     let job = c.args.job.now in
@@ -18,14 +18,14 @@ returns-clause-fine g c =
     let srcs_len : length srcs ≡ length heads = (let t = c.if-len-heads.false in let l = c.len.ensures in let ok = c.args.srcs.ok.0 in omega (arith, t, l, ok)) in
     let snks_len : length snks ≡ length c.as_slice-outputs.result.now = (let t = c.if-len-outputs.false in let l = c.len-else-len-heads.ensures in let ok = c.args.snks.ok.0 in omega (arith, t, l, ok)) in
     let done = done_for is S.left S.name S.faults K.holds K.name K.faults view c.as_slice-outputs.result.now job.outputs heads c.as_slice-edges.result.now plan.edges c.as_slice-nodes.result.now plan.nodes srcs snks claims
-        c.run_nodes.result.end c.run_nodes.result.srcs.items c.run_nodes.result.snks.items c.as_slice-outputs.ensures c.as_slice-edges.ensures c.as_slice-nodes.ensures c.run_nodes.ensures in
+    c.run_nodes.result.end c.run_nodes.result.srcs.items c.run_nodes.result.snks.items c.as_slice-outputs.ensures c.as_slice-edges.ensures c.as_slice-nodes.ensures c.run_nodes.ensures in
     all_files is S.left S.name S.faults K.holds K.name K.faults view job plan heads srcs snks claims c.run_nodes.result.end c.run_nodes.result.srcs.items c.run_nodes.result.snks.items
     c.requires srcs_len (snks_len ∙ ap length c.as_slice-outputs.ensures) refl done
 
 pub returns-clause-parts : goal.returns-clause-parts
 returns-clause-parts g c =
     let is = g.K.Kinds.is in
-    let view = g.K.Part.Machine.view in
+    let view = g.M.Machine.view in
     let S = g.Src.Source in
     let K = g.Snk.Sink in
     let job = c.args.job.now in
@@ -37,14 +37,14 @@ returns-clause-parts g c =
     let srcs_len : length srcs ≡ length heads = (let t = c.if-len-heads.false in let l = c.len.ensures in let ok = c.args.srcs.ok.0 in omega (arith, t, l, ok)) in
     let snks_len : length snks ≡ length c.as_slice-outputs.result.now = (let t = c.if-len-outputs.false in let l = c.len-else-len-heads.ensures in let ok = c.args.snks.ok.0 in omega (arith, t, l, ok)) in
     let done = done_for is S.left S.name S.faults K.holds K.name K.faults view c.as_slice-outputs.result.now job.outputs heads c.as_slice-edges.result.now plan.edges c.as_slice-nodes.result.now plan.nodes srcs snks claims
-        c.run_nodes.result.end c.run_nodes.result.srcs.items c.run_nodes.result.snks.items c.as_slice-outputs.ensures c.as_slice-edges.ensures c.as_slice-nodes.ensures c.run_nodes.ensures in
+    c.run_nodes.result.end c.run_nodes.result.srcs.items c.run_nodes.result.snks.items c.as_slice-outputs.ensures c.as_slice-edges.ensures c.as_slice-nodes.ensures c.run_nodes.ensures in
     all_parts is S.left S.name S.faults K.holds K.name K.faults view job plan heads srcs snks claims c.run_nodes.result.end c.run_nodes.result.srcs.items c.run_nodes.result.snks.items
     c.requires srcs_len (snks_len ∙ ap length c.as_slice-outputs.ensures) refl done g.met.K.Kinds.holds_on
 
 pub returns-clause-srcs : goal.returns-clause-srcs
 returns-clause-srcs g c =
     let is = g.K.Kinds.is in
-    let view = g.K.Part.Machine.view in
+    let view = g.M.Machine.view in
     let S = g.Src.Source in
     let K = g.Snk.Sink in
     let job = c.args.job.now in
@@ -56,14 +56,14 @@ returns-clause-srcs g c =
     let srcs_len : length srcs ≡ length heads = (let t = c.if-len-heads.false in let l = c.len.ensures in let ok = c.args.srcs.ok.0 in omega (arith, t, l, ok)) in
     let snks_len : length snks ≡ length c.as_slice-outputs.result.now = (let t = c.if-len-outputs.false in let l = c.len-else-len-heads.ensures in let ok = c.args.snks.ok.0 in omega (arith, t, l, ok)) in
     let done = done_for is S.left S.name S.faults K.holds K.name K.faults view c.as_slice-outputs.result.now job.outputs heads c.as_slice-edges.result.now plan.edges c.as_slice-nodes.result.now plan.nodes srcs snks claims
-        c.run_nodes.result.end c.run_nodes.result.srcs.items c.run_nodes.result.snks.items c.as_slice-outputs.ensures c.as_slice-edges.ensures c.as_slice-nodes.ensures c.run_nodes.ensures in
+    c.run_nodes.result.end c.run_nodes.result.srcs.items c.run_nodes.result.snks.items c.as_slice-outputs.ensures c.as_slice-edges.ensures c.as_slice-nodes.ensures c.run_nodes.ensures in
     keeps_sources is S.left S.name S.faults K.holds K.name K.faults view job plan heads srcs snks claims c.run_nodes.result.end c.run_nodes.result.srcs.items c.run_nodes.result.snks.items
     c.requires srcs_len (snks_len ∙ ap length c.as_slice-outputs.ensures) refl done
 
 pub returns-clause-snks : goal.returns-clause-snks
 returns-clause-snks g c =
     let is = g.K.Kinds.is in
-    let view = g.K.Part.Machine.view in
+    let view = g.M.Machine.view in
     let S = g.Src.Source in
     let K = g.Snk.Sink in
     let job = c.args.job.now in
@@ -75,14 +75,14 @@ returns-clause-snks g c =
     let srcs_len : length srcs ≡ length heads = (let t = c.if-len-heads.false in let l = c.len.ensures in let ok = c.args.srcs.ok.0 in omega (arith, t, l, ok)) in
     let snks_len : length snks ≡ length c.as_slice-outputs.result.now = (let t = c.if-len-outputs.false in let l = c.len-else-len-heads.ensures in let ok = c.args.snks.ok.0 in omega (arith, t, l, ok)) in
     let done = done_for is S.left S.name S.faults K.holds K.name K.faults view c.as_slice-outputs.result.now job.outputs heads c.as_slice-edges.result.now plan.edges c.as_slice-nodes.result.now plan.nodes srcs snks claims
-        c.run_nodes.result.end c.run_nodes.result.srcs.items c.run_nodes.result.snks.items c.as_slice-outputs.ensures c.as_slice-edges.ensures c.as_slice-nodes.ensures c.run_nodes.ensures in
+    c.run_nodes.result.end c.run_nodes.result.srcs.items c.run_nodes.result.snks.items c.as_slice-outputs.ensures c.as_slice-edges.ensures c.as_slice-nodes.ensures c.run_nodes.ensures in
     keeps_sinks is S.left S.name S.faults K.holds K.name K.faults view job plan heads srcs snks claims c.run_nodes.result.end c.run_nodes.result.srcs.items c.run_nodes.result.snks.items
     c.requires srcs_len (snks_len ∙ ap length c.as_slice-outputs.ensures) refl done
 
 pub returns-clause-ends : goal.returns-clause-ends
 returns-clause-ends g c =
     let is = g.K.Kinds.is in
-    let view = g.K.Part.Machine.view in
+    let view = g.M.Machine.view in
     let S = g.Src.Source in
     let K = g.Snk.Sink in
     let job = c.args.job.now in
@@ -94,14 +94,14 @@ returns-clause-ends g c =
     let srcs_len : length srcs ≡ length heads = (let t = c.if-len-heads.false in let l = c.len.ensures in let ok = c.args.srcs.ok.0 in omega (arith, t, l, ok)) in
     let snks_len : length snks ≡ length c.as_slice-outputs.result.now = (let t = c.if-len-outputs.false in let l = c.len-else-len-heads.ensures in let ok = c.args.snks.ok.0 in omega (arith, t, l, ok)) in
     let done = done_for is S.left S.name S.faults K.holds K.name K.faults view c.as_slice-outputs.result.now job.outputs heads c.as_slice-edges.result.now plan.edges c.as_slice-nodes.result.now plan.nodes srcs snks claims
-        c.run_nodes.result.end c.run_nodes.result.srcs.items c.run_nodes.result.snks.items c.as_slice-outputs.ensures c.as_slice-edges.ensures c.as_slice-nodes.ensures c.run_nodes.ensures in
+    c.run_nodes.result.end c.run_nodes.result.srcs.items c.run_nodes.result.snks.items c.as_slice-outputs.ensures c.as_slice-edges.ensures c.as_slice-nodes.ensures c.run_nodes.ensures in
     all_ends is S.left S.name S.faults K.holds K.name K.faults view job plan heads srcs snks claims c.run_nodes.result.end c.run_nodes.result.srcs.items c.run_nodes.result.snks.items
     c.requires srcs_len (snks_len ∙ ap length c.as_slice-outputs.ensures) refl done
 
 pub returns-clause-sound_srcs : goal.returns-clause-sound_srcs
 returns-clause-sound_srcs g c =
     let is = g.K.Kinds.is in
-    let view = g.K.Part.Machine.view in
+    let view = g.M.Machine.view in
     let S = g.Src.Source in
     let K = g.Snk.Sink in
     let job = c.args.job.now in
@@ -113,14 +113,14 @@ returns-clause-sound_srcs g c =
     let srcs_len : length srcs ≡ length heads = (let t = c.if-len-heads.false in let l = c.len.ensures in let ok = c.args.srcs.ok.0 in omega (arith, t, l, ok)) in
     let snks_len : length snks ≡ length c.as_slice-outputs.result.now = (let t = c.if-len-outputs.false in let l = c.len-else-len-heads.ensures in let ok = c.args.snks.ok.0 in omega (arith, t, l, ok)) in
     let done = done_for is S.left S.name S.faults K.holds K.name K.faults view c.as_slice-outputs.result.now job.outputs heads c.as_slice-edges.result.now plan.edges c.as_slice-nodes.result.now plan.nodes srcs snks claims
-        c.run_nodes.result.end c.run_nodes.result.srcs.items c.run_nodes.result.snks.items c.as_slice-outputs.ensures c.as_slice-edges.ensures c.as_slice-nodes.ensures c.run_nodes.ensures in
+    c.run_nodes.result.end c.run_nodes.result.srcs.items c.run_nodes.result.snks.items c.as_slice-outputs.ensures c.as_slice-edges.ensures c.as_slice-nodes.ensures c.run_nodes.ensures in
     all_sources is S.left S.name S.faults K.holds K.name K.faults view job plan heads srcs snks claims c.run_nodes.result.end c.run_nodes.result.srcs.items c.run_nodes.result.snks.items
     c.requires srcs_len (snks_len ∙ ap length c.as_slice-outputs.ensures) refl done
 
 pub returns-clause-sound_snks : goal.returns-clause-sound_snks
 returns-clause-sound_snks g c =
     let is = g.K.Kinds.is in
-    let view = g.K.Part.Machine.view in
+    let view = g.M.Machine.view in
     let S = g.Src.Source in
     let K = g.Snk.Sink in
     let job = c.args.job.now in
@@ -132,6 +132,6 @@ returns-clause-sound_snks g c =
     let srcs_len : length srcs ≡ length heads = (let t = c.if-len-heads.false in let l = c.len.ensures in let ok = c.args.srcs.ok.0 in omega (arith, t, l, ok)) in
     let snks_len : length snks ≡ length c.as_slice-outputs.result.now = (let t = c.if-len-outputs.false in let l = c.len-else-len-heads.ensures in let ok = c.args.snks.ok.0 in omega (arith, t, l, ok)) in
     let done = done_for is S.left S.name S.faults K.holds K.name K.faults view c.as_slice-outputs.result.now job.outputs heads c.as_slice-edges.result.now plan.edges c.as_slice-nodes.result.now plan.nodes srcs snks claims
-        c.run_nodes.result.end c.run_nodes.result.srcs.items c.run_nodes.result.snks.items c.as_slice-outputs.ensures c.as_slice-edges.ensures c.as_slice-nodes.ensures c.run_nodes.ensures in
+    c.run_nodes.result.end c.run_nodes.result.srcs.items c.run_nodes.result.snks.items c.as_slice-outputs.ensures c.as_slice-edges.ensures c.as_slice-nodes.ensures c.run_nodes.ensures in
     all_sinks is S.left S.name S.faults K.holds K.name K.faults view job plan heads srcs snks claims c.run_nodes.result.end c.run_nodes.result.srcs.items c.run_nodes.result.snks.items
     c.requires srcs_len (snks_len ∙ ap length c.as_slice-outputs.ensures) refl done

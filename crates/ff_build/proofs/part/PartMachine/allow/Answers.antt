@@ -1,0 +1,15 @@
+use Rattle.std.specs.Prelude.{◌≡◌}
+use Rattle.std.specs.Option.{IfSome}
+use Rattle.std.proofs.Common.{subst, sym}
+use Rattle.ff_muxing.specs.Muxers.{mux_stands}
+use Rattle.ff_net.specs.Pasts.{Past}
+use Rattle.ff_build.specs.declared.part.Part.{Part}
+use Rattle.ff_build.specs.PartViews.{part_view}
+use Rattle.ff_build.proofs.part.PartMachine.allow.Goals as goal
+
+pub returns-in-Mux-clause-back : goal.returns-in-Mux-clause-back
+returns-in-Mux-clause-back g c =
+    subst
+    (λ (p : Part g.row.Src.Denot g.row.Snk.Denot g.Snk.Sink). IfSome c.allow-in-Mux.result (λ t. (t ≡ c.args.ticket) × ((past : Past) → (part_view g.Src.Source.left g.Src.Source.name g.Src.Source.faults p).stands past → mux_stands c.allow-in-Mux.new.self past)))
+    (sym c.in-Mux.is)
+    c.allow-in-Mux.ensures.back

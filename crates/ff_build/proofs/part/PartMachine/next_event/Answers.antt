@@ -1,0 +1,13 @@
+use Rattle.ff_build.proofs.part.PartMachine.next_event.Goals as goal
+
+pub returns-in-Demux-clause-gives : goal.returns-in-Demux-clause-gives
+returns-in-Demux-clause-gives g c e is past s = let h = c.next_event.ensures.gives e is past (rw c.in-Demux.is at s) in (h.0, λ r. h.1 (rw c.in-Demux.is at r))
+
+pub returns-in-Enc-clause-gives : goal.returns-in-Enc-clause-gives
+returns-in-Enc-clause-gives g c e is past s = let h = c.next_event-in-Enc.ensures.gives e is past (rw c.in-Enc.is at s) in (h.0, λ r. h.1 (rw c.in-Enc.is at r))
+
+pub returns-in-Mux-clause-gives : goal.returns-in-Mux-clause-gives
+returns-in-Mux-clause-gives g c e is past s = let h = c.next_event-in-Mux.ensures.gives e is past (rw c.in-Mux.is at s) in (h.0, λ r. h.1 (rw c.in-Mux.is at r))
+
+pub returns-in-Mux-clause-waits : goal.returns-in-Mux-clause-waits
+returns-in-Mux-clause-waits g c n past s = c.next_event-in-Mux.ensures.waits n past (rw c.in-Mux.is at s)

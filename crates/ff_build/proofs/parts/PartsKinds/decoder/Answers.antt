@@ -1,0 +1,16 @@
+use Rattle.std.specs.Prelude.{Option}
+use Rattle.std.proofs.Common.{subst}
+use Rattle.ff_coders.specs.AnyCoders.{any_head, any_frame}
+use Rattle.ff_coding.specs.Coders.{dec_stands}
+use Rattle.ff_coding.specs.Decoding.{dec_task}
+use Rattle.ff_frame.specs.declared.item.Item.{Item}
+use Rattle.ff_net.specs.Pasts.{start}
+use Rattle.ff_values.specs.declared.packet.Pkt.{Pkt}
+use Rattle.ff_build.proofs.parts.PartsKinds.decoder.Goals as goal
+
+pub returns-clause-starts : goal.returns-clause-starts
+returns-clause-starts g c =
+    subst
+    (λ (f : Pkt → Option Item). dec_stands any_head any_frame c.in_ok-dec.dec (start (dec_task f c.args.outputs)))
+    c.decoder_of.ensures.frame
+    c.in_ok-dec.ensures.stands

@@ -1,0 +1,24 @@
+use Rattle.std.specs.Prelude.{◌≡◌, ◌≤◌, ℕ, zero, suc, List, [], ◌∷◌, length, replicate}
+use Rattle.std.proofs.Common.{arith, inl, inr, subst, sym}
+use Rattle.ff_coders.specs.AnyCoders.{any_head, any_coded}
+use Rattle.ff_frame.specs.declared.item.Lane.{Lane}
+use Rattle.ff_frame.specs.declared.item.Lane.TheVariants.{Frames, Packets}
+use Rattle.ff_build.specs.declared.part.Part.{Part}
+use Rattle.ff_build.specs.PartViews.{part_view}
+use Rattle.ff_build.proofs.parts.PartsKinds.into_ends.Goals as goal
+
+one_lane : (x : Lane) → (x ∷ []) ≡ [] → ⊥
+one_lane x e = cc
+
+some_lanes : (n : ℕ) (x : Lane) → 1 ≤ n → replicate n x ≡ [] → ⊥
+some_lanes zero x some e = omega (arith, some)
+some_lanes (suc n) x some e = cc
+
+pub returns-in-Dec : goal.returns-in-Dec
+returns-in-Dec g c =
+    let HasEnds : Part g.row.Src.Denot g.row.Snk.Denot g.Snk.Sink → Type 0 =
+    λ p. ((part_view g.Src.Source.left g.Src.Source.name g.Src.Source.faults p).in_lanes ≡ [] → ⊥) × ((part_view g.Src.Source.left g.Src.Source.name g.Src.Source.faults p).out_lanes ≡ [] → ⊥) in
+    elim c.in-Dec.is [
+      | inl w ↦ subst HasEnds (sym w.1) (one_lane (Packets (any_head w.0.decoder)), some_lanes (length w.0.spread.outs.items) (Frames (any_head w.0.decoder)) w.0.spread.some)
+      | inr w ↦ subst HasEnds (sym w.1) (one_lane (Frames w.0.head), some_lanes (length w.0.spread.outs.items) (Packets (any_coded w.0.encoder w.0.head)) w.0.spread.some)
+    ]
