@@ -6,7 +6,7 @@ use Rattle.ff_coding.specs.Decoding.{dec_task}
 use Rattle.ff_frame.specs.declared.item.Item.{Item}
 use Rattle.ff_net.specs.Pasts.{start}
 use Rattle.ff_values.specs.declared.packet.Pkt.{Pkt}
-use Rattle.ff_build.proofs.parts.PartsKinds.decoder.Goals as goal
+use Rattle.ff_build.proofs.parts.PartsKindsPart.decoder.Goals as goal
 
 pub returns-clause-starts : goal.returns-clause-starts
 returns-clause-starts g c =

@@ -5,7 +5,7 @@ use Rattle.ff_frame.specs.declared.item.Lane.{Lane}
 use Rattle.ff_frame.specs.declared.item.Lane.TheVariants.{Frames, Packets}
 use Rattle.ff_build.specs.declared.part.Part.{Part}
 use Rattle.ff_build.specs.PartViews.{part_view}
-use Rattle.ff_build.proofs.parts.PartsKinds.into_ends.Goals as goal
+use Rattle.ff_build.proofs.parts.PartsKindsPart.into_ends.Goals as goal
 
 one_lane : (x : Lane) → (x ∷ []) ≡ [] → ⊥
 one_lane x e = cc
