@@ -1,5 +1,4 @@
 -- What the nodes of a plan are there for, by the definitions of formats and codecs.
-use Rattle.std.specs.Prelude.{List, ℕ}
 use Rattle.ff_coders.specs.Choices.{CanDecode, CanEncode, frame_made, packet_made}
 use Rattle.ff_coding.specs.Decoding.{dec_task}
 use Rattle.ff_coding.specs.Encoding.{enc_task}

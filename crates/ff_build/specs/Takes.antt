@@ -1,6 +1,6 @@
 -- What a head that was read tells of its stream can be decoded, and coded and written as an output takes it.
 use Rattle.std.specs.Prelude.{◌≡◌, ◌≢◌, ℕ, ◌&&◌, true, refl}
-use Rattle.std.proofs.Common.{ap, arith}
+use Rattle.std.proofs.Common.{ap}
 use Rattle.ff_values.specs.Codecs.{IsPcmCodec}
 use Rattle.ff_values.specs.declared.head.Codec.{Codec}
 use Rattle.ff_values.specs.declared.head.Codec.TheVariants as codec

@@ -1,4 +1,4 @@
-use Rattle.std.specs.Prelude.{◌≡◌, ◌≤◌, ℕ, zero, suc, List, [], ◌∷◌, length, replicate}
+use Rattle.std.specs.Prelude.{◌≡◌, ◌≤◌, ℕ, zero, suc, [], ◌∷◌, length, replicate}
 use Rattle.std.proofs.Common.{arith, inl, inr, subst, sym}
 use Rattle.ff_coders.specs.AnyCoders.{any_head, any_coded}
 use Rattle.ff_frame.specs.declared.item.Lane.{Lane}
