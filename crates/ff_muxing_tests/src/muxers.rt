@@ -137,7 +137,7 @@ fn leaves(
     mux: OutMux,
     packets: u8,
     breaks: bool,
-    texts: &[&str],
+    texts: [&'static str; 3],
     fault: Option<Fault>,
 ) -> Result<bool, AllocError> {
     let mut mux = mux;
@@ -146,9 +146,9 @@ fn leaves(
     let ended = !before & mux.spent(0) & (mux.fault() == fault);
     let held = hex::encode(alloc, mux.into_sink().bytes())?;
     let mut wanted = String::new(alloc);
-    for text in texts {
-        wanted.push_str(text)?;
-    }
+    wanted.push_str(texts[0])?;
+    wanted.push_str(texts[1])?;
+    wanted.push_str(texts[2])?;
     Ok(ended & (held.as_str() == wanted.as_str()))
 }
 
@@ -196,7 +196,7 @@ fn writes_sound(rt: HostRuntime) -> Result<(), AllocError> {
         (1, true, HostCall::Patch, 1, [OPEN, ABC, ""], None),
     ] {
         let mux = wav(rt.alloc(), sink(rt.alloc(), call, number)?)?;
-        let came = leaves(rt.alloc(), mux, packets, breaks, &texts, fault)?;
+        let came = leaves(rt.alloc(), mux, packets, breaks, texts, fault)?;
         assert!(rt; came, "{packets} packets, {number}");
     }
     Ok(())
@@ -205,7 +205,7 @@ fn writes_sound(rt: HostRuntime) -> Result<(), AllocError> {
 #[test]
 fn writes_pictures(rt: HostRuntime) -> Result<(), AllocError> {
     let mux = y4m(rt.alloc(), sink(rt.alloc(), HostCall::Patch, 1)?)?;
-    let came = leaves(rt.alloc(), mux, 1, false, &[PICTURES, FRAME, ABC], None)?;
+    let came = leaves(rt.alloc(), mux, 1, false, [PICTURES, FRAME, ABC], None)?;
     assert!(rt; came);
     Ok(())
 }
@@ -215,7 +215,14 @@ fn writes_digests(rt: HostRuntime) -> Result<(), AllocError> {
     let mux = digests(rt.alloc(), sink(rt.alloc(), HostCall::Append, 2)?)?;
     let text =
         "23666f726d61743a206672616d6520636865636b73756d730a2376657273696f6e3a20320a23686173683a204d44350a23746220303a20312f34343130300a236d656469615f7479706520303a20617564696f0a23636f6465635f696420303a2070636d5f75380a2373616d706c655f7261746520303a2034343130300a236368616e6e656c5f6c61796f75745f6e616d6520303a206d6f6e6f0a2373747265616d232c206474732c20202020202020207074732c206475726174696f6e2c202020202073697a652c20686173680a";
-    let came = leaves(rt.alloc(), mux, 1, false, &[text], Some(Fault::Device))?;
+    let came = leaves(
+        rt.alloc(),
+        mux,
+        1,
+        false,
+        [text, "", ""],
+        Some(Fault::Device),
+    )?;
     assert!(rt; came);
     Ok(())
 }
