@@ -1,5 +1,8 @@
 -- What the making of a plan says, and its run.
 use Rattle.std.specs.Prelude.{◌≡◌, ℕ, List, length, Option, None, Some, Result, IfOk, IfErr, OnOk}
+use Rattle.std.specs.Io.KnownBytes.{prepend_known}
+use Rattle.ff_host.specs.Begun.{still_in}
+use Rattle.ff_host.specs.declared.begun.Begun.{Begun}
 use Rattle.ff_words.specs.declared.job.Job.{Job}
 use Rattle.ff_plan.specs.declared.planned.Plan.{Plan}
 use Rattle.ff_plan.specs.declared.planned.PlanError.{PlanError}
@@ -29,3 +32,10 @@ pub record RunSays {H S K : Type 0} (is : KindsOf H) (left named : S → Option 
   pub ends : EndsWork (means is job) failed faulted srcs snks srcs' snks' heads (AreTold left holds srcs snks) end
   pub sound_srcs : FailNoMore failed srcs srcs' (sound_sources (means is job) end (length srcs))
   pub sound_snks : FailNoMore faulted snks snks' (sound_sinks (means is job) end (length snks))
+
+-- over sources of which some bytes were read before
+abbrev pub BegunSays : {H S K : Type 0} → KindsOf H → (S → Option (List ℕ)) → (S → Option (List ℕ)) → (S → ℕ) → (K → Option (List ℕ)) → (K → Option (List ℕ)) → (K → ℕ)
+    → Job → List H → List (Begun S) → List K → WorkEnd RunFault → List (Begun S) → List K → Type 0
+BegunSays {H} {S} {K} is left named failed holds called faulted job heads srcs snks end srcs' snks' =
+    RunSays is (λ (b : Begun S). prepend_known (still_in b.bytes.items b.at) (left b.src)) (λ (b : Begun S). named b.src) (λ (b : Begun S). failed b.src) holds called faulted
+    job heads srcs snks end srcs' snks'

@@ -1,4 +1,5 @@
 // A command: from the words and the files to the files, the log and the report.
+ghost use denote.Param.Send.{IsSync};
 ghost use Rattle.std.specs.Prelude.{◌≡◌, ◌≢◌, ◌⊎◌, ◌↔◌, [], ℕ, List};
 ghost use Rattle.std.specs.Io.KnownBytes.{Appends, Keeps};
 ghost use Rattle.ff_host.specs.Causes.{Rose};
@@ -14,15 +15,39 @@ ghost use Rattle.ff_command.specs.Command.{AskFor, AreWrong, IsNamed, KeepsOther
 ghost use Rattle.ff_command.specs.Command.{refused_head, refused_plan, over, HoldsMeaning, HoldsFront, IsHeadRefused, IsDamaged, IsTooLong};
 ghost use Rattle.ff_command.specs.Command.{HasFailed, GivesNoHead, GivesNoPlan, GivesAll, KeepsInputCounts, KeepsOutputCounts};
 ghost use Rattle.ff_command.specs.Texts.{fault_text};
+ghost use Rattle.ff_build.specs.Parts.{all_kinds};
+ghost use Rattle.ff_running.specs.Accepting.{IsAccepted, IsPlanFor};
 ghost use Rattle.ff_run.specs.Meaning.{job_means};
+ghost use Rattle.ff_run.specs.Saying.{BegunSays, PlanSays, RunSays};
 
 use crate::worker::Threaded;
+use ff_build::{Part, Parts};
 use ff_command::{Line, Report, Status, run_command};
-use ff_host::{Host, Sink};
-use ff_plan::PlanError;
+use ff_files::{Done, PlanEnd};
+use ff_heads::InputHead;
+use ff_host::{Begun, Host, Sink, Source};
+use ff_plan::{Plan, PlanError};
+use ff_running::{RunFault, make_plan, run_plan};
+use ff_words::Job;
 use std::alloc::Global;
 use std::sync::Wait;
 use std::thread::Threads;
+
+// Runs a plan of these heads over parts of any format.
+fn run_parts<R: Threads + Wait + Sync, Src: Source + Send + Drop, Snk: Sink + Send + Drop>(
+    rt: &R,
+    alloc: Global,
+    job: &Job,
+    plan: &Plan,
+    heads: &[InputHead],
+    srcs: Vec<Src>,
+    snks: Vec<Snk>,
+) -> Done<RunFault, Src, Snk>
+    requires { IsPlanFor all_kinds job.now heads.now plan.now }
+    ensures { RunSays all_kinds Src.left Src.name Src.faults Snk.holds Snk.name Snk.faults job.now heads.now srcs.items snks.items result.end result.srcs.items result.snks.items }
+{
+    run_plan::<Parts, R, Src, Snk, Part<Src, Snk>>(rt, alloc, job, plan, heads, srcs, snks)
+}
 
 /// The command: all that the program does.
 ///
@@ -105,6 +130,17 @@ pub fn ffmpeg<R: Threads + Wait + Sync, H: Host, E: Sink>(
     ensures history { result.history ≡ [] }
     ensures reads { result.reads.items ≡ [] }
 {
-    let worker = Threaded { rt, alloc };
+    let plan = |job: &Job, heads: &[InputHead]| -> Result<Plan, PlanEnd<PlanError>>
+        requires { IsAccepted all_kinds job.now heads.now }
+        ensures { PlanSays all_kinds job.now heads.now result }
+    { make_plan::<Parts, Begun<H::Src>, H::Snk, Part<Begun<H::Src>, H::Snk>>(alloc, job, heads) };
+    let run = |job: &Job, plan: Plan, heads: &[InputHead], srcs: Vec<Begun<H::Src>>, snks: Vec<
+        H::Snk,
+    >| -> Done<RunFault, Begun<H::Src>, H::Snk>
+        requires sync { IsSync R.row }
+        requires plan { IsPlanFor all_kinds job.now heads.now plan }
+        ensures { BegunSays all_kinds H.Src.left H.Src.name H.Src.faults H.Snk.holds H.Snk.name H.Snk.faults job.now heads.now srcs.items snks.items result.end result.srcs.items result.snks.items }
+    { run_parts::<R, Begun<H::Src>, H::Snk>(rt, alloc, job, &plan, heads, srcs, snks) };
+    let worker = Threaded { plan, run };
     run_command(alloc, &worker, words, host, log)
 }

@@ -1,40 +1,86 @@
 // How jobs are worked: planned, and run in threads over parts of any format.
+ghost use Rattle.std.specs.Prelude.{◌≡◌, ◌≢◌, ◌<◌, ◌^◌, ℕ, List, length, Some, None, IfOk, IfErr, OnOk};
 ghost use Rattle.ff_build.specs.Parts.{all_kinds};
-ghost use Rattle.ff_running.specs.Accepting.{IsPlanFor};
-ghost use Rattle.ff_run.specs.Meaning.{job_means};
+ghost use Rattle.ff_command.specs.Steps.{AreAllHeads};
+ghost use Rattle.ff_files.specs.Works.{AreTold, HoldFiles, HoldParts, KeepEnds, FailNoMore, EndsWork, sound_sources, sound_sinks};
+ghost use Rattle.ff_running.specs.Accepting.{IsAccepted, IsPlanFor};
+ghost use Rattle.ff_words.specs.declared.job.FileFormat.TheVariants.{Flac};
+ghost use Rattle.ff_run.specs.Meaning.{job_means, unwritten, unwritten_from};
+ghost use Rattle.ff_run.specs.Saying.{PlanSays, RunSays};
 
-use ff_build::Parts;
 use ff_command::Worker;
-use ff_files::{Done, PlanEnd, Work};
+use ff_files::{Done, PlanEnd, WorkEnd};
 use ff_heads::InputHead;
 use ff_host::{Sink, Source};
 use ff_plan::{Plan, PlanError};
-use ff_running::{PlanRun, RunFault};
-use ff_words::Job;
-use std::alloc::Global;
-use std::sync::Wait;
-use std::thread::Threads;
+use ff_running::RunFault;
+use ff_words::{FileFormat, Job, OutputJob};
 
-/// Each node of a plan in a thread of its own.
-#[derive(Drop)]
-pub(crate) struct Threaded<'a, R: Threads + Wait + Sync> {
-    pub(crate) rt: &'a R,
-    pub(crate) alloc: Global,
+// FLAC files aren't written yet.
+fn is_written(output: u32, out: &OutputJob) -> Result<(), PlanError>
+    ensures all { IfOk result (λ _. (unwritten output out.now.format ≡ None) × (out.now.format ≢ Flac)) }
+    ensures missing { IfErr result (λ e. unwritten output out.now.format ≡ Some e) }
+{
+    match out.format {
+        FileFormat::Flac => Err(PlanError::Takes { output, stream: 0 }),
+        _ => Ok(()),
+    }
 }
 
-impl<'a, R: Threads + Wait + Sync, Src: Source + Send + Drop, Snk: Sink + Send + Drop> Worker<
-    Src,
-    Snk,
-> for Threaded<'a, R> {
+// Whether each output is of a format that is written.
+fn are_written(outputs: &[OutputJob]) -> Result<(), PlanError>
+    requires { length outputs.now < 2 ^ 32 }
+    ensures all { IfOk result (λ _. (unwritten_from 0 outputs.now ≡ None)) }
+    ensures missing { IfErr result (λ e. unwritten_from 0 outputs.now ≡ Some e) }
+{
+    for (output, out) in outputs.iter().enumerate() {
+        is_written(output as u32, out)?;
+    }
+    Ok(())
+}
+
+/// Each node of a plan in a thread of its own: whoever has the threads says how a plan is made, and how it is run.
+#[derive(Drop)]
+pub(crate) struct Threaded<P: Drop, Q: Drop> {
+    pub(crate) plan: P,
+    pub(crate) run: Q,
+}
+
+impl<
+    Src: Source + Send + Drop,
+    Snk: Sink + Send + Drop,
+    P: Fn(&Job, &[InputHead]) -> Result<Plan, PlanEnd<PlanError>> + Drop,
+    Q: Fn(&Job, Plan, &[InputHead], Vec<Src>, Vec<Snk>) -> Done<RunFault, Src, Snk> + Drop,
+> Worker<Src, Snk> for Threaded<P, Q> {
     type Plan = Plan;
 
     ghost means = { λ worker job. job_means job };
 
-    ghost is_plan = { λ worker job heads plan. IsPlanFor all_kinds job heads plan };
+    ghost is_able = { λ worker. ((job : _) (hs : _) → IsAccepted all_kinds job.now hs.now → P.pre worker.plan job hs
+        × ((r : _) → P.post worker.plan job hs r → PlanSays all_kinds job.now hs.now r))
+        × ((job : _) (plan : _) (hs : _) (ss : _) (ks : _) → IsPlanFor all_kinds job.now hs.now plan → Q.pre worker.run job plan hs ss ks
+        × ((r : _) → Q.post worker.run job plan hs ss ks r → RunSays all_kinds Src.left Src.name Src.faults Snk.holds Snk.name Snk.faults job.now hs.now ss.items ks.items r.end r.srcs.items r.snks.items)) };
 
-    fn plan(&self, job: &Job, heads: &[InputHead]) -> Result<Plan, PlanEnd<PlanError>> {
-        let run: PlanRun<'_, R, Parts> = PlanRun::new(self.rt, self.alloc, job);
-        <PlanRun<'_, R, Parts> as Work<InputHead, Src, Snk>>::plan(&run, heads)
+    ghost is_plan = { λ worker job heads plan. IsPlanFor all_kinds job heads plan
+        × ((job : _) (plan : _) (hs : _) (ss : _) (ks : _) → IsPlanFor all_kinds job.now hs.now plan → Q.pre worker.run job plan hs ss ks
+        × ((r : _) → Q.post worker.run job plan hs ss ks r → RunSays all_kinds Src.left Src.name Src.faults Snk.holds Snk.name Snk.faults job.now hs.now ss.items ks.items r.end r.srcs.items r.snks.items)) };
+
+    fn plan(&self, job: &Job, heads: &[InputHead]) -> Result<Plan, PlanEnd<PlanError>>
+        requires { (((job : _) (hs : _) → IsAccepted all_kinds job.now hs.now → P.pre self.now.plan job hs
+            × ((r : _) → P.post self.now.plan job hs r → PlanSays all_kinds job.now hs.now r))
+            × ((job : _) (plan : _) (hs : _) (ss : _) (ks : _) → IsPlanFor all_kinds job.now hs.now plan → Q.pre self.now.run job plan hs ss ks
+            × ((r : _) → Q.post self.now.run job plan hs ss ks r → RunSays all_kinds Src.left Src.name Src.faults Snk.holds Snk.name Snk.faults job.now hs.now ss.items ks.items r.end r.srcs.items r.snks.items)))
+            × AreAllHeads job.now heads.now }
+        ensures ok { IfOk result (λ plan. IsPlanFor all_kinds job.now heads.now plan
+            × ((job : _) (plan : _) (hs : _) (ss : _) (ks : _) → IsPlanFor all_kinds job.now hs.now plan → Q.pre self.now.run job plan hs ss ks
+            × ((r : _) → Q.post self.now.run job plan hs ss ks r → RunSays all_kinds Src.left Src.name Src.faults Snk.holds Snk.name Snk.faults job.now hs.now ss.items ks.items r.end r.srcs.items r.snks.items))) }
+        ensures some { OnOk result ((job_means job.now).refusal heads.now ≡ None) }
+        ensures refused { (why : _) → IfErr result (λ end. end ≡ PlanEnd.Refused why → (job_means job.now).refusal heads.now ≡ Some why) }
+    {
+        match are_written(job.outputs.as_slice()) {
+            Ok(()) => (self.plan)(job, heads),
+            Err(refusal) => Err(PlanEnd::Refused(refusal)),
+        }
     }
 
     fn run(
@@ -44,8 +90,21 @@ impl<'a, R: Threads + Wait + Sync, Src: Source + Send + Drop, Snk: Sink + Send +
         heads: &[InputHead],
         srcs: Vec<Src>,
         snks: Vec<Snk>,
-    ) -> Done<RunFault, Src, Snk> {
-        let run: PlanRun<'_, R, Parts> = PlanRun::new(self.rt, self.alloc, job);
-        <PlanRun<'_, R, Parts> as Work<InputHead, Src, Snk>>::run(&run, plan, heads, srcs, snks)
+    ) -> Done<RunFault, Src, Snk>
+        requires { IsPlanFor all_kinds job.now heads.now plan
+            × ((job : _) (plan : _) (hs : _) (ss : _) (ks : _) → IsPlanFor all_kinds job.now hs.now plan → Q.pre self.now.run job plan hs ss ks
+            × ((r : _) → Q.post self.now.run job plan hs ss ks r → RunSays all_kinds Src.left Src.name Src.faults Snk.holds Snk.name Snk.faults job.now hs.now ss.items ks.items r.end r.srcs.items r.snks.items)) }
+        ensures fine { result.end ≡ WorkEnd.Fine → (bytes : List (List ℕ)) → AreTold Src.left Snk.holds srcs.items snks.items bytes
+            → HoldFiles Snk.holds ((job_means job.now).file heads.now bytes) result.snks.items }
+        ensures parts { (bytes : List (List ℕ)) → AreTold Src.left Snk.holds srcs.items snks.items bytes
+            → HoldParts Snk.holds ((job_means job.now).text heads.now bytes) ((job_means job.now).file heads.now bytes) result.snks.items }
+        ensures srcs { KeepEnds Src.name srcs.items result.srcs.items }
+        ensures snks { KeepEnds Snk.name snks.items result.snks.items }
+        ensures ends { EndsWork (job_means job.now) Src.faults Snk.faults srcs.items snks.items result.srcs.items result.snks.items heads.now
+            (AreTold Src.left Snk.holds srcs.items snks.items) result.end }
+        ensures sound_srcs { FailNoMore Src.faults srcs.items result.srcs.items (sound_sources (job_means job.now) result.end (length srcs.items)) }
+        ensures sound_snks { FailNoMore Snk.faults snks.items result.snks.items (sound_sinks (job_means job.now) result.end (length snks.items)) }
+    {
+        (self.run)(job, plan, heads, srcs, snks)
     }
 }
