@@ -1,3 +1,5 @@
+ghost use Rattle.std.specs.Prelude.{◌<◌};
+
 use crate::runs::{input, log_of};
 use ff_memory_host::QuietHost;
 use ff_run::{Status, ffmpeg};
@@ -9,7 +11,9 @@ use std::thread::Threads;
 const FILES: usize = 16;
 
 // Input number k: 3,000 samples of one value each.
-fn body(alloc: Global, k: usize) -> Result<Vec<u8>, AllocError> {
+fn body(alloc: Global, k: usize) -> Result<Vec<u8>, AllocError>
+    requires { k < 16 }
+{
     vec![in alloc; 100 + k as u8; 3_000]
 }
 
@@ -42,7 +46,9 @@ fn host(alloc: Global) -> Result<QuietHost, AllocError> {
 }
 
 // Whether output k holds the samples of its input, behind a header of 44 bytes.
-fn holds(alloc: Global, host: &QuietHost, k: usize) -> Result<bool, AllocError> {
+fn holds(alloc: Global, host: &QuietHost, k: usize) -> Result<bool, AllocError>
+    requires { k < 16 }
+{
     let name = format!(in alloc; "o{k}.wav")?;
     let expected = body(alloc, FILES - 1 - k)?;
     Ok(match host.file(name.as_str()) {
