@@ -13,8 +13,8 @@ use Rattle.std.proofs.lemmas.Bool.Decides.{nat_tests}
 use Rattle.ff_time.specs.Fraction.{Fraction, IsBase, IsReduced, IsLowestOf, IsBelowOne, IsTooBig}
 use Rattle.ff_time.specs.declared.error.TimeError.{TimeError}
 use Rattle.ff_time.specs.declared.error.TimeError.TheVariants.{NotPositive, TooBig}
-use Rattle.ff_time.proofs.Lowest.{reduced_lem, IsReduced-num, IsReduced-den}
-use Rattle.ff_y4m.specs.Numbers.{is_digit, digits_from, first_place, euclid, lowest, base_of}
+use Rattle.ff_time.proofs.Lowest.{reduced_lem, IsReduced-num, IsReduced-den, IsReduced-base}
+use Rattle.ff_y4m.specs.Numbers.{is_digit, digits_from, first_place, euclid, lowest, base_of, IsBaseOf}
 use Rattle.ff_y4m.proofs.LineLaws.{moved}
 
 -- ---- digits
@@ -137,6 +137,27 @@ base_ok n d f h b =
     let l = lowest_same n d f h in
     let small = subst (λ (g : Fraction). (nat_lt g.num (2 ^ 31) && nat_lt g.den (2 ^ 31)) ≡ true) l.2 (both_small f.num f.den b.num_small b.den_small) in
     sym (base_tests n d false true (neither_zero n d l.0 l.1) small ∙ ap Some (sym l.2))
+
+lowest_of : (n d : ℕ) → 0 < n → 0 < d → IsLowestOf (pos n) (pos d) (lowest n d)
+lowest_of n d p q = record { n = n; d = d; num_is = refl; den_is = refl; num_positive = p; den_positive = q; reduced = lowest_is n d }
+
+base_case : (n d : ℕ) (f : Fraction) (a b : Bool) → (n == 0 || d == 0) ≡ a → (nat_lt (lowest n d).num (2 ^ 31) && nat_lt (lowest n d).den (2 ^ 31)) ≡ b
+    → cond a None (cond b (Some (lowest n d)) None) ≡ Some f → IsLowestOf (pos n) (pos d) f × IsBase f
+base_case n d f true b p q e = cc
+base_case n d f false false p q e = cc
+base_case n d f false true p q e =
+    let some : 0 < n = grind (arith, nat_tests) in
+    let other : 0 < d = grind (arith, nat_tests) in
+    let num : (lowest n d).num < 2 ^ 31 = grind (arith, nat_tests) in
+    let den : (lowest n d).den < 2 ^ 31 = grind (arith, nat_tests) in
+    let same : lowest n d ≡ f = cc in
+    subst (λ (g : Fraction). IsLowestOf (pos n) (pos d) g × IsBase g) same (lowest_of n d some other, IsReduced-base n d (lowest n d) some other (lowest_is n d) num den)
+
+pub base_is : (n d : ℕ) (f : Fraction) → IsBaseOf n d f
+base_is n d f =
+    let zero_test : Bool = n == 0 || d == 0 in
+    let small_test : Bool = nat_lt (lowest n d).num (2 ^ 31) && nat_lt (lowest n d).den (2 ^ 31) in
+    (λ e. base_case n d f zero_test small_test refl refl (sym (base_tests n d zero_test small_test refl refl) ∙ e), λ h. sym (base_ok n d f h.0 h.1))
 
 below_one : (n d : ℕ) → IsBelowOne (pos n) (pos d) → (n < 1) ⊎ (d < 1)
 below_one n d (inl p) = inl (omega (arith, ints, p))

@@ -1,7 +1,7 @@
 -- Numbers in parameters.
-use Rattle.std.specs.Prelude.{ℕ, zero, suc, ◌+◌, ◌-◌, ◌*◌, ◌%◌, ◌/◌, ◌^◌, ◌==◌, ◌&&◌, ◌||◌, nat_le, nat_lt, Bool, if◌then◌else◌, List, [], ◌∷◌, take, drop, length, Option, Some, None}
+use Rattle.std.specs.Prelude.{◌≡◌, ◌↔◌, ℕ, zero, suc, ◌+◌, ◌-◌, ◌*◌, ◌%◌, ◌/◌, ◌^◌, ◌==◌, ◌&&◌, ◌||◌, nat_le, nat_lt, Bool, if◌then◌else◌, List, [], ◌∷◌, take, drop, length, Option, Some, None, pos}
 use Rattle.std.specs.Option.{option_map}
-use Rattle.ff_time.specs.Fraction.{Fraction}
+use Rattle.ff_time.specs.Fraction.{Fraction, IsBase, IsLowestOf}
 
 abbrev pub is_digit : ℕ → Bool
 is_digit b = nat_le 48 b && nat_le b 57
@@ -52,3 +52,7 @@ base_of num den =
     if num == 0 || den == 0 then None
     else if nat_lt (lowest num den).num (2 ^ 31) && nat_lt (lowest num den).den (2 ^ 31) then Some (lowest num den)
     else None
+
+-- the base of two numbers is their fraction in the lowest terms of ff_time, exactly where that is a time base
+abbrev pub IsBaseOf : ℕ → ℕ → Fraction → Type 0
+IsBaseOf num den f = (base_of num den ≡ Some f) ↔ (IsLowestOf (pos num) (pos den) f × IsBase f)

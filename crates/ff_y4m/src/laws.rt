@@ -1,7 +1,9 @@
 // What follows of the definitions alone.
 ghost use Rattle.std.specs.Prelude.{◌≡◌, ℕ, List, None, All, length};
 ghost use Rattle.ff_values.specs.declared.packet.Pkt.{Pkt};
+ghost use Rattle.ff_time.specs.Fraction.{Fraction};
 ghost use Rattle.ff_y4m.specs.Header.{frames, planes_of};
+ghost use Rattle.ff_y4m.specs.Numbers.{IsBaseOf};
 ghost use Rattle.ff_y4m.specs.Packets.{packets_from, broken_from};
 ghost use Rattle.ff_y4m.specs.Units.{IsDecided};
 ghost use Rattle.ff_y4m.specs.Written.{HeadersAreRead, FilesAreRead, FramesAreRead};
@@ -24,4 +26,10 @@ pub fn what_is_written_is_read_again()
 /// where whatever follows makes none, and more bytes are wanted exactly in between.
 pub fn frames_are_decided()
     ensures { (size : ℕ) (bytes : List ℕ) → IsDecided size bytes }
+{}
+
+/// A rate's time base is what ff_time says of its two numbers: their fraction in lowest terms, and none exactly where that is
+/// no time base.
+pub fn rates_are_in_lowest_terms()
+    ensures { (num den : ℕ) (f : Fraction) → IsBaseOf num den f }
 {}

@@ -21,5 +21,8 @@ pub use cut::Y4mCut;
 pub use ff_cut::HeadFault;
 pub use head::Y4mHead;
 pub use header::y4m_header;
-pub use laws::{frames_are_decided, what_is_written_is_read_again, written_frames_are_read_again};
+pub use laws::{
+    frames_are_decided, rates_are_in_lowest_terms, what_is_written_is_read_again,
+    written_frames_are_read_again,
+};
 pub use read::read_head;

@@ -1,16 +1,17 @@
 // Samples of raw bytes: signed, the lowest byte first.
-ghost use Rattle.std.specs.Prelude.{◌≡◌, ◌≤◌, ◌<◌, ◌*◌, ◌-◌, ◌%◌, ◌^◌, [], ◌∷◌, length, pos, negsuc, IfOk};
+ghost use Rattle.std.specs.Prelude.{◌≡◌, ◌≤◌, ◌<◌, ◌*◌, ◌%◌, ◌^◌, ℕ, [], ◌∷◌, length, IfOk};
+ghost use Rattle.ff_bits.specs.Integers.{signed as integer_of};
 ghost use Rattle.ff_flac_enc.specs.Totals.{sample_bytes, samples_bytes};
 
 use crate::stop::Unfit;
 use std::alloc::{AllocError, Global};
 
-// The number that this code stands for in two's complement, in which the codes from `half` on are those below 0.
+// The integer that this code stands for as two's complement of so many bits as make the codes from `half` on those below 0.
+#[tactic(auto, using(crate::proofs::Complement::high_code))]
 fn signed(code: u32, half: u32) -> i32
     requires few { half ≤ 2 ^ 23 }
     requires within { code < 2 * half }
-    ensures low { code < half → result ≡ pos code }
-    ensures high { half ≤ code → result ≡ negsuc (2 * half - code - 1) }
+    ensures { (bits : ℕ) → 2 ^ bits ≡ 2 * half → result ≡ integer_of bits code }
 {
     if code < half {
         code as i32

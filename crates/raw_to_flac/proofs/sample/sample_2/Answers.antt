@@ -1,0 +1,15 @@
+use Rattle.std.proofs.Common.{◌≡◌, ◌+◌, ◌*◌, ◌∙◌, ap, arith, rules, w32}
+use Rattle.std.specs.Prelude.{FitsSigned}
+use Rattle.std.proofs.lemmas.Int.{to_z-of_z}
+use Rattle.ff_bits.specs.Integers.{signed}
+use Rattle.raw_to_flac.proofs.Complement.{two_bytes}
+use Rattle.raw_to_flac.proofs.sample.sample_2.Goals as goal
+
+pub returns : goal.returns
+returns c =
+    let fits : FitsSigned w32 c.signed.result = search rules in
+    let first : c.from.result ≡ c.args.a = search rules in
+    let second : c.from-2.result ≡ c.args.b = search rules in
+    let code : c.from.result + 256 * c.from-2.result ≡ c.args.a + 256 * c.args.b = omega (arith, first, second) in
+    let is : c.signed.result ≡ signed 16 (c.args.a + 256 * c.args.b) = c.signed.ensures 16 (omega arith) ∙ ap (signed 16) code in
+    two_bytes c.args.a c.args.b _ (omega arith) (omega arith) (to_z-of_z w32 c.signed.result fits ∙ is)
