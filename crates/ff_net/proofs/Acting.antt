@@ -6,31 +6,54 @@ use Rattle.ff_net.specs.declared.wires.Wires.{Wires}
 use Rattle.ff_net.specs.Pasts.{Past}
 use Rattle.ff_net.specs.Worlds.{Wire, Stand}
 use Rattle.ff_net.specs.Nodes.{IsSound, IsSame, NodeStands, in_wires_of, out_wires_of}
-use Rattle.ff_net.specs.Steps.{Course, Acts, IsDue, Turns, Prepares, Later, Stepped}
+use mathlib.Core.List.{IsPrefix}
+use Rattle.ff_frame.specs.Order.{prefix_self}
+use Rattle.ff_net.specs.Logs.{PassStep, tickets_in}
+use Rattle.ff_net.specs.Steps.{Course, Acts, IsDue, Rests, Turns, Prepares, Later, Stepped}
+use Rattle.ff_sched.specs.Passing.{Passing}
 use Rattle.ff_net.specs.Views.{View}
-use Rattle.ff_net.proofs.Moments.{fault_then, stepped_self, then_moves, course_trans}
+use Rattle.ff_net.proofs.Moments.{fault_then, stepped_self, then_moves, has_moved_then, course_self, course_trans}
 use Rattle.ff_net.proofs.Changes.{true_not_false, same_stands}
 use Rattle.ff_net.proofs.Rounds.{or_true, or_false}
 use Rattle.ff_net.proofs.Readying.{rests_same}
 
 module _ {M : Type 0} (view : M → View) where
-  -- a node with a fault isn't made ready
-  pub unready : (node : Node M) (wires : Wires) → (IsSound view node → ⊥) → Stepped view (Prepares view false true node node) node wires node wires
-  unready node wires faulty = stepped_self view (Prepares view false true node node) node wires (λ w p. record {
+  -- a node with a fault does nothing
+  pub faulty_rests : (node : Node M) (world : ℕ → Wire) (past : Past) → (IsSound view node → ⊥) → Rests view node node world past
+  faulty_rests node world past faulty = record { none_due = λ ok. absurd (faulty ok); ungranted = λ ok. absurd (faulty ok) }
+
+  pub unmoved : (node : Node M) (wires : Wires) → (IsSound view node → ⊥) → Stepped view (Turns view false node node) node wires node wires
+  unmoved node wires faulty = stepped_self view (Turns view false node node) node wires (λ w p. record {
     moves = λ e. absurd (true_not_false (sym e));
-    taken = λ v. refl;
+    takes_nothing = λ k d v. refl;
     allows_nothing = λ k d. refl;
-    none_before = λ ok. absurd (faulty ok);
-    rests = λ n. record { none_due = λ ok. absurd (faulty ok); ungranted = λ ok. absurd (faulty ok) };
+    grants_nothing = λ k d. refl;
+    rests = λ n. faulty_rests node w p faulty;
   })
 
-  module _ (granted held : Bool) (K : Type 0) (before after last : Node M) (wires wires' : Wires)
-      (ready : Stepped view (Prepares view granted held before after) before wires after wires)
-      (quiet : (a : ℕ → Wire) (p : Past) (b : ℕ → Wire) (q : Past) → Prepares view granted held before after a p b q → (k : ℕ) → IsDue view before a p k → K) where
-    moved_on : (world : ℕ → Wire) (past : Past) → Stepped view (Acts (true ≡ true) K) after wires last wires' → Stand wires world → NodeStands view before world past
-        → Later view (Turns view (granted || true) before last) (in_wires_of before) (out_wires_of before) last wires' world past
+  -- what was made ready moved so far
+  pub as_turn : (granted held : Bool) (before node : Node M) (a : ℕ → Wire) (p : Past) (b : ℕ → Wire) (q : Past) → Prepares view granted held before node a p b q → Turns view granted before node a p b q
+  as_turn granted held before node a p b q x = record { moves = x.moves; takes_nothing = λ k d w. x.taken w; allows_nothing = x.allows_nothing; grants_nothing = x.grants_nothing; rests = x.rests }
+
+  module _ (how : (ℕ → Wire) → Past → (ℕ → Wire) → Past → Type 0) (acted : Bool) (K : Type 0) (before after last : Node M) (wires wires' wires'' : Wires)
+      (ready : Stepped view how before wires after wires')
+      (turned : (a : ℕ → Wire) (p : Past) (b : ℕ → Wire) (q : Past) → how a p b q → Turns view acted before after a p b q)
+      (quiet : (a : ℕ → Wire) (p : Past) (b : ℕ → Wire) (q : Past) → how a p b q → (k : ℕ) → IsDue view before a p k → K)
+      (pass : last.pass ≡ after.pass) where
+    log_same : tickets_in last.pass.log ≡ tickets_in after.pass.log
+    log_same = ap (λ (p : Passing). tickets_in p.log) pass
+
+    log_front : IsPrefix before.pass.log last.pass.log
+    log_front = subst (λ (p : Passing). IsPrefix before.pass.log p.log) (sym pass) ready.passes.log
+
+    passes : PassStep before.pass last.pass
+    passes = subst (λ (p : Passing). PassStep before.pass p) (sym pass) ready.passes
+
+    moved_on : (world : ℕ → Wire) (past : Past) → Stepped view (Acts (true ≡ true) K) after wires' last wires'' → Stand wires world → NodeStands view before world past
+        → Later view (Turns view (acted || true) before last) (in_wires_of before) (out_wires_of before) last wires'' world past
     moved_on world past act stand was =
         let x = ready.goes world past stand was in
+        let z = turned world past x.now x.since x.so in
         let y = act.goes x.now x.since x.stand x.fits in
         let f : Course (in_wires_of before) (out_wires_of before) x.now y.now x.since y.since = subst (λ (os : List ℕ). Course (in_wires_of before) os x.now y.now x.since y.since) ready.outs_same (subst (λ (is : List ℕ). Course is (out_wires_of after) x.now y.now x.since y.since) ready.ins_same y.course) in record {
           now = y.now;
@@ -39,38 +62,43 @@ module _ {M : Type 0} (view : M → View) where
           fits = y.fits;
           course = course_trans (in_wires_of before) (out_wires_of before) world x.now y.now past x.since y.since x.course f;
           so = record {
-            moves = λ e. then_moves (in_wires_of before) (out_wires_of before) world x.now y.now past x.since y.since x.course f (y.so.moves refl);
-            takes_nothing = λ k d w. y.so.takes_nothing (quiet world past x.now x.since x.so k d) w ∙ x.so.taken w;
-            allows_nothing = λ k d. y.so.allows_nothing ∙ x.so.allows_nothing k d;
-            rests = λ n. absurd (true_not_false ((or_false granted true n).1));
+            moves = λ e. inl (then_moves (in_wires_of before) (out_wires_of before) world x.now y.now past x.since y.since x.course f (y.so.moves refl));
+            takes_nothing = λ k d w. y.so.takes_nothing (quiet world past x.now x.since x.so k d) w ∙ z.takes_nothing k d w;
+            allows_nothing = λ k d. y.so.allows_nothing ∙ z.allows_nothing k d;
+            grants_nothing = λ k d. log_same ∙ z.grants_nothing k d;
+            rests = λ n. absurd (true_not_false ((or_false acted true n).1));
           };
         }
 
-    rested : (world : ℕ → Wire) (past : Past) → IsSame after last → wires' ≡ wires → Stand wires world → NodeStands view before world past
-        → Later view (Turns view (granted || false) before last) (in_wires_of before) (out_wires_of before) last wires' world past
+    rested : (world : ℕ → Wire) (past : Past) → IsSame after last → wires'' ≡ wires' → Stand wires world → NodeStands view before world past
+        → Later view (Turns view (acted || false) before last) (in_wires_of before) (out_wires_of before) last wires'' world past
     rested world past same same_wires stand was =
-        let x = ready.goes world past stand was in record {
+        let x = ready.goes world past stand was in
+        let z = turned world past x.now x.since x.so in record {
           now = x.now;
           since = x.since;
           stand = subst (λ (w : Wires). Stand w x.now) (sym same_wires) x.stand;
           fits = same_stands view after last x.now x.since same x.fits;
           course = x.course;
           so = record {
-            moves = λ e. elim (or_true granted false e) [ inl g ↦ x.so.moves g | inr n ↦ absurd (true_not_false (sym n)) ];
-            takes_nothing = λ k d w. x.so.taken w;
-            allows_nothing = x.so.allows_nothing;
-            rests = λ n. rests_same view after last x.now x.since same (x.so.rests ((or_false granted false n).0));
+            moves = λ e. elim (or_true acted false e) [ inl g ↦ has_moved_then (in_wires_of before) (out_wires_of before) before after last world x.now x.now past x.since x.since x.course (course_self (in_wires_of before) (out_wires_of before) x.now x.since) (subst (λ (p : Passing). IsPrefix after.pass.log p.log) (sym pass) (prefix_self after.pass.log)) (z.moves g) | inr n ↦ absurd (true_not_false (sym n)) ];
+            takes_nothing = z.takes_nothing;
+            allows_nothing = z.allows_nothing;
+            grants_nothing = λ k d. log_same ∙ z.grants_nothing k d;
+            rests = λ n. rests_same view before after last x.now x.since same (z.rests ((or_false acted false n).0));
           };
         }
 
-    pub turn_after : (moved : Bool) → Stepped view (Acts (moved ≡ true) K) after wires last wires' → (moved ≡ false → IsSame after last × (wires' ≡ wires)) → Stepped view (Turns view (granted || moved) before last) before wires last wires'
+    pub turn_after : (moved : Bool) → Stepped view (Acts (moved ≡ true) K) after wires' last wires'' → (moved ≡ false → IsSame after last × (wires'' ≡ wires')) → Stepped view (Turns view (acted || moved) before last) before wires last wires''
     turn_after true act same = record {
       ins_same = act.ins_same ∙ ready.ins_same;
       outs_same = act.outs_same ∙ ready.outs_same;
       in_lanes_same = act.in_lanes_same ∙ ready.in_lanes_same;
       out_lanes_same = act.out_lanes_same ∙ ready.out_lanes_same;
+      source_same = act.source_same ∙ ready.source_same;
       fares = fault_then _ _ _ ready.fares act.fares;
-      lanes_same = act.lanes_same;
+      passes = passes;
+      lanes_same = act.lanes_same ∙ ready.lanes_same;
       goes = λ world past stand was. moved_on world past act stand was;
     }
     turn_after false act same = record {
@@ -78,8 +106,10 @@ module _ {M : Type 0} (view : M → View) where
       outs_same = act.outs_same ∙ ready.outs_same;
       in_lanes_same = act.in_lanes_same ∙ ready.in_lanes_same;
       out_lanes_same = act.out_lanes_same ∙ ready.out_lanes_same;
+      source_same = act.source_same ∙ ready.source_same;
       fares = fault_then _ _ _ ready.fares act.fares;
-      lanes_same = act.lanes_same;
+      passes = passes;
+      lanes_same = act.lanes_same ∙ ready.lanes_same;
       goes = λ world past stand was. let s = same refl in rested world past s.0 s.1 stand was;
     }
 

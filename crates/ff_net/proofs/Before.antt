@@ -19,6 +19,7 @@ use Rattle.ff_net.specs.Views.{View}
 use Rattle.ff_net.proofs.PortSteps.{in_wire_in}
 use Rattle.ff_net.proofs.Queues.{nothing_valid_on}
 use Rattle.ff_net.proofs.Induction.{Placed, parts, IsOutputOf, AreFaultless, IsNet, map_valid, solve_valid, exact_before}
+use Rattle.ff_net.proofs.Granted.{granted_solution}
 use Rattle.ff_net.proofs.Whole.{placed_of, all_placed, parts_are, net_of, all_in, fed_below, bool_sound, opened_below_solution, settled_of}
 
 module _ {M : Type 0} (view : M → View) (laws : (m : M) → Laws (view m)) where
@@ -112,9 +113,10 @@ module _ {M : Type 0} (view : M → View) (laws : (m : M) → Laws (view m)) whe
     before = λ k d lt sound w i. before_of nodes lanes world tasks net up k d lt sound w i;
     cause = λ k d lt sound c e of_inputs. cause_of nodes lanes world tasks net up k d lt sound c e of_inputs;
     settled = λ sound k d lt done sink. settled_of view laws nodes lanes world tasks net up sound k d lt done sink;
+    granted = λ sound k d lt done sink w i. granted_solution view laws nodes lanes world tasks net up sound k d lt done sink w i;
     fares = fares;
   }
 
 -- it holds of nodes that began before
 pub meets_since : {M : Type 0} (view : M → View) (tasks : ℕ → Task) (first begun nodes : List (Node M)) (world : ℕ → Wire) → AllFare view first nodes → MeetsSolution view tasks begun nodes world → MeetsSolution view tasks first nodes world
-meets_since view tasks first begun nodes world fares m = record { below = m.below; before = m.before; cause = m.cause; settled = m.settled; fares = fares }
+meets_since view tasks first begun nodes world fares m = record { below = m.below; before = m.before; cause = m.cause; settled = m.settled; granted = m.granted; fares = fares }

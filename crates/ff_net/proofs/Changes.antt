@@ -18,9 +18,10 @@ use Rattle.ff_net.specs.Pasts.{Past, IsIn, gave_item, was_stopped}
 use Rattle.ff_net.specs.Laws.{NoMatter}
 use Rattle.ff_net.specs.Ports.{in_at, out_at, AreDone}
 use Rattle.ff_net.specs.Worlds.{Wire, put_on, take_on, finish_on}
-use Rattle.ff_net.specs.Nodes.{HeldIs, FedAllButOne, OutStands, InStands, IsSound, IsSame, MayClose, NodeStands, tickets, in_wires_of, out_wires_of, HaveLanes}
+use Rattle.ff_net.specs.Nodes.{HeldIs, FedAllButOne, OutStands, InStands, IsSound, IsSame, MayClose, NodeStands, LogStands, in_wires_of, out_wires_of, HaveLanes}
 use Rattle.ff_net.specs.Steps.{Course}
 use Rattle.ff_net.specs.Views.{View}
+use Rattle.ff_net.proofs.Logs.{fault_back, log_still}
 use Rattle.ff_net.proofs.Flows.{same_or_not, stream_at-with_item_same, stream_at-with_item_other}
 use Rattle.ff_net.proofs.Matters.{no_matter_lasts}
 use Rattle.ff_net.proofs.Moments.{with_wire_same, with_wire_other, with_wire_keeps, with_wire_each}
@@ -28,10 +29,6 @@ use Rattle.ff_net.proofs.PortSteps.{set_own, out_step, in_step, in_keep, out_kee
 
 pub true_not_false : true ≡ false → ⊥
 true_not_false e = cc
-
-pub fault_back : (a b : Option Fault) → ((c : Fault) → a ≡ Some c → b ≡ Some c) → b ≡ None → a ≡ None
-fault_back None b h e = refl
-fault_back (Some c) b h e = let s : b ≡ Some c = h c refl in cc
 
 pub none_held : (o : Option Item) → is_some o ≡ false → o ≡ None
 none_held None e = refl
@@ -131,9 +128,9 @@ may_machine view node node' past since lanes same task got grows =
 module _ {M : Type 0} (view : M → View) where
   -- the machine changes, and no port
   pub machine_step : (node node' : Node M) (world : ℕ → Wire) (past since : Past) → NodeStands view node world past → (view node'.machine).stands since → (IsSound view node' → IsSound view node) → (node'.refused ≡ false → node.refused ≡ false)
-      → node'.ins.items ≡ node.ins.items → node'.outs.items ≡ node.outs.items → (view node'.machine).in_lanes ≡ (view node.machine).in_lanes → since.task ≡ past.task → since.got ≡ past.got → since.gave ≡ past.gave → since.stopped ≡ past.stopped → since.allowed ≡ tickets (view node'.machine).source node'.place
+      → node'.ins.items ≡ node.ins.items → node'.outs.items ≡ node.outs.items → (view node'.machine).in_lanes ≡ (view node.machine).in_lanes → since.task ≡ past.task → since.got ≡ past.got → since.gave ≡ past.gave → since.stopped ≡ past.stopped → LogStands view node' since
       → NodeStands view node' world since
-  machine_step node node' world past since was now back fine same_ins same_outs same_lanes task got gave stopped allowed =
+  machine_step node node' world past since was now back fine same_ins same_outs same_lanes task got gave stopped log =
       let grows : (q : ℕ) → IsIn q past.stopped → IsIn q since.stopped = λ q i. subst (λ (qs : List ℕ). IsIn q qs) (sym stopped) i in record {
         machine = now;
         ins = λ q lt.
@@ -148,13 +145,13 @@ module _ {M : Type 0} (view : M → View) where
             (out_keep o (world o.wire) (world o.wire) (stream_at past.gave q) (IsIn q past.stopped) (IsIn q since.stopped) (IsSound view node) (IsSound view node') refl (λ f. f) (grows q) back (was.outs q (subst (λ (os : List OutPort). q < length os) same_outs lt))));
         beyond = λ q le. ap (λ (ss : List Flow). stream_at ss q) got ∙ was.beyond q (subst (λ (is : List InPort). length is ≤ q) same_ins le);
         stopped = λ q i. ap (λ (os : List OutPort). (out_at os q).done) same_outs ∙ was.stopped q (subst (λ (qs : List ℕ). IsIn q qs) stopped i);
-        allowed = allowed;
+        log = log;
       }
 
   pub same_stands : (node node' : Node M) (world : ℕ → Wire) (past : Past) → IsSame node node' → NodeStands view node world past → NodeStands view node' world past
   same_stands node node' world past same was =
       machine_step node node' world past past was (subst (λ m. (view m).stands past) (sym same.machine) was.machine) (λ s. (sym same.refused ∙ s.0, ap (λ m. (view m).fault) (sym same.machine) ∙ s.1)) (λ r. sym same.refused ∙ r) same.ins same.outs (ap (λ m. (view m).in_lanes) same.machine) refl refl refl refl
-      (was.allowed ∙ cc (same.place, ap (λ m. (view m).source) same.machine))
+      (log_still view node node' past same.machine (ap (λ p. p.log) same.pass) same.hand (λ r. sym same.refused ∙ r) (λ q. sym same.quiet ∙ q) was.log)
 
   -- a port that isn't done wasn't stopped
   pub busy_goes_on : (node : Node M) (world : ℕ → Wire) (past : Past) (p : ℕ) → NodeStands view node world past → (out_at node.outs.items p).done ≡ false → IsIn p past.stopped → ⊥
@@ -173,14 +170,14 @@ module _ {M : Type 0} (view : M → View) where
       }
 
   pub fill_some : (node node' : Node M) (world : ℕ → Wire) (past : Past) (p : ℕ) (x : Item) → NodeStands view node world past → (view node'.machine).stands (gave_item past p x) → ((c : Fault) → (view node.machine).fault ≡ Some c → (view node'.machine).fault ≡ Some c)
-      → node'.place ≡ node.place → (view node'.machine).source ≡ (view node.machine).source → (view node'.machine).in_lanes ≡ (view node.machine).in_lanes → node'.refused ≡ node.refused → node'.ins.items ≡ node.ins.items → node'.outs.items ≡ slice_set node.outs.items p (record (out_at node.outs.items p) { held = Some x })
+      → LogStands view node' (gave_item past p x) → (view node'.machine).in_lanes ≡ (view node.machine).in_lanes → node'.refused ≡ node.refused → node'.ins.items ≡ node.ins.items → node'.outs.items ≡ slice_set node.outs.items p (record (out_at node.outs.items p) { held = Some x })
       → p < length node.outs.items → (out_at node.outs.items p).held ≡ None → (out_at node.outs.items p).done ≡ false → (stream_at past.gave p).mark ≡ still_open
       → NodeStands view node' world (gave_item past p x)
-  fill_some node node' world past p x was now stays place src same_lanes refused ins outs there none busy unclosed =
+  fill_some node node' world past p x was now stays log same_lanes refused ins outs there none busy unclosed =
       let back : IsSound view node' → IsSound view node = λ s. (sym refused ∙ s.0, fault_back (view node.machine).fault (view node'.machine).fault stays s.1) in
       let old : OutPort = out_at node.outs.items p in
       let port : OutPort = record old { held = Some x } in
-      out_step view node node' world world past (gave_item past p x) p was now back (may_out view node node' past (gave_item past p x) p same_lanes (ap length outs ∙ simp length-set) there busy refl refl (λ q i. i)) refl place src (λ r. sym refused ∙ r) (λ q i. i)
+      out_step view node node' world world past (gave_item past p x) p was now back (may_out view node node' past (gave_item past p x) p same_lanes (ap length outs ∙ simp length-set) there busy refl refl (λ q i. i)) log (λ r. sym refused ∙ r) (λ q i. i)
       port ins outs there refl (λ v. refl) (λ v. refl) (λ q n. stream_at-with_item_other past.gave p q x n) (λ q lt n. refl)
       (subst (λ (s : Flow). OutStands port (world old.wire) s (IsIn p past.stopped) (IsSound view node')) (sym (stream_at-with_item_same past.gave p x)) (held_port old port (world old.wire) (stream_at past.gave p) (IsIn p past.stopped) (IsIn p past.stopped) (IsSound view node) (IsSound view node') x (was.outs p there) back none busy unclosed refl busy))
       (λ q i n. i) (λ i. absurd (busy_goes_on node world past p was busy i))
@@ -196,17 +193,17 @@ module _ {M : Type 0} (view : M → View) where
         done = λ d. inl (with_item_closed wire.sent x (closes.0 d));
       }
 
-  pub send_done : (node node' : Node M) (world : ℕ → Wire) (past : Past) (p : ℕ) (x : Item) (closes : Bool) (ports lanes : List Lane) → NodeStands view node world past → node'.machine ≡ node.machine → node'.place ≡ node.place → node'.refused ≡ node.refused → node'.ins.items ≡ node.ins.items
+  pub send_done : (node node' : Node M) (world : ℕ → Wire) (past : Past) (p : ℕ) (x : Item) (closes : Bool) (ports lanes : List Lane) → NodeStands view node world past → node'.machine ≡ node.machine → LogStands view node' past → node'.refused ≡ node.refused → node'.ins.items ≡ node.ins.items
       → node'.outs.items ≡ slice_set node.outs.items p (record (out_at node.outs.items p) { held = None; done = closes }) → p < length node.outs.items → HaveLanes (out_wires_of node) ports lanes
       → (out_at node.outs.items p).held ≡ Some x → (out_at node.outs.items p).done ≡ false → (IsTrue closes ↔ Closes x)
       → NodeStands view node' (put_on world (out_at node.outs.items p).wire x) past
-  send_done node node' world past p x closes ports lanes was machine place refused ins outs there apart held busy same_close =
+  send_done node node' world past p x closes ports lanes was machine log refused ins outs there apart held busy same_close =
       let old : OutPort = out_at node.outs.items p in
       let w = world old.wire in
       let w' : Wire = record { sent = with_item w.sent x; taken = w.taken; finished = w.finished } in
       let port : OutPort = record old { held = None; done = closes } in
       let back : IsSound view node' → IsSound view node = λ s. (sym refused ∙ s.0, ap (λ m. (view m).fault) (sym machine) ∙ s.1) in
-      out_step view node node' world (put_on world old.wire x) past past p was (subst (λ m. (view m).stands past) (sym machine) was.machine) back (may_out view node node' past past p (ap (λ m. (view m).in_lanes) machine) (ap length outs ∙ simp length-set) there busy refl refl (λ q i. i)) refl place (ap (λ m. (view m).source) machine) (λ r. sym refused ∙ r) (λ q i. i)
+      out_step view node node' world (put_on world old.wire x) past past p was (subst (λ m. (view m).stands past) (sym machine) was.machine) back (may_out view node node' past past p (ap (λ m. (view m).in_lanes) machine) (ap length outs ∙ simp length-set) there busy refl refl (λ q i. i)) log (λ r. sym refused ∙ r) (λ q i. i)
       port ins outs there refl (λ v. with_wire_keeps (λ (u : Wire). u.taken) world old.wire w' v refl) (λ v. with_wire_keeps (λ (u : Wire). u.finished) world old.wire w' v refl) (λ q n. refl)
       (λ q lt n. ap (λ (u : Wire). u.sent) (with_wire_other world old.wire w' (out_at node.outs.items q).wire (out_apart node.outs.items ports lanes apart p q there lt n)))
       (subst (λ (u : Wire). OutStands port u (stream_at past.gave p) (IsIn p past.stopped) (IsSound view node')) (sym (with_wire_same world old.wire w' old.wire refl)) (sent_port old port w (stream_at past.gave p) (IsIn p past.stopped) (IsIn p past.stopped) (IsSound view node) (IsSound view node') x (was.outs p there) held busy refl same_close))
@@ -214,13 +211,13 @@ module _ {M : Type 0} (view : M → View) where
 
   -- an output is told that its receiver has finished
   pub told : (node node' : Node M) (world : ℕ → Wire) (past : Past) (p : ℕ) (held : Option Item) → NodeStands view node world past → (view node'.machine).stands (was_stopped past p) → ((c : Fault) → (view node.machine).fault ≡ Some c → (view node'.machine).fault ≡ Some c)
-      → node'.place ≡ node.place → (view node'.machine).source ≡ (view node.machine).source → (view node'.machine).in_lanes ≡ (view node.machine).in_lanes → node'.refused ≡ node.refused → node'.ins.items ≡ node.ins.items → node'.outs.items ≡ slice_set node.outs.items p (record (out_at node.outs.items p) { held = held; done = true })
+      → LogStands view node' (was_stopped past p) → (view node'.machine).in_lanes ≡ (view node.machine).in_lanes → node'.refused ≡ node.refused → node'.ins.items ≡ node.ins.items → node'.outs.items ≡ slice_set node.outs.items p (record (out_at node.outs.items p) { held = held; done = true })
       → p < length node.outs.items → (out_at node.outs.items p).done ≡ false → (world (out_at node.outs.items p).wire).finished ≡ true
       → NodeStands view node' world (was_stopped past p)
-  told node node' world past p held was now stays place src same_lanes refused ins outs there busy finished =
+  told node node' world past p held was now stays log same_lanes refused ins outs there busy finished =
       let back : IsSound view node' → IsSound view node = λ s. (sym refused ∙ s.0, fault_back (view node.machine).fault (view node'.machine).fault stays s.1) in
       let o = was.outs p there in
-      out_step view node node' world world past (was_stopped past p) p was now back (may_out view node node' past (was_stopped past p) p same_lanes (ap length outs ∙ simp length-set) there busy refl refl (λ q i. inr i)) refl place src (λ r. sym refused ∙ r) (λ q i. inr i)
+      out_step view node node' world world past (was_stopped past p) p was now back (may_out view node node' past (was_stopped past p) p same_lanes (ap length outs ∙ simp length-set) there busy refl refl (λ q i. inr i)) log (λ r. sym refused ∙ r) (λ q i. inr i)
       (record (out_at node.outs.items p) { held = held; done = true }) ins outs there refl (λ v. refl) (λ v. refl) (λ q n. refl) (λ q lt n. refl)
       (record {
         held = λ d. absurd (true_not_false d);
@@ -232,10 +229,10 @@ module _ {M : Type 0} (view : M → View) where
       (λ q i n. elim i [ inl e ↦ absurd (n (sym e)) | inr j ↦ j ]) (λ i. refl)
 
   -- Broken is put in place of what is held
-  pub broke : (node node' : Node M) (world : ℕ → Wire) (past : Past) (p : ℕ) (ports lanes : List Lane) → NodeStands view node world past → node'.machine ≡ node.machine → node'.place ≡ node.place → node'.refused ≡ node.refused → node'.ins.items ≡ node.ins.items
+  pub broke : (node node' : Node M) (world : ℕ → Wire) (past : Past) (p : ℕ) (ports lanes : List Lane) → NodeStands view node world past → node'.machine ≡ node.machine → LogStands view node' past → node'.refused ≡ node.refused → node'.ins.items ≡ node.ins.items
       → node'.outs.items ≡ slice_set node.outs.items p (record (out_at node.outs.items p) { done = true }) → p < length node.outs.items → HaveLanes (out_wires_of node) ports lanes → (out_at node.outs.items p).done ≡ false → (IsSound view node → ⊥)
       → NodeStands view node' (put_on world (out_at node.outs.items p).wire Broken) past
-  broke node node' world past p ports lanes was machine place refused ins outs there apart busy faulty =
+  broke node node' world past p ports lanes was machine log refused ins outs there apart busy faulty =
       let old : OutPort = out_at node.outs.items p in
       let o = was.outs p there in
       let w = world old.wire in
@@ -244,7 +241,7 @@ module _ {M : Type 0} (view : M → View) where
       let back : IsSound view node' → IsSound view node = λ s. (sym refused ∙ s.0, ap (λ m. (view m).fault) (sym machine) ∙ s.1) in
       let with_mark : Mark → Flow = λ m. record { items = w.sent.items; mark = m } in
       let same : opened (with_item w.sent Broken) ≡ opened w.sent = ap with_mark (sym (ap opened_mark (o.unclosed busy))) in
-      out_step view node node' world (put_on world old.wire Broken) past past p was (subst (λ m. (view m).stands past) (sym machine) was.machine) back (may_out view node node' past past p (ap (λ m. (view m).in_lanes) machine) (ap length outs ∙ simp length-set) there busy refl refl (λ q i. i)) refl place (ap (λ m. (view m).source) machine) (λ r. sym refused ∙ r) (λ q i. i)
+      out_step view node node' world (put_on world old.wire Broken) past past p was (subst (λ m. (view m).stands past) (sym machine) was.machine) back (may_out view node node' past past p (ap (λ m. (view m).in_lanes) machine) (ap length outs ∙ simp length-set) there busy refl refl (λ q i. i)) log (λ r. sym refused ∙ r) (λ q i. i)
       port ins outs there refl (λ v. with_wire_keeps (λ (u : Wire). u.taken) world old.wire w' v refl) (λ v. with_wire_keeps (λ (u : Wire). u.finished) world old.wire w' v refl) (λ q n. refl)
       (λ q lt n. ap (λ (u : Wire). u.sent) (with_wire_other world old.wire w' (out_at node.outs.items q).wire (out_apart node.outs.items ports lanes apart p q there lt n)))
       (subst (λ (u : Wire). OutStands port u (stream_at past.gave p) (IsIn p past.stopped) (IsSound view node')) (sym (with_wire_same world old.wire w' old.wire refl)) (record {
@@ -258,17 +255,17 @@ module _ {M : Type 0} (view : M → View) where
 
   -- an item was taken, and fed or refused
   pub took : (node node' : Node M) (world : ℕ → Wire) (past since : Past) (p : ℕ) (x : Item) (ports lanes : List Lane) → NodeStands view node world past → (view node'.machine).stands since → ((c : Fault) → (view node.machine).fault ≡ Some c → (view node'.machine).fault ≡ Some c) → node.refused ≡ false
-      → ((q : ℕ) → MayClose view node past q → MayClose view node' since q) → node'.place ≡ node.place → (view node'.machine).source ≡ (view node.machine).source → node'.ins.items ≡ node.ins.items → node'.outs.items ≡ node.outs.items → p < length node.ins.items → HaveLanes (in_wires_of node) ports lanes
-      → (in_at node.ins.items p).done ≡ false → since.gave ≡ past.gave → since.stopped ≡ past.stopped → since.allowed ≡ past.allowed → ((q : ℕ) → q ≢ p → stream_at since.got q ≡ stream_at past.got q)
+      → ((q : ℕ) → MayClose view node past q → MayClose view node' since q) → LogStands view node' since → node'.ins.items ≡ node.ins.items → node'.outs.items ≡ node.outs.items → p < length node.ins.items → HaveLanes (in_wires_of node) ports lanes
+      → (in_at node.ins.items p).done ≡ false → since.gave ≡ past.gave → since.stopped ≡ past.stopped → ((q : ℕ) → q ≢ p → stream_at since.got q ≡ stream_at past.got q)
       → FedAllButOne (stream_at since.got p) (with_item (world (in_at node.ins.items p).wire).taken x) → (node'.refused ≡ false → stream_at since.got p ≡ with_item (world (in_at node.ins.items p).wire).taken x)
       → NodeStands view node' (take_on world (in_at node.ins.items p).wire x) since
-  took node node' world past since p x ports lanes was now stays fresh may place src ins outs there apart busy gave stopped allowed got lacks exact =
+  took node node' world past since p x ports lanes was now stays fresh may log ins outs there apart busy gave stopped got lacks exact =
       let old : InPort = in_at node.ins.items p in
       let w = world old.wire in
       let w' : Wire = record { sent = w.sent; taken = with_item w.taken x; finished = w.finished } in
       let back : IsSound view node' → IsSound view node = λ s. (fresh, fault_back (view node.machine).fault (view node'.machine).fault stays s.1) in
       let i = was.ins p there in
-      in_step view node node' world (take_on world old.wire x) past since p was now back may allowed place src (λ r. fresh) (λ q s. subst (λ (qs : List ℕ). IsIn q qs) (sym stopped) s)
+      in_step view node node' world (take_on world old.wire x) past since p was now back may log (λ r. fresh) (λ q s. subst (λ (qs : List ℕ). IsIn q qs) (sym stopped) s)
       old outs (ins ∙ sym (set_own node.ins.items p _)) there gave stopped got (λ v. with_wire_keeps (λ (u : Wire). u.sent) world old.wire w' v refl) (λ v f. with_wire_keeps (λ (u : Wire). u.finished) world old.wire w' v refl ∙ f)
       (λ q lt n. (
         ap (λ (u : Wire). u.taken) (with_wire_other world old.wire w' (in_at node.ins.items q).wire (in_apart node.ins.items ports lanes apart p q there lt n)),
@@ -282,18 +279,18 @@ module _ {M : Type 0} (view : M → View) where
       }))
 
   -- an input is finished, and with reason
-  pub closed : (node node' : Node M) (world : ℕ → Wire) (past : Past) (p : ℕ) (ports lanes : List Lane) → NodeStands view node world past → node'.machine ≡ node.machine → node'.place ≡ node.place → node'.refused ≡ node.refused → node'.outs.items ≡ node.outs.items
+  pub closed : (node node' : Node M) (world : ℕ → Wire) (past : Past) (p : ℕ) (ports lanes : List Lane) → NodeStands view node world past → node'.machine ≡ node.machine → LogStands view node' past → node'.refused ≡ node.refused → node'.outs.items ≡ node.outs.items
       → node'.ins.items ≡ slice_set node.ins.items p (record (in_at node.ins.items p) { done = true }) → p < length node.ins.items → HaveLanes (in_wires_of node) ports lanes
       → (IsSound view node → IsClosed (world (in_at node.ins.items p).wire).taken ⊎ MayClose view node past p)
       → NodeStands view node' (finish_on world (in_at node.ins.items p).wire) past
-  closed node node' world past p ports lanes was machine place refused outs ins there apart why =
+  closed node node' world past p ports lanes was machine log refused outs ins there apart why =
       let old : InPort = in_at node.ins.items p in
       let w = world old.wire in
       let w' : Wire = record { sent = w.sent; taken = w.taken; finished = true } in
       let back : IsSound view node' → IsSound view node = λ s. (sym refused ∙ s.0, ap (λ m. (view m).fault) (sym machine) ∙ s.1) in
       let may : (q : ℕ) → MayClose view node past q → MayClose view node' past q = may_machine view node node' past past (ap (λ m. (view m).in_lanes) machine) outs refl refl (λ q i. i) in
       let i = was.ins p there in
-      in_step view node node' world (finish_on world old.wire) past past p was (subst (λ m. (view m).stands past) (sym machine) was.machine) back may refl place (ap (λ m. (view m).source) machine) (λ r. sym refused ∙ r) (λ q s. s)
+      in_step view node node' world (finish_on world old.wire) past past p was (subst (λ m. (view m).stands past) (sym machine) was.machine) back may log (λ r. sym refused ∙ r) (λ q s. s)
       (record old { done = true }) outs ins there refl refl (λ q n. refl) (λ v. with_wire_keeps (λ (u : Wire). u.sent) world old.wire w' v refl) (finish_stays world old.wire)
       (λ q lt n. (
         with_wire_keeps (λ (u : Wire). u.taken) world old.wire w' (in_at node.ins.items q).wire refl,

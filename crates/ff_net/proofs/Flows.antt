@@ -70,7 +70,7 @@ cut_below n s = pick (nat_le n (length s.items)) refl
         let with_items : List Item → Flow = λ xs. record { items = xs; mark = s.mark } in
         inl (ap with_items (take_whole n s.items le))
 
-all_cut_below : (n : ℕ) (ss : List Flow) → AllBelow (map (cut_to n) ss) ss
+pub all_cut_below : (n : ℕ) (ss : List Flow) → AllBelow (map (cut_to n) ss) ss
 all_cut_below n [] p = below_self nothing
 all_cut_below n (s ∷ ss) zero = cut_below n s
 all_cut_below n (s ∷ ss) (suc p) = all_cut_below n ss p

@@ -1,5 +1,5 @@
 -- How a node begins.
-use Rattle.std.proofs.Common.{◌≡◌, ℕ, zero, suc, ◌<◌, Bool, false, List, [], ◌∷◌, map, length, refl, ap, sym, ◌∙◌, subst, arith, inl, Option, None, Some}
+use Rattle.std.proofs.Common.{◌≡◌, ℕ, zero, suc, ◌<◌, Bool, false, List, [], ◌∷◌, map, length, refl, ap, sym, ◌∙◌, subst, arith, inl, Option, None}
 use Rattle.ff_frame.specs.Order.{below_self}
 use Rattle.ff_frame.specs.Ports.{nothing}
 use Rattle.ff_net.specs.declared.ports.InPort.{InPort}
@@ -8,7 +8,11 @@ use Rattle.ff_net.specs.declared.node.Node.{Node}
 use Rattle.ff_net.specs.Pasts.{Task, start}
 use Rattle.ff_net.specs.Ports.{in_at, out_at, in_wires, out_wires}
 use Rattle.ff_net.specs.Worlds.{fresh}
-use Rattle.ff_net.specs.Nodes.{InStands, OutStands, NodeStands, IsSound, MayClose, tickets}
+use Rattle.ff_net.specs.Nodes.{InStands, OutStands, NodeStands, IsSound, MayClose}
+use mathlib.Core.List.{IsPrefix}
+use Rattle.ff_net.specs.Logs.{hand_of, tickets_in, told_in}
+use Rattle.ff_sched.specs.declared.logged.Logged.{Logged}
+use Rattle.ff_values.specs.declared.event.Ticket.{Ticket}
 use Rattle.ff_net.specs.Views.{View}
 use Rattle.ff_net.proofs.Changes.{true_not_false}
 
@@ -48,13 +52,9 @@ out_stands port stopped sound e h = record {
   done = λ d. absurd (true_not_false (sym d ∙ e));
 }
 
-no_tickets : (s : Option ℕ) → tickets s 0 ≡ []
-no_tickets None = refl
-no_tickets (Some s) = refl
-
-pub node_fresh : {M : Type 0} (view : M → View) (node : Node M) (ins outs : List ℕ) (task : Task) → node.ins.items ≡ map in_new ins → node.outs.items ≡ map out_new outs → node.place ≡ 0 → (view node.machine).stands (start task)
+pub node_fresh : {M : Type 0} (view : M → View) (node : Node M) (ins outs : List ℕ) (task : Task) → node.ins.items ≡ map in_new ins → node.outs.items ≡ map out_new outs → node.pass.log ≡ [] → node.hand ≡ None → node.quiet ≡ false → (view node.machine).stands (start task)
     → NodeStands view node (λ w. fresh) (start task)
-node_fresh view node ins outs task i o z s = record {
+node_fresh view node ins outs task i o log hand quiet s = record {
   machine = s;
   ins = λ p lt. in_stands (in_at node.ins.items p) node.refused (IsSound view node) (MayClose view node (start task) p) (subst (λ (ports : List InPort). (in_at ports p).done ≡ false) (sym i) (in_fresh ins p (subst (λ (ports : List InPort). p < length ports) i lt)));
   outs = λ p lt.
@@ -62,5 +62,12 @@ node_fresh view node ins outs task i o z s = record {
       out_stands (out_at node.outs.items p) ⊥ (IsSound view node) (subst (λ (ports : List OutPort). (out_at ports p).done ≡ false) (sym o) e.0) (subst (λ (ports : List OutPort). (out_at ports p).held ≡ None) (sym o) e.1);
   beyond = λ p le. refl;
   stopped = λ p n. absurd n;
-  allowed = sym (ap (λ (n : ℕ). tickets (view node.machine).source n) z ∙ no_tickets (view node.machine).source);
+  log = record {
+    granted = ap tickets_in log ∙ ap (λ (h : Option Ticket). hand_of h) (sym hand);
+    told = subst (λ (ls : List Logged). IsPrefix (told_in ls) []) (sym log) ([], refl);
+    all_told = λ r. ap told_in log;
+    in_order = record { grants = []; tellings = []; all = log; only_grants = refl; no_grants = refl };
+    unread = λ r. refl;
+    quiet = λ q. absurd (true_not_false (sym q ∙ quiet));
+  };
 }

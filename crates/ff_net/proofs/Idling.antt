@@ -16,14 +16,14 @@ use Rattle.ff_net.specs.Ports.{in_at, out_at, AreDone, SomeHeld, NoneHeld}
 use Rattle.ff_net.specs.Worlds.{Wire, IsFull, IsEmpty}
 use Rattle.ff_net.specs.Nodes.{HeldIs, IsSound, IsSame, IsDone, NodeStands}
 use Rattle.ff_net.specs.Steps.{IsDue, Rests}
-use Rattle.ff_net.specs.Turns.{Waits, with_fault, with_items, for_items, IsRefused, full, empty, no_place, IsIdle}
+use Rattle.ff_net.specs.Turns.{Waits, with_fault, with_items, for_items, IsRefused, full, empty, choked, IsIdle}
 use Rattle.ff_net.specs.Views.{View}
 use Rattle.ff_net.proofs.Flows.{due_meant}
 use Rattle.ff_net.proofs.Matters.{all_close}
 use Rattle.ff_net.proofs.Moments.{with_item_new}
 use Rattle.ff_net.proofs.Changes.{true_not_false, none_held, busy_goes_on}
 
-find_busy : (ports : List OutPort) → AreDone ports ⊎ ((q : ℕ) × (q < length ports) × ((out_at ports q).done ≡ false))
+pub find_busy : (ports : List OutPort) → AreDone ports ⊎ ((q : ℕ) × (q < length ports) × ((out_at ports q).done ≡ false))
 find_busy [] = inl (λ q lt. absurd (omega arith))
 find_busy (x ∷ xs) = pick x.done refl (find_busy xs)
   where
@@ -58,10 +58,16 @@ waits_same view node node' wires same (with_fault f h) = with_fault (λ ok. f (s
 waits_same view node node' wires same (with_items ok s h) = with_items (same.refused ∙ ok.0, ap (λ m. (view m).fault) same.machine ∙ ok.1) (subst (λ (os : List OutPort). SomeHeld os) (sym same.outs) s) (subst (λ (os : List OutPort). (q : ℕ) → q < length os → (out_at os q).done ≡ false → is_some (out_at os q).held ≡ true → IsFull wires (out_at os q).wire) (sym same.outs) h)
 waits_same view node node' wires same (for_items ok n h) = for_items (same.refused ∙ ok.0, ap (λ m. (view m).fault) same.machine ∙ ok.1) (subst (λ (os : List OutPort). NoneHeld os) (sym same.outs) n) (subst (λ (os : List InPort). (q : ℕ) → q < length os → (in_at os q).done ≡ false → IsEmpty wires (in_at os q).wire) (sym same.ins) h)
 
+-- only the machine was asked for what it has to tell
+pub waits_told : {M : Type 0} (view : M → View) (node node' : Node M) (wires : Wires) → node'.outs.items ≡ node.outs.items → node'.ins.items ≡ node.ins.items → IsSound view node → IsSound view node' → Waits view node wires → Waits view node' wires
+waits_told view node node' wires outs ins was ok (with_fault f h) = absurd (f was)
+waits_told view node node' wires outs ins was ok (with_items old s h) = with_items ok (subst (λ (os : List OutPort). SomeHeld os) (sym outs) s) (subst (λ (os : List OutPort). (q : ℕ) → q < length os → (out_at os q).done ≡ false → is_some (out_at os q).held ≡ true → IsFull wires (out_at os q).wire) (sym outs) h)
+waits_told view node node' wires outs ins was ok (for_items old n h) = for_items ok (subst (λ (os : List OutPort). NoneHeld os) (sym outs) n) (subst (λ (os : List InPort). (q : ℕ) → q < length os → (in_at os q).done ≡ false → IsEmpty wires (in_at os q).wire) (sym ins) h)
+
 module _ {M : Type 0} (view : M → View) (laws : (m : M) → Laws (view m))
-    (node : Node M) (wires : Wires) (world : ℕ → Wire) (past : Past) (was : NodeStands view node world past) (rests : Rests view node world past)
+    (before node : Node M) (wires : Wires) (world : ℕ → Wire) (past : Past) (was : NodeStands view node world past) (rests : Rests view before node world past)
     (ins_count : length node.ins.items ≡ length (view node.machine).in_lanes) (outs_count : length node.outs.items ≡ length (view node.machine).out_lanes)
-    (faulty : (IsSound view node → ⊥) → (p : ℕ) → p < length node.ins.items → (in_at node.ins.items p).done ≡ true) (not_done : IsDone node → ⊥) where
+    (faulty : (IsSound view node → ⊥) → (p : ℕ) → p < length node.ins.items → (in_at node.ins.items p).done ≡ true) (told : (node.quiet ≡ true) ⊎ (node.refused ≡ true)) (not_done : IsDone node → ⊥) where
   -- an output that holds an item has one due
   held_due : (q : ℕ) → q < length node.outs.items → (out_at node.outs.items q).done ≡ false → is_some (out_at node.outs.items q).held ≡ true → IsDue view node world past q
   held_due q lt busy some = record {
@@ -111,19 +117,19 @@ module _ {M : Type 0} (view : M → View) (laws : (m : M) → Laws (view m))
   item (with_items ok s h) none p lt busy = absurd (none s.place (held_due s.place s.there s.goes_on s.held))
   item (for_items ok n h) none p lt busy = h p lt busy
 
-  refusal : Waits view node wires → IsRefused node wires
+  refusal : Waits view node wires → IsRefused view before node wires
   refusal (with_fault f h) = elim (find_busy node.outs.items) [
-    | inl all ↦ absurd (not_done (record { ins = faulty f; outs = all }))
+    | inl all ↦ absurd (not_done (record { ins = faulty f; outs = all; told = told }))
     | inr b ↦ full b.0 b.1 (h b.0 b.1 b.2)
   ]
   refusal (with_items ok s h) = full s.place s.there (h s.place s.there s.goes_on s.held)
   refusal (for_items ok n h) = elim (find_busy_in node.ins.items) [
     | inl ins ↦ elim (find_busy node.outs.items) [
-      | inl all ↦ absurd (not_done (record { ins = ins; outs = all }))
-      | inr b ↦ elim (rests.ungranted ok n b.0 b.1 b.2) [ inl none ↦ absurd (stuck ok n ins none b.0 b.1 b.2) | inr max ↦ no_place max ]
+      | inl all ↦ absurd (not_done (record { ins = ins; outs = all; told = told }))
+      | inr b ↦ elim (rests.ungranted ok n b.0 b.1 b.2) [ inl none ↦ absurd (stuck ok n ins none b.0 b.1 b.2) | inr c ↦ choked c.0 c.1 c.2 ]
     ]
     | inr b ↦ empty b.0 b.1 (h b.0 b.1 b.2)
   ]
 
-  pub idle_of : Waits view node wires → IsIdle view node wires world past
+  pub idle_of : Waits view node wires → IsIdle view before node wires world past
   idle_of w = record { no_room = room w; no_item = item w; refused = refusal w }

@@ -3,8 +3,11 @@ pub mod Before
 pub mod Changes
 pub mod Flows
 pub mod Fresh
+pub mod Granted
+pub mod Granting
 pub mod Idling
 pub mod Induction
+pub mod Logs
 pub mod Matters
 pub mod Moments
 pub mod NetSteps
@@ -13,5 +16,6 @@ pub mod Queues
 pub mod Readying
 pub mod Rounds
 pub mod Sendings
+pub mod Telling
 pub mod Turning
 pub mod Whole

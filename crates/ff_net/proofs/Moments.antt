@@ -1,5 +1,5 @@
 -- From moment to moment.
-use Rattle.std.proofs.Common.{◌≡◌, ◌≢◌, ℕ, ◌==◌, inl, inr, Bool, true, false, if◌then◌else◌, List, [], ◌∷◌, ◌++◌, refl, ap, sym, ◌∙◌, subst, arith, Option, None, Some}
+use Rattle.std.proofs.Common.{◌≡◌, ◌≢◌, ℕ, ◌==◌, inl, inr, Bool, true, false, if◌then◌else◌, ◌≤◌, List, [], ◌∷◌, ◌++◌, length, append-nil, append_assoc, length-append, refl, ap, sym, ◌∙◌, subst, arith, Option, None, Some}
 use Rattle.std.proofs.lemmas.Bool.Decides.{nat_tests}
 use mathlib.Core.List.{IsPrefix}
 use Rattle.ff_frame.specs.declared.item.Item.{Item}
@@ -17,7 +17,11 @@ use Rattle.ff_net.specs.Laws.{Rose, FaultStep}
 use Rattle.ff_net.specs.Pasts.{Past}
 use Rattle.ff_net.specs.Worlds.{Wire, with_wire}
 use Rattle.ff_net.specs.Nodes.{NodeStands, in_wires_of, out_wires_of}
-use Rattle.ff_net.specs.Steps.{Course, Moves, took, put, finished, granted, told, Stepped}
+use Rattle.ff_net.specs.Logs.{PassStep}
+use Rattle.ff_sched.specs.declared.logged.Logged.{Logged}
+use Rattle.ff_sched.specs.Passing.{Passing}
+use Rattle.ff_values.specs.declared.event.Event.{Event}
+use Rattle.ff_net.specs.Steps.{Course, HasMoved, Moves, took, put, finished, granted, told, Stepped}
 use Rattle.ff_net.specs.Views.{View}
 use Rattle.ff_net.proofs.Flows.{same_or_not}
 
@@ -106,6 +110,30 @@ then_moves ins outs a b c p q r x y (granted n) =
     granted (λ e. n (e ∙ sym (prefix_both q.allowed p.allowed (subst (λ (ts : List Ticket). IsPrefix q.allowed ts) e y.allowed) x.allowed)))
 then_moves ins outs a b c p q r x y (told s n i) = told s (λ j. n (x.stopped s j)) i
 
+pub pass_self : (p : Passing) → PassStep p p
+pass_self p = record { cell = refl; share = refl; seen = ([], sym (append-nil p.seen)); log = prefix_self p.log }
+
+pub pass_then : (a b c : Passing) → PassStep a b → PassStep b c → PassStep a c
+pass_then a b c x y = record {
+  cell = y.cell ∙ x.cell;
+  share = y.share ∙ x.share;
+  seen = (x.seen.0 ++ y.seen.0, y.seen.1 ∙ (ap (λ (es : List Event). es ++ y.seen.0) x.seen.1 ∙ append_assoc a.seen x.seen.0 y.seen.0));
+  log = prefix_trans a.log b.log c.log x.log y.log;
+}
+
+-- a longer log
+pub prefix_length : (xs ys : List Logged) → IsPrefix xs ys → length xs ≤ length ys
+prefix_length xs ys f = let e : length (xs ++ f.0) ≡ length ys = ap length f.1 in let n = length-append xs f.0 in omega (arith, e, n)
+
+-- what moved or was logged before has moved or is logged
+pub has_moved_then : {M : Type 0} (ins outs : List ℕ) (node node' node'' : Node M) (a b c : ℕ → Wire) (p q r : Past) → Course ins outs a b p q → Course ins outs b c q r → IsPrefix node'.pass.log node''.pass.log → HasMoved node node' a p b q → HasMoved node node'' a p c r
+has_moved_then ins outs node node' node'' a b c p q r x y log (inl m) = inl (moves_then ins outs a b c p q r x y m)
+has_moved_then ins outs node node' node'' a b c p q r x y log (inr l) = let n = prefix_length node'.pass.log node''.pass.log log in inr (omega (arith, l, n))
+
+pub then_has_moved : {M : Type 0} (ins outs : List ℕ) (node node' node'' : Node M) (a b c : ℕ → Wire) (p q r : Past) → Course ins outs a b p q → Course ins outs b c q r → IsPrefix node.pass.log node'.pass.log → HasMoved node' node'' b q c r → HasMoved node node'' a p c r
+then_has_moved ins outs node node' node'' a b c p q r x y log (inl m) = inl (then_moves ins outs a b c p q r x y m)
+then_has_moved ins outs node node' node'' a b c p q r x y log (inr l) = let n = prefix_length node.pass.log node'.pass.log log in inr (omega (arith, l, n))
+
 longer_tickets : (ts : List Ticket) (t : Ticket) → ts ++ t ∷ [] ≢ ts
 longer_tickets [] t e = cc
 longer_tickets (u ∷ ts) t e = longer_tickets ts t (cc (e))
@@ -155,7 +183,9 @@ module _ {M : Type 0} (view : M → View) where
     outs_same = b.outs_same ∙ a.outs_same;
     in_lanes_same = b.in_lanes_same ∙ a.in_lanes_same;
     out_lanes_same = b.out_lanes_same ∙ a.out_lanes_same;
+    source_same = b.source_same ∙ a.source_same;
     fares = fault_then _ _ _ a.fares b.fares;
+    passes = pass_then _ _ _ a.passes b.passes;
     lanes_same = b.lanes_same ∙ a.lanes_same;
     goes = λ world past stand was.
         let x = a.goes world past stand was in
@@ -178,11 +208,30 @@ module _ {M : Type 0} (view : M → View) where
     outs_same = s.outs_same;
     in_lanes_same = s.in_lanes_same;
     out_lanes_same = s.out_lanes_same;
+    source_same = s.source_same;
     fares = s.fares;
+    passes = s.passes;
     lanes_same = s.lanes_same;
     goes = λ world past stand was.
         let x = s.goes world past stand was in
         record { now = x.now; since = x.since; stand = x.stand; fits = x.fits; course = x.course; so = f world past x.now x.since x.course x.so };
+  }
+
+  -- the same, where it depends on what is behind the node then
+  pub stepped_with : (how how' : (ℕ → Wire) → Past → (ℕ → Wire) → Past → Type 0) (node : Node M) (wires : Wires) (node' : Node M) (wires' : Wires) → ((a : ℕ → Wire) (p : Past) (b : ℕ → Wire) (q : Past) → NodeStands view node' b q → how a p b q → how' a p b q)
+      → Stepped view how node wires node' wires' → Stepped view how' node wires node' wires'
+  stepped_with how how' node wires node' wires' f s = record {
+    ins_same = s.ins_same;
+    outs_same = s.outs_same;
+    in_lanes_same = s.in_lanes_same;
+    out_lanes_same = s.out_lanes_same;
+    source_same = s.source_same;
+    fares = s.fares;
+    passes = s.passes;
+    lanes_same = s.lanes_same;
+    goes = λ world past stand was.
+        let x = s.goes world past stand was in
+        record { now = x.now; since = x.since; stand = x.stand; fits = x.fits; course = x.course; so = f world past x.now x.since x.fits x.so };
   }
 
   -- the same, where what holds between depends on what is behind the node there
@@ -194,7 +243,9 @@ module _ {M : Type 0} (view : M → View) where
     outs_same = b.outs_same ∙ a.outs_same;
     in_lanes_same = b.in_lanes_same ∙ a.in_lanes_same;
     out_lanes_same = b.out_lanes_same ∙ a.out_lanes_same;
+    source_same = b.source_same ∙ a.source_same;
     fares = fault_then _ _ _ a.fares b.fares;
+    passes = pass_then _ _ _ a.passes b.passes;
     lanes_same = b.lanes_same ∙ a.lanes_same;
     goes = λ world past stand was.
         let x = a.goes world past stand was in
@@ -215,7 +266,9 @@ module _ {M : Type 0} (view : M → View) where
     outs_same = refl;
     in_lanes_same = refl;
     out_lanes_same = refl;
+    source_same = refl;
     fares = fault_self (view node.machine);
+    passes = pass_self node.pass;
     lanes_same = refl;
     goes = λ world past stand was. record { now = world; since = past; stand = stand; fits = was; course = course_self (in_wires_of node) (out_wires_of node) world past; so = h world past };
   }

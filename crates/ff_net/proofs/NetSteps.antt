@@ -10,11 +10,14 @@ use Rattle.ff_net.specs.declared.wires.Wires.{Wires}
 use Rattle.ff_net.specs.Pasts.{Past, Task, IsIn}
 use Rattle.ff_net.specs.Ports.{in_at, out_at}
 use Rattle.ff_net.specs.Worlds.{Wire}
-use Rattle.ff_net.specs.Nodes.{NodeStands, IsShaped, HaveLanes, IsSound, MayClose, in_wires_of, out_wires_of}
+use Rattle.ff_net.specs.Nodes.{NodeStands, IsOf, IsShaped, HaveLanes, IsSound, MayClose, in_wires_of, out_wires_of}
 use Rattle.ff_net.specs.Laws.{FaultStep}
 use Rattle.ff_net.specs.Steps.{Course, Stepped}
-use Rattle.ff_net.proofs.Moments.{fault_self}
-use Rattle.ff_net.specs.Serial.{AreShaped, NetStands, part_of, parts_of}
+use Rattle.ff_net.specs.Logs.{PassStep}
+use Rattle.ff_sched.specs.Passing.{Scheduler}
+use Rattle.ff_net.proofs.Granting.{of_later}
+use Rattle.ff_net.proofs.Moments.{fault_self, pass_self}
+use Rattle.ff_net.specs.Serial.{AreOf, AreShaped, NetStands, part_of, parts_of}
 use Rattle.ff_net.specs.Nets.{Part}
 use Rattle.ff_net.specs.Views.{View}
 use Rattle.ff_net.proofs.Flows.{same_or_not}
@@ -36,7 +39,7 @@ other_stands view node ins outs world world' past mine mine' f ins_apart outs_ap
       out_keep o (world o.wire) (world' o.wire) (stream_at past.gave q) (IsIn q past.stopped) (IsIn q past.stopped) (IsSound view node) (IsSound view node) (f.sent o.wire (outs_apart o.wire (out_wire_in node.outs.items q o.wire lt refl))) (f.stays_finished o.wire) (λ s. s) (λ s. s) (was.outs q lt);
   beyond = was.beyond;
   stopped = was.stopped;
-  allowed = was.allowed;
+  log = was.log;
 }
 
 module _ {M : Type 0} (view : M → View) (how : (ℕ → Wire) → Past → (ℕ → Wire) → Past → Type 0) (nodes : List (Node M)) (wires : Wires) (k : ℕ) (old new : Node M) (wires' : Wires)
@@ -52,6 +55,22 @@ module _ {M : Type 0} (view : M → View) (how : (ℕ → Wire) → Past → (�
       elim (same_or_not j k) [
         | inl e ↦ rw (node_at j d e) (rw (ap (λ (n : ℕ). slice_index_or nodes n d) e ∙ sym (same_old d)) step.fares)
         | inr n ↦ rw (get_or-set_other nodes k j new d n) (fault_self (view (slice_index_or nodes j d).machine))
+      ]
+
+  pub passes_set : (j : ℕ) (d : Node M) → PassStep (slice_index_or nodes j d).pass (slice_index_or (slice_set nodes k new) j d).pass
+  passes_set j d =
+      elim (same_or_not j k) [
+        | inl e ↦ rw (node_at j d e) (rw (ap (λ (n : ℕ). slice_index_or nodes n d) e ∙ sym (same_old d)) step.passes)
+        | inr n ↦ rw (get_or-set_other nodes k j new d n) (pass_self (slice_index_or nodes j d).pass)
+      ]
+
+  pub are_of_set : (cell : Scheduler) → AreOf view cell nodes → AreOf view cell (slice_set nodes k new)
+  are_of_set cell are j d lt =
+      let len : length (slice_set nodes k new) ≡ length nodes = simp length-set in
+      let mine : IsOf view cell old = subst (λ (n : Node M). IsOf view cell n) (sym is) (are k old there) in
+      elim (same_or_not j k) [
+        | inl e ↦ subst (λ (n : Node M). IsOf view cell n) (sym (node_at j d e)) (of_later view how cell old wires new wires' step mine)
+        | inr n ↦ subst (λ (m : Node M). IsOf view cell m) (sym (get_or-set_other nodes k j new d n)) (are j d (subst (λ (m : ℕ). j < m) len lt))
       ]
 
   ins_at : (j : ℕ) (d : Node M) → in_wires_of (slice_index_or (slice_set nodes k new) j d) ≡ in_wires_of (slice_index_or nodes j d)

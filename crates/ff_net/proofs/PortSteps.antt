@@ -11,7 +11,7 @@ use Rattle.ff_net.specs.Ways.{Flow, lane_at}
 use Rattle.ff_net.specs.Pasts.{Past, IsIn}
 use Rattle.ff_net.specs.Ports.{in_at, out_at, in_wires, out_wires}
 use Rattle.ff_net.specs.Worlds.{Wire}
-use Rattle.ff_net.specs.Nodes.{tickets, HeldIs, FedAllButOne, OutStands, InStands, IsSound, MayClose, NodeStands, HaveLanes}
+use Rattle.ff_net.specs.Nodes.{LogStands, HeldIs, FedAllButOne, OutStands, InStands, IsSound, MayClose, NodeStands, HaveLanes}
 use Rattle.ff_net.specs.Views.{View}
 use Rattle.ff_net.proofs.Flows.{same_or_not, there_lane}
 
@@ -133,11 +133,8 @@ out_keep port wire wire' gave stopped stopped' sound sound' same stays stops bac
 
 module _ {M : Type 0} (view : M → View) (node node' : Node M) (world world' : ℕ → Wire) (past past' : Past) (p : ℕ)
     (was : NodeStands view node world past) (now : (view node'.machine).stands past') (back : IsSound view node' → IsSound view node) (may : (q : ℕ) → MayClose view node past q → MayClose view node' past' q)
-    (allowed : past'.allowed ≡ past.allowed) (same_place : node'.place ≡ node.place) (same_source : (view node'.machine).source ≡ (view node.machine).source) (fine : node'.refused ≡ false → node.refused ≡ false)
+    (log : LogStands view node' past') (fine : node'.refused ≡ false → node.refused ≡ false)
     (stopped_grows : (q : ℕ) → IsIn q past.stopped → IsIn q past'.stopped) where
-  allowed_now : past'.allowed ≡ tickets (view node'.machine).source node'.place
-  allowed_now = allowed ∙ (was.allowed ∙ cc (same_place, same_source))
-
   -- an output changes
   pub out_step : (port : OutPort) → node'.ins.items ≡ node.ins.items → node'.outs.items ≡ slice_set node.outs.items p port → p < length node.outs.items → past'.got ≡ past.got
       → ((v : ℕ) → (world' v).taken ≡ (world v).taken) → ((v : ℕ) → (world' v).finished ≡ (world v).finished) → ((q : ℕ) → q ≢ p → stream_at past'.gave q ≡ stream_at past.gave q)
@@ -171,7 +168,7 @@ module _ {M : Type 0} (view : M → View) (node node' : Node M) (world world' : 
           | inl e ↦ subst (λ (r : ℕ). (out_at node'.outs.items r).done ≡ true) (sym e) (ap (λ (o : OutPort). o.done) at_p ∙ stopped_here (subst (λ (r : ℕ). IsIn r past'.stopped) e i))
           | inr n ↦ ap (λ (o : OutPort). o.done) (at_q q n) ∙ was.stopped q (stopped_other q i n)
         ];
-        allowed = allowed_now;
+        log = log;
       }
 
   -- an input changes
@@ -204,5 +201,5 @@ module _ {M : Type 0} (view : M → View) (node node' : Node M) (world world' : 
             (out_keep o (world o.wire) (world' o.wire) (stream_at past.gave q) (IsIn q past.stopped) (IsIn q past'.stopped) (IsSound view node) (IsSound view node') (sent o.wire) (finished o.wire) (stopped_grows q) back (was.outs q (subst (λ (os : List OutPort). q < length os) same_outs lt))));
         beyond = λ q le. let le' : length node.ins.items ≤ q = subst (λ (n : ℕ). n ≤ q) len le in let other : q ≢ p = omega arith in got q other ∙ was.beyond q le';
         stopped = λ q i. ap (λ (os : List OutPort). (out_at os q).done) same_outs ∙ was.stopped q (subst (λ (qs : List ℕ). IsIn q qs) stopped i);
-        allowed = allowed_now;
+        log = log;
       }

@@ -34,10 +34,10 @@ acts_join ins outs m n a b c p q r k l x y f s = record {
 }
 
 pub same_self : {M : Type 0} (node : Node M) → IsSame node node
-same_self node = record { machine = refl; ins = refl; outs = refl; refused = refl; place = refl }
+same_self node = record { machine = refl; ins = refl; outs = refl; refused = refl; pass = refl; hand = refl; quiet = refl }
 
 pub same_trans : {M : Type 0} (a b c : Node M) → IsSame a b → IsSame b c → IsSame a c
-same_trans a b c x y = record { machine = y.machine ∙ x.machine; ins = y.ins ∙ x.ins; outs = y.outs ∙ x.outs; refused = y.refused ∙ x.refused; place = y.place ∙ x.place }
+same_trans a b c x y = record { machine = y.machine ∙ x.machine; ins = y.ins ∙ x.ins; outs = y.outs ∙ x.outs; refused = y.refused ∙ x.refused; pass = y.pass ∙ x.pass; hand = y.hand ∙ x.hand; quiet = y.quiet ∙ x.quiet }
 
 module _ {M : Type 0} (view : M → View) where
   -- a node keeps its shape

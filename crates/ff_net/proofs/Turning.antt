@@ -1,79 +1,47 @@
 -- A turn from its parts.
-use Rattle.std.proofs.Common.{◌≡◌, ℕ, inl, inr, Bool, true, false, ◌||◌, List, refl, sym, ◌∙◌, subst}
+use Rattle.std.proofs.Common.{◌≡◌, ℕ, ◌<◌, inl, inr, Bool, true, false, ◌||◌, length, ◌∙◌}
 use Rattle.ff_net.specs.declared.node.Node.{Node}
 use Rattle.ff_net.specs.declared.node.Turn.{Turn}
 use Rattle.ff_net.specs.declared.node.Turn.TheVariants.{Moved, NotYet}
 use Rattle.ff_net.specs.declared.wires.Wires.{Wires}
 use Rattle.ff_net.specs.Pasts.{Past}
-use Rattle.ff_net.specs.Worlds.{Wire, Stand}
-use Rattle.ff_net.specs.Nodes.{IsSame, NodeStands, in_wires_of, out_wires_of}
-use Rattle.ff_net.specs.Steps.{Course, Acts, Rests, Turns, Later, Stepped}
+use Rattle.ff_net.specs.Worlds.{Wire}
+use Rattle.ff_net.specs.Logs.{tickets_in}
+use Rattle.ff_net.specs.Nodes.{IsSound, NodeStands}
+use Rattle.ff_net.specs.Steps.{Rests, Tells, Turns, Stepped}
 use Rattle.ff_net.specs.Turns.{IsIdle, Answers}
 use Rattle.ff_net.specs.Views.{View}
-use Rattle.ff_net.proofs.Moments.{fault_then, then_moves, course_trans}
-use Rattle.ff_net.proofs.Changes.{true_not_false, same_stands}
+use Rattle.ff_net.proofs.Moments.{has_moved_then, then_has_moved, stepped_then, stepped_with}
 use Rattle.ff_net.proofs.Rounds.{or_true, or_false}
-use Rattle.ff_net.proofs.Readying.{rests_same}
+use Rattle.ff_net.proofs.Readying.{rests_told}
 
-module _ {M : Type 0} (view : M → View) (acted : Bool) (turn : Turn) (before mid last : Node M) (wires wires' wires'' : Wires)
-    (act : Stepped view (Turns view acted before mid) before wires mid wires') where
-  module _ (moved : turn ≡ Moved → (acted || true) ≡ true) (not_yet : turn ≡ NotYet → (acted || true) ≡ false) where
-    closing : Stepped view (Acts (true ≡ true) (Unit {0})) mid wires' last wires'' → (world : ℕ → Wire) (past : Past) → Stand wires world → NodeStands view before world past
-        → Later view (Answers view turn before last wires'') (in_wires_of before) (out_wires_of before) last wires'' world past
-    closing close world past stand was =
-        let x = act.goes world past stand was in
-        let y = close.goes x.now x.since x.stand x.fits in
-        let f : Course (in_wires_of before) (out_wires_of before) x.now y.now x.since y.since = subst (λ (os : List ℕ). Course (in_wires_of before) os x.now y.now x.since y.since) act.outs_same (subst (λ (is : List ℕ). Course is (out_wires_of mid) x.now y.now x.since y.since) act.ins_same y.course) in record {
-          now = y.now;
-          since = y.since;
-          stand = y.stand;
-          fits = y.fits;
-          course = course_trans (in_wires_of before) (out_wires_of before) world x.now y.now past x.since y.since x.course f;
-          so = record {
-            moved = λ e. then_moves (in_wires_of before) (out_wires_of before) world x.now y.now past x.since y.since x.course f (y.so.moves refl);
-            not_yet = λ e. absurd (true_not_false ((or_false acted true (not_yet e)).1));
-            takes_nothing = λ k d w. y.so.takes_nothing tt w ∙ x.so.takes_nothing k d w;
-            allows_nothing = λ k d. y.so.allows_nothing ∙ x.so.allows_nothing k d;
-          };
-        }
+module _ {M : Type 0} (view : M → View) where
+  -- events were told after what was done before
+  pub turn_told : (acted told : Bool) (before mid last : Node M) (wires wires' : Wires) → Stepped view (Turns view acted before mid) before wires mid wires' → Stepped view Tells mid wires' last wires' → last.outs.items ≡ mid.outs.items → (IsSound view last → IsSound view mid)
+      → tickets_in last.pass.log ≡ tickets_in mid.pass.log → (told ≡ true → length mid.pass.log < length last.pass.log) → (told ≡ false → last.pass ≡ record mid.pass { spare = last.pass.spare }) → Stepped view (Turns view (acted || told) before last) before wires last wires'
+  turn_told acted told before mid last wires wires' a b outs back tickets longer still =
+      stepped_then view (Turns view acted before mid) Tells (Turns view (acted || told) before last) before wires mid wires' last wires'
+      (λ w p v q u r x y f t. record {
+        moves = λ e. elim (or_true acted told e) [
+          | inl m ↦ has_moved_then _ _ before mid last w v u p q r x y b.passes.log (f.moves m)
+          | inr m ↦ then_has_moved _ _ before mid last w v u p q r x y a.passes.log (inr (longer m))
+        ];
+        takes_nothing = λ k d wire. t.taken wire ∙ f.takes_nothing k d wire;
+        allows_nothing = λ k d. t.allowed ∙ f.allows_nothing k d;
+        grants_nothing = λ k d. tickets ∙ f.grants_nothing k d;
+        rests = λ n. let no = or_false acted told n in rests_told view before mid last v u q r outs b.source_same back (still no.1) y.task t (f.rests no.0);
+      }) a b
 
-  module _ (moved : turn ≡ Moved → (acted || false) ≡ true) (idle : turn ≡ NotYet → (world : ℕ → Wire) (past : Past) → NodeStands view last world past → (acted ≡ false → Rests view last world past) → IsIdle view last wires'' world past) where
-    resting : IsSame mid last → wires'' ≡ wires' → (world : ℕ → Wire) (past : Past) → Stand wires world → NodeStands view before world past
-        → Later view (Answers view turn before last wires'') (in_wires_of before) (out_wires_of before) last wires'' world past
-    resting same same_wires world past stand was =
-        let x = act.goes world past stand was in
-        let fits = same_stands view mid last x.now x.since same x.fits in record {
-          now = x.now;
-          since = x.since;
-          stand = subst (λ (w : Wires). Stand w x.now) (sym same_wires) x.stand;
-          fits = fits;
-          course = x.course;
-          so = record {
-            moved = λ e. elim (or_true acted false (moved e)) [ inl t ↦ x.so.moves t | inr n ↦ absurd (true_not_false (sym n)) ];
-            not_yet = λ e. idle e x.now x.since fits (λ n. rests_same view mid last x.now x.since same (x.so.rests n));
-            takes_nothing = x.so.takes_nothing;
-            allows_nothing = x.so.allows_nothing;
-          };
-        }
-
-  pub turn_answers : (closed : Bool) → (turn ≡ Moved → (acted || closed) ≡ true) → (turn ≡ NotYet → (acted || closed) ≡ false) → Stepped view (Acts (closed ≡ true) (Unit {0})) mid wires' last wires'' → (closed ≡ false → IsSame mid last × (wires'' ≡ wires'))
-      → (closed ≡ false → turn ≡ NotYet → (world : ℕ → Wire) (past : Past) → NodeStands view last world past → (acted ≡ false → Rests view last world past) → IsIdle view last wires'' world past)
-      → Stepped view (Answers view turn before last wires'') before wires last wires''
-  turn_answers true moved not_yet close same idle = record {
-    ins_same = close.ins_same ∙ act.ins_same;
-    outs_same = close.outs_same ∙ act.outs_same;
-    in_lanes_same = close.in_lanes_same ∙ act.in_lanes_same;
-    out_lanes_same = close.out_lanes_same ∙ act.out_lanes_same;
-    fares = fault_then _ _ _ act.fares close.fares;
-    lanes_same = close.lanes_same ∙ act.lanes_same;
-    goes = λ world past stand was. closing moved not_yet close world past stand was;
-  }
-  turn_answers false moved not_yet close same idle = record {
-    ins_same = close.ins_same ∙ act.ins_same;
-    outs_same = close.outs_same ∙ act.outs_same;
-    in_lanes_same = close.in_lanes_same ∙ act.in_lanes_same;
-    out_lanes_same = close.out_lanes_same ∙ act.out_lanes_same;
-    fares = fault_then _ _ _ act.fares close.fares;
-    lanes_same = close.lanes_same ∙ act.lanes_same;
-    goes = λ world past stand was. let s = same refl in resting moved (idle refl) s.0 s.1 world past stand was;
-  }
+  -- what a turn answers
+  pub turn_answers : (moved : Bool) (turn : Turn) (before last : Node M) (wires wires' : Wires) → (turn ≡ Moved → moved ≡ true) → (turn ≡ NotYet → moved ≡ false)
+      → (turn ≡ NotYet → (world : ℕ → Wire) (past : Past) → NodeStands view last world past → Rests view before last world past → IsIdle view before last wires' world past)
+      → Stepped view (Turns view moved before last) before wires last wires' → Stepped view (Answers view turn before last wires') before wires last wires'
+  turn_answers moved turn before last wires wires' is_moved is_still idle s =
+      stepped_with view (Turns view moved before last) (Answers view turn before last wires') before wires last wires'
+      (λ a p b q fits x. record {
+        moved = λ e. x.moves (is_moved e);
+        not_yet = λ e. idle e b q fits (x.rests (is_still e));
+        takes_nothing = x.takes_nothing;
+        allows_nothing = x.allows_nothing;
+        grants_nothing = x.grants_nothing;
+      }) s

@@ -3,7 +3,7 @@ use Rattle.std.proofs.Common.{◌≡◌, ℕ, zero, suc, ◌<◌, ◌≤◌, ◌
 use Rattle.ff_frame.specs.declared.item.Lane.{Lane}
 use Rattle.ff_frame.specs.Stream.{LiesBelow, opened}
 use Rattle.ff_frame.specs.Order.{below_self, below_trans, nothing_below, unbroken_below, closed_below, whole_if_closed, all_trans, stream_at-opened, with_item_above}
-use Rattle.ff_frame.specs.Ports.{nothing, stream_at, AllBelow, AllUnbroken, IsClosed, IsWhole, IsUnbroken}
+use Rattle.ff_frame.specs.Ports.{nothing, stream_at, AllBelow, AllUnbroken, IsCalm, IsClosed, IsMonotone, IsWhole, IsUnbroken}
 use Rattle.ff_net.specs.declared.fault.Fault.{Fault}
 use Rattle.ff_net.specs.declared.ports.InPort.{InPort}
 use Rattle.ff_net.specs.declared.ports.OutPort.{OutPort}
@@ -75,21 +75,24 @@ module _ {M : Type 0} (view : M → View) (laws : (m : M) → Laws (view m)) whe
     taken_valid : (w : ℕ) → IsValidOn (lane_at lanes w) (world w).taken
     taken_valid w = valid_on_below (lane_at lanes w) (world w).taken (world w).sent (ordered w) (valid_sent w)
 
-    lawful_at : (node : Node M) (past : Past) → HaveLanes (in_wires_of node) (view node.machine).in_lanes lanes → HaveLanes (out_wires_of node) (view node.machine).out_lanes lanes → NodeStands view node world past → IsLawful lanes world (part_of view past.task node) (node.refused || is_some (view node.machine).fault)
-    lawful_at node past shaped_ins shaped_outs was =
+    -- a node is lawful by each function that is, and by which it gave no more than is meant
+    pub lawful_by : (node : Node M) (past : Past) (means : List Flow → List Flow) → IsMonotone (AreValid (view node.machine).in_lanes) means → IsCalm (AreValid (view node.machine).in_lanes) means
+        → ((ss : List Flow) → AreValid (view node.machine).in_lanes ss → AreValid (view node.machine).out_lanes (means ss)) → AllBelow past.gave (means past.got)
+        → HaveLanes (in_wires_of node) (view node.machine).in_lanes lanes → HaveLanes (out_wires_of node) (view node.machine).out_lanes lanes → NodeStands view node world past
+        → IsLawful lanes world (record (part_of view past.task node) { means = means }) (node.refused || is_some (view node.machine).fault)
+    lawful_by node past means mono calm keeps gave shaped_ins shaped_outs was =
         let part = part_of view past.task node in
         let got : AllBelow past.got (got_of world part) = all_in node.ins.items (λ w. (world w).taken) past.got (λ p lt. fed_below (stream_at past.got p) (world (in_at node.ins.items p).wire).taken ((was.ins p lt).fed)) was.beyond in
         let got_ok : AreValid (view node.machine).in_lanes (got_of world part) = map_valid lanes (λ w. (world w).taken) part.ins part.in_lanes shaped_ins.lanes_are taken_valid in
-        let mono = (laws node.machine).monotone past was.machine in
-        let above : AllBelow past.gave (past.task.means (got_of world part)) = all_trans past.gave (past.task.means past.got) (past.task.means (got_of world part)) (given_below past ((laws node.machine).given past was.machine)) (mono past.got (got_of world part) ((laws node.machine).valid past was.machine) got_ok got) in record {
+        let above : AllBelow past.gave (means (got_of world part)) = all_trans past.gave (means past.got) (means (got_of world part)) gave (mono past.got (got_of world part) ((laws node.machine).valid past was.machine) got_ok got) in record {
           ins_lanes = shaped_ins.lanes_are;
           outs_lanes = shaped_outs.lanes_are;
           monotone = mono;
-          calm = (laws node.machine).calm past was.machine;
-          keeps = (laws node.machine).keeps past was.machine;
-          gives = λ ok. all_out node.outs.items (λ w. (world w).sent) (past.task.means (got_of world part)) (λ p lt.
-              below_trans (world (out_at node.outs.items p).wire).sent (stream_at past.gave p) (stream_at (past.task.means (got_of world part)) p) ((was.outs p lt).exact (sound_bool node.refused (view node.machine).fault ok)) (above p));
-          gives_opened = λ p. rw (stream_at-opened (gave_of world part) p) (opened_at (past.task.means (got_of world part)) above p);
+          calm = calm;
+          keeps = keeps;
+          gives = λ ok. all_out node.outs.items (λ w. (world w).sent) (means (got_of world part)) (λ p lt.
+              below_trans (world (out_at node.outs.items p).wire).sent (stream_at past.gave p) (stream_at (means (got_of world part)) p) ((was.outs p lt).exact (sound_bool node.refused (view node.machine).fault ok)) (above p));
+          gives_opened = λ p. rw (stream_at-opened (gave_of world part) p) (opened_at (means (got_of world part)) above p);
           breaks_nothing = λ ok ins w i.
               let sound = sound_bool node.refused (view node.machine).fault ok in
               let place = out_place node.outs.items w i in
@@ -113,6 +116,11 @@ module _ {M : Type 0} (view : M → View) (laws : (m : M) → Laws (view m)) whe
             opened_map (w ∷ ws) zero = refl
             opened_map (w ∷ ws) (suc q) = opened_map ws q
 
+    lawful_at : (node : Node M) (past : Past) → HaveLanes (in_wires_of node) (view node.machine).in_lanes lanes → HaveLanes (out_wires_of node) (view node.machine).out_lanes lanes → NodeStands view node world past → IsLawful lanes world (part_of view past.task node) (node.refused || is_some (view node.machine).fault)
+    lawful_at node past shaped_ins shaped_outs was =
+        let l = laws node.machine in
+        lawful_by node past past.task.means (l.monotone past was.machine) (l.calm past was.machine) (l.keeps past was.machine) (given_below past (l.given past was.machine)) shaped_ins shaped_outs was
+
     are_lawful : (nodes : List (Node M)) (tasks : ℕ → Task) → ((k : ℕ) (d : Node M) → k < length nodes → HaveLanes (in_wires_of (slice_index_or nodes k d)) (view (slice_index_or nodes k d).machine).in_lanes lanes) → ((k : ℕ) (d : Node M) → k < length nodes → HaveLanes (out_wires_of (slice_index_or nodes k d)) (view (slice_index_or nodes k d).machine).out_lanes lanes) → ((k : ℕ) (d : Node M) → k < length nodes → (past : Past) × NodeStands view (slice_index_or nodes k d) world past × (past.task ≡ tasks k)) → AreLawful lanes world (all_placed tasks nodes)
     are_lawful [] tasks shaped_ins shaped_outs each = tt
     are_lawful (n ∷ ns) tasks shaped_ins shaped_outs each =
@@ -121,7 +129,7 @@ module _ {M : Type 0} (view : M → View) (laws : (m : M) → Laws (view m)) whe
           are_lawful ns (λ k. tasks (suc k)) (λ k d lt. shaped_ins (suc k) d (omega arith)) (λ k d lt. shaped_outs (suc k) d (omega arith)) (λ k d lt. each (suc k) d (omega arith)),
         )
 
-  are_faultless : (nodes : List (Node M)) (tasks : ℕ → Task) → ((k : ℕ) (d : Node M) → k < length nodes → IsSound view (slice_index_or nodes k d)) → AreFaultless (all_placed tasks nodes)
+  pub are_faultless : (nodes : List (Node M)) (tasks : ℕ → Task) → ((k : ℕ) (d : Node M) → k < length nodes → IsSound view (slice_index_or nodes k d)) → AreFaultless (all_placed tasks nodes)
   are_faultless [] tasks each = tt
   are_faultless (n ∷ ns) tasks each = (bool_sound n.refused (view n.machine).fault (each zero n (omega arith)), are_faultless ns (λ k. tasks (suc k)) (λ k d lt. each (suc k) d (omega arith)))
 
@@ -146,7 +154,7 @@ module _ {M : Type 0} (view : M → View) (laws : (m : M) → Laws (view m)) whe
       node : Node M
       node = slice_index_or nodes k d
 
-      at_port : (p : ℕ) → p < length (slice_index_or nodes k d).ins.items
+      pub at_port : (p : ℕ) → p < length (slice_index_or nodes k d).ins.items
           → ((world (in_at (slice_index_or nodes k d).ins.items p).wire).taken ≡ solve (parts_of view tasks nodes) (in_at (slice_index_or nodes k d).ins.items p).wire) × IsWhole (world (in_at (slice_index_or nodes k d).ins.items p).wire).taken
       at_port p plt =
           let mine = net.each k d lt in

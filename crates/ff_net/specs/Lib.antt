@@ -1,4 +1,5 @@
 pub mod Laws
+pub mod Logs
 pub mod Nets
 pub mod Nodes
 pub mod Pasts

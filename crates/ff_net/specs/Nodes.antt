@@ -1,8 +1,8 @@
 -- A machine on wires, and what it has behind it.
-use Rattle.std.specs.Prelude.{◌≡◌, ℕ, zero, suc, ◌<◌, ◌≤◌, ◌⊎◌, Bool, true, false, List, [], ◌∷◌, ◌++◌, length, map, slice_index_or, Option, None, Some}
+use Rattle.std.specs.Prelude.{◌≡◌, ℕ, ◌<◌, ◌≤◌, ◌⊎◌, Bool, true, false, List, [], ◌++◌, length, map, slice_index_or, Option, None, Some}
+use mathlib.Core.List.{IsPrefix}
 use Rattle.ff_frame.specs.declared.item.Item.{Item}
 use Rattle.ff_frame.specs.declared.item.Lane.{Lane}
-use Rattle.ff_values.specs.declared.event.Ticket.{Ticket}
 use Rattle.ff_frame.specs.Stream.{still_open, LiesBelow, opened}
 use Rattle.ff_frame.specs.Items.{with_item}
 use Rattle.ff_frame.specs.Ports.{nothing, stream_at, IsClosed}
@@ -12,7 +12,9 @@ use Rattle.ff_net.specs.declared.ports.OutPort.{OutPort}
 use Rattle.ff_net.specs.declared.wires.Wires.{Wires}
 use Rattle.ff_net.specs.Ways.{Flow, lane_at}
 use Rattle.ff_net.specs.Pasts.{Past, IsIn}
-use Rattle.ff_net.specs.Laws.{NoMatter}
+use Rattle.ff_net.specs.Laws.{IsReading, NoMatter}
+use Rattle.ff_net.specs.Logs.{GrantsFirst, hand_of, tickets_in, told_in}
+use Rattle.ff_sched.specs.Passing.{Passing, Scheduler}
 use Rattle.ff_net.specs.Ports.{in_at, out_at, in_wires, out_wires, AreDone}
 use Rattle.ff_net.specs.Worlds.{Wire, lanes_of}
 use Rattle.ff_net.specs.Views.{View}
@@ -46,6 +48,10 @@ pub record InStands (port : InPort) (wire : Wire) (got : Flow) (refused : Bool) 
 abbrev pub machine_of : {M : Type 0} → Node M → M
 machine_of node = node.machine
 
+-- the pass of a node
+abbrev pub pass_of : {M : Type 0} → Node M → Passing
+pass_of node = node.pass
+
 -- how many inputs a node has, and how many outputs
 abbrev pub inputs_of : {M : Type 0} → Node M → ℕ
 inputs_of node = length node.ins.items
@@ -77,11 +83,21 @@ IsSound view node = (node.refused ≡ false) × ((view node.machine).fault ≡ N
 abbrev pub MayClose : {M : Type 0} → (M → View) → Node M → Past → ℕ → Type 0
 MayClose view node past p = (0 < length node.outs.items) × (NoMatter (view node.machine).in_lanes (length node.outs.items) past p ⊎ AreDone node.outs.items)
 
--- the tickets with the places 0, 1, 2 and so on
-abbrev pub tickets : Option ℕ → ℕ → List Ticket
-tickets None n = []
-tickets (Some s) zero = []
-tickets (Some s) (suc n) = tickets (Some s) n ++ record { source = s; place = n } ∷ []
+-- the node's pass is of this cell, and its source, where it is one, is one of the cell's
+pub record IsOf {M : Type 0} (view : M → View) (cell : Scheduler) (node : Node M) : Type 0 where
+  pub pass : node.pass.cell ≡ cell
+  pub source : (s : ℕ) → (view node.machine).source ≡ Some s → s < cell.routes.sources
+
+-- What the log of the node's pass says of the past. Its grants are the tickets that the machine was allowed, and the one that the
+-- node holds. Its other events were told by the machine, and are all that it told where no memory was refused; they stand behind
+-- the grants, since nothing is told while a source is reading. Where nothing was left to tell, each event that is due was told
+pub record LogStands {M : Type 0} (view : M → View) (node : Node M) (past : Past) : Type 0 where
+  pub granted : tickets_in node.pass.log ≡ past.allowed ++ hand_of node.hand
+  pub told : IsPrefix (told_in node.pass.log) past.told
+  pub all_told : node.refused ≡ false → told_in node.pass.log ≡ past.told
+  pub in_order : GrantsFirst node.pass.log
+  pub unread : IsReading (view node.machine) past → past.told ≡ []
+  pub quiet : node.quiet ≡ true → (past.told ≡ past.task.tells past.feeds) ⊎ IsReading (view node.machine) past
 
 -- the node can be where it is after this was sent and taken on its wires, and its machine after this past
 pub record NodeStands {M : Type 0} (view : M → View) (node : Node M) (world : ℕ → Wire) (past : Past) : Type 0 where
@@ -90,7 +106,7 @@ pub record NodeStands {M : Type 0} (view : M → View) (node : Node M) (world : 
   pub outs : (p : ℕ) → p < length node.outs.items → OutStands (out_at node.outs.items p) (world (out_at node.outs.items p).wire) (stream_at past.gave p) (IsIn p past.stopped) (IsSound view node)
   pub beyond : (p : ℕ) → length node.ins.items ≤ p → stream_at past.got p ≡ nothing
   pub stopped : (p : ℕ) → IsIn p past.stopped → (out_at node.outs.items p).done ≡ true
-  pub allowed : past.allowed ≡ tickets (view node.machine).source node.place
+  pub log : LogStands view node past
 
 -- nothing has changed, wherever the ports lie
 pub record IsSame {M : Type 0} (old new : Node M) : Type 0 where
@@ -98,7 +114,9 @@ pub record IsSame {M : Type 0} (old new : Node M) : Type 0 where
   pub ins : new.ins.items ≡ old.ins.items
   pub outs : new.outs.items ≡ old.outs.items
   pub refused : new.refused ≡ old.refused
-  pub place : new.place ≡ old.place
+  pub pass : new.pass ≡ old.pass
+  pub hand : new.hand ≡ old.hand
+  pub quiet : new.quiet ≡ old.quiet
 
 abbrev pub in_wires_of : {M : Type 0} → Node M → List ℕ
 in_wires_of node = in_wires node.ins.items
@@ -120,7 +138,9 @@ pub record IsShaped {M : Type 0} (view : M → View) (node : Node M) (wires : Wi
   pub ins : HaveLanes (in_wires_of node) (view node.machine).in_lanes (lanes_of wires)
   pub outs : HaveLanes (out_wires_of node) (view node.machine).out_lanes (lanes_of wires)
 
--- each input was finished, and each output is closed and given or was told that its receiver has finished
+-- each input was finished, each output is closed and given or was told that its receiver has finished, and nothing was left to
+-- tell, or memory was refused
 pub record IsDone {M : Type 0} (node : Node M) : Type 0 where
   pub ins : (p : ℕ) → p < length node.ins.items → (in_at node.ins.items p).done ≡ true
   pub outs : AreDone node.outs.items
+  pub told : (node.quiet ≡ true) ⊎ (node.refused ≡ true)

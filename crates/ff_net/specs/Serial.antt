@@ -1,14 +1,16 @@
 -- All nodes on their wires, and the parts that they are.
-use Rattle.std.specs.Prelude.{◌≡◌, ℕ, zero, suc, ◌<◌, List, [], ◌∷◌, length, slice_index_or}
+use Rattle.std.specs.Prelude.{◌≡◌, ℕ, zero, suc, ◌<◌, List, [], ◌∷◌, length, map, slice_index_or, Option, None, Some}
 use Rattle.ff_frame.specs.declared.item.Lane.{Lane}
 use Rattle.ff_frame.specs.Stream.{LiesBelow}
 use Rattle.ff_net.specs.declared.node.Node.{Node}
 use Rattle.ff_net.specs.declared.wires.Wires.{Wires}
 use Rattle.ff_net.specs.Nets.{Part}
-use Rattle.ff_net.specs.Pasts.{Past, Task, IsIn}
+use Rattle.ff_net.specs.Pasts.{Past, Task, IsIn, cut_to}
 use Rattle.ff_net.specs.Worlds.{Wire, Stand}
-use Rattle.ff_net.specs.Nodes.{NodeStands, IsShaped, HaveLanes, in_wires_of, out_wires_of}
-use Rattle.ff_net.specs.Ways.{lane_at, IsValidOn}
+use Rattle.ff_net.specs.Logs.{PassStep}
+use Rattle.ff_net.specs.Nodes.{NodeStands, IsOf, IsShaped, HaveLanes, in_wires_of, out_wires_of}
+use Rattle.ff_sched.specs.Passing.{Scheduler}
+use Rattle.ff_net.specs.Ways.{Flow, lane_at, IsValidOn}
 use Rattle.ff_net.specs.Views.{View}
 
 -- each node is shaped, and no two inputs and no two outputs of the nodes have one wire
@@ -16,6 +18,14 @@ pub record AreShaped {M : Type 0} (view : M → View) (nodes : List (Node M)) (w
   pub each : (k : ℕ) (d : Node M) → k < length nodes → IsShaped view (slice_index_or nodes k d) wires
   pub ins_apart : (j k w : ℕ) (d : Node M) → j < length nodes → k < length nodes → IsIn w (in_wires_of (slice_index_or nodes j d)) → IsIn w (in_wires_of (slice_index_or nodes k d)) → j ≡ k
   pub outs_apart : (j k w : ℕ) (d : Node M) → j < length nodes → k < length nodes → IsIn w (out_wires_of (slice_index_or nodes j d)) → IsIn w (out_wires_of (slice_index_or nodes k d)) → j ≡ k
+
+-- each node's pass is of this cell, and each source one of the cell's
+abbrev pub AreOf : {M : Type 0} → (M → View) → Scheduler → List (Node M) → Type 0
+AreOf {M} view cell nodes = (k : ℕ) (d : Node M) → k < length nodes → IsOf view cell (slice_index_or nodes k d)
+
+-- from the first moment to the last each node's pass goes on
+abbrev pub AllPass : {M : Type 0} → List (Node M) → List (Node M) → Type 0
+AllPass {M} begun nodes = (k : ℕ) (d : Node M) → k < length begun → PassStep (slice_index_or begun k d).pass (slice_index_or nodes k d).pass
 
 -- something can be behind all nodes and wires, with these tasks of the nodes
 pub record NetStands {M : Type 0} (view : M → View) (tasks : ℕ → Task) (nodes : List (Node M)) (wires : Wires) : Type 0 where
@@ -40,3 +50,19 @@ part_of view task node = record { means = task.means; in_lanes = (view node.mach
 abbrev pub parts_of : {M : Type 0} → (M → View) → (ℕ → Task) → List (Node M) → List Part
 parts_of view tasks [] = []
 parts_of view tasks (n ∷ ns) = part_of view (tasks zero) n ∷ parts_of view (λ k. tasks (suc k)) ns
+
+abbrev pub tried_by : Option ℕ → ℕ → List Flow → List Flow
+tried_by None n ss = ss
+tried_by (Some s) n ss = map (cut_to n) ss
+
+-- of a source its streams as far as the units that it has tried; of another machine all that it means
+abbrev pub tried_of : View → List Flow → List Flow
+tried_of v ss = tried_by v.source v.tried ss
+
+-- the parts, each source as far as the units that it has tried
+abbrev pub granted_part_of : {M : Type 0} → (M → View) → Task → Node M → Part
+granted_part_of view task node = record (part_of view task node) { means = λ ss. tried_of (view node.machine) (task.means ss) }
+
+abbrev pub granted_parts_of : {M : Type 0} → (M → View) → (ℕ → Task) → List (Node M) → List Part
+granted_parts_of view tasks [] = []
+granted_parts_of view tasks (n ∷ ns) = granted_part_of view (tasks zero) n ∷ granted_parts_of view (λ k. tasks (suc k)) ns

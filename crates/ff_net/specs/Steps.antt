@@ -1,10 +1,11 @@
 -- What a node does, whatever it and its wires have behind them.
-use Rattle.std.specs.Prelude.{◌≡◌, ◌≢◌, ℕ, ◌<◌, ◌≤◌, ◌-◌, ◌^◌, ◌⊎◌, Bool, true, false, List, length, None}
+use Rattle.std.specs.Prelude.{◌≡◌, ◌≢◌, ℕ, ◌<◌, ◌⊎◌, Bool, true, false, List, length, None, Some}
 use mathlib.Core.List.{IsPrefix}
 use Rattle.ff_frame.specs.Stream.{LiesBelow}
 use Rattle.ff_net.specs.declared.node.Node.{Node}
 use Rattle.ff_net.specs.declared.wires.Wires.{Wires}
 use Rattle.ff_net.specs.Laws.{FaultStep}
+use Rattle.ff_net.specs.Logs.{PassStep, WasChoked, tickets_in}
 use Rattle.ff_net.specs.Pasts.{Past, IsIn, due}
 use Rattle.ff_net.specs.Worlds.{Wire, Stand, lanes_of}
 use Rattle.ff_net.specs.Nodes.{NodeStands, IsSound, in_wires_of, out_wires_of}
@@ -44,15 +45,18 @@ pub record Later {M : Type 0} (view : M → View) (how : (ℕ → Wire) → Past
   pub course : Course ins outs world now past since
   pub so : how world past now since
 
--- the node keeps its wires, and the wires and the machine their lanes; and whatever was behind node and wires, something
+-- the node keeps its wires and its pass, to which it may add, the wires and the machine their lanes, and a source its number; and
+-- whatever was behind node and wires, something
 -- that goes on from it so is behind them now
 pub record Stepped {M : Type 0} (view : M → View) (how : (ℕ → Wire) → Past → (ℕ → Wire) → Past → Type 0) (node : Node M) (wires : Wires) (node' : Node M) (wires' : Wires) : Type 0 where
   pub ins_same : in_wires_of node' ≡ in_wires_of node
   pub outs_same : out_wires_of node' ≡ out_wires_of node
   pub in_lanes_same : (view node'.machine).in_lanes ≡ (view node.machine).in_lanes
   pub out_lanes_same : (view node'.machine).out_lanes ≡ (view node.machine).out_lanes
+  pub source_same : (view node'.machine).source ≡ (view node.machine).source
   pub lanes_same : lanes_of wires' ≡ lanes_of wires
   pub fares : FaultStep (view node.machine) (view node'.machine)
+  pub passes : PassStep node.pass node'.pass
   pub goes : (world : ℕ → Wire) (past : Past) → Stand wires world → NodeStands view node world past → Later view how (in_wires_of node) (out_wires_of node) node' wires' world past
 
 -- something moved, or nothing was taken, where these hold, and no ticket was allowed
@@ -90,33 +94,55 @@ pub record Fills {M : Type 0} (view : M → View) (due : Bool) (before : Node M)
   pub stopped : since.stopped ≡ past.stopped
   pub none_before : due ≡ false → (q : ℕ) → IsDue view before old past q → ⊥
 
--- a ticket was allowed or none, and nothing else moved
-pub record Grants (allowed : Bool) (old : ℕ → Wire) (past : Past) (new : ℕ → Wire) (since : Past) : Type 0 where
-  pub moves : allowed ≡ true → Moves old new past since
+-- something moved, or the log of the node's pass has grown: it was granted, or told an event
+abbrev pub HasMoved : {M : Type 0} → Node M → Node M → (ℕ → Wire) → Past → (ℕ → Wire) → Past → Type 0
+HasMoved before node old past new since = Moves old new past since ⊎ (length before.pass.log < length node.pass.log)
+
+-- a grant was taken or a ticket allowed, or neither, and nothing else moved
+pub record Grants {M : Type 0} (granted : Bool) (before node : Node M) (old : ℕ → Wire) (past : Past) (new : ℕ → Wire) (since : Past) : Type 0 where
+  pub moves : granted ≡ true → HasMoved before node old past new since
   pub sent : (w : ℕ) → (new w).sent ≡ (old w).sent
   pub taken : (w : ℕ) → (new w).taken ≡ (old w).taken
   pub finished : (w : ℕ) → (new w).finished ≡ (old w).finished
   pub got : since.got ≡ past.got
   pub stopped : since.stopped ≡ past.stopped
-  pub same : allowed ≡ false → since ≡ past
+  pub same : granted ≡ false → since ≡ past
+
+-- events were told or none, and nothing moved
+pub record Tells (old : ℕ → Wire) (past : Past) (new : ℕ → Wire) (since : Past) : Type 0 where
+  pub sent : (w : ℕ) → (new w).sent ≡ (old w).sent
+  pub taken : (w : ℕ) → (new w).taken ≡ (old w).taken
+  pub finished : (w : ℕ) → (new w).finished ≡ (old w).finished
+  pub got : since.got ≡ past.got
+  pub allowed : since.allowed ≡ past.allowed
+  pub stopped : since.stopped ≡ past.stopped
+
+-- the node is no source, or its source was refused a grant between these moments
+abbrev pub IsUngranted : {M : Type 0} → (M → View) → Node M → Node M → Type 0
+IsUngranted view before node =
+    ((view node.machine).source ≡ None)
+    ⊎ ((s : ℕ) × ((view node.machine).source ≡ Some s) × WasChoked before.pass s node.pass)
 
 -- of a node where nothing moved: an output that goes on and holds nothing has all that is due; and where no output holds
--- anything, but one goes on, the node is no source, or has used up all places
-pub record Rests {M : Type 0} (view : M → View) (node : Node M) (world : ℕ → Wire) (past : Past) : Type 0 where
+-- anything, but one goes on, the node is no source, or was refused a grant
+pub record Rests {M : Type 0} (view : M → View) (before node : Node M) (world : ℕ → Wire) (past : Past) : Type 0 where
   pub none_due : IsSound view node → (q : ℕ) → q < length node.outs.items → (out_at node.outs.items q).done ≡ false → (out_at node.outs.items q).held ≡ None → (world (out_at node.outs.items q).wire).sent ≡ stream_at (due past) q
-  pub ungranted : IsSound view node → NoneHeld node.outs.items → (q : ℕ) → q < length node.outs.items → (out_at node.outs.items q).done ≡ false → ((view node.machine).source ≡ None) ⊎ (2 ^ 64 - 1 ≤ node.place)
+  pub ungranted : IsSound view node → NoneHeld node.outs.items → (q : ℕ) → q < length node.outs.items → (out_at node.outs.items q).done ≡ false
+      → IsUngranted view before node
 
--- something moved or the node rests, and nothing was taken and no ticket allowed where an item was due before
+-- something moved or the node rests, and nothing was taken, granted or allowed where an item was due before
 pub record Turns {M : Type 0} (view : M → View) (moved : Bool) (before node : Node M) (old : ℕ → Wire) (past : Past) (new : ℕ → Wire) (since : Past) : Type 0 where
-  pub moves : moved ≡ true → Moves old new past since
+  pub moves : moved ≡ true → HasMoved before node old past new since
   pub takes_nothing : (q : ℕ) → IsDue view before old past q → (w : ℕ) → (new w).taken ≡ (old w).taken
   pub allows_nothing : (q : ℕ) → IsDue view before old past q → since.allowed ≡ past.allowed
-  pub rests : moved ≡ false → Rests view node new since
+  pub grants_nothing : (q : ℕ) → IsDue view before old past q → tickets_in node.pass.log ≡ tickets_in before.pass.log
+  pub rests : moved ≡ false → Rests view before node new since
 
--- a source has one ticket more, or none where an item was due, and the machine of a node gave items to hold
+-- a source was granted one ticket more, or none where an item was due, and the machine of a node gave items to hold
 pub record Prepares {M : Type 0} (view : M → View) (granted held : Bool) (before node : Node M) (old : ℕ → Wire) (past : Past) (new : ℕ → Wire) (since : Past) : Type 0 where
-  pub moves : granted ≡ true → Moves old new past since
+  pub moves : granted ≡ true → HasMoved before node old past new since
   pub taken : (w : ℕ) → (new w).taken ≡ (old w).taken
   pub allows_nothing : (q : ℕ) → IsDue view before old past q → since.allowed ≡ past.allowed
+  pub grants_nothing : (q : ℕ) → IsDue view before old past q → tickets_in node.pass.log ≡ tickets_in before.pass.log
   pub none_before : IsSound view node → held ≡ false → (q : ℕ) → IsDue view before old past q → ⊥
-  pub rests : granted ≡ false → Rests view node new since
+  pub rests : granted ≡ false → Rests view before node new since

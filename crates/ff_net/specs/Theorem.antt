@@ -12,6 +12,9 @@
 -- isn't told of a break. A node is sound that has no fault (`IsSound`), and done whose inputs are finished and whose outputs
 -- are closed or unwanted (`IsDone`). `view` says what a machine shows to contracts.
 --
+-- The granted solution, `solve` of `granted_parts_of`, takes each source only as far as the units that it has tried, each under
+-- a ticket of its own: what it could have given beyond them isn't in it.
+--
 -- The theorem is the record `MeetsSolution`. It is about moments, not ends: it holds after each turn. That a run ends isn't
 -- in it.
 use Rattle.std.specs.Prelude.{◌≡◌, ℕ, ◌<◌, List, length, map, slice_index_or, Some}
@@ -24,7 +27,7 @@ use Rattle.ff_net.specs.Nets.{Part, solve}
 use Rattle.ff_net.specs.Nodes.{IsSound, IsDone, machine_of, in_wires_of, outputs_of}
 use Rattle.ff_net.specs.Pasts.{Past, Task, IsIn}
 use Rattle.ff_net.specs.Ports.{in_at}
-use Rattle.ff_net.specs.Serial.{parts_of}
+use Rattle.ff_net.specs.Serial.{granted_parts_of, parts_of}
 use Rattle.ff_net.specs.Views.{View}
 use Rattle.ff_net.specs.Worlds.{Wire}
 
@@ -52,4 +55,7 @@ pub record MeetsSolution {M : Type 0} (view : M → View) (tasks : ℕ → Task)
       → (tasks k).cause (map (solve (parts_of view tasks nodes)) (in_wires_of (slice_index_or nodes k d))) ≡ Some c
   -- where no node has a fault, the machine of each without outputs that is done was fed the solution, and it is whole
   pub settled : ((k : ℕ) (d : Node M) → k < length nodes → IsSound view (slice_index_or nodes k d)) → (k : ℕ) (d : Node M) → k < length nodes → IsDone (slice_index_or nodes k d) → outputs_of (slice_index_or nodes k d) ≡ 0 → Settled view (tasks k) (parts_of view tasks nodes) (slice_index_or nodes k d)
+  -- and then it is the solution too that comes of the units alone that the sources have tried, each under a ticket of its own
+  pub granted : ((k : ℕ) (d : Node M) → k < length nodes → IsSound view (slice_index_or nodes k d)) → (k : ℕ) (d : Node M) → k < length nodes → IsDone (slice_index_or nodes k d) → outputs_of (slice_index_or nodes k d) ≡ 0
+      → (w : ℕ) → IsIn w (in_wires_of (slice_index_or nodes k d)) → solve (granted_parts_of view tasks nodes) w ≡ solve (parts_of view tasks nodes) w
   pub fares : AllFare view begun nodes

@@ -11,9 +11,18 @@
 //!    | node 0 | ----------> | node 1  | -----------> | node 2 |
 //!    | source |  <-- done   |         |   <-- done   |  sink  |
 //!    +--------+             +---------+              +--------+
+//!      pass |                 pass |                   pass |
+//!    Grant, Exited            Best |         Sent, Finished |
+//!   ========o======================o========================o======== the scheduler's cell
 //!
-//!     a turn: items that are due go out, items come in, the machine is fed and asked, "done" goes back
+//!     a turn: items that are due go out, a source is granted a unit, items come in, the machine is fed and asked, what it
+//!     has to tell is told, "done" goes back
 //! ```
+//!
+//! Each node has a *pass* of the scheduler's cell (`ff_sched`). A source gives one unit for each grant that its node took
+//! with the pass, and a node tells the cell, with its pass, the events of its machine that are due by what it was fed. So
+//! the log of a pass is what its node was granted, and then what its machine told (`LogStands`). A node whose source may not
+//! be read has nothing to do until others have told more.
 //!
 //! The *solution* of a network is the streams that the machines' definitions give, node after node, from whole inputs:
 //! no turn and no wire's size is in it. Whatever the turns were, what a node took is a front of its solution, and once
@@ -32,6 +41,6 @@ mod wires;
 
 pub use fault::Fault;
 pub use machine::Machine;
-pub use node::{Node, Turn};
+pub use node::{Node, NodeRefused, Turn};
 pub use serial::{run_serial, run_to_end};
 pub use wires::{Put, Queue, Take, Wires};

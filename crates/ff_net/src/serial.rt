@@ -2,13 +2,14 @@ ghost use Rattle.std.specs.Prelude.{◌≡◌, ℕ, ◌<◌, length, slice_index
 ghost use Rattle.ff_net.specs.Nets.{IsUpward};
 ghost use Rattle.ff_net.specs.Nodes.{IsDone};
 ghost use Rattle.ff_net.specs.Pasts.{Task};
-ghost use Rattle.ff_net.specs.Serial.{AreShaped, NetStands, parts_of};
+ghost use Rattle.ff_net.specs.Serial.{AllPass, AreOf, AreShaped, NetStands, parts_of};
 ghost use Rattle.ff_net.specs.Theorem.{AllFare, MeetsSolution};
 ghost use Rattle.ff_net.specs.Worlds.{lanes_of};
 
 use crate::machine::Machine;
 use crate::node::Node;
 use crate::wires::Wires;
+use ff_sched::SchedCell;
 use std::sync::Wait;
 
 /// One turn for each entry.
@@ -17,10 +18,19 @@ use std::sync::Wait;
 /// breaks where no node with a lower number has a fault; then its own fault of the inputs is the cause of the solution's
 /// streams. Where none has a fault, the machine of each node without outputs that is done was fed the streams of the
 /// solution, and they are whole.
-pub fn run_serial<M: Machine>(nodes: &mut [Node<M>], wires: &mut Wires, order: &[usize])
+pub fn run_serial<R: Wait, M: Machine>(
+    rt: &R,
+    nodes: &mut [Node<M>],
+    cell: &SchedCell,
+    wires: &mut Wires,
+    order: &[usize],
+)
     requires shaped { AreShaped M.view nodes.old wires.old }
+    requires cell { AreOf M.view cell.now nodes.old }
     requires order { (i : ℕ) (d : ℕ) → i < length order.now → slice_index_or order.now i d < length nodes.old }
     ensures shaped { AreShaped M.view nodes.new wires.new }
+    ensures cell { AreOf M.view cell.now nodes.new }
+    ensures passes { AllPass nodes.old nodes.new }
     ensures lanes { lanes_of wires.new ≡ lanes_of wires.old }
     ensures parts { (tasks : ℕ → Task) → parts_of M.view tasks nodes.new ≡ parts_of M.view tasks nodes.old }
     ensures fares { AllFare M.view nodes.old nodes.new }
@@ -29,7 +39,7 @@ pub fn run_serial<M: Machine>(nodes: &mut [Node<M>], wires: &mut Wires, order: &
 {
     for k in order {
         let node = &mut nodes[*k];
-        let _turn = node.turn(wires);
+        let _turn = node.turn(rt, cell, wires);
     }
 }
 
@@ -50,13 +60,17 @@ fn all_done<M: Machine>(nodes: &[Node<M>]) -> bool
 pub fn run_to_end<R: Wait, M: Machine>(
     rt: &R,
     nodes: &mut [Node<M>],
+    cell: &SchedCell,
     wires: &mut Wires,
     order: &[usize],
 )
     requires shaped { AreShaped M.view nodes.old wires.old }
+    requires cell { AreOf M.view cell.now nodes.old }
     requires order { (i : ℕ) (d : ℕ) → i < length order.now → slice_index_or order.now i d < length nodes.old }
     ensures done { (k : ℕ) (d : _) → k < length nodes.new → IsDone (slice_index_or nodes.new k d) }
     ensures shaped { AreShaped M.view nodes.new wires.new }
+    ensures cell { AreOf M.view cell.now nodes.new }
+    ensures passes { AllPass nodes.old nodes.new }
     ensures lanes { lanes_of wires.new ≡ lanes_of wires.old }
     ensures parts { (tasks : ℕ → Task) → parts_of M.view tasks nodes.new ≡ parts_of M.view tasks nodes.old }
     ensures fares { AllFare M.view nodes.old nodes.new }
@@ -64,7 +78,7 @@ pub fn run_to_end<R: Wait, M: Machine>(
     ensures solved { (tasks : ℕ → Task) → NetStands M.view tasks nodes.old wires.old → IsUpward [] (parts_of M.view tasks nodes.new) → (net : NetStands M.view tasks nodes.new wires.new) × MeetsSolution M.view tasks nodes.old nodes.new net.world }
 {
     for _ in rt.forever() {
-        run_serial(nodes, wires, order);
+        run_serial(rt, nodes, cell, wires, order);
         if all_done(nodes) {
             return;
         }

@@ -63,11 +63,11 @@ waits_at lane items next failed past zero lt s =
 waits_at lane items next failed past (suc p) lt s = absurd (omega arith)
 
 pub asked_in : (lane : Lane) (items : List Item) (next : ℕ) (ended ticket failed : Bool) (past : Past) (p : ℕ) → Lists lane items next ended ticket failed past → (ticket ≡ true → (ended ≡ true) ⊎ (failed ≡ true)) → Lists lane items next ended ticket failed (was_asked past p)
-asked_in lane items next ended ticket failed past p s h = record { means = s.means; silent = s.silent; cause = s.cause; source = s.source; got = s.got; valid = s.valid; gave = s.gave; beyond = s.beyond; tickets = s.tickets; in_range = s.in_range; at_end = s.at_end; asked = λ t i. h t }
+asked_in lane items next ended ticket failed past p s h = record { means = s.means; cause = s.cause; source = s.source; got = s.got; valid = s.valid; gave = s.gave; beyond = s.beyond; tickets = s.tickets; in_range = s.in_range; at_end = s.at_end; asked = λ t i. h t }
 
 -- the device failed
 pub fails_at : (lane : Lane) (items : List Item) (next : ℕ) (ended ticket : Bool) (past : Past) (p : ℕ) → Lists lane items next ended ticket false past → Lists lane items next ended ticket true (was_asked past p)
-fails_at lane items next ended ticket past p s = record { means = s.means; silent = s.silent; cause = s.cause; source = s.source; got = s.got; valid = s.valid; gave = s.gave; beyond = s.beyond; tickets = s.tickets; in_range = s.in_range; at_end = s.at_end; asked = λ t i. inr refl }
+fails_at lane items next ended ticket past p s = record { means = s.means; cause = s.cause; source = s.source; got = s.got; valid = s.valid; gave = s.gave; beyond = s.beyond; tickets = s.tickets; in_range = s.in_range; at_end = s.at_end; asked = λ t i. inr refl }
 
 pub list_gives : (lane : Lane) (items : List Item) (next : ℕ) (failed : Bool) (past : Past) (p : ℕ) (x : Item) → p < 1 → next < length items → slice_index_or items next x ≡ x → Lists lane items next false true failed past
     → Lists lane items (next + 1) false false failed (gave_item past p x) × ((stream_at past.gave p).mark ≡ still_open) × LiesBelow (with_item (stream_at past.gave p) x) (stream_at (due past) p)
@@ -76,7 +76,6 @@ list_gives lane items next failed past zero x lt less is s =
     let grown : with_item (stream_at past.gave 0) x ≡ given_of items (next + 1) false = ap (λ (t : Flow). with_item t x) s.gave ∙ given_more lane items next x s.valid less is in (
       record {
         means = s.means;
-        silent = s.silent;
         cause = s.cause;
         source = s.source;
         got = s.got;
@@ -101,7 +100,6 @@ list_ends lane items next failed past zero lt over s =
     let grown : with_item (stream_at past.gave 0) End ≡ given_of items next true = ap (λ (t : Flow). with_item t End) s.gave in (
       record {
         means = s.means;
-        silent = s.silent;
         cause = s.cause;
         source = s.source;
         got = s.got;

@@ -6,8 +6,9 @@ use Rattle.ff_net.specs.declared.wires.Wires.{Wires}
 use Rattle.ff_net.specs.Pasts.{IsIn}
 use Rattle.ff_net.specs.Ways.{lane_at}
 use Rattle.ff_net.specs.Worlds.{lanes_of}
-use Rattle.ff_net.specs.Nodes.{AreApart, HaveLanes, IsShaped, in_wires_of, out_wires_of}
-use Rattle.ff_net.specs.Serial.{AreShaped}
+use Rattle.ff_net.specs.Nodes.{AreApart, HaveLanes, IsOf, IsShaped, in_wires_of, out_wires_of}
+use Rattle.ff_net.specs.Serial.{AreOf, AreShaped}
+use Rattle.ff_sched.specs.Passing.{Scheduler}
 use Rattle.ff_net_plain.specs.declared.plain.Plain.{Plain}
 use Rattle.ff_net_plain.specs.Plains.{plain_view}
 use Rattle.ff_net_plain.specs.Networks.{Fits}
@@ -149,3 +150,7 @@ module _ (a b c d e : Node Plain) (wires : Wires) (l : Lane) (lanes : lanes_of w
     ins_apart = owned_apart leads_to (λ n. in_wires_of n) (a ∷ b ∷ c ∷ d ∷ e ∷ []) five_in;
     outs_apart = owned_apart leaves (λ n. out_wires_of n) (a ∷ b ∷ c ∷ d ∷ e ∷ []) five_out;
   }
+
+-- five nodes whose passes are of one cell
+pub five_of : (cell : Scheduler) (a b c d e : Node Plain) → IsOf plain_view cell a → IsOf plain_view cell b → IsOf plain_view cell c → IsOf plain_view cell d → IsOf plain_view cell e → AreOf plain_view cell (a ∷ b ∷ c ∷ d ∷ e ∷ [])
+five_of cell a b c d e v w x y z = each_at (λ n. IsOf plain_view cell n) (a ∷ b ∷ c ∷ d ∷ e ∷ []) (v, (w, (x, (y, (z, tt)))))

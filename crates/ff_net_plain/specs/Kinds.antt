@@ -13,6 +13,7 @@ use Rattle.ff_net_plain.specs.Relays.{is_spent_relay}
 use Rattle.ff_net_plain.specs.Starts.{source_stands, relay_stands, join_stands}
 use Rattle.ff_net_plain.specs.Trials.{source_outs, relay_ins, relay_outs, join_ins, join_outs}
 use Rattle.ff_net_plain.specs.ListLaws.{lists_keeps, lists_monotone, lists_cause_stays, lists_calm, lists_given, lists_tried, lists_units, lists_unbroken, lists_caused, lists_ticket_used, lists_no_port, lists_is_source}
+use Rattle.ff_net_plain.specs.ListLaws.{lists_told}
 use Rattle.ff_net_plain.specs.RelayLaws.{relays_no_fault, relays_valid, relays_keeps, relays_monotone, relays_cause_stays, relays_calm, relays_given, relays_unbroken, relays_spent_only, relays_closed_spent, relays_done_spent, relays_settles}
 use Rattle.ff_net_plain.specs.JoinLaws.{joins_valid, joins_keeps, joins_monotone, joins_cause_stays, joins_calm, joins_given, joins_unbroken, joins_spent_only, joins_closed_spent, joins_done_spent, joins_settles}
 
@@ -24,23 +25,23 @@ source_view m = record { in_lanes = []; out_lanes = source_outs m; source = Some
 
 pub source_laws : (m : Source) → Laws (source_view m)
 source_laws m = record {
-  is_source = λ past s. s.source;
-  valid = λ past s. s.got;
-  keeps = λ past s. lists_keeps m.lane m.items.items m.next m.ended m.ticket m.failed past s;
-  monotone = λ past s. lists_monotone m.lane m.items.items m.next m.ended m.ticket m.failed past s;
-  cause_stays = λ past s. lists_cause_stays m.lane m.items.items m.next m.ended m.ticket m.failed past s;
-  calm = λ past s. lists_calm m.lane m.items.items m.next m.ended m.ticket m.failed past s;
-  given = λ past s. lists_given m.lane m.items.items m.next m.ended m.ticket m.failed past s;
-  unbroken = λ past s f u. lists_unbroken m.lane m.items.items m.next m.ended m.ticket m.failed past s;
+  is_source = λ past s. s.0.source;
+  valid = λ past s. s.0.got;
+  keeps = λ past s. lists_keeps m.lane m.items.items m.next m.ended m.ticket m.failed past s.0;
+  monotone = λ past s. lists_monotone m.lane m.items.items m.next m.ended m.ticket m.failed past s.0;
+  cause_stays = λ past s. lists_cause_stays m.lane m.items.items m.next m.ended m.ticket m.failed past s.0;
+  calm = λ past s. lists_calm m.lane m.items.items m.next m.ended m.ticket m.failed past s.0;
+  given = λ past s. lists_given m.lane m.items.items m.next m.ended m.ticket m.failed past s.0;
+  unbroken = λ past s f u. lists_unbroken m.lane m.items.items m.next m.ended m.ticket m.failed past s.0;
   caused = λ past c s e i. absurd (lists_caused m.failed c e i);
   spent_only = λ past p s e. absurd e;
   closed_spent = λ past p s lt c. absurd (lists_no_port p lt);
   done_spent = λ past p s lt z c a. absurd (lists_no_port p lt);
   settles = λ past s n. absurd (lists_is_source m.number n);
-  told = λ past s. silent_front past s.silent;
-  ticket_used = λ past q s i f p a h. lists_ticket_used m.lane m.items.items m.next m.ended m.ticket m.failed past s q f p a h;
-  tried_allowed = λ past s. lists_tried m.lane m.items.items m.next m.ended m.ticket m.failed past s;
-  tried_units = λ past s i. lists_units m.lane m.items.items m.next m.ended m.ticket m.failed past s;
+  told = λ past s. lists_told m.number m.stopped m.told past s.1;
+  ticket_used = λ past q s i f p a h. lists_ticket_used m.lane m.items.items m.next m.ended m.ticket m.failed past s.0 q f p a h;
+  tried_allowed = λ past s. lists_tried m.lane m.items.items m.next m.ended m.ticket m.failed past s.0;
+  tried_units = λ past s i. lists_units m.lane m.items.items m.next m.ended m.ticket m.failed past s.0;
 }
 
 abbrev pub relay_view : Relay → View

@@ -11,11 +11,13 @@ use Rattle.ff_frame.specs.Ports.{nothing, stream_at, AllBelow, AllUnbroken, IsUn
 use Rattle.ff_net.specs.declared.fault.Fault.{Fault}
 use Rattle.ff_net.specs.declared.fault.Fault.TheVariants.{Device}
 use Rattle.ff_net.specs.Ways.{Flow, AreValid}
-use Rattle.ff_net.specs.Pasts.{Past, IsIn, due, cut_to}
+use Rattle.ff_values.specs.declared.event.Event.{Event}
+use Rattle.ff_values.specs.declared.event.Event.TheVariants.{Exited}
+use Rattle.ff_net.specs.Pasts.{Past, Feed, IsIn, due, cut_to}
 use Rattle.ff_net.specs.Laws.{CauseStays, IsOfInputs, IsPending, AllAsked}
 use Rattle.ff_net.proofs.Flows.{take_whole}
 use Rattle.ff_net_plain.specs.RelayLaws.{relays_no_fault, below_or}
-use Rattle.ff_net_plain.specs.Lists.{list_of, given_of, as_count, fault_if, Lists}
+use Rattle.ff_net_plain.specs.Lists.{list_of, given_of, as_count, fault_if, exits, Exits, Lists}
 
 pub lists_no_port : (p : ℕ) → p < 0 → ⊥
 lists_no_port p lt = omega arith
@@ -125,3 +127,14 @@ module _ (lane : Lane) (items : List Item) (next : ℕ) (ended ticket failed : B
         | inl e ↦ (let m : cond ended whole still_open ≡ still_open = sym (ap (λ (t : Flow). t.mark) s.gave) ∙ (ap (λ (k : ℕ). (stream_at past.gave k).mark) (sym zero_q) ∙ p.unclosed) in let m2 = rw e at m in cc (m2))
         | inr e ↦ (let f2 = rw e at f in cc (f2))
       ]
+
+-- what was told is a front of what is due
+pub lists_told : (number : ℕ) (stopped told : Bool) (past : Past) → Exits number stopped told past.task.tells past.told past.stopped
+    → IsPrefix past.told (past.task.tells past.feeds)
+lists_told number stopped told past s =
+    subst (λ (es : List Event). IsPrefix past.told es) (sym (ap (λ (f : List Feed → List Event). f past.feeds) s.tells_is))
+    (subst (λ (es : List Event). IsPrefix es (Exited number ∷ [])) (sym s.events_are) (pick told))
+  where
+    pick : (b : Bool) → IsPrefix (cond b (Exited number ∷ []) []) (Exited number ∷ [])
+    pick true = ([], refl)
+    pick false = (Exited number ∷ [], refl)

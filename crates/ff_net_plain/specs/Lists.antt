@@ -1,5 +1,5 @@
 -- A machine that gives a list, an item for each ticket, and then the end.
-use Rattle.std.specs.Prelude.{◌≡◌, ℕ, ◌+◌, ◌≤◌, ◌⊎◌, Bool, true, false, cond, List, [], ◌∷◌, length, take, Option, None, Some}
+use Rattle.std.specs.Prelude.{◌≡◌, ◌↔◌, ℕ, ◌+◌, ◌≤◌, ◌⊎◌, Bool, true, false, cond, List, [], ◌∷◌, length, take, Option, None, Some}
 use Rattle.ff_frame.specs.declared.item.Item.{Item}
 use Rattle.ff_frame.specs.declared.item.Lane.{Lane}
 use Rattle.ff_frame.specs.Stream.{still_open, whole, whole_stream}
@@ -8,8 +8,9 @@ use Rattle.ff_frame.specs.Ports.{nothing, stream_at}
 use Rattle.ff_net.specs.declared.fault.Fault.{Fault}
 use Rattle.ff_net.specs.declared.fault.Fault.TheVariants.{Device}
 use Rattle.ff_net.specs.Ways.{Flow}
-use Rattle.ff_net.specs.Pasts.{Past, IsIn}
-use Rattle.ff_net.specs.Laws.{IsSilent}
+use Rattle.ff_values.specs.declared.event.Event.{Event}
+use Rattle.ff_values.specs.declared.event.Event.TheVariants.{Exited}
+use Rattle.ff_net.specs.Pasts.{Past, Feed, IsIn}
 use Rattle.ff_net_plain.specs.Relays.{no_cause}
 
 abbrev pub list_of : List Item → List Flow → List Flow
@@ -29,7 +30,6 @@ fault_if true = Some Device
 
 pub record Lists (lane : Lane) (items : List Item) (next : ℕ) (ended ticket failed : Bool) (past : Past) : Type 0 where
   pub means : past.task.means ≡ list_of items
-  pub silent : IsSilent past
   pub cause : past.task.cause ≡ no_cause
   pub source : past.task.source ≡ true
   pub got : (p : ℕ) → stream_at past.got p ≡ nothing
@@ -41,3 +41,13 @@ pub record Lists (lane : Lane) (items : List Item) (next : ℕ) (ended ticket fa
   pub at_end : ended ≡ true → next ≡ length items
   -- with a ticket it had nothing to give only at the end, or where its device had failed
   pub asked : ticket ≡ true → IsIn 0 past.asked → (ended ≡ true) ⊎ (failed ≡ true)
+
+-- the one event of a source: that it has exited
+abbrev pub exits : ℕ → List Feed → List Event
+exits number feeds = Exited number ∷ []
+
+-- it was told or not, and the one output was stopped or not
+pub record Exits (number : ℕ) (stopped told : Bool) (tells : List Feed → List Event) (events : List Event) (stops : List ℕ) : Type 0 where
+  pub tells_is : tells ≡ exits number
+  pub events_are : events ≡ cond told (Exited number ∷ []) []
+  pub stops_are : stopped ≡ true ↔ IsIn 0 stops

@@ -1,4 +1,5 @@
 -- A machine of one of the kinds.
+use Rattle.std.specs.Prelude.{◌≡◌, ℕ, ◌<◌, Some}
 use Rattle.ff_net.specs.Views.{View}
 use Rattle.ff_net_plain.specs.declared.plain.Plain.{Plain}
 use Rattle.ff_net_plain.specs.declared.plain.Plain.TheVariants.{Source, Relay, Join}
@@ -9,3 +10,7 @@ abbrev pub plain_view : Plain → View
 plain_view (Source m) = source_view m
 plain_view (Relay m) = relay_view m
 plain_view (Join m) = join_view m
+
+-- its number as a source, where it is one, is below this
+abbrev pub IsBelow : ℕ → Plain → Type 0
+IsBelow n m = (s : ℕ) → (plain_view m).source ≡ Some s → s < n

@@ -7,12 +7,12 @@ use Rattle.ff_net_plain.specs.declared.relay.Out.{Out}
 use Rattle.ff_net_plain.specs.declared.relay.Relay.{Relay}
 use Rattle.ff_net_plain.specs.declared.source.Source.{Source}
 use Rattle.ff_net_plain.specs.Joins.{Joins, join, kept_of}
-use Rattle.ff_net_plain.specs.Lists.{Lists, list_of}
+use Rattle.ff_net_plain.specs.Lists.{Lists, Exits, exits, list_of}
 use Rattle.ff_net_plain.specs.Relays.{Relays, relay, no_cause}
 
--- to give these items, and the end
-abbrev pub list_task : List Item → Task
-list_task items = record { means = list_of items; cause = no_cause; source = true; tells = no_events }
+-- to give these items, and the end, and to tell that this source has exited
+abbrev pub list_task : ℕ → List Item → Task
+list_task number items = record { means = list_of items; cause = no_cause; source = true; tells = exits number }
 
 -- to repeat the first items, so many, on so many outputs
 abbrev pub relay_task : ℕ → ℕ → Task
@@ -25,6 +25,7 @@ join_task = record { means = join; cause = no_cause; source = false; tells = no_
 -- the machine can be where it is after this past
 abbrev pub source_stands : Source → Past → Type 0
 source_stands m past = Lists m.lane m.items.items m.next m.ended m.ticket m.failed past
+    × Exits m.number m.stopped m.told past.task.tells past.told past.stopped
 
 abbrev pub relay_stands : Relay → Past → Type 0
 relay_stands m past = Relays m.lane m.limit m.left m.closed m.given.items m.outs.items past

@@ -33,6 +33,9 @@ join_ins m = m.lane ∷ m.lane ∷ []
 abbrev pub join_outs : Join → List Lane
 join_outs m = m.lane ∷ []
 
+abbrev pub source_number : Source → ℕ
+source_number m = m.number
+
 -- how many packets a source gave
 abbrev pub count_given : Source → ℕ
 count_given m = m.next

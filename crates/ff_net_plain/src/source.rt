@@ -5,8 +5,8 @@ use ff_frame::{Event, Item, Lane, Refused, Ticket};
 use ff_net::{Fault, Machine};
 use std::alloc::{AllocError, Global};
 
-/// Gives the packets of a list, one for each ticket, and then the end. Its device can be made to fail at a packet, and
-/// memory to be refused for one.
+/// Gives the packets of a list, one for each ticket, and then the end. Once it has ended, was stopped or has a fault, it
+/// has an event to tell: that it has exited. Its device can be made to fail at a packet, and memory to be refused for one.
 #[derive(Drop)]
 pub struct Source {
     alloc: Global,
@@ -17,6 +17,8 @@ pub struct Source {
     ended: bool,
     ticket: bool,
     failed: bool,
+    stopped: bool,
+    told: bool,
     fails_at: usize,
     refuses_at: usize,
 }
@@ -26,7 +28,7 @@ impl Source {
     ghost use Rattle.ff_frame.specs.Stream.{whole_stream};
     ghost use Rattle.ff_net.specs.Pasts.{start};
     ghost use Rattle.ff_net_plain.specs.Starts.{list_task, source_stands};
-    ghost use Rattle.ff_net_plain.specs.Trials.{source_outs, count_given};
+    ghost use Rattle.ff_net_plain.specs.Trials.{source_outs, source_number, count_given};
 
     /// The source of this number, of packets that are valid for this lane. Its device fails at the packet `fails_at`, and
     /// memory is refused for the packet `refuses_at`.
@@ -39,7 +41,8 @@ impl Source {
         refuses_at: usize,
     ) -> Source
         ensures outs { source_outs result ≡ lane ∷ [] }
-        ensures fresh { IsValid lane (whole_stream items.items) → source_stands result (start (list_task items.items)) }
+        ensures number { source_number result ≡ number }
+        ensures fresh { IsValid lane (whole_stream items.items) → source_stands result (start (list_task number items.items)) }
     {
         Source {
             alloc,
@@ -50,6 +53,8 @@ impl Source {
             ended: false,
             ticket: false,
             failed: false,
+            stopped: false,
+            told: false,
             fails_at,
             refuses_at,
         }
@@ -61,6 +66,14 @@ impl Source {
     {
         self.next
     }
+}
+
+// Whether nothing more will be read.
+fn is_over(ended: bool, stopped: bool, failed: bool) -> bool
+    ensures yes { result ≡ true → (ended ≡ true) ⊎ (stopped ≡ true) ⊎ (failed ≡ true) }
+    ensures no { result ≡ false → (ended ≡ false) × (stopped ≡ false) × (failed ≡ false) }
+{
+    ended | stopped | failed
 }
 
 impl Machine for Source {
@@ -132,7 +145,9 @@ impl Machine for Source {
         Ok(Some(Item::End))
     }
 
-    fn stop(&mut self, _port: usize) {}
+    fn stop(&mut self, _port: usize) {
+        self.stopped = true;
+    }
 
     fn spent(&self, _port: usize) -> bool
         ensures { result ≡ false }
@@ -141,7 +156,14 @@ impl Machine for Source {
     }
 
     fn next_event(&mut self) -> Option<Event> {
-        None
+        if self.told {
+            return None;
+        }
+        if !is_over(self.ended, self.stopped, self.failed) {
+            return None;
+        }
+        self.told = true;
+        Some(Event::Exited(self.number))
     }
 
     ghost laws = { source_laws };

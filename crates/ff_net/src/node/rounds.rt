@@ -28,6 +28,7 @@ impl<M: Machine> Node<M> {
     pub(crate) fn fill_all(&mut self) -> bool
         requires outputs { length self.old.outs.items ≡ length (M.view self.old.machine).out_lanes }
         ensures stepped { (wires : Wires) → Stepped M.view (Readies M.view (λ q. q < length self.new.outs.items) result self.new) self.old wires self.new wires }
+        ensures pass { self.new.pass ≡ self.old.pass }
         ensures held { result ≡ true → SomeHeld self.new.outs.items }
         ensures none { result ≡ false → NoneHeld self.new.outs.items }
         ensures done { (q : ℕ) → (out_at self.new.outs.items q).done ≡ (out_at self.old.outs.items q).done }
@@ -50,6 +51,7 @@ impl<M: Machine> Node<M> {
     pub(crate) fn send_all(&mut self, wires: &mut Wires) -> bool
         requires shaped { IsShaped M.view self.old wires.old }
         ensures stepped { Stepped M.view (Acts (result ≡ true) (Unit {0})) self.old wires.old self.new wires.new }
+        ensures pass { self.new.pass ≡ self.old.pass }
         ensures same { result ≡ false → IsSame self.old self.new × (wires.new ≡ wires.old) }
         ensures full { result ≡ false → (q : ℕ) → q < length self.old.outs.items → (out_at self.old.outs.items q).done ≡ false → is_some (out_at self.old.outs.items q).held ≡ true → IsFull wires.old (out_at self.old.outs.items q).wire }
     {
@@ -66,6 +68,7 @@ impl<M: Machine> Node<M> {
     pub(crate) fn stop_all(&mut self, wires: &Wires) -> bool
         requires shaped { IsShaped M.view self.old wires.now }
         ensures stepped { Stepped M.view (Acts (result ≡ true) (Unit {0})) self.old wires.now self.new wires.now }
+        ensures pass { self.new.pass ≡ self.old.pass }
         ensures same { result ≡ false → self.new ≡ self.old }
         ensures stops { (world : ℕ → Wire) → Stand wires.now world → (q : ℕ) → q < length self.old.outs.items → (world (out_at self.old.outs.items q).wire).finished ≡ true → (out_at self.new.outs.items q).done ≡ true }
     {
@@ -82,6 +85,7 @@ impl<M: Machine> Node<M> {
     pub(crate) fn take_all(&mut self, wires: &mut Wires) -> bool
         requires shaped { IsShaped M.view self.old wires.old }
         ensures stepped { Stepped M.view (Acts (result ≡ true) (⊥)) self.old wires.old self.new wires.new }
+        ensures pass { self.new.pass ≡ self.old.pass }
         ensures same { result ≡ false → IsSame self.old self.new × (wires.new ≡ wires.old) }
         ensures empty { result ≡ false → self.old.refused ≡ false → (p : ℕ) → p < length self.old.ins.items → (in_at self.old.ins.items p).done ≡ false → IsEmpty wires.old (in_at self.old.ins.items p).wire }
     {
@@ -99,6 +103,7 @@ impl<M: Machine> Node<M> {
         requires shaped { IsShaped M.view self.old wires.old }
         requires faulty { IsSound M.view self.old → ⊥ }
         ensures stepped { Stepped M.view (Acts (result ≡ true) (Unit {0})) self.old wires.old self.new wires.new }
+        ensures pass { self.new.pass ≡ self.old.pass }
         ensures same { result ≡ false → IsSame self.old self.new × (wires.new ≡ wires.old) }
         ensures faulty { IsSound M.view self.new → ⊥ }
         ensures full { result ≡ false → (q : ℕ) → q < length self.old.outs.items → (out_at self.old.outs.items q).done ≡ false → IsFull wires.old (out_at self.old.outs.items q).wire }
@@ -116,6 +121,7 @@ impl<M: Machine> Node<M> {
     pub(crate) fn close_all(&mut self, wires: &mut Wires) -> bool
         requires shaped { IsShaped M.view self.old wires.old }
         ensures stepped { Stepped M.view (Acts (result ≡ true) (Unit {0})) self.old wires.old self.new wires.new }
+        ensures pass { self.new.pass ≡ self.old.pass }
         ensures same { result ≡ false → IsSame self.old self.new × (wires.new ≡ wires.old) }
         ensures machine { self.new.machine ≡ self.old.machine }
         ensures outs { self.new.outs ≡ self.old.outs }

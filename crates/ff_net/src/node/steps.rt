@@ -1,9 +1,9 @@
 // What a node does at one port. Each clause `stepped` says what it keeps.
-ghost use Rattle.std.specs.Prelude.{◌≡◌, ◌≢◌, ◌<◌, ◌≤◌, ◌-◌, ◌^◌, ◌⊎◌, ℕ, length, true, false, None, IsTrue, is_some};
+ghost use Rattle.std.specs.Prelude.{◌≡◌, ◌≢◌, ◌<◌, ◌⊎◌, ℕ, length, true, false, None, IsTrue, is_some};
 ghost use Rattle.ff_net.specs.declared.wires.Wires.{Wires};
 ghost use Rattle.ff_net.specs.Ports.{in_at, out_at, AreDone};
 ghost use Rattle.ff_net.specs.Nodes.{IsShaped, IsSound, IsSame};
-ghost use Rattle.ff_net.specs.Steps.{Stepped, Acts, Readies, Grants};
+ghost use Rattle.ff_net.specs.Steps.{Stepped, Acts, Readies};
 ghost use Rattle.ff_net.specs.Worlds.{Wire, Stand, IsFull, IsEmpty};
 
 use crate::machine::Machine;
@@ -13,7 +13,7 @@ use crate::ports::{
     take_held,
 };
 use crate::wires::{Put, Take, Wires};
-use ff_frame::{Item, Ticket};
+use ff_frame::Item;
 
 impl<M: Machine> Node<M> {
     /// Lets the machine give the next item of an output to hold, and says whether one is held.
@@ -21,6 +21,7 @@ impl<M: Machine> Node<M> {
         requires there { p < length self.old.outs.items }
         requires outputs { length self.old.outs.items ≡ length (M.view self.old.machine).out_lanes }
         ensures stepped { (wires : Wires) → Stepped M.view (Readies M.view (λ q. q ≡ p) result self.new) self.old wires self.new wires }
+        ensures pass { self.new.pass ≡ self.old.pass }
         ensures held { result ≡ true → ((out_at self.new.outs.items p).done ≡ false) × (is_some (out_at self.new.outs.items p).held ≡ true) }
         ensures empty { result ≡ false → (out_at self.new.outs.items p).done ≡ false → (out_at self.new.outs.items p).held ≡ None }
         ensures others { (q : ℕ) → q ≢ p → out_at self.new.outs.items q ≡ out_at self.old.outs.items q }
@@ -37,6 +38,7 @@ impl<M: Machine> Node<M> {
         if holds_item(&self.outs, p) {
             return true;
         }
+        self.quiet = false;
         match self.machine.pull(p) {
             Ok(Some(item)) => {
                 hold(&mut self.outs, p, item);
@@ -50,38 +52,12 @@ impl<M: Machine> Node<M> {
         }
     }
 
-    /// Allows a source one ticket more, and says whether it took it.
-    pub(crate) fn allow(&mut self) -> bool
-        ensures stepped { (wires : Wires) → Stepped M.view (Grants result) self.old wires self.new wires }
-        ensures outs { self.new.outs ≡ self.old.outs }
-        ensures ins { self.new.ins ≡ self.old.ins }
-        ensures out_lanes { (M.view self.new.machine).out_lanes ≡ (M.view self.old.machine).out_lanes }
-        ensures sound { IsSound M.view self.new → IsSound M.view self.old }
-        ensures source { (M.view self.new.machine).source ≡ (M.view self.old.machine).source }
-        ensures place { result ≡ false → self.new.place ≡ self.old.place }
-        ensures back { result ≡ false → ((M.view self.old.machine).source ≡ None) ⊎ (M.view self.old.machine).holds ⊎ (2 ^ 64 - 1 ≤ self.old.place) }
-    {
-        let Some(source) = self.machine.source() else {
-            return false;
-        };
-        if self.place == u64::MAX {
-            return false;
-        }
-        let place = self.place;
-        match self.machine.allow(Ticket { source, place }) {
-            Some(_) => false,
-            None => {
-                self.place = place + 1;
-                true
-            }
-        }
-    }
-
     /// Puts what an output holds.
     pub(crate) fn send(&mut self, wires: &mut Wires, p: usize) -> bool
         requires shaped { IsShaped M.view self.old wires.old }
         requires there { p < length self.old.outs.items }
         ensures stepped { Stepped M.view (Acts (result ≡ true) (Unit {0})) self.old wires.old self.new wires.new }
+        ensures pass { self.new.pass ≡ self.old.pass }
         ensures same { result ≡ false → IsSame self.old self.new × (wires.new ≡ wires.old) }
         ensures full { result ≡ false → (out_at self.old.outs.items p).done ≡ false → is_some (out_at self.old.outs.items p).held ≡ true → IsFull wires.old (out_at self.old.outs.items p).wire }
     {
@@ -107,6 +83,7 @@ impl<M: Machine> Node<M> {
             }
             Put::Finished(item) => {
                 discard(item);
+                self.quiet = false;
                 self.machine.stop(p);
                 close_out(&mut self.outs, p, true);
                 true
@@ -119,6 +96,7 @@ impl<M: Machine> Node<M> {
         requires shaped { IsShaped M.view self.old wires.now }
         requires there { p < length self.old.outs.items }
         ensures stepped { Stepped M.view (Acts (result ≡ true) (Unit {0})) self.old wires.now self.new wires.now }
+        ensures pass { self.new.pass ≡ self.old.pass }
         ensures same { result ≡ false → self.new ≡ self.old }
         ensures ins { self.new.ins ≡ self.old.ins }
         ensures others { (q : ℕ) → q ≢ p → out_at self.new.outs.items q ≡ out_at self.old.outs.items q }
@@ -130,6 +108,7 @@ impl<M: Machine> Node<M> {
         if !wires.is_finished(out_wire(&self.outs, p)) {
             return false;
         }
+        self.quiet = false;
         self.machine.stop(p);
         close_out(&mut self.outs, p, true);
         true
@@ -140,6 +119,7 @@ impl<M: Machine> Node<M> {
         requires shaped { IsShaped M.view self.old wires.old }
         requires there { p < length self.old.ins.items }
         ensures stepped { Stepped M.view (Acts (result ≡ true) (⊥)) self.old wires.old self.new wires.new }
+        ensures pass { self.new.pass ≡ self.old.pass }
         ensures same { result ≡ false → IsSame self.old self.new × (wires.new ≡ wires.old) }
         ensures empty { result ≡ false → (in_at self.old.ins.items p).done ≡ false → self.old.refused ≡ false → IsEmpty wires.old (in_at self.old.ins.items p).wire }
     {
@@ -152,14 +132,17 @@ impl<M: Machine> Node<M> {
         }
         match wires.try_take(in_wire(&self.ins, p)) {
             Take::Empty => false,
-            Take::Item(item) => match self.machine.feed(p, item) {
-                Ok(()) => true,
-                Err(refused) => {
-                    discard(refused.item);
-                    self.refused = true;
-                    true
+            Take::Item(item) => {
+                self.quiet = false;
+                match self.machine.feed(p, item) {
+                    Ok(()) => true,
+                    Err(refused) => {
+                        discard(refused.item);
+                        self.refused = true;
+                        true
+                    }
                 }
-            },
+            }
         }
     }
 
@@ -186,6 +169,7 @@ impl<M: Machine> Node<M> {
         requires shaped { IsShaped M.view self.old wires.old }
         requires there { p < length self.old.ins.items }
         ensures stepped { Stepped M.view (Acts (result ≡ true) (Unit {0})) self.old wires.old self.new wires.new }
+        ensures pass { self.new.pass ≡ self.old.pass }
         ensures same { result ≡ false → IsSame self.old self.new × (wires.new ≡ wires.old) }
         ensures machine { self.new.machine ≡ self.old.machine }
         ensures outs { self.new.outs ≡ self.old.outs }
@@ -212,6 +196,7 @@ impl<M: Machine> Node<M> {
         requires there { p < length self.old.outs.items }
         requires faulty { IsSound M.view self.old → ⊥ }
         ensures stepped { Stepped M.view (Acts (result ≡ true) (Unit {0})) self.old wires.old self.new wires.new }
+        ensures pass { self.new.pass ≡ self.old.pass }
         ensures same { result ≡ false → IsSame self.old self.new × (wires.new ≡ wires.old) }
         ensures faulty { IsSound M.view self.new → ⊥ }
         ensures full { result ≡ false → (out_at self.old.outs.items p).done ≡ false → IsFull wires.old (out_at self.old.outs.items p).wire }
@@ -230,6 +215,7 @@ impl<M: Machine> Node<M> {
             }
             Put::Finished(item) => {
                 discard(item);
+                self.quiet = false;
                 self.machine.stop(p);
                 close_out(&mut self.outs, p, true);
                 true

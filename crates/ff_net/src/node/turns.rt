@@ -1,10 +1,12 @@
 // A turn of a node.
-ghost use Rattle.std.specs.Prelude.{◌≡◌, ◌<◌, ℕ, length, true, false, IsTrue};
+ghost use Rattle.std.specs.Prelude.{◌≡◌, ◌<◌, ◌≤◌, ◌+◌, ◌⊎◌, ℕ, length, true, false, IsTrue};
 ghost use Rattle.ff_frame.specs.Ports.{IsClosed};
 ghost use Rattle.ff_net.specs.declared.wires.Wires.{Wires};
 ghost use Rattle.ff_net.specs.Pasts.{Past};
 ghost use Rattle.ff_net.specs.Ports.{in_at, out_at, SomeHeld, NoneHeld};
-ghost use Rattle.ff_net.specs.Nodes.{IsShaped, IsSound, IsDone, NodeStands, HasFinished, IsOver, machine_of, inputs_of, outputs_of, in_wire_of, out_wire_of};
+ghost use Rattle.ff_net.specs.Nodes.{IsOf, IsShaped, IsSame, IsSound, IsDone, NodeStands, HasFinished, IsOver};
+ghost use Rattle.ff_net.specs.Nodes.{machine_of, inputs_of, outputs_of, in_wire_of, out_wire_of};
+ghost use Rattle.ff_net.specs.Logs.{tickets_in};
 ghost use Rattle.ff_net.specs.Steps.{Stepped, Acts, Fills, Prepares, Turns};
 ghost use Rattle.ff_net.specs.Turns.{Waits, Answers};
 ghost use Rattle.ff_net.specs.Worlds.{Wire, Stand};
@@ -12,6 +14,8 @@ ghost use Rattle.ff_net.specs.Worlds.{Wire, Stand};
 use crate::machine::Machine;
 use crate::node::{Node, Turn};
 use crate::wires::Wires;
+use ff_sched::SchedCell;
+use std::sync::Wait;
 
 /// What a node is ready for: whether an output holds an item, and whether a ticket was allowed.
 #[derive(Clone, Copy)]
@@ -21,10 +25,12 @@ pub struct Ready {
 }
 
 impl<M: Machine> Node<M> {
-    /// Lets the machine give what it has, and allows a source one ticket where nothing is due.
-    pub(crate) fn ready(&mut self) -> Ready
+    /// Lets the machine give what it has, and grants a source one unit where nothing is due.
+    pub(crate) fn ready<R: Wait>(&mut self, rt: &R, cell: &SchedCell) -> Ready
         requires outputs { length self.old.outs.items ≡ length (M.view self.old.machine).out_lanes }
+        requires cell { IsOf M.view cell.now self.old }
         ensures stepped { (wires : Wires) → Stepped M.view (Prepares M.view result.granted result.due self.old self.new) self.old wires self.new wires }
+        ensures once { length (tickets_in self.new.pass.log) ≤ length (tickets_in self.old.pass.log) + 1 }
         ensures held { result.due ≡ true → SomeHeld self.new.outs.items }
         ensures none { result.due ≡ false → NoneHeld self.new.outs.items }
     {
@@ -35,13 +41,7 @@ impl<M: Machine> Node<M> {
                 granted: false,
             };
         }
-        if self.fault().is_some() {
-            return Ready {
-                due: false,
-                granted: false,
-            };
-        }
-        let granted = self.allow();
+        let granted = self.grant(rt, cell);
         if !granted {
             return Ready {
                 due: false,
@@ -55,19 +55,20 @@ impl<M: Machine> Node<M> {
         }
     }
 
-    /// Sends what is held, or takes, or breaks off, and says whether something moved.
-    pub(crate) fn act(&mut self, wires: &mut Wires) -> bool
+    /// Where the node has no fault, sends what is held, or takes, and says whether something moved or was granted.
+    pub(crate) fn act<R: Wait>(&mut self, rt: &R, cell: &SchedCell, wires: &mut Wires) -> bool
         requires shaped { IsShaped M.view self.old wires.old }
+        requires cell { IsOf M.view cell.now self.old }
         ensures stepped { Stepped M.view (Turns M.view result self.old self.new) self.old wires.old self.new wires.new }
-        ensures waits { result ≡ false → Waits M.view self.new wires.new }
+        ensures once { length (tickets_in self.new.pass.log) ≤ length (tickets_in self.old.pass.log) + 1 }
+        ensures waits { result ≡ false → IsSound M.view self.new → Waits M.view self.new wires.new }
     {
         if self.fault().is_some() {
-            return self.break_all(wires);
+            return false;
         }
-        let ready = self.ready();
+        let ready = self.ready(rt, cell);
         if self.fault().is_some() {
-            let broke = self.break_all(wires);
-            return ready.granted | broke;
+            return ready.granted;
         }
         if ready.due {
             let sent = self.send_all(wires);
@@ -77,10 +78,40 @@ impl<M: Machine> Node<M> {
         ready.granted | took
     }
 
+    /// Where the node has a fault, puts Broken on each output, and says whether something moved.
+    pub(crate) fn break_faulty(&mut self, wires: &mut Wires) -> bool
+        requires shaped { IsShaped M.view self.old wires.old }
+        ensures stepped { Stepped M.view (Acts (result ≡ true) (Unit {0})) self.old wires.old self.new wires.new }
+        ensures same { result ≡ false → IsSame self.old self.new × (wires.new ≡ wires.old) }
+        ensures pass { self.new.pass ≡ self.old.pass }
+        ensures waits { result ≡ false → (IsSound M.view self.new → ⊥) → Waits M.view self.new wires.new }
+    {
+        if self.fault().is_none() {
+            return false;
+        }
+        self.break_all(wires)
+    }
+
+    /// Acts, tells the events that are due, breaks off where there is a fault, and says whether any of these did something.
+    pub(crate) fn work<R: Wait>(&mut self, rt: &R, cell: &SchedCell, wires: &mut Wires) -> bool
+        requires shaped { IsShaped M.view self.old wires.old }
+        requires cell { IsOf M.view cell.now self.old }
+        ensures stepped { Stepped M.view (Turns M.view result self.old self.new) self.old wires.old self.new wires.new }
+        ensures once { length (tickets_in self.new.pass.log) ≤ length (tickets_in self.old.pass.log) + 1 }
+        ensures waits { result ≡ false → Waits M.view self.new wires.new }
+        ensures told { result ≡ false → (self.new.quiet ≡ true) ⊎ (self.new.refused ≡ true) }
+    {
+        let acted = self.act(rt, cell, wires);
+        let told = self.tell_all(rt, cell);
+        let broke = self.break_faulty(wires);
+        acted | told | broke
+    }
+
     /// Lets the machine give what it has, and says whether an item is due: an output holds one, or the node has a fault.
     pub fn is_due(&mut self) -> bool
         requires shaped { (wires : Wires) × IsShaped M.view self.old wires }
         ensures stepped { (wires : Wires) → Stepped M.view (Fills M.view result self.old) self.old wires self.new wires }
+        ensures pass { self.new.pass ≡ self.old.pass }
     {
         let held = self.fill_all();
         if held {
@@ -89,19 +120,22 @@ impl<M: Machine> Node<M> {
         self.fault().is_some()
     }
 
-    /// One turn: at most one ticket, and none where an item is due, one item taken from each input and one put on each output. A node with a fault
-    /// sends Broken down each output that goes on, finishes its inputs, and is done.
-    pub fn turn(&mut self, wires: &mut Wires) -> Turn
+    /// One turn: at most one grant, and none where an item is due, one item taken from each input and one put on each output; and
+    /// the events that are due are told. A node with a fault sends Broken down each output that goes on, finishes its inputs, and
+    /// is done.
+    pub fn turn<R: Wait>(&mut self, rt: &R, cell: &SchedCell, wires: &mut Wires) -> Turn
         requires shaped { IsShaped M.view self.old wires.old }
+        requires cell { IsOf M.view cell.now self.old }
         ensures stepped { Stepped M.view (Answers M.view result self.old self.new wires.new) self.old wires.old self.new wires.new }
+        ensures once { length (tickets_in self.new.pass.log) ≤ length (tickets_in self.old.pass.log) + 1 }
         ensures done { result ≡ Turn.Done → IsDone self.new }
         ensures closed { (world : ℕ → Wire) (past : Past) → NodeStands M.view self.new world past → (p : ℕ) → p < inputs_of self.new → IsClosed (world (in_wire_of self.new p)).taken → HasFinished self.new p }
         ensures spent { (p : ℕ) → p < inputs_of self.new → (M.view (machine_of self.new)).spent p → HasFinished self.new p }
         ensures faulty { (IsSound M.view self.new → ⊥) → (p : ℕ) → p < inputs_of self.new → HasFinished self.new p }
     {
-        let acted = self.act(wires);
+        let worked = self.work(rt, cell, wires);
         let closed = self.close_all(wires);
-        turn_of(self.is_done(), acted | closed)
+        turn_of(self.is_done(), worked | closed)
     }
 
     /// Stops each output whose receiver has finished, and finishes each input that matters no more then. It says whether
@@ -109,6 +143,7 @@ impl<M: Machine> Node<M> {
     pub fn stop_finished(&mut self, wires: &mut Wires) -> bool
         requires shaped { IsShaped M.view self.old wires.old }
         ensures stepped { Stepped M.view (Acts (result ≡ true) (Unit {0})) self.old wires.old self.new wires.new }
+        ensures pass { self.new.pass ≡ self.old.pass }
         ensures same { result ≡ false → (self.new ≡ self.old) × (wires.new ≡ wires.old) }
         ensures stops { (world : ℕ → Wire) → Stand wires.old world → (q : ℕ) → q < outputs_of self.old → (world (out_wire_of self.old q)).finished ≡ true → IsOver self.new q }
         ensures closed { result ≡ true → (world : ℕ → Wire) (past : Past) → NodeStands M.view self.new world past → (p : ℕ) → p < inputs_of self.new → IsClosed (world (in_wire_of self.new p)).taken → HasFinished self.new p }

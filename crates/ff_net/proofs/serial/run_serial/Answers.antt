@@ -1,8 +1,8 @@
 use Rattle.std.proofs.Common.{◌≡◌, ℕ, ◌<◌, length, slice_index_or, sym, subst, ◌∙◌}
 use Rattle.std.proofs.lemmas.List.{get_or_default}
 use Rattle.ff_net.specs.declared.node.Node.{Node}
-use Rattle.ff_net.proofs.NetSteps.{fares_set, are_shaped_set, net_stands_set, parts_kept}
-use Rattle.ff_net.proofs.Moments.{fault_then}
+use Rattle.ff_net.proofs.NetSteps.{are_of_set, fares_set, passes_set, are_shaped_set, net_stands_set, parts_kept}
+use Rattle.ff_net.proofs.Moments.{fault_then, pass_then}
 use Rattle.ff_net.proofs.Before.{meets_solution}
 use Rattle.ff_net.proofs.Whole.{moment_of}
 use Rattle.ff_net.specs.Worlds.{lanes_of}
@@ -12,7 +12,7 @@ pub turn-turn-requires : goal.turn-turn-requires
 turn-turn-requires g c =
     let k = slice_index_or c.args.order.now c.loop-k.k-index 0 in
     let there : k < length c.loop-k.nodes = subst (λ (n : ℕ). k < n) (sym c.loop-k.auto.nodes) (c.requires.order c.loop-k.k-index 0 c.loop-k-test.true) in
-    record { shaped = c.loop-k.invariant.shaped.each k c.index-nodes-k.result there }
+    record { shaped = c.loop-k.invariant.shaped.each k c.index-nodes-k.result there; cell = c.loop-k.invariant.of_cell k c.index-nodes-k.result there }
 
 pub loop-k-preserved : goal.loop-k-preserved
 loop-k-preserved g c =
@@ -24,6 +24,8 @@ loop-k-preserved g c =
     let view = g.M.Machine.view in
     let step = c.turn-turn.ensures.stepped in record {
       shaped = are_shaped_set view _ nodes c.loop-k.wires k old c.turn-turn.new.self c.turn-turn.new.wires there is c.loop-k.invariant.shaped step;
+      of_cell = are_of_set view _ nodes c.loop-k.wires k old c.turn-turn.new.self c.turn-turn.new.wires there is c.loop-k.invariant.shaped step _ c.loop-k.invariant.of_cell;
+      passes = λ j d lt. pass_then _ _ _ (c.loop-k.invariant.passes j d lt) (passes_set view _ nodes c.loop-k.wires k old c.turn-turn.new.self c.turn-turn.new.wires there is c.loop-k.invariant.shaped step j d);
       lanes = step.lanes_same ∙ c.loop-k.invariant.lanes;
       parts = λ tasks. parts_kept view _ nodes c.loop-k.wires k old c.turn-turn.new.self c.turn-turn.new.wires there is c.loop-k.invariant.shaped step tasks ∙ c.loop-k.invariant.parts tasks;
       fares = λ j d lt. fault_then _ _ _ (c.loop-k.invariant.fares j d lt) (fares_set view _ nodes c.loop-k.wires k old c.turn-turn.new.self c.turn-turn.new.wires there is c.loop-k.invariant.shaped step j d);

@@ -1,6 +1,6 @@
 use Rattle.std.proofs.Common.{◌≡◌, ℕ, length}
 use Rattle.ff_net.specs.Pasts.{Task}
-use Rattle.ff_net.specs.Serial.{AreShaped, NetStands, parts_of}
+use Rattle.ff_net.specs.Serial.{AllPass, AreOf, AreShaped, NetStands, parts_of}
 use Rattle.ff_net.specs.Theorem.{AllFare}
 use Rattle.ff_net.specs.Worlds.{lanes_of}
 use Rattle.ff_net.proofs.serial.run_to_end.Given as goal
@@ -9,6 +9,8 @@ abbrev pub invariant-loop : goal.invariant-loop
 invariant-loop g l =
     let view = g.M.Machine.view in record {
       shaped : AreShaped view l.nodes l.wires;
+      of_cell : AreOf view l.fn.cell l.nodes;
+      passes : AllPass l.fn.nodes l.nodes;
       lanes : lanes_of l.wires ≡ lanes_of l.fn.wires;
       count : length l.nodes ≡ length l.fn.nodes;
       parts : (tasks : ℕ → Task) → parts_of view tasks l.nodes ≡ parts_of view tasks l.fn.nodes;

@@ -11,6 +11,7 @@ invariant-loop-p g l =
       shaped : IsShaped view l.self l.wires;
       count : l.count ≡ length l.self.outs.items;
       stepped : Stepped view (Acts (l.moved ≡ true) (Unit {0})) l.fn.self l.fn.wires l.self l.wires;
+      pass : l.self.pass ≡ l.fn.self.pass;
       same : l.moved ≡ false → IsSame l.fn.self l.self × (l.wires ≡ l.fn.wires);
       faulty : IsSound view l.self → ⊥;
       full : l.moved ≡ false → (q : ℕ) → q < l.p → (out_at l.fn.self.outs.items q).done ≡ false → IsFull l.fn.wires (out_at l.fn.self.outs.items q).wire;

@@ -6,11 +6,12 @@ use Rattle.ff_net.specs.Worlds.{Wire, Stand, put_on, lanes_of}
 use Rattle.ff_net.specs.Pasts.{was_stopped}
 use Rattle.ff_net.specs.Ports.{out_at, out_wires}
 use Rattle.ff_net.specs.Steps.{put, told as was_told}
-use Rattle.ff_net.proofs.Moments.{fault_self, with_wire_same, with_wire_keeps, with_item_new}
+use Rattle.ff_net.proofs.Moments.{pass_self, fault_self, with_wire_same, with_wire_keeps, with_item_new}
 use Rattle.ff_net.proofs.PortSteps.{out_wires_set, out_wire_there, out_wire_in}
 use Rattle.ff_net.proofs.Changes.{course_put, course_past, broke, told, busy_goes_on}
 use Rattle.ff_net.proofs.Queues.{finished_of, in_queues}
 use Rattle.ff_net.proofs.Sendings.{broken_valid}
+use Rattle.ff_net.proofs.Logs.{log_called, log_still, pending_stopped}
 use Rattle.ff_net.proofs.node.Node.break_off.Goals as goal
 
 pub try_put-requires : goal.try_put-requires
@@ -33,7 +34,9 @@ returns-in-Done-clause-stepped g c =
       outs_same = ap (λ os. out_wires os) set ∙ out_wires_set outs p _ there refl;
       in_lanes_same = refl;
       out_lanes_same = refl;
+      source_same = refl;
       fares = fault_self (view node.machine);
+      passes = pass_self _;
       lanes_same = c.try_put.ensures.lanes;
       goes = λ world past stand was.
           let unclosed = (was.outs p there).unclosed busy in
@@ -42,7 +45,7 @@ returns-in-Done-clause-stepped g c =
             now = put_on world old.wire Broken;
             since = past;
             stand = done;
-            fits = broke view node _ world past p (view node.machine).out_lanes (lanes_of c.args.wires.now) was refl refl refl refl set there c.requires.shaped.outs busy c.requires.faulty;
+            fits = broke view node _ world past p (view node.machine).out_lanes (lanes_of c.args.wires.now) was refl (log_still view node _ past refl refl refl (λ r. r) (λ q. q) was.log) refl refl set there c.requires.shaped.outs busy c.requires.faulty;
             course = course_put _ _ world old.wire Broken past (out_wire_in outs p old.wire there refl) unclosed;
             so = record {
               moves = λ e. put old.wire (λ same. with_item_new (world old.wire).sent Broken unclosed (sym (ap (λ (u : Wire). u.sent) (with_wire_same world old.wire _ old.wire refl)) ∙ same));
@@ -68,7 +71,9 @@ returns-in-Finished-clause-stepped g c =
       outs_same = ap (λ os. out_wires os) set ∙ out_wires_set outs p _ there refl;
       in_lanes_same = c.stop.ensures.shape.in_lanes;
       out_lanes_same = c.stop.ensures.shape.out_lanes;
+      source_same = c.stop.ensures.shape.source;
       fares = c.stop.ensures.fares;
+      passes = pass_self _;
       lanes_same = c.try_put.ensures.lanes;
       goes = λ world past stand was.
           let goes_on = busy_goes_on view node world past p was busy in
@@ -76,7 +81,7 @@ returns-in-Finished-clause-stepped g c =
             now = world;
             since = was_stopped past p;
             stand = subst (λ (w : Wires). Stand w world) (sym finished.1) stand;
-            fits = told view node _ world past p old.held was (c.stop.ensures.stopped past was.machine) c.stop.ensures.fares.stays refl c.stop.ensures.shape.source c.stop.ensures.shape.in_lanes refl refl set there busy flag;
+            fits = told view node _ world past p old.held was (c.stop.ensures.stopped past was.machine) c.stop.ensures.fares.stays (log_called view node _ past (was_stopped past p) c.stop.ensures.fares.stays c.stop.ensures.shape refl (λ r. r) refl refl refl (pending_stopped past p) was.log) c.stop.ensures.shape.in_lanes refl refl set there busy flag;
             course = course_past _ _ world past (was_stopped past p) refl (prefix_self past.allowed) (λ q i. inr i);
             so = record { moves = λ e. was_told p goes_on (inl refl); takes_nothing = λ q w. refl; allows_nothing = refl };
           };

@@ -6,9 +6,10 @@ use Rattle.ff_net.specs.Ports.{in_at, in_wires}
 use Rattle.ff_net.specs.Laws.{NoMatter}
 use Rattle.ff_net.specs.Nodes.{IsSound, MayClose}
 use Rattle.ff_net.specs.Steps.{finished}
-use Rattle.ff_net.proofs.Moments.{fault_self, with_wire_same, with_wire_keeps}
+use Rattle.ff_net.proofs.Moments.{pass_self, fault_self, with_wire_same, with_wire_keeps}
 use Rattle.ff_net.proofs.PortSteps.{in_wires_set, in_wire_there, in_wire_in, out_ports_count}
 use Rattle.ff_net.proofs.Changes.{course_finish, closed}
+use Rattle.ff_net.proofs.Logs.{log_still}
 use Rattle.ff_net.proofs.node.Node.close.Goals as goal
 
 pub finish-requires : goal.finish-requires
@@ -32,7 +33,9 @@ returns-clause-stepped g c =
       outs_same = refl;
       in_lanes_same = refl;
       out_lanes_same = refl;
+      source_same = refl;
       fares = fault_self (view node.machine);
+      passes = pass_self _;
       lanes_same = c.finish.ensures.lanes;
       goes = λ world past stand was.
           let i = was.ins p there in
@@ -47,7 +50,7 @@ returns-clause-stepped g c =
             now = finish_on world old.wire;
             since = past;
             stand = subst (λ (w : ℕ). Stand c.finish.new.self (finish_on world w)) wire (c.finish.ensures.finished world stand);
-            fits = closed view node _ world past p (view node.machine).in_lanes (lanes_of c.args.wires.now) was refl refl refl refl set there c.requires.shaped.ins why;
+            fits = closed view node _ world past p (view node.machine).in_lanes (lanes_of c.args.wires.now) was refl (log_still view node _ past refl refl refl (λ r. r) (λ q. q) was.log) refl refl set there c.requires.shaped.ins why;
             course = course_finish _ _ world old.wire past (in_wire_in ins p old.wire there refl);
             so = record {
               moves = λ e. finished old.wire (sym i.flag ∙ busy) (ap (λ (u : Wire). u.finished) (with_wire_same world old.wire _ old.wire refl));

@@ -19,6 +19,7 @@ loop-p-preserved g c =
     let wires = c.close-closed.new.wires in record {
       shaped = shaped_later view _ before c.loop-p.wires after wires e.stepped i.shaped;
       count = i.count ∙ sym (ins_kept view _ before c.loop-p.wires after wires e.stepped);
+      pass = e.pass ∙ i.pass;
       stepped = stepped_then view _ _ (Acts ((c.loop-p.moved || c.close-closed.result) ≡ true) (Unit {0})) c.args.self.now c.args.wires.now before c.loop-p.wires after wires
           (λ a o b q d r x y f s. let j = acts_join _ _ c.loop-p.moved c.close-closed.result a b d o q r (Unit {0}) (Unit {0}) x y f s in record { moves = j.moves; takes_nothing = λ t. j.takes_nothing (tt, tt); allows_nothing = j.allows_nothing }) i.stepped e.stepped;
       same = λ n. let no = or_false c.loop-p.moved c.close-closed.result n in let was = i.same no.0 in let now = e.same no.1 in (same_trans c.args.self.now before after was.0 now.0, now.1 ∙ was.1);

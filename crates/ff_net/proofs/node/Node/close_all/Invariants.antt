@@ -10,6 +10,7 @@ invariant-loop-p g l =
       shaped : IsShaped view l.self l.wires;
       count : l.count ≡ length l.self.ins.items;
       stepped : Stepped view (Acts (l.moved ≡ true) (Unit {0})) l.fn.self l.fn.wires l.self l.wires;
+      pass : l.self.pass ≡ l.fn.self.pass;
       same : l.moved ≡ false → IsSame l.fn.self l.self × (l.wires ≡ l.fn.wires);
       machine : l.self.machine ≡ l.fn.self.machine;
       outs : l.self.outs ≡ l.fn.self.outs;

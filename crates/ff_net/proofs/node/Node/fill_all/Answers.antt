@@ -17,6 +17,7 @@ loop-p-preserved g c =
     let p = c.loop-p.p in record {
       count = i.count ∙ sym e.count;
       outputs = e.count ∙ (i.outputs ∙ ap length (sym e.out_lanes));
+      pass = e.pass ∙ i.pass;
       stepped = λ wires. stepped_then view _ _ (Readies view (λ q. q < p + 1) (c.loop-p.due || c.fill-held.result) after) c.args.self.now wires before wires after wires
           (λ a o b q d r x y f s. readies_join view p c.loop-p.due c.fill-held.result before after a b d o q r e.sound e.others x.task f s) (i.stepped wires) (e.stepped wires);
       held = λ t. elim (or_true c.loop-p.due c.fill-held.result t) [

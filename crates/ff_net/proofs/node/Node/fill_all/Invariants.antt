@@ -11,6 +11,7 @@ invariant-loop-p g l =
       count : l.count ≡ length l.self.outs.items;
       outputs : length l.self.outs.items ≡ length (view l.self.machine).out_lanes;
       stepped : (wires : Wires) → Stepped view (Readies view (λ q. q < l.p) l.due l.self) l.fn.self wires l.self wires;
+      pass : l.self.pass ≡ l.fn.self.pass;
       held : l.due ≡ true → (h : SomeHeld l.self.outs.items) × (h.place < l.p);
       none : l.due ≡ false → (q : ℕ) → q < l.p → (out_at l.self.outs.items q).done ≡ false → (out_at l.self.outs.items q).held ≡ None;
       done : (q : ℕ) → (out_at l.self.outs.items q).done ≡ (out_at l.fn.self.outs.items q).done;

@@ -17,6 +17,7 @@ pub returns-then-held : goal.returns-then-held
 returns-then-held g c =
     let view = g.M.Machine.view in
     let e = c.fill_all-held.ensures in record {
+      pass = e.pass;
       stepped = λ wires. stepped_as view _ (Fills view true c.args.self.now) c.args.self.now wires c.fill_all-held.new.self wires
           (λ a p b q x f. record { sent = f.sent; taken = f.taken; finished = f.finished; allowed = f.allowed; stopped = f.stopped; none_before = λ no. absurd (true_not_false no) }) (e.stepped wires);
     }
@@ -27,6 +28,7 @@ returns g c =
     let before = c.args.self.now in
     let filled = c.fill_all-held.new.self in
     let e = c.fill_all-held.ensures in record {
+      pass = e.pass;
       stepped = λ wires. stepped_as view _ (Fills view c.is_some.result before) before wires filled wires
           (λ a p b q x f. record {
             sent = f.sent;

@@ -1,23 +1,33 @@
-use Rattle.std.proofs.Common.{◌≡◌, ◌<◌, ℕ, length, true, false, refl, sym, ◌∙◌, ap, subst, inl, inr, List, None, ◌≤◌, ◌^◌, ◌-◌}
+use Rattle.std.proofs.Common.{◌≡◌, ◌<◌, ℕ, length, true, false, refl, sym, ◌∙◌, ap, subst, inl, inr, None, List}
 use Rattle.ff_frame.specs.Ports.{stream_at}
 use Rattle.ff_net.specs.declared.ports.OutPort.{OutPort}
 use Rattle.ff_net.specs.Ways.{Flow}
+use Rattle.ff_net.specs.Logs.{WasChoked, tickets_in}
 use Rattle.ff_net.specs.Nodes.{IsSound}
 use Rattle.ff_net.specs.Pasts.{Past, due}
 use Rattle.ff_net.specs.Ports.{out_at, NoneHeld}
-use Rattle.ff_net.specs.Steps.{Prepares}
+use Rattle.ff_net.specs.Steps.{IsUngranted, Prepares}
 use Rattle.ff_net.specs.Worlds.{Wire}
-use Rattle.ff_net.proofs.Acting.{none_if_not_some, some_is_faulty}
+use Rattle.ff_sched.specs.Passing.{Passing}
+use Rattle.ff_net.proofs.Granting.{once_between, once_same, same_tickets}
 use Rattle.ff_net.proofs.Flows.{due_same}
-use Rattle.ff_net.proofs.Moments.{stepped_self, stepped_then, stepped_through, then_moves, moves_then}
+use Rattle.ff_net.proofs.Moments.{stepped_self, stepped_then, stepped_through, then_has_moved, has_moved_then}
 use Rattle.ff_net.proofs.Changes.{true_not_false}
 use Rattle.ff_net.proofs.Readying.{none_before, ungranted, some_not_none}
 use Rattle.ff_net.proofs.node.Node.ready.Goals as goal
 
+pub grant-granted-requires : goal.grant-granted-requires
+grant-granted-requires g c =
+    let e = c.fill_all-due.ensures in record {
+      cell = record { pass = ap (λ (p : Passing). p.cell) e.pass ∙ c.requires.cell.pass; source = λ s is. c.requires.cell.source s (sym e.source ∙ is) };
+      held = e.none c.if-due.false;
+      outputs = e.count ∙ (c.requires.outputs ∙ ap length (sym e.out_lanes));
+    }
+
 pub fill_all-more-requires : goal.fill_all-more-requires
 fill_all-more-requires g c =
     let e = c.fill_all-due.ensures in
-    let a = c.allow-granted.ensures in
+    let a = c.grant-granted.ensures in
     record { outputs = ap (λ os. length os.items) a.outs ∙ (e.count ∙ (c.requires.outputs ∙ ap length (sym (a.out_lanes ∙ e.out_lanes)))) }
 
 pub returns-then-due-clause-stepped : goal.returns-then-due-clause-stepped
@@ -31,6 +41,7 @@ returns-then-due-clause-stepped g c wires =
       moves = λ t. absurd (true_not_false (sym t));
       taken = λ k. ap (λ (z : ℕ → Wire). (z k).taken) s.0 ∙ f.taken k;
       allows_nothing = λ k d. ap (λ (z : Past). z.allowed) s.1 ∙ f.allowed;
+      grants_nothing = λ k d. ap (λ (z : Passing). tickets_in z.log) e.pass;
       none_before = λ ok no. absurd (true_not_false no);
       rests = λ no. record {
         none_due = λ ok k lt busy none.
@@ -41,49 +52,35 @@ returns-then-due-clause-stepped g c wires =
       };
     }) (e.stepped wires) (stepped_self view (λ a p b q. (b ≡ a) × (q ≡ p)) filled wires (λ w p. (refl, refl)))
 
-pub returns-then-is_some-clause-stepped : goal.returns-then-is_some-clause-stepped
-returns-then-is_some-clause-stepped g c wires =
-    let view = g.M.Machine.view in
-    let before = c.args.self.now in
-    let filled = c.fill_all-due.new.self in
-    let e = c.fill_all-due.ensures in
-    let faulty : IsSound view filled → ⊥ = λ ok. some_is_faulty c.fault.result (sym c.is_some.ensures ∙ c.if-is_some.true) (c.fault.ensures.none ok) in
-    stepped_then view _ (λ a p b q. (b ≡ a) × (q ≡ p)) (Prepares view false false before filled) before wires filled wires filled wires
-    (λ w p v q u r x y f s. record {
-      moves = λ t. absurd (true_not_false (sym t));
-      taken = λ k. ap (λ (z : ℕ → Wire). (z k).taken) s.0 ∙ f.taken k;
-      allows_nothing = λ k d. ap (λ (z : Past). z.allowed) s.1 ∙ f.allowed;
-      none_before = λ ok no. absurd (faulty ok);
-      rests = λ no. record { none_due = λ ok. absurd (faulty ok); ungranted = λ ok. absurd (faulty ok) };
-    }) (e.stepped wires) (stepped_self view (λ a p b q. (b ≡ a) × (q ≡ p)) filled wires (λ w p. (refl, refl)))
-
 pub returns-then-not-granted-clause-stepped : goal.returns-then-not-granted-clause-stepped
 returns-then-not-granted-clause-stepped g c wires =
     let view = g.M.Machine.view in
     let laws = g.met.M.Machine.laws in
     let before = c.args.self.now in
     let filled = c.fill_all-due.new.self in
-    let after = c.allow-granted.new.self in
+    let after = c.grant-granted.new.self in
     let e = c.fill_all-due.ensures in
-    let a = c.allow-granted.ensures in
+    let a = c.grant-granted.ensures in
     let outs : after.outs.items ≡ filled.outs.items = ap (λ os. os.items) a.outs in
     let count : length filled.outs.items ≡ length (view filled.machine).out_lanes = e.count ∙ (c.requires.outputs ∙ ap length (sym e.out_lanes)) in
+    let none : NoneHeld filled.outs.items = e.none c.if-due.false in
     stepped_through view _ _ (Prepares view false false before after) before wires filled wires after wires
     (λ w p v q u r was mid x y f s. record {
       moves = λ t. absurd (true_not_false (sym t));
       taken = λ k. s.taken k ∙ f.taken k;
       allows_nothing = λ k d. ap (λ (z : Past). z.allowed) (s.same c.if-not-granted.true) ∙ f.allowed;
-      none_before = λ ok no. none_before view before filled c.fill_all-due.result w v p q e.sound e.count (e.stepped wires).outs_same e.done (e.none c.if-due.false) f (a.sound ok);
+      grants_nothing = λ k d. ap tickets_in (a.still c.if-not-granted.true) ∙ ap (λ (z : Passing). tickets_in z.log) e.pass;
+      none_before = λ ok no. none_before view before filled c.fill_all-due.result w v p q e.sound e.count (e.stepped wires).outs_same e.done none f (a.sound ok);
       rests = λ no. record {
         none_due = λ ok.
             let same : r ≡ q = s.same c.if-not-granted.true in
             let dues : due r ≡ due p = ap due same ∙ due_same p q x.task f.got f.allowed in
             subst (λ (os : List OutPort). (k : ℕ) → k < length os → (out_at os k).done ≡ false → (out_at os k).held ≡ None → (u (out_at os k).wire).sent ≡ stream_at (due r) k) (sym outs)
             (λ k lt busy none. s.sent (out_at filled.outs.items k).wire ∙ (f.sent (out_at filled.outs.items k).wire ∙ (f.none_due (a.sound ok) k lt busy none ∙ ap (λ (ss : List Flow). stream_at ss k) (sym dues))));
-        ungranted = λ ok none k lt busy.
-            elim (ungranted view laws filled v q w p c.fill_all-due.result e.held mid (a.sound ok) count (subst NoneHeld outs none) f (a.back c.if-not-granted.true) k (subst (λ (os : List OutPort). k < length os) outs lt) (subst (λ (os : List OutPort). (out_at os k).done ≡ false) outs busy)) [
+        ungranted = λ ok none' k lt busy.
+            elim (ungranted view laws (IsUngranted view filled after) filled v q w p c.fill_all-due.result e.held mid (a.sound ok) count none f (a.back c.if-not-granted.true ok (λ d. true_not_false (sym (d k lt) ∙ busy))) k (subst (λ (os : List OutPort). k < length os) outs lt) (subst (λ (os : List OutPort). (out_at os k).done ≡ false) outs busy)) [
               | inl n ↦ inl (a.source ∙ n)
-              | inr full ↦ inr (subst (λ (z : ℕ). 2 ^ 64 - 1 ≤ z) (sym (a.place c.if-not-granted.true)) full)
+              | inr more ↦ elim more [ inl n ↦ inl n | inr choked ↦ inr (choked.0, choked.1, subst (λ (z : Passing). WasChoked z choked.0 after.pass) e.pass choked.2) ]
             ];
       };
     }) (e.stepped wires) (a.stepped wires)
@@ -93,25 +90,48 @@ returns-clause-stepped g c wires =
     let view = g.M.Machine.view in
     let before = c.args.self.now in
     let filled = c.fill_all-due.new.self in
-    let after = c.allow-granted.new.self in
+    let after = c.grant-granted.new.self in
     let last = c.fill_all-more.new.self in
     let e = c.fill_all-due.ensures in
-    let a = c.allow-granted.ensures in
+    let a = c.grant-granted.ensures in
     let f2 = c.fill_all-more.ensures in
-    let fine : IsSound view filled = c.fault.ensures.sound (none_if_not_some c.fault.result (sym c.is_some.ensures ∙ c.if-is_some.false)) in
+    let fine : IsSound view filled = a.fine c.if-not-granted.false in
     let first = stepped_then view _ _ (Prepares view true false before after) before wires filled wires after wires
-    (λ w p v q u r x y f s. record {
-      moves = λ t. then_moves _ _ w v u p q r x y (s.moves c.if-not-granted.false);
+    (λ w p v q u r x y f s. let none = none_before view before filled c.fill_all-due.result w v p q e.sound e.count (e.stepped wires).outs_same e.done (e.none c.if-due.false) f fine in record {
+      moves = λ t. then_has_moved _ _ before filled after w v u p q r x y (e.stepped wires).passes.log (s.moves c.if-not-granted.false);
       taken = λ k. s.taken k ∙ f.taken k;
-      allows_nothing = λ k d. absurd (none_before view before filled c.fill_all-due.result w v p q e.sound e.count (e.stepped wires).outs_same e.done (e.none c.if-due.false) f fine k d);
-      none_before = λ ok no. none_before view before filled c.fill_all-due.result w v p q e.sound e.count (e.stepped wires).outs_same e.done (e.none c.if-due.false) f (a.sound ok);
+      allows_nothing = λ k d. absurd (none k d);
+      grants_nothing = λ k d. absurd (none k d);
+      none_before = λ ok no. none;
       rests = λ no. absurd (true_not_false no);
     }) (e.stepped wires) (a.stepped wires) in
     stepped_then view _ _ (Prepares view true c.fill_all-more.result before last) before wires after wires last wires
     (λ w p v q u r x y f s. record {
-      moves = λ t. moves_then _ _ w v u p q r x y (f.moves refl);
+      moves = λ t. has_moved_then _ _ before after last w v u p q r x y (f2.stepped wires).passes.log (f.moves refl);
       taken = λ k. s.taken k ∙ f.taken k;
       allows_nothing = λ k d. s.allowed ∙ f.allows_nothing k d;
+      grants_nothing = λ k d. ap (λ (z : Passing). tickets_in z.log) f2.pass ∙ f.grants_nothing k d;
       none_before = λ ok no. f.none_before (f2.sound ok) refl;
       rests = λ no. absurd (true_not_false no);
     }) first (f2.stepped wires)
+
+pub returns-then-due-clause-once : goal.returns-then-due-clause-once
+returns-then-due-clause-once g c =
+    let before = c.args.self.now.pass in
+    let filled = c.fill_all-due.new.self.pass in
+    once_same before.log filled.log (same_tickets before filled c.fill_all-due.ensures.pass)
+
+pub returns-then-not-granted-clause-once : goal.returns-then-not-granted-clause-once
+returns-then-not-granted-clause-once g c =
+    let before = c.args.self.now.pass in
+    let filled = c.fill_all-due.new.self.pass in
+    let after = c.grant-granted.new.self.pass in
+    once_between before.log filled.log after.log after.log (same_tickets before filled c.fill_all-due.ensures.pass) refl c.grant-granted.ensures.once
+
+pub returns-clause-once : goal.returns-clause-once
+returns-clause-once g c =
+    let before = c.args.self.now.pass in
+    let filled = c.fill_all-due.new.self.pass in
+    let after = c.grant-granted.new.self.pass in
+    let last = c.fill_all-more.new.self.pass in
+    once_between before.log filled.log after.log last.log (same_tickets before filled c.fill_all-due.ensures.pass) (same_tickets after last c.fill_all-more.ensures.pass) c.grant-granted.ensures.once

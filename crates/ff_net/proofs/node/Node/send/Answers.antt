@@ -7,11 +7,12 @@ use Rattle.ff_net.specs.Worlds.{Wire, Stand, put_on, lanes_of}
 use Rattle.ff_net.specs.Pasts.{was_stopped}
 use Rattle.ff_net.specs.Ports.{out_at, out_wires}
 use Rattle.ff_net.specs.Steps.{put, told as was_told}
-use Rattle.ff_net.proofs.Moments.{fault_self, with_wire_same, with_wire_keeps, with_item_new}
+use Rattle.ff_net.proofs.Moments.{pass_self, fault_self, with_wire_same, with_wire_keeps, with_item_new}
 use Rattle.ff_net.proofs.PortSteps.{out_wires_set, out_wire_there, out_wire_in, set_again, set_own}
 use Rattle.ff_net.proofs.Changes.{true_not_false, course_put, course_past, send_done, told, busy_goes_on, same_stands}
 use Rattle.ff_net.proofs.Queues.{finished_of, in_queues}
 use Rattle.ff_net.proofs.Sendings.{sent_valid}
+use Rattle.ff_net.proofs.Logs.{log_called, log_still, pending_stopped}
 use Rattle.ff_net.proofs.node.Node.send.Goals as goal
 
 pub try_put-requires : goal.try_put-requires
@@ -37,7 +38,9 @@ returns-in-Done-clause-stepped g c =
       outs_same = ap (λ os. out_wires os) set ∙ out_wires_set outs p _ there refl;
       in_lanes_same = refl;
       out_lanes_same = refl;
+      source_same = refl;
       fares = fault_self (view node.machine);
+      passes = pass_self _;
       lanes_same = c.try_put.ensures.lanes;
       goes = λ world past stand was.
           let unclosed = (was.outs p there).unclosed busy in
@@ -46,7 +49,7 @@ returns-in-Done-clause-stepped g c =
             now = put_on world old.wire x;
             since = past;
             stand = done;
-            fits = send_done view node _ world past p x c.closes-closes.result (view node.machine).out_lanes (lanes_of c.args.wires.now) was refl refl refl refl set there c.requires.shaped.outs held busy c.closes-closes.ensures;
+            fits = send_done view node _ world past p x c.closes-closes.result (view node.machine).out_lanes (lanes_of c.args.wires.now) was refl (log_still view node _ past refl refl refl (λ r. r) (λ q. q) was.log) refl refl set there c.requires.shaped.outs held busy c.closes-closes.ensures;
             course = course_put _ _ world old.wire x past (out_wire_in outs p old.wire there refl) unclosed;
             so = record {
               moves = λ e. put old.wire (λ same. with_item_new (world old.wire).sent x unclosed (sym (ap (λ (u : Wire). u.sent) (with_wire_same world old.wire _ old.wire refl)) ∙ same));
@@ -68,7 +71,7 @@ returns-in-Full-clause-same g c is =
     let set : c.hold.new.ports.items ≡ slice_set outs p old =
     set_again outs c.take_held.new.ports.items c.hold.new.ports.items p _ _ old there c.take_held.ensures.rest c.hold.ensures
     (λ e. ap (λ (o : OutPort). record o { held = Some c.in-Full.item }) e ∙ ap (λ (h : Option Item). record old { held = h }) (sym held)) in (
-      record { machine = refl; ins = refl; outs = set ∙ set_own outs p _; refused = refl; place = refl },
+      record { machine = refl; ins = refl; outs = set ∙ set_own outs p _; refused = refl; pass = refl; hand = refl; quiet = refl },
       full.1,
     )
 
@@ -80,7 +83,9 @@ returns-in-Full-clause-stepped g c =
       outs_same = ap (λ os. out_wires os) same.0.outs;
       in_lanes_same = refl;
       out_lanes_same = refl;
+      source_same = refl;
       fares = fault_self (view c.args.self.now.machine);
+      passes = pass_self _;
       lanes_same = c.try_put.ensures.lanes;
       goes = λ world past stand was. record {
         now = world;
@@ -109,7 +114,9 @@ returns-in-Finished-clause-stepped g c =
       outs_same = ap (λ os. out_wires os) set ∙ out_wires_set outs p _ there refl;
       in_lanes_same = c.stop.ensures.shape.in_lanes;
       out_lanes_same = c.stop.ensures.shape.out_lanes;
+      source_same = c.stop.ensures.shape.source;
       fares = c.stop.ensures.fares;
+      passes = pass_self _;
       lanes_same = c.try_put.ensures.lanes;
       goes = λ world past stand was.
           let goes_on = busy_goes_on view node world past p was busy in
@@ -117,7 +124,7 @@ returns-in-Finished-clause-stepped g c =
             now = world;
             since = was_stopped past p;
             stand = subst (λ (w : Wires). Stand w world) (sym finished.1) stand;
-            fits = told view node _ world past p None was (c.stop.ensures.stopped past was.machine) c.stop.ensures.fares.stays refl c.stop.ensures.shape.source c.stop.ensures.shape.in_lanes refl refl set there busy flag;
+            fits = told view node _ world past p None was (c.stop.ensures.stopped past was.machine) c.stop.ensures.fares.stays (log_called view node _ past (was_stopped past p) c.stop.ensures.fares.stays c.stop.ensures.shape refl (λ r. r) refl refl refl (pending_stopped past p) was.log) c.stop.ensures.shape.in_lanes refl refl set there busy flag;
             course = course_past _ _ world past (was_stopped past p) refl (prefix_self past.allowed) (λ q i. inr i);
             so = record { moves = λ e. was_told p goes_on (inl refl); takes_nothing = λ q w. refl; allows_nothing = refl };
           };

@@ -22,6 +22,7 @@ loop-p-preserved g c =
     record {
       shaped = shaped_later view _ before wires after wires e.stepped i.shaped;
       count = i.count ∙ sym (outs_kept view _ before wires after wires e.stepped);
+      pass = e.pass ∙ i.pass;
       stepped = stepped_then view _ _ (Acts ((c.loop-p.stopped || c.stop_at-here.result) ≡ true) (Unit {0})) first wires before wires after wires
           (λ a o b q d r x y f s. let j = acts_join _ _ c.loop-p.stopped c.stop_at-here.result a b d o q r (Unit {0}) (Unit {0}) x y f s in record { moves = j.moves; takes_nothing = λ t. j.takes_nothing (tt, tt); allows_nothing = j.allows_nothing }) i.stepped e.stepped;
       same = λ n. let no = or_false c.loop-p.stopped c.stop_at-here.result n in e.same no.1 ∙ i.same no.0;

@@ -7,6 +7,8 @@ use Rattle.ff_net.specs.Steps.{told as was_told}
 use Rattle.ff_net.proofs.PortSteps.{out_wires_set, out_wire_there}
 use Rattle.ff_net.proofs.Changes.{course_past, told, busy_goes_on}
 use Rattle.ff_net.proofs.Queues.{finished_of, in_queues}
+use Rattle.ff_net.proofs.Moments.{pass_self}
+use Rattle.ff_net.proofs.Logs.{log_called, pending_stopped}
 use Rattle.ff_net.proofs.node.Node.stop_at.Goals as goal
 
 pub is_finished-requires : goal.is_finished-requires
@@ -29,7 +31,9 @@ returns-clause-stepped g c =
       outs_same = ap (λ os. out_wires os) set ∙ out_wires_set outs p _ there refl;
       in_lanes_same = c.stop.ensures.shape.in_lanes;
       out_lanes_same = c.stop.ensures.shape.out_lanes;
+      source_same = c.stop.ensures.shape.source;
       fares = c.stop.ensures.fares;
+      passes = pass_self _;
       lanes_same = refl;
       goes = λ world past stand was.
           let goes_on = busy_goes_on view node world past p was busy in
@@ -37,7 +41,7 @@ returns-clause-stepped g c =
             now = world;
             since = was_stopped past p;
             stand = stand;
-            fits = told view node _ world past p old.held was (c.stop.ensures.stopped past was.machine) c.stop.ensures.fares.stays refl c.stop.ensures.shape.source c.stop.ensures.shape.in_lanes refl refl set there busy flag;
+            fits = told view node _ world past p old.held was (c.stop.ensures.stopped past was.machine) c.stop.ensures.fares.stays (log_called view node _ past (was_stopped past p) c.stop.ensures.fares.stays c.stop.ensures.shape refl (λ r. r) refl refl refl (pending_stopped past p) was.log) c.stop.ensures.shape.in_lanes refl refl set there busy flag;
             course = course_past _ _ world past (was_stopped past p) refl (prefix_self past.allowed) (λ q i. inr i);
             so = record { moves = λ e. was_told p goes_on (inl refl); takes_nothing = λ q w. refl; allows_nothing = refl };
           };

@@ -9,10 +9,11 @@ use Rattle.ff_net.specs.Pasts.{fed}
 use Rattle.ff_net.specs.Ports.{in_at}
 use Rattle.ff_net.specs.Steps.{took as has_taken}
 use Rattle.ff_net.proofs.Flows.{fed_above, stream_at-with_item_same, stream_at-with_item_other}
-use Rattle.ff_net.proofs.Moments.{with_wire_same, with_item_new}
+use Rattle.ff_net.proofs.Moments.{pass_self, with_wire_same, with_item_new}
 use Rattle.ff_net.proofs.PortSteps.{in_wire_there, in_wire_in}
 use Rattle.ff_net.proofs.Changes.{true_not_false, course_take, took, may_stay, may_machine}
 use Rattle.ff_net.proofs.Sendings.{taken_valid}
+use Rattle.ff_net.proofs.Logs.{log_called, pending_same}
 use Rattle.ff_net.proofs.node.Node.take.Goals as goal
 
 pub try_take-requires : goal.try_take-requires
@@ -31,13 +32,15 @@ returns-in-Ok-clause-stepped g c =
     let busy : old.done ≡ false = sym c.in_done-finished.ensures ∙ c.if-finished.false in
     let fresh : node.refused ≡ false = c.if-self.false in
     let wire : c.in_wire.result ≡ old.wire = c.in_wire.ensures in
-    let after : Node _ = record { machine = c.feed.new.self; ins = node.ins; outs = node.outs; refused = node.refused; place = node.place } in
+    let after : Node _ = record { machine = c.feed.new.self; ins = node.ins; outs = node.outs; refused = node.refused; pass = node.pass; hand = node.hand; quiet = false } in
     record {
       ins_same = refl;
       outs_same = refl;
       in_lanes_same = c.feed.ensures.shape.in_lanes;
       out_lanes_same = c.feed.ensures.shape.out_lanes;
+      source_same = c.feed.ensures.shape.source;
       fares = c.feed.ensures.fares;
+      passes = pass_self _;
       lanes_same = c.try_take.ensures.lanes;
       goes = λ world past stand was.
           let answer = c.in-Item.ensures.item x refl world stand in
@@ -55,7 +58,7 @@ returns-in-Ok-clause-stepped g c =
             stand = later;
             fits = took view node after world past since p x (view node.machine).in_lanes (lanes_of c.args.wires.now) was (c.in-Ok.ensures.accepted past was.machine got_open valid') c.feed.ensures.fares.stays fresh
                 (may_stay view node after past since c.feed.ensures.shape.in_lanes refl (λ d. d) refl (fed_above past p x got_open) (λ q i. i))
-                refl c.feed.ensures.shape.source refl refl there c.requires.shaped.ins busy refl refl refl (λ q n. stream_at-with_item_other past.got p q x n) (inl grown) (λ r. grown);
+                (log_called view node after past since c.feed.ensures.fares.stays c.feed.ensures.shape refl (λ r. fresh) refl refl refl (pending_same past since refl refl) was.log) refl refl there c.requires.shaped.ins busy refl refl (λ q n. stream_at-with_item_other past.got p q x n) (inl grown) (λ r. grown);
             course = course_take _ _ world old.wire x past since refl refl refl (in_wire_in ins p old.wire there refl) (sym (was.ins p there).flag ∙ busy) unclosed;
             so = record {
               moves = λ e. has_taken old.wire (λ same. with_item_new (world old.wire).taken x unclosed (sym (ap (λ (u : Wire). u.taken) (with_wire_same world old.wire _ old.wire refl)) ∙ same));
@@ -77,13 +80,15 @@ returns-in-Err-clause-stepped g c =
     let busy : old.done ≡ false = sym c.in_done-finished.ensures ∙ c.if-finished.false in
     let fresh : node.refused ≡ false = c.if-self.false in
     let wire : c.in_wire.result ≡ old.wire = c.in_wire.ensures in
-    let after : Node _ = record { machine = c.feed.new.self; ins = node.ins; outs = node.outs; refused = true; place = node.place } in
+    let after : Node _ = record { machine = c.feed.new.self; ins = node.ins; outs = node.outs; refused = true; pass = node.pass; hand = node.hand; quiet = false } in
     record {
       ins_same = refl;
       outs_same = refl;
       in_lanes_same = c.feed.ensures.shape.in_lanes;
       out_lanes_same = c.feed.ensures.shape.out_lanes;
+      source_same = c.feed.ensures.shape.source;
       fares = c.feed.ensures.fares;
+      passes = pass_self _;
       lanes_same = c.try_take.ensures.lanes;
       goes = λ world past stand was.
           let answer = c.in-Item.ensures.item x refl world stand in
@@ -96,7 +101,7 @@ returns-in-Err-clause-stepped g c =
             stand = later;
             fits = took view node after world past past p x (view node.machine).in_lanes (lanes_of c.args.wires.now) was (c.in-Err.ensures.unchanged past was.machine) c.feed.ensures.fares.stays fresh
                 (may_machine view node after past past c.feed.ensures.shape.in_lanes refl refl refl (λ q i. i))
-                refl c.feed.ensures.shape.source refl refl there c.requires.shaped.ins busy refl refl refl (λ q n. refl) (inr (got_open, (x, ap (λ (s : Flow). with_item s x) got))) (λ r. absurd (true_not_false r));
+                (log_called view node after past past c.feed.ensures.fares.stays c.feed.ensures.shape refl (λ r. fresh) refl refl refl (λ n q x. x) was.log) refl refl there c.requires.shaped.ins busy refl refl (λ q n. refl) (inr (got_open, (x, ap (λ (s : Flow). with_item s x) got))) (λ r. absurd (true_not_false r));
             course = course_take _ _ world old.wire x past past refl refl refl (in_wire_in ins p old.wire there refl) (sym (was.ins p there).flag ∙ busy) unclosed;
             so = record {
               moves = λ e. has_taken old.wire (λ same. with_item_new (world old.wire).taken x unclosed (sym (ap (λ (u : Wire). u.taken) (with_wire_same world old.wire _ old.wire refl)) ∙ same));

@@ -11,6 +11,7 @@ invariant-loop-p g l =
       shaped : IsShaped view l.self l.wires;
       count : l.count ≡ length l.self.ins.items;
       stepped : Stepped view (Acts (l.moved ≡ true) (⊥)) l.fn.self l.fn.wires l.self l.wires;
+      pass : l.self.pass ≡ l.fn.self.pass;
       same : l.moved ≡ false → IsSame l.fn.self l.self × (l.wires ≡ l.fn.wires);
       empty : l.moved ≡ false → l.fn.self.refused ≡ false → (q : ℕ) → q < l.p → (in_at l.fn.self.ins.items q).done ≡ false → IsEmpty l.fn.wires (in_at l.fn.self.ins.items q).wire;
     }

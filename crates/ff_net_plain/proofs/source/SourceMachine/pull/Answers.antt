@@ -21,7 +21,8 @@ returns-then-self-items-clause-gives c x is past s goes =
     let same : c.in_ok-item.item ≡ x = cc (is) in
     let item : slice_index_or items m.next x ≡ x =
     get_or_default items m.next x r less ∙ (ap (λ (xs : List Item). slice_index_or xs m.next r) (sym c.as_slice-items.ensures.value) ∙ (sym c.index-items-self.is ∙ (sym c.in_ok-item.ensures ∙ same))) in
-    rw c.if-self.false (list_gives m.lane items m.next m.failed past p x c.requires less item s')
+    let h = list_gives m.lane items m.next m.failed past p x c.requires less item s'.0 in
+    rw c.if-self.false ((h.0, s.1), h.1, h.2)
 
 pub returns-clause-gives : goal.returns-clause-gives
 returns-clause-gives c x is past s goes =
@@ -31,5 +32,6 @@ returns-clause-gives c x is past s goes =
     let s' = rw (c.if-self.false, c.if-not-self.false) at s in
     let over : length items ≤ m.next = subst (λ (xs : List Item). length xs ≤ m.next) c.as_slice-items.ensures.value c.if-self-items.false in
     let same : End ≡ x = cc (is) in
-    subst (λ (y : Item). Lists m.lane items m.next true false m.failed (gave_item past p y) × ((stream_at past.gave p).mark ≡ still_open) × LiesBelow (with_item (stream_at past.gave p) y) (stream_at (due past) p)) same
-    (list_ends m.lane items m.next m.failed past p c.requires over s')
+    let h = subst (λ (y : Item). Lists m.lane items m.next true false m.failed (gave_item past p y) × ((stream_at past.gave p).mark ≡ still_open) × LiesBelow (with_item (stream_at past.gave p) y) (stream_at (due past) p)) same
+    (list_ends m.lane items m.next m.failed past p c.requires over s'.0) in
+    ((h.0, s.1), h.1, h.2)
