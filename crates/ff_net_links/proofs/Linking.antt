@@ -12,13 +12,15 @@ use Rattle.ff_net.specs.declared.node.Node.{Node}
 use Rattle.ff_net.specs.declared.wires.Wires.{Wires}
 use Rattle.ff_net.specs.Ways.{Flow, lane_at, IsValidOn}
 use Rattle.ff_net.specs.Laws.{FaultStep}
+use Rattle.ff_net.specs.Logs.{PassStep}
 use Rattle.ff_net.specs.Pasts.{Past, Task, IsIn, start}
 use Rattle.ff_net.specs.Worlds.{Wire, fresh, lanes_of}
-use Rattle.ff_net.specs.Nodes.{HeldIs, NodeStands, IsShaped, HaveLanes, AreApart, in_wires_of, out_wires_of}
+use Rattle.ff_net.specs.Nodes.{HeldIs, NodeStands, IsOf, IsShaped, HaveLanes, AreApart, in_wires_of, out_wires_of}
+use Rattle.ff_sched.specs.Passing.{Scheduler}
 use Rattle.ff_net.specs.Steps.{Stepped}
 use Rattle.ff_net.specs.Views.{View}
 use Rattle.ff_net.proofs.Flows.{same_or_not, there_lane}
-use Rattle.ff_net.proofs.Moments.{fault_self, fault_then}
+use Rattle.ff_net.proofs.Moments.{fault_self, fault_then, pass_self, pass_then}
 use Rattle.ff_net.proofs.NetSteps.{other_stands}
 use Rattle.ff_net.proofs.Rounds.{shaped_later}
 use Rattle.ff_net_links.proofs.Carrying.{claimed}
@@ -141,12 +143,14 @@ module _ {M : Type 0} (view : M → View) where
     outs_same = refl;
     in_lanes_same = refl;
     out_lanes_same = refl;
+    source_same = refl;
     lanes_same = refl;
     in_ends_same = refl;
     out_ends_same = refl;
     in_links_same = refl;
     out_links_same = refl;
     fares = fault_self (view l.node.machine);
+    passes = pass_self l.node.pass;
     goes = λ task b. b;
   }
 
@@ -156,12 +160,14 @@ module _ {M : Type 0} (view : M → View) where
     outs_same = y.outs_same ∙ x.outs_same;
     in_lanes_same = y.in_lanes_same ∙ x.in_lanes_same;
     out_lanes_same = y.out_lanes_same ∙ x.out_lanes_same;
+    source_same = y.source_same ∙ x.source_same;
     lanes_same = y.lanes_same ∙ x.lanes_same;
     in_ends_same = y.in_ends_same ∙ x.in_ends_same;
     out_ends_same = y.out_ends_same ∙ x.out_ends_same;
     in_links_same = y.in_links_same ∙ x.in_links_same;
     out_links_same = y.out_links_same ∙ x.out_links_same;
     fares = fault_then _ _ _ x.fares y.fares;
+    passes = pass_then _ _ _ x.passes y.passes;
     goes = λ task s. y.goes task (x.goes task s);
   }
 
@@ -233,12 +239,14 @@ module _ {M : Type 0} (view : M → View) where
       outs_same = ap (λ (n : Node M). out_wires_of n) node;
       in_lanes_same = ap (λ (n : Node M). (view n.machine).in_lanes) node;
       out_lanes_same = ap (λ (n : Node M). (view n.machine).out_lanes) node;
+      source_same = ap (λ (n : Node M). (view n.machine).source) node;
       lanes_same = lanes;
       in_ends_same = in_wires_kept;
       out_ends_same = ap out_ends_wires outs;
       in_links_same = ap in_ends_links draws.set ∙ map_set_same (λ (e : InEnd). in_link e) l.ins.items p draws.end _ there draws.link;
       out_links_same = ap out_ends_links outs;
       fares = subst (λ (n : Node M). FaultStep (view l.node.machine) (view n.machine)) (sym node) (fault_self (view l.node.machine));
+      passes = subst (λ (n : Node M). PassStep l.node.pass n.pass) (sym node) (pass_self l.node.pass);
       goes = drawn_goes;
     }
 
@@ -293,12 +301,14 @@ module _ {M : Type 0} (view : M → View) where
       outs_same = ap (λ (n : Node M). out_wires_of n) node;
       in_lanes_same = ap (λ (n : Node M). (view n.machine).in_lanes) node;
       out_lanes_same = ap (λ (n : Node M). (view n.machine).out_lanes) node;
+      source_same = ap (λ (n : Node M). (view n.machine).source) node;
       lanes_same = lanes;
       in_ends_same = ap in_ends_wires ins;
       out_ends_same = out_wires_kept;
       in_links_same = ap in_ends_links ins;
       out_links_same = ap out_ends_links pours.set ∙ map_set_same (λ (e : OutEnd). out_link e) l.outs.items q pours.end pours.old there (pours.link ∙ ap (λ (e : OutEnd). out_link e) (sym (pours.is pours.old)));
       fares = subst (λ (n : Node M). FaultStep (view l.node.machine) (view n.machine)) (sym node) (fault_self (view l.node.machine));
+      passes = subst (λ (n : Node M). PassStep l.node.pass n.pass) (sym node) (pass_self l.node.pass);
       goes = poured_goes;
     }
 
@@ -310,12 +320,14 @@ module _ {M : Type 0} (view : M → View) where
     outs_same = step.outs_same;
     in_lanes_same = step.in_lanes_same;
     out_lanes_same = step.out_lanes_same;
+    source_same = step.source_same;
     lanes_same = step.lanes_same;
     in_ends_same = ap in_ends_wires ins;
     out_ends_same = ap out_ends_wires outs;
     in_links_same = ap in_ends_links ins;
     out_links_same = ap out_ends_links outs;
     fares = step.fares;
+    passes = step.passes;
     goes = λ task b.
         let y = step.goes b.world b.past b.stand b.fits in record {
           wired = record {
@@ -387,4 +399,11 @@ module _ {M : Type 0} (view : M → View) where
         let link : out_link (slice_index_or new.outs.items q d) ≡ out_link (slice_index_or old.outs.items q d) = sym (out_link_nth new.outs.items q d lt) ∙ (ap (λ (ls : List (Option Link)). slice_index_or ls q None) f.out_links_same ∙ out_link_nth old.outs.items q d lt') in
         let b = l.vouched q d lt' (claimed (slice_index_or new.outs.items q d) (slice_index_or old.outs.items q d) link claims) in
         (b.0, f.goes b.0 b.1);
+  }
+
+  -- and of its cell
+  pub of_after : (cell : Scheduler) (old new : Linked M) → Follows view old new → IsOf view cell old.node → IsOf view cell new.node
+  of_after cell old new f o = record {
+    pass = f.passes.cell ∙ o.pass;
+    source = λ s is. o.source s (sym f.source_same ∙ is);
   }

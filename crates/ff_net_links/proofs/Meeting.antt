@@ -167,7 +167,7 @@ module _ {M : Type 0} (view : M → View) where
             out_keep o (b.world o.wire) (world o.wire) (stream_at b.past.gave q) (IsIn q b.past.stopped) (IsIn q b.past.stopped) (IsSound view l.node) (IsSound view l.node) (f o.wire (out_wire_in l.node.outs.items q o.wire lt refl)) (λ e. refl) (λ s. s) (λ s. s) (was.outs q lt);
         beyond = was.beyond;
         stopped = was.stopped;
-        allowed = was.allowed;
+        log = was.log;
       }
 
   each_stands : (σ τ : ℕ → Flow) (lanes : List Lane) (tasks : ℕ → Task) (ls : List (Linked M)) (bs : AllBehind view tasks ls) → AreMeeting lanes ls → Own σ τ tasks ls bs → (k : ℕ) (d : Node M) → k < length (nodes_of ls)

@@ -7,6 +7,10 @@ use mathlib.Core.Logic.{dite}
 use Rattle.ff_net.specs.Views.{View}
 use Rattle.ff_net_links.specs.declared.linked.Linked.{Linked}
 use Rattle.ff_net_links.specs.declared.worker.Worker.{Worker}
+use Rattle.ff_net.specs.Nodes.{IsOf}
+use Rattle.ff_sched.specs.Passing.{Scheduler}
+use Rattle.ff_net_links.specs.Nodes.{node_of}
+use Rattle.ff_net_links.specs.Runs.{AllOf}
 use Rattle.ff_net_links.specs.Workers.{Serves, AllServe}
 
 pub each_snoc : {A : Type 0} (P : ℕ → A → Type 0) (xs : List A) (y d : A) → ((k : ℕ) → k < length xs → P k (get_or xs k d)) → P (length xs) y → (k : ℕ) → k < length xs + 1 → P k (get_or (xs ++ y ∷ []) k d)
@@ -56,11 +60,11 @@ nth_of (x ∷ xs) (suc i) lt = nth_of xs i (omega arith)
 
 -- whom a worker serves
 module _ {M : Type 0} (view : M → View) where
-  pub someone : (ns : List (Linked M)) (ws : List (Worker M)) (i : ℕ) (w : Worker M) → AllServe view ns ws → i < length ws → w ≡ get_or ws i w → (n : Linked M) × Serves view n w
-  someone ns ws i w all lt is =
+  pub someone : (cell : Scheduler) (ns : List (Linked M)) (ws : List (Worker M)) (i : ℕ) (w : Worker M) → AllServe view ns ws → AllOf view cell ns → i < length ws → w ≡ get_or ws i w → (n : Linked M) × Serves view n w × IsOf view cell (node_of n)
+  someone cell ns ws i w all of lt is =
       let there : i < length ns = let same = all.0 in omega arith in
       let d : Linked M = nth_of ns i there in
-      (get_or ns i d, subst (λ (v : Worker M). Serves view (get_or ns i d) v) (sym is) (all.1 i d w there))
+      (get_or ns i d, subst (λ (v : Worker M). Serves view (get_or ns i d) v) (sym is) (all.1 i d w there), of.each i d there)
 
 pub rest_first : {A : Type 0} (xs items : List A) (n k : ℕ) (d : A) → xs ≡ items → n ≡ 0 → get_or xs k d ≡ get_or items (n + k) d
 rest_first xs items n k d e z =

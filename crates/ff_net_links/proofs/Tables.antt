@@ -1,13 +1,17 @@
 -- Senders in a table by the numbers of their links.
-use Rattle.std.proofs.Common.{◌≡◌, ℕ, zero, suc, ◌<◌, inl, inr, List, [], ◌∷◌, length, map, slice_index_or, slice_set, refl, ap, sym, ◌∙◌, subst, arith, Option, None, Some, get_or-set_same, get_or-set_other}
+use Rattle.std.proofs.Common.{◌≡◌, ℕ, zero, suc, ◌<◌, inl, inr, List, [], ◌∷◌, length, map, slice_index_or, slice_set, ◌++◌, append_assoc, append-nil, refl, ap, sym, ◌∙◌, subst, arith, Option, None, Some, get_or-set_same, get_or-set_other}
 use Rattle.std.proofs.lemmas.List.{length-set}
 use Rattle.ff_link.specs.Views.{Link, Sending, Receiving, Ended}
 use Rattle.ff_link.specs.declared.answers.Settled.{Settled}
+use Rattle.ff_net.specs.Nodes.{pass_of}
+use Rattle.ff_sched.specs.Passing.{Passing}
 use Rattle.ff_net.proofs.Flows.{same_or_not}
 use Rattle.ff_net_links.specs.declared.ends.InEnd.{InEnd}
 use Rattle.ff_net_links.specs.declared.ends.OutEnd.{OutEnd}
+use Rattle.ff_net_links.specs.declared.linked.Linked.{Linked}
 use Rattle.ff_net_links.specs.Ends.{taken_in, taken_of, link_in, in_link}
-use Rattle.ff_net_links.specs.Settling.{WasSentIn, IsSenderIn, IsTable, IsFed, IsSettled}
+use Rattle.ff_net_links.specs.Nodes.{node_of}
+use Rattle.ff_net_links.specs.Settling.{WasSentIn, IsSenderIn, IsTable, IsFed, IsSettled, passes_in}
 
 pub table_set : (all : List (List OutEnd)) (links : ℕ → Link) (table : List (Option Sending)) (w : ℕ) (o : Option Sending) → ((s : Sending) → o ≡ Some s → IsSenderIn all w s × (s.link ≡ links w)) → IsTable all links table → IsTable all links (slice_set table w o)
 table_set all links table w o h t = record {
@@ -68,3 +72,13 @@ pub at_map : {A B : Type 0} (f : A → B) (xs : List A) (k : ℕ) (d : A) (e : B
 at_map f [] k d e lt = absurd (omega arith)
 at_map f (x ∷ xs) zero d e lt = refl
 at_map f (x ∷ xs) (suc k) d e lt = at_map f xs k d e (omega arith)
+
+-- the passes of the nodes, one more
+pub next_pass : {M : Type 0} (ps ps' : List Passing) (p : Passing) (l : Linked M) (ls rest : List (Linked M)) (all : List Passing) → ps' ≡ ps ++ p ∷ [] → ls ≡ l ∷ rest → p ≡ pass_of (node_of l) → ps ++ passes_in ls ≡ all → ps' ++ passes_in rest ≡ all
+next_pass ps ps' p l ls rest all more first is was =
+    ap (λ (xs : List Passing). xs ++ passes_in rest) more ∙ (append_assoc ps (p ∷ []) (passes_in rest) ∙ (ap (λ (q : Passing). ps ++ q ∷ passes_in rest) is ∙ (ap (λ (xs : List (Linked _)). ps ++ passes_in xs) (sym first) ∙ was)))
+
+-- and all
+pub all_passes : {M : Type 0} (ps : List Passing) (ls : List (Linked M)) (all : List Passing) → length ls ≡ 0 → ps ++ passes_in ls ≡ all → ps ≡ all
+all_passes ps [] all none was = sym (append-nil ps) ∙ was
+all_passes ps (l ∷ ls) all none was = absurd (omega (arith, none))

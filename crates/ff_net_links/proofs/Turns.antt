@@ -1,5 +1,5 @@
 -- What the steps of a turn come to.
-use Rattle.std.proofs.Common.{◌≡◌, ◌≢◌, ℕ, zero, suc, ◌<◌, ◌⊎◌, inl, inr, Bool, true, false, ◌||◌, List, [], ◌∷◌, ◌++◌, length, slice_index_or, slice_set, refl, ap, sym, ◌∙◌, subst, Option, None, Some, is_some, get_or-set_other}
+use Rattle.std.proofs.Common.{◌≡◌, ◌≢◌, ℕ, zero, suc, ◌<◌, ◌⊎◌, inl, inr, Bool, true, false, ◌||◌, List, [], ◌∷◌, ◌++◌, length, slice_index_or, slice_set, ◌≤◌, refl, ap, sym, ◌∙◌, subst, arith, Option, None, Some, is_some, get_or-set_other}
 use Rattle.ff_frame.specs.declared.item.Item.{Item}
 use Rattle.ff_frame.specs.Items.{Closes}
 use Rattle.ff_frame.specs.Order.{closed_below}
@@ -12,15 +12,17 @@ use Rattle.ff_net.specs.declared.node.Node.{Node}
 use Rattle.ff_net.specs.declared.ports.InPort.{InPort}
 use Rattle.ff_net.specs.declared.ports.OutPort.{OutPort}
 use Rattle.ff_net.specs.declared.wires.Wires.{Wires}
-use Rattle.ff_net.specs.Pasts.{Task}
+use Rattle.ff_net.specs.Pasts.{Past, Task}
 use Rattle.ff_net.specs.Ports.{in_at, in_wires, out_at}
 use Rattle.ff_net.specs.Worlds.{Wire, Stand}
-use Rattle.ff_net.specs.Nodes.{IsDone}
-use Rattle.ff_net.specs.Steps.{Moves, Stepped}
-use Rattle.ff_net.specs.Turns.{IsIdle}
+use Rattle.ff_net.specs.Logs.{WasChoked}
+use Rattle.ff_net.specs.Nodes.{IsDone, pass_of}
+use Rattle.ff_sched.specs.Passing.{Passing}
+use Rattle.ff_net.specs.Steps.{Moves, Stepped, HasMoved as HasMovedThere}
+use Rattle.ff_net.specs.Turns.{IsIdle, IsRefused, full, empty, choked}
 use Rattle.ff_net.specs.Views.{View}
 use Rattle.ff_net.proofs.Flows.{same_or_not}
-use Rattle.ff_net.proofs.Moments.{stepped_then, then_moves}
+use Rattle.ff_net.proofs.Moments.{stepped_as, stepped_then, then_moves}
 use Rattle.ff_net.proofs.Changes.{true_not_false}
 use Rattle.ff_net_links.specs.declared.ends.InEnd.{InEnd}
 use Rattle.ff_net_links.specs.declared.ends.OutEnd.{OutEnd}
@@ -28,7 +30,7 @@ use Rattle.ff_net_links.specs.declared.linked.Linked.{Linked}
 use Rattle.ff_net_links.specs.Ends.{taken_in, taken_of, in_end_at}
 use Rattle.ff_net_links.specs.Nodes.{Behind}
 use Rattle.ff_net_links.proofs.Linking.{in_nth, out_nth, count_map}
-use Rattle.ff_net_links.specs.Turns.{TakesOneAtMost, InMoves, took, ended as in_ended, laid, InRests, Shuts, SendsOneAtMost, OutMoves, sent as was_sent, ended as out_ended, lifted, OutRests, HasMoved, at_input, at_output, at_node, at_end}
+use Rattle.ff_net_links.specs.Turns.{TakesOneAtMost, InMoves, took, ended as in_ended, laid, InRests, Shuts, SendsOneAtMost, OutMoves, sent as was_sent, ended as out_ended, lifted, OutRests, HasMoved, at_input, at_output, at_node, at_end, at_pass}
 
 some_none : {A : Type 0} (o : Option A) (x : A) → o ≡ Some x → o ≡ None → ⊥
 some_none o x e f = cc
@@ -200,7 +202,29 @@ port_nth [] p = refl
 port_nth (x ∷ xs) zero = refl
 port_nth (x ∷ xs) (suc p) = port_nth xs p
 
+less_or_not : (m n : ℕ) → (m < n) ⊎ (n ≤ m)
+less_or_not m zero = inr (omega arith)
+less_or_not zero (suc n) = inl (omega arith)
+less_or_not (suc m) (suc n) = elim (less_or_not m n) [ inl l ↦ inl (omega (arith, l)) | inr g ↦ inr (omega (arith, g)) ]
+
 module _ {M : Type 0} (view : M → View) where
+  -- idle since a moment, and so since another with the same pass
+  idle_before : (before other node : Node M) (wires : Wires) (world : ℕ → Wire) (past : Past) → pass_of before ≡ pass_of other → IsIdle view before node wires world past → IsIdle view other node wires world past
+  idle_before before other node wires world past same i = record { no_room = i.no_room; no_item = i.no_item; refused = since i.refused }
+    where
+      since : IsRefused view before node wires → IsRefused view other node wires
+      since (full q lt f) = full q lt f
+      since (empty p lt e) = empty p lt e
+      since (choked s is was) = choked s is (subst (λ (p : Passing). WasChoked p s node.pass) same was)
+
+  -- a node that has moved, or whose pass has added something
+  pub node_moved_or : (how : (ℕ → Wire) → Past → (ℕ → Wire) → Past → Type 0) (a b : Node M) (wires wires' : Wires) → ((x : ℕ → Wire) (p : Past) (y : ℕ → Wire) (q : Past) → how x p y q → HasMovedThere a b x p y q)
+      → Stepped view how a wires b wires' → Stepped view (λ x p y q. Moves x y p q) a wires b wires' ⊎ (length (pass_of a).log < length (pass_of b).log)
+  node_moved_or how a b wires wires' moved step = elim (less_or_not (length (pass_of a).log) (length (pass_of b).log)) [
+    | inl l ↦ inr l
+    | inr g ↦ inl (stepped_as view how (λ x p y q. Moves x y p q) a wires b wires' (λ x p y q c h. elim (moved x p y q h) [ inl m ↦ m | inr l ↦ absurd (let less : length (pass_of a).log < length (pass_of b).log = l in omega (arith, less, g)) ]) step)
+  ]
+
   -- where the node has finished an input, its link is finished
   pub shut_port : (l : Linked M) (task : Task) → Behind view task l → (last : List InEnd) → ((world : ℕ → Wire) → Stand l.wires world → (p : ℕ) → p < length l.ins.items → (world (in_end_at l.ins.items p).wire).finished ≡ true → (in_end_at last p).taking ≡ None)
       → (p : ℕ) → p < length l.node.ins.items → (in_at l.node.ins.items p).done ≡ true → (in_end_at last p).taking ≡ None
@@ -216,11 +240,12 @@ module _ {M : Type 0} (view : M → View) where
         (stepped_then view (λ a p b q. Unit {0}) (λ a p b q. Moves a b p q) (λ a p b q. Moves a b p q) old.node old.wires drawn.node drawn.wires turned.node turned.wires (λ a p b q c r x y u m. then_moves _ _ a b c p q r x y m) filled step))
 
     -- the node is idle
-    pub node_idle : last.wires ≡ turned.wires → Stepped view (λ a p b q. IsIdle view turned.node turned.wires b q) drawn.node drawn.wires turned.node turned.wires
-        → Stepped view (λ a p b q. IsIdle view last.node last.wires b q) old.node old.wires last.node last.wires
-    node_idle wires step = subst (λ (n : Node M). Stepped view (λ a p b q. IsIdle view n last.wires b q) old.node old.wires n last.wires) (sym node)
-        (subst (λ (w : Wires). Stepped view (λ a p b q. IsIdle view turned.node w b q) old.node old.wires turned.node w) (sym wires)
-        (stepped_then view (λ a p b q. Unit {0}) (λ a p b q. IsIdle view turned.node turned.wires b q) (λ a p b q. IsIdle view turned.node turned.wires b q) old.node old.wires drawn.node drawn.wires turned.node turned.wires (λ a p b q c r x y u i. i) filled step))
+    pub node_idle : pass_of drawn.node ≡ pass_of old.node → last.wires ≡ turned.wires → Stepped view (λ a p b q. IsIdle view drawn.node turned.node turned.wires b q) drawn.node drawn.wires turned.node turned.wires
+        → Stepped view (λ a p b q. IsIdle view old.node last.node last.wires b q) old.node old.wires last.node last.wires
+    node_idle pass wires step = subst (λ (n : Node M). Stepped view (λ a p b q. IsIdle view old.node n last.wires b q) old.node old.wires n last.wires) (sym node)
+        (subst (λ (w : Wires). Stepped view (λ a p b q. IsIdle view old.node turned.node w b q) old.node old.wires turned.node w) (sym wires)
+        (stepped_then view (λ a p b q. Unit {0}) (λ a p b q. IsIdle view drawn.node turned.node turned.wires b q) (λ a p b q. IsIdle view old.node turned.node turned.wires b q) old.node old.wires drawn.node drawn.wires turned.node turned.wires
+        (λ a p b q c r x y u i. idle_before drawn.node old.node turned.node turned.wires c r pass i) filled step))
 
   -- where the receiver of a link has finished, or a closing item was sent, nothing more goes on the node's output
   pub stop_port : (poured last : Linked M) (task : Task) → Behind view task poured → Behind view task last → last.outs.items ≡ poured.outs.items → ((world : ℕ → Wire) → Stand poured.wires world → (q : ℕ) → q < length poured.node.outs.items → (world (out_at poured.node.outs.items q).wire).finished ≡ true → (out_at last.node.outs.items q).done ≡ true)
@@ -256,29 +281,32 @@ module _ {M : Type 0} (view : M → View) where
   after_stop P turned poured stopped last false pour shut still was now = subst P (sym (shut ∙ (still refl ∙ pour))) was
 
   -- what moved in a turn, by its parts
-  pub moved_of : (old drawn turned stopped last : Linked M) (draws turns pours stops shuts : Bool) → last.node ≡ stopped.node → (stops ≡ false → stopped.node ≡ turned.node) → ((p : ℕ) → Shuts (in_end_at drawn.ins.items p) (in_end_at last.ins.items p)) → ((p : ℕ) → TakesOneAtMost (in_end_at old.ins.items p) (in_end_at drawn.ins.items p))
+  pub moved_of : (old drawn turned stopped last : Linked M) (draws turns pours stops shuts : Bool) → pass_of drawn.node ≡ pass_of old.node → last.node ≡ stopped.node → (stops ≡ false → stopped.node ≡ turned.node) → ((p : ℕ) → Shuts (in_end_at drawn.ins.items p) (in_end_at last.ins.items p)) → ((p : ℕ) → TakesOneAtMost (in_end_at old.ins.items p) (in_end_at drawn.ins.items p))
       → (draws ≡ true → (p : ℕ) × InMoves (in_end_at old.ins.items p) (in_end_at drawn.ins.items p))
       → (draws ≡ false → ((p : ℕ) → InRests (in_end_at old.ins.items p) (in_end_at drawn.ins.items p)) × Stepped view (λ a p b q. Unit {0}) old.node old.wires drawn.node drawn.wires)
       → Stepped view (λ a p b q. Unit {0}) drawn.node drawn.wires turned.node turned.wires
-      → (turns ≡ true → Stepped view (λ a p b q. Moves a b p q) drawn.node drawn.wires turned.node turned.wires ⊎ ((IsDone old.node → ⊥) × IsDone turned.node))
+      → (turns ≡ true → Stepped view (λ a p b q. Moves a b p q) drawn.node drawn.wires turned.node turned.wires ⊎ (length (pass_of drawn.node).log < length (pass_of turned.node).log) ⊎ ((IsDone old.node → ⊥) × IsDone turned.node))
       → (pours ≡ true → (q : ℕ) × ((d : OutEnd) → OutMoves (slice_index_or old.outs.items q d) (slice_index_or last.outs.items q d)))
       → (pours ≡ false → stops ≡ true → Stepped view (λ a p b q. Moves a b p q) turned.node turned.wires stopped.node stopped.wires)
       → (shuts ≡ true → (p : ℕ) × InMoves (in_end_at drawn.ins.items p) (in_end_at last.ins.items p))
       → ((((draws || turns) || pours) || stops) || shuts) ≡ true → HasMoved view old last
-  moved_of old drawn turned stopped last true turns pours stops shuts node kept ends takes draw rest step turn pour stop shut e =
+  moved_of old drawn turned stopped last true turns pours stops shuts pass node kept ends takes draw rest step turn pour stop shut e =
       let h = draw refl in
       at_input h.0 (moves_shuts (in_end_at old.ins.items h.0) (in_end_at drawn.ins.items h.0) (in_end_at last.ins.items h.0) h.1 (ends h.0))
-  moved_of old drawn turned stopped last false turns true stops shuts node kept ends takes draw rest step turn pour stop shut e = let h = pour refl in at_output h.0 h.1
-  moved_of old drawn turned stopped last false turns false true shuts node kept ends takes draw rest step turn pour stop shut e =
+  moved_of old drawn turned stopped last false turns true stops shuts pass node kept ends takes draw rest step turn pour stop shut e = let h = pour refl in at_output h.0 h.1
+  moved_of old drawn turned stopped last false turns false true shuts pass node kept ends takes draw rest step turn pour stop shut e =
       node_moved old turned stopped last
       (stepped_then view (λ a p b q. Unit {0}) (λ a p b q. Unit {0}) (λ a p b q. Unit {0}) old.node old.wires drawn.node drawn.wires turned.node turned.wires (λ a p b q c r x y u m. tt) (rest refl).1 step)
       node (stop refl refl)
-  moved_of old drawn turned stopped last false true false false shuts node kept ends takes draw rest step turn pour stop shut e =
+  moved_of old drawn turned stopped last false true false false shuts pass node kept ends takes draw rest step turn pour stop shut e =
       elim (turn refl) [
         | inl s ↦ node_moved old drawn turned last (rest refl).1 (node ∙ kept refl) s
-        | inr d ↦ at_end d.0 (subst (λ (n : Node M). IsDone n) (sym (node ∙ kept refl)) d.1)
+        | inr more ↦ elim more [
+          | inl l ↦ at_pass (subst (λ (n : Node M). length (pass_of old.node).log < length (pass_of n).log) (sym (node ∙ kept refl)) (subst (λ (p : Passing). length p.log < length (pass_of turned.node).log) pass l))
+          | inr d ↦ at_end d.0 (subst (λ (n : Node M). IsDone n) (sym (node ∙ kept refl)) d.1)
+        ]
       ]
-  moved_of old drawn turned stopped last false false false false shuts node kept ends takes draw rest step turn pour stop shut e =
+  moved_of old drawn turned stopped last false false false false shuts pass node kept ends takes draw rest step turn pour stop shut e =
       let h = shut e in
       let o : InEnd = in_end_at old.ins.items h.0 in
       let d : InEnd = in_end_at drawn.ins.items h.0 in

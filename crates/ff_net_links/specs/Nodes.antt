@@ -5,6 +5,7 @@ use Rattle.ff_link.specs.Views.{Link, Sending, Receiving}
 use Rattle.ff_net.specs.declared.node.Node.{Node}
 use Rattle.ff_net.specs.Ways.{lane_at}
 use Rattle.ff_net.specs.Laws.{FaultStep}
+use Rattle.ff_net.specs.Logs.{PassStep}
 use Rattle.ff_net.specs.Pasts.{Past, Task, IsIn, start}
 use Rattle.ff_net.specs.Worlds.{Wire, Stand, fresh, lanes_of}
 use Rattle.ff_net.specs.Nodes.{NodeStands, IsShaped, IsDone, in_wires_of, out_wires_of}
@@ -68,18 +69,21 @@ pub record Behind {M : Type 0} (view : M → View) (task : Task) (l : Linked M) 
   pub ins : (p : ℕ) → p < length l.ins.items → InEndStands (in_end_at l.ins.items p) (lane_at (lanes_of l.wires) (in_end_at l.ins.items p).wire) (world (in_end_at l.ins.items p).wire)
   pub outs : (q : ℕ) (d : OutEnd) → q < length l.outs.items → OutEndStands (slice_index_or l.outs.items q d) (lane_at (lanes_of l.wires) (slice_index_or l.outs.items q d).wire) (world (slice_index_or l.outs.items q d).wire)
 
--- from one moment to a later one a node keeps its wires, its links and all lanes; and whatever task was behind it is
+-- from one moment to a later one a node keeps its wires, its links, all lanes and its source, and its pass goes on; and whatever
+-- task was behind it is
 pub record Follows {M : Type 0} (view : M → View) (old new : Linked M) : Type 0 where
   pub ins_same : in_wires_of new.node ≡ in_wires_of old.node
   pub outs_same : out_wires_of new.node ≡ out_wires_of old.node
   pub in_lanes_same : (view new.node.machine).in_lanes ≡ (view old.node.machine).in_lanes
   pub out_lanes_same : (view new.node.machine).out_lanes ≡ (view old.node.machine).out_lanes
+  pub source_same : (view new.node.machine).source ≡ (view old.node.machine).source
   pub lanes_same : lanes_of new.wires ≡ lanes_of old.wires
   pub in_ends_same : in_ends_wires new.ins.items ≡ in_ends_wires old.ins.items
   pub out_ends_same : out_ends_wires new.outs.items ≡ out_ends_wires old.outs.items
   pub in_links_same : in_ends_links new.ins.items ≡ in_ends_links old.ins.items
   pub out_links_same : out_ends_links new.outs.items ≡ out_ends_links old.outs.items
   pub fares : FaultStep (view old.node.machine) (view new.node.machine)
+  pub passes : PassStep old.node.pass new.node.pass
   pub goes : (task : Task) → Behind view task old → Behind view task new
 
 -- the node may be turned: it is wired, and where an output claims that what it sends is valid, some task is behind it

@@ -1,9 +1,11 @@
 -- What running does to each node.
 use Rattle.std.specs.Prelude.{◌≡◌, ℕ, ◌<◌, true, List, slice_index_or, length}
+use Rattle.ff_net.specs.Nodes.{IsOf}
 use Rattle.ff_net.specs.Views.{View}
+use Rattle.ff_sched.specs.Passing.{Scheduler}
 use Rattle.ff_net_links.specs.declared.linked.Linked.{Linked}
 use Rattle.ff_net_links.specs.declared.worker.Back.{Back}
-use Rattle.ff_net_links.specs.Nodes.{Follows, IsLawful, HasEnded}
+use Rattle.ff_net_links.specs.Nodes.{Follows, IsLawful, HasEnded, node_of}
 
 module _ {M : Type 0} (view : M → View) where
   -- it was turned until it was done
@@ -17,6 +19,10 @@ module _ {M : Type 0} (view : M → View) where
   -- each is lawful
   pub record AllLawful (nodes : List (Linked M)) : Type 0 where
     pub each : (i : ℕ) (d : Linked M) → i < length nodes → IsLawful view (slice_index_or nodes i d)
+
+  -- the pass of each is of this cell, and each source one of the cell's
+  pub record AllOf (cell : Scheduler) (nodes : List (Linked M)) : Type 0 where
+    pub each : (i : ℕ) (d : Linked M) → i < length nodes → IsOf view cell (node_of (slice_index_or nodes i d))
 
   -- what came back is the node after some turns, and where it says so, it is done
   abbrev pub Came : Linked M → Back M → Type 0

@@ -7,7 +7,8 @@ use Rattle.ff_link.specs.Views.{Link, Sending}
 use Rattle.ff_link.specs.declared.answers.Settled.{Settled}
 use Rattle.ff_net.specs.declared.node.Node.{Node}
 use Rattle.ff_net.specs.Pasts.{Task, IsIn}
-use Rattle.ff_net.specs.Nodes.{AreApart, IsSound, in_wires_of, machine_of, out_wires_of}
+use Rattle.ff_net.specs.Nodes.{AreApart, IsSound, in_wires_of, machine_of, out_wires_of, pass_of}
+use Rattle.ff_sched.specs.Passing.{Passing}
 use Rattle.ff_net.specs.declared.fault.Fault.{Fault}
 use Rattle.ff_net.specs.declared.fault.Fault.TheVariants.{NoMemory}
 use Rattle.ff_net.specs.Views.{View}
@@ -20,6 +21,10 @@ use Rattle.ff_net_links.specs.Nodes.{Behind, HasEnded, in_ends_wires, out_ends_w
 -- the nodes, as they are on wires of their own
 abbrev pub nodes_of : {M : Type 0} → List (Linked M) → List (Node M)
 nodes_of ls = map node_of ls
+
+-- their passes
+abbrev pub passes_in : {M : Type 0} → List (Linked M) → List Passing
+passes_in ls = map (λ l. pass_of (node_of l)) ls
 
 -- with these tasks something can be behind each
 abbrev pub AllBehind : {M : Type 0} → (M → View) → (ℕ → Task) → List (Linked M) → Type 0

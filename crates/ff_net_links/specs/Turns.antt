@@ -1,8 +1,8 @@
 -- What a turn of a node does at its links.
-use Rattle.std.specs.Prelude.{◌≡◌, ◌≢◌, ℕ, ◌⊎◌, true, false, List, [], ◌∷◌, ◌++◌, slice_index_or, None, is_some}
+use Rattle.std.specs.Prelude.{◌≡◌, ◌≢◌, ℕ, ◌<◌, ◌⊎◌, true, false, List, [], ◌∷◌, ◌++◌, length, slice_index_or, None, is_some}
 use Rattle.ff_frame.specs.declared.item.Item.{Item}
 use Rattle.ff_frame.specs.Items.{Closes}
-use Rattle.ff_net.specs.Nodes.{IsDone}
+use Rattle.ff_net.specs.Nodes.{IsDone, pass_of}
 use Rattle.ff_net.specs.Steps.{Moves, Stepped}
 use Rattle.ff_net.specs.Turns.{IsIdle}
 use Rattle.ff_net.specs.declared.wires.Wires.{Wires}
@@ -65,15 +65,19 @@ abbrev pub IsWaiting : OutEnd → Type 0
 IsWaiting end = (end.done ≡ false) × (is_some end.held ≡ true)
 
 module _ {M : Type 0} (view : M → View) (old new : Linked M) where
-  -- something moved: at an end, or at the node, which has become done or has moved whatever was behind it and its wires
+  -- something moved: at an end, or at the node, which has become done, was granted or told something, or has moved whatever was
+  -- behind it and its wires
   pub data HasMoved : Type 0 where
     at_input : (p : ℕ) → InMoves (in_end_at (ins_of old) p) (in_end_at (ins_of new) p) → HasMoved
     at_output : (q : ℕ) → ((d : OutEnd) → OutMoves (slice_index_or (outs_of old) q d) (slice_index_or (outs_of new) q d)) → HasMoved
     at_node : (wires : Wires) → Stepped view (λ a p b q. Moves a b p q) (node_of old) (wires_on old) (node_of new) wires → HasMoved
     at_end : (IsDone (node_of old) → ⊥) → IsDone (node_of new) → HasMoved
+    at_pass : length (pass_of (node_of old)).log < length (pass_of (node_of new)).log → HasMoved
 
   -- nothing moved at any end, and the node is idle, whatever is behind it and its wires, or had been done
   pub record HasRested : Type 0 where
     pub ins : (p : ℕ) → InRests (in_end_at (ins_of old) p) (in_end_at (ins_of new) p)
     pub outs : (q : ℕ) (d : OutEnd) → OutRests (slice_index_or (outs_of old) q d) (slice_index_or (outs_of new) q d)
-    pub node : Stepped view (λ a p b q. IsIdle view (node_of new) (wires_on new) b q) (node_of old) (wires_on old) (node_of new) (wires_on new) ⊎ IsDone (node_of old)
+    pub node : Stepped view (λ a p b q. IsIdle view (node_of old) (node_of new) (wires_on new) b q)
+        (node_of old) (wires_on old) (node_of new) (wires_on new)
+        ⊎ IsDone (node_of old)

@@ -1,5 +1,5 @@
-// How the workers at the two ends of a link wake each other. No claim rests on it: a worker that nobody wakes goes on when
-// its sleep ends.
+// How the workers at the two ends of a link wake each other, and how one that tells the scheduler something wakes those that
+// wait for a grant. No claim rests on it: a worker that nobody wakes goes on when its sleep ends.
 use std::alloc::{AllocError, Global};
 use std::sync::Wait;
 use std::sync::atomic::{AtomicBool, AtomicU64, Ordering};
@@ -22,6 +22,8 @@ struct Bell {
     parker: Parker,
     // Whether the caller turns the node of this worker, so that its own bell rings instead.
     here: AtomicBool,
+    // Whether this worker asks to be woken once the scheduler was told something.
+    grant: AtomicBool,
 }
 
 /// A bell for each worker and behind them one for the caller, and what the workers at each link ask of each other, by the
@@ -30,12 +32,15 @@ struct Bell {
 pub struct Bells {
     bells: Vec<Bell>,
     links: Vec<Asks>,
+    // How many ask to be woken once the scheduler was told something.
+    choked: AtomicU64,
 }
 
 fn new_bell() -> Bell {
     Bell {
         parker: Parker::new(),
         here: AtomicBool::new(false),
+        grant: AtomicBool::new(false),
     }
 }
 
@@ -45,6 +50,7 @@ impl Bells {
         let mut all = Bells {
             bells: Vec::new(alloc),
             links: Vec::new(alloc),
+            choked: AtomicU64::new(0),
         };
         for _ in 0..workers {
             all.bells.push(new_bell())?;
@@ -98,6 +104,42 @@ impl Bells {
     pub fn ask_for_item(&self, link: usize, wants: bool) {
         if let Some(asks) = self.links.get(link) {
             asks.item.store(wants, Ordering::SeqCst);
+        }
+    }
+
+    /// This worker asks to be woken once the scheduler was told something, or no longer.
+    pub fn ask_for_grant(&self, worker: usize, wants: bool) {
+        let Some(bell) = self.bells.get(worker) else {
+            return;
+        };
+        if wants {
+            self.choked.fetch_add(1, Ordering::SeqCst);
+            if !bell.grant.swap(true, Ordering::SeqCst) {
+                return;
+            }
+        } else if !bell.grant.swap(false, Ordering::SeqCst) {
+            return;
+        }
+        self.choked.fetch_sub(1, Ordering::SeqCst);
+    }
+
+    /// The scheduler was told something. It wakes each worker that asks for it.
+    pub fn told(&self) {
+        if self.choked.load(Ordering::SeqCst) == 0 {
+            return;
+        }
+        for worker in 0..self.bells.len() {
+            self.wake_choked(worker);
+        }
+    }
+
+    fn wake_choked(&self, worker: usize) {
+        let Some(bell) = self.bells.get(worker) else {
+            return;
+        };
+        if bell.grant.swap(false, Ordering::SeqCst) {
+            self.choked.fetch_sub(1, Ordering::SeqCst);
+            self.ring(worker);
         }
     }
 

@@ -9,8 +9,9 @@
 //!                  one thread, the node's own
 //! ```
 //!
-//! So all that is known of a node on wires is known here, and nothing but the links is shared. That a run ends is not
-//! promised.
+//! So all that is known of a node on wires is known here, and nothing is shared but the links and the scheduler's cell, at
+//! which each node has its pass. A node whose source may not be read sleeps until another has told the cell something. That a
+//! run ends is not promised.
 #![tactic(auto)]
 
 mod bells;

@@ -1,12 +1,14 @@
 // A node with the ends of its links.
-ghost use Rattle.std.specs.Prelude.{◌≡◌, ◌<◌, ◌⊎◌, ℕ, length, slice_index_or, true, false, None, Some};
+ghost use Rattle.std.specs.Prelude.{◌≡◌, ◌<◌, ◌≤◌, ◌+◌, ◌⊎◌, ℕ, length, slice_index_or, true, false, None, Some};
 ghost use Rattle.ff_frame.specs.Ports.{IsClosed};
 ghost use Rattle.ff_net_links.specs.Ends.{in_end_at, taken_of};
 ghost use Rattle.ff_net_links.specs.declared.ends.OutEnd.{OutEnd};
 ghost use Rattle.ff_net_links.specs.Nodes.{Follows, IsLawful, HasEnded, Behind, IsBeginning, AreWired, IsWired, node_of, wires_on, lanes_on, ins_of, outs_of};
 ghost use Rattle.ff_net_links.specs.Turns.{TakesOneAtMost, InMoves, InRests, Shuts, SendsOneAtMost, OutMoves, OutRests, IsWaiting, HasMoved, HasRested};
 ghost use Rattle.ff_net.specs.declared.fault.Fault.{Fault};
-ghost use Rattle.ff_net.specs.Nodes.{IsSound, IsDone, NodeStands, HasFinished, IsOver, machine_of, inputs_of, outputs_of, in_wire_of, out_wire_of};
+ghost use Rattle.ff_net.specs.Logs.{tickets_in};
+ghost use Rattle.ff_net.specs.Nodes.{IsOf, IsSound, IsDone, NodeStands, HasFinished, IsOver};
+ghost use Rattle.ff_net.specs.Nodes.{machine_of, pass_of, inputs_of, outputs_of, in_wire_of, out_wire_of};
 ghost use Rattle.ff_net.specs.Pasts.{Past, Task};
 ghost use Rattle.ff_net.specs.Steps.{Stepped, Moves, Fills, IsDue};
 ghost use Rattle.ff_net.specs.Turns.{IsIdle};
@@ -16,6 +18,7 @@ use crate::bells::Bells;
 use crate::ends::{InEnd, OutEnd, draw_at, pour_at, shut_at};
 use ff_link::Sender;
 use ff_net::{Fault, Machine, Node, Turn, Wires};
+use ff_sched::SchedCell;
 use std::sync::Wait;
 
 /// A node on wires of its own, and the ends of its links at these wires.
@@ -108,7 +111,8 @@ impl<M: Machine> Linked<M> {
     pub fn into_machine(self) -> M
         ensures { result ≡ machine_of (node_of self) }
     {
-        self.node.into_machine()
+        let (machine, _pass) = self.node.into_parts();
+        machine
     }
 
     /// The node and the ends of its links.
@@ -150,9 +154,14 @@ impl<M: Machine> Linked<M> {
         }
     }
 
+    /// How many events its pass has added.
+    pub(crate) fn logged(&self) -> u64 {
+        self.node.logged()
+    }
+
     /// Asks to be woken: once an eighth of what a full link holds is left there, where an output waits for room, and else
-    /// once there is an item to take.
-    pub(crate) fn ask(&self, bells: &Bells) {
+    /// once there is an item to take or, at a source, the scheduler was told something.
+    pub(crate) fn ask(&self, bells: &Bells, worker: usize) {
         if self.waits_for_room() {
             for end in &self.outs {
                 if !end.done && end.held.is_some() {
@@ -163,21 +172,26 @@ impl<M: Machine> Linked<M> {
             for end in &self.ins {
                 bells.ask_for_item(end.wire, end.taking.is_some());
             }
+            if self.node.source().is_some() {
+                bells.ask_for_grant(worker, true);
+            }
         }
     }
 
     /// Asks no longer to be woken.
-    pub(crate) fn stop_asking(&self, bells: &Bells) {
+    pub(crate) fn stop_asking(&self, bells: &Bells, worker: usize) {
         for end in &self.outs {
             bells.ask_for_room(end.wire, 0);
         }
         for end in &self.ins {
             bells.ask_for_item(end.wire, false);
         }
+        bells.ask_for_grant(worker, false);
     }
 
-    /// Wakes those at the other ends of its links who ask for what was taken and put.
-    pub(crate) fn tell(&self, bells: &Bells) {
+    /// Wakes those at the other ends of its links who ask for what was taken and put, and those who wait for a grant, where its
+    /// pass has added events since there were so many.
+    pub(crate) fn tell(&self, bells: &Bells, logged: u64) {
         for end in &self.ins {
             let count = match &end.taking {
                 Some(receiver) => receiver.taken(),
@@ -187,6 +201,9 @@ impl<M: Machine> Linked<M> {
         }
         for end in &self.outs {
             bells.put(end.wire);
+        }
+        if self.logged() != logged {
+            bells.told();
         }
     }
 
@@ -214,6 +231,7 @@ impl<M: Machine> Linked<M> {
         requires { IsLawful M.view self.old }
         ensures follows { Follows M.view self.old self.new }
         ensures outs { self.new.outs ≡ self.old.outs }
+        ensures pass { pass_of self.new.node ≡ pass_of self.old.node }
         ensures takes { (p : ℕ) → TakesOneAtMost (in_end_at self.old.ins.items p) (in_end_at self.new.ins.items p) }
         ensures moved { result ≡ true → (p : ℕ) × InMoves (in_end_at self.old.ins.items p) (in_end_at self.new.ins.items p) }
         ensures still { result ≡ false → ((p : ℕ) → InRests (in_end_at self.old.ins.items p) (in_end_at self.new.ins.items p)) × Stepped M.view (λ a p b q. Unit {0}) self.old.node self.old.wires self.new.node self.new.wires }
@@ -236,6 +254,7 @@ impl<M: Machine> Linked<M> {
         ensures ins { self.new.ins ≡ self.old.ins }
         ensures outs { self.new.outs ≡ self.old.outs }
         ensures wires { self.new.wires ≡ self.old.wires }
+        ensures pass { pass_of self.new.node ≡ pass_of self.old.node }
         ensures stepped { Stepped M.view (Fills M.view result self.old.node) self.old.node self.old.wires self.new.node self.new.wires }
     {
         self.node.is_due()
@@ -281,20 +300,25 @@ impl<M: Machine> Linked<M> {
         moved
     }
 
-    // A turn of the node on its wires. It says whether something moved, or the node has become done.
-    fn turn_node(&mut self, was_done: bool) -> bool
-        requires { IsLawful M.view self.old }
+    // A turn of the node on its wires. It says whether something moved, was granted or told, or the node has become done.
+    fn turn_node<R: Wait>(&mut self, rt: &R, cell: &SchedCell, was_done: bool) -> bool
+        requires lawful { IsLawful M.view self.old }
+        requires cell { IsOf M.view cell.now (node_of self.old) }
         ensures follows { Follows M.view self.old self.new }
         ensures ins { self.new.ins ≡ self.old.ins }
         ensures outs { self.new.outs ≡ self.old.outs }
         ensures stepped { Stepped M.view (λ a p b q. Unit {0}) self.old.node self.old.wires self.new.node self.new.wires }
-        ensures moved { result ≡ true → Stepped M.view (λ a p b q. Moves a b p q) self.old.node self.old.wires self.new.node self.new.wires ⊎ ((was_done ≡ false) × IsDone self.new.node) }
-        ensures still { result ≡ false → Stepped M.view (λ a p b q. IsIdle M.view self.new.node self.new.wires b q) self.old.node self.old.wires self.new.node self.new.wires ⊎ (was_done ≡ true) }
+        ensures moved { result ≡ true → Stepped M.view (λ a p b q. Moves a b p q) self.old.node self.old.wires self.new.node self.new.wires
+            ⊎ (length (pass_of self.old.node).log < length (pass_of self.new.node).log) ⊎ ((was_done ≡ false) × IsDone self.new.node) }
+        ensures once { length (tickets_in (pass_of self.new.node).log) ≤ length (tickets_in (pass_of self.old.node).log) + 1 }
+        ensures still { result ≡ false → Stepped M.view (λ a p b q. IsIdle M.view self.old.node self.new.node self.new.wires b q)
+            self.old.node self.old.wires self.new.node self.new.wires
+            ⊎ (was_done ≡ true) }
         ensures closed { (world : ℕ → Wire) (past : Past) → NodeStands M.view self.new.node world past → (p : ℕ) → p < inputs_of self.new.node → IsClosed (world (in_wire_of self.new.node p)).taken → HasFinished self.new.node p }
         ensures spent { (p : ℕ) → p < inputs_of self.new.node → (M.view (machine_of self.new.node)).spent p → HasFinished self.new.node p }
         ensures faulty { (IsSound M.view self.new.node → ⊥) → (p : ℕ) → p < inputs_of self.new.node → HasFinished self.new.node p }
     {
-        match self.node.turn(&mut self.wires) {
+        match self.node.turn(rt, cell, &mut self.wires) {
             Turn::Moved => true,
             Turn::NotYet => false,
             Turn::Done => !was_done,
@@ -307,6 +331,7 @@ impl<M: Machine> Linked<M> {
         ensures follows { Follows M.view self.old self.new }
         ensures ins { self.new.ins ≡ self.old.ins }
         ensures outs { self.new.outs ≡ self.old.outs }
+        ensures pass { pass_of self.new.node ≡ pass_of self.old.node }
         ensures moved { result ≡ true → Stepped M.view (λ a p b q. Moves a b p q) self.old.node self.old.wires self.new.node self.new.wires }
         ensures still { result ≡ false → (self.new.node ≡ self.old.node) × (self.new.wires ≡ self.old.wires) }
         ensures stops { (world : ℕ → Wire) → Stand self.old.wires world → (q : ℕ) → q < outputs_of self.old.node → (world (out_wire_of self.old.node q)).finished ≡ true → IsOver self.new.node q }
@@ -317,14 +342,17 @@ impl<M: Machine> Linked<M> {
         self.node.stop_finished(&mut self.wires)
     }
 
-    /// One turn: at most one item is taken from each link and one put on each. Nothing is taken from a link where an item
-    /// is due, or while an output waits for room. At its end each output that was told that its receiver has finished is
-    /// stopped, and the link of each input that the node has finished is finished too: where its closing item was taken, it
-    /// is spent, or the node has a fault.
-    pub fn turn<R: Wait>(&mut self, rt: &R) -> Turn
+    /// One turn: at most one item is taken from each link and one put on each, and a source takes at most one grant from the
+    /// scheduler's cell. Nothing is taken from a link where an item is due, or while an output waits for room. The node tells the
+    /// cell the events that are due. At the turn's end each output that was told that its receiver has finished is stopped, and
+    /// the link of each input that the node has finished is finished too: where its closing item was taken, it is spent, or the
+    /// node has a fault.
+    pub fn turn<R: Wait>(&mut self, rt: &R, cell: &SchedCell) -> Turn
         requires lawful { IsLawful M.view self.old }
+        requires cell { IsOf M.view cell.now (node_of self.old) }
         ensures follows { Follows M.view self.old self.new }
         ensures done { result ≡ Turn.Done → HasEnded self.new }
+        ensures once { length (tickets_in (pass_of (node_of self.new)).log) ≤ length (tickets_in (pass_of (node_of self.old)).log) + 1 }
         ensures takes { (p : ℕ) → TakesOneAtMost (in_end_at (ins_of self.old) p) (in_end_at (ins_of self.new) p) }
         ensures sends { (q : ℕ) (d : OutEnd) → SendsOneAtMost (slice_index_or (outs_of self.old) q d) (slice_index_or (outs_of self.new) q d) }
         ensures waits { (q : ℕ) (d : OutEnd) → q < length (outs_of self.old) → IsWaiting (slice_index_or (outs_of self.old) q d) → (p : ℕ) → taken_of (in_end_at (ins_of self.new) p) ≡ taken_of (in_end_at (ins_of self.old) p) }
@@ -340,7 +368,7 @@ impl<M: Machine> Linked<M> {
     {
         let was_done = self.node.is_done();
         let drawn = self.draw_if_free(rt);
-        let turned = self.turn_node(was_done);
+        let turned = self.turn_node(rt, cell, was_done);
         let poured = self.pour_all(rt);
         let stopped = self.stop_finished();
         let shut = self.shut_ends(rt);

@@ -3,6 +3,7 @@ ghost use Rattle.std.specs.Prelude.{◌≡◌, ◌<◌, ◌≤◌, ℕ, [], leng
 
 use ff_link::{Sender, Settled};
 use ff_net::Fault;
+use ff_sched::Pass;
 use std::alloc::{AllocError, Global};
 
 /// Room for settling the links of so many nodes, numbered below so many.
@@ -11,6 +12,7 @@ pub struct Room<M> {
     table: Vec<Option<Sender>>,
     settled: Vec<Settled>,
     machines: Vec<M>,
+    passes: Vec<Pass>,
     faults: Vec<Option<Fault>>,
     ghost places: { length settled.items ≡ length table.items },
 }
@@ -21,6 +23,7 @@ pub(crate) struct Lists<M> {
     pub(crate) table: Vec<Option<Sender>>,
     pub(crate) settled: Vec<Settled>,
     pub(crate) machines: Vec<M>,
+    pub(crate) passes: Vec<Pass>,
     pub(crate) faults: Vec<Option<Fault>>,
 }
 
@@ -56,29 +59,35 @@ impl<M: Drop> Room<M> {
         let settled = none_settled(alloc, links)?;
         let mut machines = Vec::new(alloc);
         machines.reserve(nodes)?;
+        let mut passes = Vec::new(alloc);
+        passes.reserve(nodes)?;
         let mut faults = Vec::new(alloc);
         faults.reserve(nodes)?;
         Ok(Room {
             table,
             settled,
             machines,
+            passes,
             faults,
         })
     }
 
-    /// Its lists: of senders by link, of what went over each link, and for the machines and their faults.
+    /// Its lists: of senders by link, of what went over each link, and for the machines, their passes and their faults.
     pub(crate) fn into_lists(self) -> Lists<M>
         ensures table { IsUnused self → (w : ℕ) (d : _) → w < length result.table.items → slice_index_or result.table.items w d ≡ None }
         ensures links { length result.table.items ≡ links_of self }
         ensures places { length result.settled.items ≡ links_of self }
         ensures machines { IsUnused self → result.machines.items ≡ [] }
+        ensures passes { IsUnused self → result.passes.items ≡ [] }
         ensures faults { IsUnused self → result.faults.items ≡ [] }
-        ensures nodes { (most_nodes self ≤ vec_capacity result.machines) × (most_nodes self ≤ vec_capacity result.faults) }
+        ensures nodes { (most_nodes self ≤ vec_capacity result.machines) × (most_nodes self ≤ vec_capacity result.passes)
+            × (most_nodes self ≤ vec_capacity result.faults) }
     {
         Lists {
             table: self.table,
             settled: self.settled,
             machines: self.machines,
+            passes: self.passes,
             faults: self.faults,
         }
     }

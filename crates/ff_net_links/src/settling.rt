@@ -13,13 +13,15 @@ ghost use Rattle.ff_link.specs.Views.{Link};
 ghost use Rattle.ff_net_links.specs.declared.ends.OutEnd.{OutEnd};
 ghost use Rattle.ff_net_links.specs.Ends.{in_link, out_link, in_end_at};
 ghost use Rattle.ff_net_links.specs.Rooms.{IsUnused, links_of, most_nodes};
-ghost use Rattle.ff_net_links.specs.Settling.{HasSender, ComeAfter, IsTable, IsSettled, IsSenderIn, AreLinked, AllEnded, AllSettled, AllBehind, AreFaultsOf, AreMeeting, ends_of, nodes_of};
+ghost use Rattle.ff_net_links.specs.Settling.{HasSender, ComeAfter, IsTable, IsSettled, IsSenderIn, AreLinked, AllEnded, AllSettled};
+ghost use Rattle.ff_net_links.specs.Settling.{AllBehind, AreFaultsOf, AreMeeting, ends_of, nodes_of, passes_in};
 
 use crate::ends::{InEnd, OutEnd};
 use crate::linked::Linked;
 use crate::room::{Lists, Room};
 use ff_link::{Sender, Settled, settle};
 use ff_net::{Fault, Machine};
+use ff_sched::Pass;
 
 // Settles the link of an end that has finished, where its sender is in the table.
 fn settle_end(table: &mut Vec<Option<Sender>>, settled: &mut Vec<Settled>, end: InEnd)
@@ -116,23 +118,29 @@ fn settle_in<M: Machine + Drop>(
     mut settled: Vec<Settled>,
     nodes: Vec<Linked<M>>,
     mut machines: Vec<M>,
-) -> (Vec<M>, Vec<Settled>)
+    mut passes: Vec<Pass>,
+) -> (Vec<M>, Vec<Pass>, Vec<Settled>)
     requires places { length settled.items ≡ length table.items }
     requires ended { AllEnded nodes.items }
     requires linked { (links : ℕ → Link) × AreLinked links nodes.items }
     requires table { (links : ℕ → Link) → IsTable (ends_of nodes.items) links table.items }
     requires room { (machines.items ≡ []) × (vec_len nodes ≤ vec_capacity machines) }
+    requires passes { (passes.items ≡ []) × (vec_len nodes ≤ vec_capacity passes) }
     ensures count { length result.0.items ≡ length nodes.items }
     ensures machines { (k : ℕ) (d : _) (e : _) → k < length nodes.items → slice_index_or result.0.items k e ≡ machine_of (node_of (slice_index_or nodes.items k d)) }
-    ensures settled { ComeAfter (length table.items) nodes.items → AllSettled result.1.items nodes.items }
+    ensures passes { result.1.items ≡ passes_in nodes.items }
+    ensures room { vec_capacity passes ≤ vec_capacity result.1 }
+    ensures settled { ComeAfter (length table.items) nodes.items → AllSettled result.2.items nodes.items }
 {
     for linked in nodes {
         let (node, ins, outs) = linked.into_parts();
         settle_ends(&mut table, &mut settled, ins);
         store_ends(&mut table, outs);
-        machines.push_reserved(node.into_machine());
+        let (machine, pass) = node.into_parts();
+        machines.push_reserved(machine);
+        passes.push_reserved(pass);
     }
-    (machines, settled)
+    (machines, passes, settled)
 }
 
 /// What became of nodes and of the links between them.
@@ -140,14 +148,17 @@ fn settle_in<M: Machine + Drop>(
 pub struct Ran<M> {
     /// Their machines, in the order of the nodes.
     pub machines: Vec<M>,
+    /// Their passes, in this order.
+    pub passes: Vec<Pass>,
     /// What went wrong at each.
     pub faults: Vec<Option<Fault>>,
     /// What went over each link, by its number.
     pub settled: Vec<Settled>,
 }
 
-/// Settles the links of nodes that have ended, in a room for at least so many nodes, and gives their machines and their faults
-/// in the order of the nodes. It asks for no memory.
+/// Settles the links of nodes that have ended, in a room for at least so many nodes, and gives their machines, their passes and
+/// their faults in the order of the nodes. It asks for no memory, and in the list of passes there is still room for as many as
+/// the room is for.
 ///
 /// Where no link leads from two nodes or to two, and each that leads to a node leaves an earlier one, what was taken from
 /// a link is the beginning of what was sent over it, and the rest is at most its size; so the nodes meet the solution of the
@@ -159,6 +170,8 @@ pub fn settle_all<M: Machine + Drop>(nodes: Vec<Linked<M>>, room: Room<M>) -> Ra
     requires fits { length nodes.items ≤ most_nodes room }
     ensures count { length result.machines.items ≡ length nodes.items }
     ensures machines { (k : ℕ) (d : _) (e : _) → k < length nodes.items → slice_index_or result.machines.items k e ≡ machine_of (node_of (slice_index_or nodes.items k d)) }
+    ensures passes { result.passes.items ≡ passes_in nodes.items }
+    ensures room { most_nodes room ≤ vec_capacity result.passes }
     ensures faults { AreFaultsOf M.view (nodes_of nodes.items) result.faults.items }
     ensures settled { ComeAfter (links_of room) nodes.items → AllSettled result.settled.items nodes.items }
     ensures solved { (tasks : ℕ → Task) (lanes : List Lane) (begun : List (Node _)) → AllBehind M.view tasks nodes.items → AreMeeting lanes nodes.items → length lanes ≤ links_of room → IsUpward [] (parts_of M.view tasks (nodes_of nodes.items)) → AllFare M.view begun (nodes_of nodes.items)
@@ -168,12 +181,14 @@ pub fn settle_all<M: Machine + Drop>(nodes: Vec<Linked<M>>, room: Room<M>) -> Ra
         table,
         settled,
         machines,
+        passes,
         faults,
     } = room.into_lists();
     let faults = note_faults(&nodes, faults);
-    let (machines, settled) = settle_in(table, settled, nodes, machines);
+    let (machines, passes, settled) = settle_in(table, settled, nodes, machines, passes);
     Ran {
         machines,
+        passes,
         faults,
         settled,
     }

@@ -1,7 +1,7 @@
 //! All nodes at once.
 ghost use Rattle.std.specs.Prelude.{◌≡◌, ◌+◌, ◌≤◌, ℕ, [], List, length, vec_len, vec_capacity, IfOk, IfErr};
 ghost use Rattle.ff_net_links.specs.declared.linked.Linked.{Linked};
-ghost use Rattle.ff_net_links.specs.Runs.{AllRan, AllLawful};
+ghost use Rattle.ff_net_links.specs.Runs.{AllRan, AllLawful, AllOf};
 ghost use Rattle.ff_net_links.specs.Workers.{AllServe};
 
 use crate::bells::Bells;
@@ -9,6 +9,7 @@ use crate::linked::Linked;
 use crate::rest::{Rest, SPINS_FOR_ITEMS, Step};
 use crate::worker::{Worker, finish, start, turn_here};
 use ff_net::{Machine, Turn};
+use ff_sched::SchedCell;
 use std::alloc::{AllocError, Global};
 use std::hint::spin_loop;
 use std::sync::Wait;
@@ -27,14 +28,19 @@ fn round_of(all: bool, moved: bool) -> Turn {
 }
 
 // One turn of each node that is here. Done where each is done.
-fn round<M: Machine, R: Wait>(rt: &R, bells: &Bells, workers: &mut [Worker<M>]) -> Turn
-    requires { (ns : List (Linked _)) × AllServe M.view ns workers.old }
+fn round<M: Machine, R: Wait>(
+    rt: &R,
+    cell: &SchedCell,
+    bells: &Bells,
+    workers: &mut [Worker<M>],
+) -> Turn
+    requires { (ns : List (Linked _)) × AllServe M.view ns workers.old × AllOf M.view cell.now ns }
     ensures { (ns : List (Linked _)) → AllServe M.view ns workers.old → AllServe M.view ns workers.new }
 {
     let mut all = true;
     let mut moved = false;
     for worker in workers.iter_mut() {
-        let turn = turn_here(rt, bells, worker);
+        let turn = turn_here(rt, cell, bells, worker);
         all = all & (turn == Turn::Done);
         moved = moved | (turn == Turn::Moved);
     }
@@ -42,13 +48,13 @@ fn round<M: Machine, R: Wait>(rt: &R, bells: &Bells, workers: &mut [Worker<M>]) 
 }
 
 // Turns the nodes that are here, one turn each in rounds, until each is done.
-fn rounds<M: Machine, R: Wait>(rt: &R, bells: &Bells, workers: &mut [Worker<M>])
-    requires { (ns : List (Linked _)) × AllServe M.view ns workers.old }
+fn rounds<M: Machine, R: Wait>(rt: &R, cell: &SchedCell, bells: &Bells, workers: &mut [Worker<M>])
+    requires { (ns : List (Linked _)) × AllServe M.view ns workers.old × AllOf M.view cell.now ns }
     ensures { (ns : List (Linked _)) → AllServe M.view ns workers.old → AllServe M.view ns workers.new }
 {
     let mut rest = Rest::new();
     for _ in rt.forever() {
-        match round(rt, bells, workers) {
+        match round(rt, cell, bells, workers) {
             Turn::Done => return,
             Turn::Moved => {
                 rest.end();
@@ -70,19 +76,21 @@ fn wait_here<R: Wait>(rt: &R, bells: &Bells, rest: &mut Rest) {
 fn start_all<'s, E, M: Machine + Send + Drop + 's, R: Threads + Wait + Sync>(
     scope: &Scope<'s, E>,
     rt: &'s R,
+    cell: &'s SchedCell,
     flags: &'s [AtomicBool],
     bells: &'s Bells,
     nodes: Vec<Linked<M>>,
     mut workers: Vec<Worker<M>>,
 ) -> Vec<Worker<M>>
     requires lawful { AllLawful M.view nodes.items }
+    requires cell { AllOf M.view cell.now nodes.items }
     requires flags { vec_len nodes ≤ length flags.now }
     requires room { (workers.items ≡ []) × (vec_len nodes ≤ vec_capacity workers) }
     ensures { AllServe M.view nodes.items result.items }
 {
     let mut next = 0;
     for node in nodes {
-        workers.push_reserved(start(scope, rt, &flags[next], bells, next, node));
+        workers.push_reserved(start(scope, rt, cell, &flags[next], bells, next, node));
         next += 1;
     }
     workers
@@ -90,16 +98,17 @@ fn start_all<'s, E, M: Machine + Send + Drop + 's, R: Threads + Wait + Sync>(
 
 fn finish_all<M: Machine + Drop, R: Threads + Wait>(
     rt: &R,
+    cell: &SchedCell,
     bells: &Bells,
     workers: Vec<Worker<M>>,
     mut done: Vec<Linked<M>>,
 ) -> Vec<Linked<M>>
-    requires serve { (ns : List (Linked _)) × AllServe M.view ns workers.items }
+    requires serve { (ns : List (Linked _)) × AllServe M.view ns workers.items × AllOf M.view cell.now ns }
     requires room { (done.items ≡ []) × (vec_len workers ≤ vec_capacity done) }
     ensures { (ns : List (Linked _)) → AllServe M.view ns workers.items → AllRan M.view ns result.items }
 {
     for worker in workers {
-        done.push_reserved(finish(rt, bells, worker));
+        done.push_reserved(finish(rt, cell, bells, worker));
     }
     done
 }
@@ -107,6 +116,7 @@ fn finish_all<M: Machine + Drop, R: Threads + Wait>(
 fn run_in<'s, E, M: Machine + Send + Drop + 's, R: Threads + Wait + Sync>(
     scope: &Scope<'s, E>,
     rt: &'s R,
+    cell: &'s SchedCell,
     flags: &'s [AtomicBool],
     bells: &'s Bells,
     nodes: Vec<Linked<M>>,
@@ -114,19 +124,21 @@ fn run_in<'s, E, M: Machine + Send + Drop + 's, R: Threads + Wait + Sync>(
     done: Vec<Linked<M>>,
 ) -> Vec<Linked<M>>
     requires lawful { AllLawful M.view nodes.items }
+    requires cell { AllOf M.view cell.now nodes.items }
     requires flags { vec_len nodes ≤ length flags.now }
     requires workers { (workers.items ≡ []) × (vec_len nodes ≤ vec_capacity workers) }
     requires done { (done.items ≡ []) × (vec_len nodes ≤ vec_capacity done) }
     ensures { AllRan M.view nodes.items result.items }
 {
-    let mut workers = start_all(scope, rt, flags, bells, nodes, workers);
-    rounds(rt, bells, workers.as_mut_slice());
-    finish_all(rt, bells, workers, done)
+    let mut workers = start_all(scope, rt, cell, flags, bells, nodes, workers);
+    rounds(rt, cell, bells, workers.as_mut_slice());
+    finish_all(rt, cell, bells, workers, done)
 }
 
 // The lists are long enough.
 fn run_scoped<M: Machine + Send + Drop, R: Threads + Wait + Sync>(
     rt: &R,
+    cell: &SchedCell,
     flags: &[AtomicBool],
     bells: &Bells,
     nodes: Vec<Linked<M>>,
@@ -134,6 +146,7 @@ fn run_scoped<M: Machine + Send + Drop, R: Threads + Wait + Sync>(
     done: Vec<Linked<M>>,
 ) -> Vec<Linked<M>>
     requires lawful { AllLawful M.view nodes.items }
+    requires cell { AllOf M.view cell.now nodes.items }
     requires flags { vec_len nodes ≤ length flags.now }
     requires workers { (workers.items ≡ []) × (vec_len nodes ≤ vec_capacity workers) }
     requires done { (done.items ≡ []) × (vec_len nodes ≤ vec_capacity done) }
@@ -143,9 +156,10 @@ fn run_scoped<M: Machine + Send + Drop, R: Threads + Wait + Sync>(
         thread::scope_env(),
         rt,
         |scope| -> Vec<Linked<M>>
-            requires { AllLawful M.view nodes.items × (vec_len nodes ≤ length flags.now) × (workers.items ≡ []) × (vec_len nodes ≤ vec_capacity workers) × (done.items ≡ []) × (vec_len nodes ≤ vec_capacity done) }
+            requires { AllLawful M.view nodes.items × AllOf M.view cell.now nodes.items × (vec_len nodes ≤ length flags.now)
+                × (workers.items ≡ []) × (vec_len nodes ≤ vec_capacity workers) × (done.items ≡ []) × (vec_len nodes ≤ vec_capacity done) }
             ensures { AllRan M.view nodes.items result.items }
-        { run_in(scope, rt, flags, bells, nodes, workers, done) },
+        { run_in(scope, rt, cell, flags, bells, nodes, workers, done) },
     )
 }
 
@@ -184,14 +198,16 @@ fn flags_for(alloc: Global, count: usize) -> Result<Vec<AtomicBool>, AllocError>
     Ok(flags)
 }
 
-/// Runs each node in a thread of its own until it is done. The caller turns those for which no thread could be started.
-/// At `Err` there is no memory for the lists, and none was started.
+/// Runs each node in a thread of its own until it is done, all under the scheduler of this cell. The caller turns those for
+/// which no thread could be started. At `Err` there is no memory for the lists, and none was started.
 pub fn run_threads<M: Machine + Send + Drop, R: Threads + Wait + Sync>(
     rt: &R,
     alloc: Global,
     nodes: Vec<Linked<M>>,
+    cell: &SchedCell,
 ) -> Result<Vec<Linked<M>>, Vec<Linked<M>>>
     requires lawful { AllLawful M.view nodes.items }
+    requires cell { AllOf M.view cell.now nodes.items }
     ensures ok { IfOk result (λ v. AllRan M.view nodes.items v.items) }
     ensures err { IfErr result (λ v. v.items ≡ nodes.items) }
 {
@@ -208,5 +224,5 @@ pub fn run_threads<M: Machine + Send + Drop, R: Threads + Wait + Sync>(
     let Ok(done) = list_for(alloc, count) else {
         return Err(nodes);
     };
-    Ok(run_scoped(rt, flags.as_slice(), &bells, nodes, workers, done))
+    Ok(run_scoped(rt, cell, flags.as_slice(), &bells, nodes, workers, done))
 }

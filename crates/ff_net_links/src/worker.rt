@@ -1,7 +1,8 @@
 // A worker for one node, which the caller turns where no thread can be started.
 ghost use Rattle.std.specs.Prelude.{◌≡◌};
 ghost use Rattle.ff_net_links.specs.declared.linked.Linked.{Linked};
-ghost use Rattle.ff_net_links.specs.Nodes.{IsLawful};
+ghost use Rattle.ff_net.specs.Nodes.{IsOf};
+ghost use Rattle.ff_net_links.specs.Nodes.{IsLawful, node_of};
 ghost use Rattle.ff_net_links.specs.Runs.{Came, Ran};
 ghost use Rattle.ff_net_links.specs.Workers.{Serves};
 
@@ -9,6 +10,7 @@ use crate::bells::Bells;
 use crate::linked::Linked;
 use crate::rest::{Rest, SPINS_FOR_ITEMS, SPINS_FOR_ROOM, Step};
 use ff_net::{Machine, Turn};
+use ff_sched::SchedCell;
 use std::hint::spin_loop;
 use std::snapshot::Snapshot;
 use std::sync::Wait;
@@ -40,20 +42,28 @@ pub enum Worker<M: Machine> {
 }
 
 /// Turns a node until it is done.
-pub fn run<M: Machine, R: Wait>(rt: &R, bells: &Bells, worker: usize, node: &mut Linked<M>)
-    requires { IsLawful M.view node.old }
+pub fn run<M: Machine, R: Wait>(
+    rt: &R,
+    cell: &SchedCell,
+    bells: &Bells,
+    worker: usize,
+    node: &mut Linked<M>,
+)
+    requires lawful { IsLawful M.view node.old }
+    requires cell { IsOf M.view cell.now (node_of node.old) }
     ensures { Ran M.view node.old node.new }
 {
     let mut rest = Rest::new();
     for _ in rt.forever() {
-        match node.turn(rt) {
+        let logged = node.logged();
+        match node.turn(rt, cell) {
             Turn::Done => {
-                node.tell(bells);
+                node.tell(bells, logged);
                 return;
             }
             Turn::Moved => {
-                node.tell(bells);
-                go_on(bells, node, &mut rest);
+                node.tell(bells, logged);
+                go_on(bells, worker, node, &mut rest);
             }
             Turn::NotYet => wait(rt, bells, worker, node, &mut rest),
         }
@@ -62,9 +72,9 @@ pub fn run<M: Machine, R: Wait>(rt: &R, bells: &Bells, worker: usize, node: &mut
 }
 
 // After a turn that moved something.
-fn go_on<M: Machine>(bells: &Bells, node: &Linked<M>, rest: &mut Rest) {
+fn go_on<M: Machine>(bells: &Bells, worker: usize, node: &Linked<M>, rest: &mut Rest) {
     if rest.end() {
-        node.stop_asking(bells);
+        node.stop_asking(bells, worker);
     }
 }
 
@@ -84,8 +94,8 @@ fn wait<M: Machine, R: Wait>(
     match rest.next(spins) {
         Step::Spin => spin_loop(),
         Step::Ask => {
-            node.ask(bells);
-            node.tell(bells);
+            node.ask(bells, worker);
+            node.tell(bells, node.logged());
         }
         Step::Sleep(milliseconds) => bells.sleep(rt, worker, milliseconds),
     }
@@ -94,18 +104,20 @@ fn wait<M: Machine, R: Wait>(
 // What a thread runs. Where the flag is set it gives the node back unturned.
 fn work<M: Machine, R: Wait>(
     rt: &R,
+    cell: &SchedCell,
     refused: &AtomicBool,
     bells: &Bells,
     worker: usize,
     mut node: Linked<M>,
 ) -> Back<M>
-    requires { IsLawful M.view node }
+    requires lawful { IsLawful M.view node }
+    requires cell { IsOf M.view cell.now (node_of node) }
     ensures { Came M.view node result }
 {
     if refused.load(Ordering::SeqCst) {
         return Back { node, done: false };
     }
-    run(rt, bells, worker, &mut node);
+    run(rt, cell, bells, worker, &mut node);
     Back { node, done: true }
 }
 
@@ -113,21 +125,23 @@ fn work<M: Machine, R: Wait>(
 pub fn start<'s, E, M: Machine + Send + Drop + 's, R: Threads + Wait + Sync>(
     scope: &Scope<'s, E>,
     rt: &'s R,
+    cell: &'s SchedCell,
     refused: &'s AtomicBool,
     bells: &'s Bells,
     worker: usize,
     node: Linked<M>,
 ) -> Worker<M>
-    requires { IsLawful M.view node }
+    requires lawful { IsLawful M.view node }
+    requires cell { IsOf M.view cell.now (node_of node) }
     ensures { Serves M.view node result }
 {
     let from = CameFrom(Snapshot::of(&node));
     match scope.spawn_with(
         from,
         move || -> Back<M>
-            requires { IsLawful M.view node }
+            requires { IsLawful M.view node × IsOf M.view cell.now (node_of node) }
             ensures { Came M.view node result }
-        { work(rt, refused, bells, worker, node) },
+        { work(rt, cell, refused, bells, worker, node) },
     ) {
         Ok(handle) => Worker::Runs(handle),
         Err(e) => {
@@ -139,33 +153,45 @@ pub fn start<'s, E, M: Machine + Send + Drop + 's, R: Threads + Wait + Sync>(
 }
 
 /// One turn of a node that is here. Done where it runs in a thread.
-pub fn turn_here<M: Machine, R: Wait>(rt: &R, bells: &Bells, worker: &mut Worker<M>) -> Turn
-    requires { (n : Linked _) × Serves M.view n worker.old }
+pub fn turn_here<M: Machine, R: Wait>(
+    rt: &R,
+    cell: &SchedCell,
+    bells: &Bells,
+    worker: &mut Worker<M>,
+) -> Turn
+    requires { (n : Linked _) × Serves M.view n worker.old × IsOf M.view cell.now (node_of n) }
     ensures keeps { (n : Linked _) → Serves M.view n worker.old → Serves M.view n worker.new }
 {
     match worker {
         Worker::Runs(_) => Turn::Done,
-        Worker::Here(back) => turn_back(rt, bells, back),
+        Worker::Here(back) => turn_back(rt, cell, bells, back),
     }
 }
 
 // After a turn by the caller, who asks to be woken wherever nothing moved.
-fn tell_and_ask<M: Machine>(bells: &Bells, node: &Linked<M>, asks: bool) {
+fn tell_and_ask<M: Machine>(bells: &Bells, node: &Linked<M>, logged: u64, asks: bool) {
     if asks {
-        node.ask(bells);
+        node.ask(bells, bells.caller());
     }
-    node.tell(bells);
+    node.tell(bells, logged);
 }
 
-fn turn_back<M: Machine, R: Wait>(rt: &R, bells: &Bells, back: &mut Back<M>) -> Turn
-    requires { IsLawful M.view back.old.node }
+fn turn_back<M: Machine, R: Wait>(
+    rt: &R,
+    cell: &SchedCell,
+    bells: &Bells,
+    back: &mut Back<M>,
+) -> Turn
+    requires lawful { IsLawful M.view back.old.node }
+    requires cell { IsOf M.view cell.now (node_of back.old.node) }
     ensures { (n : Linked _) → Came M.view n back.old → Came M.view n back.new }
 {
     if back.done {
         return Turn::Done;
     }
-    let turn = back.node.turn(rt);
-    tell_and_ask(bells, &back.node, turn == Turn::NotYet);
+    let logged = back.node.logged();
+    let turn = back.node.turn(rt, cell);
+    tell_and_ask(bells, &back.node, logged, turn == Turn::NotYet);
     back.done = turn == Turn::Done;
     turn
 }
@@ -173,25 +199,32 @@ fn turn_back<M: Machine, R: Wait>(rt: &R, bells: &Bells, back: &mut Back<M>) -> 
 /// Waits for the node of a worker, and turns it until it is done where it isn't.
 pub fn finish<M: Machine + Drop, R: Threads + Wait>(
     rt: &R,
+    cell: &SchedCell,
     bells: &Bells,
     worker: Worker<M>,
 ) -> Linked<M>
-    requires { (n : Linked _) × Serves M.view n worker }
+    requires { (n : Linked _) × Serves M.view n worker × IsOf M.view cell.now (node_of n) }
     ensures { (n : Linked _) → Serves M.view n worker → Ran M.view n result }
 {
     match worker {
-        Worker::Runs(handle) => finish_back(rt, bells, handle.join(rt)),
-        Worker::Here(back) => finish_back(rt, bells, back),
+        Worker::Runs(handle) => finish_back(rt, cell, bells, handle.join(rt)),
+        Worker::Here(back) => finish_back(rt, cell, bells, back),
     }
 }
 
-fn finish_back<M: Machine, R: Wait>(rt: &R, bells: &Bells, back: Back<M>) -> Linked<M>
-    requires { IsLawful M.view back.node }
+fn finish_back<M: Machine, R: Wait>(
+    rt: &R,
+    cell: &SchedCell,
+    bells: &Bells,
+    back: Back<M>,
+) -> Linked<M>
+    requires lawful { IsLawful M.view back.node }
+    requires cell { IsOf M.view cell.now (node_of back.node) }
     ensures { (n : Linked _) → Came M.view n back → Ran M.view n result }
 {
     let Back { mut node, done } = back;
     if !done {
-        run(rt, bells, bells.caller(), &mut node);
+        run(rt, cell, bells, bells.caller(), &mut node);
     }
     node
 }

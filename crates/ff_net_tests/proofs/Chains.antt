@@ -13,13 +13,14 @@ use Rattle.ff_net.specs.declared.wires.Wires.{Wires}
 use Rattle.ff_net.specs.Pasts.{Task, IsIn, start}
 use Rattle.ff_net.specs.Ways.{lane_at}
 use Rattle.ff_net.specs.Worlds.{Stand, fresh, lanes_of}
-use Rattle.ff_net.specs.Nodes.{NodeStands, HaveLanes, in_wires_of, out_wires_of, machine_of}
+use Rattle.ff_net.specs.Nodes.{NodeStands, HaveLanes, IsOf, in_wires_of, out_wires_of, machine_of}
+use Rattle.ff_sched.specs.Passing.{Scheduler}
 use Rattle.ff_net_links.specs.declared.ends.InEnd.{InEnd}
 use Rattle.ff_net_links.specs.declared.ends.OutEnd.{OutEnd}
 use Rattle.ff_net_links.specs.declared.linked.Linked.{Linked}
 use Rattle.ff_net_links.specs.Ends.{in_link, out_link, in_end_at, new_in, new_out}
 use Rattle.ff_net_links.specs.Nodes.{Behind, IsBeginning, node_of, lanes_on, ins_of, outs_of}
-use Rattle.ff_net_links.specs.Runs.{AllLawful, AllRan}
+use Rattle.ff_net_links.specs.Runs.{AllLawful, AllOf, AllRan}
 use Rattle.ff_net_links.proofs.After.{linked_after}
 use Rattle.ff_net_plain.specs.declared.plain.Plain.{Plain}
 use Rattle.ff_net_plain.specs.declared.plain.Plain.TheVariants.{Source, Relay}
@@ -143,9 +144,9 @@ at_ports task lane iw ow iw' ow' ie ie' oe oe' m l e f g h make new =
       outs_are = made.outs_are ∙ h;
     }
 
-pub source_machine : (lane l : Lane) (items xs : List Item) (m : SourceOf) → l ≡ lane → items ≡ xs → source_stands m (start (list_task items)) → source_outs m ≡ l ∷ [] → IsNewMachine (list_task xs) lane [] (0 ∷ []) (Source m)
+pub source_machine : (lane l : Lane) (items xs : List Item) (m : SourceOf) → l ≡ lane → items ≡ xs → source_stands m (start (list_task 0 items)) → source_outs m ≡ l ∷ [] → IsNewMachine (list_task 0 xs) lane [] (0 ∷ []) (Source m)
 source_machine lane l items xs m e i fresh outs = record {
-  begins = subst (λ (ys : List Item). source_stands m (start (list_task ys))) i fresh;
+  begins = subst (λ (ys : List Item). source_stands m (start (list_task 0 ys))) i fresh;
   in_lanes = refl;
   out_lanes = outs ∙ ap (λ (x : Lane). x ∷ []) e;
 }
@@ -170,7 +171,7 @@ at_three P a b c x y z (suc zero) d lt = y
 at_three P a b c x y z (suc (suc zero)) d lt = z
 at_three P a b c x y z (suc (suc (suc k))) d lt = absurd (omega arith)
 
-module _ (count limit : ℕ) (lane : Lane) (a b c : Linked Plain) (s s' : Sending) (r r' : Receiving) (first : IsNewNode (list_task (byte_packets count)) lane [] (0 ∷ []) [] (new_out 0 s ∷ []) a) (second : IsNewNode (relay_task limit 1) lane (0 ∷ []) (1 ∷ []) (new_in 0 r ∷ []) (new_out 1 s' ∷ []) b) (third : IsNewNode sink_task lane (1 ∷ []) [] (new_in 1 r' ∷ []) [] c) where
+module _ (count limit : ℕ) (lane : Lane) (a b c : Linked Plain) (s s' : Sending) (r r' : Receiving) (first : IsNewNode (list_task 0 (byte_packets count)) lane [] (0 ∷ []) [] (new_out 0 s ∷ []) a) (second : IsNewNode (relay_task limit 1) lane (0 ∷ []) (1 ∷ []) (new_in 0 r ∷ []) (new_out 1 s' ∷ []) b) (third : IsNewNode sink_task lane (1 ∷ []) [] (new_in 1 r' ∷ []) [] c) where
   abbrev links : ℕ → Link
   links zero = s.link
   links (suc w) = s'.link
@@ -214,6 +215,9 @@ module _ (count limit : ℕ) (lane : Lane) (a b c : Linked Plain) (s s' : Sendin
       outs = λ k q d o klt qlt. outs_at k d klt q o qlt;
     };
   }
+
+pub three_of : (cell : Scheduler) (a b c : Linked Plain) → IsOf plain_view cell (node_of a) → IsOf plain_view cell (node_of b) → IsOf plain_view cell (node_of c) → AllOf plain_view cell (a ∷ b ∷ c ∷ [])
+three_of cell a b c x y z = record { each = at_three (λ k l. IsOf plain_view cell (node_of l)) a b c x y z }
 
 abbrev Run : List (Linked Plain) → List (Linked Plain) → Type 0
 Run olds news = AllRan plain_view olds news

@@ -73,7 +73,7 @@ chain_outs (suc (suc k)) = []
 
 -- and their tasks: to give so many packets, to let the first through, and to keep these
 abbrev pub chain_tasks : ℕ → ℕ → ℕ → Task
-chain_tasks count limit zero = list_task (byte_packets count)
+chain_tasks count limit zero = list_task 0 (byte_packets count)
 chain_tasks count limit (suc zero) = relay_task limit 1
 chain_tasks count limit (suc (suc k)) = sink_task
 

@@ -1,12 +1,17 @@
 // A source, a relay and a sink, in a chain.
 ghost use Rattle.std.specs.Prelude.{◌≡◌, ◌≤◌, ◌^◌, IfOk};
+ghost use Rattle.ff_net_links.specs.Runs.{AllOf};
 ghost use Rattle.ff_net_plain.specs.Packets.{IsWhole, byte_lane};
+ghost use Rattle.ff_net_plain.specs.Plains.{plain_view};
 ghost use Rattle.ff_net_tests.specs.Chains.{IsNewSender, IsNewReceiver, IsChain, chain_tasks};
+ghost use Rattle.ff_net_tests.specs.Seats.{IsSeat};
 
 use crate::node::{relay_node, sink_node, source_node};
+use crate::seats::part;
 use ff_link::{Receiver, Sender, link};
 use ff_net_links::Linked;
 use ff_net_plain::{Plain, lane_of};
+use ff_sched::{Pass, SchedCell};
 use ff_time::Rational;
 use std::alloc::{AllocError, Global};
 
@@ -19,23 +24,31 @@ fn new_link(alloc: Global, size: usize, tb: Rational) -> Result<(Sender, Receive
     link(alloc, size, &lane_of(tb))
 }
 
-// A source of so many packets, a relay that ends after `limit` items, and a sink, over links of this size.
+// A source of so many packets, a relay that ends after `limit` items, and a sink, over links of this size, each with a part of
+// the share of a pass.
 pub fn chain(
     alloc: Global,
     tb: Rational,
     size: usize,
     count: u32,
     limit: usize,
+    cell: &SchedCell,
+    mut pass: Pass,
 ) -> Result<Vec<Linked<Plain>>, AllocError>
+    requires seat { IsSeat cell.now pass }
+    requires share { pass.share ≡ 2 ^ 62 }
     requires base { IsWhole tb }
     requires size { (1 ≤ size) × (size ≤ 1024) }
     requires few { count ≤ 2 ^ 20 }
-    ensures { IfOk result (λ v. IsChain (chain_tasks count limit) (byte_lane tb) v.items) }
+    ensures of { IfOk result (λ v. AllOf plain_view cell.now v.items) }
+    ensures chain { IfOk result (λ v. IsChain (chain_tasks count limit) (byte_lane tb) v.items) }
 {
     let (first, second) = new_link(alloc, size, tb)?;
     let (third, fourth) = new_link(alloc, size, tb)?;
-    let source = source_node(alloc, tb, count, first)?;
-    let relay = relay_node(alloc, tb, limit, second, third)?;
-    let sink = sink_node(alloc, tb, fourth)?;
+    let one = part(cell, &mut pass, 1 << 45)?;
+    let two = part(cell, &mut pass, 1 << 45)?;
+    let source = source_node(alloc, tb, count, first, one)?;
+    let relay = relay_node(alloc, tb, limit, second, third, two)?;
+    let sink = sink_node(alloc, tb, fourth, pass)?;
     Ok(vec![in alloc; source, relay, sink]?)
 }

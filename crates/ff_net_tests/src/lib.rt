@@ -15,4 +15,6 @@ mod over_links;
 #[cfg(test)]
 mod run;
 #[cfg(test)]
+mod seats;
+#[cfg(test)]
 mod trial;

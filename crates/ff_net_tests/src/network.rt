@@ -1,16 +1,23 @@
-ghost use Rattle.std.specs.Prelude.{◌≡◌, ◌<◌, ◌≤◌, ◌+◌, ℕ, length, IfOk, [], ◌∷◌};
-ghost use Rattle.ff_net.specs.Nodes.{machine_of, in_wires_of, out_wires_of};
-ghost use Rattle.ff_net.specs.Serial.{AreShaped};
+ghost use Rattle.std.specs.Prelude.{◌≡◌, ◌<◌, ◌≤◌, ◌+◌, ℕ, length, replicate, IfOk, [], ◌∷◌};
+ghost use Rattle.ff_net.specs.declared.wires.Wires.{Wires};
+ghost use Rattle.ff_net.specs.Worlds.{lanes_of};
+ghost use Rattle.ff_net.specs.Nodes.{IsOf, machine_of, in_wires_of, out_wires_of};
+ghost use Rattle.ff_net.specs.Serial.{AreOf, AreShaped};
+ghost use Rattle.ff_sched.specs.Passing.{Scheduler};
 ghost use Rattle.ff_net_plain.specs.Networks.{Fits};
-ghost use Rattle.ff_net_plain.specs.Plains.{plain_view};
+ghost use Rattle.ff_net_plain.specs.Plains.{IsBelow, plain_view};
 ghost use Rattle.ff_net_plain.specs.Trials.{trial_lane};
+ghost use Rattle.ff_net_tests.specs.Seats.{IsSeat, AreSeats};
 
+use crate::seats::{Seats, five_parts, new_cell};
 use crate::trial::{lane, packet};
 use ff_frame::Item;
 use ff_net::{Fault, Node, Wires, run_serial};
 use ff_net_plain::{Join, Plain, Relay, Source};
+use ff_sched::{Pass, SchedCell};
 use ff_time::Rational;
 use std::alloc::{AllocError, Global};
+use std::sync::Wait;
 
 /// Where a fault is made: at the source's device, or for want of memory at a node.
 #[derive(Clone, Copy, PartialEq, Eq, Debug)]
@@ -79,61 +86,90 @@ fn on_wires(
     machine: Plain,
     ins: Vec<usize>,
     outs: Vec<usize>,
+    pass: Pass,
 ) -> Result<Node<Plain>, AllocError>
+    requires log { pass.log ≡ [] }
+    requires source { IsBelow 1 machine }
+    ensures of { IfOk result (λ node. (cell : Scheduler) → IsSeat cell pass → IsOf plain_view cell node) }
     ensures ins { IfOk result (λ node. in_wires_of node ≡ ins.items) }
     ensures outs { IfOk result (λ node. out_wires_of node ≡ outs.items) }
     ensures machine { IfOk result (λ node. machine_of node ≡ machine) }
 {
-    match Node::new(alloc, machine, ins, outs) {
+    match Node::new(alloc, machine, ins, outs, pass) {
         Ok(node) => Ok(node),
         Err(_) => Err(AllocError),
     }
 }
 
-fn source_node(alloc: Global, tb: Rational, plan: Plan) -> Result<Node<Plain>, AllocError>
-    ensures { IfOk result (λ node. Fits (trial_lane tb) [] (0 ∷ []) node) }
+fn source_node(
+    alloc: Global,
+    tb: Rational,
+    plan: Plan,
+    pass: Pass,
+) -> Result<Node<Plain>, AllocError>
+    requires log { pass.log ≡ [] }
+    ensures of { IfOk result (λ node. (cell : Scheduler) → IsSeat cell pass → IsOf plain_view cell node) }
+    ensures fits { IfOk result (λ node. Fits (trial_lane tb) [] (0 ∷ []) node) }
 {
     let items = packets(alloc, plan.count.min(99))?;
     let fails_at = room(plan, Place::Device);
     let refuses_at = room(plan, Place::Source);
     let source = Source::new(alloc, lane(tb), 0, items, fails_at, refuses_at);
     let outs = vec![in alloc; 0usize]?;
-    on_wires(alloc, Plain::Source(source), Vec::new(alloc), outs)
+    on_wires(alloc, Plain::Source(source), Vec::new(alloc), outs, pass)
 }
 
-fn repeater_node(alloc: Global, tb: Rational, plan: Plan) -> Result<Node<Plain>, AllocError>
-    ensures { IfOk result (λ node. Fits (trial_lane tb) (0 ∷ []) (1 ∷ 2 ∷ []) node) }
+fn repeater_node(
+    alloc: Global,
+    tb: Rational,
+    plan: Plan,
+    pass: Pass,
+) -> Result<Node<Plain>, AllocError>
+    requires log { pass.log ≡ [] }
+    ensures of { IfOk result (λ node. (cell : Scheduler) → IsSeat cell pass → IsOf plain_view cell node) }
+    ensures fits { IfOk result (λ node. Fits (trial_lane tb) (0 ∷ []) (1 ∷ 2 ∷ []) node) }
 {
     let relay = Relay::new(alloc, lane(tb), 2, usize::MAX, room(plan, Place::Repeater))?;
     let ins = vec![in alloc; 0usize]?;
     let outs = vec![in alloc; 1usize, 2]?;
-    on_wires(alloc, Plain::Relay(relay), ins, outs)
+    on_wires(alloc, Plain::Relay(relay), ins, outs, pass)
 }
 
-fn stopper_node(alloc: Global, tb: Rational, plan: Plan) -> Result<Node<Plain>, AllocError>
-    ensures { IfOk result (λ node. Fits (trial_lane tb) (1 ∷ []) (3 ∷ []) node) }
+fn stopper_node(
+    alloc: Global,
+    tb: Rational,
+    plan: Plan,
+    pass: Pass,
+) -> Result<Node<Plain>, AllocError>
+    requires log { pass.log ≡ [] }
+    ensures of { IfOk result (λ node. (cell : Scheduler) → IsSeat cell pass → IsOf plain_view cell node) }
+    ensures fits { IfOk result (λ node. Fits (trial_lane tb) (1 ∷ []) (3 ∷ []) node) }
 {
     let relay = Relay::new(alloc, lane(tb), 1, plan.limit, room(plan, Place::Stopper))?;
     let ins = vec![in alloc; 1usize]?;
     let outs = vec![in alloc; 3usize]?;
-    on_wires(alloc, Plain::Relay(relay), ins, outs)
+    on_wires(alloc, Plain::Relay(relay), ins, outs, pass)
 }
 
-fn join_node(alloc: Global, tb: Rational, plan: Plan) -> Result<Node<Plain>, AllocError>
-    ensures { IfOk result (λ node. Fits (trial_lane tb) (3 ∷ 2 ∷ []) (4 ∷ []) node) }
+fn join_node(alloc: Global, tb: Rational, plan: Plan, pass: Pass) -> Result<Node<Plain>, AllocError>
+    requires log { pass.log ≡ [] }
+    ensures of { IfOk result (λ node. (cell : Scheduler) → IsSeat cell pass → IsOf plain_view cell node) }
+    ensures fits { IfOk result (λ node. Fits (trial_lane tb) (3 ∷ 2 ∷ []) (4 ∷ []) node) }
 {
     let join = Join::new(alloc, lane(tb), room(plan, Place::Join));
     let ins = vec![in alloc; 3usize, 2]?;
     let outs = vec![in alloc; 4usize]?;
-    on_wires(alloc, Plain::Join(join), ins, outs)
+    on_wires(alloc, Plain::Join(join), ins, outs, pass)
 }
 
-fn sink_node(alloc: Global, tb: Rational, plan: Plan) -> Result<Node<Plain>, AllocError>
-    ensures { IfOk result (λ node. Fits (trial_lane tb) (4 ∷ []) [] node) }
+fn sink_node(alloc: Global, tb: Rational, plan: Plan, pass: Pass) -> Result<Node<Plain>, AllocError>
+    requires log { pass.log ≡ [] }
+    ensures of { IfOk result (λ node. (cell : Scheduler) → IsSeat cell pass → IsOf plain_view cell node) }
+    ensures fits { IfOk result (λ node. Fits (trial_lane tb) (4 ∷ []) [] node) }
 {
     let relay = Relay::new(alloc, lane(tb), 0, usize::MAX, room(plan, Place::Sink))?;
     let ins = vec![in alloc; 4usize]?;
-    on_wires(alloc, Plain::Relay(relay), ins, Vec::new(alloc))
+    on_wires(alloc, Plain::Relay(relay), ins, Vec::new(alloc), pass)
 }
 
 /// What the sink holds.
@@ -175,44 +211,97 @@ fn next_node(plan: Plan, turn: usize) -> usize
 }
 
 // A turn of the node of this number.
-fn turn(nodes: &mut [Node<Plain>], wires: &mut Wires, node: usize)
+fn turn<R: Wait>(
+    rt: &R,
+    nodes: &mut [Node<Plain>],
+    cell: &SchedCell,
+    wires: &mut Wires,
+    node: usize,
+)
     requires shaped { AreShaped plain_view nodes.old wires.old }
+    requires cell { AreOf plain_view cell.now nodes.old }
     requires node { node < length nodes.old }
     ensures shaped { AreShaped plain_view nodes.new wires.new }
+    ensures cell { AreOf plain_view cell.now nodes.new }
     ensures count { length nodes.new ≡ length nodes.old }
 {
-    run_serial(nodes, wires, &[node]);
+    run_serial(rt, nodes, cell, wires, &[node]);
 }
 
 // 400 turns, in the order of the plan.
-fn turns(nodes: &mut [Node<Plain>], wires: &mut Wires, plan: Plan)
+fn turns<R: Wait>(
+    rt: &R,
+    nodes: &mut [Node<Plain>],
+    cell: &SchedCell,
+    wires: &mut Wires,
+    plan: Plan,
+)
     requires shaped { AreShaped plain_view nodes.old wires.old }
+    requires cell { AreOf plain_view cell.now nodes.old }
     requires count { length nodes.old ≡ 5 }
 {
     for number in 0usize..400 {
-        turn(nodes, wires, next_node(plan, number));
+        turn(rt, nodes, cell, wires, next_node(plan, number));
     }
+}
+
+// The five nodes, each with a pass of the cell.
+fn five_nodes(
+    alloc: Global,
+    tb: Rational,
+    plan: Plan,
+    cell: &SchedCell,
+    seats: Seats,
+) -> Result<Vec<Node<Plain>>, AllocError>
+    requires seats { AreSeats cell.now seats.first seats.second seats.third seats.fourth seats.fifth }
+    ensures count { IfOk result (λ nodes. length nodes.items ≡ 5) }
+    ensures shaped { IfOk result (λ nodes. (wires : Wires) → lanes_of wires ≡ replicate 5 (trial_lane tb) → AreShaped plain_view nodes.items wires) }
+    ensures of { IfOk result (λ nodes. AreOf plain_view cell.now nodes.items) }
+{
+    let Seats {
+        first,
+        second,
+        third,
+        fourth,
+        fifth,
+    } = seats;
+    let source = source_node(alloc, tb, plan, first)?;
+    let repeater = repeater_node(alloc, tb, plan, second)?;
+    let stopper = stopper_node(alloc, tb, plan, third)?;
+    let join = join_node(alloc, tb, plan, fourth)?;
+    let sink = sink_node(alloc, tb, plan, fifth)?;
+    Ok(vec![in alloc; source, repeater, stopper, join, sink]?)
+}
+
+// Five wires of this size.
+fn five_wires(alloc: Global, tb: Rational, size: usize) -> Result<Wires, AllocError>
+    requires { 1 ≤ size }
+    ensures { IfOk result (λ wires. lanes_of wires ≡ replicate 5 (trial_lane tb)) }
+{
+    let lanes = vec![in alloc; lane(tb), lane(tb), lane(tb), lane(tb), lane(tb)]?;
+    let wires = Wires::new(alloc, lanes, size)?;
+    Ok(wires)
 }
 
 /// The network of a source, a machine that repeats its items on two outputs, one that ends early behind the first of
 /// these, one that joins what that gives with the second, and a sink. No more than 99 packets are sent.
-pub fn try_network(alloc: Global, tb: Rational, plan: Plan) -> Result<Outcome, AllocError> {
-    let lanes = vec![in alloc; lane(tb), lane(tb), lane(tb), lane(tb), lane(tb)]?;
-    let mut wires = Wires::new(alloc, lanes, plan.size.max(1))?;
-    let source = source_node(alloc, tb, plan)?;
-    let repeater = repeater_node(alloc, tb, plan)?;
-    let stopper = stopper_node(alloc, tb, plan)?;
-    let join = join_node(alloc, tb, plan)?;
-    let sink = sink_node(alloc, tb, plan)?;
-    let mut nodes = [source, repeater, stopper, join, sink];
-    turns(&mut nodes, &mut wires, plan);
+pub fn try_network<R: Wait>(
+    rt: &R,
+    alloc: Global,
+    tb: Rational,
+    plan: Plan,
+) -> Result<Outcome, AllocError> {
+    let mut wires = five_wires(alloc, tb, plan.size.max(1))?;
+    let (cell, pass) = new_cell(rt, alloc)?;
+    let seats = five_parts(&cell, pass)?;
+    let mut nodes = five_nodes(alloc, tb, plan, &cell, seats)?;
+    turns(rt, nodes.as_mut_slice(), &cell, &mut wires, plan);
     let outcome = summary(&nodes);
-    Ok(held(outcome, last(nodes).into_machine()))
-}
-
-fn last(nodes: [Node<Plain>; 5]) -> Node<Plain> {
-    let [_, _, _, _, sink] = nodes;
-    sink
+    let Some(sink) = nodes.pop() else {
+        return Ok(outcome);
+    };
+    let (machine, _pass) = sink.into_parts();
+    Ok(held(outcome, machine))
 }
 
 /// Which nodes are done, and which has a fault.
@@ -244,7 +333,13 @@ fn held(outcome: Outcome, sink: Plain) -> Outcome {
 }
 
 // Whether runs over wires of this size, in four orders of turns, come to this.
-fn are_all(alloc: Global, tb: Rational, plan: Plan, want: Outcome) -> Result<bool, AllocError> {
+fn are_all<R: Wait>(
+    rt: &R,
+    alloc: Global,
+    tb: Rational,
+    plan: Plan,
+    want: Outcome,
+) -> Result<bool, AllocError> {
     let mut same = true;
     for (first, stride) in [(0usize, 1usize), (4, 4), (1, 2), (2, 3)] {
         let plan = Plan {
@@ -252,16 +347,22 @@ fn are_all(alloc: Global, tb: Rational, plan: Plan, want: Outcome) -> Result<boo
             stride,
             ..plan
         };
-        same &= try_network(alloc, tb, plan)? == want;
+        same &= try_network(rt, alloc, tb, plan)? == want;
     }
     Ok(same)
 }
 
 // The same over wires of three sizes.
-fn in_sizes(alloc: Global, tb: Rational, plan: Plan, want: Outcome) -> Result<bool, AllocError> {
-    let one = are_all(alloc, tb, Plan { size: 1, ..plan }, want)?;
-    let two = are_all(alloc, tb, Plan { size: 2, ..plan }, want)?;
-    let eight = are_all(alloc, tb, Plan { size: 8, ..plan }, want)?;
+fn in_sizes<R: Wait>(
+    rt: &R,
+    alloc: Global,
+    tb: Rational,
+    plan: Plan,
+    want: Outcome,
+) -> Result<bool, AllocError> {
+    let one = are_all(rt, alloc, tb, Plan { size: 1, ..plan }, want)?;
+    let two = are_all(rt, alloc, tb, Plan { size: 2, ..plan }, want)?;
+    let eight = are_all(rt, alloc, tb, Plan { size: 8, ..plan }, want)?;
     Ok(one & two & eight)
 }
 
@@ -332,7 +433,7 @@ fn networks(rt: HostRuntime) -> Result<(), AllocError> {
         let plan = plan_of(count, limit, place, at);
         let want = outcome_of(packets, ended, broken, faulty, fault);
         assert!(rt;
-            in_sizes(rt.alloc(), tb, plan, want)?,
+            in_sizes(&rt, rt.alloc(), tb, plan, want)?,
             "{place:?} {at}, count {count}"
         );
     }

@@ -1,7 +1,12 @@
 // Nodes over new links. All have two wires, of which wire 0 leads from the source and wire 1 to the sink.
 ghost use Rattle.std.specs.Prelude.{◌≡◌, ◌≤◌, ◌^◌, ◌∷◌, [], IfOk};
 ghost use Rattle.ff_net_plain.specs.Packets.{IsWhole, byte_lane, byte_packets};
+ghost use Rattle.ff_net.specs.Nodes.{IsOf};
 ghost use Rattle.ff_net.specs.Pasts.{Task};
+ghost use Rattle.ff_sched.specs.Passing.{Scheduler};
+ghost use Rattle.ff_net_links.specs.Nodes.{node_of};
+ghost use Rattle.ff_net_plain.specs.Plains.{IsBelow, plain_view};
+ghost use Rattle.ff_net_tests.specs.Seats.{IsSeat};
 ghost use Rattle.ff_net_links.specs.Ends.{new_in, new_out};
 ghost use Rattle.ff_net_plain.specs.Starts.{list_task, relay_task};
 ghost use Rattle.ff_net_tests.specs.Chains.{IsNewSender, IsNewReceiver, IsNewMachine, AreNewEnds, IsNewNode, sink_task};
@@ -11,6 +16,7 @@ use ff_link::{Receiver, Sender};
 use ff_net::{Node, Wires};
 use ff_net_links::{InEnd, Linked, OutEnd};
 use ff_net_plain::{Plain, Relay, Source, lane_of, packet};
+use ff_sched::Pass;
 use ff_time::Rational;
 use std::alloc::{AllocError, Global};
 
@@ -39,9 +45,14 @@ fn on_links(
     tb: Rational,
     machine: Plain,
     ports: Ports,
+    pass: Pass,
 ) -> Result<Linked<Plain>, AllocError>
     requires ends { AreNewEnds (byte_lane tb) ports.in_wires.items ports.out_wires.items ports.ins.items ports.outs.items }
-    ensures { IfOk result (λ l. (task : Task) → IsNewMachine task (byte_lane tb) ports.in_wires.items ports.out_wires.items machine → IsNewNode task (byte_lane tb) ports.in_wires.items ports.out_wires.items ports.ins.items ports.outs.items l) }
+    requires log { pass.log ≡ [] }
+    requires source { IsBelow 1 machine }
+    ensures of { IfOk result (λ l. (cell : Scheduler) → IsSeat cell pass → IsOf plain_view cell (node_of l)) }
+    ensures new { IfOk result (λ l. (task : Task) → IsNewMachine task (byte_lane tb) ports.in_wires.items ports.out_wires.items machine
+        → IsNewNode task (byte_lane tb) ports.in_wires.items ports.out_wires.items ports.ins.items ports.outs.items l) }
 {
     let Ports {
         in_wires,
@@ -51,7 +62,7 @@ fn on_links(
     } = ports;
     let lanes = vec![in alloc; lane_of(tb), lane_of(tb)]?;
     let wires = Wires::new(alloc, lanes, 1)?;
-    match Node::new(alloc, machine, in_wires, out_wires) {
+    match Node::new(alloc, machine, in_wires, out_wires, pass) {
         Ok(node) => Ok(Linked::new(node, wires, ins, outs)),
         Err(_) => Err(AllocError),
     }
@@ -63,11 +74,14 @@ pub fn source_node(
     tb: Rational,
     count: u32,
     sender: Sender,
+    pass: Pass,
 ) -> Result<Linked<Plain>, AllocError>
     requires base { IsWhole tb }
     requires few { count ≤ 2 ^ 20 }
     requires sender { IsNewSender (byte_lane tb) sender }
-    ensures { IfOk result (λ l. IsNewNode (list_task (byte_packets count)) (byte_lane tb) [] (0 ∷ []) [] (new_out 0 sender ∷ []) l) }
+    requires log { pass.log ≡ [] }
+    ensures of { IfOk result (λ l. (cell : Scheduler) → IsSeat cell pass → IsOf plain_view cell (node_of l)) }
+    ensures new { IfOk result (λ l. IsNewNode (list_task 0 (byte_packets count)) (byte_lane tb) [] (0 ∷ []) [] (new_out 0 sender ∷ []) l) }
 {
     let items = packets(alloc, count)?;
     let source = Source::new(alloc, lane_of(tb), 0, items, usize::MAX, usize::MAX);
@@ -77,7 +91,7 @@ pub fn source_node(
         ins: Vec::new(alloc),
         outs: vec![in alloc; OutEnd::new(0, sender)]?,
     };
-    let node = on_links(alloc, tb, Plain::Source(source), ports)?;
+    let node = on_links(alloc, tb, Plain::Source(source), ports, pass)?;
     Ok(node)
 }
 
@@ -88,10 +102,14 @@ pub fn relay_node(
     limit: usize,
     receiver: Receiver,
     sender: Sender,
+    pass: Pass,
 ) -> Result<Linked<Plain>, AllocError>
     requires receiver { IsNewReceiver (byte_lane tb) receiver }
     requires sender { IsNewSender (byte_lane tb) sender }
-    ensures { IfOk result (λ l. IsNewNode (relay_task limit 1) (byte_lane tb) (0 ∷ []) (1 ∷ []) (new_in 0 receiver ∷ []) (new_out 1 sender ∷ []) l) }
+    requires log { pass.log ≡ [] }
+    ensures of { IfOk result (λ l. (cell : Scheduler) → IsSeat cell pass → IsOf plain_view cell (node_of l)) }
+    ensures new { IfOk result (λ l.
+        IsNewNode (relay_task limit 1) (byte_lane tb) (0 ∷ []) (1 ∷ []) (new_in 0 receiver ∷ []) (new_out 1 sender ∷ []) l) }
 {
     let relay = Relay::new(alloc, lane_of(tb), 1, limit, usize::MAX)?;
     let ports = Ports {
@@ -100,7 +118,7 @@ pub fn relay_node(
         ins: vec![in alloc; InEnd::new(0, receiver)]?,
         outs: vec![in alloc; OutEnd::new(1, sender)]?,
     };
-    let node = on_links(alloc, tb, Plain::Relay(relay), ports)?;
+    let node = on_links(alloc, tb, Plain::Relay(relay), ports, pass)?;
     Ok(node)
 }
 
@@ -109,9 +127,12 @@ pub fn sink_node(
     alloc: Global,
     tb: Rational,
     receiver: Receiver,
+    pass: Pass,
 ) -> Result<Linked<Plain>, AllocError>
-    requires { IsNewReceiver (byte_lane tb) receiver }
-    ensures { IfOk result (λ l. IsNewNode sink_task (byte_lane tb) (1 ∷ []) [] (new_in 1 receiver ∷ []) [] l) }
+    requires receiver { IsNewReceiver (byte_lane tb) receiver }
+    requires log { pass.log ≡ [] }
+    ensures of { IfOk result (λ l. (cell : Scheduler) → IsSeat cell pass → IsOf plain_view cell (node_of l)) }
+    ensures new { IfOk result (λ l. IsNewNode sink_task (byte_lane tb) (1 ∷ []) [] (new_in 1 receiver ∷ []) [] l) }
 {
     let sink = Relay::new(alloc, lane_of(tb), 0, usize::MAX, usize::MAX)?;
     let ports = Ports {
@@ -120,6 +141,6 @@ pub fn sink_node(
         ins: vec![in alloc; InEnd::new(1, receiver)]?,
         outs: Vec::new(alloc),
     };
-    let node = on_links(alloc, tb, Plain::Relay(sink), ports)?;
+    let node = on_links(alloc, tb, Plain::Relay(sink), ports, pass)?;
     Ok(node)
 }

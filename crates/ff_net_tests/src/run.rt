@@ -4,6 +4,7 @@ ghost use Rattle.ff_net_plain.specs.Packets.{IsWhole};
 ghost use Rattle.ff_net_tests.specs.Chains.{AllSound, WasFed};
 
 use crate::chain::chain;
+use crate::seats::new_cell;
 use ff_frame::Item;
 use ff_net_links::{Linked, Room, run_threads, settle_all};
 use ff_net_plain::{Plain, is_packet};
@@ -92,13 +93,16 @@ fn machines_of<R: Threads + Wait + Sync>(
     requires few { count ≤ 2 ^ 20 }
     ensures fed { IfSome result (λ ran. ran.0 ≡ true → (d : _) → WasFed count limit (slice_index_or ran.1.items 2 d)) }
 {
-    let Ok(nodes) = chain(alloc, tb, size, count, limit) else {
+    let Ok((cell, pass)) = new_cell(rt, alloc) else {
+        return None;
+    };
+    let Ok(nodes) = chain(alloc, tb, size, count, limit, &cell, pass) else {
         return None;
     };
     let Ok(room) = Room::new(alloc, nodes.len(), 2) else {
         return None;
     };
-    let Ok(done) = run_threads(rt, alloc, nodes) else {
+    let Ok(done) = run_threads(rt, alloc, nodes, &cell) else {
         return None;
     };
     let sound = all_sound(&done);

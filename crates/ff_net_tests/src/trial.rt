@@ -1,14 +1,17 @@
 ghost use Rattle.std.specs.Prelude.{◌≡◌, ◌<◌, ◌≤◌, ◌+◌, ℕ, length, IfOk, []};
 ghost use Rattle.ff_net.specs.Worlds.{lanes_of};
-ghost use Rattle.ff_net.specs.Serial.{AreShaped};
+ghost use Rattle.ff_net.specs.Serial.{AreOf, AreShaped};
 ghost use Rattle.ff_net_plain.specs.Kinds.{relay_view};
 ghost use Rattle.ff_net_plain.specs.Trials.{trial_lane};
 
+use crate::seats::new_cell;
 use ff_frame::{Bytes, Codec, Item, Lane, Pkt, StreamHead};
 use ff_net::{Node, Put, Take, Wires, run_serial};
 use ff_net_plain::Relay;
+use ff_sched::SchedCell;
 use ff_time::Rational;
 use std::alloc::{AllocError, Global};
+use std::sync::Wait;
 
 /// What came of a relay between two wires.
 #[derive(Clone, Copy, PartialEq, Eq, Debug)]
@@ -121,35 +124,42 @@ fn noted(trial: Trial, take: &Take) -> Trial
 
 // A turn of the relay between an item that is offered, where it is wanted, and one that is taken: whether the first went, and
 // what has come out.
-fn turn(
+fn turn<R: Wait>(
+    rt: &R,
     nodes: &mut [Node<Relay>],
+    cell: &SchedCell,
     wires: &mut Wires,
     next: Item,
     wanted: bool,
     trial: Trial,
 ) -> (bool, Trial)
     requires shaped { AreShaped relay_view nodes.old wires.old }
+    requires cell { AreOf relay_view cell.now nodes.old }
     requires lanes { length (lanes_of wires.old) ≡ 2 }
     requires count { length nodes.old ≡ 1 }
     requires few { trial.items < 1000 }
     ensures shaped { AreShaped relay_view nodes.new wires.new }
+    ensures cell { AreOf relay_view cell.now nodes.new }
     ensures lanes { length (lanes_of wires.new) ≡ 2 }
     ensures count { length nodes.new ≡ 1 }
     ensures items { result.1.items ≤ trial.items + 1 }
 {
     let went = offer(wires, next, wanted);
-    run_serial(nodes, wires, &[0]);
+    run_serial(rt, nodes, cell, wires, &[0]);
     (went, collect(wires, trial))
 }
 
 // What came of the relay by so many turns.
-fn turns(
+fn turns<R: Wait>(
+    rt: &R,
     alloc: Global,
     nodes: &mut [Node<Relay>],
+    cell: &SchedCell,
     wires: &mut Wires,
     count: usize,
 ) -> Result<Trial, AllocError>
     requires shaped { AreShaped relay_view nodes.old wires.old }
+    requires cell { AreOf relay_view cell.now nodes.old }
     requires lanes { length (lanes_of wires.old) ≡ 2 }
     requires count { length nodes.old ≡ 1 }
 {
@@ -163,7 +173,7 @@ fn turns(
     let mut sent = 0usize;
     for _turn in 0usize..40 {
         let next = item(alloc, sent, count)?;
-        let (went, after) = turn(nodes, wires, next, sent <= count, trial);
+        let (went, after) = turn(rt, nodes, cell, wires, next, sent <= count, trial);
         sent += usize::from(went);
         trial = after;
     }
@@ -175,7 +185,8 @@ fn turns(
 
 /// A relay of one output between two wires of this size, by so many turns: it is sent `count` packets and the end, ends
 /// itself after `limit` items, and refuses what comes after `room`.
-pub fn try_relay(
+pub fn try_relay<R: Wait>(
+    rt: &R,
     alloc: Global,
     tb: Rational,
     size: usize,
@@ -188,11 +199,12 @@ pub fn try_relay(
     let machine = Relay::new(alloc, lane(tb), 1, limit, room)?;
     let ins = vec![in alloc; 0usize]?;
     let outs = vec![in alloc; 1usize]?;
-    let Ok(node) = Node::new(alloc, machine, ins, outs) else {
+    let (cell, pass) = new_cell(rt, alloc)?;
+    let Ok(node) = Node::new(alloc, machine, ins, outs, pass) else {
         return Err(AllocError);
     };
     let mut nodes = [node];
-    turns(alloc, &mut nodes, &mut wires, count)
+    turns(rt, alloc, &mut nodes, &cell, &mut wires, count)
 }
 
 // What comes of a relay that isn't faulty, or is.
@@ -222,7 +234,7 @@ fn relays(rt: HostRuntime) -> Result<(), AllocError> {
         ((1, 100, 2, 3), outcome(2, false, true, true, true)),
         ((8, 100, 2, 3), outcome(2, false, true, true, true)),
     ] {
-        let got = try_relay(rt.alloc(), tb, size, limit, room, count)?;
+        let got = try_relay(&rt, rt.alloc(), tb, size, limit, room, count)?;
         assert_eq!(rt;
             got,
             want,

@@ -5,4 +5,5 @@ pub mod NewNodes
 pub mod Joining
 pub mod WiredUp
 pub mod Runs
+pub mod Scheduling
 pub mod PortLanes

@@ -1,34 +1,40 @@
 -- What machines on links come to.
-use Rattle.std.proofs.Common.{◌≡◌, ◌≢◌, ℕ, zero, suc, ◌<◌, ◌≤◌, List, [], ◌∷◌, length, map, slice_index_or, Option, None, Some, refl, ap, sym, ◌∙◌, subst, arith}
+use Rattle.std.proofs.Common.{◌≡◌, ◌≢◌, ℕ, zero, suc, ◌+◌, ◌<◌, ◌≤◌, ◌⊎◌, inl, inr, true, false, ◌++◌, length-append, List, [], ◌∷◌, length, map, slice_index_or, Option, None, Some, refl, ap, sym, ◌∙◌, subst, arith}
 use Rattle.std.proofs.lemmas.List.{length-map}
 use Rattle.ff_frame.specs.declared.item.Lane.{Lane}
 use Rattle.ff_frame.specs.Stream.{LiesBelow, opened}
-use Rattle.ff_frame.specs.Order.{below_trans, opened_keeps}
-use Rattle.ff_frame.specs.Ports.{stream_at, IsWhole}
+use Rattle.ff_frame.specs.Order.{below_trans, closed_below, opened_keeps}
+use Rattle.ff_frame.specs.Ports.{stream_at, IsClosed, IsWhole}
 use Rattle.ff_net.specs.declared.fault.Fault.{Fault}
 use Rattle.ff_net.specs.declared.fault.Fault.TheVariants.{Device, Damaged, TooLong, TooLarge, NoMemory}
 use Rattle.ff_net.specs.declared.node.Node.{Node}
 use Rattle.ff_net.specs.declared.ports.InPort.{InPort}
 use Rattle.ff_net.specs.declared.ports.OutPort.{OutPort}
-use Rattle.ff_net.specs.Laws.{FaultStep, IsOfInputs}
+use Rattle.ff_net.specs.Laws.{FaultStep, IsOfInputs, IsReading}
+use Rattle.ff_net.specs.Logs.{PassStep, hand_of, told_in}
+use Rattle.ff_net.specs.Ways.{lane_at}
+use Rattle.ff_values.specs.declared.event.Ticket.{Ticket}
+use Rattle.ff_sched.specs.declared.logged.Logged.{Logged}
+use Rattle.ff_sched.specs.Passing.{Passing}
 use Rattle.ff_net.specs.Nets.{Part, IsUpward, solve}
-use Rattle.ff_net.specs.Pasts.{Task, IsIn}
-use Rattle.ff_net.specs.Ports.{in_at, in_wires}
+use Rattle.ff_net.specs.Pasts.{Past, Task, IsIn}
+use Rattle.ff_net.specs.Ports.{in_at, in_wires, out_at}
 use Rattle.ff_net.specs.Worlds.{Wire}
 use Rattle.ff_net.specs.Serial.{Moment, part_of, parts_of}
 use Rattle.ff_net.specs.Theorem.{Settled, AllFare, MeetsSolution}
 use Rattle.ff_net.specs.Views.{View}
-use Rattle.ff_net.specs.Nodes.{NodeStands, IsDone, machine_of, outputs_of, in_wires_of, out_wires_of}
+use Rattle.ff_net.specs.Nodes.{NodeStands, LogStands, HaveLanes, IsSound, IsDone, machine_of, pass_of, outputs_of, in_wires_of, out_wires_of}
 use Rattle.ff_net.proofs.Whole.{fed_below}
 use Rattle.ff_net.proofs.PortSteps.{in_wire_in}
 use Rattle.ff_net_links.specs.declared.linked.Linked.{Linked}
 use Rattle.ff_net_links.specs.Nodes.{node_of}
 use Rattle.ff_net_links.specs.Runs.{AllRan}
-use Rattle.ff_net_links.specs.Settling.{AllBehind, AreMeeting, nodes_of}
+use Rattle.ff_net_links.specs.Settling.{AllBehind, AreMeeting, nodes_of, passes_in}
 use Rattle.ff_net_links.proofs.After.{behind_after, meeting_after}
 use Rattle.ff_network.specs.declared.run.NodeFault.{NodeFault}
 use Rattle.ff_network.specs.Networks.{Begins, node_at, machines_in}
 use Rattle.ff_network.specs.Runs.{FirstFault, FedPart, FedAll, AllKept, TellsFault, MeetsNetwork, ins_in, outs_in}
+use Rattle.ff_network.specs.Scheduling.{AllPassed, AreLogged, IsLogOf, LoggedPart, LoggedAll, LoggedSink, logs_in}
 use Rattle.ff_network.proofs.Each.{some_one}
 
 pub nodes_at : {M : Type 0} (ls : List (Linked M)) (k : ℕ) (d : Node M) (e : Linked M) → k < length ls → slice_index_or (nodes_of ls) k d ≡ node_of (slice_index_or ls k e)
@@ -60,7 +66,41 @@ of_inputs TooLong i e = cc
 of_inputs TooLarge i e = cc
 of_inputs NoMemory i e = i
 
+lanes_count : (ws : List ℕ) (ports lanes : List Lane) → map (lane_at lanes) ws ≡ map Some ports → length ports ≡ length ws
+lanes_count ws ports lanes e = sym (length-map ports (λ (l : Lane). Some l)) ∙ (ap (λ (os : List (Option Lane)). length os) (sym e) ∙ length-map ws (lane_at lanes))
+
+-- the log of a node's pass
+log_at : {M : Type 0} (ls : List (Linked M)) (k : ℕ) (d : Linked M) → k < length ls → slice_index_or (logs_in (passes_in ls)) k [] ≡ (pass_of (node_at ls k d)).log
+log_at [] k d lt = absurd (omega (arith, lt))
+log_at (l ∷ ls) zero d lt = refl
+log_at (l ∷ ls) (suc k) d lt = log_at ls k d (omega (arith, lt))
+
+at_most_one : (h : Option Ticket) → length (hand_of h) ≤ 1
+at_most_one None = omega arith
+at_most_one (Some t) = omega arith
+
 module _ {M : Type 0} (view : M → View) where
+  logged_of : (node : Node M) (past : Past) → LogStands view node past → IsLogOf past (pass_of node).log
+  logged_of node past l = record {
+    allowed = (hand_of node.hand, sym l.granted);
+    one_more = (let one = at_most_one node.hand in let count = length-append past.allowed (hand_of node.hand) in let all = ap (λ (ts : List Ticket). length ts) l.granted in omega (arith, one, count, all));
+    told = l.told;
+    in_order = l.in_order;
+  }
+
+  -- a node that is done and sound has no pending output
+  read_out : (node : Node M) (world : ℕ → Wire) (past : Past) → NodeStands view node world past → IsSound view node → IsDone node → length (view node.machine).out_lanes ≡ length node.outs.items → IsReading (view node.machine) past → ⊥
+  read_out node world past stood sound done ports reads =
+      let q = reads.port in
+      let there : q < length node.outs.items = (let lt = reads.pending.there in omega (arith, lt, ports)) in
+      let o = stood.outs q there in
+      let w = (out_at node.outs.items q).wire in
+      elim (o.done (done.outs q there)) [
+        | inl closed ↦ (let same : (world w).sent ≡ stream_at past.gave q = closed_below (world w).sent (stream_at past.gave q) (o.exact sound) closed in
+            closed (ap (λ s. s.mark) same ∙ reads.pending.unclosed))
+        | inr stopped ↦ reads.pending.goes_on stopped.1
+      ]
+
   same_part : (task : Task) (a b : Node M) → (view a.machine).in_lanes ≡ (view b.machine).in_lanes → (view a.machine).out_lanes ≡ (view b.machine).out_lanes → in_wires_of a ≡ in_wires_of b → out_wires_of a ≡ out_wires_of b → part_of view task a ≡ part_of view task b
   same_part task a b ei eo ew ev =
       let make : List Lane → List Lane → List ℕ → List ℕ → Part = λ i o v w. record { means = task.means; in_lanes = i; out_lanes = o; ins = v; outs = w } in
@@ -178,7 +218,7 @@ module _ {M : Type 0} (view : M → View) where
       upward = subst (λ (ps : List Part). IsUpward [] ps) (sym same) begin.upward
 
       module _ (world : ℕ → Wire) (moment : Moment view tasks (nodes_of news) lanes world) (meets : MeetsSolution view tasks (nodes_of olds) (nodes_of news) world) where
-        ran_part : (k : ℕ) (d : Linked M) → k < length olds → FedPart (view (machine_of (node_at news k d))) (tasks k) (solve (parts tasks olds)) (ins_in olds k)
+        abbrev ran_part : (k : ℕ) (d : Linked M) → k < length olds → FedPart (view (machine_of (node_at news k d))) (tasks k) (solve (parts tasks olds)) (ins_in olds k)
         ran_part k d lt =
             let n : Node M = node_at news k d in
             let is = now_at k d n lt in
@@ -238,3 +278,96 @@ module _ {M : Type 0} (view : M → View) where
                 subst (λ (m : M). FedAll (view m) (tasks k) (solve (parts tasks olds)) (ins_in olds k)) (machine_at k l e o) (ran_all z.0 z.1 z.2 (subst (λ (g : Option NodeFault). FirstFault view (nodes_of news) g) none first) k l o sink));
             cause = λ f some of. ran_cause z.0 z.1 z.2 f (subst (λ (g : Option NodeFault). FirstFault view (nodes_of news) g) some first) of;
           }
+
+      -- what the logs of the passes say
+      module _ (world : ℕ → Wire) (moment : Moment view tasks (nodes_of news) lanes world) (meets : MeetsSolution view tasks (nodes_of olds) (nodes_of news) world) where
+        abbrev stood_at : (k : ℕ) (d : Linked M) → k < length olds → (past : Past) × NodeStands view (node_at news k d) world past × (past.task ≡ tasks k)
+        stood_at k d lt =
+            let n : Node M = node_at news k d in
+            let mine = moment.each k n (here k lt) in
+            (mine.0, subst (λ (m : Node M). NodeStands view m world mine.0) (now_at k d n lt) mine.1, mine.2)
+
+        sound_at : FirstFault view (nodes_of news) None → (k : ℕ) (d : Linked M) → k < length olds → IsSound view (node_at news k d)
+        sound_at none k d lt = (let n : Node M = node_at news k d in subst (λ (m : Node M). IsSound view m) (now_at k d n lt) (none k n (here k lt)))
+
+        -- of a machine that is done and sound nothing is pending, so each event that is due was told
+        told_at : FirstFault view (nodes_of news) None → (k : ℕ) (d : Linked M) → (lt : k < length olds) → told_in (pass_of (node_at news k d)).log ≡ (tasks k).tells (stood_at k d lt).0.feeds
+        told_at none k d lt =
+            let n : Node M = node_at news k d in
+            let stood = stood_at k d lt in
+            let sound = sound_at none k d lt in
+            let done : IsDone n = (ran.1 k d lt).1.node in
+            let log = stood.1.log in
+            let task : (tasks k).tells stood.0.feeds ≡ stood.0.task.tells stood.0.feeds = ap (λ (t : Task). t.tells stood.0.feeds) (sym stood.2) in
+            let wires : HaveLanes (out_wires_of n) (view n.machine).out_lanes lanes = subst (λ (m : Node M). HaveLanes (out_wires_of m) (view m.machine).out_lanes lanes) (now_at k d n lt) (moment.outs k n (here k lt)) in
+            let ports : length (view n.machine).out_lanes ≡ length n.outs.items = lanes_count (out_wires_of n) (view n.machine).out_lanes lanes wires.lanes_are ∙ length-map n.outs.items (λ (x : OutPort). x.wire) in
+            log.all_told sound.0 ∙ (elim (done.told) [
+              | inl quiet ↦ elim (log.quiet quiet) [
+                | inl all ↦ all ∙ sym task
+                | inr reads ↦ absurd (read_out n world stood.0 stood.1 sound done ports reads)
+              ]
+              | inr refused ↦ absurd (let no : true ≡ false = sym refused ∙ sound.0 in cc (no))
+            ])
+
+        log_of : (k : ℕ) (d : Linked M) → (lt : k < length olds) → IsLogOf (stood_at k d lt).0 (pass_of (node_at news k d)).log
+        log_of k d lt = logged_of (node_at news k d) (stood_at k d lt).0 (stood_at k d lt).1.log
+
+        part_logged : (k : ℕ) (d : Linked M) → k < length olds → LoggedPart (view (machine_of (node_at news k d))) (tasks k) (solve (parts tasks olds)) (ins_in olds k) (pass_of (node_at news k d)).log
+        part_logged k d lt = record { fed = ran_part world moment meets k d lt; logged = log_of k d lt }
+
+        all_logged : FirstFault view (nodes_of news) None → (k : ℕ) (d : Linked M) → k < length olds → LoggedAll (view (machine_of (node_at news k d))) (tasks k) (pass_of (node_at news k d)).log
+        all_logged none k d lt =
+            let stood = stood_at k d lt in
+            record { past = stood.0; fits = stood.1.machine; task_is = stood.2; logged = log_of k d lt; all_told = told_at none k d lt }
+
+        -- an input of a machine without outputs that is done took what is on its edge
+        took_at : FirstFault view (nodes_of news) None → (k : ℕ) (d : Linked M) → (lt : k < length olds) → outs_in olds k ≡ [] → (p : ℕ) → p < length (ins_in olds k) → stream_at (stood_at k d lt).0.got p ≡ solve (parts tasks olds) (slice_index_or (ins_in olds k) p 0)
+        took_at none k d lt sink p plt =
+            let n : Node M = node_at news k d in
+            let is = now_at k d n lt in
+            let stood = stood_at k d lt in
+            let sound = sound_at none k d lt in
+            let done : IsDone n = (ran.1 k d lt).1.node in
+            let count : length (ins_in olds k) ≡ length n.ins.items = sym (ap length (ins_now k d lt)) ∙ count_in n.ins.items in
+            let no_out : outputs_of n ≡ 0 = sym (length-map n.outs.items (λ (x : OutPort). x.wire)) ∙ ap length (outs_now k d lt ∙ sink) in
+            let there : p < length n.ins.items = omega (arith, plt, count) in
+            let w = (in_at n.ins.items p).wire in
+            let i = stood.1.ins p there in
+            let closed : IsClosed (world w).taken = elim (i.reason (done.ins p there) sound) [ inl c ↦ c | inr m ↦ absurd (let some : 0 < outputs_of n = m.0 in omega (arith, some, no_out)) ] in
+            let wired : IsIn w (in_wires_of (slice_index_or (nodes_of news) k n)) = subst (λ (m : Node M). IsIn w (in_wires_of m)) (sym is) (in_wire_in n.ins.items p w there refl) in
+            let below : LiesBelow (world w).taken (solve (parts tasks news) w) = meets.before k n (here k lt) (λ j e jlt. none j e (let l = here k lt in omega (arith, jlt, l))) w wired in
+            let on : solve (parts tasks news) w ≡ solve (parts tasks olds) (slice_index_or (ins_in olds k) p 0) =
+            ap (λ (ps : List Part). solve ps w) same ∙ ap (λ (v : ℕ). solve (parts tasks olds) v) (sym (nth_in n.ins.items p) ∙ ap (λ (ws : List ℕ). slice_index_or ws p 0) (ins_now k d lt)) in
+            i.exact sound.0 ∙ (closed_below (world w).taken (solve (parts tasks news) w) below closed ∙ on)
+
+        sink_logged : FirstFault view (nodes_of news) None → (k : ℕ) (d : Linked M) → k < length olds → outs_in olds k ≡ [] → LoggedSink (view (machine_of (node_at news k d))) (tasks k) (solve (parts tasks olds)) (ins_in olds k) (pass_of (node_at news k d)).log
+        sink_logged none k d lt sink =
+            let stood = stood_at k d lt in record {
+              fed = record { past = stood.0; fits = stood.1.machine; task_is = stood.2; got = took_at none k d lt sink; whole = (ran_all world moment meets none k d lt sink).whole };
+              logged = log_of k d lt;
+              all_told = told_at none k d lt;
+            }
+
+      pub ran_logged : (most : ℕ) → SolvedClause most news → length lanes ≤ most → (fault : Option NodeFault) → FirstFault view (nodes_of news) fault → (passes : List Passing) → passes ≡ passes_in news
+          → AreLogged view tasks (solve (parts tasks olds)) (ins_in olds) (outs_in olds) machines fault (logs_in passes)
+      ran_logged most solved le fault first passes are_passes =
+          let z = solved tasks lanes (nodes_of olds) (behind_after view tasks olds news begin.behind ran) (meeting_after view lanes olds news begin.joined ran) le upward all_fare in
+          let log_is : (k : ℕ) (l : Linked M) → k < length olds → (pass_of (node_at news k l)).log ≡ slice_index_or (logs_in passes) k [] = λ k l lt.
+          sym (ap (λ (ps : List Passing). slice_index_or (logs_in ps) k []) are_passes ∙ log_at news k l (in_news k lt)) in record {
+            below = λ k e lt. (let o = back_to k lt in let l = some_one olds k o in
+                subst (λ (log : List Logged). LoggedPart (view (slice_index_or machines k e)) (tasks k) (solve (parts tasks olds)) (ins_in olds k) log) (log_is k l o)
+                (subst (λ (m : M). LoggedPart (view m) (tasks k) (solve (parts tasks olds)) (ins_in olds k) (pass_of (node_at news k l)).log) (machine_at k l e o) (part_logged z.0 z.1 z.2 k l o)));
+            settled = λ none k e lt. (let o = back_to k lt in let l = some_one olds k o in
+                subst (λ (log : List Logged). LoggedAll (view (slice_index_or machines k e)) (tasks k) log) (log_is k l o)
+                (subst (λ (m : M). LoggedAll (view m) (tasks k) (pass_of (node_at news k l)).log) (machine_at k l e o) (all_logged z.0 z.1 z.2 (subst (λ (g : Option NodeFault). FirstFault view (nodes_of news) g) none first) k l o)));
+            sinks = λ none k e lt sink. (let o = back_to k lt in let l = some_one olds k o in
+                subst (λ (log : List Logged). LoggedSink (view (slice_index_or machines k e)) (tasks k) (solve (parts tasks olds)) (ins_in olds k) log) (log_is k l o)
+                (subst (λ (m : M). LoggedSink (view m) (tasks k) (solve (parts tasks olds)) (ins_in olds k) (pass_of (node_at news k l)).log) (machine_at k l e o)
+                (sink_logged z.0 z.1 z.2 (subst (λ (g : Option NodeFault). FirstFault view (nodes_of news) g) none first) k l o sink)));
+          }
+
+    pub all_passed : (passes : List Passing) → passes ≡ passes_in news → AllPassed olds passes
+    all_passed passes are_passes = record {
+      count = ap length are_passes ∙ (length-map news (λ (l : Linked M). pass_of (node_of l)) ∙ ran.0);
+      each = λ k d e lt. subst (λ (p : Passing). PassStep (pass_of (node_at olds k d)) p) (sym (ap (λ (ps : List Passing). slice_index_or ps k e) are_passes ∙ at_map (λ (l : Linked M). pass_of (node_of l)) news k d e (in_news k lt))) (ran.1 k d lt).0.passes;
+    }

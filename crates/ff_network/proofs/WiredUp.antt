@@ -13,11 +13,16 @@ use Rattle.ff_net.specs.Views.{View}
 use Rattle.ff_net.specs.Ways.{lane_at}
 use Rattle.ff_net_links.specs.declared.linked.Linked.{Linked}
 use Rattle.ff_net_links.specs.Nodes.{node_of}
+use Rattle.ff_net_links.specs.Runs.{AllOf}
 use Rattle.ff_net_links.specs.Settling.{nodes_of}
+use Rattle.ff_sched.specs.declared.logged.Logged.{Logged}
+use Rattle.ff_sched.specs.declared.routes.Routes.{Routes}
+use Rattle.ff_sched.specs.Passing.{Passing, Scheduler}
 use Rattle.ff_network.specs.Fits.{Ports, edge_lanes, ins_at, outs_at, part_at, parts_from, network}
 use Rattle.ff_network.specs.Networks.{Fits, AllStart, AreWiredUp, lanes_at, ports_of, node_at, machines_in}
 use Rattle.ff_network.specs.Nodes.{FitsWires, IsLinked, in_edges, out_edges}
 use Rattle.ff_network.specs.Runs.{FedPart, FedAll, MeetsNetwork, ins_in, outs_in}
+use Rattle.ff_network.specs.Scheduling.{AllRouted, AreLogged, AreSeated, LoggedPart, LoggedSink}
 use Rattle.ff_network.specs.declared.run.NodeFault.{NodeFault}
 use Rattle.ff_network.specs.Tables.{AreTables, NewLinks, HasNewSender, HasNewReceiver, link_of, links_in}
 use Rattle.ff_network.proofs.Each.{some_one}
@@ -229,3 +234,29 @@ module _ {M : Type 0} (view : M → View) where
           cause = λ f some of. (let lt : f.node < length ran = there f some in let here : f.node < length ls = omega (arith, lt, count) in
               sym (ap (λ (ps : List Part). (tasks f.node).cause (map (solve ps) (ins_in ls f.node))) is ∙ ap (λ (ws : List ℕ). (tasks f.node).cause (map (solve (network tasks (ports_of view machines) edges (length machines))) ws)) (ins_are f.node here)) ∙ h.cause f some of);
         }
+
+    -- and the logs of their passes
+    pub logged_wired : (tasks : ℕ → Task) (ran : List M) (fault : Option NodeFault) (logs : List (List Logged)) → length ran ≡ length ls → AreLogged view tasks (solve (parts_of view tasks (nodes_of ls))) (ins_in ls) (outs_in ls) ran fault logs
+        → AreLogged view tasks (solve (network tasks (ports_of view machines) edges (length machines))) (ins_at (ports_of view machines) edges) (outs_at (ports_of view machines) edges) ran fault logs
+    logged_wired tasks ran fault logs count h =
+        let is = up.network_is tasks in record {
+          below = λ k e lt. (let here : k < length ls = omega (arith, lt, count) in
+              subst (λ (ws : List ℕ). LoggedPart (view (slice_index_or ran k e)) (tasks k) (solve (network tasks (ports_of view machines) edges (length machines))) ws (slice_index_or logs k [])) (ins_are k here)
+              (subst (λ (ps : List Part). LoggedPart (view (slice_index_or ran k e)) (tasks k) (solve ps) (ins_in ls k) (slice_index_or logs k [])) is (h.below k e lt)));
+          settled = h.settled;
+          sinks = λ none k e lt sink. (let here : k < length ls = omega (arith, lt, count) in
+              subst (λ (ws : List ℕ). LoggedSink (view (slice_index_or ran k e)) (tasks k) (solve (network tasks (ports_of view machines) edges (length machines))) ws (slice_index_or logs k [])) (ins_are k here)
+              (subst (λ (ps : List Part). LoggedSink (view (slice_index_or ran k e)) (tasks k) (solve ps) (ins_in ls k) (slice_index_or logs k [])) is (h.sinks none k e lt (outs_are k here ∙ sink))));
+        }
+
+    -- each node may be turned under the scheduler whose pass it has
+    pub all_of : (cell : Scheduler) (routes : Routes) (rest : Passing) → AreSeated cell ls rest → cell.routes ≡ routes → AllRouted view routes machines → AllOf view cell ls
+    all_of cell routes rest seated same routed = record {
+      each = λ i d lt.
+          let e = machine_of (node_at ls i d) in
+          let many : length ls ≡ length machines = sym (length-map ls (λ (l : Linked M). machine_of (node_of l))) ∙ ap length up.machines_are in
+          let is : slice_index_or machines i e ≡ e = ap (λ (ms : List M). slice_index_or ms i e) (sym up.machines_are) ∙ at_map (λ (l : Linked M). machine_of (node_of l)) ls i d e lt in record {
+            pass = ap (λ (p : Passing). p.cell) (seated.each i d lt);
+            source = λ s has. subst (λ (r : Routes). s < r.sources) (sym same) (routed.each i s e (omega (arith, lt, many)) (subst (λ (m : M). (view m).source ≡ Some s) (sym is) has));
+          };
+    }

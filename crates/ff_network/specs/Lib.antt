@@ -2,4 +2,5 @@ pub mod Fits
 pub mod Networks
 pub mod Nodes
 pub mod Runs
+pub mod Scheduling
 pub mod Tables

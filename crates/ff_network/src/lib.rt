@@ -17,12 +17,14 @@
 //!                                    |
 //!                                 run_net
 //!                                    v
-//!            the machines in their order, and the fault of the first that has one
+//!            the machines in their order, the fault of the first that has one, and the history of the scheduler
 //! ```
 //!
 //! The edges have to fit the machines (`specs/Fits`): at each port stands an edge of its lane, and the edge at each input
 //! leaves an earlier machine. Then what each machine was fed is known by the solution of the network (`specs/Runs`),
-//! whatever the sizes of the links and the order of the threads. That a run ends is not promised.
+//! whatever the sizes of the links and the order of the threads. All nodes share the cell of one scheduler, at which each has a
+//! pass. Once they have ended, their passes give the one history of what was granted and told (`specs/Scheduling`): each grant
+//! came where the history before it unchokes the source. That a run ends is not promised.
 #![tactic(auto)]
 
 mod laws;
@@ -32,5 +34,5 @@ mod tables;
 mod taking;
 mod wiring;
 
-pub use run::{NodeFault, Ran, run_net, run_network};
+pub use run::{Ended, NodeFault, Ran, run_net, run_network};
 pub use wiring::{into_machines, wire_up};

@@ -1,7 +1,9 @@
 // A machine with any number of ports, on new links.
-ghost use Rattle.std.specs.Prelude.{◌≡◌, ℕ, All, length, IfOk, IfErr};
+ghost use Rattle.std.specs.Prelude.{◌≡◌, ℕ, All, [], length, IfOk, IfErr};
+ghost use Rattle.ff_net.specs.Nodes.{pass_of};
 ghost use Rattle.ff_net.specs.Pasts.{IsIn};
 ghost use Rattle.ff_net.specs.Worlds.{Stand, fresh, lanes_of, sizes_of};
+ghost use Rattle.ff_net_links.specs.Nodes.{node_of};
 ghost use Rattle.ff_network.specs.Fits.{edge_lanes};
 ghost use Rattle.ff_network.specs.Nodes.{FitsWires, AreNewIns, AreNewOuts, IsLinked, in_edges, out_edges};
 ghost use Rattle.ff_network.specs.Tables.{NewLinks, HasNewSender, HasNewReceiver, HaveNewSenders, HaveNewReceivers};
@@ -10,8 +12,9 @@ use crate::tables::Tables;
 use crate::taking::{take_ins, take_outs};
 use ff_edges::{Edge, edges_into, edges_out_of};
 use ff_frame::Lane;
-use ff_net::{Machine, Node, Wires};
+use ff_net::{Machine, Node, NodeRefused, Wires};
 use ff_net_links::{InEnd, Linked, OutEnd};
+use ff_sched::Pass;
 use std::alloc::{AllocError, Global};
 
 fn copy_of(lane: &Lane) -> Lane
@@ -36,7 +39,7 @@ fn own_wires(alloc: Global, edges: &[Edge]) -> Result<Wires, AllocError>
     Wires::new(alloc, lanes, 1)
 }
 
-// A machine at these ends of new links, whose wires have these numbers. It comes back where memory is refused.
+// A machine with a new pass at these ends of new links, whose wires have these numbers. It comes back where memory is refused.
 fn at_ends<M: Machine>(
     alloc: Global,
     machine: M,
@@ -45,32 +48,38 @@ fn at_ends<M: Machine>(
     out_wires: Vec<usize>,
     ins: Vec<InEnd>,
     outs: Vec<OutEnd>,
+    pass: Pass,
 ) -> Result<Linked<M>, M>
+    requires log { pass.log ≡ [] }
     requires fresh { Stand wires (λ w. fresh) }
     requires sizes { All (λ n. n ≡ 1) (sizes_of wires) }
     ensures linked { IfOk result (λ l. (new : NewLinks) → new.lanes ≡ lanes_of wires → FitsWires M.view new.lanes in_wires.items out_wires.items machine → AreNewIns new in_wires.items ins.items → AreNewOuts new out_wires.items outs.items
         → IsLinked M.view new in_wires.items out_wires.items machine l) }
+    ensures pass { IfOk result (λ l. pass_of (node_of l) ≡ pass) }
     ensures back { IfErr result (λ m. m ≡ machine) }
 {
-    match Node::new(alloc, machine, in_wires, out_wires) {
+    match Node::new(alloc, machine, in_wires, out_wires, pass) {
         Ok(node) => Ok(Linked::new(node, wires, ins, outs)),
-        Err(machine) => Err(machine),
+        Err(NodeRefused { machine, .. }) => Err(machine),
     }
 }
 
-/// A machine as the node of this number, with the ends of its links taken out of the tables. It comes back where memory is
-/// refused.
+/// A machine as the node of this number, with a new pass and with the ends of its links taken out of the tables. It comes back
+/// where memory is refused.
 pub fn wire_node<M: Machine>(
     alloc: Global,
     machine: M,
     number: usize,
     edges: &[Edge],
     tables: &mut Tables,
+    pass: Pass,
 ) -> Result<Linked<M>, M>
+    requires log { pass.log ≡ [] }
     requires fits { FitsWires M.view (edge_lanes edges.now) (in_edges M.view edges.now number machine) (out_edges M.view edges.now number machine) machine }
     requires there { (new : NewLinks) × HaveNewReceivers new tables.old.receivers.items (in_edges M.view edges.now number machine) × HaveNewSenders new tables.old.senders.items (out_edges M.view edges.now number machine) }
     ensures linked { IfOk result (λ l. (new : NewLinks) → new.lanes ≡ edge_lanes edges.now → HaveNewReceivers new tables.old.receivers.items (in_edges M.view edges.now number machine) → HaveNewSenders new tables.old.senders.items (out_edges M.view edges.now number machine)
         → IsLinked M.view new (in_edges M.view edges.now number machine) (out_edges M.view edges.now number machine) machine l) }
+    ensures pass { IfOk result (λ l. pass_of (node_of l) ≡ pass) }
     ensures receivers { (new : NewLinks) (w : ℕ) → (IsIn w (in_edges M.view edges.now number machine) → ⊥) → HasNewReceiver new tables.old.receivers.items w → HasNewReceiver new tables.new.receivers.items w }
     ensures senders { (new : NewLinks) (w : ℕ) → (IsIn w (out_edges M.view edges.now number machine) → ⊥) → HasNewSender new tables.old.senders.items w → HasNewSender new tables.new.senders.items w }
     ensures back { IfErr result (λ m. m ≡ machine) }
@@ -92,5 +101,5 @@ pub fn wire_node<M: Machine>(
     };
     let ins = take_ins(&mut tables.receivers, &in_wires, ins);
     let outs = take_outs(&mut tables.senders, &out_wires, outs);
-    at_ends(alloc, machine, wires, in_wires, out_wires, ins, outs)
+    at_ends(alloc, machine, wires, in_wires, out_wires, ins, outs, pass)
 }

@@ -1,7 +1,9 @@
 // Machines as nodes on new links, one for each edge.
-ghost use Rattle.std.specs.Prelude.{◌≡◌, ◌≤◌, ◌+◌, [], ◌∷◌, ◌++◌, length, vec_capacity, IfOk, IfErr};
+ghost use Rattle.std.specs.Prelude.{◌≡◌, ◌≤◌, ◌<◌, ◌+◌, ◌^◌, [], ◌∷◌, ◌++◌, length, vec_capacity, IfOk, IfErr};
 ghost use Rattle.std.specs.Vec.Iter.{into_iter_items};
+ghost use Rattle.ff_sched.specs.Passing.{IsFirst};
 ghost use Rattle.ff_network.specs.Networks.{Fits, AreWiredUp, machines_in};
+ghost use Rattle.ff_network.specs.Scheduling.{AreSeated};
 
 use crate::node::wire_node;
 use crate::tables::{Tables, link_all};
@@ -9,6 +11,7 @@ use ff_edges::Edge;
 use ff_link::Claims;
 use ff_net::Machine;
 use ff_net_links::Linked;
+use ff_sched::{Pass, SchedCell};
 use std::alloc::Global;
 use std::vec::IntoIter;
 
@@ -42,17 +45,25 @@ fn gathered<M: Machine + Drop>(
     machines
 }
 
+// How many events a node may add to the history: more than there are items in streams that are valid.
+const NODE_SHARE: u64 = 1 << 45;
+
 /// The machines as nodes on new links of this size, one for each edge, with the claim that `C` makes; the machine of each
-/// place is the node of this number. They come back as they were where memory is refused.
+/// place is the node of this number, and has a pass of the cell. They come back as they were where memory is refused.
 pub fn wire_up<C: Claims, M: Machine + Drop>(
     alloc: Global,
     machines: Vec<M>,
     edges: &[Edge],
     size: usize,
+    cell: &SchedCell,
+    rest: &mut Pass,
 ) -> Result<Vec<Linked<M>>, Vec<M>>
+    requires few { length machines.items < 2 ^ 16 }
+    requires first { IsFirst cell.now rest.old }
     requires size { (1 ≤ size) × (size ≤ 1024) }
     requires fits { Fits M.view edges.now machines.items }
     ensures wired { IfOk result (λ nodes. AreWiredUp M.view C.claims size edges.now machines.items nodes.items) }
+    ensures seated { IfOk result (λ nodes. AreSeated cell.now nodes.items rest.new) }
     ensures back { IfErr result (λ back. back.items ≡ machines.items) }
 {
     let Ok(mut tables) = link_all::<C>(alloc, edges, size) else {
@@ -70,7 +81,10 @@ pub fn wire_up<C: Claims, M: Machine + Drop>(
         let Some(machine) = left.next() else {
             break;
         };
-        match wire_node(alloc, machine, number, edges, &mut tables) {
+        let Ok(pass) = cell.split(rest, NODE_SHARE) else {
+            return Err(gathered(back, nodes, machine, left));
+        };
+        match wire_node(alloc, machine, number, edges, &mut tables, pass) {
             Ok(node) => nodes.push_reserved(node),
             Err(machine) => return Err(gathered(back, nodes, machine, left)),
         }

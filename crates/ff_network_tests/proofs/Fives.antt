@@ -7,10 +7,12 @@ use Rattle.ff_edges.specs.Ports.{edge_to, edge_from, at_ports}
 use Rattle.ff_net.specs.Views.{View}
 use Rattle.ff_net.specs.Ways.{lane_at}
 use Rattle.ff_net_plain.specs.declared.plain.Plain.{Plain}
-use Rattle.ff_net_plain.specs.Plains.{plain_view}
+use Rattle.ff_net_plain.specs.Plains.{IsBelow, plain_view}
+use Rattle.ff_sched.specs.declared.routes.Routes.{Routes}
 use Rattle.ff_network.specs.Fits.{Ports, AreFit, edge_lanes}
 use Rattle.ff_network.specs.Networks.{Fits, lanes_at, ports_of}
-use Rattle.ff_network_tests.specs.Five.{HasPorts, AreFive, five_ins, five_outs, five_edges}
+use Rattle.ff_network.specs.Scheduling.{AllRouted}
+use Rattle.ff_network_tests.specs.Five.{HasPorts, IsOneSource, AreFive, five_ins, five_outs, five_edges}
 
 -- ports by lists of lanes
 abbrev listed : List (List Lane) → List (List Lane) → Ports
@@ -73,9 +75,21 @@ module _ (l : Lane) where
 five_same : {A : Type 0} (a a' b b' c c' d d' e e' : A) → a ≡ a' → b ≡ b' → c ≡ c' → d ≡ d' → e ≡ e' → a ∷ b ∷ c ∷ d ∷ e ∷ [] ≡ a' ∷ b' ∷ c' ∷ d' ∷ e' ∷ []
 five_same a a' b b' c c' d d' e e' p q r s t = cc (p, q, r, s, t)
 
+at_five : (P : Plain → Type 0) (a b c d e : Plain) → P a → P b → P c → P d → P e → (k : ℕ) (x : Plain) → k < 5 → P (slice_index_or (a ∷ b ∷ c ∷ d ∷ e ∷ []) k x)
+at_five P a b c d e v w x y z zero o lt = v
+at_five P a b c d e v w x y z (suc zero) o lt = w
+at_five P a b c d e v w x y z (suc (suc zero)) o lt = x
+at_five P a b c d e v w x y z (suc (suc (suc zero))) o lt = y
+at_five P a b c d e v w x y z (suc (suc (suc (suc zero)))) o lt = z
+at_five P a b c d e v w x y z (suc (suc (suc (suc (suc k))))) o lt = absurd (omega (arith, lt))
+
 -- the five by one another
-pub five_of : (l : Lane) (a b c d e : Plain) → HasPorts l 0 1 a → HasPorts l 1 2 b → HasPorts l 1 1 c → HasPorts l 2 1 d → HasPorts l 1 0 e → AreFive l (a ∷ b ∷ c ∷ d ∷ e ∷ [])
-five_of l a b c d e p q r s t = record {
+pub five_of : (l : Lane) (a b c d e : Plain) → HasPorts l 0 1 a → HasPorts l 1 2 b → HasPorts l 1 1 c → HasPorts l 2 1 d → HasPorts l 1 0 e → IsBelow 1 a → IsBelow 1 b → IsBelow 1 c → IsBelow 1 d → IsBelow 1 e → AreFive l (a ∷ b ∷ c ∷ d ∷ e ∷ [])
+five_of l a b c d e p q r s t v w x y z = record {
   ins = five_same _ _ _ _ _ _ _ _ _ _ p.0 q.0 r.0 s.0 t.0;
   outs = five_same _ _ _ _ _ _ _ _ _ _ p.1 q.1 r.1 s.1 t.1;
+  below = at_five (IsBelow 1) a b c d e v w x y z;
 }
+
+pub five_routed : (l : Lane) (ms : List Plain) (routes : Routes) → IsOneSource routes → AreFive l ms → AllRouted plain_view routes ms
+five_routed l ms routes one h = record { each = λ k s d lt is. (let b = h.below k d lt s is in let n = one.one in omega (arith, b, n)) }

@@ -1,9 +1,11 @@
 -- Five machines in a network with a fork and a join.
-use Rattle.std.specs.Prelude.{◌≡◌, ℕ, List, [], ◌∷◌, map, replicate}
+use Rattle.std.specs.Prelude.{◌≡◌, ℕ, ◌<◌, List, [], ◌∷◌, length, map, replicate, slice_index_or}
 use Rattle.ff_frame.specs.declared.item.Lane.{Lane}
 use Rattle.ff_edges.specs.declared.edge.Edge.{Edge}
 use Rattle.ff_net_plain.specs.declared.plain.Plain.{Plain}
-use Rattle.ff_net_plain.specs.Plains.{plain_view}
+use Rattle.ff_net_plain.specs.Plains.{IsBelow, plain_view}
+use Rattle.ff_sched.specs.declared.routes.Routes.{Routes}
+use Rattle.ff_sched.specs.Routes.{AreRoutes}
 
 -- the machine has so many inputs and outputs, all of this lane
 abbrev pub HasPorts : Lane → ℕ → ℕ → Plain → Type 0
@@ -19,6 +21,12 @@ five_outs l = (l ∷ []) ∷ (l ∷ l ∷ []) ∷ (l ∷ []) ∷ (l ∷ []) ∷ 
 pub record AreFive (lane : Lane) (machines : List Plain) : Type 0 where
   pub ins : map (λ m. (plain_view m).in_lanes) machines ≡ five_ins lane
   pub outs : map (λ m. (plain_view m).out_lanes) machines ≡ five_outs lane
+  pub below : (k : ℕ) (d : Plain) → k < length machines → IsBelow 1 (slice_index_or machines k d)
+
+-- the routes of one source
+pub record IsOneSource (routes : Routes) : Type 0 where
+  pub one : routes.sources ≡ 1
+  pub routed : AreRoutes routes
 
 -- the source feeds the repeater; its first output goes on through the stopper, its second to the second input of the join
 abbrev pub five_edges : Lane → List Edge

@@ -2,13 +2,16 @@
 // what that gives with the second, and a sink.
 ghost use Rattle.std.specs.Prelude.{◌≡◌, ◌≤◌, IfOk};
 ghost use Rattle.ff_net_plain.specs.Packets.{byte_lane};
-ghost use Rattle.ff_network_tests.specs.Five.{HasPorts, AreFive, five_edges};
+ghost use Rattle.ff_net_plain.specs.Plains.{IsBelow};
+ghost use Rattle.ff_network_tests.specs.Five.{HasPorts, IsOneSource, AreFive, five_edges};
 
 use ff_edges::Edge;
 use ff_frame::Item;
 use ff_net_plain::{Join, Plain, Relay, Source, is_packet, lane_of, one_over, packet};
 use ff_network::{Ran, run_network};
+use ff_sched::{Graphs, History, Routes, SchedState, Ways};
 use ff_time::Rational;
+use ff_values::Event;
 use std::alloc::{AllocError, Global};
 use std::marker::Brand;
 use std::sync::Wait;
@@ -46,7 +49,8 @@ fn packets(alloc: Global, count: u32) -> Result<Vec<Item>, AllocError> {
 }
 
 fn source(alloc: Global, tb: Rational, count: u32) -> Result<Plain, AllocError>
-    ensures { IfOk result (λ m. HasPorts (byte_lane tb) 0 1 m) }
+    ensures ports { IfOk result (λ m. HasPorts (byte_lane tb) 0 1 m) }
+    ensures below { IfOk result (λ m. IsBelow 1 m) }
 {
     let items = packets(alloc, count)?;
     let source = Source::new(alloc, lane_of(tb), 0, items, usize::MAX, usize::MAX);
@@ -54,14 +58,16 @@ fn source(alloc: Global, tb: Rational, count: u32) -> Result<Plain, AllocError>
 }
 
 fn relay(alloc: Global, tb: Rational, outs: usize, limit: usize) -> Result<Plain, AllocError>
-    ensures { IfOk result (λ m. HasPorts (byte_lane tb) 1 outs m) }
+    ensures ports { IfOk result (λ m. HasPorts (byte_lane tb) 1 outs m) }
+    ensures below { IfOk result (λ m. IsBelow 1 m) }
 {
     let relay = Relay::new(alloc, lane_of(tb), outs, limit, usize::MAX)?;
     Ok(Plain::Relay(relay))
 }
 
 fn join(alloc: Global, tb: Rational) -> Plain
-    ensures { HasPorts (byte_lane tb) 2 1 result }
+    ensures ports { HasPorts (byte_lane tb) 2 1 result }
+    ensures below { IsBelow 1 result }
 {
     Plain::Join(Join::new(alloc, lane_of(tb), usize::MAX))
 }
@@ -75,6 +81,17 @@ fn machines(alloc: Global, tb: Rational, count: u32, limit: usize) -> Result<Vec
     let join = join(alloc, tb);
     let sink = relay(alloc, tb, 0, usize::MAX)?;
     Ok(vec![in alloc; source, repeater, stopper, join, sink]?)
+}
+
+// One source, and no output stream that hangs on it.
+fn routes(alloc: Global) -> Routes
+    ensures { IsOneSource result }
+{
+    Routes {
+        sources: 1,
+        streams: Ways::new(Vec::new(alloc)),
+        graphs: Graphs::new(Vec::new(alloc)),
+    }
 }
 
 // The five, run in threads over links of this size. None where memory is refused.
@@ -94,7 +111,9 @@ fn run_five<R: Threads + Wait + Sync>(
     let Ok(edges) = edges(alloc, tb) else {
         return None;
     };
-    run_network::<Brand, R, Plain>(rt, alloc, machines, &edges, size).ok()
+    let routes = routes(alloc);
+    let state = SchedState::opening(&routes, 0);
+    run_network::<Brand, R, Plain>(rt, alloc, machines, &edges, size, state, routes).ok()
 }
 
 // Whether these are the first packets, so many, and the end.
@@ -112,11 +131,41 @@ fn are_packets(given: &[Item], count: u32) -> bool {
     right
 }
 
+// Whether the source was granted each of so many packets and its end, or with fewer grants was stopped, and has exited then.
+fn is_told(history: &History, count: u32) -> bool {
+    let mut left: u64 = u64::from(count) + 1;
+    let mut right = true;
+    let mut exited = false;
+    for event in history.events() {
+        match event {
+            Event::Grant(0) => {
+                right = right && left > 0 && !exited;
+                left = left.saturating_sub(1);
+            }
+            Event::Exited(0) => {
+                right = right && !exited;
+                exited = true;
+            }
+            _ => {
+                right = false;
+            }
+        }
+    }
+    right && exited
+}
+
 // Whether no node has a fault, and the sink was fed the first packets, so many, and the end.
-fn comes_to(ran: Option<Ran<Plain>>, count: u32) -> bool {
+fn comes_to(ran: Option<Ran<Plain>>, sent: u32, count: u32) -> bool {
     let Some(ran) = ran else {
         return false;
     };
+    let told = match &ran.history {
+        Some(history) => is_told(history, sent),
+        None => false,
+    };
+    if !told {
+        return false;
+    }
     match ran.machines.last() {
         Some(Plain::Relay(sink)) => ran.fault.is_none() && are_packets(sink.given(), count),
         _ => false,
@@ -127,8 +176,8 @@ fn comes_to(ran: Option<Ran<Plain>>, count: u32) -> bool {
 fn sizes(rt: HostRuntime) {
     for size in [1usize, 2, 8] {
         let all = run_five(&rt, rt.alloc(), size, 300, usize::MAX);
-        assert!(rt; comes_to(all, 300), "size {size}");
+        assert!(rt; comes_to(all, 300, 300), "size {size}");
         let first = run_five(&rt, rt.alloc(), size, 300, 7);
-        assert!(rt; comes_to(first, 7), "size {size}, the first 7");
+        assert!(rt; comes_to(first, 300, 7), "size {size}, the first 7");
     }
 }

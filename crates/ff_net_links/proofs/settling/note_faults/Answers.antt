@@ -4,7 +4,7 @@ use Rattle.ff_net.specs.declared.fault.Fault.{Fault}
 use Rattle.ff_net.specs.declared.node.Node.{Node}
 use Rattle.ff_net_links.specs.declared.linked.Linked.{Linked}
 use Rattle.ff_net_links.specs.Nodes.{node_of}
-use Rattle.ff_net_links.specs.Settling.{IsFaultOf, nodes_of}
+use Rattle.ff_net_links.specs.Settling.{IsFaultOf}
 use Rattle.ff_net_links.proofs.Linking.{count_map}
 use Rattle.ff_net_links.proofs.Served.{each_snoc, nth_of}
 use Rattle.ff_net_links.proofs.Tables.{at_any, at_map}

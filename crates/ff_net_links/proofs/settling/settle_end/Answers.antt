@@ -1,9 +1,6 @@
-use Rattle.std.proofs.Common.{◌≡◌, ◌≤◌, ◌<◌, ◌+◌, ℕ, length, List, sym, subst, ap, ◌∙◌, arith, Some, slice_index_or, get_or-set_same, get_or-set_other}
-use mathlib.Core.List.{IsPrefix}
-use Rattle.ff_frame.specs.declared.item.Item.{Item}
-use Rattle.ff_link.specs.declared.answers.Settled.{Settled}
+use Rattle.std.proofs.Common.{◌≡◌, ◌<◌, length, sym, ◌∙◌, arith, Some, slice_index_or}
 use Rattle.ff_net_links.proofs.Senders.{sender_there, sender_kept}
-use Rattle.ff_net_links.proofs.Tables.{table_set, no_sender, link_ended, taken_ended}
+use Rattle.ff_net_links.proofs.Tables.{table_set, no_sender, link_ended}
 use Rattle.ff_net_links.proofs.settling.settle_end.Goals as goal
 
 pub settle-requires : goal.settle-requires

@@ -1,18 +1,19 @@
-use Rattle.std.proofs.Common.{◌≡◌, ◌<◌, ℕ, suc, List, length, slice_index_or, vec_items, vec_len, Some, None, arith, refl, sym, ◌∙◌, ap, subst, inl, inr, rules}
-use Rattle.std.specs.Vec.Iter.{into_iter_len}
+use Rattle.std.proofs.Common.{◌≡◌, ◌<◌, ◌++◌, ℕ, suc, List, length, slice_index_or, vec_items, vec_len, Some, None, arith, refl, sym, ◌∙◌, ap, subst, inl, inr, rules}
+use Rattle.std.specs.Vec.Iter.{into_iter_len, into_iter_items}
 use Rattle.ff_net.specs.declared.node.Node.{Node}
 use Rattle.ff_net.specs.Pasts.{IsIn}
-use Rattle.ff_net.specs.Nodes.{AreApart, machine_of}
+use Rattle.ff_net.specs.Nodes.{AreApart, machine_of, pass_of}
+use Rattle.ff_sched.specs.Passing.{Passing}
 use Rattle.ff_net.proofs.Flows.{same_or_not}
 use Rattle.ff_net_links.specs.declared.ends.InEnd.{InEnd}
 use Rattle.ff_net_links.specs.declared.ends.OutEnd.{OutEnd}
 use Rattle.ff_net_links.specs.declared.linked.Linked.{Linked}
 use Rattle.ff_net_links.specs.Ends.{in_end_at, in_link, out_link}
 use Rattle.ff_net_links.specs.Nodes.{HasEnded, in_ends_wires, out_ends_wires, node_of, ins_of, outs_of}
-use Rattle.ff_net_links.specs.Settling.{HasSender, IsSettled, IsSenderIn, ends_of}
+use Rattle.ff_net_links.specs.Settling.{HasSender, IsSettled, IsSenderIn, ends_of, passes_in}
 use Rattle.ff_net_links.proofs.Linking.{count_map, in_member}
 use Rattle.ff_net_links.proofs.Served.{rest_next, first_next, rest_first, each_snoc}
-use Rattle.ff_net_links.proofs.Tables.{at_map, is_sender_at, settled_still}
+use Rattle.ff_net_links.proofs.Tables.{at_map, is_sender_at, settled_still, next_pass, all_passes}
 use Rattle.ff_net_links.proofs.settling.settle_in.Goals as goal
 
 pub loop-linked-init : goal.loop-linked-init
@@ -22,6 +23,9 @@ loop-linked-init g c =
     let zero_len : length c.args.machines.items ≡ 0 = ap length none in record {
       left = search rules;
       room = search rules;
+      passes_room = search rules;
+      as_many = search rules;
+      passes = ap (λ (ps : List Passing). ps ++ passes_in (into_iter_items c.into_iter-linked-iterator.result)) c.requires.passes.0 ∙ ap (λ (ls : List (Linked g.row.M.Denot)). passes_in ls) c.into_iter-linked-iterator.ensures.into_iter_gives.0;
       rest = λ k d below. rest_first _ _ (vec_len c.args.machines) k d c.into_iter-linked-iterator.ensures.into_iter_gives.0 (omega arith);
       machines = λ k d e below. absurd (omega arith);
       table = λ links al. c.requires.table links;
@@ -80,14 +84,18 @@ loop-linked-preserved g c =
     let outs = c.into_parts-node.ensures.outs in record {
       left = let left = was.left in let one = step.1 in omega arith;
       room = search rules;
+      passes_room = search rules;
+      as_many = (let many = was.as_many in let len2 = c.push_reserved-in-loop-linked.ensures.len in omega (arith, len, many, len2));
+      passes = next_pass c.loop-linked.passes.items c.push_reserved-in-loop-linked.new.self.items c.into_parts-machine.result.1 l (into_iter_items c.loop-linked.linked-iterator) (into_iter_items c.next.new.self) (passes_in all) c.push_reserved-in-loop-linked.ensures.items step.0
+          (c.into_parts-machine.ensures.pass ∙ ap (λ (x : Node g.row.M.Denot). pass_of x) c.into_parts-node.ensures.node) was.passes;
       rest = λ k d below.
           let more : suc k < into_iter_len c.loop-linked.linked-iterator = let one = step.1 in omega arith in
           rest_next _ _ all l d n k step.0 (was.rest (suc k) d more) ∙ ap (λ (z : ℕ). slice_index_or all z d) (let e = len in omega arith);
       machines = λ k d e below.
           let P : ℕ → g.row.M.Denot → Type 0 = λ i x. x ≡ machine_of (node_of (slice_index_or all i d)) in
           let long : length c.loop-linked.machines.items ≡ n = sym c.loop-linked.machines.ok.0 in
-          let mine : P n c.into_machine.result = c.into_machine.ensures ∙ (ap (λ (x : Node g.row.M.Denot). machine_of x) c.into_parts-node.ensures.node ∙ ap (λ (x : Linked g.row.M.Denot). machine_of (node_of x)) (here d)) in
-          subst (P k) (ap (λ xs. slice_index_or xs k e) (sym c.push_reserved.ensures.items)) (each_snoc P c.loop-linked.machines.items c.into_machine.result e (λ i lt. was.machines i d e (omega arith)) (subst (λ (i : ℕ). P i c.into_machine.result) (sym long) mine) k (omega arith));
+          let mine : P n c.into_parts-machine.result.0 = c.into_parts-machine.ensures.machine ∙ (ap (λ (x : Node g.row.M.Denot). machine_of x) c.into_parts-node.ensures.node ∙ ap (λ (x : Linked g.row.M.Denot). machine_of (node_of x)) (here d)) in
+          subst (P k) (ap (λ xs. slice_index_or xs k e) (sym c.push_reserved.ensures.items)) (each_snoc P c.loop-linked.machines.items c.into_parts-machine.result.0 e (λ i lt. was.machines i d e (omega arith)) (subst (λ (i : ℕ). P i c.into_parts-machine.result.0) (sym long) mine) k (omega arith));
       table = λ links al.
           c.store_ends.ensures.table (ends_of all) links (c.settle_ends.ensures.table (ends_of all) links (was.table links al)) (λ q d lt.
           let qlt : q < length (outs_of l) = subst (λ (es : List OutEnd). q < length es) outs lt in
@@ -143,3 +151,9 @@ returns-clause-settled g c after = record {
       let there : k < vec_len c.loop-linked.machines = let left = was.left in let none = c.in-None.ensures.steps.0 in let ok = c.args.nodes.ok.0 in omega arith in
       was.settled after c.requires.linked.0 c.requires.linked.1 k p d there plt;
 }
+
+pub returns-clause-passes : goal.returns-clause-passes
+returns-clause-passes g c =
+    let was = c.loop-linked.invariant in
+    all_passes c.loop-linked.passes.items (into_iter_items c.loop-linked.linked-iterator) (passes_in c.args.nodes.items)
+    (let none = c.in-None.ensures.steps.0 in let ok = c.loop-linked.linked-iterator.rest.ok.0 in omega (arith, none, ok)) was.passes

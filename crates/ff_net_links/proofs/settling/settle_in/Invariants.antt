@@ -1,4 +1,4 @@
-use Rattle.std.proofs.Common.{◌≡◌, ◌+◌, ◌≤◌, ◌<◌, ℕ, length, slice_index_or, vec_items, vec_len, vec_capacity}
+use Rattle.std.proofs.Common.{◌≡◌, ◌+◌, ◌++◌, ◌≤◌, ◌<◌, ℕ, length, slice_index_or, vec_items, vec_len, vec_capacity}
 use Rattle.std.specs.Vec.Iter.{into_iter_items, into_iter_len}
 use Rattle.ff_link.specs.Views.{Link}
 use Rattle.ff_net.specs.Pasts.{IsIn}
@@ -6,13 +6,16 @@ use Rattle.ff_net.specs.Nodes.{machine_of}
 use Rattle.ff_net_links.specs.declared.linked.Linked.{Linked}
 use Rattle.ff_net_links.specs.Ends.{in_end_at}
 use Rattle.ff_net_links.specs.Nodes.{in_ends_wires, out_ends_wires, node_of, ins_of, outs_of}
-use Rattle.ff_net_links.specs.Settling.{HasSender, ComeAfter, IsTable, IsSettled, AreLinked, ends_of}
+use Rattle.ff_net_links.specs.Settling.{HasSender, ComeAfter, IsTable, IsSettled, AreLinked, ends_of, passes_in}
 use Rattle.ff_net_links.proofs.settling.settle_in.Given as goal
 
 abbrev pub invariant-loop-linked : goal.invariant-loop-linked
 invariant-loop-linked g l = let rest = l.linked-iterator in let n = vec_len l.machines in let all = vec_items l.fn.nodes in record {
   left : n + into_iter_len rest ≡ vec_len l.fn.nodes;
   room : vec_capacity l.initial.machines ≤ vec_capacity l.machines;
+  passes_room : vec_capacity l.initial.passes ≤ vec_capacity l.passes;
+  as_many : vec_len l.passes ≡ n;
+  passes : vec_items l.passes ++ passes_in (into_iter_items rest) ≡ passes_in all;
   rest : (k : ℕ) (d : Linked g.row.M.Denot) → k < into_iter_len rest → slice_index_or (into_iter_items rest) k d ≡ slice_index_or all (n + k) d;
   machines : (k : ℕ) (d : Linked g.row.M.Denot) (e : g.row.M.Denot) → k < n → slice_index_or (vec_items l.machines) k e ≡ machine_of (node_of (slice_index_or all k d));
   table : (links : ℕ → Link) → AreLinked links all → IsTable (ends_of all) links l.table.items;

@@ -19,7 +19,7 @@ finish-requires g c =
     let some : 0 < into_iter_len c.loop-worker.worker-iterator = let one = step.1 in omega arith in
     let next : c.in-Some.worker ≡ get_or (vec_items c.args.workers) n c.in-Some.worker = first_next _ _ (vec_items c.args.workers) c.in-Some.worker c.in-Some.worker n step.0 (was.rest 0 c.in-Some.worker some) in
     let there : n < length c.args.workers.items = let left = was.left in let one = step.1 in let ok = c.args.workers.ok.0 in omega arith in
-    someone view ns c.args.workers.items n c.in-Some.worker all there next
+    someone view c.args.cell.now ns c.args.workers.items n c.in-Some.worker all c.requires.serve.2 there next
 
 pub loop-worker-preserved : goal.loop-worker-preserved
 loop-worker-preserved g c =

@@ -1,7 +1,7 @@
 use Rattle.ff_net_links.proofs.threads.rounds.Goals as goal
 
 pub round-requires : goal.round-requires
-round-requires g c = (c.requires.0, c.loop.invariant c.requires.0 c.requires.1)
+round-requires g c = (c.requires.0, c.loop.invariant c.requires.0 c.requires.1, c.requires.2)
 
 pub returns-in-Done : goal.returns-in-Done
 returns-in-Done g c = λ ns all. c.round.ensures ns (c.loop.invariant ns all)

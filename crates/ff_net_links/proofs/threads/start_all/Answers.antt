@@ -3,13 +3,14 @@ use Rattle.std.specs.Vec.Iter.{into_iter_len}
 use Rattle.std.proofs.Common.{rules, arith, ap, ◌∙◌, subst, sym, refl}
 use Rattle.ff_net_links.specs.declared.linked.Linked.{Linked}
 use Rattle.ff_net_links.specs.declared.worker.Worker.{Worker}
-use Rattle.ff_net_links.specs.Nodes.{IsLawful}
+use Rattle.ff_net.specs.Nodes.{IsOf}
+use Rattle.ff_net_links.specs.Nodes.{IsLawful, node_of}
 use Rattle.ff_net_links.specs.Workers.{Serves}
 use Rattle.ff_net_links.proofs.Served.{each_snoc, rest_next, first_next, rest_first}
 use Rattle.ff_net_links.proofs.threads.start_all.Goals as goal
 
-pub start-requires-after_bounds : goal.start-requires-after_bounds
-start-requires-after_bounds g c = λ κs b.
+pub start-requires-clause-lawful : goal.start-requires-clause-lawful
+start-requires-clause-lawful g c = λ κs b.
     let view = g.M.Machine.view in
     let was = c.loop-node.invariant in
     let step = c.in-Some.ensures.steps in
@@ -18,6 +19,17 @@ start-requires-after_bounds g c = λ κs b.
     let next : c.in-Some.node ≡ get_or (vec_items c.args.nodes) n c.in-Some.node = first_next _ _ (vec_items c.args.nodes) c.in-Some.node c.in-Some.node n step.0 (was.rest 0 c.in-Some.node some) in
     let there : n < length (vec_items c.args.nodes) = let left = was.left in let one = step.1 in let ok = c.args.nodes.ok.0 in omega arith in
     subst (λ (x : Linked g.row.M.Denot). IsLawful view x) (sym next) (c.requires.lawful.each n c.in-Some.node there)
+
+pub start-requires-clause-cell : goal.start-requires-clause-cell
+start-requires-clause-cell g c = λ κs b.
+    let view = g.M.Machine.view in
+    let was = c.loop-node.invariant in
+    let step = c.in-Some.ensures.steps in
+    let n = c.loop-node.next in
+    let some : 0 < into_iter_len c.loop-node.node-iterator = let one = step.1 in omega arith in
+    let next : c.in-Some.node ≡ get_or (vec_items c.args.nodes) n c.in-Some.node = first_next _ _ (vec_items c.args.nodes) c.in-Some.node c.in-Some.node n step.0 (was.rest 0 c.in-Some.node some) in
+    let there : n < length (vec_items c.args.nodes) = let left = was.left in let one = step.1 in let ok = c.args.nodes.ok.0 in omega arith in
+    subst (λ (x : Linked g.row.M.Denot). IsOf view c.args.cell.now (node_of x)) (sym next) (c.requires.cell.each n c.in-Some.node there)
 
 pub loop-node-preserved : goal.loop-node-preserved
 loop-node-preserved g c =

@@ -6,6 +6,6 @@ pub returns : goal.returns
 returns g c n came =
     let view = g.M.Machine.view in (
       follows_then view n c.args.back.now.node c.turn-turn.new.self came.0 c.turn-turn.ensures.follows,
-      lawful_after view c.args.back.now.node c.turn-turn.new.self c.turn-turn.ensures.follows c.requires,
+      lawful_after view c.args.back.now.node c.turn-turn.new.self c.turn-turn.ensures.follows c.requires.lawful,
       λ done. c.turn-turn.ensures.done (search rules),
     )

@@ -1,6 +1,7 @@
 use Rattle.std.proofs.Common.{subst}
 use Rattle.ff_net_links.specs.declared.worker.Worker.{Worker}
 use Rattle.ff_net_links.specs.Workers.{Serves}
+use Rattle.ff_net_links.proofs.Linking.{of_after}
 use Rattle.ff_net_links.proofs.worker.turn_here.Goals as goal
 
 pub returns-in-Here : goal.returns-in-Here
@@ -8,3 +9,11 @@ returns-in-Here g c =
     let view = g.M.Machine.view in record {
       keeps = λ n s. c.turn_back.ensures n (subst (λ (w : Worker g.row.M.Denot). Serves view n w) c.in-Here.is s);
     }
+
+pub turn_back-requires-clause-lawful : goal.turn_back-requires-clause-lawful
+turn_back-requires-clause-lawful g c = let view = g.M.Machine.view in (subst (λ (w : Worker g.row.M.Denot). Serves view c.requires.0 w) c.in-Here.is c.requires.1).1
+
+pub turn_back-requires-clause-cell : goal.turn_back-requires-clause-cell
+turn_back-requires-clause-cell g c =
+    let view = g.M.Machine.view in
+    of_after view c.args.cell.now c.requires.0 _ (subst (λ (w : Worker g.row.M.Denot). Serves view c.requires.0 w) c.in-Here.is c.requires.1).0 c.requires.2

@@ -6,8 +6,8 @@ use Rattle.ff_net_plain.specs.Packets.{byte_lane}
 use Rattle.ff_net_tests.proofs.Chains.{begins}
 use Rattle.ff_net_tests.proofs.node.on_links.Goals as goal
 
-pub returns-in-Ok : goal.returns-in-Ok
-returns-in-Ok c task new =
+pub returns-in-Ok-clause-new : goal.returns-in-Ok-clause-new
+returns-in-Ok-clause-new c task new =
     let lane : Lane = byte_lane c.args.tb in
     let one = c.lane_of.ensures in
     let two = c.lane_of-2.ensures in

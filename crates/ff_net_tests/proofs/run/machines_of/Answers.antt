@@ -9,18 +9,18 @@ use Rattle.ff_net_tests.proofs.Chains.{chain_lawful, chain_after}
 use Rattle.ff_net_tests.proofs.run.machines_of.Goals as goal
 
 pub run_threads-requires-clause-lawful : goal.run_threads-requires-clause-lawful
-run_threads-requires-clause-lawful g c κs within = chain_lawful (chain_tasks c.args.count c.args.limit) (byte_lane c.args.tb) c.in-Ok.nodes.items c.in-Ok.ensures
+run_threads-requires-clause-lawful g c κs within = chain_lawful (chain_tasks c.args.count c.args.limit) (byte_lane c.args.tb) c.in-Ok-chain.nodes.items c.in-Ok-chain.ensures.chain
 
 pub settle_all-requires-clause-linked : goal.settle_all-requires-clause-linked
-settle_all-requires-clause-linked g c = (let h = chain_after (chain_tasks c.args.count c.args.limit) (byte_lane c.args.tb) c.in-Ok.nodes.items c.in-Ok-run_threads.done.items c.in-Ok.ensures c.in-Ok-run_threads.ensures.ok in (h.links, h.linked))
+settle_all-requires-clause-linked g c = (let h = chain_after (chain_tasks c.args.count c.args.limit) (byte_lane c.args.tb) c.in-Ok-chain.nodes.items c.in-Ok-run_threads.done.items c.in-Ok-chain.ensures.chain c.in-Ok-run_threads.ensures.ok in (h.links, h.linked))
 
 pub returns : goal.returns
 returns g c = record {
   fed = λ sound.
-      let olds = c.in-Ok.nodes.items in
+      let olds = c.in-Ok-chain.nodes.items in
       let news = c.in-Ok-run_threads.done.items in
       let ran = c.in-Ok-run_threads.ensures.ok in
-      let after = chain_after (chain_tasks c.args.count c.args.limit) (byte_lane c.args.tb) olds news c.in-Ok.ensures ran in
+      let after = chain_after (chain_tasks c.args.count c.args.limit) (byte_lane c.args.tb) olds news c.in-Ok-chain.ensures.chain ran in
       let ended = ended_after plain_view olds news ran in
       let settled = c.settle_all.ensures in
       let links : links_of c.in-Ok-new.room ≡ 2 = c.in-Ok-new.ensures.links in

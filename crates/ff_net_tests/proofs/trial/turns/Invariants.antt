@@ -1,12 +1,13 @@
 use Rattle.std.proofs.Common.{◌≡◌, ◌≤◌, length}
-use Rattle.ff_net.specs.Serial.{AreShaped}
+use Rattle.ff_net.specs.Serial.{AreOf, AreShaped}
 use Rattle.ff_net.specs.Worlds.{lanes_of}
 use Rattle.ff_net_plain.specs.Kinds.{relay_view}
 use Rattle.ff_net_tests.proofs.trial.turns.Given as goal
 
 abbrev pub invariant-loop-turn : goal.invariant-loop-turn
-invariant-loop-turn l = record {
+invariant-loop-turn g l = record {
   shaped : AreShaped relay_view l.nodes l.wires;
+  cell : AreOf relay_view l.cell l.nodes;
   lanes : length (lanes_of l.wires) ≡ 2;
   count : length l.nodes ≡ 1;
   sent : l.sent ≤ l._turn;

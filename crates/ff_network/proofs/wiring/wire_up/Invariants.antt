@@ -1,11 +1,12 @@
-use Rattle.std.proofs.Common.{◌≡◌, ◌<◌, ◌≤◌, ◌++◌, ℕ, length, slice_index_or, vec_items, vec_len, vec_capacity}
+use Rattle.std.proofs.Common.{◌≡◌, ◌<◌, ◌≤◌, ◌-◌, ◌*◌, ◌^◌, ◌++◌, ℕ, length, slice_index_or, vec_items, vec_len, vec_capacity}
 use Rattle.std.specs.Vec.Iter.{into_iter_items}
-use Rattle.ff_net.specs.Nodes.{machine_of}
+use Rattle.ff_net.specs.Nodes.{machine_of, pass_of}
 use Rattle.ff_net.specs.Pasts.{IsIn}
 use Rattle.ff_net_links.specs.declared.linked.Linked.{Linked}
 use Rattle.ff_network.specs.Fits.{edge_lanes, ins_at, outs_at}
 use Rattle.ff_network.specs.Networks.{machines_in, node_at, ports_of}
 use Rattle.ff_network.specs.Nodes.{IsLinked}
+use Rattle.ff_network.specs.Scheduling.{new_pass, node_share}
 use Rattle.ff_network.specs.Tables.{NewLinks, HasNewSender, HasNewReceiver, links_in}
 use Rattle.ff_network.proofs.wiring.wire_up.Given as goal
 
@@ -19,6 +20,8 @@ invariant-loop-number g l =
       room : length all ≤ vec_capacity l.nodes;
       parts : machines_in (vec_items l.nodes) ++ into_iter_items l.left ≡ all;
       nodes : (k : ℕ) (d : Linked g.row.M.Denot) → k < l.number → IsLinked view new (ins_at ports l.edges k) (outs_at ports l.edges k) (machine_of (node_at (vec_items l.nodes) k d)) (slice_index_or (vec_items l.nodes) k d);
+      seated : (k : ℕ) (d : Linked g.row.M.Denot) → k < l.number → pass_of (node_at (vec_items l.nodes) k d) ≡ new_pass l.cell node_share;
+      rest : l.rest ≡ new_pass l.cell (2 ^ 62 - l.number * node_share);
       receivers : (k w : ℕ) → l.number ≤ k → k < length all → IsIn w (ins_at ports l.edges k) → HasNewReceiver new (vec_items l.tables.receivers) w;
       senders : (k w : ℕ) → l.number ≤ k → k < length all → IsIn w (outs_at ports l.edges k) → HasNewSender new (vec_items l.tables.senders) w;
     }

@@ -6,4 +6,5 @@ use Rattle.ff_network_tests.proofs.Fives.{five_of}
 use Rattle.ff_network_tests.proofs.five.machines.Goals as goal
 
 pub returns : goal.returns
-returns c = subst (λ (ms : List Plain). AreFive (byte_lane c.args.tb) ms) (sym c.in_ok-vec.ensures.items) (five_of (byte_lane c.args.tb) _ _ _ _ _ c.in_ok-source.ensures c.in_ok-repeater.ensures c.in_ok-stopper.ensures c.join-join.ensures c.in_ok-sink.ensures)
+returns c = subst (λ (ms : List Plain). AreFive (byte_lane c.args.tb) ms) (sym c.in_ok-vec.ensures.items) (five_of (byte_lane c.args.tb) _ _ _ _ _ c.in_ok-source.ensures.ports c.in_ok-repeater.ensures.ports c.in_ok-stopper.ensures.ports c.join-join.ensures.ports c.in_ok-sink.ensures.ports
+    c.in_ok-source.ensures.below c.in_ok-repeater.ensures.below c.in_ok-stopper.ensures.below c.join-join.ensures.below c.in_ok-sink.ensures.below)

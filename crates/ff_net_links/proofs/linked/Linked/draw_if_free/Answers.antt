@@ -1,6 +1,7 @@
 use Rattle.std.proofs.Common.{sym, ◌∙◌, ap, subst}
 use Rattle.ff_net.specs.declared.node.Node.{Node}
 use Rattle.ff_net.specs.declared.wires.Wires.{Wires}
+use Rattle.ff_net.specs.Nodes.{pass_of}
 use Rattle.ff_net.specs.Steps.{Stepped}
 use Rattle.ff_net.proofs.Moments.{stepped_as, stepped_self}
 use Rattle.ff_net_links.specs.Ends.{in_end_at, taken_of}
@@ -69,3 +70,6 @@ returns-clause-waits g c q d lt w p = absurd (c.waits_for_room.ensures c.if-wait
 
 pub returns-clause-due : goal.returns-clause-due
 returns-clause-due g c world past q stand was d p = absurd ((c.fill.ensures.stepped.goes world past stand was).so.none_before c.if-fill.false q d)
+
+pub returns-clause-pass : goal.returns-clause-pass
+returns-clause-pass g c = ap (λ (n : Node _). pass_of n) c.draw_all.ensures.node ∙ c.fill.ensures.pass

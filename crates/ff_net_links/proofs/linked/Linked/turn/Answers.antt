@@ -1,21 +1,26 @@
-use Rattle.std.proofs.Common.{◌≡◌, ℕ, ◌<◌, ◌||◌, inl, inr, true, slice_index_or, sym, ◌∙◌, ap, subst}
+use Rattle.std.proofs.Common.{◌≡◌, ℕ, ◌<◌, ◌≤◌, ◌+◌, length, ◌||◌, inl, inr, true, slice_index_or, sym, ◌∙◌, ap, subst}
 use Rattle.ff_frame.specs.Ports.{IsClosed}
 use Rattle.ff_net.specs.declared.node.Node.{Node}
 use Rattle.ff_net.specs.Pasts.{Past}
 use Rattle.ff_net.specs.Worlds.{Wire}
 use Rattle.ff_net.specs.declared.wires.Wires.{Wires}
-use Rattle.ff_net.specs.Nodes.{IsSound, NodeStands, HasFinished, IsOver, machine_of, inputs_of, outputs_of, in_wire_of}
+use Rattle.ff_net.specs.Logs.{tickets_in}
+use Rattle.ff_net.specs.Nodes.{IsSound, NodeStands, HasFinished, IsOver, machine_of, pass_of, inputs_of, outputs_of, in_wire_of}
+use Rattle.ff_sched.specs.Passing.{Passing}
 use Rattle.ff_net.specs.Steps.{Moves, Stepped}
 use Rattle.ff_net.proofs.Changes.{true_not_false}
 use Rattle.ff_net.proofs.Rounds.{or_false}
 use Rattle.ff_net_links.specs.Ends.{in_end_at, taken_of}
 use Rattle.ff_net_links.specs.Turns.{InMoves, InRests, Shuts, SendsOneAtMost, OutMoves, OutRests}
-use Rattle.ff_net_links.proofs.Linking.{follows_then, lawful_after}
+use Rattle.ff_net_links.proofs.Linking.{follows_then, lawful_after, of_after}
 use Rattle.ff_net_links.proofs.Turns.{takes_then, rests_then, shut_port, stop_port, after_stop, node_idle, moved_of}
 use Rattle.ff_net_links.proofs.linked.Linked.turn.Goals as goal
 
-pub turn_node-turned-requires : goal.turn_node-turned-requires
-turn_node-turned-requires g c = lawful_after g.M.Machine.view c.args.self.now c.draw_if_free-drawn.new.self c.draw_if_free-drawn.ensures.follows c.requires.lawful
+pub turn_node-turned-requires-clause-lawful : goal.turn_node-turned-requires-clause-lawful
+turn_node-turned-requires-clause-lawful g c = lawful_after g.M.Machine.view c.args.self.now c.draw_if_free-drawn.new.self c.draw_if_free-drawn.ensures.follows c.requires.lawful
+
+pub turn_node-turned-requires-clause-cell : goal.turn_node-turned-requires-clause-cell
+turn_node-turned-requires-clause-cell g c = of_after g.M.Machine.view c.args.cell.now c.args.self.now c.draw_if_free-drawn.new.self c.draw_if_free-drawn.ensures.follows c.requires.cell
 
 pub pour_all-poured-requires : goal.pour_all-poured-requires
 pour_all-poured-requires g c =
@@ -46,6 +51,13 @@ returns-clause-follows g c =
     (follows_then view c.args.self.now c.turn_node-turned.new.self c.pour_all-poured.new.self
     (follows_then view c.args.self.now c.draw_if_free-drawn.new.self c.turn_node-turned.new.self c.draw_if_free-drawn.ensures.follows c.turn_node-turned.ensures.follows) c.pour_all-poured.ensures.follows)
     c.stop_finished-stopped.ensures.follows) c.shut_ends-shut.ensures.follows
+
+pub returns-clause-once : goal.returns-clause-once
+returns-clause-once g c =
+    let same : pass_of c.shut_ends-shut.new.self.node ≡ pass_of c.turn_node-turned.new.self.node =
+    ap (λ (n : Node _). pass_of n) c.shut_ends-shut.ensures.node ∙ (c.stop_finished-stopped.ensures.pass ∙ ap (λ (n : Node _). pass_of n) c.pour_all-poured.ensures.node) in
+    subst (λ (p : Passing). length (tickets_in p.log) ≤ length (tickets_in (pass_of c.args.self.now.node).log) + 1) (sym same)
+    (subst (λ (p : Passing). length (tickets_in (pass_of c.turn_node-turned.new.self.node).log) ≤ length (tickets_in p.log) + 1) c.draw_if_free-drawn.ensures.pass c.turn_node-turned.ensures.once)
 
 pub returns-clause-takes : goal.returns-clause-takes
 returns-clause-takes g c p =
@@ -83,9 +95,9 @@ returns-clause-moved g c says =
     let last = c.shut_ends-shut.new.self in
     let same = c.stop_finished-stopped.ensures.ins ∙ (c.pour_all-poured.ensures.ins ∙ c.turn_node-turned.ensures.ins) in
     let shuts : (p : ℕ) → Shuts (in_end_at drawn.ins.items p) (in_end_at last.ins.items p) = λ p. subst (λ ends. Shuts (in_end_at ends.items p) (in_end_at last.ins.items p)) same (c.shut_ends-shut.ensures.shuts p) in
-    moved_of view old drawn turned stopped last c.draw_if_free-drawn.result c.turn_node-turned.result c.pour_all-poured.result c.stop_finished-stopped.result c.shut_ends-shut.result c.shut_ends-shut.ensures.node (λ n. (c.stop_finished-stopped.ensures.still n).0 ∙ c.pour_all-poured.ensures.node) shuts c.draw_if_free-drawn.ensures.takes c.draw_if_free-drawn.ensures.moved c.draw_if_free-drawn.ensures.still
+    moved_of view old drawn turned stopped last c.draw_if_free-drawn.result c.turn_node-turned.result c.pour_all-poured.result c.stop_finished-stopped.result c.shut_ends-shut.result c.draw_if_free-drawn.ensures.pass c.shut_ends-shut.ensures.node (λ n. (c.stop_finished-stopped.ensures.still n).0 ∙ c.pour_all-poured.ensures.node) shuts c.draw_if_free-drawn.ensures.takes c.draw_if_free-drawn.ensures.moved c.draw_if_free-drawn.ensures.still
     c.turn_node-turned.ensures.stepped
-    (λ t. elim (c.turn_node-turned.ensures.moved t) [ inl s ↦ inl s | inr d ↦ inr (λ was. true_not_false (sym (c.is_done-was_done.ensures.exact was) ∙ d.0), d.1) ])
+    (λ t. elim (c.turn_node-turned.ensures.moved t) [ inl s ↦ inl s | inr more ↦ elim more [ inl l ↦ inr (inl l) | inr d ↦ inr (inr (λ was. true_not_false (sym (c.is_done-was_done.ensures.exact was) ∙ d.0), d.1)) ] ])
     (λ t. let h = c.pour_all-poured.ensures.moved t in (
       h.0,
       λ d. subst (λ ends. OutMoves (slice_index_or ends.items h.0 d) (slice_index_or last.outs.items h.0 d)) (c.turn_node-turned.ensures.outs ∙ c.draw_if_free-drawn.ensures.outs)
@@ -119,7 +131,7 @@ returns-clause-not_yet g c says =
       outs = λ q x. subst (λ ends. OutRests (slice_index_or ends.items q x) (slice_index_or last.outs.items q x)) (c.turn_node-turned.ensures.outs ∙ c.draw_if_free-drawn.ensures.outs)
           (subst (λ ends. OutRests (slice_index_or turned.outs.items q x) (slice_index_or ends.items q x)) (sym (c.shut_ends-shut.ensures.outs ∙ c.stop_finished-stopped.ensures.outs)) (pours.0 q x));
       node = elim (c.turn_node-turned.ensures.still e.1) [
-        | inl s ↦ inl (node_idle view old drawn turned last draws.1 node (c.shut_ends-shut.ensures.wires ∙ ((c.stop_finished-stopped.ensures.still f.1).1 ∙ pours.1)) s)
+        | inl s ↦ inl (node_idle view old drawn turned last draws.1 node c.draw_if_free-drawn.ensures.pass (c.shut_ends-shut.ensures.wires ∙ ((c.stop_finished-stopped.ensures.still f.1).1 ∙ pours.1)) s)
         | inr was ↦ inr (c.is_done-was_done.ensures.done was)
       ];
     }
