@@ -1,3 +1,4 @@
 pub mod Ends
 pub mod MuxSteps
+pub mod TellSteps
 pub mod Texts

@@ -4,7 +4,9 @@ use Rattle.std.specs.Io.KnownBytes.{Appends}
 use Rattle.std.proofs.lemmas.Bool.Decides.{nat_tests}
 use mathlib.Core.List.{IsPrefix}
 use Rattle.ff_lists.specs.Appends.{AppendsPrefix}
+use Rattle.ff_values.specs.Heads.{base_of_head}
 use Rattle.ff_values.specs.declared.head.StreamHead.{StreamHead}
+use Rattle.ff_values.specs.declared.event.Event.{Event}
 use Rattle.ff_values.specs.declared.packet.Pkt.{Pkt}
 use Rattle.ff_frame.specs.declared.item.Item.{Item}
 use Rattle.ff_frame.specs.declared.item.Item.TheVariants.{Audio, Video, Packet, Trailer, End, Broken}
@@ -18,7 +20,7 @@ use Rattle.ff_frame.specs.Ports.{nothing, stream_at, IsWhole}
 use Rattle.ff_net.specs.declared.fault.Fault.{Fault}
 use Rattle.ff_net.specs.declared.fault.Fault.TheVariants.{TooLarge}
 use Rattle.ff_net.specs.Ways.{Flow, AreValid}
-use Rattle.ff_net.specs.Pasts.{Past, fed, start}
+use Rattle.ff_net.specs.Pasts.{Past, fed, start, was_told}
 use Rattle.ff_net.specs.Laws.{IsOfInputs}
 use Rattle.ff_net.proofs.Flows.{stream_at-with_item_same, stream_at-with_item_other}
 use Rattle.ff_writers.specs.Layouts.{Layout, written, fits, with_last, IsBeyond}
@@ -33,13 +35,12 @@ fits_none None = refl
 fits_none (Some most) = grind (arith, nat_tests)
 
 -- nothing was fed to a muxer whose sink holds nothing, and whose writer counted nothing
-pub mux_begins : (holds : Option (List ℕ)) (layout : Layout) (counts : ℕ → Type 0) (head : StreamHead) → holds ≡ Some [] → counts 0
-    → MuxStands holds layout counts head false false None (start (mux_task layout))
-mux_begins holds layout counts head told counted = (
+pub mux_begins : (holds : Option (List ℕ)) (layout : Layout) (counts : ℕ → Type 0) (head : StreamHead) (stream : ℕ) → holds ≡ Some [] → counts 0
+    → MuxStands holds layout counts head false false None (start (mux_task layout stream (base_of_head head)))
+mux_begins holds layout counts head stream told counted = (
   [],
   record {
     task = refl;
-    silent = (refl, refl);
     valid = nothing_valid (Packets head);
     others = λ p le. refl;
     gave = λ p. refl;
@@ -54,6 +55,31 @@ mux_begins holds layout counts head told counted = (
     finished_is = λ e w. let clash : still_open ≡ whole = w in cc;
     front = (nothing, below_self nothing, small_cause layout nothing (fits_none layout.longest), inl (unpatched layout nothing, refl));
     caused = λ c e i. let clash : None ≡ Some c = e in cc;
+  },
+)
+
+-- an event was told
+pub mux_told : (holds : Option (List ℕ)) (layout : Layout) (counts : ℕ → Type 0) (head : StreamHead) (begun closed : Bool) (fault : Option Fault)
+    (past : Past) (e : Event) → MuxStands holds layout counts head begun closed fault past
+    → MuxStands holds layout counts head begun closed fault (was_told past e)
+mux_told holds layout counts head begun closed fault past e (bytes, s) = (
+  bytes,
+  record {
+    task = s.task;
+    valid = s.valid;
+    others = s.others;
+    gave = s.gave;
+    not_begun = s.not_begun;
+    has_begun = s.has_begun;
+    closed_is = s.closed_is;
+    told = s.told;
+    fresh = s.fresh;
+    counted = s.counted;
+    small = s.small;
+    exact = s.exact;
+    finished_is = s.finished_is;
+    front = s.front;
+    caused = s.caused;
   },
 )
 
@@ -79,7 +105,6 @@ module _ (holds now : Option (List ℕ)) (layout : Layout) (counts counts' : ℕ
         bytes,
         record {
           task = s.1.task;
-          silent = s.1.silent;
           valid = v;
           others = λ p le. let other : p ≢ 0 = omega (arith, le) in stream_at-with_item_other past.got 0 p x other ∙ s.1.others p le;
           gave = s.1.gave;

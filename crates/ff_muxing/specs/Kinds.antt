@@ -2,12 +2,12 @@
 use Rattle.std.specs.Prelude.{◌≡◌, true, false, [], None}
 use Rattle.std.proofs.Common.{arith}
 use Rattle.ff_net.specs.Laws.{Laws}
-use Rattle.ff_net.specs.Silence.{silent_front}
 use Rattle.ff_net.specs.Views.{View}
 use Rattle.ff_host.specs.declared.sink.Sink.{Ghosts as SinkGhosts}
 use Rattle.ff_writers.specs.declared.writer.Writer.{Ghosts as WriterGhosts}
 use Rattle.ff_muxing.specs.declared.mux.Mux.{Mux}
-use Rattle.ff_muxing.specs.Muxers.{mux_sink, mux_stands, mux_in_lanes, mux_fault, mux_spent}
+use Rattle.ff_muxing.specs.Muxers.{mux_sink, mux_stands, mux_in_lanes, mux_fault, mux_spent, mux_stream, mux_base}
+use Rattle.ff_muxing.specs.Telling.{told_front}
 use Rattle.ff_muxing.specs.MuxLaws.{mux_source, mux_valid, mux_keeps, mux_monotone, mux_cause_stays, mux_calm, mux_given, mux_unbroken, mux_caused, mux_spent_only, mux_closed_spent, no_output}
 
 no_source : false ≡ true → ⊥
@@ -31,20 +31,20 @@ module _ {K W : Type 0} {S : SinkGhosts K} {F : WriterGhosts W} where
 
   pub mux_laws : (m : Mux K W S F) → Laws (mux_view m)
   mux_laws m = record {
-    is_source = λ past s. mux_source m past s;
-    valid = λ past s. mux_valid m past s;
-    keeps = λ past s ss v. mux_keeps m past s ss v;
-    monotone = λ past s. mux_monotone m past s;
-    cause_stays = λ past s. mux_cause_stays m past s;
-    calm = λ past s. mux_calm m past s;
-    given = λ past s. mux_given m past s;
-    unbroken = λ past s f u. mux_unbroken m past s;
-    caused = λ past c s e i. mux_caused m past s c e i;
-    spent_only = λ past p s h. mux_spent_only m past s p h;
-    closed_spent = λ past p s lt c. mux_closed_spent m past s p lt c;
+    is_source = λ past s. mux_source m past s.0;
+    valid = λ past s. mux_valid m past s.0;
+    keeps = λ past s ss v. mux_keeps m past s.0 ss v;
+    monotone = λ past s. mux_monotone m past s.0;
+    cause_stays = λ past s. mux_cause_stays m past s.0;
+    calm = λ past s. mux_calm m past s.0;
+    given = λ past s. mux_given m past s.0;
+    unbroken = λ past s f u. mux_unbroken m past s.0;
+    caused = λ past c s e i. mux_caused m past s.0 c e i;
+    spent_only = λ past p s h. mux_spent_only m past s.0 p h;
+    closed_spent = λ past p s lt c. mux_closed_spent m past s.0 p lt c;
     done_spent = λ past p s lt z c a. absurd (no_output 0 z);
     settles = λ past s n ss v c q lt. absurd (no_output q lt);
-    told = λ past s. silent_front past s.1.silent;
+    told = λ past s. told_front (mux_stream m) (mux_base m) m.events.items past s.1;
     ticket_used = λ past q s i f p a h. h;
     tried_allowed = λ past s. omega arith;
     tried_units = λ past s i. absurd (no_source i);

@@ -7,4 +7,5 @@ pub mod Muxers
 pub mod Muxing
 pub mod Outputs
 pub mod TaskLaws
+pub mod Telling
 pub mod Writing

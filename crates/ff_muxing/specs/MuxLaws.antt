@@ -1,6 +1,7 @@
 -- The laws of the part that writes a stream of packets.
 use Rattle.std.specs.Prelude.{◌≡◌, ◌≢◌, ℕ, zero, suc, ◌<◌, false, List, [], Some, None, IsSome}
 use Rattle.std.proofs.Common.{sym, subst, ap, inl, ◌∙◌, arith}
+use Rattle.ff_time.specs.Fraction.{Fraction}
 use Rattle.ff_frame.specs.Order.{below_self}
 use Rattle.ff_frame.specs.Stream.{LiesBelow}
 use Rattle.ff_frame.specs.Ports.{nothing, stream_at, AllBelow, AllUnbroken, IsClosed, IsUnbroken, IsWhole, IsMonotone, IsCalm}
@@ -17,14 +18,15 @@ use Rattle.ff_muxing.specs.declared.mux.Mux.{Mux}
 use Rattle.ff_muxing.specs.Growing.{cause_grows, small_held}
 use Rattle.ff_muxing.specs.Held.{HoldsPart, part_of, part_by, there_is}
 use Rattle.ff_muxing.specs.Muxing.{unpatched, file, mux_cause, mux_task}
+use Rattle.ff_muxing.specs.Telling.{mux_tells}
 use Rattle.ff_muxing.specs.TaskLaws.{means_none, means_keeps, means_monotone, means_calm, same_text, same_file, same_cause}
-use Rattle.ff_muxing.specs.Muxers.{mux_sink, mux_layout, mux_stands, mux_in_lanes, mux_fault, mux_spent}
+use Rattle.ff_muxing.specs.Muxers.{mux_sink, mux_layout, mux_writes, mux_in_lanes, mux_fault, mux_spent}
 
 -- there is no output
 pub no_output : (q : ℕ) → q < 0 → ⊥
 no_output q lt = omega arith
 
-module _ {K W : Type 0} {S : SinkGhosts K} {F : WriterGhosts W} (m : Mux K W S F) (past : Past) (s : mux_stands m past) where
+module _ {K W : Type 0} {S : SinkGhosts K} {F : WriterGhosts W} (m : Mux K W S F) (past : Past) (s : mux_writes m past) where
   pub mux_source : past.task.source ≡ false
   mux_source = ap (λ (t : Task). t.source) s.1.task
 
@@ -72,12 +74,12 @@ module _ {K W : Type 0} {S : SinkGhosts K} {F : WriterGhosts W} (m : Mux K W S F
   mux_holds_nothing e = s.1.told ∙ ap (λ (b : List ℕ). Some b) (s.1.fresh e).0
 
   -- what is written is what the task says, by whatever layout
-  module _ (layout : Layout) (is : past.task ≡ mux_task layout) where
+  module _ (stream : ℕ) (base : Fraction) (layout : Layout) (is : past.task ≡ mux_task layout stream base) where
     its_text : unpatched (mux_layout m) (stream_at past.got 0) ≡ unpatched layout (stream_at past.got 0)
-    its_text = same_text (mux_layout m) layout (sym s.1.task ∙ is) (stream_at past.got 0)
+    its_text = same_text (mux_layout m) layout past.task.tells (mux_tells stream base) (sym s.1.task ∙ is) (stream_at past.got 0)
 
     its_file : file (mux_layout m) (stream_at past.got 0) ≡ file layout (stream_at past.got 0)
-    its_file = same_file (mux_layout m) layout (sym s.1.task ∙ is) (stream_at past.got 0)
+    its_file = same_file (mux_layout m) layout past.task.tells (mux_tells stream base) (sym s.1.task ∙ is) (stream_at past.got 0)
 
     -- without a fault the sink holds afterwards what is written of the stream, until that is whole
     pub mux_holds : mux_fault m ≡ None → stream_at past.got 0 ≢ nothing → (IsWhole (stream_at past.got 0) → ⊥)
@@ -105,7 +107,7 @@ module _ {K W : Type 0} {S : SinkGhosts K} {F : WriterGhosts W} (m : Mux K W S F
         let r = s.1.front.0 in (
           r,
           s.1.front.1,
-          sym (same_cause (mux_layout m) layout same r) ∙ s.1.front.2,
-          part_by (S.holds (mux_sink m)) (same_text (mux_layout m) layout same r) (same_file (mux_layout m) layout same r)
+          sym (same_cause (mux_layout m) layout past.task.tells (mux_tells stream base) same r) ∙ s.1.front.2,
+          part_by (S.holds (mux_sink m)) (same_text (mux_layout m) layout past.task.tells (mux_tells stream base) same r) (same_file (mux_layout m) layout past.task.tells (mux_tells stream base) same r)
               (part_of (mux_layout m) (S.holds (mux_sink m)) s.0 r s.1.told s.1.front.3),
         )

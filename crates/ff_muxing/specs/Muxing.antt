@@ -3,6 +3,8 @@
 use Rattle.std.specs.Prelude.{pos, ◌≡◌, ◌≢◌, ◌↔◌, ℕ, ◌≤◌, ◌⊎◌, Bool, true, false, if◌then◌else◌, List, [], ◌∷◌, length, Option, Some, None}
 use Rattle.std.specs.List.{flat_map}
 use mathlib.Core.List.{IsPrefix}
+use Rattle.ff_time.specs.Fraction.{Fraction}
+use Rattle.ff_values.specs.declared.event.Event.{Event}
 use Rattle.ff_values.specs.declared.packet.Pkt.{Pkt}
 use Rattle.ff_values.specs.declared.head.StreamHead.{StreamHead}
 use Rattle.ff_values.specs.Packet.{packet_at}
@@ -15,9 +17,10 @@ use Rattle.ff_frame.specs.Ports.{nothing, stream_at, IsClosed, IsWhole}
 use Rattle.ff_net.specs.declared.fault.Fault.{Fault}
 use Rattle.ff_net.specs.declared.fault.Fault.TheVariants.{TooLarge}
 use Rattle.ff_net.specs.Ways.{Flow}
-use Rattle.ff_net.specs.Pasts.{Past, Task, no_events}
-use Rattle.ff_net.specs.Laws.{IsOfInputs, IsSilent}
+use Rattle.ff_net.specs.Pasts.{Past, Task, Feed}
+use Rattle.ff_net.specs.Laws.{IsOfInputs}
 use Rattle.ff_writers.specs.Layouts.{Layout, body, written, text_of, fits, finished}
+use Rattle.ff_muxing.specs.Telling.{mux_tells}
 
 -- the packet that an item is, if it is one, of the stream of this number
 abbrev pub packet_in : ℕ → Item → List (ℕ × Pkt)
@@ -81,9 +84,13 @@ module _ (layout : Layout) where
   abbrev pub mux_means : List Flow → List Flow
   mux_means ss = mux_answer (stream_at ss 0) (stream_at ss 1).mark
 
-  -- it gives no stream of valid inputs
-  abbrev pub mux_task : Task
-  mux_task = record { means = mux_means; cause = λ ss. mux_cause (stream_at ss 0); source = false; tells = no_events }
+  -- it gives no stream of valid inputs, whatever it tells
+  abbrev pub mux_task_of : (List Feed → List Event) → Task
+  mux_task_of tells = record { means = mux_means; cause = λ ss. mux_cause (stream_at ss 0); source = false; tells = tells }
+
+  -- what the muxer of the output stream of this number, with times of this base, is there for
+  abbrev pub mux_task : ℕ → Fraction → Task
+  mux_task stream base = mux_task_of (mux_tells stream base)
 
   -- a front of what is written is held, or the file
   abbrev pub HoldsOf : List ℕ → Flow → Type 0
@@ -96,8 +103,7 @@ module _ (layout : Layout) where
 -- The sink holds these bytes, of the stream that was fed. `counts` ties the writer to how many bytes of packets it counted.
 pub record Muxes (holds : Option (List ℕ)) (layout : Layout) (counts : ℕ → Type 0) (head : StreamHead) (begun closed : Bool)
     (fault : Option Fault) (past : Past) (bytes : List ℕ) : Type 0 where
-  pub task : past.task ≡ mux_task layout
-  pub silent : IsSilent past
+  pub task : past.task ≡ mux_task_of layout past.task.tells
   pub valid : IsValid (Packets head) (stream_at past.got 0)
   pub others : (p : ℕ) → 1 ≤ p → stream_at past.got p ≡ nothing
   pub gave : (p : ℕ) → stream_at past.gave p ≡ nothing

@@ -1,16 +1,17 @@
 -- A muxer's task: it gives no stream, and says what is written.
 use Rattle.std.specs.Prelude.{◌≡◌, ℕ, List, [], ◌∷◌, map, Option, Some, None, refl}
 use Rattle.std.proofs.Common.{ap, sym, ◌∙◌}
+use Rattle.ff_values.specs.declared.event.Event.{Event}
 use Rattle.ff_frame.specs.declared.item.Item.{Item}
 use Rattle.ff_frame.specs.declared.item.Item.TheVariants.{Audio, Video, Packet, Trailer, End, Broken}
 use Rattle.ff_frame.specs.Stream.{Mark, whole, broken, opened}
 use Rattle.ff_frame.specs.Order.{below_self, stream_at-opened}
 use Rattle.ff_frame.specs.Ports.{nothing, stream_at, IsMonotone, IsCalm}
 use Rattle.ff_frame.specs.declared.item.Lane.{Lane}
-use Rattle.ff_net.specs.Pasts.{Task}
+use Rattle.ff_net.specs.Pasts.{Task, Feed}
 use Rattle.ff_net.specs.Ways.{Flow, AreValid}
 use Rattle.ff_writers.specs.Layouts.{Layout}
-use Rattle.ff_muxing.specs.Muxing.{unpatched, file, mux_answer, mux_cause, mux_means, mux_task, shown_file}
+use Rattle.ff_muxing.specs.Muxing.{unpatched, file, mux_answer, mux_cause, mux_means, mux_task_of, shown_file}
 
 module _ (layout : Layout) where
   -- without a second input it gives nothing
@@ -55,7 +56,7 @@ file_shown : (f : Option (List ℕ)) → file_in (shown_file f) ≡ f
 file_shown None = refl
 file_shown (Some bytes) = refl
 
-module _ (a b : Layout) (same : mux_task a ≡ mux_task b) where
+module _ (a b : Layout) (f g : List Feed → List Event) (same : mux_task_of a f ≡ mux_task_of b g) where
   -- one task writes one text and one file
   pub same_text : (s : Flow) → unpatched a s ≡ unpatched b s
   same_text s = ap (λ (t : Task). text_in (t.means (ask s whole))) same

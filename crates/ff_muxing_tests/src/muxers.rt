@@ -2,7 +2,7 @@ ghost use Rattle.std.specs.Prelude.{IfSome};
 ghost use Rattle.ff_values.specs.Heads.{IsPcmCoded};
 ghost use Rattle.ff_y4m.specs.Header.{IsVideoHead};
 
-use ff_frame::{Item, Refused, Ticket};
+use ff_frame::{Event, Item, Refused, Ticket};
 use ff_host::{Host, Sink};
 use ff_memory_host::{FailAt, HostCall, MemHost, MemSink};
 use ff_muxing::{Mux, writer_of};
@@ -27,6 +27,9 @@ const OF_3: &str =
 
 const OF_6: &str =
     "524946462a00000057415645666d7420100000000100010044ac000044ac0000010008006461746106000000";
+
+// The number of the output stream.
+const STREAM: u32 = 2;
 
 // The bytes of a packet, `abc`.
 const ABC: &str = "616263";
@@ -79,7 +82,7 @@ fn wav(alloc: Global, snk: MemSink) -> Result<OutMux, AllocError> {
         return Err(AllocError);
     };
     let writer = writer_of(alloc, FileFormat::Wav, HashKind::Sha256, &head)?;
-    Ok(Mux::new(alloc, snk, writer, head))
+    Ok(Mux::new(alloc, STREAM, snk, writer, head))
 }
 
 fn y4m(alloc: Global, snk: MemSink) -> Result<OutMux, AllocError> {
@@ -87,7 +90,7 @@ fn y4m(alloc: Global, snk: MemSink) -> Result<OutMux, AllocError> {
         return Err(AllocError);
     };
     let writer = writer_of(alloc, FileFormat::Y4m, HashKind::Sha256, &head)?;
-    Ok(Mux::new(alloc, snk, writer, head))
+    Ok(Mux::new(alloc, STREAM, snk, writer, head))
 }
 
 fn digests(alloc: Global, snk: MemSink) -> Result<OutMux, AllocError> {
@@ -95,7 +98,7 @@ fn digests(alloc: Global, snk: MemSink) -> Result<OutMux, AllocError> {
         return Err(AllocError);
     };
     let writer = writer_of(alloc, FileFormat::FrameHash, HashKind::Md5, &head)?;
-    Ok(Mux::new(alloc, snk, writer, head))
+    Ok(Mux::new(alloc, STREAM, snk, writer, head))
 }
 
 fn packet(alloc: Global, time: i64) -> Result<Item, AllocError> {
@@ -240,5 +243,23 @@ fn gives_nothing(rt: HostRuntime) -> Result<(), AllocError> {
     mux.stop(0);
     assert_eq!(rt; (pulled, mux.spent(0)), (true, false));
     assert!(rt; mux.into_sink().bytes().is_empty());
+    Ok(())
+}
+
+#[test]
+fn tells_of_its_stream(rt: HostRuntime) -> Result<(), AllocError> {
+    // the append that fails, if any
+    for number in [0, 2] {
+        let mut mux = wav(rt.alloc(), sink(rt.alloc(), HostCall::Append, number)?)?;
+        let before = mux.next_event();
+        feed_all(rt.alloc(), &mut mux, 2, false)?;
+        let packets = (mux.next_event(), mux.next_event());
+        let end = (mux.next_event(), mux.next_event());
+        let times = (Some(Event::Sent(STREAM, 0)), Some(Event::Sent(STREAM, 68)));
+        assert_eq!(rt;
+            (before, packets, end),
+            (None, times, (Some(Event::Finished(STREAM)), None))
+        );
+    }
     Ok(())
 }

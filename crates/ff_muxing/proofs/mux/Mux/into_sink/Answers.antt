@@ -2,16 +2,16 @@ use Rattle.ff_muxing.specs.MuxLaws.{mux_holds_nothing, mux_holds, mux_holds_file
 use Rattle.ff_muxing.proofs.mux.Mux.into_sink.Goals as goal
 
 pub returns-clause-fresh : goal.returns-clause-fresh
-returns-clause-fresh g c = λ past s. mux_holds_nothing c.args.self past s
+returns-clause-fresh g c = λ past s. mux_holds_nothing c.args.self past s.0
 
 pub returns-clause-exact : goal.returns-clause-exact
-returns-clause-exact g c = λ past layout s is. mux_holds c.args.self past s layout is
+returns-clause-exact g c = λ past stream base layout s is. mux_holds c.args.self past s.0 stream base layout is
 
 pub returns-clause-whole : goal.returns-clause-whole
-returns-clause-whole g c = λ past layout s is. mux_holds_file c.args.self past s layout is
+returns-clause-whole g c = λ past stream base layout s is. mux_holds_file c.args.self past s.0 stream base layout is
 
 pub returns-clause-front : goal.returns-clause-front
-returns-clause-front g c = λ past layout s is. mux_holds_part c.args.self past s layout is
+returns-clause-front g c = λ past stream base layout s is. mux_holds_part c.args.self past s.0 stream base layout is
 
 pub returns-clause-small : goal.returns-clause-small
-returns-clause-small g c = λ past layout s is. mux_holds_small c.args.self past s layout is
+returns-clause-small g c = λ past stream base layout s is. mux_holds_small c.args.self past s.0 stream base layout is

@@ -1,0 +1,209 @@
+-- What a muxer told, item by item.
+use Rattle.std.proofs.Common.{◌≡◌, ℕ, zero, suc, ◌+◌, ◌-◌, ◌*◌, ◌/◌, ◌^◌, ◌<◌, ◌≤◌, min, ℤ, pos, negsuc, List, [], ◌∷◌, ◌++◌, inl, inr, refl, ap, sym, ◌∙◌, subst, arith, append_assoc, append-nil, ◌*ℤ◌}
+use Rattle.std.specs.Prelude.{All, ◌≤ℤ◌, ◌<ℤ◌, ◌+ℤ◌}
+use Rattle.std.specs.Int.{w64}
+use Rattle.std.specs.Int.RustNames.{FitsSigned}
+use Rattle.std.proofs.lemmas.Bool.{cases_lt}
+use Rattle.std.proofs.lemmas.Int.{ints, fits_signed_from_abs}
+use Rattle.std.proofs.lemmas.List.Concat.{flat_map-append}
+use Rattle.std.proofs.lemmas.List.Elements.{All-nil, All-cons, All-append}
+use Rattle.std.proofs.Math.Nat.{le-div_iff_mul-le, div-mul-le_self, mul-le-mul_right, suc-mul, div-le_of_le-mul}
+use Rattle.ff_time.specs.Fraction.{Fraction, IsBase, IsBase-unit}
+use Rattle.ff_time.specs.Rescale.{IsNearest, IsRescaled, IsRounded}
+use Rattle.ff_time.proofs.Nearest.{IsNearest-pos, IsNearest-unique}
+use Rattle.ff_values.specs.Heads.{base_of_head}
+use Rattle.ff_values.specs.declared.head.StreamHead.{StreamHead}
+use Rattle.ff_values.specs.declared.head.StreamHead.TheVariants.{Audio as AudioHead, Video as VideoHead}
+use Rattle.ff_values.specs.declared.packet.Pkt.{Pkt}
+use Rattle.ff_values.specs.declared.event.Event.{Event}
+use Rattle.ff_values.specs.declared.event.Event.TheVariants.{Sent, Finished}
+use Rattle.ff_frame.specs.declared.item.Item.{Item}
+use Rattle.ff_frame.specs.declared.item.Item.TheVariants.{Audio, Video, Packet, Trailer, End, Broken}
+use Rattle.ff_frame.specs.Lanes.{FitsPackets}
+use Rattle.ff_frame.specs.Times.{ticks, IsInTime}
+use Rattle.ff_net.specs.Pasts.{Past, Feed, was_told, fed}
+use Rattle.ff_muxing.specs.Telling.{microsecond, micros_of, told_by, mux_tells, TellsFed, IsOfStream, AllOfStream, SentTimes}
+
+-- ---- times
+
+pub microsecond_is_base : IsBase microsecond
+microsecond_is_base = IsBase-unit 1000000 (omega arith) (omega arith)
+
+-- p / q with halves upwards
+abbrev half_up : ℕ → ℕ → ℕ
+half_up p q = (2 * p + q) / (2 * q)
+
+no_suc : (k : ℕ) → suc k ≤ k → ⊥
+no_suc k le = omega (arith, le)
+
+div_above : (n d : ℕ) → 0 < d → n < suc (n / d) * d
+div_above n d some =
+    elim (cases_lt n (suc (n / d) * d)) [ inl lt ↦ lt | inr ge ↦ absurd (no_suc (n / d) ((le-div_iff_mul-le some).1 ge)) ]
+
+rounds_by : (p q r : ℕ) → 0 < q → r * (2 * q) ≤ 2 * p + q → 2 * p + q < suc r * (2 * q) → IsRounded p q r
+rounds_by p q r some low high = record { some = some; low = omega (arith, low); high = omega (arith, high, suc-mul r (2 * q)) }
+
+half_up_rounds : (p q : ℕ) → 0 < q → IsRounded p q (half_up p q)
+half_up_rounds p q some =
+    rounds_by p q (half_up p q) some (div-mul-le_self (2 * p + q) (2 * q)) (div_above (2 * p + q) (2 * q) (omega (arith, some)))
+
+-- a time after 0 is told in microseconds by rescaling
+rescaled_half_up : (base : Fraction) (n : ℕ) → IsBase base → IsRescaled (pos n) base microsecond (pos (half_up (n * (base.num * 1000000)) base.den))
+rescaled_half_up base n b =
+    let same : base.den * 1 ≡ base.den = omega arith in
+    let h = IsNearest-pos (n * (base.num * 1000000)) base.den (half_up (n * (base.num * 1000000)) base.den) (half_up_rounds (n * (base.num * 1000000)) base.den b.den_positive) in
+    subst (λ (q : ℕ). IsNearest (pos (n * (base.num * 1000000))) q (pos (half_up (n * (base.num * 1000000)) base.den))) (sym same) h
+
+rescaled_is : (base : Fraction) (n : ℕ) (v : ℤ) → IsBase base → IsRescaled (pos n) base microsecond v → v ≡ pos (half_up (n * (base.num * 1000000)) base.den)
+rescaled_is base n v b h =
+    IsNearest-unique (pos n *ℤ pos (base.num * 1000000)) (base.den * 1) v (pos (half_up (n * (base.num * 1000000)) base.den))
+    (omega (arith, b.den_positive)) h (rescaled_half_up base n b)
+
+-- a number as it is told, at most 2^63 - 1
+top_same : (r : ℕ) → r ≤ 2 ^ 63 - 1 → r ≡ min (2 ^ 63 - 1) r
+top_same r le = omega (arith, le)
+
+top_large : (r : ℕ) → 2 ^ 63 ≤ r → 2 ^ 63 - 1 ≡ min (2 ^ 63 - 1) r
+top_large r ge = omega (arith, ge)
+
+top_below : (r : ℕ) → min (2 ^ 63 - 1) r < 2 ^ 63
+top_below r = omega arith
+
+size_of : (v : ℤ) (r : ℕ) → v ≡ pos r → FitsSigned w64 v → r ≤ 2 ^ 63 - 1
+size_of v r is fits = let lt : r < 2 ^ 63 = (subst (λ (z : ℤ). FitsSigned w64 z) is fits).sfits in omega (arith, lt)
+
+-- what a time that is rescaled is told as
+pub micros_some : (base : Fraction) (time v : ℤ) → IsBase base → pos 0 <ℤ time → IsRescaled time base microsecond v → FitsSigned w64 v
+    → v ≡ pos (micros_of base time)
+micros_some base (pos n) v b some h fits =
+    let is = rescaled_is base n v b h in
+    is ∙ ap (λ (k : ℕ). pos k) (top_same (half_up (n * (base.num * 1000000)) base.den) (size_of v (half_up (n * (base.num * 1000000)) base.den) is fits))
+micros_some base (negsuc n) v b some h fits = absurd (omega (arith, ints, some))
+
+-- and one that isn't
+pub micros_large : (base : Fraction) (time v : ℤ) → IsBase base → pos 0 <ℤ time → IsRescaled time base microsecond v → (FitsSigned w64 v → ⊥)
+    → 2 ^ 63 - 1 ≡ micros_of base time
+micros_large base (pos n) v b some h large =
+    let r : ℕ = half_up (n * (base.num * 1000000)) base.den in
+    elim (cases_lt r (2 ^ 63)) [
+      | inl lt ↦ absurd (large (subst (λ (z : ℤ). FitsSigned w64 z) (sym (rescaled_is base n v b h)) (fits_signed_from_abs w64 (pos r) lt)))
+      | inr ge ↦ top_large r ge
+    ]
+micros_large base (negsuc n) v b some h large = absurd (omega (arith, ints, some))
+
+no_half : (q : ℕ) → 0 < q → 1 * (2 * q) ≤ 2 * 0 + q → ⊥
+no_half q some le = omega (arith, some, le)
+
+half_up_none : (q : ℕ) → 0 < q → half_up 0 q ≡ 0
+half_up_none q some = pick (half_up 0 q) (λ ge. no_half q some ((le-div_iff_mul-le (omega (arith, some))).0 ge))
+  where
+    pick : (r : ℕ) → (1 ≤ r → ⊥) → r ≡ 0
+    pick zero never = refl
+    pick (suc r) never = absurd (never (omega arith))
+
+none_at : (base : Fraction) → IsBase base → 0 ≡ min (2 ^ 63 - 1) (half_up (0 * (base.num * 1000000)) base.den)
+none_at base b =
+    let zero_is : 0 * (base.num * 1000000) ≡ 0 = omega arith in
+    sym (ap (λ (p : ℕ). min (2 ^ 63 - 1) (half_up p base.den)) zero_is ∙ ap (λ (k : ℕ). min (2 ^ 63 - 1) k) (half_up_none base.den b.den_positive))
+
+-- no time after 0
+pub micros_none : (base : Fraction) (time : ℤ) → IsBase base → time ≤ℤ pos 0 → 0 ≡ micros_of base time
+micros_none base (pos zero) b le = none_at base b
+micros_none base (pos (suc n)) b le = absurd (omega (arith, ints, le))
+micros_none base (negsuc n) b le = none_at base b
+
+-- ---- items
+
+tells_more : (stream : ℕ) (base : Fraction) (feeds : List Feed) (f : Feed)
+    → mux_tells stream base (feeds ++ f ∷ []) ≡ mux_tells stream base feeds ++ told_by stream base f.item
+tells_more stream base feeds f =
+    flat_map-append (λ (g : Feed). told_by stream base g.item) feeds (f ∷ [])
+    ∙ ap (λ (es : List Event). mux_tells stream base feeds ++ es) (append-nil (told_by stream base f.item))
+
+module _ (stream : ℕ) (base : Fraction) (past : Past) where
+  -- an item was fed
+  pub tells_fed : (waiting now : List Event) (port : ℕ) (x : Item) → now ≡ waiting ++ told_by stream base x
+      → TellsFed stream base waiting past.task.tells past.told past.feeds
+      → TellsFed stream base now (fed past port x).task.tells (fed past port x).told (fed past port x).feeds
+  tells_fed waiting now port x is t = record {
+    tells_is = t.tells_is;
+    all =
+        ap (λ (es : List Event). past.told ++ es) is
+        ∙ (sym (append_assoc past.told waiting (told_by stream base x))
+        ∙ (ap (λ (es : List Event). es ++ told_by stream base x) t.all ∙ sym (tells_more stream base past.feeds (record { port = port; item = x }))));
+  }
+
+  -- its event, if it has one, was put behind what waited
+  pub tells_put : (waiting between now made : List Event) (port : ℕ) (x : Item) → now ≡ between ++ made → between ≡ waiting
+      → made ≡ told_by stream base x → TellsFed stream base waiting past.task.tells past.told past.feeds
+      → TellsFed stream base now (fed past port x).task.tells (fed past port x).told (fed past port x).feeds
+  tells_put waiting between now made port x put same event t =
+      tells_fed waiting now port x
+      (put ∙ (ap (λ (es : List Event). es ++ made) same ∙ ap (λ (es : List Event). waiting ++ es) event)) t
+
+  -- the next event was told
+  pub tells_next : (e : Event) (rest : List Event) → TellsFed stream base (e ∷ rest) past.task.tells past.told past.feeds
+      → TellsFed stream base rest (was_told past e).task.tells (was_told past e).told (was_told past e).feeds
+  tells_next e rest t = record { tells_is = t.tells_is; all = append_assoc past.told (e ∷ []) rest ∙ t.all }
+
+  -- none waits
+  pub tells_all : (waiting : List Event) → waiting ≡ [] → TellsFed stream base waiting past.task.tells past.told past.feeds
+      → past.told ≡ past.task.tells past.feeds
+  tells_all waiting none t =
+      sym (append-nil past.told)
+      ∙ (sym (ap (λ (es : List Event). past.told ++ es) none)
+      ∙ (t.all ∙ sym (ap (λ (f : List Feed → List Event). f past.feeds) t.tells_is)))
+
+-- ---- what holds of all that is told
+
+module _ (stream : ℕ) (base : Fraction) where
+  one_of_stream : (x : Item) → All (IsOfStream stream) (told_by stream base x)
+  one_of_stream (Audio f) = All-nil (IsOfStream stream)
+  one_of_stream (Video f) = All-nil (IsOfStream stream)
+  one_of_stream (Packet p) =
+      All-cons (IsOfStream stream) (Sent stream (micros_of base p.dts)) [] (refl, top_below ((2 * (ticks p.dts * (base.num * 1000000)) + base.den) / (2 * base.den))) (All-nil (IsOfStream stream))
+  one_of_stream (Trailer t) = All-nil (IsOfStream stream)
+  one_of_stream End = All-cons (IsOfStream stream) (Finished stream) [] refl (All-nil (IsOfStream stream))
+  one_of_stream Broken = All-cons (IsOfStream stream) (Finished stream) [] refl (All-nil (IsOfStream stream))
+
+  each_of_stream : (feeds : List Feed) → All (IsOfStream stream) (mux_tells stream base feeds)
+  each_of_stream [] = All-nil (IsOfStream stream)
+  each_of_stream (f ∷ feeds) =
+      All-append (IsOfStream stream) (told_by stream base f.item) (mux_tells stream base feeds) (one_of_stream f.item) (each_of_stream feeds)
+
+pub all_of_stream : AllOfStream
+all_of_stream stream base feeds = each_of_stream stream base feeds
+
+-- ---- the times of valid packets
+
+seconds_below : (r : ℕ) → r ≤ 1000000000000001 → r ≤ 2 ^ 63 - 1
+seconds_below r le = omega (arith, le)
+
+module _ (base : Fraction) (b : IsBase base) where
+  below_top : (n : ℕ) → IsInTime base n → half_up (n * (base.num * 1000000)) base.den ≤ 1000000000000001
+  below_top n t =
+      let many : 2 * (n * (base.num * 1000000)) + base.den ≤ 2 * base.den * 1000000000000001 = omega (arith, t, b.den_positive) in
+      div-le_of_le-mul (2 * base.den) many
+
+  told_in_time : (n : ℕ) → IsInTime base n → IsRescaled (pos n) base microsecond (pos (micros_of base (pos n)))
+  told_in_time n t =
+      let r : ℕ = half_up (n * (base.num * 1000000)) base.den in
+      subst (λ (k : ℕ). IsRescaled (pos n) base microsecond (pos k)) (top_same r (seconds_below r (below_top n t))) (rescaled_half_up base n b)
+
+  -- of a time that isn't negative and not after one that is in time
+  pub told_rescaled : (time end : ℤ) → pos 0 ≤ℤ time → time ≤ℤ end → IsInTime base (ticks end)
+      → IsRescaled time base microsecond (pos (micros_of base time))
+  told_rescaled (pos n) (pos m) some le t =
+      let less : n ≤ m = omega (arith, ints, le) in
+      told_in_time n (omega (arith, t, mul-le-mul_right base.num less))
+  told_rescaled (pos n) (negsuc m) some le t = absurd (omega (arith, ints, le))
+  told_rescaled (negsuc n) end some le t = absurd (omega (arith, ints, some))
+
+fits_times : (head : StreamHead) (p : Pkt) → FitsPackets head (Packet p) → p.dts ≡ p.pts
+fits_times (AudioHead tb rate bits channels codec) p f = f.0
+fits_times (VideoHead tb format width height sar_num sar_den) p f = f.0
+
+pub sent_times : SentTimes
+sent_times head p b is t =
+    subst (λ (time : ℤ). IsRescaled time (base_of_head head) microsecond (pos (micros_of (base_of_head head) time))) (sym (fits_times head p is.fits))
+    (told_rescaled (base_of_head head) b p.pts (p.pts +ℤ p.duration) is.not_negative (let lt = is.lasts tt in omega (arith, ints, lt)) t)
