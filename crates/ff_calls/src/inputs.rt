@@ -1,5 +1,5 @@
 // Heads of inputs, in the format that is given or told by their first bytes.
-use crate::heads::{is_whole, show_end, show_stream, show_wav, show_y4m};
+use crate::heads::{is_whole, show_end, show_flac, show_stream, show_wav, show_y4m};
 use crate::runs::Runs;
 use crate::table::Stop;
 use crate::words::Words;
@@ -24,6 +24,7 @@ fn show(alloc: Global, head: &InputHead) -> Result<String, Stop> {
     let (name, text) = match head {
         InputHead::Wav(head) => ("wav", show_wav(alloc, head)?),
         InputHead::Y4m(head) => ("y4m", show_y4m(alloc, head)?),
+        InputHead::Flac(head) => ("flac", show_flac(alloc, head)?),
     };
     Ok(format!(in alloc; "{name} {text}")?)
 }

@@ -13,29 +13,34 @@ use Rattle.ff_coders.specs.declared.any.AnyDecoder.TheVariants as from
 use Rattle.ff_coders.specs.declared.any.AnyEncoder.{AnyEncoder}
 use Rattle.ff_coders.specs.declared.any.AnyEncoder.TheVariants as to
 use Rattle.ff_coders.specs.Made.{IsDecoded, IsEncoded, HasSameTimes}
-use Rattle.ff_coders.specs.Decoding.{pcm_frame, raw_frame}
+use Rattle.ff_coders.specs.Decoding.{pcm_frame, raw_frame, flac_frame}
 use Rattle.ff_coders.specs.Encoding.{coded_head, pcm_packet_of, raw_packet_of, IsSound, IsPicture, IsPictures}
-use Rattle.ff_coders.specs.Coders.{pcm_head, raw_head, pcm_codec}
+use Rattle.ff_coders.specs.Coders.{pcm_head, raw_head, flac_head, pcm_codec}
 use Rattle.ff_coders.specs.PcmLaws.{pcm_decoded, pcm_encoded, pcm_times}
 use Rattle.ff_coders.specs.RawLaws.{raw_decoded, raw_encoded, raw_times}
+use Rattle.ff_coders.specs.FlacLaws.{flac_decoded}
 
 -- ---- decoders
 
 abbrev pub any_head : AnyDecoder → StreamHead
 any_head (from.Pcm d) = pcm_head d
 any_head (from.Raw d) = raw_head d
+any_head (from.Flac d) = flac_head d
 
 abbrev pub any_takes : AnyDecoder → Pkt → Type 0
 any_takes (from.Pcm d) p = HasBlocks (pcm_head d) p.bytes
 any_takes (from.Raw d) p = HasFrame (raw_head d) p.bytes
+any_takes (from.Flac d) p = Unit {0}
 
 abbrev pub any_frame : AnyDecoder → Pkt → Option Item
 any_frame (from.Pcm d) p = pcm_frame (pcm_head d) p
 any_frame (from.Raw d) p = raw_frame (raw_head d) p
+any_frame (from.Flac d) p = flac_frame (flac_head d) p
 
 pub any_decoded : (d : AnyDecoder) (p : Pkt) → FitsPackets (any_head d) (Packet p) → IsDecoded (any_head d) p (any_takes d p) (any_frame d p)
 any_decoded (from.Pcm d) p fits = pcm_decoded (pcm_head d) p d.pcm fits
 any_decoded (from.Raw d) p fits = raw_decoded (raw_head d) p d.sides fits
+any_decoded (from.Flac d) p fits = flac_decoded (flac_head d) p d.stream fits
 
 -- ---- encoders
 

@@ -1,6 +1,8 @@
 -- What the codecs of a head make of what its lane carries: a line for each codec.
 use Rattle.std.proofs.Common.{sym, subst}
 use Rattle.ff_values.specs.declared.packet.Pkt.{Pkt}
+use Rattle.ff_values.specs.declared.head.Codec.{Codec}
+use Rattle.ff_values.specs.declared.head.Codec.TheVariants.{PcmU8, PcmS16le, PcmS24le, PcmS32le, Flac, RawVideo}
 use Rattle.ff_values.specs.declared.head.StreamHead.{StreamHead}
 use Rattle.ff_values.specs.declared.head.StreamHead.TheVariants.{Audio as AudioHead, Video as VideoHead}
 use Rattle.ff_frame.specs.declared.item.Item.{Item}
@@ -10,13 +12,22 @@ use Rattle.ff_pcm.specs.Frames.{HasBlocks}
 use Rattle.ff_pcm.specs.Raw.{HasFrame}
 use Rattle.ff_coders.specs.Made.{HasSameTimes, IsDecoded, IsEncoded}
 use Rattle.ff_coders.specs.Encoding.{IsSound, IsPicture}
-use Rattle.ff_coders.specs.Choices.{CanDecode, CanEncode, frame_made, packet_made}
+use Rattle.ff_coders.specs.Choices.{CanDecode, CanDecodeSound, CanEncode, frame_made, sound_made, packet_made}
 use Rattle.ff_coders.specs.PcmLaws.{pcm_decoded, pcm_encoded, pcm_times}
 use Rattle.ff_coders.specs.RawLaws.{raw_decoded, raw_encoded, raw_times}
+use Rattle.ff_coders.specs.FlacLaws.{flac_decoded}
+
+abbrev pub IsSoundTaken : StreamHead → Codec → Pkt → Type 0
+IsSoundTaken head PcmU8 p = HasBlocks head p.bytes
+IsSoundTaken head PcmS16le p = HasBlocks head p.bytes
+IsSoundTaken head PcmS24le p = HasBlocks head p.bytes
+IsSoundTaken head PcmS32le p = HasBlocks head p.bytes
+IsSoundTaken head Flac p = Unit {0}
+IsSoundTaken head RawVideo p = ⊥
 
 -- what packets of this head are decoded
 abbrev pub IsTakenOf : StreamHead → Pkt → Type 0
-IsTakenOf (AudioHead tb rate bits channels codec) p = HasBlocks (AudioHead tb rate bits channels codec) p.bytes
+IsTakenOf (AudioHead tb rate bits channels codec) p = IsSoundTaken (AudioHead tb rate bits channels codec) codec p
 IsTakenOf (VideoHead tb format width height sar_num sar_den) p = HasFrame (VideoHead tb format width height sar_num sar_den) p.bytes
 
 -- what frames are encoded to packets of this head
@@ -24,9 +35,18 @@ abbrev pub IsTakenFor : StreamHead → Item → Type 0
 IsTakenFor (AudioHead tb rate bits channels codec) x = IsSound x
 IsTakenFor (VideoHead tb format width height sar_num sar_den) x = IsPicture x
 
+sound_decoded : (head : StreamHead) (codec : Codec) (p : Pkt) → CanDecodeSound head codec → FitsPackets head (Packet p)
+    → IsDecoded head p (IsSoundTaken head codec p) (sound_made head codec p)
+sound_decoded head PcmU8 p c fits = pcm_decoded head p c fits
+sound_decoded head PcmS16le p c fits = pcm_decoded head p c fits
+sound_decoded head PcmS24le p c fits = pcm_decoded head p c fits
+sound_decoded head PcmS32le p c fits = pcm_decoded head p c fits
+sound_decoded head Flac p c fits = flac_decoded head p c fits
+sound_decoded head RawVideo p c fits = absurd c
+
 pub choice_decoded : (head : StreamHead) (p : Pkt) → CanDecode head → FitsPackets head (Packet p)
     → IsDecoded head p (IsTakenOf head p) (frame_made head p)
-choice_decoded (AudioHead tb rate bits channels codec) p c fits = pcm_decoded (AudioHead tb rate bits channels codec) p c fits
+choice_decoded (AudioHead tb rate bits channels codec) p c fits = sound_decoded (AudioHead tb rate bits channels codec) codec p c fits
 choice_decoded (VideoHead tb format width height sar_num sar_den) p c fits = raw_decoded (VideoHead tb format width height sar_num sar_den) p c fits
 
 pub choice_encoded : (head coded : StreamHead) (x : Item) → CanEncode head coded → FitsFrames head x

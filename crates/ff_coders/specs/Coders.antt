@@ -1,6 +1,7 @@
 -- What decoders and encoders are made for.
 use Rattle.ff_values.specs.declared.head.Codec.{Codec}
 use Rattle.ff_values.specs.declared.head.StreamHead.{StreamHead}
+use Rattle.ff_coders.specs.declared.flac.FlacDecoder.{FlacDecoder}
 use Rattle.ff_coders.specs.declared.pcm.PcmDecoder.{PcmDecoder}
 use Rattle.ff_coders.specs.declared.pcm.PcmEncoder.{PcmEncoder}
 use Rattle.ff_coders.specs.declared.raw.RawDecoder.{RawDecoder}
@@ -11,6 +12,9 @@ pcm_head d = d.head
 
 abbrev pub raw_head : RawDecoder → StreamHead
 raw_head d = d.head
+
+abbrev pub flac_head : FlacDecoder → StreamHead
+flac_head d = d.head
 
 -- the codec of the packets that are made
 abbrev pub pcm_codec : PcmEncoder → Codec

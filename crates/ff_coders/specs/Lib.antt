@@ -2,6 +2,7 @@ pub mod Made
 pub mod Decoding
 pub mod Encoding
 pub mod Props
+pub mod FlacLaws
 pub mod PcmLaws
 pub mod RawLaws
 pub mod Coders

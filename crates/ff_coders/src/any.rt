@@ -2,6 +2,7 @@ ghost use Rattle.ff_coders.specs.AnyCoders.{any_head, any_takes, any_frame, any_
 
 use crate::decoder::Decoder;
 use crate::encoder::Encoder;
+use crate::flac::FlacDecoder;
 use crate::pcm::{PcmDecoder, PcmEncoder};
 use crate::raw::{RawDecoder, RawEncoder};
 use ff_frame::Item;
@@ -14,6 +15,8 @@ pub enum AnyDecoder {
     Pcm(PcmDecoder),
     /// Raw video.
     Raw(RawDecoder),
+    /// FLAC.
+    Flac(FlacDecoder),
 }
 
 impl Decoder for AnyDecoder {
@@ -27,6 +30,7 @@ impl Decoder for AnyDecoder {
         match self {
             AnyDecoder::Pcm(decoder) => decoder.can_take(packet),
             AnyDecoder::Raw(decoder) => decoder.can_take(packet),
+            AnyDecoder::Flac(decoder) => decoder.can_take(packet),
         }
     }
 
@@ -34,6 +38,7 @@ impl Decoder for AnyDecoder {
         match self {
             AnyDecoder::Pcm(decoder) => decoder.decode(packet),
             AnyDecoder::Raw(decoder) => decoder.decode(packet),
+            AnyDecoder::Flac(decoder) => decoder.decode(packet),
         }
     }
 

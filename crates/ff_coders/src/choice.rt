@@ -1,13 +1,29 @@
 // The codecs of a head.
 ghost use Rattle.std.specs.Prelude.{◌≡◌};
 ghost use Rattle.ff_coders.specs.AnyCoders.{any_head, any_frame, any_serves, any_coded, any_packet};
-ghost use Rattle.ff_coders.specs.Choices.{CanDecode, CanEncode, frame_made, packet_made};
+ghost use Rattle.ff_coders.specs.Choices.{CanDecode, CanDecodeSound, CanEncode, frame_made, sound_made, packet_made};
 
 use crate::any::{AnyDecoder, AnyEncoder};
+use crate::flac::FlacDecoder;
 use crate::pcm::{PcmDecoder, PcmEncoder};
 use crate::raw::{RawDecoder, RawEncoder};
-use ff_values::StreamHead;
+use ff_values::{Codec, StreamHead};
 use std::alloc::Global;
+
+// The decoder of packets of sound of this head, in this codec.
+fn sound_decoder_of(alloc: Global, head: &StreamHead, codec: Codec) -> AnyDecoder
+    requires { CanDecodeSound head.now codec }
+    ensures head { any_head result ≡ head.now }
+    ensures frame { any_frame result ≡ sound_made head.now codec }
+{
+    match codec {
+        Codec::PcmU8 | Codec::PcmS16le | Codec::PcmS24le | Codec::PcmS32le => AnyDecoder::Pcm(
+            PcmDecoder::new(alloc, *head),
+        ),
+        Codec::Flac => AnyDecoder::Flac(FlacDecoder::new(alloc, *head)),
+        Codec::RawVideo => unreachable!(),
+    }
+}
 
 /// The decoder of packets of this head.
 pub fn decoder_of(alloc: Global, head: &StreamHead) -> AnyDecoder
@@ -16,7 +32,7 @@ pub fn decoder_of(alloc: Global, head: &StreamHead) -> AnyDecoder
     ensures frame { any_frame result ≡ frame_made head.now }
 {
     match head {
-        StreamHead::Audio { .. } => AnyDecoder::Pcm(PcmDecoder::new(alloc, *head)),
+        StreamHead::Audio { codec, .. } => sound_decoder_of(alloc, head, *codec),
         StreamHead::Video { .. } => AnyDecoder::Raw(RawDecoder::new(*head)),
     }
 }

@@ -5,14 +5,15 @@
 //! ```
 //!
 //! `Decoder` and `Encoder` say what a codec is to whoever runs it: which items it takes, what it makes of each, and that this fits
-//! the lane and keeps the times. A codec has a file here and a variant of `AnyDecoder` and `AnyEncoder`: linear PCM, and raw
-//! video, whose planes are moved. `specs/Decoding` and `specs/Encoding` have what they make.
+//! the lane and keeps the times. A codec has a file here and a variant of `AnyDecoder` and `AnyEncoder`: linear PCM, FLAC,
+//! which is read here alone, and raw video, whose planes are moved. `specs/Decoding` and `specs/Encoding` have what they make.
 #![tactic(auto)]
 
 mod any;
 mod choice;
 mod decoder;
 mod encoder;
+mod flac;
 mod pcm;
 mod raw;
 
@@ -20,5 +21,6 @@ pub use any::{AnyDecoder, AnyEncoder};
 pub use choice::{decoder_of, encoder_of};
 pub use decoder::Decoder;
 pub use encoder::Encoder;
+pub use flac::{FlacDecoder, flac_frames_are_their_packets};
 pub use pcm::{PcmDecoder, PcmEncoder};
 pub use raw::{RawDecoder, RawEncoder};

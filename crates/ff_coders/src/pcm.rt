@@ -97,7 +97,8 @@ impl PcmEncoder {
     }
 }
 
-fn sample_frames(frame: &AFrame) -> i64
+/// How many sample frames a frame of sound has.
+pub(crate) fn sample_frames(frame: &AFrame) -> i64
     requires { IsAudio frame.now.bits frame.now.channels frame.now.samples }
     ensures { result ≡ pos (length frame.now.samples / frame.now.channels) }
 {

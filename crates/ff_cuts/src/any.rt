@@ -1,4 +1,5 @@
 use ff_cut::PacketCut;
+use ff_flac_dec::FlacCut;
 use ff_heads::InputHead;
 use ff_values::{Cut, StreamHead};
 use ff_wav::WavCut;
@@ -12,6 +13,8 @@ pub enum AnyCut {
     Wav(WavCut),
     /// YUV4MPEG2.
     Y4m(Y4mCut),
+    /// FLAC.
+    Flac(FlacCut),
 }
 
 impl PacketCut for AnyCut {
@@ -25,6 +28,7 @@ impl PacketCut for AnyCut {
         match head {
             InputHead::Wav(head) => WavCut::stream_head(head),
             InputHead::Y4m(head) => Y4mCut::stream_head(head),
+            InputHead::Flac(head) => FlacCut::stream_head(head),
         }
     }
 
@@ -32,6 +36,7 @@ impl PacketCut for AnyCut {
         match head {
             InputHead::Wav(head) => WavCut::start(head),
             InputHead::Y4m(head) => Y4mCut::start(head),
+            InputHead::Flac(head) => FlacCut::start(head),
         }
     }
 
@@ -39,6 +44,7 @@ impl PacketCut for AnyCut {
         match head {
             InputHead::Wav(head) => AnyCut::Wav(WavCut::new(alloc, head)),
             InputHead::Y4m(head) => AnyCut::Y4m(Y4mCut::new(alloc, head)),
+            InputHead::Flac(head) => AnyCut::Flac(FlacCut::new(alloc, head)),
         }
     }
 
@@ -46,6 +52,7 @@ impl PacketCut for AnyCut {
         match self {
             AnyCut::Wav(cut) => cut.feed(bytes),
             AnyCut::Y4m(cut) => cut.feed(bytes),
+            AnyCut::Flac(cut) => cut.feed(bytes),
         }
     }
 
@@ -53,6 +60,7 @@ impl PacketCut for AnyCut {
         match self {
             AnyCut::Wav(cut) => cut.reserve(count),
             AnyCut::Y4m(cut) => cut.reserve(count),
+            AnyCut::Flac(cut) => cut.reserve(count),
         }
     }
 
@@ -60,6 +68,7 @@ impl PacketCut for AnyCut {
         match self {
             AnyCut::Wav(cut) => cut.end(),
             AnyCut::Y4m(cut) => cut.end(),
+            AnyCut::Flac(cut) => cut.end(),
         }
     }
 
@@ -67,6 +76,7 @@ impl PacketCut for AnyCut {
         match self {
             AnyCut::Wav(cut) => cut.held(),
             AnyCut::Y4m(cut) => cut.held(),
+            AnyCut::Flac(cut) => cut.held(),
         }
     }
 
@@ -74,6 +84,7 @@ impl PacketCut for AnyCut {
         match self {
             AnyCut::Wav(cut) => cut.pull(),
             AnyCut::Y4m(cut) => cut.pull(),
+            AnyCut::Flac(cut) => cut.pull(),
         }
     }
 }

@@ -1,7 +1,7 @@
 //! The packets of an input, in whichever format it is.
 //!
 //! ```text
-//! InputHead ──► AnyCut:  WavCut  |  Y4mCut
+//! InputHead ──► AnyCut:  WavCut  |  Y4mCut  |  FlacCut
 //! bytes ──► feed, reserve, end ──► pull ──► packets, and where they break
 //! ```
 //!

@@ -8,6 +8,7 @@ use Rattle.std.proofs.lemmas.List.{append-nil, take_all, length-drop}
 use Rattle.ff_frame.specs.declared.item.Item.{Item}
 use Rattle.ff_frame.specs.declared.item.Item.TheVariants.{Packet, End, Broken}
 use Rattle.ff_frame.specs.declared.item.Lane.TheVariants.{Packets}
+use Rattle.ff_values.specs.declared.event.Event.{Event}
 use Rattle.ff_values.specs.declared.event.Ticket.{Ticket}
 use Rattle.ff_values.specs.declared.packet.Pkt.{Pkt}
 use Rattle.ff_frame.specs.Stream.{Mark, still_open, broken, LiesBelow}
@@ -18,9 +19,9 @@ use Rattle.ff_net.specs.declared.fault.Fault.{Fault}
 use Rattle.ff_net.specs.declared.fault.Fault.TheVariants.{Device, Damaged, TooLong}
 use Rattle.ff_net.specs.Laws.{IsOfInputs}
 use Rattle.ff_net.specs.Ways.{Flow}
-use Rattle.ff_net.specs.Pasts.{Past, start, due, gave_item, was_asked, was_allowed, was_stopped}
+use Rattle.ff_net.specs.Pasts.{Past, start, due, gave_item, was_asked, was_allowed, was_stopped, was_told}
 use Rattle.ff_cut.specs.Cutters.{Cutter, IsRest, Feeds, KeepsCut, GivesPacket, GaveAll}
-use Rattle.ff_demuxing.specs.Demuxing.{mark_at, damage_at, items_of, break_of, demux_of, is_too_long, fault_in, demux_task, passes_in_demux, Demuxes, DemuxStands}
+use Rattle.ff_demuxing.specs.Demuxing.{mark_at, damage_at, items_of, break_of, demux_of, is_too_long, fault_in, demux_cause, demux_task, passes_in_demux, Demuxes, DemuxStands}
 use Rattle.ff_demuxing.specs.DemuxLaws.{demux_mark, demux_items, demux_closed}
 use Rattle.ff_demuxing.specs.Sources.{Sources, source_gives, source_ends, source_waits, source_over}
 use Rattle.ff_demuxing.proofs.LimitSteps.{before_get, before_stop, before_all}
@@ -267,7 +268,7 @@ module _ {H C : Type 0} (cutter : Cutter H C) where
           told = s.told;
           is_head = s.is_head;
           of_head = s.of_head;
-          sources = record { means = l.means; silent = l.silent; source = l.source; fed_nothing = l.fed_nothing; gave = l.gave; others = l.others; tickets = l.tickets; in_range = l.in_range; at_end = l.at_end; closed = l.closed };
+          sources = record { means = l.means; source = l.source; fed_nothing = l.fed_nothing; gave = l.gave; others = l.others; tickets = l.tickets; in_range = l.in_range; at_end = l.at_end; closed = l.closed };
           cause = s.cause;
           cuts = s.cuts;
           skipped = s.skipped;
@@ -306,7 +307,7 @@ module _ {H C : Type 0} (cutter : Cutter H C) where
           told = s.told;
           is_head = s.is_head;
           of_head = s.of_head;
-          sources = record { means = l.means; silent = l.silent; source = l.source; fed_nothing = l.fed_nothing; gave = l.gave; others = l.others; tickets = omega (arith, l.tickets, length-append past.allowed (t ∷ [])); in_range = l.in_range; at_end = l.at_end; closed = l.closed };
+          sources = record { means = l.means; source = l.source; fed_nothing = l.fed_nothing; gave = l.gave; others = l.others; tickets = omega (arith, l.tickets, length-append past.allowed (t ∷ [])); in_range = l.in_range; at_end = l.at_end; closed = l.closed };
           cause = s.cause;
           cuts = s.cuts;
           skipped = s.skipped;
@@ -330,7 +331,31 @@ module _ {H C : Type 0} (cutter : Cutter H C) where
           told = s.told;
           is_head = s.is_head;
           of_head = s.of_head;
-          sources = record { means = l.means; silent = l.silent; source = l.source; fed_nothing = l.fed_nothing; gave = l.gave; others = l.others; tickets = l.tickets; in_range = l.in_range; at_end = l.at_end; closed = l.closed };
+          sources = record { means = l.means; source = l.source; fed_nothing = l.fed_nothing; gave = l.gave; others = l.others; tickets = l.tickets; in_range = l.in_range; at_end = l.at_end; closed = l.closed };
+          cause = s.cause;
+          cuts = s.cuts;
+          skipped = s.skipped;
+          all_read = s.all_read;
+          own = s.own;
+          device = s.device;
+          sound = s.sound;
+          idle = s.idle;
+        },
+      )
+
+  pub demux_told : (left : Option (List ℕ)) (cut : C) (skip given : ℕ) (ticket ended : Bool) (fault : Option Fault) (past : Past) (e : Event)
+      → DemuxStands cutter left cut skip given ticket ended fault past
+      → DemuxStands cutter left cut skip given ticket ended fault (was_told past e)
+  demux_told left cut skip given ticket ended fault past e (head, read, rest, s) =
+      let l = s.sources in (
+        head,
+        read,
+        rest,
+        record {
+          told = s.told;
+          is_head = s.is_head;
+          of_head = s.of_head;
+          sources = record { means = l.means; source = l.source; fed_nothing = l.fed_nothing; gave = l.gave; others = l.others; tickets = l.tickets; in_range = l.in_range; at_end = l.at_end; closed = l.closed };
           cause = s.cause;
           cuts = s.cuts;
           skipped = s.skipped;
@@ -357,7 +382,7 @@ module _ {H C : Type 0} (cutter : Cutter H C) where
         is_head = s.is_head;
         of_head = eh ∙ s.of_head;
         sources = subst (λ (xs : List ℕ). Sources (demux_of cutter head xs) given false ticket past) (sym file) s.sources;
-        cause = s.cause ∙ ap (λ (xs : List ℕ). (demux_task cutter head xs).cause) (sym file);
+        cause = s.cause ∙ ap (λ (xs : List ℕ). demux_cause cutter head xs) (sym file);
         cuts = λ e. subst (λ (xs : List ℕ). cutter.cuts new head xs given) fed cuts;
         skipped = omega (arith, skipped, s.skipped, length-append read piece);
         all_read = ended;
@@ -411,10 +436,10 @@ module _ {H C : Type 0} (cutter : Cutter H C) where
   )
 
   -- nothing was done yet
-  pub demux_start : (left : Option (List ℕ)) (cut : C) (head : H) (file : List ℕ) → cutter.IsHead head → cutter.head_of cut ≡ head
+  pub demux_start : (left : Option (List ℕ)) (cut : C) (input : ℕ) (head : H) (file : List ℕ) → cutter.IsHead head → cutter.head_of cut ≡ head
       → cutter.has_ended cut ≡ false → cutter.cuts cut head [] 0 → left ≡ Some file
-      → DemuxStands cutter left cut (cutter.start head) 0 false false None (start (demux_task cutter head file))
-  demux_start left cut head file good eh going cuts told = (
+      → DemuxStands cutter left cut (cutter.start head) 0 false false None (start (demux_task cutter input head file))
+  demux_start left cut input head file good eh going cuts told = (
     head,
     [],
     file,
@@ -422,7 +447,7 @@ module _ {H C : Type 0} (cutter : Cutter H C) where
       told = told;
       is_head = good;
       of_head = eh;
-      sources = record { means = refl; silent = (refl, refl); source = refl; fed_nothing = λ p. refl; gave = refl; others = λ p. refl; tickets = refl; in_range = omega arith; at_end = λ e. cc; closed = demux_closed cutter head file };
+      sources = record { means = refl; source = refl; fed_nothing = λ p. refl; gave = refl; others = λ p. refl; tickets = refl; in_range = omega arith; at_end = λ e. cc; closed = demux_closed cutter head file };
       cause = refl;
       cuts = λ e. subst (λ (xs : List ℕ). cutter.cuts cut head xs 0) (sym (drop_nil (cutter.start head))) cuts;
       skipped = let k : cutter.start head ≡ cutter.start head - length {A = ℕ} [] = omega arith in k;

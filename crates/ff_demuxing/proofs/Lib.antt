@@ -1,2 +1,3 @@
 pub mod DemuxSteps
+pub mod ExitSteps
 pub mod LimitSteps

@@ -6,6 +6,8 @@ use Rattle.ff_net.specs.declared.fault.Fault.{Fault}
 use Rattle.ff_net.specs.Pasts.{Past}
 use Rattle.ff_cut.specs.declared.cutter.PacketCut.{Ghosts}
 use Rattle.ff_demuxing.specs.Demuxing.{DemuxStands}
+use Rattle.ff_demuxing.specs.Exiting.{Exits}
+use Rattle.ff_demuxing.specs.Sources.{tried_of}
 use Rattle.ff_demuxing.specs.declared.demux.Demux.{Demux}
 
 module _ {S C H : Type 0} {G : Ghosts C H} where
@@ -32,8 +34,13 @@ module _ {S C H : Type 0} {G : Ghosts C H} where
   abbrev pub demux_holds : Demux S C H G → Type 0
   demux_holds m = m.ticket ≡ true
 
+  -- under how many of its tickets, from the first on, it has tried a unit
+  abbrev pub demux_reads : Demux S C H G → ℕ
+  demux_reads m = tried_of m.given m.ended
+
   abbrev pub demux_spent : Demux S C H G → ℕ → Type 0
   demux_spent m p = ⊥
 
   abbrev pub demux_stands : (S → Option (List ℕ)) → Demux S C H G → Past → Type 0
   demux_stands left m past = DemuxStands G.is (left m.src) m.cut m.skip m.given m.ticket m.ended m.fault past
+      × Exits m.input m.stopped m.told past.task.tells past.told past.stopped

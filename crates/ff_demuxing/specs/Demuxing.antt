@@ -10,8 +10,9 @@ use Rattle.ff_cut.specs.Cutters.{Cutter}
 use Rattle.ff_net.specs.declared.fault.Fault.{Fault}
 use Rattle.ff_net.specs.declared.fault.Fault.TheVariants.{Device, Damaged, TooLong}
 use Rattle.ff_net.specs.Laws.{IsOfInputs}
-use Rattle.ff_net.specs.Pasts.{Past, Task, IsIn, no_events}
+use Rattle.ff_net.specs.Pasts.{Past, Task, IsIn}
 use Rattle.ff_net.specs.Ways.{Flow}
+use Rattle.ff_demuxing.specs.Exiting.{exits}
 use Rattle.ff_demuxing.specs.Sources.{Sources, only}
 
 -- the offset past which no packet may end
@@ -64,9 +65,9 @@ module _ {H C : Type 0} (cutter : Cutter H C) where
   abbrev pub demux_cause : H → List ℕ → List Flow → Option Fault
   demux_cause head file inputs = fault_in head file
 
-  -- what a demuxer of this input is there for
-  abbrev pub demux_task : H → List ℕ → Task
-  demux_task head file = record { means = only (demux_of head file); cause = demux_cause head file; source = true; tells = no_events }
+  -- what a demuxer of this input, the one of this number, is there for
+  abbrev pub demux_task : ℕ → H → List ℕ → Task
+  demux_task input head file = record { means = only (demux_of head file); cause = demux_cause head file; source = true; tells = exits input }
 
 -- Of an input with this head these bytes were read, and the rest is left: the state of a demuxer after a past.
 pub record Demuxes {H C : Type 0} (cutter : Cutter H C) (left : Option (List ℕ)) (cut : C) (skip given : ℕ) (ticket ended : Bool) (fault : Option Fault) (past : Past) (head : H) (read rest : List ℕ) : Type 0 where

@@ -5,6 +5,8 @@ pub mod DemuxShapes
 pub mod DemuxViews
 pub mod Demuxers
 pub mod Demuxing
+pub mod Exiting
+pub mod FlacShapes
 pub mod Sources
 pub mod WavShapes
 pub mod Y4mShapes

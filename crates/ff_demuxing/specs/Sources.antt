@@ -13,7 +13,6 @@ use Rattle.ff_frame.specs.Ports.{nothing, stream_at, AllBelow, AllUnbroken, IsMo
 use Rattle.ff_frame.specs.Order.{below_self, opened_below}
 use Rattle.ff_net.specs.Ways.{Flow, AreValid}
 use Rattle.ff_net.specs.Pasts.{Past, gave_item, due, cut_to}
-use Rattle.ff_net.specs.Laws.{IsSilent}
 use Rattle.ff_net.proofs.Flows.{stream_at-with_item_same, stream_at-with_item_other}
 
 -- the function of a source: always this stream
@@ -31,7 +30,6 @@ count true = 1
 -- what a source of the stream s gave: n items, and the end or not; each took a ticket
 pub record Sources (s : Flow) (n : ℕ) (ended ticket : Bool) (past : Past) : Type 0 where
   pub means : past.task.means ≡ only s
-  pub silent : IsSilent past
   pub source : past.task.source ≡ true
   pub fed_nothing : (p : ℕ) → stream_at past.got p ≡ nothing
   pub gave : stream_at past.gave 0 ≡ part_of s n ended
@@ -176,7 +174,6 @@ source_gives s n past x get is l =
     record {
       now = record {
         means = l.means;
-        silent = l.silent;
         source = l.source;
         fed_nothing = l.fed_nothing;
         gave = stream_at-with_item_same past.gave 0 x ∙ grown;
@@ -201,7 +198,6 @@ source_ends s n past x all is l =
     record {
       now = record {
         means = l.means;
-        silent = l.silent;
         source = l.source;
         fed_nothing = l.fed_nothing;
         gave = stream_at-with_item_same past.gave 0 x ∙ grown;

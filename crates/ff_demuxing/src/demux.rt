@@ -1,4 +1,4 @@
-ghost use Rattle.std.specs.Prelude.{◌≡◌, ◌≢◌, ◌^◌, ◌≤◌, ◌<◌, ℕ, List, Some, None, Err, true, false, length, IfOk, IfErr};
+ghost use Rattle.std.specs.Prelude.{◌≡◌, ◌≢◌, ◌^◌, ◌≤◌, ◌<◌, ◌⊎◌, ℕ, List, Some, None, Err, true, false, length, IfOk, IfErr, IsSome};
 ghost use Rattle.ff_frame.specs.declared.item.Lane.TheVariants.{Packets};
 ghost use Rattle.ff_net.specs.declared.fault.Fault.TheVariants.{TooLarge};
 
@@ -28,12 +28,17 @@ pub struct Demux<S, C: PacketCut> {
     /// How many packets were given.
     given: u64,
     ticket: bool,
+    /// Its output has closed.
     ended: bool,
+    /// Its output was stopped.
+    stopped: bool,
+    /// It told that it has exited.
+    told: bool,
     fault: Option<Fault>,
     ghost some_piece: { 0 < length piece.items },
     ghost same_head: { C.is.stream_head (C.is.head_of cut) ≡ head },
     ghost near: { ended ≡ false → C.is.place cut ≤ 2 ^ 50 },
-    ghost few: { ended ≡ false → given ≤ 2 ^ 40 },
+    ghost few: { given ≤ 2 ^ 40 },
     ghost fits: { fault ≢ Some TooLarge },
 }
 
@@ -59,7 +64,7 @@ impl<S: Source + Drop, C: PacketCut + Drop> Demux<S, C> {
     ghost use Rattle.std.specs.Prelude.{[], ◌∷◌};
     ghost use Rattle.ff_net.specs.Pasts.{start};
     ghost use Rattle.ff_demuxing.specs.Demuxing.{demux_task};
-    ghost use Rattle.ff_demuxing.specs.Demuxers.{demux_out_lanes, demux_source, demux_fault, demux_failures, demux_device, demux_stands};
+    ghost use Rattle.ff_demuxing.specs.Demuxers.{demux_out_lanes, demux_source, demux_fault, demux_failures, demux_device, demux_reads, demux_stands};
 
     /// Over a source that gives the input from its first byte on, whose head this is. The source comes back where there
     /// was no memory.
@@ -70,7 +75,7 @@ impl<S: Source + Drop, C: PacketCut + Drop> Demux<S, C> {
         ensures lanes { IfOk result (λ m. demux_out_lanes m ≡ Packets (C.is.stream_head head.now) ∷ []) }
         ensures device { IfOk result (λ m. demux_device S.name m ≡ S.name src) }
         ensures failures { IfOk result (λ m. demux_failures S.faults m ≡ S.faults src) }
-        ensures stands { IfOk result (λ m. (file : List ℕ) → S.left src ≡ Some file → demux_stands S.left m (start (demux_task C.is head.now file))) }
+        ensures stands { IfOk result (λ m. (file : List ℕ) → S.left src ≡ Some file → demux_stands S.left m (start (demux_task C.is input head.now file))) }
         ensures refused { IfErr result (λ s. s ≡ src) }
     {
         let Ok(piece) = piece_of(alloc, PIECE) else {
@@ -86,8 +91,28 @@ impl<S: Source + Drop, C: PacketCut + Drop> Demux<S, C> {
             given: 0,
             ticket: false,
             ended: false,
+            stopped: false,
+            told: false,
             fault: None,
         })
+    }
+
+    /// Under how many of its tickets, from the first on, it has tried a packet or the end: as many as it gave.
+    pub fn tried(&self) -> u64
+        ensures { result ≡ demux_reads self.now }
+    {
+        if self.ended {
+            return self.given + 1;
+        }
+        self.given
+    }
+
+    // It gives nothing more.
+    fn is_over(&self) -> bool
+        ensures over { result ≡ true → (self.now.ended ≡ true) ⊎ (self.now.stopped ≡ true) ⊎ IsSome self.now.fault }
+        ensures goes_on { result ≡ false → (self.now.ended ≡ false) × (self.now.stopped ≡ false) × (self.now.fault ≡ None) }
+    {
+        self.ended || self.stopped || self.fault.is_some()
     }
 
     /// The source, as it is now.
@@ -193,7 +218,9 @@ impl<S: Source + Drop, C: Demuxable + Drop> Machine for Demux<S, C> {
         }
     }
 
-    fn stop(&mut self, _port: usize) {}
+    fn stop(&mut self, _port: usize) {
+        self.stopped = true;
+    }
 
     fn spent(&self, _port: usize) -> bool
         ensures { result ≡ false }
@@ -202,7 +229,14 @@ impl<S: Source + Drop, C: Demuxable + Drop> Machine for Demux<S, C> {
     }
 
     fn next_event(&mut self) -> Option<Event> {
-        None
+        if self.told {
+            return None;
+        }
+        if !self.is_over() {
+            return None;
+        }
+        self.told = true;
+        Some(Event::Exited(self.input))
     }
 
     ghost laws = { λ m. demux_laws S.left S.name S.faults C.in_shape m m.same_head };

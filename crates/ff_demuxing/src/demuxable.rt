@@ -1,5 +1,6 @@
 use ff_cut::PacketCut;
 use ff_cuts::AnyCut;
+use ff_flac_dec::FlacCut;
 use ff_wav::WavCut;
 use ff_y4m::Y4mCut;
 
@@ -20,6 +21,12 @@ impl Demuxable for Y4mCut {
     ghost use Rattle.ff_demuxing.specs.Y4mShapes.{y4m_shaped};
 
     ghost in_shape = { y4m_shaped };
+}
+
+impl Demuxable for FlacCut {
+    ghost use Rattle.ff_demuxing.specs.FlacShapes.{flac_shaped};
+
+    ghost in_shape = { flac_shaped };
 }
 
 impl Demuxable for AnyCut {

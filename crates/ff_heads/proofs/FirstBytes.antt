@@ -1,5 +1,5 @@
 -- An input that lacks the first bytes of a format has no head in it, and the first byte tells the format.
-use Rattle.std.proofs.Common.{◌≡◌, ℕ, ◌<◌, ◌≤◌, ◌⊎◌, inl, inr, Bool, true, false, cond, List, [], ◌∷◌, length, take, Option, Some, None, Err, refl, sym, ap, ◌∙◌, arith}
+use Rattle.std.proofs.Common.{◌≡◌, ℕ, ◌<◌, inl, inr, Bool, true, false, cond, List, ◌∷◌, length, take, Option, Some, None, Err, refl, sym, ap, ◌∙◌, arith}
 use Rattle.std.specs.Prelude.{nat_le, nat_lt, ◌==◌, ◌&&◌}
 use Rattle.std.proofs.lemmas.List.{length-take}
 use Rattle.std.proofs.lemmas.Bool.Decides.{nat_tests}
@@ -13,13 +13,15 @@ use Rattle.ff_cut.proofs.ReadingLaws.{reading_at, reading_else, within_short}
 use Rattle.ff_words.specs.declared.job.FileFormat.{FileFormat}
 use Rattle.ff_words.specs.declared.job.FileFormat.TheVariants as format
 use Rattle.ff_wav.specs.Heads as wav
-use Rattle.ff_wav.specs.HeadLaws.{is_lawful}
+use Rattle.ff_wav.specs.HeadLaws as wav_laws
 use Rattle.ff_y4m.specs.Heads as y4m
 use Rattle.ff_y4m.specs.Lines.{begins, line_end, longest_line}
 use Rattle.ff_y4m.proofs.LineLaws.{option_cases, NoFeed, line_longer}
 use Rattle.ff_y4m.proofs.HeadLaws as y4m_laws
-use Rattle.ff_heads.specs.declared.head.InputHead.TheVariants.{Wav, Y4m}
-use Rattle.ff_heads.specs.Formats.{Found, as_input, head_in, begins_by, begins_as, named, head_by, input_head, format_with}
+use Rattle.ff_flac_dec.specs.Heads as flac
+use Rattle.ff_flac_dec.specs.HeadLaws as flac_laws
+use Rattle.ff_heads.specs.declared.head.InputHead.TheVariants.{Wav, Y4m, Flac}
+use Rattle.ff_heads.specs.Formats.{as_input, head_in, begins_by, begins_as, named, head_by, input_head, format_with}
 
 and_no : (x y : Bool) → y ≡ false → (x && y) ≡ false
 and_no true y e = e
@@ -72,9 +74,9 @@ other_line bs e = elim (bool_cases (begins y4m.magic bs)) [
 
 -- an input without a format's first bytes has no head in it
 pub unnamed : (f : FileFormat) (bs : List ℕ) → begins_as f bs ≡ false → head_in f bs ≡ Err (Unsupported 0)
-unnamed format.Wav bs e = ap (as_input Wav) (other_than wav.grammar bs is_lawful e)
+unnamed format.Wav bs e = ap (as_input Wav) (other_than wav.grammar bs wav_laws.is_lawful e)
 unnamed format.Y4m bs e = ap (as_input Y4m) (other_line bs e)
-unnamed format.Flac bs e = refl
+unnamed format.Flac bs e = ap (as_input Flac) (other_than flac.grammar bs flac_laws.is_lawful e)
 unnamed format.FrameHash bs e = refl
 
 -- ---- by the first byte
@@ -85,11 +87,14 @@ wav_begins b bs e = and_no (nat_le (length wav.magic) (length (b ∷ bs))) (agre
 y4m_begins : (b : ℕ) (bs : List ℕ) → (b == 89) ≡ false → begins_as format.Y4m (b ∷ bs) ≡ false
 y4m_begins b bs e = and_no (nat_lt (length y4m.magic) (length (b ∷ bs))) (begins y4m.magic (b ∷ bs)) (no_and (b == 89) _ e)
 
--- the first of the formats for which the test holds
-abbrev picked : Bool → Bool → Option FileFormat
-picked w y = cond w (Some format.Wav) (cond y (Some format.Y4m) None)
+flac_begins : (b : ℕ) (bs : List ℕ) → (b == 102) ≡ false → begins_as format.Flac (b ∷ bs) ≡ false
+flac_begins b bs e = and_no (nat_le (length flac.magic) (length (b ∷ bs))) (agrees flac.magic (b ∷ bs)) (no_and (b == 102) _ e)
 
-named_is : (bs : List ℕ) → named bs ≡ picked (begins_as format.Wav bs) (begins_as format.Y4m bs)
+-- the first of the formats for which the test holds
+abbrev picked : Bool → Bool → Bool → Option FileFormat
+picked w y f = cond w (Some format.Wav) (cond y (Some format.Y4m) (cond f (Some format.Flac) None))
+
+named_is : (bs : List ℕ) → named bs ≡ picked (begins_as format.Wav bs) (begins_as format.Y4m bs) (begins_as format.Flac bs)
 named_is bs = refl
 
 -- the head in the one format that may be named
@@ -97,28 +102,56 @@ only : (f : FileFormat) (bs : List ℕ) (t : Bool) → begins_as f bs ≡ t → 
 only f bs true e = refl
 only f bs false e = sym (unnamed f bs e)
 
-wav_only : (t : Bool) → picked t false ≡ cond t (Some format.Wav) None
-wav_only true = refl
-wav_only false = refl
-
 same_byte : (b k : ℕ) → (b == k) ≡ true → b ≡ k
 same_byte b k e = grind (arith, nat_tests)
 
 other_byte : (b k n : ℕ) → (b == k) ≡ true → (k == n) ≡ false → (b == n) ≡ false
 other_byte b k n e d = ap (λ x. x == n) (same_byte b k e) ∙ d
 
+-- three tests, of which one may hold
+picked_by : (a b c x y z : Bool) → a ≡ x → b ≡ y → c ≡ z → picked a b c ≡ picked x y z
+picked_by a b c x y z p q r = ap (λ t. picked t b c) p ∙ (ap (λ t. picked x t c) q ∙ ap (λ t. picked x y t) r)
+
+picked_first : (t : Bool) → picked t false false ≡ cond t (Some format.Wav) None
+picked_first true = refl
+picked_first false = refl
+
+picked_second : (t : Bool) → picked false t false ≡ cond t (Some format.Y4m) None
+picked_second true = refl
+picked_second false = refl
+
 -- the first byte tells the format
 pub by_byte : (b : ℕ) (bs : List ℕ) → input_head None (b ∷ bs) ≡ head_by (format_with b) (b ∷ bs)
 unfolding input_head
-by_byte b bs = elim (bool_cases (b == 82)) [
-  | inl w ↦ let y = y4m_begins b bs (other_byte b 82 89 w refl) in
-      ap (λ o. head_by o (b ∷ bs)) (ap (picked (begins_as format.Wav (b ∷ bs))) y ∙ wav_only (begins_as format.Wav (b ∷ bs)))
-      ∙ (only format.Wav (b ∷ bs) (begins_as format.Wav (b ∷ bs)) refl
-      ∙ ap (λ t. head_by (cond t (Some format.Wav) (cond (b == 89) (Some format.Y4m) None)) (b ∷ bs)) (sym w))
-  | inr w ↦ let n = wav_begins b bs w in
-      ap (λ t. head_by (picked t (begins_as format.Y4m (b ∷ bs))) (b ∷ bs)) n
-      ∙ (elim (bool_cases (b == 89)) [
-        | inl y ↦ only format.Y4m (b ∷ bs) (begins_as format.Y4m (b ∷ bs)) refl ∙ ap (λ t. head_by (cond t (Some format.Y4m) None) (b ∷ bs)) (sym y)
-        | inr y ↦ ap (λ t. head_by (cond t (Some format.Y4m) None) (b ∷ bs)) (y4m_begins b bs y ∙ sym y)
-      ] ∙ ap (λ t. head_by (cond t (Some format.Wav) (cond (b == 89) (Some format.Y4m) None)) (b ∷ bs)) (sym w))
-]
+by_byte b bs =
+    let w = begins_as format.Wav (b ∷ bs) in
+    let y = begins_as format.Y4m (b ∷ bs) in
+    let f = begins_as format.Flac (b ∷ bs) in
+    elim (bool_cases (b == 82)) [
+      | inl is ↦
+          let no_y = y4m_begins b bs (other_byte b 82 89 is refl) in
+          let no_f = flac_begins b bs (other_byte b 82 102 is refl) in
+          ap (λ o. head_by o (b ∷ bs)) (picked_by w y f w false false refl no_y no_f ∙ picked_first w)
+          ∙ (only format.Wav (b ∷ bs) w refl
+          ∙ ap (λ o. head_by o (b ∷ bs)) (sym (picked_by (b == 82) (b == 89) (b == 102) true (b == 89) (b == 102) is refl refl)))
+      | inr no_w ↦
+          let not_w = wav_begins b bs no_w in
+          elim (bool_cases (b == 89)) [
+            | inl is ↦
+                let no_f = flac_begins b bs (other_byte b 89 102 is refl) in
+                ap (λ o. head_by o (b ∷ bs)) (picked_by w y f false y false not_w refl no_f ∙ picked_second y)
+                ∙ (only format.Y4m (b ∷ bs) y refl
+                ∙ ap (λ o. head_by o (b ∷ bs)) (sym (picked_by (b == 82) (b == 89) (b == 102) false true (b == 102) no_w is refl)))
+            | inr no_y ↦
+                let not_y = y4m_begins b bs no_y in
+                elim (bool_cases (b == 102)) [
+                  | inl is ↦
+                      ap (λ o. head_by o (b ∷ bs)) (picked_by w y f false false f not_w not_y refl)
+                      ∙ (only format.Flac (b ∷ bs) f refl
+                      ∙ ap (λ o. head_by o (b ∷ bs)) (sym (picked_by (b == 82) (b == 89) (b == 102) false false true no_w no_y is)))
+                  | inr no_f ↦
+                      ap (λ o. head_by o (b ∷ bs)) (picked_by w y f false false false not_w not_y (flac_begins b bs no_f)
+                      ∙ sym (picked_by (b == 82) (b == 89) (b == 102) false false false no_w no_y no_f))
+                ]
+          ]
+    ]

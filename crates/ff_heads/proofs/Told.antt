@@ -1,10 +1,10 @@
 -- What an answer of one format says of an input.
-use Rattle.std.proofs.Common.{◌≡◌, ℕ, Bool, true, false, List, [], ◌++◌, Option, Some, None, Result, Ok, Err, refl, sym, ap, ◌∙◌, subst, append-nil}
-use Rattle.std.specs.Prelude.{◌↔◌, IfOk}
+use Rattle.std.proofs.Common.{◌≡◌, ℕ, Bool, List, [], ◌++◌, Result, Ok, Err, refl, sym, ap, ◌∙◌, subst, append-nil}
+use Rattle.std.specs.Prelude.{IfOk}
 use Rattle.ff_values.specs.declared.cut.HeadEnd.{HeadEnd}
 use Rattle.ff_values.specs.declared.cut.HeadEnd.TheVariants as end
 use Rattle.ff_cut.specs.declared.fault.HeadFault.TheVariants.{Damaged, Unsupported}
-use Rattle.ff_cut.specs.Heads.{Found, answered, IsOpen}
+use Rattle.ff_cut.specs.Heads.{Found, answered}
 use Rattle.ff_cut.specs.Walks.{Grammar, head_by as head_by_grammar, answer_by, IsGrammar, Keeps}
 use Rattle.ff_cut.proofs.GrammarLaws.{answer_not_yet, answer_decided, answer_stays, answer_sound}
 use Rattle.ff_heads.specs.declared.head.InputHead.{InputHead}

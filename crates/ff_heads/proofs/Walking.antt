@@ -1,13 +1,12 @@
 -- How far a walk has read.
-use Rattle.std.proofs.Common.{◌≡◌, ℕ, ◌<◌, ◌≤◌, inl, inr, Bool, true, false, List, [], ◌∷◌, ◌++◌, drop, length, Option, Some, None, Result, Ok, Err, refl, sym, ap, ◌∙◌, subst, arith, append_assoc, append-nil, lit<, lit≤}
+use Rattle.std.proofs.Common.{◌≡◌, ℕ, ◌<◌, ◌≤◌, inl, inr, Bool, true, false, List, [], ◌∷◌, ◌++◌, drop, length, Option, Some, None, Result, Err, refl, sym, ap, ◌∙◌, subst, arith, append_assoc, append-nil, lit<, lit≤}
 use Rattle.std.specs.Prelude.{All}
 use Rattle.std.proofs.lemmas.List.Elements.{All-nil, All-cons}
 use Rattle.ff_values.specs.declared.cut.HeadEnd.{HeadEnd}
-use Rattle.ff_values.specs.declared.head.StreamHead.{StreamHead}
 use Rattle.ff_values.specs.declared.cut.HeadEnd.TheVariants as end
 use Rattle.ff_cut.specs.declared.fault.HeadFault.TheVariants.{Damaged, Unsupported}
 use Rattle.ff_cut.specs.Heads.{IsOpen, answered}
-use Rattle.ff_cut.specs.Walks.{Grammar, walked, walk as walk_on, head_limit, Reached as ReachedIn, IsReached as IsReachedIn}
+use Rattle.ff_cut.specs.Walks.{Grammar, walked, walk as walk_on, head_limit, Reached as ReachedIn}
 use Rattle.ff_cut.proofs.AnswerLaws.{head_some, head_stays}
 use Rattle.ff_words.specs.declared.job.FileFormat.{FileFormat}
 use Rattle.ff_words.specs.declared.job.FileFormat.TheVariants as format
@@ -17,7 +16,8 @@ use Rattle.ff_y4m.specs.Lines.{longest_line}
 use Rattle.ff_y4m.proofs.LineLaws.{option_cases, line_end_none}
 use Rattle.ff_y4m.proofs.HeadLaws as y4m_laws
 use Rattle.ff_heads.specs.declared.walk.InputWalk.{InputWalk}
-use Rattle.ff_heads.specs.declared.walk.InputWalk.TheVariants.{Start, Other, Wav, Y4m}
+use Rattle.ff_flac_dec.specs.Heads as flac
+use Rattle.ff_heads.specs.declared.walk.InputWalk.TheVariants.{Start, Other, Wav, Y4m, Flac}
 use Rattle.ff_heads.specs.declared.head.InputHead.{InputHead}
 use Rattle.ff_heads.specs.declared.head.InputHead.TheVariants as input
 use Rattle.ff_heads.specs.Heads.{IsHead}
@@ -46,6 +46,7 @@ begun Start b f w h = let clash : Some f ≡ None = h.0 in absurd cc
 begun Other b f w h = λ more. none_of_byte b f more w (h (b ∷ more))
 begun (Wav x) b f w h = (λ more. of_byte b f format.Wav more w (h.0 (b ∷ more)), lit≤ tt, reached_more wav.grammar x.at x.state [] (b ∷ []) h.2)
 begun Y4m b f w h = λ more. of_byte b f format.Y4m more w (h (b ∷ more))
+begun (Flac x) b f w h = (λ more. of_byte b f format.Flac more w (h.0 (b ∷ more)), lit≤ tt, reached_more flac.grammar x.at x.state [] (b ∷ []) h.2)
 
 pub begun_none : (b : ℕ) → format_with b ≡ None → IsOfNone None (b ∷ [])
 begun_none b w more = by_byte b more ∙ ap (λ o. head_by o (b ∷ more)) w
@@ -130,9 +131,10 @@ module _ (given : Option FileFormat) (whole : Bool) (bs : List ℕ) (r : Result 
   pub format_told : (f : FileFormat) (front rest : List ℕ) → bs ≡ front ++ rest → IsOf given f front → Answers (head_in f) IsHead whole bs r → Answers (input_head given) IsHead whole bs r
   format_told f front rest e h a = answers_same (head_in f) (input_head given) IsHead whole bs r (of_more given f front rest bs e h) a
 
-  pub wav_on : (at : ℕ) (s : Option StreamHead) (front rest : List ℕ) → bs ≡ front ++ rest → IsOf given format.Wav front → (length bs ≤ head_limit) × ReachedIn wav.grammar at s bs
-      → (length bs ≤ head_limit) × (IsOf given format.Wav bs × (length bs ≤ head_limit) × ReachedIn wav.grammar at s bs)
-  wav_on at s front rest e h on = (on.0, (of_more given format.Wav front rest bs e h, on.0, on.1))
+  -- a format that is read unit by unit goes on
+  pub units_on : {H S : Type 0} (g : Grammar H S) (f : FileFormat) (at : ℕ) (s : S) (front rest : List ℕ) → bs ≡ front ++ rest → IsOf given f front
+      → (length bs ≤ head_limit) × ReachedIn g at s bs → (length bs ≤ head_limit) × (IsOf given f bs × (length bs ≤ head_limit) × ReachedIn g at s bs)
+  units_on g f at s front rest e h on = (on.0, (of_more given f front rest bs e h, on.0, on.1))
 
   y4m_short : IsOpen (head_in format.Y4m) bs → length bs ≤ head_limit
   y4m_short o = elim (option_cases (y4m.reading bs)) [

@@ -9,7 +9,8 @@ use Rattle.ff_wav.specs.Heads as wav
 use Rattle.ff_y4m.specs.Heads as y4m
 use Rattle.ff_y4m.specs.Lines.{begins}
 use Rattle.ff_heads.specs.declared.head.InputHead.{InputHead}
-use Rattle.ff_heads.specs.declared.head.InputHead.TheVariants.{Wav, Y4m}
+use Rattle.ff_flac_dec.specs.Heads as flac
+use Rattle.ff_heads.specs.declared.head.InputHead.TheVariants.{Wav, Y4m, Flac}
 
 -- a head, or the fault for which there is none
 abbrev pub Found : Type 0
@@ -24,23 +25,24 @@ as_input make (Err fault) = Err fault
 abbrev pub head_in : FileFormat → List ℕ → Found
 head_in format.Wav bs = as_input Wav (wav.head bs)
 head_in format.Y4m bs = as_input Y4m (y4m.head bs)
-head_in format.Flac bs = Err (Unsupported 0)
+head_in format.Flac bs = as_input Flac (flac.head bs)
 head_in format.FrameHash bs = Err (Unsupported 0)
 
 -- the first bytes of such a format are there
 abbrev pub begins_by : {H S : Type 0} → Grammar H S → List ℕ → Bool
 begins_by g bs = nat_le (length g.magic) (length bs) && agrees g.magic bs
 
--- whether an input has the first bytes of a format: `RIFF`, any four bytes and `WAVE`; `YUV4MPEG2` and a space or a line feed
+-- whether an input has the first bytes of a format: `RIFF`, any four bytes and `WAVE`; `YUV4MPEG2` and a space or a line
+-- feed; `fLaC`
 abbrev pub begins_as : FileFormat → List ℕ → Bool
 begins_as format.Wav bs = begins_by wav.grammar bs
 begins_as format.Y4m bs = nat_lt (length y4m.magic) (length bs) && begins y4m.magic bs
-begins_as format.Flac bs = false
+begins_as format.Flac bs = begins_by flac.grammar bs
 begins_as format.FrameHash bs = false
 
 -- the formats that are read
 abbrev pub formats : List FileFormat
-formats = format.Wav ∷ format.Y4m ∷ []
+formats = format.Wav ∷ format.Y4m ∷ format.Flac ∷ []
 
 -- the format whose first bytes an input has
 abbrev pub named : List ℕ → Option FileFormat
@@ -61,4 +63,5 @@ abbrev pub format_with : ℕ → Option FileFormat
 format_with b =
     if b == 82 then Some format.Wav
     else if b == 89 then Some format.Y4m
+    else if b == 102 then Some format.Flac
     else None

@@ -5,9 +5,10 @@ use Rattle.ff_cut.specs.declared.fault.HeadFault.TheVariants.{Unsupported}
 use Rattle.ff_words.specs.declared.job.FileFormat.{FileFormat}
 use Rattle.ff_words.specs.declared.job.FileFormat.TheVariants as format
 use Rattle.ff_wav.specs.Heads as wav
+use Rattle.ff_flac_dec.specs.Heads as flac
 use Rattle.ff_heads.specs.Formats.{head_in, input_head}
 use Rattle.ff_heads.specs.declared.walk.InputWalk.{InputWalk}
-use Rattle.ff_heads.specs.declared.walk.InputWalk.TheVariants.{Start, Other, Wav, Y4m}
+use Rattle.ff_heads.specs.declared.walk.InputWalk.TheVariants.{Start, Other, Wav, Y4m, Flac}
 
 -- Whatever follows these bytes, the head of the input, of which this format was given or none, is that in another format.
 abbrev pub IsOf : Option FileFormat → FileFormat → List ℕ → Type 0
@@ -23,6 +24,7 @@ Reached Start given front = (given ≡ None) × (front ≡ [])
 Reached Other given front = IsOfNone given front
 Reached (Wav w) given front = IsOf given format.Wav front × (length front ≤ head_limit) × ReachedIn wav.grammar w.at w.state front
 Reached Y4m given front = IsOf given format.Y4m front
+Reached (Flac w) given front = IsOf given format.Flac front × (length front ≤ head_limit) × ReachedIn flac.grammar w.at w.state front
 
 -- The bytes go on such a front.
 abbrev pub IsReached : InputWalk → Option FileFormat → List ℕ → Type 0

@@ -10,6 +10,7 @@ pub(crate) fn format_by(byte: u8) -> Option<FileFormat>
     match byte {
         b'R' => Some(FileFormat::Wav),
         b'Y' => Some(FileFormat::Y4m),
+        b'f' => Some(FileFormat::Flac),
         _ => None,
     }
 }

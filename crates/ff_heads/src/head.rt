@@ -1,6 +1,7 @@
 ghost use Rattle.std.specs.Prelude.{◌≡◌, IfOk};
 ghost use Rattle.ff_heads.specs.Heads.{stream_in, streams_in};
 
+use ff_flac_dec::FlacHead;
 use ff_values::StreamHead;
 use ff_wav::WavHead;
 use ff_y4m::Y4mHead;
@@ -13,6 +14,8 @@ pub enum InputHead {
     Wav(WavHead),
     /// YUV4MPEG2 (yuv4mpeg(5)).
     Y4m(Y4mHead),
+    /// FLAC (RFC 9639).
+    Flac(FlacHead),
 }
 
 impl InputHead {
@@ -23,6 +26,7 @@ impl InputHead {
         match self {
             InputHead::Wav(head) => head.head,
             InputHead::Y4m(head) => head.head,
+            InputHead::Flac(head) => head.head,
         }
     }
 

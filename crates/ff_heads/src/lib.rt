@@ -1,7 +1,7 @@
 //! The head of an input, in whichever format it is.
 //!
 //! ```text
-//! bytes ──► InputWalk ──► by its first byte, or as it was told:  WavWalk  |  the line of YUV4MPEG2
+//! bytes ──► InputWalk ──► by its first byte, or as it was told:  WavWalk  |  the line of YUV4MPEG2  |  FlacWalk
 //!                              └──► InputHead: the format's own head ──► streams()
 //! ```
 //!
@@ -13,6 +13,7 @@
 #![tactic(auto)]
 
 mod first;
+mod flac;
 mod head;
 mod read;
 mod walk;

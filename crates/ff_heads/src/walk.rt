@@ -7,7 +7,8 @@ ghost use Rattle.ff_heads.specs.Places.{Reached, IsReached};
 
 use crate::first::format_by;
 use crate::head::InputHead;
-use crate::{wav, y4m};
+use crate::{flac, wav, y4m};
+use ff_flac_dec::FlacWalk;
 use ff_values::HeadEnd;
 use ff_wav::WavWalk;
 use ff_words::FileFormat;
@@ -22,6 +23,7 @@ pub enum InputWalk {
     Wav(WavWalk),
     /// A first line, which is short, and so is read anew.
     Y4m,
+    Flac(FlacWalk),
 }
 
 // Before anything was read of an input in this format.
@@ -31,7 +33,7 @@ fn start_of(format: FileFormat) -> InputWalk
     match format {
         FileFormat::Wav => InputWalk::Wav(WavWalk::new()),
         FileFormat::Y4m => InputWalk::Y4m,
-        FileFormat::Flac => InputWalk::Other,
+        FileFormat::Flac => InputWalk::Flac(FlacWalk::new()),
         FileFormat::FrameHash => InputWalk::Other,
     }
 }
@@ -92,6 +94,7 @@ impl InputWalk {
             InputWalk::Other => Err(HeadEnd::Unsupported { offset: 0 }),
             InputWalk::Wav(walk) => wav::read(walk, bytes, whole),
             InputWalk::Y4m => y4m::read(bytes, whole),
+            InputWalk::Flac(walk) => flac::read(walk, bytes, whole),
         }
     }
 }

@@ -132,7 +132,7 @@ pub static FORMATS: [(&'static str, &'static str, FileFormat, Doing, Doing); 4] 
         "flac",
         ".flac",
         FileFormat::Flac,
-        Doing::Later,
+        Doing::Today,
         Doing::Later,
     ),
     (

@@ -12,7 +12,7 @@ returns-in-Y4m c = rw c.in-Y4m.is (λ more. refl)
 
 pub returns-in-Flac : goal.returns-in-Flac
 unfolding input_head
-returns-in-Flac c = rw c.in-Flac.is (λ more. refl)
+returns-in-Flac c = rw c.in-Flac.is (λ more. refl, lit≤ tt, c.new-in-Flac.ensures)
 
 pub returns-in-FrameHash : goal.returns-in-FrameHash
 unfolding input_head

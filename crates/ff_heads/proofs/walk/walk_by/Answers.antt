@@ -1,4 +1,4 @@
-use Rattle.std.proofs.Common.{◌∙◌, sym}
+use Rattle.std.proofs.Common.{sym}
 use Rattle.ff_heads.proofs.Walking.{begun, begun_none}
 use Rattle.ff_heads.proofs.walk.walk_by.Goals as goal
 

@@ -1,4 +1,4 @@
-use Rattle.std.proofs.Common.{◌≡◌, refl, ap, ◌∙◌, subst, sym, IfSome}
+use Rattle.std.proofs.Common.{◌≡◌, ap, ◌∙◌, subst, sym, IfSome}
 use Rattle.ff_wav.specs.Packets as wav
 use Rattle.ff_wav.specs.declared.head.WavHead.{WavHead}
 use Rattle.ff_wav.specs.Heads.{grammar, head}
@@ -7,7 +7,7 @@ use Rattle.ff_wav.specs.SoundLaws.{is_kept}
 use Rattle.ff_cut.specs.Walks.{answer_by}
 use Rattle.ff_heads.specs.Heads.{IsHead}
 use Rattle.ff_heads.specs.Answers.{Answers, as_answer}
-use Rattle.ff_heads.specs.Formats.{as_input, head_in}
+use Rattle.ff_heads.specs.Formats.{head_in}
 use Rattle.ff_heads.specs.declared.head.InputHead.TheVariants.{Wav}
 use Rattle.ff_words.specs.declared.job.FileFormat.TheVariants as format
 use Rattle.ff_heads.proofs.Told.{answers_by, answers_as}

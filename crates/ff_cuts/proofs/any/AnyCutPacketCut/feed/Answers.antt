@@ -1,5 +1,5 @@
 use Rattle.ff_cuts.proofs.Among.{fed_among}
-use Rattle.ff_cuts.proofs.Formats.{wav_among, y4m_among}
+use Rattle.ff_cuts.proofs.Formats.{wav_among, y4m_among, flac_among}
 use Rattle.ff_cuts.proofs.any.AnyCutPacketCut.feed.Goals as goal
 
 pub returns-in-Wav-clause-ok : goal.returns-in-Wav-clause-ok
@@ -7,3 +7,6 @@ returns-in-Wav-clause-ok c = rw c.in-Wav.is (fed_among wav_among c.feed.result c
 
 pub returns-in-Y4m-clause-ok : goal.returns-in-Y4m-clause-ok
 returns-in-Y4m-clause-ok c = rw c.in-Y4m.is (fed_among y4m_among c.feed-in-Y4m.result c.in-Y4m.cut c.feed-in-Y4m.new.self c.args.bytes.now c.feed-in-Y4m.ensures.ok)
+
+pub returns-in-Flac-clause-ok : goal.returns-in-Flac-clause-ok
+returns-in-Flac-clause-ok c = rw c.in-Flac.is (fed_among flac_among c.feed-in-Flac.result c.in-Flac.cut c.feed-in-Flac.new.self c.args.bytes.now c.feed-in-Flac.ensures.ok)

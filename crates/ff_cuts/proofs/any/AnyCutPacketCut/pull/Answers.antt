@@ -1,6 +1,6 @@
 use Rattle.std.proofs.Common.{None, Some}
 use Rattle.ff_cuts.proofs.Among.{gives_among, gave_among}
-use Rattle.ff_cuts.proofs.Formats.{wav_among, y4m_among}
+use Rattle.ff_cuts.proofs.Formats.{wav_among, y4m_among, flac_among}
 use Rattle.ff_cuts.proofs.any.AnyCutPacketCut.pull.Goals as goal
 
 pub returns-in-Wav-clause-gives : goal.returns-in-Wav-clause-gives
@@ -19,3 +19,12 @@ returns-in-Y4m-clause-ends c = λ e. rw c.in-Y4m.is (gave_among y4m_among c.in-Y
 
 pub returns-in-Y4m-clause-breaks : goal.returns-in-Y4m-clause-breaks
 returns-in-Y4m-clause-breaks c = λ offset e. rw c.in-Y4m.is (gave_among y4m_among c.in-Y4m.cut (Some offset) (c.pull-in-Y4m.ensures.breaks offset e))
+
+pub returns-in-Flac-clause-gives : goal.returns-in-Flac-clause-gives
+returns-in-Flac-clause-gives c = λ p e. rw c.in-Flac.is (gives_among flac_among c.in-Flac.cut c.pull-in-Flac.new.self p (c.pull-in-Flac.ensures.gives p e))
+
+pub returns-in-Flac-clause-ends : goal.returns-in-Flac-clause-ends
+returns-in-Flac-clause-ends c = λ e. rw c.in-Flac.is (gave_among flac_among c.in-Flac.cut None (c.pull-in-Flac.ensures.ends e))
+
+pub returns-in-Flac-clause-breaks : goal.returns-in-Flac-clause-breaks
+returns-in-Flac-clause-breaks c = λ offset e. rw c.in-Flac.is (gave_among flac_among c.in-Flac.cut (Some offset) (c.pull-in-Flac.ensures.breaks offset e))

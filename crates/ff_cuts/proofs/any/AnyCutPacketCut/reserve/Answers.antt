@@ -1,5 +1,5 @@
 use Rattle.ff_cuts.proofs.Among.{keeps_among}
-use Rattle.ff_cuts.proofs.Formats.{wav_among, y4m_among}
+use Rattle.ff_cuts.proofs.Formats.{wav_among, y4m_among, flac_among}
 use Rattle.ff_cuts.proofs.any.AnyCutPacketCut.reserve.Goals as goal
 
 pub returns-in-Wav-clause-cuts : goal.returns-in-Wav-clause-cuts
@@ -7,3 +7,6 @@ returns-in-Wav-clause-cuts c = rw c.in-Wav.is (keeps_among wav_among c.in-Wav.cu
 
 pub returns-in-Y4m-clause-cuts : goal.returns-in-Y4m-clause-cuts
 returns-in-Y4m-clause-cuts c = rw c.in-Y4m.is (keeps_among y4m_among c.in-Y4m.cut c.reserve-in-Y4m.new.self c.reserve-in-Y4m.ensures.cuts)
+
+pub returns-in-Flac-clause-cuts : goal.returns-in-Flac-clause-cuts
+returns-in-Flac-clause-cuts c = rw c.in-Flac.is (keeps_among flac_among c.in-Flac.cut c.reserve-in-Flac.new.self c.reserve-in-Flac.ensures.cuts)

@@ -1,4 +1,4 @@
-use Rattle.std.proofs.Common.{ℕ, None, false, sym, subst}
+use Rattle.std.proofs.Common.{ℕ, None, false, refl, sym, subst}
 use Rattle.ff_net.specs.Pasts.{start}
 use Rattle.ff_demuxing.specs.Demuxing.{DemuxStands, demux_task}
 use Rattle.ff_demuxing.proofs.DemuxSteps.{demux_start}
@@ -9,5 +9,8 @@ returns-clause-stands g c = λ file told.
     let K = g.C.PacketCut.is in
     let left = g.S.Source.left c.args.src in
     let head = c.args.head.now in
-    subst (λ (k : ℕ). DemuxStands K left c.new.result k 0 false false None (start (demux_task K head file))) (sym c.start.ensures.value)
-    (demux_start K left c.new.result head file c.requires c.new.ensures.head c.new.ensures.goes_on c.new.ensures.cuts told)
+    let input = c.args.input in
+    let nothing = demux_start K left c.new.result input head file c.requires c.new.ensures.head c.new.ensures.goes_on c.new.ensures.cuts told in (
+      subst (λ (k : ℕ). DemuxStands K left c.new.result k 0 false false None (start (demux_task K input head file))) (sym c.start.ensures.value) nothing,
+      record { tells_is = refl; events_are = refl; stopped_is = (λ e. cc, λ i. absurd i) },
+    )

@@ -18,6 +18,8 @@ invariant-units g l =
       name : S.name l.self.src ≡ S.name l.initial.self.src;
       input : l.self.input ≡ l.initial.self.input;
       head : l.self.head ≡ l.initial.self.head;
+      stopped : l.self.stopped ≡ l.initial.self.stopped;
+      told : l.self.told ≡ l.initial.self.told;
     }
 
 abbrev pub decreases-units : goal.decreases-units

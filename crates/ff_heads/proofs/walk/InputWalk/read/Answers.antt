@@ -1,9 +1,10 @@
 use Rattle.std.proofs.Common.{subst}
 use Rattle.ff_heads.specs.declared.walk.InputWalk.{InputWalk}
-use Rattle.ff_heads.specs.declared.walk.InputWalk.TheVariants.{Start, Other, Wav, Y4m}
 use Rattle.ff_words.specs.declared.job.FileFormat.TheVariants as format
+use Rattle.ff_wav.specs.Heads as wav
+use Rattle.ff_flac_dec.specs.Heads as flac
 use Rattle.ff_heads.specs.Places.{IsReached}
-use Rattle.ff_heads.proofs.Walking.{start_told, start_on, other_told, format_told, wav_on, y4m_on}
+use Rattle.ff_heads.proofs.Walking.{start_told, start_on, other_told, format_told, units_on, y4m_on}
 use Rattle.ff_heads.proofs.walk.InputWalk.read.Goals as goal
 
 pub returns-in-Start-clause-answers : goal.returns-in-Start-clause-answers
@@ -29,7 +30,7 @@ returns-in-Wav-clause-answers c = λ given h.
 pub returns-in-Wav-clause-goes_on : goal.returns-in-Wav-clause-goes_on
 returns-in-Wav-clause-goes_on c = λ given h e.
     let r = subst (λ (w : InputWalk). IsReached w given c.args.bytes.now) c.in-Wav.is (c.begin.ensures.reached given h) in
-    wav_on given c.args.whole c.args.bytes.now c.read.result _ _ r.0 r.1 r.2 r.3.0 (c.read.ensures.goes_on (r.0, r.1, r.2, r.3.1, r.3.2) e)
+    units_on given c.args.whole c.args.bytes.now c.read.result wav.grammar format.Wav _ _ r.0 r.1 r.2 r.3.0 (c.read.ensures.goes_on (r.0, r.1, r.2, r.3.1, r.3.2) e)
 
 pub returns-in-Y4m-clause-answers : goal.returns-in-Y4m-clause-answers
 returns-in-Y4m-clause-answers c = λ given h.
@@ -40,3 +41,13 @@ pub returns-in-Y4m-clause-goes_on : goal.returns-in-Y4m-clause-goes_on
 returns-in-Y4m-clause-goes_on c = λ given h e.
     let r = subst (λ (w : InputWalk). IsReached w given c.args.bytes.now) c.in-Y4m.is (c.begin.ensures.reached given h) in
     rw c.in-Y4m.is (y4m_on given c.args.whole c.args.bytes.now c.read-in-Y4m.result r c.read-in-Y4m.ensures e)
+
+pub returns-in-Flac-clause-answers : goal.returns-in-Flac-clause-answers
+returns-in-Flac-clause-answers c = λ given h.
+    let r = subst (λ (w : InputWalk). IsReached w given c.args.bytes.now) c.in-Flac.is (c.begin.ensures.reached given h) in
+    format_told given c.args.whole c.args.bytes.now c.read-in-Flac.result format.Flac r.0 r.1 r.2 r.3.0 (c.read-in-Flac.ensures.answers (r.0, r.1, r.2, r.3.1, r.3.2))
+
+pub returns-in-Flac-clause-goes_on : goal.returns-in-Flac-clause-goes_on
+returns-in-Flac-clause-goes_on c = λ given h e.
+    let r = subst (λ (w : InputWalk). IsReached w given c.args.bytes.now) c.in-Flac.is (c.begin.ensures.reached given h) in
+    units_on given c.args.whole c.args.bytes.now c.read-in-Flac.result flac.grammar format.Flac _ _ r.0 r.1 r.2 r.3.0 (c.read-in-Flac.ensures.goes_on (r.0, r.1, r.2, r.3.1, r.3.2) e)

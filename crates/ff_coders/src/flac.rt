@@ -1,0 +1,124 @@
+// FLAC.
+ghost use Rattle.std.specs.Prelude.{◌≡◌, ◌↔◌, ℕ, Some, IsTrue, IfOk, IfErr};
+ghost use Rattle.ff_values.specs.declared.packet.Pkt.{Pkt};
+ghost use Rattle.ff_values.specs.declared.audio.AFrame.{AFrame};
+ghost use Rattle.ff_values.specs.declared.head.StreamHead.{StreamHead};
+ghost use Rattle.ff_flac_frame.specs.Frame.{IsStream};
+ghost use Rattle.ff_flac_frame.specs.Parts.{frame_of};
+ghost use Rattle.ff_flac_dec.specs.Streams.{stream_of};
+ghost use Rattle.ff_frame.specs.declared.item.Item.TheVariants.{Audio};
+ghost use Rattle.ff_coders.specs.Decoding.{flac_frame, IsFlacPacket};
+ghost use Rattle.ff_coders.specs.FlacLaws.{HoldsSound, IsFoundIn, flac_decoded};
+
+use crate::decoder::Decoder;
+use crate::pcm::sample_frames;
+use ff_flac_dec::{DecodeEnd, FlacFrame, FlacHead, FrameEnd, decode, frame_at};
+use ff_frame::Item;
+use ff_values::{Pkt, StreamHead};
+use std::alloc::{AllocError, Global};
+
+/// Decodes packets of FLAC, each of which is one frame (RFC 9639, section 9).
+#[derive(Drop)]
+pub struct FlacDecoder {
+    alloc: Global,
+    head: StreamHead,
+    ghost stream: { IsStream (stream_of head) },
+}
+
+impl FlacDecoder {
+    ghost use Rattle.ff_coders.specs.Coders.{flac_head};
+
+    /// For the packets of a stream of FLAC.
+    pub fn new(alloc: Global, head: StreamHead) -> FlacDecoder
+        requires { IsStream (stream_of head) }
+        ensures { flac_head result ≡ head }
+    {
+        FlacDecoder { alloc, head }
+    }
+}
+
+// The frame that a packet is, if it is one and nothing stands behind it.
+fn frame_in(alloc: Global, head: &FlacHead, packet: &Pkt) -> Result<Option<FlacFrame>, AllocError>
+    requires { IsStream (stream_of head.now.head) }
+    ensures { IfOk result (λ found. IsFoundIn head.now.head packet.now found) }
+{
+    let bytes = packet.bytes.as_slice();
+    match frame_at(alloc, bytes, head) {
+        Ok(frame) => {
+            if frame.len == bytes.len() {
+                return Ok(Some(frame));
+            }
+            Ok(None)
+        }
+        Err(FrameEnd::NotYet) => Ok(None),
+        Err(FrameEnd::Never) => Ok(None),
+        Err(FrameEnd::NoMemory) => Err(AllocError),
+    }
+}
+
+// The sound of a packet that is this frame, if it lasts as long as the packet.
+fn sound_of(
+    alloc: Global,
+    head: &FlacHead,
+    frame: &FlacFrame,
+    packet: &Pkt,
+) -> Result<Option<Item>, AllocError>
+    requires stream { IsStream (stream_of head.now.head) }
+    requires whole { (number : ℕ) × IsFlacPacket head.now.head packet.now (frame_of number frame.now) }
+    ensures { IfOk result (λ sound. sound ≡ flac_frame head.now.head packet.now) }
+{
+    match decode(alloc, frame, head, packet.pts) {
+        Ok(sound) => {
+            if sample_frames(&sound) == packet.duration {
+                return Ok(Some(Item::Audio(sound)));
+            }
+            Ok(None)
+        }
+        Err(DecodeEnd::OutOfDepth) => Ok(None),
+        Err(DecodeEnd::NoMemory) => Err(AllocError),
+    }
+}
+
+// The sound of a packet, if its bytes stand for any.
+fn sound_in(alloc: Global, head: &FlacHead, packet: &Pkt) -> Result<Option<Item>, AllocError>
+    requires { IsStream (stream_of head.now.head) }
+    ensures { IfOk result (λ sound. sound ≡ flac_frame head.now.head packet.now) }
+{
+    match frame_in(alloc, head, packet)? {
+        Some(frame) => sound_of(alloc, head, &frame, packet),
+        None => Ok(None),
+    }
+}
+
+impl Decoder for FlacDecoder {
+    ghost use Rattle.ff_coders.specs.Coders.{flac_head};
+
+    ghost head = { flac_head };
+
+    ghost takes = { λ d p. Unit {0} };
+
+    ghost made = { λ d p. flac_frame (flac_head d) p };
+
+    fn can_take(&self, _packet: &Pkt) -> bool {
+        true
+    }
+
+    fn decode(&self, packet: Pkt) -> Result<Option<Item>, Pkt> {
+        let head = FlacHead {
+            head: self.head,
+            start: 0,
+        };
+        match sound_in(self.alloc, &head, &packet) {
+            Ok(sound) => Ok(sound),
+            Err(_) => Err(packet),
+        }
+    }
+
+    ghost carries = { λ d p fits. flac_decoded (flac_head d) p d.stream fits };
+}
+
+/// A packet has a frame exactly where its bytes are one frame of the grammar and nothing more, with as many sample frames as the
+/// packet lasts ticks, and each sample is within its subframe's depth and the stream's.
+pub fn flac_frames_are_their_packets()
+    ensures { (head : StreamHead) (packet : Pkt) (sound : AFrame) → flac_frame head packet ≡ Some (Audio sound) ↔ HoldsSound head packet sound }
+{}

@@ -1,0 +1,31 @@
+// FLAC among the formats of inputs.
+ghost use Rattle.std.specs.Prelude.{◌≡◌, ◌≤◌, length};
+ghost use Rattle.ff_heads.specs.Answers.{as_answer, Answers};
+ghost use Rattle.ff_heads.specs.Formats.{head_in};
+ghost use Rattle.ff_heads.specs.Heads.{IsHead};
+ghost use Rattle.ff_cut.specs.Walks.{head_limit, Reached, IsReached};
+ghost use Rattle.ff_flac_dec.specs.Heads.{grammar};
+ghost use Rattle.ff_words.specs.declared.job.FileFormat.{FileFormat};
+
+use crate::head::InputHead;
+use ff_flac_dec::{FlacHead, FlacWalk};
+use ff_values::HeadEnd;
+
+fn input_of(found: Result<FlacHead, HeadEnd>) -> Result<InputHead, HeadEnd>
+    ensures { result ≡ as_answer InputHead.Flac found }
+{
+    match found {
+        Ok(head) => Ok(InputHead::Flac(head)),
+        Err(end) => Err(end),
+    }
+}
+
+/// Reads on. The bytes are those that were there before, and perhaps more.
+pub(crate) fn read(walk: &mut FlacWalk, bytes: &[u8], whole: bool) -> Result<InputHead, HeadEnd>
+    ensures answers { IsReached grammar walk.old.at walk.old.state bytes.now → Answers (head_in FileFormat.Flac) IsHead whole bytes.now result }
+    ensures goes_on { IsReached grammar walk.old.at walk.old.state bytes.now → result ≡ Err HeadEnd.NotYet
+        → (length bytes.now ≤ head_limit) × Reached grammar walk.new.at walk.new.state bytes.now }
+{
+    let found = walk.read(bytes, whole);
+    input_of(found)
+}
