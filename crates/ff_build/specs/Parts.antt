@@ -1,4 +1,5 @@
 -- What the nodes of a plan are there for, by the definitions of formats and codecs.
+use Rattle.ff_values.specs.Heads.{base_of_head}
 use Rattle.ff_coders.specs.Choices.{CanDecode, CanEncode, frame_made, packet_made}
 use Rattle.ff_coding.specs.Decoding.{dec_task}
 use Rattle.ff_coding.specs.Encoding.{enc_task}
@@ -11,7 +12,7 @@ use Rattle.ff_muxing.specs.Outputs.{CanWrite, layout_of}
 use Rattle.ff_running.specs.Kinds.{KindsOf}
 
 -- a demuxer gives an input's packets, a decoder their frames, an encoder packets of frames, and a muxer writes them in the output's
--- format
+-- format; the number of the one stream of an output is the output's
 abbrev pub all_kinds : KindsOf InputHead
 all_kinds = record {
   IsHead = IsHead;
@@ -22,7 +23,7 @@ all_kinds = record {
   CanEncode = CanEncode;
   enc_task = λ head coded. enc_task (packet_made coded);
   CanMux = λ out coded. CanWrite out.format coded;
-  mux_task = λ out coded. mux_task (layout_of out.format out.hash coded);
+  mux_task = λ output out coded. mux_task (layout_of out.format out.hash coded) output (base_of_head coded);
   file = λ out coded s. file (layout_of out.format out.hash coded) s;
   text = λ out coded s. unpatched (layout_of out.format out.hash coded) s;
 }

@@ -1,17 +1,20 @@
 -- What a head that was read tells of its stream can be decoded, and coded and written as an output takes it.
 use Rattle.std.specs.Prelude.{◌≡◌, ◌≢◌, ℕ, ◌&&◌, true, refl}
-use Rattle.std.proofs.Common.{ap}
+use Rattle.std.proofs.Common.{ap, subst, sym}
 use Rattle.ff_values.specs.Codecs.{IsPcmCodec}
 use Rattle.ff_values.specs.declared.head.Codec.{Codec}
 use Rattle.ff_values.specs.declared.head.Codec.TheVariants as codec
 use Rattle.ff_values.specs.declared.head.StreamHead.{StreamHead}
 use Rattle.ff_values.specs.declared.head.StreamHead.TheVariants.{Audio, Video}
-use Rattle.ff_coders.specs.Choices.{CanDecode, CanEncode}
+use Rattle.ff_coders.specs.Choices.{CanDecode, CanDecodeSound, CanEncode}
+use Rattle.ff_flac_dec.specs.Streams.{IsFlacHead, stream_of}
+use Rattle.ff_flac_frame.specs.Frame.{IsStream}
 use Rattle.ff_heads.specs.Heads.{IsHead, stream_in}
 use Rattle.ff_heads.specs.declared.head.InputHead.{InputHead}
-use Rattle.ff_heads.specs.declared.head.InputHead.TheVariants.{Wav, Y4m}
+use Rattle.ff_heads.specs.declared.head.InputHead.TheVariants.{Wav, Y4m, Flac}
 use Rattle.ff_map.specs.declared.map.Kind.TheVariants as kind
 use Rattle.ff_muxing.specs.Outputs.{CanWrite}
+use Rattle.ff_pcm.specs.Frames.{IsPcmHead}
 use Rattle.ff_pcm.specs.Samples.{depth}
 use Rattle.ff_plan.specs.Streams.{audio_codec, is_pcm, packed_as, packed_bits, takes_head, takes_kind, takes_sound}
 use Rattle.ff_wav.specs.Packets as wav
@@ -20,17 +23,32 @@ use Rattle.ff_words.specs.declared.job.FileFormat.TheVariants as format
 use Rattle.ff_words.specs.declared.job.OutputJob.{OutputJob}
 use Rattle.ff_y4m.specs.Packets as y4m
 
+pcm_decodes : (head : StreamHead) (c : Codec) → IsPcmCodec c → IsPcmHead head → CanDecodeSound head c
+pcm_decodes head codec.PcmU8 p h = h
+pcm_decodes head codec.PcmS16le p h = h
+pcm_decodes head codec.PcmS24le p h = h
+pcm_decodes head codec.PcmS32le p h = h
+pcm_decodes head codec.Flac p h = absurd p
+pcm_decodes head codec.RawVideo p h = absurd p
+
 wav_decodes : (head : StreamHead) → wav.IsStream head → CanDecode head
-wav_decodes (Audio base rate bits channels codec) h = record { sound = tt; coded = h.coded; depth_is = h.depth; some_channels = h.some_channels; few_channels = h.few_channels }
+wav_decodes (Audio base rate bits channels coded) h =
+    pcm_decodes (Audio base rate bits channels coded) coded h.coded
+    (record { sound = tt; coded = h.coded; depth_is = h.depth; some_channels = h.some_channels; few_channels = h.few_channels })
 wav_decodes (Video tb format width height sar_num sar_den) h = absurd h
 
 y4m_decodes : (head : StreamHead) (size : ℕ) → y4m.IsStream head size → CanDecode head
 y4m_decodes (Audio base rate bits channels codec) size h = absurd h
 y4m_decodes (Video tb format width height sar_num sar_den) size h = (h.0, h.1)
 
+flac_decodes : (head : StreamHead) → IsFlacHead head → IsStream (stream_of head) → CanDecode head
+flac_decodes (Audio base rate bits channels coded) h i = subst (λ (c : Codec). CanDecodeSound (Audio base rate bits channels coded) c) (sym h.coded) i
+flac_decodes (Video tb format width height sar_num sar_den) h i = absurd h
+
 pub heads_decode : (h : InputHead) → IsHead h → CanDecode (stream_in h)
 heads_decode (Wav h) is = wav_decodes h.head is.stream
 heads_decode (Y4m h) is = y4m_decodes h.head h.frame_bytes is.stream
+heads_decode (Flac h) is = flac_decodes h.head is.sound is.stream
 
 pcm_of : (c : Codec) → is_pcm c ≡ true → IsPcmCodec c
 pcm_of codec.PcmU8 e = tt

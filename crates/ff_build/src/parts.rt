@@ -61,7 +61,7 @@ impl<Src: Source + Send + Drop, Snk: Sink + Send + Drop> Kinds<Src, Snk, Part<Sr
 
     fn muxer(
         alloc: Global,
-        _output: u32,
+        output: u32,
         out: &OutputJob,
         coded: &StreamHead,
         snk: Snk,
@@ -69,7 +69,7 @@ impl<Src: Source + Send + Drop, Snk: Sink + Send + Drop> Kinds<Src, Snk, Part<Sr
         let Ok(writer) = writer_of(alloc, out.format, out.hash, coded) else {
             return Err(snk);
         };
-        Ok(Part::Mux(Mux::new(alloc, snk, writer, *coded)))
+        Ok(Part::Mux(Mux::new(alloc, output, snk, writer, *coded)))
     }
 
     fn into_ends(part: Part<Src, Snk>) -> Ends<Src, Snk> {

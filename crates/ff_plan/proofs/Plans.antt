@@ -1,5 +1,6 @@
 -- What holds of a plan of a job without graphs, by its outputs' streams.
 use Rattle.std.proofs.Common.{◌≡◌, ℕ, ◌≤◌, inl, inr, List, [], length, map, None, sym, ap, ◌∙◌, subst, arith}
+use Rattle.std.proofs.lemmas.List.Elements.{All-nil}
 use Rattle.std.specs.Prelude.{Ok}
 use Rattle.ff_edges.specs.Ports.{HasIns, HasOuts}
 use Rattle.ff_values.specs.declared.head.StreamHead.{StreamHead}
@@ -8,7 +9,11 @@ use Rattle.ff_plan.specs.declared.layout.OutStream.{OutStream}
 use Rattle.ff_plan.specs.declared.planned.Plan.{Plan}
 use Rattle.ff_plan.specs.declared.planned.PlanError.TheVariants as fault
 use Rattle.ff_plan.specs.Fitting.{HasSingles, FitNodes, FitsNode, HasKinds}
+use Rattle.ff_plan.specs.declared.layout.Placed.{Placed}
 use Rattle.ff_plan.specs.Layout.{place_from}
+use Rattle.ff_plan.specs.Nodes.{way_to}
+use Rattle.ff_sched.specs.declared.routes.Way.{Way}
+use Rattle.ff_sched.specs.Routes.{AreRoutes}
 use Rattle.ff_plan.specs.Plain.{plain, plain_plan, IsWithinLimits}
 use Rattle.ff_plan.specs.Planned.{outputs_from}
 use Rattle.ff_plan.specs.Streams.{Passed}
@@ -63,3 +68,16 @@ module _ (job : Job) (heads : List (List StreamHead)) (built : unbuilt job ≡ N
       let few_outs : n ≤ 16 = (let o = limits.outputs in omega (arith, as_many, o)) in
       subst (λ (q : Plan). HasKinds (length heads) (length job.outputs) q.nodes) (sym is_made.is)
       (subst (λ (m : ℕ). HasKinds (length heads) m (plain_plan heads ps n).nodes) as_many (has_kinds heads ps n limits.inputs limits.streams is_made.few few_outs))
+
+  pub sources_by : p.routes.sources ≡ length heads
+  sources_by = ap (λ (q : Plan). q.routes.sources) is_made.is
+
+  pub routes_by : IsWithinLimits job heads → AreRoutes p.routes
+  routes_by limits =
+      let ps = place_from 0 0 (map single is_made.streams) in
+      subst (λ (q : Plan). AreRoutes q.routes) (sym is_made.is) (record {
+        sources = limits.inputs;
+        streams = (let n = map_length (λ (x : Placed). way_to x.what.source) ps in let few = is_made.few in omega (arith, n, few));
+        graphs = omega arith;
+        inputs = All-nil (λ (ways : List Way). length ways ≤ 16);
+      })

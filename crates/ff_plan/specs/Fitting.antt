@@ -83,7 +83,7 @@ pub record HasKinds (inputs outputs : ℕ) (nodes : List PlanNode) : Type 0 wher
   pub rising : (j k d : ℕ) → j < k → k < length demuxed → slice_index_or demuxed j d < slice_index_or demuxed k d
   pub inputs_are : (k d : ℕ) → k < length demuxed → slice_index_or demuxed k d < inputs
   pub room : length demuxed + outputs ≤ length nodes
-  pub few : length nodes < 2 ^ 32
+  pub few : length nodes < 2 ^ 16
   pub demuxes : (k d : ℕ) (e : PlanNode) → k < length demuxed → slice_index_or nodes k e ≡ node.Demux (slice_index_or demuxed k d)
   pub coders : (k : ℕ) (e : PlanNode) → length demuxed ≤ k → k + outputs < length nodes → IsCoder (slice_index_or nodes k e)
   pub muxes : (o : ℕ) (e : PlanNode) → o < outputs → slice_index_or nodes (length nodes - outputs + o) e ≡ node.Mux o

@@ -5,6 +5,7 @@ ghost use Rattle.ff_plan.specs.Fitting.{HasSingles, HasKinds, FitNodes};
 ghost use Rattle.ff_plan.specs.Laws.{GoUpward};
 ghost use Rattle.ff_plan.specs.Plain.{plain_plan, IsRefused, IsSmall, IsWithinLimits};
 ghost use Rattle.ff_edges.specs.Ports.{shape_of, IsFed, HasIns, HasOuts};
+ghost use Rattle.ff_sched.specs.Routes.{AreRoutes};
 ghost use Rattle.ff_plan.specs.Today.{planned_today, unbuilt, unbuilt_in};
 
 use crate::layout::Placed;
@@ -138,6 +139,8 @@ pub fn plan(alloc: Global, job: &Job, heads: &[Vec<StreamHead>]) -> Result<Plan,
     ensures ins { IfOk result (λ p. (k : ℕ) → HasIns p.edges k) }
     ensures outs { IfOk result (λ p. (k : ℕ) → HasOuts p.edges k) }
     ensures few { IfOk result (λ p. length p.routes.streams ≤ 16) }
+    ensures routes { IfOk result (λ p. AreRoutes p.routes) }
+    ensures sources { IfOk result (λ p. p.routes.sources ≡ length heads.now) }
     ensures kinds { IfOk result (λ p. HasKinds (length heads.now) (length job.now.outputs) p.nodes) }
     ensures fit { IfOk result (λ p. HasSingles (lists heads.now) → FitNodes (lists heads.now) job.now.outputs p) }
 {

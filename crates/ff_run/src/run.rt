@@ -38,12 +38,12 @@ fn run_parts<R: Threads + Wait + Sync, Src: Source + Send + Drop, Snk: Sink + Se
     rt: &R,
     alloc: Global,
     job: &Job,
-    plan: &Plan,
+    plan: Plan,
     heads: &[InputHead],
     srcs: Vec<Src>,
     snks: Vec<Snk>,
 ) -> Done<RunFault, Src, Snk>
-    requires { IsPlanFor all_kinds job.now heads.now plan.now }
+    requires { IsPlanFor all_kinds job.now heads.now plan }
     ensures { RunSays all_kinds Src.left Src.name Src.faults Snk.holds Snk.name Snk.faults job.now heads.now srcs.items snks.items result.end result.srcs.items result.snks.items }
 {
     run_plan::<Parts, R, Src, Snk, Part<Src, Snk>>(rt, alloc, job, plan, heads, srcs, snks)
@@ -140,7 +140,7 @@ pub fn ffmpeg<R: Threads + Wait + Sync, H: Host, E: Sink>(
         requires sync { IsSync R.row }
         requires plan { IsPlanFor all_kinds job.now heads.now plan }
         ensures { BegunSays all_kinds H.Src.left H.Src.name H.Src.faults H.Snk.holds H.Snk.name H.Snk.faults job.now heads.now srcs.items snks.items result.end result.srcs.items result.snks.items }
-    { run_parts::<R, Begun<H::Src>, H::Snk>(rt, alloc, job, &plan, heads, srcs, snks) };
+    { run_parts::<R, Begun<H::Src>, H::Snk>(rt, alloc, job, plan, heads, srcs, snks) };
     let worker = Threaded { plan, run };
     run_command(alloc, &worker, words, host, log)
 }

@@ -3,6 +3,7 @@ pub mod Building
 pub mod Ending
 pub mod Gathering
 pub mod Making
+pub mod Marks
 pub mod Moves
 pub mod Networks
 pub mod Numbers

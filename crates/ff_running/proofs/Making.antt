@@ -23,10 +23,11 @@ first_is {A} xs x d e = ap (λ (ys : List A). get_or ys 0 d) e
 
 module _ {H S K : Type 0} (is : KindsOf H) (left named : S → Option (List ℕ)) (failed : S → ℕ) (holds called : K → Option (List ℕ)) (faulted : K → ℕ)
     (outputs : List OutputJob) (heads : List H) (srcs : List S) (snks : List K) (ins outs : List Lane) (v : View) where
-  pub demux_part : (i : ℕ) (fits : FitsDemux is heads ins outs i) (src : S) → slice_get srcs i ≡ Some src → IsNew ins outs (named src) (failed src) v
-      → ((head : H) → slice_get heads i ≡ Some head → (bytes : List ℕ) → left src ≡ Some bytes → v.stands (start (is.demux_task head bytes)))
+  pub demux_part : (i : ℕ) (fits : FitsDemux is heads ins outs i) (src : S) → slice_get srcs i ≡ Some src → IsNew (Some i) ins outs (named src) (failed src) v
+      → ((head : H) → slice_get heads i ≡ Some head → (bytes : List ℕ) → left src ≡ Some bytes → v.stands (start (is.demux_task i head bytes)))
       → IsPart is left named failed holds called faulted outputs heads srcs snks ins outs (node.Demux i) v
   demux_part i fits src at new starts = record {
+    source_is = new.source_is;
     in_lanes = new.in_lanes;
     out_lanes = new.out_lanes;
     sound = new.sound;
@@ -37,13 +38,14 @@ module _ {H S K : Type 0} (is : KindsOf H) (left named : S → Option (List ℕ)
     sink = λ o s e. absurd cc;
     starts = λ bytes told.
         let tells : left src ≡ Some (slice_index_or bytes i []) = ap left (sym (get_or_from_slice_get srcs i src src at)) ∙ told.left_is i src (slice_get_within srcs i src at) in
-        subst (λ (h : Option H). v.stands (start (demux_by is h (slice_index_or bytes i [])))) (sym fits.there) (starts fits.head fits.there (slice_index_or bytes i []) tells);
+        subst (λ (h : Option H). v.stands (start (demux_by is i h (slice_index_or bytes i [])))) (sym fits.there) (starts fits.head fits.there (slice_index_or bytes i []) tells);
   }
 
-  pub mux_part : (o : ℕ) (fits : FitsMux is outputs ins outs o) (coded : StreamHead) → coded ≡ fits.coded → (snk : K) → slice_get snks o ≡ Some snk → IsNew (Packets coded ∷ []) [] (called snk) (faulted snk) v
-      → ((out : OutputJob) → slice_get outputs o ≡ Some out → holds snk ≡ Some [] → v.stands (start (is.mux_task out coded)))
+  pub mux_part : (o : ℕ) (fits : FitsMux is outputs ins outs o) (coded : StreamHead) → coded ≡ fits.coded → (snk : K) → slice_get snks o ≡ Some snk → IsNew None (Packets coded ∷ []) [] (called snk) (faulted snk) v
+      → ((out : OutputJob) → slice_get outputs o ≡ Some out → holds snk ≡ Some [] → v.stands (start (is.mux_task o out coded)))
       → IsPart is left named failed holds called faulted outputs heads srcs snks ins outs (node.Mux o) v
   mux_part o fits coded e snk at new starts = record {
+    source_is = new.source_is;
     in_lanes = new.in_lanes ∙ (ap (λ (h : StreamHead). Packets h ∷ []) e ∙ sym fits.ins_are);
     out_lanes = new.out_lanes ∙ sym fits.outs_are;
     sound = new.sound;
@@ -55,8 +57,8 @@ module _ {H S K : Type 0} (is : KindsOf H) (left named : S → Option (List ℕ)
     starts = λ bytes told.
         let tells : holds snk ≡ Some [] = ap holds (sym (get_or_from_slice_get snks o snk snk at)) ∙ told.empty o snk (slice_get_within snks o snk at) in
         let first : first_head ins ≡ Some coded = ap first_head fits.ins_are ∙ ap (λ (h : StreamHead). Some h) (sym e) in
-        subst (λ (h : Option StreamHead). v.stands (start (mux_by is (slice_get outputs o) h))) (sym first)
-        (subst (λ (x : Option OutputJob). v.stands (start (mux_by is x (Some coded)))) (sym fits.there) (starts fits.out fits.there tells));
+        subst (λ (h : Option StreamHead). v.stands (start (mux_by is o (slice_get outputs o) h))) (sym first)
+        (subst (λ (x : Option OutputJob). v.stands (start (mux_by is o x (Some coded)))) (sym fits.there) (starts fits.out fits.there tells));
   }
 
 pub if_more : {A : Type 0} (P R : A → Type 0) (o : Option A) → IfSome o P → ((x : A) → P x → R x) → IfSome o R

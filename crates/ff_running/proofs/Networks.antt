@@ -1,5 +1,5 @@
 -- The network of parts with the lanes of a plan's edges.
-use Rattle.std.proofs.Common.{◌≡◌, ℕ, zero, suc, ◌+◌, ◌<◌, ◌≤◌, inr, List, [], ◌∷◌, length, map, slice_get, slice_index_or, Option, Some, None, refl, sym, ap, ◌∙◌, subst, arith}
+use Rattle.std.proofs.Common.{◌≡◌, ℕ, zero, suc, ◌+◌, ◌<◌, ◌≤◌, inr, Bool, true, false, List, [], ◌∷◌, length, map, slice_get, slice_index_or, Option, Some, None, refl, sym, ap, ◌∙◌, subst, arith}
 use Rattle.std.proofs.lemmas.Option.{slice_get_within, get_or_from_slice_get}
 use Rattle.ff_frame.specs.declared.item.Lane.{Lane}
 use Rattle.ff_edges.specs.declared.edge.Edge.{Edge}
@@ -17,6 +17,7 @@ use Rattle.ff_network.specs.Runs.{AllKept, FedPart, FedAll, MeetsNetwork, TellsF
 use Rattle.ff_edges.specs.Ports.{lanes_out_of}
 use Rattle.ff_network.specs.Fits.{ports_by}
 use Rattle.ff_running.specs.Meaning.{edges_into}
+use Rattle.ff_running.specs.Openings.{unstarted, or_memory}
 use Rattle.ff_running.specs.Runs.{TellsRun, MeetsStreams}
 use Rattle.ff_running.proofs.Numbers.{there, same_some}
 
@@ -66,8 +67,6 @@ fed_nothing v task streams edges s = record {
 }
 
 -- want of memory before the start
-abbrev pub unstarted : Option NodeFault
-unstarted = Some (record { node = 0; fault = NoMemory })
 
 module _ {M : Type 0} (view : M → View) where
   step_same : (v : View) → FaultStep v v
@@ -117,6 +116,22 @@ module _ {M : Type 0} (view : M → View) where
     below = λ k e lt. fed_nothing (view (slice_index_or machines k e)) (tasks k) (solve parts) (ins k) (all k e lt);
     settled = λ none. absurd (let both : None ≡ unstarted = sym none ∙ is in cc);
     cause = λ f e i. absurd (subst IsOfInputs (ap (λ (x : NodeFault). x.fault) (same_some fault f (record { node = 0; fault = NoMemory }) e is)) i);
+  }
+
+  -- where memory is refused for the history in the end
+  pub told_tells : (parts : List M) (fault : Option NodeFault) (told : Bool) → TellsFault view parts fault → TellsRun view parts (or_memory fault told)
+  told_tells parts (Some f) told h = tells_run parts (Some f) h
+  told_tells parts None true h = tells_run parts None h
+  told_tells parts None false h = unstarted_tells parts unstarted refl (λ k m at. (tells_run parts None h).sound refl k m at)
+
+  pub told_meets : (tasks : ℕ → Task) (parts : List Part) (ins outs : ℕ → List ℕ) (machines : List M) (fault : Option NodeFault) (told : Bool)
+      → MeetsNetwork view tasks parts ins outs machines fault → MeetsNetwork view tasks parts ins outs machines (or_memory fault told)
+  told_meets tasks parts ins outs machines (Some f) told h = h
+  told_meets tasks parts ins outs machines None true h = h
+  told_meets tasks parts ins outs machines None false h = record {
+    below = h.below;
+    settled = λ none. absurd (let both : None ≡ unstarted = sym none in cc);
+    cause = λ f e i. absurd (subst IsOfInputs (ap (λ (x : NodeFault). x.fault) (same_some unstarted f (record { node = 0; fault = NoMemory }) e refl)) i);
   }
 
   -- of the first parts alone

@@ -299,10 +299,10 @@ module _ {H S K M : Type 0} (is : KindsOf H) (left named : S → Option (List �
   module _ (bytes : List (List ℕ)) (vouched : claims ≡ true) (told : AreTold left holds srcs snks bytes) (fitting : AreFitting is outputs heads edges nodes)
       (muxes : (o : ℕ) → o < length snks → slice_get nodes (mux_node is outputs heads bytes nodes edges o) ≡ Some (node.Mux o)) where
     -- a Mux node's task, and its output's file and text
-    mux_is : (k o : ℕ) → slice_get nodes k ≡ Some (node.Mux o) → (fits : FitsMux is outputs (lanes_into edges k) (lanes_out_of edges k) o) → task_at is outputs heads bytes nodes edges k ≡ is.mux_task fits.out fits.coded
+    mux_is : (k o : ℕ) → slice_get nodes k ≡ Some (node.Mux o) → (fits : FitsMux is outputs (lanes_into edges k) (lanes_out_of edges k) o) → task_at is outputs heads bytes nodes edges k ≡ is.mux_task o fits.out fits.coded
     mux_is k o at fits =
         ap (λ (n : Option PlanNode). task_by is outputs heads bytes nodes edges n k) at
-        ∙ (ap (λ (x : Option OutputJob). mux_by is x (first_head (lanes_into edges k))) fits.there ∙ ap (λ (ls : List Lane). mux_by is (Some fits.out) (first_head ls)) fits.ins_are)
+        ∙ (ap (λ (x : Option OutputJob). mux_by is o x (first_head (lanes_into edges k))) fits.there ∙ ap (λ (ls : List Lane). mux_by is o (Some fits.out) (first_head ls)) fits.ins_are)
 
     file_is : (o : ℕ) (fits : FitsMux is outputs (lanes_into edges (mux_node is outputs heads bytes nodes edges o)) (lanes_out_of edges (mux_node is outputs heads bytes nodes edges o)) o)
         → file_in is outputs heads bytes nodes edges o ≡ is.file fits.out fits.coded (stream_into is outputs heads bytes nodes edges (mux_node is outputs heads bytes nodes edges o))
@@ -345,7 +345,7 @@ module _ {H S K M : Type 0} (is : KindsOf H) (left named : S → Option (List �
         let zero_lt = one_edge k (Packets fits.coded) fits.ins_are in
         let got = fed.got 0 zero_lt in
         let whole : IsWhole (stream_at fed.past.got 0) = subst (λ (s : Flow). IsWhole s) (sym got) (fed.whole 0 zero_lt) in
-        let held = sink.2.whole fed.past fits.out fits.coded fed.fits (fed.task_is ∙ mux_is k o at fits) (run.tells.sound none k m.0 m.1) whole in
+        let held = sink.2.whole fed.past o fits.out fits.coded fed.fits (fed.task_is ∙ mux_is k o at fits) (run.tells.sound none k m.0 m.1) whole in
         let same : is.file fits.out fits.coded (stream_at fed.past.got 0) ≡ file_in is outputs heads bytes nodes edges o = ap (is.file fits.out fits.coded) got ∙ sym (file_is o fits) in
         let snk : slice_index_or snks' o d ≡ sink.0 = get_or_from_slice_get snks' o sink.0 d sink.1 in
         (subst (λ (x : Option (List ℕ)). IsSome x) same held.0, ap holds snk ∙ (held.1 ∙ same))
@@ -363,7 +363,7 @@ module _ {H S K M : Type 0} (is : KindsOf H) (left named : S → Option (List �
           let sink = back.sinks k o m.0 at m.1 in
           let fed = (run.meets vouched bytes told).below k m.0 m.1 in
           let lies = fed.got 0 (one_edge k (Packets fits.coded) fits.ins_are) in
-          let part = sink.2.part fed.past fits.out fits.coded fed.fits (fed.task_is ∙ mux_is k o at fits) in
+          let part = sink.2.part fed.past o fits.out fits.coded fed.fits (fed.task_is ∙ mux_is k o at fits) in
           let more = holds_on fits.out fits.coded (holds sink.0) (stream_at fed.past.got 0) (stream_into is outputs heads bytes nodes edges k) lies part in
           let snk : slice_index_or snks' o d ≡ sink.0 = get_or_from_slice_get snks' o sink.0 d sink.1 in
           subst (λ (x : K). HoldsPart (holds x) (text_in is outputs heads bytes nodes edges o) (file_in is outputs heads bytes nodes edges o)) (sym snk)

@@ -15,6 +15,7 @@ use Rattle.ff_plan.specs.Fitting.{HasKinds, HasSingles, FitNodes}
 use Rattle.ff_plan.specs.Plain.{IsRefused, IsWithinLimits}
 use Rattle.ff_plan.specs.Streams.{packed_as, takes_head}
 use Rattle.ff_plan.specs.Today.{planned_today}
+use Rattle.ff_sched.specs.Routes.{AreRoutes}
 use Rattle.ff_running.specs.Kinds.{KindsOf}
 use Rattle.ff_running.specs.Meaning.{plan_for, refusal_of}
 use Rattle.ff_running.specs.Accepting.{IsAccepted, IsPlanFor}
@@ -56,14 +57,17 @@ module _ {H : Type 0} (is : KindsOf H) (job : Job) (heads : List H) (accepted : 
       (writes : (h : H) (out : OutputJob) → is.IsHead h → takes_head out (is.stream h) ≡ true → out.format ≢ Flac → is.CanMux out (packed_as out (is.stream h)))
       (lists : List (List StreamHead)) (count : ℕ) (plan : Plan) → lists ≡ streams → count ≡ length lists → planned_today job lists ≡ Ok plan → IsFed (shape_of plan.edges) (length plan.nodes) plan.edges
       → ((k : ℕ) → HasIns plan.edges k) → ((k : ℕ) → HasOuts plan.edges k) → HasKinds count (length job.outputs) plan.nodes → (HasSingles lists → FitNodes lists job.outputs plan)
+      → AreRoutes plan.routes → plan.routes.sources ≡ count
       → IsPlanFor is job heads plan
-  is_plan decodes encodes writes lists count plan e is_count made fed ins outs kinds fit =
+  is_plan decodes encodes writes lists count plan e is_count made fed ins outs kinds fit routes sources =
       let inputs : count ≡ length heads = is_count ∙ (ap length e ∙ many) in
       let here : HasKinds (length heads) (length job.outputs) plan.nodes = subst (λ (n : ℕ). HasKinds n (length job.outputs) plan.nodes) inputs kinds in
       let fits : FitNodes streams job.outputs plan = subst (λ (hs : List (List StreamHead)). HasSingles hs → FitNodes hs job.outputs plan) e fit (single heads) in record {
         made = ap (planned_today job) (sym e) ∙ made;
         few = (here.few, (let few = accepted.few_inputs in let same = accepted.count in omega (arith, few, same)));
         queue = accepted.queue;
+        routes = routes;
+        sources = sources ∙ inputs;
         fits = own_lanes_fit (length plan.nodes) plan.edges fed (λ k lt. ins k) (λ k lt. outs k);
         fitting = are_fitting is job.outputs heads accepted.sound accepted.written decodes encodes writes plan.edges plan.nodes fits;
         ordered = are_ordered (length heads) (length job.outputs) plan.nodes here;

@@ -1,5 +1,5 @@
 -- The run of parts that were built.
-use Rattle.std.proofs.Common.{◌≡◌, ℕ, ◌<◌, true, Bool, List, length, slice_get, Option, Some, None, sym, ap, ◌∙◌, subst, arith}
+use Rattle.std.proofs.Common.{◌≡◌, ℕ, ◌<◌, ◌≤◌, true, Bool, List, length, slice_get, Option, Some, None, sym, ap, ◌∙◌, subst, arith}
 use Rattle.std.proofs.lemmas.Option.{slice_get_within, get_or_from_slice_get}
 use Rattle.ff_words.specs.declared.job.OutputJob.{OutputJob}
 use Rattle.ff_edges.specs.declared.edge.Edge.{Edge}
@@ -11,13 +11,25 @@ use Rattle.ff_network.specs.Fits.{AreFit, ports_by, ins_at, outs_at, network}
 use Rattle.ff_network.specs.Networks.{AllStart, ports_of}
 use Rattle.ff_network.specs.Runs.{AllKept, MeetsNetwork}
 use Rattle.ff_plan.specs.declared.planned.PlanNode.{PlanNode}
+use Rattle.ff_plan.specs.declared.planned.PlanNode.TheVariants as node
+use Rattle.ff_sched.specs.declared.routes.Routes.{Routes}
 use Rattle.ff_files.specs.Works.{AreTold}
 use Rattle.ff_running.specs.Kinds.{KindsOf}
 use Rattle.ff_running.specs.Meaning.{task_by, task_at}
-use Rattle.ff_running.specs.Parts.{FitsDemux, FitsMux, IsFitting, AreFitting, HasEnds, AreParts}
+use Rattle.ff_running.specs.Parts.{FitsDemux, FitsMux, IsFitting, AreFitting, AreOrdered, HasEnds, AreParts, source_in}
 use Rattle.ff_running.specs.Runs.{TellsRun, AreRun}
-use Rattle.ff_running.proofs.Networks.{unstarted, kept_same, unstarted_tells, unstarted_streams, parts_fit, meets_streams}
+use Rattle.ff_network.specs.Scheduling.{AllRouted}
+use Rattle.ff_running.specs.Openings.{unstarted}
+use Rattle.ff_running.proofs.Networks.{kept_same, unstarted_tells, unstarted_streams, parts_fit, meets_streams}
 use Rattle.ff_running.proofs.Numbers.{there}
+
+is_demux : (n : PlanNode) (s : ℕ) → source_in n ≡ Some s → n ≡ node.Demux s
+is_demux (node.Demux i) s e = cc
+is_demux (node.Dec at) s e = absurd cc
+is_demux (node.Graph g) s e = absurd cc
+is_demux (node.Shortest o) s e = absurd cc
+is_demux (node.Enc o j) s e = absurd cc
+is_demux (node.Mux o) s e = absurd cc
 
 module _ {H S K M : Type 0} (is : KindsOf H) (left named : S → Option (List ℕ)) (failed : S → ℕ) (holds called : K → Option (List ℕ)) (faulted : K → ℕ) (view : M → View)
     (outputs : List OutputJob) (heads : List H) (edges : List Edge) (nodes : List PlanNode) (srcs : List S) (snks : List K) (olds : List M) (sp : List (Option S)) (kp : List (Option K))
@@ -41,6 +53,18 @@ module _ {H S K M : Type 0} (is : KindsOf H) (left named : S → Option (List �
   all_start bytes told = λ k d lt.
       let x = there olds k lt in
       subst (λ (m : M). (view m).stands (start (task_at is outputs heads bytes nodes edges k))) (sym (get_or_from_slice_get olds k x.0 d x.1)) (part_stands bytes told k x.0 x.1)
+
+  -- the source of a part has the number of an input
+  pub are_within : (inputs outs : ℕ) (routes : Routes) → AreOrdered inputs outs nodes → inputs ≤ routes.sources → AllRouted view routes olds
+  are_within inputs outs routes ordered few = record {
+    each = λ k s d lt e.
+        let x = there olds k lt in
+        let n = node_there k x.0 x.1 in
+        let own : (view x.0).source ≡ Some s = ap (λ (m : M). (view m).source) (sym (get_or_from_slice_get olds k x.0 d x.1)) ∙ e in
+        let is = is_demux n.0 s (sym (parts.each k n.0 x.0 n.1 x.1).source_is ∙ own) in
+        let below = ordered.inputs_there k s (n.1 ∙ ap (λ (y : PlanNode). Some y) is) in
+        omega (arith, below, few);
+  }
 
   pub all_fit : length olds ≡ length nodes → AreFit (ports_by edges) (length nodes) edges → AreFit (ports_of view olds) (length olds) edges
   all_fit long h = parts_fit view edges olds (length nodes) long part_lanes h

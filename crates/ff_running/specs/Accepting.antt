@@ -6,6 +6,7 @@ use Rattle.ff_words.specs.declared.job.Job.{Job}
 use Rattle.ff_network.specs.Fits.{AreFit, ports_by}
 use Rattle.ff_plan.specs.declared.planned.Plan.{Plan}
 use Rattle.ff_plan.specs.declared.planned.PlanNode.TheVariants as node
+use Rattle.ff_sched.specs.Routes.{AreRoutes}
 use Rattle.ff_running.specs.Kinds.{KindsOf}
 use Rattle.ff_running.specs.Meaning.{plan_for}
 use Rattle.ff_running.specs.Parts.{AreFitting, AreOrdered}
@@ -24,8 +25,10 @@ module _ {H : Type 0} (is : KindsOf H) (job : Job) where
   -- the plan for these heads, with edges and nodes that can be built
   pub record IsPlanFor (heads : List H) (plan : Plan) : Type 0 where
     pub made : plan_for is job heads ≡ Ok plan
-    pub few : (length plan.nodes < 2 ^ 32) × (length heads < 2 ^ 32)
+    pub few : (length plan.nodes < 2 ^ 16) × (length heads < 2 ^ 32)
     pub queue : (1 ≤ job.queue) × (job.queue ≤ 1024)
+    pub routes : AreRoutes plan.routes
+    pub sources : plan.routes.sources ≡ length heads
     pub fits : AreFit (ports_by plan.edges) (length plan.nodes) plan.edges
     pub fitting : AreFitting is job.outputs heads plan.edges plan.nodes
     pub ordered : AreOrdered (length heads) (length job.outputs) plan.nodes

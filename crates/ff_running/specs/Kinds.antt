@@ -16,23 +16,25 @@ pub record KindsOf (H : Type 0) : Type 1 where
   -- what is true of every head that is read, and what it tells of its one stream
   pub IsHead : H → Type 0
   pub stream : H → StreamHead
-  -- what the demuxer of an input with this head and these bytes is there for
-  pub demux_task : H → List ℕ → Task
+  -- what the demuxer of the input of this number with this head and these bytes is there for
+  pub demux_task : ℕ → H → List ℕ → Task
   -- the streams that can be decoded, and what a decoder with so many outputs is there for
   pub CanDecode : StreamHead → Type 0
   pub dec_task : StreamHead → ℕ → Task
   -- the streams that can be coded as others, and what an encoder is there for
   pub CanEncode : StreamHead → StreamHead → Type 0
   pub enc_task : StreamHead → StreamHead → Task
-  -- the packets that can be written to an output, what a muxer of these is there for, the file of a stream of them, which is
-  -- none while it isn't whole, and the text of which a front is held until then
+  -- the packets that can be written to an output, what a muxer of these to the output of this number is there for, the file of a
+  -- stream of them, which is none while it isn't whole, and the text of which a front is held until then
   pub CanMux : OutputJob → StreamHead → Type 0
-  pub mux_task : OutputJob → StreamHead → Task
+  pub mux_task : ℕ → OutputJob → StreamHead → Task
   pub file : OutputJob → StreamHead → Flow → Option (List ℕ)
   pub text : OutputJob → StreamHead → Flow → List ℕ
 
--- a part that nothing was done with: the lanes of its ports, no fault, and the name and the failures of its source or sink
-pub record IsNew (ins outs : List Lane) (device : Option (List ℕ)) (failures : ℕ) (v : View) : Type 0 where
+-- a part that nothing was done with: its number, where it is a source, the lanes of its ports, no fault, and the name and the
+-- failures of its source or sink
+pub record IsNew (source : Option ℕ) (ins outs : List Lane) (device : Option (List ℕ)) (failures : ℕ) (v : View) : Type 0 where
+  pub source_is : v.source ≡ source
   pub in_lanes : v.in_lanes ≡ ins
   pub out_lanes : v.out_lanes ≡ outs
   pub sound : v.fault ≡ None
@@ -48,9 +50,9 @@ pub record IsSourceOf {S : Type 0} (named : S → Option (List ℕ)) (failed : S
 pub record IsSinkOf {H K : Type 0} (is : KindsOf H) (holds called : K → Option (List ℕ)) (faulted : K → ℕ) (v : View) (snk : K) : Type 0 where
   pub name : called snk ≡ v.device
   pub faults : faulted snk ≡ v.failures
-  pub whole : (past : Past) (out : OutputJob) (coded : StreamHead) → v.stands past → past.task ≡ is.mux_task out coded → v.fault ≡ None
+  pub whole : (past : Past) (output : ℕ) (out : OutputJob) (coded : StreamHead) → v.stands past → past.task ≡ is.mux_task output out coded → v.fault ≡ None
       → IsWhole (stream_at past.got 0) → IsSome (is.file out coded (stream_at past.got 0)) × (holds snk ≡ is.file out coded (stream_at past.got 0))
-  pub part : (past : Past) (out : OutputJob) (coded : StreamHead) → v.stands past → past.task ≡ is.mux_task out coded
+  pub part : (past : Past) (output : ℕ) (out : OutputJob) (coded : StreamHead) → v.stands past → past.task ≡ is.mux_task output out coded
       → HoldsPart (holds snk) (is.text out coded (stream_at past.got 0)) (is.file out coded (stream_at past.got 0))
 
 -- what a part gives back: a demuxer, which has no inputs, its source, a muxer, which has no outputs, its sink

@@ -1,4 +1,5 @@
 pub mod Kinds
+pub mod Openings
 pub mod Tasks
 pub mod Meaning
 pub mod Parts

@@ -74,6 +74,15 @@ pub record AreOrdered (inputs outputs : ℕ) (nodes : List PlanNode) : Type 0 wh
   pub first : (j k i : ℕ) (n : PlanNode) → slice_get nodes j ≡ Some (node.Demux i) → slice_get nodes k ≡ Some n → k ≤ j → (i' : ℕ) × (n ≡ node.Demux i')
   pub muxes_rise : (j k o o' : ℕ) → slice_get nodes j ≡ Some (node.Mux o) → slice_get nodes k ≡ Some (node.Mux o') → j < k → o < o'
 
+-- the number of the source that a node is
+abbrev pub source_in : PlanNode → Option ℕ
+source_in (node.Demux i) = Some i
+source_in (node.Dec at) = None
+source_in (node.Graph g) = None
+source_in (node.Shortest o) = None
+source_in (node.Enc o j) = None
+source_in (node.Mux o) = None
+
 -- ---- sources and sinks in their places
 
 -- one is in its place
@@ -93,6 +102,7 @@ pub record HasEnds (n : PlanNode) (v : View) : Type 0 where
 module _ {H S K : Type 0} (is : KindsOf H) (left named : S → Option (List ℕ)) (failed : S → ℕ) (holds called : K → Option (List ℕ)) (faulted : K → ℕ) where
   -- a part with these lanes at its ports that nothing was done with, as this node of a plan over these sources and sinks
   pub record IsPart (outputs : List OutputJob) (heads : List H) (srcs : List S) (snks : List K) (ins outs : List Lane) (n : PlanNode) (v : View) : Type 0 where
+    pub source_is : v.source ≡ source_in n
     pub in_lanes : v.in_lanes ≡ ins
     pub out_lanes : v.out_lanes ≡ outs
     pub sound : v.fault ≡ None

@@ -19,9 +19,9 @@ first_head [] = None
 first_head (l ∷ ls) = Some (head_of l)
 
 module _ {H : Type 0} (is : KindsOf H) where
-  abbrev pub demux_by : Option H → List ℕ → Task
-  demux_by None bytes = idle
-  demux_by (Some head) bytes = is.demux_task head bytes
+  abbrev pub demux_by : ℕ → Option H → List ℕ → Task
+  demux_by input None bytes = idle
+  demux_by input (Some head) bytes = is.demux_task input head bytes
 
   abbrev pub dec_by : Option StreamHead → ℕ → Task
   dec_by None outputs = idle
@@ -32,16 +32,16 @@ module _ {H : Type 0} (is : KindsOf H) where
   enc_by (Some head) None = idle
   enc_by (Some head) (Some coded) = is.enc_task head coded
 
-  abbrev pub mux_by : Option OutputJob → Option StreamHead → Task
-  mux_by None coded = idle
-  mux_by (Some out) None = idle
-  mux_by (Some out) (Some coded) = is.mux_task out coded
+  abbrev pub mux_by : ℕ → Option OutputJob → Option StreamHead → Task
+  mux_by output None coded = idle
+  mux_by output (Some out) None = idle
+  mux_by output (Some out) (Some coded) = is.mux_task output out coded
 
   -- of a node with these lanes at its inputs and at its outputs; graphs and Shortest nodes come later
   abbrev pub task_of : List OutputJob → List H → List (List ℕ) → List Lane → List Lane → PlanNode → Task
-  task_of outputs heads bytes ins outs (node.Demux i) = demux_by (slice_get heads i) (slice_index_or bytes i [])
+  task_of outputs heads bytes ins outs (node.Demux i) = demux_by i (slice_get heads i) (slice_index_or bytes i [])
   task_of outputs heads bytes ins outs (node.Dec at) = dec_by (first_head ins) (length outs)
   task_of outputs heads bytes ins outs (node.Graph g) = idle
   task_of outputs heads bytes ins outs (node.Shortest o) = idle
   task_of outputs heads bytes ins outs (node.Enc o j) = enc_by (first_head ins) (first_head outs)
-  task_of outputs heads bytes ins outs (node.Mux o) = mux_by (slice_get outputs o) (first_head ins)
+  task_of outputs heads bytes ins outs (node.Mux o) = mux_by o (slice_get outputs o) (first_head ins)

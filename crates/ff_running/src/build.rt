@@ -38,9 +38,9 @@ fn demuxer_at<
     requires there { (src : Src) × (slice_get srcs.old.items input ≡ Some (Some src)) }
     requires fits { (ins outs : List Lane) × FitsDemux K.is heads.now ins outs input }
     ensures made { IfSome result (λ m. (src : Src) → slice_get srcs.old.items input ≡ Some (Some src) → (ins outs : List Lane) → FitsDemux K.is heads.now ins outs input
-        → IsNew ins outs (Src.name src) (Src.faults src) (M.view m)) }
+        → IsNew (Some input) ins outs (Src.name src) (Src.faults src) (M.view m)) }
     ensures starts { IfSome result (λ m. (src : Src) → slice_get srcs.old.items input ≡ Some (Some src) → (head : K.Head) → slice_get heads.now input ≡ Some head
-        → (bytes : List ℕ) → Src.left src ≡ Some bytes → (M.view m).stands (start (K.is.demux_task head bytes))) }
+        → (bytes : List ℕ) → Src.left src ≡ Some bytes → (M.view m).stands (start (K.is.demux_task input head bytes))) }
     ensures back { IsNone result → (w : ℕ) → slice_get srcs.new.items w ≡ slice_get srcs.old.items w }
     ensures kept { (w : ℕ) → (w ≡ input → ⊥) → slice_get srcs.new.items w ≡ slice_get srcs.old.items w }
     ensures as_many { length srcs.new.items ≡ length srcs.old.items }
@@ -72,9 +72,9 @@ fn muxer_at<
     requires there { (snk : Snk) × (slice_get snks.old.items output ≡ Some (Some snk)) }
     requires fits { (out : OutputJob) × (slice_get outputs.now output ≡ Some out) × K.is.CanMux out coded.now }
     ensures made { IfSome result (λ m. (snk : Snk) → slice_get snks.old.items output ≡ Some (Some snk)
-        → IsNew (Packets coded.now ∷ []) [] (Snk.name snk) (Snk.faults snk) (M.view m)) }
+        → IsNew None (Packets coded.now ∷ []) [] (Snk.name snk) (Snk.faults snk) (M.view m)) }
     ensures starts { IfSome result (λ m. (snk : Snk) → slice_get snks.old.items output ≡ Some (Some snk) → (out : OutputJob) → slice_get outputs.now output ≡ Some out
-        → Snk.holds snk ≡ Some [] → (M.view m).stands (start (K.is.mux_task out coded.now))) }
+        → Snk.holds snk ≡ Some [] → (M.view m).stands (start (K.is.mux_task output out coded.now))) }
     ensures back { IsNone result → (w : ℕ) → slice_get snks.new.items w ≡ slice_get snks.old.items w }
     ensures kept { (w : ℕ) → (w ≡ output → ⊥) → slice_get snks.new.items w ≡ slice_get snks.old.items w }
     ensures as_many { length snks.new.items ≡ length snks.old.items }

@@ -44,21 +44,21 @@ pub trait Kinds<Src: Source + Send + Drop, Snk: Sink + Send + Drop, Part: Machin
     /// where memory is refused.
     fn demuxer(alloc: Global, input: u32, head: &Self::Head, src: Src) -> Result<Part, Src>
         requires { is.IsHead head.now }
-        ensures new { IfOk result (λ m. IsNew [] (Packets (is.stream head.now) ∷ []) (Src.name src) (Src.faults src) (Part.view m)) }
-        ensures starts { IfOk result (λ m. (bytes : List ℕ) → Src.left src ≡ Some bytes → (Part.view m).stands (start (is.demux_task head.now bytes))) }
+        ensures new { IfOk result (λ m. IsNew (Some input) [] (Packets (is.stream head.now) ∷ []) (Src.name src) (Src.faults src) (Part.view m)) }
+        ensures starts { IfOk result (λ m. (bytes : List ℕ) → Src.left src ≡ Some bytes → (Part.view m).stands (start (is.demux_task input head.now bytes))) }
         ensures back { IfErr result (λ back. back ≡ src) };
 
     /// Decodes the packets of a stream, for so many outputs.
     fn decoder(alloc: Global, head: &StreamHead, outputs: usize) -> Result<Part, AllocError>
         requires can { is.CanDecode head.now }
         requires some { 1 ≤ outputs }
-        ensures new { IfOk result (λ m. IsNew (Packets head.now ∷ []) (replicate outputs (Frames head.now)) None 0 (Part.view m)) }
+        ensures new { IfOk result (λ m. IsNew None (Packets head.now ∷ []) (replicate outputs (Frames head.now)) None 0 (Part.view m)) }
         ensures starts { IfOk result (λ m. (Part.view m).stands (start (is.dec_task head.now outputs))) };
 
     /// Codes the frames of a stream as packets with this head.
     fn encoder(alloc: Global, head: &StreamHead, coded: &StreamHead) -> Result<Part, AllocError>
         requires { is.CanEncode head.now coded.now }
-        ensures new { IfOk result (λ m. IsNew (Frames head.now ∷ []) (Packets coded.now ∷ []) None 0 (Part.view m)) }
+        ensures new { IfOk result (λ m. IsNew None (Frames head.now ∷ []) (Packets coded.now ∷ []) None 0 (Part.view m)) }
         ensures starts { IfOk result (λ m. (Part.view m).stands (start (is.enc_task head.now coded.now))) };
 
     /// Writes packets with this head to the output of this number, over a sink that holds nothing. The sink comes back where
@@ -71,8 +71,8 @@ pub trait Kinds<Src: Source + Send + Drop, Snk: Sink + Send + Drop, Part: Machin
         snk: Snk,
     ) -> Result<Part, Snk>
         requires { is.CanMux out.now coded.now }
-        ensures new { IfOk result (λ m. IsNew (Packets coded.now ∷ []) [] (Snk.name snk) (Snk.faults snk) (Part.view m)) }
-        ensures starts { IfOk result (λ m. Snk.holds snk ≡ Some [] → (Part.view m).stands (start (is.mux_task out.now coded.now))) }
+        ensures new { IfOk result (λ m. IsNew None (Packets coded.now ∷ []) [] (Snk.name snk) (Snk.faults snk) (Part.view m)) }
+        ensures starts { IfOk result (λ m. Snk.holds snk ≡ Some [] → (Part.view m).stands (start (is.mux_task output out.now coded.now))) }
         ensures back { IfErr result (λ back. back ≡ snk) };
 
     /// The source or the sink of a part, as it is now.

@@ -25,6 +25,7 @@ mod fault;
 mod gather;
 mod kinds;
 mod lanes;
+mod opening;
 mod run;
 mod tables;
 mod work;

@@ -9,6 +9,8 @@ ghost use Rattle.ff_files.specs.Works.{AreTold};
 ghost use Rattle.ff_running.specs.Claims.{tell_all};
 ghost use Rattle.ff_network.specs.Fits.{ports_by};
 ghost use Rattle.ff_running.specs.Parts.{AreFitting, AreOrdered, AllAside};
+ghost use Rattle.ff_network.specs.Scheduling.{AllRouted};
+ghost use Rattle.ff_running.specs.Openings.{CanBegin, or_memory};
 ghost use Rattle.ff_running.specs.Rooms.{HasRoom};
 ghost use Rattle.ff_running.specs.Runs.{TellsRun, AreRun, IsDone};
 
@@ -17,6 +19,7 @@ use crate::end::end_with;
 use crate::fault::RunFault;
 use crate::gather::gather;
 use crate::kinds::Kinds;
+use crate::opening::Opening;
 use crate::tables::{listed, tabled};
 use ff_edges::Edge;
 use ff_files::Done;
@@ -40,15 +43,28 @@ fn no_memory() -> Option<NodeFault>
     })
 }
 
-// Runs parts as the nodes of a network. Where memory is refused before the start they are as they were.
+// The fault that is reported, or want of memory for the history.
+fn fault_or_memory(fault: Option<NodeFault>, told: bool) -> Option<NodeFault>
+    ensures { result ≡ or_memory fault told }
+{
+    match fault {
+        Some(fault) => Some(fault),
+        None => if told { None } else { no_memory() },
+    }
+}
+
+// Runs parts as the nodes of a network under the scheduler. Where memory is refused before the start they are as they were.
 fn run_parts<C: Claims, R: Threads + Wait + Sync, M: Machine + Send + Drop>(
     rt: &R,
     alloc: Global,
     parts: Vec<M>,
     edges: &[Edge],
     size: usize,
+    opening: Opening,
 ) -> (Vec<M>, Option<NodeFault>)
-    requires few { length parts.items < 2 ^ 32 }
+    requires few { length parts.items < 2 ^ 16 }
+    requires opening { CanBegin opening }
+    requires sources { AllRouted M.view opening.routes parts.items }
     requires size { (1 ≤ size) × (size ≤ 1024) }
     requires fits { Fits M.view edges.now parts.items }
     requires start { C.claims ≡ true → (tasks : ℕ → Task) × AllStart M.view tasks parts.items }
@@ -58,8 +74,15 @@ fn run_parts<C: Claims, R: Threads + Wait + Sync, M: Machine + Send + Drop>(
     ensures solved { C.claims ≡ true → (tasks : ℕ → Task) → AllStart M.view tasks parts.items
         → MeetsNetwork M.view tasks (network tasks (ports_of M.view parts.items) edges.now (length parts.items)) (ins_at (ports_of M.view parts.items) edges.now) (outs_at (ports_of M.view parts.items) edges.now) result.0.items result.1 }
 {
-    match run_network::<C, R, M>(rt, alloc, parts, edges, size) {
-        Ok(Ran { machines, fault }) => (machines, fault),
+    let Opening { state, routes } = opening;
+    match run_network::<C, R, M>(rt, alloc, parts, edges, size, state, routes) {
+        Ok(
+            Ran {
+                machines,
+                fault,
+                history,
+            },
+        ) => (machines, fault_or_memory(fault, history.is_some())),
         Err(parts) => (parts, no_memory()),
     }
 }
@@ -80,15 +103,18 @@ fn build_and_run<
     size: usize,
     heads: &[K::Head],
     outputs: &[OutputJob],
+    opening: Opening,
     parts: Vec<M>,
     places: &mut Places<Src, Snk>,
 ) -> (Vec<M>, Option<NodeFault>)
     requires room { (parts.items ≡ []) × (length nodes.now ≤ vec_capacity parts) }
-    requires few { length nodes.now < 2 ^ 32 }
+    requires few { length nodes.now < 2 ^ 16 }
     requires size { (1 ≤ size) × (size ≤ 1024) }
     requires fits { AreFit (ports_by edges.now) (length nodes.now) edges.now }
     requires fitting { AreFitting K.is outputs.now heads.now edges.now nodes.now }
     requires ordered { AreOrdered (length places.old.srcs.items) (length places.old.snks.items) nodes.now }
+    requires opening { CanBegin opening }
+    requires sources { length places.old.srcs.items ≤ opening.routes.sources }
     requires aside { (srcs : List Src) × (snks : List Snk) × AllAside srcs places.old.srcs.items × AllAside snks places.old.snks.items
         × (C.claims ≡ true → (bytes : List (List ℕ)) × AreTold Src.left Snk.holds srcs snks bytes) }
     ensures ran { (srcs : List Src) (snks : List Snk) → AllAside srcs places.old.srcs.items → AllAside snks places.old.snks.items
@@ -96,7 +122,7 @@ fn build_and_run<
         olds result.0.items places.new.srcs.items places.new.snks.items result.1 }
 {
     match build::<K, Src, Snk, M>(alloc, nodes, edges, heads, outputs, parts, places) {
-        Ok(parts) => run_parts::<C, R, M>(rt, alloc, parts, edges, size),
+        Ok(parts) => run_parts::<C, R, M>(rt, alloc, parts, edges, size, opening),
         Err(parts) => (parts, no_memory()),
     }
 }
@@ -150,16 +176,19 @@ pub(crate) fn run_nodes<
     size: usize,
     heads: &[K::Head],
     outputs: &[OutputJob],
+    opening: Opening,
     srcs: Vec<Src>,
     snks: Vec<Snk>,
     room: Room<M, Src, Snk>,
 ) -> Done<RunFault, Src, Snk>
     requires room { HasRoom (length nodes.now) (length srcs.items) (length snks.items) room }
-    requires few { (length nodes.now < 2 ^ 32) × (length heads.now < 2 ^ 32) }
+    requires few { (length nodes.now < 2 ^ 16) × (length heads.now < 2 ^ 32) }
     requires size { (1 ≤ size) × (size ≤ 1024) }
     requires fits { AreFit (ports_by edges.now) (length nodes.now) edges.now }
     requires fitting { AreFitting K.is outputs.now heads.now edges.now nodes.now }
     requires ordered { AreOrdered (length srcs.items) (length snks.items) nodes.now }
+    requires opening { CanBegin opening }
+    requires sources { length srcs.items ≤ opening.routes.sources }
     requires told { C.claims ≡ tell_all Src.left Snk.holds srcs.items snks.items }
     ensures { IsDone K.is Src.left Src.name Src.faults Snk.holds Snk.name Snk.faults M.view outputs.now heads.now edges.now nodes.now srcs.items snks.items C.claims
         result.end result.srcs.items result.snks.items }
@@ -176,6 +205,7 @@ pub(crate) fn run_nodes<
         size,
         heads,
         outputs,
+        opening,
         room.parts,
         &mut places,
     );

@@ -7,6 +7,7 @@ ghost use Rattle.ff_running.specs.Meaning.{plan_for, refusal_of, means as means_
 
 use crate::fault::RunFault;
 use crate::kinds::Kinds;
+use crate::opening::before_run;
 use crate::run::{Room, run_nodes};
 use ff_files::{Done, PlanEnd, WorkEnd};
 use ff_host::{Sink, Source};
@@ -70,12 +71,12 @@ pub fn run_plan<
     rt: &R,
     alloc: Global,
     job: &Job,
-    plan: &Plan,
+    plan: Plan,
     heads: &[K::Head],
     srcs: Vec<Src>,
     snks: Vec<Snk>,
 ) -> Done<RunFault, Src, Snk>
-    requires { IsPlanFor K.is job.now heads.now plan.now }
+    requires { IsPlanFor K.is job.now heads.now plan }
     ensures fine { result.end ≡ WorkEnd.Fine → (bytes : List (List ℕ)) → AreTold Src.left Snk.holds srcs.items snks.items bytes
         → HoldFiles Snk.holds ((means_of K.is job.now).file heads.now bytes) result.snks.items }
     ensures parts { (bytes : List (List ℕ)) → AreTold Src.left Snk.holds srcs.items snks.items bytes
@@ -87,8 +88,13 @@ pub fn run_plan<
     ensures sound_srcs { FailNoMore Src.faults srcs.items result.srcs.items (sound_sources (means_of K.is job.now) result.end (length srcs.items)) }
     ensures sound_snks { FailNoMore Snk.faults snks.items result.snks.items (sound_sinks (means_of K.is job.now) result.end (length snks.items)) }
 {
-    let nodes = plan.nodes.as_slice();
-    let edges = plan.edges.as_slice();
+    let Plan {
+        nodes,
+        edges,
+        routes,
+    } = plan;
+    let nodes = nodes.as_slice();
+    let edges = edges.as_slice();
     let outputs = job.outputs.as_slice();
     if srcs.len() != heads.len() || snks.len() != outputs.len() {
         return Done {
@@ -105,7 +111,8 @@ pub fn run_plan<
         };
     };
     let size = job.queue as usize;
+    let opening = before_run(nodes, routes);
     run_nodes::<Brand, K, R, Src, Snk, M>(
-        rt, alloc, nodes, edges, size, heads, outputs, srcs, snks, room,
+        rt, alloc, nodes, edges, size, heads, outputs, opening, srcs, snks, room,
     )
 }

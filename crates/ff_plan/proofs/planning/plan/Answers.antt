@@ -12,7 +12,7 @@ use Rattle.ff_plan.specs.Layout.{place_from}
 use Rattle.ff_plan.specs.Plain.{rows, IsBare, IsSmall}
 use Rattle.ff_plan.proofs.Layouts.{map_length}
 use Rattle.ff_plan.proofs.Limits.{all_imply, few_in_lists, below_word, lists_length, small_places}
-use Rattle.ff_plan.proofs.Plans.{ins_by, outs_by, fit_by, kinds_by}
+use Rattle.ff_plan.proofs.Plans.{ins_by, outs_by, fit_by, kinds_by, routes_by, sources_by}
 use Rattle.ff_plan.proofs.Today.{outputs_are_bare, made_by, too_large_by, upward_by, fed_by}
 use Rattle.ff_plan.proofs.planning.plan.Goals as goal
 
@@ -74,3 +74,9 @@ returns-clause-kinds c =
 
 pub returns-clause-fit : goal.returns-clause-fit
 returns-clause-fit c = fit_by c.args.job.now (lists c.args.heads.now) c.in_ok-is_built.ensures.all c.in_ok-plan.plan (returns-clause-made c)
+
+pub returns-clause-routes : goal.returns-clause-routes
+returns-clause-routes c = routes_by c.args.job.now (lists c.args.heads.now) c.in_ok-is_built.ensures.all c.in_ok-plan.plan (returns-clause-made c) c.requires.limits
+
+pub returns-clause-sources : goal.returns-clause-sources
+returns-clause-sources c = sources_by c.args.job.now (lists c.args.heads.now) c.in_ok-is_built.ensures.all c.in_ok-plan.plan (returns-clause-made c) ∙ lists_length c.args.heads.now

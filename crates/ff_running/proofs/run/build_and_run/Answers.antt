@@ -1,5 +1,5 @@
 use Rattle.ff_running.specs.Meaning.{task_at}
-use Rattle.ff_running.proofs.Running.{part_sound, all_start, all_fit, run_ok, run_err}
+use Rattle.ff_running.proofs.Running.{part_sound, all_start, all_fit, are_within, run_ok, run_err}
 use Rattle.ff_running.proofs.run.build_and_run.Goals as goal
 
 pub run_parts-requires-clause-fits : goal.run_parts-requires-clause-fits
@@ -20,6 +20,14 @@ run_parts-requires-clause-start g c κs within = λ vouched.
       all_start g.K.Kinds.is S.left S.name S.faults K.holds K.name K.faults g.M.Machine.view c.args.outputs.now c.args.heads.now c.args.edges.now c.args.nodes.now aside.0 aside.1 c.in-Ok.parts.items
           c.build.new.places.srcs.items c.build.new.places.snks.items (c.in-Ok.ensures.ok aside.0 aside.1 aside.2 aside.3) told.0 told.1,
     )
+
+pub run_parts-requires-clause-sources : goal.run_parts-requires-clause-sources
+run_parts-requires-clause-sources g c κs within =
+    let S = g.Src.Source in
+    let K = g.Snk.Sink in
+    let aside = c.requires.aside in
+    are_within g.K.Kinds.is S.left S.name S.faults K.holds K.name K.faults g.M.Machine.view c.args.outputs.now c.args.heads.now c.args.edges.now c.args.nodes.now aside.0 aside.1 c.in-Ok.parts.items
+    c.build.new.places.srcs.items c.build.new.places.snks.items (c.in-Ok.ensures.ok aside.0 aside.1 aside.2 aside.3) _ _ c.args.opening.routes c.requires.ordered c.requires.sources
 
 pub run_parts-requires-clause-sound : goal.run_parts-requires-clause-sound
 run_parts-requires-clause-sound g c κs within =

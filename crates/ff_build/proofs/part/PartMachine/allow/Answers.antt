@@ -1,3 +1,4 @@
+use Rattle.ff_demuxing.specs.Demuxers.{demux_stands}
 use Rattle.std.specs.Prelude.{◌≡◌}
 use Rattle.std.specs.Option.{IfSome}
 use Rattle.std.proofs.Common.{subst, sym}
@@ -13,3 +14,13 @@ returns-in-Mux-clause-back g c =
     (λ (p : Part g.row.Src.Denot g.row.Snk.Denot g.Snk.Sink). IfSome c.allow-in-Mux.result (λ t. (t ≡ c.args.ticket) × ((past : Past) → (part_view g.Src.Source.left g.Src.Source.name g.Src.Source.faults p).stands past → mux_stands c.allow-in-Mux.new.self past)))
     (sym c.in-Mux.is)
     c.allow-in-Mux.ensures.back
+
+pub returns-in-Demux-clause-taken : goal.returns-in-Demux-clause-taken
+returns-in-Demux-clause-taken g c n past s = c.allow.ensures.taken n past (rw c.in-Demux.is at s)
+
+pub returns-in-Demux-clause-back : goal.returns-in-Demux-clause-back
+returns-in-Demux-clause-back g c =
+    subst
+    (λ (p : Part g.row.Src.Denot g.row.Snk.Denot g.Snk.Sink). IfSome c.allow.result (λ t. (t ≡ c.args.ticket) × ((past : Past) → (part_view g.Src.Source.left g.Src.Source.name g.Src.Source.faults p).stands past → demux_stands g.Src.Source.left c.allow.new.self past)))
+    (sym c.in-Demux.is)
+    c.allow.ensures.back

@@ -11,3 +11,6 @@ returns-in-Mux-clause-gives g c e is past s = let h = c.next_event-in-Mux.ensure
 
 pub returns-in-Mux-clause-waits : goal.returns-in-Mux-clause-waits
 returns-in-Mux-clause-waits g c n past s = c.next_event-in-Mux.ensures.waits n past (rw c.in-Mux.is at s)
+
+pub returns-in-Demux-clause-waits : goal.returns-in-Demux-clause-waits
+returns-in-Demux-clause-waits g c n past s = c.next_event.ensures.waits n past (rw c.in-Demux.is at s)

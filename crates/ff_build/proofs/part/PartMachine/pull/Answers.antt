@@ -1,3 +1,9 @@
+use Rattle.ff_build.specs.PartViews.{part_view}
+use Rattle.ff_build.specs.declared.part.Part.{Part}
+use Rattle.ff_net.specs.Pasts.{Past}
+use Rattle.std.proofs.Common.{subst, sym}
+use Rattle.std.specs.Result.{OnErr}
+use Rattle.ff_demuxing.specs.Demuxers.{demux_stands}
 use Rattle.ff_build.proofs.part.PartMachine.pull.Goals as goal
 
 pub returns-in-Demux-clause-gives : goal.returns-in-Demux-clause-gives
@@ -8,3 +14,13 @@ returns-in-Dec-clause-gives g c x is past s stopped = c.pull-in-Dec.ensures.give
 
 pub returns-in-Enc-clause-gives : goal.returns-in-Enc-clause-gives
 returns-in-Enc-clause-gives g c x is past s stopped = c.pull-in-Enc.ensures.gives x is past (rw c.in-Enc.is at s) stopped
+
+pub returns-in-Demux-clause-waits : goal.returns-in-Demux-clause-waits
+returns-in-Demux-clause-waits g c w past s out = c.pull.ensures.waits w past (rw c.in-Demux.is at s) out
+
+pub returns-in-Demux-clause-unchanged : goal.returns-in-Demux-clause-unchanged
+returns-in-Demux-clause-unchanged g c =
+    subst
+    (λ (p : Part g.row.Src.Denot g.row.Snk.Denot g.Snk.Sink). OnErr c.pull.result ((past : Past) → (part_view g.Src.Source.left g.Src.Source.name g.Src.Source.faults p).stands past → demux_stands g.Src.Source.left c.pull.new.self past))
+    (sym c.in-Demux.is)
+    c.pull.ensures.unchanged

@@ -1,9 +1,13 @@
 use Rattle.std.specs.Prelude.{◌≡◌, ◌≤◌, ℕ, zero, suc, [], ◌∷◌, length, replicate}
-use Rattle.std.proofs.Common.{arith, inl, inr, subst, sym}
+use Rattle.std.proofs.Common.{ap, arith, inl, inr, subst, sym}
+use Rattle.ff_values.specs.Heads.{base_of_head}
 use Rattle.ff_coders.specs.AnyCoders.{any_head, any_coded}
 use Rattle.ff_frame.specs.declared.item.Lane.{Lane}
 use Rattle.ff_frame.specs.declared.item.Lane.TheVariants.{Frames, Packets}
+use Rattle.ff_muxing.specs.Outputs.{layout_of}
+use Rattle.ff_running.specs.Kinds.{IsSinkOf}
 use Rattle.ff_build.specs.declared.part.Part.{Part}
+use Rattle.ff_build.specs.Parts.{all_kinds}
 use Rattle.ff_build.specs.PartViews.{part_view}
 use Rattle.ff_build.proofs.parts.PartsKindsPart.into_ends.Goals as goal
 
@@ -22,3 +26,19 @@ returns-in-Dec g c =
       | inl w ↦ subst HasEnds (sym w.1) (one_lane (Packets (any_head w.0.decoder)), some_lanes (length w.0.spread.outs.items) (Frames (any_head w.0.decoder)) w.0.spread.some)
       | inr w ↦ subst HasEnds (sym w.1) (one_lane (Frames w.0.head), some_lanes (length w.0.spread.outs.items) (Packets (any_coded w.0.encoder w.0.head)) w.0.spread.some)
     ]
+
+pub returns : goal.returns
+returns g c =
+    let K = g.Snk.Sink in
+    let sink = c.into_sink.ensures in
+    let GivesSink : Part g.row.Src.Denot g.row.Snk.Denot g.Snk.Sink → Type 0 =
+    λ p. IsSinkOf all_kinds K.holds K.name K.faults (part_view g.Src.Source.left g.Src.Source.name g.Src.Source.faults p) c.into_sink.result × ((part_view g.Src.Source.left g.Src.Source.name g.Src.Source.faults p).in_lanes ≡ [] → ⊥) in
+    subst GivesSink (sym c.in-Mux.is) (
+      record {
+        name = ap K.name sink.sink;
+        faults = ap K.faults sink.sink;
+        whole = λ past output out coded s is. sink.whole past output (base_of_head coded) (layout_of out.format out.hash coded) s is;
+        part = λ past output out coded s is. sink.front past output (base_of_head coded) (layout_of out.format out.hash coded) s is;
+      },
+      one_lane (Packets c.in-Mux.m.head),
+    )

@@ -1,0 +1,72 @@
+// The state of the scheduler before a run.
+ghost use Rattle.std.specs.Prelude.{◌≡◌, ◌≤◌, ℕ};
+ghost use Rattle.ff_plan.specs.declared.planned.PlanNode.{PlanNode};
+ghost use Rattle.ff_plan.specs.declared.planned.PlanNode.TheVariants.{Demux as DemuxNode};
+ghost use Rattle.ff_sched.specs.Bits.{mark_at};
+ghost use Rattle.ff_sched.specs.Routes.{AreRoutes};
+ghost use Rattle.ff_running.specs.Openings.{reads_in, is_read, is_unused, IsOpening};
+
+use ff_plan::PlanNode;
+use ff_sched::{Routes, SchedState};
+
+fn reads(node: PlanNode, number: u32) -> bool
+    ensures { result ≡ reads_in number node }
+{
+    match node {
+        PlanNode::Demux { input } => input == number,
+        PlanNode::Dec { .. }
+        | PlanNode::Graph { .. }
+        | PlanNode::Shortest { .. }
+        | PlanNode::Enc { .. }
+        | PlanNode::Mux { .. } => false,
+    }
+}
+
+// Whether a node reads the input of this number.
+fn some_reads(nodes: &[PlanNode], number: u32) -> bool
+    ensures { result ≡ is_read nodes.now number }
+{
+    for node in nodes {
+        if reads(*node, number) {
+            return true;
+        }
+    }
+    false
+}
+
+// A mark for each input that no node reads, in a word whose lowest bit is that of input 0.
+fn unused_inputs(nodes: &[PlanNode], inputs: u32) -> u16
+    requires { inputs ≤ 16 }
+    ensures { (i : ℕ) → mark_at result i ≡ is_unused nodes.now inputs i }
+{
+    let mut marks: u16 = 0;
+    for k in 0..inputs {
+        let last = if some_reads(nodes, inputs - 1 - k) {
+            0
+        } else {
+            1
+        };
+        marks = 2 * marks + last;
+    }
+    marks
+}
+
+/// What the scheduler of a run begins with.
+#[derive(Drop)]
+pub(crate) struct Opening {
+    pub(crate) state: SchedState,
+    pub(crate) routes: Routes,
+}
+
+/// Nothing has happened yet, and the inputs that no node reads have exited.
+pub(crate) fn before_run(nodes: &[PlanNode], routes: Routes) -> Opening
+    requires { AreRoutes routes }
+    ensures state { IsOpening nodes.now routes result.state }
+    ensures routes { result.routes ≡ routes }
+{
+    let unused = unused_inputs(nodes, routes.sources);
+    Opening {
+        state: SchedState::opening(&routes, unused),
+        routes,
+    }
+}
