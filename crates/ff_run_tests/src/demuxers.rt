@@ -3,7 +3,7 @@ ghost use Rattle.std.specs.Prelude.{◌+◌, ◌<◌, ◌≤◌, ◌^◌, length
 
 use ff_cuts::AnyCut;
 use ff_demuxing::{Demux, is_long};
-use ff_frame::{Bytes, Codec, Item, Pkt, StreamHead, Ticket};
+use ff_frame::{Bytes, Codec, Event, Item, Pkt, StreamHead, Ticket};
 use ff_heads::read_input_head;
 use ff_host::{Failed, Host, Source};
 use ff_memory_host::{FailAt, HostCall, MemHost, MemSource};
@@ -115,6 +115,32 @@ fn device(rt: HostRuntime) -> Result<(), AllocError> {
     assert_eq!(rt; (allowed, first, second), (None, failed, failed));
     let mut src = demux.into_source();
     assert_eq!(rt; src.read(&mut [0; 4]), Err(Failed));
+    Ok(())
+}
+
+// What a demuxer tells once it gives nothing more: its output has closed, was stopped, or a read failed.
+const EXITED: Option<Event> = Some(Event::Exited(7));
+
+#[test]
+fn exits_at_the_end(rt: HostRuntime) -> Result<(), AllocError> {
+    let mut demux = demuxer(rt.alloc(), Vec::new(rt.alloc()))?;
+    for tried in [0, 1, 2, 3] {
+        assert_eq!(rt; (demux.tried(), demux.next_event()), (tried, None));
+        let _ = next_allowed(&mut demux);
+    }
+    assert_eq!(rt; (demux.tried(), demux.next_event()), (4, EXITED));
+    assert_eq!(rt; demux.next_event(), None);
+    Ok(())
+}
+
+#[test]
+fn exits_before_the_end(rt: HostRuntime) -> Result<(), AllocError> {
+    let mut stopped = demuxer(rt.alloc(), Vec::new(rt.alloc()))?;
+    stopped.stop(0);
+    assert_eq!(rt; (stopped.tried(), stopped.next_event()), (0, EXITED));
+    let mut failed = demuxer(rt.alloc(), first_read(rt.alloc())?)?;
+    let nothing = next_allowed(&mut failed);
+    assert_eq!(rt; (nothing, failed.next_event()), (Given::Nothing, EXITED));
     Ok(())
 }
 

@@ -1,4 +1,4 @@
-// A source that waits for a sink.
+// A source that waits for a sink, or gives a few bytes a read.
 ghost use Rattle.std.specs.Prelude.{◌≡◌, ◌+◌, ◌<◌, ◌≤◌, ℕ, List, length, None, Some, false, string_bytes};
 
 use ff_host::{Failed, Sink, SinkError, Source};
@@ -21,20 +21,27 @@ fn opens(gate: &AtomicBool) -> bool {
     false
 }
 
-/// A source in memory whose reads that begin at or past an offset wait for the gate, and fail where that stays closed.
+/// How reads go: those that begin at or past the offset wait for the gate, and each gives at most so many bytes.
+#[derive(Clone, Copy)]
+pub struct Pace {
+    pub offset: usize,
+    pub most: usize,
+}
+
+/// A source in memory whose reads go at this pace, and fail where the gate stays closed.
 #[derive(Drop)]
 pub struct GateSource {
     name: String,
     bytes: Vec<u8>,
     at: usize,
-    offset: usize,
+    pace: Pace,
     gate: Arc<AtomicBool>,
     faults: u64,
     failed: bool,
 }
 
 impl GateSource {
-    pub fn new(name: String, bytes: Vec<u8>, offset: usize, gate: Arc<AtomicBool>) -> GateSource
+    pub fn new(name: String, bytes: Vec<u8>, pace: Pace, gate: Arc<AtomicBool>) -> GateSource
         ensures name { string_bytes result.name ≡ string_bytes name }
         ensures faults { result.faults ≡ 0 }
         ensures failed { result.failed ≡ false }
@@ -43,7 +50,7 @@ impl GateSource {
             name,
             bytes,
             at: 0,
-            offset,
+            pace,
             gate,
             faults: 0,
             failed: false,
@@ -57,13 +64,13 @@ impl GateSource {
     }
 }
 
-// Fills the front of a buffer from a place on, as far as it and the bytes reach.
-fn copy_from(buf: &mut [u8], bytes: &[u8], at: usize) -> usize
+// Fills the front of a buffer from a place on, as far as it and the bytes reach, by at most so many.
+fn copy_from(buf: &mut [u8], bytes: &[u8], at: usize, most: usize) -> usize
     ensures within { result ≤ length buf.old }
     ensures length { length buf.new ≡ length buf.old }
 {
     let rest = bytes.get(at..).unwrap_or(&[]);
-    let count = buf.len().min(rest.len());
+    let count = buf.len().min(rest.len()).min(most);
     buf[..count].copy_from_slice(&rest[..count]);
     count
 }
@@ -78,8 +85,8 @@ impl Source for GateSource {
     ghost name = { λ s. Some (string_bytes s.name) };
 
     fn read(&mut self, buf: &mut [u8]) -> Result<usize, Failed> {
-        if !self.failed && (self.at < self.offset || opens(&self.gate)) {
-            let count = copy_from(buf, &self.bytes, self.at);
+        if !self.failed && (self.at < self.pace.offset || opens(&self.gate)) {
+            let count = copy_from(buf, &self.bytes, self.at, self.pace.most);
             self.at = self.at.saturating_add(count);
             return Ok(count);
         }

@@ -1,20 +1,20 @@
-// A host whose source waits for its sink.
+// A host whose source waits for its sink, or gives a few bytes a read.
 ghost use Rattle.std.specs.Prelude.{◌≡◌, ◌+◌, ◌<◌, ◌≤◌, ℕ, List, Some, None, IsTrue, string_bytes};
 ghost use Rattle.ff_host.specs.Tally.{marks_at};
 
-use crate::gate::{GateSink, GateSource, closed};
+use crate::gate::{GateSink, GateSource, Pace, closed};
 use ff_host::{Failed, Host, HostError, Marks, Table, make_room, marks_of, set_marks};
 use std::alloc::{AllocError, Global};
 use std::collections::BTreeMap;
 use std::sync::Arc;
 use std::sync::atomic::AtomicBool;
 
-/// A host of one input, under any name. A read that begins at or past the offset waits until a sink took its first append.
+/// A host of one input, under any name, read at a pace. The gate opens when a sink took its first append.
 #[derive(Drop)]
 pub struct GateHost {
     alloc: Global,
     input: Vec<u8>,
-    offset: usize,
+    pace: Pace,
     gate: Arc<AtomicBool>,
     output: Vec<u8>,
     table: Table,
@@ -23,11 +23,11 @@ pub struct GateHost {
 }
 
 impl GateHost {
-    pub fn new(alloc: Global, input: Vec<u8>, offset: usize) -> Result<GateHost, AllocError> {
+    pub fn new(alloc: Global, input: Vec<u8>, pace: Pace) -> Result<GateHost, AllocError> {
         Ok(GateHost {
             alloc,
             input,
-            offset,
+            pace,
             gate: closed(alloc)?,
             output: Vec::new(alloc),
             table: BTreeMap::new(alloc),
@@ -73,7 +73,7 @@ impl Host for GateHost {
         let opened = true;
         set_marks(&mut self.table, name, Marks { opened, ..was });
         self.sources = sources;
-        Ok(GateSource::new(own_name, bytes, self.offset, gate))
+        Ok(GateSource::new(own_name, bytes, self.pace, gate))
     }
 
     fn create_sink(&mut self, name: &str) -> Result<GateSink, HostError> {

@@ -1,5 +1,6 @@
+use crate::gate::Pace;
 use crate::gate_host::GateHost;
-use crate::runs::{HEADER, WORDS, comes_to, host_of, input};
+use crate::runs::{FULL, HEADER, WORDS, comes_to, host_of, input};
 use ff_host::Host;
 use std::alloc::{AllocError, Global};
 use std::sync::Wait;
@@ -7,9 +8,6 @@ use std::thread::Threads;
 
 /// How many packets of 1,024 bytes a body of 1 MB has.
 const PACKETS: usize = 1024;
-
-/// SHA-256 of 1,024 times the letter a.
-const FULL: &str = "2edc986847e209b4016e141a6dc8716d3207350f416969382d431539bf292e4a";
 
 // An input of 1,048,576 times the letter a.
 fn large_input(alloc: Global) -> Result<Vec<u8>, AllocError> {
@@ -52,7 +50,11 @@ fn one_megabyte(rt: HostRuntime) -> Result<(), AllocError> {
 fn reading_waits_for_writing(rt: HostRuntime) -> Result<(), AllocError> {
     let alloc = rt.alloc();
     let output = large_output(alloc)?;
-    let mut host = GateHost::new(alloc, large_input(alloc)?, 200_000)?;
+    let pace = Pace {
+        offset: 200_000,
+        most: usize::MAX,
+    };
+    let mut host = GateHost::new(alloc, large_input(alloc)?, pace)?;
     assert!(rt; is_fine(&rt, alloc, &mut host)?);
     assert_eq!(rt; host.output(), output.as_bytes());
     Ok(())

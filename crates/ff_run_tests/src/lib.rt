@@ -1,6 +1,6 @@
 //! Tests of the command and its parts that no table of ff_rows can say: answers as values, a log that fails, a large input,
-//! a source that waits for the sink, two sources that wait for each other, and a demuxer by itself. The expected bytes come from the
-//! formats' rules and from `sha256sum`, never from the program.
+//! a source that waits for the sink or gives a few bytes a read, two sources that wait for each other, and a demuxer by itself. The
+//! expected bytes come from the formats' rules and from `sha256sum`, never from the program.
 #![tactic(auto)]
 
 #[cfg(test)]
@@ -17,6 +17,8 @@ mod lines;
 mod many;
 #[cfg(test)]
 mod meetings;
+#[cfg(test)]
+mod pieces;
 #[cfg(test)]
 mod reports;
 #[cfg(test)]

@@ -13,6 +13,9 @@ pub const WORDS: [&str; 7] = ["-i", "in.wav", "-c:a", "pcm_u8", "-f", "framehash
 pub const HEADER: &str =
     "#format: frame checksums\n#version: 2\n#hash: SHA256\n#tb 0: 1/8000\n#media_type 0: audio\n#codec_id 0: pcm_u8\n#sample_rate 0: 8000\n#channel_layout_name 0: mono\n#stream#, dts,        pts, duration,     size, hash\n";
 
+/// SHA-256 of 1,024 times the letter a.
+pub const FULL: &str = "2edc986847e209b4016e141a6dc8716d3207350f416969382d431539bf292e4a";
+
 /// The bytes of an input of 8-bit samples on one channel, at 8,000 sample frames a second: its head, and then a body.
 pub fn input(alloc: Global, body: &[u8]) -> Result<Vec<u8>, AllocError> {
     let mut bytes = Vec::new(alloc);
