@@ -37,12 +37,12 @@ pub struct Framesync<S: Stack> {
 }
 
 impl<S: Stack> Framesync<S> {
-    // The first time from which on each input has begun; None where one has no picture yet.
-    fn start(&self) -> Option<u64>
-        ensures none { IsNone result → NoneFrom self.now.head self.now.shortest self.now.inputs.items self.now.from }
-        ensures start { IfSome result (λ lo. IsStart self.now.head self.now.shortest self.now.inputs.items self.now.from lo (length self.now.inputs.items)) }
+    // The first time, not before one, from which on each input has begun; None where one has no picture yet.
+    fn start(&self, from: u64) -> Option<u64>
+        ensures none { IsNone result → NoneFrom self.now.head self.now.shortest self.now.inputs.items from }
+        ensures start { IfSome result (λ lo. IsStart self.now.head self.now.shortest self.now.inputs.items from lo (length self.now.inputs.items)) }
     {
-        let mut lo = self.from;
+        let mut lo = from;
         'inputs: for p in 0..self.inputs.len() {
             match self.inputs[p].start() {
                 None => return None,
@@ -75,13 +75,13 @@ impl<S: Stack> Framesync<S> {
         true
     }
 
-    /// The time of what is to be shown next.
-    pub(crate) fn due(&self) -> Option<u64>
-        ensures none { IsNone result → NoneFrom self.now.head self.now.shortest self.now.inputs.items self.now.from }
-        ensures due { IfSome result (λ t. IsDue (timing_of self.now.shortest self.now.inputs.items) self.now.from (standing_of self.now.head self.now.inputs.items) t) }
+    /// The time of what is to be shown first from a time on.
+    pub fn due(&self, from: u64) -> Option<u64>
+        ensures none { IsNone result → NoneFrom self.now.head self.now.shortest self.now.inputs.items from }
+        ensures due { IfSome result (λ t. IsDue (timing_of self.now.shortest self.now.inputs.items) from (standing_of self.now.head self.now.inputs.items) t) }
         ensures near { IfSome result (λ t. t < 2 ^ 63) }
     {
-        let Some(lo) = self.start() else {
+        let Some(lo) = self.start(from) else {
             return None;
         };
         if !self.is_known(lo) {

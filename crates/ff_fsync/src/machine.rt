@@ -100,7 +100,7 @@ impl<S: Stack> Framesync<S> {
         ensures waits { result ≡ Ok None → Waits (sync_view (S.shows self.old.stack) self.old.shortest (Frames self.old.head) self.old.from (sides_of self.old.inputs.items) self.old.ended self.old.stopped) (sync_view (S.shows self.new.stack) self.new.shortest (Frames self.new.head) self.new.from (sides_of self.new.inputs.items) self.new.ended self.new.stopped) 0 }
         ensures unchanged { OnErr result (Same (sync_view (S.shows self.old.stack) self.old.shortest (Frames self.old.head) self.old.from (sides_of self.old.inputs.items) self.old.ended self.old.stopped) (sync_view (S.shows self.new.stack) self.new.shortest (Frames self.new.head) self.new.from (sides_of self.new.inputs.items) self.new.ended self.new.stopped)) }
     {
-        let Some(time) = self.due() else {
+        let Some(time) = self.due(self.from) else {
             return Ok(self.close());
         };
         match self.show(time) {

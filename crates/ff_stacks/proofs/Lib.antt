@@ -1,0 +1,12 @@
+pub mod Alls
+pub mod Closing
+pub mod Fitting
+pub mod Gridding
+pub mod Keeping
+pub mod Lasting
+pub mod Limiting
+pub mod Ordering
+pub mod Planning
+pub mod Seeing
+pub mod Shaping
+pub mod Valid

@@ -1,0 +1,9 @@
+use Rattle.ff_fsync.specs.Syncs.{sides_of}
+use Rattle.ff_stacks.specs.Stacks.{stack_by}
+use Rattle.ff_stacks.proofs.Seeing.{seen_new}
+use Rattle.ff_stacks.proofs.configured.machine_for.Goals as goal
+
+pub returns : goal.returns
+returns c =
+    let p = c.args.plan.now in
+    seen_new (stack_by p c.args.heads.now) p.shape (sides_of c.in_ok-inputs.inputs.items) p.shaped c.in_ok-inputs.ensures

@@ -1,0 +1,13 @@
+use Rattle.std.proofs.Common.{◌≡◌, List, [], ◌∷◌, ◌++◌, ap, ◌∙◌}
+use Rattle.ff_values.specs.declared.head.StreamHead.{StreamHead}
+use Rattle.ff_stacks.specs.Stacked.{seen}
+use Rattle.ff_stacks.proofs.Planning.{made_by}
+use Rattle.ff_stacks.proofs.configured.stack_for.Goals as goal
+
+pub returns-in-Ok-push-clause-made : goal.returns-in-Ok-push-clause-made
+returns-in-Ok-push-clause-made c =
+    let p = c.in-Ok.plan in
+    let shown : c.push.new.self.items ≡ p.head ∷ [] =
+    c.in-Ok-push.ensures.items ∙ ap (λ (hs : List StreamHead). hs ++ p.head ∷ []) c.new-shown.ensures.items in
+    made_by c.args.direction c.args.args.now c.args.heads.now c.planned.result p (seen c.in-Ok-machine_for.machine) c.push.new.self.items
+    c.planned.ensures c.in-Ok.is c.in-Ok-machine_for.ensures shown

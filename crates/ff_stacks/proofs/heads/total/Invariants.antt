@@ -1,0 +1,9 @@
+use Rattle.std.proofs.Common.{◌≡◌, ◌+◌, ◌*◌, ◌≤◌, drop}
+use Rattle.ff_stacks.specs.Heads.{total}
+use Rattle.ff_stacks.proofs.heads.total.Given as goal
+
+abbrev pub invariant-heads : goal.invariant-heads
+invariant-heads l = record {
+  sum : l.total + total l.direction (drop l.i l.heads) ≡ total l.direction l.heads;
+  few : l.total ≤ 4294967296 * l.i;
+}

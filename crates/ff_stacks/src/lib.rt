@@ -1,0 +1,35 @@
+//! Pictures of several inputs, side by side or one below the other.
+//!
+//! ```text
+//!   input 0  ──a────────b──────────c───────►
+//!   input 1  ─────x─────────y──────────────►        HStack   a│x   b│x   b│y   c│y
+//!            ─────┬─────┬───┬──────┬───────►
+//!                 ax    bx  by     cy               VStack   a above x, and so on
+//! ```
+//!
+//! Which pictures are shown together, and when, is framesync's (`ff_fsync`); how the planes of a stack lie is `ff_planes`'.
+//! `specs/Shapes` says what a picture of the stack is, `specs/Stacks` which stack arguments and heads make, or why they are
+//! refused, and `specs/Stacked` how its machine is seen, with the limits of every stream behind it.
+#![tactic(auto)]
+
+mod configured;
+mod heads;
+mod hstack;
+mod laws;
+mod limits;
+mod machine;
+mod options;
+mod plan;
+mod shape;
+mod stacked;
+mod stacking;
+mod vstack;
+
+pub use hstack::HStack;
+pub use laws::{stacks_keep_valid_streams, stacks_of_two_pixels, stacks_of_valid_streams};
+pub use options::StackSettings;
+pub use plan::Plan;
+pub use shape::{Direction, Shape};
+pub use stacked::Stacked;
+pub use stacking::Stacking;
+pub use vstack::VStack;

@@ -1,0 +1,20 @@
+ghost use Rattle.std.specs.Prelude.{◌≡◌};
+ghost use Rattle.ff_values.specs.Video.{IsSide};
+ghost use Rattle.ff_stacks.specs.Shapes.{shape_of};
+
+use crate::shape::Shape;
+use ff_frame::StreamHead;
+
+/// What arguments and heads make a stack.
+#[derive(Clone, Copy, Debug)]
+pub struct Plan {
+    /// How the pictures are stacked.
+    pub shape: Shape,
+    /// The head of the stack.
+    pub head: StreamHead,
+    /// Whether the stack ends where the first input does.
+    pub shortest: bool,
+    pub ghost columns: { IsSide shape.width },
+    pub ghost rows: { IsSide shape.height },
+    pub ghost shaped: { shape ≡ shape_of shape.direction head },
+}

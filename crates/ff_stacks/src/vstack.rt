@@ -1,0 +1,33 @@
+ghost use Rattle.std.specs.Prelude.{IfOk, IfErr};
+ghost use Rattle.ff_filter.specs.Options.{IsMade, IsRefused};
+ghost use Rattle.ff_stacks.specs.declared.shape.Direction.TheVariants.{Below};
+ghost use Rattle.ff_stacks.specs.Stacks.{IsStack, stack_view, head_of};
+
+use crate::configured::stack_for;
+use crate::shape::Direction;
+use crate::stacked::Stacked;
+use ff_filter::Filter;
+use ff_frame::{ConfigError, StreamHead};
+use ff_lang::Arg;
+use std::alloc::Global;
+
+/// `vstack`: the pictures of several inputs one below the other.
+pub struct VStack {}
+
+impl VStack {
+    /// The filter by its arguments and the heads of its inputs; the head of its output beside it. The options, in this order
+    /// of places, are `inputs`, a whole number of 2 to 16, and 2 where it isn't given; and `shortest`, 0 or 1, and 0 where it
+    /// isn't given. It refuses in this order: `Pads` where there aren't so many inputs, `Kind` where one is sound,
+    /// `UnknownOption` and `BadOption` by argument, `Mismatch` where time bases, formats or widths differ, and `BadSize` where
+    /// the heights come to more than 16,384, or that of an input but the last is odd where two rows share a sample of Cb.
+    pub fn configure(
+        alloc: Global,
+        args: &[Arg],
+        heads: &[StreamHead],
+    ) -> Result<(Stacked, Vec<StreamHead>), ConfigError>
+        ensures made { IfOk result (λ r. IsMade (IsStack Below args.now heads.now) stack_view head_of (⟦<Stacked as Filter>⟧.view r.0) r.1.items) }
+        ensures refused { IfErr result (IsRefused (IsStack Below args.now heads.now)) }
+    {
+        stack_for(Direction::Below, alloc, args, heads)
+    }
+}
