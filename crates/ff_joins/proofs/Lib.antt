@@ -1,0 +1,4 @@
+pub mod Moving
+pub mod Placing
+pub mod Settling
+pub mod Starting

@@ -1,0 +1,16 @@
+pub mod Arguments
+pub mod ConcatBreaks
+pub mod ConcatExamples
+pub mod ConcatLaws
+pub mod ConcatOptions
+pub mod Concats
+pub mod Following
+pub mod JoinBreaks
+pub mod JoinExamples
+pub mod JoinOptions
+pub mod JoinRule
+pub mod Joined
+pub mod JoinedLaws
+pub mod SegmentLaws
+pub mod Segmented
+pub mod Tests

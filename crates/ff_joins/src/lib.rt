@@ -1,0 +1,27 @@
+//! Filters of several inputs that take them in order, or sample by sample.
+//!
+//! ```text
+//!   input 0  ──a────b──┤                    concat:  ──a────b──┬─x──y──►
+//!   input 1  ──x──y──►                                         the end of b
+//! ```
+#![tactic(auto)]
+
+mod arguments;
+mod concat;
+mod concat_options;
+mod drawing;
+mod join_options;
+mod laws;
+mod over;
+mod segments;
+mod times;
+
+pub use concat::Concat;
+pub use concat_options::ConcatSettings;
+pub use join_options::{JoinSettings, join_head};
+pub use laws::{
+    joined_sound_keeps_the_broken_rule, segments_keep_the_broken_rule,
+    sound_further_on_is_joined_further_on, the_second_segment_is_shifted,
+    two_channels_stand_side_by_side,
+};
+pub use segments::Segments;
