@@ -10,7 +10,7 @@ use Rattle.ff_net.specs.Ports.{in_at, out_at, in_wires, out_wires}
 use Rattle.ff_net.specs.Worlds.{fresh}
 use Rattle.ff_net.specs.Nodes.{InStands, OutStands, NodeStands, IsSound, MayClose}
 use mathlib.Core.List.{IsPrefix}
-use Rattle.ff_net.specs.Logs.{hand_of, tickets_in, told_in}
+use Rattle.ff_net.specs.Logs.{AreTicketsOf, hand_of, tickets_in, told_in}
 use Rattle.ff_sched.specs.declared.logged.Logged.{Logged}
 use Rattle.ff_values.specs.declared.event.Ticket.{Ticket}
 use Rattle.ff_net.specs.Views.{View}
@@ -64,6 +64,7 @@ node_fresh view node ins outs task i o log hand quiet s = record {
   stopped = λ p n. absurd n;
   log = record {
     granted = ap tickets_in log ∙ ap (λ (h : Option Ticket). hand_of h) (sym hand);
+    own = subst (λ (ls : List Logged). AreTicketsOf (view node.machine).source (tickets_in ls)) (sym log) (λ k d lt. absurd (omega (arith, lt)));
     told = subst (λ (ls : List Logged). IsPrefix (told_in ls) []) (sym log) ([], refl);
     all_told = λ r. ap told_in log;
     in_order = record { grants = []; tellings = []; all = log; only_grants = refl; no_grants = refl };

@@ -79,7 +79,7 @@ module _ {M : Type 0} (view : M → View) where
   }
     where
       log : (t : Bool) → took ≡ t → (past : Past) → IsReading (view node.machine) past → LogStands view node past → LogStands view node' past
-      log true e past reading l = let y = granted e in log_granted view node node' past s y.1.0 machine y.1.2 y.0 y.1.1 refused (λ q. sym quiet ∙ q) reading l
+      log true e past reading l = let y = granted e in log_granted view node node' past s y.1.0 source machine y.1.2 y.0 y.1.1 refused (λ q. sym quiet ∙ q) reading l
       log false e past reading l = let n = still e in log_still view node node' past machine n.1 n.0 refused (λ q. sym quiet ∙ q) l
 
       longer : took ≡ true → length node.pass.log < length node'.pass.log

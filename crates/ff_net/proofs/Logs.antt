@@ -1,5 +1,6 @@
 -- What the log of a node's pass says, from moment to moment.
 use Rattle.std.proofs.Common.{◌≡◌, ◌⊎◌, ℕ, inl, inr, true, false, List, [], ◌∷◌, ◌++◌, length, refl, ap, sym, ◌∙◌, subst, Option, None, Some, IsSome, append-nil, append_assoc}
+use Rattle.std.proofs.lemmas.List.Elements.{All-append, All-cons, All-nil}
 use mathlib.Core.List.{IsPrefix}
 use Rattle.ff_frame.specs.Order.{prefix_self, prefix_trans}
 use Rattle.ff_frame.specs.declared.item.Item.{Item}
@@ -18,7 +19,7 @@ use Rattle.ff_sched.specs.Unchoked.{Unchokes}
 use Rattle.ff_net.specs.declared.fault.Fault.{Fault}
 use Rattle.ff_net.specs.declared.node.Node.{Node}
 use Rattle.ff_net.specs.Laws.{IsPending, IsReading}
-use Rattle.ff_net.specs.Logs.{GrantsFirst, WasChoked, hand_of, ticket_of, tickets_in, telling_of, told_in}
+use Rattle.ff_net.specs.Logs.{AreTicketsOf, GrantsFirst, WasChoked, hand_of, ticket_of, tickets_in, telling_of, told_in}
 use Rattle.ff_net.specs.Nodes.{LogStands}
 use Rattle.ff_net.specs.Pasts.{Past, IsIn, gave_item, was_stopped, was_told}
 use Rattle.ff_net.specs.Views.{View, IsSameShape}
@@ -103,11 +104,16 @@ choked_after p m q source state e k =
       choked = λ u. k.choked (subst (λ (s : State). Unchokes m.cell.routes s source) (sym k.folded) (subst (λ (c : Scheduler). Unchokes c.routes (fold c.opening q.seen) source) (sym cell) u));
     }
 
+-- tickets stay those of a source
+pub still_of : (a b : Option ℕ) (ts us : List Ticket) → b ≡ a → us ≡ ts → AreTicketsOf a ts → AreTicketsOf b us
+still_of a b ts us source same own = subst (λ (o : Option ℕ). AreTicketsOf o us) (sym source) (subst (λ (xs : List Ticket). AreTicketsOf a xs) (sym same) own)
+
 module _ {M : Type 0} (view : M → View) (node node' : Node M) where
   -- neither the machine nor what was logged has changed
   pub log_still : (past : Past) → node'.machine ≡ node.machine → node'.pass.log ≡ node.pass.log → node'.hand ≡ node.hand → (node'.refused ≡ false → node.refused ≡ false) → (node'.quiet ≡ true → node.quiet ≡ true) → LogStands view node past → LogStands view node' past
   log_still past machine log hand refused quiet l = record {
     granted = ap tickets_in log ∙ (l.granted ∙ ap (λ (h : Option Ticket). past.allowed ++ hand_of h) (sym hand));
+    own = still_of _ _ _ _ (ap (λ m. (view m).source) machine) (ap tickets_in log) l.own;
     told = subst (λ (ls : List Logged). IsPrefix (told_in ls) past.told) (sym log) l.told;
     all_told = λ r. ap told_in log ∙ l.all_told (refused r);
     in_order = subst GrantsFirst (sym log) l.in_order;
@@ -120,6 +126,7 @@ module _ {M : Type 0} (view : M → View) (node node' : Node M) where
       → since.told ≡ past.told → since.allowed ++ hand_of node'.hand ≡ past.allowed ++ hand_of node.hand → ((n q : ℕ) → IsPending n since q → IsPending n past q) → LogStands view node past → LogStands view node' since
   log_called past since stays shape log refused quiet told allowed pending l = record {
     granted = ap tickets_in log ∙ (l.granted ∙ sym allowed);
+    own = still_of _ _ _ _ shape.source (ap tickets_in log) l.own;
     told = subst (λ (ls : List Logged). IsPrefix (told_in ls) since.told) (sym log) (subst (λ (es : List Event). IsPrefix (told_in node.pass.log) es) (sym told) l.told);
     all_told = λ r. ap told_in log ∙ (l.all_told (refused r) ∙ sym told);
     in_order = subst GrantsFirst (sym log) l.in_order;
@@ -132,6 +139,7 @@ module _ {M : Type 0} (view : M → View) (node node' : Node M) where
       → (past.told ≡ past.task.tells past.feeds) ⊎ IsReading (view node'.machine) past → LogStands view node past → LogStands view node' past
   log_asked past stays shape log hand refused quiet l = record {
     granted = ap tickets_in log ∙ (l.granted ∙ ap (λ (h : Option Ticket). past.allowed ++ hand_of h) (sym hand));
+    own = still_of _ _ _ _ shape.source (ap tickets_in log) l.own;
     told = subst (λ (ls : List Logged). IsPrefix (told_in ls) past.told) (sym log) l.told;
     all_told = λ r. ap told_in log ∙ l.all_told (refused r);
     in_order = subst GrantsFirst (sym log) l.in_order;
@@ -140,16 +148,19 @@ module _ {M : Type 0} (view : M → View) (node node' : Node M) where
   }
 
   -- a source that is reading was granted a unit
-  pub log_granted : (past : Past) (source place : ℕ) → node'.machine ≡ node.machine → node'.pass.log ≡ node.pass.log ++ logged place (Grant source) ∷ [] → node.hand ≡ None → node'.hand ≡ Some (record { source = source; place = place }) → (node'.refused ≡ false → node.refused ≡ false) → (node'.quiet ≡ true → node.quiet ≡ true)
+  pub log_granted : (past : Past) (source place : ℕ) → (view node.machine).source ≡ Some source → node'.machine ≡ node.machine → node'.pass.log ≡ node.pass.log ++ logged place (Grant source) ∷ [] → node.hand ≡ None → node'.hand ≡ Some (record { source = source; place = place }) → (node'.refused ≡ false → node.refused ≡ false) → (node'.quiet ≡ true → node.quiet ≡ true)
       → IsReading (view node.machine) past → LogStands view node past → LogStands view node' past
-  log_granted past source place machine log empty hand refused quiet reading l =
+  log_granted past source place is machine log empty hand refused quiet reading l =
       let entry : Logged = logged place (Grant source) in
       let ticket : Ticket = record { source = source; place = place } in
       let none : past.told ≡ [] = l.unread reading in
       let before : told_in node.pass.log ≡ [] = front_of_nothing (told_in node.pass.log) (subst (λ (es : List Event). IsPrefix (told_in node.pass.log) es) none l.told) in
       let now : told_in node'.pass.log ≡ [] = ap told_in log ∙ (told_more node.pass.log entry ∙ (append-nil (told_in node.pass.log) ∙ before)) in
+      let is_own : Ticket → Type 0 = λ (t : Ticket). (view node.machine).source ≡ Some t.source in
       let held : past.allowed ++ hand_of node.hand ≡ past.allowed = ap (λ (h : Option Ticket). past.allowed ++ hand_of h) empty ∙ append-nil past.allowed in record {
         granted = ap tickets_in log ∙ (tickets_more node.pass.log entry ∙ (ap (λ (ts : List Ticket). ts ++ ticket ∷ []) (l.granted ∙ held) ∙ ap (λ (h : Option Ticket). past.allowed ++ hand_of h) (sym hand)));
+        own = still_of _ _ _ _ (ap (λ m. (view m).source) machine) (ap tickets_in log ∙ tickets_more node.pass.log entry)
+            (All-append is_own (tickets_in node.pass.log) (ticket ∷ []) l.own (All-cons is_own ticket [] is (All-nil is_own)));
         told = subst (λ (es : List Event). IsPrefix es past.told) (sym now) (past.told, refl);
         all_told = λ r. now ∙ sym none;
         in_order = record { grants = node'.pass.log; tellings = []; all = sym (append-nil node'.pass.log); only_grants = now; no_grants = refl };
@@ -158,9 +169,10 @@ module _ {M : Type 0} (view : M → View) (node node' : Node M) where
       }
 
   -- an event was to be told, and the cell didn't take it
-  pub log_lost : (past : Past) (e : Event) → node'.pass.log ≡ node.pass.log → node'.hand ≡ node.hand → node'.refused ≡ true → node'.quiet ≡ false → (IsReading (view node'.machine) (was_told past e) → ⊥) → LogStands view node past → LogStands view node' (was_told past e)
-  log_lost past e log hand refused quiet over l = record {
+  pub log_lost : (past : Past) (e : Event) → (view node'.machine).source ≡ (view node.machine).source → node'.pass.log ≡ node.pass.log → node'.hand ≡ node.hand → node'.refused ≡ true → node'.quiet ≡ false → (IsReading (view node'.machine) (was_told past e) → ⊥) → LogStands view node past → LogStands view node' (was_told past e)
+  log_lost past e source log hand refused quiet over l = record {
     granted = ap tickets_in log ∙ (l.granted ∙ ap (λ (h : Option Ticket). past.allowed ++ hand_of h) (sym hand));
+    own = still_of _ _ _ _ source (ap tickets_in log) l.own;
     told = subst (λ (ls : List Logged). IsPrefix (told_in ls) (past.told ++ e ∷ [])) (sym log) (prefix_trans (told_in node.pass.log) past.told (past.told ++ e ∷ []) l.told (e ∷ [], refl));
     all_told = λ r. absurd (let no : true ≡ false = sym refused ∙ r in cc (no));
     in_order = subst GrantsFirst (sym log) l.in_order;
@@ -169,12 +181,13 @@ module _ {M : Type 0} (view : M → View) (node node' : Node M) where
   }
 
   -- an event was told
-  pub log_told : (past : Past) (e : Event) (place : ℕ) → IsTold e → node'.pass.log ≡ node.pass.log ++ logged place e ∷ [] → node'.hand ≡ node.hand → node.refused ≡ false → node'.quiet ≡ false → (IsReading (view node'.machine) (was_told past e) → ⊥) → LogStands view node past → LogStands view node' (was_told past e)
-  log_told past e place is log hand refused quiet over l =
+  pub log_told : (past : Past) (e : Event) (place : ℕ) → (view node'.machine).source ≡ (view node.machine).source → IsTold e → node'.pass.log ≡ node.pass.log ++ logged place e ∷ [] → node'.hand ≡ node.hand → node.refused ≡ false → node'.quiet ≡ false → (IsReading (view node'.machine) (was_told past e) → ⊥) → LogStands view node past → LogStands view node' (was_told past e)
+  log_told past e place source is log hand refused quiet over l =
       let entry : Logged = logged place e in
       let now : told_in node'.pass.log ≡ past.told ++ e ∷ [] = ap told_in log ∙ (told_more node.pass.log entry ∙ (ap (λ (es : List Event). told_in node.pass.log ++ es) (telling_told e is) ∙ ap (λ (es : List Event). es ++ e ∷ []) (l.all_told refused))) in
       let o = l.in_order in record {
         granted = tickets_told node.pass.log node'.pass.log e place is log ∙ (l.granted ∙ ap (λ (h : Option Ticket). past.allowed ++ hand_of h) (sym hand));
+        own = still_of _ _ _ _ source (tickets_told node.pass.log node'.pass.log e place is log) l.own;
         told = subst (λ (es : List Event). IsPrefix es (past.told ++ e ∷ [])) (sym now) (prefix_self (past.told ++ e ∷ []));
         all_told = λ r. now;
         in_order = record {

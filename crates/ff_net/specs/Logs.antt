@@ -1,5 +1,5 @@
 -- The log of a node's pass, and how a pass goes on.
-use Rattle.std.specs.Prelude.{◌≡◌, ℕ, List, [], ◌∷◌, ◌++◌, Option, None, Some}
+use Rattle.std.specs.Prelude.{◌≡◌, ℕ, All, List, [], ◌∷◌, ◌++◌, Option, None, Some}
 use mathlib.Core.List.{IsPrefix}
 use Rattle.ff_values.specs.declared.event.Ticket.{Ticket}
 use Rattle.ff_values.specs.declared.event.Event.{Event}
@@ -38,6 +38,10 @@ told_in (l ∷ ls) = telling_of l.event ++ told_in ls
 abbrev pub hand_of : Option Ticket → List Ticket
 hand_of None = []
 hand_of (Some t) = t ∷ []
+
+-- each of these tickets is of this source
+abbrev pub AreTicketsOf : Option ℕ → List Ticket → Type 0
+AreTicketsOf source tickets = All (λ t. source ≡ Some t.source) tickets
 
 -- no grant stands behind another event
 pub record GrantsFirst (log : List Logged) : Type 0 where

@@ -13,7 +13,7 @@ use Rattle.ff_net.specs.declared.wires.Wires.{Wires}
 use Rattle.ff_net.specs.Ways.{Flow, lane_at}
 use Rattle.ff_net.specs.Pasts.{Past, IsIn}
 use Rattle.ff_net.specs.Laws.{IsReading, NoMatter}
-use Rattle.ff_net.specs.Logs.{GrantsFirst, hand_of, tickets_in, told_in}
+use Rattle.ff_net.specs.Logs.{AreTicketsOf, GrantsFirst, hand_of, tickets_in, told_in}
 use Rattle.ff_sched.specs.Passing.{Passing, Scheduler}
 use Rattle.ff_net.specs.Ports.{in_at, out_at, in_wires, out_wires, AreDone}
 use Rattle.ff_net.specs.Worlds.{Wire, lanes_of}
@@ -89,10 +89,12 @@ pub record IsOf {M : Type 0} (view : M → View) (cell : Scheduler) (node : Node
   pub source : (s : ℕ) → (view node.machine).source ≡ Some s → s < cell.routes.sources
 
 -- What the log of the node's pass says of the past. Its grants are the tickets that the machine was allowed, and the one that the
--- node holds. Its other events were told by the machine, and are all that it told where no memory was refused; they stand behind
--- the grants, since nothing is told while a source is reading. Where nothing was left to tell, each event that is due was told
+-- node holds, each of the machine's own source. Its other events were told by the machine, and are all that it told where no
+-- memory was refused; they stand behind the grants, since nothing is told while a source is reading. Where nothing was left to
+-- tell, each event that is due was told
 pub record LogStands {M : Type 0} (view : M → View) (node : Node M) (past : Past) : Type 0 where
   pub granted : tickets_in node.pass.log ≡ past.allowed ++ hand_of node.hand
+  pub own : AreTicketsOf (view node.machine).source (tickets_in node.pass.log)
   pub told : IsPrefix (told_in node.pass.log) past.told
   pub all_told : node.refused ≡ false → told_in node.pass.log ≡ past.told
   pub in_order : GrantsFirst node.pass.log

@@ -64,7 +64,7 @@ returns-then-not-can_tell-clause-stepped g c wires =
         since = was_told past e;
         stand = stand;
         fits = machine_step view mid _ world past (was_told past e) was gives.0 (λ s. absurd (true_not_false s.0)) (λ r. absurd (true_not_false r)) refl refl c.next_event.ensures.shape.in_lanes refl refl refl refl
-            (log_lost view mid _ past e refl refl refl quiet gives.1 was.log);
+            (log_lost view mid _ past e c.next_event.ensures.shape.source refl refl refl quiet gives.1 was.log);
         course = course_past _ _ world past (was_told past e) refl (prefix_self past.allowed) (λ q i. i);
         so = record { sent = λ w. refl; taken = λ w. refl; finished = λ w. refl; got = refl; allowed = refl; stopped = refl };
       };
@@ -94,7 +94,7 @@ returns-else-not-can_tell-clause-stepped g c wires =
         since = was_told past e;
         stand = stand;
         fits = machine_step view mid _ world past (was_told past e) was gives.0 (λ s. (s.0, fault_back _ _ c.next_event.ensures.fares.stays s.1)) (λ r. r) refl refl c.next_event.ensures.shape.in_lanes refl refl refl refl
-            (log_told view mid _ past e c.tell-place.result is (ap (λ (p : Passing). p.log) c.tell-place.ensures.same) refl (room.2 ∙ none.1) quiet gives.1 was.log);
+            (log_told view mid _ past e c.tell-place.result c.next_event.ensures.shape.source is (ap (λ (p : Passing). p.log) c.tell-place.ensures.same) refl (room.2 ∙ none.1) quiet gives.1 was.log);
         course = course_past _ _ world past (was_told past e) refl (prefix_self past.allowed) (λ q i. i);
         so = record { sent = λ w. refl; taken = λ w. refl; finished = λ w. refl; got = refl; allowed = refl; stopped = refl };
       };
