@@ -5,5 +5,6 @@ pub mod NewNodes
 pub mod Joining
 pub mod WiredUp
 pub mod Runs
+pub mod Reading
 pub mod Scheduling
 pub mod PortLanes

@@ -20,7 +20,7 @@ use Rattle.ff_net.specs.Nets.{Part, IsUpward, solve}
 use Rattle.ff_net.specs.Pasts.{Past, Task, IsIn}
 use Rattle.ff_net.specs.Ports.{in_at, in_wires, out_at}
 use Rattle.ff_net.specs.Worlds.{Wire}
-use Rattle.ff_net.specs.Serial.{Moment, part_of, parts_of}
+use Rattle.ff_net.specs.Serial.{Moment, granted_parts_of, part_of, parts_of, tried_of}
 use Rattle.ff_net.specs.Theorem.{Settled, AllFare, MeetsSolution}
 use Rattle.ff_net.specs.Views.{View}
 use Rattle.ff_net.specs.Nodes.{NodeStands, LogStands, HaveLanes, IsSound, IsDone, machine_of, pass_of, outputs_of, in_wires_of, out_wires_of}
@@ -33,7 +33,7 @@ use Rattle.ff_net_links.specs.Settling.{AllBehind, AreMeeting, nodes_of, passes_
 use Rattle.ff_net_links.proofs.After.{behind_after, meeting_after}
 use Rattle.ff_network.specs.declared.run.NodeFault.{NodeFault}
 use Rattle.ff_network.specs.Networks.{Begins, node_at, machines_in}
-use Rattle.ff_network.specs.Runs.{FirstFault, FedPart, FedAll, AllKept, TellsFault, MeetsNetwork, ins_in, outs_in}
+use Rattle.ff_network.specs.Runs.{FirstFault, FedPart, FedAll, AllKept, TellsFault, MeetsNetwork, ReadsSuffice, ins_in, outs_in, read_parts}
 use Rattle.ff_network.specs.Scheduling.{AllPassed, AreLogged, IsLogOf, LoggedPart, LoggedAll, LoggedSink, logs_in}
 use Rattle.ff_network.proofs.Each.{some_one}
 
@@ -80,8 +80,9 @@ at_most_one None = omega arith
 at_most_one (Some t) = omega arith
 
 module _ {M : Type 0} (view : M → View) where
-  logged_of : (node : Node M) (past : Past) → LogStands view node past → IsLogOf past (pass_of node).log
+  logged_of : (node : Node M) (past : Past) → LogStands view node past → IsLogOf (view (machine_of node)) past (pass_of node).log
   logged_of node past l = record {
+    own = l.own;
     allowed = (hand_of node.hand, sym l.granted);
     one_more = (let one = at_most_one node.hand in let count = length-append past.allowed (hand_of node.hand) in let all = ap (λ (ts : List Ticket). length ts) l.granted in omega (arith, one, count, all));
     told = l.told;
@@ -125,6 +126,18 @@ module _ {M : Type 0} (view : M → View) where
       let f = (r.1 zero o (omega arith)).0 in
       ap (λ (p : Part). p ∷ parts (λ k. tasks (suc k)) ns) (same_part (tasks zero) (node_of n) (node_of o) f.in_lanes_same f.out_lanes_same f.ins_same f.outs_same)
       ∙ ap (λ (ps : List Part). part_of view (tasks zero) (node_of o) ∷ ps) (parts_after (λ k. tasks (suc k)) os ns (run_rest o n os ns r))
+
+  -- the parts of the nodes as far as their sources have read, by their machines
+  read_are : (tasks : ℕ → Task) (ls : List (Linked M)) (ms : List M) → length ms ≡ length ls → ((k : ℕ) (d : Linked M) (e : M) → k < length ls → slice_index_or ms k e ≡ machine_of (node_at ls k d))
+      → granted_parts_of view tasks (nodes_of ls) ≡ read_parts view ms (parts tasks ls)
+  read_are tasks [] [] same are = refl
+  read_are tasks [] (m ∷ ms) same are = absurd (omega (arith, same))
+  read_are tasks (l ∷ ls) [] same are = absurd (omega (arith, same))
+  read_are tasks (l ∷ ls) (m ∷ ms) same are =
+      let part : Part = part_of view (tasks zero) (node_of l) in
+      let here : m ≡ machine_of (node_of l) = are zero l m (omega arith) in
+      ap (λ (x : M). record part { means = λ ss. tried_of (view x) (part.means ss) } ∷ granted_parts_of view (λ k. tasks (suc k)) (nodes_of ls)) (sym here)
+      ∙ ap (λ (ps : List Part). record part { means = λ ss. tried_of (view m) (part.means ss) } ∷ ps) (read_are (λ k. tasks (suc k)) ls ms (omega (arith, same)) (λ k d e lt. are (suc k) d e (omega (arith, lt))))
 
   -- what settling the links shows
   abbrev pub SolvedClause : ℕ → List (Linked M) → Type 0
@@ -260,6 +273,16 @@ module _ {M : Type 0} (view : M → View) where
               whole = λ p plt. subst IsWhole (on p) (t.whole p (omega (arith, plt, count)));
             }
 
+        ran_reads : FirstFault view (nodes_of news) None → (k w : ℕ) (d : Linked M) → k < length olds → outs_in olds k ≡ [] → IsIn w (ins_in olds k) → solve (read_parts view machines (parts tasks olds)) w ≡ solve (parts tasks olds) w
+        ran_reads none k w d lt sink wired =
+            let n : Node M = node_at news k d in
+            let is = now_at k d n lt in
+            let done : IsDone (slice_index_or (nodes_of news) k n) = subst (λ (m : Node M). IsDone m) (sym is) (ran.1 k d lt).1.node in
+            let no_out : outputs_of n ≡ 0 = sym (length-map n.outs.items (λ (x : OutPort). x.wire)) ∙ ap length (outs_now k d lt ∙ sink) in
+            let here_in : IsIn w (in_wires_of (slice_index_or (nodes_of news) k n)) = subst (λ (m : Node M). IsIn w (in_wires_of m)) (sym is) (subst (λ (ws : List ℕ). IsIn w ws) (sym (ins_now k d lt)) wired) in
+            let found : solve (granted_parts_of view tasks (nodes_of news)) w ≡ solve (parts tasks news) w = meets.granted none k n (here k lt) done (ap (λ (m : Node M). outputs_of m) is ∙ no_out) w here_in in
+            ap (λ (ps : List Part). solve (read_parts view machines ps) w) (sym same) ∙ (ap (λ (ps : List Part). solve ps w) (sym (read_are tasks news machines same_count are)) ∙ (found ∙ ap (λ (ps : List Part). solve ps w) same))
+
         ran_cause : (f : NodeFault) → FirstFault view (nodes_of news) (Some f) → IsOfInputs f.fault → (tasks f.node).cause (map (solve (parts tasks olds)) (ins_in olds f.node)) ≡ Some f.fault
         ran_cause f first of =
             let lt : f.node < length olds = (let same = ran.0 in let count = nodes_count news in let below : f.node < length (nodes_of news) = first.0 in omega (arith, below, same, count)) in
@@ -278,6 +301,11 @@ module _ {M : Type 0} (view : M → View) where
                 subst (λ (m : M). FedAll (view m) (tasks k) (solve (parts tasks olds)) (ins_in olds k)) (machine_at k l e o) (ran_all z.0 z.1 z.2 (subst (λ (g : Option NodeFault). FirstFault view (nodes_of news) g) none first) k l o sink));
             cause = λ f some of. ran_cause z.0 z.1 z.2 f (subst (λ (g : Option NodeFault). FirstFault view (nodes_of news) g) some first) of;
           }
+
+      pub ran_suffice : (most : ℕ) → SolvedClause most news → length lanes ≤ most → (fault : Option NodeFault) → FirstFault view (nodes_of news) fault → ReadsSuffice view (parts tasks olds) (ins_in olds) (outs_in olds) machines fault
+      ran_suffice most solved le fault first none k w lt sink wired =
+          let z = solved tasks lanes (nodes_of olds) (behind_after view tasks olds news begin.behind ran) (meeting_after view lanes olds news begin.joined ran) le upward all_fare in
+          let o = back_to k lt in ran_reads z.0 z.1 z.2 (subst (λ (g : Option NodeFault). FirstFault view (nodes_of news) g) none first) k w (some_one olds k o) o sink wired
 
       -- what the logs of the passes say
       module _ (world : ℕ → Wire) (moment : Moment view tasks (nodes_of news) lanes world) (meets : MeetsSolution view tasks (nodes_of olds) (nodes_of news) world) where
@@ -309,7 +337,7 @@ module _ {M : Type 0} (view : M → View) where
               | inr refused ↦ absurd (let no : true ≡ false = sym refused ∙ sound.0 in cc (no))
             ])
 
-        log_of : (k : ℕ) (d : Linked M) → (lt : k < length olds) → IsLogOf (stood_at k d lt).0 (pass_of (node_at news k d)).log
+        log_of : (k : ℕ) (d : Linked M) → (lt : k < length olds) → IsLogOf (view (machine_of (node_at news k d))) (stood_at k d lt).0 (pass_of (node_at news k d)).log
         log_of k d lt = logged_of (node_at news k d) (stood_at k d lt).0 (stood_at k d lt).1.log
 
         part_logged : (k : ℕ) (d : Linked M) → k < length olds → LoggedPart (view (machine_of (node_at news k d))) (tasks k) (solve (parts tasks olds)) (ins_in olds k) (pass_of (node_at news k d)).log

@@ -10,6 +10,7 @@ use Rattle.ff_sched.specs.declared.routes.Routes.{Routes}
 use Rattle.ff_sched.specs.Histories.{IsLegal, Rises, StandsIn, StartsWith, all_in, logged, numbered, weigh}
 use Rattle.ff_sched.specs.Passing.{Passing, Scheduler, IsHistory, IsSplit, logs_of}
 use Rattle.ff_sched.specs.State.{State}
+use Rattle.ff_net.specs.Laws.{Laws}
 use Rattle.ff_net.specs.Logs.{PassStep, ticket_of, tickets_in}
 use Rattle.ff_net.specs.Nodes.{IsOf, pass_of}
 use Rattle.ff_net.specs.Pasts.{Task}
@@ -20,6 +21,7 @@ use Rattle.ff_network.specs.declared.run.NodeFault.{NodeFault}
 use Rattle.ff_network.specs.Networks.{node_at}
 use Rattle.ff_network.specs.Scheduling.{AllPassed, AreLogged, AreSeated, Scheduled, logs_in, new_pass, node_share}
 use Rattle.ff_network.proofs.Each.{at_before, at_end, some_one, each_next}
+use Rattle.ff_network.proofs.Reading.{reads_under}
 
 -- a pass of which another was split off
 pub split_new : (cell : Scheduler) (share n : ℕ) (p q r : Passing) → p ≡ new_pass cell share → IsSplit p n q r → (q ≡ new_pass cell (share - n)) × (r ≡ new_pass cell n)
@@ -163,21 +165,26 @@ module _ {M : Type 0} (cell : Scheduler) (nodes : List (Linked M)) (rest : Passi
       omega (arith, each, left, count, sum, one, few)
 
   module _ (view : M → View) (routes : Routes) (state : State) (known : (ℕ → Task) → Type 0) (solution : (ℕ → Task) → ℕ → Flow) (ins outs : ℕ → List ℕ) (machines : List M) (fault : Option NodeFault) (events : List Event) where
-    pub scheduled : cell.routes ≡ routes → cell.opening ≡ state → length machines ≡ length nodes → IsHistory cell (passes ++ rest ∷ []) events
+    pub scheduled : ((m : M) → Laws (view m)) → cell.routes ≡ routes → cell.opening ≡ state → length machines ≡ length nodes → IsHistory cell (passes ++ rest ∷ []) events
         → ((tasks : ℕ → Task) → known tasks → AreLogged view tasks (solution tasks) ins outs machines fault (logs_in passes))
         → Scheduled view routes state known solution ins outs machines fault events
-    scheduled same_routes same_state count h logged_all =
+    scheduled laws same_routes same_state count h logged_all =
         let stand : (k : ℕ) → All (StandsIn events) (slice_index_or (logs_in passes) k []) = by_number (All (StandsIn events)) passes rest (λ i d lt. absurd (omega (arith, lt))) h.stand in
         let rise : (k : ℕ) → Rises (length events) (slice_index_or (logs_in passes) k []) =
-        by_number (Rises (length events)) passes rest (record { below = λ i d lt. absurd (omega (arith, lt)); in_order = λ i x y a b. absurd (no_entry i x a) }) (λ k d lt. rises_more _ _ _ (within events _ (h.seen k d lt)) (h.in_order k d lt)) in record {
+        by_number (Rises (length events)) passes rest (record { below = λ i d lt. absurd (omega (arith, lt)); in_order = λ i x y a b. absurd (no_entry i x a) }) (λ k d lt. rises_more _ _ _ (within events _ (h.seen k d lt)) (h.in_order k d lt)) in
+        let tickets : ℕ → List Ticket = λ k. tickets_in (slice_index_or (logs_in passes) k []) in
+        let granted : (k i : ℕ) (t : Ticket) → slice_get (tickets k) i ≡ Some t → slice_get events t.place ≡ Some (Grant t.source) = λ k i t e. grant_stands events (slice_index_or (logs_in passes) k []) (stand k) i t e in
+        let ordered : (k i : ℕ) (t u : Ticket) → slice_get (tickets k) i ≡ Some t → slice_get (tickets k) (i + 1) ≡ Some u → t.place < u.place =
+        λ k i t u e f. tickets_rise (length events) (slice_index_or (logs_in passes) k []) (rise k) i t u e f in record {
           legal = subst (λ (r : Routes). IsLegal r state events) same_routes (subst (λ (s : State). IsLegal cell.routes s events) same_state h.legal);
           logs = logs_in passes;
           as_many = length-map passes (λ (p : Passing). p.log) ∙ (passed.count ∙ sym count);
           stand = stand;
           rise = rise;
           once = λ w. sym (ap (weigh w) (all_but_last passes rest (ap (λ (p : Passing). p.log) seated.rest))) ∙ h.once w;
-          granted = λ k i t e. grant_stands events (slice_index_or (logs_in passes) k []) (stand k) i t e;
-          in_order = λ k i t u e f. tickets_rise (length events) (slice_index_or (logs_in passes) k []) (rise k) i t u e f;
+          granted = granted;
+          in_order = ordered;
+          reads = λ k e past lt stood l. reads_under (view (slice_index_or machines k e)) past (slice_index_or (logs_in passes) k []) l events ((laws (slice_index_or machines k e)).tried_allowed past stood) (granted k) (ordered k);
           logged = logged_all;
         }
       where

@@ -21,7 +21,7 @@ use Rattle.ff_sched.specs.Passing.{Passing, Scheduler}
 use Rattle.ff_network.specs.Fits.{Ports, edge_lanes, ins_at, outs_at, part_at, parts_from, network}
 use Rattle.ff_network.specs.Networks.{Fits, AllStart, AreWiredUp, lanes_at, ports_of, node_at, machines_in}
 use Rattle.ff_network.specs.Nodes.{FitsWires, IsLinked, in_edges, out_edges}
-use Rattle.ff_network.specs.Runs.{FedPart, FedAll, MeetsNetwork, ins_in, outs_in}
+use Rattle.ff_network.specs.Runs.{FedPart, FedAll, MeetsNetwork, ReadsSuffice, ins_in, outs_in, read_parts}
 use Rattle.ff_network.specs.Scheduling.{AllRouted, AreLogged, AreSeated, LoggedPart, LoggedSink}
 use Rattle.ff_network.specs.declared.run.NodeFault.{NodeFault}
 use Rattle.ff_network.specs.Tables.{AreTables, NewLinks, HasNewSender, HasNewReceiver, link_of, links_in}
@@ -234,6 +234,14 @@ module _ {M : Type 0} (view : M → View) where
           cause = λ f some of. (let lt : f.node < length ran = there f some in let here : f.node < length ls = omega (arith, lt, count) in
               sym (ap (λ (ps : List Part). (tasks f.node).cause (map (solve ps) (ins_in ls f.node))) is ∙ ap (λ (ws : List ℕ). (tasks f.node).cause (map (solve (network tasks (ports_of view machines) edges (length machines))) ws)) (ins_are f.node here)) ∙ h.cause f some of);
         }
+
+    -- and what their sources have read
+    pub suffice_wired : (tasks : ℕ → Task) (ran : List M) (fault : Option NodeFault) → length ran ≡ length ls → ReadsSuffice view (parts_of view tasks (nodes_of ls)) (ins_in ls) (outs_in ls) ran fault
+        → ReadsSuffice view (network tasks (ports_of view machines) edges (length machines)) (ins_at (ports_of view machines) edges) (outs_at (ports_of view machines) edges) ran fault
+    suffice_wired tasks ran fault count h none k w lt sink wired =
+        let here : k < length ls = omega (arith, lt, count) in
+        subst (λ (ps : List Part). solve (read_parts view ran ps) w ≡ solve ps w) (up.network_is tasks)
+        (h none k w lt (outs_are k here ∙ sink) (subst (λ (ws : List ℕ). IsIn w ws) (sym (ins_are k here)) wired))
 
     -- and the logs of their passes
     pub logged_wired : (tasks : ℕ → Task) (ran : List M) (fault : Option NodeFault) (logs : List (List Logged)) → length ran ≡ length ls → AreLogged view tasks (solve (parts_of view tasks (nodes_of ls))) (ins_in ls) (outs_in ls) ran fault logs

@@ -1,5 +1,5 @@
 -- What a run of a network comes to, machine by machine.
-use Rattle.std.specs.Prelude.{◌≡◌, ◌≢◌, ℕ, ◌<◌, List, [], length, map, slice_index_or, Option, None, Some}
+use Rattle.std.specs.Prelude.{◌≡◌, ◌≢◌, ℕ, ◌<◌, List, [], ◌∷◌, length, map, slice_index_or, Option, None, Some}
 use Rattle.ff_frame.specs.Stream.{LiesBelow, opened}
 use Rattle.ff_frame.specs.Ports.{stream_at, IsWhole}
 use Rattle.ff_net.specs.declared.fault.Fault.{Fault}
@@ -8,7 +8,8 @@ use Rattle.ff_net.specs.declared.node.Node.{Node}
 use Rattle.ff_net.specs.Laws.{FaultStep, IsOfInputs}
 use Rattle.ff_net.specs.Nets.{Part, solve}
 use Rattle.ff_net.specs.Nodes.{IsSound, machine_of, in_wires_of, out_wires_of}
-use Rattle.ff_net.specs.Pasts.{Past, Task}
+use Rattle.ff_net.specs.Pasts.{Past, Task, IsIn}
+use Rattle.ff_net.specs.Serial.{tried_of}
 use Rattle.ff_net.specs.Views.{View}
 use Rattle.ff_net.specs.Ways.{Flow}
 use Rattle.ff_net_links.specs.declared.linked.Linked.{Linked}
@@ -70,3 +71,15 @@ pub record MeetsNetwork {M : Type 0} (view : M → View) (tasks : ℕ → Task) 
   pub settled : fault ≡ None → (k : ℕ) (e : M) → k < length machines → outs k ≡ [] → FedAll (view (slice_index_or machines k e)) (tasks k) (solve parts) (ins k)
   -- a fault of the inputs that is reported is the one that the node's task makes of the solution
   pub cause : (f : NodeFault) → fault ≡ Some f → IsOfInputs f.fault → (tasks f.node).cause (map (solve parts) (ins f.node)) ≡ Some f.fault
+
+-- these parts, each source only as far as the units that its machine has tried
+abbrev pub read_parts : {M : Type 0} → (M → View) → List M → List Part → List Part
+read_parts view [] parts = parts
+read_parts view (m ∷ ms) [] = []
+read_parts view (m ∷ ms) (p ∷ ps) = record p { means = λ ss. tried_of (view m) (p.means ss) } ∷ read_parts view ms ps
+
+-- Where no fault is reported, the units that the sources have tried are enough: at each machine without outputs the solution is
+-- already what comes of them alone
+abbrev pub ReadsSuffice : {M : Type 0} → (M → View) → List Part → (ins outs : ℕ → List ℕ) → List M → Option NodeFault → Type 0
+ReadsSuffice view parts ins outs machines fault =
+    fault ≡ None → (k w : ℕ) → k < length machines → outs k ≡ [] → IsIn w (ins k) → solve (read_parts view machines parts) w ≡ solve parts w

@@ -9,7 +9,8 @@ use Rattle.ff_sched.specs.declared.routes.Routes.{Routes}
 use Rattle.ff_sched.specs.Histories.{IsLegal, Rises, StandsIn, all_in, numbered, weigh}
 use Rattle.ff_sched.specs.Passing.{Passing, Scheduler}
 use Rattle.ff_sched.specs.State.{State}
-use Rattle.ff_net.specs.Logs.{GrantsFirst, PassStep, tickets_in, told_in}
+use Rattle.ff_net.specs.Laws.{reads_of}
+use Rattle.ff_net.specs.Logs.{AreTicketsOf, GrantsFirst, PassStep, tickets_in, told_in}
 use Rattle.ff_net.specs.Nodes.{pass_of}
 use Rattle.ff_net.specs.Pasts.{Past, Task}
 use Rattle.ff_net.specs.Views.{View}
@@ -45,8 +46,10 @@ abbrev pub logs_in : List Passing → List (List Logged)
 logs_in passes = map (λ p. p.log) passes
 
 -- What the log of a machine's pass says of its past. The grants are the tickets that it was allowed, and at most one more that its
--- node held; the other events were told by the machine, in this order, and stand behind the grants
-pub record IsLogOf (past : Past) (log : List Logged) : Type 0 where
+-- node held, each of the machine's own source; the other events were told by the machine, in this order, and stand behind the
+-- grants
+pub record IsLogOf (v : View) (past : Past) (log : List Logged) : Type 0 where
+  pub own : AreTicketsOf v.source (tickets_in log)
   pub allowed : IsPrefix past.allowed (tickets_in log)
   pub one_more : length (tickets_in log) ≤ length past.allowed + 1
   pub told : IsPrefix (told_in log) past.told
@@ -55,20 +58,20 @@ pub record IsLogOf (past : Past) (log : List Logged) : Type 0 where
 -- the machine was fed no more than is on these edges in the solution, but for a break, and its pass has this log
 pub record LoggedPart (v : View) (task : Task) (solution : ℕ → Flow) (edges : List ℕ) (log : List Logged) : Type 0 where
   pub fed : FedPart v task solution edges
-  pub logged : IsLogOf fed.past log
+  pub logged : IsLogOf v fed.past log
 
 -- its pass has this log, which has all events that are due by what the machine was fed
 pub record LoggedAll (v : View) (task : Task) (log : List Logged) : Type 0 where
   pub past : Past
   pub fits : v.stands past
   pub task_is : past.task ≡ task
-  pub logged : IsLogOf past log
+  pub logged : IsLogOf v past log
   pub all_told : told_in log ≡ task.tells past.feeds
 
 -- and the machine was fed the streams on these edges in the solution, to their ends
 pub record LoggedSink (v : View) (task : Task) (solution : ℕ → Flow) (edges : List ℕ) (log : List Logged) : Type 0 where
   pub fed : FedAll v task solution edges
-  pub logged : IsLogOf fed.past log
+  pub logged : IsLogOf v fed.past log
   pub all_told : told_in log ≡ task.tells fed.past.feeds
 
 -- what the logs of the machines' passes say of them, for these tasks
@@ -81,6 +84,14 @@ pub record AreLogged {M : Type 0} (view : M → View) (tasks : ℕ → Task) (so
       → LoggedAll (view (slice_index_or machines k e)) (tasks k) (slice_index_or logs k [])
   pub sinks : fault ≡ None → (k : ℕ) (e : M) → k < length machines → outs k ≡ []
       → LoggedSink (view (slice_index_or machines k e)) (tasks k) solution (ins k) (slice_index_or logs k [])
+
+-- What a machine with this past has read, in a history: a place for each unit that it tried, under a ticket of its own. At this
+-- place the history has a grant of the machine's source, and the places rise. A machine that is no source has read nothing
+pub record ReadsUnderGrants (v : View) (past : Past) (events : List Event) : Type 0 where
+  pub one_each : length (reads_of v past) ≡ v.tried
+  pub granted : (s i p : ℕ) → v.source ≡ Some s → slice_get (reads_of v past) i ≡ Some p → slice_get events p ≡ Some (Grant s)
+  pub in_order : (i p q : ℕ) → slice_get (reads_of v past) i ≡ Some p → slice_get (reads_of v past) (i + 1) ≡ Some q → p < q
+  pub only_sources : v.source ≡ None → reads_of v past ≡ []
 
 -- A history of a run and the logs of its machines, by number. `known` says of tasks that the machines were there for them, and
 -- `solution` what is on the edges in the solution of the network then
@@ -100,5 +111,8 @@ pub record Scheduled {M : Type 0} (view : M → View) (routes : Routes) (state :
       → slice_get events t.place ≡ Some (Grant t.source)
   pub in_order : (k i : ℕ) (t u : Ticket) → slice_get (tickets_in (slice_index_or logs k [])) i ≡ Some t
       → slice_get (tickets_in (slice_index_or logs k [])) (i + 1) ≡ Some u → t.place < u.place
+  -- so what can be behind a machine with such a log has read under grants of this history alone
+  pub reads : (k : ℕ) (e : M) (past : Past) → k < length machines → (view (slice_index_or machines k e)).stands past
+      → IsLogOf (view (slice_index_or machines k e)) past (slice_index_or logs k []) → ReadsUnderGrants (view (slice_index_or machines k e)) past events
   -- and the logs tell what each machine was allowed and has told
   pub logged : (tasks : ℕ → Task) → known tasks → AreLogged view tasks (solution tasks) ins outs machines fault logs

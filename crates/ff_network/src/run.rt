@@ -10,7 +10,7 @@ ghost use Rattle.ff_net_links.specs.Runs.{AllLawful, AllOf};
 ghost use Rattle.ff_net_links.specs.Settling.{AreLinked, nodes_of};
 ghost use Rattle.ff_network.specs.Fits.{ins_at, outs_at, network};
 ghost use Rattle.ff_network.specs.Networks.{Begins, Fits, AllStart, machines_in, ports_of};
-ghost use Rattle.ff_network.specs.Runs.{FirstFault, AllKept, TellsFault, MeetsNetwork, ins_in, outs_in};
+ghost use Rattle.ff_network.specs.Runs.{FirstFault, AllKept, TellsFault, MeetsNetwork, ReadsSuffice, ins_in, outs_in};
 ghost use Rattle.ff_network.specs.Scheduling.{AllPassed, AllRouted, AreLogged, Scheduled, logs_in};
 ghost use Rattle.ff_sched.specs.Passing.{IsHistory};
 ghost use Rattle.ff_sched.specs.Routes.{AreRoutes};
@@ -91,6 +91,8 @@ pub fn run_net<R: Threads + Wait + Sync, M: Machine + Send + Drop>(
     ensures room { IfOk result (λ ran. vec_len ran.passes < vec_capacity ran.passes) }
     ensures solved { IfOk result (λ ran. (tasks : ℕ → Task) (lanes : List Lane) → Begins M.view tasks lanes nodes.items → length lanes ≤ links
         → MeetsNetwork M.view tasks (parts_of M.view tasks (nodes_of nodes.items)) (ins_in nodes.items) (outs_in nodes.items) ran.machines.items ran.fault) }
+    ensures suffice { IfOk result (λ ran. (tasks : ℕ → Task) (lanes : List Lane) → Begins M.view tasks lanes nodes.items → length lanes ≤ links
+        → ReadsSuffice M.view (parts_of M.view tasks (nodes_of nodes.items)) (ins_in nodes.items) (outs_in nodes.items) ran.machines.items ran.fault) }
     ensures logged { IfOk result (λ ran. (tasks : ℕ → Task) (lanes : List Lane) → Begins M.view tasks lanes nodes.items → length lanes ≤ links
         → AreLogged M.view tasks (solve (parts_of M.view tasks (nodes_of nodes.items))) (ins_in nodes.items) (outs_in nodes.items)
         ran.machines.items ran.fault (logs_in ran.passes.items)) }
@@ -166,6 +168,9 @@ pub fn run_network<C: Claims, R: Threads + Wait + Sync, M: Machine + Send + Drop
     ensures fault { IfOk result (λ ran. TellsFault M.view ran.machines.items ran.fault) }
     ensures solved { IfOk result (λ ran. C.claims ≡ true → (tasks : ℕ → Task) → AllStart M.view tasks machines.items
         → MeetsNetwork M.view tasks (network tasks (ports_of M.view machines.items) edges.now (length machines.items)) (ins_at (ports_of M.view machines.items) edges.now) (outs_at (ports_of M.view machines.items) edges.now) ran.machines.items ran.fault) }
+    ensures suffice { IfOk result (λ ran. C.claims ≡ true → (tasks : ℕ → Task) → AllStart M.view tasks machines.items
+        → ReadsSuffice M.view (network tasks (ports_of M.view machines.items) edges.now (length machines.items))
+        (ins_at (ports_of M.view machines.items) edges.now) (outs_at (ports_of M.view machines.items) edges.now) ran.machines.items ran.fault) }
     ensures scheduled { IfOk result (λ ran. IfSome ran.history (λ history. Scheduled M.view routes state
         (λ tasks. (C.claims ≡ true) × AllStart M.view tasks machines.items)
         (λ tasks. solve (network tasks (ports_of M.view machines.items) edges.now (length machines.items)))

@@ -4,7 +4,7 @@ use Rattle.ff_net_links.specs.Rooms.{links_of}
 use Rattle.ff_net_links.specs.Settling.{nodes_of}
 use Rattle.ff_net_links.proofs.After.{ended_after, linked_after}
 use Rattle.ff_network.specs.Runs.{FirstFault}
-use Rattle.ff_network.proofs.Runs.{all_kept, all_passed, tells_fault, ran_meets, ran_logged}
+use Rattle.ff_network.proofs.Runs.{all_kept, all_passed, tells_fault, ran_meets, ran_logged, ran_suffice}
 use Rattle.ff_network.proofs.run.run_net.Goals as goal
 
 pub settle_all-ran-requires-clause-ended : goal.settle_all-ran-requires-clause-ended
@@ -37,6 +37,16 @@ returns-in-Ok-run_threads-clause-solved g c tasks lanes begin le =
     let first : FirstFault view (nodes_of done) fault = subst (λ (xs : List (Linked g.row.M.Denot)). FirstFault view (nodes_of xs) fault) c.deref.ensures.value c.first_fault-fault.ensures in
     let few : length lanes ≤ links_of c.in-Ok.room = subst (λ (n : ℕ). length lanes ≤ n) (sym c.in-Ok.ensures.links) le in
     ran_meets view c.args.nodes.items done c.in-Ok-run_threads.ensures.ok s.result.machines.items s.ensures.count s.ensures.machines tasks lanes begin (links_of c.in-Ok.room) s.ensures.solved few fault first
+
+pub returns-in-Ok-run_threads-clause-suffice : goal.returns-in-Ok-run_threads-clause-suffice
+returns-in-Ok-run_threads-clause-suffice g c tasks lanes begin le =
+    let view = g.M.Machine.view in
+    let done = c.in-Ok-run_threads.done.items in
+    let s = c.settle_all-ran in
+    let fault = c.first_fault-fault.result in
+    let first : FirstFault view (nodes_of done) fault = subst (λ (xs : List (Linked g.row.M.Denot)). FirstFault view (nodes_of xs) fault) c.deref.ensures.value c.first_fault-fault.ensures in
+    let few : length lanes ≤ links_of c.in-Ok.room = subst (λ (n : ℕ). length lanes ≤ n) (sym c.in-Ok.ensures.links) le in
+    ran_suffice view c.args.nodes.items done c.in-Ok-run_threads.ensures.ok s.result.machines.items s.ensures.count s.ensures.machines tasks lanes begin (links_of c.in-Ok.room) s.ensures.solved few fault first
 
 pub returns-in-Ok-run_threads-clause-passes : goal.returns-in-Ok-run_threads-clause-passes
 returns-in-Ok-run_threads-clause-passes g c =
