@@ -5,6 +5,9 @@ pub mod NewNodes
 pub mod Joining
 pub mod WiredUp
 pub mod Runs
+pub mod Entries
+pub mod Grants
 pub mod Reading
+pub mod Telling
 pub mod Scheduling
 pub mod PortLanes

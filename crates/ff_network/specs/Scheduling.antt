@@ -1,5 +1,5 @@
 -- What the scheduler and a run of a network come to: the one history of what happened, and what each machine did in it.
-use Rattle.std.specs.Prelude.{◌≡◌, ℕ, ◌+◌, ◌-◌, ◌*◌, ◌^◌, ◌<◌, ◌≤◌, All, List, [], length, map, slice_get, slice_index_or, Option, None, Some}
+use Rattle.std.specs.Prelude.{◌≡◌, ◌≢◌, ℕ, ◌+◌, ◌-◌, ◌*◌, ◌^◌, ◌<◌, ◌≤◌, Bool, true, false, All, List, [], filter, length, map, slice_get, slice_index_or, Option, None, Some}
 use mathlib.Core.List.{IsPrefix}
 use Rattle.ff_values.specs.declared.event.Event.{Event}
 use Rattle.ff_values.specs.declared.event.Event.TheVariants.{Grant}
@@ -12,7 +12,7 @@ use Rattle.ff_sched.specs.State.{State}
 use Rattle.ff_net.specs.Laws.{reads_of}
 use Rattle.ff_net.specs.Logs.{AreTicketsOf, GrantsFirst, PassStep, tickets_in, told_in}
 use Rattle.ff_net.specs.Nodes.{pass_of}
-use Rattle.ff_net.specs.Pasts.{Past, Task}
+use Rattle.ff_net.specs.Pasts.{Feed, Past, Task}
 use Rattle.ff_net.specs.Views.{View}
 use Rattle.ff_net.specs.Ways.{Flow}
 use Rattle.ff_net_links.specs.declared.linked.Linked.{Linked}
@@ -93,6 +93,21 @@ pub record ReadsUnderGrants (v : View) (past : Past) (events : List Event) : Typ
   pub in_order : (i p q : ℕ) → slice_get (reads_of v past) i ≡ Some p → slice_get (reads_of v past) (i + 1) ≡ Some q → p < q
   pub only_sources : v.source ≡ None → reads_of v past ≡ []
 
+-- among so many machines with these tasks only one has events of this kind to tell, and no grant is of it
+pub record TellsAlone (tasks : ℕ → Task) (count k : ℕ) (kind : Event → Bool) : Type 0 where
+  pub no_grant : (s : ℕ) → kind (Grant s) ≡ false
+  pub no_other : (j : ℕ) (feeds : List Feed) → j < count → j ≢ k → filter kind ((tasks j).tells feeds) ≡ []
+
+-- The events of this kind in a history are those that a machine with this log has told, in its order, and each stands behind
+-- every grant of the log
+pub record AreToldBy (kind : Event → Bool) (events : List Event) (log : List Logged) : Type 0 where
+  pub same : filter kind events ≡ filter kind (told_in log)
+  pub behind_grants : (p i : ℕ) (e : Event) (t : Ticket) → slice_get events p ≡ Some e → kind e ≡ true → slice_get (tickets_in log) i ≡ Some t → t.place < p
+
+-- of these machines only that with this number can be this source
+abbrev pub IsOnlySource : {M : Type 0} → (M → View) → List M → ℕ → ℕ → Type 0
+IsOnlySource {M} view machines k s = (j : ℕ) (e : M) → j < length machines → (view (slice_index_or machines j e)).source ≡ Some s → j ≡ k
+
 -- A history of a run and the logs of its machines, by number. `known` says of tasks that the machines were there for them, and
 -- `solution` what is on the edges in the solution of the network then
 pub record Scheduled {M : Type 0} (view : M → View) (routes : Routes) (state : State) (known : (ℕ → Task) → Type 0)
@@ -116,3 +131,9 @@ pub record Scheduled {M : Type 0} (view : M → View) (routes : Routes) (state :
       → IsLogOf (view (slice_index_or machines k e)) past (slice_index_or logs k []) → ReadsUnderGrants (view (slice_index_or machines k e)) past events
   -- and the logs tell what each machine was allowed and has told
   pub logged : (tasks : ℕ → Task) → known tasks → AreLogged view tasks (solution tasks) ins outs machines fault logs
+  -- events that only one machine has to tell stand as it told them, behind its grants
+  pub told : (tasks : ℕ → Task) → known tasks → (k : ℕ) (kind : Event → Bool) → k < length machines → TellsAlone tasks (length machines) k kind
+      → AreToldBy kind events (slice_index_or logs k [])
+  -- and each grant of a source that only one machine is was granted to it
+  pub own : (tasks : ℕ → Task) → known tasks → (k s p : ℕ) → k < length machines → IsOnlySource view machines k s → slice_get events p ≡ Some (Grant s)
+      → (i : ℕ) × (slice_get (tickets_in (slice_index_or logs k [])) i ≡ Some (record { source = s; place = p }))
