@@ -1,5 +1,6 @@
 -- The entries of logs: where they stand, and in which order.
-use Rattle.std.proofs.Common.{◌≡◌, ℕ, zero, suc, ◌+◌, ◌<◌, ◌⊎◌, inl, inr, Bool, true, false, cond, filter, nat_eq, All, List, [], ◌∷◌, ◌++◌, length, slice_get, slice_index_or, Some, refl, sym, ap, ◌∙◌, subst, arith}
+use Rattle.std.proofs.Common.{◌≡◌, ℕ, zero, suc, ◌+◌, ◌<◌, ◌⊎◌, inl, inr, Bool, true, false, cond, filter, nat_eq, All, List, [], ◌∷◌, ◌++◌, length, slice_get}
+use Rattle.std.proofs.Common.{slice_index_or, Some, refl, sym, ap, ◌∙◌, subst, arith}
 use borrow.Author.Tests.{eqb-true, eqb-false}
 use mathlib.Core.List.{IsPrefix}
 use Rattle.std.proofs.lemmas.List.Elements.{All-head, All-tail, filter-append}
@@ -41,7 +42,8 @@ of_entry P [] x all i = absurd i
 of_entry P (l ∷ ls) x all i = elim (i) [ inl e ↦ subst P e (All-head P l ls all) | inr more ↦ of_entry P ls x (All-tail P l ls all) more ]
 
 -- each event of a history is an entry of a log, where however entries are weighed all logs weigh what the history weighs
-pub event_entry : (events : List Event) (logs : List (List Logged)) → ((k : ℕ) → All (StandsIn events) (slice_index_or logs k [])) → ((h : Logged → ℕ) → weigh h (all_in logs) ≡ weigh h (numbered 0 events))
+pub event_entry : (events : List Event) (logs : List (List Logged)) → ((k : ℕ) → All (StandsIn events) (slice_index_or logs k []))
+    → ((h : Logged → ℕ) → weigh h (all_in logs) ≡ weigh h (numbered 0 events))
     → (p : ℕ) (e : Event) → slice_get events p ≡ Some e → (k : ℕ) × (k < length logs) × IsEntryOf (logged p e) (slice_index_or logs k [])
 event_entry events logs stand once p e at =
     let some = hits 0 events p (omega arith) (let lt = there events p e at in omega (arith, lt)) in
@@ -108,12 +110,14 @@ module _ (kind : Event → Bool) (no_grant : (s : ℕ) → kind (Grant s) ≡ fa
   no_entry_of [] x i is none = i
   no_entry_of (l ∷ ls) x i is none = elim (i) [
     | inl e ↦ (let here : kind l.event ≡ true = ap (λ (y : Logged). kind y.event) e ∙ is in
-        let some : l.event ∷ filter kind (events_in ls) ≡ [] = sym (ap (λ (b : Bool). cond b (l.event ∷ filter kind (events_in ls)) (filter kind (events_in ls))) here) ∙ none in cc (some))
+        let some : l.event ∷ filter kind (events_in ls) ≡ [] = sym (ap (λ (b : Bool). cond b (l.event ∷ filter kind (events_in ls))
+        (filter kind (events_in ls))) here) ∙ none in cc (some))
     | inr more ↦ no_entry_of ls x more is (drop (kind l.event) refl)
   ]
     where
       drop : (b : Bool) → kind l.event ≡ b → filter kind (events_in ls) ≡ []
-      drop true e = absurd (let some : l.event ∷ filter kind (events_in ls) ≡ [] = sym (ap (λ (b : Bool). cond b (l.event ∷ filter kind (events_in ls)) (filter kind (events_in ls))) e) ∙ none in cc (some))
+      drop true e = absurd (let some : l.event ∷ filter kind (events_in ls) ≡ [] = sym
+          (ap (λ (b : Bool). cond b (l.event ∷ filter kind (events_in ls)) (filter kind (events_in ls))) e) ∙ none in cc (some))
       drop false e = sym (ap (λ (b : Bool). cond b (l.event ∷ filter kind (events_in ls)) (filter kind (events_in ls))) e) ∙ none
 
   -- an entry of the kind stands behind the grants
@@ -135,7 +139,8 @@ in_second : (xs ys : List Logged) (x : Logged) → IsEntryOf x ys → IsEntryOf 
 in_second [] ys x i = i
 in_second (l ∷ ls) ys x i = inr (in_second ls ys x i)
 
-after_grant : (n : ℕ) (grants tellings : List Logged) (x : Logged) (t : Ticket) → Rises n (grants ++ tellings) → HasGrant grants t → IsEntryOf x tellings → t.place < x.place
+after_grant : (n : ℕ) (grants tellings : List Logged) (x : Logged) (t : Ticket) → Rises n (grants ++ tellings) → HasGrant grants t → IsEntryOf x tellings
+    → t.place < x.place
 after_grant n [] tellings x t r (k, lt, is) i = absurd (omega (arith, lt))
 after_grant n (g ∷ gs) tellings x t r (zero, lt, is) i =
     let f = entry_index (gs ++ tellings) x (in_second gs tellings x i) in
@@ -145,11 +150,13 @@ after_grant n (g ∷ gs) tellings x t r (zero, lt, is) i =
     omega (arith, above, mine, other)
 after_grant n (g ∷ gs) tellings x t r (suc k, lt, is) i = after_grant n gs tellings x t (rises_tail n g (gs ++ tellings) r) (k, omega (arith, lt), is) i
 
-pub behind_grants : (n : ℕ) (log : List Logged) (kind : Event → Bool) → ((s : ℕ) → kind (Grant s) ≡ false) → GrantsFirst log → Rises n log → (x : Logged) (i : ℕ) (t : Ticket) → IsEntryOf x log → kind x.event ≡ true → slice_get (tickets_in log) i ≡ Some t → t.place < x.place
+pub behind_grants : (n : ℕ) (log : List Logged) (kind : Event → Bool) → ((s : ℕ) → kind (Grant s) ≡ false) → GrantsFirst log → Rises n log
+    → (x : Logged) (i : ℕ) (t : Ticket) → IsEntryOf x log → kind x.event ≡ true → slice_get (tickets_in log) i ≡ Some t → t.place < x.place
 behind_grants n log kind no_grant first rise x i t entry is at =
     let grants = first.grants in
     let tellings = first.tellings in
-    let all : tickets_in log ≡ tickets_in grants ++ [] = ap tickets_in first.all ∙ (tickets_append grants tellings ∙ ap (λ (ts : List Ticket). tickets_in grants ++ ts) first.no_grants) in
+    let all : tickets_in log ≡ tickets_in grants ++ [] = ap tickets_in first.all
+    ∙ (tickets_append grants tellings ∙ ap (λ (ts : List Ticket). tickets_in grants ++ ts) first.no_grants) in
     let here : slice_get (tickets_in grants) i ≡ Some t = ap (λ (ts : List Ticket). slice_get ts i) (sym (all ∙ nothing_more (tickets_in grants))) ∙ at in
     after_grant n grants tellings x t (subst (Rises n) first.all rise) (ticket_entry grants i t here)
     (in_tellings kind no_grant grants tellings x first.only_grants (subst (IsEntryOf x) first.all entry) is)

@@ -14,7 +14,8 @@ HasGrant log t = (k : ℕ) × (k < length log) × ((d : Logged) → slice_index_
 one_more : (l : Logged) (ls : List Logged) (t : Ticket) → HasGrant ls t → HasGrant (l ∷ ls) t
 one_more l ls t h = (suc h.0, (let lt : h.0 < length ls = h.1 in omega (arith, lt)), h.2)
 
-one_entry : (l : Logged) (v : Event) (ls : List Logged) (t : Ticket) → l.event ≡ v → ((j : ℕ) → slice_get (tickets_in ls) j ≡ Some t → HasGrant ls t) → (i : ℕ) → slice_get (ticket_of v l.place ++ tickets_in ls) i ≡ Some t → HasGrant (l ∷ ls) t
+one_entry : (l : Logged) (v : Event) (ls : List Logged) (t : Ticket) → l.event ≡ v → ((j : ℕ) → slice_get (tickets_in ls) j ≡ Some t → HasGrant ls t) → (i : ℕ)
+    → slice_get (ticket_of v l.place ++ tickets_in ls) i ≡ Some t → HasGrant (l ∷ ls) t
 one_entry l (Grant s) ls t is rest zero e =
     let u : Ticket = record { source = s; place = l.place } in
     let same : u ≡ t = cc (e) in
@@ -34,7 +35,8 @@ ticket_entry [] i t e = absurd (no_ticket i t e)
 ticket_entry (l ∷ ls) i t e = one_entry l l.event ls t refl (λ j f. ticket_entry ls j t f) i e
 
 -- so it stands in the history
-pub grant_stands : (events : List Event) (log : List Logged) → All (StandsIn events) log → (i : ℕ) (t : Ticket) → slice_get (tickets_in log) i ≡ Some t → slice_get events t.place ≡ Some (Grant t.source)
+pub grant_stands : (events : List Event) (log : List Logged) → All (StandsIn events) log → (i : ℕ) (t : Ticket) → slice_get (tickets_in log) i ≡ Some t
+    → slice_get events t.place ≡ Some (Grant t.source)
 grant_stands events log all i t e =
     let h = ticket_entry log i t e in
     let d : Logged = logged t.place (Grant t.source) in
@@ -71,10 +73,12 @@ one_rise l (Best g j) ls t u above rest i e f = rest i e f
 one_rise l (Exited s) ls t u above rest i e f = rest i e f
 
 -- the places of its tickets rise
-pub tickets_rise : (n : ℕ) (log : List Logged) → Rises n log → (i : ℕ) (t u : Ticket) → slice_get (tickets_in log) i ≡ Some t → slice_get (tickets_in log) (i + 1) ≡ Some u → t.place < u.place
+pub tickets_rise : (n : ℕ) (log : List Logged) → Rises n log → (i : ℕ) (t u : Ticket) → slice_get (tickets_in log) i ≡ Some t
+    → slice_get (tickets_in log) (i + 1) ≡ Some u → t.place < u.place
 tickets_rise n [] r i t u e f = absurd (no_ticket i t e)
 tickets_rise n (l ∷ ls) r i t u e f =
     one_rise l l.event ls t u
-    (λ j w g. let h = ticket_entry ls j w g in let d : Logged = logged w.place (Grant w.source) in subst (λ (x : Logged). l.place < x.place) (h.2 d) (above_first n l ls r h.0 d h.1))
+    (λ j w g. let h = ticket_entry ls j w g in let d : Logged = logged w.place (Grant w.source) in subst (λ (x : Logged). l.place < x.place) (h.2 d)
+    (above_first n l ls r h.0 d h.1))
     (λ j g h. tickets_rise n ls (rises_tail n l ls r) j t u g h)
     i e f

@@ -1,5 +1,6 @@
 -- What machines on links come to.
-use Rattle.std.proofs.Common.{◌≡◌, ◌≢◌, ℕ, zero, suc, ◌<◌, ◌≤◌, inl, inr, true, false, length-append, List, [], ◌∷◌, length, map, slice_index_or, Option, None, Some, refl, ap, sym, ◌∙◌, subst, arith}
+use Rattle.std.proofs.Common.{◌≡◌, ◌≢◌, ℕ, zero, suc, ◌<◌, ◌≤◌, inl, inr, true, false, length-append, List, [], ◌∷◌, length, map, slice_index_or, Option, None, Some}
+use Rattle.std.proofs.Common.{refl, ap, sym, ◌∙◌, subst, arith}
 use Rattle.std.proofs.lemmas.List.{length-map}
 use Rattle.ff_frame.specs.declared.item.Lane.{Lane}
 use Rattle.ff_frame.specs.Stream.{LiesBelow, opened}
@@ -128,7 +129,8 @@ module _ {M : Type 0} (view : M → View) where
       ∙ ap (λ (ps : List Part). part_of view (tasks zero) (node_of o) ∷ ps) (parts_after (λ k. tasks (suc k)) os ns (run_rest o n os ns r))
 
   -- the parts of the nodes as far as their sources have read, by their machines
-  read_are : (tasks : ℕ → Task) (ls : List (Linked M)) (ms : List M) → length ms ≡ length ls → ((k : ℕ) (d : Linked M) (e : M) → k < length ls → slice_index_or ms k e ≡ machine_of (node_at ls k d))
+  read_are : (tasks : ℕ → Task) (ls : List (Linked M)) (ms : List M) → length ms ≡ length ls
+      → ((k : ℕ) (d : Linked M) (e : M) → k < length ls → slice_index_or ms k e ≡ machine_of (node_at ls k d))
       → granted_parts_of view tasks (nodes_of ls) ≡ read_parts view ms (parts tasks ls)
   read_are tasks [] [] same are = refl
   read_are tasks [] (m ∷ ms) same are = absurd (omega (arith, same))
@@ -137,7 +139,8 @@ module _ {M : Type 0} (view : M → View) where
       let part : Part = part_of view (tasks zero) (node_of l) in
       let here : m ≡ machine_of (node_of l) = are zero l m (omega arith) in
       ap (λ (x : M). record part { means = λ ss. tried_of (view x) (part.means ss) } ∷ granted_parts_of view (λ k. tasks (suc k)) (nodes_of ls)) (sym here)
-      ∙ ap (λ (ps : List Part). record part { means = λ ss. tried_of (view m) (part.means ss) } ∷ ps) (read_are (λ k. tasks (suc k)) ls ms (omega (arith, same)) (λ k d e lt. are (suc k) d e (omega (arith, lt))))
+      ∙ ap (λ (ps : List Part). record part { means = λ ss. tried_of (view m) (part.means ss) } ∷ ps)
+      (read_are (λ k. tasks (suc k)) ls ms (omega (arith, same)) (λ k d e lt. are (suc k) d e (omega (arith, lt))))
 
   -- what settling the links shows
   abbrev pub SolvedClause : ℕ → List (Linked M) → Type 0
@@ -273,15 +276,19 @@ module _ {M : Type 0} (view : M → View) where
               whole = λ p plt. subst IsWhole (on p) (t.whole p (omega (arith, plt, count)));
             }
 
-        ran_reads : FirstFault view (nodes_of news) None → (k w : ℕ) (d : Linked M) → k < length olds → outs_in olds k ≡ [] → IsIn w (ins_in olds k) → solve (read_parts view machines (parts tasks olds)) w ≡ solve (parts tasks olds) w
+        ran_reads : FirstFault view (nodes_of news) None → (k w : ℕ) (d : Linked M) → k < length olds → outs_in olds k ≡ [] → IsIn w (ins_in olds k)
+            → solve (read_parts view machines (parts tasks olds)) w ≡ solve (parts tasks olds) w
         ran_reads none k w d lt sink wired =
             let n : Node M = node_at news k d in
             let is = now_at k d n lt in
             let done : IsDone (slice_index_or (nodes_of news) k n) = subst (λ (m : Node M). IsDone m) (sym is) (ran.1 k d lt).1.node in
             let no_out : outputs_of n ≡ 0 = sym (length-map n.outs.items (λ (x : OutPort). x.wire)) ∙ ap length (outs_now k d lt ∙ sink) in
-            let here_in : IsIn w (in_wires_of (slice_index_or (nodes_of news) k n)) = subst (λ (m : Node M). IsIn w (in_wires_of m)) (sym is) (subst (λ (ws : List ℕ). IsIn w ws) (sym (ins_now k d lt)) wired) in
-            let found : solve (granted_parts_of view tasks (nodes_of news)) w ≡ solve (parts tasks news) w = meets.granted none k n (here k lt) done (ap (λ (m : Node M). outputs_of m) is ∙ no_out) w here_in in
-            ap (λ (ps : List Part). solve (read_parts view machines ps) w) (sym same) ∙ (ap (λ (ps : List Part). solve ps w) (sym (read_are tasks news machines same_count are)) ∙ (found ∙ ap (λ (ps : List Part). solve ps w) same))
+            let here_in : IsIn w (in_wires_of (slice_index_or (nodes_of news) k n)) = subst (λ (m : Node M). IsIn w (in_wires_of m)) (sym is)
+            (subst (λ (ws : List ℕ). IsIn w ws) (sym (ins_now k d lt)) wired) in
+            let found : solve (granted_parts_of view tasks (nodes_of news)) w ≡ solve (parts tasks news) w = meets.granted none k n (here k lt) done
+            (ap (λ (m : Node M). outputs_of m) is ∙ no_out) w here_in in
+            ap (λ (ps : List Part). solve (read_parts view machines ps) w) (sym same)
+            ∙ (ap (λ (ps : List Part). solve ps w) (sym (read_are tasks news machines same_count are)) ∙ (found ∙ ap (λ (ps : List Part). solve ps w) same))
 
         ran_cause : (f : NodeFault) → FirstFault view (nodes_of news) (Some f) → IsOfInputs f.fault → (tasks f.node).cause (map (solve (parts tasks olds)) (ins_in olds f.node)) ≡ Some f.fault
         ran_cause f first of =
@@ -302,10 +309,13 @@ module _ {M : Type 0} (view : M → View) where
             cause = λ f some of. ran_cause z.0 z.1 z.2 f (subst (λ (g : Option NodeFault). FirstFault view (nodes_of news) g) some first) of;
           }
 
-      pub ran_suffice : (most : ℕ) → SolvedClause most news → length lanes ≤ most → (fault : Option NodeFault) → FirstFault view (nodes_of news) fault → ReadsSuffice view (parts tasks olds) (ins_in olds) (outs_in olds) machines fault
+      pub ran_suffice : (most : ℕ) → SolvedClause most news → length lanes ≤ most → (fault : Option NodeFault) → FirstFault view (nodes_of news) fault
+          → ReadsSuffice view (parts tasks olds) (ins_in olds) (outs_in olds) machines fault
       ran_suffice most solved le fault first none k w lt sink wired =
-          let z = solved tasks lanes (nodes_of olds) (behind_after view tasks olds news begin.behind ran) (meeting_after view lanes olds news begin.joined ran) le upward all_fare in
-          let o = back_to k lt in ran_reads z.0 z.1 z.2 (subst (λ (g : Option NodeFault). FirstFault view (nodes_of news) g) none first) k w (some_one olds k o) o sink wired
+          let z = solved tasks lanes (nodes_of olds) (behind_after view tasks olds news begin.behind ran)
+          (meeting_after view lanes olds news begin.joined ran) le upward all_fare in
+          let o = back_to k lt in ran_reads z.0 z.1 z.2 (subst (λ (g : Option NodeFault). FirstFault view (nodes_of news) g) none first) k w
+          (some_one olds k o) o sink wired
 
       -- what the logs of the passes say
       module _ (world : ℕ → Wire) (moment : Moment view tasks (nodes_of news) lanes world) (meets : MeetsSolution view tasks (nodes_of olds) (nodes_of news) world) where

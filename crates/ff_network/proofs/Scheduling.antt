@@ -1,5 +1,6 @@
 -- The history of a run, from the logs of its passes.
-use Rattle.std.proofs.Common.{◌≡◌, ℕ, zero, suc, ◌+◌, ◌-◌, ◌*◌, ◌^◌, ◌<◌, ◌≤◌, ◌⊎◌, inl, inr, All, List, [], ◌∷◌, ◌++◌, length, slice_get, slice_index_or, sum_by, Option, None, Some, IfSome, refl, sym, ap, ◌∙◌, subst, arith, append-nil, length-append}
+use Rattle.std.proofs.Common.{◌≡◌, ℕ, zero, suc, ◌+◌, ◌-◌, ◌*◌, ◌^◌, ◌<◌, ◌≤◌, ◌⊎◌, inl, inr, All, List, [], ◌∷◌, ◌++◌, length, slice_get, slice_index_or, sum_by}
+use Rattle.std.proofs.Common.{Option, None, Some, IfSome, refl, sym, ap, ◌∙◌, subst, arith, append-nil, length-append}
 use Rattle.std.proofs.lemmas.List.{length-map}
 use Rattle.std.proofs.lemmas.List.Sums.{sum_by-append, sum_by-cons}
 use Rattle.ff_values.specs.declared.event.Event.{Event}
@@ -105,9 +106,11 @@ module _ {M : Type 0} (cell : Scheduler) (nodes : List (Linked M)) (rest : Passi
     scheduled laws same_routes same_state count h logged_all =
         let stand : (k : ℕ) → All (StandsIn events) (slice_index_or (logs_in passes) k []) = by_number (All (StandsIn events)) passes rest (λ i d lt. absurd (omega (arith, lt))) h.stand in
         let rise : (k : ℕ) → Rises (length events) (slice_index_or (logs_in passes) k []) =
-        by_number (Rises (length events)) passes rest (record { below = λ i d lt. absurd (omega (arith, lt)); in_order = λ i x y a b. absurd (no_entry i x a) }) (λ k d lt. rises_more _ _ _ (within events _ (h.seen k d lt)) (h.in_order k d lt)) in
+        by_number (Rises (length events)) passes rest (record { below = λ i d lt. absurd (omega (arith, lt)); in_order = λ i x y a b. absurd (no_entry i x a) })
+        (λ k d lt. rises_more _ _ _ (within events _ (h.seen k d lt)) (h.in_order k d lt)) in
         let tickets : ℕ → List Ticket = λ k. tickets_in (slice_index_or (logs_in passes) k []) in
-        let granted : (k i : ℕ) (t : Ticket) → slice_get (tickets k) i ≡ Some t → slice_get events t.place ≡ Some (Grant t.source) = λ k i t e. grant_stands events (slice_index_or (logs_in passes) k []) (stand k) i t e in
+        let granted : (k i : ℕ) (t : Ticket) → slice_get (tickets k) i ≡ Some t
+        → slice_get events t.place ≡ Some (Grant t.source) = λ k i t e. grant_stands events (slice_index_or (logs_in passes) k []) (stand k) i t e in
         let ordered : (k i : ℕ) (t u : Ticket) → slice_get (tickets k) i ≡ Some t → slice_get (tickets k) (i + 1) ≡ Some u → t.place < u.place =
         λ k i t u e f. tickets_rise (length events) (slice_index_or (logs_in passes) k []) (rise k) i t u e f in
         let once : (w : Logged → ℕ) → weigh w (all_in (logs_in passes)) ≡ weigh w (numbered 0 events) = λ w. sym (ap (weigh w) all) ∙ h.once w in
@@ -121,13 +124,17 @@ module _ {M : Type 0} (cell : Scheduler) (nodes : List (Linked M)) (rest : Passi
           once = once;
           granted = granted;
           in_order = ordered;
-          reads = λ k e past lt stood l. reads_under (view (slice_index_or machines k e)) past (slice_index_or (logs_in passes) k []) l events ((laws (slice_index_or machines k e)).tried_allowed past stood) (granted k) (ordered k);
+          reads = λ k e past lt stood l. reads_under (view (slice_index_or machines k e)) past (slice_index_or (logs_in passes) k []) l events
+              ((laws (slice_index_or machines k e)).tried_allowed past stood) (granted k) (ordered k);
           logged = logged_all;
           told = λ tasks κ k kind lt alone. (let here : k < length passes = (let n = passed.count in omega (arith, lt, count, n)) in record {
-            same = told_same view laws tasks (solution tasks) ins outs machines fault (logs_in passes) (logged_all tasks κ) many cell events (passes ++ rest ∷ []) (slice_index_or passes k rest) h k kind alone (pass_of_list passes rest rest k here) all (log_there k here);
-            behind_grants = told_behind view laws tasks (solution tasks) ins outs machines fault (logs_in passes) (logged_all tasks κ) many events found k kind lt alone (rise k);
+            same = told_same view laws tasks (solution tasks) ins outs machines fault (logs_in passes) (logged_all tasks κ) many cell events (passes ++ rest ∷ [])
+                (slice_index_or passes k rest) h k kind alone (pass_of_list passes rest rest k here) all (log_there k here);
+            behind_grants = told_behind view laws tasks (solution tasks) ins outs machines fault (logs_in passes)
+                (logged_all tasks κ) many events found k kind lt alone (rise k);
           });
-          own = λ tasks κ k s p lt only at. its_grants view laws tasks (solution tasks) ins outs machines fault (logs_in passes) (logged_all tasks κ) many events found k s p only at;
+          own = λ tasks κ k s p lt only at. its_grants view laws tasks (solution tasks) ins outs machines fault (logs_in passes)
+              (logged_all tasks κ) many events found k s p only at;
         }
       where
         all : all_in (logs_of (passes ++ rest ∷ [])) ≡ all_in (logs_in passes)

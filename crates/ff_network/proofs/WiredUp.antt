@@ -236,8 +236,10 @@ module _ {M : Type 0} (view : M → View) where
         }
 
     -- and what their sources have read
-    pub suffice_wired : (tasks : ℕ → Task) (ran : List M) (fault : Option NodeFault) → length ran ≡ length ls → ReadsSuffice view (parts_of view tasks (nodes_of ls)) (ins_in ls) (outs_in ls) ran fault
-        → ReadsSuffice view (network tasks (ports_of view machines) edges (length machines)) (ins_at (ports_of view machines) edges) (outs_at (ports_of view machines) edges) ran fault
+    pub suffice_wired : (tasks : ℕ → Task) (ran : List M) (fault : Option NodeFault) → length ran ≡ length ls
+        → ReadsSuffice view (parts_of view tasks (nodes_of ls)) (ins_in ls) (outs_in ls) ran fault
+        → ReadsSuffice view (network tasks (ports_of view machines) edges (length machines)) (ins_at (ports_of view machines) edges)
+        (outs_at (ports_of view machines) edges) ran fault
     suffice_wired tasks ran fault count h none k w lt sink wired =
         let here : k < length ls = omega (arith, lt, count) in
         subst (λ (ps : List Part). solve (read_parts view ran ps) w ≡ solve ps w) (up.network_is tasks)

@@ -1,5 +1,6 @@
 -- What the scheduler and a run of a network come to: the one history of what happened, and what each machine did in it.
-use Rattle.std.specs.Prelude.{◌≡◌, ◌≢◌, ℕ, ◌+◌, ◌-◌, ◌*◌, ◌^◌, ◌<◌, ◌≤◌, Bool, true, false, All, List, [], filter, length, map, slice_get, slice_index_or, Option, None, Some}
+use Rattle.std.specs.Prelude.{◌≡◌, ◌≢◌, ℕ, ◌+◌, ◌-◌, ◌*◌, ◌^◌, ◌<◌, ◌≤◌, Bool, true, false, All, List, [], filter, length, map, slice_get, slice_index_or, Option}
+use Rattle.std.specs.Prelude.{None, Some}
 use mathlib.Core.List.{IsPrefix}
 use Rattle.ff_values.specs.declared.event.Event.{Event}
 use Rattle.ff_values.specs.declared.event.Event.TheVariants.{Grant}

@@ -44,9 +44,11 @@ returns-in-Ok-run_threads-clause-suffice g c tasks lanes begin le =
     let done = c.in-Ok-run_threads.done.items in
     let s = c.settle_all-ran in
     let fault = c.first_fault-fault.result in
-    let first : FirstFault view (nodes_of done) fault = subst (λ (xs : List (Linked g.row.M.Denot)). FirstFault view (nodes_of xs) fault) c.deref.ensures.value c.first_fault-fault.ensures in
+    let first : FirstFault view (nodes_of done) fault = subst (λ (xs : List (Linked g.row.M.Denot)). FirstFault view
+    (nodes_of xs) fault) c.deref.ensures.value c.first_fault-fault.ensures in
     let few : length lanes ≤ links_of c.in-Ok.room = subst (λ (n : ℕ). length lanes ≤ n) (sym c.in-Ok.ensures.links) le in
-    ran_suffice view c.args.nodes.items done c.in-Ok-run_threads.ensures.ok s.result.machines.items s.ensures.count s.ensures.machines tasks lanes begin (links_of c.in-Ok.room) s.ensures.solved few fault first
+    ran_suffice view c.args.nodes.items done c.in-Ok-run_threads.ensures.ok s.result.machines.items s.ensures.count s.ensures.machines tasks lanes begin
+    (links_of c.in-Ok.room) s.ensures.solved few fault first
 
 pub returns-in-Ok-run_threads-clause-passes : goal.returns-in-Ok-run_threads-clause-passes
 returns-in-Ok-run_threads-clause-passes g c =

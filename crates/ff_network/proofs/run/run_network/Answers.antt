@@ -75,8 +75,10 @@ returns-in-Ok-run_net-clause-suffice g c vouched tasks all =
     let net = network tasks (ports_of view machines) edges (length machines) in
     let ins = ins_at (ports_of view machines) edges in
     let outs = outs_at (ports_of view machines) edges in
-    let few : length (edge_lanes edges) ≤ length edges = (let same : length (edge_lanes edges) ≡ length edges = length-map edges (λ (e : Edge). e.lane) in omega (arith, same)) in
-    let count : length ended.machines.items ≡ length nodes = c.in-Ok-run_net.ensures.kept.count ∙ length-map nodes (λ (l : Linked g.row.M.Denot). machine_of (node_of l)) in
+    let few : length (edge_lanes edges) ≤ length edges = (let same : length (edge_lanes edges) ≡ length edges = length-map edges (λ (e : Edge). e.lane) in omega
+    (arith, same)) in
+    let count : length ended.machines.items ≡ length nodes = c.in-Ok-run_net.ensures.kept.count
+    ∙ length-map nodes (λ (l : Linked g.row.M.Denot). machine_of (node_of l)) in
     subst (λ (ms : Vec g.row.M.Denot Global). ReadsSuffice view net ins outs ms.items c.closed.result.fault) (sym c.closed.ensures.machines)
     (subst (λ (f : Option NodeFault). ReadsSuffice view net ins outs ended.machines.items f) (sym c.closed.ensures.fault)
     (suffice_wired view g.C.Claims.claims c.args.size edges machines nodes up tasks ended.machines.items ended.fault count
@@ -101,6 +103,8 @@ returns-in-Ok-run_net-clause-scheduled g c =
     (subst (λ (f : Option NodeFault). IfSome c.closed.result.history (λ events. Scheduled view c.args.routes c.args.state known (λ tasks. solve (network tasks ports edges (length machines))) (ins_at ports edges) (outs_at ports edges) ended.machines.items f events)) (sym c.closed.ensures.fault)
     (some_weaker c.closed.result.history _ _
     (λ events h.
-    scheduled cell nodes c.wire_up.new.rest ended.passes.items c.in-Ok-wire_up.ensures.seated c.in-Ok-run_net.ensures.passes view c.args.routes c.args.state known (λ tasks. solve (network tasks ports edges (length machines))) (ins_at ports edges) (outs_at ports edges) ended.machines.items ended.fault events laws c.in-Ok-new.ensures.0 c.in-Ok-new.ensures.1 count h
+    scheduled cell nodes c.wire_up.new.rest ended.passes.items c.in-Ok-wire_up.ensures.seated c.in-Ok-run_net.ensures.passes view c.args.routes c.args.state known
+    (λ tasks. solve (network tasks ports edges (length machines))) (ins_at ports edges)
+    (outs_at ports edges) ended.machines.items ended.fault events laws c.in-Ok-new.ensures.0 c.in-Ok-new.ensures.1 count h
     (λ tasks k. logged_wired view g.C.Claims.claims c.args.size edges machines nodes up tasks ended.machines.items ended.fault _ count (c.in-Ok-run_net.ensures.logged tasks (edge_lanes edges) (up.begins k.0 tasks k.1) few)))
     c.closed.ensures.history))
