@@ -1,3 +1,5 @@
 pub mod FrameHash
 pub mod HashTexts
 pub mod Puts
+pub mod FlacHead
+pub mod FlacLaws

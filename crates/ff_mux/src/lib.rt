@@ -6,8 +6,12 @@
 #![tactic(auto)]
 
 mod digest;
+mod flac;
 mod frame_hash;
+mod laws;
 mod put;
 
+pub use flac::{flac_first, flac_last};
 pub use frame_hash::{hash_header, hash_line};
+pub use laws::stream_info_is_its_fields;
 pub use put::HashPut;

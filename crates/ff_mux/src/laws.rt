@@ -1,0 +1,7 @@
+// What follows of the definitions alone.
+ghost use Rattle.ff_mux.specs.FlacLaws.{InfoIsFields};
+
+/// The bits of STREAMINFO are the fields that the standard lists, each in its width (RFC 9639, section 8.2).
+pub fn stream_info_is_its_fields()
+    ensures { InfoIsFields }
+{}
