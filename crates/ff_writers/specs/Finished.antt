@@ -1,5 +1,5 @@
 -- The finished files of the formats, by the formats' own definitions.
-use Rattle.std.specs.Prelude.{◌≡◌, ℕ, ◌≤◌, List, [], ◌∷◌, map, length, Option, Some}
+use Rattle.std.specs.Prelude.{◌≡◌, ℕ, ◌≤◌, List, [], ◌∷◌, ◌++◌, map, length, Option, Some, IfSome, unwrap_or}
 use Rattle.std.specs.List.{flat_map}
 use Rattle.ff_values.specs.declared.hash.HashKind.TheVariants.{Sha256}
 use Rattle.ff_values.specs.declared.packet.Pkt.{Pkt}
@@ -8,9 +8,10 @@ use Rattle.ff_values.specs.declared.head.StreamHead.{StreamHead}
 use Rattle.ff_wav.specs.Header.{longest}
 use Rattle.ff_wav.specs.Written.{file_of}
 use Rattle.ff_y4m.specs.Header as y4m
+use Rattle.ff_mux.specs.FlacHead as flac
 use Rattle.ff_mux.specs.FrameHash as hash
 use Rattle.ff_writers.specs.Layouts.{finished}
-use Rattle.ff_writers.specs.Formats.{wav_layout, y4m_layout, hash_layout}
+use Rattle.ff_writers.specs.Formats.{wav_layout, flac_layout, y4m_layout, hash_layout}
 
 -- the bytes of packets one behind the other
 abbrev pub bytes_in : List (ℕ × Pkt) → List ℕ
@@ -19,6 +20,14 @@ bytes_in packets = flat_map (λ p. p.1.bytes) packets
 abbrev pub WavsAreFiles : Type 0
 WavsAreFiles = (head : StreamHead) (totals : Option Totals) (packets : List (ℕ × Pkt)) → length (bytes_in packets) ≤ longest
     → finished (wav_layout head) totals packets ≡ Some (file_of head (bytes_in packets))
+
+-- where totals were told, their digest has 16 bytes
+abbrev pub HasDigest : Option Totals → Type 0
+HasDigest totals = IfSome totals (λ t. length t.md5 ≡ 16)
+
+abbrev pub FlacsAreStreams : Type 0
+FlacsAreStreams = (head : StreamHead) (totals : Option Totals) (packets : List (ℕ × Pkt)) → HasDigest totals
+    → finished (flac_layout head) totals packets ≡ Some (flac.flac_start head (unwrap_or totals flac.unknown) ++ bytes_in packets)
 
 abbrev pub PicturesAreFiles : Type 0
 PicturesAreFiles = (head : StreamHead) (totals : Option Totals) (packets : List (ℕ × Pkt))

@@ -1,6 +1,7 @@
 pub mod Layouts
 pub mod Patches
 pub mod Pictures
+pub mod Flac
 pub mod Formats
 pub mod Writers
 pub mod Finished

@@ -2,8 +2,13 @@
 use Rattle.std.specs.Prelude.{List}
 use Rattle.ff_values.specs.declared.hash.HashKind.{HashKind}
 use Rattle.ff_values.specs.declared.head.StreamHead.{StreamHead}
+use Rattle.ff_writers.specs.declared.flac.FlacWriter.{FlacWriter}
 use Rattle.ff_writers.specs.declared.y4m.Y4mWriter.{Y4mWriter}
 use Rattle.ff_writers.specs.declared.frame_hash.HashWriter.{HashWriter}
+
+-- the head of the stream of sound
+abbrev pub flac_head : FlacWriter → StreamHead
+flac_head w = w.head
 
 -- the head of the stream of pictures
 abbrev pub y4m_head : Y4mWriter → StreamHead

@@ -1,5 +1,6 @@
 ghost use Rattle.ff_writers.specs.AnyWriters.{any_layout, any_counts, any_inside};
 
+use crate::flac::FlacWriter;
 use crate::frame_hash::HashWriter;
 use crate::writer::{Patch, Writer};
 use crate::y4m::Y4mWriter;
@@ -12,6 +13,8 @@ use std::alloc::AllocError;
 pub enum AnyWriter {
     /// RIFF WAVE.
     Wav(WavPut),
+    /// FLAC.
+    Flac(FlacWriter),
     /// YUV4MPEG2.
     Y4m(Y4mWriter),
     /// Digests.
@@ -26,6 +29,7 @@ impl Writer for AnyWriter {
     fn first(&self) -> Result<Vec<u8>, AllocError> {
         match self {
             AnyWriter::Wav(put) => Writer::first(put),
+            AnyWriter::Flac(writer) => writer.first(),
             AnyWriter::Y4m(writer) => writer.first(),
             AnyWriter::Hash(writer) => writer.first(),
         }
@@ -34,6 +38,7 @@ impl Writer for AnyWriter {
     fn text(&self, stream: u32, packet: Pkt) -> Result<Vec<u8>, Pkt> {
         match self {
             AnyWriter::Wav(put) => put.text(stream, packet),
+            AnyWriter::Flac(writer) => writer.text(stream, packet),
             AnyWriter::Y4m(writer) => writer.text(stream, packet),
             AnyWriter::Hash(writer) => writer.text(stream, packet),
         }
@@ -42,6 +47,7 @@ impl Writer for AnyWriter {
     fn add(&mut self, count: u64) -> Result<(), TooLarge> {
         match self {
             AnyWriter::Wav(put) => Writer::add(put, count),
+            AnyWriter::Flac(writer) => writer.add(count),
             AnyWriter::Y4m(writer) => writer.add(count),
             AnyWriter::Hash(writer) => writer.add(count),
         }
@@ -50,6 +56,7 @@ impl Writer for AnyWriter {
     fn pad(&self) -> &'static [u8] {
         match self {
             AnyWriter::Wav(put) => Writer::pad(put),
+            AnyWriter::Flac(writer) => writer.pad(),
             AnyWriter::Y4m(writer) => writer.pad(),
             AnyWriter::Hash(writer) => writer.pad(),
         }
@@ -58,6 +65,7 @@ impl Writer for AnyWriter {
     fn last(&self, totals: Option<Totals>) -> Result<Option<Patch>, AllocError> {
         match self {
             AnyWriter::Wav(put) => Writer::last(put, totals),
+            AnyWriter::Flac(writer) => writer.last(totals),
             AnyWriter::Y4m(writer) => writer.last(totals),
             AnyWriter::Hash(writer) => writer.last(totals),
         }

@@ -11,6 +11,7 @@
 #![tactic(auto)]
 
 mod any;
+mod flac;
 mod frame_hash;
 mod laws;
 mod wav;
@@ -19,9 +20,11 @@ mod y4m;
 
 pub use any::AnyWriter;
 pub use ff_wav::{TooLarge, WavPut};
+pub use flac::FlacWriter;
 pub use frame_hash::HashWriter;
 pub use laws::{
-    finished_hashes_are_texts, finished_pictures_are_yuv4mpeg2, finished_wavs_are_riff,
+    finished_flacs_are_streams, finished_hashes_are_texts, finished_pictures_are_yuv4mpeg2,
+    finished_wavs_are_riff,
 };
 pub use writer::{Patch, Writer};
 pub use y4m::Y4mWriter;

@@ -1,5 +1,8 @@
 use Rattle.ff_writers.proofs.any.AnyWriterWriter.add.Goals as goal
 
+pub returns-in-Flac-clause-too_large : goal.returns-in-Flac-clause-too_large
+returns-in-Flac-clause-too_large c = rw c.in-Flac.is c.add-in-Flac.ensures.too_large
+
 pub returns-in-Y4m-clause-too_large : goal.returns-in-Y4m-clause-too_large
 returns-in-Y4m-clause-too_large c = rw c.in-Y4m.is c.add-in-Y4m.ensures.too_large
 

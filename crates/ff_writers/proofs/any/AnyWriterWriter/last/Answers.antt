@@ -1,5 +1,8 @@
 use Rattle.ff_writers.proofs.any.AnyWriterWriter.last.Goals as goal
 
+pub returns-in-Flac : goal.returns-in-Flac
+returns-in-Flac c = rw c.in-Flac.is c.last-in-Flac.ensures
+
 pub returns-in-Y4m : goal.returns-in-Y4m
 returns-in-Y4m c = rw c.in-Y4m.is c.last-in-Y4m.ensures
 

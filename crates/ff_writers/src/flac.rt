@@ -1,0 +1,70 @@
+// The files of FLAC.
+ghost use Rattle.std.specs.Prelude.{◌≡◌, ◌↔◌, IfOk, OnOk, ⊤};
+ghost use Rattle.ff_mux.specs.FlacHead.{CanHold};
+ghost use Rattle.ff_writers.specs.Flac.{CanHold-prop};
+ghost use Rattle.ff_writers.specs.Formats.{flac_layout};
+ghost use Rattle.ff_writers.specs.InsideLaws.{flac_inside};
+
+use crate::writer::{Patch, Writer};
+use ff_mux::{flac_first, flac_last};
+use ff_values::{Pkt, StreamHead, Totals};
+use ff_wav::TooLarge;
+use std::alloc::{AllocError, Global};
+
+/// Where STREAMINFO stands: behind the mark and the head of its block.
+const INFO_AT: u64 = 8;
+
+/// Gives the bytes of a FLAC file (RFC 9639): the mark and STREAMINFO, the frame that each packet holds, and STREAMINFO with the
+/// stream's totals, where they were told, in the place of that without.
+#[derive(Drop)]
+pub struct FlacWriter {
+    alloc: Global,
+    head: StreamHead,
+    ghost coded: { CanHold head } by { CanHold-prop head },
+}
+
+impl FlacWriter {
+    ghost use Rattle.ff_writers.specs.Writers.{flac_head};
+
+    /// For the packets of a stream of FLAC, of 1 to 8 channels, 4 to 24 bits and a rate of at most 1,048,575.
+    pub fn new(alloc: Global, head: StreamHead) -> FlacWriter
+        requires { CanHold head }
+        ensures { flac_head result ≡ head }
+    {
+        FlacWriter { alloc, head }
+    }
+}
+
+impl Writer for FlacWriter {
+    ghost use Rattle.ff_writers.specs.Writers.{flac_head};
+
+    ghost layout = { λ w. flac_layout (flac_head w) };
+
+    ghost counts = { λ w n. ⊤ };
+
+    fn first(&self) -> Result<Vec<u8>, AllocError> {
+        flac_first(self.alloc, &self.head)
+    }
+
+    fn text(&self, _stream: u32, packet: Pkt) -> Result<Vec<u8>, Pkt> {
+        Ok(packet.bytes.into_vec())
+    }
+
+    fn add(&mut self, _count: u64) -> Result<(), TooLarge> {
+        Ok(())
+    }
+
+    fn pad(&self) -> &'static [u8] {
+        &[]
+    }
+
+    fn last(&self, totals: Option<Totals>) -> Result<Option<Patch>, AllocError> {
+        let Some(totals) = totals else {
+            return Ok(None);
+        };
+        let bytes = flac_last(self.alloc, &self.head, &totals)?;
+        Ok(Some(Patch { at: INFO_AT, bytes }))
+    }
+
+    ghost inside = { λ w n totals. flac_inside (flac_head w) totals };
+}
