@@ -4,6 +4,7 @@ use Rattle.std.specs.Prelude.{nat_le}
 use Rattle.std.specs.Io.KnownBytes.{Appends, Keeps}
 use Rattle.std.proofs.lemmas.Bool.Decides.{nat_tests}
 use Rattle.ff_lists.specs.Appends.{AppendsPrefix}
+use Rattle.ff_values.specs.declared.totals.Totals.{Totals}
 use Rattle.ff_net.specs.declared.fault.Fault.{Fault}
 use Rattle.ff_writers.specs.Layouts.{Layout}
 use Rattle.ff_writers.specs.Patches.{StandsIn, IsInside}
@@ -25,13 +26,13 @@ inside_then layout written true fault before room none e = let h = room refl non
 inside_then layout written false fault before room none e = omega (arith, ap length e)
 
 -- where some number was counted, of which it isn't known which
-pub replaced_inside : (layout : Layout) (counts : ℕ → Type 0) (written : ℕ) (begun : Bool) (fault : Option Fault)
+pub replaced_inside : (layout : Layout) (counts : ℕ → Type 0) (totals : Option Totals) (written : ℕ) (begun : Bool) (fault : Option Fault)
     (before : List ℕ) (replaced : Option (ℕ × List ℕ))
     → (((n : ℕ) → counts n → ⊥) → ⊥) → (begun ≡ true → fault ≡ None → length layout.header ≤ written) → fault ≡ None
     → before ≡ text_before begun layout
-    → ((n : ℕ) → counts n → replaced ≡ layout.last n None) → ((n : ℕ) → IsInside layout n None) → StandsIn replaced (written + length before)
-replaced_inside layout counts written begun fault before None counted room none e last inside = tt
-replaced_inside layout counts written begun fault before (Some p) counted room none e last inside =
+    → ((n : ℕ) → counts n → replaced ≡ layout.last n totals) → ((n : ℕ) → IsInside layout n totals) → StandsIn replaced (written + length before)
+replaced_inside layout counts totals written begun fault before None counted room none e last inside = tt
+replaced_inside layout counts totals written begun fault before (Some p) counted room none e last inside =
     pick (nat_le (p.0 + length p.1) (written + length before)) refl
   where
     here : (n : ℕ) → counts n → p.0 + length p.1 ≤ length layout.header

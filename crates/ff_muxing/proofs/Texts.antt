@@ -6,6 +6,7 @@ use Rattle.std.proofs.lemmas.Bool.Decides.{nat_tests}
 use Rattle.ff_host.specs.Files.{patched}
 use Rattle.ff_lists.specs.Appends.{AppendsPrefix}
 use Rattle.ff_values.specs.declared.packet.Pkt.{Pkt}
+use Rattle.ff_values.specs.declared.totals.Totals.{Totals}
 use Rattle.ff_frame.specs.declared.item.Item.{Item}
 use Rattle.ff_frame.specs.declared.item.Item.TheVariants.{Audio, Video, Packet, Trailer, End, Broken}
 use Rattle.ff_frame.specs.Stream.{still_open, whole}
@@ -18,7 +19,7 @@ use Rattle.ff_net.specs.Ways.{Flow}
 use Rattle.ff_writers.specs.Layouts.{Layout, body, written, text_of, fits, with_last, IsBeyond}
 use Rattle.ff_muxing.specs.Adding.{IsIdle}
 use Rattle.ff_muxing.specs.Growing.{body_more, written_more, open_text}
-use Rattle.ff_muxing.specs.Muxing.{packets_in, packets_of, unpatched, file, body_size, mux_cause}
+use Rattle.ff_muxing.specs.Muxing.{packets_in, packets_of, totals_with, totals_after, totals_of, unpatched, file, body_size, mux_cause}
 use Rattle.ff_muxing.specs.Writing.{text_before, Replaces, EndsAs}
 
 -- ---- bytes that are told
@@ -72,6 +73,21 @@ none_is (Some c) e = cc
 pub not_whole : (s : Flow) → s.mark ≡ still_open → IsWhole s → ⊥
 not_whole s o w = let e : still_open ≡ whole = sym o ∙ w in cc
 
+-- ---- totals
+
+totals_snoc : (totals : Option Totals) (xs : List Item) (x : Item) → totals_after totals (xs ++ x ∷ []) ≡ totals_with (totals_after totals xs) x
+totals_snoc totals [] x = refl
+totals_snoc totals (y ∷ xs) x = totals_snoc (totals_with totals y) xs x
+
+-- of a stream with one item more
+pub totals_more : (s : Flow) (x : Item) → totals_of (with_item s x) ≡ totals_with (totals_of s) x
+totals_more s (Audio f) = totals_snoc None s.items (Audio f)
+totals_more s (Video f) = totals_snoc None s.items (Video f)
+totals_more s (Packet p) = totals_snoc None s.items (Packet p)
+totals_more s (Trailer t) = totals_snoc None s.items (Trailer t)
+totals_more s End = refl
+totals_more s Broken = refl
+
 -- ---- what an item adds
 
 module _ (layout : Layout) where
@@ -100,8 +116,8 @@ module _ (layout : Layout) where
   end_text s = refl
 
   pub end_file : (s : Flow) → fits layout.longest (body_size layout s) ≡ true
-      → file layout (with_item s End) ≡ Some (with_last (layout.last (body_size layout s) None) (unpatched layout (with_item s End)))
-  end_file s f = ap (λ (b : Bool). if b then Some (with_last (layout.last (body_size layout s) None) (text_of layout (packets_of s))) else None) f
+      → file layout (with_item s End) ≡ Some (with_last (layout.last (body_size layout s) (totals_of s)) (unpatched layout (with_item s End)))
+  end_file s f = ap (λ (b : Bool). if b then Some (with_last (layout.last (body_size layout s) (totals_of s)) (text_of layout (packets_of s))) else None) f
 
   idle_written : (xs : List Item) (x : Item) → body layout (packets_in 0 (x ∷ [])) ≡ []
       → written layout (packets_in 0 (xs ++ x ∷ [])) ≡ written layout (packets_in 0 xs)

@@ -1,5 +1,6 @@
 -- What an item adds to an output.
-use Rattle.std.specs.Prelude.{◌≡◌, ℕ, List, None}
+use Rattle.std.specs.Prelude.{◌≡◌, ℕ, List, Option}
+use Rattle.ff_values.specs.declared.totals.Totals.{Totals}
 use Rattle.ff_frame.specs.declared.item.Item.{Item}
 use Rattle.ff_frame.specs.declared.item.Item.TheVariants.{Audio, Video, Packet, Trailer, End as EndItem, Broken}
 use Rattle.ff_writers.specs.Layouts.{Layout}
@@ -33,8 +34,9 @@ IsTextOf layout (Trailer t) text = ⊥
 IsTextOf layout EndItem text = ⊥
 IsTextOf layout Broken text = ⊥
 
--- a packet adds its text, the end what takes the place of bytes by how many were counted, another item nothing
-abbrev pub IsAdded : Layout → (ℕ → Type 0) → Item → Added → Type 0
-IsAdded layout counts x (Text text) = IsTextOf layout x text.items
-IsAdded layout counts x (End patch) = IsEnd x × ((n : ℕ) → counts n → replacing patch ≡ layout.last n None)
-IsAdded layout counts x Nothing = IsIdle x
+-- a packet adds its text, the end what takes the place of bytes by how many were counted and by the totals that were told, another
+-- item nothing
+abbrev pub IsAdded : Layout → (ℕ → Type 0) → Option Totals → Item → Added → Type 0
+IsAdded layout counts totals x (Text text) = IsTextOf layout x text.items
+IsAdded layout counts totals x (End patch) = IsEnd x × ((n : ℕ) → counts n → replacing patch ≡ layout.last n totals)
+IsAdded layout counts totals x Nothing = IsIdle x

@@ -5,13 +5,14 @@ use Rattle.std.proofs.lemmas.Bool.Decides.{nat_tests}
 use Rattle.std.proofs.lemmas.List.Concat.{flat_map-append}
 use mathlib.Core.List.{IsPrefix}
 use Rattle.ff_values.specs.declared.packet.Pkt.{Pkt}
+use Rattle.ff_values.specs.declared.totals.Totals.{Totals}
 use Rattle.ff_frame.specs.declared.item.Item.{Item}
 use Rattle.ff_frame.specs.Stream.{Mark, still_open, whole, broken, LiesBelow, opened, opened_mark}
 use Rattle.ff_frame.specs.Order.{prefix_self, prefix_trans, below_items}
 use Rattle.ff_net.specs.declared.fault.Fault.{Fault}
 use Rattle.ff_net.specs.Ways.{Flow}
 use Rattle.ff_writers.specs.Layouts.{Layout, body, written, fits}
-use Rattle.ff_muxing.specs.Muxing.{packet_in, packets_in, packets_of, text_by, file_by, unpatched, file, body_size, mux_cause, HoldsOf, HoldsSmall}
+use Rattle.ff_muxing.specs.Muxing.{packet_in, packets_in, packets_of, totals_of, text_by, file_by, unpatched, file, body_size, mux_cause, HoldsOf, HoldsSmall}
 
 module _ (layout : Layout) where
   -- further items are further packets, and these are further bytes
@@ -37,7 +38,7 @@ module _ (layout : Layout) where
   open_text r o = ap (λ (m : Mark). text_by layout m (packets_of r)) o
 
   open_file : (r : Flow) → r.mark ≡ still_open → file layout r ≡ None
-  open_file r o = ap (λ (m : Mark). file_by layout m (packets_of r)) o
+  open_file r o = ap (λ (m : Mark). file_by layout m (totals_of r) (packets_of r)) o
 
   items_more : (xs ys zs : List Item) (m : Mark) → xs ++ zs ≡ ys → IsPrefix (written layout (packets_in 0 xs)) (text_by layout m (packets_in 0 ys))
   items_more xs ys zs m e =
@@ -65,14 +66,14 @@ module _ (layout : Layout) where
   opened_text whole packets = refl
   opened_text broken packets = refl
 
-  opened_file : (m : Mark) (packets : List (ℕ × Pkt)) → file_by layout (opened_mark m) packets ≡ file_by layout m packets
-  opened_file still_open packets = refl
-  opened_file whole packets = refl
-  opened_file broken packets = refl
+  opened_file : (m : Mark) (totals : Option Totals) (packets : List (ℕ × Pkt)) → file_by layout (opened_mark m) totals packets ≡ file_by layout m totals packets
+  opened_file still_open totals packets = refl
+  opened_file whole totals packets = refl
+  opened_file broken totals packets = refl
 
   pub held_opened : (bytes : List ℕ) (r : Flow) → HoldsOf layout bytes r → HoldsOf layout bytes (opened r)
   held_opened bytes r (inl p) = inl (subst (λ (t : List ℕ). IsPrefix bytes t) (sym (opened_text r.mark (packets_of r))) p)
-  held_opened bytes r (inr f) = inr (opened_file r.mark (packets_of r) ∙ f)
+  held_opened bytes r (inr f) = inr (opened_file r.mark (totals_of r) (packets_of r) ∙ f)
 
   -- ---- sizes
 

@@ -30,7 +30,7 @@ module _ {K W : Type 0} {S : SinkGhosts K} {F : WriterGhosts W} where
 
   -- what was written fits the past,
   abbrev pub mux_writes : Mux K W S F → Past → Type 0
-  mux_writes m past = MuxStands (S.holds m.snk) (F.layout m.writer) (F.counts m.writer) m.head m.begun m.closed m.fault past
+  mux_writes m past = MuxStands (S.holds m.snk) (F.layout m.writer) (F.counts m.writer) m.totals m.head m.begun m.closed m.fault past
 
   -- and what was told
   abbrev pub mux_stands : Mux K W S F → Past → Type 0

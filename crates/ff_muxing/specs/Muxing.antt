@@ -6,6 +6,7 @@ use mathlib.Core.List.{IsPrefix}
 use Rattle.ff_time.specs.Fraction.{Fraction}
 use Rattle.ff_values.specs.declared.event.Event.{Event}
 use Rattle.ff_values.specs.declared.packet.Pkt.{Pkt}
+use Rattle.ff_values.specs.declared.totals.Totals.{Totals}
 use Rattle.ff_values.specs.declared.head.StreamHead.{StreamHead}
 use Rattle.ff_values.specs.Packet.{packet_at}
 use Rattle.ff_frame.specs.declared.item.Item.{Item}
@@ -38,6 +39,23 @@ packets_in stream xs = flat_map (packet_in stream) xs
 abbrev pub packets_of : Flow → List (ℕ × Pkt)
 packets_of s = packets_in 0 s.items
 
+-- the totals that were told, once an item has come too: a trailer tells them
+abbrev pub totals_with : Option Totals → Item → Option Totals
+totals_with totals (Audio f) = totals
+totals_with totals (Video f) = totals
+totals_with totals (Packet p) = totals
+totals_with totals (Trailer t) = Some t
+totals_with totals End = totals
+totals_with totals Broken = totals
+
+abbrev pub totals_after : Option Totals → List Item → Option Totals
+totals_after totals [] = totals
+totals_after totals (x ∷ xs) = totals_after (totals_with totals x) xs
+
+-- those that a stream tells
+abbrev pub totals_of : Flow → Option Totals
+totals_of s = totals_after None s.items
+
 -- a stream of one packet with these bytes
 abbrev pub shown : List ℕ → Flow
 shown bytes = whole_stream (Packet (packet_at (pos 0) (pos 0) 0 bytes) ∷ [])
@@ -53,18 +71,18 @@ module _ (layout : Layout) where
   text_by whole packets = text_of layout packets
   text_by broken packets = written layout packets
 
-  abbrev pub file_by : Mark → List (ℕ × Pkt) → Option (List ℕ)
-  file_by still_open packets = None
-  file_by whole packets = finished layout None packets
-  file_by broken packets = None
+  abbrev pub file_by : Mark → Option Totals → List (ℕ × Pkt) → Option (List ℕ)
+  file_by still_open totals packets = None
+  file_by whole totals packets = finished layout totals packets
+  file_by broken totals packets = None
 
   -- what is written of a stream, before bytes of it are replaced: of nothing what stands before the packets
   abbrev pub unpatched : Flow → List ℕ
   unpatched s = text_by s.mark (packets_of s)
 
-  -- the file of a stream, once it is whole, and where its packets aren't too many bytes
+  -- the file of a stream, once it is whole, with the totals that it tells, and where its packets aren't too many bytes
   abbrev pub file : Flow → Option (List ℕ)
-  file s = file_by s.mark (packets_of s)
+  file s = file_by s.mark (totals_of s) (packets_of s)
 
   -- how many bytes of packets that are
   abbrev pub body_size : Flow → ℕ
@@ -101,8 +119,8 @@ module _ (layout : Layout) where
   HoldsSmall bytes s = (r : Flow) × LiesBelow r s × (mux_cause r ≡ None) × HoldsOf bytes r
 
 -- The sink holds these bytes, of the stream that was fed. `counts` ties the writer to how many bytes of packets it counted.
-pub record Muxes (holds : Option (List ℕ)) (layout : Layout) (counts : ℕ → Type 0) (head : StreamHead) (begun closed : Bool)
-    (fault : Option Fault) (past : Past) (bytes : List ℕ) : Type 0 where
+pub record Muxes (holds : Option (List ℕ)) (layout : Layout) (counts : ℕ → Type 0) (totals : Option Totals) (head : StreamHead)
+    (begun closed : Bool) (fault : Option Fault) (past : Past) (bytes : List ℕ) : Type 0 where
   pub task : past.task ≡ mux_task_of layout past.task.tells
   pub valid : IsValid (Packets head) (stream_at past.got 0)
   pub others : (p : ℕ) → 1 ≤ p → stream_at past.got p ≡ nothing
@@ -111,6 +129,7 @@ pub record Muxes (holds : Option (List ℕ)) (layout : Layout) (counts : ℕ →
   pub has_begun : begun ≡ true → stream_at past.got 0 ≢ nothing
   pub closed_is : closed ≡ true ↔ IsClosed (stream_at past.got 0)
   pub told : holds ≡ Some bytes
+  pub totals_are : totals ≡ totals_of (stream_at past.got 0)
   -- before the first item: nothing, and no fault
   pub fresh : stream_at past.got 0 ≡ nothing → (bytes ≡ []) × (fault ≡ None)
   -- without a fault: each packet was counted, and they aren't too many bytes
@@ -124,5 +143,6 @@ pub record Muxes (holds : Option (List ℕ)) (layout : Layout) (counts : ℕ →
   pub front : HoldsSmall layout bytes (stream_at past.got 0)
   pub caused : (c : Fault) → fault ≡ Some c → IsOfInputs c → mux_cause layout (stream_at past.got 0) ≡ Some c
 
-abbrev pub MuxStands : Option (List ℕ) → Layout → (ℕ → Type 0) → StreamHead → Bool → Bool → Option Fault → Past → Type 0
-MuxStands holds layout counts head begun closed fault past = (bytes : List ℕ) × Muxes holds layout counts head begun closed fault past bytes
+abbrev pub MuxStands : Option (List ℕ) → Layout → (ℕ → Type 0) → Option Totals → StreamHead → Bool → Bool → Option Fault → Past → Type 0
+MuxStands holds layout counts totals head begun closed fault past =
+    (bytes : List ℕ) × Muxes holds layout counts totals head begun closed fault past bytes

@@ -11,12 +11,13 @@ ghost use Rattle.ff_writers.specs.Layouts.{Layout};
 ghost use Rattle.ff_muxing.specs.Muxing.{mux_cause, mux_task, unpatched, file};
 ghost use Rattle.ff_muxing.specs.Held.{HoldsPart};
 
-use crate::added::{Added, added_by};
+use crate::added::{Added, added_by, totals_with};
 use crate::telling::{put, told_by};
 use crate::write::{text_before, write, write_end, write_packet};
 use ff_frame::{Event, Item, Refused, StreamHead, Ticket};
 use ff_host::Sink;
 use ff_net::{Fault, Machine};
+use ff_values::Totals;
 use ff_writers::Writer;
 use std::alloc::{AllocError, Global};
 use std::collections::VecDeque;
@@ -26,8 +27,8 @@ use std::collections::VecDeque;
 /// place of bytes in one patch.
 ///
 /// A packet that makes the packets more bytes than the format holds is the fault TooLarge, and nothing of it is written. Want of memory
-/// in an append is a fault, and the item counts as fed. Behind a fault it takes what comes and writes nothing. What a trailer tells
-/// isn't passed on yet.
+/// in an append is a fault, and the item counts as fed. Behind a fault it takes what comes and writes nothing. Of a trailer nothing is
+/// written: the totals that it tells are kept for the end.
 ///
 /// Of each packet that it is fed it tells the time, and of what closes the stream that its output stream has finished, behind a fault
 /// too.
@@ -41,6 +42,8 @@ pub struct Mux<K: Sink, W: Writer> {
     head: StreamHead,
     begun: bool,
     closed: bool,
+    /// What a trailer told.
+    totals: Option<Totals>,
     fault: Option<Fault>,
     /// What it is to tell, the oldest first.
     events: VecDeque<Event>,
@@ -68,6 +71,7 @@ impl<K: Sink + Drop, W: Writer + Drop> Mux<K, W> {
             head,
             begun: false,
             closed: false,
+            totals: None,
             fault: None,
             events: VecDeque::new(alloc),
         }
@@ -126,21 +130,24 @@ impl<K: Sink + Drop, W: Writer + Drop> Machine for Mux<K, W> {
     fn feed(&mut self, _port: usize, item: Item) -> Result<(), Refused> {
         let closes = item.closes();
         let event = told_by(self.stream, &self.head, &item);
+        let totals = totals_with(self.totals, &item);
         let Ok(()) = self.events.reserve(1) else {
             return Err(Refused { item });
         };
         if self.fault.is_some() {
             self.begun = true;
             self.closed = self.closed | closes;
+            self.totals = totals;
             put(&mut self.events, event);
             return Ok(());
         }
         let Ok(before) = text_before(self.alloc, &self.writer, self.begun) else {
             return Err(Refused { item });
         };
-        let added = added_by(&self.writer, item)?;
+        let added = added_by(&self.writer, self.totals, item)?;
         self.begun = true;
         self.closed = self.closed | closes;
+        self.totals = totals;
         put(&mut self.events, event);
         match added {
             Added::Text(text) => {

@@ -5,7 +5,7 @@ ghost use Rattle.ff_muxing.specs.Outputs.{CanWrite, layout_of};
 
 use ff_values::{HashKind, StreamHead};
 use ff_words::FileFormat;
-use ff_writers::{AnyWriter, HashWriter, WavPut, Y4mWriter};
+use ff_writers::{AnyWriter, FlacWriter, HashWriter, WavPut, Y4mWriter};
 use std::alloc::{AllocError, Global};
 
 /// The writer of a format for the packets of one stream, with this digest where the format has one. No byte of a packet was counted.
@@ -21,11 +21,11 @@ pub fn writer_of(
 {
     match format {
         FileFormat::Wav => Ok(AnyWriter::Wav(WavPut::new(alloc, head))),
+        FileFormat::Flac => Ok(AnyWriter::Flac(FlacWriter::new(alloc, *head))),
         FileFormat::Y4m => Ok(AnyWriter::Y4m(Y4mWriter::new(alloc, *head))),
         FileFormat::FrameHash => {
             let heads = Vec::from_slice(alloc, &[*head])?;
             Ok(AnyWriter::Hash(HashWriter::new(alloc, hash, heads)))
         }
-        FileFormat::Flac => unreachable!(),
     }
 }

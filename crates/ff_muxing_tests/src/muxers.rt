@@ -1,5 +1,6 @@
 ghost use Rattle.std.specs.Prelude.{IfSome};
 ghost use Rattle.ff_values.specs.Heads.{IsPcmCoded};
+ghost use Rattle.ff_mux.specs.FlacHead.{CanHold};
 ghost use Rattle.ff_y4m.specs.Header.{IsVideoHead};
 
 use ff_frame::{Event, Item, Refused, Ticket};
@@ -8,7 +9,7 @@ use ff_memory_host::{FailAt, HostCall, MemHost, MemSink};
 use ff_muxing::{Mux, writer_of};
 use ff_net::{Fault, Machine};
 use ff_time::Rational;
-use ff_values::{Bytes, Codec, Format, HashKind, Pkt, StreamHead};
+use ff_values::{Bytes, Codec, Format, HashKind, Pkt, StreamHead, Totals};
 use ff_words::FileFormat;
 use ff_writers::{AnyWriter, Writer};
 use std::alloc::{AllocError, Global};
@@ -39,6 +40,15 @@ const PICTURES: &str = "595556344d50454732205732204831204632353a312049702041303a
 
 const FRAME: &str = "4652414d450a";
 
+// What stands before the frames of a FLAC file without totals and with those of three samples, and the frame of these.
+const FLAC_OPEN: &str =
+    "664c6143800000221000100000000000000001f400700000000000000000000000000000000000000000";
+
+const FLAC_TOLD: &str =
+    "664c6143800000221000100000000d00000d01f4007000000003900150983cd24fb0d6963f7d28e17f72";
+
+const CODED: &str = "fff8640200026a126100092050";
+
 fn sound() -> Option<StreamHead>
     ensures { IfSome result (λ head. IsPcmCoded head) }
 {
@@ -49,6 +59,19 @@ fn sound() -> Option<StreamHead>
         bits: 8,
         channels: 1,
         codec: Codec::PcmU8,
+    })
+}
+
+fn coded() -> Option<StreamHead>
+    ensures { IfSome result (λ head. CanHold head) }
+{
+    let tb = Rational::new(1, 8000).ok()?;
+    Some(StreamHead::Audio {
+        tb,
+        rate: 8000,
+        bits: 8,
+        channels: 1,
+        codec: Codec::Flac,
     })
 }
 
@@ -93,6 +116,14 @@ fn y4m(alloc: Global, snk: MemSink) -> Result<OutMux, AllocError> {
     Ok(Mux::new(alloc, STREAM, snk, writer, head))
 }
 
+fn flac(alloc: Global, snk: MemSink) -> Result<OutMux, AllocError> {
+    let Some(head) = coded() else {
+        return Err(AllocError);
+    };
+    let writer = writer_of(alloc, FileFormat::Flac, HashKind::Sha256, &head)?;
+    Ok(Mux::new(alloc, STREAM, snk, writer, head))
+}
+
 fn digests(alloc: Global, snk: MemSink) -> Result<OutMux, AllocError> {
     let Some(head) = sound() else {
         return Err(AllocError);
@@ -133,6 +164,50 @@ fn feed_all<K: Sink + Drop, W: Writer + Drop>(
     went(mux.feed(0, last))
 }
 
+// Feeds the frame of three samples, their totals, where they are told, and an item that closes the stream.
+fn feed_coded<K: Sink + Drop, W: Writer + Drop>(
+    alloc: Global,
+    mux: &mut Mux<K, W>,
+    tells: bool,
+    breaks: bool,
+) -> Result<(), AllocError> {
+    let Ok(bytes) = hex::decode(alloc, CODED) else {
+        return Err(AllocError);
+    };
+    let frame = Pkt {
+        pts: 0,
+        dts: 0,
+        duration: 3,
+        pos: 0,
+        bytes: Bytes::new(bytes),
+    };
+    went(mux.feed(0, Item::Packet(frame)))?;
+    if tells {
+        let totals = Totals {
+            min_frame: 13,
+            max_frame: 13,
+            samples: 3,
+            md5: [
+                0x90, 0x01, 0x50, 0x98, 0x3c, 0xd2, 0x4f, 0xb0, 0xd6, 0x96, 0x3f, 0x7d, 0x28, 0xe1,
+                0x7f, 0x72,
+            ],
+        };
+        went(mux.feed(0, Item::Trailer(totals)))?;
+    }
+    let last = if breaks { Item::Broken } else { Item::End };
+    went(mux.feed(0, last))
+}
+
+// Whether the sink holds the bytes of these texts.
+fn holds(alloc: Global, snk: MemSink, texts: [&'static str; 3]) -> Result<bool, AllocError> {
+    let held = hex::encode(alloc, snk.bytes())?;
+    let mut wanted = String::new(alloc);
+    wanted.push_str(texts[0])?;
+    wanted.push_str(texts[1])?;
+    wanted.push_str(texts[2])?;
+    Ok(held.as_str() == wanted.as_str())
+}
+
 // Whether so many packets and their end, and no less, spend the muxer's input, with this fault, and its sink then holds the bytes
 // of these texts.
 fn leaves(
@@ -147,12 +222,7 @@ fn leaves(
     let before = mux.spent(0);
     feed_all(alloc, &mut mux, packets, breaks)?;
     let ended = !before & mux.spent(0) & (mux.fault() == fault);
-    let held = hex::encode(alloc, mux.into_sink().bytes())?;
-    let mut wanted = String::new(alloc);
-    wanted.push_str(texts[0])?;
-    wanted.push_str(texts[1])?;
-    wanted.push_str(texts[2])?;
-    Ok(ended & (held.as_str() == wanted.as_str()))
+    Ok(ended & holds(alloc, mux.into_sink(), texts)?)
 }
 
 #[test]
@@ -201,6 +271,38 @@ fn writes_sound(rt: HostRuntime) -> Result<(), AllocError> {
         let mux = wav(rt.alloc(), sink(rt.alloc(), call, number)?)?;
         let came = leaves(rt.alloc(), mux, packets, breaks, texts, fault)?;
         assert!(rt; came, "{packets} packets, {number}");
+    }
+    Ok(())
+}
+
+#[test]
+fn writes_coded_sound(rt: HostRuntime) -> Result<(), AllocError> {
+    // whether totals are told and the stream breaks, the call that fails; the text before the frame that is held then, the fault
+    for (tells, breaks, call, number, before, fault) in [
+        (true, false, HostCall::Patch, 0, FLAC_TOLD, None),
+        (false, false, HostCall::Patch, 0, FLAC_OPEN, None),
+        (true, true, HostCall::Patch, 0, FLAC_OPEN, None),
+        (
+            true,
+            false,
+            HostCall::Patch,
+            1,
+            FLAC_OPEN,
+            Some(Fault::Device),
+        ),
+        (false, false, HostCall::Patch, 1, FLAC_OPEN, None),
+    ] {
+        let mut mux = flac(rt.alloc(), sink(rt.alloc(), call, number)?)?;
+        feed_coded(rt.alloc(), &mut mux, tells, breaks)?;
+        let events = (mux.next_event(), mux.next_event(), mux.next_event());
+        let told = (
+            Some(Event::Sent(STREAM, 0)),
+            Some(Event::Finished(STREAM)),
+            None,
+        );
+        assert_eq!(rt; (mux.fault(), events), (fault, told));
+        let held = holds(rt.alloc(), mux.into_sink(), [before, CODED, ""])?;
+        assert!(rt; held, "{tells} {breaks} {number}");
     }
     Ok(())
 }

@@ -1,4 +1,4 @@
-use Rattle.std.proofs.Common.{◌≡◌, ◌⊎◌, ◌+◌, length, ◌||◌, true, ◌++◌, List, ℕ, None, refl, sym, ◌∙◌, subst}
+use Rattle.std.proofs.Common.{◌≡◌, ◌⊎◌, ◌+◌, length, ◌||◌, true, ◌++◌, List, ℕ, refl, sym, ◌∙◌, subst}
 use Rattle.std.specs.Prelude.{option_to_list}
 use Rattle.std.specs.Io.KnownBytes.{Appends}
 use Rattle.ff_values.specs.Heads.{base_of_head}
@@ -23,8 +23,8 @@ returns-then-is_some-clause-accepted g c = λ past s o v.
     let holds = g.K.Sink.holds m.snk in
     let layout = g.W.Writer.layout m.writer in
     let counts = g.W.Writer.counts m.writer in (
-      mux_after holds holds layout counts counts m.head m.begun m.closed c.closes-closes.result m.fault past c.args.item s.0
-          c.closes-closes.ensures c.args._port c.requires (sym c.is_some.ensures ∙ c.if-is_some.true) refl o v,
+      mux_after holds holds layout counts counts m.totals c.totals_with-totals.result m.head m.begun m.closed c.closes-closes.result m.fault past c.args.item s.0
+          c.closes-closes.ensures c.totals_with-totals.ensures c.args._port c.requires (sym c.is_some.ensures ∙ c.if-is_some.true) refl o v,
       tells_put m.stream (base_of_head m.head) past m.events.items c.reserve.new.self.items c.put.new.events.items (option_to_list c.told_by-event.result)
           c.args._port c.args.item c.put.ensures c.reserve.ensures.items c.told_by-event.ensures s.1,
     )
@@ -40,11 +40,11 @@ returns-in-Text-clause-accepted g c = λ past s o v.
     let text = c.deref-in-Text.result.now in
     let before : c.deref.result.now ≡ text_before m.begun layout = c.deref.ensures.value ∙ c.in-Ok-text_before.ensures in
     let added : IsTextOf layout c.args.item c.in-Text.text.items =
-    subst (λ (a : Added). IsAdded layout counts c.args.item a) c.in-Text.is c.in_ok-added.ensures.added in
+    subst (λ (a : Added). IsAdded layout counts m.totals c.args.item a) c.in-Text.is c.in_ok-added.ensures.added in
     let is : IsTextOf layout c.args.item text = subst (λ (w : List ℕ). IsTextOf layout c.args.item w) (sym c.deref-in-Text.ensures.value) added in
     let none = none_is m.fault (sym c.is_some.ensures ∙ c.if-is_some.false) in
-    let done = mux_text holds now layout counts counts' m.head m.begun m.closed c.closes-closes.result m.fault past s.0 none
-    c.args._port c.requires c.args.item text is c.closes-closes.ensures c.write_packet-self.result
+    let done = mux_text holds now layout counts counts' m.totals c.totals_with-totals.result m.head m.begun m.closed c.closes-closes.result m.fault past s.0 none
+    c.args._port c.requires c.args.item text is c.closes-closes.ensures c.totals_with-totals.ensures c.write_packet-self.result
     (λ n. subst (λ (w : List ℕ). Appends holds now (w ++ text)) before (c.write_packet-self.ensures.ok n))
     (subst (λ (w : List ℕ). AppendsPrefix holds now w
     ⊎ (((n : ℕ) → counts n → IsBeyond layout.longest (n + length text) → ⊥)
@@ -53,7 +53,8 @@ returns-in-Text-clause-accepted g c = λ past s o v.
     c.write_packet-self.ensures.too_large o v in
     let closed = m.closed || c.closes-closes.result in
     let past' = fed past c.args._port c.args.item in (
-      subst (λ (l : Layout). MuxStands now l counts' m.head true closed c.write_packet-self.result past') (sym c.write_packet-self.ensures.layout) done,
+      subst (λ (l : Layout). MuxStands now l counts' c.totals_with-totals.result m.head true closed c.write_packet-self.result past')
+          (sym c.write_packet-self.ensures.layout) done,
       tells_put m.stream (base_of_head m.head) past m.events.items c.reserve.new.self.items c.put-2.new.events.items (option_to_list c.told_by-event.result)
           c.args._port c.args.item c.put-2.ensures c.reserve.ensures.items c.told_by-event.ensures s.1,
     )
@@ -63,11 +64,11 @@ write_end-self-requires g c =
     let m = c.args.self.now in
     let layout = g.W.Writer.layout m.writer in
     let counts = g.W.Writer.counts m.writer in
-    let is_added : IsAdded layout counts c.args.item (added.End c.in-End.patch) =
-    subst (λ (a : Added). IsAdded layout counts c.args.item a) c.in-End.is c.in_ok-added.ensures.added in
-    replaced_inside layout counts (g.K.Sink.written m.snk) m.begun m.fault c.deref-in-End.result.now (replacing c.in-End.patch) m.counted m.room
+    let is_added : IsAdded layout counts m.totals c.args.item (added.End c.in-End.patch) =
+    subst (λ (a : Added). IsAdded layout counts m.totals c.args.item a) c.in-End.is c.in_ok-added.ensures.added in
+    replaced_inside layout counts m.totals (g.K.Sink.written m.snk) m.begun m.fault c.deref-in-End.result.now (replacing c.in-End.patch) m.counted m.room
     (none_is m.fault (sym c.is_some.ensures ∙ c.if-is_some.false)) (c.deref-in-End.ensures.value ∙ c.in-Ok-text_before.ensures) is_added.1
-    (λ n. g.met.W.Writer.inside m.writer n None)
+    (λ n. g.met.W.Writer.inside m.writer n m.totals)
 
 pub returns-in-End-clause-accepted : goal.returns-in-End-clause-accepted
 returns-in-End-clause-accepted g c = λ past s o v.
@@ -79,11 +80,11 @@ returns-in-End-clause-accepted g c = λ past s o v.
     let pad = c.pad.result.now in
     let replaced = replacing c.in-End.patch in
     let before : c.deref-in-End.result.now ≡ text_before m.begun layout = c.deref-in-End.ensures.value ∙ c.in-Ok-text_before.ensures in
-    let is_added : IsAdded layout counts c.args.item (added.End c.in-End.patch) =
-    subst (λ (a : Added). IsAdded layout counts c.args.item a) c.in-End.is c.in_ok-added.ensures.added in (
-      mux_end holds now layout counts m.head m.begun m.closed c.closes-closes.result m.fault past s.0
+    let is_added : IsAdded layout counts m.totals c.args.item (added.End c.in-End.patch) =
+    subst (λ (a : Added). IsAdded layout counts m.totals c.args.item a) c.in-End.is c.in_ok-added.ensures.added in (
+      mux_end holds now layout counts m.totals c.totals_with-totals.result m.head m.begun m.closed c.closes-closes.result m.fault past s.0
           (none_is m.fault (sym c.is_some.ensures ∙ c.if-is_some.false)) c.args._port c.requires c.args.item
-          is_added.0 c.closes-closes.ensures c.write_end-self.result pad replaced c.pad.ensures is_added.1
+          is_added.0 c.closes-closes.ensures c.totals_with-totals.ensures c.write_end-self.result pad replaced c.pad.ensures is_added.1
           (λ n. subst (λ (w : List ℕ). EndsAs holds now (w ++ pad) replaced) before (c.write_end-self.ensures.ok n))
           (λ n. subst (λ (w : List ℕ). AppendsPrefix holds now (w ++ pad)) before (c.write_end-self.ensures.front n))
           c.write_end-self.ensures.kinds o v,
@@ -99,10 +100,10 @@ returns-clause-accepted g c = λ past s o v.
     let layout = g.W.Writer.layout m.writer in
     let counts = g.W.Writer.counts m.writer in
     let before : c.deref-in-Nothing.result.now ≡ text_before m.begun layout = c.deref-in-Nothing.ensures.value ∙ c.in-Ok-text_before.ensures in
-    let idle : IsIdle c.args.item = subst (λ (a : Added). IsAdded layout counts c.args.item a) c.in-Nothing.is c.in_ok-added.ensures.added in (
-      mux_idle holds now layout counts m.head m.begun m.closed c.closes-closes.result m.fault past s.0
+    let idle : IsIdle c.args.item = subst (λ (a : Added). IsAdded layout counts m.totals c.args.item a) c.in-Nothing.is c.in_ok-added.ensures.added in (
+      mux_idle holds now layout counts m.totals c.totals_with-totals.result m.head m.begun m.closed c.closes-closes.result m.fault past s.0
           (none_is m.fault (sym c.is_some.ensures ∙ c.if-is_some.false)) c.args._port c.requires c.args.item idle
-          c.closes-closes.ensures c.write-self.result
+          c.closes-closes.ensures c.totals_with-totals.ensures c.write-self.result
           (λ n. subst (λ (w : List ℕ). Appends holds now w) before (c.write-self.ensures.ok n))
           (subst (λ (w : List ℕ). AppendsPrefix holds now w) before c.write-self.ensures.front)
           c.write-self.ensures.kinds o v,

@@ -14,7 +14,7 @@ returns-clause-gives g c = λ e is past s.
     let rest = c.pop_front.new.self.items in
     let items : m.events.items ≡ e ∷ rest = c.pop_front.ensures.items ∙ ap (λ (o : Option Event). option_to_list o ++ rest) is in (
       (
-        mux_told (g.K.Sink.holds m.snk) (g.W.Writer.layout m.writer) (g.W.Writer.counts m.writer) m.head m.begun m.closed m.fault past e s.0,
+        mux_told (g.K.Sink.holds m.snk) (g.W.Writer.layout m.writer) (g.W.Writer.counts m.writer) m.totals m.head m.begun m.closed m.fault past e s.0,
         tells_next m.stream base past e rest (subst (λ (es : List Event). TellsFed m.stream base es past.task.tells past.told past.feeds) items s.1),
       ),
       λ r. (let none = r.is_source in cc),
