@@ -1,10 +1,13 @@
 // Files of packets, as the writers of the formats give them.
+ghost use Rattle.std.specs.Prelude.{IfOk};
+ghost use Rattle.ff_mux.specs.FlacHead.{CanHold};
+
 use crate::table::Stop;
 use crate::wav::head_of;
 use crate::words::Words;
 use ff_time::Rational;
-use ff_values::{Bytes, Format, HashKind, Pkt, StreamHead};
-use ff_writers::{AnyWriter, HashWriter, WavPut, Writer, Y4mWriter};
+use ff_values::{Bytes, Codec, Format, HashKind, Pkt, StreamHead, Totals};
+use ff_writers::{AnyWriter, FlacWriter, HashWriter, WavPut, Writer, Y4mWriter};
 use std::alloc::Global;
 
 // The packet of this number, a tick long, of the bytes that the word at this place says.
@@ -44,19 +47,28 @@ fn write_packets(
     Ok(())
 }
 
-// The text as a whole, and behind a blank what takes the place of bytes of it, and from which place on.
-fn file(words: Words, from: usize, writer: AnyWriter) -> Result<String, Stop> {
+// The text as a whole, and behind a blank what takes the place of bytes of it with these totals, and from which place on.
+fn file_with(
+    words: Words,
+    from: usize,
+    writer: AnyWriter,
+    totals: Option<Totals>,
+) -> Result<String, Stop> {
     let mut writer = writer;
     let mut out = String::new(words.alloc);
     push_hex(words.alloc, &mut out, writer.first()?.as_slice())?;
     write_packets(words, from, &mut writer, &mut out)?;
     push_hex(words.alloc, &mut out, writer.pad())?;
-    if let Some(patch) = writer.last(None)? {
+    if let Some(patch) = writer.last(totals)? {
         let at = patch.at;
         out.push_str(format!(in words.alloc; " {at} ")?.as_str())?;
         push_hex(words.alloc, &mut out, patch.bytes.as_slice())?;
     }
     Ok(out)
+}
+
+fn file(words: Words, from: usize, writer: AnyWriter) -> Result<String, Stop> {
+    file_with(words, from, writer, None)
 }
 
 /// `wav_file CODEC CHANNELS PACKET..`: the WAV of these packets, at 44,100 sample frames a second.
@@ -70,6 +82,64 @@ fn base(num: i64, den: i64) -> Result<Rational, Stop> {
         Ok(base) => Ok(base),
         Err(_) => Err(Stop::Unreadable),
     }
+}
+
+// The head of `RATE BITS CHANNELS`.
+fn flac_head(words: Words) -> Result<StreamHead, Stop>
+    ensures { IfOk result CanHold }
+{
+    let (rate, bits, channels) = (words.number(0)?, words.number(1)?, words.number(2)?);
+    if rate > 1048575 || bits < 4 || bits > 24 || channels < 1 || channels > 8 {
+        return Err(Stop::Unreadable);
+    }
+    Ok(StreamHead::Audio {
+        tb: base(1, rate as i64)?,
+        rate: rate as u32,
+        bits: bits as u8,
+        channels: channels as u8,
+        codec: Codec::Flac,
+    })
+}
+
+fn size_at(words: Words, at: usize) -> Result<u32, Stop> {
+    let size = words.number(at)?;
+    if size > 4294967295 {
+        return Err(Stop::Unreadable);
+    }
+    Ok(size as u32)
+}
+
+fn digest_at(words: Words, at: usize) -> Result<[u8; 16], Stop> {
+    let bytes = words.bytes(at)?;
+    let mut digest = [0; 16];
+    if bytes.len() != 16 {
+        return Err(Stop::Unreadable);
+    }
+    digest.copy_from_slice(bytes.as_slice());
+    Ok(digest)
+}
+
+/// `flac_file RATE BITS CHANNELS PACKET..`: the FLAC of these packets, of whose stream no totals were told.
+pub fn flac(words: Words) -> Result<String, Stop> {
+    let head = flac_head(words)?;
+    file(
+        words,
+        3,
+        AnyWriter::Flac(FlacWriter::new(words.alloc, head)),
+    )
+}
+
+/// `flac_file_told RATE BITS CHANNELS LEAST GREATEST SAMPLES MD5 PACKET..`: the same, of whose stream these totals were told.
+pub fn flac_told(words: Words) -> Result<String, Stop> {
+    let head = flac_head(words)?;
+    let totals = Totals {
+        min_frame: size_at(words, 3)?,
+        max_frame: size_at(words, 4)?,
+        samples: words.number(5)?,
+        md5: digest_at(words, 6)?,
+    };
+    let writer = AnyWriter::Flac(FlacWriter::new(words.alloc, head));
+    file_with(words, 7, writer, Some(totals))
 }
 
 /// `y4m_file PACKET..`: the YUV4MPEG2 of these packets, of 2 columns and 1 row of Y alone, 25 frames a second.
