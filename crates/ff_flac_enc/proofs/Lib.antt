@@ -9,4 +9,4 @@ pub mod Codes
 mod TotalLemmas
 mod GatherLemmas
 mod GatherState
-mod GatherLaws
+pub mod GatherLaws
