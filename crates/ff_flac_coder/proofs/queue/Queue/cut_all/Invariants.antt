@@ -1,0 +1,12 @@
+use Rattle.std.proofs.Common.{◌≡◌, length}
+use Rattle.ff_flac_coder.specs.Queues.{format_of_queue, queue_ended, StillQueues}
+use Rattle.ff_flac_coder.proofs.queue.Queue.cut_all.Given as goal
+
+abbrev pub invariant-loop-turn : goal.invariant-loop-turn
+invariant-loop-turn l = record {
+  still : StillQueues l.fn.self l.self;
+  count : length l.self.cut.items ≡ l.turn;
+  ended : queue_ended l.self ≡ queue_ended l.fn.self;
+  format : format_of_queue l.self ≡ format_of_queue l.fn.self;
+  codes : l.self.codes.items ≡ l.fn.self.codes.items;
+}

@@ -1,0 +1,10 @@
+pub mod Packets
+pub mod Coding
+pub mod Kept
+pub mod Gathering
+pub mod Queues
+pub mod CodingLaws
+pub mod Encoders
+pub mod EncoderLaws
+pub mod Machines
+pub mod Steps

@@ -1,0 +1,16 @@
+//! Sound coded as FLAC (RFC 9639).
+//!
+//! ```text
+//! frames ──► Blocks ──► up to eight blocks, coded at once ──► packets, one by one, and behind them the totals
+//! ```
+#![tactic(auto)]
+
+mod coder;
+mod enc;
+mod queue;
+mod shut;
+
+pub use coder::Coder;
+pub use enc::FlacEnc;
+pub use queue::{Given, Queue};
+pub use shut::Shut;
