@@ -1,6 +1,10 @@
 -- How a job ends, as its status says, by how the work over its files ends.
-use Rattle.std.proofs.Common.{◌≡◌, ◌≢◌, ◌⊎◌, inl, inr, ℕ, ◌<◌, ◌≤◌, List, length, Option, refl, sym, ap, subst, ◌∙◌}
-use Rattle.ff_host.specs.Causes.{SameCounts}
+use Rattle.std.proofs.Common.{◌≡◌, ◌≢◌, ◌⊎◌, inl, inr, ℕ, zero, suc, ◌+◌, ◌<◌, ◌≤◌, Bool, true, false, if◌then◌else◌, nat_lt, List, [], ◌∷◌, ◌++◌, length, Option, Some, None, IsSome, IfSome, refl, sym, ap, subst, ◌∙◌, arith}
+use Rattle.std.proofs.lemmas.Bool.Decides.{nat_tests}
+use Rattle.std.specs.Prelude.{option_to_list, unwrap_or}
+use Rattle.ff_values.specs.declared.event.Event.{Event}
+use Rattle.ff_sched.specs.Printing.{printed}
+use Rattle.ff_host.specs.Causes.{Rose, SameCounts}
 use Rattle.ff_host.specs.Files.{Files, KeepsFiles}
 use Rattle.ff_cut.specs.declared.fault.HeadFault.{HeadFault}
 use Rattle.ff_cut.specs.declared.fault.HeadFault.TheVariants as fault
@@ -12,19 +16,22 @@ use Rattle.ff_plan.specs.declared.planned.PlanError.{PlanError}
 use Rattle.ff_plan.specs.declared.planned.PlanError.TheVariants as why
 use Rattle.ff_running.specs.declared.fault.RunFault.{RunFault}
 use Rattle.ff_running.specs.declared.fault.RunFault.TheVariants as run_fault
-use Rattle.ff_files.specs.Names.{names_of, KeepsAllBut}
+use Rattle.ff_files.specs.Names.{name_at, names_of, KeepsAllBut}
 use Rattle.ff_files.specs.Counts.{Counts, Faulted, KeepsCounts}
 use Rattle.ff_heads.specs.Formats.{input_head}
-use Rattle.ff_files.specs.Works.{Meaning, Command, command_of, HoldMeaning, HoldWritten}
+use Rattle.ff_files.specs.Works.{Meaning, Command, HoldMeaning, HoldTrace, HoldWritten}
 use Rattle.ff_files.specs.Ends as ends
-use Rattle.ff_files.specs.Ends.{Ends, IsFirstRefused, HasNoPlan, CanBeDone, refusal, sound_inputs, sound_outputs}
+use Rattle.ff_files.specs.Ends.{Ends, IsPlanned, IsFirstRefused, HasNoPlan, CanBeDone, refusal, sound_inputs, sound_outputs}
 use Rattle.ff_files.specs.declared.end.RunEnd.{RunEnd}
 use Rattle.ff_files.specs.declared.end.RunEnd.TheVariants as run_end
 use Rattle.ff_files.proofs.Lists.{names_len}
+use Rattle.ff_words.specs.Words.{written}
+use Rattle.ff_command.specs.declared.report.FileRef.{FileRef}
+use Rattle.ff_command.specs.declared.report.FileRef.TheVariants.{Output, Trace}
 use Rattle.ff_command.specs.declared.report.Status.{Status}
 use Rattle.ff_command.specs.declared.report.Status.TheVariants as status
-use Rattle.ff_command.specs.Command.{input_names, output_names, ComesBeforeOutputs, refused_head, refused_plan, over, KeepsInputs, KeepsOutputs}
-use Rattle.ff_command.specs.Steps.{status_of, Comes, Ran}
+use Rattle.ff_command.specs.Command.{input_names, output_names, HasFile, HasFailed, HoldsPrinted, ComesBeforeOutputs, refused_head, refused_plan, over, KeepsInputs, KeepsOutputs}
+use Rattle.ff_command.specs.Steps.{written_file, status_of, Comes, Ran}
 
 abbrev End : Type 0
 End = RunEnd PlanError RunFault
@@ -62,41 +69,73 @@ not-memory why.NoMemory e = cc
 all-counts : {N : Type 0} (name : N → List ℕ) (files : List N) (before now : List ℕ → ℕ) (count : ℕ) → length files ≡ count → KeepsCounts before now (names_of name files) count → SameCounts before now
 all-counts name files before now count many k = λ n. k n (λ j below is. subst (λ c. j < c) (names_len name files ∙ many) below)
 
+-- a written file is an output, or the trace
+by-file : (P : FileRef → Type 0) (o count : ℕ) → (o < count → P (Output o)) → (count ≤ o → P Trace) → P (written_file count o)
+by-file P o count f g = by-test (nat_lt o count) refl
+  where
+    by-test : (b : Bool) → nat_lt o count ≡ b → P (if b then Output o else Trace)
+    by-test true e = f (grind (arith, nat_tests, e))
+    by-test false e = g (grind (arith, nat_tests, e))
+
+front-name : (names more : List (List ℕ)) (o : ℕ) → o < length names → name_at (names ++ more) o ≡ name_at names o
+front-name [] more o lt = absurd (omega (arith, lt))
+front-name (n ∷ ns) more zero lt = refl
+front-name (n ∷ ns) more (suc o) lt = front-name ns more o (omega (arith, lt))
+
+-- the name behind those of the outputs is that of the trace
+trace-name : (names : List (List ℕ)) (trace : Option (List ℕ)) (o : ℕ) → length names ≤ o → o < length (names ++ option_to_list trace) → IsSome trace × (name_at (names ++ option_to_list trace) o ≡ unwrap_or trace [])
+trace-name [] None o le lt = absurd (omega (arith, lt))
+trace-name [] (Some t) zero le lt = (refl, refl)
+trace-name [] (Some t) (suc o) le lt = absurd (omega (arith, lt))
+trace-name (n ∷ ns) trace zero le lt = absurd (omega (arith, le))
+trace-name (n ∷ ns) trace (suc o) le lt = trace-name ns trace o (omega (arith, le)) (omega (arith, lt))
+
 module _ (means : Job → Meaning InputHead PlanError RunFault) (job : Job) (before after : Option Files) (ins outs : Counts) where
-  abbrev pub with : List InputJob → List OutputJob → Command InputJob InputHead PlanError RunFault
-  with inputs outputs = command_of (λ (i : InputJob). i.name) (λ (i : InputJob). input_head i.format) (λ (o : OutputJob). o.name) inputs outputs (means job)
+  abbrev pub with : List InputJob → List (List ℕ) → ℕ → Command InputJob InputHead PlanError RunFault
+  with inputs names count =
+      record { name = λ (i : InputJob). i.name; head = λ (i : InputJob). input_head i.format; inputs = inputs; outputs = names; count = count; means = means job }
 
   -- how the work over these files ended
-  pub record EndedOver (inputs : List InputJob) (outputs : List OutputJob) (end : End) : Type 0 where
-    pub bytes : end ≡ run_end.Fine → HoldMeaning (with inputs outputs) before after
-    pub front : HoldWritten (with inputs outputs) before after
-    pub others : KeepsAllBut before after (names_of (λ (o : OutputJob). o.name) outputs) (length outputs)
+  pub record EndedOver (inputs : List InputJob) (names : List (List ℕ)) (count : ℕ) (end : End) : Type 0 where
+    pub bytes : end ≡ run_end.Fine → HoldMeaning (with inputs names count) before after
+    pub front : HoldWritten (with inputs names count) before after
+    pub others : KeepsAllBut before after names (length names)
     pub untouched : ends.ComesBeforeOutputs end → KeepsFiles before after
-    pub ends : Ends (with inputs outputs) before ins outs end
-    pub in_counts : KeepsCounts ins.before ins.after (names_of (λ (i : InputJob). i.name) inputs) (sound_inputs (with inputs outputs) end)
-    pub out_counts : KeepsCounts outs.before outs.after (names_of (λ (o : OutputJob). o.name) outputs) (sound_outputs (with inputs outputs) end)
-    pub refused : (k : ℕ) (w : HeadFault) → IsFirstRefused (with inputs outputs) before k w
+    pub ends : Ends (with inputs names count) before ins outs end
+    pub in_counts : KeepsCounts ins.before ins.after (names_of (λ (i : InputJob). i.name) inputs) (sound_inputs (with inputs names count) end)
+    pub out_counts : KeepsCounts outs.before outs.after names (sound_outputs (with inputs names count) end)
+    pub refused : (k : ℕ) (w : HeadFault) → IsFirstRefused (with inputs names count) before k w
         → ((i : ℕ) → i ≤ k → Faulted ins (names_of (λ (x : InputJob). x.name) inputs) i → ⊥) → (end ≡ refusal k w) ⊎ (end ≡ run_end.NoMemory)
-    pub no_plan : (w : PlanError) → HasNoPlan (with inputs outputs) before w → ((i : ℕ) → Faulted ins (names_of (λ (x : InputJob). x.name) inputs) i → ⊥)
+    pub no_plan : (w : PlanError) → HasNoPlan (with inputs names count) before w → ((i : ℕ) → Faulted ins (names_of (λ (x : InputJob). x.name) inputs) i → ⊥)
         → (end ≡ run_end.Refused w) ⊎ (end ≡ run_end.NoMemory)
-    pub complete : CanBeDone (with inputs outputs) before → ((i : ℕ) → Faulted ins (names_of (λ (x : InputJob). x.name) inputs) i → ⊥)
-        → ((o : ℕ) → Faulted outs (names_of (λ (x : OutputJob). x.name) outputs) o → ⊥) → (end ≡ run_end.Fine) ⊎ (end ≡ run_end.NoMemory)
+    pub complete : CanBeDone (with inputs names count) before → ((i : ℕ) → Faulted ins (names_of (λ (x : InputJob). x.name) inputs) i → ⊥)
+        → ((o : ℕ) → Faulted outs names o → ⊥) → (end ≡ run_end.Fine) ⊎ (end ≡ run_end.NoMemory)
 
   -- those of the job
   abbrev Ended : End → Type 0
-  Ended end = EndedOver job.inputs job.outputs end
+  Ended end = EndedOver job.inputs (written job) (length job.outputs) end
 
   same-ins : KeepsCounts ins.before ins.after (input_names job) (length job.inputs) → SameCounts ins.before ins.after
   same-ins k = all-counts (λ (i : InputJob). i.name) job.inputs ins.before ins.after (length job.inputs) refl k
 
-  same-outs : KeepsCounts outs.before outs.after (output_names job) (length (output_names job)) → SameCounts outs.before outs.after
+  same-outs : KeepsCounts outs.before outs.after (written job) (length (written job)) → SameCounts outs.before outs.after
   same-outs k = λ n. k n (λ j below is. below)
 
   in-file : (i : ℕ) → Faulted ins (input_names job) i → i < length job.inputs
   in-file i f = subst (λ c. i < c) (names_len (λ (x : InputJob). x.name) job.inputs) f.0
 
-  out-file : (o : ℕ) → Faulted outs (output_names job) o → o < length job.outputs
-  out-file o f = subst (λ c. o < c) (names_len (λ (x : OutputJob). x.name) job.outputs) f.0
+  abbrev count : ℕ
+  count = length job.outputs
+
+  -- a fault on one of the written files is that of an output or of the trace
+  file-failed : (o : ℕ) → Faulted outs (written job) o → IsPlanned (over means job) before → HasFile job (written_file count o) × HasFailed means job before ins outs (written_file count o)
+  file-failed o f planned = by-file (λ file. HasFile job file × HasFailed means job before ins outs file) o count
+      (λ lt.
+      let own = front-name (output_names job) (option_to_list job.trace) o (subst (λ n. o < n) (sym (names_len (λ (x : OutputJob). x.name) job.outputs)) lt) in
+      (lt, ((subst (λ n. o < n) (sym (names_len (λ (x : OutputJob). x.name) job.outputs)) lt, subst (λ name. Rose (outs.before name) (outs.after name)) own f.1), planned)))
+      (λ le.
+      let last = trace-name (output_names job) job.trace o (subst (λ n. n ≤ o) (sym (names_len (λ (x : OutputJob). x.name) job.outputs)) le) f.0 in
+      (last.0, (subst (λ name. Rose (outs.before name) (outs.after name)) last.1 f.1, planned)))
 
   comes-plan : (w : PlanError) → ends.IsPlanRefused (over means job) before w → Comes means job before after ins outs (refused_plan w)
   comes-plan (why.NoStream output map) h = h
@@ -112,19 +151,19 @@ module _ (means : Job → Meaning InputHead PlanError RunFault) (job : Job) (bef
   comes-plan (why.Unbuilt part) h = h
   comes-plan why.NoMemory h = tt
 
-  comes : (end : End) → Ended end → Comes means job before after ins outs (status_of end)
+  comes : (end : End) → Ended end → Comes means job before after ins outs (status_of count end)
   comes run_end.Fine e = tt
   comes run_end.NoMemory e = tt
   comes (run_end.InputFailed i) e = (in-file i e.ends.0, e.ends)
-  comes (run_end.OutputFailed o) e = (out-file o e.ends.0, e.ends)
+  comes (run_end.OutputFailed o) e = file-failed o e.ends.0 e.ends.1
   comes (run_end.Damaged k offset) e = inl (e.ends, e.untouched tt)
   comes (run_end.Unsupported k offset) e = e.ends
   comes (run_end.Refused w) e = comes-plan w e.ends
   comes (run_end.Broken (run_fault.Damaged k offset)) e = inr e.ends
-  comes (run_end.Broken (run_fault.TooLong node count)) e = (count, e.ends)
+  comes (run_end.Broken (run_fault.TooLong node many)) e = (many, e.ends)
   comes (run_end.Broken (run_fault.TooLarge o)) e = e.ends
 
-  untouched : (end : End) → Ended end → ComesBeforeOutputs (status_of end) → KeepsFiles before after
+  untouched : (end : End) → Ended end → ComesBeforeOutputs (status_of count end) → KeepsFiles before after
   untouched run_end.Fine e h = absurd h
   untouched run_end.NoMemory e h = absurd h
   untouched (run_end.InputFailed i) e h = absurd h
@@ -133,10 +172,10 @@ module _ (means : Job → Meaning InputHead PlanError RunFault) (job : Job) (bef
   untouched (run_end.Unsupported k offset) e h = e.untouched tt
   untouched (run_end.Refused w) e h = e.untouched tt
   untouched (run_end.Broken (run_fault.Damaged k offset)) e h = absurd h
-  untouched (run_end.Broken (run_fault.TooLong node count)) e h = absurd h
+  untouched (run_end.Broken (run_fault.TooLong node many)) e h = absurd h
   untouched (run_end.Broken (run_fault.TooLarge o)) e h = absurd h
 
-  bytes : (end : End) → Ended end → status_of end ≡ status.Fine → HoldMeaning (over means job) before after
+  bytes : (end : End) → Ended end → status_of count end ≡ status.Fine → HoldMeaning (over means job) before after
   bytes run_end.Fine e h = e.bytes refl
   bytes run_end.NoMemory e h = absurd cc
   bytes (run_end.InputFailed i) e h = absurd cc
@@ -145,10 +184,10 @@ module _ (means : Job → Meaning InputHead PlanError RunFault) (job : Job) (bef
   bytes (run_end.Unsupported k offset) e h = absurd cc
   bytes (run_end.Refused w) e h = absurd (by-plan (λ s. s ≢ status.Fine) (λ x d. cc) (λ d. cc) w h)
   bytes (run_end.Broken (run_fault.Damaged k offset)) e h = absurd cc
-  bytes (run_end.Broken (run_fault.TooLong node count)) e h = absurd cc
+  bytes (run_end.Broken (run_fault.TooLong node many)) e h = absurd cc
   bytes (run_end.Broken (run_fault.TooLarge o)) e h = absurd cc
 
-  plan-memory : (end : End) → status_of end ≢ status.Plan why.NoMemory
+  plan-memory : (end : End) → status_of count end ≢ status.Plan why.NoMemory
   plan-memory run_end.Fine h = cc
   plan-memory run_end.NoMemory h = cc
   plan-memory (run_end.InputFailed i) h = cc
@@ -157,23 +196,23 @@ module _ (means : Job → Meaning InputHead PlanError RunFault) (job : Job) (bef
   plan-memory (run_end.Unsupported k offset) h = cc
   plan-memory (run_end.Refused w) h = not-memory w h
   plan-memory (run_end.Broken (run_fault.Damaged k offset)) h = cc
-  plan-memory (run_end.Broken (run_fault.TooLong node count)) h = cc
+  plan-memory (run_end.Broken (run_fault.TooLong node many)) h = cc
   plan-memory (run_end.Broken (run_fault.TooLarge o)) h = cc
 
-  in-counts : (end : End) → Ended end → KeepsInputs means job before ins (status_of end)
+  in-counts : (end : End) → Ended end → KeepsInputs means job before ins (status_of count end)
   in-counts run_end.Fine e = same-ins e.in_counts
   in-counts run_end.NoMemory e = e.in_counts
   in-counts (run_end.InputFailed i) e = e.in_counts
-  in-counts (run_end.OutputFailed o) e = same-ins e.in_counts
+  in-counts (run_end.OutputFailed o) e = by-file (λ file. KeepsInputs means job before ins (status.Device file)) o count (λ lt. same-ins e.in_counts) (λ le. same-ins e.in_counts)
   in-counts (run_end.Damaged k offset) e = inl (same-ins e.in_counts)
   in-counts (run_end.Unsupported k offset) e = same-ins e.in_counts
   in-counts (run_end.Refused w) e =
       by-plan (KeepsInputs means job before ins) (λ x. same-ins e.in_counts) (λ n below. same-ins e.in_counts n) w
   in-counts (run_end.Broken (run_fault.Damaged k offset)) e = inr (e.ends, e.in_counts)
-  in-counts (run_end.Broken (run_fault.TooLong node count)) e = (count, e.ends, e.in_counts)
+  in-counts (run_end.Broken (run_fault.TooLong node many)) e = (many, e.ends, e.in_counts)
   in-counts (run_end.Broken (run_fault.TooLarge o)) e = e.in_counts
 
-  out-counts : (end : End) → Ended end → KeepsOutputs means job before outs (status_of end)
+  out-counts : (end : End) → Ended end → KeepsOutputs means job before outs (status_of count end)
   out-counts run_end.Fine e = same-outs e.out_counts
   out-counts run_end.NoMemory e = e.out_counts
   out-counts (run_end.InputFailed i) e = e.out_counts
@@ -183,18 +222,18 @@ module _ (means : Job → Meaning InputHead PlanError RunFault) (job : Job) (bef
   out-counts (run_end.Refused w) e =
       by-plan (KeepsOutputs means job before outs) (λ x. same-outs e.out_counts) (λ n below. same-outs e.out_counts n) w
   out-counts (run_end.Broken (run_fault.Damaged k offset)) e = inr (e.ends, e.out_counts)
-  out-counts (run_end.Broken (run_fault.TooLong node count)) e = e.out_counts
+  out-counts (run_end.Broken (run_fault.TooLong node many)) e = e.out_counts
   out-counts (run_end.Broken (run_fault.TooLarge o)) e = e.out_counts
 
-  either : (end a b : End) → (end ≡ a) ⊎ (end ≡ b) → (status_of end ≡ status_of a) ⊎ (status_of end ≡ status_of b)
-  either end a b (inl e) = inl (ap status_of e)
-  either end a b (inr e) = inr (ap status_of e)
+  either : (end a b : End) → (end ≡ a) ⊎ (end ≡ b) → (status_of count end ≡ status_of count a) ⊎ (status_of count end ≡ status_of count b)
+  either end a b (inl e) = inl (ap (status_of count) e)
+  either end a b (inr e) = inr (ap (status_of count) e)
 
-  no-head : (end : End) (k : ℕ) (w : HeadFault) → (end ≡ refusal k w) ⊎ (end ≡ run_end.NoMemory) → (status_of end ≡ refused_head k w) ⊎ (status_of end ≡ status.NoMemory)
+  no-head : (end : End) (k : ℕ) (w : HeadFault) → (end ≡ refusal k w) ⊎ (end ≡ run_end.NoMemory) → (status_of count end ≡ refused_head k w) ⊎ (status_of count end ≡ status.NoMemory)
   no-head end k (fault.Damaged offset) h = either end (run_end.Damaged k offset) run_end.NoMemory h
   no-head end k (fault.Unsupported offset) h = either end (run_end.Unsupported k offset) run_end.NoMemory h
 
-  ran-as : (end : End) → Ended end → Ran means job before after ins outs (status_of end)
+  ran-as : (end : End) → Ended end → Ran means job before after ins outs (status_of count end)
   ran-as end e =
       record {
         bytes = bytes end e;
@@ -210,8 +249,72 @@ module _ (means : Job → Meaning InputHead PlanError RunFault) (job : Job) (bef
         out_counts = out-counts end e;
       }
 
-  pub ran : (end : End) (answer : Status) (inputs : List InputJob) (outputs : List OutputJob) → answer ≡ status_of end → inputs ≡ job.inputs → outputs ≡ job.outputs → EndedOver inputs outputs end
-      → Ran means job before after ins outs answer
-  ran end answer inputs outputs is these those e =
-      subst (Ran means job before after ins outs) (sym is)
-      (ran-as end (subst (λ xs. EndedOver xs job.outputs end) these (subst (λ ys. EndedOver inputs ys end) those e)))
+  pub ran : (end : End) (answer : Status) (inputs : List InputJob) (names : List (List ℕ)) (n : ℕ) → answer ≡ status_of n end → inputs ≡ job.inputs → names ≡ written job → n ≡ length job.outputs
+      → EndedOver inputs names n end → Ran means job before after ins outs answer
+  ran end answer inputs names n is these those many e =
+      subst (Ran means job before after ins outs) (sym (is ∙ ap (λ m. status_of m end) many))
+      (ran-as end (subst (λ xs. EndedOver xs (written job) count end) these (subst (λ ys. EndedOver inputs ys count end) those (subst (λ m. EndedOver inputs names m end) many e))))
+
+  -- what is so of the command over these files is so of the job's
+  pub over-same : (P : Command InputJob InputHead PlanError RunFault → Type 0) (inputs : List InputJob) (names : List (List ℕ)) (n : ℕ) → inputs ≡ job.inputs → names ≡ written job → n ≡ length job.outputs
+      → P (with inputs names n) → P (over means job)
+  over-same P inputs names n these those many p =
+      subst (λ xs. P (with xs (written job) count)) these (subst (λ ys. P (with inputs ys count)) those (subst (λ m. P (with inputs names m)) many p))
+
+  -- what is logged, and where it is printed
+  pub fine-end : (end : End) (n : ℕ) → status_of n end ≡ status.Fine → end ≡ run_end.Fine
+  fine-end run_end.Fine n h = refl
+  fine-end run_end.NoMemory n h = absurd cc
+  fine-end (run_end.InputFailed i) n h = absurd cc
+  fine-end (run_end.OutputFailed o) n h = absurd cc
+  fine-end (run_end.Damaged k offset) n h = absurd cc
+  fine-end (run_end.Unsupported k offset) n h = absurd cc
+  fine-end (run_end.Refused w) n h = absurd (by-plan (λ s. s ≢ status.Fine) (λ x d. cc) (λ d. cc) w h)
+  fine-end (run_end.Broken (run_fault.Damaged k offset)) n h = absurd cc
+  fine-end (run_end.Broken (run_fault.TooLong node m)) n h = absurd cc
+  fine-end (run_end.Broken (run_fault.TooLarge o)) n h = absurd cc
+
+  last-is : (names : List (List ℕ)) (trace : Option (List ℕ)) (name : List ℕ) → trace ≡ Some name → (length names < length (names ++ option_to_list trace)) × (name_at (names ++ option_to_list trace) (length names) ≡ name)
+  last-is names None name is = absurd cc
+  last-is [] (Some t) name is = (omega arith, (let same : Some t ≡ Some name = is in cc))
+  last-is (n ∷ ns) (Some t) name is = (let rest = last-is ns (Some t) name is in (let lt = rest.0 in omega (arith, lt), rest.1))
+
+  pub held-printed : (events : List Event) → HoldTrace (over means job) (printed events) before after → HoldsPrinted job before after events
+  held-printed events h = by-files before after h
+    where
+      by-trace : (b a : Files) (trace : Option (List ℕ)) → job.trace ≡ trace → HoldTrace (over means job) (printed events) (Some b) (Some a) → IfSome trace (λ name. a name ≡ Some (printed events))
+      by-trace b a None is h = tt
+      by-trace b a (Some name) is h =
+          let last = last-is (output_names job) job.trace name is in
+          let many = names_len (λ (x : OutputJob). x.name) job.outputs in
+          subst (λ n. a n ≡ Some (printed events)) last.1 (h (length (output_names job)) (omega (arith, many)) last.0)
+
+      by-files : (b a : Option Files) → HoldTrace (over means job) (printed events) b a → HoldsPrinted job b a events
+      by-files None a h = tt
+      by-files (Some b) None h = tt
+      by-files (Some b) (Some a) h = by-trace b a job.trace refl h
+
+-- of a job of which nothing was done for want of memory
+pub ran-none : (means : Job → Meaning InputHead PlanError RunFault) (job : Job) (files : Option Files) (ins outs : List ℕ → ℕ)
+    → Ran means job files files (record { before = ins; after = ins }) (record { before = outs; after = outs }) status.NoMemory
+ran-none means job files ins outs = record {
+  bytes = λ e. absurd cc;
+  front = same files;
+  others = but files;
+  untouched = λ h. absurd h;
+  comes = tt;
+  plan_memory = λ e. cc;
+  no_head = λ k w first sound. inr refl;
+  no_plan = λ w none sound. inr refl;
+  complete = λ can sound_ins sound_outs. inr refl;
+  in_counts = λ name below. refl;
+  out_counts = λ name below. refl;
+}
+  where
+    same : (f : Option Files) → HoldWritten (over means job) f f
+    same None = tt
+    same (Some f) = λ j lt. inl refl
+
+    but : (f : Option Files) → KeepsAllBut f f (written job) (length (written job))
+    but None = tt
+    but (Some f) = λ other h. refl

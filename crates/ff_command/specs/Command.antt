@@ -1,18 +1,20 @@
 -- What a command means, when each of its answers comes, and what stands then. `before` and `after` are the files that the host
 -- tells, before and after the call; `ins` and `outs` are its counts of faults of reading and of writing by name, at both moments.
 -- Where the files aren't told, a conclusion on them claims nothing, and a premise on them isn't met.
-use Rattle.std.specs.Prelude.{◌≡◌, ◌⊎◌, ⊤, ℕ, ◌<◌, ◌≤◌, List, length, Option, Ok, Err}
-use Rattle.ff_host.specs.Causes.{SameCounts}
+use Rattle.std.specs.Prelude.{◌≡◌, ◌⊎◌, ⊤, ℕ, ◌<◌, ◌≤◌, List, [], length, Option, Some, None, IsSome, IfSome, unwrap_or, Ok, Err}
+use Rattle.ff_host.specs.Causes.{Rose, SameCounts}
 use Rattle.ff_host.specs.Files.{Files, KeepsFiles}
 use Rattle.ff_cut.specs.declared.fault.HeadFault.{HeadFault}
 use Rattle.ff_cut.specs.declared.fault.HeadFault.TheVariants as fault
+use Rattle.ff_values.specs.declared.event.Event.{Event}
+use Rattle.ff_sched.specs.Printing.{printed}
 use Rattle.ff_words.specs.declared.job.InputJob.{InputJob}
 use Rattle.ff_words.specs.declared.job.OutputJob.{OutputJob}
 use Rattle.ff_words.specs.declared.job.Job.{Job}
 use Rattle.ff_words.specs.declared.job.Command.TheVariants.{Run}
 use Rattle.ff_words.specs.declared.error.Fault.{Fault}
 use Rattle.ff_words.specs.declared.table.Table.TheVariants.{Today}
-use Rattle.ff_words.specs.Words.{IsAnswer}
+use Rattle.ff_words.specs.Words.{IsAnswer, written}
 use Rattle.ff_heads.specs.declared.head.InputHead.{InputHead}
 use Rattle.ff_heads.specs.Formats.{input_head}
 use Rattle.ff_plan.specs.declared.planned.PlanError.{PlanError}
@@ -22,10 +24,10 @@ use Rattle.ff_running.specs.declared.fault.RunFault.TheVariants as run_fault
 use Rattle.ff_files.specs.Names.{name_at, names_of, KeepsAllBut}
 use Rattle.ff_files.specs.Counts.{Counts, Faulted, KeepsCounts}
 use Rattle.ff_files.specs.Heads.{HaveHeads, IsRefused}
-use Rattle.ff_files.specs.Works.{Meaning, Command, command_of, HoldMeaning, HoldWritten}
+use Rattle.ff_files.specs.Works.{Meaning, Command, AreHeadsIn, HoldMeaning, HoldWritten}
 use Rattle.ff_files.specs.Ends.{IsPlanned, IsBroken, IsFirstRefused, HasNoPlan, CanBeDone}
 use Rattle.ff_command.specs.declared.report.FileRef.{FileRef}
-use Rattle.ff_command.specs.declared.report.FileRef.TheVariants.{Input, Output}
+use Rattle.ff_command.specs.declared.report.FileRef.TheVariants.{Input, Output, Trace}
 use Rattle.ff_command.specs.declared.report.Status.{Status}
 use Rattle.ff_command.specs.declared.report.Status.TheVariants as status
 
@@ -55,15 +57,17 @@ input_names job = names_of (λ (i : InputJob). i.name) job.inputs
 abbrev pub output_names : Job → List (List ℕ)
 output_names job = names_of (λ (o : OutputJob). o.name) job.outputs
 
--- the job has a file of this number
+-- the job has such a file
 abbrev pub HasFile : Job → FileRef → Type 0
 HasFile job (Input i) = i < length job.inputs
 HasFile job (Output o) = o < length job.outputs
+HasFile job Trace = IsSome job.trace
 
 -- its name
 abbrev pub file_name : Job → FileRef → List ℕ
 file_name job (Input i) = name_at (input_names job) i
 file_name job (Output o) = name_at (output_names job) o
+file_name job Trace = unwrap_or job.trace []
 
 -- where the status is a device's fault, this is the name of the file of the job that the words ask for
 abbrev pub IsNamed : List (List ℕ) → Status → List ℕ → Type 0
@@ -72,9 +76,18 @@ IsNamed words _ name = ⊤
 
 -- ---- what stands, whatever a job means
 
--- every file that isn't an output of the job is as it was, and every file where the words ask for none
+-- every file that is neither an output of the job nor its trace is as it was, and every file where the words ask for none
 abbrev pub KeepsOtherFiles : List (List ℕ) → Option Files → Option Files → Type 0
-KeepsOtherFiles words before after = KeepsFiles before after ⊎ AskFor words (λ job. KeepsAllBut before after (output_names job) (length job.outputs))
+KeepsOtherFiles words before after = KeepsFiles before after ⊎ AskFor words (λ job. KeepsAllBut before after (written job) (length (written job)))
+
+-- the trace of the job, if it has one, holds the printed history
+abbrev pub HoldsPrinted : Job → Option Files → Option Files → List Event → Type 0
+HoldsPrinted job (Some before) (Some after) history = IfSome job.trace (λ name. after name ≡ Some (printed history))
+HoldsPrinted job before after history = ⊤
+
+-- and so does the one that the words ask for
+abbrev pub HoldsTrace : List (List ℕ) → Option Files → Option Files → List Event → Type 0
+HoldsTrace words before after history = AskFor words (λ job. HoldsPrinted job before after history)
 
 -- the status comes before any output is created
 abbrev pub ComesBeforeOutputs : Status → Type 0
@@ -91,9 +104,9 @@ AreSoundTo ins job k = (i : ℕ) → i ≤ k → Faulted ins (input_names job) i
 abbrev pub InputsAreSound : Counts → Job → Type 0
 InputsAreSound ins job = (i : ℕ) → Faulted ins (input_names job) i → ⊥
 
--- no count of writing has risen under the name of an output
+-- no count of writing has risen under the name of an output or of the trace
 abbrev pub OutputsAreSound : Counts → Job → Type 0
-OutputsAreSound outs job = (o : ℕ) → Faulted outs (output_names job) o → ⊥
+OutputsAreSound outs job = (o : ℕ) → Faulted outs (written job) o → ⊥
 
 -- the status of an input whose head is refused so
 abbrev pub refused_head : ℕ → HeadFault → Status
@@ -105,13 +118,26 @@ abbrev pub refused_plan : PlanError → Status
 refused_plan why.NoMemory = status.NoMemory
 refused_plan why = status.Plan why
 
+-- ---- what is told of a run
+
+-- it is told of the heads of the inputs, which are those of the files where these are told
+abbrev pub IsReported : {I R F : Type 0} → Command I InputHead R F → (List InputHead → List Event → Type 0) → Option Files → List Event → Type 0
+IsReported command tells before history = (heads : List InputHead) × AreHeadsIn command before heads × tells heads history
+
 -- ---- what jobs mean: of what is done between opening and closing, a worker says what it means for each job
 
 module _ (means : Job → Meaning InputHead PlanError RunFault) where
   -- the job over its files: their names, the heads of the inputs, each in the format that was given or that its bytes tell, and
   -- what is done with them
   abbrev pub over : Job → Command InputJob InputHead PlanError RunFault
-  over job = command_of (λ (i : InputJob). i.name) (λ (i : InputJob). input_head i.format) (λ (o : OutputJob). o.name) job.inputs job.outputs (means job)
+  over job = record {
+    name = λ (i : InputJob). i.name;
+    head = λ (i : InputJob). input_head i.format;
+    inputs = job.inputs;
+    outputs = written job;
+    count = length job.outputs;
+    means = means job;
+  }
 
   -- the words ask for a job that means some bytes for each of its outputs, and each holds these
   abbrev pub HoldsMeaning : List (List ℕ) → Option Files → Option Files → Type 0
@@ -120,6 +146,10 @@ module _ (means : Job → Meaning InputHead PlanError RunFault) where
   -- each output is as it was, or holds a front of what is written to it, or all that it is meant to hold
   abbrev pub HoldsFront : List (List ℕ) → Option Files → Option Files → Type 0
   HoldsFront words before after = IfAsked words (λ job. HoldWritten (over job) before after)
+
+  -- This is told of the history and the heads of the inputs of the words' job, which are those of the files where these are told.
+  abbrev pub ReportsHistory : (Job → List InputHead → List Event → Type 0) → List (List ℕ) → Option Files → List Event → Type 0
+  ReportsHistory tells words before history = AskFor words (λ job. IsReported (over job) (tells job) before history)
 
   -- ---- when each answer comes
 
@@ -136,10 +166,11 @@ module _ (means : Job → Meaning InputHead PlanError RunFault) where
   abbrev pub IsTooLong : Job → Option Files → ℕ → Type 0
   IsTooLong job before node = (count : ℕ) × IsBroken (over job) before (run_fault.TooLong node count)
 
-  -- reading this input failed, behind inputs that all have heads; or writing this output, of a job that has a plan
+  -- reading this input failed, behind inputs that all have heads; or writing this output or the trace, of a job that has a plan
   abbrev pub HasFailed : Job → Option Files → Counts → Counts → FileRef → Type 0
   HasFailed job before ins outs (Input i) = Faulted ins (input_names job) i × HaveHeads (over job).name (over job).head before job.inputs i
   HasFailed job before ins outs (Output o) = Faulted outs (output_names job) o × IsPlanned (over job) before
+  HasFailed job before ins outs Trace = Rose (outs.before (file_name job Trace)) (outs.after (file_name job Trace)) × IsPlanned (over job) before
 
   -- Of the words' job, files that are told have a head that is refused so, and no input up to it has failed.
   abbrev pub GivesNoHead : List (List ℕ) → Option Files → Counts → ℕ → HeadFault → Type 0
@@ -163,6 +194,7 @@ module _ (means : Job → Meaning InputHead PlanError RunFault) where
   KeepsInputs job before ins (status.Unsupported k offset) = SameCounts ins.before ins.after
   KeepsInputs job before ins (status.Device (Input i)) = KeepsCounts ins.before ins.after (input_names job) i
   KeepsInputs job before ins (status.Device (Output o)) = SameCounts ins.before ins.after
+  KeepsInputs job before ins (status.Device Trace) = SameCounts ins.before ins.after
   KeepsInputs job before ins (status.Damaged k offset) =
       SameCounts ins.before ins.after
       ⊎ (IsBroken (over job) before (run_fault.Damaged k offset)
@@ -173,7 +205,7 @@ module _ (means : Job → Meaning InputHead PlanError RunFault) where
   KeepsInputs job before ins (status.TooLarge o) = KeepsCounts ins.before ins.after (input_names job) ((means job).comes_after (run_fault.TooLarge o))
   KeepsInputs job before ins status.NoMemory = KeepsCounts ins.before ins.after (input_names job) 1
 
-  -- the counts under names that are no output, and under all where no output was written or each was
+  -- the counts under names that are neither an output's nor the trace's, and under all where none was written or each was
   abbrev pub KeepsOutputs : Job → Option Files → Counts → Status → Type 0
   KeepsOutputs job before outs status.Fine = SameCounts outs.before outs.after
   KeepsOutputs job before outs (status.Words word kind) = SameCounts outs.before outs.after
@@ -181,8 +213,8 @@ module _ (means : Job → Meaning InputHead PlanError RunFault) where
   KeepsOutputs job before outs (status.Unsupported k offset) = SameCounts outs.before outs.after
   KeepsOutputs job before outs (status.Damaged k offset) =
       SameCounts outs.before outs.after
-      ⊎ (IsBroken (over job) before (run_fault.Damaged k offset) × KeepsCounts outs.before outs.after (output_names job) 0)
-  KeepsOutputs job before outs _ = KeepsCounts outs.before outs.after (output_names job) 0
+      ⊎ (IsBroken (over job) before (run_fault.Damaged k offset) × KeepsCounts outs.before outs.after (written job) 0)
+  KeepsOutputs job before outs _ = KeepsCounts outs.before outs.after (written job) 0
 
   -- the same by the words: where they ask for nothing, no count has risen
   abbrev pub KeepsInputCounts : List (List ℕ) → Option Files → Counts → Status → Type 0

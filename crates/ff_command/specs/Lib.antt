@@ -1,3 +1,4 @@
+pub mod Histories
 pub mod Texts
 pub mod Command
 pub mod Steps

@@ -1,5 +1,5 @@
 -- What a job's run leaves, and what the words' run does, each as one record.
-use Rattle.std.specs.Prelude.{◌≡◌, ◌≢◌, ◌⊎◌, ℕ, List, length, Option, Some, None}
+use Rattle.std.specs.Prelude.{◌≡◌, ◌≢◌, ◌⊎◌, ℕ, List, length, Option, Some, None, nat_lt, if◌then◌else◌}
 use Rattle.std.specs.List.{All}
 use Rattle.ff_host.specs.Files.{Files, KeepsFiles}
 use Rattle.ff_cut.specs.declared.fault.HeadFault.{HeadFault}
@@ -9,7 +9,7 @@ use Rattle.ff_words.specs.declared.error.Fault.{Fault}
 use Rattle.ff_words.specs.declared.error.WordError.{WordError}
 use Rattle.ff_words.specs.declared.error.WordError.TheVariants.{At, NoMemory}
 use Rattle.ff_words.specs.Bounds.{IsBounded, IsPlain}
-use Rattle.ff_words.specs.Words.{fault as wrong_at}
+use Rattle.ff_words.specs.Words.{fault as wrong_at, written}
 use Rattle.ff_heads.specs.declared.head.InputHead.{InputHead}
 use Rattle.ff_heads.specs.Heads.{IsHead}
 use Rattle.ff_plan.specs.declared.planned.PlanError.{PlanError}
@@ -23,10 +23,10 @@ use Rattle.ff_files.specs.Ends.{IsPlanRefused, IsBroken, IsFirstRefused, HasNoPl
 use Rattle.ff_files.specs.declared.end.RunEnd.{RunEnd}
 use Rattle.ff_files.specs.declared.end.RunEnd.TheVariants as run_end
 use Rattle.ff_command.specs.declared.report.FileRef.{FileRef}
-use Rattle.ff_command.specs.declared.report.FileRef.TheVariants.{Input, Output}
+use Rattle.ff_command.specs.declared.report.FileRef.TheVariants.{Input, Output, Trace}
 use Rattle.ff_command.specs.declared.report.Status.{Status}
 use Rattle.ff_command.specs.declared.report.Status.TheVariants as status
-use Rattle.ff_command.specs.Command.{AskFor, AreWrong, output_names, KeepsOtherFiles, ComesBeforeOutputs, AreSoundTo, InputsAreSound, OutputsAreSound, refused_head, refused_plan, over, HoldsMeaning, HoldsFront, IsHeadRefused, IsDamaged, IsTooLong, HasFailed, HasFile, GivesNoHead, GivesNoPlan, GivesAll, KeepsInputs, KeepsOutputs, KeepsInputCounts, KeepsOutputCounts}
+use Rattle.ff_command.specs.Command.{AskFor, AreWrong, KeepsOtherFiles, ComesBeforeOutputs, AreSoundTo, InputsAreSound, OutputsAreSound, refused_head, refused_plan, over, HoldsMeaning, HoldsFront, IsHeadRefused, IsDamaged, IsTooLong, HasFailed, HasFile, GivesNoHead, GivesNoPlan, GivesAll, KeepsInputs, KeepsOutputs, KeepsInputCounts, KeepsOutputCounts}
 
 -- the heads of all inputs of a job that words may ask for
 pub record AreAllHeads (job : Job) (heads : List InputHead) : Type 0 where
@@ -46,16 +46,20 @@ broken_run (run_fault.Damaged input offset) = status.Damaged input offset
 broken_run (run_fault.TooLong node count) = status.TooLong node
 broken_run (run_fault.TooLarge output) = status.TooLarge output
 
--- the status of a job over its files
-abbrev pub status_of : RunEnd PlanError RunFault → Status
-status_of run_end.Fine = status.Fine
-status_of (run_end.InputFailed input) = status.Device (Input input)
-status_of (run_end.OutputFailed output) = status.Device (Output output)
-status_of (run_end.Damaged input offset) = status.Damaged input offset
-status_of (run_end.Unsupported input offset) = status.Unsupported input offset
-status_of (run_end.Refused why) = refused_plan why
-status_of (run_end.Broken why) = broken_run why
-status_of run_end.NoMemory = status.NoMemory
+-- the file of this number among those that are written, of which the first so many are the outputs
+abbrev pub written_file : ℕ → ℕ → FileRef
+written_file count k = if nat_lt k count then Output k else Trace
+
+-- the status of a job of so many outputs over its files
+abbrev pub status_of : ℕ → RunEnd PlanError RunFault → Status
+status_of count run_end.Fine = status.Fine
+status_of count (run_end.InputFailed input) = status.Device (Input input)
+status_of count (run_end.OutputFailed output) = status.Device (written_file count output)
+status_of count (run_end.Damaged input offset) = status.Damaged input offset
+status_of count (run_end.Unsupported input offset) = status.Unsupported input offset
+status_of count (run_end.Refused why) = refused_plan why
+status_of count (run_end.Broken why) = broken_run why
+status_of count run_end.NoMemory = status.NoMemory
 
 -- the file is one of this job
 abbrev pub IsOfJob : Option Job → FileRef → Type 0
@@ -79,7 +83,7 @@ module _ (means : Job → Meaning InputHead PlanError RunFault) where
   pub record Ran (job : Job) (before after : Option Files) (ins outs : Counts) (answer : Status) : Type 0 where
     pub bytes : answer ≡ status.Fine → HoldMeaning (over means job) before after
     pub front : HoldWritten (over means job) before after
-    pub others : KeepsAllBut before after (output_names job) (length job.outputs)
+    pub others : KeepsAllBut before after (written job) (length (written job))
     pub untouched : ComesBeforeOutputs answer → KeepsFiles before after
     pub comes : Comes job before after ins outs answer
     pub plan_memory : answer ≢ status.Plan why.NoMemory

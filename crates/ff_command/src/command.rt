@@ -10,19 +10,22 @@ ghost use Rattle.ff_words.specs.Words.{texts, fault};
 ghost use Rattle.ff_words.specs.declared.error.Fault.{Fault};
 ghost use Rattle.ff_running.specs.declared.fault.RunFault.TheVariants as run_fault;
 ghost use Rattle.ff_files.specs.Ends.{IsPlanRefused, IsBroken};
-ghost use Rattle.ff_command.specs.Command.{Ask, AskFor, AreWrong, IsNamed, HasFile, file_name, KeepsOtherFiles, ComesBeforeOutputs};
+ghost use Rattle.ff_command.specs.Command.{Ask, AskFor, AreWrong, IsNamed, HasFile, file_name, KeepsOtherFiles, ComesBeforeOutputs, ReportsHistory, HoldsTrace};
 ghost use Rattle.ff_command.specs.Command.{refused_head, refused_plan, over, HoldsMeaning, HoldsFront, IsHeadRefused, IsDamaged, IsTooLong};
 ghost use Rattle.ff_command.specs.Command.{HasFailed, GivesNoHead, GivesNoPlan, GivesAll, KeepsInputCounts, KeepsOutputCounts};
+ghost use Rattle.ff_command.specs.Histories.{events_in};
+ghost use Rattle.ff_files.specs.Works.{HasLog};
 ghost use Rattle.ff_command.specs.Steps.{wrong_words, IsOfJob, Answered};
 ghost use Rattle.ff_command.specs.Texts.{fault_text};
 
 use crate::history::History;
 use crate::log::log_fault;
 use crate::report::{FileRef, Line, Report, Status};
-use crate::run::run_job;
+use crate::run::{JobRun, run_job};
 use crate::worker::Worker;
 use ff_host::{Begun, Host, Sink};
 use ff_plan::PlanError;
+use ff_sched::History as Scheduled;
 use ff_words::{Command, Job, WordError, WordKind, read_words};
 use std::alloc::Global;
 
@@ -44,6 +47,10 @@ fn name_of_file(job: &Job, file: FileRef) -> &str
     match file {
         FileRef::Input(input) => job.inputs.as_slice()[input as usize].name.as_str(),
         FileRef::Output(output) => job.outputs.as_slice()[output as usize].name.as_str(),
+        FileRef::Trace => match &job.trace {
+            Some(name) => name.as_str(),
+            None => unreachable!(),
+        },
     }
 }
 
@@ -52,6 +59,7 @@ fn name_of_file(job: &Job, file: FileRef) -> &str
 struct Worked {
     status: Status,
     job: Option<Job>,
+    history: Option<Scheduled>,
 }
 
 // Reads the words, and runs the job that they ask for.
@@ -67,19 +75,24 @@ fn run_words<H: Host, P: Worker<Begun<H::Src>, H::Snk>>(
         (record { before = H.out_faults host.old; after = H.out_faults host.new }) result.status }
     ensures asked { IfSome result.job (λ job. Ask (texts words.now) job) }
     ensures named { (file : _) → result.status ≡ Status.Device file → IsOfJob result.job file }
+    ensures logged { result.status ≡ Status.Fine
+        → HasLog (ReportsHistory (P.means worker.now) (P.tells worker.now) (texts words.now) (H.files host.old)) result.history }
+    ensures traced { result.status ≡ Status.Fine → IfSome result.history (HoldsTrace (texts words.now) (H.files host.old) (H.files host.new)) }
     ensures closed { (H.open_sources host.new ≡ H.open_sources host.old) × (H.open_sinks host.new ≡ H.open_sinks host.old) }
 {
     match read_words(alloc, words) {
         Err(error) => Worked {
             status: status_of_words(error),
             job: None,
+            history: None,
         },
         Ok(Command::SelfRun(_)) => unreachable!(),
         Ok(Command::Run(job)) => {
-            let status = run_job(alloc, worker, &job, host);
+            let JobRun { status, history } = run_job(alloc, worker, &job, host);
             Worked {
                 status,
                 job: Some(job),
+                history,
             }
         }
     }
@@ -99,12 +112,26 @@ fn name_of<'a>(status: &Status, job: &'a Option<Job>) -> &'a str
     }
 }
 
+// The history that is reported with a status.
+fn history_of(status: &Status, history: Option<Scheduled>) -> History
+    ensures fine { status.now ≡ Status.Fine → result ≡ events_in history }
+    ensures other { status.now ≢ Status.Fine → result ≡ [] }
+{
+    match status {
+        Status::Fine => History::new(history),
+        _ => History::new(None),
+    }
+}
+
 /// A command: all that the program does, whatever works its jobs.
 ///
 /// It reads the words, opens the inputs by number, each with its head, plans by the heads, creates the outputs by number, and runs;
 /// then it closes the inputs and then the outputs by number, and appends the line of a fault to the log. Where a step is refused,
 /// only the closings and the line still follow, and the first refusal is the status; in the run it is the fault of the first node
 /// that has one. Want of memory may end it at any step. That the run ends isn't claimed.
+///
+/// Where the words ask for a trace, its file is created behind the outputs, gets the printed history in one append where no node
+/// has a fault, and is closed last.
 pub fn run_command<H: Host, E: Sink, P: Worker<Begun<H::Src>, H::Snk>>(
     alloc: Global,
     worker: &P,
@@ -117,7 +144,7 @@ pub fn run_command<H: Host, E: Sink, P: Worker<Begun<H::Src>, H::Snk>>(
     // With status Fine the words ask for a job, and each of its outputs holds the bytes that the job means.
     ensures bytes { result.status ≡ Status.Fine → HoldsMeaning (P.means worker.now) (texts words.now) (H.files host.old) (H.files host.new) }
 
-    // Whatever the status, no other file changes. Words, heads and plans are refused before any file is created, and a run that
+    // Whatever the status, no other file changes but the trace. Words, heads and plans are refused before any file is created, and a run that
     // fails later leaves of each output what was there, a front of what is written to it, or all of it.
     ensures others { KeepsOtherFiles (texts words.now) (H.files host.old) (H.files host.new) }
     ensures untouched { ComesBeforeOutputs result.status → KeepsFiles (H.files host.old) (H.files host.new) }
@@ -177,15 +204,22 @@ pub fn run_command<H: Host, E: Sink, P: Worker<Begun<H::Src>, H::Snk>>(
         × ((name : List ℕ) × IsNamed (texts words.now) result.status name × AppendsPrefix (E.holds log.old) (E.holds log.new) (fault_text result.status name)) }
     ensures line_no_memory { result.line ≡ Line.NoMemory → Keeps (E.holds log.old) (E.holds log.new) }
 
-    // Nothing is scheduled.
-    ensures history { result.history ≡ [] }
+    // The history of what the scheduler of the run granted and was told, which the trace holds where the words ask for one.
+    ensures history { result.status ≡ Status.Fine → ReportsHistory (P.means worker.now) (P.tells worker.now) (texts words.now) (H.files host.old) result.history }
+    ensures trace { result.status ≡ Status.Fine → HoldsTrace (texts words.now) (H.files host.old) (H.files host.new) result.history }
+    ensures no_history { result.status ≢ Status.Fine → result.history ≡ [] }
     ensures reads { result.reads.items ≡ [] }
 {
-    let Worked { status, job } = run_words(alloc, worker, words, host);
+    let Worked {
+        status,
+        job,
+        history,
+    } = run_words(alloc, worker, words, host);
     let line = log_fault(alloc, &status, name_of(&status, &job), log);
+    let history = history_of(&status, history);
     Report {
         status,
-        history: History::new(alloc),
+        history,
         reads: Vec::new(alloc),
         line,
     }

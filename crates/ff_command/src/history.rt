@@ -1,37 +1,41 @@
-ghost use Rattle.std.specs.Prelude.{◌≡◌, List, []};
+// What a report says of the scheduler.
+ghost use Rattle.std.specs.Prelude.{◌≡◌};
+ghost use Rattle.ff_command.specs.Histories.{events_in};
 
+use ff_sched::History as Scheduled;
 use ff_values::Event;
-use std::alloc::Global;
 use std::marker::Model;
 
-/// The events of a scheduler in their order.
+/// All that the scheduler of a run granted and was told, in one order.
 #[derive(Drop)]
 pub struct History {
-    events: Vec<Event>,
+    scheduled: Option<Scheduled>,
 }
 
 impl Model for History {
     ghost use Rattle.std.specs.Prelude.{List};
     ghost use Rattle.ff_values.specs.declared.event.Event.{Event};
+    ghost use Rattle.ff_command.specs.Histories.{events_in};
 
     ghost Value = { List Event };
 
-    ghost view = { λ h. h.events.items };
+    ghost view = { λ h. events_in h.scheduled };
 }
 
 impl History {
-    pub(crate) fn new(alloc: Global) -> Self
-        ensures { result ≡ [] }
+    pub(crate) fn new(scheduled: Option<Scheduled>) -> Self
+        ensures { result ≡ events_in scheduled }
     {
-        History {
-            events: Vec::new(alloc),
-        }
+        History { scheduled }
     }
 
     /// The events, the first one first.
     pub fn events(&self) -> &[Event]
         ensures { result.now ≡ self.now }
     {
-        &self.events
+        match &self.scheduled {
+            Some(history) => history.events(),
+            None => &[],
+        }
     }
 }

@@ -7,7 +7,8 @@
 //!
 //! `specs/Command` says, readable alone, what a command means, when each answer comes, and what stands then; `specs/Texts` has the
 //! lines of faults and the numbers. [`run_command`] is proved to keep to them over any host, any log and any [`Worker`]: what is done
-//! of a job between the opening of its inputs and the closing of its outputs a worker says, and does.
+//! of a job between the opening of its inputs and the closing of its outputs a worker says, and does. The history of a run is
+//! reported, and printed into the file of the trace where the words ask for one.
 #![tactic(auto)]
 
 mod command;
@@ -17,6 +18,7 @@ mod report;
 mod run;
 mod texts;
 mod worker;
+mod written;
 
 pub use command::run_command;
 pub use ff_values::Event;

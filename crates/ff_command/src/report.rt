@@ -13,6 +13,8 @@ pub enum FileRef {
     Input(u32),
     /// An output, by its number from 0.
     Output(u32),
+    /// The file of the trace.
+    Trace,
 }
 
 /// How a run ended. Words, inputs, outputs and nodes have numbers from 0.
@@ -24,7 +26,7 @@ pub enum Status {
     Words { word: u32, kind: WordKind },
     /// There is no plan for the heads of the inputs. It isn't for want of memory.
     Plan(PlanError),
-    /// Opening, reading or closing an input failed, or creating, writing or closing an output.
+    /// Opening, reading or closing an input failed, or creating, writing or closing an output or the trace.
     Device { file: FileRef },
     /// The head of an input, or what follows it, breaks its format at this offset in bytes.
     Damaged { input: u32, offset: u64 },
@@ -56,9 +58,9 @@ pub enum Line {
 pub struct Report {
     /// How the run ended.
     pub status: Status,
-    /// The events of the scheduler; none, since nothing is scheduled.
+    /// What the scheduler granted and was told; nothing for any other status than `Fine`.
     pub history: History,
-    /// For each input the places in `history` of the grants under which its packets were read; none likewise.
+    /// For each input the places in `history` of the grants under which its packets were read; none are told.
     pub reads: Vec<Vec<u64>>,
     /// What became of the line of the fault.
     pub line: Line,

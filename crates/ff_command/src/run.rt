@@ -1,15 +1,18 @@
 // A job over its files.
-ghost use Rattle.std.specs.Prelude.{◌≡◌};
+ghost use Rattle.std.specs.Prelude.{◌≡◌, IfSome};
 ghost use Rattle.ff_words.specs.Bounds.{IsBounded, IsPlain};
-ghost use Rattle.ff_command.specs.Command.{refused_plan};
-ghost use Rattle.ff_command.specs.Steps.{broken_run, status_of, Ran};
+ghost use Rattle.ff_files.specs.Works.{HasLog};
+ghost use Rattle.ff_command.specs.Command.{refused_plan, over, IsReported, HoldsPrinted};
+ghost use Rattle.ff_command.specs.Steps.{broken_run, written_file, status_of, Ran};
 
 use crate::report::{FileRef, Status};
 use crate::worker::{JobWork, Worker};
-use ff_files::{RunEnd, over_files};
+use crate::written::written_files;
+use ff_files::{Outcome, RunEnd, over_files};
 use ff_host::{Begun, Host};
 use ff_plan::PlanError;
 use ff_running::RunFault;
+use ff_sched::History;
 use ff_words::Job;
 use std::alloc::Global;
 
@@ -34,9 +37,20 @@ fn status_of_run(why: RunFault) -> Status
     }
 }
 
-// The status of a job over its files.
-fn status_of_end(end: RunEnd<PlanError, RunFault>) -> Status
-    ensures { result ≡ status_of end }
+// The file of this number among those that are written, of which the first so many are the outputs.
+fn file_of(count: u32, number: u32) -> FileRef
+    ensures { result ≡ written_file count number }
+{
+    if number < count {
+        FileRef::Output(number)
+    } else {
+        FileRef::Trace
+    }
+}
+
+// The status of a job of so many outputs over its files.
+fn status_of_end(count: u32, end: RunEnd<PlanError, RunFault>) -> Status
+    ensures { result ≡ status_of count end }
 {
     match end {
         RunEnd::Fine => Status::Fine,
@@ -44,7 +58,7 @@ fn status_of_end(end: RunEnd<PlanError, RunFault>) -> Status
             file: FileRef::Input(input),
         },
         RunEnd::OutputFailed { output } => Status::Device {
-            file: FileRef::Output(output),
+            file: file_of(count, output),
         },
         RunEnd::Damaged { input, offset } => Status::Damaged { input, offset },
         RunEnd::Unsupported { input, offset } => Status::Unsupported { input, offset },
@@ -54,28 +68,44 @@ fn status_of_end(end: RunEnd<PlanError, RunFault>) -> Status
     }
 }
 
+/// How a job was run.
+#[derive(Drop)]
+pub(crate) struct JobRun {
+    pub(crate) status: Status,
+    /// All that its scheduler granted and was told. None where nothing was run, or there was no memory for it.
+    pub(crate) history: Option<History>,
+}
+
 /// Runs a job over its files.
 pub(crate) fn run_job<H: Host, P: Worker<Begun<H::Src>, H::Snk>>(
     alloc: Global,
     worker: &P,
     job: &Job,
     host: &mut H,
-) -> Status
+) -> JobRun
     requires able { P.is_able worker.now }
     requires bounded { IsBounded job.now }
     requires plain { IsPlain job.now }
     ensures ran { Ran (P.means worker.now) job.now (H.files host.old) (H.files host.new)
         (record { before = H.in_faults host.old; after = H.in_faults host.new })
-        (record { before = H.out_faults host.old; after = H.out_faults host.new }) result }
+        (record { before = H.out_faults host.old; after = H.out_faults host.new }) result.status }
+    ensures logged { result.status ≡ Status.Fine
+        → HasLog (IsReported (over (P.means worker.now) job.now) (P.tells worker.now job.now) (H.files host.old)) result.history }
+    ensures traced { result.status ≡ Status.Fine → IfSome result.history (λ events. HoldsPrinted job.now (H.files host.old) (H.files host.new) events) }
     ensures closed { (H.open_sources host.new ≡ H.open_sources host.old) × (H.open_sinks host.new ≡ H.open_sinks host.old) }
 {
+    let Ok(files) = written_files(alloc, job) else {
+        return JobRun {
+            status: Status::NoMemory,
+            history: None,
+        };
+    };
     let work = JobWork { worker, job };
-    let end = over_files(
-        alloc,
-        host,
-        job.inputs.as_slice(),
-        job.outputs.as_slice(),
-        &work,
-    );
-    status_of_end(end)
+    let inputs = job.inputs.as_slice();
+    let count = job.outputs.as_slice().len();
+    let Outcome { end, log } = over_files(alloc, host, inputs, files.as_slice(), count, &work);
+    JobRun {
+        status: status_of_end(count as u32, end),
+        history: log,
+    }
 }

@@ -1,6 +1,8 @@
 //! How jobs are worked.
 ghost use Rattle.std.specs.Prelude.{◌≡◌, List, ℕ, None, Some, IfErr, OnOk, IfOk, length};
-ghost use Rattle.ff_files.specs.Works.{Meaning, AreTold, HoldFiles, HoldParts, KeepEnds, FailNoMore, EndsWork, sound_sources, sound_sinks};
+ghost use Rattle.ff_files.specs.Works.{Meaning, AreTold, HoldFiles, HoldParts, KeepEnds, FailNoMore, EndsWork, HasLog, sound_sources, sound_sinks};
+ghost use Rattle.ff_values.specs.declared.event.Event.{Event};
+ghost use Rattle.ff_sched.specs.Printing.{printed};
 ghost use Rattle.ff_heads.specs.declared.head.InputHead.{InputHead};
 ghost use Rattle.ff_plan.specs.declared.planned.PlanError.{PlanError};
 ghost use Rattle.ff_running.specs.declared.fault.RunFault.{RunFault};
@@ -12,7 +14,9 @@ use ff_heads::InputHead;
 use ff_host::{Sink, Source};
 use ff_plan::PlanError;
 use ff_running::RunFault;
+use ff_sched::{History, print_history};
 use ff_words::Job;
+use std::alloc::{AllocError, Global};
 
 /// How jobs are worked: of each a plan by the heads of its inputs, and a run of it.
 pub trait Worker<Src: Source + Send + Drop, Snk: Sink + Send + Drop> {
@@ -20,6 +24,9 @@ pub trait Worker<Src: Source + Send + Drop, Snk: Sink + Send + Drop> {
 
     /// What a job means: all that contracts see of its work.
     ghost means: { Self → Job → Meaning InputHead PlanError RunFault };
+
+    /// It may be the history of a run of a job that did all, over inputs with these heads.
+    ghost tells: { Self → Job → List InputHead → List Event → Type 0 };
 
     /// It can be worked with: what has to hold of it before.
     ghost is_able: { Self → Type 0 };
@@ -43,7 +50,7 @@ pub trait Worker<Src: Source + Send + Drop, Snk: Sink + Send + Drop> {
         heads: &[InputHead],
         srcs: Vec<Src>,
         snks: Vec<Snk>,
-    ) -> Done<RunFault, Src, Snk>
+    ) -> Done<RunFault, Src, Snk, History>
         requires { is_plan self.now job.now heads.now plan }
         ensures fine { result.end ≡ WorkEnd.Fine → (bytes : List (List ℕ)) → AreTold Src.left Snk.holds srcs.items snks.items bytes
             → HoldFiles Snk.holds ((means self.now job.now).file heads.now bytes) result.snks.items }
@@ -54,7 +61,8 @@ pub trait Worker<Src: Source + Send + Drop, Snk: Sink + Send + Drop> {
         ensures ends { EndsWork (means self.now job.now) Src.faults Snk.faults srcs.items snks.items result.srcs.items result.snks.items heads.now
             (AreTold Src.left Snk.holds srcs.items snks.items) result.end }
         ensures sound_srcs { FailNoMore Src.faults srcs.items result.srcs.items (sound_sources (means self.now job.now) result.end (length srcs.items)) }
-        ensures sound_snks { FailNoMore Snk.faults snks.items result.snks.items (sound_sinks (means self.now job.now) result.end (length snks.items)) };
+        ensures sound_snks { FailNoMore Snk.faults snks.items result.snks.items (sound_sinks (means self.now job.now) result.end (length snks.items)) }
+        ensures logged { result.end ≡ WorkEnd.Fine → HasLog (tells self.now job.now heads.now) result.log };
 }
 
 /// A job, and how it is worked.
@@ -75,9 +83,15 @@ impl<'a, Src: Source + Send + Drop, Snk: Sink + Send + Drop, P: Worker<Src, Snk>
 
     type Fault = RunFault;
 
+    type Log = History;
+
     ghost means = { λ work. P.means work.worker.now work.job.now };
 
     ghost accepts = { λ work heads. P.is_able work.worker.now × AreAllHeads work.job.now heads };
+
+    ghost tells = { λ work heads events. P.tells work.worker.now work.job.now heads events };
+
+    ghost printed = { printed };
 
     ghost is_plan = { λ work heads plan. P.is_plan work.worker.now work.job.now heads plan };
 
@@ -96,7 +110,7 @@ impl<'a, Src: Source + Send + Drop, Snk: Sink + Send + Drop, P: Worker<Src, Snk>
         heads: &[InputHead],
         srcs: Vec<Src>,
         snks: Vec<Snk>,
-    ) -> Done<RunFault, Src, Snk>
+    ) -> Done<RunFault, Src, Snk, History>
         requires { P.is_plan self.now.worker.now self.now.job.now heads.now plan }
         ensures fine { result.end ≡ WorkEnd.Fine → (bytes : List (List ℕ)) → AreTold Src.left Snk.holds srcs.items snks.items bytes
             → HoldFiles Snk.holds ((P.means self.now.worker.now self.now.job.now).file heads.now bytes) result.snks.items }
@@ -108,7 +122,14 @@ impl<'a, Src: Source + Send + Drop, Snk: Sink + Send + Drop, P: Worker<Src, Snk>
             (AreTold Src.left Snk.holds srcs.items snks.items) result.end }
         ensures sound_srcs { FailNoMore Src.faults srcs.items result.srcs.items (sound_sources (P.means self.now.worker.now self.now.job.now) result.end (length srcs.items)) }
         ensures sound_snks { FailNoMore Snk.faults snks.items result.snks.items (sound_sinks (P.means self.now.worker.now self.now.job.now) result.end (length snks.items)) }
+        ensures logged { result.end ≡ WorkEnd.Fine → HasLog (P.tells self.now.worker.now self.now.job.now heads.now) result.log }
     {
         self.worker.run(self.job, plan, heads, srcs, snks)
+    }
+
+    fn print(&self, alloc: Global, log: &History) -> Result<Vec<u8>, AllocError>
+        ensures { IfOk result (λ text. text.items ≡ printed log.now) }
+    {
+        print_history(alloc, log)
     }
 }

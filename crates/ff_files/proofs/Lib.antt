@@ -4,3 +4,4 @@ pub mod Heads
 pub mod Wholes
 pub mod EndLaws
 pub mod AnswerLaws
+mod Tracing

@@ -1,13 +1,14 @@
 -- From the steps of a command over files to the whole.
 use Rattle.std.proofs.Common.{◌≡◌, ◌⊎◌, inl, inr, ℕ, zero, suc, ◌<◌, ◌≤◌, List, [], ◌∷◌, length, map, get_or, Option, None, Some, IsSome, Ok, refl, sym, ap, ◌∙◌, subst, arith}
 use Rattle.std.proofs.lemmas.List.{length-map}
+use Rattle.std.specs.Io.KnownBytes.{Appends}
 use Rattle.ff_host.specs.Files.{Files, bytes_at, KeepsFiles, HoldsAt, HoldsNothing}
 use Rattle.ff_files.specs.Names.{names_of, name_at, KeepsAllBut}
 use Rattle.ff_files.specs.Counts.{KeepsCounts, AreUnfailed}
 use Rattle.ff_files.specs.Hosts.{AreOpen}
 use Rattle.ff_files.specs.Inputs.{AreBegun}
 use Rattle.ff_files.specs.Outputs.{AreEmpty, ArePut}
-use Rattle.ff_files.specs.Works.{Command, AreTold, HoldFiles, HoldsPart, HoldParts, KeepEnds, FailNoMore, file_with, text_with, file_of, text_of, all_heads, all_bytes, meaning, written, HoldMeaning, HoldWritten}
+use Rattle.ff_files.specs.Works.{Command, AreTold, HoldFirstFiles, HoldsPart, HoldFirstParts, GainTexts, KeepEnds, FailNoMore, file_with, text_with, file_of, text_of, all_heads, all_bytes, meaning, written, HoldMeaning, HoldTrace, HoldWritten}
 use Rattle.ff_files.proofs.Lists.{some_of}
 
 -- the bytes of an input that is there, by its number
@@ -60,7 +61,7 @@ but_twice (Some f) None c names j k le p q = absurd p
 but_twice (Some f) (Some e) None names j k le p q = absurd q
 but_twice (Some f) (Some e) (Some d) names j k le p q = λ other h. q other (λ i lt. h i (omega (arith, lt, le))) ∙ p other (λ i lt. h i (omega (arith, lt, le)))
 
-which : (j n : ℕ) → (j < n) ⊎ (n ≤ j)
+pub which : (j n : ℕ) → (j < n) ⊎ (n ≤ j)
 which j zero = inr (omega arith)
 which zero (suc n) = inl (omega arith)
 which (suc j) (suc n) = elim (which j n) [ inl l ↦ inl (omega (arith, l)) | inr r ↦ inr (omega (arith, r)) ]
@@ -89,8 +90,8 @@ module _ {I H R F E K : Type 0} (command : Command I H R F) (left : E → Option
 
   -- each output holds its bytes once its sink is closed
   pub meant : (f0 f1 f2 f3 : Option Files) (snks snks' : List K) → KeepsFiles f0 f1 → AreBegun command.name command.head left f0 command.inputs srcs heads → command.means.refusal heads ≡ None → AreEmpty holds f1 snks
-      → KeepsAllBut f1 f2 command.outputs (length command.outputs) → ArePut holds f2 f3 command.outputs snks' → length snks' ≡ length command.outputs
-      → ((bytes : List (List ℕ)) → AreTold left holds srcs snks bytes → HoldFiles holds (command.means.file heads bytes) snks') → HoldMeaning command f0 f3
+      → KeepsAllBut f1 f2 command.outputs (length command.outputs) → ArePut holds f2 f3 command.outputs snks' → command.count ≤ length snks'
+      → ((bytes : List (List ℕ)) → AreTold left holds srcs snks bytes → HoldFirstFiles command.count holds (command.means.file heads bytes) snks') → HoldMeaning command f0 f3
   meant None f1 f2 f3 snks snks' k begun n empty made put many done = tt
   meant (Some a) None f2 f3 snks snks' k begun n empty made put many done = absurd k
   meant (Some a) (Some b) None f3 snks snks' k begun n empty made put many done = absurd made
@@ -98,7 +99,7 @@ module _ {I H R F E K : Type 0} (command : Command I H R F) (left : E → Option
   meant (Some a) (Some b) (Some c) (Some d) snks snks' k begun n empty made put many done = λ j lt.
       let there : j < length snks' = omega (arith, lt, many) in
       let s = some_of snks' j there in
-      let all = done (all_bytes command a) (told_of (Some a) (Some b) a snks refl k begun empty) j s there in
+      let all = done (all_bytes command a) (told_of (Some a) (Some b) a snks refl k begun empty) j s lt there in
       let is = meaning_is a j (begun.told_heads a refl) n in
       (subst (λ (o : Option (List ℕ)). IsSome o) (sym is) all.0, put_is c d (name_at command.outputs j) (holds (get_or snks' j s)) (command.means.file heads (all_bytes command a) j) (put j s there) all.0 all.1 ∙ sym is)
 
@@ -106,15 +107,16 @@ module _ {I H R F E K : Type 0} (command : Command I H R F) (left : E → Option
   pub fronts : (f0 f1 f2 f3 : Option Files) (snks snks' : List K) → KeepsFiles f0 f1 → AreBegun command.name command.head left f0 command.inputs srcs heads → command.means.refusal heads ≡ None → AreEmpty holds f1 snks
       → KeepsAllBut f1 f2 command.outputs (length snks') → KeepsAllBut f2 f3 command.outputs (length snks') → ArePut holds f2 f3 command.outputs snks'
       → ((i j : ℕ) → i < length command.outputs → j < length command.outputs → name_at command.outputs i ≡ name_at command.outputs j → i ≡ j) → length snks' ≤ length command.outputs
-      → ((bytes : List (List ℕ)) → AreTold left holds srcs snks bytes → HoldParts holds (command.means.text heads bytes) (command.means.file heads bytes) snks') → HoldWritten command f0 f3
-  fronts None f1 f2 f3 snks snks' k begun n empty made kept put apart few done = tt
-  fronts (Some a) None f2 f3 snks snks' k begun n empty made kept put apart few done = absurd k
-  fronts (Some a) (Some b) None f3 snks snks' k begun n empty made kept put apart few done = absurd made
-  fronts (Some a) (Some b) (Some c) None snks snks' k begun n empty made kept put apart few done = tt
-  fronts (Some a) (Some b) (Some c) (Some d) snks snks' k begun n empty made kept put apart few done = λ j lt. elim (which j (length snks')) [
+      → command.count ≤ length command.outputs
+      → ((bytes : List (List ℕ)) → AreTold left holds srcs snks bytes → HoldFirstParts command.count holds (command.means.text heads bytes) (command.means.file heads bytes) snks') → HoldWritten command f0 f3
+  fronts None f1 f2 f3 snks snks' k begun n empty made kept put apart few most done = tt
+  fronts (Some a) None f2 f3 snks snks' k begun n empty made kept put apart few most done = absurd k
+  fronts (Some a) (Some b) None f3 snks snks' k begun n empty made kept put apart few most done = absurd made
+  fronts (Some a) (Some b) (Some c) None snks snks' k begun n empty made kept put apart few most done = tt
+  fronts (Some a) (Some b) (Some c) (Some d) snks snks' k begun n empty made kept put apart few most done = λ j lt. elim (which j (length snks')) [
     | inl there ↦
         let s = some_of snks' j there in
-        let all : HoldsPart (holds (get_or snks' j s)) (command.means.text heads (all_bytes command a) j) (command.means.file heads (all_bytes command a) j) = done (all_bytes command a) (told_of (Some a) (Some b) a snks refl k begun empty) j s there in
+        let all : HoldsPart (holds (get_or snks' j s)) (command.means.text heads (all_bytes command a) j) (command.means.file heads (all_bytes command a) j) = done (all_bytes command a) (told_of (Some a) (Some b) a snks refl k begun empty) j s lt there in
         let text_is = written_is a j (begun.told_heads a refl) n in
         let file_is = meaning_is a j (begun.told_heads a refl) n in
         elim all [
@@ -122,13 +124,13 @@ module _ {I H R F E K : Type 0} (command : Command I H R F) (left : E → Option
           | inr whole ↦ inr (inr (subst (λ (o : Option (List ℕ)). IsSome o) (sym file_is) whole.0, put_is c d (name_at command.outputs j) (holds (get_or snks' j s)) (command.means.file heads (all_bytes command a) j) (put j s there) whole.0 whole.1 ∙ sym file_is))
         ]
     | inr beyond ↦
-        let other : (i : ℕ) → i < length snks' → name_at command.outputs i ≡ name_at command.outputs j → ⊥ = λ i below same. (let equal = apart i j (omega (arith, below, few)) lt same in omega (arith, below, beyond, equal)) in
+        let other : (i : ℕ) → i < length snks' → name_at command.outputs i ≡ name_at command.outputs j → ⊥ = λ i below same. (let equal = apart i j (omega (arith, below, few)) (omega (arith, lt, most)) same in omega (arith, below, beyond, equal)) in
         inl (kept (name_at command.outputs j) other ∙ (made (name_at command.outputs j) other ∙ k (name_at command.outputs j)))
   ]
 
 -- sinks that hold nothing hold a front of whatever text
-pub none_written : {K : Type 0} (holds : K → Option (List ℕ)) (text : ℕ → List ℕ) (file : ℕ → Option (List ℕ)) (snks : List K) → ((j : ℕ) (d : K) → j < length snks → holds (get_or snks j d) ≡ Some []) → HoldParts holds text file snks
-none_written holds text file snks empty = λ j d lt. inl ([], text j, empty j d lt, refl)
+pub none_written : {K : Type 0} (count : ℕ) (holds : K → Option (List ℕ)) (text : ℕ → List ℕ) (file : ℕ → Option (List ℕ)) (snks : List K) → ((j : ℕ) (d : K) → j < length snks → holds (get_or snks j d) ≡ Some []) → HoldFirstParts count holds text file snks
+none_written count holds text file snks empty = λ j d below lt. inl ([], text j, empty j d lt, refl)
 
 -- what ends are kept may be closed
 pub kept_open : {H E : Type 0} (may : H → List ℕ → Type 0) (named : E → Option (List ℕ)) (host : H) (names : List (List ℕ)) (old new : List E) → AreOpen may named host names old → KeepEnds named old new → AreOpen may named host names new
@@ -150,3 +152,23 @@ counts_all before now names all count le k = λ name below. k name (λ i lt same
 -- counts that are kept in two steps
 pub counts_twice : (before mid now : List ℕ → ℕ) (names : List (List ℕ)) (count : ℕ) → KeepsCounts before mid names count → KeepsCounts mid now names count → KeepsCounts before now names count
 counts_twice before mid now names count p q = λ name below. q name below ∙ p name below
+
+-- a sink that held nothing and gained a text holds it, where the files are told
+gained_all : (b : Files) (old new : Option (List ℕ)) (text : List ℕ) → HoldsNothing (Some b) old → Appends old new text → new ≡ Some text
+gained_all b old None text none gained = absurd (subst (λ (o : Option (List ℕ)). Appends o None text) none gained)
+gained_all b old (Some held) text none gained = ap (λ (l : List ℕ). Some l) (subst (λ (o : Option (List ℕ)). Appends o (Some held) text) none gained)
+
+-- the files behind the outputs hold the text that their sinks gained
+pub traced : {I H R F K : Type 0} (command : Command I H R F) (holds : K → Option (List ℕ)) (text : List ℕ) (f0 f1 f2 f3 : Option Files) (snks snks' : List K)
+    → KeepsFiles f0 f1 → KeepsAllBut f1 f2 command.outputs (length command.outputs) → AreEmpty holds f1 snks → ArePut holds f2 f3 command.outputs snks'
+    → length snks ≡ length command.outputs → length snks' ≡ length command.outputs → GainTexts command.count holds text snks snks' → HoldTrace command text f0 f3
+traced command holds text None f1 f2 f3 snks snks' k made empty put many many' gain = tt
+traced command holds text (Some a) None f2 f3 snks snks' k made empty put many many' gain = absurd k
+traced command holds text (Some a) (Some b) None f3 snks snks' k made empty put many many' gain = absurd made
+traced command holds text (Some a) (Some b) (Some c) None snks snks' k made empty put many many' gain = tt
+traced command holds text (Some a) (Some b) (Some c) (Some d) snks snks' k made empty put many many' gain = λ j le lt.
+    let there : j < length snks = omega (arith, lt, many) in
+    let there' : j < length snks' = omega (arith, lt, many') in
+    let s = some_of snks j there in
+    put_front c d (name_at command.outputs j) (holds (get_or snks' j s)) text (put j s there')
+    (gained_all b (holds (get_or snks j s)) (holds (get_or snks' j s)) text (empty j s there) (gain j s le there))

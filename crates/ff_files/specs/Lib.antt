@@ -5,4 +5,5 @@ pub mod Heads
 pub mod Inputs
 pub mod Outputs
 pub mod Works
+pub mod Runs
 pub mod Ends

@@ -1,5 +1,6 @@
 -- What is done between the opening and the closing, and what an output holds by it.
-use Rattle.std.specs.Prelude.{◌≡◌, ◌⊎◌, ⊤, ℕ, ◌<◌, List, [], ◌++◌, length, map, slice_index_or, Option, Some, None, IsSome, Ok, Err}
+use Rattle.std.specs.Prelude.{◌≡◌, ◌⊎◌, ⊤, ℕ, ◌<◌, ◌≤◌, List, [], ◌++◌, length, map, slice_index_or, Option, Some, None, IsSome, Ok, Err}
+use Rattle.std.specs.Io.KnownBytes.{Appends}
 use Rattle.ff_host.specs.Causes.{Rose}
 use Rattle.ff_host.specs.Files.{Files, bytes_at}
 use Rattle.ff_cut.specs.Heads.{Found}
@@ -22,18 +23,20 @@ pub record Meaning (H R F : Type 0) : Type 1 where
   -- inputs below this number come before the fault: a failure of theirs is the end, and not this
   pub comes_after : F → ℕ
 
--- a command over files: its inputs, each with its name and what its head is, the names of its outputs, and the work between
+-- a command over files: its inputs, each with its name and what its head is, the names of the files that it writes, of which the
+-- first so many are its outputs and one more may be its trace, and the work between
 pub record Command (I H R F : Type 0) : Type 1 where
   pub name : I → List ℕ
   pub head : I → List ℕ → Found H
   pub inputs : List I
   pub outputs : List (List ℕ)
+  pub count : ℕ
   pub means : Meaning H R F
 
--- the command over these inputs and outputs
-abbrev pub command_of : {I N H R F : Type 0} → (I → List ℕ) → (I → List ℕ → Found H) → (N → List ℕ) → List I → List N → Meaning H R F → Command I H R F
-command_of name head name_out inputs outputs means =
-    record { name = name; head = head; inputs = inputs; outputs = names_of name_out outputs; means = means }
+-- the command over these inputs and these files to write
+abbrev pub command_of : {I N H R F : Type 0} → (I → List ℕ) → (I → List ℕ → Found H) → (N → List ℕ) → List I → List N → ℕ → Meaning H R F → Command I H R F
+command_of name head name_out inputs outputs count means =
+    record { name = name; head = head; inputs = inputs; outputs = names_of name_out outputs; count = count; means = means }
 
 -- each source tells that these bytes are left, and each sink that it holds nothing
 pub record AreTold {S K : Type 0} (left : S → Option (List ℕ)) (holds : K → Option (List ℕ)) (srcs : List S) (snks : List K) (bytes : List (List ℕ)) : Type 0 where
@@ -53,6 +56,25 @@ HoldsPart held text file =
 -- each sink holds a front of its text, or its finished file
 abbrev pub HoldParts : {K : Type 0} → (K → Option (List ℕ)) → (ℕ → List ℕ) → (ℕ → Option (List ℕ)) → List K → Type 0
 HoldParts {K} holds text file snks = (j : ℕ) (d : K) → j < length snks → HoldsPart (holds (slice_index_or snks j d)) (text j) (file j)
+
+-- each of the first so many sinks holds its file, and there is one
+abbrev pub HoldFirstFiles : {K : Type 0} → ℕ → (K → Option (List ℕ)) → (ℕ → Option (List ℕ)) → List K → Type 0
+HoldFirstFiles {K} count holds file snks = (j : ℕ) (d : K) → j < count → j < length snks → IsSome (file j) × (holds (slice_index_or snks j d) ≡ file j)
+
+-- each of the first so many sinks holds a front of its text, or its finished file
+abbrev pub HoldFirstParts : {K : Type 0} → ℕ → (K → Option (List ℕ)) → (ℕ → List ℕ) → (ℕ → Option (List ℕ)) → List K → Type 0
+HoldFirstParts {K} count holds text file snks =
+    (j : ℕ) (d : K) → j < count → j < length snks → HoldsPart (holds (slice_index_or snks j d)) (text j) (file j)
+
+-- each sink behind the first so many has gained this text
+abbrev pub GainTexts : {K : Type 0} → ℕ → (K → Option (List ℕ)) → List ℕ → List K → List K → Type 0
+GainTexts {K} count holds text old new =
+    (j : ℕ) (d : K) → count ≤ j → j < length old → Appends (holds (slice_index_or old j d)) (holds (slice_index_or new j d)) text
+
+-- there is a log, and this is so of it
+abbrev pub HasLog : {L : Type 0} → (L → Type 0) → Option L → Type 0
+HasLog Is None = ⊥
+HasLog Is (Some log) = Is log
 
 -- each keeps its number and its name
 pub record KeepEnds {E : Type 0} (named : E → Option (List ℕ)) (old new : List E) : Type 0 where
@@ -127,14 +149,24 @@ module _ {I H R F : Type 0} (command : Command I H R F) where
 
   -- each output holds its bytes, and there are some
   abbrev pub HoldMeaning : Option Files → Option Files → Type 0
-  HoldMeaning (Some before) (Some after) = (j : ℕ) → j < length command.outputs
+  HoldMeaning (Some before) (Some after) = (j : ℕ) → j < command.count
       → IsSome (meaning before j) × (after (name_at command.outputs j) ≡ meaning before j)
   HoldMeaning before after = ⊤
 
   -- each output is as it was, or holds a front of what is written to it, or its bytes
   abbrev pub HoldWritten : Option Files → Option Files → Type 0
-  HoldWritten (Some before) (Some after) = (j : ℕ) → j < length command.outputs
+  HoldWritten (Some before) (Some after) = (j : ℕ) → j < command.count
       → (after (name_at command.outputs j) ≡ before (name_at command.outputs j))
       ⊎ ((front rest : List ℕ) × (after (name_at command.outputs j) ≡ Some front) × (written before j ≡ Some (front ++ rest)))
       ⊎ (IsSome (meaning before j) × (after (name_at command.outputs j) ≡ meaning before j))
   HoldWritten before after = ⊤
+
+  -- these are the heads of all inputs, where the files are told
+  abbrev pub AreHeadsIn : Option Files → List H → Type 0
+  AreHeadsIn None heads = ⊤
+  AreHeadsIn (Some files) heads = all_heads files ≡ Ok heads
+
+  -- each file behind the outputs holds this text
+  abbrev pub HoldTrace : List ℕ → Option Files → Option Files → Type 0
+  HoldTrace text (Some before) (Some after) = (j : ℕ) → command.count ≤ j → j < length command.outputs → after (name_at command.outputs j) ≡ Some text
+  HoldTrace text before after = ⊤

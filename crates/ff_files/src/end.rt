@@ -13,7 +13,7 @@ pub enum RunEnd<R: Drop, F: Copy> {
     Fine,
     /// Opening or reading this input failed.
     InputFailed { input: u32 },
-    /// Creating, writing or closing this output failed.
+    /// Creating, writing or closing this output failed. The trace is the one behind the outputs.
     OutputFailed { output: u32 },
     /// The head of this input breaks its format at this offset.
     Damaged { input: u32, offset: u64 },
@@ -25,6 +25,14 @@ pub enum RunEnd<R: Drop, F: Copy> {
     Broken(F),
     /// There was no memory to go on.
     NoMemory,
+}
+
+/// How a command over files ended, and what its run logged.
+#[derive(Drop)]
+pub struct Outcome<R: Drop, F: Copy, L: Drop> {
+    pub end: RunEnd<R, F>,
+    /// None where nothing was run, or there was no memory for it.
+    pub log: Option<L>,
 }
 
 /// The end of an input without a head.

@@ -9,7 +9,8 @@
 //! ```
 //!
 //! What an input's head is, and how it is read, an [`InputFile`] says: nothing here but `job` knows formats. What is done between
-//! the opening and the closing is a [`Work`]: it plans by the heads, and runs.
+//! the opening and the closing is a [`Work`]: it plans by the heads, and runs. One more file may stand behind the outputs, the
+//! trace: the work doesn't get its sink, and what the run has logged is printed into it once all was done.
 #![tactic(auto)]
 
 mod closing;
@@ -19,11 +20,12 @@ mod inputs;
 mod job;
 mod named;
 mod outputs;
+mod trace;
 mod whole;
 mod work;
 
 pub use closing::{close_all, close_sinks, close_sources};
-pub use end::RunEnd;
+pub use end::{Outcome, RunEnd};
 pub use head::{Begin, InputEnd, InputFile, read_begin};
 pub use inputs::{InputRefusal, Opened, open_inputs};
 pub use named::Named;

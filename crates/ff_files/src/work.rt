@@ -1,9 +1,10 @@
 // What is done between the opening and the closing.
 ghost use Rattle.std.specs.Prelude.{◌≡◌, ◌≢◌, List, ℕ, Some, None, IfErr, OnOk, IfOk, length, slice_index_or};
 ghost use Rattle.std.specs.List.{All};
-ghost use Rattle.ff_files.specs.Works.{Meaning, AreTold, HoldFiles, HoldParts, KeepEnds, FailNoMore, EndsWork, sound_sources, sound_sinks};
+ghost use Rattle.ff_files.specs.Works.{Meaning, AreTold, HoldFiles, HoldParts, KeepEnds, FailNoMore, EndsWork, HasLog, sound_sources, sound_sinks};
 
 use ff_host::{Sink, Source};
+use std::alloc::{AllocError, Global};
 
 /// Why heads gave no plan.
 #[derive(Debug, Drop)]
@@ -29,10 +30,12 @@ pub enum WorkEnd<F> {
     NoMemory,
 }
 
-/// How a run ended, and its sources and sinks as they are then.
+/// How a run ended, what it logged, and its sources and sinks as they are then.
 #[derive(Drop)]
-pub struct Done<F: Copy, Src: Drop, Snk: Drop> {
+pub struct Done<F: Copy, Src: Drop, Snk: Drop, L: Drop> {
     pub end: WorkEnd<F>,
+    /// None where there was no memory for it.
+    pub log: Option<L>,
     pub srcs: Vec<Src>,
     pub snks: Vec<Snk>,
 }
@@ -47,6 +50,9 @@ pub trait Work<H, Src: Source + Send + Drop, Snk: Sink + Send + Drop> {
     /// What of the inputs' bytes may end a run.
     type Fault: Copy;
 
+    /// What a run logs.
+    type Log: Drop;
+
     /// All that contracts see of it.
     ghost means: { Self → Meaning H Self.Refusal Self.Fault };
 
@@ -55,6 +61,12 @@ pub trait Work<H, Src: Source + Send + Drop, Snk: Sink + Send + Drop> {
 
     /// It is a plan for these heads.
     ghost is_plan: { Self → List H → Self.Plan → Type 0 };
+
+    /// It may be the log of a run that did all, over inputs with these heads.
+    ghost tells: { Self → List H → Self.Log → Type 0 };
+
+    /// The text of a log.
+    ghost printed: { Self.Log → List ℕ };
 
     /// The plan for these heads, by the number of their inputs.
     fn plan(&self, heads: &[H]) -> Result<Self::Plan, PlanEnd<Self::Refusal>>
@@ -71,7 +83,7 @@ pub trait Work<H, Src: Source + Send + Drop, Snk: Sink + Send + Drop> {
         heads: &[H],
         srcs: Vec<Src>,
         snks: Vec<Snk>,
-    ) -> Done<Self::Fault, Src, Snk>
+    ) -> Done<Self::Fault, Src, Snk, Self::Log>
         requires { is_plan self.now heads.now plan }
         ensures fine { result.end ≡ WorkEnd.Fine → (bytes : List (List ℕ)) → AreTold Src.left Snk.holds srcs.items snks.items bytes
             → HoldFiles Snk.holds ((means self.now).file heads.now bytes) result.snks.items }
@@ -82,5 +94,10 @@ pub trait Work<H, Src: Source + Send + Drop, Snk: Sink + Send + Drop> {
         ensures ends { EndsWork (means self.now) Src.faults Snk.faults srcs.items snks.items result.srcs.items result.snks.items heads.now
             (AreTold Src.left Snk.holds srcs.items snks.items) result.end }
         ensures sound_srcs { FailNoMore Src.faults srcs.items result.srcs.items (sound_sources (means self.now) result.end (length srcs.items)) }
-        ensures sound_snks { FailNoMore Snk.faults snks.items result.snks.items (sound_sinks (means self.now) result.end (length snks.items)) };
+        ensures sound_snks { FailNoMore Snk.faults snks.items result.snks.items (sound_sinks (means self.now) result.end (length snks.items)) }
+        ensures logged { result.end ≡ WorkEnd.Fine → HasLog (tells self.now heads.now) result.log };
+
+    /// Prints a log.
+    fn print(&self, alloc: Global, log: &Self::Log) -> Result<Vec<u8>, AllocError>
+        ensures { IfOk result (λ text. text.items ≡ printed log.now) };
 }

@@ -11,13 +11,13 @@ ghost use Rattle.ff_words.specs.Words.{texts, fault};
 ghost use Rattle.ff_words.specs.declared.error.Fault.{Fault};
 ghost use Rattle.ff_running.specs.declared.fault.RunFault.TheVariants as run_fault;
 ghost use Rattle.ff_files.specs.Ends.{IsPlanRefused, IsBroken};
-ghost use Rattle.ff_command.specs.Command.{AskFor, AreWrong, IsNamed, KeepsOtherFiles, ComesBeforeOutputs};
+ghost use Rattle.ff_command.specs.Command.{AskFor, AreWrong, IsNamed, KeepsOtherFiles, ComesBeforeOutputs, ReportsHistory, HoldsTrace};
 ghost use Rattle.ff_command.specs.Command.{refused_head, refused_plan, over, HoldsMeaning, HoldsFront, IsHeadRefused, IsDamaged, IsTooLong};
 ghost use Rattle.ff_command.specs.Command.{HasFailed, GivesNoHead, GivesNoPlan, GivesAll, KeepsInputCounts, KeepsOutputCounts};
 ghost use Rattle.ff_command.specs.Texts.{fault_text};
 ghost use Rattle.ff_build.specs.Parts.{all_kinds};
 ghost use Rattle.ff_running.specs.Accepting.{IsAccepted, IsPlanFor};
-ghost use Rattle.ff_run.specs.Meaning.{job_means};
+ghost use Rattle.ff_run.specs.Meaning.{job_means, IsJobHistory};
 ghost use Rattle.ff_run.specs.Saying.{BegunSays, PlanSays, RunSays};
 
 use crate::worker::Threaded;
@@ -28,6 +28,7 @@ use ff_heads::InputHead;
 use ff_host::{Begun, Host, Sink, Source};
 use ff_plan::{Plan, PlanError};
 use ff_running::{RunFault, make_plan, run_plan};
+use ff_sched::History;
 use ff_words::Job;
 use std::alloc::Global;
 use std::sync::Wait;
@@ -42,9 +43,9 @@ fn run_parts<R: Threads + Wait + Sync, Src: Source + Send + Drop, Snk: Sink + Se
     heads: &[InputHead],
     srcs: Vec<Src>,
     snks: Vec<Snk>,
-) -> Done<RunFault, Src, Snk>
+) -> Done<RunFault, Src, Snk, History>
     requires { IsPlanFor all_kinds job.now heads.now plan }
-    ensures { RunSays all_kinds Src.left Src.name Src.faults Snk.holds Snk.name Snk.faults job.now heads.now srcs.items snks.items result.end result.srcs.items result.snks.items }
+    ensures { RunSays all_kinds Src.left Src.name Src.faults Snk.holds Snk.name Snk.faults job.now heads.now srcs.items snks.items result.end result.log result.srcs.items result.snks.items }
 {
     run_plan::<Parts, R, Src, Snk, Part<Src, Snk>>(rt, alloc, job, plan, heads, srcs, snks)
 }
@@ -56,6 +57,9 @@ fn run_parts<R: Threads + Wait + Sync, Src: Source + Send + Drop, Snk: Sink + Se
 /// appends the line of a fault to the log. Where a step is refused, only the closings and the line still follow, and the first
 /// refusal is the status; in the run it is the fault of the first node that has one. Want of memory may end it at any step. That
 /// the run ends isn't claimed.
+///
+/// Where the words ask for a trace, its file is created behind the outputs, gets the printed history in one append where no node
+/// has a fault, and is closed last.
 pub fn ffmpeg<R: Threads + Wait + Sync, H: Host, E: Sink>(
     rt: &R,
     alloc: Global,
@@ -66,7 +70,7 @@ pub fn ffmpeg<R: Threads + Wait + Sync, H: Host, E: Sink>(
     // With status Fine the words ask for a job, and each of its outputs holds the bytes that the job means.
     ensures bytes { result.status ≡ Status.Fine → HoldsMeaning job_means (texts words.now) (H.files host.old) (H.files host.new) }
 
-    // Whatever the status, no other file changes. Words, heads and plans are refused before any file is created, and a run that
+    // Whatever the status, no other file changes but the trace. Words, heads and plans are refused before any file is created, and a run that
     // fails later leaves of each output what was there, a front of what is written to it, or all of it.
     ensures others { KeepsOtherFiles (texts words.now) (H.files host.old) (H.files host.new) }
     ensures untouched { ComesBeforeOutputs result.status → KeepsFiles (H.files host.old) (H.files host.new) }
@@ -126,8 +130,11 @@ pub fn ffmpeg<R: Threads + Wait + Sync, H: Host, E: Sink>(
         × ((name : List ℕ) × IsNamed (texts words.now) result.status name × AppendsPrefix (E.holds log.old) (E.holds log.new) (fault_text result.status name)) }
     ensures line_no_memory { result.line ≡ Line.NoMemory → Keeps (E.holds log.old) (E.holds log.new) }
 
-    // Nothing is scheduled.
-    ensures history { result.history ≡ [] }
+    // The history of what the scheduler of the run granted and was told, from the opening state of the plan on, which the trace
+    // holds where the words ask for one.
+    ensures history { result.status ≡ Status.Fine → ReportsHistory job_means IsJobHistory (texts words.now) (H.files host.old) result.history }
+    ensures trace { result.status ≡ Status.Fine → HoldsTrace (texts words.now) (H.files host.old) (H.files host.new) result.history }
+    ensures no_history { result.status ≢ Status.Fine → result.history ≡ [] }
     ensures reads { result.reads.items ≡ [] }
 {
     let plan = |job: &Job, heads: &[InputHead]| -> Result<Plan, PlanEnd<PlanError>>
@@ -136,10 +143,10 @@ pub fn ffmpeg<R: Threads + Wait + Sync, H: Host, E: Sink>(
     { make_plan::<Parts, Begun<H::Src>, H::Snk, Part<Begun<H::Src>, H::Snk>>(alloc, job, heads) };
     let run = |job: &Job, plan: Plan, heads: &[InputHead], srcs: Vec<Begun<H::Src>>, snks: Vec<
         H::Snk,
-    >| -> Done<RunFault, Begun<H::Src>, H::Snk>
+    >| -> Done<RunFault, Begun<H::Src>, H::Snk, History>
         requires sync { IsSync R.row }
         requires plan { IsPlanFor all_kinds job.now heads.now plan }
-        ensures { BegunSays all_kinds H.Src.left H.Src.name H.Src.faults H.Snk.holds H.Snk.name H.Snk.faults job.now heads.now srcs.items snks.items result.end result.srcs.items result.snks.items }
+        ensures { BegunSays all_kinds H.Src.left H.Src.name H.Src.faults H.Snk.holds H.Snk.name H.Snk.faults job.now heads.now srcs.items snks.items result.end result.log result.srcs.items result.snks.items }
     { run_parts::<R, Begun<H::Src>, H::Snk>(rt, alloc, job, plan, heads, srcs, snks) };
     let worker = Threaded { plan, run };
     run_command(alloc, &worker, words, host, log)

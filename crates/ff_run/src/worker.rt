@@ -2,10 +2,10 @@
 ghost use Rattle.std.specs.Prelude.{◌≡◌, ◌≢◌, ◌<◌, ◌^◌, ℕ, List, length, Some, None, IfOk, IfErr, OnOk};
 ghost use Rattle.ff_build.specs.Parts.{all_kinds};
 ghost use Rattle.ff_command.specs.Steps.{AreAllHeads};
-ghost use Rattle.ff_files.specs.Works.{AreTold, HoldFiles, HoldParts, KeepEnds, FailNoMore, EndsWork, sound_sources, sound_sinks};
+ghost use Rattle.ff_files.specs.Works.{AreTold, HoldFiles, HoldParts, KeepEnds, FailNoMore, EndsWork, HasLog, sound_sources, sound_sinks};
 ghost use Rattle.ff_running.specs.Accepting.{IsAccepted, IsPlanFor};
 ghost use Rattle.ff_words.specs.declared.job.FileFormat.TheVariants.{Flac};
-ghost use Rattle.ff_run.specs.Meaning.{job_means, unwritten, unwritten_from};
+ghost use Rattle.ff_run.specs.Meaning.{job_means, unwritten, unwritten_from, IsJobHistory};
 ghost use Rattle.ff_run.specs.Saying.{PlanSays, RunSays};
 
 use ff_command::Worker;
@@ -14,6 +14,7 @@ use ff_heads::InputHead;
 use ff_host::{Sink, Source};
 use ff_plan::{Plan, PlanError};
 use ff_running::RunFault;
+use ff_sched::History;
 use ff_words::{FileFormat, Job, OutputJob};
 
 // FLAC files aren't written yet.
@@ -50,30 +51,32 @@ impl<
     Src: Source + Send + Drop,
     Snk: Sink + Send + Drop,
     P: Fn(&Job, &[InputHead]) -> Result<Plan, PlanEnd<PlanError>> + Drop,
-    Q: Fn(&Job, Plan, &[InputHead], Vec<Src>, Vec<Snk>) -> Done<RunFault, Src, Snk> + Drop,
+    Q: Fn(&Job, Plan, &[InputHead], Vec<Src>, Vec<Snk>) -> Done<RunFault, Src, Snk, History> + Drop,
 > Worker<Src, Snk> for Threaded<P, Q> {
     type Plan = Plan;
 
     ghost means = { λ worker job. job_means job };
 
+    ghost tells = { λ worker job heads events. IsJobHistory job heads events };
+
     ghost is_able = { λ worker. ((job : _) (hs : _) → IsAccepted all_kinds job.now hs.now → P.pre worker.plan job hs
         × ((r : _) → P.post worker.plan job hs r → PlanSays all_kinds job.now hs.now r))
         × ((job : _) (plan : _) (hs : _) (ss : _) (ks : _) → IsPlanFor all_kinds job.now hs.now plan → Q.pre worker.run job plan hs ss ks
-        × ((r : _) → Q.post worker.run job plan hs ss ks r → RunSays all_kinds Src.left Src.name Src.faults Snk.holds Snk.name Snk.faults job.now hs.now ss.items ks.items r.end r.srcs.items r.snks.items)) };
+        × ((r : _) → Q.post worker.run job plan hs ss ks r → RunSays all_kinds Src.left Src.name Src.faults Snk.holds Snk.name Snk.faults job.now hs.now ss.items ks.items r.end r.log r.srcs.items r.snks.items)) };
 
     ghost is_plan = { λ worker job heads plan. IsPlanFor all_kinds job heads plan
         × ((job : _) (plan : _) (hs : _) (ss : _) (ks : _) → IsPlanFor all_kinds job.now hs.now plan → Q.pre worker.run job plan hs ss ks
-        × ((r : _) → Q.post worker.run job plan hs ss ks r → RunSays all_kinds Src.left Src.name Src.faults Snk.holds Snk.name Snk.faults job.now hs.now ss.items ks.items r.end r.srcs.items r.snks.items)) };
+        × ((r : _) → Q.post worker.run job plan hs ss ks r → RunSays all_kinds Src.left Src.name Src.faults Snk.holds Snk.name Snk.faults job.now hs.now ss.items ks.items r.end r.log r.srcs.items r.snks.items)) };
 
     fn plan(&self, job: &Job, heads: &[InputHead]) -> Result<Plan, PlanEnd<PlanError>>
         requires { (((job : _) (hs : _) → IsAccepted all_kinds job.now hs.now → P.pre self.now.plan job hs
             × ((r : _) → P.post self.now.plan job hs r → PlanSays all_kinds job.now hs.now r))
             × ((job : _) (plan : _) (hs : _) (ss : _) (ks : _) → IsPlanFor all_kinds job.now hs.now plan → Q.pre self.now.run job plan hs ss ks
-            × ((r : _) → Q.post self.now.run job plan hs ss ks r → RunSays all_kinds Src.left Src.name Src.faults Snk.holds Snk.name Snk.faults job.now hs.now ss.items ks.items r.end r.srcs.items r.snks.items)))
+            × ((r : _) → Q.post self.now.run job plan hs ss ks r → RunSays all_kinds Src.left Src.name Src.faults Snk.holds Snk.name Snk.faults job.now hs.now ss.items ks.items r.end r.log r.srcs.items r.snks.items)))
             × AreAllHeads job.now heads.now }
         ensures ok { IfOk result (λ plan. IsPlanFor all_kinds job.now heads.now plan
             × ((job : _) (plan : _) (hs : _) (ss : _) (ks : _) → IsPlanFor all_kinds job.now hs.now plan → Q.pre self.now.run job plan hs ss ks
-            × ((r : _) → Q.post self.now.run job plan hs ss ks r → RunSays all_kinds Src.left Src.name Src.faults Snk.holds Snk.name Snk.faults job.now hs.now ss.items ks.items r.end r.srcs.items r.snks.items))) }
+            × ((r : _) → Q.post self.now.run job plan hs ss ks r → RunSays all_kinds Src.left Src.name Src.faults Snk.holds Snk.name Snk.faults job.now hs.now ss.items ks.items r.end r.log r.srcs.items r.snks.items))) }
         ensures some { OnOk result ((job_means job.now).refusal heads.now ≡ None) }
         ensures refused { (why : _) → IfErr result (λ end. end ≡ PlanEnd.Refused why → (job_means job.now).refusal heads.now ≡ Some why) }
     {
@@ -90,10 +93,10 @@ impl<
         heads: &[InputHead],
         srcs: Vec<Src>,
         snks: Vec<Snk>,
-    ) -> Done<RunFault, Src, Snk>
+    ) -> Done<RunFault, Src, Snk, History>
         requires { IsPlanFor all_kinds job.now heads.now plan
             × ((job : _) (plan : _) (hs : _) (ss : _) (ks : _) → IsPlanFor all_kinds job.now hs.now plan → Q.pre self.now.run job plan hs ss ks
-            × ((r : _) → Q.post self.now.run job plan hs ss ks r → RunSays all_kinds Src.left Src.name Src.faults Snk.holds Snk.name Snk.faults job.now hs.now ss.items ks.items r.end r.srcs.items r.snks.items)) }
+            × ((r : _) → Q.post self.now.run job plan hs ss ks r → RunSays all_kinds Src.left Src.name Src.faults Snk.holds Snk.name Snk.faults job.now hs.now ss.items ks.items r.end r.log r.srcs.items r.snks.items)) }
         ensures fine { result.end ≡ WorkEnd.Fine → (bytes : List (List ℕ)) → AreTold Src.left Snk.holds srcs.items snks.items bytes
             → HoldFiles Snk.holds ((job_means job.now).file heads.now bytes) result.snks.items }
         ensures parts { (bytes : List (List ℕ)) → AreTold Src.left Snk.holds srcs.items snks.items bytes
@@ -104,6 +107,7 @@ impl<
             (AreTold Src.left Snk.holds srcs.items snks.items) result.end }
         ensures sound_srcs { FailNoMore Src.faults srcs.items result.srcs.items (sound_sources (job_means job.now) result.end (length srcs.items)) }
         ensures sound_snks { FailNoMore Snk.faults snks.items result.snks.items (sound_sinks (job_means job.now) result.end (length snks.items)) }
+        ensures logged { result.end ≡ WorkEnd.Fine → HasLog (IsJobHistory job.now heads.now) result.log }
     {
         (self.run)(job, plan, heads, srcs, snks)
     }

@@ -65,7 +65,8 @@ pub fn run<R: Threads + Wait + Sync, H: Host>(
     Ok(ffmpeg(rt, alloc, &words, host, log))
 }
 
-/// Whether the command of these words over this host comes to this number and logs this text, with nothing scheduled.
+/// Whether the command of these words over this host comes to this number and logs this text, with a history exactly where all was
+/// done, and no reads.
 pub fn comes_to<R: Threads + Wait + Sync, H: Host>(
     rt: &R,
     alloc: Global,
@@ -76,12 +77,12 @@ pub fn comes_to<R: Threads + Wait + Sync, H: Host>(
 ) -> Result<bool, AllocError> {
     let mut log = log_of(alloc, Vec::new(alloc))?;
     let report = run(rt, alloc, texts, host, &mut log)?;
-    let nothing = report.history.events().is_empty() & report.reads.is_empty();
+    let reported = (report.history.events().is_empty() != (number == 0)) & report.reads.is_empty();
     let line = if text.is_empty() {
         Line::NotDue
     } else {
         Line::Whole
     };
     let said = (report.line == line) & (log.bytes() == text.as_bytes());
-    Ok(nothing & said & (status_number(&report.status) == number))
+    Ok(reported & said & (status_number(&report.status) == number))
 }

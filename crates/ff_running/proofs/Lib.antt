@@ -2,6 +2,7 @@ pub mod Backs
 pub mod Building
 pub mod Ending
 pub mod Gathering
+pub mod Histories
 pub mod Making
 pub mod Marks
 pub mod Moves

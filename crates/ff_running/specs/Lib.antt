@@ -7,3 +7,4 @@ pub mod Runs
 pub mod Claims
 pub mod Rooms
 pub mod Accepting
+pub mod Histories

@@ -1,5 +1,5 @@
 // The nodes of a plan: built, run in threads, and taken apart.
-ghost use Rattle.std.specs.Prelude.{◌≡◌, ◌<◌, ◌≤◌, ◌^◌, ℕ, List, Bool, true, [], length, map, slice_get, vec_capacity, Option, None, Some, IfOk};
+ghost use Rattle.std.specs.Prelude.{◌≡◌, ◌<◌, ◌≤◌, ◌^◌, ℕ, List, Bool, true, [], length, map, slice_get, vec_capacity, Option, None, Some, IfOk, IfSome, IsSome};
 ghost use Rattle.ff_net.specs.declared.fault.Fault.TheVariants.{NoMemory as NoMemoryFault};
 ghost use Rattle.ff_net.specs.Pasts.{Task};
 ghost use Rattle.ff_network.specs.Fits.{ins_at, outs_at, network, AreFit};
@@ -9,7 +9,9 @@ ghost use Rattle.ff_files.specs.Works.{AreTold};
 ghost use Rattle.ff_running.specs.Claims.{tell_all};
 ghost use Rattle.ff_network.specs.Fits.{ports_by};
 ghost use Rattle.ff_running.specs.Parts.{AreFitting, AreOrdered, AllAside};
-ghost use Rattle.ff_network.specs.Scheduling.{AllRouted};
+ghost use Rattle.ff_net.specs.Nets.{solve};
+ghost use Rattle.ff_network.specs.Scheduling.{AllRouted, Scheduled};
+ghost use Rattle.ff_running.specs.Histories.{AreScheduled, IsHistoryOf};
 ghost use Rattle.ff_running.specs.Openings.{CanBegin, or_memory};
 ghost use Rattle.ff_running.specs.Rooms.{HasRoom};
 ghost use Rattle.ff_running.specs.Runs.{TellsRun, AreRun, IsDone};
@@ -22,12 +24,13 @@ use crate::kinds::Kinds;
 use crate::opening::Opening;
 use crate::tables::{listed, tabled};
 use ff_edges::Edge;
-use ff_files::Done;
+use ff_files::{Done, WorkEnd};
 use ff_host::{Sink, Source};
 use ff_link::Claims;
 use ff_net::{Fault, Machine};
 use ff_network::{NodeFault, Ran, run_network};
 use ff_plan::PlanNode;
+use ff_sched::History;
 use ff_words::OutputJob;
 use std::alloc::{AllocError, Global};
 use std::sync::Wait;
@@ -41,6 +44,19 @@ fn no_memory() -> Option<NodeFault>
         node: 0,
         fault: Fault::NoMemory,
     })
+}
+
+// Parts with which nothing was begun.
+fn unstarted<M: Drop>(parts: Vec<M>) -> Ran<M>
+    ensures machines { result.machines ≡ parts }
+    ensures fault { result.fault ≡ Some (record { node = 0; fault = NoMemoryFault }) }
+    ensures history { result.history ≡ None }
+{
+    Ran {
+        machines: parts,
+        fault: no_memory(),
+        history: None,
+    }
 }
 
 // The fault that is reported, or want of memory for the history.
@@ -61,7 +77,7 @@ fn run_parts<C: Claims, R: Threads + Wait + Sync, M: Machine + Send + Drop>(
     edges: &[Edge],
     size: usize,
     opening: Opening,
-) -> (Vec<M>, Option<NodeFault>)
+) -> Ran<M>
     requires few { length parts.items < 2 ^ 16 }
     requires opening { CanBegin opening }
     requires sources { AllRouted M.view opening.routes parts.items }
@@ -69,10 +85,16 @@ fn run_parts<C: Claims, R: Threads + Wait + Sync, M: Machine + Send + Drop>(
     requires fits { Fits M.view edges.now parts.items }
     requires start { C.claims ≡ true → (tasks : ℕ → Task) × AllStart M.view tasks parts.items }
     requires sound { (k : ℕ) (m : M) → slice_get parts.items k ≡ Some m → (M.view m).fault ≡ None }
-    ensures kept { AllKept M.view parts.items result.0.items }
-    ensures tells { TellsRun M.view result.0.items result.1 }
+    ensures kept { AllKept M.view parts.items result.machines.items }
+    ensures tells { TellsRun M.view result.machines.items result.fault }
     ensures solved { C.claims ≡ true → (tasks : ℕ → Task) → AllStart M.view tasks parts.items
-        → MeetsNetwork M.view tasks (network tasks (ports_of M.view parts.items) edges.now (length parts.items)) (ins_at (ports_of M.view parts.items) edges.now) (outs_at (ports_of M.view parts.items) edges.now) result.0.items result.1 }
+        → MeetsNetwork M.view tasks (network tasks (ports_of M.view parts.items) edges.now (length parts.items)) (ins_at (ports_of M.view parts.items) edges.now) (outs_at (ports_of M.view parts.items) edges.now) result.machines.items result.fault }
+    ensures told { result.fault ≡ None → IsSome result.history }
+    ensures scheduled { IfSome result.history (λ events. Scheduled M.view opening.routes opening.state
+        (λ tasks. (C.claims ≡ true) × AllStart M.view tasks parts.items)
+        (λ tasks. solve (network tasks (ports_of M.view parts.items) edges.now (length parts.items)))
+        (ins_at (ports_of M.view parts.items) edges.now) (outs_at (ports_of M.view parts.items) edges.now)
+        result.machines.items result.fault events) }
 {
     let Opening { state, routes } = opening;
     match run_network::<C, R, M>(rt, alloc, parts, edges, size, state, routes) {
@@ -82,8 +104,12 @@ fn run_parts<C: Claims, R: Threads + Wait + Sync, M: Machine + Send + Drop>(
                 fault,
                 history,
             },
-        ) => (machines, fault_or_memory(fault, history.is_some())),
-        Err(parts) => (parts, no_memory()),
+        ) => Ran {
+            machines,
+            fault: fault_or_memory(fault, history.is_some()),
+            history,
+        },
+        Err(parts) => unstarted(parts),
     }
 }
 
@@ -106,7 +132,7 @@ fn build_and_run<
     opening: Opening,
     parts: Vec<M>,
     places: &mut Places<Src, Snk>,
-) -> (Vec<M>, Option<NodeFault>)
+) -> Ran<M>
     requires room { (parts.items ≡ []) × (length nodes.now ≤ vec_capacity parts) }
     requires few { length nodes.now < 2 ^ 16 }
     requires size { (1 ≤ size) × (size ≤ 1024) }
@@ -119,11 +145,15 @@ fn build_and_run<
         × (C.claims ≡ true → (bytes : List (List ℕ)) × AreTold Src.left Snk.holds srcs snks bytes) }
     ensures ran { (srcs : List Src) (snks : List Snk) → AllAside srcs places.old.srcs.items → AllAside snks places.old.snks.items
         → (olds : List M) × AreRun K.is Src.left Src.name Src.faults Snk.holds Snk.name Snk.faults M.view outputs.now heads.now edges.now nodes.now srcs snks C.claims
-        olds result.0.items places.new.srcs.items places.new.snks.items result.1 }
+        olds result.machines.items places.new.srcs.items places.new.snks.items result.fault }
+    ensures told { result.fault ≡ None → IsSome result.history }
+    ensures scheduled { (srcs : List Src) (snks : List Snk) → AllAside srcs places.old.srcs.items → AllAside snks places.old.snks.items
+        → IfSome result.history (λ events. AreScheduled K.is Src.left Snk.holds M.view outputs.now heads.now edges.now nodes.now srcs snks C.claims
+        opening.routes opening.state result.fault events) }
 {
     match build::<K, Src, Snk, M>(alloc, nodes, edges, heads, outputs, parts, places) {
         Ok(parts) => run_parts::<C, R, M>(rt, alloc, parts, edges, size, opening),
-        Err(parts) => (parts, no_memory()),
+        Err(parts) => unstarted(parts),
     }
 }
 
@@ -180,7 +210,7 @@ pub(crate) fn run_nodes<
     srcs: Vec<Src>,
     snks: Vec<Snk>,
     room: Room<M, Src, Snk>,
-) -> Done<RunFault, Src, Snk>
+) -> Done<RunFault, Src, Snk, History>
     requires room { HasRoom (length nodes.now) (length srcs.items) (length snks.items) room }
     requires few { (length nodes.now < 2 ^ 16) × (length heads.now < 2 ^ 32) }
     requires size { (1 ≤ size) × (size ≤ 1024) }
@@ -190,14 +220,21 @@ pub(crate) fn run_nodes<
     requires opening { CanBegin opening }
     requires sources { length srcs.items ≤ opening.routes.sources }
     requires told { C.claims ≡ tell_all Src.left Snk.holds srcs.items snks.items }
-    ensures { IsDone K.is Src.left Src.name Src.faults Snk.holds Snk.name Snk.faults M.view outputs.now heads.now edges.now nodes.now srcs.items snks.items C.claims
+    ensures done { IsDone K.is Src.left Src.name Src.faults Snk.holds Snk.name Snk.faults M.view outputs.now heads.now edges.now nodes.now srcs.items snks.items C.claims
         result.end result.srcs.items result.snks.items }
+    ensures told { result.end ≡ WorkEnd.Fine → IsSome result.log }
+    ensures scheduled { IfSome result.log (λ events. IsHistoryOf K.is Src.left Snk.holds M.view outputs.now heads.now edges.now nodes.now srcs.items snks.items C.claims
+        opening.routes opening.state result.end events) }
 {
     let mut places = Places {
         srcs: tabled(srcs, room.src_places),
         snks: tabled(snks, room.snk_places),
     };
-    let (parts, fault) = build_and_run::<C, K, R, Src, Snk, M>(
+    let Ran {
+        machines,
+        fault,
+        history,
+    } = build_and_run::<C, K, R, Src, Snk, M>(
         rt,
         alloc,
         nodes,
@@ -210,10 +247,11 @@ pub(crate) fn run_nodes<
         &mut places,
     );
     let end = end_with(heads.len() as u32, nodes, fault);
-    gather::<K, Src, Snk, M>(nodes, parts, &mut places);
+    gather::<K, Src, Snk, M>(nodes, machines, &mut places);
     let Places { srcs, snks } = places;
     Done {
         end,
+        log: history,
         srcs: listed(srcs, room.srcs),
         snks: listed(snks, room.snks),
     }

@@ -1,8 +1,10 @@
 // The plan of a job and its run, which are done between the opening and the closing of files.
-ghost use Rattle.std.specs.Prelude.{◌≡◌, ℕ, List, [], ◌∷◌, length, map, None, Some, Ok, IfOk, IfErr, OnOk};
+ghost use Rattle.std.specs.Prelude.{◌≡◌, ℕ, List, [], ◌∷◌, length, map, None, Some, Ok, IfOk, IfSome, IfErr, OnOk};
 ghost use Rattle.ff_map.specs.Choice.{lists};
-ghost use Rattle.ff_files.specs.Works.{AreTold, HoldFiles, HoldParts, KeepEnds, FailNoMore, EndsWork, sound_sources, sound_sinks};
+ghost use Rattle.ff_files.specs.Works.{HasLog, AreTold, HoldFiles, HoldParts, KeepEnds, FailNoMore, EndsWork, sound_sources, sound_sinks};
 ghost use Rattle.ff_running.specs.Accepting.{IsAccepted, IsPlanFor};
+ghost use Rattle.ff_running.specs.Claims.{tell_all};
+ghost use Rattle.ff_running.specs.Histories.{state_before, IsHistoryFor, IsHistoryOf};
 ghost use Rattle.ff_running.specs.Meaning.{plan_for, refusal_of, means as means_of};
 
 use crate::fault::RunFault;
@@ -13,6 +15,7 @@ use ff_files::{Done, PlanEnd, WorkEnd};
 use ff_host::{Sink, Source};
 use ff_net::Machine;
 use ff_plan::{Plan, PlanError, plan as plan_of};
+use ff_sched::History;
 use ff_values::StreamHead;
 use ff_words::Job;
 use std::alloc::{AllocError, Global};
@@ -61,6 +64,8 @@ pub fn make_plan<
 }
 
 /// Runs a plan, each node of it in a thread of its own. Where there is no memory to begin, the sources and sinks are as they were.
+///
+/// What comes back with them is the history of the run: all that its scheduler granted and was told, in one order.
 pub fn run_plan<
     K: Kinds<Src, Snk, M>,
     R: Threads + Wait + Sync,
@@ -75,7 +80,7 @@ pub fn run_plan<
     heads: &[K::Head],
     srcs: Vec<Src>,
     snks: Vec<Snk>,
-) -> Done<RunFault, Src, Snk>
+) -> Done<RunFault, Src, Snk, History>
     requires { IsPlanFor K.is job.now heads.now plan }
     ensures fine { result.end ≡ WorkEnd.Fine → (bytes : List (List ℕ)) → AreTold Src.left Snk.holds srcs.items snks.items bytes
         → HoldFiles Snk.holds ((means_of K.is job.now).file heads.now bytes) result.snks.items }
@@ -87,6 +92,9 @@ pub fn run_plan<
         (AreTold Src.left Snk.holds srcs.items snks.items) result.end }
     ensures sound_srcs { FailNoMore Src.faults srcs.items result.srcs.items (sound_sources (means_of K.is job.now) result.end (length srcs.items)) }
     ensures sound_snks { FailNoMore Snk.faults snks.items result.snks.items (sound_sinks (means_of K.is job.now) result.end (length snks.items)) }
+    ensures logged { result.end ≡ WorkEnd.Fine → HasLog (IsHistoryFor K.is job.now heads.now) result.log }
+    ensures scheduled { IfSome result.log (λ events. IsHistoryOf K.is Src.left Snk.holds M.view job.now.outputs heads.now plan.edges plan.nodes srcs.items snks.items
+        (tell_all Src.left Snk.holds srcs.items snks.items) plan.routes (state_before plan) result.end events) }
 {
     let Plan {
         nodes,
@@ -99,6 +107,7 @@ pub fn run_plan<
     if srcs.len() != heads.len() || snks.len() != outputs.len() {
         return Done {
             end: WorkEnd::NoMemory,
+            log: None,
             srcs,
             snks,
         };
@@ -106,6 +115,7 @@ pub fn run_plan<
     let Ok(room) = Room::new(alloc, nodes.len(), srcs.len(), snks.len()) else {
         return Done {
             end: WorkEnd::NoMemory,
+            log: None,
             srcs,
             snks,
         };

@@ -355,7 +355,6 @@ bounded t words j h =
 -- the kinds of option that the list of today has
 abbrev IsDone : Kind → Type 0
 IsDone kind.Complex = ⊥
-IsDone kind.Trace = ⊥
 IsDone kind.SelfRun = ⊥
 IsDone kind.Start = ⊥
 IsDone kind.Length = ⊥
@@ -389,12 +388,11 @@ done-kind : (word : List ℕ) (rule : Rule) → option_named table.Today word �
 unfolding option_named
 done-kind word rule e =
     done-in (map (λ line. (line.0.now, line.1, line.2, line.3)) OPTIONS) word rule
-    (λ e. tt, (λ e. tt, (λ e. tt, (λ e. tt, (λ e. tt, (λ e. tt, (λ e. absurd cc, (λ e. absurd cc, (λ e. tt, (λ e. absurd cc, (λ e. absurd cc, (λ e. tt, (λ e. absurd cc, (λ e. absurd cc, (λ e. tt, (λ e. tt, (λ e. tt, (λ e. tt, (λ e. tt, (λ e. tt, (λ e. tt, (λ e. tt, (λ e. absurd cc, (λ e. absurd cc, (λ e. absurd cc, (λ e. absurd cc, (λ e. tt, (λ e. tt, (λ e. absurd cc, (λ e. tt, tt))))))))))))))))))))))))))))))
+    (λ e. tt, (λ e. tt, (λ e. tt, (λ e. tt, (λ e. tt, (λ e. tt, (λ e. absurd cc, (λ e. absurd cc, (λ e. tt, (λ e. tt, (λ e. absurd cc, (λ e. tt, (λ e. absurd cc, (λ e. absurd cc, (λ e. tt, (λ e. tt, (λ e. tt, (λ e. tt, (λ e. tt, (λ e. tt, (λ e. tt, (λ e. tt, (λ e. absurd cc, (λ e. absurd cc, (λ e. absurd cc, (λ e. absurd cc, (λ e. tt, (λ e. tt, (λ e. absurd cc, (λ e. tt, tt))))))))))))))))))))))))))))))
     e
 
 -- of what a reader keeps: nothing that isn't done yet
-record Plain (trace : Option (List ℕ)) (self_run : Option ℕ) (graphs : List Graph) (ins : List InputJob) (outs : List OutputJob) (start length : Option Micros) (vf af : Option Graph) (shortest : Bool) : Type 0 where
-  no_trace : trace ≡ None
+record Plain (self_run : Option ℕ) (graphs : List Graph) (ins : List InputJob) (outs : List OutputJob) (start length : Option Micros) (vf af : Option Graph) (shortest : Bool) : Type 0 where
   no_self_run : self_run ≡ None
   no_graphs : graphs ≡ []
   ins_uncut : AllByRecursion (λ (i : InputJob). IsUncut i.cut) ins
@@ -406,7 +404,7 @@ record Plain (trace : Option (List ℕ)) (self_run : Option ℕ) (graphs : List 
   whole : shortest ≡ false
 
 abbrev IsPlainReader : Reader → Type 0
-IsPlainReader r = Plain r.trace r.self_run r.graphs r.inputs r.outputs r.pending.start r.pending.length r.pending.vf r.pending.af r.pending.shortest
+IsPlainReader r = Plain r.self_run r.graphs r.inputs r.outputs r.pending.start r.pending.length r.pending.vf r.pending.af r.pending.shortest
 
 never-done : (token : Token) (rule : Rule) (k : Kind) → option_named table.Today token.word ≡ Some rule → rule.kind ≡ k → IsDone k
 never-done token rule k named is = subst IsDone is (done-kind token.word rule named)
@@ -419,7 +417,7 @@ plain-option es token at concern value.NoAudio plain h s = s
 plain-option es token at concern value.Shortest plain h s = absurd (never-done token h.0 kind.Shortest h.2 h.3)
 plain-option es token at concern (value.Complex g) plain h s = absurd (never-done token h.0 kind.Complex h.2 h.3)
 plain-option es token at concern (value.Queue n) plain h s = s
-plain-option es token at concern (value.Trace n) plain h s = absurd (never-done token h.0 kind.Trace h.2 h.3)
+plain-option es token at concern (value.Trace n) plain h s = s
 plain-option es token at concern (value.SelfRun n) plain h s = absurd (never-done token h.0 kind.SelfRun h.2 h.3)
 plain-option es token at concern (value.Format f read written) plain h s = s
 plain-option es token at concern (value.Start m) plain h s = absurd (never-done token h.0 kind.Start h.2 h.3)
@@ -439,7 +437,6 @@ uncut start length e f = (ap start_of e, ap length_of f)
 plain-input : (es : List Entry) (name : List ℕ) → IsPlainReader (reader es) → IsPlainReader (with_input name (reader es))
 plain-input es name s =
     record {
-      no_trace = s.no_trace;
       no_self_run = s.no_self_run;
       no_graphs = s.no_graphs;
       outs_plain = s.outs_plain;
@@ -454,7 +451,6 @@ plain-input es name s =
 plain-output : (es : List Entry) (name : List ℕ) (format : FileFormat) → IsPlainReader (reader es) → IsPlainReader (with_output name format (reader es))
 plain-output es name format s =
     record {
-      no_trace = s.no_trace;
       no_self_run = s.no_self_run;
       no_graphs = s.no_graphs;
       ins_uncut = s.ins_uncut;
@@ -480,7 +476,6 @@ plain-step es token e is s =
 
 plain-none : IsPlainReader (reader [])
 plain-none = record {
-  no_trace = refl;
   no_self_run = refl;
   no_graphs = refl;
   ins_uncut = tt;
@@ -496,7 +491,7 @@ plain-all : (es : List Entry) (ts : List Token) → AreRead table.Today [] ts es
 plain-all es ts read = along table.Today (λ xs. IsPlainReader (reader xs)) plain-step [] ts es read plain-none
 
 plain-job : (es : List Entry) → IsPlainReader (reader es) → IsPlain (job es)
-plain-job es s = record { graphs = s.no_graphs; trace = s.no_trace; inputs = s.ins_uncut; outputs = s.outs_plain }
+plain-job es s = record { graphs = s.no_graphs; inputs = s.ins_uncut; outputs = s.outs_plain }
 
 pub plain : (words : List (List ℕ)) (j : Job) → IsAnswer table.Today words (Ok (Run j)) → IsPlain j
 plain words j h =

@@ -35,9 +35,8 @@ pub record IsPlainOutput (out : OutputJob) : Type 0 where
   pub uncut : IsUncut out.cut
   pub whole : out.shortest ≡ false
 
--- by what is done today: no graph, no trace, and no file is cut
+-- by what is done today: no graph, and no file is cut
 pub record IsPlain (job : Job) : Type 0 where
   pub graphs : job.graphs ≡ []
-  pub trace : job.trace ≡ None
   pub inputs : AllByRecursion (λ (i : InputJob). IsUncut i.cut) job.inputs
   pub outputs : AllByRecursion IsPlainOutput job.outputs

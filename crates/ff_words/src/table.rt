@@ -101,7 +101,7 @@ pub static OPTIONS: [(&'static str, Concern, Kind, bool); 30] = [
     ("-filter_complex", Concern::All, Kind::Complex, false),
     ("-lavfi", Concern::All, Kind::Complex, false),
     ("-thread_queue_size", Concern::All, Kind::Queue, true),
-    ("-sched_trace", Concern::All, Kind::Trace, false),
+    ("-sched_trace", Concern::All, Kind::Trace, true),
     ("-selfrun", Concern::Alone, Kind::SelfRun, false),
     ("-f", Concern::File, Kind::Format, true),
     ("-ss", Concern::File, Kind::Start, false),

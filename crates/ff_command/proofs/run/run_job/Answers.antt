@@ -1,26 +1,36 @@
-use Rattle.std.proofs.Common.{sym, subst}
+use Rattle.std.proofs.Common.{◌≡◌, ℕ, List, length, sym, ap, ◌∙◌, subst, arith}
 use Rattle.ff_files.specs.Counts.{Counts}
-use Rattle.ff_files.specs.Names.{names_of, AreApart}
-use Rattle.ff_words.specs.declared.job.OutputJob.{OutputJob}
-use Rattle.ff_command.proofs.Ends.{ran}
+use Rattle.ff_files.specs.Names.{names_of, AreApart, KeepsAllBut}
+use Rattle.ff_files.specs.Works.{HoldTrace, AreHeadsIn}
+use Rattle.ff_files.proofs.Lists.{names_len}
+use Rattle.ff_words.specs.Words.{written}
+use Rattle.ff_command.specs.declared.written.Written.{Written}
+use Rattle.ff_command.specs.Command.{over, IsReported, HoldsPrinted}
+use Rattle.ff_command.proofs.Ends.{ran, fine-end, over-same, held-printed}
 use Rattle.ff_command.proofs.Names.{names-apart}
+use Rattle.ff_command.proofs.Reports.{has_more, if_some_more}
+use Rattle.ff_sched.specs.Printing.{printed}
 use Rattle.ff_command.proofs.run.run_job.Goals as goal
 
 pub over_files-end-requires-clause-apart : goal.over_files-end-requires-clause-apart
-over_files-end-requires-clause-apart g c =
-    λ lifetimes lives. subst (λ outs. AreApart (names_of (λ (o : OutputJob). o.name) outs)) (sym c.as_slice-2.ensures) (names-apart c.args.job.now c.requires.bounded.names)
+over_files-end-requires-clause-apart g c = λ lifetimes lives.
+    let same : names_of (λ (w : Written). w.name.now) c.as_slice.result.now ≡ written c.args.job.now = ap (names_of (λ (w : Written). w.name.now)) c.as_slice.ensures.value ∙ c.in-Ok.ensures in
+    subst AreApart (sym same) (names-apart c.args.job.now c.requires.bounded.names)
 
 pub returns-clause-ran : goal.returns-clause-ran
 returns-clause-ran g c =
     let H = g.H.Host in
+    let job = c.args.job.now in
     let ins : Counts = record { before = H.in_faults c.args.host.now; after = H.in_faults c.over_files-end.new.host } in
     let outs : Counts = record { before = H.out_faults c.args.host.now; after = H.out_faults c.over_files-end.new.host } in
+    let names = names_of (λ (w : Written). w.name.now) c.as_slice.result.now in
+    let same : names ≡ written job = ap (names_of (λ (w : Written). w.name.now)) c.as_slice.ensures.value ∙ c.in-Ok.ensures in
     let e = c.over_files-end.ensures in
-    ran (g.P.Worker.means c.args.worker.now) c.args.job.now (H.files c.args.host.now) (H.files c.over_files-end.new.host) ins outs c.over_files-end.result c.status_of_end.result
-    c.as_slice.result.now c.as_slice-2.result.now c.status_of_end.ensures c.as_slice.ensures c.as_slice-2.ensures (record {
+    ran (g.P.Worker.means c.args.worker.now) job (H.files c.args.host.now) (H.files c.over_files-end.new.host) ins outs c.over_files-end.result.end c.status_of_end.result
+    c.as_slice-inputs.result.now names (length c.as_slice-count.result.now) c.status_of_end.ensures c.as_slice-inputs.ensures same (ap length c.as_slice-count.ensures) (record {
       bytes = e.bytes;
       front = e.front;
-      others = e.others;
+      others = subst (λ n. KeepsAllBut (H.files c.args.host.now) (H.files c.over_files-end.new.host) names n) (sym (names_len (λ (w : Written). w.name.now) c.as_slice.result.now)) e.others;
       untouched = e.untouched;
       ends = e.ends;
       in_counts = e.in_counts;
@@ -29,3 +39,40 @@ returns-clause-ran g c =
       no_plan = e.no_plan;
       complete = e.complete;
     })
+
+pub returns-clause-logged : goal.returns-clause-logged
+returns-clause-logged g c = λ fine.
+    let H = g.H.Host in
+    let job = c.args.job.now in
+    let means = g.P.Worker.means c.args.worker.now in
+    let before = H.files c.args.host.now in
+    let after = H.files c.over_files-end.new.host in
+    let ins : Counts = record { before = H.in_faults c.args.host.now; after = H.in_faults c.over_files-end.new.host } in
+    let outs : Counts = record { before = H.out_faults c.args.host.now; after = H.out_faults c.over_files-end.new.host } in
+    let names = names_of (λ (w : Written). w.name.now) c.as_slice.result.now in
+    let same : names ≡ written job = ap (names_of (λ (w : Written). w.name.now)) c.as_slice.ensures.value ∙ c.in-Ok.ensures in
+    let n = length c.as_slice-count.result.now in
+    has_more _ (IsReported (over means job) (g.P.Worker.tells c.args.worker.now job) before) c.over_files-end.result.log
+    (λ events told. (
+      told.0,
+      over-same means job before after ins outs (λ cmd. AreHeadsIn cmd before told.0) c.as_slice-inputs.result.now names n c.as_slice-inputs.ensures same (ap length c.as_slice-count.ensures) told.1,
+      told.2,
+    ))
+    (c.over_files-end.ensures.logged (fine-end means job before after ins outs c.over_files-end.result.end n (sym c.status_of_end.ensures ∙ fine)))
+
+pub returns-clause-traced : goal.returns-clause-traced
+returns-clause-traced g c = λ fine.
+    let H = g.H.Host in
+    let job = c.args.job.now in
+    let means = g.P.Worker.means c.args.worker.now in
+    let before = H.files c.args.host.now in
+    let after = H.files c.over_files-end.new.host in
+    let ins : Counts = record { before = H.in_faults c.args.host.now; after = H.in_faults c.over_files-end.new.host } in
+    let outs : Counts = record { before = H.out_faults c.args.host.now; after = H.out_faults c.over_files-end.new.host } in
+    let names = names_of (λ (w : Written). w.name.now) c.as_slice.result.now in
+    let same : names ≡ written job = ap (names_of (λ (w : Written). w.name.now)) c.as_slice.ensures.value ∙ c.in-Ok.ensures in
+    let n = length c.as_slice-count.result.now in
+    if_some_more _ (HoldsPrinted job before after) c.over_files-end.result.log
+    (λ events held. held-printed means job before after ins outs events
+    (over-same means job before after ins outs (λ cmd. HoldTrace cmd (printed events) before after) c.as_slice-inputs.result.now names n c.as_slice-inputs.ensures same (ap length c.as_slice-count.ensures) held))
+    (c.over_files-end.ensures.traced (fine-end means job before after ins outs c.over_files-end.result.end n (sym c.status_of_end.ensures ∙ fine)))

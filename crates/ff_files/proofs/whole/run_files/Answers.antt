@@ -12,7 +12,7 @@ use Rattle.ff_files.proofs.whole.run_files.Goals as goal
 pub returns-in-Err-clause-ends : goal.returns-in-Err-clause-ends
 returns-in-Err-clause-ends g c =
     let H = g.H.Host in
-    let cmd = command_of g.I.Named.name_text g.I.InputFile.head g.N.Named.name_text c.args.inputs.now c.args.outputs.now (g.W.Work.means c.args.work.now) in
+    let cmd = command_of g.I.Named.name_text g.I.InputFile.head g.N.Named.name_text c.args.inputs.now c.args.outputs.now c.args.count (g.W.Work.means c.args.work.now) in
     let ins : Counts = record { before = H.in_faults c.args.host.now; after = H.in_faults c.close_sources.new.host } in
     let outs : Counts = record { before = H.out_faults c.args.host.now; after = H.out_faults c.close_sources.new.host } in
     subst (λ (e : _). Ends cmd (H.files c.args.host.now) ins outs e) (sym c.end_of.ensures)
@@ -22,7 +22,7 @@ returns-in-Err-clause-ends g c =
 pub returns-in-Err-clause-in_counts : goal.returns-in-Err-clause-in_counts
 returns-in-Err-clause-in_counts g c =
     let H = g.H.Host in
-    let cmd = command_of g.I.Named.name_text g.I.InputFile.head g.N.Named.name_text c.args.inputs.now c.args.outputs.now (g.W.Work.means c.args.work.now) in
+    let cmd = command_of g.I.Named.name_text g.I.InputFile.head g.N.Named.name_text c.args.inputs.now c.args.outputs.now c.args.count (g.W.Work.means c.args.work.now) in
     let names = names_of g.I.Named.name_text c.args.inputs.now in
     let old = H.in_faults c.args.host.now in
     let mid = H.in_faults c.open_inputs.new.host in
@@ -35,7 +35,7 @@ returns-in-Err-clause-in_counts g c =
 pub returns-clause-bytes : goal.returns-clause-bytes
 returns-clause-bytes g c = λ fine.
     let H = g.H.Host in
-    let cmd = command_of g.I.Named.name_text g.I.InputFile.head g.N.Named.name_text c.args.inputs.now c.args.outputs.now (g.W.Work.means c.args.work.now) in
+    let cmd = command_of g.I.Named.name_text g.I.InputFile.head g.N.Named.name_text c.args.inputs.now c.args.outputs.now c.args.count (g.W.Work.means c.args.work.now) in
     let old = H.files c.args.host.now in
     let srcs = c.open_inputs.new.srcs.items in
     subst (λ (hs : List g.row.I-Head.Denot). AreBegun g.I.Named.name_text g.I.InputFile.head (begun_left g.H.Src.Source.left) old c.args.inputs.now srcs hs → HoldMeaning cmd old (H.files c.plan_outputs.new.host)) c.deref.ensures.value
@@ -44,7 +44,7 @@ returns-clause-bytes g c = λ fine.
 pub returns-clause-front : goal.returns-clause-front
 returns-clause-front g c =
     let H = g.H.Host in
-    let cmd = command_of g.I.Named.name_text g.I.InputFile.head g.N.Named.name_text c.args.inputs.now c.args.outputs.now (g.W.Work.means c.args.work.now) in
+    let cmd = command_of g.I.Named.name_text g.I.InputFile.head g.N.Named.name_text c.args.inputs.now c.args.outputs.now c.args.count (g.W.Work.means c.args.work.now) in
     let old = H.files c.args.host.now in
     let srcs = c.open_inputs.new.srcs.items in
     subst (λ (hs : List g.row.I-Head.Denot). AreBegun g.I.Named.name_text g.I.InputFile.head (begun_left g.H.Src.Source.left) old c.args.inputs.now srcs hs → HoldWritten cmd old (H.files c.plan_outputs.new.host)) c.deref.ensures.value
@@ -53,7 +53,7 @@ returns-clause-front g c =
 pub returns-clause-ends : goal.returns-clause-ends
 returns-clause-ends g c =
     let H = g.H.Host in
-    let cmd = command_of g.I.Named.name_text g.I.InputFile.head g.N.Named.name_text c.args.inputs.now c.args.outputs.now (g.W.Work.means c.args.work.now) in
+    let cmd = command_of g.I.Named.name_text g.I.InputFile.head g.N.Named.name_text c.args.inputs.now c.args.outputs.now c.args.count (g.W.Work.means c.args.work.now) in
     let old = c.args.host.now in
     let mid = c.open_inputs.new.host in
     let new = c.plan_outputs.new.host in
@@ -61,17 +61,17 @@ returns-clause-ends g c =
     let ins : Counts = record { before = H.in_faults mid; after = H.in_faults new } in
     let outs : Counts = record { before = H.out_faults mid; after = H.out_faults new } in
     let later = c.in-Ok-open_inputs.ensures.later in
-    ends_earlier cmd (H.files old) (H.in_faults old) (H.in_faults new) (H.out_faults old) (H.out_faults new) (H.in_faults mid) (H.out_faults mid) c.plan_outputs.result (λ n. later.ins_later n) (λ n. later.outs_later n)
-    (subst (λ (hs : List g.row.I-Head.Denot). AreBegun g.I.Named.name_text g.I.InputFile.head (begun_left g.H.Src.Source.left) (H.files old) c.args.inputs.now srcs hs → Ends cmd (H.files old) ins outs c.plan_outputs.result) c.deref.ensures.value
+    ends_earlier cmd (H.files old) (H.in_faults old) (H.in_faults new) (H.out_faults old) (H.out_faults new) (H.in_faults mid) (H.out_faults mid) c.plan_outputs.result.end (λ n. later.ins_later n) (λ n. later.outs_later n)
+    (subst (λ (hs : List g.row.I-Head.Denot). AreBegun g.I.Named.name_text g.I.InputFile.head (begun_left g.H.Src.Source.left) (H.files old) c.args.inputs.now srcs hs → Ends cmd (H.files old) ins outs c.plan_outputs.result.end) c.deref.ensures.value
     (c.plan_outputs.ensures.ends (H.files old) c.in-Ok-open_inputs.ensures.files) c.in-Ok-open_inputs.ensures.begun)
 
 pub returns-clause-in_counts : goal.returns-clause-in_counts
 returns-clause-in_counts g c =
     let H = g.H.Host in
-    let cmd = command_of g.I.Named.name_text g.I.InputFile.head g.N.Named.name_text c.args.inputs.now c.args.outputs.now (g.W.Work.means c.args.work.now) in
+    let cmd = command_of g.I.Named.name_text g.I.InputFile.head g.N.Named.name_text c.args.inputs.now c.args.outputs.now c.args.count (g.W.Work.means c.args.work.now) in
     let names = names_of g.I.Named.name_text c.args.inputs.now in
     let old = H.in_faults c.args.host.now in
     let mid = H.in_faults c.open_inputs.new.host in
     let n = length c.args.inputs.now in
-    let count = sound_inputs cmd c.plan_outputs.result in
+    let count = sound_inputs cmd c.plan_outputs.result.end in
     counts_twice old mid (H.in_faults c.plan_outputs.new.host) names count (counts_all old mid names n count (let len = names_len g.I.Named.name_text c.args.inputs.now in omega (arith, len)) c.in-Ok-open_inputs.ensures.counts) c.plan_outputs.ensures.in_counts

@@ -1,9 +1,14 @@
-use Rattle.std.proofs.Common.{List, length, Option, sym, subst}
+use Rattle.std.proofs.Common.{◌≡◌, true, List, length, Option, sym, ap, ◌∙◌, subst}
+use Rattle.std.specs.declared.alloc.Global.{Global}
+use Rattle.std.specs.declared.vec.Vec.{Vec}
 use Rattle.ff_network.specs.declared.run.NodeFault.{NodeFault}
 use Rattle.ff_network.specs.Fits.{network, ins_at, outs_at}
 use Rattle.ff_network.specs.Networks.{AllStart, ports_of}
 use Rattle.ff_network.specs.Runs.{MeetsNetwork}
+use Rattle.ff_net.specs.Nets.{solve}
+use Rattle.ff_network.specs.Scheduling.{Scheduled}
 use Rattle.ff_running.specs.Runs.{TellsRun}
+use Rattle.ff_running.proofs.Histories.{or_memory_told, some_told, with_history}
 use Rattle.ff_running.proofs.Networks.{told_tells, told_meets, unstarted_meets}
 use Rattle.ff_running.proofs.run.run_parts.Goals as goal
 
@@ -26,5 +31,22 @@ returns-in-Ok-clause-solved g c = λ vouched tasks all.
 
 pub returns-in-Err-clause-solved : goal.returns-in-Err-clause-solved
 returns-in-Err-clause-solved g c = λ vouched tasks all.
-    unstarted_meets g.M.Machine.view tasks _ _ _ c.in-Err.parts.items c.no_memory.result c.no_memory.ensures
-    (subst (λ (ms : List g.row.M.Denot). AllStart g.M.Machine.view tasks ms) (sym c.in-Err.ensures.back) all)
+    unstarted_meets g.M.Machine.view tasks _ _ _ c.unstarted.result.machines.items c.unstarted.result.fault c.unstarted.ensures.fault
+    (subst (λ (ms : List g.row.M.Denot). AllStart g.M.Machine.view tasks ms) (sym (ap (λ (v : Vec g.row.M.Denot Global). v.items) c.unstarted.ensures.machines ∙ c.in-Err.ensures.back)) all)
+
+pub returns-in-Ok-clause-told : goal.returns-in-Ok-clause-told
+returns-in-Ok-clause-told g c = λ none.
+    let ran = c.in-Ok.field-0 in
+    some_told ran.history (sym c.is_some.ensures ∙ or_memory_told ran.fault c.is_some.result (sym c.fault_or_memory.ensures ∙ none))
+
+pub returns-in-Ok-clause-scheduled : goal.returns-in-Ok-clause-scheduled
+returns-in-Ok-clause-scheduled g c =
+    let view = g.M.Machine.view in
+    let parts = c.args.parts.items in
+    let edges = c.args.edges.now in
+    let opening = c.args.opening in
+    let ran = c.in-Ok.field-0 in
+    with_history
+    (λ fault events. Scheduled view opening.routes opening.state (λ tasks. (g.C.Claims.claims ≡ true) × AllStart view tasks parts)
+    (λ tasks. solve (network tasks (ports_of view parts) edges (length parts))) (ins_at (ports_of view parts) edges) (outs_at (ports_of view parts) edges) ran.machines.items fault events)
+    ran.history ran.fault c.fault_or_memory.result c.is_some.result c.is_some.ensures c.fault_or_memory.ensures c.in-Ok.ensures.scheduled

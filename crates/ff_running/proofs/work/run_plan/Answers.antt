@@ -1,5 +1,7 @@
 use Rattle.std.proofs.Common.{◌≡◌, length, refl, ap, ◌∙◌, arith}
 use Rattle.ff_running.specs.Claims.{tell_all}
+use Rattle.ff_running.specs.Histories.{state_before, IsHistoryFor, IsHistoryOf}
+use Rattle.ff_running.proofs.Histories.{state_is, legal_for, history_for, has_log, if_some_more}
 use Rattle.ff_running.proofs.Ending.{done_for, all_files, all_parts, keeps_sources, keeps_sinks, all_ends, all_sources, all_sinks}
 use Rattle.ff_running.proofs.work.run_plan.Goals as goal
 
@@ -18,7 +20,7 @@ returns-clause-fine g c =
     let srcs_len : length srcs ≡ length heads = (let t = c.if-len-heads.false in let l = c.len.ensures in let ok = c.args.srcs.ok.0 in omega (arith, t, l, ok)) in
     let snks_len : length snks ≡ length c.as_slice-outputs.result.now = (let t = c.if-len-outputs.false in let l = c.len-else-len-heads.ensures in let ok = c.args.snks.ok.0 in omega (arith, t, l, ok)) in
     let done = done_for is S.left S.name S.faults K.holds K.name K.faults view c.as_slice-outputs.result.now job.outputs heads c.as_slice-edges.result.now plan.edges c.as_slice-nodes.result.now plan.nodes srcs snks claims
-    c.run_nodes.result.end c.run_nodes.result.srcs.items c.run_nodes.result.snks.items c.as_slice-outputs.ensures c.as_slice-edges.ensures c.as_slice-nodes.ensures c.run_nodes.ensures in
+    c.run_nodes.result.end c.run_nodes.result.srcs.items c.run_nodes.result.snks.items c.as_slice-outputs.ensures c.as_slice-edges.ensures c.as_slice-nodes.ensures c.run_nodes.ensures.done in
     all_files is S.left S.name S.faults K.holds K.name K.faults view job plan heads srcs snks claims c.run_nodes.result.end c.run_nodes.result.srcs.items c.run_nodes.result.snks.items
     c.requires srcs_len (snks_len ∙ ap length c.as_slice-outputs.ensures) refl done
 
@@ -37,7 +39,7 @@ returns-clause-parts g c =
     let srcs_len : length srcs ≡ length heads = (let t = c.if-len-heads.false in let l = c.len.ensures in let ok = c.args.srcs.ok.0 in omega (arith, t, l, ok)) in
     let snks_len : length snks ≡ length c.as_slice-outputs.result.now = (let t = c.if-len-outputs.false in let l = c.len-else-len-heads.ensures in let ok = c.args.snks.ok.0 in omega (arith, t, l, ok)) in
     let done = done_for is S.left S.name S.faults K.holds K.name K.faults view c.as_slice-outputs.result.now job.outputs heads c.as_slice-edges.result.now plan.edges c.as_slice-nodes.result.now plan.nodes srcs snks claims
-    c.run_nodes.result.end c.run_nodes.result.srcs.items c.run_nodes.result.snks.items c.as_slice-outputs.ensures c.as_slice-edges.ensures c.as_slice-nodes.ensures c.run_nodes.ensures in
+    c.run_nodes.result.end c.run_nodes.result.srcs.items c.run_nodes.result.snks.items c.as_slice-outputs.ensures c.as_slice-edges.ensures c.as_slice-nodes.ensures c.run_nodes.ensures.done in
     all_parts is S.left S.name S.faults K.holds K.name K.faults view job plan heads srcs snks claims c.run_nodes.result.end c.run_nodes.result.srcs.items c.run_nodes.result.snks.items
     c.requires srcs_len (snks_len ∙ ap length c.as_slice-outputs.ensures) refl done g.met.K.Kinds.holds_on
 
@@ -56,7 +58,7 @@ returns-clause-srcs g c =
     let srcs_len : length srcs ≡ length heads = (let t = c.if-len-heads.false in let l = c.len.ensures in let ok = c.args.srcs.ok.0 in omega (arith, t, l, ok)) in
     let snks_len : length snks ≡ length c.as_slice-outputs.result.now = (let t = c.if-len-outputs.false in let l = c.len-else-len-heads.ensures in let ok = c.args.snks.ok.0 in omega (arith, t, l, ok)) in
     let done = done_for is S.left S.name S.faults K.holds K.name K.faults view c.as_slice-outputs.result.now job.outputs heads c.as_slice-edges.result.now plan.edges c.as_slice-nodes.result.now plan.nodes srcs snks claims
-    c.run_nodes.result.end c.run_nodes.result.srcs.items c.run_nodes.result.snks.items c.as_slice-outputs.ensures c.as_slice-edges.ensures c.as_slice-nodes.ensures c.run_nodes.ensures in
+    c.run_nodes.result.end c.run_nodes.result.srcs.items c.run_nodes.result.snks.items c.as_slice-outputs.ensures c.as_slice-edges.ensures c.as_slice-nodes.ensures c.run_nodes.ensures.done in
     keeps_sources is S.left S.name S.faults K.holds K.name K.faults view job plan heads srcs snks claims c.run_nodes.result.end c.run_nodes.result.srcs.items c.run_nodes.result.snks.items
     c.requires srcs_len (snks_len ∙ ap length c.as_slice-outputs.ensures) refl done
 
@@ -75,7 +77,7 @@ returns-clause-snks g c =
     let srcs_len : length srcs ≡ length heads = (let t = c.if-len-heads.false in let l = c.len.ensures in let ok = c.args.srcs.ok.0 in omega (arith, t, l, ok)) in
     let snks_len : length snks ≡ length c.as_slice-outputs.result.now = (let t = c.if-len-outputs.false in let l = c.len-else-len-heads.ensures in let ok = c.args.snks.ok.0 in omega (arith, t, l, ok)) in
     let done = done_for is S.left S.name S.faults K.holds K.name K.faults view c.as_slice-outputs.result.now job.outputs heads c.as_slice-edges.result.now plan.edges c.as_slice-nodes.result.now plan.nodes srcs snks claims
-    c.run_nodes.result.end c.run_nodes.result.srcs.items c.run_nodes.result.snks.items c.as_slice-outputs.ensures c.as_slice-edges.ensures c.as_slice-nodes.ensures c.run_nodes.ensures in
+    c.run_nodes.result.end c.run_nodes.result.srcs.items c.run_nodes.result.snks.items c.as_slice-outputs.ensures c.as_slice-edges.ensures c.as_slice-nodes.ensures c.run_nodes.ensures.done in
     keeps_sinks is S.left S.name S.faults K.holds K.name K.faults view job plan heads srcs snks claims c.run_nodes.result.end c.run_nodes.result.srcs.items c.run_nodes.result.snks.items
     c.requires srcs_len (snks_len ∙ ap length c.as_slice-outputs.ensures) refl done
 
@@ -94,7 +96,7 @@ returns-clause-ends g c =
     let srcs_len : length srcs ≡ length heads = (let t = c.if-len-heads.false in let l = c.len.ensures in let ok = c.args.srcs.ok.0 in omega (arith, t, l, ok)) in
     let snks_len : length snks ≡ length c.as_slice-outputs.result.now = (let t = c.if-len-outputs.false in let l = c.len-else-len-heads.ensures in let ok = c.args.snks.ok.0 in omega (arith, t, l, ok)) in
     let done = done_for is S.left S.name S.faults K.holds K.name K.faults view c.as_slice-outputs.result.now job.outputs heads c.as_slice-edges.result.now plan.edges c.as_slice-nodes.result.now plan.nodes srcs snks claims
-    c.run_nodes.result.end c.run_nodes.result.srcs.items c.run_nodes.result.snks.items c.as_slice-outputs.ensures c.as_slice-edges.ensures c.as_slice-nodes.ensures c.run_nodes.ensures in
+    c.run_nodes.result.end c.run_nodes.result.srcs.items c.run_nodes.result.snks.items c.as_slice-outputs.ensures c.as_slice-edges.ensures c.as_slice-nodes.ensures c.run_nodes.ensures.done in
     all_ends is S.left S.name S.faults K.holds K.name K.faults view job plan heads srcs snks claims c.run_nodes.result.end c.run_nodes.result.srcs.items c.run_nodes.result.snks.items
     c.requires srcs_len (snks_len ∙ ap length c.as_slice-outputs.ensures) refl done
 
@@ -113,7 +115,7 @@ returns-clause-sound_srcs g c =
     let srcs_len : length srcs ≡ length heads = (let t = c.if-len-heads.false in let l = c.len.ensures in let ok = c.args.srcs.ok.0 in omega (arith, t, l, ok)) in
     let snks_len : length snks ≡ length c.as_slice-outputs.result.now = (let t = c.if-len-outputs.false in let l = c.len-else-len-heads.ensures in let ok = c.args.snks.ok.0 in omega (arith, t, l, ok)) in
     let done = done_for is S.left S.name S.faults K.holds K.name K.faults view c.as_slice-outputs.result.now job.outputs heads c.as_slice-edges.result.now plan.edges c.as_slice-nodes.result.now plan.nodes srcs snks claims
-    c.run_nodes.result.end c.run_nodes.result.srcs.items c.run_nodes.result.snks.items c.as_slice-outputs.ensures c.as_slice-edges.ensures c.as_slice-nodes.ensures c.run_nodes.ensures in
+    c.run_nodes.result.end c.run_nodes.result.srcs.items c.run_nodes.result.snks.items c.as_slice-outputs.ensures c.as_slice-edges.ensures c.as_slice-nodes.ensures c.run_nodes.ensures.done in
     all_sources is S.left S.name S.faults K.holds K.name K.faults view job plan heads srcs snks claims c.run_nodes.result.end c.run_nodes.result.srcs.items c.run_nodes.result.snks.items
     c.requires srcs_len (snks_len ∙ ap length c.as_slice-outputs.ensures) refl done
 
@@ -132,6 +134,30 @@ returns-clause-sound_snks g c =
     let srcs_len : length srcs ≡ length heads = (let t = c.if-len-heads.false in let l = c.len.ensures in let ok = c.args.srcs.ok.0 in omega (arith, t, l, ok)) in
     let snks_len : length snks ≡ length c.as_slice-outputs.result.now = (let t = c.if-len-outputs.false in let l = c.len-else-len-heads.ensures in let ok = c.args.snks.ok.0 in omega (arith, t, l, ok)) in
     let done = done_for is S.left S.name S.faults K.holds K.name K.faults view c.as_slice-outputs.result.now job.outputs heads c.as_slice-edges.result.now plan.edges c.as_slice-nodes.result.now plan.nodes srcs snks claims
-    c.run_nodes.result.end c.run_nodes.result.srcs.items c.run_nodes.result.snks.items c.as_slice-outputs.ensures c.as_slice-edges.ensures c.as_slice-nodes.ensures c.run_nodes.ensures in
+    c.run_nodes.result.end c.run_nodes.result.srcs.items c.run_nodes.result.snks.items c.as_slice-outputs.ensures c.as_slice-edges.ensures c.as_slice-nodes.ensures c.run_nodes.ensures.done in
     all_sinks is S.left S.name S.faults K.holds K.name K.faults view job plan heads srcs snks claims c.run_nodes.result.end c.run_nodes.result.srcs.items c.run_nodes.result.snks.items
     c.requires srcs_len (snks_len ∙ ap length c.as_slice-outputs.ensures) refl done
+
+pub returns-clause-logged : goal.returns-clause-logged
+returns-clause-logged g c = λ fine.
+    let plan = c.args.plan in
+    let routes : c.before_run-opening.result.routes ≡ plan.routes = c.before_run-opening.ensures.routes in
+    let state = state_is plan c.as_slice-nodes.result.now c.before_run-opening.result.routes c.before_run-opening.result.state c.as_slice-nodes.ensures routes c.before_run-opening.ensures.state in
+    has_log _ (IsHistoryFor g.K.Kinds.is c.args.job.now c.args.heads.now) c.run_nodes.result.log (c.run_nodes.ensures.told fine) c.run_nodes.ensures.scheduled
+    (λ events h. (plan, c.requires.made, legal_for plan c.before_run-opening.result.routes c.before_run-opening.result.state events routes state h.run.scheduled.legal))
+
+pub returns-clause-scheduled : goal.returns-clause-scheduled
+returns-clause-scheduled g c =
+    let S = g.Src.Source in
+    let K = g.Snk.Sink in
+    let plan = c.args.plan in
+    let routes : c.before_run-opening.result.routes ≡ plan.routes = c.before_run-opening.ensures.routes in
+    let state = state_is plan c.as_slice-nodes.result.now c.before_run-opening.result.routes c.before_run-opening.result.state c.as_slice-nodes.ensures routes c.before_run-opening.ensures.state in
+    if_some_more _
+    (λ events. IsHistoryOf g.K.Kinds.is S.left K.holds g.M.Machine.view c.args.job.now.outputs c.args.heads.now plan.edges plan.nodes c.args.srcs.items c.args.snks.items
+    (tell_all S.left K.holds c.args.srcs.items c.args.snks.items) plan.routes (state_before plan) c.run_nodes.result.end events)
+    c.run_nodes.result.log
+    (λ events h. history_for g.K.Kinds.is S.left K.holds g.M.Machine.view c.as_slice-outputs.result.now c.args.job.now.outputs c.args.heads.now c.as_slice-edges.result.now plan.edges
+    c.as_slice-nodes.result.now plan.nodes c.args.srcs.items c.args.snks.items (tell_all S.left K.holds c.args.srcs.items c.args.snks.items) c.before_run-opening.result.routes plan.routes
+    c.before_run-opening.result.state (state_before plan) c.run_nodes.result.end events c.as_slice-outputs.ensures c.as_slice-edges.ensures c.as_slice-nodes.ensures routes state h)
+    c.run_nodes.ensures.scheduled

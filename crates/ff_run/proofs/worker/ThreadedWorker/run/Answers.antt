@@ -20,3 +20,6 @@ returns-clause-sound_srcs g c = ((c.requires.1 c.args.job c.args.plan c.args.hea
 
 pub returns-clause-sound_snks : goal.returns-clause-sound_snks
 returns-clause-sound_snks g c = ((c.requires.1 c.args.job c.args.plan c.args.heads c.args.srcs c.args.snks c.requires.0).1 c.run.result c.run.ensures).sound_snks
+
+pub returns-clause-logged : goal.returns-clause-logged
+returns-clause-logged g c = ((c.requires.1 c.args.job c.args.plan c.args.heads c.args.srcs c.args.snks c.requires.0).1 c.run.result c.run.ensures).logged
