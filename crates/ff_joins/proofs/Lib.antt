@@ -2,3 +2,8 @@ pub mod Moving
 pub mod Placing
 pub mod Settling
 pub mod Starting
+pub mod Framing
+pub mod FrameSteps
+pub mod Decisions
+pub mod Feeding
+pub mod JoinStarting

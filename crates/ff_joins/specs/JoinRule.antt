@@ -19,7 +19,7 @@ use Rattle.ff_joins.specs.JoinBreaks.{lasts, mark_whole, whole_by, lost_by, lost
 
 -- whoever isn't told of a break ------------------------------------------------------------------------------------------
 
-abbrev opened_rows : (ℕ → Stream Row) → ℕ → Stream Row
+abbrev pub opened_rows : (ℕ → Stream Row) → ℕ → Stream Row
 opened_rows ss p = opened (ss p)
 
 rows_blind : (n : ℕ) (ss : ℕ → Stream Row) → rows_to n (opened_rows ss) ≡ rows_to n ss
@@ -31,11 +31,11 @@ opened_whole still_open e = cc
 opened_whole whole e = refl
 opened_whole broken e = cc
 
-told : (n : ℕ) (ss : ℕ → Stream Row) → join_mark n (opened_rows ss) ≡ whole → join_mark n ss ≡ whole
+pub told : (n : ℕ) (ss : ℕ → Stream Row) → join_mark n (opened_rows ss) ≡ whole → join_mark n ss ≡ whole
 told n ss e = let h = whole_by n (opened_rows ss) e in mark_whole n ss h.0
     (record { there = h.1.there; is = opened_whole (ss h.0).mark h.1.is; fewest = h.1.fewest })
 
-untold : (n : ℕ) (ss : ℕ → Stream Row) → join_mark n ss ≡ whole → join_mark n (opened_rows ss) ≡ whole
+pub untold : (n : ℕ) (ss : ℕ → Stream Row) → join_mark n ss ≡ whole → join_mark n (opened_rows ss) ≡ whole
 untold n ss e = let h = whole_by n ss e in mark_whole n (opened_rows ss) h.0 (record { there = h.1.there; is = ap opened_mark h.1.is; fewest = h.1.fewest })
 
 floor_of : (m : Mark) (k : ℕ) → m ≢ whole → frames_in m k ≡ k / 1024
@@ -53,18 +53,18 @@ frames_blind n ss k = at (join_mark n ss) refl
     at broken e = floor_of (join_mark n (opened_rows ss)) k (λ w. let c : broken ≡ whole = sym e ∙ told n ss w in cc)
         ∙ sym (floor_of (join_mark n ss) k (λ w. let c : broken ≡ whole = sym e ∙ w in cc))
 
-items_blind : (n : ℕ) (make : ℕ → List Row → Item) (ss : ℕ → Stream Row) → (joined_rows n make (opened_rows ss)).items ≡ (joined_rows n make ss).items
+pub items_blind : (n : ℕ) (make : ℕ → List Row → Item) (ss : ℕ → Stream Row) → (joined_rows n make (opened_rows ss)).items ≡ (joined_rows n make ss).items
 items_blind n make ss =
     ap (λ (rows : List Row). frames_to make rows (frames_in (join_mark n (opened_rows ss)) (length rows))) (rows_blind n ss)
     ∙ ap (λ k. frames_to make (rows_to n ss) k) (frames_blind n ss (length (rows_to n ss)))
 
 -- an open output may still become whole -------------------------------------------------------------------------------------
 
-record MayEnd (n : ℕ) (ss : ℕ → Stream Row) : Type 0 where
-  port : ℕ
-  there : port < suc n
-  is_open : (ss port).mark ≡ still_open
-  ends : (ts : ℕ → Stream Row) → (ts port).mark ≡ whole → ((q : ℕ) → rows_in ts q ≡ rows_in ss q) → join_mark n ts ≡ whole
+pub record MayEnd (n : ℕ) (ss : ℕ → Stream Row) : Type 0 where
+  pub port : ℕ
+  pub there : port < suc n
+  pub is_open : (ss port).mark ≡ still_open
+  pub ends : (ts : ℕ → Stream Row) → (ts port).mark ≡ whole → ((q : ℕ) → rows_in ts q ≡ rows_in ss q) → join_mark n ts ≡ whole
 
 fewest_ends : (n : ℕ) (ss : ℕ → Stream Row) (p : ℕ) → p < suc n → ((q : ℕ) → q < suc n → rows_in ss p ≤ rows_in ss q) → (ss p).mark ≡ still_open
     → MayEnd n ss
@@ -81,7 +81,7 @@ not_lost true true e f = cc
 not_lost true false e f = cc
 not_lost false c e f = refl
 
-may_end : (n : ℕ) (ss : ℕ → Stream Row) → join_mark n ss ≡ still_open → MayEnd n ss
+pub may_end : (n : ℕ) (ss : ℕ → Stream Row) → join_mark n ss ≡ still_open → MayEnd n ss
 may_end n ss e = at (ss least.0).mark refl
   where
     least : (p : ℕ) × (p < suc n) × ((q : ℕ) → q < suc n → rows_in ss p ≤ rows_in ss q)
@@ -120,15 +120,15 @@ rows_append : (c : ℕ) (xs ys : List Item) → all_rows_of c (xs ++ ys) ≡ all
 rows_append c [] ys = refl
 rows_append c (x ∷ xs) ys = ap (λ (rs : List Row). rows_of c x ++ rs) (rows_append c xs ys) ∙ sym (append_assoc (rows_of c x) (all_rows_of c xs) (all_rows_of c ys))
 
-rows_below : (c : ℕ) (s t : Flow) → LiesBelow s t → LiesBelow (row_stream c s) (row_stream c t)
+pub rows_below : (c : ℕ) (s t : Flow) → LiesBelow s t → LiesBelow (row_stream c s) (row_stream c t)
 rows_below c s t (inl e) = inl (ap (λ (r : Flow). row_stream c r) e)
 rows_below c s t (inr h) = inr (h.0, (all_rows_of c h.1.0, sym (rows_append c s.items h.1.0) ∙ ap (λ (xs : List Item). all_rows_of c xs) h.1.1))
 
-start_same : (xs ys : List Item) → IsPrefix xs ys → (xs ≡ []) ⊎ (first_start ys ≡ first_start xs)
+pub start_same : (xs ys : List Item) → IsPrefix xs ys → (xs ≡ []) ⊎ (first_start ys ≡ first_start xs)
 start_same [] ys p = inl refl
 start_same (x ∷ xs) ys p = inr (ap first_start (sym p.1))
 
-none_framed : (m : Mark) (make : ℕ → List Row → Item) (rows : List Row) → length rows ≡ 0 → frames_to make rows (frames_in m (length rows)) ≡ []
+pub none_framed : (m : Mark) (make : ℕ → List Row → Item) (rows : List Row) → length rows ≡ 0 → frames_to make rows (frames_in m (length rows)) ≡ []
 none_framed still_open make rows e = ap (λ k. frames_to make rows (k / 1024)) e
 none_framed whole make rows e = ap (λ k. frames_to make rows ((k + 1023) / 1024)) e
 none_framed broken make rows e = ap (λ k. frames_to make rows (k / 1024)) e

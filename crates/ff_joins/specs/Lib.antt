@@ -14,3 +14,9 @@ pub mod JoinedLaws
 pub mod SegmentLaws
 pub mod Segmented
 pub mod Tests
+pub mod Lots
+pub mod LotLaws
+pub mod JoinSeen
+pub mod JoinLaws
+pub mod JoinDrawing
+pub mod JoinView

@@ -1,4 +1,4 @@
-ghost use Rattle.std.specs.Prelude.{◌≡◌};
+ghost use Rattle.std.specs.Prelude.{◌≡◌, ◌<◌, length, IfOk};
 ghost use Rattle.ff_filter.specs.Options.{is_sound as sound_head};
 ghost use Rattle.ff_joins.specs.Arguments.{each_head};
 ghost use Rattle.ff_joins.specs.JoinOptions.{is_like as like_head, channels_of as channels_of_head, channels_in, rate_of};
@@ -60,7 +60,7 @@ fn are_sound(heads: &[StreamHead]) -> bool
 }
 
 // The rate and the bits of a head of sound.
-fn rate_and_bits(head: &StreamHead) -> (u32, u8)
+pub(crate) fn rate_and_bits(head: &StreamHead) -> (u32, u8)
     ensures { (result.0 ≡ rate_of head.now) × (result.1 ≡ bits_of head.now) }
 {
     match *head {
@@ -91,7 +91,7 @@ fn are_alike(first: &StreamHead, heads: &[StreamHead]) -> bool
 }
 
 // The channels of a head of sound.
-fn channels(head: &StreamHead) -> u8
+pub(crate) fn channels(head: &StreamHead) -> u8
     ensures { result ≡ channels_of_head head.now }
 {
     match *head {
@@ -135,7 +135,8 @@ fn with_channels(head: &StreamHead, channels: u8) -> StreamHead
 
 // The head of the output of inputs of these heads.
 fn head_of_all(heads: &[StreamHead]) -> Result<StreamHead, ConfigError>
-    ensures { AreAlike heads.now result }
+    ensures is { AreAlike heads.now result }
+    ensures some { IfOk result (λ h. 0 < length heads.now) }
 {
     match heads {
         [] => Err(ConfigError::Pads),
@@ -158,7 +159,8 @@ fn head_of_all(heads: &[StreamHead]) -> Result<StreamHead, ConfigError>
 /// `Pads`, `Kind`, `UnknownOption` and `BadOption` by argument, `Mismatch` where rates or bits differ, `BadSize` above 8
 /// channels in all.
 pub fn join_head(args: &[Arg], heads: &[StreamHead]) -> Result<StreamHead, ConfigError>
-    ensures { IsJoin args.now heads.now result }
+    ensures is { IsJoin args.now heads.now result }
+    ensures some { IfOk result (λ h. 0 < length heads.now) }
 {
     if heads.len() as u64 != last_number::<JoinSettings>(args, 0, 2, 8, 2) {
         return Err(ConfigError::Pads);

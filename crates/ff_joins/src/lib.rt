@@ -10,14 +10,22 @@ mod arguments;
 mod concat;
 mod concat_options;
 mod drawing;
+mod join;
+mod join_configured;
+mod join_filter;
 mod join_options;
+mod joining;
+mod keeping;
 mod laws;
 mod over;
+mod rows;
 mod segments;
+mod sound_inlet;
 mod times;
 
 pub use concat::Concat;
 pub use concat_options::ConcatSettings;
+pub use join::Join;
 pub use join_options::{JoinSettings, join_head};
 pub use laws::{
     joined_sound_keeps_the_broken_rule, segments_keep_the_broken_rule,
@@ -25,3 +33,4 @@ pub use laws::{
     two_channels_stand_side_by_side,
 };
 pub use segments::Segments;
+pub use sound_inlet::SoundInlet;

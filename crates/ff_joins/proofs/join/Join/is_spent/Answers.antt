@@ -1,0 +1,12 @@
+use Rattle.std.proofs.Common.{◌≡◌, ◌∙◌, sym, ap, refl}
+use Rattle.ff_filter.specs.Made.{is_over}
+use Rattle.ff_joins.specs.Lots.{Lot, lots}
+use Rattle.ff_joins.proofs.Framing.{lots_there}
+use Rattle.ff_joins.proofs.join.Join.is_spent.Goals as goal
+
+pub returns : goal.returns
+returns c =
+    let is = c.args.self.now.inlets.items in
+    let shut : c.is_over-shut.result ≡ is_over (lots is c.args.port).after =
+    c.is_over-shut.ensures ∙ ap (λ (l : Lot). is_over l.after) (sym (lots_there is c.args.port c.index.result.now c.requires c.index.ensures)) in
+    rw (shut, c.is_decided-decided.ensures) refl

@@ -1,0 +1,61 @@
+ghost use Rattle.std.specs.Prelude.{◌≡◌};
+ghost use Rattle.ff_joins.specs.JoinSeen.{join_seen, join_spent};
+ghost use Rattle.ff_joins.specs.JoinLaws.{join-grows, join-hides, join-settles, join-quiet, join-spent_only, join-shut_spent, join-done_spent};
+
+use crate::join::Join;
+use crate::over::is_over;
+use ff_filter::Filter;
+use ff_frame::{Item, Refused};
+use std::alloc::AllocError;
+
+impl Filter for Join {
+    ghost view = { λ m. join_seen m };
+
+    ghost spends = { λ m p. join_spent m p };
+
+    fn inputs(&self) -> usize {
+        self.inlets.len()
+    }
+
+    fn outputs(&self) -> usize {
+        1
+    }
+
+    fn is_shut(&self, port: usize) -> bool {
+        is_over(self.inlets[port].after)
+    }
+
+    fn is_stopped(&self, _port: usize) -> bool {
+        self.stopped
+    }
+
+    fn feed(&mut self, port: usize, item: Item) -> Result<(), Refused> {
+        self.take_in(port, item)
+    }
+
+    fn pull(&mut self, _port: usize) -> Result<Option<Item>, AllocError> {
+        self.take()
+    }
+
+    fn stop(&mut self, _port: usize) {
+        self.stopped = true;
+    }
+
+    fn spent(&self, port: usize) -> bool {
+        self.is_spent(port)
+    }
+
+    ghost grows = { λ m. join-grows m };
+
+    ghost hides = { λ m. join-hides m };
+
+    ghost settles = { λ m. join-settles m };
+
+    ghost quiet = { λ m q e ext. join-quiet m e ext };
+
+    ghost spent_only = { λ m p lt e. join-spent_only m p e };
+
+    ghost shut_spent = { λ m p lt e. join-shut_spent m p e };
+
+    ghost done_spent = { λ m p lt z d. join-done_spent m p d };
+}

@@ -1,0 +1,106 @@
+ghost use Rattle.std.specs.Prelude.{◌≡◌, ◌⊎◌, ◌≤◌, ◌<◌, ◌++◌, ◌*◌, ℕ, map, length, true, false, OnOk, IfOk};
+ghost use Rattle.ff_filter.specs.declared.after.After.{After as AnAfter};
+ghost use Rattle.ff_joins.specs.JoinOptions.{channels_of as channels_of_head};
+ghost use Rattle.ff_joins.specs.Lots.{lot_of, lots, lane_of, cell, row_to, cells_to, skipped};
+
+use crate::join_options::channels;
+use crate::sound_inlet::SoundInlet;
+use ff_filter::After;
+use ff_frame::Samples;
+use std::alloc::{AllocError, Global};
+
+// Puts the samples at one place of an input behind the others.
+#[tactic(auto, using(crate::proofs::Framing::cell_there))]
+fn push_cell(out: &mut Vec<i32>, inlet: &SoundInlet, row: usize) -> Result<(), AllocError>
+    requires { row < inlet.now.count }
+    ensures { OnOk result (out.new.items ≡ out.old.items ++ cell (lot_of inlet.now) row) }
+{
+    let channels = channels(&inlet.head) as usize;
+    'cell: for k in 0..channels {
+        out.push(inlet.samples[row * channels + k])?;
+    }
+    Ok(())
+}
+
+// Puts the samples at one place of all inputs behind the others.
+fn push_row(out: &mut Vec<i32>, inlets: &[SoundInlet], row: usize) -> Result<(), AllocError>
+    requires { (p : ℕ) → p < length inlets.now → row < (lots inlets.now p).count }
+    ensures { OnOk result (out.new.items ≡ out.old.items ++ row_to (lots inlets.now) (length inlets.now) row) }
+{
+    'row: for p in 0..inlets.len() {
+        push_cell(out, &inlets[p], row)?;
+    }
+    Ok(())
+}
+
+/// The samples at the first places of all inputs, interleaved by channel; `room` is how many they are.
+pub fn first_rows(
+    alloc: Global,
+    inlets: &[SoundInlet],
+    count: usize,
+    room: usize,
+) -> Result<Samples, AllocError>
+    requires { (p : ℕ) → p < length inlets.now → count ≤ (lots inlets.now p).count }
+    ensures { IfOk result (λ xs. xs ≡ cells_to (lots inlets.now) (length inlets.now) count) }
+{
+    let mut out = Vec::with_capacity(alloc, room)?;
+    'rows: for row in 0..count {
+        push_row(&mut out, inlets, row)?;
+    }
+    Ok(Samples::new(out))
+}
+
+/// Lets the first sample frames of each input go.
+pub fn skip_rows(inlets: &mut Vec<SoundInlet>, count: usize)
+    requires { (p : ℕ) → p < length inlets.old.items → count ≤ (lots inlets.old.items p).count }
+    ensures lots { (p : ℕ) → lots inlets.new.items p ≡ skipped count (lots inlets.old.items p) }
+    ensures lanes { map lane_of inlets.new.items ≡ map lane_of inlets.old.items }
+    ensures len { length inlets.new.items ≡ length inlets.old.items }
+{
+    'skip: for p in 0..inlets.len() {
+        inlets[p].skip(count);
+    }
+}
+
+// The smaller of two numbers.
+fn lesser(a: usize, b: usize) -> usize
+    ensures left { result ≤ a }
+    ensures right { result ≤ b }
+    ensures either { (result ≡ a) ⊎ (result ≡ b) }
+{
+    if a < b { a } else { b }
+}
+
+/// The fewest sample frames that wait on one of these inputs.
+pub fn fewest(inlets: &[SoundInlet]) -> usize
+    requires { 0 < length inlets.now }
+    ensures least { (p : ℕ) → p < length inlets.now → result ≤ (lots inlets.now p).count }
+    ensures there { (p : ℕ) × (p < length inlets.now) × ((lots inlets.now p).count ≡ result) }
+{
+    let mut least = inlets[0].count;
+    'each: for p in 0..inlets.len() {
+        least = lesser(inlets[p].count, least);
+    }
+    least
+}
+
+// Whether so many sample frames wait on an input, and it stands so behind them.
+fn stands_so(inlet: &SoundInlet, count: usize, after: After) -> bool
+    ensures yes { result ≡ true → (inlet.now.count ≡ count) × (inlet.now.after ≡ after) }
+    ensures no { result ≡ false → inlet.now.count ≡ count → inlet.now.after ≡ after → ⊥ }
+{
+    inlet.count == count && inlet.after == after
+}
+
+/// Whether an input on which so many sample frames wait stands so behind them.
+pub fn any_stands(inlets: &[SoundInlet], count: usize, after: After) -> bool
+    ensures yes { result ≡ true → (p : ℕ) × (p < length inlets.now) × ((lots inlets.now p).count ≡ count) × ((lots inlets.now p).after ≡ after) }
+    ensures no { result ≡ false → (p : ℕ) → p < length inlets.now → (lots inlets.now p).count ≡ count → (lots inlets.now p).after ≡ after → ⊥ }
+{
+    'each: for p in 0..inlets.len() {
+        if stands_so(&inlets[p], count, after) {
+            return true;
+        }
+    }
+    false
+}

@@ -1,0 +1,20 @@
+ghost use Rattle.std.specs.Prelude.{◌≡◌, ◌*◌, length};
+ghost use Rattle.ff_joins.specs.JoinOptions.{channels_of};
+
+use ff_filter::After;
+use ff_frame::StreamHead;
+use std::collections::VecDeque;
+
+/// An input of sound that keeps sample frames until they can be used.
+#[derive(Drop)]
+pub struct SoundInlet {
+    /// The head of the input.
+    pub head: StreamHead,
+    /// The samples, interleaved by channel, the next one first.
+    pub samples: VecDeque<i32>,
+    /// How many sample frames they are.
+    pub count: usize,
+    /// How the input stands behind them.
+    pub after: After,
+    pub ghost rows: { length samples.items ≡ count * channels_of head },
+}
