@@ -22,7 +22,7 @@ use Rattle.ff_joins.specs.JoinOptions.{rate_of, bits_of, channels_of}
 use Rattle.ff_joins.specs.JoinedLaws.{rows_few, rows_many}
 use Rattle.ff_joins.specs.JoinBreaks.{EndsAt, LostAt, mark_whole, mark_lost, whole_by, lost_by}
 use Rattle.ff_joins.specs.Lots.{Lot, lots, rows_kept, row_then, all_come, start_after, frame_on, still_joined, lots_view, last_port, skipped, no_rows, has_started}
-use Rattle.ff_joins.specs.JoinSeen.{join_seen, has_closed}
+use Rattle.ff_joins.specs.JoinSeen.{join_seen}
 use Rattle.ff_joins.specs.JoinDrawing.{due, frame_with, made_on, kept_rows, HaveAll, IsNextFrame, StandsSo, IsLast}
 use Rattle.ff_joins.proofs.Settling.{long_first, short_first}
 use Rattle.ff_joins.proofs.Framing.{rows_long}
@@ -43,7 +43,7 @@ due_is m count =
     let xs = flattened (take count (rows_to (last_port m.inlets.items) (kept_rows (lots m.inlets.items)))) in
     let e : m.given + 0 ≡ m.given = omega arith in
     ap (λ (g : ℕ). sound_frame (start_after m.first nothing) (rate_of m.head) (bits_of m.head) (channels_of m.head) g (take count (rows_to (last_port m.inlets.items)
-        (kept_rows (lots m.inlets.items))))) e
+    (kept_rows (lots m.inlets.items))))) e
 
 next_number : (head : StreamHead) (given : ℕ) (z : ℤ) → (λ (i : ℕ) (rows : List Row). frame_on head given z (suc i) rows) ≡ frame_on head (given + 1) z
 next_number head given z j i rows = sound_frame z (rate_of head) (bits_of head) (channels_of head) (e j) rows
@@ -109,7 +109,7 @@ module _ (m : Join) where
       ∙ (ap (λ (x : Item). made x (joined_rows n make' (dropped_rows 1024 ss))) (due_first 1024 all (omega arith) ext)
       ∙ (ap (λ (f : ℕ → List Row → Item). made (due m 1024) (joined_rows n f (dropped_rows 1024 ss))) (next_number m.head m.given (start_after m.first (ext 0)))
       ∙ ap (λ (r : Flow). made (due m 1024) r) (sym (joined_same n (frame_on m.head (m.given + 1) (start_after m.first (ext 0))) (all_come (λ p. skipped 1024
-          (ls p)) ext) (dropped_rows 1024 ss)
+      (ls p)) ext) (dropped_rows 1024 ss)
       (λ p lt. come_skipped ls 1024 ext p (all p (there p lt)))))))
 
   module _ (count : ℕ) (all : HaveAll m count) where
@@ -176,7 +176,7 @@ module _ (m : Join) where
                 let d = all q (there q lt) in
                 let e = at_least.2 in
                 elim (cases_lt count (ls q).count) as (λ _. (rows_in (all_come ls ext) p < rows_in (all_come ls ext) q) ⊎ (((all_come ls ext q).mark ≡ broken) ×
-                    (rows_in (all_come ls ext) p ≤ rows_in (all_come ls ext) q))) [
+                (rows_in (all_come ls ext) p ≤ rows_in (all_come ls ext) q))) [
                   | inl less ↦ inl (omega (arith, a, b, e, less))
                   | inr le ↦ inr (
                     mark_gone (rows_kept (ls q)) (row_stream (ls q).channels (ext q)) (ls q).after (so_broke s q (there q lt) (omega (arith, d, le))),
@@ -235,14 +235,6 @@ module _ (m : Join) where
         ap (λ (k : Mark). framed (make silence) rows k) (so_open s)
         ∙ ap made (few_open still_open (make silence) rows (λ z. cc) (omega (arith, b, g, short, few)))
 
--- the output is closed by what was fed exactly where it stands so
-pub fed_out : (m : Join) (count : ℕ) (all : HaveAll m count) → ((p : ℕ) × (p < length m.inlets.items) × ((lots m.inlets.items p).count ≡ count)) → (a : After)
-    → StandsSo m count a
-    → is_over a ≡ has_closed (join_mark (last_port m.inlets.items) (all_come (lots m.inlets.items) silence))
-fed_out m count all at_least More s = ap has_closed (sym (so_open m count all s))
-fed_out m count all at_least Whole s = ap has_closed (sym (so_whole m count all s silence))
-fed_out m count all at_least Broke s = ap has_closed (sym (so_lost m count all at_least s silence))
-
 -- in the view ------------------------------------------------------------------------------------------------------------
 
 limited_behind : (passes : ℕ → Item → Bool) (k : ℕ) (a : After) (t : Flow) → limited passes k (behind a t) ≡ behind a (limited passes k t)
@@ -277,7 +269,7 @@ module _ (m : Join) (more : m.after ≡ More) (going : m.ended ≡ false) where
 
     pub rest_frame : passes_limits (Frames m.head) m.given (due m count) ≡ false → (ext : Ports) → (join_seen m).rest ext 0
         ≡ before (due m count) (left [] false after (limited (passes_limits (Frames m.head)) (m.given + 1) (made_on m (m.given + 1) (λ p. skipped count
-            (lots m.inlets.items p)) ext)))
+        (lots m.inlets.items p)) ext)))
     rest_frame short ext =
         let passes = passes_limits (Frames m.head) in
         let t = made_on m (m.given + 1) (λ p. skipped count (lots m.inlets.items p)) ext in
@@ -318,7 +310,7 @@ gave_last m x last going = record {
 pub gave_frame : (m : Join) (count : ℕ) (after : After) (lanes : List Lane) (k : ℕ) (ls : ℕ → Lot) (going : m.ended ≡ false)
     → ((ext : Ports) → (join_seen m).rest ext 0
     ≡ before (due m count) (left [] false after (limited (passes_limits (Frames m.head)) (m.given + 1) (made_on m (m.given + 1) (λ p. skipped count
-        (lots m.inlets.items p)) ext))))
+    (lots m.inlets.items p)) ext))))
     → lanes ≡ (join_seen m).ins → k ≡ last_port m.inlets.items → ((p : ℕ) → ls p ≡ skipped count (lots m.inlets.items p))
     → Gave (join_seen m) (lots_view lanes m.head k m.first (m.given + 1) ls m.ended m.stopped after) 0 (due m count)
 gave_frame m count after lanes k ls going h lane last same = record {

@@ -102,7 +102,7 @@ module _ (m : Join) (p : ℕ) (i j : SoundInlet) (x : Item) (lt : p < length m.i
   -- the item was kept
   pub fed_kept : ((t : Flow) → comes (lot_of i) t ≡ comes (lots is p) (before x t)) → is_over i.after ≡ closes x → is_over (lots is p).after ≡ false
       → Fed (join_seen m) (lots_view (map lane_of (set is p i)) m.head (last_port (set is p i)) (has_started_by m.first p (start_of x)) m.given (lots
-          (set is p i)) m.ended m.stopped m.after) p x
+      (set is p i)) m.ended m.stopped m.after) p x
   fed_kept taken shut going = record {
     ports = record { ins = lanes; outs = refl };
     rest = λ ext q on. ap (λ (r : Flow). left [] m.ended m.after r) (
@@ -122,7 +122,7 @@ module _ (m : Join) (p : ℕ) (i j : SoundInlet) (x : Item) (lt : p < length m.i
       come_next ext o = elim (cases_eq o p) as (λ _. all_come (lots (set is p i)) ext o ≡ all_come (lots is) (before_at p x ext) o) [
         | inl same ↦ subst (λ r. all_come (lots (set is p i)) ext r ≡ all_come (lots is) (before_at p x ext) r) (sym same)
             (ap (λ (l : Lot). comes l (ext p)) (lots_here is p i lt) ∙ (taken (ext p) ∙ ap (λ (b : Bool). comes (lots is p) (before_if b x (ext p))) (sym
-                (eq-eqb p p refl))))
+            (eq-eqb p p refl))))
         | inr n ↦ ap (λ (l : Lot). comes l (ext o)) (lots_others is p o i n) ∙ ap (λ (b : Bool). comes (lots is o) (before_if b x (ext o))) (sym (ne_eqb o p n))
       ]
 

@@ -43,7 +43,7 @@ dropped_rows k ss p = record { items = drop k (ss p).items; mark = (ss p).mark }
 abbrev pub taken_rows : ℕ → (ℕ → Stream Row) → ℕ → Stream Row
 taken_rows k ss p = record { items = take k (ss p).items; mark = (ss p).mark }
 
-rows_drop : (n k : ℕ) (ss : ℕ → Stream Row) → rows_to n (dropped_rows k ss) ≡ drop k (rows_to n ss)
+pub rows_drop : (n k : ℕ) (ss : ℕ → Stream Row) → rows_to n (dropped_rows k ss) ≡ drop k (rows_to n ss)
 rows_drop zero k ss = refl
 rows_drop (suc n) k ss = ap (λ (rs : List Row). side_by_side rs (drop k (ss (suc n)).items)) (rows_drop n k ss) ∙ side_drop k (rows_to n ss) (ss (suc n)).items
 
@@ -51,7 +51,7 @@ rows_take : (n k : ℕ) (ss : ℕ → Stream Row) → rows_to n (taken_rows k ss
 rows_take zero k ss = refl
 rows_take (suc n) k ss = ap (λ (rs : List Row). side_by_side rs (take k (ss (suc n)).items)) (rows_take n k ss) ∙ side_take k (rows_to n ss) (ss (suc n)).items
 
-rows_same : (n : ℕ) (ss ts : ℕ → Stream Row) → ((p : ℕ) → p < suc n → (ss p).items ≡ (ts p).items) → rows_to n ss ≡ rows_to n ts
+pub rows_same : (n : ℕ) (ss ts : ℕ → Stream Row) → ((p : ℕ) → p < suc n → (ss p).items ≡ (ts p).items) → rows_to n ss ≡ rows_to n ts
 rows_same zero ss ts h = h 0 (omega arith)
 rows_same (suc n) ss ts h =
     ap (λ (rs : List Row). side_by_side rs (ss (suc n)).items) (rows_same n ss ts (λ p lt. h p (omega (arith, lt))))
@@ -82,7 +82,7 @@ mark_alike n ss ts a =
     ends p l =
         ap (λ (m : Mark). is_whole m && all_to (suc n) (λ q. nat_le (rows_in ss p) (rows_in ss q))) (a.mark p l)
         ∙ ap (λ (b : Bool). is_whole (ts p).mark && b) (all_same (suc n) (λ q. nat_le (rows_in ss p) (rows_in ss q)) (λ q. nat_le (rows_in ts p) (rows_in ts q))
-            (λ q k. a.le p q l k))
+        (λ q k. a.le p q l k))
 
     lasts_same : (p q : ℕ) → p < suc n → q < suc n → lasts ss p q ≡ lasts ts p q
     lasts_same p q l k =
@@ -155,8 +155,11 @@ more_frames whole k = let a : k + 1024 + 1023 ≡ k + 1023 + 1024 = omega arith 
 
 -- a frame of 1,024 rows comes first, where all have so many
 pub whole_first : (n : ℕ) (make : ℕ → List Row → Item) (ss : ℕ → Stream Row) → ((p : ℕ) → p < suc n → 1024 ≤ rows_in ss p)
-    → joined_rows n make ss ≡ (let r : Flow = record { items = make 0 (take 1024 (rows_to n ss)) ∷ (joined_rows n (λ i. make (suc i))
-        (dropped_rows 1024 ss)).items; mark = join_mark n (dropped_rows 1024 ss) } in r)
+    → joined_rows n make ss ≡ (let r : Flow = record {
+      items = make 0 (take 1024 (rows_to n ss)) ∷ (joined_rows n (λ i. make (suc i))
+          (dropped_rows 1024 ss)).items;
+      mark = join_mark n (dropped_rows 1024 ss);
+    } in r)
 whole_first n make ss many =
     let rows = rows_to n ss in
     let m = join_mark n ss in
@@ -164,13 +167,13 @@ whole_first n make ss many =
     let l = length-drop 1024 rows in
     let long : length rows ≡ length (drop 1024 rows) + 1024 = omega (arith, l, enough) in
     let counted : frames_in m (length rows) ≡ suc (frames_in m (length (drop 1024 rows))) = ap (λ (k : ℕ). frames_in m k) long ∙ more_frames m (length
-        (drop 1024 rows)) in
+    (drop 1024 rows)) in
     let made : List Item → Mark → Flow = λ xs k. record { items = xs; mark = k } in
     ap (λ (k : ℕ). made (frames_to make rows k) m) counted
     ∙ (ap (λ (xs : List Item). made xs m) (frames_shift make rows (frames_in m (length (drop 1024 rows))))
     ∙ (ap (λ (rs : List Row). made (make 0 (take 1024 rows) ∷ frames_to (λ i. make (suc i)) rs (frames_in m (length rs))) m) (sym (rows_drop n 1024 ss))
     ∙ ap (λ (k : Mark). made (make 0 (take 1024 rows) ∷ frames_to (λ i. make (suc i)) (rows_to n (dropped_rows 1024 ss)) (frames_in k (length (rows_to n
-        (dropped_rows 1024 ss))))) k)
+    (dropped_rows 1024 ss))))) k)
     (sym (mark_drop n 1024 ss many))))
 
 -- fewer than 1,024 rows make no frame, but the last

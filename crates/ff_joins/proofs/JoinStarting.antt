@@ -71,7 +71,7 @@ join_starts head hs is a =
     let passes = passes_limits (Frames head) in
     let n = length hs - 1 in
     let seen : List Lane → (Ports → Ports) → (ℕ → Bool)
-        → View = λ lanes rest shut. record { ins = lanes; outs = Frames head ∷ []; rest = rest; shut = shut; ended = λ q. false; stopped = λ q. false } in
+    → View = λ lanes rest shut. record { ins = lanes; outs = Frames head ∷ []; rest = rest; shut = shut; ended = λ q. false; stopped = λ q. false } in
     let empty : ℕ → Lot = λ p. empty_lot (channels_at hs p) in
     ap (λ (lanes : List Lane). lots_view lanes head (last_port is) None 0 (lots is) false false More) a.0
     ∙ (ap (λ (k : ℕ). lots_view (map Frames hs) head (k - 1) None 0 (lots is) false false More) a.1

@@ -7,3 +7,4 @@ pub mod FrameSteps
 pub mod Decisions
 pub mod Feeding
 pub mod JoinStarting
+pub mod Cuts

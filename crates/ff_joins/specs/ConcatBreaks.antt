@@ -16,11 +16,11 @@ abbrev pub opened_ports : Ports → Ports
 opened_ports ss p = opened (ss p)
 
 -- where it stands open, some port is where it stands, with all before it whole; and there it is broken where that port is
-record StandsAt (n p : ℕ) (ss : Ports) (m : Mark) : Type 0 where
-  port : ℕ
-  after : p ≤ port
-  there : port < n + p
-  mark : (ss port).mark ≡ m
+pub record StandsAt (n p : ℕ) (ss : Ports) (m : Mark) : Type 0 where
+  pub port : ℕ
+  pub after : p ≤ port
+  pub there : port < n + p
+  pub mark : (ss port).mark ≡ m
 
 stands_later : (n p : ℕ) (ss : Ports) (m : Mark) → StandsAt n (p + 1) ss m → StandsAt (suc n) p ss m
 stands_later n p ss m s = record { port = s.port; after = let a = s.after in omega (arith, a); there = let t = s.there in omega (arith, t); mark = s.mark }
@@ -59,7 +59,7 @@ opened_whole whole e = refl
 opened_whole broken e = cc
 
 -- where it broke off, some segment broke off
-broken_stands : (n p e : ℕ) (ss : Ports) → (in_order n p e ss).mark ≡ broken → StandsAt n p ss broken
+pub broken_stands : (n p e : ℕ) (ss : Ports) → (in_order n p e ss).mark ≡ broken → StandsAt n p ss broken
 broken_stands zero p e ss b = cc
 broken_stands (suc n) p e ss b = at (ss p).mark refl (λ h. broken_stands n (p + 1) (last_end e (map (later e) (ss p).items)) ss h) b
   where

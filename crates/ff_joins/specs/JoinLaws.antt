@@ -1,23 +1,20 @@
 -- The laws of the machine of streams side by side.
-use Rattle.std.specs.Prelude.{◌≡◌, ◌≢◌, ℕ, ◌⊎◌, [], Bool, true, false, ◌||◌, map}
+use Rattle.std.specs.Prelude.{◌≡◌, ◌≢◌, ℕ, ◌⊎◌, [], Bool, true, false, ◌||◌, map, refl}
 use Rattle.std.proofs.Common.{inl, inr, sym, ◌∙◌, arith}
 use Rattle.std.proofs.lemmas.Bool.{or_cases, or_left, or_right}
 use Rattle.std.proofs.lemmas.List.{length-map}
-use Rattle.ff_frame.specs.declared.item.Lane.TheVariants.{Frames}
 use Rattle.ff_frame.specs.Ports.{nothing, IsClosed}
-use Rattle.ff_frame.specs.Within.{passes_limits}
-use Rattle.ff_filter.specs.Limits.{limit_step}
-use Rattle.ff_filter.specs.Runs.{no_more, run_settles}
 use Rattle.ff_filter.specs.StepperLaws.{left_closed}
 use Rattle.ff_frame.specs.Stream.{Mark, still_open, whole, broken}
-use Rattle.ff_filter.specs.Joins.{Ports, silence, Grows, HidesBreaks}
-use Rattle.ff_filter.specs.Made.{is_over}
+use Rattle.ff_filter.specs.Joins.{Flow, Ports, silence, Grows, HidesBreaks}
+use Rattle.ff_filter.specs.declared.after.After.{After}
+use Rattle.ff_filter.specs.declared.after.After.TheVariants.{More, Whole, Broke}
+use Rattle.ff_filter.specs.Made.{is_over, left}
 use Rattle.ff_filter.specs.Views.{Settles, IsSpent, IsOver, AllDone}
 use Rattle.ff_joins.specs.declared.join.Join.{Join}
-use Rattle.ff_joins.specs.Joined.{join_mark, joined_rows}
-use Rattle.ff_joins.specs.Lots.{lots, lane_of, last_port, all_come, still_joined, frame_on, start_after}
+use Rattle.ff_joins.specs.Lots.{lots, lane_of, last_port, still_joined}
 use Rattle.ff_joins.specs.LotLaws.{lots-grows, lots-hides, lots-settles, lots-quiet}
-use Rattle.ff_joins.specs.JoinSeen.{join_seen, join_spent, has_closed, is_decided}
+use Rattle.ff_joins.specs.JoinSeen.{join_seen, join_spent, has_closed, is_decided, fed_mark}
 
 closed_is : (m : Mark) → has_closed m ≡ true → m ≢ still_open
 closed_is still_open e o = cc
@@ -42,6 +39,11 @@ module _ (m : Join) where
   join-quiet e ext = let s = m.started in lots-quiet (map lane_of m.inlets.items) m.head (last_port m.inlets.items) m.first m.given
       (lots m.inlets.items) m.ended m.stopped m.after s e ext
 
+is_closed : (m : Mark) → m ≢ still_open → has_closed m ≡ true
+is_closed still_open c = absurd (c refl)
+is_closed whole c = refl
+is_closed broken c = refl
+
 module _ (m : Join) (p : ℕ) where
   abbrev shut_here : Bool
   shut_here = is_over (lots m.inlets.items p).after
@@ -52,12 +54,10 @@ module _ (m : Join) (p : ℕ) where
   decided_over : is_decided m ≡ true → (m.ended ≡ true) ⊎ IsClosed ((join_seen m).rest silence 0)
   decided_over e = left_closed [] m.ended m.after
       (still_joined m.head (last_port m.inlets.items) m.first m.given (lots m.inlets.items) silence)
-      (elim (or_cases (is_over m.after) (has_closed (join_mark (last_port m.inlets.items) (all_come (lots m.inlets.items) silence))) e) as
+      (elim (or_cases (is_over m.after) (has_closed (fed_mark m)) e) as
       (λ _. (is_over m.after ≡ true) ⊎ IsClosed (still_joined m.head (last_port m.inlets.items) m.first m.given (lots m.inlets.items) silence)) [
         | inl o ↦ inl o
-        | inr c ↦ inr (run_settles (limit_step (passes_limits (Frames m.head))) no_more m.given
-            (joined_rows (last_port m.inlets.items) (frame_on m.head m.given (start_after m.first nothing)) (all_come (lots m.inlets.items) silence))
-            (closed_is (join_mark (last_port m.inlets.items) (all_come (lots m.inlets.items) silence)) c))
+        | inr c ↦ inr (closed_is (fed_mark m) c)
       ])
 
   pub join-spent_only : join_spent m p ≡ true → IsSpent (join_seen m) p
@@ -74,6 +74,29 @@ module _ (m : Join) (p : ℕ) where
       ],
     )
   ]
+
+  over_decided : (b : Bool) (a : After) (t : Flow) → IsClosed (left [] b a t) → (b ≡ true) ⊎ ((is_over a || has_closed t.mark) ≡ true)
+  over_decided true a t c = inl refl
+  over_decided false More t c = inr (is_closed t.mark c)
+  over_decided false Whole t c = inr refl
+  over_decided false Broke t c = inr refl
+
+  over_spent : IsOver (join_seen m) 0 → done ≡ true
+  over_spent (inl e) = or_right m.stopped _ (or_left m.ended _ e)
+  over_spent (inr c) = elim (over_decided m.ended m.after
+      (still_joined m.head (last_port m.inlets.items) m.first m.given (lots m.inlets.items) silence) c) as (λ _. done ≡ true) [
+        | inl e ↦ or_right m.stopped _ (or_left m.ended _ e)
+        | inr d ↦ or_right m.stopped _ (or_right m.ended (is_decided m) d)
+      ]
+
+  -- spent exactly where nothing more can matter
+  pub join-spent_if : IsSpent (join_seen m) p → join_spent m p ≡ true
+  join-spent_if (inl s) = or_left shut_here done s
+  join-spent_if (inr o) = at m.stopped refl
+    where
+      at : (b : Bool) → m.stopped ≡ b → join_spent m p ≡ true
+      at true e = or_right shut_here done (or_left m.stopped _ e)
+      at false e = or_right shut_here done (over_spent (o.1 0 (omega arith) e))
 
   pub join-shut_spent : shut_here ≡ true → join_spent m p ≡ true
   join-shut_spent e = or_left shut_here done e

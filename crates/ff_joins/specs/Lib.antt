@@ -18,5 +18,6 @@ pub mod Lots
 pub mod LotLaws
 pub mod JoinSeen
 pub mod JoinLaws
+pub mod JoinCuts
 pub mod JoinDrawing
 pub mod JoinView

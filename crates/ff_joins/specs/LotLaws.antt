@@ -137,7 +137,7 @@ module _ (lanes : List Lane) (head : StreamHead) (n : ℕ) (first : Option ℤ) 
       left_calm [] ended after (still_joined head n first given ls rs) (still_joined head n first given ls (all_opened rs))
       (below_trans (opened (limited passes given (all_made rs))) (limited passes given (opened (all_made rs))) (limited passes given (all_made (all_opened rs)))
       (run_calm (limit_step passes) no_more given (all_made rs)) (run_below (limit_step passes) no_more given (opened (all_made rs)) (all_made (all_opened rs))
-          (made_calm rs)))
+      (made_calm rs)))
 
   pub lots-settles : n < length lanes → Settles v
   lots-settles lt ext h q l on =

@@ -1,29 +1,31 @@
-ghost use Rattle.std.specs.Prelude.{◌≡◌, ◌≤◌, ◌<◌, ◌||◌, ℤ, List, length, false, true, Some, None, Ok, OnOk, OnErr, IfOk, IfErr, IfSome};
+ghost use Rattle.std.specs.Prelude.{◌≡◌, ◌↔◌, ◌≤◌, ◌<◌, ◌*◌, ◌^◌, ◌||◌, IsTrue, ℤ, List, length, false, true, Some, None, Ok, OnOk, OnErr, IfOk, IfErr, IfSome};
 ghost use Rattle.ff_frame.specs.declared.item.Item.{Item as AnItem};
 ghost use Rattle.ff_frame.specs.declared.item.Lane.TheVariants.{Frames};
 ghost use Rattle.ff_frame.specs.Ports.{nothing};
 ghost use Rattle.ff_frame.specs.Times.{start_of as start_of_item};
-ghost use Rattle.ff_frame.specs.Within.{passes_limits};
+ghost use Rattle.ff_frame.specs.Within.{passes_limits, some_pass};
 ghost use Rattle.ff_filter.specs.declared.after.After.TheVariants.{More};
 ghost use Rattle.ff_filter.specs.Made.{is_over as is_over_by};
-ghost use Rattle.ff_filter.specs.Views.{Same, Fed, Gave, Waits};
-ghost use Rattle.ff_filter.specs.Joins.{silence};
-ghost use Rattle.ff_joins.specs.Joined.{join_mark};
-ghost use Rattle.ff_joins.specs.Lots.{lots, last_port, all_come, start_after, has_started_by};
-ghost use Rattle.ff_joins.specs.JoinSeen.{join_seen, join_spent, has_closed, is_decided as is_decided_by};
+ghost use Rattle.ff_filter.specs.Views.{Same, Fed, Gave, Waits, IsSpent};
+ghost use Rattle.ff_joins.specs.Lots.{lots, start_after, has_started_by};
+ghost use Rattle.ff_joins.specs.JoinSeen.{join_seen, join_spent, has_closed, fed_mark, is_decided as is_decided_by};
+ghost use Rattle.ff_joins.specs.JoinCuts.{frame_length, frame_end, is_late as is_late_by, next_frames};
 ghost use Rattle.ff_joins.specs.JoinDrawing.{due, frame_start, frame_with, HaveAll, IsNextFrame, StandsSo, IsLast};
 
 use crate::join::Join;
 use crate::join_options::{channels, rate_and_bits};
 use crate::over::is_over;
-use crate::rows::{any_stands, fewest, first_rows, skip_rows};
-use crate::times::is_long;
+use crate::rows::{any_stands, fewest, first_rows, skip_rows, width};
+use crate::times::{ends_past, is_long, ticks_from};
 use ff_filter::{After, closing_of, discard, time_base};
 use ff_frame::{AFrame, Item, Refused};
 use std::alloc::AllocError;
 
 // The sample frames of a frame, but for the last one.
 const WHOLE_FRAME: usize = 1024;
+
+// The most frames that a stream has.
+const MOST_FRAMES: u128 = 1 << 40;
 
 // The last time that there is.
 const LAST_TICK: i128 = 9_223_372_036_854_775_807;
@@ -240,15 +242,58 @@ impl Join {
         self.keep(port, item)
     }
 
-    // Whether what was fed, without the limits, closes the output.
-    fn is_fed_out(&self) -> bool
-        ensures { result ≡ has_closed (join_mark (last_port self.now.inlets.items) (all_come (lots self.now.inlets.items) silence)) }
+    // How many ticks a frame of 1,024 sample frames is long.
+    fn frame_long(&self) -> u128
+        ensures is { result ≡ frame_length self.now }
+        ensures near { result ≤ 2 ^ 83 }
     {
-        let count = fewest(self.inlets.as_slice());
-        is_over(self.standing(count))
+        let all = channels(&self.head) as u128;
+        let samples = 1024 * width(self.inlets.as_slice());
+        if all == 0 { 0 } else { samples / all }
     }
 
-    // Whether the output is closed by what was fed, without the limits.
+    // When the frame of this number ends, in ticks from 0.
+    fn frame_ticks(&self, number: u128) -> u128
+        requires { number ≤ 2 ^ 66 }
+        ensures is { result ≡ frame_end self.now number }
+        ensures near { result ≤ 2 ^ 90 }
+    {
+        let long = self.frame_long() as i128;
+        ticks_from(self.start() as i128 + (1024 * number) as i128 + long)
+    }
+
+    // Whether the frame of this number passes a limit.
+    fn is_late(&self, number: u128) -> bool
+        requires { number ≤ 2 ^ 66 }
+        ensures { result ≡ is_late_by self.now number }
+    {
+        (MOST_FRAMES <= number) | ends_past(&self.head, self.frame_ticks(number))
+    }
+
+    // Whether one of the next frames, which are so many, passes a limit.
+    fn is_cut(&self, frames: usize) -> bool
+        requires { HaveAll self.now (frames * 1024) }
+        ensures { result ≡ some_pass (passes_limits (Frames self.now.head)) self.now.given (next_frames self.now frames) }
+    {
+        if frames == 0 {
+            return false;
+        }
+        self.is_late(self.given as u128 + (frames - 1) as u128)
+    }
+
+    // Whether what was fed closes the output, where the closing item isn't known yet.
+    fn is_fed_out(&self) -> bool
+        ensures { result ≡ has_closed (fed_mark self.now) }
+    {
+        let count = fewest(self.inlets.as_slice());
+        let standing = self.standing(count);
+        if is_over(standing) {
+            return true;
+        }
+        self.is_cut(count / WHOLE_FRAME)
+    }
+
+    // Whether the output is closed by what was fed.
     fn is_decided(&self) -> bool
         ensures { result ≡ is_decided_by self.now }
     {
@@ -256,10 +301,11 @@ impl Join {
     }
 
     /// Whether nothing more of an input can matter: exactly where it has closed, or where the output isn't wanted or is closed
-    /// by what was fed, but for the limits: a frame that passes one closes the output when it is due to be pulled.
+    /// by what was fed.
     pub fn is_spent(&self, port: usize) -> bool
         requires { port < length self.now.inlets.items }
-        ensures { result ≡ join_spent self.now port }
+        ensures exact { IsTrue result ↔ IsSpent (join_seen self.now) port }
+        ensures is { result ≡ join_spent self.now port }
     {
         let shut = is_over(self.inlets[port].after);
         let decided = self.is_decided();

@@ -9,6 +9,7 @@ ghost use Rattle.ff_joins.specs.Concats.{concatenated};
 ghost use Rattle.ff_joins.specs.JoinExamples.{sound_at, one_channel, all_sound};
 ghost use Rattle.ff_joins.specs.Joined.{side_to_side};
 ghost use Rattle.ff_joins.specs.JoinRule.{AreMany, joined_list};
+ghost use Rattle.ff_frame.specs.Ports.{IsUnbroken};
 ghost use Rattle.ff_frame.specs.Stream.{LiesBelow};
 ghost use Rattle.ff_filter.specs.Joins.{Ports};
 
@@ -21,6 +22,13 @@ pub fn segments_keep_the_broken_rule()
 /// Two segments of one picture each: from 0 for 3 ticks, and from 1 for 2; the second picture then starts at 4.
 pub fn the_second_segment_is_shifted()
     ensures { (f g : VFrame) → concatenated 2 (two_whole (picture_at f 0 3) (picture_at g 1 2)) ≡ two_pictures (picture_at f 0 3) (picture_at g 4 2) }
+{}
+
+/// Where no input breaks off, neither do segments one after another, nor streams of sound side by side.
+pub fn unbroken_inputs_make_no_break()
+    ensures segments { (n : ℕ) (ss : Ports) → ((p : ℕ) → IsUnbroken (ss p)) → IsUnbroken (concatenated n ss) }
+    ensures sound { (n : ℕ) (channels : ℕ → ℕ) (rate bits all : ℕ) (ss : Ports) → ((p : ℕ) → IsUnbroken (ss p))
+        → IsUnbroken (side_to_side n channels rate bits all ss) }
 {}
 
 /// Streams of sound side by side: streams further on give streams further on.

@@ -1,5 +1,6 @@
-ghost use Rattle.std.specs.Prelude.{◌≡◌, ◌⊎◌, ◌≤◌, ◌<◌, ◌++◌, ◌*◌, ℕ, map, length, true, false, OnOk, IfOk};
+ghost use Rattle.std.specs.Prelude.{◌≡◌, ◌⊎◌, ◌≤◌, ◌<◌, ◌++◌, ◌*◌, ◌^◌, ℕ, map, length, true, false, OnOk, IfOk};
 ghost use Rattle.ff_filter.specs.declared.after.After.{After as AnAfter};
+ghost use Rattle.ff_joins.specs.JoinCuts.{width_to};
 ghost use Rattle.ff_joins.specs.JoinOptions.{channels_of as channels_of_head};
 ghost use Rattle.ff_joins.specs.Lots.{lot_of, lots, lane_of, cell, row_to, cells_to, skipped};
 
@@ -103,4 +104,16 @@ pub fn any_stands(inlets: &[SoundInlet], count: usize, after: After) -> bool
         }
     }
     false
+}
+
+/// The channels of these inputs.
+pub fn width(inlets: &[SoundInlet]) -> u128
+    ensures is { result ≡ width_to (lots inlets.now) (length inlets.now) }
+    ensures near { result ≤ 2 ^ 72 }
+{
+    let mut total: u128 = 0;
+    'each: for p in 0..inlets.len() {
+        total += channels(&inlets[p].head) as u128;
+    }
+    total
 }

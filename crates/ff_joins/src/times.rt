@@ -14,8 +14,8 @@ const LAST_SECOND: u128 = 1_000_000_000;
 
 const MOST_ITEMS: u64 = 1 << 40;
 
-// A time in ticks from 0; what lies before 0 counts as 0.
-fn ticks_from(time: i128) -> u128
+/// A time in ticks from 0; what lies before 0 counts as 0.
+pub fn ticks_from(time: i128) -> u128
     ensures { result ≡ ticks time }
 {
     if time < 0 { 0 } else { time as u128 }
@@ -37,13 +37,20 @@ pub fn end_ticks(item: &Item) -> u128
     }
 }
 
+/// Whether so many ticks are past the last second.
+pub fn ends_past(head: &StreamHead, end: u128) -> bool
+    requires { end ≤ 2 ^ 90 }
+    ensures { result ≡ nat_lt (1000000000 * (base_of_head head.now).den) (end * (base_of_head head.now).num) }
+{
+    let tb = time_base(head);
+    LAST_SECOND * (tb.den() as u128) < end * (tb.num() as u128)
+}
+
 // Whether an item ends past the last second.
 fn ends_late(head: &StreamHead, item: &Item) -> bool
     ensures { result ≡ nat_lt (1000000000 * (base_of_head head.now).den) (end_of_ticks item.now * (base_of_head head.now).num) }
 {
-    let tb = time_base(head);
-    let end = end_ticks(item);
-    LAST_SECOND * (tb.den() as u128) < end * (tb.num() as u128)
+    ends_past(head, end_ticks(item))
 }
 
 /// Whether an item passes a limit of every stream, where so many came before it.

@@ -12,7 +12,7 @@ each-preserved c =
     let lt : p < length is = omega arith in
     let i = c.index-inlets-p.result in
     let e : (lots is p).count ≡ (slice_index_or is p i).count = ap (λ (l : Lot). l.count) (lots_there is p i lt c.index-inlets-p.is) ∙ ap (λ
-        (j : SoundInlet). j.count) c.index-inlets-p.is in
+    (j : SoundInlet). j.count) c.index-inlets-p.is in
     let left = c.lesser-least.ensures.left in
     let right = c.lesser-least.ensures.right in
     record {

@@ -27,7 +27,7 @@ skip-preserved c =
     let lt : p < length is = omega (arith, len) in
     let here : lot_of i ≡ skipped c.args.count (lots c.args.inlets.now.items p) =
     c.skip-in-skip.ensures.lot ∙ ap (λ (l : Lot). skipped c.args.count l) (sym (lots_there is p j lt c.index_mut.ensures.value) ∙ c.skip.invariant.left p
-        (omega arith)) in
+    (omega arith)) in
     record {
       len = length-set is p i ∙ len;
       lanes = lanes_same is p i j c.index_mut.ensures.value c.skip-in-skip.ensures.head ∙ c.skip.invariant.lanes;
@@ -42,10 +42,10 @@ skip-preserved c =
 pub returns-clause-lots : goal.returns-clause-lots
 returns-clause-lots c p = elim (cases_lt p (length c.args.inlets.now.items)) as (λ _. lots c.skip.inlets.items p ≡ skipped c.args.count
     (lots c.args.inlets.now.items p)) [
-  | inl less ↦ c.skip.invariant.done p (omega (arith, less))
-  | inr le ↦ (
-      let len = c.skip.invariant.len in
-      lots_beyond c.skip.inlets.items p (omega (arith, le, len))
-      ∙ sym (ap (λ (l : Lot). skipped c.args.count l) (lots_beyond c.args.inlets.now.items p le) ∙ none_skipped c.args.count)
-      )
-]
+      | inl less ↦ c.skip.invariant.done p (omega (arith, less))
+      | inr le ↦ (
+          let len = c.skip.invariant.len in
+          lots_beyond c.skip.inlets.items p (omega (arith, le, len))
+          ∙ sym (ap (λ (l : Lot). skipped c.args.count l) (lots_beyond c.args.inlets.now.items p le) ∙ none_skipped c.args.count)
+          )
+    ]

@@ -17,7 +17,7 @@ close-requires-clause-last c =
     let k = c.args.count in
     rest_cut m c.requires.more c.requires.open k c.args.after c.requires.next
     (ap (λ (x : Item). passes_limits (Frames m.head) m.given x) (due_is m k) ∙ c.next_start.ensures.none c.in-None.is (flattened (take k (rows_to
-        (last_port m.inlets.items) (kept_rows (lots m.inlets.items))))))
+    (last_port m.inlets.items) (kept_rows (lots m.inlets.items))))))
 
 pub close-requires-then-is_long-clause-last : goal.close-requires-then-is_long-clause-last
 close-requires-then-is_long-clause-last c =
@@ -44,7 +44,7 @@ returns-clause-gives c =
     let short : passes_limits (Frames m.head) m.given (due m k) ≡ false =
     ap (λ (x : Item). passes_limits (Frames m.head) m.given x) (sym c.in_ok-item.ensures) ∙ (sym c.is_long.ensures.is ∙ c.if-is_long.false) in
     subst (λ (x : Item). Gave (join_seen m) (lots_view (map lane_of is) m.head (last_port is) m.first (m.given + 1) (lots is) m.ended m.stopped c.args.after) 0 x)
-        (sym c.in_ok-item.ensures)
+    (sym c.in_ok-item.ensures)
     (gave_frame m k c.args.after (map lane_of is) (last_port is) (lots is) c.requires.open
     (rest_frame m c.requires.more c.requires.open k c.args.after c.requires.next short)
     c.skip_rows.ensures.lanes (ap (λ (j : ℕ). j - 1) c.skip_rows.ensures.len) c.skip_rows.ensures.lots)
