@@ -1,5 +1,5 @@
 -- When a demuxer tells that it has exited.
-use Rattle.std.proofs.Common.{◌≡◌, ℕ, zero, suc, ◌<◌, ◌⊎◌, inl, inr, Bool, true, false, cond, List, [], ◌∷◌, ◌++◌, Option, None, refl, sym, ap, subst, ◌∙◌, arith}
+use Rattle.std.proofs.Common.{◌≡◌, ◌≢◌, ℕ, zero, suc, ◌<◌, ◌⊎◌, inl, inr, Bool, true, false, cond, List, [], ◌∷◌, ◌++◌, Option, None, Some, refl, sym, ap, subst, ◌∙◌, arith}
 use Rattle.std.specs.Prelude.{IsSome}
 use Rattle.ff_values.specs.declared.event.Event.{Event}
 use Rattle.ff_values.specs.declared.event.Event.TheVariants.{Exited}
@@ -12,7 +12,15 @@ use Rattle.ff_net.specs.Pasts.{Past, Feed, was_told, was_stopped}
 use Rattle.ff_cut.specs.Cutters.{Cutter}
 use Rattle.ff_demuxing.specs.Demuxing.{demux_of, DemuxStands}
 use Rattle.ff_demuxing.specs.DemuxLaws.{demux_closed}
-use Rattle.ff_demuxing.specs.Exiting.{Exits}
+use Rattle.ff_demuxing.specs.Exiting.{Exits, IsOver}
+
+-- it gives nothing more where it isn't without a fault and neither ended nor stopped
+pub is_over : (ended stopped : Bool) (fault : Option Fault) → (ended ≡ false → stopped ≡ false → fault ≢ None)
+    → (ended ≡ true) ⊎ (stopped ≡ true) ⊎ IsSome fault
+is_over true stopped fault over = inl refl
+is_over false true fault over = inr (inl refl)
+is_over false false None over = absurd (over refl refl refl)
+is_over false false (Some c) over = inr (inr refl)
 
 module _ (input : ℕ) (stopped told : Bool) (past : Past) (x : Exits input stopped told past.task.tells past.told past.stopped) where
   -- it told what was due
@@ -20,6 +28,20 @@ module _ (input : ℕ) (stopped told : Bool) (past : Past) (x : Exits input stop
   exits_told t =
       x.events_are
       ∙ (ap (λ (b : Bool). cond b (Exited input ∷ []) []) t ∙ sym (ap (λ (f : List Feed → List Event). f past.feeds) x.tells_is))
+
+  -- that is that it has exited
+  pub exits_alone : (n : ℕ) → Some input ≡ Some n → past.task.tells past.feeds ≡ Exited n ∷ []
+  exits_alone n e =
+      let same : input ≡ n = cc in
+      ap (λ (f : List Feed → List Event). f past.feeds) x.tells_is ∙ ap (λ (i : ℕ). Exited i ∷ []) same
+
+  -- where it told something it told that
+  pub exits_some : past.told ≢ [] → told ≡ true
+  exits_some n = pick told refl
+    where
+      pick : (b : Bool) → told ≡ b → told ≡ true
+      pick true e = e
+      pick false e = absurd (n (x.events_are ∙ ap (λ (b : Bool). cond b (Exited input ∷ []) []) e))
 
   -- it tells it now
   pub exits_now : (e : Event) → told ≡ false → Exited input ≡ e
@@ -50,6 +72,12 @@ module _ (input : ℕ) (stopped told : Bool) (past : Past) (x : Exits input stop
     over_pending (inl e) none zero p = demux_closed cutter d.0 (d.1 ++ d.2) (sym (mark_is true e) ∙ p.unclosed)
     over_pending (inr (inl s)) none zero p = p.goes_on (x.stopped_is.0 s)
     over_pending (inr (inr f)) none zero p = cc
+
+    -- that can be seen of its past
+    pub over_seen : (ended ≡ true) ⊎ (stopped ≡ true) ⊎ IsSome fault → IsOver fault past
+    over_seen (inl e) = inr (inr (λ o. demux_closed cutter d.0 (d.1 ++ d.2) (sym (mark_is true e) ∙ o)))
+    over_seen (inr (inl s)) = inr (inl (x.stopped_is.0 s))
+    over_seen (inr (inr f)) = inl f
 
     -- else its output goes on
     pub goes_on_pending : ended ≡ false → stopped ≡ false → IsPending 1 past 0

@@ -1,5 +1,5 @@
 -- The laws of the part that gives an input's packets.
-use Rattle.std.specs.Prelude.{◌≡◌, ℕ, zero, suc, ◌<◌, ◌≤◌, Bool, true, false, cond, List, [], ◌∷◌, ◌++◌, map, length, Option, None, Some, refl}
+use Rattle.std.specs.Prelude.{◌≡◌, ℕ, zero, suc, ◌+◌, ◌<◌, ◌≤◌, Bool, true, false, cond, List, [], ◌∷◌, ◌++◌, map, length, Option, None, Some, refl}
 use Rattle.std.proofs.Common.{sym, subst, ap, ◌∙◌, arith}
 use Rattle.ff_values.specs.declared.head.StreamHead.{StreamHead}
 use Rattle.ff_frame.specs.declared.item.Lane.{Lane}
@@ -15,7 +15,7 @@ use Rattle.ff_net.specs.Ways.{Flow, AreValid}
 use Rattle.ff_cut.specs.Cutters.{Cutter}
 use Rattle.ff_demuxing.specs.Demuxing.{mark_at, damage_at, items_of, break_of, demux_of, is_too_long, fault_in, passes_in_demux, DemuxStands}
 use Rattle.ff_demuxing.specs.DemuxShapes.{IsShaped, demux_valid}
-use Rattle.ff_demuxing.specs.Sources.{source_valid, source_keeps, source_monotone, source_calm, source_unbroken, source_given, tried_of, source_tried, source_units}
+use Rattle.ff_demuxing.specs.Sources.{source_valid, source_keeps, source_monotone, source_calm, source_unbroken, source_given, tried_of, source_tried, source_few, source_units}
 
 module _ {H C : Type 0} (cutter : Cutter H C) where
   pub demux_mark : (head : H) (file : List ℕ) (b : Bool) → is_too_long cutter head file ≡ b
@@ -82,6 +82,9 @@ module _ {H C : Type 0} (cutter : Cutter H C) (left : Option (List ℕ)) (cut : 
 
   pub demux_tried : tried_of given ended ≤ length past.allowed
   demux_tried = source_tried stream given ended ticket past d.3.sources
+
+  pub demux_few : tried_of given ended ≤ length (stream_at (past.task.means past.got) 0).items + 1
+  demux_few = source_few stream given ended ticket past d.3.sources
 
   pub demux_units : AllBelow past.gave (map (cut_to (tried_of given ended)) (past.task.means past.got))
   demux_units = source_units stream given ended ticket past d.3.sources

@@ -1,15 +1,21 @@
 -- What a demuxer tells: that it has exited, once, when it gives nothing more.
-use Rattle.std.specs.Prelude.{◌≡◌, ◌↔◌, ℕ, Bool, true, false, cond, List, [], ◌∷◌, refl}
+use Rattle.std.specs.Prelude.{◌≡◌, ◌↔◌, ◌⊎◌, ℕ, Bool, true, false, cond, List, [], ◌∷◌, Option, IsSome, refl}
 use Rattle.std.proofs.Common.{sym, subst, ap}
 use mathlib.Core.List.{IsPrefix}
 use Rattle.ff_frame.specs.Order.{prefix_self}
+use Rattle.ff_frame.specs.Ports.{stream_at, IsClosed}
 use Rattle.ff_values.specs.declared.event.Event.{Event}
 use Rattle.ff_values.specs.declared.event.Event.TheVariants.{Exited}
+use Rattle.ff_net.specs.declared.fault.Fault.{Fault}
 use Rattle.ff_net.specs.Pasts.{Past, Feed, IsIn}
 
 -- whatever it was fed: that the source of this number has exited
 abbrev pub exits : ℕ → List Feed → List Event
 exits input feeds = Exited input ∷ []
+
+-- whether it gives nothing more: a fault is there, or its only output was stopped or has closed
+abbrev pub IsOver : Option Fault → Past → Type 0
+IsOver fault past = IsSome fault ⊎ IsIn 0 past.stopped ⊎ IsClosed (stream_at past.gave 0)
 
 -- whether its only output was stopped, and what it told of that
 pub record Exits (input : ℕ) (stopped told : Bool) (tells : List Feed → List Event) (events : List Event) (stops : List ℕ) : Type 0 where

@@ -129,6 +129,16 @@ tried_of n ended = n + count ended
 pub source_tried : (s : Flow) (n : ℕ) (ended ticket : Bool) (past : Past) → Sources s n ended ticket past → tried_of n ended ≤ length past.allowed
 source_tried s n ended ticket past l = omega (arith, l.tickets)
 
+few_tried : (s : Flow) (n : ℕ) (ended : Bool) → n ≤ length s.items → tried_of n ended ≤ length s.items + 1
+few_tried s n true le = omega (arith, le)
+few_tried s n false le = omega (arith, le)
+
+-- and these are at most one more than its stream has items
+pub source_few : (s : Flow) (n : ℕ) (ended ticket : Bool) (past : Past) → Sources s n ended ticket past
+    → tried_of n ended ≤ length (stream_at (past.task.means past.got) 0).items + 1
+source_few s n ended ticket past l =
+    subst (λ (f : List Flow → List Flow). tried_of n ended ≤ length (stream_at (f past.got) 0).items + 1) (sym l.means) (few_tried s n ended l.in_range)
+
 units_at : (s : Flow) (n : ℕ) (ended ticket : Bool) (past : Past) → Sources s n ended ticket past
     → LiesBelow (stream_at past.gave 0) (cut_to (tried_of n ended) s)
 units_at s n true ticket past l =

@@ -1,4 +1,4 @@
-ghost use Rattle.std.specs.Prelude.{◌≡◌, ◌≢◌, ◌^◌, ◌≤◌, ◌<◌, ◌⊎◌, ℕ, List, Some, None, Err, true, false, length, IfOk, IfErr, IsSome};
+ghost use Rattle.std.specs.Prelude.{◌≡◌, ◌≢◌, ◌+◌, ◌^◌, ◌≤◌, ◌<◌, ◌⊎◌, ℕ, List, Some, None, Err, true, false, length, IfOk, IfErr, IsSome};
 ghost use Rattle.ff_frame.specs.declared.item.Lane.TheVariants.{Packets};
 ghost use Rattle.ff_net.specs.declared.fault.Fault.TheVariants.{TooLarge};
 
@@ -40,6 +40,7 @@ pub struct Demux<S, C: PacketCut> {
     ghost near: { ended ≡ false → C.is.place cut ≤ 2 ^ 50 },
     ghost few: { given ≤ 2 ^ 40 },
     ghost fits: { fault ≢ Some TooLarge },
+    ghost over: { told ≡ true → ended ≡ false → stopped ≡ false → fault ≢ None },
 }
 
 fn piece_of(alloc: Global, size: usize) -> Result<Vec<u8>, AllocError>
@@ -62,8 +63,11 @@ fn lengthen(piece: &mut Vec<u8>, waiting: u64)
 
 impl<S: Source + Drop, C: PacketCut + Drop> Demux<S, C> {
     ghost use Rattle.std.specs.Prelude.{[], ◌∷◌};
-    ghost use Rattle.ff_net.specs.Pasts.{start};
+    ghost use Rattle.ff_values.specs.declared.event.Event.TheVariants.{Exited};
+    ghost use Rattle.ff_frame.specs.Ports.{stream_at};
+    ghost use Rattle.ff_net.specs.Pasts.{Past, start};
     ghost use Rattle.ff_demuxing.specs.Demuxing.{demux_task};
+    ghost use Rattle.ff_demuxing.specs.Exiting.{IsOver};
     ghost use Rattle.ff_demuxing.specs.Demuxers.{demux_out_lanes, demux_source, demux_fault, demux_failures, demux_device, demux_reads, demux_stands};
 
     /// Over a source that gives the input from its first byte on, whose head this is. The source comes back where there
@@ -97,9 +101,11 @@ impl<S: Source + Drop, C: PacketCut + Drop> Demux<S, C> {
         })
     }
 
-    /// Under how many of its tickets, from the first on, it has tried a packet or the end: as many as it gave.
+    /// Under how many of its tickets, from the first on, it has tried a packet or the end: as many as it gave, and so at most one more
+    /// than its stream has packets.
     pub fn tried(&self) -> u64
-        ensures { result ≡ demux_reads self.now }
+        ensures reads { result ≡ demux_reads self.now }
+        ensures few { (past : Past) → demux_stands S.left self.now past → result ≤ length (stream_at (past.task.means past.got) 0).items + 1 }
     {
         if self.ended {
             return self.given + 1;
@@ -115,10 +121,15 @@ impl<S: Source + Drop, C: PacketCut + Drop> Demux<S, C> {
         self.ended || self.stopped || self.fault.is_some()
     }
 
-    /// The source, as it is now.
+    /// The source, as it is now. All that there is to tell of it is that it has exited, once nothing more is given: where there is a
+    /// fault, or the output was stopped or has closed.
     pub fn into_source(self) -> S
         ensures name { S.name result ≡ demux_device S.name self }
         ensures faults { S.faults result ≡ demux_failures S.faults self }
+        ensures exits { (past : Past) (input : ℕ) → demux_stands S.left self past → demux_source self ≡ Some input
+            → past.task.tells past.feeds ≡ Exited input ∷ [] }
+        ensures over { (past : Past) → demux_stands S.left self past → past.told ≢ [] → IsOver (demux_fault self) past }
+        ensures few { (past : Past) → demux_stands S.left self past → demux_reads self ≤ length (stream_at (past.task.means past.got) 0).items + 1 }
     {
         self.src
     }

@@ -1,4 +1,5 @@
 pub mod Ends
 pub mod MuxSteps
+pub mod StreamTells
 pub mod TellSteps
 pub mod Texts

@@ -21,14 +21,16 @@ use Rattle.ff_frame.specs.Ports.{nothing, stream_at, IsWhole}
 use Rattle.ff_net.specs.declared.fault.Fault.{Fault}
 use Rattle.ff_net.specs.declared.fault.Fault.TheVariants.{TooLarge}
 use Rattle.ff_net.specs.Ways.{Flow, AreValid}
-use Rattle.ff_net.specs.Pasts.{Past, fed, start, was_told}
+use Rattle.ff_net.specs.Pasts.{Past, Feed, fed, start, was_told}
 use Rattle.ff_net.specs.Laws.{IsOfInputs}
 use Rattle.ff_net.proofs.Flows.{stream_at-with_item_same, stream_at-with_item_other}
 use Rattle.ff_writers.specs.Layouts.{Layout, written, fits, with_last, IsBeyond}
 use Rattle.ff_muxing.specs.Adding.{IsIdle, IsEnd, IsTextOf}
+use Rattle.ff_muxing.specs.Feeding.{feed_of, feeds_of}
 use Rattle.ff_muxing.specs.Growing.{cause_grows, open_text}
 use Rattle.ff_muxing.specs.Muxing.{packets_of, totals_with, unpatched, file, body_size, mux_cause, mux_task, HoldsSmall, MuxStands}
 use Rattle.ff_muxing.specs.Writing.{text_before, EndsAs}
+use Rattle.ff_muxing.proofs.StreamTells.{feeds_more}
 use Rattle.ff_muxing.proofs.Texts.{appended, prefixed, ended, totals_more, something, closed_then, not_whole, stands_then, packet_text, packet_size, end_text, end_file, idle_text, idle_size, idle_open, beyond_cause, within_fits, small_cause}
 
 fits_none : (longest : Option ℕ) → fits longest 0 ≡ true
@@ -48,6 +50,7 @@ mux_begins holds layout counts head stream told counted = (
     not_begun = λ e. refl;
     has_begun = λ e. cc;
     closed_is = (λ e. cc, λ n. absurd (n refl));
+    feeds_are = refl;
     told = told;
     totals_are = refl;
     fresh = λ e. (refl, refl);
@@ -74,6 +77,7 @@ mux_told holds layout counts totals head begun closed fault past e (bytes, s) = 
     not_begun = s.not_begun;
     has_begun = s.has_begun;
     closed_is = s.closed_is;
+    feeds_are = s.feeds_are;
     told = s.told;
     totals_are = s.totals_are;
     fresh = s.fresh;
@@ -114,6 +118,7 @@ module _ (holds now : Option (List ℕ)) (layout : Layout) (counts counts' : ℕ
           not_begun = λ e. cc;
           has_begun = λ e n. something got x (sym is ∙ n);
           closed_is = rw is (closed_then closed closes got x s.1.closed_is.0 o flag);
+          feeds_are = ap (λ (fs : List Feed). fs ++ feed_of x ∷ []) s.1.feeds_are ∙ (sym (feeds_more got x o) ∙ ap feeds_of (sym is));
           told = told;
           totals_are = rw is (keeps ∙ (ap (λ (t : Option Totals). totals_with t x) s.1.totals_are ∙ sym (totals_more got x)));
           fresh = λ n. absurd (something got x (sym is ∙ n));

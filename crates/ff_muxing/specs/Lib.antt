@@ -1,4 +1,5 @@
 pub mod Adding
+pub mod Feeding
 pub mod Growing
 pub mod Held
 pub mod Kinds
@@ -6,6 +7,7 @@ pub mod MuxLaws
 pub mod Muxers
 pub mod Muxing
 pub mod Outputs
+pub mod StreamEvents
 pub mod TaskLaws
 pub mod Telling
 pub mod Writing

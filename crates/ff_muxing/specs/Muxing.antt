@@ -21,6 +21,7 @@ use Rattle.ff_net.specs.Ways.{Flow}
 use Rattle.ff_net.specs.Pasts.{Past, Task, Feed}
 use Rattle.ff_net.specs.Laws.{IsOfInputs}
 use Rattle.ff_writers.specs.Layouts.{Layout, body, written, text_of, fits, finished}
+use Rattle.ff_muxing.specs.Feeding.{feeds_of}
 use Rattle.ff_muxing.specs.Telling.{mux_tells}
 
 -- the packet that an item is, if it is one, of the stream of this number
@@ -128,6 +129,8 @@ pub record Muxes (holds : Option (List ℕ)) (layout : Layout) (counts : ℕ →
   pub not_begun : begun ≡ false → stream_at past.got 0 ≡ nothing
   pub has_begun : begun ≡ true → stream_at past.got 0 ≢ nothing
   pub closed_is : closed ≡ true ↔ IsClosed (stream_at past.got 0)
+  -- it was fed the stream, item by item
+  pub feeds_are : past.feeds ≡ feeds_of (stream_at past.got 0)
   pub told : holds ≡ Some bytes
   pub totals_are : totals ≡ totals_of (stream_at past.got 0)
   -- before the first item: nothing, and no fault

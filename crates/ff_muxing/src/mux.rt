@@ -4,12 +4,13 @@ ghost use Rattle.ff_time.specs.Fraction.{Fraction};
 ghost use Rattle.ff_values.specs.Heads.{base_of_head};
 ghost use Rattle.ff_frame.specs.declared.item.Lane.TheVariants.{Packets};
 ghost use Rattle.ff_frame.specs.Stream.{LiesBelow};
-ghost use Rattle.ff_frame.specs.Ports.{nothing, stream_at, IsWhole};
+ghost use Rattle.ff_frame.specs.Ports.{nothing, stream_at, IsClosed, IsWhole};
 ghost use Rattle.ff_net.specs.Pasts.{Past, start};
 ghost use Rattle.ff_net.specs.Ways.{Flow};
 ghost use Rattle.ff_writers.specs.Layouts.{Layout};
 ghost use Rattle.ff_muxing.specs.Muxing.{mux_cause, mux_task, unpatched, file};
 ghost use Rattle.ff_muxing.specs.Held.{HoldsPart};
+ghost use Rattle.ff_muxing.specs.StreamEvents.{stream_events};
 
 use crate::added::{Added, added_by, totals_with};
 use crate::telling::{put, told_by};
@@ -79,7 +80,8 @@ impl<K: Sink + Drop, W: Writer + Drop> Mux<K, W> {
 
     /// Gives the sink back. It holds nothing before the first item, afterwards what is written of the stream, and once that is whole
     /// its file; where there is a fault a front of what is written, or the file, and none of the packets from the first on that makes
-    /// them too many bytes. The layout is whichever the muxer's task is of.
+    /// them too many bytes. What there was to tell of a stream that has closed are the events of this stream. The layout is whichever
+    /// the muxer's task is of.
     pub fn into_sink(self) -> K
         ensures sink { result ≡ mux_sink self }
         ensures fresh { (past : Past) → mux_stands self past → stream_at past.got 0 ≡ nothing → K.holds result ≡ Some [] }
@@ -93,6 +95,9 @@ impl<K: Sink + Drop, W: Writer + Drop> Mux<K, W> {
         ensures front { (past : Past) (stream : ℕ) (base : Fraction) (layout : Layout)
             → mux_stands self past → past.task ≡ mux_task layout stream base
             → HoldsPart (K.holds result) (unpatched layout (stream_at past.got 0)) (file layout (stream_at past.got 0)) }
+        ensures told { (past : Past) (stream : ℕ) (base : Fraction) (layout : Layout)
+            → mux_stands self past → past.task ≡ mux_task layout stream base → IsClosed (stream_at past.got 0)
+            → past.task.tells past.feeds ≡ stream_events stream base (stream_at past.got 0) }
         ensures small { (past : Past) (stream : ℕ) (base : Fraction) (layout : Layout)
             → mux_stands self past → past.task ≡ mux_task layout stream base
             → (r : Flow) × LiesBelow r (stream_at past.got 0) × (mux_cause layout r ≡ None)
