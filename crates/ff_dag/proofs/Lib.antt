@@ -1,0 +1,10 @@
+pub mod Carrying
+pub mod Drawing
+pub mod Edges
+pub mod Entering
+pub mod Giving
+pub mod Moving
+pub mod Silence
+pub mod Stopping
+pub mod Sweeping
+pub mod Telling

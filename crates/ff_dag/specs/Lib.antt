@@ -1,0 +1,7 @@
+pub mod Dags
+pub mod GraphLaws
+pub mod Graphs
+pub mod Over
+pub mod Parts
+pub mod Readings
+pub mod SettleLaws

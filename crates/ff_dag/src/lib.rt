@@ -1,0 +1,23 @@
+//! Filters fed by filters, without a loop, as one filter.
+//!
+//! ```text
+//!   input 0 ──edge 0──►│ A │──edge 1──►│ B │──edge 3──►│   │
+//!                      │   │──edge 2────────────────►│ C │──edge 4──► output 0
+//! ```
+//!
+//! Each edge has a number and one stream; input i of the graph is edge i. Filters stand in an order in which each feeds later
+//! ones only. One item may wait before each input of a filter. To pull at an output is to ask the filter there, and where it
+//! has nothing to move one item along one edge from which that output can be reached, the highest first: so nothing is asked
+//! that the output doesn't need, and nothing piles up in the middle.
+//!
+//! What a graph still gives is said on all edges at once (`specs/Graphs`), and at the start it is the solution of a network
+//! with a part for each filter (`specs/Parts`).
+#![tactic(auto)]
+
+mod dag;
+mod graph;
+mod placed;
+
+pub use dag::Dag;
+pub use graph::{Graph, Node, Plan, Port, Wire};
+pub use placed::Placed;
