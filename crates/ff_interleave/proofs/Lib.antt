@@ -1,0 +1,4 @@
+pub mod Fronting
+pub mod Giving
+pub mod Ordered
+pub mod Placing

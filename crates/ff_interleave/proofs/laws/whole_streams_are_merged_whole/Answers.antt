@@ -1,0 +1,5 @@
+use Rattle.ff_interleave.proofs.Ordered.{all_whole}
+use Rattle.ff_interleave.proofs.laws.whole_streams_are_merged_whole.Goals as goal
+
+pub returns : goal.returns
+returns c base n ss h = all_whole base n ss h

@@ -1,0 +1,5 @@
+pub mod Fronts
+pub mod MergeLaws
+pub mod Merges
+pub mod Orders
+pub mod Queues
