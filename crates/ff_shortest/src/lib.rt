@@ -1,0 +1,18 @@
+//! The streams of one output, each up to the end of the shortest.
+//!
+//! ```text
+//!   stream 0, whole     ├──a0──┼──a1──┤           ends at T
+//!   stream 1            ├─b0─┼─b1─┼─b2─┼─b3─►     b0 to b2 are kept: they start before T. b3 isn't, and stream 1 is whole
+//! ```
+//!
+//! An item is kept once each other stream has one that ends after its start, compared exactly: so as soon as that is known, and
+//! whatever the streams' time bases. Frames aren't cut.
+#![tactic(auto)]
+
+mod end;
+mod moves;
+mod shortest;
+mod side;
+
+pub use shortest::Shortest;
+pub use side::Side;
