@@ -6,6 +6,7 @@ use Rattle.ff_net.specs.Laws.{Laws}
 use Rattle.ff_demuxing.specs.AnyShapes.{any_shaped}
 use Rattle.ff_demuxing.specs.DemuxViews.{demux_laws}
 use Rattle.ff_coding.specs.Kinds.{dec_laws, enc_laws}
+use Rattle.ff_flac_coder.specs.Machines as flac
 use Rattle.ff_muxing.specs.Kinds.{mux_laws}
 use Rattle.ff_build.specs.declared.part.Part.{Part}
 use Rattle.ff_build.specs.declared.part.Part.TheVariants as part
@@ -16,4 +17,5 @@ module _ {S K : Type 0} {G : SinkGhosts K} (left : S → Option (List ℕ)) (nam
   part_laws (part.Demux m) = demux_laws left named failed any_shaped m m.same_head
   part_laws (part.Dec m) = dec_laws any_head any_frame m
   part_laws (part.Enc m) = enc_laws any_serves any_coded any_packet m
+  part_laws (part.FlacEnc m) = flac.enc_laws m
   part_laws (part.Mux m) = mux_laws m

@@ -1,15 +1,41 @@
 -- What the nodes of a plan are there for, by the definitions of formats and codecs.
+use Rattle.std.specs.Prelude.{◌≡◌, Bool, true, false}
 use Rattle.ff_values.specs.Heads.{base_of_head}
+use Rattle.ff_values.specs.declared.head.Codec.{Codec}
+use Rattle.ff_values.specs.declared.head.Codec.TheVariants as codec
+use Rattle.ff_values.specs.declared.head.StreamHead.{StreamHead}
+use Rattle.ff_values.specs.declared.head.StreamHead.TheVariants.{Audio, Video}
 use Rattle.ff_coders.specs.Choices.{CanDecode, CanEncode, frame_made, packet_made}
 use Rattle.ff_coding.specs.Decoding.{dec_task}
 use Rattle.ff_coding.specs.Encoding.{enc_task}
 use Rattle.ff_cuts.specs.AnyCutters.{any_cutter}
 use Rattle.ff_demuxing.specs.Demuxing.{demux_task}
+use Rattle.ff_flac_coder.specs.Coding.{CanCode, coded_head, flac_task}
 use Rattle.ff_heads.specs.declared.head.InputHead.{InputHead}
 use Rattle.ff_heads.specs.Heads.{IsHead, stream_in}
 use Rattle.ff_muxing.specs.Muxing.{mux_task, unpatched, file}
 use Rattle.ff_muxing.specs.Outputs.{CanWrite, layout_of}
+use Rattle.ff_net.specs.Pasts.{Task}
 use Rattle.ff_running.specs.Kinds.{KindsOf}
+
+abbrev pub is_flac : Codec → Bool
+is_flac codec.Flac = true
+is_flac other = false
+
+-- packets of this head are FLAC
+abbrev pub is_flac_coded : StreamHead → Bool
+is_flac_coded (Audio tb rate bits channels coded) = is_flac coded
+is_flac_coded (Video tb format width height sar_num sar_den) = false
+
+-- Frames of the first head are coded to packets of the second, and what an encoder of these is there for: sound to FLAC,
+abbrev pub CanEncodeTo : Bool → StreamHead → StreamHead → Type 0
+CanEncodeTo true head coded = CanCode head × (coded ≡ coded_head head)
+CanEncodeTo false head coded = CanEncode head coded
+
+-- or one packet for each frame.
+abbrev pub enc_task_to : Bool → StreamHead → Task
+enc_task_to true coded = flac_task
+enc_task_to false coded = enc_task (packet_made coded)
 
 -- a demuxer gives an input's packets, a decoder their frames, an encoder packets of frames, and a muxer writes them in the output's
 -- format; the number of the one stream of an output is the output's
@@ -20,8 +46,8 @@ all_kinds = record {
   demux_task = demux_task any_cutter;
   CanDecode = CanDecode;
   dec_task = λ head outputs. dec_task (frame_made head) outputs;
-  CanEncode = CanEncode;
-  enc_task = λ head coded. enc_task (packet_made coded);
+  CanEncode = λ head coded. CanEncodeTo (is_flac_coded coded) head coded;
+  enc_task = λ head coded. enc_task_to (is_flac_coded coded) coded;
   CanMux = λ out coded. CanWrite out.format coded;
   mux_task = λ output out coded. mux_task (layout_of out.format out.hash coded) output (base_of_head coded);
   file = λ out coded s. file (layout_of out.format out.hash coded) s;

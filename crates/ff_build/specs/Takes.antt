@@ -1,27 +1,30 @@
 -- What a head that was read tells of its stream can be decoded, and coded and written as an output takes it.
-use Rattle.std.specs.Prelude.{◌≡◌, ◌≢◌, ℕ, ◌&&◌, true, refl}
-use Rattle.std.proofs.Common.{ap, subst, sym}
+use Rattle.std.specs.Prelude.{◌≡◌, ℕ, ◌^◌, ◌<◌, ◌≤◌, ◌&&◌, nat_le, if◌then◌else◌, Bool, true, false, refl}
+use Rattle.std.proofs.Common.{arith, subst, sym}
+use Rattle.std.proofs.lemmas.Bool.Decides.{nat_tests}
+use Rattle.ff_time.specs.Fraction.{Fraction, IsBase, IsBase-unit}
 use Rattle.ff_values.specs.Codecs.{IsPcmCodec}
 use Rattle.ff_values.specs.declared.head.Codec.{Codec}
 use Rattle.ff_values.specs.declared.head.Codec.TheVariants as codec
 use Rattle.ff_values.specs.declared.head.StreamHead.{StreamHead}
 use Rattle.ff_values.specs.declared.head.StreamHead.TheVariants.{Audio, Video}
-use Rattle.ff_coders.specs.Choices.{CanDecode, CanDecodeSound, CanEncode}
+use Rattle.ff_coders.specs.Choices.{CanDecode, CanDecodeSound}
 use Rattle.ff_flac_dec.specs.Streams.{IsFlacHead, stream_of}
 use Rattle.ff_flac_frame.specs.Frame.{IsStream}
 use Rattle.ff_heads.specs.Heads.{IsHead, stream_in}
 use Rattle.ff_heads.specs.declared.head.InputHead.{InputHead}
 use Rattle.ff_heads.specs.declared.head.InputHead.TheVariants.{Wav, Y4m, Flac}
 use Rattle.ff_map.specs.declared.map.Kind.TheVariants as kind
+use Rattle.ff_mux.specs.FlacHead.{HasRoom}
 use Rattle.ff_muxing.specs.Outputs.{CanWrite}
 use Rattle.ff_pcm.specs.Frames.{IsPcmHead}
-use Rattle.ff_pcm.specs.Samples.{depth}
 use Rattle.ff_plan.specs.Streams.{audio_codec, is_pcm, packed_as, packed_bits, takes_head, takes_kind, takes_sound}
 use Rattle.ff_wav.specs.Packets as wav
 use Rattle.ff_words.specs.declared.job.FileFormat.{FileFormat}
 use Rattle.ff_words.specs.declared.job.FileFormat.TheVariants as format
 use Rattle.ff_words.specs.declared.job.OutputJob.{OutputJob}
 use Rattle.ff_y4m.specs.Packets as y4m
+use Rattle.ff_build.specs.Parts.{CanEncodeTo, is_flac, is_flac_coded}
 
 pcm_decodes : (head : StreamHead) (c : Codec) → IsPcmCodec c → IsPcmHead head → CanDecodeSound head c
 pcm_decodes head codec.PcmU8 p h = h
@@ -50,6 +53,65 @@ heads_decode (Wav h) is = wav_decodes h.head is.stream
 heads_decode (Y4m h) is = y4m_decodes h.head h.frame_bytes is.stream
 heads_decode (Flac h) is = flac_decodes h.head is.sound is.stream
 
+-- sound of 1 to 8 channels, with a time base; or pictures
+abbrev IsReadSound : StreamHead → Type 0
+IsReadSound (Audio tb rate bits channels coded) = IsBase tb × (1 ≤ channels) × (channels ≤ 8)
+IsReadSound (Video tb format width height sar_num sar_den) = Unit {0}
+
+base_of_rate : (tb : Fraction) (rate : ℕ) → tb ≡ record { num = 1; den = rate } → 1 ≤ rate → rate < 2 ^ 31 → IsBase tb
+base_of_rate tb rate ticks some small = subst IsBase (sym ticks) (IsBase-unit rate (omega (arith, some)) small)
+
+wav_sound : (head : StreamHead) → wav.IsStream head → IsReadSound head
+wav_sound (Audio tb rate bits channels coded) h = (base_of_rate tb rate h.ticks h.some_rate h.small_rate, h.some_channels, h.few_channels)
+wav_sound (Video tb format width height sar_num sar_den) h = absurd h
+
+y4m_sound : (head : StreamHead) (size : ℕ) → y4m.IsStream head size → IsReadSound head
+y4m_sound (Audio base rate bits channels codec) size h = absurd h
+y4m_sound (Video tb format width height sar_num sar_den) size h = tt
+
+flac_sound : (head : StreamHead) → IsFlacHead head → IsStream (stream_of head) → IsReadSound head
+flac_sound (Audio tb rate bits channels coded) h i =
+    let small : rate < 1048576 = i.rate_high in
+    (base_of_rate tb rate h.ticks i.rate_low (omega (arith, small)), i.channels_low, i.channels_high)
+flac_sound (Video tb format width height sar_num sar_den) h i = absurd h
+
+read_sound : (h : InputHead) → IsHead h → IsReadSound (stream_in h)
+read_sound (Wav h) is = wav_sound h.head is.stream
+read_sound (Y4m h) is = y4m_sound h.head h.frame_bytes is.stream
+read_sound (Flac h) is = flac_sound h.head is.sound is.stream
+
+-- FLAC is taken by its own format alone, and with a rate that has 20 bits
+flac_rate : (f : FileFormat) (rate : ℕ) → (takes_kind f kind.Audio && takes_sound f codec.Flac rate) ≡ true → rate < 1048576
+flac_rate format.Wav rate e = absurd cc
+flac_rate format.Flac rate e = grind (arith, nat_tests)
+flac_rate format.Y4m rate e = absurd cc
+flac_rate format.FrameHash rate e = absurd cc
+
+no_pictures : (f : FileFormat) (rate : ℕ) → (takes_kind f kind.Audio && takes_sound f codec.RawVideo rate) ≡ true → ⊥
+no_pictures format.Wav rate e = cc
+no_pictures format.Flac rate e = cc
+no_pictures format.Y4m rate e = cc
+no_pictures format.FrameHash rate e = cc
+
+encode_sound : (f : FileFormat) (c : Codec) (tb : Fraction) (rate bits channels : ℕ) (from : Codec) → IsBase tb
+    → (takes_kind f kind.Audio && takes_sound f c rate) ≡ true
+    → CanEncodeTo (is_flac c) (Audio tb rate bits channels from) (Audio tb rate (packed_bits c bits) channels c)
+encode_sound f codec.PcmU8 tb rate bits channels from base e = (tt, refl)
+encode_sound f codec.PcmS16le tb rate bits channels from base e = (tt, refl)
+encode_sound f codec.PcmS24le tb rate bits channels from base e = (tt, refl)
+encode_sound f codec.PcmS32le tb rate bits channels from base e = (tt, refl)
+encode_sound f codec.Flac tb rate bits channels from base e = ((base, flac_rate f rate e), refl)
+encode_sound f codec.RawVideo tb rate bits channels from base e = absurd (no_pictures f rate e)
+
+encode : (head : StreamHead) (out : OutputJob) → IsReadSound head → takes_head out head ≡ true
+    → CanEncodeTo (is_flac_coded (packed_as out head)) head (packed_as out head)
+encode (Audio tb rate bits channels from) out read t = encode_sound out.format (audio_codec out out.format) tb rate bits channels from read.0 t
+encode (Video tb format width height sar_num sar_den) out read t = refl
+
+pub heads_encode : (h : InputHead) (out : OutputJob) → IsHead h → takes_head out (stream_in h) ≡ true
+    → CanEncodeTo (is_flac_coded (packed_as out (stream_in h))) (stream_in h) (packed_as out (stream_in h))
+heads_encode h out is t = encode (stream_in h) out (read_sound h is) t
+
 pcm_of : (c : Codec) → is_pcm c ≡ true → IsPcmCodec c
 pcm_of codec.PcmU8 e = tt
 pcm_of codec.PcmS16le e = tt
@@ -58,46 +120,52 @@ pcm_of codec.PcmS32le e = tt
 pcm_of codec.Flac e = absurd cc
 pcm_of codec.RawVideo e = absurd cc
 
--- sound that an output takes is coded as linear PCM
-sound_is_pcm : (f : FileFormat) (c : Codec) (rate : ℕ) → f ≢ format.Flac → (takes_kind f kind.Audio && takes_sound f c rate) ≡ true → IsPcmCodec c
-sound_is_pcm format.Wav c rate n e = pcm_of c e
-sound_is_pcm format.Flac c rate n e = absurd (n refl)
-sound_is_pcm format.Y4m c rate n e = absurd cc
-sound_is_pcm format.FrameHash c rate n e = pcm_of c e
+-- FLAC has 4 to 24 bits
+some_bits : (bits : ℕ) (low high : Bool) → nat_le 4 bits ≡ low → nat_le bits 24 ≡ high → 4 ≤ (if low && high then bits else 24)
+some_bits bits true true l h = grind (arith, nat_tests)
+some_bits bits true false l h = omega arith
+some_bits bits false high l h = omega arith
 
-packed_at_depth : (c : Codec) (bits : ℕ) → IsPcmCodec c → packed_bits c bits ≡ depth c
-packed_at_depth codec.PcmU8 bits p = refl
-packed_at_depth codec.PcmS16le bits p = refl
-packed_at_depth codec.PcmS24le bits p = refl
-packed_at_depth codec.PcmS32le bits p = refl
-packed_at_depth codec.Flac bits p = absurd p
-packed_at_depth codec.RawVideo bits p = absurd p
+few_bits : (bits : ℕ) (low high : Bool) → nat_le 4 bits ≡ low → nat_le bits 24 ≡ high → (if low && high then bits else 24) ≤ 24
+few_bits bits true true l h = grind (arith, nat_tests)
+few_bits bits true false l h = omega arith
+few_bits bits false high l h = omega arith
 
-encode : (head : StreamHead) (out : OutputJob) → takes_head out head ≡ true → out.format ≢ format.Flac → CanEncode head (packed_as out head)
-encode (Audio tb rate bits channels from) out t n =
-    let c = audio_codec out out.format in
-    let pcm = sound_is_pcm out.format c rate n t in
-    (pcm, ap (λ (b : ℕ). Audio tb rate b channels c) (packed_at_depth c bits pcm))
-encode (Video tb format width height sar_num sar_den) out t n = refl
+has_room : (rate bits channels : ℕ) → rate < 1048576 → 1 ≤ channels → channels ≤ 8 → HasRoom rate (packed_bits codec.Flac bits) channels
+has_room rate bits channels small some few = record {
+  small_rate = omega (arith, small);
+  some_bits = some_bits bits (nat_le 4 bits) (nat_le bits 24) refl refl;
+  few_bits = few_bits bits (nat_le 4 bits) (nat_le bits 24) refl refl;
+  some_channels = some;
+  few_channels = few;
+}
 
-pub heads_encode : (h : InputHead) (out : OutputJob) → IsHead h → takes_head out (stream_in h) ≡ true → out.format ≢ format.Flac → CanEncode (stream_in h) (packed_as out (stream_in h))
-heads_encode h out is t n = encode (stream_in h) out t n
+write_flac : (c : Codec) (tb : Fraction) (rate bits channels : ℕ) → 1 ≤ channels → channels ≤ 8 → takes_sound format.Flac c rate ≡ true
+    → CanWrite format.Flac (Audio tb rate (packed_bits c bits) channels c)
+write_flac codec.PcmU8 tb rate bits channels some few e = absurd cc
+write_flac codec.PcmS16le tb rate bits channels some few e = absurd cc
+write_flac codec.PcmS24le tb rate bits channels some few e = absurd cc
+write_flac codec.PcmS32le tb rate bits channels some few e = absurd cc
+write_flac codec.Flac tb rate bits channels some few e = (tt, has_room rate bits channels (flac_rate format.Flac rate e) some few)
+write_flac codec.RawVideo tb rate bits channels some few e = absurd cc
 
-write_sound : (f : FileFormat) (tb : _) (rate bits channels : ℕ) (c : Codec) → f ≢ format.Flac → (takes_kind f kind.Audio && takes_sound f c rate) ≡ true → CanWrite f (Audio tb rate bits channels c)
-write_sound format.Wav tb rate bits channels c n e = pcm_of c e
-write_sound format.Flac tb rate bits channels c n e = absurd (n refl)
-write_sound format.Y4m tb rate bits channels c n e = absurd cc
-write_sound format.FrameHash tb rate bits channels c n e = tt
+write_sound : (f : FileFormat) (c : Codec) (tb : Fraction) (rate bits channels : ℕ) → 1 ≤ channels → channels ≤ 8
+    → (takes_kind f kind.Audio && takes_sound f c rate) ≡ true → CanWrite f (Audio tb rate (packed_bits c bits) channels c)
+write_sound format.Wav c tb rate bits channels some few e = pcm_of c e
+write_sound format.Flac c tb rate bits channels some few e = write_flac c tb rate bits channels some few e
+write_sound format.Y4m c tb rate bits channels some few e = absurd cc
+write_sound format.FrameHash c tb rate bits channels some few e = tt
 
-write_pictures : (f : FileFormat) (tb p w h a b : _) → f ≢ format.Flac → takes_kind f kind.Video ≡ true → CanWrite f (Video tb p w h a b)
-write_pictures format.Wav tb p w h a b n e = absurd cc
-write_pictures format.Flac tb p w h a b n e = absurd (n refl)
-write_pictures format.Y4m tb p w h a b n e = tt
-write_pictures format.FrameHash tb p w h a b n e = tt
+write_pictures : (f : FileFormat) (tb p w h a b : _) → takes_kind f kind.Video ≡ true → CanWrite f (Video tb p w h a b)
+write_pictures format.Wav tb p w h a b e = absurd cc
+write_pictures format.Flac tb p w h a b e = absurd cc
+write_pictures format.Y4m tb p w h a b e = tt
+write_pictures format.FrameHash tb p w h a b e = tt
 
-written : (head : StreamHead) (out : OutputJob) → takes_head out head ≡ true → out.format ≢ format.Flac → CanWrite out.format (packed_as out head)
-written (Audio tb rate bits channels from) out t n = write_sound out.format tb rate (packed_bits (audio_codec out out.format) bits) channels (audio_codec out out.format) n t
-written (Video tb p width height sar_num sar_den) out t n = write_pictures out.format tb p width height sar_num sar_den n t
+written : (head : StreamHead) (out : OutputJob) → IsReadSound head → takes_head out head ≡ true → CanWrite out.format (packed_as out head)
+written (Audio tb rate bits channels from) out read t =
+    write_sound out.format (audio_codec out out.format) tb rate bits channels read.1 read.2 t
+written (Video tb p width height sar_num sar_den) out read t = write_pictures out.format tb p width height sar_num sar_den t
 
-pub heads_are_written : (h : InputHead) (out : OutputJob) → IsHead h → takes_head out (stream_in h) ≡ true → out.format ≢ format.Flac → CanWrite out.format (packed_as out (stream_in h))
-heads_are_written h out is t n = written (stream_in h) out t n
+pub heads_are_written : (h : InputHead) (out : OutputJob) → IsHead h → takes_head out (stream_in h) ≡ true → CanWrite out.format (packed_as out (stream_in h))
+heads_are_written h out is t = written (stream_in h) out (read_sound h is) t

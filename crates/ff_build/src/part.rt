@@ -3,6 +3,7 @@ use ff_coders::{AnyDecoder, AnyEncoder};
 use ff_coding::{Dec, Enc};
 use ff_cuts::AnyCut;
 use ff_demuxing::Demux;
+use ff_flac_coder::{FlacEnc, InOrder};
 use ff_frame::{Event, Item, Refused, Ticket};
 use ff_host::{Sink, Source};
 use ff_muxing::Mux;
@@ -18,8 +19,10 @@ pub enum Part<Src: Source + Drop, Snk: Sink + Drop> {
     Demux(Demux<Src, AnyCut>),
     /// Decodes packets to frames.
     Dec(Dec<AnyDecoder>),
-    /// Encodes frames to packets.
+    /// Encodes frames to packets, one for one.
     Enc(Enc<AnyEncoder>),
+    /// Encodes sound to FLAC.
+    FlacEnc(FlacEnc<InOrder>),
     /// Writes an output of packets.
     Mux(Mux<Snk, AnyWriter>),
 }
@@ -35,6 +38,7 @@ impl<Src: Source + Drop, Snk: Sink + Drop> Machine for Part<Src, Snk> {
             Part::Demux(m) => m.inputs(),
             Part::Dec(m) => m.inputs(),
             Part::Enc(m) => m.inputs(),
+            Part::FlacEnc(m) => m.inputs(),
             Part::Mux(m) => m.inputs(),
         }
     }
@@ -44,6 +48,7 @@ impl<Src: Source + Drop, Snk: Sink + Drop> Machine for Part<Src, Snk> {
             Part::Demux(m) => m.outputs(),
             Part::Dec(m) => m.outputs(),
             Part::Enc(m) => m.outputs(),
+            Part::FlacEnc(m) => m.outputs(),
             Part::Mux(m) => m.outputs(),
         }
     }
@@ -53,6 +58,7 @@ impl<Src: Source + Drop, Snk: Sink + Drop> Machine for Part<Src, Snk> {
             Part::Demux(m) => m.source(),
             Part::Dec(m) => m.source(),
             Part::Enc(m) => m.source(),
+            Part::FlacEnc(m) => m.source(),
             Part::Mux(m) => m.source(),
         }
     }
@@ -62,6 +68,7 @@ impl<Src: Source + Drop, Snk: Sink + Drop> Machine for Part<Src, Snk> {
             Part::Demux(m) => m.fault(),
             Part::Dec(m) => m.fault(),
             Part::Enc(m) => m.fault(),
+            Part::FlacEnc(m) => m.fault(),
             Part::Mux(m) => m.fault(),
         }
     }
@@ -71,6 +78,7 @@ impl<Src: Source + Drop, Snk: Sink + Drop> Machine for Part<Src, Snk> {
             Part::Demux(m) => m.allow(ticket),
             Part::Dec(m) => m.allow(ticket),
             Part::Enc(m) => m.allow(ticket),
+            Part::FlacEnc(m) => m.allow(ticket),
             Part::Mux(m) => m.allow(ticket),
         }
     }
@@ -80,6 +88,7 @@ impl<Src: Source + Drop, Snk: Sink + Drop> Machine for Part<Src, Snk> {
             Part::Demux(m) => m.feed(port, item),
             Part::Dec(m) => m.feed(port, item),
             Part::Enc(m) => m.feed(port, item),
+            Part::FlacEnc(m) => m.feed(port, item),
             Part::Mux(m) => m.feed(port, item),
         }
     }
@@ -89,6 +98,7 @@ impl<Src: Source + Drop, Snk: Sink + Drop> Machine for Part<Src, Snk> {
             Part::Demux(m) => m.pull(port),
             Part::Dec(m) => m.pull(port),
             Part::Enc(m) => m.pull(port),
+            Part::FlacEnc(m) => m.pull(port),
             Part::Mux(m) => m.pull(port),
         }
     }
@@ -98,6 +108,7 @@ impl<Src: Source + Drop, Snk: Sink + Drop> Machine for Part<Src, Snk> {
             Part::Demux(m) => m.stop(port),
             Part::Dec(m) => m.stop(port),
             Part::Enc(m) => m.stop(port),
+            Part::FlacEnc(m) => m.stop(port),
             Part::Mux(m) => m.stop(port),
         }
     }
@@ -107,6 +118,7 @@ impl<Src: Source + Drop, Snk: Sink + Drop> Machine for Part<Src, Snk> {
             Part::Demux(m) => m.spent(port),
             Part::Dec(m) => m.spent(port),
             Part::Enc(m) => m.spent(port),
+            Part::FlacEnc(m) => m.spent(port),
             Part::Mux(m) => m.spent(port),
         }
     }
@@ -116,6 +128,7 @@ impl<Src: Source + Drop, Snk: Sink + Drop> Machine for Part<Src, Snk> {
             Part::Demux(m) => m.next_event(),
             Part::Dec(m) => m.next_event(),
             Part::Enc(m) => m.next_event(),
+            Part::FlacEnc(m) => m.next_event(),
             Part::Mux(m) => m.next_event(),
         }
     }

@@ -1,15 +1,39 @@
 // The kinds of node, built.
+ghost use Rattle.std.specs.Prelude.{◌≡◌};
+ghost use Rattle.ff_build.specs.Parts.{is_flac as flac_is, is_flac_coded as flac_is_coded};
+
 use crate::part::Part;
 use ff_coders::{decoder_of, encoder_of};
 use ff_coding::{Dec, Enc};
 use ff_demuxing::Demux;
+use ff_flac_coder::{FlacEnc, InOrder};
 use ff_heads::InputHead;
 use ff_host::{Sink, Source};
 use ff_muxing::{Mux, writer_of};
 use ff_running::{Ends, Kinds};
-use ff_values::StreamHead;
+use ff_values::{Codec, StreamHead};
 use ff_words::OutputJob;
 use std::alloc::{AllocError, Global};
+
+fn is_flac(codec: Codec) -> bool
+    ensures { result ≡ flac_is codec }
+{
+    match codec {
+        Codec::Flac => true,
+        Codec::PcmU8 | Codec::PcmS16le | Codec::PcmS24le | Codec::PcmS32le | Codec::RawVideo =>
+            false,
+    }
+}
+
+// Whether packets of this head are FLAC.
+fn is_flac_coded(coded: &StreamHead) -> bool
+    ensures { result ≡ flac_is_coded coded.now }
+{
+    match coded {
+        StreamHead::Audio { codec, .. } => is_flac(*codec),
+        StreamHead::Video { .. } => false,
+    }
+}
 
 /// The kinds of node of a plan, over any format and codec that is read or written.
 #[derive(Drop)]
@@ -55,6 +79,9 @@ impl<Src: Source + Send + Drop, Snk: Sink + Send + Drop> Kinds<Src, Snk, Part<Sr
         head: &StreamHead,
         coded: &StreamHead,
     ) -> Result<Part<Src, Snk>, AllocError> {
+        if is_flac_coded(coded) {
+            return Ok(Part::FlacEnc(FlacEnc::new(alloc, InOrder, *head)));
+        }
         let enc = Enc::new(alloc, encoder_of(alloc, head, coded), *head)?;
         Ok(Part::Enc(enc))
     }
@@ -75,7 +102,7 @@ impl<Src: Source + Send + Drop, Snk: Sink + Send + Drop> Kinds<Src, Snk, Part<Sr
     fn into_ends(part: Part<Src, Snk>) -> Ends<Src, Snk> {
         match part {
             Part::Demux(m) => Ends::Source(m.into_source()),
-            Part::Dec(_) | Part::Enc(_) => Ends::Neither,
+            Part::Dec(_) | Part::Enc(_) | Part::FlacEnc(_) => Ends::Neither,
             Part::Mux(m) => Ends::Sink(m.into_sink()),
         }
     }

@@ -1,3 +1,4 @@
 pub mod Codes
 pub mod Gathers
 pub mod EncoderSteps
+pub mod Coded

@@ -7,10 +7,12 @@
 
 mod coder;
 mod enc;
+mod in_order;
 mod queue;
 mod shut;
 
 pub use coder::Coder;
 pub use enc::FlacEnc;
+pub use in_order::InOrder;
 pub use queue::{Given, Queue};
 pub use shut::Shut;

@@ -4,37 +4,22 @@
 -- edges between their ports. Each node is there for a function on whole streams (`all_kinds` of ff_build), node after node from
 -- number 0 up they give the stream on each edge (`solve` of ff_net), and an output's file is what its format makes of the stream
 -- at its Mux. No queue, no thread, no order of turns and no piece of a file is in it.
-use Rattle.std.specs.Prelude.{◌≡◌, ℕ, ◌+◌, Option, Some, None, Ok, List, [], ◌∷◌}
+use Rattle.std.specs.Prelude.{◌≡◌, Ok, List}
 use Rattle.ff_values.specs.declared.event.Event.{Event}
 use Rattle.ff_sched.specs.Histories.{IsLegal}
 use Rattle.ff_heads.specs.declared.head.InputHead.{InputHead}
 use Rattle.ff_plan.specs.declared.planned.Plan.{Plan}
 use Rattle.ff_plan.specs.declared.planned.PlanError.{PlanError}
-use Rattle.ff_plan.specs.declared.planned.PlanError.TheVariants.{Takes}
-use Rattle.ff_plan.specs.Rules.{or_else}
-use Rattle.ff_words.specs.declared.job.FileFormat.{FileFormat}
-use Rattle.ff_words.specs.declared.job.FileFormat.TheVariants.{Flac}
 use Rattle.ff_words.specs.declared.job.Job.{Job}
-use Rattle.ff_words.specs.declared.job.OutputJob.{OutputJob}
 use Rattle.ff_files.specs.Works.{Meaning}
 use Rattle.ff_running.specs.declared.fault.RunFault.{RunFault}
 use Rattle.ff_running.specs.Histories.{state_before}
 use Rattle.ff_running.specs.Meaning.{means, plan_for}
 use Rattle.ff_build.specs.Parts.{all_kinds}
 
--- a FLAC file takes no stream yet
-abbrev pub unwritten : ℕ → FileFormat → Option PlanError
-unwritten output Flac = Some (Takes output 0)
-unwritten output _ = None
-
--- the first of these outputs, of which the first has this number
-abbrev pub unwritten_from : ℕ → List OutputJob → Option PlanError
-unwritten_from output [] = None
-unwritten_from output (out ∷ outs) = or_else (unwritten output out.format) (unwritten_from (output + 1) outs)
-
+-- what the plan of a job, by its nodes' tasks, makes of the inputs
 abbrev pub job_means : Job → Meaning InputHead PlanError RunFault
-job_means job =
-    record (means all_kinds job) { refusal = λ heads. or_else (unwritten_from 0 job.outputs) ((means all_kinds job).refusal heads) }
+job_means job = means all_kinds job
 
 -- The history of a run of a job's plan over inputs with these heads: at first nothing was sent, no stream has finished, and exactly
 -- the inputs that no node reads have exited. Each grant stands where the events before it unchoke its source.

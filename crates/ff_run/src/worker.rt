@@ -1,11 +1,10 @@
 // How jobs are worked: planned, and run in threads over parts of any format.
-ghost use Rattle.std.specs.Prelude.{◌≡◌, ◌≢◌, ◌<◌, ◌^◌, ℕ, List, length, Some, None, IfOk, IfErr, OnOk};
+ghost use Rattle.std.specs.Prelude.{◌≡◌, ℕ, List, length, Some, None, IfOk, IfErr, OnOk};
 ghost use Rattle.ff_build.specs.Parts.{all_kinds};
 ghost use Rattle.ff_command.specs.Steps.{AreAllHeads};
 ghost use Rattle.ff_files.specs.Works.{AreTold, HoldFiles, HoldParts, KeepEnds, FailNoMore, EndsWork, HasLog, sound_sources, sound_sinks};
 ghost use Rattle.ff_running.specs.Accepting.{IsAccepted, IsPlanFor};
-ghost use Rattle.ff_words.specs.declared.job.FileFormat.TheVariants.{Flac};
-ghost use Rattle.ff_run.specs.Meaning.{job_means, unwritten, unwritten_from, IsJobHistory};
+ghost use Rattle.ff_run.specs.Meaning.{job_means, IsJobHistory};
 ghost use Rattle.ff_run.specs.Saying.{PlanSays, RunSays};
 
 use ff_command::Worker;
@@ -15,30 +14,7 @@ use ff_host::{Sink, Source};
 use ff_plan::{Plan, PlanError};
 use ff_running::RunFault;
 use ff_sched::History;
-use ff_words::{FileFormat, Job, OutputJob};
-
-// FLAC files aren't written yet.
-fn is_written(output: u32, out: &OutputJob) -> Result<(), PlanError>
-    ensures all { IfOk result (λ _. (unwritten output out.now.format ≡ None) × (out.now.format ≢ Flac)) }
-    ensures missing { IfErr result (λ e. unwritten output out.now.format ≡ Some e) }
-{
-    match out.format {
-        FileFormat::Flac => Err(PlanError::Takes { output, stream: 0 }),
-        _ => Ok(()),
-    }
-}
-
-// Whether each output is of a format that is written.
-fn are_written(outputs: &[OutputJob]) -> Result<(), PlanError>
-    requires { length outputs.now < 2 ^ 32 }
-    ensures all { IfOk result (λ _. (unwritten_from 0 outputs.now ≡ None)) }
-    ensures missing { IfErr result (λ e. unwritten_from 0 outputs.now ≡ Some e) }
-{
-    for (output, out) in outputs.iter().enumerate() {
-        is_written(output as u32, out)?;
-    }
-    Ok(())
-}
+use ff_words::Job;
 
 /// Each node of a plan in a thread of its own: whoever has the threads says how a plan is made, and how it is run.
 #[derive(Drop)]
@@ -80,10 +56,7 @@ impl<
         ensures some { OnOk result ((job_means job.now).refusal heads.now ≡ None) }
         ensures refused { (why : _) → IfErr result (λ end. end ≡ PlanEnd.Refused why → (job_means job.now).refusal heads.now ≡ Some why) }
     {
-        match are_written(job.outputs.as_slice()) {
-            Ok(()) => (self.plan)(job, heads),
-            Err(refusal) => Err(PlanEnd::Refused(refusal)),
-        }
+        (self.plan)(job, heads)
     }
 
     fn run(

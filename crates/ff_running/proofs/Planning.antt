@@ -7,7 +7,6 @@ use Rattle.std.proofs.lemmas.List.{length-replicate}
 use Rattle.ff_values.specs.declared.head.StreamHead.{StreamHead}
 use Rattle.ff_frame.specs.declared.item.Lane.TheVariants.{Frames, Packets}
 use Rattle.ff_map.specs.declared.streams.StreamRef.{StreamRef}
-use Rattle.ff_words.specs.declared.job.FileFormat.TheVariants.{Flac}
 use Rattle.ff_words.specs.declared.job.OutputJob.{OutputJob}
 use Rattle.ff_edges.specs.declared.edge.Edge.{Edge}
 use Rattle.ff_edges.specs.Ports.{lanes_into, lanes_out_of}
@@ -93,10 +92,10 @@ module _ (inputs outputs : ℕ) (nodes : List PlanNode) (kinds : fitting.HasKind
 
 -- ---- the lanes at the ports of a node
 
-module _ {H : Type 0} (is : KindsOf H) (outputs : List OutputJob) (heads : List H) (sound : All is.IsHead heads) (written : All (λ out. out.format ≢ Flac) outputs)
+module _ {H : Type 0} (is : KindsOf H) (outputs : List OutputJob) (heads : List H) (sound : All is.IsHead heads)
     (decodes : (h : H) → is.IsHead h → is.CanDecode (is.stream h))
-    (encodes : (h : H) (out : OutputJob) → is.IsHead h → takes_head out (is.stream h) ≡ true → out.format ≢ Flac → is.CanEncode (is.stream h) (packed_as out (is.stream h)))
-    (writes : (h : H) (out : OutputJob) → is.IsHead h → takes_head out (is.stream h) ≡ true → out.format ≢ Flac → is.CanMux out (packed_as out (is.stream h))) where
+    (encodes : (h : H) (out : OutputJob) → is.IsHead h → takes_head out (is.stream h) ≡ true → is.CanEncode (is.stream h) (packed_as out (is.stream h)))
+    (writes : (h : H) (out : OutputJob) → is.IsHead h → takes_head out (is.stream h) ≡ true → is.CanMux out (packed_as out (is.stream h))) where
   abbrev singles : List H → List (List StreamHead)
   singles hs = map (λ h. is.stream h ∷ []) hs
 
@@ -117,9 +116,6 @@ module _ {H : Type 0} (is : KindsOf H) (outputs : List OutputJob) (heads : List 
 
   sound_at : (i : ℕ) (h : H) → slice_get heads i ≡ Some h → is.IsHead h
   sound_at i h at = subst is.IsHead (get_or_from_slice_get heads i h h at) (sound i h (slice_get_within heads i h at))
-
-  written_at : (o : ℕ) (out : OutputJob) → slice_get outputs o ≡ Some out → out.format ≢ Flac
-  written_at o out at = subst (λ (x : OutputJob). x.format ≢ Flac) (get_or_from_slice_get outputs o out out at) (written o out (slice_get_within outputs o out at))
 
   demux_fits : (edges : List Edge) (k i : ℕ) → fitting.FitsDemux (singles heads) edges k i → IsFitting is outputs heads (lanes_into edges k) (lanes_out_of edges k) (node.Demux i)
   demux_fits edges k i f =
@@ -147,13 +143,13 @@ module _ {H : Type 0} (is : KindsOf H) (outputs : List OutputJob) (heads : List 
   can_encode head at o out there_at out_at takes =
       let h = one_stream heads at.input at.stream head there_at in
       subst (λ (x : StreamHead). is.CanEncode x (packed_as out x)) h.2
-      (encodes h.0 out (sound_at at.input h.0 h.1) (subst (λ (x : StreamHead). takes_head out x ≡ true) (sym h.2) takes) (written_at o out out_at))
+      (encodes h.0 out (sound_at at.input h.0 h.1) (subst (λ (x : StreamHead). takes_head out x ≡ true) (sym h.2) takes))
 
   can_mux : (head : StreamHead) (at : StreamRef) (o : ℕ) (out : OutputJob) → head_at (singles heads) at ≡ Some head → slice_get outputs o ≡ Some out → takes_head out head ≡ true → is.CanMux out (packed_as out head)
   can_mux head at o out there_at out_at takes =
       let h = one_stream heads at.input at.stream head there_at in
       subst (λ (x : StreamHead). is.CanMux out (packed_as out x)) h.2
-      (writes h.0 out (sound_at at.input h.0 h.1) (subst (λ (x : StreamHead). takes_head out x ≡ true) (sym h.2) takes) (written_at o out out_at))
+      (writes h.0 out (sound_at at.input h.0 h.1) (subst (λ (x : StreamHead). takes_head out x ≡ true) (sym h.2) takes))
 
   fits_kind : (edges : List Edge) (k : ℕ) (n : PlanNode) → fitting.FitsNode (singles heads) outputs edges k n → IsFitting is outputs heads (lanes_into edges k) (lanes_out_of edges k) n
   fits_kind edges k (node.Demux i) f = demux_fits edges k i f

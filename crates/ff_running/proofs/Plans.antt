@@ -3,7 +3,6 @@ use Rattle.std.proofs.Common.{◌≡◌, ◌≢◌, inl, inr, ℕ, ◌≤◌, tr
 use Rattle.std.specs.List.{AllByRecursion}
 use Rattle.std.proofs.lemmas.List.{length-map}
 use Rattle.ff_values.specs.declared.head.StreamHead.{StreamHead}
-use Rattle.ff_words.specs.declared.job.FileFormat.TheVariants.{Flac}
 use Rattle.ff_words.specs.declared.job.Job.{Job}
 use Rattle.ff_words.specs.declared.job.OutputJob.{OutputJob}
 use Rattle.ff_edges.specs.Ports.{shape_of, IsFed, HasIns, HasOuts}
@@ -53,8 +52,8 @@ module _ {H : Type 0} (is : KindsOf H) (job : Job) (heads : List H) (accepted : 
   is_refused lists refusal e (inr made) other = ap (refusal_of is job) (ap (planned_today job) (sym e) ∙ made)
 
   pub is_plan : (decodes : (h : H) → is.IsHead h → is.CanDecode (is.stream h))
-      (encodes : (h : H) (out : OutputJob) → is.IsHead h → takes_head out (is.stream h) ≡ true → out.format ≢ Flac → is.CanEncode (is.stream h) (packed_as out (is.stream h)))
-      (writes : (h : H) (out : OutputJob) → is.IsHead h → takes_head out (is.stream h) ≡ true → out.format ≢ Flac → is.CanMux out (packed_as out (is.stream h)))
+      (encodes : (h : H) (out : OutputJob) → is.IsHead h → takes_head out (is.stream h) ≡ true → is.CanEncode (is.stream h) (packed_as out (is.stream h)))
+      (writes : (h : H) (out : OutputJob) → is.IsHead h → takes_head out (is.stream h) ≡ true → is.CanMux out (packed_as out (is.stream h)))
       (lists : List (List StreamHead)) (count : ℕ) (plan : Plan) → lists ≡ streams → count ≡ length lists → planned_today job lists ≡ Ok plan → IsFed (shape_of plan.edges) (length plan.nodes) plan.edges
       → ((k : ℕ) → HasIns plan.edges k) → ((k : ℕ) → HasOuts plan.edges k) → HasKinds count (length job.outputs) plan.nodes → (HasSingles lists → FitNodes lists job.outputs plan)
       → AreRoutes plan.routes → plan.routes.sources ≡ count
@@ -69,7 +68,7 @@ module _ {H : Type 0} (is : KindsOf H) (job : Job) (heads : List H) (accepted : 
         routes = routes;
         sources = sources ∙ inputs;
         fits = own_lanes_fit (length plan.nodes) plan.edges fed (λ k lt. ins k) (λ k lt. outs k);
-        fitting = are_fitting is job.outputs heads accepted.sound accepted.written decodes encodes writes plan.edges plan.nodes fits;
+        fitting = are_fitting is job.outputs heads accepted.sound decodes encodes writes plan.edges plan.nodes fits;
         ordered = are_ordered (length heads) (length job.outputs) plan.nodes here;
         muxes = muxes_there (length heads) (length job.outputs) plan.nodes here;
       }

@@ -1,7 +1,6 @@
 -- What the heads of a job's inputs have to be, and what a plan for them is.
 use Rattle.std.specs.Prelude.{◌≡◌, ◌≢◌, ℕ, ◌+◌, ◌-◌, ◌^◌, ◌<◌, ◌≤◌, List, All, length, slice_get, Some, Ok}
 use Rattle.std.specs.List.{AllByRecursion}
-use Rattle.ff_words.specs.declared.job.FileFormat.TheVariants.{Flac}
 use Rattle.ff_words.specs.declared.job.Job.{Job}
 use Rattle.ff_network.specs.Fits.{AreFit, ports_by}
 use Rattle.ff_plan.specs.declared.planned.Plan.{Plan}
@@ -12,7 +11,7 @@ use Rattle.ff_running.specs.Meaning.{plan_for}
 use Rattle.ff_running.specs.Parts.{AreFitting, AreOrdered}
 
 module _ {H : Type 0} (is : KindsOf H) (job : Job) where
-  -- one head that was read for each input of a job within its limits, none of whose outputs is FLAC, which isn't written yet
+  -- one head that was read for each input of a job within its limits
   pub record IsAccepted (heads : List H) : Type 0 where
     pub count : length heads ≡ length job.inputs
     pub sound : All is.IsHead heads
@@ -20,7 +19,6 @@ module _ {H : Type 0} (is : KindsOf H) (job : Job) where
     pub few_outputs : length job.outputs ≤ 16
     pub few_maps : AllByRecursion (λ out. length out.maps ≤ 16) job.outputs
     pub queue : (1 ≤ job.queue) × (job.queue ≤ 1024)
-    pub written : All (λ out. out.format ≢ Flac) job.outputs
 
   -- the plan for these heads, with edges and nodes that can be built
   pub record IsPlanFor (heads : List H) (plan : Plan) : Type 0 where

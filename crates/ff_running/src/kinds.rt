@@ -6,7 +6,6 @@ ghost use Rattle.ff_net.specs.Pasts.{start};
 ghost use Rattle.ff_net.specs.Ways.{Flow};
 ghost use Rattle.ff_files.specs.Works.{HoldsPart};
 ghost use Rattle.ff_plan.specs.Streams.{packed_as, takes_head};
-ghost use Rattle.ff_words.specs.declared.job.FileFormat.TheVariants.{Flac};
 ghost use Rattle.ff_words.specs.declared.job.OutputJob.{OutputJob};
 ghost use Rattle.ff_values.specs.declared.head.StreamHead.{StreamHead};
 ghost use Rattle.ff_running.specs.Kinds.{KindsOf, IsNew, GivesEnds};
@@ -82,12 +81,12 @@ pub trait Kinds<Src: Source + Send + Drop, Snk: Sink + Send + Drop, Part: Machin
     /// What a head tells of its stream can be decoded,
     ghost decodes: { (h : Self.Head) → is.IsHead h → is.CanDecode (is.stream h) };
 
-    /// coded as an output takes it that is written today,
-    ghost encodes: { (h : Self.Head) (out : OutputJob) → is.IsHead h → takes_head out (is.stream h) ≡ true → out.format ≢ Flac
+    /// coded as an output takes it,
+    ghost encodes: { (h : Self.Head) (out : OutputJob) → is.IsHead h → takes_head out (is.stream h) ≡ true
         → is.CanEncode (is.stream h) (packed_as out (is.stream h)) };
 
     /// and written to it.
-    ghost writes: { (h : Self.Head) (out : OutputJob) → is.IsHead h → takes_head out (is.stream h) ≡ true → out.format ≢ Flac
+    ghost writes: { (h : Self.Head) (out : OutputJob) → is.IsHead h → takes_head out (is.stream h) ≡ true
         → is.CanMux out (packed_as out (is.stream h)) };
 
     /// What is held of a stream is held of a longer one.

@@ -133,7 +133,7 @@ pub static FORMATS: [(&'static str, &'static str, FileFormat, Doing, Doing); 4] 
         ".flac",
         FileFormat::Flac,
         Doing::Today,
-        Doing::Later,
+        Doing::Today,
     ),
     (
         "yuv4mpegpipe",
@@ -157,7 +157,7 @@ pub static AUDIO_CODECS: [(&'static str, Codec, bool); 5] = [
     ("pcm_s16le", Codec::PcmS16le, true),
     ("pcm_s24le", Codec::PcmS24le, true),
     ("pcm_s32le", Codec::PcmS32le, true),
-    ("flac", Codec::Flac, false),
+    ("flac", Codec::Flac, true),
 ];
 
 /// The same of pictures.

@@ -6,6 +6,9 @@ returns-in-Demux-clause-gives g c e is past s = let h = c.next_event.ensures.giv
 pub returns-in-Enc-clause-gives : goal.returns-in-Enc-clause-gives
 returns-in-Enc-clause-gives g c e is past s = let h = c.next_event-in-Enc.ensures.gives e is past (rw c.in-Enc.is at s) in (h.0, λ r. h.1 (rw c.in-Enc.is at r))
 
+pub returns-in-FlacEnc-clause-gives : goal.returns-in-FlacEnc-clause-gives
+returns-in-FlacEnc-clause-gives g c e is past s = let h = c.next_event-in-FlacEnc.ensures.gives e is past (rw c.in-FlacEnc.is at s) in (h.0, λ r. h.1 (rw c.in-FlacEnc.is at r))
+
 pub returns-in-Mux-clause-gives : goal.returns-in-Mux-clause-gives
 returns-in-Mux-clause-gives g c e is past s = let h = c.next_event-in-Mux.ensures.gives e is past (rw c.in-Mux.is at s) in (h.0, λ r. h.1 (rw c.in-Mux.is at r))
 

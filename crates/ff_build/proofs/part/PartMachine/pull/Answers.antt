@@ -15,6 +15,9 @@ returns-in-Dec-clause-gives g c x is past s stopped = c.pull-in-Dec.ensures.give
 pub returns-in-Enc-clause-gives : goal.returns-in-Enc-clause-gives
 returns-in-Enc-clause-gives g c x is past s stopped = c.pull-in-Enc.ensures.gives x is past (rw c.in-Enc.is at s) stopped
 
+pub returns-in-FlacEnc-clause-gives : goal.returns-in-FlacEnc-clause-gives
+returns-in-FlacEnc-clause-gives g c x is past s stopped = c.pull-in-FlacEnc.ensures.gives x is past (rw c.in-FlacEnc.is at s) stopped
+
 pub returns-in-Demux-clause-waits : goal.returns-in-Demux-clause-waits
 returns-in-Demux-clause-waits g c w past s out = c.pull.ensures.waits w past (rw c.in-Demux.is at s) out
 

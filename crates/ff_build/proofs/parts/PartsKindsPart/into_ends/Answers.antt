@@ -2,6 +2,7 @@ use Rattle.std.specs.Prelude.{◌≡◌, ◌≤◌, ℕ, zero, suc, [], ◌∷�
 use Rattle.std.proofs.Common.{ap, arith, inl, inr, subst, sym}
 use Rattle.ff_values.specs.Heads.{base_of_head}
 use Rattle.ff_coders.specs.AnyCoders.{any_head, any_coded}
+use Rattle.ff_flac_coder.specs.Coding.{coded_head}
 use Rattle.ff_frame.specs.declared.item.Lane.{Lane}
 use Rattle.ff_frame.specs.declared.item.Lane.TheVariants.{Frames, Packets}
 use Rattle.ff_muxing.specs.Outputs.{layout_of}
@@ -24,7 +25,10 @@ returns-in-Dec g c =
     λ p. ((part_view g.Src.Source.left g.Src.Source.name g.Src.Source.faults p).in_lanes ≡ [] → ⊥) × ((part_view g.Src.Source.left g.Src.Source.name g.Src.Source.faults p).out_lanes ≡ [] → ⊥) in
     elim c.in-Dec.is [
       | inl w ↦ subst HasEnds (sym w.1) (one_lane (Packets (any_head w.0.decoder)), some_lanes (length w.0.spread.outs.items) (Frames (any_head w.0.decoder)) w.0.spread.some)
-      | inr w ↦ subst HasEnds (sym w.1) (one_lane (Frames w.0.head), some_lanes (length w.0.spread.outs.items) (Packets (any_coded w.0.encoder w.0.head)) w.0.spread.some)
+      | inr v ↦ elim v [
+        | inl w ↦ subst HasEnds (sym w.1) (one_lane (Frames w.0.head), some_lanes (length w.0.spread.outs.items) (Packets (any_coded w.0.encoder w.0.head)) w.0.spread.some)
+        | inr w ↦ subst HasEnds (sym w.1) (one_lane (Frames w.0.head), one_lane (Packets (coded_head w.0.head)))
+      ]
     ]
 
 pub returns : goal.returns
