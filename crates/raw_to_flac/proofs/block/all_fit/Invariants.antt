@@ -1,7 +1,0 @@
-use Rattle.std.proofs.Common.{take}
-use Rattle.std.specs.List.{All}
-use Rattle.ff_values.specs.Audio.{FitsBits}
-use Rattle.raw_to_flac.proofs.block.all_fit.Given as goal
-
-abbrev pub invariant-loop-x : goal.invariant-loop-x
-invariant-loop-x l = All (FitsBits l.bits) (take l.x-index l.samples)
