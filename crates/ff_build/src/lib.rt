@@ -5,9 +5,9 @@
 //!     AnyCut ──────┘     AnyDecoder ───┘   AnyEncoder ───┘    AnyWriter ────┘
 //! ```
 //!
-//! A [`Part`] is one of the four machines, over the enum of all formats or codecs that it knows; so a further format or codec is a line
-//! in that enum, and none here. [`Parts`] builds them (`Kinds` of `ff_running`): `specs/Parts` has what each is there for, by the
-//! definitions of its format or codec alone.
+//! A [`Part`] is one of five machines. Four are over the enum of all formats or codecs that they know; so a further format or codec is a
+//! line in that enum, and none here. The fifth encodes FLAC, whose packets aren't one for each frame (`FlacEnc`). [`Parts`] builds them
+//! (`Kinds` of `ff_running`): `specs/Parts` has what each is there for, by the definitions of its format or codec alone.
 #![tactic(auto)]
 
 mod part;
