@@ -1,3 +1,4 @@
+pub mod Events
 pub mod PartViews
 pub mod PartLaws
 pub mod Parts

@@ -7,11 +7,14 @@
 //!
 //! A [`Part`] is one of five machines. Four are over the enum of all formats or codecs that they know; so a further format or codec is a
 //! line in that enum, and none here. The fifth encodes FLAC, whose packets aren't one for each frame (`FlacEnc`). [`Parts`] builds them
-//! (`Kinds` of `ff_running`): `specs/Parts` has what each is there for, by the definitions of its format or codec alone.
+//! (`Kinds` of `ff_running`): `specs/Parts` has what each is there for, by the definitions of its format or codec alone, and
+//! `specs/Events` which events each has to tell.
 #![tactic(auto)]
 
+mod laws;
 mod part;
 mod parts;
 
+pub use laws::events_of_a_plan;
 pub use part::Part;
 pub use parts::Parts;

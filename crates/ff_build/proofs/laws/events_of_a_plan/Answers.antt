@@ -1,0 +1,9 @@
+use Rattle.ff_build.specs.Parts.{all_kinds}
+use Rattle.ff_build.proofs.EventSteps.{parts_tell_of_themselves, plans_tell_alone}
+use Rattle.ff_build.proofs.laws.events_of_a_plan.Goals as goal
+
+pub returns-clause-own : goal.returns-clause-own
+returns-clause-own c = parts_tell_of_themselves
+
+pub returns-clause-alone : goal.returns-clause-alone
+returns-clause-alone c = plans_tell_alone all_kinds parts_tell_of_themselves

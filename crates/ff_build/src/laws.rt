@@ -1,0 +1,10 @@
+// What follows of the definitions alone.
+ghost use Rattle.ff_build.specs.Events.{PlansTellAlone, TellOfThemselves};
+ghost use Rattle.ff_build.specs.Parts.{all_kinds};
+
+/// Each node of a plan tells of itself alone: a demuxer that its input has exited, a muxer of its output stream, and no other anything.
+/// So in a plan the events of an output stream are those of one muxer, and that an input has exited is told by one demuxer.
+pub fn events_of_a_plan()
+    ensures own { TellOfThemselves all_kinds }
+    ensures alone { PlansTellAlone all_kinds }
+{}
