@@ -4,24 +4,22 @@
 -- edges between their ports. Each node is there for a function on whole streams (`all_kinds` of ff_build), node after node from
 -- number 0 up they give the stream on each edge (`solve` of ff_net), and an output's file is what its format makes of the stream
 -- at its Mux. No queue, no thread, no order of turns and no piece of a file is in it.
-use Rattle.std.specs.Prelude.{◌≡◌, Ok, List}
+use Rattle.std.specs.Prelude.{List}
 use Rattle.ff_values.specs.declared.event.Event.{Event}
-use Rattle.ff_sched.specs.Histories.{IsLegal}
 use Rattle.ff_heads.specs.declared.head.InputHead.{InputHead}
-use Rattle.ff_plan.specs.declared.planned.Plan.{Plan}
 use Rattle.ff_plan.specs.declared.planned.PlanError.{PlanError}
 use Rattle.ff_words.specs.declared.job.Job.{Job}
 use Rattle.ff_files.specs.Works.{Meaning}
 use Rattle.ff_running.specs.declared.fault.RunFault.{RunFault}
-use Rattle.ff_running.specs.Histories.{state_before}
-use Rattle.ff_running.specs.Meaning.{means, plan_for}
+use Rattle.ff_running.specs.Histories.{IsHistoryFor}
+use Rattle.ff_running.specs.Meaning.{means}
 use Rattle.ff_build.specs.Parts.{all_kinds}
 
 -- what the plan of a job, by its nodes' tasks, makes of the inputs
 abbrev pub job_means : Job → Meaning InputHead PlanError RunFault
 job_means job = means all_kinds job
 
--- The history of a run of a job's plan over inputs with these heads: at first nothing was sent, no stream has finished, and exactly
--- the inputs that no node reads have exited. Each grant stands where the events before it unchoke its source.
+-- the history of a run of a job's plan over inputs with these heads: each grant stands where the events before it, from the state
+-- before the run on, unchoke its source
 abbrev pub IsJobHistory : Job → List InputHead → List Event → Type 0
-IsJobHistory job heads events = (plan : Plan) × (plan_for all_kinds job heads ≡ Ok plan) × IsLegal plan.routes (state_before plan) events
+IsJobHistory job heads events = IsHistoryFor all_kinds job heads events

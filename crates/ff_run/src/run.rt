@@ -45,7 +45,8 @@ fn run_parts<R: Threads + Wait + Sync, Src: Source + Send + Drop, Snk: Sink + Se
     snks: Vec<Snk>,
 ) -> Done<RunFault, Src, Snk, History>
     requires { IsPlanFor all_kinds job.now heads.now plan }
-    ensures { RunSays all_kinds Src.left Src.name Src.faults Snk.holds Snk.name Snk.faults job.now heads.now srcs.items snks.items result.end result.log result.srcs.items result.snks.items }
+    ensures { RunSays all_kinds Src.left Src.name Src.faults Snk.holds Snk.name Snk.faults
+        job.now heads.now srcs.items snks.items result.end result.log result.srcs.items result.snks.items }
 {
     run_plan::<Parts, R, Src, Snk, Part<Src, Snk>>(rt, alloc, job, plan, heads, srcs, snks)
 }
@@ -109,8 +110,10 @@ pub fn ffmpeg<R: Threads + Wait + Sync, H: Host, E: Sink>(
 
     // No failure is passed over: with status Fine no count has changed, and a failure of reading is the status, unless a fault
     // came before it. Under names that are no input, or no output, nothing is counted.
-    ensures in_counts { KeepsInputCounts job_means (texts words.now) (H.files host.old) (record { before = H.in_faults host.old; after = H.in_faults host.new }) result.status }
-    ensures out_counts { KeepsOutputCounts job_means (texts words.now) (H.files host.old) (record { before = H.out_faults host.old; after = H.out_faults host.new }) result.status }
+    ensures in_counts { KeepsInputCounts job_means (texts words.now) (H.files host.old)
+        (record { before = H.in_faults host.old; after = H.in_faults host.new }) result.status }
+    ensures out_counts { KeepsOutputCounts job_means (texts words.now) (H.files host.old)
+        (record { before = H.out_faults host.old; after = H.out_faults host.new }) result.status }
 
     // Nothing else keeps the command from being done.
     ensures complete { GivesAll job_means (texts words.now) (H.files host.old)
@@ -146,7 +149,8 @@ pub fn ffmpeg<R: Threads + Wait + Sync, H: Host, E: Sink>(
     >| -> Done<RunFault, Begun<H::Src>, H::Snk, History>
         requires sync { IsSync R.row }
         requires plan { IsPlanFor all_kinds job.now heads.now plan }
-        ensures { BegunSays all_kinds H.Src.left H.Src.name H.Src.faults H.Snk.holds H.Snk.name H.Snk.faults job.now heads.now srcs.items snks.items result.end result.log result.srcs.items result.snks.items }
+        ensures { BegunSays all_kinds H.Src.left H.Src.name H.Src.faults H.Snk.holds H.Snk.name H.Snk.faults
+            job.now heads.now srcs.items snks.items result.end result.log result.srcs.items result.snks.items }
     { run_parts::<R, Begun<H::Src>, H::Snk>(rt, alloc, job, plan, heads, srcs, snks) };
     let worker = Threaded { plan, run };
     run_command(alloc, &worker, words, host, log)

@@ -38,21 +38,25 @@ impl<
     ghost is_able = { λ worker. ((job : _) (hs : _) → IsAccepted all_kinds job.now hs.now → P.pre worker.plan job hs
         × ((r : _) → P.post worker.plan job hs r → PlanSays all_kinds job.now hs.now r))
         × ((job : _) (plan : _) (hs : _) (ss : _) (ks : _) → IsPlanFor all_kinds job.now hs.now plan → Q.pre worker.run job plan hs ss ks
-        × ((r : _) → Q.post worker.run job plan hs ss ks r → RunSays all_kinds Src.left Src.name Src.faults Snk.holds Snk.name Snk.faults job.now hs.now ss.items ks.items r.end r.log r.srcs.items r.snks.items)) };
+        × ((r : _) → Q.post worker.run job plan hs ss ks r
+        → RunSays all_kinds Src.left Src.name Src.faults Snk.holds Snk.name Snk.faults job.now hs.now ss.items ks.items r.end r.log r.srcs.items r.snks.items)) };
 
     ghost is_plan = { λ worker job heads plan. IsPlanFor all_kinds job heads plan
         × ((job : _) (plan : _) (hs : _) (ss : _) (ks : _) → IsPlanFor all_kinds job.now hs.now plan → Q.pre worker.run job plan hs ss ks
-        × ((r : _) → Q.post worker.run job plan hs ss ks r → RunSays all_kinds Src.left Src.name Src.faults Snk.holds Snk.name Snk.faults job.now hs.now ss.items ks.items r.end r.log r.srcs.items r.snks.items)) };
+        × ((r : _) → Q.post worker.run job plan hs ss ks r
+        → RunSays all_kinds Src.left Src.name Src.faults Snk.holds Snk.name Snk.faults job.now hs.now ss.items ks.items r.end r.log r.srcs.items r.snks.items)) };
 
     fn plan(&self, job: &Job, heads: &[InputHead]) -> Result<Plan, PlanEnd<PlanError>>
         requires { (((job : _) (hs : _) → IsAccepted all_kinds job.now hs.now → P.pre self.now.plan job hs
             × ((r : _) → P.post self.now.plan job hs r → PlanSays all_kinds job.now hs.now r))
             × ((job : _) (plan : _) (hs : _) (ss : _) (ks : _) → IsPlanFor all_kinds job.now hs.now plan → Q.pre self.now.run job plan hs ss ks
-            × ((r : _) → Q.post self.now.run job plan hs ss ks r → RunSays all_kinds Src.left Src.name Src.faults Snk.holds Snk.name Snk.faults job.now hs.now ss.items ks.items r.end r.log r.srcs.items r.snks.items)))
+            × ((r : _) → Q.post self.now.run job plan hs ss ks r
+            → RunSays all_kinds Src.left Src.name Src.faults Snk.holds Snk.name Snk.faults job.now hs.now ss.items ks.items r.end r.log r.srcs.items r.snks.items)))
             × AreAllHeads job.now heads.now }
         ensures ok { IfOk result (λ plan. IsPlanFor all_kinds job.now heads.now plan
             × ((job : _) (plan : _) (hs : _) (ss : _) (ks : _) → IsPlanFor all_kinds job.now hs.now plan → Q.pre self.now.run job plan hs ss ks
-            × ((r : _) → Q.post self.now.run job plan hs ss ks r → RunSays all_kinds Src.left Src.name Src.faults Snk.holds Snk.name Snk.faults job.now hs.now ss.items ks.items r.end r.log r.srcs.items r.snks.items))) }
+            × ((r : _) → Q.post self.now.run job plan hs ss ks r
+            → RunSays all_kinds Src.left Src.name Src.faults Snk.holds Snk.name Snk.faults job.now hs.now ss.items ks.items r.end r.log r.srcs.items r.snks.items))) }
         ensures some { OnOk result ((job_means job.now).refusal heads.now ≡ None) }
         ensures refused { (why : _) → IfErr result (λ end. end ≡ PlanEnd.Refused why → (job_means job.now).refusal heads.now ≡ Some why) }
     {
@@ -69,7 +73,8 @@ impl<
     ) -> Done<RunFault, Src, Snk, History>
         requires { IsPlanFor all_kinds job.now heads.now plan
             × ((job : _) (plan : _) (hs : _) (ss : _) (ks : _) → IsPlanFor all_kinds job.now hs.now plan → Q.pre self.now.run job plan hs ss ks
-            × ((r : _) → Q.post self.now.run job plan hs ss ks r → RunSays all_kinds Src.left Src.name Src.faults Snk.holds Snk.name Snk.faults job.now hs.now ss.items ks.items r.end r.log r.srcs.items r.snks.items)) }
+            × ((r : _) → Q.post self.now.run job plan hs ss ks r
+            → RunSays all_kinds Src.left Src.name Src.faults Snk.holds Snk.name Snk.faults job.now hs.now ss.items ks.items r.end r.log r.srcs.items r.snks.items)) }
         ensures fine { result.end ≡ WorkEnd.Fine → (bytes : List (List ℕ)) → AreTold Src.left Snk.holds srcs.items snks.items bytes
             → HoldFiles Snk.holds ((job_means job.now).file heads.now bytes) result.snks.items }
         ensures parts { (bytes : List (List ℕ)) → AreTold Src.left Snk.holds srcs.items snks.items bytes
