@@ -2,8 +2,11 @@
 use crate::table::{Stop, bytes_of, text_of};
 use ff_mux::HashPut;
 use ff_time::Rational;
-use ff_values::{Bytes, Codec, Format, Pkt, StreamHead};
+use ff_values::{Bytes, Codec, Format, HashKind, Pkt, StreamHead};
 use std::alloc::Global;
+
+/// More streams than any row has.
+const MANY: usize = 16;
 
 // A second in so many ticks.
 fn base(ticks: u32) -> Result<Rational, Stop> {
@@ -24,45 +27,74 @@ fn codec(word: &str) -> Result<Codec, Stop> {
     }
 }
 
-fn first_lines(alloc: Global, head: StreamHead) -> Result<String, Stop> {
-    text_of(HashPut::new(alloc, head).first()?)
+fn kind_of(word: &str) -> Result<HashKind, Stop> {
+    match word {
+        "sha256" => Ok(HashKind::Sha256),
+        "md5" => Ok(HashKind::Md5),
+        _ => Err(Stop::Unreadable),
+    }
 }
 
-/// The lines before those of the packets of a stream of sound: `RATE CHANNELS CODEC`.
-pub fn sound(alloc: Global, words: &[String]) -> Result<String, Stop> {
+fn sound_head(words: &[String]) -> Result<StreamHead, Stop> {
     let [rate, channels, name] = words else {
         return Err(Stop::Unreadable);
     };
     let rate = rate.parse::<u32>()?;
-    let head = StreamHead::Audio {
+    Ok(StreamHead::Audio {
         tb: base(rate)?,
         rate,
         bits: 8,
         channels: channels.parse::<u8>()?,
         codec: codec(name)?,
-    };
-    first_lines(alloc, head)
+    })
 }
 
-/// The lines before those of the packets of a stream of pictures: `RATE WIDTH HEIGHT SAR_NUM SAR_DEN`.
-pub fn pictures(alloc: Global, words: &[String]) -> Result<String, Stop> {
+fn picture_head(words: &[String]) -> Result<StreamHead, Stop> {
     let [rate, width, height, sar_num, sar_den] = words else {
         return Err(Stop::Unreadable);
     };
-    let head = StreamHead::Video {
+    Ok(StreamHead::Video {
         tb: base(rate.parse::<u32>()?)?,
         format: Format::Mono,
         width: width.parse::<u32>()?,
         height: height.parse::<u32>()?,
         sar_num: sar_num.parse::<u32>()?,
         sar_den: sar_den.parse::<u32>()?,
-    };
-    first_lines(alloc, head)
+    })
 }
 
-/// The line of a packet: `DTS PTS DURATION HEX`.
+fn first_lines(alloc: Global, kind: HashKind, heads: &[StreamHead]) -> Result<String, Stop> {
+    let heads = Vec::from_slice(alloc, heads)?;
+    if heads.len() > MANY {
+        return Err(Stop::Unreadable);
+    }
+    text_of(HashPut::new(alloc, kind, heads).first()?)
+}
+
+/// The lines before those of the packets of a stream of sound: `RATE CHANNELS CODEC`.
+pub fn sound(alloc: Global, words: &[String]) -> Result<String, Stop> {
+    first_lines(alloc, HashKind::Sha256, &[sound_head(words)?])
+}
+
+/// The lines before those of the packets of a stream of pictures: `RATE WIDTH HEIGHT SAR_NUM SAR_DEN`.
+pub fn pictures(alloc: Global, words: &[String]) -> Result<String, Stop> {
+    first_lines(alloc, HashKind::Sha256, &[picture_head(words)?])
+}
+
+/// The lines before those of the packets of a stream of pictures and one of sound:
+/// `sha256|md5 RATE WIDTH HEIGHT SAR_NUM SAR_DEN RATE CHANNELS CODEC`.
+pub fn both(alloc: Global, words: &[String]) -> Result<String, Stop> {
+    if words.len() != 9 {
+        return Err(Stop::Unreadable);
+    }
+    let pictures = picture_head(&words[1..6])?;
+    let sound = sound_head(&words[6..9])?;
+    first_lines(alloc, kind_of(&words[0])?, &[pictures, sound])
+}
+
+/// The line of a packet: `sha256|md5 STREAM DTS PTS DURATION HEX`.
 pub fn line(alloc: Global, words: &[String]) -> Result<String, Stop> {
-    let [dts, pts, duration, bytes] = words else {
+    let [kind, stream, dts, pts, duration, bytes] = words else {
         return Err(Stop::Unreadable);
     };
     let packet = Pkt {
@@ -72,12 +104,6 @@ pub fn line(alloc: Global, words: &[String]) -> Result<String, Stop> {
         pos: 7,
         bytes: Bytes::new(bytes_of(alloc, bytes)?),
     };
-    let head = StreamHead::Audio {
-        tb: base(8000)?,
-        rate: 8000,
-        bits: 8,
-        channels: 1,
-        codec: Codec::PcmU8,
-    };
-    text_of(HashPut::new(alloc, head).line(&packet)?)
+    let put = HashPut::new(alloc, kind_of(kind)?, Vec::new(alloc));
+    text_of(put.line(stream.parse::<u32>()?, &packet)?)
 }

@@ -92,6 +92,7 @@ pub fn answer(alloc: Global, name: &str, arguments: &[String]) -> Result<String,
         "scheduled" => sched::scheduled(words),
         "framehash_sound" => framehash::sound(alloc, arguments),
         "framehash_pictures" => framehash::pictures(alloc, arguments),
+        "framehash_both" => framehash::both(alloc, arguments),
         "framehash_line" => framehash::line(alloc, arguments),
         _ => Err(Stop::Unreadable),
     }

@@ -1,7 +1,13 @@
 -- What a writer of framehash text writes of.
+use Rattle.std.specs.Prelude.{List}
+use Rattle.ff_values.specs.declared.hash.HashKind.{HashKind}
 use Rattle.ff_values.specs.declared.head.StreamHead.{StreamHead}
 use Rattle.ff_mux.specs.declared.put.HashPut.{HashPut}
 
--- the head of the stream
-abbrev pub hash_head : HashPut → StreamHead
-hash_head put = put.head
+-- the digest of a packet's bytes
+abbrev pub put_kind : HashPut → HashKind
+put_kind put = put.kind
+
+-- the heads of the streams
+abbrev pub put_heads : HashPut → List StreamHead
+put_heads put = put.heads.items

@@ -182,7 +182,7 @@ fn push_streams(alloc: Global, out: &mut Vec<u8>, heads: &[StreamHead]) -> Resul
 /// The lines before those of the packets, of a file with these streams: which digest stands for the bytes of a packet, and what
 /// is known of each stream.
 #[tactic(auto, unfolding(crate::specs::HashTexts::text_before, crate::specs::FrameHash::columns))]
-pub fn hash_header(
+pub(crate) fn hash_header(
     alloc: Global,
     kind: HashKind,
     heads: &[StreamHead],
@@ -250,7 +250,7 @@ fn push_digest(
 }
 
 /// The line of a packet of a stream: its times, duration and size, each of them right in its column, and the digest of its bytes.
-pub fn hash_line(
+pub(crate) fn hash_line(
     alloc: Global,
     kind: HashKind,
     stream: u32,

@@ -1,8 +1,8 @@
 //! What is written to files that hold packets or tell of them: the texts and headers, as pure functions.
 //!
-//! [`hash_header`] and [`hash_line`] give the text of a framehash file, in the pieces in which it is written: the lines before the
-//! packets, and a line for each packet; `specs/HashTexts` has them, for any number of streams and either digest. [`HashPut`] gives
-//! that of one stream with SHA-256, of which `specs/FrameHash` has the text as a whole.
+//! [`HashPut`] gives the text of a framehash file, in the pieces in which it is written: the lines before the packets, and a line for
+//! each packet; `specs/HashTexts` has them, for any number of streams and either digest, and `specs/FrameHash` the text of one stream
+//! with SHA-256 as a whole.
 #![tactic(auto)]
 
 mod digest;
@@ -12,6 +12,5 @@ mod laws;
 mod put;
 
 pub use flac::{flac_first, flac_last};
-pub use frame_hash::{hash_header, hash_line};
 pub use laws::stream_info_is_its_fields;
 pub use put::HashPut;

@@ -2,6 +2,7 @@
 use Rattle.std.specs.Prelude.{List}
 use Rattle.ff_values.specs.declared.hash.HashKind.{HashKind}
 use Rattle.ff_values.specs.declared.head.StreamHead.{StreamHead}
+use Rattle.ff_mux.specs.Puts.{put_kind, put_heads}
 use Rattle.ff_writers.specs.declared.flac.FlacWriter.{FlacWriter}
 use Rattle.ff_writers.specs.declared.y4m.Y4mWriter.{Y4mWriter}
 use Rattle.ff_writers.specs.declared.frame_hash.HashWriter.{HashWriter}
@@ -16,7 +17,7 @@ y4m_head w = w.head
 
 -- the digest, and the heads of the streams
 abbrev pub hash_kind : HashWriter → HashKind
-hash_kind w = w.kind
+hash_kind w = put_kind w.put
 
 abbrev pub hash_heads : HashWriter → List StreamHead
-hash_heads w = w.heads.items
+hash_heads w = put_heads w.put

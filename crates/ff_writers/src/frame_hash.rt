@@ -3,7 +3,7 @@ ghost use Rattle.std.specs.Prelude.{◌≡◌, ◌<◌, ◌^◌, ◌↔◌, leng
 ghost use Rattle.ff_writers.specs.Formats.{hash_layout};
 
 use crate::writer::{Patch, Writer};
-use ff_mux::{hash_header, hash_line};
+use ff_mux::HashPut;
 use ff_values::{HashKind, Pkt, StreamHead, Totals};
 use ff_wav::TooLarge;
 use std::alloc::{AllocError, Global};
@@ -11,10 +11,7 @@ use std::alloc::{AllocError, Global};
 /// Gives the text of a framehash file: the lines on its streams, and of each packet a line with the digest of its bytes.
 #[derive(Drop)]
 pub struct HashWriter {
-    alloc: Global,
-    kind: HashKind,
-    heads: Vec<StreamHead>,
-    ghost few: { length heads.items < 2 ^ 32 },
+    put: HashPut,
 }
 
 impl HashWriter {
@@ -26,7 +23,9 @@ impl HashWriter {
         ensures kind { hash_kind result ≡ kind }
         ensures heads { hash_heads result ≡ heads.items }
     {
-        HashWriter { alloc, kind, heads }
+        HashWriter {
+            put: HashPut::new(alloc, kind, heads),
+        }
     }
 }
 
@@ -38,11 +37,11 @@ impl Writer for HashWriter {
     ghost counts = { λ w n. ⊤ };
 
     fn first(&self) -> Result<Vec<u8>, AllocError> {
-        hash_header(self.alloc, self.kind, &self.heads)
+        self.put.first()
     }
 
     fn text(&self, stream: u32, packet: Pkt) -> Result<Vec<u8>, Pkt> {
-        match hash_line(self.alloc, self.kind, stream, &packet) {
+        match self.put.line(stream, &packet) {
             Ok(line) => Ok(line),
             Err(_) => Err(packet),
         }
