@@ -1,30 +1,32 @@
-// A source that waits for a sink, or gives a few bytes a read.
+// A source that waits for a sink or fails before it, or gives a few bytes a read.
 ghost use Rattle.std.specs.Prelude.{◌≡◌, ◌+◌, ◌<◌, ◌≤◌, ℕ, List, length, None, Some, false, string_bytes};
 
 use ff_host::{Failed, Sink, SinkError, Source};
 use std::alloc::{AllocError, Global};
 use std::sync::Arc;
-use std::sync::atomic::{AtomicBool, Ordering};
+use std::sync::atomic::{AtomicU64, Ordering};
 use std::thread::yield_now;
 
-/// So many turns of one load and one yield a read waits at most.
-const TURNS: u32 = 10_000_000;
+/// So many appends of its sinks open a gate: what stands before the first packet, and the first packet.
+const OPENING: u64 = 2;
 
-// Whether the gate is open, at the latest after so many turns.
-fn opens(gate: &AtomicBool) -> bool {
-    for _ in 0..TURNS {
-        if gate.load(Ordering::SeqCst) {
+// Whether the gate is open, at the latest after so many further looks.
+fn opens(appends: &AtomicU64, looks: u32) -> bool {
+    for _ in 0..looks {
+        if appends.load(Ordering::SeqCst) >= OPENING {
             return true;
         }
         yield_now();
     }
-    false
+    appends.load(Ordering::SeqCst) >= OPENING
 }
 
-/// How reads go: those that begin at or past the offset wait for the gate, and each gives at most so many bytes.
+/// How reads go: those that begin at or past the offset fail unless the gate is open, for which they look again so often, and each
+/// gives at most so many bytes.
 #[derive(Clone, Copy)]
 pub struct Pace {
     pub offset: usize,
+    pub looks: u32,
     pub most: usize,
 }
 
@@ -35,13 +37,13 @@ pub struct GateSource {
     bytes: Vec<u8>,
     at: usize,
     pace: Pace,
-    gate: Arc<AtomicBool>,
+    appends: Arc<AtomicU64>,
     faults: u64,
     failed: bool,
 }
 
 impl GateSource {
-    pub fn new(name: String, bytes: Vec<u8>, pace: Pace, gate: Arc<AtomicBool>) -> GateSource
+    pub fn new(name: String, bytes: Vec<u8>, pace: Pace, appends: Arc<AtomicU64>) -> GateSource
         ensures name { string_bytes result.name ≡ string_bytes name }
         ensures faults { result.faults ≡ 0 }
         ensures failed { result.failed ≡ false }
@@ -51,7 +53,7 @@ impl GateSource {
             bytes,
             at: 0,
             pace,
-            gate,
+            appends,
             faults: 0,
             failed: false,
         }
@@ -85,7 +87,7 @@ impl Source for GateSource {
     ghost name = { λ s. Some (string_bytes s.name) };
 
     fn read(&mut self, buf: &mut [u8]) -> Result<usize, Failed> {
-        if !self.failed && (self.at < self.pace.offset || opens(&self.gate)) {
+        if !self.failed && (self.at < self.pace.offset || opens(&self.appends, self.pace.looks)) {
             let count = copy_from(buf, &self.bytes, self.at, self.pace.most);
             self.at = self.at.saturating_add(count);
             return Ok(count);
@@ -96,18 +98,18 @@ impl Source for GateSource {
     }
 }
 
-/// A sink in memory whose first append opens the gate. It takes no patch.
+/// A sink in memory that counts its appends, which open the gate.
 #[derive(Drop)]
 pub struct GateSink {
     name: String,
     bytes: Vec<u8>,
-    gate: Arc<AtomicBool>,
+    appends: Arc<AtomicU64>,
     faults: u64,
     failed: bool,
 }
 
 impl GateSink {
-    pub fn new(alloc: Global, name: String, gate: Arc<AtomicBool>) -> GateSink
+    pub fn new(alloc: Global, name: String, appends: Arc<AtomicU64>) -> GateSink
         ensures name { string_bytes result.name ≡ string_bytes name }
         ensures faults { result.faults ≡ 0 }
         ensures failed { result.failed ≡ false }
@@ -115,7 +117,7 @@ impl GateSink {
         GateSink {
             name,
             bytes: Vec::new(alloc),
-            gate,
+            appends,
             faults: 0,
             failed: false,
         }
@@ -149,18 +151,23 @@ impl Sink for GateSink {
             return Err(SinkError::Failed);
         }
         self.bytes.extend_from_slice(bytes)?;
-        self.gate.store(true, Ordering::SeqCst);
+        self.appends.fetch_add(1, Ordering::SeqCst);
         Ok(())
     }
 
-    fn patch(&mut self, _: u64, _: &[u8]) -> Result<(), Failed> {
+    fn patch(&mut self, at: u64, bytes: &[u8]) -> Result<(), Failed> {
+        if !self.failed {
+            let begin = at as usize;
+            self.bytes[begin..begin + bytes.len()].copy_from_slice(bytes);
+            return Ok(());
+        }
         self.failed = true;
         self.faults = self.faults.saturating_add(1);
         Err(Failed)
     }
 }
 
-/// A gate that is closed.
-pub fn closed(alloc: Global) -> Result<Arc<AtomicBool>, AllocError> {
-    Ok(Arc::new(alloc, AtomicBool::new(false))?)
+/// A gate that is closed: no append was counted.
+pub fn closed(alloc: Global) -> Result<Arc<AtomicU64>, AllocError> {
+    Ok(Arc::new(alloc, AtomicU64::new(0))?)
 }

@@ -1,4 +1,4 @@
-// A host whose source waits for its sink, or gives a few bytes a read.
+// A host whose source waits for its sink or fails before it, or gives a few bytes a read.
 ghost use Rattle.std.specs.Prelude.{◌≡◌, ◌+◌, ◌<◌, ◌≤◌, ℕ, List, Some, None, IsTrue, string_bytes};
 ghost use Rattle.ff_host.specs.Tally.{marks_at};
 
@@ -7,15 +7,15 @@ use ff_host::{Failed, Host, HostError, Marks, Table, make_room, marks_of, set_ma
 use std::alloc::{AllocError, Global};
 use std::collections::BTreeMap;
 use std::sync::Arc;
-use std::sync::atomic::AtomicBool;
+use std::sync::atomic::AtomicU64;
 
-/// A host of one input, under any name, read at a pace. The gate opens when a sink took its first append.
+/// A host of one input, under any name, read at a pace. The gate opens when its sinks took two appends.
 #[derive(Drop)]
 pub struct GateHost {
     alloc: Global,
     input: Vec<u8>,
     pace: Pace,
-    gate: Arc<AtomicBool>,
+    appends: Arc<AtomicU64>,
     output: Vec<u8>,
     table: Table,
     sources: u64,
@@ -28,7 +28,7 @@ impl GateHost {
             alloc,
             input,
             pace,
-            gate: closed(alloc)?,
+            appends: closed(alloc)?,
             output: Vec::new(alloc),
             table: BTreeMap::new(alloc),
             sources: 0,
@@ -68,12 +68,12 @@ impl Host for GateHost {
         make_room(&mut self.table, self.alloc, name)?;
         let own_name = String::from_str(self.alloc, name)?;
         let bytes = self.input.as_slice().to_vec(self.alloc)?;
-        let gate = Arc::try_clone(&self.gate)?;
+        let appends = Arc::try_clone(&self.appends)?;
         let was = marks_of(&self.table, name);
         let opened = true;
         set_marks(&mut self.table, name, Marks { opened, ..was });
         self.sources = sources;
-        Ok(GateSource::new(own_name, bytes, self.pace, gate))
+        Ok(GateSource::new(own_name, bytes, self.pace, appends))
     }
 
     fn create_sink(&mut self, name: &str) -> Result<GateSink, HostError> {
@@ -82,12 +82,12 @@ impl Host for GateHost {
         };
         make_room(&mut self.table, self.alloc, name)?;
         let own_name = String::from_str(self.alloc, name)?;
-        let gate = Arc::try_clone(&self.gate)?;
+        let appends = Arc::try_clone(&self.appends)?;
         let was = marks_of(&self.table, name);
         let created = true;
         set_marks(&mut self.table, name, Marks { created, ..was });
         self.sinks = sinks;
-        Ok(GateSink::new(self.alloc, own_name, gate))
+        Ok(GateSink::new(self.alloc, own_name, appends))
     }
 
     fn close_source(&mut self, name: &str, src: GateSource) {

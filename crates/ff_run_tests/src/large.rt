@@ -1,6 +1,6 @@
 use crate::gate::Pace;
 use crate::gate_host::GateHost;
-use crate::runs::{FULL, HEADER, WORDS, comes_to, host_of, input};
+use crate::runs::{FULL, HEADER, WORDS, comes_to, host_of, input, mono};
 use ff_host::Host;
 use std::alloc::{AllocError, Global};
 use std::sync::Wait;
@@ -52,10 +52,31 @@ fn reading_waits_for_writing(rt: HostRuntime) -> Result<(), AllocError> {
     let output = large_output(alloc)?;
     let pace = Pace {
         offset: 200_000,
+        looks: 10_000_000,
         most: usize::MAX,
     };
     let mut host = GateHost::new(alloc, large_input(alloc)?, pace)?;
     assert!(rt; is_fine(&rt, alloc, &mut host)?);
     assert_eq!(rt; host.output(), output.as_bytes());
+    Ok(())
+}
+
+// A read that begins at or past byte 262,144 fails while the sink took fewer than two appends: few packets wait between the source and
+// the sink, and few bytes are read ahead, so no run that writes as it reads meets the failure.
+#[test]
+fn output_before_end(rt: HostRuntime) -> Result<(), AllocError> {
+    let alloc = rt.alloc();
+    let pace = Pace {
+        offset: 262_144,
+        looks: 0,
+        most: usize::MAX,
+    };
+    let samples = vec![in alloc; 200u8; 1_000_000]?;
+    let bytes = mono(alloc, &samples)?;
+    let mut host = GateHost::new(alloc, bytes.to_vec(alloc)?, pace)?;
+    let words = ["-thread_queue_size", "1", "-i", "in.wav", "out.wav"];
+    assert!(rt; comes_to(&rt, alloc, &words, &mut host, 0, "")?);
+    assert_eq!(rt; host.output().len(), 1_000_044);
+    assert_eq!(rt; host.output(), bytes.as_slice());
     Ok(())
 }

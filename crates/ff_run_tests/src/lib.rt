@@ -6,6 +6,8 @@
 #[cfg(test)]
 mod demuxers;
 #[cfg(test)]
+mod failing;
+#[cfg(test)]
 mod gate;
 #[cfg(test)]
 mod gate_host;

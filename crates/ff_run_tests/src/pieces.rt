@@ -19,6 +19,7 @@ fn writes<R: Threads + Wait + Sync>(
 ) -> Result<bool, AllocError> {
     let pace = Pace {
         offset: usize::MAX,
+        looks: 0,
         most,
     };
     let mut host = GateHost::new(alloc, bytes.to_vec(alloc)?, pace)?;

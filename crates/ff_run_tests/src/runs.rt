@@ -28,6 +28,26 @@ pub fn input(alloc: Global, body: &[u8]) -> Result<Vec<u8>, AllocError> {
     Ok(bytes)
 }
 
+/// The bytes of a WAV file of 16-bit samples on one channel, at 8,000 sample frames a second, with these two sizes in its head and this
+/// body.
+pub fn sized(alloc: Global, riff: u32, data: u32, body: &[u8]) -> Result<Vec<u8>, AllocError> {
+    let mut bytes = Vec::new(alloc);
+    bytes.extend_from_slice(b"RIFF")?;
+    bytes.extend_from_slice(&riff.to_le_bytes())?;
+    bytes.extend_from_slice(
+        b"WAVEfmt \x10\0\0\0\x01\0\x01\0\x40\x1f\0\0\x80\x3e\0\0\x02\0\x10\0data",
+    )?;
+    bytes.extend_from_slice(&data.to_le_bytes())?;
+    bytes.extend_from_slice(body)?;
+    Ok(bytes)
+}
+
+/// The same, whole, of a body of fewer than 2^31 bytes.
+pub fn mono(alloc: Global, body: &[u8]) -> Result<Vec<u8>, AllocError> {
+    let size = u32::try_from(body.len()).unwrap_or(0);
+    sized(alloc, size.saturating_add(36), size, body)
+}
+
 /// Words of these texts.
 pub fn words_of(alloc: Global, texts: &[&str]) -> Result<Vec<String>, AllocError> {
     let mut words = Vec::new(alloc);
