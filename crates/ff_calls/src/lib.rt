@@ -11,6 +11,7 @@ mod cutter;
 mod files;
 mod flac;
 mod framehash;
+mod generated;
 mod heads;
 mod inputs;
 mod lang;
@@ -90,6 +91,8 @@ pub fn answer(alloc: Global, name: &str, arguments: &[String]) -> Result<String,
         "sched_state" => sched::state(words),
         "unchoked" => sched::sources(words),
         "scheduled" => sched::scheduled(words),
+        "generated_wav" => generated::sound(words),
+        "generated_y4m" => generated::moving(words),
         "framehash_sound" => framehash::sound(alloc, arguments),
         "framehash_pictures" => framehash::pictures(alloc, arguments),
         "framehash_both" => framehash::both(alloc, arguments),
