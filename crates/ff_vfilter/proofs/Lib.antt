@@ -1,3 +1,4 @@
+pub mod Cutting
 pub mod Evenly
 pub mod Fractions
 pub mod Keeping

@@ -3,8 +3,10 @@ pub mod FpsOptions
 pub mod HFlips
 pub mod Pads
 pub mod Pictures
+pub mod RateCuts
 pub mod RateLaws
 pub mod RateSeen
+pub mod RateSpent
 pub mod RateViews
 pub mod Rates
 pub mod Sizes

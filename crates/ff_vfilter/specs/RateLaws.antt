@@ -1,6 +1,6 @@
 -- The laws of the machine of an even rate.
-use Rattle.std.specs.Prelude.{◌≡◌, ℕ, ◌⊎◌, Bool, true, false, ◌||◌, cond, List, refl}
-use Rattle.std.proofs.Common.{inl, inr, sym, ◌∙◌, arith}
+use Rattle.std.specs.Prelude.{◌≡◌, ℕ, ◌⊎◌, Bool, true, false, cond, List, refl}
+use Rattle.std.proofs.Common.{inl, inr, arith}
 use Rattle.ff_values.specs.declared.head.StreamHead.{StreamHead}
 use Rattle.ff_frame.specs.declared.item.Item.{Item}
 use Rattle.ff_frame.specs.declared.item.Item.TheVariants.{Video, End, Broken}
@@ -11,17 +11,17 @@ use Rattle.ff_frame.specs.Within.{passes_limits}
 use Rattle.ff_frame.specs.Order.{below_self, below_trans, nothing_below}
 use Rattle.ff_filter.specs.declared.after.After.{After}
 use Rattle.ff_filter.specs.Joins.{Flow, Ports, one, before_all-closed, joined_keeps, joined_closed, opened_joined, Grows, HidesBreaks}
-use Rattle.ff_filter.specs.Views.{IsSpent, IsOver, AllDone, Settles}
-use Rattle.ff_filter.specs.Made.{waiting, is_over}
+use Rattle.ff_filter.specs.Views.{Settles}
+use Rattle.ff_filter.specs.Made.{waiting}
 use Rattle.ff_filter.specs.Limits.{limited, limit_step}
 use Rattle.ff_filter.specs.Runs.{run_below, run_calm, run_settles, no_more}
-use Rattle.ff_filter.specs.StepperLaws.{left_keeps, left_calm, behind_closed, or_left, or_right, or_one}
+use Rattle.ff_filter.specs.StepperLaws.{left_keeps, left_calm, behind_closed}
 use Rattle.ff_vfilter.specs.declared.scale.Scale.{Scale}
 use Rattle.ff_vfilter.specs.declared.showing.Ahead.{Ahead}
 use Rattle.ff_vfilter.specs.declared.showing.Ahead.TheVariants as ahead
 use Rattle.ff_vfilter.specs.declared.showing.Showing.{Showing}
 use Rattle.ff_vfilter.specs.Rates.{Held, rate_step, shows_to_end, rated}
-use Rattle.ff_vfilter.specs.RateViews.{ahead_then, still_shown, rate_view, rate_spent}
+use Rattle.ff_vfilter.specs.RateViews.{ahead_then, still_shown, rate_view}
 
 ahead_below : (a : Ahead) (r s : Flow) → LiesBelow r s → LiesBelow (ahead_then a r) (ahead_then a s)
 ahead_below ahead.Unknown r s h = h
@@ -95,15 +95,3 @@ module _ (head given : StreamHead) (m : Showing) (queue : List Item) (after : Af
 
   pub rate-quiet : (q : ℕ) → ended ≡ true → (ext : Ports) → (rate_view head given m queue after ended stopped).rest ext q ≡ nothing
   rate-quiet q e ext = cond_quiet ended (limited (passes_limits (Frames given)) m.before (still_shown m (waiting queue after (ext 0)))) e
-
-  pub rate-spent_only : (p : ℕ) → rate_spent after ended stopped ≡ true → IsSpent (rate_view head given m queue after ended stopped) p
-  rate-spent_only p e = elim (or_one (is_over after) (ended || stopped) e) as (λ _. IsSpent (rate_view head given m queue after ended stopped) p) [
-    | inl k ↦ inl k
-    | inr o ↦ inr (omega arith, λ q lt on. elim (or_one ended stopped o) as (λ _. IsOver (rate_view head given m queue after ended stopped) q) [ inl d ↦ inl d | inr k ↦ (let clash : true ≡ false = sym k ∙ on in cc) ])
-  ]
-
-  pub rate-done_spent : AllDone (rate_view head given m queue after ended stopped) → rate_spent after ended stopped ≡ true
-  rate-done_spent d = elim (d 0 (omega arith)) as (λ _. rate_spent after ended stopped ≡ true) [ inl e ↦ or_right (is_over after) (ended || stopped) (or_left ended stopped e) | inr e ↦ or_right (is_over after) (ended || stopped) (or_right ended stopped e) ]
-
-pub rate-shut_spent : (after : After) (ended stopped : Bool) → is_over after ≡ true → rate_spent after ended stopped ≡ true
-rate-shut_spent after ended stopped e = or_left (is_over after) (ended || stopped) e

@@ -1,7 +1,27 @@
--- The machine of an even rate, as it is seen.
+-- The machine of an even rate, as it is seen, and when its input is spent.
+use Rattle.std.specs.Prelude.{Bool, true, false, ◌||◌}
+use Rattle.ff_frame.specs.declared.item.Lane.TheVariants.{Frames}
+use Rattle.ff_frame.specs.Ports.{nothing}
+use Rattle.ff_frame.specs.Stream.{Mark, still_open, whole, broken}
+use Rattle.ff_frame.specs.Within.{passes_limits}
+use Rattle.ff_filter.specs.Limits.{limited}
+use Rattle.ff_filter.specs.Made.{waiting, is_over}
 use Rattle.ff_filter.specs.Views.{View}
 use Rattle.ff_vfilter.specs.declared.rate.Rate.{Rate}
-use Rattle.ff_vfilter.specs.RateViews.{rate_view}
+use Rattle.ff_vfilter.specs.RateViews.{still_shown, rate_view}
 
 abbrev pub seen : Rate → View
 seen m = rate_view m.head m.given m.showing m.input.queue.items m.input.after m.ended m.stopped
+
+abbrev pub has_closed : Mark → Bool
+has_closed still_open = false
+has_closed whole = true
+has_closed broken = true
+
+-- how what is still given ends, where nothing more is fed
+abbrev pub fed_mark : Rate → Mark
+fed_mark m = (limited (passes_limits (Frames m.given)) m.showing.before (still_shown m.showing (waiting m.input.queue.items m.input.after nothing))).mark
+
+-- nothing more of its input can matter: it has closed, or the output isn't wanted, was closed or is closed by what was fed
+abbrev pub rate_spent : Rate → Bool
+rate_spent m = is_over m.input.after || (m.stopped || (m.ended || has_closed (fed_mark m)))

@@ -1,5 +1,5 @@
 -- How the machine of an even rate is seen.
-use Rattle.std.specs.Prelude.{◌≡◌, ℕ, ◌+◌, ◌*◌, Bool, ◌||◌, cond, Option, None, Some, List, [], ◌∷◌, length}
+use Rattle.std.specs.Prelude.{◌≡◌, ℕ, ◌+◌, ◌*◌, Bool, cond, Option, None, Some, List, [], ◌∷◌, length}
 use Rattle.ff_values.specs.declared.head.StreamHead.{StreamHead}
 use Rattle.ff_values.specs.declared.video.VFrame.{VFrame}
 use Rattle.ff_frame.specs.declared.item.Item.{Item}
@@ -61,7 +61,3 @@ weight ahead.Lost = 0
 -- how much there is still to look at
 abbrev pub work_left : List Item → Ahead → ℕ
 work_left queue a = 3 * length queue + weight a
-
--- the input has closed, or the output was closed or isn't wanted
-abbrev pub rate_spent : After → Bool → Bool → Bool
-rate_spent after ended stopped = is_over after || (ended || stopped)

@@ -1,15 +1,17 @@
-ghost use Rattle.std.specs.Prelude.{◌≡◌, ◌<◌, ◌≤◌, ◌^◌, ◌⊎◌, OnErr, Some, None, Ok, true, false};
+ghost use Rattle.std.specs.Prelude.{◌≡◌, ◌<◌, ◌≤◌, ◌^◌, ◌⊎◌, ◌↔◌, OnErr, Some, None, Ok, IsTrue, true, false};
 ghost use Rattle.ff_frame.specs.declared.item.Item.{Item as AnItem};
 ghost use Rattle.ff_frame.specs.declared.item.Lane.TheVariants.{Frames};
 ghost use Rattle.ff_values.specs.declared.video.VFrame.{VFrame as AFrame};
 ghost use Rattle.ff_frame.specs.Within.{passes_limits};
-ghost use Rattle.ff_filter.specs.Views.{Gave, Waits, Same};
+ghost use Rattle.ff_filter.specs.Views.{Gave, Waits, Same, IsSpent};
 ghost use Rattle.ff_filter.specs.Made.{is_over};
 ghost use Rattle.ff_vfilter.specs.Rates.{number_of, shown};
-ghost use Rattle.ff_vfilter.specs.RateViews.{rate_spent, limit_of, work_left};
-ghost use Rattle.ff_vfilter.specs.RateSeen.{seen};
+ghost use Rattle.ff_vfilter.specs.RateViews.{limit_of, work_left};
+ghost use Rattle.ff_vfilter.specs.RateSeen.{seen, has_closed, fed_mark, rate_spent};
+ghost use Rattle.ff_vfilter.specs.RateCuts.{span_of, span_ahead, is_late as is_late_by, is_cut as is_cut_by};
 
 use crate::showing::{Ahead, Showing};
+use crate::span::Span;
 use ff_filter::{Filter, Inlet, Next, discard, time_base};
 use ff_frame::{Item, Refused, StreamHead, VFrame};
 use std::alloc::{AllocError, Global};
@@ -50,15 +52,38 @@ pub enum Work {
     Waits,
 }
 
-// Whether the picture of this number passes a limit, where so many were given before it.
+// Whether a picture of this number passes a limit, where so many were given before it.
+fn is_late(given: &StreamHead, before: u128, number: u64) -> bool
+    requires { before < 2 ^ 65 }
+    ensures { result ≡ is_late_by given.now before number }
+{
+    let tb = time_base(given);
+    let end = number as u128 + 1;
+    (MOST_ITEMS < before + 1) | (LAST_SECOND * (tb.den() as u128) < end * (tb.num() as u128))
+}
+
+// The same of the picture itself.
 fn is_long(given: &StreamHead, before: u64, number: u64) -> bool
     requires { number < 2 ^ 62 }
     ensures { (f : AFrame) → result ≡ passes_limits (Frames given.now) before (shown number f) }
 {
-    let tb = time_base(given);
-    let end = number as u128 + 1;
-    (MOST_ITEMS < before as u128 + 1)
-        | (LAST_SECOND * (tb.den() as u128) < end * (tb.num() as u128))
+    is_late(given, before as u128, number)
+}
+
+// Whether a picture of these numbers passes a limit, where so many were given before the first: the last of them does.
+fn is_cut(given: &StreamHead, before: u64, span: Option<Span>) -> bool
+    ensures { result ≡ is_cut_by given.now before span }
+{
+    match span {
+        None => false,
+        Some(span) => {
+            if span.next <= span.first {
+                return false;
+            }
+            let others = span.next - span.first - 1;
+            is_late(given, before as u128 + others as u128, span.next - 1)
+        }
+    }
 }
 
 impl Rate {
@@ -139,6 +164,40 @@ impl Rate {
         self.showing.picture = Some(frame);
     }
 
+    // The numbers that are shown of what was fed, as far as is known.
+    fn span(&self) -> Option<Span>
+        ensures { result ≡ span_of self.now.showing.scale (span_ahead self.now.showing) self.now.input.queue.items }
+    {
+        let mut span = self.showing.span();
+        'items: for i in 0..self.input.queue.len() {
+            span = Span::with_item(self.showing.scale, span, &self.input.queue[i]);
+        }
+        span
+    }
+
+    // Whether what was fed closes the output, where more may come.
+    fn is_fed_out(&self) -> bool
+        requires open { is_over self.now.input.after ≡ false }
+        ensures { result ≡ has_closed (fed_mark self.now) }
+    {
+        if self.showing.ahead.is_end() {
+            return true;
+        }
+        is_cut(&self.given, self.showing.before, self.span())
+    }
+
+    /// Whether nothing more of the input can matter: exactly where it has closed, or where the output isn't wanted or is closed
+    /// by what was fed.
+    pub fn is_spent(&self) -> bool
+        ensures exact { IsTrue result ↔ IsSpent (seen self.now) 0 }
+        ensures is { result ≡ rate_spent self.now }
+    {
+        if self.input.is_shut() | (self.stopped | self.ended) {
+            return true;
+        }
+        self.is_fed_out()
+    }
+
     // Goes on until a picture is due, or nothing is known.
     fn step(&mut self) -> Result<Work, AllocError>
         requires { self.old.ended ≡ false }
@@ -182,11 +241,12 @@ impl Rate {
 }
 
 impl Filter for Rate {
-    ghost use Rattle.ff_vfilter.specs.RateLaws.{rate-grows, rate-hides, rate-settles, rate-quiet, rate-spent_only, rate-shut_spent, rate-done_spent};
+    ghost use Rattle.ff_vfilter.specs.RateLaws.{rate-grows, rate-hides, rate-settles, rate-quiet};
+    ghost use Rattle.ff_vfilter.specs.RateSpent.{rate-spent_only, rate-shut_spent, rate-done_spent};
 
     ghost view = { λ m. seen m };
 
-    ghost spends = { λ m p. rate_spent m.input.after m.ended m.stopped };
+    ghost spends = { λ m p. rate_spent m };
 
     fn inputs(&self) -> usize {
         1
@@ -231,7 +291,7 @@ impl Filter for Rate {
     }
 
     fn spent(&self, _port: usize) -> bool {
-        self.input.is_shut() | (self.ended | self.stopped)
+        self.is_spent()
     }
 
     ghost grows = { λ m. rate-grows m.head m.given m.showing m.input.queue.items m.input.after m.ended m.stopped };
@@ -242,9 +302,9 @@ impl Filter for Rate {
 
     ghost quiet = { λ m q e ext. rate-quiet m.head m.given m.showing m.input.queue.items m.input.after m.ended m.stopped q e ext };
 
-    ghost spent_only = { λ m p lt e. rate-spent_only m.head m.given m.showing m.input.queue.items m.input.after m.ended m.stopped p e };
+    ghost spent_only = { λ m p lt e. rate-spent_only m p e };
 
-    ghost shut_spent = { λ m p lt e. rate-shut_spent m.input.after m.ended m.stopped e };
+    ghost shut_spent = { λ m p lt e. rate-shut_spent m e };
 
-    ghost done_spent = { λ m p lt z d. rate-done_spent m.head m.given m.showing m.input.queue.items m.input.after m.ended m.stopped d };
+    ghost done_spent = { λ m p lt z d. rate-done_spent m d };
 }

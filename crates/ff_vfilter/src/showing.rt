@@ -1,8 +1,10 @@
 ghost use Rattle.std.specs.Prelude.{◌≡◌, ◌<◌, ◌≤◌, ◌^◌, ◌+◌, Some, IfOk, OnErr};
 ghost use Rattle.ff_vfilter.specs.Rates.{shown};
 ghost use Rattle.ff_vfilter.specs.RateViews.{limit_of, Shown};
+ghost use Rattle.ff_vfilter.specs.RateCuts.{span_ahead, is_end as is_end_of};
 
 use crate::scale::Scale;
+use crate::span::Span;
 use ff_frame::{Item, VFrame};
 use std::alloc::{AllocError, Global};
 
@@ -17,6 +19,18 @@ pub enum Ahead {
     Whole,
     /// Nothing more: the rest was lost.
     Lost,
+}
+
+impl Ahead {
+    /// Whether it is known how the input ends.
+    pub fn is_end(&self) -> bool
+        ensures { result ≡ is_end_of self.now }
+    {
+        match self {
+            Ahead::Unknown | Ahead::Picture(_) => false,
+            Ahead::Whole | Ahead::Lost => true,
+        }
+    }
 }
 
 /// The picture that is shown, and how far.
@@ -57,6 +71,23 @@ impl Showing {
                 None => 0,
                 Some(frame) => self.scale.end_number(frame),
             },
+        }
+    }
+
+    /// The numbers that are shown of the picture and of the one that comes next, as far as is known.
+    pub fn span(&self) -> Option<Span>
+        ensures { result ≡ span_ahead self.now }
+    {
+        let span = match &self.picture {
+            None => None,
+            Some(_) => Some(Span {
+                first: self.number,
+                next: self.number,
+            }),
+        };
+        match &self.ahead {
+            Ahead::Picture(frame) => Some(Span::with_number(span, self.scale.number_of(frame))),
+            Ahead::Unknown | Ahead::Whole | Ahead::Lost => span,
         }
     }
 
