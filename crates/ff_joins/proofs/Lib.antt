@@ -8,3 +8,6 @@ pub mod Decisions
 pub mod Feeding
 pub mod JoinStarting
 pub mod Cuts
+pub mod SegmentShape
+pub mod JoinShape
+pub mod JoinHeads

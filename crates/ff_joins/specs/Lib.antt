@@ -21,3 +21,4 @@ pub mod JoinLaws
 pub mod JoinCuts
 pub mod JoinDrawing
 pub mod JoinView
+pub mod JoinShapes

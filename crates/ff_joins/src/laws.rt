@@ -1,11 +1,24 @@
 //! Laws of the filters' functions: functions that do nothing, whose clauses hold of all values.
-ghost use Rattle.std.specs.Prelude.{◌≡◌, ℕ, ℤ, List, [], ◌∷◌};
+ghost use Rattle.std.specs.Prelude.{◌≡◌, ◌<◌, ◌≤◌, ℕ, suc, ℤ, List, [], ◌∷◌, get_or, length, Ok, true};
+ghost use Rattle.ff_time.specs.Fraction.{Fraction, IsBase};
+ghost use Rattle.ff_values.specs.declared.head.Codec.{Codec};
+ghost use Rattle.ff_values.specs.declared.head.StreamHead.{StreamHead};
+ghost use Rattle.ff_values.specs.declared.head.StreamHead.TheVariants.{Audio as AudioHead};
+ghost use Rattle.ff_values.specs.Heads.{base_of_head};
 ghost use Rattle.ff_values.specs.declared.video.VFrame.{VFrame};
 ghost use Rattle.ff_frame.specs.declared.item.Item.{Item};
+ghost use Rattle.ff_frame.specs.declared.item.Lane.TheVariants.{Frames};
 ghost use Rattle.ff_frame.specs.Breaks.{KeepsBrokenRule};
+ghost use Rattle.ff_frame.specs.Lanes.{AreInShape, IsValid};
+ghost use Rattle.ff_frame.specs.Within.{within, passes_limits};
+ghost use Rattle.ff_filter.specs.Options.{is_sound};
+ghost use Rattle.ff_joins.specs.Arguments.{each_head};
 ghost use Rattle.ff_joins.specs.ConcatBreaks.{AreSo, segments_of};
 ghost use Rattle.ff_joins.specs.ConcatExamples.{picture_at, two_whole, two_pictures};
 ghost use Rattle.ff_joins.specs.Concats.{concatenated};
+ghost use Rattle.ff_joins.specs.JoinOptions.{rate_of, bits_of, channels_of, AreAlike};
+ghost use Rattle.ff_joins.specs.JoinShapes.{channels_to};
+ghost use Rattle.ff_joins.specs.JoinView.{channels_at};
 ghost use Rattle.ff_joins.specs.JoinExamples.{sound_at, one_channel, all_sound};
 ghost use Rattle.ff_joins.specs.Joined.{side_to_side};
 ghost use Rattle.ff_joins.specs.JoinRule.{AreMany, joined_list};
@@ -29,6 +42,23 @@ pub fn unbroken_inputs_make_no_break()
     ensures segments { (n : ℕ) (ss : Ports) → ((p : ℕ) → IsUnbroken (ss p)) → IsUnbroken (concatenated n ss) }
     ensures sound { (n : ℕ) (channels : ℕ → ℕ) (rate bits all : ℕ) (ss : Ports) → ((p : ℕ) → IsUnbroken (ss p))
         → IsUnbroken (side_to_side n channels rate bits all ss) }
+{}
+
+/// Valid segments of one head, one after another within the limits, are a valid stream of that head. Of valid streams of sound, of
+/// one rate and one size of samples and of at most 8 channels in all, the frames side by side are in shape for a head of these; so
+/// behind its limits the output of `join` is valid for the head that it is given.
+pub fn valid_streams_make_valid_ones()
+    ensures segments { (h : StreamHead) (n : ℕ) (ss : Ports) → IsBase (base_of_head h) → ((p : ℕ) → p < n → IsValid (Frames h) (ss p))
+        → IsValid (Frames h) (within (passes_limits (Frames h)) (concatenated n ss)) }
+    ensures shape { (n : ℕ) (channels : ℕ → ℕ) (tbs : ℕ → Fraction) (codecs : ℕ → Codec) (rate bits all : ℕ) (tb : Fraction) (codec : Codec) (ss : Ports)
+        → ((p : ℕ) → p < suc n → IsValid (Frames (AudioHead (tbs p) rate bits (channels p) (codecs p))) (ss p))
+        → channels_to channels (suc n) ≡ all → all ≤ 8
+        → AreInShape (Frames (AudioHead tb rate bits all codec)) (side_to_side n channels rate bits all ss).items }
+    ensures sound { (h : StreamHead) (hs : List StreamHead) (head : StreamHead) (ss : Ports)
+        → each_head is_sound (h ∷ hs) ≡ true → AreAlike (h ∷ hs) (Ok head)
+        → ((p : ℕ) → p < length (h ∷ hs) → IsValid (Frames (get_or (h ∷ hs) p h)) (ss p))
+        → IsValid (Frames head) (within (passes_limits (Frames head))
+        (side_to_side (length hs) (channels_at (h ∷ hs)) (rate_of head) (bits_of head) (channels_of head) ss)) }
 {}
 
 /// Streams of sound side by side: streams further on give streams further on.

@@ -30,7 +30,7 @@ pub use join_options::{JoinSettings, join_head};
 pub use laws::{
     joined_sound_keeps_the_broken_rule, segments_keep_the_broken_rule,
     sound_further_on_is_joined_further_on, the_second_segment_is_shifted,
-    two_channels_stand_side_by_side, unbroken_inputs_make_no_break,
+    two_channels_stand_side_by_side, unbroken_inputs_make_no_break, valid_streams_make_valid_ones,
 };
 pub use segments::Segments;
 pub use sound_inlet::SoundInlet;
