@@ -2,6 +2,7 @@ pub mod Cutting
 pub mod Evenly
 pub mod Fractions
 pub mod Keeping
+pub mod RateShape
 pub mod Rating
 pub mod Resizing
 pub mod Scaling

@@ -74,3 +74,11 @@ pub fn pictures_at_an_even_rate()
     ensures rescaled { (from to : Fraction) → IsBase from → IsBase to → (t : ℕ)
         → IsRescaled (pos t) from to (pos (nearest (t * (from.num * to.den)) (from.den * to.num))) }
 {}
+
+/// Of a valid stream the pictures at an even rate are in shape for the same head with another time base; an unbroken one doesn't
+/// break off.
+pub fn pictures_at_an_even_rate_are_sound()
+    ensures { (scale : Scale) (tb base : Fraction) (format : Format) (width height sar_num sar_den : ℕ)
+        → IsSound (Frames (VideoHead tb format width height sar_num sar_den)) (Frames (VideoHead base format width height sar_num sar_den))
+        (λ s. rated scale none_held s) }
+{}

@@ -30,8 +30,8 @@ pub use crop::{Crop, CropSettings};
 pub use fps::{Fps, FpsSettings};
 pub use hflip::HFlip;
 pub use laws::{
-    pictures_at_an_even_rate, pictures_keep_the_broken_rule, pictures_kept_are_sound,
-    pictures_painted_are_valid,
+    pictures_at_an_even_rate, pictures_at_an_even_rate_are_sound, pictures_keep_the_broken_rule,
+    pictures_kept_are_sound, pictures_painted_are_valid,
 };
 pub use null::Null;
 pub use pad::{Pad, PadSettings};
