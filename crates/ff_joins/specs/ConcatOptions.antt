@@ -52,13 +52,13 @@ video_said args = last_number concat_manual 1 0 1 1 args == 1
 abbrev pub sound_said : List Arg → Bool
 sound_said args = last_number concat_manual 2 0 1 0 args == 1
 
--- The head is of the kind that is asked for. Where both kinds are, or none, no head is of the wrong kind: the arguments are
--- refused.
+-- The head is of the kind that is asked for. Where both kinds are, or none, the arguments are refused, and what counts until
+-- then is what is asked for without them: video.
 abbrev pub is_of_kind : Bool → Bool → StreamHead → Bool
-is_of_kind true true head = true
+is_of_kind true true head = is_video head
 is_of_kind true false head = is_video head
 is_of_kind false true head = is_sound head
-is_of_kind false false head = true
+is_of_kind false false head = is_video head
 
 abbrev pub concat_start : List Arg → ConcatSettings
 concat_start args = record { inputs = 2; video = true; sound = false; kinds_left = times_from concat_manual 1 2 false 0 args }

@@ -101,12 +101,12 @@ impl ConcatSettings {
     }
 }
 
-// Whether a head is of the kind that is asked for.
+// Whether a head is of the kind that is asked for; where both are, or none, of video.
 fn is_kind(head: &StreamHead, video: bool, sound: bool) -> bool
     ensures { result ≡ is_of_kind video sound head.now }
 {
     match head {
-        StreamHead::Audio { .. } => sound || !video,
+        StreamHead::Audio { .. } => sound && !video,
         StreamHead::Video { .. } => video || !sound,
     }
 }
