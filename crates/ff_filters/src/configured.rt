@@ -1,0 +1,100 @@
+ghost use Rattle.std.specs.Prelude.{IfOk, IfErr};
+ghost use Rattle.ff_filters.specs.Makes.{Makes, Refuses};
+
+use crate::any::AnyFilter;
+use crate::name::FilterName;
+use ff_afilter::{ANull, ASetPts, ASplit, ATrim, ChannelSplit};
+use ff_filter::Filter;
+use ff_frame::{ConfigError, StreamHead};
+use ff_joins::{Concat, Join};
+use ff_lang::Arg;
+use ff_stacks::{HStack, VStack};
+use ff_vfilter::{Crop, Fps, HFlip, Null, Pad, SetPts, Split, Trim, VFlip};
+use std::alloc::Global;
+
+/// The filter of this name by its arguments and the heads of its inputs; the heads of its outputs beside it. It refuses as the
+/// filter does: `Pads`, `Kind`, `UnknownOption` and `BadOption` by argument, `Mismatch`, `BadSize`.
+pub fn configure(
+    alloc: Global,
+    name: FilterName,
+    args: &[Arg],
+    heads: &[StreamHead],
+) -> Result<(AnyFilter, Vec<StreamHead>), ConfigError>
+    ensures made { IfOk result (λ r. Makes name args.now heads.now (⟦<AnyFilter as Filter>⟧.view r.0) r.1.items) }
+    ensures refused { IfErr result (Refuses name args.now heads.now) }
+{
+    match name {
+        FilterName::Null => match Null::configure(alloc, args, heads) {
+            Ok((filter, heads)) => Ok((AnyFilter::Pass(filter), heads)),
+            Err(error) => Err(error),
+        },
+        FilterName::Trim => match Trim::configure(alloc, args, heads) {
+            Ok((filter, heads)) => Ok((AnyFilter::Trim(filter), heads)),
+            Err(error) => Err(error),
+        },
+        FilterName::SetPts => match SetPts::configure(alloc, args, heads) {
+            Ok((filter, heads)) => Ok((AnyFilter::Rebase(filter), heads)),
+            Err(error) => Err(error),
+        },
+        FilterName::Crop => match Crop::configure(alloc, args, heads) {
+            Ok((filter, heads)) => Ok((AnyFilter::Crop(filter), heads)),
+            Err(error) => Err(error),
+        },
+        FilterName::Pad => match Pad::configure(alloc, args, heads) {
+            Ok((filter, heads)) => Ok((AnyFilter::Pad(filter), heads)),
+            Err(error) => Err(error),
+        },
+        FilterName::HFlip => match HFlip::configure(alloc, args, heads) {
+            Ok((filter, heads)) => Ok((AnyFilter::HFlip(filter), heads)),
+            Err(error) => Err(error),
+        },
+        FilterName::VFlip => match VFlip::configure(alloc, args, heads) {
+            Ok((filter, heads)) => Ok((AnyFilter::VFlip(filter), heads)),
+            Err(error) => Err(error),
+        },
+        FilterName::Fps => match Fps::configure(alloc, args, heads) {
+            Ok((filter, heads)) => Ok((AnyFilter::Rate(filter), heads)),
+            Err(error) => Err(error),
+        },
+        FilterName::Split => match Split::configure(alloc, args, heads) {
+            Ok((filter, heads)) => Ok((AnyFilter::Copies(filter), heads)),
+            Err(error) => Err(error),
+        },
+        FilterName::ANull => match ANull::configure(alloc, args, heads) {
+            Ok((filter, heads)) => Ok((AnyFilter::Pass(filter), heads)),
+            Err(error) => Err(error),
+        },
+        FilterName::ATrim => match ATrim::configure(alloc, args, heads) {
+            Ok((filter, heads)) => Ok((AnyFilter::ATrim(filter), heads)),
+            Err(error) => Err(error),
+        },
+        FilterName::ASetPts => match ASetPts::configure(alloc, args, heads) {
+            Ok((filter, heads)) => Ok((AnyFilter::Rebase(filter), heads)),
+            Err(error) => Err(error),
+        },
+        FilterName::ASplit => match ASplit::configure(alloc, args, heads) {
+            Ok((filter, heads)) => Ok((AnyFilter::Copies(filter), heads)),
+            Err(error) => Err(error),
+        },
+        FilterName::ChannelSplit => match ChannelSplit::configure(alloc, args, heads) {
+            Ok((filter, heads)) => Ok((AnyFilter::Channels(filter), heads)),
+            Err(error) => Err(error),
+        },
+        FilterName::HStack => match HStack::configure(alloc, args, heads) {
+            Ok((filter, heads)) => Ok((AnyFilter::Stacked(filter), heads)),
+            Err(error) => Err(error),
+        },
+        FilterName::VStack => match VStack::configure(alloc, args, heads) {
+            Ok((filter, heads)) => Ok((AnyFilter::Stacked(filter), heads)),
+            Err(error) => Err(error),
+        },
+        FilterName::Concat => match Concat::configure(alloc, args, heads) {
+            Ok((filter, heads)) => Ok((AnyFilter::Concat(filter), heads)),
+            Err(error) => Err(error),
+        },
+        FilterName::Join => match Join::configure(alloc, args, heads) {
+            Ok((filter, heads)) => Ok((AnyFilter::Join(filter), heads)),
+            Err(error) => Err(error),
+        },
+    }
+}

@@ -1,0 +1,19 @@
+//! Any filter, by its name.
+//!
+//! ```text
+//!   name ──► FilterName ─┐
+//!   arguments, heads ────┴─► configure ──► AnyFilter, the heads of its outputs
+//! ```
+//!
+//! [`AnyFilter`] is the machine of any filter that there is, so that a graph can hold them side by side; it meets
+//! `ff_filter::Filter` as each of them does. A further filter is a line in [`AnyFilter`], one in [`FilterName`], and one in each of
+//! their matches.
+#![tactic(auto)]
+
+mod any;
+mod configured;
+mod name;
+
+pub use any::AnyFilter;
+pub use configured::configure;
+pub use name::{FilterName, named};

@@ -1,0 +1,13 @@
+use Rattle.std.proofs.Common.{◌≡◌, ℕ, List, length, ◌++◌, replicate, false}
+use Rattle.ff_order.specs.Orders.{lists, left, IsLowestFrom}
+use Rattle.ff_order.proofs.taking.order.Given as goal
+
+abbrev pub invariant-taking : goal.invariant-taking
+invariant-taking l = record {
+  same : length l.taken.items ≡ length l.feeders;
+  goes : (ks : List ℕ) → IsLowestFrom (lists l.feeders) l.taken.items ks
+      → IsLowestFrom (lists l.feeders) (replicate (length l.feeders) false) (l.things.items ++ ks);
+}
+
+abbrev pub decreases-taking : goal.decreases-taking
+decreases-taking l = left l.taken.items

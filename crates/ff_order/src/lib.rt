@@ -1,0 +1,11 @@
+//! An order of things in which each comes behind those that feed it.
+//!
+//! ```text
+//!   0 ◄── 2 ◄── 1        0, 2, 1: of those whose feeders were all taken, the lowest is taken next
+//!   3 ◄─► 4              no order: each waits for the other
+//! ```
+#![tactic(auto)]
+
+mod taking;
+
+pub use taking::order;
