@@ -1,0 +1,7 @@
+use Rattle.ff_labels.specs.Order.{feeds}
+use Rattle.ff_labels.proofs.Tabled.{pushed}
+use Rattle.ff_labels.proofs.order.fed_by.Goals as goal
+
+pub loop-to-preserved : goal.loop-to-preserved
+loop-to-preserved c =
+    pushed (feeds c.args.graphs.now c.args.from) c.loop-to.row.items c.push.new.self.items c.loop-to.to c.does_feed.result c.loop-to.invariant c.in_ok-push.ensures.items c.does_feed.ensures
