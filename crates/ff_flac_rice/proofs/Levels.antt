@@ -1,32 +1,20 @@
 use Rattle.std.proofs.Common.{◌≡◌, ℕ, suc, ◌+◌, ◌-◌, ◌%◌, ◌^◌, ◌<◌, ◌≤◌, true, List, [], ◌∷◌, ◌++◌, length, map, Some, refl, sym, ap, ◌∙◌, subst, arith, cond, leb, inl, inr, get_or}
-use Rattle.std.proofs.Math.Path.{fun_ext}
-use Rattle.std.specs.List.{range_with_len, sum_by, All}
-use Rattle.std.proofs.lemmas.List.Sums.{sum_by-cons}
-use Rattle.std.proofs.lemmas.List.{append-nil, length-map}
-use Rattle.std.proofs.lemmas.List.Elements.{All-same, All-from_get_or}
+use Rattle.std.specs.List.{range_with_len, sum_by, All, AllByRecursion}
+use Rattle.std.proofs.lemmas.List.{append-nil}
+use Rattle.std.proofs.lemmas.List.Elements.{All-from_get_or}
 use Rattle.std.proofs.Math.Nat.{pow-suc, pow-le-pow_right}
 use Rattle.std.proofs.lemmas.Bool.{leb-true, leb-false, cases_Bool}
 use Rattle.ff_flac_rice.specs.declared.row.Row.{Row}
 use Rattle.ff_flac_rice.specs.declared.coding.Choice.{Choice}
 use Rattle.ff_flac_rice.specs.Least.{choose, least}
 use Rattle.ff_flac_rice.specs.Rice.{is_allowed, orders, residual_bits, codings, codings_by, codings_at, best_at, best_cost, parts_of, Coding}
-use Rattle.ff_flac_rice.specs.Row.{row_of, row_best_cost, pair_rows, RowFits}
+use Rattle.ff_flac_rice.specs.Row.{AreRows, pair_rows, RowFits}
+use Rattle.ff_flac_rice.specs.Spans.{Spans}
 use Rattle.ff_flac_rice.proofs.LeastLemmas.{least-append, choose_first, choose_second}
 use Rattle.ff_flac_rice.proofs.Costs.{least-codings_at, length-best_at, length-parts_of}
-use Rattle.ff_flac_rice.proofs.RowLemmas.{row_best_cost-of, rows_fit, row_fits_of, pair_rows-map, pair_parts-parts_of}
+use Rattle.ff_flac_rice.proofs.RowLemmas.{rows_fit, rows_length, pair_rows-are, pair_parts-parts_of}
+use Rattle.ff_flac_rice.proofs.SpanLemmas.{spans_pairs}
 use Rattle.ff_flac_rice.proofs.Orders.{allowed_parts}
-
--- the cost of rows is that of their partitions
-sum_by-map : (f : Row → ℕ) (parts : List (List ℕ)) → sum_by f (map row_of parts) ≡ sum_by (λ p. f (row_of p)) parts
-sum_by-map f [] = refl
-sum_by-map f (p ∷ parts) =
-    sum_by-cons f (row_of p) (map row_of parts) ∙ ap (λ n. f (row_of p) + n) (sum_by-map f parts) ∙ sym (sum_by-cons (λ p. f (row_of p)) p parts)
-
-pub level_is : (method cost : ℕ) (rows : List Row) (parts : List (List ℕ)) → rows ≡ map row_of parts → cost ≡ sum_by (row_best_cost method) rows
-    → cost ≡ sum_by (best_cost method) parts
-level_is method cost rows parts e h =
-    h ∙ ap (sum_by (row_best_cost method)) e ∙ sum_by-map (row_best_cost method) parts
-    ∙ ap (λ f. sum_by f parts) (fun_ext (row_best_cost-of method))
 
 abbrev pub coding_cost : ℕ → List ℕ → Coding → ℕ
 coding_cost order us c = length (residual_bits order c us)
@@ -132,34 +120,48 @@ both_second order us p first second e f g lt =
 
 -- ---- what the rows of a level are like
 
-pub rows_fit_here : (order partition_order : ℕ) (us : List ℕ) (rows : List Row) → rows ≡ map row_of (parts_of order partition_order us) → length us ≤ 2 ^ 15
-    → ((i : ℕ) → get_or us i 0 < 2 ^ 32) → All RowFits rows
-rows_fit_here order partition_order us rows e l h =
-    All-same RowFits rows (map row_of (parts_of order partition_order us)) e
-    (rows_fit order partition_order us (omega (arith, l)) (All-from_get_or (λ u. u < 2 ^ 32) us 0 (λ i _. h i)))
+pub same_rows : (low high : ℕ) (rows others : List Row) (parts : List (List ℕ)) → rows ≡ others → AreRows low high others parts → AreRows low high rows parts
+same_rows low high rows others parts e h = subst (λ l. AreRows low high l parts) (sym e) h
 
-pub rows_count : (order partition_order : ℕ) (us : List ℕ) (rows : List Row) → rows ≡ map row_of (parts_of order partition_order us) → length rows ≡ 2 ^ partition_order
-rows_count order partition_order us rows e = ap length e ∙ length-map (parts_of order partition_order us) row_of ∙ length-parts_of order partition_order us
+pub rows_fit_here : (low high order partition_order : ℕ) (us : List ℕ) (rows : List Row) → AreRows low high rows (parts_of order partition_order us) → length us ≤ 2 ^ 15
+    → ((i : ℕ) → get_or us i 0 < 2 ^ 32) → All RowFits rows
+rows_fit_here low high order partition_order us rows are l h =
+    rows_fit low high order partition_order us rows (omega (arith, l)) (All-from_get_or (λ u. u < 2 ^ 32) us 0 (λ i _. h i)) are
+
+pub rows_count : (low high order partition_order : ℕ) (us : List ℕ) (rows : List Row) → AreRows low high rows (parts_of order partition_order us) → length rows ≡ 2 ^ partition_order
+rows_count low high order partition_order us rows are = rows_length low high rows (parts_of order partition_order us) are ∙ length-parts_of order partition_order us
 
 pow_le : (i j : ℕ) → i ≤ j → 2 ^ i ≤ 2 ^ j
 pow_le i j h = pow-le-pow_right (omega arith) h
 
-pub rows_few : (order partition_order : ℕ) (us : List ℕ) (rows : List Row) → rows ≡ map row_of (parts_of order partition_order us) → partition_order ≤ 8 → length rows ≤ 256
-rows_few order partition_order us rows e h = omega (arith, rows_count order partition_order us rows e, pow_le partition_order 8 h)
+pub rows_few : (low high order partition_order : ℕ) (us : List ℕ) (rows : List Row) → AreRows low high rows (parts_of order partition_order us) → partition_order ≤ 8 → length rows ≤ 256
+rows_few low high order partition_order us rows are h = omega (arith, rows_count low high order partition_order us rows are, pow_le partition_order 8 h)
 
-pub rows_even : (order partition_order : ℕ) (us : List ℕ) (rows : List Row) → rows ≡ map row_of (parts_of order (suc partition_order) us) → length rows % 2 ≡ 0
-rows_even order partition_order us rows e = omega (arith, rows_count order (suc partition_order) us rows e, pow-suc 2 partition_order)
+pub rows_even : (low high order partition_order : ℕ) (us : List ℕ) (rows : List Row) → AreRows low high rows (parts_of order (suc partition_order) us) → length rows % 2 ≡ 0
+rows_even low high order partition_order us rows are = omega (arith, rows_count low high order (suc partition_order) us rows are, pow-suc 2 partition_order)
 
-pub rows_next : (order partition_order : ℕ) (us : List ℕ) (rows new : List Row) → is_allowed (length us + order) order (suc partition_order) ≡ true
-    → rows ≡ map row_of (parts_of order (suc partition_order) us) → new ≡ pair_rows rows → new ≡ map row_of (parts_of order partition_order us)
-rows_next order partition_order us rows new a e h =
+rows_next : (low high order partition_order : ℕ) (us : List ℕ) (rows new : List Row) → high ≤ 31 → is_allowed (length us + order) order (suc partition_order) ≡ true
+    → AreRows low high rows (parts_of order (suc partition_order) us) → new ≡ pair_rows rows → AreRows low high new (parts_of order partition_order us)
+rows_next low high order partition_order us rows new last a are h =
     let p = allowed_parts (length us + order) order (suc partition_order) a in
-    h ∙ ap pair_rows e ∙ pair_rows-map (parts_of order (suc partition_order) us) ∙ ap (map row_of) (pair_parts-parts_of order partition_order us p.0 p.1)
+    subst (λ l. AreRows low high l (parts_of order partition_order us)) (sym h)
+    (subst (AreRows low high (pair_rows rows)) (pair_parts-parts_of order partition_order us p.0 p.1) (pair_rows-are low high rows (parts_of order (suc partition_order) us) last are))
 
-pub rows_after : (order partition_order p : ℕ) (us : List ℕ) (rows new : List Row) → partition_order ≡ suc p → is_allowed (length us + order) order partition_order ≡ true
-    → rows ≡ map row_of (parts_of order partition_order us) → new ≡ pair_rows rows → new ≡ map row_of (parts_of order p us)
-rows_after order partition_order p us rows new e a r h =
-    rows_next order p us rows new (subst (λ m. is_allowed (length us + order) order m ≡ true) e a) (r ∙ ap (λ m. map row_of (parts_of order m us)) e) h
+pub rows_after : (low high order partition_order p : ℕ) (us : List ℕ) (rows new : List Row) → high ≤ 31 → partition_order ≡ suc p → is_allowed (length us + order) order partition_order ≡ true
+    → AreRows low high rows (parts_of order partition_order us) → new ≡ pair_rows rows → AreRows low high new (parts_of order p us)
+rows_after low high order partition_order p us rows new last e a are h =
+    rows_next low high order p us rows new last (subst (λ m. is_allowed (length us + order) order m ≡ true) e a) (subst (λ m. AreRows low high rows (parts_of order m us)) e are) h
+
+spans_next : (low high order partition_order : ℕ) (us : List ℕ) → is_allowed (length us + order) order (suc partition_order) ≡ true
+    → AllByRecursion (Spans low high) (parts_of order (suc partition_order) us) → AllByRecursion (Spans low high) (parts_of order partition_order us)
+spans_next low high order partition_order us a h =
+    let p = allowed_parts (length us + order) order (suc partition_order) a in
+    subst (AllByRecursion (Spans low high)) (pair_parts-parts_of order partition_order us p.0 p.1) (spans_pairs low high (parts_of order (suc partition_order) us) h)
+
+pub spans_after : (low high order partition_order p : ℕ) (us : List ℕ) → partition_order ≡ suc p → is_allowed (length us + order) order partition_order ≡ true
+    → AllByRecursion (Spans low high) (parts_of order partition_order us) → AllByRecursion (Spans low high) (parts_of order p us)
+spans_after low high order partition_order p us e a h =
+    spans_next low high order p us (subst (λ m. is_allowed (length us + order) order m ≡ true) e a) (subst (λ m. AllByRecursion (Spans low high) (parts_of order m us)) e h)
 
 pub best_after : (order : ℕ) (us : List ℕ) (method partition_order p top : ℕ) (old new : Choice) (cost : ℕ) → partition_order ≡ p + 1 → partition_order ≤ top
     → IsBest order us method partition_order (suc (top - partition_order)) old → cost ≡ sum_by (best_cost method) (parts_of order p us)
@@ -174,7 +176,3 @@ pub best_end : (order : ℕ) (us : List ℕ) (method partition_order top : ℕ) 
 best_end order us method partition_order top choice e h =
     let n : suc (top - 0) ≡ suc top = omega arith in
     subst (λ m. IsBest order us method 0 m choice) n (subst (λ m. IsBest order us method m (suc (top - m)) choice) e h)
-
-pub row_fits_here : (part : List ℕ) (row : Row) → row ≡ row_of part → length part ≤ 2 ^ 15 → ((i : ℕ) → get_or part i 0 < 2 ^ 32) → RowFits row
-row_fits_here part row e l h =
-    subst RowFits (sym e) (row_fits_of part (omega (arith, l)) (All-from_get_or (λ u. u < 2 ^ 32) part 0 (λ i _. h i)))

@@ -2,6 +2,7 @@ pub mod LeastLemmas
 pub mod Costs
 pub mod Sums
 pub mod RowLemmas
+pub mod SpanLemmas
 pub mod Orders
 pub mod Levels
 pub mod Writing

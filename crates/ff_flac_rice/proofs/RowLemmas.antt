@@ -1,28 +1,22 @@
-use Rattle.std.proofs.Common.{◌≡◌, ℕ, Some, set, zero, suc, ◌+◌, ◌-◌, ◌*◌, ◌/◌, ◌%◌, ◌^◌, ◌<◌, ◌≤◌, min, true, false, List, [], ◌∷◌, ◌++◌, length, get_or, map, take, drop, refl, sym, ap, ◌∙◌, subst, arith, cond, eqb, inl, inr}
+use Rattle.std.proofs.Common.{◌≡◌, ℕ, Some, set, zero, suc, ◌+◌, ◌-◌, ◌*◌, ◌/◌, ◌%◌, ◌^◌, ◌<◌, ◌≤◌, ◌≢◌, List, [], ◌∷◌, ◌++◌, length, get_or, length-set, get_or-set_other, replicate, map, take, drop, refl, sym, ap, ◌∙◌, subst, arith, cond, eqb, true, false, inl, inr}
 use Rattle.std.specs.Option.{unwrap_or, IfSome}
 use Rattle.std.specs.List.{range_with_len, All, AllByRecursion}
 use Rattle.std.proofs.lemmas.List.{length-append, append_assoc, length-take, length-drop, drop-drop, get_or_past, append-nil, drop_more, take_more_set, drop-set-lt, drop_all}
-use Rattle.std.proofs.lemmas.List.Elements.{All-map, All-take, All-drop, All-from_recursion, All-weaker, All-same}
-use Rattle.std.proofs.lemmas.List.FromFn.{fill_by_all, get_or-map-range_with_len}
+use Rattle.std.proofs.lemmas.List.Elements.{All-take, All-drop, All-from_recursion, All-weaker, All-same}
+use Rattle.std.proofs.lemmas.List.FromFn.{get_or-map-range_with_len}
 use Rattle.std.proofs.lemmas.List.Sums.{sum_by-append, sum_by-le, sum_by-le-sum_by}
 use Rattle.std.proofs.lemmas.Nat.{pow_pos, shr_le, shr-shr, shr_split, shl-shr}
 use Rattle.std.proofs.Math.Nat.{pow-suc, mul-le-mul_left}
 use Rattle.std.proofs.Math.Seq.{take-add}
-use Rattle.std.proofs.lemmas.Bool.{cases_lt}
+use Rattle.std.proofs.lemmas.Bool.{cases_lt, cases_eq}
+use Rattle.std.proofs.lemmas.Grind.{get_or-set_at}
 use Rattle.ff_flac_rice.specs.declared.row.Row.{Row}
 use Rattle.ff_flac_rice.specs.Least.{least}
-use Rattle.ff_flac_rice.specs.Rice.{quotients, part_cost, parameters, count_of, best_k, best_cost, pieces, parts_of}
-use Rattle.ff_flac_rice.specs.Row.{sums_of, row_of, sums_with, row_with, pair_rows, RowFits, row_cost, row_best, row_best_cost, IsLeastCost}
-use Rattle.ff_flac_rice.proofs.LeastLemmas.{least-same, least-same_on, least-shift, least_holds, least_is_lowest, best_keeps, best_takes, best_stays}
+use Rattle.ff_flac_rice.specs.Rice.{quotients, part_cost, parameters, count_of, best_k, pieces, parts_of}
+use Rattle.ff_flac_rice.specs.Row.{IsRow, AreRows, EndsInZeros, sums_with, row_with, pair_rows, RowFits, row_cost, row_best}
+use Rattle.ff_flac_rice.proofs.LeastLemmas.{least-same_on, least_holds}
 use Rattle.ff_flac_rice.proofs.Costs.{best_k_is}
-
-pub get_or-sums_of : (part : List ℕ) (k : ℕ) → k < 31 → get_or (sums_of part) k 0 ≡ quotients k part
-unfolding sums_of
-get_or-sums_of part k h = get_or-map-range_with_len (λ k. quotients k part) 0 31 k k 0 h (omega arith)
-
-pub length-sums_of : (part : List ℕ) → length (sums_of part) ≡ 31
-unfolding sums_of
-length-sums_of part = refl
+use Rattle.ff_flac_rice.proofs.Sums.{zeros_zero}
 
 -- ---- the best parameter of a row is that of its partition
 
@@ -30,35 +24,32 @@ pub range_below : (P : ℕ → Type 0) (a n : ℕ) → ((k : ℕ) → k < a + n 
 range_below P a zero h = tt
 range_below P a (suc n) h = (h a (omega arith), range_below P (a + 1) n (λ k l. h k (omega arith)))
 
-row_cost-of : (width k : ℕ) (part : List ℕ) → k < 31 → row_cost width k (row_of part) ≡ part_cost width k part
-row_cost-of width k part h = ap (λ n. width + (length part * (k + 1) + n)) (get_or-sums_of part k h)
+pub row_cost-of : (low high width k : ℕ) (row : Row) (part : List ℕ) → IsRow low high row part → low ≤ k → k < high → row_cost width k row ≡ part_cost width k part
+row_cost-of low high width k row part is l h =
+    ap (λ n. width + (n * (k + 1) + get_or row.sums k 0)) is.len ∙ ap (λ n. width + (length part * (k + 1) + n)) (is.sums k l h)
 
 pub count_within : (method : ℕ) → count_of method ≤ 31
 count_within method = elim (eqb method 0) as (λ t. cond t 15 31 ≤ 31) [ true ↦ omega arith | false ↦ omega arith ]
 
-pub least-row_of : (width method : ℕ) (part : List ℕ)
-    → least (λ k. row_cost width k (row_of part)) (parameters method) ≡ least (λ k. part_cost width k part) (parameters method)
+least-row : (width method : ℕ) (row : Row) (part : List ℕ) → IsRow 0 31 row part
+    → least (λ k. row_cost width k row) (parameters method) ≡ least (λ k. part_cost width k part) (parameters method)
 unfolding parameters
-least-row_of width method part =
-    least-same_on (λ k. row_cost width k (row_of part)) (λ k. part_cost width k part) (range_with_len 0 (count_of method))
-    (range_below (λ k. row_cost width k (row_of part) ≡ part_cost width k part) 0 (count_of method)
-    (λ k h. row_cost-of width k part (omega (arith, h, count_within method))))
+least-row width method row part is =
+    least-same_on (λ k. row_cost width k row) (λ k. part_cost width k part) (range_with_len 0 (count_of method))
+    (range_below (λ k. row_cost width k row ≡ part_cost width k part) 0 (count_of method)
+    (λ k h. row_cost-of 0 31 width k row part is (omega arith) (omega (arith, h, count_within method))))
 
-pub row_best-of : (method : ℕ) (part : List ℕ) → row_best method (row_of part) ≡ best_k method part
+pub row_best-is : (method : ℕ) (row : Row) (part : List ℕ) → IsRow 0 31 row part → row_best method row ≡ best_k method part
 unfolding row_best best_k
-row_best-of method part = ap (λ o. unwrap_or o 0) (least-row_of (4 + method) method part)
+row_best-is method row part is = ap (λ o. unwrap_or o 0) (least-row (4 + method) method row part is)
 
-pub best_k_below : (method : ℕ) (part : List ℕ) → best_k method part < 31
+pub best_k_within : (method : ℕ) (part : List ℕ) → best_k method part < count_of method
 unfolding parameters
-best_k_below method part =
-    let P : ℕ → Type 0 = λ k. k < 31 in
+best_k_within method part =
+    let P : ℕ → Type 0 = λ k. k < count_of method in
     let held = least_holds P (λ k. part_cost (4 + method) k part) (range_with_len 0 (count_of method))
-    (range_below P 0 (count_of method) (λ k h. omega (arith, h, count_within method))) in
+    (range_below P 0 (count_of method) (λ k h. omega (arith, h))) in
     subst (λ o. IfSome o P) (best_k_is method part) held
-
-pub row_best_cost-of : (method : ℕ) (part : List ℕ) → row_best_cost method (row_of part) ≡ best_cost method part
-row_best_cost-of method part =
-    ap (λ k. row_cost (4 + method) k (row_of part)) (row_best-of method part) ∙ row_cost-of (4 + method) (best_k method part) part (best_k_below method part)
 
 -- ---- two partitions as one
 
@@ -67,26 +58,40 @@ pair_parts [] = []
 pair_parts (a ∷ []) = []
 pair_parts (a ∷ b ∷ parts) = (a ++ b) ∷ pair_parts parts
 
-sums_with-of : (p q : List ℕ) → sums_with (sums_of p) (sums_of q) ≡ sums_of (p ++ q)
+get_or-sums_with : (a b : List ℕ) (k : ℕ) → k < 31 → get_or (sums_with a b) k 0 ≡ get_or a k 0 + get_or b k 0
 unfolding sums_with
-sums_with-of p q =
-    let f : ℕ → ℕ = λ k. get_or (sums_of p) k 0 + get_or (sums_of q) k 0 in
-    sym (fill_by_all f (sums_of (p ++ q)) 31 0 (length-sums_of (p ++ q))
-    (λ k h. get_or-sums_of (p ++ q) k h ∙ sum_by-append (λ u. u / 2 ^ k) p q
-    ∙ omega (arith, get_or-sums_of p k h, get_or-sums_of q k h)))
+get_or-sums_with a b k h = get_or-map-range_with_len (λ k. get_or a k 0 + get_or b k 0) 0 31 k k 0 h (omega arith)
 
--- records of two fields
-pub row_eq : (m n : ℕ) (a b : List ℕ) → m ≡ n → a ≡ b → ◌≡◌ {A = Row} (record { len = m; sums = a }) (record { len = n; sums = b })
-row_eq m n a b p q = ap (λ k. record { len = k; sums = a }) p ∙ ap (λ l. record { len = n; sums = l }) q
+length-sums_with : (a b : List ℕ) → length (sums_with a b) ≡ 31
+unfolding sums_with
+length-sums_with a b = refl
 
-pub row_with-of : (p q : List ℕ) → row_with (row_of p) (row_of q) ≡ row_of (p ++ q)
-row_with-of p q = row_eq _ _ _ _ (sym (length-append p q)) (sums_with-of p q)
+pub row_with-is : (low high : ℕ) (a b : Row) (p q : List ℕ) → high ≤ 31 → IsRow low high a p → IsRow low high b q → IsRow low high (row_with a b) (p ++ q)
+row_with-is low high a b p q last x y = record {
+  len = omega (arith, x.len, y.len, length-append p q);
+  count = length-sums_with a.sums b.sums;
+  sums = λ k l h. get_or-sums_with a.sums b.sums k (omega (arith, h, last)) ∙ omega (arith, x.sums k l h, y.sums k l h, sum_by-append (λ u. u / 2 ^ k) p q);
+  small = λ k. elim (cases_lt k 31) [
+    | inl l ↦ omega (arith, get_or-sums_with a.sums b.sums k l, x.small k, y.small k, length-append p q)
+    | inr g ↦ omega (arith, get_or_past (sums_with a.sums b.sums) k 0 (omega (arith, g, length-sums_with a.sums b.sums)))
+  ];
+}
 
-pub pair_rows-map : (parts : List (List ℕ)) → pair_rows (map row_of parts) ≡ map row_of (pair_parts parts)
+pub pair_rows-are : (low high : ℕ) (rows : List Row) (parts : List (List ℕ)) → high ≤ 31 → AreRows low high rows parts → AreRows low high (pair_rows rows) (pair_parts parts)
 unfolding pair_rows
-pair_rows-map [] = refl
-pair_rows-map (a ∷ []) = refl
-pair_rows-map (a ∷ b ∷ parts) = ap (λ r. r ∷ pair_rows (map row_of parts)) (row_with-of a b) ∙ ap (λ l. row_of (a ++ b) ∷ l) (pair_rows-map parts)
+pair_rows-are low high [] [] last h = tt
+pair_rows-are low high [] (p ∷ parts) last h = absurd h
+pair_rows-are low high (a ∷ rows) [] last h = absurd h
+pair_rows-are low high (a ∷ []) (p ∷ []) last h = tt
+pair_rows-are low high (a ∷ []) (p ∷ q ∷ parts) last h = absurd h.1
+pair_rows-are low high (a ∷ b ∷ rows) (p ∷ []) last h = absurd h.1
+pair_rows-are low high (a ∷ b ∷ rows) (p ∷ q ∷ parts) last h = (row_with-is low high a b p q last h.0 h.1.0, pair_rows-are low high rows parts last h.1.1)
+
+pub rows_length : (low high : ℕ) (rows : List Row) (parts : List (List ℕ)) → AreRows low high rows parts → length rows ≡ length parts
+rows_length low high [] [] h = refl
+rows_length low high [] (p ∷ parts) h = absurd h
+rows_length low high (a ∷ rows) [] h = absurd h
+rows_length low high (a ∷ rows) (p ∷ parts) h = ap suc (rows_length low high rows parts h.1)
 
 pair_pieces : (count size : ℕ) (us : List ℕ) → pair_parts (pieces (2 * count) size us) ≡ pieces count (2 * size) us
 unfolding pieces
@@ -138,33 +143,77 @@ pair_parts-parts_of order partition_order us whole longer =
 Small : List ℕ → Type 0
 Small part = (length part ≤ 2 ^ 16) × All (λ u. u < 2 ^ 32) part
 
-quotients_small : (k : ℕ) (part : List ℕ) → All (λ u. u < 2 ^ 32) part → quotients k part ≤ length part * 2 ^ 32
+pub quotients_small : (k : ℕ) (part : List ℕ) → All (λ u. u < 2 ^ 32) part → quotients k part ≤ length part * 2 ^ 32
 quotients_small k part h =
     sum_by-le (λ u. u / 2 ^ k) (2 ^ 32) part (All-weaker (λ u. u < 2 ^ 32) (λ u. u / 2 ^ k ≤ 2 ^ 32) (λ u l. omega (arith, l, shr_le u k)) part h)
-
-sums_small : (part : List ℕ) → Small part → (k : ℕ) → get_or (sums_of part) k 0 ≤ 2 ^ 48
-unfolding Small
-sums_small part h k = elim (cases_lt k 31) [
-  | inl l ↦ omega (arith, get_or-sums_of part k l, quotients_small k part h.1, h.0)
-  | inr g ↦ omega (arith, get_or_past (sums_of part) k 0 (omega (arith, g, length-sums_of part)))
-]
 
 quotient_falls : (i j u : ℕ) → i ≤ j → u / 2 ^ j ≤ u / 2 ^ i
 quotient_falls i j u h =
     let e : i + (j - i) ≡ j = omega arith in
     omega (arith, shr-shr u i (j - i), ap (λ k. u / 2 ^ k) e, shr_le (u / 2 ^ i) (j - i))
 
-sums_zeros : (part : List ℕ) (i j : ℕ) → i ≤ j → get_or (sums_of part) i 0 ≡ 0 → get_or (sums_of part) j 0 ≡ 0
-sums_zeros part i j h z = elim (cases_lt j 31) [
-  | inl l ↦
-      let falls : quotients j part ≤ quotients i part = sum_by-le-sum_by (λ u. u / 2 ^ j) (λ u. u / 2 ^ i) part (λ u. quotient_falls i j u h) in
-      omega (arith, get_or-sums_of part j l, get_or-sums_of part i (omega (arith, l, h)), z, falls)
-  | inr g ↦ get_or_past (sums_of part) j 0 (omega (arith, g, length-sums_of part))
+pub quotients_fall : (i j : ℕ) (part : List ℕ) → i ≤ j → quotients j part ≤ quotients i part
+quotients_fall i j part h = sum_by-le-sum_by (λ u. u / 2 ^ j) (λ u. u / 2 ^ i) part (λ u. quotient_falls i j u h)
+
+pub row_zeros : (row : Row) (part : List ℕ) → IsRow 0 31 row part → EndsInZeros row
+row_zeros row part is i j h z = elim (cases_lt j 31) [
+  | inl l ↦ omega (arith, is.sums j (omega arith) l, is.sums i (omega arith) (omega (arith, l, h)), z, quotients_fall i j part h)
+  | inr g ↦ get_or_past row.sums j 0 (omega (arith, g, is.count))
 ]
 
-row_fits : (part : List ℕ) → Small part → RowFits (row_of part)
-unfolding Small
-row_fits part h = record { len = h.0; sums = sums_small part h; zeros = sums_zeros part }
+-- ---- a row that is filled
+
+pub filled_start : (low : ℕ) (row : Row) (part : List ℕ) → row ≡ record { len = length part; sums = replicate 31 0 } → IsRow low low row part
+filled_start low row part e = subst (λ r. IsRow low low r part) (sym e) (record {
+  len = refl;
+  count = refl;
+  sums = λ k l h. absurd (omega (arith, l, h));
+  small = λ k. omega (arith, zeros_zero 31 k);
+})
+
+pub started_zeros : (row : Row) (len : ℕ) → row ≡ record { len = len; sums = replicate 31 0 } → (j : ℕ) → get_or row.sums j 0 ≡ 0
+started_zeros row len e j = ap (λ (r : Row). get_or r.sums j 0) e ∙ zeros_zero 31 j
+
+pub filled_more : (low k value : ℕ) (row new : Row) (part : List ℕ) → k < 31 → All (λ u. u < 2 ^ 32) part → value ≡ quotients k part
+    → new ≡ record { len = row.len; sums = set row.sums k value } → IsRow low k row part → IsRow low (k + 1) new part
+filled_more low k value row new part h few v e is = subst (λ r. IsRow low (k + 1) r part) (sym e) (record {
+  len = is.len;
+  count = length-set row.sums k value ∙ is.count;
+  sums = λ j l g. elim (cases_lt j k) [
+    | inl lt ↦
+        let ne : j ≢ k = omega (arith, lt) in
+        get_or-set_other row.sums k j value 0 ne ∙ is.sums j l lt
+    | inr ge ↦
+        let same : j ≡ k = omega (arith, ge, g) in
+        get_or-set_at row.sums k j value 0 same (omega (arith, h, is.count)) ∙ v ∙ ap (λ i. quotients i part) (sym same)
+  ];
+  small = λ j. elim (cases_eq j k) [
+    | inl same ↦ omega (arith, get_or-set_at row.sums k j value 0 same (omega (arith, h, is.count)), v, quotients_small k part few)
+    | inr ne ↦ omega (arith, get_or-set_other row.sums k j value 0 ne, is.small j)
+  ];
+})
+
+pub filled_zeros : (k value : ℕ) (row new : Row) → new ≡ record { len = row.len; sums = set row.sums k value } → ((j : ℕ) → k ≤ j → get_or row.sums j 0 ≡ 0)
+    → (j : ℕ) → k + 1 ≤ j → get_or new.sums j 0 ≡ 0
+filled_zeros k value row new e h j l =
+    let ne : j ≢ k = omega (arith, l) in
+    ap (λ (r : Row). get_or r.sums j 0) e ∙ get_or-set_other row.sums k j value 0 ne ∙ h j (omega (arith, l))
+
+-- the other sums are 0
+pub filled_all : (low k high : ℕ) (row : Row) (part : List ℕ) → ((j : ℕ) → k ≤ j → quotients j part ≡ 0) → ((j : ℕ) → k ≤ j → get_or row.sums j 0 ≡ 0)
+    → IsRow low k row part → IsRow low high row part
+filled_all low k high row part none zeros is = record {
+  len = is.len;
+  count = is.count;
+  sums = λ j l h. elim (cases_lt j k) [
+    | inl lt ↦ is.sums j l lt
+    | inr ge ↦ zeros j ge ∙ sym (none j ge)
+  ];
+  small = is.small;
+}
+
+pub row_fits : (low high : ℕ) (row : Row) (part : List ℕ) → length part ≤ 2 ^ 16 → IsRow low high row part → RowFits row
+row_fits low high row part l is = record { len = omega (arith, is.len, l); sums = λ k. omega (arith, is.small k, l) }
 
 small_take : (n : ℕ) (us : List ℕ) → Small us → Small (take n us)
 unfolding Small
@@ -185,12 +234,18 @@ small_parts order partition_order us h =
     let size : ℕ = (length us + order) / 2 ^ partition_order in
     (small_take (size - order) us h, small_pieces (2 ^ partition_order - 1) size (drop (size - order) us) (small_drop (size - order) us h))
 
-pub rows_fit : (order partition_order : ℕ) (us : List ℕ) → length us ≤ 2 ^ 16 → All (λ u. u < 2 ^ 32) us → All RowFits (map row_of (parts_of order partition_order us))
+all_fit : (low high : ℕ) (rows : List Row) (parts : List (List ℕ)) → AllByRecursion Small parts → AreRows low high rows parts → AllByRecursion RowFits rows
 unfolding Small
-rows_fit order partition_order us l h =
-    All-map RowFits row_of (parts_of order partition_order us)
-    (All-weaker Small (λ part. RowFits (row_of part)) row_fits (parts_of order partition_order us)
-    (All-from_recursion Small (parts_of order partition_order us) (small_parts order partition_order us (l, h))))
+all_fit low high [] [] s h = tt
+all_fit low high [] (p ∷ parts) s h = absurd h
+all_fit low high (a ∷ rows) [] s h = absurd h
+all_fit low high (a ∷ rows) (p ∷ parts) s h = (row_fits low high a p s.0.0 h.0, all_fit low high rows parts s.1 h.1)
+
+pub rows_fit : (low high order partition_order : ℕ) (us : List ℕ) (rows : List Row) → length us ≤ 2 ^ 16 → All (λ u. u < 2 ^ 32) us
+    → AreRows low high rows (parts_of order partition_order us) → All RowFits rows
+unfolding Small
+rows_fit low high order partition_order us rows l h are =
+    All-from_recursion RowFits rows (all_fit low high rows (parts_of order partition_order us) (small_parts order partition_order us (l, h)) are)
 
 -- ---- the loops
 
@@ -204,30 +259,55 @@ rest_len len order s m p e h l = omega (arith, h, l, ap (λ q. s * q) e)
 pub step_len : (left m s r a : ℕ) → left ≡ m + 1 → r ≡ left * s → a + s ≡ r → a ≡ m * s
 step_len left m s r a e h l = omega (arith, h, l, ap (λ q. q * s) e)
 
-pub rows_start : (order partition_order : ℕ) (us first rest : List ℕ) (rows : List Row)
-    → first ≡ take ((length us + order) / 2 ^ partition_order - order) us → rest ≡ drop ((length us + order) / 2 ^ partition_order - order) us → rows ≡ row_of first ∷ []
-    → rows ++ map row_of (pieces (2 ^ partition_order - 1) ((length us + order) / 2 ^ partition_order) rest) ≡ map row_of (parts_of order partition_order us)
+-- the parts in front of the rest, of which something holds
+pub record Front (P : List (List ℕ) → Type 0) (left size : ℕ) (rest : List ℕ) (all : List (List ℕ)) : Type 0 where
+  pub done : List (List ℕ)
+  pub holds : P done
+  pub whole : done ++ pieces left size rest ≡ all
+
+pub front_start : (P : List (List ℕ) → Type 0) (order partition_order : ℕ) (us first rest : List ℕ)
+    → first ≡ take ((length us + order) / 2 ^ partition_order - order) us → rest ≡ drop ((length us + order) / 2 ^ partition_order - order) us → P (first ∷ [])
+    → Front P (2 ^ partition_order - 1) ((length us + order) / 2 ^ partition_order) rest (parts_of order partition_order us)
 unfolding parts_of
-rows_start order partition_order us first rest rows f r e =
+front_start P order partition_order us first rest f r holds =
     let size : ℕ = (length us + order) / 2 ^ partition_order in
-    ap (λ l. l ++ map row_of (pieces (2 ^ partition_order - 1) size rest)) e
-    ∙ ap (λ l. row_of l ∷ map row_of (pieces (2 ^ partition_order - 1) size rest)) f
-    ∙ ap (λ l. row_of (take (size - order) us) ∷ map row_of (pieces (2 ^ partition_order - 1) size l)) r
+    record {
+      done = first ∷ [];
+      holds = holds;
+      whole = ap (λ l. l ∷ pieces (2 ^ partition_order - 1) size rest) f ∙ ap (λ l. take (size - order) us ∷ pieces (2 ^ partition_order - 1) size l) r;
+    }
 
-pub rows_step : (size left m : ℕ) (rest part after : List ℕ) (rows more all : List Row) → left ≡ suc m → part ≡ take size rest → after ≡ drop size rest → more ≡ rows ++ (row_of part ∷ [])
-    → rows ++ map row_of (pieces left size rest) ≡ all → more ++ map row_of (pieces m size after) ≡ all
-rows_step size left m rest part after rows more all e p a g h =
-    ap (λ l. l ++ map row_of (pieces m size after)) g
-    ∙ append_assoc rows (row_of part ∷ []) (map row_of (pieces m size after))
-    ∙ ap (λ l. rows ++ (row_of l ∷ map row_of (pieces m size after))) p
-    ∙ ap (λ l. rows ++ (row_of (take size rest) ∷ map row_of (pieces m size l))) a
-    ∙ ap (λ l. rows ++ map row_of l) (sym (ap (λ n. pieces n size rest) e ∙ pieces-suc m size rest))
-    ∙ h
+pub front_step : (P Q : List (List ℕ) → Type 0) (size left m : ℕ) (rest part after : List ℕ) (all : List (List ℕ)) → left ≡ suc m → part ≡ take size rest → after ≡ drop size rest
+    → ((done : List (List ℕ)) → P done → Q (done ++ (part ∷ []))) → Front P left size rest all → Front Q m size after all
+front_step P Q size left m rest part after all e p a next h = record {
+  done = h.done ++ (part ∷ []);
+  holds = next h.done h.holds;
+  whole = ap (λ l. (h.done ++ (part ∷ [])) ++ pieces m size l) a
+      ∙ append_assoc h.done (part ∷ []) (pieces m size (drop size rest))
+      ∙ ap (λ l. h.done ++ (l ∷ pieces m size (drop size rest))) p
+      ∙ ap (λ l. h.done ++ l) (sym (ap (λ n. pieces n size rest) e ∙ pieces-suc m size rest))
+      ∙ h.whole;
+}
 
-pub rows_end : (size left : ℕ) (rest : List ℕ) (rows all : List Row) → left ≡ 0 → rows ++ map row_of (pieces left size rest) ≡ all → rows ≡ all
+pub front_end : (P : List (List ℕ) → Type 0) (size left : ℕ) (rest : List ℕ) (all : List (List ℕ)) → left ≡ 0 → Front P left size rest all → P all
 unfolding pieces
-rows_end size left rest rows all e h =
-    sym (append-nil rows) ∙ ap (λ n. rows ++ map row_of (pieces n size rest)) (sym e) ∙ h
+front_end P size left rest all e h =
+    subst P (sym (append-nil h.done) ∙ ap (λ n. h.done ++ pieces n size rest) (sym e) ∙ h.whole) h.holds
+
+pub one_row : (low high : ℕ) (rows : List Row) (row : Row) (part : List ℕ) → rows ≡ row ∷ [] → IsRow low high row part → AreRows low high rows (part ∷ [])
+one_row low high rows row part e is = subst (λ l. AreRows low high l (part ∷ [])) (sym e) (is, tt)
+
+rows_more : (low high : ℕ) (rows : List Row) (row : Row) (parts : List (List ℕ)) (part : List ℕ) → AreRows low high rows parts → IsRow low high row part
+    → AreRows low high (rows ++ (row ∷ [])) (parts ++ (part ∷ []))
+rows_more low high [] row [] part h is = (is, tt)
+rows_more low high [] row (p ∷ parts) part h is = absurd h
+rows_more low high (a ∷ rows) row [] part h is = absurd h
+rows_more low high (a ∷ rows) row (p ∷ parts) part h is = (h.0, rows_more low high rows row parts part h.1 is)
+
+pub one_more_row : (low high : ℕ) (rows more : List Row) (row : Row) (part : List ℕ) → more ≡ rows ++ (row ∷ []) → IsRow low high row part
+    → (parts : List (List ℕ)) → AreRows low high rows parts → AreRows low high more (parts ++ (part ∷ []))
+one_more_row low high rows more row part e is parts h =
+    subst (λ l. AreRows low high l (parts ++ (part ∷ []))) (sym e) (rows_more low high rows row parts part h is)
 
 pub set_end : (rows : List Row) (a b : Row) → set (rows ++ (a ∷ [])) (length rows) b ≡ rows ++ (b ∷ [])
 set_end [] a b = refl
@@ -270,46 +350,3 @@ halve_end xs ys i half e l h =
     ∙ sym (append-nil (take i xs))
     ∙ ap (λ l. take i xs ++ l) (sym (ap pair_rows (drop_all (2 * i) xs l) ∙ pair_rows-nil))
     ∙ h
-
-pub row_fits_of : (part : List ℕ) → length part ≤ 2 ^ 16 → All (λ u. u < 2 ^ 32) part → RowFits (row_of part)
-unfolding Small
-row_fits_of part l h = row_fits part (l, h)
-
--- ---- the least cost alone
-
-pub least_with : (f : ℕ → ℕ) (k cost other new : ℕ) → IsLeastCost f k cost → other ≡ f k → new ≡ min cost other → IsLeastCost f (k + 1) new
-least_with f k cost other new h e m = elim (cases_lt other cost) [
-  | inl lt ↦ (k, best_takes f k h.0 h.1 (omega (arith, lt, e, h.2)), omega (arith, m, lt, e))
-  | inr ge ↦ (h.0, best_keeps f k h.0 h.1 (omega (arith, ge, e, h.2)), omega (arith, m, ge, h.2))
-]
-
-shift_least : (width : ℕ) (row : Row) (count cost : ℕ) → IsLeastCost (λ k. row_cost 0 k row) count cost → IsLeastCost (λ k. row_cost width k row) count (width + cost)
-shift_least width row count cost h =
-    let f : ℕ → ℕ = λ k. row_cost 0 k row in
-    let wider : (k : ℕ) → row_cost width k row ≡ width + f k = λ k. omega arith in
-    (h.0, least-same (λ k. row_cost width k row) (λ k. width + f k) (range_with_len 0 count) wider ∙ least-shift width f (range_with_len 0 count) ∙ h.1, omega (arith, h.2, wider h.0))
-
-pub row_least : (method : ℕ) (row : Row) (cost : ℕ) → IsLeastCost (λ k. row_cost 0 k row) (count_of method) cost → 4 + method + cost ≡ row_best_cost method row
-row_least method row cost h =
-    let g = shift_least (4 + method) row (count_of method) cost h in
-    g.2 ∙ ap (λ k. row_cost (4 + method) k row) (sym (row_best_is method row g.0 g.1))
-
-at_in_range : (P : ℕ → Type 0) (a n k : ℕ) → AllByRecursion P (range_with_len a n) → a ≤ k → k < a + n → P k
-at_in_range P a zero k h g l = absurd (omega arith)
-at_in_range P a (suc n) k h g l = elim (cases_lt a k) [
-  | inl lt ↦ at_in_range P (a + 1) n k h.1 (omega arith) (omega arith)
-  | inr ge ↦ let e : a ≡ k = omega arith in subst P e h.0
-]
-
--- a parameter of method 1 alone is no better, where the quotients under the last of method 0 are as few as the values
-pub row_least_more : (row : Row) (cost : ℕ) → IsLeastCost (λ k. row_cost 0 k row) 15 cost → get_or row.sums 14 0 ≤ row.len → IsLeastCost (λ k. row_cost 0 k row) 31 cost
-row_least_more row cost h few =
-    let f : ℕ → ℕ = λ k. row_cost 0 k row in
-    let b : ℕ = h.0 in
-    let lowest : AllByRecursion (λ z. f b ≤ f z) (range_with_len 0 15) = subst (λ o. IfSome o (λ a. AllByRecursion (λ z. f a ≤ f z) (range_with_len 0 15))) h.1 (least_is_lowest f (range_with_len 0 15)) in
-    let last : f b ≤ f 14 = at_in_range (λ z. f b ≤ f z) 0 15 14 lowest (omega arith) (omega arith) in
-    let above : (j : ℕ) → 15 ≤ j → f b ≤ f j = λ j g.
-    let le : 16 ≤ j + 1 = omega (arith, g) in
-    let more : row.len * 16 ≤ row.len * (j + 1) = mul-le-mul_left row.len le in
-    omega (arith, last, few, more) in
-    (b, best_stays f 15 b 16 h.1 above, h.2)

@@ -1,9 +1,9 @@
-use Rattle.std.proofs.Common.{◌≡◌, ℕ, ◌+◌, ◌*◌, ◌/◌, ◌^◌, ◌<◌, ◌≤◌, List, [], ◌∷◌, length, map, take, get_or, replicate, inl, inr, refl, sym, ap, ◌∙◌, arith}
+use Rattle.std.proofs.Common.{◌≡◌, ℕ, ◌+◌, ◌*◌, ◌/◌, ◌^◌, ◌<◌, ◌≤◌, List, [], ◌∷◌, length, map, get_or, replicate, inl, inr, refl, sym, ap, ◌∙◌, arith}
 use Rattle.std.specs.List.{All, sum_by}
 use lib.Lanes.{sum_l}
 use Rattle.std.proofs.Math.Path.{fun_ext}
 use Rattle.std.proofs.lemmas.Bool.{cases_lt}
-use Rattle.std.proofs.lemmas.List.{get_or-replicate, get_or_past, length-replicate, length-map, take_all, map-id}
+use Rattle.std.proofs.lemmas.List.{get_or-replicate, get_or_past, length-replicate, length-map}
 use Rattle.std.proofs.lemmas.List.Elements.{All-weaker}
 use Rattle.std.proofs.lemmas.List.Sums.{sum_by-le, sum_by-cons}
 use Rattle.std.proofs.lemmas.Nat.{pow_pos, div_below, shr_split, shr_le, shr-shr, mod_below}
@@ -40,11 +40,6 @@ quotients_zero part most k j h z l =
 sum_l-map : (f : ℕ → ℕ) (us : List ℕ) → sum_l (map f us) ≡ sum_by f us
 sum_l-map f [] = refl
 sum_l-map f (u ∷ us) = ap (λ n. f u + n) (sum_l-map f us) ∙ sym (sum_by-cons f u us)
-
-pub sixteen_start : (us : List ℕ) → length us ≡ 16 → take 16 us ≡ map (λ u. u / 2 ^ 0) us
-sixteen_start us h =
-    let whole : (u : ℕ) → u ≡ u / 2 ^ 0 = λ u. omega arith in
-    take_all 16 us (omega (arith, h)) ∙ sym (map-id us) ∙ ap (λ f. map f us) (fun_ext whole)
 
 pub halves_next : (k : ℕ) (us : List ℕ) → map (λ u. u / 2) (map (λ u. u / 2 ^ k) us) ≡ map (λ u. u / 2 ^ (k + 1)) us
 halves_next k us =

@@ -1,4 +1,5 @@
 pub mod Least
 pub mod Rice
 pub mod Row
+pub mod Spans
 pub mod Spells

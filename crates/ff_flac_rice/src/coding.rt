@@ -6,6 +6,7 @@ ghost use Rattle.ff_flac_rice.specs.Least.{least};
 ghost use Rattle.ff_flac_rice.specs.Rice.{is_allowed, orders, residual_bits, codings, best_at};
 
 use crate::level::{halve, level_costs, rows_of};
+use crate::span::span_of;
 use std::alloc::{AllocError, Global};
 
 /// A way to code a residual, and its bits.
@@ -77,9 +78,10 @@ pub fn best_coding(alloc: Global, us: &[u32], order: usize) -> Result<Found, All
     ensures small { IfOk result (λ f. f.cost ≤ 2 ^ 58) }
 {
     let finest = finest_order(us.len() + order, order);
-    let mut rows = rows_of(alloc, us, order, finest)?;
+    let span = span_of(us, order, finest);
+    let mut rows = rows_of(alloc, us, order, finest, span)?;
     let mut partition_order = finest;
-    let (with_first, with_second) = level_costs(&rows);
+    let (with_first, with_second) = level_costs(&rows, span);
     let mut first = Choice {
         partition_order,
         cost: with_first,
@@ -91,7 +93,7 @@ pub fn best_coding(alloc: Global, us: &[u32], order: usize) -> Result<Found, All
     while partition_order > 0 {
         partition_order -= 1;
         halve(&mut rows);
-        let (with_first, with_second) = level_costs(&rows);
+        let (with_first, with_second) = level_costs(&rows, span);
         first = lower(first, partition_order, with_first);
         second = lower(second, partition_order, with_second);
     }

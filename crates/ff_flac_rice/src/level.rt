@@ -1,21 +1,24 @@
 //! The rows of all partitions of one partition order.
 
-ghost use Rattle.std.specs.Prelude.{◌≡◌, ◌+◌, ◌-◌, ◌*◌, ◌/◌, ◌%◌, ◌^◌, ◌<◌, ◌≤◌, ℕ, List, [], ◌∷◌, ◌++◌, length, map, IfOk, OnOk, All, vec_len};
+ghost use Rattle.std.specs.Prelude.{◌≡◌, ◌+◌, ◌-◌, ◌*◌, ◌/◌, ◌%◌, ◌^◌, ◌<◌, ◌≤◌, ℕ, List, [], ◌∷◌, ◌++◌, min, length, IfOk, OnOk, All, vec_len};
 ghost use Rattle.std.specs.List.{sum_by};
-ghost use Rattle.ff_flac_rice.specs.Rice.{parts_of, best_cost};
-ghost use Rattle.ff_flac_rice.specs.Row.{row_of, pair_rows, RowFits, row_best_cost};
+ghost use Rattle.ff_flac_rice.specs.Rice.{parts_of};
+ghost use Rattle.ff_flac_rice.specs.Row.{IsRow, AreRows, pair_rows, RowFits, lowest_bits};
+ghost use Rattle.ff_flac_rice.specs.Spans.{IsSpan};
 
 use crate::row::Row;
+use crate::span::Span;
 use std::alloc::{AllocError, Global};
 
 /// Adds the row of a partition, which is made in its place.
-fn push_row(rows: &mut Vec<Row>, part: &[u32]) -> Result<(), AllocError>
-    requires { length part.now ≤ 2 ^ 16 }
-    ensures { OnOk result (rows.new.items ≡ rows.old.items ++ row_of part.now ∷ []) }
+fn push_row(rows: &mut Vec<Row>, part: &[u32], span: Span) -> Result<(), AllocError>
+    requires len { length part.now ≤ 2 ^ 16 }
+    requires span { IsSpan span.low span.high }
+    ensures { OnOk result ((row : _) × (rows.new.items ≡ rows.old.items ++ row ∷ []) × IsRow span.low span.high row part.now) }
 {
     let place = rows.len();
     rows.push(Row::begun(part.len()))?;
-    rows[place].fill(part);
+    rows[place].fill(part, span);
     Ok(())
 }
 
@@ -25,22 +28,24 @@ pub fn rows_of(
     us: &[u32],
     order: usize,
     partition_order: u32,
+    span: Span,
 ) -> Result<Vec<Row>, AllocError>
     requires len { length us.now ≤ 2 ^ 15 }
     requires order { order ≤ 4 }
     requires partition_order { partition_order ≤ 8 }
     requires whole { (length us.now + order) % 2 ^ partition_order ≡ 0 }
     requires longer { order < (length us.now + order) / 2 ^ partition_order }
-    ensures { IfOk result (λ rows. rows.items ≡ map row_of (parts_of order partition_order us.now)) }
+    requires span { IsSpan span.low span.high }
+    ensures { IfOk result (λ rows. AreRows span.low span.high rows.items (parts_of order partition_order us.now)) }
 {
     let size = (us.len() + order) >> partition_order;
     let (first, mut rest) = us.split_at(size - order);
     let mut rows = Vec::with_capacity(alloc, 1usize << partition_order)?;
-    push_row(&mut rows, first)?;
+    push_row(&mut rows, first, span)?;
     let mut left = (1usize << partition_order) - 1;
     while left > 0 {
         let (part, after) = rest.split_at(size);
-        push_row(&mut rows, part)?;
+        push_row(&mut rows, part, span)?;
         rest = after;
         left -= 1;
     }
@@ -61,19 +66,20 @@ pub fn halve(rows: &mut Vec<Row>)
     rows.truncate(half);
 }
 
-/// The least bits of all partitions with each method.
-pub fn level_costs(rows: &[Row]) -> (u64, u64)
+/// The least bits of all partitions with each method, under the parameters of a span.
+pub fn level_costs(rows: &[Row], span: Span) -> (u64, u64)
     requires fits { All RowFits rows.now }
     requires few { length rows.now ≤ 256 }
-    ensures first { result.0 ≡ sum_by (row_best_cost 0) rows.now }
-    ensures second { result.1 ≡ sum_by (row_best_cost 1) rows.now }
+    requires span { IsSpan span.low span.high }
+    ensures first { result.0 ≡ sum_by (lowest_bits 0 span.low (min span.high 15)) rows.now }
+    ensures second { result.1 ≡ sum_by (lowest_bits 1 span.low span.high) rows.now }
     ensures first_small { result.0 ≤ 2 ^ 57 }
     ensures second_small { result.1 ≤ 2 ^ 57 }
 {
     let mut first = 0u64;
     let mut second = 0u64;
     for row in rows {
-        let (with_first, with_second) = row.least_costs();
+        let (with_first, with_second) = row.least_costs(span);
         first += with_first;
         second += with_second;
     }

@@ -8,6 +8,7 @@ mod coding;
 mod laws;
 mod level;
 mod row;
+mod span;
 mod write;
 
 pub use coding::{Found, best_coding};

@@ -1,14 +1,15 @@
 //! Sums over a partition, under each parameter.
 
-ghost use Rattle.std.specs.Prelude.{◌≡◌, ◌+◌, ◌*◌, ◌/◌, ◌^◌, ◌<◌, ◌≤◌, length, map, Some, ℕ, All, replicate};
+ghost use Rattle.std.specs.Prelude.{◌≡◌, ◌+◌, ◌-◌, ◌*◌, ◌/◌, ◌^◌, ◌<◌, ◌≤◌, min, length, map, Some, ℕ, All, replicate};
 ghost use lib.Lanes.{sum_l};
 ghost use Rattle.std.specs.List.{range_with_len};
 ghost use Rattle.ff_flac_rice.specs.Least.{least};
 ghost use Rattle.ff_flac_rice.specs.Rice.{quotients, count_of};
 
+use crate::span::Span;
 use std::simd::prelude::*;
 
-/// How many values a partition has, and their quotients' sum under each parameter.
+/// How many values a partition has, and their quotients' sums under the parameters of a span.
 #[derive(Clone, Copy)]
 pub struct Row {
     pub len: u64,
@@ -34,6 +35,15 @@ fn sum_of(lanes: u32x16) -> u32
     lanes.strict_reduce_sum()
 }
 
+/// The quotients of 16 values under one parameter.
+fn lanes_at(part: &[u32], k: usize) -> u32x16
+    requires len { length part.now ≡ 16 }
+    requires k { k < 32 }
+    ensures { result ≡ map (λ u. u / 2 ^ k) part.now }
+{
+    u32x16::from_slice(part) >> u32x16::splat(k as u32)
+}
+
 /// Half of each of 16 values.
 fn halves_of(lanes: u32x16) -> u32x16
     requires { length lanes ≡ 16 }
@@ -57,7 +67,7 @@ fn narrow_quotients(part: &[u32], k: u32, most: u32) -> u32
 }
 
 /// The sum of the quotients under one parameter.
-fn wide_quotients(part: &[u32], k: u32) -> u64
+pub(crate) fn wide_quotients(part: &[u32], k: u32) -> u64
     requires len { length part.now ≤ 2 ^ 16 }
     requires k { k < 32 }
     ensures { result ≡ quotients k part.now }
@@ -90,7 +100,8 @@ fn parameter_count(method: usize) -> usize
 }
 
 impl Row {
-    ghost use Rattle.ff_flac_rice.specs.Row.{row_of, row_with, row_cost, row_best, row_best_cost, RowFits, IsLeastCost};
+    ghost use Rattle.ff_flac_rice.specs.Row.{IsRow, EndsInZeros, lowest, lowest_bits, row_with, row_cost, row_best, row_best_cost, RowFits};
+    ghost use Rattle.ff_flac_rice.specs.Spans.{IsSpan};
 
     /// A row of so many values whose sums are still 0.
     pub fn begun(len: usize) -> Row
@@ -103,17 +114,18 @@ impl Row {
     }
 
     /// Makes of a begun row that of a partition.
-    pub fn fill(&mut self, part: &[u32])
+    pub fn fill(&mut self, part: &[u32], span: Span)
         requires len { length part.now ≤ 2 ^ 16 }
+        requires span { (span.low ≤ span.high) × (span.high ≤ 31) }
         requires begun { self.old ≡ record { len = length part.now; sums = replicate 31 0 } }
-        ensures { self.new ≡ row_of part.now }
+        ensures { IsRow span.low span.high self.new part.now }
     {
         let most = greatest(part);
         if part.len() == 16 && most < 0x1000_0000 {
-            self.fill_of_16(part, most);
+            self.fill_of_16(part, most, span);
             return;
         }
-        for k in 0..31 {
+        for k in span.low..span.high {
             if most >> k as u32 == 0 {
                 return;
             }
@@ -122,15 +134,16 @@ impl Row {
     }
 
     /// `fill` for 16 values whose sum fits 32 bits.
-    fn fill_of_16(&mut self, part: &[u32], most: u32)
+    fn fill_of_16(&mut self, part: &[u32], most: u32, span: Span)
         requires len { length part.now ≡ 16 }
         requires most { All (λ u. u ≤ most) part.now }
         requires fits { 16 * most < 2 ^ 32 }
+        requires span { (span.low ≤ span.high) × (span.high ≤ 31) }
         requires begun { self.old ≡ record { len = length part.now; sums = replicate 31 0 } }
-        ensures { self.new ≡ row_of part.now }
+        ensures { IsRow span.low span.high self.new part.now }
     {
-        let mut lanes = u32x16::from_slice(part);
-        for k in 0..31 {
+        let mut lanes = lanes_at(part, span.low);
+        for k in span.low..span.high {
             if most >> k as u32 == 0 {
                 return;
             }
@@ -139,13 +152,13 @@ impl Row {
         }
     }
 
-    /// The row of a partition.
+    /// The row of a partition for every parameter.
     pub fn of(part: &[u32]) -> Row
         requires { length part.now ≤ 2 ^ 16 }
-        ensures { result ≡ row_of part.now }
+        ensures { IsRow 0 31 result part.now }
     {
         let mut row = Row::begun(part.len());
-        row.fill(part);
+        row.fill(part, Span { low: 0, high: 31 });
         row
     }
 
@@ -168,6 +181,7 @@ impl Row {
     /// The best parameter of a method, and the bits with it.
     pub fn best(&self, method: usize) -> (usize, u64)
         requires fits { RowFits self.now }
+        requires zeros { EndsInZeros self.now }
         requires method { method ≤ 1 }
         ensures k { result.0 ≡ row_best method self.now }
         ensures cost { result.1 ≡ row_best_cost method self.now }
@@ -177,34 +191,32 @@ impl Row {
         self.best_below(4 + method as u64, parameter_count(method))
     }
 
-    /// The bits with the best parameter of each method.
-    pub fn least_costs(&self) -> (u64, u64)
-        requires { RowFits self.now }
-        ensures first { result.0 ≡ row_best_cost 0 self.now }
-        ensures second { result.1 ≡ row_best_cost 1 self.now }
+    /// The bits with the best parameter of a span for each method.
+    pub fn least_costs(&self, span: Span) -> (u64, u64)
+        requires fits { RowFits self.now }
+        requires span { IsSpan span.low span.high }
+        ensures first { result.0 ≡ lowest_bits 0 span.low (min span.high 15) self.now }
+        ensures second { result.1 ≡ lowest_bits 1 span.low span.high self.now }
         ensures first_small { result.0 ≤ 2 ^ 49 }
         ensures second_small { result.1 ≤ 2 ^ 49 }
     {
-        let below_15 = self.lower_cost(self.len + self.sums[0], 1, 15);
-        if self.sums[14] <= self.len {
-            // A higher parameter costs as much by its low bits alone.
-            return (4 + below_15, 5 + below_15);
+        let first = self.lowest_cost(span.low, span.high.min(15));
+        if span.high <= 15 {
+            return (4 + first, 5 + first);
         }
-        (4 + below_15, 5 + self.lower_cost(below_15, 15, 31))
+        (4 + first, 5 + self.lowest_cost(span.low, span.high))
     }
 
-    /// The least bits of the values with a parameter below `count`, by those with one below `from`.
-    fn lower_cost(&self, cost: u64, from: usize, count: usize) -> u64
+    /// The least bits of the values with a parameter from `low` on and below `high`.
+    fn lowest_cost(&self, low: usize, high: usize) -> u64
         requires fits { RowFits self.now }
-        requires within { from ≤ count }
-        requires few { count ≤ 31 }
-        requires least { IsLeastCost (λ k. row_cost 0 k self.now) from cost }
-        requires small { cost ≤ 2 ^ 48 + 2 ^ 16 }
-        ensures least { IsLeastCost (λ k. row_cost 0 k self.now) count result }
-        ensures small { result ≤ 2 ^ 48 + 2 ^ 16 }
+        requires some { low < high }
+        requires few { high ≤ 31 }
+        ensures lowest { result ≡ lowest (λ k. row_cost 0 k self.now) low (high - 1 - low) }
+        ensures small { result ≤ 2 ^ 48 + 2 ^ 21 }
     {
-        let mut least = cost;
-        for k in from..count {
+        let mut least = self.len * (low as u64 + 1) + self.sums[low];
+        for k in low + 1..high {
             least = least.min(self.len * (k as u64 + 1) + self.sums[k]);
         }
         least
@@ -213,6 +225,7 @@ impl Row {
     /// The best of the parameters below `count`, and its bits.
     fn best_below(&self, width: u64, count: usize) -> (usize, u64)
         requires fits { RowFits self.now }
+        requires zeros { EndsInZeros self.now }
         requires width { width ≤ 5 }
         requires some { 0 < count }
         requires within { count ≤ 31 }

@@ -1,6 +1,8 @@
-use Rattle.std.proofs.Common.{◌≡◌, ◌-◌, ◌+◌, ◌≤◌, ◌^◌, suc, true, map, length}
+use Rattle.std.proofs.Common.{◌≡◌, ◌-◌, ◌+◌, ◌≤◌, ◌^◌, suc, true, length}
+use Rattle.std.specs.List.{AllByRecursion}
 use Rattle.ff_flac_rice.specs.Rice.{is_allowed, parts_of}
-use Rattle.ff_flac_rice.specs.Row.{row_of}
+use Rattle.ff_flac_rice.specs.Row.{AreRows}
+use Rattle.ff_flac_rice.specs.Spans.{Spans}
 use Rattle.ff_flac_rice.proofs.Levels.{IsBest}
 use Rattle.ff_flac_rice.proofs.coding.best_coding.Given as goal
 
@@ -11,7 +13,8 @@ invariant-loop-partition_order l = record {
   fine : l.finest ≤ 8;
   within : l.partition_order ≤ l.finest;
   allowed : is_allowed (length l.us + l.order) l.order l.partition_order ≡ true;
-  rows : l.rows.items ≡ map row_of (parts_of l.order l.partition_order l.us);
+  rows : AreRows l.span.low l.span.high l.rows.items (parts_of l.order l.partition_order l.us);
+  spans : AllByRecursion (Spans l.span.low l.span.high) (parts_of l.order l.partition_order l.us);
   first : IsBest l.order l.us 0 l.partition_order (suc (l.finest - l.partition_order)) l.first;
   second : IsBest l.order l.us 1 l.partition_order (suc (l.finest - l.partition_order)) l.second;
 }

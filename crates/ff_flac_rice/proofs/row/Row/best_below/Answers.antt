@@ -31,7 +31,7 @@ returns-then-self-k-eq0-clause-k c =
     let e : k + (c.args.count - k) ≡ c.args.count = omega arith in
     let z : get_or c.args.self.now.sums (k - 1) 0 ≡ 0 = c.if-self-k-eq0.true in
     let above : (j : ℕ) → k ≤ j → f c.loop-k.best ≤ f j = λ j h.
-    let zj : get_or c.args.self.now.sums j 0 ≡ 0 = c.requires.fits.zeros (k - 1) j (omega (arith, h)) z in
+    let zj : get_or c.args.self.now.sums j 0 ≡ 0 = c.requires.zeros (k - 1) j (omega (arith, h)) z in
     let le : k - 1 + 1 ≤ j + 1 = omega (arith, h) in
     let more : c.args.self.now.len * (k - 1 + 1) ≤ c.args.self.now.len * (j + 1) = mul-le-mul_left c.args.self.now.len le in
     omega (arith, c.loop-k.invariant.cost, c.loop-k.invariant.last, z, zj, more) in

@@ -1,12 +1,10 @@
 use Rattle.std.proofs.Common.{◌≡◌, ℕ, ◌/◌, ◌^◌, ◌<◌, ◌≤◌, get_or, length, map}
-use Rattle.ff_flac_rice.specs.Rice.{quotients}
+use Rattle.ff_flac_rice.specs.Row.{IsRow}
 use Rattle.ff_flac_rice.proofs.row.Row.fill_of_16.Given as goal
 
 abbrev pub invariant-loop-k : goal.invariant-loop-k
 invariant-loop-k l = record {
-  values : l.self.len ≡ length l.part;
-  len : length l.self.sums ≡ 31;
-  filled : (j : ℕ) → j < l.k → get_or l.self.sums j 0 ≡ quotients j l.part;
+  row : IsRow l.fn.span.low l.k l.self l.part;
   rest : (j : ℕ) → l.k ≤ j → get_or l.self.sums j 0 ≡ 0;
   lanes : l.lanes ≡ map (λ u. u / 2 ^ l.k) l.part;
 }

@@ -1,0 +1,260 @@
+use Rattle.std.proofs.Common.{◌≡◌, ℕ, zero, suc, ◌+◌, ◌-◌, ◌*◌, ◌/◌, ◌%◌, ◌^◌, ◌<◌, ◌≤◌, min, List, [], ◌∷◌, ◌++◌, length, get_or, Some, refl, sym, ap, ◌∙◌, subst, arith, inl, inr, ◌⊎◌}
+use Rattle.std.specs.Option.{IfSome}
+use Rattle.std.specs.List.{range_with_len, AllByRecursion, sum_by}
+use Rattle.std.proofs.lemmas.Bool.{cases_lt}
+use Rattle.std.proofs.lemmas.List.{length-append}
+use Rattle.std.proofs.lemmas.List.Sums.{sum_by-cons, sum_by-append}
+use Rattle.std.proofs.lemmas.Nat.{pow_pos, shr_split, shr-shr, mod_below}
+use Rattle.std.proofs.Math.Nat.{mul-le-mul_left, pow-le-pow_right}
+use Rattle.ff_flac_rice.specs.declared.row.Row.{Row}
+use Rattle.ff_flac_rice.specs.Rice.{quotients, part_cost, parameters, count_of, best_k, best_cost}
+use Rattle.ff_flac_rice.specs.Row.{IsRow, AreRows, row_cost, lowest, lowest_bits}
+use Rattle.ff_flac_rice.specs.Spans.{IsLowEnd, IsHighEnd, Spans, IsSpan}
+use Rattle.ff_flac_rice.proofs.LeastLemmas.{least_is_lowest}
+use Rattle.ff_flac_rice.proofs.Costs.{best_k_is}
+use Rattle.ff_flac_rice.proofs.RowLemmas.{row_cost-of, best_k_within, pair_parts}
+
+-- ---- what a value's quotient loses from one parameter to the next
+
+half_bounds : (k u : ℕ) → (2 * (u / 2 ^ (k + 1)) ≤ u / 2 ^ k) × (u / 2 ^ k ≤ 2 * (u / 2 ^ (k + 1)) + 1)
+half_bounds k u =
+    let e : u / 2 ^ k / 2 ≡ u / 2 ^ (k + 1) = shr-shr u k 1 in
+    (omega (arith, e), omega (arith, e))
+
+each_up : (k u : ℕ) → 2 * (2 ^ k * (u / 2 ^ k)) ≤ 2 * (2 ^ k * (u / 2 ^ (k + 1))) + (u + 2 ^ k)
+each_up k u =
+    let P : ℕ = 2 ^ k in
+    let q : ℕ = u / 2 ^ k in
+    let h : ℕ = u / 2 ^ (k + 1) in
+    let more : P * q ≤ P * (2 * h + 1) = mul-le-mul_left P (half_bounds k u).1 in
+    let split : q * P + u % P ≡ u = shr_split u k in
+    omega (arith, more, split)
+
+each_down : (k u : ℕ) → 2 * (2 ^ k * (u / 2 ^ (k + 1))) + u ≤ 2 * (2 ^ k * (u / 2 ^ k)) + 2 ^ k
+each_down k u =
+    let P : ℕ = 2 ^ k in
+    let q : ℕ = u / 2 ^ k in
+    let h : ℕ = u / 2 ^ (k + 1) in
+    let less : P * (2 * h) ≤ P * q = mul-le-mul_left P (half_bounds k u).0 in
+    let split : q * P + u % P ≡ u = shr_split u k in
+    let low : u % P < P = mod_below u P (pow_pos k) in
+    omega (arith, less, split, low)
+
+all_up : (k : ℕ) (us : List ℕ) → 2 * (2 ^ k * quotients k us) ≤ 2 * (2 ^ k * quotients (k + 1) us) + (quotients 0 us + length us * 2 ^ k)
+all_up k [] = omega arith
+all_up k (u ∷ us) =
+    let whole : u / 2 ^ 0 ≡ u = omega arith in
+    let a : 2 ^ k * quotients k (u ∷ us) ≡ 2 ^ k * (u / 2 ^ k) + 2 ^ k * quotients k us = ap (λ n. 2 ^ k * n) (sum_by-cons (λ u. u / 2 ^ k) u us) ∙ omega arith in
+    let b : 2 ^ k * quotients (k + 1) (u ∷ us) ≡ 2 ^ k * (u / 2 ^ (k + 1)) + 2 ^ k * quotients (k + 1) us = ap (λ n. 2 ^ k * n) (sum_by-cons (λ u. u / 2 ^ (k + 1)) u us) ∙ omega arith in
+    let s : quotients 0 (u ∷ us) ≡ u / 2 ^ 0 + quotients 0 us = sum_by-cons (λ u. u / 2 ^ 0) u us in
+    omega (arith, a, b, s, whole, each_up k u, all_up k us)
+
+all_down : (k : ℕ) (us : List ℕ) → 2 * (2 ^ k * quotients (k + 1) us) + quotients 0 us ≤ 2 * (2 ^ k * quotients k us) + length us * 2 ^ k
+all_down k [] = omega arith
+all_down k (u ∷ us) =
+    let whole : u / 2 ^ 0 ≡ u = omega arith in
+    let a : 2 ^ k * quotients k (u ∷ us) ≡ 2 ^ k * (u / 2 ^ k) + 2 ^ k * quotients k us = ap (λ n. 2 ^ k * n) (sum_by-cons (λ u. u / 2 ^ k) u us) ∙ omega arith in
+    let b : 2 ^ k * quotients (k + 1) (u ∷ us) ≡ 2 ^ k * (u / 2 ^ (k + 1)) + 2 ^ k * quotients (k + 1) us = ap (λ n. 2 ^ k * n) (sum_by-cons (λ u. u / 2 ^ (k + 1)) u us) ∙ omega arith in
+    let s : quotients 0 (u ∷ us) ≡ u / 2 ^ 0 + quotients 0 us = sum_by-cons (λ u. u / 2 ^ 0) u us in
+    omega (arith, a, b, s, whole, each_down k u, all_down k us)
+
+-- a factor is taken away
+le_of : (k a b : ℕ) → 2 ^ k * a ≤ 2 ^ k * b → a ≤ b
+le_of k a b h = elim (cases_lt b a) [
+  | inl lt ↦
+      let more : 2 ^ k * (b + 1) ≤ 2 ^ k * a = mul-le-mul_left (2 ^ k) (omega (arith, lt)) in
+      absurd (omega (arith, more, h, pow_pos k))
+  | inr ge ↦ ge
+]
+
+-- few values: the next parameter costs no less
+step_up : (k : ℕ) (us : List ℕ) → quotients 0 us ≤ length us * 2 ^ k → part_cost 0 k us ≤ part_cost 0 (k + 1) us
+step_up k us h =
+    let both : 2 ^ k * quotients k us ≤ 2 ^ k * (quotients (k + 1) us + length us) = omega (arith, all_up k us, h) in
+    let less : quotients k us ≤ quotients (k + 1) us + length us = le_of k (quotients k us) (quotients (k + 1) us + length us) both in
+    omega (arith, less)
+
+-- many: it costs no more
+step_down : (k : ℕ) (us : List ℕ) → 3 * (length us * 2 ^ k) ≤ quotients 0 us → part_cost 0 (k + 1) us ≤ part_cost 0 k us
+step_down k us h =
+    let both : 2 ^ k * (quotients (k + 1) us + length us) ≤ 2 ^ k * quotients k us = omega (arith, all_down k us, h) in
+    let less : quotients (k + 1) us + length us ≤ quotients k us = le_of k (quotients (k + 1) us + length us) (quotients k us) both in
+    omega (arith, less)
+
+falls_to : (f : ℕ → ℕ) (low n j : ℕ) → ((k : ℕ) → k < low → f (k + 1) ≤ f k) → j + n ≡ low → f low ≤ f j
+falls_to f low zero j h e =
+    let is : j ≡ low = omega (arith, e) in
+    omega (arith, ap f is)
+falls_to f low (suc n) j h e = omega (arith, falls_to f low n (j + 1) h (omega (arith, e)), h j (omega (arith, e)))
+
+rises_from : (f : ℕ → ℕ) (from n : ℕ) → ((k : ℕ) → from ≤ k → k + 1 < 31 → f k ≤ f (k + 1)) → from + n < 31 → f from ≤ f (from + n)
+rises_from f from zero h l =
+    let is : from ≡ from + 0 = omega arith in
+    omega (arith, ap f is)
+rises_from f from (suc n) h l =
+    let is : from + n + 1 ≡ from + suc n = omega arith in
+    omega (arith, rises_from f from n h (omega (arith, l)), h (from + n) (omega arith) (omega (arith, l)), ap f is)
+
+-- ---- the lowest of some numbers
+
+pub record IsLowest (f : ℕ → ℕ) (low more cost : ℕ) : Type 0 where
+  pub at : ℕ
+  pub from : low ≤ at
+  pub within : at ≤ low + more
+  pub is : cost ≡ f at
+  pub below : (j : ℕ) → low ≤ j → j ≤ low + more → cost ≤ f j
+
+pub lowest-is : (f : ℕ → ℕ) (low more : ℕ) → IsLowest f low more (lowest f low more)
+unfolding lowest
+lowest-is f low zero = record {
+  at = low;
+  from = omega arith;
+  within = omega arith;
+  is = refl;
+  below = λ j a b. let e : low ≡ j = omega (arith, a, b) in omega (arith, ap f e);
+}
+lowest-is f low (suc more) =
+    let old = lowest-is f low more in
+    let new : ℕ = f (low + suc more) in
+    let others : (j : ℕ) → low ≤ j → j ≤ low + suc more → min (lowest f low more) new ≤ f j = λ j a b. elim (cases_lt j (low + suc more)) [
+      | inl lt ↦ omega (arith, old.below j a (omega (arith, lt)))
+      | inr ge ↦ let e : low + suc more ≡ j = omega (arith, ge, b) in omega (arith, ap f e)
+    ] in
+    elim (cases_lt (lowest f low more) new) [
+      | inl lt ↦ record { at = old.at; from = old.from; within = omega (arith, old.within); is = omega (arith, lt, old.is); below = others }
+      | inr ge ↦ record { at = low + suc more; from = omega arith; within = omega arith; is = omega (arith, ge); below = others }
+    ]
+
+pub lowest-one : (f : ℕ → ℕ) (low : ℕ) → lowest f low 0 ≡ f low
+unfolding lowest
+lowest-one f low = refl
+
+lowest-more : (f : ℕ → ℕ) (low more : ℕ) → lowest f low (suc more) ≡ min (lowest f low more) (f (low + suc more))
+unfolding lowest
+lowest-more f low more = refl
+
+-- one more number behind those so far
+pub lowest_next : (f : ℕ → ℕ) (low k least other new : ℕ) → low < k → least ≡ lowest f low (k - 1 - low) → other ≡ f k → new ≡ min least other → new ≡ lowest f low (k + 1 - 1 - low)
+lowest_next f low k least other new l h e m =
+    let a : k + 1 - 1 - low ≡ suc (k - 1 - low) = omega (arith, l) in
+    let b : low + suc (k - 1 - low) ≡ k = omega (arith, l) in
+    omega (arith, m, h, e, ap (lowest f low) a, lowest-more f low (k - 1 - low), ap f b)
+
+-- ---- the best parameter of a partition is as good as one of its span
+
+at_all : (P : ℕ → Type 0) (a n k : ℕ) → AllByRecursion P (range_with_len a n) → a ≤ k → k < a + n → P k
+at_all P a zero k h g l = absurd (omega (arith, g, l))
+at_all P a (suc n) k h g l = elim (cases_lt a k) [
+  | inl lt ↦ at_all P (a + 1) n k h.1 (omega (arith, lt)) (omega (arith, l))
+  | inr ge ↦ let e : a ≡ k = omega (arith, ge, g) in subst P e h.0
+]
+
+best_below_all : (method : ℕ) (part : List ℕ) (j : ℕ) → j < count_of method → part_cost 0 (best_k method part) part ≤ part_cost 0 j part
+unfolding parameters
+best_below_all method part j h =
+    let f : ℕ → ℕ = λ k. part_cost (4 + method) k part in
+    let b : ℕ = best_k method part in
+    let all : AllByRecursion (λ z. f b ≤ f z) (range_with_len 0 (count_of method)) =
+    subst (λ o. IfSome o (λ a. AllByRecursion (λ z. f a ≤ f z) (range_with_len 0 (count_of method)))) (best_k_is method part) (least_is_lowest f (range_with_len 0 (count_of method))) in
+    let here : f b ≤ f j = at_all (λ z. f b ≤ f z) 0 (count_of method) j all (omega arith) (omega (arith, h)) in
+    omega (arith, here)
+
+spanned : (method low high top : ℕ) (row : Row) (part : List ℕ) → IsRow low high row part → Spans low high part → low < top → top ≤ high → top ≤ count_of method
+    → high ≤ 31 → (top < count_of method → top ≡ high) → count_of method ≤ 31 → lowest_bits method low top row ≡ best_cost method part
+spanned method low high top row part is spans some_left within fits last full few =
+    let f : ℕ → ℕ = λ k. part_cost 0 k part in
+    let g : ℕ → ℕ = λ k. row_cost 0 k row in
+    let same : (k : ℕ) → low ≤ k → k < high → g k ≡ f k = λ k a b. row_cost-of low high 0 k row part is a b in
+    let found = lowest-is g low (top - 1 - low) in
+    let b : ℕ = best_k method part in
+    let bound : b < count_of method = best_k_within method part in
+    let up : f b ≤ f found.at = best_below_all method part found.at (omega (arith, found.within, fits, some_left)) in
+    let here : g found.at ≡ f found.at = same found.at found.from (omega (arith, found.within, within, some_left)) in
+    let at_low : lowest g low (top - 1 - low) ≤ f low = omega (arith, found.below low (omega arith) (omega arith), same low (omega arith) (omega (arith, some_left, within))) in
+    let at_top : lowest g low (top - 1 - low) ≤ f (top - 1) = omega (arith, found.below (top - 1) (omega (arith, some_left)) (omega (arith, some_left)), same (top - 1) (omega (arith, some_left)) (omega (arith, some_left, within))) in
+    let down : lowest g low (top - 1 - low) ≤ f b = elim (cases_lt b low) [
+      | inl lt ↦ omega (arith, at_low, falls_to f low (low - b) b (λ k h. step_down k part (spans.below k h)) (omega (arith, lt)))
+      | inr ge ↦ elim (cases_lt b top) [
+        | inl inside ↦ omega (arith, found.below b ge (omega (arith, inside, ge)), same b ge (omega (arith, inside, within)))
+        | inr above ↦
+            let e : top ≡ high = full (omega (arith, above, bound)) in
+            let from : ℕ = top - 1 in
+            let reach : from + (b - from) ≡ b = omega (arith, above) in
+            let rise : f from ≤ f (from + (b - from)) = rises_from f from (b - from) (λ k h l. step_up k part (spans.above k (omega (arith, h, e, some_left)) l)) (omega (arith, reach, bound, few)) in
+            omega (arith, at_top, rise, ap f reach)
+      ]
+    ] in
+    omega (arith, up, here, found.is, down)
+
+sum_same : (method low high top : ℕ) (rows : List Row) (parts : List (List ℕ)) → AreRows low high rows parts → AllByRecursion (Spans low high) parts → low < top → top ≤ high → top ≤ count_of method
+    → high ≤ 31 → (top < count_of method → top ≡ high) → count_of method ≤ 31 → sum_by (lowest_bits method low top) rows ≡ sum_by (best_cost method) parts
+sum_same method low high top [] [] h s a b c d e f = refl
+sum_same method low high top [] (p ∷ parts) h s a b c d e f = absurd h
+sum_same method low high top (r ∷ rows) [] h s a b c d e f = absurd h
+sum_same method low high top (r ∷ rows) (p ∷ parts) h s a b c d e f =
+    let one : lowest_bits method low top r ≡ best_cost method p = spanned method low high top r p h.0 s.0 a b c d e f in
+    let rest : sum_by (lowest_bits method low top) rows ≡ sum_by (best_cost method) parts = sum_same method low high top rows parts h.1 s.1 a b c d e f in
+    sum_by-cons (lowest_bits method low top) r rows ∙ ap (λ n. n + sum_by (lowest_bits method low top) rows) one ∙ ap (λ n. best_cost method p + n) rest ∙ sym (sum_by-cons (best_cost method) p parts)
+
+pub first_level : (low high cost : ℕ) (rows : List Row) (parts : List (List ℕ)) → IsSpan low high → AreRows low high rows parts → AllByRecursion (Spans low high) parts
+    → cost ≡ sum_by (lowest_bits 0 low (min high 15)) rows → cost ≡ sum_by (best_cost 0) parts
+first_level low high cost rows parts span h s e =
+    e ∙ sum_same 0 low high (min high 15) rows parts h s (omega (arith, span.first, span.some_parameter)) (omega arith) (omega arith) span.last (λ l. omega (arith, l)) (omega arith)
+
+pub second_level : (low high cost : ℕ) (rows : List Row) (parts : List (List ℕ)) → IsSpan low high → AreRows low high rows parts → AllByRecursion (Spans low high) parts
+    → cost ≡ sum_by (lowest_bits 1 low high) rows → cost ≡ sum_by (best_cost 1) parts
+second_level low high cost rows parts span h s e =
+    e ∙ sum_same 1 low high high rows parts h s span.some_parameter (omega arith) span.last span.last (λ l. refl) (omega arith)
+
+-- ---- ends that serve
+
+pub low_reached : (low len total : ℕ) → 0 < low → 3 * (len * 2 ^ (low - 1)) ≤ total → IsLowEnd low len total
+low_reached low len total some_left h = λ k l.
+    let p : 2 ^ k ≤ 2 ^ (low - 1) = pow-le-pow_right (omega arith) (omega (arith, l)) in
+    let m : len * 2 ^ k ≤ len * 2 ^ (low - 1) = mul-le-mul_left len p in
+    omega (arith, m, h)
+
+pub low_none : (low len total : ℕ) → low ≡ 0 → IsLowEnd low len total
+low_none low len total e = λ k l. absurd (omega (arith, l, e))
+
+pub high_reached : (high len total : ℕ) → 0 < high → total ≤ len * 2 ^ (high - 1) → IsHighEnd high len total
+high_reached high len total some_left h = λ k l last.
+    let p : 2 ^ (high - 1) ≤ 2 ^ k = pow-le-pow_right (omega arith) (omega (arith, l)) in
+    let m : len * 2 ^ (high - 1) ≤ len * 2 ^ k = mul-le-mul_left len p in
+    omega (arith, m, h)
+
+pub high_all : (high len total : ℕ) → 31 ≤ high → IsHighEnd high len total
+high_all high len total e = λ k l last. absurd (omega (arith, l, last, e))
+
+-- a wider span serves as well
+wider_one : (low high new_low new_high : ℕ) (part : List ℕ) → new_low ≤ low → high ≤ new_high → Spans low high part → Spans new_low new_high part
+wider_one low high new_low new_high part a b s = record {
+  below = λ k l. s.below k (omega (arith, l, a));
+  above = λ k l last. s.above k (omega (arith, l, b)) last;
+}
+
+pub wider : (low high new_low new_high : ℕ) (parts : List (List ℕ)) → new_low ≤ low → high ≤ new_high → AllByRecursion (Spans low high) parts → AllByRecursion (Spans new_low new_high) parts
+wider low high new_low new_high [] a b h = tt
+wider low high new_low new_high (p ∷ parts) a b h = (wider_one low high new_low new_high p a b h.0, wider low high new_low new_high parts a b h.1)
+
+all_and : (P : List ℕ → Type 0) (xs : List (List ℕ)) (x : List ℕ) → AllByRecursion P xs → P x → AllByRecursion P (xs ++ (x ∷ []))
+all_and P [] x h p = (p, tt)
+all_and P (y ∷ xs) x h p = (h.0, all_and P xs x h.1 p)
+
+pub spans_more : (low high new_low new_high : ℕ) (part : List ℕ) → new_low ≤ low → high ≤ new_high → Spans new_low new_high part
+    → (parts : List (List ℕ)) → AllByRecursion (Spans low high) parts → AllByRecursion (Spans new_low new_high) (parts ++ (part ∷ []))
+spans_more low high new_low new_high part a b s parts h = all_and (Spans new_low new_high) parts part (wider low high new_low new_high parts a b h) s
+
+spans_both : (low high : ℕ) (p q : List ℕ) → Spans low high p → Spans low high q → Spans low high (p ++ q)
+spans_both low high p q a b =
+    let len : length (p ++ q) ≡ length p + length q = length-append p q in
+    let total : quotients 0 (p ++ q) ≡ quotients 0 p + quotients 0 q = sum_by-append (λ u. u / 2 ^ 0) p q in
+    record {
+      below = λ k l. omega (arith, a.below k l, b.below k l, total, ap (λ n. n * 2 ^ k) len);
+      above = λ k l last. omega (arith, a.above k l last, b.above k l last, total, ap (λ n. n * 2 ^ k) len);
+    }
+
+pub spans_pairs : (low high : ℕ) (parts : List (List ℕ)) → AllByRecursion (Spans low high) parts → AllByRecursion (Spans low high) (pair_parts parts)
+spans_pairs low high [] h = tt
+spans_pairs low high (p ∷ []) h = tt
+spans_pairs low high (p ∷ q ∷ parts) h = (spans_both low high p q h.0 h.1.0, spans_pairs low high parts h.1.1)

@@ -1,0 +1,97 @@
+//! The parameters among which the best one of each partition is.
+
+ghost use Rattle.std.specs.Prelude.{◌≡◌, ◌+◌, ◌-◌, ◌*◌, ◌/◌, ◌%◌, ◌^◌, ◌<◌, ◌≤◌, length};
+ghost use Rattle.std.specs.List.{AllByRecursion};
+ghost use Rattle.ff_flac_rice.specs.Rice.{parts_of, quotients};
+ghost use Rattle.ff_flac_rice.specs.Spans.{IsLowEnd, IsHighEnd, IsSpan, Spans};
+
+use crate::row::wide_quotients;
+
+/// Parameters from `low` on and below `high`.
+#[derive(Clone, Copy)]
+pub struct Span {
+    pub low: usize,
+    pub high: usize,
+}
+
+/// So many times a power of two.
+fn scaled(len: u64, k: usize) -> u64
+    requires len { len ≤ 2 ^ 16 }
+    requires k { k < 31 }
+    ensures is { result ≡ len * 2 ^ k }
+    ensures small { result ≤ 2 ^ 47 }
+{
+    len * (1u64 << k)
+}
+
+/// A low end for so many values with this sum, at most `low`.
+fn low_end(low: usize, len: u64, total: u64) -> usize
+    requires low { low ≤ 14 }
+    requires len { len ≤ 2 ^ 16 }
+    ensures within { result ≤ low }
+    ensures is { IsLowEnd result len total }
+{
+    let mut low = low;
+    while low > 0 && total < 3 * scaled(len, low - 1) {
+        low -= 1;
+    }
+    low
+}
+
+/// A high end for so many values with this sum, at least `high`.
+fn high_end(high: usize, len: u64, total: u64) -> usize
+    requires high { (1 ≤ high) × (high ≤ 31) }
+    requires len { len ≤ 2 ^ 16 }
+    ensures within { high ≤ result }
+    ensures last { result ≤ 31 }
+    ensures is { IsHighEnd result len total }
+{
+    let mut high = high;
+    while high < 31 && scaled(len, high - 1) < total {
+        high += 1;
+    }
+    high
+}
+
+/// As wide as before or wider, so that it serves one more partition.
+fn widened(span: Span, part: &[u32]) -> Span
+    requires low { span.low ≤ 14 }
+    requires high { (1 ≤ span.high) × (span.high ≤ 31) }
+    requires len { length part.now ≤ 2 ^ 16 }
+    ensures low { result.low ≤ span.low }
+    ensures high { span.high ≤ result.high }
+    ensures last { result.high ≤ 31 }
+    ensures spans { Spans result.low result.high part.now }
+{
+    let total = wide_quotients(part, 0);
+    Span {
+        low: low_end(span.low, part.len() as u64, total),
+        high: high_end(span.high, part.len() as u64, total),
+    }
+}
+
+/// The parameters among which the best one of each partition is, for partitions of this order.
+pub fn span_of(us: &[u32], order: usize, partition_order: u32) -> Span
+    requires len { length us.now ≤ 2 ^ 15 }
+    requires order { order ≤ 4 }
+    requires partition_order { partition_order ≤ 8 }
+    requires whole { (length us.now + order) % 2 ^ partition_order ≡ 0 }
+    requires longer { order < (length us.now + order) / 2 ^ partition_order }
+    ensures span { IsSpan result.low result.high }
+    ensures spans { AllByRecursion (Spans result.low result.high) (parts_of order partition_order us.now) }
+{
+    let size = (us.len() + order) >> partition_order;
+    let (first, mut rest) = us.split_at(size - order);
+    let mut span = widened(Span { low: 14, high: 1 }, first);
+    let mut left = (1usize << partition_order) - 1;
+    while left > 0 {
+        let (part, after) = rest.split_at(size);
+        span = widened(span, part);
+        rest = after;
+        left -= 1;
+    }
+    Span {
+        low: span.low,
+        high: span.high.max(span.low + 1),
+    }
+}
