@@ -26,11 +26,11 @@ pub record IsBest (order : ℕ) (us : List ℕ) (method partition_order count : 
   pub allowed : is_allowed (length us + order) order choice.partition_order ≡ true
   pub within : choice.partition_order ≤ 8
 
-codings_by-cons : (partition_order : ℕ) (pos : List ℕ) (method : ℕ) → codings_by (partition_order ∷ pos) method ≡ codings_at method partition_order ++ codings_by pos method
+pub codings_by-cons : (partition_order : ℕ) (pos : List ℕ) (method : ℕ) → codings_by (partition_order ∷ pos) method ≡ codings_at method partition_order ++ codings_by pos method
 unfolding codings_by
 codings_by-cons partition_order pos method = refl
 
-codings_by-nil : (method : ℕ) → codings_by [] method ≡ []
+pub codings_by-nil : (method : ℕ) → codings_by [] method ≡ []
 unfolding codings_by
 codings_by-nil method = refl
 

@@ -5,6 +5,7 @@ pub mod RowLemmas
 pub mod SpanLemmas
 pub mod Orders
 pub mod Levels
+pub mod Floors
 pub mod Writing
 pub mod ReadsBack
 pub mod ReadsRice

@@ -29,7 +29,7 @@ allowed_down n order partition_order h =
     let e : q * 2 ^ suc partition_order ≡ n / 2 ^ partition_order * 2 ^ partition_order = omega (arith, ap (λ m. q * m) (pow-suc 2 partition_order), ap (λ m. m * 2 ^ partition_order) t) in
     allowed_from n order partition_order (omega (arith, split, split', e, p.0)) (omega (arith, t, p.1))
 
-allowed_below : (n order j partition_order : ℕ) → is_allowed n order (j + partition_order) ≡ true → is_allowed n order partition_order ≡ true
+pub allowed_below : (n order j partition_order : ℕ) → is_allowed n order (j + partition_order) ≡ true → is_allowed n order partition_order ≡ true
 allowed_below n order zero partition_order h = subst (λ k. is_allowed n order k ≡ true) (omega arith) h
 allowed_below n order (suc j) partition_order h =
     let e : suc j + partition_order ≡ suc (j + partition_order) = omega arith in

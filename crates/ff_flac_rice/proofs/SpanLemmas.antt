@@ -16,7 +16,7 @@ use Rattle.ff_flac_rice.proofs.RowLemmas.{row_cost-of, best_k_within, pair_parts
 
 -- ---- what a value's quotient loses from one parameter to the next
 
-half_bounds : (k u : ℕ) → (2 * (u / 2 ^ (k + 1)) ≤ u / 2 ^ k) × (u / 2 ^ k ≤ 2 * (u / 2 ^ (k + 1)) + 1)
+pub half_bounds : (k u : ℕ) → (2 * (u / 2 ^ (k + 1)) ≤ u / 2 ^ k) × (u / 2 ^ k ≤ 2 * (u / 2 ^ (k + 1)) + 1)
 half_bounds k u =
     let e : u / 2 ^ k / 2 ≡ u / 2 ^ (k + 1) = shr-shr u k 1 in
     (omega (arith, e), omega (arith, e))
@@ -81,13 +81,13 @@ step_down k us h =
     let less : quotients (k + 1) us + length us ≤ quotients k us = le_of k (quotients (k + 1) us + length us) (quotients k us) both in
     omega (arith, less)
 
-falls_to : (f : ℕ → ℕ) (low n j : ℕ) → ((k : ℕ) → k < low → f (k + 1) ≤ f k) → j + n ≡ low → f low ≤ f j
+pub falls_to : (f : ℕ → ℕ) (low n j : ℕ) → ((k : ℕ) → k < low → f (k + 1) ≤ f k) → j + n ≡ low → f low ≤ f j
 falls_to f low zero j h e =
     let is : j ≡ low = omega (arith, e) in
     omega (arith, ap f is)
 falls_to f low (suc n) j h e = omega (arith, falls_to f low n (j + 1) h (omega (arith, e)), h j (omega (arith, e)))
 
-rises_from : (f : ℕ → ℕ) (from n : ℕ) → ((k : ℕ) → from ≤ k → k + 1 < 31 → f k ≤ f (k + 1)) → from + n < 31 → f from ≤ f (from + n)
+pub rises_from : (f : ℕ → ℕ) (from n : ℕ) → ((k : ℕ) → from ≤ k → k + 1 < 31 → f k ≤ f (k + 1)) → from + n < 31 → f from ≤ f (from + n)
 rises_from f from zero h l =
     let is : from ≡ from + 0 = omega arith in
     omega (arith, ap f is)
@@ -142,7 +142,7 @@ lowest_next f low k least other new l h e m =
 
 -- ---- the best parameter of a partition is as good as one of its span
 
-at_all : (P : ℕ → Type 0) (a n k : ℕ) → AllByRecursion P (range_with_len a n) → a ≤ k → k < a + n → P k
+pub at_all : (P : ℕ → Type 0) (a n k : ℕ) → AllByRecursion P (range_with_len a n) → a ≤ k → k < a + n → P k
 at_all P a zero k h g l = absurd (omega (arith, g, l))
 at_all P a (suc n) k h g l = elim (cases_lt a k) [
   | inl lt ↦ at_all P (a + 1) n k h.1 (omega (arith, lt)) (omega (arith, l))

@@ -33,7 +33,7 @@ fn allows(n: usize, order: usize, partition_order: u32) -> bool
 }
 
 /// The greatest partition order of all that are allowed.
-fn finest_order(n: usize, order: usize) -> u32
+pub(crate) fn finest_order(n: usize, order: usize) -> u32
     requires { order < n }
     ensures within { result ≤ 8 }
     ensures allowed { is_allowed n order result ≡ true }

@@ -5,6 +5,7 @@
 #![tactic(auto)]
 
 mod coding;
+mod floor;
 mod laws;
 mod level;
 mod row;
@@ -12,5 +13,6 @@ mod span;
 mod write;
 
 pub use coding::{Found, best_coding};
+pub use floor::least_bits;
 pub use laws::{codings_are_read_back, least_is_the_first_of_the_lowest};
 pub use write::write_residual;

@@ -15,7 +15,7 @@ pub struct Span {
 }
 
 /// So many times a power of two.
-fn scaled(len: u64, k: usize) -> u64
+pub(crate) fn scaled(len: u64, k: usize) -> u64
     requires len { len ≤ 2 ^ 16 }
     requires k { k < 31 }
     ensures is { result ≡ len * 2 ^ k }

@@ -16,7 +16,7 @@ use Rattle.ff_values.specs.Audio.{FitsBits}
 use Rattle.ff_flac_sub.specs.Subframe.{Spelling, magnitude, steps, subframe_bits, sample_bits, rest_of, fixed_of, predictors, candidates, all_are, first_or_zero}
 use Rattle.ff_flac_sub.specs.Subframe.Spelling.{constant, fixed, verbatim}
 use Rattle.ff_flac_sub.specs.Plan.{spelling_of, size, IsBestPlan, PlanFits, constants}
-use Rattle.ff_flac_rice.proofs.LeastLemmas.{least-append, least-map, least-same, least-shift, least_one, least-nil, choose-map, range_more}
+use Rattle.ff_flac_rice.proofs.LeastLemmas.{choose_first, least-append, least-map, least-same, least-shift, least_holds, least_one, least-nil, choose-map, range_more}
 use Rattle.ff_flac_rice.proofs.Levels.{coding_cost}
 use Rattle.ff_flac_rice.proofs.Orders.{filter_all, filter_none, range_between, range_split}
 use Rattle.ff_flac_rice.proofs.RowLemmas.{range_below}
@@ -104,6 +104,46 @@ plan_next depth xs cs ds best new result h d c w r =
       fits = subst (λ o. IfSome o (λ p. PlanFits xs p.plan)) r (chosen_holds (λ p. PlanFits xs p.plan) best new h.fits w);
     }
 
+stays : (f : Spelling → ℕ) (a : Spelling) (o : Option Spelling) → IfSome o (λ b. f a ≤ f b) → choose f (Some a) o ≡ Some a
+stays f a None h = refl
+stays f a (Some b) h = choose_first f a b h
+
+-- none of the rest has fewer bits
+pub plan_stays : (depth : ℕ) (xs : List ℤ) (cs ds : List Spelling) (best : Option Planned) (p : Planned) → best ≡ Some p
+    → AllByRecursion (λ s. p.cost ≤ size depth xs s) ds → IsBestPlan depth xs cs best → IsBestPlan depth xs (cs ++ ds) best
+plan_stays depth xs cs ds best p e low h =
+    let g : Planned → Spelling = λ p. spelling_of xs p.plan in
+    let cost : p.cost ≡ size depth xs (g p) = subst (λ o. IfSome o (λ p. p.cost ≡ size depth xs (g p))) e h.cost in
+    let above : AllByRecursion (λ s. size depth xs (g p) ≤ size depth xs s) ds = subst (λ n. AllByRecursion (λ s. n ≤ size depth xs s) ds) cost low in
+    record {
+      chosen =
+          least-append (size depth xs) cs ds
+          ∙ ap (λ o. choose (size depth xs) o (least (size depth xs) ds)) (h.chosen ∙ ap (option_map g) e)
+          ∙ stays (size depth xs) (g p) (least (size depth xs) ds) (least_holds (λ s. size depth xs (g p) ≤ size depth xs s) (size depth xs) ds above)
+          ∙ sym (ap (option_map g) e);
+      cost = h.cost;
+      fits = h.fits;
+    }
+
+-- as the codings of an order cost, so do its spellings
+all_fixed : (depth order low : ℕ) (xs : List ℤ) (cs : List Coding) → order ≤ length xs
+    → AllByRecursion (λ c. low ≤ 8 + depth * order + coding_cost order (map zigzagged (rest_of order xs)) c) cs → AllByRecursion (λ s. low ≤ size depth xs s) (map (fixed order) cs)
+all_fixed depth order low xs [] h all = tt
+all_fixed depth order low xs (c ∷ cs) h all = (omega (arith, all.0, size-fixed depth order xs c h), all_fixed depth order low xs cs h all.1)
+
+pub passed_over : (depth order : ℕ) (xs : List ℤ) (us : List ℕ) (best : Option Planned) → order ≤ length xs → us ≡ map zigzagged (rest_of order xs)
+    → (p : Planned) × (best ≡ Some p) × AllByRecursion (λ c. p.cost ≤ 8 + depth * order + length (residual_bits order c us)) (codings (length us + order) order)
+    → (cs : List Spelling) → IsBestPlan depth xs cs best → IsBestPlan depth xs (cs ++ fixed_of (length xs) order) best
+unfolding fixed_of
+passed_over depth order xs us best h e found cs old =
+    let n : length us + order ≡ length xs = omega (arith, ap length e, length-map (rest_of order xs) zigzagged, length-rest_of order xs, h) in
+    let vs : List ℕ = map zigzagged (rest_of order xs) in
+    let low : ℕ = found.0.cost in
+    let all : AllByRecursion (λ c. low ≤ 8 + depth * order + coding_cost order vs c) (codings (length xs) order) =
+    subst (λ m. AllByRecursion (λ c. low ≤ 8 + depth * order + coding_cost order vs c) (codings m order)) n
+    (subst (λ l. AllByRecursion (λ c. low ≤ 8 + depth * order + coding_cost order l c) (codings (length us + order) order)) e found.2) in
+    plan_stays depth xs cs (map (fixed order) (codings (length xs) order)) best found.0 found.1 (all_fixed depth order low xs (codings (length xs) order) h all) old
+
 pub same_spellings : (depth : ℕ) (xs : List ℤ) (cs ds : List Spelling) (best : Option Planned) → cs ≡ ds → IsBestPlan depth xs cs best → IsBestPlan depth xs ds best
 same_spellings depth xs cs ds best e h = subst (λ l. IsBestPlan depth xs l best) e h
 
@@ -182,8 +222,8 @@ first_small depth xs h a =
 pub magnitudes : (xs : List ℤ) → All (FitsBits 25) xs → All (λ x. magnitude x < 2 ^ 24) xs
 magnitudes xs a = All-weaker (FitsBits 25) (λ x. magnitude x < 2 ^ 24) (magnitude_of 25) xs a
 
-pub length_us : (order : ℕ) (xs rest : List ℤ) (us vs : List ℕ) → rest ≡ rest_of order xs → us ≡ map zigzagged rest → vs ≡ us → length vs ≡ length xs - order
-length_us order xs rest us vs r u v = ap length v ∙ ap length u ∙ length-map rest zigzagged ∙ ap length r ∙ length-rest_of order xs
+pub count_us : (order : ℕ) (xs : List ℤ) (us : List ℕ) → us ≡ map zigzagged (rest_of order xs) → length us ≡ length xs - order
+count_us order xs us e = ap length e ∙ length-map (rest_of order xs) zigzagged ∙ length-rest_of order xs
 
 pub plan_last : (depth : ℕ) (xs : List ℤ) (order : ℕ) (best : Option Planned) (new result : Planned) → order ≡ min (length xs) 5
     → IsBestPlan depth xs (so_far xs order) best → new.plan ≡ Verbatim → new.cost ≡ 8 + depth * length xs

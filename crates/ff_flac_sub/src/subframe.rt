@@ -1,6 +1,9 @@
 //! The least spelling of a subframe.
 
-ghost use Rattle.std.specs.Prelude.{◌≡◌, ◌+◌, ◌-◌, ◌*◌, ◌^◌, ◌<◌, ◌≤◌, ◌++◌, length, IfOk, OnOk, All, Some, ℕ};
+ghost use Rattle.std.specs.Prelude.{◌≡◌, ◌+◌, ◌-◌, ◌*◌, ◌^◌, ◌<◌, ◌≤◌, ◌++◌, List, length, map, IfOk, OnOk, All, Some, true, ℕ};
+ghost use Rattle.std.specs.List.{AllByRecursion};
+ghost use Rattle.ff_flac_rice.specs.Rice.{zigzagged, residual_bits, codings};
+ghost use Rattle.ff_flac_sub.specs.declared.subframe.Planned.{Planned};
 ghost use Rattle.ff_flac_rice.specs.Least.{choose, least};
 ghost use Rattle.ff_values.specs.Audio.{FitsBits};
 ghost use Rattle.ff_flac_sub.specs.Subframe.{magnitude, rest_of, subframe_bits, candidates, fixed_of, Spelling};
@@ -8,7 +11,7 @@ ghost use Rattle.ff_flac_sub.specs.Plan.{spelling_of, size, IsBestPlan, PlanFits
 
 use crate::samples::{are_equal, put_sample, put_samples, take_steps, zigzags_of};
 use ff_bits::BitWriter;
-use ff_flac_rice::{best_coding, write_residual};
+use ff_flac_rice::{best_coding, least_bits, write_residual};
 use std::alloc::{AllocError, Global};
 
 /// A way to write a subframe: a fixed one by its order, method and partition order.
@@ -51,11 +54,11 @@ fn constant_plan(samples: &[i32], depth: u32) -> Option<Planned>
     })
 }
 
-/// The best plan of one order, by the residuals of that order.
+/// The best plan of one order, by the zigzag numbers of its residuals.
 fn fixed_plan(
     alloc: Global,
     samples: &[i32],
-    rest: &[i32],
+    us: &[u32],
     order: usize,
     depth: u32,
 ) -> Result<Planned, AllocError>
@@ -63,18 +66,57 @@ fn fixed_plan(
     requires order { order ≤ 4 }
     requires longer { order < length samples.now }
     requires depth { depth ≤ 25 }
-    requires is { rest.now ≡ rest_of order samples.now }
-    requires small { All (λ x. magnitude x < 2 ^ 30) rest.now }
+    requires is { us.now ≡ map zigzagged (rest_of order samples.now) }
     ensures least { IfOk result (λ p. least (size depth samples.now) (fixed_of (length samples.now) order) ≡ Some (spelling_of samples.now p.plan)) }
     ensures cost { IfOk result (λ p. p.cost ≡ size depth samples.now (spelling_of samples.now p.plan)) }
     ensures fits { IfOk result (λ p. PlanFits samples.now p.plan) }
 {
-    let us = zigzags_of(alloc, rest)?;
-    let found = best_coding(alloc, &us, order)?;
+    let found = best_coding(alloc, us, order)?;
     Ok(Planned {
         plan: Plan::Fixed(order, found.method, found.partition_order),
         cost: 8 + depth as u64 * order as u64 + found.cost,
     })
+}
+
+/// Whether no spelling of one order has fewer bits than the best one before it.
+fn is_passed_over(best: Option<Planned>, us: &[u32], order: usize, depth: u32) -> bool
+    requires len { length us.now ≤ 4096 }
+    requires some { 0 < length us.now }
+    requires order { order ≤ 4 }
+    requires depth { depth ≤ 25 }
+    ensures { result ≡ true → (p : Planned) × (best ≡ Some p)
+        × AllByRecursion (λ c. p.cost ≤ 8 + depth * order + length (residual_bits order c us.now)) (codings (length us.now + order) order) }
+{
+    match best {
+        None => false,
+        Some(found) => found.cost <= 8 + depth as u64 * order as u64 + least_bits(us, order),
+    }
+}
+
+/// The best plan of those so far and of one order, by the residuals of that order.
+fn with_order(
+    alloc: Global,
+    samples: &[i32],
+    rest: &[i32],
+    order: usize,
+    depth: u32,
+    best: Option<Planned>,
+) -> Result<Option<Planned>, AllocError>
+    requires len { length samples.now ≤ 4096 }
+    requires order { order ≤ 4 }
+    requires longer { order < length samples.now }
+    requires depth { depth ≤ 25 }
+    requires is { rest.now ≡ rest_of order samples.now }
+    requires small { All (λ x. magnitude x < 2 ^ 30) rest.now }
+    ensures { IfOk result (λ new. (spellings : List Spelling) → IsBestPlan depth samples.now spellings best
+        → IsBestPlan depth samples.now (spellings ++ fixed_of (length samples.now) order) new) }
+{
+    let us = zigzags_of(alloc, rest)?;
+    if is_passed_over(best, &us, order, depth) {
+        return Ok(best);
+    }
+    let new = fixed_plan(alloc, samples, &us, order, depth)?;
+    Ok(Some(lower(best, new)))
 }
 
 /// The plan of the least spelling.
@@ -92,8 +134,7 @@ pub fn plan_of(alloc: Global, samples: &[i32], depth: u32) -> Result<Planned, Al
     let mut rest = Vec::from_slice(alloc, samples)?;
     let orders = samples.len().min(5);
     for order in 0..orders {
-        let new = fixed_plan(alloc, samples, &rest, order, depth)?;
-        best = Some(lower(best, new));
+        best = with_order(alloc, samples, &rest, order, depth, best)?;
         take_steps(&mut rest);
     }
     let verbatim = Planned {

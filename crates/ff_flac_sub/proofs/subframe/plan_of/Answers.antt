@@ -3,7 +3,7 @@ use Rattle.std.proofs.lemmas.List.Elements.{All-same}
 use Rattle.std.proofs.lemmas.Nat.{mul-le}
 use Rattle.ff_flac_sub.specs.Subframe.{magnitude}
 use Rattle.ff_flac_sub.proofs.Predict.{rest_of-zero}
-use Rattle.ff_flac_sub.proofs.Plans.{magnitudes, so_far, so_far-none, so_far-more, same_spellings, plan_next, small_enough, next_small, next_rest, plan_last}
+use Rattle.ff_flac_sub.proofs.Plans.{magnitudes, so_far, so_far-none, so_far-more, same_spellings, small_enough, next_small, next_rest, plan_last}
 use Rattle.ff_flac_sub.proofs.subframe.plan_of.Goals as goal
 
 pub loop-order-init : goal.loop-order-init
@@ -13,8 +13,8 @@ loop-order-init c = record {
   small = All-same (λ x. magnitude x < 2 ^ 24) c.in_ok-rest.rest.items c.args.samples.now c.in_ok-rest.ensures.items (magnitudes c.args.samples.now c.requires.fits);
 }
 
-pub fixed_plan-requires-clause-small : goal.fixed_plan-requires-clause-small
-fixed_plan-requires-clause-small c =
+pub with_order-requires-clause-small : goal.with_order-requires-clause-small
+with_order-requires-clause-small c =
     All-same (λ x. magnitude x < 2 ^ 30) c.deref.result.now c.loop-order.rest.items c.deref.ensures.value
     (small_enough 0 c.loop-order.order c.loop-order.rest.items (omega arith) c.loop-order.invariant.small)
 
@@ -24,8 +24,7 @@ take_steps-requires c = small_enough 0 c.loop-order.order c.loop-order.rest.item
 pub loop-order-preserved : goal.loop-order-preserved
 loop-order-preserved c = record {
   best = same_spellings c.args.depth c.args.samples.now _ _ _ (so_far-more c.args.samples.now c.loop-order.order)
-      (plan_next c.args.depth c.args.samples.now (so_far c.args.samples.now c.loop-order.order) _ c.loop-order.best c.in_ok-new.new c.lower.result
-      c.loop-order.invariant.best c.in_ok-new.ensures.least c.in_ok-new.ensures.cost c.in_ok-new.ensures.fits c.lower.ensures.chosen);
+      (c.in_ok-best.ensures (so_far c.args.samples.now c.loop-order.order) c.loop-order.invariant.best);
   rest = next_rest c.loop-order.order c.args.samples.now c.loop-order.rest.items c.take_steps.new.xs.items c.loop-order.invariant.rest c.take_steps.ensures;
   small = next_small c.loop-order.order c.loop-order.rest.items c.take_steps.new.xs.items c.take_steps.ensures c.loop-order.invariant.small;
 }
@@ -33,19 +32,19 @@ loop-order-preserved c = record {
 pub returns-clause-least : goal.returns-clause-least
 returns-clause-least c =
     let e : c.loop-order.order ≡ min (length c.args.samples.now) 5 = omega arith in
-    (plan_last c.args.depth c.args.samples.now c.loop-order.order c.loop-order.best _ c.lower-2.result e c.loop-order.invariant.best refl refl c.lower-2.ensures.chosen).chosen
+    (plan_last c.args.depth c.args.samples.now c.loop-order.order c.loop-order.best _ c.lower.result e c.loop-order.invariant.best refl refl c.lower.ensures.chosen).chosen
 
 pub returns-clause-cost : goal.returns-clause-cost
 returns-clause-cost c =
     let e : c.loop-order.order ≡ min (length c.args.samples.now) 5 = omega arith in
-    (plan_last c.args.depth c.args.samples.now c.loop-order.order c.loop-order.best _ c.lower-2.result e c.loop-order.invariant.best refl refl c.lower-2.ensures.chosen).cost
+    (plan_last c.args.depth c.args.samples.now c.loop-order.order c.loop-order.best _ c.lower.result e c.loop-order.invariant.best refl refl c.lower.ensures.chosen).cost
 
 pub returns-clause-fits : goal.returns-clause-fits
 returns-clause-fits c =
     let e : c.loop-order.order ≡ min (length c.args.samples.now) 5 = omega arith in
-    (plan_last c.args.depth c.args.samples.now c.loop-order.order c.loop-order.best _ c.lower-2.result e c.loop-order.invariant.best refl refl c.lower-2.ensures.chosen).fits
+    (plan_last c.args.depth c.args.samples.now c.loop-order.order c.loop-order.best _ c.lower.result e c.loop-order.invariant.best refl refl c.lower.ensures.chosen).fits
 
 pub returns-clause-small : goal.returns-clause-small
 returns-clause-small c =
     let most : c.args.depth * length c.args.samples.now ≤ 25 * 4096 = mul-le c.args.depth (length c.args.samples.now) 25 4096 c.requires.depth c.requires.len in
-    omega (arith, c.lower-2.ensures.small, most)
+    omega (arith, c.lower.ensures.small, most)

@@ -1,7 +1,7 @@
 use Rattle.std.proofs.Common.{◌≡◌, ◌+◌, length, map, ap, ◌∙◌, arith, subst, true}
 use Rattle.ff_flac_rice.specs.Rice.{zigzagged, is_allowed}
 use Rattle.ff_flac_sub.specs.Subframe.{rest_of}
-use Rattle.ff_flac_sub.proofs.Plans.{first_small, length_us, fixed_bits}
+use Rattle.ff_flac_sub.proofs.Plans.{first_small, count_us, fixed_bits}
 use Rattle.ff_flac_sub.proofs.subframe.write_fixed.Goals as goal
 
 pub rest_by-requires-clause-fits : goal.rest_by-requires-clause-fits
@@ -9,12 +9,12 @@ rest_by-requires-clause-fits c = first_small c.args.depth c.args.samples.now c.r
 
 pub write_residual-requires-clause-len : goal.write_residual-requires-clause-len
 write_residual-requires-clause-len c =
-    omega (arith, length_us c.args.order c.args.samples.now c.deref.result.now c.in_ok-us.us.items c.deref-2.result.now (c.deref.ensures.value ∙ c.in_ok-rest.ensures.is) c.in_ok-us.ensures c.deref-2.ensures.value, c.requires.len)
+    omega (arith, count_us c.args.order c.args.samples.now c.deref-2.result.now (c.deref-2.ensures.value ∙ c.in_ok-us.ensures ∙ ap (map zigzagged) (c.deref.ensures.value ∙ c.in_ok-rest.ensures.is)), c.requires.len)
 
 pub write_residual-requires-clause-allowed : goal.write_residual-requires-clause-allowed
 write_residual-requires-clause-allowed c =
     let n : length c.args.samples.now ≡ length c.deref-2.result.now + c.args.order =
-    omega (arith, length_us c.args.order c.args.samples.now c.deref.result.now c.in_ok-us.us.items c.deref-2.result.now (c.deref.ensures.value ∙ c.in_ok-rest.ensures.is) c.in_ok-us.ensures c.deref-2.ensures.value, c.requires.plan.0) in
+    omega (arith, count_us c.args.order c.args.samples.now c.deref-2.result.now (c.deref-2.ensures.value ∙ c.in_ok-us.ensures ∙ ap (map zigzagged) (c.deref.ensures.value ∙ c.in_ok-rest.ensures.is)), c.requires.plan.0) in
     subst (λ m. is_allowed m c.args.order c.args.partition_order ≡ true) n c.requires.plan.4
 
 pub returns : goal.returns
