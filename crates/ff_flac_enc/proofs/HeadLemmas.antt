@@ -43,7 +43,7 @@ unfolding bits
 flat_bits [] = refl
 flat_bits (b ∷ bytes) = ap (λ (l : List Bool). bits_of 8 b ++ l) (flat_bits bytes)
 
-length-codes_bits : (h : Head) (form : ℕ) → length (codes_bits h form) ≡ 32
+pub length-codes_bits : (h : Head) (form : ℕ) → length (codes_bits h form) ≡ 32
 unfolding codes_bits
 length-codes_bits h form =
     let a : List Bool = bits_of 15 sync in

@@ -22,8 +22,8 @@ impl Gate for NoGate {
     fn enter(&self, _i: usize) {}
 }
 
-// One block's bytes.
-fn coded(alloc: Global, block: &AFrame, number: u32) -> Result<Bytes, AllocError>
+/// The bytes of a block as the frame with this number, as `encode_block` gives them.
+pub fn coded_block(alloc: Global, block: &AFrame, number: u32) -> Result<Bytes, AllocError>
     requires block { IsBlock block.now }
     requires number { number < 2 ^ 31 }
     ensures { IfOk result (IsCoded block.now number) }
@@ -65,7 +65,7 @@ fn each_block<G: Gate + Sync, R: Threads + Sync>(
             requires numbers { first + i < 2 ^ 31 }
         {
             gate.enter(i);
-            coded(alloc, &blocks[i], first + i as u32)
+            coded_block(alloc, &blocks[i], first + i as u32)
         },
     )
 }

@@ -19,7 +19,7 @@ mod pair;
 mod sides;
 mod waiting;
 
-pub use at_once::{Gate, NoGate, encode_blocks};
+pub use at_once::{Gate, NoGate, coded_block, encode_blocks};
 pub use blocks::Blocks;
 pub use blocks_laws::{
     blocks_have_all_samples, blocks_of_changed_samples, blocks_stay,
@@ -28,4 +28,4 @@ pub use blocks_laws::{
 pub use counter::Counter;
 pub use format::Format;
 pub use frame::encode_block;
-pub use laws::least_is_the_first_of_the_shortest;
+pub use laws::{frames_of_blocks_are_short, least_is_the_first_of_the_shortest};
