@@ -26,12 +26,12 @@ use Rattle.ff_demuxing.specs.DemuxLaws.{demux_mark, demux_items, demux_closed}
 use Rattle.ff_demuxing.specs.Sources.{Sources, source_gives, source_ends, source_waits, source_over}
 use Rattle.ff_demuxing.proofs.LimitSteps.{before_get, before_stop, before_all}
 
-drop-append : (k : ℕ) (xs ys : List ℕ) → drop k (xs ++ ys) ≡ drop k xs ++ drop (k - length xs) ys
+pub drop-append : (k : ℕ) (xs ys : List ℕ) → drop k (xs ++ ys) ≡ drop k xs ++ drop (k - length xs) ys
 drop-append zero xs ys = let e : zero - length xs ≡ zero = omega arith in rw e refl
 drop-append (suc k) [] ys = let e : suc k - 0 ≡ suc k = omega arith in rw e refl
 drop-append (suc k) (x ∷ xs) ys = let e : suc k - length (x ∷ xs) ≡ k - length xs = omega arith in rw e (drop-append k xs ys)
 
-drop_nil : (k : ℕ) → drop {A = ℕ} k [] ≡ []
+pub drop_nil : (k : ℕ) → drop {A = ℕ} k [] ≡ []
 drop_nil zero = refl
 drop_nil (suc k) = refl
 
@@ -71,6 +71,10 @@ smaller skip skip' unit held held' false true f lt (inl h) = omega (arith, h.1, 
 smaller skip skip' unit held held' false false f lt (inl h) = let x = h.0 in cc
 smaller skip skip' unit held held' false true f lt (inr h) = let x = h.0 in cc
 smaller skip skip' unit held held' false false f lt (inr h) = omega (arith, h.1, h.2)
+
+pub no_fault : (f : Option Fault) → is_some f ≡ false → f ≡ None
+no_fault None e = refl
+no_fault (Some x) e = cc
 
 pub on_err : {A E : Type 0} (r : Result A E) (P : Type 0) → P → OnErr r P
 on_err (Ok x) P p = tt

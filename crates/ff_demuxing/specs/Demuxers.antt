@@ -7,6 +7,7 @@ use Rattle.ff_net.specs.Pasts.{Past}
 use Rattle.ff_cut.specs.declared.cutter.PacketCut.{Ghosts}
 use Rattle.ff_demuxing.specs.Demuxing.{DemuxStands}
 use Rattle.ff_demuxing.specs.Exiting.{Exits}
+use Rattle.ff_demuxing.specs.Reading.{HasRead, Reads}
 use Rattle.ff_demuxing.specs.Sources.{tried_of}
 use Rattle.ff_demuxing.specs.declared.demux.Demux.{Demux}
 
@@ -30,6 +31,20 @@ module _ {S C H : Type 0} {G : Ghosts C H} where
   -- the name of its source
   abbrev pub demux_device : (S → Option (List ℕ)) → Demux S C H G → Option (List ℕ)
   demux_device name m = name m.src
+
+  -- Of an input with this head it has read these bytes. How many are read ahead at most is passed in.
+  abbrev pub demux_has_read : (H → ℕ) → Demux S C H G → H → List ℕ → Type 0
+  demux_has_read ahead m head read = HasRead G.is ahead m.cut m.skip m.given m.ended head read
+
+  -- what a call reads that leaves it so
+  abbrev pub demux_reads_on : (S → Option (List ℕ)) → (C → ℕ) → (H → ℕ) → Demux S C H G → Demux S C H G → Type 0
+  demux_reads_on left asks ahead m m' =
+      Reads G.is asks ahead (left m.src) m.cut m.skip m.given m.ended (left m'.src) m'.cut m'.skip m'.given m'.ended
+
+  -- it has read what it had read, and given as many packets
+  abbrev pub demux_reads_nothing : Demux S C H G → Demux S C H G → Type 0
+  demux_reads_nothing m m' =
+      (m'.src ≡ m.src) × (m'.cut ≡ m.cut) × (m'.skip ≡ m.skip) × (m'.given ≡ m.given) × (m'.ended ≡ m.ended)
 
   abbrev pub demux_holds : Demux S C H G → Type 0
   demux_holds m = m.ticket ≡ true

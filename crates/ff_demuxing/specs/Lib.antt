@@ -1,3 +1,4 @@
+pub mod AnyReading
 pub mod AnyShapes
 pub mod DemuxClaims
 pub mod DemuxLaws
@@ -7,6 +8,7 @@ pub mod Demuxers
 pub mod Demuxing
 pub mod Exiting
 pub mod FlacShapes
+pub mod Reading
 pub mod Sources
 pub mod WavShapes
 pub mod Y4mShapes

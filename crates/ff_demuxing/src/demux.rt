@@ -1,8 +1,8 @@
-ghost use Rattle.std.specs.Prelude.{◌≡◌, ◌≢◌, ◌+◌, ◌^◌, ◌≤◌, ◌<◌, ◌⊎◌, ℕ, List, Some, None, Err, true, false, length, IfOk, IfErr, IsSome};
+ghost use Rattle.std.specs.Prelude.{◌≡◌, ◌≢◌, ◌+◌, ◌^◌, ◌≤◌, ◌<◌, ◌⊎◌, ℕ, List, [], Some, None, Ok, Err, true, false, length, OnErr, IfOk, IfErr, IfSome, IsSome, IsNone};
 ghost use Rattle.ff_frame.specs.declared.item.Lane.TheVariants.{Packets};
 ghost use Rattle.ff_net.specs.declared.fault.Fault.TheVariants.{TooLarge};
 
-use crate::demuxable::Demuxable;
+use crate::demuxable::{Demuxable, PIECE};
 use crate::reading::{ReadEnd, read_more};
 use crate::unit::{Unit, next_unit};
 use ff_cut::PacketCut;
@@ -10,9 +10,6 @@ use ff_frame::{Event, Item, Refused, StreamHead, Ticket};
 use ff_host::Source;
 use ff_net::{Fault, Machine};
 use std::alloc::{AllocError, Global};
-
-/// The input is read in pieces of at most so many bytes, or as many as wait for the rest of their packet where these are more.
-const PIECE: usize = 65536;
 
 /// Gives the packets of an input of any format, one for each ticket, and reads no further than the next packet wants.
 #[derive(Drop)]
@@ -50,25 +47,24 @@ fn piece_of(alloc: Global, size: usize) -> Result<Vec<u8>, AllocError>
     vec![in alloc; 0u8; size]
 }
 
-// A piece as long as what waits, where there is memory for it: so what is no whole packet yet is looked at anew only once it has
-// doubled, and not once for each piece.
-fn lengthen(piece: &mut Vec<u8>, waiting: u64)
+// Room for so many bytes at once, where there is memory for it.
+fn lengthen(piece: &mut Vec<u8>, wanted: usize)
     requires { 0 < length piece.old.items }
     ensures { 0 < length piece.new.items }
 {
-    if (piece.len() as u64) < waiting {
-        let _ = piece.resize(waiting as usize, 0);
+    if piece.len() < wanted {
+        let _ = piece.resize(wanted, 0);
     }
 }
 
-impl<S: Source + Drop, C: PacketCut + Drop> Demux<S, C> {
-    ghost use Rattle.std.specs.Prelude.{[], ◌∷◌};
+impl<S: Source + Drop, C: Demuxable + Drop> Demux<S, C> {
+    ghost use Rattle.std.specs.Prelude.{◌∷◌};
     ghost use Rattle.ff_values.specs.declared.event.Event.TheVariants.{Exited};
     ghost use Rattle.ff_frame.specs.Ports.{stream_at};
     ghost use Rattle.ff_net.specs.Pasts.{Past, start};
     ghost use Rattle.ff_demuxing.specs.Demuxing.{demux_task};
     ghost use Rattle.ff_demuxing.specs.Exiting.{IsOver};
-    ghost use Rattle.ff_demuxing.specs.Demuxers.{demux_out_lanes, demux_source, demux_fault, demux_failures, demux_device, demux_reads, demux_stands};
+    ghost use Rattle.ff_demuxing.specs.Demuxers.{demux_out_lanes, demux_source, demux_fault, demux_failures, demux_device, demux_reads, demux_stands, demux_has_read};
 
     /// Over a source that gives the input from its first byte on, whose head this is. The source comes back where there
     /// was no memory.
@@ -80,6 +76,7 @@ impl<S: Source + Drop, C: PacketCut + Drop> Demux<S, C> {
         ensures device { IfOk result (λ m. demux_device S.name m ≡ S.name src) }
         ensures failures { IfOk result (λ m. demux_failures S.faults m ≡ S.faults src) }
         ensures stands { IfOk result (λ m. (file : List ℕ) → S.left src ≡ Some file → demux_stands S.left m (start (demux_task C.is input head.now file))) }
+        ensures unread { IfOk result (λ m. demux_has_read C.ahead m head.now []) }
         ensures refused { IfErr result (λ s. s ≡ src) }
     {
         let Ok(piece) = piece_of(alloc, PIECE) else {
@@ -136,7 +133,14 @@ impl<S: Source + Drop, C: PacketCut + Drop> Demux<S, C> {
 }
 
 impl<S: Source + Drop, C: Demuxable + Drop> Machine for Demux<S, C> {
-    ghost use Rattle.ff_demuxing.specs.Demuxers.{demux_fault};
+    ghost use Rattle.ff_frame.specs.Stream.{still_open, LiesBelow};
+    ghost use Rattle.ff_frame.specs.Items.{with_item};
+    ghost use Rattle.ff_frame.specs.Ports.{stream_at};
+    ghost use Rattle.ff_net.specs.declared.fault.Fault.TheVariants.{Device};
+    ghost use Rattle.ff_net.specs.Laws.{FaultStep, GoesOn, IsReading};
+    ghost use Rattle.ff_net.specs.Pasts.{Past, IsIn, gave_item, was_allowed, was_asked, was_stopped, was_told, due};
+    ghost use Rattle.ff_net.specs.Views.{IsSameShape};
+    ghost use Rattle.ff_demuxing.specs.Demuxers.{demux_source, demux_fault, demux_holds, demux_stands, demux_reads_nothing, demux_reads_on};
     ghost use Rattle.ff_demuxing.specs.DemuxViews.{demux_view, demux_laws};
 
     ghost view = { demux_view S.left S.name S.faults };
@@ -160,7 +164,15 @@ impl<S: Source + Drop, C: Demuxable + Drop> Machine for Demux<S, C> {
         self.fault
     }
 
-    fn allow(&mut self, ticket: Ticket) -> Option<Ticket> {
+    fn allow(&mut self, ticket: Ticket) -> Option<Ticket>
+        ensures shape { IsSameShape (demux_view S.left S.name S.faults self.old) (demux_view S.left S.name S.faults self.new) }
+        ensures fares { FaultStep (demux_view S.left S.name S.faults self.old) (demux_view S.left S.name S.faults self.new) }
+        ensures reads_nothing { demux_reads_nothing self.old self.new }
+        ensures taken { IsNone result → (past : Past) → demux_stands S.left self.old past → demux_stands S.left self.new (was_allowed past ticket) }
+        ensures held { IsNone result → IsSome (demux_source self.old) × (demux_holds self.old → ⊥) × demux_holds self.new }
+        ensures back { IfSome result (λ t. (t ≡ ticket) × ((past : Past) → demux_stands S.left self.old past → demux_stands S.left self.new past)) }
+        ensures back_only { IsSome result → (demux_source self.old ≡ None) ⊎ demux_holds self.old }
+    {
         if self.ticket {
             return Some(ticket);
         }
@@ -175,7 +187,21 @@ impl<S: Source + Drop, C: Demuxable + Drop> Machine for Demux<S, C> {
         Err(Refused { item })
     }
 
-    fn pull(&mut self, _port: usize) -> Result<Option<Item>, AllocError> {
+    /// It reads only where what was read leaves the next packet undecided, and there a piece at a time. So behind the last packet that
+    /// it gave it has read fewer bytes than a piece: of WAV and YUV4MPEG2 fewer than 65,536.
+    fn pull(&mut self, _port: usize) -> Result<Option<Item>, AllocError>
+        requires { _port < 1 }
+        ensures shape { IsSameShape (demux_view S.left S.name S.faults self.old) (demux_view S.left S.name S.faults self.new) }
+        ensures fares { FaultStep (demux_view S.left S.name S.faults self.old) (demux_view S.left S.name S.faults self.new) }
+        ensures reads { demux_reads_on S.left C.asks C.ahead self.old self.new }
+        ensures gives { (x : Item) → result ≡ Ok (Some x) → (past : Past) → demux_stands S.left self.old past → (IsIn _port past.stopped → ⊥)
+            → demux_stands S.left self.new (gave_item past _port x) × ((stream_at past.gave _port).mark ≡ still_open)
+            × LiesBelow (with_item (stream_at past.gave _port) x) (stream_at (due past) _port) }
+        ensures waits { result ≡ Ok None → (past : Past) → demux_stands S.left self.old past → (IsIn _port past.stopped → ⊥) → demux_stands S.left self.new (was_asked past _port) }
+        ensures none_due { result ≡ Ok None → GoesOn (demux_fault self.old) → (past : Past) → demux_stands S.left self.old past → (IsIn _port past.stopped → ⊥)
+            → (stream_at past.gave _port ≡ stream_at (due past) _port) ⊎ (demux_fault self.new ≡ Some Device) }
+        ensures unchanged { OnErr result ((past : Past) → demux_stands S.left self.old past → demux_stands S.left self.new past) }
+    {
         if self.ended {
             return Ok(None);
         }
@@ -210,12 +236,14 @@ impl<S: Source + Drop, C: Demuxable + Drop> Machine for Demux<S, C> {
                     return Ok(Some(Item::Broken));
                 }
                 Unit::Wait => {
-                    lengthen(&mut self.piece, self.cut.held());
+                    let wanted = self.cut.piece();
+                    lengthen(&mut self.piece, wanted);
                     match read_more(
                         &mut self.src,
                         &mut self.cut,
                         &mut self.skip,
                         self.piece.as_mut_slice(),
+                        wanted,
                     ) {
                         Ok(()) => {}
                         Err(ReadEnd::Failed) => {
@@ -229,7 +257,13 @@ impl<S: Source + Drop, C: Demuxable + Drop> Machine for Demux<S, C> {
         }
     }
 
-    fn stop(&mut self, _port: usize) {
+    fn stop(&mut self, _port: usize)
+        requires { _port < 1 }
+        ensures shape { IsSameShape (demux_view S.left S.name S.faults self.old) (demux_view S.left S.name S.faults self.new) }
+        ensures fares { FaultStep (demux_view S.left S.name S.faults self.old) (demux_view S.left S.name S.faults self.new) }
+        ensures reads_nothing { demux_reads_nothing self.old self.new }
+        ensures stopped { (past : Past) → demux_stands S.left self.old past → demux_stands S.left self.new (was_stopped past _port) }
+    {
         self.stopped = true;
     }
 
@@ -239,7 +273,15 @@ impl<S: Source + Drop, C: Demuxable + Drop> Machine for Demux<S, C> {
         false
     }
 
-    fn next_event(&mut self) -> Option<Event> {
+    fn next_event(&mut self) -> Option<Event>
+        ensures shape { IsSameShape (demux_view S.left S.name S.faults self.old) (demux_view S.left S.name S.faults self.new) }
+        ensures fares { FaultStep (demux_view S.left S.name S.faults self.old) (demux_view S.left S.name S.faults self.new) }
+        ensures reads_nothing { demux_reads_nothing self.old self.new }
+        ensures gives { (e : Event) → result ≡ Some e → (past : Past) → demux_stands S.left self.old past
+            → demux_stands S.left self.new (was_told past e) × (IsReading (demux_view S.left S.name S.faults self.old) past → ⊥) }
+        ensures waits { IsNone result → (past : Past) → demux_stands S.left self.old past → demux_stands S.left self.new past }
+        ensures none_due { IsNone result → (past : Past) → demux_stands S.left self.old past → (past.told ≡ past.task.tells past.feeds) ⊎ IsReading (demux_view S.left S.name S.faults self.old) past }
+    {
         if self.told {
             return None;
         }

@@ -6,6 +6,7 @@ ghost use Rattle.ff_net.specs.declared.fault.Fault.{Fault};
 ghost use Rattle.ff_net.specs.Pasts.{Past};
 ghost use Rattle.ff_cut.specs.Cutters.{Feeds, KeepsCut, SameElsewhere};
 ghost use Rattle.ff_demuxing.specs.Demuxing.{DemuxStands};
+ghost use Rattle.ff_demuxing.specs.Reading.{FeedsOn};
 ghost use Rattle.ff_demuxing.specs.declared.reading.ReadEnd.TheVariants.{Failed, NoMemory};
 
 use ff_cut::PacketCut;
@@ -52,18 +53,21 @@ fn feed_piece<C: PacketCut>(cut: &mut C, skip: &mut u64, piece: &[u8])
     }
 }
 
-// Reads a piece of the input into the cut. Room is made first, so that no byte that was read is lost.
+// Reads a piece of the input into the cut, of at most so many bytes. Room is made first, so that no byte that was read is lost.
 pub(crate) fn read_more<S: Source, C: PacketCut>(
     src: &mut S,
     cut: &mut C,
     skip: &mut u64,
     piece: &mut [u8],
+    wanted: usize,
 ) -> Result<(), ReadEnd>
     requires going { C.is.has_ended cut.old ≡ false }
     requires some { 0 < length piece.old }
+    requires wanted { 0 < wanted }
     ensures read { OnOk result ((given : ℕ) (ticket : _) (fault : Option Fault) (past : Past)
         → DemuxStands C.is (S.left src.old) cut.old skip.old given ticket false fault past
         → DemuxStands C.is (S.left src.new) cut.new skip.new given ticket false fault past) }
+    ensures fed { OnOk result (FeedsOn C.is wanted (S.left src.old) cut.old skip.old (S.left src.new) cut.new skip.new) }
     ensures left { OnErr result (Keeps (S.left src.old) (S.left src.new)) }
     ensures skip { OnErr result (skip.new ≡ skip.old) }
     ensures ended { OnErr result (C.is.has_ended cut.new ≡ C.is.has_ended cut.old) }
@@ -77,12 +81,14 @@ pub(crate) fn read_more<S: Source, C: PacketCut>(
     ensures nearer { OnOk result (((C.is.has_ended cut.new ≡ true) × (skip.new ≡ skip.old) × (length (C.is.waiting cut.new) ≡ length (C.is.waiting cut.old)))
         ⊎ ((C.is.has_ended cut.new ≡ false) × (length (C.is.waiting cut.old) + skip.new < length (C.is.waiting cut.new) + skip.old) × (skip.new ≤ skip.old))) }
 {
-    cut.reserve(piece.len())?;
-    let count = src.read(piece)?;
+    let room = wanted.min(piece.len());
+    let part = &mut piece[..room];
+    cut.reserve(room)?;
+    let count = src.read(part)?;
     if count == 0 {
         cut.end();
         return Ok(());
     }
-    feed_piece(cut, skip, &piece[..count]);
+    feed_piece(cut, skip, &part[..count]);
     Ok(())
 }

@@ -5,9 +5,10 @@ ghost use Rattle.ff_frame.specs.declared.item.Lane.TheVariants.{Packets};
 ghost use Rattle.ff_values.specs.declared.packet.Pkt.{Pkt};
 ghost use Rattle.ff_cut.specs.Cutters.{GivesPacket, GaveAll};
 ghost use Rattle.ff_demuxing.specs.Demuxing.{passes_in_demux};
+ghost use Rattle.ff_demuxing.specs.Reading.{LeavesOpen, AsksWithin};
 
+use crate::demuxable::Demuxable;
 use crate::limits::is_long;
-use ff_cut::PacketCut;
 use ff_frame::{Cut, Pkt, StreamHead};
 use std::alloc::AllocError;
 
@@ -25,7 +26,7 @@ pub(crate) enum Unit {
 }
 
 // The next packet of what was read, where so many were given.
-pub(crate) fn next_unit<C: PacketCut>(
+pub(crate) fn next_unit<C: Demuxable>(
     cut: &mut C,
     head: &StreamHead,
     given: u64,
@@ -40,11 +41,13 @@ pub(crate) fn next_unit<C: PacketCut>(
     ensures all { result ≡ Ok Unit.End → (cut.new ≡ cut.old) × GaveAll C.is cut.old None }
     ensures broken { (offset : ℕ) → result ≡ Ok (Unit.Broken offset) → (cut.new ≡ cut.old) × GaveAll C.is cut.old (Some offset) }
     ensures wait { result ≡ Ok Unit.Wait → (cut.new ≡ cut.old) × (C.is.has_ended cut.old ≡ false) × (length (C.is.waiting cut.old) < C.is.longest) }
+    ensures undecided { result ≡ Ok Unit.Wait → LeavesOpen C.is cut.old }
+    ensures asks { result ≡ Ok Unit.Wait → AsksWithin C.is C.asks C.ahead cut.old }
     ensures err { OnErr result (cut.new ≡ cut.old) }
     ensures head { C.is.head_of cut.new ≡ C.is.head_of cut.old }
     ensures ended { C.is.has_ended cut.new ≡ C.is.has_ended cut.old }
 {
-    match cut.pull()? {
+    match cut.next_cut()? {
         Cut::NotYet => Ok(Unit::Wait),
         Cut::End => Ok(Unit::End),
         Cut::Broken { offset } => Ok(Unit::Broken(offset)),

@@ -1,14 +1,17 @@
-use Rattle.std.proofs.Common.{◌≡◌, ◌∙◌, ◌+◌, ℕ, Ok, Some, None, true, false, refl, sym, ap, subst}
+use Rattle.std.proofs.Common.{◌≡◌, ◌≤◌, ◌∙◌, ◌+◌, ℕ, Ok, Some, None, true, false, refl, sym, ap, subst, arith}
 use Rattle.ff_values.specs.declared.head.StreamHead.{StreamHead}
 use Rattle.ff_frame.specs.declared.item.Item.{Item}
 use Rattle.ff_frame.specs.declared.item.Item.TheVariants.{Packet, End, Broken}
 use Rattle.ff_frame.specs.declared.item.Lane.TheVariants.{Packets}
 use Rattle.ff_net.specs.declared.fault.Fault.TheVariants.{Device, Damaged, TooLong}
 use Rattle.ff_net.specs.Pasts.{Past, was_asked}
+use Rattle.ff_cut.specs.Cutters.{KeepsCut}
 use Rattle.ff_demuxing.specs.Demuxing.{DemuxStands, passes_in_demux}
 use Rattle.ff_demuxing.specs.Exiting.{Exits}
-use Rattle.ff_demuxing.proofs.DemuxSteps.{Gives, gives_flags, flags, on_err, demux_packet, demux_long, demux_end, demux_break, demux_kept, demux_asked}
+use Rattle.ff_demuxing.proofs.DemuxSteps.{no_fault, Gives, gives_flags, flags, on_err, demux_packet, demux_long, demux_end, demux_break, demux_kept, demux_asked}
+use Rattle.ff_demuxing.specs.Reading.{Reads, FeedsOn}
 use Rattle.ff_demuxing.proofs.ExitSteps.{exits_same}
+use Rattle.ff_demuxing.proofs.ReadSteps.{reads_nothing, reads_kept, reads_piece, reads_packet, reads_over}
 use Rattle.ff_demuxing.proofs.demux.DemuxMachine.pull.Goals as goal
 
 pub returns-in_err-packet-clause-unchanged : goal.returns-in_err-packet-clause-unchanged
@@ -109,12 +112,20 @@ units-preserved g c =
     let inv = c.units.invariant in
     let S = g.S.Source in
     let w = c.in_ok-packet.ensures.wait (ap Ok c.in-Wait.is) in
+    let a = c.args.self.now in
+    let A = g.C.Demuxable.asks in
+    let few : c.piece-wanted.result ≤ A m.cut = subst (λ k. c.piece-wanted.result ≤ A k) w.0 (omega (arith, c.piece-wanted.ensures.value)) in
+    let H = g.C.Demuxable.ahead in
     record {
       stands = λ past d.
           let one = subst (λ k. DemuxStands K (S.left m.src) k m.skip m.given m.ticket m.ended m.fault past) (sym w.0) (inv.stands past d) in
           let two = flags K (S.left m.src) c.next_unit.new.cut m.skip m.given m.ticket m.ended m.fault past m.ticket false m.fault refl inv.going refl one in
           flags K (S.left c.read_more.new.src) c.read_more.new.cut c.read_more.new.skip m.given m.ticket false m.fault past m.ticket m.ended m.fault refl (sym inv.going) refl
           (c.in-Ok.ensures.read m.given m.ticket m.fault past two);
+      reads = reads_piece K A H (S.left a.src) a.cut a.skip a.given a.ended (S.left m.src) (S.left c.read_more.new.src) m.cut c.read_more.new.cut m.skip c.read_more.new.skip m.given
+          c.piece-wanted.result m.ended inv.going inv.number (c.in_ok-packet.ensures.undecided (ap Ok c.in-Wait.is)) (c.in_ok-packet.ensures.asks (ap Ok c.in-Wait.is)) few
+          (subst (λ k. FeedsOn K c.piece-wanted.result (S.left m.src) k m.skip (S.left c.read_more.new.src) c.read_more.new.cut c.read_more.new.skip) w.0 c.in-Ok.ensures.fed) inv.reads;
+      number = inv.number;
       going = inv.going;
       sound = inv.sound;
       allowed = inv.allowed;
@@ -163,3 +174,93 @@ returns-in-Err-NoMemory-clause-unchanged g c = λ past d.
       subst (λ (k : ℕ). DemuxStands K (S.left c.read_more.new.src) c.read_more.new.cut k m.given m.ticket m.ended m.fault past) (sym f.skip) four,
       exits_same a.input m.input a.stopped m.stopped a.told m.told inv.input inv.stopped inv.told d.1,
     )
+
+pub returns-then-self-clause-reads : goal.returns-then-self-clause-reads
+returns-then-self-clause-reads g c = let a = c.args.self.now in reads_nothing g.C.PacketCut.is g.C.Demuxable.asks g.C.Demuxable.ahead (g.S.Source.left a.src) a.cut a.skip a.given a.ended
+
+pub returns-in_err-packet-clause-reads : goal.returns-in_err-packet-clause-reads
+returns-in_err-packet-clause-reads g c =
+    let a = c.args.self.now in
+    let m = c.units.self in
+    let left = g.S.Source.left in
+    subst (λ k. Reads g.C.PacketCut.is g.C.Demuxable.asks g.C.Demuxable.ahead (left a.src) a.cut a.skip a.given a.ended (left m.src) k m.skip m.given m.ended) (sym c.in_err-packet.ensures.err)
+    c.units.invariant.reads
+
+pub returns-in-Packet-clause-reads : goal.returns-in-Packet-clause-reads
+returns-in-Packet-clause-reads g c =
+    let a = c.args.self.now in
+    let m = c.units.self in
+    let left = g.S.Source.left in
+    let p = c.in-Packet.packet in
+    reads_packet g.C.PacketCut.is g.C.Demuxable.asks g.C.Demuxable.ahead (left a.src) a.cut a.skip a.given a.ended (left m.src) m.cut c.next_unit.new.cut m.skip m.given m.ended p
+    (c.in_ok-packet.ensures.packet p (ap Ok c.in-Packet.is)).0 c.units.invariant.reads
+
+pub returns-in-Long-clause-reads : goal.returns-in-Long-clause-reads
+returns-in-Long-clause-reads g c =
+    let a = c.args.self.now in
+    let m = c.units.self in
+    let left = g.S.Source.left in
+    reads_over g.C.PacketCut.is g.C.Demuxable.asks g.C.Demuxable.ahead (left a.src) a.cut a.skip a.given a.ended (left m.src) m.cut c.next_unit.new.cut m.skip m.given m.ended
+    c.units.invariant.reads
+
+pub returns-in-End-clause-reads : goal.returns-in-End-clause-reads
+returns-in-End-clause-reads g c =
+    let a = c.args.self.now in
+    let m = c.units.self in
+    let left = g.S.Source.left in
+    reads_over g.C.PacketCut.is g.C.Demuxable.asks g.C.Demuxable.ahead (left a.src) a.cut a.skip a.given a.ended (left m.src) m.cut c.next_unit.new.cut m.skip m.given m.ended
+    c.units.invariant.reads
+
+pub returns-in-Broken-clause-reads : goal.returns-in-Broken-clause-reads
+returns-in-Broken-clause-reads g c =
+    let a = c.args.self.now in
+    let m = c.units.self in
+    let left = g.S.Source.left in
+    reads_over g.C.PacketCut.is g.C.Demuxable.asks g.C.Demuxable.ahead (left a.src) a.cut a.skip a.given a.ended (left m.src) m.cut c.next_unit.new.cut m.skip m.given m.ended
+    c.units.invariant.reads
+
+pub returns-in-Err-Failed-clause-reads : goal.returns-in-Err-Failed-clause-reads
+returns-in-Err-Failed-clause-reads g c =
+    let a = c.args.self.now in
+    let m = c.units.self in
+    let left = g.S.Source.left in
+    let f = c.in-Err-Failed.ensures in
+    let w = c.in_ok-packet.ensures.wait (ap Ok c.in-Wait.is) in
+    reads_kept g.C.PacketCut.is g.C.Demuxable.asks g.C.Demuxable.ahead (left a.src) a.cut a.skip a.given a.ended (left m.src) (left c.read_more.new.src) m.cut c.read_more.new.cut m.skip c.read_more.new.skip
+    m.given m.ended f.left (subst (λ k. KeepsCut g.C.PacketCut.is k c.read_more.new.cut) w.0 f.cuts) f.skip c.units.invariant.reads
+
+pub returns-in-Err-NoMemory-clause-reads : goal.returns-in-Err-NoMemory-clause-reads
+returns-in-Err-NoMemory-clause-reads g c =
+    let a = c.args.self.now in
+    let m = c.units.self in
+    let left = g.S.Source.left in
+    let f = c.in-Err-NoMemory.ensures in
+    let w = c.in_ok-packet.ensures.wait (ap Ok c.in-Wait.is) in
+    reads_kept g.C.PacketCut.is g.C.Demuxable.asks g.C.Demuxable.ahead (left a.src) a.cut a.skip a.given a.ended (left m.src) (left c.read_more.new.src) m.cut c.read_more.new.cut m.skip c.read_more.new.skip
+    m.given m.ended f.left (subst (λ k. KeepsCut g.C.PacketCut.is k c.read_more.new.cut) w.0 f.cuts) f.skip c.units.invariant.reads
+
+pub returns-then-is_some-clause-reads : goal.returns-then-is_some-clause-reads
+returns-then-is_some-clause-reads g c = let a = c.args.self.now in reads_nothing g.C.PacketCut.is g.C.Demuxable.asks g.C.Demuxable.ahead (g.S.Source.left a.src) a.cut a.skip a.given a.ended
+
+pub returns-then-not-self-clause-reads : goal.returns-then-not-self-clause-reads
+returns-then-not-self-clause-reads g c = let a = c.args.self.now in reads_nothing g.C.PacketCut.is g.C.Demuxable.asks g.C.Demuxable.ahead (g.S.Source.left a.src) a.cut a.skip a.given a.ended
+
+pub units-init : goal.units-init
+units-init g c =
+    let a = c.args.self.now in
+    let none = no_fault a.fault (sym c.is_some.ensures ∙ c.if-is_some.false) in
+    record {
+      stands = λ past d. d;
+      reads = reads_nothing g.C.PacketCut.is g.C.Demuxable.asks g.C.Demuxable.ahead (g.S.Source.left a.src) a.cut a.skip a.given a.ended;
+      number = refl;
+      going = search;
+      sound = none;
+      allowed = search;
+      before = none;
+      unfailed = refl;
+      name = refl;
+      input = refl;
+      head = refl;
+      stopped = refl;
+      told = refl;
+    }

@@ -1,6 +1,7 @@
 use Rattle.std.proofs.Common.{◌≡◌, ◌+◌, ◌-◌, length, None, true, false, cond}
 use Rattle.ff_net.specs.Pasts.{Past}
 use Rattle.ff_demuxing.specs.Demuxing.{DemuxStands}
+use Rattle.ff_demuxing.specs.Reading.{Reads}
 use Rattle.ff_demuxing.proofs.demux.DemuxMachine.pull.Given as goal
 
 abbrev pub invariant-units : goal.invariant-units
@@ -10,6 +11,9 @@ invariant-units g l =
     record {
       stands : (past : Past) → DemuxStands K (S.left l.initial.self.src) l.initial.self.cut l.initial.self.skip l.initial.self.given l.initial.self.ticket l.initial.self.ended l.initial.self.fault past
           → DemuxStands K (S.left l.self.src) l.self.cut l.self.skip l.self.given l.self.ticket l.self.ended l.self.fault past;
+      reads : Reads K g.C.Demuxable.asks g.C.Demuxable.ahead (S.left l.initial.self.src) l.initial.self.cut l.initial.self.skip l.initial.self.given l.initial.self.ended
+          (S.left l.self.src) l.self.cut l.self.skip l.self.given l.self.ended;
+      number : l.self.given ≡ l.initial.self.given;
       going : l.self.ended ≡ false;
       sound : l.self.fault ≡ None;
       allowed : l.self.ticket ≡ true;

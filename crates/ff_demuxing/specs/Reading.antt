@@ -1,0 +1,80 @@
+-- What a demuxer reads of its input: only where what it has read leaves the next packet undecided, and then a piece.
+use Rattle.std.specs.Prelude.{◌≡◌, ◌≢◌, ◌⊎◌, ℕ, ◌-◌, ◌≤◌, Bool, false, List, [], ◌++◌, drop, length, slice_get, Option}
+use Rattle.std.specs.Io.KnownBytes.{Consumes}
+use Rattle.ff_cut.specs.Cutters.{Cutter}
+
+-- the bytes of a piece, where the rest of a packet is no reason for more
+abbrev pub piece_size : ℕ
+piece_size = 65536
+
+module _ {H C : Type 0} (cutter : Cutter H C) where
+  -- These bytes behind the head leave the packet of this number undecided: with some bytes more it is another than if they were all,
+  -- or is one at all. There, and nowhere else, a cut answers NotYet.
+  abbrev pub IsUndecided : H → List ℕ → ℕ → Type 0
+  IsUndecided head fed n = (more : List ℕ) × (slice_get (cutter.demuxed head (fed ++ more)) n ≢ slice_get (cutter.demuxed head fed) n)
+
+  -- whatever a cut was fed and gave, that leaves its next packet undecided
+  abbrev pub LeavesOpen : C → Type 0
+  LeavesOpen cut = (head : H) (fed : List ℕ) (n : ℕ) → cutter.IsHead head → cutter.cuts cut head fed n → IsUndecided head fed n
+
+  -- at most so many bytes are asked for a cut of an input with a head
+  abbrev pub AsksWithin : (C → ℕ) → (H → ℕ) → C → Type 0
+  AsksWithin asks ahead cut = (head : H) (fed : List ℕ) (n : ℕ) → cutter.cuts cut head fed n → asks cut ≤ ahead head
+
+-- A cut was fed what was read behind the head, of which so many bytes are still to come, and gave so many packets.
+pub record IsFed {H C : Type 0} (cutter : Cutter H C) (cut : C) (skip : ℕ) (head : H) (read : List ℕ) (n : ℕ) : Type 0 where
+  pub cuts : cutter.cuts cut head (drop (cutter.start head) read) n
+  pub skipped : skip ≡ cutter.start head - length read
+
+-- A piece of so many bytes was wanted behind these: they leave the next packet undecided, and a cut of them asks for as many.
+pub record IsWanted {H C : Type 0} (cutter : Cutter H C) (asks : C → ℕ) (head : H) (read : List ℕ) (n count : ℕ) : Type 0 where
+  pub undecided : IsUndecided cutter head (drop (cutter.start head) read) n
+  pub cut : C
+  pub cuts : cutter.cuts cut head (drop (cutter.start head) read) n
+  pub few : count ≤ asks cut
+
+-- What was read, but for at most so many bytes at its end, leaves a packet undecided, this one or one before it.
+pub record EndsNear {H C : Type 0} (cutter : Cutter H C) (most : ℕ) (head : H) (read : List ℕ) (n : ℕ) : Type 0 where
+  pub front : List ℕ
+  pub piece : List ℕ
+  pub parts : read ≡ front ++ piece
+  pub few : length piece ≤ most
+  pub number : ℕ
+  pub before : number ≤ n
+  pub undecided : IsUndecided cutter head (drop (cutter.start head) front) number
+
+-- nothing was read, or what was read ends near an undecided place
+abbrev pub IsNear : {H C : Type 0} → Cutter H C → ℕ → H → List ℕ → ℕ → Type 0
+IsNear cutter most head read n = (read ≡ []) ⊎ EndsNear cutter most head read n
+
+-- Of an input with this head a demuxer has read these bytes, and given so many packets.
+pub record HasRead {H C : Type 0} (cutter : Cutter H C) (ahead : H → ℕ) (cut : C) (skip given : ℕ) (ended : Bool) (head : H) (read : List ℕ) : Type 0 where
+  pub is_head : cutter.IsHead head
+  pub fed : ended ≡ false → IsFed cutter cut skip head read given
+  pub near : IsNear cutter (ahead head) head read given
+
+-- Where these bytes were read and so many packets given, these were read in one call: nothing, or pieces, the last of which was wanted,
+-- and so each before it.
+abbrev pub ReadsOn : {H C : Type 0} → Cutter H C → (C → ℕ) → H → List ℕ → ℕ → List ℕ → Type 0
+ReadsOn cutter asks head read n more =
+    (more ≡ []) ⊎ ((front piece : List ℕ) × (more ≡ front ++ piece) × IsWanted cutter asks head (read ++ front) n (length piece))
+
+-- What a call has read, whatever was read before it and whether it gave a packet or not: its source has less by it, where that tells;
+-- each piece was wanted; the packet of its number lies near the end of what was read; and the state fits it.
+pub record HasReadOn {H C : Type 0} (cutter : Cutter H C) (asks : C → ℕ) (ahead : H → ℕ) (left left' : Option (List ℕ)) (cut' : C) (skip' given given' : ℕ) (ended' : Bool) (head : H) (read more : List ℕ) : Type 0 where
+  pub taken : Consumes left left' more
+  pub wanted : ReadsOn cutter asks head read given more
+  pub near : IsNear cutter (ahead head) head (read ++ more) given
+  pub now : HasRead cutter ahead cut' skip' given' ended' head (read ++ more)
+
+-- what a call reads
+abbrev pub Reads : {H C : Type 0} → Cutter H C → (C → ℕ) → (H → ℕ) → Option (List ℕ) → C → ℕ → ℕ → Bool → Option (List ℕ) → C → ℕ → ℕ → Bool → Type 0
+Reads {H} cutter asks ahead left cut skip given ended left' cut' skip' given' ended' =
+    (head : H) (read : List ℕ) → HasRead cutter ahead cut skip given ended head read
+    → (more : List ℕ) × HasReadOn cutter asks ahead left left' cut' skip' given given' ended' head read more
+
+-- In one step a cut is fed at most so many bytes more of what its source has left.
+abbrev pub FeedsOn : {H C : Type 0} → Cutter H C → ℕ → Option (List ℕ) → C → ℕ → Option (List ℕ) → C → ℕ → Type 0
+FeedsOn {H} cutter most left cut skip left' cut' skip' =
+    (head : H) (read : List ℕ) (n : ℕ) → IsFed cutter cut skip head read n
+    → (bytes : List ℕ) × Consumes left left' bytes × (length bytes ≤ most) × IsFed cutter cut' skip' head (read ++ bytes) n
