@@ -1,7 +1,7 @@
 -- What holds of every job that words ask for: of what one pass keeps, by each further entry.
 use Rattle.std.proofs.Common.{◌≡◌, ℕ, ◌+◌, ◌≤◌, Bool, true, false, Option, Some, None, Result, Ok, Err, List, [], ◌∷◌, ◌++◌, length, refl, sym, ap, subst, ◌∙◌, arith, length-append}
 use Rattle.std.specs.Prelude.{codes}
-use Rattle.std.specs.Prelude.{if◌then◌else◌, not, is_some, nat_le, unwrap_or, ◌&&◌, ◌==◌, map}
+use Rattle.std.specs.Prelude.{if◌then◌else◌, not, is_some, nat_le, unwrap_or, ◌&&◌, ◌||◌, ◌==◌, map}
 use Rattle.std.specs.List.{AllByRecursion}
 use Rattle.std.specs.Str.{bytes_eq}
 use Rattle.ff_lang.specs.declared.graph.Graph.{Graph}
@@ -353,15 +353,19 @@ bounded t words j h =
 -- ---- what is done today
 
 -- the kinds of option that the list of today has
+abbrev is_done : Kind → Bool
+is_done kind.SelfRun = false
+is_done kind.Start = false
+is_done kind.Length = false
+is_done kind.Shortest = false
+is_done _ = true
+
+abbrev Holds : Bool → Type 0
+Holds true = Unit {0}
+Holds false = ⊥
+
 abbrev IsDone : Kind → Type 0
-IsDone kind.Complex = ⊥
-IsDone kind.SelfRun = ⊥
-IsDone kind.Start = ⊥
-IsDone kind.Length = ⊥
-IsDone kind.VideoGraph = ⊥
-IsDone kind.AudioGraph = ⊥
-IsDone kind.Shortest = ⊥
-IsDone _ = Unit {0}
+IsDone k = Holds (is_done k)
 
 abbrev Line : Type 0
 Line = List ℕ × Concern × Kind × Bool
@@ -369,6 +373,21 @@ Line = List ℕ × Concern × Kind × Bool
 -- a line of what is done has such a kind
 abbrev IsFineLine : Line → Type 0
 IsFineLine line = line.3 ≡ true → IsDone line.2
+
+abbrev is_fine : List Line → Bool
+is_fine [] = true
+is_fine (line ∷ list) = (not line.3 || is_done line.2) && is_fine list
+
+fine-line : (done : Bool) (k : Kind) (rest : Bool) → ((not done || is_done k) && rest) ≡ true → (done ≡ true → IsDone k) × (rest ≡ true)
+fine-line false k rest h = (λ e. absurd cc, h)
+fine-line true k rest h = fine-kind (is_done k) rest h where
+  fine-kind : (b rest : Bool) → (b && rest) ≡ true → (true ≡ true → Holds b) × (rest ≡ true)
+  fine-kind true rest h = (λ e. tt, h)
+  fine-kind false rest h = absurd cc
+
+fine-lines : (list : List Line) → is_fine list ≡ true → AllByRecursion IsFineLine list
+fine-lines [] h = tt
+fine-lines (line ∷ list) h = (let both = fine-line line.3 line.2 (is_fine list) h in (both.0, fine-lines list both.1))
 
 abbrev kind_in : Kind → Option Rule → Kind
 kind_in k None = k
@@ -387,24 +406,19 @@ done-in (line ∷ list) word rule fine e = done-line line.3 (bytes_eq line.0 wor
 done-kind : (word : List ℕ) (rule : Rule) → option_named table.Today word ≡ Some rule → IsDone rule.kind
 unfolding option_named
 done-kind word rule e =
-    done-in (map (λ line. (line.0.now, line.1, line.2, line.3)) OPTIONS) word rule
-    (λ e. tt, (λ e. tt, (λ e. tt, (λ e. tt, (λ e. tt, (λ e. tt, (λ e. absurd cc, (λ e. absurd cc, (λ e. tt, (λ e. tt, (λ e. absurd cc, (λ e. tt, (λ e. absurd cc, (λ e. absurd cc, (λ e. tt, (λ e. tt, (λ e. tt, (λ e. tt, (λ e. tt, (λ e. tt, (λ e. tt, (λ e. tt, (λ e. absurd cc, (λ e. absurd cc, (λ e. absurd cc, (λ e. absurd cc, (λ e. tt, (λ e. tt, (λ e. absurd cc, (λ e. tt, tt))))))))))))))))))))))))))))))
-    e
+    (let list : List Line = map (λ line. (line.0.now, line.1, line.2, line.3)) OPTIONS in done-in list word rule (fine-lines list refl) e)
 
 -- of what a reader keeps: nothing that isn't done yet
-record Plain (self_run : Option ℕ) (graphs : List Graph) (ins : List InputJob) (outs : List OutputJob) (start length : Option Micros) (vf af : Option Graph) (shortest : Bool) : Type 0 where
+record Plain (self_run : Option ℕ) (ins : List InputJob) (outs : List OutputJob) (start length : Option Micros) (shortest : Bool) : Type 0 where
   no_self_run : self_run ≡ None
-  no_graphs : graphs ≡ []
   ins_uncut : AllByRecursion (λ (i : InputJob). IsUncut i.cut) ins
   outs_plain : AllByRecursion IsPlainOutput outs
   no_start : start ≡ None
   no_length : length ≡ None
-  no_vf : vf ≡ None
-  no_af : af ≡ None
   whole : shortest ≡ false
 
 abbrev IsPlainReader : Reader → Type 0
-IsPlainReader r = Plain r.self_run r.graphs r.inputs r.outputs r.pending.start r.pending.length r.pending.vf r.pending.af r.pending.shortest
+IsPlainReader r = Plain r.self_run r.inputs r.outputs r.pending.start r.pending.length r.pending.shortest
 
 never-done : (token : Token) (rule : Rule) (k : Kind) → option_named table.Today token.word ≡ Some rule → rule.kind ≡ k → IsDone k
 never-done token rule k named is = subst IsDone is (done-kind token.word rule named)
@@ -415,7 +429,7 @@ plain-option es token at concern value.Nothing plain h s = s
 plain-option es token at concern value.NoVideo plain h s = s
 plain-option es token at concern value.NoAudio plain h s = s
 plain-option es token at concern value.Shortest plain h s = absurd (never-done token h.0 kind.Shortest h.2 h.3)
-plain-option es token at concern (value.Complex g) plain h s = absurd (never-done token h.0 kind.Complex h.2 h.3)
+plain-option es token at concern (value.Complex g) plain h s = s
 plain-option es token at concern (value.Queue n) plain h s = s
 plain-option es token at concern (value.Trace n) plain h s = s
 plain-option es token at concern (value.SelfRun n) plain h s = absurd (never-done token h.0 kind.SelfRun h.2 h.3)
@@ -426,8 +440,8 @@ plain-option es token at concern (value.Input n) plain h s = absurd cc
 plain-option es token at concern (value.Map m) plain h s = s
 plain-option es token at concern (value.AudioCodec c) plain h s = s
 plain-option es token at concern (value.VideoCodec c) plain h s = s
-plain-option es token at concern (value.VideoGraph g) plain h s = absurd (never-done token h.0 kind.VideoGraph h.2 h.3)
-plain-option es token at concern (value.AudioGraph g) plain h s = absurd (never-done token h.0 kind.AudioGraph h.2 h.3)
+plain-option es token at concern (value.VideoGraph g) plain h s = s
+plain-option es token at concern (value.AudioGraph g) plain h s = s
 plain-option es token at concern (value.Hash d) plain h s = s
 plain-option es token at concern (value.Output n x) plain h s = absurd cc
 
@@ -438,13 +452,10 @@ plain-input : (es : List Entry) (name : List ℕ) → IsPlainReader (reader es) 
 plain-input es name s =
     record {
       no_self_run = s.no_self_run;
-      no_graphs = s.no_graphs;
       outs_plain = s.outs_plain;
       ins_uncut = all-more (λ (i : InputJob). IsUncut i.cut) (inputs es) _ s.ins_uncut (uncut (reader es).pending.start (reader es).pending.length s.no_start s.no_length);
       no_start = refl;
       no_length = refl;
-      no_vf = refl;
-      no_af = refl;
       whole = refl;
     }
 
@@ -452,18 +463,13 @@ plain-output : (es : List Entry) (name : List ℕ) (format : FileFormat) → IsP
 plain-output es name format s =
     record {
       no_self_run = s.no_self_run;
-      no_graphs = s.no_graphs;
       ins_uncut = s.ins_uncut;
       outs_plain = all-more IsPlainOutput (outputs es) _ s.outs_plain (record {
-        vf = s.no_vf;
-        af = s.no_af;
         uncut = uncut (reader es).pending.start (reader es).pending.length s.no_start s.no_length;
         whole = s.whole;
       });
       no_start = refl;
       no_length = refl;
-      no_vf = refl;
-      no_af = refl;
       whole = refl;
     }
 
@@ -477,13 +483,10 @@ plain-step es token e is s =
 plain-none : IsPlainReader (reader [])
 plain-none = record {
   no_self_run = refl;
-  no_graphs = refl;
   ins_uncut = tt;
   outs_plain = tt;
   no_start = refl;
   no_length = refl;
-  no_vf = refl;
-  no_af = refl;
   whole = refl;
 }
 
@@ -491,7 +494,7 @@ plain-all : (es : List Entry) (ts : List Token) → AreRead table.Today [] ts es
 plain-all es ts read = along table.Today (λ xs. IsPlainReader (reader xs)) plain-step [] ts es read plain-none
 
 plain-job : (es : List Entry) → IsPlainReader (reader es) → IsPlain (job es)
-plain-job es s = record { graphs = s.no_graphs; inputs = s.ins_uncut; outputs = s.outs_plain }
+plain-job es s = record { inputs = s.ins_uncut; outputs = s.outs_plain }
 
 pub plain : (words : List (List ℕ)) (j : Job) → IsAnswer table.Today words (Ok (Run j)) → IsPlain j
 plain words j h =

@@ -1,5 +1,5 @@
 -- What holds of every job that words ask for.
-use Rattle.std.specs.Prelude.{◌≡◌, ◌≤◌, false, [], None, length}
+use Rattle.std.specs.Prelude.{◌≡◌, ◌≤◌, false, None, length}
 use Rattle.std.specs.List.{AllByRecursion}
 use Rattle.ff_time.specs.declared.cut.TimeCut.{TimeCut}
 use Rattle.ff_words.specs.declared.job.InputJob.{InputJob}
@@ -28,15 +28,12 @@ pub record IsBounded (job : Job) : Type 0 where
 abbrev pub IsUncut : TimeCut → Type 0
 IsUncut cut = (cut.start ≡ 0) × (cut.length ≡ None)
 
--- an output without graphs and a cut, with all of each of its streams
+-- an output without a cut, with all of each of its streams
 pub record IsPlainOutput (out : OutputJob) : Type 0 where
-  pub vf : out.vf ≡ None
-  pub af : out.af ≡ None
   pub uncut : IsUncut out.cut
   pub whole : out.shortest ≡ false
 
--- by what is done today: no graph, and no file is cut
+-- by what is done today: no file is cut, and no stream ends with another
 pub record IsPlain (job : Job) : Type 0 where
-  pub graphs : job.graphs ≡ []
   pub inputs : AllByRecursion (λ (i : InputJob). IsUncut i.cut) job.inputs
   pub outputs : AllByRecursion IsPlainOutput job.outputs
