@@ -1,2 +1,4 @@
+mod Faults
 mod Orders
+mod Own
 mod Tabled

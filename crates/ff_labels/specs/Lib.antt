@@ -1,3 +1,4 @@
 pub mod Labels
+pub mod Names
 pub mod Order
 pub mod Tables

@@ -1,7 +1,8 @@
 // Which labels a graph takes and gives.
-ghost use Rattle.std.specs.Prelude.{◌≡◌};
-ghost use Rattle.ff_labels.specs.Labels.{is_one_of as one_of, outs_of, ins_of, given_in, taken_in, meet};
-ghost use Rattle.std.specs.Prelude.{List, ℕ};
+ghost use Rattle.std.specs.Prelude.{◌≡◌, ◌<◌, ◌≤◌, true, false, length};
+ghost use Rattle.std.specs.List.{AllByRecursion};
+ghost use Rattle.ff_lang.specs.declared.graph.Graph.{Graph};
+ghost use Rattle.ff_labels.specs.Labels.{is_one_of as one_of, filters_of, outs_of, ins_of, given_in, taken_in, meet};
 
 use ff_lang::{Chain, Graph, Text};
 
@@ -72,4 +73,35 @@ pub(crate) fn gives_to(from: &Graph, to: &Graph) -> bool
         }
     }
     false
+}
+
+// How many filters a graph may have: its text has no more bytes.
+const MOST: usize = 65_536;
+
+fn is_short(graph: &Graph) -> bool
+    ensures yes { result ≡ true → length (filters_of graph.now) ≤ 65536 }
+    ensures no { result ≡ false → 65536 < length (filters_of graph.now) }
+{
+    let mut left = MOST;
+    for chain in graph.chains.as_slice() {
+        let count = chain.filters.as_slice().len();
+        if count > left {
+            return false;
+        }
+        left -= count;
+    }
+    true
+}
+
+/// Whether each graph has at most 65,536 filters, as all have that were read of a text of so many bytes.
+pub fn are_short(graphs: &[Graph]) -> bool
+    ensures yes { result ≡ true → AllByRecursion (λ (g : Graph). length (filters_of g) ≤ 65536) graphs.now }
+    ensures no { result ≡ false → AllByRecursion (λ (g : Graph). length (filters_of g) ≤ 65536) graphs.now → ⊥ }
+{
+    for graph in graphs {
+        if !is_short(graph) {
+            return false;
+        }
+    }
+    true
 }

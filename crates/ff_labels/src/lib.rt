@@ -1,13 +1,23 @@
-//! Labels, pads and order of filtergraphs: what a plan asks of a job's graphs before it numbers nodes.
+//! Names, labels and order of filtergraphs: what a plan asks of a job's graphs before it numbers nodes.
 //!
-//! A label at an input pad names the output pad of a complex graph that has it, so graphs feed graphs. `specs/Labels` says which
-//! labels a graph takes and gives, `specs/Order` which graph feeds which, which lies on a loop, and in which order they stand: each
-//! behind those that feed it, else by number.
+//! A label at an input pad names the output pad of a complex graph that has it, else a stream of an input, so graphs feed graphs.
+//! `specs/Labels` says which labels a graph takes and gives, `specs/Names` what is wrong with names and labels, and what comes first,
+//! `specs/Order` which graph feeds which, which lies on a loop, and in which order they stand: each behind those that feed it, else
+//! by number.
 #![tactic(auto)]
 
+mod alone;
+mod fault;
+mod known;
 mod labels;
 mod laws;
+mod names;
 mod order;
 
+pub use alone::{check_names, check_own_labels};
+pub use fault::LabelFault;
+pub use known::Known;
+pub use labels::are_short;
 pub use laws::{orders_are_whole, orders_go_upward};
+pub use names::{check_labels, labels_given};
 pub use order::{graph_on_loop, graphs_in_order};

@@ -1,0 +1,48 @@
+use Rattle.std.proofs.Common.{◌≡◌, ◌+◌, ◌++◌, ◌<◌, length, drop, get_or, ap, ◌∙◌, arith, List}
+use Rattle.std.proofs.lemmas.List.{get_or_default}
+use Rattle.ff_lang.specs.declared.graph.Chain.{Chain}
+use Rattle.ff_labels.specs.Labels.{filters_of, taken_in, given_in}
+use Rattle.ff_labels.specs.Names.{filters_fault}
+use Rattle.ff_labels.proofs.Faults.{filters_from, filters_next, chain_fault, chain_fine, ins_on, outs_on, count_on}
+use Rattle.ff_labels.proofs.names.check_graph.Goals as goal
+
+pub returns-in-Err-clause-fault : goal.returns-in-Err-clause-fault
+returns-in-Err-clause-fault g c =
+    let chains = c.args.graph.now.chains in
+    let n = c.loop-chain.chain-index in
+    let x = c.chain-item.result in
+    let items : c.as_slice-chain-items.result.now ≡ chains = c.as_slice-chain-items.ensures in
+    let lt : n < length chains = (let t = c.loop-chain-test.true in let e = ap (λ (l : List Chain). length l) items in omega (arith, t, e)) in
+    let at : x ≡ get_or chains n x = c.chain-item.is ∙ (get_or_default c.as_slice-chain-items.result.now n x x c.loop-chain-test.true ∙ ap (λ (l : List Chain). get_or l n x) items) in
+    let fs = c.as_slice-filters.result.now in
+    let here = filters_next chains n x fs lt at c.as_slice-filters.ensures in
+    let K = g.K.Known in
+    chain_fault (K.filter c.args.known.now) (K.stream c.args.known.now) c.args.given.now c.args.number c.loop-chain.first c.loop-chain.seen.ins.items c.loop-chain.seen.outs.items
+    (filters_from (drop n chains)) fs (filters_from (drop (n + 1) chains))
+    (filters_fault (K.filter c.args.known.now) (K.stream c.args.known.now) c.args.given.now c.args.number 0 c.args.seen.now.ins.items c.args.seen.now.outs.items (filters_of c.args.graph.now))
+    c.in-Err.fault here c.loop-chain.invariant.rest c.in-Err.ensures.fault
+
+pub loop-chain-preserved : goal.loop-chain-preserved
+loop-chain-preserved g c =
+    let chains = c.args.graph.now.chains in
+    let n = c.loop-chain.chain-index in
+    let x = c.chain-item.result in
+    let items : c.as_slice-chain-items.result.now ≡ chains = c.as_slice-chain-items.ensures in
+    let lt : n < length chains = (let t = c.loop-chain-test.true in let e = ap (λ (l : List Chain). length l) items in omega (arith, t, e)) in
+    let at : x ≡ get_or chains n x = c.chain-item.is ∙ (get_or_default c.as_slice-chain-items.result.now n x x c.loop-chain-test.true ∙ ap (λ (l : List Chain). get_or l n x) items) in
+    let fs = c.as_slice-filters.result.now in
+    let front = filters_from (drop n chains) in
+    let rest = filters_from (drop (n + 1) chains) in
+    let here = filters_next chains n x fs lt at c.as_slice-filters.ensures in
+    let K = g.K.Known in
+    let ins = c.loop-chain.seen.ins.items in
+    let outs = c.loop-chain.seen.outs.items in
+    record {
+      rest = chain_fine (K.filter c.args.known.now) (K.stream c.args.known.now) c.args.given.now c.args.number c.loop-chain.first ins outs c.check_chain.new.seen.ins.items c.check_chain.new.seen.outs.items
+          front fs rest
+          (filters_fault (K.filter c.args.known.now) (K.stream c.args.known.now) c.args.given.now c.args.number 0 c.args.seen.now.ins.items c.args.seen.now.outs.items (filters_of c.args.graph.now))
+          here c.loop-chain.invariant.rest c.in-Ok.ensures.fine c.in-Ok.ensures.ins c.in-Ok.ensures.outs;
+      few = count_on c.loop-chain.first (length (filters_of c.args.graph.now)) front fs rest here c.loop-chain.invariant.few;
+      ins = ins_on ins c.check_chain.new.seen.ins.items (c.args.seen.now.ins.items ++ taken_in c.args.graph.now) front fs rest here c.loop-chain.invariant.ins c.in-Ok.ensures.ins;
+      outs = outs_on outs c.check_chain.new.seen.outs.items (c.args.seen.now.outs.items ++ given_in c.args.graph.now) front fs rest here c.loop-chain.invariant.outs c.in-Ok.ensures.outs;
+    }
