@@ -1,3 +1,4 @@
 pub mod Names
+pub mod Pads
 pub mod Makes
 pub mod SingleLaws

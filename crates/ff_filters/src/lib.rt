@@ -13,7 +13,9 @@
 mod any;
 mod configured;
 mod name;
+mod pads;
 
 pub use any::AnyFilter;
 pub use configured::configure;
 pub use name::{FilterName, named};
+pub use pads::{inputs, outputs, takes_sound};

@@ -23,6 +23,7 @@ mod segments;
 mod sound_inlet;
 mod times;
 
+pub use arguments::last_number;
 pub use concat::Concat;
 pub use concat_options::ConcatSettings;
 pub use join::Join;

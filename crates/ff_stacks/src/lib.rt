@@ -27,7 +27,7 @@ mod vstack;
 
 pub use hstack::HStack;
 pub use laws::{stacks_keep_valid_streams, stacks_of_two_pixels, stacks_of_valid_streams};
-pub use options::StackSettings;
+pub use options::{StackSettings, count_inputs};
 pub use plan::Plan;
 pub use shape::{Direction, Shape};
 pub use stacked::Stacked;

@@ -88,7 +88,7 @@ fn is_inputs(arg: &Arg, keyed: bool, place: usize) -> bool
 }
 
 /// How many inputs there are by the arguments. The last that gives the number counts, even if others are at fault.
-pub(crate) fn count_inputs(args: &[Arg]) -> usize
+pub fn count_inputs(args: &[Arg]) -> usize
     ensures { result ≡ counted false 0 2 args.now }
 {
     let mut inputs: usize = 2;
