@@ -1,0 +1,6 @@
+use Rattle.std.proofs.Common.{◌≡◌, ◌++◌, drop, map, false}
+use Rattle.ff_graph.specs.Drawings.{seen, seen_chain}
+use Rattle.ff_graph.proofs.drawing.draw_chain.Given as goal
+
+abbrev pub invariant-filters : goal.invariant-filters
+invariant-filters l = map seen l.drawn.items ++ seen_chain l.follows (drop l.i l.filters) ≡ map seen l.fn.drawn.items ++ seen_chain false l.filters
