@@ -78,3 +78,14 @@ feeders_of ds k d = filter_and (first_fed ds k d) [] ++ givers ds d.filter.now.i
 abbrev pub feeders_from : List Drawn → ℕ → List Drawn → List (List ℕ)
 feeders_from ds k [] = []
 feeders_from ds k (d ∷ rest) = feeders_of ds k d ∷ feeders_from ds (suc k) rest
+
+-- the open ones of the input pads from number i on of filter k, of which each is fed so
+abbrev pub opens_at : ℕ → ℕ → List (Option Pad) → List Pad
+opens_at k i [] = []
+opens_at k i (None ∷ ss) = record { filter = k; pad = i } ∷ opens_at k (suc i) ss
+opens_at k i (Some p ∷ ss) = opens_at k (suc i) ss
+
+-- of all filters, of which the first has number k
+abbrev pub opens_from : ℕ → List (List (Option Pad)) → List Pad
+opens_from k [] = []
+opens_from k (ss ∷ rest) = opens_at k 0 ss ++ opens_from (suc k) rest

@@ -11,8 +11,10 @@
 
 mod drawn;
 mod feeding;
+mod opening;
 mod sourcing;
 
 pub use drawn::{Drawn, Pad, giver};
 pub use feeding::feeders;
+pub use opening::open_inputs;
 pub use sourcing::sources;

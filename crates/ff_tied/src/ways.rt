@@ -1,0 +1,107 @@
+ghost use Rattle.std.specs.Prelude.{◌≡◌, ◌<◌, ℕ, List, Bool, true, Some, Ok, length, slice_get, IfOk, IfSome};
+ghost use Rattle.ff_dag.specs.declared.graph.Port.{Port as APort};
+ghost use Rattle.ff_dag.specs.declared.graph.Wire.{Wire as AWire};
+ghost use Rattle.ff_dag.specs.Graphs.{among};
+ghost use Rattle.ff_tied.specs.Tied.{is_needed as needed_is, wire_needed as wire_is_needed, ways_at, IsReached};
+
+use ff_dag::{Plan, Port, Wire};
+use std::alloc::{AllocError, Global};
+
+// Whether a filter is needed.
+fn is_needed(needed: &[bool], filter: usize) -> bool
+    ensures { result ≡ needed_is needed.now filter }
+{
+    filter < needed.len() && needed[filter]
+}
+
+// A filter is needed.
+fn mark(needed: &mut Vec<bool>, filter: usize) {
+    if filter < needed.len() {
+        needed[filter] = true;
+    }
+}
+
+// The filters that are needed at an output: the one there, and those that feed one that is needed.
+fn needed_at(alloc: Global, plan: &Plan, pad: Port) -> Result<Vec<bool>, AllocError> {
+    let mut needed = Vec::new(alloc);
+    needed.resize(plan.nodes.len(), false)?;
+    mark(&mut needed, pad.filter);
+    let mut edge = plan.wires.len();
+    while edge > 0 && edge <= plan.wires.len() {
+        edge -= 1;
+        let Wire { from, to } = plan.wires[edge];
+        if is_needed(&needed, to.filter) {
+            if let Some(from) = from {
+                mark(&mut needed, from.filter);
+            }
+        }
+    }
+    Ok(needed)
+}
+
+// Whether the filter that an edge leaves is needed, if it leaves one.
+fn start_is_needed(wire: Wire, needed: &[bool]) -> bool
+    ensures { result ≡ true → (g : APort) → wire.from ≡ Some g → needed_is needed.now g.filter ≡ true }
+{
+    match wire.from {
+        None => true,
+        Some(from) => is_needed(needed, from.filter),
+    }
+}
+
+// Whether each filter that feeds a needed one is needed.
+fn are_closed(plan: &Plan, needed: &[bool]) -> bool
+    ensures { result ≡ true → (w : ℕ) (x : AWire) (g : APort) → slice_get plan.now.wires.items w ≡ Some x → needed_is needed.now x.to.filter ≡ true
+        → x.from ≡ Some g → needed_is needed.now g.filter ≡ true }
+{
+    'each: for w in 0..plan.wires.len() {
+        let wire = plan.wires[w];
+        if is_needed(needed, wire.to.filter) && !start_is_needed(wire, needed) {
+            return false;
+        }
+    }
+    true
+}
+
+// The edges that lead to a needed filter, the highest first.
+fn needed_edges(alloc: Global, plan: &Plan, needed: &[bool]) -> Result<Vec<usize>, AllocError>
+    ensures { IfOk result (λ ways. (w : ℕ) → among ways.items w ≡ wire_is_needed needed.now (slice_get plan.now.wires.items w)) }
+{
+    let mut ways = Vec::new(alloc);
+    let mut edge = plan.wires.len();
+    'down: while edge > 0 {
+        edge -= 1;
+        if is_needed(needed, plan.wires[edge].to.filter) {
+            ways.push(edge)?;
+        }
+    }
+    Ok(ways)
+}
+
+// The edges on the way to an output. None where what feeds them isn't known.
+fn way_to(alloc: Global, plan: &Plan, pad: Port) -> Result<Option<Vec<usize>>, AllocError>
+    ensures { IfOk result (λ o. IfSome o (λ ways. (needed : List Bool) × IsReached plan.now ways.items pad needed)) }
+{
+    let needed = needed_at(alloc, plan, pad)?;
+    if !is_needed(&needed, pad.filter) || !are_closed(plan, &needed) {
+        return Ok(None);
+    }
+    let ways = needed_edges(alloc, plan, &needed)?;
+    Ok(Some(ways))
+}
+
+/// For each output the edges on the way to it, the highest first. None where an edge leads back.
+pub fn all_ways(alloc: Global, plan: &Plan) -> Result<Option<Vec<Vec<usize>>>, AllocError>
+    ensures count { IfOk result (λ o. IfSome o (λ ways. length ways.items ≡ length plan.now.pads.items)) }
+    ensures reached { IfOk result (λ o. IfSome o (λ ways. (q : ℕ) (f : APort) → slice_get plan.now.pads.items q ≡ Some f
+        → (needed : List Bool) × IsReached plan.now (ways_at ways.items q) f needed)) }
+{
+    let mut ways = Vec::with_capacity(alloc, plan.pads.len())?;
+    'each: for q in 0..plan.pads.len() {
+        match way_to(alloc, plan, plan.pads[q])? {
+            None => return Ok(None),
+            Some(way) => ways.push_reserved(way),
+        }
+    }
+    Ok(Some(ways))
+}
