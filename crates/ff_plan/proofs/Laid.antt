@@ -22,10 +22,12 @@ use Rattle.ff_plan.proofs.Known.{known_among}
 use Rattle.ff_plan.specs.Laws.{IsThere, IsLaid, IsLaidOut}
 use Rattle.ff_plan.specs.Plain.{plain}
 use Rattle.ff_plan.specs.Rules.{Rules, OpenOut, behind, where_so}
-use Rattle.ff_plan.specs.Labels.{filters_of}
+use Rattle.ff_labels.specs.Labels.{filters_of}
+use Rattle.ff_labels.specs.Names.{twice_in, unknown_filter}
+use Rattle.ff_plan.specs.Labels.{refused}
 use Rattle.ff_plan.specs.declared.planned.PlanError.TheVariants as fault
 use Rattle.ff_values.specs.declared.config.ConfigError.TheVariants as config
-use Rattle.ff_plan.specs.Streams.{unknown_filter, twice_in, takes, Inside, as_pad, is_kept, mapped, all_mapped, front_with, label_in, automatic, is_wanted, asked, some_or, chosen, Passed, through, configured_simple, simply, null_graph, as_it_is, passed_by, passed_from, passed, graph_of, all_passed, simple_of, packed_as}
+use Rattle.ff_plan.specs.Streams.{takes, Inside, as_pad, is_kept, mapped, all_mapped, front_with, label_in, automatic, is_wanted, asked, some_or, chosen, Passed, through, configured_simple, simply, null_graph, as_it_is, passed_by, passed_from, passed, graph_of, all_passed, simple_of, packed_as}
 use Rattle.ff_plan.specs.Planned.{labels_of, graphs_of, outputs_from, layout_of, limited, laid_out, unused_label, simple_graphs}
 use Rattle.ff_plan.proofs.Among.{all_joined, all_map, place_among, was_among, among_either, among_flat}
 use Rattle.ff_plan.proofs.Layouts.{nat_self}
@@ -100,7 +102,7 @@ module _ (rules : Rules) (heads : List (List StreamHead)) where
 
   simply_comes : (out : OutputJob) (g : ℕ) (i : InPad) (graph : Graph) (p : Passed) → simply rules out g i graph ≡ Ok p → Knows i → Comes p
   simply_comes out g i graph p h k =
-      let a = unless_ok (where_so (not (length (rules.open_ins graph) == 1)) (fault.Config g 0 config.Pads)) _ p (unless_ok (where_so (rules.loops graph) (fault.Loop g)) _ p (unless_ok (unknown_filter rules g 0 (filters_of graph)) _ p (unless_ok (twice_in [] [] (filters_of graph)) _ p h))) in
+      let a = unless_ok (where_so (not (length (rules.open_ins graph) == 1)) (fault.Config g 0 config.Pads)) _ p (unless_ok (where_so (rules.loops graph) (fault.Loop g)) _ p (unless_ok (refused (unknown_filter rules.known g 0 (filters_of graph))) _ p (unless_ok (refused (twice_in [] [] (filters_of graph))) _ p h))) in
       let b = behind_ok (configured_simple g (rules.configured graph (Some i.head ∷ []))) (through out g i) p a in
       through_comes out g i b.0 p b.2 k
 

@@ -22,7 +22,7 @@ use Rattle.ff_edges.specs.declared.edge.Edge.{Edge}
 use Rattle.ff_plan.specs.declared.planned.Plan.{Plan}
 use Rattle.ff_plan.specs.declared.planned.PlanNode.TheVariants as node
 use Rattle.ff_sched.specs.declared.routes.Way.TheVariants as way
-use Rattle.ff_plan.specs.Labels.{taken_in, given_in}
+use Rattle.ff_labels.specs.Labels.{taken_in, given_in}
 use Rattle.ff_plan.specs.Rules.{Rules}
 use Rattle.ff_plan.specs.Streams.{most_streams}
 

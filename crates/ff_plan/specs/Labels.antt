@@ -1,9 +1,8 @@
 -- Labels of complex graphs: who gives one, who takes it, and the first refusals.
-use Rattle.std.specs.Prelude.{ℕ, suc, ◌&&◌, Bool, true, false, not, List, [], ◌∷◌, ◌++◌, Option, Some, None}
+use Rattle.std.specs.Prelude.{ℕ, Bool, true, false, List, [], ◌∷◌, Option, Some, None, is_some}
 use Rattle.std.specs.List.{flat_map, position}
 use Rattle.ff_values.specs.declared.head.StreamHead.{StreamHead}
 use Rattle.ff_lang.specs.declared.graph.Graph.{Graph}
-use Rattle.ff_lang.specs.declared.graph.Filter.{Filter}
 use Rattle.ff_map.specs.declared.map.MapFrom.{MapFrom}
 use Rattle.ff_map.specs.declared.map.MapFrom.TheVariants as from
 use Rattle.ff_map.specs.declared.map.MapSpec.{MapSpec}
@@ -13,17 +12,11 @@ use Rattle.ff_plan.specs.declared.planned.PlanError.TheVariants as fault
 use Rattle.ff_map.specs.declared.streams.Stream.{Stream}
 use Rattle.ff_map.specs.Choice.{selected}
 use Rattle.ff_plan.specs.Choice.{known}
-use Rattle.ff_plan.specs.Rules.{Rules, or_else, where_so, is_one_of}
-
--- filters in the order of writing, and their labels
-abbrev pub filters_of : Graph → List Filter
-filters_of g = flat_map (λ c. c.filters) g.chains
-
-abbrev pub taken_in : Graph → List (List ℕ)
-taken_in g = flat_map (λ f. f.ins) (filters_of g)
-
-abbrev pub given_in : Graph → List (List ℕ)
-given_in g = flat_map (λ f. f.outs) (filters_of g)
+use Rattle.ff_labels.specs.declared.fault.LabelFault.{LabelFault}
+use Rattle.ff_labels.specs.declared.fault.LabelFault.TheVariants as label_fault
+use Rattle.ff_labels.specs.Labels.{is_one_of, taken_in, given_in}
+use Rattle.ff_labels.specs.Names.{labels_fault as names_fault}
+use Rattle.ff_plan.specs.Rules.{Rules}
 
 -- the graph that gives a label
 abbrev pub giver : List Graph → List ℕ → Option ℕ
@@ -49,41 +42,20 @@ first_known (k ∷ ks) = Some k
 abbrev pub stream_of_label : Rules → List (List StreamHead) → List ℕ → Option Stream
 stream_of_label rules heads label = first_known (stream_of_spec heads (rules.map_of label))
 
-abbrev pub is_none : Option Stream → Bool
-is_none None = true
-is_none (Some k) = false
+-- a fault of names and labels as a refusal
+abbrev pub refusal_of : LabelFault → PlanError
+refusal_of (label_fault.UnknownFilter g f) = fault.Config g f config.UnknownFilter
+refusal_of (label_fault.UnknownLabel label) = fault.UnknownLabel label
+refusal_of (label_fault.LabelTwice label) = fault.LabelTwice label
+refusal_of label_fault.NoMemory = fault.NoMemory
 
--- the first label that is neither given nor a stream
-abbrev pub unknown_label : Rules → List (List StreamHead) → List Graph → List (List ℕ) → Option PlanError
-unknown_label rules heads graphs [] = None
-unknown_label rules heads graphs (label ∷ labels) = or_else (where_so (not (is_given graphs label) && is_none (stream_of_label rules heads label))
-    (fault.UnknownLabel label)) (unknown_label rules heads graphs labels)
-
--- the first label that passes and stood before
-abbrev pub twice : (List ℕ → Bool) → List (List ℕ) → List (List ℕ) → Option PlanError
-twice counts before [] = None
-twice counts before (label ∷ labels) = or_else (where_so (counts label && is_one_of label before) (fault.LabelTwice label)) (twice counts (label ∷ before) labels)
-
--- the refusals of one filter, behind these labels
-abbrev pub filter_fault : Rules → List (List StreamHead) → List Graph → ℕ → ℕ → List (List ℕ) → List (List ℕ) → Filter → Option PlanError
-filter_fault rules heads graphs g f ins outs filter =
-    or_else (where_so (not (rules.known filter.name)) (fault.Config g f config.UnknownFilter))
-    (or_else (unknown_label rules heads graphs filter.ins)
-    (or_else (twice (is_given graphs) ins filter.ins) (twice (λ l. true) outs filter.outs)))
-
-abbrev pub filters_fault : Rules → List (List StreamHead) → List Graph → ℕ → ℕ → List (List ℕ) → List (List ℕ) → List Filter → Option PlanError
-filters_fault rules heads graphs g f ins outs [] = None
-filters_fault rules heads graphs g f ins outs (x ∷ xs) = or_else (filter_fault rules heads graphs g f ins outs x) (filters_fault rules heads graphs g (suc f)
-    (x.ins ++ ins) (x.outs ++ outs) xs)
+abbrev pub refused : Option LabelFault → Option PlanError
+refused None = None
+refused (Some e) = Some (refusal_of e)
 
 -- the first refusal of names and labels, by graph and filter
-abbrev pub labels_from : Rules → List (List StreamHead) → List Graph → ℕ → List (List ℕ) → List (List ℕ) → List Graph → Option PlanError
-labels_from rules heads graphs n ins outs [] = None
-labels_from rules heads graphs n ins outs (g ∷ gs) = or_else (filters_fault rules heads graphs n 0 ins outs (filters_of g)) (labels_from rules heads graphs
-    (suc n) (taken_in g ++ ins) (given_in g ++ outs) gs)
-
 abbrev pub labels_fault : Rules → List (List StreamHead) → List Graph → Option PlanError
-labels_fault rules heads graphs = labels_from rules heads graphs 0 [] [] graphs
+labels_fault rules heads graphs = refused (names_fault rules.known (λ label. is_some (stream_of_label rules heads label)) graphs)
 
 -- the given labels that pads of complex graphs take
 abbrev pub taken_labels : List Graph → List (List ℕ)

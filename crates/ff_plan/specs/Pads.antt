@@ -12,7 +12,7 @@ use Rattle.ff_map.specs.Choice.{all_streams, has_kind}
 use Rattle.ff_plan.specs.declared.layout.InPad.{InPad}
 use Rattle.ff_plan.specs.declared.layout.Origin.TheVariants as origin
 use Rattle.ff_plan.specs.Layout.{Laid, same_ref}
-use Rattle.ff_plan.specs.Order.{graph_order}
+use Rattle.ff_labels.specs.Order.{graph_order}
 use Rattle.ff_plan.specs.Rules.{Rules, OpenIn, OpenOut, Refused, Planned, behind}
 
 -- what an input pad gets: a stream of an input, what has this label in the graph of this number, or nothing

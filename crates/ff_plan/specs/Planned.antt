@@ -7,13 +7,14 @@ use Rattle.ff_words.specs.declared.job.OutputJob.{OutputJob}
 use Rattle.ff_plan.specs.declared.planned.Plan.{Plan}
 use Rattle.ff_plan.specs.declared.planned.PlanError.{PlanError}
 use Rattle.ff_plan.specs.declared.planned.PlanError.TheVariants as fault
-use Rattle.ff_plan.specs.Labels.{given_in, taken_labels, labels_fault}
+use Rattle.ff_labels.specs.Labels.{is_one_of, given_in}
+use Rattle.ff_plan.specs.Labels.{taken_labels, labels_fault}
 use Rattle.ff_plan.specs.declared.layout.InPad.{InPad}
 use Rattle.ff_plan.specs.Layout.{Layout}
 use Rattle.ff_plan.specs.Nodes.{plan_of}
 use Rattle.ff_plan.specs.Order.{numbers, loop_fault}
 use Rattle.ff_plan.specs.Pads.{Made, make_all, unlabelled}
-use Rattle.ff_plan.specs.Rules.{Rules, Planned, behind, unless, where_so, is_one_of}
+use Rattle.ff_plan.specs.Rules.{Rules, Planned, behind, unless, where_so}
 use Rattle.ff_plan.specs.Streams.{Inside, Passed, chosen, all_passed, graph_of, label_in, front_with}
 
 abbrev pub labels_of : OutputJob → List (List ℕ)

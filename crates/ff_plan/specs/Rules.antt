@@ -1,7 +1,5 @@
 -- What the plan takes from the crates below it, and words on results.
 use Rattle.std.specs.Prelude.{ℕ, Bool, true, false, List, Option, Some, None, Result, Ok, Err}
-use Rattle.std.specs.List.{list_any}
-use Rattle.std.specs.Str.{bytes_eq}
 use Rattle.ff_values.specs.declared.head.StreamHead.{StreamHead}
 use Rattle.ff_lang.specs.declared.graph.Graph.{Graph}
 use Rattle.ff_words.specs.declared.job.FileFormat.{FileFormat}
@@ -62,6 +60,3 @@ or_else (Some e) second = Some e
 abbrev pub where_so : Bool → PlanError → Option PlanError
 where_so true e = Some e
 where_so false e = None
-
-abbrev pub is_one_of : List ℕ → List (List ℕ) → Bool
-is_one_of text texts = list_any (bytes_eq text) texts

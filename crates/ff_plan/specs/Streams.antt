@@ -1,5 +1,5 @@
 -- Which streams an output has, and what becomes of each: taken as it is, through a simple graph, or refused.
-use Rattle.std.specs.Prelude.{ℕ, suc, ◌+◌, ◌==◌, ◌&&◌, ◌||◌, nat_le, nat_lt, Bool, true, false, not, if◌then◌else◌, List, [], ◌∷◌, ◌++◌, codes, length, map, Option}
+use Rattle.std.specs.Prelude.{ℕ, ◌+◌, ◌==◌, ◌&&◌, ◌||◌, nat_le, nat_lt, Bool, true, false, not, if◌then◌else◌, List, [], ◌∷◌, ◌++◌, codes, length, map, Option}
 use Rattle.std.specs.Prelude.{Some, None, Result, Ok, Err}
 use Rattle.std.specs.List.{filter, list_any, cons_option}
 use Rattle.ff_values.specs.declared.head.Codec.{Codec}
@@ -7,7 +7,6 @@ use Rattle.ff_values.specs.declared.head.Codec.TheVariants as codec
 use Rattle.ff_values.specs.declared.head.StreamHead.{StreamHead}
 use Rattle.ff_values.specs.declared.head.StreamHead.TheVariants as stream_head
 use Rattle.ff_lang.specs.declared.graph.Graph.{Graph}
-use Rattle.ff_lang.specs.declared.graph.Filter.{Filter}
 use Rattle.ff_words.specs.declared.job.FileFormat.{FileFormat}
 use Rattle.ff_words.specs.declared.job.FileFormat.TheVariants as format
 use Rattle.ff_map.specs.declared.map.Kind.{Kind}
@@ -22,14 +21,16 @@ use Rattle.ff_plan.specs.declared.planned.PlanError.TheVariants as fault
 use Rattle.ff_map.specs.declared.streams.Stream.{Stream}
 use Rattle.ff_map.specs.Choice.{has_kind, selected}
 use Rattle.ff_plan.specs.Choice.{kind_of, same_kind, known, best}
-use Rattle.ff_plan.specs.Labels.{filters_of, is_given, giver, twice}
+use Rattle.ff_labels.specs.Labels.{is_one_of, filters_of}
+use Rattle.ff_labels.specs.Names.{twice_in, unknown_filter}
+use Rattle.ff_plan.specs.Labels.{is_given, giver, refused}
 use Rattle.ff_plan.specs.declared.layout.Origin.{Origin}
 use Rattle.ff_plan.specs.declared.layout.Origin.TheVariants as origin
 use Rattle.ff_plan.specs.declared.layout.InPad.{InPad}
 use Rattle.ff_plan.specs.declared.layout.OutStream.{OutStream}
 use Rattle.ff_plan.specs.Layout.{Laid}
 use Rattle.ff_plan.specs.Pads.{Made, made_at, labelled_out}
-use Rattle.ff_plan.specs.Rules.{Rules, OpenOut, Refused, Planned, behind, unless, or_else, where_so, is_one_of}
+use Rattle.ff_plan.specs.Rules.{Rules, OpenOut, Refused, Planned, behind, unless, where_so}
 
 -- what was made before the outputs
 pub record Inside : Type 0 where
@@ -163,15 +164,6 @@ is_pad (origin.Pad g p) = true
 abbrev pub takes : Rules → OutputJob → ℕ → InPad → Bool
 takes rules out n i = takes_head out i.head && nat_lt n (rules.most out.format) && not (is_pad i.source && is_graph (simple_of out (kind_of i.head)))
 
--- the first label that stands at two pads of one direction
-abbrev pub twice_in : List (List ℕ) → List (List ℕ) → List Filter → Option PlanError
-twice_in ins outs [] = None
-twice_in ins outs (x ∷ xs) = or_else (twice (λ l. true) ins x.ins) (or_else (twice (λ l. true) outs x.outs) (twice_in (x.ins ++ ins) (x.outs ++ outs) xs))
-
-abbrev pub unknown_filter : Rules → ℕ → ℕ → List Filter → Option PlanError
-unknown_filter rules g f [] = None
-unknown_filter rules g f (x ∷ xs) = or_else (where_so (not (rules.known x.name)) (fault.Config g f config.UnknownFilter)) (unknown_filter rules g (suc f) xs)
-
 -- a stream of an output, and the simple graph that it passes through, if one
 pub record Passed : Type 0 where
   pub what : OutStream
@@ -194,8 +186,8 @@ configured_simple g (Err r) = Err (fault.Config g r.filter r.kind)
 -- through a simple graph with this number
 abbrev pub simply : Rules → OutputJob → ℕ → InPad → Graph → Planned Passed
 simply rules out g i graph =
-    unless (twice_in [] [] (filters_of graph))
-    (unless (unknown_filter rules g 0 (filters_of graph))
+    unless (refused (twice_in [] [] (filters_of graph)))
+    (unless (refused (unknown_filter rules.known g 0 (filters_of graph)))
     (unless (where_so (rules.loops graph) (fault.Loop g))
     (unless (where_so (not (length (rules.open_ins graph) == 1)) (fault.Config g 0 config.Pads))
     (behind (configured_simple g (rules.configured graph (Some i.head ∷ []))) (through out g i)))))
