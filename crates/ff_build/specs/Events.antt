@@ -1,49 +1,49 @@
--- Which events the nodes of a plan have to tell: each of its own output or input alone.
-use Rattle.std.specs.Prelude.{◌≡◌, ℕ, nat_eq, Bool, true, false, All, List, [], ◌∷◌, slice_get, Some}
+-- Each part tells of its own input or output alone.
+use Rattle.std.specs.Prelude.{◌≡◌, ℕ, Bool, true, false, All, List, [], ◌∷◌, ◌++◌, map, refl}
+use Rattle.std.proofs.lemmas.List.Elements.{All-head, All-tail, All-nil, All-cons}
+use Rattle.ff_values.specs.Heads.{base_of_head}
 use Rattle.ff_values.specs.declared.head.StreamHead.{StreamHead}
 use Rattle.ff_values.specs.declared.event.Event.{Event}
 use Rattle.ff_values.specs.declared.event.Event.TheVariants.{Grant, Sent, Finished, Best, Exited}
-use Rattle.ff_edges.specs.declared.edge.Edge.{Edge}
-use Rattle.ff_words.specs.declared.job.OutputJob.{OutputJob}
 use Rattle.ff_net.specs.Pasts.{Feed}
-use Rattle.ff_network.specs.Scheduling.{TellsAlone}
-use Rattle.ff_plan.specs.declared.planned.PlanNode.{PlanNode}
-use Rattle.ff_plan.specs.declared.planned.PlanNode.TheVariants as node
-use Rattle.ff_running.specs.Kinds.{KindsOf}
-use Rattle.ff_running.specs.Meaning.{task_at}
-use Rattle.ff_running.specs.Parts.{AreOrdered}
+use Rattle.ff_net.specs.Ways.{Flow}
+use Rattle.ff_muxing.specs.Muxing.{packets_of}
+use Rattle.ff_muxing.specs.StreamEvents.{sent}
+use Rattle.ff_muxing.specs.Telling.{IsOfStream}
+use Rattle.ff_muxing.proofs.TellSteps.{all_of_stream}
+use Rattle.ff_running.specs.Events.{is_of_output, TellOfThemselves}
+use Rattle.ff_running.proofs.EventSteps.{itself}
+use Rattle.ff_build.specs.Parts.{all_kinds, enc_task_to, is_flac_coded}
 
--- an event of the output stream of this number: a packet was sent to it, or it has finished
-abbrev pub is_of_output : ℕ → Event → Bool
-is_of_output o (Grant s) = false
-is_of_output o (Sent j t) = nat_eq j o
-is_of_output o (Finished j) = nat_eq j o
-is_of_output o (Best g i) = false
-is_of_output o (Exited s) = false
+of_output : (o : ℕ) (e : Event) → IsOfStream o e → is_of_output o e ≡ true
+of_output o (Grant s) is = absurd is
+of_output o (Sent j t) is = itself o j is.0
+of_output o (Finished j) is = itself o j is
+of_output o (Best g i) is = absurd is
+of_output o (Exited s) is = absurd is
 
--- that the input of this number has exited
-abbrev pub is_exit_of : ℕ → Event → Bool
-is_exit_of i (Grant s) = false
-is_exit_of i (Sent j t) = false
-is_exit_of i (Finished j) = false
-is_exit_of i (Best g k) = false
-is_exit_of i (Exited s) = nat_eq s i
+all_of_output : (o : ℕ) (es : List Event) → All (IsOfStream o) es → All (λ e. is_of_output o e ≡ true) es
+all_of_output o [] all = All-nil (λ e. is_of_output o e ≡ true)
+all_of_output o (e ∷ es) all =
+    All-cons (λ e. is_of_output o e ≡ true) e es (of_output o e (All-head (IsOfStream o) e es all)) (all_of_output o es (All-tail (IsOfStream o) e es all))
 
-module _ {H : Type 0} (is : KindsOf H) where
-  -- whatever it was fed, a demuxer tells that its input has exited, a muxer of its output, and a decoder and an encoder nothing
-  pub record TellOfThemselves : Type 0 where
-    pub demuxer : (i : ℕ) (head : H) (bytes : List ℕ) (feeds : List Feed) → (is.demux_task i head bytes).tells feeds ≡ Exited i ∷ []
-    pub decoder : (head : StreamHead) (outputs : ℕ) (feeds : List Feed) → (is.dec_task head outputs).tells feeds ≡ []
-    pub encoder : (head coded : StreamHead) (feeds : List Feed) → (is.enc_task head coded).tells feeds ≡ []
-    pub muxer : (o : ℕ) (out : OutputJob) (coded : StreamHead) (feeds : List Feed) → All (λ e. is_of_output o e ≡ true) ((is.mux_task o out coded).tells feeds)
+-- an encoder tells nothing, to whatever it codes
+encoder_tells : (flac : Bool) (coded : StreamHead) (feeds : List Feed) → (enc_task_to flac coded).tells feeds ≡ []
+encoder_tells true coded feeds = refl
+encoder_tells false coded feeds = refl
 
-  -- so of the nodes of a plan, which have different numbers, one alone tells of an output, and one alone that an input has exited
-  pub record TellAlone (outputs : List OutputJob) (heads : List H) (bytes : List (List ℕ)) (nodes : List PlanNode) (edges : List Edge) : Type 0 where
-    pub output : (count k o : ℕ) → slice_get nodes k ≡ Some (node.Mux o)
-        → TellsAlone (task_at is outputs heads bytes nodes edges) count k (is_of_output o)
-    pub input : (count k i : ℕ) → slice_get nodes k ≡ Some (node.Demux i)
-        → TellsAlone (task_at is outputs heads bytes nodes edges) count k (is_exit_of i)
+pub parts_tell_of_themselves : TellOfThemselves all_kinds
+parts_tell_of_themselves = record {
+  demuxer = λ i head bytes feeds. refl;
+  decoder = λ head outputs feeds. refl;
+  encoder = λ head coded feeds. encoder_tells (is_flac_coded coded) coded feeds;
+  muxer = λ o out coded feeds. all_of_output o ((all_kinds.mux_task o out coded).tells feeds) (all_of_stream o (base_of_head coded) feeds);
+}
 
-  abbrev pub PlansTellAlone : Type 0
-  PlansTellAlone = (outputs : List OutputJob) (heads : List H) (bytes : List (List ℕ)) (nodes : List PlanNode) (edges : List Edge) (i o : ℕ)
-      → AreOrdered i o nodes → TellAlone outputs heads bytes nodes edges
+-- and of a stream that has closed a muxer tells at least that
+pub some_events : (o : ℕ) (coded : StreamHead) (s : Flow) → [] ≡ all_kinds.events o coded s → ⊥
+some_events o coded s e = ends_so (map (sent o (base_of_head coded)) (packets_of s)) (Finished o) e
+  where
+    ends_so : (xs : List Event) (last : Event) → [] ≡ xs ++ last ∷ [] → ⊥
+    ends_so [] last same = cc
+    ends_so (x ∷ xs) last same = cc

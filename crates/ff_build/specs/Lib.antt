@@ -1,5 +1,5 @@
-pub mod Events
 pub mod PartViews
 pub mod PartLaws
 pub mod Parts
+pub mod Events
 pub mod Takes

@@ -15,6 +15,7 @@ use Rattle.ff_heads.specs.declared.head.InputHead.{InputHead}
 use Rattle.ff_heads.specs.Heads.{IsHead, stream_in}
 use Rattle.ff_muxing.specs.Muxing.{mux_task, unpatched, file}
 use Rattle.ff_muxing.specs.Outputs.{CanWrite, layout_of}
+use Rattle.ff_muxing.specs.StreamEvents.{stream_events}
 use Rattle.ff_net.specs.Pasts.{Task}
 use Rattle.ff_running.specs.Kinds.{KindsOf}
 
@@ -52,4 +53,5 @@ all_kinds = record {
   mux_task = λ output out coded. mux_task (layout_of out.format out.hash coded) output (base_of_head coded);
   file = λ out coded s. file (layout_of out.format out.hash coded) s;
   text = λ out coded s. unpatched (layout_of out.format out.hash coded) s;
+  events = λ output coded s. stream_events output (base_of_head coded) s;
 }

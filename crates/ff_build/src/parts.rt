@@ -40,6 +40,7 @@ fn is_flac_coded(coded: &StreamHead) -> bool
 pub struct Parts;
 
 impl<Src: Source + Send + Drop, Snk: Sink + Send + Drop> Kinds<Src, Snk, Part<Src, Snk>> for Parts {
+    ghost use Rattle.ff_build.specs.Events.{parts_tell_of_themselves};
     ghost use Rattle.ff_build.specs.Parts.{all_kinds};
     ghost use Rattle.ff_build.specs.Takes.{heads_decode, heads_encode, heads_are_written};
     ghost use Rattle.ff_muxing.specs.Held.{held_parts_stay};
@@ -112,6 +113,8 @@ impl<Src: Source + Send + Drop, Snk: Sink + Send + Drop> Kinds<Src, Snk, Part<Sr
     ghost encodes = { heads_encode };
 
     ghost writes = { heads_are_written };
+
+    ghost own = { parts_tell_of_themselves };
 
     ghost holds_on = { λ out coded. held_parts_stay (layout_of out.format out.hash coded) };
 }

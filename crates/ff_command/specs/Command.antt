@@ -24,7 +24,7 @@ use Rattle.ff_running.specs.declared.fault.RunFault.TheVariants as run_fault
 use Rattle.ff_files.specs.Names.{name_at, names_of, KeepsAllBut}
 use Rattle.ff_files.specs.Counts.{Counts, Faulted, KeepsCounts}
 use Rattle.ff_files.specs.Heads.{HaveHeads, IsRefused}
-use Rattle.ff_files.specs.Works.{Meaning, Command, AreHeadsIn, HoldMeaning, HoldWritten}
+use Rattle.ff_files.specs.Works.{Meaning, Command, AreHeadsIn, HoldMeaning, HoldWritten, told_bytes}
 use Rattle.ff_files.specs.Ends.{IsPlanned, IsBroken, IsFirstRefused, HasNoPlan, CanBeDone}
 use Rattle.ff_command.specs.declared.report.FileRef.{FileRef}
 use Rattle.ff_command.specs.declared.report.FileRef.TheVariants.{Input, Output, Trace}
@@ -120,9 +120,11 @@ refused_plan why = status.Plan why
 
 -- ---- what is told of a run
 
--- it is told of the heads of the inputs, which are those of the files where these are told
-abbrev pub IsReported : {I R F : Type 0} → Command I InputHead R F → (List InputHead → List Event → Type 0) → Option Files → List Event → Type 0
-IsReported command tells before history = (heads : List InputHead) × AreHeadsIn command before heads × tells heads history
+-- it is told of the heads of the inputs, which are those of the files where these are told, and of the bytes of these files
+abbrev pub IsReported : {I R F : Type 0} → Command I InputHead R F → (List InputHead → Option (List (List ℕ)) → List Event → Type 0)
+    → Option Files → List Event → Type 0
+IsReported command tells before history =
+    (heads : List InputHead) × AreHeadsIn command before heads × tells heads (told_bytes command before) history
 
 -- ---- what jobs mean: of what is done between opening and closing, a worker says what it means for each job
 
@@ -147,8 +149,9 @@ module _ (means : Job → Meaning InputHead PlanError RunFault) where
   abbrev pub HoldsFront : List (List ℕ) → Option Files → Option Files → Type 0
   HoldsFront words before after = IfAsked words (λ job. HoldWritten (over job) before after)
 
-  -- This is told of the history and the heads of the inputs of the words' job, which are those of the files where these are told.
-  abbrev pub ReportsHistory : (Job → List InputHead → List Event → Type 0) → List (List ℕ) → Option Files → List Event → Type 0
+  -- This is told of the history and the heads and bytes of the inputs of the words' job, which are those of the files where these are
+  -- told.
+  abbrev pub ReportsHistory : (Job → List InputHead → Option (List (List ℕ)) → List Event → Type 0) → List (List ℕ) → Option Files → List Event → Type 0
   ReportsHistory tells words before history = AskFor words (λ job. IsReported (over job) (tells job) before history)
 
   -- ---- when each answer comes

@@ -1,5 +1,5 @@
 //! How jobs are worked.
-ghost use Rattle.std.specs.Prelude.{◌≡◌, List, ℕ, None, Some, IfErr, OnOk, IfOk, length};
+ghost use Rattle.std.specs.Prelude.{◌≡◌, List, ℕ, Option, None, Some, IfErr, OnOk, IfOk, IfSome, length};
 ghost use Rattle.ff_files.specs.Works.{Meaning, AreTold, HoldFiles, HoldParts, KeepEnds, FailNoMore, EndsWork, HasLog, sound_sources, sound_sinks};
 ghost use Rattle.ff_values.specs.declared.event.Event.{Event};
 ghost use Rattle.ff_sched.specs.Printing.{printed};
@@ -25,8 +25,8 @@ pub trait Worker<Src: Source + Send + Drop, Snk: Sink + Send + Drop> {
     /// What a job means: all that contracts see of its work.
     ghost means: { Self → Job → Meaning InputHead PlanError RunFault };
 
-    /// It may be the history of a run of a job that did all, over inputs with these heads.
-    ghost tells: { Self → Job → List InputHead → List Event → Type 0 };
+    /// It may be the history of a run of a job that did all, over inputs with these heads and, where these are told, these bytes.
+    ghost tells: { Self → Job → List InputHead → Option (List (List ℕ)) → List Event → Type 0 };
 
     /// It can be worked with: what has to hold of it before.
     ghost is_able: { Self → Type 0 };
@@ -62,7 +62,8 @@ pub trait Worker<Src: Source + Send + Drop, Snk: Sink + Send + Drop> {
             (AreTold Src.left Snk.holds srcs.items snks.items) result.end }
         ensures sound_srcs { FailNoMore Src.faults srcs.items result.srcs.items (sound_sources (means self.now job.now) result.end (length srcs.items)) }
         ensures sound_snks { FailNoMore Snk.faults snks.items result.snks.items (sound_sinks (means self.now job.now) result.end (length snks.items)) }
-        ensures logged { result.end ≡ WorkEnd.Fine → HasLog (tells self.now job.now heads.now) result.log };
+        ensures logged { result.end ≡ WorkEnd.Fine → (bytes : Option (List (List ℕ))) → IfSome bytes (AreTold Src.left Snk.holds srcs.items snks.items)
+            → HasLog (tells self.now job.now heads.now bytes) result.log };
 }
 
 /// A job, and how it is worked.
@@ -89,7 +90,7 @@ impl<'a, Src: Source + Send + Drop, Snk: Sink + Send + Drop, P: Worker<Src, Snk>
 
     ghost accepts = { λ work heads. P.is_able work.worker.now × AreAllHeads work.job.now heads };
 
-    ghost tells = { λ work heads events. P.tells work.worker.now work.job.now heads events };
+    ghost tells = { λ work heads bytes events. P.tells work.worker.now work.job.now heads bytes events };
 
     ghost printed = { printed };
 
@@ -122,7 +123,8 @@ impl<'a, Src: Source + Send + Drop, Snk: Sink + Send + Drop, P: Worker<Src, Snk>
             (AreTold Src.left Snk.holds srcs.items snks.items) result.end }
         ensures sound_srcs { FailNoMore Src.faults srcs.items result.srcs.items (sound_sources (P.means self.now.worker.now self.now.job.now) result.end (length srcs.items)) }
         ensures sound_snks { FailNoMore Snk.faults snks.items result.snks.items (sound_sinks (P.means self.now.worker.now self.now.job.now) result.end (length snks.items)) }
-        ensures logged { result.end ≡ WorkEnd.Fine → HasLog (P.tells self.now.worker.now self.now.job.now heads.now) result.log }
+        ensures logged { result.end ≡ WorkEnd.Fine → (bytes : Option (List (List ℕ))) → IfSome bytes (AreTold Src.left Snk.holds srcs.items snks.items)
+            → HasLog (P.tells self.now.worker.now self.now.job.now heads.now bytes) result.log }
     {
         self.worker.run(self.job, plan, heads, srcs, snks)
     }

@@ -20,13 +20,14 @@ if_some_more P Q None f p = tt
 if_some_more P Q (Some l) f p = f l p
 
 module _ {H R F L S K : Type 0} (means : Meaning H R F) (left named : S → Option (List ℕ)) (failed : S → ℕ) (holds called : K → Option (List ℕ)) (faulted : K → ℕ)
-    (tells : L → Type 0) (printed : L → List ℕ) (heads : List H) where
+    (tells : Option (List (List ℕ)) → L → Type 0) (printed : L → List ℕ) (heads : List H) where
   -- a run over the sinks of the outputs alone
   pub plain_run : (srcs : List S) (snks : List K) (end : WorkEnd F) (log : Option L) (srcs' : List S) (snks' : List K)
       → (end ≡ work_end.Fine → (bytes : List (List ℕ)) → AreTold left holds srcs snks bytes → HoldFiles holds (means.file heads bytes) snks')
       → ((bytes : List (List ℕ)) → AreTold left holds srcs snks bytes → HoldParts holds (means.text heads bytes) (means.file heads bytes) snks')
       → KeepEnds named srcs srcs' → KeepEnds called snks snks' → EndsWork means failed faulted srcs snks srcs' snks' heads (AreTold left holds srcs snks) end
-      → FailNoMore failed srcs srcs' (sound_sources means end (length srcs)) → FailNoMore faulted snks snks' (sound_sinks means end (length snks)) → (end ≡ work_end.Fine → HasLog tells log)
+      → FailNoMore failed srcs srcs' (sound_sources means end (length srcs)) → FailNoMore faulted snks snks' (sound_sinks means end (length snks))
+      → (end ≡ work_end.Fine → (bytes : Option (List (List ℕ))) → IfSome bytes (AreTold left holds srcs snks) → HasLog (tells bytes) log)
       → IsRun means left named failed holds called faulted tells printed (length snks) heads srcs snks end log srcs' snks'
   plain_run srcs snks end log srcs' snks' fine parts ks kk ends ss sk logged = record {
     fine = λ f bytes told j d lt below. fine f bytes told j d below;
@@ -162,6 +163,6 @@ module _ {H R F L S K : Type 0} (means : Meaning H R F) (left named : S → Opti
       ends = ends_all end after r.ends t.kept t.ended;
       sound_srcs = srcs_sound end after r.sound_srcs t.kept;
       sound_snks = snks_sound end after r.ends r.sound_snks t.kept t.ended t.sound;
-      logged = λ f. r.logged (t.fine f);
+      logged = λ f bytes told. r.logged (t.fine f) bytes (if_some_more (AreTold left holds srcs (snks ++ trace ∷ [])) (AreTold left holds srcs snks) bytes front_told told);
       traced = λ f. if_some_more (λ l. Appends (holds trace) (holds trace') (printed l)) (λ l. GainTexts (length snks) holds (printed l) (snks ++ trace ∷ []) (snks' ++ trace' ∷ [])) log gains (t.gained f);
     }

@@ -1,5 +1,5 @@
 -- From the steps of a command over files to the whole.
-use Rattle.std.proofs.Common.{◌≡◌, ◌⊎◌, inl, inr, ℕ, zero, suc, ◌<◌, ◌≤◌, List, [], ◌∷◌, length, map, get_or, Option, None, Some, IsSome, Ok, refl, sym, ap, ◌∙◌, subst, arith}
+use Rattle.std.proofs.Common.{◌≡◌, ◌⊎◌, inl, inr, ℕ, zero, suc, ◌<◌, ◌≤◌, List, [], ◌∷◌, length, map, get_or, Option, None, Some, IfSome, IsSome, Ok, refl, sym, ap, ◌∙◌, subst, arith}
 use Rattle.std.proofs.lemmas.List.{length-map}
 use Rattle.std.specs.Io.KnownBytes.{Appends}
 use Rattle.ff_host.specs.Files.{Files, bytes_at, KeepsFiles, HoldsAt, HoldsNothing}
@@ -8,7 +8,7 @@ use Rattle.ff_files.specs.Counts.{KeepsCounts, AreUnfailed}
 use Rattle.ff_files.specs.Hosts.{AreOpen}
 use Rattle.ff_files.specs.Inputs.{AreBegun}
 use Rattle.ff_files.specs.Outputs.{AreEmpty, ArePut}
-use Rattle.ff_files.specs.Works.{Command, AreTold, HoldFirstFiles, HoldsPart, HoldFirstParts, GainTexts, KeepEnds, FailNoMore, file_with, text_with, file_of, text_of, all_heads, all_bytes, meaning, written, HoldMeaning, HoldTrace, HoldWritten}
+use Rattle.ff_files.specs.Works.{Command, AreTold, HoldFirstFiles, HoldsPart, HoldFirstParts, GainTexts, KeepEnds, FailNoMore, file_with, text_with, file_of, text_of, all_heads, all_bytes, told_bytes, meaning, written, AreHeadsIn, HasLog, HoldMeaning, HoldTrace, HoldWritten}
 use Rattle.ff_files.proofs.Lists.{some_of}
 
 -- the bytes of an input that is there, by its number
@@ -87,6 +87,17 @@ module _ {I H R F E K : Type 0} (command : Command I H R F) (left : E → Option
         begun.told_bytes told is i input d lt ∙ ap (λ (b : List ℕ). Some b) (sym (bytes_here command.name told command.inputs i input there));
     empty = λ j d lt. empty_since (Some told) mid (holds (get_or snks j d)) (subst (λ (f : Option Files). KeepsFiles f mid) is keeps) (empty j d lt);
   }
+
+  -- and where the files are told, the bytes that these say
+  pub all_told : (files mid : Option Files) (snks : List K) → KeepsFiles files mid → AreBegun command.name command.head left files command.inputs srcs heads → AreEmpty holds mid snks
+      → IfSome (told_bytes command files) (AreTold left holds srcs snks)
+  all_told None mid snks keeps begun empty = tt
+  all_told (Some told) mid snks keeps begun empty = told_of (Some told) mid told snks refl keeps begun empty
+
+  -- the heads are those of the files, where these are told
+  pub heads_in : (files : Option Files) → AreBegun command.name command.head left files command.inputs srcs heads → AreHeadsIn command files heads
+  heads_in None begun = tt
+  heads_in (Some told) begun = begun.told_heads told refl
 
   -- each output holds its bytes once its sink is closed
   pub meant : (f0 f1 f2 f3 : Option Files) (snks snks' : List K) → KeepsFiles f0 f1 → AreBegun command.name command.head left f0 command.inputs srcs heads → command.means.refusal heads ≡ None → AreEmpty holds f1 snks
@@ -172,3 +183,8 @@ traced command holds text (Some a) (Some b) (Some c) (Some d) snks snks' k made 
     let s = some_of snks j there in
     put_front c d (name_at command.outputs j) (holds (get_or snks' j s)) text (put j s there')
     (gained_all b (holds (get_or snks j s)) (holds (get_or snks' j s)) text (empty j s there) (gain j s le there))
+
+-- what is so of a log is so of it in other words
+pub has_more : {L : Type 0} (P Q : L → Type 0) (o : Option L) → ((l : L) → P l → Q l) → HasLog P o → HasLog Q o
+has_more P Q None f h = h
+has_more P Q (Some l) f h = f l h

@@ -18,7 +18,7 @@ pub record GoesOn {F K L : Type 0} (printed : L → List ℕ) (holds called : K 
   pub gained : after ≡ work_end.Fine → IfSome log (λ l. Appends (holds old) (holds new) (printed l))
 
 module _ {H R F L S K : Type 0} (means : Meaning H R F) (left named : S → Option (List ℕ)) (failed : S → ℕ) (holds called : K → Option (List ℕ)) (faulted : K → ℕ)
-    (tells : L → Type 0) (printed : L → List ℕ) where
+    (tells : Option (List (List ℕ)) → L → Type 0) (printed : L → List ℕ) where
   -- over these sources and sinks, which are these afterwards
   pub record IsRun (count : ℕ) (heads : List H) (srcs : List S) (snks : List K) (end : WorkEnd F) (log : Option L) (srcs' : List S) (snks' : List K) : Type 0 where
     pub fine : end ≡ work_end.Fine → (bytes : List (List ℕ)) → AreTold left holds srcs snks bytes → HoldFirstFiles count holds (means.file heads bytes) snks'
@@ -28,5 +28,5 @@ module _ {H R F L S K : Type 0} (means : Meaning H R F) (left named : S → Opti
     pub ends : EndsWork means failed faulted srcs snks srcs' snks' heads (AreTold left holds srcs snks) end
     pub sound_srcs : FailNoMore failed srcs srcs' (sound_sources means end (length srcs))
     pub sound_snks : FailNoMore faulted snks snks' (sound_sinks means end (length snks))
-    pub logged : end ≡ work_end.Fine → HasLog tells log
+    pub logged : end ≡ work_end.Fine → (bytes : Option (List (List ℕ))) → IfSome bytes (AreTold left holds srcs snks) → HasLog (tells bytes) log
     pub traced : end ≡ work_end.Fine → IfSome log (λ l. GainTexts count holds (printed l) snks snks')

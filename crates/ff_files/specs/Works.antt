@@ -166,6 +166,11 @@ module _ {I H R F : Type 0} (command : Command I H R F) where
   AreHeadsIn None heads = ⊤
   AreHeadsIn (Some files) heads = all_heads files ≡ Ok heads
 
+  -- the bytes of the inputs, where the files are told
+  abbrev pub told_bytes : Option Files → Option (List (List ℕ))
+  told_bytes None = None
+  told_bytes (Some files) = Some (all_bytes files)
+
   -- each file behind the outputs holds this text
   abbrev pub HoldTrace : List ℕ → Option Files → Option Files → Type 0
   HoldTrace text (Some before) (Some after) = (j : ℕ) → command.count ≤ j → j < length command.outputs → after (name_at command.outputs j) ≡ Some text

@@ -7,7 +7,7 @@ ghost use Rattle.ff_files.specs.Names.{names_of, AreApart, KeepsAllBut};
 ghost use Rattle.ff_files.specs.Counts.{Faulted, KeepsCounts, AreUnfailed};
 ghost use Rattle.ff_files.specs.Hosts.{AreOpen};
 ghost use Rattle.ff_files.specs.Inputs.{AreBegun};
-ghost use Rattle.ff_files.specs.Works.{command_of, HasLog, AreHeadsIn, HoldMeaning, HoldTrace, HoldWritten};
+ghost use Rattle.ff_files.specs.Works.{command_of, HasLog, AreHeadsIn, HoldMeaning, HoldTrace, HoldWritten, told_bytes};
 ghost use Rattle.ff_files.specs.Ends.{Ends, ComesBeforeOutputs, sound_inputs, sound_outputs, refusal, IsFirstRefused, HasNoPlan, CanBeDone};
 
 use crate::closing::{close_all, close_sources};
@@ -82,7 +82,9 @@ fn write_outputs<H: Host, I: InputFile, N: Named, W: Work<I::Head, Begun<H::Src>
         (sound_inputs (command_of I.name_text I.head N.name_text inputs.now outputs.now count (W.means work.now)) result.end) }
     ensures out_counts { KeepsCounts (H.out_faults host.old) (H.out_faults host.new) (names_of N.name_text outputs.now)
         (sound_outputs (command_of I.name_text I.head N.name_text inputs.now outputs.now count (W.means work.now)) result.end) }
-    ensures logged { result.end ≡ RunEnd.Fine → HasLog (W.tells work.now heads.now) result.log }
+    ensures logged { result.end ≡ RunEnd.Fine → (before : Option Files) → KeepsFiles before (H.files host.old)
+        → AreBegun I.name_text I.head ⟦<Begun<H::Src> as Source>⟧.left before inputs.now srcs.items heads.now
+        → HasLog (W.tells work.now heads.now (told_bytes (command_of I.name_text I.head N.name_text inputs.now outputs.now count (W.means work.now)) before)) result.log }
     ensures traced { result.end ≡ RunEnd.Fine → (before : Option Files) → KeepsFiles before (H.files host.old) → IfSome result.log (λ log. HoldTrace
         (command_of I.name_text I.head N.name_text inputs.now outputs.now count (W.means work.now)) (W.printed log) before (H.files host.new)) }
     ensures open_sources { H.open_sources host.new ≡ H.open_sources host.old - vec_len srcs }
@@ -151,7 +153,9 @@ fn plan_outputs<H: Host, I: InputFile, N: Named, W: Work<I::Head, Begun<H::Src>,
         (sound_inputs (command_of I.name_text I.head N.name_text inputs.now outputs.now count (W.means work.now)) result.end) }
     ensures out_counts { KeepsCounts (H.out_faults host.old) (H.out_faults host.new) (names_of N.name_text outputs.now)
         (sound_outputs (command_of I.name_text I.head N.name_text inputs.now outputs.now count (W.means work.now)) result.end) }
-    ensures logged { result.end ≡ RunEnd.Fine → HasLog (W.tells work.now heads.now) result.log }
+    ensures logged { result.end ≡ RunEnd.Fine → (before : Option Files) → KeepsFiles before (H.files host.old)
+        → AreBegun I.name_text I.head ⟦<Begun<H::Src> as Source>⟧.left before inputs.now srcs.items heads.now
+        → HasLog (W.tells work.now heads.now (told_bytes (command_of I.name_text I.head N.name_text inputs.now outputs.now count (W.means work.now)) before)) result.log }
     ensures traced { result.end ≡ RunEnd.Fine → (before : Option Files) → KeepsFiles before (H.files host.old) → IfSome result.log (λ log. HoldTrace
         (command_of I.name_text I.head N.name_text inputs.now outputs.now count (W.means work.now)) (W.printed log) before (H.files host.new)) }
     ensures open_sources { H.open_sources host.new ≡ H.open_sources host.old - vec_len srcs }
@@ -199,7 +203,7 @@ fn run_files<H: Host, I: InputFile, N: Named, W: Work<I::Head, Begun<H::Src>, H:
         (sound_outputs (command_of I.name_text I.head N.name_text inputs.now outputs.now count (W.means work.now)) result.end) }
     ensures logged { result.end ≡ RunEnd.Fine → HasLog (λ log. (heads : List I.Head)
         × AreHeadsIn (command_of I.name_text I.head N.name_text inputs.now outputs.now count (W.means work.now)) (H.files host.old) heads
-        × W.tells work.now heads log) result.log }
+        × W.tells work.now heads (told_bytes (command_of I.name_text I.head N.name_text inputs.now outputs.now count (W.means work.now)) (H.files host.old)) log) result.log }
     ensures traced { result.end ≡ RunEnd.Fine → IfSome result.log (λ log. HoldTrace
         (command_of I.name_text I.head N.name_text inputs.now outputs.now count (W.means work.now)) (W.printed log) (H.files host.old) (H.files host.new)) }
     ensures closed { (H.open_sources host.new ≡ H.open_sources host.old) × (H.open_sinks host.new ≡ H.open_sinks host.old) }
@@ -265,7 +269,7 @@ pub fn over_files<H: Host, I: InputFile, N: Named, W: Work<I::Head, Begun<H::Src
         (sound_outputs (command_of I.name_text I.head N.name_text inputs.now outputs.now count (W.means work.now)) result.end) }
     ensures logged { result.end ≡ RunEnd.Fine → HasLog (λ log. (heads : List I.Head)
         × AreHeadsIn (command_of I.name_text I.head N.name_text inputs.now outputs.now count (W.means work.now)) (H.files host.old) heads
-        × W.tells work.now heads log) result.log }
+        × W.tells work.now heads (told_bytes (command_of I.name_text I.head N.name_text inputs.now outputs.now count (W.means work.now)) (H.files host.old)) log) result.log }
     ensures traced { result.end ≡ RunEnd.Fine → IfSome result.log (λ log. HoldTrace
         (command_of I.name_text I.head N.name_text inputs.now outputs.now count (W.means work.now)) (W.printed log) (H.files host.old) (H.files host.new)) }
     ensures closed { (H.open_sources host.new ≡ H.open_sources host.old) × (H.open_sinks host.new ≡ H.open_sinks host.old) }

@@ -1,5 +1,5 @@
 // What is done between the opening and the closing.
-ghost use Rattle.std.specs.Prelude.{◌≡◌, ◌≢◌, List, ℕ, Some, None, IfErr, OnOk, IfOk, length, slice_index_or};
+ghost use Rattle.std.specs.Prelude.{◌≡◌, ◌≢◌, List, ℕ, Option, Some, None, IfErr, OnOk, IfOk, IfSome, length, slice_index_or};
 ghost use Rattle.std.specs.List.{All};
 ghost use Rattle.ff_files.specs.Works.{Meaning, AreTold, HoldFiles, HoldParts, KeepEnds, FailNoMore, EndsWork, HasLog, sound_sources, sound_sinks};
 
@@ -62,8 +62,8 @@ pub trait Work<H, Src: Source + Send + Drop, Snk: Sink + Send + Drop> {
     /// It is a plan for these heads.
     ghost is_plan: { Self → List H → Self.Plan → Type 0 };
 
-    /// It may be the log of a run that did all, over inputs with these heads.
-    ghost tells: { Self → List H → Self.Log → Type 0 };
+    /// It may be the log of a run that did all, over inputs with these heads and, where these are told, these bytes.
+    ghost tells: { Self → List H → Option (List (List ℕ)) → Self.Log → Type 0 };
 
     /// The text of a log.
     ghost printed: { Self.Log → List ℕ };
@@ -95,7 +95,8 @@ pub trait Work<H, Src: Source + Send + Drop, Snk: Sink + Send + Drop> {
             (AreTold Src.left Snk.holds srcs.items snks.items) result.end }
         ensures sound_srcs { FailNoMore Src.faults srcs.items result.srcs.items (sound_sources (means self.now) result.end (length srcs.items)) }
         ensures sound_snks { FailNoMore Snk.faults snks.items result.snks.items (sound_sinks (means self.now) result.end (length snks.items)) }
-        ensures logged { result.end ≡ WorkEnd.Fine → HasLog (tells self.now heads.now) result.log };
+        ensures logged { result.end ≡ WorkEnd.Fine → (bytes : Option (List (List ℕ))) → IfSome bytes (AreTold Src.left Snk.holds srcs.items snks.items)
+            → HasLog (tells self.now heads.now bytes) result.log };
 
     /// Prints a log.
     fn print(&self, alloc: Global, log: &Self::Log) -> Result<Vec<u8>, AllocError>

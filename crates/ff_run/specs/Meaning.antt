@@ -4,7 +4,7 @@
 -- edges between their ports. Each node is there for a function on whole streams (`all_kinds` of ff_build), node after node from
 -- number 0 up they give the stream on each edge (`solve` of ff_net), and an output's file is what its format makes of the stream
 -- at its Mux. No queue, no thread, no order of turns and no piece of a file is in it.
-use Rattle.std.specs.Prelude.{List}
+use Rattle.std.specs.Prelude.{ℕ, List, Option}
 use Rattle.ff_values.specs.declared.event.Event.{Event}
 use Rattle.ff_heads.specs.declared.head.InputHead.{InputHead}
 use Rattle.ff_plan.specs.declared.planned.PlanError.{PlanError}
@@ -19,7 +19,9 @@ use Rattle.ff_build.specs.Parts.{all_kinds}
 abbrev pub job_means : Job → Meaning InputHead PlanError RunFault
 job_means job = means all_kinds job
 
--- the history of a run of a job's plan over inputs with these heads: each grant stands where the events before it, from the state
--- before the run on, unchoke its source
-abbrev pub IsJobHistory : Job → List InputHead → List Event → Type 0
-IsJobHistory job heads events = IsHistoryFor all_kinds job heads events
+-- The history of a run of a job's plan over inputs with these heads: each grant stands where the events before it, from the state
+-- before the run on, unchoke its source. Where the bytes of the inputs are told: of each output stream it is told when each of its
+-- packets is decoded, in order, and then that it has finished, and nothing else; each input that is read has exited, once, and behind
+-- all its grants.
+abbrev pub IsJobHistory : Job → List InputHead → Option (List (List ℕ)) → List Event → Type 0
+IsJobHistory job heads bytes events = IsHistoryFor all_kinds job heads bytes events

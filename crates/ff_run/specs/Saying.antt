@@ -1,5 +1,5 @@
 -- What the making of a plan says, and its run.
-use Rattle.std.specs.Prelude.{◌≡◌, ℕ, List, length, Option, None, Some, Result, IfOk, IfErr, OnOk}
+use Rattle.std.specs.Prelude.{◌≡◌, ℕ, List, length, Option, None, Some, Result, IfOk, IfSome, IfErr, OnOk}
 use Rattle.std.specs.Io.KnownBytes.{prepend_known}
 use Rattle.ff_host.specs.Begun.{still_in}
 use Rattle.ff_host.specs.declared.begun.Begun.{Begun}
@@ -34,7 +34,7 @@ pub record RunSays {H S K : Type 0} (is : KindsOf H) (left named : S → Option 
   pub ends : EndsWork (means is job) failed faulted srcs snks srcs' snks' heads (AreTold left holds srcs snks) end
   pub sound_srcs : FailNoMore failed srcs srcs' (sound_sources (means is job) end (length srcs))
   pub sound_snks : FailNoMore faulted snks snks' (sound_sinks (means is job) end (length snks))
-  pub logged : end ≡ work_end.Fine → HasLog (IsHistoryFor is job heads) log
+  pub logged : end ≡ work_end.Fine → (bytes : Option (List (List ℕ))) → IfSome bytes (AreTold left holds srcs snks) → HasLog (IsHistoryFor is job heads bytes) log
 
 -- over sources of which some bytes were read before
 abbrev pub BegunSays : {H S K : Type 0} → KindsOf H → (S → Option (List ℕ)) → (S → Option (List ℕ)) → (S → ℕ) → (K → Option (List ℕ)) → (K → Option (List ℕ)) → (K → ℕ)

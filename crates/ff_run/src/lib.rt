@@ -10,9 +10,11 @@
 //! to them over any host and any log, whatever the sizes of its queues and the order in which its threads ran.
 #![tactic(auto)]
 
+mod laws;
 mod run;
 mod worker;
 
 pub use ff_command::{Event, FileRef, History, Line, Report, Status, fault_line, status_number};
 pub use ff_words::WordKind;
+pub use laws::no_history_is_empty;
 pub use run::ffmpeg;

@@ -134,7 +134,8 @@ pub fn ffmpeg<R: Threads + Wait + Sync, H: Host, E: Sink>(
     ensures line_no_memory { result.line ≡ Line.NoMemory → Keeps (E.holds log.old) (E.holds log.new) }
 
     // The history of what the scheduler of the run granted and was told, from the opening state of the plan on, which the trace
-    // holds where the words ask for one.
+    // holds where the words ask for one: legal, and where the files are told with the times of each output's packets and then its
+    // end, and with the exit of each input that is read, behind all its grants.
     ensures history { result.status ≡ Status.Fine → ReportsHistory job_means IsJobHistory (texts words.now) (H.files host.old) result.history }
     ensures trace { result.status ≡ Status.Fine → HoldsTrace (texts words.now) (H.files host.old) (H.files host.new) result.history }
     ensures no_history { result.status ≢ Status.Fine → result.history ≡ [] }

@@ -1,5 +1,5 @@
 // How jobs are worked: planned, and run in threads over parts of any format.
-ghost use Rattle.std.specs.Prelude.{◌≡◌, ℕ, List, length, Some, None, IfOk, IfErr, OnOk};
+ghost use Rattle.std.specs.Prelude.{◌≡◌, ℕ, List, length, Option, Some, None, IfOk, IfSome, IfErr, OnOk};
 ghost use Rattle.ff_build.specs.Parts.{all_kinds};
 ghost use Rattle.ff_command.specs.Steps.{AreAllHeads};
 ghost use Rattle.ff_files.specs.Works.{AreTold, HoldFiles, HoldParts, KeepEnds, FailNoMore, EndsWork, HasLog, sound_sources, sound_sinks};
@@ -33,7 +33,7 @@ impl<
 
     ghost means = { λ worker job. job_means job };
 
-    ghost tells = { λ worker job heads events. IsJobHistory job heads events };
+    ghost tells = { λ worker job heads bytes events. IsJobHistory job heads bytes events };
 
     ghost is_able = { λ worker. ((job : _) (hs : _) → IsAccepted all_kinds job.now hs.now → P.pre worker.plan job hs
         × ((r : _) → P.post worker.plan job hs r → PlanSays all_kinds job.now hs.now r))
@@ -85,7 +85,8 @@ impl<
             (AreTold Src.left Snk.holds srcs.items snks.items) result.end }
         ensures sound_srcs { FailNoMore Src.faults srcs.items result.srcs.items (sound_sources (job_means job.now) result.end (length srcs.items)) }
         ensures sound_snks { FailNoMore Snk.faults snks.items result.snks.items (sound_sinks (job_means job.now) result.end (length snks.items)) }
-        ensures logged { result.end ≡ WorkEnd.Fine → HasLog (IsJobHistory job.now heads.now) result.log }
+        ensures logged { result.end ≡ WorkEnd.Fine → (bytes : Option (List (List ℕ))) → IfSome bytes (AreTold Src.left Snk.holds srcs.items snks.items)
+            → HasLog (IsJobHistory job.now heads.now bytes) result.log }
     {
         (self.run)(job, plan, heads, srcs, snks)
     }

@@ -1,14 +1,16 @@
 -- The history of a run of a plan, from that of a run of its parts.
-use Rattle.std.proofs.Common.{◌≡◌, ℕ, zero, suc, Bool, true, false, List, [], ◌∷◌, map, replicate, Option, Some, None, IfSome, IsSome, is_some, refl, sym, ap, ◌∙◌, subst}
+use Rattle.std.proofs.Common.{◌≡◌, ℕ, zero, suc, ◌<◌, Bool, true, false, List, [], ◌∷◌, length, map, replicate, Option, Some, None, IfSome, IsSome, is_some, refl, sym, ap, ◌∙◌, subst}
 use Rattle.ff_values.specs.declared.event.Event.{Event}
+use Rattle.ff_values.specs.declared.head.StreamHead.{StreamHead}
 use Rattle.ff_words.specs.declared.job.OutputJob.{OutputJob}
 use Rattle.ff_edges.specs.declared.edge.Edge.{Edge}
+use Rattle.ff_edges.specs.Ports.{lanes_into}
 use Rattle.ff_net.specs.Views.{View}
+use Rattle.ff_net.specs.Ways.{Flow}
 use Rattle.ff_files.specs.declared.work.WorkEnd.{WorkEnd}
 use Rattle.ff_files.specs.Works.{HasLog}
 use Rattle.ff_plan.specs.declared.planned.Plan.{Plan}
 use Rattle.ff_plan.specs.declared.planned.PlanNode.{PlanNode}
-use Rattle.ff_sched.specs.Histories.{IsLegal}
 use Rattle.ff_sched.specs.declared.routes.Routes.{Routes}
 use Rattle.ff_sched.specs.Bits.{upto, mark_at}
 use Rattle.ff_sched.specs.State.{State}
@@ -16,7 +18,9 @@ use Rattle.ff_network.specs.declared.run.NodeFault.{NodeFault}
 use Rattle.ff_running.specs.Openings.{is_unused, IsOpening, or_memory}
 use Rattle.ff_running.specs.declared.fault.RunFault.{RunFault}
 use Rattle.ff_running.specs.Kinds.{KindsOf}
-use Rattle.ff_running.specs.Histories.{state_at, state_before, IsHistoryOf}
+use Rattle.ff_running.specs.Histories.{state_at, state_before, TellsAll, IsHistoryOf}
+use Rattle.ff_running.specs.Meaning.{events_by, mux_node, stream_into}
+use Rattle.ff_running.specs.Tasks.{first_head}
 
 -- lists mapped alike
 map_same : {A B : Type 0} (f g : A → B) (xs : List A) → ((x : A) → f x ≡ g x) → map f xs ≡ map g xs
@@ -66,17 +70,25 @@ has_log P Q (Some l) some p f = f l p
 pub state_is : (plan : Plan) (nodes : List PlanNode) (routes : Routes) (state : State) → nodes ≡ plan.nodes → routes ≡ plan.routes → IsOpening nodes plan.routes state → state ≡ state_before plan
 state_is plan nodes routes state n r o = opening_is plan.nodes plan.routes state (subst (λ (ns : List PlanNode). IsOpening ns plan.routes state) n o)
 
-pub legal_for : (plan : Plan) (routes : Routes) (state : State) (events : List Event) → routes ≡ plan.routes → state ≡ state_before plan → IsLegal routes state events → IsLegal plan.routes (state_before plan) events
-legal_for plan routes state events r s h = subst (λ x. IsLegal plan.routes x events) s (subst (λ x. IsLegal x state events) r h)
-
-pub history_for : {H S K M : Type 0} (is : KindsOf H) (left : S → Option (List ℕ)) (holds : K → Option (List ℕ)) (view : M → View)
+pub history_for : {H S K M : Type 0} (is : KindsOf H) (left named : S → Option (List ℕ)) (failed : S → ℕ) (holds called : K → Option (List ℕ)) (faulted : K → ℕ) (view : M → View)
     (outputs outputs' : List OutputJob) (heads : List H) (edges edges' : List Edge) (nodes nodes' : List PlanNode) (srcs : List S) (snks : List K) (claims : Bool)
-    (routes routes' : Routes) (state state' : State) (end : WorkEnd RunFault) (events : List Event)
-    → outputs ≡ outputs' → edges ≡ edges' → nodes ≡ nodes' → routes ≡ routes' → state ≡ state' → IsHistoryOf is left holds view outputs heads edges nodes srcs snks claims routes state end events
-    → IsHistoryOf is left holds view outputs' heads edges' nodes' srcs snks claims routes' state' end events
-history_for is left holds view outputs outputs' heads edges edges' nodes nodes' srcs snks claims routes routes' state state' end events o e n r s h =
-    subst (λ (x : State). IsHistoryOf is left holds view outputs' heads edges' nodes' srcs snks claims routes' x end events) s
-    (subst (λ (x : Routes). IsHistoryOf is left holds view outputs' heads edges' nodes' srcs snks claims x state end events) r
-    (subst (λ (x : List PlanNode). IsHistoryOf is left holds view outputs' heads edges' x srcs snks claims routes state end events) n
-    (subst (λ (x : List Edge). IsHistoryOf is left holds view outputs' heads x nodes srcs snks claims routes state end events) e
-    (subst (λ (x : List OutputJob). IsHistoryOf is left holds view x heads edges nodes srcs snks claims routes state end events) o h))))
+    (routes routes' : Routes) (state state' : State) (end : WorkEnd RunFault) (srcs' : List S) (snks' : List K) (events : List Event)
+    → outputs ≡ outputs' → edges ≡ edges' → nodes ≡ nodes' → routes ≡ routes' → state ≡ state'
+    → IsHistoryOf is left named failed holds called faulted view outputs heads edges nodes srcs snks claims routes state end srcs' snks' events
+    → IsHistoryOf is left named failed holds called faulted view outputs' heads edges' nodes' srcs snks claims routes' state' end srcs' snks' events
+history_for is left named failed holds called faulted view outputs outputs' heads edges edges' nodes nodes' srcs snks claims routes routes' state state' end srcs' snks' events o e n r s h =
+    subst (λ (x : State). IsHistoryOf is left named failed holds called faulted view outputs' heads edges' nodes' srcs snks claims routes' x end srcs' snks' events) s
+    (subst (λ (x : Routes). IsHistoryOf is left named failed holds called faulted view outputs' heads edges' nodes' srcs snks claims x state end srcs' snks' events) r
+    (subst (λ (x : List PlanNode). IsHistoryOf is left named failed holds called faulted view outputs' heads edges' x srcs snks claims routes state end srcs' snks' events) n
+    (subst (λ (x : List Edge). IsHistoryOf is left named failed holds called faulted view outputs' heads x nodes srcs snks claims routes state end srcs' snks' events) e
+    (subst (λ (x : List OutputJob). IsHistoryOf is left named failed holds called faulted view x heads edges nodes srcs snks claims routes state end srcs' snks' events) o h))))
+
+-- where each output stream has events, a history that has none isn't that of a plan with an output
+pub tells_some : {H : Type 0} (is : KindsOf H) (outputs : List OutputJob) (heads : List H) (bytes : List (List ℕ)) (nodes : List PlanNode) (edges : List Edge)
+    → ((o : ℕ) (coded : StreamHead) (s : Flow) → [] ≡ is.events o coded s → ⊥) → 0 < length outputs → TellsAll is outputs heads bytes nodes edges [] → ⊥
+tells_some is outputs heads bytes nodes edges some lt t =
+    by_head (first_head (lanes_into edges (mux_node is outputs heads bytes nodes edges 0))) (t.streams 0 lt)
+  where
+    by_head : (head : Option StreamHead) → [] ≡ events_by is outputs heads bytes nodes edges 0 head (stream_into is outputs heads bytes nodes edges (mux_node is outputs heads bytes nodes edges 0)) → ⊥
+    by_head None e = cc
+    by_head (Some coded) e = some 0 coded (stream_into is outputs heads bytes nodes edges (mux_node is outputs heads bytes nodes edges 0)) e

@@ -1,6 +1,7 @@
 pub mod Backs
 pub mod Building
 pub mod Ending
+pub mod EventSteps
 pub mod Gathering
 pub mod Histories
 pub mod Making
@@ -14,4 +15,5 @@ pub mod Running
 pub mod Planning
 pub mod Plans
 pub mod Tally
+pub mod Told
 pub mod Telling

@@ -8,7 +8,7 @@ use Rattle.ff_net.specs.Views.{View}
 use Rattle.ff_network.specs.Runs.{AllKept}
 use Rattle.ff_plan.specs.declared.planned.PlanNode.{PlanNode}
 use Rattle.ff_files.specs.Works.{KeepEnds}
-use Rattle.ff_running.specs.Kinds.{IsSourceOf}
+use Rattle.ff_running.specs.Kinds.{IsEndOf}
 use Rattle.ff_running.specs.Parts.{IsBefore}
 use Rattle.ff_running.proofs.Numbers.{there}
 
@@ -19,7 +19,7 @@ module _ {T M : Type 0} (named : T → Option (List ℕ)) (failed : T → ℕ) (
     pub count : length all' ≡ length all
     pub begun : (k i : ℕ) (m : M) (x : T) → slice_get nodes k ≡ Some (mk i) → slice_get olds k ≡ Some m → slice_get all i ≡ Some x
         → ((view m).fault ≡ None) × ((view m).device ≡ named x) × ((view m).failures ≡ failed x)
-    pub back : (k i : ℕ) (m : M) → slice_get nodes k ≡ Some (mk i) → slice_get news k ≡ Some m → (x : T) × (slice_get all' i ≡ Some x) × IsSourceOf named failed (view m) x
+    pub back : (k i : ℕ) (m : M) → slice_get nodes k ≡ Some (mk i) → slice_get news k ≡ Some m → (x : T) × (slice_get all' i ≡ Some x) × IsEndOf named failed (view m) x
     pub other : (i : ℕ) → (IsBefore nodes (length news) (mk i) → ⊥) → slice_get all' i ≡ slice_get all i
     pub or : (i : ℕ) → IsBefore nodes (length news) (mk i) ⊎ (IsBefore nodes (length news) (mk i) → ⊥)
     pub in_range : (k i : ℕ) → slice_get nodes k ≡ Some (mk i) → i < length all

@@ -155,30 +155,36 @@ module _ {M : Type 0} (view : M → View) where
     pub parts_fit : AreFit (ports_by edges) count edges → AreFit (ports_of view parts) (length parts) edges
     parts_fit h = fit_same (ports_by edges) (ports_of view parts) (length parts) edges same_ports (subst (λ (n : ℕ). AreFit (ports_by edges) n edges) (sym long) h)
 
+    -- their network is the plan's
+    pub plan_net : (tasks : ℕ → Task) → solve (network tasks (ports_of view parts) edges (length parts)) ≡ solve (network tasks (ports_by edges) edges count)
+    plan_net tasks =
+        ap solve (network_same tasks edges (ports_by edges) (ports_of view parts) (length parts) same_ports ∙ ap (λ (n : ℕ). network tasks (ports_by edges) edges n) long)
+
+    pub plan_ins : (k : ℕ) → k < length parts → ins_at (ports_of view parts) edges k ≡ edges_into edges k
+    plan_ins k lt = ap (λ (ls : List Lane). at_ports (edge_to edges k) (length ls)) (same_ports.ins k lt)
+
+    pub plan_outs : (k : ℕ) → k < length parts → lanes_out_of edges k ≡ [] → outs_at (ports_of view parts) edges k ≡ []
+    plan_outs k lt none = ap (λ (ls : List Lane). at_ports (edge_from edges k) (length ls)) (same_ports.outs k lt ∙ none)
+
     -- what their network says is said of the plan's
     pub meets_streams : (tasks : ℕ → Task) (news : List M) (fault : Option NodeFault) → length news ≡ length parts → TellsRun view news fault
         → MeetsNetwork view tasks (network tasks (ports_of view parts) edges (length parts)) (ins_at (ports_of view parts) edges) (outs_at (ports_of view parts) edges) news fault
         → MeetsStreams view tasks (solve (network tasks (ports_by edges) edges count)) edges news fault
     meets_streams tasks news fault as_many tells h =
-        let net : solve (network tasks (ports_of view parts) edges (length parts)) ≡ solve (network tasks (ports_by edges) edges count) =
-        ap solve (network_same tasks edges (ports_by edges) (ports_of view parts) (length parts) same_ports ∙ ap (λ (n : ℕ). network tasks (ports_by edges) edges n) long) in
-        let below : (k : ℕ) (m : M) → slice_get news k ≡ Some m → k < length parts = λ k m at. (let w = slice_get_within news k m at in omega (arith, w, as_many)) in
-        let ins : (k : ℕ) → k < length parts → ins_at (ports_of view parts) edges k ≡ edges_into edges k =
-        λ k lt. ap (λ (ls : List Lane). at_ports (edge_to edges k) (length ls)) (same_ports.ins k lt) in
-        let outs : (k : ℕ) → k < length parts → lanes_out_of edges k ≡ [] → outs_at (ports_of view parts) edges k ≡ [] =
-        λ k lt none. ap (λ (ls : List Lane). at_ports (edge_from edges k) (length ls)) (same_ports.outs k lt ∙ none) in record {
+        let net = plan_net tasks in
+        let below : (k : ℕ) (m : M) → slice_get news k ≡ Some m → k < length parts = λ k m at. (let w = slice_get_within news k m at in omega (arith, w, as_many)) in record {
           below = λ k m at.
               subst (λ (σ : ℕ → Flow). FedPart (view m) (tasks k) σ (edges_into edges k)) net
-              (subst (λ (ws : List ℕ). FedPart (view m) (tasks k) (solve (network tasks (ports_of view parts) edges (length parts))) ws) (ins k (below k m at))
+              (subst (λ (ws : List ℕ). FedPart (view m) (tasks k) (solve (network tasks (ports_of view parts) edges (length parts))) ws) (plan_ins k (below k m at))
               (subst (λ (x : M). FedPart (view x) (tasks k) (solve (network tasks (ports_of view parts) edges (length parts))) (ins_at (ports_of view parts) edges k)) (get_or_from_slice_get news k m m at)
               (h.below k m (slice_get_within news k m at))));
           settled = λ none k m at no_outs.
               subst (λ (σ : ℕ → Flow). FedAll (view m) (tasks k) σ (edges_into edges k)) net
-              (subst (λ (ws : List ℕ). FedAll (view m) (tasks k) (solve (network tasks (ports_of view parts) edges (length parts))) ws) (ins k (below k m at))
+              (subst (λ (ws : List ℕ). FedAll (view m) (tasks k) (solve (network tasks (ports_of view parts) edges (length parts))) ws) (plan_ins k (below k m at))
               (subst (λ (x : M). FedAll (view x) (tasks k) (solve (network tasks (ports_of view parts) edges (length parts))) (ins_at (ports_of view parts) edges k)) (get_or_from_slice_get news k m m at)
-              (h.settled none k m (slice_get_within news k m at) (outs k (below k m at) no_outs))));
+              (h.settled none k m (slice_get_within news k m at) (plan_outs k (below k m at) no_outs))));
           cause = λ f e i.
               let own = tells.own f e (λ same. subst IsOfInputs same i) in
               subst (λ (σ : ℕ → Flow). (tasks f.node).cause (map σ (edges_into edges f.node)) ≡ Some f.fault) net
-              (subst (λ (ws : List ℕ). (tasks f.node).cause (map (solve (network tasks (ports_of view parts) edges (length parts))) ws) ≡ Some f.fault) (ins f.node (below f.node own.0 own.1)) (h.cause f e i));
+              (subst (λ (ws : List ℕ). (tasks f.node).cause (map (solve (network tasks (ports_of view parts) edges (length parts))) ws) ≡ Some f.fault) (plan_ins f.node (below f.node own.0 own.1)) (h.cause f e i));
         }

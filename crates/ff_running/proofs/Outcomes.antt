@@ -89,7 +89,7 @@ module _ {H S K M : Type 0} (is : KindsOf H) (left named : S → Option (List �
     kept = run.kept;
     count = back.src_count;
     begun = λ k i m s at old src. (let p = run.parts.each k (node.Demux i) m at old in let d = p.source i s refl src in (p.sound, d.0, d.1));
-    back = back.sources;
+    back = λ k i m at now. (let g = back.sources k i m at now in (g.0, g.1, record { name = g.2.name; faults = g.2.faults }));
     other = back.other_srcs;
     or = demux_before nodes (length news);
     in_range = order.inputs_there;

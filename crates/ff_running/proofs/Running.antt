@@ -37,7 +37,7 @@ module _ {H S K M : Type 0} (is : KindsOf H) (left named : S → Option (List �
   node_there : (k : ℕ) (m : M) → slice_get olds k ≡ Some m → (n : PlanNode) × (slice_get nodes k ≡ Some n)
   node_there k m at = there nodes k (let w = slice_get_within olds k m at in let few = parts.few in omega (arith, w, few))
 
-  part_lanes : (k : ℕ) (m : M) → slice_get olds k ≡ Some m → ((view m).in_lanes ≡ lanes_into edges k) × ((view m).out_lanes ≡ lanes_out_of edges k)
+  pub part_lanes : (k : ℕ) (m : M) → slice_get olds k ≡ Some m → ((view m).in_lanes ≡ lanes_into edges k) × ((view m).out_lanes ≡ lanes_out_of edges k)
   part_lanes k m at = (let n = node_there k m at in let p = parts.each k n.0 m n.1 at in (p.in_lanes, p.out_lanes))
 
   pub part_sound : (k : ℕ) (m : M) → slice_get olds k ≡ Some m → (view m).fault ≡ None

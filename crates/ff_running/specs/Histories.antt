@@ -1,6 +1,7 @@
 -- The history of a run of a plan: what the scheduler granted and was told.
-use Rattle.std.specs.Prelude.{◌≡◌, ℕ, true, false, Bool, List, length, map, replicate, Option, None, Some, Ok}
+use Rattle.std.specs.Prelude.{◌≡◌, ℕ, ◌<◌, true, false, Bool, List, [], ◌∷◌, filter, length, map, replicate, slice_get, Option, None, Some, IfSome, Ok}
 use Rattle.ff_values.specs.declared.event.Event.{Event}
+use Rattle.ff_values.specs.declared.event.Event.TheVariants.{Grant, Exited}
 use Rattle.ff_words.specs.declared.job.Job.{Job}
 use Rattle.ff_words.specs.declared.job.OutputJob.{OutputJob}
 use Rattle.ff_edges.specs.declared.edge.Edge.{Edge}
@@ -17,12 +18,12 @@ use Rattle.ff_network.specs.Scheduling.{Scheduled}
 use Rattle.ff_plan.specs.declared.planned.Plan.{Plan}
 use Rattle.ff_plan.specs.declared.planned.PlanNode.{PlanNode}
 use Rattle.ff_files.specs.declared.work.WorkEnd.{WorkEnd}
-use Rattle.ff_files.specs.Works.{AreTold}
 use Rattle.ff_running.specs.declared.fault.RunFault.{RunFault}
+use Rattle.ff_running.specs.Events.{is_of_output, is_exit_of}
 use Rattle.ff_running.specs.Kinds.{KindsOf}
-use Rattle.ff_running.specs.Meaning.{plan_for, task_at}
-use Rattle.ff_running.specs.Openings.{is_unused}
-use Rattle.ff_running.specs.Runs.{end_with}
+use Rattle.ff_running.specs.Meaning.{plan_for, events_in}
+use Rattle.ff_running.specs.Openings.{is_read, is_unused}
+use Rattle.ff_running.specs.Runs.{IsDone}
 
 -- before a run nothing was sent and no stream has finished, and exactly the inputs that no node reads have exited
 abbrev pub state_at : List PlanNode → Routes → State
@@ -37,25 +38,39 @@ state_at nodes routes = record {
 abbrev pub state_before : Plan → State
 state_before plan = state_at plan.nodes plan.routes
 
--- The history of a run of the plan for these heads: each grant stands where the events before it, from the state before the run on,
--- unchoke its source.
-abbrev pub IsHistoryFor : {H : Type 0} → KindsOf H → Job → List H → List Event → Type 0
-IsHistoryFor is job heads events = (plan : Plan) × (plan_for is job heads ≡ Ok plan) × IsLegal plan.routes (state_before plan) events
+-- an input has exited, once, and behind every grant of it
+pub record HasExited (i : ℕ) (events : List Event) : Type 0 where
+  pub once : filter (is_exit_of i) events ≡ Exited i ∷ []
+  pub last : (p q : ℕ) → slice_get events p ≡ Some (Grant i) → slice_get events q ≡ Some (Exited i) → p < q
 
-module _ {H S K M : Type 0} (is : KindsOf H) (left : S → Option (List ℕ)) (holds : K → Option (List ℕ)) (view : M → View)
+-- Of each output stream it is told when each of its packets is decoded, in order, and then that it has finished, and nothing else; and
+-- each input that is read has exited.
+pub record TellsAll {H : Type 0} (is : KindsOf H) (outputs : List OutputJob) (heads : List H) (bytes : List (List ℕ))
+    (nodes : List PlanNode) (edges : List Edge) (events : List Event) : Type 0 where
+  pub streams : (o : ℕ) → o < length outputs → filter (is_of_output o) events ≡ events_in is outputs heads bytes nodes edges o
+  pub inputs : (i : ℕ) → is_read nodes i ≡ true → HasExited i events
+
+-- The history of a run of this plan over inputs with these heads and, where they are told, these bytes: each grant stands where the
+-- events before it, from the state before the run on, unchoke its source.
+pub record IsHistoryIn {H : Type 0} (is : KindsOf H) (job : Job) (heads : List H) (bytes : Option (List (List ℕ))) (plan : Plan) (events : List Event) : Type 0 where
+  pub legal : IsLegal plan.routes (state_before plan) events
+  pub told : IfSome bytes (λ b. TellsAll is job.outputs heads b plan.nodes plan.edges events)
+
+-- that of a run of the plan for these heads
+abbrev pub IsHistoryFor : {H : Type 0} → KindsOf H → Job → List H → Option (List (List ℕ)) → List Event → Type 0
+IsHistoryFor is job heads bytes events = (plan : Plan) × (plan_for is job heads ≡ Ok plan) × IsHistoryIn is job heads bytes plan events
+
+-- Parts with these edges were run under the scheduler, and this is the history of that. It says of tasks what is so where sources and
+-- sinks tell.
+abbrev pub AreScheduled : {M : Type 0} → (M → View) → List Edge → Bool → List M → List M → Routes → State → Option NodeFault → List Event → Type 0
+AreScheduled view edges claims olds news routes state fault events =
+    Scheduled view routes state (λ tasks. (claims ≡ true) × AllStart view tasks olds)
+    (λ tasks. solve (network tasks (ports_of view olds) edges (length olds))) (ins_at (ports_of view olds) edges) (outs_at (ports_of view olds) edges)
+    news fault events
+
+module _ {H S K M : Type 0} (is : KindsOf H) (left named : S → Option (List ℕ)) (failed : S → ℕ) (holds called : K → Option (List ℕ)) (faulted : K → ℕ) (view : M → View)
     (outputs : List OutputJob) (heads : List H) (edges : List Edge) (nodes : List PlanNode) (srcs : List S) (snks : List K) (claims : Bool) where
-  -- Parts of a plan's nodes were run under the scheduler, and this is the history of that: where sources and sinks tell, the parts
-  -- were there for the tasks of their nodes.
-  pub record AreScheduled (routes : Routes) (state : State) (fault : Option NodeFault) (events : List Event) : Type 0 where
-    pub olds : List M
-    pub news : List M
-    pub starts : (bytes : List (List ℕ)) → AreTold left holds srcs snks bytes → AllStart view (task_at is outputs heads bytes nodes edges) olds
-    pub scheduled : Scheduled view routes state (λ tasks. (claims ≡ true) × AllStart view tasks olds)
-        (λ tasks. solve (network tasks (ports_of view olds) edges (length olds))) (ins_at (ports_of view olds) edges) (outs_at (ports_of view olds) edges)
-        news fault events
-
-  -- and the run ended so
-  pub record IsHistoryOf (routes : Routes) (state : State) (end : WorkEnd RunFault) (events : List Event) : Type 0 where
-    pub fault : Option NodeFault
-    pub end_is : end ≡ end_with (length heads) nodes fault
-    pub run : AreScheduled routes state fault events
+  -- The parts of a plan's nodes were run so, with this end, and these are the sources and the sinks then.
+  pub record IsHistoryOf (routes : Routes) (state : State) (end : WorkEnd RunFault) (srcs' : List S) (snks' : List K) (events : List Event) : Type 0 where
+    pub done : IsDone is left named failed holds called faulted view outputs heads edges nodes srcs snks claims end srcs' snks'
+    pub run : AreScheduled view edges claims done.olds done.news routes state done.fault events

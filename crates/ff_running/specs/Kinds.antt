@@ -1,8 +1,10 @@
 -- The kinds of node of a plan: what each is there for, and what of a part is seen from outside.
-use Rattle.std.specs.Prelude.{◌≡◌, ℕ, List, [], Option, None, IsSome}
+use Rattle.std.specs.Prelude.{◌≡◌, ℕ, ◌+◌, ◌≤◌, List, [], ◌∷◌, length, Option, None, Some, IsSome}
 use Rattle.ff_values.specs.declared.head.StreamHead.{StreamHead}
+use Rattle.ff_values.specs.declared.event.Event.{Event}
+use Rattle.ff_values.specs.declared.event.Event.TheVariants.{Exited}
 use Rattle.ff_frame.specs.declared.item.Lane.{Lane}
-use Rattle.ff_frame.specs.Ports.{stream_at, IsWhole}
+use Rattle.ff_frame.specs.Ports.{stream_at, IsClosed, IsWhole}
 use Rattle.ff_words.specs.declared.job.OutputJob.{OutputJob}
 use Rattle.ff_net.specs.Pasts.{Past, Task}
 use Rattle.ff_net.specs.Views.{View}
@@ -25,11 +27,13 @@ pub record KindsOf (H : Type 0) : Type 1 where
   pub CanEncode : StreamHead → StreamHead → Type 0
   pub enc_task : StreamHead → StreamHead → Task
   -- the packets that can be written to an output, what a muxer of these to the output of this number is there for, the file of a
-  -- stream of them, which is none while it isn't whole, and the text of which a front is held until then
+  -- stream of them, which is none while it isn't whole, the text of which a front is held until then, and the events of the output
+  -- stream of this number by the stream of them, once that has closed
   pub CanMux : OutputJob → StreamHead → Type 0
   pub mux_task : ℕ → OutputJob → StreamHead → Task
   pub file : OutputJob → StreamHead → Flow → Option (List ℕ)
   pub text : OutputJob → StreamHead → Flow → List ℕ
+  pub events : ℕ → StreamHead → Flow → List Event
 
 -- a part that nothing was done with: its number, where it is a source, the lanes of its ports, no fault, and the name and the
 -- failures of its source or sink
@@ -41,12 +45,19 @@ pub record IsNew (source : Option ℕ) (ins outs : List Lane) (device : Option (
   pub device_is : v.device ≡ device
   pub failures_are : v.failures ≡ failures
 
--- the source of a part
+-- the source or the sink of a part
+pub record IsEndOf {E : Type 0} (named : E → Option (List ℕ)) (failed : E → ℕ) (v : View) (end : E) : Type 0 where
+  pub name : named end ≡ v.device
+  pub faults : failed end ≡ v.failures
+
+-- the source of a part: all that the part has to tell is that it has exited, and it tried at most one unit more than its stream has items
 pub record IsSourceOf {S : Type 0} (named : S → Option (List ℕ)) (failed : S → ℕ) (v : View) (src : S) : Type 0 where
   pub name : named src ≡ v.device
   pub faults : failed src ≡ v.failures
+  pub exits : (past : Past) (input : ℕ) → v.stands past → v.source ≡ Some input → past.task.tells past.feeds ≡ Exited input ∷ []
+  pub few : (past : Past) → v.stands past → v.tried ≤ length (stream_at (past.task.means past.got) 0).items + 1
 
--- the sink of a part, and what it holds where the part is a muxer that was fed something
+-- the sink of a part, and what it holds where the part is a muxer that was fed something, and has to tell of a stream that has closed
 pub record IsSinkOf {H K : Type 0} (is : KindsOf H) (holds called : K → Option (List ℕ)) (faulted : K → ℕ) (v : View) (snk : K) : Type 0 where
   pub name : called snk ≡ v.device
   pub faults : faulted snk ≡ v.failures
@@ -54,6 +65,8 @@ pub record IsSinkOf {H K : Type 0} (is : KindsOf H) (holds called : K → Option
       → IsWhole (stream_at past.got 0) → IsSome (is.file out coded (stream_at past.got 0)) × (holds snk ≡ is.file out coded (stream_at past.got 0))
   pub part : (past : Past) (output : ℕ) (out : OutputJob) (coded : StreamHead) → v.stands past → past.task ≡ is.mux_task output out coded
       → HoldsPart (holds snk) (is.text out coded (stream_at past.got 0)) (is.file out coded (stream_at past.got 0))
+  pub told : (past : Past) (output : ℕ) (out : OutputJob) (coded : StreamHead) → v.stands past → past.task ≡ is.mux_task output out coded
+      → IsClosed (stream_at past.got 0) → past.task.tells past.feeds ≡ is.events output coded (stream_at past.got 0)
 
 -- what a part gives back: a demuxer, which has no inputs, its source, a muxer, which has no outputs, its sink
 abbrev pub GivesEnds : {H S K : Type 0} → KindsOf H → (S → Option (List ℕ)) → (S → ℕ) → (K → Option (List ℕ)) → (K → Option (List ℕ)) → (K → ℕ) → View → Ends S K → Type 0

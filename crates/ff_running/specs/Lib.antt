@@ -2,6 +2,7 @@ pub mod Kinds
 pub mod Openings
 pub mod Tasks
 pub mod Meaning
+pub mod Events
 pub mod Parts
 pub mod Runs
 pub mod Claims

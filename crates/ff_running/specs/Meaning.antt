@@ -1,6 +1,8 @@
 -- What a run of the plan of a job comes to, by the heads and the bytes of its inputs.
 use Rattle.std.specs.Prelude.{◌≡◌, ℕ, ◌+◌, ◌-◌, ◌^◌, List, [], ◌∷◌, length, map, slice_get, slice_index_or, Option, None, Some, Ok, Err}
 use Rattle.ff_values.specs.declared.head.StreamHead.{StreamHead}
+use Rattle.ff_values.specs.declared.event.Event.{Event}
+use Rattle.ff_values.specs.declared.event.Event.TheVariants.{Finished}
 use Rattle.ff_words.specs.declared.job.Job.{Job}
 use Rattle.ff_words.specs.declared.job.OutputJob.{OutputJob}
 use Rattle.ff_edges.specs.declared.edge.Edge.{Edge}
@@ -85,6 +87,15 @@ module _ {H : Type 0} (is : KindsOf H) (outputs : List OutputJob) (heads : List 
 
   abbrev pub text_in : ℕ → List ℕ
   text_in o = text_by (slice_get outputs o) (first_head (lanes_into edges (mux_node o))) (stream_into (mux_node o))
+
+  -- the events of an output stream of packets of this head; without a head it has none, and only finishes
+  abbrev pub events_by : ℕ → Option StreamHead → Flow → List Event
+  events_by o None s = Finished o ∷ []
+  events_by o (Some coded) s = is.events o coded s
+
+  -- the events of an output stream, by the packets at its Mux node
+  abbrev pub events_in : ℕ → List Event
+  events_in o = events_by o (first_head (lanes_into edges (mux_node o))) (stream_into (mux_node o))
 
   -- a node that is damaged, too long or too large by the streams at its inputs
   abbrev pub BreaksIn : RunFault → Type 0

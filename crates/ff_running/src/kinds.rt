@@ -8,6 +8,7 @@ ghost use Rattle.ff_files.specs.Works.{HoldsPart};
 ghost use Rattle.ff_plan.specs.Streams.{packed_as, takes_head};
 ghost use Rattle.ff_words.specs.declared.job.OutputJob.{OutputJob};
 ghost use Rattle.ff_values.specs.declared.head.StreamHead.{StreamHead};
+ghost use Rattle.ff_running.specs.Events.{TellOfThemselves};
 ghost use Rattle.ff_running.specs.Kinds.{KindsOf, IsNew, GivesEnds};
 
 use ff_host::{Sink, Source};
@@ -88,6 +89,9 @@ pub trait Kinds<Src: Source + Send + Drop, Snk: Sink + Send + Drop, Part: Machin
     /// and written to it.
     ghost writes: { (h : Self.Head) (out : OutputJob) → is.IsHead h → takes_head out (is.stream h) ≡ true
         → is.CanMux out (packed_as out (is.stream h)) };
+
+    /// Each node tells of its own input or output alone.
+    ghost own: { TellOfThemselves is };
 
     /// What is held of a stream is held of a longer one.
     ghost holds_on: { (out : OutputJob) (coded : StreamHead) (held : Option (List ℕ)) (r s : Flow) → LiesBelow (opened r) s

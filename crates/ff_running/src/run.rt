@@ -9,8 +9,7 @@ ghost use Rattle.ff_files.specs.Works.{AreTold};
 ghost use Rattle.ff_running.specs.Claims.{tell_all};
 ghost use Rattle.ff_network.specs.Fits.{ports_by};
 ghost use Rattle.ff_running.specs.Parts.{AreFitting, AreOrdered, AllAside};
-ghost use Rattle.ff_net.specs.Nets.{solve};
-ghost use Rattle.ff_network.specs.Scheduling.{AllRouted, Scheduled};
+ghost use Rattle.ff_network.specs.Scheduling.{AllRouted};
 ghost use Rattle.ff_running.specs.Histories.{AreScheduled, IsHistoryOf};
 ghost use Rattle.ff_running.specs.Openings.{CanBegin, or_memory};
 ghost use Rattle.ff_running.specs.Rooms.{HasRoom};
@@ -90,11 +89,8 @@ fn run_parts<C: Claims, R: Threads + Wait + Sync, M: Machine + Send + Drop>(
     ensures solved { C.claims ≡ true → (tasks : ℕ → Task) → AllStart M.view tasks parts.items
         → MeetsNetwork M.view tasks (network tasks (ports_of M.view parts.items) edges.now (length parts.items)) (ins_at (ports_of M.view parts.items) edges.now) (outs_at (ports_of M.view parts.items) edges.now) result.machines.items result.fault }
     ensures told { result.fault ≡ None → IsSome result.history }
-    ensures scheduled { IfSome result.history (λ events. Scheduled M.view opening.routes opening.state
-        (λ tasks. (C.claims ≡ true) × AllStart M.view tasks parts.items)
-        (λ tasks. solve (network tasks (ports_of M.view parts.items) edges.now (length parts.items)))
-        (ins_at (ports_of M.view parts.items) edges.now) (outs_at (ports_of M.view parts.items) edges.now)
-        result.machines.items result.fault events) }
+    ensures scheduled { IfSome result.history (λ events. AreScheduled M.view edges.now C.claims parts.items result.machines.items
+        opening.routes opening.state result.fault events) }
 {
     let Opening { state, routes } = opening;
     match run_network::<C, R, M>(rt, alloc, parts, edges, size, state, routes) {
@@ -145,11 +141,9 @@ fn build_and_run<
         × (C.claims ≡ true → (bytes : List (List ℕ)) × AreTold Src.left Snk.holds srcs snks bytes) }
     ensures ran { (srcs : List Src) (snks : List Snk) → AllAside srcs places.old.srcs.items → AllAside snks places.old.snks.items
         → (olds : List M) × AreRun K.is Src.left Src.name Src.faults Snk.holds Snk.name Snk.faults M.view outputs.now heads.now edges.now nodes.now srcs snks C.claims
-        olds result.machines.items places.new.srcs.items places.new.snks.items result.fault }
+        olds result.machines.items places.new.srcs.items places.new.snks.items result.fault
+        × IfSome result.history (λ events. AreScheduled M.view edges.now C.claims olds result.machines.items opening.routes opening.state result.fault events) }
     ensures told { result.fault ≡ None → IsSome result.history }
-    ensures scheduled { (srcs : List Src) (snks : List Snk) → AllAside srcs places.old.srcs.items → AllAside snks places.old.snks.items
-        → IfSome result.history (λ events. AreScheduled K.is Src.left Snk.holds M.view outputs.now heads.now edges.now nodes.now srcs snks C.claims
-        opening.routes opening.state result.fault events) }
 {
     match build::<K, Src, Snk, M>(alloc, nodes, edges, heads, outputs, parts, places) {
         Ok(parts) => run_parts::<C, R, M>(rt, alloc, parts, edges, size, opening),
@@ -223,8 +217,8 @@ pub(crate) fn run_nodes<
     ensures done { IsDone K.is Src.left Src.name Src.faults Snk.holds Snk.name Snk.faults M.view outputs.now heads.now edges.now nodes.now srcs.items snks.items C.claims
         result.end result.srcs.items result.snks.items }
     ensures told { result.end ≡ WorkEnd.Fine → IsSome result.log }
-    ensures scheduled { IfSome result.log (λ events. IsHistoryOf K.is Src.left Snk.holds M.view outputs.now heads.now edges.now nodes.now srcs.items snks.items C.claims
-        opening.routes opening.state result.end events) }
+    ensures scheduled { IfSome result.log (λ events. IsHistoryOf K.is Src.left Src.name Src.faults Snk.holds Snk.name Snk.faults M.view outputs.now heads.now edges.now nodes.now
+        srcs.items snks.items C.claims opening.routes opening.state result.end result.srcs.items result.snks.items events) }
 {
     let mut places = Places {
         srcs: tabled(srcs, room.src_places),

@@ -1,5 +1,5 @@
 // The plan of a job and its run, which are done between the opening and the closing of files.
-ghost use Rattle.std.specs.Prelude.{◌≡◌, ℕ, List, [], ◌∷◌, length, map, None, Some, Ok, IfOk, IfSome, IfErr, OnOk};
+ghost use Rattle.std.specs.Prelude.{◌≡◌, ℕ, List, [], ◌∷◌, length, map, Option, None, Some, Ok, IfOk, IfSome, IfErr, OnOk};
 ghost use Rattle.ff_map.specs.Choice.{lists};
 ghost use Rattle.ff_files.specs.Works.{HasLog, AreTold, HoldFiles, HoldParts, KeepEnds, FailNoMore, EndsWork, sound_sources, sound_sinks};
 ghost use Rattle.ff_running.specs.Accepting.{IsAccepted, IsPlanFor};
@@ -92,9 +92,10 @@ pub fn run_plan<
         (AreTold Src.left Snk.holds srcs.items snks.items) result.end }
     ensures sound_srcs { FailNoMore Src.faults srcs.items result.srcs.items (sound_sources (means_of K.is job.now) result.end (length srcs.items)) }
     ensures sound_snks { FailNoMore Snk.faults snks.items result.snks.items (sound_sinks (means_of K.is job.now) result.end (length snks.items)) }
-    ensures logged { result.end ≡ WorkEnd.Fine → HasLog (IsHistoryFor K.is job.now heads.now) result.log }
-    ensures scheduled { IfSome result.log (λ events. IsHistoryOf K.is Src.left Snk.holds M.view job.now.outputs heads.now plan.edges plan.nodes srcs.items snks.items
-        (tell_all Src.left Snk.holds srcs.items snks.items) plan.routes (state_before plan) result.end events) }
+    ensures logged { result.end ≡ WorkEnd.Fine → (bytes : Option (List (List ℕ))) → IfSome bytes (AreTold Src.left Snk.holds srcs.items snks.items)
+        → HasLog (IsHistoryFor K.is job.now heads.now bytes) result.log }
+    ensures scheduled { IfSome result.log (λ events. IsHistoryOf K.is Src.left Src.name Src.faults Snk.holds Snk.name Snk.faults M.view job.now.outputs heads.now plan.edges plan.nodes
+        srcs.items snks.items (tell_all Src.left Snk.holds srcs.items snks.items) plan.routes (state_before plan) result.end result.srcs.items result.snks.items events) }
 {
     let Plan {
         nodes,

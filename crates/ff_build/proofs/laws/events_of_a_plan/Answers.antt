@@ -1,5 +1,6 @@
 use Rattle.ff_build.specs.Parts.{all_kinds}
-use Rattle.ff_build.proofs.EventSteps.{parts_tell_of_themselves, plans_tell_alone}
+use Rattle.ff_build.specs.Events.{parts_tell_of_themselves}
+use Rattle.ff_running.proofs.EventSteps.{plans_tell_alone}
 use Rattle.ff_build.proofs.laws.events_of_a_plan.Goals as goal
 
 pub returns-clause-own : goal.returns-clause-own

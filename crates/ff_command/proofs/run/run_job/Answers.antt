@@ -1,7 +1,7 @@
 use Rattle.std.proofs.Common.{◌≡◌, ℕ, List, length, sym, ap, ◌∙◌, subst, arith}
 use Rattle.ff_files.specs.Counts.{Counts}
 use Rattle.ff_files.specs.Names.{names_of, AreApart, KeepsAllBut}
-use Rattle.ff_files.specs.Works.{HoldTrace, AreHeadsIn}
+use Rattle.ff_files.specs.Works.{HoldTrace, AreHeadsIn, told_bytes}
 use Rattle.ff_files.proofs.Lists.{names_len}
 use Rattle.ff_words.specs.Words.{written}
 use Rattle.ff_command.specs.declared.written.Written.{Written}
@@ -53,11 +53,11 @@ returns-clause-logged g c = λ fine.
     let same : names ≡ written job = ap (names_of (λ (w : Written). w.name.now)) c.as_slice.ensures.value ∙ c.in-Ok.ensures in
     let n = length c.as_slice-count.result.now in
     has_more _ (IsReported (over means job) (g.P.Worker.tells c.args.worker.now job) before) c.over_files-end.result.log
-    (λ events told. (
-      told.0,
-      over-same means job before after ins outs (λ cmd. AreHeadsIn cmd before told.0) c.as_slice-inputs.result.now names n c.as_slice-inputs.ensures same (ap length c.as_slice-count.ensures) told.1,
-      told.2,
-    ))
+    (λ events told.
+    let tells = g.P.Worker.tells c.args.worker.now job told.0 in
+    let both = over-same means job before after ins outs (λ cmd. AreHeadsIn cmd before told.0 × tells (told_bytes cmd before) events) c.as_slice-inputs.result.now names n
+    c.as_slice-inputs.ensures same (ap length c.as_slice-count.ensures) (told.1, told.2) in
+    (told.0, both.0, both.1))
     (c.over_files-end.ensures.logged (fine-end means job before after ins outs c.over_files-end.result.end n (sym c.status_of_end.ensures ∙ fine)))
 
 pub returns-clause-traced : goal.returns-clause-traced

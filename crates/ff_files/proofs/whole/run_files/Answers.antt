@@ -2,10 +2,10 @@ use Rattle.std.proofs.Common.{List, length, arith, sym, subst}
 use Rattle.ff_files.specs.Names.{names_of}
 use Rattle.ff_files.specs.Counts.{Counts, KeepsCounts}
 use Rattle.ff_files.specs.Inputs.{AreBegun, begun_left, begun_faults, sound_before}
-use Rattle.ff_files.specs.Works.{command_of, HoldMeaning, HoldWritten}
+use Rattle.ff_files.specs.Works.{command_of, told_bytes, HasLog, HoldMeaning, HoldWritten}
 use Rattle.ff_files.specs.Ends.{Ends, sound_inputs}
 use Rattle.ff_files.proofs.Lists.{names_len}
-use Rattle.ff_files.proofs.Wholes.{counts_all, counts_twice}
+use Rattle.ff_files.proofs.Wholes.{counts_all, counts_twice, has_more, heads_in}
 use Rattle.ff_files.proofs.EndLaws.{ends_headless, ends_earlier, headless_sound}
 use Rattle.ff_files.proofs.whole.run_files.Goals as goal
 
@@ -75,3 +75,18 @@ returns-clause-in_counts g c =
     let n = length c.args.inputs.now in
     let count = sound_inputs cmd c.plan_outputs.result.end in
     counts_twice old mid (H.in_faults c.plan_outputs.new.host) names count (counts_all old mid names n count (let len = names_len g.I.Named.name_text c.args.inputs.now in omega (arith, len)) c.in-Ok-open_inputs.ensures.counts) c.plan_outputs.ensures.in_counts
+
+pub returns-clause-logged : goal.returns-clause-logged
+returns-clause-logged g c = λ fine.
+    let H = g.H.Host in
+    let W = g.W.Work in
+    let work = c.args.work.now in
+    let cmd = command_of g.I.Named.name_text g.I.InputFile.head g.N.Named.name_text c.args.inputs.now c.args.outputs.now c.args.count (W.means work) in
+    let old = H.files c.args.host.now in
+    let left = begun_left g.H.Src.Source.left in
+    let srcs = c.open_inputs.new.srcs.items in
+    let begun = c.in-Ok-open_inputs.ensures.begun in
+    let heads = c.open_inputs.new.heads.items in
+    has_more (W.tells work heads (told_bytes cmd old)) _ c.plan_outputs.result.log (λ log told. (heads, heads_in cmd left g.H.Snk.Sink.holds srcs heads old begun, told))
+    (subst (λ (hs : List g.row.I-Head.Denot). AreBegun g.I.Named.name_text g.I.InputFile.head left old c.args.inputs.now srcs hs → HasLog (W.tells work hs (told_bytes cmd old)) c.plan_outputs.result.log) c.deref.ensures.value
+    (c.plan_outputs.ensures.logged fine old c.in-Ok-open_inputs.ensures.files) begun)

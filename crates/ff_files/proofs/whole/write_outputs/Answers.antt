@@ -3,12 +3,12 @@ use Rattle.ff_files.specs.Names.{names_of, KeepsAllBut}
 use Rattle.ff_files.specs.Counts.{Counts, KeepsCounts}
 use Rattle.ff_files.specs.Inputs.{begun_left, begun_name, begun_faults}
 use Rattle.ff_files.specs.Outputs.{FailsAt}
-use Rattle.ff_files.specs.Works.{AreTold, FailNoMore, GainTexts, HoldTrace, command_of, sound_sources}
+use Rattle.ff_files.specs.Works.{AreTold, FailNoMore, GainTexts, HoldTrace, command_of, sound_sources, told_bytes}
 use Rattle.ff_files.proofs.Tracing.{if_some_more}
 use Rattle.ff_files.specs.Ends.{Ends, sound_inputs, sound_outputs}
 use Rattle.ff_files.proofs.Lists.{names_len}
 use Rattle.ff_files.proofs.Steps.{open_still}
-use Rattle.ff_files.proofs.Wholes.{meant, fronts, none_written, traced, told_of, kept_open, still_unfailed, counts_all, counts_twice}
+use Rattle.ff_files.proofs.Wholes.{meant, fronts, none_written, traced, told_of, all_told, kept_open, still_unfailed, counts_all, counts_twice}
 use Rattle.ff_files.proofs.EndLaws.{ends_closed, ends_uncreated, fine_only, sources_sound, sinks_sound, closed_sound, uncreated_sound, closed_none, counts_zero}
 use Rattle.ff_files.proofs.whole.write_outputs.Goals as goal
 
@@ -178,7 +178,11 @@ returns-in-Ok-clause-out_counts g c =
     (still_unfailed K.faults snks snks' m count c.run_traced-end.ensures.snks_kept.as_many few c.in-Ok.ensures.unfailed (subst (λ (e : _). FailNoMore K.faults snks snks' (sound_outputs cmd e)) (sym c.end_with.ensures) (sinks_sound cmd K.faults snks snks' end unclosed c.run_traced-end.ensures.sound_snks))))))
 
 pub returns-in-Ok-clause-logged : goal.returns-in-Ok-clause-logged
-returns-in-Ok-clause-logged g c = λ fine. c.run_traced-end.ensures.logged (fine_only c.run_traced-end.result.end c.close_all-unclosed.result (sym c.end_with.ensures ∙ fine))
+returns-in-Ok-clause-logged g c = λ fine before keeps begun.
+    let means = g.W.Work.means c.args.work.now in
+    let cmd = command_of g.I.Named.name_text g.I.InputFile.head g.N.Named.name_text c.args.inputs.now c.args.outputs.now c.args.count means in
+    c.run_traced-end.ensures.logged (fine_only c.run_traced-end.result.end c.close_all-unclosed.result (sym c.end_with.ensures ∙ fine)) (told_bytes cmd before)
+    (all_told cmd (begun_left g.H.Src.Source.left) g.H.Snk.Sink.holds c.args.srcs.items c.args.heads.now before (g.H.Host.files c.args.host.now) c.create_outputs.new.snks.items keeps begun c.in-Ok.ensures.empty)
 
 pub returns-in-Ok-clause-traced : goal.returns-in-Ok-clause-traced
 returns-in-Ok-clause-traced g c = λ fine before keeps.

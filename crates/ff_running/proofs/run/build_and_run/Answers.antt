@@ -1,15 +1,11 @@
-use Rattle.std.proofs.Common.{◌≡◌, true, List, length, Option, None, IfSome, sym, ◌∙◌, subst}
+use Rattle.std.proofs.Common.{◌≡◌, None, sym, ◌∙◌, subst}
 use Rattle.std.specs.declared.alloc.Global.{Global}
 use Rattle.std.specs.declared.vec.Vec.{Vec}
-use Rattle.ff_net.specs.Nets.{solve}
-use Rattle.ff_network.specs.Fits.{ins_at, outs_at, network}
-use Rattle.ff_network.specs.Networks.{AllStart, ports_of}
-use Rattle.ff_network.specs.Scheduling.{Scheduled}
 use Rattle.ff_running.specs.Histories.{AreScheduled}
 use Rattle.ff_running.specs.Meaning.{task_at}
 use Rattle.ff_running.specs.Openings.{unstarted}
 use Rattle.ff_running.specs.Runs.{AreRun}
-use Rattle.ff_running.proofs.Histories.{if_some_more, none_known}
+use Rattle.ff_running.proofs.Histories.{none_known}
 use Rattle.ff_running.proofs.Running.{part_sound, all_start, all_fit, are_within, run_ok, run_err}
 use Rattle.ff_running.proofs.run.build_and_run.Goals as goal
 
@@ -56,31 +52,8 @@ returns-in-Ok-clause-ran g c = λ srcs snks a b.
       run_ok g.K.Kinds.is S.left S.name S.faults K.holds K.name K.faults g.M.Machine.view c.args.outputs.now c.args.heads.now c.args.edges.now c.args.nodes.now srcs snks c.in-Ok.parts.items
           c.build.new.places.srcs.items c.build.new.places.snks.items (c.in-Ok.ensures.ok srcs snks a b) c.in-Ok.ensures.all c.run_parts.result.machines.items c.run_parts.result.fault g.C.Claims.claims
           c.run_parts.ensures.kept c.run_parts.ensures.tells c.run_parts.ensures.solved,
+      c.run_parts.ensures.scheduled,
     )
-
-pub returns-in-Ok-clause-scheduled : goal.returns-in-Ok-clause-scheduled
-returns-in-Ok-clause-scheduled g c = λ srcs snks a b.
-    let S = g.Src.Source in
-    let K = g.Snk.Sink in
-    let parts = c.in-Ok.parts.items in
-    let edges = c.args.edges.now in
-    let view = g.M.Machine.view in
-    let opening = c.args.opening in
-    let fault = c.run_parts.result.fault in
-    let news = c.run_parts.result.machines.items in
-    if_some_more
-    (λ events. Scheduled view opening.routes opening.state (λ tasks. (g.C.Claims.claims ≡ true) × AllStart view tasks parts)
-    (λ tasks. solve (network tasks (ports_of view parts) edges (length parts))) (ins_at (ports_of view parts) edges) (outs_at (ports_of view parts) edges) news fault events)
-    (λ events. AreScheduled g.K.Kinds.is S.left K.holds view c.args.outputs.now c.args.heads.now edges c.args.nodes.now srcs snks g.C.Claims.claims opening.routes opening.state fault events)
-    c.run_parts.result.history
-    (λ events scheduled. record {
-      olds = parts;
-      news = news;
-      starts = all_start g.K.Kinds.is S.left S.name S.faults K.holds K.name K.faults view c.args.outputs.now c.args.heads.now edges c.args.nodes.now srcs snks parts
-          c.build.new.places.srcs.items c.build.new.places.snks.items (c.in-Ok.ensures.ok srcs snks a b);
-      scheduled = scheduled;
-    })
-    c.run_parts.ensures.scheduled
 
 pub returns-in-Err-clause-ran : goal.returns-in-Err-clause-ran
 returns-in-Err-clause-ran g c = λ srcs snks a b.
@@ -91,14 +64,10 @@ returns-in-Err-clause-ran g c = λ srcs snks a b.
           c.in-Err.parts.items v.items c.build.new.places.srcs.items c.build.new.places.snks.items c.unstarted.result.fault) (sym c.unstarted.ensures.machines)
           (run_err g.K.Kinds.is S.left S.name S.faults K.holds K.name K.faults g.M.Machine.view c.args.outputs.now c.args.heads.now c.args.edges.now c.args.nodes.now srcs snks c.in-Err.parts.items
           c.build.new.places.srcs.items c.build.new.places.snks.items (c.in-Err.ensures.err srcs snks a b) c.unstarted.result.fault g.C.Claims.claims c.unstarted.ensures.fault),
+      none_known
+          (λ events. AreScheduled g.M.Machine.view c.args.edges.now g.C.Claims.claims c.in-Err.parts.items c.unstarted.result.machines.items c.args.opening.routes c.args.opening.state c.unstarted.result.fault events)
+          c.unstarted.result.history c.unstarted.ensures.history,
     )
 
 pub returns-in-Err-clause-told : goal.returns-in-Err-clause-told
 returns-in-Err-clause-told g c = λ none. absurd (let both : None ≡ unstarted = sym none ∙ c.unstarted.ensures.fault in cc)
-
-pub returns-in-Err-clause-scheduled : goal.returns-in-Err-clause-scheduled
-returns-in-Err-clause-scheduled g c = λ srcs snks a b.
-    none_known
-    (λ events. AreScheduled g.K.Kinds.is g.Src.Source.left g.Snk.Sink.holds g.M.Machine.view c.args.outputs.now c.args.heads.now c.args.edges.now c.args.nodes.now srcs snks g.C.Claims.claims
-    c.args.opening.routes c.args.opening.state c.unstarted.result.fault events)
-    c.unstarted.result.history c.unstarted.ensures.history

@@ -120,16 +120,22 @@ pub returns-clause-told : goal.returns-clause-told
 returns-clause-told g c = λ fine. c.build_and_run-machines.ensures.told (fine_only (length c.args.heads.now) c.args.nodes.now c.build_and_run-machines.result.fault (sym c.end_with-end.ensures ∙ fine))
 
 pub returns-clause-scheduled : goal.returns-clause-scheduled
+unfolding returns-clause-done
 returns-clause-scheduled g c =
     let S = g.Src.Source in
     let K = g.Snk.Sink in
+    let view = g.M.Machine.view in
     let srcs = c.args.srcs.items in
     let snks = c.args.snks.items in
     let opening = c.args.opening in
+    let news = c.build_and_run-machines.result.machines.items in
     let fault = c.build_and_run-machines.result.fault in
+    let claims = g.C.Claims.claims in
+    let ran = c.build_and_run-machines.ensures.ran srcs snks (all_aside srcs c.tabled.result.items c.tabled.ensures) (all_aside snks c.tabled-2.result.items c.tabled-2.ensures) in
     if_some_more
-    (λ events. AreScheduled g.K.Kinds.is S.left K.holds g.M.Machine.view c.args.outputs.now c.args.heads.now c.args.edges.now c.args.nodes.now srcs snks g.C.Claims.claims opening.routes opening.state fault events)
-    (λ events. IsHistoryOf g.K.Kinds.is S.left K.holds g.M.Machine.view c.args.outputs.now c.args.heads.now c.args.edges.now c.args.nodes.now srcs snks g.C.Claims.claims opening.routes opening.state c.end_with-end.result events)
+    (λ events. AreScheduled view c.args.edges.now claims ran.0 news opening.routes opening.state fault events)
+    (λ events. IsHistoryOf g.K.Kinds.is S.left S.name S.faults K.holds K.name K.faults view c.args.outputs.now c.args.heads.now c.args.edges.now c.args.nodes.now srcs snks claims
+    opening.routes opening.state c.end_with-end.result c.listed.result.items c.listed-2.result.items events)
     c.build_and_run-machines.result.history
-    (λ events run. record { fault = fault; end_is = c.end_with-end.ensures; run = run })
-    (c.build_and_run-machines.ensures.scheduled srcs snks (all_aside srcs c.tabled.result.items c.tabled.ensures) (all_aside snks c.tabled-2.result.items c.tabled-2.ensures))
+    (λ events run. record { done = returns-clause-done g c; run = run })
+    ran.2

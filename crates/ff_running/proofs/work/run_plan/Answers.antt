@@ -1,8 +1,10 @@
 use Rattle.std.proofs.Common.{◌≡◌, length, refl, ap, ◌∙◌, arith}
+use Rattle.ff_net.specs.Laws.{Laws}
 use Rattle.ff_running.specs.Claims.{tell_all}
 use Rattle.ff_running.specs.Histories.{state_before, IsHistoryFor, IsHistoryOf}
-use Rattle.ff_running.proofs.Histories.{state_is, legal_for, history_for, has_log, if_some_more}
+use Rattle.ff_running.proofs.Histories.{state_is, history_for, has_log, if_some_more}
 use Rattle.ff_running.proofs.Ending.{done_for, all_files, all_parts, keeps_sources, keeps_sinks, all_ends, all_sources, all_sinks}
+use Rattle.ff_running.proofs.Told.{history_in}
 use Rattle.ff_running.proofs.work.run_plan.Goals as goal
 
 pub returns-clause-fine : goal.returns-clause-fine
@@ -138,26 +140,43 @@ returns-clause-sound_snks g c =
     all_sinks is S.left S.name S.faults K.holds K.name K.faults view job plan heads srcs snks claims c.run_nodes.result.end c.run_nodes.result.srcs.items c.run_nodes.result.snks.items
     c.requires srcs_len (snks_len ∙ ap length c.as_slice-outputs.ensures) refl done
 
-pub returns-clause-logged : goal.returns-clause-logged
-returns-clause-logged g c = λ fine.
-    let plan = c.args.plan in
-    let routes : c.before_run-opening.result.routes ≡ plan.routes = c.before_run-opening.ensures.routes in
-    let state = state_is plan c.as_slice-nodes.result.now c.before_run-opening.result.routes c.before_run-opening.result.state c.as_slice-nodes.ensures routes c.before_run-opening.ensures.state in
-    has_log _ (IsHistoryFor g.K.Kinds.is c.args.job.now c.args.heads.now) c.run_nodes.result.log (c.run_nodes.ensures.told fine) c.run_nodes.ensures.scheduled
-    (λ events h. (plan, c.requires.made, legal_for plan c.before_run-opening.result.routes c.before_run-opening.result.state events routes state h.run.scheduled.legal))
-
 pub returns-clause-scheduled : goal.returns-clause-scheduled
 returns-clause-scheduled g c =
     let S = g.Src.Source in
     let K = g.Snk.Sink in
     let plan = c.args.plan in
+    let srcs = c.args.srcs.items in
+    let snks = c.args.snks.items in
+    let claims = tell_all S.left K.holds srcs snks in
+    let end = c.run_nodes.result.end in
+    let srcs' = c.run_nodes.result.srcs.items in
+    let snks' = c.run_nodes.result.snks.items in
     let routes : c.before_run-opening.result.routes ≡ plan.routes = c.before_run-opening.ensures.routes in
     let state = state_is plan c.as_slice-nodes.result.now c.before_run-opening.result.routes c.before_run-opening.result.state c.as_slice-nodes.ensures routes c.before_run-opening.ensures.state in
     if_some_more _
-    (λ events. IsHistoryOf g.K.Kinds.is S.left K.holds g.M.Machine.view c.args.job.now.outputs c.args.heads.now plan.edges plan.nodes c.args.srcs.items c.args.snks.items
-    (tell_all S.left K.holds c.args.srcs.items c.args.snks.items) plan.routes (state_before plan) c.run_nodes.result.end events)
+    (λ events. IsHistoryOf g.K.Kinds.is S.left S.name S.faults K.holds K.name K.faults g.M.Machine.view c.args.job.now.outputs c.args.heads.now plan.edges plan.nodes srcs snks
+    claims plan.routes (state_before plan) end srcs' snks' events)
     c.run_nodes.result.log
-    (λ events h. history_for g.K.Kinds.is S.left K.holds g.M.Machine.view c.as_slice-outputs.result.now c.args.job.now.outputs c.args.heads.now c.as_slice-edges.result.now plan.edges
-    c.as_slice-nodes.result.now plan.nodes c.args.srcs.items c.args.snks.items (tell_all S.left K.holds c.args.srcs.items c.args.snks.items) c.before_run-opening.result.routes plan.routes
-    c.before_run-opening.result.state (state_before plan) c.run_nodes.result.end events c.as_slice-outputs.ensures c.as_slice-edges.ensures c.as_slice-nodes.ensures routes state h)
+    (λ events h. history_for g.K.Kinds.is S.left S.name S.faults K.holds K.name K.faults g.M.Machine.view c.as_slice-outputs.result.now c.args.job.now.outputs c.args.heads.now
+    c.as_slice-edges.result.now plan.edges c.as_slice-nodes.result.now plan.nodes srcs snks claims c.before_run-opening.result.routes plan.routes
+    c.before_run-opening.result.state (state_before plan) end srcs' snks' events c.as_slice-outputs.ensures c.as_slice-edges.ensures c.as_slice-nodes.ensures routes state h)
     c.run_nodes.ensures.scheduled
+
+pub returns-clause-logged : goal.returns-clause-logged
+returns-clause-logged g c = λ fine bytes told.
+    let S = g.Src.Source in
+    let K = g.Snk.Sink in
+    let job = c.args.job.now in
+    let heads = c.args.heads.now in
+    let srcs = c.args.srcs.items in
+    let snks = c.args.snks.items in
+    let end = c.run_nodes.result.end in
+    let srcs' = c.run_nodes.result.srcs.items in
+    let snks' = c.run_nodes.result.snks.items in
+    let srcs_len : length srcs ≡ length heads = (let t = c.if-len-heads.false in let l = c.len.ensures in let ok = c.args.srcs.ok.0 in omega (arith, t, l, ok)) in
+    let snks_len : length snks ≡ length c.as_slice-outputs.result.now = (let t = c.if-len-outputs.false in let l = c.len-else-len-heads.ensures in let ok = c.args.snks.ok.0 in omega (arith, t, l, ok)) in
+    let machine = g.met.M.Machine g.world.𝓛 g.world.𝓜 g.world.𝓡 ((λ s x. x), (λ x. x), (λ x. x), λ x. x) in
+    let laws : (m : g.row.M.Denot) → Laws (g.M.Machine.view m) = machine.laws in
+    has_log _ (IsHistoryFor g.K.Kinds.is job heads bytes) c.run_nodes.result.log (c.run_nodes.ensures.told fine) (returns-clause-scheduled g c)
+    (λ events h. history_in g.K.Kinds.is g.met.K.Kinds.own S.left S.name S.faults K.holds K.name K.faults g.M.Machine.view laws job c.args.plan heads srcs snks end srcs' snks' events
+    c.requires srcs_len (snks_len ∙ ap length c.as_slice-outputs.ensures) h fine bytes told)

@@ -6,7 +6,7 @@ use Rattle.ff_flac_coder.specs.Coding.{coded_head}
 use Rattle.ff_frame.specs.declared.item.Lane.{Lane}
 use Rattle.ff_frame.specs.declared.item.Lane.TheVariants.{Frames, Packets}
 use Rattle.ff_muxing.specs.Outputs.{layout_of}
-use Rattle.ff_running.specs.Kinds.{IsSinkOf}
+use Rattle.ff_running.specs.Kinds.{IsSourceOf, IsSinkOf}
 use Rattle.ff_build.specs.declared.part.Part.{Part}
 use Rattle.ff_build.specs.Parts.{all_kinds}
 use Rattle.ff_build.specs.PartViews.{part_view}
@@ -18,6 +18,17 @@ one_lane x e = cc
 some_lanes : (n : ℕ) (x : Lane) → 1 ≤ n → replicate n x ≡ [] → ⊥
 some_lanes zero x some e = omega (arith, some)
 some_lanes (suc n) x some e = cc
+
+pub returns-in-Demux : goal.returns-in-Demux
+returns-in-Demux g c =
+    let S = g.Src.Source in
+    let source = c.into_source.ensures in
+    let GivesSource : Part g.row.Src.Denot g.row.Snk.Denot g.Snk.Sink → Type 0 =
+    λ p. IsSourceOf S.name S.faults (part_view S.left S.name S.faults p) c.into_source.result × ((part_view S.left S.name S.faults p).out_lanes ≡ [] → ⊥) in
+    subst GivesSource (sym c.in-Demux.is) (
+      record { name = source.name; faults = source.faults; exits = source.exits; few = source.few },
+      one_lane (Packets c.in-Demux.m.head),
+    )
 
 pub returns-in-Dec : goal.returns-in-Dec
 returns-in-Dec g c =
@@ -42,6 +53,7 @@ returns g c =
         name = ap K.name sink.sink;
         faults = ap K.faults sink.sink;
         whole = λ past output out coded s is. sink.whole past output (base_of_head coded) (layout_of out.format out.hash coded) s is;
+        told = λ past output out coded s is closed. sink.told past output (base_of_head coded) (layout_of out.format out.hash coded) s is closed;
         part = λ past output out coded s is. sink.front past output (base_of_head coded) (layout_of out.format out.hash coded) s is;
       },
       one_lane (Packets c.in-Mux.m.head),

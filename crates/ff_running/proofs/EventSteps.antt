@@ -1,35 +1,29 @@
 -- Events of one output or input, among those that all nodes of a plan have to tell.
-use Rattle.std.proofs.Common.{◌≡◌, ◌≢◌, ◌⊎◌, inl, inr, ℕ, ◌<◌, Bool, true, false, cond, List, [], ◌∷◌, filter, length, slice_get, slice_index_or, Option, None, Some, refl, ap, sym, ◌∙◌, subst, arith}
+use Rattle.std.proofs.Common.{◌≡◌, ◌≢◌, inl, inr, ℕ, ◌<◌, Bool, true, false, cond, List, [], ◌∷◌, filter, length, slice_get, slice_index_or, Option, None, Some, refl, ap, ◌∙◌, arith}
 use Rattle.std.specs.Prelude.{All, nat_eq}
 use Rattle.std.proofs.lemmas.Bool.Decides.{nat_tests}
 use Rattle.std.proofs.lemmas.Bool.{cases_lt}
-use Rattle.std.proofs.lemmas.List.Elements.{All-head, All-tail, All-nil, All-cons}
-use Rattle.ff_values.specs.Heads.{base_of_head}
+use Rattle.std.proofs.lemmas.List.Elements.{All-head, All-tail}
 use Rattle.ff_values.specs.declared.head.StreamHead.{StreamHead}
 use Rattle.ff_values.specs.declared.event.Event.{Event}
 use Rattle.ff_values.specs.declared.event.Event.TheVariants.{Grant, Sent, Finished, Best, Exited}
 use Rattle.ff_edges.specs.declared.edge.Edge.{Edge}
 use Rattle.ff_edges.specs.Ports.{lanes_into, lanes_out_of}
-use Rattle.ff_frame.specs.declared.item.Lane.{Lane}
 use Rattle.ff_words.specs.declared.job.OutputJob.{OutputJob}
 use Rattle.ff_net.specs.Pasts.{Feed}
 use Rattle.ff_plan.specs.declared.planned.PlanNode.{PlanNode}
 use Rattle.ff_plan.specs.declared.planned.PlanNode.TheVariants as node
 use Rattle.ff_running.specs.Kinds.{KindsOf}
-use Rattle.ff_running.specs.Meaning.{task_by, task_at}
-use Rattle.ff_running.specs.Parts.{AreOrdered}
-use Rattle.ff_running.specs.Tasks.{first_head, demux_by, dec_by, enc_by, mux_by, task_of}
-use Rattle.ff_muxing.specs.Telling.{IsOfStream, mux_tells}
-use Rattle.ff_muxing.proofs.TellSteps.{all_of_stream}
-use Rattle.ff_build.specs.Events.{is_of_output, is_exit_of, TellOfThemselves, TellAlone, PlansTellAlone}
-use Rattle.ff_build.specs.Parts.{all_kinds, enc_task_to, is_flac_coded}
+use Rattle.ff_running.specs.Meaning.{task_by}
+use Rattle.ff_running.specs.Tasks.{first_head, demux_by, dec_by, enc_by, mux_by}
+use Rattle.ff_running.specs.Events.{is_of_output, is_exit_of, TellOfThemselves, PlansTellAlone}
 
 -- ---- kinds of events
 
-same_number : (j o : ℕ) → nat_eq j o ≡ true → j ≡ o
+pub same_number : (j o : ℕ) → nat_eq j o ≡ true → j ≡ o
 same_number j o e = grind (arith, nat_tests)
 
-itself : (o j : ℕ) → j ≡ o → nat_eq j o ≡ true
+pub itself : (o j : ℕ) → j ≡ o → nat_eq j o ≡ true
 itself o j e = grind (arith, nat_tests)
 
 other_number : (j o o' : ℕ) → o' ≢ o → nat_eq j o' ≡ true → nat_eq j o ≡ false
@@ -142,31 +136,4 @@ plans_tell_alone is own outputs heads bytes nodes edges i o ordered = record {
     no_other = λ j feeds lt other. none_of_input is own outputs heads bytes nodes edges feeds m j (slice_get nodes j)
         (λ at'. one_place nodes node.Demux ordered.rising j k m at' at other);
   };
-}
-
--- ---- the parts
-
-of_output : (o : ℕ) (e : Event) → IsOfStream o e → is_of_output o e ≡ true
-of_output o (Grant s) is = absurd is
-of_output o (Sent j t) is = itself o j is.0
-of_output o (Finished j) is = itself o j is
-of_output o (Best g i) is = absurd is
-of_output o (Exited s) is = absurd is
-
-all_of_output : (o : ℕ) (es : List Event) → All (IsOfStream o) es → All (λ e. is_of_output o e ≡ true) es
-all_of_output o [] all = All-nil (λ e. is_of_output o e ≡ true)
-all_of_output o (e ∷ es) all =
-    All-cons (λ e. is_of_output o e ≡ true) e es (of_output o e (All-head (IsOfStream o) e es all)) (all_of_output o es (All-tail (IsOfStream o) e es all))
-
--- an encoder tells nothing, to whatever it codes
-encoder_tells : (flac : Bool) (coded : StreamHead) (feeds : List Feed) → (enc_task_to flac coded).tells feeds ≡ []
-encoder_tells true coded feeds = refl
-encoder_tells false coded feeds = refl
-
-pub parts_tell_of_themselves : TellOfThemselves all_kinds
-parts_tell_of_themselves = record {
-  demuxer = λ i head bytes feeds. refl;
-  decoder = λ head outputs feeds. refl;
-  encoder = λ head coded feeds. encoder_tells (is_flac_coded coded) coded feeds;
-  muxer = λ o out coded feeds. all_of_output o ((all_kinds.mux_task o out coded).tells feeds) (all_of_stream o (base_of_head coded) feeds);
 }

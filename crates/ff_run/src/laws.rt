@@ -1,0 +1,8 @@
+// What follows of the definitions alone.
+ghost use Rattle.ff_run.specs.Telling.{NoneIsEmpty};
+
+/// No history without events is that of a run that did all, where the files are told: of each output stream of the job it tells at
+/// least that this has finished.
+pub fn no_history_is_empty()
+    ensures { NoneIsEmpty }
+{}

@@ -1,0 +1,266 @@
+-- What the history of a run tells of streams and inputs.
+use Rattle.std.proofs.Common.{◌≡◌, ◌⊎◌, inl, inr, ℕ, suc, ◌<◌, ◌||◌, Bool, true, false, cond, List, [], ◌∷◌, filter, length, slice_get, slice_index_or, Option, Some, None, is_some, refl, sym, ap, ◌∙◌, subst, arith}
+use Rattle.std.specs.Prelude.{IfSome}
+use Rattle.std.proofs.lemmas.Option.{slice_get_within, get_or_from_slice_get}
+use Rattle.ff_values.specs.declared.event.Event.{Event}
+use Rattle.ff_values.specs.declared.event.Event.TheVariants.{Exited}
+use Rattle.ff_frame.specs.declared.item.Lane.{Lane}
+use Rattle.ff_frame.specs.Stream.{whole}
+use Rattle.ff_frame.specs.Ports.{stream_at, IsClosed}
+use Rattle.ff_words.specs.declared.job.Job.{Job}
+use Rattle.ff_words.specs.declared.job.OutputJob.{OutputJob}
+use Rattle.ff_edges.specs.declared.edge.Edge.{Edge}
+use Rattle.ff_edges.specs.Ports.{edge_to, lanes_into, lanes_out_of}
+use Rattle.ff_sched.specs.declared.logged.Logged.{Logged}
+use Rattle.ff_sched.specs.declared.routes.Routes.{Routes}
+use Rattle.ff_sched.specs.State.{State}
+use Rattle.ff_net.specs.Laws.{Laws}
+use Rattle.ff_net.specs.Nets.{solve}
+use Rattle.ff_net.specs.Pasts.{Feed, Task, start}
+use Rattle.ff_net.specs.Views.{View}
+use Rattle.ff_net.specs.Ways.{Flow}
+use Rattle.ff_network.specs.declared.run.NodeFault.{NodeFault}
+use Rattle.ff_network.specs.Fits.{network, ins_at, outs_at}
+use Rattle.ff_network.specs.Networks.{AllStart, ports_of}
+use Rattle.ff_network.specs.Scheduling.{AreLogged, LoggedSink, AreToldBy, IsOnlySource}
+use Rattle.ff_network.proofs.Fitting.{count_ports}
+use Rattle.ff_plan.specs.declared.planned.Plan.{Plan}
+use Rattle.ff_plan.specs.declared.planned.PlanNode.{PlanNode}
+use Rattle.ff_plan.specs.declared.planned.PlanNode.TheVariants as node
+use Rattle.ff_files.specs.declared.work.WorkEnd.{WorkEnd}
+use Rattle.ff_files.specs.declared.work.WorkEnd.TheVariants as work_end
+use Rattle.ff_files.specs.Works.{AreTold}
+use Rattle.ff_running.specs.declared.fault.RunFault.{RunFault}
+use Rattle.ff_running.specs.Accepting.{IsPlanFor}
+use Rattle.ff_running.specs.Claims.{tell_all}
+use Rattle.ff_running.specs.Kinds.{KindsOf}
+use Rattle.ff_running.specs.Events.{is_of_output, is_exit_of, TellOfThemselves, TellAlone}
+use Rattle.ff_running.specs.Histories.{state_before, HasExited, TellsAll, IsHistoryFor, IsHistoryOf, AreScheduled}
+use Rattle.ff_running.specs.Meaning.{edges_into, task_by, task_at, solution, stream_into, mux_node, events_by}
+use Rattle.ff_running.specs.Openings.{reads_in, is_read}
+use Rattle.ff_running.specs.Parts.{FitsDemux, FitsMux, AreFitting, AreOrdered, AreBack, source_in}
+use Rattle.ff_running.specs.Runs.{AreRun}
+use Rattle.ff_running.specs.Tasks.{first_head, demux_by, mux_by}
+use Rattle.ff_running.proofs.EventSteps.{all_kept, itself, same_number, plans_tell_alone}
+use Rattle.ff_running.proofs.Gathering.{demux_once}
+use Rattle.ff_running.proofs.Networks.{plan_net, plan_ins, plan_outs}
+use Rattle.ff_running.proofs.Numbers.{there}
+use Rattle.ff_running.proofs.Outcomes.{fine_only}
+use Rattle.ff_running.proofs.Running.{all_start, part_lanes}
+use Rattle.ff_running.proofs.Telling.{tells_told}
+
+-- ---- which node reads an input
+
+either : (a b : Bool) → (a || b) ≡ true → (a ≡ true) ⊎ (b ≡ true)
+either true b e = inl refl
+either false b e = inr e
+
+reads_demux : (n : PlanNode) (i : ℕ) → reads_in i n ≡ true → n ≡ node.Demux i
+reads_demux (node.Demux j) i e = ap node.Demux (same_number j i e)
+reads_demux (node.Dec at) i e = absurd cc
+reads_demux (node.Graph g) i e = absurd cc
+reads_demux (node.Shortest o) i e = absurd cc
+reads_demux (node.Enc o j) i e = absurd cc
+reads_demux (node.Mux o) i e = absurd cc
+
+reader_of : (nodes : List PlanNode) (i : ℕ) → is_read nodes i ≡ true → (k : ℕ) × (slice_get nodes k ≡ Some (node.Demux i))
+reader_of [] i e = absurd cc
+reader_of (n ∷ ns) i e = elim (either (reads_in i n) (is_read ns i) e) [
+  | inl here ↦ (0, ap (λ (x : PlanNode). Some x) (reads_demux n i here))
+  | inr later ↦ (let rest = reader_of ns i later in (suc rest.0, rest.1))
+]
+
+source_demux : (n : PlanNode) → is_some (source_in n) ≡ true → (i : ℕ) × (n ≡ node.Demux i)
+source_demux (node.Demux i) e = (i, refl)
+source_demux (node.Dec at) e = absurd cc
+source_demux (node.Graph g) e = absurd cc
+source_demux (node.Shortest o) e = absurd cc
+source_demux (node.Enc o j) e = absurd cc
+source_demux (node.Mux o) e = absurd cc
+
+exited_same : (i j : ℕ) → Exited i ∷ [] ≡ Exited j ∷ [] → i ≡ j
+exited_same i j e = cc
+
+module _ {H S K M : Type 0} (is : KindsOf H) (own : TellOfThemselves is) (left named : S → Option (List ℕ)) (failed : S → ℕ) (holds called : K → Option (List ℕ)) (faulted : K → ℕ)
+    (view : M → View) (laws : (m : M) → Laws (view m)) (outputs : List OutputJob) (heads : List H) (edges : List Edge) (nodes : List PlanNode) (srcs : List S) (snks : List K) (claims : Bool)
+    (olds news : List M) (sp : List (Option S)) (kp : List (Option K)) (fault : Option NodeFault) (srcs' : List S) (snks' : List K) (routes : Routes) (state : State) (events : List Event)
+    (order : AreOrdered (length srcs) (length snks) nodes) (fitting : AreFitting is outputs heads edges nodes)
+    (run : AreRun is left named failed holds called faulted view outputs heads edges nodes srcs snks claims olds news sp kp fault)
+    (back : AreBack is left named failed holds called faulted view nodes news srcs snks srcs' snks')
+    (sound : fault ≡ None) (s : AreScheduled view edges claims olds news routes state fault events)
+    (bytes : List (List ℕ)) (vouched : claims ≡ true) (told : AreTold left holds srcs snks bytes) where
+  abbrev tasks : ℕ → Task
+  tasks = task_at is outputs heads bytes nodes edges
+
+  begun : (claims ≡ true) × AllStart view tasks olds
+  begun = (vouched, all_start is left named failed holds called faulted view outputs heads edges nodes srcs snks olds sp kp run.parts bytes told)
+
+  logs : AreLogged view tasks (solve (network tasks (ports_of view olds) edges (length olds))) (ins_at (ports_of view olds) edges) (outs_at (ports_of view olds) edges) news fault s.logs
+  logs = s.logged tasks begun
+
+  alone : TellAlone is outputs heads bytes nodes edges
+  alone = plans_tell_alone is own outputs heads bytes nodes edges (length srcs) (length snks) order
+
+  lanes : (k : ℕ) (m : M) → slice_get olds k ≡ Some m → ((view m).in_lanes ≡ lanes_into edges k) × ((view m).out_lanes ≡ lanes_out_of edges k)
+  lanes = part_lanes is left named failed holds called faulted view outputs heads edges nodes srcs snks olds sp kp run.parts
+
+  -- as many parts as nodes
+  old_there : (k : ℕ) → k < length nodes → k < length olds
+  old_there k lt = (let long = run.all sound in omega (arith, lt, long))
+
+  new_there : (k : ℕ) → k < length nodes → k < length news
+  new_there k lt = (let long = run.all sound in let many = run.kept.count in omega (arith, lt, long, many))
+
+  node_there : (k : ℕ) → k < length news → k < length nodes
+  node_there k lt = (let long = run.all sound in let many = run.kept.count in omega (arith, lt, long, many))
+
+  -- ---- the events of an output stream
+
+  module _ (o k : ℕ) (at : slice_get nodes k ≡ Some (node.Mux o)) where
+    within : k < length nodes
+    within = slice_get_within nodes k (node.Mux o) at
+
+    abbrev pub fits : FitsMux is outputs (lanes_into edges k) (lanes_out_of edges k) o
+    fits = fitting k (node.Mux o) at
+
+    task_is : tasks k ≡ is.mux_task o fits.out fits.coded
+    task_is =
+        ap (λ (n : Option PlanNode). task_by is outputs heads bytes nodes edges n k) at
+        ∙ (ap (λ (x : Option OutputJob). mux_by is o x (first_head (lanes_into edges k))) fits.there ∙ ap (λ (ls : List Lane). mux_by is o (Some fits.out) (first_head ls)) fits.ins_are)
+
+    one_edge : 0 < length (edges_into edges k)
+    one_edge =
+        let count : length (edges_into edges k) ≡ length (lanes_into edges k) = count_ports (edge_to edges k) (length (lanes_into edges k)) in
+        let one : length (lanes_into edges k) ≡ 1 = ap length fits.ins_are in
+        omega (arith, count, one)
+
+    abbrev muxer : (m : M) × (slice_get news k ≡ Some m)
+    muxer = there news k (new_there k within)
+
+    abbrev log : List Logged
+    log = slice_index_or s.logs k []
+
+    logged : LoggedSink (view muxer.0) (tasks k) (solution is outputs heads bytes nodes edges) (edges_into edges k) log
+    logged =
+        let lt = old_there k within in
+        let net = plan_net view edges olds (length nodes) (run.all sound) lanes tasks in
+        let ins = plan_ins view edges olds (length nodes) (run.all sound) lanes k lt in
+        let outs = plan_outs view edges olds (length nodes) (run.all sound) lanes k lt fits.outs_are in
+        subst (λ (σ : ℕ → Flow). LoggedSink (view muxer.0) (tasks k) σ (edges_into edges k) log) net
+        (subst (λ (ws : List ℕ). LoggedSink (view muxer.0) (tasks k) (solve (network tasks (ports_of view olds) edges (length olds))) ws log) ins
+        (subst (λ (x : M). LoggedSink (view x) (tasks k) (solve (network tasks (ports_of view olds) edges (length olds))) (ins_at (ports_of view olds) edges k) log)
+        (get_or_from_slice_get news k muxer.0 muxer.0 muxer.1) (logs.sinks sound k muxer.0 (new_there k within) outs)))
+
+    pub events_are : filter (is_of_output o) events ≡ is.events o fits.coded (stream_into is outputs heads bytes nodes edges k)
+    events_are =
+        let fed = logged.fed in
+        let feeds = fed.past.feeds in
+        let got = fed.got 0 one_edge in
+        let closed : IsClosed (stream_at fed.past.got 0) = λ goes_on. (let end : (stream_at fed.past.got 0).mark ≡ whole = ap (λ (r : Flow). r.mark) got ∙ fed.whole 0 one_edge in cc) in
+        let sink = back.sinks k o muxer.0 at muxer.1 in
+        (s.told tasks begun k (is_of_output o) (new_there k within) (alone.output (length news) k o at)).same
+        ∙ (ap (filter (is_of_output o)) logged.all_told
+        ∙ (ap (λ (t : Task). filter (is_of_output o) (t.tells feeds)) task_is
+        ∙ (all_kept (is_of_output o) ((is.mux_task o fits.out fits.coded).tells feeds) (own.muxer o fits.out fits.coded feeds)
+        ∙ (sym (ap (λ (t : Task). t.tells feeds) (fed.task_is ∙ task_is))
+        ∙ (sink.2.told fed.past o fits.out fits.coded fed.fits (fed.task_is ∙ task_is) closed
+        ∙ ap (is.events o fits.coded) got)))))
+
+    -- as the meaning has them
+    pub means_events : events_by is outputs heads bytes nodes edges o (first_head (lanes_into edges k)) (stream_into is outputs heads bytes nodes edges k)
+        ≡ is.events o fits.coded (stream_into is outputs heads bytes nodes edges k)
+    means_events = ap (λ (ls : List Lane). events_by is outputs heads bytes nodes edges o (first_head ls) (stream_into is outputs heads bytes nodes edges k)) fits.ins_are
+
+  -- ---- the exit of an input
+
+  demux_task_is : (i k : ℕ) (at : slice_get nodes k ≡ Some (node.Demux i)) (fits : FitsDemux is heads (lanes_into edges k) (lanes_out_of edges k) i)
+      → tasks k ≡ is.demux_task i fits.head (slice_index_or bytes i [])
+  demux_task_is i k at fits =
+      ap (λ (n : Option PlanNode). task_by is outputs heads bytes nodes edges n k) at ∙ ap (λ (h : Option H). demux_by is i h (slice_index_or bytes i [])) fits.there
+
+  -- the events of the part of a Demux node
+  due_exit : (i k : ℕ) → slice_get nodes k ≡ Some (node.Demux i) → (feeds : List Feed) → (tasks k).tells feeds ≡ Exited i ∷ []
+  due_exit i k at feeds =
+      let fits : FitsDemux is heads (lanes_into edges k) (lanes_out_of edges k) i = fitting k (node.Demux i) at in
+      ap (λ (t : Task). t.tells feeds) (demux_task_is i k at fits) ∙ own.demuxer i fits.head (slice_index_or bytes i []) feeds
+
+  -- a part that is a source is that of a Demux node
+  is_reader : (j i : ℕ) (e : M) → j < length news → (view (slice_index_or news j e)).source ≡ Some i → (i' : ℕ) × (slice_get nodes j ≡ Some (node.Demux i'))
+  is_reader j i e lt src =
+      let n = there nodes j (node_there j lt) in
+      let old = there olds j (old_there j (node_there j lt)) in
+      let now = logs.settled sound j e lt in
+      let part = run.parts.each j n.0 old.0 n.1 old.1 in
+      let stands : (view old.0).stands (start (tasks j)) =
+      subst (λ (m : M). (view m).stands (start (tasks j))) (get_or_from_slice_get olds j old.0 old.0 old.1) (begun.1 j old.0 (old_there j (node_there j lt))) in
+      let was = (laws old.0).is_source (start (tasks j)) stands in
+      let now_is = (laws (slice_index_or news j e)).is_source now.past now.fits in
+      let reads : is_some (source_in n.0) ≡ true =
+      sym (ap (λ (o : Option ℕ). is_some o) part.source_is) ∙ (sym was ∙ (sym (ap (λ (t : Task). t.source) now.task_is) ∙ (now_is ∙ ap (λ (o : Option ℕ). is_some o) src))) in
+      let d = source_demux n.0 reads in
+      (d.0, n.1 ∙ ap (λ (x : PlanNode). Some x) d.1)
+
+  -- of its own input
+  reads_own : (j i i' : ℕ) (e : M) → j < length news → (view (slice_index_or news j e)).source ≡ Some i → slice_get nodes j ≡ Some (node.Demux i') → i ≡ i'
+  reads_own j i i' e lt src at =
+      let x = there news j lt in
+      let same = get_or_from_slice_get news j x.0 e x.1 in
+      let now = logs.settled sound j e lt in
+      let source = back.sources j i' x.0 at x.1 in
+      let exits = source.2.exits now.past i (subst (λ (m : M). (view m).stands now.past) same now.fits) (sym (ap (λ (m : M). (view m).source) same) ∙ src) in
+      exited_same i i' (sym exits ∙ (ap (λ (t : Task). t.tells now.past.feeds) now.task_is ∙ due_exit i' j at now.past.feeds))
+
+  module _ (i k : ℕ) (at : slice_get nodes k ≡ Some (node.Demux i)) where
+    demuxer_there : k < length news
+    demuxer_there = new_there k (slice_get_within nodes k (node.Demux i) at)
+
+    only : IsOnlySource view news k i
+    only j e lt src =
+        let reader = is_reader j i e lt src in
+        let same = reads_own j i reader.0 e lt src reader.1 in
+        demux_once (length srcs) (length snks) nodes order j k i (subst (λ (n : ℕ). slice_get nodes j ≡ Some (node.Demux n)) (sym same) reader.1) at
+
+    exit_by : AreToldBy (is_exit_of i) events (slice_index_or s.logs k [])
+    exit_by = s.told tasks begun k (is_exit_of i) demuxer_there (alone.input (length news) k i at)
+
+    has_exited : HasExited i events
+    has_exited = record {
+      once =
+          let m = there news k demuxer_there in
+          let all = logs.settled sound k m.0 demuxer_there in
+          exit_by.same
+          ∙ (ap (filter (is_exit_of i)) (all.all_told ∙ due_exit i k at all.past.feeds) ∙ ap (λ (b : Bool). cond b (Exited i ∷ []) []) (itself i i refl));
+      last = λ p q granted exited.
+          let g = s.own tasks begun k i p demuxer_there only granted in
+          exit_by.behind_grants q g.0 (Exited i) (record { source = i; place = p }) exited (itself i i refl) g.1;
+    }
+
+  -- ---- both
+
+  pub tells_all : ((o : ℕ) → o < length outputs → slice_get nodes (mux_node is outputs heads bytes nodes edges o) ≡ Some (node.Mux o)) → TellsAll is outputs heads bytes nodes edges events
+  tells_all muxes = record {
+    streams = λ o lt.
+        let k = mux_node is outputs heads bytes nodes edges o in
+        events_are o k (muxes o lt) ∙ sym (means_events o k (muxes o lt));
+    inputs = λ i read. (let k = reader_of nodes i read in has_exited i k.0 k.1);
+  }
+
+-- the history of a job's run that did all, over inputs whose bytes may be told
+module _ {H S K M : Type 0} (is : KindsOf H) (own : TellOfThemselves is) (left named : S → Option (List ℕ)) (failed : S → ℕ) (holds called : K → Option (List ℕ)) (faulted : K → ℕ)
+    (view : M → View) (laws : (m : M) → Laws (view m)) (job : Job) (plan : Plan) (heads : List H) (srcs : List S) (snks : List K) (end : WorkEnd RunFault) (srcs' : List S) (snks' : List K)
+    (events : List Event) (for : IsPlanFor is job heads plan) (src_count : length srcs ≡ length heads) (snk_count : length snks ≡ length job.outputs)
+    (h : IsHistoryOf is left named failed holds called faulted view job.outputs heads plan.edges plan.nodes srcs snks (tell_all left holds srcs snks) plan.routes (state_before plan) end srcs' snks' events)
+    (fine : end ≡ work_end.Fine) where
+  order : AreOrdered (length srcs) (length snks) plan.nodes
+  order =
+      subst (λ (n : ℕ). AreOrdered n (length snks) plan.nodes) (sym src_count) (subst (λ (n : ℕ). AreOrdered (length heads) n plan.nodes) (sym snk_count) for.ordered)
+
+  streams_told : (bytes : Option (List (List ℕ))) → IfSome bytes (AreTold left holds srcs snks) → IfSome bytes (λ b. TellsAll is job.outputs heads b plan.nodes plan.edges events)
+  streams_told None told = tt
+  streams_told (Some bytes) told =
+      tells_all is own left named failed holds called faulted view laws job.outputs heads plan.edges plan.nodes srcs snks (tell_all left holds srcs snks) h.done.olds h.done.news
+      h.done.src_places h.done.snk_places h.done.fault srcs' snks' plan.routes (state_before plan) events order for.fitting h.done.run h.done.back
+      (fine_only (length heads) plan.nodes h.done.fault (sym h.done.end_is ∙ fine)) h.run bytes (tells_told left holds srcs snks bytes told) told for.muxes
+
+  pub history_in : (bytes : Option (List (List ℕ))) → IfSome bytes (AreTold left holds srcs snks) → IsHistoryFor is job heads bytes events
+  history_in bytes told = (plan, for.made, record { legal = h.run.legal; told = streams_told bytes told })
