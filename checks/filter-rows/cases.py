@@ -195,7 +195,8 @@ def cropped():
     rows = []
     for form in FORMATS:
         head = film(7, 5, form)
-        for args in ("", "=2:2", "=3:3", "=1:1:6:4", "=2:2:0:0", "=2:2:4:2", "=2:2:5:3", "=7:5", "=6:4", "=5:3", "=4", "=h=2", "=x=1", "=2:2:3:1", "=4:4:1:0", "=w=3:y=2"):
+        for args in ("", "=2:2", "=3:3", "=1:1:6:4", "=2:2:0:0", "=2:2:4:2", "=2:2:5:3", "=7:5", "=6:4", "=5:3", "=4", "=h=2", "=x=1", "=2:2:3:1", "=4:4:1:0",
+                     "=w=3:y=2"):
             rows.append(steps(f"crop{args} of {form} 7x5", f"crop{args}", [head], [(0, picture(head, 3, 2, 5)), (0, WHOLE)]))
     head = film(64, 4, "420")
     rows.append(at_end("a wide crop", "crop=40:2:10:2", [head], [(0, picture(head, 0, 1, 9)), (0, WHOLE)]))
@@ -296,7 +297,8 @@ def even_rates():
     rows += fronts("fps without a ratio", "fps", film(2, 2, base=Fraction(1, 10)), pictures(film(2, 2), [(0, 1), (2, 1), (3, 2)]))
     for base, ratio in ((Fraction(1, 3), "2"), (Fraction(1, 2), "1"), (Fraction(1, 4), "2"), (Fraction(3, 7), "5/3"), (Fraction(1001, 30000), "25")):
         head = GREY._replace(base=base)
-        rows += [steps(f"fps={ratio} of base {base}, halves, from {start}", f"fps={ratio}", [head], [(0, i) for i in pictures(head, [(start + n, 1) for n in range(5)])] + [(0, WHOLE)])
+        rows += [steps(f"fps={ratio} of base {base}, halves, from {start}", f"fps={ratio}", [head],
+                       [(0, i) for i in pictures(head, [(start + n, 1) for n in range(5)])] + [(0, WHOLE)])
                  for start in (0, 1, 2)]
     head = film(4, 2, "420")
     rows.append(steps("one picture five times", "fps=125", [head], [(0, picture(head, 0, 1, 5)), (0, WHOLE)]))
@@ -308,7 +310,8 @@ def even_rates():
     for last in (999_999_998, 999_999_999):
         rows.append(steps(f"up to second {last + 1}", "fps=1", [seconds], [(0, picture(seconds, last, 1, 1)), (0, WHOLE)]))
     thirds = GREY._replace(base=Fraction(2, 3))
-    rows.append(steps("a number that ends past the last second", "fps=1", [thirds], [(0, i) for i in pictures(thirds, [(1_499_999_998, 1), (1_499_999_999, 1)])] + [(0, WHOLE)]))
+    rows.append(steps("a number that ends past the last second", "fps=1", [thirds],
+                      [(0, i) for i in pictures(thirds, [(1_499_999_998, 1), (1_499_999_999, 1)])] + [(0, WHOLE)]))
     return rows
 
 
@@ -450,7 +453,8 @@ def stack_edges():
         rows.append(steps(f"one broken at once, one with items, shortest {shortest}", text, [GREY] * 2, [(0, BROKEN), (1, two[0]), (1, two[1]), (1, WHOLE)]))
         rows.append(steps(f"broken, and the other passes it, shortest {shortest}", text, [GREY] * 2,
                           [(0, one[0]), (0, BROKEN), (1, two[0]), (1, two[1]), (1, WHOLE)]))
-        rows.append(Row(f"stopped, shortest {shortest}", text, [GREY] * 2).feed(0, one[0]).feed(1, two[0]).stop(0).look().feed(0, one[1], WHOLE).look().feed(1, WHOLE).look())
+        rows.append(Row(f"stopped, shortest {shortest}", text, [GREY] * 2).feed(0, one[0]).feed(1, two[0]).stop(0).look().feed(0, one[1], WHOLE).look()
+                    .feed(1, WHOLE).look())
         rows.append(Row(f"one picture at a time, shortest {shortest}", text, [GREY] * 2).feed(0, one[0], one[1], WHOLE).feed(1, two[0], two[1], WHOLE).spent()
                     .next(0).spent().next(0).next(0).spent().next(0).next(0).spent().look())
     far = GREY._replace(base=SECONDS)
@@ -514,7 +518,8 @@ def of_join():
         for p, q in itertools.product((OPEN, WHOLE, BROKEN), repeat=2):
             streams = [(sound(mono, [a] if a else []), p), (sound(stereo, [b] if b else [], 30), q)]
             rows.append(at_end(f"join: {a} {p}, {b} {q}", "join", [mono, stereo], last_first(streams)))
-    pieces = [(sound(mono, [700, 400, 1, 900, 1500], 5), WHOLE), (sound(stereo, [1000, 24, 1, 1023, 1200], 9, 0, 3000), WHOLE), (sound(mono, [3000, 10], 0, 0, 7000), WHOLE)]
+    pieces = [(sound(mono, [700, 400, 1, 900, 1500], 5), WHOLE), (sound(stereo, [1000, 24, 1, 1023, 1200], 9, 0, 3000), WHOLE),
+              (sound(mono, [3000, 10], 0, 0, 7000), WHOLE)]
     for count, heads in ((2, [mono, stereo]), (3, [mono, stereo, mono])):
         for what, order in ORDERS.items():
             rows.append(steps(f"join of {count}, pieces, {what}", f"join={count}", heads, order(pieces[:count])))
@@ -562,8 +567,10 @@ def of_shortest():
     for mark in (WHOLE, BROKEN):
         rows.append(steps(f"one stream, {mark}", "shortest", [GREY], [(0, item) for item in first] + [(0, mark)]))
         rows.append(steps(f"without items beside one, {mark}", "shortest", [GREY, GREY], [(0, first[0]), (1, mark), (0, first[1]), (0, WHOLE)]))
-    rows.append(Row("a stream stopped", "shortest", [GREY, fast]).feed(0, first[0]).stop(0).look().feed(1, *second).look().feed(0, first[1], WHOLE).look().feed(1, WHOLE).look())
-    rows.append(Row("the other stopped", "shortest", [GREY, fast]).feed(0, *first).look().stop(1).look().feed(1, *second).look().feed(1, WHOLE).look().feed(0, WHOLE).look())
+    rows.append(Row("a stream stopped", "shortest", [GREY, fast]).feed(0, first[0]).stop(0).look().feed(1, *second).look().feed(0, first[1], WHOLE).look()
+                .feed(1, WHOLE).look())
+    rows.append(Row("the other stopped", "shortest", [GREY, fast]).feed(0, *first).look().stop(1).look().feed(1, *second).look().feed(1, WHOLE).look()
+                .feed(0, WHOLE).look())
     rows.append(Row("pulled unevenly", "shortest", [GREY, fast]).feed(0, *first).feed(1, *second, WHOLE).next(1).spent().next(0).next(1).next(0).next(0).next(1).next(1)
                 .spent().feed(0, BROKEN).look())
     thirds, quarters = GREY._replace(base=Fraction(1, 3)), GREY._replace(base=Fraction(1, 4))
