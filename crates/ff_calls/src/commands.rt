@@ -8,7 +8,7 @@ use ff_lang::Graph;
 use ff_time::TimeCut;
 use ff_values::{Codec, HashKind};
 use ff_words::{
-    Command, FileFormat, InputJob, Job, OutputJob, Table, WordError, WordKind, read_words,
+    Command, FileFormat, InputJob, Job, OutputJob, Solo, Table, WordError, WordKind, read_words,
     read_words_by,
 };
 use std::alloc::{AllocError, Global};
@@ -144,7 +144,9 @@ fn show_kind(alloc: Global, kind: WordKind) -> Result<String, AllocError> {
 fn shown(alloc: Global, read: Result<Command, WordError>) -> Result<String, Stop> {
     match read {
         Ok(Command::Run(job)) => show_job(alloc, &job),
-        Ok(Command::SelfRun(seconds)) => Ok(format!(in alloc; "selfrun {seconds}")?),
+        Ok(Command::Solo(Solo::Help)) => Ok(String::from_str(alloc, "help")?),
+        Ok(Command::Solo(Solo::Version)) => Ok(String::from_str(alloc, "version")?),
+        Ok(Command::Solo(Solo::SelfRun(seconds))) => Ok(format!(in alloc; "selfrun {seconds}")?),
         Err(WordError::At { word, kind }) => {
             let kind = show_kind(alloc, kind)?;
             let kind = kind.as_str();

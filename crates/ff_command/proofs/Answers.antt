@@ -1,10 +1,12 @@
 -- How words are answered: by the job that they ask for, or by what is wrong with them.
-use Rattle.std.proofs.Common.{◌≡◌, inl, inr, ℕ, List, Option, Some, None, Result, Ok, Err, refl, sym, ap, subst, ◌∙◌}
+use Rattle.std.proofs.Common.{◌≡◌, ◌⊎◌, inl, inr, ℕ, List, Option, Some, None, IfSome, Result, Ok, Err, Vec, Global, refl, sym, ap, subst, ◌∙◌}
+use Rattle.std.specs.Prelude.{⊤}
 use Rattle.ff_host.specs.Causes.{SameCounts}
 use Rattle.ff_host.specs.Files.{Files, KeepsFiles}
 use Rattle.ff_words.specs.declared.job.Job.{Job}
 use Rattle.ff_words.specs.declared.job.Command.{Command}
-use Rattle.ff_words.specs.declared.job.Command.TheVariants.{Run}
+use Rattle.ff_words.specs.declared.job.Command.TheVariants as asked
+use Rattle.ff_words.specs.declared.job.Solo.{Solo}
 use Rattle.ff_words.specs.declared.error.Fault.{Fault}
 use Rattle.ff_words.specs.declared.error.WordError.{WordError}
 use Rattle.ff_words.specs.declared.error.WordError.TheVariants.{At, NoMemory}
@@ -19,24 +21,57 @@ use Rattle.ff_running.specs.declared.fault.RunFault.{RunFault}
 use Rattle.ff_files.specs.Counts.{Counts}
 use Rattle.ff_files.specs.Works.{Meaning, HoldWritten}
 use Rattle.ff_files.specs.Ends.{IsFirstRefused, HasNoPlan, CanBeDone}
+use Rattle.ff_command.specs.declared.report.FileRef.{FileRef}
 use Rattle.ff_command.specs.declared.report.Status.{Status}
 use Rattle.ff_command.specs.declared.report.Status.TheVariants as status
-use Rattle.ff_command.specs.Command.{Ask, AreWrong, AreSoundTo, InputsAreSound, OutputsAreSound, over}
-use Rattle.ff_command.specs.Steps.{wrong_words, Comes, Ran, Answered}
+use Rattle.ff_command.specs.Help.{solo_text}
+use Rattle.ff_command.specs.Command.{Ask, AskFor, AskSolo, AsksAlone, IsTold, IsDue, IsNamed, AreWrong, AreSoundTo, InputsAreSound, OutputsAreSound, over}
+use Rattle.ff_command.specs.Steps.{IsEndText, wrong_words, Comes, Ran, Answered}
 
 -- words ask for one job at most
 same-job : (words : List (List ℕ)) (job other : Job) → Ask words job → Ask words other → job ≡ other
-same-job words job other a b = (let same : (let x : Result Command Fault = Ok (Run job) in x) ≡ Ok (Run other) = answer-one Today words (Ok (Run job)) (Ok (Run other)) a b in cc)
+same-job words job other a b = (let same : (let x : Result Command Fault = Ok (asked.Run job) in x) ≡ Ok (asked.Run other) = answer-one Today words (Ok (asked.Run job)) (Ok (asked.Run other)) a b in cc)
 
 -- and none where they are wrong
 not-both : (words : List (List ℕ)) (job : Job) (f : Fault) → Ask words job → AreWrong words f → ⊥
-not-both words job f a w = (let same : (let x : Result Command Fault = Ok (Run job) in x) ≡ Err f = answer-one Today words (Ok (Run job)) (Err f) a w in cc)
+not-both words job f a w = (let same : (let x : Result Command Fault = Ok (asked.Run job) in x) ≡ Err f = answer-one Today words (Ok (asked.Run job)) (Err f) a w in cc)
 
 same-fault : (words : List (List ℕ)) (f g : Fault) → AreWrong words f → AreWrong words g → f ≡ g
 same-fault words f g a b = (let same : (let x : Result Command Fault = Err f in x) ≡ Err g = answer-one Today words (Err f) (Err g) a b in cc)
 
+-- words that ask for what stands alone ask for no job, and aren't wrong
+pub not-alone : (words : List (List ℕ)) (job : Job) → Ask words job → AsksAlone words → ⊥
+not-alone words job a s = (let same : (let x : Result Command Fault = Ok (asked.Run job) in x) ≡ Ok (asked.Solo s.0) = answer-one Today words (Ok (asked.Run job)) (Ok (asked.Solo s.0)) a s.1 in cc)
+
+alone-wrong : (words : List (List ℕ)) (f : Fault) → AsksAlone words → AreWrong words f → ⊥
+alone-wrong words f s w = (let same : (let x : Result Command Fault = Ok (asked.Solo s.0) in x) ≡ Err f = answer-one Today words (Ok (asked.Solo s.0)) (Err f) s.1 w in cc)
+
 fault-of : (place p : ℕ) (kind k : WordKind) → status.Words place kind ≡ status.Words p k → wrong_at place kind ≡ wrong_at p k
 fault-of place p kind k e = (let a : place ≡ p = cc in (let b : kind ≡ k = cc in ap (λ n. wrong_at n kind) a ∙ ap (λ x. wrong_at p x) b))
+
+-- what is told
+pub told-text : (words : List (List ℕ)) (solo : Solo) → AskSolo words solo → (told : Option (Vec ℕ Global)) (answer : Status) → IfSome told (λ text. (text.items ≡ solo_text solo) × (answer ≡ status.Fine))
+    → IfSome told (λ text. IsTold words text.items × (answer ≡ status.Fine))
+told-text words solo asks None answer h = tt
+told-text words solo asks (Some text) answer h = ((solo, asks, h.0), h.1)
+
+-- and so it is the text that is due
+pub due-text : (words : List (List ℕ)) (told : Option (Vec ℕ Global)) (answer : Status) (name text : List ℕ) → IfSome told (λ t. IsTold words t.items × (answer ≡ status.Fine)) → IsNamed words answer name
+    → IsEndText told answer name text → IsDue words answer text
+due-text words None answer name text h named e = inr (e.0, (name, named, e.1))
+due-text words (Some t) answer name text h named e = inl (h.1, subst (IsTold words) (sym e) h.0)
+
+pub none-told : (words : List (List ℕ)) (told : Option (Vec ℕ Global)) (answer : Status) → IfSome told (λ t. IsTold words t.items × (answer ≡ status.Fine)) → AskFor words (λ job. ⊤) → told ≡ None
+none-told words None answer h asked = refl
+none-told words (Some t) answer h asked = absurd (not-alone words asked.0 asked.1 (h.0.0, h.0.1))
+
+pub only-memory : (answer : Status) (file : FileRef) → (answer ≡ status.Fine) ⊎ (answer ≡ status.NoMemory) → answer ≡ status.Device file → ⊥
+only-memory answer file (inl is) e = (let both : status.Fine ≡ status.Device file = sym is ∙ e in cc)
+only-memory answer file (inr is) e = (let both : status.NoMemory ≡ status.Device file = sym is ∙ e in cc)
+
+pub some-told : {L : Type 0} (P : L → Type 0) (o : Option L) → o ≡ None → IfSome o P
+some-told P None e = tt
+some-told P (Some l) e = absurd cc
 
 keeps-same : (files : Option Files) → KeepsFiles files files
 keeps-same None = tt
@@ -54,7 +89,8 @@ module _ (means : Job → Meaning InputHead PlanError RunFault) where
       let back : (other : Job) → Ask words other → other ≡ job = λ other a. same-job words other job a asks in
       let by : (s : Status) → answer ≡ s → Comes means job before after ins outs s = λ s e. subst (Comes means job before after ins outs) e r.comes in
       record {
-        bytes = λ e. (job, asks, r.bytes e);
+        bytes = λ e. inr (job, asks, r.bytes e);
+        alone = λ s. absurd (not-alone words job asks s);
         front = λ other a. subst (λ x. HoldWritten (over means x) before after) (here other a) r.front;
         others = inr (job, asks, r.others);
         untouched = r.untouched;
@@ -82,6 +118,7 @@ module _ (means : Job → Meaning InputHead PlanError RunFault) where
     wrong-answered place kind wrong =
         record {
           bytes = λ e. absurd cc;
+          alone = λ s. absurd (alone-wrong words (wrong_at place kind) s wrong);
           front = λ job a. front-same job files;
           others = inl (keeps-same files);
           untouched = λ h. keeps-same files;
@@ -101,10 +138,36 @@ module _ (means : Job → Meaning InputHead PlanError RunFault) where
           out_counts = inl same_outs;
         }
 
+    -- what is told touches nothing
+    told-answered : AsksAlone words → Answered means words files files ins outs status.Fine
+    told-answered asks =
+        record {
+          bytes = λ e. inl asks;
+          alone = λ s. inl refl;
+          front = λ job a. front-same job files;
+          others = inl (keeps-same files);
+          untouched = λ h. keeps-same files;
+          words_at = λ p k e. absurd cc;
+          wrong = λ f w. absurd (alone-wrong words f asks w);
+          plan = λ w e. absurd cc;
+          plan_memory = λ e. cc;
+          unsupported = λ k offset e. absurd cc;
+          damaged = λ k offset e. absurd cc;
+          too_long = λ node e. absurd cc;
+          too_large = λ output e. absurd cc;
+          device = λ file e. absurd cc;
+          no_head = λ k w g. absurd (not-alone words g.0 g.1 asks);
+          no_plan = λ w g. absurd (not-alone words g.0 g.1 asks);
+          complete = λ g. inl refl;
+          in_counts = inl same_ins;
+          out_counts = inl same_outs;
+        }
+
     none-answered : Answered means words files files ins outs status.NoMemory
     none-answered =
         record {
           bytes = λ e. absurd cc;
+          alone = λ s. inr refl;
           front = λ job a. front-same job files;
           others = inl (keeps-same files);
           untouched = λ h. keeps-same files;
@@ -123,6 +186,10 @@ module _ (means : Job → Meaning InputHead PlanError RunFault) where
           in_counts = inl same_ins;
           out_counts = inl same_outs;
         }
+
+    pub solo-answered : (answer : Status) → AsksAlone words → (answer ≡ status.Fine) ⊎ (answer ≡ status.NoMemory) → Answered means words files files ins outs answer
+    solo-answered answer asks (inl is) = subst (Answered means words files files ins outs) (sym is) (told-answered asks)
+    solo-answered answer asks (inr is) = subst (Answered means words files files ins outs) (sym is) none-answered
 
     pub words-answered : (error : WordError) (answer : Status) → reading.Answers Today words (Err error) → answer ≡ wrong_words error → Answered means words files files ins outs answer
     words-answered (At place kind) answer wrong is = subst (Answered means words files files ins outs) (sym is) (wrong-answered place kind wrong)

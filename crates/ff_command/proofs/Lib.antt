@@ -2,3 +2,4 @@ pub mod Names
 pub mod Ends
 pub mod Answers
 pub mod Reports
+pub mod Joining

@@ -1,7 +1,7 @@
 -- What a command means, when each of its answers comes, and what stands then. `before` and `after` are the files that the host
 -- tells, before and after the call; `ins` and `outs` are its counts of faults of reading and of writing by name, at both moments.
 -- Where the files aren't told, a conclusion on them claims nothing, and a premise on them isn't met.
-use Rattle.std.specs.Prelude.{◌≡◌, ◌⊎◌, ⊤, ℕ, ◌<◌, ◌≤◌, List, [], length, Option, Some, None, IsSome, IfSome, unwrap_or, Ok, Err}
+use Rattle.std.specs.Prelude.{◌≡◌, ◌≢◌, ◌⊎◌, ⊤, ℕ, ◌<◌, ◌≤◌, List, [], length, Option, Some, IsSome, IfSome, unwrap_or, Ok, Err}
 use Rattle.ff_host.specs.Causes.{Rose, SameCounts}
 use Rattle.ff_host.specs.Files.{Files, KeepsFiles}
 use Rattle.ff_cut.specs.declared.fault.HeadFault.{HeadFault}
@@ -11,7 +11,8 @@ use Rattle.ff_sched.specs.Printing.{printed}
 use Rattle.ff_words.specs.declared.job.InputJob.{InputJob}
 use Rattle.ff_words.specs.declared.job.OutputJob.{OutputJob}
 use Rattle.ff_words.specs.declared.job.Job.{Job}
-use Rattle.ff_words.specs.declared.job.Command.TheVariants.{Run}
+use Rattle.ff_words.specs.declared.job.Command.TheVariants as asked
+use Rattle.ff_words.specs.declared.job.Solo.{Solo}
 use Rattle.ff_words.specs.declared.error.Fault.{Fault}
 use Rattle.ff_words.specs.declared.table.Table.TheVariants.{Today}
 use Rattle.ff_words.specs.Words.{IsAnswer, written}
@@ -30,12 +31,21 @@ use Rattle.ff_command.specs.declared.report.FileRef.{FileRef}
 use Rattle.ff_command.specs.declared.report.FileRef.TheVariants.{Input, Output, Trace}
 use Rattle.ff_command.specs.declared.report.Status.{Status}
 use Rattle.ff_command.specs.declared.report.Status.TheVariants as status
+use Rattle.ff_command.specs.Help.{solo_text}
+use Rattle.ff_command.specs.Texts.{fault_text}
 
 -- ---- what words ask for
 
 -- the words ask for this job, by the options that are done today
 abbrev pub Ask : List (List ℕ) → Job → Type 0
-Ask words job = IsAnswer Today words (Ok (Run job))
+Ask words job = IsAnswer Today words (Ok (asked.Run job))
+
+-- they ask for what an option says that stands alone
+abbrev pub AskSolo : List (List ℕ) → Solo → Type 0
+AskSolo words solo = IsAnswer Today words (Ok (asked.Solo solo))
+
+abbrev pub AsksAlone : List (List ℕ) → Type 0
+AsksAlone words = (solo : Solo) × AskSolo words solo
 
 -- they ask for a job, of which this is so
 abbrev pub AskFor : List (List ℕ) → (Job → Type 0) → Type 0
@@ -73,6 +83,18 @@ file_name job Trace = unwrap_or job.trace []
 abbrev pub IsNamed : List (List ℕ) → Status → List ℕ → Type 0
 IsNamed words (status.Device file) name = AskFor words (λ job. HasFile job file × (name ≡ file_name job file))
 IsNamed words _ name = ⊤
+
+-- ---- the text that is logged
+
+-- they ask for this text
+abbrev pub IsTold : List (List ℕ) → List ℕ → Type 0
+IsTold words text = (solo : Solo) × AskSolo words solo × (text ≡ solo_text solo)
+
+-- the text that is due: that of an option that stands alone, or the line of a fault
+abbrev pub IsDue : List (List ℕ) → Status → List ℕ → Type 0
+IsDue words answer text =
+    ((answer ≡ status.Fine) × IsTold words text)
+    ⊎ ((answer ≢ status.Fine) × ((name : List ℕ) × IsNamed words answer name × (text ≡ fault_text answer name)))
 
 -- ---- what stands, whatever a job means
 

@@ -1,4 +1,5 @@
 pub mod Histories
 pub mod Texts
+pub mod Help
 pub mod Command
 pub mod Steps

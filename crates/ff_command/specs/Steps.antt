@@ -1,6 +1,8 @@
 -- What a job's run leaves, and what the words' run does, each as one record.
 use Rattle.std.specs.Prelude.{◌≡◌, ◌≢◌, ◌⊎◌, ℕ, List, length, Option, Some, None, nat_lt, if◌then◌else◌}
 use Rattle.std.specs.List.{All}
+use Rattle.std.specs.Prelude.{Vec}
+use Rattle.std.specs.Global.{Global}
 use Rattle.ff_host.specs.Files.{Files, KeepsFiles}
 use Rattle.ff_cut.specs.declared.fault.HeadFault.{HeadFault}
 use Rattle.ff_cut.specs.declared.fault.HeadFault.TheVariants as fault
@@ -26,7 +28,8 @@ use Rattle.ff_command.specs.declared.report.FileRef.{FileRef}
 use Rattle.ff_command.specs.declared.report.FileRef.TheVariants.{Input, Output, Trace}
 use Rattle.ff_command.specs.declared.report.Status.{Status}
 use Rattle.ff_command.specs.declared.report.Status.TheVariants as status
-use Rattle.ff_command.specs.Command.{AskFor, AreWrong, KeepsOtherFiles, ComesBeforeOutputs, AreSoundTo, InputsAreSound, OutputsAreSound, refused_head, refused_plan, over, HoldsMeaning, HoldsFront, IsHeadRefused, IsDamaged, IsTooLong, HasFailed, HasFile, GivesNoHead, GivesNoPlan, GivesAll, KeepsInputs, KeepsOutputs, KeepsInputCounts, KeepsOutputCounts}
+use Rattle.ff_command.specs.Texts.{fault_text}
+use Rattle.ff_command.specs.Command.{AskFor, AsksAlone, AreWrong, KeepsOtherFiles, ComesBeforeOutputs, AreSoundTo, InputsAreSound, OutputsAreSound, refused_head, refused_plan, over, HoldsMeaning, HoldsFront, IsHeadRefused, IsDamaged, IsTooLong, HasFailed, HasFile, GivesNoHead, GivesNoPlan, GivesAll, KeepsInputs, KeepsOutputs, KeepsInputCounts, KeepsOutputCounts}
 
 -- the heads of all inputs of a job that words may ask for
 pub record AreAllHeads (job : Job) (heads : List InputHead) : Type 0 where
@@ -60,6 +63,11 @@ status_of count (run_end.Unsupported input offset) = status.Unsupported input of
 status_of count (run_end.Refused why) = refused_plan why
 status_of count (run_end.Broken why) = broken_run why
 status_of count run_end.NoMemory = status.NoMemory
+
+-- the text that ends a run that isn't silent: what is told, or else the line of its fault
+abbrev pub IsEndText : Option (Vec ℕ Global) → Status → List ℕ → List ℕ → Type 0
+IsEndText (Some told) answer name text = text ≡ told.items
+IsEndText None answer name text = (answer ≢ status.Fine) × (text ≡ fault_text answer name)
 
 -- the file is one of this job
 abbrev pub IsOfJob : Option Job → FileRef → Type 0
@@ -95,7 +103,8 @@ module _ (means : Job → Meaning InputHead PlanError RunFault) where
 
   -- words were run
   pub record Answered (words : List (List ℕ)) (before after : Option Files) (ins outs : Counts) (answer : Status) : Type 0 where
-    pub bytes : answer ≡ status.Fine → HoldsMeaning means words before after
+    pub bytes : answer ≡ status.Fine → AsksAlone words ⊎ HoldsMeaning means words before after
+    pub alone : AsksAlone words → (answer ≡ status.Fine) ⊎ (answer ≡ status.NoMemory)
     pub front : HoldsFront means words before after
     pub others : KeepsOtherFiles words before after
     pub untouched : ComesBeforeOutputs answer → KeepsFiles before after

@@ -1,5 +1,5 @@
 // A command: from the words and the files to the files, the log and the report.
-ghost use Rattle.std.specs.Prelude.{◌≡◌, ◌≢◌, ◌⊎◌, ◌↔◌, [], ℕ, List, IfSome};
+ghost use Rattle.std.specs.Prelude.{◌≡◌, ◌≢◌, ◌⊎◌, ◌↔◌, [], ℕ, List, None, IfSome, ⊤};
 ghost use Rattle.std.specs.Io.KnownBytes.{Appends, Keeps};
 ghost use Rattle.ff_host.specs.Causes.{Rose};
 ghost use Rattle.ff_host.specs.Files.{KeepsFiles};
@@ -10,23 +10,26 @@ ghost use Rattle.ff_words.specs.Words.{texts, fault};
 ghost use Rattle.ff_words.specs.declared.error.Fault.{Fault};
 ghost use Rattle.ff_running.specs.declared.fault.RunFault.TheVariants as run_fault;
 ghost use Rattle.ff_files.specs.Ends.{IsPlanRefused, IsBroken};
+ghost use Rattle.ff_command.specs.Command.{AsksAlone, IsTold, IsDue};
 ghost use Rattle.ff_command.specs.Command.{Ask, AskFor, AreWrong, IsNamed, HasFile, file_name, KeepsOtherFiles, ComesBeforeOutputs, ReportsHistory, HoldsTrace};
 ghost use Rattle.ff_command.specs.Command.{refused_head, refused_plan, over, HoldsMeaning, HoldsFront, IsHeadRefused, IsDamaged, IsTooLong};
 ghost use Rattle.ff_command.specs.Command.{HasFailed, GivesNoHead, GivesNoPlan, GivesAll, KeepsInputCounts, KeepsOutputCounts};
 ghost use Rattle.ff_command.specs.Histories.{events_in};
+ghost use Rattle.ff_command.specs.Help.{solo_text as told_of};
+ghost use Rattle.ff_words.specs.declared.job.Solo.TheVariants.{SelfRun};
 ghost use Rattle.ff_files.specs.Works.{HasLog};
 ghost use Rattle.ff_command.specs.Steps.{wrong_words, IsOfJob, Answered};
-ghost use Rattle.ff_command.specs.Texts.{fault_text};
 
+use crate::help::solo_text;
 use crate::history::History;
-use crate::log::log_fault;
+use crate::log::log_end;
 use crate::report::{FileRef, Line, Report, Status};
 use crate::run::{JobRun, run_job};
 use crate::worker::Worker;
 use ff_host::{Begun, Host, Sink};
 use ff_plan::PlanError;
 use ff_sched::History as Scheduled;
-use ff_words::{Command, Job, WordError, WordKind, read_words};
+use ff_words::{Command, Job, Solo, WordError, WordKind, read_words};
 use std::alloc::Global;
 
 // The status of words that ask for nothing.
@@ -54,12 +57,38 @@ fn name_of_file(job: &Job, file: FileRef) -> &str
     }
 }
 
-/// How words were run, and the job that they ask for, where they do.
+/// How words were run, and the job that they ask for, or what they ask to be told.
 #[derive(Drop)]
 struct Worked {
     status: Status,
     job: Option<Job>,
+    told: Option<Vec<u8>>,
     history: Option<Scheduled>,
+}
+
+// What is told of the command itself.
+fn tell(alloc: Global, solo: Solo) -> Worked
+    requires { (seconds : ℕ) → solo ≡ SelfRun seconds → ⊥ }
+    ensures status { (result.status ≡ Status.Fine) ⊎ (result.status ≡ Status.NoMemory) }
+    ensures job { result.job ≡ None }
+    ensures told { IfSome result.told (λ text. (text.items ≡ told_of solo) × (result.status ≡ Status.Fine)) }
+    ensures fine { result.status ≡ Status.Fine → result.told ≢ None }
+    ensures history { result.history ≡ None }
+{
+    match solo_text(alloc, solo) {
+        Ok(text) => Worked {
+            status: Status::Fine,
+            job: None,
+            told: Some(text),
+            history: None,
+        },
+        Err(_) => Worked {
+            status: Status::NoMemory,
+            job: None,
+            told: None,
+            history: None,
+        },
+    }
 }
 
 // Reads the words, and runs the job that they ask for.
@@ -74,9 +103,12 @@ fn run_words<H: Host, P: Worker<Begun<H::Src>, H::Snk>>(
         (record { before = H.in_faults host.old; after = H.in_faults host.new })
         (record { before = H.out_faults host.old; after = H.out_faults host.new }) result.status }
     ensures asked { IfSome result.job (λ job. Ask (texts words.now) job) }
+    ensures told { IfSome result.told (λ text. IsTold (texts words.now) text.items × (result.status ≡ Status.Fine)) }
+    ensures alone { AsksAlone (texts words.now) → (host.new ≡ host.old) × (result.history ≡ None) }
+    ensures silent { result.status ≡ Status.Fine → result.told ≡ None → AskFor (texts words.now) (λ job. ⊤) }
     ensures named { (file : _) → result.status ≡ Status.Device file → IsOfJob result.job file }
     ensures logged { result.status ≡ Status.Fine
-        → HasLog (ReportsHistory (P.means worker.now) (P.tells worker.now) (texts words.now) (H.files host.old)) result.history }
+        → AsksAlone (texts words.now) ⊎ HasLog (ReportsHistory (P.means worker.now) (P.tells worker.now) (texts words.now) (H.files host.old)) result.history }
     ensures traced { result.status ≡ Status.Fine → IfSome result.history (HoldsTrace (texts words.now) (H.files host.old) (H.files host.new)) }
     ensures closed { (H.open_sources host.new ≡ H.open_sources host.old) × (H.open_sinks host.new ≡ H.open_sinks host.old) }
 {
@@ -84,14 +116,16 @@ fn run_words<H: Host, P: Worker<Begun<H::Src>, H::Snk>>(
         Err(error) => Worked {
             status: status_of_words(error),
             job: None,
+            told: None,
             history: None,
         },
-        Ok(Command::SelfRun(_)) => unreachable!(),
+        Ok(Command::Solo(solo)) => tell(alloc, solo),
         Ok(Command::Run(job)) => {
             let JobRun { status, history } = run_job(alloc, worker, &job, host);
             Worked {
                 status,
                 job: Some(job),
+                told: None,
                 history,
             }
         }
@@ -141,8 +175,11 @@ pub fn run_command<H: Host, E: Sink, P: Worker<Begun<H::Src>, H::Snk>>(
 ) -> Report
     requires { P.is_able worker.now }
 
-    // With status Fine the words ask for a job, and each of its outputs holds the bytes that the job means.
-    ensures bytes { result.status ≡ Status.Fine → HoldsMeaning (P.means worker.now) (texts words.now) (H.files host.old) (H.files host.new) }
+    // With status Fine the words ask for a job, and each of its outputs holds the bytes that the job means; or for what an option
+    // says that stands alone, which touches no file and ends so, or for want of memory.
+    ensures bytes { result.status ≡ Status.Fine → AsksAlone (texts words.now) ⊎ HoldsMeaning (P.means worker.now) (texts words.now) (H.files host.old) (H.files host.new) }
+
+    ensures alone { AsksAlone (texts words.now) → ((result.status ≡ Status.Fine) ⊎ (result.status ≡ Status.NoMemory)) × (host.new ≡ host.old) × (result.history ≡ []) }
 
     // Whatever the status, no other file changes but the trace. Words, heads and plans are refused before any file is created, and a run that
     // fails later leaves of each output what was there, a front of what is written to it, or all of it.
@@ -195,27 +232,29 @@ pub fn run_command<H: Host, E: Sink, P: Worker<Begun<H::Src>, H::Snk>>(
     // Whatever the status, each source and each sink that it opened is given back.
     ensures closed { (H.open_sources host.new ≡ H.open_sources host.old) × (H.open_sinks host.new ≡ H.open_sinks host.old) }
 
-    // The line of a fault; that of a device's names the file.
-    ensures line_not_due { (result.line ≡ Line.NotDue) ↔ (result.status ≡ Status.Fine) }
+    // The text that an option asks for that stands alone, or the line of a fault; that of a device's names the file.
+    ensures line_not_due { (result.line ≡ Line.NotDue) ↔ ((result.status ≡ Status.Fine) × AskFor (texts words.now) (λ job. ⊤)) }
     ensures not_logged { result.line ≡ Line.NotDue → Keeps (E.holds log.old) (E.holds log.new) }
-    ensures logged { result.line ≡ Line.Whole → (name : List ℕ) × IsNamed (texts words.now) result.status name
-        × Appends (E.holds log.old) (E.holds log.new) (fault_text result.status name) }
+    ensures logged { result.line ≡ Line.Whole → (text : List ℕ) × IsDue (texts words.now) result.status text
+        × Appends (E.holds log.old) (E.holds log.new) text }
     ensures log_failed { result.line ≡ Line.Failed → Rose (E.faults log.old) (E.faults log.new)
-        × ((name : List ℕ) × IsNamed (texts words.now) result.status name × AppendsPrefix (E.holds log.old) (E.holds log.new) (fault_text result.status name)) }
+        × ((text : List ℕ) × IsDue (texts words.now) result.status text × AppendsPrefix (E.holds log.old) (E.holds log.new) text) }
     ensures line_no_memory { result.line ≡ Line.NoMemory → Keeps (E.holds log.old) (E.holds log.new) }
 
     // The history of what the scheduler of the run granted and was told, which the trace holds where the words ask for one.
-    ensures history { result.status ≡ Status.Fine → ReportsHistory (P.means worker.now) (P.tells worker.now) (texts words.now) (H.files host.old) result.history }
-    ensures trace { result.status ≡ Status.Fine → HoldsTrace (texts words.now) (H.files host.old) (H.files host.new) result.history }
+    ensures history { result.status ≡ Status.Fine
+        → AsksAlone (texts words.now) ⊎ ReportsHistory (P.means worker.now) (P.tells worker.now) (texts words.now) (H.files host.old) result.history }
+    ensures trace { result.status ≡ Status.Fine → AsksAlone (texts words.now) ⊎ HoldsTrace (texts words.now) (H.files host.old) (H.files host.new) result.history }
     ensures no_history { result.status ≢ Status.Fine → result.history ≡ [] }
     ensures reads { result.reads.items ≡ [] }
 {
     let Worked {
         status,
         job,
+        told,
         history,
     } = run_words(alloc, worker, words, host);
-    let line = log_fault(alloc, &status, name_of(&status, &job), log);
+    let line = log_end(alloc, &told, &status, name_of(&status, &job), log);
     let history = history_of(&status, history);
     Report {
         status,

@@ -8,10 +8,12 @@
 //! `specs/Command` says, readable alone, what a command means, when each answer comes, and what stands then; `specs/Texts` has the
 //! lines of faults and the numbers. [`run_command`] is proved to keep to them over any host, any log and any [`Worker`]: what is done
 //! of a job between the opening of its inputs and the closing of its outputs a worker says, and does. The history of a run is
-//! reported, and printed into the file of the trace where the words ask for one.
+//! reported, and printed into the file of the trace where the words ask for one. What is told of the command itself, where an option
+//! stands alone, is in `specs/Help`, over the lists by which words are read.
 #![tactic(auto)]
 
 mod command;
+mod help;
 mod history;
 mod log;
 mod report;

@@ -1,6 +1,6 @@
 // A command: from the words and the files to the files, the log and the report.
 ghost use denote.Param.Send.{IsSync};
-ghost use Rattle.std.specs.Prelude.{◌≡◌, ◌≢◌, ◌⊎◌, ◌↔◌, [], ℕ, List};
+ghost use Rattle.std.specs.Prelude.{◌≡◌, ◌≢◌, ◌⊎◌, ◌↔◌, [], ℕ, List, ⊤};
 ghost use Rattle.std.specs.Io.KnownBytes.{Appends, Keeps};
 ghost use Rattle.ff_host.specs.Causes.{Rose};
 ghost use Rattle.ff_host.specs.Files.{KeepsFiles};
@@ -11,10 +11,10 @@ ghost use Rattle.ff_words.specs.Words.{texts, fault};
 ghost use Rattle.ff_words.specs.declared.error.Fault.{Fault};
 ghost use Rattle.ff_running.specs.declared.fault.RunFault.TheVariants as run_fault;
 ghost use Rattle.ff_files.specs.Ends.{IsPlanRefused, IsBroken};
-ghost use Rattle.ff_command.specs.Command.{AskFor, AreWrong, IsNamed, KeepsOtherFiles, ComesBeforeOutputs, ReportsHistory, HoldsTrace};
+ghost use Rattle.ff_command.specs.Command.{AsksAlone, IsDue};
+ghost use Rattle.ff_command.specs.Command.{AskFor, AreWrong, KeepsOtherFiles, ComesBeforeOutputs, ReportsHistory, HoldsTrace};
 ghost use Rattle.ff_command.specs.Command.{refused_head, refused_plan, over, HoldsMeaning, HoldsFront, IsHeadRefused, IsDamaged, IsTooLong};
 ghost use Rattle.ff_command.specs.Command.{HasFailed, GivesNoHead, GivesNoPlan, GivesAll, KeepsInputCounts, KeepsOutputCounts};
-ghost use Rattle.ff_command.specs.Texts.{fault_text};
 ghost use Rattle.ff_build.specs.Parts.{all_kinds};
 ghost use Rattle.ff_running.specs.Accepting.{IsAccepted, IsPlanFor};
 ghost use Rattle.ff_run.specs.Meaning.{job_means, IsJobHistory};
@@ -68,8 +68,12 @@ pub fn ffmpeg<R: Threads + Wait + Sync, H: Host, E: Sink>(
     host: &mut H,
     log: &mut E,
 ) -> Report
-    // With status Fine the words ask for a job, and each of its outputs holds the bytes that the job means.
-    ensures bytes { result.status ≡ Status.Fine → HoldsMeaning job_means (texts words.now) (H.files host.old) (H.files host.new) }
+    // With status Fine the words ask for a job, and each of its outputs holds the bytes that the job means; or for what an option
+    // says that stands alone, which touches no file and ends so, or for want of memory.
+    ensures bytes { result.status ≡ Status.Fine → AsksAlone (texts words.now) ⊎ HoldsMeaning job_means (texts words.now) (H.files host.old) (H.files host.new) }
+
+    ensures alone { AsksAlone (texts words.now)
+        → ((result.status ≡ Status.Fine) ⊎ (result.status ≡ Status.NoMemory)) × (host.new ≡ host.old) × (result.history ≡ []) }
 
     // Whatever the status, no other file changes but the trace. Words, heads and plans are refused before any file is created, and a run that
     // fails later leaves of each output what was there, a front of what is written to it, or all of it.
@@ -124,20 +128,20 @@ pub fn ffmpeg<R: Threads + Wait + Sync, H: Host, E: Sink>(
     // Whatever the status, each source and each sink that it opened is given back.
     ensures closed { (H.open_sources host.new ≡ H.open_sources host.old) × (H.open_sinks host.new ≡ H.open_sinks host.old) }
 
-    // The line of a fault; that of a device's names the file.
-    ensures line_not_due { (result.line ≡ Line.NotDue) ↔ (result.status ≡ Status.Fine) }
+    // The text that an option asks for that stands alone, or the line of a fault; that of a device's names the file.
+    ensures line_not_due { (result.line ≡ Line.NotDue) ↔ ((result.status ≡ Status.Fine) × AskFor (texts words.now) (λ job. ⊤)) }
     ensures not_logged { result.line ≡ Line.NotDue → Keeps (E.holds log.old) (E.holds log.new) }
-    ensures logged { result.line ≡ Line.Whole → (name : List ℕ) × IsNamed (texts words.now) result.status name
-        × Appends (E.holds log.old) (E.holds log.new) (fault_text result.status name) }
+    ensures logged { result.line ≡ Line.Whole → (text : List ℕ) × IsDue (texts words.now) result.status text
+        × Appends (E.holds log.old) (E.holds log.new) text }
     ensures log_failed { result.line ≡ Line.Failed → Rose (E.faults log.old) (E.faults log.new)
-        × ((name : List ℕ) × IsNamed (texts words.now) result.status name × AppendsPrefix (E.holds log.old) (E.holds log.new) (fault_text result.status name)) }
+        × ((text : List ℕ) × IsDue (texts words.now) result.status text × AppendsPrefix (E.holds log.old) (E.holds log.new) text) }
     ensures line_no_memory { result.line ≡ Line.NoMemory → Keeps (E.holds log.old) (E.holds log.new) }
 
     // The history of what the scheduler of the run granted and was told, from the opening state of the plan on, which the trace
     // holds where the words ask for one: legal, and where the files are told with the times of each output's packets and then its
     // end, and with the exit of each input that is read, behind all its grants.
-    ensures history { result.status ≡ Status.Fine → ReportsHistory job_means IsJobHistory (texts words.now) (H.files host.old) result.history }
-    ensures trace { result.status ≡ Status.Fine → HoldsTrace (texts words.now) (H.files host.old) (H.files host.new) result.history }
+    ensures history { result.status ≡ Status.Fine → AsksAlone (texts words.now) ⊎ ReportsHistory job_means IsJobHistory (texts words.now) (H.files host.old) result.history }
+    ensures trace { result.status ≡ Status.Fine → AsksAlone (texts words.now) ⊎ HoldsTrace (texts words.now) (H.files host.old) (H.files host.new) result.history }
     ensures no_history { result.status ≢ Status.Fine → result.history ≡ [] }
     ensures reads { result.reads.items ≡ [] }
 {

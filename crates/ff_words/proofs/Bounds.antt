@@ -16,7 +16,9 @@ use Rattle.ff_words.specs.declared.job.FileFormat.TheVariants.{FrameHash}
 use Rattle.ff_words.specs.declared.job.InputJob.{InputJob}
 use Rattle.ff_words.specs.declared.job.OutputJob.{OutputJob}
 use Rattle.ff_words.specs.declared.job.Job.{Job}
-use Rattle.ff_words.specs.declared.job.Command.TheVariants.{Run, SelfRun}
+use Rattle.ff_words.specs.declared.job.Command.TheVariants as asked
+use Rattle.ff_words.specs.declared.job.Solo.{Solo}
+use Rattle.ff_words.specs.declared.job.Solo.TheVariants.{Help, Version, SelfRun}
 use Rattle.ff_words.specs.declared.table.Concern.{Concern}
 use Rattle.ff_words.specs.declared.table.Kind.{Kind}
 use Rattle.ff_words.specs.declared.table.Kind.TheVariants as kind
@@ -33,7 +35,7 @@ use Rattle.ff_words.specs.Bounds.{HasFewMaps, IsBounded, IsUncut, IsPlainOutput,
 use Rattle.ff_words.specs.Table.{rule_in, option_named, format_named, audio_codec, video_codec, is_level}
 use Rattle.ff_words.specs.Values.{Reads, ReadsWhole, ReadsTime, ReadsGraph, ReadsMap, Makes, made, switched, or_bad, format_value, codec_value, level_value, hash_value, is_spelled}
 use Rattle.ff_words.specs.Table.{format_ending}
-use Rattle.ff_words.specs.Words.{Token, Entry, fault, early, option_fault, given_fault, is_full, is_too_much, is_dashed, is_file, is_output, late, misplaced, bad_at, or_else, takes, placed, IsOption, IsNamed, IsToken, TokenReads, IsEntry, AreRead, IsAnswer, tokens, command, job, last, as_self_run, end_fault, end_by, stands_alone, run_fault, groups, inputs, outputs, same_name, output_format, command_by, start_of, length_of, cut_of, first_place, not_before_input, not_before_output, not_at_end, unreadable, unwritable}
+use Rattle.ff_words.specs.Words.{Token, Entry, fault, early, option_fault, given_fault, is_full, is_too_much, is_dashed, is_file, is_output, late, misplaced, bad_at, or_else, takes, placed, IsOption, IsNamed, IsToken, TokenReads, IsEntry, AreRead, IsAnswer, tokens, command, job, last, as_solo, end_fault, end_by, stands_alone, run_fault, groups, inputs, outputs, same_name, output_format, command_by, start_of, length_of, cut_of, first_place, not_before_input, not_before_output, not_at_end, unreadable, unwritable}
 use Rattle.ff_words.specs.Reading.{reader, optioned, with_input, with_output}
 use Rattle.ff_words.proofs.Snoc.{entry, filed-is, output-filed, reader-snoc, reader-input}
 use Rattle.ff_words.proofs.Steps.{early-option}
@@ -41,12 +43,17 @@ use Rattle.ff_words.proofs.Steps.{early-option}
 -- ---- what an option of a kind reads as
 
 -- the kinds whose options may read as this value
+abbrev OfSolo : Solo → Kind → Type 0
+OfSolo Help k = k ≡ kind.Help
+OfSolo Version k = k ≡ kind.Version
+OfSolo (SelfRun n) k = k ≡ kind.SelfRun
+
 abbrev OfKind : Value → Kind → Type 0
 OfKind value.Shortest k = k ≡ kind.Shortest
 OfKind (value.Complex g) k = k ≡ kind.Complex
 OfKind (value.Queue n) k = (1 ≤ n) × (n ≤ 1024)
 OfKind (value.Trace n) k = k ≡ kind.Trace
-OfKind (value.SelfRun n) k = k ≡ kind.SelfRun
+OfKind (value.Solo s) k = OfSolo s k
 OfKind (value.Start m) k = k ≡ kind.Start
 OfKind (value.Length m) k = k ≡ kind.Length
 OfKind (value.Map m) k = k ≡ kind.Map
@@ -83,14 +90,17 @@ of-none k w e = absurd cc
 
 reads-kind : (t : Table) (k : Kind) (text : List ℕ) (v : Value) → Reads t k text (Ok v) → OfKind v k
 reads-kind t kind.Nothing text v h = absurd h
+reads-kind t kind.NoStats text v h = absurd h
 reads-kind t kind.NoVideo text v h = absurd h
 reads-kind t kind.NoAudio text v h = absurd h
 reads-kind t kind.Shortest text v h = absurd h
+reads-kind t kind.Help text v h = absurd h
+reads-kind t kind.Version text v h = absurd h
 reads-kind t kind.Level text v h = of-named v kind.Level (level_value text) (of-test value.Nothing kind.Level tt (is_level text) None (of-none kind.Level)) h
 reads-kind t kind.Complex text v h = of-made value.Complex (ReadsGraph text) v kind.Complex (λ x is. refl) h
 reads-kind t kind.Queue text v h = of-made value.Queue (ReadsWhole 1 1024 text) v kind.Queue (λ x is. (is.1, is.2)) h
 reads-kind t kind.Trace text v h = (let same : value.Trace text ≡ v = cc in subst (λ x. OfKind x kind.Trace) same refl)
-reads-kind t kind.SelfRun text v h = of-made value.SelfRun (ReadsWhole 0 3600 text) v kind.SelfRun (λ x is. refl) h
+reads-kind t kind.SelfRun text v h = of-made (λ n. value.Solo (SelfRun n)) (ReadsWhole 0 3600 text) v kind.SelfRun (λ x is. refl) h
 reads-kind t kind.Format text v h = of-named v kind.Format (format_value (format_named t text)) (of-format kind.Format (format_named t text)) h
 reads-kind t kind.Start text v h = of-made value.Start (ReadsTime text) v kind.Start (λ x is. refl) h
 reads-kind t kind.Length text v h = of-made value.Length (ReadsTime text) v kind.Length (λ x is. refl) h
@@ -108,9 +118,12 @@ reads-kind t kind.Hash text v h =
 
 switched-kind : (k : Kind) (w : Value) → switched k ≡ Some w → OfKind w k
 switched-kind kind.Nothing w e = (let same : value.Nothing ≡ w = cc in subst (λ x. OfKind x kind.Nothing) same tt)
+switched-kind kind.NoStats w e = (let same : value.Nothing ≡ w = cc in subst (λ x. OfKind x kind.NoStats) same tt)
 switched-kind kind.NoVideo w e = (let same : value.NoVideo ≡ w = cc in subst (λ x. OfKind x kind.NoVideo) same tt)
 switched-kind kind.NoAudio w e = (let same : value.NoAudio ≡ w = cc in subst (λ x. OfKind x kind.NoAudio) same tt)
 switched-kind kind.Shortest w e = (let same : value.Shortest ≡ w = cc in subst (λ x. OfKind x kind.Shortest) same refl)
+switched-kind kind.Help w e = (let same : value.Solo Help ≡ w = cc in subst (λ x. OfKind x kind.Help) same refl)
+switched-kind kind.Version w e = (let same : value.Solo Version ≡ w = cc in subst (λ x. OfKind x kind.Version) same refl)
 switched-kind kind.Level w e = absurd cc
 switched-kind kind.Complex w e = absurd cc
 switched-kind kind.Queue w e = absurd cc
@@ -216,7 +229,7 @@ small-option t es token at concern value.Shortest plain fine h s = s
 small-option t es token at concern (value.Complex g) plain fine h s = record { some_queue = s.some_queue; short_queue = s.short_queue; few_graphs = one-more (reader es).graphs g (not-full (length (reader es).graphs) (kind-room t es token h.0 kind.Complex fine h.1 h.2 h.3 refl)); few_inputs = s.few_inputs; few_outputs = s.few_outputs; few_maps = s.few_maps; few_waiting = s.few_waiting }
 small-option t es token at concern (value.Queue n) plain fine h s = record { some_queue = h.3.0; short_queue = h.3.1; few_graphs = s.few_graphs; few_inputs = s.few_inputs; few_outputs = s.few_outputs; few_maps = s.few_maps; few_waiting = s.few_waiting }
 small-option t es token at concern (value.Trace n) plain fine h s = s
-small-option t es token at concern (value.SelfRun n) plain fine h s = s
+small-option t es token at concern (value.Solo n) plain fine h s = s
 small-option t es token at concern (value.Format f read written) plain fine h s = s
 small-option t es token at concern (value.Start m) plain fine h s = s
 small-option t es token at concern (value.Length m) plain fine h s = s
@@ -277,7 +290,7 @@ by-value t P es token at concern value.Shortest before reads fine option ins out
 by-value t P es token at concern (value.Complex g) before reads fine option ins outs = subst P (sym (reader-snoc es (entry at concern (value.Complex g)) refl)) (option refl (token-rule t token (is_dashed token.word) concern (value.Complex g) refl refl reads))
 by-value t P es token at concern (value.Queue n) before reads fine option ins outs = subst P (sym (reader-snoc es (entry at concern (value.Queue n)) refl)) (option refl (token-rule t token (is_dashed token.word) concern (value.Queue n) refl refl reads))
 by-value t P es token at concern (value.Trace n) before reads fine option ins outs = subst P (sym (reader-snoc es (entry at concern (value.Trace n)) refl)) (option refl (token-rule t token (is_dashed token.word) concern (value.Trace n) refl refl reads))
-by-value t P es token at concern (value.SelfRun n) before reads fine option ins outs = subst P (sym (reader-snoc es (entry at concern (value.SelfRun n)) refl)) (option refl (token-rule t token (is_dashed token.word) concern (value.SelfRun n) refl refl reads))
+by-value t P es token at concern (value.Solo n) before reads fine option ins outs = subst P (sym (reader-snoc es (entry at concern (value.Solo n)) refl)) (option refl (token-rule t token (is_dashed token.word) concern (value.Solo n) refl refl reads))
 by-value t P es token at concern (value.Format f read written) before reads fine option ins outs = subst P (sym (reader-snoc es (entry at concern (value.Format f read written)) refl)) (option refl (token-rule t token (is_dashed token.word) concern (value.Format f read written) refl refl reads))
 by-value t P es token at concern (value.Start m) before reads fine option ins outs = subst P (sym (reader-snoc es (entry at concern (value.Start m)) refl)) (option refl (token-rule t token (is_dashed token.word) concern (value.Start m) refl refl reads))
 by-value t P es token at concern (value.Length m) before reads fine option ins outs = subst P (sym (reader-snoc es (entry at concern (value.Length m)) refl)) (option refl (token-rule t token (is_dashed token.word) concern (value.Length m) refl refl reads))
@@ -325,29 +338,25 @@ bounded-job es count s fine =
       names = names.0;
     }
 
-never : (b : Bool) → (b && false) ≡ false
-never true = refl
-never false = refl
-
-stands-not : (count : ℕ) (o : Option ℕ) → o ≡ None → ((count == 2) && is_some o) ≡ false
-stands-not count o none = ap (λ (x : Option ℕ). (count == 2) && is_some x) none ∙ never (count == 2)
+stands-not : (count : ℕ) (o : Option Solo) → o ≡ None → stands_alone count o ≡ false
+stands-not count o none = ap (stands_alone count) none
 
 none-when : {X : Type 0} (b : Bool) (o : Option X) → b ≡ false → (if b then None else o) ≡ None → o ≡ None
 none-when true o is e = absurd cc
 none-when false o is e = e
 
 -- the end of words that ask for a run
-ends-run : (es : List Entry) (count : ℕ) (o : Option ℕ) (j : Job) → last as_self_run es ≡ o → end_fault count es ≡ None → Run j ≡ command_by o es → (j ≡ job es) × (run_fault count (job es) ≡ None)
+ends-run : (es : List Entry) (count : ℕ) (o : Option Solo) (j : Job) → last as_solo es ≡ o → end_fault count es ≡ None → asked.Run j ≡ command_by o es → (j ≡ job es) × (run_fault count (job es) ≡ None)
 ends-run es count (Some n) j self fine is = absurd cc
 ends-run es count None j self fine is =
-    let alone : stands_alone count es ≡ false = stands-not count (last as_self_run es) self in
-    let behind : misplaced (first_place not_at_end (groups es).behind) (end_by count (command es)) ≡ None = (none-when (stands_alone count es) (misplaced (first_place not_at_end (groups es).behind) (end_by count (command es))) alone fine) in
+    let alone : stands_alone count (last as_solo es) ≡ false = stands-not count (last as_solo es) self in
+    let behind : misplaced (first_place not_at_end (groups es).behind) (end_by count (command es)) ≡ None = (none-when (stands_alone count (last as_solo es)) (misplaced (first_place not_at_end (groups es).behind) (end_by count (command es))) alone fine) in
     let ended : end_by count (command es) ≡ None = none-behind (first_place not_at_end (groups es).behind) (end_by count (command es)) behind in
     (cc, ap (λ c. end_by count (command_by c es)) (sym self) ∙ ended)
 
-pub bounded : (t : Table) (words : List (List ℕ)) (j : Job) → IsAnswer t words (Ok (Run j)) → IsBounded j
+pub bounded : (t : Table) (words : List (List ℕ)) (j : Job) → IsAnswer t words (Ok (asked.Run j)) → IsBounded j
 bounded t words j h =
-    let end = ends-run h.0 (length words) (last as_self_run h.0) j refl h.2 h.3 in
+    let end = ends-run h.0 (length words) (last as_solo h.0) j refl h.2 h.3 in
     subst IsBounded (sym end.0) (bounded-job h.0 (length words) (small-all t h.0 (tokens t 0 words) h.1) end.1)
 
 -- ---- what is done today
@@ -408,9 +417,16 @@ unfolding option_named
 done-kind word rule e =
     (let list : List Line = map (λ line. (line.0.now, line.1, line.2, line.3)) OPTIONS in done-in list word rule (fine-lines list refl) e)
 
+-- nothing generated is asked for
+abbrev IsNoSelfRun : Option Solo → Type 0
+IsNoSelfRun None = Unit {0}
+IsNoSelfRun (Some Help) = Unit {0}
+IsNoSelfRun (Some Version) = Unit {0}
+IsNoSelfRun (Some (SelfRun n)) = ⊥
+
 -- of what a reader keeps: nothing that isn't done yet
-record Plain (self_run : Option ℕ) (ins : List InputJob) (outs : List OutputJob) (start length : Option Micros) (shortest : Bool) : Type 0 where
-  no_self_run : self_run ≡ None
+record Plain (solo : Option Solo) (ins : List InputJob) (outs : List OutputJob) (start length : Option Micros) (shortest : Bool) : Type 0 where
+  no_self_run : IsNoSelfRun solo
   ins_uncut : AllByRecursion (λ (i : InputJob). IsUncut i.cut) ins
   outs_plain : AllByRecursion IsPlainOutput outs
   no_start : start ≡ None
@@ -418,10 +434,15 @@ record Plain (self_run : Option ℕ) (ins : List InputJob) (outs : List OutputJo
   whole : shortest ≡ false
 
 abbrev IsPlainReader : Reader → Type 0
-IsPlainReader r = Plain r.self_run r.inputs r.outputs r.pending.start r.pending.length r.pending.shortest
+IsPlainReader r = Plain r.solo r.inputs r.outputs r.pending.start r.pending.length r.pending.shortest
 
 never-done : (token : Token) (rule : Rule) (k : Kind) → option_named table.Today token.word ≡ Some rule → rule.kind ≡ k → IsDone k
 never-done token rule k named is = subst IsDone is (done-kind token.word rule named)
+
+plain-solo : (token : Token) (rule : Rule) (n : Solo) (r : Reader) → option_named table.Today token.word ≡ Some rule → OfSolo n rule.kind → IsPlainReader r → IsPlainReader (record r { solo = Some n })
+plain-solo token rule Help r named of s = record { no_self_run = tt; ins_uncut = s.ins_uncut; outs_plain = s.outs_plain; no_start = s.no_start; no_length = s.no_length; whole = s.whole }
+plain-solo token rule Version r named of s = record { no_self_run = tt; ins_uncut = s.ins_uncut; outs_plain = s.outs_plain; no_start = s.no_start; no_length = s.no_length; whole = s.whole }
+plain-solo token rule (SelfRun n) r named of s = absurd (never-done token rule kind.SelfRun named of)
 
 plain-option : (es : List Entry) (token : Token) (at : ℕ) (concern : Concern) (v : Value) → is_file v ≡ false → HasRule table.Today token v
     → IsPlainReader (reader es) → IsPlainReader (optioned (entry at concern v) (reader es))
@@ -432,7 +453,7 @@ plain-option es token at concern value.Shortest plain h s = absurd (never-done t
 plain-option es token at concern (value.Complex g) plain h s = s
 plain-option es token at concern (value.Queue n) plain h s = s
 plain-option es token at concern (value.Trace n) plain h s = s
-plain-option es token at concern (value.SelfRun n) plain h s = absurd (never-done token h.0 kind.SelfRun h.2 h.3)
+plain-option es token at concern (value.Solo n) plain h s = plain-solo token h.0 n (reader es) h.2 h.3 s
 plain-option es token at concern (value.Format f read written) plain h s = s
 plain-option es token at concern (value.Start m) plain h s = absurd (never-done token h.0 kind.Start h.2 h.3)
 plain-option es token at concern (value.Length m) plain h s = absurd (never-done token h.0 kind.Length h.2 h.3)
@@ -482,7 +503,7 @@ plain-step es token e is s =
 
 plain-none : IsPlainReader (reader [])
 plain-none = record {
-  no_self_run = refl;
+  no_self_run = tt;
   ins_uncut = tt;
   outs_plain = tt;
   no_start = refl;
@@ -496,14 +517,16 @@ plain-all es ts read = along table.Today (λ xs. IsPlainReader (reader xs)) plai
 plain-job : (es : List Entry) → IsPlainReader (reader es) → IsPlain (job es)
 plain-job es s = record { inputs = s.ins_uncut; outputs = s.outs_plain }
 
-pub plain : (words : List (List ℕ)) (j : Job) → IsAnswer table.Today words (Ok (Run j)) → IsPlain j
+pub plain : (words : List (List ℕ)) (j : Job) → IsAnswer table.Today words (Ok (asked.Run j)) → IsPlain j
 plain words j h =
-    let end = ends-run h.0 (length words) (last as_self_run h.0) j refl h.2 h.3 in
+    let end = ends-run h.0 (length words) (last as_solo h.0) j refl h.2 h.3 in
     subst IsPlain (sym end.0) (plain-job h.0 (plain-all h.0 (tokens table.Today 0 words) h.1))
 
-no-self : (es : List Entry) (o : Option ℕ) (n : ℕ) → o ≡ None → SelfRun n ≡ command_by o es → ⊥
-no-self es (Some m) n none is = cc
+no-self : (es : List Entry) (o : Option Solo) (n : ℕ) → IsNoSelfRun o → asked.Solo (SelfRun n) ≡ command_by o es → ⊥
+no-self es (Some Help) n none is = cc
+no-self es (Some Version) n none is = cc
+no-self es (Some (SelfRun m)) n none is = none
 no-self es None n none is = cc
 
-pub never-generated : (words : List (List ℕ)) (n : ℕ) → IsAnswer table.Today words (Ok (SelfRun n)) → ⊥
-never-generated words n h = no-self h.0 (last as_self_run h.0) n (plain-all h.0 (tokens table.Today 0 words) h.1).no_self_run h.3
+pub never-generated : (words : List (List ℕ)) (n : ℕ) → IsAnswer table.Today words (Ok (asked.Solo (SelfRun n))) → ⊥
+never-generated words n h = no-self h.0 (last as_solo h.0) n (plain-all h.0 (tokens table.Today 0 words) h.1).no_self_run h.3

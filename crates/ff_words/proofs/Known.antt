@@ -46,6 +46,14 @@ pub line-trace : IsLine (codes "-sched_trace") All kind.Trace
 unfolding option_named
 line-trace = refl
 
+pub line-help : IsLine (codes "-h") Alone kind.Help
+unfolding option_named
+line-help = refl
+
+pub line-version : IsLine (codes "-version") Alone kind.Version
+unfolding option_named
+line-version = refl
+
 pub line-self_run : IsLine (codes "-selfrun") Alone kind.SelfRun
 unfolding option_named
 line-self_run = refl

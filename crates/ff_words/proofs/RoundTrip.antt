@@ -22,7 +22,9 @@ use Rattle.ff_words.specs.declared.job.InputJob.{InputJob}
 use Rattle.ff_words.specs.declared.job.OutputJob.{OutputJob}
 use Rattle.ff_words.specs.declared.job.Job.{Job}
 use Rattle.ff_words.specs.declared.job.Command.{Command}
-use Rattle.ff_words.specs.declared.job.Command.TheVariants.{Run, SelfRun}
+use Rattle.ff_words.specs.declared.job.Command.TheVariants as asked
+use Rattle.ff_words.specs.declared.job.Solo.{Solo}
+use Rattle.ff_words.specs.declared.job.Solo.TheVariants.{Help, Version, SelfRun}
 use Rattle.ff_words.specs.declared.reader.Pending.{Pending}
 use Rattle.ff_words.specs.declared.reader.Reader.{Reader}
 use Rattle.ff_words.specs.declared.table.Concern.TheVariants.{All, Alone, File, Output}
@@ -32,9 +34,9 @@ use Rattle.ff_words.specs.declared.value.Micros.{Micros}
 use Rattle.ff_words.specs.declared.value.Value.TheVariants as value
 use Rattle.ff_words.specs.Reading.{pending, reader, place_unless, end_wrong}
 use Rattle.ff_words.specs.Words.{IsAnswer, or_else, cut_of, length_of, fault, bad_at, same_name}
-use Rattle.ff_words.specs.Writing.{given, micros_text, format_name, codec_name, hash_name, map_text, format_words, start_words, length_words, input_words, map_words, audio_words, video_words, vf_words, af_words, hash_words, where_some, where_true, output_words, graph_words, trace_words, queue_words, job_words, IsFineText, IsFineGraph, IsFineMap, IsReadFormat, IsSoundCodec, WhereSome, IsFineInput, IsFineOutput, IsFineJob, IsFineCommand, command_words}
+use Rattle.ff_words.specs.Writing.{given, micros_text, format_name, codec_name, hash_name, map_text, format_words, start_words, length_words, input_words, map_words, audio_words, video_words, vf_words, af_words, hash_words, where_some, where_true, output_words, graph_words, trace_words, queue_words, job_words, IsFineText, IsFineGraph, IsFineMap, IsReadFormat, IsSoundCodec, WhereSome, IsFineInput, IsFineOutput, IsFineJob, IsFineSolo, IsFineCommand, solo_words, command_words}
 use Rattle.ff_words.proofs.Spellings.{is-number, number-short, micros-short, map-short}
-use Rattle.ff_words.proofs.Known.{readable, line-queue, line-self_run, line-trace, line-complex, line-format, line-start, line-length, line-input, line-map, line-audio, line-video, line-vf, line-af, line-no_audio, line-no_video, line-shortest, line-hash, reads-format, reads-audio, reads-video, reads-hash, reads-map, reads-complex, reads-vf, reads-af, reads-start, reads-length}
+use Rattle.ff_words.proofs.Known.{readable, line-queue, line-help, line-version, line-self_run, line-trace, line-complex, line-format, line-start, line-length, line-input, line-map, line-audio, line-video, line-vf, line-af, line-no_audio, line-no_video, line-shortest, line-hash, reads-format, reads-audio, reads-video, reads-hash, reads-map, reads-complex, reads-vf, reads-af, reads-start, reads-length}
 use Rattle.ff_words.proofs.Goes.{Goes, goes-start, goes-by, goes-option, goes-input, goes-switch, goes-output}
 use Rattle.ff_words.proofs.Tokens.{ended}
 use Rattle.ff_words.proofs.Few.{few}
@@ -459,7 +461,7 @@ queue-read ws few rest n r low high g =
 -- ---- the job
 
 abbrev state : ℕ → Option Text → List Graph → List InputJob → List OutputJob → Reader
-state q t gs is os = record { queue = q; trace = t; self_run = None; graphs = gs; inputs = is; outputs = os; pending = pending [] }
+state q t gs is os = record { queue = q; trace = t; solo = None; graphs = gs; inputs = is; outputs = os; pending = pending [] }
 
 abbrev done : Job → Reader
 done j = state j.queue j.trace j.graphs j.inputs j.outputs
@@ -482,35 +484,57 @@ none_left [] at h = omega arith
 none_left (w ∷ ws) zero h = cc
 none_left (w ∷ ws) (suc i) h = (let past : length ws ≤ i = none_left ws i h in omega (arith, past))
 
-fine_end : (alone no_input no_output same : Bool) (count : ℕ) → no_input ≡ false → no_output ≡ false → same ≡ false
-    → (if alone && false then None else (if no_input then Some (fault count NoInput) else (if no_output then Some (fault count NoOutput) else (if same then Some (fault count SameName) else None)))) ≡ None
-fine_end true false false false count h k l = refl
-fine_end false false false false count h k l = refl
-fine_end a true b c count h k l = cc
-fine_end a false true c count h k l = cc
-fine_end a false false true count h k l = cc
+fine_end : (no_input no_output same : Bool) (count : ℕ) → no_input ≡ false → no_output ≡ false → same ≡ false
+    → (if no_input then Some (fault count NoInput) else (if no_output then Some (fault count NoOutput) else (if same then Some (fault count SameName) else None))) ≡ None
+fine_end false false false count h k l = refl
+fine_end true b c count h k l = cc
+fine_end false true c count h k l = cc
+fine_end false false true count h k l = cc
 
-job-read : (j : Job) → IsFineJob j → IsAnswer table.Whole (job_words j) (Ok (Run j))
+job-read : (j : Job) → IsFineJob j → IsAnswer table.Whole (job_words j) (Ok (asked.Run j))
 job-read j fine =
     let g : Goes (job_words j) [] (done j) = all-read j fine (few j fine) in
     let no_input : (length j.inputs == 0) ≡ false = ne_eqb (length j.inputs) 0 (λ e. omega (arith, e, fine.some_inputs)) in
     let no_output : (length j.outputs == 0) ≡ false = ne_eqb (length j.outputs) 0 (λ e. omega (arith, e, fine.some_outputs)) in
     let right : end_wrong (length (job_words j)) (done j) ≡ None =
-    fine_end (length (job_words j) == 2) (length j.inputs == 0) (length j.outputs == 0) (same_name j) (length (job_words j)) no_input no_output fine.names in
-    ended table.Whole (job_words j) g.at (done j) g.stands (Ok (Run j)) (none_left (job_words j) g.at g.behind) (right, refl)
+    fine_end (length j.inputs == 0) (length j.outputs == 0) (same_name j) (length (job_words j)) no_input no_output fine.names in
+    ended table.Whole (job_words j) g.at (done j) g.stands (Ok (asked.Run j)) (none_left (job_words j) g.at g.behind) (right, refl)
 
-self_run-read : (n : ℕ) → n ≤ 3600 → IsAnswer table.Whole (command_words (SelfRun n)) (Ok (SelfRun n))
+-- a word that stands alone
+abbrev alone : Solo → ℕ → Reader
+alone s at = record (state 8 None [] [] []) { solo = Some s; pending = record (pending []) { before_input = Some at; before_output = Some at; at_end = Some at } }
+
+help-read : IsAnswer table.Whole (solo_words Help) (Ok (asked.Solo Help))
+help-read =
+    let ws : List Text = solo_words Help in
+    let start : Goes ws ws (reader []) = goes-start ws in
+    let g : Goes ws [] (alone Help start.at) = goes-switch ws (omega arith) (codes "-h") [] (state 8 None [] [] []) Alone kind.Help (value.Solo Help) start refl line-help refl refl (omega arith) refl in
+    ended table.Whole ws g.at (alone Help start.at) g.stands (Ok (asked.Solo Help)) (none_left ws g.at g.behind) (refl, refl)
+
+version-read : IsAnswer table.Whole (solo_words Version) (Ok (asked.Solo Version))
+version-read =
+    let ws : List Text = solo_words Version in
+    let start : Goes ws ws (reader []) = goes-start ws in
+    let g : Goes ws [] (alone Version start.at) = goes-switch ws (omega arith) (codes "-version") [] (state 8 None [] [] []) Alone kind.Version (value.Solo Version) start refl line-version refl refl (omega arith) refl in
+    ended table.Whole ws g.at (alone Version start.at) g.stands (Ok (asked.Solo Version)) (none_left ws g.at g.behind) (refl, refl)
+
+self_run-read : (n : ℕ) → n ≤ 3600 → IsAnswer table.Whole (solo_words (SelfRun n)) (Ok (asked.Solo (SelfRun n)))
 self_run-read n high =
-    let ws : List Text = command_words (SelfRun n) in
+    let ws : List Text = solo_words (SelfRun n) in
     let small : n < 10 ^ 9 = omega (arith, high) in
     let start : Goes ws ws (reader []) = goes-start ws in
     let old : Reader = state 8 None [] [] [] in
-    let after : Reader = record old { self_run = Some n; pending = record (pending []) { before_input = Some start.at; before_output = Some start.at; at_end = Some start.at } } in
+    let after : Reader = alone (SelfRun n) start.at in
     let g : Goes ws [] after =
-    goes-option ws (omega arith) (codes "-selfrun") (decimal n) [] old Alone kind.SelfRun (value.SelfRun n) start refl line-self_run refl (omega arith) (omega (arith, number-short n small)) refl refl
+    goes-option ws (omega arith) (codes "-selfrun") (decimal n) [] old Alone kind.SelfRun (value.Solo (SelfRun n)) start refl line-self_run refl (omega arith) (omega (arith, number-short n small)) refl refl
     (Ok n, (is-number n small, omega arith, high), refl) in
-    ended table.Whole ws g.at after g.stands (Ok (SelfRun n)) (none_left ws g.at g.behind) (refl, refl)
+    ended table.Whole ws g.at after g.stands (Ok (asked.Solo (SelfRun n))) (none_left ws g.at g.behind) (refl, refl)
+
+solo-read : (s : Solo) → IsFineSolo s → IsAnswer table.Whole (solo_words s) (Ok (asked.Solo s))
+solo-read Help fine = help-read
+solo-read Version fine = version-read
+solo-read (SelfRun n) fine = self_run-read n fine
 
 pub written-read : (c : Command) → IsFineCommand c → IsAnswer table.Whole (command_words c) (Ok c)
-written-read (Run j) fine = job-read j fine
-written-read (SelfRun n) fine = self_run-read n fine
+written-read (asked.Run j) fine = job-read j fine
+written-read (asked.Solo s) fine = solo-read s fine

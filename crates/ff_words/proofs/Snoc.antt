@@ -9,7 +9,7 @@ use Rattle.ff_words.specs.declared.reader.Pending.{Pending}
 use Rattle.ff_words.specs.declared.reader.Reader.{Reader}
 use Rattle.ff_words.specs.declared.job.FileFormat.{FileFormat}
 use Rattle.ff_words.specs.declared.job.FileFormat.TheVariants.{FrameHash}
-use Rattle.ff_words.specs.Words.{not_before_input, not_before_output, not_at_end, as_format, as_start, as_length, as_map, as_audio, as_video, as_vf, as_af, as_no_audio, as_no_video, as_shortest, as_hash, as_queue, as_trace, as_graph, as_self_run, Entry, Group, Groups, groups, led, is_file, or_else, last, each, first_place, last_place, unread_place, unwritten_place, inputs, outputs, group_input, group_output}
+use Rattle.ff_words.specs.Words.{not_before_input, not_before_output, not_at_end, as_format, as_start, as_length, as_map, as_audio, as_video, as_vf, as_af, as_no_audio, as_no_video, as_shortest, as_hash, as_queue, as_trace, as_graph, as_solo, Entry, Group, Groups, groups, led, is_file, or_else, last, each, first_place, last_place, unread_place, unwritten_place, inputs, outputs, group_input, group_output}
 use Rattle.std.specs.Prelude.{flat_map}
 use Rattle.ff_words.specs.Words.{output_format, late}
 use Rattle.ff_words.specs.Reading.{with_input, with_output, input_wrong, output_wrong, pending_format, valued, noted, whole, pending, reader, waiting, optioned, kept}
@@ -148,7 +148,7 @@ waits at concern value.Shortest own = refl
 waits at concern (value.Complex g) own = refl
 waits at concern (value.Queue n) own = refl
 waits at concern (value.Trace n) own = refl
-waits at concern (value.SelfRun n) own = refl
+waits at concern (value.Solo n) own = refl
 waits at concern (value.Format f read written) own = refl
 waits at concern (value.Start n) own = refl
 waits at concern (value.Length n) own = refl
@@ -171,7 +171,7 @@ joined v es p =
     record {
       queue = unwrap_or (or_else (as_queue v) (last as_queue es)) 8;
       trace = or_else (as_trace v) (last as_trace es);
-      self_run = or_else (as_self_run v) (last as_self_run es);
+      solo = or_else (as_solo v) (last as_solo es);
       graphs = pushed (as_graph v) (each as_graph es);
       inputs = inputs es;
       outputs = outputs es;
@@ -183,7 +183,7 @@ same_files es e plain = groups-snoc es e ∙ ap (λ b. groups_added b e (groups 
 
 joined-is : (es : List Entry) (e : Entry) → is_file e.value ≡ false → reader (es ++ e ∷ []) ≡ joined e.value es (waiting e (pending (groups es).behind))
 joined-is es e plain =
-    simp (last-snoc as_queue es e, last-snoc as_trace es e, last-snoc as_self_run es e, each-pushed as_graph es e, same_files es e plain, pending-snoc (groups es).behind e) refl
+    simp (last-snoc as_queue es e, last-snoc as_trace es e, last-snoc as_solo es e, each-pushed as_graph es e, same_files es e plain, pending-snoc (groups es).behind e) refl
 
 joins : (e : Entry) (v : Value) (es : List Entry) (p : Pending) → is_file v ≡ false → joined v es p ≡ whole v (record (reader es) { pending = p })
 joins e value.Nothing es p plain = refl
@@ -193,7 +193,7 @@ joins e value.Shortest es p plain = refl
 joins e (value.Complex g) es p plain = refl
 joins e (value.Queue n) es p plain = refl
 joins e (value.Trace n) es p plain = refl
-joins e (value.SelfRun n) es p plain = refl
+joins e (value.Solo n) es p plain = refl
 joins e (value.Format f read written) es p plain = refl
 joins e (value.Start n) es p plain = refl
 joins e (value.Length n) es p plain = refl
@@ -225,7 +225,7 @@ filed v es =
     record {
       queue = unwrap_or (or_else (as_queue v) (last as_queue es)) 8;
       trace = or_else (as_trace v) (last as_trace es);
-      self_run = or_else (as_self_run v) (last as_self_run es);
+      solo = or_else (as_solo v) (last as_solo es);
       graphs = pushed (as_graph v) (each as_graph es);
       inputs = inputs es ++ group_input (groups es).behind v;
       outputs = outputs es ++ group_output (groups es).behind v;
@@ -237,7 +237,7 @@ filed-is es e file =
     simp (
       last-snoc as_queue es e,
       last-snoc as_trace es e,
-      last-snoc as_self_run es e,
+      last-snoc as_solo es e,
       each-pushed as_graph es e,
       ended es e file,
       flat_snoc (λ (g : Group). group_input g.own g.file) (groups es).files (record { own = (groups es).behind; file = e.value }),
@@ -280,7 +280,7 @@ plain_late es at value.Shortest plain = refl
 plain_late es at (value.Complex g) plain = refl
 plain_late es at (value.Queue n) plain = refl
 plain_late es at (value.Trace n) plain = refl
-plain_late es at (value.SelfRun n) plain = refl
+plain_late es at (value.Solo n) plain = refl
 plain_late es at (value.Format f read written) plain = refl
 plain_late es at (value.Start n) plain = refl
 plain_late es at (value.Length n) plain = refl
@@ -306,7 +306,7 @@ not_file value.Shortest i o = refl
 not_file (value.Complex g) i o = refl
 not_file (value.Queue n) i o = refl
 not_file (value.Trace n) i o = refl
-not_file (value.SelfRun n) i o = refl
+not_file (value.Solo n) i o = refl
 not_file (value.Format f read written) i o = refl
 not_file (value.Start n) i o = refl
 not_file (value.Length n) i o = refl

@@ -92,9 +92,12 @@ taken-steps table es t concern v (Err NoMemory) new before reads h = tt
 
 pub full-is : (es : List Entry) (k : Kind) → full k (reader es) ≡ is_full es k
 full-is es kind.Nothing = refl
+full-is es kind.NoStats = refl
 full-is es kind.NoVideo = refl
 full-is es kind.NoAudio = refl
 full-is es kind.Shortest = refl
+full-is es kind.Help = refl
+full-is es kind.Version = refl
 full-is es kind.Level = refl
 full-is es kind.Complex = refl
 full-is es kind.Queue = refl

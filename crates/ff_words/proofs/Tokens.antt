@@ -14,8 +14,9 @@ use Rattle.ff_words.specs.Table.{option_named, format_ending}
 use Rattle.ff_words.specs.declared.table.Table.{Table}
 use Rattle.ff_words.specs.Values.{switched}
 use Rattle.ff_words.specs.declared.job.Command.{Command}
+use Rattle.ff_words.specs.declared.job.Solo.{Solo}
 use Rattle.std.proofs.lemmas.List.{append-nil}
-use Rattle.ff_words.specs.Words.{AreRead, IsEntry, command_by, end_fault, end_by, stands_alone, misplaced, first_place, not_at_end, groups, last, as_self_run, Entry, Token, tokens, takes, takes_value, fault, is_too_much, is_dashed, IsFaultAt}
+use Rattle.ff_words.specs.Words.{AreRead, IsEntry, command_by, end_fault, end_by, stands_alone, misplaced, first_place, not_at_end, groups, last, as_solo, Entry, Token, tokens, takes, takes_value, fault, is_too_much, is_dashed, IsFaultAt}
 use Rattle.ff_words.specs.Reading.{reader, Stands, Answers, Ended, end_wrong, command_of, word_at, token_at, width, Taken, Steps, Given}
 use Rattle.ff_words.proofs.Steps.{early-output, early-unknown, early-switch, early-missing, reads-output, reads-switch, taken-steps}
 
@@ -113,13 +114,13 @@ width_small : (v : Option (List ℕ)) → width v ≤ 2
 width_small None = omega arith
 width_small (Some v) = omega arith
 
-command-is : (o : Option ℕ) (es : List Entry) → command_of o (reader es) ≡ command_by o es
-command-is (Some n) es = refl
+command-is : (o : Option Solo) (es : List Entry) → command_of o (reader es) ≡ command_by o es
+command-is (Some s) es = refl
 command-is None es = refl
 
 end-is : (ws : List (List ℕ)) (es : List Entry) → end_fault (length ws) es ≡ end_wrong (length ws) (reader es)
 end-is ws es =
-    ap (λ c. if stands_alone (length ws) es then None else misplaced (first_place not_at_end (groups es).behind) (end_by (length ws) c)) (sym (command-is (last as_self_run es) es))
+    ap (λ c. if stands_alone (length ws) (last as_solo es) then None else misplaced (first_place not_at_end (groups es).behind) (end_by (length ws) c)) (sym (command-is (last as_solo es) es))
 
 are-read-snoc : (table : Table) (es all : List Entry) (ts : List Token) (t : Token) (e : Entry) → AreRead table es ts all → IsEntry table all t e → AreRead table es (ts ++ t ∷ []) (all ++ e ∷ [])
 are-read-snoc table es all [] t e h one = (e, subst (λ x. IsEntry table x t e) (sym h) one, ap (λ x. x ++ e ∷ []) h)
@@ -166,7 +167,7 @@ all-read table ws at r s past = s.split ∙ (ap (λ t. s.front ++ tokens table a
 pub ended : (table : Table) (ws : List (List ℕ)) (at : ℕ) (r : Reader) (s : Stands table ws at r) (result : Result Command WordError) → length ws ≤ at → Ended (length ws) r result → Answers table ws result
 ended table ws at r s (Ok c) past h =
     let e : Ended (length ws) (reader s.es) (Ok c) = subst (λ x. Ended (length ws) x (Ok c)) s.kept h in
-    (s.es, subst (λ ts. AreRead table [] ts s.es) (sym (all-read table ws at r s past)) s.are_read, end-is ws s.es ∙ e.0, e.1 ∙ command-is (last as_self_run s.es) s.es)
+    (s.es, subst (λ ts. AreRead table [] ts s.es) (sym (all-read table ws at r s past)) s.are_read, end-is ws s.es ∙ e.0, e.1 ∙ command-is (last as_solo s.es) s.es)
 ended table ws at r s (Err (At w k)) past h =
     let e : Ended (length ws) (reader s.es) (Err (At w k)) = subst (λ x. Ended (length ws) x (Err (At w k))) s.kept h in
     inr (s.es, subst (λ ts. AreRead table [] ts s.es) (sym (all-read table ws at r s past)) s.are_read, end-is ws s.es ∙ e)

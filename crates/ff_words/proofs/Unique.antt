@@ -18,6 +18,7 @@ use Rattle.ff_words.specs.declared.error.WordError.TheVariants.{At, NoMemory}
 use Rattle.ff_words.specs.declared.error.WordKind.{WordKind}
 use Rattle.ff_words.specs.declared.error.WordKind.TheVariants.{BadTime, BadMap, BadGraph}
 use Rattle.ff_words.specs.declared.job.Command.{Command}
+use Rattle.ff_words.specs.declared.job.Solo.TheVariants.{SelfRun}
 use Rattle.ff_words.specs.declared.table.Concern.{Concern}
 use Rattle.ff_words.specs.declared.table.Kind.{Kind}
 use Rattle.ff_words.specs.declared.table.Kind.TheVariants as kind
@@ -82,14 +83,17 @@ makes-one make Is r s one h k = h.2 ∙ (ap (made make) (one h.0 k.0 h.1 k.1) �
 
 reads-one : (table : Table) (k : Kind) (text : List ℕ) (r s : Result Value WordKind) → Reads table k text r → Reads table k text s → r ≡ s
 reads-one table kind.Nothing text r s h j = absurd h
+reads-one table kind.NoStats text r s h j = absurd h
 reads-one table kind.NoVideo text r s h j = absurd h
 reads-one table kind.NoAudio text r s h j = absurd h
 reads-one table kind.Shortest text r s h j = absurd h
+reads-one table kind.Help text r s h j = absurd h
+reads-one table kind.Version text r s h j = absurd h
 reads-one table kind.Level text r s h j = h ∙ sym j
 reads-one table kind.Complex text r s h j = makes-one value.Complex (ReadsGraph text) r s (graph-one text) h j
 reads-one table kind.Queue text r s h j = makes-one value.Queue (ReadsWhole 1 1024 text) r s (whole-one 1 1024 text) h j
 reads-one table kind.Trace text r s h j = h ∙ sym j
-reads-one table kind.SelfRun text r s h j = makes-one value.SelfRun (ReadsWhole 0 3600 text) r s (whole-one 0 3600 text) h j
+reads-one table kind.SelfRun text r s h j = makes-one (λ n. value.Solo (SelfRun n)) (ReadsWhole 0 3600 text) r s (whole-one 0 3600 text) h j
 reads-one table kind.Format text r s h j = h ∙ sym j
 reads-one table kind.Start text r s h j = makes-one value.Start (ReadsTime text) r s (time-one text) h j
 reads-one table kind.Length text r s h j = makes-one value.Length (ReadsTime text) r s (time-one text) h j

@@ -6,11 +6,12 @@ use Rattle.ff_words.specs.declared.value.Value.{Value}
 use Rattle.ff_words.specs.declared.value.Value.TheVariants as value
 use Rattle.ff_words.specs.declared.reader.Pending.{Pending}
 use Rattle.ff_words.specs.declared.reader.Reader.{Reader}
-use Rattle.std.specs.Prelude.{◌&&◌, ◌==◌, is_some, drop, slice_get, ◌≤◌, nat_le, length, Result, Ok, Err}
+use Rattle.std.specs.Prelude.{drop, slice_get, ◌≤◌, nat_le, length, Result, Ok, Err}
 use Rattle.std.specs.Prelude.{map, option_to_list}
 use Rattle.ff_words.specs.declared.job.OutputJob.{OutputJob}
 use Rattle.ff_words.specs.declared.job.Command.{Command}
-use Rattle.ff_words.specs.declared.job.Command.TheVariants.{Run, SelfRun}
+use Rattle.ff_words.specs.declared.job.Command.TheVariants as asked
+use Rattle.ff_words.specs.declared.job.Solo.{Solo}
 use Rattle.ff_words.specs.declared.error.Fault.{Fault}
 use Rattle.ff_words.specs.declared.error.WordError.{WordError}
 use Rattle.ff_words.specs.declared.error.WordError.TheVariants.{At, NoMemory}
@@ -26,7 +27,7 @@ use Rattle.ff_words.specs.Words.{AreRead, is_too_much, is_dashed}
 use Rattle.ff_words.specs.Words.{IsAnswer, end_by, is_output, takes_value, tokens, Token, written, fault, misplaced, bad_at, late, unwritable, cut_of}
 use Rattle.ff_words.specs.Words.{IsEntry, IsFaultAt, Entry, groups, last, each, first_place, not_before_input, not_before_output, not_at_end, or_else}
 use Rattle.ff_words.specs.Words.{unreadable, as_format, as_start, as_length, as_map, as_audio, as_video, as_vf, as_af, as_no_audio, as_no_video}
-use Rattle.ff_words.specs.Words.{as_shortest, as_hash, as_queue, as_trace, as_graph, as_self_run, inputs, outputs}
+use Rattle.ff_words.specs.Words.{as_shortest, as_hash, as_queue, as_trace, as_graph, as_solo, stands_alone, inputs, outputs}
 
 -- the options that wait for their file
 abbrev pub pending : List Entry → Pending
@@ -57,7 +58,7 @@ reader es =
     record {
       queue = unwrap_or (last as_queue es) 8;
       trace = last as_trace es;
-      self_run = last as_self_run es;
+      solo = last as_solo es;
       graphs = each as_graph es;
       inputs = inputs es;
       outputs = outputs es;
@@ -102,7 +103,7 @@ waiting e p = valued e.at e.value (noted e.at e.concern p)
 abbrev pub whole : Value → Reader → Reader
 whole (value.Queue n) r = record r { queue = n }
 whole (value.Trace name) r = record r { trace = Some name }
-whole (value.SelfRun n) r = record r { self_run = Some n }
+whole (value.Solo s) r = record r { solo = Some s }
 whole (value.Complex g) r = record r { graphs = r.graphs ++ g ∷ [] }
 whole _ r = r
 
@@ -201,17 +202,17 @@ pub record Stands (table : Table) (words : List (List ℕ)) (at : ℕ) (r : Read
 
 -- ---- the end
 
-abbrev pub command_of : Option ℕ → Reader → Command
-command_of (Some n) r = SelfRun n
-command_of None r = Run (record { queue = r.queue; trace = r.trace; graphs = r.graphs; inputs = r.inputs; outputs = r.outputs })
+abbrev pub command_of : Option Solo → Reader → Command
+command_of (Some s) r = asked.Solo s
+command_of None r = asked.Run (record { queue = r.queue; trace = r.trace; graphs = r.graphs; inputs = r.inputs; outputs = r.outputs })
 
 abbrev pub end_wrong : ℕ → Reader → Option Fault
 end_wrong count r =
-    if (count == 2) && is_some r.self_run then None else
-    misplaced r.pending.at_end (end_by count (command_of r.self_run r))
+    if stands_alone count r.solo then None else
+    misplaced r.pending.at_end (end_by count (command_of r.solo r))
 
 abbrev pub Ended : ℕ → Reader → Result Command WordError → Type 0
-Ended count r (Ok c) = (end_wrong count r ≡ None) × (c ≡ command_of r.self_run r)
+Ended count r (Ok c) = (end_wrong count r ≡ None) × (c ≡ command_of r.solo r)
 Ended count r (Err (At w k)) = end_wrong count r ≡ Some (fault w k)
 Ended count r (Err NoMemory) = Unit {0}
 

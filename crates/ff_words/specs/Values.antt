@@ -13,6 +13,7 @@ use Rattle.ff_map.specs.declared.map.MapSpec.{MapSpec}
 use Rattle.ff_map.specs.Grammar.{IsNumber, IsMap}
 use Rattle.ff_map.specs.Grammar as map_text
 use Rattle.ff_words.specs.declared.error.WordKind.{WordKind}
+use Rattle.ff_words.specs.declared.job.Solo.TheVariants.{Help, Version, SelfRun}
 use Rattle.ff_words.specs.declared.error.WordKind.TheVariants.{BadValue, BadTime, BadMap, BadGraph}
 use Rattle.ff_words.specs.declared.table.Named.{Named}
 use Rattle.ff_words.specs.declared.table.Table.{Table}
@@ -79,9 +80,12 @@ Makes {X} make Is r = (q : Result X WordKind) × Is q × (r ≡ made make q)
 -- what an option reads as that has no value
 abbrev pub switched : Kind → Option Value
 switched kind.Nothing = Some value.Nothing
+switched kind.NoStats = Some value.Nothing
 switched kind.NoVideo = Some value.NoVideo
 switched kind.NoAudio = Some value.NoAudio
 switched kind.Shortest = Some value.Shortest
+switched kind.Help = Some (value.Solo Help)
+switched kind.Version = Some (value.Solo Version)
 switched _ = None
 
 -- the value of a list that the text names
@@ -109,14 +113,17 @@ IsSmall _ = ⊥
 -- the text, as the value of an option of this kind, reads so
 abbrev pub Reads : Table → Kind → List ℕ → Result Value WordKind → Type 0
 Reads t kind.Nothing text r = ⊥
+Reads t kind.NoStats text r = ⊥
 Reads t kind.NoVideo text r = ⊥
 Reads t kind.NoAudio text r = ⊥
 Reads t kind.Shortest text r = ⊥
+Reads t kind.Help text r = ⊥
+Reads t kind.Version text r = ⊥
 Reads t kind.Level text r = r ≡ or_bad (value_named t kind.Level text)
 Reads t kind.Complex text r = Makes value.Complex (ReadsGraph text) r
 Reads t kind.Queue text r = Makes value.Queue (ReadsWhole 1 1024 text) r
 Reads t kind.Trace text r = r ≡ Ok (value.Trace text)
-Reads t kind.SelfRun text r = Makes value.SelfRun (ReadsWhole 0 3600 text) r
+Reads t kind.SelfRun text r = Makes (λ n. value.Solo (SelfRun n)) (ReadsWhole 0 3600 text) r
 Reads t kind.Format text r = r ≡ or_bad (value_named t kind.Format text)
 Reads t kind.Start text r = Makes value.Start (ReadsTime text) r
 Reads t kind.Length text r = Makes value.Length (ReadsTime text) r

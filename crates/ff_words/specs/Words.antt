@@ -21,7 +21,9 @@ use Rattle.ff_words.specs.declared.job.InputJob.{InputJob}
 use Rattle.ff_words.specs.declared.job.OutputJob.{OutputJob}
 use Rattle.ff_words.specs.declared.job.Job.{Job}
 use Rattle.ff_words.specs.declared.job.Command.{Command}
-use Rattle.ff_words.specs.declared.job.Command.TheVariants.{Run, SelfRun}
+use Rattle.ff_words.specs.declared.job.Command.TheVariants as asked
+use Rattle.ff_words.specs.declared.job.Solo.{Solo}
+use Rattle.ff_words.specs.declared.job.Solo.TheVariants.{Help, Version, SelfRun}
 use Rattle.ff_time.specs.declared.cut.TimeCut.{TimeCut}
 use Rattle.ff_words.specs.declared.value.Micros.{Micros}
 use Rattle.ff_words.specs.declared.table.Rule.{Rule}
@@ -181,9 +183,9 @@ abbrev pub as_graph : Value → Option Graph
 as_graph (value.Complex g) = Some g
 as_graph _ = None
 
-abbrev pub as_self_run : Value → Option ℕ
-as_self_run (value.SelfRun n) = Some n
-as_self_run _ = None
+abbrev pub as_solo : Value → Option Solo
+as_solo (value.Solo s) = Some s
+as_solo _ = None
 
 -- the cut from a start on, 0 where none is given, and of a length, where one is
 abbrev pub start_of : Option Micros → ℕ
@@ -265,12 +267,12 @@ job es =
       outputs = outputs es;
     }
 
-abbrev pub command_by : Option ℕ → List Entry → Command
-command_by (Some n) es = SelfRun n
-command_by None es = Run (job es)
+abbrev pub command_by : Option Solo → List Entry → Command
+command_by (Some s) es = asked.Solo s
+command_by None es = asked.Run (job es)
 
 abbrev pub command : List Entry → Command
-command es = command_by (last as_self_run es) es
+command es = command_by (last as_solo es) es
 
 -- ---- faults, each by itself
 
@@ -436,17 +438,24 @@ run_fault count j =
     (if same_name j then Some (fault count SameName) else None))
 
 abbrev pub end_by : ℕ → Command → Option Fault
-end_by count (SelfRun n) = None
-end_by count (Run j) = run_fault count j
+end_by count (asked.Solo s) = None
+end_by count (asked.Run j) = run_fault count j
 
--- `-selfrun` with its value stands alone
-abbrev pub stands_alone : ℕ → List Entry → Bool
-stands_alone count es = (count == 2) && is_some (last as_self_run es)
+-- how many words such an option is, with its value
+abbrev pub word_count : Solo → ℕ
+word_count Help = 1
+word_count Version = 1
+word_count (SelfRun n) = 2
+
+-- it is all of so many words
+abbrev pub stands_alone : ℕ → Option Solo → Bool
+stands_alone count None = false
+stands_alone count (Some s) = count == word_count s
 
 -- what is wrong at the end of so many words
 abbrev pub end_fault : ℕ → List Entry → Option Fault
 end_fault count es =
-    if stands_alone count es then None else
+    if stands_alone count (last as_solo es) then None else
     misplaced (first_place not_at_end (groups es).behind) (end_by count (command es))
 
 -- behind those that were read, some tokens are read, and the next is this fault

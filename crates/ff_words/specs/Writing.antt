@@ -21,7 +21,9 @@ use Rattle.ff_words.specs.declared.job.InputJob.{InputJob}
 use Rattle.ff_words.specs.declared.job.OutputJob.{OutputJob}
 use Rattle.ff_words.specs.declared.job.Job.{Job}
 use Rattle.ff_words.specs.declared.job.Command.{Command}
-use Rattle.ff_words.specs.declared.job.Command.TheVariants.{Run, SelfRun}
+use Rattle.ff_words.specs.declared.job.Command.TheVariants as asked
+use Rattle.ff_words.specs.declared.job.Solo.{Solo}
+use Rattle.ff_words.specs.declared.job.Solo.TheVariants.{Help, Version, SelfRun}
 use Rattle.ff_words.specs.Words.{is_dashed, same_name}
 
 -- ---- values
@@ -149,9 +151,14 @@ job_words j =
     []
     )
 
+abbrev pub solo_words : Solo → List (List ℕ)
+solo_words Help = codes "-h" ∷ []
+solo_words Version = codes "-version" ∷ []
+solo_words (SelfRun n) = given (codes "-selfrun") (decimal n)
+
 abbrev pub command_words : Command → List (List ℕ)
-command_words (Run j) = job_words j
-command_words (SelfRun n) = given (codes "-selfrun") (decimal n)
+command_words (asked.Run j) = job_words j
+command_words (asked.Solo s) = solo_words s
 
 -- ---- what words can ask for
 
@@ -225,6 +232,11 @@ pub record IsFineJob (j : Job) : Type 0 where
   pub outputs : AllByRecursion IsFineOutput j.outputs
   pub names : same_name j ≡ false
 
+abbrev pub IsFineSolo : Solo → Type 0
+IsFineSolo Help = Unit {0}
+IsFineSolo Version = Unit {0}
+IsFineSolo (SelfRun n) = n ≤ 3600
+
 abbrev pub IsFineCommand : Command → Type 0
-IsFineCommand (Run j) = IsFineJob j
-IsFineCommand (SelfRun n) = n ≤ 3600
+IsFineCommand (asked.Run j) = IsFineJob j
+IsFineCommand (asked.Solo s) = IsFineSolo s

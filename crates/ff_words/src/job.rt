@@ -54,10 +54,20 @@ pub struct Job {
     pub outputs: Sequence<OutputJob>,
 }
 
+/// What an option asks for that stands alone, with its value: it names no file.
+#[derive(Clone, Copy, Debug, PartialEq, Eq)]
+pub enum Solo {
+    /// How the command is used.
+    Help,
+    /// Which program it is.
+    Version,
+    /// The job over the generated input of so many seconds, 0 to 3,600.
+    SelfRun(u32),
+}
+
 /// What words ask for.
 #[derive(Debug, Drop)]
 pub enum Command {
     Run(Job),
-    /// The job over the generated input of so many seconds, 0 to 3,600.
-    SelfRun(u32),
+    Solo(Solo),
 }

@@ -5,6 +5,7 @@ ghost use Rattle.ff_words.specs.Words.{texts, IsAnswer};
 ghost use Rattle.ff_words.specs.declared.error.Fault.{Fault};
 ghost use Rattle.ff_words.specs.declared.job.Command.{Command};
 ghost use Rattle.ff_words.specs.declared.job.Job.{Job};
+ghost use Rattle.ff_words.specs.declared.job.Solo.TheVariants.{SelfRun};
 
 use crate::error::WordError;
 use crate::job::Command;
@@ -21,7 +22,7 @@ pub fn read_words(alloc: Global, words: &[String]) -> Result<Command, WordError>
         → IsErrOf result (as_error f) ⊎ IsErrOf result WordError.NoMemory }
     ensures bounded { (job : Job) → result ≡ Ok (Command.Run job) → IsBounded job }
     ensures plain { (job : Job) → result ≡ Ok (Command.Run job) → IsPlain job }
-    ensures no_self_run { (seconds : ℕ) → result ≡ Ok (Command.SelfRun seconds) → ⊥ }
+    ensures no_self_run { (seconds : ℕ) → result ≡ Ok (Command.Solo (SelfRun seconds)) → ⊥ }
 {
     read_words_by(alloc, Table::Today, words)
 }

@@ -5,6 +5,7 @@ ghost use Rattle.ff_map.specs.Grammar.{IsNumber};
 ghost use Rattle.ff_words.specs.Values.{Reads, ReadsGraph, ReadsTime, ReadsMap, ReadsWhole, hash_value, is_spelled, switched, value_named, IsSmall};
 
 use crate::error::WordKind;
+use crate::job::Solo;
 use crate::table::{Kind, Table, audio_codec, format_of, is_level, video_codec};
 use crate::value::{Micros, Value};
 use ff_lang::{Graph, LangError, Text, read_graph};
@@ -185,7 +186,7 @@ fn read_small(table: Table, kind: Kind, text: &str) -> Result<Value, WordKind>
             Err(kind) => Err(kind),
         },
         Kind::SelfRun => match whole_of(text, 0, 3600) {
-            Ok(seconds) => Ok(Value::SelfRun(seconds)),
+            Ok(seconds) => Ok(Value::Solo(Solo::SelfRun(seconds))),
             Err(kind) => Err(kind),
         },
         kind => named_value(table, kind, text).ok_or(WordKind::BadValue),

@@ -4,7 +4,7 @@ ghost use Rattle.ff_words.specs.Reading.{Ended, written_names, word_at, Steps, t
 ghost use Rattle.ff_words.specs.Reading.{output_wrong as wrong_output, input_wrong as wrong_input, with_input, Taken, pending, reader, noted, valued};
 ghost use Rattle.ff_words.specs.Reading.{optioned, place_unless};
 ghost use Rattle.ff_words.specs.Words.{repeats, texts, is_too_much as never_too_much, is_dashed as dashed, Entry};
-ghost use Rattle.ff_words.specs.Words.{not_before_input as never_before_input, not_before_output as never_before_output, not_at_end as never_at_end};
+ghost use Rattle.ff_words.specs.Words.{not_before_input as never_before_input, not_before_output as never_before_output, not_at_end as never_at_end, word_count};
 ghost use Rattle.ff_words.specs.Values.{switched};
 ghost use Rattle.std.specs.Prelude.{map, drop, option_to_list, ◌||◌};
 ghost use Rattle.std.specs.List.{list_any};
@@ -14,7 +14,7 @@ ghost use Rattle.ff_words.specs.declared.job.OutputJob.{OutputJob};
 
 use crate::cuts::cut;
 use crate::error::{Fault, WordError, WordKind};
-use crate::job::{Command, FileFormat, InputJob, Job, OutputJob};
+use crate::job::{Command, FileFormat, InputJob, Job, OutputJob, Solo};
 use crate::read_value::{read_value, text_of};
 use crate::table::{Concern, Kind, Rule, Table, find_option, format_ending};
 use crate::value::{Micros, Value};
@@ -56,7 +56,7 @@ pub(crate) struct Pending {
 pub(crate) struct Reader {
     queue: u32,
     trace: Option<Text>,
-    self_run: Option<u32>,
+    solo: Option<Solo>,
     graphs: Sequence<Graph>,
     inputs: Sequence<InputJob>,
     outputs: Sequence<OutputJob>,
@@ -177,7 +177,7 @@ impl Reader {
         Reader {
             queue: 8,
             trace: None,
-            self_run: None,
+            solo: None,
             graphs: Sequence::new(alloc),
             inputs: Sequence::new(alloc),
             outputs: Sequence::new(alloc),
@@ -194,7 +194,7 @@ impl Reader {
         match value {
             Value::Queue(size) => self.queue = size,
             Value::Trace(name) => self.trace = Some(name),
-            Value::SelfRun(seconds) => self.self_run = Some(seconds),
+            Value::Solo(solo) => self.solo = Some(solo),
             Value::Complex(graph) => self.graphs.push(graph)?,
             value => self.pending.set(at, value)?,
         }
@@ -490,9 +490,9 @@ impl Reader {
         requires { count ≤ 1025 }
         ensures { Ended count self result }
     {
-        if count == 2 {
-            if let Some(seconds) = self.self_run {
-                return Ok(Command::SelfRun(seconds));
+        if let Some(solo) = self.solo {
+            if count == word_count_of(solo) {
+                return Ok(Command::Solo(solo));
             }
         }
         if let Some(word) = self.pending.at_end {
@@ -501,8 +501,8 @@ impl Reader {
                 kind: WordKind::Misplaced,
             });
         }
-        if let Some(seconds) = self.self_run {
-            return Ok(Command::SelfRun(seconds));
+        if let Some(solo) = self.solo {
+            return Ok(Command::Solo(solo));
         }
         if self.inputs.as_slice().len() == 0 {
             return Err(WordError::At {
@@ -529,6 +529,16 @@ impl Reader {
             inputs: self.inputs,
             outputs: self.outputs,
         }))
+    }
+}
+
+// How many words such an option is, with its value.
+fn word_count_of(solo: Solo) -> usize
+    ensures { result ≡ word_count solo }
+{
+    match solo {
+        Solo::Help | Solo::Version => 1,
+        Solo::SelfRun(_) => 2,
     }
 }
 
@@ -601,10 +611,12 @@ fn valueless(kind: Kind) -> Option<Value>
     ensures { result ≡ switched kind }
 {
     match kind {
-        Kind::Nothing => Some(Value::Nothing),
+        Kind::Nothing | Kind::NoStats => Some(Value::Nothing),
         Kind::NoVideo => Some(Value::NoVideo),
         Kind::NoAudio => Some(Value::NoAudio),
         Kind::Shortest => Some(Value::Shortest),
+        Kind::Help => Some(Value::Solo(Solo::Help)),
+        Kind::Version => Some(Value::Solo(Solo::Version)),
         _ => None,
     }
 }

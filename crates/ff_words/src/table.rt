@@ -32,14 +32,20 @@ pub enum Concern {
     Itself,
 }
 
-/// Which kind of value an option has; the first four have none.
+/// Which kind of value an option has; the first seven have none.
 #[derive(Clone, Copy, Debug, PartialEq, Eq)]
 pub enum Kind {
     /// It is read and has no effect.
     Nothing,
+    /// Nothing on standard error says how far the run is; the job is the same.
+    NoStats,
     NoVideo,
     NoAudio,
     Shortest,
+    /// How the command is used is asked for.
+    Help,
+    /// Which program it is is asked for.
+    Version,
     /// How much is logged, which has no effect.
     Level,
     /// A filtergraph over several streams.
@@ -91,17 +97,19 @@ pub struct Named {
 }
 
 /// Each option, whom it concerns, its kind of value, and whether the command does it today.
-pub static OPTIONS: [(&'static str, Concern, Kind, bool); 30] = [
+pub static OPTIONS: [(&'static str, Concern, Kind, bool); 32] = [
     ("-y", Concern::All, Kind::Nothing, true),
     ("-hide_banner", Concern::All, Kind::Nothing, true),
     ("-nostdin", Concern::All, Kind::Nothing, true),
-    ("-nostats", Concern::All, Kind::Nothing, true),
+    ("-nostats", Concern::All, Kind::NoStats, true),
     ("-loglevel", Concern::All, Kind::Level, true),
     ("-v", Concern::All, Kind::Level, true),
     ("-filter_complex", Concern::All, Kind::Complex, true),
     ("-lavfi", Concern::All, Kind::Complex, true),
     ("-thread_queue_size", Concern::All, Kind::Queue, true),
     ("-sched_trace", Concern::All, Kind::Trace, true),
+    ("-h", Concern::Alone, Kind::Help, true),
+    ("-version", Concern::Alone, Kind::Version, true),
     ("-selfrun", Concern::Alone, Kind::SelfRun, false),
     ("-f", Concern::File, Kind::Format, true),
     ("-ss", Concern::File, Kind::Start, false),

@@ -1,6 +1,6 @@
 ghost use Rattle.std.specs.Prelude.{◌≤◌, ◌^◌};
 
-use crate::job::FileFormat;
+use crate::job::{FileFormat, Solo};
 use ff_lang::{Graph, Text};
 use ff_map::MapSpec;
 use ff_values::{Codec, HashKind};
@@ -23,7 +23,7 @@ pub enum Value {
     Complex(Graph),
     Queue(u32),
     Trace(Text),
-    SelfRun(u32),
+    Solo(Solo),
     /// A format, and whether an input and an output may have it.
     Format {
         format: FileFormat,

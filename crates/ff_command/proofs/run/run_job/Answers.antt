@@ -1,4 +1,4 @@
-use Rattle.std.proofs.Common.{◌≡◌, ℕ, List, length, sym, ap, ◌∙◌, subst, arith}
+use Rattle.std.proofs.Common.{◌≡◌, length, sym, ap, ◌∙◌, subst}
 use Rattle.ff_files.specs.Counts.{Counts}
 use Rattle.ff_files.specs.Names.{names_of, AreApart, KeepsAllBut}
 use Rattle.ff_files.specs.Works.{HoldTrace, AreHeadsIn, told_bytes}

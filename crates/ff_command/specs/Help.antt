@@ -1,0 +1,132 @@
+-- What is told of the command itself: the texts that `-h` and `-version` ask for.
+use Rattle.std.specs.Prelude.{ℕ, ◌-◌, Bool, true, false, ◌||◌, if◌then◌else◌, List, [], ◌∷◌, ◌++◌, length, map, replicate, codes}
+use Rattle.ff_lists.specs.Text.{line}
+use Rattle.ff_values.specs.declared.head.Codec.{Codec}
+use Rattle.ff_words.specs.declared.job.FileFormat.{FileFormat}
+use Rattle.ff_words.specs.declared.job.Solo.{Solo}
+use Rattle.ff_words.specs.declared.job.Solo.TheVariants.{Help, Version, SelfRun}
+use Rattle.ff_words.specs.declared.table.Concern.{Concern}
+use Rattle.ff_words.specs.declared.table.Concern.TheVariants as concern
+use Rattle.ff_words.specs.declared.table.Doing.{Doing}
+use Rattle.ff_words.specs.declared.table.Kind.{Kind}
+use Rattle.ff_words.specs.declared.table.Kind.TheVariants as kind
+use Rattle.ff_words.specs.declared.table.Table.TheVariants.{Today}
+use Rattle.ff_words.specs.declared.table.TheConstants.{OPTIONS, FORMATS, AUDIO_CODECS, VIDEO_CODECS}
+use Rattle.ff_words.specs.Table.{does}
+use Rattle.ff_command.specs.declared.help.TheConstants.{USAGE, ENDS, PROGRAM}
+
+-- a text at the left of so many places, before blanks
+abbrev pub left : ℕ → List ℕ → List ℕ
+left width text = text ++ replicate (width - length text) 32
+
+-- lines one below the other
+abbrev pub all_lines : List (List ℕ) → List ℕ
+all_lines [] = []
+all_lines (text ∷ list) = line text ++ all_lines list
+
+-- ---- options
+
+-- whom an option concerns
+abbrev pub concerned : Concern → List ℕ
+concerned concern.All = codes "all"
+concerned concern.Alone = codes "alone"
+concerned concern.File = codes "file"
+concerned concern.Output = codes "output"
+concerned concern.Itself = codes "input"
+
+-- what stands behind an option of this kind
+abbrev pub taken : Kind → List ℕ
+taken kind.Level = codes " LEVEL"
+taken kind.Complex = codes " GRAPH"
+taken kind.Queue = codes " SIZE"
+taken kind.Trace = codes " NAME"
+taken kind.SelfRun = codes " SECONDS"
+taken kind.Format = codes " FORMAT"
+taken kind.Start = codes " TIME"
+taken kind.Length = codes " TIME"
+taken kind.Input = codes " NAME"
+taken kind.Map = codes " MAP"
+taken kind.AudioCodec = codes " CODEC"
+taken kind.VideoCodec = codes " CODEC"
+taken kind.VideoGraph = codes " GRAPH"
+taken kind.AudioGraph = codes " GRAPH"
+taken kind.Hash = codes " DIGEST"
+taken _ = []
+
+-- what it does
+abbrev pub effect : Kind → List ℕ
+effect kind.Nothing = codes "no effect: outputs are always replaced, and nothing is asked"
+effect kind.NoStats = codes "no line on standard error says how far the run is"
+effect kind.Level = codes "no effect: quiet, panic, fatal, error, warning, info, verbose or debug"
+effect kind.Complex = codes "a filtergraph over several streams"
+effect kind.Queue = codes "the size of every queue, 1 to 1024 items; 8 without it"
+effect kind.Trace = codes "the file that gets the scheduler's history"
+effect kind.Help = codes "this text"
+effect kind.Version = codes "which program this is"
+effect kind.SelfRun = codes "the job over 0 to 3600 seconds of generated input"
+effect kind.Format = codes "the format of the file"
+effect kind.Start = codes "where the cut starts"
+effect kind.Length = codes "how long the cut is"
+effect kind.Input = codes "an input, which the options before it concern"
+effect kind.Map = codes "streams: F, F:N, F:v, F:a, F:v:N or F:a:N, with ? where they may lack"
+effect kind.AudioCodec = codes "how sound is coded"
+effect kind.VideoCodec = codes "how pictures are coded"
+effect kind.VideoGraph = codes "a filtergraph for each video stream by itself"
+effect kind.AudioGraph = codes "a filtergraph for each audio stream by itself"
+effect kind.NoVideo = codes "no video from the inputs"
+effect kind.NoAudio = codes "no audio from the inputs"
+effect kind.Shortest = codes "all streams end where the shortest does"
+effect kind.Hash = codes "the digest of a framehash, SHA256 or MD5; SHA256 without it"
+
+-- the line of an option
+abbrev pub option_line : List ℕ → Concern → Kind → List ℕ
+option_line name c k = line (left 26 (codes "  " ++ name ++ taken k) ++ left 8 (concerned c) ++ effect k)
+
+-- the lines of those that are done
+abbrev pub option_lines : List (List ℕ × Concern × Kind × Bool) → List ℕ
+option_lines [] = []
+option_lines (l ∷ list) = if l.3 then option_line l.0 l.1 l.2 ++ option_lines list else option_lines list
+
+-- ---- formats and codecs
+
+abbrev pub ways : Bool → Bool → List ℕ
+ways true true = codes "read, written"
+ways true false = codes "read"
+ways false written = codes "written"
+
+-- the line of a format that is read or written
+abbrev pub format_line : List ℕ → Bool → Bool → List ℕ
+format_line name read written = line (left 26 (codes "  " ++ name) ++ ways read written)
+
+abbrev pub format_lines : List (List ℕ × List ℕ × FileFormat × Doing × Doing) → List ℕ
+format_lines [] = []
+format_lines (l ∷ list) =
+    if does Today l.3 || does Today l.4 then format_line l.0 (does Today l.3) (does Today l.4) ++ format_lines list else format_lines list
+
+-- the lines of the codecs that are done
+abbrev pub codec_lines : List (List ℕ × Codec × Bool) → List ℕ
+codec_lines [] = []
+codec_lines (l ∷ list) = if l.2 then line (codes "  " ++ l.0) ++ codec_lines list else codec_lines list
+
+-- ---- the texts
+
+unfoldable pub help_text : List ℕ
+help_text =
+    all_lines (map (λ l. l.now) USAGE)
+    ++ option_lines (map (λ l. (l.0.now, l.1, l.2, l.3)) OPTIONS)
+    ++ line (codes "Formats:")
+    ++ format_lines (map (λ l. (l.0.now, l.1.now, l.2, l.3, l.4)) FORMATS)
+    ++ line (codes "Codecs of sound:")
+    ++ codec_lines (map (λ l. (l.0.now, l.1, l.2)) AUDIO_CODECS)
+    ++ line (codes "Codecs of pictures:")
+    ++ codec_lines (map (λ l. (l.0.now, l.1, l.2)) VIDEO_CODECS)
+    ++ all_lines (map (λ l. l.now) ENDS)
+
+unfoldable pub version_text : List ℕ
+version_text = all_lines (map (λ l. l.now) PROGRAM)
+
+-- what is told where the option stands alone; the generated run isn't done yet
+abbrev pub solo_text : Solo → List ℕ
+solo_text Help = help_text
+solo_text Version = version_text
+solo_text (SelfRun n) = []

@@ -1,0 +1,291 @@
+// What is told of the command itself, from the lists by which its words are read.
+ghost use Rattle.std.specs.Prelude.{◌≡◌, ◌++◌, OnOk, IfOk, ℕ, codes};
+ghost use Rattle.ff_lists.specs.Text.{line};
+ghost use Rattle.ff_words.specs.Table.{does, lines, formats, codecs, names};
+ghost use Rattle.ff_words.specs.declared.job.Solo.TheVariants.{SelfRun};
+ghost use Rattle.ff_words.specs.declared.table.Table.TheVariants.{Today};
+ghost use Rattle.ff_command.specs.Help.{left, all_lines, concerned, taken, effect as effect_of, option_line, option_lines, ways, format_line, format_lines};
+ghost use Rattle.ff_command.specs.Help.{codec_lines, help_text, version_text, solo_text as told_of};
+
+use ff_values::Codec;
+use ff_words::{
+    AUDIO_CODECS, Concern, Doing, FORMATS, FileFormat, Kind, OPTIONS, Solo, VIDEO_CODECS,
+};
+use std::alloc::{AllocError, Global};
+
+/// What stands before the options.
+pub static USAGE: [&'static str; 4] = [
+    "ffmpeg [options] {[options of an input] -i INPUT} .. {[options of an output] OUTPUT} ..",
+    "",
+    "Options, and what each concerns: all of the command, the file or the output behind it,",
+    "an input itself; or it stands alone:",
+];
+
+/// What stands behind the codecs.
+pub static ENDS: [&'static str; 11] = [
+    "Filters: none yet",
+    "Statuses, each but 0 with a line that names its cause:",
+    "  0  all was done",
+    "  1  the words ask for nothing",
+    "  2  there is no plan for the words and the inputs",
+    "  3  a file couldn't be opened, read, created, written or closed",
+    "  4  an input breaks its format",
+    "  5  a stream has more packets than it may have, or lasts too long",
+    "  6  an input isn't of a kind that is read",
+    "  7  an output passes the greatest size of its format",
+    "  9  memory ran out",
+];
+
+/// The name, what it is proved with, and the profile.
+pub static PROGRAM: [&'static str; 3] = [
+    "zofimanga: an ffmpeg whose bytes are proved",
+    "proved with rattle-kit-13f logic dac8208d650f15bf",
+    "profile zofimanga of ffmpeg 7: WAV, YUV4MPEG2, FLAC and framehash",
+];
+
+fn concern_text(concern: Concern) -> &'static str
+    ensures { result.now ≡ concerned concern }
+{
+    match concern {
+        Concern::All => "all",
+        Concern::Alone => "alone",
+        Concern::File => "file",
+        Concern::Output => "output",
+        Concern::Itself => "input",
+    }
+}
+
+fn value_text(kind: Kind) -> &'static str
+    ensures { result.now ≡ taken kind }
+{
+    match kind {
+        Kind::Level => " LEVEL",
+        Kind::Complex | Kind::VideoGraph | Kind::AudioGraph => " GRAPH",
+        Kind::Queue => " SIZE",
+        Kind::Trace | Kind::Input => " NAME",
+        Kind::SelfRun => " SECONDS",
+        Kind::Format => " FORMAT",
+        Kind::Start | Kind::Length => " TIME",
+        Kind::Map => " MAP",
+        Kind::AudioCodec | Kind::VideoCodec => " CODEC",
+        Kind::Hash => " DIGEST",
+        _ => "",
+    }
+}
+
+fn effect(kind: Kind) -> &'static str
+    ensures { result.now ≡ effect_of kind }
+{
+    match kind {
+        Kind::Nothing => "no effect: outputs are always replaced, and nothing is asked",
+        Kind::NoStats => "no line on standard error says how far the run is",
+        Kind::Level => "no effect: quiet, panic, fatal, error, warning, info, verbose or debug",
+        Kind::Complex => "a filtergraph over several streams",
+        Kind::Queue => "the size of every queue, 1 to 1024 items; 8 without it",
+        Kind::Trace => "the file that gets the scheduler's history",
+        Kind::Help => "this text",
+        Kind::Version => "which program this is",
+        Kind::SelfRun => "the job over 0 to 3600 seconds of generated input",
+        Kind::Format => "the format of the file",
+        Kind::Start => "where the cut starts",
+        Kind::Length => "how long the cut is",
+        Kind::Input => "an input, which the options before it concern",
+        Kind::Map => "streams: F, F:N, F:v, F:a, F:v:N or F:a:N, with ? where they may lack",
+        Kind::AudioCodec => "how sound is coded",
+        Kind::VideoCodec => "how pictures are coded",
+        Kind::VideoGraph => "a filtergraph for each video stream by itself",
+        Kind::AudioGraph => "a filtergraph for each audio stream by itself",
+        Kind::NoVideo => "no video from the inputs",
+        Kind::NoAudio => "no audio from the inputs",
+        Kind::Shortest => "all streams end where the shortest does",
+        Kind::Hash => "the digest of a framehash, SHA256 or MD5; SHA256 without it",
+    }
+}
+
+fn way_text(read: bool, written: bool) -> &'static str
+    ensures { result.now ≡ ways read written }
+{
+    if !read {
+        "written"
+    } else if written {
+        "read, written"
+    } else {
+        "read"
+    }
+}
+
+fn is_done(doing: Doing) -> bool
+    ensures { result ≡ does Today doing }
+{
+    match doing {
+        Doing::Today => true,
+        _ => false,
+    }
+}
+
+fn push(out: &mut Vec<u8>, text: &str) -> Result<(), AllocError>
+    ensures { OnOk result (out.new.items ≡ out.old.items ++ text.now) }
+{
+    out.extend_from_slice(text.as_bytes())
+}
+
+// A text before blanks that fill so many places.
+fn push_left(alloc: Global, out: &mut Vec<u8>, width: usize, text: &[u8]) -> Result<(), AllocError>
+    ensures { OnOk result (out.new.items ≡ out.old.items ++ left width text.now) }
+{
+    let blanks = vec![in alloc; b' '; width.saturating_sub(text.len())]?;
+    out.extend_from_slice(text)?;
+    out.extend_from_slice(&blanks)
+}
+
+// What stands at the left of a line.
+fn head_of(alloc: Global, name: &str, behind: &str) -> Result<Vec<u8>, AllocError>
+    ensures { IfOk result (λ text. text.items ≡ codes "  " ++ name.now ++ behind.now) }
+{
+    let head = format!(in alloc; "  {name}{behind}")?;
+    Ok(head.into_bytes())
+}
+
+fn indented(alloc: Global, name: &str) -> Result<Vec<u8>, AllocError>
+    ensures { IfOk result (λ text. text.items ≡ codes "  " ++ name.now) }
+{
+    let head = format!(in alloc; "  {name}")?;
+    Ok(head.into_bytes())
+}
+
+fn push_line(out: &mut Vec<u8>, text: &str) -> Result<(), AllocError>
+    ensures { OnOk result (out.new.items ≡ out.old.items ++ line text.now) }
+{
+    push(out, text)?;
+    push(out, "\n")
+}
+
+fn push_option(
+    alloc: Global,
+    out: &mut Vec<u8>,
+    name: &str,
+    concern: Concern,
+    kind: Kind,
+) -> Result<(), AllocError>
+    ensures { OnOk result (out.new.items ≡ out.old.items ++ option_line name.now concern kind) }
+{
+    let head = head_of(alloc, name, value_text(kind))?;
+    push_left(alloc, out, 26, &head)?;
+    push_left(alloc, out, 8, concern_text(concern).as_bytes())?;
+    push_line(out, effect(kind))
+}
+
+fn push_format(
+    alloc: Global,
+    out: &mut Vec<u8>,
+    name: &str,
+    read: bool,
+    written: bool,
+) -> Result<(), AllocError>
+    ensures { OnOk result (out.new.items ≡ out.old.items ++ format_line name.now read written) }
+{
+    let head = indented(alloc, name)?;
+    push_left(alloc, out, 26, &head)?;
+    push_line(out, way_text(read, written))
+}
+
+fn push_codec(alloc: Global, out: &mut Vec<u8>, name: &str) -> Result<(), AllocError>
+    ensures { OnOk result (out.new.items ≡ out.old.items ++ line (codes "  " ++ name.now)) }
+{
+    push(out, "  ")?;
+    push_line(out, name)
+}
+
+fn push_lines(out: &mut Vec<u8>, list: &[&'static str]) -> Result<(), AllocError>
+    ensures { OnOk result (out.new.items ≡ out.old.items ++ all_lines (names list.now)) }
+{
+    for text in list.iter() {
+        push_line(out, text)?;
+    }
+    Ok(())
+}
+
+fn push_options(
+    alloc: Global,
+    out: &mut Vec<u8>,
+    list: &[(&'static str, Concern, Kind, bool)],
+) -> Result<(), AllocError>
+    ensures { OnOk result (out.new.items ≡ out.old.items ++ option_lines (lines list.now)) }
+{
+    for (name, concern, kind, done) in list.iter() {
+        if *done {
+            push_option(alloc, out, name, *concern, *kind)?;
+        }
+    }
+    Ok(())
+}
+
+fn push_formats(
+    alloc: Global,
+    out: &mut Vec<u8>,
+    list: &[(&'static str, &'static str, FileFormat, Doing, Doing)],
+) -> Result<(), AllocError>
+    ensures { OnOk result (out.new.items ≡ out.old.items ++ format_lines (formats list.now)) }
+{
+    for (name, _ending, _format, reading, writing) in list.iter() {
+        let read = is_done(*reading);
+        let written = is_done(*writing);
+        if read || written {
+            push_format(alloc, out, name, read, written)?;
+        }
+    }
+    Ok(())
+}
+
+fn push_codecs(
+    alloc: Global,
+    out: &mut Vec<u8>,
+    list: &[(&'static str, Codec, bool)],
+) -> Result<(), AllocError>
+    ensures { OnOk result (out.new.items ≡ out.old.items ++ codec_lines (codecs list.now)) }
+{
+    for (name, _codec, done) in list.iter() {
+        if *done {
+            push_codec(alloc, out, name)?;
+        }
+    }
+    Ok(())
+}
+
+#[tactic(auto, unfolding(crate::specs::Help::help_text))]
+fn help(alloc: Global) -> Result<Vec<u8>, AllocError>
+    ensures { IfOk result (λ text. text.items ≡ help_text) }
+{
+    let mut out = Vec::new(alloc);
+    push_lines(&mut out, &USAGE)?;
+    push_options(alloc, &mut out, &OPTIONS)?;
+    push_line(&mut out, "Formats:")?;
+    push_formats(alloc, &mut out, &FORMATS)?;
+    push_line(&mut out, "Codecs of sound:")?;
+    push_codecs(alloc, &mut out, &AUDIO_CODECS)?;
+    push_line(&mut out, "Codecs of pictures:")?;
+    push_codecs(alloc, &mut out, &VIDEO_CODECS)?;
+    push_lines(&mut out, &ENDS)?;
+    Ok(out)
+}
+
+#[tactic(auto, unfolding(crate::specs::Help::version_text))]
+fn version(alloc: Global) -> Result<Vec<u8>, AllocError>
+    ensures { IfOk result (λ text. text.items ≡ version_text) }
+{
+    let mut out = Vec::new(alloc);
+    push_lines(&mut out, &PROGRAM)?;
+    Ok(out)
+}
+
+/// What is told where an option stands alone that only asks for a text.
+pub(crate) fn solo_text(alloc: Global, solo: Solo) -> Result<Vec<u8>, AllocError>
+    requires { (seconds : ℕ) → solo ≡ SelfRun seconds → ⊥ }
+    ensures { IfOk result (λ text. text.items ≡ told_of solo) }
+{
+    match solo {
+        Solo::Help => help(alloc),
+        Solo::Version => version(alloc),
+        Solo::SelfRun(_) => unreachable!(),
+    }
+}
