@@ -1,11 +1,11 @@
-use Rattle.std.proofs.Common.{◌≡◌, ℕ, suc, ◌+◌, ◌-◌, ◌*◌, ◌^◌, ◌<◌, ◌≤◌, min, Bool, true, false, ltb, leb, cond, ℤ, List, [], ◌∷◌, ◌++◌, length, map, take, Option, Some, None, refl, sym, ap, ◌∙◌, subst, arith}
+use Rattle.std.proofs.Common.{◌≡◌, ℕ, suc, ◌+◌, ◌-◌, ◌*◌, ◌^◌, ◌<◌, ◌≤◌, min, Bool, true, false, ltb, leb, cond, ℤ, List, [], ◌∷◌, ◌++◌, length, get_or, map, take, Option, Some, None, refl, sym, ap, ◌∙◌, subst, arith, inl, inr}
 use Rattle.std.specs.Option.{option_map, IfSome}
 use Rattle.std.specs.List.{flat_map, filter, range_with_len, All, AllByRecursion}
-use Rattle.std.proofs.lemmas.List.{length-append, length-take, length-map, append_assoc, append-nil}
+use Rattle.std.proofs.lemmas.List.{length-append, length-take, length-map, append_assoc, append-nil, get_or_append_left, get_or_push}
 use Rattle.std.proofs.lemmas.List.Concat.{flat_map-append}
 use Rattle.std.proofs.lemmas.List.Elements.{filter-append, All-weaker, All-same}
 use Rattle.std.proofs.Math.Nat.{pow-suc, pow-le-pow_right}
-use Rattle.std.proofs.lemmas.Bool.{lt-ltb, le-ltb}
+use Rattle.std.proofs.lemmas.Bool.{lt-ltb, le-ltb, cases_lt}
 use Rattle.ff_bits.specs.Bits.{bits_of}
 use Rattle.ff_bits.proofs.BitsLemmas.{length-bits_of}
 use Rattle.ff_flac_sub.specs.declared.subframe.Planned.{Planned}
@@ -16,7 +16,8 @@ use Rattle.ff_values.specs.Audio.{FitsBits}
 use Rattle.ff_flac_sub.specs.Subframe.{Spelling, magnitude, steps, subframe_bits, sample_bits, rest_of, fixed_of, predictors, candidates, all_are, first_or_zero}
 use Rattle.ff_flac_sub.specs.Subframe.Spelling.{constant, fixed, verbatim}
 use Rattle.ff_flac_sub.specs.Plan.{spelling_of, size, IsBestPlan, PlanFits, constants}
-use Rattle.ff_flac_rice.proofs.LeastLemmas.{choose_first, least-append, least-map, least-same, least-shift, least_holds, least_one, least-nil, choose-map, range_more}
+use Rattle.ff_flac_sub.specs.Leads.{so_far, IsFloor, Leads}
+use Rattle.ff_flac_rice.proofs.LeastLemmas.{choose_first, choose_second, choose_assoc, least-append, least-map, least-same, least-shift, least_holds, least_one, least-nil, choose-map, range_more}
 use Rattle.ff_flac_rice.proofs.Levels.{coding_cost}
 use Rattle.ff_flac_rice.proofs.Orders.{filter_all, filter_none, range_between, range_split}
 use Rattle.ff_flac_rice.proofs.RowLemmas.{range_below}
@@ -127,22 +128,20 @@ plan_stays depth xs cs ds best p e low h =
 
 -- as the codings of an order cost, so do its spellings
 all_fixed : (depth order low : ℕ) (xs : List ℤ) (cs : List Coding) → order ≤ length xs
-    → AllByRecursion (λ c. low ≤ 8 + depth * order + coding_cost order (map zigzagged (rest_of order xs)) c) cs → AllByRecursion (λ s. low ≤ size depth xs s) (map (fixed order) cs)
+    → AllByRecursion (λ c. low ≤ coding_cost order (map zigzagged (rest_of order xs)) c) cs → AllByRecursion (λ s. 8 + depth * order + low ≤ size depth xs s) (map (fixed order) cs)
 all_fixed depth order low xs [] h all = tt
 all_fixed depth order low xs (c ∷ cs) h all = (omega (arith, all.0, size-fixed depth order xs c h), all_fixed depth order low xs cs h all.1)
 
-pub passed_over : (depth order : ℕ) (xs : List ℤ) (us : List ℕ) (best : Option Planned) → order ≤ length xs → us ≡ map zigzagged (rest_of order xs)
-    → (p : Planned) × (best ≡ Some p) × AllByRecursion (λ c. p.cost ≤ 8 + depth * order + length (residual_bits order c us)) (codings (length us + order) order)
-    → (cs : List Spelling) → IsBestPlan depth xs cs best → IsBestPlan depth xs (cs ++ fixed_of (length xs) order) best
+pub floor_is : (depth order floor : ℕ) (xs : List ℤ) (us : List ℕ) → order ≤ length xs → us ≡ map zigzagged (rest_of order xs)
+    → AllByRecursion (λ c. floor ≤ length (residual_bits order c us)) (codings (length us + order) order) → IsFloor depth xs order (8 + depth * order + floor)
 unfolding fixed_of
-passed_over depth order xs us best h e found cs old =
+floor_is depth order floor xs us h e low =
     let n : length us + order ≡ length xs = omega (arith, ap length e, length-map (rest_of order xs) zigzagged, length-rest_of order xs, h) in
     let vs : List ℕ = map zigzagged (rest_of order xs) in
-    let low : ℕ = found.0.cost in
-    let all : AllByRecursion (λ c. low ≤ 8 + depth * order + coding_cost order vs c) (codings (length xs) order) =
-    subst (λ m. AllByRecursion (λ c. low ≤ 8 + depth * order + coding_cost order vs c) (codings m order)) n
-    (subst (λ l. AllByRecursion (λ c. low ≤ 8 + depth * order + coding_cost order l c) (codings (length us + order) order)) e found.2) in
-    plan_stays depth xs cs (map (fixed order) (codings (length xs) order)) best found.0 found.1 (all_fixed depth order low xs (codings (length xs) order) h all) old
+    let all : AllByRecursion (λ c. floor ≤ coding_cost order vs c) (codings (length xs) order) =
+    subst (λ m. AllByRecursion (λ c. floor ≤ coding_cost order vs c) (codings m order)) n
+    (subst (λ l. AllByRecursion (λ c. floor ≤ coding_cost order l c) (codings (length us + order) order)) e low) in
+    all_fixed depth order floor xs (codings (length xs) order) h all
 
 pub same_spellings : (depth : ℕ) (xs : List ℤ) (cs ds : List Spelling) (best : Option Planned) → cs ≡ ds → IsBestPlan depth xs cs best → IsBestPlan depth xs ds best
 same_spellings depth xs cs ds best e h = subst (λ l. IsBestPlan depth xs l best) e h
@@ -164,9 +163,6 @@ predictors-is n =
     ∙ ap (λ l. range_with_len 0 p ++ l) (filter_none t _ back)
     ∙ append-nil (range_with_len 0 p)
 
-abbrev pub so_far : List ℤ → ℕ → List Spelling
-so_far xs order = constants xs ++ flat_map (fixed_of (length xs)) (range_with_len 0 order)
-
 pub so_far-none : (xs : List ℤ) → so_far xs 0 ≡ constants xs
 so_far-none xs = append-nil (constants xs)
 
@@ -177,6 +173,114 @@ so_far-more xs order =
     ∙ ap (λ l. constants xs ++ (flat_map F (range_with_len 0 order) ++ l)) (sym (append-nil (F order)))
     ∙ ap (λ l. constants xs ++ l) (sym (flat_map-append F (range_with_len 0 order) (order ∷ [])))
     ∙ ap (λ l. constants xs ++ flat_map F l) (sym (range_more order))
+
+-- ---- where another order is known
+
+higher : (f : Spelling → ℕ) (d : Spelling) (o : Option Spelling) → IfSome o (λ b. f d < f b) → choose f o (Some d) ≡ Some d
+higher f d None h = refl
+higher f d (Some b) h = choose_second f b d h
+
+leads_start : (depth limit : ℕ) (xs : List ℤ) (cs : List Spelling) (best : Option Planned) → IsBestPlan depth xs cs best → Leads depth xs limit cs best
+leads_start depth limit xs cs best h = record {
+  leads = λ ds d e l. least-append (size depth xs) cs ds ∙ ap (λ o. choose (size depth xs) o (least (size depth xs) ds)) h.chosen
+      ∙ ap (choose (size depth xs) (option_map (λ p. spelling_of xs p.plan) best)) e;
+  cost = h.cost;
+  fits = h.fits;
+}
+
+pub leads_none : (depth limit : ℕ) (xs : List ℤ) (best : Option Planned) → IsBestPlan depth xs (constants xs) best → Leads depth xs limit (so_far xs 0) best
+leads_none depth limit xs best h = leads_start depth limit xs (so_far xs 0) best (subst (λ l. IsBestPlan depth xs l best) (sym (so_far-none xs)) h)
+
+all_above : (depth floor : ℕ) (xs : List ℤ) (d : Spelling) (es : List Spelling) → size depth xs d < floor → AllByRecursion (λ s. floor ≤ size depth xs s) es → AllByRecursion (λ s. size depth xs d < size depth xs s) es
+all_above depth floor xs d [] l h = tt
+all_above depth floor xs d (e ∷ es) l h = (omega (arith, l, h.0), all_above depth floor xs d es l h.1)
+
+-- an order all of whose spellings have more bits
+leads_past : (depth limit floor : ℕ) (xs : List ℤ) (cs es : List Spelling) (best : Option Planned) → limit < floor → AllByRecursion (λ s. floor ≤ size depth xs s) es
+    → Leads depth xs limit cs best → Leads depth xs limit (cs ++ es) best
+leads_past depth limit floor xs cs es best l all h =
+    let f : Spelling → ℕ = size depth xs in
+    record {
+      leads = λ ds d e few.
+          let above : AllByRecursion (λ s. f d < f s) es = all_above depth floor xs d es (omega (arith, l, few)) all in
+          let behind : least f (es ++ ds) ≡ Some d = least-append f es ds ∙ ap (choose f (least f es)) e ∙ higher f d (least f es) (least_holds (λ s. f d < f s) f es above) in
+          ap (least f) (append_assoc cs es ds) ∙ h.leads (es ++ ds) d behind few;
+      cost = h.cost;
+      fits = h.fits;
+    }
+
+-- the least of two that the rest leaves
+chosen_low : (f : Spelling → ℕ) (a d : Spelling) (limit : ℕ) → f d ≤ limit → (m : Spelling) × (choose f (Some a) (Some d) ≡ Some m) × (f m ≤ limit)
+chosen_low f a d limit l = elim (cases_lt (f d) (f a)) [
+  | inl lt ↦ (d, choose_second f a d lt, l)
+  | inr ge ↦ (a, choose_first f a d ge, omega (arith, ge, l))
+]
+
+-- an order that is searched
+leads_with : (depth limit : ℕ) (xs : List ℤ) (cs es : List Spelling) (best : Option Planned) (new result : Planned) → Leads depth xs limit cs best
+    → least (size depth xs) es ≡ Some (spelling_of xs new.plan) → new.cost ≡ size depth xs (spelling_of xs new.plan) → PlanFits xs new.plan
+    → choose (λ p. p.cost) best (Some new) ≡ Some result → Leads depth xs limit (cs ++ es) (Some result)
+leads_with depth limit xs cs es best new result h d c w r =
+    let g : Planned → Spelling = λ p. spelling_of xs p.plan in
+    let f : Spelling → ℕ = size depth xs in
+    let F : Planned → ℕ = λ p. f (g p) in
+    let both : choose f (option_map g best) (Some (g new)) ≡ Some (g result) = choose-map f g best (Some new) ∙ ap (option_map g) (choice_costs F best new h.cost c ∙ r) in
+    record {
+      leads = λ ds e is few.
+          let next = chosen_low f (g new) e limit few in
+          let behind : least f (es ++ ds) ≡ Some next.0 = least-append f es ds ∙ ap (λ o. choose f o (least f ds)) d ∙ ap (choose f (Some (g new))) is ∙ next.1 in
+          ap (least f) (append_assoc cs es ds) ∙ h.leads (es ++ ds) next.0 behind next.2
+          ∙ ap (choose f (option_map g best)) (sym next.1) ∙ sym (choose_assoc f (option_map g best) (Some (g new)) (Some e)) ∙ ap (λ o. choose f o (Some e)) both;
+      cost = subst (λ o. IfSome o (λ p. p.cost ≡ F p)) r (chosen_holds (λ p. p.cost ≡ F p) best new h.cost c);
+      fits = subst (λ o. IfSome o (λ p. PlanFits xs p.plan)) r (chosen_holds (λ p. PlanFits xs p.plan) best new h.fits w);
+    }
+
+pub leads_more : (depth limit order : ℕ) (xs : List ℤ) (best : Option Planned) (new result : Planned) → Leads depth xs limit (so_far xs order) best
+    → least (size depth xs) (fixed_of (length xs) order) ≡ Some (spelling_of xs new.plan) → new.cost ≡ size depth xs (spelling_of xs new.plan) → PlanFits xs new.plan
+    → choose (λ p. p.cost) best (Some new) ≡ Some result → Leads depth xs limit (so_far xs (order + 1)) (Some result)
+leads_more depth limit order xs best new result h d c w r =
+    subst (λ l. Leads depth xs limit l (Some result)) (so_far-more xs order) (leads_with depth limit xs (so_far xs order) (fixed_of (length xs) order) best new result h d c w r)
+
+pub leads_on : (depth limit order floor : ℕ) (xs : List ℤ) (best : Option Planned) → limit < floor → IsFloor depth xs order floor → Leads depth xs limit (so_far xs order) best
+    → Leads depth xs limit (so_far xs (order + 1)) best
+leads_on depth limit order floor xs best l all h =
+    subst (λ l. Leads depth xs limit l best) (so_far-more xs order) (leads_past depth limit floor xs (so_far xs order) (fixed_of (length xs) order) best l all h)
+
+-- one more floor
+pub one_floor : (depth : ℕ) (xs : List ℤ) (order : ℕ) (floors more : List ℕ) (floor : ℕ) → length floors ≡ order → more ≡ floors ++ (floor ∷ [])
+    → ((o : ℕ) → o < order → IsFloor depth xs o (get_or floors o 0)) → IsFloor depth xs order floor → (o : ℕ) → o < order + 1 → IsFloor depth xs o (get_or more o 0)
+one_floor depth xs order floors more floor n e h new o l = elim (cases_lt o order) [
+  | inl lt ↦
+      let same : get_or more o 0 ≡ get_or floors o 0 = ap (λ (m : List ℕ). get_or m o 0) e ∙ get_or_append_left floors (floor ∷ []) 0 o (omega (arith, lt, n)) in
+      subst (λ m. IsFloor depth xs o m) (sym same) (h o lt)
+  | inr ge ↦
+      let here : o ≡ length floors = omega (arith, ge, l, n) in
+      let at : order ≡ o = omega (arith, ge, l) in
+      let same : get_or more o 0 ≡ floor = ap (λ (m : List ℕ). get_or m o 0) e ∙ get_or_push floors floor 0 o (sym here) in
+      subst (λ m. IsFloor depth xs o m) (sym same) (subst (λ k. IsFloor depth xs k floor) at new)
+]
+
+-- behind the order that was known
+pub known_next : (depth order : ℕ) (xs : List ℤ) (best : Option Planned) (new result : Planned) → Leads depth xs new.cost (so_far xs order) best
+    → least (size depth xs) (fixed_of (length xs) order) ≡ Some (spelling_of xs new.plan) → new.cost ≡ size depth xs (spelling_of xs new.plan) → PlanFits xs new.plan
+    → choose (λ p. p.cost) best (Some new) ≡ Some result → IsBestPlan depth xs (so_far xs (order + 1)) (Some result)
+known_next depth order xs best new result h d c w r =
+    let g : Planned → Spelling = λ p. spelling_of xs p.plan in
+    let f : Spelling → ℕ = size depth xs in
+    let F : Planned → ℕ = λ p. f (g p) in
+    subst (λ l. IsBestPlan depth xs l (Some result)) (so_far-more xs order) (record {
+      chosen = h.leads (fixed_of (length xs) order) (g new) d (omega (arith, c)) ∙ choose-map f g best (Some new) ∙ ap (option_map g) (choice_costs F best new h.cost c ∙ r);
+      cost = subst (λ o. IfSome o (λ p. p.cost ≡ F p)) r (chosen_holds (λ p. p.cost ≡ F p) best new h.cost c);
+      fits = subst (λ o. IfSome o (λ p. PlanFits xs p.plan)) r (chosen_holds (λ p. PlanFits xs p.plan) best new h.fits w);
+    })
+
+lower_floor : (depth low floor : ℕ) (xs : List ℤ) (es : List Spelling) → low ≤ floor → AllByRecursion (λ s. floor ≤ size depth xs s) es → AllByRecursion (λ s. low ≤ size depth xs s) es
+lower_floor depth low floor xs [] l h = tt
+lower_floor depth low floor xs (e ∷ es) l h = (omega (arith, l, h.0), lower_floor depth low floor xs es l h.1)
+
+pub floor_stays : (depth order floor : ℕ) (xs : List ℤ) (p : Planned) → p.cost ≤ floor → IsFloor depth xs order floor
+    → (cs : List Spelling) → IsBestPlan depth xs cs (Some p) → IsBestPlan depth xs (cs ++ fixed_of (length xs) order) (Some p)
+floor_stays depth order floor xs p l all cs h = plan_stays depth xs cs (fixed_of (length xs) order) (Some p) p refl (lower_floor depth p.cost floor xs (fixed_of (length xs) order) l all) h
 
 pub so_far-all : (xs : List ℤ) (order : ℕ) → order ≡ min (length xs) 5 → so_far xs order ++ (verbatim ∷ []) ≡ candidates xs
 unfolding candidates

@@ -1,3 +1,4 @@
 pub mod Subframe
 pub mod Plan
+pub mod Leads
 pub mod Part

@@ -1,9 +1,8 @@
 //! The least spelling of a subframe.
 
-ghost use Rattle.std.specs.Prelude.{◌≡◌, ◌+◌, ◌-◌, ◌*◌, ◌^◌, ◌<◌, ◌≤◌, ◌++◌, List, length, map, IfOk, OnOk, All, Some, true, ℕ};
-ghost use Rattle.std.specs.List.{AllByRecursion};
-ghost use Rattle.ff_flac_rice.specs.Rice.{zigzagged, residual_bits, codings};
-ghost use Rattle.ff_flac_sub.specs.declared.subframe.Planned.{Planned};
+ghost use Rattle.std.specs.Prelude.{◌≡◌, ◌+◌, ◌-◌, ◌*◌, ◌^◌, ◌<◌, ◌≤◌, ◌++◌, List, length, map, slice_index, IfOk, OnOk, All, Some, ℕ};
+ghost use Rattle.ff_flac_rice.specs.Rice.{zigzagged};
+ghost use Rattle.ff_flac_sub.specs.Leads.{so_far, IsFloor, Leads};
 ghost use Rattle.ff_flac_rice.specs.Least.{choose, least};
 ghost use Rattle.ff_values.specs.Audio.{FitsBits};
 ghost use Rattle.ff_flac_sub.specs.Subframe.{magnitude, rest_of, subframe_bits, candidates, fixed_of, Spelling};
@@ -78,48 +77,167 @@ fn fixed_plan(
     })
 }
 
-/// Whether no spelling of one order has fewer bits than the best one before it.
-fn is_passed_over(best: Option<Planned>, us: &[u32], order: usize, depth: u32) -> bool
-    requires len { length us.now ≤ 4096 }
-    requires some { 0 < length us.now }
-    requires order { order ≤ 4 }
-    requires depth { depth ≤ 25 }
-    ensures { result ≡ true → (p : Planned) × (best ≡ Some p)
-        × AllByRecursion (λ c. p.cost ≤ 8 + depth * order + length (residual_bits order c us.now)) (codings (length us.now + order) order) }
-{
-    match best {
-        None => false,
-        Some(found) => found.cost <= 8 + depth as u64 * order as u64 + least_bits(us, order),
-    }
-}
-
-/// The best plan of those so far and of one order, by the residuals of that order.
-fn with_order(
+/// No spelling of one order has fewer bits, by the residuals of that order.
+fn floor_of(
     alloc: Global,
     samples: &[i32],
     rest: &[i32],
     order: usize,
     depth: u32,
-    best: Option<Planned>,
-) -> Result<Option<Planned>, AllocError>
+) -> Result<u64, AllocError>
     requires len { length samples.now ≤ 4096 }
     requires order { order ≤ 4 }
     requires longer { order < length samples.now }
     requires depth { depth ≤ 25 }
     requires is { rest.now ≡ rest_of order samples.now }
     requires small { All (λ x. magnitude x < 2 ^ 30) rest.now }
-    ensures { IfOk result (λ new. (spellings : List Spelling) → IsBestPlan depth samples.now spellings best
-        → IsBestPlan depth samples.now (spellings ++ fixed_of (length samples.now) order) new) }
+    ensures { IfOk result (IsFloor depth samples.now order) }
 {
     let us = zigzags_of(alloc, rest)?;
-    if is_passed_over(best, &us, order, depth) {
+    Ok(8 + depth as u64 * order as u64 + least_bits(&us, order))
+}
+
+/// The same of each of the first orders.
+fn floors_of(
+    alloc: Global,
+    samples: &[i32],
+    orders: usize,
+    depth: u32,
+) -> Result<Vec<u64>, AllocError>
+    requires len { length samples.now ≤ 4096 }
+    requires few { orders ≤ 5 }
+    requires there { orders ≤ length samples.now }
+    requires depth { depth ≤ 25 }
+    requires fits { All (FitsBits 25) samples.now }
+    ensures len { IfOk result (λ v. length v.items ≡ orders) }
+    ensures floors { IfOk result (λ v. (o : ℕ) → o < orders → IsFloor depth samples.now o (slice_index v.items o)) }
+{
+    let mut rest = Vec::from_slice(alloc, samples)?;
+    let mut floors = Vec::new(alloc);
+    for order in 0..orders {
+        let floor = floor_of(alloc, samples, &rest, order, depth)?;
+        floors.push(floor)?;
+        take_steps(&mut rest);
+    }
+    Ok(floors)
+}
+
+/// Where the least of some numbers stands.
+fn least_place(floors: &[u64]) -> usize
+    requires { 0 < length floors.now }
+    ensures { result < length floors.now }
+{
+    let mut least = 0;
+    for i in 1..floors.len() {
+        if floors[i] < floors[least] {
+            least = i;
+        }
+    }
+    least
+}
+
+/// The best plan of one order, by its residuals.
+fn plan_by_rest(
+    alloc: Global,
+    samples: &[i32],
+    rest: &[i32],
+    order: usize,
+    depth: u32,
+) -> Result<Planned, AllocError>
+    requires len { length samples.now ≤ 4096 }
+    requires order { order ≤ 4 }
+    requires longer { order < length samples.now }
+    requires depth { depth ≤ 25 }
+    requires is { rest.now ≡ rest_of order samples.now }
+    requires small { All (λ x. magnitude x < 2 ^ 30) rest.now }
+    ensures least { IfOk result (λ p. least (size depth samples.now) (fixed_of (length samples.now) order) ≡ Some (spelling_of samples.now p.plan)) }
+    ensures cost { IfOk result (λ p. p.cost ≡ size depth samples.now (spelling_of samples.now p.plan)) }
+    ensures fits { IfOk result (λ p. PlanFits samples.now p.plan) }
+{
+    let us = zigzags_of(alloc, rest)?;
+    fixed_plan(alloc, samples, &us, order, depth)
+}
+
+/// The best plan of one order.
+fn plan_by_order(
+    alloc: Global,
+    samples: &[i32],
+    order: usize,
+    depth: u32,
+) -> Result<Planned, AllocError>
+    requires len { length samples.now ≤ 4096 }
+    requires order { order ≤ 4 }
+    requires longer { order < length samples.now }
+    requires depth { depth ≤ 25 }
+    requires fits { All (FitsBits 25) samples.now }
+    ensures least { IfOk result (λ p. least (size depth samples.now) (fixed_of (length samples.now) order) ≡ Some (spelling_of samples.now p.plan)) }
+    ensures cost { IfOk result (λ p. p.cost ≡ size depth samples.now (spelling_of samples.now p.plan)) }
+    ensures fits { IfOk result (λ p. PlanFits samples.now p.plan) }
+{
+    let rest = rest_by(alloc, samples, order)?;
+    plan_by_rest(alloc, samples, &rest, order, depth)
+}
+
+/// The best plan of the constant and of the orders below one, of whose spellings one has so many bits: orders all of whose spellings
+/// have more are passed over.
+fn best_before(
+    alloc: Global,
+    samples: &[i32],
+    order_known: usize,
+    depth: u32,
+    floors: &[u64],
+    limit: u64,
+) -> Result<Option<Planned>, AllocError>
+    requires some { 0 < length samples.now }
+    requires len { length samples.now ≤ 4096 }
+    requires few { order_known ≤ 4 }
+    requires there { order_known < length samples.now }
+    requires depth { depth ≤ 25 }
+    requires fits { All (FitsBits 25) samples.now }
+    requires all { order_known ≤ length floors.now }
+    requires floors { (o : ℕ) → o < order_known → IsFloor depth samples.now o (slice_index floors.now o) }
+    ensures { IfOk result (Leads depth samples.now limit (so_far samples.now order_known)) }
+{
+    let mut best = constant_plan(samples, depth);
+    let mut rest = Vec::from_slice(alloc, samples)?;
+    for order in 0..order_known {
+        if floors[order] <= limit {
+            let new = plan_by_rest(alloc, samples, &rest, order, depth)?;
+            best = Some(lower(best, new));
+        }
+        take_steps(&mut rest);
+    }
+    Ok(best)
+}
+
+/// The best plan of those so far and of one order.
+fn with_order(
+    alloc: Global,
+    samples: &[i32],
+    order: usize,
+    depth: u32,
+    floor: u64,
+    best: Planned,
+) -> Result<Planned, AllocError>
+    requires len { length samples.now ≤ 4096 }
+    requires order { order ≤ 4 }
+    requires longer { order < length samples.now }
+    requires depth { depth ≤ 25 }
+    requires fits { All (FitsBits 25) samples.now }
+    requires floor { IsFloor depth samples.now order floor }
+    ensures { IfOk result (λ new. (spellings : List Spelling) → IsBestPlan depth samples.now spellings (Some best)
+        → IsBestPlan depth samples.now (spellings ++ fixed_of (length samples.now) order) (Some new)) }
+{
+    if best.cost <= floor {
         return Ok(best);
     }
-    let new = fixed_plan(alloc, samples, &us, order, depth)?;
-    Ok(Some(lower(best, new)))
+    let new = plan_by_order(alloc, samples, order, depth)?;
+    Ok(lower(Some(best), new))
 }
 
 /// The plan of the least spelling.
+///
+/// The order that may have the fewest bits is searched first: most of the others can't have fewer.
 pub fn plan_of(alloc: Global, samples: &[i32], depth: u32) -> Result<Planned, AllocError>
     requires some { 0 < length samples.now }
     requires len { length samples.now ≤ 4096 }
@@ -130,18 +248,20 @@ pub fn plan_of(alloc: Global, samples: &[i32], depth: u32) -> Result<Planned, Al
     ensures fits { IfOk result (λ p. PlanFits samples.now p.plan) }
     ensures small { IfOk result (λ p. p.cost < 2 ^ 20) }
 {
-    let mut best = constant_plan(samples, depth);
-    let mut rest = Vec::from_slice(alloc, samples)?;
     let orders = samples.len().min(5);
-    for order in 0..orders {
-        best = with_order(alloc, samples, &rest, order, depth, best)?;
-        take_steps(&mut rest);
+    let floors = floors_of(alloc, samples, orders, depth)?;
+    let first = least_place(&floors);
+    let known = plan_by_order(alloc, samples, first, depth)?;
+    let before = best_before(alloc, samples, first, depth, &floors, known.cost)?;
+    let mut best = lower(before, known);
+    for order in first + 1..orders {
+        best = with_order(alloc, samples, order, depth, floors[order], best)?;
     }
     let verbatim = Planned {
         plan: Plan::Verbatim,
         cost: 8 + depth as u64 * samples.len() as u64,
     };
-    Ok(lower(best, verbatim))
+    Ok(lower(Some(best), verbatim))
 }
 
 /// The residuals of an order.

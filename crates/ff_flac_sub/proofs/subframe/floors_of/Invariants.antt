@@ -1,0 +1,13 @@
+use Rattle.std.proofs.Common.{◌≡◌, ℕ, ◌+◌, ◌<◌, ◌^◌, length, get_or}
+use Rattle.std.specs.List.{All}
+use Rattle.ff_flac_sub.specs.Subframe.{rest_of, magnitude}
+use Rattle.ff_flac_sub.specs.Leads.{IsFloor}
+use Rattle.ff_flac_sub.proofs.subframe.floors_of.Given as goal
+
+abbrev pub invariant-loop-order : goal.invariant-loop-order
+invariant-loop-order l = record {
+  count : length l.floors.items ≡ l.order;
+  floors : (o : ℕ) → o < l.order → IsFloor l.depth l.samples o (get_or l.floors.items o 0);
+  rest : l.rest.items ≡ rest_of l.order l.samples;
+  small : All (λ x. magnitude x < 2 ^ (24 + l.order)) l.rest.items;
+}
