@@ -1,8 +1,6 @@
-use Rattle.std.proofs.Common.{◌≡◌, ℕ, suc, ◌+◌, ◌-◌, ◌≤◌, ◌%◌, sym, ◌∙◌, subst, arith, length, List, map, true}
+use Rattle.std.proofs.Common.{◌≡◌, ℕ, suc, ◌+◌, ◌-◌, ◌≤◌, ◌%◌, sym, subst, arith, length, List, true}
 use Rattle.ff_flac_rice.specs.Rice.{is_allowed, parts_of}
-use Rattle.std.specs.List.{AllByRecursion}
 use Rattle.ff_flac_rice.specs.Row.{AreRows}
-use Rattle.ff_flac_rice.specs.Spans.{Spans}
 use Rattle.ff_flac_rice.proofs.Orders.{allowed_down}
 use Rattle.ff_flac_rice.proofs.Levels.{IsBest, best_first, both_first, both_second, rows_fit_here, same_rows, rows_few, rows_even, rows_after, spans_after, best_after, best_end, cost_is}
 use Rattle.ff_flac_rice.proofs.SpanLemmas.{first_level, second_level}

@@ -1,8 +1,7 @@
-use Rattle.std.proofs.Common.{◌≡◌, ℕ, ◌+◌, ◌-◌, ◌*◌, ◌/◌, ◌%◌, ◌^◌, ◌<◌, ◌≤◌, length, ap, ◌∙◌, arith, refl, suc}
+use Rattle.std.proofs.Common.{◌≡◌, ℕ, ◌+◌, ◌-◌, ◌*◌, ◌/◌, ◌^◌, ◌<◌, ◌≤◌, length, ◌∙◌, arith, refl, suc}
 use Rattle.std.specs.List.{sum_by}
 use Rattle.std.proofs.lemmas.Nat.{one_shl, shr_split, pow_pos}
 use Rattle.std.proofs.Math.Nat.{pow-le-pow_right}
-use Rattle.ff_flac_rice.specs.Rice.{parts_of}
 use Rattle.ff_flac_rice.proofs.RowLemmas.{rest_len, step_len, front_start, front_step, front_end}
 use Rattle.ff_flac_rice.proofs.Orders.{allowed_parts}
 use Rattle.ff_flac_rice.proofs.Floors.{fewest, one_fewest, more_fewest, codings_floor}

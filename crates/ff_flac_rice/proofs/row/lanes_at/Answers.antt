@@ -1,4 +1,4 @@
-use Rattle.std.proofs.Common.{◌≡◌, ◌/◌, ◌^◌, length, take, map, ap, ◌∙◌, arith}
+use Rattle.std.proofs.Common.{◌/◌, ◌^◌, length, take, map, ap, ◌∙◌, arith}
 use Rattle.std.proofs.lemmas.List.{take_all}
 use Rattle.std.proofs.lemmas.Simd.{zip2_splat}
 use Rattle.ff_flac_rice.proofs.row.lanes_at.Goals as goal

@@ -1,4 +1,4 @@
-use Rattle.std.proofs.Common.{◌≡◌, ◌∙◌, length, map, ap, arith}
+use Rattle.std.proofs.Common.{◌≡◌, ◌∙◌, map, ap, arith}
 use Rattle.ff_flac_rice.specs.Rice.{zigzagged}
 use Rattle.ff_flac_sub.specs.Subframe.{rest_of}
 use Rattle.ff_flac_sub.proofs.Plans.{floor_is, count_us}

@@ -1,9 +1,6 @@
-use Rattle.std.proofs.Common.{◌≡◌, ℕ, ◌+◌, ◌<◌, ◌^◌, List, [], ◌∷◌, ◌++◌, length, get_or, length-append, sym, ap, ◌∙◌, subst, arith, inl, inr}
-use Rattle.std.proofs.lemmas.Bool.{cases_lt}
-use Rattle.std.proofs.lemmas.List.{get_or_append_left, get_or_at}
+use Rattle.std.proofs.Common.{◌+◌, ◌<◌, ◌^◌, List, [], ◌∷◌, length, length-append, sym, ap, ◌∙◌, arith}
 use Rattle.std.proofs.lemmas.List.Elements.{All-same}
 use Rattle.ff_flac_sub.specs.Subframe.{magnitude}
-use Rattle.ff_flac_sub.specs.Leads.{IsFloor}
 use Rattle.ff_flac_sub.proofs.Predict.{rest_of-zero}
 use Rattle.ff_flac_sub.proofs.Plans.{magnitudes, small_enough, next_small, next_rest, one_floor}
 use Rattle.ff_flac_sub.proofs.subframe.floors_of.Goals as goal

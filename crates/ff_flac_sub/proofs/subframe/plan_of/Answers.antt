@@ -1,4 +1,4 @@
-use Rattle.std.proofs.Common.{◌≡◌, ◌*◌, ◌+◌, ◌≤◌, min, Some, length, ap, arith, refl}
+use Rattle.std.proofs.Common.{◌≡◌, ◌*◌, ◌≤◌, min, Some, length, ap, arith, refl}
 use Rattle.std.proofs.lemmas.Nat.{mul-le}
 use Rattle.ff_flac_sub.specs.Leads.{so_far}
 use Rattle.ff_flac_sub.proofs.Plans.{so_far-more, same_spellings, known_next, plan_last}

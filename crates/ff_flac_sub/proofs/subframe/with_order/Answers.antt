@@ -1,4 +1,4 @@
-use Rattle.std.proofs.Common.{◌≡◌, Some, length}
+use Rattle.std.proofs.Common.{Some, length}
 use Rattle.ff_flac_sub.specs.Subframe.{fixed_of}
 use Rattle.ff_flac_sub.proofs.Plans.{floor_stays, plan_next}
 use Rattle.ff_flac_sub.proofs.subframe.with_order.Goals as goal

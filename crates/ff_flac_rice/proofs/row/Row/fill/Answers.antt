@@ -1,8 +1,7 @@
-use Rattle.std.proofs.Common.{◌≡◌, ◌≤◌, ◌<◌, ◌^◌, ℕ, arith, refl, subst, length}
+use Rattle.std.proofs.Common.{◌≡◌, ◌<◌, ◌^◌, arith, refl, subst, length}
 use Rattle.std.specs.List.{All}
 use Rattle.std.proofs.lemmas.List.Elements.{All-from_get_or}
 use Rattle.ff_flac_rice.specs.Row.{IsRow}
-use Rattle.ff_flac_rice.specs.Rice.{quotients}
 use Rattle.ff_flac_rice.proofs.RowLemmas.{filled_start, started_zeros, filled_more, filled_zeros, filled_all}
 use Rattle.ff_flac_rice.proofs.Sums.{quotients_zero}
 use Rattle.ff_flac_rice.proofs.row.Row.fill.Goals as goal

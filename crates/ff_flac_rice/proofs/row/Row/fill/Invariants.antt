@@ -1,5 +1,4 @@
-use Rattle.std.proofs.Common.{◌≡◌, ℕ, ◌<◌, ◌≤◌, get_or, length}
-use Rattle.ff_flac_rice.specs.Rice.{quotients}
+use Rattle.std.proofs.Common.{◌≡◌, ℕ, ◌≤◌, get_or}
 use Rattle.ff_flac_rice.specs.Row.{IsRow}
 use Rattle.ff_flac_rice.proofs.row.Row.fill.Given as goal
 

@@ -1,4 +1,4 @@
-use Rattle.std.proofs.Common.{◌≡◌, ℕ, ◌/◌, ◌^◌, ◌<◌, ◌≤◌, get_or, length, map}
+use Rattle.std.proofs.Common.{◌≡◌, ℕ, ◌/◌, ◌^◌, ◌≤◌, get_or, map}
 use Rattle.ff_flac_rice.specs.Row.{IsRow}
 use Rattle.ff_flac_rice.proofs.row.Row.fill_of_16.Given as goal
 

@@ -1,4 +1,4 @@
-use Rattle.std.proofs.Common.{◌≡◌, ◌≤◌, ℕ, ◌+◌, ◌-◌, ◌*◌, get_or, arith, ap, sym, ◌∙◌}
+use Rattle.std.proofs.Common.{◌≡◌, ◌≤◌, ℕ, ◌+◌, ◌-◌, ◌*◌, get_or, arith, ap}
 use Rattle.std.proofs.Math.Nat.{mul-le-mul_left}
 use Rattle.ff_flac_rice.specs.Row.{row_cost, lowest}
 use Rattle.ff_flac_rice.proofs.SpanLemmas.{lowest-one, lowest_next}
