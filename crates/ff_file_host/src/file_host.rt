@@ -5,13 +5,15 @@ ghost use Rattle.ff_host.specs.Tally.{marks_at};
 use crate::file_id::{FileId, id_of, is_among, let_go, note};
 use crate::file_sink::FileSink;
 use crate::file_source::FileSource;
+use crate::progress::{Meter, Progress};
 use ff_host::{Failed, Host, HostError, Marks, Table, make_room, marks_of, set_marks};
 use std::alloc::{AllocError, Global};
 use std::collections::BTreeMap;
 use std::fs;
 use std::fs::OpenFile;
-use std::io::{BufReader, BufWriter};
+use std::io::{BufReader, BufWriter, Eprint};
 use std::rt::Files;
+use std::time::Clock;
 
 /// How many bytes are read or written at a time.
 const BUFFER: usize = 65_536;
@@ -21,7 +23,7 @@ const BUFFER: usize = 65_536;
 /// While a plain file is read, no sink is created on it, and while one is written, nothing else is opened or created on
 /// it, whatever the name: such a call answers Failed, and the file is left as it is.
 #[derive(Drop)]
-pub struct FileHost<R> {
+pub struct FileHost<R: Drop> {
     files: R,
     alloc: Global,
     table: Table,
@@ -30,6 +32,15 @@ pub struct FileHost<R> {
     /// The plain files that are read, and those that are written.
     read: Vec<FileId>,
     written: Vec<FileId>,
+    /// The line on standard error that says how far the reading is, where it is asked for.
+    progress: Option<Progress<R>>,
+}
+
+// A file that was opened: which one it is, and how long, where it is a plain one.
+struct Opened<F> {
+    file: F,
+    id: Option<FileId>,
+    size: Option<u64>,
 }
 
 impl<R: Files + Drop> FileHost<R> {
@@ -42,19 +53,22 @@ impl<R: Files + Drop> FileHost<R> {
             sinks: 0,
             read: Vec::new(alloc),
             written: Vec::new(alloc),
+            progress: None,
         }
     }
 }
 
-impl<R: Files> FileHost<R> {
+impl<R: Files + Drop> FileHost<R> {
     // Opens a file that nothing writes.
-    fn open_other(&self, name: &str) -> Option<(R::File, Option<FileId>)> {
+    fn open_other(&self, name: &str) -> Option<Opened<R::File>> {
         let file = fs::open(&self.files, name).ok()?;
-        let id = id_of(&file.metadata().ok()?);
+        let about = file.metadata().ok()?;
+        let id = id_of(&about);
         if is_among(id, self.written.as_slice()) {
             return None;
         }
-        Some((file, id))
+        let size = id.map(|_| about.len());
+        Some(Opened { file, id, size })
     }
 
     // Makes a file empty that nothing reads or writes.
@@ -71,17 +85,43 @@ impl<R: Files> FileHost<R> {
     }
 }
 
+impl<R: Files + Clock + Eprint + Clone + Drop> FileHost<R> {
+    /// Says on standard error how far the reading of the inputs is, from the next one that is opened on, until all are closed.
+    pub fn show_progress(&mut self) {
+        if let Ok(rt) = self.files.clone() {
+            self.progress = Progress::new(self.alloc, rt);
+        }
+    }
+
+    // What counts the bytes of one more input.
+    fn meter(&self, size: Option<u64>) -> Option<Meter<R>> {
+        match &self.progress {
+            Some(progress) => progress.open(size),
+            None => None,
+        }
+    }
+
+    // Takes the line away where no input is left.
+    fn clear_at_last(&self) {
+        if self.sources == 0
+            && let Some(progress) = &self.progress
+        {
+            progress.clear();
+        }
+    }
+}
+
 // Finds out whether there is memory for a buffer, so that no file is made empty where there is none.
 fn look_for_room(alloc: Global) -> Result<(), AllocError> {
     let _room: Vec<u8> = Vec::with_capacity(alloc, BUFFER)?;
     Ok(())
 }
 
-impl<R: Files + Drop> Host for FileHost<R>
+impl<R: Files + Clock + Eprint + Clone + Send + Drop> Host for FileHost<R>
 where
     R::File: Send,
 {
-    type Src = FileSource<R::File>;
+    type Src = FileSource<R::File, R>;
 
     type Snk = FileSink<R::File>;
 
@@ -99,7 +139,7 @@ where
 
     ghost open_sinks = { λ h. h.sinks };
 
-    fn open_source(&mut self, name: &str) -> Result<FileSource<R::File>, HostError> {
+    fn open_source(&mut self, name: &str) -> Result<FileSource<R::File, R>, HostError> {
         let Some(sources) = self.sources.checked_add(1) else {
             return Err(HostError::NoMemory);
         };
@@ -107,7 +147,7 @@ where
         let own_name = String::from_str(self.alloc, name)?;
         self.read.reserve(1)?;
         let was = marks_of(&self.table, name);
-        let Some((file, id)) = self.open_other(name) else {
+        let Some(Opened { file, id, size }) = self.open_other(name) else {
             let in_faults = was.in_faults.saturating_add(1);
             set_marks(&mut self.table, name, Marks { in_faults, ..was });
             return Err(HostError::Failed);
@@ -119,7 +159,7 @@ where
         let opened = true;
         set_marks(&mut self.table, name, Marks { opened, ..was });
         self.sources = sources;
-        Ok(FileSource::new(file, own_name, id))
+        Ok(FileSource::new(file, own_name, id, self.meter(size)))
     }
 
     fn create_sink(&mut self, name: &str) -> Result<FileSink<R::File>, HostError> {
@@ -146,12 +186,13 @@ where
         Ok(FileSink::new(file, own_name, id))
     }
 
-    fn close_source(&mut self, name: &str, src: FileSource<R::File>) {
+    fn close_source(&mut self, name: &str, src: FileSource<R::File, R>) {
         let was = marks_of(&self.table, name);
         let in_faults = was.in_faults.saturating_add(src.faults());
         set_marks(&mut self.table, name, Marks { in_faults, ..was });
         self.sources = self.sources.saturating_sub(1);
         let_go(&mut self.read, src.id());
+        self.clear_at_last();
     }
 
     fn close_sink(&mut self, name: &str, snk: FileSink<R::File>) -> Result<(), Failed> {

@@ -2,23 +2,32 @@
 ghost use Rattle.std.specs.Prelude.{◌≡◌, ◌+◌, ◌<◌, ◌≤◌, ℕ, List, None, Some, false, IfSome, length, string_bytes};
 
 use crate::file_id::FileId;
+use crate::progress::Meter;
 use ff_host::{Failed, Source};
-use std::io::{BufReader, ErrorKind, Read};
+use std::io::{BufReader, Eprint, ErrorKind, Read};
+use std::time::Clock;
 
 /// A file that is read through a buffer. It tells no content, and counts each failure.
 #[derive(Drop)]
-pub struct FileSource<F: Read + Drop> {
+pub struct FileSource<F: Read + Drop, R: Drop> {
     file: BufReader<F>,
     name: String,
     /// Which plain file it is, if it is one.
     id: Option<FileId>,
+    /// What counts the bytes that are read, if anything does.
+    meter: Option<Meter<R>>,
     faults: u64,
     failed: bool,
 }
 
-impl<F: Read + Drop> FileSource<F> {
+impl<F: Read + Drop, R: Drop> FileSource<F, R> {
     /// A source over an open file, under the name on which it was opened.
-    pub fn new(file: BufReader<F>, name: String, id: Option<FileId>) -> Self
+    pub fn new(
+        file: BufReader<F>,
+        name: String,
+        id: Option<FileId>,
+        meter: Option<Meter<R>>,
+    ) -> Self
         ensures name { string_bytes result.name ≡ string_bytes name }
         ensures faults { result.faults ≡ 0 }
         ensures failed { result.failed ≡ false }
@@ -27,6 +36,7 @@ impl<F: Read + Drop> FileSource<F> {
             file,
             name,
             id,
+            meter,
             faults: 0,
             failed: false,
         }
@@ -59,7 +69,7 @@ fn read_some<F: Read>(file: &mut BufReader<F>, buf: &mut [u8]) -> Option<usize>
     None
 }
 
-impl<F: Read + Drop> Source for FileSource<F> {
+impl<F: Read + Drop, R: Clock + Eprint + Drop> Source for FileSource<F, R> {
     ghost left = { λ s. None };
 
     ghost faults = { λ s. s.faults };
@@ -72,6 +82,9 @@ impl<F: Read + Drop> Source for FileSource<F> {
         if !self.failed
             && let Some(count) = read_some(&mut self.file, buf)
         {
+            if let Some(meter) = &self.meter {
+                meter.add(count);
+            }
             return Ok(count);
         }
         self.failed = true;

@@ -1,7 +1,8 @@
 //! The machine's files as a host, and standard output as a log.
 //!
 //! This is the edge that the proofs trust: what a file or standard output holds is told by nobody. What is proved is how failures
-//! are counted, that what has failed fails from then on, and that each is given back under its own name.
+//! are counted, that what has failed fails from then on, and that each is given back under its own name. Where it is asked for, a line on standard
+//! error says how far the reading is; no clause speaks of it.
 #![tactic(auto)]
 
 mod file_host;
@@ -9,9 +10,11 @@ mod file_id;
 mod file_sink;
 mod file_source;
 mod log_sink;
+mod progress;
 
 pub use file_host::FileHost;
 pub use file_id::FileId;
 pub use file_sink::FileSink;
 pub use file_source::FileSource;
 pub use log_sink::LogSink;
+pub use progress::{Meter, Progress};

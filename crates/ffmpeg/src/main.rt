@@ -11,6 +11,7 @@ use ff_host::Sink;
 use ff_run::{Status, WordKind, fault_line, ffmpeg, status_number};
 use std::alloc::Global;
 use std::io;
+use std::io::IsTerminal;
 use std::process::ExitCode;
 use words::{WordsEnd, read_words};
 
@@ -37,6 +38,11 @@ fn status_of(end: WordsEnd) -> Status
     }
 }
 
+// Whether it is said on standard error how far the run is: where that is a terminal, and no word is `-nostats`.
+fn shows_progress(rt: &HostRuntime, words: &[String]) -> bool {
+    rt.stderr().is_terminal() && !words.iter().any(|word| word.as_str() == "-nostats")
+}
+
 fn main(rt: HostRuntime) -> ExitCode {
     let alloc = rt.alloc();
     let mut log = LogSink::new(io::writer(&rt));
@@ -48,6 +54,9 @@ fn main(rt: HostRuntime) -> ExitCode {
         return ExitCode::from(refuse(alloc, &mut log, &Status::NoMemory));
     };
     let mut host = FileHost::new(alloc, files);
+    if shows_progress(&rt, &words) {
+        host.show_progress();
+    }
     let report = ffmpeg(&rt, alloc, &words, &mut host, &mut log);
     ExitCode::from(status_number(&report.status))
 }
