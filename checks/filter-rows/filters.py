@@ -238,6 +238,20 @@ def placed(args, heads, names):
     return {name: value // steps[name] * steps[name] for name, value in values.items()}, across, down
 
 
+# The filter that makes each picture anew in another size: each plane by what `paint` makes of it, at the place of the corner in it.
+def resized(heads, values, corner, across, down, paint):
+    head = heads[0]
+    out = head._replace(width=values.get("w", head.width), height=values.get("h", head.height))
+
+    def make(item):
+        planes = []
+        for number, ((columns, rows), plane) in enumerate(zip(sizes(out.format, out.width, out.height), item[2])):
+            left, top = corner if number == 0 else (corner[0] // across, corner[1] // down)
+            planes.append(paint(number, plane, left, top, columns, rows))
+        return frame(out, item[0], item[1], planes)
+    return on_ports(heads, [out], each(make))
+
+
 def crop(args, heads):
     values, across, down = placed(args, heads, ("out_w", "out_h"))
     head = heads[0]
@@ -246,15 +260,10 @@ def crop(args, heads):
     y = values.get("y", (head.height - height) // 2 // down * down)
     if not (1 <= width <= 16384 and 1 <= height <= 16384 and 0 <= x and x + width <= head.width and 0 <= y and y + height <= head.height):
         raise Refused("bad size")
-    out = head._replace(width=width, height=height)
 
-    def cut(item):
-        planes = []
-        for number, ((columns, rows), plane) in enumerate(zip(sizes(head.format, width, height), item[2])):
-            left, top = (x, y) if number == 0 else (x // across, y // down)
-            planes.append([row[left:left + columns] for row in plane[top:top + rows]])
-        return frame(out, item[0], item[1], planes)
-    return on_ports(heads, [out], each(cut))
+    def cut(number, plane, left, top, columns, rows):
+        return [row[left:left + columns] for row in plane[top:top + rows]]
+    return resized(heads, values, (x, y), across, down, cut)
 
 
 def pad(args, heads):
@@ -264,17 +273,12 @@ def pad(args, heads):
     x, y = values.get("x", 0), values.get("y", 0)
     if not (1 <= width <= 16384 and 1 <= height <= 16384 and x + head.width <= width and y + head.height <= height):
         raise Refused("bad size")
-    out = head._replace(width=width, height=height)
 
-    def lay(item):
-        planes = []
-        for number, ((columns, rows), plane) in enumerate(zip(sizes(head.format, width, height), item[2])):
-            left, top = (x, y) if number == 0 else (x // across, y // down)
-            black = 16 if number == 0 else 128
-            planes.append([[plane[r - top][c - left] if 0 <= r - top < len(plane) and 0 <= c - left < len(plane[0]) else black
-                            for c in range(columns)] for r in range(rows)])
-        return frame(out, item[0], item[1], planes)
-    return on_ports(heads, [out], each(lay))
+    def lay(number, plane, left, top, columns, rows):
+        black = 16 if number == 0 else 128
+        return [[plane[r - top][c - left] if 0 <= r - top < len(plane) and 0 <= c - left < len(plane[0]) else black for c in range(columns)]
+                for r in range(rows)]
+    return resized(heads, values, (x, y), across, down, lay)
 
 
 def hflip(args, heads):
