@@ -39,7 +39,7 @@ pub static ENDS: [&'static str; 11] = [
 /// The name, what it is proved with, and the profile.
 pub static PROGRAM: [&'static str; 3] = [
     "zofimanga: an ffmpeg whose bytes are proved",
-    "proved with rattle-kit-13f logic dac8208d650f15bf",
+    "proved with Rattle, logic dac8208d650f15bf",
     "profile zofimanga of ffmpeg 7: WAV, YUV4MPEG2, FLAC and framehash",
 ];
 
