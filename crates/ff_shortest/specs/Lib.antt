@@ -2,3 +2,4 @@ pub mod Lines
 pub mod Moves
 pub mod ShortLaws
 pub mod Shortened
+pub mod ShortTask

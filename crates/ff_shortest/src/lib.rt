@@ -10,9 +10,11 @@
 #![tactic(auto)]
 
 mod end;
+mod laws;
 mod moves;
 mod shortest;
 mod side;
 
+pub use laws::shortened_streams_are_lawful;
 pub use shortest::Shortest;
 pub use side::Side;
