@@ -1,4 +1,10 @@
 pub mod Names
 pub mod Pads
 pub mod Makes
+pub mod Texts
+pub mod Ticks
+pub mod Heads
+pub mod ReadBy
+pub mod SetBy
+pub mod Configured
 pub mod SingleLaws

@@ -1,0 +1,149 @@
+-- What each filter is by its arguments and the heads of its inputs, as a function.
+use Rattle.std.specs.Prelude.{ℕ, ◌==◌, nat_le, cond, false, Bool, None, List, [], ◌∷◌, length, Result, Ok, Err}
+use Rattle.ff_time.specs.Fraction.{Fraction}
+use Rattle.ff_values.specs.declared.config.ConfigError.{ConfigError}
+use Rattle.ff_values.specs.declared.config.ConfigError.TheVariants.{Pads, Kind, Mismatch, BadSize, BadOption}
+use Rattle.ff_values.specs.declared.head.StreamHead.{StreamHead}
+use Rattle.ff_values.specs.declared.head.StreamHead.TheVariants.{Audio, Video}
+use Rattle.ff_values.specs.Heads.{base_of_head}
+use Rattle.ff_lang.specs.declared.graph.Arg.{Arg}
+use Rattle.ff_filter.specs.declared.pass.Pass.{Pass}
+use Rattle.ff_filter.specs.declared.rebase.Rebase.{Rebase}
+use Rattle.ff_filter.specs.Options.{is_sound, is_video}
+use Rattle.ff_filter.specs.Plain.{no_manual, expr_manual, pass_view, rebase_view}
+use Rattle.ff_filter.specs.Ranges.{range_manual}
+use Rattle.ff_filter.specs.Views.{View}
+use Rattle.ff_spread.specs.Splits.{split_manual, split_view, split_heads}
+use Rattle.ff_planes.specs.declared.rectangle.Rectangle.{Rectangle}
+use Rattle.ff_vfilter.specs.declared.crop.CropSettings.{CropSettings}
+use Rattle.ff_vfilter.specs.declared.pad.PadSettings.{PadSettings}
+use Rattle.ff_vfilter.specs.declared.trim.Trim.{Trim}
+use Rattle.ff_vfilter.specs.Sizes.{no_sizes}
+use Rattle.ff_vfilter.specs.Trims.{trim_view}
+use Rattle.ff_vfilter.specs.Crops.{crop_manual, crop_part, can_crop, crop_view, crop_head}
+use Rattle.ff_vfilter.specs.Pads.{Padded, pad_manual, pad_of, can_pad, pad_view, pad_head}
+use Rattle.ff_vfilter.specs.HFlips.{hflip_view}
+use Rattle.ff_vfilter.specs.VFlips.{vflip_view}
+use Rattle.ff_vfilter.specs.FpsOptions.{fps_manual, fps_view, fps_head}
+use Rattle.ff_afilter.specs.declared.atrim.ATrim.{ATrim}
+use Rattle.ff_afilter.specs.Trims.{atrim_view}
+use Rattle.ff_afilter.specs.Channels.{channels_view, mono_heads}
+use Rattle.ff_stacks.specs.declared.options.StackSettings.{StackSettings}
+use Rattle.ff_stacks.specs.declared.shape.Direction.{Direction}
+use Rattle.ff_stacks.specs.declared.shape.Direction.TheVariants.{Beside, Below}
+use Rattle.ff_stacks.specs.Heads.{input_fault, stack_fault}
+use Rattle.ff_stacks.specs.Options.{stack_manual, counted}
+use Rattle.ff_stacks.specs.Stacks.{StackOf, stack_on, stack_view, head_of}
+use Rattle.ff_joins.specs.Arguments.{each_head}
+use Rattle.ff_joins.specs.ConcatOptions.{concat_manual, concat_set, concat_start, segments_said, video_said, sound_said, is_of_kind, concat_view, concat_head}
+use Rattle.ff_joins.specs.JoinOptions.{join_manual, inputs_said, is_like, channels_in, with_channels}
+use Rattle.ff_joins.specs.JoinView.{join_view}
+use Rattle.ff_filters.specs.declared.name.FilterName.{FilterName}
+use Rattle.ff_filters.specs.declared.name.FilterName.TheVariants as filter
+use Rattle.ff_filters.specs.Heads.{each_is}
+use Rattle.ff_filters.specs.ReadBy.{and_then, unless, read_by, configured_by}
+use Rattle.ff_filters.specs.SetBy.{set_none, set_expr, set_crop, set_pad, set_fps, set_split, set_stack, set_join}
+use Rattle.ff_filters.specs.Ticks.{set_times, range_in}
+
+-- a filter: how it is seen before anything was fed, and the heads of its outputs
+pub record Filtered : Type 0 where
+  pub view : View
+  pub outs : List StreamHead
+
+-- of no option
+abbrev pub plain_by : {X : Type 0} → (StreamHead → Bool) → (StreamHead → X) → List Arg → List StreamHead → Result X ConfigError
+plain_by wanted of args heads = configured_by wanted no_manual set_none (record {}) (λ head s. Ok (of head)) args heads
+
+abbrev pub pass_by : (StreamHead → Bool) → List Arg → List StreamHead → Result Pass ConfigError
+pass_by wanted args heads = plain_by wanted (λ head. record { head = head }) args heads
+
+abbrev pub rebase_by : (StreamHead → Bool) → List Arg → List StreamHead → Result Rebase ConfigError
+rebase_by wanted args heads = configured_by wanted expr_manual set_expr (record { given = false }) (λ head s. cond s.given (Ok (record { head = head; first = None })) (Err BadOption)) args heads
+
+abbrev pub trim_by : List Arg → List StreamHead → Result Trim ConfigError
+trim_by args heads = configured_by is_video range_manual set_times (record { start = 0; stop = None }) (λ head s. Ok (record { head = head; range = range_in (base_of_head head) s })) args heads
+
+abbrev pub atrim_by : List Arg → List StreamHead → Result ATrim ConfigError
+atrim_by args heads = configured_by is_sound range_manual set_times (record { start = 0; stop = None }) (λ head s. Ok (record { head = head; range = range_in (base_of_head head) s })) args heads
+
+abbrev pub cropped_as : StreamHead → CropSettings → Result (StreamHead × Rectangle) ConfigError
+cropped_as (Audio tb rate bits channels codec) s = Err BadSize
+cropped_as (Video tb format width height sar_num sar_den) s =
+    let part = crop_part format width height s in
+    cond (can_crop width height part) (Ok (Video tb format width height sar_num sar_den, part)) (Err BadSize)
+
+abbrev pub crop_by : List Arg → List StreamHead → Result (StreamHead × Rectangle) ConfigError
+crop_by args heads = configured_by is_video crop_manual set_crop (record { sizes = no_sizes }) cropped_as args heads
+
+abbrev pub padded_as : StreamHead → PadSettings → Result Padded ConfigError
+padded_as (Audio tb rate bits channels codec) s = Err BadSize
+padded_as (Video tb format width height sar_num sar_den) s =
+    let made = pad_of (Video tb format width height sar_num sar_den) format width height s in
+    cond (can_pad made) (Ok made) (Err BadSize)
+
+abbrev pub pad_by : List Arg → List StreamHead → Result Padded ConfigError
+pad_by args heads = configured_by is_video pad_manual set_pad (record { sizes = no_sizes }) padded_as args heads
+
+abbrev pub fps_by : List Arg → List StreamHead → Result (StreamHead × Fraction) ConfigError
+fps_by args heads = configured_by is_video fps_manual set_fps (record { base = record { num = 1; den = 25 } }) (λ head s. Ok (head, s.base)) args heads
+
+abbrev pub split_by : (StreamHead → Bool) → List Arg → List StreamHead → Result (StreamHead × ℕ) ConfigError
+split_by wanted args heads = configured_by wanted split_manual set_split (record { outputs = 2 }) (λ head s. Ok (head, s.outputs)) args heads
+
+abbrev pub stacked_as : Direction → List StreamHead → StackSettings → Result StackOf ConfigError
+stacked_as d [] s = Err Pads
+stacked_as d (h ∷ hs) s = unless (stack_fault d h (h ∷ hs)) (Ok (stack_on d h (h ∷ hs) s.shortest))
+
+abbrev pub stack_by : Direction → List Arg → List StreamHead → Result StackOf ConfigError
+stack_by d args heads =
+    unless (input_fault (counted false 0 2 args) is_video heads)
+    (and_then (stacked_as d heads) (read_by stack_manual set_stack false 0 (record { inputs = 2; shortest = false }) args))
+
+-- what is checked holds, and it is this; else it is refused so
+abbrev pub checked : {X : Type 0} → Bool → ConfigError → Result X ConfigError → Result X ConfigError
+checked holds e r = cond holds r (Err e)
+
+abbrev pub segments_as : List StreamHead → Result (StreamHead × ℕ) ConfigError
+segments_as [] = Err Pads
+segments_as (h ∷ hs) = checked (each_is h hs) Mismatch (Ok (h, length (h ∷ hs)))
+
+abbrev pub concat_by : List Arg → List StreamHead → Result (StreamHead × ℕ) ConfigError
+concat_by args heads =
+    checked (length heads == segments_said args) Pads (checked (each_head (is_of_kind (video_said args) (sound_said args)) heads) Kind
+    (and_then (λ s. segments_as heads) (read_by concat_manual concat_set false 0 (concat_start args) args)))
+
+abbrev pub joined_as : List StreamHead → Result StreamHead ConfigError
+joined_as [] = Err Pads
+joined_as (h ∷ hs) =
+    checked (each_head (is_like h) hs) Mismatch (checked (nat_le (channels_in (h ∷ hs)) 8) BadSize (Ok (with_channels h (channels_in (h ∷ hs)))))
+
+abbrev pub join_by : List Arg → List StreamHead → Result StreamHead ConfigError
+join_by args heads =
+    checked (length heads == inputs_said args) Pads (checked (each_head is_sound heads) Kind
+    (and_then (λ s. joined_as heads) (read_by join_manual set_join false 0 (record { inputs = 2 }) args)))
+
+-- a filter that is shown so, with these heads of its outputs; or it is refused
+abbrev pub filtered : {X : Type 0} → (X → View) → (X → List StreamHead) → Result X ConfigError → Result Filtered ConfigError
+filtered shown outs (Ok m) = Ok (record { view = shown m; outs = outs m })
+filtered shown outs (Err e) = Err e
+
+-- a filter of this name with these arguments, on streams of these heads
+abbrev pub configured_as : FilterName → List Arg → List StreamHead → Result Filtered ConfigError
+configured_as filter.Null args heads = filtered pass_view (λ m. m.head ∷ []) (pass_by is_video args heads)
+configured_as filter.Trim args heads = filtered trim_view (λ m. m.head ∷ []) (trim_by args heads)
+configured_as filter.SetPts args heads = filtered rebase_view (λ m. m.head ∷ []) (rebase_by is_video args heads)
+configured_as filter.Crop args heads = filtered crop_view (λ m. crop_head m ∷ []) (crop_by args heads)
+configured_as filter.Pad args heads = filtered pad_view (λ m. pad_head m ∷ []) (pad_by args heads)
+configured_as filter.HFlip args heads = filtered hflip_view (λ head. head ∷ []) (plain_by is_video (λ head. head) args heads)
+configured_as filter.VFlip args heads = filtered vflip_view (λ head. head ∷ []) (plain_by is_video (λ head. head) args heads)
+configured_as filter.Fps args heads = filtered fps_view (λ m. fps_head m ∷ []) (fps_by args heads)
+configured_as filter.Split args heads = filtered split_view split_heads (split_by is_video args heads)
+configured_as filter.ANull args heads = filtered pass_view (λ m. m.head ∷ []) (pass_by is_sound args heads)
+configured_as filter.ATrim args heads = filtered atrim_view (λ m. m.head ∷ []) (atrim_by args heads)
+configured_as filter.ASetPts args heads = filtered rebase_view (λ m. m.head ∷ []) (rebase_by is_sound args heads)
+configured_as filter.ASplit args heads = filtered split_view split_heads (split_by is_sound args heads)
+configured_as filter.ChannelSplit args heads = filtered channels_view mono_heads (plain_by is_sound (λ head. head) args heads)
+configured_as filter.HStack args heads = filtered stack_view (λ m. head_of m ∷ []) (stack_by Beside args heads)
+configured_as filter.VStack args heads = filtered stack_view (λ m. head_of m ∷ []) (stack_by Below args heads)
+configured_as filter.Concat args heads = filtered concat_view (λ m. concat_head m ∷ []) (concat_by args heads)
+configured_as filter.Join args heads = filtered (join_view heads) (λ head. head ∷ []) (join_by args heads)

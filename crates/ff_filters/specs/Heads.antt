@@ -1,0 +1,34 @@
+-- Whether heads are the same.
+use Rattle.std.specs.Prelude.{ℕ, Bool, true, ◌&&◌, List, [], ◌∷◌}
+use Rattle.std.specs.Str.{bytes_eq}
+use Rattle.ff_values.specs.declared.head.Codec.{Codec}
+use Rattle.ff_values.specs.declared.head.Codec.TheVariants.{PcmU8, PcmS16le, PcmS24le, PcmS32le, Flac, RawVideo}
+use Rattle.ff_values.specs.declared.head.StreamHead.{StreamHead}
+use Rattle.ff_values.specs.declared.head.StreamHead.TheVariants.{Audio, Video}
+use Rattle.ff_values.specs.declared.video.Format.{Format}
+use Rattle.ff_values.specs.declared.video.Format.TheVariants.{C420, C422, C444, Mono}
+
+-- codecs and formats by number
+abbrev pub codec_number : Codec → ℕ
+codec_number PcmU8 = 0
+codec_number PcmS16le = 1
+codec_number PcmS24le = 2
+codec_number PcmS32le = 3
+codec_number Flac = 4
+codec_number RawVideo = 5
+
+abbrev pub format_number : Format → ℕ
+format_number C420 = 0
+format_number C422 = 1
+format_number C444 = 2
+format_number Mono = 3
+
+-- all numbers of a head
+abbrev pub numbers_of : StreamHead → List ℕ
+numbers_of (Audio tb rate bits channels codec) = 0 ∷ tb.num ∷ tb.den ∷ rate ∷ bits ∷ channels ∷ codec_number codec ∷ []
+numbers_of (Video tb format width height sar_num sar_den) = 1 ∷ tb.num ∷ tb.den ∷ format_number format ∷ width ∷ height ∷ sar_num ∷ sar_den ∷ []
+
+-- each of the heads is this one
+abbrev pub each_is : StreamHead → List StreamHead → Bool
+each_is head [] = true
+each_is head (h ∷ hs) = bytes_eq (numbers_of h) (numbers_of head) && each_is head hs
