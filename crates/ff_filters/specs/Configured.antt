@@ -8,15 +8,18 @@ use Rattle.ff_values.specs.declared.head.StreamHead.TheVariants.{Audio, Video}
 use Rattle.ff_values.specs.Heads.{base_of_head}
 use Rattle.ff_lang.specs.declared.graph.Arg.{Arg}
 use Rattle.ff_filter.specs.declared.pass.Pass.{Pass}
+use Rattle.ff_filter.specs.declared.plain.ExprSettings.{ExprSettings}
 use Rattle.ff_filter.specs.declared.rebase.Rebase.{Rebase}
 use Rattle.ff_filter.specs.Options.{is_sound, is_video}
 use Rattle.ff_filter.specs.Plain.{no_manual, expr_manual, pass_view, rebase_view}
 use Rattle.ff_filter.specs.Ranges.{range_manual}
 use Rattle.ff_filter.specs.Views.{View}
+use Rattle.ff_spread.specs.declared.copies.SplitSettings.{SplitSettings}
 use Rattle.ff_spread.specs.Splits.{split_manual, split_view, split_heads}
 use Rattle.ff_planes.specs.declared.rectangle.Rectangle.{Rectangle}
 use Rattle.ff_vfilter.specs.declared.crop.CropSettings.{CropSettings}
 use Rattle.ff_vfilter.specs.declared.pad.PadSettings.{PadSettings}
+use Rattle.ff_vfilter.specs.declared.fps.FpsSettings.{FpsSettings}
 use Rattle.ff_vfilter.specs.declared.trim.Trim.{Trim}
 use Rattle.ff_vfilter.specs.Sizes.{no_sizes}
 use Rattle.ff_vfilter.specs.Trims.{trim_view}
@@ -43,7 +46,7 @@ use Rattle.ff_filters.specs.declared.name.FilterName.TheVariants as filter
 use Rattle.ff_filters.specs.Heads.{each_is}
 use Rattle.ff_filters.specs.ReadBy.{and_then, unless, read_by, configured_by}
 use Rattle.ff_filters.specs.SetBy.{set_none, set_expr, set_crop, set_pad, set_fps, set_split, set_stack, set_join}
-use Rattle.ff_filters.specs.Ticks.{set_times, range_in}
+use Rattle.ff_filters.specs.Ticks.{Times, set_times, range_in}
 
 -- a filter: how it is seen before anything was fed, and the heads of its outputs
 pub record Filtered : Type 0 where
@@ -57,14 +60,28 @@ plain_by wanted of args heads = configured_by wanted no_manual set_none (record 
 abbrev pub pass_by : (StreamHead → Bool) → List Arg → List StreamHead → Result Pass ConfigError
 pass_by wanted args heads = plain_by wanted (λ head. record { head = head }) args heads
 
+-- what a head and settings make: the expression has to be given
+abbrev pub rebased_as : StreamHead → ExprSettings → Result Rebase ConfigError
+rebased_as head s = cond s.given (Ok (record { head = head; first = None })) (Err BadOption)
+
 abbrev pub rebase_by : (StreamHead → Bool) → List Arg → List StreamHead → Result Rebase ConfigError
-rebase_by wanted args heads = configured_by wanted expr_manual set_expr (record { given = false }) (λ head s. cond s.given (Ok (record { head = head; first = None })) (Err BadOption)) args heads
+rebase_by wanted args heads = configured_by wanted expr_manual set_expr (record { given = false }) rebased_as args heads
+
+-- all times from 0 on
+abbrev pub all_times : Times
+all_times = record { start = 0; stop = None }
+
+abbrev pub trimmed_as : StreamHead → Times → Result Trim ConfigError
+trimmed_as head s = Ok (record { head = head; range = range_in (base_of_head head) s })
 
 abbrev pub trim_by : List Arg → List StreamHead → Result Trim ConfigError
-trim_by args heads = configured_by is_video range_manual set_times (record { start = 0; stop = None }) (λ head s. Ok (record { head = head; range = range_in (base_of_head head) s })) args heads
+trim_by args heads = configured_by is_video range_manual set_times all_times trimmed_as args heads
+
+abbrev pub atrimmed_as : StreamHead → Times → Result ATrim ConfigError
+atrimmed_as head s = Ok (record { head = head; range = range_in (base_of_head head) s })
 
 abbrev pub atrim_by : List Arg → List StreamHead → Result ATrim ConfigError
-atrim_by args heads = configured_by is_sound range_manual set_times (record { start = 0; stop = None }) (λ head s. Ok (record { head = head; range = range_in (base_of_head head) s })) args heads
+atrim_by args heads = configured_by is_sound range_manual set_times all_times atrimmed_as args heads
 
 abbrev pub cropped_as : StreamHead → CropSettings → Result (StreamHead × Rectangle) ConfigError
 cropped_as (Audio tb rate bits channels codec) s = Err BadSize
@@ -84,11 +101,18 @@ padded_as (Video tb format width height sar_num sar_den) s =
 abbrev pub pad_by : List Arg → List StreamHead → Result Padded ConfigError
 pad_by args heads = configured_by is_video pad_manual set_pad (record { sizes = no_sizes }) padded_as args heads
 
+abbrev pub paced_as : StreamHead → FpsSettings → Result (StreamHead × Fraction) ConfigError
+paced_as head s = Ok (head, s.base)
+
+-- 25 pictures a second where the rate isn't given
 abbrev pub fps_by : List Arg → List StreamHead → Result (StreamHead × Fraction) ConfigError
-fps_by args heads = configured_by is_video fps_manual set_fps (record { base = record { num = 1; den = 25 } }) (λ head s. Ok (head, s.base)) args heads
+fps_by args heads = configured_by is_video fps_manual set_fps (record { base = record { num = 1; den = 25 } }) paced_as args heads
+
+abbrev pub copied_as : StreamHead → SplitSettings → Result (StreamHead × ℕ) ConfigError
+copied_as head s = Ok (head, s.outputs)
 
 abbrev pub split_by : (StreamHead → Bool) → List Arg → List StreamHead → Result (StreamHead × ℕ) ConfigError
-split_by wanted args heads = configured_by wanted split_manual set_split (record { outputs = 2 }) (λ head s. Ok (head, s.outputs)) args heads
+split_by wanted args heads = configured_by wanted split_manual set_split (record { outputs = 2 }) copied_as args heads
 
 abbrev pub stacked_as : Direction → List StreamHead → StackSettings → Result StackOf ConfigError
 stacked_as d [] s = Err Pads
