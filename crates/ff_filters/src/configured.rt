@@ -1,4 +1,6 @@
-ghost use Rattle.std.specs.Prelude.{IfOk, IfErr};
+ghost use Rattle.std.specs.Prelude.{◌≡◌, ◌⊎◌, Ok, Err, IfOk, IfErr};
+ghost use Rattle.ff_values.specs.declared.config.ConfigError.TheVariants.{NoMemory};
+ghost use Rattle.ff_filters.specs.Configured.{configured_as};
 ghost use Rattle.ff_filters.specs.Makes.{Makes, Refuses};
 
 use crate::any::AnyFilter;
@@ -13,8 +15,24 @@ use ff_vfilter::{Crop, Fps, HFlip, Null, Pad, SetPts, Split, Trim, VFlip};
 use std::alloc::Global;
 
 /// The filter of this name by its arguments and the heads of its inputs; the heads of its outputs beside it. It refuses as the
-/// filter does: `Pads`, `Kind`, `UnknownOption` and `BadOption` by argument, `Mismatch`, `BadSize`.
+/// filter does: `Pads`, `Kind`, `UnknownOption` and `BadOption` by argument, `Mismatch`, `BadSize`. Name, arguments and heads
+/// determine all of that, as the function `configured_as` says: only memory may be wanting besides.
 pub fn configure(
+    alloc: Global,
+    name: FilterName,
+    args: &[Arg],
+    heads: &[StreamHead],
+) -> Result<(AnyFilter, Vec<StreamHead>), ConfigError>
+    ensures made { IfOk result (λ r. Makes name args.now heads.now (⟦<AnyFilter as Filter>⟧.view r.0) r.1.items) }
+    ensures refused { IfErr result (Refuses name args.now heads.now) }
+    ensures determined { IfOk result (λ r. configured_as name args.now heads.now ≡ Ok (record { view = ⟦<AnyFilter as Filter>⟧.view r.0; outs = r.1.items })) }
+    ensures refusal_determined { IfErr result (λ e. (e ≡ NoMemory) ⊎ (configured_as name args.now heads.now ≡ Err e)) }
+{
+    by_name(alloc, name, args, heads)
+}
+
+// The filter of this name, as each is configured.
+fn by_name(
     alloc: Global,
     name: FilterName,
     args: &[Arg],

@@ -12,10 +12,14 @@
 
 mod any;
 mod configured;
+mod laws;
 mod name;
 mod pads;
 
 pub use any::AnyFilter;
 pub use configured::configure;
+pub use laws::{
+    durations_are_read, filters_are_determined, filters_carry_their_heads, the_function_needs_no_memory,
+};
 pub use name::{FilterName, named};
 pub use pads::{inputs, outputs, takes_sound};

@@ -1,0 +1,161 @@
+-- Each filter is what its function says.
+use Rattle.std.proofs.Common.{◌≡◌, ℕ, ◌==◌, nat_le, Bool, true, false, cond, Option, Some, None, Result, Ok, Err, List, [], ◌∷◌, length, inl, inr, refl, sym, ap, subst, ◌∙◌}
+use Rattle.ff_time.specs.Fraction.{Fraction}
+use Rattle.ff_values.specs.declared.config.ConfigError.{ConfigError}
+use Rattle.ff_values.specs.declared.config.ConfigError.TheVariants.{Pads, Kind, Mismatch, BadSize, BadOption}
+use Rattle.ff_values.specs.declared.head.StreamHead.{StreamHead}
+use Rattle.ff_values.specs.declared.head.StreamHead.TheVariants.{Audio, Video}
+use Rattle.ff_values.specs.Heads.{base_of_head}
+use Rattle.ff_lang.specs.declared.graph.Arg.{Arg}
+use Rattle.ff_filter.specs.Options.{is_sound, is_video, Manual, AreRead, IsConfigured}
+use Rattle.ff_filter.specs.declared.range.RangeSettings.{RangeSettings}
+use Rattle.ff_filter.specs.declared.range.Range.{Range}
+use Rattle.ff_filter.specs.Ranges.{range_manual, IsRange}
+use Rattle.ff_filter.specs.declared.rebase.Rebase.{Rebase}
+use Rattle.ff_filter.specs.Plain.{no_manual, expr_manual, IsRebase}
+use Rattle.ff_spread.specs.Splits.{split_manual, IsSplit}
+use Rattle.ff_planes.specs.declared.rectangle.Rectangle.{Rectangle}
+use Rattle.ff_vfilter.specs.declared.trim.Trim.{Trim}
+use Rattle.ff_vfilter.specs.declared.crop.CropSettings.{CropSettings}
+use Rattle.ff_vfilter.specs.declared.pad.PadSettings.{PadSettings}
+use Rattle.ff_vfilter.specs.Crops.{crop_manual, crop_makes, IsCrop}
+use Rattle.ff_vfilter.specs.Pads.{pad_manual, Padded, pad_makes, IsPad}
+use Rattle.ff_vfilter.specs.FpsOptions.{fps_manual, IsFps}
+use Rattle.ff_vfilter.specs.Trims.{IsTrim}
+use Rattle.ff_afilter.specs.declared.atrim.ATrim.{ATrim}
+use Rattle.ff_afilter.specs.Trims.{IsATrim}
+use Rattle.ff_stacks.specs.declared.options.StackSettings.{StackSettings}
+use Rattle.ff_stacks.specs.declared.shape.Direction.{Direction}
+use Rattle.ff_stacks.specs.Options.{stack_manual, counted}
+use Rattle.ff_stacks.specs.Stacks.{StackOf, Unless, stack_on, AfterRead, IsStack}
+use Rattle.ff_stacks.specs.Heads.{input_fault, stack_fault}
+use Rattle.ff_joins.specs.ConcatOptions.{concat_manual, concat_set, concat_start, EachIs, AreJoined, IsConcat, segments_said, video_said, sound_said, is_of_kind}
+use Rattle.ff_joins.specs.JoinOptions.{channels_in, join_manual, inputs_said, is_like, AreAlike, IsJoin}
+use Rattle.ff_joins.specs.Arguments.{Checked, GoesOn, AfterRead as AfterArgs, each_head}
+use Rattle.ff_filters.specs.Ticks.{range_in, set_times}
+use Rattle.ff_filters.specs.Heads.{each_is}
+use Rattle.ff_filters.specs.ReadBy.{and_then, unless, read_by, configured_by}
+use Rattle.ff_filters.specs.SetBy.{set_none, set_expr, set_crop, set_pad, set_fps, set_split, set_stack, set_join}
+use Rattle.ff_filters.specs.Configured.{plain_by, rebase_by, trim_by, atrim_by, cropped_as, crop_by, padded_as, pad_by, fps_by, split_by, stacked_as, stack_by, checked, segments_as, concat_by, joined_as, join_by}
+use Rattle.ff_filters.proofs.Readings.{SetsBy, result_of, read_is, configured_is}
+use Rattle.ff_filters.proofs.SameHeads.{each_in, each_out}
+use Rattle.ff_filters.proofs.SettingsBy.{none_set, expr_set, crop_set, pad_set, fps_set, split_set, join_set, concat_sets, stack_set}
+use Rattle.ff_filters.proofs.RangeTicks.{times_of, range_set, range_is}
+
+-- ---- of one input
+
+pub plain_is : {X : Type 0} (wanted : StreamHead → Bool) (of : StreamHead → X) (args : List Arg) (heads : List StreamHead) (r : Result X ConfigError)
+    → IsConfigured wanted no_manual (record {}) (λ head s q. q ≡ Ok (of head)) args heads r → plain_by wanted of args heads ≡ r
+plain_is wanted of args heads r h =
+    configured_is no_manual (λ s. s) set_none none_set (λ head s q. q ≡ Ok (of head)) (λ head s. Ok (of head)) (λ head s q e. sym e) wanted (record {}) args heads r h
+
+pub rebase_is : (wanted : StreamHead → Bool) (args : List Arg) (heads : List StreamHead) (r : Result Rebase ConfigError) → IsRebase wanted args heads r → rebase_by wanted args heads ≡ r
+rebase_is wanted args heads r h =
+    configured_is expr_manual (λ s. s) set_expr expr_set (λ head s q. q ≡ cond s.given (Ok (record { head = head; first = None })) (Err BadOption))
+    (λ head s. cond s.given (Ok (record { head = head; first = None })) (Err BadOption)) (λ head s q e. sym e) wanted (record { given = false }) args heads r h
+
+pub crop_is : (args : List Arg) (heads : List StreamHead) (r : Result (StreamHead × Rectangle) ConfigError) → IsCrop args heads r → crop_by args heads ≡ r
+crop_is args heads r h = configured_is crop_manual (λ s. s) set_crop crop_set crop_makes cropped_as made is_video (record { sizes = _ }) args heads r h
+  where
+    made : (head : StreamHead) (s : CropSettings) (q : Result (StreamHead × Rectangle) ConfigError) → crop_makes head s q → cropped_as head s ≡ q
+    made (Audio tb rate bits channels codec) s q e = sym e
+    made (Video tb format width height sar_num sar_den) s q e = sym e
+
+pub pad_is : (args : List Arg) (heads : List StreamHead) (r : Result Padded ConfigError) → IsPad args heads r → pad_by args heads ≡ r
+pad_is args heads r h = configured_is pad_manual (λ s. s) set_pad pad_set pad_makes padded_as made is_video (record { sizes = _ }) args heads r h
+  where
+    made : (head : StreamHead) (s : PadSettings) (q : Result Padded ConfigError) → pad_makes head s q → padded_as head s ≡ q
+    made (Audio tb rate bits channels codec) s q e = sym e
+    made (Video tb format width height sar_num sar_den) s q e = sym e
+
+pub fps_is : (args : List Arg) (heads : List StreamHead) (r : Result (StreamHead × Fraction) ConfigError) → IsFps args heads r → fps_by args heads ≡ r
+fps_is args heads r h =
+    configured_is fps_manual (λ s. s) set_fps fps_set (λ head s q. q ≡ Ok (head, s.base)) (λ head s. Ok (head, s.base)) (λ head s q e. sym e)
+    is_video (record { base = record { num = 1; den = 25 } }) args heads r h
+
+pub split_is : (wanted : StreamHead → Bool) (args : List Arg) (heads : List StreamHead) (r : Result (StreamHead × ℕ) ConfigError) → IsSplit wanted args heads r → split_by wanted args heads ≡ r
+split_is wanted args heads r h =
+    configured_is split_manual (λ s. s) set_split split_set (λ head s q. q ≡ Ok (head, s.outputs)) (λ head s. Ok (head, s.outputs)) (λ head s q e. sym e)
+    wanted (record { outputs = 2 }) args heads r h
+
+-- a range of times, of a machine made of a head and a range
+ranged_is : {X : Type 0} (wanted : StreamHead → Bool) (of : StreamHead → Range → X) (all : RangeSettings) (args : List Arg) (heads : List StreamHead) (r : Result X ConfigError)
+    → all.start ≡ 0 → all.stop ≡ None
+    → IsConfigured wanted range_manual all (λ head settings q. (range : Range) × IsRange settings (base_of_head head) range × (q ≡ Ok (of head range))) args heads r
+    → configured_by wanted range_manual set_times (record { start = 0; stop = None }) (λ head s. Ok (of head (range_in (base_of_head head) s))) args heads ≡ r
+ranged_is {X} wanted of all args heads r first last h =
+    subst (λ (n : ℕ). configured_by wanted range_manual set_times (record { start = n; stop = None }) (λ head s. Ok (of head (range_in (base_of_head head) s))) args heads ≡ r) first
+    (subst (λ (o : Option ℕ). configured_by wanted range_manual set_times (record { start = all.start; stop = o }) (λ head s. Ok (of head (range_in (base_of_head head) s))) args heads ≡ r) last
+    (configured_is range_manual times_of set_times range_set (λ head settings q. (range : Range) × IsRange settings (base_of_head head) range × (q ≡ Ok (of head range)))
+    (λ head s. Ok (of head (range_in (base_of_head head) s))) made wanted all args heads r h))
+  where
+    made : (head : StreamHead) (s : RangeSettings) (q : Result X ConfigError) → (range : Range) × IsRange s (base_of_head head) range × (q ≡ Ok (of head range)) → Ok (of head (range_in (base_of_head head) (times_of s))) ≡ q
+    made head s q k = ap (λ (x : Range). Ok (of head x)) (range_is s (base_of_head head) k.0 k.1) ∙ sym k.2
+
+pub trim_is : (args : List Arg) (heads : List StreamHead) (r : Result Trim ConfigError) → IsTrim args heads r → trim_by args heads ≡ r
+trim_is args heads r h = ranged_is is_video (λ head range. record { head = head; range = range }) h.0 args heads r h.1 h.2 h.3
+
+pub atrim_is : (args : List Arg) (heads : List StreamHead) (r : Result ATrim ConfigError) → IsATrim args heads r → atrim_by args heads ≡ r
+atrim_is args heads r h = ranged_is is_sound (λ head range. record { head = head; range = range }) h.0 args heads r h.1 h.2 h.3
+
+-- ---- of several inputs
+
+unless_is : {X : Type 0} (o : Option ConfigError) (r q : Result X ConfigError) (Others : Type 0) → (Others → q ≡ r) → Unless o r Others → unless o q ≡ r
+unless_is None r q Others same h = same h
+unless_is (Some e) r q Others same h = sym h
+
+planned_is : (d : Direction) (heads : List StreamHead) (r : Result StackOf ConfigError) (q : Result StackSettings ConfigError) → AfterRead d heads r q → and_then (stacked_as d heads) q ≡ r
+planned_is d heads r (Err e) h = sym h
+planned_is d [] r (Ok s) h = sym h
+planned_is d (x ∷ xs) r (Ok s) h = unless_is (stack_fault d x (x ∷ xs)) r (Ok (stack_on d x (x ∷ xs) s.shortest)) (r ≡ Ok (stack_on d x (x ∷ xs) s.shortest)) (λ e. sym e) h
+
+result_same : {S : Type 0} (r : Result S ConfigError) → result_of (λ s. s) r ≡ r
+result_same (Ok s) = refl
+result_same (Err e) = refl
+
+pub stack_is : (d : Direction) (args : List Arg) (heads : List StreamHead) (r : Result StackOf ConfigError) → IsStack d args heads r → stack_by d args heads ≡ r
+stack_is d args heads r h =
+    unless_is (input_fault (counted false 0 2 args) is_video heads) r _ _
+    (λ (k : (q : Result StackSettings ConfigError) × AreRead stack_manual false 0 (record { inputs = 2; shortest = false }) args q × AfterRead d heads r q).
+    ap (and_then (stacked_as d heads)) (read_is stack_manual (λ s. s) set_stack stack_set false 0 (record { inputs = 2; shortest = false }) args k.0 k.1 ∙ result_same k.0) ∙ planned_is d heads r k.0 k.2) h
+
+checked_is : {X : Type 0} (c : Bool) (e : ConfigError) (q r : Result X ConfigError) (next : Result X ConfigError → Type 0) → (next r → q ≡ r) → Checked c e next r → checked c e q ≡ r
+checked_is true e q r next same h = same h
+checked_is false e q r next same h = sym h
+
+goes_on : {S X : Type 0} (next : S → Result X ConfigError → Type 0) (then : S → Result X ConfigError) (q : Result S ConfigError) (r : Result X ConfigError)
+    → ((s : S) → next s r → then s ≡ r) → GoesOn next q r → and_then then q ≡ r
+goes_on next then (Ok s) r same h = same s h
+goes_on next then (Err e) r same h = sym h
+
+args_is : {S X : Type 0} (manual : Manual S) (set : S → ℕ → List ℕ → Option S) (is : SetsBy manual (λ s. s) set) (s : S) (args : List Arg)
+    (next : S → Result X ConfigError → Type 0) (then : S → Result X ConfigError) (r : Result X ConfigError)
+    → ((t : S) → next t r → then t ≡ r) → AfterArgs manual s args next r → and_then then (read_by manual set false 0 s args) ≡ r
+args_is manual set is s args next then r same h =
+    ap (and_then then) (read_is manual (λ t. t) set is false 0 s args h.0 h.1 ∙ result_same h.0) ∙ goes_on next then h.0 r same h.2
+
+differ : (head : StreamHead) (hs : List StreamHead) (c : Bool) → each_is head hs ≡ c → (EachIs head hs → ⊥) → c ≡ false
+differ head hs true e none = absurd (none (each_out head hs e))
+differ head hs false e none = refl
+
+segments_is : (heads : List StreamHead) (r : Result (StreamHead × ℕ) ConfigError) → AreJoined heads r → segments_as heads ≡ r
+segments_is [] r h = sym h
+segments_is (x ∷ xs) r (inl h) = ap (λ (c : Bool). checked c Mismatch (Ok (x, length (x ∷ xs)))) (each_in x xs h.0) ∙ sym h.1
+segments_is (x ∷ xs) r (inr h) = ap (λ (c : Bool). checked c Mismatch (Ok (x, length (x ∷ xs)))) (differ x xs (each_is x xs) refl h.0) ∙ sym h.1
+
+pub concat_is : (args : List Arg) (heads : List StreamHead) (r : Result (StreamHead × ℕ) ConfigError) → IsConcat args heads r → concat_by args heads ≡ r
+concat_is args heads r h =
+    checked_is (length heads == segments_said args) Pads _ r _
+    (λ k. checked_is (each_head (is_of_kind (video_said args) (sound_said args)) heads) Kind _ r _
+    (λ l. args_is concat_manual concat_set concat_sets (concat_start args) args (λ s w. AreJoined heads w) (λ s. segments_as heads) r (λ s j. segments_is heads r j) l) k) h
+
+joined_is : (heads : List StreamHead) (r : Result StreamHead ConfigError) → AreAlike heads r → joined_as heads ≡ r
+joined_is [] r h = sym h
+joined_is (x ∷ xs) r h =
+    checked_is (each_head (is_like x) xs) Mismatch _ r _ (λ k. checked_is (nat_le (channels_in (x ∷ xs)) 8) BadSize _ r _ (λ e. sym e) k) h
+
+pub join_is : (args : List Arg) (heads : List StreamHead) (r : Result StreamHead ConfigError) → IsJoin args heads r → join_by args heads ≡ r
+join_is args heads r h =
+    checked_is (length heads == inputs_said args) Pads _ r _
+    (λ k. checked_is (each_head is_sound heads) Kind _ r _
+    (λ l. args_is join_manual set_join join_set (record { inputs = 2 }) args (λ s w. AreAlike heads w) (λ s. joined_as heads) r (λ s j. joined_is heads r j) l) k) h

@@ -1,0 +1,11 @@
+pub mod Durations
+pub mod LowestTerms
+pub mod SameHeads
+pub mod Readings
+pub mod RangeTicks
+pub mod SettingsBy
+pub mod Agreeing
+pub mod Refusing
+pub mod Parting
+pub mod Answering
+pub mod PortLanes

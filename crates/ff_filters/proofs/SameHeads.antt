@@ -1,0 +1,81 @@
+-- Heads are the same where their numbers are.
+use Rattle.std.proofs.Common.{◌≡◌, ℕ, zero, suc, true, List, [], ◌∷◌, refl, sym, ap, ◌∙◌}
+use Rattle.std.specs.Str.{bytes_eq}
+use Rattle.std.proofs.lemmas.Slice.Eq.{bytes_eq-Decides}
+use Rattle.std.proofs.lemmas.Bool.{and_parts, and_from}
+use Rattle.ff_time.specs.Fraction.{Fraction}
+use Rattle.ff_values.specs.declared.head.Codec.{Codec}
+use Rattle.ff_values.specs.declared.head.Codec.TheVariants.{PcmU8, PcmS16le, PcmS24le, PcmS32le, Flac, RawVideo}
+use Rattle.ff_values.specs.declared.head.StreamHead.{StreamHead}
+use Rattle.ff_values.specs.declared.head.StreamHead.TheVariants.{Audio, Video}
+use Rattle.ff_values.specs.declared.video.Format.{Format}
+use Rattle.ff_values.specs.declared.video.Format.TheVariants.{C420, C422, C444, Mono}
+use Rattle.ff_joins.specs.ConcatOptions.{EachIs}
+use Rattle.ff_filters.specs.Heads.{codec_number, format_number, numbers_of, each_is}
+
+codec_at : ℕ → Codec
+codec_at zero = PcmU8
+codec_at (suc zero) = PcmS16le
+codec_at (suc (suc zero)) = PcmS24le
+codec_at (suc (suc (suc zero))) = PcmS32le
+codec_at (suc (suc (suc (suc zero)))) = Flac
+codec_at (suc (suc (suc (suc (suc n))))) = RawVideo
+
+codec_there : (c : Codec) → codec_at (codec_number c) ≡ c
+unfolding codec_at
+codec_there PcmU8 = refl
+codec_there PcmS16le = refl
+codec_there PcmS24le = refl
+codec_there PcmS32le = refl
+codec_there Flac = refl
+codec_there RawVideo = refl
+
+format_at : ℕ → Format
+format_at zero = C420
+format_at (suc zero) = C422
+format_at (suc (suc zero)) = C444
+format_at (suc (suc (suc n))) = Mono
+
+format_there : (c : Format) → format_at (format_number c) ≡ c
+unfolding format_at
+format_there C420 = refl
+format_there C422 = refl
+format_there C444 = refl
+format_there Mono = refl
+
+same_codec : (c d : Codec) → codec_number c ≡ codec_number d → c ≡ d
+same_codec c d e = sym (codec_there c) ∙ ap codec_at e ∙ codec_there d
+
+same_format : (c d : Format) → format_number c ≡ format_number d → c ≡ d
+same_format c d e = sym (format_there c) ∙ ap format_at e ∙ format_there d
+
+fraction_same : (f g : Fraction) → f.num ≡ g.num → f.den ≡ g.den → f ≡ g
+fraction_same f g p q = ap (λ n. let h : Fraction = record { num = n; den = f.den } in h) p ∙ ap (λ d. let h : Fraction = record { num = g.num; den = d } in h) q
+
+same_numbers : (h k : StreamHead) → numbers_of h ≡ numbers_of k → h ≡ k
+same_numbers (Audio tb rate bits channels codec) (Audio tb' rate' bits' channels' codec') e =
+    let num : tb.num ≡ tb'.num = cc in
+    let den : tb.den ≡ tb'.den = cc in
+    let code : codec_number codec ≡ codec_number codec' = cc in
+    let base : tb ≡ tb' = fraction_same tb tb' num den in
+    let coded : codec ≡ codec' = same_codec codec codec' code in
+    cc
+same_numbers (Audio tb rate bits channels codec) (Video tb' format' width' height' sar_num' sar_den') e = cc
+same_numbers (Video tb format width height sar_num sar_den) (Audio tb' rate' bits' channels' codec') e = cc
+same_numbers (Video tb format width height sar_num sar_den) (Video tb' format' width' height' sar_num' sar_den') e =
+    let num : tb.num ≡ tb'.num = cc in
+    let den : tb.den ≡ tb'.den = cc in
+    let code : format_number format ≡ format_number format' = cc in
+    let base : tb ≡ tb' = fraction_same tb tb' num den in
+    let formed : format ≡ format' = same_format format format' code in
+    cc
+
+pub each_in : (head : StreamHead) (hs : List StreamHead) → EachIs head hs → each_is head hs ≡ true
+each_in head [] s = refl
+each_in head (h ∷ hs) s = and_from (bytes_eq (numbers_of h) (numbers_of head)) (each_is head hs) ((bytes_eq-Decides (numbers_of h) (numbers_of head)).1 (ap numbers_of s.0)) (each_in head hs s.1)
+
+pub each_out : (head : StreamHead) (hs : List StreamHead) → each_is head hs ≡ true → EachIs head hs
+each_out head [] e = tt
+each_out head (h ∷ hs) e =
+    let b = and_parts (bytes_eq (numbers_of h) (numbers_of head)) (each_is head hs) e in
+    (same_numbers h head ((bytes_eq-Decides (numbers_of h) (numbers_of head)).0 b.0), each_out head hs b.1)

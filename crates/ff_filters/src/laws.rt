@@ -1,0 +1,42 @@
+//! Laws of what filters are by their arguments and heads: functions that do nothing, whose clauses hold of all values.
+ghost use Rattle.std.specs.Prelude.{◌≡◌, ◌≢◌, ◌⊎◌, ◌↔◌, ℕ, List, Some, Ok, Err, map};
+ghost use Rattle.ff_time.specs.Duration.{IsDuration};
+ghost use Rattle.ff_values.specs.declared.config.ConfigError.{ConfigError};
+ghost use Rattle.ff_values.specs.declared.config.ConfigError.TheVariants.{NoMemory};
+ghost use Rattle.ff_values.specs.declared.head.StreamHead.{StreamHead};
+ghost use Rattle.ff_frame.specs.declared.item.Lane.TheVariants.{Frames};
+ghost use Rattle.ff_lang.specs.declared.graph.Arg.{Arg};
+ghost use Rattle.ff_filter.specs.Views.{View, IsNew};
+ghost use Rattle.ff_filters.specs.declared.name.FilterName.{FilterName};
+ghost use Rattle.ff_filters.specs.Configured.{Filtered, configured_as};
+ghost use Rattle.ff_filters.specs.Makes.{Makes, Refuses};
+ghost use Rattle.ff_filters.specs.Texts.{duration_of};
+
+/// A name, arguments and heads make at most one filter, which the function says; and it says why they are refused.
+pub fn filters_are_determined()
+    ensures made { (name : FilterName) (args : List Arg) (heads : List StreamHead) (v : View) (outs : List StreamHead)
+        → Makes name args heads v outs → configured_as name args heads ≡ Ok (record { view = v; outs = outs }) }
+    ensures refused { (name : FilterName) (args : List Arg) (heads : List StreamHead) (e : ConfigError)
+        → Refuses name args heads e → (e ≡ NoMemory) ⊎ (configured_as name args heads ≡ Err e) }
+{}
+
+/// That there was no memory is nothing that the function says.
+pub fn the_function_needs_no_memory()
+    ensures { (name : FilterName) (args : List Arg) (heads : List StreamHead) → configured_as name args heads ≢ Err NoMemory }
+{}
+
+/// The inputs of a filter carry frames of the heads that it was configured for, its outputs frames of the heads beside it, and
+/// nothing came to it yet.
+pub fn filters_carry_their_heads()
+    ensures ins { (name : FilterName) (args : List Arg) (heads : List StreamHead) (f : Filtered)
+        → configured_as name args heads ≡ Ok f → f.view.ins ≡ map Frames heads }
+    ensures outs { (name : FilterName) (args : List Arg) (heads : List StreamHead) (f : Filtered)
+        → configured_as name args heads ≡ Ok f → f.view.outs ≡ map Frames f.outs }
+    ensures new { (name : FilterName) (args : List Arg) (heads : List StreamHead) (f : Filtered)
+        → configured_as name args heads ≡ Ok f → IsNew f.view }
+{}
+
+/// The function that reads a duration reads all of them, and nothing else.
+pub fn durations_are_read()
+    ensures { (text : List ℕ) (us : ℕ) → IsDuration text us ↔ (duration_of text ≡ Some us) }
+{}
