@@ -36,7 +36,7 @@ are_below flags taken below (j ∷ js) e =
     let h = both (is_taken flags j) (are_taken flags js) e in
     and_both (is_taken taken j) (are_taken taken js) (below j h.0) (are_below flags taken below js h.1)
 
-size_set : (bs : List Bool) (k : ℕ) (b : Bool) → length (slice_set bs k b) ≡ length bs
+pub size_set : (bs : List Bool) (k : ℕ) (b : Bool) → length (slice_set bs k b) ≡ length bs
 size_set [] k b = refl
 size_set (c ∷ bs) zero b = refl
 size_set (c ∷ bs) (suc k) b = ap (λ (n : ℕ). suc n) (size_set bs k b)
@@ -54,7 +54,7 @@ taken_or_not true = inl refl
 taken_or_not false = inr refl
 
 -- what was taken stays taken with one more that was taken there too
-more_below : (flags taken : List Bool) (k : ℕ) → k < length flags → ((j : ℕ) → is_taken flags j ≡ true → is_taken taken j ≡ true) → is_taken taken k ≡ true
+pub more_below : (flags taken : List Bool) (k : ℕ) → k < length flags → ((j : ℕ) → is_taken flags j ≡ true → is_taken taken j ≡ true) → is_taken taken k ≡ true
     → (j : ℕ) → is_taken (slice_set flags k true) j ≡ true → is_taken taken j ≡ true
 more_below flags taken k lt below here j e = at (j == k) refl
   where
@@ -67,7 +67,7 @@ more_below flags taken k lt below here j e = at (j == k) refl
         below j (sym (get_or-set_other flags k j true false other) ∙ e)
 
 -- Where none can be taken next though one wasn't taken, no order goes on from less.
-stuck : (feeders : List (List ℕ)) (taken : List Bool) → ((j : ℕ) → j < length taken → is_ready feeders taken j ≡ false) → all_taken taken ≡ false
+pub stuck : (feeders : List (List ℕ)) (taken : List Bool) → ((j : ℕ) → j < length taken → is_ready feeders taken j ≡ false) → all_taken taken ≡ false
     → (flags : List Bool) → length flags ≡ length taken → ((j : ℕ) → is_taken flags j ≡ true → is_taken taken j ≡ true) → (ks : List ℕ) → IsOrderFrom feeders flags ks → ⊥
 stuck feeders taken none some flags same below [] h =
     let all : all_taken taken ≡ true = taken_all taken (λ k lt. below k (taken_at flags k (omega arith) h)) in
@@ -83,7 +83,7 @@ stuck feeders taken none some flags same below (k ∷ ks) h =
         and_both (not (is_taken taken k)) (are_taken taken (slice_index_or feeders k [])) (true_not (is_taken taken k) e) (are_below flags taken below (slice_index_or feeders k []) fed) in
         let clash : true ≡ false = sym ready ∙ none k (subst (λ (n : ℕ). k < n) same h.0) in cc
 
-none_yet : (n j : ℕ) → is_taken (replicate n false) j ≡ false
+pub none_yet : (n j : ℕ) → is_taken (replicate n false) j ≡ false
 none_yet zero j = refl
 none_yet (suc n) zero = refl
 none_yet (suc n) (suc j) = none_yet n j
@@ -104,7 +104,7 @@ one_more feeders start taken front k lt ready lowest h ks more =
 pub unready : (feeders : List (List ℕ)) (taken : List Bool) (k : ℕ) → is_ready feeders taken k ≡ true → is_taken taken k ≡ false
 unready feeders taken k e = not_true (is_taken taken k) (both (not (is_taken taken k)) (are_taken taken (slice_index_or feeders k [])) e).0
 
-lists_size : {A : Type 0} (vs : List (Vec ℕ A)) → length (lists vs) ≡ length vs
+pub lists_size : {A : Type 0} (vs : List (Vec ℕ A)) → length (lists vs) ≡ length vs
 lists_size vs = length-map vs (λ v. v.items)
 
 -- all were taken

@@ -1,5 +1,6 @@
 -- An order of things in which each comes behind those that feed it.
-use Rattle.std.specs.Prelude.{◌≡◌, ℕ, suc, ◌<◌, ◌&&◌, Bool, true, false, not, List, [], ◌∷◌, length, map, replicate, slice_index_or, slice_set, cond}
+use Rattle.std.specs.Prelude.{◌≡◌, ℕ, zero, suc, ◌<◌, nat_lt, ◌&&◌, Bool, true, false, not, List, [], ◌∷◌, length, map, replicate, slice_index_or, slice_set, cond}
+use Rattle.std.specs.Prelude.{Option, None, Some, if◌then◌else◌}
 use Rattle.std.specs.declared.vec.Vec.{Vec}
 
 -- each list of numbers
@@ -48,3 +49,30 @@ IsOrder feeders ks = IsOrderFrom feeders (replicate (length feeders) false) ks
 -- the one that takes the lowest first
 abbrev pub IsLowestOrder : List (List ℕ) → List ℕ → Type 0
 IsLowestOrder feeders ks = IsLowestFrom feeders (replicate (length feeders) false) ks
+
+-- ---- the order itself
+
+-- the lowest that is ready, of so many things from number k on
+abbrev pub first_ready : List (List ℕ) → List Bool → ℕ → ℕ → Option ℕ
+first_ready feeders taken k zero = None
+first_ready feeders taken k (suc n) = if is_ready feeders taken k then Some k else first_ready feeders taken (suc k) n
+
+abbrev pub next_ready : List (List ℕ) → List Bool → Option ℕ
+next_ready feeders taken = first_ready feeders taken 0 (length taken)
+
+-- this one if there is one, and then again and again the lowest that is ready, in so many steps at most
+abbrev pub order_on : List (List ℕ) → List Bool → ℕ → Option ℕ → List ℕ
+order_on feeders taken steps None = []
+order_on feeders taken zero (Some k) = []
+order_on feeders taken (suc steps) (Some k) = k ∷ order_on feeders (slice_set taken k true) steps (next_ready feeders (slice_set taken k true))
+
+abbrev pub order_from : List (List ℕ) → List Bool → ℕ → List ℕ
+order_from feeders taken steps = order_on feeders taken steps (next_ready feeders taken)
+
+-- each thing behind those that feed it, of those that are ready the lowest first, until none is ready
+abbrev pub order_of : List (List ℕ) → List ℕ
+order_of feeders = order_from feeders (replicate (length feeders) false) (length feeders)
+
+-- not all were taken: things feed one another in a loop, or one is fed by what isn't there
+abbrev pub loops : List (List ℕ) → Bool
+loops feeders = nat_lt (length (order_of feeders)) (length feeders)

@@ -6,6 +6,8 @@
 //! ```
 #![tactic(auto)]
 
+mod laws;
 mod taking;
 
+pub use laws::{loops_have_no_order, order_is_lowest, order_is_one};
 pub use taking::order;

@@ -1,5 +1,6 @@
-ghost use Rattle.std.specs.Prelude.{◌≡◌, ◌<◌, ℕ, List, length, replicate, slice_set, IfOk, IfSome, IsNone, Ok, None, Some, true, false};
+ghost use Rattle.std.specs.Prelude.{◌≡◌, ◌<◌, ℕ, List, length, replicate, slice_set, IfOk, IfSome, IsNone, Ok, None, Some, is_some, not, true, false};
 ghost use Rattle.ff_order.specs.Orders.{is_taken as taken_is, all_taken, are_taken as are_all_taken, is_ready as ready_is, lists, IsOrder, IsLowestOrder, left};
+ghost use Rattle.ff_order.specs.Orders.{first_ready, order_of, loops};
 
 use std::alloc::{AllocError, Global};
 
@@ -74,6 +75,8 @@ fn none_taken(alloc: Global, count: usize) -> Result<Vec<bool>, AllocError>
 pub fn order(alloc: Global, feeders: &[Vec<usize>]) -> Result<Option<Vec<usize>>, AllocError>
     ensures lowest { IfOk result (λ o. IfSome o (λ things. IsLowestOrder (lists feeders.now) things.items)) }
     ensures looped { result ≡ Ok None → (things : List ℕ) → IsOrder (lists feeders.now) things → ⊥ }
+    ensures those { IfOk result (λ o. IfSome o (λ things. things.items ≡ order_of (lists feeders.now))) }
+    ensures found { IfOk result (λ o. is_some o ≡ not (loops (lists feeders.now))) }
 {
     let mut taken = none_taken(alloc, feeders.len())?;
     let mut things = Vec::new(alloc);
