@@ -1,3 +1,4 @@
+pub mod Alike
 pub mod Fronting
 pub mod Giving
 pub mod Ordered

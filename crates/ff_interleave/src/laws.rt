@@ -27,3 +27,8 @@ pub fn what_is_decided_stays()
 pub fn whole_streams_are_merged_whole()
     ensures { (base : ℕ → Fraction) (n : ℕ) (ss : ℕ → Stream APkt) → ((p : ℕ) → p < n → (ss p).mark ≡ whole) → interleaved n base ss ≡ merge_to base n ss }
 {}
+
+/// The merge of one stream has its packets, in their own order, and all of them are decided.
+pub fn one_stream_is_its_packets()
+    ensures { (base : ℕ → Fraction) (ss : ℕ → Stream APkt) → interleaved 1 base ss ≡ placed 0 (ss 0).items }
+{}

@@ -16,7 +16,7 @@ mod queue;
 
 pub use interleave::Interleave;
 pub use laws::{
-    a_merge_has_each_stream, a_merge_is_in_order, what_is_decided_stays,
+    a_merge_has_each_stream, a_merge_is_in_order, one_stream_is_its_packets, what_is_decided_stays,
     whole_streams_are_merged_whole,
 };
 pub use queue::PacketQueue;
