@@ -142,12 +142,12 @@ module _ (rules : Rules) (heads : List (List StreamHead)) where
       let rest = behind_ok (outputs_from rules inside (o + 1) (g + graphs_of ps.0) (labels_of out ++ used) [] outs) (λ ys. Ok (ps.0 ∷ [] ++ ys)) all ps.2 in
       subst AllCome (same_ok (ps.0 ∷ rest.0) all rest.2) (all_come out o g 0 pads.0 ps.0 ps.1 (chosen_known out o used pads.0 pads.1), outputs_come (o + 1) (g + graphs_of ps.0) (labels_of out ++ used) outs rest.0 rest.1)
 
-each_of : {A : Type 0} (P : A → Type 0) (x : A) (xs : List A) → AllByRecursion P xs → IsAmong x xs → P x
+pub each_of : {A : Type 0} (P : A → Type 0) (x : A) (xs : List A) → AllByRecursion P xs → IsAmong x xs → P x
 each_of P x [] all i = absurd i
 each_of P x (y ∷ ys) all (inl e) = subst P e all.0
 each_of P x (y ∷ ys) all (inr i) = each_of P x ys all.1 i
 
-of_flat : {A B : Type 0} (f : A → List B) (y : B) (xs : List A) → IsAmong y (flat_map f xs) → (x : A) × IsAmong x xs × IsAmong y (f x)
+pub of_flat : {A B : Type 0} (f : A → List B) (y : B) (xs : List A) → IsAmong y (flat_map f xs) → (x : A) × IsAmong x xs × IsAmong y (f x)
 of_flat f y [] i = absurd i
 of_flat f y (x ∷ xs) i = elim (among_either y (f x) (flat_map f xs) i) [ inl j ↦ (x, inl refl, j) | inr j ↦ (let r = of_flat f y xs j in (r.0, inr r.1, r.2)) ]
 
@@ -155,7 +155,7 @@ row_holds : (T : OutStream → Type 0) (n o k : ℕ) (ss : List OutStream) → A
 row_holds T n o k [] all = tt
 row_holds T n o k (s ∷ ss) all = (all.0, row_holds T (n + 1) o (k + 1) ss all.1)
 
-place_holds : (T : OutStream → Type 0) (n o : ℕ) (rows : List (List OutStream)) → AllByRecursion (λ row. AllByRecursion T row) rows → AllByRecursion (λ p. T p.what) (place_from n o rows)
+pub place_holds : (T : OutStream → Type 0) (n o : ℕ) (rows : List (List OutStream)) → AllByRecursion (λ row. AllByRecursion T row) rows → AllByRecursion (λ p. T p.what) (place_from n o rows)
 place_holds T n o [] all = tt
 place_holds T n o (row ∷ rows) all = all_joined (λ p. T p.what) (place_row n o 0 row) (place_from (n + length row) (o + 1) rows) (row_holds T n o 0 row all.0) (place_holds T (n + length row) (o + 1) rows all.1)
 

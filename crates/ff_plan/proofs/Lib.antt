@@ -1,8 +1,12 @@
 mod Among
 mod Best
+mod Counts
 mod Filters
 mod Fitting
 mod Fronts
+mod Given
+mod GraphWires
+mod Graphed
 mod Kept
 mod NodeKinds
 mod Known
@@ -10,12 +14,16 @@ mod Laid
 mod Lanes
 mod Layouts
 mod Limits
+mod Made
 mod Memory
 mod Named
 mod Numbered
+mod Once
+mod Outs
 mod Places
 mod Plain
 mod Plans
+mod Ported
 mod Results
 mod Rows
 mod Singles
@@ -23,3 +31,4 @@ mod Small
 mod Steps
 mod Today
 mod Upward
+mod Uses

@@ -17,6 +17,7 @@
 
 mod choosing;
 mod examples;
+mod graph_laws;
 mod laws;
 mod layout;
 mod nodes;

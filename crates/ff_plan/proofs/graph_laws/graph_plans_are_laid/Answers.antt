@@ -1,0 +1,7 @@
+use Rattle.std.proofs.Common.{length}
+use Rattle.ff_labels.specs.Order.{feeds}
+use Rattle.ff_plan.proofs.Graphed.{laid}
+use Rattle.ff_plan.proofs.graph_laws.graph_plans_are_laid.Goals as goal
+
+pub returns : goal.returns
+returns c = λ rules job heads l h. laid rules job heads l (c.orders_go_upward.ensures (feeds job.graphs) (length job.graphs)) h

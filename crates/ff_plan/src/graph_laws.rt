@@ -1,0 +1,38 @@
+// What holds of plans with graphs.
+ghost use Rattle.std.specs.Prelude.{◌≡◌, ◌≤◌, List, length, Ok};
+ghost use Rattle.ff_edges.specs.Ports.{shape_of, IsFed};
+ghost use Rattle.ff_plan.specs.Graphs.{AreRules};
+ghost use Rattle.ff_plan.specs.Laws.{IsLaid, GraphsHaveOuts};
+ghost use Rattle.ff_plan.specs.Layout.{Layout};
+ghost use Rattle.ff_plan.specs.Planned.{laid_out, planned};
+ghost use Rattle.ff_plan.specs.Rules.{Rules};
+ghost use Rattle.ff_plan.specs.declared.planned.Plan.{Plan};
+ghost use Rattle.ff_values.specs.declared.head.StreamHead.{StreamHead};
+ghost use Rattle.ff_words.specs.declared.job.Job.{Job};
+
+use ff_labels::{orders_are_whole, orders_go_upward};
+
+/// What is laid out has all its origins, with graphs too: each graph stands after those that feed it.
+pub fn graph_plans_are_laid()
+    ensures { (rules : Rules) (job : Job) (heads : List (List StreamHead)) (l : Layout) → laid_out rules job heads ≡ Ok l → IsLaid l }
+{
+    orders_go_upward();
+}
+
+/// Each open output pad of each graph, complex or simple, is used once, where labels stand at the open pads as they are written.
+pub fn graphs_have_outs()
+    ensures { (rules : Rules) (job : Job) (heads : List (List StreamHead)) (l : Layout) → AreRules rules → 1 ≤ length job.outputs
+        → laid_out rules job heads ≡ Ok l → GraphsHaveOuts l }
+{
+    orders_go_upward();
+    orders_are_whole();
+}
+
+/// So every plan is fed, with graphs and Shortest nodes: each input of each node is an output of an earlier one.
+pub fn graph_plans_are_fed()
+    ensures { (rules : Rules) (job : Job) (heads : List (List StreamHead)) (p : Plan) → AreRules rules → 1 ≤ length job.outputs
+        → planned rules job heads ≡ Ok p → IsFed (shape_of p.edges) (length p.nodes) p.edges }
+{
+    orders_go_upward();
+    orders_are_whole();
+}
