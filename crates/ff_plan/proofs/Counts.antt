@@ -1,5 +1,5 @@
 -- How often something stands in a list.
-use Rattle.std.proofs.Common.{◌≡◌, ◌⊎◌, inl, inr, ℕ, zero, suc, ◌+◌, ◌<◌, ◌≤◌, ◌==◌, ◌||◌, Bool, true, false, cond, List, [], ◌∷◌, ◌++◌, map, refl, sym, ap, ◌∙◌, arith}
+use Rattle.std.proofs.Common.{◌≡◌, inl, inr, ℕ, zero, suc, ◌+◌, ◌<◌, ◌≤◌, ◌==◌, ◌||◌, Bool, true, false, cond, List, [], ◌∷◌, ◌++◌, map, length, refl, sym, ap, ◌∙◌, arith}
 use Rattle.std.proofs.lemmas.Bool.Decides.{nat_tests}
 use Rattle.std.proofs.lemmas.Map.Steps.{length-le_from_distinct_below, le-length_from_below}
 use Rattle.std.proofs.lemmas.Slice.Eq.{bytes_eq-Decides}
@@ -223,29 +223,27 @@ is_among q (x ∷ xs) h = step (x == q) refl h (λ k. is_among q xs k) where
   step true e k rest = inl (is_same x q e)
   step false e k rest = inr (rest k)
 
--- each number below n once and no other: these are the numbers below their length, once each
-pub once_each : (n : ℕ) (xs : List ℕ) → ((q : ℕ) → q < n → tally (λ x. x == q) xs ≡ 1) → ((q : ℕ) → n ≤ q → tally (λ x. x == q) xs ≡ 0) → EachOnce xs
-once_each n xs in_ out =
-    let few : (q : ℕ) → tally (λ x. x == q) xs ≤ 1 = (λ q. few_at q) in
-    let dis = distinct_by xs few in
-    let most = length-le_from_distinct_below xs n dis (λ q h. low q (any_same_is q h)) in
-    let least = le-length_from_below xs n (λ q lt. any_same q xs ∙ any_tally (λ x. x == q) xs (let o = in_ q lt in omega (arith, o))) in
-    record {
-      all = λ q lt. is_among q xs (any_tally (λ x. x == q) xs (let o = in_ q (omega (arith, lt, most)) in omega (arith, o)));
-      below = λ q i. (let l = low q (tally_among (λ x. x == q) q xs i (same_test q q refl)) in omega (arith, l, least));
-      distinct = dis;
-    } where
-      less : (q : ℕ) → (q < n) ⊎ (n ≤ q)
-      less q = less_or q n
+-- each number below n once and no other
+module _ (n : ℕ) (xs : List ℕ) (in_ : (q : ℕ) → q < n → tally (λ x. x == q) xs ≡ 1) (out : (q : ℕ) → n ≤ q → tally (λ x. x == q) xs ≡ 0) where
+  few_at : (q : ℕ) → tally (λ x. x == q) xs ≤ 1
+  few_at q = elim (less_or q n) [ inl lt ↦ (let o = in_ q lt in omega (arith, o)) | inr le ↦ (let o = out q le in omega (arith, o)) ]
 
-      few_at : (q : ℕ) → tally (λ x. x == q) xs ≤ 1
-      few_at q = elim (less q) [ inl lt ↦ (let o = in_ q lt in omega (arith, o)) | inr le ↦ (let o = out q le in omega (arith, o)) ]
+  low : (q : ℕ) → 1 ≤ tally (λ x. x == q) xs → q < n
+  low q h = elim (less_or q n) [ inl lt ↦ lt | inr le ↦ absurd (let o = out q le in omega (arith, o, h)) ]
 
-      any_same_is : (q : ℕ) → list_any (λ x. q == x) xs ≡ true → 1 ≤ tally (λ x. x == q) xs
-      any_same_is q h = tally_any (λ x. x == q) xs (sym (any_same q xs) ∙ h)
+  pub once_length : length xs ≡ n
+  once_length =
+      let most = length-le_from_distinct_below xs n (distinct_by xs few_at) (λ q h. low q (tally_any (λ x. x == q) xs (sym (any_same q xs) ∙ h))) in
+      let least = le-length_from_below xs n (λ q lt. any_same q xs ∙ any_tally (λ x. x == q) xs (let o = in_ q lt in omega (arith, o))) in
+      omega (arith, most, least)
 
-      low : (q : ℕ) → 1 ≤ tally (λ x. x == q) xs → q < n
-      low q h = elim (less q) [ inl lt ↦ lt | inr le ↦ absurd (let o = out q le in omega (arith, o, h)) ]
+  -- these are the numbers below their length, once each
+  pub once_each : EachOnce xs
+  once_each = record {
+    all = λ q lt. is_among q xs (any_tally (λ x. x == q) xs (let long = once_length in let o = in_ q (omega (arith, lt, long)) in omega (arith, o)));
+    below = λ q i. (let long = once_length in let l = low q (tally_among (λ x. x == q) q xs i (same_test q q refl)) in omega (arith, l, long));
+    distinct = distinct_by xs few_at;
+  }
 
 -- ---- texts
 

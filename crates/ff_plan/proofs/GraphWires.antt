@@ -94,7 +94,7 @@ module _ (l : Layout) (laid : IsLaid l) (k : ℕ) (low : before_graphs l ≤ k) 
       let place_ : position_or_len (has h) l.graphs ≡ k - before_graphs l = omega (arith, e) in
       sym (is_same x.graph h (place_passes (has h) l.graphs (k - before_graphs l) x at place_))
 
-  graph_test : (h : ℕ) → (graph_at l h == k) ≡ (h == g)
+  pub graph_test : (h : ℕ) → (graph_at l h == k) ≡ (h == g)
   graph_test h = step (h == g) refl where
     step : (b : Bool) → (h == g) ≡ b → (graph_at l h == k) ≡ b
     step true e = same_test (graph_at l h) k (ap (λ (n : ℕ). graph_at l n) (is_same h g e) ∙ own_node)
@@ -112,10 +112,10 @@ module _ (l : Layout) (laid : IsLaid l) (k : ℕ) (low : before_graphs l ≤ k) 
   abbrev out_sources : List Origin
   out_sources = map (λ (p : Placed). p.what.source) (placed l)
 
-  stream_test : (p : Placed) → IsAmong p (placed l) → (origin_at l p.what.source == k) ≡ of_graph g p.what.source
+  pub stream_test : (p : Placed) → IsAmong p (placed l) → (origin_at l p.what.source == k) ≡ of_graph g p.what.source
   stream_test p i = origin_test (length l.graphs) p.what.source (laid.streams p i) (among_right p.what.source (in_sources l.graphs) out_sources (among_map (λ (p : Placed). p.what.source) p (placed l) i))
 
-  pad_test : (y : Laid) → IsAmong y l.graphs → (i : InPad) → IsAmong i y.ins → (origin_at l i.source == k) ≡ of_graph g i.source
+  pub pad_test : (y : Laid) → IsAmong y l.graphs → (i : InPad) → IsAmong i y.ins → (origin_at l i.source == k) ≡ of_graph g i.source
   pad_test y iy i ii = origin_test (position_or_len (has y.graph) l.graphs) i.source (laid.graphs y i iy ii)
       (among_left i.source (in_sources l.graphs) out_sources (among_flat (λ (y : Laid). map (λ (i : InPad). i.source) y.ins) i.source y l.graphs iy (among_map (λ (i : InPad). i.source) i y.ins ii)))
 
@@ -141,7 +141,7 @@ module _ (l : Layout) (laid : IsLaid l) (k : ℕ) (low : before_graphs l ≤ k) 
   ends_named false =
       append-nil (named_at k (map (enc_wire l false) (placed l))) ∙ some_named k (enc_wire l false) g (λ (p : Placed). p.what.source) (placed l) stream_test (λ p. refl)
 
-  all_named : named_at k (wires_of l) ≡ pads_of g (origins l)
+  pub all_named : named_at k (wires_of l) ≡ pads_of g (origins l)
   all_named =
       let demuxes = map (demux_wire l) (used l) in let pads = flat_map (pad_wires l) l.graphs in let shorts = shortest_wires l l.joint in
       let encs = map (enc_wire l l.joint) (placed l) in let muxes = map (mux_wire l) (placed l) in
@@ -168,7 +168,7 @@ module _ (l : Layout) (laid : IsLaid l) (k : ℕ) (low : before_graphs l ≤ k) 
   )
   ends_have false = (tt, all_map (IsNamedOf k) (enc_wire l false) (placed l) (λ p i e. named_origin p.what.source (stream_test p i) e))
 
-  are_named : AllByRecursion (IsNamedOf k) (wires_of l)
+  pub are_named : AllByRecursion (IsNamedOf k) (wires_of l)
   are_named =
       let N = IsNamedOf k in
       let shorts = shortest_wires l l.joint in let encs = map (enc_wire l l.joint) (placed l) in let muxes = map (mux_wire l) (placed l) in

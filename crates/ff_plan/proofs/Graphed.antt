@@ -116,6 +116,8 @@ pub record Walked (rules : Rules) (job : Job) (heads : List (List StreamHead)) (
   pub rows : List (List Passed)
   pub outputs : AreOutputs rules (inside_of heads job made) (length job.graphs) (taken_labels job.graphs) (unlabelled made (numbers job.graphs)) job.outputs rows
   pub is : layout_of rules heads made rows ≡ l
+  pub made_is : make_all rules heads job.graphs ≡ Ok made
+  pub rows_are : outputs_from rules (inside_of heads job made) 0 (length job.graphs) (taken_labels job.graphs) (unlabelled made (numbers job.graphs)) job.outputs ≡ Ok rows
   pub labels : labels_fault rules heads job.graphs ≡ None
   pub loops : loop_fault rules job.graphs ≡ None
   pub used : unused_label job ≡ None
@@ -147,6 +149,8 @@ module _ (rules : Rules) (job : Job) (heads : List (List StreamHead)) (l : Layou
         rows = outs.0;
         outputs = outputs_are rules (inside_of heads job made.0) 0 (length job.graphs) (taken_labels job.graphs) (unlabelled made.0 (numbers job.graphs)) job.outputs outs.0 outs.1;
         is = same_ok (layout_of rules heads made.0 outs.0) l (unless_ok wide done l (unless_ok many narrow l (unless_ok (unused_label job) few l outs.2)));
+        made_is = made.1;
+        rows_are = outs.1;
         labels = none_of (labels_fault rules heads job.graphs) next l h;
         loops = none_of (loop_fault rules job.graphs) last l second;
         used = none_of (unused_label job) few l outs.2;

@@ -10,14 +10,14 @@ use Rattle.ff_plan.specs.Laws.{IsNextOf}
 use Rattle.ff_plan.proofs.Numbered.{Numbered, hit, miss, tally_hit, tally_miss, both, other_port, other_key, ins_numbered, outs_numbered}
 
 -- the value at each port, of so many
-at_ports_is : (f : ℕ → ℕ) (n : ℕ) → at_ports f n ≡ map f (range_with_len 0 n)
+pub at_ports_is : (f : ℕ → ℕ) (n : ℕ) → at_ports f n ≡ map f (range_with_len 0 n)
 at_ports_is f zero = refl
 at_ports_is f (suc n) =
     let one : n + 1 ≡ suc n = omega arith in
     ap (λ (l : List ℕ). l ++ f n ∷ []) (at_ports_is f n)
     ∙ (sym (map-range_with_len_more f 0 n n (omega arith)) ∙ ap (λ (k : ℕ). map f (range_with_len 0 k)) one)
 
-mapped : {A B C : Type 0} (h : B → Option C) (f : A → B) (xs : List A) → filter_map h (map f xs) ≡ filter_map (λ x. h (f x)) xs
+pub mapped : {A B C : Type 0} (h : B → Option C) (f : A → B) (xs : List A) → filter_map h (map f xs) ≡ filter_map (λ x. h (f x)) xs
 mapped h f [] = refl
 mapped {A} {B} {C} h f (x ∷ xs) = ap (λ (l : List C). cons_option (h (f x)) l) (mapped h f xs)
 

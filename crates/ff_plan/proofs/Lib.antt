@@ -5,6 +5,8 @@ mod Filters
 mod Fitting
 mod Fronts
 mod Given
+mod GraphFits
+mod GraphLanes
 mod GraphWires
 mod Graphed
 mod Kept

@@ -114,5 +114,9 @@ module _ (k : ℕ) where
   named_behind before [] named = refl
   named_behind before (w ∷ ws) named = named_step before w ws (w.from == k) refl named.0 (named_behind (w ∷ before) ws named.1)
 
+  -- as many edges as named ports
+  pub named_count : (wires : List Wire) → AllByRecursion (IsNamedOf k) wires → tally (λ (e : Edge). e.from == k) (edges_of wires) ≡ length (named_at k wires)
+  named_count wires named = count (λ e. e.from) (λ e. e.out_port) k (edges_of wires) ∙ ap (λ (ps : List ℕ). length ps) (named_behind [] wires named)
+
   pub named_outs : (wires : List Wire) → AllByRecursion (IsNamedOf k) wires → EachOnce (named_at k wires) → HasOuts (edges_of wires) k
   named_outs wires named once = once_each (λ e. e.from) (λ e. e.out_port) k (edges_of wires) (subst EachOnce (sym (named_behind [] wires named)) once)

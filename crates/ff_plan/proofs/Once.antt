@@ -325,7 +325,7 @@ module _ (rules : Rules) (are : AreRules rules) (job : Job) (heads : List (List 
     given_by : (label : List ℕ) → is_one_of label (given_in s.how.text) ≡ true → giver graphs label ≡ Some h
     given_by label is = giver_is label graphs h s.how.text s.how.there is (few_given label)
 
-    in_all : made_at made h ≡ Some m
+    pub in_all : made_at made h ≡ Some m
     in_all =
         subst (λ (ms : List Made). made_at ms h ≡ Some m) s.is
         (find_right (λ (x : Made). x.laid.graph == h) s.front s.rest m s.fresh (same_test m.laid.graph h s.how.number))

@@ -128,7 +128,7 @@ module _ (rules : Rules) (are : AreRules rules) (job : Job) (heads : List (List 
   abbrev Passing : Passed → Type 0
   Passing p = Passes rules (inside_of heads job w.made) p
 
-  passing : AllByRecursion (λ ps. AllByRecursion Passing ps) w.rows
+  pub passing : AllByRecursion (λ ps. AllByRecursion Passing ps) w.rows
   passing = outputs_pass rules (inside_of heads job w.made) (length job.graphs) (taken_labels job.graphs) (unlabelled w.made (numbers job.graphs)) job.outputs w.rows w.outputs (unlabelled_come heads w.made (numbers job.graphs))
 
   abbrev sources : List Laid → List Origin
@@ -230,7 +230,7 @@ module _ (rules : Rules) (are : AreRules rules) (job : Job) (heads : List (List 
 
   -- ---- each number once
 
-  simple_numbers : map number_of simples ≡ range_with_len n (length simples)
+  pub simple_numbers : map number_of simples ≡ range_with_len n (length simples)
   simple_numbers = rows_numbers rules (inside_of heads job w.made) n (taken_labels job.graphs) (unlabelled w.made (numbers job.graphs)) job.outputs w.rows w.outputs
 
   complex_numbers : map number_of complexes ≡ graph_order job.graphs
@@ -239,7 +239,7 @@ module _ (rules : Rules) (are : AreRules rules) (job : Job) (heads : List (List 
     map_map [] = refl
     map_map (m ∷ ms) = ap (λ (ns : List ℕ). m.laid.graph ∷ ns) (map_map ms)
 
-  numbered_once : (g : ℕ) → tally (λ (x : Laid). x.graph == g) whole.graphs ≤ 1
+  pub numbered_once : (g : ℕ) → tally (λ (x : Laid). x.graph == g) whole.graphs ≤ 1
   numbered_once g =
       let j = tally_joined (λ (x : Laid). x.graph == g) complexes simples in
       let a = sym (tally_map (λ k. k == g) number_of complexes) ∙ ap (λ (ns : List ℕ). tally (λ k. k == g) ns) complex_numbers in
@@ -265,7 +265,7 @@ module _ (rules : Rules) (are : AreRules rules) (job : Job) (heads : List (List 
   abbrev StandsHere : Made → Type 0
   StandsHere m = Stands rules job.graphs (all_wants rules heads job.graphs) made m
 
-  stands : AllByRecursion StandsHere made
+  pub stands : AllByRecursion StandsHere made
   stands = standing rules are job heads l w come all_in some_outputs
 
   module _ (m : Made) (s : StandsHere m) (q : ℕ) where
@@ -323,27 +323,34 @@ module _ (rules : Rules) (are : AreRules rules) (job : Job) (heads : List (List 
   beyond xs q None e le = refl
   beyond xs q (Some x) e le = absurd (let lt = below_at x xs q e in omega (arith, lt, le))
 
+  -- how often a pad of a complex graph is shown, and of a simple one
+  pub complex_count : (m : Made) → IsAmong m made → (q : ℕ) → (q < length m.outs → tally (pad_is m.laid.graph q) (origins whole) ≡ 1) × (length m.outs ≤ q → tally (pad_is m.laid.graph q) (origins whole) ≡ 0)
+  complex_count m im q =
+      let s = each_of StandsHere m made stands im in
+      let number : s.number ≡ m.laid.graph = sym s.how.number in (
+        λ lt. subst (λ (g : ℕ). tally (pad_is g q) (origins whole) ≡ 1) number (pad_once m s q ∙ (let there = at_below m.outs q lt in ap (λ (o : Option OpenOut). opened o) there.1)),
+        λ le. subst (λ (g : ℕ). tally (pad_is g q) (origins whole) ≡ 0) number (pad_once m s q ∙ ap (λ (o : Option OpenOut). opened o) (beyond m.outs q (slice_get m.outs q) refl le)),
+      )
+
+  pub simple_count : (x : Laid) → IsAmong x simples → (q : ℕ) → (q < 1 → tally (pad_is x.graph q) (origins whole) ≡ 1) × (1 ≤ q → tally (pad_is x.graph q) (origins whole) ≡ 0)
+  simple_count x i q =
+      let number = below_range x.graph n (length simples) (subst (λ (ns : List ℕ). IsAmong x.graph ns) simple_numbers (among_map number_of x simples i)) in
+      let le = number.0 in
+      let least = tally_among (λ (y : Laid). y.graph == x.graph) x simples i (nat_self x.graph) in
+      let most = sym (tally_map (λ j. j == x.graph) number_of simples) ∙ ap (λ (ns : List ℕ). tally (λ j. j == x.graph) ns) simple_numbers in
+      let few = range_few x.graph n (length simples) in
+      let a = all_uses x.graph q in let b = complexes_low x.graph q le in (
+        λ lt. (let z : q ≡ 0 = omega (arith, lt) in let c = (rows_low x.graph q w.rows passing le).1 z in omega (arith, a, b, c, least, most, few)),
+        λ pos. (let c = (rows_low x.graph q w.rows passing le).0 pos in omega (arith, a, b, c)),
+      )
+
   module _ (laid : IsLaid whole) (k : ℕ) (low : before_graphs whole ≤ k) (high : k < before_shortests whole) (x : Laid) (at : slice_get whole.graphs (k - before_graphs whole) ≡ Some x) where
     complex_outs : (m : Made) → IsAmong m made → m.laid ≡ x → HasOuts (edges_of (wires_of whole)) k
-    complex_outs m im e =
-        let s = each_of StandsHere m made stands im in
-        let number : s.number ≡ x.graph = sym s.how.number ∙ ap (λ (y : Laid). y.graph) e in
-        node_outs whole laid k low high x at (numbered_once x.graph) (length m.outs)
-        (λ q lt. subst (λ (g : ℕ). tally (pad_is g q) (origins whole) ≡ 1) number (pad_once m s q ∙ (let there = at_below m.outs q lt in ap (λ (o : Option OpenOut). opened o) there.1)))
-        (λ q le. subst (λ (g : ℕ). tally (pad_is g q) (origins whole) ≡ 0) number (pad_once m s q ∙ ap (λ (o : Option OpenOut). opened o) (beyond m.outs q (slice_get m.outs q) refl le)))
+    complex_outs m im e = node_outs whole laid k low high x at (numbered_once x.graph) (length m.outs)
+        (λ q lt. subst (λ (y : Laid). tally (pad_is y.graph q) (origins whole) ≡ 1) e ((complex_count m im q).0 lt)) (λ q le. subst (λ (y : Laid). tally (pad_is y.graph q) (origins whole) ≡ 0) e ((complex_count m im q).1 le))
 
     simple_outs : IsAmong x simples → HasOuts (edges_of (wires_of whole)) k
-    simple_outs i =
-        let number = below_range x.graph n (length simples) (subst (λ (ns : List ℕ). IsAmong x.graph ns) simple_numbers (among_map number_of x simples i)) in
-        let le = number.0 in
-        let least = tally_among (λ (y : Laid). y.graph == x.graph) x simples i (nat_self x.graph) in
-        let most = sym (tally_map (λ j. j == x.graph) number_of simples) ∙ ap (λ (ns : List ℕ). tally (λ j. j == x.graph) ns) simple_numbers in
-        let few = range_few x.graph n (length simples) in
-        node_outs whole laid k low high x at (numbered_once x.graph) 1
-        (λ q lt. (let z : q ≡ 0 = omega (arith, lt) in
-        let a = all_uses x.graph q in let b = complexes_low x.graph q le in let c = (rows_low x.graph q w.rows passing le).1 z in
-        omega (arith, a, b, c, least, most, few)))
-        (λ q pos. (let a = all_uses x.graph q in let b = complexes_low x.graph q le in let c = (rows_low x.graph q w.rows passing le).0 pos in omega (arith, a, b, c)))
+    simple_outs i = node_outs whole laid k low high x at (numbered_once x.graph) 1 (λ q lt. (simple_count x i q).0 lt) (λ q pos. (simple_count x i q).1 pos)
 
     pub node_has_outs : HasOuts (edges_of (wires_of whole)) k
     node_has_outs = elim (among_either x complexes simples (among_at x whole.graphs (k - before_graphs whole) at)) [

@@ -1,6 +1,7 @@
 pub mod Choice
 pub mod Examples
 pub mod Fitting
+pub mod GraphFits
 pub mod Graphs
 pub mod Labels
 pub mod Laws

@@ -1,6 +1,7 @@
 // What holds of plans with graphs.
 ghost use Rattle.std.specs.Prelude.{◌≡◌, ◌≤◌, List, length, Ok};
 ghost use Rattle.ff_edges.specs.Ports.{shape_of, IsFed};
+ghost use Rattle.ff_plan.specs.GraphFits.{GraphsFit};
 ghost use Rattle.ff_plan.specs.Graphs.{AreRules};
 ghost use Rattle.ff_plan.specs.Laws.{IsLaid, GraphsHaveOuts};
 ghost use Rattle.ff_plan.specs.Layout.{Layout};
@@ -32,6 +33,15 @@ pub fn graphs_have_outs()
 pub fn graph_plans_are_fed()
     ensures { (rules : Rules) (job : Job) (heads : List (List StreamHead)) (p : Plan) → AreRules rules → 1 ≤ length job.outputs
         → planned rules job heads ≡ Ok p → IsFed (shape_of p.edges) (length p.nodes) p.edges }
+{
+    orders_go_upward();
+    orders_are_whole();
+}
+
+/// The rules make each graph of its text with the heads that enter its node, and frames of what they make leave it.
+pub fn graphs_fit()
+    ensures { (rules : Rules) (job : Job) (heads : List (List StreamHead)) (p : Plan) → AreRules rules → 1 ≤ length job.outputs
+        → planned rules job heads ≡ Ok p → GraphsFit rules job heads p }
 {
     orders_go_upward();
     orders_are_whole();
