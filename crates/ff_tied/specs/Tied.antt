@@ -1,5 +1,5 @@
 -- What can be read off a plan, port by port and edge by edge, that makes it sound for filters to which nothing was done.
-use Rattle.std.specs.Prelude.{◌≡◌, ℕ, ◌+◌, ◌-◌, ◌<◌, Bool, true, false, List, [], length, map, slice_get, slice_index_or, Option, None, Some}
+use Rattle.std.specs.Prelude.{◌≡◌, ℕ, ◌+◌, ◌-◌, ◌<◌, ◌≤◌, Bool, true, false, cond, List, [], length, map, slice_get, slice_index_or, slice_set, Option, None, Some}
 use Rattle.std.specs.declared.vec.Vec.{Vec}
 use Rattle.ff_dag.specs.declared.graph.Node.{Node}
 use Rattle.ff_dag.specs.declared.graph.Port.{Port}
@@ -47,6 +47,18 @@ is_needed needed k = slice_index_or needed k false
 abbrev pub wire_needed : List Bool → Option Wire → Bool
 wire_needed needed None = false
 wire_needed needed (Some x) = is_needed needed x.to.filter
+
+-- The filter that an edge leaves stands before each to which it or a later edge leads.
+abbrev pub IsUpward : List Wire → Type 0
+IsUpward ws = (v w : ℕ) (x y : Wire) (g : Port) → v ≤ w → slice_get ws v ≡ Some x → slice_get ws w ≡ Some y → x.from ≡ Some g → g.filter < y.to.filter
+
+-- with the filter that an edge leaves, where the one to which it leads is needed
+abbrev pub with_start : List Bool → Option Port → List Bool
+with_start needed None = needed
+with_start needed (Some g) = slice_set needed g.filter true
+
+abbrev pub with_feeder : List Bool → Wire → List Bool
+with_feeder needed x = cond (is_needed needed x.to.filter) (with_start needed x.from) needed
 
 -- the edges on the way to an output
 abbrev pub ways_at : {A : Type 0} → List (Vec ℕ A) → ℕ → List ℕ

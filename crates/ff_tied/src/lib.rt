@@ -18,3 +18,4 @@ mod wires;
 
 pub use laws::tied_plans_are_sound;
 pub use plan::{fit, tied};
+pub use ways::upward_ways;

@@ -1,0 +1,6 @@
+use Rattle.std.proofs.Common.{◌≡◌, ◌++◌, drop}
+use Rattle.ff_wired.specs.Wires.{ends_of}
+use Rattle.ff_wired.proofs.ends.ends.Given as goal
+
+abbrev pub invariant-wires : goal.invariant-wires
+invariant-wires l = l.ends.items ++ ends_of (drop l.wire l.wires) ≡ ends_of l.wires

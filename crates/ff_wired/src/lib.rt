@@ -1,0 +1,17 @@
+//! From filters that feed one another to the plan of their edges: which edge stands at which port.
+//!
+//! ```text
+//!   inputs of the graph ──0──► filter 0 ──2──► filter 1 ──4──► output of the graph
+//!                       ──1─────────────────►          ──5──►
+//! ```
+//!
+//! Input i of the graph is edge i; behind these stands an edge for each input that a filter feeds, and then one for each output of
+//! the graph. A plan that is made so is one whose edges fit together (`ff_tied`).
+#![tactic(auto)]
+
+mod ends;
+mod nodes;
+mod plan;
+mod wires;
+
+pub use plan::wired;
