@@ -29,11 +29,34 @@ fn chain_gives(chain: &Chain, label: &str) -> bool
 }
 
 /// Whether an output pad of a graph has this label.
-pub(crate) fn gives(graph: &Graph, label: &str) -> bool
+pub fn gives(graph: &Graph, label: &str) -> bool
     ensures { result ≡ one_of label.now (given_in graph.now) }
 {
     for chain in graph.chains.as_slice() {
         if chain_gives(chain, label) {
+            return true;
+        }
+    }
+    false
+}
+
+fn chain_takes(chain: &Chain, label: &str) -> bool
+    ensures { result ≡ one_of label.now (ins_of chain.now.filters) }
+{
+    for filter in chain.filters.as_slice() {
+        if is_one_of(label, filter.ins.as_slice()) {
+            return true;
+        }
+    }
+    false
+}
+
+/// Whether an input pad of a graph has this label.
+pub fn takes(graph: &Graph, label: &str) -> bool
+    ensures { result ≡ one_of label.now (taken_in graph.now) }
+{
+    for chain in graph.chains.as_slice() {
+        if chain_takes(chain, label) {
             return true;
         }
     }

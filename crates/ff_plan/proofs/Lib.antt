@@ -34,3 +34,4 @@ mod Steps
 mod Today
 mod Upward
 mod Uses
+mod Wants

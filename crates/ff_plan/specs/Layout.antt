@@ -5,7 +5,7 @@ use Rattle.ff_values.specs.declared.head.StreamHead.{StreamHead}
 use Rattle.ff_map.specs.declared.streams.Stream.{Stream}
 use Rattle.ff_map.specs.declared.streams.StreamRef.{StreamRef}
 use Rattle.ff_map.specs.Choice.{all_streams}
-use Rattle.ff_plan.specs.declared.layout.InPad.{InPad}
+pub use Rattle.ff_plan.specs.declared.layout.Laid.{Laid}
 use Rattle.ff_plan.specs.declared.layout.Origin.{Origin}
 use Rattle.ff_plan.specs.declared.layout.Origin.TheVariants as origin
 use Rattle.ff_plan.specs.declared.layout.OutStream.{OutStream}
@@ -14,11 +14,6 @@ use Rattle.ff_plan.specs.declared.layout.Placed.{Placed}
 abbrev pub IsAmong : {X : Type 0} → X → List X → Type 0
 IsAmong x [] = ⊥
 IsAmong x (y ∷ ys) = (y ≡ x) ⊎ IsAmong x ys
-
--- a graph with its inputs in the order of its open input pads
-pub record Laid : Type 0 where
-  pub graph : ℕ
-  pub ins : List InPad
 
 -- Heads by input and stream; graphs in the order of their nodes; streams by output. `joint` is whether each output has a
 -- Shortest node.

@@ -14,4 +14,5 @@ pub mod Planned
 pub mod Rules
 pub mod Streams
 pub mod Today
+pub mod Whole
 pub mod Wires

@@ -10,20 +10,17 @@ use Rattle.ff_plan.specs.Labels.{giver, stream_of_label}
 use Rattle.ff_map.specs.declared.streams.Stream.{Stream}
 use Rattle.ff_map.specs.Choice.{all_streams, has_kind}
 use Rattle.ff_plan.specs.declared.layout.InPad.{InPad}
+pub use Rattle.ff_plan.specs.declared.layout.Made.{Made}
+pub use Rattle.ff_plan.specs.declared.layout.Want.{Want}
+use Rattle.ff_plan.specs.declared.layout.Want.TheVariants.{KnownStream, Labelled, Nothing}
 use Rattle.ff_plan.specs.declared.layout.Origin.TheVariants as origin
-use Rattle.ff_plan.specs.Layout.{Laid, same_ref}
+use Rattle.ff_plan.specs.Layout.{same_ref}
 use Rattle.ff_labels.specs.Order.{graph_order}
 use Rattle.ff_plan.specs.Rules.{Rules, OpenIn, OpenOut, Refused, Planned, behind}
 
--- what an input pad gets: a stream of an input, what has this label in the graph of this number, or nothing
-pub data Want : Type 0 where
-  Known_stream : Stream → Want
-  Labelled : ℕ → List ℕ → Want
-  Nothing : Want
-
 abbrev pub known_or_nothing : Option Stream → Want
 known_or_nothing None = Nothing
-known_or_nothing (Some k) = Known_stream k
+known_or_nothing (Some k) = KnownStream k
 
 abbrev pub want_of_giver : Option Stream → List ℕ → Option ℕ → Want
 want_of_giver stream label None = known_or_nothing stream
@@ -31,14 +28,18 @@ want_of_giver stream label (Some g) = Labelled g label
 
 abbrev pub is_taken : List Want → Stream → Bool
 is_taken [] k = false
-is_taken (Known_stream j ∷ ws) k = same_ref j.at k.at || is_taken ws k
+is_taken (KnownStream j ∷ ws) k = same_ref j.at k.at || is_taken ws k
 is_taken (Labelled g l ∷ ws) k = is_taken ws k
 is_taken (Nothing ∷ ws) k = is_taken ws k
+
+-- a stream of the kind that none of these pads took
+abbrev pub is_free : Kind → List Want → Stream → Bool
+is_free k before s = has_kind k s.head && not (is_taken before s)
 
 -- behind pads that got these: a label's, or the first stream of the kind that no earlier pad took
 abbrev pub want_of : Rules → List (List StreamHead) → List Graph → List Want → Kind → Option (List ℕ) → Want
 want_of rules heads graphs before k (Some label) = want_of_giver (stream_of_label rules heads label) label (giver graphs label)
-want_of rules heads graphs before k None = known_or_nothing (find (λ s. has_kind k s.head && not (is_taken before s)) (all_streams heads))
+want_of rules heads graphs before k None = known_or_nothing (find (is_free k before) (all_streams heads))
 
 abbrev pub wants_of : Rules → List (List StreamHead) → List Graph → List Want → List OpenIn → List Want
 wants_of rules heads graphs before [] = []
@@ -54,16 +55,13 @@ wants_from rules heads graphs before (g ∷ gs) =
 abbrev pub all_wants : Rules → List (List StreamHead) → List Graph → List (List Want)
 all_wants rules heads graphs = wants_from rules heads graphs [] graphs
 
--- a graph that was configured
-pub record Made : Type 0 where
-  pub laid : Laid
-  pub outs : List OpenOut
+-- whether a pad's label is this one
+abbrev pub label_is : List ℕ → Option (List ℕ) → Bool
+label_is label None = false
+label_is label (Some l) = bytes_eq l label
 
 abbrev pub has_label : List ℕ → OpenOut → Bool
-has_label label out = label_is out.label where
-  label_is : Option (List ℕ) → Bool
-  label_is None = false
-  label_is (Some l) = bytes_eq l label
+has_label label out = label_is label out.label
 
 abbrev pub out_origin : ℕ → ℕ → Option OpenOut → Option InPad
 out_origin g pad None = None
@@ -78,7 +76,7 @@ abbrev pub made_at : List Made → ℕ → Option Made
 made_at made g = find (λ m. m.laid.graph == g) made
 
 abbrev pub pad_in : List Made → Want → Option InPad
-pad_in made (Known_stream k) = Some (record { source = origin.Stream k.at; head = k.head })
+pad_in made (KnownStream k) = Some (record { source = origin.Stream k.at; head = k.head })
 pad_in made (Labelled g label) = labelled_out label (made_at made g)
 pad_in made Nothing = None
 
@@ -105,12 +103,13 @@ abbrev pub make_all : Rules → List (List StreamHead) → List Graph → Planne
 make_all rules heads graphs = make_from rules graphs (all_wants rules heads graphs) [] (graph_order graphs)
 
 -- their unlabelled open output pads, by graph and pad
+abbrev pub unlabelled_pad : ℕ → ℕ → StreamHead → Option (List ℕ) → Option InPad
+unlabelled_pad g pad h None = Some (record { source = origin.Pad g pad; head = h })
+unlabelled_pad g pad h (Some l) = None
+
 abbrev pub unlabelled_from : ℕ → ℕ → List OpenOut → List InPad
 unlabelled_from g pad [] = []
-unlabelled_from g pad (out ∷ outs) = cons_option (unlabelled_of out.label) (unlabelled_from g (suc pad) outs) where
-  unlabelled_of : Option (List ℕ) → Option InPad
-  unlabelled_of None = Some (record { source = origin.Pad g pad; head = out.head })
-  unlabelled_of (Some l) = None
+unlabelled_from g pad (out ∷ outs) = cons_option (unlabelled_pad g pad out.head out.label) (unlabelled_from g (suc pad) outs)
 
 abbrev pub outs_of_made : ℕ → Option Made → List InPad
 outs_of_made g None = []

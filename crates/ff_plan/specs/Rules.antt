@@ -3,25 +3,11 @@ use Rattle.std.specs.Prelude.{ℕ, Bool, true, false, List, Option, Some, None, 
 use Rattle.ff_values.specs.declared.head.StreamHead.{StreamHead}
 use Rattle.ff_lang.specs.declared.graph.Graph.{Graph}
 use Rattle.ff_words.specs.declared.job.FileFormat.{FileFormat}
-use Rattle.ff_map.specs.declared.map.Kind.{Kind}
 use Rattle.ff_map.specs.declared.map.MapSpec.{MapSpec}
-use Rattle.ff_values.specs.declared.config.ConfigError.{ConfigError}
+pub use Rattle.ff_plan.specs.declared.open_pads.OpenIn.{OpenIn}
+pub use Rattle.ff_plan.specs.declared.open_pads.OpenOut.{OpenOut}
+pub use Rattle.ff_plan.specs.declared.open_pads.Refused.{Refused}
 use Rattle.ff_plan.specs.declared.planned.PlanError.{PlanError}
-
--- an input pad of a graph that no filter of it feeds
-pub record OpenIn : Type 0 where
-  pub label : Option (List ℕ)
-  pub kind : Kind
-
--- an output pad of a graph that feeds no filter of it
-pub record OpenOut : Type 0 where
-  pub label : Option (List ℕ)
-  pub head : StreamHead
-
--- the refusal of a filter of a graph
-pub record Refused : Type 0 where
-  pub filter : ℕ
-  pub kind : ConfigError
 
 -- Of ff_map the map that a text is, of ff_graph the rest: whether a filter's name is known, whether the filters of a graph
 -- feed each other in a loop, its open input pads in the order of writing, and its open output pads with their heads where the

@@ -26,7 +26,7 @@ use Rattle.ff_plan.specs.Labels.{is_given, giver, refused}
 use Rattle.ff_plan.specs.declared.layout.Origin.{Origin}
 use Rattle.ff_plan.specs.declared.layout.Origin.TheVariants as origin
 use Rattle.ff_plan.specs.declared.layout.InPad.{InPad}
-use Rattle.ff_plan.specs.declared.layout.OutStream.{OutStream}
+pub use Rattle.ff_plan.specs.declared.layout.Passed.{Passed}
 use Rattle.ff_plan.specs.Layout.{Laid}
 use Rattle.ff_plan.specs.Pads.{Made, made_at, labelled_out}
 use Rattle.ff_plan.specs.Rules.{Rules, OpenOut, Refused, Planned, behind, unless, where_so}
@@ -162,11 +162,6 @@ is_pad (origin.Pad g p) = true
 -- whether an output takes this as its n-th stream
 abbrev pub takes : Rules → OutputJob → ℕ → InPad → Bool
 takes rules out n i = takes_head out i.head && nat_lt n (rules.most out.format) && not (is_pad i.source && is_graph (simple_of out (kind_of i.head)))
-
--- a stream of an output, and the simple graph that it passes through, if one
-pub record Passed : Type 0 where
-  pub what : OutStream
-  pub graph : Option Laid
 
 abbrev pub through : OutputJob → ℕ → InPad → List OpenOut → Planned Passed
 through out g i (o ∷ []) = Ok (record {

@@ -16,8 +16,8 @@ use ff_values::StreamHead;
 use ff_words::OutputJob;
 use std::alloc::{AllocError, Global};
 
-// The head of the stream at a place.
-fn head_of(heads: &[Vec<StreamHead>], at: StreamRef) -> Option<StreamHead>
+/// The head of the stream at a place.
+pub(crate) fn head_of(heads: &[Vec<StreamHead>], at: StreamRef) -> Option<StreamHead>
     ensures { result ≡ head_at (lists heads.now) at }
 {
     match heads.get(at.input as usize) {

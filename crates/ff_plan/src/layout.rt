@@ -1,4 +1,6 @@
-use ff_map::StreamRef;
+use crate::open_pads::OpenOut;
+use ff_lang::{Sequence, Text};
+use ff_map::{Stream, StreamRef};
 use ff_values::StreamHead;
 
 /// Where frames come from: a stream of an input, or an open output pad of a graph.
@@ -30,4 +32,34 @@ pub(crate) struct Placed {
     pub(crate) output: u32,
     pub(crate) stream: u32,
     pub(crate) what: OutStream,
+}
+
+/// A graph with its inputs in the order of its open input pads.
+#[derive(Drop)]
+pub(crate) struct Laid {
+    pub(crate) graph: u32,
+    pub(crate) ins: Sequence<InPad>,
+}
+
+/// A graph that was configured.
+#[derive(Drop)]
+pub(crate) struct Made {
+    pub(crate) laid: Laid,
+    pub(crate) outs: Sequence<OpenOut>,
+}
+
+/// What an open input pad of a complex graph gets: a stream of an input, what has this label in the graph of this number, or
+/// nothing.
+#[derive(Drop)]
+pub(crate) enum Want {
+    KnownStream(Stream),
+    Labelled { graph: u32, label: Text },
+    Nothing,
+}
+
+/// A stream of an output, and the simple graph that it passes through, if one.
+#[derive(Drop)]
+pub(crate) struct Passed {
+    pub(crate) what: OutStream,
+    pub(crate) graph: Option<Laid>,
 }

@@ -17,18 +17,25 @@
 
 mod choosing;
 mod examples;
+mod filtering;
 mod graph_laws;
+mod labelled;
 mod laws;
 mod layout;
+mod naming;
 mod nodes;
 mod number;
+mod open_pads;
 mod outputs;
 mod planned;
 mod planning;
 mod takes;
+mod wanting;
 mod wires;
 
 pub use ff_edges::Edge;
+pub use filtering::Filtering;
 pub use number::{Wire, number_ports};
+pub use open_pads::{OpenIn, OpenOut, Refused};
 pub use planned::{Plan, PlanError, PlanNode, Unbuilt};
 pub use planning::{is_within_limits, plan};

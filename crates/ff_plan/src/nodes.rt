@@ -78,7 +78,8 @@ fn is_shown(placed: &[Placed], at: StreamRef) -> bool
     false
 }
 
-fn stream_at(input: u32, stream: u32, head: StreamHead) -> Stream
+/// A stream with this head at its place.
+pub(crate) fn stream_at(input: u32, stream: u32, head: StreamHead) -> Stream
     ensures { result ≡ the_stream_at input stream head }
 {
     Stream {

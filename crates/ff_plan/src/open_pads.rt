@@ -1,0 +1,24 @@
+use ff_lang::Text;
+use ff_map::Kind;
+use ff_values::{ConfigError, StreamHead};
+
+/// An input pad of a graph that no filter of it feeds.
+#[derive(Debug, Drop)]
+pub struct OpenIn {
+    pub label: Option<Text>,
+    pub kind: Kind,
+}
+
+/// An output pad of a graph that feeds no filter of it.
+#[derive(Debug, Drop)]
+pub struct OpenOut {
+    pub label: Option<Text>,
+    pub head: StreamHead,
+}
+
+/// The refusal of a filter of a graph, by its number in the order of writing.
+#[derive(Clone, Copy, Debug, PartialEq, Eq)]
+pub struct Refused {
+    pub filter: u32,
+    pub kind: ConfigError,
+}
