@@ -102,7 +102,7 @@ get_right (x ∷ xs) ys zero k e = absurd (omega (arith, e))
 get_right (x ∷ xs) ys (suc m) k e = get_right xs ys m k (omega (arith, e))
 
 -- it is in the first, or so far in the second
-get_either : {A : Type 0} (xs ys : List A) (m : ℕ) (y : A) → slice_get (xs ++ ys) m ≡ Some y → (slice_get xs m ≡ Some y) ⊎ ((k : ℕ) × (m ≡ length xs + k) × (slice_get ys k ≡ Some y))
+pub get_either : {A : Type 0} (xs ys : List A) (m : ℕ) (y : A) → slice_get (xs ++ ys) m ≡ Some y → (slice_get xs m ≡ Some y) ⊎ ((k : ℕ) × (m ≡ length xs + k) × (slice_get ys k ≡ Some y))
 get_either [] ys m y e = inr (m, omega arith, e)
 get_either (x ∷ xs) ys zero y e = inl e
 get_either (x ∷ xs) ys (suc m) y e = elim (get_either xs ys m y e) [ inl a ↦ inl a | inr b ↦ (let n = b.1 in inr (b.0, omega (arith, n), b.2)) ]
@@ -112,7 +112,7 @@ get_range a zero i lt = absurd (omega (arith, lt))
 get_range a (suc n) zero lt = ap (λ (k : ℕ). Some k) (let e : a ≡ a + 0 = omega arith in e)
 get_range a (suc n) (suc i) lt = get_range (a + 1) n i (omega (arith, lt)) ∙ ap (λ (k : ℕ). Some k) (let e : a + 1 + i ≡ a + suc i = omega arith in e)
 
-get_map : {A B : Type 0} (f : A → B) (xs : List A) (i : ℕ) (x : A) → slice_get xs i ≡ Some x → slice_get (map f xs) i ≡ Some (f x)
+pub get_map : {A B : Type 0} (f : A → B) (xs : List A) (i : ℕ) (x : A) → slice_get xs i ≡ Some x → slice_get (map f xs) i ≡ Some (f x)
 get_map f [] i x e = absurd (nothing x e)
 get_map f (y ∷ ys) zero x e = ap (λ (z : _). Some (f z)) (same_some y x e)
 get_map f (y ∷ ys) (suc i) x e = get_map f ys i x e

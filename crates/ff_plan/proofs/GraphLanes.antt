@@ -33,7 +33,7 @@ use Rattle.ff_plan.proofs.Uses.{pad_is}
 -- ---- the lanes of some wires
 
 module _ (q : Wire → Bool) where
-  lanes_joined : (xs ys : List Wire) → wire_lanes q (xs ++ ys) ≡ wire_lanes q xs ++ wire_lanes q ys
+  pub lanes_joined : (xs ys : List Wire) → wire_lanes q (xs ++ ys) ≡ wire_lanes q xs ++ wire_lanes q ys
   lanes_joined [] ys = refl
   lanes_joined (x ∷ xs) ys = step (q x) (lanes_joined xs ys) where
     step : (b : Bool) → wire_lanes q (xs ++ ys) ≡ wire_lanes q xs ++ wire_lanes q ys
@@ -42,7 +42,7 @@ module _ (q : Wire → Bool) where
     step false e = e
 
   module _ {A : Type 0} (f : A → Wire) where
-    lanes_none : (xs : List A) → ((x : A) → IsAmong x xs → q (f x) ≡ false) → wire_lanes q (map f xs) ≡ []
+    pub lanes_none : (xs : List A) → ((x : A) → IsAmong x xs → q (f x) ≡ false) → wire_lanes q (map f xs) ≡ []
     lanes_none [] each = refl
     lanes_none (x ∷ xs) each =
         ap (λ (b : Bool). map (λ (w : Wire). w.lane) (cond b (f x ∷ filter q (map f xs)) (filter q (map f xs)))) (each x (inl refl)) ∙ lanes_none xs (λ y i. each y (inr i))

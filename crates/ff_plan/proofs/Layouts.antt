@@ -91,10 +91,10 @@ module _ (l : Layout) where
       let lr = range_length 0 (length l.outputs) in
       omega (arith, j1, j2, j3, j4, j5, la, lb, lc, ld, le, lf, lr)
 
-  number_in : (p : Placed) → IsAmong p (placed l) → p.number < length (placed l)
+  pub number_in : (p : Placed) → IsAmong p (placed l) → p.number < length (placed l)
   number_in p i = (let r = place_in 0 0 l.outputs p i in let lt = r.0 in omega (arith, lt))
 
-  output_in : (p : Placed) → IsAmong p (placed l) → p.output < length l.outputs
+  pub output_in : (p : Placed) → IsAmong p (placed l) → p.output < length l.outputs
   output_in p i = (let r = place_in 0 0 l.outputs p i in let lt = r.1 in omega (arith, lt))
 
   pub demux_below : (k : Stream) → IsAmong k (used l) → demux_at l k.at.input < before_decs l
@@ -125,16 +125,16 @@ module _ (l : Layout) where
   pad_origin g i ga ia = among_left i.source (flat_map (λ g. map (λ i. i.source) g.ins) l.graphs) (map (λ p. p.what.source) (placed l)) (among_flat (λ g. map (λ i. i.source) g.ins) i.source g l.graphs ga (among_map (λ i. i.source) i g.ins ia))
 
   module _ (laid : IsLaid l) where
-    stream_below : (p : Placed) → IsAmong p (placed l) → origin_at l p.what.source < before_shortests l
+    pub stream_below : (p : Placed) → IsAmong p (placed l) → origin_at l p.what.source < before_shortests l
     stream_below p i = origin_below (length l.graphs) p.what.source (laid.streams p i) (stream_origin p i)
 
-    graph_below : (g : Laid) → IsAmong g l.graphs → graph_at l g.graph < before_shortests l
+    pub graph_below : (g : Laid) → IsAmong g l.graphs → graph_at l g.graph < before_shortests l
     graph_below g i = (let lt = place_among (λ x. x.graph == g.graph) g l.graphs i (nat_self g.graph) in omega (arith, lt))
 
     demux_up : (k : Stream) → IsAmong k (used l) → IsUp (node_count l) (demux_wire l k)
     demux_up k i = (let a = demux_below k i in let b = dec_below k i in (omega (arith, a), omega (arith, b)))
 
-    pad_up : (g : Laid) → IsAmong g l.graphs → (i : InPad) → IsAmong i g.ins → IsUp (node_count l) (pad_wire l g.graph i)
+    pub pad_up : (g : Laid) → IsAmong g l.graphs → (i : InPad) → IsAmong i g.ins → IsUp (node_count l) (pad_wire l g.graph i)
     pad_up g ga i ia = (origin_below (position_or_len (λ x. x.graph == g.graph) l.graphs) i.source (laid.graphs g i ga ia) (pad_origin g i ga ia), (let lt = graph_below g ga in omega (arith, lt)))
 
     shortest_up : l.joint ≡ true → (p : Placed) → IsAmong p (placed l) → IsUp (node_count l) (shortest_wire l p)
@@ -188,7 +188,7 @@ module _ (l : Layout) where
       enc_next true p i e = refl
       enc_next false p i e = stream_next p i e
 
-      wires_next : AllByRecursion (IsNextOf k) (wires_of l)
+      pub wires_next : AllByRecursion (IsNextOf k) (wires_of l)
       wires_next =
           let P = IsNextOf k in
           let shorts = shortest_wires l l.joint in let encs = map (enc_wire l l.joint) (placed l) in let muxes = map (mux_wire l) (placed l) in

@@ -1,6 +1,7 @@
 mod Among
 mod Best
 mod Counts
+mod EndFits
 mod Filters
 mod Fitting
 mod Fronts

@@ -1,5 +1,6 @@
 pub mod Choice
 pub mod Examples
+pub mod EndFits
 pub mod Fitting
 pub mod GraphFits
 pub mod Graphs

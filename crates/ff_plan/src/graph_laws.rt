@@ -1,6 +1,7 @@
 // What holds of plans with graphs.
 ghost use Rattle.std.specs.Prelude.{◌≡◌, ◌≤◌, List, length, Ok};
 ghost use Rattle.ff_edges.specs.Ports.{shape_of, IsFed};
+ghost use Rattle.ff_plan.specs.EndFits.{EndsFit};
 ghost use Rattle.ff_plan.specs.GraphFits.{GraphsFit};
 ghost use Rattle.ff_plan.specs.Graphs.{AreRules};
 ghost use Rattle.ff_plan.specs.Laws.{IsLaid, GraphsHaveOuts};
@@ -45,4 +46,11 @@ pub fn graphs_fit()
 {
     orders_go_upward();
     orders_are_whole();
+}
+
+/// What stands at the ports of Shortest, Enc and Mux nodes: the frames and packets of the streams of their output.
+pub fn ends_fit()
+    ensures { (rules : Rules) (job : Job) (heads : List (List StreamHead)) (p : Plan) → planned rules job heads ≡ Ok p → EndsFit job.outputs p }
+{
+    orders_go_upward();
 }
