@@ -319,7 +319,7 @@ module _ (rules : Rules) where
   rows_packed inside g taken before (out ∷ outs) (qs ∷ rows) s zero lt = (out, refl, row_packed out g s.0 qs s.2)
   rows_packed inside g taken before (out ∷ outs) (qs ∷ rows) s (suc o) lt = rows_packed inside (g + graphs_of qs) (labels_of out ++ taken) [] outs rows s.3 o (omega (arith, lt))
 
-  rows_count : (inside : Inside) (g : ℕ) (taken : List (List ℕ)) (before : List InPad) (outs : List OutputJob) (rows : List (List Passed)) → AreOutputs rules inside g taken before outs rows → length rows ≡ length outs
+  pub rows_count : (inside : Inside) (g : ℕ) (taken : List (List ℕ)) (before : List InPad) (outs : List OutputJob) (rows : List (List Passed)) → AreOutputs rules inside g taken before outs rows → length rows ≡ length outs
   rows_count inside g taken before [] [] s = refl
   rows_count inside g taken before [] (qs ∷ rows) s = absurd s
   rows_count inside g taken before (out ∷ outs) [] s = absurd s

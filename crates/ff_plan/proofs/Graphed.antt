@@ -27,7 +27,7 @@ use Rattle.ff_plan.proofs.Laid.{each_of, of_flat, place_holds}
 use Rattle.ff_plan.proofs.Layouts.{nat_self, joined_length, map_length}
 use Rattle.ff_plan.proofs.Made.{Comes, IsShown, IsOpen, IsMade, AreMade, found_is, made_all, ins_come, wants_fit}
 use Rattle.ff_plan.proofs.Numbered.{hit, miss, is_same}
-use Rattle.ff_plan.proofs.Outs.{IsFiltered, AreOutputs, Passes, outputs_are, outputs_pass}
+use Rattle.ff_plan.proofs.Outs.{was_false, IsFiltered, AreOutputs, Passes, outputs_are, outputs_pass}
 use Rattle.ff_plan.proofs.Results.{not_ok, same_ok, behind_ok, unless_ok}
 
 -- ---- the first place in two lists
@@ -121,6 +121,10 @@ pub record Walked (rules : Rules) (job : Job) (heads : List (List StreamHead)) (
   pub labels : labels_fault rules heads job.graphs ≡ None
   pub loops : loop_fault rules job.graphs ≡ None
   pub used : unused_label job ≡ None
+  pub few_graphs : length job.graphs + simple_graphs rows ≤ 16
+
+not_many : {Y : Type 0} (k : ℕ) (e : PlanError) (r : Planned Y) (y : Y) → unless (where_so (nat_lt 16 k) e) r ≡ Ok y → k ≤ 16
+not_many k e r y h = (let off : nat_lt 16 k ≡ false = was_false (nat_lt 16 k) e r y h in grind (arith, nat_tests, off))
 
 none_of : {Y : Type 0} (o : Option PlanError) (r : Planned Y) (y : Y) → unless o r ≡ Ok y → o ≡ None
 none_of None r y h = refl
@@ -154,6 +158,7 @@ module _ (rules : Rules) (job : Job) (heads : List (List StreamHead)) (l : Layou
         labels = none_of (labels_fault rules heads job.graphs) next l h;
         loops = none_of (loop_fault rules job.graphs) last l second;
         used = none_of (unused_label job) few l outs.2;
+        few_graphs = not_many (length job.graphs + simple_graphs outs.0) fault.TooManyGraphs done l (unless_ok many narrow l (unless_ok (unused_label job) few l outs.2));
       }
 
 -- ---- unlabelled open output pads

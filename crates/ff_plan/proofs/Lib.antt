@@ -12,6 +12,7 @@ mod GraphWires
 mod Graphed
 mod Kept
 mod NodeKinds
+mod NodeRows
 mod Known
 mod Laid
 mod Lanes

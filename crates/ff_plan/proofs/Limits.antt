@@ -40,7 +40,7 @@ numbered_length : (i n : ℕ) (hs : List StreamHead) → length (numbered i n hs
 numbered_length i n [] = refl
 numbered_length i n (h ∷ hs) = ap suc (numbered_length i (n + 1) hs)
 
-streams_length : (i : ℕ) (rows : List (List StreamHead)) → AllByRecursion (λ hs. length hs ≤ 16) rows → length (streams_from i rows) ≤ 16 * length rows
+pub streams_length : (i : ℕ) (rows : List (List StreamHead)) → AllByRecursion (λ hs. length hs ≤ 16) rows → length (streams_from i rows) ≤ 16 * length rows
 streams_length i [] all = omega arith
 streams_length i (row ∷ rows) all =
     let j = joined_length (numbered i 0 row) (streams_from (i + 1) rows) in

@@ -78,7 +78,7 @@ module _ (feed : ℕ → ℕ → Bool) (n : ℕ) where
   low_in before (x ∷ xs) g come (inl e) = subst (λ (k : ℕ). k < n) e come.0
   low_in before (x ∷ xs) g come (inr i) = low_in (before ++ x ∷ []) xs g come.3 i
 
-in_tally : (g : ℕ) (xs : List ℕ) → is_in xs g ≡ true → 1 ≤ tally (λ x. x == g) xs
+pub in_tally : (g : ℕ) (xs : List ℕ) → is_in xs g ≡ true → 1 ≤ tally (λ x. x == g) xs
 in_tally g [] h = absurd (never h)
 in_tally g (x ∷ xs) h = step (x == g) refl (in_tally g xs) where
   step : (b : Bool) → (x == g) ≡ b → (is_in xs g ≡ true → 1 ≤ tally (λ y. y == g) xs) → 1 ≤ cond b (suc (tally (λ y. y == g) xs)) (tally (λ y. y == g) xs)

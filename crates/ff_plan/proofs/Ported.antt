@@ -49,7 +49,7 @@ range_join a (suc m) k =
     ap (λ (b : ℕ). a ∷ (range_with_len (a + 1) m ++ range_with_len b k)) (omega arith)
     ∙ (ap (λ (ns : List ℕ). a ∷ ns) (range_join (a + 1) m k) ∙ ap (λ (n : ℕ). range_with_len a n) (let e : suc (m + k) ≡ suc m + k = omega arith in e))
 
-range_above : (h a n : ℕ) → h < a → tally (λ x. x == h) (range_with_len a n) ≡ 0
+pub range_above : (h a n : ℕ) → h < a → tally (λ x. x == h) (range_with_len a n) ≡ 0
 range_above h a zero lt = refl
 range_above h a (suc n) lt =
     let off : (a == h) ≡ false = grind (arith, nat_tests, lt) in
@@ -94,7 +94,7 @@ module _ (rules : Rules) where
         ∙ (ap (λ (ns : List ℕ). g ∷ ns) (e ∙ ap (λ (n : ℕ). range_with_len n (graphs_of ps)) at)
         ∙ ap (λ (xs : List Laid). range_with_len g (length (xs ++ flat_map graph_of ps))) (sym one)))
 
-  rows_numbers : (inside : _) (g : ℕ) (used : List (List ℕ)) (before : List InPad) (outs : List OutputJob) (rows : List (List Passed)) → AreOutputs rules inside g used before outs rows
+  pub rows_numbers : (inside : _) (g : ℕ) (used : List (List ℕ)) (before : List InPad) (outs : List OutputJob) (rows : List (List Passed)) → AreOutputs rules inside g used before outs rows
       → map number_of (flat_map (λ ps. flat_map graph_of ps) rows) ≡ range_with_len g (length (flat_map (λ ps. flat_map graph_of ps) rows))
   rows_numbers inside g used before [] [] s = refl
   rows_numbers inside g used before [] (ps ∷ rows) s = absurd s

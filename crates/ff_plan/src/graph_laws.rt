@@ -6,6 +6,8 @@ ghost use Rattle.ff_plan.specs.GraphFits.{GraphsFit};
 ghost use Rattle.ff_plan.specs.Graphs.{AreRules};
 ghost use Rattle.ff_plan.specs.Laws.{IsLaid, GraphsHaveOuts};
 ghost use Rattle.ff_plan.specs.Layout.{Layout};
+ghost use Rattle.ff_plan.specs.NodeRows.{HasRows};
+ghost use Rattle.ff_plan.specs.Plain.{IsWithinLimits};
 ghost use Rattle.ff_plan.specs.Planned.{laid_out, planned};
 ghost use Rattle.ff_plan.specs.Rules.{Rules};
 ghost use Rattle.ff_plan.specs.declared.planned.Plan.{Plan};
@@ -53,4 +55,13 @@ pub fn ends_fit()
     ensures { (rules : Rules) (job : Job) (heads : List (List StreamHead)) (p : Plan) → planned rules job heads ≡ Ok p → EndsFit job.outputs p }
 {
     orders_go_upward();
+}
+
+/// The nodes of every plan within the limits stand row by row: Demux, Dec, graphs, Shortest, Enc, Mux.
+pub fn nodes_have_rows()
+    ensures { (rules : Rules) (job : Job) (heads : List (List StreamHead)) (p : Plan) → IsWithinLimits job heads
+        → planned rules job heads ≡ Ok p → HasRows (length heads) (length job.outputs) p.nodes }
+{
+    orders_go_upward();
+    orders_are_whole();
 }
