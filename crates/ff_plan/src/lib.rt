@@ -22,6 +22,7 @@ mod graph_laws;
 mod labelled;
 mod laws;
 mod layout;
+mod making;
 mod naming;
 mod nodes;
 mod number;
