@@ -1,5 +1,6 @@
 -- Each filter is what its function says.
-use Rattle.std.proofs.Common.{◌≡◌, ℕ, ◌==◌, nat_le, Bool, true, false, cond, Option, Some, None, Result, Ok, Err, List, [], ◌∷◌, length, inl, inr, refl, sym, ap, subst, ◌∙◌}
+use Rattle.std.proofs.Common.{◌≡◌, ℕ, ◌==◌, nat_le, Bool, true, false, cond, Option, Some, None, Result, Ok, Err, List, [], ◌∷◌, length, inl, inr, refl, sym, ap}
+use Rattle.std.proofs.Common.{subst, ◌∙◌}
 use Rattle.ff_time.specs.Fraction.{Fraction}
 use Rattle.ff_values.specs.declared.config.ConfigError.{ConfigError}
 use Rattle.ff_values.specs.declared.config.ConfigError.TheVariants.{Pads, Kind, Mismatch, BadSize, BadOption}
@@ -36,7 +37,8 @@ use Rattle.ff_filters.specs.Ticks.{range_in, set_times}
 use Rattle.ff_filters.specs.Heads.{each_is}
 use Rattle.ff_filters.specs.ReadBy.{and_then, unless, read_by, configured_by}
 use Rattle.ff_filters.specs.SetBy.{set_none, set_expr, set_crop, set_pad, set_fps, set_split, set_stack, set_join}
-use Rattle.ff_filters.specs.Configured.{plain_by, rebase_by, trim_by, atrim_by, cropped_as, crop_by, padded_as, pad_by, fps_by, split_by, stacked_as, stack_by, checked, segments_as, concat_by, joined_as, join_by}
+use Rattle.ff_filters.specs.Configured.{plain_by, rebase_by, trim_by, atrim_by, cropped_as, crop_by, padded_as, pad_by, fps_by, split_by, stacked_as, stack_by}
+use Rattle.ff_filters.specs.Configured.{checked, segments_as, concat_by, joined_as, join_by}
 use Rattle.ff_filters.proofs.Readings.{SetsBy, result_of, read_is, configured_is}
 use Rattle.ff_filters.proofs.SameHeads.{each_in, each_out}
 use Rattle.ff_filters.proofs.SettingsBy.{none_set, expr_set, crop_set, pad_set, fps_set, split_set, join_set, concat_sets, stack_set}
@@ -49,7 +51,8 @@ pub plain_is : {X : Type 0} (wanted : StreamHead → Bool) (of : StreamHead → 
 plain_is wanted of args heads r h =
     configured_is no_manual (λ s. s) set_none none_set (λ head s q. q ≡ Ok (of head)) (λ head s. Ok (of head)) (λ head s q e. sym e) wanted (record {}) args heads r h
 
-pub rebase_is : (wanted : StreamHead → Bool) (args : List Arg) (heads : List StreamHead) (r : Result Rebase ConfigError) → IsRebase wanted args heads r → rebase_by wanted args heads ≡ r
+pub rebase_is : (wanted : StreamHead → Bool) (args : List Arg) (heads : List StreamHead) (r : Result Rebase ConfigError) → IsRebase wanted args heads r
+    → rebase_by wanted args heads ≡ r
 rebase_is wanted args heads r h =
     configured_is expr_manual (λ s. s) set_expr expr_set (λ head s q. q ≡ cond s.given (Ok (record { head = head; first = None })) (Err BadOption))
     (λ head s. cond s.given (Ok (record { head = head; first = None })) (Err BadOption)) (λ head s q e. sym e) wanted (record { given = false }) args heads r h
@@ -73,23 +76,28 @@ fps_is args heads r h =
     configured_is fps_manual (λ s. s) set_fps fps_set (λ head s q. q ≡ Ok (head, s.base)) (λ head s. Ok (head, s.base)) (λ head s q e. sym e)
     is_video (record { base = record { num = 1; den = 25 } }) args heads r h
 
-pub split_is : (wanted : StreamHead → Bool) (args : List Arg) (heads : List StreamHead) (r : Result (StreamHead × ℕ) ConfigError) → IsSplit wanted args heads r → split_by wanted args heads ≡ r
+pub split_is : (wanted : StreamHead → Bool) (args : List Arg) (heads : List StreamHead) (r : Result (StreamHead × ℕ) ConfigError) → IsSplit wanted args heads r
+    → split_by wanted args heads ≡ r
 split_is wanted args heads r h =
     configured_is split_manual (λ s. s) set_split split_set (λ head s q. q ≡ Ok (head, s.outputs)) (λ head s. Ok (head, s.outputs)) (λ head s q e. sym e)
     wanted (record { outputs = 2 }) args heads r h
 
 -- a range of times, of a machine made of a head and a range
-ranged_is : {X : Type 0} (wanted : StreamHead → Bool) (of : StreamHead → Range → X) (all : RangeSettings) (args : List Arg) (heads : List StreamHead) (r : Result X ConfigError)
+ranged_is : {X : Type 0} (wanted : StreamHead → Bool) (of : StreamHead → Range → X) (all : RangeSettings) (args : List Arg) (heads : List StreamHead)
+    (r : Result X ConfigError)
     → all.start ≡ 0 → all.stop ≡ None
     → IsConfigured wanted range_manual all (λ head settings q. (range : Range) × IsRange settings (base_of_head head) range × (q ≡ Ok (of head range))) args heads r
     → configured_by wanted range_manual set_times (record { start = 0; stop = None }) (λ head s. Ok (of head (range_in (base_of_head head) s))) args heads ≡ r
 ranged_is {X} wanted of all args heads r first last h =
-    subst (λ (n : ℕ). configured_by wanted range_manual set_times (record { start = n; stop = None }) (λ head s. Ok (of head (range_in (base_of_head head) s))) args heads ≡ r) first
-    (subst (λ (o : Option ℕ). configured_by wanted range_manual set_times (record { start = all.start; stop = o }) (λ head s. Ok (of head (range_in (base_of_head head) s))) args heads ≡ r) last
+    subst (λ (n : ℕ). configured_by wanted range_manual set_times (record { start = n; stop = None }) (λ head s. Ok (of head (range_in (base_of_head head) s))) args
+    heads ≡ r) first
+    (subst (λ (o : Option ℕ). configured_by wanted range_manual set_times (record { start = all.start; stop = o })
+    (λ head s. Ok (of head (range_in (base_of_head head) s))) args heads ≡ r) last
     (configured_is range_manual times_of set_times range_set (λ head settings q. (range : Range) × IsRange settings (base_of_head head) range × (q ≡ Ok (of head range)))
     (λ head s. Ok (of head (range_in (base_of_head head) s))) made wanted all args heads r h))
   where
-    made : (head : StreamHead) (s : RangeSettings) (q : Result X ConfigError) → (range : Range) × IsRange s (base_of_head head) range × (q ≡ Ok (of head range)) → Ok (of head (range_in (base_of_head head) (times_of s))) ≡ q
+    made : (head : StreamHead) (s : RangeSettings) (q : Result X ConfigError) → (range : Range) × IsRange s (base_of_head head) range × (q ≡ Ok (of head range))
+        → Ok (of head (range_in (base_of_head head) (times_of s))) ≡ q
     made head s q k = ap (λ (x : Range). Ok (of head x)) (range_is s (base_of_head head) k.0 k.1) ∙ sym k.2
 
 pub trim_is : (args : List Arg) (heads : List StreamHead) (r : Result Trim ConfigError) → IsTrim args heads r → trim_by args heads ≡ r
@@ -104,10 +112,12 @@ unless_is : {X : Type 0} (o : Option ConfigError) (r q : Result X ConfigError) (
 unless_is None r q Others same h = same h
 unless_is (Some e) r q Others same h = sym h
 
-planned_is : (d : Direction) (heads : List StreamHead) (r : Result StackOf ConfigError) (q : Result StackSettings ConfigError) → AfterRead d heads r q → and_then (stacked_as d heads) q ≡ r
+planned_is : (d : Direction) (heads : List StreamHead) (r : Result StackOf ConfigError) (q : Result StackSettings ConfigError) → AfterRead d heads r q
+    → and_then (stacked_as d heads) q ≡ r
 planned_is d heads r (Err e) h = sym h
 planned_is d [] r (Ok s) h = sym h
-planned_is d (x ∷ xs) r (Ok s) h = unless_is (stack_fault d x (x ∷ xs)) r (Ok (stack_on d x (x ∷ xs) s.shortest)) (r ≡ Ok (stack_on d x (x ∷ xs) s.shortest)) (λ e. sym e) h
+planned_is d (x ∷ xs) r (Ok s) h = unless_is (stack_fault d x (x ∷ xs)) r (Ok (stack_on d x (x ∷ xs) s.shortest)) (r ≡ Ok (stack_on d x (x ∷ xs) s.shortest))
+    (λ e. sym e) h
 
 result_same : {S : Type 0} (r : Result S ConfigError) → result_of (λ s. s) r ≡ r
 result_same (Ok s) = refl
@@ -117,9 +127,11 @@ pub stack_is : (d : Direction) (args : List Arg) (heads : List StreamHead) (r : 
 stack_is d args heads r h =
     unless_is (input_fault (counted false 0 2 args) is_video heads) r _ _
     (λ (k : (q : Result StackSettings ConfigError) × AreRead stack_manual false 0 (record { inputs = 2; shortest = false }) args q × AfterRead d heads r q).
-    ap (and_then (stacked_as d heads)) (read_is stack_manual (λ s. s) set_stack stack_set false 0 (record { inputs = 2; shortest = false }) args k.0 k.1 ∙ result_same k.0) ∙ planned_is d heads r k.0 k.2) h
+    ap (and_then (stacked_as d heads)) (read_is stack_manual (λ s. s) set_stack stack_set false 0 (record { inputs = 2; shortest = false }) args k.0 k.1 ∙ result_same
+    k.0) ∙ planned_is d heads r k.0 k.2) h
 
-checked_is : {X : Type 0} (c : Bool) (e : ConfigError) (q r : Result X ConfigError) (next : Result X ConfigError → Type 0) → (next r → q ≡ r) → Checked c e next r → checked c e q ≡ r
+checked_is : {X : Type 0} (c : Bool) (e : ConfigError) (q r : Result X ConfigError) (next : Result X ConfigError → Type 0) → (next r → q ≡ r) → Checked c e next r
+    → checked c e q ≡ r
 checked_is true e q r next same h = same h
 checked_is false e q r next same h = sym h
 
@@ -147,7 +159,8 @@ pub concat_is : (args : List Arg) (heads : List StreamHead) (r : Result (StreamH
 concat_is args heads r h =
     checked_is (length heads == segments_said args) Pads _ r _
     (λ k. checked_is (each_head (is_of_kind (video_said args) (sound_said args)) heads) Kind _ r _
-    (λ l. args_is concat_manual concat_set concat_sets (concat_start args) args (λ s w. AreJoined heads w) (λ s. segments_as heads) r (λ s j. segments_is heads r j) l) k) h
+    (λ l. args_is concat_manual concat_set concat_sets (concat_start args) args (λ s w. AreJoined heads w) (λ s. segments_as heads) r (λ s j. segments_is heads r j)
+    l) k) h
 
 joined_is : (heads : List StreamHead) (r : Result StreamHead ConfigError) → AreAlike heads r → joined_as heads ≡ r
 joined_is [] r h = sym h

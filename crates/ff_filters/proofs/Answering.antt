@@ -26,7 +26,8 @@ use Rattle.ff_joins.specs.JoinOptions.{IsJoin}
 use Rattle.ff_joins.specs.JoinView.{join_view, head_itself}
 use Rattle.ff_filters.specs.Ticks.{set_times}
 use Rattle.ff_filters.specs.SetBy.{set_none, set_expr, set_crop, set_pad, set_fps, set_split}
-use Rattle.ff_filters.specs.Configured.{all_times, rebased_as, trimmed_as, atrimmed_as, cropped_as, padded_as, paced_as, copied_as, plain_by, pass_by, rebase_by, trim_by, atrim_by, crop_by, pad_by, fps_by, split_by, stack_by, concat_by, join_by, Filtered, filtered, configured_as}
+use Rattle.ff_filters.specs.Configured.{all_times, rebased_as, trimmed_as, atrimmed_as, cropped_as, padded_as, paced_as, copied_as, plain_by, pass_by, rebase_by}
+use Rattle.ff_filters.specs.Configured.{trim_by, atrim_by, crop_by, pad_by, fps_by, split_by, stack_by, concat_by, join_by, Filtered, filtered, configured_as}
 use Rattle.ff_filters.specs.Makes.{Makes, Refuses}
 use Rattle.ff_filters.specs.declared.name.FilterName.{FilterName}
 use Rattle.ff_filters.specs.declared.name.FilterName.TheVariants as filter
@@ -50,41 +51,59 @@ module _ {X : Type 0} (is : Result X ConfigError → Type 0) (by : Result X Conf
   none heads e (inl short) = inl short
   none heads e (inr h) = inr (ap (filtered shown heads) (same (Err e) h))
 
-pub made_as : (name : FilterName) (args : List Arg) (heads : List StreamHead) (v : View) (outs : List StreamHead) → Makes name args heads v outs → configured_as name args heads ≡ seen_so v outs
-made_as filter.Null args heads v outs h = single (IsPass is_video args heads) (pass_by is_video args heads) (plain_is is_video (λ head. record { head = head }) args heads) pass_view (λ m. m.head) v outs h
+pub made_as : (name : FilterName) (args : List Arg) (heads : List StreamHead) (v : View) (outs : List StreamHead) → Makes name args heads v outs
+    → configured_as name args heads ≡ seen_so v outs
+made_as filter.Null args heads v outs h = single (IsPass is_video args heads) (pass_by is_video args heads)
+    (plain_is is_video (λ head. record { head = head }) args heads) pass_view (λ m. m.head) v outs h
 made_as filter.Trim args heads v outs h = single (IsTrim args heads) (trim_by args heads) (trim_is args heads) trim_view (λ m. m.head) v outs h
-made_as filter.SetPts args heads v outs h = single (IsRebase is_video args heads) (rebase_by is_video args heads) (rebase_is is_video args heads) rebase_view (λ m. m.head) v outs h
+made_as filter.SetPts args heads v outs h = single (IsRebase is_video args heads) (rebase_by is_video args heads) (rebase_is is_video args heads) rebase_view
+    (λ m. m.head) v outs h
 made_as filter.Crop args heads v outs h = single (IsCrop args heads) (crop_by args heads) (crop_is args heads) crop_view crop_head v outs h
 made_as filter.Pad args heads v outs h = single (IsPad args heads) (pad_by args heads) (pad_is args heads) pad_view pad_head v outs h
-made_as filter.HFlip args heads v outs h = single (IsHFlip args heads) (plain_by is_video (λ head. head) args heads) (plain_is is_video (λ head. head) args heads) hflip_view (λ head. head) v outs h
-made_as filter.VFlip args heads v outs h = single (IsVFlip args heads) (plain_by is_video (λ head. head) args heads) (plain_is is_video (λ head. head) args heads) vflip_view (λ head. head) v outs h
+made_as filter.HFlip args heads v outs h = single (IsHFlip args heads) (plain_by is_video (λ head. head) args heads) (plain_is is_video (λ head. head) args heads)
+    hflip_view (λ head. head) v outs h
+made_as filter.VFlip args heads v outs h = single (IsVFlip args heads) (plain_by is_video (λ head. head) args heads) (plain_is is_video (λ head. head) args heads)
+    vflip_view (λ head. head) v outs h
 made_as filter.Fps args heads v outs h = single (IsFps args heads) (fps_by args heads) (fps_is args heads) fps_view fps_head v outs h
-made_as filter.Split args heads v outs h = several (IsSplit is_video args heads) (split_by is_video args heads) (split_is is_video args heads) split_view split_heads v outs h
-made_as filter.ANull args heads v outs h = single (IsPass is_sound args heads) (pass_by is_sound args heads) (plain_is is_sound (λ head. record { head = head }) args heads) pass_view (λ m. m.head) v outs h
+made_as filter.Split args heads v outs h = several (IsSplit is_video args heads) (split_by is_video args heads) (split_is is_video args heads) split_view split_heads
+    v outs h
+made_as filter.ANull args heads v outs h = single (IsPass is_sound args heads) (pass_by is_sound args heads)
+    (plain_is is_sound (λ head. record { head = head }) args heads) pass_view (λ m. m.head) v outs h
 made_as filter.ATrim args heads v outs h = single (IsATrim args heads) (atrim_by args heads) (atrim_is args heads) atrim_view (λ m. m.head) v outs h
-made_as filter.ASetPts args heads v outs h = single (IsRebase is_sound args heads) (rebase_by is_sound args heads) (rebase_is is_sound args heads) rebase_view (λ m. m.head) v outs h
-made_as filter.ASplit args heads v outs h = several (IsSplit is_sound args heads) (split_by is_sound args heads) (split_is is_sound args heads) split_view split_heads v outs h
-made_as filter.ChannelSplit args heads v outs h = several (IsChannelSplit args heads) (plain_by is_sound (λ head. head) args heads) (plain_is is_sound (λ head. head) args heads) channels_view mono_heads v outs h
+made_as filter.ASetPts args heads v outs h = single (IsRebase is_sound args heads) (rebase_by is_sound args heads) (rebase_is is_sound args heads) rebase_view
+    (λ m. m.head) v outs h
+made_as filter.ASplit args heads v outs h = several (IsSplit is_sound args heads) (split_by is_sound args heads) (split_is is_sound args heads) split_view split_heads
+    v outs h
+made_as filter.ChannelSplit args heads v outs h = several (IsChannelSplit args heads) (plain_by is_sound (λ head. head) args heads)
+    (plain_is is_sound (λ head. head) args heads) channels_view mono_heads v outs h
 made_as filter.HStack args heads v outs h = single (IsStack Beside args heads) (stack_by Beside args heads) (stack_is Beside args heads) stack_view head_of v outs h
 made_as filter.VStack args heads v outs h = single (IsStack Below args heads) (stack_by Below args heads) (stack_is Below args heads) stack_view head_of v outs h
 made_as filter.Concat args heads v outs h = single (IsConcat args heads) (concat_by args heads) (concat_is args heads) concat_view concat_head v outs h
 made_as filter.Join args heads v outs h = single (IsJoin args heads) (join_by args heads) (join_is args heads) (join_view heads) head_itself v outs h
 
-pub refused_as : (name : FilterName) (args : List Arg) (heads : List StreamHead) (e : ConfigError) → Refuses name args heads e → (e ≡ NoMemory) ⊎ (configured_as name args heads ≡ Err e)
-refused_as filter.Null args heads e h = none (IsPass is_video args heads) (pass_by is_video args heads) (plain_is is_video (λ head. record { head = head }) args heads) pass_view (λ m. m.head ∷ []) e h
+pub refused_as : (name : FilterName) (args : List Arg) (heads : List StreamHead) (e : ConfigError) → Refuses name args heads e
+    → (e ≡ NoMemory) ⊎ (configured_as name args heads ≡ Err e)
+refused_as filter.Null args heads e h = none (IsPass is_video args heads) (pass_by is_video args heads)
+    (plain_is is_video (λ head. record { head = head }) args heads) pass_view (λ m. m.head ∷ []) e h
 refused_as filter.Trim args heads e h = none (IsTrim args heads) (trim_by args heads) (trim_is args heads) trim_view (λ m. m.head ∷ []) e h
-refused_as filter.SetPts args heads e h = none (IsRebase is_video args heads) (rebase_by is_video args heads) (rebase_is is_video args heads) rebase_view (λ m. m.head ∷ []) e h
+refused_as filter.SetPts args heads e h = none (IsRebase is_video args heads) (rebase_by is_video args heads) (rebase_is is_video args heads) rebase_view
+    (λ m. m.head ∷ []) e h
 refused_as filter.Crop args heads e h = none (IsCrop args heads) (crop_by args heads) (crop_is args heads) crop_view (λ m. crop_head m ∷ []) e h
 refused_as filter.Pad args heads e h = none (IsPad args heads) (pad_by args heads) (pad_is args heads) pad_view (λ m. pad_head m ∷ []) e h
-refused_as filter.HFlip args heads e h = none (IsHFlip args heads) (plain_by is_video (λ head. head) args heads) (plain_is is_video (λ head. head) args heads) hflip_view (λ head. head ∷ []) e h
-refused_as filter.VFlip args heads e h = none (IsVFlip args heads) (plain_by is_video (λ head. head) args heads) (plain_is is_video (λ head. head) args heads) vflip_view (λ head. head ∷ []) e h
+refused_as filter.HFlip args heads e h = none (IsHFlip args heads) (plain_by is_video (λ head. head) args heads) (plain_is is_video (λ head. head) args heads)
+    hflip_view (λ head. head ∷ []) e h
+refused_as filter.VFlip args heads e h = none (IsVFlip args heads) (plain_by is_video (λ head. head) args heads) (plain_is is_video (λ head. head) args heads)
+    vflip_view (λ head. head ∷ []) e h
 refused_as filter.Fps args heads e h = none (IsFps args heads) (fps_by args heads) (fps_is args heads) fps_view (λ m. fps_head m ∷ []) e h
 refused_as filter.Split args heads e h = none (IsSplit is_video args heads) (split_by is_video args heads) (split_is is_video args heads) split_view split_heads e h
-refused_as filter.ANull args heads e h = none (IsPass is_sound args heads) (pass_by is_sound args heads) (plain_is is_sound (λ head. record { head = head }) args heads) pass_view (λ m. m.head ∷ []) e h
+refused_as filter.ANull args heads e h = none (IsPass is_sound args heads) (pass_by is_sound args heads)
+    (plain_is is_sound (λ head. record { head = head }) args heads) pass_view (λ m. m.head ∷ []) e h
 refused_as filter.ATrim args heads e h = none (IsATrim args heads) (atrim_by args heads) (atrim_is args heads) atrim_view (λ m. m.head ∷ []) e h
-refused_as filter.ASetPts args heads e h = none (IsRebase is_sound args heads) (rebase_by is_sound args heads) (rebase_is is_sound args heads) rebase_view (λ m. m.head ∷ []) e h
+refused_as filter.ASetPts args heads e h = none (IsRebase is_sound args heads) (rebase_by is_sound args heads) (rebase_is is_sound args heads) rebase_view
+    (λ m. m.head ∷ []) e h
 refused_as filter.ASplit args heads e h = none (IsSplit is_sound args heads) (split_by is_sound args heads) (split_is is_sound args heads) split_view split_heads e h
-refused_as filter.ChannelSplit args heads e h = none (IsChannelSplit args heads) (plain_by is_sound (λ head. head) args heads) (plain_is is_sound (λ head. head) args heads) channels_view mono_heads e h
+refused_as filter.ChannelSplit args heads e h = none (IsChannelSplit args heads) (plain_by is_sound (λ head. head) args heads)
+    (plain_is is_sound (λ head. head) args heads) channels_view mono_heads e h
 refused_as filter.HStack args heads e h = none (IsStack Beside args heads) (stack_by Beside args heads) (stack_is Beside args heads) stack_view (λ m. head_of m ∷ []) e h
 refused_as filter.VStack args heads e h = none (IsStack Below args heads) (stack_by Below args heads) (stack_is Below args heads) stack_view (λ m. head_of m ∷ []) e h
 refused_as filter.Concat args heads e h = none (IsConcat args heads) (concat_by args heads) (concat_is args heads) concat_view (λ m. concat_head m ∷ []) e h
@@ -96,26 +115,37 @@ shown-so : {X : Type 0} (shown : X → View) (heads : X → List StreamHead) (r 
 shown-so shown heads (Ok m) h = tt
 shown-so shown heads (Err e) h = h
 
-plain-so : {X : Type 0} (shown : X → View) (outs : X → List StreamHead) (wanted : StreamHead → Bool) (of : StreamHead → X) (args : List Arg) (heads : List StreamHead) → HasReason (filtered shown outs (plain_by wanted of args heads))
-plain-so shown outs wanted of args heads = shown-so shown outs (plain_by wanted of args heads) (configured-so wanted no_manual set_none (record {}) (λ head s. Ok (of head)) args heads (λ head s. tt))
+plain-so : {X : Type 0} (shown : X → View) (outs : X → List StreamHead) (wanted : StreamHead → Bool) (of : StreamHead → X) (args : List Arg) (heads : List StreamHead)
+    → HasReason (filtered shown outs (plain_by wanted of args heads))
+plain-so shown outs wanted of args heads = shown-so shown outs (plain_by wanted of args heads)
+    (configured-so wanted no_manual set_none (record {}) (λ head s. Ok (of head)) args heads (λ head s. tt))
 
 rebase-so : (wanted : StreamHead → Bool) (args : List Arg) (heads : List StreamHead) → HasReason (filtered rebase_view (λ m. m.head ∷ []) (rebase_by wanted args heads))
-rebase-so wanted args heads = shown-so rebase_view (λ m. m.head ∷ []) (rebase_by wanted args heads) (configured-so wanted expr_manual set_expr (record { given = false }) rebased_as args heads (λ head s. if_so s.given (Ok (record { head = head; first = None })) (Err BadOption) tt (λ e. cc)))
+rebase-so wanted args heads = shown-so rebase_view (λ m. m.head ∷ []) (rebase_by wanted args heads)
+    (configured-so wanted expr_manual set_expr (record { given = false }) rebased_as args heads
+    (λ head s. if_so s.given (Ok (record { head = head; first = None })) (Err BadOption) tt (λ e. cc)))
 
 has_reason : (name : FilterName) (args : List Arg) (heads : List StreamHead) → HasReason (configured_as name args heads)
 has_reason filter.Null args heads = plain-so pass_view (λ m. m.head ∷ []) is_video (λ head. record { head = head }) args heads
-has_reason filter.Trim args heads = shown-so trim_view (λ m. m.head ∷ []) (trim_by args heads) (configured-so is_video range_manual set_times all_times trimmed_as args heads (λ head s. tt))
+has_reason filter.Trim args heads = shown-so trim_view (λ m. m.head ∷ []) (trim_by args heads)
+    (configured-so is_video range_manual set_times all_times trimmed_as args heads (λ head s. tt))
 has_reason filter.SetPts args heads = rebase-so is_video args heads
-has_reason filter.Crop args heads = shown-so crop_view (λ m. crop_head m ∷ []) (crop_by args heads) (configured-so is_video crop_manual set_crop (record { sizes = no_sizes }) cropped_as args heads cropped-so)
-has_reason filter.Pad args heads = shown-so pad_view (λ m. pad_head m ∷ []) (pad_by args heads) (configured-so is_video pad_manual set_pad (record { sizes = no_sizes }) padded_as args heads padded-so)
+has_reason filter.Crop args heads = shown-so crop_view (λ m. crop_head m ∷ []) (crop_by args heads)
+    (configured-so is_video crop_manual set_crop (record { sizes = no_sizes }) cropped_as args heads cropped-so)
+has_reason filter.Pad args heads = shown-so pad_view (λ m. pad_head m ∷ []) (pad_by args heads)
+    (configured-so is_video pad_manual set_pad (record { sizes = no_sizes }) padded_as args heads padded-so)
 has_reason filter.HFlip args heads = plain-so hflip_view (λ head. head ∷ []) is_video (λ head. head) args heads
 has_reason filter.VFlip args heads = plain-so vflip_view (λ head. head ∷ []) is_video (λ head. head) args heads
-has_reason filter.Fps args heads = shown-so fps_view (λ m. fps_head m ∷ []) (fps_by args heads) (configured-so is_video fps_manual set_fps (record { base = record { num = 1; den = 25 } }) paced_as args heads (λ head s. tt))
-has_reason filter.Split args heads = shown-so split_view split_heads (split_by is_video args heads) (configured-so is_video split_manual set_split (record { outputs = 2 }) copied_as args heads (λ head s. tt))
+has_reason filter.Fps args heads = shown-so fps_view (λ m. fps_head m ∷ []) (fps_by args heads)
+    (configured-so is_video fps_manual set_fps (record { base = record { num = 1; den = 25 } }) paced_as args heads (λ head s. tt))
+has_reason filter.Split args heads = shown-so split_view split_heads (split_by is_video args heads)
+    (configured-so is_video split_manual set_split (record { outputs = 2 }) copied_as args heads (λ head s. tt))
 has_reason filter.ANull args heads = plain-so pass_view (λ m. m.head ∷ []) is_sound (λ head. record { head = head }) args heads
-has_reason filter.ATrim args heads = shown-so atrim_view (λ m. m.head ∷ []) (atrim_by args heads) (configured-so is_sound range_manual set_times all_times atrimmed_as args heads (λ head s. tt))
+has_reason filter.ATrim args heads = shown-so atrim_view (λ m. m.head ∷ []) (atrim_by args heads)
+    (configured-so is_sound range_manual set_times all_times atrimmed_as args heads (λ head s. tt))
 has_reason filter.ASetPts args heads = rebase-so is_sound args heads
-has_reason filter.ASplit args heads = shown-so split_view split_heads (split_by is_sound args heads) (configured-so is_sound split_manual set_split (record { outputs = 2 }) copied_as args heads (λ head s. tt))
+has_reason filter.ASplit args heads = shown-so split_view split_heads (split_by is_sound args heads)
+    (configured-so is_sound split_manual set_split (record { outputs = 2 }) copied_as args heads (λ head s. tt))
 has_reason filter.ChannelSplit args heads = plain-so channels_view mono_heads is_sound (λ head. head) args heads
 has_reason filter.HStack args heads = shown-so stack_view (λ m. head_of m ∷ []) (stack_by Beside args heads) (stack-so Beside args heads)
 has_reason filter.VStack args heads = shown-so stack_view (λ m. head_of m ∷ []) (stack_by Below args heads) (stack-so Below args heads)

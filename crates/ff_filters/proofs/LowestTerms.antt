@@ -61,5 +61,8 @@ pub base_out : (n d : ℕ) (f : Fraction) → base_of (n, d) ≡ Some f → IsLo
 base_out n d f e =
     let k = if_out ((nat_le 1 n && nat_le 1 d) && is_small (lowest_of d n)) (lowest_of d n) f e in
     let t = tests_out n d (lowest_of d n) k.0 in
-    subst (λ g. IsLowestOf (pos d) (pos n) g × IsBase g) k.1
-    (record { n = d; d = n; num_is = refl; den_is = refl; num_positive = t.d_some; den_positive = t.n_some; reduced = lowest-is d n }, IsReduced-base d n (lowest_of d n) t.d_some t.n_some (lowest-is d n) t.num t.den)
+    subst (λ g. IsLowestOf (pos d) (pos n) g × IsBase g) k.1 (
+      record { n = d; d = n; num_is = refl; den_is = refl; num_positive = t.d_some; den_positive = t.n_some; reduced = lowest-is d n },
+      IsReduced-base d n
+          (lowest_of d n) t.d_some t.n_some (lowest-is d n) t.num t.den,
+    )

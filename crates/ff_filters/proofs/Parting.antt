@@ -35,7 +35,8 @@ pub record Parts {T X : Type 0} (wanted : StreamHead → Bool) (made : StreamHea
   pub kind : wanted head ≡ true
   pub made_is : made head settings ≡ Ok x
 
-pub parts_of : {S T X : Type 0} (wanted : StreamHead → Bool) (manual : Manual S) (set : T → ℕ → List ℕ → Option T) (t : T) (made : StreamHead → T → Result X ConfigError) (args : List Arg) (heads : List StreamHead) (x : X)
+pub parts_of : {S T X : Type 0} (wanted : StreamHead → Bool) (manual : Manual S) (set : T → ℕ → List ℕ → Option T) (t : T)
+    (made : StreamHead → T → Result X ConfigError) (args : List Arg) (heads : List StreamHead) (x : X)
     → configured_by wanted manual set t made args heads ≡ Ok x → Parts wanted made heads x
 parts_of wanted manual set t made args heads x h =
     let first = then_ok (λ head. and_then (made head) (read_by manual set false 0 t args)) (only_head wanted heads) x h in

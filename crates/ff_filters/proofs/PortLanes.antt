@@ -44,7 +44,9 @@ use Rattle.ff_filters.specs.Heads.{each_is}
 use Rattle.ff_filters.specs.ReadBy.{read_by, configured_by}
 use Rattle.ff_filters.specs.Ticks.{set_times, range_in}
 use Rattle.ff_filters.specs.SetBy.{set_none, set_expr, set_crop, set_pad, set_fps, set_split, set_stack}
-use Rattle.ff_filters.specs.Configured.{all_times, rebased_as, trimmed_as, atrimmed_as, paced_as, copied_as, plain_by, pass_by, rebase_by, trim_by, atrim_by, cropped_as, crop_by, padded_as, pad_by, fps_by, split_by, stacked_as, stack_by, segments_as, concat_by, join_by, Filtered, filtered, configured_as}
+use Rattle.ff_filters.specs.Configured.{all_times, rebased_as, trimmed_as, atrimmed_as, paced_as, copied_as, plain_by, pass_by, rebase_by, trim_by, atrim_by}
+use Rattle.ff_filters.specs.Configured.{cropped_as, crop_by, padded_as, pad_by, fps_by, split_by, stacked_as, stack_by, segments_as, concat_by, join_by, Filtered}
+use Rattle.ff_filters.specs.Configured.{filtered, configured_as}
 use Rattle.ff_filters.specs.declared.name.FilterName.{FilterName}
 use Rattle.ff_filters.specs.declared.name.FilterName.TheVariants as filter
 use Rattle.ff_filters.proofs.SameHeads.{each_out}
@@ -59,7 +61,8 @@ pub record Agrees (heads : List StreamHead) (f : Filtered) : Type 0 where
 -- each filter that is shown so does, where the machine is as `by` says
 at_each : {X : Type 0} (shown : X → View) (outs : X → List StreamHead) (heads : List StreamHead) (by : Result X ConfigError) (f : Filtered)
     → ((m : X) → by ≡ Ok m → Agrees heads (record { view = shown m; outs = outs m })) → filtered shown outs by ≡ Ok f → Agrees heads f
-at_each shown outs heads (Ok m) f each e = (let same : (let g : Filtered = record { view = shown m; outs = outs m } in g) ≡ f = cc in subst (λ (g : Filtered). Agrees heads g) same (each m refl))
+at_each shown outs heads (Ok m) f each e = (let same : (let g : Filtered = record { view = shown m; outs = outs m } in g) ≡ f = cc in subst
+    (λ (g : Filtered). Agrees heads g) same (each m refl))
 at_each shown outs heads (Err x) f each e = cc
 
 copies : (n : ℕ) (h : StreamHead) → replicate n (Frames h) ≡ map Frames (replicate n h)
@@ -78,15 +81,18 @@ module _ {S T X : Type 0} (wanted : StreamHead → Bool) (manual : Manual S) (se
       let p = parts_of wanted manual set t made args heads m e in
       ap (λ (h : StreamHead). Frames h ∷ []) (sym (keeps p.head p.settings m p.made_is)) ∙ ap (map Frames) (sym p.only)
 
-plain-agrees : {X : Type 0} (wanted : StreamHead → Bool) (of : StreamHead → X) (head_of : X → StreamHead) (same : (head : StreamHead) → head ≡ head_of (of head)) (args : List Arg) (heads : List StreamHead) (m : X)
+plain-agrees : {X : Type 0} (wanted : StreamHead → Bool) (of : StreamHead → X) (head_of : X → StreamHead) (same : (head : StreamHead) → head ≡ head_of (of head))
+    (args : List Arg) (heads : List StreamHead) (m : X)
     → plain_by wanted of args heads ≡ Ok m → Frames (head_of m) ∷ [] ≡ map Frames heads
 plain-agrees wanted of head_of same args heads m e =
     only_is wanted no_manual set_none (record {}) (λ head u. Ok (of head)) head_of (λ head u k f. same head ∙ ap head_of (same_ok (of head) k f)) args heads m e
 
 rebase_keeps : (head : StreamHead) (s : ExprSettings) (m : Rebase) → rebased_as head s ≡ Ok m → head ≡ m.head
-rebase_keeps head s m e = let k = if_ok s.given (Ok (record { head = head; first = None })) BadOption m e in ap (λ (x : Rebase). x.head) (same_ok (record { head = head; first = None }) m k.1)
+rebase_keeps head s m e = let k = if_ok s.given (Ok (record { head = head; first = None })) BadOption m e in ap (λ (x : Rebase). x.head)
+    (same_ok (record { head = head; first = None }) m k.1)
 
-rebase-agrees : (wanted : StreamHead → Bool) (args : List Arg) (heads : List StreamHead) (f : Filtered) → filtered rebase_view (λ m. m.head ∷ []) (rebase_by wanted args heads) ≡ Ok f → Agrees heads f
+rebase-agrees : (wanted : StreamHead → Bool) (args : List Arg) (heads : List StreamHead) (f : Filtered)
+    → filtered rebase_view (λ m. m.head ∷ []) (rebase_by wanted args heads) ≡ Ok f → Agrees heads f
 rebase-agrees wanted args heads f e = at_each rebase_view (λ m. m.head ∷ []) heads (rebase_by wanted args heads) f
     (λ m k. record {
       ins = only_is wanted expr_manual set_expr (record { given = false }) rebased_as (λ n. n.head) rebase_keeps args heads m k;
@@ -94,7 +100,8 @@ rebase-agrees wanted args heads f e = at_each rebase_view (λ m. m.head ∷ []) 
       new = record { shut = λ p. refl; ended = λ q. refl; stopped = λ q. refl };
     }) e
 
-pass-agrees : (wanted : StreamHead → Bool) (args : List Arg) (heads : List StreamHead) (f : Filtered) → filtered pass_view (λ m. m.head ∷ []) (pass_by wanted args heads) ≡ Ok f → Agrees heads f
+pass-agrees : (wanted : StreamHead → Bool) (args : List Arg) (heads : List StreamHead) (f : Filtered)
+    → filtered pass_view (λ m. m.head ∷ []) (pass_by wanted args heads) ≡ Ok f → Agrees heads f
 pass-agrees wanted args heads f e = at_each pass_view (λ m. m.head ∷ []) heads (pass_by wanted args heads) f
     (λ m k. record {
       ins = plain-agrees wanted (λ head. record { head = head }) (λ n. n.head) (λ head. refl) args heads m k;
@@ -116,10 +123,12 @@ pad_keeps (Video tb format width height sar_num sar_den) s m e =
     let k = if_ok (can_pad made) (Ok made) BadSize m e in
     ap (λ (x : Padded). x.head) (same_ok made m k.1)
 
-split-agrees : (wanted : StreamHead → Bool) (args : List Arg) (heads : List StreamHead) (f : Filtered) → filtered split_view split_heads (split_by wanted args heads) ≡ Ok f → Agrees heads f
+split-agrees : (wanted : StreamHead → Bool) (args : List Arg) (heads : List StreamHead) (f : Filtered)
+    → filtered split_view split_heads (split_by wanted args heads) ≡ Ok f → Agrees heads f
 split-agrees wanted args heads f e = at_each split_view split_heads heads (split_by wanted args heads) f
     (λ m k. record {
-      ins = only_is wanted split_manual set_split (record { outputs = 2 }) copied_as (λ n. n.0) (λ head u n g. ap (λ (x : StreamHead × ℕ). x.0) (same_ok (head, u.outputs) n g)) args heads m k;
+      ins = only_is wanted split_manual set_split (record { outputs = 2 }) copied_as (λ n. n.0)
+          (λ head u n g. ap (λ (x : StreamHead × ℕ). x.0) (same_ok (head, u.outputs) n g)) args heads m k;
       outs = copies m.1 m.0;
       new = record { shut = λ p. refl; ended = λ q. refl; stopped = λ q. refl };
     }) e
@@ -131,16 +140,17 @@ stacked_keeps d [] s m e = cc
 stacked_keeps d (h ∷ hs) s m e =
     let k = unless_ok (stack_fault d h (h ∷ hs)) _ m e in sym (ap (λ (x : StackOf). x.heads) (same_ok (stack_on d h (h ∷ hs) s.shortest) m k.1))
 
-stack-agrees : (d : Direction) (args : List Arg) (heads : List StreamHead) (f : Filtered) → filtered stack_view (λ m. head_of m ∷ []) (stack_by d args heads) ≡ Ok f → Agrees heads f
+stack-agrees : (d : Direction) (args : List Arg) (heads : List StreamHead) (f : Filtered) → filtered stack_view (λ m. head_of m ∷ []) (stack_by d args heads) ≡ Ok f
+    → Agrees heads f
 stack-agrees d args heads f e = at_each stack_view (λ m. head_of m ∷ []) heads (stack_by d args heads) f
     (λ m k.
-      let first = unless_ok (input_fault (counted false 0 2 args) is_video heads) _ m k in
-      let second = then_ok (stacked_as d heads) (read_by stack_manual set_stack false 0 (record { inputs = 2; shortest = false }) args) m first.1 in
-      record {
-        ins = ap (map Frames) (stacked_keeps d heads second.0 m second.2);
-        outs = refl;
-        new = record { shut = λ p. refl; ended = λ q. refl; stopped = λ q. refl };
-      }) e
+    let first = unless_ok (input_fault (counted false 0 2 args) is_video heads) _ m k in
+    let second = then_ok (stacked_as d heads) (read_by stack_manual set_stack false 0 (record { inputs = 2; shortest = false }) args) m first.1 in
+    record {
+      ins = ap (map Frames) (stacked_keeps d heads second.0 m second.2);
+      outs = refl;
+      new = record { shut = λ p. refl; ended = λ q. refl; stopped = λ q. refl };
+    }) e
 
 all_same : (h : StreamHead) (hs : List StreamHead) → EachIs h hs → replicate (length hs) (Frames h) ≡ map Frames hs
 all_same h [] s = refl
@@ -153,23 +163,25 @@ segments_keep (h ∷ hs) m e =
     subst (λ (x : StreamHead × ℕ). replicate x.1 (Frames x.0) ≡ map Frames (h ∷ hs)) (same_ok (h, length (h ∷ hs)) m k.1)
     (ap (λ (ls : List Lane). Frames h ∷ ls) (all_same h hs (each_out h hs k.0)))
 
-concat-agrees : (args : List Arg) (heads : List StreamHead) (f : Filtered) → filtered concat_view (λ m. concat_head m ∷ []) (concat_by args heads) ≡ Ok f → Agrees heads f
+concat-agrees : (args : List Arg) (heads : List StreamHead) (f : Filtered) → filtered concat_view (λ m. concat_head m ∷ []) (concat_by args heads) ≡ Ok f
+    → Agrees heads f
 concat-agrees args heads f e = at_each concat_view (λ m. concat_head m ∷ []) heads (concat_by args heads) f
     (λ m k.
-      let first = if_ok (length heads == segments_said args) _ Pads m k in
-      let second = if_ok (each_head (is_of_kind (video_said args) (sound_said args)) heads) _ Kind m first.1 in
-      let third = then_ok (λ s. segments_as heads) (read_by concat_manual concat_set false 0 (concat_start args) args) m second.1 in
-      record {
-        ins = segments_keep heads m third.2;
-        outs = refl;
-        new = record { shut = λ p. refl; ended = λ q. refl; stopped = λ q. refl };
-      }) e
+    let first = if_ok (length heads == segments_said args) _ Pads m k in
+    let second = if_ok (each_head (is_of_kind (video_said args) (sound_said args)) heads) _ Kind m first.1 in
+    let third = then_ok (λ s. segments_as heads) (read_by concat_manual concat_set false 0 (concat_start args) args) m second.1 in
+    record {
+      ins = segments_keep heads m third.2;
+      outs = refl;
+      new = record { shut = λ p. refl; ended = λ q. refl; stopped = λ q. refl };
+    }) e
 
 pub agrees : (name : FilterName) (args : List Arg) (heads : List StreamHead) (f : Filtered) → configured_as name args heads ≡ Ok f → Agrees heads f
 agrees filter.Null args heads f e = pass-agrees is_video args heads f e
 agrees filter.Trim args heads f e = at_each trim_view (λ m. m.head ∷ []) heads (trim_by args heads) f
     (λ m k. record {
-      ins = only_is is_video range_manual set_times all_times trimmed_as (λ n. n.head) (λ head u n g. ap (λ (x : Trim). x.head) (same_ok (record { head = head; range = range_in (base_of_head head) u }) n g)) args heads m k;
+      ins = only_is is_video range_manual set_times all_times trimmed_as (λ n. n.head)
+          (λ head u n g. ap (λ (x : Trim). x.head) (same_ok (record { head = head; range = range_in (base_of_head head) u }) n g)) args heads m k;
       outs = refl;
       new = record { shut = λ p. refl; ended = λ q. refl; stopped = λ q. refl };
     }) e
@@ -200,7 +212,8 @@ agrees filter.VFlip args heads f e = at_each vflip_view (λ head. head ∷ []) h
     }) e
 agrees filter.Fps args heads f e = at_each fps_view (λ m. fps_head m ∷ []) heads (fps_by args heads) f
     (λ m k. record {
-      ins = only_is is_video fps_manual set_fps (record { base = record { num = 1; den = 25 } }) paced_as (λ n. n.0) (λ head u n g. ap (λ (x : StreamHead × Fraction). x.0) (same_ok (head, u.base) n g)) args heads m k;
+      ins = only_is is_video fps_manual set_fps (record { base = record { num = 1; den = 25 } }) paced_as (λ n. n.0)
+          (λ head u n g. ap (λ (x : StreamHead × Fraction). x.0) (same_ok (head, u.base) n g)) args heads m k;
       outs = refl;
       new = record { shut = λ p. refl; ended = λ q. refl; stopped = λ q. refl };
     }) e
@@ -208,7 +221,8 @@ agrees filter.Split args heads f e = split-agrees is_video args heads f e
 agrees filter.ANull args heads f e = pass-agrees is_sound args heads f e
 agrees filter.ATrim args heads f e = at_each atrim_view (λ m. m.head ∷ []) heads (atrim_by args heads) f
     (λ m k. record {
-      ins = only_is is_sound range_manual set_times all_times atrimmed_as (λ n. n.head) (λ head u n g. ap (λ (x : ATrim). x.head) (same_ok (record { head = head; range = range_in (base_of_head head) u }) n g)) args heads m k;
+      ins = only_is is_sound range_manual set_times all_times atrimmed_as (λ n. n.head)
+          (λ head u n g. ap (λ (x : ATrim). x.head) (same_ok (record { head = head; range = range_in (base_of_head head) u }) n g)) args heads m k;
       outs = refl;
       new = record { shut = λ p. refl; ended = λ q. refl; stopped = λ q. refl };
     }) e

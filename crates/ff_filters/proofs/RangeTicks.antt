@@ -1,5 +1,6 @@
 -- The functions of ranges of times are the relations.
-use Rattle.std.proofs.Common.{◌≡◌, ℕ, zero, suc, ℤ, pos, ◌*◌, ◌<◌, ◌≤◌, ◌^◌, ◌≤ℤ◌, ◌*ℤ◌, ◌-ℤ◌, Bool, true, false, nat_le, cond, ◌&&◌, Option, Some, None, option_map, List, inl, inr, refl, sym, ap, subst, ◌∙◌, arith}
+use Rattle.std.proofs.Common.{◌≡◌, ℕ, zero, suc, ℤ, pos, ◌*◌, ◌<◌, ◌≤◌, ◌^◌, ◌≤ℤ◌, ◌*ℤ◌, ◌-ℤ◌, Bool, true, false, nat_le, cond, ◌&&◌, Option, Some, None, option_map}
+use Rattle.std.proofs.Common.{List, inl, inr, refl, sym, ap, subst, ◌∙◌, arith}
 use Rattle.std.specs.Option.{ForSome}
 use Rattle.std.proofs.Props.{props}
 use Rattle.std.proofs.lemmas.Int.{ints}
@@ -52,7 +53,8 @@ some_out f (Some us) u e = (us, refl)
 near_some : (us : ℕ) → us ≤ 10 ^ 15 → ForSome (Some us) (λ x. x ≤ 10 ^ 15)
 near_some us h x e = (let same : us ≡ x = cc in omega (arith, h, same))
 
-range_sets : (s : RangeSettings) (option : ℕ) (value : List ℕ) (t : RangeSettings) → SetsRange s option value t → set_times (times_of s) option value ≡ Some (times_of t)
+range_sets : (s : RangeSettings) (option : ℕ) (value : List ℕ) (t : RangeSettings) → SetsRange s option value t
+    → set_times (times_of s) option value ≡ Some (times_of t)
 range_sets s zero value t h =
     ap (option_map (λ us. let m : Times = record { start = us; stop = s.stop } in m)) (time_in value t.start h.0)
     ∙ ap (λ (x : Option ℕ). let m : Times = record { start = t.start; stop = x } in Some m) (sym h.1)
@@ -61,7 +63,8 @@ range_sets s (suc option) value t h =
     ∙ (ap (λ (x : ℕ). let m : Times = record { start = x; stop = Some h.1.0 } in Some m) (sym h.0)
     ∙ ap (λ (x : Option ℕ). let m : Times = record { start = t.start; stop = x } in Some m) (sym h.1.2))
 
-range_takes : (s : RangeSettings) (option : ℕ) (value : List ℕ) (u : Times) → set_times (times_of s) option value ≡ Some u → (t : RangeSettings) × SetsRange s option value t
+range_takes : (s : RangeSettings) (option : ℕ) (value : List ℕ) (u : Times) → set_times (times_of s) option value ≡ Some u
+    → (t : RangeSettings) × SetsRange s option value t
 range_takes s zero value u e =
     let k = some_out (λ us. let m : Times = record { start = us; stop = s.stop } in m) (time_of value) u e in
     let is = time_out value k.0 k.1 in
@@ -92,7 +95,7 @@ num_some us tb n r least =
           let below : Reaches us tb (n -ℤ pos 1) = subst (λ z. pos (us * tb.den) ≤ℤ z) (no_times n (n -ℤ pos 1) (tb.num * 1000000) e) r in
           let less = least (n -ℤ pos 1) below in
           absurd (omega (arith, ints, less))
-        )
+          )
     ]
 
 pub ceiling_is : (us : ℕ) (tb : Fraction) (k : ℕ) → IsCeiling us tb k → ticks_at tb us ≡ k

@@ -59,13 +59,15 @@ given : {T : Type 0} (set : ℕ → Option T) (others : T → Result T ConfigErr
 given set others None on = λ e. cc
 given set others (Some option) on = taken others (set option) on
 
-read : {S T : Type 0} (manual : Manual S) (set : T → ℕ → List ℕ → Option T) (keyed : Bool) (place : ℕ) (t : T) (args : List Arg) → HasReason (read_by manual set keyed place t args)
+read : {S T : Type 0} (manual : Manual S) (set : T → ℕ → List ℕ → Option T) (keyed : Bool) (place : ℕ) (t : T) (args : List Arg)
+    → HasReason (read_by manual set keyed place t args)
 read manual set keyed place t [] = tt
 read manual set keyed place t (a ∷ others) =
     given (λ option. set t option a.value) (λ u. read_by manual set (keyed || is_some a.key) (place + 1) u others) (option_of manual keyed place a.key)
     (λ u. read manual set (keyed || is_some a.key) (place + 1) u others)
 
-pub configured-so : {S T X : Type 0} (wanted : StreamHead → Bool) (manual : Manual S) (set : T → ℕ → List ℕ → Option T) (t : T) (made : StreamHead → T → Result X ConfigError) (args : List Arg) (heads : List StreamHead)
+pub configured-so : {S T X : Type 0} (wanted : StreamHead → Bool) (manual : Manual S) (set : T → ℕ → List ℕ → Option T) (t : T)
+    (made : StreamHead → T → Result X ConfigError) (args : List Arg) (heads : List StreamHead)
     → ((head : StreamHead) (u : T) → HasReason (made head u)) → HasReason (configured_by wanted manual set t made args heads)
 configured-so wanted manual set t made args heads on =
     goes_on (λ head. and_then (made head) (read_by manual set false 0 t args)) (only_head wanted heads) (one_head wanted heads)
@@ -90,7 +92,8 @@ pub stack-so : (d : Direction) (args : List Arg) (heads : List StreamHead) → H
 stack-so d args heads =
     unless-so (input_fault (counted false 0 2 args) is_video heads) _
     (some_if (nat_eq (length heads) (counted false 0 2 args)) _ Pads (some_if _ None Kind tt (λ e. cc)) (λ e. cc))
-    (goes_on (stacked_as d heads) (read_by stack_manual set_stack false 0 (record { inputs = 2; shortest = false }) args) (read stack_manual set_stack false 0 (record { inputs = 2; shortest = false }) args) (planned d heads))
+    (goes_on (stacked_as d heads) (read_by stack_manual set_stack false 0 (record { inputs = 2; shortest = false }) args)
+    (read stack_manual set_stack false 0 (record { inputs = 2; shortest = false }) args) (planned d heads))
 
 segments : (heads : List StreamHead) → HasReason (segments_as heads)
 segments [] = λ e. cc
@@ -100,7 +103,8 @@ pub concat-so : (args : List Arg) (heads : List StreamHead) → HasReason (conca
 concat-so args heads =
     if_so (length heads == segments_said args) _ _
     (if_so (each_head (is_of_kind (video_said args) (sound_said args)) heads) _ _
-    (goes_on (λ s. segments_as heads) (read_by concat_manual concat_set false 0 (concat_start args) args) (read concat_manual concat_set false 0 (concat_start args) args) (λ s. segments heads))
+    (goes_on (λ s. segments_as heads) (read_by concat_manual concat_set false 0 (concat_start args) args)
+    (read concat_manual concat_set false 0 (concat_start args) args) (λ s. segments heads))
     (λ e. cc)) (λ e. cc)
 
 joined : (heads : List StreamHead) → HasReason (joined_as heads)
@@ -111,5 +115,6 @@ pub join-so : (args : List Arg) (heads : List StreamHead) → HasReason (join_by
 join-so args heads =
     if_so (length heads == inputs_said args) _ _
     (if_so (each_head is_sound heads) _ _
-    (goes_on (λ s. joined_as heads) (read_by join_manual set_join false 0 (record { inputs = 2 }) args) (read join_manual set_join false 0 (record { inputs = 2 }) args) (λ s. joined heads))
+    (goes_on (λ s. joined_as heads) (read_by join_manual set_join false 0 (record { inputs = 2 }) args)
+    (read join_manual set_join false 0 (record { inputs = 2 }) args) (λ s. joined heads))
     (λ e. cc)) (λ e. cc)

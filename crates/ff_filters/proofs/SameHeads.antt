@@ -72,7 +72,8 @@ same_numbers (Video tb format width height sar_num sar_den) (Video tb' format' w
 
 pub each_in : (head : StreamHead) (hs : List StreamHead) → EachIs head hs → each_is head hs ≡ true
 each_in head [] s = refl
-each_in head (h ∷ hs) s = and_from (bytes_eq (numbers_of h) (numbers_of head)) (each_is head hs) ((bytes_eq-Decides (numbers_of h) (numbers_of head)).1 (ap numbers_of s.0)) (each_in head hs s.1)
+each_in head (h ∷ hs) s = and_from (bytes_eq (numbers_of h) (numbers_of head)) (each_is head hs)
+    ((bytes_eq-Decides (numbers_of h) (numbers_of head)).1 (ap numbers_of s.0)) (each_in head hs s.1)
 
 pub each_out : (head : StreamHead) (hs : List StreamHead) → each_is head hs ≡ true → EachIs head hs
 each_out head [] e = tt

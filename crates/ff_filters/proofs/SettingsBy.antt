@@ -84,8 +84,10 @@ crop_same t z e = ap (λ (x : Sizes). let s : CropSettings = record { sizes = x 
 
 pub crop_set : SetsBy crop_manual (λ s. s) set_crop
 crop_set = record {
-  sets = λ s option value t h. ap (option_map (λ n. let c : CropSettings = record { sizes = put s.sizes option n } in c)) h.1 ∙ ap Some (crop_same t (put s.sizes option h.0) h.2);
-  takes = λ s option value u e. let k = from_map (λ n. let c : CropSettings = record { sizes = put s.sizes option n } in c) (number_of 5 value) u e in (record { sizes = put s.sizes option k.0 }, (k.0, k.1, refl));
+  sets = λ s option value t h. ap (option_map (λ n. let c : CropSettings = record { sizes = put s.sizes option n } in c)) h.1 ∙ ap Some
+      (crop_same t (put s.sizes option h.0) h.2);
+  takes = λ s option value u e. let k = from_map (λ n. let c : CropSettings = record { sizes = put s.sizes option n } in c) (number_of 5 value) u
+      e in (record { sizes = put s.sizes option k.0 }, (k.0, k.1, refl));
 }
 
 pad_same : (t : PadSettings) (z : Sizes) → t.sizes ≡ z → (let s : PadSettings = record { sizes = z } in s) ≡ t
@@ -93,8 +95,10 @@ pad_same t z e = ap (λ (x : Sizes). let s : PadSettings = record { sizes = x } 
 
 pub pad_set : SetsBy pad_manual (λ s. s) set_pad
 pad_set = record {
-  sets = λ s option value t h. ap (option_map (λ n. let c : PadSettings = record { sizes = put s.sizes option n } in c)) h.1 ∙ ap Some (pad_same t (put s.sizes option h.0) h.2);
-  takes = λ s option value u e. let k = from_map (λ n. let c : PadSettings = record { sizes = put s.sizes option n } in c) (number_of 5 value) u e in (record { sizes = put s.sizes option k.0 }, (k.0, k.1, refl));
+  sets = λ s option value t h. ap (option_map (λ n. let c : PadSettings = record { sizes = put s.sizes option n } in c)) h.1 ∙ ap Some
+      (pad_same t (put s.sizes option h.0) h.2);
+  takes = λ s option value u e. let k = from_map (λ n. let c : PadSettings = record { sizes = put s.sizes option n } in c) (number_of 5 value) u
+      e in (record { sizes = put s.sizes option k.0 }, (k.0, k.1, refl));
 }
 
 rate_in : (value : List ℕ) (t : FpsSettings) → SetsFps value t → rate_base value ≡ Some t.base
@@ -109,7 +113,8 @@ rate_out value t e =
 pub fps_set : SetsBy fps_manual (λ s. s) set_fps
 fps_set = record {
   sets = λ s option value t h. ap (option_map (λ (b : Fraction). let f : FpsSettings = record { base = b } in f)) (rate_in value t h);
-  takes = λ s option value u e. let k = from_map (λ (b : Fraction). let f : FpsSettings = record { base = b } in f) (rate_base value) u e in (record { base = k.0 }, rate_out value (record { base = k.0 }) k.1);
+  takes = λ s option value u e. let k = from_map (λ (b : Fraction). let f : FpsSettings = record { base = b } in f) (rate_base value) u
+      e in (record { base = k.0 }, rate_out value (record { base = k.0 }) k.1);
 }
 
 pub split_set : SetsBy split_manual (λ s. s) set_split
@@ -150,11 +155,13 @@ stack_sets s zero value t h =
     ap (option_map (λ n. let c : StackSettings = record { inputs = n; shortest = s.shortest } in c)) (ranged_in 2 16 t.inputs value h.0 h.1 h.2)
     ∙ ap (λ (b : Bool). let c : StackSettings = record { inputs = t.inputs; shortest = b } in Some c) (sym h.3)
 stack_sets s (suc option) value t h =
-    ap (option_map (λ n. let c : StackSettings = record { inputs = s.inputs; shortest = n == 1 } in c)) (ranged_in 0 1 (cond t.shortest 1 0) value h.0 (omega arith) (flag_in t.shortest))
+    ap (option_map (λ n. let c : StackSettings = record { inputs = s.inputs; shortest = n == 1 } in c))
+    (ranged_in 0 1 (cond t.shortest 1 0) value h.0 (omega arith) (flag_in t.shortest))
     ∙ (ap (λ (b : Bool). let c : StackSettings = record { inputs = s.inputs; shortest = b } in Some c) (flag_is t.shortest)
     ∙ ap (λ n. let c : StackSettings = record { inputs = n; shortest = t.shortest } in Some c) (sym h.1))
 
-stack_takes : (s : StackSettings) (option : ℕ) (value : List ℕ) (u : StackSettings) → set_stack s option value ≡ Some u → (t : StackSettings) × SetsStack s option value t
+stack_takes : (s : StackSettings) (option : ℕ) (value : List ℕ) (u : StackSettings) → set_stack s option value ≡ Some u
+    → (t : StackSettings) × SetsStack s option value t
 stack_takes s zero value u e =
     let k = from_map (λ n. let c : StackSettings = record { inputs = n; shortest = s.shortest } in c) (ranged 2 16 value) u e in
     let b = ranged_out 2 16 k.0 value k.1 in

@@ -35,5 +35,6 @@ read_by manual set keyed place t (a ∷ others) =
 
 -- A filter of one input by its arguments: first the number of inputs and their kind decide, then the arguments in their order,
 -- then what the head and the settings make.
-abbrev pub configured_by : {S T X : Type 0} → (StreamHead → Bool) → Manual S → (T → ℕ → List ℕ → Option T) → T → (StreamHead → T → Result X ConfigError) → List Arg → List StreamHead → Result X ConfigError
+abbrev pub configured_by : {S T X : Type 0} → (StreamHead → Bool) → Manual S → (T → ℕ → List ℕ → Option T) → T → (StreamHead → T → Result X ConfigError) → List Arg
+    → List StreamHead → Result X ConfigError
 configured_by wanted manual set t made args heads = and_then (λ head. and_then (made head) (read_by manual set false 0 t args)) (only_head wanted heads)

@@ -19,7 +19,8 @@ mod pads;
 pub use any::AnyFilter;
 pub use configured::configure;
 pub use laws::{
-    durations_are_read, filters_are_determined, filters_carry_their_heads, the_function_needs_no_memory,
+    durations_are_read, filters_are_determined, filters_carry_their_heads,
+    the_function_needs_no_memory,
 };
 pub use name::{FilterName, named};
 pub use pads::{inputs, outputs, takes_sound};
