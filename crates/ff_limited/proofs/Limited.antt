@@ -37,7 +37,8 @@ use Rattle.ff_filters.specs.Heads.{each_is}
 use Rattle.ff_filters.specs.ReadBy.{read_by}
 use Rattle.ff_filters.specs.SetBy.{set_none, set_crop, set_pad, set_fps, set_stack, set_join}
 use Rattle.ff_filters.specs.Ticks.{set_times, range_in}
-use Rattle.ff_filters.specs.Configured.{Filtered, filtered, configured_as, plain_by, pass_by, rebase_by, trim_by, atrimmed_as, all_times, atrim_by, cropped_as, crop_by, padded_as, pad_by, paced_as, fps_by, split_by, stacked_as, stack_by, segments_as, concat_by, joined_as, join_by}
+use Rattle.ff_filters.specs.Configured.{Filtered, filtered, configured_as, plain_by, pass_by, rebase_by, trim_by, atrimmed_as, all_times, atrim_by, cropped_as}
+use Rattle.ff_filters.specs.Configured.{crop_by, padded_as, pad_by, paced_as, fps_by, split_by, stacked_as, stack_by, segments_as, concat_by, joined_as, join_by}
 use Rattle.ff_filters.proofs.Parting.{if_ok, then_ok, unless_ok, parts_of}
 use Rattle.ff_limited.specs.Cuts.{cuts_in, AreTimed}
 use Rattle.ff_limited.proofs.Opening.{Owes, opened_limited}
@@ -48,8 +49,10 @@ use Rattle.ff_limited.proofs.Manies.{stack_owes, concat_owes, join_owes}
 abbrev Pays : View → Type 0
 Pays v = Owes v.ins v.outs v.rest
 
-paid : {X : Type 0} (shown : X → View) (outs : X → List StreamHead) (by : Result X ConfigError) (f : Filtered) → ((m : X) → by ≡ Ok m → Pays (shown m)) → filtered shown outs by ≡ Ok f → Pays f.view
-paid shown outs (Ok m) f each e = (let same : (let g : Filtered = record { view = shown m; outs = outs m } in g) ≡ f = cc in subst (λ (g : Filtered). Pays g.view) same (each m refl))
+paid : {X : Type 0} (shown : X → View) (outs : X → List StreamHead) (by : Result X ConfigError) (f : Filtered) → ((m : X) → by ≡ Ok m → Pays (shown m))
+    → filtered shown outs by ≡ Ok f → Pays f.view
+paid shown outs (Ok m) f each e = (let same : (let g : Filtered = record { view = shown m; outs = outs m } in g) ≡ f = cc in subst (λ (g : Filtered). Pays g.view)
+    same (each m refl))
 paid shown outs (Err x) f each e = cc
 
 same_ok : {X : Type 0} (x y : X) → (let r : Result X ConfigError = Ok x in r) ≡ Ok y → x ≡ y
@@ -60,15 +63,16 @@ plain_paid : (wanted : StreamHead → Bool) (shown : StreamHead → View) (outs 
     → ((head : StreamHead) → wanted head ≡ true → Pays (shown head)) → filtered shown outs (plain_by wanted (λ head. head) args heads) ≡ Ok f → Pays f.view
 plain_paid wanted shown outs args heads f each e = paid shown outs (plain_by wanted (λ head. head) args heads) f
     (λ m k.
-      let p = parts_of wanted no_manual set_none (record {}) (λ head s. Ok head) args heads m k in
-      each m (subst (λ (h : StreamHead). wanted h ≡ true) (same_ok p.head m p.made_is) p.kind)) e
+    let p = parts_of wanted no_manual set_none (record {}) (λ head s. Ok head) args heads m k in
+    each m (subst (λ (h : StreamHead). wanted h ≡ true) (same_ok p.head m p.made_is) p.kind)) e
 
-stack_paid : (d : Direction) (args : List Arg) (heads : List StreamHead) (f : Filtered) → filtered stack_view (λ m. head_of m ∷ []) (stack_by d args heads) ≡ Ok f → Pays f.view
+stack_paid : (d : Direction) (args : List Arg) (heads : List StreamHead) (f : Filtered) → filtered stack_view (λ m. head_of m ∷ []) (stack_by d args heads) ≡ Ok f
+    → Pays f.view
 stack_paid d args heads f e = paid stack_view (λ m. head_of m ∷ []) (stack_by d args heads) f
     (λ m k.
-      let first = unless_ok (input_fault (counted false 0 2 args) is_video heads) _ m k in
-      let second = then_ok (stacked_as d heads) (read_by stack_manual set_stack false 0 (record { inputs = 2; shortest = false }) args) m first.1 in
-      stack_owes d heads second.0 m second.2) e
+    let first = unless_ok (input_fault (counted false 0 2 args) is_video heads) _ m k in
+    let second = then_ok (stacked_as d heads) (read_by stack_manual set_stack false 0 (record { inputs = 2; shortest = false }) args) m first.1 in
+    stack_owes d heads second.0 m second.2) e
 
 segments_paid : (heads : List StreamHead) (m : StreamHead × ℕ) → AreTimed heads → segments_as heads ≡ Ok m → Pays (concat_view m)
 segments_paid [] m t e = cc
@@ -76,21 +80,22 @@ segments_paid (h ∷ hs) m t e =
     let k = if_ok (each_is h hs) (Ok (h, length (h ∷ hs))) Mismatch m e in
     subst (λ (x : StreamHead × ℕ). Pays (concat_view x)) (same_ok (h, length (h ∷ hs)) m k.1) (concat_owes h (length (h ∷ hs)) t.0)
 
-concat_paid : (args : List Arg) (heads : List StreamHead) (f : Filtered) → AreTimed heads → filtered concat_view (λ m. concat_head m ∷ []) (concat_by args heads) ≡ Ok f → Pays f.view
+concat_paid : (args : List Arg) (heads : List StreamHead) (f : Filtered) → AreTimed heads
+    → filtered concat_view (λ m. concat_head m ∷ []) (concat_by args heads) ≡ Ok f → Pays f.view
 concat_paid args heads f t e = paid concat_view (λ m. concat_head m ∷ []) (concat_by args heads) f
     (λ m k.
-      let first = if_ok (length heads == segments_said args) _ Pads m k in
-      let second = if_ok (each_head (is_of_kind (video_said args) (sound_said args)) heads) _ Kind m first.1 in
-      let third = then_ok (λ s. segments_as heads) (read_by concat_manual concat_set false 0 (concat_start args) args) m second.1 in
-      segments_paid heads m t third.2) e
+    let first = if_ok (length heads == segments_said args) _ Pads m k in
+    let second = if_ok (each_head (is_of_kind (video_said args) (sound_said args)) heads) _ Kind m first.1 in
+    let third = then_ok (λ s. segments_as heads) (read_by concat_manual concat_set false 0 (concat_start args) args) m second.1 in
+    segments_paid heads m t third.2) e
 
 join_paid : (args : List Arg) (heads : List StreamHead) (f : Filtered) → filtered (join_view heads) (λ head. head ∷ []) (join_by args heads) ≡ Ok f → Pays f.view
 join_paid args heads f e = paid (join_view heads) (λ head. head ∷ []) (join_by args heads) f
     (λ m k.
-      let first = if_ok (length heads == inputs_said args) _ Pads m k in
-      let second = if_ok (each_head is_sound heads) _ Kind m first.1 in
-      let third = then_ok (λ s. joined_as heads) (read_by join_manual set_join false 0 (record { inputs = 2 }) args) m second.1 in
-      join_owes heads m second.0 third.2) e
+    let first = if_ok (length heads == inputs_said args) _ Pads m k in
+    let second = if_ok (each_head is_sound heads) _ Kind m first.1 in
+    let third = then_ok (λ s. joined_as heads) (read_by join_manual set_join false 0 (record { inputs = 2 }) args) m second.1 in
+    join_owes heads m second.0 third.2) e
 
 owes : (name : FilterName) (args : List Arg) (heads : List StreamHead) (f : Filtered) → AreTimed heads → configured_as name args heads ≡ Ok f → Pays f.view
 owes filter.Null args heads f t e = paid pass_view (λ m. m.head ∷ []) (pass_by is_video args heads) f (λ m k. pass_owes m) e
@@ -104,15 +109,15 @@ owes filter.HFlip args heads f t e = plain_paid is_video hflip_view (λ head. he
 owes filter.VFlip args heads f t e = plain_paid is_video vflip_view (λ head. head ∷ []) args heads f vflip_owes e
 owes filter.Fps args heads f t e = paid fps_view (λ m. fps_head m ∷ []) (fps_by args heads) f
     (λ m k.
-      let p = parts_of is_video fps_manual set_fps (record { base = record { num = 1; den = 25 } }) paced_as args heads m k in
-      subst (λ (x : StreamHead × Fraction). Pays (fps_view x)) (same_ok (p.head, p.settings.base) m p.made_is) (fps_owes p.head p.settings.base p.kind)) e
+    let p = parts_of is_video fps_manual set_fps (record { base = record { num = 1; den = 25 } }) paced_as args heads m k in
+    subst (λ (x : StreamHead × Fraction). Pays (fps_view x)) (same_ok (p.head, p.settings.base) m p.made_is) (fps_owes p.head p.settings.base p.kind)) e
 owes filter.Split args heads f t e = paid split_view split_heads (split_by is_video args heads) f (λ m k. split_owes m) e
 owes filter.ANull args heads f t e = paid pass_view (λ m. m.head ∷ []) (pass_by is_sound args heads) f (λ m k. pass_owes m) e
 owes filter.ATrim args heads f t e = paid atrim_view (λ m. m.head ∷ []) (atrim_by args heads) f
     (λ m k.
-      let p = parts_of is_sound range_manual set_times all_times atrimmed_as args heads m k in
-      let same : p.head ≡ m.head = ap (λ (x : ATrim). x.head) (same_ok (record { head = p.head; range = range_in (base_of_head p.head) p.settings }) m p.made_is) in
-      atrim_owes m (subst (λ (h : StreamHead). is_sound h ≡ true) same p.kind)) e
+    let p = parts_of is_sound range_manual set_times all_times atrimmed_as args heads m k in
+    let same : p.head ≡ m.head = ap (λ (x : ATrim). x.head) (same_ok (record { head = p.head; range = range_in (base_of_head p.head) p.settings }) m p.made_is) in
+    atrim_owes m (subst (λ (h : StreamHead). is_sound h ≡ true) same p.kind)) e
 owes filter.ASetPts args heads f t e = paid rebase_view (λ m. m.head ∷ []) (rebase_by is_sound args heads) f (λ m k. rebase_owes m) e
 owes filter.ASplit args heads f t e = paid split_view split_heads (split_by is_sound args heads) f (λ m k. split_owes m) e
 owes filter.ChannelSplit args heads f t e = plain_paid is_sound channels_view mono_heads args heads f channels_owes e
@@ -121,5 +126,6 @@ owes filter.VStack args heads f t e = stack_paid Below args heads f e
 owes filter.Concat args heads f t e = concat_paid args heads f t e
 owes filter.Join args heads f t e = join_paid args heads f e
 
-pub limited : (name : FilterName) (args : List Arg) (heads : List StreamHead) (f : Filtered) → AreTimed heads → configured_as name args heads ≡ Ok f → IsLimited f.view.ins f.view.outs f.view.rest (cuts_in f.view)
+pub limited : (name : FilterName) (args : List Arg) (heads : List StreamHead) (f : Filtered) → AreTimed heads → configured_as name args heads ≡ Ok f
+    → IsLimited f.view.ins f.view.outs f.view.rest (cuts_in f.view)
 limited name args heads f t e = opened_limited f.view.ins f.view.outs f.view.rest (owes name args heads f t e)

@@ -1,5 +1,6 @@
 -- Filters of several inputs are behind limits.
-use Rattle.std.proofs.Common.{◌≡◌, ℕ, zero, suc, ℤ, ◌+◌, ◌-◌, ◌<◌, Bool, true, false, nat_le, Option, Some, None, Result, Ok, List, [], ◌∷◌, length, get_or, map, refl, sym, ap, subst, ◌∙◌, arith}
+use Rattle.std.proofs.Common.{◌≡◌, ℕ, zero, suc, ℤ, ◌+◌, ◌-◌, ◌<◌, Bool, true, false, nat_le, Option, Some, None, Result, Ok, List, [], ◌∷◌, length, get_or, map}
+use Rattle.std.proofs.Common.{refl, sym, ap, subst, ◌∙◌, arith}
 use Rattle.std.specs.Prelude.{replicate}
 use Rattle.ff_time.specs.Fraction.{IsBase}
 use Rattle.ff_values.specs.declared.config.ConfigError.{ConfigError}
@@ -84,7 +85,8 @@ stack_hides m =
 same_ok : {X : Type 0} (x y : X) → (let r : Result X ConfigError = Ok x in r) ≡ Ok y → x ≡ y
 same_ok x y e = cc
 
-pub stack_owes : (d : Direction) (heads : List StreamHead) (s : StackSettings) (m : StackOf) → stacked_as d heads s ≡ Ok m → Owes (stack_view m).ins (stack_view m).outs (stack_view m).rest
+pub stack_owes : (d : Direction) (heads : List StreamHead) (s : StackSettings) (m : StackOf) → stacked_as d heads s ≡ Ok m
+    → Owes (stack_view m).ins (stack_view m).outs (stack_view m).rest
 stack_owes d [] s m e = cc
 stack_owes d (h ∷ hs) s m e =
     let k = unless_ok (stack_fault d h (h ∷ hs)) (Ok (stack_on d h (h ∷ hs) s.shortest)) m e in
@@ -113,16 +115,19 @@ concat_owes h n base =
       grows = subst (λ (f : Ports → Ports). Grows f) same
           (λ rs ss h' q. limited-below passes 0 (λ s. s) (λ r s k. k) (concatenated n rs) (concatenated n ss) (in_order-keeps n 0 0 rs ss h'));
       hides = subst (λ (f : Ports → Ports). HidesBreaks f) same
-          (λ rs q. below_trans (opened (limited passes 0 (concatenated n rs))) (limited passes 0 (opened (concatenated n rs))) (limited passes 0 (concatenated n (all_opened rs)))
+          (λ rs q. below_trans (opened (limited passes 0 (concatenated n rs))) (limited passes 0 (opened (concatenated n rs)))
+          (limited passes 0 (concatenated n (all_opened rs)))
           (limited-calm passes 0 (λ s. s) (λ r. below_self (opened r)) (concatenated n rs))
-          (limited-below passes 0 (λ s. s) (λ r s k. k) (opened (concatenated n rs)) (concatenated n (all_opened rs)) (in_order-calm n 0 0 rs (all_opened rs) (λ p. below_self (opened (rs p))))));
+          (limited-below passes 0 (λ s. s) (λ r s k. k) (opened (concatenated n rs)) (concatenated n (all_opened rs))
+          (in_order-calm n 0 0 rs (all_opened rs) (λ p. below_self (opened (rs p))))));
       keeps = λ ss v. one_valid h (concat_view (h, n)).rest ss
           (segments_valid h base n (stream_at ss) (λ p lt. subst (λ (o : Option Lane). IsValidOn o (stream_at ss p)) (lane_there n p (Frames h) lt) (v p)));
     }
 
 -- ---- sound side by side
 
-checked_back : {X : Type 0} (c : Bool) (e : ConfigError) (q : Result X ConfigError) (next : Result X ConfigError → Type 0) (x : X) → checked c e q ≡ Ok x → (q ≡ Ok x → next (Ok x)) → Checked c e next (Ok x)
+checked_back : {X : Type 0} (c : Bool) (e : ConfigError) (q : Result X ConfigError) (next : Result X ConfigError → Type 0) (x : X) → checked c e q ≡ Ok x
+    → (q ≡ Ok x → next (Ok x)) → Checked c e next (Ok x)
 checked_back true e q next x h on = on h
 checked_back false e q next x h on = cc
 
@@ -130,7 +135,8 @@ alike : (heads : List StreamHead) (head : StreamHead) → joined_as heads ≡ Ok
 alike [] head e = cc
 alike (h ∷ hs) head e =
     checked_back (each_head (is_like h) hs) Mismatch _ _ head e
-    (λ k. checked_back (nat_le (channels_in (h ∷ hs)) 8) BadSize (Ok (with_channels h (channels_in (h ∷ hs)))) (λ u. u ≡ Ok (with_channels h (channels_in (h ∷ hs)))) head k (λ l. sym l))
+    (λ k. checked_back (nat_le (channels_in (h ∷ hs)) 8) BadSize (Ok (with_channels h (channels_in (h ∷ hs)))) (λ u. u ≡ Ok (with_channels h (channels_in (h ∷ hs))))
+    head k (λ l. sym l))
 
 number_same : (head : StreamHead) (z : ℤ) → (λ (i : ℕ) (rows : List Row). frame_on head 0 z i rows) ≡ sound_frame z (rate_of head) (bits_of head) (channels_of head)
 number_same head z j i rows = sound_frame z (rate_of head) (bits_of head) (channels_of head) (e j) rows
@@ -152,17 +158,20 @@ rest_same hs head i ext q =
     ∙ limited_is passes (joined_rows n (sound_frame (first_start (ext 0).items) (rate_of head) (bits_of head) (channels_of head)) (all_come (empty_lots hs) ext))) i
 
 join_grows : (hs : List StreamHead) (head : StreamHead) → Grows (join_view hs head).rest
-join_grows hs head = subst (λ (f : Ports → Ports). Grows f) (rest_same hs head) (lots-grows (map Frames hs) head (length hs - 1) None 0 (empty_lots hs) false false More refl)
+join_grows hs head = subst (λ (f : Ports → Ports). Grows f) (rest_same hs head) (lots-grows (map Frames hs) head (length hs - 1) None 0 (empty_lots hs) false false
+    More refl)
 
 join_hides : (hs : List StreamHead) (head : StreamHead) → HidesBreaks (join_view hs head).rest
-join_hides hs head = subst (λ (f : Ports → Ports). HidesBreaks f) (rest_same hs head) (lots-hides (map Frames hs) head (length hs - 1) None 0 (empty_lots hs) false false More refl)
+join_hides hs head = subst (λ (f : Ports → Ports). HidesBreaks f) (rest_same hs head)
+    (lots-hides (map Frames hs) head (length hs - 1) None 0 (empty_lots hs) false false More refl)
 
 lane_of_head : (hs : List StreamHead) (p : ℕ) (d : StreamHead) → p < length hs → lane_at (map Frames hs) p ≡ Some (Frames (get_or hs p d))
 lane_of_head [] p d lt = absurd (omega arith)
 lane_of_head (h ∷ hs) zero d lt = refl
 lane_of_head (h ∷ hs) (suc p) d lt = lane_of_head hs p d (omega (arith, lt))
 
-pub join_owes : (heads : List StreamHead) (head : StreamHead) → each_head is_sound heads ≡ true → joined_as heads ≡ Ok head → Owes (join_view heads head).ins (join_view heads head).outs (join_view heads head).rest
+pub join_owes : (heads : List StreamHead) (head : StreamHead) → each_head is_sound heads ≡ true → joined_as heads ≡ Ok head
+    → Owes (join_view heads head).ins (join_view heads head).outs (join_view heads head).rest
 join_owes [] head k e = cc
 join_owes (h ∷ hs) head k e = record {
   grows = join_grows (h ∷ hs) head;
@@ -170,7 +179,8 @@ join_owes (h ∷ hs) head k e = record {
   keeps = λ ss v.
       let one_less : length hs ≡ length (h ∷ hs) - 1 = omega arith in
       one_valid head (join_view (h ∷ hs) head).rest ss
-      (subst (λ (n : ℕ). IsValid (Frames head) (within (passes_limits (Frames head)) (side_to_side n (channels_at (h ∷ hs)) (rate_of head) (bits_of head) (channels_of head) (stream_at ss)))) one_less
+      (subst (λ (n : ℕ). IsValid (Frames head) (within (passes_limits (Frames head))
+      (side_to_side n (channels_at (h ∷ hs)) (rate_of head) (bits_of head) (channels_of head) (stream_at ss)))) one_less
       (join_valid h hs head (stream_at ss) k (alike (h ∷ hs) head e)
       (λ p lt. subst (λ (o : Option Lane). IsValidOn o (stream_at ss p)) (lane_of_head (h ∷ hs) p h lt) (v p))));
 }

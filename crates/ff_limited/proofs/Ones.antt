@@ -1,5 +1,6 @@
 -- Filters of one input are behind limits.
-use Rattle.std.proofs.Common.{◌≡◌, ℕ, zero, suc, ◌+◌, ◌≤◌, true, false, nat_le, ◌&&◌, Option, Some, None, Result, Ok, List, [], ◌∷◌, map, refl, sym, ap, subst, ◌∙◌, arith}
+use Rattle.std.proofs.Common.{◌≡◌, ℕ, zero, suc, ◌+◌, ◌≤◌, true, false, nat_le, ◌&&◌, Option, Some, None, Result, Ok, List, [], ◌∷◌, map, refl, sym, ap, subst, ◌∙◌}
+use Rattle.std.proofs.Common.{arith}
 use Rattle.std.specs.Prelude.{replicate}
 use Rattle.std.proofs.lemmas.Bool.Decides.{nat_tests}
 use Rattle.std.proofs.lemmas.List.{length-replicate}
@@ -67,16 +68,19 @@ single_owes : (lane : Lane) (head : StreamHead) (f : Flow → Flow) (after : Aft
     → ((r s : Flow) → LiesBelow r s → LiesBelow (f r) (f s)) → ((r : Flow) → LiesBelow (opened (f r)) (f (opened r))) → IsSound lane (Frames head) f
     → Owes (lane ∷ []) (Frames head ∷ []) (single_view lane head f after).rest
 single_owes lane head f More n below calm sound =
-    owed (lane ∷ []) (Frames head ∷ []) (single_view lane head f More).rest (λ (ss : List Flow). some_pass (passes_limits (Frames head)) 0 (f (stream_at ss 0)).items) (single_limited lane head f below calm sound)
+    owed (lane ∷ []) (Frames head ∷ []) (single_view lane head f More).rest (λ (ss : List Flow). some_pass (passes_limits (Frames head)) 0 (f (stream_at ss 0)).items)
+    (single_limited lane head f below calm sound)
 single_owes lane head f Whole n below calm sound =
     owed (lane ∷ []) (Frames head ∷ []) (single_view lane head f Whole).rest (λ (ss : List Flow). false) (ended_limited lane head f)
 single_owes lane head f Broke n below calm sound = absurd (n refl)
 
 pub pass_owes : (m : Pass) → Owes (pass_view m).ins (pass_view m).outs (pass_view m).rest
-pass_owes m = single_owes (Frames m.head) m.head (λ s. s) More (λ e. cc) (λ r s h. h) (λ r. below_self (opened r)) (record { shape = λ s v. v.shape; unbroken = λ s v u. u })
+pass_owes m = single_owes (Frames m.head) m.head (λ s. s) More (λ e. cc) (λ r s h. h) (λ r. below_self (opened r))
+    (record { shape = λ s v. v.shape; unbroken = λ s v u. u })
 
 pub rebase_owes : (m : Rebase) → Owes (rebase_view m).ins (rebase_view m).outs (rebase_view m).rest
-rebase_owes m = single_owes (Frames m.head) m.head (λ s. shifted None s) More (λ e. cc) (shifted-below None) (λ r. below_self (opened (shifted None r))) (shift_sound m.head)
+rebase_owes m = single_owes (Frames m.head) m.head (λ s. shifted None s) More (λ e. cc) (shifted-below None) (λ r. below_self (opened (shifted None r)))
+    (shift_sound m.head)
 
 not_broke : (stop : Option ℕ) → at_once stop ≡ Broke → ⊥
 not_broke None e = cc
@@ -85,7 +89,8 @@ not_broke (Some (suc n)) e = cc
 
 pub trim_owes : (m : Trim) → Owes (trim_view m).ins (trim_view m).outs (trim_view m).rest
 trim_owes m =
-    single_owes (Frames m.head) m.head (λ s. trimmed m.range s) (at_once m.range.stop) (not_broke m.range.stop) (trimmed-below m.range) (trimmed-calm m.range) (trim_sound (Frames m.head) m.range)
+    single_owes (Frames m.head) m.head (λ s. trimmed m.range s) (at_once m.range.stop) (not_broke m.range.stop) (trimmed-below m.range) (trimmed-calm m.range)
+    (trim_sound (Frames m.head) m.range)
 
 sound_not_broke : (stop : Option ℕ) → sound_at_once stop ≡ Broke → ⊥
 sound_not_broke None e = cc
@@ -98,7 +103,8 @@ sound_sound (Video tb format width height sar_num sar_den) range k = cc
 
 pub atrim_owes : (m : ATrim) → is_sound m.head ≡ true → Owes (atrim_view m).ins (atrim_view m).outs (atrim_view m).rest
 atrim_owes m k =
-    single_owes (Frames m.head) m.head (λ s. sound_trimmed m.range s) (sound_at_once m.range.stop) (sound_not_broke m.range.stop) (sound-below m.range) (sound-calm m.range) (sound_sound m.head m.range k)
+    single_owes (Frames m.head) m.head (λ s. sound_trimmed m.range s) (sound_at_once m.range.stop) (sound_not_broke m.range.stop) (sound-below m.range)
+    (sound-calm m.range) (sound_sound m.head m.range k)
 
 pub hflip_owes : (head : StreamHead) → is_video head ≡ true → Owes (hflip_view head).ins (hflip_view head).outs (hflip_view head).rest
 hflip_owes (Audio tb rate bits channels codec) k = cc
@@ -130,14 +136,16 @@ tested w h right wide low high e = record {
 same_ok : {X : Type 0} (x y : X) → (let r : Result X ConfigError = Ok x in r) ≡ Ok y → x ≡ y
 same_ok x y e = cc
 
-pub crop_owes : (head : StreamHead) (s : CropSettings) (m : StreamHead × Rectangle) → cropped_as head s ≡ Ok m → Owes (crop_view m).ins (crop_view m).outs (crop_view m).rest
+pub crop_owes : (head : StreamHead) (s : CropSettings) (m : StreamHead × Rectangle) → cropped_as head s ≡ Ok m
+    → Owes (crop_view m).ins (crop_view m).outs (crop_view m).rest
 crop_owes (Audio tb rate bits channels codec) s m e = cc
 crop_owes (Video tb format width height sar_num sar_den) s m e =
     let r = crop_part format width height s in
     let k = if_ok (can_crop width height r) (Ok (Video tb format width height sar_num sar_den, r)) BadSize m e in
     let t = tested r.width r.height (r.x + r.width) width (r.y + r.height) height k.0 in
     subst (λ (n : StreamHead × Rectangle). Owes (crop_view n).ins (crop_view n).outs (crop_view n).rest) (same_ok (Video tb format width height sar_num sar_den, r) m k.1)
-    (single_owes (Frames (Video tb format width height sar_num sar_den)) (Video tb format r.width r.height sar_num sar_den) (λ q. repainted (crop_frame r) q) More (λ e. cc)
+    (single_owes (Frames (Video tb format width height sar_num sar_den)) (Video tb format r.width r.height sar_num sar_den) (λ q. repainted (crop_frame r) q) More
+    (λ e. cc)
     (repainted-below (crop_frame r)) (λ q. below_self (opened (repainted (crop_frame r) q)))
     (crop_sound tb format width height sar_num sar_den r (record { columns = t.across; rows = t.down }) t.columns t.rows))
 
@@ -148,7 +156,8 @@ pad_owes (Video tb format width height sar_num sar_den) s m e =
     let k = if_ok (can_pad p) (Ok p) BadSize m e in
     let t = tested p.width p.height (p.part.x + p.part.width) p.width (p.part.y + p.part.height) p.height k.0 in
     subst (λ (n : Padded). Owes (pad_view n).ins (pad_view n).outs (pad_view n).rest) (same_ok p m k.1)
-    (single_owes (Frames (Video tb format width height sar_num sar_den)) (Video tb format p.width p.height sar_num sar_den) (λ q. repainted (pad_frame p.width p.height p.part) q) More (λ e. cc)
+    (single_owes (Frames (Video tb format width height sar_num sar_den)) (Video tb format p.width p.height sar_num sar_den)
+    (λ q. repainted (pad_frame p.width p.height p.part) q) More (λ e. cc)
     (repainted-below (pad_frame p.width p.height p.part)) (λ q. below_self (opened (repainted (pad_frame p.width p.height p.part) q)))
     (pad_sound tb format width height sar_num sar_den p.width p.height p.part refl refl t.columns t.rows))
 
@@ -171,7 +180,8 @@ as_it_is : (s : Flow) → map_stream (λ (x : Item). x) s ≡ s
 as_it_is s = ap (λ (xs : List Item). let r : Flow = record { items = xs; mark = s.mark } in r) (all_as_they_are s.items)
 
 copied : (lane : Lane) (n : ℕ) → (spread_start lane (replicate n lane) (λ q x. x)).rest ≡ (λ ext q. on_output n q (ext 0))
-copied lane n i ext q = (ap (λ (k : ℕ). on_output k q (map_stream (λ (x : Item). x) (ext 0))) (length-replicate n lane) ∙ ap (λ (s : Flow). on_output n q s) (as_it_is (ext 0))) i
+copied lane n i ext q = (ap (λ (k : ℕ). on_output k q (map_stream (λ (x : Item). x) (ext 0))) (length-replicate n lane) ∙ ap (λ (s : Flow). on_output n q s)
+    (as_it_is (ext 0))) i
 
 copy_valid : (lane : Lane) → GivesValid lane lane (λ s. map_stream (λ (x : Item). x) s)
 copy_valid lane = record { valid = λ s v. subst (λ (t : Flow). IsValid lane t) (sym (as_it_is s)) v; unbroken = λ s v u. u }
@@ -180,11 +190,13 @@ pub split_owes : (m : StreamHead × ℕ) → Owes (split_view m).ins (split_view
 split_owes m =
     let lane : Lane = Frames m.0 in
     subst (λ (f : Ports → Ports). Owes (lane ∷ []) (replicate m.1 lane) f) (copied lane m.1)
-    (owed (lane ∷ []) (replicate m.1 lane) (spread_start lane (replicate m.1 lane) (λ q x. x)).rest (λ (ss : List Flow). false) (spread_limited lane lane m.1 (λ q x. x) (λ q lt. copy_valid lane)))
+    (owed (lane ∷ []) (replicate m.1 lane) (spread_start lane (replicate m.1 lane) (λ q x. x)).rest (λ (ss : List Flow). false)
+    (spread_limited lane lane m.1 (λ q x. x) (λ q lt. copy_valid lane)))
 
 pub channels_owes : (head : StreamHead) → is_sound head ≡ true → Owes (channels_view head).ins (channels_view head).outs (channels_view head).rest
 channels_owes (Audio tb rate bits channels codec) k =
     owed (Frames (Audio tb rate bits channels codec) ∷ []) (replicate channels (Frames (Audio tb rate bits 1 codec)))
     (spread_start (Frames (Audio tb rate bits channels codec)) (replicate channels (Frames (Audio tb rate bits 1 codec))) channel_item).rest (λ (ss : List Flow). false)
-    (spread_limited (Frames (Audio tb rate bits channels codec)) (Frames (Audio tb rate bits 1 codec)) channels channel_item (λ q lt. channel_valid tb rate bits channels codec q lt))
+    (spread_limited (Frames (Audio tb rate bits channels codec)) (Frames (Audio tb rate bits 1 codec)) channels channel_item
+    (λ q lt. channel_valid tb rate bits channels codec q lt))
 channels_owes (Video tb format width height sar_num sar_den) k = cc
