@@ -109,7 +109,7 @@ stream_place n a (row ∷ rows) i p e =
 
 -- ---- wires of the nodes of outputs
 
-lanes_some : {A : Type 0} (q : Wire → Bool) (f : A → Wire) (r : A → Bool) (xs : List A) → ((x : A) → q (f x) ≡ r x) → wire_lanes q (map f xs) ≡ map (λ (x : A). (f x).lane) (filter r xs)
+pub lanes_some : {A : Type 0} (q : Wire → Bool) (f : A → Wire) (r : A → Bool) (xs : List A) → ((x : A) → q (f x) ≡ r x) → wire_lanes q (map f xs) ≡ map (λ (x : A). (f x).lane) (filter r xs)
 lanes_some q f r [] each = refl
 lanes_some {A} q f r (x ∷ xs) each =
     ap (λ (b : Bool). map (λ (w : Wire). w.lane) (cond b (f x ∷ filter q (map f xs)) (filter q (map f xs)))) (each x) ∙ step (r x) (lanes_some q f r xs each) where
@@ -129,7 +129,7 @@ module _ (l : Layout) (laid : IsLaid l) where
   ps = placed l
 
   -- of all wires, by their five rows
-  five : (q : Wire → Bool) (a b c d e : List Lane) → wire_lanes q (map (demux_wire l) (used l)) ≡ a → wire_lanes q (flat_map (pad_wires l) l.graphs) ≡ b
+  pub five : (q : Wire → Bool) (a b c d e : List Lane) → wire_lanes q (map (demux_wire l) (used l)) ≡ a → wire_lanes q (flat_map (pad_wires l) l.graphs) ≡ b
       → wire_lanes q (shortest_wires l l.joint) ≡ c → wire_lanes q (map (enc_wire l l.joint) ps) ≡ d → wire_lanes q (map (mux_wire l) ps) ≡ e
       → wire_lanes q (wires_of l) ≡ a ++ (b ++ (c ++ (d ++ e)))
   five q a b c d e ea eb ec ed ee =
@@ -327,7 +327,7 @@ module _ (rules : Rules) where
 
 -- ---- which node stands where
 
-data IsAt (l : Layout) (k : ℕ) (d : PlanNode) : Type 0 where
+pub data IsAt (l : Layout) (k : ℕ) (d : PlanNode) : Type 0 where
   In_demuxes : (i r : ℕ) → node.Demux i ≡ d → k ≡ r → slice_get (used_inputs l) r ≡ Some i → IsAt l k d
   In_decs : (s : Stream) (r : ℕ) → node.Dec s.at ≡ d → k ≡ before_decs l + r → slice_get (used l) r ≡ Some s → IsAt l k d
   In_graphs : (x : Laid) (r : ℕ) → node.Graph x.graph ≡ d → k ≡ before_graphs l + r → slice_get l.graphs r ≡ Some x → IsAt l k d
@@ -335,7 +335,7 @@ data IsAt (l : Layout) (k : ℕ) (d : PlanNode) : Type 0 where
   In_encs : (p : Placed) (r : ℕ) → node.Enc p.output p.stream ≡ d → k ≡ before_encs l + r → slice_get (placed l) r ≡ Some p → IsAt l k d
   In_muxes : (o r : ℕ) → node.Mux o ≡ d → k ≡ before_muxes l + r → slice_get (output_numbers l) r ≡ Some o → IsAt l k d
 
-is_at : (l : Layout) (k : ℕ) (d : PlanNode) → slice_get (nodes_of l) k ≡ Some d → IsAt l k d
+pub is_at : (l : Layout) (k : ℕ) (d : PlanNode) → slice_get (nodes_of l) k ≡ Some d → IsAt l k d
 is_at l k d e =
     let a = map (λ i. node.Demux i) (used_inputs l) in let b = map (λ (s : Stream). node.Dec s.at) (used l) in let c = map (λ (x : Laid). node.Graph x.graph) l.graphs in
     let f = map (λ o. node.Shortest o) (shortests l) in let g = map (λ (p : Placed). node.Enc p.output p.stream) (placed l) in let h = map (λ o. node.Mux o) (output_numbers l) in

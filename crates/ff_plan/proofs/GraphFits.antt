@@ -324,7 +324,7 @@ module _ (rules : Rules) (are : AreRules rules) (job : Job) (heads : List (List 
     ]
   ]
 
-  in_comes : (y : Laid) → IsAmong y whole.graphs → (i : InPad) → IsAmong i y.ins → Comes heads made i
+  pub in_comes : (y : Laid) → IsAmong y whole.graphs → (i : InPad) → IsAmong i y.ins → Comes heads made i
   in_comes y iy i ii = elim (among_either y complexes simples iy) [
     | inl c ↦ (let m = of_map (λ (m : Made). m.laid) y made c in let s = standing_here m.0 m.1 in
         subst (λ (ms : List Made). Comes heads ms i) s.is (comes_left heads s.front (m.0 ∷ s.rest) i
@@ -341,7 +341,7 @@ module _ (rules : Rules) (are : AreRules rules) (job : Job) (heads : List (List 
 
   -- ---- what streams of outputs show
 
-  by_rows : (T : OutStream → Type 0) → ((ps : List Passed) (p : Passed) → IsAmong ps w.rows → IsAmong p ps → Passing p → T p.what) → (s : Placed) → IsAmong s (placed whole) → T s.what
+  pub by_rows : (T : OutStream → Type 0) → ((ps : List Passed) (p : Passed) → IsAmong ps w.rows → IsAmong p ps → Passing p → T p.what) → (s : Placed) → IsAmong s (placed whole) → T s.what
   by_rows T each s i =
       each_of (λ (q : Placed). T q.what) s (placed whole) (place_holds T 0 0 whole.outputs (all_map (λ row. AllByRecursion T row) (λ ps. map (λ p. p.what) ps) w.rows (λ ps ips.
       all_map T (λ p. p.what) ps (λ p ip. each ps p ips ip (each_of Passing p ps (each_of (λ ps. AllByRecursion Passing ps) ps w.rows all_passing ips) ip))))) i

@@ -32,6 +32,7 @@ mod Results
 mod Rows
 mod Singles
 mod Small
+mod StartFits
 mod Steps
 mod Today
 mod Upward

@@ -14,6 +14,7 @@ pub mod Pads
 pub mod Plain
 pub mod Planned
 pub mod Rules
+pub mod StartFits
 pub mod Streams
 pub mod Today
 pub mod Whole

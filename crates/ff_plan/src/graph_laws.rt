@@ -10,6 +10,7 @@ ghost use Rattle.ff_plan.specs.NodeRows.{HasRows};
 ghost use Rattle.ff_plan.specs.Plain.{IsWithinLimits};
 ghost use Rattle.ff_plan.specs.Planned.{laid_out, planned};
 ghost use Rattle.ff_plan.specs.Rules.{Rules};
+ghost use Rattle.ff_plan.specs.StartFits.{StartsFit};
 ghost use Rattle.ff_plan.specs.declared.planned.Plan.{Plan};
 ghost use Rattle.ff_values.specs.declared.head.StreamHead.{StreamHead};
 ghost use Rattle.ff_words.specs.declared.job.Job.{Job};
@@ -61,6 +62,15 @@ pub fn ends_fit()
 pub fn nodes_have_rows()
     ensures { (rules : Rules) (job : Job) (heads : List (List StreamHead)) (p : Plan) → IsWithinLimits job heads
         → planned rules job heads ≡ Ok p → HasRows (length heads) (length job.outputs) p.nodes }
+{
+    orders_go_upward();
+    orders_are_whole();
+}
+
+/// What stands at the ports of Demux and Dec nodes: the packets of streams of their input, and the frames of each for each use.
+pub fn starts_fit()
+    ensures { (rules : Rules) (job : Job) (heads : List (List StreamHead)) (p : Plan) → AreRules rules → 1 ≤ length job.outputs
+        → planned rules job heads ≡ Ok p → StartsFit heads p }
 {
     orders_go_upward();
     orders_are_whole();

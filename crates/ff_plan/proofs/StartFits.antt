@@ -1,0 +1,406 @@
+-- What stands at the ports of the nodes of inputs.
+use Rattle.std.proofs.Common.{◌≡◌, inl, inr, ℕ, suc, ◌+◌, ◌<◌, ◌≤◌, ◌==◌, ◌&&◌, Bool, true, false, cond, List, [], ◌∷◌, ◌++◌, map, length, Some, refl, sym, ap, ◌∙◌, subst, arith}
+use Rattle.std.proofs.lemmas.List.{append-nil}
+use Rattle.std.specs.Prelude.{slice_get, replicate, Ok}
+use Rattle.std.specs.List.{AllByRecursion, filter, flat_map, list_any, position_or_len}
+use Rattle.std.proofs.lemmas.Bool.Decides.{nat_tests}
+use Rattle.ff_edges.specs.Ports.{tally}
+use Rattle.ff_frame.specs.declared.item.Lane.{Lane}
+use Rattle.ff_frame.specs.declared.item.Lane.TheVariants.{Frames, Packets}
+use Rattle.ff_labels.specs.Order.{ComeInOrder, HasNoLoop, graph_order, feeds, is_in}
+use Rattle.ff_map.specs.declared.streams.Stream.{Stream}
+use Rattle.ff_map.specs.declared.streams.StreamRef.{StreamRef}
+use Rattle.ff_map.specs.Choice.{numbered, streams_from, all_streams}
+use Rattle.ff_values.specs.declared.head.StreamHead.{StreamHead}
+use Rattle.ff_words.specs.declared.job.Job.{Job}
+use Rattle.ff_plan.specs.declared.layout.InPad.{InPad}
+use Rattle.ff_plan.specs.declared.layout.Origin.{Origin}
+use Rattle.ff_plan.specs.declared.layout.Origin.TheVariants as origin
+use Rattle.ff_plan.specs.declared.layout.OutStream.{OutStream}
+use Rattle.ff_plan.specs.declared.layout.Placed.{Placed}
+use Rattle.ff_plan.specs.declared.planned.Plan.{Plan}
+use Rattle.ff_plan.specs.declared.planned.PlanNode.{PlanNode}
+use Rattle.ff_plan.specs.declared.planned.PlanNode.TheVariants as node
+use Rattle.ff_plan.specs.Choice.{head_at}
+use Rattle.ff_plan.specs.Graphs.{AreRules}
+use Rattle.ff_plan.specs.Planned.{layout_of, laid_out, planned}
+use Rattle.ff_plan.specs.Rules.{Rules}
+use Rattle.ff_plan.specs.Streams.{Passed}
+use Rattle.ff_plan.specs.Layout.{IsAmong, Laid, Layout, same_ref, placed, origins, shows, used, is_used, used_inputs}
+use Rattle.ff_plan.specs.Nodes.{before_decs, before_graphs, demux_at, dec_at, graph_at, origin_at, demux_wire, pad_wire, pad_wires, shortest_wire, enc_wire, mux_wire, shortest_wires, wires_of, plan_of}
+use Rattle.ff_plan.specs.Laws.{IsLaid}
+use Rattle.ff_plan.specs.Fitting.{FitsDec}
+use Rattle.ff_plan.specs.StartFits.{FitsCutter, FitsStart, StartsFit}
+use Rattle.ff_plan.specs.Wires.{Wire, enters_node, leaves_node, edges_of}
+use Rattle.ff_plan.proofs.Among.{never, all_joined, all_map, all_flat, was_among, among_either, among_map, among_flat}
+use Rattle.ff_plan.proofs.Counts.{tally_joined, tally_among, tally_filter_few}
+use Rattle.ff_plan.proofs.EndFits.{IsAt, In_demuxes, In_decs, In_graphs, In_shortests, In_encs, In_muxes, is_at, five, lanes_some}
+use Rattle.ff_plan.proofs.Graphed.{Walked, walked, walked_laid, inside_of, of_map}
+use Rattle.ff_plan.proofs.GraphFits.{in_comes, by_rows}
+use Rattle.ff_plan.proofs.GraphLanes.{lanes_joined, lanes_none}
+use Rattle.ff_plan.proofs.Kept.{any_there, same_some, among_at, below_at, first_place, place_passes, one_kept}
+use Rattle.ff_plan.proofs.Laid.{of_flat}
+use Rattle.ff_plan.proofs.Lanes.{wire_lanes, into_is, out_is}
+use Rattle.ff_plan.proofs.Layouts.{demux_below, less_or, nat_self, same_self, wires_next}
+use Rattle.ff_plan.proofs.Made.{Comes}
+use Rattle.ff_plan.proofs.Numbered.{is_same}
+use Rattle.ff_plan.proofs.Outs.{Passes}
+use Rattle.ff_plan.proofs.Results.{same_ok, behind_ok}
+use Rattle.ff_plan.proofs.Singles.{rises_less, range_rises, head_is}
+use Rattle.ff_plan.proofs.Steps.{same_test, other_test}
+use Rattle.ff_plan.proofs.Uses.{only_place}
+
+-- ---- no place stands twice
+
+left_test : (a k b p : ℕ) → ((a == k) && (b == p)) ≡ true → a ≡ k
+left_test a k b p h = grind (arith, nat_tests)
+
+right_test : (a k b p : ℕ) → ((a == k) && (b == p)) ≡ true → b ≡ p
+right_test a k b p h = grind (arith, nat_tests)
+
+same_place : (s r : StreamRef) → same_ref s r ≡ true → s ≡ r
+same_place s r h =
+    ap (λ (i : ℕ). record { input = i; stream = s.stream }) (left_test s.input r.input s.stream r.stream h)
+    ∙ ap (λ (t : ℕ). record { input = r.input; stream = t }) (right_test s.input r.input s.stream r.stream h)
+
+row_high : (r : StreamRef) (n k : ℕ) (hs : List StreamHead) → r.stream < k → tally (λ (s : Stream). same_ref s.at r) (numbered n k hs) ≡ 0
+row_high r n k [] lt = refl
+row_high r n k (h ∷ hs) lt =
+    let off : ((n == r.input) && (k == r.stream)) ≡ false = grind (arith, nat_tests, lt) in
+    ap (λ (b : Bool). cond b (suc (tally (λ (s : Stream). same_ref s.at r) (numbered n (k + 1) hs))) (tally (λ (s : Stream). same_ref s.at r) (numbered n (k + 1) hs))) off
+    ∙ row_high r n (k + 1) hs (omega (arith, lt))
+
+row_other : (r : StreamRef) (n k : ℕ) (hs : List StreamHead) → r.input < n → tally (λ (s : Stream). same_ref s.at r) (numbered n k hs) ≡ 0
+row_other r n k [] lt = refl
+row_other r n k (h ∷ hs) lt =
+    let off : ((n == r.input) && (k == r.stream)) ≡ false = grind (arith, nat_tests, lt) in
+    ap (λ (b : Bool). cond b (suc (tally (λ (s : Stream). same_ref s.at r) (numbered n (k + 1) hs))) (tally (λ (s : Stream). same_ref s.at r) (numbered n (k + 1) hs))) off
+    ∙ row_other r n (k + 1) hs lt
+
+row_few : (r : StreamRef) (n k : ℕ) (hs : List StreamHead) → (tally (λ (s : Stream). same_ref s.at r) (numbered n k hs) ≤ 1) × (n < r.input → tally (λ (s : Stream). same_ref s.at r) (numbered n k hs) ≡ 0)
+row_few r n k [] = (omega arith, λ lt. refl)
+row_few r n k (h ∷ hs) = step ((n == r.input) && (k == r.stream)) refl (row_few r n (k + 1) hs) where
+  step : (b : Bool) → ((n == r.input) && (k == r.stream)) ≡ b
+      → (tally (λ (s : Stream). same_ref s.at r) (numbered n (k + 1) hs) ≤ 1) × (n < r.input → tally (λ (s : Stream). same_ref s.at r) (numbered n (k + 1) hs) ≡ 0)
+      → (cond b (suc (tally (λ (s : Stream). same_ref s.at r) (numbered n (k + 1) hs))) (tally (λ (s : Stream). same_ref s.at r) (numbered n (k + 1) hs)) ≤ 1)
+      × (n < r.input → cond b (suc (tally (λ (s : Stream). same_ref s.at r) (numbered n (k + 1) hs))) (tally (λ (s : Stream). same_ref s.at r) (numbered n (k + 1) hs)) ≡ 0)
+  step true e rest =
+      let here : r.stream < k + 1 = grind (arith, nat_tests, e) in
+      let z = row_high r n (k + 1) hs here in
+      (omega (arith, z), λ lt. absurd (let same : n ≡ r.input = grind (arith, nat_tests, e) in omega (arith, same, lt)))
+  step false e rest = rest
+
+rows_low : (r : StreamRef) (n : ℕ) (rows : List (List StreamHead)) → r.input < n → tally (λ (s : Stream). same_ref s.at r) (streams_from n rows) ≡ 0
+rows_low r n [] lt = refl
+rows_low r n (row ∷ rows) lt =
+    let j = tally_joined (λ (s : Stream). same_ref s.at r) (numbered n 0 row) (streams_from (n + 1) rows) in
+    let a = row_other r n 0 row lt in let b = rows_low r (n + 1) rows (omega (arith, lt)) in
+    omega (arith, j, a, b)
+
+rows_few : (r : StreamRef) (n : ℕ) (rows : List (List StreamHead)) → tally (λ (s : Stream). same_ref s.at r) (streams_from n rows) ≤ 1
+rows_few r n [] = omega arith
+rows_few r n (row ∷ rows) =
+    let j = tally_joined (λ (s : Stream). same_ref s.at r) (numbered n 0 row) (streams_from (n + 1) rows) in
+    let a = row_few r n 0 row in let few = a.0 in let rest = rows_few r (n + 1) rows in
+    elim (less_or n r.input) [
+      | inl lt ↦ (let z = a.1 lt in omega (arith, j, z, rest))
+      | inr le ↦ (let z = rows_low r (n + 1) rows (omega (arith, le)) in omega (arith, j, z, few))
+    ]
+
+-- ---- lanes that are all the same
+
+lanes_same : (q : Wire → Bool) (c : Lane) (ws : List Wire) → AllByRecursion (λ (w : Wire). q w ≡ true → w.lane ≡ c) ws → wire_lanes q ws ≡ replicate (length (filter q ws)) c
+lanes_same q c [] all = refl
+lanes_same q c (w ∷ ws) all = step (q w) all.0 (lanes_same q c ws all.1) where
+  step : (b : Bool) → (b ≡ true → w.lane ≡ c) → wire_lanes q ws ≡ replicate (length (filter q ws)) c
+      → map (λ (x : Wire). x.lane) (cond b (w ∷ filter q ws) (filter q ws)) ≡ replicate (length (cond b (w ∷ filter q ws) (filter q ws))) c
+  step true same rest = ap (λ (x : Lane). x ∷ wire_lanes q ws) (same refl) ∙ ap (λ (ls : List Lane). c ∷ ls) rest
+  step false same rest = rest
+
+tally_length : {A : Type 0} (p : A → Bool) (xs : List A) → tally p xs ≡ length (filter p xs)
+tally_length p [] = refl
+tally_length p (x ∷ xs) = step (p x) (tally_length p xs) where
+  step : (b : Bool) → tally p xs ≡ length (filter p xs) → cond b (suc (tally p xs)) (tally p xs) ≡ length (cond b (x ∷ filter p xs) (filter p xs))
+  step true e = ap suc e
+  step false e = e
+
+-- ---- kept of what was kept
+
+filter_twice : {A : Type 0} (p q : A → Bool) (xs : List A) → filter p (filter q xs) ≡ filter (λ x. q x && p x) xs
+filter_twice p q [] = refl
+filter_twice {A} p q (x ∷ xs) = step (q x) (filter_twice p q xs) where
+  step : (b : Bool) → filter p (filter q xs) ≡ filter (λ y. q y && p y) xs
+      → filter p (cond b (x ∷ filter q xs) (filter q xs)) ≡ cond (b && p x) (x ∷ filter (λ y. q y && p y) xs) (filter (λ y. q y && p y) xs)
+  step true e = ap (λ (ys : List A). cond (p x) (x ∷ ys) ys) e
+  step false e = e
+
+both_right : (a b : Bool) → (a && b) ≡ true → b ≡ true
+both_right true b h = h
+both_right false b h = absurd (never h)
+
+module _ (l : Layout) (laid : IsLaid l) where
+  abbrev ps : List Placed
+  ps = placed l
+
+  abbrev inputs : List ℕ
+  inputs = used_inputs l
+
+  origin_high : (o : Origin) → before_decs l ≤ origin_at l o
+  origin_high (origin.Stream s) = omega arith
+  origin_high (origin.Pad g p) = omega arith
+
+  -- ---- a Demux
+
+  module _ (k i : ℕ) (at : slice_get inputs k ≡ Some i) where
+    low : k < before_decs l
+    low = below_at i inputs k at
+
+    own_place : position_or_len (λ j. j == i) inputs ≡ k
+    own_place = first_place (λ (q : ℕ). q == i) inputs k i at (nat_self i) (λ j x lt e.
+        (let less = rises_less 0 inputs j k x i (range_rises (is_used l) 0 (length l.heads)) lt e at in other_test x i (λ f. omega (arith, f, less))))
+
+    from_test : (s : Stream) → (demux_at l s.at.input == k) ≡ (s.at.input == i)
+    from_test s = step (s.at.input == i) refl where
+      step : (b : Bool) → (s.at.input == i) ≡ b → (demux_at l s.at.input == k) ≡ b
+      step true e = same_test (demux_at l s.at.input) k (ap (λ (j : ℕ). demux_at l j) (is_same s.at.input i e) ∙ own_place)
+      step false e = other_test (demux_at l s.at.input) k (λ f. never (sym e ∙ same_test s.at.input i (sym (is_same i s.at.input (place_passes (λ (j : ℕ). j == s.at.input) inputs k i at f)))))
+
+    none_in : wire_lanes (enters_node k) (wires_of l) ≡ []
+    none_in = five l laid (enters_node k) [] [] [] [] []
+        (lanes_none (enters_node k) (demux_wire l) (used l) (λ s a. other_test (demux_wire l s).to k (λ e. (let lt = low in omega (arith, e, lt)))))
+        (pads_none_in l.graphs)
+        (shorts_none_in l.joint)
+        (encs_none_in l.joint)
+        (lanes_none (enters_node k) (mux_wire l) ps (λ p a. other_test (mux_wire l p).to k (λ e. (let lt = low in omega (arith, e, lt))))) where
+          pads_none_in : (gs : List Laid) → wire_lanes (enters_node k) (flat_map (pad_wires l) gs) ≡ []
+          pads_none_in [] = refl
+          pads_none_in (y ∷ gs) =
+              lanes_joined (enters_node k) (pad_wires l y) (flat_map (pad_wires l) gs)
+              ∙ (ap (λ (ls : List Lane). ls ++ wire_lanes (enters_node k) (flat_map (pad_wires l) gs)) (lanes_none (enters_node k) (pad_wire l y.graph) y.ins (λ p a. other_test (graph_at l y.graph) k (λ e. (let lt = low in omega (arith, e, lt)))))
+              ∙ pads_none_in gs)
+
+          shorts_none_in : (b : Bool) → wire_lanes (enters_node k) (shortest_wires l b) ≡ []
+          shorts_none_in true = lanes_none (enters_node k) (shortest_wire l) ps (λ p a. other_test (shortest_wire l p).to k (λ e. (let lt = low in omega (arith, e, lt))))
+          shorts_none_in false = refl
+
+          encs_none_in : (b : Bool) → wire_lanes (enters_node k) (map (enc_wire l b) ps) ≡ []
+          encs_none_in true = lanes_none (enters_node k) (enc_wire l true) ps (λ p a. other_test (enc_wire l true p).to k (λ e. (let lt = low in omega (arith, e, lt))))
+          encs_none_in false = lanes_none (enters_node k) (enc_wire l false) ps (λ p a. other_test (enc_wire l false p).to k (λ e. (let lt = low in omega (arith, e, lt))))
+
+    abbrev own : Stream → Bool
+    own s = s.at.input == i
+
+    own_out : wire_lanes (leaves_node k) (wires_of l) ≡ map (λ (s : Stream). Packets s.head) (filter own (used l))
+    own_out =
+        let mine = map (λ (s : Stream). Packets s.head) (filter own (used l)) in
+        five l laid (leaves_node k) mine [] [] [] [] (lanes_some (leaves_node k) (demux_wire l) own (used l) from_test) (pads_none_out l.graphs) (shorts_none_out l.joint) (encs_none_out l.joint)
+        (lanes_none (leaves_node k) (mux_wire l) ps (λ p a. other_test (mux_wire l p).from k (λ e. (let lt = low in omega (arith, e, lt))))) ∙ append-nil mine where
+          pads_none_out : (gs : List Laid) → wire_lanes (leaves_node k) (flat_map (pad_wires l) gs) ≡ []
+          pads_none_out [] = refl
+          pads_none_out (y ∷ gs) =
+              lanes_joined (leaves_node k) (pad_wires l y) (flat_map (pad_wires l) gs)
+              ∙ (ap (λ (ls : List Lane). ls ++ wire_lanes (leaves_node k) (flat_map (pad_wires l) gs)) (lanes_none (leaves_node k) (pad_wire l y.graph) y.ins (λ p a. other_test (origin_at l p.source) k (λ e.
+              (let lt = low in let h = origin_high p.source in omega (arith, e, lt, h)))))
+              ∙ pads_none_out gs)
+
+          shorts_none_out : (b : Bool) → wire_lanes (leaves_node k) (shortest_wires l b) ≡ []
+          shorts_none_out true = lanes_none (leaves_node k) (shortest_wire l) ps (λ p a. other_test (shortest_wire l p).from k (λ e. (let lt = low in let h = origin_high p.what.source in omega (arith, e, lt, h))))
+          shorts_none_out false = refl
+
+          encs_none_out : (b : Bool) → wire_lanes (leaves_node k) (map (enc_wire l b) ps) ≡ []
+          encs_none_out true = lanes_none (leaves_node k) (enc_wire l true) ps (λ p a. other_test (enc_wire l true p).from k (λ e. (let lt = low in omega (arith, e, lt))))
+          encs_none_out false = lanes_none (leaves_node k) (enc_wire l false) ps (λ p a. other_test (enc_wire l false p).from k (λ e. (let lt = low in let h = origin_high p.what.source in omega (arith, e, lt, h))))
+
+    pub cutter_fits : FitsCutter l.heads (edges_of (wires_of l)) k i
+    cutter_fits = record {
+      shown = λ s. list_any (shows s.at) (origins l) && (s.at.input == i);
+      of_input = λ s e. is_same s.at.input i (both_right (list_any (shows s.at) (origins l)) (s.at.input == i) e);
+      ins = into_is k (wires_of l) ∙ none_in;
+      outs = out_is k (wires_of l) (wires_next l laid k (inl (let lt = low in omega (arith, lt)))) ∙ (own_out
+          ∙ ap (λ (ss : List Stream). map (λ (s : Stream). Packets s.head) ss) (filter_twice own (λ (s : Stream). list_any (shows s.at) (origins l)) (all_streams l.heads)));
+    }
+
+  -- ---- a Dec
+
+  module _ (k r : ℕ) (s : Stream) (at : slice_get (used l) r ≡ Some s) (place_ : k ≡ before_decs l + r)
+      (pads_same : (y : Laid) → IsAmong y l.graphs → (i : InPad) → IsAmong i y.ins → i.source ≡ origin.Stream s.at → i.head ≡ s.head)
+      (streams_same : (p : Placed) → IsAmong p ps → p.what.source ≡ origin.Stream s.at → p.what.head ≡ s.head) where
+    dec_low : k < before_graphs l
+    dec_low = (let lt = below_at s (used l) r at in omega (arith, lt, place_))
+
+    spot : (j : ℕ) (t : Stream) → slice_get (used l) j ≡ Some t → position_or_len (λ (q : Stream). same_ref q.at t.at) (used l) ≡ j
+    spot j t e =
+        let some = rows_few t.at 0 l.heads in
+        let few = tally_filter_few (λ (q : Stream). same_ref q.at t.at) (λ (q : Stream). list_any (shows q.at) (origins l)) (all_streams l.heads) in
+        (only_place (λ (q : Stream). same_ref q.at t.at) (used l) j t (omega (arith, some, few)) e (same_self t.at)).0
+
+    own_node : dec_at l s.at ≡ k
+    own_node = (let e = spot r s at in omega (arith, e, place_))
+
+    only_own : filter (λ (t : Stream). dec_at l t.at == k) (used l) ≡ s ∷ []
+    only_own = one_kept (λ (t : Stream). dec_at l t.at == k) (used l) r s at (same_test (dec_at l s.at) k own_node)
+        (λ j t f other. other_test (dec_at l t.at) k (λ e. other (let p = spot j t f in omega (arith, e, p, place_))))
+
+    dec_in : wire_lanes (enters_node k) (wires_of l) ≡ Packets s.head ∷ []
+    dec_in = five l laid (enters_node k) (Packets s.head ∷ []) [] [] [] []
+        (lanes_some (enters_node k) (demux_wire l) (λ (t : Stream). dec_at l t.at == k) (used l) (λ t. refl) ∙ ap (λ (ts : List Stream). map (λ (t : Stream). Packets t.head) ts) only_own)
+        (no_pads l.graphs) (no_shorts l.joint) (no_encs l.joint)
+        (lanes_none (enters_node k) (mux_wire l) ps (λ p a. other_test (mux_wire l p).to k (λ e. (let lt = dec_low in omega (arith, e, lt))))) where
+          no_pads : (gs : List Laid) → wire_lanes (enters_node k) (flat_map (pad_wires l) gs) ≡ []
+          no_pads [] = refl
+          no_pads (y ∷ gs) =
+              lanes_joined (enters_node k) (pad_wires l y) (flat_map (pad_wires l) gs)
+              ∙ (ap (λ (ls : List Lane). ls ++ wire_lanes (enters_node k) (flat_map (pad_wires l) gs)) (lanes_none (enters_node k) (pad_wire l y.graph) y.ins (λ p a. other_test (graph_at l y.graph) k (λ e. (let lt = dec_low in omega (arith, e, lt)))))
+              ∙ no_pads gs)
+
+          no_shorts : (b : Bool) → wire_lanes (enters_node k) (shortest_wires l b) ≡ []
+          no_shorts true = lanes_none (enters_node k) (shortest_wire l) ps (λ p a. other_test (shortest_wire l p).to k (λ e. (let lt = dec_low in omega (arith, e, lt))))
+          no_shorts false = refl
+
+          no_encs : (b : Bool) → wire_lanes (enters_node k) (map (enc_wire l b) ps) ≡ []
+          no_encs true = lanes_none (enters_node k) (enc_wire l true) ps (λ p a. other_test (enc_wire l true p).to k (λ e. (let lt = dec_low in omega (arith, e, lt))))
+          no_encs false = lanes_none (enters_node k) (enc_wire l false) ps (λ p a. other_test (enc_wire l false p).to k (λ e. (let lt = dec_low in omega (arith, e, lt))))
+
+    -- ---- the wires that leave it
+
+    shown_here : (o : Origin) → origin_at l o ≡ k → o ≡ origin.Stream s.at
+    shown_here (origin.Stream t) e =
+        let p : position_or_len (λ (q : Stream). same_ref q.at t) (used l) ≡ r = omega (arith, e, place_) in
+        ap (λ (x : StreamRef). origin.Stream x) (sym (same_place s.at t (place_passes (λ (q : Stream). same_ref q.at t) (used l) r s at p)))
+    shown_here (origin.Pad g p) e = absurd (let lt = dec_low in omega (arith, e, lt))
+
+    abbrev Same : Wire → Type 0
+    Same w = (w.from == k) ≡ true → w.lane ≡ Frames s.head
+
+    frames : (h : StreamHead) → h ≡ s.head → ◌≡◌ {A = Lane} (Frames h) (Frames s.head)
+    frames h e = ap (λ (x : StreamHead). Frames x) e
+
+    stream_same : (p : Placed) → IsAmong p ps → (origin_at l p.what.source == k) ≡ true → ◌≡◌ {A = Lane} (Frames p.what.head) (Frames s.head)
+    stream_same p i e = frames p.what.head (streams_same p i (shown_here p.what.source (is_same (origin_at l p.what.source) k e)))
+
+    ends_same : (b : Bool) → AllByRecursion Same (shortest_wires l b) × AllByRecursion Same (map (enc_wire l b) ps)
+    ends_same true = (all_map Same (shortest_wire l) ps stream_same, all_map Same (enc_wire l true) ps (λ p i e. absurd (let lt = dec_low in let f = is_same (enc_wire l true p).from k e in omega (arith, f, lt))))
+    ends_same false = (tt, all_map Same (enc_wire l false) ps stream_same)
+
+    all_same : AllByRecursion Same (wires_of l)
+    all_same =
+        let shorts = shortest_wires l l.joint in let encs = map (enc_wire l l.joint) ps in let muxes = map (mux_wire l) ps in
+        let ends = ends_same l.joint in
+        all_joined Same (map (demux_wire l) (used l)) (flat_map (pad_wires l) l.graphs ++ (shorts ++ (encs ++ muxes)))
+        (all_map Same (demux_wire l) (used l) (λ t i e. absurd (let lt = demux_below l t i in let f = is_same (demux_wire l t).from k e in omega (arith, f, lt, place_))))
+        (all_joined Same (flat_map (pad_wires l) l.graphs) (shorts ++ (encs ++ muxes))
+        (all_flat Same (pad_wires l) l.graphs (λ y iy. all_map Same (pad_wire l y.graph) y.ins (λ i ii e. frames i.head (pads_same y iy i ii (shown_here i.source (is_same (origin_at l i.source) k e))))))
+        (all_joined Same shorts (encs ++ muxes) ends.0 (all_joined Same encs muxes ends.1
+        (all_map Same (mux_wire l) ps (λ p i e. absurd (let lt = dec_low in let f = is_same (mux_wire l p).from k e in omega (arith, f, lt)))))))
+
+    -- one of them at least
+    some_end : (b : Bool) (p : Placed) → IsAmong p ps → origin_at l p.what.source ≡ k → 1 ≤ tally (leaves_node k) (shortest_wires l b) + tally (leaves_node k) (map (enc_wire l b) ps)
+    some_end true p i e = (let t = tally_among (leaves_node k) (shortest_wire l p) (map (shortest_wire l) ps) (among_map (shortest_wire l) p ps i) (same_test (origin_at l p.what.source) k e) in omega (arith, t))
+    some_end false p i e = (let t = tally_among (leaves_node k) (enc_wire l false p) (map (enc_wire l false) ps) (among_map (enc_wire l false) p ps i) (same_test (origin_at l p.what.source) k e) in omega (arith, t))
+
+    abbrev in_sources : List Origin
+    in_sources = flat_map (λ (y : Laid). map (λ (i : InPad). i.source) y.ins) l.graphs
+
+    some_use : (o : Origin) → IsAmong o (origins l) → origin_at l o ≡ k → 1 ≤ tally (leaves_node k) (wires_of l)
+    some_use o io e =
+        let demuxes = map (demux_wire l) (used l) in let pads = flat_map (pad_wires l) l.graphs in let shorts = shortest_wires l l.joint in
+        let encs = map (enc_wire l l.joint) ps in let muxes = map (mux_wire l) ps in
+        let j1 = tally_joined (leaves_node k) demuxes (pads ++ (shorts ++ (encs ++ muxes))) in let j2 = tally_joined (leaves_node k) pads (shorts ++ (encs ++ muxes)) in
+        let j3 = tally_joined (leaves_node k) shorts (encs ++ muxes) in let j4 = tally_joined (leaves_node k) encs muxes in
+        elim (among_either o in_sources (map (λ (p : Placed). p.what.source) ps) io) [
+          | inl a ↦ (let y = of_flat (λ (y : Laid). map (λ (i : InPad). i.source) y.ins) o l.graphs a in let i = of_map (λ (i : InPad). i.source) o y.0.ins y.2 in
+              let t = tally_among (leaves_node k) (pad_wire l y.0.graph i.0) pads (among_flat (pad_wires l) (pad_wire l y.0.graph i.0) y.0 l.graphs y.1 (among_map (pad_wire l y.0.graph) i.0 y.0.ins i.1))
+              (same_test (origin_at l i.0.source) k (ap (λ (x : Origin). origin_at l x) i.2 ∙ e)) in
+              omega (arith, j1, j2, j3, j4, t))
+          | inr b ↦ (let p = of_map (λ (p : Placed). p.what.source) o ps b in
+              let t = some_end l.joint p.0 p.1 (ap (λ (x : Origin). origin_at l x) p.2 ∙ e) in
+              omega (arith, j1, j2, j3, j4, t))
+        ]
+
+    was_used : IsAmong s (all_streams l.heads) × (list_any (shows s.at) (origins l) ≡ true)
+    was_used = was_among (λ (q : Stream). list_any (shows q.at) (origins l)) s (all_streams l.heads) (among_at s (used l) r at)
+
+    shown_node : (o : Origin) → shows s.at o ≡ true → origin_at l o ≡ k
+    shown_node (origin.Stream t) e = ap (λ (x : StreamRef). dec_at l x) (sym (same_place s.at t e)) ∙ own_node
+    shown_node (origin.Pad g p) e = absurd (never e)
+
+    uses_some : 1 ≤ length (filter (leaves_node k) (wires_of l))
+    uses_some =
+        let o = any_there (shows s.at) (origins l) was_used.1 in
+        let t = some_use o.1 (among_at o.1 (origins l) o.0 o.2) (shown_node o.1 o.3) in
+        let long = tally_length (leaves_node k) (wires_of l) in
+        omega (arith, t, long)
+
+    pub dec_fits : FitsDec l.heads (edges_of (wires_of l)) k s.at
+    dec_fits = record {
+      head = s.head;
+      is = head_is l.heads s was_used.0;
+      uses = length (filter (leaves_node k) (wires_of l));
+      used = uses_some;
+      ins = into_is k (wires_of l) ∙ dec_in;
+      outs = out_is k (wires_of l) (wires_next l laid k (inl dec_low)) ∙ lanes_same (leaves_node k) (Frames s.head) (wires_of l) all_same;
+    }
+
+-- ---- in a plan
+
+module _ (rules : Rules) (are : AreRules rules) (job : Job) (heads : List (List StreamHead)) (l : Layout) (w : Walked rules job heads l)
+    (come : ComeInOrder (feeds job.graphs) (length job.graphs) [] (graph_order job.graphs))
+    (all_in : HasNoLoop (feeds job.graphs) (length job.graphs) → (g : ℕ) → g < length job.graphs → is_in (graph_order job.graphs) g ≡ true)
+    (some_outputs : 1 ≤ length job.outputs) where
+  abbrev whole : Layout
+  whole = layout_of rules heads w.made w.rows
+
+  laid_whole : IsLaid whole
+  laid_whole = subst IsLaid (sym w.is) (walked_laid rules job heads l come w)
+
+  abbrev ref_in : Origin → StreamRef → StreamRef
+  ref_in (origin.Stream t) d = t
+  ref_in (origin.Pad g p) d = d
+
+  abbrev IsPad : Origin → Type 0
+  IsPad (origin.Stream t) = ⊥
+  IsPad (origin.Pad g p) = Unit {0}
+
+  module _ (s : Stream) (there : IsAmong s (all_streams heads)) where
+    -- what shows the stream has its head
+    come_same : (i : InPad) → Comes heads w.made i → i.source ≡ origin.Stream s.at → i.head ≡ s.head
+    come_same i (inl t) e =
+        let at : t.stream.at ≡ s.at = ap (λ (o : Origin). ref_in o s.at) (ap (λ (j : InPad). j.source) t.is ∙ e) in
+        let first = ap (λ (x : StreamRef). head_at heads x) (sym at) ∙ head_is heads t.stream t.there in
+        sym (ap (λ (j : InPad). j.head) t.is) ∙ sym (same_some s.head t.stream.head (sym (head_is heads s there) ∙ first))
+    come_same i (inr o) e = absurd (subst IsPad (ap (λ (j : InPad). j.source) o.is ∙ e) tt)
+
+    passed_same : (ps : List Passed) (p : Passed) → IsAmong ps w.rows → IsAmong p ps → Passes rules (inside_of heads job w.made) p → p.what.source ≡ origin.Stream s.at → p.what.head ≡ s.head
+    passed_same ps p ips ip t e = elim t.how [
+      | inl a ↦ sym (ap (λ (q : Passed). q.what.head) a) ∙ come_same t.pad t.from (ap (λ (q : Passed). q.what.source) a ∙ e)
+      | inr f ↦ absurd (subst IsPad (ap (λ (q : Passed). q.what.source) f.is ∙ e) tt)
+    ]
+
+  abbrev Fit : ℕ → PlanNode → Type 0
+  Fit k d = FitsStart heads (edges_of (wires_of whole)) k d
+
+  dec_fit : (k r : ℕ) (s : Stream) → k ≡ before_decs whole + r → slice_get (used whole) r ≡ Some s → Fit k (node.Dec s.at)
+  dec_fit k r s place_ at =
+      let there = (was_among (λ (q : Stream). list_any (shows q.at) (origins whole)) s (all_streams heads) (among_at s (used whole) r at)).0 in
+      dec_fits whole laid_whole k r s at place_
+      (λ y iy i ii. come_same s there i (in_comes rules are job heads l w come all_in some_outputs y iy i ii))
+      (λ p ip. by_rows rules are job heads l w come all_in some_outputs (λ (o : OutStream). o.source ≡ origin.Stream s.at → o.head ≡ s.head) (passed_same s there) p ip)
+
+  at_fit : (k : ℕ) (d : PlanNode) → IsAt whole k d → Fit k d
+  at_fit k d (In_demuxes i r e place_ at) = subst (Fit k) e (subst (λ (j : ℕ). Fit j (node.Demux i)) (sym place_) (cutter_fits whole laid_whole r i at))
+  at_fit k d (In_decs s r e place_ at) = subst (Fit k) e (dec_fit k r s place_ at)
+  at_fit k d (In_graphs x r e place_ at) = subst (Fit k) e tt
+  at_fit k d (In_shortests o r e place_ at) = subst (Fit k) e tt
+  at_fit k d (In_encs p r e place_ at) = subst (Fit k) e tt
+  at_fit k d (In_muxes o r e place_ at) = subst (Fit k) e tt
+
+  whole_starts : StartsFit heads (plan_of whole)
+  whole_starts = λ k d e. at_fit k d (is_at whole k d e)
+
+pub starts_fit : (rules : Rules) (are : AreRules rules) (job : Job) (heads : List (List StreamHead)) (p : Plan) → ComeInOrder (feeds job.graphs) (length job.graphs) [] (graph_order job.graphs)
+    → (HasNoLoop (feeds job.graphs) (length job.graphs) → (g : ℕ) → g < length job.graphs → is_in (graph_order job.graphs) g ≡ true)
+    → 1 ≤ length job.outputs → planned rules job heads ≡ Ok p → StartsFit heads p
+starts_fit rules are job heads p come all_in some h =
+    let at = behind_ok (laid_out rules job heads) (λ l. Ok (plan_of l)) p h in
+    let w = walked rules job heads at.0 come at.1 in
+    subst (λ (q : Plan). StartsFit heads q) (ap (λ (l : Layout). plan_of l) w.is ∙ same_ok (plan_of at.0) p at.2) (whole_starts rules are job heads at.0 w come all_in some)

@@ -1,0 +1,33 @@
+-- What stands at the ports of the nodes of inputs, of any plan.
+use Rattle.std.specs.Prelude.{◌≡◌, ℕ, Bool, true, List, [], map, slice_get, Some}
+use Rattle.std.specs.List.{filter}
+use Rattle.ff_edges.specs.declared.edge.Edge.{Edge}
+use Rattle.ff_edges.specs.Ports.{lanes_into, lanes_out_of}
+use Rattle.ff_frame.specs.declared.item.Lane.TheVariants.{Packets}
+use Rattle.ff_values.specs.declared.head.StreamHead.{StreamHead}
+use Rattle.ff_map.specs.declared.streams.Stream.{Stream}
+use Rattle.ff_map.specs.Choice.{all_streams}
+use Rattle.ff_plan.specs.declared.planned.Plan.{Plan}
+use Rattle.ff_plan.specs.declared.planned.PlanNode.{PlanNode}
+use Rattle.ff_plan.specs.declared.planned.PlanNode.TheVariants as node
+use Rattle.ff_plan.specs.Fitting.{FitsDec}
+
+-- the packets of some streams of input i leave node k, in the order of the streams
+pub record FitsCutter (heads : List (List StreamHead)) (edges : List Edge) (k i : ℕ) : Type 0 where
+  pub shown : Stream → Bool
+  pub of_input : (s : Stream) → shown s ≡ true → s.at.input ≡ i
+  pub ins : lanes_into edges k ≡ []
+  pub outs : lanes_out_of edges k ≡ map (λ (s : Stream). Packets s.head) (filter shown (all_streams heads))
+
+-- by kind, where the inputs have these heads
+abbrev pub FitsStart : List (List StreamHead) → List Edge → ℕ → PlanNode → Type 0
+FitsStart heads edges k (node.Demux i) = FitsCutter heads edges k i
+FitsStart heads edges k (node.Dec at) = FitsDec heads edges k at
+FitsStart heads edges k (node.Graph g) = Unit {0}
+FitsStart heads edges k (node.Shortest o) = Unit {0}
+FitsStart heads edges k (node.Enc o j) = Unit {0}
+FitsStart heads edges k (node.Mux o) = Unit {0}
+
+-- of all nodes of a plan
+abbrev pub StartsFit : List (List StreamHead) → Plan → Type 0
+StartsFit heads p = (k : ℕ) (d : PlanNode) → slice_get p.nodes k ≡ Some d → FitsStart heads p.edges k d
