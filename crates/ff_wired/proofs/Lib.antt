@@ -1,2 +1,9 @@
+pub mod Drawn
+pub mod Forward
+pub mod LimitedGraphs
+pub mod Linking
+pub mod Meaning
+pub mod Opening
+pub mod Ordering
 pub mod Tying
 pub mod Ups

@@ -23,7 +23,7 @@ got_below (y ∷ xs) zero x e = omega arith
 got_below (y ∷ xs) (suc k) x e = let h = got_below xs k x e in omega arith
 
 -- an element of two lists, one behind the other
-split : {A : Type 0} (xs ys : List A) (k : ℕ) (x : A) → slice_get (xs ++ ys) k ≡ Some x
+pub split : {A : Type 0} (xs ys : List A) (k : ℕ) (x : A) → slice_get (xs ++ ys) k ≡ Some x
     → (slice_get xs k ≡ Some x) ⊎ ((j : ℕ) × (k ≡ length xs + j) × (slice_get ys j ≡ Some x))
 split [] ys k x e = let s : k ≡ 0 + k = omega arith in inr (k, s, e)
 split (y ∷ xs) ys zero x e = inl e
@@ -33,26 +33,26 @@ split (y ∷ xs) ys (suc k) x e = elim (split xs ys k x e) as (λ _. (slice_get 
       | inr h ↦ let a : k ≡ length xs + h.0 = h.1 in let s : suc k ≡ suc (length xs) + h.0 = omega arith in inr (h.0, s, h.2)
     ]
 
-front : {A : Type 0} (xs ys : List A) (k : ℕ) (x : A) → slice_get xs k ≡ Some x → slice_get (xs ++ ys) k ≡ Some x
+pub front : {A : Type 0} (xs ys : List A) (k : ℕ) (x : A) → slice_get xs k ≡ Some x → slice_get (xs ++ ys) k ≡ Some x
 front [] ys k x e = no_some x e
 front (y ∷ xs) ys zero x e = e
 front (y ∷ xs) ys (suc k) x e = front xs ys k x e
 
-back : {A : Type 0} (xs ys : List A) (j : ℕ) → slice_get (xs ++ ys) (length xs + j) ≡ slice_get ys j
+pub back : {A : Type 0} (xs ys : List A) (j : ℕ) → slice_get (xs ++ ys) (length xs + j) ≡ slice_get ys j
 back [] ys j = let s : 0 + j ≡ j = omega arith in ap (λ (n : ℕ). slice_get ys n) s
 back (y ∷ xs) ys j = let s : suc (length xs) + j ≡ suc (length xs + j) = omega arith in ap (λ (n : ℕ). slice_get (y ∷ (xs ++ ys)) n) s ∙ back xs ys j
 
-mapped : {A B : Type 0} (f : A → B) (xs : List A) (k : ℕ) (x : A) → slice_get xs k ≡ Some x → slice_get (map f xs) k ≡ Some (f x)
+pub mapped : {A B : Type 0} (f : A → B) (xs : List A) (k : ℕ) (x : A) → slice_get xs k ≡ Some x → slice_get (map f xs) k ≡ Some (f x)
 mapped f [] k x e = no_some x e
 mapped f (y ∷ xs) zero x e = ap (λ z. Some (f z)) (some_same y x e)
 mapped f (y ∷ xs) (suc k) x e = mapped f xs k x e
 
-unmapped : {A B : Type 0} (f : A → B) (xs : List A) (k : ℕ) (y : B) → slice_get (map f xs) k ≡ Some y → (x : A) × (slice_get xs k ≡ Some x) × (f x ≡ y)
+pub unmapped : {A B : Type 0} (f : A → B) (xs : List A) (k : ℕ) (y : B) → slice_get (map f xs) k ≡ Some y → (x : A) × (slice_get xs k ≡ Some x) × (f x ≡ y)
 unmapped f [] k y e = no_some y e
 unmapped f (x ∷ xs) zero y e = (x, refl, some_same (f x) y e)
 unmapped f (x ∷ xs) (suc k) y e = unmapped f xs k y e
 
-map_size : {A B : Type 0} (f : A → B) (xs : List A) → length (map f xs) ≡ length xs
+pub map_size : {A B : Type 0} (f : A → B) (xs : List A) → length (map f xs) ≡ length xs
 map_size f [] = refl
 map_size f (x ∷ xs) = ap (λ (n : ℕ). suc n) (map_size f xs)
 
@@ -80,13 +80,13 @@ is_the g f e =
     let y : g.port ≡ f.port = grind (arith, nat_tests) in
     λ j. record { filter = x j; port = y j }
 
-at_itself : (f : Port) → is_at (Some f) f ≡ true
+pub at_itself : (f : Port) → is_at (Some f) f ≡ true
 at_itself f =
     let x : (f.filter == f.filter) ≡ true = grind (arith, nat_tests) in
     let y : (f.port == f.port) ≡ true = grind (arith, nat_tests) in
     rw (x, y) refl
 
-at_some : (p : Option Port) (f : Port) → is_at p f ≡ true → p ≡ Some f
+pub at_some : (p : Option Port) (f : Port) → is_at p f ≡ true → p ≡ Some f
 at_some None f e = cc
 at_some (Some g) f e = ap (λ (h : Port). Some h) (is_the g f e)
 
@@ -351,10 +351,10 @@ outputs_below (n ∷ counts) (suc k) o lt = let h : k < length counts = outputs_
 -- filters that feed one another ---------------------------------------------------------------------------------------
 
 module _ (fed : List (List (Option Port))) (counts : List ℕ) (opens pads : List Port) (l : IsLinked fed counts opens pads) where
-  abbrev all : List Wire
+  abbrev pub all : List Wire
   all = wires_of fed opens
 
-  abbrev ends : List (Option Port)
+  abbrev pub ends : List (Option Port)
   ends = ends_of all
 
   abbrev starts : List (Option Port)
@@ -363,10 +363,10 @@ module _ (fed : List (List (Option Port))) (counts : List ℕ) (opens pads : Lis
   inputs_size : length (entering opens) ≡ length opens
   inputs_size = map_size (λ f. record { from = None; to = f }) opens
 
-  abbrev FromInput : ℕ → Wire → Type 0
+  abbrev pub FromInput : ℕ → Wire → Type 0
   FromInput v x = (x.from ≡ None) × (slice_get opens v ≡ Some x.to)
 
-  abbrev FromFilter : ℕ → Wire → Type 0
+  abbrev pub FromFilter : ℕ → Wire → Type 0
   FromFilter v x = (f : Port) × (x.from ≡ Some f) × (feeder_at fed x.to ≡ Some (Some f)) × (j : ℕ) × (v ≡ length opens + j) × (slice_get (links_from 0 fed) j ≡ Some x)
 
   enters : (v : ℕ) (x : Wire) → slice_get (entering opens) v ≡ Some x → FromInput v x
@@ -502,7 +502,7 @@ module _ (fed : List (List (Option Port))) (counts : List ℕ) (opens pads : Lis
         ∙ (ap (λ (ls : List (List ℕ)). slice_index_or ls f.filter []) w.outs ∙ outs_zero starts counts f.filter))
 
     -- the edge at an input that is there
-    in_edge : (f : Port) (o : Option Port) → feeder_at fed f ≡ Some o → edge_in p f ≡ Some (edge_of ends f)
+    pub in_edge : (f : Port) (o : Option Port) → feeder_at fed f ≡ Some o → edge_in p f ≡ Some (edge_of ends f)
     in_edge f o e = in_is f ∙ up_zero ends f.filter (length (slice_index_or fed f.filter [])) f.port (got_below (slice_index_or fed f.filter []) f.port o e)
 
     out_edge : (f : Port) → f.port < outputs_at counts f.filter → edge_out p f ≡ Some (edge_of starts f)
@@ -569,10 +569,13 @@ module _ (fed : List (List (Option Port))) (counts : List ℕ) (opens pads : Lis
     pub wires_upward : IsUpward p.wires.items
     wires_upward = subst IsUpward (sym w.wires) upward
 
+    pub nodes_size : length p.nodes.items ≡ length counts
+    nodes_size = sym (map_size (λ (m : Node). m.outs.items) p.nodes.items) ∙ (ap length w.outs ∙ outs_size starts 0 counts)
+
     pub pads_within : (q : ℕ) (f : Port) → slice_get p.pads.items q ≡ Some f → f.filter < length p.nodes.items
     pads_within q f e =
         let lt : f.filter < length counts = outputs_below counts f.filter f.port (l.pads_there q f (pad_at q f e)) in
-        let n : length p.nodes.items ≡ length counts = sym (map_size (λ (m : Node). m.outs.items) p.nodes.items) ∙ (ap length w.outs ∙ outs_size starts 0 counts) in
+        let n : length p.nodes.items ≡ length counts = nodes_size in
         omega (arith, n, lt)
 
     pub tied_so : length opens ≡ length p.ins.items → length pads ≡ length p.outs.items → length p.ways.items ≡ length p.pads.items

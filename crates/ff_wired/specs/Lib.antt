@@ -1,1 +1,4 @@
+pub mod Flows
+pub mod Limits
+pub mod Meant
 pub mod Wires

@@ -10,8 +10,14 @@
 #![tactic(auto)]
 
 mod ends;
+mod laws;
 mod nodes;
+mod placing;
 mod plan;
 mod wires;
 
-pub use plan::wired;
+pub use laws::{
+    drawings_are_linked, drawn_plans_mean, filters_in_order_solve, graphs_are_limited,
+    open_inputs_are_open, orders_go_forward, wired_plans_solve,
+};
+pub use plan::{Drawing, drawn_plan, wired};

@@ -1,11 +1,15 @@
 ghost use Rattle.std.specs.Prelude.{◌≡◌, ◌-◌, ◌≤◌, ℕ, length, IfOk};
 ghost use Rattle.ff_tied.specs.Tied.{IsTied};
+ghost use Rattle.ff_drawn.specs.Links.{pads_in};
+ghost use Rattle.ff_wired.specs.Flows.{placed as feeds_placed, placed_counts as counts_placed, placed_pads as pads_placed, IsDrawing};
 ghost use Rattle.ff_wired.specs.Wires.{feeds_in, numbers, IsLinked, IsWired};
 
 use crate::ends::{ends, starts};
 use crate::nodes::nodes;
+use crate::placing::{placed, placed_counts, placed_pads};
 use crate::wires::wires;
-use ff_dag::{Plan, Port, Wire};
+use ff_dag::{Plan, Port};
+use ff_drawn::Pad;
 use ff_frame::Lane;
 use ff_tied::upward_ways;
 use std::alloc::{AllocError, Global};
@@ -76,4 +80,43 @@ pub fn wired(
     let mut plan = unled(alloc, fed, counts, opens, pads, ins, outs)?;
     plan.ways = upward_ways(alloc, &plan)?;
     Ok(plan)
+}
+
+/// Filters of a graph as they are drawn, by the order of writing.
+#[derive(Clone, Copy)]
+pub struct Drawing<'a> {
+    /// The order in which they are made.
+    pub order: &'a [usize],
+    /// Which output pad feeds each input pad of each filter; None where it is open.
+    pub sources: &'a [Vec<Option<Pad>>],
+    /// How many output pads each filter has.
+    pub counts: &'a [usize],
+    /// The input pads that are the graph's inputs.
+    pub opens: &'a [Pad],
+    /// The output pads that are the graph's outputs.
+    pub outs: &'a [Pad],
+}
+
+/// The plan of a drawing: its filters in the order in which they are made, and `ins` and `outs` what the graph's inputs and outputs
+/// carry.
+pub fn drawn_plan(
+    alloc: Global,
+    drawing: &Drawing<'_>,
+    ins: Vec<Lane>,
+    outs: Vec<Lane>,
+) -> Result<Plan, AllocError>
+    requires drawing { IsDrawing (pads_in drawing.now.sources.now) drawing.now.order.now drawing.now.counts.now drawing.now.opens.now drawing.now.outs.now }
+    requires inputs { length ins.items ≡ length drawing.now.opens.now }
+    requires outputs { length outs.items ≡ length drawing.now.outs.now }
+    ensures wired { IfOk result (λ plan. IsWired (feeds_placed drawing.now.order.now (pads_in drawing.now.sources.now)) (counts_placed drawing.now.order.now drawing.now.counts.now)
+        (pads_placed drawing.now.order.now drawing.now.opens.now) (pads_placed drawing.now.order.now drawing.now.outs.now) plan) }
+    ensures tied { IfOk result IsTied }
+    ensures ins { IfOk result (λ plan. plan.ins ≡ ins) }
+    ensures outs { IfOk result (λ plan. plan.outs ≡ outs) }
+{
+    let fed = placed(alloc, drawing.order, drawing.sources)?;
+    let counted = placed_counts(alloc, drawing.order, drawing.counts)?;
+    let feeds = placed_pads(alloc, drawing.order, drawing.opens)?;
+    let pads = placed_pads(alloc, drawing.order, drawing.outs)?;
+    wired(alloc, &fed, &counted, feeds, pads, ins, outs)
 }
