@@ -1,3 +1,4 @@
+pub mod Bounding
 pub mod Drawn
 pub mod Forward
 pub mod LimitedGraphs
@@ -5,5 +6,6 @@ pub mod Linking
 pub mod Meaning
 pub mod Opening
 pub mod Ordering
+pub mod Places
 pub mod Tying
 pub mod Ups

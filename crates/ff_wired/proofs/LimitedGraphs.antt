@@ -66,7 +66,7 @@ at_calm [] f g h q = below_self nothing
 at_calm (p ∷ os) f g h zero = h p
 at_calm (p ∷ os) f g h (suc q) = at_calm os f g h q
 
-at_got : (os : List Pad) (f : Flows) (q : ℕ) (p : Pad) → slice_get os q ≡ Some p → flows_at os f q ≡ f p
+pub at_got : (os : List Pad) (f : Flows) (q : ℕ) (p : Pad) → slice_get os q ≡ Some p → flows_at os f q ≡ f p
 at_got [] f q p e = no_some p e
 at_got (o ∷ os) f zero p e = ap f (some_same o p e)
 at_got (o ∷ os) f (suc q) p e = at_got os f q p e
@@ -98,13 +98,15 @@ module _ (sources : List (List (Option Pad))) (opens : List Pad) where
       → EachBelow (all_opened (streams_into sources opens e f k)) (streams_into sources opens d g k)
   into_calm e d f g h i k j = at (source_at sources k j)
     where
-      at : (o : Option (Option Pad)) → LiesBelow (opened (stream_into opens e f (record { filter = k; pad = j }) o)) (stream_into opens d g (record { filter = k; pad = j }) o)
+      at : (o : Option (Option Pad)) → LiesBelow (opened (stream_into opens e f (record { filter = k; pad = j }) o))
+          (stream_into opens d g (record { filter = k; pad = j }) o)
       at None = below_self nothing
       at (Some None) = h (pad_place opens (record { filter = k; pad = j }))
       at (Some (Some from)) = i from
 
   module _ (ins : List Lane) (lanes : Pad → Option Lane) where
-    flows_below : (ks : List ℕ) (vs : List View) (cs : List (List Flow → Bool)) → AreLimited sources opens ins lanes ks vs cs → (e d : Ports) (f g : Flows) → EachBelow e d
+    flows_below : (ks : List ℕ) (vs : List View) (cs : List (List Flow → Bool)) → AreLimited sources opens ins lanes ks vs cs
+        → (e d : Ports) (f g : Flows) → EachBelow e d
         → FlowsBelow f g → FlowsBelow (flows_from sources opens e f ks vs) (flows_from sources opens d g ks vs)
     flows_below [] vs cs l e d f g h i = i
     flows_below (k ∷ ks) [] cs l e d f g h i = i
@@ -115,7 +117,8 @@ module _ (sources : List (List (Option Pad))) (opens : List Pad) where
         flows_below ks vs cs l.2 e d (with_outputs k (v.rest a) f) (with_outputs k (v.rest b) g) h
         (with_below k (v.rest a) (v.rest b) f g (l.1.grows a b (into_below e d f g h i k)) i)
 
-    flows_calm : (ks : List ℕ) (vs : List View) (cs : List (List Flow → Bool)) → AreLimited sources opens ins lanes ks vs cs → (e d : Ports) (f g : Flows) → EachBelow (all_opened e) d
+    flows_calm : (ks : List ℕ) (vs : List View) (cs : List (List Flow → Bool)) → AreLimited sources opens ins lanes ks vs cs
+        → (e d : Ports) (f g : Flows) → EachBelow (all_opened e) d
         → FlowsCalm f g → FlowsCalm (flows_from sources opens e f ks vs) (flows_from sources opens d g ks vs)
     flows_calm [] vs cs l e d f g h i = i
     flows_calm (k ∷ ks) [] cs l e d f g h i = i
@@ -147,7 +150,8 @@ module _ (sources : List (List (Option Pad))) (opens : List Pad) where
       listed_as : (i : ℕ) → stream_at came i ≡ come i
       listed_as i = at (source_at sources k i) refl (s.takes i)
         where
-          at : (o : Option (Option Pad)) → source_at sources k i ≡ o → Takes ins opens lanes (record { filter = k; pad = i }) (lane_at v.ins i) o → stream_at came i ≡ come i
+          at : (o : Option (Option Pad)) → source_at sources k i ≡ o → Takes ins opens lanes (record { filter = k; pad = i }) (lane_at v.ins i) o
+              → stream_at came i ≡ come i
           at None is t = stream_at-beyond (length v.ins) come i (lane_above v.ins i t)
               ∙ sym (ap (λ (o : Option (Option Pad)). stream_into opens e f (record { filter = k; pad = i }) o) is)
           at (Some None) is t = stream_at-listed (length v.ins) come i (lane_below v.ins i t.0 t.2)
@@ -209,7 +213,8 @@ module _ (sources : List (List (Option Pad))) (opens : List Pad) where
               cc
           at false q = w p l is
 
-    flows_valid : (ks : List ℕ) (vs : List View) (cs : List (List Flow → Bool)) → AreLimited sources opens ins lanes ks vs cs → (e : Ports) (f : Flows) → ValidIn e → ValidAll f
+    flows_valid : (ks : List ℕ) (vs : List View) (cs : List (List Flow → Bool)) → AreLimited sources opens ins lanes ks vs cs
+        → (e : Ports) (f : Flows) → ValidIn e → ValidAll f
         → ValidAll (flows_from sources opens e f ks vs)
     flows_valid [] vs cs l e f h g = g
     flows_valid (k ∷ ks) [] cs l e f h g = g
@@ -218,7 +223,8 @@ module _ (sources : List (List (Option Pad))) (opens : List Pad) where
         flows_valid ks vs cs l.2 e (with_outputs k (v.rest (streams_into sources opens e f k)) f) h (next_valid k v l.0 e f c l.1 h g)
 
     -- a cut stays a cut
-    cuts_stay : (ks : List ℕ) (vs : List View) (cs : List (List Flow → Bool)) → AreLimited sources opens ins lanes ks vs cs → (e d : Ports) (f g : Flows) → EachBelow e d
+    cuts_stay : (ks : List ℕ) (vs : List View) (cs : List (List Flow → Bool)) → AreLimited sources opens ins lanes ks vs cs
+        → (e d : Ports) (f g : Flows) → EachBelow e d
         → FlowsBelow f g → ValidIn e → ValidIn d → ValidAll f → ValidAll g → cuts_from sources opens e f ks vs cs ≡ true → cuts_from sources opens d g ks vs cs ≡ true
     cuts_stay [] vs cs l e d f g h i x y m n k = k
     cuts_stay (k ∷ ks) [] cs l e d f g h i x y m n t = t
@@ -228,15 +234,18 @@ module _ (sources : List (List (Option Pad))) (opens : List Pad) where
         let b : Ports = streams_into sources opens d g k in
         let below : EachBelow a b = into_below e d f g h i k in
         let more : Bool = cuts_from sources opens d (with_outputs k (v.rest b) g) ks vs cs in
-        elim (either (c (listed (length v.ins) a)) (cuts_from sources opens e (with_outputs k (v.rest a) f) ks vs cs) t) as (λ _. (c (listed (length v.ins) b) || more) ≡ true) [
-          | inl z ↦ or_left (c (listed (length v.ins) b)) more (l.1.stays (listed (length v.ins) a) (listed (length v.ins) b) (into_valid k v l.0 e f x m) (into_valid k v l.0 d g y n)
+        elim (either (c (listed (length v.ins) a)) (cuts_from sources opens e (with_outputs k (v.rest a) f) ks vs cs) t) as
+        (λ _. (c (listed (length v.ins) b) || more) ≡ true) [
+          | inl z ↦ or_left (c (listed (length v.ins) b)) more (l.1.stays (listed (length v.ins) a) (listed (length v.ins) b)
+              (into_valid k v l.0 e f x m) (into_valid k v l.0 d g y n)
               (listed_below (length v.ins) a b below) z)
           | inr z ↦ or_right (c (listed (length v.ins) b)) more (cuts_stay ks vs cs l.2 e d (with_outputs k (v.rest a) f) (with_outputs k (v.rest b) g) h
               (with_below k (v.rest a) (v.rest b) f g (l.1.grows a b below) i) x y (next_valid k v l.0 e f c l.1 x m) (next_valid k v l.0 d g c l.1 y n) z)
         ]
 
     -- where nothing cuts, nothing breaks
-    flows_unbroken : (ks : List ℕ) (vs : List View) (cs : List (List Flow → Bool)) → AreLimited sources opens ins lanes ks vs cs → (e : Ports) (f : Flows) → ValidIn e → ValidAll f
+    flows_unbroken : (ks : List ℕ) (vs : List View) (cs : List (List Flow → Bool)) → AreLimited sources opens ins lanes ks vs cs
+        → (e : Ports) (f : Flows) → ValidIn e → ValidAll f
         → ((q : ℕ) → IsUnbroken (e q)) → UnbrokenAll f → cuts_from sources opens e f ks vs cs ≡ false → UnbrokenAll (flows_from sources opens e f ks vs)
     flows_unbroken [] vs cs l e f h g u w t = w
     flows_unbroken (k ∷ ks) [] cs l e f h g u w t = w
@@ -291,7 +300,8 @@ module _ (sources : List (List (Option Pad))) (opens : List Pad) where
               absurd (flows_unbroken ks vs cs l (stream_at ss) no_flows (given_valid ss v) none_valid u none_unbroken k p.0 m.0 p.2
               (sym (ap (λ (r : Flow). r.mark) (at_got os (flows_from sources opens (stream_at ss) no_flows ks vs) q p.0 p.1)) ∙ e))
 
-      pub graph_limited : IsLimited ins outs (λ e. flows_at os (flows_from sources opens e no_flows ks vs)) (λ ss. cuts_from sources opens (stream_at ss) no_flows ks vs cs)
+      pub graph_limited : IsLimited ins outs (λ e. flows_at os (flows_from sources opens e no_flows ks vs))
+          (λ ss. cuts_from sources opens (stream_at ss) no_flows ks vs cs)
       graph_limited = record {
         grows = λ e d h. at_below os (flows_from sources opens e no_flows ks vs) (flows_from sources opens d no_flows ks vs)
             (flows_below ks vs cs l e d no_flows no_flows h (λ p. below_self nothing));

@@ -148,7 +148,8 @@ module _ (sources : List (List (Option Pad))) (order counts : List ℕ) (opens o
     upward = λ a f e.
         let h = fed_some a f e in
         let s = from_stands h.0 a.port h.1 h.3 in
-        let lt : place_in order h.1.filter < a.filter = before sources order d.forward a.filter h.0 a.port h.1 h.2 h.3 (place_in order h.1.filter) (place_got order h.1.filter s.0 s.1) in
+        let lt : place_in order h.1.filter < a.filter = before sources order d.forward a.filter h.0 a.port h.1 h.2 h.3
+        (place_in order h.1.filter) (place_got order h.1.filter s.0 s.1) in
         subst (λ (g : Port). g.filter < a.filter) h.4 lt;
     there = λ a f e.
         let h = fed_some a f e in
@@ -158,7 +159,8 @@ module _ (sources : List (List (Option Pad))) (order counts : List ℕ) (opens o
         let i = fed_some b f g in
         let same : h.1 ≡ i.1 = ports_apart h.1 i.1 f (from_stands h.0 a.port h.1 h.3) (from_stands i.0 b.port i.1 i.3) h.4 i.4 in
         let o = d.once h.0 a.port i.0 b.port i.1 (h.3 ∙ ap (λ (p : Pad). Some (Some p)) same) i.3 in
-        same_port a b (sym (place_is order sources d.forward a.filter h.0 h.2) ∙ (ap (λ (n : ℕ). place_in order n) o.0 ∙ place_is order sources d.forward b.filter i.0 i.2)) o.1;
+        same_port a b (sym (place_is order sources d.forward a.filter h.0 h.2)
+        ∙ (ap (λ (n : ℕ). place_in order n) o.0 ∙ place_is order sources d.forward b.filter i.0 i.2)) o.1;
     opens_open = λ n a e.
         let p = pad_from opens n a e in
         subst (λ (g : Port). feeder_at fed g ≡ Some None) p.2 (fed_there p.0.filter p.0.pad None (d.opens_open n p.0 p.1));

@@ -27,7 +27,7 @@ no_some x e = cc
 
 -- lists ---------------------------------------------------------------------------------------------------------
 
-got_above : {A : Type 0} (xs : List A) (k : ℕ) → slice_get xs k ≡ None → length xs ≤ k
+pub got_above : {A : Type 0} (xs : List A) (k : ℕ) → slice_get xs k ≡ None → length xs ≤ k
 got_above [] k e = omega arith
 got_above (x ∷ xs) zero e = cc
 got_above (x ∷ xs) (suc k) e = let h : length xs ≤ k = got_above xs k e in omega arith
@@ -52,7 +52,7 @@ reads_got [] σ i w e = no_some w e
 reads_got (v ∷ ws) σ zero w e = ap σ (some_same v w e)
 reads_got (v ∷ ws) σ (suc i) w e = reads_got ws σ i w e
 
-reads_past : (ws : List ℕ) (σ : Ports) (i : ℕ) → slice_get ws i ≡ None → reads ws σ i ≡ nothing
+pub reads_past : (ws : List ℕ) (σ : Ports) (i : ℕ) → slice_get ws i ≡ None → reads ws σ i ≡ nothing
 reads_past [] σ i e = refl
 reads_past (v ∷ ws) σ zero e = cc
 reads_past (v ∷ ws) σ (suc i) e = reads_past ws σ i e

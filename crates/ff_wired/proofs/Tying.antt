@@ -94,7 +94,8 @@ found : (ps : List (Option Port)) (f : Port) (v : ℕ) → slice_get ps v ≡ So
 found [] f v e = no_some (Some f) e
 found (p ∷ ps) f v e = at (is_at p f) refl (λ u g. found ps f u g) v e
   where
-    at : (b : Bool) → is_at p f ≡ b → ((u : ℕ) → slice_get ps u ≡ Some (Some f) → slice_get ps (edge_of ps f) ≡ Some (Some f)) → (u : ℕ) → slice_get (p ∷ ps) u ≡ Some (Some f) → slice_get (p ∷ ps) (cond b 0 (suc (edge_of ps f))) ≡ Some (Some f)
+    at : (b : Bool) → is_at p f ≡ b → ((u : ℕ) → slice_get ps u ≡ Some (Some f) → slice_get ps (edge_of ps f) ≡ Some (Some f))
+        → (u : ℕ) → slice_get (p ∷ ps) u ≡ Some (Some f) → slice_get (p ∷ ps) (cond b 0 (suc (edge_of ps f))) ≡ Some (Some f)
     at true k r u g = ap (λ (q : Option Port). Some q) (at_some p f k)
     at false k r zero g =
         let no : true ≡ false = sym (at_itself f) ∙ (ap (λ (q : Option Port). is_at q f) (sym (some_same p (Some f) g)) ∙ k) in
@@ -198,8 +199,11 @@ stands_at k i (None ∷ fs) (suc j) f e =
     (h.0, h.1 ∙ ap (λ (m : ℕ). let w : Wire = record { from = Some f; to = port_of k m } in Some w) s)
 stands_at k i (Some g ∷ fs) zero f e =
     let s : i ≡ i + 0 = omega arith in
-    let same : g ≡ f = some_same g f (some_same (Some g) (Some f) e) in
-    (0, ap (λ (h : Port). let w : Wire = record { from = Some h; to = port_of k i } in Some w) same ∙ ap (λ (m : ℕ). let w : Wire = record { from = Some f; to = port_of k m } in Some w) s)
+    let same : g ≡ f = some_same g f (some_same (Some g) (Some f) e) in (
+      0,
+      ap (λ (h : Port). let w : Wire = record { from = Some h; to = port_of k i } in Some w) same
+          ∙ ap (λ (m : ℕ). let w : Wire = record { from = Some f; to = port_of k m } in Some w) s,
+    )
 stands_at k i (Some g ∷ fs) (suc j) f e =
     let h = stands_at k (suc i) fs j f e in
     let s : suc i + j ≡ i + suc j = omega arith in
@@ -476,7 +480,8 @@ module _ (fed : List (List (Option Port))) (counts : List ℕ) (opens pads : Lis
       (length (entering opens) + h.0, back (entering opens) (links_from 0 fed) h.0 ∙ h.1)
 
   entry_into : (i : ℕ) (a : Port) → slice_get opens i ≡ Some a → slice_get all i ≡ Some (record { from = None; to = a })
-  entry_into i a e = front (entering opens) (links_from 0 fed) i (record { from = None; to = a }) (mapped (λ (f : Port). let w : Wire = record { from = None; to = f } in w) opens i a e)
+  entry_into i a e = front (entering opens) (links_from 0 fed) i (record { from = None; to = a })
+      (mapped (λ (f : Port). let w : Wire = record { from = None; to = f } in w) opens i a e)
 
   input_end : (a : Port) (o : Option Port) → feeder_at fed a ≡ Some o → (v : ℕ) × (slice_get ends v ≡ Some (Some a))
   input_end a None e = let h = l.opens_all a e in (h.0, end_at h.0 (record { from = None; to = a }) (entry_into h.0 a h.1))

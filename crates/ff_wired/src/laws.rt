@@ -1,5 +1,6 @@
 //! What follows of the definitions alone.
 ghost use Rattle.std.specs.Prelude.{◌≡◌, ◌<◌, ℕ, Bool, List, [], Option, Some, None, length, map, slice_get, slice_index_or};
+ghost use Rattle.std.specs.List.{position_or_len};
 ghost use Rattle.ff_frame.specs.declared.item.Lane.{Lane};
 ghost use Rattle.ff_frame.specs.Ports.{stream_at};
 ghost use Rattle.ff_filter.specs.Joins.{Flow, Ports};
@@ -15,7 +16,7 @@ ghost use Rattle.ff_dag.specs.Parts.{AreNew, composed};
 ghost use Rattle.ff_drawn.specs.Links.{opens_from};
 ghost use Rattle.ff_order.specs.Orders.{IsOrder};
 ghost use Rattle.ff_tied.specs.Tied.{IsTied};
-ghost use Rattle.ff_wired.specs.Flows.{no_flows, flows_from, placed, placed_counts, placed_pads, pad_at, source_at, IsForward, IsDrawing};
+ghost use Rattle.ff_wired.specs.Flows.{no_flows, flows_from, same_pad, pad_place, placed, placed_counts, placed_pads, pad_at, source_at, IsForward, IsDrawing};
 ghost use Rattle.ff_wired.specs.Limits.{flows_at, cuts_from, AreLimited, Leave};
 ghost use Rattle.ff_wired.specs.Meant.{Streams, Solves};
 ghost use Rattle.ff_wired.specs.Wires.{IsLinked, IsWired};
@@ -76,4 +77,19 @@ pub fn graphs_are_limited()
     ensures { (sources : List (List (Option APad))) (opens : List APad) (ins : List Lane) (lanes : APad → Option Lane) (outs : List Lane) (os : List APad) (ks : List ℕ)
         (vs : List View) (cs : List (List Flow → Bool)) → Leave lanes os outs → AreLimited sources opens ins lanes ks vs cs
         → IsLimited ins outs (λ ext. flows_at os (flows_from sources opens ext no_flows ks vs)) (λ ss. cuts_from sources opens (stream_at ss) no_flows ks vs cs) }
+{}
+
+/// So is what the plan of a drawing of such filters stands for.
+pub fn drawn_plans_are_limited()
+    ensures { (sources : List (List (Option APad))) (order counts : List ℕ) (opens outs : List APad) (p : Plan) (ss : List Spot) (ins : List Lane) (lanes : APad → Option Lane)
+        (leaving : List Lane) (cs : List (List Flow → Bool)) → IsDrawing sources order counts opens outs
+        → IsWired (placed order sources) (placed_counts order counts) (placed_pads order opens) (placed_pads order outs) p → IsTied p
+        → length ss ≡ length p.nodes.items → ((k : ℕ) (m : Node) → k < length ss → Fits (spot_at ss k) (slice_index_or p.nodes.items k m)) → AreNew ss
+        → Leave lanes outs leaving → AreLimited sources opens ins lanes order (map (λ s. s.view) ss) cs
+        → IsLimited ins leaving (λ ext q. composed p ss ext q) (λ rs. cuts_from sources opens (stream_at rs) no_flows order (map (λ s. s.view) ss) cs) }
+{}
+
+/// The place of a pad among others is its position there.
+pub fn pad_places_are_positions()
+    ensures { (pads : List APad) (p : APad) → pad_place pads p ≡ position_or_len (same_pad p) pads }
 {}

@@ -17,7 +17,8 @@ mod plan;
 mod wires;
 
 pub use laws::{
-    drawings_are_linked, drawn_plans_mean, filters_in_order_solve, graphs_are_limited,
-    open_inputs_are_open, orders_go_forward, wired_plans_solve,
+    drawings_are_linked, drawn_plans_are_limited, drawn_plans_mean, filters_in_order_solve,
+    graphs_are_limited, open_inputs_are_open, orders_go_forward, pad_places_are_positions,
+    wired_plans_solve,
 };
 pub use plan::{Drawing, drawn_plan, wired};

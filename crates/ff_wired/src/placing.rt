@@ -1,7 +1,8 @@
 ghost use Rattle.std.specs.Prelude.{◌≡◌, ◌++◌, [], map, slice_index_or, IfOk};
 ghost use Rattle.ff_drawn.specs.Links.{pads_in};
 ghost use Rattle.ff_wired.specs.Wires.{feeds_in};
-ghost use Rattle.ff_wired.specs.Flows.{place_in as place_of, port_at as port_of_pad, port_of_source, placed as placed_as, placed_pads as pads_placed, placed_counts as counts_placed};
+ghost use Rattle.ff_wired.specs.Flows.{place_in as place_of, port_at as port_of_pad, port_of_source};
+ghost use Rattle.ff_wired.specs.Flows.{placed as placed_as, placed_pads as pads_placed, placed_counts as counts_placed};
 
 use ff_dag::Port;
 use ff_drawn::Pad;

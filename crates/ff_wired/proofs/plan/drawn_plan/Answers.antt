@@ -16,5 +16,6 @@ wired-requires-clause-linked c =
     subst (λ (a : List (List (Option Port))). IsLinked a c.deref-2.result.now c.in_ok-feeds.feeds.items c.in_ok-pads.pads.items) (sym fed)
     (subst (λ (b : List ℕ). IsLinked (placed d.order.now (pads_in d.sources.now)) b c.in_ok-feeds.feeds.items c.in_ok-pads.pads.items) (sym counts)
     (subst (λ (e : List Port). IsLinked (placed d.order.now (pads_in d.sources.now)) (placed_counts d.order.now d.counts.now) e c.in_ok-pads.pads.items) (sym feeds)
-    (subst (λ (g : List Port). IsLinked (placed d.order.now (pads_in d.sources.now)) (placed_counts d.order.now d.counts.now) (placed_pads d.order.now d.opens.now) g) (sym pads)
+    (subst (λ (g : List Port). IsLinked (placed d.order.now (pads_in d.sources.now)) (placed_counts d.order.now d.counts.now)
+    (placed_pads d.order.now d.opens.now) g) (sym pads)
     (linked (pads_in d.sources.now) d.order.now d.counts.now d.opens.now d.outs.now c.requires.drawing))))
