@@ -41,7 +41,8 @@ module _ (sources : List (List (Option Pad))) (order counts : List ℕ) (opens o
   no_edge q e =
       let le : length outs ≤ q = got_above outs q e in
       let z : length p.edges.items ≡ length outs = ap length w.edges
-      ∙ (numbers_size (length (wires_of (placed order sources) (placed_pads order opens))) (length (placed_pads order outs)) ∙ map_size (λ (r : Pad). port_at order r) outs) in
+      ∙ (numbers_size (length (wires_of (placed order sources) (placed_pads order opens))) (length (placed_pads order outs))
+      ∙ map_size (λ (r : Pad). port_at order r) outs) in
       got_none p.edges.items q (omega (arith, z, le))
 
   same_at : (ext : Ports) (q : ℕ) (o : Option Pad) → slice_get outs q ≡ o → composed p ss ext q ≡ flows_at outs (flows ext) q

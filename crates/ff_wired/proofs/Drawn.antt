@@ -33,7 +33,8 @@ module _ (sources : List (List (Option Pad))) (order counts : List ℕ) (opens o
       let pad : slice_get p.pads.items q ≡ Some (port_at order out) = ap (λ (fs : List Port). slice_get fs q) w.pads
       ∙ mapped (λ (r : Pad). port_at order r) outs q out e in
       composed_as (placed order sources) (placed_counts order counts) (placed_pads order opens) (placed_pads order outs)
-      (linked sources order counts opens outs d) p w t ss size fits new ext (λ (f : Port). flows_from sources opens ext no_flows order (map (λ s. s.view) ss) (pad_at order f))
+      (linked sources order counts opens outs d) p w t ss size fits new ext
+      (λ (f : Port). flows_from sources opens ext no_flows order (map (λ s. s.view) ss) (pad_at order f))
       (solves order sources d.forward opens (λ i r g. fed_stands sources order counts opens outs d r.filter r.pad None (d.opens_open i r g))
       (λ f i from g. from_stands sources order counts opens outs d f i from g) ext (map (λ s. s.view) ss) same_size)
       q (port_at order out) pad

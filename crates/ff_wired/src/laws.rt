@@ -81,8 +81,8 @@ pub fn graphs_are_limited()
 
 /// So is what the plan of a drawing of such filters stands for.
 pub fn drawn_plans_are_limited()
-    ensures { (sources : List (List (Option APad))) (order counts : List ℕ) (opens outs : List APad) (p : Plan) (ss : List Spot) (ins : List Lane) (lanes : APad → Option Lane)
-        (leaving : List Lane) (cs : List (List Flow → Bool)) → IsDrawing sources order counts opens outs
+    ensures { (sources : List (List (Option APad))) (order counts : List ℕ) (opens outs : List APad) (p : Plan) (ss : List Spot) (ins : List Lane)
+        (lanes : APad → Option Lane) (leaving : List Lane) (cs : List (List Flow → Bool)) → IsDrawing sources order counts opens outs
         → IsWired (placed order sources) (placed_counts order counts) (placed_pads order opens) (placed_pads order outs) p → IsTied p
         → length ss ≡ length p.nodes.items → ((k : ℕ) (m : Node) → k < length ss → Fits (spot_at ss k) (slice_index_or p.nodes.items k m)) → AreNew ss
         → Leave lanes outs leaving → AreLimited sources opens ins lanes order (map (λ s. s.view) ss) cs

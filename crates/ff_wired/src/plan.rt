@@ -109,7 +109,8 @@ pub fn drawn_plan(
     requires inputs { length ins.items ≡ length drawing.now.opens.now }
     requires outputs { length outs.items ≡ length drawing.now.outs.now }
     ensures wired { IfOk result (λ plan. IsWired (feeds_placed drawing.now.order.now (pads_in drawing.now.sources.now))
-        (counts_placed drawing.now.order.now drawing.now.counts.now) (pads_placed drawing.now.order.now drawing.now.opens.now) (pads_placed drawing.now.order.now drawing.now.outs.now) plan) }
+        (counts_placed drawing.now.order.now drawing.now.counts.now) (pads_placed drawing.now.order.now drawing.now.opens.now)
+        (pads_placed drawing.now.order.now drawing.now.outs.now) plan) }
     ensures tied { IfOk result IsTied }
     ensures ins { IfOk result (λ plan. plan.ins ≡ ins) }
     ensures outs { IfOk result (λ plan. plan.outs ≡ outs) }
