@@ -1,5 +1,5 @@
 ghost use Rattle.std.specs.Prelude.{◌≡◌, slice_get};
-ghost use Rattle.ff_drawn.specs.Links.{place_from, giver_from, next_pad as next_pad_of, chained as chained_to};
+ghost use Rattle.ff_drawn.specs.Links.{seen, all_seen, place_from, giver_from, next_pad as next_pad_of, chained as chained_to};
 
 use ff_lang::{Filter, Text};
 
@@ -39,7 +39,7 @@ fn place_of(labels: &[Text], label: &str) -> Option<usize>
 
 /// The output pad with this label, the first where there are several.
 pub fn giver(drawn: &[Drawn<'_>], label: &str) -> Option<Pad>
-    ensures { result ≡ giver_from 0 drawn.now label.now }
+    ensures { result ≡ giver_from 0 (all_seen drawn.now) label.now }
 {
     'filters: for filter in 0..drawn.len() {
         let written = drawn[filter].filter;
@@ -52,7 +52,7 @@ pub fn giver(drawn: &[Drawn<'_>], label: &str) -> Option<Pad>
 
 // The output pad of a filter that feeds the input pad of this number among those without a label of the one behind it.
 fn next_pad(drawn: &[Drawn<'_>], filter: usize, number: usize) -> Option<Pad>
-    ensures { result ≡ next_pad_of filter (slice_get drawn.now filter) number }
+    ensures { result ≡ next_pad_of filter (slice_get (all_seen drawn.now) filter) number }
 {
     if filter >= drawn.len() {
         return None;
@@ -71,7 +71,7 @@ fn next_pad(drawn: &[Drawn<'_>], filter: usize, number: usize) -> Option<Pad>
 
 /// The output pad that feeds the input pad of this number among those without a label of a filter, by its chain.
 pub fn chained(drawn: &[Drawn<'_>], filter: usize, own: &Drawn<'_>, number: usize) -> Option<Pad>
-    ensures { result ≡ chained_to drawn.now filter own.now number }
+    ensures { result ≡ chained_to (all_seen drawn.now) filter (seen own.now) number }
 {
     if !own.follows {
         return None;

@@ -1,5 +1,5 @@
 ghost use Rattle.std.specs.Prelude.{◌≡◌, ◌++◌, [], IfOk, OnOk};
-ghost use Rattle.ff_drawn.specs.Links.{filter_and, first_fed, givers, feeders_of, feeders_from, filters_in};
+ghost use Rattle.ff_drawn.specs.Links.{seen, all_seen, filter_and, first_fed, givers, feeders_of, feeders_from, filters_in};
 
 use crate::drawn::{Drawn, Pad, chained, giver};
 use ff_lang::Text;
@@ -24,7 +24,7 @@ fn add_givers(
     drawn: &[Drawn<'_>],
     labels: &[Text],
 ) -> Result<(), AllocError>
-    ensures { OnOk result (feeders.new.items ≡ feeders.old.items ++ givers drawn.now labels.now) }
+    ensures { OnOk result (feeders.new.items ≡ feeders.old.items ++ givers (all_seen drawn.now) labels.now) }
 {
     'labels: for place in 0..labels.len() {
         add(feeders, giver(drawn, labels[place].as_str()))?;
@@ -34,7 +34,7 @@ fn add_givers(
 
 // The output pad that feeds the first input pad without a label of a filter, if it has such a pad.
 fn first_chained(drawn: &[Drawn<'_>], filter: usize, own: &Drawn<'_>) -> Option<Pad>
-    ensures { result ≡ first_fed drawn.now filter own.now }
+    ensures { result ≡ first_fed (all_seen drawn.now) filter (seen own.now) }
 {
     if own.filter.ins.as_slice().len() >= own.inputs {
         return None;
@@ -49,7 +49,7 @@ fn feeders_at(
     filter: usize,
     own: &Drawn<'_>,
 ) -> Result<Vec<usize>, AllocError>
-    ensures { IfOk result (λ feeders. feeders.items ≡ feeders_of drawn.now filter own.now) }
+    ensures { IfOk result (λ feeders. feeders.items ≡ feeders_of (all_seen drawn.now) filter (seen own.now)) }
 {
     let mut feeders = Vec::new(alloc);
     add(&mut feeders, first_chained(drawn, filter, own))?;
@@ -60,7 +60,7 @@ fn feeders_at(
 /// The filters that feed each filter: those that give its labels, also ones for which it has no pad, and the one before it in
 /// its chain where a pad of that feeds one of its own.
 pub fn feeders(alloc: Global, drawn: &[Drawn<'_>]) -> Result<Vec<Vec<usize>>, AllocError>
-    ensures { IfOk result (λ all. filters_in all.items ≡ feeders_from drawn.now 0 drawn.now) }
+    ensures { IfOk result (λ all. filters_in all.items ≡ feeders_from (all_seen drawn.now) 0 (all_seen drawn.now)) }
 {
     let mut all = Vec::new(alloc);
     'filters: for filter in 0..drawn.len() {

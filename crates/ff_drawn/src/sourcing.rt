@@ -1,12 +1,12 @@
 ghost use Rattle.std.specs.Prelude.{◌≡◌, IfOk};
-ghost use Rattle.ff_drawn.specs.Links.{source_of, sources_of, sources_from, pads_in};
+ghost use Rattle.ff_drawn.specs.Links.{seen, all_seen, source_of, sources_of, sources_from, pads_in};
 
 use crate::drawn::{Drawn, Pad, chained, giver};
 use std::alloc::{AllocError, Global};
 
 // The output pad that feeds an input pad of a filter. None where the pad is open.
 fn source(drawn: &[Drawn<'_>], filter: usize, own: &Drawn<'_>, pad: usize) -> Option<Pad>
-    ensures { result ≡ source_of drawn.now filter own.now pad }
+    ensures { result ≡ source_of (all_seen drawn.now) filter (seen own.now) pad }
 {
     let labels = own.filter.ins.as_slice();
     if pad < labels.len() {
@@ -22,7 +22,7 @@ fn sources_at(
     filter: usize,
     own: &Drawn<'_>,
 ) -> Result<Vec<Option<Pad>>, AllocError>
-    ensures { IfOk result (λ pads. pads.items ≡ sources_of drawn.now filter own.now) }
+    ensures { IfOk result (λ pads. pads.items ≡ sources_of (all_seen drawn.now) filter (seen own.now)) }
 {
     let mut pads = Vec::new(alloc);
     'pads: for pad in 0..own.inputs {
@@ -33,7 +33,7 @@ fn sources_at(
 
 /// The output pad that feeds each input pad of each filter. None where the pad is open.
 pub fn sources(alloc: Global, drawn: &[Drawn<'_>]) -> Result<Vec<Vec<Option<Pad>>>, AllocError>
-    ensures { IfOk result (λ all. pads_in all.items ≡ sources_from drawn.now 0 drawn.now) }
+    ensures { IfOk result (λ all. pads_in all.items ≡ sources_from (all_seen drawn.now) 0 (all_seen drawn.now)) }
 {
     let mut all = Vec::new(alloc);
     'filters: for filter in 0..drawn.len() {

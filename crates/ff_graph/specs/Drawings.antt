@@ -1,22 +1,12 @@
 -- The filters of a graph in the order of writing, each with how many pads it has by its arguments.
-use Rattle.std.specs.Prelude.{ℕ, Bool, true, false, List, [], ◌∷◌, ◌++◌, Option, None, Some}
+use Rattle.std.specs.Prelude.{Bool, true, false, List, [], ◌∷◌, ◌++◌, Option, None, Some}
 use Rattle.ff_lang.specs.declared.graph.Chain.{Chain}
 use Rattle.ff_lang.specs.declared.graph.Filter.{Filter}
 use Rattle.ff_lang.specs.declared.graph.Graph.{Graph}
-use Rattle.ff_drawn.specs.declared.drawn.Drawn.{Drawn}
+use Rattle.ff_drawn.specs.Links.{Seen}
 use Rattle.ff_filters.specs.declared.name.FilterName.{FilterName}
 use Rattle.ff_filters.specs.Names.{filter_named}
 use Rattle.ff_filters.specs.Pads.{inputs_of, outputs_of}
-
--- a filter as it is drawn: itself, its pads, and whether a filter stands before it in its chain
-pub record Seen : Type 0 where
-  pub filter : Filter
-  pub inputs : ℕ
-  pub outputs : ℕ
-  pub follows : Bool
-
-abbrev pub seen : Drawn → Seen
-seen d = record { filter = d.filter.now; inputs = d.inputs; outputs = d.outputs; follows = d.follows }
 
 -- A name that no filter has: such a graph isn't drawn.
 abbrev pub seen_as : Filter → Bool → Option FilterName → Seen

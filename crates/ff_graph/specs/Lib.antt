@@ -1,1 +1,5 @@
+pub mod Configured
 pub mod Drawings
+pub mod Meaning
+pub mod Opens
+pub mod Pads

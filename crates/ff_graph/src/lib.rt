@@ -1,13 +1,24 @@
-//! Filtergraphs by their text: the filters in the order of writing, what feeds each, and the order in which they can be made.
+//! Filtergraphs by their text: the filters in the order of writing, what feeds each, the order in which they can be made, what the open
+//! pads are, and the filters themselves, each configured by the heads of what comes to it.
 //!
 //! ```text
 //!   Graph ──► drawn ──► sources (ff_drawn): the output pad that feeds each input pad
-//!                  └──► in_order: each behind those that feed it, else by number; None for a loop
+//!     │            └──► in_order: each behind those that feed it, else by number; None for a loop
+//!     ├────► open_inputs, has_loop: what a plan asks before any head is known
+//!     └────► make_all: with the heads of the open inputs, the filters in that order, or the first refusal
 //! ```
 #![tactic(auto)]
 
 mod drawing;
+mod fitting;
+mod heads;
+mod making;
+mod opening;
 mod ordering;
+mod refusal;
 
 pub use drawing::drawn;
-pub use ordering::in_order;
+pub use making::make_all;
+pub use opening::{OpenInput, is_known, open_inputs};
+pub use ordering::{has_loop, in_order};
+pub use refusal::Refusal;

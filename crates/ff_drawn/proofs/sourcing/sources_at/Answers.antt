@@ -1,8 +1,8 @@
-use Rattle.ff_drawn.specs.Links.{sources_of}
+use Rattle.ff_drawn.specs.Links.{seen, all_seen, sources_of}
 use Rattle.ff_drawn.proofs.Sourced.{pushed}
 use Rattle.ff_drawn.proofs.sourcing.sources_at.Goals as goal
 
 pub pads-preserved : goal.pads-preserved
 pads-preserved c =
-    pushed c.args.drawn.now c.args.filter c.args.own.now c.pads.pad c.args.own.now.inputs c.pads.pads.items c.push.new.self.items
-    (sources_of c.args.drawn.now c.args.filter c.args.own.now) c.source.result c.pads-test.true c.in_ok-push.ensures.items c.source.ensures c.pads.invariant
+    pushed (all_seen c.args.drawn.now) c.args.filter (seen c.args.own.now) c.pads.pad c.args.own.now.inputs c.pads.pads.items c.push.new.self.items
+    (sources_of (all_seen c.args.drawn.now) c.args.filter (seen c.args.own.now)) c.source.result c.pads-test.true c.in_ok-push.ensures.items c.source.ensures c.pads.invariant

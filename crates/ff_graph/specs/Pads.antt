@@ -1,0 +1,34 @@
+-- Open pads, filters and refusals as the code has them.
+use Rattle.std.specs.Prelude.{◌≡◌, ◌≢◌, List, map, Result, Err}
+use Rattle.std.specs.Option.{option_copied}
+use Rattle.std.specs.declared.vec.Vec.{Vec}
+use Rattle.ff_values.specs.declared.config.ConfigError.TheVariants as fault
+use Rattle.ff_values.specs.declared.head.StreamHead.{StreamHead}
+use Rattle.ff_filter.specs.Views.{View}
+use Rattle.ff_filters.specs.Configured.{Filtered}
+use Rattle.ff_graph.specs.declared.opening.OpenInput.{OpenInput}
+use Rattle.ff_graph.specs.declared.refusal.Refusal.{Refusal}
+use Rattle.ff_graph.specs.declared.refusal.Refusal.TheVariants.{Config, Loop, NoMemory}
+use Rattle.ff_graph.specs.Opens.{OpenIn}
+use Rattle.ff_graph.specs.Configured.{Made, Refused}
+
+abbrev pub input_of : OpenInput → OpenIn
+input_of i = record { label = option_copied i.label; sound = i.sound }
+
+-- lists of heads
+abbrev pub heads_in : {A : Type 0} → List (Vec StreamHead A) → List (List StreamHead)
+heads_in vs = map (λ v. v.items) vs
+
+-- a filter that is seen so, with these heads
+abbrev pub filtered_by : {A : Type 0} → View → Vec StreamHead A → Filtered
+filtered_by view heads = record { view = view; outs = heads.items }
+
+-- filters in their order, and the heads of each by its number
+abbrev pub made_by : {F A B C : Type 0} → (F → View) → Vec F A → Vec (Vec StreamHead B) C → Made
+made_by view filters heads = record { views = map view filters.items; heads = heads_in heads.items }
+
+-- There was no memory, or the filters are refused so; no filter is refused for want of memory.
+abbrev pub IsRefusal : Result Made Refused → Refusal → Type 0
+IsRefusal r (Config filter kind) = (kind ≢ fault.NoMemory) × (r ≡ Err (record { filter = filter; kind = kind }))
+IsRefusal r Loop = ⊥
+IsRefusal r NoMemory = Unit {0}

@@ -1,0 +1,68 @@
+ghost use Rattle.std.specs.Prelude.{◌≡◌, ◌-◌, length, slice_get};
+ghost use Rattle.ff_drawn.specs.Links.{Seen, seen, all_seen};
+ghost use Rattle.ff_graph.specs.Configured.{leaves_over as left_over, stands_at as is_at, is_misfit as misfits, too_few_channels, is_surplus as has_surplus};
+
+use ff_drawn::{Drawn, Pad};
+use ff_filters::FilterName;
+use ff_frame::StreamHead;
+
+// Whether the filter before it in its chain has output pads without a label that no input pad of its own takes.
+fn leaves_over(drawn: &[Drawn<'_>], filter: usize, own: &Drawn<'_>) -> bool
+    ensures { result ≡ left_over (seen own.now) (slice_get (all_seen drawn.now) (filter - 1)) }
+{
+    let place = filter.saturating_sub(1);
+    if place >= drawn.len() {
+        return false;
+    }
+    let before = &drawn[place];
+    let wanted = own.inputs.saturating_sub(own.filter.ins.as_slice().len());
+    let left = before.outputs.saturating_sub(before.filter.outs.as_slice().len());
+    own.follows && wanted < left
+}
+
+// Whether the pad at this place is one of the filter.
+fn stands_at(pads: &[Pad], place: usize, filter: usize) -> bool
+    ensures { result ≡ is_at filter (slice_get pads.now place) }
+{
+    place < pads.len() && pads[place].filter == filter
+}
+
+/// Whether a filter has more labels at its inputs than pads, its chain leaves outputs over, it is the 65th, or it has the graph's
+/// 17th open input pad.
+pub(crate) fn is_misfit(
+    drawn: &[Drawn<'_>],
+    opens: &[Pad],
+    filter: usize,
+    own: &Drawn<'_>,
+) -> bool
+    ensures { result ≡ misfits (all_seen drawn.now) opens.now filter (seen own.now) }
+{
+    own.inputs < own.filter.ins.as_slice().len()
+        || leaves_over(drawn, filter, own)
+        || filter == 64
+        || stands_at(opens, 16, filter)
+}
+
+// Whether channelsplit has more labels at its outputs than its input has channels.
+fn lacks_channels(labels: usize, heads: &[StreamHead]) -> bool
+    ensures { (d : Seen) → length d.filter.outs ≡ labels → result ≡ too_few_channels d heads.now }
+{
+    if heads.is_empty() {
+        return false;
+    }
+    match heads[0] {
+        StreamHead::Audio { channels, .. } => (channels as usize) < labels,
+        StreamHead::Video { .. } => false,
+    }
+}
+
+/// Whether a filter has more labels at its outputs than pads.
+pub(crate) fn is_surplus(name: FilterName, own: &Drawn<'_>, heads: &[StreamHead]) -> bool
+    ensures { result ≡ has_surplus name (seen own.now) heads.now }
+{
+    let labels = own.filter.outs.as_slice().len();
+    match name {
+        FilterName::ChannelSplit => lacks_channels(labels, heads),
+        _ => own.outputs < labels,
+    }
+}
