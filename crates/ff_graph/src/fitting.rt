@@ -16,7 +16,9 @@ fn leaves_over(drawn: &[Drawn<'_>], filter: usize, own: &Drawn<'_>) -> bool
     }
     let before = &drawn[place];
     let wanted = own.inputs.saturating_sub(own.filter.ins.as_slice().len());
-    let left = before.outputs.saturating_sub(before.filter.outs.as_slice().len());
+    let left = before
+        .outputs
+        .saturating_sub(before.filter.outs.as_slice().len());
     own.follows && wanted < left
 }
 
@@ -29,12 +31,7 @@ fn stands_at(pads: &[Pad], place: usize, filter: usize) -> bool
 
 /// Whether a filter has more labels at its inputs than pads, its chain leaves outputs over, it is the 65th, or it has the graph's
 /// 17th open input pad.
-pub(crate) fn is_misfit(
-    drawn: &[Drawn<'_>],
-    opens: &[Pad],
-    filter: usize,
-    own: &Drawn<'_>,
-) -> bool
+pub(crate) fn is_misfit(drawn: &[Drawn<'_>], opens: &[Pad], filter: usize, own: &Drawn<'_>) -> bool
     ensures { result ≡ misfits (all_seen drawn.now) opens.now filter (seen own.now) }
 {
     own.inputs < own.filter.ins.as_slice().len()
