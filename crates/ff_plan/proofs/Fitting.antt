@@ -1,11 +1,12 @@
--- What stands at the ports of each node, where inputs and outputs have one stream each.
-use Rattle.std.proofs.Common.{◌≡◌, ℕ, zero, suc, ◌+◌, ◌<◌, ◌≤◌, inl, inr, ◌==◌, ◌&&◌, Bool, true, false, List, [], ◌∷◌, ◌++◌, map, length, Some, refl, sym, ap, ◌∙◌, subst, arith}
+-- What stands at the ports of each node, where inputs have one stream each.
+use Rattle.std.proofs.Common.{◌≡◌, ℕ, zero, suc, ◌+◌, ◌<◌, ◌≤◌, inl, inr, ◌==◌, ◌&&◌, nat_le, nat_lt, cond, Bool, true, false, List, [], ◌∷◌, ◌++◌, map, length, Some, refl, sym, ap, ◌∙◌, subst, arith}
 use Rattle.std.proofs.lemmas.Bool.Decides.{nat_tests}
 use Rattle.std.proofs.lemmas.List.{map-append, append-nil}
 use Rattle.std.proofs.lemmas.List.Elements.{filter-append}
 use Rattle.std.specs.Prelude.{slice_get, replicate}
 use Rattle.std.specs.List.{AllByRecursion, filter, position_or_len, range_with_len}
-use Rattle.ff_edges.specs.Ports.{HasIns, HasOuts, lanes_into, lanes_out_of}
+use Rattle.ff_edges.specs.declared.edge.Edge.{Edge}
+use Rattle.ff_edges.specs.Ports.{tally, HasIns, HasOuts, lanes_into, lanes_out_of}
 use Rattle.ff_frame.specs.declared.item.Lane.{Lane}
 use Rattle.ff_frame.specs.declared.item.Lane.TheVariants.{Frames, Packets}
 use Rattle.ff_values.specs.declared.head.StreamHead.{StreamHead}
@@ -20,20 +21,21 @@ use Rattle.ff_plan.specs.declared.layout.Placed.{Placed}
 use Rattle.ff_plan.specs.declared.planned.PlanNode.{PlanNode}
 use Rattle.ff_plan.specs.declared.planned.PlanNode.TheVariants as node
 use Rattle.ff_plan.specs.Choice.{head_at}
-use Rattle.ff_plan.specs.Fitting.{HasSingles, FitsDemux, FitsDec, FitsEnc, FitsMux, IsTaken, FitsNode}
+use Rattle.ff_plan.specs.Fitting.{HasSingles, FitsDemux, FitsDec, FitsEnc, FitsMux, IsTaken, TakesFrames, FitsNode}
 use Rattle.ff_plan.specs.Laws.{IsNextOf}
 use Rattle.ff_plan.specs.Layout.{IsAmong, Layout, same_ref, shows, place_from, origins}
 use Rattle.ff_plan.specs.Nodes.{origin_port}
+use Rattle.ff_plan.specs.Numbers.{streams_between}
 use Rattle.ff_plan.specs.Plain.{plain_layout, plain_streams, plain_inputs, plain_wires, plain_nodes, demux_wire_of, enc_wire_of, mux_wire_of, demux_number, origin_number, has_stream, shown_by}
 use Rattle.ff_plan.specs.Streams.{packed_as}
-use Rattle.ff_plan.specs.Wires.{Wire, edges_of, enters_node, leaves_node}
+use Rattle.ff_plan.specs.Wires.{Wire, edges_behind, edges_of, enters_node, leaves_node}
 use Rattle.ff_plan.proofs.Among.{all_joined, all_map, was_among, kept_among, among_map}
 use Rattle.ff_plan.proofs.Kept.{nothing, not_true, same_some, place_of, among_at, below_at, at_below, some_long, none_kept, one_kept, first_place, place_passes, any_there, filter_of_map, map_same, at_map, map_at, AllFrom, from_joined, from_map}
 use Rattle.ff_plan.proofs.Lanes.{wire_lanes, into_is, out_is}
 use Rattle.ff_plan.proofs.Layouts.{demux_below, dec_below, is_used_stream, same_self, nat_self, map_length, less_or, range_length}
 use Rattle.ff_plan.proofs.Numbered.{is_same, other_key, has_ins, has_outs}
-use Rattle.ff_plan.proofs.Rows.{IsOut, AreOuts, single}
-use Rattle.ff_plan.proofs.Singles.{Rises, rises_less, range_rises, inputs_of, streams_rise, one_at, head_is, place_at, placed_count, out_at}
+use Rattle.ff_plan.proofs.Rows.{IsOut, AreOuts}
+use Rattle.ff_plan.proofs.Singles.{Rises, rises_less, range_rises, inputs_of, streams_rise, one_at, head_is, number_at_place, in_output, out_at, each_out, given_by_output}
 use Rattle.ff_plan.proofs.Steps.{same_test, other_test}
 
 left_test : (a k b p : ℕ) → ((a == k) && (b == p)) ≡ true → a ≡ k
@@ -82,12 +84,40 @@ three_lanes q xs ys zs a b c first second third =
     joined_lanes q xs (ys ++ zs) ∙ (ap (λ (l : List Lane). l ++ wire_lanes q (ys ++ zs)) first
     ∙ ap (λ (l : List Lane). a ++ l) (joined_lanes q ys zs ∙ (ap (λ (l : List Lane). l ++ wire_lanes q zs) second ∙ ap (λ (l : List Lane). b ++ l) third)))
 
+-- ---- how many edges lead to some nodes
+
+tally_edges : (test : ℕ → Bool) (before ws : List Wire) → tally (λ (e : Edge). test e.to) (edges_behind before ws) ≡ tally (λ (w : Wire). test w.to) ws
+tally_edges test before [] = refl
+tally_edges test before (w ∷ ws) = ap (λ (n : ℕ). cond (test w.to) (suc n) n) (tally_edges test (w ∷ before) ws)
+
+sum_step : (a t r : ℕ) (b : Bool) → t ≡ a + r → cond b (suc t) t ≡ cond b (suc a) a + r
+sum_step a t r true e = omega (arith, e)
+sum_step a t r false e = e
+
+most_step : (t l : ℕ) (b : Bool) → t ≤ l → cond b (suc t) t ≤ suc l
+most_step t l true le = omega (arith, le)
+most_step t l false le = omega (arith, le)
+
+module _ (q : Wire → Bool) where
+  tally_joined : (xs ys : List Wire) → tally q (xs ++ ys) ≡ tally q xs + tally q ys
+  tally_joined [] ys = omega arith
+  tally_joined (x ∷ xs) ys = sum_step (tally q xs) (tally q (xs ++ ys)) (tally q ys) (q x) (tally_joined xs ys)
+
+  tally_most : (xs : List Wire) → tally q xs ≤ length xs
+  tally_most [] = omega arith
+  tally_most (x ∷ xs) = most_step (tally q xs) (length xs) (q x) (tally_most xs)
+
+  tally_none : {A : Type 0} (f : A → Wire) (xs : List A) → ((x : A) → IsAmong x xs → q (f x) ≡ false) → tally q (map f xs) ≡ 0
+  tally_none f [] each = refl
+  tally_none f (x ∷ xs) each =
+      ap (λ (b : Bool). cond b (suc (tally q (map f xs))) (tally q (map f xs))) (each x (inl refl)) ∙ tally_none f xs (λ y i. each y (inr i))
+
+not_between : (low high n : ℕ) → n < low → (nat_le low n && nat_lt n high) ≡ false
+not_between low high n lt = grind (arith, nat_tests)
+
 -- ---- the plan of these streams of outputs
 
-module _ (heads : List (List StreamHead)) (outs : List OutputJob) (ss : List OutStream) (are : AreOuts heads outs ss) where
-  abbrev rs : List (List OutStream)
-  rs = map single ss
-
+module _ (heads : List (List StreamHead)) (outs : List OutputJob) (rs : List (List OutStream)) (are : AreOuts heads outs rs) where
   abbrev whole : Layout
   whole = plain_layout heads rs
 
@@ -118,13 +148,13 @@ module _ (heads : List (List StreamHead)) (outs : List OutputJob) (ss : List Out
   -- ---- what is at a place
 
   number_is : (i : ℕ) (p : Placed) → slice_get ps i ≡ Some p → p.number ≡ i
-  number_is i p at = (let e = (place_at 0 0 ss i p at).0 in omega (arith, e))
+  number_is i p at = (let e = number_at_place 0 0 rs i p at in omega (arith, e))
 
-  output_is : (i : ℕ) (p : Placed) → slice_get ps i ≡ Some p → p.output ≡ i
-  output_is i p at = (let e = (place_at 0 0 ss i p at).1 in omega (arith, e))
-
-  out_is_at : (i : ℕ) (p : Placed) → slice_get ps i ≡ Some p → (out : OutputJob) × (slice_get outs i ≡ Some out) × IsOut heads out p.what
-  out_is_at i p at = out_at heads outs ss i p.what are (place_at 0 0 ss i p at).2
+  out_is_at : (i : ℕ) (p : Placed) → slice_get ps i ≡ Some p → (out : OutputJob) × (slice_get outs p.output ≡ Some out) × IsOut heads out p.what
+  out_is_at i p at =
+      let r = in_output 0 0 rs p (among_at p ps i at) in
+      let row = out_at heads outs rs r.0 r.2 are r.3 in
+      (row.0, ap (λ (n : ℕ). slice_get outs n) (let e = r.1 in let g : p.output ≡ r.0 = omega (arith, e) in g) ∙ row.1, each_out heads row.0 r.2 p.what row.2.each r.4)
 
   in_heads : (s : Stream) → IsAmong s streams → IsAmong s (all_streams heads)
   in_heads s i = (was_among (λ (k : Stream). shown_by ps k.at) s (all_streams heads) i).0
@@ -214,6 +244,23 @@ module _ (heads : List (List StreamHead)) (outs : List OutputJob) (ss : List Out
   pub outs_all : (k : ℕ) → HasOuts (edges_of wires) k
   outs_all k = has_outs k wires (next k)
 
+  -- only the wires of outputs' streams lead to Mux nodes
+  pub few_from : (low high : ℕ) → low ≡ (length inputs + length streams) + length ps → length ps ≤ 16 → streams_between low high (edges_of wires) ≤ 16
+  few_from low high is few =
+      let test : Wire → Bool = λ (w : Wire). nat_le low w.to && nat_lt w.to high in
+      let a = map from_demux streams in
+      let b = map to_enc ps in
+      let c = map to_mux ps in
+      let all = tally_edges (λ n. nat_le low n && nat_lt n high) [] wires in
+      let front = tally_joined test a (b ++ c) in
+      let back = tally_joined test b c in
+      let no_demux = tally_none test from_demux streams (λ s i. not_between low high (from_demux s).to (let lt = dec_low s i in omega (arith, lt, is))) in
+      let no_enc = tally_none test to_enc ps (λ p i. not_between low high (to_enc p).to
+      (let at = place_of p ps i in let n = number_is at.0 p at.1 in let lt = below_at p ps at.0 at.1 in omega (arith, n, lt, is))) in
+      let most = tally_most test c in
+      let long = map_length to_mux ps in
+      omega (arith, all, front, back, no_demux, no_enc, most, long, few)
+
   -- ---- each node, where each input has one stream
 
   module _ (singles : HasSingles heads) where
@@ -298,15 +345,15 @@ module _ (heads : List (List StreamHead)) (outs : List OutputJob) (ss : List Out
               out.head ∙ same_some out.stream.head s.head
               (sym (head_is heads out.stream out.there) ∙ (ap (λ (r : StreamRef). head_at heads r) (sym same) ∙ head_is heads s (in_heads s (among_at s streams j at))))
 
-    abbrev taken : (i : ℕ) (p : Placed) → slice_get ps i ≡ Some p → (o : ℕ) → o ≡ i → IsTaken heads outs o
-    taken i p at o e =
+    abbrev taken : (i : ℕ) (p : Placed) → slice_get ps i ≡ Some p → IsTaken heads outs p.output
+    taken i p at =
         let out = out_is_at i p at in
         record {
           head = p.what.head;
           at = out.2.stream.at;
           is = head_is heads out.2.stream out.2.there ∙ ap (λ (h : StreamHead). Some h) (sym out.2.head);
           out = out.0;
-          out_is = ap (λ (n : ℕ). slice_get outs n) e ∙ out.1;
+          out_is = out.1;
           takes = out.2.takes;
         }
 
@@ -318,7 +365,7 @@ module _ (heads : List (List StreamHead)) (outs : List OutputJob) (ss : List Out
         let number = number_is i p at in
         let lt : m < (length inputs + length streams) + length ps = (let l = below_at p ps i at in omega (arith, mi, l)) in
         record {
-          taken = taken i p at p.output (output_is i p at);
+          taken = taken i p at;
           ins = into m [] (Frames p.what.head ∷ []) [] (demuxes_in m (omega (arith, mi)))
               (one_of (enters_node m) to_enc ps i p at (same_test (to_enc p).to m (omega (arith, number, mi)))
               (λ n q e other. other_test (to_enc q).to m (λ f. other (let own = number_is n q e in omega (arith, f, own, mi)))))
@@ -329,15 +376,39 @@ module _ (heads : List (List StreamHead)) (outs : List OutputJob) (ss : List Out
               ∙ ap (λ (l : Lane). l ∷ []) (packed i p at);
         }
 
-    mux_fits : (m i : ℕ) (p : Placed) → m ≡ ((length inputs + length streams) + length ps) + i → slice_get ps i ≡ Some p → FitsMux heads outs (edges_of wires) m i
-    mux_fits m i p mi at =
-        let output = output_is i p at in
+    frames_taken : (out : OutputJob) (row : List OutStream) → AllByRecursion (IsOut heads out) row → AllByRecursion (TakesFrames heads out) (map (λ (t : OutStream). t.head) row)
+    frames_taken out [] each = tt
+    frames_taken out (t ∷ ts) each =
+        let is = each.0 in
+        ((is.stream.at, head_is heads is.stream is.there ∙ ap (λ (h : StreamHead). Some h) (sym is.head), is.takes), frames_taken out ts each.1)
+
+    all_packed : (out : OutputJob) (row : List OutStream) → AllByRecursion (IsOut heads out) row
+        → map (λ (t : OutStream). Packets t.packed) row ≡ map (λ (h : StreamHead). Packets (packed_as out h)) (map (λ (t : OutStream). t.head) row)
+    all_packed out [] each = refl
+    all_packed out (t ∷ ts) each =
+        ap (λ (h : StreamHead). Packets h ∷ map (λ (u : OutStream). Packets u.packed) ts) each.0.packed ∙ ap (λ (l : List Lane). Packets (packed_as out t.head) ∷ l) (all_packed out ts each.1)
+
+    mux_fits : (m i : ℕ) (row : List OutStream) → m ≡ ((length inputs + length streams) + length ps) + i → slice_get rs i ≡ Some row → FitsMux heads outs (edges_of wires) m i
+    mux_fits m i row mi at =
+        let own = out_at heads outs rs i row are at in
+        let out = own.0 in
+        let many = map_length (λ (t : OutStream). t.head) row in
+        let some = own.2.some in
+        let few = own.2.few in
         record {
-          taken = taken i p at i refl;
-          ins = into m [] [] (Packets p.what.packed ∷ []) (demuxes_in m (omega (arith, mi))) (encs_in_high m (omega (arith, mi)))
-              (one_of (enters_node m) to_mux ps i p at (same_test (to_mux p).to m (omega (arith, output, mi)))
-              (λ n q e other. other_test (to_mux q).to m (λ f. other (let own = output_is n q e in omega (arith, f, own, mi)))))
-              ∙ ap (λ (l : Lane). l ∷ []) (packed i p at);
+          out = out;
+          out_is = own.1;
+          taken = map (λ (t : OutStream). t.head) row;
+          each = frames_taken out row own.2.each;
+          some = omega (arith, many, some);
+          few = omega (arith, many, few);
+          ins = into m [] [] (map (λ (t : OutStream). Packets t.packed) row) (demuxes_in m (omega (arith, mi))) (encs_in_high m (omega (arith, mi)))
+              (lanes_map (enters_node m) to_mux ps
+              ∙ given_by_output (λ (p : Placed). enters_node m (to_mux p)) (λ (t : OutStream). Packets t.packed) i
+              (λ p e. same_test (to_mux p).to m (omega (arith, e, mi)))
+              (λ p other. other_test (to_mux p).to m (λ f. other (omega (arith, f, mi))))
+              0 0 i rs row (omega arith) at)
+              ∙ all_packed out row own.2.each;
           outs = out_of m [] [] [] (demuxes_out m (omega (arith, mi))) (encs_out m (omega (arith, mi))) (muxes_out_high m (omega (arith, mi)));
         }
 
@@ -365,7 +436,5 @@ module _ (heads : List (List StreamHead)) (outs : List OutputJob) (ss : List Out
           mux_at_place m i o e at =
               let lr = range_length 0 (length rs) in
               let lt = below_at o (range_with_len 0 (length rs)) i at in
-              let ls = placed_count 0 0 ss in
-              let lm = map_length single ss in
-              let q = at_below ps i (omega (arith, lr, lt, ls, lm)) in
+              let q = at_below rs i (omega (arith, lr, lt)) in
               subst (λ (n : ℕ). FitsMux heads outs (edges_of wires) m n) (let f = number_at 0 (length rs) i o at in let g : i ≡ o = omega (arith, f) in g) (mux_fits m i q.0 e q.1)

@@ -1,5 +1,6 @@
--- Outputs of one stream each.
-use Rattle.std.proofs.Common.{◌≡◌, ℕ, ◌+◌, ◌&&◌, Bool, true, false, List, [], ◌∷◌, ◌++◌, map, length, refl, sym, ap, ◌∙◌, subst}
+-- The streams of outputs.
+use Rattle.std.proofs.Common.{◌≡◌, ℕ, ◌+◌, ◌<◌, ◌≤◌, ◌&&◌, nat_lt, Bool, true, false, List, [], ◌∷◌, ◌++◌, map, length, refl, sym, ap, ◌∙◌, subst, arith}
+use Rattle.std.proofs.lemmas.Bool.Decides.{nat_tests}
 use Rattle.std.specs.Prelude.{Ok}
 use Rattle.std.specs.List.{AllByRecursion}
 use Rattle.ff_values.specs.declared.head.StreamHead.{StreamHead}
@@ -15,7 +16,7 @@ use Rattle.ff_plan.specs.Plain.{plain, unfiltered, IsBare}
 use Rattle.ff_plan.specs.Planned.{labels_of, graphs_of, outputs_from}
 use Rattle.ff_plan.specs.Rules.{Planned, behind}
 use Rattle.ff_plan.specs.Streams.{Passed, as_pad, asked, chosen, some_or, front_with, takes_head, takes, packed_as, passed, all_passed, graph_of}
-use Rattle.ff_plan.specs.Today.{no_filters}
+use Rattle.ff_plan.specs.Today.{most_built, no_filters}
 use Rattle.ff_plan.proofs.Among.{never}
 use Rattle.ff_plan.proofs.Fronts.{coded, passed_plain}
 use Rattle.ff_plan.proofs.Laid.{chosen_hold}
@@ -31,15 +32,18 @@ pub record IsOut (heads : List (List StreamHead)) (out : OutputJob) (s : OutStre
   pub takes : takes_head out s.head ≡ true
   pub packed : s.packed ≡ packed_as out s.head
 
--- the one stream of each output
-abbrev pub AreOuts : List (List StreamHead) → List OutputJob → List OutStream → Type 0
-AreOuts heads [] [] = Unit {0}
-AreOuts heads [] (s ∷ ss) = ⊥
-AreOuts heads (out ∷ outs) [] = ⊥
-AreOuts heads (out ∷ outs) (s ∷ ss) = IsOut heads out s × AreOuts heads outs ss
+-- the streams of an output: some, and no more than its format can have
+pub record IsRow (heads : List (List StreamHead)) (out : OutputJob) (row : List OutStream) : Type 0 where
+  pub each : AllByRecursion (IsOut heads out) row
+  pub some : 1 ≤ length row
+  pub few : length row ≤ most_built out.format
 
-abbrev pub single : OutStream → List OutStream
-single s = s ∷ []
+-- and of each output
+abbrev pub AreOuts : List (List StreamHead) → List OutputJob → List (List OutStream) → Type 0
+AreOuts heads [] [] = Unit {0}
+AreOuts heads [] (row ∷ rows) = ⊥
+AreOuts heads (out ∷ outs) [] = ⊥
+AreOuts heads (out ∷ outs) (row ∷ rows) = IsRow heads out row × AreOuts heads outs rows
 
 abbrev Shows : List (List StreamHead) → InPad → Type 0
 Shows heads i = (k : Stream) × IsAmong k (all_streams heads) × (as_pad k ≡ i)
@@ -48,9 +52,13 @@ left_of : (a b c : Bool) → (a && b && c) ≡ true → a ≡ true
 left_of true b c h = refl
 left_of false b c h = h
 
-no_second : (a c : Bool) → (a && false && c) ≡ false
-no_second true c = refl
-no_second false c = refl
+middle_of : (a b c : Bool) → (a && b && c) ≡ true → b ≡ true
+middle_of true true c h = refl
+middle_of true false c h = h
+middle_of false b c h = absurd (never h)
+
+is_below : (n m : ℕ) → nat_lt n m ≡ true → n < m
+is_below n m e = grind (arith, nat_tests)
 
 module _ (heads : List (List StreamHead)) where
   taken_step : (out : OutputJob) (o g n : ℕ) (i : InPad) (p : Passed) (b : Bool) → IsBare out → takes no_filters out n i ≡ b → passed no_filters out o g n i ≡ Ok p
@@ -62,16 +70,12 @@ module _ (heads : List (List StreamHead)) where
   taken : (out : OutputJob) (o g n : ℕ) (i : InPad) (p : Passed) → IsBare out → passed no_filters out o g n i ≡ Ok p → (takes no_filters out n i ≡ true) × (p ≡ unfiltered (coded out i))
   taken out o g n i p bare h = taken_step out o g n i p (takes no_filters out n i) bare refl h
 
-  -- no output takes a second stream
-  no_other : (out : OutputJob) (o g : ℕ) (i : InPad) (p : Passed) → IsBare out → passed no_filters out o g 1 i ≡ Ok p → ⊥
-  no_other out o g i p bare h = never (sym (no_second (takes_head out i.head) _) ∙ (taken out o g 1 i p bare h).0)
-
   abbrev AreSome : List InPad → Type 0
   AreSome [] = ⊥
   AreSome (i ∷ is) = Unit {0}
 
-  is_out : (out : OutputJob) (i : InPad) → Shows heads i → takes no_filters out 0 i ≡ true → IsOut heads out (coded out i)
-  is_out out i (k, there, e) t = record {
+  is_out : (out : OutputJob) (n : ℕ) (i : InPad) → Shows heads i → takes no_filters out n i ≡ true → IsOut heads out (coded out i)
+  is_out out n i (k, there, e) t = record {
     stream = k;
     there = there;
     source = ap (λ (j : InPad). j.source) (sym e);
@@ -83,19 +87,37 @@ module _ (heads : List (List StreamHead)) where
   abbrev behind_first : OutputJob → ℕ → ℕ → ℕ → List InPad → Passed → Planned (List Passed)
   behind_first out o g n is p = front_with (p ∷ []) (all_passed no_filters out o (g + length (graph_of p)) (n + 1) is)
 
-  row_is : (out : OutputJob) (o g : ℕ) (pads : List InPad) (ps : List Passed) → IsBare out → all_passed no_filters out o g 0 pads ≡ Ok ps → AreSome pads → AllByRecursion (Shows heads) pads
-      → (s : OutStream) × (ps ≡ unfiltered s ∷ []) × IsOut heads out s
-  row_is out o g [] ps bare h some all = absurd some
-  row_is out o g (i ∷ []) ps bare h some all =
-      let first = behind_ok (passed no_filters out o g 0 i) (behind_first out o g 0 []) ps h in
-      let t = taken out o g 0 i first.0 bare first.1 in
-      (coded out i, sym (same_ok (first.0 ∷ []) ps first.2) ∙ ap (λ (p : Passed). p ∷ []) t.1, is_out out i all.0 t.0)
-  row_is out o g (i ∷ j ∷ is) ps bare h some all =
-      let first = behind_ok (passed no_filters out o g 0 i) (behind_first out o g 0 (j ∷ is)) ps h in
+  -- of an output's streams from the n-th on: as many as pads, and no more than its format can have
+  record IsRowFrom (out : OutputJob) (n : ℕ) (pads : List InPad) (ps : List Passed) : Type 0 where
+    row : List OutStream
+    is : ps ≡ map unfiltered row
+    each : AllByRecursion (IsOut heads out) row
+    as_many : length row ≡ length pads
+    few : n + length row ≤ most_built out.format
+
+  row_from : (out : OutputJob) (o g n : ℕ) (pads : List InPad) (ps : List Passed) → IsBare out → all_passed no_filters out o g n pads ≡ Ok ps → AllByRecursion (Shows heads) pads
+      → n ≤ most_built out.format → IsRowFrom out n pads ps
+  row_from out o g n [] ps bare h all le = record { row = []; is = sym (same_ok [] ps h); each = tt; as_many = refl; few = omega (arith, le) }
+  row_from out o g n (i ∷ is) ps bare h all le =
+      let first = behind_ok (passed no_filters out o g n i) (behind_first out o g n is) ps h in
       let f = g + length (graph_of first.0) in
-      let rest = behind_ok (all_passed no_filters out o f (0 + 1) (j ∷ is)) (λ ys. Ok (first.0 ∷ [] ++ ys)) ps first.2 in
-      let second = behind_ok (passed no_filters out o f (0 + 1) j) (behind_first out o f (0 + 1) is) rest.0 rest.1 in
-      absurd (no_other out o f j second.0 bare second.1)
+      let rest = behind_ok (all_passed no_filters out o f (n + 1) is) (λ ys. Ok (first.0 ∷ [] ++ ys)) ps first.2 in
+      let t = taken out o g n i first.0 bare first.1 in
+      let below : n < most_built out.format = is_below n (most_built out.format) (middle_of (takes_head out i.head) _ _ t.0) in
+      let more = row_from out o f (n + 1) is rest.0 bare rest.1 all.1 (omega (arith, below)) in
+      let many = more.as_many in
+      let fits = more.few in
+      record {
+        row = coded out i ∷ more.row;
+        is = sym (same_ok (first.0 ∷ rest.0) ps rest.2) ∙ (ap (λ (p : Passed). p ∷ rest.0) t.1 ∙ ap (λ (qs : List Passed). unfiltered (coded out i) ∷ qs) more.is);
+        each = (is_out out n i all.0 t.0, more.each);
+        as_many = omega (arith, many);
+        few = omega (arith, fits);
+      }
+
+  long_some : (pads : List InPad) → AreSome pads → 1 ≤ length pads
+  long_some [] some = absurd some
+  long_some (i ∷ is) some = omega arith
 
   some_step : (o : ℕ) (is pads : List InPad) → some_or o is ≡ Ok pads → AreSome pads
   some_step o [] pads h = absurd (not_ok (fault.NoStreams o) pads h)
@@ -107,7 +129,7 @@ module _ (heads : List (List StreamHead)) where
       some_step o first.0 pads first.2
 
   pub outs_are : (o g : ℕ) (used : List (List ℕ)) (outs : List OutputJob) (all : List (List Passed)) → AllByRecursion IsBare outs → outputs_from no_filters (plain heads) o g used [] outs ≡ Ok all
-      → (ss : List OutStream) × (all ≡ through (map single ss)) × AreOuts heads outs ss
+      → (rows : List (List OutStream)) × (all ≡ through rows) × AreOuts heads outs rows
   outs_are o g used [] all bare h = ([], sym (same_ok [] all h), tt)
   outs_are o g used (out ∷ outs) all bare h =
       let after : List Passed → Planned (List (List Passed)) = λ ps. front_with (ps ∷ []) (outputs_from no_filters (plain heads) (o + 1) (g + graphs_of ps) (labels_of out ++ used) [] outs) in
@@ -116,8 +138,11 @@ module _ (heads : List (List StreamHead)) where
       let rest = behind_ok (outputs_from no_filters (plain heads) (o + 1) (g + graphs_of ps.0) (labels_of out ++ used) [] outs) (λ ys. Ok (ps.0 ∷ [] ++ ys)) all ps.2 in
       let more = outs_are (o + 1) (g + graphs_of ps.0) (labels_of out ++ used) outs rest.0 bare.1 rest.1 in
       let shown = chosen_hold heads (Shows heads) (λ k i. (k, i, refl)) out o used pads.0 pads.1 in
-      let row = row_is out o g pads.0 ps.0 bare.0 ps.1 (chosen_some out o used pads.0 pads.1) shown in (
-        row.0 ∷ more.0,
-        sym (same_ok (ps.0 ∷ rest.0) all rest.2) ∙ (ap (λ (qs : List Passed). qs ∷ rest.0) row.1 ∙ ap (λ (l : List (List Passed)). (unfiltered row.0 ∷ []) ∷ l) more.1),
-        (row.2, more.2),
+      let row = row_from out o g 0 pads.0 ps.0 bare.0 ps.1 shown (omega arith) in
+      let long = long_some pads.0 (chosen_some out o used pads.0 pads.1) in
+      let many = row.as_many in
+      let few = row.few in (
+        row.row ∷ more.0,
+        sym (same_ok (ps.0 ∷ rest.0) all rest.2) ∙ (ap (λ (qs : List Passed). qs ∷ rest.0) row.is ∙ ap (λ (l : List (List Passed)). map unfiltered row.row ∷ l) more.1),
+        (record { each = row.each; some = omega (arith, long, many); few = omega (arith, few) }, more.2),
       )

@@ -1,7 +1,9 @@
--- Inputs and outputs of one stream each, by their places.
-use Rattle.std.proofs.Common.{◌≡◌, ℕ, zero, suc, ◌+◌, ◌<◌, ◌≤◌, inl, inr, Bool, true, false, cond, List, [], ◌∷◌, map, length, Some, refl, sym, ap, subst, arith}
+-- Inputs of one stream each, and the streams of outputs, by their places.
+use Rattle.std.proofs.Common.{◌≡◌, ℕ, zero, suc, ◌+◌, ◌<◌, ◌≤◌, inl, inr, Bool, true, false, cond, List, [], ◌∷◌, ◌++◌, map, length, Some, refl, sym, ap, ◌∙◌, subst, arith}
+use Rattle.std.proofs.lemmas.List.{map-append, append-nil}
+use Rattle.std.proofs.lemmas.List.Elements.{filter-append}
 use Rattle.std.specs.Prelude.{slice_get, unwrap_or}
-use Rattle.std.specs.List.{filter, range_with_len}
+use Rattle.std.specs.List.{AllByRecursion, filter, range_with_len}
 use Rattle.ff_values.specs.declared.head.StreamHead.{StreamHead}
 use Rattle.ff_map.specs.Choice.{stream_at, numbered, streams_from, all_streams}
 use Rattle.ff_map.specs.declared.streams.Stream.{Stream}
@@ -10,10 +12,11 @@ use Rattle.ff_plan.specs.declared.layout.OutStream.{OutStream}
 use Rattle.ff_plan.specs.declared.layout.Placed.{Placed}
 use Rattle.ff_plan.specs.Choice.{head_at}
 use Rattle.ff_plan.specs.Fitting.{HasSingles}
-use Rattle.ff_plan.specs.Layout.{IsAmong, place_from}
+use Rattle.ff_plan.specs.Layout.{IsAmong, place_row, place_from}
 use Rattle.ff_plan.proofs.Among.{among_either}
 use Rattle.ff_plan.proofs.Kept.{nothing, same_some}
-use Rattle.ff_plan.proofs.Rows.{IsOut, AreOuts, single}
+use Rattle.ff_plan.proofs.Layouts.{row_length}
+use Rattle.ff_plan.proofs.Rows.{IsOut, IsRow, AreOuts}
 
 -- ---- numbers that rise
 
@@ -92,36 +95,103 @@ head_is heads s i =
     let r = rows_at 0 heads s i in
     subst (λ (j : ℕ). slice_get (unwrap_or (slice_get heads j) []) s.at.stream ≡ Some s.head) (let e = r.1 in let g : r.0 ≡ s.at.input = omega (arith, e) in g) r.2
 
--- ---- outputs that have one stream each
+-- ---- outputs, by the places of their streams
 
-pub place_at : (n o : ℕ) (ss : List OutStream) (i : ℕ) (p : Placed) → slice_get (place_from n o (map single ss)) i ≡ Some p
-    → (p.number ≡ n + i) × (p.output ≡ o + i) × (slice_get ss i ≡ Some p.what)
-place_at n o [] i p at = absurd (nothing p at)
-place_at n o (s ∷ ss) zero p at =
-    let e = same_some (record { number = n; output = o; stream = 0; what = s }) p at in
-    let number = ap (λ (q : Placed). q.number) e in
-    let output = ap (λ (q : Placed). q.output) e in
-    (omega (arith, number), omega (arith, output), ap (λ (q : Placed). Some q.what) e)
-place_at n o (s ∷ ss) (suc i) p at =
-    let r = place_at (n + 1) (o + 1) ss i p at in
-    let number = r.0 in
-    let output = r.1 in
-    (omega (arith, number), omega (arith, output), r.2)
+-- the places are numbered from this number on
+abbrev Counts : ℕ → List Placed → Type 0
+Counts n [] = Unit {0}
+Counts n (p ∷ ps) = (p.number ≡ n) × Counts (n + 1) ps
 
-pub placed_count : (n o : ℕ) (ss : List OutStream) → length (place_from n o (map single ss)) ≡ length ss
-placed_count n o [] = refl
-placed_count n o (s ∷ ss) = ap suc (placed_count (n + 1) (o + 1) ss)
+counts_row : (n o t : ℕ) (ss : List OutStream) → Counts n (place_row n o t ss)
+counts_row n o t [] = tt
+counts_row n o t (s ∷ ss) = (refl, counts_row (n + 1) o (t + 1) ss)
 
-pub outs_count : (heads : List (List StreamHead)) (outs : List OutputJob) (ss : List OutStream) → AreOuts heads outs ss → length outs ≡ length ss
+counts_joined : (n m : ℕ) (xs ys : List Placed) → m ≡ n + length xs → Counts n xs → Counts m ys → Counts n (xs ++ ys)
+counts_joined n m [] ys e a b = subst (λ (k : ℕ). Counts k ys) (omega (arith, e)) b
+counts_joined n m (x ∷ xs) ys e a b = (a.0, counts_joined (n + 1) m xs ys (omega (arith, e)) a.1 b)
+
+counts_from : (n o : ℕ) (rows : List (List OutStream)) → Counts n (place_from n o rows)
+counts_from n o [] = tt
+counts_from n o (row ∷ rows) =
+    counts_joined n (n + length row) (place_row n o 0 row) (place_from (n + length row) (o + 1) rows) (let l = row_length n o 0 row in omega (arith, l)) (counts_row n o 0 row) (counts_from (n + length row) (o + 1) rows)
+
+number_in : (n : ℕ) (ps : List Placed) (i : ℕ) (p : Placed) → Counts n ps → slice_get ps i ≡ Some p → p.number ≡ n + i
+number_in n [] i p c at = absurd (nothing p at)
+number_in n (q ∷ ps) zero p c at = (let e = same_some q p at in let f = ap (λ (r : Placed). r.number) e in let g = c.0 in omega (arith, f, g))
+number_in n (q ∷ ps) (suc i) p c at = (let e = number_in (n + 1) ps i p c.1 at in omega (arith, e))
+
+pub number_at_place : (n o : ℕ) (rows : List (List OutStream)) (i : ℕ) (p : Placed) → slice_get (place_from n o rows) i ≡ Some p → p.number ≡ n + i
+number_at_place n o rows i p at = number_in n (place_from n o rows) i p (counts_from n o rows) at
+
+-- a place is that of a stream of its output
+in_row : (n o t : ℕ) (ss : List OutStream) (p : Placed) → IsAmong p (place_row n o t ss) → (p.output ≡ o) × IsAmong p.what ss
+in_row n o t [] p i = absurd i
+in_row n o t (s ∷ ss) p (inl e) = (sym (ap (λ (q : Placed). q.output) e), inl (ap (λ (q : Placed). q.what) e))
+in_row n o t (s ∷ ss) p (inr i) = (let r = in_row (n + 1) o (t + 1) ss p i in (r.0, inr r.1))
+
+pub in_output : (n o : ℕ) (rows : List (List OutStream)) (p : Placed) → IsAmong p (place_from n o rows)
+    → (j : ℕ) × (p.output ≡ o + j) × (row : List OutStream) × (slice_get rows j ≡ Some row) × IsAmong p.what row
+in_output n o [] p i = absurd i
+in_output n o (row ∷ rows) p i = elim (among_either p (place_row n o 0 row) (place_from (n + length row) (o + 1) rows) i) [
+  | inl here ↦ (let r = in_row n o 0 row p here in let e = r.0 in (0, omega (arith, e), row, refl, r.1))
+  | inr behind ↦ (let r = in_output (n + length row) (o + 1) rows p behind in let e = r.1 in (suc r.0, omega (arith, e), r.2, r.3, r.4))
+]
+
+pub outs_count : (heads : List (List StreamHead)) (outs : List OutputJob) (rows : List (List OutStream)) → AreOuts heads outs rows → length outs ≡ length rows
 outs_count heads [] [] are = refl
-outs_count heads [] (s ∷ ss) are = absurd are
+outs_count heads [] (row ∷ rows) are = absurd are
 outs_count heads (out ∷ outs) [] are = absurd are
-outs_count heads (out ∷ outs) (s ∷ ss) are = ap suc (outs_count heads outs ss are.1)
+outs_count heads (out ∷ outs) (row ∷ rows) are = ap suc (outs_count heads outs rows are.1)
 
-pub out_at : (heads : List (List StreamHead)) (outs : List OutputJob) (ss : List OutStream) (i : ℕ) (s : OutStream) → AreOuts heads outs ss → slice_get ss i ≡ Some s
-    → (out : OutputJob) × (slice_get outs i ≡ Some out) × IsOut heads out s
-out_at heads [] [] i s are at = absurd (nothing s at)
-out_at heads [] (t ∷ ss) i s are at = absurd are
-out_at heads (out ∷ outs) [] i s are at = absurd are
-out_at heads (out ∷ outs) (t ∷ ss) zero s are at = (out, refl, subst (λ (x : OutStream). IsOut heads out x) (same_some t s at) are.0)
-out_at heads (out ∷ outs) (t ∷ ss) (suc i) s are at = out_at heads outs ss i s are.1 at
+pub out_at : (heads : List (List StreamHead)) (outs : List OutputJob) (rows : List (List OutStream)) (i : ℕ) (row : List OutStream) → AreOuts heads outs rows → slice_get rows i ≡ Some row
+    → (out : OutputJob) × (slice_get outs i ≡ Some out) × IsRow heads out row
+out_at heads [] [] i row are at = absurd (nothing row at)
+out_at heads [] (r ∷ rows) i row are at = absurd are
+out_at heads (out ∷ outs) [] i row are at = absurd are
+out_at heads (out ∷ outs) (r ∷ rows) zero row are at = (out, refl, subst (λ (x : List OutStream). IsRow heads out x) (same_some r row at) are.0)
+out_at heads (out ∷ outs) (r ∷ rows) (suc i) row are at = out_at heads outs rows i row are.1 at
+
+-- each stream of an output is taken by it
+pub each_out : (heads : List (List StreamHead)) (out : OutputJob) (row : List OutStream) (s : OutStream) → AllByRecursion (IsOut heads out) row → IsAmong s row → IsOut heads out s
+each_out heads out [] s all i = absurd i
+each_out heads out (x ∷ xs) s all (inl e) = subst (λ (y : OutStream). IsOut heads out y) e all.0
+each_out heads out (x ∷ xs) s all (inr i) = each_out heads out xs s all.1 i
+
+-- ---- what the places of one output give
+
+-- by a test that passes just for the places of output o
+module _ {B : Type 0} (q : Placed → Bool) (f : OutStream → B) (o : ℕ) (own : (p : Placed) → p.output ≡ o → q p ≡ true) (other : (p : Placed) → (p.output ≡ o → ⊥) → q p ≡ false) where
+  abbrev given : List Placed → List B
+  given ps = map (λ (p : Placed). f p.what) (filter q ps)
+
+  all_given : (n t : ℕ) (ss : List OutStream) → given (place_row n o t ss) ≡ map f ss
+  all_given n t [] = refl
+  all_given n t (s ∷ ss) =
+      let here : Placed = record { number = n; output = o; stream = t; what = s } in
+      ap (λ (b : Bool). map (λ (p : Placed). f p.what) (cond b (here ∷ filter q (place_row (n + 1) o (t + 1) ss)) (filter q (place_row (n + 1) o (t + 1) ss)))) (own here refl)
+      ∙ ap (λ (l : List B). f s ∷ l) (all_given (n + 1) (t + 1) ss)
+
+  none_given : (ps : List Placed) → ((p : Placed) → IsAmong p ps → p.output ≡ o → ⊥) → given ps ≡ []
+  none_given [] apart = refl
+  none_given (p ∷ ps) apart =
+      ap (λ (b : Bool). map (λ (p : Placed). f p.what) (cond b (p ∷ filter q ps) (filter q ps))) (other p (apart p (inl refl)))
+      ∙ none_given ps (λ r i. apart r (inr i))
+
+  joined_given : (xs ys : List Placed) → given (xs ++ ys) ≡ given xs ++ given ys
+  joined_given xs ys = ap (λ (l : List Placed). map (λ (p : Placed). f p.what) l) (filter-append q xs ys) ∙ map-append (λ (p : Placed). f p.what) (filter q xs) (filter q ys)
+
+  -- in their order
+  pub given_by_output : (n m j : ℕ) (rows : List (List OutStream)) (row : List OutStream) → o ≡ m + j → slice_get rows j ≡ Some row → given (place_from n m rows) ≡ map f row
+  given_by_output n m j [] row e at = absurd (nothing row at)
+  given_by_output n m zero (r ∷ rows) row e at =
+      let m_is : m ≡ o = omega (arith, e) in
+      joined_given (place_row n m 0 r) (place_from (n + length r) (m + 1) rows)
+      ∙ (ap (λ (l : List B). l ++ given (place_from (n + length r) (m + 1) rows)) (ap (λ (k : ℕ). given (place_row n k 0 r)) m_is ∙ all_given n 0 r)
+      ∙ (ap (λ (l : List B). map f r ++ l)
+      (none_given (place_from (n + length r) (m + 1) rows) (λ p i is. (let x = in_output (n + length r) (m + 1) rows p i in let y = x.1 in omega (arith, y, is, m_is))))
+      ∙ (append-nil (map f r) ∙ ap (λ (l : List OutStream). map f l) (same_some r row at))))
+  given_by_output n m (suc j) (r ∷ rows) row e at =
+      joined_given (place_row n m 0 r) (place_from (n + length r) (m + 1) rows)
+      ∙ (ap (λ (l : List B). l ++ given (place_from (n + length r) (m + 1) rows))
+      (none_given (place_row n m 0 r) (λ p i is. (let x = (in_row n m 0 r p i).0 in omega (arith, x, is, e))))
+      ∙ given_by_output (n + length r) (m + 1) j rows row (omega (arith, e)) at)

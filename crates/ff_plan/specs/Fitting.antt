@@ -1,6 +1,6 @@
--- What stands at the ports of each node of a plan without graphs whose inputs and outputs have one stream each, and in which
--- order the nodes stand.
-use Rattle.std.specs.Prelude.{◌≡◌, ℕ, ◌+◌, ◌-◌, ◌^◌, ◌<◌, ◌≤◌, true, List, [], ◌∷◌, length, replicate, slice_get, slice_index_or, Some}
+-- What stands at the ports of each node of a plan without graphs whose inputs have one stream each, and in which order the nodes
+-- stand.
+use Rattle.std.specs.Prelude.{◌≡◌, ℕ, ◌+◌, ◌-◌, ◌^◌, ◌<◌, ◌≤◌, true, List, [], ◌∷◌, length, map, replicate, slice_get, slice_index_or, Some}
 use Rattle.std.specs.List.{AllByRecursion}
 use Rattle.ff_edges.specs.declared.edge.Edge.{Edge}
 use Rattle.ff_edges.specs.Ports.{lanes_into, lanes_out_of}
@@ -13,6 +13,7 @@ use Rattle.ff_plan.specs.declared.planned.PlanNode.{PlanNode}
 use Rattle.ff_plan.specs.declared.planned.PlanNode.TheVariants as node
 use Rattle.ff_plan.specs.Choice.{head_at}
 use Rattle.ff_plan.specs.Streams.{packed_as, takes_head}
+use Rattle.ff_plan.specs.Today.{most_built}
 
 -- each input has one stream
 abbrev pub HasSingles : List (List StreamHead) → Type 0
@@ -49,10 +50,19 @@ pub record FitsEnc (heads : List (List StreamHead)) (outputs : List OutputJob) (
   pub ins : lanes_into edges k ≡ Frames taken.head ∷ []
   pub outs : lanes_out_of edges k ≡ Packets (packed_as taken.out taken.head) ∷ []
 
--- the packets of output o enter node k
+-- an output takes frames of this head, which is that of a stream of an input
+abbrev pub TakesFrames : List (List StreamHead) → OutputJob → StreamHead → Type 0
+TakesFrames heads out head = (at : StreamRef) × (head_at heads at ≡ Some head) × (takes_head out head ≡ true)
+
+-- the packets of the streams of output o enter node k, in their order: some, and no more than an output of the format can have
 pub record FitsMux (heads : List (List StreamHead)) (outputs : List OutputJob) (edges : List Edge) (k o : ℕ) : Type 0 where
-  pub taken : IsTaken heads outputs o
-  pub ins : lanes_into edges k ≡ Packets (packed_as taken.out taken.head) ∷ []
+  pub out : OutputJob
+  pub out_is : slice_get outputs o ≡ Some out
+  pub taken : List StreamHead
+  pub each : AllByRecursion (TakesFrames heads out) taken
+  pub some : 1 ≤ length taken
+  pub few : length taken ≤ most_built out.format
+  pub ins : lanes_into edges k ≡ map (λ head. Packets (packed_as out head)) taken
   pub outs : lanes_out_of edges k ≡ []
 
 -- what stands at the ports of node k, by its kind

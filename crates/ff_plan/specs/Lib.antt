@@ -9,6 +9,7 @@ pub mod Laws
 pub mod Layout
 pub mod NodeRows
 pub mod Nodes
+pub mod Numbers
 pub mod Order
 pub mod Pads
 pub mod Plain

@@ -4,6 +4,7 @@ use Rattle.std.specs.Prelude.{ℕ, ◌+◌, false, List, [], ◌∷◌, Option, 
 use Rattle.ff_values.specs.declared.config.ConfigError.TheVariants as config
 use Rattle.ff_values.specs.declared.head.StreamHead.{StreamHead}
 use Rattle.ff_lang.specs.declared.graph.Graph.{Graph}
+use Rattle.ff_words.specs.declared.job.FileFormat.{FileFormat}
 use Rattle.ff_words.specs.declared.job.Job.{Job}
 use Rattle.ff_words.specs.declared.job.OutputJob.{OutputJob}
 use Rattle.ff_plan.specs.declared.planned.Plan.{Plan}
@@ -33,7 +34,11 @@ unbuilt_from o (out ∷ outs) = or_else (unbuilt_in o out) (unbuilt_from (o + 1)
 abbrev pub unbuilt : Job → Option PlanError
 unbuilt job = or_else (unbuilt_complex job.graphs) (unbuilt_from 0 job.outputs)
 
--- no filter is built, no stream passes through one, no output has a Shortest node, and each has one stream
+-- how many streams an output of a format can have
+abbrev pub most_built : FileFormat → ℕ
+most_built f = 1
+
+-- no filter is built, no stream passes through one, no output has a Shortest node, and each has so many streams
 abbrev pub no_filters : Rules
 no_filters = record {
   map_of = λ text. None;
@@ -43,7 +48,7 @@ no_filters = record {
   configured = λ g hs. Err (record { filter = 0; kind = config.UnknownFilter });
   nulls = false;
   joint = false;
-  most = λ f. 1;
+  most = most_built;
 }
 
 abbrev pub planned_today : Job → List (List StreamHead) → Planned Plan

@@ -3,6 +3,7 @@ ghost use Rattle.std.specs.List.{AllByRecursion};
 ghost use Rattle.ff_map.specs.Choice.{lists};
 ghost use Rattle.ff_plan.specs.Fitting.{HasSingles, HasKinds, FitNodes};
 ghost use Rattle.ff_plan.specs.Laws.{GoUpward};
+ghost use Rattle.ff_plan.specs.Numbers.{HasFewStreams};
 ghost use Rattle.ff_plan.specs.Plain.{plain_plan, IsRefused, IsSmall, IsWithinLimits};
 ghost use Rattle.ff_edges.specs.Ports.{shape_of, IsFed, HasIns, HasOuts};
 ghost use Rattle.ff_sched.specs.Routes.{AreRoutes};
@@ -142,6 +143,7 @@ pub fn plan(alloc: Global, job: &Job, heads: &[Vec<StreamHead>]) -> Result<Plan,
     ensures routes { IfOk result (λ p. AreRoutes p.routes) }
     ensures sources { IfOk result (λ p. p.routes.sources ≡ length heads.now) }
     ensures kinds { IfOk result (λ p. HasKinds (length heads.now) (length job.now.outputs) p.nodes) }
+    ensures numbers { IfOk result (HasFewStreams (length job.now.outputs)) }
     ensures fit { IfOk result (λ p. HasSingles (lists heads.now) → FitNodes (lists heads.now) job.now.outputs p) }
 {
     is_built(job)?;

@@ -4,7 +4,7 @@ ghost use Rattle.ff_plan.specs.Choice.{kind_of as kind_in};
 ghost use Rattle.ff_plan.specs.Streams.{takes_kind as kind_taken, audio_codec as codec_of_sound, codec_or, packed_bits as bits_packed, packed_as as head_packed};
 ghost use Rattle.ff_plan.specs.Streams.{is_pcm as of_pcm, takes_sound as sound_taken, takes_head as head_taken};
 ghost use Rattle.ff_plan.specs.Streams.{drops as is_dropped, simple_of, is_graph, is_pad as shows_pad, takes as is_taken, is_wanted};
-ghost use Rattle.ff_plan.specs.Today.{no_filters};
+ghost use Rattle.ff_plan.specs.Today.{most_built, no_filters};
 
 use crate::layout::{InPad, Origin};
 use ff_map::Kind;
@@ -157,8 +157,15 @@ fn takes_head(out: &OutputJob, head: StreamHead) -> bool
     }
 }
 
-// How many streams an output may have.
-const MOST: usize = 1;
+// How many streams an output of a format can have.
+fn most_streams(format: FileFormat) -> usize
+    ensures { result ≡ most_built format }
+{
+    match format {
+        FileFormat::FrameHash => 1,
+        FileFormat::Wav | FileFormat::Flac | FileFormat::Y4m => 1,
+    }
+}
 
 // Whether an output has a simple graph for a kind.
 fn has_graph(out: &OutputJob, kind: Kind) -> bool
@@ -184,5 +191,5 @@ pub(crate) fn takes(out: &OutputJob, n: usize, pad: InPad) -> bool
     ensures { result ≡ is_taken no_filters out.now n pad }
 {
     let filtered_twice = is_pad(pad.source) && has_graph(out, kind_of(pad.head));
-    takes_head(out, pad.head) && n < MOST && !filtered_twice
+    takes_head(out, pad.head) && n < most_streams(out.format) && !filtered_twice
 }

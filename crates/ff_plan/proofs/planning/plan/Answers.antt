@@ -12,7 +12,7 @@ use Rattle.ff_plan.specs.Layout.{place_from}
 use Rattle.ff_plan.specs.Plain.{rows, IsBare, IsSmall}
 use Rattle.ff_plan.proofs.Layouts.{map_length}
 use Rattle.ff_plan.proofs.Limits.{all_imply, few_in_lists, below_word, lists_length, small_places}
-use Rattle.ff_plan.proofs.Plans.{ins_by, outs_by, fit_by, kinds_by, routes_by, sources_by}
+use Rattle.ff_plan.proofs.Plans.{few_by, ins_by, outs_by, fit_by, kinds_by, routes_by, sources_by}
 use Rattle.ff_plan.proofs.Today.{outputs_are_bare, made_by, too_large_by, upward_by, fed_by}
 use Rattle.ff_plan.proofs.planning.plan.Goals as goal
 
@@ -80,3 +80,6 @@ returns-clause-routes c = routes_by c.args.job.now (lists c.args.heads.now) c.in
 
 pub returns-clause-sources : goal.returns-clause-sources
 returns-clause-sources c = sources_by c.args.job.now (lists c.args.heads.now) c.in_ok-is_built.ensures.all c.in_ok-plan.plan (returns-clause-made c) ∙ lists_length c.args.heads.now
+
+pub returns-clause-numbers : goal.returns-clause-numbers
+returns-clause-numbers c = few_by c.args.job.now (lists c.args.heads.now) c.in_ok-is_built.ensures.all c.in_ok-plan.plan (returns-clause-made c)
