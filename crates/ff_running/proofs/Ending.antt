@@ -1,6 +1,7 @@
 -- The clauses of a run that was done, and of one that was not begun.
-use Rattle.std.proofs.Common.{◌≡◌, inl, ℕ, ◌<◌, true, Bool, List, [], length, slice_get, Option, Some, refl, sym, ◌∙◌, subst, arith}
-use Rattle.ff_frame.specs.Stream.{LiesBelow, opened}
+use Rattle.std.proofs.Common.{◌≡◌, inl, ℕ, ◌<◌, true, Bool, List, [], length, map, slice_get, Option, Some, refl, sym, ◌∙◌, subst, arith}
+use Rattle.ff_frame.specs.Stream.{opened}
+use Rattle.ff_frame.specs.Ports.{AllBelow}
 use Rattle.ff_values.specs.declared.head.StreamHead.{StreamHead}
 use Rattle.ff_words.specs.declared.job.Job.{Job}
 use Rattle.ff_words.specs.declared.job.OutputJob.{OutputJob}
@@ -102,7 +103,7 @@ module _ {H S K M : Type 0} (is : KindsOf H) (left named : S → Option (List �
       (outcome.holds_file is left named failed holds called faulted view job.outputs heads plan.edges plan.nodes srcs snks claims done.olds done.news done.src_places done.snk_places done.fault srcs' snks' order done.run done.back
       bytes (vouched bytes told) told for.fitting (muxes bytes) (outcome.fine_only (length heads) plan.nodes done.fault (sym done.end_is ∙ fine)))
 
-  pub all_parts : ((out : OutputJob) (coded : StreamHead) (held : Option (List ℕ)) (r s : Flow) → LiesBelow (opened r) s → HoldsPart held (is.text out coded r) (is.file out coded r) → HoldsPart held (is.text out coded s) (is.file out coded s))
+  pub all_parts : ((out : OutputJob) (coded : List StreamHead) (held : Option (List ℕ)) (rs ss : List Flow) → AllBelow (map opened rs) ss → HoldsPart held (is.text out coded rs) (is.file out coded rs) → HoldsPart held (is.text out coded ss) (is.file out coded ss))
       → (bytes : List (List ℕ)) → AreTold left holds srcs snks bytes → HoldParts holds ((means is job).text heads bytes) ((means is job).file heads bytes) snks'
   all_parts holds_on bytes told =
       subst (λ (p : Planned Plan). HoldParts holds (λ o. text_of is job p heads bytes o) (λ o. file_of is job p heads bytes o) snks') (sym for.made)

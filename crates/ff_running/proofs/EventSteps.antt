@@ -1,9 +1,12 @@
--- Events of one output or input, among those that all nodes of a plan have to tell.
-use Rattle.std.proofs.Common.{◌≡◌, ◌≢◌, inl, inr, ℕ, ◌<◌, Bool, true, false, cond, List, [], ◌∷◌, filter, length, slice_get, slice_index_or, Option, None, Some, refl, ap, ◌∙◌, arith}
+-- Events of one output stream or input, among those that all nodes of a plan have to tell.
+use Rattle.std.proofs.Common.{◌≡◌, ◌≢◌, ◌⊎◌, inl, inr, ℕ, ◌+◌, ◌-◌, ◌<◌, ◌≤◌, Bool, true, false, cond, List, [], ◌∷◌, filter, length, slice_get, slice_index_or, Option, None, Some, refl, ap, ◌∙◌, arith}
 use Rattle.std.specs.Prelude.{All, nat_eq}
 use Rattle.std.proofs.lemmas.Bool.Decides.{nat_tests}
 use Rattle.std.proofs.lemmas.Bool.{cases_lt}
+use Rattle.std.proofs.lemmas.List.{length-map}
 use Rattle.std.proofs.lemmas.List.Elements.{All-head, All-tail}
+use Rattle.ff_frame.specs.declared.item.Lane.{Lane}
+use Rattle.ff_frame.specs.Lanes.{head_of}
 use Rattle.ff_values.specs.declared.head.StreamHead.{StreamHead}
 use Rattle.ff_values.specs.declared.event.Event.{Event}
 use Rattle.ff_values.specs.declared.event.Event.TheVariants.{Grant, Sent, Finished, Best, Exited}
@@ -13,10 +16,12 @@ use Rattle.ff_words.specs.declared.job.OutputJob.{OutputJob}
 use Rattle.ff_net.specs.Pasts.{Feed}
 use Rattle.ff_plan.specs.declared.planned.PlanNode.{PlanNode}
 use Rattle.ff_plan.specs.declared.planned.PlanNode.TheVariants as node
-use Rattle.ff_running.specs.Kinds.{KindsOf}
+use Rattle.ff_running.specs.Kinds.{KindsOf, is_of_stream}
 use Rattle.ff_running.specs.Meaning.{task_by}
-use Rattle.ff_running.specs.Tasks.{first_head, demux_by, dec_by, enc_by, mux_by}
-use Rattle.ff_running.specs.Events.{is_of_output, is_exit_of, TellOfThemselves, PlansTellAlone}
+use Rattle.ff_running.specs.Tasks.{first_at, first_head, heads_on, demux_by, dec_by, enc_by, mux_by}
+use Rattle.ff_running.specs.Events.{is_among, is_of_streams, is_exit_of, TellOfThemselves, PlansTellAlone}
+use Rattle.ff_running.specs.Parts.{AreOrdered}
+use Rattle.ff_running.proofs.StreamNumbers.{numbers_apart}
 
 -- ---- kinds of events
 
@@ -29,33 +34,43 @@ itself o j e = grind (arith, nat_tests)
 other_number : (j o o' : ℕ) → o' ≢ o → nat_eq j o' ≡ true → nat_eq j o ≡ false
 other_number j o o' other e = let same = same_number j o' e in grind (arith, nat_tests)
 
--- an event of one output is none of another
-other_output : (o o' : ℕ) → o' ≢ o → (e : Event) → is_of_output o' e ≡ true → is_of_output o e ≡ false
-other_output o o' other (Grant s) is = refl
-other_output o o' other (Sent j t) is = other_number j o o' other is
-other_output o o' other (Finished j) is = other_number j o o' other is
-other_output o o' other (Best g i) is = refl
-other_output o o' other (Exited s) is = refl
+-- none of so many numbers
+abbrev IsOutside : ℕ → ℕ → ℕ → Type 0
+IsOutside n first count = (n < first) ⊎ (first + count ≤ n)
 
-no_exit : (i o : ℕ) (e : Event) → is_of_output o e ≡ true → is_exit_of i e ≡ false
-no_exit i o (Grant s) is = refl
-no_exit i o (Sent j t) is = refl
-no_exit i o (Finished j) is = refl
-no_exit i o (Best g k) is = refl
-no_exit i o (Exited s) is = absurd cc
+among_first : (first count j : ℕ) → is_among first count j ≡ true → first ≤ j
+among_first first count j e = grind (arith, nat_tests)
+
+among_last : (first count j : ℕ) → is_among first count j ≡ true → j < first + count
+among_last first count j e = grind (arith, nat_tests)
+
+not_outside : (n first count j : ℕ) → IsOutside n first count → is_among first count j ≡ true → j ≡ n → ⊥
+not_outside n first count j (inl lt) e same = (let le = among_first first count j e in omega (arith, lt, le, same))
+not_outside n first count j (inr le) e same = (let lt = among_last first count j e in omega (arith, lt, le, same))
+
+outside_number : (n first count j : ℕ) → IsOutside n first count → is_among first count j ≡ true → nat_eq j n ≡ false
+outside_number n first count j out e = other_number j n j (λ same. not_outside n first count j out e same) (itself j j refl)
+
+-- an event of some streams is none of another
+other_stream : (n first count : ℕ) → IsOutside n first count → (e : Event) → is_of_streams first count e ≡ true → is_of_stream n e ≡ false
+other_stream n first count out (Grant s) is = refl
+other_stream n first count out (Sent j t) is = outside_number n first count j out is
+other_stream n first count out (Finished j) is = outside_number n first count j out is
+other_stream n first count out (Best g i) is = refl
+other_stream n first count out (Exited s) is = refl
+
+no_exit : (i first count : ℕ) (e : Event) → is_of_streams first count e ≡ true → is_exit_of i e ≡ false
+no_exit i first count (Grant s) is = refl
+no_exit i first count (Sent j t) is = refl
+no_exit i first count (Finished j) is = refl
+no_exit i first count (Best g k) is = refl
+no_exit i first count (Exited s) is = absurd cc
 
 none_kept : (kind own : Event → Bool) → ((e : Event) → own e ≡ true → kind e ≡ false) → (es : List Event) → All (λ e. own e ≡ true) es → filter kind es ≡ []
 none_kept kind own apart [] all = refl
 none_kept kind own apart (e ∷ es) all =
     ap (λ (b : Bool). cond b (e ∷ filter kind es) (filter kind es)) (apart e (All-head (λ e. own e ≡ true) e es all))
     ∙ none_kept kind own apart es (All-tail (λ e. own e ≡ true) e es all)
-
--- and of those of its own kind all stay
-pub all_kept : (kind : Event → Bool) (es : List Event) → All (λ e. kind e ≡ true) es → filter kind es ≡ es
-all_kept kind [] all = refl
-all_kept kind (e ∷ es) all =
-    ap (λ (b : Bool). cond b (e ∷ filter kind es) (filter kind es)) (All-head (λ e. kind e ≡ true) e es all)
-    ∙ ap (λ (xs : List Event). e ∷ xs) (all_kept kind es (All-tail (λ e. kind e ≡ true) e es all))
 
 -- ---- nodes
 
@@ -77,24 +92,24 @@ module _ {H : Type 0} (is : KindsOf H) (own : TellOfThemselves is) (outputs : Li
   enc_none kind (Some head) None = refl
   enc_none kind (Some head) (Some coded) = ap (filter kind) (own.encoder head coded feeds)
 
-  mux_none : (kind : Event → Bool) (o : ℕ) → ((e : Event) → is_of_output o e ≡ true → kind e ≡ false) → (out : Option OutputJob) (coded : Option StreamHead)
-      → filter kind ((mux_by is o out coded).tells feeds) ≡ []
-  mux_none kind o apart None coded = refl
-  mux_none kind o apart (Some out) None = refl
-  mux_none kind o apart (Some out) (Some coded) =
-      none_kept kind (is_of_output o) apart ((is.mux_task o out coded).tells feeds) (own.muxer o out coded feeds)
+  mux_none : (kind : Event → Bool) (first : ℕ) (out : Option OutputJob) (coded : List StreamHead) → ((e : Event) → is_of_streams first (length coded) e ≡ true → kind e ≡ false)
+      → filter kind ((mux_by is first out coded).tells feeds) ≡ []
+  mux_none kind first None coded apart = refl
+  mux_none kind first (Some out) coded apart =
+      none_kept kind (is_of_streams first (length coded)) apart ((is.mux_task first out coded).tells feeds) (own.muxer first out coded feeds)
 
-  -- another node tells nothing of an output
-  none_of_output : (o j : ℕ) (n : Option PlanNode) → n ≢ Some (node.Mux o)
-      → filter (is_of_output o) ((task_by is outputs heads bytes nodes edges n j).tells feeds) ≡ []
-  none_of_output o j None other = refl
-  none_of_output o j (Some (node.Demux i)) other = demux_none (is_of_output o) i refl (slice_get heads i) (slice_index_or bytes i [])
-  none_of_output o j (Some (node.Dec at)) other = dec_none (is_of_output o) (first_head (lanes_into edges j)) (length (lanes_out_of edges j))
-  none_of_output o j (Some (node.Graph g)) other = refl
-  none_of_output o j (Some (node.Shortest p)) other = refl
-  none_of_output o j (Some (node.Enc p q)) other = enc_none (is_of_output o) (first_head (lanes_into edges j)) (first_head (lanes_out_of edges j))
-  none_of_output o j (Some (node.Mux p)) other =
-      mux_none (is_of_output o) p (other_output o p (λ e. other (ap (λ (m : ℕ). Some (node.Mux m)) e))) (slice_get outputs p) (first_head (lanes_into edges j))
+  -- a node that has no such stream tells nothing of it
+  none_of_stream : (t j : ℕ) (n : Option PlanNode) → ((o : ℕ) → n ≡ Some (node.Mux o) → IsOutside t (first_at outputs nodes edges j) (length (heads_on (lanes_into edges j))))
+      → filter (is_of_stream t) ((task_by is outputs heads bytes nodes edges n j).tells feeds) ≡ []
+  none_of_stream t j None other = refl
+  none_of_stream t j (Some (node.Demux i)) other = demux_none (is_of_stream t) i refl (slice_get heads i) (slice_index_or bytes i [])
+  none_of_stream t j (Some (node.Dec at)) other = dec_none (is_of_stream t) (first_head (lanes_into edges j)) (length (lanes_out_of edges j))
+  none_of_stream t j (Some (node.Graph g)) other = refl
+  none_of_stream t j (Some (node.Shortest p)) other = refl
+  none_of_stream t j (Some (node.Enc p q)) other = enc_none (is_of_stream t) (first_head (lanes_into edges j)) (first_head (lanes_out_of edges j))
+  none_of_stream t j (Some (node.Mux p)) other =
+      mux_none (is_of_stream t) (first_at outputs nodes edges j) (slice_get outputs p) (heads_on (lanes_into edges j))
+      (other_stream t (first_at outputs nodes edges j) (length (heads_on (lanes_into edges j))) (other p refl))
 
   -- nor that an input has exited
   none_of_input : (i j : ℕ) (n : Option PlanNode) → n ≢ Some (node.Demux i)
@@ -106,7 +121,8 @@ module _ {H : Type 0} (is : KindsOf H) (own : TellOfThemselves is) (outputs : Li
   none_of_input i j (Some (node.Graph g)) other = refl
   none_of_input i j (Some (node.Shortest p)) other = refl
   none_of_input i j (Some (node.Enc p q)) other = enc_none (is_exit_of i) (first_head (lanes_into edges j)) (first_head (lanes_out_of edges j))
-  none_of_input i j (Some (node.Mux p)) other = mux_none (is_exit_of i) p (no_exit i p) (slice_get outputs p) (first_head (lanes_into edges j))
+  none_of_input i j (Some (node.Mux p)) other =
+      mux_none (is_exit_of i) (first_at outputs nodes edges j) (slice_get outputs p) (heads_on (lanes_into edges j)) (no_exit i (first_at outputs nodes edges j) (length (heads_on (lanes_into edges j))))
 
 -- ---- the numbers of a plan's nodes
 
@@ -124,12 +140,29 @@ one_place nodes n rising j k m at at' other = elim (cases_lt j k) [
   ]
 ]
 
+-- the streams at another Mux node have other numbers
+others_streams : (inputs : ℕ) (outputs : List OutputJob) (nodes : List PlanNode) (edges : List Edge) → AreOrdered inputs (length outputs) nodes → (j k p o t : ℕ)
+    → slice_get nodes j ≡ Some (node.Mux p) → slice_get nodes k ≡ Some (node.Mux o) → j ≢ k → t < length (lanes_into edges k)
+    → IsOutside (first_at outputs nodes edges k + t) (first_at outputs nodes edges j) (length (heads_on (lanes_into edges j)))
+others_streams inputs outputs nodes edges ordered j k p o t here there other lt =
+    let low = length nodes - length outputs in
+    let jp = ordered.muxes_at j p here in
+    let ko = ordered.muxes_at k o there in
+    let many : length (heads_on (lanes_into edges j)) ≡ length (lanes_into edges j) = length-map (lanes_into edges j) (λ (l : Lane). head_of l) in
+    elim (cases_lt j k) [
+      | inl before ↦ inr (let le = numbers_apart edges low j k (omega (arith, jp)) before in omega (arith, le, many))
+      | inr ge ↦ elim (cases_lt k j) [
+        | inl behind ↦ inl (let le = numbers_apart edges low k j (omega (arith, ko)) behind in omega (arith, le, lt))
+        | inr le ↦ absurd (other (omega (arith, ge, le)))
+      ]
+    ]
+
 pub plans_tell_alone : {H : Type 0} (is : KindsOf H) → TellOfThemselves is → PlansTellAlone is
-plans_tell_alone is own outputs heads bytes nodes edges i o ordered = record {
-  output = λ count k m at. record {
+plans_tell_alone is own outputs heads bytes nodes edges i ordered = record {
+  output = λ count k o t at lt. record {
     no_grant = λ s. refl;
-    no_other = λ j feeds lt other. none_of_output is own outputs heads bytes nodes edges feeds m j (slice_get nodes j)
-        (λ at'. one_place nodes node.Mux ordered.muxes_rise j k m at' at other);
+    no_other = λ j feeds ltj other. none_of_stream is own outputs heads bytes nodes edges feeds (first_at outputs nodes edges k + t) j (slice_get nodes j)
+        (λ p here. others_streams i outputs nodes edges ordered j k p o t here at other lt);
   };
   input = λ count k m at. record {
     no_grant = λ s. refl;

@@ -1,10 +1,10 @@
 -- The history of a run of a plan, from that of a run of its parts.
-use Rattle.std.proofs.Common.{◌≡◌, ℕ, zero, suc, ◌<◌, Bool, true, false, List, [], ◌∷◌, length, map, replicate, Option, Some, None, IfSome, IsSome, is_some, refl, sym, ap, ◌∙◌, subst}
+use Rattle.std.proofs.Common.{◌≡◌, ℕ, ◌<◌, Bool, true, false, List, [], ◌∷◌, length, map, replicate, Option, Some, None, IfSome, IsSome, is_some, refl, sym, ap, ◌∙◌, subst, slice_get, arith}
 use Rattle.ff_values.specs.declared.event.Event.{Event}
 use Rattle.ff_values.specs.declared.head.StreamHead.{StreamHead}
 use Rattle.ff_words.specs.declared.job.OutputJob.{OutputJob}
 use Rattle.ff_edges.specs.declared.edge.Edge.{Edge}
-use Rattle.ff_edges.specs.Ports.{lanes_into}
+use Rattle.ff_frame.specs.Ports.{stream_at}
 use Rattle.ff_net.specs.Views.{View}
 use Rattle.ff_net.specs.Ways.{Flow}
 use Rattle.ff_files.specs.declared.work.WorkEnd.{WorkEnd}
@@ -19,8 +19,7 @@ use Rattle.ff_running.specs.Openings.{is_unused, IsOpening, or_memory}
 use Rattle.ff_running.specs.declared.fault.RunFault.{RunFault}
 use Rattle.ff_running.specs.Kinds.{KindsOf}
 use Rattle.ff_running.specs.Histories.{state_at, state_before, TellsAll, IsHistoryOf}
-use Rattle.ff_running.specs.Meaning.{events_by, mux_node, stream_into}
-use Rattle.ff_running.specs.Tasks.{first_head}
+use Rattle.ff_running.specs.Meaning.{coded_in, events_by, mux_node, number_in, streams_into}
 
 -- lists mapped alike
 map_same : {A B : Type 0} (f g : A → B) (xs : List A) → ((x : A) → f x ≡ g x) → map f xs ≡ map g xs
@@ -85,10 +84,11 @@ history_for is left named failed holds called faulted view outputs outputs' head
 
 -- where each output stream has events, a history that has none isn't that of a plan with an output
 pub tells_some : {H : Type 0} (is : KindsOf H) (outputs : List OutputJob) (heads : List H) (bytes : List (List ℕ)) (nodes : List PlanNode) (edges : List Edge)
-    → ((o : ℕ) (coded : StreamHead) (s : Flow) → [] ≡ is.events o coded s → ⊥) → 0 < length outputs → TellsAll is outputs heads bytes nodes edges [] → ⊥
+    → ((n : ℕ) (coded : StreamHead) (s : Flow) → [] ≡ is.events n coded s → ⊥) → 0 < length outputs → TellsAll is outputs heads bytes nodes edges [] → ⊥
 tells_some is outputs heads bytes nodes edges some lt t =
-    by_head (first_head (lanes_into edges (mux_node is outputs heads bytes nodes edges 0))) (t.streams 0 lt)
+    by_head (number_in is outputs heads bytes nodes edges 0 0) (stream_at (streams_into is outputs heads bytes nodes edges (mux_node is outputs heads bytes nodes edges 0)) 0)
+    (slice_get (coded_in is outputs heads bytes nodes edges 0) 0) (t.streams 0 0 lt (let one = t.some 0 lt in omega (arith, one)))
   where
-    by_head : (head : Option StreamHead) → [] ≡ events_by is outputs heads bytes nodes edges 0 head (stream_into is outputs heads bytes nodes edges (mux_node is outputs heads bytes nodes edges 0)) → ⊥
-    by_head None e = cc
-    by_head (Some coded) e = some 0 coded (stream_into is outputs heads bytes nodes edges (mux_node is outputs heads bytes nodes edges 0)) e
+    by_head : (n : ℕ) (s : Flow) (head : Option StreamHead) → [] ≡ events_by is outputs heads bytes nodes edges n head s → ⊥
+    by_head n s None e = cc
+    by_head n s (Some coded) e = some n coded s e

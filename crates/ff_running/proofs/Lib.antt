@@ -12,6 +12,7 @@ pub mod Numbers
 pub mod Outcomes
 pub mod Places
 pub mod Running
+pub mod StreamNumbers
 pub mod Planning
 pub mod Plans
 pub mod Tally

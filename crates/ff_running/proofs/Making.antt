@@ -1,5 +1,5 @@
 -- A part that was made, as the part of its node.
-use Rattle.std.proofs.Common.{◌≡◌, ℕ, List, [], ◌∷◌, slice_get, slice_index_or, get_or, Option, Some, None, IfSome, sym, ap, ◌∙◌, subst}
+use Rattle.std.proofs.Common.{◌≡◌, ℕ, List, [], map, slice_get, slice_index_or, Option, Some, None, IfSome, sym, ap, ◌∙◌, subst}
 use Rattle.std.proofs.lemmas.Option.{slice_get_within, get_or_from_slice_get}
 use Rattle.ff_values.specs.declared.head.StreamHead.{StreamHead}
 use Rattle.ff_frame.specs.declared.item.Lane.{Lane}
@@ -9,23 +9,20 @@ use Rattle.ff_net.specs.Pasts.{start}
 use Rattle.ff_net.specs.Views.{View}
 use Rattle.ff_plan.specs.declared.planned.PlanNode.TheVariants as node
 use Rattle.ff_running.specs.Kinds.{KindsOf, IsNew}
-use Rattle.ff_running.specs.Tasks.{first_head, demux_by, mux_by}
+use Rattle.ff_running.specs.Tasks.{heads_on, demux_by, mux_by}
 use Rattle.ff_running.specs.Parts.{FitsDemux, FitsMux, IsPart}
 use Rattle.ff_running.proofs.Numbers.{same_some}
+use Rattle.ff_running.proofs.StreamNumbers.{coded_is}
 
 pub if_both : {A : Type 0} (P Q R : A → Type 0) (o : Option A) → IfSome o P → IfSome o Q → ((x : A) → P x → Q x → R x) → IfSome o R
 if_both P Q R None p q f = tt
 if_both P Q R (Some x) p q f = f x p q
 
--- the first of one
-pub first_is : {A : Type 0} (xs : List A) (x d : A) → xs ≡ x ∷ [] → get_or xs 0 d ≡ x
-first_is {A} xs x d e = ap (λ (ys : List A). get_or ys 0 d) e
-
 module _ {H S K : Type 0} (is : KindsOf H) (left named : S → Option (List ℕ)) (failed : S → ℕ) (holds called : K → Option (List ℕ)) (faulted : K → ℕ)
-    (outputs : List OutputJob) (heads : List H) (srcs : List S) (snks : List K) (ins outs : List Lane) (v : View) where
+    (outputs : List OutputJob) (heads : List H) (srcs : List S) (snks : List K) (first : ℕ) (ins outs : List Lane) (v : View) where
   pub demux_part : (i : ℕ) (fits : FitsDemux is heads ins outs i) (src : S) → slice_get srcs i ≡ Some src → IsNew (Some i) ins outs (named src) (failed src) v
       → ((head : H) → slice_get heads i ≡ Some head → (bytes : List ℕ) → left src ≡ Some bytes → v.stands (start (is.demux_task i head bytes)))
-      → IsPart is left named failed holds called faulted outputs heads srcs snks ins outs (node.Demux i) v
+      → IsPart is left named failed holds called faulted outputs heads srcs snks first ins outs (node.Demux i) v
   demux_part i fits src at new starts = record {
     source_is = new.source_is;
     in_lanes = new.in_lanes;
@@ -41,12 +38,12 @@ module _ {H S K : Type 0} (is : KindsOf H) (left named : S → Option (List ℕ)
         subst (λ (h : Option H). v.stands (start (demux_by is i h (slice_index_or bytes i [])))) (sym fits.there) (starts fits.head fits.there (slice_index_or bytes i []) tells);
   }
 
-  pub mux_part : (o : ℕ) (fits : FitsMux is outputs ins outs o) (coded : StreamHead) → coded ≡ fits.coded → (snk : K) → slice_get snks o ≡ Some snk → IsNew None (Packets coded ∷ []) [] (called snk) (faulted snk) v
-      → ((out : OutputJob) → slice_get outputs o ≡ Some out → holds snk ≡ Some [] → v.stands (start (is.mux_task o out coded)))
-      → IsPart is left named failed holds called faulted outputs heads srcs snks ins outs (node.Mux o) v
+  pub mux_part : (o : ℕ) (fits : FitsMux is outputs ins outs o) (coded : List StreamHead) → coded ≡ fits.coded → (snk : K) → slice_get snks o ≡ Some snk → IsNew None (map (λ (head : StreamHead). Packets head) coded) [] (called snk) (faulted snk) v
+      → ((out : OutputJob) → slice_get outputs o ≡ Some out → holds snk ≡ Some [] → v.stands (start (is.mux_task first out coded)))
+      → IsPart is left named failed holds called faulted outputs heads srcs snks first ins outs (node.Mux o) v
   mux_part o fits coded e snk at new starts = record {
     source_is = new.source_is;
-    in_lanes = new.in_lanes ∙ (ap (λ (h : StreamHead). Packets h ∷ []) e ∙ sym fits.ins_are);
+    in_lanes = new.in_lanes ∙ (ap (λ (hs : List StreamHead). map (λ (head : StreamHead). Packets head) hs) e ∙ sym fits.ins_are);
     out_lanes = new.out_lanes ∙ sym fits.outs_are;
     sound = new.sound;
     source = λ i s e. absurd cc;
@@ -56,9 +53,9 @@ module _ {H S K : Type 0} (is : KindsOf H) (left named : S → Option (List ℕ)
         (new.device_is ∙ ap called is_snk, new.failures_are ∙ ap faulted is_snk);
     starts = λ bytes told.
         let tells : holds snk ≡ Some [] = ap holds (sym (get_or_from_slice_get snks o snk snk at)) ∙ told.empty o snk (slice_get_within snks o snk at) in
-        let first : first_head ins ≡ Some coded = ap first_head fits.ins_are ∙ ap (λ (h : StreamHead). Some h) (sym e) in
-        subst (λ (h : Option StreamHead). v.stands (start (mux_by is o (slice_get outputs o) h))) (sym first)
-        (subst (λ (x : Option OutputJob). v.stands (start (mux_by is o x (Some coded)))) (sym fits.there) (starts fits.out fits.there tells));
+        let own : heads_on ins ≡ coded = coded_is ins fits.coded fits.ins_are ∙ sym e in
+        subst (λ (hs : List StreamHead). v.stands (start (mux_by is first (slice_get outputs o) hs))) (sym own)
+        (subst (λ (x : Option OutputJob). v.stands (start (mux_by is first x coded))) (sym fits.there) (starts fits.out fits.there tells));
   }
 
 pub if_more : {A : Type 0} (P R : A → Type 0) (o : Option A) → IfSome o P → ((x : A) → P x → R x) → IfSome o R

@@ -1,22 +1,18 @@
 -- What a run of a plan's parts comes to, for its sources and sinks.
-use Rattle.std.proofs.Common.{◌≡◌, ◌≢◌, ◌⊎◌, inl, inr, ℕ, zero, suc, ◌+◌, ◌<◌, ◌≤◌, true, Bool, List, [], ◌∷◌, length, map, slice_get, slice_index_or, Option, Some, None, IsSome, refl, sym, ap, ◌∙◌, subst, arith}
+use Rattle.std.proofs.Common.{◌≡◌, ◌≢◌, ◌⊎◌, inl, inr, ℕ, zero, suc, ◌+◌, ◌<◌, ◌≤◌, true, Bool, List, [], length, map, slice_get, slice_index_or, Option, Some, None, IsSome, refl, sym, ap, ◌∙◌, subst, arith}
 use Rattle.std.proofs.lemmas.Option.{slice_get_within, get_or_from_slice_get}
 use Rattle.ff_host.specs.Causes.{Rose}
 use Rattle.ff_values.specs.declared.head.StreamHead.{StreamHead}
-use Rattle.ff_frame.specs.declared.item.Lane.{Lane}
-use Rattle.ff_frame.specs.declared.item.Lane.TheVariants.{Packets}
-use Rattle.ff_frame.specs.Stream.{LiesBelow, opened}
-use Rattle.ff_frame.specs.Ports.{stream_at, IsWhole}
+use Rattle.ff_frame.specs.Stream.{opened}
+use Rattle.ff_frame.specs.Ports.{IsWhole, AllBelow}
 use Rattle.ff_words.specs.declared.job.OutputJob.{OutputJob}
 use Rattle.ff_edges.specs.declared.edge.Edge.{Edge}
-use Rattle.ff_edges.specs.Ports.{edge_to}
 use Rattle.ff_net.specs.declared.fault.Fault.{Fault}
 use Rattle.ff_net.specs.declared.fault.Fault.TheVariants.{Device, Damaged, TooLong, TooLarge, NoMemory}
 use Rattle.ff_net.specs.Laws.{IsOfInputs}
 use Rattle.ff_net.specs.Views.{View}
 use Rattle.ff_net.specs.Ways.{Flow}
 use Rattle.ff_network.specs.declared.run.NodeFault.{NodeFault}
-use Rattle.ff_network.proofs.Fitting.{count_ports}
 use Rattle.ff_plan.specs.declared.planned.PlanNode.{PlanNode}
 use Rattle.ff_plan.specs.declared.planned.PlanNode.TheVariants as node
 use Rattle.ff_files.specs.declared.work.WorkEnd.{WorkEnd}
@@ -24,15 +20,16 @@ use Rattle.ff_files.specs.declared.work.WorkEnd.TheVariants as work_end
 use Rattle.ff_files.specs.Works.{AreTold, HoldFiles, HoldParts, HoldsPart, KeepEnds, FailNoMore}
 use Rattle.ff_running.specs.declared.fault.RunFault.{RunFault}
 use Rattle.ff_running.specs.declared.fault.RunFault.TheVariants as run_fault
-use Rattle.ff_running.specs.Kinds.{KindsOf}
+use Rattle.ff_running.specs.Kinds.{KindsOf, first_streams}
 use Rattle.ff_edges.specs.Ports.{lanes_into, lanes_out_of}
-use Rattle.ff_running.specs.Tasks.{first_head, mux_by}
-use Rattle.ff_running.specs.Meaning.{edges_into, read_before, comes_after, task_by, task_at, solution, stream_into, mux_node, file_by, text_by, file_in, text_in, BreaksIn}
+use Rattle.ff_running.specs.Tasks.{first_at, heads_on, mux_by}
+use Rattle.ff_running.specs.Meaning.{edges_into, read_before, comes_after, task_by, task_at, solution, streams_into, mux_node, file_by, text_by, file_in, text_in, BreaksIn}
 use Rattle.ff_running.specs.Parts.{FitsMux, AreFitting, AreOrdered, AreBack}
 use Rattle.ff_running.specs.Runs.{AreRun, device_end, damaged_end, large_end, end_at, end_in, end_with}
 use Rattle.ff_running.proofs.Gathering.{mux_once}
 use Rattle.ff_running.proofs.Moves.{AreEnds, keep_ends, unfailed, has_risen}
 use Rattle.ff_running.proofs.Numbers.{there, same_some, ordered, demux_before, mux_before}
+use Rattle.ff_running.proofs.StreamNumbers.{coded_is, edge_count, same_streams, below_streams}
 
 -- only a run without a fault is fine
 fine_device : (n : PlanNode) → device_end n ≡ work_end.Fine → ⊥
@@ -299,32 +296,27 @@ module _ {H S K M : Type 0} (is : KindsOf H) (left named : S → Option (List �
   module _ (bytes : List (List ℕ)) (vouched : claims ≡ true) (told : AreTold left holds srcs snks bytes) (fitting : AreFitting is outputs heads edges nodes)
       (muxes : (o : ℕ) → o < length snks → slice_get nodes (mux_node is outputs heads bytes nodes edges o) ≡ Some (node.Mux o)) where
     -- a Mux node's task, and its output's file and text
-    mux_is : (k o : ℕ) → slice_get nodes k ≡ Some (node.Mux o) → (fits : FitsMux is outputs (lanes_into edges k) (lanes_out_of edges k) o) → task_at is outputs heads bytes nodes edges k ≡ is.mux_task o fits.out fits.coded
+    mux_is : (k o : ℕ) → slice_get nodes k ≡ Some (node.Mux o) → (fits : FitsMux is outputs (lanes_into edges k) (lanes_out_of edges k) o) → task_at is outputs heads bytes nodes edges k ≡ is.mux_task (first_at outputs nodes edges k) fits.out fits.coded
     mux_is k o at fits =
         ap (λ (n : Option PlanNode). task_by is outputs heads bytes nodes edges n k) at
-        ∙ (ap (λ (x : Option OutputJob). mux_by is o x (first_head (lanes_into edges k))) fits.there ∙ ap (λ (ls : List Lane). mux_by is o (Some fits.out) (first_head ls)) fits.ins_are)
+        ∙ (ap (λ (x : Option OutputJob). mux_by is (first_at outputs nodes edges k) x (heads_on (lanes_into edges k))) fits.there
+        ∙ ap (λ (hs : List StreamHead). mux_by is (first_at outputs nodes edges k) (Some fits.out) hs) (coded_is (lanes_into edges k) fits.coded fits.ins_are))
 
     file_is : (o : ℕ) (fits : FitsMux is outputs (lanes_into edges (mux_node is outputs heads bytes nodes edges o)) (lanes_out_of edges (mux_node is outputs heads bytes nodes edges o)) o)
-        → file_in is outputs heads bytes nodes edges o ≡ is.file fits.out fits.coded (stream_into is outputs heads bytes nodes edges (mux_node is outputs heads bytes nodes edges o))
+        → file_in is outputs heads bytes nodes edges o ≡ is.file fits.out fits.coded (streams_into is outputs heads bytes nodes edges (mux_node is outputs heads bytes nodes edges o))
     file_is o fits =
         let k = mux_node is outputs heads bytes nodes edges o in
-        let s = stream_into is outputs heads bytes nodes edges k in
-        ap (λ (x : Option OutputJob). file_by is outputs heads bytes nodes edges x (first_head (lanes_into edges k)) s) fits.there
-        ∙ ap (λ (ls : List Lane). file_by is outputs heads bytes nodes edges (Some fits.out) (first_head ls) s) fits.ins_are
+        let s = streams_into is outputs heads bytes nodes edges k in
+        ap (λ (x : Option OutputJob). file_by is outputs heads bytes nodes edges x (heads_on (lanes_into edges k)) s) fits.there
+        ∙ ap (λ (hs : List StreamHead). file_by is outputs heads bytes nodes edges (Some fits.out) hs s) (coded_is (lanes_into edges k) fits.coded fits.ins_are)
 
     text_is : (o : ℕ) (fits : FitsMux is outputs (lanes_into edges (mux_node is outputs heads bytes nodes edges o)) (lanes_out_of edges (mux_node is outputs heads bytes nodes edges o)) o)
-        → text_in is outputs heads bytes nodes edges o ≡ is.text fits.out fits.coded (stream_into is outputs heads bytes nodes edges (mux_node is outputs heads bytes nodes edges o))
+        → text_in is outputs heads bytes nodes edges o ≡ is.text fits.out fits.coded (streams_into is outputs heads bytes nodes edges (mux_node is outputs heads bytes nodes edges o))
     text_is o fits =
         let k = mux_node is outputs heads bytes nodes edges o in
-        let s = stream_into is outputs heads bytes nodes edges k in
-        ap (λ (x : Option OutputJob). text_by is outputs heads bytes nodes edges x (first_head (lanes_into edges k)) s) fits.there
-        ∙ ap (λ (ls : List Lane). text_by is outputs heads bytes nodes edges (Some fits.out) (first_head ls) s) fits.ins_are
-
-    one_edge : (k : ℕ) (l : Lane) → lanes_into edges k ≡ l ∷ [] → 0 < length (edges_into edges k)
-    one_edge k l e =
-        let count : length (edges_into edges k) ≡ length (lanes_into edges k) = count_ports (edge_to edges k) (length (lanes_into edges k)) in
-        let one : length (lanes_into edges k) ≡ 1 = ap length e in
-        omega (arith, count, one)
+        let s = streams_into is outputs heads bytes nodes edges k in
+        ap (λ (x : Option OutputJob). text_by is outputs heads bytes nodes edges x (heads_on (lanes_into edges k)) s) fits.there
+        ∙ ap (λ (hs : List StreamHead). text_by is outputs heads bytes nodes edges (Some fits.out) hs s) (coded_is (lanes_into edges k) fits.coded fits.ins_are)
 
     lt_snks : (o : ℕ) → o < length snks' → o < length snks
     lt_snks o lt = (let c = back.snk_count in omega (arith, lt, c))
@@ -342,16 +334,17 @@ module _ {H S K M : Type 0} (is : KindsOf H) (left named : S → Option (List �
         omega (arith, w, all, many)) in
         let sink = back.sinks k o m.0 at m.1 in
         let fed = (run.meets vouched bytes told).settled none k m.0 m.1 fits.outs_are in
-        let zero_lt = one_edge k (Packets fits.coded) fits.ins_are in
-        let got = fed.got 0 zero_lt in
-        let whole : IsWhole (stream_at fed.past.got 0) = subst (λ (s : Flow). IsWhole s) (sym got) (fed.whole 0 zero_lt) in
-        let held = sink.2.whole fed.past o fits.out fits.coded fed.fits (fed.task_is ∙ mux_is k o at fits) (run.tells.sound none k m.0 m.1) whole in
-        let same : is.file fits.out fits.coded (stream_at fed.past.got 0) ≡ file_in is outputs heads bytes nodes edges o = ap (is.file fits.out fits.coded) got ∙ sym (file_is o fits) in
+        let ws = edges_into edges k in
+        let many = edge_count edges k fits.coded fits.ins_are in
+        let got = same_streams fed.past.got (solution is outputs heads bytes nodes edges) (length fits.coded) ws many fed.got in
+        let held = sink.2.whole fed.past (first_at outputs nodes edges k) fits.out fits.coded fed.fits (fed.task_is ∙ mux_is k o at fits) (run.tells.sound none k m.0 m.1)
+        (λ p lt. let within : p < length ws = omega (arith, lt, many) in subst (λ (s : Flow). IsWhole s) (sym (fed.got p within)) (fed.whole p within)) in
+        let same : is.file fits.out fits.coded (first_streams (length fits.coded) fed.past.got) ≡ file_in is outputs heads bytes nodes edges o = ap (is.file fits.out fits.coded) got ∙ sym (file_is o fits) in
         let snk : slice_index_or snks' o d ≡ sink.0 = get_or_from_slice_get snks' o sink.0 d sink.1 in
         (subst (λ (x : Option (List ℕ)). IsSome x) same held.0, ap holds snk ∙ (held.1 ∙ same))
 
     -- and whatever the fault a front of its text, or its file
-    pub holds_part : ((out : OutputJob) (coded : StreamHead) (held : Option (List ℕ)) (r s : Flow) → LiesBelow (opened r) s → HoldsPart held (is.text out coded r) (is.file out coded r) → HoldsPart held (is.text out coded s) (is.file out coded s))
+    pub holds_part : ((out : OutputJob) (coded : List StreamHead) (held : Option (List ℕ)) (rs ss : List Flow) → AllBelow (map opened rs) ss → HoldsPart held (is.text out coded rs) (is.file out coded rs) → HoldsPart held (is.text out coded ss) (is.file out coded ss))
         → HoldParts holds (text_in is outputs heads bytes nodes edges) (file_in is outputs heads bytes nodes edges) snks'
     holds_part holds_on o d lt = elim (mux_before nodes (length news) o) [
       | inl b ↦
@@ -362,13 +355,14 @@ module _ {H S K M : Type 0} (is : KindsOf H) (left named : S → Option (List �
           let m = there news k (subst (λ (j : ℕ). j < length news) here b.1) in
           let sink = back.sinks k o m.0 at m.1 in
           let fed = (run.meets vouched bytes told).below k m.0 m.1 in
-          let lies = fed.got 0 (one_edge k (Packets fits.coded) fits.ins_are) in
-          let part = sink.2.part fed.past o fits.out fits.coded fed.fits (fed.task_is ∙ mux_is k o at fits) in
-          let more = holds_on fits.out fits.coded (holds sink.0) (stream_at fed.past.got 0) (stream_into is outputs heads bytes nodes edges k) lies part in
+          let ws = edges_into edges k in
+          let lies = below_streams fed.past.got (solution is outputs heads bytes nodes edges) (length fits.coded) ws (edge_count edges k fits.coded fits.ins_are) fed.got in
+          let part = sink.2.part fed.past (first_at outputs nodes edges k) fits.out fits.coded fed.fits (fed.task_is ∙ mux_is k o at fits) in
+          let more = holds_on fits.out fits.coded (holds sink.0) (first_streams (length fits.coded) fed.past.got) (streams_into is outputs heads bytes nodes edges k) lies part in
           let snk : slice_index_or snks' o d ≡ sink.0 = get_or_from_slice_get snks' o sink.0 d sink.1 in
           subst (λ (x : K). HoldsPart (holds x) (text_in is outputs heads bytes nodes edges o) (file_in is outputs heads bytes nodes edges o)) (sym snk)
           (subst (λ (t : List ℕ). HoldsPart (holds sink.0) t (file_in is outputs heads bytes nodes edges o)) (sym (text_is o fits))
-          (subst (λ (x : Option (List ℕ)). HoldsPart (holds sink.0) (is.text fits.out fits.coded (stream_into is outputs heads bytes nodes edges k)) x) (sym (file_is o fits)) more))
+          (subst (λ (x : Option (List ℕ)). HoldsPart (holds sink.0) (is.text fits.out fits.coded (streams_into is outputs heads bytes nodes edges k)) x) (sym (file_is o fits)) more))
       | inr never ↦
           let x = there snks o (lt_snks o lt) in
           let now : slice_index_or snks' o d ≡ x.0 = get_or_from_slice_get snks' o x.0 d (back.other_snks o never ∙ x.1) in

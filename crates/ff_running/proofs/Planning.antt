@@ -1,10 +1,11 @@
 -- What a plan's nodes and edges are to the kinds of part.
-use Rattle.std.proofs.Common.{◌≡◌, ◌≢◌, ◌⊎◌, inl, inr, ℕ, zero, suc, ◌+◌, ◌-◌, ◌<◌, ◌≤◌, true, List, [], ◌∷◌, length, map, replicate, slice_get, slice_index_or, unwrap_or, Some, refl, sym, ap, ◌∙◌, subst, arith}
-use Rattle.std.specs.List.{All}
+use Rattle.std.proofs.Common.{◌≡◌, ◌⊎◌, inl, inr, ℕ, zero, suc, ◌+◌, ◌-◌, ◌<◌, ◌≤◌, true, List, [], ◌∷◌, length, map, replicate, slice_get, slice_index_or, unwrap_or, Some, refl, sym, ap, ◌∙◌, subst, arith}
+use Rattle.std.specs.List.{All, AllByRecursion}
 use Rattle.std.proofs.lemmas.Option.{slice_get_within, get_or_from_slice_get, slice_get-get_or}
 use Rattle.std.proofs.lemmas.Bool.{cases_lt}
-use Rattle.std.proofs.lemmas.List.{length-replicate}
+use Rattle.std.proofs.lemmas.List.{length-map, length-replicate}
 use Rattle.ff_values.specs.declared.head.StreamHead.{StreamHead}
+use Rattle.ff_frame.specs.declared.item.Lane.{Lane}
 use Rattle.ff_frame.specs.declared.item.Lane.TheVariants.{Frames, Packets}
 use Rattle.ff_map.specs.declared.streams.StreamRef.{StreamRef}
 use Rattle.ff_words.specs.declared.job.OutputJob.{OutputJob}
@@ -14,9 +15,12 @@ use Rattle.ff_plan.specs.declared.planned.PlanNode.{PlanNode}
 use Rattle.ff_plan.specs.declared.planned.PlanNode.TheVariants as node
 use Rattle.ff_plan.specs.Choice.{head_at}
 use Rattle.ff_plan.specs.Fitting as fitting
+use Rattle.ff_plan.specs.Numbers.{streams_between}
 use Rattle.ff_plan.specs.Streams.{packed_as, takes_head}
+use Rattle.ff_plan.specs.Today.{most_built}
 use Rattle.ff_running.specs.Kinds.{KindsOf}
-use Rattle.ff_running.specs.Parts.{IsFitting, AreOrdered}
+use Rattle.ff_running.specs.Parts.{IsFitting, AreOrdered, HaveNumbers}
+use Rattle.ff_running.proofs.StreamNumbers.{one_past}
 
 -- ---- the order of the nodes
 
@@ -78,6 +82,7 @@ module _ (inputs outputs : ℕ) (nodes : List PlanNode) (kinds : fitting.HasKind
           | inl h ↦ (slice_index_or kinds.demuxed k 0, h.1)
           | inr r ↦ elim r [ inl h ↦ (let behind = h.0 in absurd (omega (arith, j_lt, le, behind))) | inr h ↦ (let behind = h.0 in absurd (omega (arith, j_lt, le, behind))) ]
         ];
+    muxes_at = λ k o at. (last_is k o at).1;
     muxes_rise = λ j k o o' a b lt.
         let x = (last_is j o a).1 in
         let y = (last_is k o' b).1 in
@@ -95,7 +100,8 @@ module _ (inputs outputs : ℕ) (nodes : List PlanNode) (kinds : fitting.HasKind
 module _ {H : Type 0} (is : KindsOf H) (outputs : List OutputJob) (heads : List H) (sound : All is.IsHead heads)
     (decodes : (h : H) → is.IsHead h → is.CanDecode (is.stream h))
     (encodes : (h : H) (out : OutputJob) → is.IsHead h → takes_head out (is.stream h) ≡ true → is.CanEncode (is.stream h) (packed_as out (is.stream h)))
-    (writes : (h : H) (out : OutputJob) → is.IsHead h → takes_head out (is.stream h) ≡ true → is.CanMux out (packed_as out (is.stream h))) where
+    (writes : (hs : List H) (out : OutputJob) → AllByRecursion (λ h. is.IsHead h × (takes_head out (is.stream h) ≡ true)) hs → 1 ≤ length hs → length hs ≤ most_built out.format
+    → is.CanMux out (map (λ h. packed_as out (is.stream h)) hs)) where
   abbrev singles : List H → List (List StreamHead)
   singles hs = map (λ h. is.stream h ∷ []) hs
 
@@ -145,11 +151,42 @@ module _ {H : Type 0} (is : KindsOf H) (outputs : List OutputJob) (heads : List 
       subst (λ (x : StreamHead). is.CanEncode x (packed_as out x)) h.2
       (encodes h.0 out (sound_at at.input h.0 h.1) (subst (λ (x : StreamHead). takes_head out x ≡ true) (sym h.2) takes))
 
-  can_mux : (head : StreamHead) (at : StreamRef) (o : ℕ) (out : OutputJob) → head_at (singles heads) at ≡ Some head → slice_get outputs o ≡ Some out → takes_head out head ≡ true → is.CanMux out (packed_as out head)
-  can_mux head at o out there_at out_at takes =
-      let h = one_stream heads at.input at.stream head there_at in
-      subst (λ (x : StreamHead). is.CanMux out (packed_as out x)) h.2
-      (writes h.0 out (sound_at at.input h.0 h.1) (subst (λ (x : StreamHead). takes_head out x ≡ true) (sym h.2) takes))
+  -- the heads of inputs whose streams an output takes
+  abbrev AreTaken : OutputJob → List H → Type 0
+  AreTaken out hs = AllByRecursion (λ h. is.IsHead h × (takes_head out (is.stream h) ≡ true)) hs
+
+  heads_taken : (out : OutputJob) (taken : List StreamHead) → AllByRecursion (fitting.TakesFrames (singles heads) out) taken
+      → (hs : List H) × (map (λ h. is.stream h) hs ≡ taken) × AreTaken out hs
+  heads_taken out [] all = ([], refl, tt)
+  heads_taken out (t ∷ ts) all =
+      let at = all.0.0 in
+      let h = one_stream heads at.input at.stream t all.0.1 in
+      let more = heads_taken out ts all.1 in (
+        h.0 ∷ more.0,
+        ap (λ (x : StreamHead). x ∷ map (λ (g : H). is.stream g) more.0) h.2 ∙ ap (λ (xs : List StreamHead). t ∷ xs) more.1,
+        ((sound_at at.input h.0 h.1, subst (λ (x : StreamHead). takes_head out x ≡ true) (sym h.2) all.0.2), more.2),
+      )
+
+  packed_lanes : (out : OutputJob) (hs : List H)
+      → map (λ (x : StreamHead). Packets (packed_as out x)) (map (λ h. is.stream h) hs) ≡ map (λ (x : StreamHead). Packets x) (map (λ h. packed_as out (is.stream h)) hs)
+  packed_lanes out [] = refl
+  packed_lanes out (h ∷ hs) = ap (λ (ls : List Lane). Packets (packed_as out (is.stream h)) ∷ ls) (packed_lanes out hs)
+
+  mux_fits : (edges : List Edge) (k o : ℕ) → fitting.FitsMux (singles heads) outputs edges k o → IsFitting is outputs heads (lanes_into edges k) (lanes_out_of edges k) (node.Mux o)
+  mux_fits edges k o f =
+      let hs = heads_taken f.out f.taken f.each in
+      let long : length hs.0 ≡ length f.taken = sym (length-map hs.0 (λ h. is.stream h)) ∙ ap length hs.1 in
+      let many : length (map (λ h. packed_as f.out (is.stream h)) hs.0) ≡ length hs.0 = length-map hs.0 (λ h. packed_as f.out (is.stream h)) in
+      let some = f.some in
+      let few = f.few in record {
+        out = f.out;
+        there = f.out_is;
+        coded = map (λ h. packed_as f.out (is.stream h)) hs.0;
+        some = omega (arith, many, long, some);
+        can = writes hs.0 f.out hs.2 (omega (arith, long, some)) (omega (arith, long, few));
+        ins_are = f.ins ∙ (ap (λ (xs : List StreamHead). map (λ (x : StreamHead). Packets (packed_as f.out x)) xs) (sym hs.1) ∙ packed_lanes f.out hs.0);
+        outs_are = f.outs;
+      }
 
   fits_kind : (edges : List Edge) (k : ℕ) (n : PlanNode) → fitting.FitsNode (singles heads) outputs edges k n → IsFitting is outputs heads (lanes_into edges k) (lanes_out_of edges k) n
   fits_kind edges k (node.Demux i) f = demux_fits edges k i f
@@ -163,17 +200,23 @@ module _ {H : Type 0} (is : KindsOf H) (outputs : List OutputJob) (heads : List 
     ins_are = f.ins;
     outs_are = f.outs;
   }
-  fits_kind edges k (node.Mux o) f = record {
-    out = f.taken.out;
-    there = f.taken.out_is;
-    coded = packed_as f.taken.out f.taken.head;
-    can = can_mux f.taken.head f.taken.at o f.taken.out f.taken.is f.taken.out_is f.taken.takes;
-    ins_are = f.ins;
-    outs_are = f.outs;
-  }
+  fits_kind edges k (node.Mux o) f = mux_fits edges k o f
 
   -- the plan's nodes fit the kinds of part
   pub are_fitting : (edges : List Edge) (nodes : List PlanNode) → ((k : ℕ) (d : PlanNode) → k < length nodes → fitting.FitsNode (singles heads) outputs edges k (slice_index_or nodes k d))
       → (k : ℕ) (n : PlanNode) → slice_get nodes k ≡ Some n → IsFitting is outputs heads (lanes_into edges k) (lanes_out_of edges k) n
   are_fitting edges nodes fit k n at =
       fits_kind edges k n (subst (λ (x : PlanNode). fitting.FitsNode (singles heads) outputs edges k x) (get_or_from_slice_get nodes k n n at) (fit k n (slice_get_within nodes k n at)))
+
+-- the numbers of output streams are small
+pub have_numbers : (inputs : ℕ) (outputs : List OutputJob) (edges : List Edge) (nodes : List PlanNode) → AreOrdered inputs (length outputs) nodes
+    → ((k : ℕ) → streams_between (length nodes - length outputs) k edges ≤ 16) → HaveNumbers outputs edges nodes
+have_numbers inputs outputs edges nodes ordered few = record {
+  before = few;
+  at = λ k o at.
+      let is = ordered.muxes_at k o at in
+      let low = length nodes - length outputs in
+      let le = one_past edges low k (omega (arith, is)) in
+      let most = few (suc k) in
+      omega (arith, le, most);
+}

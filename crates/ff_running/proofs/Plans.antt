@@ -11,14 +11,15 @@ use Rattle.ff_plan.specs.declared.planned.Plan.{Plan}
 use Rattle.ff_plan.specs.declared.planned.PlanError.{PlanError}
 use Rattle.ff_plan.specs.declared.planned.PlanError.TheVariants.{NoMemory}
 use Rattle.ff_plan.specs.Fitting.{HasKinds, HasSingles, FitNodes}
+use Rattle.ff_plan.specs.Numbers.{HasFewStreams}
 use Rattle.ff_plan.specs.Plain.{IsRefused, IsWithinLimits}
 use Rattle.ff_plan.specs.Streams.{packed_as, takes_head}
-use Rattle.ff_plan.specs.Today.{planned_today}
+use Rattle.ff_plan.specs.Today.{most_built, planned_today}
 use Rattle.ff_sched.specs.Routes.{AreRoutes}
 use Rattle.ff_running.specs.Kinds.{KindsOf}
 use Rattle.ff_running.specs.Meaning.{plan_for, refusal_of}
 use Rattle.ff_running.specs.Accepting.{IsAccepted, IsPlanFor}
-use Rattle.ff_running.proofs.Planning.{are_ordered, muxes_there, are_fitting}
+use Rattle.ff_running.proofs.Planning.{are_ordered, muxes_there, are_fitting, have_numbers}
 
 module _ {H : Type 0} (is : KindsOf H) (job : Job) (heads : List H) (accepted : IsAccepted is job heads) where
   abbrev pub streams : List (List StreamHead)
@@ -53,12 +54,13 @@ module _ {H : Type 0} (is : KindsOf H) (job : Job) (heads : List H) (accepted : 
 
   pub is_plan : (decodes : (h : H) → is.IsHead h → is.CanDecode (is.stream h))
       (encodes : (h : H) (out : OutputJob) → is.IsHead h → takes_head out (is.stream h) ≡ true → is.CanEncode (is.stream h) (packed_as out (is.stream h)))
-      (writes : (h : H) (out : OutputJob) → is.IsHead h → takes_head out (is.stream h) ≡ true → is.CanMux out (packed_as out (is.stream h)))
+      (writes : (hs : List H) (out : OutputJob) → AllByRecursion (λ h. is.IsHead h × (takes_head out (is.stream h) ≡ true)) hs → 1 ≤ length hs → length hs ≤ most_built out.format
+      → is.CanMux out (map (λ h. packed_as out (is.stream h)) hs))
       (lists : List (List StreamHead)) (count : ℕ) (plan : Plan) → lists ≡ streams → count ≡ length lists → planned_today job lists ≡ Ok plan → IsFed (shape_of plan.edges) (length plan.nodes) plan.edges
       → ((k : ℕ) → HasIns plan.edges k) → ((k : ℕ) → HasOuts plan.edges k) → HasKinds count (length job.outputs) plan.nodes → (HasSingles lists → FitNodes lists job.outputs plan)
-      → AreRoutes plan.routes → plan.routes.sources ≡ count
+      → AreRoutes plan.routes → plan.routes.sources ≡ count → HasFewStreams (length job.outputs) plan
       → IsPlanFor is job heads plan
-  is_plan decodes encodes writes lists count plan e is_count made fed ins outs kinds fit routes sources =
+  is_plan decodes encodes writes lists count plan e is_count made fed ins outs kinds fit routes sources few_streams =
       let inputs : count ≡ length heads = is_count ∙ (ap length e ∙ many) in
       let here : HasKinds (length heads) (length job.outputs) plan.nodes = subst (λ (n : ℕ). HasKinds n (length job.outputs) plan.nodes) inputs kinds in
       let fits : FitNodes streams job.outputs plan = subst (λ (hs : List (List StreamHead)). HasSingles hs → FitNodes hs job.outputs plan) e fit (single heads) in record {
@@ -69,6 +71,7 @@ module _ {H : Type 0} (is : KindsOf H) (job : Job) (heads : List H) (accepted : 
         sources = sources ∙ inputs;
         fits = own_lanes_fit (length plan.nodes) plan.edges fed (λ k lt. ins k) (λ k lt. outs k);
         fitting = are_fitting is job.outputs heads accepted.sound decodes encodes writes plan.edges plan.nodes fits;
+        numbers = have_numbers (length heads) job.outputs plan.edges plan.nodes (are_ordered (length heads) (length job.outputs) plan.nodes here) few_streams;
         ordered = are_ordered (length heads) (length job.outputs) plan.nodes here;
         muxes = muxes_there (length heads) (length job.outputs) plan.nodes here;
       }

@@ -1,16 +1,16 @@
 -- What the history of a run tells of streams and inputs.
-use Rattle.std.proofs.Common.{◌≡◌, ◌⊎◌, inl, inr, ℕ, suc, ◌<◌, ◌||◌, Bool, true, false, cond, List, [], ◌∷◌, filter, length, slice_get, slice_index_or, Option, Some, None, is_some, refl, sym, ap, ◌∙◌, subst, arith}
+use Rattle.std.proofs.Common.{◌≡◌, ◌⊎◌, inl, inr, ℕ, suc, ◌+◌, ◌<◌, ◌≤◌, ◌||◌, Bool, true, false, cond, List, [], ◌∷◌, filter, length, slice_get, slice_index_or, Option, Some, None, is_some, refl, sym, ap, ◌∙◌, subst, arith}
 use Rattle.std.specs.Prelude.{IfSome}
 use Rattle.std.proofs.lemmas.Option.{slice_get_within, get_or_from_slice_get}
 use Rattle.ff_values.specs.declared.event.Event.{Event}
 use Rattle.ff_values.specs.declared.event.Event.TheVariants.{Exited}
-use Rattle.ff_frame.specs.declared.item.Lane.{Lane}
+use Rattle.ff_values.specs.declared.head.StreamHead.{StreamHead}
 use Rattle.ff_frame.specs.Stream.{whole}
 use Rattle.ff_frame.specs.Ports.{stream_at, IsClosed}
 use Rattle.ff_words.specs.declared.job.Job.{Job}
 use Rattle.ff_words.specs.declared.job.OutputJob.{OutputJob}
 use Rattle.ff_edges.specs.declared.edge.Edge.{Edge}
-use Rattle.ff_edges.specs.Ports.{edge_to, lanes_into, lanes_out_of}
+use Rattle.ff_edges.specs.Ports.{lanes_into, lanes_out_of}
 use Rattle.ff_sched.specs.declared.logged.Logged.{Logged}
 use Rattle.ff_sched.specs.declared.routes.Routes.{Routes}
 use Rattle.ff_sched.specs.State.{State}
@@ -23,7 +23,6 @@ use Rattle.ff_network.specs.declared.run.NodeFault.{NodeFault}
 use Rattle.ff_network.specs.Fits.{network, ins_at, outs_at}
 use Rattle.ff_network.specs.Networks.{AllStart, ports_of}
 use Rattle.ff_network.specs.Scheduling.{AreLogged, LoggedSink, AreToldBy, IsOnlySource}
-use Rattle.ff_network.proofs.Fitting.{count_ports}
 use Rattle.ff_plan.specs.declared.planned.Plan.{Plan}
 use Rattle.ff_plan.specs.declared.planned.PlanNode.{PlanNode}
 use Rattle.ff_plan.specs.declared.planned.PlanNode.TheVariants as node
@@ -33,20 +32,21 @@ use Rattle.ff_files.specs.Works.{AreTold}
 use Rattle.ff_running.specs.declared.fault.RunFault.{RunFault}
 use Rattle.ff_running.specs.Accepting.{IsPlanFor}
 use Rattle.ff_running.specs.Claims.{tell_all}
-use Rattle.ff_running.specs.Kinds.{KindsOf}
-use Rattle.ff_running.specs.Events.{is_of_output, is_exit_of, TellOfThemselves, TellAlone}
+use Rattle.ff_running.specs.Kinds.{KindsOf, is_of_stream}
+use Rattle.ff_running.specs.Events.{is_exit_of, TellOfThemselves, TellAlone}
 use Rattle.ff_running.specs.Histories.{state_before, HasExited, TellsAll, IsHistoryFor, IsHistoryOf, AreScheduled}
-use Rattle.ff_running.specs.Meaning.{edges_into, task_by, task_at, solution, stream_into, mux_node, events_by}
+use Rattle.ff_running.specs.Meaning.{edges_into, task_by, task_at, solution, streams_into, mux_node, events_by}
 use Rattle.ff_running.specs.Openings.{reads_in, is_read}
 use Rattle.ff_running.specs.Parts.{FitsDemux, FitsMux, AreFitting, AreOrdered, AreBack, source_in}
 use Rattle.ff_running.specs.Runs.{AreRun}
-use Rattle.ff_running.specs.Tasks.{first_head, demux_by, mux_by}
-use Rattle.ff_running.proofs.EventSteps.{all_kept, itself, same_number, plans_tell_alone}
+use Rattle.ff_running.specs.Tasks.{first_at, heads_on, demux_by, mux_by}
+use Rattle.ff_running.proofs.EventSteps.{itself, same_number, plans_tell_alone}
 use Rattle.ff_running.proofs.Gathering.{demux_once}
 use Rattle.ff_running.proofs.Networks.{plan_net, plan_ins, plan_outs}
 use Rattle.ff_running.proofs.Numbers.{there}
 use Rattle.ff_running.proofs.Outcomes.{fine_only}
 use Rattle.ff_running.proofs.Running.{all_start, part_lanes}
+use Rattle.ff_running.proofs.StreamNumbers.{coded_is, lane_count, edge_count, at_streams}
 use Rattle.ff_running.proofs.Telling.{tells_told}
 
 -- ---- which node reads an input
@@ -88,7 +88,7 @@ module _ {H S K M : Type 0} (is : KindsOf H) (own : TellOfThemselves is) (left n
     (run : AreRun is left named failed holds called faulted view outputs heads edges nodes srcs snks claims olds news sp kp fault)
     (back : AreBack is left named failed holds called faulted view nodes news srcs snks srcs' snks')
     (sound : fault ≡ None) (s : AreScheduled view edges claims olds news routes state fault events)
-    (bytes : List (List ℕ)) (vouched : claims ≡ true) (told : AreTold left holds srcs snks bytes) where
+    (bytes : List (List ℕ)) (vouched : claims ≡ true) (told : AreTold left holds srcs snks bytes) (many : length snks ≡ length outputs) where
   abbrev tasks : ℕ → Task
   tasks = task_at is outputs heads bytes nodes edges
 
@@ -99,7 +99,7 @@ module _ {H S K M : Type 0} (is : KindsOf H) (own : TellOfThemselves is) (left n
   logs = s.logged tasks begun
 
   alone : TellAlone is outputs heads bytes nodes edges
-  alone = plans_tell_alone is own outputs heads bytes nodes edges (length srcs) (length snks) order
+  alone = plans_tell_alone is own outputs heads bytes nodes edges (length srcs) (subst (λ (n : ℕ). AreOrdered (length srcs) n nodes) many order)
 
   lanes : (k : ℕ) (m : M) → slice_get olds k ≡ Some m → ((view m).in_lanes ≡ lanes_into edges k) × ((view m).out_lanes ≡ lanes_out_of edges k)
   lanes = part_lanes is left named failed holds called faulted view outputs heads edges nodes srcs snks olds sp kp run.parts
@@ -123,16 +123,16 @@ module _ {H S K M : Type 0} (is : KindsOf H) (own : TellOfThemselves is) (left n
     abbrev pub fits : FitsMux is outputs (lanes_into edges k) (lanes_out_of edges k) o
     fits = fitting k (node.Mux o) at
 
-    task_is : tasks k ≡ is.mux_task o fits.out fits.coded
+    abbrev pub first : ℕ
+    first = first_at outputs nodes edges k
+
+    pub coded_are : heads_on (lanes_into edges k) ≡ fits.coded
+    coded_are = coded_is (lanes_into edges k) fits.coded fits.ins_are
+
+    task_is : tasks k ≡ is.mux_task first fits.out fits.coded
     task_is =
         ap (λ (n : Option PlanNode). task_by is outputs heads bytes nodes edges n k) at
-        ∙ (ap (λ (x : Option OutputJob). mux_by is o x (first_head (lanes_into edges k))) fits.there ∙ ap (λ (ls : List Lane). mux_by is o (Some fits.out) (first_head ls)) fits.ins_are)
-
-    one_edge : 0 < length (edges_into edges k)
-    one_edge =
-        let count : length (edges_into edges k) ≡ length (lanes_into edges k) = count_ports (edge_to edges k) (length (lanes_into edges k)) in
-        let one : length (lanes_into edges k) ≡ 1 = ap length fits.ins_are in
-        omega (arith, count, one)
+        ∙ (ap (λ (x : Option OutputJob). mux_by is first x (heads_on (lanes_into edges k))) fits.there ∙ ap (λ (hs : List StreamHead). mux_by is first (Some fits.out) hs) coded_are)
 
     abbrev muxer : (m : M) × (slice_get news k ≡ Some m)
     muxer = there news k (new_there k within)
@@ -151,25 +151,41 @@ module _ {H S K M : Type 0} (is : KindsOf H) (own : TellOfThemselves is) (left n
         (subst (λ (x : M). LoggedSink (view x) (tasks k) (solve (network tasks (ports_of view olds) edges (length olds))) (ins_at (ports_of view olds) edges k) log)
         (get_or_from_slice_get news k muxer.0 muxer.0 muxer.1) (logs.sinks sound k muxer.0 (new_there k within) outs)))
 
-    pub events_are : filter (is_of_output o) events ≡ is.events o fits.coded (stream_into is outputs heads bytes nodes edges k)
-    events_are =
+    -- of its stream j
+    pub events_are : (j : ℕ) (head : StreamHead) → slice_get fits.coded j ≡ Some head
+        → filter (is_of_stream (first + j)) events ≡ is.events (first + j) head (stream_at (streams_into is outputs heads bytes nodes edges k) j)
+    events_are j head here =
         let fed = logged.fed in
         let feeds = fed.past.feeds in
-        let got = fed.got 0 one_edge in
-        let closed : IsClosed (stream_at fed.past.got 0) = λ goes_on. (let end : (stream_at fed.past.got 0).mark ≡ whole = ap (λ (r : Flow). r.mark) got ∙ fed.whole 0 one_edge in cc) in
+        let lt : j < length fits.coded = slice_get_within fits.coded j head here in
+        let many = lane_count (lanes_into edges k) fits.coded fits.ins_are in
+        let edge : j < length (edges_into edges k) = (let n = edge_count edges k fits.coded fits.ins_are in omega (arith, lt, n)) in
+        let got = fed.got j edge in
+        let closed : IsClosed (stream_at fed.past.got j) = λ goes_on. (let end : (stream_at fed.past.got j).mark ≡ whole = ap (λ (r : Flow). r.mark) got ∙ fed.whole j edge in cc) in
         let sink = back.sinks k o muxer.0 at muxer.1 in
-        (s.told tasks begun k (is_of_output o) (new_there k within) (alone.output (length news) k o at)).same
-        ∙ (ap (filter (is_of_output o)) logged.all_told
-        ∙ (ap (λ (t : Task). filter (is_of_output o) (t.tells feeds)) task_is
-        ∙ (all_kept (is_of_output o) ((is.mux_task o fits.out fits.coded).tells feeds) (own.muxer o fits.out fits.coded feeds)
-        ∙ (sym (ap (λ (t : Task). t.tells feeds) (fed.task_is ∙ task_is))
-        ∙ (sink.2.told fed.past o fits.out fits.coded fed.fits (fed.task_is ∙ task_is) closed
-        ∙ ap (is.events o fits.coded) got)))))
+        (s.told tasks begun k (is_of_stream (first + j)) (new_there k within) (alone.output (length news) k o j at (omega (arith, lt, many)))).same
+        ∙ (ap (filter (is_of_stream (first + j))) logged.all_told
+        ∙ (sym (ap (λ (t : Task). filter (is_of_stream (first + j)) (t.tells feeds)) fed.task_is)
+        ∙ (sink.2.told fed.past first fits.out fits.coded j head fed.fits (fed.task_is ∙ task_is) here closed
+        ∙ ap (is.events (first + j) head) (got ∙ sym (at_streams (solution is outputs heads bytes nodes edges) (edges_into edges k) j edge)))))
 
     -- as the meaning has them
-    pub means_events : events_by is outputs heads bytes nodes edges o (first_head (lanes_into edges k)) (stream_into is outputs heads bytes nodes edges k)
-        ≡ is.events o fits.coded (stream_into is outputs heads bytes nodes edges k)
-    means_events = ap (λ (ls : List Lane). events_by is outputs heads bytes nodes edges o (first_head ls) (stream_into is outputs heads bytes nodes edges k)) fits.ins_are
+    pub means_events : (j : ℕ) (head : StreamHead) → slice_get fits.coded j ≡ Some head
+        → events_by is outputs heads bytes nodes edges (first + j) (slice_get (heads_on (lanes_into edges k)) j) (stream_at (streams_into is outputs heads bytes nodes edges k) j)
+        ≡ is.events (first + j) head (stream_at (streams_into is outputs heads bytes nodes edges k) j)
+    means_events j head here =
+        ap (λ (x : Option StreamHead). events_by is outputs heads bytes nodes edges (first + j) x (stream_at (streams_into is outputs heads bytes nodes edges k) j))
+        (ap (λ (hs : List StreamHead). slice_get hs j) coded_are ∙ here)
+
+    pub stream_told : (j : ℕ) → j < length (heads_on (lanes_into edges k))
+        → filter (is_of_stream (first + j)) events
+        ≡ events_by is outputs heads bytes nodes edges (first + j) (slice_get (heads_on (lanes_into edges k)) j) (stream_at (streams_into is outputs heads bytes nodes edges k) j)
+    stream_told j lt =
+        let head = there fits.coded j (subst (λ (hs : List StreamHead). j < length hs) coded_are lt) in
+        events_are j head.0 head.1 ∙ sym (means_events j head.0 head.1)
+
+    pub some_streams : 1 ≤ length (heads_on (lanes_into edges k))
+    some_streams = subst (λ (hs : List StreamHead). 1 ≤ length hs) (sym coded_are) fits.some
 
   -- ---- the exit of an input
 
@@ -239,9 +255,8 @@ module _ {H S K M : Type 0} (is : KindsOf H) (own : TellOfThemselves is) (left n
 
   pub tells_all : ((o : ℕ) → o < length outputs → slice_get nodes (mux_node is outputs heads bytes nodes edges o) ≡ Some (node.Mux o)) → TellsAll is outputs heads bytes nodes edges events
   tells_all muxes = record {
-    streams = λ o lt.
-        let k = mux_node is outputs heads bytes nodes edges o in
-        events_are o k (muxes o lt) ∙ sym (means_events o k (muxes o lt));
+    some = λ o lt. some_streams o (mux_node is outputs heads bytes nodes edges o) (muxes o lt);
+    streams = λ o j lt there. stream_told o (mux_node is outputs heads bytes nodes edges o) (muxes o lt) j there;
     inputs = λ i read. (let k = reader_of nodes i read in has_exited i k.0 k.1);
   }
 
@@ -260,7 +275,7 @@ module _ {H S K M : Type 0} (is : KindsOf H) (own : TellOfThemselves is) (left n
   streams_told (Some bytes) told =
       tells_all is own left named failed holds called faulted view laws job.outputs heads plan.edges plan.nodes srcs snks (tell_all left holds srcs snks) h.done.olds h.done.news
       h.done.src_places h.done.snk_places h.done.fault srcs' snks' plan.routes (state_before plan) events order for.fitting h.done.run h.done.back
-      (fine_only (length heads) plan.nodes h.done.fault (sym h.done.end_is ∙ fine)) h.run bytes (tells_told left holds srcs snks bytes told) told for.muxes
+      (fine_only (length heads) plan.nodes h.done.fault (sym h.done.end_is ∙ fine)) h.run bytes (tells_told left holds srcs snks bytes told) told snk_count for.muxes
 
   pub history_in : (bytes : Option (List (List ℕ))) → IfSome bytes (AreTold left holds srcs snks) → IsHistoryFor is job heads bytes events
   history_in bytes told = (plan, for.made, record { legal = h.run.legal; told = streams_told bytes told })

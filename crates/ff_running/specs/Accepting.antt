@@ -1,5 +1,5 @@
 -- What the heads of a job's inputs have to be, and what a plan for them is.
-use Rattle.std.specs.Prelude.{◌≡◌, ◌≢◌, ℕ, ◌+◌, ◌-◌, ◌^◌, ◌<◌, ◌≤◌, List, All, length, slice_get, Some, Ok}
+use Rattle.std.specs.Prelude.{◌≡◌, ℕ, ◌+◌, ◌-◌, ◌^◌, ◌<◌, ◌≤◌, List, All, length, slice_get, Some, Ok}
 use Rattle.std.specs.List.{AllByRecursion}
 use Rattle.ff_words.specs.declared.job.Job.{Job}
 use Rattle.ff_network.specs.Fits.{AreFit, ports_by}
@@ -8,7 +8,7 @@ use Rattle.ff_plan.specs.declared.planned.PlanNode.TheVariants as node
 use Rattle.ff_sched.specs.Routes.{AreRoutes}
 use Rattle.ff_running.specs.Kinds.{KindsOf}
 use Rattle.ff_running.specs.Meaning.{plan_for}
-use Rattle.ff_running.specs.Parts.{AreFitting, AreOrdered}
+use Rattle.ff_running.specs.Parts.{AreFitting, AreOrdered, HaveNumbers}
 
 module _ {H : Type 0} (is : KindsOf H) (job : Job) where
   -- one head that was read for each input of a job within its limits
@@ -29,5 +29,6 @@ module _ {H : Type 0} (is : KindsOf H) (job : Job) where
     pub sources : plan.routes.sources ≡ length heads
     pub fits : AreFit (ports_by plan.edges) (length plan.nodes) plan.edges
     pub fitting : AreFitting is job.outputs heads plan.edges plan.nodes
+    pub numbers : HaveNumbers job.outputs plan.edges plan.nodes
     pub ordered : AreOrdered (length heads) (length job.outputs) plan.nodes
     pub muxes : (o : ℕ) → o < length job.outputs → slice_get plan.nodes ((length plan.nodes - length job.outputs) + o) ≡ Some (node.Mux o)

@@ -1,5 +1,5 @@
 -- The history of a run of a plan: what the scheduler granted and was told.
-use Rattle.std.specs.Prelude.{◌≡◌, ℕ, ◌<◌, true, false, Bool, List, [], ◌∷◌, filter, length, map, replicate, slice_get, Option, None, Some, IfSome, Ok}
+use Rattle.std.specs.Prelude.{◌≡◌, ℕ, ◌<◌, ◌≤◌, true, false, Bool, List, [], ◌∷◌, filter, length, map, replicate, slice_get, Option, None, Some, IfSome, Ok}
 use Rattle.ff_values.specs.declared.event.Event.{Event}
 use Rattle.ff_values.specs.declared.event.Event.TheVariants.{Grant, Exited}
 use Rattle.ff_words.specs.declared.job.Job.{Job}
@@ -19,9 +19,9 @@ use Rattle.ff_plan.specs.declared.planned.Plan.{Plan}
 use Rattle.ff_plan.specs.declared.planned.PlanNode.{PlanNode}
 use Rattle.ff_files.specs.declared.work.WorkEnd.{WorkEnd}
 use Rattle.ff_running.specs.declared.fault.RunFault.{RunFault}
-use Rattle.ff_running.specs.Events.{is_of_output, is_exit_of}
-use Rattle.ff_running.specs.Kinds.{KindsOf}
-use Rattle.ff_running.specs.Meaning.{plan_for, events_in}
+use Rattle.ff_running.specs.Events.{is_exit_of}
+use Rattle.ff_running.specs.Kinds.{KindsOf, is_of_stream}
+use Rattle.ff_running.specs.Meaning.{plan_for, streams_in, number_in, events_in}
 use Rattle.ff_running.specs.Openings.{is_read, is_unused}
 use Rattle.ff_running.specs.Runs.{IsDone}
 
@@ -43,11 +43,13 @@ pub record HasExited (i : ℕ) (events : List Event) : Type 0 where
   pub once : filter (is_exit_of i) events ≡ Exited i ∷ []
   pub last : (p q : ℕ) → slice_get events p ≡ Some (Grant i) → slice_get events q ≡ Some (Exited i) → p < q
 
--- Of each output stream it is told when each of its packets is decoded, in order, and then that it has finished, and nothing else; and
--- each input that is read has exited.
+-- Each output has a stream. Of each stream of each output, by its number over all outputs, it is told when each of its packets is decoded, in order, and then
+-- that it has finished, and nothing else; and each input that is read has exited.
 pub record TellsAll {H : Type 0} (is : KindsOf H) (outputs : List OutputJob) (heads : List H) (bytes : List (List ℕ))
     (nodes : List PlanNode) (edges : List Edge) (events : List Event) : Type 0 where
-  pub streams : (o : ℕ) → o < length outputs → filter (is_of_output o) events ≡ events_in is outputs heads bytes nodes edges o
+  pub some : (o : ℕ) → o < length outputs → 1 ≤ streams_in is outputs heads bytes nodes edges o
+  pub streams : (o j : ℕ) → o < length outputs → j < streams_in is outputs heads bytes nodes edges o
+      → filter (is_of_stream (number_in is outputs heads bytes nodes edges o j)) events ≡ events_in is outputs heads bytes nodes edges o j
   pub inputs : (i : ℕ) → is_read nodes i ≡ true → HasExited i events
 
 -- The history of a run of this plan over inputs with these heads and, where they are told, these bytes: each grant stands where the

@@ -1,8 +1,9 @@
 -- The kinds of node of a plan: what each is there for, and what of a part is seen from outside.
-use Rattle.std.specs.Prelude.{◌≡◌, ℕ, ◌+◌, ◌≤◌, List, [], ◌∷◌, length, Option, None, Some, IsSome}
+use Rattle.std.specs.Prelude.{◌≡◌, ℕ, ◌+◌, ◌<◌, ◌≤◌, nat_eq, Bool, false, List, [], ◌∷◌, filter, length, map, slice_get, Option, None, Some, IsSome}
+use Rattle.std.specs.List.{range_with_len}
 use Rattle.ff_values.specs.declared.head.StreamHead.{StreamHead}
 use Rattle.ff_values.specs.declared.event.Event.{Event}
-use Rattle.ff_values.specs.declared.event.Event.TheVariants.{Exited}
+use Rattle.ff_values.specs.declared.event.Event.TheVariants.{Grant, Sent, Finished, Best, Exited}
 use Rattle.ff_frame.specs.declared.item.Lane.{Lane}
 use Rattle.ff_frame.specs.Ports.{stream_at, IsClosed, IsWhole}
 use Rattle.ff_words.specs.declared.job.OutputJob.{OutputJob}
@@ -26,14 +27,26 @@ pub record KindsOf (H : Type 0) : Type 1 where
   -- the streams that can be coded as others, and what an encoder is there for
   pub CanEncode : StreamHead → StreamHead → Type 0
   pub enc_task : StreamHead → StreamHead → Task
-  -- the packets that can be written to an output, what a muxer of these to the output of this number is there for, the file of a
-  -- stream of them, which is none while it isn't whole, the text of which a front is held until then, and the events of the output
-  -- stream of this number by the stream of them, once that has closed
-  pub CanMux : OutputJob → StreamHead → Type 0
-  pub mux_task : ℕ → OutputJob → StreamHead → Task
-  pub file : OutputJob → StreamHead → Flow → Option (List ℕ)
-  pub text : OutputJob → StreamHead → Flow → List ℕ
+  -- the packets that can be written to an output, by the heads of their streams, what a muxer of these is there for, where the first is
+  -- the output stream of this number, the file of such streams, which is none while one isn't whole, the text of which a front is held
+  -- until then, and the events of the output stream of this number by its packets, once that has closed
+  pub CanMux : OutputJob → List StreamHead → Type 0
+  pub mux_task : ℕ → OutputJob → List StreamHead → Task
+  pub file : OutputJob → List StreamHead → List Flow → Option (List ℕ)
+  pub text : OutputJob → List StreamHead → List Flow → List ℕ
   pub events : ℕ → StreamHead → Flow → List Event
+
+-- the streams at the first so many inputs
+abbrev pub first_streams : ℕ → List Flow → List Flow
+first_streams n ss = map (λ p. stream_at ss p) (range_with_len 0 n)
+
+-- an event of the output stream of this number: a packet was sent to it, or it has finished
+abbrev pub is_of_stream : ℕ → Event → Bool
+is_of_stream n (Grant s) = false
+is_of_stream n (Sent j t) = nat_eq j n
+is_of_stream n (Finished j) = nat_eq j n
+is_of_stream n (Best g i) = false
+is_of_stream n (Exited s) = false
 
 -- a part that nothing was done with: its number, where it is a source, the lanes of its ports, no fault, and the name and the
 -- failures of its source or sink
@@ -57,16 +70,18 @@ pub record IsSourceOf {S : Type 0} (named : S → Option (List ℕ)) (failed : S
   pub exits : (past : Past) (input : ℕ) → v.stands past → v.source ≡ Some input → past.task.tells past.feeds ≡ Exited input ∷ []
   pub few : (past : Past) → v.stands past → v.tried ≤ length (stream_at (past.task.means past.got) 0).items + 1
 
--- the sink of a part, and what it holds where the part is a muxer that was fed something, and has to tell of a stream that has closed
+-- the sink of a part, and what it holds where the part is a muxer that was fed something, and has to tell of each stream that has closed
 pub record IsSinkOf {H K : Type 0} (is : KindsOf H) (holds called : K → Option (List ℕ)) (faulted : K → ℕ) (v : View) (snk : K) : Type 0 where
   pub name : called snk ≡ v.device
   pub faults : faulted snk ≡ v.failures
-  pub whole : (past : Past) (output : ℕ) (out : OutputJob) (coded : StreamHead) → v.stands past → past.task ≡ is.mux_task output out coded → v.fault ≡ None
-      → IsWhole (stream_at past.got 0) → IsSome (is.file out coded (stream_at past.got 0)) × (holds snk ≡ is.file out coded (stream_at past.got 0))
-  pub part : (past : Past) (output : ℕ) (out : OutputJob) (coded : StreamHead) → v.stands past → past.task ≡ is.mux_task output out coded
-      → HoldsPart (holds snk) (is.text out coded (stream_at past.got 0)) (is.file out coded (stream_at past.got 0))
-  pub told : (past : Past) (output : ℕ) (out : OutputJob) (coded : StreamHead) → v.stands past → past.task ≡ is.mux_task output out coded
-      → IsClosed (stream_at past.got 0) → past.task.tells past.feeds ≡ is.events output coded (stream_at past.got 0)
+  pub whole : (past : Past) (first : ℕ) (out : OutputJob) (coded : List StreamHead) → v.stands past → past.task ≡ is.mux_task first out coded → v.fault ≡ None
+      → ((p : ℕ) → p < length coded → IsWhole (stream_at past.got p))
+      → IsSome (is.file out coded (first_streams (length coded) past.got)) × (holds snk ≡ is.file out coded (first_streams (length coded) past.got))
+  pub part : (past : Past) (first : ℕ) (out : OutputJob) (coded : List StreamHead) → v.stands past → past.task ≡ is.mux_task first out coded
+      → HoldsPart (holds snk) (is.text out coded (first_streams (length coded) past.got)) (is.file out coded (first_streams (length coded) past.got))
+  pub told : (past : Past) (first : ℕ) (out : OutputJob) (coded : List StreamHead) (p : ℕ) (head : StreamHead) → v.stands past → past.task ≡ is.mux_task first out coded
+      → slice_get coded p ≡ Some head → IsClosed (stream_at past.got p)
+      → filter (is_of_stream (first + p)) (past.task.tells past.feeds) ≡ is.events (first + p) head (stream_at past.got p)
 
 -- what a part gives back: a demuxer, which has no inputs, its source, a muxer, which has no outputs, its sink
 abbrev pub GivesEnds : {H S K : Type 0} → KindsOf H → (S → Option (List ℕ)) → (S → ℕ) → (K → Option (List ℕ)) → (K → Option (List ℕ)) → (K → ℕ) → View → Ends S K → Type 0

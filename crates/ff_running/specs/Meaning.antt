@@ -1,11 +1,12 @@
 -- What a run of the plan of a job comes to, by the heads and the bytes of its inputs.
-use Rattle.std.specs.Prelude.{◌≡◌, ℕ, ◌+◌, ◌-◌, ◌^◌, List, [], ◌∷◌, length, map, slice_get, slice_index_or, Option, None, Some, Ok, Err}
+use Rattle.std.specs.Prelude.{◌≡◌, ℕ, ◌+◌, ◌-◌, ◌^◌, List, [], ◌∷◌, length, map, slice_get, Option, None, Some, Ok, Err}
 use Rattle.ff_values.specs.declared.head.StreamHead.{StreamHead}
 use Rattle.ff_values.specs.declared.event.Event.{Event}
 use Rattle.ff_values.specs.declared.event.Event.TheVariants.{Finished}
 use Rattle.ff_words.specs.declared.job.Job.{Job}
 use Rattle.ff_words.specs.declared.job.OutputJob.{OutputJob}
 use Rattle.ff_edges.specs.declared.edge.Edge.{Edge}
+use Rattle.ff_frame.specs.Ports.{stream_at}
 use Rattle.ff_net.specs.declared.fault.Fault.{Fault}
 use Rattle.ff_net.specs.declared.fault.Fault.TheVariants as net_fault
 use Rattle.ff_net.specs.Nets.{solve}
@@ -23,7 +24,7 @@ use Rattle.ff_running.specs.declared.fault.RunFault.{RunFault}
 use Rattle.ff_running.specs.declared.fault.RunFault.TheVariants as run_fault
 use Rattle.ff_running.specs.Kinds.{KindsOf}
 use Rattle.ff_edges.specs.Ports.{lanes_into, lanes_out_of}
-use Rattle.ff_running.specs.Tasks.{idle, first_head, task_of}
+use Rattle.ff_running.specs.Tasks.{idle, first_at, heads_on, task_of}
 
 -- the edges at the inputs of a node
 abbrev pub edges_into : List Edge → ℕ → List ℕ
@@ -50,7 +51,7 @@ read_before inputs (node.Mux o) = inputs
 module _ {H : Type 0} (is : KindsOf H) (outputs : List OutputJob) (heads : List H) (bytes : List (List ℕ)) (nodes : List PlanNode) (edges : List Edge) where
   abbrev pub task_by : Option PlanNode → ℕ → Task
   task_by None k = idle
-  task_by (Some n) k = task_of is outputs heads bytes (lanes_into edges k) (lanes_out_of edges k) n
+  task_by (Some n) k = task_of is outputs heads bytes (first_at outputs nodes edges k) (lanes_into edges k) (lanes_out_of edges k) n
 
   abbrev pub task_at : ℕ → Task
   task_at k = task_by (slice_get nodes k) k
@@ -59,9 +60,9 @@ module _ {H : Type 0} (is : KindsOf H) (outputs : List OutputJob) (heads : List 
   abbrev pub solution : ℕ → Flow
   solution = solve (network task_at (ports_by edges) edges (length nodes))
 
-  -- the stream at the first input of a node
-  abbrev pub stream_into : ℕ → Flow
-  stream_into k = solution (slice_index_or (edges_into edges k) 0 0)
+  -- the streams at the inputs of a node
+  abbrev pub streams_into : ℕ → List Flow
+  streams_into k = map (λ w. solution w) (edges_into edges k)
 
   -- the fault that the streams at its inputs make at a node
   abbrev pub cause_at : ℕ → Option Fault
@@ -71,31 +72,40 @@ module _ {H : Type 0} (is : KindsOf H) (outputs : List OutputJob) (heads : List 
   abbrev pub mux_node : ℕ → ℕ
   mux_node o = (length nodes - length outputs) + o
 
-  abbrev pub file_by : Option OutputJob → Option StreamHead → Flow → Option (List ℕ)
-  file_by None coded s = None
-  file_by (Some out) None s = None
-  file_by (Some out) (Some coded) s = is.file out coded s
+  -- the heads of the packets of an output's streams
+  abbrev pub coded_in : ℕ → List StreamHead
+  coded_in o = heads_on (lanes_into edges (mux_node o))
 
-  abbrev pub text_by : Option OutputJob → Option StreamHead → Flow → List ℕ
-  text_by None coded s = []
-  text_by (Some out) None s = []
-  text_by (Some out) (Some coded) s = is.text out coded s
+  abbrev pub file_by : Option OutputJob → List StreamHead → List Flow → Option (List ℕ)
+  file_by None coded ss = None
+  file_by (Some out) coded ss = is.file out coded ss
+
+  abbrev pub text_by : Option OutputJob → List StreamHead → List Flow → List ℕ
+  text_by None coded ss = []
+  text_by (Some out) coded ss = is.text out coded ss
 
   -- the file of an output, and the text of which a front is held until it is done
   abbrev pub file_in : ℕ → Option (List ℕ)
-  file_in o = file_by (slice_get outputs o) (first_head (lanes_into edges (mux_node o))) (stream_into (mux_node o))
+  file_in o = file_by (slice_get outputs o) (coded_in o) (streams_into (mux_node o))
 
   abbrev pub text_in : ℕ → List ℕ
-  text_in o = text_by (slice_get outputs o) (first_head (lanes_into edges (mux_node o))) (stream_into (mux_node o))
+  text_in o = text_by (slice_get outputs o) (coded_in o) (streams_into (mux_node o))
 
-  -- the events of an output stream of packets of this head; without a head it has none, and only finishes
+  -- how many streams an output has, and the number of its stream j among those of all outputs
+  abbrev pub streams_in : ℕ → ℕ
+  streams_in o = length (coded_in o)
+
+  abbrev pub number_in : ℕ → ℕ → ℕ
+  number_in o j = first_at outputs nodes edges (mux_node o) + j
+
+  -- the events of the output stream of this number, of packets of this head; without a head it has none, and only finishes
   abbrev pub events_by : ℕ → Option StreamHead → Flow → List Event
-  events_by o None s = Finished o ∷ []
-  events_by o (Some coded) s = is.events o coded s
+  events_by n None s = Finished n ∷ []
+  events_by n (Some coded) s = is.events n coded s
 
-  -- the events of an output stream, by the packets at its Mux node
-  abbrev pub events_in : ℕ → List Event
-  events_in o = events_by o (first_head (lanes_into edges (mux_node o))) (stream_into (mux_node o))
+  -- the events of stream j of an output, by its packets at the Mux node
+  abbrev pub events_in : ℕ → ℕ → List Event
+  events_in o j = events_by (number_in o j) (slice_get (coded_in o) j) (stream_at (streams_into (mux_node o)) j)
 
   -- a node that is damaged, too long or too large by the streams at its inputs
   abbrev pub BreaksIn : RunFault → Type 0

@@ -1,5 +1,5 @@
 -- The parts of a plan's nodes, and the sources and sinks that are in them or stand aside.
-use Rattle.std.specs.Prelude.{◌≡◌, ℕ, ◌<◌, ◌≤◌, List, [], ◌∷◌, length, replicate, slice_get, Option, None, Some}
+use Rattle.std.specs.Prelude.{◌≡◌, ℕ, ◌+◌, ◌-◌, ◌<◌, ◌≤◌, List, [], ◌∷◌, length, map, replicate, slice_get, Option, None, Some}
 use Rattle.ff_values.specs.declared.head.StreamHead.{StreamHead}
 use Rattle.ff_frame.specs.declared.item.Lane.{Lane}
 use Rattle.ff_frame.specs.declared.item.Lane.TheVariants.{Frames, Packets}
@@ -12,7 +12,7 @@ use Rattle.ff_plan.specs.declared.planned.PlanNode.TheVariants as node
 use Rattle.ff_files.specs.Works.{AreTold}
 use Rattle.ff_running.specs.Kinds.{KindsOf, IsSourceOf, IsSinkOf}
 use Rattle.ff_edges.specs.Ports.{lanes_into, lanes_out_of}
-use Rattle.ff_running.specs.Tasks.{task_of}
+use Rattle.ff_running.specs.Tasks.{first_at, task_of}
 
 -- ---- what a part can be made of: a head and the lanes at the ports
 
@@ -41,9 +41,10 @@ module _ {H : Type 0} (is : KindsOf H) where
   pub record FitsMux (outputs : List OutputJob) (ins outs : List Lane) (o : ℕ) : Type 0 where
     pub out : OutputJob
     pub there : slice_get outputs o ≡ Some out
-    pub coded : StreamHead
+    pub coded : List StreamHead
+    pub some : 1 ≤ length coded
     pub can : is.CanMux out coded
-    pub ins_are : ins ≡ Packets coded ∷ []
+    pub ins_are : ins ≡ map (λ head. Packets head) coded
     pub outs_are : outs ≡ []
 
   -- a node with these lanes at its ports
@@ -54,6 +55,11 @@ module _ {H : Type 0} (is : KindsOf H) where
   IsFitting outputs heads ins outs (node.Shortest o) = ⊥
   IsFitting outputs heads ins outs (node.Enc o j) = FitsEnc ins outs
   IsFitting outputs heads ins outs (node.Mux o) = FitsMux outputs ins outs o
+
+-- the output streams have numbers up to 16: before each node, and at each Mux node
+pub record HaveNumbers (outputs : List OutputJob) (edges : List Edge) (nodes : List PlanNode) : Type 0 where
+  pub before : (k : ℕ) → first_at outputs nodes edges k ≤ 16
+  pub at : (k o : ℕ) → slice_get nodes k ≡ Some (node.Mux o) → first_at outputs nodes edges k + length (lanes_into edges k) ≤ 16
 
 -- each node by its edges
 abbrev pub AreFitting : {H : Type 0} → KindsOf H → List OutputJob → List H → List Edge → List PlanNode → Type 0
@@ -72,6 +78,7 @@ pub record AreOrdered (inputs outputs : ℕ) (nodes : List PlanNode) : Type 0 wh
   pub outputs_there : (k o : ℕ) → slice_get nodes k ≡ Some (node.Mux o) → o < outputs
   pub rising : (j k i i' : ℕ) → slice_get nodes j ≡ Some (node.Demux i) → slice_get nodes k ≡ Some (node.Demux i') → j < k → i < i'
   pub first : (j k i : ℕ) (n : PlanNode) → slice_get nodes j ≡ Some (node.Demux i) → slice_get nodes k ≡ Some n → k ≤ j → (i' : ℕ) × (n ≡ node.Demux i')
+  pub muxes_at : (k o : ℕ) → slice_get nodes k ≡ Some (node.Mux o) → k ≡ (length nodes - outputs) + o
   pub muxes_rise : (j k o o' : ℕ) → slice_get nodes j ≡ Some (node.Mux o) → slice_get nodes k ≡ Some (node.Mux o') → j < k → o < o'
 
 -- the number of the source that a node is
@@ -100,22 +107,23 @@ pub record HasEnds (n : PlanNode) (v : View) : Type 0 where
   pub sink : (o : ℕ) → n ≡ node.Mux o → v.out_lanes ≡ []
 
 module _ {H S K : Type 0} (is : KindsOf H) (left named : S → Option (List ℕ)) (failed : S → ℕ) (holds called : K → Option (List ℕ)) (faulted : K → ℕ) where
-  -- a part with these lanes at its ports that nothing was done with, as this node of a plan over these sources and sinks
-  pub record IsPart (outputs : List OutputJob) (heads : List H) (srcs : List S) (snks : List K) (ins outs : List Lane) (n : PlanNode) (v : View) : Type 0 where
+  -- a part with these lanes at its ports that nothing was done with, as this node of a plan over these sources and sinks, where the
+  -- node's first output stream has this number
+  pub record IsPart (outputs : List OutputJob) (heads : List H) (srcs : List S) (snks : List K) (first : ℕ) (ins outs : List Lane) (n : PlanNode) (v : View) : Type 0 where
     pub source_is : v.source ≡ source_in n
     pub in_lanes : v.in_lanes ≡ ins
     pub out_lanes : v.out_lanes ≡ outs
     pub sound : v.fault ≡ None
     pub source : (i : ℕ) (s : S) → n ≡ node.Demux i → slice_get srcs i ≡ Some s → (v.device ≡ named s) × (v.failures ≡ failed s)
     pub sink : (o : ℕ) (s : K) → n ≡ node.Mux o → slice_get snks o ≡ Some s → (v.device ≡ called s) × (v.failures ≡ faulted s)
-    pub starts : (bytes : List (List ℕ)) → AreTold left holds srcs snks bytes → v.stands (start (task_of is outputs heads bytes ins outs n))
+    pub starts : (bytes : List (List ℕ)) → AreTold left holds srcs snks bytes → v.stands (start (task_of is outputs heads bytes first ins outs n))
 
   -- the parts of the first nodes, and all sources and sinks that are in none of them in their places
   pub record AreParts {M : Type 0} (view : M → View) (outputs : List OutputJob) (heads : List H) (edges : List Edge) (nodes : List PlanNode) (srcs : List S) (snks : List K)
       (parts : List M) (src_places : List (Option S)) (snk_places : List (Option K)) : Type 0 where
     pub few : length parts ≤ length nodes
     pub each : (k : ℕ) (n : PlanNode) (m : M) → slice_get nodes k ≡ Some n → slice_get parts k ≡ Some m
-        → IsPart outputs heads srcs snks (lanes_into edges k) (lanes_out_of edges k) n (view m)
+        → IsPart outputs heads srcs snks (first_at outputs nodes edges k) (lanes_into edges k) (lanes_out_of edges k) n (view m)
     pub srcs_aside : (i : ℕ) → i < length srcs → (IsBefore nodes (length parts) (node.Demux i) → ⊥) → IsAside srcs src_places i
     pub snks_aside : (o : ℕ) → o < length snks → (IsBefore nodes (length parts) (node.Mux o) → ⊥) → IsAside snks snk_places o
     pub src_count : length src_places ≡ length srcs

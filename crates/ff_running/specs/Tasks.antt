@@ -1,10 +1,12 @@
 -- What each node of a plan is there for, by the heads and the bytes of the inputs and the lanes at its ports.
-use Rattle.std.specs.Prelude.{ℕ, false, List, [], ◌∷◌, length, slice_get, slice_index_or, Option, None, Some}
+use Rattle.std.specs.Prelude.{ℕ, ◌-◌, false, List, [], ◌∷◌, length, map, slice_get, slice_index_or, Option, None, Some}
 use Rattle.ff_values.specs.declared.head.StreamHead.{StreamHead}
 use Rattle.ff_frame.specs.declared.item.Lane.{Lane}
 use Rattle.ff_frame.specs.Lanes.{head_of}
 use Rattle.ff_words.specs.declared.job.OutputJob.{OutputJob}
+use Rattle.ff_edges.specs.declared.edge.Edge.{Edge}
 use Rattle.ff_net.specs.Pasts.{Task, no_events}
+use Rattle.ff_plan.specs.Numbers.{first_stream}
 use Rattle.ff_plan.specs.declared.planned.PlanNode.{PlanNode}
 use Rattle.ff_plan.specs.declared.planned.PlanNode.TheVariants as node
 use Rattle.ff_running.specs.Kinds.{KindsOf}
@@ -12,6 +14,14 @@ use Rattle.ff_running.specs.Kinds.{KindsOf}
 -- that of a node that isn't there
 abbrev pub idle : Task
 idle = record { means = λ ss. []; cause = λ ss. None; source = false; tells = no_events }
+
+-- the number of the first output stream at a node: the Mux nodes stand last, one for each output
+abbrev pub first_at : List OutputJob → List PlanNode → List Edge → ℕ → ℕ
+first_at outputs nodes edges k = first_stream (length nodes - length outputs) edges k
+
+-- the heads of the streams on some lanes
+abbrev pub heads_on : List Lane → List StreamHead
+heads_on lanes = map (λ l. head_of l) lanes
 
 -- the head of the stream on the first of some lanes
 abbrev pub first_head : List Lane → Option StreamHead
@@ -32,16 +42,16 @@ module _ {H : Type 0} (is : KindsOf H) where
   enc_by (Some head) None = idle
   enc_by (Some head) (Some coded) = is.enc_task head coded
 
-  abbrev pub mux_by : ℕ → Option OutputJob → Option StreamHead → Task
-  mux_by output None coded = idle
-  mux_by output (Some out) None = idle
-  mux_by output (Some out) (Some coded) = is.mux_task output out coded
+  abbrev pub mux_by : ℕ → Option OutputJob → List StreamHead → Task
+  mux_by first None coded = idle
+  mux_by first (Some out) coded = is.mux_task first out coded
 
-  -- of a node with these lanes at its inputs and at its outputs; graphs and Shortest nodes come later
-  abbrev pub task_of : List OutputJob → List H → List (List ℕ) → List Lane → List Lane → PlanNode → Task
-  task_of outputs heads bytes ins outs (node.Demux i) = demux_by i (slice_get heads i) (slice_index_or bytes i [])
-  task_of outputs heads bytes ins outs (node.Dec at) = dec_by (first_head ins) (length outs)
-  task_of outputs heads bytes ins outs (node.Graph g) = idle
-  task_of outputs heads bytes ins outs (node.Shortest o) = idle
-  task_of outputs heads bytes ins outs (node.Enc o j) = enc_by (first_head ins) (first_head outs)
-  task_of outputs heads bytes ins outs (node.Mux o) = mux_by o (slice_get outputs o) (first_head ins)
+  -- of a node with these lanes at its inputs and at its outputs, where its first output stream has this number; graphs and Shortest
+  -- nodes come later
+  abbrev pub task_of : List OutputJob → List H → List (List ℕ) → ℕ → List Lane → List Lane → PlanNode → Task
+  task_of outputs heads bytes first ins outs (node.Demux i) = demux_by i (slice_get heads i) (slice_index_or bytes i [])
+  task_of outputs heads bytes first ins outs (node.Dec at) = dec_by (first_head ins) (length outs)
+  task_of outputs heads bytes first ins outs (node.Graph g) = idle
+  task_of outputs heads bytes first ins outs (node.Shortest o) = idle
+  task_of outputs heads bytes first ins outs (node.Enc o j) = enc_by (first_head ins) (first_head outs)
+  task_of outputs heads bytes first ins outs (node.Mux o) = mux_by first (slice_get outputs o) (heads_on ins)

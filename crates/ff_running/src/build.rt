@@ -1,17 +1,18 @@
 // The part of each node of a plan.
-ghost use Rattle.std.specs.Prelude.{◌≡◌, ◌<◌, ◌≤◌, ℕ, List, [], ◌∷◌, length, slice_get, vec_capacity, Option, Some, None, IfSome, IsNone, IfOk, IfErr};
+ghost use Rattle.std.specs.Prelude.{◌≡◌, ◌+◌, ◌^◌, ◌<◌, ◌≤◌, ℕ, List, [], length, map, slice_get, vec_capacity, Option, Some, None, IfSome, IsNone, IfOk, IfErr};
 ghost use Rattle.ff_frame.specs.declared.item.Lane.{Lane};
 ghost use Rattle.ff_frame.specs.declared.item.Lane.TheVariants.{Packets};
 ghost use Rattle.ff_net.specs.Pasts.{start};
 ghost use Rattle.ff_words.specs.declared.job.OutputJob.{OutputJob};
 ghost use Rattle.ff_plan.specs.declared.planned.PlanNode.TheVariants.{Demux as DemuxNode, Mux as MuxNode};
 ghost use Rattle.ff_running.specs.Kinds.{IsNew};
-ghost use Rattle.ff_running.specs.Parts.{FitsDemux, IsFitting, IsAside, IsPart, AreFitting, AreOrdered, AllAside, AreParts};
+ghost use Rattle.ff_running.specs.Tasks.{first_at};
+ghost use Rattle.ff_running.specs.Parts.{FitsDemux, HaveNumbers, IsFitting, IsAside, IsPart, AreFitting, AreOrdered, AllAside, AreParts};
 ghost use Rattle.ff_edges.specs.Ports.{lanes_into as lanes_into_of, lanes_out_of as lanes_out_of_node};
 ghost use Rattle.ff_plan.specs.declared.planned.PlanNode.{PlanNode};
 
 use crate::kinds::Kinds;
-use crate::lanes::{head_of, lanes_into, lanes_out_of};
+use crate::lanes::{head_of, heads_on, lanes_into, lanes_out_of, streams_between};
 use crate::tables::{put, take};
 use ff_edges::Edge;
 use ff_frame::{Lane, StreamHead};
@@ -56,7 +57,7 @@ fn demuxer_at<
     }
 }
 
-// The muxer of an output, over the sink in its place.
+// The muxer of an output, whose first stream has this number, over the sink in its place.
 fn muxer_at<
     K: Kinds<Src, Snk, M>,
     Src: Source + Send + Drop,
@@ -65,23 +66,25 @@ fn muxer_at<
 >(
     alloc: Global,
     output: u32,
+    first: u32,
     outputs: &[OutputJob],
-    coded: &StreamHead,
+    coded: &[StreamHead],
     snks: &mut Vec<Option<Snk>>,
 ) -> Option<M>
     requires there { (snk : Snk) × (slice_get snks.old.items output ≡ Some (Some snk)) }
     requires fits { (out : OutputJob) × (slice_get outputs.now output ≡ Some out) × K.is.CanMux out coded.now }
+    requires numbers { first + length coded.now ≤ 2 ^ 32 }
     ensures made { IfSome result (λ m. (snk : Snk) → slice_get snks.old.items output ≡ Some (Some snk)
-        → IsNew None (Packets coded.now ∷ []) [] (Snk.name snk) (Snk.faults snk) (M.view m)) }
+        → IsNew None (map (λ head. Packets head) coded.now) [] (Snk.name snk) (Snk.faults snk) (M.view m)) }
     ensures starts { IfSome result (λ m. (snk : Snk) → slice_get snks.old.items output ≡ Some (Some snk) → (out : OutputJob) → slice_get outputs.now output ≡ Some out
-        → Snk.holds snk ≡ Some [] → (M.view m).stands (start (K.is.mux_task output out coded.now))) }
+        → Snk.holds snk ≡ Some [] → (M.view m).stands (start (K.is.mux_task first out coded.now))) }
     ensures back { IsNone result → (w : ℕ) → slice_get snks.new.items w ≡ slice_get snks.old.items w }
     ensures kept { (w : ℕ) → (w ≡ output → ⊥) → slice_get snks.new.items w ≡ slice_get snks.old.items w }
     ensures as_many { length snks.new.items ≡ length snks.old.items }
 {
     let place = output as usize;
     let snk = take(snks, place);
-    match K::muxer(alloc, output, &outputs[place], coded, snk) {
+    match K::muxer(alloc, first, &outputs[place], coded, snk) {
         Ok(part) => Some(part),
         Err(snk) => {
             put(snks, place, snk);
@@ -90,7 +93,8 @@ fn muxer_at<
     }
 }
 
-// The part of a node with these lanes at its inputs and outputs. None where memory is refused; then all is in its place.
+// The part of a node with these lanes at its inputs and outputs, whose first output stream has this number. None where memory is
+// refused; then all is in its place.
 fn part_at<
     K: Kinds<Src, Snk, M>,
     Src: Source + Send + Drop,
@@ -99,6 +103,7 @@ fn part_at<
 >(
     alloc: Global,
     node: PlanNode,
+    first: u32,
     ins: &[Lane],
     outs: &[Lane],
     heads: &[K::Head],
@@ -106,11 +111,12 @@ fn part_at<
     places: &mut Places<Src, Snk>,
 ) -> Option<M>
     requires fits { IsFitting K.is outputs.now heads.now ins.now outs.now node }
+    requires numbers { (o : ℕ) → node ≡ MuxNode o → first + length ins.now ≤ 2 ^ 32 }
     requires source { (i : ℕ) → node ≡ DemuxNode i → (s : Src) × (slice_get places.old.srcs.items i ≡ Some (Some s)) }
     requires sink { (o : ℕ) → node ≡ MuxNode o → (s : Snk) × (slice_get places.old.snks.items o ≡ Some (Some s)) }
     ensures made { IfSome result (λ m. (srcs : List Src) (snks : List Snk) → ((i : ℕ) → node ≡ DemuxNode i → IsAside srcs places.old.srcs.items i)
         → ((o : ℕ) → node ≡ MuxNode o → IsAside snks places.old.snks.items o)
-        → IsPart K.is Src.left Src.name Src.faults Snk.holds Snk.name Snk.faults outputs.now heads.now srcs snks ins.now outs.now node (M.view m)) }
+        → IsPart K.is Src.left Src.name Src.faults Snk.holds Snk.name Snk.faults outputs.now heads.now srcs snks first ins.now outs.now node (M.view m)) }
     ensures srcs_back { IsNone result → (w : ℕ) → slice_get places.new.srcs.items w ≡ slice_get places.old.srcs.items w }
     ensures snks_back { IsNone result → (w : ℕ) → slice_get places.new.snks.items w ≡ slice_get places.old.snks.items w }
     ensures srcs_kept { (w : ℕ) → (node ≡ DemuxNode w → ⊥) → slice_get places.new.srcs.items w ≡ slice_get places.old.srcs.items w }
@@ -125,8 +131,10 @@ fn part_at<
         PlanNode::Dec { .. } => K::decoder(alloc, &head_of(&ins[0]), outs.len()).ok(),
         PlanNode::Enc { .. } => K::encoder(alloc, &head_of(&ins[0]), &head_of(&outs[0])).ok(),
         PlanNode::Mux { output } => {
-            let coded = head_of(&ins[0]);
-            muxer_at::<K, Src, Snk, M>(alloc, output, outputs, &coded, &mut places.snks)
+            let Ok(coded) = heads_on(alloc, ins) else {
+                return None;
+            };
+            muxer_at::<K, Src, Snk, M>(alloc, output, first, outputs, &coded, &mut places.snks)
         }
         PlanNode::Graph { .. } | PlanNode::Shortest { .. } => unreachable!(),
     }
@@ -149,12 +157,13 @@ fn part_of<
 ) -> Option<M>
     requires there { number < length nodes.now }
     requires fitting { AreFitting K.is outputs.now heads.now edges.now nodes.now }
+    requires numbers { HaveNumbers outputs.now edges.now nodes.now }
     requires source { (i : ℕ) → slice_get nodes.now number ≡ Some (DemuxNode i) → (s : Src) × (slice_get places.old.srcs.items i ≡ Some (Some s)) }
     requires sink { (o : ℕ) → slice_get nodes.now number ≡ Some (MuxNode o) → (s : Snk) × (slice_get places.old.snks.items o ≡ Some (Some s)) }
     ensures made { IfSome result (λ m. (n : PlanNode) → slice_get nodes.now number ≡ Some n → (srcs : List Src) (snks : List Snk)
         → ((i : ℕ) → n ≡ DemuxNode i → IsAside srcs places.old.srcs.items i) → ((o : ℕ) → n ≡ MuxNode o → IsAside snks places.old.snks.items o)
         → IsPart K.is Src.left Src.name Src.faults Snk.holds Snk.name Snk.faults outputs.now heads.now srcs snks
-        (lanes_into_of edges.now number) (lanes_out_of_node edges.now number) n (M.view m)) }
+        (first_at outputs.now nodes.now edges.now number) (lanes_into_of edges.now number) (lanes_out_of_node edges.now number) n (M.view m)) }
     ensures srcs_back { IsNone result → (w : ℕ) → slice_get places.new.srcs.items w ≡ slice_get places.old.srcs.items w }
     ensures snks_back { IsNone result → (w : ℕ) → slice_get places.new.snks.items w ≡ slice_get places.old.snks.items w }
     ensures srcs_kept { (w : ℕ) → (slice_get nodes.now number ≡ Some (DemuxNode w) → ⊥) → slice_get places.new.srcs.items w ≡ slice_get places.old.srcs.items w }
@@ -168,7 +177,9 @@ fn part_of<
     let Ok(outs) = lanes_out_of(alloc, edges, number) else {
         return None;
     };
-    part_at::<K, Src, Snk, M>(alloc, nodes[number], &ins, &outs, heads, outputs, places)
+    let muxes = nodes.len().saturating_sub(outputs.len());
+    let first = streams_between(edges, muxes, number) as u32;
+    part_at::<K, Src, Snk, M>(alloc, nodes[number], first, &ins, &outs, heads, outputs, places)
 }
 
 /// The parts of all nodes, or where memory is refused those of the nodes in front.
@@ -188,6 +199,7 @@ pub(crate) fn build<
 ) -> Result<Vec<M>, Vec<M>>
     requires room { (parts.items ≡ []) × (length nodes.now ≤ vec_capacity parts) }
     requires fitting { AreFitting K.is outputs.now heads.now edges.now nodes.now }
+    requires numbers { HaveNumbers outputs.now edges.now nodes.now }
     requires ordered { AreOrdered (length places.old.srcs.items) (length places.old.snks.items) nodes.now }
     requires aside { (srcs : List Src) × (snks : List Snk) × AllAside srcs places.old.srcs.items × AllAside snks places.old.snks.items }
     ensures all { IfOk result (λ parts. length parts.items ≡ length nodes.now) }

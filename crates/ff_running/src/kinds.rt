@@ -1,11 +1,14 @@
 // The kinds of node of a plan.
-ghost use Rattle.std.specs.Prelude.{◌≡◌, ◌≢◌, ◌≤◌, ℕ, true, List, [], ◌∷◌, Option, Some, None, IfOk, IfErr, replicate};
+ghost use Rattle.std.specs.Prelude.{◌≡◌, ◌≢◌, ◌≤◌, ◌+◌, ◌^◌, ℕ, true, List, [], ◌∷◌, length, map, Option, Some, None, IfOk, IfErr, replicate};
 ghost use Rattle.ff_frame.specs.declared.item.Lane.TheVariants.{Frames, Packets};
-ghost use Rattle.ff_frame.specs.Stream.{LiesBelow, opened};
+ghost use Rattle.ff_frame.specs.Ports.{AllBelow};
+ghost use Rattle.ff_frame.specs.Stream.{opened};
 ghost use Rattle.ff_net.specs.Pasts.{start};
 ghost use Rattle.ff_net.specs.Ways.{Flow};
 ghost use Rattle.ff_files.specs.Works.{HoldsPart};
+ghost use Rattle.std.specs.List.{AllByRecursion};
 ghost use Rattle.ff_plan.specs.Streams.{packed_as, takes_head};
+ghost use Rattle.ff_plan.specs.Today.{most_built};
 ghost use Rattle.ff_words.specs.declared.job.OutputJob.{OutputJob};
 ghost use Rattle.ff_values.specs.declared.head.StreamHead.{StreamHead};
 ghost use Rattle.ff_running.specs.Events.{TellOfThemselves};
@@ -61,18 +64,19 @@ pub trait Kinds<Src: Source + Send + Drop, Snk: Sink + Send + Drop, Part: Machin
         ensures new { IfOk result (λ m. IsNew None (Frames head.now ∷ []) (Packets coded.now ∷ []) None 0 (Part.view m)) }
         ensures starts { IfOk result (λ m. (Part.view m).stands (start (is.enc_task head.now coded.now))) };
 
-    /// Writes packets with this head to the output of this number, over a sink that holds nothing. The sink comes back where
-    /// memory is refused.
+    /// Writes packets of streams with these heads to an output, over a sink that holds nothing; their numbers go from the first one
+    /// on. The sink comes back where memory is refused.
     fn muxer(
         alloc: Global,
-        output: u32,
+        first: u32,
         out: &OutputJob,
-        coded: &StreamHead,
+        coded: &[StreamHead],
         snk: Snk,
     ) -> Result<Part, Snk>
-        requires { is.CanMux out.now coded.now }
-        ensures new { IfOk result (λ m. IsNew None (Packets coded.now ∷ []) [] (Snk.name snk) (Snk.faults snk) (Part.view m)) }
-        ensures starts { IfOk result (λ m. Snk.holds snk ≡ Some [] → (Part.view m).stands (start (is.mux_task output out.now coded.now))) }
+        requires can { is.CanMux out.now coded.now }
+        requires numbers { first + length coded.now ≤ 2 ^ 32 }
+        ensures new { IfOk result (λ m. IsNew None (map (λ head. Packets head) coded.now) [] (Snk.name snk) (Snk.faults snk) (Part.view m)) }
+        ensures starts { IfOk result (λ m. Snk.holds snk ≡ Some [] → (Part.view m).stands (start (is.mux_task first out.now coded.now))) }
         ensures back { IfErr result (λ back. back ≡ snk) };
 
     /// The source or the sink of a part, as it is now.
@@ -86,14 +90,14 @@ pub trait Kinds<Src: Source + Send + Drop, Snk: Sink + Send + Drop, Part: Machin
     ghost encodes: { (h : Self.Head) (out : OutputJob) → is.IsHead h → takes_head out (is.stream h) ≡ true
         → is.CanEncode (is.stream h) (packed_as out (is.stream h)) };
 
-    /// and written to it.
-    ghost writes: { (h : Self.Head) (out : OutputJob) → is.IsHead h → takes_head out (is.stream h) ≡ true
-        → is.CanMux out (packed_as out (is.stream h)) };
+    /// and written to it: some streams, and no more than its format holds.
+    ghost writes: { (hs : List Self.Head) (out : OutputJob) → AllByRecursion (λ h. is.IsHead h × (takes_head out (is.stream h) ≡ true)) hs
+        → 1 ≤ length hs → length hs ≤ most_built out.format → is.CanMux out (map (λ h. packed_as out (is.stream h)) hs) };
 
     /// Each node tells of its own input or output alone.
     ghost own: { TellOfThemselves is };
 
-    /// What is held of a stream is held of a longer one.
-    ghost holds_on: { (out : OutputJob) (coded : StreamHead) (held : Option (List ℕ)) (r s : Flow) → LiesBelow (opened r) s
-        → HoldsPart held (is.text out coded r) (is.file out coded r) → HoldsPart held (is.text out coded s) (is.file out coded s) };
+    /// What is held of streams is held of longer ones.
+    ghost holds_on: { (out : OutputJob) (coded : List StreamHead) (held : Option (List ℕ)) (rs ss : List Flow) → AllBelow (map opened rs) ss
+        → HoldsPart held (is.text out coded rs) (is.file out coded rs) → HoldsPart held (is.text out coded ss) (is.file out coded ss) };
 }

@@ -3,6 +3,8 @@ ghost use Rattle.std.specs.Prelude.{◌≡◌, IfOk};
 ghost use Rattle.std.specs.List.{filter_map};
 ghost use Rattle.ff_frame.specs.Lanes.{head_of as head_of_lane};
 ghost use Rattle.ff_edges.specs.Ports.{shape_of};
+ghost use Rattle.ff_plan.specs.Numbers.{leads_between as leads_between_nodes, streams_between as streams_between_nodes};
+ghost use Rattle.ff_running.specs.Tasks.{heads_on as heads_on_lanes};
 ghost use Rattle.ff_edges.specs.Ports.{lane_of, lanes_into as lanes_into_of, lanes_out_of as lanes_out_of_node};
 
 use ff_edges::{Edge, edges_into, edges_out_of};
@@ -65,6 +67,37 @@ fn lanes_of(alloc: Global, edges: &[Edge], numbers: &[usize]) -> Result<Vec<Lane
         }
     }
     Ok(lanes)
+}
+
+/// The heads of the streams on some lanes.
+pub(crate) fn heads_on(alloc: Global, lanes: &[Lane]) -> Result<Vec<StreamHead>, AllocError>
+    ensures { IfOk result (λ heads. heads.items ≡ heads_on_lanes lanes.now) }
+{
+    let mut heads = Vec::new(alloc);
+    for k in 0..lanes.len() {
+        heads.push(head_of(&lanes[k]))?;
+    }
+    Ok(heads)
+}
+
+// Whether an edge leads to one of the nodes from `low` on, before `high`.
+fn leads_between(edge: &Edge, low: usize, high: usize) -> bool
+    ensures { result ≡ leads_between_nodes low high edge.now }
+{
+    low <= edge.to as usize && (edge.to as usize) < high
+}
+
+/// How many edges lead to the nodes from `low` on, before `high`.
+pub(crate) fn streams_between(edges: &[Edge], low: usize, high: usize) -> usize
+    ensures { result ≡ streams_between_nodes low high edges.now }
+{
+    let mut count: usize = 0;
+    for k in 0..edges.len() {
+        if leads_between(&edges[k], low, high) {
+            count += 1;
+        }
+    }
+    count
 }
 
 /// The lanes of the edges at the inputs of a node, by port.

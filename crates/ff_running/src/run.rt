@@ -8,7 +8,7 @@ ghost use Rattle.ff_network.specs.Runs.{AllKept, MeetsNetwork};
 ghost use Rattle.ff_files.specs.Works.{AreTold};
 ghost use Rattle.ff_running.specs.Claims.{tell_all};
 ghost use Rattle.ff_network.specs.Fits.{ports_by};
-ghost use Rattle.ff_running.specs.Parts.{AreFitting, AreOrdered, AllAside};
+ghost use Rattle.ff_running.specs.Parts.{AreFitting, AreOrdered, AllAside, HaveNumbers};
 ghost use Rattle.ff_network.specs.Scheduling.{AllRouted};
 ghost use Rattle.ff_running.specs.Histories.{AreScheduled, IsHistoryOf};
 ghost use Rattle.ff_running.specs.Openings.{CanBegin, or_memory};
@@ -134,6 +134,7 @@ fn build_and_run<
     requires size { (1 ≤ size) × (size ≤ 1024) }
     requires fits { AreFit (ports_by edges.now) (length nodes.now) edges.now }
     requires fitting { AreFitting K.is outputs.now heads.now edges.now nodes.now }
+    requires numbers { HaveNumbers outputs.now edges.now nodes.now }
     requires ordered { AreOrdered (length places.old.srcs.items) (length places.old.snks.items) nodes.now }
     requires opening { CanBegin opening }
     requires sources { length places.old.srcs.items ≤ opening.routes.sources }
@@ -210,6 +211,7 @@ pub(crate) fn run_nodes<
     requires size { (1 ≤ size) × (size ≤ 1024) }
     requires fits { AreFit (ports_by edges.now) (length nodes.now) edges.now }
     requires fitting { AreFitting K.is outputs.now heads.now edges.now nodes.now }
+    requires numbers { HaveNumbers outputs.now edges.now nodes.now }
     requires ordered { AreOrdered (length srcs.items) (length snks.items) nodes.now }
     requires opening { CanBegin opening }
     requires sources { length srcs.items ≤ opening.routes.sources }

@@ -1,10 +1,12 @@
-use Rattle.std.proofs.Common.{◌≡◌, List, slice_get, slice_index_or, Some, sym, ap, ◌∙◌, subst}
+use Rattle.std.proofs.Common.{◌≡◌, ℕ, List, slice_get, slice_index_or, Some, sym, ap, ◌∙◌, subst}
 use Rattle.std.proofs.lemmas.Option.{slice_get-get_or}
 use Rattle.ff_frame.specs.declared.item.Lane.{Lane}
 use Rattle.ff_plan.specs.declared.planned.PlanNode.{PlanNode}
 use Rattle.ff_plan.specs.declared.planned.PlanNode.TheVariants as node
 use Rattle.ff_edges.specs.Ports.{lanes_into, lanes_out_of}
 use Rattle.ff_running.specs.Parts.{IsFitting, IsPart}
+use Rattle.ff_plan.specs.Numbers.{streams_between}
+use Rattle.ff_running.specs.Tasks.{first_at}
 use Rattle.ff_running.proofs.Making.{if_more}
 use Rattle.ff_running.proofs.Numbers.{same_some}
 use Rattle.ff_running.proofs.build.part_of.Goals as goal
@@ -45,10 +47,13 @@ returns-clause-made g c =
     let x = slice_index_or c.args.nodes.now k (node.Demux 0) in
     let at : slice_get c.args.nodes.now k ≡ Some x = slice_get-get_or c.args.nodes.now k (node.Demux 0) c.requires.there in
     let ins : c.deref.result.now ≡ lanes_into c.args.edges.now k = c.deref.ensures.value ∙ c.in-Ok.ensures in
+    let first : c.streams_between-first.result ≡ first_at outputs c.args.nodes.now c.args.edges.now k =
+    c.streams_between-first.ensures ∙ ap (λ (low : ℕ). streams_between low k c.args.edges.now) c.saturating_sub-muxes.ensures in
     let outs : c.deref-2.result.now ≡ lanes_out_of c.args.edges.now k = c.deref-2.ensures.value ∙ c.in-Ok-lanes_out_of.ensures in
     if_more _ _ c.part_at.result c.part_at.ensures.made (λ m made n there srcs snks src_aside snk_aside.
     let same : x ≡ n = same_some (slice_get c.args.nodes.now k) x n at there in
     let part = made srcs snks (λ i e. src_aside i (sym same ∙ e)) (λ o e. snk_aside o (sym same ∙ e)) in
-    subst (λ (z : PlanNode). IsPart is S.left S.name S.faults K.holds K.name K.faults outputs heads srcs snks (lanes_into c.args.edges.now k) (lanes_out_of c.args.edges.now k) z (view m)) same
-    (subst (λ (ls : List Lane). IsPart is S.left S.name S.faults K.holds K.name K.faults outputs heads srcs snks ls (lanes_out_of c.args.edges.now k) x (view m)) ins
-    (subst (λ (ls : List Lane). IsPart is S.left S.name S.faults K.holds K.name K.faults outputs heads srcs snks c.deref.result.now ls x (view m)) outs part)))
+    subst (λ (z : PlanNode). IsPart is S.left S.name S.faults K.holds K.name K.faults outputs heads srcs snks (first_at outputs c.args.nodes.now c.args.edges.now k) (lanes_into c.args.edges.now k) (lanes_out_of c.args.edges.now k) z (view m)) same
+    (subst (λ (ls : List Lane). IsPart is S.left S.name S.faults K.holds K.name K.faults outputs heads srcs snks (first_at outputs c.args.nodes.now c.args.edges.now k) ls (lanes_out_of c.args.edges.now k) x (view m)) ins
+    (subst (λ (ls : List Lane). IsPart is S.left S.name S.faults K.holds K.name K.faults outputs heads srcs snks (first_at outputs c.args.nodes.now c.args.edges.now k) c.deref.result.now ls x (view m)) outs
+    (subst (λ (n : ℕ). IsPart is S.left S.name S.faults K.holds K.name K.faults outputs heads srcs snks n c.deref.result.now c.deref-2.result.now x (view m)) first part))))

@@ -18,7 +18,7 @@ returns-in-Ok-plan_of-clause-ok g c =
     let lent = c.deref.result.now in
     let laws = g.met.K.Kinds in
     is_plan g.K.Kinds.is c.args.job.now c.args.heads.now c.requires laws.decodes laws.encodes laws.writes (lists lent) (length lent) c.in-Ok-plan_of.plan (ap lists c.deref.ensures.value ∙ c.in-Ok.ensures)
-    (sym (length-map lent (λ (v : Vec StreamHead Global). v.items))) told.made told.fed told.ins told.outs told.kinds told.fit told.routes told.sources
+    (sym (length-map lent (λ (v : Vec StreamHead Global). v.items))) told.made told.fed told.ins told.outs told.kinds told.fit told.routes told.sources told.numbers
 
 pub returns : goal.returns
 returns g c =
