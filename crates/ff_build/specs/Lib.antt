@@ -2,4 +2,5 @@ pub mod PartViews
 pub mod PartLaws
 pub mod Parts
 pub mod Events
+pub mod Held
 pub mod Takes

@@ -1,5 +1,6 @@
 -- What a head that was read tells of its stream can be decoded, and coded and written as an output takes it.
-use Rattle.std.specs.Prelude.{◌≡◌, ℕ, ◌^◌, ◌<◌, ◌≤◌, ◌&&◌, nat_le, if◌then◌else◌, Bool, true, false, refl}
+use Rattle.std.specs.Prelude.{◌≡◌, ℕ, ◌^◌, ◌<◌, ◌≤◌, ◌&&◌, nat_le, if◌then◌else◌, Bool, true, false, List, [], ◌∷◌, length, map, refl}
+use Rattle.std.specs.List.{AllByRecursion}
 use Rattle.std.proofs.Common.{arith, subst, sym}
 use Rattle.std.proofs.lemmas.Bool.Decides.{nat_tests}
 use Rattle.ff_time.specs.Fraction.{Fraction, IsBase, IsBase-unit}
@@ -18,13 +19,14 @@ use Rattle.ff_map.specs.declared.map.Kind.TheVariants as kind
 use Rattle.ff_mux.specs.FlacHead.{HasRoom}
 use Rattle.ff_muxing.specs.Outputs.{CanWrite}
 use Rattle.ff_pcm.specs.Frames.{IsPcmHead}
+use Rattle.ff_plan.specs.Today.{most_built}
 use Rattle.ff_plan.specs.Streams.{audio_codec, is_pcm, packed_as, packed_bits, takes_head, takes_kind, takes_sound}
 use Rattle.ff_wav.specs.Packets as wav
 use Rattle.ff_words.specs.declared.job.FileFormat.{FileFormat}
 use Rattle.ff_words.specs.declared.job.FileFormat.TheVariants as format
 use Rattle.ff_words.specs.declared.job.OutputJob.{OutputJob}
 use Rattle.ff_y4m.specs.Packets as y4m
-use Rattle.ff_build.specs.Parts.{CanEncodeTo, is_flac, is_flac_coded}
+use Rattle.ff_build.specs.Parts.{CanEncodeTo, IsAlone, is_flac, is_flac_coded}
 
 pcm_decodes : (head : StreamHead) (c : Codec) → IsPcmCodec c → IsPcmHead head → CanDecodeSound head c
 pcm_decodes head codec.PcmU8 p h = h
@@ -167,5 +169,8 @@ written (Audio tb rate bits channels from) out read t =
     write_sound out.format (audio_codec out out.format) tb rate bits channels read.1 read.2 t
 written (Video tb p width height sar_num sar_den) out read t = write_pictures out.format tb p width height sar_num sar_den t
 
-pub heads_are_written : (h : InputHead) (out : OutputJob) → IsHead h → takes_head out (stream_in h) ≡ true → CanWrite out.format (packed_as out (stream_in h))
-heads_are_written h out is t = written (stream_in h) out (read_sound h is) t
+pub heads_are_written : (hs : List InputHead) (out : OutputJob) → AllByRecursion (λ h. IsHead h × (takes_head out (stream_in h) ≡ true)) hs
+    → 1 ≤ length hs → length hs ≤ most_built out.format → IsAlone (CanWrite out.format) (map (λ h. packed_as out (stream_in h)) hs)
+heads_are_written [] out all some few = absurd (omega (arith, some))
+heads_are_written (h ∷ []) out all some few = written (stream_in h) out (read_sound h all.0.0) all.0.1
+heads_are_written (h ∷ g ∷ hs) out all some few = absurd (omega (arith, few))

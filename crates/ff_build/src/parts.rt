@@ -1,5 +1,5 @@
 // The kinds of node, built.
-ghost use Rattle.std.specs.Prelude.{◌≡◌};
+ghost use Rattle.std.specs.Prelude.{◌≡◌, ◌≤◌, length, slice_get, Some};
 ghost use Rattle.ff_build.specs.Parts.{is_flac as flac_is, is_flac_coded as flac_is_coded};
 
 use crate::part::Part;
@@ -35,16 +35,23 @@ fn is_flac_coded(coded: &StreamHead) -> bool
     }
 }
 
+// The head of the one stream of an output.
+fn only_head(coded: &[StreamHead]) -> StreamHead
+    requires { 1 ≤ length coded.now }
+    ensures { slice_get coded.now 0 ≡ Some result }
+{
+    coded[0]
+}
+
 /// The kinds of node of a plan, over any format and codec that is read or written.
 #[derive(Drop)]
 pub struct Parts;
 
 impl<Src: Source + Send + Drop, Snk: Sink + Send + Drop> Kinds<Src, Snk, Part<Src, Snk>> for Parts {
     ghost use Rattle.ff_build.specs.Events.{parts_tell_of_themselves};
+    ghost use Rattle.ff_build.specs.Held.{parts_are_held};
     ghost use Rattle.ff_build.specs.Parts.{all_kinds};
     ghost use Rattle.ff_build.specs.Takes.{heads_decode, heads_encode, heads_are_written};
-    ghost use Rattle.ff_muxing.specs.Held.{held_parts_stay};
-    ghost use Rattle.ff_muxing.specs.Outputs.{layout_of};
 
     type Head = InputHead;
 
@@ -89,15 +96,16 @@ impl<Src: Source + Send + Drop, Snk: Sink + Send + Drop> Kinds<Src, Snk, Part<Sr
 
     fn muxer(
         alloc: Global,
-        output: u32,
+        first: u32,
         out: &OutputJob,
-        coded: &StreamHead,
+        coded: &[StreamHead],
         snk: Snk,
     ) -> Result<Part<Src, Snk>, Snk> {
-        let Ok(writer) = writer_of(alloc, out.format, out.hash, coded) else {
+        let head = only_head(coded);
+        let Ok(writer) = writer_of(alloc, out.format, out.hash, &head) else {
             return Err(snk);
         };
-        Ok(Part::Mux(Mux::new(alloc, output, snk, writer, *coded)))
+        Ok(Part::Mux(Mux::new(alloc, first, snk, writer, head)))
     }
 
     fn into_ends(part: Part<Src, Snk>) -> Ends<Src, Snk> {
@@ -116,5 +124,5 @@ impl<Src: Source + Send + Drop, Snk: Sink + Send + Drop> Kinds<Src, Snk, Part<Sr
 
     ghost own = { parts_tell_of_themselves };
 
-    ghost holds_on = { λ out coded. held_parts_stay (layout_of out.format out.hash coded) };
+    ghost holds_on = { parts_are_held };
 }

@@ -179,7 +179,16 @@ fn part_of<
     };
     let muxes = nodes.len().saturating_sub(outputs.len());
     let first = streams_between(edges, muxes, number) as u32;
-    part_at::<K, Src, Snk, M>(alloc, nodes[number], first, &ins, &outs, heads, outputs, places)
+    part_at::<K, Src, Snk, M>(
+        alloc,
+        nodes[number],
+        first,
+        &ins,
+        &outs,
+        heads,
+        outputs,
+        places,
+    )
 }
 
 /// The parts of all nodes, or where memory is refused those of the nodes in front.

@@ -1,15 +1,18 @@
 use Rattle.std.specs.Prelude.{◌≡◌, ◌≤◌, ℕ, zero, suc, [], ◌∷◌, length, replicate}
 use Rattle.std.proofs.Common.{ap, arith, inl, inr, subst, sym}
-use Rattle.ff_values.specs.Heads.{base_of_head}
 use Rattle.ff_coders.specs.AnyCoders.{any_head, any_coded}
 use Rattle.ff_flac_coder.specs.Coding.{coded_head}
 use Rattle.ff_frame.specs.declared.item.Lane.{Lane}
 use Rattle.ff_frame.specs.declared.item.Lane.TheVariants.{Frames, Packets}
-use Rattle.ff_muxing.specs.Outputs.{layout_of}
+use Rattle.ff_muxing.specs.Muxers.{mux_fault, mux_layout, mux_stands}
+use Rattle.ff_muxing.specs.Muxing.{mux_task_of}
+use Rattle.ff_net.specs.Pasts.{Past}
+use Rattle.ff_writers.specs.Layouts.{Layout}
 use Rattle.ff_running.specs.Kinds.{IsSourceOf, IsSinkOf}
 use Rattle.ff_build.specs.declared.part.Part.{Part}
 use Rattle.ff_build.specs.Parts.{all_kinds}
 use Rattle.ff_build.specs.PartViews.{part_view}
+use Rattle.ff_build.proofs.Sinks.{whole_of, part_of, told_of}
 use Rattle.ff_build.proofs.parts.PartsKindsPart.into_ends.Goals as goal
 
 one_lane : (x : Lane) → (x ∷ []) ≡ [] → ⊥
@@ -46,15 +49,16 @@ pub returns : goal.returns
 returns g c =
     let K = g.Snk.Sink in
     let sink = c.into_sink.ensures in
+    let tasked : (past : Past) → mux_stands c.in-Mux.m past → (layout : Layout) × (past.task ≡ mux_task_of layout past.task.tells) = λ past s. (mux_layout c.in-Mux.m, s.0.1.task) in
     let GivesSink : Part g.row.Src.Denot g.row.Snk.Denot g.Snk.Sink → Type 0 =
     λ p. IsSinkOf all_kinds K.holds K.name K.faults (part_view g.Src.Source.left g.Src.Source.name g.Src.Source.faults p) c.into_sink.result × ((part_view g.Src.Source.left g.Src.Source.name g.Src.Source.faults p).in_lanes ≡ [] → ⊥) in
     subst GivesSink (sym c.in-Mux.is) (
       record {
         name = ap K.name sink.sink;
         faults = ap K.faults sink.sink;
-        whole = λ past output out coded s is. sink.whole past output (base_of_head coded) (layout_of out.format out.hash coded) s is;
-        told = λ past output out coded s is closed. sink.told past output (base_of_head coded) (layout_of out.format out.hash coded) s is closed;
-        part = λ past output out coded s is. sink.front past output (base_of_head coded) (layout_of out.format out.hash coded) s is;
+        whole = whole_of (K.holds c.into_sink.result) (mux_stands c.in-Mux.m) (mux_fault c.in-Mux.m) tasked sink.whole sink.front sink.told;
+        told = told_of (K.holds c.into_sink.result) (mux_stands c.in-Mux.m) (mux_fault c.in-Mux.m) tasked sink.whole sink.front sink.told;
+        part = part_of (K.holds c.into_sink.result) (mux_stands c.in-Mux.m) (mux_fault c.in-Mux.m) tasked sink.whole sink.front sink.told;
       },
       one_lane (Packets c.in-Mux.m.head),
     )
