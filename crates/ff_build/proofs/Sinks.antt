@@ -1,9 +1,8 @@
 -- What the sink of a muxer of one stream holds, and what was told, by the heads of the output's streams.
-use Rattle.std.proofs.Common.{◌≡◌, ℕ, zero, suc, ◌+◌, ◌<◌, ◌≤◌, List, [], ◌∷◌, filter, length, slice_get, Option, Some, None, IsSome, refl, sym, ap, ◌∙◌, subst, arith}
+use Rattle.std.proofs.Common.{◌≡◌, ℕ, zero, suc, ◌+◌, ◌<◌, ◌≤◌, List, [], ◌∷◌, filter, length, slice_get, Option, Some, None, IsSome, sym, ap, ◌∙◌, subst, arith}
 use Rattle.ff_time.specs.Fraction.{Fraction}
 use Rattle.ff_values.specs.Heads.{base_of_head}
 use Rattle.ff_values.specs.declared.head.StreamHead.{StreamHead}
-use Rattle.ff_values.specs.declared.event.Event.{Event}
 use Rattle.ff_muxing.specs.Held.{HoldsPart}
 use Rattle.ff_frame.specs.Ports.{stream_at, IsClosed, IsWhole}
 use Rattle.ff_muxing.specs.Muxing.{mux_task, mux_task_of, unpatched, file}

@@ -1,4 +1,4 @@
-use Rattle.std.proofs.Common.{◌≡◌, List, [], ◌∷◌, map, refl, sym, ap, ◌∙◌, subst}
+use Rattle.std.proofs.Common.{List, map, refl, sym, ap, ◌∙◌, subst}
 use Rattle.ff_frame.specs.declared.item.Lane.TheVariants.{Packets}
 use Rattle.ff_muxing.specs.Muxers.{mux_stands}
 use Rattle.ff_muxing.specs.Muxing.{mux_task}
