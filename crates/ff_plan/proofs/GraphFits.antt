@@ -43,7 +43,7 @@ use Rattle.ff_plan.proofs.Laid.{each_of, of_flat, place_holds}
 use Rattle.ff_plan.proofs.Layouts.{map_length, range_length, nat_self}
 use Rattle.ff_plan.proofs.Made.{Comes, comes_left}
 use Rattle.ff_plan.proofs.Numbered.{tally_hit}
-use Rattle.ff_plan.proofs.Once.{in_all}
+use Rattle.ff_plan.proofs.Once.{in_all, had}
 use Rattle.ff_plan.proofs.Outs.{IsFiltered, IsPassed, AllPassed, AreOutputs, Passes}
 use Rattle.ff_plan.proofs.Ported.{stands, passing, simple_numbers, complex_count, simple_count, numbered_once}
 
@@ -406,7 +406,7 @@ module _ (rules : Rules) (are : AreRules rules) (job : Job) (heads : List (List 
     complex_fit m im at =
         let s = standing_here m im in
         let row = slice_index_or (all_wants rules heads job.graphs) s.number [] in
-        let there = all_there s.front row (are.streams s.how.text (map (λ v. head_in (pad_in s.front v)) row) m.outs s.how.outs) in
+        let there = all_there s.front row (are.streams s.how.text (map (λ v. head_in (pad_in s.front v)) row) m.outs (had rules are job heads l w come all_in some_outputs m s)) in
         record {
           stands = Complex s.number;
           at = ap (λ (g : ℕ). slice_get all_texts g) s.how.number

@@ -119,6 +119,12 @@ module _ (rules : Rules) (heads : List (List StreamHead)) (graphs : List Graph) 
   pad_fits before i None e =
       By_kind e (find (λ s. has_kind i.kind s.head && not (is_taken before s)) (all_streams heads)) (λ k h. (found_is (λ s. has_kind i.kind s.head && not (is_taken before s)) (all_streams heads) k h).0) refl
 
+  pub fit_length : (is : List OpenIn) (ws : List Want) → AllFit is ws → length ws ≡ length is
+  fit_length [] [] fit = refl
+  fit_length [] (w ∷ ws) fit = absurd fit
+  fit_length (i ∷ is) [] fit = absurd fit
+  fit_length (i ∷ is) (w ∷ ws) fit = ap suc (fit_length is ws fit.1)
+
   pads_fit : (before : List Want) (is : List OpenIn) → AllFit is (wants_of rules heads graphs before is)
   pads_fit before [] = tt
   pads_fit before (i ∷ is) = (pad_fits before i i.label refl, pads_fit (before ++ want_of rules heads graphs before i.kind i.label ∷ []) is)

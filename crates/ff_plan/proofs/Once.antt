@@ -20,11 +20,11 @@ use Rattle.ff_plan.specs.declared.layout.InPad.{InPad}
 use Rattle.ff_plan.specs.declared.layout.Origin.{Origin}
 use Rattle.ff_plan.specs.declared.layout.OutStream.{OutStream}
 use Rattle.ff_plan.specs.declared.layout.Placed.{Placed}
-use Rattle.ff_plan.specs.Graphs.{AreRules, IsClear, open_taken, open_given, asks}
+use Rattle.ff_plan.specs.Graphs.{AreRules, IsHad, IsClear, open_taken, open_given, asks}
 use Rattle.ff_plan.specs.Labels.{giver, stream_of_label, taken_labels}
 use Rattle.ff_plan.specs.Layout.{IsAmong, Laid, Layout, place_row, place_from}
 use Rattle.ff_plan.specs.Order.{numbers, loop_of, loop_fault}
-use Rattle.ff_plan.specs.Pads.{Want, Made, has_label, made_at, all_wants, unlabelled}
+use Rattle.ff_plan.specs.Pads.{Want, Made, has_label, made_at, all_wants, unlabelled, head_in, pad_in}
 use Rattle.ff_plan.specs.Planned.{labels_of, graphs_of}
 use Rattle.ff_plan.specs.Rules.{Rules, OpenIn, OpenOut}
 use Rattle.ff_plan.specs.Streams.{Inside, Passed, label_in}
@@ -32,10 +32,10 @@ use Rattle.ff_plan.proofs.Among.{never, in_range}
 use Rattle.ff_plan.proofs.Counts.{total, total_same, total_map, tally_filter_few, total_zero, total_order, tally_joined, tally_none, tally_any, tally_not_any, any_tally, tally_among, tally_filter_in, tally_filter_out, tally_same, tally_map, tally_flat, same_text, text_self, turn_text}
 use Rattle.ff_plan.proofs.Given.{often, part_few, giver_is, given_once, taken_once, clear, no_refusal, no_unused}
 use Rattle.ff_plan.proofs.Graphed.{Stands, Walked, stand, graph_number, inside_of}
-use Rattle.ff_plan.proofs.Kept.{nothing, same_some, among_at}
+use Rattle.ff_plan.proofs.Kept.{nothing, same_some, among_at, below_at, index_at, map_at}
 use Rattle.ff_plan.proofs.Laid.{each_of}
-use Rattle.ff_plan.proofs.Layouts.{joined_length}
-use Rattle.ff_plan.proofs.Made.{AreMade, wants_fit}
+use Rattle.ff_plan.proofs.Layouts.{joined_length, map_length}
+use Rattle.ff_plan.proofs.Made.{AreMade, wants_fit, fit_length}
 use Rattle.ff_plan.proofs.Numbered.{is_same}
 use Rattle.ff_plan.proofs.Outs.{IsMapped, AreMapped, AreAsked, AreOutputs}
 use Rattle.ff_plan.proofs.Steps.{same_test, other_test}
@@ -101,6 +101,20 @@ no_loop_of (Some g) h = absurd (nothing _ (sym h))
 or_off : (a b : Bool) → (a || b) ≡ false → b ≡ false
 or_off true b h = absurd (never (sym h))
 or_off false b h = h
+
+or_on_left : (a b : Bool) → (a || b) ≡ false → a ≡ false
+or_on_left true b h = h
+or_on_left false b h = refl
+
+-- nor has one a loop of its own
+pub has_no_own : (rules : Rules) (graphs : List Graph) → loop_fault rules graphs ≡ None → (g : ℕ) (text : Graph) → slice_get graphs g ≡ Some text → rules.loops text ≡ false
+has_no_own rules graphs h g text at =
+    let own = map rules.loops graphs in
+    let lt = below_at text graphs g at in
+    let off = or_on_left (slice_index_or own g false) (comes_behind (feeds graphs) (length graphs) (length graphs) g g)
+    (none_found (λ (x : ℕ). slice_index_or own x false || comes_behind (feeds graphs) (length graphs) (length graphs) x x) (below (length graphs)) g (no_loop_of (on_loop own graphs) h)
+    (in_range 0 (length graphs) g (omega arith) (omega (arith, lt)))) in
+    sym (index_at own g (rules.loops text) false (map_at rules.loops graphs g text at)) ∙ off
 
 pub has_no_loop : (rules : Rules) (graphs : List Graph) → loop_fault rules graphs ≡ None → HasNoLoop (feeds graphs) (length graphs)
 has_no_loop rules graphs h = λ g lt.
@@ -287,6 +301,14 @@ module _ (rules : Rules) (are : AreRules rules) (job : Job) (heads : List (List 
       let most = once_in (feeds graphs) (length graphs) [] (graph_order graphs) g come in
       omega (arith, least, most)
 
+  -- each can be had with the heads of its inputs
+  pub had : (m : Made) (s : StandsIn m) → IsHad rules s.how.text (map (λ v. head_in (pad_in s.front v)) (slice_index_or wants s.number [])) m.outs
+  had m s =
+      let row = slice_index_or wants s.number [] in
+      let long = map_length (λ v. head_in (pad_in s.front v)) row in
+      let fit = fit_length rules heads graphs (rules.open_ins s.how.text) row (wants_fit rules heads graphs [] graphs s.number s.how.text s.how.there) in
+      (has_no_own rules graphs w.loops s.number s.how.text s.how.there, omega (arith, long, fit), s.how.outs)
+
   -- each label that is given is used by one pad or map
   pub used_once : (label : List ℕ) → is_one_of label (flat_map given_in graphs) ≡ true → often label (taken_labels graphs) + often label (flat_map labels_of job.outputs) ≡ 1
   used_once label is =
@@ -304,7 +326,7 @@ module _ (rules : Rules) (are : AreRules rules) (job : Job) (heads : List (List 
     At = slice_get m.outs q
 
     outs_named : (label : List ℕ) → tally (has_label label) m.outs ≡ often label (open_given s.how.text)
-    outs_named label = are.outs s.how.text _ m.outs s.how.outs (clear_at s.number s.how.text s.how.there) label
+    outs_named label = are.outs s.how.text (map (λ v. head_in (pad_in s.front v)) (slice_index_or wants s.number [])) m.outs (had m s) (clear_at s.number s.how.text s.how.there) label
 
     named_few : (label : List ℕ) → tally (has_label label) m.outs ≤ 1
     named_few label =
@@ -343,7 +365,7 @@ module _ (rules : Rules) (are : AreRules rules) (job : Job) (heads : List (List 
 
     module _ (n : Made) (t : StandsIn n) where
       ins_named : (label : List ℕ) → tally (asks label) (rules.open_ins t.how.text) ≡ often label (open_taken t.how.text)
-      ins_named label = are.ins t.how.text _ n.outs t.how.outs (clear_at t.number t.how.text t.how.there) label
+      ins_named label = are.ins t.how.text (map (λ v. head_in (pad_in t.front v)) (slice_index_or wants t.number [])) n.outs (had n t) (clear_at t.number t.how.text t.how.there) label
 
       same_graph : h ≡ t.number → s.how.text ≡ t.how.text
       same_graph e = same_some s.how.text t.how.text (sym s.how.there ∙ (ap (λ (k : ℕ). slice_get graphs k) e ∙ t.how.there))

@@ -1,5 +1,5 @@
 -- What the laws of plans with graphs need of the rules of graphs.
-use Rattle.std.specs.Prelude.{◌≡◌, ℕ, ◌≤◌, Bool, true, false, not, List, Option, Some, None, Ok, IsSome}
+use Rattle.std.specs.Prelude.{◌≡◌, ℕ, ◌≤◌, Bool, true, false, not, List, length, Option, Some, None, Ok, IsSome}
 use Rattle.std.specs.List.{AllByRecursion, filter}
 use Rattle.std.specs.Str.{bytes_eq}
 use Rattle.ff_values.specs.declared.head.StreamHead.{StreamHead}
@@ -27,12 +27,16 @@ asks label i = label_is i.label where
 abbrev pub IsClear : Graph → Type 0
 IsClear g = (label : List ℕ) → is_one_of label (given_in g) ≡ true → (tally (bytes_eq label) (given_in g) ≤ 1) × (tally (bytes_eq label) (taken_in g) ≤ 1)
 
+-- the rules make these open output pads of a graph without a loop, with a head or none for each open input pad
+abbrev pub IsHad : Rules → Graph → List (Option StreamHead) → List OpenOut → Type 0
+IsHad rules g heads outs = (rules.loops g ≡ false) × (length heads ≡ length (rules.open_ins g)) × (rules.configured g heads ≡ Ok outs)
+
 -- Where a graph can be had, each of its open input pads has a stream, and the labels that it takes and gives stand at its open
 -- pads, each as often as it is written.
 pub record AreRules (rules : Rules) : Type 0 where
-  pub streams : (g : Graph) (heads : List (Option StreamHead)) (outs : List OpenOut) → rules.configured g heads ≡ Ok outs
+  pub streams : (g : Graph) (heads : List (Option StreamHead)) (outs : List OpenOut) → IsHad rules g heads outs
       → AllByRecursion (λ (h : Option StreamHead). IsSome h) heads
-  pub ins : (g : Graph) (heads : List (Option StreamHead)) (outs : List OpenOut) → rules.configured g heads ≡ Ok outs → IsClear g
+  pub ins : (g : Graph) (heads : List (Option StreamHead)) (outs : List OpenOut) → IsHad rules g heads outs → IsClear g
       → (label : List ℕ) → tally (asks label) (rules.open_ins g) ≡ tally (bytes_eq label) (open_taken g)
-  pub outs : (g : Graph) (heads : List (Option StreamHead)) (outs : List OpenOut) → rules.configured g heads ≡ Ok outs → IsClear g
+  pub outs : (g : Graph) (heads : List (Option StreamHead)) (outs : List OpenOut) → IsHad rules g heads outs → IsClear g
       → (label : List ℕ) → tally (has_label label) outs ≡ tally (bytes_eq label) (open_given g)
