@@ -14,7 +14,9 @@ use Rattle.ff_plan.specs.declared.layout.InPad.{InPad}
 use Rattle.ff_plan.specs.declared.layout.Origin.TheVariants as origin
 use Rattle.ff_plan.specs.Labels.{giver, stream_of_label, stream_of_spec, stream_of_map, first_known}
 use Rattle.ff_plan.specs.Layout.{IsAmong}
-use Rattle.ff_plan.specs.Pads.{Want, Known_stream, Labelled, Nothing, known_or_nothing, want_of_giver, want_of, wants_of, wants_from, is_taken, Made, has_label, out_origin, labelled_out, made_at, pad_in, head_in, made_of, configure, make_from}
+use Rattle.ff_plan.specs.declared.layout.Want.{Want}
+use Rattle.ff_plan.specs.declared.layout.Want.TheVariants.{KnownStream, Labelled, Nothing}
+use Rattle.ff_plan.specs.Pads.{known_or_nothing, want_of_giver, want_of, wants_of, wants_from, is_taken, Made, has_label, out_origin, labelled_out, made_at, pad_in, head_in, made_of, configure, make_from}
 use Rattle.ff_plan.specs.Rules.{Rules, OpenIn, OpenOut, Refused}
 use Rattle.ff_plan.specs.Streams.{as_pad}
 use Rattle.ff_plan.proofs.Among.{among_left}
@@ -141,7 +143,7 @@ module _ (rules : Rules) (heads : List (List StreamHead)) (graphs : List Graph) 
 
   -- where it is a stream, that of an input
   abbrev Streams : Want → Type 0
-  Streams (Known_stream k) = IsAmong k (all_streams heads)
+  Streams (KnownStream k) = IsAmong k (all_streams heads)
   Streams (Labelled g l) = Unit {0}
   Streams Nothing = Unit {0}
 
@@ -158,7 +160,7 @@ module _ (rules : Rules) (heads : List (List StreamHead)) (graphs : List Graph) 
   fits_streams i w (By_kind e o each is) = subst Streams (sym is) (some_streams o each)
 
   want_comes : (made : List Made) (w : Want) (i : InPad) → Streams w → pad_in made w ≡ Some i → Comes heads made i
-  want_comes made (Known_stream k) i s h = inl (record { stream = k; there = s; is = same_some _ i h })
+  want_comes made (KnownStream k) i s h = inl (record { stream = k; there = s; is = same_some _ i h })
   want_comes made (Labelled g l) i s h = inr (labelled_open l made g i h)
   want_comes made Nothing i s h = absurd (nothing i h)
 

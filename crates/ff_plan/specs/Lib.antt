@@ -7,6 +7,7 @@ pub mod Graphs
 pub mod Labels
 pub mod Laws
 pub mod Layout
+pub mod Mapping
 pub mod NodeRows
 pub mod Nodes
 pub mod Numbers

@@ -24,6 +24,7 @@ mod labelled;
 mod laws;
 mod layout;
 mod making;
+mod mapping;
 mod naming;
 mod nodes;
 mod number;
