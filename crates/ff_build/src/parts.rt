@@ -108,6 +108,13 @@ impl<Src: Source + Send + Drop, Snk: Sink + Send + Drop> Kinds<Src, Snk, Part<Sr
         Ok(Part::Mux(Mux::new(alloc, first, snk, writer, head)))
     }
 
+    fn tried(part: &Part<Src, Snk>) -> u64 {
+        match part {
+            Part::Demux(m) => m.tried(),
+            Part::Dec(_) | Part::Enc(_) | Part::FlacEnc(_) | Part::Mux(_) => 0,
+        }
+    }
+
     fn into_ends(part: Part<Src, Snk>) -> Ends<Src, Snk> {
         match part {
             Part::Demux(m) => Ends::Source(m.into_source()),

@@ -143,10 +143,10 @@ refused_plan why = status.Plan why
 -- ---- what is told of a run
 
 -- it is told of the heads of the inputs, which are those of the files where these are told, and of the bytes of these files
-abbrev pub IsReported : {I R F : Type 0} → Command I InputHead R F → (List InputHead → Option (List (List ℕ)) → List Event → Type 0)
-    → Option Files → List Event → Type 0
-IsReported command tells before history =
-    (heads : List InputHead) × AreHeadsIn command before heads × tells heads (told_bytes command before) history
+abbrev pub IsReported : {I R F L : Type 0} → Command I InputHead R F → (List InputHead → Option (List (List ℕ)) → L → Type 0)
+    → Option Files → L → Type 0
+IsReported command tells before log =
+    (heads : List InputHead) × AreHeadsIn command before heads × tells heads (told_bytes command before) log
 
 -- ---- what jobs mean: of what is done between opening and closing, a worker says what it means for each job
 
@@ -173,8 +173,13 @@ module _ (means : Job → Meaning InputHead PlanError RunFault) where
 
   -- This is told of the history and the heads and bytes of the inputs of the words' job, which are those of the files where these are
   -- told.
-  abbrev pub ReportsHistory : (Job → List InputHead → Option (List (List ℕ)) → List Event → Type 0) → List (List ℕ) → Option Files → List Event → Type 0
+  abbrev pub ReportsHistory : {L : Type 0} → (Job → List InputHead → Option (List (List ℕ)) → L → Type 0) → List (List ℕ) → Option Files → L → Type 0
   ReportsHistory tells words before history = AskFor words (λ job. IsReported (over job) (tells job) before history)
+
+  -- And this of the reads, by the history.
+  abbrev pub ReportsReads : (Job → List InputHead → Option (List (List ℕ)) → List Event → List (List ℕ) → Type 0)
+      → List (List ℕ) → Option Files → List Event → List (List ℕ) → Type 0
+  ReportsReads are words before history reads = AskFor words (λ job. IsReported (over job) (λ heads bytes rs. are job heads bytes history rs) before reads)
 
   -- ---- when each answer comes
 

@@ -11,10 +11,11 @@ ghost use Rattle.ff_words.specs.declared.error.Fault.{Fault};
 ghost use Rattle.ff_running.specs.declared.fault.RunFault.TheVariants as run_fault;
 ghost use Rattle.ff_files.specs.Ends.{IsPlanRefused, IsBroken};
 ghost use Rattle.ff_command.specs.Command.{AsksAlone, IsTold, IsDue};
-ghost use Rattle.ff_command.specs.Command.{Ask, AskFor, AreWrong, IsNamed, HasFile, file_name, KeepsOtherFiles, ComesBeforeOutputs, ReportsHistory, HoldsTrace};
+ghost use Rattle.ff_command.specs.Command.{Ask, AskFor, AreWrong, IsNamed, HasFile, file_name, KeepsOtherFiles, ComesBeforeOutputs, ReportsHistory, ReportsReads, HoldsTrace};
 ghost use Rattle.ff_command.specs.Command.{refused_head, refused_plan, over, HoldsMeaning, HoldsFront, IsHeadRefused, IsDamaged, IsTooLong};
 ghost use Rattle.ff_command.specs.Command.{HasFailed, GivesNoHead, GivesNoPlan, GivesAll, KeepsInputCounts, KeepsOutputCounts};
-ghost use Rattle.ff_command.specs.Histories.{events_in};
+ghost use Rattle.ff_command.specs.Histories.{history_in, reads_in, LogHas};
+ghost use Rattle.ff_running.specs.Reads.{places_in};
 ghost use Rattle.ff_command.specs.Help.{solo_text as told_of};
 ghost use Rattle.ff_words.specs.declared.job.Solo.TheVariants.{SelfRun};
 ghost use Rattle.ff_files.specs.Works.{HasLog};
@@ -28,7 +29,7 @@ use crate::run::{JobRun, run_job};
 use crate::worker::Worker;
 use ff_host::{Begun, Host, Sink};
 use ff_plan::PlanError;
-use ff_sched::History as Scheduled;
+use ff_running::RunLog;
 use ff_words::{Command, Job, Solo, WordError, WordKind, read_words};
 use std::alloc::Global;
 
@@ -63,7 +64,7 @@ struct Worked {
     status: Status,
     job: Option<Job>,
     told: Option<Vec<u8>>,
-    history: Option<Scheduled>,
+    run: Option<RunLog>,
 }
 
 // What is told of the command itself.
@@ -73,20 +74,20 @@ fn tell(alloc: Global, solo: Solo) -> Worked
     ensures job { result.job ≡ None }
     ensures told { IfSome result.told (λ text. (text.items ≡ told_of solo) × (result.status ≡ Status.Fine)) }
     ensures fine { result.status ≡ Status.Fine → result.told ≢ None }
-    ensures history { result.history ≡ None }
+    ensures run { result.run ≡ None }
 {
     match solo_text(alloc, solo) {
         Ok(text) => Worked {
             status: Status::Fine,
             job: None,
             told: Some(text),
-            history: None,
+            run: None,
         },
         Err(_) => Worked {
             status: Status::NoMemory,
             job: None,
             told: None,
-            history: None,
+            run: None,
         },
     }
 }
@@ -104,12 +105,13 @@ fn run_words<H: Host, P: Worker<Begun<H::Src>, H::Snk>>(
         (record { before = H.out_faults host.old; after = H.out_faults host.new }) result.status }
     ensures asked { IfSome result.job (λ job. Ask (texts words.now) job) }
     ensures told { IfSome result.told (λ text. IsTold (texts words.now) text.items × (result.status ≡ Status.Fine)) }
-    ensures alone { AsksAlone (texts words.now) → (host.new ≡ host.old) × (result.history ≡ None) }
+    ensures alone { AsksAlone (texts words.now) → (host.new ≡ host.old) × (result.run ≡ None) }
     ensures silent { result.status ≡ Status.Fine → result.told ≡ None → AskFor (texts words.now) (λ job. ⊤) }
     ensures named { (file : _) → result.status ≡ Status.Device file → IsOfJob result.job file }
     ensures logged { result.status ≡ Status.Fine
-        → AsksAlone (texts words.now) ⊎ HasLog (ReportsHistory (P.means worker.now) (P.tells worker.now) (texts words.now) (H.files host.old)) result.history }
-    ensures traced { result.status ≡ Status.Fine → IfSome result.history (HoldsTrace (texts words.now) (H.files host.old) (H.files host.new)) }
+        → AsksAlone (texts words.now) ⊎ HasLog (ReportsHistory (P.means worker.now)
+        (λ job heads bytes log. LogHas (P.tells worker.now job heads bytes) (P.reads worker.now job heads bytes) log) (texts words.now) (H.files host.old)) result.run }
+    ensures traced { result.status ≡ Status.Fine → IfSome result.run (λ log. HoldsTrace (texts words.now) (H.files host.old) (H.files host.new) log.history) }
     ensures closed { (H.open_sources host.new ≡ H.open_sources host.old) × (H.open_sinks host.new ≡ H.open_sinks host.old) }
 {
     match read_words(alloc, words) {
@@ -117,16 +119,16 @@ fn run_words<H: Host, P: Worker<Begun<H::Src>, H::Snk>>(
             status: status_of_words(error),
             job: None,
             told: None,
-            history: None,
+            run: None,
         },
         Ok(Command::Solo(solo)) => tell(alloc, solo),
         Ok(Command::Run(job)) => {
-            let JobRun { status, history } = run_job(alloc, worker, &job, host);
+            let JobRun { status, log } = run_job(alloc, worker, &job, host);
             Worked {
                 status,
                 job: Some(job),
                 told: None,
-                history,
+                run: log,
             }
         }
     }
@@ -146,14 +148,37 @@ fn name_of<'a>(status: &Status, job: &'a Option<Job>) -> &'a str
     }
 }
 
-// The history that is reported with a status.
-fn history_of(status: &Status, history: Option<Scheduled>) -> History
-    ensures fine { status.now ≡ Status.Fine → result ≡ events_in history }
-    ensures other { status.now ≢ Status.Fine → result ≡ [] }
+/// What is reported of a run.
+#[derive(Drop)]
+struct RunReport {
+    history: History,
+    reads: Vec<Vec<u64>>,
+}
+
+// Nothing.
+fn nothing(alloc: Global) -> RunReport
+    ensures { (result.history ≡ []) × (result.reads.items ≡ []) }
 {
+    RunReport {
+        history: History::new(None),
+        reads: Vec::new(alloc),
+    }
+}
+
+// What is reported with a status.
+fn reported(alloc: Global, status: &Status, run: Option<RunLog>) -> RunReport
+    ensures fine { status.now ≡ Status.Fine → (result.history ≡ history_in run) × (places_in result.reads.items ≡ reads_in run) }
+    ensures other { (status.now ≢ Status.Fine) ⊎ (run ≡ None) → (result.history ≡ []) × (result.reads.items ≡ []) }
+{
+    let Some(RunLog { history, reads }) = run else {
+        return nothing(alloc);
+    };
     match status {
-        Status::Fine => History::new(history),
-        _ => History::new(None),
+        Status::Fine => RunReport {
+            history: History::new(Some(history)),
+            reads,
+        },
+        _ => nothing(alloc),
     }
 }
 
@@ -246,20 +271,24 @@ pub fn run_command<H: Host, E: Sink, P: Worker<Begun<H::Src>, H::Snk>>(
         → AsksAlone (texts words.now) ⊎ ReportsHistory (P.means worker.now) (P.tells worker.now) (texts words.now) (H.files host.old) result.history }
     ensures trace { result.status ≡ Status.Fine → AsksAlone (texts words.now) ⊎ HoldsTrace (texts words.now) (H.files host.old) (H.files host.new) result.history }
     ensures no_history { result.status ≢ Status.Fine → result.history ≡ [] }
-    ensures reads { result.reads.items ≡ [] }
+
+    // For each input the places in that history of the grants under which its source tried a unit.
+    ensures reads { result.status ≡ Status.Fine → AsksAlone (texts words.now)
+        ⊎ ReportsReads (P.means worker.now) (P.reads worker.now) (texts words.now) (H.files host.old) result.history (places_in result.reads.items) }
+    ensures no_reads { (result.status ≢ Status.Fine) ⊎ AsksAlone (texts words.now) → result.reads.items ≡ [] }
 {
     let Worked {
         status,
         job,
         told,
-        history,
+        run,
     } = run_words(alloc, worker, words, host);
     let line = log_end(alloc, &told, &status, name_of(&status, &job), log);
-    let history = history_of(&status, history);
+    let RunReport { history, reads } = reported(alloc, &status, run);
     Report {
         status,
         history,
-        reads: Vec::new(alloc),
+        reads,
         line,
     }
 }

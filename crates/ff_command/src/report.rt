@@ -60,7 +60,8 @@ pub struct Report {
     pub status: Status,
     /// What the scheduler granted and was told; nothing for any other status than `Fine`.
     pub history: History,
-    /// For each input the places in `history` of the grants under which its packets were read; none are told.
+    /// For each input the places in `history`, from 0 on, of the grants under which its source tried a packet or found the end, in
+    /// order; no list for any other status than `Fine`.
     pub reads: Vec<Vec<u64>>,
     /// What became of the line of the fault.
     pub line: Line,

@@ -3,6 +3,7 @@ ghost use Rattle.std.specs.Prelude.{◌≡◌, IfSome};
 ghost use Rattle.ff_words.specs.Bounds.{IsBounded, IsPlain};
 ghost use Rattle.ff_files.specs.Works.{HasLog};
 ghost use Rattle.ff_command.specs.Command.{refused_plan, over, IsReported, HoldsPrinted};
+ghost use Rattle.ff_command.specs.Histories.{LogHas};
 ghost use Rattle.ff_command.specs.Steps.{broken_run, written_file, status_of, Ran};
 
 use crate::report::{FileRef, Status};
@@ -11,8 +12,7 @@ use crate::written::written_files;
 use ff_files::{Outcome, RunEnd, over_files};
 use ff_host::{Begun, Host};
 use ff_plan::PlanError;
-use ff_running::RunFault;
-use ff_sched::History;
+use ff_running::{RunFault, RunLog};
 use ff_words::Job;
 use std::alloc::Global;
 
@@ -72,8 +72,8 @@ fn status_of_end(count: u32, end: RunEnd<PlanError, RunFault>) -> Status
 #[derive(Drop)]
 pub(crate) struct JobRun {
     pub(crate) status: Status,
-    /// All that its scheduler granted and was told. None where nothing was run, or there was no memory for it.
-    pub(crate) history: Option<History>,
+    /// What its run has logged. None where nothing was run, or there was no memory for it.
+    pub(crate) log: Option<RunLog>,
 }
 
 /// Runs a job over its files.
@@ -90,14 +90,15 @@ pub(crate) fn run_job<H: Host, P: Worker<Begun<H::Src>, H::Snk>>(
         (record { before = H.in_faults host.old; after = H.in_faults host.new })
         (record { before = H.out_faults host.old; after = H.out_faults host.new }) result.status }
     ensures logged { result.status ≡ Status.Fine
-        → HasLog (IsReported (over (P.means worker.now) job.now) (P.tells worker.now job.now) (H.files host.old)) result.history }
-    ensures traced { result.status ≡ Status.Fine → IfSome result.history (λ events. HoldsPrinted job.now (H.files host.old) (H.files host.new) events) }
+        → HasLog (IsReported (over (P.means worker.now) job.now)
+        (λ heads bytes log. LogHas (P.tells worker.now job.now heads bytes) (P.reads worker.now job.now heads bytes) log) (H.files host.old)) result.log }
+    ensures traced { result.status ≡ Status.Fine → IfSome result.log (λ log. HoldsPrinted job.now (H.files host.old) (H.files host.new) log.history) }
     ensures closed { (H.open_sources host.new ≡ H.open_sources host.old) × (H.open_sinks host.new ≡ H.open_sinks host.old) }
 {
     let Ok(files) = written_files(alloc, job) else {
         return JobRun {
             status: Status::NoMemory,
-            history: None,
+            log: None,
         };
     };
     let work = JobWork { worker, job };
@@ -106,6 +107,6 @@ pub(crate) fn run_job<H: Host, P: Worker<Begun<H::Src>, H::Snk>>(
     let Outcome { end, log } = over_files(alloc, host, inputs, files.as_slice(), count, &work);
     JobRun {
         status: status_of_end(count as u32, end),
-        history: log,
+        log,
     }
 }

@@ -7,14 +7,15 @@ ghost use Rattle.ff_heads.specs.declared.head.InputHead.{InputHead};
 ghost use Rattle.ff_plan.specs.declared.planned.PlanError.{PlanError};
 ghost use Rattle.ff_running.specs.declared.fault.RunFault.{RunFault};
 ghost use Rattle.ff_words.specs.declared.job.Job.{Job};
+ghost use Rattle.ff_command.specs.Histories.{LogHas};
 ghost use Rattle.ff_command.specs.Steps.{AreAllHeads};
 
 use ff_files::{Done, PlanEnd, Work, WorkEnd};
 use ff_heads::InputHead;
 use ff_host::{Sink, Source};
 use ff_plan::PlanError;
-use ff_running::RunFault;
-use ff_sched::{History, print_history};
+use ff_running::{RunFault, RunLog};
+use ff_sched::print_history;
 use ff_words::Job;
 use std::alloc::{AllocError, Global};
 
@@ -27,6 +28,9 @@ pub trait Worker<Src: Source + Send + Drop, Snk: Sink + Send + Drop> {
 
     /// It may be the history of a run of a job that did all, over inputs with these heads and, where these are told, these bytes.
     ghost tells: { Self → Job → List InputHead → Option (List (List ℕ)) → List Event → Type 0 };
+
+    /// These may be the reads of such a run, for each input places of this history.
+    ghost reads: { Self → Job → List InputHead → Option (List (List ℕ)) → List Event → List (List ℕ) → Type 0 };
 
     /// It can be worked with: what has to hold of it before.
     ghost is_able: { Self → Type 0 };
@@ -50,7 +54,7 @@ pub trait Worker<Src: Source + Send + Drop, Snk: Sink + Send + Drop> {
         heads: &[InputHead],
         srcs: Vec<Src>,
         snks: Vec<Snk>,
-    ) -> Done<RunFault, Src, Snk, History>
+    ) -> Done<RunFault, Src, Snk, RunLog>
         requires { is_plan self.now job.now heads.now plan }
         ensures fine { result.end ≡ WorkEnd.Fine → (bytes : List (List ℕ)) → AreTold Src.left Snk.holds srcs.items snks.items bytes
             → HoldFiles Snk.holds ((means self.now job.now).file heads.now bytes) result.snks.items }
@@ -63,7 +67,7 @@ pub trait Worker<Src: Source + Send + Drop, Snk: Sink + Send + Drop> {
         ensures sound_srcs { FailNoMore Src.faults srcs.items result.srcs.items (sound_sources (means self.now job.now) result.end (length srcs.items)) }
         ensures sound_snks { FailNoMore Snk.faults snks.items result.snks.items (sound_sinks (means self.now job.now) result.end (length snks.items)) }
         ensures logged { result.end ≡ WorkEnd.Fine → (bytes : Option (List (List ℕ))) → IfSome bytes (AreTold Src.left Snk.holds srcs.items snks.items)
-            → HasLog (tells self.now job.now heads.now bytes) result.log };
+            → HasLog (LogHas (tells self.now job.now heads.now bytes) (reads self.now job.now heads.now bytes)) result.log };
 }
 
 /// A job, and how it is worked.
@@ -84,15 +88,15 @@ impl<'a, Src: Source + Send + Drop, Snk: Sink + Send + Drop, P: Worker<Src, Snk>
 
     type Fault = RunFault;
 
-    type Log = History;
+    type Log = RunLog;
 
     ghost means = { λ work. P.means work.worker.now work.job.now };
 
     ghost accepts = { λ work heads. P.is_able work.worker.now × AreAllHeads work.job.now heads };
 
-    ghost tells = { λ work heads bytes events. P.tells work.worker.now work.job.now heads bytes events };
+    ghost tells = { λ work heads bytes log. LogHas (P.tells work.worker.now work.job.now heads bytes) (P.reads work.worker.now work.job.now heads bytes) log };
 
-    ghost printed = { printed };
+    ghost printed = { λ log. printed log.history };
 
     ghost is_plan = { λ work heads plan. P.is_plan work.worker.now work.job.now heads plan };
 
@@ -111,7 +115,7 @@ impl<'a, Src: Source + Send + Drop, Snk: Sink + Send + Drop, P: Worker<Src, Snk>
         heads: &[InputHead],
         srcs: Vec<Src>,
         snks: Vec<Snk>,
-    ) -> Done<RunFault, Src, Snk, History>
+    ) -> Done<RunFault, Src, Snk, RunLog>
         requires { P.is_plan self.now.worker.now self.now.job.now heads.now plan }
         ensures fine { result.end ≡ WorkEnd.Fine → (bytes : List (List ℕ)) → AreTold Src.left Snk.holds srcs.items snks.items bytes
             → HoldFiles Snk.holds ((P.means self.now.worker.now self.now.job.now).file heads.now bytes) result.snks.items }
@@ -124,14 +128,14 @@ impl<'a, Src: Source + Send + Drop, Snk: Sink + Send + Drop, P: Worker<Src, Snk>
         ensures sound_srcs { FailNoMore Src.faults srcs.items result.srcs.items (sound_sources (P.means self.now.worker.now self.now.job.now) result.end (length srcs.items)) }
         ensures sound_snks { FailNoMore Snk.faults snks.items result.snks.items (sound_sinks (P.means self.now.worker.now self.now.job.now) result.end (length snks.items)) }
         ensures logged { result.end ≡ WorkEnd.Fine → (bytes : Option (List (List ℕ))) → IfSome bytes (AreTold Src.left Snk.holds srcs.items snks.items)
-            → HasLog (P.tells self.now.worker.now self.now.job.now heads.now bytes) result.log }
+            → HasLog (LogHas (P.tells self.now.worker.now self.now.job.now heads.now bytes) (P.reads self.now.worker.now self.now.job.now heads.now bytes)) result.log }
     {
         self.worker.run(self.job, plan, heads, srcs, snks)
     }
 
-    fn print(&self, alloc: Global, log: &History) -> Result<Vec<u8>, AllocError>
-        ensures { IfOk result (λ text. text.items ≡ printed log.now) }
+    fn print(&self, alloc: Global, log: &RunLog) -> Result<Vec<u8>, AllocError>
+        ensures { IfOk result (λ text. text.items ≡ printed log.now.history) }
     {
-        print_history(alloc, log)
+        print_history(alloc, &log.history)
     }
 }

@@ -13,6 +13,7 @@ use Rattle.ff_files.specs.Works.{Meaning}
 use Rattle.ff_running.specs.declared.fault.RunFault.{RunFault}
 use Rattle.ff_running.specs.Histories.{IsHistoryFor}
 use Rattle.ff_running.specs.Meaning.{means}
+use Rattle.ff_running.specs.Reads.{AreReadsFor}
 use Rattle.ff_build.specs.Parts.{all_kinds}
 
 -- what the plan of a job, by its nodes' tasks, makes of the inputs
@@ -25,3 +26,10 @@ job_means job = means all_kinds job
 -- all its grants.
 abbrev pub IsJobHistory : Job → List InputHead → Option (List (List ℕ)) → List Event → Type 0
 IsJobHistory job heads bytes events = IsHistoryFor all_kinds job heads bytes events
+
+-- The reads of that run: for each input the places in the history of the grants under which its source tried a packet, or found the end.
+-- They are the first grants of the input, in order, and none where no node reads it. Where the bytes of the inputs are told: of each
+-- input one more at most than it has packets, and enough, so that what comes of the packets read alone is at each output the whole
+-- stream already.
+abbrev pub AreJobReads : Job → List InputHead → Option (List (List ℕ)) → List Event → List (List ℕ) → Type 0
+AreJobReads job heads bytes events reads = AreReadsFor all_kinds job heads bytes events reads

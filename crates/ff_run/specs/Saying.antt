@@ -3,7 +3,6 @@ use Rattle.std.specs.Prelude.{◌≡◌, ℕ, List, length, Option, None, Some, 
 use Rattle.std.specs.Io.KnownBytes.{prepend_known}
 use Rattle.ff_host.specs.Begun.{still_in}
 use Rattle.ff_host.specs.declared.begun.Begun.{Begun}
-use Rattle.ff_values.specs.declared.event.Event.{Event}
 use Rattle.ff_words.specs.declared.job.Job.{Job}
 use Rattle.ff_plan.specs.declared.planned.Plan.{Plan}
 use Rattle.ff_plan.specs.declared.planned.PlanError.{PlanError}
@@ -15,8 +14,9 @@ use Rattle.ff_files.specs.Works.{AreTold, HoldFiles, HoldParts, KeepEnds, FailNo
 use Rattle.ff_running.specs.declared.fault.RunFault.{RunFault}
 use Rattle.ff_running.specs.Kinds.{KindsOf}
 use Rattle.ff_running.specs.Accepting.{IsPlanFor}
-use Rattle.ff_running.specs.Histories.{IsHistoryFor}
+use Rattle.ff_running.specs.declared.reads.RunLog.{RunLog}
 use Rattle.ff_running.specs.Meaning.{plan_for, refusal_of, means}
+use Rattle.ff_running.specs.Reads.{IsLogFor}
 
 -- of a job and the heads of its inputs
 pub record PlanSays {H : Type 0} (is : KindsOf H) (job : Job) (heads : List H) (result : Result Plan (PlanEnd PlanError)) : Type 0 where
@@ -26,7 +26,7 @@ pub record PlanSays {H : Type 0} (is : KindsOf H) (job : Job) (heads : List H) (
 
 -- over these sources and sinks, which are these afterwards
 pub record RunSays {H S K : Type 0} (is : KindsOf H) (left named : S → Option (List ℕ)) (failed : S → ℕ) (holds called : K → Option (List ℕ)) (faulted : K → ℕ)
-    (job : Job) (heads : List H) (srcs : List S) (snks : List K) (end : WorkEnd RunFault) (log : Option (List Event)) (srcs' : List S) (snks' : List K) : Type 0 where
+    (job : Job) (heads : List H) (srcs : List S) (snks : List K) (end : WorkEnd RunFault) (log : Option RunLog) (srcs' : List S) (snks' : List K) : Type 0 where
   pub fine : end ≡ work_end.Fine → (bytes : List (List ℕ)) → AreTold left holds srcs snks bytes → HoldFiles holds ((means is job).file heads bytes) snks'
   pub parts : (bytes : List (List ℕ)) → AreTold left holds srcs snks bytes → HoldParts holds ((means is job).text heads bytes) ((means is job).file heads bytes) snks'
   pub srcs_kept : KeepEnds named srcs srcs'
@@ -34,11 +34,11 @@ pub record RunSays {H S K : Type 0} (is : KindsOf H) (left named : S → Option 
   pub ends : EndsWork (means is job) failed faulted srcs snks srcs' snks' heads (AreTold left holds srcs snks) end
   pub sound_srcs : FailNoMore failed srcs srcs' (sound_sources (means is job) end (length srcs))
   pub sound_snks : FailNoMore faulted snks snks' (sound_sinks (means is job) end (length snks))
-  pub logged : end ≡ work_end.Fine → (bytes : Option (List (List ℕ))) → IfSome bytes (AreTold left holds srcs snks) → HasLog (IsHistoryFor is job heads bytes) log
+  pub logged : end ≡ work_end.Fine → (bytes : Option (List (List ℕ))) → IfSome bytes (AreTold left holds srcs snks) → HasLog (IsLogFor is job heads bytes) log
 
 -- over sources of which some bytes were read before
 abbrev pub BegunSays : {H S K : Type 0} → KindsOf H → (S → Option (List ℕ)) → (S → Option (List ℕ)) → (S → ℕ) → (K → Option (List ℕ)) → (K → Option (List ℕ)) → (K → ℕ)
-    → Job → List H → List (Begun S) → List K → WorkEnd RunFault → Option (List Event) → List (Begun S) → List K → Type 0
+    → Job → List H → List (Begun S) → List K → WorkEnd RunFault → Option RunLog → List (Begun S) → List K → Type 0
 BegunSays {H} {S} {K} is left named failed holds called faulted job heads srcs snks end log srcs' snks' =
     RunSays is (λ (b : Begun S). prepend_known (still_in b.bytes.items b.at) (left b.src)) (λ (b : Begun S). named b.src) (λ (b : Begun S). failed b.src) holds called faulted
     job heads srcs snks end log srcs' snks'

@@ -12,12 +12,13 @@ ghost use Rattle.ff_words.specs.declared.error.Fault.{Fault};
 ghost use Rattle.ff_running.specs.declared.fault.RunFault.TheVariants as run_fault;
 ghost use Rattle.ff_files.specs.Ends.{IsPlanRefused, IsBroken};
 ghost use Rattle.ff_command.specs.Command.{AsksAlone, IsDue};
-ghost use Rattle.ff_command.specs.Command.{AskFor, AreWrong, KeepsOtherFiles, ComesBeforeOutputs, ReportsHistory, HoldsTrace};
+ghost use Rattle.ff_command.specs.Command.{AskFor, AreWrong, KeepsOtherFiles, ComesBeforeOutputs, ReportsHistory, ReportsReads, HoldsTrace};
 ghost use Rattle.ff_command.specs.Command.{refused_head, refused_plan, over, HoldsMeaning, HoldsFront, IsHeadRefused, IsDamaged, IsTooLong};
 ghost use Rattle.ff_command.specs.Command.{HasFailed, GivesNoHead, GivesNoPlan, GivesAll, KeepsInputCounts, KeepsOutputCounts};
 ghost use Rattle.ff_build.specs.Parts.{all_kinds};
 ghost use Rattle.ff_running.specs.Accepting.{IsAccepted, IsPlanFor};
-ghost use Rattle.ff_run.specs.Meaning.{job_means, IsJobHistory};
+ghost use Rattle.ff_run.specs.Meaning.{job_means, IsJobHistory, AreJobReads};
+ghost use Rattle.ff_running.specs.Reads.{places_in};
 ghost use Rattle.ff_run.specs.Saying.{BegunSays, PlanSays, RunSays};
 
 use crate::worker::Threaded;
@@ -27,8 +28,7 @@ use ff_files::{Done, PlanEnd};
 use ff_heads::InputHead;
 use ff_host::{Begun, Host, Sink, Source};
 use ff_plan::{Plan, PlanError};
-use ff_running::{RunFault, make_plan, run_plan};
-use ff_sched::History;
+use ff_running::{RunFault, RunLog, make_plan, run_plan};
 use ff_words::Job;
 use std::alloc::Global;
 use std::sync::Wait;
@@ -43,7 +43,7 @@ fn run_parts<R: Threads + Wait + Sync, Src: Source + Send + Drop, Snk: Sink + Se
     heads: &[InputHead],
     srcs: Vec<Src>,
     snks: Vec<Snk>,
-) -> Done<RunFault, Src, Snk, History>
+) -> Done<RunFault, Src, Snk, RunLog>
     requires { IsPlanFor all_kinds job.now heads.now plan }
     ensures { RunSays all_kinds Src.left Src.name Src.faults Snk.holds Snk.name Snk.faults
         job.now heads.now srcs.items snks.items result.end result.log result.srcs.items result.snks.items }
@@ -143,7 +143,13 @@ pub fn ffmpeg<R: Threads + Wait + Sync, H: Host, E: Sink>(
     ensures history { result.status ≡ Status.Fine → AsksAlone (texts words.now) ⊎ ReportsHistory job_means IsJobHistory (texts words.now) (H.files host.old) result.history }
     ensures trace { result.status ≡ Status.Fine → AsksAlone (texts words.now) ⊎ HoldsTrace (texts words.now) (H.files host.old) (H.files host.new) result.history }
     ensures no_history { result.status ≢ Status.Fine → result.history ≡ [] }
-    ensures reads { result.reads.items ≡ [] }
+
+    // For each input the places in that history of the grants under which its source tried a packet or found the end: the first grants
+    // of the input, in order, and none where no stream asks for it. Where the files are told they are enough: what comes of the packets
+    // read under them is at each output the whole stream already, and each input has at most one more than packets.
+    ensures reads { result.status ≡ Status.Fine → AsksAlone (texts words.now)
+        ⊎ ReportsReads job_means AreJobReads (texts words.now) (H.files host.old) result.history (places_in result.reads.items) }
+    ensures no_reads { (result.status ≢ Status.Fine) ⊎ AsksAlone (texts words.now) → result.reads.items ≡ [] }
 {
     let plan = |job: &Job, heads: &[InputHead]| -> Result<Plan, PlanEnd<PlanError>>
         requires { IsAccepted all_kinds job.now heads.now }
@@ -151,7 +157,7 @@ pub fn ffmpeg<R: Threads + Wait + Sync, H: Host, E: Sink>(
     { make_plan::<Parts, Begun<H::Src>, H::Snk, Part<Begun<H::Src>, H::Snk>>(alloc, job, heads) };
     let run = |job: &Job, plan: Plan, heads: &[InputHead], srcs: Vec<Begun<H::Src>>, snks: Vec<
         H::Snk,
-    >| -> Done<RunFault, Begun<H::Src>, H::Snk, History>
+    >| -> Done<RunFault, Begun<H::Src>, H::Snk, RunLog>
         requires sync { IsSync R.row }
         requires plan { IsPlanFor all_kinds job.now heads.now plan }
         ensures { BegunSays all_kinds H.Src.left H.Src.name H.Src.faults H.Snk.holds H.Snk.name H.Snk.faults

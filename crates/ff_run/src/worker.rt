@@ -1,10 +1,11 @@
 // How jobs are worked: planned, and run in threads over parts of any format.
 ghost use Rattle.std.specs.Prelude.{◌≡◌, ℕ, List, length, Option, Some, None, IfOk, IfSome, IfErr, OnOk};
 ghost use Rattle.ff_build.specs.Parts.{all_kinds};
+ghost use Rattle.ff_command.specs.Histories.{LogHas};
 ghost use Rattle.ff_command.specs.Steps.{AreAllHeads};
 ghost use Rattle.ff_files.specs.Works.{AreTold, HoldFiles, HoldParts, KeepEnds, FailNoMore, EndsWork, HasLog, sound_sources, sound_sinks};
 ghost use Rattle.ff_running.specs.Accepting.{IsAccepted, IsPlanFor};
-ghost use Rattle.ff_run.specs.Meaning.{job_means, IsJobHistory};
+ghost use Rattle.ff_run.specs.Meaning.{job_means, IsJobHistory, AreJobReads};
 ghost use Rattle.ff_run.specs.Saying.{PlanSays, RunSays};
 
 use ff_command::Worker;
@@ -12,8 +13,7 @@ use ff_files::{Done, PlanEnd, WorkEnd};
 use ff_heads::InputHead;
 use ff_host::{Sink, Source};
 use ff_plan::{Plan, PlanError};
-use ff_running::RunFault;
-use ff_sched::History;
+use ff_running::{RunFault, RunLog};
 use ff_words::Job;
 
 /// Each node of a plan in a thread of its own: whoever has the threads says how a plan is made, and how it is run.
@@ -27,13 +27,15 @@ impl<
     Src: Source + Send + Drop,
     Snk: Sink + Send + Drop,
     P: Fn(&Job, &[InputHead]) -> Result<Plan, PlanEnd<PlanError>> + Drop,
-    Q: Fn(&Job, Plan, &[InputHead], Vec<Src>, Vec<Snk>) -> Done<RunFault, Src, Snk, History> + Drop,
+    Q: Fn(&Job, Plan, &[InputHead], Vec<Src>, Vec<Snk>) -> Done<RunFault, Src, Snk, RunLog> + Drop,
 > Worker<Src, Snk> for Threaded<P, Q> {
     type Plan = Plan;
 
     ghost means = { λ worker job. job_means job };
 
     ghost tells = { λ worker job heads bytes events. IsJobHistory job heads bytes events };
+
+    ghost reads = { λ worker job heads bytes events reads. AreJobReads job heads bytes events reads };
 
     ghost is_able = { λ worker. ((job : _) (hs : _) → IsAccepted all_kinds job.now hs.now → P.pre worker.plan job hs
         × ((r : _) → P.post worker.plan job hs r → PlanSays all_kinds job.now hs.now r))
@@ -70,7 +72,7 @@ impl<
         heads: &[InputHead],
         srcs: Vec<Src>,
         snks: Vec<Snk>,
-    ) -> Done<RunFault, Src, Snk, History>
+    ) -> Done<RunFault, Src, Snk, RunLog>
         requires { IsPlanFor all_kinds job.now heads.now plan
             × ((job : _) (plan : _) (hs : _) (ss : _) (ks : _) → IsPlanFor all_kinds job.now hs.now plan → Q.pre self.now.run job plan hs ss ks
             × ((r : _) → Q.post self.now.run job plan hs ss ks r
@@ -86,7 +88,7 @@ impl<
         ensures sound_srcs { FailNoMore Src.faults srcs.items result.srcs.items (sound_sources (job_means job.now) result.end (length srcs.items)) }
         ensures sound_snks { FailNoMore Snk.faults snks.items result.snks.items (sound_sinks (job_means job.now) result.end (length snks.items)) }
         ensures logged { result.end ≡ WorkEnd.Fine → (bytes : Option (List (List ℕ))) → IfSome bytes (AreTold Src.left Snk.holds srcs.items snks.items)
-            → HasLog (IsJobHistory job.now heads.now bytes) result.log }
+            → HasLog (LogHas (IsJobHistory job.now heads.now bytes) (AreJobReads job.now heads.now bytes)) result.log }
     {
         (self.run)(job, plan, heads, srcs, snks)
     }

@@ -85,8 +85,8 @@ pub fn run<R: Threads + Wait + Sync, H: Host>(
     Ok(ffmpeg(rt, alloc, &words, host, log))
 }
 
-/// Whether the command of these words over this host comes to this number and logs this text, with a history exactly where all was
-/// done, and no reads.
+/// Whether the command of these words over this host comes to this number and logs this text, with a history and reads exactly
+/// where all was done.
 pub fn comes_to<R: Threads + Wait + Sync, H: Host>(
     rt: &R,
     alloc: Global,
@@ -97,7 +97,8 @@ pub fn comes_to<R: Threads + Wait + Sync, H: Host>(
 ) -> Result<bool, AllocError> {
     let mut log = log_of(alloc, Vec::new(alloc))?;
     let report = run(rt, alloc, texts, host, &mut log)?;
-    let reported = (report.history.events().is_empty() != (number == 0)) & report.reads.is_empty();
+    let reported = (report.history.events().is_empty() != (number == 0))
+        & (report.reads.is_empty() != (number == 0));
     let line = if text.is_empty() {
         Line::NotDue
     } else {

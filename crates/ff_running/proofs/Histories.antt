@@ -18,7 +18,9 @@ use Rattle.ff_network.specs.declared.run.NodeFault.{NodeFault}
 use Rattle.ff_running.specs.Openings.{is_unused, IsOpening, or_memory}
 use Rattle.ff_running.specs.declared.fault.RunFault.{RunFault}
 use Rattle.ff_running.specs.Kinds.{KindsOf}
-use Rattle.ff_running.specs.Histories.{state_at, state_before, TellsAll, IsHistoryOf}
+use Rattle.ff_running.specs.Histories.{state_at, state_before, TellsAll}
+use Rattle.ff_running.specs.Reads.{IsLogOf}
+use Rattle.ff_running.specs.declared.reads.RunLog.{RunLog}
 use Rattle.ff_running.specs.Meaning.{coded_in, events_by, mux_node, number_in, streams_into}
 
 -- lists mapped alike
@@ -38,6 +40,15 @@ pub if_some_more : {L : Type 0} (P Q : L → Type 0) (o : Option L) → ((l : L)
 if_some_more P Q None f p = tt
 if_some_more P Q (Some l) f p = f l p
 
+pub if_some_both : {L : Type 0} (P Q R : L → Type 0) (o : Option L) → ((l : L) → P l → Q l → R l) → IfSome o P → IfSome o Q → IfSome o R
+if_some_both P Q R None f p q = tt
+if_some_both P Q R (Some l) f p q = f l p q
+
+-- what is so of a history is so of that of the log
+pub of_log : (P : List Event → Type 0) (history : Option (List Event)) (o : Option RunLog) → IfSome o (λ log. history ≡ Some log.history) → IfSome history P → IfSome o (λ log. P log.history)
+of_log P history None same h = tt
+of_log P history (Some log) same h = subst (λ (x : Option (List Event)). IfSome x P) same h
+
 -- where there is none, all is so of it
 pub none_known : {L : Type 0} (P : L → Type 0) (o : Option L) → o ≡ None → IfSome o P
 none_known P None e = tt
@@ -48,6 +59,10 @@ pub or_memory_told : (f : Option NodeFault) (told : Bool) → or_memory f told �
 or_memory_told (Some f) told e = absurd cc
 or_memory_told None true e = refl
 or_memory_told None false e = absurd cc
+
+pub or_memory_none : (f : Option NodeFault) (told : Bool) → or_memory f told ≡ None → f ≡ None
+or_memory_none (Some f) told e = absurd cc
+or_memory_none None told e = refl
 
 pub some_told : {L : Type 0} (o : Option L) → is_some o ≡ true → IsSome o
 some_told o e = e
@@ -69,18 +84,18 @@ has_log P Q (Some l) some p f = f l p
 pub state_is : (plan : Plan) (nodes : List PlanNode) (routes : Routes) (state : State) → nodes ≡ plan.nodes → routes ≡ plan.routes → IsOpening nodes plan.routes state → state ≡ state_before plan
 state_is plan nodes routes state n r o = opening_is plan.nodes plan.routes state (subst (λ (ns : List PlanNode). IsOpening ns plan.routes state) n o)
 
-pub history_for : {H S K M : Type 0} (is : KindsOf H) (left named : S → Option (List ℕ)) (failed : S → ℕ) (holds called : K → Option (List ℕ)) (faulted : K → ℕ) (view : M → View)
+pub log_for : {H S K M : Type 0} (is : KindsOf H) (left named : S → Option (List ℕ)) (failed : S → ℕ) (holds called : K → Option (List ℕ)) (faulted : K → ℕ) (view : M → View)
     (outputs outputs' : List OutputJob) (heads : List H) (edges edges' : List Edge) (nodes nodes' : List PlanNode) (srcs : List S) (snks : List K) (claims : Bool)
-    (routes routes' : Routes) (state state' : State) (end : WorkEnd RunFault) (srcs' : List S) (snks' : List K) (events : List Event)
+    (routes routes' : Routes) (state state' : State) (end : WorkEnd RunFault) (srcs' : List S) (snks' : List K) (log : RunLog)
     → outputs ≡ outputs' → edges ≡ edges' → nodes ≡ nodes' → routes ≡ routes' → state ≡ state'
-    → IsHistoryOf is left named failed holds called faulted view outputs heads edges nodes srcs snks claims routes state end srcs' snks' events
-    → IsHistoryOf is left named failed holds called faulted view outputs' heads edges' nodes' srcs snks claims routes' state' end srcs' snks' events
-history_for is left named failed holds called faulted view outputs outputs' heads edges edges' nodes nodes' srcs snks claims routes routes' state state' end srcs' snks' events o e n r s h =
-    subst (λ (x : State). IsHistoryOf is left named failed holds called faulted view outputs' heads edges' nodes' srcs snks claims routes' x end srcs' snks' events) s
-    (subst (λ (x : Routes). IsHistoryOf is left named failed holds called faulted view outputs' heads edges' nodes' srcs snks claims x state end srcs' snks' events) r
-    (subst (λ (x : List PlanNode). IsHistoryOf is left named failed holds called faulted view outputs' heads edges' x srcs snks claims routes state end srcs' snks' events) n
-    (subst (λ (x : List Edge). IsHistoryOf is left named failed holds called faulted view outputs' heads x nodes srcs snks claims routes state end srcs' snks' events) e
-    (subst (λ (x : List OutputJob). IsHistoryOf is left named failed holds called faulted view x heads edges nodes srcs snks claims routes state end srcs' snks' events) o h))))
+    → IsLogOf is left named failed holds called faulted view outputs heads edges nodes srcs snks claims routes state end srcs' snks' log
+    → IsLogOf is left named failed holds called faulted view outputs' heads edges' nodes' srcs snks claims routes' state' end srcs' snks' log
+log_for is left named failed holds called faulted view outputs outputs' heads edges edges' nodes nodes' srcs snks claims routes routes' state state' end srcs' snks' log o e n r s h =
+    subst (λ (x : State). IsLogOf is left named failed holds called faulted view outputs' heads edges' nodes' srcs snks claims routes' x end srcs' snks' log) s
+    (subst (λ (x : Routes). IsLogOf is left named failed holds called faulted view outputs' heads edges' nodes' srcs snks claims x state end srcs' snks' log) r
+    (subst (λ (x : List PlanNode). IsLogOf is left named failed holds called faulted view outputs' heads edges' x srcs snks claims routes state end srcs' snks' log) n
+    (subst (λ (x : List Edge). IsLogOf is left named failed holds called faulted view outputs' heads x nodes srcs snks claims routes state end srcs' snks' log) e
+    (subst (λ (x : List OutputJob). IsLogOf is left named failed holds called faulted view x heads edges nodes srcs snks claims routes state end srcs' snks' log) o h))))
 
 -- where each output stream has events, a history that has none isn't that of a plan with an output
 pub tells_some : {H : Type 0} (is : KindsOf H) (outputs : List OutputJob) (heads : List H) (bytes : List (List ℕ)) (nodes : List PlanNode) (edges : List Edge)

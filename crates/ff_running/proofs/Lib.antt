@@ -3,6 +3,7 @@ pub mod Building
 pub mod Ending
 pub mod EventSteps
 pub mod Gathering
+pub mod Grants
 pub mod Histories
 pub mod Making
 pub mod Marks
@@ -11,6 +12,7 @@ pub mod Networks
 pub mod Numbers
 pub mod Outcomes
 pub mod Places
+pub mod Reading
 pub mod Running
 pub mod StreamNumbers
 pub mod Planning
@@ -18,3 +20,4 @@ pub mod Plans
 pub mod Tally
 pub mod Told
 pub mod Telling
+pub mod Trying

@@ -55,7 +55,7 @@ either : (a b : Bool) → (a || b) ≡ true → (a ≡ true) ⊎ (b ≡ true)
 either true b e = inl refl
 either false b e = inr e
 
-reads_demux : (n : PlanNode) (i : ℕ) → reads_in i n ≡ true → n ≡ node.Demux i
+pub reads_demux : (n : PlanNode) (i : ℕ) → reads_in i n ≡ true → n ≡ node.Demux i
 reads_demux (node.Demux j) i e = ap node.Demux (same_number j i e)
 reads_demux (node.Dec at) i e = absurd cc
 reads_demux (node.Graph g) i e = absurd cc
@@ -70,7 +70,7 @@ reader_of (n ∷ ns) i e = elim (either (reads_in i n) (is_read ns i) e) [
   | inr later ↦ (let rest = reader_of ns i later in (suc rest.0, rest.1))
 ]
 
-source_demux : (n : PlanNode) → is_some (source_in n) ≡ true → (i : ℕ) × (n ≡ node.Demux i)
+pub source_demux : (n : PlanNode) → is_some (source_in n) ≡ true → (i : ℕ) × (n ≡ node.Demux i)
 source_demux (node.Demux i) e = (i, refl)
 source_demux (node.Dec at) e = absurd cc
 source_demux (node.Graph g) e = absurd cc
@@ -92,10 +92,10 @@ module _ {H S K M : Type 0} (is : KindsOf H) (own : TellOfThemselves is) (left n
   abbrev tasks : ℕ → Task
   tasks = task_at is outputs heads bytes nodes edges
 
-  begun : (claims ≡ true) × AllStart view tasks olds
+  pub begun : (claims ≡ true) × AllStart view tasks olds
   begun = (vouched, all_start is left named failed holds called faulted view outputs heads edges nodes srcs snks olds sp kp run.parts bytes told)
 
-  logs : AreLogged view tasks (solve (network tasks (ports_of view olds) edges (length olds))) (ins_at (ports_of view olds) edges) (outs_at (ports_of view olds) edges) news fault s.logs
+  pub logs : AreLogged view tasks (solve (network tasks (ports_of view olds) edges (length olds))) (ins_at (ports_of view olds) edges) (outs_at (ports_of view olds) edges) news fault s.logs
   logs = s.logged tasks begun
 
   alone : TellAlone is outputs heads bytes nodes edges
@@ -105,13 +105,13 @@ module _ {H S K M : Type 0} (is : KindsOf H) (own : TellOfThemselves is) (left n
   lanes = part_lanes is left named failed holds called faulted view outputs heads edges nodes srcs snks olds sp kp run.parts
 
   -- as many parts as nodes
-  old_there : (k : ℕ) → k < length nodes → k < length olds
+  pub old_there : (k : ℕ) → k < length nodes → k < length olds
   old_there k lt = (let long = run.all sound in omega (arith, lt, long))
 
-  new_there : (k : ℕ) → k < length nodes → k < length news
+  pub new_there : (k : ℕ) → k < length nodes → k < length news
   new_there k lt = (let long = run.all sound in let many = run.kept.count in omega (arith, lt, long, many))
 
-  node_there : (k : ℕ) → k < length news → k < length nodes
+  pub node_there : (k : ℕ) → k < length news → k < length nodes
   node_there k lt = (let long = run.all sound in let many = run.kept.count in omega (arith, lt, long, many))
 
   -- ---- the events of an output stream
@@ -200,24 +200,27 @@ module _ {H S K M : Type 0} (is : KindsOf H) (own : TellOfThemselves is) (left n
       let fits : FitsDemux is heads (lanes_into edges k) (lanes_out_of edges k) i = fitting k (node.Demux i) at in
       ap (λ (t : Task). t.tells feeds) (demux_task_is i k at fits) ∙ own.demuxer i fits.head (slice_index_or bytes i []) feeds
 
-  -- a part that is a source is that of a Demux node
-  is_reader : (j i : ℕ) (e : M) → j < length news → (view (slice_index_or news j e)).source ≡ Some i → (i' : ℕ) × (slice_get nodes j ≡ Some (node.Demux i'))
-  is_reader j i e lt src =
-      let n = there nodes j (node_there j lt) in
+  -- a part is a source where its node is one
+  pub same_kind : (j : ℕ) (e : M) (n : PlanNode) → j < length news → slice_get nodes j ≡ Some n → is_some (source_in n) ≡ is_some (view (slice_index_or news j e)).source
+  same_kind j e n lt at =
       let old = there olds j (old_there j (node_there j lt)) in
       let now = logs.settled sound j e lt in
-      let part = run.parts.each j n.0 old.0 n.1 old.1 in
+      let part = run.parts.each j n old.0 at old.1 in
       let stands : (view old.0).stands (start (tasks j)) =
       subst (λ (m : M). (view m).stands (start (tasks j))) (get_or_from_slice_get olds j old.0 old.0 old.1) (begun.1 j old.0 (old_there j (node_there j lt))) in
       let was = (laws old.0).is_source (start (tasks j)) stands in
       let now_is = (laws (slice_index_or news j e)).is_source now.past now.fits in
-      let reads : is_some (source_in n.0) ≡ true =
-      sym (ap (λ (o : Option ℕ). is_some o) part.source_is) ∙ (sym was ∙ (sym (ap (λ (t : Task). t.source) now.task_is) ∙ (now_is ∙ ap (λ (o : Option ℕ). is_some o) src))) in
-      let d = source_demux n.0 reads in
+      sym (ap (λ (o : Option ℕ). is_some o) part.source_is) ∙ (sym was ∙ (sym (ap (λ (t : Task). t.source) now.task_is) ∙ now_is))
+
+  -- a part that is a source is that of a Demux node
+  pub is_reader : (j i : ℕ) (e : M) → j < length news → (view (slice_index_or news j e)).source ≡ Some i → (i' : ℕ) × (slice_get nodes j ≡ Some (node.Demux i'))
+  is_reader j i e lt src =
+      let n = there nodes j (node_there j lt) in
+      let d = source_demux n.0 (same_kind j e n.0 lt n.1 ∙ ap (λ (o : Option ℕ). is_some o) src) in
       (d.0, n.1 ∙ ap (λ (x : PlanNode). Some x) d.1)
 
   -- of its own input
-  reads_own : (j i i' : ℕ) (e : M) → j < length news → (view (slice_index_or news j e)).source ≡ Some i → slice_get nodes j ≡ Some (node.Demux i') → i ≡ i'
+  pub reads_own : (j i i' : ℕ) (e : M) → j < length news → (view (slice_index_or news j e)).source ≡ Some i → slice_get nodes j ≡ Some (node.Demux i') → i ≡ i'
   reads_own j i i' e lt src at =
       let x = there news j lt in
       let same = get_or_from_slice_get news j x.0 e x.1 in

@@ -9,3 +9,4 @@ pub mod Claims
 pub mod Rooms
 pub mod Accepting
 pub mod Histories
+pub mod Reads

@@ -79,6 +79,10 @@ pub trait Kinds<Src: Source + Send + Drop, Snk: Sink + Send + Drop, Part: Machin
         ensures starts { IfOk result (λ m. Snk.holds snk ≡ Some [] → (Part.view m).stands (start (is.mux_task first out.now coded.now))) }
         ensures back { IfErr result (λ back. back ≡ snk) };
 
+    /// Under how many of its tickets, from the first on, a part has tried a unit.
+    fn tried(part: &Part) -> u64
+        ensures { result ≡ (Part.view part.now).tried };
+
     /// The source or the sink of a part, as it is now.
     fn into_ends(part: Part) -> Ends<Src, Snk>
         ensures { GivesEnds is Src.name Src.faults Snk.holds Snk.name Snk.faults (Part.view part) result };

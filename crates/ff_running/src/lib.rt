@@ -26,10 +26,12 @@ mod gather;
 mod kinds;
 mod lanes;
 mod opening;
+mod reads;
 mod run;
 mod tables;
 mod work;
 
 pub use fault::RunFault;
 pub use kinds::{Ends, Kinds};
+pub use reads::RunLog;
 pub use work::{make_plan, run_plan};

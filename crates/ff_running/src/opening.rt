@@ -9,7 +9,8 @@ ghost use Rattle.ff_running.specs.Openings.{reads_in, is_read, is_unused, IsOpen
 use ff_plan::PlanNode;
 use ff_sched::{Routes, SchedState};
 
-fn reads(node: PlanNode, number: u32) -> bool
+/// Whether a node reads the input of this number.
+pub(crate) fn reads(node: PlanNode, number: u32) -> bool
     ensures { result ≡ reads_in number node }
 {
     match node {
@@ -22,7 +23,7 @@ fn reads(node: PlanNode, number: u32) -> bool
     }
 }
 
-// Whether a node reads the input of this number.
+// Whether one of the nodes does.
 fn some_reads(nodes: &[PlanNode], number: u32) -> bool
     ensures { result ≡ is_read nodes.now number }
 {

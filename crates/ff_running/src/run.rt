@@ -10,7 +10,8 @@ ghost use Rattle.ff_running.specs.Claims.{tell_all};
 ghost use Rattle.ff_network.specs.Fits.{ports_by};
 ghost use Rattle.ff_running.specs.Parts.{AreFitting, AreOrdered, AllAside, HaveNumbers};
 ghost use Rattle.ff_network.specs.Scheduling.{AllRouted};
-ghost use Rattle.ff_running.specs.Histories.{AreScheduled, IsHistoryOf};
+ghost use Rattle.ff_running.specs.Histories.{AreScheduled};
+ghost use Rattle.ff_running.specs.Reads.{AreSufficient, IsLogOf, first_reads, places_in};
 ghost use Rattle.ff_running.specs.Openings.{CanBegin, or_memory};
 ghost use Rattle.ff_running.specs.Rooms.{HasRoom};
 ghost use Rattle.ff_running.specs.Runs.{TellsRun, AreRun, IsDone};
@@ -21,6 +22,7 @@ use crate::fault::RunFault;
 use crate::gather::gather;
 use crate::kinds::Kinds;
 use crate::opening::Opening;
+use crate::reads::{RunLog, logged};
 use crate::tables::{listed, tabled};
 use ff_edges::Edge;
 use ff_files::{Done, WorkEnd};
@@ -29,7 +31,6 @@ use ff_link::Claims;
 use ff_net::{Fault, Machine};
 use ff_network::{NodeFault, Ran, run_network};
 use ff_plan::PlanNode;
-use ff_sched::History;
 use ff_words::OutputJob;
 use std::alloc::{AllocError, Global};
 use std::sync::Wait;
@@ -45,20 +46,30 @@ fn no_memory() -> Option<NodeFault>
     })
 }
 
+/// Parts that were run.
+#[derive(Drop)]
+struct RanParts<M: Drop> {
+    machines: Vec<M>,
+    /// The fault that is reported.
+    fault: Option<NodeFault>,
+    /// What the run has logged, where it was begun and there was memory for it.
+    log: Option<RunLog>,
+}
+
 // Parts with which nothing was begun.
-fn unstarted<M: Drop>(parts: Vec<M>) -> Ran<M>
+fn unstarted<M: Drop>(parts: Vec<M>) -> RanParts<M>
     ensures machines { result.machines ≡ parts }
     ensures fault { result.fault ≡ Some (record { node = 0; fault = NoMemoryFault }) }
-    ensures history { result.history ≡ None }
+    ensures log { result.log ≡ None }
 {
-    Ran {
+    RanParts {
         machines: parts,
         fault: no_memory(),
-        history: None,
+        log: None,
     }
 }
 
-// The fault that is reported, or want of memory for the history.
+// The fault that is reported, or want of memory for the log.
 fn fault_or_memory(fault: Option<NodeFault>, told: bool) -> Option<NodeFault>
     ensures { result ≡ or_memory fault told }
 {
@@ -69,14 +80,23 @@ fn fault_or_memory(fault: Option<NodeFault>, told: bool) -> Option<NodeFault>
 }
 
 // Runs parts as the nodes of a network under the scheduler. Where memory is refused before the start they are as they were.
-fn run_parts<C: Claims, R: Threads + Wait + Sync, M: Machine + Send + Drop>(
+fn run_parts<
+    C: Claims,
+    K: Kinds<Src, Snk, M>,
+    R: Threads + Wait + Sync,
+    Src: Source + Send + Drop,
+    Snk: Sink + Send + Drop,
+    M: Machine + Send + Drop,
+>(
     rt: &R,
     alloc: Global,
+    inputs: u32,
+    nodes: &[PlanNode],
     parts: Vec<M>,
     edges: &[Edge],
     size: usize,
     opening: Opening,
-) -> Ran<M>
+) -> RanParts<M>
     requires few { length parts.items < 2 ^ 16 }
     requires opening { CanBegin opening }
     requires sources { AllRouted M.view opening.routes parts.items }
@@ -88,9 +108,11 @@ fn run_parts<C: Claims, R: Threads + Wait + Sync, M: Machine + Send + Drop>(
     ensures tells { TellsRun M.view result.machines.items result.fault }
     ensures solved { C.claims ≡ true → (tasks : ℕ → Task) → AllStart M.view tasks parts.items
         → MeetsNetwork M.view tasks (network tasks (ports_of M.view parts.items) edges.now (length parts.items)) (ins_at (ports_of M.view parts.items) edges.now) (outs_at (ports_of M.view parts.items) edges.now) result.machines.items result.fault }
-    ensures told { result.fault ≡ None → IsSome result.history }
-    ensures scheduled { IfSome result.history (λ events. AreScheduled M.view edges.now C.claims parts.items result.machines.items
-        opening.routes opening.state result.fault events) }
+    ensures told { result.fault ≡ None → IsSome result.log }
+    ensures scheduled { IfSome result.log (λ log. AreScheduled M.view edges.now C.claims parts.items result.machines.items
+        opening.routes opening.state result.fault log.history) }
+    ensures suffice { AreSufficient M.view edges.now C.claims parts.items result.machines.items result.fault }
+    ensures reads { IfSome result.log (λ log. places_in log.reads.items ≡ first_reads M.view inputs nodes.now result.machines.items log.history) }
 {
     let Opening { state, routes } = opening;
     match run_network::<C, R, M>(rt, alloc, parts, edges, size, state, routes) {
@@ -100,11 +122,14 @@ fn run_parts<C: Claims, R: Threads + Wait + Sync, M: Machine + Send + Drop>(
                 fault,
                 history,
             },
-        ) => Ran {
-            machines,
-            fault: fault_or_memory(fault, history.is_some()),
-            history,
-        },
+        ) => {
+            let log = logged::<K, Src, Snk, M>(alloc, inputs, nodes, &machines, history);
+            RanParts {
+                machines,
+                fault: fault_or_memory(fault, log.is_some()),
+                log,
+            }
+        }
         Err(parts) => unstarted(parts),
     }
 }
@@ -128,9 +153,9 @@ fn build_and_run<
     opening: Opening,
     parts: Vec<M>,
     places: &mut Places<Src, Snk>,
-) -> Ran<M>
+) -> RanParts<M>
     requires room { (parts.items ≡ []) × (length nodes.now ≤ vec_capacity parts) }
-    requires few { length nodes.now < 2 ^ 16 }
+    requires few { (length nodes.now < 2 ^ 16) × (length heads.now < 2 ^ 32) }
     requires size { (1 ≤ size) × (size ≤ 1024) }
     requires fits { AreFit (ports_by edges.now) (length nodes.now) edges.now }
     requires fitting { AreFitting K.is outputs.now heads.now edges.now nodes.now }
@@ -143,11 +168,16 @@ fn build_and_run<
     ensures ran { (srcs : List Src) (snks : List Snk) → AllAside srcs places.old.srcs.items → AllAside snks places.old.snks.items
         → (olds : List M) × AreRun K.is Src.left Src.name Src.faults Snk.holds Snk.name Snk.faults M.view outputs.now heads.now edges.now nodes.now srcs snks C.claims
         olds result.machines.items places.new.srcs.items places.new.snks.items result.fault
-        × IfSome result.history (λ events. AreScheduled M.view edges.now C.claims olds result.machines.items opening.routes opening.state result.fault events) }
-    ensures told { result.fault ≡ None → IsSome result.history }
+        × IfSome result.log (λ log. AreScheduled M.view edges.now C.claims olds result.machines.items opening.routes opening.state result.fault log.history)
+        × AreSufficient M.view edges.now C.claims olds result.machines.items result.fault }
+    ensures told { result.fault ≡ None → IsSome result.log }
+    ensures reads { IfSome result.log (λ log. places_in log.reads.items ≡ first_reads M.view (length heads.now) nodes.now result.machines.items log.history) }
 {
     match build::<K, Src, Snk, M>(alloc, nodes, edges, heads, outputs, parts, places) {
-        Ok(parts) => run_parts::<C, R, M>(rt, alloc, parts, edges, size, opening),
+        Ok(parts) => {
+            let inputs = heads.len() as u32;
+            run_parts::<C, K, R, Src, Snk, M>(rt, alloc, inputs, nodes, parts, edges, size, opening)
+        }
         Err(parts) => unstarted(parts),
     }
 }
@@ -205,7 +235,7 @@ pub(crate) fn run_nodes<
     srcs: Vec<Src>,
     snks: Vec<Snk>,
     room: Room<M, Src, Snk>,
-) -> Done<RunFault, Src, Snk, History>
+) -> Done<RunFault, Src, Snk, RunLog>
     requires room { HasRoom (length nodes.now) (length srcs.items) (length snks.items) room }
     requires few { (length nodes.now < 2 ^ 16) × (length heads.now < 2 ^ 32) }
     requires size { (1 ≤ size) × (size ≤ 1024) }
@@ -219,17 +249,17 @@ pub(crate) fn run_nodes<
     ensures done { IsDone K.is Src.left Src.name Src.faults Snk.holds Snk.name Snk.faults M.view outputs.now heads.now edges.now nodes.now srcs.items snks.items C.claims
         result.end result.srcs.items result.snks.items }
     ensures told { result.end ≡ WorkEnd.Fine → IsSome result.log }
-    ensures scheduled { IfSome result.log (λ events. IsHistoryOf K.is Src.left Src.name Src.faults Snk.holds Snk.name Snk.faults M.view outputs.now heads.now edges.now nodes.now
-        srcs.items snks.items C.claims opening.routes opening.state result.end result.srcs.items result.snks.items events) }
+    ensures logged { IfSome result.log (λ log. IsLogOf K.is Src.left Src.name Src.faults Snk.holds Snk.name Snk.faults M.view outputs.now heads.now edges.now nodes.now
+        srcs.items snks.items C.claims opening.routes opening.state result.end result.srcs.items result.snks.items log) }
 {
     let mut places = Places {
         srcs: tabled(srcs, room.src_places),
         snks: tabled(snks, room.snk_places),
     };
-    let Ran {
+    let RanParts {
         machines,
         fault,
-        history,
+        log,
     } = build_and_run::<C, K, R, Src, Snk, M>(
         rt,
         alloc,
@@ -247,7 +277,7 @@ pub(crate) fn run_nodes<
     let Places { srcs, snks } = places;
     Done {
         end,
-        log: history,
+        log,
         srcs: listed(srcs, room.srcs),
         snks: listed(snks, room.snks),
     }

@@ -4,18 +4,19 @@ ghost use Rattle.ff_map.specs.Choice.{lists};
 ghost use Rattle.ff_files.specs.Works.{HasLog, AreTold, HoldFiles, HoldParts, KeepEnds, FailNoMore, EndsWork, sound_sources, sound_sinks};
 ghost use Rattle.ff_running.specs.Accepting.{IsAccepted, IsPlanFor};
 ghost use Rattle.ff_running.specs.Claims.{tell_all};
-ghost use Rattle.ff_running.specs.Histories.{state_before, IsHistoryFor, IsHistoryOf};
+ghost use Rattle.ff_running.specs.Histories.{state_before};
+ghost use Rattle.ff_running.specs.Reads.{IsLogFor, IsLogOf};
 ghost use Rattle.ff_running.specs.Meaning.{plan_for, refusal_of, means as means_of};
 
 use crate::fault::RunFault;
 use crate::kinds::Kinds;
 use crate::opening::before_run;
+use crate::reads::RunLog;
 use crate::run::{Room, run_nodes};
 use ff_files::{Done, PlanEnd, WorkEnd};
 use ff_host::{Sink, Source};
 use ff_net::Machine;
 use ff_plan::{Plan, PlanError, plan as plan_of};
-use ff_sched::History;
 use ff_values::StreamHead;
 use ff_words::Job;
 use std::alloc::{AllocError, Global};
@@ -65,7 +66,8 @@ pub fn make_plan<
 
 /// Runs a plan, each node of it in a thread of its own. Where there is no memory to begin, the sources and sinks are as they were.
 ///
-/// What comes back with them is the history of the run: all that its scheduler granted and was told, in one order.
+/// What comes back with them is the history of the run: all that its scheduler granted and was told, in one order, and for each input
+/// the places of the grants in it under which its source has tried a unit.
 pub fn run_plan<
     K: Kinds<Src, Snk, M>,
     R: Threads + Wait + Sync,
@@ -80,7 +82,7 @@ pub fn run_plan<
     heads: &[K::Head],
     srcs: Vec<Src>,
     snks: Vec<Snk>,
-) -> Done<RunFault, Src, Snk, History>
+) -> Done<RunFault, Src, Snk, RunLog>
     requires { IsPlanFor K.is job.now heads.now plan }
     ensures fine { result.end ≡ WorkEnd.Fine → (bytes : List (List ℕ)) → AreTold Src.left Snk.holds srcs.items snks.items bytes
         → HoldFiles Snk.holds ((means_of K.is job.now).file heads.now bytes) result.snks.items }
@@ -93,9 +95,9 @@ pub fn run_plan<
     ensures sound_srcs { FailNoMore Src.faults srcs.items result.srcs.items (sound_sources (means_of K.is job.now) result.end (length srcs.items)) }
     ensures sound_snks { FailNoMore Snk.faults snks.items result.snks.items (sound_sinks (means_of K.is job.now) result.end (length snks.items)) }
     ensures logged { result.end ≡ WorkEnd.Fine → (bytes : Option (List (List ℕ))) → IfSome bytes (AreTold Src.left Snk.holds srcs.items snks.items)
-        → HasLog (IsHistoryFor K.is job.now heads.now bytes) result.log }
-    ensures scheduled { IfSome result.log (λ events. IsHistoryOf K.is Src.left Src.name Src.faults Snk.holds Snk.name Snk.faults M.view job.now.outputs heads.now plan.edges plan.nodes
-        srcs.items snks.items (tell_all Src.left Snk.holds srcs.items snks.items) plan.routes (state_before plan) result.end result.srcs.items result.snks.items events) }
+        → HasLog (IsLogFor K.is job.now heads.now bytes) result.log }
+    ensures scheduled { IfSome result.log (λ log. IsLogOf K.is Src.left Src.name Src.faults Snk.holds Snk.name Snk.faults M.view job.now.outputs heads.now plan.edges plan.nodes
+        srcs.items snks.items (tell_all Src.left Snk.holds srcs.items snks.items) plan.routes (state_before plan) result.end result.srcs.items result.snks.items log) }
 {
     let Plan {
         nodes,

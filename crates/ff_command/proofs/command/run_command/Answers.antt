@@ -1,15 +1,27 @@
-use Rattle.std.proofs.Common.{inl, inr, sym, subst}
+use Rattle.std.proofs.Common.{ℕ, List, inl, inr, sym, subst}
+use Rattle.ff_values.specs.declared.event.Event.{Event}
+use Rattle.ff_running.specs.Reads.{places_in}
 use Rattle.ff_words.specs.Words.{texts}
-use Rattle.ff_command.specs.Command.{ReportsHistory, HoldsTrace}
+use Rattle.ff_command.specs.Command.{ReportsHistory, ReportsReads, HoldsTrace}
+use Rattle.ff_command.specs.Histories.{history_in}
 use Rattle.ff_command.proofs.Answers.{due-text, none-told}
-use Rattle.ff_command.proofs.Reports.{reported, also_reported, no-events}
+use Rattle.ff_command.proofs.Reports.{has_more, reported_history, reported_reads, also_reported}
 use Rattle.ff_command.proofs.command.run_command.Goals as goal
 
 pub returns-clause-alone : goal.returns-clause-alone
 returns-clause-alone g c = λ asks.
     let ends = c.run_words-status.ensures.answered.alone asks in
     let same = c.run_words-status.ensures.alone asks in
-    (ends, same.0, no-events c.run_words-status.result.status c.run_words-status.result.history c.history_of-history.result c.history_of-history.ensures.fine c.history_of-history.ensures.other ends same.1)
+    (ends, same.0, (c.reported-history.ensures.other (inr same.1)).0)
+
+pub returns-clause-no_history : goal.returns-clause-no_history
+returns-clause-no_history g c = λ other. (c.reported-history.ensures.other (inl other)).0
+
+pub returns-clause-no_reads : goal.returns-clause-no_reads
+returns-clause-no_reads g c = λ which. elim which [
+  | inl other ↦ (c.reported-history.ensures.other (inl other)).1
+  | inr asks ↦ (c.reported-history.ensures.other (inr (c.run_words-status.ensures.alone asks).1)).1
+]
 
 pub returns-clause-line_not_due : goal.returns-clause-line_not_due
 returns-clause-line_not_due g c = (
@@ -42,10 +54,28 @@ returns-clause-log_failed g c = λ failed.
 
 pub returns-clause-history : goal.returns-clause-history
 returns-clause-history g c = λ fine.
-    let told = ReportsHistory (g.P.Worker.means c.args.worker.now) (g.P.Worker.tells c.args.worker.now) (texts c.args.words.now) (g.H.Host.files c.args.host.now) in
+    let P = g.P.Worker in
+    let worker = c.args.worker.now in
+    let told = ReportsHistory (P.means worker) (P.tells worker) (texts c.args.words.now) (g.H.Host.files c.args.host.now) in
     elim (c.run_words-status.ensures.logged fine) [
       | inl alone ↦ inl alone
-      | inr logged ↦ inr (subst told (sym (c.history_of-history.ensures.fine fine)) (reported told c.run_words-status.result.history logged))
+      | inr logged ↦
+          inr (subst told (sym (c.reported-history.ensures.fine fine).0)
+          (reported_history told c.run_words-status.result.run (has_more _ (λ log. told log.history) c.run_words-status.result.run (λ log x. (x.0, x.1, (x.2.0, x.2.1, x.2.2.0))) logged)))
+    ]
+
+pub returns-clause-reads : goal.returns-clause-reads
+returns-clause-reads g c = λ fine.
+    let P = g.P.Worker in
+    let worker = c.args.worker.now in
+    let run = c.run_words-status.result.run in
+    let are = ReportsReads (P.means worker) (P.reads worker) (texts c.args.words.now) (g.H.Host.files c.args.host.now) in
+    let is = c.reported-history.ensures.fine fine in
+    elim (c.run_words-status.ensures.logged fine) [
+      | inl alone ↦ inl alone
+      | inr logged ↦
+          inr (subst (λ (events : List Event). are events (places_in c.reported-history.result.reads.items)) (sym is.0) (subst (λ (rs : List (List ℕ)). are (history_in run) rs) (sym is.1)
+          (reported_reads are run (has_more _ (λ log. are log.history (places_in log.reads.items)) run (λ log x. (x.0, x.1, (x.2.0, x.2.1, x.2.2.1))) logged))))
     ]
 
 pub returns-clause-trace : goal.returns-clause-trace
@@ -53,5 +83,5 @@ returns-clause-trace g c = λ fine.
     let held = HoldsTrace (texts c.args.words.now) (g.H.Host.files c.args.host.now) (g.H.Host.files c.run_words-status.new.host) in
     elim (c.run_words-status.ensures.logged fine) [
       | inl alone ↦ inl alone
-      | inr logged ↦ inr (subst held (sym (c.history_of-history.ensures.fine fine)) (also_reported _ held c.run_words-status.result.history logged (c.run_words-status.ensures.traced fine)))
+      | inr logged ↦ inr (subst held (sym (c.reported-history.ensures.fine fine).0) (also_reported _ held c.run_words-status.result.run logged (c.run_words-status.ensures.traced fine)))
     ]

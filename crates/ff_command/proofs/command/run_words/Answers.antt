@@ -4,6 +4,7 @@ use Rattle.ff_words.specs.Words.{texts}
 use Rattle.ff_words.specs.Reading.{Answers}
 use Rattle.ff_words.specs.declared.table.Table.TheVariants.{Today}
 use Rattle.ff_command.specs.Command.{ReportsHistory, HoldsTrace}
+use Rattle.ff_command.specs.Histories.{LogHas}
 use Rattle.ff_command.proofs.Reports.{has_more, if_some_more, never_fine}
 use Rattle.ff_command.proofs.Answers.{words-answered, solo-answered, job-answered, not-alone, only-memory, told-text, some-told}
 use Rattle.ff_command.proofs.command.run_words.Goals as goal
@@ -74,16 +75,18 @@ returns-in-Ok-Run-clause-logged g c = λ fine.
     let words = texts c.args.words.now in
     let job = c.in-Ok-Run.job in
     let asks = subst (λ x. Answers Today words (Ok x)) c.in-Ok-Run.field-0-is (subst (Answers Today words) c.in-Ok-Run.is c.read_words.ensures.answer) in
-    inr (has_more _ (ReportsHistory (g.P.Worker.means c.args.worker.now) (g.P.Worker.tells c.args.worker.now) words (g.H.Host.files c.args.host.now)) c.run_job-status.result.history
-    (λ events told. (job, asks, told)) (c.run_job-status.ensures.logged fine))
+    let P = g.P.Worker in
+    let worker = c.args.worker.now in
+    inr (has_more _ (ReportsHistory (P.means worker) (λ j heads bytes log. LogHas (P.tells worker j heads bytes) (P.reads worker j heads bytes) log) words (g.H.Host.files c.args.host.now))
+    c.run_job-status.result.log (λ log told. (job, asks, told)) (c.run_job-status.ensures.logged fine))
 
 pub returns-in-Ok-Solo-clause-traced : goal.returns-in-Ok-Solo-clause-traced
-returns-in-Ok-Solo-clause-traced g c = λ fine. some-told _ c.tell.result.history c.tell.ensures.history
+returns-in-Ok-Solo-clause-traced g c = λ fine. some-told _ c.tell.result.run c.tell.ensures.run
 
 pub returns-in-Ok-Run-clause-traced : goal.returns-in-Ok-Run-clause-traced
 returns-in-Ok-Run-clause-traced g c = λ fine.
     let words = texts c.args.words.now in
     let job = c.in-Ok-Run.job in
     let asks = subst (λ x. Answers Today words (Ok x)) c.in-Ok-Run.field-0-is (subst (Answers Today words) c.in-Ok-Run.is c.read_words.ensures.answer) in
-    if_some_more _ (HoldsTrace words (g.H.Host.files c.args.host.now) (g.H.Host.files c.run_job-status.new.host)) c.run_job-status.result.history
-    (λ events held. (job, asks, held)) (c.run_job-status.ensures.traced fine)
+    if_some_more _ (λ log. HoldsTrace words (g.H.Host.files c.args.host.now) (g.H.Host.files c.run_job-status.new.host) log.history) c.run_job-status.result.log
+    (λ log held. (job, asks, held)) (c.run_job-status.ensures.traced fine)

@@ -6,6 +6,7 @@ use Rattle.ff_files.proofs.Lists.{names_len}
 use Rattle.ff_words.specs.Words.{written}
 use Rattle.ff_command.specs.declared.written.Written.{Written}
 use Rattle.ff_command.specs.Command.{over, IsReported, HoldsPrinted}
+use Rattle.ff_command.specs.Histories.{LogHas}
 use Rattle.ff_command.proofs.Ends.{ran, fine-end, over-same, held-printed}
 use Rattle.ff_command.proofs.Names.{names-apart}
 use Rattle.ff_command.proofs.Reports.{has_more, if_some_more}
@@ -52,10 +53,12 @@ returns-clause-logged g c = λ fine.
     let names = names_of (λ (w : Written). w.name.now) c.as_slice.result.now in
     let same : names ≡ written job = ap (names_of (λ (w : Written). w.name.now)) c.as_slice.ensures.value ∙ c.in-Ok.ensures in
     let n = length c.as_slice-count.result.now in
-    has_more _ (IsReported (over means job) (g.P.Worker.tells c.args.worker.now job) before) c.over_files-end.result.log
-    (λ events told.
-    let tells = g.P.Worker.tells c.args.worker.now job told.0 in
-    let both = over-same means job before after ins outs (λ cmd. AreHeadsIn cmd before told.0 × tells (told_bytes cmd before) events) c.as_slice-inputs.result.now names n
+    let P = g.P.Worker in
+    let worker = c.args.worker.now in
+    has_more _ (IsReported (over means job) (λ heads bytes log. LogHas (P.tells worker job heads bytes) (P.reads worker job heads bytes) log) before) c.over_files-end.result.log
+    (λ log told.
+    let both = over-same means job before after ins outs
+    (λ cmd. AreHeadsIn cmd before told.0 × LogHas (P.tells worker job told.0 (told_bytes cmd before)) (P.reads worker job told.0 (told_bytes cmd before)) log) c.as_slice-inputs.result.now names n
     c.as_slice-inputs.ensures same (ap length c.as_slice-count.ensures) (told.1, told.2) in
     (told.0, both.0, both.1))
     (c.over_files-end.ensures.logged (fine-end means job before after ins outs c.over_files-end.result.end n (sym c.status_of_end.ensures ∙ fine)))
@@ -72,7 +75,7 @@ returns-clause-traced g c = λ fine.
     let names = names_of (λ (w : Written). w.name.now) c.as_slice.result.now in
     let same : names ≡ written job = ap (names_of (λ (w : Written). w.name.now)) c.as_slice.ensures.value ∙ c.in-Ok.ensures in
     let n = length c.as_slice-count.result.now in
-    if_some_more _ (HoldsPrinted job before after) c.over_files-end.result.log
-    (λ events held. held-printed means job before after ins outs events
-    (over-same means job before after ins outs (λ cmd. HoldTrace cmd (printed events) before after) c.as_slice-inputs.result.now names n c.as_slice-inputs.ensures same (ap length c.as_slice-count.ensures) held))
+    if_some_more _ (λ log. HoldsPrinted job before after log.history) c.over_files-end.result.log
+    (λ log held. held-printed means job before after ins outs log.history
+    (over-same means job before after ins outs (λ cmd. HoldTrace cmd (printed log.history) before after) c.as_slice-inputs.result.now names n c.as_slice-inputs.ensures same (ap length c.as_slice-count.ensures) held))
     (c.over_files-end.ensures.traced (fine-end means job before after ins outs c.over_files-end.result.end n (sym c.status_of_end.ensures ∙ fine)))

@@ -53,6 +53,7 @@ returns-in-Ok-clause-ran g c = λ srcs snks a b.
           c.build.new.places.srcs.items c.build.new.places.snks.items (c.in-Ok.ensures.ok srcs snks a b) c.in-Ok.ensures.all c.run_parts.result.machines.items c.run_parts.result.fault g.C.Claims.claims
           c.run_parts.ensures.kept c.run_parts.ensures.tells c.run_parts.ensures.solved,
       c.run_parts.ensures.scheduled,
+      c.run_parts.ensures.suffice,
     )
 
 pub returns-in-Err-clause-ran : goal.returns-in-Err-clause-ran
@@ -65,9 +66,16 @@ returns-in-Err-clause-ran g c = λ srcs snks a b.
           (run_err g.K.Kinds.is S.left S.name S.faults K.holds K.name K.faults g.M.Machine.view c.args.outputs.now c.args.heads.now c.args.edges.now c.args.nodes.now srcs snks c.in-Err.parts.items
           c.build.new.places.srcs.items c.build.new.places.snks.items (c.in-Err.ensures.err srcs snks a b) c.unstarted.result.fault g.C.Claims.claims c.unstarted.ensures.fault),
       none_known
-          (λ events. AreScheduled g.M.Machine.view c.args.edges.now g.C.Claims.claims c.in-Err.parts.items c.unstarted.result.machines.items c.args.opening.routes c.args.opening.state c.unstarted.result.fault events)
-          c.unstarted.result.history c.unstarted.ensures.history,
+          (λ log. AreScheduled g.M.Machine.view c.args.edges.now g.C.Claims.claims c.in-Err.parts.items c.unstarted.result.machines.items c.args.opening.routes c.args.opening.state c.unstarted.result.fault log.history)
+          c.unstarted.result.log c.unstarted.ensures.log,
+      λ vouched tasks all none. absurd (let both : None ≡ unstarted = sym none ∙ c.unstarted.ensures.fault in cc),
     )
 
 pub returns-in-Err-clause-told : goal.returns-in-Err-clause-told
 returns-in-Err-clause-told g c = λ none. absurd (let both : None ≡ unstarted = sym none ∙ c.unstarted.ensures.fault in cc)
+
+pub returns-in-Err-clause-reads : goal.returns-in-Err-clause-reads
+returns-in-Err-clause-reads g c = none_known _ c.unstarted.result.log c.unstarted.ensures.log
+
+pub returns-in-Ok-clause-reads : goal.returns-in-Ok-clause-reads
+returns-in-Ok-clause-reads g c = c.run_parts.ensures.reads

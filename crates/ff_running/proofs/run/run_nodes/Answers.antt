@@ -1,7 +1,8 @@
-use Rattle.std.proofs.Common.{ℕ, List, length, map, Some, sym, ap, ◌∙◌, subst, arith}
-use Rattle.ff_running.specs.Histories.{AreScheduled, IsHistoryOf}
+use Rattle.std.proofs.Common.{◌≡◌, ℕ, List, length, map, Some, sym, ap, ◌∙◌, subst, arith}
+use Rattle.ff_running.specs.Histories.{AreScheduled}
 use Rattle.ff_running.specs.Parts.{AreOrdered}
-use Rattle.ff_running.proofs.Histories.{if_some_more}
+use Rattle.ff_running.specs.Reads.{places_in, first_reads, IsLogOf}
+use Rattle.ff_running.proofs.Histories.{if_some_both}
 use Rattle.ff_running.proofs.Outcomes.{fine_only}
 use Rattle.ff_running.proofs.Backs.{all_aside, srcs_full, snks_full, are_back}
 use Rattle.ff_running.proofs.Running.{have_ends}
@@ -119,9 +120,9 @@ returns-clause-done g c =
 pub returns-clause-told : goal.returns-clause-told
 returns-clause-told g c = λ fine. c.build_and_run-machines.ensures.told (fine_only (length c.args.heads.now) c.args.nodes.now c.build_and_run-machines.result.fault (sym c.end_with-end.ensures ∙ fine))
 
-pub returns-clause-scheduled : goal.returns-clause-scheduled
+pub returns-clause-logged : goal.returns-clause-logged
 unfolding returns-clause-done
-returns-clause-scheduled g c =
+returns-clause-logged g c =
     let S = g.Src.Source in
     let K = g.Snk.Sink in
     let view = g.M.Machine.view in
@@ -132,10 +133,11 @@ returns-clause-scheduled g c =
     let fault = c.build_and_run-machines.result.fault in
     let claims = g.C.Claims.claims in
     let ran = c.build_and_run-machines.ensures.ran srcs snks (all_aside srcs c.tabled.result.items c.tabled.ensures) (all_aside snks c.tabled-2.result.items c.tabled-2.ensures) in
-    if_some_more
-    (λ events. AreScheduled view c.args.edges.now claims ran.0 news opening.routes opening.state fault events)
-    (λ events. IsHistoryOf g.K.Kinds.is S.left S.name S.faults K.holds K.name K.faults view c.args.outputs.now c.args.heads.now c.args.edges.now c.args.nodes.now srcs snks claims
-    opening.routes opening.state c.end_with-end.result c.listed.result.items c.listed-2.result.items events)
-    c.build_and_run-machines.result.history
-    (λ events run. record { done = returns-clause-done g c; run = run })
-    ran.2
+    if_some_both
+    (λ log. AreScheduled view c.args.edges.now claims ran.0 news opening.routes opening.state fault log.history)
+    (λ log. places_in log.reads.items ≡ first_reads view (length c.args.heads.now) c.args.nodes.now news log.history)
+    (λ log. IsLogOf g.K.Kinds.is S.left S.name S.faults K.holds K.name K.faults view c.args.outputs.now c.args.heads.now c.args.edges.now c.args.nodes.now srcs snks claims
+    opening.routes opening.state c.end_with-end.result c.listed.result.items c.listed-2.result.items log)
+    c.build_and_run-machines.result.log
+    (λ log run reads. record { history = record { done = returns-clause-done g c; run = run }; suffice = ran.3; reads = reads })
+    ran.2 c.build_and_run-machines.ensures.reads

@@ -1,4 +1,4 @@
-use Rattle.std.proofs.Common.{◌≡◌, true, List, length, Option, sym, ap, ◌∙◌, subst}
+use Rattle.std.proofs.Common.{◌≡◌, true, None, List, length, Option, sym, ap, ◌∙◌, subst}
 use Rattle.std.specs.declared.alloc.Global.{Global}
 use Rattle.std.specs.declared.vec.Vec.{Vec}
 use Rattle.ff_network.specs.declared.run.NodeFault.{NodeFault}
@@ -7,8 +7,9 @@ use Rattle.ff_network.specs.Networks.{AllStart, ports_of}
 use Rattle.ff_network.specs.Runs.{MeetsNetwork}
 use Rattle.ff_net.specs.Nets.{solve}
 use Rattle.ff_network.specs.Scheduling.{Scheduled}
+use Rattle.ff_running.specs.Openings.{unstarted}
 use Rattle.ff_running.specs.Runs.{TellsRun}
-use Rattle.ff_running.proofs.Histories.{or_memory_told, some_told, with_history}
+use Rattle.ff_running.proofs.Histories.{none_known, of_log, or_memory_none, or_memory_told, some_told, with_history}
 use Rattle.ff_running.proofs.Networks.{told_tells, told_meets, unstarted_meets}
 use Rattle.ff_running.proofs.run.run_parts.Goals as goal
 
@@ -37,7 +38,7 @@ returns-in-Err-clause-solved g c = λ vouched tasks all.
 pub returns-in-Ok-clause-told : goal.returns-in-Ok-clause-told
 returns-in-Ok-clause-told g c = λ none.
     let ran = c.in-Ok.field-0 in
-    some_told ran.history (sym c.is_some.ensures ∙ or_memory_told ran.fault c.is_some.result (sym c.fault_or_memory.ensures ∙ none))
+    some_told c.logged-log.result (sym c.is_some.ensures ∙ or_memory_told ran.fault c.is_some.result (sym c.fault_or_memory.ensures ∙ none))
 
 pub returns-in-Ok-clause-scheduled : goal.returns-in-Ok-clause-scheduled
 returns-in-Ok-clause-scheduled g c =
@@ -47,6 +48,24 @@ returns-in-Ok-clause-scheduled g c =
     let opening = c.args.opening in
     let ran = c.in-Ok.field-0 in
     with_history
-    (λ fault events. Scheduled view opening.routes opening.state (λ tasks. (g.C.Claims.claims ≡ true) × AllStart view tasks parts)
-    (λ tasks. solve (network tasks (ports_of view parts) edges (length parts))) (ins_at (ports_of view parts) edges) (outs_at (ports_of view parts) edges) ran.machines.items fault events)
-    ran.history ran.fault c.fault_or_memory.result c.is_some.result c.is_some.ensures c.fault_or_memory.ensures c.in-Ok.ensures.scheduled
+    (λ fault log. Scheduled view opening.routes opening.state (λ tasks. (g.C.Claims.claims ≡ true) × AllStart view tasks parts)
+    (λ tasks. solve (network tasks (ports_of view parts) edges (length parts))) (ins_at (ports_of view parts) edges) (outs_at (ports_of view parts) edges) ran.machines.items fault log.history)
+    c.logged-log.result ran.fault c.fault_or_memory.result c.is_some.result c.is_some.ensures c.fault_or_memory.ensures
+    (of_log
+    (λ events. Scheduled view opening.routes opening.state (λ tasks. (g.C.Claims.claims ≡ true) × AllStart view tasks parts)
+    (λ tasks. solve (network tasks (ports_of view parts) edges (length parts))) (ins_at (ports_of view parts) edges) (outs_at (ports_of view parts) edges) ran.machines.items ran.fault events)
+    ran.history c.logged-log.result c.logged-log.ensures.history c.in-Ok.ensures.scheduled)
+
+pub returns-in-Ok-clause-suffice : goal.returns-in-Ok-clause-suffice
+returns-in-Ok-clause-suffice g c = λ vouched tasks all none.
+    let ran = c.in-Ok.field-0 in
+    c.in-Ok.ensures.suffice vouched tasks all (or_memory_none ran.fault c.is_some.result (sym c.fault_or_memory.ensures ∙ none))
+
+pub returns-in-Err-clause-suffice : goal.returns-in-Err-clause-suffice
+returns-in-Err-clause-suffice g c = λ vouched tasks all none. absurd (let both : None ≡ unstarted = sym none ∙ c.unstarted.ensures.fault in cc)
+
+pub returns-in-Err-clause-scheduled : goal.returns-in-Err-clause-scheduled
+returns-in-Err-clause-scheduled g c = none_known _ c.unstarted.result.log c.unstarted.ensures.log
+
+pub returns-in-Err-clause-reads : goal.returns-in-Err-clause-reads
+returns-in-Err-clause-reads g c = none_known _ c.unstarted.result.log c.unstarted.ensures.log

@@ -1,10 +1,11 @@
 use Rattle.std.proofs.Common.{◌≡◌, length, refl, ap, ◌∙◌, arith}
 use Rattle.ff_net.specs.Laws.{Laws}
 use Rattle.ff_running.specs.Claims.{tell_all}
-use Rattle.ff_running.specs.Histories.{state_before, IsHistoryFor, IsHistoryOf}
-use Rattle.ff_running.proofs.Histories.{state_is, history_for, has_log, if_some_more}
+use Rattle.ff_running.specs.Histories.{state_before}
+use Rattle.ff_running.specs.Reads.{IsLogFor, IsLogOf}
+use Rattle.ff_running.proofs.Histories.{state_is, log_for, has_log, if_some_more}
 use Rattle.ff_running.proofs.Ending.{done_for, all_files, all_parts, keeps_sources, keeps_sinks, all_ends, all_sources, all_sinks}
-use Rattle.ff_running.proofs.Told.{history_in}
+use Rattle.ff_running.proofs.Reading.{log_in}
 use Rattle.ff_running.proofs.work.run_plan.Goals as goal
 
 pub returns-clause-fine : goal.returns-clause-fine
@@ -154,13 +155,13 @@ returns-clause-scheduled g c =
     let routes : c.before_run-opening.result.routes ≡ plan.routes = c.before_run-opening.ensures.routes in
     let state = state_is plan c.as_slice-nodes.result.now c.before_run-opening.result.routes c.before_run-opening.result.state c.as_slice-nodes.ensures routes c.before_run-opening.ensures.state in
     if_some_more _
-    (λ events. IsHistoryOf g.K.Kinds.is S.left S.name S.faults K.holds K.name K.faults g.M.Machine.view c.args.job.now.outputs c.args.heads.now plan.edges plan.nodes srcs snks
-    claims plan.routes (state_before plan) end srcs' snks' events)
+    (λ log. IsLogOf g.K.Kinds.is S.left S.name S.faults K.holds K.name K.faults g.M.Machine.view c.args.job.now.outputs c.args.heads.now plan.edges plan.nodes srcs snks
+    claims plan.routes (state_before plan) end srcs' snks' log)
     c.run_nodes.result.log
-    (λ events h. history_for g.K.Kinds.is S.left S.name S.faults K.holds K.name K.faults g.M.Machine.view c.as_slice-outputs.result.now c.args.job.now.outputs c.args.heads.now
+    (λ log h. log_for g.K.Kinds.is S.left S.name S.faults K.holds K.name K.faults g.M.Machine.view c.as_slice-outputs.result.now c.args.job.now.outputs c.args.heads.now
     c.as_slice-edges.result.now plan.edges c.as_slice-nodes.result.now plan.nodes srcs snks claims c.before_run-opening.result.routes plan.routes
-    c.before_run-opening.result.state (state_before plan) end srcs' snks' events c.as_slice-outputs.ensures c.as_slice-edges.ensures c.as_slice-nodes.ensures routes state h)
-    c.run_nodes.ensures.scheduled
+    c.before_run-opening.result.state (state_before plan) end srcs' snks' log c.as_slice-outputs.ensures c.as_slice-edges.ensures c.as_slice-nodes.ensures routes state h)
+    c.run_nodes.ensures.logged
 
 pub returns-clause-logged : goal.returns-clause-logged
 returns-clause-logged g c = λ fine bytes told.
@@ -177,6 +178,6 @@ returns-clause-logged g c = λ fine bytes told.
     let snks_len : length snks ≡ length c.as_slice-outputs.result.now = (let t = c.if-len-outputs.false in let l = c.len-else-len-heads.ensures in let ok = c.args.snks.ok.0 in omega (arith, t, l, ok)) in
     let machine = g.met.M.Machine g.world.𝓛 g.world.𝓜 g.world.𝓡 ((λ s x. x), (λ x. x), (λ x. x), λ x. x) in
     let laws : (m : g.row.M.Denot) → Laws (g.M.Machine.view m) = machine.laws in
-    has_log _ (IsHistoryFor g.K.Kinds.is job heads bytes) c.run_nodes.result.log (c.run_nodes.ensures.told fine) (returns-clause-scheduled g c)
-    (λ events h. history_in g.K.Kinds.is g.met.K.Kinds.own S.left S.name S.faults K.holds K.name K.faults g.M.Machine.view laws job c.args.plan heads srcs snks end srcs' snks' events
+    has_log _ (IsLogFor g.K.Kinds.is job heads bytes) c.run_nodes.result.log (c.run_nodes.ensures.told fine) (returns-clause-scheduled g c)
+    (λ log h. log_in g.K.Kinds.is g.met.K.Kinds.own S.left S.name S.faults K.holds K.name K.faults g.M.Machine.view laws job c.args.plan heads srcs snks end srcs' snks' log
     c.requires srcs_len (snks_len ∙ ap length c.as_slice-outputs.ensures) h fine bytes told)

@@ -1,0 +1,10 @@
+use Rattle.std.proofs.Common.{◌≡◌, ◌≤◌, ◌++◌, take, vec_items, vec_len}
+use Rattle.ff_running.specs.Reads.{grants_of}
+use Rattle.ff_running.proofs.Grants.{still}
+use Rattle.ff_running.proofs.reads.first_grants.Given as goal
+
+abbrev pub invariant-loop-at : goal.invariant-loop-at
+invariant-loop-at l = record {
+  few : vec_len l.places ≤ l.count;
+  so_far : vec_items l.places ++ still l.input l.count (vec_len l.places) l.at l.events ≡ take l.count (grants_of l.input l.events);
+}

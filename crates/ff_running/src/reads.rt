@@ -1,0 +1,117 @@
+// Under which grants of a run's history its sources have tried their units.
+ghost use Rattle.std.specs.Prelude.{◌≡◌, take, IfOk, IfSome, Some};
+ghost use Rattle.ff_running.specs.Reads.{is_grant_of as grant_of, grants_of, places_in, tried_in, first_reads};
+
+use crate::kinds::Kinds;
+use crate::opening::reads;
+use ff_host::{Sink, Source};
+use ff_net::Machine;
+use ff_plan::PlanNode;
+use ff_sched::History;
+use ff_values::Event;
+use std::alloc::{AllocError, Global};
+
+/// What a run of a plan's nodes has logged.
+#[derive(Drop)]
+pub struct RunLog {
+    /// All that its scheduler granted and was told, in one order.
+    pub history: History,
+    /// For each input the places in the history of the grants under which its source tried a unit, in order.
+    pub reads: Vec<Vec<u64>>,
+}
+
+fn is_grant_of(event: &Event, input: u32) -> bool
+    ensures { result ≡ grant_of input event.now }
+{
+    match event {
+        Event::Grant(source) => *source == input,
+        Event::Sent(_, _) | Event::Finished(_) | Event::Best(_, _) | Event::Exited(_) => false,
+    }
+}
+
+// Under how many tickets the source of an input has tried a unit, by the part of the node that reads it.
+fn tried<
+    K: Kinds<Src, Snk, M>,
+    Src: Source + Send + Drop,
+    Snk: Sink + Send + Drop,
+    M: Machine + Send + Drop,
+>(nodes: &[PlanNode], parts: &[M], input: u32) -> u64
+    ensures { result ≡ tried_in M.view input nodes.now parts.now }
+{
+    for number in 0..parts.len() {
+        let Some(node) = nodes.get(number) else {
+            break;
+        };
+        if reads(*node, input) {
+            return K::tried(&parts[number]);
+        }
+    }
+    0
+}
+
+// The places of so many grants of an input, the first ones.
+fn first_grants(
+    alloc: Global,
+    events: &[Event],
+    input: u32,
+    count: u64,
+) -> Result<Vec<u64>, AllocError>
+    ensures { IfOk result (λ places. places.items ≡ take count (grants_of input events.now)) }
+{
+    let mut places = Vec::new(alloc);
+    for at in 0..events.len() {
+        if (places.len() as u64) < count && is_grant_of(&events[at], input) {
+            places.push(at as u64)?;
+        }
+    }
+    Ok(places)
+}
+
+// Of each of so many inputs.
+fn all_reads<
+    K: Kinds<Src, Snk, M>,
+    Src: Source + Send + Drop,
+    Snk: Sink + Send + Drop,
+    M: Machine + Send + Drop,
+>(
+    alloc: Global,
+    inputs: u32,
+    nodes: &[PlanNode],
+    parts: &[M],
+    events: &[Event],
+) -> Result<Vec<Vec<u64>>, AllocError>
+    ensures { IfOk result (λ all. places_in all.items ≡ first_reads M.view inputs nodes.now parts.now events.now) }
+{
+    let mut all = Vec::new(alloc);
+    for input in 0..inputs {
+        let count = tried::<K, Src, Snk, M>(nodes, parts, input);
+        let places = first_grants(alloc, events, input, count)?;
+        all.push(places)?;
+    }
+    Ok(all)
+}
+
+/// What the run of these parts has logged, where there is a history and memory for all.
+pub(crate) fn logged<
+    K: Kinds<Src, Snk, M>,
+    Src: Source + Send + Drop,
+    Snk: Sink + Send + Drop,
+    M: Machine + Send + Drop,
+>(
+    alloc: Global,
+    inputs: u32,
+    nodes: &[PlanNode],
+    parts: &[M],
+    history: Option<History>,
+) -> Option<RunLog>
+    ensures history { IfSome result (λ log. history ≡ Some log.history) }
+    ensures reads { IfSome result (λ log. places_in log.reads.items ≡ first_reads M.view inputs nodes.now parts.now log.history) }
+{
+    let Some(history) = history else {
+        return None;
+    };
+    match all_reads::<K, Src, Snk, M>(alloc, inputs, nodes, parts, history.events()) {
+        Ok(reads) => Some(RunLog { history, reads }),
+        Err(_) => None,
+    }
+}
