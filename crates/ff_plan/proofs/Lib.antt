@@ -36,5 +36,6 @@ mod StartFits
 mod Steps
 mod Today
 mod Upward
+mod UsedLabels
 mod Uses
 mod Wants

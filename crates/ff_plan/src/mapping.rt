@@ -61,7 +61,7 @@ fn graphs_take(graphs: &[Graph], label: &str) -> bool
 }
 
 // Whether a label is used at all.
-#[tactic(auto, using(crate::proofs::Uses::is_used_at_all))]
+#[tactic(auto, using(crate::proofs::UsedLabels::is_used_at_all))]
 fn is_taken(graphs: &[Graph], outs: &[OutputJob], label: &str) -> bool
     ensures { result ≡ is_one_of label.now (taken_labels graphs.now ++ flat_map labels_of outs.now) }
 {
