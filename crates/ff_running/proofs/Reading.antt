@@ -131,7 +131,7 @@ module _ {H S K M : Type 0} (is : KindsOf H) (own : TellOfThemselves is) (left n
     (run : AreRun is left named failed holds called faulted view outputs heads edges nodes srcs snks claims olds news sp kp fault)
     (back : AreBack is left named failed holds called faulted view nodes news srcs snks srcs' snks')
     (sound : fault ≡ None) (s : AreScheduled view edges claims olds news routes state fault events)
-    (bytes : List (List ℕ)) (vouched : claims ≡ true) (tells : AreTold left holds srcs snks bytes)
+    (bytes : List (List ℕ)) (vouched : claims ≡ true) (tells : AreTold left holds srcs snks bytes) (snk_count : length snks ≡ length outputs)
     (suffice : AreSufficient view edges claims olds news fault) (src_count : length srcs ≡ length heads)
     (reads : List (List ℕ)) (are : reads ≡ first_reads view (length heads) nodes news events) where
   abbrev tasks : ℕ → Task
@@ -143,42 +143,42 @@ module _ {H S K M : Type 0} (is : KindsOf H) (own : TellOfThemselves is) (left n
   there_now : (k : ℕ) → k < length nodes → k < length news
   there_now =
       told.new_there is own left named failed holds called faulted view laws outputs heads edges nodes srcs snks claims olds news sp kp fault srcs' snks' routes state
-      events order fitting run back sound s bytes vouched tells
+      events order fitting run back sound s bytes vouched tells snk_count
 
   same_kind : (j : ℕ) (e : M) (n : PlanNode) → j < length news → slice_get nodes j ≡ Some n → is_some (source_in n) ≡ is_some (view (slice_index_or news j e)).source
   same_kind =
       told.same_kind is own left named failed holds called faulted view laws outputs heads edges nodes srcs snks claims olds news sp kp fault srcs' snks' routes state
-      events order fitting run back sound s bytes vouched tells
+      events order fitting run back sound s bytes vouched tells snk_count
 
   is_reader : (j i : ℕ) (e : M) → j < length news → (view (slice_index_or news j e)).source ≡ Some i → (i' : ℕ) × (slice_get nodes j ≡ Some (node.Demux i'))
   is_reader =
       told.is_reader is own left named failed holds called faulted view laws outputs heads edges nodes srcs snks claims olds news sp kp fault srcs' snks' routes state
-      events order fitting run back sound s bytes vouched tells
+      events order fitting run back sound s bytes vouched tells snk_count
 
   reads_own : (j i i' : ℕ) (e : M) → j < length news → (view (slice_index_or news j e)).source ≡ Some i → slice_get nodes j ≡ Some (node.Demux i') → i ≡ i'
   reads_own =
       told.reads_own is own left named failed holds called faulted view laws outputs heads edges nodes srcs snks claims olds news sp kp fault srcs' snks' routes state
-      events order fitting run back sound s bytes vouched tells
+      events order fitting run back sound s bytes vouched tells snk_count
 
   node_there : (k : ℕ) → k < length news → k < length nodes
   node_there =
       told.node_there is own left named failed holds called faulted view laws outputs heads edges nodes srcs snks claims olds news sp kp fault srcs' snks' routes state
-      events order fitting run back sound s bytes vouched tells
+      events order fitting run back sound s bytes vouched tells snk_count
 
   old_there : (k : ℕ) → k < length nodes → k < length olds
   old_there =
       told.old_there is own left named failed holds called faulted view laws outputs heads edges nodes srcs snks claims olds news sp kp fault srcs' snks' routes state
-      events order fitting run back sound s bytes vouched tells
+      events order fitting run back sound s bytes vouched tells snk_count
 
   begun : (claims ≡ true) × AllStart view tasks olds
   begun =
       told.begun is own left named failed holds called faulted view laws outputs heads edges nodes srcs snks claims olds news sp kp fault srcs' snks' routes state
-      events order fitting run back sound s bytes vouched tells
+      events order fitting run back sound s bytes vouched tells snk_count
 
   logs : AreLogged view tasks (solve (network tasks ports edges (length olds))) (ins_at ports edges) (outs_at ports edges) news fault s.logs
   logs =
       told.logs is own left named failed holds called faulted view laws outputs heads edges nodes srcs snks claims olds news sp kp fault srcs' snks' routes state
-      events order fitting run back sound s bytes vouched tells
+      events order fitting run back sound s bytes vouched tells snk_count
 
   -- a part is the source that its node is
   source_is : (k : ℕ) (e : M) (n : PlanNode) → k < length news → slice_get nodes k ≡ Some n → (view (slice_index_or news k e)).source ≡ source_in n
@@ -325,7 +325,7 @@ module _ {H S K M : Type 0} (is : KindsOf H) (own : TellOfThemselves is) (left n
       let d = h.history.done in
       are_enough is own left named failed holds called faulted view laws job.outputs heads plan.edges plan.nodes srcs snks (tell_all left holds srcs snks) d.olds d.news
       d.src_places d.snk_places d.fault srcs' snks' plan.routes (state_before plan) log.history order for.fitting d.run d.back
-      (fine_only (length heads) plan.nodes d.fault (sym d.end_is ∙ fine)) h.history.run bytes (tells_told left holds srcs snks bytes tells) tells h.suffice src_count
+      (fine_only (length heads) plan.nodes d.fault (sym d.end_is ∙ fine)) h.history.run bytes (tells_told left holds srcs snks bytes tells) tells snk_count h.suffice src_count
       (places_in log.reads.items) h.reads for.muxes
 
   pub log_in : (bytes : Option (List (List ℕ))) → IfSome bytes (AreTold left holds srcs snks) → IsLogFor is job heads bytes log
