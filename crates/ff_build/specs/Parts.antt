@@ -1,5 +1,5 @@
 -- What the nodes of a plan are there for, by the definitions of formats and codecs.
-use Rattle.std.specs.Prelude.{◌≡◌, ℕ, Bool, true, false, List, [], ◌∷◌, Option, None}
+use Rattle.std.specs.Prelude.{◌≡◌, Bool, true, false}
 use Rattle.ff_values.specs.Heads.{base_of_head}
 use Rattle.ff_values.specs.declared.head.Codec.{Codec}
 use Rattle.ff_values.specs.declared.head.Codec.TheVariants as codec
@@ -11,16 +11,13 @@ use Rattle.ff_coding.specs.Encoding.{enc_task}
 use Rattle.ff_cuts.specs.AnyCutters.{any_cutter}
 use Rattle.ff_demuxing.specs.Demuxing.{demux_task}
 use Rattle.ff_flac_coder.specs.Coding.{CanCode, coded_head, flac_task}
-use Rattle.ff_frame.specs.Ports.{stream_at}
 use Rattle.ff_heads.specs.declared.head.InputHead.{InputHead}
 use Rattle.ff_heads.specs.Heads.{IsHead, stream_in}
-use Rattle.ff_muxing.specs.Muxing.{mux_task, unpatched, file}
+use Rattle.ff_muxing.specs.Muxing.{mux_task, unpatched, file, head_bases}
 use Rattle.ff_muxing.specs.Outputs.{CanWrite, layout_of}
 use Rattle.ff_muxing.specs.StreamEvents.{stream_events}
 use Rattle.ff_net.specs.Pasts.{Task}
-use Rattle.ff_net.specs.Ways.{Flow}
 use Rattle.ff_running.specs.Kinds.{KindsOf}
-use Rattle.ff_running.specs.Tasks.{idle}
 use Rattle.ff_words.specs.declared.job.OutputJob.{OutputJob}
 
 abbrev pub is_flac : Codec → Bool
@@ -42,30 +39,6 @@ abbrev pub enc_task_to : Bool → StreamHead → Task
 enc_task_to true coded = flac_task
 enc_task_to false coded = enc_task (packet_made coded)
 
--- one stream alone, of which this is true
-abbrev pub IsAlone : (StreamHead → Type 0) → List StreamHead → Type 0
-IsAlone Takes [] = ⊥
-IsAlone Takes (head ∷ []) = Takes head
-IsAlone Takes (head ∷ other ∷ heads) = ⊥
-
--- Muxers of one stream are built: what one of streams with these heads is there for, where the first stream has this number,
-abbrev pub mux_task_to : ℕ → OutputJob → List StreamHead → Task
-mux_task_to first out [] = idle
-mux_task_to first out (coded ∷ []) = mux_task (layout_of out.format out.hash coded) first (base_of_head coded)
-mux_task_to first out (coded ∷ other ∷ others) = idle
-
--- the file of such streams,
-abbrev pub file_to : OutputJob → List StreamHead → List Flow → Option (List ℕ)
-file_to out [] ss = None
-file_to out (coded ∷ []) ss = file (layout_of out.format out.hash coded) (stream_at ss 0)
-file_to out (coded ∷ other ∷ others) ss = None
-
--- and the text of which a front is held.
-abbrev pub text_to : OutputJob → List StreamHead → List Flow → List ℕ
-text_to out [] ss = []
-text_to out (coded ∷ []) ss = unpatched (layout_of out.format out.hash coded) (stream_at ss 0)
-text_to out (coded ∷ other ∷ others) ss = []
-
 -- a demuxer gives an input's packets, a decoder their frames, an encoder packets of frames, and a muxer writes them in the output's
 -- format
 abbrev pub all_kinds : KindsOf InputHead
@@ -77,9 +50,9 @@ all_kinds = record {
   dec_task = λ head outputs. dec_task (frame_made head) outputs;
   CanEncode = λ head coded. CanEncodeTo (is_flac_coded coded) head coded;
   enc_task = λ head coded. enc_task_to (is_flac_coded coded) coded;
-  CanMux = λ out coded. IsAlone (CanWrite out.format) coded;
-  mux_task = mux_task_to;
-  file = file_to;
-  text = text_to;
+  CanMux = λ out coded. CanWrite out.format coded;
+  mux_task = λ first out coded. mux_task (layout_of out.format out.hash coded) first (head_bases coded);
+  file = λ out coded ss. file (layout_of out.format out.hash coded) (head_bases coded) ss;
+  text = λ out coded ss. unpatched (layout_of out.format out.hash coded) (head_bases coded) ss;
   events = λ number coded s. stream_events number (base_of_head coded) s;
 }

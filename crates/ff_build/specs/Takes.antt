@@ -3,6 +3,7 @@ use Rattle.std.specs.Prelude.{◌≡◌, ℕ, ◌^◌, ◌<◌, ◌≤◌, ◌&&
 use Rattle.std.specs.List.{AllByRecursion}
 use Rattle.std.proofs.Common.{arith, subst, sym}
 use Rattle.std.proofs.lemmas.Bool.Decides.{nat_tests}
+use Rattle.std.proofs.lemmas.List.{length-map}
 use Rattle.ff_time.specs.Fraction.{Fraction, IsBase, IsBase-unit}
 use Rattle.ff_values.specs.Codecs.{IsPcmCodec}
 use Rattle.ff_values.specs.declared.head.Codec.{Codec}
@@ -26,7 +27,7 @@ use Rattle.ff_words.specs.declared.job.FileFormat.{FileFormat}
 use Rattle.ff_words.specs.declared.job.FileFormat.TheVariants as format
 use Rattle.ff_words.specs.declared.job.OutputJob.{OutputJob}
 use Rattle.ff_y4m.specs.Packets as y4m
-use Rattle.ff_build.specs.Parts.{CanEncodeTo, IsAlone, is_flac, is_flac_coded}
+use Rattle.ff_build.specs.Parts.{CanEncodeTo, is_flac, is_flac_coded}
 
 pcm_decodes : (head : StreamHead) (c : Codec) → IsPcmCodec c → IsPcmHead head → CanDecodeSound head c
 pcm_decodes head codec.PcmU8 p h = h
@@ -143,7 +144,7 @@ has_room rate bits channels small some few = record {
 }
 
 write_flac : (c : Codec) (tb : Fraction) (rate bits channels : ℕ) → 1 ≤ channels → channels ≤ 8 → takes_sound format.Flac c rate ≡ true
-    → CanWrite format.Flac (Audio tb rate (packed_bits c bits) channels c)
+    → CanWrite format.Flac (Audio tb rate (packed_bits c bits) channels c ∷ [])
 write_flac codec.PcmU8 tb rate bits channels some few e = absurd cc
 write_flac codec.PcmS16le tb rate bits channels some few e = absurd cc
 write_flac codec.PcmS24le tb rate bits channels some few e = absurd cc
@@ -152,25 +153,35 @@ write_flac codec.Flac tb rate bits channels some few e = (tt, has_room rate bits
 write_flac codec.RawVideo tb rate bits channels some few e = absurd cc
 
 write_sound : (f : FileFormat) (c : Codec) (tb : Fraction) (rate bits channels : ℕ) → 1 ≤ channels → channels ≤ 8
-    → (takes_kind f kind.Audio && takes_sound f c rate) ≡ true → CanWrite f (Audio tb rate (packed_bits c bits) channels c)
+    → (takes_kind f kind.Audio && takes_sound f c rate) ≡ true → CanWrite f (Audio tb rate (packed_bits c bits) channels c ∷ [])
 write_sound format.Wav c tb rate bits channels some few e = pcm_of c e
 write_sound format.Flac c tb rate bits channels some few e = write_flac c tb rate bits channels some few e
 write_sound format.Y4m c tb rate bits channels some few e = absurd cc
-write_sound format.FrameHash c tb rate bits channels some few e = tt
+write_sound format.FrameHash c tb rate bits channels some few e = (omega arith, omega arith)
 
-write_pictures : (f : FileFormat) (tb p w h a b : _) → takes_kind f kind.Video ≡ true → CanWrite f (Video tb p w h a b)
+write_pictures : (f : FileFormat) (tb p w h a b : _) → takes_kind f kind.Video ≡ true → CanWrite f (Video tb p w h a b ∷ [])
 write_pictures format.Wav tb p w h a b e = absurd cc
 write_pictures format.Flac tb p w h a b e = absurd cc
 write_pictures format.Y4m tb p w h a b e = tt
-write_pictures format.FrameHash tb p w h a b e = tt
+write_pictures format.FrameHash tb p w h a b e = (omega arith, omega arith)
 
-written : (head : StreamHead) (out : OutputJob) → IsReadSound head → takes_head out head ≡ true → CanWrite out.format (packed_as out head)
+written : (head : StreamHead) (out : OutputJob) → IsReadSound head → takes_head out head ≡ true → CanWrite out.format (packed_as out head ∷ [])
 written (Audio tb rate bits channels from) out read t =
     write_sound out.format (audio_codec out out.format) tb rate bits channels read.1 read.2 t
 written (Video tb p width height sar_num sar_den) out read t = write_pictures out.format tb p width height sar_num sar_den t
 
+-- more than one stream are taken by framehash alone
+many_written : (f : FileFormat) (heads : List StreamHead) → 2 ≤ length heads → length heads ≤ most_built f → CanWrite f heads
+many_written format.Wav heads some few = absurd (omega (arith, some, few))
+many_written format.Flac heads some few = absurd (omega (arith, some, few))
+many_written format.Y4m heads some few = absurd (omega (arith, some, few))
+many_written format.FrameHash heads some few = absurd (omega (arith, some, few))
+
 pub heads_are_written : (hs : List InputHead) (out : OutputJob) → AllByRecursion (λ h. IsHead h × (takes_head out (stream_in h) ≡ true)) hs
-    → 1 ≤ length hs → length hs ≤ most_built out.format → IsAlone (CanWrite out.format) (map (λ h. packed_as out (stream_in h)) hs)
+    → 1 ≤ length hs → length hs ≤ most_built out.format → CanWrite out.format (map (λ h. packed_as out (stream_in h)) hs)
 heads_are_written [] out all some few = absurd (omega (arith, some))
 heads_are_written (h ∷ []) out all some few = written (stream_in h) out (read_sound h all.0.0) all.0.1
-heads_are_written (h ∷ g ∷ hs) out all some few = absurd (omega (arith, few))
+heads_are_written (h ∷ g ∷ hs) out all some few =
+    let heads = map (λ k. packed_as out (stream_in k)) (h ∷ g ∷ hs) in
+    let long : length heads ≡ length (h ∷ g ∷ hs) = length-map (h ∷ g ∷ hs) (λ k. packed_as out (stream_in k)) in
+    many_written out.format heads (omega arith) (subst (λ (n : ℕ). n ≤ most_built out.format) (sym long) few)

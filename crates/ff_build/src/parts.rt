@@ -1,5 +1,5 @@
 // The kinds of node, built.
-ghost use Rattle.std.specs.Prelude.{◌≡◌, ◌≤◌, length, slice_get, Some};
+ghost use Rattle.std.specs.Prelude.{◌≡◌};
 ghost use Rattle.ff_build.specs.Parts.{is_flac as flac_is, is_flac_coded as flac_is_coded};
 
 use crate::part::Part;
@@ -33,14 +33,6 @@ fn is_flac_coded(coded: &StreamHead) -> bool
         StreamHead::Audio { codec, .. } => is_flac(*codec),
         StreamHead::Video { .. } => false,
     }
-}
-
-// The head of the one stream of an output.
-fn only_head(coded: &[StreamHead]) -> StreamHead
-    requires { 1 ≤ length coded.now }
-    ensures { slice_get coded.now 0 ≡ Some result }
-{
-    coded[0]
 }
 
 /// The kinds of node of a plan, over any format and codec that is read or written.
@@ -101,11 +93,13 @@ impl<Src: Source + Send + Drop, Snk: Sink + Send + Drop> Kinds<Src, Snk, Part<Sr
         coded: &[StreamHead],
         snk: Snk,
     ) -> Result<Part<Src, Snk>, Snk> {
-        let head = only_head(coded);
-        let Ok(writer) = writer_of(alloc, out.format, out.hash, &head) else {
+        let Ok(writer) = writer_of(alloc, out.format, out.hash, coded) else {
             return Err(snk);
         };
-        Ok(Part::Mux(Mux::new(alloc, first, snk, writer, head)))
+        match Mux::new(alloc, first, snk, writer, coded) {
+            Ok(mux) => Ok(Part::Mux(mux)),
+            Err(snk) => Err(snk),
+        }
     }
 
     fn tried(part: &Part<Src, Snk>) -> u64 {

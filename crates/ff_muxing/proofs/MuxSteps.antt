@@ -1,86 +1,57 @@
--- What the part that writes a stream of packets does at each item.
-use Rattle.std.proofs.Common.{◌≡◌, ◌⊎◌, ◌≢◌, ◌↔◌, inl, inr, ℕ, zero, suc, ◌<◌, ◌+◌, Bool, true, false, ◌||◌, List, [], ◌∷◌, ◌++◌, length, Option, Some, None, is_some, IsNone, IsSome, IfSome, refl, ap, sym, ◌∙◌, subst, arith, append_assoc, append-nil}
-use Rattle.std.specs.Io.KnownBytes.{Appends}
-use Rattle.std.proofs.lemmas.Bool.Decides.{nat_tests}
-use mathlib.Core.List.{IsPrefix}
-use Rattle.ff_lists.specs.Appends.{AppendsPrefix}
-use Rattle.ff_values.specs.Heads.{base_of_head}
+-- What the part that writes streams of packets does at each item.
+use Rattle.std.proofs.Common.{◌≡◌, ◌≢◌, ◌↔◌, ◌⊎◌, inl, inr, ℕ, zero, suc, ◌<◌, ◌≤◌, ◌+◌, Bool, true, false, ◌||◌, ◌==◌, List, [], ◌∷◌, ◌++◌, length, Option, Some, None, is_some, refl, ap, sym, ◌∙◌, subst, arith, append_assoc, append-nil}
+use Rattle.std.specs.Prelude.{if◌then◌else◌, IsNone, IfSome}
+use Rattle.std.proofs.lemmas.Bool.{cases_Bool, cases_eq, eq-eqb, ne_eqb}
+use Rattle.std.proofs.lemmas.List.Elements.{filter-append}
+use Rattle.ff_time.specs.Fraction.{Fraction}
 use Rattle.ff_values.specs.declared.head.StreamHead.{StreamHead}
 use Rattle.ff_values.specs.declared.event.Event.{Event}
-use Rattle.ff_values.specs.declared.packet.Pkt.{Pkt}
 use Rattle.ff_values.specs.declared.totals.Totals.{Totals}
 use Rattle.ff_frame.specs.declared.item.Item.{Item}
-use Rattle.ff_frame.specs.declared.item.Item.TheVariants.{Audio, Video, Packet, Trailer, End, Broken}
-use Rattle.ff_frame.specs.declared.item.Lane.TheVariants.{Packets}
-use Rattle.ff_frame.specs.Stream.{still_open, whole}
-use Rattle.ff_frame.specs.Items.{Closes, with_item}
-use Rattle.ff_frame.specs.Lanes.{IsValid}
-use Rattle.ff_frame.specs.LaneLaws.{nothing_valid}
+use Rattle.ff_frame.specs.Stream.{still_open, whole, Stream, LiesBelow}
 use Rattle.ff_frame.specs.Order.{with_item_above, below_self, below_trans}
-use Rattle.ff_frame.specs.Ports.{nothing, stream_at, IsWhole}
+use Rattle.ff_frame.specs.declared.item.Lane.TheVariants.{Packets}
+use Rattle.ff_frame.specs.LaneLaws.{nothing_valid}
+use Rattle.ff_frame.specs.Ports.{nothing, stream_at, AllBelow, IsClosed}
+use Rattle.ff_filter.specs.Views.{closes}
+use Rattle.ff_filter.specs.Joins.{Ports, silence, before_at, joined}
+use Rattle.ff_interleave.specs.Merges.{Placed, packets_in, interleaved}
+use Rattle.ff_interleave.specs.Queues.{Merging, IsNew, Same, base_at}
 use Rattle.ff_net.specs.declared.fault.Fault.{Fault}
 use Rattle.ff_net.specs.declared.fault.Fault.TheVariants.{TooLarge}
-use Rattle.ff_net.specs.Ways.{Flow, AreValid}
+use Rattle.ff_net.specs.Ways.{Flow, lane_at, IsValidOn, AreValid, with_item_at}
 use Rattle.ff_net.specs.Pasts.{Past, Feed, fed, start, was_told}
 use Rattle.ff_net.specs.Laws.{IsOfInputs}
 use Rattle.ff_net.proofs.Flows.{stream_at-with_item_same, stream_at-with_item_other}
-use Rattle.ff_writers.specs.Layouts.{Layout, written, fits, with_last, IsBeyond}
-use Rattle.ff_muxing.specs.Adding.{IsIdle, IsEnd, IsTextOf}
-use Rattle.ff_muxing.specs.Feeding.{feed_of, feeds_of}
-use Rattle.ff_muxing.specs.Growing.{cause_grows, open_text}
-use Rattle.ff_muxing.specs.Muxing.{packets_of, totals_with, unpatched, file, body_size, mux_cause, mux_task, HoldsSmall, MuxStands}
-use Rattle.ff_muxing.specs.Writing.{text_before, EndsAs}
+use Rattle.ff_writers.specs.Layouts.{Layout, body, written, text_of, fits, with_last}
+use Rattle.ff_muxing.specs.Feeding.{feed_of, is_feed_of, feeds_of, feeds_at}
+use Rattle.ff_muxing.specs.Growing.{causes_grow, held_open, open_text, written_more}
+use Rattle.ff_muxing.specs.Mixing.{bases_long, lanes_long, mixed_grows, whole_to}
+use Rattle.ff_muxing.specs.Muxing.{head_bases, head_lanes, are_whole, count_open, whole_if, mixed, totals_of, totals_in, totals_on, left_with, text_for, file_for, size_for, cause_for, mux_task, unpatched, file, and_then, HoldsOf, HoldsSmall, MuxStands}
+use Rattle.ff_muxing.specs.Writing.{text_before, WroteOn, StuckOn}
+use Rattle.ff_muxing.proofs.Joining.{all_or_open, count_fed, mixed_nothing, open_none, then_on, then_silence}
 use Rattle.ff_muxing.proofs.StreamTells.{feeds_more}
-use Rattle.ff_muxing.proofs.Texts.{appended, prefixed, ended, totals_more, something, closed_then, not_whole, stands_then, packet_text, packet_size, end_text, end_file, idle_text, idle_size, idle_open, beyond_cause, within_fits, small_cause}
-
-fits_none : (longest : Option ℕ) → fits longest 0 ≡ true
-fits_none None = refl
-fits_none (Some most) = grind (arith, nat_tests)
-
--- nothing was fed to a muxer whose sink holds nothing, and whose writer counted nothing
-pub mux_begins : (holds : Option (List ℕ)) (layout : Layout) (counts : ℕ → Type 0) (head : StreamHead) (stream : ℕ) → holds ≡ Some [] → counts 0
-    → MuxStands holds layout counts None head false false None (start (mux_task layout stream (base_of_head head)))
-mux_begins holds layout counts head stream told counted = (
-  [],
-  record {
-    task = refl;
-    valid = nothing_valid (Packets head);
-    others = λ p le. refl;
-    gave = λ p. refl;
-    not_begun = λ e. refl;
-    has_begun = λ e. cc;
-    closed_is = (λ e. cc, λ n. absurd (n refl));
-    feeds_are = refl;
-    told = told;
-    totals_are = refl;
-    fresh = λ e. (refl, refl);
-    counted = λ e. counted;
-    small = λ e. fits_none layout.longest;
-    exact = λ e n w. absurd (n refl);
-    finished_is = λ e w. let clash : still_open ≡ whole = w in cc;
-    front = (nothing, below_self nothing, small_cause layout nothing (fits_none layout.longest), inl (unpatched layout nothing, refl));
-    caused = λ c e i. let clash : None ≡ Some c = e in cc;
-  },
-)
+use Rattle.ff_muxing.proofs.Texts.{prefixed, ended, totals_more, something, closes_iff, closed_then, size_then, small_cause, large_cause, fits_none}
 
 -- an event was told
-pub mux_told : (holds : Option (List ℕ)) (layout : Layout) (counts : ℕ → Type 0) (totals : Option Totals) (head : StreamHead) (begun closed : Bool)
-    (fault : Option Fault) (past : Past) (e : Event) → MuxStands holds layout counts totals head begun closed fault past
-    → MuxStands holds layout counts totals head begun closed fault (was_told past e)
-mux_told holds layout counts totals head begun closed fault past e (bytes, s) = (
+pub mux_told : (holds : Option (List ℕ)) (layout : Layout) (counts : ℕ → Type 0) (totals : Option Totals) (heads : List StreamHead) (unended : ℕ) (begun : Bool)
+    (merge : Merging) (fault : Option Fault) (past : Past) (e : Event) → MuxStands holds layout counts totals heads unended begun merge fault past
+    → MuxStands holds layout counts totals heads unended begun merge fault (was_told past e)
+mux_told holds layout counts totals heads unended begun merge fault past e (bytes, s) = (
   bytes,
   record {
     task = s.task;
     valid = s.valid;
-    others = s.others;
     gave = s.gave;
     not_begun = s.not_begun;
     has_begun = s.has_begun;
+    open_are = s.open_are;
     closed_is = s.closed_is;
     feeds_are = s.feeds_are;
     told = s.told;
     totals_are = s.totals_are;
     fresh = s.fresh;
+    merges = s.merges;
     counted = s.counted;
     small = s.small;
     exact = s.exact;
@@ -90,254 +61,351 @@ mux_told holds layout counts totals head begun closed fault past e (bytes, s) = 
   },
 )
 
-module _ (holds now : Option (List ℕ)) (layout : Layout) (counts counts' : ℕ → Type 0) (totals totals' : Option Totals) (head : StreamHead)
-    (begun closed closes : Bool) (fault : Option Fault) (past : Past) (x : Item)
-    (s : MuxStands holds layout counts totals head begun closed fault past) (flag : closes ≡ true ↔ Closes x) (keeps : totals' ≡ totals_with totals x) where
-  abbrev got : Flow
-  got = stream_at past.got 0
+-- nothing that can be seen of the merge changed
+pub mux_same : (holds : Option (List ℕ)) (layout : Layout) (counts : ℕ → Type 0) (totals : Option Totals) (heads : List StreamHead) (unended : ℕ) (begun : Bool)
+    (merge merge' : Merging) (fault : Option Fault) (past : Past) → Same merge merge' → MuxStands holds layout counts totals heads unended begun merge fault past
+    → MuxStands holds layout counts totals heads unended begun merge' fault past
+mux_same holds layout counts totals heads unended begun merge merge' fault past same (bytes, s) = (
+  bytes,
+  record {
+    task = s.task;
+    valid = s.valid;
+    gave = s.gave;
+    not_begun = s.not_begun;
+    has_begun = s.has_begun;
+    open_are = s.open_are;
+    closed_is = λ p. subst (λ (b : Bool). b ≡ true ↔ IsClosed (stream_at past.got p)) (sym (same.shut p)) (s.closed_is p);
+    feeds_are = s.feeds_are;
+    told = s.told;
+    totals_are = s.totals_are;
+    fresh = s.fresh;
+    merges = λ e ext. s.merges e ext ∙ ap (λ (ys : List Placed). (mixed (head_bases heads) past.got).items ++ ys) (sym (same.rest ext));
+    counted = s.counted;
+    small = s.small;
+    exact = s.exact;
+    finished_is = s.finished_is;
+    front = s.front;
+    caused = s.caused;
+  },
+)
 
-  abbrev then_got : Flow
-  then_got = with_item got x
+nothing_below : (bases : List Fraction) → 1 ≤ length bases → are_whole (length bases) [] ≡ false
+nothing_below bases some = elim (cases_Bool (are_whole (length bases) [])) as (λ _. are_whole (length bases) [] ≡ false) [
+  | inl t ↦ absurd (let e : still_open ≡ whole = whole_to (length bases) [] t 0 some in cc)
+  | inr f ↦ f
+]
+
+-- nothing was fed to a muxer whose sink holds nothing, whose writer counted nothing, and whose merge is new
+pub mux_begins : (holds : Option (List ℕ)) (layout : Layout) (counts : ℕ → Type 0) (heads : List StreamHead) (unended : ℕ) (merge : Merging) (first : ℕ)
+    → holds ≡ Some [] → counts 0 → 1 ≤ length heads → unended ≡ length heads → IsNew (head_bases heads) merge
+    → MuxStands holds layout counts None heads unended false merge None (start (mux_task layout first (head_bases heads)))
+mux_begins holds layout counts heads unended merge first told counted some all new =
+    let bases = head_bases heads in
+    let none : (mixed bases []).items ≡ [] = mixed_nothing bases [] (λ p. refl) in
+    let size : size_for layout (mixed bases []) ≡ 0 = ap (λ (ys : List Placed). length (body layout ys)) none in
+    let ongoing = nothing_below bases (subst (λ n. 1 ≤ n) (sym (bases_long heads)) some) in
+    let small : fits layout.longest (size_for layout (mixed bases [])) ≡ true = ap (fits layout.longest) size ∙ fits_none layout.longest in (
+      [],
+      record {
+        task = refl;
+        valid = nothing_valid_on heads;
+        gave = λ p. refl;
+        not_begun = λ e p. refl;
+        has_begun = λ e n. cc;
+        open_are = all ∙ (sym (bases_long heads) ∙ sym (open_none (length bases)));
+        closed_is = λ p. ((λ e. let t : false ≡ true = sym (new.shut p) ∙ e in cc), (λ n. absurd (n refl)));
+        feeds_are = λ p. refl;
+        told = told;
+        totals_are = no_totals heads;
+        fresh = λ e. (refl, refl);
+        merges = λ e ext. ap (interleaved (length bases) (base_at bases)) (λ i p. packets_in (nothing_then (ext p) i))
+            ∙ (sym (new.rest ext) ∙ ap (λ (ys : List Placed). ys ++ merge.rest ext) (sym none));
+        counted = λ e. subst counts (sym size) counted;
+        small = λ e. small;
+        exact = λ e b. cc;
+        finished_is = λ e w. let t : false ≡ true = sym ongoing ∙ w in cc;
+        front = (mixed bases [], below_self (mixed bases []), small_cause layout (mixed bases []) small, inl (text_for layout (mixed bases []), refl));
+        caused = λ c e i. let clash : None ≡ Some c = e in cc;
+      },
+    )
+  where
+    nothing_valid_on : (heads : List StreamHead) (p : ℕ) → IsValidOn (lane_at (head_lanes heads) p) nothing
+    nothing_valid_on [] p = refl
+    nothing_valid_on (head ∷ heads) zero = nothing_valid (Packets head)
+    nothing_valid_on (head ∷ heads) (suc p) = nothing_valid_on heads p
+
+    no_totals : (heads : List StreamHead) → None ≡ totals_in (head_bases heads) []
+    no_totals [] = refl
+    no_totals (head ∷ heads) = refl
+
+    nothing_then : (t : Flow) → joined nothing t ≡ t
+    nothing_then t = refl
+
+totals_then : (heads : List StreamHead) (got : List Flow) (p : ℕ) (x : Item) → p < length heads
+    → totals_in (head_bases heads) (with_item_at got p x) ≡ totals_on p (totals_in (head_bases heads) got) x
+totals_then [] got p x lt = absurd (omega (arith, lt))
+totals_then (head ∷ heads) got zero x lt = ap totals_of (stream_at-with_item_same got 0 x) ∙ totals_more (stream_at got 0) x
+totals_then (head ∷ heads) got (suc p) x lt = ap totals_of (stream_at-with_item_other got (suc p) 0 x (λ e. cc))
+
+feeds_then : (feeds : List Feed) (got : List Flow) (p : ℕ) (x : Item) → (stream_at got p).mark ≡ still_open
+    → ((q : ℕ) → feeds_at q feeds ≡ feeds_of q (stream_at got q)) → (q : ℕ)
+    → feeds_at q (feeds ++ feed_of p x ∷ []) ≡ feeds_of q (stream_at (with_item_at got p x) q)
+feeds_then feeds got p x o h q =
+    filter-append (is_feed_of q) feeds (feed_of p x ∷ []) ∙ (elim (cases_eq q p) as (λ _. feeds_at q feeds ++ feeds_at q (feed_of p x ∷ []) ≡ feeds_of q (stream_at (with_item_at got p x) q)) [
+      | inl same ↦ subst (λ r. feeds_at r feeds ++ feeds_at r (feed_of p x ∷ []) ≡ feeds_of r (stream_at (with_item_at got p x) r)) (sym same)
+          (ap (λ (b : Bool). feeds_at p feeds ++ (if b then feed_of p x ∷ [] else [])) (eq-eqb p p refl)
+          ∙ (ap (λ (fs : List Feed). fs ++ feed_of p x ∷ []) (h p)
+          ∙ (sym (feeds_more p (stream_at got p) x o) ∙ ap (feeds_of p) (sym (stream_at-with_item_same got p x)))))
+      | inr ne ↦ ap (λ (b : Bool). feeds_at q feeds ++ (if b then feed_of p x ∷ [] else [])) (ne_eqb p q (λ e. ne (sym e)))
+          ∙ (append-nil (feeds_at q feeds) ∙ (h q ∙ ap (feeds_of q) (sym (stream_at-with_item_other got p q x ne))))
+    ])
+
+all_above : (got : List Flow) (p : ℕ) (x : Item) → (stream_at got p).mark ≡ still_open → AllBelow got (with_item_at got p x)
+all_above got p x o q = elim (cases_eq q p) as (λ _. LiesBelow (stream_at got q) (stream_at (with_item_at got p x) q)) [
+  | inl same ↦ subst (λ r. LiesBelow (stream_at got r) (stream_at (with_item_at got p x) r)) (sym same)
+      (subst (λ (t : Flow). LiesBelow (stream_at got p) t) (sym (stream_at-with_item_same got p x)) (with_item_above (stream_at got p) x o))
+  | inr ne ↦ subst (λ (t : Flow). LiesBelow (stream_at got q) t) (sym (stream_at-with_item_other got p q x ne)) (below_self (stream_at got q))
+]
+
+-- streams of which one is open are mixed to one that is open
+not_all : (n : ℕ) (got : List Flow) (p : ℕ) → p < n → (stream_at got p).mark ≡ still_open → are_whole n got ≡ false
+not_all n got p lt o = elim (cases_Bool (are_whole n got)) as (λ _. are_whole n got ≡ false) [
+  | inl t ↦ absurd (let e : still_open ≡ whole = sym o ∙ whole_to n got t p lt in cc)
+  | inr f ↦ f
+]
+
+below_open : (r t : Stream Placed) → LiesBelow r t → t.mark ≡ still_open → r.mark ≡ still_open
+below_open r t (inl e) o = ap (λ (s : Stream Placed). s.mark) e ∙ o
+below_open r t (inr b) o = b.0
+
+module _ (holds now : Option (List ℕ)) (layout : Layout) (counts counts' : ℕ → Type 0) (totals totals' : Option Totals) (heads : List StreamHead)
+    (unended unended' : ℕ) (begun : Bool) (merge merge' : Merging) (fault : Option Fault) (past : Past) (port : ℕ) (x : Item)
+    (s : MuxStands holds layout counts totals heads unended begun merge fault past)
+    (keeps : totals' ≡ totals_on port totals x) (left : unended' ≡ left_with unended x)
+    (lt : port < length (head_lanes heads)) (o : (stream_at past.got port).mark ≡ still_open)
+    (v : AreValid (head_lanes heads) (fed past port x).got)
+    (shut_here : merge'.shut port ≡ (merge.shut port || closes x)) (shut_others : (q : ℕ) → q ≢ port → merge'.shut q ≡ merge.shut q) where
+  abbrev bases : List Fraction
+  bases = head_bases heads
+
+  there : port < length heads
+  there = subst (λ n. port < n) (lanes_long heads) lt
+
+  inside : port < length bases
+  inside = subst (λ n. port < n) (sym (bases_long heads)) there
+
+  abbrev then_got : List Flow
+  then_got = with_item_at past.got port x
+
+  abbrev was : Stream Placed
+  was = mixed bases past.got
+
+  abbrev is : Stream Placed
+  is = mixed bases then_got
+
+  open_now : unended' ≡ count_open (length bases) then_got
+  open_now = left ∙ (ap (λ (k : ℕ). left_with k x) s.1.open_are ∙ count_fed (length bases) past.got port x o inside)
+
+  -- none is left open just where each is whole
+  ends : (unended' == 0) ≡ are_whole (length bases) then_got
+  ends = ap (λ (k : ℕ). k == 0) open_now ∙ all_or_open (length bases) then_got
+
+  closed_now : (q : ℕ) → merge'.shut q ≡ true ↔ IsClosed (stream_at then_got q)
+  closed_now q = elim (cases_eq q port) as (λ _. merge'.shut q ≡ true ↔ IsClosed (stream_at then_got q)) [
+    | inl same ↦ subst (λ r. merge'.shut r ≡ true ↔ IsClosed (stream_at then_got r)) (sym same)
+        (subst (λ (b : Bool). b ≡ true ↔ IsClosed (stream_at then_got port)) (sym shut_here)
+        (subst (λ (t : Flow). (merge.shut port || closes x) ≡ true ↔ IsClosed t) (sym (stream_at-with_item_same past.got port x))
+        (closed_then (merge.shut port) (closes x) (stream_at past.got port) x (s.1.closed_is port).0 o (closes_iff x))))
+    | inr ne ↦ subst (λ (b : Bool). b ≡ true ↔ IsClosed (stream_at then_got q)) (sym (shut_others q ne))
+        (subst (λ (t : Flow). merge.shut q ≡ true ↔ IsClosed t) (sym (stream_at-with_item_other past.got port q x ne)) (s.1.closed_is q))
+  ]
 
   -- an item was fed to an open stream
-  fed_one : (fault' : Option Fault) (bytes : List ℕ) → got.mark ≡ still_open → IsValid (Packets head) (stream_at (fed past 0 x).got 0)
-      → now ≡ Some bytes
-      → (fault' ≡ None → counts' (body_size layout then_got)) → (fault' ≡ None → fits layout.longest (body_size layout then_got) ≡ true)
-      → (fault' ≡ None → (IsWhole then_got → ⊥) → bytes ≡ unpatched layout then_got)
-      → (fault' ≡ None → IsWhole then_got → file layout then_got ≡ Some bytes)
-      → HoldsSmall layout bytes then_got → ((c : Fault) → fault' ≡ Some c → IsOfInputs c → mux_cause layout then_got ≡ Some c)
-      → MuxStands now layout counts' totals' head true (closed || closes) fault' (fed past 0 x)
-  fed_one fault' bytes o v told counted small exact finished_is front caused =
-      let is : stream_at (fed past 0 x).got 0 ≡ then_got = stream_at-with_item_same past.got 0 x in (
-        bytes,
-        record {
-          task = s.1.task;
-          valid = v;
-          others = λ p le. let other : p ≢ 0 = omega (arith, le) in stream_at-with_item_other past.got 0 p x other ∙ s.1.others p le;
-          gave = s.1.gave;
-          not_begun = λ e. cc;
-          has_begun = λ e n. something got x (sym is ∙ n);
-          closed_is = rw is (closed_then closed closes got x s.1.closed_is.0 o flag);
-          feeds_are = ap (λ (fs : List Feed). fs ++ feed_of x ∷ []) s.1.feeds_are ∙ (sym (feeds_more got x o) ∙ ap feeds_of (sym is));
-          told = told;
-          totals_are = rw is (keeps ∙ (ap (λ (t : Option Totals). totals_with t x) s.1.totals_are ∙ sym (totals_more got x)));
-          fresh = λ n. absurd (something got x (sym is ∙ n));
-          counted = λ e. rw is (counted e);
-          small = λ e. rw is (small e);
-          exact = λ e n. rw is (exact e);
-          finished_is = λ e. rw is (finished_is e);
-          front = rw is front;
-          caused = λ c e i. rw is (caused c e i);
-        },
-      )
+  fed_one : (fault' : Option Fault) (bytes : List ℕ) → now ≡ Some bytes
+      → (fault' ≡ None → (ext : Ports) → interleaved (length bases) (base_at bases) (and_then then_got ext) ≡ is.items ++ merge'.rest ext)
+      → (fault' ≡ None → counts' (size_for layout is)) → (fault' ≡ None → fits layout.longest (size_for layout is) ≡ true)
+      → (fault' ≡ None → are_whole (length bases) then_got ≡ false → bytes ≡ unpatched layout bases then_got)
+      → (fault' ≡ None → are_whole (length bases) then_got ≡ true → file layout bases then_got ≡ Some bytes)
+      → HoldsSmall layout (totals_in bases then_got) bytes is → ((c : Fault) → fault' ≡ Some c → IsOfInputs c → cause_for layout is ≡ Some c)
+      → MuxStands now layout counts' totals' heads unended' true merge' fault' (fed past port x)
+  fed_one fault' bytes told merges counted small exact finished_is front caused = (
+    bytes,
+    record {
+      task = s.1.task;
+      valid = v;
+      gave = s.1.gave;
+      not_begun = λ e. cc;
+      has_begun = λ e n. something (stream_at past.got port) x (sym (stream_at-with_item_same past.got port x) ∙ n port);
+      open_are = open_now;
+      closed_is = closed_now;
+      feeds_are = feeds_then past.feeds past.got port x o s.1.feeds_are;
+      told = told;
+      totals_are = keeps ∙ (ap (λ (t : Option Totals). totals_on port t x) s.1.totals_are ∙ sym (totals_then heads past.got port x there));
+      fresh = λ e. cc;
+      merges = merges;
+      counted = counted;
+      small = small;
+      exact = λ e b. exact e;
+      finished_is = finished_is;
+      front = front;
+      caused = caused;
+    },
+  )
+
+  above : LiesBelow was is
+  above = mixed_grows bases past.got then_got (all_above past.got port x o)
+
+  was_open : was.mark ≡ still_open
+  was_open = ap whole_if (not_all (length bases) past.got port inside o)
 
   -- with a fault nothing is written
-  pub mux_after : (port : ℕ) → port < 1 → is_some fault ≡ true → now ≡ holds → (stream_at past.got port).mark ≡ still_open
-      → AreValid (Packets head ∷ []) (fed past port x).got
-      → MuxStands now layout counts' totals' head true (closed || closes) fault (fed past port x)
-  mux_after (suc port) lt some same o v = absurd (omega arith)
-  mux_after zero lt some same o v =
+  pub mux_after : is_some fault ≡ true → now ≡ holds → MuxStands now layout counts' totals' heads unended' true merge' fault (fed past port x)
+  mux_after some same =
       let clash : fault ≡ None → ⊥ = λ e. let b : false ≡ true = sym (ap is_some e) ∙ some in cc in
-      let above = with_item_above got x o in
-      fed_one fault s.0 o (v 0) (same ∙ s.1.told) (λ e. absurd (clash e)) (λ e. absurd (clash e)) (λ e w. absurd (clash e)) (λ e w. absurd (clash e))
-      (s.1.front.0, below_trans s.1.front.0 got then_got s.1.front.1 above, s.1.front.2, s.1.front.3)
-      (λ c e i. cause_grows layout got then_got c above (s.1.caused c e i))
+      let r = s.1.front.0 in
+      fed_one fault s.0 (same ∙ s.1.told) (λ e. absurd (clash e)) (λ e. absurd (clash e)) (λ e. absurd (clash e)) (λ e w. absurd (clash e)) (λ e w. absurd (clash e))
+      (r, below_trans r was is s.1.front.1 above, s.1.front.2,
+      held_open layout (totals_in bases past.got) (totals_in bases then_got) s.0 r (below_open r was s.1.front.1 was_open) s.1.front.3)
+      (λ c e i. causes_grow layout bases past.got then_got c (all_above past.got port x o) (s.1.caused c e i))
 
-  -- what stands before the packets and this text was written, or a front of it
-  module _ (added : List ℕ) (none : fault ≡ None) where
-    adds : got.mark ≡ still_open → written layout (packets_of got) ++ added ≡ unpatched layout then_got
-        → s.0 ++ (text_before begun layout ++ added) ≡ unpatched layout then_got
-    adds o e =
-        sym (append_assoc s.0 (text_before begun layout) added)
-        ∙ (ap (λ w. w ++ added) (stands_then layout begun got s.0 o s.1.not_begun s.1.has_begun (λ e. (s.1.fresh e).0) (s.1.exact none)) ∙ e)
+  -- without one the merge took the item in
+  module _ (none : fault ≡ None) (merge_fed : Merging) (fed_rest : (ext : Ports) → merge_fed.rest ext ≡ merge.rest (before_at port x ext)) where
+    goes_on : (ext : Ports) → interleaved (length bases) (base_at bases) (and_then then_got ext) ≡ was.items ++ merge_fed.rest ext
+    goes_on ext =
+        ap (interleaved (length bases) (base_at bases)) (then_on past.got port x ext o)
+        ∙ (s.1.merges none (before_at port x ext) ∙ ap (λ (ys : List Placed). was.items ++ ys) (sym (fed_rest ext)))
 
-    -- with a fault, a front of what stands before the packets
-    failed_before : (f : Fault) → got.mark ≡ still_open → IsValid (Packets head) (stream_at (fed past 0 x).got 0)
-        → AppendsPrefix holds now (text_before begun layout) → (IsOfInputs f → mux_cause layout then_got ≡ Some f)
-        → MuxStands now layout counts' totals' head true (closed || closes) (Some f) (fed past 0 x)
-    failed_before f o v part caused =
-        let p = prefixed holds now s.0 (text_before begun layout) s.1.told part in
-        let clash : Some f ≡ None → ⊥ = λ e. cc in
-        let before = stands_then layout begun got s.0 o s.1.not_begun s.1.has_begun (λ e. (s.1.fresh e).0) (s.1.exact none) in
-        let front : IsPrefix (s.0 ++ p.0) (unpatched layout got) =
-        (p.1, append_assoc s.0 p.0 p.1 ∙ (ap (λ w. s.0 ++ w) (sym p.2) ∙ (before ∙ sym (open_text layout got o)))) in
-        fed_one (Some f) (s.0 ++ p.0) o v p.3 (λ e. absurd (clash e)) (λ e. absurd (clash e)) (λ e w. absurd (clash e)) (λ e w. absurd (clash e))
-        (got, with_item_above got x o, small_cause layout got (s.1.small none), inl front)
-        (λ c e i. let same : f ≡ c = cc in subst (λ (k : Fault). mux_cause layout then_got ≡ Some k) same (caused (subst IsOfInputs (sym same) i)))
+    -- what is decided now
+    now_decided : is.items ≡ was.items ++ merge_fed.rest silence
+    now_decided = ap (interleaved (length bases) (base_at bases)) (sym (then_silence then_got)) ∙ goes_on silence
 
-    -- or of all
-    failed_one : (f : Fault) → fits layout.longest (body_size layout then_got) ≡ true → got.mark ≡ still_open
-        → IsValid (Packets head) (stream_at (fed past 0 x).got 0)
-        → written layout (packets_of got) ++ added ≡ unpatched layout then_got
-        → AppendsPrefix holds now (text_before begun layout ++ added) → (IsOfInputs f → mux_cause layout then_got ≡ Some f)
-        → MuxStands now layout counts' totals' head true (closed || closes) (Some f) (fed past 0 x)
-    failed_one f small o v e part caused =
-        let p = prefixed holds now s.0 (text_before begun layout ++ added) s.1.told part in
-        let clash : Some f ≡ None → ⊥ = λ e. cc in
-        fed_one (Some f) (s.0 ++ p.0) o v p.3 (λ e. absurd (clash e)) (λ e. absurd (clash e)) (λ e w. absurd (clash e)) (λ e w. absurd (clash e)) (
-          then_got,
-          below_self then_got,
-          small_cause layout then_got small,
-          inl (p.1, append_assoc s.0 p.0 p.1 ∙ (ap (λ w. s.0 ++ w) (sym p.2) ∙ adds o e)),
-        )
-        (λ c e i. let same : f ≡ c = cc in subst (λ (k : Fault). mux_cause layout then_got ≡ Some k) same (caused (subst IsOfInputs (sym same) i)))
+    -- what stands, and the text before the packets where nothing stands, is what is written
+    stands : s.0 ++ text_before begun layout ≡ written layout was.items
+    stands = elim (cases_Bool begun) as (λ _. s.0 ++ text_before begun layout ≡ written layout was.items) [
+      | inl b ↦ ap (λ (k : Bool). s.0 ++ text_before k layout) b
+          ∙ (append-nil s.0 ∙ (s.1.exact none b (not_all (length bases) past.got port inside o) ∙ open_text layout was was_open))
+      | inr f ↦ ap (λ (k : Bool). s.0 ++ text_before k layout) f
+          ∙ (ap (λ (w : List ℕ). w ++ layout.header) (s.1.fresh f).0
+          ∙ (sym (append-nil layout.header) ∙ ap (λ (ys : List Placed). written layout ys) (sym (mixed_nothing bases past.got (s.1.not_begun f)))))
+    ]
 
-    -- without one, all
-    wrote_one : got.mark ≡ still_open → IsValid (Packets head) (stream_at (fed past 0 x).got 0) → (IsWhole then_got → ⊥)
-        → written layout (packets_of got) ++ added ≡ unpatched layout then_got
-        → Appends holds now (text_before begun layout ++ added) → counts' (body_size layout then_got)
-        → fits layout.longest (body_size layout then_got) ≡ true
-        → MuxStands now layout counts' totals' head true (closed || closes) None (fed past 0 x)
-    wrote_one o v w e all counted small =
-        fed_one None (s.0 ++ (text_before begun layout ++ added)) o v (appended holds now s.0 (text_before begun layout ++ added) s.1.told all)
-        (λ n. counted) (λ n. small) (λ n k. adds o e) (λ n k. absurd (w k)) (
-          then_got,
-          below_self then_got,
-          small_cause layout then_got small,
-          inl ([], append-nil (s.0 ++ (text_before begun layout ++ added)) ∙ adds o e),
-        )
-        (λ c e i. let clash : None ≡ Some c = e in cc)
+    -- and with further packets
+    stands_with : (ys : List Placed) → s.0 ++ (text_before begun layout ++ body layout ys) ≡ written layout (was.items ++ ys)
+    stands_with ys =
+        sym (append_assoc s.0 (text_before begun layout) (body layout ys))
+        ∙ (ap (λ (w : List ℕ). w ++ body layout ys) stands ∙ sym (written_more layout was.items ys))
 
-module _ (holds now : Option (List ℕ)) (layout : Layout) (counts counts' : ℕ → Type 0) (totals totals' : Option Totals) (head : StreamHead)
-    (begun closed closes : Bool) (fault : Option Fault) (past : Past) (s : MuxStands holds layout counts totals head begun closed fault past)
-    (none : fault ≡ None) where
-  -- a packet was counted and written, or a front of it, or it makes the packets too many bytes
-  packet_now : (p : Pkt) → closes ≡ true ↔ Closes (Packet p) → totals' ≡ totals → (fault' : Option Fault)
-      → (IsNone fault' → Appends holds now (text_before begun layout ++ layout.text 0 p))
-      → AppendsPrefix holds now (text_before begun layout)
-      ⊎ (((n : ℕ) → counts n → IsBeyond layout.longest (n + length (layout.text 0 p)) → ⊥)
-      × AppendsPrefix holds now (text_before begun layout ++ layout.text 0 p))
-      → IfSome fault' (λ c. IsOfInputs c → c ≡ TooLarge)
-      → (IsNone fault' → (n : ℕ) → counts n → counts' (n + length (layout.text 0 p)))
-      → (IsNone fault' → (n : ℕ) → counts n → IsBeyond layout.longest (n + length (layout.text 0 p)) → ⊥)
-      → (fault' ≡ Some TooLarge → (n : ℕ) → counts n → IsBeyond layout.longest (n + length (layout.text 0 p)))
-      → (stream_at past.got 0).mark ≡ still_open → IsValid (Packets head) (stream_at (fed past 0 (Packet p)).got 0)
-      → MuxStands now layout counts' totals' head true (closed || closes) fault' (fed past 0 (Packet p))
-  packet_now p flag keeps None all part kinds counting within large o v =
-      let got = stream_at past.got 0 in
-      let size : body_size layout (with_item got (Packet p)) ≡ body_size layout got + length (layout.text 0 p) = packet_size layout got p in
-      wrote_one holds now layout counts counts' totals totals' head begun closed closes fault past (Packet p) s flag keeps
-      (layout.text 0 p) none o v (not_whole got o) (packet_text layout got p o) (all refl)
-      (subst counts' (sym size) (counting refl (body_size layout got) (s.1.counted none)))
-      (subst (λ (n : ℕ). fits layout.longest n ≡ true) (sym size)
-      (within_fits layout layout.longest (body_size layout got + length (layout.text 0 p)) (within refl (body_size layout got) (s.1.counted none))))
-  packet_now p flag keeps (Some f) all part kinds counting within large o v =
-      let got = stream_at past.got 0 in
-      let size : body_size layout (with_item got (Packet p)) ≡ body_size layout got + length (layout.text 0 p) = packet_size layout got p in
-      let beyond : f ≡ TooLarge → mux_cause layout (with_item got (Packet p)) ≡ Some TooLarge = λ e.
-      beyond_cause layout layout.longest (body_size layout (with_item got (Packet p)))
-      (subst (λ (n : ℕ). IsBeyond layout.longest n) (sym size) (large (ap (λ (c : Fault). Some c) e) (body_size layout got) (s.1.counted none))) in
-      let caused : IsOfInputs f → mux_cause layout (with_item got (Packet p)) ≡ Some f =
-      λ i. let e = kinds i in beyond e ∙ ap (λ (c : Fault). Some c) (sym e) in
-      elim part [
-        | inl q ↦ failed_before holds now layout counts counts' totals totals' head begun closed closes fault past (Packet p) s flag keeps
-            (layout.text 0 p) none f o v q caused
-        | inr q ↦ failed_one holds now layout counts counts' totals totals' head begun closed closes fault past (Packet p) s flag keeps (layout.text 0 p) none f
-            (subst (λ (n : ℕ). fits layout.longest n ≡ true) (sym size)
-            (within_fits layout layout.longest (body_size layout got + length (layout.text 0 p)) (q.0 (body_size layout got) (s.1.counted none))))
-            o v (packet_text layout got p o) q.1 caused
-      ]
+    -- all was written
+    mux_wrote : WroteOn layout merge_fed merge' holds now counts counts' begun (unended' == 0) totals' → MuxStands now layout counts' totals' heads unended' true merge' None (fed past port x)
+    mux_wrote w = fed_one None bytes (ended holds now s.0 ((text_before begun layout ++ body layout w.packets) ++ w.pad) w.replaced s.1.told w.ends)
+        (λ e ext. goes_on ext ∙ (ap (λ (ys : List Placed). was.items ++ ys) (w.rest ext)
+        ∙ (sym (append_assoc was.items w.packets (merge'.rest ext)) ∙ ap (λ (ys : List Placed). ys ++ merge'.rest ext) (sym items))))
+        (λ e. subst counts' (sym size) (w.counted (size_for layout was) (s.1.counted none)))
+        (λ e. fitting) (λ e f. still f) (λ e t. done t) (is, below_self is, small_cause layout is fitting, held) (λ c e i. let clash : None ≡ Some c = e in cc)
+      where
+        bytes : List ℕ
+        bytes = with_last w.replaced (s.0 ++ ((text_before begun layout ++ body layout w.packets) ++ w.pad))
 
-  pub mux_text : (port : ℕ) → port < 1 → (x : Item) (text : List ℕ) → IsTextOf layout x text → closes ≡ true ↔ Closes x
-      → totals' ≡ totals_with totals x → (fault' : Option Fault)
-      → (IsNone fault' → Appends holds now (text_before begun layout ++ text))
-      → AppendsPrefix holds now (text_before begun layout)
-      ⊎ (((n : ℕ) → counts n → IsBeyond layout.longest (n + length text) → ⊥) × AppendsPrefix holds now (text_before begun layout ++ text))
-      → IfSome fault' (λ c. IsOfInputs c → c ≡ TooLarge)
-      → (IsNone fault' → (n : ℕ) → counts n → counts' (n + length text))
-      → (IsNone fault' → (n : ℕ) → counts n → IsBeyond layout.longest (n + length text) → ⊥)
-      → (fault' ≡ Some TooLarge → (n : ℕ) → counts n → IsBeyond layout.longest (n + length text))
-      → (stream_at past.got port).mark ≡ still_open → AreValid (Packets head ∷ []) (fed past port x).got
-      → MuxStands now layout counts' totals' head true (closed || closes) fault' (fed past port x)
-  mux_text (suc port) lt x text is flag keeps fault' all part kinds counting within large o v = absurd (omega arith)
-  mux_text zero lt (Audio f) text is flag keeps fault' all part kinds counting within large o v = absurd is
-  mux_text zero lt (Video f) text is flag keeps fault' all part kinds counting within large o v = absurd is
-  mux_text zero lt (Packet p) text is flag keeps fault' all part kinds counting within large o v =
-      packet_now p flag keeps fault' (λ e. subst (λ (w : List ℕ). Appends holds now (text_before begun layout ++ w)) is (all e))
-      (subst (λ (w : List ℕ). AppendsPrefix holds now (text_before begun layout)
-      ⊎ (((n : ℕ) → counts n → IsBeyond layout.longest (n + length w) → ⊥) × AppendsPrefix holds now (text_before begun layout ++ w))) is part) kinds
-      (λ e. subst (λ (w : List ℕ). (n : ℕ) → counts n → counts' (n + length w)) is (counting e))
-      (λ e. subst (λ (w : List ℕ). (n : ℕ) → counts n → IsBeyond layout.longest (n + length w) → ⊥) is (within e))
-      (λ e. subst (λ (w : List ℕ). (n : ℕ) → counts n → IsBeyond layout.longest (n + length w)) is (large e)) o (v 0)
-  mux_text zero lt (Trailer t) text is flag keeps fault' all part kinds counting within large o v = absurd is
-  mux_text zero lt End text is flag keeps fault' all part kinds counting within large o v = absurd is
-  mux_text zero lt Broken text is flag keeps fault' all part kinds counting within large o v = absurd is
+        items : is.items ≡ was.items ++ w.packets
+        items = now_decided ∙ (ap (λ (ys : List Placed). was.items ++ ys) (w.rest silence)
+            ∙ (ap (λ (ys : List Placed). was.items ++ (w.packets ++ ys)) w.nothing_left ∙ ap (λ (ys : List Placed). was.items ++ ys) (append-nil w.packets)))
 
-module _ (holds now : Option (List ℕ)) (layout : Layout) (counts : ℕ → Type 0) (totals totals' : Option Totals) (head : StreamHead)
-    (begun closed closes : Bool) (fault : Option Fault) (past : Past) (s : MuxStands holds layout counts totals head begun closed fault past)
-    (none : fault ≡ None) where
-  -- what follows the packets was written, or a front of it, and then bytes were replaced, or not
-  end_now : closes ≡ true ↔ Closes End → totals' ≡ totals → (fault' : Option Fault) (pad : List ℕ) (replaced : Option (ℕ × List ℕ))
-      → ((n : ℕ) → counts n → pad ≡ layout.pad n) → ((n : ℕ) → counts n → replaced ≡ layout.last n totals)
-      → (IsNone fault' → EndsAs holds now (text_before begun layout ++ pad) replaced)
-      → (IsSome fault' → AppendsPrefix holds now (text_before begun layout ++ pad))
-      → IfSome fault' (λ c. IsOfInputs c → ⊥)
-      → (stream_at past.got 0).mark ≡ still_open → IsValid (Packets head) (stream_at (fed past 0 End).got 0)
-      → MuxStands now layout counts totals' head true (closed || closes) fault' (fed past 0 End)
-  end_now flag keeps None pad replaced pads lasts ends part kinds o v =
-      let got = stream_at past.got 0 in
-      let n = body_size layout got in
-      let counted = s.1.counted none in
-      let all = s.0 ++ (text_before begun layout ++ pad) in
-      let text : all ≡ unpatched layout (with_item got End) =
-      ap (λ w. s.0 ++ (text_before begun layout ++ w)) (pads n counted)
-      ∙ adds holds now layout counts counts totals totals' head begun closed closes fault past End s flag keeps (layout.pad n) none o (end_text layout got) in
-      let done : file layout (with_item got End) ≡ Some (with_last replaced all) =
-      end_file layout got (s.1.small none)
-      ∙ (ap (λ (t : Option Totals). Some (with_last (layout.last n t) (unpatched layout (with_item got End)))) (sym s.1.totals_are)
-      ∙ (ap (λ (r : Option (ℕ × List ℕ)). Some (with_last r (unpatched layout (with_item got End)))) (sym (lasts n counted))
-      ∙ ap (λ (t : List ℕ). Some (with_last replaced t)) (sym text))) in
-      fed_one holds now layout counts counts totals totals' head begun closed closes fault past End s flag keeps None (with_last replaced all) o v
-      (ended holds now s.0 (text_before begun layout ++ pad) replaced s.1.told (ends refl))
-      (λ e. counted) (λ e. s.1.small none) (λ e w. absurd (w refl)) (λ e w. done)
-      (with_item got End, below_self (with_item got End), small_cause layout (with_item got End) (s.1.small none), inr done)
-      (λ c e i. let clash : None ≡ Some c = e in cc)
-  end_now flag keeps (Some f) pad replaced pads lasts ends part kinds o v =
-      let got = stream_at past.got 0 in
-      failed_one holds now layout counts counts totals totals' head begun closed closes fault past End s flag keeps pad none f (s.1.small none) o v
-      (ap (λ w. written layout (packets_of got) ++ w) (pads (body_size layout got) (s.1.counted none)) ∙ end_text layout got)
-      (part refl) (λ i. absurd (kinds i))
+        size : size_for layout is ≡ size_for layout was + length (body layout w.packets)
+        size = ap (λ (ys : List Placed). length (body layout ys)) items ∙ size_then layout was.items w.packets
 
-  pub mux_end : (port : ℕ) → port < 1 → (x : Item) → IsEnd x → closes ≡ true ↔ Closes x → totals' ≡ totals_with totals x
-      → (fault' : Option Fault) (pad : List ℕ) (replaced : Option (ℕ × List ℕ))
-      → ((n : ℕ) → counts n → pad ≡ layout.pad n) → ((n : ℕ) → counts n → replaced ≡ layout.last n totals)
-      → (IsNone fault' → EndsAs holds now (text_before begun layout ++ pad) replaced)
-      → (IsSome fault' → AppendsPrefix holds now (text_before begun layout ++ pad))
-      → IfSome fault' (λ c. IsOfInputs c → ⊥)
-      → (stream_at past.got port).mark ≡ still_open → AreValid (Packets head ∷ []) (fed past port x).got
-      → MuxStands now layout counts totals' head true (closed || closes) fault' (fed past port x)
-  mux_end (suc port) lt x is flag keeps fault' pad replaced pads lasts ends part kinds o v = absurd (omega arith)
-  mux_end zero lt (Audio f) is flag keeps fault' pad replaced pads lasts ends part kinds o v = absurd is
-  mux_end zero lt (Video f) is flag keeps fault' pad replaced pads lasts ends part kinds o v = absurd is
-  mux_end zero lt (Packet p) is flag keeps fault' pad replaced pads lasts ends part kinds o v = absurd is
-  mux_end zero lt (Trailer t) is flag keeps fault' pad replaced pads lasts ends part kinds o v = absurd is
-  mux_end zero lt End is flag keeps fault' pad replaced pads lasts ends part kinds o v = end_now flag keeps fault' pad replaced pads lasts ends part kinds o (v 0)
-  mux_end zero lt Broken is flag keeps fault' pad replaced pads lasts ends part kinds o v = absurd is
+        fitting : fits layout.longest (size_for layout is) ≡ true
+        fitting = ap (fits layout.longest) size ∙ w.within (size_for layout was) (s.1.counted none) (s.1.small none)
 
-  -- of another item what stands before the packets was written, or a front of it
-  idle_now : (x : Item) → IsIdle x → closes ≡ true ↔ Closes x → totals' ≡ totals_with totals x → (fault' : Option Fault)
-      → (IsNone fault' → Appends holds now (text_before begun layout)) → AppendsPrefix holds now (text_before begun layout)
-      → IfSome fault' (λ c. IsOfInputs c → ⊥)
-      → (stream_at past.got 0).mark ≡ still_open → IsValid (Packets head) (stream_at (fed past 0 x).got 0)
-      → MuxStands now layout counts totals' head true (closed || closes) fault' (fed past 0 x)
-  idle_now x idle flag keeps None all part kinds o v =
-      let got = stream_at past.got 0 in
-      let size : body_size layout (with_item got x) ≡ body_size layout got = idle_size layout got x idle in
-      wrote_one holds now layout counts counts totals totals' head begun closed closes fault past x s flag keeps [] none o v (idle_open layout got x idle o)
-      (append-nil (written layout (packets_of got)) ∙ idle_text layout got x idle o)
-      (subst (λ (w : List ℕ). Appends holds now w) (sym (append-nil (text_before begun layout))) (all refl))
-      (subst counts (sym size) (s.1.counted none)) (subst (λ (n : ℕ). fits layout.longest n ≡ true) (sym size) (s.1.small none))
-  idle_now x idle flag keeps (Some f) all part kinds o v =
-      let got = stream_at past.got 0 in
-      failed_one holds now layout counts counts totals totals' head begun closed closes fault past x s flag keeps [] none f
-      (subst (λ (n : ℕ). fits layout.longest n ≡ true) (sym (idle_size layout got x idle)) (s.1.small none)) o v
-      (append-nil (written layout (packets_of got)) ∙ idle_text layout got x idle o)
-      (subst (λ (w : List ℕ). AppendsPrefix holds now w) (sym (append-nil (text_before begun layout))) part) (λ i. absurd (kinds i))
+        text : s.0 ++ ((text_before begun layout ++ body layout w.packets) ++ w.pad) ≡ written layout is.items ++ w.pad
+        text = sym (append_assoc s.0 (text_before begun layout ++ body layout w.packets) w.pad)
+            ∙ (ap (λ (t : List ℕ). t ++ w.pad) (stands_with w.packets) ∙ ap (λ (ys : List Placed). written layout ys ++ w.pad) (sym items))
 
-  pub mux_idle : (port : ℕ) → port < 1 → (x : Item) → IsIdle x → closes ≡ true ↔ Closes x → totals' ≡ totals_with totals x → (fault' : Option Fault)
-      → (IsNone fault' → Appends holds now (text_before begun layout)) → AppendsPrefix holds now (text_before begun layout)
-      → IfSome fault' (λ c. IsOfInputs c → ⊥)
-      → (stream_at past.got port).mark ≡ still_open → AreValid (Packets head ∷ []) (fed past port x).got
-      → MuxStands now layout counts totals' head true (closed || closes) fault' (fed past port x)
-  mux_idle (suc port) lt x idle flag keeps fault' all part kinds o v = absurd (omega arith)
-  mux_idle zero lt x idle flag keeps fault' all part kinds o v = idle_now x idle flag keeps fault' all part kinds o (v 0)
+        still : are_whole (length bases) then_got ≡ false → bytes ≡ unpatched layout bases then_got
+        still f = let m = w.more (ends ∙ f) in
+            ap (λ (r : Option (ℕ × List ℕ)). with_last r (s.0 ++ ((text_before begun layout ++ body layout w.packets) ++ w.pad))) m.1
+            ∙ (text ∙ (ap (λ (p : List ℕ). written layout is.items ++ p) m.0 ∙ (append-nil (written layout is.items) ∙ sym (open_text layout is (ap whole_if f)))))
+
+        whole_text : are_whole (length bases) then_got ≡ true → text_of layout is.items ≡ s.0 ++ ((text_before begun layout ++ body layout w.packets) ++ w.pad)
+        whole_text t = sym (text ∙ ap (λ (p : List ℕ). written layout is.items ++ p)
+            ((w.all (ends ∙ t) (size_for layout was) (s.1.counted none)).0 ∙ ap layout.pad (sym size)))
+
+        done : are_whole (length bases) then_got ≡ true → file layout bases then_got ≡ Some bytes
+        done t =
+            let all = w.all (ends ∙ t) (size_for layout was) (s.1.counted none) in
+            let totals_is : totals_in bases then_got ≡ totals' = totals_then heads past.got port x there
+            ∙ (ap (λ (k : Option Totals). totals_on port k x) (sym s.1.totals_are) ∙ sym keeps) in
+            ap (λ (b : Bool). file_for layout (totals_in bases then_got) (record { items = is.items; mark = whole_if b })) t
+            ∙ (ap (λ (b : Bool). if b then Some (with_last (layout.last (size_for layout is) (totals_in bases then_got)) (text_of layout is.items)) else None) fitting
+            ∙ (ap (λ (k : ℕ). Some (with_last (layout.last k (totals_in bases then_got)) (text_of layout is.items))) size
+            ∙ (ap (λ (k : Option Totals). Some (with_last (layout.last (size_for layout was + length (body layout w.packets)) k) (text_of layout is.items))) totals_is
+            ∙ (ap (λ (r : Option (ℕ × List ℕ)). Some (with_last r (text_of layout is.items))) (sym all.1)
+            ∙ ap (λ (b : List ℕ). Some (with_last w.replaced b)) (whole_text t)))))
+
+        held : HoldsOf layout (totals_in bases then_got) bytes is
+        held = elim (cases_Bool (are_whole (length bases) then_got)) as (λ _. HoldsOf layout (totals_in bases then_got) bytes is) [
+          | inl t ↦ inr (done t)
+          | inr f ↦ inl ([], append-nil bytes ∙ still f)
+        ]
+
+    -- a front of it
+    mux_stuck : (f : Fault) → (IsOfInputs f → f ≡ TooLarge)
+        → StuckOn layout merge_fed holds now counts begun (unended' == 0) f → MuxStands now layout counts' totals' heads unended' true merge' (Some f) (fed past port x)
+    mux_stuck f kinds w = fed_one (Some f) (s.0 ++ front.0) front.3 (λ e. absurd (clash e)) (λ e. absurd (clash e)) (λ e. absurd (clash e))
+        (λ e n. absurd (clash e)) (λ e n. absurd (clash e)) (held w.pads)
+        (λ c e i. let same : f ≡ c = cc in subst (λ (k : Fault). cause_for layout is ≡ Some k) same (caused (subst IsOfInputs (sym same) i)))
+      where
+        clash : Some f ≡ None → ⊥
+        clash e = cc
+
+        front : (front rest : List ℕ) × (((text_before begun layout ++ body layout w.packets) ++ w.pad) ≡ front ++ rest) × (now ≡ Some (s.0 ++ front))
+        front = prefixed holds now s.0 ((text_before begun layout ++ body layout w.packets) ++ w.pad) s.1.told w.front
+
+        items : is.items ≡ (was.items ++ w.packets) ++ w.others
+        items = now_decided ∙ (ap (λ (ys : List Placed). was.items ++ ys) w.rest ∙ sym (append_assoc was.items w.packets w.others))
+
+        counted_small : fits layout.longest (length (body layout (was.items ++ w.packets))) ≡ true
+        counted_small = ap (fits layout.longest) (size_then layout was.items w.packets) ∙ w.within (size_for layout was) (s.1.counted none) (s.1.small none)
+
+        caused : IsOfInputs f → cause_for layout is ≡ Some f
+        caused i =
+            let e = kinds i in
+            let size : size_for layout is ≡ size_for layout was + length (body layout (merge_fed.rest silence)) =
+            ap (λ (ys : List Placed). length (body layout ys)) now_decided ∙ size_then layout was.items (merge_fed.rest silence) in
+            large_cause layout is (ap (fits layout.longest) size ∙ w.large e (size_for layout was) (s.1.counted none)) ∙ ap (λ (c : Fault). Some c) (sym e)
+
+        -- the bytes and the rest of what was to be written
+        text : (s.0 ++ front.0) ++ front.1 ≡ written layout (was.items ++ w.packets) ++ w.pad
+        text = append_assoc s.0 front.0 front.1 ∙ (ap (λ (t : List ℕ). s.0 ++ t) (sym front.2)
+            ∙ (sym (append_assoc s.0 (text_before begun layout ++ body layout w.packets) w.pad) ∙ ap (λ (t : List ℕ). t ++ w.pad) (stands_with w.packets)))
+
+        held : ((w.pad ≡ []) ⊎ (((unended' == 0) ≡ true) × (w.others ≡ []) × ((n : ℕ) → counts n → w.pad ≡ layout.pad (n + length (body layout w.packets)))))
+            → HoldsSmall layout (totals_in bases then_got) (s.0 ++ front.0) is
+        held (inl e) =
+            let r : Stream Placed = record { items = was.items ++ w.packets; mark = still_open } in (
+              r,
+              inr (refl, (w.others, sym items)),
+              small_cause layout r counted_small,
+              inl (front.1, text ∙ (ap (λ (p : List ℕ). written layout (was.items ++ w.packets) ++ p) e ∙ append-nil (written layout (was.items ++ w.packets)))),
+            )
+        held (inr a) =
+            let all : is.items ≡ was.items ++ w.packets = items ∙ (ap (λ (ys : List Placed). (was.items ++ w.packets) ++ ys) a.1 ∙ append-nil (was.items ++ w.packets)) in
+            let pad : w.pad ≡ layout.pad (size_for layout is) =
+            a.2 (size_for layout was) (s.1.counted none)
+            ∙ ap layout.pad (sym (ap (λ (ys : List Placed). length (body layout ys)) all ∙ size_then layout was.items w.packets)) in (
+              is,
+              below_self is,
+              small_cause layout is (ap (λ (ys : List Placed). fits layout.longest (length (body layout ys))) all ∙ counted_small),
+              inl (
+                front.1,
+                text ∙ (ap (λ (ys : List Placed). written layout ys ++ w.pad) (sym all)
+                    ∙ (ap (λ (p : List ℕ). written layout is.items ++ p) pad
+                    ∙ sym (ap (λ (b : Bool). text_for layout (record { items = is.items; mark = whole_if b })) (sym ends ∙ a.0)))),
+              ),
+            )
+
+    -- whatever came of it
+    pub mux_fed : (fault' : Option Fault) → (IsNone fault' → WroteOn layout merge_fed merge' holds now counts counts' begun (unended' == 0) totals')
+        → IfSome fault' (λ f. StuckOn layout merge_fed holds now counts begun (unended' == 0) f) → IfSome fault' (λ f. IsOfInputs f → f ≡ TooLarge)
+        → MuxStands now layout counts' totals' heads unended' true merge' fault' (fed past port x)
+    mux_fed None wrote stuck kinds = mux_wrote (wrote refl)
+    mux_fed (Some f) wrote stuck kinds = mux_stuck f kinds stuck

@@ -1,12 +1,12 @@
 -- What a muxer told, item by item.
-use Rattle.std.proofs.Common.{◌≡◌, ℕ, zero, suc, ◌+◌, ◌-◌, ◌*◌, ◌/◌, ◌^◌, ◌<◌, ◌≤◌, min, ℤ, pos, negsuc, List, [], ◌∷◌, ◌++◌, inl, inr, refl, ap, sym, ◌∙◌, subst, arith, append_assoc, append-nil, ◌*ℤ◌}
+use Rattle.std.proofs.Common.{◌≡◌, ℕ, zero, suc, ◌+◌, ◌-◌, ◌*◌, ◌/◌, ◌^◌, ◌<◌, ◌≤◌, min, ℤ, pos, negsuc, List, [], ◌∷◌, ◌++◌, length, inl, inr, refl, ap, sym, ◌∙◌, subst, arith, append_assoc, append-nil, ◌*ℤ◌}
 use Rattle.std.specs.Prelude.{All, ◌≤ℤ◌, ◌<ℤ◌, ◌+ℤ◌}
 use Rattle.std.specs.Int.{w64}
 use Rattle.std.specs.Int.RustNames.{FitsSigned}
 use Rattle.std.proofs.lemmas.Bool.{cases_lt}
 use Rattle.std.proofs.lemmas.Int.{ints, fits_signed_from_abs}
 use Rattle.std.proofs.lemmas.List.Concat.{flat_map-append}
-use Rattle.std.proofs.lemmas.List.Elements.{All-nil, All-cons, All-append}
+use Rattle.std.proofs.lemmas.List.Elements.{All-nil, All-cons, All-head, All-tail, All-append}
 use Rattle.std.proofs.Math.Nat.{le-div_iff_mul-le, div-mul-le_self, mul-le-mul_right, suc-mul, div-le_of_le-mul}
 use Rattle.ff_time.specs.Fraction.{Fraction, IsBase, IsBase-unit}
 use Rattle.ff_time.specs.Rescale.{IsNearest, IsRescaled, IsRounded}
@@ -16,13 +16,13 @@ use Rattle.ff_values.specs.declared.head.StreamHead.{StreamHead}
 use Rattle.ff_values.specs.declared.head.StreamHead.TheVariants.{Audio as AudioHead, Video as VideoHead}
 use Rattle.ff_values.specs.declared.packet.Pkt.{Pkt}
 use Rattle.ff_values.specs.declared.event.Event.{Event}
-use Rattle.ff_values.specs.declared.event.Event.TheVariants.{Sent, Finished}
+use Rattle.ff_values.specs.declared.event.Event.TheVariants.{Grant, Sent, Finished, Best, Exited}
 use Rattle.ff_frame.specs.declared.item.Item.{Item}
 use Rattle.ff_frame.specs.declared.item.Item.TheVariants.{Audio, Video, Packet, Trailer, End, Broken}
 use Rattle.ff_frame.specs.Lanes.{FitsPackets}
 use Rattle.ff_frame.specs.Times.{ticks, IsInTime}
 use Rattle.ff_net.specs.Pasts.{Past, Feed, was_told, fed}
-use Rattle.ff_muxing.specs.Telling.{microsecond, micros_of, told_by, mux_tells, TellsFed, IsOfStream, AllOfStream, SentTimes}
+use Rattle.ff_muxing.specs.Telling.{microsecond, micros_of, told_by, told_at, mux_tells, TellsFed, IsAmong, IsOfStreams, AllOfStreams, SentTimes}
 
 -- ---- times
 
@@ -114,40 +114,40 @@ micros_none base (negsuc n) b le = none_at base b
 
 -- ---- items
 
-tells_more : (stream : ℕ) (base : Fraction) (feeds : List Feed) (f : Feed)
-    → mux_tells stream base (feeds ++ f ∷ []) ≡ mux_tells stream base feeds ++ told_by stream base f.item
-tells_more stream base feeds f =
-    flat_map-append (λ (g : Feed). told_by stream base g.item) feeds (f ∷ [])
-    ∙ ap (λ (es : List Event). mux_tells stream base feeds ++ es) (append-nil (told_by stream base f.item))
+tells_more : (first : ℕ) (bases : List Fraction) (feeds : List Feed) (f : Feed)
+    → mux_tells first bases (feeds ++ f ∷ []) ≡ mux_tells first bases feeds ++ told_at first bases f.port f.item
+tells_more first bases feeds f =
+    flat_map-append (λ (g : Feed). told_at first bases g.port g.item) feeds (f ∷ [])
+    ∙ ap (λ (es : List Event). mux_tells first bases feeds ++ es) (append-nil (told_at first bases f.port f.item))
 
-module _ (stream : ℕ) (base : Fraction) (past : Past) where
+module _ (first : ℕ) (bases : List Fraction) (past : Past) where
   -- an item was fed
-  pub tells_fed : (waiting now : List Event) (port : ℕ) (x : Item) → now ≡ waiting ++ told_by stream base x
-      → TellsFed stream base waiting past.task.tells past.told past.feeds
-      → TellsFed stream base now (fed past port x).task.tells (fed past port x).told (fed past port x).feeds
+  tells_fed : (waiting now : List Event) (port : ℕ) (x : Item) → now ≡ waiting ++ told_at first bases port x
+      → TellsFed first bases waiting past.task.tells past.told past.feeds
+      → TellsFed first bases now (fed past port x).task.tells (fed past port x).told (fed past port x).feeds
   tells_fed waiting now port x is t = record {
     tells_is = t.tells_is;
     all =
         ap (λ (es : List Event). past.told ++ es) is
-        ∙ (sym (append_assoc past.told waiting (told_by stream base x))
-        ∙ (ap (λ (es : List Event). es ++ told_by stream base x) t.all ∙ sym (tells_more stream base past.feeds (record { port = port; item = x }))));
+        ∙ (sym (append_assoc past.told waiting (told_at first bases port x))
+        ∙ (ap (λ (es : List Event). es ++ told_at first bases port x) t.all ∙ sym (tells_more first bases past.feeds (record { port = port; item = x }))));
   }
 
   -- its event, if it has one, was put behind what waited
   pub tells_put : (waiting between now made : List Event) (port : ℕ) (x : Item) → now ≡ between ++ made → between ≡ waiting
-      → made ≡ told_by stream base x → TellsFed stream base waiting past.task.tells past.told past.feeds
-      → TellsFed stream base now (fed past port x).task.tells (fed past port x).told (fed past port x).feeds
+      → made ≡ told_at first bases port x → TellsFed first bases waiting past.task.tells past.told past.feeds
+      → TellsFed first bases now (fed past port x).task.tells (fed past port x).told (fed past port x).feeds
   tells_put waiting between now made port x put same event t =
       tells_fed waiting now port x
       (put ∙ (ap (λ (es : List Event). es ++ made) same ∙ ap (λ (es : List Event). waiting ++ es) event)) t
 
   -- the next event was told
-  pub tells_next : (e : Event) (rest : List Event) → TellsFed stream base (e ∷ rest) past.task.tells past.told past.feeds
-      → TellsFed stream base rest (was_told past e).task.tells (was_told past e).told (was_told past e).feeds
+  pub tells_next : (e : Event) (rest : List Event) → TellsFed first bases (e ∷ rest) past.task.tells past.told past.feeds
+      → TellsFed first bases rest (was_told past e).task.tells (was_told past e).told (was_told past e).feeds
   tells_next e rest t = record { tells_is = t.tells_is; all = append_assoc past.told (e ∷ []) rest ∙ t.all }
 
   -- none waits
-  pub tells_all : (waiting : List Event) → waiting ≡ [] → TellsFed stream base waiting past.task.tells past.told past.feeds
+  pub tells_all : (waiting : List Event) → waiting ≡ [] → TellsFed first bases waiting past.task.tells past.told past.feeds
       → past.told ≡ past.task.tells past.feeds
   tells_all waiting none t =
       sym (append-nil past.told)
@@ -156,23 +156,45 @@ module _ (stream : ℕ) (base : Fraction) (past : Past) where
 
 -- ---- what holds of all that is told
 
-module _ (stream : ℕ) (base : Fraction) where
-  one_of_stream : (x : Item) → All (IsOfStream stream) (told_by stream base x)
-  one_of_stream (Audio f) = All-nil (IsOfStream stream)
-  one_of_stream (Video f) = All-nil (IsOfStream stream)
-  one_of_stream (Packet p) =
-      All-cons (IsOfStream stream) (Sent stream (micros_of base p.dts)) [] (refl, top_below ((2 * (ticks p.dts * (base.num * 1000000)) + base.den) / (2 * base.den))) (All-nil (IsOfStream stream))
-  one_of_stream (Trailer t) = All-nil (IsOfStream stream)
-  one_of_stream End = All-cons (IsOfStream stream) (Finished stream) [] refl (All-nil (IsOfStream stream))
-  one_of_stream Broken = All-cons (IsOfStream stream) (Finished stream) [] refl (All-nil (IsOfStream stream))
+among_first : (first n : ℕ) → IsAmong first (suc n) first
+among_first first n = (omega arith, omega arith)
 
-  each_of_stream : (feeds : List Feed) → All (IsOfStream stream) (mux_tells stream base feeds)
-  each_of_stream [] = All-nil (IsOfStream stream)
-  each_of_stream (f ∷ feeds) =
-      All-append (IsOfStream stream) (told_by stream base f.item) (mux_tells stream base feeds) (one_of_stream f.item) (each_of_stream feeds)
+among_more : (first n j : ℕ) → IsAmong (suc first) n j → IsAmong first (suc n) j
+among_more first n j a = (let le = a.0 in omega (arith, le), let lt = a.1 in omega (arith, lt))
 
-pub all_of_stream : AllOfStream
-all_of_stream stream base feeds = each_of_stream stream base feeds
+one_of_stream : (first n : ℕ) (base : Fraction) (x : Item) → All (IsOfStreams first (suc n)) (told_by first base x)
+one_of_stream first n base (Audio f) = All-nil (IsOfStreams first (suc n))
+one_of_stream first n base (Video f) = All-nil (IsOfStreams first (suc n))
+one_of_stream first n base (Packet p) =
+    All-cons (IsOfStreams first (suc n)) (Sent first (micros_of base p.dts)) []
+    (among_first first n, top_below ((2 * (ticks p.dts * (base.num * 1000000)) + base.den) / (2 * base.den))) (All-nil (IsOfStreams first (suc n)))
+one_of_stream first n base (Trailer t) = All-nil (IsOfStreams first (suc n))
+one_of_stream first n base End = All-cons (IsOfStreams first (suc n)) (Finished first) [] (among_first first n) (All-nil (IsOfStreams first (suc n)))
+one_of_stream first n base Broken = All-cons (IsOfStreams first (suc n)) (Finished first) [] (among_first first n) (All-nil (IsOfStreams first (suc n)))
+
+of_more : (first n : ℕ) (e : Event) → IsOfStreams (suc first) n e → IsOfStreams first (suc n) e
+of_more first n (Grant k) o = o
+of_more first n (Sent j t) o = (among_more first n j o.0, o.1)
+of_more first n (Finished j) o = among_more first n j o
+of_more first n (Best g i) o = o
+of_more first n (Exited k) o = o
+
+all_more : (first n : ℕ) (es : List Event) → All (IsOfStreams (suc first) n) es → All (IsOfStreams first (suc n)) es
+all_more first n [] all = All-nil (IsOfStreams first (suc n))
+all_more first n (e ∷ es) all =
+    All-cons (IsOfStreams first (suc n)) e es (of_more first n e (All-head (IsOfStreams (suc first) n) e es all))
+    (all_more first n es (All-tail (IsOfStreams (suc first) n) e es all))
+
+one_of_streams : (first : ℕ) (bases : List Fraction) (p : ℕ) (x : Item) → All (IsOfStreams first (length bases)) (told_at first bases p x)
+one_of_streams first [] p x = All-nil (IsOfStreams first 0)
+one_of_streams first (base ∷ bases) zero x = one_of_stream first (length bases) base x
+one_of_streams first (base ∷ bases) (suc p) x = all_more first (length bases) (told_at (suc first) bases p x) (one_of_streams (suc first) bases p x)
+
+pub all_of_streams : AllOfStreams
+all_of_streams first bases [] = All-nil (IsOfStreams first (length bases))
+all_of_streams first bases (f ∷ feeds) =
+    All-append (IsOfStreams first (length bases)) (told_at first bases f.port f.item) (mux_tells first bases feeds)
+    (one_of_streams first bases f.port f.item) (all_of_streams first bases feeds)
 
 -- ---- the times of valid packets
 

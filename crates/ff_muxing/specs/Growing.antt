@@ -1,92 +1,80 @@
--- What is written of a stream grows with it.
+-- What is written of packets grows with them.
 use Rattle.std.specs.Prelude.{◌≡◌, ℕ, ◌≤◌, Bool, true, false, if◌then◌else◌, List, ◌++◌, length, Option, Some, None, refl}
 use Rattle.std.proofs.Common.{inl, inr, ap, sym, ◌∙◌, subst, arith, append_assoc, length-append}
 use Rattle.std.proofs.lemmas.Bool.Decides.{nat_tests}
 use Rattle.std.proofs.lemmas.List.Concat.{flat_map-append}
 use mathlib.Core.List.{IsPrefix}
-use Rattle.ff_values.specs.declared.packet.Pkt.{Pkt}
+use Rattle.ff_time.specs.Fraction.{Fraction}
 use Rattle.ff_values.specs.declared.totals.Totals.{Totals}
-use Rattle.ff_frame.specs.declared.item.Item.{Item}
-use Rattle.ff_frame.specs.Stream.{Mark, still_open, whole, broken, LiesBelow, opened, opened_mark}
+use Rattle.ff_frame.specs.Stream.{Mark, still_open, whole, broken, Stream, LiesBelow}
 use Rattle.ff_frame.specs.Order.{prefix_self, prefix_trans, below_items}
+use Rattle.ff_frame.specs.Ports.{AllBelow}
+use Rattle.ff_interleave.specs.Merges.{Placed}
 use Rattle.ff_net.specs.declared.fault.Fault.{Fault}
 use Rattle.ff_net.specs.Ways.{Flow}
 use Rattle.ff_writers.specs.Layouts.{Layout, body, written, fits}
-use Rattle.ff_muxing.specs.Muxing.{packet_in, packets_in, packets_of, totals_of, text_by, file_by, unpatched, file, body_size, mux_cause, HoldsOf, HoldsSmall}
+use Rattle.ff_muxing.specs.Muxing.{mixed, text_by, text_for, file_for, file_by, size_for, cause_for, mux_cause, HoldsOf, HoldsSmall}
+use Rattle.ff_muxing.specs.Mixing.{mixed_grows}
 
 module _ (layout : Layout) where
-  -- further items are further packets, and these are further bytes
-  pub packets_more : (xs ys : List Item) → packets_in 0 (xs ++ ys) ≡ packets_in 0 xs ++ packets_in 0 ys
-  packets_more xs ys = flat_map-append (packet_in 0) xs ys
+  -- further packets are further bytes
+  pub body_more : (xs ys : List Placed) → body layout (xs ++ ys) ≡ body layout xs ++ body layout ys
+  body_more xs ys = flat_map-append (λ (p : Placed). layout.text p.0 p.1) xs ys
 
-  pub body_more : (xs ys : List Item) → body layout (packets_in 0 (xs ++ ys)) ≡ body layout (packets_in 0 xs) ++ body layout (packets_in 0 ys)
-  body_more xs ys = ap (body layout) (packets_more xs ys) ∙ flat_map-append (λ (p : ℕ × Pkt). layout.text p.0 p.1) (packets_in 0 xs) (packets_in 0 ys)
+  pub size_more : (xs ys : List Placed) → length (body layout (xs ++ ys)) ≡ length (body layout xs ++ body layout ys)
+  size_more xs ys = ap length (body_more xs ys)
 
-  pub written_more : (xs ys : List Item)
-      → written layout (packets_in 0 (xs ++ ys)) ≡ written layout (packets_in 0 xs) ++ body layout (packets_in 0 ys)
+  pub written_more : (xs ys : List Placed) → written layout (xs ++ ys) ≡ written layout xs ++ body layout ys
   written_more xs ys =
-      ap (λ b. layout.header ++ b) (body_more xs ys)
-      ∙ sym (append_assoc layout.header (body layout (packets_in 0 xs)) (body layout (packets_in 0 ys)))
+      ap (λ b. layout.header ++ b) (body_more xs ys) ∙ sym (append_assoc layout.header (body layout xs) (body layout ys))
 
   -- what is written of the packets stands in front of the text
-  written_front : (m : Mark) (packets : List (ℕ × Pkt)) → IsPrefix (written layout packets) (text_by layout m packets)
+  written_front : (m : Mark) (packets : List Placed) → IsPrefix (written layout packets) (text_by layout m packets)
   written_front still_open packets = prefix_self (written layout packets)
   written_front whole packets = (layout.pad (length (body layout packets)), refl)
   written_front broken packets = prefix_self (written layout packets)
 
-  pub open_text : (r : Flow) → r.mark ≡ still_open → unpatched layout r ≡ written layout (packets_of r)
-  open_text r o = ap (λ (m : Mark). text_by layout m (packets_of r)) o
+  pub open_text : (r : Stream Placed) → r.mark ≡ still_open → text_for layout r ≡ written layout r.items
+  open_text r o = ap (λ (m : Mark). text_by layout m r.items) o
 
-  open_file : (r : Flow) → r.mark ≡ still_open → file layout r ≡ None
-  open_file r o = ap (λ (m : Mark). file_by layout m (totals_of r) (packets_of r)) o
+  pub open_file : (totals : Option Totals) (r : Stream Placed) → r.mark ≡ still_open → file_for layout totals r ≡ None
+  open_file totals r o = ap (λ (m : Mark). file_by layout m totals r.items) o
 
-  items_more : (xs ys zs : List Item) (m : Mark) → xs ++ zs ≡ ys → IsPrefix (written layout (packets_in 0 xs)) (text_by layout m (packets_in 0 ys))
+  items_more : (xs ys zs : List Placed) (m : Mark) → xs ++ zs ≡ ys → IsPrefix (written layout xs) (text_by layout m ys)
   items_more xs ys zs m e =
-      let more : written layout (packets_in 0 xs) ++ body layout (packets_in 0 zs) ≡ written layout (packets_in 0 ys) =
-      sym (written_more xs zs) ∙ ap (λ (is : List Item). written layout (packets_in 0 is)) e in
-      prefix_trans (written layout (packets_in 0 xs)) (written layout (packets_in 0 ys)) (text_by layout m (packets_in 0 ys))
-      (body layout (packets_in 0 zs), more) (written_front m (packets_in 0 ys))
+      let more : written layout xs ++ body layout zs ≡ written layout ys = sym (written_more xs zs) ∙ ap (λ (is : List Placed). written layout is) e in
+      prefix_trans (written layout xs) (written layout ys) (text_by layout m ys) (body layout zs, more) (written_front m ys)
 
-  -- the text of a stream that goes on stands in front of that of each that goes on from it
-  pub text_grows : (r s : Flow) → r.mark ≡ still_open → IsPrefix r.items s.items → IsPrefix (unpatched layout r) (unpatched layout s)
-  text_grows r s o p = subst (λ (t : List ℕ). IsPrefix t (unpatched layout s)) (sym (open_text r o)) (items_more r.items s.items p.0 s.mark p.1)
+  -- the text of packets behind which more may come stands in front of that of each that go on from them
+  pub text_grows : (r s : Stream Placed) → r.mark ≡ still_open → IsPrefix r.items s.items → IsPrefix (text_for layout r) (text_for layout s)
+  text_grows r s o p = subst (λ (t : List ℕ). IsPrefix t (text_for layout s)) (sym (open_text r o)) (items_more r.items s.items p.0 s.mark p.1)
 
-  -- what was held of a stream is held of each that goes on from it
-  pub held_grows : (bytes : List ℕ) (r s : Flow) → LiesBelow r s → HoldsOf layout bytes r → HoldsOf layout bytes s
-  held_grows bytes r s (inl e) h = subst (λ (t : Flow). HoldsOf layout bytes t) e h
-  held_grows bytes r s (inr b) (inl p) = inl (prefix_trans bytes (unpatched layout r) (unpatched layout s) p (text_grows r s b.0 b.1))
-  held_grows bytes r s (inr b) (inr f) = let none : None ≡ Some bytes = sym (open_file r b.0) ∙ f in cc
+  -- what was held of packets is held of each that go on from them
+  pub held_grows : (totals : Option Totals) (bytes : List ℕ) (r s : Stream Placed) → LiesBelow r s → HoldsOf layout totals bytes r → HoldsOf layout totals bytes s
+  held_grows totals bytes r s (inl e) h = subst (λ (t : Stream Placed). HoldsOf layout totals bytes t) e h
+  held_grows totals bytes r s (inr b) (inl p) = inl (prefix_trans bytes (text_for layout r) (text_for layout s) p (text_grows r s b.0 b.1))
+  held_grows totals bytes r s (inr b) (inr f) = let none : None ≡ Some bytes = sym (open_file totals r b.0) ∙ f in cc
 
-  pub small_held : (bytes : List ℕ) (s : Flow) → HoldsSmall layout bytes s → HoldsOf layout bytes s
-  small_held bytes s h = held_grows bytes h.0 s h.1 h.3
+  -- totals are told of what is whole alone
+  pub held_open : (totals totals' : Option Totals) (bytes : List ℕ) (r : Stream Placed) → r.mark ≡ still_open → HoldsOf layout totals bytes r
+      → HoldsOf layout totals' bytes r
+  held_open totals totals' bytes r o (inl p) = inl p
+  held_open totals totals' bytes r o (inr f) = let none : None ≡ Some bytes = sym (open_file totals r o) ∙ f in cc
 
-  -- nobody who isn't told of a break sees another text
-  opened_text : (m : Mark) (packets : List (ℕ × Pkt)) → text_by layout (opened_mark m) packets ≡ text_by layout m packets
-  opened_text still_open packets = refl
-  opened_text whole packets = refl
-  opened_text broken packets = refl
-
-  opened_file : (m : Mark) (totals : Option Totals) (packets : List (ℕ × Pkt)) → file_by layout (opened_mark m) totals packets ≡ file_by layout m totals packets
-  opened_file still_open totals packets = refl
-  opened_file whole totals packets = refl
-  opened_file broken totals packets = refl
-
-  pub held_opened : (bytes : List ℕ) (r : Flow) → HoldsOf layout bytes r → HoldsOf layout bytes (opened r)
-  held_opened bytes r (inl p) = inl (subst (λ (t : List ℕ). IsPrefix bytes t) (sym (opened_text r.mark (packets_of r))) p)
-  held_opened bytes r (inr f) = inr (opened_file r.mark (totals_of r) (packets_of r) ∙ f)
+  pub small_held : (totals : Option Totals) (bytes : List ℕ) (s : Stream Placed) → HoldsSmall layout totals bytes s → HoldsOf layout totals bytes s
+  small_held totals bytes s h = held_grows totals bytes h.0 s h.1 h.3
 
   -- ---- sizes
 
-  size_more : (xs ys zs : List Item) → xs ++ zs ≡ ys → length (body layout (packets_in 0 xs)) ≤ length (body layout (packets_in 0 ys))
-  size_more xs ys zs e =
-      let more : body layout (packets_in 0 xs) ++ body layout (packets_in 0 zs) ≡ body layout (packets_in 0 ys) =
-      sym (body_more xs zs) ∙ ap (λ (is : List Item). body layout (packets_in 0 is)) e in
-      omega (arith, ap length more, length-append (body layout (packets_in 0 xs)) (body layout (packets_in 0 zs)))
+  size_less : (xs ys zs : List Placed) → xs ++ zs ≡ ys → length (body layout xs) ≤ length (body layout ys)
+  size_less xs ys zs e =
+      let more : body layout xs ++ body layout zs ≡ body layout ys = sym (body_more xs zs) ∙ ap (λ (is : List Placed). body layout is) e in
+      omega (arith, ap length more, length-append (body layout xs) (body layout zs))
 
-  pub size_grows : (r s : Flow) → LiesBelow r s → body_size layout r ≤ body_size layout s
-  size_grows r s b = let p = below_items r s b in size_more r.items s.items p.0 p.1
+  pub size_grows : (r s : Stream Placed) → LiesBelow r s → size_for layout r ≤ size_for layout s
+  size_grows r s b = let p = below_items r s b in size_less r.items s.items p.0 p.1
 
-  fits_less : (longest : Option ℕ) (a b : ℕ) → a ≤ b → fits longest b ≡ true → fits longest a ≡ true
+  pub fits_less : (longest : Option ℕ) (a b : ℕ) → a ≤ b → fits longest b ≡ true → fits longest a ≡ true
   fits_less None a b le f = refl
   fits_less (Some most) a b le f = grind (arith, nat_tests)
 
@@ -106,5 +94,8 @@ module _ (layout : Layout) where
           pick_a false e = e
 
   -- packets that are too many bytes stay so
-  pub cause_grows : (r s : Flow) (c : Fault) → LiesBelow r s → mux_cause layout r ≡ Some c → mux_cause layout s ≡ Some c
-  cause_grows r s c b e = cause_at layout.longest (body_size layout r) (body_size layout s) c _ (size_grows r s b) e
+  pub cause_grows : (r s : Stream Placed) (c : Fault) → LiesBelow r s → cause_for layout r ≡ Some c → cause_for layout s ≡ Some c
+  cause_grows r s c b e = cause_at layout.longest (size_for layout r) (size_for layout s) c _ (size_grows r s b) e
+
+  pub causes_grow : (bases : List Fraction) (rs ss : List Flow) (c : Fault) → AllBelow rs ss → mux_cause layout bases rs ≡ Some c → mux_cause layout bases ss ≡ Some c
+  causes_grow bases rs ss c b e = cause_grows (mixed bases rs) (mixed bases ss) c (mixed_grows bases rs ss b) e

@@ -6,7 +6,7 @@ use Rattle.ff_net.specs.Views.{View}
 use Rattle.ff_host.specs.declared.sink.Sink.{Ghosts as SinkGhosts}
 use Rattle.ff_writers.specs.declared.writer.Writer.{Ghosts as WriterGhosts}
 use Rattle.ff_muxing.specs.declared.mux.Mux.{Mux}
-use Rattle.ff_muxing.specs.Muxers.{mux_sink, mux_stands, mux_in_lanes, mux_fault, mux_spent, mux_stream, mux_base}
+use Rattle.ff_muxing.specs.Muxers.{mux_sink, mux_stands, mux_in_lanes, mux_fault, mux_spent, mux_first, mux_bases}
 use Rattle.ff_muxing.specs.Telling.{told_front}
 use Rattle.ff_muxing.specs.MuxLaws.{mux_source, mux_valid, mux_keeps, mux_monotone, mux_cause_stays, mux_calm, mux_given, mux_unbroken, mux_caused, mux_spent_only, mux_closed_spent, no_output}
 
@@ -44,7 +44,7 @@ module _ {K W : Type 0} {S : SinkGhosts K} {F : WriterGhosts W} where
     closed_spent = λ past p s lt c. mux_closed_spent m past s.0 p lt c;
     done_spent = λ past p s lt z c a. absurd (no_output 0 z);
     settles = λ past s n ss v c q lt. absurd (no_output q lt);
-    told = λ past s. told_front (mux_stream m) (mux_base m) m.events.items past s.1;
+    told = λ past s. told_front (mux_first m) (mux_bases m) m.events.items past s.1;
     ticket_used = λ past q s i f p a h. h;
     tried_allowed = λ past s. omega arith;
     tried_units = λ past s i. absurd (no_source i);

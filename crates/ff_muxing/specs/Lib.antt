@@ -1,11 +1,11 @@
-pub mod Adding
 pub mod Feeding
 pub mod Growing
 pub mod Held
 pub mod Kinds
-pub mod MuxLaws
+pub mod Mixing
 pub mod Muxers
 pub mod Muxing
+pub mod MuxLaws
 pub mod Outputs
 pub mod StreamEvents
 pub mod TaskLaws

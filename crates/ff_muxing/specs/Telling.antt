@@ -1,6 +1,6 @@
--- What a muxer tells of its output stream: of each packet the time at which it is decoded, and of what closes the stream that
--- it has finished.
-use Rattle.std.specs.Prelude.{◌≡◌, ℕ, ◌+◌, ◌-◌, ◌*◌, ◌/◌, ◌^◌, ◌<◌, min, ℤ, pos, List, [], ◌∷◌, ◌++◌, All}
+-- What a muxer tells of its output streams: of each packet the time at which it is decoded, and of what closes a stream that it has
+-- finished.
+use Rattle.std.specs.Prelude.{◌≡◌, ℕ, zero, suc, ◌+◌, ◌-◌, ◌*◌, ◌/◌, ◌^◌, ◌<◌, ◌≤◌, min, ℤ, pos, List, [], ◌∷◌, ◌++◌, All, length}
 use Rattle.std.specs.List.{flat_map}
 use Rattle.std.proofs.Common.{sym, ap, ◌∙◌}
 use mathlib.Core.List.{IsPrefix}
@@ -35,31 +35,41 @@ told_by stream base (Trailer t) = []
 told_by stream base End = Finished stream ∷ []
 told_by stream base Broken = Finished stream ∷ []
 
+-- what the output streams from this number on, with times of these bases, tell of an item on the input of number p
+abbrev pub told_at : ℕ → List Fraction → ℕ → Item → List Event
+told_at first [] p x = []
+told_at first (base ∷ bases) zero x = told_by first base x
+told_at first (base ∷ bases) (suc p) x = told_at (suc first) bases p x
+
 -- of all that was fed, in order
-abbrev pub mux_tells : ℕ → Fraction → List Feed → List Event
-mux_tells stream base feeds = flat_map (λ (f : Feed). told_by stream base f.item) feeds
+abbrev pub mux_tells : ℕ → List Fraction → List Feed → List Event
+mux_tells first bases feeds = flat_map (λ (f : Feed). told_at first bases f.port f.item) feeds
 
 -- what was told, and what waits to be told, is what is to be told of all that was fed
-pub record TellsFed (stream : ℕ) (base : Fraction) (waiting : List Event) (tells : List Feed → List Event) (told : List Event) (feeds : List Feed) : Type 0 where
-  pub tells_is : tells ≡ mux_tells stream base
-  pub all : told ++ waiting ≡ mux_tells stream base feeds
+pub record TellsFed (first : ℕ) (bases : List Fraction) (waiting : List Event) (tells : List Feed → List Event) (told : List Event) (feeds : List Feed) : Type 0 where
+  pub tells_is : tells ≡ mux_tells first bases
+  pub all : told ++ waiting ≡ mux_tells first bases feeds
 
 -- it told no more than that
-pub told_front : (stream : ℕ) (base : Fraction) (waiting : List Event) (past : Past)
-    → TellsFed stream base waiting past.task.tells past.told past.feeds → IsPrefix past.told (past.task.tells past.feeds)
-told_front stream base waiting past t = (waiting, t.all ∙ sym (ap (λ (f : List Feed → List Event). f past.feeds) t.tells_is))
+pub told_front : (first : ℕ) (bases : List Fraction) (waiting : List Event) (past : Past)
+    → TellsFed first bases waiting past.task.tells past.told past.feeds → IsPrefix past.told (past.task.tells past.feeds)
+told_front first bases waiting past t = (waiting, t.all ∙ sym (ap (λ (f : List Feed → List Event). f past.feeds) t.tells_is))
 
--- an event of the output stream of this number, at a time below 2^63
-abbrev pub IsOfStream : ℕ → Event → Type 0
-IsOfStream stream (Grant k) = ⊥
-IsOfStream stream (Sent j t) = (j ≡ stream) × (t < 2 ^ 63)
-IsOfStream stream (Finished j) = j ≡ stream
-IsOfStream stream (Best g i) = ⊥
-IsOfStream stream (Exited k) = ⊥
+-- one of so many streams, from this number on
+abbrev pub IsAmong : ℕ → ℕ → ℕ → Type 0
+IsAmong first count j = (first ≤ j) × (j < first + count)
+
+-- an event of one of these output streams, at a time below 2^63
+abbrev pub IsOfStreams : ℕ → ℕ → Event → Type 0
+IsOfStreams first count (Grant k) = ⊥
+IsOfStreams first count (Sent j t) = IsAmong first count j × (t < 2 ^ 63)
+IsOfStreams first count (Finished j) = IsAmong first count j
+IsOfStreams first count (Best g i) = ⊥
+IsOfStreams first count (Exited k) = ⊥
 
 -- whatever was fed
-abbrev pub AllOfStream : Type 0
-AllOfStream = (stream : ℕ) (base : Fraction) (feeds : List Feed) → All (IsOfStream stream) (mux_tells stream base feeds)
+abbrev pub AllOfStreams : Type 0
+AllOfStreams = (first : ℕ) (bases : List Fraction) (feeds : List Feed) → All (IsOfStreams first (length bases)) (mux_tells first bases feeds)
 
 -- of a valid packet it is the time at which it is decoded, rescaled to microseconds
 abbrev pub SentTimes : Type 0

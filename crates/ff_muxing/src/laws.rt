@@ -1,19 +1,26 @@
 // What follows of the definitions alone.
 ghost use Rattle.ff_muxing.specs.Held.{HeldPartsStay};
-ghost use Rattle.ff_muxing.specs.StreamEvents.{ToldOfStreams};
-ghost use Rattle.ff_muxing.specs.Telling.{AllOfStream, SentTimes};
+ghost use Rattle.ff_muxing.specs.Muxing.{MixedOne};
+ghost use Rattle.ff_muxing.specs.StreamEvents.{ToldOfStreams, ToldOfOne};
+ghost use Rattle.ff_muxing.specs.Telling.{AllOfStreams, SentTimes};
 
-/// What a muxer's sink holds of the stream that it was fed is held of each stream that goes on from it, but for a break: a front of
+/// What a muxer's sink holds of the streams that it was fed is held of all streams that go on from them, but for breaks: a front of
 /// what is written, or the file.
 pub fn held_parts_stay()
     ensures { HeldPartsStay }
 {}
 
-/// What a muxer tells is of its output stream, and each time is below 2^63, whatever it is fed; of a valid packet it is the time at
-/// which it is decoded, rescaled to microseconds. Fed a valid stream to its end, it has to tell when each packet is decoded, in order,
-/// and then that the output stream has finished.
+/// What a muxer tells is of its output streams, and each time is below 2^63, whatever it is fed; of a valid packet it is the time at
+/// which it is decoded, rescaled to microseconds. Of a valid stream that it was fed to its end it has to tell when each packet is decoded,
+/// in order, and then that the output stream has finished; with one stream that is all it tells.
 pub fn events_of_a_stream()
-    ensures stream { AllOfStream }
+    ensures streams { AllOfStreams }
     ensures times { SentTimes }
     ensures whole { ToldOfStreams }
+    ensures alone { ToldOfOne }
+{}
+
+/// Of one stream all packets are written, in their own order, and it is whole just where they are all.
+pub fn one_stream_is_written_as_it_is()
+    ensures { MixedOne }
 {}

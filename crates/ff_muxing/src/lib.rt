@@ -1,16 +1,18 @@
 //! The part of a run that writes an output in any format.
 //!
-//! [`Mux`] is a machine of one input over a sink and a writer of a format. `specs/Muxing` says what of a stream it writes, and which
-//! file that is once the stream is whole, by the format's layout alone, and `specs/Telling` what it tells of the stream.
+//! [`Mux`] is a machine over a sink and a writer of a format, with an input for each stream of the output, whose packets it writes in
+//! the order of their merge. `specs/Muxing` says what of the streams it writes, and which file that is once each is whole, by the
+//! format's layout and the bases of their times alone, and `specs/Telling` what it tells of them.
 #![tactic(auto)]
 
-mod added;
 mod laws;
 mod mux;
 mod output;
 mod telling;
+mod totals;
 mod write;
+mod writing;
 
-pub use laws::{events_of_a_stream, held_parts_stay};
+pub use laws::{events_of_a_stream, held_parts_stay, one_stream_is_written_as_it_is};
 pub use mux::Mux;
 pub use output::writer_of;

@@ -1,107 +1,157 @@
-// The part that writes a stream of packets in any format.
-ghost use Rattle.std.specs.Prelude.{◌≡◌, ◌≢◌, ◌≤◌, ◌⊎◌, ℕ, [], ◌∷◌, true, length, None, Some, Ok, IsSome};
+// The part that writes streams of packets in any format.
+ghost use Rattle.std.specs.Prelude.{◌≡◌, ◌≢◌, ◌≤◌, ◌<◌, ◌+◌, ◌^◌, ◌⊎◌, ℕ, [], ◌∷◌, true, List, length, None, Some, Ok, IsSome, IfOk, IfErr};
 ghost use Rattle.ff_time.specs.Fraction.{Fraction};
-ghost use Rattle.ff_values.specs.Heads.{base_of_head};
-ghost use Rattle.ff_frame.specs.declared.item.Lane.TheVariants.{Packets};
 ghost use Rattle.ff_frame.specs.Stream.{LiesBelow};
-ghost use Rattle.ff_frame.specs.Ports.{nothing, stream_at, IsClosed, IsWhole};
+ghost use Rattle.ff_frame.specs.Ports.{stream_at, IsClosed, IsWhole};
+ghost use Rattle.ff_interleave.specs.Queues.{merging, base_at, IsNew};
 ghost use Rattle.ff_net.specs.Pasts.{Past, start};
 ghost use Rattle.ff_net.specs.Ways.{Flow};
 ghost use Rattle.ff_writers.specs.Layouts.{Layout};
-ghost use Rattle.ff_muxing.specs.Muxing.{mux_cause, mux_task, unpatched, file};
+ghost use Rattle.ff_muxing.specs.Muxing.{head_bases, head_lanes, mux_cause, mux_task, unpatched, file, NothingCame};
 ghost use Rattle.ff_muxing.specs.Held.{HoldsPart};
-ghost use Rattle.ff_muxing.specs.StreamEvents.{stream_events};
+ghost use Rattle.ff_muxing.specs.StreamEvents.{events_of, stream_events};
 
-use crate::added::{Added, added_by, totals_with};
-use crate::telling::{put, told_by};
-use crate::write::{text_before, write, write_end, write_packet};
+use crate::telling::{put, time_base, told_by};
+use crate::totals::{left_with, totals_on};
+use crate::writing::{take_in, write_on};
+use ff_filter::discard;
 use ff_frame::{Event, Item, Refused, StreamHead, Ticket};
 use ff_host::Sink;
+use ff_interleave::Interleave;
 use ff_net::{Fault, Machine};
+use ff_time::Rational;
 use ff_values::Totals;
 use ff_writers::Writer;
 use std::alloc::{AllocError, Global};
 use std::collections::VecDeque;
 
-/// Writes a stream of packets in a writer's format on its sink: what stands before the packets in one append, before its first item,
-/// the text of each packet in one append, and once the stream has ended whole what follows them in one append and what takes the
-/// place of bytes in one patch.
+/// Writes streams of packets in a writer's format on its sink: what stands before the packets in one append, before its first item,
+/// the text of each packet in one append, in the order of their merge and as soon as it is decided there, and once each stream has
+/// ended whole what follows them in one append and what takes the place of bytes in one patch.
 ///
 /// A packet that makes the packets more bytes than the format holds is the fault TooLarge, and nothing of it is written. Want of memory
-/// in an append is a fault, and the item counts as fed. Behind a fault it takes what comes and writes nothing. Of a trailer nothing is
-/// written: the totals that it tells are kept for the end.
+/// in an append, or for the text of a packet that waited, is a fault, and the item counts as fed. Behind a fault it takes what comes and
+/// writes nothing. Of a trailer nothing is written: the totals that it tells are kept for the end, of the first stream alone.
 ///
-/// Of each packet that it is fed it tells the time, and of what closes the stream that its output stream has finished, behind a fault
+/// Of each packet that it is fed it tells the time, and of what closes a stream that its output stream has finished, behind a fault
 /// too.
 #[derive(Drop)]
 pub struct Mux<K: Sink, W: Writer> {
     alloc: Global,
-    /// The number of its output stream.
-    stream: u32,
+    /// The number of its first output stream.
+    first: u32,
     snk: K,
     writer: W,
-    head: StreamHead,
+    heads: Vec<StreamHead>,
+    /// The packets that wait: of each it isn't decided what goes before it.
+    merge: Interleave,
+    /// How many of the streams haven't ended whole.
+    unended: usize,
     begun: bool,
-    closed: bool,
     /// What a trailer told.
     totals: Option<Totals>,
     fault: Option<Fault>,
     /// What it is to tell, the oldest first.
     events: VecDeque<Event>,
+    // there is a stream, and each has a number
+    ghost some: { 1 ≤ length heads.items },
+    ghost numbers: { first + length heads.items ≤ 2 ^ 32 },
+    // the merge is of these streams
+    ghost bases: { (merging merge.queues.items).bases ≡ head_bases heads.items },
     // some number of bytes was counted, and the sink has room for what takes their place
     ghost counted: { ((n : ℕ) → W.counts writer n → ⊥) → ⊥ },
     ghost room: { begun ≡ true → fault ≡ None → length (W.layout writer).header ≤ K.written snk },
 }
 
+// The bases of the times of streams of these heads.
+fn bases_of(alloc: Global, heads: &[StreamHead]) -> Result<Vec<Rational>, AllocError>
+    ensures { IfOk result (λ bases. bases.items ≡ head_bases heads.now) }
+{
+    let mut bases = Vec::with_capacity(alloc, heads.len())?;
+    'heads: for p in 0..heads.len() {
+        bases.push(time_base(&heads[p]))?;
+    }
+    Ok(bases)
+}
+
+// The merge of streams of these heads.
+fn merge_of(alloc: Global, heads: &[StreamHead]) -> Result<Interleave, AllocError>
+    requires { length heads.now < 2 ^ 32 }
+    ensures { IfOk result (λ m. IsNew (head_bases heads.now) (merging m.queues.items)) }
+{
+    let bases = bases_of(alloc, heads)?;
+    Interleave::new(alloc, bases)
+}
+
 impl<K: Sink + Drop, W: Writer + Drop> Mux<K, W> {
     ghost use Rattle.ff_muxing.specs.Muxers.{mux_sink, mux_stands, mux_in_lanes, mux_fault};
 
-    /// Over a sink that holds nothing and a writer that counted nothing, for the packets of the output stream of this number and head.
-    pub fn new(alloc: Global, stream: u32, snk: K, writer: W, head: StreamHead) -> Mux<K, W>
+    /// Over a sink that holds nothing and a writer that counted nothing, for the packets of output streams of these heads, with numbers
+    /// from this one on. The sink comes back where memory is refused.
+    pub fn new(
+        alloc: Global,
+        first: u32,
+        snk: K,
+        writer: W,
+        heads: &[StreamHead],
+    ) -> Result<Mux<K, W>, K>
+        requires some { 1 ≤ length heads.now }
+        requires few { length heads.now < 2 ^ 32 }
+        requires numbers { first + length heads.now ≤ 2 ^ 32 }
         requires fresh { W.counts writer 0 }
-        ensures sink { mux_sink result ≡ snk }
-        ensures lanes { mux_in_lanes result ≡ Packets head ∷ [] }
-        ensures fault { mux_fault result ≡ None }
-        ensures fresh { K.holds snk ≡ Some [] → mux_stands result (start (mux_task (W.layout writer) stream (base_of_head head))) }
+        ensures sink { IfOk result (λ m. mux_sink m ≡ snk) }
+        ensures lanes { IfOk result (λ m. mux_in_lanes m ≡ head_lanes heads.now) }
+        ensures fault { IfOk result (λ m. mux_fault m ≡ None) }
+        ensures fresh { IfOk result (λ m. K.holds snk ≡ Some [] → mux_stands m (start (mux_task (W.layout writer) first (head_bases heads.now)))) }
+        ensures back { IfErr result (λ back. back ≡ snk) }
     {
-        Mux {
+        let Ok(merge) = merge_of(alloc, heads) else {
+            return Err(snk);
+        };
+        let Ok(kept) = Vec::from_slice(alloc, heads) else {
+            return Err(snk);
+        };
+        let unended = kept.len();
+        Ok(Mux {
             alloc,
-            stream,
+            first,
             snk,
             writer,
-            head,
+            heads: kept,
+            merge,
+            unended,
             begun: false,
-            closed: false,
             totals: None,
             fault: None,
             events: VecDeque::new(alloc),
-        }
+        })
     }
 
-    /// Gives the sink back. It holds nothing before the first item, afterwards what is written of the stream, and once that is whole
-    /// its file; where there is a fault a front of what is written, or the file, and none of the packets from the first on that makes
-    /// them too many bytes. What there was to tell of a stream that has closed are the events of this stream. The layout is whichever
-    /// the muxer's task is of.
+    /// Gives the sink back. It holds nothing before the first item, afterwards what is written of the streams, and once each is whole
+    /// their file; where there is a fault a front of what is written, or the file, and none of the packets from the first on that makes
+    /// them too many bytes, where it is of one stream. What there was to tell of a stream that has closed are the events of its output stream. The layout and the
+    /// bases are whichever the muxer's task is of.
     pub fn into_sink(self) -> K
         ensures sink { result ≡ mux_sink self }
-        ensures fresh { (past : Past) → mux_stands self past → stream_at past.got 0 ≡ nothing → K.holds result ≡ Some [] }
-        ensures exact { (past : Past) (stream : ℕ) (base : Fraction) (layout : Layout)
-            → mux_stands self past → past.task ≡ mux_task layout stream base → mux_fault self ≡ None
-            → stream_at past.got 0 ≢ nothing → (IsWhole (stream_at past.got 0) → ⊥)
-            → K.holds result ≡ Some (unpatched layout (stream_at past.got 0)) }
-        ensures whole { (past : Past) (stream : ℕ) (base : Fraction) (layout : Layout)
-            → mux_stands self past → past.task ≡ mux_task layout stream base → mux_fault self ≡ None → IsWhole (stream_at past.got 0)
-            → IsSome (file layout (stream_at past.got 0)) × (K.holds result ≡ file layout (stream_at past.got 0)) }
-        ensures front { (past : Past) (stream : ℕ) (base : Fraction) (layout : Layout)
-            → mux_stands self past → past.task ≡ mux_task layout stream base
-            → HoldsPart (K.holds result) (unpatched layout (stream_at past.got 0)) (file layout (stream_at past.got 0)) }
-        ensures told { (past : Past) (stream : ℕ) (base : Fraction) (layout : Layout)
-            → mux_stands self past → past.task ≡ mux_task layout stream base → IsClosed (stream_at past.got 0)
-            → past.task.tells past.feeds ≡ stream_events stream base (stream_at past.got 0) }
-        ensures small { (past : Past) (stream : ℕ) (base : Fraction) (layout : Layout)
-            → mux_stands self past → past.task ≡ mux_task layout stream base
-            → (r : Flow) × LiesBelow r (stream_at past.got 0) × (mux_cause layout r ≡ None)
-            × HoldsPart (K.holds result) (unpatched layout r) (file layout r) }
+        ensures fresh { (past : Past) → mux_stands self past → NothingCame past.got → K.holds result ≡ Some [] }
+        ensures exact { (past : Past) (first : ℕ) (bases : List Fraction) (layout : Layout)
+            → mux_stands self past → past.task ≡ mux_task layout first bases → mux_fault self ≡ None
+            → (NothingCame past.got → ⊥) → (((p : ℕ) → p < length bases → IsWhole (stream_at past.got p)) → ⊥)
+            → K.holds result ≡ Some (unpatched layout bases past.got) }
+        ensures whole { (past : Past) (first : ℕ) (bases : List Fraction) (layout : Layout)
+            → mux_stands self past → past.task ≡ mux_task layout first bases → mux_fault self ≡ None
+            → ((p : ℕ) → p < length bases → IsWhole (stream_at past.got p))
+            → IsSome (file layout bases past.got) × (K.holds result ≡ file layout bases past.got) }
+        ensures front { (past : Past) (first : ℕ) (bases : List Fraction) (layout : Layout)
+            → mux_stands self past → past.task ≡ mux_task layout first bases
+            → HoldsPart (K.holds result) (unpatched layout bases past.got) (file layout bases past.got) }
+        ensures told { (past : Past) (first : ℕ) (bases : List Fraction) (layout : Layout) (p : ℕ)
+            → mux_stands self past → past.task ≡ mux_task layout first bases → p < length bases → IsClosed (stream_at past.got p)
+            → events_of (first + p) (past.task.tells past.feeds) ≡ stream_events (first + p) (base_at bases p) (stream_at past.got p) }
+        ensures small { (past : Past) (first : ℕ) (base : Fraction) (layout : Layout)
+            → mux_stands self past → past.task ≡ mux_task layout first (base ∷ [])
+            → (r : Flow) × LiesBelow r (stream_at past.got 0) × (mux_cause layout (base ∷ []) (r ∷ []) ≡ None)
+            × HoldsPart (K.holds result) (unpatched layout (base ∷ []) (r ∷ [])) (file layout (base ∷ []) (r ∷ [])) }
     {
         self.snk
     }
@@ -113,7 +163,7 @@ impl<K: Sink + Drop, W: Writer + Drop> Machine for Mux<K, W> {
     ghost view = { mux_view };
 
     fn inputs(&self) -> usize {
-        1
+        self.heads.len()
     }
 
     fn outputs(&self) -> usize {
@@ -132,42 +182,36 @@ impl<K: Sink + Drop, W: Writer + Drop> Machine for Mux<K, W> {
         Some(ticket)
     }
 
-    fn feed(&mut self, _port: usize, item: Item) -> Result<(), Refused> {
-        let closes = item.closes();
-        let event = told_by(self.stream, &self.head, &item);
-        let totals = totals_with(self.totals, &item);
+    fn feed(&mut self, port: usize, item: Item) -> Result<(), Refused> {
+        if self.merge.is_shut(port) {
+            discard(item);
+            return Ok(());
+        }
         let Ok(()) = self.events.reserve(1) else {
             return Err(Refused { item });
         };
+        let event = told_by(self.first + port as u32, &self.heads[port], &item);
+        let totals = totals_on(port, self.totals, &item);
+        let unended = left_with(self.unended, &item);
+        take_in(&mut self.merge, self.fault.is_some(), port, item)?;
+        put(&mut self.events, event);
+        self.totals = totals;
+        self.unended = unended;
         if self.fault.is_some() {
             self.begun = true;
-            self.closed = self.closed | closes;
-            self.totals = totals;
-            put(&mut self.events, event);
             return Ok(());
         }
-        let Ok(before) = text_before(self.alloc, &self.writer, self.begun) else {
-            return Err(Refused { item });
-        };
-        let added = added_by(&self.writer, self.totals, item)?;
+        self.fault = write_on(
+            self.alloc,
+            &mut self.snk,
+            &mut self.writer,
+            &mut self.merge,
+            self.begun,
+            unended == 0,
+            totals,
+        );
         self.begun = true;
-        self.closed = self.closed | closes;
-        self.totals = totals;
-        put(&mut self.events, event);
-        match added {
-            Added::Text(text) => {
-                self.fault = write_packet(&mut self.snk, &mut self.writer, &before, &text);
-                Ok(())
-            }
-            Added::End(patch) => {
-                self.fault = write_end(&mut self.snk, &before, self.writer.pad(), patch);
-                Ok(())
-            }
-            Added::Nothing => {
-                self.fault = write(&mut self.snk, &before);
-                Ok(())
-            }
-        }
+        Ok(())
     }
 
     fn pull(&mut self, _port: usize) -> Result<Option<Item>, AllocError>
@@ -181,8 +225,8 @@ impl<K: Sink + Drop, W: Writer + Drop> Machine for Mux<K, W> {
         ensures { self.new ≡ self.old }
     {}
 
-    fn spent(&self, _port: usize) -> bool {
-        self.closed
+    fn spent(&self, port: usize) -> bool {
+        self.merge.is_shut(port)
     }
 
     fn next_event(&mut self) -> Option<Event> {

@@ -8,23 +8,24 @@ use ff_words::FileFormat;
 use ff_writers::{AnyWriter, FlacWriter, HashWriter, WavPut, Y4mWriter};
 use std::alloc::{AllocError, Global};
 
-/// The writer of a format for the packets of one stream, with this digest where the format has one. No byte of a packet was counted.
+/// The writer of a format for the packets of streams of these heads, with this digest where the format has one. No byte of a packet
+/// was counted.
 pub fn writer_of(
     alloc: Global,
     format: FileFormat,
     hash: HashKind,
-    head: &StreamHead,
+    heads: &[StreamHead],
 ) -> Result<AnyWriter, AllocError>
-    requires { CanWrite format head.now }
-    ensures layout { IfOk result (λ writer. any_layout writer ≡ layout_of format hash head.now) }
+    requires { CanWrite format heads.now }
+    ensures layout { IfOk result (λ writer. any_layout writer ≡ layout_of format hash heads.now) }
     ensures counts { IfOk result (λ writer. any_counts writer 0) }
 {
     match format {
-        FileFormat::Wav => Ok(AnyWriter::Wav(WavPut::new(alloc, head))),
-        FileFormat::Flac => Ok(AnyWriter::Flac(FlacWriter::new(alloc, *head))),
-        FileFormat::Y4m => Ok(AnyWriter::Y4m(Y4mWriter::new(alloc, *head))),
+        FileFormat::Wav => Ok(AnyWriter::Wav(WavPut::new(alloc, &heads[0]))),
+        FileFormat::Flac => Ok(AnyWriter::Flac(FlacWriter::new(alloc, heads[0]))),
+        FileFormat::Y4m => Ok(AnyWriter::Y4m(Y4mWriter::new(alloc, heads[0]))),
         FileFormat::FrameHash => {
-            let heads = Vec::from_slice(alloc, &[*head])?;
+            let heads = Vec::from_slice(alloc, heads)?;
             Ok(AnyWriter::Hash(HashWriter::new(alloc, hash, heads)))
         }
     }

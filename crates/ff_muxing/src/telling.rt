@@ -27,7 +27,8 @@ fn micros(time: i64, base: Rational) -> u64
     }
 }
 
-fn time_base(head: &StreamHead) -> Rational
+/// The base of the times of a stream of this head.
+pub(crate) fn time_base(head: &StreamHead) -> Rational
     ensures { result ≡ base_of_head head.now }
 {
     match *head {

@@ -1,5 +1,5 @@
 // What is written to a sink at each item.
-ghost use Rattle.std.specs.Prelude.{◌≡◌, ◌≢◌, ◌+◌, ◌≤◌, ◌⊎◌, ℕ, ◌++◌, length, None, Some, IfOk, IsNone, IsSome, IfSome};
+ghost use Rattle.std.specs.Prelude.{◌≡◌, ◌≢◌, ◌+◌, ◌≤◌, ◌⊎◌, ℕ, [], length, None, Some, IfOk, IsNone, IsSome, IfSome};
 ghost use Rattle.std.specs.Io.KnownBytes.{Appends, Keeps};
 ghost use Rattle.ff_lists.specs.Appends.{AppendsPrefix};
 ghost use Rattle.ff_net.specs.declared.fault.Fault.TheVariants.{TooLarge};
@@ -48,19 +48,17 @@ pub(crate) fn write<K: Sink>(snk: &mut K, bytes: &[u8]) -> Option<Fault>
     }
 }
 
-/// Adds what stands before the packets, and the text of one, which is counted first: where the packets are too many bytes, nothing
-/// of it is added.
+/// Counts the text of a packet, and adds it: where the packets are too many bytes, nothing of it is added.
 pub(crate) fn write_packet<K: Sink, W: Writer>(
     snk: &mut K,
     writer: &mut W,
-    before: &[u8],
     text: &[u8],
 ) -> Option<Fault>
-    ensures ok { IsNone result → Appends (K.holds snk.old) (K.holds snk.new) (before.now ++ text.now) }
-    ensures written { IsNone result → K.written snk.old + length before.now ≤ K.written snk.new }
-    ensures front { AppendsPrefix (K.holds snk.old) (K.holds snk.new) before.now
+    ensures ok { IsNone result → Appends (K.holds snk.old) (K.holds snk.new) text.now }
+    ensures written { IsNone result → K.written snk.old ≤ K.written snk.new }
+    ensures front { AppendsPrefix (K.holds snk.old) (K.holds snk.new) []
         ⊎ (((n : ℕ) → W.counts writer.old n → IsBeyond (W.layout writer.old).longest (n + length text.now) → ⊥)
-        × AppendsPrefix (K.holds snk.old) (K.holds snk.new) (before.now ++ text.now)) }
+        × AppendsPrefix (K.holds snk.old) (K.holds snk.new) text.now) }
     ensures kinds { IfSome result (λ c. IsOfInputs c → c ≡ TooLarge) }
     ensures later { K.faults snk.old ≤ K.faults snk.new }
     ensures failed { result ≡ Some Fault.Device → Rose (K.faults snk.old) (K.faults snk.new) }
@@ -72,10 +70,6 @@ pub(crate) fn write_packet<K: Sink, W: Writer>(
     ensures too_large { result ≡ Some TooLarge → (n : ℕ) → W.counts writer.old n → IsBeyond (W.layout writer.old).longest (n + length text.now) }
     ensures still_counts { (n : ℕ) → W.counts writer.old n → (m : ℕ) × W.counts writer.new m }
 {
-    let fault = write(snk, before);
-    if fault.is_some() {
-        return fault;
-    }
     if writer.add(text.len() as u64).is_err() {
         return Some(Fault::TooLarge);
     }
@@ -103,27 +97,18 @@ pub(crate) fn replace<K: Sink>(snk: &mut K, patch: Option<Patch>) -> Option<Faul
     }
 }
 
-/// Ends a text: adds what stands before the packets and what follows them, and puts bytes in the place of as many.
-pub(crate) fn write_end<K: Sink>(
-    snk: &mut K,
-    before: &[u8],
-    pad: &[u8],
-    patch: Option<Patch>,
-) -> Option<Fault>
-    requires { StandsIn (replacing patch) (K.written snk.old + length before.now) }
-    ensures ok { IsNone result → EndsAs (K.holds snk.old) (K.holds snk.new) (before.now ++ pad.now) (replacing patch) }
-    ensures written { IsNone result → K.written snk.old + length before.now ≤ K.written snk.new }
-    ensures front { IsSome result → AppendsPrefix (K.holds snk.old) (K.holds snk.new) (before.now ++ pad.now) }
+/// Ends a text: adds what follows the packets, and puts bytes in the place of as many.
+pub(crate) fn write_end<K: Sink>(snk: &mut K, pad: &[u8], patch: Option<Patch>) -> Option<Fault>
+    requires { StandsIn (replacing patch) (K.written snk.old) }
+    ensures ok { IsNone result → EndsAs (K.holds snk.old) (K.holds snk.new) pad.now (replacing patch) }
+    ensures written { IsNone result → K.written snk.old ≤ K.written snk.new }
+    ensures front { IsSome result → AppendsPrefix (K.holds snk.old) (K.holds snk.new) pad.now }
     ensures kinds { IfSome result (λ c. IsOfInputs c → ⊥) }
     ensures later { K.faults snk.old ≤ K.faults snk.new }
     ensures failed { result ≡ Some Fault.Device → Rose (K.faults snk.old) (K.faults snk.new) }
     ensures unfailed { result ≢ Some Fault.Device → K.faults snk.new ≡ K.faults snk.old }
     ensures name { K.name snk.new ≡ K.name snk.old }
 {
-    let fault = write(snk, before);
-    if fault.is_some() {
-        return fault;
-    }
     let fault = write(snk, pad);
     if fault.is_some() {
         return fault;

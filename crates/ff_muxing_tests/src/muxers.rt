@@ -3,7 +3,7 @@ ghost use Rattle.ff_values.specs.Heads.{IsPcmCoded};
 ghost use Rattle.ff_mux.specs.FlacHead.{CanHold};
 ghost use Rattle.ff_y4m.specs.Header.{IsVideoHead};
 
-use ff_frame::{Event, Item, Refused, Ticket};
+use ff_frame::{Event, Item, Ticket};
 use ff_host::{Host, Sink};
 use ff_memory_host::{FailAt, HostCall, MemHost, MemSink};
 use ff_muxing::{Mux, writer_of};
@@ -100,36 +100,60 @@ fn sink(alloc: Global, call: HostCall, number: u32) -> Result<MemSink, AllocErro
     }
 }
 
+fn made(mux: Result<OutMux, MemSink>) -> Result<OutMux, AllocError> {
+    match mux {
+        Ok(mux) => Ok(mux),
+        Err(_) => Err(AllocError),
+    }
+}
+
 fn wav(alloc: Global, snk: MemSink) -> Result<OutMux, AllocError> {
     let Some(head) = sound() else {
         return Err(AllocError);
     };
-    let writer = writer_of(alloc, FileFormat::Wav, HashKind::Sha256, &head)?;
-    Ok(Mux::new(alloc, STREAM, snk, writer, head))
+    let heads = [head];
+    let writer = writer_of(alloc, FileFormat::Wav, HashKind::Sha256, &heads)?;
+    made(Mux::new(alloc, STREAM, snk, writer, &heads))
 }
 
 fn y4m(alloc: Global, snk: MemSink) -> Result<OutMux, AllocError> {
     let Some(head) = pictures() else {
         return Err(AllocError);
     };
-    let writer = writer_of(alloc, FileFormat::Y4m, HashKind::Sha256, &head)?;
-    Ok(Mux::new(alloc, STREAM, snk, writer, head))
+    let heads = [head];
+    let writer = writer_of(alloc, FileFormat::Y4m, HashKind::Sha256, &heads)?;
+    made(Mux::new(alloc, STREAM, snk, writer, &heads))
 }
 
 fn flac(alloc: Global, snk: MemSink) -> Result<OutMux, AllocError> {
     let Some(head) = coded() else {
         return Err(AllocError);
     };
-    let writer = writer_of(alloc, FileFormat::Flac, HashKind::Sha256, &head)?;
-    Ok(Mux::new(alloc, STREAM, snk, writer, head))
+    let heads = [head];
+    let writer = writer_of(alloc, FileFormat::Flac, HashKind::Sha256, &heads)?;
+    made(Mux::new(alloc, STREAM, snk, writer, &heads))
 }
 
 fn digests(alloc: Global, snk: MemSink) -> Result<OutMux, AllocError> {
     let Some(head) = sound() else {
         return Err(AllocError);
     };
-    let writer = writer_of(alloc, FileFormat::FrameHash, HashKind::Md5, &head)?;
-    Ok(Mux::new(alloc, STREAM, snk, writer, head))
+    let heads = [head];
+    let writer = writer_of(alloc, FileFormat::FrameHash, HashKind::Md5, &heads)?;
+    made(Mux::new(alloc, STREAM, snk, writer, &heads))
+}
+
+// Sound, and then pictures.
+fn two(alloc: Global, snk: MemSink) -> Result<OutMux, AllocError> {
+    let Some(first) = sound() else {
+        return Err(AllocError);
+    };
+    let Some(second) = pictures() else {
+        return Err(AllocError);
+    };
+    let heads = [first, second];
+    let writer = writer_of(alloc, FileFormat::FrameHash, HashKind::Md5, &heads)?;
+    made(Mux::new(alloc, STREAM, snk, writer, &heads))
 }
 
 fn packet(alloc: Global, time: i64) -> Result<Item, AllocError> {
@@ -142,11 +166,24 @@ fn packet(alloc: Global, time: i64) -> Result<Item, AllocError> {
     }))
 }
 
-fn went(fed: Result<(), Refused>) -> Result<(), AllocError> {
-    match fed {
+// Feeds an item to an input that is there.
+fn feed_at<K: Sink + Drop, W: Writer + Drop>(
+    mux: &mut Mux<K, W>,
+    port: usize,
+    item: Item,
+) -> Result<(), AllocError> {
+    if port >= mux.inputs() {
+        return Err(AllocError);
+    }
+    match mux.feed(port, item) {
         Ok(()) => Ok(()),
         Err(_) => Err(AllocError),
     }
+}
+
+// Whether an input is there, and spent.
+fn is_spent<K: Sink + Drop, W: Writer + Drop>(mux: &Mux<K, W>, port: usize) -> bool {
+    port < mux.inputs() && mux.spent(port)
 }
 
 // Feeds so many packets, and then an item that closes the stream.
@@ -158,10 +195,10 @@ fn feed_all<K: Sink + Drop, W: Writer + Drop>(
 ) -> Result<(), AllocError> {
     for number in 0..packets {
         let item = packet(alloc, 3 * i64::from(number))?;
-        went(mux.feed(0, item))?;
+        feed_at(mux, 0, item)?;
     }
     let last = if breaks { Item::Broken } else { Item::End };
-    went(mux.feed(0, last))
+    feed_at(mux, 0, last)
 }
 
 // Feeds the frame of three samples, their totals, where they are told, and an item that closes the stream.
@@ -181,7 +218,7 @@ fn feed_coded<K: Sink + Drop, W: Writer + Drop>(
         pos: 0,
         bytes: Bytes::new(bytes),
     };
-    went(mux.feed(0, Item::Packet(frame)))?;
+    feed_at(mux, 0, Item::Packet(frame))?;
     if tells {
         let totals = Totals {
             min_frame: 13,
@@ -192,10 +229,10 @@ fn feed_coded<K: Sink + Drop, W: Writer + Drop>(
                 0x7f, 0x72,
             ],
         };
-        went(mux.feed(0, Item::Trailer(totals)))?;
+        feed_at(mux, 0, Item::Trailer(totals))?;
     }
     let last = if breaks { Item::Broken } else { Item::End };
-    went(mux.feed(0, last))
+    feed_at(mux, 0, last)
 }
 
 // Whether the sink holds the bytes of these texts.
@@ -219,9 +256,9 @@ fn leaves(
     fault: Option<Fault>,
 ) -> Result<bool, AllocError> {
     let mut mux = mux;
-    let before = mux.spent(0);
+    let before = is_spent(&mux, 0);
     feed_all(alloc, &mut mux, packets, breaks)?;
-    let ended = !before & mux.spent(0) & (mux.fault() == fault);
+    let ended = !before & is_spent(&mux, 0) & (mux.fault() == fault);
     Ok(ended & holds(alloc, mux.into_sink(), texts)?)
 }
 
@@ -343,7 +380,7 @@ fn gives_nothing(rt: HostRuntime) -> Result<(), AllocError> {
     assert_eq!(rt; (ports, mux.allow(ticket)), ((1, 0, None), Some(ticket)));
     let pulled = matches!(mux.pull(0), Ok(None));
     mux.stop(0);
-    assert_eq!(rt; (pulled, mux.spent(0)), (true, false));
+    assert_eq!(rt; (pulled, is_spent(&mux, 0)), (true, false));
     assert!(rt; mux.into_sink().bytes().is_empty());
     Ok(())
 }
@@ -362,6 +399,67 @@ fn tells_of_its_stream(rt: HostRuntime) -> Result<(), AllocError> {
             (before, packets, end),
             (None, times, (Some(Event::Finished(STREAM)), None))
         );
+    }
+    Ok(())
+}
+
+// The lines before those of the packets of two streams.
+const TWO: &str = "#format: frame checksums
+#version: 2
+#hash: MD5
+#tb 0: 1/44100
+#media_type 0: audio
+#codec_id 0: pcm_u8
+#sample_rate 0: 44100
+#channel_layout_name 0: mono
+#tb 1: 1/25
+#media_type 1: video
+#codec_id 1: rawvideo
+#dimensions 1: 2x1
+#sar 1: 0/1
+#stream#, dts,        pts, duration,     size, hash
+";
+
+// The lines of three packets, in the order of their times and streams.
+const AT_0: &str = "0,          0,          0,        3,        3, 900150983cd24fb0d6963f7d28e17f72
+";
+
+const PICTURE_AT_0: &str = "1,          0,          0,        3,        3, 900150983cd24fb0d6963f7d28e17f72
+";
+
+const AT_3: &str = "0,          3,          3,        3,        3, 900150983cd24fb0d6963f7d28e17f72
+";
+
+#[test]
+fn writes_two_streams(rt: HostRuntime) -> Result<(), AllocError> {
+    // whether the pictures break; the last line that is held then
+    for (breaks, last) in [(false, AT_3), (true, "")] {
+        let mut mux = two(rt.alloc(), sink(rt.alloc(), HostCall::Append, 0)?)?;
+        let picture = packet(rt.alloc(), 0)?;
+        feed_at(&mut mux, 1, picture)?;
+        feed_all(rt.alloc(), &mut mux, 2, false)?;
+        let before = (is_spent(&mux, 0), is_spent(&mux, 1));
+        let close = if breaks { Item::Broken } else { Item::End };
+        feed_at(&mut mux, 1, close)?;
+        assert_eq!(rt; (before, is_spent(&mux, 1), mux.fault()), ((true, false), true, None));
+        let packets = (mux.next_event(), mux.next_event(), mux.next_event());
+        let ends = (mux.next_event(), mux.next_event(), mux.next_event());
+        let picture = Some(Event::Sent(STREAM + 1, 0));
+        let times = (Some(Event::Sent(STREAM, 0)), Some(Event::Sent(STREAM, 68)));
+        assert_eq!(rt; packets, (picture, times.0, times.1));
+        let told = (
+            Some(Event::Finished(STREAM)),
+            Some(Event::Finished(STREAM + 1)),
+            None,
+        );
+        assert_eq!(rt; ends, told);
+        let mut wanted = String::new(rt.alloc());
+        wanted.push_str(TWO)?;
+        wanted.push_str(AT_0)?;
+        wanted.push_str(PICTURE_AT_0)?;
+        wanted.push_str(last)?;
+        let snk = mux.into_sink();
+        assert!(rt; snk.bytes() == wanted.as_bytes(), "{breaks}");
     }
     Ok(())
 }

@@ -1,12 +1,15 @@
-use Rattle.ff_muxing.proofs.StreamTells.{told_of_streams}
-use Rattle.ff_muxing.proofs.TellSteps.{all_of_stream, sent_times}
+use Rattle.ff_muxing.proofs.StreamTells.{told_of_streams, told_of_one}
+use Rattle.ff_muxing.proofs.TellSteps.{all_of_streams, sent_times}
 use Rattle.ff_muxing.proofs.laws.events_of_a_stream.Goals as goal
 
-pub returns-clause-stream : goal.returns-clause-stream
-returns-clause-stream c = all_of_stream
+pub returns-clause-streams : goal.returns-clause-streams
+returns-clause-streams c = all_of_streams
 
 pub returns-clause-times : goal.returns-clause-times
 returns-clause-times c = sent_times
 
 pub returns-clause-whole : goal.returns-clause-whole
 returns-clause-whole c = told_of_streams
+
+pub returns-clause-alone : goal.returns-clause-alone
+returns-clause-alone c = told_of_one

@@ -1,22 +1,33 @@
-use Rattle.std.specs.Prelude.{◌≡◌, ◌≤◌, ℕ, zero, suc, [], ◌∷◌, length, replicate}
-use Rattle.std.proofs.Common.{ap, arith, inl, inr, subst, sym}
+use Rattle.std.specs.Prelude.{◌≡◌, ◌+◌, ◌<◌, ◌≤◌, ℕ, zero, suc, List, [], ◌∷◌, length, Option, IsSome, replicate}
+use Rattle.std.proofs.Common.{ap, arith, inl, inr, subst, sym, ◌∙◌}
 use Rattle.ff_coders.specs.AnyCoders.{any_head, any_coded}
 use Rattle.ff_flac_coder.specs.Coding.{coded_head}
 use Rattle.ff_frame.specs.declared.item.Lane.{Lane}
 use Rattle.ff_frame.specs.declared.item.Lane.TheVariants.{Frames, Packets}
-use Rattle.ff_muxing.specs.Muxers.{mux_fault, mux_layout, mux_stands}
-use Rattle.ff_muxing.specs.Muxing.{mux_task_of}
-use Rattle.ff_net.specs.Pasts.{Past}
-use Rattle.ff_writers.specs.Layouts.{Layout}
+use Rattle.ff_frame.specs.Ports.{stream_at}
+use Rattle.ff_muxing.specs.Held.{part_by}
+use Rattle.ff_muxing.specs.Mixing.{bases_long}
+use Rattle.ff_muxing.specs.Muxing.{head_bases, head_lanes}
+use Rattle.ff_muxing.specs.Outputs.{layout_of}
+use Rattle.ff_muxing.specs.StreamEvents.{stream_events}
+use Rattle.ff_time.specs.Fraction.{Fraction}
+use Rattle.ff_values.specs.declared.head.StreamHead.{StreamHead}
 use Rattle.ff_running.specs.Kinds.{IsSourceOf, IsSinkOf}
 use Rattle.ff_build.specs.declared.part.Part.{Part}
 use Rattle.ff_build.specs.Parts.{all_kinds}
 use Rattle.ff_build.specs.PartViews.{part_view}
-use Rattle.ff_build.proofs.Sinks.{whole_of, part_of, told_of}
+use Rattle.ff_build.proofs.Sinks.{file_first, head_there, same_events, text_first}
 use Rattle.ff_build.proofs.parts.PartsKindsPart.into_ends.Goals as goal
 
 one_lane : (x : Lane) → (x ∷ []) ≡ [] → ⊥
 one_lane x e = cc
+
+no_lanes : (heads : List StreamHead) → 1 ≤ length heads → head_lanes heads ≡ [] → ⊥
+no_lanes [] some e = omega (arith, some)
+no_lanes (head ∷ heads) some e = cc
+
+below_heads : (heads : List StreamHead) (p : ℕ) → p < length (head_bases heads) → p < length heads
+below_heads heads p lt = let long = bases_long heads in omega (arith, lt, long)
 
 some_lanes : (n : ℕ) (x : Lane) → 1 ≤ n → replicate n x ≡ [] → ⊥
 some_lanes zero x some e = omega (arith, some)
@@ -49,16 +60,26 @@ pub returns : goal.returns
 returns g c =
     let K = g.Snk.Sink in
     let sink = c.into_sink.ensures in
-    let tasked : (past : Past) → mux_stands c.in-Mux.m past → (layout : Layout) × (past.task ≡ mux_task_of layout past.task.tells) = λ past s. (mux_layout c.in-Mux.m, s.0.1.task) in
     let GivesSink : Part g.row.Src.Denot g.row.Snk.Denot g.Snk.Sink → Type 0 =
     λ p. IsSinkOf all_kinds K.holds K.name K.faults (part_view g.Src.Source.left g.Src.Source.name g.Src.Source.faults p) c.into_sink.result × ((part_view g.Src.Source.left g.Src.Source.name g.Src.Source.faults p).in_lanes ≡ [] → ⊥) in
     subst GivesSink (sym c.in-Mux.is) (
       record {
         name = ap K.name sink.sink;
         faults = ap K.faults sink.sink;
-        whole = whole_of (K.holds c.into_sink.result) (mux_stands c.in-Mux.m) (mux_fault c.in-Mux.m) tasked sink.whole sink.front sink.told;
-        told = told_of (K.holds c.into_sink.result) (mux_stands c.in-Mux.m) (mux_fault c.in-Mux.m) tasked sink.whole sink.front sink.told;
-        part = part_of (K.holds c.into_sink.result) (mux_stands c.in-Mux.m) (mux_fault c.in-Mux.m) tasked sink.whole sink.front sink.told;
+        whole = λ past first out coded s is none w.
+            let layout = layout_of out.format out.hash coded in
+            let same = file_first layout coded past.got in
+            let h = sink.whole past first (head_bases coded) layout s is none (λ p lt. w p (below_heads coded p lt)) in
+            (subst (λ (o : Option (List ℕ)). IsSome o) same h.0, h.1 ∙ same);
+        told = λ past first out coded p head s is at closed.
+            let there = head_there coded p head at in
+            same_events (first + p) (past.task.tells past.feeds)
+            ∙ (sink.told past first (head_bases coded) (layout_of out.format out.hash coded) p s is there.0 closed
+            ∙ ap (λ (b : Fraction). stream_events (first + p) b (stream_at past.got p)) there.1);
+        part = λ past first out coded s is.
+            let layout = layout_of out.format out.hash coded in
+            part_by (K.holds c.into_sink.result) (text_first layout coded past.got) (file_first layout coded past.got)
+            (sink.front past first (head_bases coded) layout s is);
       },
-      one_lane (Packets c.in-Mux.m.head),
+      no_lanes c.in-Mux.m.heads.items c.in-Mux.m.some,
     )

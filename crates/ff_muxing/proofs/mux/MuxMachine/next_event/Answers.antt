@@ -1,7 +1,8 @@
 use Rattle.std.proofs.Common.{◌≡◌, ◌∷◌, ◌++◌, List, Option, ◌∙◌, ap, subst}
 use Rattle.std.specs.Prelude.{option_to_list}
-use Rattle.ff_values.specs.Heads.{base_of_head}
+use Rattle.ff_interleave.specs.Queues.{merging}
 use Rattle.ff_values.specs.declared.event.Event.{Event}
+use Rattle.ff_muxing.specs.Muxing.{head_bases}
 use Rattle.ff_muxing.specs.Telling.{TellsFed}
 use Rattle.ff_muxing.proofs.MuxSteps.{mux_told}
 use Rattle.ff_muxing.proofs.TellSteps.{tells_next}
@@ -10,12 +11,12 @@ use Rattle.ff_muxing.proofs.mux.MuxMachine.next_event.Goals as goal
 pub returns-clause-gives : goal.returns-clause-gives
 returns-clause-gives g c = λ e is past s.
     let m = c.args.self.now in
-    let base = base_of_head m.head in
+    let bases = head_bases m.heads.items in
     let rest = c.pop_front.new.self.items in
     let items : m.events.items ≡ e ∷ rest = c.pop_front.ensures.items ∙ ap (λ (o : Option Event). option_to_list o ++ rest) is in (
       (
-        mux_told (g.K.Sink.holds m.snk) (g.W.Writer.layout m.writer) (g.W.Writer.counts m.writer) m.totals m.head m.begun m.closed m.fault past e s.0,
-        tells_next m.stream base past e rest (subst (λ (es : List Event). TellsFed m.stream base es past.task.tells past.told past.feeds) items s.1),
+        mux_told (g.K.Sink.holds m.snk) (g.W.Writer.layout m.writer) (g.W.Writer.counts m.writer) m.totals m.heads.items m.unended m.begun (merging m.merge.queues.items) m.fault past e s.0,
+        tells_next m.first bases past e rest (subst (λ (es : List Event). TellsFed m.first bases es past.task.tells past.told past.feeds) items s.1),
       ),
       λ r. (let none = r.is_source in cc),
     )

@@ -1,0 +1,6 @@
+use Rattle.std.proofs.Common.{◌≡◌, take}
+use Rattle.ff_muxing.specs.Muxing.{head_bases}
+use Rattle.ff_muxing.proofs.mux.bases_of.Given as goal
+
+abbrev pub invariant-heads : goal.invariant-heads
+invariant-heads l = l.bases.items ≡ head_bases (take l.p l.heads)

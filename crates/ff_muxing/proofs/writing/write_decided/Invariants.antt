@@ -1,0 +1,24 @@
+use Rattle.std.proofs.Common.{◌≡◌, ◌≤◌, ℕ, List, length}
+use Rattle.ff_filter.specs.Joins.{silence}
+use Rattle.ff_interleave.specs.Merges.{Placed}
+use Rattle.ff_interleave.specs.Queues.{merging}
+use Rattle.ff_muxing.specs.Writing.{Alike, Wrote}
+use Rattle.ff_muxing.proofs.writing.write_decided.Given as goal
+
+abbrev pub invariant-packets : goal.invariant-packets
+invariant-packets g l =
+    let K = g.K.Sink in
+    let W = g.W.Writer in
+    record {
+      wrote : (ys : List Placed) × Wrote (W.layout l.fn.writer) (merging l.fn.merge.queues.items) (merging l.merge.queues.items) (K.holds l.fn.snk)
+          (K.holds l.snk) (W.counts l.fn.writer) (W.counts l.writer) ys;
+      alike : Alike (merging l.fn.merge.queues.items) (merging l.merge.queues.items);
+      written : K.written l.fn.snk ≤ K.written l.snk;
+      faults : K.faults l.snk ≡ K.faults l.fn.snk;
+      name : K.name l.snk ≡ K.name l.fn.snk;
+      layout : W.layout l.writer ≡ W.layout l.fn.writer;
+      still : (n : ℕ) → W.counts l.fn.writer n → (m : ℕ) × W.counts l.writer m;
+    }
+
+abbrev pub decreases-packets : goal.decreases-packets
+decreases-packets g l = length ((merging l.merge.queues.items).rest silence)
