@@ -20,8 +20,7 @@ use Rattle.ff_map.specs.declared.map.Kind.TheVariants as kind
 use Rattle.ff_mux.specs.FlacHead.{HasRoom}
 use Rattle.ff_muxing.specs.Outputs.{CanWrite}
 use Rattle.ff_pcm.specs.Frames.{IsPcmHead}
-use Rattle.ff_plan.specs.Today.{most_built}
-use Rattle.ff_plan.specs.Streams.{audio_codec, is_pcm, packed_as, packed_bits, takes_head, takes_kind, takes_sound}
+use Rattle.ff_plan.specs.Streams.{audio_codec, is_pcm, most_streams, packed_as, packed_bits, takes_head, takes_kind, takes_sound}
 use Rattle.ff_wav.specs.Packets as wav
 use Rattle.ff_words.specs.declared.job.FileFormat.{FileFormat}
 use Rattle.ff_words.specs.declared.job.FileFormat.TheVariants as format
@@ -171,17 +170,17 @@ written (Audio tb rate bits channels from) out read t =
 written (Video tb p width height sar_num sar_den) out read t = write_pictures out.format tb p width height sar_num sar_den t
 
 -- more than one stream are taken by framehash alone
-many_written : (f : FileFormat) (heads : List StreamHead) → 2 ≤ length heads → length heads ≤ most_built f → CanWrite f heads
+many_written : (f : FileFormat) (heads : List StreamHead) → 2 ≤ length heads → length heads ≤ most_streams f → CanWrite f heads
 many_written format.Wav heads some few = absurd (omega (arith, some, few))
 many_written format.Flac heads some few = absurd (omega (arith, some, few))
 many_written format.Y4m heads some few = absurd (omega (arith, some, few))
-many_written format.FrameHash heads some few = absurd (omega (arith, some, few))
+many_written format.FrameHash heads some few = (omega (arith, some), few)
 
 pub heads_are_written : (hs : List InputHead) (out : OutputJob) → AllByRecursion (λ h. IsHead h × (takes_head out (stream_in h) ≡ true)) hs
-    → 1 ≤ length hs → length hs ≤ most_built out.format → CanWrite out.format (map (λ h. packed_as out (stream_in h)) hs)
+    → 1 ≤ length hs → length hs ≤ most_streams out.format → CanWrite out.format (map (λ h. packed_as out (stream_in h)) hs)
 heads_are_written [] out all some few = absurd (omega (arith, some))
 heads_are_written (h ∷ []) out all some few = written (stream_in h) out (read_sound h all.0.0) all.0.1
 heads_are_written (h ∷ g ∷ hs) out all some few =
     let heads = map (λ k. packed_as out (stream_in k)) (h ∷ g ∷ hs) in
     let long : length heads ≡ length (h ∷ g ∷ hs) = length-map (h ∷ g ∷ hs) (λ k. packed_as out (stream_in k)) in
-    many_written out.format heads (omega arith) (subst (λ (n : ℕ). n ≤ most_built out.format) (sym long) few)
+    many_written out.format heads (omega arith) (subst (λ (n : ℕ). n ≤ most_streams out.format) (sym long) few)

@@ -15,8 +15,8 @@ use Rattle.ff_plan.specs.Layout.{IsAmong}
 use Rattle.ff_plan.specs.Plain.{plain, unfiltered, IsBare}
 use Rattle.ff_plan.specs.Planned.{labels_of, graphs_of, outputs_from}
 use Rattle.ff_plan.specs.Rules.{Planned, behind}
-use Rattle.ff_plan.specs.Streams.{Passed, as_pad, asked, chosen, some_or, front_with, takes_head, takes, packed_as, passed, all_passed, graph_of}
-use Rattle.ff_plan.specs.Today.{most_built, no_filters}
+use Rattle.ff_plan.specs.Streams.{Passed, as_pad, asked, chosen, some_or, front_with, takes_head, takes, packed_as, passed, all_passed, graph_of, most_streams}
+use Rattle.ff_plan.specs.Today.{no_filters}
 use Rattle.ff_plan.proofs.Among.{never}
 use Rattle.ff_plan.proofs.Fronts.{coded, passed_plain}
 use Rattle.ff_plan.proofs.Laid.{chosen_hold}
@@ -36,7 +36,7 @@ pub record IsOut (heads : List (List StreamHead)) (out : OutputJob) (s : OutStre
 pub record IsRow (heads : List (List StreamHead)) (out : OutputJob) (row : List OutStream) : Type 0 where
   pub each : AllByRecursion (IsOut heads out) row
   pub some : 1 ≤ length row
-  pub few : length row ≤ most_built out.format
+  pub few : length row ≤ most_streams out.format
 
 -- and of each output
 abbrev pub AreOuts : List (List StreamHead) → List OutputJob → List (List OutStream) → Type 0
@@ -93,17 +93,17 @@ module _ (heads : List (List StreamHead)) where
     is : ps ≡ map unfiltered row
     each : AllByRecursion (IsOut heads out) row
     as_many : length row ≡ length pads
-    few : n + length row ≤ most_built out.format
+    few : n + length row ≤ most_streams out.format
 
   row_from : (out : OutputJob) (o g n : ℕ) (pads : List InPad) (ps : List Passed) → IsBare out → all_passed no_filters out o g n pads ≡ Ok ps → AllByRecursion (Shows heads) pads
-      → n ≤ most_built out.format → IsRowFrom out n pads ps
+      → n ≤ most_streams out.format → IsRowFrom out n pads ps
   row_from out o g n [] ps bare h all le = record { row = []; is = sym (same_ok [] ps h); each = tt; as_many = refl; few = omega (arith, le) }
   row_from out o g n (i ∷ is) ps bare h all le =
       let first = behind_ok (passed no_filters out o g n i) (behind_first out o g n is) ps h in
       let f = g + length (graph_of first.0) in
       let rest = behind_ok (all_passed no_filters out o f (n + 1) is) (λ ys. Ok (first.0 ∷ [] ++ ys)) ps first.2 in
       let t = taken out o g n i first.0 bare first.1 in
-      let below : n < most_built out.format = is_below n (most_built out.format) (middle_of (takes_head out i.head) _ _ t.0) in
+      let below : n < most_streams out.format = is_below n (most_streams out.format) (middle_of (takes_head out i.head) _ _ t.0) in
       let more = row_from out o f (n + 1) is rest.0 bare rest.1 all.1 (omega (arith, below)) in
       let many = more.as_many in
       let fits = more.few in

@@ -12,8 +12,7 @@ use Rattle.ff_plan.specs.declared.planned.Plan.{Plan}
 use Rattle.ff_plan.specs.declared.planned.PlanNode.{PlanNode}
 use Rattle.ff_plan.specs.declared.planned.PlanNode.TheVariants as node
 use Rattle.ff_plan.specs.Choice.{head_at}
-use Rattle.ff_plan.specs.Streams.{packed_as, takes_head}
-use Rattle.ff_plan.specs.Today.{most_built}
+use Rattle.ff_plan.specs.Streams.{most_streams, packed_as, takes_head}
 
 -- each input has one stream
 abbrev pub HasSingles : List (List StreamHead) → Type 0
@@ -61,7 +60,7 @@ pub record FitsMux (heads : List (List StreamHead)) (outputs : List OutputJob) (
   pub taken : List StreamHead
   pub each : AllByRecursion (TakesFrames heads out) taken
   pub some : 1 ≤ length taken
-  pub few : length taken ≤ most_built out.format
+  pub few : length taken ≤ most_streams out.format
   pub ins : lanes_into edges k ≡ map (λ head. Packets (packed_as out head)) taken
   pub outs : lanes_out_of edges k ≡ []
 

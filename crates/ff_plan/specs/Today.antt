@@ -1,10 +1,9 @@
--- What is built: plans of jobs without graphs and without `-shortest`, of outputs of one stream each. A job that asks for more is refused by what it asks for
+-- What is built: plans of jobs without graphs and without `-shortest`. A job that asks for more is refused by what it asks for
 -- first: a graph over several streams, then by output a graph for its video, one for its audio, its `-shortest`.
 use Rattle.std.specs.Prelude.{ℕ, ◌+◌, false, List, [], ◌∷◌, Option, Some, None, Err}
 use Rattle.ff_values.specs.declared.config.ConfigError.TheVariants as config
 use Rattle.ff_values.specs.declared.head.StreamHead.{StreamHead}
 use Rattle.ff_lang.specs.declared.graph.Graph.{Graph}
-use Rattle.ff_words.specs.declared.job.FileFormat.{FileFormat}
 use Rattle.ff_words.specs.declared.job.Job.{Job}
 use Rattle.ff_words.specs.declared.job.OutputJob.{OutputJob}
 use Rattle.ff_plan.specs.declared.planned.Plan.{Plan}
@@ -13,6 +12,7 @@ use Rattle.ff_plan.specs.declared.planned.PlanError.TheVariants as fault
 use Rattle.ff_plan.specs.declared.planned.Unbuilt.TheVariants as part
 use Rattle.ff_plan.specs.Planned.{planned}
 use Rattle.ff_plan.specs.Rules.{Rules, Planned, or_else, unless, where_so}
+use Rattle.ff_plan.specs.Streams.{most_streams}
 
 abbrev pub unbuilt_complex : List Graph → Option PlanError
 unbuilt_complex [] = None
@@ -34,11 +34,7 @@ unbuilt_from o (out ∷ outs) = or_else (unbuilt_in o out) (unbuilt_from (o + 1)
 abbrev pub unbuilt : Job → Option PlanError
 unbuilt job = or_else (unbuilt_complex job.graphs) (unbuilt_from 0 job.outputs)
 
--- how many streams an output of a format can have
-abbrev pub most_built : FileFormat → ℕ
-most_built f = 1
-
--- no filter is built, no stream passes through one, no output has a Shortest node, and each has so many streams
+-- no filter is built, no stream passes through one, and no output has a Shortest node
 abbrev pub no_filters : Rules
 no_filters = record {
   map_of = λ text. None;
@@ -48,7 +44,7 @@ no_filters = record {
   configured = λ g hs. Err (record { filter = 0; kind = config.UnknownFilter });
   nulls = false;
   joint = false;
-  most = most_built;
+  most = most_streams;
 }
 
 abbrev pub planned_today : Job → List (List StreamHead) → Planned Plan

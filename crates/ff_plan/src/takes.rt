@@ -3,8 +3,8 @@ ghost use Rattle.std.specs.Prelude.{◌≡◌, []};
 ghost use Rattle.ff_plan.specs.Choice.{kind_of as kind_in};
 ghost use Rattle.ff_plan.specs.Streams.{takes_kind as kind_taken, audio_codec as codec_of_sound, codec_or, packed_bits as bits_packed, packed_as as head_packed};
 ghost use Rattle.ff_plan.specs.Streams.{is_pcm as of_pcm, takes_sound as sound_taken, takes_head as head_taken};
-ghost use Rattle.ff_plan.specs.Streams.{drops as is_dropped, simple_of, is_graph, is_pad as shows_pad, takes as is_taken, is_wanted};
-ghost use Rattle.ff_plan.specs.Today.{most_built, no_filters};
+ghost use Rattle.ff_plan.specs.Streams.{drops as is_dropped, simple_of, is_graph, is_pad as shows_pad, takes as is_taken, is_wanted, most_streams as streams_most};
+ghost use Rattle.ff_plan.specs.Today.{no_filters};
 
 use crate::layout::{InPad, Origin};
 use ff_map::Kind;
@@ -159,10 +159,10 @@ fn takes_head(out: &OutputJob, head: StreamHead) -> bool
 
 // How many streams an output of a format can have.
 fn most_streams(format: FileFormat) -> usize
-    ensures { result ≡ most_built format }
+    ensures { result ≡ streams_most format }
 {
     match format {
-        FileFormat::FrameHash => 1,
+        FileFormat::FrameHash => 16,
         FileFormat::Wav | FileFormat::Flac | FileFormat::Y4m => 1,
     }
 }

@@ -16,8 +16,7 @@ use Rattle.ff_plan.specs.declared.planned.PlanNode.TheVariants as node
 use Rattle.ff_plan.specs.Choice.{head_at}
 use Rattle.ff_plan.specs.Fitting as fitting
 use Rattle.ff_plan.specs.Numbers.{streams_between}
-use Rattle.ff_plan.specs.Streams.{packed_as, takes_head}
-use Rattle.ff_plan.specs.Today.{most_built}
+use Rattle.ff_plan.specs.Streams.{most_streams, packed_as, takes_head}
 use Rattle.ff_running.specs.Kinds.{KindsOf}
 use Rattle.ff_running.specs.Parts.{IsFitting, AreOrdered, HaveNumbers}
 use Rattle.ff_running.proofs.StreamNumbers.{one_past}
@@ -100,7 +99,7 @@ module _ (inputs outputs : ℕ) (nodes : List PlanNode) (kinds : fitting.HasKind
 module _ {H : Type 0} (is : KindsOf H) (outputs : List OutputJob) (heads : List H) (sound : All is.IsHead heads)
     (decodes : (h : H) → is.IsHead h → is.CanDecode (is.stream h))
     (encodes : (h : H) (out : OutputJob) → is.IsHead h → takes_head out (is.stream h) ≡ true → is.CanEncode (is.stream h) (packed_as out (is.stream h)))
-    (writes : (hs : List H) (out : OutputJob) → AllByRecursion (λ h. is.IsHead h × (takes_head out (is.stream h) ≡ true)) hs → 1 ≤ length hs → length hs ≤ most_built out.format
+    (writes : (hs : List H) (out : OutputJob) → AllByRecursion (λ h. is.IsHead h × (takes_head out (is.stream h) ≡ true)) hs → 1 ≤ length hs → length hs ≤ most_streams out.format
     → is.CanMux out (map (λ h. packed_as out (is.stream h)) hs)) where
   abbrev singles : List H → List (List StreamHead)
   singles hs = map (λ h. is.stream h ∷ []) hs

@@ -13,8 +13,8 @@ use Rattle.ff_plan.specs.declared.planned.PlanError.TheVariants.{NoMemory}
 use Rattle.ff_plan.specs.Fitting.{HasKinds, HasSingles, FitNodes}
 use Rattle.ff_plan.specs.Numbers.{HasFewStreams}
 use Rattle.ff_plan.specs.Plain.{IsRefused, IsWithinLimits}
-use Rattle.ff_plan.specs.Streams.{packed_as, takes_head}
-use Rattle.ff_plan.specs.Today.{most_built, planned_today}
+use Rattle.ff_plan.specs.Streams.{most_streams, packed_as, takes_head}
+use Rattle.ff_plan.specs.Today.{planned_today}
 use Rattle.ff_sched.specs.Routes.{AreRoutes}
 use Rattle.ff_running.specs.Kinds.{KindsOf}
 use Rattle.ff_running.specs.Meaning.{plan_for, refusal_of}
@@ -54,7 +54,7 @@ module _ {H : Type 0} (is : KindsOf H) (job : Job) (heads : List H) (accepted : 
 
   pub is_plan : (decodes : (h : H) → is.IsHead h → is.CanDecode (is.stream h))
       (encodes : (h : H) (out : OutputJob) → is.IsHead h → takes_head out (is.stream h) ≡ true → is.CanEncode (is.stream h) (packed_as out (is.stream h)))
-      (writes : (hs : List H) (out : OutputJob) → AllByRecursion (λ h. is.IsHead h × (takes_head out (is.stream h) ≡ true)) hs → 1 ≤ length hs → length hs ≤ most_built out.format
+      (writes : (hs : List H) (out : OutputJob) → AllByRecursion (λ h. is.IsHead h × (takes_head out (is.stream h) ≡ true)) hs → 1 ≤ length hs → length hs ≤ most_streams out.format
       → is.CanMux out (map (λ h. packed_as out (is.stream h)) hs))
       (lists : List (List StreamHead)) (count : ℕ) (plan : Plan) → lists ≡ streams → count ≡ length lists → planned_today job lists ≡ Ok plan → IsFed (shape_of plan.edges) (length plan.nodes) plan.edges
       → ((k : ℕ) → HasIns plan.edges k) → ((k : ℕ) → HasOuts plan.edges k) → HasKinds count (length job.outputs) plan.nodes → (HasSingles lists → FitNodes lists job.outputs plan)

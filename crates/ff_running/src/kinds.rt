@@ -7,8 +7,7 @@ ghost use Rattle.ff_net.specs.Pasts.{start};
 ghost use Rattle.ff_net.specs.Ways.{Flow};
 ghost use Rattle.ff_files.specs.Works.{HoldsPart};
 ghost use Rattle.std.specs.List.{AllByRecursion};
-ghost use Rattle.ff_plan.specs.Streams.{packed_as, takes_head};
-ghost use Rattle.ff_plan.specs.Today.{most_built};
+ghost use Rattle.ff_plan.specs.Streams.{most_streams, packed_as, takes_head};
 ghost use Rattle.ff_words.specs.declared.job.OutputJob.{OutputJob};
 ghost use Rattle.ff_values.specs.declared.head.StreamHead.{StreamHead};
 ghost use Rattle.ff_running.specs.Events.{TellOfThemselves};
@@ -96,7 +95,7 @@ pub trait Kinds<Src: Source + Send + Drop, Snk: Sink + Send + Drop, Part: Machin
 
     /// and written to it: some streams, and no more than its format holds.
     ghost writes: { (hs : List Self.Head) (out : OutputJob) → AllByRecursion (λ h. is.IsHead h × (takes_head out (is.stream h) ≡ true)) hs
-        → 1 ≤ length hs → length hs ≤ most_built out.format → is.CanMux out (map (λ h. packed_as out (is.stream h)) hs) };
+        → 1 ≤ length hs → length hs ≤ most_streams out.format → is.CanMux out (map (λ h. packed_as out (is.stream h)) hs) };
 
     /// Each node tells of its own input or output alone.
     ghost own: { TellOfThemselves is };
