@@ -263,9 +263,12 @@ module _ (holds now : Option (List ℕ)) (layout : Layout) (counts counts' : ℕ
   mux_after some same =
       let clash : fault ≡ None → ⊥ = λ e. let b : false ≡ true = sym (ap is_some e) ∙ some in cc in
       let r = s.1.front.0 in
-      fed_one fault s.0 (same ∙ s.1.told) (λ e. absurd (clash e)) (λ e. absurd (clash e)) (λ e. absurd (clash e)) (λ e w. absurd (clash e)) (λ e w. absurd (clash e))
-      (r, below_trans r was is s.1.front.1 above, s.1.front.2,
-      held_open layout (totals_in bases past.got) (totals_in bases then_got) s.0 r (below_open r was s.1.front.1 was_open) s.1.front.3)
+      fed_one fault s.0 (same ∙ s.1.told) (λ e. absurd (clash e)) (λ e. absurd (clash e)) (λ e. absurd (clash e)) (λ e w. absurd (clash e)) (λ e w. absurd (clash e)) (
+        r,
+        below_trans r was is s.1.front.1 above,
+        s.1.front.2,
+        held_open layout (totals_in bases past.got) (totals_in bases then_got) s.0 r (below_open r was s.1.front.1 was_open) s.1.front.3,
+      )
       (λ c e i. causes_grow layout bases past.got then_got c (all_above past.got port x o) (s.1.caused c e i))
 
   -- without one the merge took the item in

@@ -24,6 +24,7 @@ pub(crate) fn left_with(unended: usize, item: &Item) -> usize
 {
     match item {
         Item::End => unended.saturating_sub(1),
-        Item::Audio(_) | Item::Video(_) | Item::Packet(_) | Item::Trailer(_) | Item::Broken => unended,
+        Item::Audio(_) | Item::Video(_) | Item::Packet(_) | Item::Trailer(_) | Item::Broken =>
+            unended,
     }
 }

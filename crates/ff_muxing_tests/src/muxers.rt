@@ -424,7 +424,8 @@ const TWO: &str = "#format: frame checksums
 const AT_0: &str = "0,          0,          0,        3,        3, 900150983cd24fb0d6963f7d28e17f72
 ";
 
-const PICTURE_AT_0: &str = "1,          0,          0,        3,        3, 900150983cd24fb0d6963f7d28e17f72
+const PICTURE_AT_0: &str =
+    "1,          0,          0,        3,        3, 900150983cd24fb0d6963f7d28e17f72
 ";
 
 const AT_3: &str = "0,          3,          3,        3,        3, 900150983cd24fb0d6963f7d28e17f72
@@ -441,7 +442,10 @@ fn writes_two_streams(rt: HostRuntime) -> Result<(), AllocError> {
         let before = (is_spent(&mux, 0), is_spent(&mux, 1));
         let close = if breaks { Item::Broken } else { Item::End };
         feed_at(&mut mux, 1, close)?;
-        assert_eq!(rt; (before, is_spent(&mux, 1), mux.fault()), ((true, false), true, None));
+        assert_eq!(rt;
+            (before, is_spent(&mux, 1), mux.fault()),
+            ((true, false), true, None)
+        );
         let packets = (mux.next_event(), mux.next_event(), mux.next_event());
         let ends = (mux.next_event(), mux.next_event(), mux.next_event());
         let picture = Some(Event::Sent(STREAM + 1, 0));
