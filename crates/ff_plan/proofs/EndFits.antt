@@ -388,7 +388,7 @@ packed_at out (p ∷ qs) (suc j) s all e = packed_at out qs j s all.1 e
 module _ (rules : Rules) (job : Job) (heads : List (List StreamHead)) (l : Layout) (come : ComeInOrder (feeds job.graphs) (length job.graphs) [] (graph_order job.graphs))
     (w : Walked rules job heads l) where
   abbrev whole : Layout
-  whole = layout_of rules heads w.made w.rows
+  whole = layout_of rules job heads w.made w.rows
 
   laid_whole : IsLaid whole
   laid_whole = subst IsLaid (sym w.is) (walked_laid rules job heads l come w)

@@ -24,7 +24,8 @@ use Rattle.ff_plan.specs.declared.layout.OutStream.{OutStream}
 use Rattle.ff_plan.specs.declared.layout.Placed.{Placed}
 use Rattle.ff_plan.specs.Choice.{kind_of}
 use Rattle.ff_plan.specs.Graphs.{AreRules}
-use Rattle.ff_plan.specs.GraphFits.{GraphText, Complex, simple_in, graph_text, simple_or_null, texts_of_laid, texts_of_row, texts_from, graph_texts, FitsGraph, GraphsFit}
+use Rattle.ff_plan.specs.GraphFits.{FitsGraph, GraphsFit}
+use Rattle.ff_plan.specs.Texts.{GraphText, Complex, simple_in, graph_text, simple_or_null, texts_of_laid, texts_of_row, texts_from}
 use Rattle.ff_plan.specs.Laws.{IsLaid}
 use Rattle.ff_plan.specs.Layout.{IsAmong, Laid, Layout, placed, used, used_inputs}
 use Rattle.ff_plan.specs.Nodes.{before_graphs, before_shortests, shortests, output_numbers, nodes_of, wires_of, plan_of}
@@ -259,7 +260,7 @@ module _ (rules : Rules) (are : AreRules rules) (job : Job) (heads : List (List 
   made = w.made
 
   abbrev whole : Layout
-  whole = layout_of rules heads w.made w.rows
+  whole = layout_of rules job heads w.made w.rows
 
   abbrev simples : List Laid
   simples = flat_map (λ ps. flat_map graph_of ps) w.rows
@@ -328,7 +329,7 @@ module _ (rules : Rules) (are : AreRules rules) (job : Job) (heads : List (List 
   in_comes y iy i ii = elim (among_either y complexes simples iy) [
     | inl c ↦ (let m = of_map (λ (m : Made). m.laid) y made c in let s = standing_here m.0 m.1 in
         subst (λ (ms : List Made). Comes heads ms i) s.is (comes_left heads s.front (m.0 ∷ s.rest) i
-        (each_of (Comes heads s.front) i m.0.laid.ins (ins_from rules job.graphs heads made w.rows come w.are_made m.0 s) (subst (λ (z : Laid). IsAmong i z.ins) (sym m.2) ii))))
+        (each_of (Comes heads s.front) i m.0.laid.ins (ins_from rules job heads made w.rows come w.are_made m.0 s) (subst (λ (z : Laid). IsAmong i z.ins) (sym m.2) ii))))
     | inr b ↦ (let a = of_flat (λ (ps : List Passed). flat_map graph_of ps) y w.rows b in let c = of_flat graph_of y a.0 a.2 in
         in_simple y i c.0 (each_of Passing c.0 a.0 (each_of (λ ps. AllByRecursion Passing ps) a.0 w.rows all_passing a.1) c.1) c.2 ii)
   ]
@@ -506,35 +507,19 @@ module _ (rules : Rules) (are : AreRules rules) (job : Job) (heads : List (List 
   abbrev HasAll : Type 0
   HasAll = HasNoLoop (feeds job.graphs) (length job.graphs) → (g : ℕ) → g < length job.graphs → is_in (graph_order job.graphs) g ≡ true
 
-  abbrev texts_by : List (List Passed) → Planned (List GraphText)
-  texts_by rows = Ok (map (λ g. Complex g) (numbers job.graphs) ++ texts_from 0 job.outputs rows)
-
-  abbrev rows_by : List Made → Planned (List (List Passed))
-  rows_by made = outputs_from rules (inside_of heads job made) 0 (length job.graphs) (taken_labels job.graphs) (unlabelled made (numbers job.graphs)) job.outputs
-
-  texts_are : (l : Layout) (w : Walked rules job heads l) → graph_texts rules job heads ≡ texts_by w.rows
-  texts_are l w =
-      ap (λ (r : Planned (List Made)). behind r (λ made. behind (rows_by made) texts_by)) w.made_is
-      ∙ ap (λ (r : Planned (List (List Passed))). behind r texts_by) w.rows_are
-
   layout_fits : (l : Layout) (w : Walked rules job heads l) → IsOrder → HasAll → 1 ≤ length job.outputs → (k g : ℕ) → slice_get (nodes_of l) k ≡ Some (node.Graph g)
-      → FitsGraph rules job (map (λ g. Complex g) (numbers job.graphs) ++ texts_from 0 job.outputs w.rows) (edges_of (wires_of l)) k g
+      → FitsGraph rules job l.texts (edges_of (wires_of l)) k g
   layout_fits l w come all_in some k g e =
       let e_whole = subst (λ (y : Layout). slice_get (nodes_of y) k ≡ Some (node.Graph g)) (sym w.is) e in
-      let whole_ = layout_of rules heads w.made w.rows in
+      let whole_ = layout_of rules job heads w.made w.rows in
       let laid_ = subst IsLaid (sym w.is) (walked_laid rules job heads l come w) in
       let at = graph_node whole_ k g e_whole in
       let fits = fits_graph rules are job heads l w come all_in some laid_ k at.0 at.1 at.2.0 at.2.1 in
-      subst (λ (y : Layout). FitsGraph rules job (map (λ g. Complex g) (numbers job.graphs) ++ texts_from 0 job.outputs w.rows) (edges_of (wires_of y)) k g) w.is
-      (subst (λ (h : ℕ). FitsGraph rules job (map (λ g. Complex g) (numbers job.graphs) ++ texts_from 0 job.outputs w.rows) (edges_of (wires_of whole_)) k h) at.2.2 fits)
+      subst (λ (y : Layout). FitsGraph rules job y.texts (edges_of (wires_of y)) k g) w.is
+      (subst (λ (h : ℕ). FitsGraph rules job whole_.texts (edges_of (wires_of whole_)) k h) at.2.2 fits)
 
-  pub graphs_fit : (p : Plan) → IsOrder → HasAll → 1 ≤ length job.outputs → planned rules job heads ≡ Ok p → GraphsFit rules job heads p
+  pub graphs_fit : (p : Plan) → IsOrder → HasAll → 1 ≤ length job.outputs → planned rules job heads ≡ Ok p → GraphsFit rules job p
   graphs_fit p come all_in some h =
       let at = behind_ok (laid_out rules job heads) (λ l. Ok (plan_of l)) p h in
-      let l = at.0 in
-      let w = walked rules job heads l come at.1 in
-      subst (λ (q : Plan). GraphsFit rules job heads q) (same_ok (plan_of l) p at.2) (record {
-        texts = map (λ g. Complex g) (numbers job.graphs) ++ texts_from 0 job.outputs w.rows;
-        are = texts_are l w;
-        fit = layout_fits l w come all_in some;
-      })
+      let w = walked rules job heads at.0 come at.1 in
+      subst (λ (q : Plan). GraphsFit rules job q) (same_ok (plan_of at.0) p at.2) (layout_fits at.0 w come all_in some)

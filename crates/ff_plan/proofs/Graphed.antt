@@ -115,7 +115,7 @@ pub record Walked (rules : Rules) (job : Job) (heads : List (List StreamHead)) (
   pub are_made : AreMade rules job.graphs (all_wants rules heads job.graphs) [] (graph_order job.graphs) made
   pub rows : List (List Passed)
   pub outputs : AreOutputs rules (inside_of heads job made) (length job.graphs) (taken_labels job.graphs) (unlabelled made (numbers job.graphs)) job.outputs rows
-  pub is : layout_of rules heads made rows ≡ l
+  pub is : layout_of rules job heads made rows ≡ l
   pub made_is : make_all rules heads job.graphs ≡ Ok made
   pub rows_are : outputs_from rules (inside_of heads job made) 0 (length job.graphs) (taken_labels job.graphs) (unlabelled made (numbers job.graphs)) job.outputs ≡ Ok rows
   pub labels : labels_fault rules heads job.graphs ≡ None
@@ -144,7 +144,7 @@ module _ (rules : Rules) (job : Job) (heads : List (List StreamHead)) (l : Layou
       let all = made_all rules job.graphs (all_wants rules heads job.graphs) [] (graph_order job.graphs) made.0 (below_all job.graphs [] (graph_order job.graphs) come) made.1 in
       let many = where_so (nat_lt 16 (length (flat_map (λ ps. ps) outs.0))) fault.TooManyStreams in
       let wide = where_so (nat_lt 16 (length job.graphs + simple_graphs outs.0)) fault.TooManyGraphs in
-      let done : Planned Layout = Ok (layout_of rules heads made.0 outs.0) in
+      let done : Planned Layout = Ok (layout_of rules job heads made.0 outs.0) in
       let narrow : Planned Layout = unless wide done in
       let few : Planned Layout = unless many narrow in
       record {
@@ -152,7 +152,7 @@ module _ (rules : Rules) (job : Job) (heads : List (List StreamHead)) (l : Layou
         are_made = subst (λ (ms : List Made). AreMade rules job.graphs (all_wants rules heads job.graphs) [] (graph_order job.graphs) ms) all.1 all.2;
         rows = outs.0;
         outputs = outputs_are rules (inside_of heads job made.0) 0 (length job.graphs) (taken_labels job.graphs) (unlabelled made.0 (numbers job.graphs)) job.outputs outs.0 outs.1;
-        is = same_ok (layout_of rules heads made.0 outs.0) l (unless_ok wide done l (unless_ok many narrow l (unless_ok (unused_label job) few l outs.2)));
+        is = same_ok (layout_of rules job heads made.0 outs.0) l (unless_ok wide done l (unless_ok many narrow l (unless_ok (unused_label job) few l outs.2)));
         made_is = made.1;
         rows_are = outs.1;
         labels = none_of (labels_fault rules heads job.graphs) next l h;
@@ -199,9 +199,9 @@ there_more : (l : Layout) (a b : ℕ) (source : Origin) → a ≤ b → IsThere 
 there_more l a b (origin.Stream s) le is = is
 there_more l a b (origin.Pad g p) le is = omega (arith, le, is)
 
-module _ (rules : Rules) (graphs : List Graph) (heads : List (List StreamHead)) (made : List Made) (rows : List (List Passed)) where
+module _ (rules : Rules) (job : Job) (heads : List (List StreamHead)) (made : List Made) (rows : List (List Passed)) where
   abbrev whole : Layout
-  whole = layout_of rules heads made rows
+  whole = layout_of rules job heads made rows
 
   abbrev simples : List Laid
   simples = flat_map (λ ps. flat_map graph_of ps) rows
@@ -234,18 +234,18 @@ module _ (rules : Rules) (graphs : List Graph) (heads : List (List StreamHead)) 
   fresh_laid g [] all = tt
   fresh_laid g (m ∷ ms) all = (all.0, fresh_laid g ms all.1)
 
-  module _ (come : ComeInOrder (feeds graphs) (length graphs) [] (graph_order graphs)) (are : AreMade rules graphs (all_wants rules heads graphs) [] (graph_order graphs) made) where
-    pub stand : AllByRecursion (Stands rules graphs (all_wants rules heads graphs) made) made
-    stand = all_stand rules graphs (all_wants rules heads graphs) [] (graph_order graphs) made are come made refl
+  module _ (come : ComeInOrder (feeds job.graphs) (length job.graphs) [] (graph_order job.graphs)) (are : AreMade rules job.graphs (all_wants rules heads job.graphs) [] (graph_order job.graphs) made) where
+    pub stand : AllByRecursion (Stands rules job.graphs (all_wants rules heads job.graphs) made) made
+    stand = all_stand rules job.graphs (all_wants rules heads job.graphs) [] (graph_order job.graphs) made are come made refl
 
     -- inputs of a complex graph
-    pub ins_from : (m : Made) (s : Stands rules graphs (all_wants rules heads graphs) made m) → AllByRecursion (Comes heads s.front) m.laid.ins
+    pub ins_from : (m : Made) (s : Stands rules job.graphs (all_wants rules heads job.graphs) made m) → AllByRecursion (Comes heads s.front) m.laid.ins
     ins_from m s = subst (λ (is : List InPad). AllByRecursion (Comes heads s.front) is) (sym s.how.ins)
-        (ins_come rules heads graphs s.front (rules.open_ins s.how.text) (slice_index_or (all_wants rules heads graphs) s.number []) (wants_fit rules heads graphs [] graphs s.number s.how.text s.how.there))
+        (ins_come rules heads job.graphs s.front (rules.open_ins s.how.text) (slice_index_or (all_wants rules heads job.graphs) s.number []) (wants_fit rules heads job.graphs [] job.graphs s.number s.how.text s.how.there))
 
     complex_there : (m : Made) (i : InPad) → IsAmong m made → IsAmong i m.laid.ins → IsThere whole (position_or_len (has m.laid.graph) whole.graphs) i.source
     complex_there m i im ii =
-        let s = each_of (Stands rules graphs (all_wants rules heads graphs) made) m made stand im in
+        let s = each_of (Stands rules job.graphs (all_wants rules heads job.graphs) made) m made stand im in
         let from = each_of (Comes heads s.front) i m.laid.ins (ins_from m s) ii in
         let there = comes_there s.front (m ∷ s.rest) i s.is from in
         let low = place_right (has s.number) (map (λ m. m.laid) s.front) (map (λ m. m.laid) (m ∷ s.rest) ++ simples) (fresh_laid s.number s.front s.fresh) in
@@ -267,7 +267,7 @@ module _ (rules : Rules) (graphs : List Graph) (heads : List (List StreamHead)) 
     simple_shown out g i p f (inr o) = absurd (no_pad i.source f.at f.from o.maker.laid.graph o.pad (sym (ap (λ (j : InPad). j.source) o.is)))
 
     abbrev Passing : Passed → Type 0
-    Passing p = Passes rules (record { heads = heads; graphs = graphs; made = made }) p
+    Passing p = Passes rules (record { heads = heads; graphs = job.graphs; made = made }) p
 
     simple_ins : (before : ℕ) (x : Laid) (i : InPad) (p : Passed) → Passing p → IsAmong x (graph_of p) → IsAmong i x.ins → IsThere whole before i.source
     simple_ins before x i p w ix ii = elim w.how [
@@ -313,7 +313,7 @@ module _ (rules : Rules) (job : Job) (heads : List (List StreamHead)) (l : Layou
   walked_laid w =
       let pass = outputs_pass rules (inside_of heads job w.made) (length job.graphs) (taken_labels job.graphs) (unlabelled w.made (numbers job.graphs)) job.outputs w.rows w.outputs
       (unlabelled_come heads w.made (numbers job.graphs)) in
-      subst IsLaid w.is (all_laid rules job.graphs heads w.made w.rows come w.are_made pass)
+      subst IsLaid w.is (all_laid rules job heads w.made w.rows come w.are_made pass)
 
   pub laid : laid_out rules job heads ≡ Ok l → IsLaid l
   laid h = walked_laid (walked rules job heads l come h)

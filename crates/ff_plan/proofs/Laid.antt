@@ -159,9 +159,9 @@ pub place_holds : (T : OutStream → Type 0) (n o : ℕ) (rows : List (List OutS
 place_holds T n o [] all = tt
 place_holds T n o (row ∷ rows) all = all_joined (λ p. T p.what) (place_row n o 0 row) (place_from (n + length row) (o + 1) rows) (row_holds T n o 0 row all.0) (place_holds T (n + length row) (o + 1) rows all.1)
 
-module _ (rules : Rules) (heads : List (List StreamHead)) (outs : List (List Passed)) where
+module _ (rules : Rules) (job : Job) (heads : List (List StreamHead)) (outs : List (List Passed)) where
   abbrev whole : Layout
-  whole = layout_of rules heads [] outs
+  whole = layout_of rules job heads [] outs
 
   -- a stream of an input is there, wherever it is asked for
   known_there : (before : ℕ) (source : Origin) → IsKnown rules heads source → IsThere whole before source
@@ -207,7 +207,7 @@ module _ (rules : Rules) (heads : List (List StreamHead)) where
   from_limits : (job : Job) (outs : List (List Passed)) (l : Layout) → limited rules job heads [] outs ≡ Ok l → AllCome rules heads outs → IsLaid l
   from_limits job outs l h come =
       let is = unless_ok (where_so (nat_lt 16 (length job.graphs + simple_graphs outs)) fault.TooManyGraphs) _ l (unless_ok (where_so (nat_lt 16 (length (flat_map (λ ps. ps) outs))) fault.TooManyStreams) _ l (unless_ok (unused_label job) _ l h)) in
-      subst IsLaid (same_ok (layout_of rules heads [] outs) l is) (is_laid rules heads outs come)
+      subst IsLaid (same_ok (layout_of rules job heads [] outs) l is) (is_laid rules job heads outs come)
 
   pub laid : (job : Job) (l : Layout) → IsLaidOut rules job heads l → IsLaid l
   laid job l (none, h) =

@@ -129,7 +129,7 @@ module _ (heads : List (List StreamHead)) where
   limited_free : (job : Job) (outs : List (List Passed)) → IsFree (limited no_filters (bare job heads) heads [] outs)
   limited_free job outs =
       unless_free (where_so (nat_lt 16 (length (flat_map (λ ps. ps) outs))) fault.TooManyStreams) _ (where_free (nat_lt 16 (length (flat_map (λ ps. ps) outs))) fault.TooManyStreams refl)
-      (unless_free (where_so (nat_lt 16 (0 + simple_graphs outs)) fault.TooManyGraphs) (Ok (layout_of no_filters heads [] outs)) (where_free (nat_lt 16 (0 + simple_graphs outs)) fault.TooManyGraphs refl) tt)
+      (unless_free (where_so (nat_lt 16 (0 + simple_graphs outs)) fault.TooManyGraphs) (Ok (layout_of no_filters (bare job heads) heads [] outs)) (where_free (nat_lt 16 (0 + simple_graphs outs)) fault.TooManyGraphs refl) tt)
 
   planned_free : (job : Job) (u : Option PlanError) → unbuilt job ≡ u → IsFreeFault u → IsFree (planned_today job heads)
   planned_free job None e h =

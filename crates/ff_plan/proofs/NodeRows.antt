@@ -61,7 +61,7 @@ module _ (rules : Rules) (job : Job) (heads : List (List StreamHead)) (l : Layou
     (come : ComeInOrder (feeds job.graphs) (length job.graphs) [] (graph_order job.graphs))
     (all_in : HasNoLoop (feeds job.graphs) (length job.graphs) → (g : ℕ) → g < length job.graphs → is_in (graph_order job.graphs) g ≡ true) where
   abbrev whole : Layout
-  whole = layout_of rules heads w.made w.rows
+  whole = layout_of rules job heads w.made w.rows
 
   abbrev simples : List Laid
   simples = flat_map (λ ps. flat_map graph_of ps) w.rows
@@ -170,4 +170,4 @@ have_rows rules job heads p come all_in limits h =
     let w = walked rules job heads at.0 come at.1 in
     let small = subst (λ (l : Layout). length (placed l) ≤ 16) (sym w.is) (few rules job heads at.0 at.1) in
     subst (λ (q : Plan). HasRows (length heads) (length job.outputs) q.nodes) (ap (λ (l : Layout). plan_of l) w.is ∙ same_ok (plan_of at.0) p at.2)
-    (subst (λ (k : ℕ). HasRows (length heads) k (nodes_of (layout_of rules heads w.made w.rows))) (outputs_count rules job heads at.0 w come all_in) (whole_rows rules job heads at.0 w come all_in limits small))
+    (subst (λ (k : ℕ). HasRows (length heads) k (nodes_of (layout_of rules job heads w.made w.rows))) (outputs_count rules job heads at.0 w come all_in) (whole_rows rules job heads at.0 w come all_in limits small))

@@ -293,7 +293,7 @@ module _ (rules : Rules) (are : AreRules rules) (job : Job) (heads : List (List 
   clear_at g text at = clear rules.known (λ label. is_some (stream_of_label rules heads label)) graphs fine g text at
 
   pub standing : AllByRecursion StandsIn made
-  standing = stand rules graphs heads made w.rows come w.are_made
+  standing = stand rules job heads made w.rows come w.are_made
 
   order_once : (g : ℕ) → g < length graphs → tally (λ x. x == g) (graph_order graphs) ≡ 1
   order_once g lt =

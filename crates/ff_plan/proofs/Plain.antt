@@ -73,7 +73,7 @@ module _ (rules : Rules) (heads : List (List StreamHead)) (nulls : rules.nulls �
   from_limits : (job : Job) (outs : List (List Passed)) (l : Layout) → limited rules job heads [] outs ≡ Ok l → AllBare outs → l.graphs ≡ []
   from_limits job outs l h bare =
       let is = unless_ok (where_so (nat_lt 16 (length job.graphs + simple_graphs outs)) fault.TooManyGraphs) _ l (unless_ok (where_so (nat_lt 16 (length (flat_map (λ ps. ps) outs))) fault.TooManyStreams) _ l (unless_ok (unused_label job) _ l h)) in
-      subst (λ (l : Layout). l.graphs ≡ []) (same_ok (layout_of rules heads [] outs) l is) (flats_none outs bare)
+      subst (λ (l : Layout). l.graphs ≡ []) (same_ok (layout_of rules job heads [] outs) l is) (flats_none outs bare)
 
   no_graphs : (job : Job) (l : Layout) → job.graphs ≡ [] → laid_out rules job heads ≡ Ok l → AllByRecursion IsBare job.outputs → l.graphs ≡ []
   no_graphs job l none h bare_outs =

@@ -114,7 +114,7 @@ module _ (rules : Rules) (are : AreRules rules) (job : Job) (heads : List (List 
   made = w.made
 
   abbrev whole : Layout
-  whole = layout_of rules heads w.made w.rows
+  whole = layout_of rules job heads w.made w.rows
 
   abbrev simples : List Laid
   simples = flat_map (λ ps. flat_map graph_of ps) w.rows
@@ -189,7 +189,7 @@ module _ (rules : Rules) (are : AreRules rules) (job : Job) (heads : List (List 
         ∙ total_zero (λ (x : Laid). tally (pad_is h q) (map (λ (i : InPad). i.source) x.ins)) complexes (λ x i.
         (let m = of_map (λ (m : Made). m.laid) x made i in
         let s = each_of (Stands rules job.graphs (all_wants rules heads job.graphs) made) m.0 made (standing rules are job heads l w come all_in some_outputs) m.1 in
-        let from = ins_from rules job.graphs heads made w.rows come w.are_made m.0 s in
+        let from = ins_from rules job heads made w.rows come w.are_made m.0 s in
         subst (λ (y : Laid). tally (pad_is h q) (map (λ (i : InPad). i.source) y.ins) ≡ 0) m.2
         (tally_map (pad_is h q) (λ (i : InPad). i.source) m.0.laid.ins ∙ tally_none (shows_pad h q) m.0.laid.ins (λ j a.
         comes_low j (subst (λ (ms : List Made). Comes heads ms j) s.is (comes_left heads s.front (m.0 ∷ s.rest) j (each_of (Comes heads s.front) j m.0.laid.ins from a))) le))))

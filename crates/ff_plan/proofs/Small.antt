@@ -55,4 +55,4 @@ few rules job heads l h =
     let small : count ≤ 16 = where_none count fault.TooManyStreams (unless_none (where_so (nat_lt 16 count) fault.TooManyStreams) _ l at) in
     let is = unless_ok (where_so (nat_lt 16 (length job.graphs + simple_graphs o.0)) fault.TooManyGraphs) _ l (unless_ok (where_so (nat_lt 16 count) fault.TooManyStreams) _ l at) in
     let many = as_many 0 0 o.0 in
-    subst (λ (l : Layout). length (placed l) ≤ 16) (same_ok (layout_of rules heads m.0 o.0) l is) (omega (arith, many, small))
+    subst (λ (l : Layout). length (placed l) ≤ 16) (same_ok (layout_of rules job heads m.0 o.0) l is) (omega (arith, many, small))

@@ -348,7 +348,7 @@ module _ (rules : Rules) (are : AreRules rules) (job : Job) (heads : List (List 
     (all_in : HasNoLoop (feeds job.graphs) (length job.graphs) → (g : ℕ) → g < length job.graphs → is_in (graph_order job.graphs) g ≡ true)
     (some_outputs : 1 ≤ length job.outputs) where
   abbrev whole : Layout
-  whole = layout_of rules heads w.made w.rows
+  whole = layout_of rules job heads w.made w.rows
 
   laid_whole : IsLaid whole
   laid_whole = subst IsLaid (sym w.is) (walked_laid rules job heads l come w)

@@ -22,6 +22,7 @@ use Rattle.ff_plan.specs.Plain.{plain, plain_layout, plain_plan, rows, unfiltere
 use Rattle.ff_plan.specs.Planned.{outputs_from, limited, planned, simple_graphs, layout_of}
 use Rattle.ff_plan.specs.Rules.{Planned, behind, unless, or_else, where_so}
 use Rattle.ff_plan.specs.Streams.{Passed, graph_of}
+use Rattle.ff_plan.specs.Texts.{GraphText, texts_from, texts_of_laid}
 use Rattle.ff_plan.specs.Today.{no_filters, unbuilt, unbuilt_complex, unbuilt_simple, unbuilt_in, unbuilt_from, planned_today}
 use Rattle.ff_plan.proofs.Fronts.{fine, no_graphs}
 use Rattle.ff_plan.proofs.Layouts.{map_length}
@@ -94,6 +95,12 @@ all_bare o (out ∷ outs) h = (bare_in o out (or_first (unbuilt_in o out) (unbui
 pub outputs_are_bare : (job : Job) → unbuilt job ≡ None → AllByRecursion IsBare job.outputs
 outputs_are_bare job h = all_bare 0 job.outputs (or_second (unbuilt_complex job.graphs) (unbuilt_from 0 job.outputs) h)
 
+-- without graphs there are no texts of any
+no_texts : (o : ℕ) (outs : List OutputJob) (rs : List (List OutStream)) → texts_from o outs (through rs) ≡ []
+no_texts o [] rs = refl
+no_texts o (out ∷ outs) [] = refl
+no_texts o (out ∷ outs) (r ∷ rs) = ap (λ (gs : List Laid). flat_map (texts_of_laid o out) gs ++ texts_from (o + 1) outs (through rs)) (no_graphs r) ∙ no_texts (o + 1) outs rs
+
 -- ---- the plan
 
 module _ (job : Job) (heads : List (List StreamHead)) where
@@ -121,16 +128,19 @@ module _ (job : Job) (heads : List (List StreamHead)) where
   layout_is rs le =
       let streams = length (flat_map (λ ps. ps) (through rs)) in
       let few : streams ≤ 16 = (let e = counted_streams rs in omega (arith, e, le)) in
-      ap (λ (b : Bool). unless (where_so b fault.TooManyStreams) (unless (where_so (nat_lt 16 (0 + simple_graphs (through rs))) fault.TooManyGraphs) (Ok (layout_of no_filters heads [] (through rs))))) (is_few streams few)
+      ap (λ (b : Bool). unless (where_so b fault.TooManyStreams) (unless (where_so (nat_lt 16 (0 + simple_graphs (through rs))) fault.TooManyGraphs) (Ok (layout_of no_filters bare heads [] (through rs))))) (is_few streams few)
       ∙ (ap (λ (gs : List Laid). unless (where_so (nat_lt 16 (0 + length gs)) fault.TooManyGraphs)
-      (Ok (record { heads = heads; graphs = gs; outputs = map (λ (ps : List Passed). map (λ (p : Passed). p.what) ps) (through rs); joint = false }))) (flats rs)
-      ∙ ap (λ (os : List (List OutStream)). fine (plain_layout heads os)) (whats rs))
+      (Ok (record { heads = heads; graphs = gs; outputs = map (λ (ps : List Passed). map (λ (p : Passed). p.what) ps) (through rs); texts = texts_from 0 job.outputs (through rs);
+        joint = false }))) (flats rs)
+      ∙ (ap (λ (ts : List GraphText). Ok (record { heads = heads; graphs = []; outputs = map (λ (ps : List Passed). map (λ (p : Passed). p.what) ps) (through rs); texts = ts; joint = false }))
+        (no_texts 0 job.outputs rs)
+      ∙ ap (λ (os : List (List OutStream)). fine (plain_layout heads os)) (whats rs)))
 
   too_many : (rs : List (List OutStream)) → 16 < length (place_from 0 0 rs) → limited no_filters bare heads [] (through rs) ≡ Err fault.TooManyStreams
   too_many rs lt =
       let streams = length (flat_map (λ ps. ps) (through rs)) in
       let many : 16 < streams = (let e = counted_streams rs in omega (arith, e, lt)) in
-      ap (λ (b : Bool). unless (where_so b fault.TooManyStreams) (unless (where_so (nat_lt 16 (0 + simple_graphs (through rs))) fault.TooManyGraphs) (Ok (layout_of no_filters heads [] (through rs))))) (is_many streams many)
+      ap (λ (b : Bool). unless (where_so b fault.TooManyStreams) (unless (where_so (nat_lt 16 (0 + simple_graphs (through rs))) fault.TooManyGraphs) (Ok (layout_of no_filters bare heads [] (through rs))))) (is_many streams many)
 
   module _ (built : unbuilt job ≡ None) where
     pub plan_made : (rs : List (List OutStream)) → outputs_from no_filters (plain heads) 0 0 [] [] job.outputs ≡ Ok (through rs) → length (place_from 0 0 rs) ≤ 16

@@ -21,6 +21,7 @@ use Rattle.ff_map.specs.declared.map.Pick.TheVariants as pick
 use Rattle.ff_edges.specs.declared.edge.Edge.{Edge}
 use Rattle.ff_plan.specs.declared.planned.Plan.{Plan}
 use Rattle.ff_plan.specs.declared.planned.PlanNode.TheVariants as node
+use Rattle.ff_plan.specs.Texts.{Complex, Null}
 use Rattle.ff_sched.specs.declared.routes.Way.TheVariants as way
 use Rattle.ff_labels.specs.Labels.{taken_in, given_in}
 use Rattle.ff_plan.specs.Rules.{Rules}
@@ -92,6 +93,7 @@ pictures_plan h = record {
   nodes = node.Demux 0 ∷ node.Dec (record { input = 0; stream = 0 }) ∷ node.Enc 0 0 ∷ node.Mux 0 ∷ [];
   edges = edge 0 0 1 0 h true ∷ edge 1 0 2 0 h false ∷ edge 2 0 3 0 h true ∷ [];
   routes = record { sources = 1; streams = way.Source 0 ∷ []; graphs = [] };
+  texts = [];
 }
 
 -- `-map 0:a -map 1:v`, with a sound and a picture
@@ -101,6 +103,7 @@ two_plan a v = record {
       ∷ node.Dec (record { input = 1; stream = 0 }) ∷ node.Enc 0 0 ∷ node.Enc 0 1 ∷ node.Mux 0 ∷ [];
   edges = edge 0 0 2 0 a true ∷ edge 1 0 3 0 v true ∷ edge 2 0 4 0 a false ∷ edge 3 0 5 0 v false ∷ edge 4 0 6 0 a true ∷ edge 5 0 6 1 v true ∷ [];
   routes = record { sources = 2; streams = way.Source 0 ∷ way.Source 1 ∷ []; graphs = [] };
+  texts = [];
 }
 
 -- the same with null graphs and a Shortest node
@@ -111,6 +114,7 @@ two_joint_plan a v = record {
   edges = edge 0 0 2 0 a true ∷ edge 1 0 3 0 v true ∷ edge 2 0 4 0 a false ∷ edge 3 0 5 0 v false ∷ edge 4 0 6 0 a false ∷ edge 5 0 6 1 v false
       ∷ edge 6 0 7 0 a false ∷ edge 6 1 8 0 v false ∷ edge 7 0 9 0 a true ∷ edge 8 0 9 1 v true ∷ [];
   routes = record { sources = 2; streams = way.Graph 0 ∷ way.Graph 1 ∷ []; graphs = (way.Source 0 ∷ []) ∷ (way.Source 1 ∷ []) ∷ [] };
+  texts = Null kind.Audio ∷ Null kind.Video ∷ [];
 }
 
 -- `[1:v]trim=end=2,setpts=PTS-STARTPTS[v]`
@@ -130,6 +134,7 @@ trimmed_plan a v = record {
   edges = edge 0 0 2 0 a true ∷ edge 1 0 3 0 v true ∷ edge 3 0 4 0 v false ∷ edge 2 0 5 0 a false ∷ edge 5 0 6 0 a false ∷ edge 4 0 6 1 v false
       ∷ edge 6 0 7 0 a false ∷ edge 6 1 8 0 v false ∷ edge 7 0 9 0 a true ∷ edge 8 0 9 1 v true ∷ [];
   routes = record { sources = 2; streams = way.Graph 1 ∷ way.Graph 0 ∷ []; graphs = (way.Source 1 ∷ []) ∷ (way.Source 0 ∷ []) ∷ [] };
+  texts = Complex 0 ∷ Null kind.Audio ∷ [];
 }
 
 -- `[0:a]channelsplit[l][r];[r][l]join[o]`
@@ -158,6 +163,7 @@ turned_plan a = record {
   nodes = node.Demux 0 ∷ node.Dec (record { input = 0; stream = 0 }) ∷ node.Graph 0 ∷ node.Shortest 0 ∷ node.Enc 0 0 ∷ node.Mux 0 ∷ [];
   edges = edge 0 0 1 0 a true ∷ edge 1 0 2 0 a false ∷ edge 2 0 3 0 a false ∷ edge 3 0 4 0 a false ∷ edge 4 0 5 0 a true ∷ [];
   routes = record { sources = 1; streams = way.Graph 0 ∷ []; graphs = (way.Source 0 ∷ []) ∷ [] };
+  texts = Complex 0 ∷ [];
 }
 
 -- graphs of one filter, with these labels
@@ -190,6 +196,7 @@ turned_graphs_plan a = record {
   nodes = node.Demux 0 ∷ node.Dec (record { input = 0; stream = 0 }) ∷ node.Graph 1 ∷ node.Graph 0 ∷ node.Enc 0 0 ∷ node.Mux 0 ∷ [];
   edges = edge 0 0 1 0 a true ∷ edge 1 0 2 0 a false ∷ edge 2 0 3 0 a false ∷ edge 3 0 4 0 a false ∷ edge 4 0 5 0 a true ∷ [];
   routes = record { sources = 1; streams = way.Graph 0 ∷ []; graphs = (way.Graph 1 ∷ []) ∷ (way.Source 0 ∷ []) ∷ [] };
+  texts = Complex 0 ∷ Complex 1 ∷ [];
 }
 
 -- `anull` without labels, and no map: its output goes to output 0, and the automatic choice adds the pictures
@@ -200,6 +207,7 @@ unlabelled_plan a v = record {
   edges = edge 0 0 2 0 a true ∷ edge 1 0 3 0 v true ∷ edge 2 0 4 0 a false ∷ edge 4 0 5 0 a false ∷ edge 3 0 6 0 v false ∷ edge 5 0 7 0 a true
       ∷ edge 6 0 7 1 v true ∷ [];
   routes = record { sources = 2; streams = way.Graph 0 ∷ way.Source 1 ∷ []; graphs = (way.Source 0 ∷ []) ∷ [] };
+  texts = Complex 0 ∷ [];
 }
 
 -- no map and two sounds: the one with more channels, of input 1; input 0 has no node
@@ -208,6 +216,7 @@ automatic_plan a = record {
   nodes = node.Demux 1 ∷ node.Dec (record { input = 1; stream = 0 }) ∷ node.Enc 0 0 ∷ node.Mux 0 ∷ [];
   edges = edge 0 0 1 0 a true ∷ edge 1 0 2 0 a false ∷ edge 2 0 3 0 a true ∷ [];
   routes = record { sources = 2; streams = way.Source 1 ∷ []; graphs = [] };
+  texts = [];
 }
 
 -- the same stream twice: the Dec has two outputs
@@ -216,4 +225,5 @@ twice_plan a = record {
   nodes = node.Demux 0 ∷ node.Dec (record { input = 0; stream = 0 }) ∷ node.Enc 0 0 ∷ node.Enc 0 1 ∷ node.Mux 0 ∷ [];
   edges = edge 0 0 1 0 a true ∷ edge 1 0 2 0 a false ∷ edge 1 1 3 0 a false ∷ edge 2 0 4 0 a true ∷ edge 3 0 4 1 a true ∷ [];
   routes = record { sources = 1; streams = way.Source 0 ∷ way.Source 0 ∷ []; graphs = [] };
+  texts = [];
 }

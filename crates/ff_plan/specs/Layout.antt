@@ -10,17 +10,19 @@ use Rattle.ff_plan.specs.declared.layout.Origin.{Origin}
 use Rattle.ff_plan.specs.declared.layout.Origin.TheVariants as origin
 use Rattle.ff_plan.specs.declared.layout.OutStream.{OutStream}
 use Rattle.ff_plan.specs.declared.layout.Placed.{Placed}
+use Rattle.ff_plan.specs.declared.planned.GraphText.{GraphText}
 
 abbrev pub IsAmong : {X : Type 0} → X → List X → Type 0
 IsAmong x [] = ⊥
 IsAmong x (y ∷ ys) = (y ≡ x) ⊎ IsAmong x ys
 
--- Heads by input and stream; graphs in the order of their nodes; streams by output. `joint` is whether each output has a
--- Shortest node.
+-- Heads by input and stream; graphs in the order of their nodes; streams by output; by number where the text of each graph
+-- stands. `joint` is whether each output has a Shortest node.
 pub record Layout : Type 0 where
   pub heads : List (List StreamHead)
   pub graphs : List Laid
   pub outputs : List (List OutStream)
+  pub texts : List GraphText
   pub joint : Bool
 
 abbrev pub same_ref : StreamRef → StreamRef → Bool

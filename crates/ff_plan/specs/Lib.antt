@@ -18,6 +18,8 @@ pub mod Planned
 pub mod Rules
 pub mod StartFits
 pub mod Streams
+pub mod Taken
+pub mod Texts
 pub mod Today
 pub mod Whole
 pub mod Wires

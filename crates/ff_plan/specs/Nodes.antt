@@ -130,4 +130,4 @@ abbrev pub unused_inputs : Layout → List ℕ
 unused_inputs l = filter (λ i. not (is_used l i)) (range_with_len 0 (length l.heads))
 
 abbrev pub plan_of : Layout → Plan
-plan_of l = record { nodes = nodes_of l; edges = edges_of (wires_of l); routes = routes_of l }
+plan_of l = record { nodes = nodes_of l; edges = edges_of (wires_of l); routes = routes_of l; texts = l.texts }

@@ -40,7 +40,7 @@ rows outs = map (λ (v : Vec OutStream Global). v.items) outs
 
 -- a layout without graphs
 abbrev pub plain_layout : List (List StreamHead) → List (List OutStream) → Layout
-plain_layout heads outs = record { heads = heads; graphs = []; outputs = outs; joint = false }
+plain_layout heads outs = record { heads = heads; graphs = []; outputs = outs; texts = []; joint = false }
 
 -- the output has no simple graph
 abbrev pub IsBare : OutputJob → Type 0
@@ -135,4 +135,5 @@ plain_plan heads placed outputs = record {
   nodes = plain_nodes (plain_inputs heads placed) (plain_streams heads placed) placed outputs;
   edges = edges_of (plain_wires (plain_inputs heads placed) (plain_streams heads placed) placed);
   routes = record { sources = length heads; streams = map (λ p. way_to p.what.source) placed; graphs = [] };
+  texts = [];
 }

@@ -15,6 +15,7 @@ use Rattle.ff_plan.specs.Nodes.{plan_of}
 use Rattle.ff_plan.specs.Order.{numbers, loop_fault}
 use Rattle.ff_plan.specs.Pads.{Made, make_all, unlabelled}
 use Rattle.ff_plan.specs.Rules.{Rules, Planned, behind, unless, where_so}
+use Rattle.ff_plan.specs.Texts.{Complex, texts_from}
 use Rattle.ff_plan.specs.Streams.{Inside, Passed, chosen, all_passed, graph_of, label_in, front_with}
 
 abbrev pub labels_of : OutputJob → List (List ℕ)
@@ -42,11 +43,12 @@ unused_label job = unused_of (find (λ l. not (is_one_of l (taken_labels job.gra
 abbrev pub simple_graphs : List (List Passed) → ℕ
 simple_graphs outs = length (flat_map (λ ps. flat_map graph_of ps) outs)
 
-abbrev pub layout_of : Rules → List (List StreamHead) → List Made → List (List Passed) → Layout
-layout_of rules heads made outs = record {
+abbrev pub layout_of : Rules → Job → List (List StreamHead) → List Made → List (List Passed) → Layout
+layout_of rules job heads made outs = record {
   heads = heads;
   graphs = map (λ m. m.laid) made ++ flat_map (λ ps. flat_map graph_of ps) outs;
   outputs = map (λ ps. map (λ p. p.what) ps) outs;
+  texts = map (λ g. Complex g) (numbers job.graphs) ++ texts_from 0 job.outputs outs;
   joint = rules.joint;
 }
 
@@ -55,7 +57,7 @@ limited rules job heads made outs =
     unless (unused_label job)
     (unless (where_so (nat_lt 16 (length (flat_map (λ ps. ps) outs))) fault.TooManyStreams)
     (unless (where_so (nat_lt 16 (length job.graphs + simple_graphs outs)) fault.TooManyGraphs)
-    (Ok (layout_of rules heads made outs))))
+    (Ok (layout_of rules job heads made outs))))
 
 -- names and labels of complex graphs, loops, their heads, the outputs, and the limits
 abbrev pub laid_out : Rules → Job → List (List StreamHead) → Planned Layout

@@ -45,7 +45,7 @@ pub fn graph_plans_are_fed()
 /// The rules make each graph of its text with the heads that enter its node, and frames of what they make leave it.
 pub fn graphs_fit()
     ensures { (rules : Rules) (job : Job) (heads : List (List StreamHead)) (p : Plan) → AreRules rules → 1 ≤ length job.outputs
-        → planned rules job heads ≡ Ok p → GraphsFit rules job heads p }
+        → planned rules job heads ≡ Ok p → GraphsFit rules job p }
 {
     orders_go_upward();
     orders_are_whole();

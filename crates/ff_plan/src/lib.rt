@@ -40,5 +40,5 @@ pub use ff_edges::Edge;
 pub use filtering::Filtering;
 pub use number::{Wire, number_ports};
 pub use open_pads::{OpenIn, OpenOut, Refused};
-pub use planned::{Plan, PlanError, PlanNode, Unbuilt};
+pub use planned::{GraphText, Plan, PlanError, PlanNode, Unbuilt};
 pub use planning::{is_within_limits, plan};

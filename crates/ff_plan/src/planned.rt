@@ -3,7 +3,7 @@ ghost use Rattle.ff_plan.specs.declared.planned.PlanError.TheVariants.{NoMemory}
 
 use ff_edges::Edge;
 use ff_lang::{Sequence, Text};
-use ff_map::StreamRef;
+use ff_map::{Kind, StreamRef};
 use ff_sched::Routes;
 use ff_values::ConfigError;
 use std::alloc::AllocError;
@@ -25,12 +25,25 @@ pub enum PlanNode {
     Mux { output: u32 },
 }
 
-/// The nodes of a run, the edges between them, and how the output streams hang on the sources.
+/// Where the text of a graph stands.
+#[derive(Clone, Copy, Debug, PartialEq, Eq)]
+pub enum GraphText {
+    /// The job's complex graph of this number.
+    Complex { graph: u32 },
+    /// The simple graph of an output for its streams of a kind.
+    Simple { output: u32, kind: Kind },
+    /// The graph that changes nothing, for a stream of this kind.
+    Null { kind: Kind },
+}
+
+/// The nodes of a run, the edges between them, how the output streams hang on the sources, and by number where the text of each
+/// graph stands.
 #[derive(Debug, Drop)]
 pub struct Plan {
     pub nodes: Sequence<PlanNode>,
     pub edges: Sequence<Edge>,
     pub routes: Routes,
+    pub texts: Sequence<GraphText>,
 }
 
 /// What a job may ask for and no plan has yet.

@@ -88,6 +88,7 @@ fn numbered(
         nodes: Sequence::of(nodes),
         edges: Sequence::of(edges),
         routes,
+        texts: Sequence::of(Vec::new(alloc)),
     })
 }
 
