@@ -130,10 +130,15 @@ module _ (job : Job) (heads : List (List StreamHead)) where
       let few : streams ≤ 16 = (let e = counted_streams rs in omega (arith, e, le)) in
       ap (λ (b : Bool). unless (where_so b fault.TooManyStreams) (unless (where_so (nat_lt 16 (0 + simple_graphs (through rs))) fault.TooManyGraphs) (Ok (layout_of no_filters bare heads [] (through rs))))) (is_few streams few)
       ∙ (ap (λ (gs : List Laid). unless (where_so (nat_lt 16 (0 + length gs)) fault.TooManyGraphs)
-      (Ok (record { heads = heads; graphs = gs; outputs = map (λ (ps : List Passed). map (λ (p : Passed). p.what) ps) (through rs); texts = texts_from 0 job.outputs (through rs);
-        joint = false }))) (flats rs)
+      (Ok (record {
+        heads = heads;
+        graphs = gs;
+        outputs = map (λ (ps : List Passed). map (λ (p : Passed). p.what) ps) (through rs);
+        texts = texts_from 0 job.outputs (through rs);
+        joint = false;
+      }))) (flats rs)
       ∙ (ap (λ (ts : List GraphText). Ok (record { heads = heads; graphs = []; outputs = map (λ (ps : List Passed). map (λ (p : Passed). p.what) ps) (through rs); texts = ts; joint = false }))
-        (no_texts 0 job.outputs rs)
+      (no_texts 0 job.outputs rs)
       ∙ ap (λ (os : List (List OutStream)). fine (plain_layout heads os)) (whats rs)))
 
   too_many : (rs : List (List OutStream)) → 16 < length (place_from 0 0 rs) → limited no_filters bare heads [] (through rs) ≡ Err fault.TooManyStreams

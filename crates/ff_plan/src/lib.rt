@@ -38,6 +38,10 @@ mod wires;
 
 pub use ff_edges::Edge;
 pub use filtering::Filtering;
+pub use graph_laws::{
+    ends_fit, graph_plans_are_fed, graph_plans_are_laid, graphs_fit, graphs_have_outs,
+    nodes_have_rows, starts_fit,
+};
 pub use number::{Wire, number_ports};
 pub use open_pads::{OpenIn, OpenOut, Refused};
 pub use planned::{GraphText, Plan, PlanError, PlanNode, Unbuilt};
