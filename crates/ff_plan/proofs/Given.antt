@@ -10,7 +10,7 @@ use Rattle.ff_edges.specs.Ports.{tally}
 use Rattle.ff_labels.specs.declared.fault.LabelFault.{LabelFault}
 use Rattle.ff_labels.specs.declared.fault.LabelFault.TheVariants as label_fault
 use Rattle.ff_labels.specs.Labels.{is_one_of, filters_of, ins_of, outs_of, taken_in, given_in}
-use Rattle.ff_labels.specs.Names.{or_else, where_so, twice, unknown_label, filter_fault, filters_fault, graphs_fault, all_given, labels_fault as names_fault}
+use Rattle.ff_labels.specs.Names.{or_else, where_so, twice, unknown_label, filter_fault, filters_fault, graphs_fault, all_given, own_fault, twice_in, labels_fault as names_fault}
 use Rattle.ff_plan.specs.declared.planned.PlanError.TheVariants as fault
 use Rattle.ff_plan.specs.Graphs.{IsClear}
 use Rattle.ff_plan.specs.Labels.{giver, refused, refusal_of}
@@ -149,6 +149,28 @@ module _ (known stream : List ℕ → Bool) (graphs : List Graph) (fine : names_
       (let a = given_once label in let b = taken_once label (given_among label graphs g text at is) in
       let c = part_few label given_in graphs g text at in let d = part_few label taken_in graphs g text at in
       (omega (arith, a, c), omega (arith, b, d)))
+
+-- ---- a simple graph
+
+module _ (label : List ℕ) where
+  own_outs_few : (ins outs : List (List ℕ)) (fs : List Filter) → twice_in ins outs fs ≡ None → often label outs ≤ 1 → often label (outs ++ outs_of fs) ≤ 1
+  own_outs_few ins outs [] h few = (let j = tally_joined (bytes_eq label) outs [] in omega (arith, j, few))
+  own_outs_few ins outs (x ∷ xs) h few =
+      let here = no_first (own_fault ins outs x) (twice_in (ins ++ x.ins) (outs ++ x.outs) xs) h in
+      let rest = no_second (own_fault ins outs x) (twice_in (ins ++ x.ins) (outs ++ x.outs) xs) h in
+      let own = twice_few label true [] outs x.outs refl (no_second (twice true [] ins x.ins) (twice true [] outs x.outs) here) few in
+      subst (λ (k : List (List ℕ)). often label k ≤ 1) (append_assoc outs x.outs (outs_of xs)) (own_outs_few (ins ++ x.ins) (outs ++ x.outs) xs rest own)
+
+  own_ins_few : (ins outs : List (List ℕ)) (fs : List Filter) → twice_in ins outs fs ≡ None → often label ins ≤ 1 → often label (ins ++ ins_of fs) ≤ 1
+  own_ins_few ins outs [] h few = (let j = tally_joined (bytes_eq label) ins [] in omega (arith, j, few))
+  own_ins_few ins outs (x ∷ xs) h few =
+      let here = no_first (own_fault ins outs x) (twice_in (ins ++ x.ins) (outs ++ x.outs) xs) h in
+      let rest = no_second (own_fault ins outs x) (twice_in (ins ++ x.ins) (outs ++ x.outs) xs) h in
+      let own = twice_few label true [] ins x.ins refl (no_first (twice true [] ins x.ins) (twice true [] outs x.outs) here) few in
+      subst (λ (k : List (List ℕ)). often label k ≤ 1) (append_assoc ins x.ins (ins_of xs)) (own_ins_few (ins ++ x.ins) (outs ++ x.outs) xs rest own)
+
+pub own_clear : (g : Graph) → twice_in [] [] (filters_of g) ≡ None → IsClear g
+own_clear g h = λ label is. (own_outs_few label [] [] (filters_of g) h (omega arith), own_ins_few label [] [] (filters_of g) h (omega arith))
 
 -- ---- each given label is used
 

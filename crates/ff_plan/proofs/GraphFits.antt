@@ -44,7 +44,7 @@ use Rattle.ff_plan.proofs.Laid.{each_of, of_flat, place_holds}
 use Rattle.ff_plan.proofs.Layouts.{map_length, range_length, nat_self}
 use Rattle.ff_plan.proofs.Made.{Comes, comes_left}
 use Rattle.ff_plan.proofs.Numbered.{tally_hit}
-use Rattle.ff_plan.proofs.Once.{in_all, had}
+use Rattle.ff_plan.proofs.Once.{in_all, had, clear_at}
 use Rattle.ff_plan.proofs.Outs.{IsFiltered, IsPassed, AllPassed, AreOutputs, Passes}
 use Rattle.ff_plan.proofs.Ported.{stands, passing, simple_numbers, complex_count, simple_count, numbered_once}
 
@@ -418,6 +418,8 @@ module _ (rules : Rules) (are : AreRules rules) (job : Job) (heads : List (List 
           outs = m.outs;
           made = ap (λ (is : List InPad). rules.configured s.how.text (map (λ h. Some h) (map (λ (i : InPad). i.head) is))) s.how.ins
               ∙ (ap (λ (hs : List (Option StreamHead)). rules.configured s.how.text hs) (sym there) ∙ s.how.outs);
+          unlooped = (had rules are job heads l w come all_in some_outputs m s).0;
+          clear = clear_at rules are job heads l w come all_in some_outputs s.number s.how.text s.how.there;
           ins = into_graph whole laid k low high m.laid at (once m.laid.graph) ∙ frames_of m.laid.ins;
           frames = out_of_graph whole laid k low high m.laid at (once m.laid.graph) m.outs
               (λ q lt. (complex_count rules are job heads l w come all_in some_outputs m im q).0 lt) (λ q le. (complex_count rules are job heads l w come all_in some_outputs m im q).1 le)
@@ -437,6 +439,8 @@ module _ (rules : Rules) (are : AreRules rules) (job : Job) (heads : List (List 
           heads = r.pad.head ∷ [];
           outs = r.how.made ∷ [];
           made = r.how.outs;
+          unlooped = r.how.unlooped;
+          clear = r.how.clear;
           ins = into_graph whole laid k low high x at (once x.graph) ∙ ap (λ (y : Laid). map (λ (i : InPad). Frames i.head) y.ins) r.is;
           frames = out_of_graph whole laid k low high x at (once x.graph) (r.how.made ∷ [])
               (λ q lt. (simple_count rules are job heads l w come all_in some_outputs x ix q).0 lt) (λ q le. (simple_count rules are job heads l w come all_in some_outputs x ix q).1 le)

@@ -289,7 +289,7 @@ module _ (rules : Rules) (are : AreRules rules) (job : Job) (heads : List (List 
   few_taken : (label : List ℕ) → is_one_of label (flat_map given_in graphs) ≡ true → often label (flat_map taken_in graphs) ≤ 1
   few_taken label is = taken_once rules.known (λ label. is_some (stream_of_label rules heads label)) graphs fine label is
 
-  clear_at : (g : ℕ) (text : Graph) → slice_get graphs g ≡ Some text → IsClear text
+  pub clear_at : (g : ℕ) (text : Graph) → slice_get graphs g ≡ Some text → IsClear text
   clear_at g text at = clear rules.known (λ label. is_some (stream_of_label rules heads label)) graphs fine g text at
 
   pub standing : AllByRecursion StandsIn made

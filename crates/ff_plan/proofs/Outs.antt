@@ -22,6 +22,7 @@ use Rattle.ff_plan.specs.declared.layout.Origin.TheVariants as origin
 use Rattle.ff_plan.specs.declared.planned.PlanError.{PlanError}
 use Rattle.ff_plan.specs.declared.planned.PlanError.TheVariants as fault
 use Rattle.ff_plan.specs.Choice.{kind_of, known, best}
+use Rattle.ff_plan.specs.Graphs.{IsClear}
 use Rattle.ff_plan.specs.Labels.{refused, is_given, giver}
 use Rattle.ff_plan.specs.Layout.{IsAmong}
 use Rattle.ff_plan.specs.Pads.{made_at, labelled_out}
@@ -31,7 +32,8 @@ use Rattle.ff_plan.specs.Streams.{Inside, Passed, as_pad, is_kept, is_wanted, la
 use Rattle.ff_plan.proofs.Among.{all_joined, all_map, was_among}
 use Rattle.ff_plan.proofs.Known.{known_among}
 use Rattle.ff_plan.proofs.Made.{Comes, labelled_open, shown_among}
-use Rattle.ff_plan.proofs.Results.{not_ok, same_ok, behind_ok, unless_ok}
+use Rattle.ff_plan.proofs.Given.{no_refusal, own_clear}
+use Rattle.ff_plan.proofs.Results.{not_ok, not_so, same_ok, behind_ok, unless_none, unless_ok}
 
 -- ---- a test that was passed
 
@@ -172,6 +174,8 @@ pub record IsFiltered (rules : Rules) (out : OutputJob) (g : ℕ) (i : InPad) (p
   pub is_text : (simple_of out (kind_of i.head) ≡ Some text) ⊎ ((simple_of out (kind_of i.head) ≡ None) × (text ≡ null_graph (kind_of i.head)))
   pub made : OpenOut
   pub outs : rules.configured text (Some i.head ∷ []) ≡ Ok (made ∷ [])
+  pub unlooped : rules.loops text ≡ false
+  pub clear : IsClear text
   pub is : filtered out g i made ≡ p
 
 module _ (rules : Rules) where
@@ -188,20 +192,29 @@ module _ (rules : Rules) where
   IsText out i text = (simple_of out (kind_of i.head) ≡ Some text) ⊎ ((simple_of out (kind_of i.head) ≡ None) × (text ≡ null_graph (kind_of i.head)))
 
   through_is : (out : OutputJob) (g : ℕ) (i : InPad) (at : StreamRef) (text : Graph) (outs : List OpenOut) (p : Passed) → i.source ≡ origin.Stream at → IsText out i text
-      → rules.configured text (Some i.head ∷ []) ≡ Ok outs → through out g i outs ≡ Ok p → IsFiltered rules out g i p
-  through_is out g i at text [] p e t c h = absurd (not_ok _ p h)
-  through_is out g i at text (o ∷ []) p e t c h = record { at = at; from = e; text = text; is_text = t; made = o; outs = c; is = same_ok (filtered out g i o) p h }
-  through_is out g i at text (o ∷ x ∷ os) p e t c h = absurd (not_ok _ p h)
+      → (rules.loops text ≡ false) × IsClear text → rules.configured text (Some i.head ∷ []) ≡ Ok outs → through out g i outs ≡ Ok p → IsFiltered rules out g i p
+  through_is out g i at text [] p e t l c h = absurd (not_ok _ p h)
+  through_is out g i at text (o ∷ []) p e t l c h =
+      record { at = at; from = e; text = text; is_text = t; made = o; outs = c; unlooped = l.0; clear = l.1; is = same_ok (filtered out g i o) p h }
+  through_is out g i at text (o ∷ x ∷ os) p e t l c h = absurd (not_ok _ p h)
 
   simple_is : (out : OutputJob) (g : ℕ) (i : InPad) (at : StreamRef) (text : Graph) (r : Result (List OpenOut) Refused) (p : Passed) → i.source ≡ origin.Stream at → IsText out i text
-      → rules.configured text (Some i.head ∷ []) ≡ r → behind (configured_simple g r) (through out g i) ≡ Ok p → IsFiltered rules out g i p
-  simple_is out g i at text (Ok outs) p e t c h = through_is out g i at text outs p e t c h
-  simple_is out g i at text (Err r) p e t c h = absurd (not_ok _ p h)
+      → (rules.loops text ≡ false) × IsClear text → rules.configured text (Some i.head ∷ []) ≡ r → behind (configured_simple g r) (through out g i) ≡ Ok p → IsFiltered rules out g i p
+  simple_is out g i at text (Ok outs) p e t l c h = through_is out g i at text outs p e t l c h
+  simple_is out g i at text (Err r) p e t l c h = absurd (not_ok _ p h)
 
   simply_is : (out : OutputJob) (g : ℕ) (i : InPad) (at : StreamRef) (text : Graph) (p : Passed) → i.source ≡ origin.Stream at → IsText out i text → simply rules out g i text ≡ Ok p → IsFiltered rules out g i p
   simply_is out g i at text p e t h =
-      let a = unless_ok (where_so (not (length (rules.open_ins text) == 1)) (fault.Config g 0 config.Pads)) _ p (unless_ok (where_so (rules.loops text) (fault.Loop g)) _ p (unless_ok (refused (unknown_filter rules.known g 0 (filters_of text))) _ p (unless_ok (refused (twice_in [] [] (filters_of text))) _ p h))) in
-      simple_is out g i at text (rules.configured text (Some i.head ∷ [])) p e t refl a
+      let twice_ = refused (twice_in [] [] (filters_of text)) in
+      let unknown_ = refused (unknown_filter rules.known g 0 (filters_of text)) in
+      let loop_ = where_so (rules.loops text) (fault.Loop g) in
+      let one = where_so (not (length (rules.open_ins text) == 1)) (fault.Config g 0 config.Pads) in
+      let made = behind (configured_simple g (rules.configured text (Some i.head ∷ []))) (through out g i) in
+      let r1 = unless_ok twice_ (unless unknown_ (unless loop_ (unless one made))) p h in
+      let r2 = unless_ok unknown_ (unless loop_ (unless one made)) p r1 in
+      let r3 = unless_ok loop_ (unless one made) p r2 in
+      let clear_ = own_clear text (no_refusal (twice_in [] [] (filters_of text)) (unless_none twice_ (unless unknown_ (unless loop_ (unless one made))) p h)) in
+      simple_is out g i at text (rules.configured text (Some i.head ∷ [])) p e t (not_so (rules.loops text) (fault.Loop g) (unless_none loop_ (unless one made) p r2), clear_) refl (unless_ok one made p r3)
 
   by_is : (out : OutputJob) (g : ℕ) (i : InPad) (at : StreamRef) (nulls : Bool) (given : Option Graph) (p : Passed) → i.source ≡ origin.Stream at → simple_of out (kind_of i.head) ≡ given
       → passed_by rules out g i nulls given ≡ Ok p → IsPassed out g i p

@@ -1,8 +1,8 @@
 -- Results that are no refusal.
-use Rattle.std.proofs.Common.{◌≡◌, Option, Some, None, refl, ap, subst}
+use Rattle.std.proofs.Common.{◌≡◌, Bool, true, false, Option, Some, None, refl, ap, subst}
 use Rattle.std.specs.Prelude.{Ok, Err}
 use Rattle.ff_plan.specs.declared.planned.PlanError.{PlanError}
-use Rattle.ff_plan.specs.Rules.{Planned, behind, unless}
+use Rattle.ff_plan.specs.Rules.{Planned, behind, unless, where_so}
 
 abbrev IsErr : {X : Type 0} → Planned X → Type 0
 IsErr (Ok x) = ⊥
@@ -25,3 +25,15 @@ behind_ok (Err e) f y h = absurd (not_ok e y h)
 pub unless_ok : {Y : Type 0} (o : Option PlanError) (r : Planned Y) (y : Y) → unless o r ≡ Ok y → r ≡ Ok y
 unless_ok None r y h = h
 unless_ok (Some e) r y h = absurd (not_ok e y h)
+
+pub unless_none : {Y : Type 0} (o : Option PlanError) (r : Planned Y) (y : Y) → unless o r ≡ Ok y → o ≡ None
+unless_none None r y h = refl
+unless_none (Some e) r y h = absurd (not_ok e y h)
+
+abbrev IsFault : Option PlanError → Type 0
+IsFault None = ⊥
+IsFault (Some e) = Unit {0}
+
+pub not_so : (b : Bool) (e : PlanError) → where_so b e ≡ None → b ≡ false
+not_so true e h = absurd (subst (λ (o : Option PlanError). IsFault o) h tt)
+not_so false e h = refl

@@ -1,5 +1,5 @@
 -- What stands at the ports of the nodes of graphs, of any plan.
-use Rattle.std.specs.Prelude.{◌≡◌, ℕ, List, map, slice_get, Some, Ok}
+use Rattle.std.specs.Prelude.{◌≡◌, ℕ, false, List, map, slice_get, Some, Ok}
 use Rattle.ff_edges.specs.declared.edge.Edge.{Edge}
 use Rattle.ff_edges.specs.Ports.{lanes_into, lanes_out_of}
 use Rattle.ff_frame.specs.declared.item.Lane.TheVariants.{Frames}
@@ -8,10 +8,12 @@ use Rattle.ff_values.specs.declared.head.StreamHead.{StreamHead}
 use Rattle.ff_words.specs.declared.job.Job.{Job}
 use Rattle.ff_plan.specs.declared.planned.Plan.{Plan}
 use Rattle.ff_plan.specs.declared.planned.PlanNode.TheVariants as node
+use Rattle.ff_plan.specs.Graphs.{IsClear}
 use Rattle.ff_plan.specs.Rules.{Rules, OpenOut}
 use Rattle.ff_plan.specs.Texts.{GraphText, graph_text}
 
--- Frames of these heads enter node k, the rules make graph g of its text with them, and frames of what they make leave it.
+-- Frames of these heads enter node k, the rules make graph g of its text with them, a graph without a loop whose labels are clear, and frames
+-- of what they make leave it.
 pub record FitsGraph (rules : Rules) (job : Job) (texts : List GraphText) (edges : List Edge) (k g : ℕ) : Type 0 where
   pub stands : GraphText
   pub at : slice_get texts g ≡ Some stands
@@ -20,6 +22,8 @@ pub record FitsGraph (rules : Rules) (job : Job) (texts : List GraphText) (edges
   pub heads : List StreamHead
   pub outs : List OpenOut
   pub made : rules.configured text (map (λ h. Some h) heads) ≡ Ok outs
+  pub unlooped : rules.loops text ≡ false
+  pub clear : IsClear text
   pub ins : lanes_into edges k ≡ map (λ h. Frames h) heads
   pub frames : lanes_out_of edges k ≡ map (λ (out : OpenOut). Frames out.head) outs
 
