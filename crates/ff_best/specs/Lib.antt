@@ -1,0 +1,4 @@
+pub mod Bests
+pub mod Inputs
+pub mod Leads
+pub mod Near
