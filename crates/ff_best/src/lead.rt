@@ -20,7 +20,7 @@ use std::collections::VecDeque;
 pub(crate) struct Lead {
     graph: u32,
     best: u32,
-    inputs: Vec<Input>,
+    pub(crate) inputs: Vec<Input>,
     /// What is to be told, the oldest first.
     waiting: VecDeque<Event>,
     ghost few: { length inputs.items ≤ 2 ^ 32 },

@@ -13,3 +13,6 @@
 mod choosing;
 mod input;
 mod lead;
+mod leading;
+
+pub use leading::Leading;

@@ -1,0 +1,110 @@
+ghost use Rattle.std.specs.Prelude.{◌≡◌, ◌≤◌, ◌^◌, map, length, None, IfOk, IfErr};
+ghost use Rattle.ff_frame.specs.declared.item.Lane.TheVariants.{Frames};
+ghost use Rattle.ff_net.specs.Pasts.{Task, start, no_events};
+ghost use Rattle.ff_net.specs.Views.{IsSameShape};
+ghost use Rattle.ff_best.specs.Bests.{best_events};
+ghost use Rattle.ff_best.specs.Inputs.{bases_of_heads};
+
+use crate::input::end_of_item;
+use crate::lead::Lead;
+use ff_frame::{Event, Item, Refused, StreamHead, Ticket};
+use ff_net::{Fault, Machine};
+use std::alloc::{AllocError, Global};
+
+/// A machine that besides tells which of its inputs is the best one, each time that it has become another. What the machine
+/// within tells itself would be lost: its task has to tell nothing.
+#[derive(Drop)]
+pub struct Leading<M: Machine> {
+    /// The machine.
+    pub machine: M,
+    lead: Lead,
+    ghost lanes: { length (M.view machine).in_lanes ≡ length lead.inputs.items },
+}
+
+impl<M: Machine + Drop> Leading<M> {
+    ghost use Rattle.ff_best.specs.Leaders.{leading_shown};
+
+    /// A machine that is no source and to which nothing was done, as that of the graph of this number, whose inputs carry frames of
+    /// these heads. For want of memory it comes back.
+    pub fn new(
+        alloc: Global,
+        graph: u32,
+        heads: &[StreamHead],
+        machine: M,
+    ) -> Result<Leading<M>, M>
+        requires few { length heads.now ≤ 2 ^ 32 }
+        requires lanes { (M.view machine).in_lanes ≡ map Frames heads.now }
+        requires no_source { (M.view machine).source ≡ None }
+        ensures stands { IfOk result (λ m. (t : Task) → t.tells ≡ no_events → (M.view machine).stands (start t)
+            → (leading_shown m).stands (start (record t { tells = best_events graph (bases_of_heads heads.now) }))) }
+        ensures machine { IfOk result (λ m. m.machine ≡ machine) }
+        ensures shape { IfOk result (λ m. IsSameShape (M.view machine) (leading_shown m)) }
+        ensures fault { IfOk result (λ m. (leading_shown m).fault ≡ (M.view machine).fault) }
+        ensures device { IfOk result (λ m. (leading_shown m).device ≡ (M.view machine).device) }
+        ensures back { IfErr result (λ back. back ≡ machine) }
+    {
+        match Lead::new(alloc, graph, heads) {
+            Ok(lead) => Ok(Leading { machine, lead }),
+            Err(_) => Err(machine),
+        }
+    }
+}
+
+impl<M: Machine + Drop> Machine for Leading<M> {
+    ghost use Rattle.ff_best.specs.Leaders.{leading_shown};
+    ghost use Rattle.ff_best.specs.LeadLaws.{leading_laws};
+
+    ghost view = { leading_shown };
+
+    fn inputs(&self) -> usize {
+        self.machine.inputs()
+    }
+
+    fn outputs(&self) -> usize {
+        self.machine.outputs()
+    }
+
+    fn source(&self) -> Option<u32> {
+        self.machine.source()
+    }
+
+    fn fault(&self) -> Option<Fault> {
+        self.machine.fault()
+    }
+
+    fn allow(&mut self, ticket: Ticket) -> Option<Ticket> {
+        self.machine.allow(ticket)
+    }
+
+    fn feed(&mut self, port: usize, item: Item) -> Result<(), Refused> {
+        if self.lead.reserve().is_err() {
+            return Err(Refused { item });
+        }
+        let end = end_of_item(&item);
+        match self.machine.feed(port, item) {
+            Ok(()) => {
+                self.lead.note(port, end);
+                Ok(())
+            }
+            Err(refused) => Err(refused),
+        }
+    }
+
+    fn pull(&mut self, port: usize) -> Result<Option<Item>, AllocError> {
+        self.machine.pull(port)
+    }
+
+    fn stop(&mut self, port: usize) {
+        self.machine.stop(port);
+    }
+
+    fn spent(&self, port: usize) -> bool {
+        self.machine.spent(port)
+    }
+
+    fn next_event(&mut self) -> Option<Event> {
+        self.lead.next()
+    }
+
+    ghost laws = { λ m. leading_laws (M.view m.machine) m.lead (M.laws m.machine) };
+}
