@@ -6,18 +6,24 @@ use Rattle.ff_values.specs.declared.head.StreamHead.{StreamHead}
 use Rattle.ff_values.specs.Heads.{base_of_head}
 use Rattle.ff_frame.specs.declared.item.Item.{Item}
 use Rattle.ff_frame.specs.declared.item.Lane.{Lane}
-use Rattle.ff_frame.specs.Stream.{Mark, still_open, whole, broken}
+use Rattle.ff_frame.specs.Stream.{Mark, still_open, whole, broken, opened}
 use Rattle.ff_frame.specs.Lanes.{IsValid}
 use Rattle.ff_frame.specs.LaneLaws.{valid_front}
+use Rattle.ff_frame.specs.declared.item.Lane.TheVariants.{Frames}
+use Rattle.ff_frame.specs.Order.{below_self}
 use Rattle.ff_frame.specs.Ports.{nothing, stream_at, AllUnbroken}
 use Rattle.ff_filter.specs.Joins.{Flow, Ports, Grows, HidesBreaks}
 use Rattle.ff_filter.specs.Shifts.{start_ticks}
 use Rattle.ff_filter.specs.Views.{View}
+use Rattle.ff_net.specs.declared.fault.Fault.{Fault}
+use Rattle.ff_net.specs.Pasts.{Task, start}
 use Rattle.ff_net.specs.Ways.{lane_at, AreValid, IsValidOn}
-use Rattle.ff_net_filter.specs.Tasks.{IsLawful, listed}
+use Rattle.ff_net_filter.specs.Tasks.{IsLawful, Stands, listed, filter_task}
 use Rattle.ff_shortest.specs.Shortened.{Fate, Kept, Held, held_by, both, put_kept, kept_by, fate_by, fate_to, furthest, is_before, shortened}
 use Rattle.ff_shortest.specs.Lines.{Line, new_line, line_at, bases, ends_with, marks_with, came, end_with, mark_with, still_kept, shortest_view, head_base, IsShortest}
 use Rattle.ff_shortest.specs.ShortLaws.{kept_alike, shortest-grows, shortest-hides}
+use Rattle.ff_shortest.specs.Straights.{IsStraight}
+use Rattle.ff_shortest.specs.JointTask.{joint, joint_task, IsJointOf}
 
 -- streams of these heads of which nothing came
 abbrev fresh : List StreamHead → List Line
@@ -86,7 +92,7 @@ kept_unbroken f h (x ∷ xs) m c = at (f x) (h x) (kept_unbroken f h xs m c)
     at (Held w) n r = λ e. n (ap Held e)
 
 -- streams by their ports are valid where each is valid for the lane of its port
-listed_valid : (lanes : List Lane) (g : Ports) → ((p : ℕ) (l : Lane) → lane_at lanes p ≡ Some l → IsValid l (g p)) → AreValid lanes (listed (length lanes) g)
+pub listed_valid : (lanes : List Lane) (g : Ports) → ((p : ℕ) (l : Lane) → lane_at lanes p ≡ Some l → IsValid l (g p)) → AreValid lanes (listed (length lanes) g)
 listed_valid [] g h p = refl
 listed_valid (l ∷ ls) g h zero = h 0 l refl
 listed_valid (l ∷ ls) g h (suc p) = listed_valid ls (λ q. g (suc q)) (λ q m e. h (suc q) m e) p
@@ -120,3 +126,51 @@ shortest_lawful hs v s =
     let outs : v.ins ≡ v.outs = s.ins ∙ sym s.outs in
     subst (λ (f : Ports → Ports). IsLawful v.ins v.outs f (λ ss. None)) (sym same)
     (subst (λ (ls : List Lane). IsLawful v.ins ls (shortened (length hs) (head_base hs)) (λ ss. None)) outs (lawful_on hs v.ins))
+
+-- streams as they are
+straight_on : (lanes : List Lane) → IsLawful lanes lanes (λ ss. ss) (λ ss. None)
+straight_on lanes = record {
+  grows = λ rs ss h. h;
+  hides = λ rs q. below_self (opened (rs q));
+  keeps = λ ss v. listed_valid lanes (stream_at ss) (λ p l e. subst (λ (o : Option Lane). IsValidOn o (stream_at ss p)) e (v p));
+  cause_stays = λ rs ss c v w b e. cc;
+  too_long = λ ss q lt v u e. absurd (u q e);
+}
+
+pub straight_lawful : (hs : List StreamHead) (v : View) → IsStraight hs v → IsLawful v.ins v.outs v.rest (λ ss. None)
+straight_lawful hs v s =
+    let same : v.rest ≡ (λ ss. ss) = λ i ext p. s.rest ext p i in
+    let outs : v.ins ≡ v.outs = s.ins ∙ sym s.outs in
+    subst (λ (f : Ports → Ports). IsLawful v.ins v.outs f (λ ss. None)) (sym same)
+    (subst (λ (ls : List Lane). IsLawful v.ins ls (λ ss. ss) (λ ss. None)) outs (straight_on v.ins))
+
+-- streams that come together, one way or the other
+pub shortest_joint : (hs : List StreamHead) (v : View) → IsShortest hs v → IsJointOf true hs v
+shortest_joint hs v s = record { ins = s.ins; outs = s.outs; new = s.new; rest = λ i ext p. s.rest ext p i }
+
+pub straight_joint : (hs : List StreamHead) (v : View) → IsStraight hs v → IsJointOf false hs v
+straight_joint hs v s = record { ins = s.ins; outs = s.outs; new = s.new; rest = λ i ext p. s.rest ext p i }
+
+joint_on : (b : Bool) (hs : List StreamHead) (lanes : List Lane) → IsLawful lanes lanes (joint b hs) (λ ss. None)
+joint_on true hs lanes = lawful_on hs lanes
+joint_on false hs lanes = straight_on lanes
+
+long_map : (hs : List StreamHead) → length (map Frames hs) ≡ length hs
+long_map [] = refl
+long_map (h ∷ hs) = ap suc (long_map hs)
+
+pub joint_lawful : (b : Bool) (hs : List StreamHead) (v : View) → IsJointOf b hs v → IsLawful v.ins v.outs v.rest (λ ss. None)
+joint_lawful b hs v s =
+    let outs : v.ins ≡ v.outs = s.ins ∙ sym s.outs in
+    subst (λ (f : Ports → Ports). IsLawful v.ins v.outs f (λ ss. None)) (sym s.rest)
+    (subst (λ (ls : List Lane). IsLawful v.ins ls (joint b hs) (λ ss. None)) outs (joint_on b hs v.ins))
+
+pub joint_is : (b : Bool) (hs : List StreamHead) (v : View) → IsJointOf b hs v → filter_task (length v.outs) v.rest (λ ss. None) ≡ joint_task b hs
+joint_is b hs v s = ap (λ n. filter_task n v.rest (λ ss. None)) (ap (λ (ls : List Lane). length ls) s.outs ∙ long_map hs)
+    ∙ ap (λ (f : Ports → Ports). filter_task (length hs) f (λ ss. None)) s.rest
+
+-- a machine that stands for what the filter does stands for the streams that come together so
+pub joint_stands : {b : Bool} {hs : List StreamHead} {v w : View} {hurt long : Bool} → IsJointOf b hs v
+    → ((cause : List Flow → Option Fault) → IsLawful v.ins v.outs v.rest cause → Stands w hurt long (start (filter_task (length v.outs) v.rest cause)))
+    → Stands w hurt long (start (joint_task b hs))
+joint_stands {b} {hs} {v} {w} {hurt} {long} s stands = subst (λ (task : Task). Stands w hurt long (start task)) (joint_is b hs v s) (stands (λ ss. None) (joint_lawful b hs v s))

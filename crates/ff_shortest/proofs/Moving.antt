@@ -23,7 +23,7 @@ use Rattle.ff_shortest.specs.declared.side.Side.{Side}
 use Rattle.ff_shortest.specs.Shortened.{Fate, Kept, Held, both, put_kept, kept_by, fate_by, fate_to, furthest, is_before}
 use Rattle.ff_shortest.specs.Lines.{Line, new_line, line_of, line_at, lines_of, lanes_of, came, bases, end_with, mark_with, ends_with, marks_with, still_kept}
 use Rattle.ff_shortest.specs.Lines.{shortest_view, view_of, reaches, stands, fate_now, next_fate, fate_is, is_closed, is_done, done_to, shortest_spent, head_base}
-use Rattle.ff_shortest.specs.Lines.{IsShortest}
+use Rattle.ff_shortest.specs.Lines.{IsShortest, AreNew}
 use Rattle.ff_shortest.specs.Moves.{Takes, IsTaken, IsEnded, IsStopped, IsClosedAt}
 use Rattle.ff_shortest.specs.ShortLaws.{Refines, Further, fate_refines, kept_alike, still_silent, furthest-more, shortest-spent_only, spent_from, lanes_long}
 
@@ -86,7 +86,7 @@ set_same [] p i j lt e l = refl
 set_same (r ∷ ss) zero i j lt e l = ap (λ (x : Line). x ∷ lines_of ss) (l ∙ ap (λ (x : Side). line_of x) e)
 set_same (r ∷ ss) (suc p) i j lt e l = ap (λ (xs : List Line). line_of r ∷ xs) (set_same ss p i j (omega (arith, lt)) e l)
 
-cond_same : (b c : Bool) (s t : Flow) → b ≡ c → (c ≡ false → s ≡ t) → cond b nothing s ≡ cond c nothing t
+pub cond_same : (b c : Bool) (s t : Flow) → b ≡ c → (c ≡ false → s ≡ t) → cond b nothing s ≡ cond c nothing t
 cond_same b c s t e h = subst (λ d. cond d nothing s ≡ cond c nothing t) (sym e) (at c h)
   where
     at : (d : Bool) → (d ≡ false → s ≡ t) → cond d nothing s ≡ cond d nothing t
@@ -342,12 +342,6 @@ spent_exact ss p b lt is = (
       ∙ spent_from (lanes_of ss) (lines_of ss) (lanes_long ss) p s,
 )
 
--- so many streams, of these heads, of which nothing came
-pub record AreNew (hs : List StreamHead) (ss : List Side) : Type 0 where
-  pub lanes : lanes_of ss ≡ map Frames hs
-  pub long : length ss ≡ length hs
-  pub lines : (q : ℕ) → line_at (lines_of ss) q ≡ new_line (head_base hs q)
-
 pub new_more : (hs ks : List StreamHead) (ss : List Side) (s : Side) (h : StreamHead) → ks ≡ hs ++ h ∷ [] → AreNew hs ss → s.head ≡ h
     → line_of s ≡ new_line (base_of_head h) → AreNew ks (ss ++ s ∷ [])
 new_more hs ks ss s h e n g l = subst (λ (js : List StreamHead). AreNew js (ss ++ s ∷ [])) (sym e) (record
@@ -402,8 +396,8 @@ all_heads zero (h ∷ hs) le = absurd (omega (arith, le))
 all_heads (suc n) [] le = refl
 all_heads (suc n) (h ∷ hs) le = ap (λ (ks : List StreamHead). h ∷ ks) (all_heads n hs (omega (arith, le)))
 
-pub all_new : (n : ℕ) (hs : List StreamHead) (ss : List Side) → length hs ≤ n → AreNew (take n hs) ss → IsShortest hs (view_of ss)
-all_new n hs ss le h = new_is hs ss (subst (λ (ks : List StreamHead). AreNew ks ss) (all_heads n hs le) h)
+pub all_new : (n : ℕ) (hs : List StreamHead) (ss : List Side) → length hs ≤ n → AreNew (take n hs) ss → AreNew hs ss
+all_new n hs ss le h = subst (λ (ks : List StreamHead). AreNew ks ss) (all_heads n hs le) h
 
 pub fate_from : (r : Option After) (a : After) (g : Fate) → fate_is r ≡ g → r ≡ Some a → g ≡ Held (mark_after a)
 fate_from r a g e is = sym e ∙ ap fate_is is

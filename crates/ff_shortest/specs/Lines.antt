@@ -87,6 +87,12 @@ head_base [] p = record { num = 1; den = 1 }
 head_base (h ∷ hs) zero = base_of_head h
 head_base (h ∷ hs) (suc p) = head_base hs p
 
+-- so many streams, of these heads, of which nothing came
+pub record AreNew (hs : List StreamHead) (ss : List Side) : Type 0 where
+  pub lanes : lanes_of ss ≡ map Frames hs
+  pub long : length ss ≡ length hs
+  pub lines : (q : ℕ) → line_at (lines_of ss) q ≡ new_line (head_base hs q)
+
 -- nothing came: each of these streams is shortened by the others
 pub record IsShortest (hs : List StreamHead) (v : View) : Type 0 where
   pub ins : v.ins ≡ map Frames hs

@@ -132,17 +132,17 @@ flow_further e s t (inr h) = inl (
       (subst (λ n. furthest e s.items ≤ n) (sym (furthest-append e s.items h.1.0)) (furthest-more (furthest e s.items) h.1.0)),
 )
 
-behind_below : (a : After) (s t : Flow) → LiesBelow s t → LiesBelow (behind a s) (behind a t)
+pub behind_below : (a : After) (s t : Flow) → LiesBelow s t → LiesBelow (behind a s) (behind a t)
 behind_below More s t h = h
 behind_below Whole s t h = inl refl
 behind_below Broke s t h = inl refl
 
-waits_below : (xs : List Item) (s t : Flow) → LiesBelow s t → LiesBelow (record { items = xs ++ s.items; mark = s.mark })
+pub waits_below : (xs : List Item) (s t : Flow) → LiesBelow s t → LiesBelow (record { items = xs ++ s.items; mark = s.mark })
     (record { items = xs ++ t.items; mark = t.mark })
 waits_below xs s t (inl e) = inl (ap (λ (u : Flow). let r : Flow = record { items = xs ++ u.items; mark = u.mark } in r) e)
 waits_below xs s t (inr h) = inr (h.0, (h.1.0, append_assoc xs s.items h.1.0 ∙ ap (λ (ys : List Item). xs ++ ys) h.1.1))
 
-ended_below : (b : Bool) (s t : Flow) → LiesBelow s t → LiesBelow (cond b nothing s) (cond b nothing t)
+pub ended_below : (b : Bool) (s t : Flow) → LiesBelow s t → LiesBelow (cond b nothing s) (cond b nothing t)
 ended_below true s t h = inl refl
 ended_below false s t h = h
 
@@ -207,14 +207,14 @@ pub kept_softer : (f g : Item → Fate) → ((x : Item) → Softer (f x) (g x)) 
 kept_softer f g s [] m n h = (refl, h)
 kept_softer f g s (x ∷ xs) m n h = put_softer (f x) (g x) x (kept_by f xs m) (kept_by g xs n) (s x) (kept_softer f g s xs m n h)
 
-soft_below : (s t : Flow) → SofterFlow s t → LiesBelow (opened s) t
+pub soft_below : (s t : Flow) → SofterFlow s t → LiesBelow (opened s) t
 soft_below s t h = at s.mark t.mark h.1 refl refl
   where
     at : (m n : Mark) → SofterMark m n → s.mark ≡ m → t.mark ≡ n → LiesBelow (opened s) t
     at m n (inl e) a b = subst (λ (u : Flow). LiesBelow (opened s) u) (same_stream s t h.0 (a ∙ (sym e ∙ sym b))) (opened_below s)
     at m n (inr k) a b = inl (same_stream (opened s) t h.0 (ap opened_mark (a ∙ k.0) ∙ sym (b ∙ k.1)))
 
-mark_softer : (a : After) (t : Flow) → SofterMark (behind a t).mark (behind a (opened t)).mark
+pub mark_softer : (a : After) (t : Flow) → SofterMark (behind a t).mark (behind a (opened t)).mark
 mark_softer More t = at t.mark
   where
     at : (m : Mark) → SofterMark m (opened_mark m)
@@ -224,12 +224,12 @@ mark_softer More t = at t.mark
 mark_softer Whole t = inl refl
 mark_softer Broke t = inl refl
 
-items_opened : (a : After) (t : Flow) → (behind a (opened t)).items ≡ (behind a t).items
+pub items_opened : (a : After) (t : Flow) → (behind a (opened t)).items ≡ (behind a t).items
 items_opened More t = refl
 items_opened Whole t = refl
 items_opened Broke t = refl
 
-ended_softer : (b : Bool) (s t : Flow) → LiesBelow (opened s) t → LiesBelow (opened (cond b nothing s)) (cond b nothing t)
+pub ended_softer : (b : Bool) (s t : Flow) → LiesBelow (opened s) t → LiesBelow (opened (cond b nothing s)) (cond b nothing t)
 ended_softer true s t h = inl refl
 ended_softer false s t h = h
 
@@ -262,7 +262,7 @@ kept_closed f h (x ∷ xs) m c = at (f x) (h x) (kept_closed f h xs m c)
     at Kept n r = r
     at (Held w) n r = λ e. n (ap Held e)
 
-behind_over : (a : After) (t : Flow) → (is_over a ≡ true) ⊎ IsClosed t → (behind a t).mark ≢ still_open
+pub behind_over : (a : After) (t : Flow) → (is_over a ≡ true) ⊎ IsClosed t → (behind a t).mark ≢ still_open
 behind_over More t (inl e) = cc
 behind_over More t (inr c) = c
 behind_over Whole t h = λ e. cc

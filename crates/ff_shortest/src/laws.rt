@@ -1,12 +1,18 @@
-//! What the function that shortens streams is, as that of a node: a function that does nothing, whose clause holds of all values.
+//! What the functions of the streams of one output are, as those of a node: functions that do nothing, whose clauses hold of all values.
 ghost use Rattle.std.specs.Prelude.{List, None};
 ghost use Rattle.ff_values.specs.declared.head.StreamHead.{StreamHead};
 ghost use Rattle.ff_filter.specs.Views.{View};
 ghost use Rattle.ff_net_filter.specs.Tasks.{IsLawful};
 ghost use Rattle.ff_shortest.specs.Lines.{IsShortest};
+ghost use Rattle.ff_shortest.specs.Straights.{IsStraight};
 
 /// Streams further on are shortened to streams further on, whoever isn't told of breaks gets no less, valid streams are shortened to
 /// valid ones, and of unbroken streams none breaks: so a node of it has no fault.
 pub fn shortened_streams_are_lawful()
     ensures { (heads : List StreamHead) (v : View) → IsShortest heads v → IsLawful v.ins v.outs v.rest (λ ss. None) }
+{}
+
+/// Streams that are given as they are go on, break off and are valid as they come: so a node of them has no fault.
+pub fn straight_streams_are_lawful()
+    ensures { (heads : List StreamHead) (v : View) → IsStraight heads v → IsLawful v.ins v.outs v.rest (λ ss. None) }
 {}

@@ -1,4 +1,4 @@
-//! The streams of one output, each up to the end of the shortest.
+//! The streams of one output, each up to the end of the shortest, or as they are.
 //!
 //! ```text
 //!   stream 0, whole     ├──a0──┼──a1──┤           ends at T
@@ -6,15 +6,20 @@
 //! ```
 //!
 //! An item is kept once each other stream has one that ends after its start, compared exactly: so as soon as that is known, and
-//! whatever the streams' time bases. Frames aren't cut.
+//! whatever the streams' time bases. Frames aren't cut. Where the streams are to be given as they are, each goes through by
+//! itself; in either case all of them are one node.
 #![tactic(auto)]
 
 mod end;
+mod joint;
 mod laws;
 mod moves;
 mod shortest;
 mod side;
+mod straight;
 
-pub use laws::shortened_streams_are_lawful;
+pub use joint::{Joint, joint_machine};
+pub use laws::{shortened_streams_are_lawful, straight_streams_are_lawful};
 pub use shortest::Shortest;
 pub use side::Side;
+pub use straight::Straight;

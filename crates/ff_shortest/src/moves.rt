@@ -6,6 +6,7 @@ ghost use Rattle.ff_filter.specs.Made.{is_over, closing};
 ghost use Rattle.ff_filter.specs.Views.{closes};
 ghost use Rattle.ff_shortest.specs.Moves.{Takes, IsStart, IsTaken, IsEnded, IsStopped};
 ghost use Rattle.ff_shortest.specs.Lines.{line_of, new_line};
+ghost use Rattle.ff_shortest.specs.Straights.{IsGiven, IsHeld};
 
 use crate::end::{end_ticks, later};
 use crate::side::Side;
@@ -122,6 +123,31 @@ impl Side {
         ensures head { self.new.head ≡ self.old.head }
     {
         self.queue.pop_front()
+    }
+
+    /// Gives the next item whatever other streams do; where none waits, the closing item, if it came.
+    pub fn pull(&mut self) -> Option<Item>
+        ensures gives { (x : AnItem) → result ≡ Some x → IsGiven (line_of self.old) (line_of self.new) x }
+        ensures waits { IsNone result → IsHeld (line_of self.old) (line_of self.new) }
+        ensures head { self.new.head ≡ self.old.head }
+    {
+        if self.ended {
+            return None;
+        }
+        if let Some(item) = self.queue.pop_front() {
+            return Some(item);
+        }
+        match self.after {
+            After::More => None,
+            After::Whole => {
+                self.ended = true;
+                Some(Item::End)
+            }
+            After::Broke => {
+                self.ended = true;
+                Some(Item::Broken)
+            }
+        }
     }
 
     /// Its output is closed: nothing more is to be given.

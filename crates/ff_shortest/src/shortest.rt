@@ -4,7 +4,7 @@ ghost use Rattle.ff_filter.specs.Made.{mark_after};
 ghost use Rattle.ff_filter.specs.Shifts.{start_ticks};
 ghost use Rattle.ff_filter.specs.Views.{Gave, Waits, IsSpent};
 ghost use Rattle.ff_shortest.specs.Shortened.{Kept, both as both_of, fate_by as fate_by_of};
-ghost use Rattle.ff_shortest.specs.Lines.{lines_of, lanes_of, line_at, bases, reaches, stands, view_of, IsShortest, fate_is, fate_now, next_fate};
+ghost use Rattle.ff_shortest.specs.Lines.{lines_of, lanes_of, line_at, bases, reaches, stands, view_of, IsShortest, fate_is, fate_now, next_fate, AreNew};
 ghost use Rattle.ff_shortest.specs.Lines.{mark_now, is_done as is_done_of, done_to, shortest_spent};
 ghost use Rattle.ff_shortest.specs.Moves.{IsClosedAt};
 ghost use Rattle.ff_shortest.specs.ShortLaws.{shortest-grows, shortest-hides, shortest-settles, shortest-quiet, shortest-spent_only};
@@ -37,15 +37,31 @@ fn both(a: Option<After>, b: Option<After>) -> Option<After>
     }
 }
 
+/// Streams of these heads, of which nothing came yet.
+pub(crate) fn new_sides(alloc: Global, heads: &[StreamHead]) -> Result<Vec<Side>, AllocError>
+    ensures new { IfOk result (λ sides. AreNew heads.now sides.items) }
+{
+    let mut sides = Vec::with_capacity(alloc, heads.len())?;
+    'heads: for p in 0..heads.len() {
+        sides.push(Side::new(alloc, heads[p]))?;
+    }
+    Ok(sides)
+}
+
 impl Shortest {
     /// The streams of these heads, of which nothing came yet.
     pub fn new(alloc: Global, heads: Vec<StreamHead>) -> Result<Shortest, AllocError>
         ensures new { IfOk result (λ m. IsShortest heads.items (view_of m.sides.items)) }
     {
-        let mut sides = Vec::with_capacity(alloc, heads.len())?;
-        'heads: for p in 0..heads.len() {
-            sides.push(Side::new(alloc, heads[p]))?;
-        }
+        let sides = new_sides(alloc, &heads)?;
+        Ok(Shortest { sides })
+    }
+
+    /// The same, of heads that are lent.
+    pub(crate) fn of(alloc: Global, heads: &[StreamHead]) -> Result<Shortest, AllocError>
+        ensures new { IfOk result (λ m. IsShortest heads.now (view_of m.sides.items)) }
+    {
+        let sides = new_sides(alloc, heads)?;
         Ok(Shortest { sides })
     }
 

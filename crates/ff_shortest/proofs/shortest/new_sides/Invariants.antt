@@ -1,0 +1,6 @@
+use Rattle.std.proofs.Common.{take}
+use Rattle.ff_shortest.specs.Lines.{AreNew}
+use Rattle.ff_shortest.proofs.shortest.new_sides.Given as goal
+
+abbrev pub invariant-heads : goal.invariant-heads
+invariant-heads l = AreNew (take l.p l.heads) l.sides.items

@@ -1,0 +1,12 @@
+use Rattle.std.proofs.Common.{sym, arith, length}
+use Rattle.ff_shortest.specs.Lines.{lines_of}
+use Rattle.ff_shortest.proofs.Moving.{long_lines}
+use Rattle.ff_shortest.proofs.Straightening.{through_fails}
+use Rattle.ff_shortest.proofs.straight.Straight.all_through.Goals as goal
+
+pub returns-then-not-is_through : goal.returns-then-not-is_through
+returns-then-not-is_through c =
+    let v = c.args.self.now.sides in
+    let long = long_lines v.items in
+    sym (through_fails (lines_of v.items) (length (lines_of v.items)) c.streams.p c.is_through.result (omega (arith, long, c.streams-test.true, c.len-p-end.ensures, v.ok.0))
+    c.is_through.ensures c.if-not-is_through.true)

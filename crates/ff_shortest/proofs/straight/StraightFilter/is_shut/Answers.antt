@@ -1,0 +1,9 @@
+use Rattle.std.proofs.Common.{◌∙◌, sym, ap}
+use Rattle.ff_filter.specs.Made.{is_over}
+use Rattle.ff_shortest.specs.Lines.{Line}
+use Rattle.ff_shortest.proofs.Moving.{line_there, port_there}
+use Rattle.ff_shortest.proofs.straight.StraightFilter.is_shut.Goals as goal
+
+pub returns : goal.returns
+returns c = let ss = c.args.self.now.sides.items in
+    c.is_shut.ensures ∙ ap (λ (l : Line). is_over l.after) (sym (line_there ss c.args.port c.index.result.now (port_there ss c.args.port c.requires) c.index.ensures))

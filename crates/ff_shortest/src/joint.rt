@@ -1,0 +1,159 @@
+ghost use Rattle.std.specs.Prelude.{IfOk, ◌≡◌, map, None};
+ghost use Rattle.ff_frame.specs.declared.item.Lane.TheVariants.{Frames};
+ghost use Rattle.ff_net.specs.Pasts.{start};
+ghost use Rattle.ff_shortest.specs.JointTask.{joint_task, IsJointOf};
+ghost use Rattle.ff_shortest.specs.ShortLaws.{shortest-grows, shortest-hides, shortest-settles, shortest-quiet};
+ghost use Rattle.ff_shortest.specs.ShortLaws.{shortest-spent_only, shortest-shut_spent, shortest-done_spent};
+ghost use Rattle.ff_shortest.specs.StraightLaws.{straight-grows, straight-hides, straight-settles, straight-quiet};
+ghost use Rattle.ff_shortest.specs.StraightLaws.{straight-spent_only, straight-shut_spent, straight-done_spent};
+ghost use Rattle.ff_shortest.specs.Lines.{lines_of, lanes_of};
+
+use crate::shortest::Shortest;
+use crate::straight::Straight;
+use ff_filter::Filter;
+use ff_frame::{Item, Refused, StreamHead};
+use ff_net::Machine;
+use ff_net_filter::Alone;
+use std::alloc::{AllocError, Global};
+
+/// The streams of one output together: each up to the end of the shortest, or as they are.
+#[derive(Drop)]
+pub enum Joint {
+    /// Each up to the end of the shortest.
+    Shortest(Shortest),
+    /// As they are.
+    Straight(Straight),
+}
+
+impl Filter for Joint {
+    ghost use Rattle.ff_shortest.specs.declared.joint.Joint.TheVariants as joint;
+
+    ghost view = { elim [
+      | joint.Shortest m ↦ ⟦<Shortest as Filter>⟧.view m
+      | joint.Straight m ↦ ⟦<Straight as Filter>⟧.view m
+    ] };
+
+    ghost spends = { elim [
+      | joint.Shortest m ↦ ⟦<Shortest as Filter>⟧.spends m
+      | joint.Straight m ↦ ⟦<Straight as Filter>⟧.spends m
+    ] };
+
+    fn inputs(&self) -> usize {
+        match self {
+            Joint::Shortest(filter) => filter.inputs(),
+            Joint::Straight(filter) => filter.inputs(),
+        }
+    }
+
+    fn outputs(&self) -> usize {
+        match self {
+            Joint::Shortest(filter) => filter.outputs(),
+            Joint::Straight(filter) => filter.outputs(),
+        }
+    }
+
+    fn is_shut(&self, port: usize) -> bool {
+        match self {
+            Joint::Shortest(filter) => filter.is_shut(port),
+            Joint::Straight(filter) => filter.is_shut(port),
+        }
+    }
+
+    fn is_stopped(&self, port: usize) -> bool {
+        match self {
+            Joint::Shortest(filter) => filter.is_stopped(port),
+            Joint::Straight(filter) => filter.is_stopped(port),
+        }
+    }
+
+    fn feed(&mut self, port: usize, item: Item) -> Result<(), Refused> {
+        match self {
+            Joint::Shortest(filter) => filter.feed(port, item),
+            Joint::Straight(filter) => filter.feed(port, item),
+        }
+    }
+
+    fn pull(&mut self, port: usize) -> Result<Option<Item>, AllocError> {
+        match self {
+            Joint::Shortest(filter) => filter.pull(port),
+            Joint::Straight(filter) => filter.pull(port),
+        }
+    }
+
+    fn stop(&mut self, port: usize) {
+        match self {
+            Joint::Shortest(filter) => filter.stop(port),
+            Joint::Straight(filter) => filter.stop(port),
+        }
+    }
+
+    fn spent(&self, port: usize) -> bool {
+        match self {
+            Joint::Shortest(filter) => filter.spent(port),
+            Joint::Straight(filter) => filter.spent(port),
+        }
+    }
+
+    ghost grows = { elim [
+      | joint.Shortest m ↦ shortest-grows (lanes_of m.sides.items) (lines_of m.sides.items)
+      | joint.Straight m ↦ straight-grows (lanes_of m.sides.items) (lines_of m.sides.items)
+    ] };
+
+    ghost hides = { elim [
+      | joint.Shortest m ↦ shortest-hides (lanes_of m.sides.items) (lines_of m.sides.items)
+      | joint.Straight m ↦ straight-hides (lanes_of m.sides.items) (lines_of m.sides.items)
+    ] };
+
+    ghost settles = { elim [
+      | joint.Shortest m ↦ shortest-settles m.sides.items
+      | joint.Straight m ↦ straight-settles m.sides.items
+    ] };
+
+    ghost quiet = { elim [
+      | joint.Shortest m ↦ λ q e ext. shortest-quiet (lanes_of m.sides.items) (lines_of m.sides.items) q e ext
+      | joint.Straight m ↦ λ q e ext. straight-quiet (lanes_of m.sides.items) (lines_of m.sides.items) q e ext
+    ] };
+
+    ghost spent_only = { elim [
+      | joint.Shortest m ↦ λ p lt e. shortest-spent_only m.sides.items p lt e
+      | joint.Straight m ↦ λ p lt e. straight-spent_only m.sides.items p lt e
+    ] };
+
+    ghost shut_spent = { elim [
+      | joint.Shortest m ↦ λ p lt e. shortest-shut_spent (lanes_of m.sides.items) (lines_of m.sides.items) p e
+      | joint.Straight m ↦ λ p lt e. straight-shut_spent (lanes_of m.sides.items) (lines_of m.sides.items) p e
+    ] };
+
+    ghost done_spent = { elim [
+      | joint.Shortest m ↦ λ p lt z d. shortest-done_spent m.sides.items p d
+      | joint.Straight m ↦ λ p lt z d. straight-done_spent m.sides.items p d
+    ] };
+}
+
+// The filter, of which nothing came yet.
+fn joint_filter(alloc: Global, is_shortest: bool, heads: &[StreamHead]) -> Result<Joint, AllocError>
+    ensures { IfOk result (λ m. IsJointOf is_shortest heads.now (⟦<Joint as Filter>⟧.view m)) }
+{
+    if is_shortest {
+        Ok(Joint::Shortest(Shortest::of(alloc, heads)?))
+    } else {
+        Ok(Joint::Straight(Straight::new(alloc, heads)?))
+    }
+}
+
+/// The machine of the node on which all streams of one output come together: it shortens each to the end of the shortest, or
+/// gives them as they are. It has no fault of its own.
+pub fn joint_machine(
+    alloc: Global,
+    is_shortest: bool,
+    heads: &[StreamHead],
+) -> Result<Alone<Joint>, AllocError>
+    ensures in_lanes { IfOk result (λ m. (⟦<Alone<Joint> as Machine>⟧.view m).in_lanes ≡ map Frames heads.now) }
+    ensures out_lanes { IfOk result (λ m. (⟦<Alone<Joint> as Machine>⟧.view m).out_lanes ≡ map Frames heads.now) }
+    ensures source { IfOk result (λ m. (⟦<Alone<Joint> as Machine>⟧.view m).source ≡ None) }
+    ensures fault { IfOk result (λ m. (⟦<Alone<Joint> as Machine>⟧.view m).fault ≡ None) }
+    ensures stands { IfOk result (λ m. (⟦<Alone<Joint> as Machine>⟧.view m).stands (start (joint_task is_shortest heads.now))) }
+{
+    let filter = joint_filter(alloc, is_shortest, heads)?;
+    Ok(Alone::new(filter))
+}
