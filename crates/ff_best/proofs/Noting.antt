@@ -1,5 +1,5 @@
 -- One feed more.
-use Rattle.std.proofs.Common.{◌≡◌, ℕ, ℤ, Bool, true, Option, None, Some, List, [], ◌∷◌, ◌++◌, length, refl, ap, sym, ◌∙◌, inl, inr, append_assoc}
+use Rattle.std.proofs.Common.{◌≡◌, ℕ, ℤ, Bool, Option, None, Some, List, [], ◌∷◌, ◌++◌, length, refl, ap, sym, ◌∙◌, inl, inr, append_assoc}
 use Rattle.std.specs.Prelude.{unwrap_or}
 use Rattle.ff_time.specs.Fraction.{Fraction}
 use Rattle.ff_values.specs.declared.event.Event.{Event}
@@ -16,7 +16,7 @@ use Rattle.ff_best.specs.declared.lead.Lead.{Lead}
 use Rattle.ff_best.specs.Bests.{last_end, end_in, closed_in, is_over, base_at, earliest_to, best_of, streams_on, best_on, events_on, turned, best_after, best_events}
 use Rattle.ff_best.specs.Inputs.{bases_of, end_at, closed_at, kept_to, Keeps}
 use Rattle.ff_best.specs.Leads.{Tells, IsSame}
-use Rattle.ff_best.specs.Near.{ends_at, end_behind, closed_behind}
+use Rattle.ff_best.specs.Ends.{ends_at, end_behind, closed_behind}
 use Rattle.ff_best.proofs.Placing.{bases_long}
 
 pub streams_on-more : (ss : List Flow) (fs : List Feed) (f : Feed) → streams_on ss (fs ++ f ∷ []) ≡ with_item_at (streams_on ss fs) f.port f.item
@@ -123,10 +123,10 @@ tells_on old new port x keeps same g b w graph bases told feeds t =
       best = is ∙ sym (best_on-more bases [] 0 feeds f);
       keeps = rw (streams_on-more [] feeds f) kept;
       all =
-        ap (λ (es : List Event). told ++ es) w ∙ (sym (append_assoc told old.waiting.items (turned old.graph old.best new.best))
-        ∙ (ap (λ (es : List Event). es ++ turned old.graph old.best new.best) t.all
-        ∙ (ap (λ (i : ℕ). best_events graph bases feeds ++ turned i old.best new.best) t.graph_is
-        ∙ (ap (λ (i : ℕ). best_events graph bases feeds ++ turned graph i new.best) t.best
-        ∙ (ap (λ (i : ℕ). best_events graph bases feeds ++ turned graph (best_after bases feeds) i) is
-        ∙ sym (events_on-more graph bases [] 0 feeds f))))));
+          ap (λ (es : List Event). told ++ es) w ∙ (sym (append_assoc told old.waiting.items (turned old.graph old.best new.best))
+          ∙ (ap (λ (es : List Event). es ++ turned old.graph old.best new.best) t.all
+          ∙ (ap (λ (i : ℕ). best_events graph bases feeds ++ turned i old.best new.best) t.graph_is
+          ∙ (ap (λ (i : ℕ). best_events graph bases feeds ++ turned graph i new.best) t.best
+          ∙ (ap (λ (i : ℕ). best_events graph bases feeds ++ turned graph (best_after bases feeds) i) is
+          ∙ sym (events_on-more graph bases [] 0 feeds f))))));
     }

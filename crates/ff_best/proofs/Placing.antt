@@ -1,5 +1,5 @@
 -- The input of a number, and what stays where one is replaced.
-use Rattle.std.proofs.Common.{◌≡◌, ◌≢◌, ℕ, zero, suc, ◌<◌, ℤ, Bool, true, false, cond, Option, None, Some, List, [], ◌∷◌, ◌++◌, ◌+◌, length, take, refl, ap, sym, ◌∙◌, arith, get_or, set}
+use Rattle.std.proofs.Common.{◌≡◌, ◌≢◌, ℕ, zero, suc, ◌<◌, Bool, true, false, cond, Option, None, Some, List, [], ◌∷◌, ◌++◌, ◌+◌, length, take, refl, ap, sym, ◌∙◌, arith, get_or, set}
 use Rattle.ff_time.specs.Fraction.{Fraction}
 use Rattle.ff_best.specs.declared.input.Input.{Input}
 use Rattle.std.proofs.Math.Seq.{take-suc}

@@ -1,14 +1,11 @@
 -- The laws of a machine that tells its best input, from those of the machine within.
-use Rattle.std.specs.Prelude.{◌≡◌, ℕ, ◌∷◌, ◌++◌, [], List, false, None, Some, Option, is_some, IsSome}
+use Rattle.std.specs.Prelude.{◌≡◌, ℕ, List, false, None, Some, Option, is_some, IsSome}
 use Rattle.std.proofs.Common.{sym, ap, ◌∙◌}
 use Rattle.ff_values.specs.declared.event.Event.{Event}
-use Rattle.ff_net.specs.declared.fault.Fault.{Fault}
 use Rattle.ff_net.specs.Pasts.{Past, Feed}
 use Rattle.ff_net.specs.Views.{View, IsSameShape}
 use Rattle.ff_net.specs.Laws.{FaultStep, IsPending, IsReading, Laws}
 use Rattle.ff_best.specs.declared.lead.Lead.{Lead}
-use Rattle.ff_best.specs.Bests.{best_events}
-use Rattle.ff_best.specs.Leads.{Tells}
 use Rattle.ff_best.specs.Views.{quiet, LeadStands, leading_view}
 
 pub same_shape : (v w : View) (old new : Lead) → IsSameShape v w → IsSameShape (leading_view v old) (leading_view w new)

@@ -1,6 +1,5 @@
 -- What a machine that tells its best input shows.
 use Rattle.ff_net.specs.Views.{View}
-use Rattle.ff_net.specs.Laws.{Laws}
 use Rattle.ff_net.specs.declared.machine.Machine.{Ghosts as MachineGhosts}
 use Rattle.ff_best.specs.declared.leading.Leading.{Leading}
 use Rattle.ff_best.specs.Views.{leading_view}

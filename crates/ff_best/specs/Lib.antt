@@ -1,7 +1,9 @@
 pub mod Bests
+pub mod Ends
+pub mod Examples
 pub mod Inputs
+pub mod Laws
 pub mod LeadLaws
 pub mod Leaders
 pub mod Leads
-pub mod Near
 pub mod Views

@@ -2,7 +2,7 @@ ghost use Rattle.std.specs.Prelude.{◌≡◌, ◌<◌, ◌/◌, ◌^◌, pos, �
 ghost use Rattle.std.specs.Option.{ForSome};
 ghost use Rattle.ff_values.specs.Heads.{base_of_head};
 ghost use Rattle.ff_best.specs.Bests.{is_earlier as is_earlier_of};
-ghost use Rattle.ff_best.specs.Near.{IsNear, ends_at, end_behind, closed_behind};
+ghost use Rattle.ff_best.specs.Ends.{IsNear, ends_at, end_behind, closed_behind};
 
 use ff_frame::{Item, StreamHead};
 use ff_time::Rational;

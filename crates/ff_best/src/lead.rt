@@ -7,7 +7,7 @@ ghost use Rattle.ff_net.specs.Pasts.{Feed};
 ghost use Rattle.ff_net.specs.Ways.{Flow, with_item_at};
 ghost use Rattle.ff_best.specs.Bests.{turned};
 ghost use Rattle.ff_best.specs.Inputs.{bases_of, bases_of_heads, kept_to, Keeps};
-ghost use Rattle.ff_best.specs.Near.{IsNear, ends_at};
+ghost use Rattle.ff_best.specs.Ends.{IsNear, ends_at};
 
 use crate::choosing::earliest;
 use crate::input::Input;

@@ -1,9 +1,10 @@
 ghost use Rattle.std.specs.Prelude.{◌≡◌, ◌≤◌, ◌^◌, map, length, None, IfOk, IfErr};
 ghost use Rattle.ff_frame.specs.declared.item.Lane.TheVariants.{Frames};
-ghost use Rattle.ff_net.specs.Pasts.{Task, start, no_events};
+ghost use Rattle.ff_net.specs.Pasts.{Task, Past, start, no_events};
 ghost use Rattle.ff_net.specs.Views.{IsSameShape};
 ghost use Rattle.ff_best.specs.Bests.{best_events};
 ghost use Rattle.ff_best.specs.Inputs.{bases_of_heads};
+ghost use Rattle.ff_best.specs.Laws.{last_named};
 
 use crate::input::end_of_item;
 use crate::lead::Lead;
@@ -26,12 +27,7 @@ impl<M: Machine + Drop> Leading<M> {
 
     /// A machine that is no source and to which nothing was done, as that of the graph of this number, whose inputs carry frames of
     /// these heads. For want of memory it comes back.
-    pub fn new(
-        alloc: Global,
-        graph: u32,
-        heads: &[StreamHead],
-        machine: M,
-    ) -> Result<Leading<M>, M>
+    pub fn new(alloc: Global, graph: u32, heads: &[StreamHead], machine: M) -> Result<Leading<M>, M>
         requires few { length heads.now ≤ 2 ^ 32 }
         requires lanes { (M.view machine).in_lanes ≡ map Frames heads.now }
         requires no_source { (M.view machine).source ≡ None }
@@ -47,6 +43,13 @@ impl<M: Machine + Drop> Leading<M> {
             Ok(lead) => Ok(Leading { machine, lead }),
             Err(_) => Err(machine),
         }
+    }
+
+    /// The best input, by what it was fed: the one that the last event names which is due by now.
+    pub fn best(&self) -> u32
+        ensures { (past : Past) → (leading_shown self.now).stands past → result ≡ last_named 0 (past.task.tells past.feeds) }
+    {
+        self.lead.best()
     }
 }
 

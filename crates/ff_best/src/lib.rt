@@ -12,7 +12,9 @@
 
 mod choosing;
 mod input;
+mod laws;
 mod lead;
 mod leading;
 
+pub use laws::{best_inputs_worked_out, events_of_the_best_input, the_best_input_is_the_first};
 pub use leading::Leading;

@@ -1,6 +1,6 @@
-use Rattle.std.proofs.Common.{◌≡◌, ◌<◌, ◌∙◌, [], ◌∷◌, ◌++◌, List, length, ap, sym, subst, arith}
+use Rattle.std.proofs.Common.{◌<◌, ◌∙◌, [], List, length, ap, sym, subst, arith}
 use Rattle.ff_best.specs.declared.input.Input.{Input}
-use Rattle.ff_best.specs.Inputs.{bases_of, bases_of_heads, Keeps}
+use Rattle.ff_best.specs.Inputs.{bases_of, Keeps}
 use Rattle.ff_best.proofs.Placing.{inputs_more, keeps_more}
 use Rattle.ff_best.proofs.lead.inputs_of.Goals as goal
 

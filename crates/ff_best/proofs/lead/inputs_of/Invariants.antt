@@ -1,4 +1,4 @@
-use Rattle.std.proofs.Common.{◌≡◌, List, [], take}
+use Rattle.std.proofs.Common.{◌≡◌, [], take}
 use Rattle.ff_best.specs.Inputs.{bases_of, bases_of_heads, Keeps}
 use Rattle.ff_best.proofs.lead.inputs_of.Given as goal
 

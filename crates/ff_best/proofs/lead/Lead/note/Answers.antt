@@ -1,7 +1,6 @@
 use Rattle.std.proofs.Common.{◌≡◌, ◌∙◌, ◌++◌, List, ℕ, length, ap, sym, subst}
 use Rattle.std.specs.Prelude.{unwrap_or}
 use Rattle.ff_net.specs.Ways.{with_item_at}
-use Rattle.ff_values.specs.declared.event.Event.{Event}
 use Rattle.ff_best.specs.declared.input.Input.{Input}
 use Rattle.ff_best.specs.Bests.{turned}
 use Rattle.ff_best.specs.Inputs.{bases_of, kept_to, Keeps}

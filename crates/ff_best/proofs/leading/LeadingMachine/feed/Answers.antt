@@ -14,5 +14,5 @@ returns-in-Ok-clause-accepted g c = λ past s o fits.
       count = same_count (g.M.Machine.view c.args.self.now.machine) (g.M.Machine.view c.feed.new.self) lead past s c.feed.ensures.shape;
       tells_is = s.tells_is;
       tells = c.note.ensures.tells s.graph s.bases past.told past.feeds c.args.item c.end_of_item-end.ensures.is
-      (same_tells lead c.reserve.new.self c.reserve.ensures.same s.graph s.bases past.told past.feeds s.tells);
+          (same_tells lead c.reserve.new.self c.reserve.ensures.same s.graph s.bases past.told past.feeds s.tells);
     }
