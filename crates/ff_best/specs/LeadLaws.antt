@@ -3,16 +3,10 @@ use Rattle.std.specs.Prelude.{◌≡◌, ℕ, List, false, None, Some, Option, i
 use Rattle.std.proofs.Common.{sym, ap, ◌∙◌}
 use Rattle.ff_values.specs.declared.event.Event.{Event}
 use Rattle.ff_net.specs.Pasts.{Past, Feed}
-use Rattle.ff_net.specs.Views.{View, IsSameShape}
-use Rattle.ff_net.specs.Laws.{FaultStep, IsPending, IsReading, Laws}
+use Rattle.ff_net.specs.Views.{View}
+use Rattle.ff_net.specs.Laws.{IsPending, IsReading, Laws}
 use Rattle.ff_best.specs.declared.lead.Lead.{Lead}
 use Rattle.ff_best.specs.Views.{quiet, LeadStands, leading_view}
-
-pub same_shape : (v w : View) (old new : Lead) → IsSameShape v w → IsSameShape (leading_view v old) (leading_view w new)
-same_shape v w old new s = record { in_lanes = s.in_lanes; out_lanes = s.out_lanes; source = s.source }
-
-pub fares_so : (v w : View) (old new : Lead) → FaultStep v w → FaultStep (leading_view v old) (leading_view w new)
-fares_so v w old new f = record { device_same = f.device_same; later = f.later; stays = f.stays; failed = f.failed; unfailed = f.unfailed; behind = f.behind }
 
 waits_in : (n : ℕ) (past : Past) (q : ℕ) → IsPending n past q → IsPending n (quiet past) q
 waits_in n past q p = record { there = p.there; goes_on = p.goes_on; unclosed = p.unclosed }
