@@ -456,7 +456,7 @@ module _ (rules : Rules) (job : Job) (heads : List (List StreamHead)) (l : Layou
       ∙ ap (λ (hs : List StreamHead). map (λ (h : StreamHead). Packets (packed_as by.0 h)) hs) (sym (heads_are o)))) in
       subst (λ (i : ℕ). Fit i (node.Mux o)) same (record { out = by.0; out_is = by.1; ins = mux_ins whole laid_whole o ∙ lanes; outs = mux_outs whole laid_whole o })
 
-  at_fit : (k : ℕ) (d : PlanNode) → IsAt whole k d → Fit k d
+  pub at_fit : (k : ℕ) (d : PlanNode) → IsAt whole k d → Fit k d
   at_fit k d (In_demuxes i r e place_ at) = subst (Fit k) e tt
   at_fit k d (In_decs s r e place_ at) = subst (Fit k) e tt
   at_fit k d (In_graphs x r e place_ at) = subst (Fit k) e tt

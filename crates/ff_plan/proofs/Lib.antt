@@ -1,41 +1,41 @@
-mod Among
+pub mod Among
 mod Best
-mod Counts
-mod EndFits
+pub mod Counts
+pub mod EndFits
 mod Filters
 mod Fitting
 mod Fronts
 mod Given
-mod GraphFits
+pub mod GraphFits
 mod GraphLanes
 mod GraphWires
-mod Graphed
-mod Kept
+pub mod Graphed
+pub mod Kept
 mod NodeKinds
 mod NodeRows
 mod Known
-mod Laid
-mod Lanes
-mod Layouts
-mod Limits
-mod Made
+pub mod Laid
+pub mod Lanes
+pub mod Layouts
+pub mod Limits
+pub mod Made
 mod Memory
 mod Named
-mod Numbered
-mod Once
-mod Outs
+pub mod Numbered
+pub mod Once
+pub mod Outs
 mod Places
 mod Plain
-mod Plans
-mod Ported
-mod Results
+pub mod Plans
+pub mod Ported
+pub mod Results
 mod Rows
 mod Singles
-mod Small
+pub mod Small
 mod StartFits
-mod Steps
+pub mod Steps
 mod Today
-mod Upward
+pub mod Upward
 mod UsedLabels
 mod Uses
 mod Wants
