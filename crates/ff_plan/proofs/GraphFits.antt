@@ -64,7 +64,7 @@ IsStream (origin.Pad g p) = ⊥
 
 -- ---- all heads that a graph was made with are there
 
-all_there : (made : List Made) (ws : List Want) → AllByRecursion (λ (h : Option StreamHead). IsSome h) (map (λ w. head_in (pad_in made w)) ws)
+pub all_there : (made : List Made) (ws : List Want) → AllByRecursion (λ (h : Option StreamHead). IsSome h) (map (λ w. head_in (pad_in made w)) ws)
     → map (λ w. head_in (pad_in made w)) ws ≡ map (λ (h : StreamHead). Some h) (map (λ (i : InPad). i.head) (filter_map (pad_in made) ws))
 all_there made [] all = refl
 all_there made (w ∷ ws) all = step (pad_in made w) all.0 (all_there made ws all.1) where

@@ -1,2 +1,3 @@
+pub mod Frames
 mod Taken
 mod Types

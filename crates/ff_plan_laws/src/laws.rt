@@ -1,16 +1,18 @@
 // What holds of every plan.
 ghost use Rattle.std.specs.Prelude.{◌≡◌, ◌≤◌, List, length, Ok};
+ghost use Rattle.std.specs.List.{AllByRecursion};
 ghost use Rattle.ff_plan.specs.Graphs.{AreRules};
 ghost use Rattle.ff_plan.specs.Plain.{IsWithinLimits};
 ghost use Rattle.ff_plan.specs.Planned.{planned};
 ghost use Rattle.ff_plan.specs.Rules.{Rules};
-ghost use Rattle.ff_plan.specs.Taken.{OutputsFit};
+ghost use Rattle.ff_plan.specs.Taken.{AllFrames, AreKeptBy, OutputsFit};
 ghost use Rattle.ff_plan.specs.declared.planned.Plan.{Plan};
 ghost use Rattle.ff_plan_laws.specs.Sound.{KeepsTaken};
 ghost use Rattle.ff_values.specs.declared.head.StreamHead.{StreamHead};
 ghost use Rattle.ff_words.specs.declared.job.Job.{Job};
 
 use ff_labels::{orders_are_whole, orders_go_upward};
+use std::marker::Brand;
 
 /// Each output has some streams, no more than its format holds, and its format takes each.
 pub fn outputs_fit()
@@ -18,4 +20,26 @@ pub fn outputs_fit()
         → OutputsFit rules job.outputs p }
 {
     orders_go_upward();
+}
+
+/// Something that can be so of the head of a stream.
+pub trait HeadFact {
+    ghost use Rattle.ff_values.specs.declared.head.StreamHead.{StreamHead};
+
+    /// It is so of this head.
+    ghost is_so: { StreamHead → Type 0 };
+}
+
+// A call at this type picks what it means.
+impl HeadFact for Brand {
+    ghost is_so = { λ head. Unit {0} };
+}
+
+/// What is so of the heads of all streams of inputs, and of what graphs make of such heads, is so of all frames.
+pub fn frames_are_kept<K: HeadFact>()
+    ensures { (rules : Rules) (job : Job) (heads : List (List StreamHead)) (p : Plan) → AreRules rules → AreKeptBy rules K.is_so
+        → AllByRecursion (λ hs. AllByRecursion K.is_so hs) heads → 1 ≤ length job.outputs → planned rules job heads ≡ Ok p → AllFrames K.is_so p.edges }
+{
+    orders_go_upward();
+    orders_are_whole();
 }
