@@ -201,7 +201,7 @@ module _ (rules : Rules) (outputs : List OutputJob) (all : List Passed) where
         let one : graph_of p ≡ own ∷ [] = ap graph_of (sym f.is) in
         ap (λ (xs : List Laid). length (flat_map (texts_of_laid o out) (xs ++ later))) one ∙ (ap suc e ∙ ap (λ (xs : List Laid). length (xs ++ later)) (sym one))
 
-    row_long : (g : ℕ) (is : List InPad) (ps : List Passed) → AllPassed rules out g is ps → length (texts_of_row o out ps) ≡ length (flat_map graph_of ps)
+    pub row_long : (g : ℕ) (is : List InPad) (ps : List Passed) → AllPassed rules out g is ps → length (texts_of_row o out ps) ≡ length (flat_map graph_of ps)
     row_long g [] [] s = refl
     row_long g [] (p ∷ ps) s = absurd s
     row_long g (i ∷ is) [] s = absurd s

@@ -12,7 +12,7 @@ mod GraphWires
 pub mod Graphed
 pub mod Kept
 mod NodeKinds
-mod NodeRows
+pub mod NodeRows
 mod Known
 pub mod Laid
 pub mod Lanes

@@ -96,7 +96,7 @@ module _ (rules : Rules) (job : Job) (heads : List (List StreamHead)) (l : Layou
       ∙ (ap (λ (ns : List ℕ). tally (λ x. x == q) ns + tally (λ x. x == q) (map (λ (x : Laid). x.graph) simples)) complex_numbers
       ∙ ap (λ (ns : List ℕ). tally (λ x. x == q) (graph_order job.graphs) + tally (λ x. x == q) ns) simple_numbers))
 
-  all_once : (q : ℕ) → q < n + length simples → tally (λ x. x == q) graph_numbers ≡ 1
+  pub all_once : (q : ℕ) → q < n + length simples → tally (λ x. x == q) graph_numbers ≡ 1
   all_once q lt =
       let both = both_counts q in let order = order_count q in
       elim (less_or q n) [
@@ -104,7 +104,7 @@ module _ (rules : Rules) (job : Job) (heads : List (List StreamHead)) (l : Layou
         | inr le ↦ (let a = order.1 le in let b = range_one q n (length simples) le lt in omega (arith, both, a, b))
       ]
 
-  none_above : (q : ℕ) → n + length simples ≤ q → tally (λ x. x == q) graph_numbers ≡ 0
+  pub none_above : (q : ℕ) → n + length simples ≤ q → tally (λ x. x == q) graph_numbers ≡ 0
   none_above q le =
       let both = both_counts q in let a = (order_count q).1 (omega (arith, le)) in let b = range_beyond q n (length simples) le in
       omega (arith, both, a, b)

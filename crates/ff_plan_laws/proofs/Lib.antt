@@ -1,3 +1,4 @@
 pub mod Frames
+mod Sound
 mod Taken
 mod Types

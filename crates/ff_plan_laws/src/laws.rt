@@ -7,7 +7,7 @@ ghost use Rattle.ff_plan.specs.Planned.{planned};
 ghost use Rattle.ff_plan.specs.Rules.{Rules};
 ghost use Rattle.ff_plan.specs.Taken.{AllFrames, AreKeptBy, OutputsFit};
 ghost use Rattle.ff_plan.specs.declared.planned.Plan.{Plan};
-ghost use Rattle.ff_plan_laws.specs.Sound.{KeepsTaken};
+ghost use Rattle.ff_plan_laws.specs.Sound.{HasFewIns, IsSoundPlan, KeepsTaken};
 ghost use Rattle.ff_values.specs.declared.head.StreamHead.{StreamHead};
 ghost use Rattle.ff_words.specs.declared.job.Job.{Job};
 
@@ -20,6 +20,15 @@ pub fn outputs_fit()
         → OutputsFit rules job.outputs p }
 {
     orders_go_upward();
+}
+
+/// The plan of a job within the limits is sound: what it asks of its outputs, its routes, its streams, texts, nodes and edges.
+pub fn plans_are_sound()
+    ensures { (rules : Rules) (job : Job) (heads : List (List StreamHead)) (p : Plan) → AreRules rules → HasFewIns rules → KeepsTaken rules
+        → IsWithinLimits job heads → 1 ≤ length job.outputs → planned rules job heads ≡ Ok p → IsSoundPlan rules job heads p }
+{
+    orders_go_upward();
+    orders_are_whole();
 }
 
 /// Something that can be so of the head of a stream.
