@@ -122,7 +122,7 @@ module _ (inside : Inside) where
   some_is o [] pads h = absurd (not_ok _ pads h)
   some_is o (i ∷ is) pads h = same_ok (i ∷ is) pads h
 
-  chosen_is : (out : OutputJob) (o : ℕ) (used : List (List ℕ)) (before pads : List InPad) → chosen inside out o used before ≡ Ok pads → AreChosen out used before pads
+  pub chosen_is : (out : OutputJob) (o : ℕ) (used : List (List ℕ)) (before pads : List InPad) → chosen inside out o used before ≡ Ok pads → AreChosen out used before pads
   chosen_is out o used before pads h =
       let first = behind_ok (asked inside out o used before out.maps) (λ new. some_or o (before ++ new)) pads h in
       (first.0, asked_is out o used before out.maps first.0 first.1, some_is o (before ++ first.0) pads first.2)

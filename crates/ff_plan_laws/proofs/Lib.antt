@@ -1,4 +1,5 @@
 pub mod Frames
+mod Memory
 mod Sound
 mod Taken
 mod Types

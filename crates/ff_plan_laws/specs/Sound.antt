@@ -1,17 +1,19 @@
 -- What is sound of every plan, and what the rules of graphs owe for it.
-use Rattle.std.specs.Prelude.{◌≡◌, ℕ, ◌<◌, ◌≤◌, true, List, [], ◌∷◌, length, slice_get, Option, Some, Ok}
+use Rattle.std.specs.Prelude.{◌≡◌, ◌≢◌, ℕ, ◌<◌, ◌≤◌, true, List, [], ◌∷◌, length, slice_get, Option, Some, Ok, Err}
 use Rattle.ff_edges.specs.Ports.{HasIns, HasOuts}
 use Rattle.ff_lang.specs.declared.graph.Graph.{Graph}
 use Rattle.ff_plan.specs.Graphs.{IsHad}
 use Rattle.ff_plan.specs.Laws.{GoUpward}
 use Rattle.ff_plan.specs.Numbers.{HasFewStreams}
 use Rattle.ff_plan.specs.declared.open_pads.OpenOut.{OpenOut}
+use Rattle.ff_plan.specs.declared.open_pads.Refused.{Refused}
 use Rattle.ff_plan.specs.Rules.{Rules}
 use Rattle.ff_plan.specs.Streams.{takes_head}
 use Rattle.ff_plan.specs.Taken.{OutputsFit}
 use Rattle.ff_plan.specs.declared.planned.Plan.{Plan}
 use Rattle.ff_plan.specs.declared.planned.PlanNode.TheVariants as node
 use Rattle.ff_sched.specs.Routes.{AreRoutes}
+use Rattle.ff_values.specs.declared.config.ConfigError.TheVariants as config
 use Rattle.ff_values.specs.declared.head.StreamHead.{StreamHead}
 use Rattle.ff_words.specs.declared.job.Job.{Job}
 use Rattle.ff_words.specs.declared.job.OutputJob.{OutputJob}
@@ -24,6 +26,10 @@ HasFewIns rules = (g : Graph) (heads : List (Option StreamHead)) (outs : List Op
 abbrev pub KeepsTaken : Rules → Type 0
 KeepsTaken rules = (out : OutputJob) (g : Graph) (head : StreamHead) (made : OpenOut) → rules.configured g (Some head ∷ []) ≡ Ok (made ∷ [])
     → takes_head out head ≡ true → takes_head out made.head ≡ true
+
+-- the rules never refuse a graph for want of memory
+abbrev pub NeverWantsMemory : Rules → Type 0
+NeverWantsMemory rules = (g : Graph) (heads : List (Option StreamHead)) (r : Refused) → rules.configured g heads ≡ Err r → r.kind ≢ config.NoMemory
 
 -- Of the plan of a job and the heads of its inputs: what stands at its outputs, its routes, one source for each input, few streams,
 -- a text for each graph, and edges that go upward and of which one stands at each port.

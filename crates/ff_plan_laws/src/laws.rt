@@ -1,5 +1,5 @@
 // What holds of every plan.
-ghost use Rattle.std.specs.Prelude.{◌≡◌, ◌≤◌, List, length, Ok};
+ghost use Rattle.std.specs.Prelude.{◌≡◌, ◌≤◌, ℕ, List, length, Ok, Err};
 ghost use Rattle.std.specs.List.{AllByRecursion};
 ghost use Rattle.ff_plan.specs.Graphs.{AreRules};
 ghost use Rattle.ff_plan.specs.Plain.{IsWithinLimits};
@@ -7,7 +7,9 @@ ghost use Rattle.ff_plan.specs.Planned.{planned};
 ghost use Rattle.ff_plan.specs.Rules.{Rules};
 ghost use Rattle.ff_plan.specs.Taken.{AllFrames, AreKeptBy, OutputsFit};
 ghost use Rattle.ff_plan.specs.declared.planned.Plan.{Plan};
-ghost use Rattle.ff_plan_laws.specs.Sound.{HasFewIns, IsSoundPlan, KeepsTaken};
+ghost use Rattle.ff_plan.specs.declared.planned.PlanError.TheVariants as fault;
+ghost use Rattle.ff_plan_laws.specs.Sound.{HasFewIns, IsSoundPlan, KeepsTaken, NeverWantsMemory};
+ghost use Rattle.ff_values.specs.declared.config.ConfigError.TheVariants as config;
 ghost use Rattle.ff_values.specs.declared.head.StreamHead.{StreamHead};
 ghost use Rattle.ff_words.specs.declared.job.Job.{Job};
 
@@ -30,6 +32,13 @@ pub fn plans_are_sound()
     orders_go_upward();
     orders_are_whole();
 }
+
+/// No plan is refused for want of memory: that answer says nothing of the job. Nor is a filter of it, where the rules refuse none so.
+pub fn plans_never_want_memory()
+    ensures plan { (rules : Rules) (job : Job) (heads : List (List StreamHead)) → planned rules job heads ≡ Err fault.NoMemory → ⊥ }
+    ensures filter { (rules : Rules) (job : Job) (heads : List (List StreamHead)) (g f : ℕ) → NeverWantsMemory rules
+        → planned rules job heads ≡ Err (fault.Config g f config.NoMemory) → ⊥ }
+{}
 
 /// Something that can be so of the head of a stream.
 pub trait HeadFact {

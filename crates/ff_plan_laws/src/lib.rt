@@ -6,4 +6,4 @@
 
 mod laws;
 
-pub use laws::{HeadFact, frames_are_kept, outputs_fit, plans_are_sound};
+pub use laws::{HeadFact, frames_are_kept, outputs_fit, plans_are_sound, plans_never_want_memory};
