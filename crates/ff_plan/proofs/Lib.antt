@@ -7,7 +7,7 @@ mod Fitting
 mod Fronts
 mod Given
 pub mod GraphFits
-mod GraphLanes
+pub mod GraphLanes
 mod GraphWires
 pub mod Graphed
 pub mod Kept
@@ -15,9 +15,9 @@ mod NodeKinds
 pub mod NodeRows
 mod Known
 pub mod Laid
-pub mod Lanes
+mod Lanes
 pub mod Layouts
-pub mod Limits
+mod Limits
 pub mod Made
 mod Memory
 mod Named
@@ -26,7 +26,7 @@ pub mod Once
 pub mod Outs
 mod Places
 mod Plain
-pub mod Plans
+mod Plans
 pub mod Ported
 pub mod Results
 mod Rows
@@ -37,5 +37,5 @@ pub mod Steps
 mod Today
 pub mod Upward
 mod UsedLabels
-mod Uses
+pub mod Uses
 mod Wants

@@ -1,7 +1,7 @@
 -- What is so of the frames of inputs, and kept by graphs, is so of all frames.
-use Rattle.std.proofs.Common.{◌≡◌, ◌⊎◌, inl, inr, ℕ, zero, suc, ◌<◌, ◌≤◌, ◌+◌, ◌==◌, Bool, true, false, List, [], ◌∷◌, ◌++◌, map, length, Option, Some, sym, ap, ◌∙◌, subst, arith}
-use Rattle.std.specs.Prelude.{Ok, slice_get, slice_index_or}
-use Rattle.std.specs.List.{AllByRecursion, flat_map, filter_map, position_or_len}
+use Rattle.std.proofs.Common.{◌≡◌, inl, inr, ℕ, zero, suc, ◌<◌, ◌≤◌, ◌+◌, ◌==◌, Bool, true, false, List, [], ◌∷◌, ◌++◌, map, length, Option, Some, sym, ap, ◌∙◌, subst, arith}
+use Rattle.std.specs.Prelude.{Ok, slice_index_or}
+use Rattle.std.specs.List.{AllByRecursion, flat_map, position_or_len}
 use Rattle.ff_edges.specs.declared.edge.Edge.{Edge}
 use Rattle.ff_labels.specs.Order.{ComeInOrder, HasNoLoop, graph_order, feeds, is_in}
 use Rattle.ff_map.specs.declared.streams.Stream.{Stream}
@@ -120,7 +120,7 @@ module _ (P : StreamHead → Type 0) where
         (subst (λ (ms : List Made). length s.front ≤ position_or_len (λ (x : Made). x.laid.graph == s.number) ms) s.is low) in
         one_kept m s (λ x ix.
         (let before = subst (λ (ms : List Made). position_or_len (λ (y : Made). y.laid.graph == x.laid.graph) ms < length s.front) s.is
-            (place_left (λ (y : Made). y.laid.graph == x.laid.graph) x s.front (m ∷ s.rest) ix (nat_self x.laid.graph)) in
+        (place_left (λ (y : Made). y.laid.graph == x.laid.graph) x s.front (m ∷ s.rest) ix (nat_self x.laid.graph)) in
         made_below n x (subst (λ (ms : List Made). IsAmong x ms) s.is (among_left x s.front (m ∷ s.rest) ix)) (omega (arith, before, here, lt))))
 
     made_kept : (m : Made) → IsAmong m w.made → OutsKept m

@@ -1,12 +1,11 @@
 -- The routes of any plan, its streams and texts, and its edges.
-use Rattle.std.proofs.Common.{◌≡◌, inl, inr, ℕ, zero, suc, ◌+◌, ◌-◌, ◌<◌, ◌≤◌, ◌==◌, ◌&&◌, nat_le, nat_lt, Bool, true, false, cond, List, [], ◌∷◌, ◌++◌, map, length, Option, Some, None, refl, sym, ap, ◌∙◌, subst, arith}
+use Rattle.std.proofs.Common.{◌≡◌, inl, inr, ℕ, suc, ◌+◌, ◌-◌, ◌<◌, ◌≤◌, ◌==◌, ◌&&◌, nat_le, nat_lt, Bool, true, false, cond, List, [], ◌∷◌, ◌++◌, map, length, Option, Some, None, refl, sym, ap, ◌∙◌, subst, arith}
 use Rattle.std.proofs.lemmas.Bool.Decides.{nat_tests}
 use Rattle.std.proofs.lemmas.List.Elements.{All-from_recursion}
 use Rattle.std.specs.Prelude.{Ok, slice_get, slice_index_or}
 use Rattle.std.specs.List.{AllByRecursion, find, flat_map, filter_map, cons_option, range_with_len}
 use Rattle.ff_edges.specs.Ports.{tally}
 use Rattle.ff_labels.specs.Order.{ComeInOrder, HasNoLoop, graph_order, feeds, is_in}
-use Rattle.ff_map.specs.declared.streams.Stream.{Stream}
 use Rattle.ff_sched.specs.declared.routes.Way.{Way}
 use Rattle.ff_sched.specs.Routes.{AreRoutes}
 use Rattle.ff_values.specs.declared.head.StreamHead.{StreamHead}
@@ -48,7 +47,7 @@ use Rattle.ff_plan.proofs.Small.{few}
 use Rattle.ff_plan.proofs.Upward.{go_upward}
 use Rattle.ff_plan_laws.specs.Sound.{HasFewIns, KeepsTaken, IsSoundPlan}
 use Rattle.ff_plan_laws.proofs.Taken.{outputs_fit}
-use Rattle.ff_plan_laws.proofs.Types.{InPad, Laid, Made, OutStream, Passed, Placed}
+use Rattle.ff_plan_laws.proofs.Types.{InPad, Laid, Made, Passed, Placed}
 
 -- ---- lists
 
@@ -132,7 +131,7 @@ module _ (rules : Rules) (outputs : List OutputJob) where
       let b = joined_length (flat_map graph_of ps) (flat_map (λ (qs : List Passed). flat_map graph_of qs) rows) in
       let c = row_long rules outputs [] o out here g s.0 ps s.2 in
       let d = texts_long inside (o + 1) (g + graphs_of ps) (labels_of out ++ taken) [] outs rows s.3
-          (λ i q f. ap (λ (k : ℕ). slice_get outputs k) (let z : o + 1 + i ≡ o + suc i = omega arith in z) ∙ at (suc i) q f) in
+      (λ i q f. ap (λ (k : ℕ). slice_get outputs k) (let z : o + 1 + i ≡ o + suc i = omega arith in z) ∙ at (suc i) q f) in
       omega (arith, a, b, c, d)
 
 module _ (rules : Rules) (are : AreRules rules) (job : Job) (heads : List (List StreamHead)) (l : Layout) (w : Walked rules job heads l)
@@ -159,12 +158,12 @@ module _ (rules : Rules) (are : AreRules rules) (job : Job) (heads : List (List 
       sym (map_length (λ (x : Laid). x.graph) whole.graphs)
       ∙ once_length (length job.graphs + length simples) (map (λ (x : Laid). x.graph) whole.graphs) (all_once rules job heads l w come all_in) (none_above rules job heads l w come all_in)
 
-  texts_count : length whole.texts ≡ length whole.graphs
+  pub texts_count : length whole.texts ≡ length whole.graphs
   texts_count =
       let a = joined_length (map (λ g. Complex g) (numbers job.graphs)) (texts_from 0 job.outputs w.rows) in
       let b = map_length (λ g. Complex g) (numbers job.graphs) in let c = range_length 0 (length job.graphs) in
       let d = texts_long rules job.outputs (inside_of heads job w.made) 0 (length job.graphs) (taken_labels job.graphs) (unlabelled w.made (numbers job.graphs)) job.outputs w.rows w.outputs
-          (λ i out e. ap (λ (k : ℕ). slice_get job.outputs k) (let z : 0 + i ≡ i = omega arith in z) ∙ e) in
+      (λ i out e. ap (λ (k : ℕ). slice_get job.outputs k) (let z : 0 + i ≡ i = omega arith in z) ∙ e) in
       let e = graphs_count in
       omega (arith, a, b, c, d, e)
 
@@ -222,7 +221,7 @@ module _ (rules : Rules) (are : AreRules rules) (job : Job) (heads : List (List 
 
   -- ---- all together
 
-  laid_whole : IsLaid whole
+  pub laid_whole : IsLaid whole
   laid_whole = subst IsLaid (sym w.is) (walked_laid rules job heads l come w)
 
   few_streams : length (placed whole) ≤ 16 → HasFewStreams (length job.outputs) (plan_of whole)

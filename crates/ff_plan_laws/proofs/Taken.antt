@@ -1,5 +1,5 @@
 -- What the outputs of any plan take.
-use Rattle.std.proofs.Common.{◌≡◌, inl, inr, ℕ, zero, suc, ◌+◌, ◌<◌, ◌≤◌, ◌==◌, ◌&&◌, Bool, true, false, not, List, [], ◌∷◌, ◌++◌, map, length, Some, refl, sym, ap, ◌∙◌, subst, arith}
+use Rattle.std.proofs.Common.{◌≡◌, inl, inr, ℕ, zero, suc, ◌+◌, ◌<◌, ◌≤◌, ◌&&◌, Bool, true, false, not, List, [], ◌∷◌, ◌++◌, map, length, Some, refl, sym, ap, ◌∙◌, subst, arith}
 use Rattle.std.proofs.lemmas.Bool.Decides.{nat_tests}
 use Rattle.std.specs.Prelude.{Ok, nat_lt, slice_get, slice_index_or}
 use Rattle.std.specs.List.{AllByRecursion}
@@ -23,7 +23,7 @@ use Rattle.ff_plan.proofs.EndFits.{at_fit, is_at, rows_count}
 use Rattle.ff_plan.proofs.Graphed.{Walked, walked, inside_of}
 use Rattle.ff_plan.proofs.Kept.{nothing, same_some, at_below}
 use Rattle.ff_plan.proofs.Layouts.{map_length}
-use Rattle.ff_plan.proofs.Outs.{was_false, not_false, IsPassed, AllPassed, all_passed_is}
+use Rattle.ff_plan.proofs.Outs.{was_false, not_false, IsPassed, all_passed_is}
 use Rattle.ff_plan.proofs.Results.{not_ok, same_ok, behind_ok}
 use Rattle.ff_plan_laws.specs.Sound.{KeepsTaken}
 use Rattle.ff_plan_laws.proofs.Types.{InPad, OutStream, Passed}

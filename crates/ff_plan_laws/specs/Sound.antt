@@ -1,6 +1,6 @@
 -- What is sound of every plan, and what the rules of graphs owe for it.
-use Rattle.std.specs.Prelude.{◌≡◌, ◌≢◌, ℕ, ◌<◌, ◌≤◌, true, List, [], ◌∷◌, length, slice_get, Option, Some, Ok, Err}
-use Rattle.ff_edges.specs.Ports.{HasIns, HasOuts}
+use Rattle.std.specs.Prelude.{◌≡◌, ◌≢◌, ℕ, ◌<◌, ◌≤◌, true, List, [], ◌∷◌, length, slice_get, slice_index_or, Option, Some, Ok, Err}
+use Rattle.ff_edges.specs.Ports.{lanes_into, HasIns, HasOuts}
 use Rattle.ff_lang.specs.declared.graph.Graph.{Graph}
 use Rattle.ff_plan.specs.Graphs.{IsHad}
 use Rattle.ff_plan.specs.Laws.{GoUpward}
@@ -43,3 +43,7 @@ pub record IsSoundPlan (rules : Rules) (job : Job) (heads : List (List StreamHea
   pub upward : GoUpward (length p.nodes) p.edges
   pub ins : (k : ℕ) → HasIns p.edges k
   pub outs : (k : ℕ) → HasOuts p.edges k
+
+-- a graph has as many ways to sources as inputs, so that an input's number is that of a way
+abbrev pub AreRouted : Plan → Type 0
+AreRouted p = (k g : ℕ) → slice_get p.nodes k ≡ Some (node.Graph g) → length (slice_index_or p.routes.graphs g []) ≡ length (lanes_into p.edges k)

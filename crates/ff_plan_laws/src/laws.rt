@@ -8,7 +8,7 @@ ghost use Rattle.ff_plan.specs.Rules.{Rules};
 ghost use Rattle.ff_plan.specs.Taken.{AllFrames, AreKeptBy, OutputsFit};
 ghost use Rattle.ff_plan.specs.declared.planned.Plan.{Plan};
 ghost use Rattle.ff_plan.specs.declared.planned.PlanError.TheVariants as fault;
-ghost use Rattle.ff_plan_laws.specs.Sound.{HasFewIns, IsSoundPlan, KeepsTaken, NeverWantsMemory};
+ghost use Rattle.ff_plan_laws.specs.Sound.{AreRouted, HasFewIns, IsSoundPlan, KeepsTaken, NeverWantsMemory};
 ghost use Rattle.ff_values.specs.declared.config.ConfigError.TheVariants as config;
 ghost use Rattle.ff_values.specs.declared.head.StreamHead.{StreamHead};
 ghost use Rattle.ff_words.specs.declared.job.Job.{Job};
@@ -28,6 +28,15 @@ pub fn outputs_fit()
 pub fn plans_are_sound()
     ensures { (rules : Rules) (job : Job) (heads : List (List StreamHead)) (p : Plan) → AreRules rules → HasFewIns rules → KeepsTaken rules
         → IsWithinLimits job heads → 1 ≤ length job.outputs → planned rules job heads ≡ Ok p → IsSoundPlan rules job heads p }
+{
+    orders_go_upward();
+    orders_are_whole();
+}
+
+/// A graph of a plan has as many ways to sources as inputs.
+pub fn graph_inputs_are_routes()
+    ensures { (rules : Rules) (job : Job) (heads : List (List StreamHead)) (p : Plan) → AreRules rules → 1 ≤ length job.outputs
+        → planned rules job heads ≡ Ok p → AreRouted p }
 {
     orders_go_upward();
     orders_are_whole();

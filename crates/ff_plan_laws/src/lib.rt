@@ -6,4 +6,7 @@
 
 mod laws;
 
-pub use laws::{HeadFact, frames_are_kept, outputs_fit, plans_are_sound, plans_never_want_memory};
+pub use laws::{
+    HeadFact, frames_are_kept, graph_inputs_are_routes, outputs_fit, plans_are_sound,
+    plans_never_want_memory,
+};
