@@ -33,7 +33,7 @@ use Rattle.ff_plan.specs.Wires.{Wire, enters_node, leaves_node, edges_of}
 use Rattle.ff_plan.proofs.Among.{never}
 use Rattle.ff_plan.proofs.Fitting.{number_at}
 use Rattle.ff_plan.proofs.Graphed.{Walked, walked, walked_laid, inside_of}
-use Rattle.ff_plan.proofs.GraphFits.{get_either, get_map}
+use Rattle.ff_plan.proofs.GraphFits.{get_either, get_left, get_map, get_right}
 use Rattle.ff_plan.proofs.GraphLanes.{lanes_joined, lanes_none}
 use Rattle.ff_plan.proofs.Kept.{nothing, same_some, at_map, below_at, one_kept}
 use Rattle.ff_plan.proofs.Lanes.{wire_lanes, into_is, out_is}
@@ -385,6 +385,44 @@ packed_at out [] j s all e = absurd (nothing s e)
 packed_at out (p ∷ qs) zero s all e = subst (λ (x : OutStream). x.packed ≡ packed_as out x.head) (same_some p.what s e) all.0
 packed_at out (p ∷ qs) (suc j) s all e = packed_at out qs j s all.1 e
 
+-- the place of stream j of output o among all
+spot_in_row : (n o s : ℕ) (ss : List OutStream) (j : ℕ) → j < length ss
+    → (r : ℕ) × (p : Placed) × (slice_get (place_row n o s ss) r ≡ Some p) × (p.output ≡ o) × (p.stream ≡ s + j)
+spot_in_row n o s [] j lt = absurd (omega (arith, lt))
+spot_in_row n o s (x ∷ xs) zero lt = (0, record { number = n; output = o; stream = s; what = x }, refl, refl, omega arith)
+spot_in_row n o s (x ∷ xs) (suc j) lt = (let r = spot_in_row (n + 1) o (s + 1) xs j (omega (arith, lt)) in let e = r.4 in (suc r.0, r.1, r.2, r.3, omega (arith, e)))
+
+spot_of : (n o : ℕ) (rows : List (List OutStream)) (i j : ℕ) → j < length (slice_index_or rows i [])
+    → (r : ℕ) × (p : Placed) × (slice_get (place_from n o rows) r ≡ Some p) × (p.output ≡ o + i) × (p.stream ≡ j)
+spot_of n o [] i j lt = absurd (omega (arith, lt))
+spot_of n o (row ∷ rows) zero j lt =
+    let r = spot_in_row n o 0 row j lt in let out = r.3 in let e = r.4 in
+    (r.0, r.1, get_left (place_row n o 0 row) (place_from (n + length row) (o + 1) rows) r.0 r.1 r.2, omega (arith, out), omega (arith, e))
+spot_of n o (row ∷ rows) (suc i) j lt =
+    let r = spot_of (n + length row) (o + 1) rows i j lt in let out = r.3 in
+    let first = place_row n o 0 row in
+    (length first + r.0, r.1, get_right first (place_from (n + length row) (o + 1) rows) (length first + r.0) r.0 refl ∙ r.2, omega (arith, out), r.4)
+
+-- and the Enc node there
+pub enc_there : (l : Layout) (r : ℕ) (p : Placed) → slice_get (placed l) r ≡ Some p → (e : ℕ) × (slice_get (nodes_of l) e ≡ Some (node.Enc p.output p.stream))
+enc_there l r p at =
+    let a = map (λ i. node.Demux i) (used_inputs l) in let b = map (λ (s : Stream). node.Dec s.at) (used l) in let c = map (λ (x : Laid). node.Graph x.graph) l.graphs in
+    let f = map (λ o. node.Shortest o) (shortests l) in let g = map (λ (p : Placed). node.Enc p.output p.stream) (placed l) in let h = map (λ o. node.Mux o) (output_numbers l) in
+    let last = get_left g h r (node.Enc p.output p.stream) (get_map (λ (p : Placed). node.Enc p.output p.stream) (placed l) r p at) in
+    let e1 = length f + r in let e2 = length c + e1 in let e3 = length b + e2 in let e4 = length a + e3 in
+    (e4, get_right a (b ++ (c ++ (f ++ (g ++ h)))) e4 e3 refl ∙ (get_right b (c ++ (f ++ (g ++ h))) e3 e2 refl
+        ∙ (get_right c (f ++ (g ++ h)) e2 e1 refl ∙ (get_right f (g ++ h) e1 r refl ∙ last))))
+
+pub stream_coded : (l : Layout) (o j : ℕ) → j < length (slice_index_or (map (λ (row : List OutStream). map (λ (s : OutStream). s.head) row) l.outputs) o [])
+    → (e : ℕ) × (slice_get (nodes_of l) e ≡ Some (node.Enc o j))
+stream_coded l o j lt =
+    let same = index_map (λ (s : OutStream). s.head) l.outputs o in
+    let long = ap (λ (hs : List StreamHead). length hs) same ∙ map_length (λ (s : OutStream). s.head) (slice_index_or l.outputs o []) in
+    let r = spot_of 0 0 l.outputs o j (omega (arith, lt, long)) in
+    let out = r.3 in let is : r.1.output ≡ o = omega (arith, out) in
+    let e = enc_there l r.0 r.1 r.2 in
+    (e.0, e.1 ∙ (ap (λ (x : ℕ). Some (node.Enc x r.1.stream)) is ∙ ap (λ (x : ℕ). Some (node.Enc o x)) r.4))
+
 module _ (rules : Rules) (job : Job) (heads : List (List StreamHead)) (l : Layout) (come : ComeInOrder (feeds job.graphs) (length job.graphs) [] (graph_order job.graphs))
     (w : Walked rules job heads l) where
   abbrev whole : Layout
@@ -472,6 +510,7 @@ module _ (rules : Rules) (job : Job) (heads : List (List StreamHead)) (l : Layou
         ∙ (map_length (λ (ps : List Passed). map (λ (p : Passed). p.what) ps) w.rows
         ∙ rows_count rules (inside_of heads job w.made) (length job.graphs) (taken_labels job.graphs) (unlabelled w.made (numbers job.graphs)) job.outputs w.rows w.outputs);
     fit = λ k d e. at_fit k d (is_at whole k d e);
+    coded = λ o j lt. stream_coded whole o j lt;
   }
 
 pub ends_fit : (rules : Rules) (job : Job) (heads : List (List StreamHead)) (p : Plan) → ComeInOrder (feeds job.graphs) (length job.graphs) [] (graph_order job.graphs) → planned rules job heads ≡ Ok p

@@ -92,12 +92,12 @@ only_one p a b (x ∷ xs) few (inr i) (inr j) ea eb = only_one p a b xs (step (p
 
 -- ---- the places of two lists in a row
 
-get_left : {A : Type 0} (xs ys : List A) (k : ℕ) (x : A) → slice_get xs k ≡ Some x → slice_get (xs ++ ys) k ≡ Some x
+pub get_left : {A : Type 0} (xs ys : List A) (k : ℕ) (x : A) → slice_get xs k ≡ Some x → slice_get (xs ++ ys) k ≡ Some x
 get_left [] ys k x e = absurd (nothing x e)
 get_left (z ∷ zs) ys zero x e = e
 get_left (z ∷ zs) ys (suc k) x e = get_left zs ys k x e
 
-get_right : {A : Type 0} (xs ys : List A) (m k : ℕ) → m ≡ length xs + k → slice_get (xs ++ ys) m ≡ slice_get ys k
+pub get_right : {A : Type 0} (xs ys : List A) (m k : ℕ) → m ≡ length xs + k → slice_get (xs ++ ys) m ≡ slice_get ys k
 get_right [] ys m k e = ap (λ (j : ℕ). slice_get ys j) (omega (arith, e))
 get_right (x ∷ xs) ys zero k e = absurd (omega (arith, e))
 get_right (x ∷ xs) ys (suc m) k e = get_right xs ys m k (omega (arith, e))

@@ -2,9 +2,9 @@
 use Rattle.std.proofs.Common.{◌≡◌, inl, inr, ℕ, suc, ◌+◌, ◌<◌, ◌≤◌, ◌==◌, ◌&&◌, Bool, true, false, cond, List, [], ◌∷◌, ◌++◌, map, length, Some, refl, sym, ap, ◌∙◌, subst, arith}
 use Rattle.std.proofs.lemmas.List.{append-nil}
 use Rattle.std.specs.Prelude.{slice_get, replicate, Ok}
-use Rattle.std.specs.List.{AllByRecursion, filter, flat_map, list_any, position_or_len}
+use Rattle.std.specs.List.{AllByRecursion, filter, flat_map, list_any, position_or_len, range_with_len}
 use Rattle.std.proofs.lemmas.Bool.Decides.{nat_tests}
-use Rattle.ff_edges.specs.Ports.{tally}
+use Rattle.ff_edges.specs.Ports.{lanes_out_of, tally}
 use Rattle.ff_frame.specs.declared.item.Lane.{Lane}
 use Rattle.ff_frame.specs.declared.item.Lane.TheVariants.{Frames, Packets}
 use Rattle.ff_labels.specs.Order.{ComeInOrder, HasNoLoop, graph_order, feeds, is_in}
@@ -33,7 +33,7 @@ use Rattle.ff_plan.specs.Fitting.{FitsDec}
 use Rattle.ff_plan.specs.StartFits.{FitsCutter, FitsStart, StartsFit}
 use Rattle.ff_plan.specs.Wires.{Wire, enters_node, leaves_node, edges_of}
 use Rattle.ff_plan.proofs.Among.{never, all_joined, all_map, all_flat, was_among, among_either, among_map, among_flat}
-use Rattle.ff_plan.proofs.Counts.{tally_joined, tally_among, tally_filter_few}
+use Rattle.ff_plan.proofs.Counts.{tally_any, tally_joined, tally_among, tally_filter_few}
 use Rattle.ff_plan.proofs.EndFits.{IsAt, In_demuxes, In_decs, In_graphs, In_shortests, In_encs, In_muxes, is_at, five, lanes_some}
 use Rattle.ff_plan.proofs.Graphed.{Walked, walked, walked_laid, inside_of, of_map}
 use Rattle.ff_plan.proofs.GraphFits.{in_comes, by_rows}
@@ -41,7 +41,7 @@ use Rattle.ff_plan.proofs.GraphLanes.{lanes_joined, lanes_none}
 use Rattle.ff_plan.proofs.Kept.{any_there, same_some, among_at, below_at, first_place, place_passes, one_kept}
 use Rattle.ff_plan.proofs.Laid.{of_flat}
 use Rattle.ff_plan.proofs.Lanes.{wire_lanes, into_is, out_is}
-use Rattle.ff_plan.proofs.Layouts.{demux_below, less_or, nat_self, same_self, wires_next}
+use Rattle.ff_plan.proofs.Layouts.{demux_below, map_length, less_or, nat_self, same_self, wires_next}
 use Rattle.ff_plan.proofs.Made.{Comes}
 use Rattle.ff_plan.proofs.Numbered.{is_same}
 use Rattle.ff_plan.proofs.Outs.{Passes}
@@ -211,13 +211,24 @@ module _ (l : Layout) (laid : IsLaid l) where
           encs_none_out true = lanes_none (leaves_node k) (enc_wire l true) ps (λ p a. other_test (enc_wire l true p).from k (λ e. (let lt = low in omega (arith, e, lt))))
           encs_none_out false = lanes_none (leaves_node k) (enc_wire l false) ps (λ p a. other_test (enc_wire l false p).from k (λ e. (let lt = low in let h = origin_high p.what.source in omega (arith, e, lt, h))))
 
+    outs_are : lanes_out_of (edges_of (wires_of l)) k ≡ map (λ (s : Stream). Packets s.head) (filter own (used l))
+    outs_are = out_is k (wires_of l) (wires_next l laid k (inl (let lt = low in omega (arith, lt)))) ∙ own_out
+
+    -- an input has a Demux where one of its streams is used
+    own_some : 1 ≤ length (filter own (used l))
+    own_some =
+        let is = (was_among (is_used l) i (range_with_len 0 (length l.heads)) (among_at i inputs k at)).1 in
+        let t = tally_any own (used l) is in
+        let long = tally_length own (used l) in
+        omega (arith, t, long)
+
     pub cutter_fits : FitsCutter l.heads (edges_of (wires_of l)) k i
     cutter_fits = record {
       shown = λ s. list_any (shows s.at) (origins l) && (s.at.input == i);
       of_input = λ s e. is_same s.at.input i (both_right (list_any (shows s.at) (origins l)) (s.at.input == i) e);
       ins = into_is k (wires_of l) ∙ none_in;
-      outs = out_is k (wires_of l) (wires_next l laid k (inl (let lt = low in omega (arith, lt)))) ∙ (own_out
-          ∙ ap (λ (ss : List Stream). map (λ (s : Stream). Packets s.head) ss) (filter_twice own (λ (s : Stream). list_any (shows s.at) (origins l)) (all_streams l.heads)));
+      some = subst (λ (ls : List Lane). 1 ≤ length ls) (sym outs_are) (let n = own_some in let long = map_length (λ (s : Stream). Packets s.head) (filter own (used l)) in omega (arith, n, long));
+      outs = outs_are ∙ ap (λ (ss : List Stream). map (λ (s : Stream). Packets s.head) ss) (filter_twice own (λ (s : Stream). list_any (shows s.at) (origins l)) (all_streams l.heads));
     }
 
   -- ---- a Dec

@@ -1,5 +1,5 @@
 -- What stands at the ports of the nodes of outputs, of any plan.
-use Rattle.std.specs.Prelude.{◌≡◌, ℕ, List, [], ◌∷◌, length, map, slice_get, slice_index_or, Some}
+use Rattle.std.specs.Prelude.{◌≡◌, ℕ, ◌<◌, List, [], ◌∷◌, length, map, slice_get, slice_index_or, Some}
 use Rattle.ff_edges.specs.declared.edge.Edge.{Edge}
 use Rattle.ff_edges.specs.Ports.{lanes_into, lanes_out_of}
 use Rattle.ff_frame.specs.declared.item.Lane.TheVariants.{Frames, Packets}
@@ -45,3 +45,5 @@ pub record EndsFit (outputs : List OutputJob) (p : Plan) : Type 0 where
   pub heads : List (List StreamHead)
   pub count : length heads ≡ length outputs
   pub fit : (k : ℕ) (d : PlanNode) → slice_get p.nodes k ≡ Some d → FitsEnd outputs heads p.edges k d
+  -- each stream has its Enc node
+  pub coded : (o j : ℕ) → j < length (slice_index_or heads o []) → (e : ℕ) × (slice_get p.nodes e ≡ Some (node.Enc o j))

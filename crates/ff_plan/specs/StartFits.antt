@@ -1,5 +1,5 @@
 -- What stands at the ports of the nodes of inputs, of any plan.
-use Rattle.std.specs.Prelude.{◌≡◌, ℕ, Bool, true, List, [], map, slice_get, Some}
+use Rattle.std.specs.Prelude.{◌≡◌, ℕ, ◌≤◌, Bool, true, List, [], length, map, slice_get, Some}
 use Rattle.std.specs.List.{filter}
 use Rattle.ff_edges.specs.declared.edge.Edge.{Edge}
 use Rattle.ff_edges.specs.Ports.{lanes_into, lanes_out_of}
@@ -12,12 +12,13 @@ use Rattle.ff_plan.specs.declared.planned.PlanNode.{PlanNode}
 use Rattle.ff_plan.specs.declared.planned.PlanNode.TheVariants as node
 use Rattle.ff_plan.specs.Fitting.{FitsDec}
 
--- the packets of some streams of input i leave node k, in the order of the streams
+-- the packets of some streams of input i leave node k, in the order of the streams: of one at least
 pub record FitsCutter (heads : List (List StreamHead)) (edges : List Edge) (k i : ℕ) : Type 0 where
   pub shown : Stream → Bool
   pub of_input : (s : Stream) → shown s ≡ true → s.at.input ≡ i
   pub ins : lanes_into edges k ≡ []
   pub outs : lanes_out_of edges k ≡ map (λ (s : Stream). Packets s.head) (filter shown (all_streams heads))
+  pub some : 1 ≤ length (lanes_out_of edges k)
 
 -- by kind, where the inputs have these heads
 abbrev pub FitsStart : List (List StreamHead) → List Edge → ℕ → PlanNode → Type 0

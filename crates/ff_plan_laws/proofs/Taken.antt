@@ -19,7 +19,7 @@ use Rattle.ff_plan.specs.Rules.{Rules, Planned, behind}
 use Rattle.ff_plan.specs.Streams.{Inside, graph_of, some_or, asked, chosen, is_pad, is_graph, simple_of, takes, takes_head, passed, passed_from, all_passed, front_with}
 use Rattle.ff_plan.specs.Choice.{kind_of}
 use Rattle.ff_plan.specs.Taken.{AreTaken, OutputsFit}
-use Rattle.ff_plan.proofs.EndFits.{at_fit, is_at, rows_count}
+use Rattle.ff_plan.proofs.EndFits.{at_fit, is_at, rows_count, stream_coded}
 use Rattle.ff_plan.proofs.Graphed.{Walked, walked, inside_of}
 use Rattle.ff_plan.proofs.Kept.{nothing, same_some, at_below}
 use Rattle.ff_plan.proofs.Layouts.{map_length}
@@ -157,7 +157,7 @@ module _ (rules : Rules) (keeps : KeepsTaken rules) where
 
     whole_fit : OutputsFit rules job.outputs (plan_of whole)
     whole_fit = record {
-      ends = record { heads = by_output; count = outputs_count; fit = λ k d e. at_fit rules job heads l come w k d (is_at whole k d e) };
+      ends = record { heads = by_output; count = outputs_count; fit = λ k d e. at_fit rules job heads l come w k d (is_at whole k d e); coded = λ o j lt. stream_coded whole o j lt };
       taken = are_taken;
     }
 
