@@ -32,7 +32,7 @@ pub mod Results
 mod Rows
 mod Singles
 pub mod Small
-mod StartFits
+pub mod StartFits
 pub mod Steps
 mod Today
 pub mod Upward

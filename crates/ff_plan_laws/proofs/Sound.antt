@@ -4,7 +4,12 @@ use Rattle.std.proofs.lemmas.Bool.Decides.{nat_tests}
 use Rattle.std.proofs.lemmas.List.Elements.{All-from_recursion}
 use Rattle.std.specs.Prelude.{Ok, slice_get, slice_index_or}
 use Rattle.std.specs.List.{AllByRecursion, find, flat_map, filter_map, cons_option, range_with_len}
-use Rattle.ff_edges.specs.Ports.{tally}
+use Rattle.ff_edges.specs.Ports.{tally, lanes_into}
+use Rattle.ff_frame.specs.declared.item.Lane.{Lane}
+use Rattle.ff_frame.specs.declared.item.Lane.TheVariants.{Packets}
+use Rattle.ff_plan.specs.declared.planned.PlanNode.TheVariants as node
+use Rattle.ff_plan.specs.EndFits.{EndsFit}
+use Rattle.ff_plan.specs.Streams.{packed_as}
 use Rattle.ff_labels.specs.Order.{ComeInOrder, HasNoLoop, graph_order, feeds, is_in}
 use Rattle.ff_sched.specs.declared.routes.Way.{Way}
 use Rattle.ff_sched.specs.Routes.{AreRoutes}
@@ -44,6 +49,7 @@ use Rattle.ff_plan.proofs.Outs.{AreOutputs, Passes}
 use Rattle.ff_plan.proofs.Ported.{stands, passing, have_outs}
 use Rattle.ff_plan.proofs.Results.{same_ok, behind_ok}
 use Rattle.ff_plan.proofs.Small.{few}
+use Rattle.ff_plan.proofs.StartFits.{starts_fit}
 use Rattle.ff_plan.proofs.Upward.{go_upward}
 use Rattle.ff_plan_laws.specs.Sound.{HasFewIns, KeepsTaken, IsSoundPlan}
 use Rattle.ff_plan_laws.proofs.Taken.{outputs_fit}
@@ -117,6 +123,15 @@ module _ (l : Layout) (laid : IsLaid l) (high : ℕ) where
       omega (arith, j1, j2, j3, j4, a, b, c, d, e, f)
 
 -- ---- the texts of simple graphs
+
+-- what a Mux writes is what the Enc nodes of its output make
+writers_coded : {outputs : List OutputJob} (p : Plan) → EndsFit outputs p → (k o j : ℕ) → slice_get p.nodes k ≡ Some (node.Mux o) → j < length (lanes_into p.edges k)
+    → (e : ℕ) × (slice_get p.nodes e ≡ Some (node.Enc o j))
+writers_coded p ends k o j e lt =
+    let fit = ends.fit k (node.Mux o) e in
+    let same = ap (λ (ls : List Lane). length ls) fit.ins in
+    let long = map_length (λ (h : StreamHead). Packets (packed_as fit.out h)) (slice_index_or ends.heads o []) in
+    ends.coded o j (omega (arith, lt, same, long))
 
 module _ (rules : Rules) (outputs : List OutputJob) where
   texts_long : (inside : Inside) (o g : ℕ) (before_used : List (List ℕ)) (before : List InPad) (outs : List OutputJob) (rows : List (List Passed)) → AreOutputs rules inside g before_used before outs rows
@@ -245,6 +260,8 @@ module _ (rules : Rules) (are : AreRules rules) (job : Job) (heads : List (List 
         few = few_streams small;
         texts = texts_count ∙ sym routed_count;
         graphs = λ k g e. (let fit = graphs_fit rules are job heads (plan_of whole) come all_in some_outputs ph k g e in below_at fit.stands whole.texts g fit.at);
+        used = λ k i e. (starts_fit rules are job heads (plan_of whole) come all_in some_outputs ph k (node.Demux i) e).some;
+        coded = λ k o j e lt. writers_coded (plan_of whole) (outputs_fit rules keeps job heads (plan_of whole) come ph).ends k o j e lt;
         upward = upward_whole;
         ins = λ k. has_ins k (wires_of whole);
         outs = outs_all whole laid_whole (subst GraphsHaveOuts (sym w.is) (have_outs rules are job heads l come all_in some_outputs lh));

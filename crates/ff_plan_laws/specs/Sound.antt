@@ -1,6 +1,6 @@
 -- What is sound of every plan, and what the rules of graphs owe for it.
 use Rattle.std.specs.Prelude.{◌≡◌, ◌≢◌, ℕ, ◌<◌, ◌≤◌, true, List, [], ◌∷◌, length, slice_get, slice_index_or, Option, Some, Ok, Err}
-use Rattle.ff_edges.specs.Ports.{lanes_into, HasIns, HasOuts}
+use Rattle.ff_edges.specs.Ports.{lanes_into, lanes_out_of, HasIns, HasOuts}
 use Rattle.ff_lang.specs.declared.graph.Graph.{Graph}
 use Rattle.ff_plan.specs.Graphs.{IsHad}
 use Rattle.ff_plan.specs.Laws.{GoUpward}
@@ -31,8 +31,9 @@ KeepsTaken rules = (out : OutputJob) (g : Graph) (head : StreamHead) (made : Ope
 abbrev pub NeverWantsMemory : Rules → Type 0
 NeverWantsMemory rules = (g : Graph) (heads : List (Option StreamHead)) (r : Refused) → rules.configured g heads ≡ Err r → r.kind ≢ config.NoMemory
 
--- Of the plan of a job and the heads of its inputs: what stands at its outputs, its routes, one source for each input, few streams,
--- a text for each graph, and edges that go upward and of which one stands at each port.
+-- Of the plan of a job and the heads of its inputs: what stands at its outputs, its routes, one source for each input, few streams, a
+-- text for each graph, a use of each input that has a node, an encoder of each stream that is written, and edges that go upward and of
+-- which one stands at each port.
 pub record IsSoundPlan (rules : Rules) (job : Job) (heads : List (List StreamHead)) (p : Plan) : Type 0 where
   pub outputs : OutputsFit rules job.outputs p
   pub routes : AreRoutes p.routes
@@ -40,6 +41,9 @@ pub record IsSoundPlan (rules : Rules) (job : Job) (heads : List (List StreamHea
   pub few : HasFewStreams (length job.outputs) p
   pub texts : length p.texts ≡ length p.routes.graphs
   pub graphs : (k g : ℕ) → slice_get p.nodes k ≡ Some (node.Graph g) → g < length p.texts
+  pub used : (k i : ℕ) → slice_get p.nodes k ≡ Some (node.Demux i) → 1 ≤ length (lanes_out_of p.edges k)
+  pub coded : (k o j : ℕ) → slice_get p.nodes k ≡ Some (node.Mux o) → j < length (lanes_into p.edges k)
+      → (e : ℕ) × (slice_get p.nodes e ≡ Some (node.Enc o j))
   pub upward : GoUpward (length p.nodes) p.edges
   pub ins : (k : ℕ) → HasIns p.edges k
   pub outs : (k : ℕ) → HasOuts p.edges k
