@@ -31,8 +31,8 @@ use Rattle.ff_plan.specs.Layout.{IsAmong, Laid, Layout, placed, used, used_input
 use Rattle.ff_plan.specs.Nodes.{before_graphs, before_shortests, shortests, output_numbers, nodes_of, wires_of, plan_of}
 use Rattle.ff_plan.specs.Order.{numbers}
 use Rattle.ff_plan.specs.Pads.{Want, Made, all_wants, made_at, pad_in, head_in, unlabelled}
-use Rattle.ff_plan.specs.Planned.{labels_of, graphs_of, layout_of, laid_out, outputs_from, planned}
-use Rattle.ff_plan.specs.Rules.{Rules, OpenOut, Planned, behind}
+use Rattle.ff_plan.specs.Planned.{labels_of, graphs_of, layout_of, laid_out, planned}
+use Rattle.ff_plan.specs.Rules.{Rules, OpenOut}
 use Rattle.ff_plan.specs.Streams.{Inside, Passed, graph_of, null_graph, simple_of}
 use Rattle.ff_plan.specs.Wires.{edges_of}
 use Rattle.ff_plan.proofs.Among.{never, all_map, among_either, among_left, among_right, among_flat, among_map}

@@ -2,6 +2,9 @@ pub mod Among
 mod Best
 pub mod Counts
 pub mod EndFits
+mod ByRows
+mod Counts
+mod EndFits
 mod Filters
 mod Fitting
 mod Fronts

@@ -25,7 +25,6 @@ use Rattle.ff_plan.specs.Streams.{Passed, graph_of}
 use Rattle.ff_plan.specs.Texts.{GraphText, texts_from, texts_of_laid}
 use Rattle.ff_plan.specs.Today.{no_filters, unbuilt, unbuilt_complex, unbuilt_simple, unbuilt_in, unbuilt_from, planned_today}
 use Rattle.ff_plan.proofs.Fronts.{fine, no_graphs}
-use Rattle.ff_plan.proofs.Layouts.{map_length}
 use Rattle.ff_plan.proofs.Plain.{plan_is_fed, plan_goes_upward}
 use Rattle.ff_plan.proofs.Results.{unless_ok}
 use Rattle.ff_plan.proofs.Small.{as_many}
@@ -103,6 +102,13 @@ no_texts o (out ∷ outs) (r ∷ rs) = ap (λ (gs : List Laid). flat_map (texts_
 
 -- ---- the plan
 
+-- where nothing stands at graphs and their texts
+pub no_parts : (heads : List (List StreamHead)) (outs : List (List OutStream)) (graphs : List Laid) (texts : List GraphText) → graphs ≡ [] → texts ≡ []
+    → plan_of (record { heads = heads; graphs = graphs; outputs = outs; texts = texts; joint = false }) ≡ plan_of (plain_layout heads outs)
+no_parts heads outs graphs texts g t =
+    ap (λ (gs : List Laid). plan_of (record { heads = heads; graphs = gs; outputs = outs; texts = texts; joint = false })) g
+    ∙ ap (λ (ts : List GraphText). plan_of (record { heads = heads; graphs = []; outputs = outs; texts = ts; joint = false })) t
+
 module _ (job : Job) (heads : List (List StreamHead)) where
   abbrev pub bare : Job
   bare = record { queue = job.queue; trace = job.trace; graphs = []; inputs = job.inputs; outputs = job.outputs }
@@ -162,14 +168,11 @@ module _ (job : Job) (heads : List (List StreamHead)) where
     plan_refused e (inr h) = inr (by_outputs built ∙ ap (λ (r : Planned (List (List Passed))). behind r behind_outputs) h)
 
     -- by what the calls gave
-    pub made_by : (os : List OutputJob) (all : List (Vec OutStream Global)) (ps : List Placed) (n : ℕ) (p : Plan) → os ≡ job.outputs → outputs_from no_filters (plain heads) 0 0 [] [] os ≡ Ok (through (rows all))
-        → ps ≡ place_from 0 0 (rows all) → length ps ≤ 16 → n ≡ length all → p ≡ plain_plan heads ps n → planned_today job heads ≡ Ok p
-    made_by os all ps n p same outs places few count is =
+    pub made_by : (os : List OutputJob) (all : List (Vec OutStream Global)) (p : Plan) → os ≡ job.outputs → outputs_from no_filters (plain heads) 0 0 [] [] os ≡ Ok (through (rows all))
+        → length (place_from 0 0 (rows all)) ≤ 16 → p ≡ plan_of (plain_layout heads (rows all)) → planned_today job heads ≡ Ok p
+    made_by os all p same outs few is =
         let rs = rows all in
-        let le : length (place_from 0 0 rs) ≤ 16 = subst (λ (l : List Placed). length l ≤ 16) places few in
-        let long : n ≡ length rs = count ∙ sym (map_length (λ (v : Vec OutStream Global). v.items) all) in
-        plan_made rs (subst (λ (l : List OutputJob). outputs_from no_filters (plain heads) 0 0 [] [] l ≡ Ok (through rs)) same outs) le
-        ∙ ap (λ (q : Plan). fine q) (sym (is ∙ (ap (λ (l : List Placed). plain_plan heads l n) places ∙ ap (λ (k : ℕ). plain_plan heads (place_from 0 0 rs) k) long)))
+        plan_made rs (subst (λ (l : List OutputJob). outputs_from no_filters (plain heads) 0 0 [] [] l ≡ Ok (through rs)) same outs) few ∙ ap (λ (q : Plan). fine q) (sym is)
 
     pub too_large_by : (os : List OutputJob) (all : List (Vec OutStream Global)) (ps : List Placed) → os ≡ job.outputs → outputs_from no_filters (plain heads) 0 0 [] [] os ≡ Ok (through (rows all))
         → ps ≡ place_from 0 0 (rows all) → 16 < length ps → planned_today job heads ≡ Err fault.TooManyStreams

@@ -10,6 +10,7 @@ pub mod Layout
 pub mod Mapping
 pub mod NodeRows
 pub mod Nodes
+pub mod Numbering
 pub mod Numbers
 pub mod Order
 pub mod Pads

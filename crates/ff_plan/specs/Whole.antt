@@ -1,9 +1,12 @@
 -- Words for the code that plans whole jobs, with graphs.
-use Rattle.std.specs.Prelude.{◌≡◌, ◌⊎◌, ◌≤◌, List, length, Option, Some}
+use Rattle.std.specs.Prelude.{◌≡◌, ◌⊎◌, ◌≤◌, Bool, List, map, length, Option, Some}
 use Rattle.std.specs.List.{flat_map}
+use Rattle.ff_values.specs.declared.head.StreamHead.{StreamHead}
+use Rattle.ff_plan.specs.declared.layout.Laying.{Laying}
 use Rattle.ff_plan.specs.declared.layout.Made.{Made}
 use Rattle.ff_plan.specs.declared.planned.PlanError.{PlanError}
 use Rattle.ff_plan.specs.declared.planned.PlanError.TheVariants as fault
+use Rattle.ff_plan.specs.Layout.{Layout}
 
 -- the refusal, if one is wanted, or want of memory
 abbrev pub IsFault : Option PlanError → PlanError → Type 0
@@ -16,3 +19,7 @@ flat rows = flat_map (λ row. row) rows
 -- a graph whose open output pads have small numbers
 abbrev pub HasFewPads : Made → Type 0
 HasFewPads m = length m.outs ≤ 65536
+
+-- as a layout, for inputs with these heads, where each output has a Shortest node or none has
+abbrev pub layout_in : List (List StreamHead) → Bool → Laying → Layout
+layout_in heads joint l = record { heads = heads; graphs = l.graphs.items; outputs = map (λ v. v.items) l.outputs.items; texts = l.texts.items; joint = joint }

@@ -1,4 +1,5 @@
 use crate::open_pads::OpenOut;
+use crate::planned::GraphText;
 use ff_lang::{Sequence, Text};
 use ff_map::{Stream, StreamRef};
 use ff_values::StreamHead;
@@ -62,4 +63,12 @@ pub(crate) enum Want {
 pub(crate) struct Passed {
     pub(crate) what: OutStream,
     pub(crate) graph: Option<Laid>,
+}
+
+/// What a plan is made of, before its nodes are numbered: graphs in the order of their nodes, streams by output, and by number where the text of each graph stands.
+#[derive(Drop)]
+pub(crate) struct Laying {
+    pub(crate) graphs: Vec<Laid>,
+    pub(crate) outputs: Vec<Vec<OutStream>>,
+    pub(crate) texts: Vec<GraphText>,
 }

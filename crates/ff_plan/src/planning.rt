@@ -4,19 +4,16 @@ ghost use Rattle.ff_map.specs.Choice.{lists};
 ghost use Rattle.ff_plan.specs.Fitting.{HasSingles, HasKinds, FitNodes};
 ghost use Rattle.ff_plan.specs.Laws.{GoUpward};
 ghost use Rattle.ff_plan.specs.Numbers.{HasFewStreams};
-ghost use Rattle.ff_plan.specs.Plain.{plain_plan, IsRefused, IsSmall, IsWithinLimits};
+ghost use Rattle.ff_plan.specs.Plain.{IsRefused, IsWithinLimits};
 ghost use Rattle.ff_edges.specs.Ports.{shape_of, IsFed, HasIns, HasOuts};
 ghost use Rattle.ff_sched.specs.Routes.{AreRoutes};
 ghost use Rattle.ff_plan.specs.Today.{planned_today, unbuilt, unbuilt_in};
 
-use crate::layout::Placed;
-use crate::nodes::{all_nodes, place, used_inputs, used_streams, ways};
-use crate::number::number_ports;
+use crate::layout::Laying;
+use crate::nodes::place;
+use crate::numbering::numbered_plan;
 use crate::outputs::all_outputs;
 use crate::planned::{Plan, PlanError, Unbuilt};
-use crate::wires::wire_up;
-use ff_lang::Sequence;
-use ff_sched::{Graphs, Routes, Ways};
 use ff_values::StreamHead;
 use ff_words::{Job, OutputJob};
 use std::alloc::{AllocError, Global};
@@ -53,43 +50,6 @@ fn is_built(job: &Job) -> Result<(), PlanError>
         has_parts(output as u32, out)?;
     }
     Ok(())
-}
-
-// The plan of so many outputs with these streams.
-fn numbered(
-    alloc: Global,
-    heads: &[Vec<StreamHead>],
-    placed: &[Placed],
-    outputs: u32,
-) -> Result<Plan, AllocError>
-    requires inputs { length heads.now ≤ 16 }
-    requires streams { AllByRecursion (λ v. vec_len v ≤ 16) heads.now }
-    requires few { length placed.now ≤ 16 }
-    requires small { AllByRecursion IsSmall placed.now }
-    ensures { IfOk result (λ p. p ≡ plain_plan (lists heads.now) placed.now outputs) }
-{
-    let streams = used_streams(alloc, heads, placed)?;
-    let inputs = used_inputs(alloc, heads.len(), streams.as_slice())?;
-    let wires = wire_up(alloc, inputs.as_slice(), streams.as_slice(), placed)?;
-    let nodes = all_nodes(
-        alloc,
-        inputs.as_slice(),
-        streams.as_slice(),
-        placed,
-        outputs,
-    )?;
-    let edges = number_ports(alloc, wires.as_slice())?;
-    let routes = Routes {
-        sources: heads.len() as u32,
-        streams: Ways::new(ways(alloc, placed)?),
-        graphs: Graphs::new(Vec::new(alloc)),
-    };
-    Ok(Plan {
-        nodes: Sequence::of(nodes),
-        edges: Sequence::of(edges),
-        routes,
-        texts: Sequence::of(Vec::new(alloc)),
-    })
 }
 
 // Whether each input has few streams.
@@ -154,6 +114,11 @@ pub fn plan(alloc: Global, job: &Job, heads: &[Vec<StreamHead>]) -> Result<Plan,
     if placed.len() > 16 {
         return Err(PlanError::TooManyStreams);
     }
-    let plan = numbered(alloc, heads, placed.as_slice(), outs.len() as u32)?;
+    let laying = Laying {
+        graphs: Vec::new(alloc),
+        outputs: all,
+        texts: Vec::new(alloc),
+    };
+    let plan = numbered_plan(alloc, heads, false, laying)?;
     Ok(plan)
 }

@@ -1,23 +1,33 @@
 // The numbers of nodes, and the wires between them.
-ghost use Rattle.std.specs.Prelude.{◌≡◌, ◌+◌, ◌^◌, ◌<◌, ◌≤◌, ◌++◌, IfOk, OnOk, length};
-ghost use Rattle.std.specs.List.{AllByRecursion, position_or_len};
+ghost use Rattle.std.specs.Prelude.{◌≡◌, ◌^◌, ◌<◌, ◌≤◌, ◌==◌, ◌++◌, ◌∷◌, [], IfOk, OnOk, length, map};
+ghost use Rattle.std.specs.List.{AllByRecursion, flat_map, position_or_len};
 ghost use Rattle.ff_map.specs.declared.streams.Stream.{Stream};
+ghost use Rattle.ff_plan.specs.declared.layout.Laid.{Laid};
 ghost use Rattle.ff_plan.specs.Layout.{same_ref as are_same};
 ghost use Rattle.ff_plan.specs.Nodes.{origin_port as port_of_origin};
-ghost use Rattle.ff_plan.specs.Plain.{demux_number as number_of_demux, origin_number as number_of_origin};
-ghost use Rattle.ff_plan.specs.Plain.{demux_wires, enc_wires, mux_wires, plain_wires, IsSmall};
+ghost use Rattle.ff_plan.specs.Plain.{demux_number as number_of_demux, IsSmall};
+ghost use Rattle.ff_plan.specs.Numbering.{wire_of, dec_in, graph_in, origin_in, demux_wire_in, pad_wire_in, pad_wires_in, shortest_wire_in, enc_wire_in, joint_wire_in, frame_wires_in, mux_wire_in, wires_in, IsLow};
 
-use crate::layout::{Origin, Placed};
-use crate::nodes::same_ref;
+use crate::layout::{InPad, Laid, Origin, Placed};
 use crate::number::Wire;
+use crate::origins::same_ref;
 use ff_frame::Lane;
 use ff_map::{Stream, StreamRef};
 use std::alloc::{AllocError, Global};
 
+/// The number of the first node of each kind behind the Demux nodes.
+#[derive(Clone, Copy)]
+pub(crate) struct Firsts {
+    pub(crate) decs: u32,
+    pub(crate) graphs: u32,
+    pub(crate) shortests: u32,
+    pub(crate) encs: u32,
+    pub(crate) muxes: u32,
+}
+
 fn demux_number(inputs: &[u32], input: u32) -> u32
     requires { length inputs.now < 2 ^ 32 }
-    ensures number { result ≡ number_of_demux inputs.now input }
-    ensures small { result ≤ length inputs.now }
+    ensures { result ≡ number_of_demux inputs.now input }
 {
     for (number, other) in inputs.iter().enumerate() {
         if *other == input {
@@ -40,14 +50,42 @@ fn place_of(streams: &[Stream], at: StreamRef) -> u32
     streams.len() as u32
 }
 
-fn origin_number(inputs: &[u32], streams: &[Stream], source: Origin) -> u32
-    requires { length inputs.now + length streams.now < 2 ^ 16 }
-    ensures { result ≡ number_of_origin inputs.now streams.now source }
+fn graph_place(graphs: &[Laid], graph: u32) -> u32
+    requires { length graphs.now < 2 ^ 32 }
+    ensures number { result ≡ position_or_len (λ (x : Laid). x.graph == graph) graphs.now }
+    ensures small { result ≤ length graphs.now }
 {
-    let first = inputs.len() as u32;
+    for (number, other) in graphs.iter().enumerate() {
+        if other.graph == graph {
+            return number as u32;
+        }
+    }
+    graphs.len() as u32
+}
+
+fn dec_number(firsts: Firsts, streams: &[Stream], at: StreamRef) -> u32
+    requires low { firsts.decs ≤ 65536 }
+    requires streams { length streams.now ≤ 65536 }
+    ensures { result ≡ dec_in firsts streams.now at }
+{
+    firsts.decs + place_of(streams, at)
+}
+
+fn graph_number(firsts: Firsts, graphs: &[Laid], graph: u32) -> u32
+    requires low { firsts.graphs ≤ 65536 }
+    requires graphs { length graphs.now ≤ 65536 }
+    ensures { result ≡ graph_in firsts graphs.now graph }
+{
+    firsts.graphs + graph_place(graphs, graph)
+}
+
+fn origin_number(firsts: Firsts, streams: &[Stream], graphs: &[Laid], source: Origin) -> u32
+    requires { IsLow firsts streams.now graphs.now }
+    ensures { result ≡ origin_in firsts streams.now graphs.now source }
+{
     match source {
-        Origin::Stream(at) => first + place_of(streams, at),
-        Origin::Pad { .. } => first + streams.len() as u32,
+        Origin::Stream(at) => dec_number(firsts, streams, at),
+        Origin::Pad { graph, pad: _ } => graph_number(firsts, graphs, graph),
     }
 }
 
@@ -60,84 +98,214 @@ fn port_of(source: Origin) -> Option<u32>
     }
 }
 
+fn add_wire(
+    wires: &mut Vec<Wire>,
+    from: u32,
+    port: Option<u32>,
+    to: u32,
+    lane: Lane,
+) -> Result<(), AllocError>
+    ensures { OnOk result (wires.new.items ≡ wires.old.items ++ wire_of from port to lane ∷ []) }
+{
+    wires.push(Wire {
+        from,
+        port,
+        to,
+        lane,
+    })?;
+    Ok(())
+}
+
+// From each Demux to its Decs.
 fn add_demux_wires(
     wires: &mut Vec<Wire>,
+    firsts: Firsts,
     inputs: &[u32],
     streams: &[Stream],
 ) -> Result<(), AllocError>
-    requires { length inputs.now + length streams.now < 2 ^ 16 }
-    ensures { OnOk result (wires.new.items ≡ wires.old.items ++ demux_wires inputs.now streams.now streams.now) }
+    requires low { firsts.decs ≤ 65536 }
+    requires inputs { length inputs.now < 2 ^ 32 }
+    requires streams { length streams.now ≤ 65536 }
+    ensures { OnOk result (wires.new.items ≡ wires.old.items ++ map (demux_wire_in firsts inputs.now streams.now) streams.now) }
 {
     for stream in streams {
-        wires.push(Wire {
-            from: demux_number(inputs, stream.at.input),
-            port: None,
-            to: inputs.len() as u32 + place_of(streams, stream.at),
-            lane: Lane::Packets(stream.head),
-        })?;
+        let from = demux_number(inputs, stream.at.input);
+        let to = dec_number(firsts, streams, stream.at);
+        add_wire(wires, from, None, to, Lane::Packets(stream.head))?;
     }
     Ok(())
 }
 
+// To the inputs of one graph.
+fn add_pad_wires(
+    wires: &mut Vec<Wire>,
+    firsts: Firsts,
+    streams: &[Stream],
+    graphs: &[Laid],
+    graph: u32,
+    ins: &[InPad],
+) -> Result<(), AllocError>
+    requires { IsLow firsts streams.now graphs.now }
+    ensures { OnOk result (wires.new.items ≡ wires.old.items ++ map (pad_wire_in firsts streams.now graphs.now graph) ins.now) }
+{
+    let to = graph_number(firsts, graphs, graph);
+    for pad in ins {
+        let from = origin_number(firsts, streams, graphs, pad.source);
+        add_wire(wires, from, port_of(pad.source), to, Lane::Frames(pad.head))?;
+    }
+    Ok(())
+}
+
+// To the inputs of each graph.
+fn add_graph_wires(
+    wires: &mut Vec<Wire>,
+    firsts: Firsts,
+    streams: &[Stream],
+    graphs: &[Laid],
+) -> Result<(), AllocError>
+    requires { IsLow firsts streams.now graphs.now }
+    ensures { OnOk result (wires.new.items ≡ wires.old.items ++ flat_map (pad_wires_in firsts streams.now graphs.now) graphs.now) }
+{
+    for graph in graphs {
+        let ins = graph.ins.as_slice();
+        add_pad_wires(wires, firsts, streams, graphs, graph.graph, ins)?;
+    }
+    Ok(())
+}
+
+// To each output's Shortest node.
+fn add_shortest_wires(
+    wires: &mut Vec<Wire>,
+    firsts: Firsts,
+    streams: &[Stream],
+    graphs: &[Laid],
+    placed: &[Placed],
+) -> Result<(), AllocError>
+    requires low { IsLow firsts streams.now graphs.now }
+    requires small { AllByRecursion IsSmall placed.now }
+    ensures { OnOk result (wires.new.items ≡ wires.old.items ++ map (shortest_wire_in firsts streams.now graphs.now) placed.now) }
+{
+    for one in placed {
+        let from = origin_number(firsts, streams, graphs, one.what.source);
+        add_wire(
+            wires,
+            from,
+            port_of(one.what.source),
+            firsts.shortests + one.output,
+            Lane::Frames(one.what.head),
+        )?;
+    }
+    Ok(())
+}
+
+// To each Enc from what it shows.
 fn add_enc_wires(
     wires: &mut Vec<Wire>,
-    inputs: &[u32],
+    firsts: Firsts,
     streams: &[Stream],
+    graphs: &[Laid],
     placed: &[Placed],
 ) -> Result<(), AllocError>
-    requires few { length inputs.now + length streams.now < 2 ^ 16 }
+    requires low { IsLow firsts streams.now graphs.now }
     requires small { AllByRecursion IsSmall placed.now }
-    ensures { OnOk result (wires.new.items ≡ wires.old.items ++ enc_wires inputs.now streams.now placed.now) }
+    ensures { OnOk result (wires.new.items ≡ wires.old.items ++ map (enc_wire_in firsts streams.now graphs.now) placed.now) }
 {
-    let first = (inputs.len() + streams.len()) as u32;
     for one in placed {
-        wires.push(Wire {
-            from: origin_number(inputs, streams, one.what.source),
-            port: port_of(one.what.source),
-            to: first + one.number,
-            lane: Lane::Frames(one.what.head),
-        })?;
+        let from = origin_number(firsts, streams, graphs, one.what.source);
+        add_wire(
+            wires,
+            from,
+            port_of(one.what.source),
+            firsts.encs + one.number,
+            Lane::Frames(one.what.head),
+        )?;
     }
     Ok(())
 }
 
-fn add_mux_wires(
+// To each Enc from its output's Shortest node.
+fn add_joint_wires(
     wires: &mut Vec<Wire>,
-    inputs: &[u32],
-    streams: &[Stream],
+    firsts: Firsts,
     placed: &[Placed],
 ) -> Result<(), AllocError>
-    requires few { length inputs.now + length streams.now + length placed.now < 2 ^ 16 }
+    requires shortests { firsts.shortests ≤ 65536 }
+    requires encs { firsts.encs ≤ 65536 }
     requires small { AllByRecursion IsSmall placed.now }
-    ensures { OnOk result (wires.new.items ≡ wires.old.items ++ mux_wires inputs.now streams.now (length placed.now) placed.now) }
+    ensures { OnOk result (wires.new.items ≡ wires.old.items ++ map (joint_wire_in firsts) placed.now) }
 {
-    let first = (inputs.len() + streams.len()) as u32;
-    let count = placed.len() as u32;
     for one in placed {
-        wires.push(Wire {
-            from: first + one.number,
-            port: None,
-            to: first + count + one.output,
-            lane: Lane::Packets(one.what.packed),
-        })?;
+        add_wire(
+            wires,
+            firsts.shortests + one.output,
+            None,
+            firsts.encs + one.number,
+            Lane::Frames(one.what.head),
+        )?;
     }
     Ok(())
 }
 
-/// The wires between the nodes of these inputs, streams and outputs' streams.
+// From what the outputs' streams show to each Enc, by the Shortest nodes where there are such.
+fn add_frame_wires(
+    wires: &mut Vec<Wire>,
+    firsts: Firsts,
+    streams: &[Stream],
+    graphs: &[Laid],
+    joint: bool,
+    placed: &[Placed],
+) -> Result<(), AllocError>
+    requires low { IsLow firsts streams.now graphs.now }
+    requires small { AllByRecursion IsSmall placed.now }
+    ensures { OnOk result (wires.new.items ≡ wires.old.items ++ frame_wires_in firsts streams.now graphs.now joint placed.now) }
+{
+    if joint {
+        add_shortest_wires(wires, firsts, streams, graphs, placed)?;
+        add_joint_wires(wires, firsts, placed)
+    } else {
+        add_enc_wires(wires, firsts, streams, graphs, placed)
+    }
+}
+
+// From each Enc to its Mux.
+fn add_mux_wires(wires: &mut Vec<Wire>, firsts: Firsts, placed: &[Placed]) -> Result<(), AllocError>
+    requires encs { firsts.encs ≤ 65536 }
+    requires muxes { firsts.muxes ≤ 65536 }
+    requires small { AllByRecursion IsSmall placed.now }
+    ensures { OnOk result (wires.new.items ≡ wires.old.items ++ map (mux_wire_in firsts) placed.now) }
+{
+    for one in placed {
+        add_wire(
+            wires,
+            firsts.encs + one.number,
+            None,
+            firsts.muxes + one.output,
+            Lane::Packets(one.what.packed),
+        )?;
+    }
+    Ok(())
+}
+
+/// The wires between the nodes of these inputs, streams, graphs and outputs' streams, where each output has a Shortest node
+/// or none has.
 pub(crate) fn wire_up(
     alloc: Global,
+    firsts: Firsts,
     inputs: &[u32],
     streams: &[Stream],
+    graphs: &[Laid],
+    joint: bool,
     placed: &[Placed],
 ) -> Result<Vec<Wire>, AllocError>
-    requires few { length inputs.now + length streams.now + length placed.now < 2 ^ 16 }
+    requires inputs { length inputs.now < 2 ^ 32 }
+    requires low { IsLow firsts streams.now graphs.now }
     requires small { AllByRecursion IsSmall placed.now }
-    ensures { IfOk result (λ ws. ws.items ≡ plain_wires inputs.now streams.now placed.now) }
+    ensures { IfOk result (λ ws. ws.items ≡ wires_in firsts inputs.now streams.now graphs.now joint placed.now) }
 {
     let mut wires = Vec::new(alloc);
-    add_demux_wires(&mut wires, inputs, streams)?;
-    add_enc_wires(&mut wires, inputs, streams, placed)?;
-    add_mux_wires(&mut wires, inputs, streams, placed)?;
+    add_demux_wires(&mut wires, firsts, inputs, streams)?;
+    add_graph_wires(&mut wires, firsts, streams, graphs)?;
+    add_frame_wires(&mut wires, firsts, streams, graphs, joint, placed)?;
+    add_mux_wires(&mut wires, firsts, placed)?;
     Ok(wires)
 }

@@ -9,11 +9,10 @@ use Rattle.ff_plan.specs.declared.layout.OutStream.{OutStream}
 use Rattle.ff_plan.specs.declared.layout.Placed.{Placed}
 use Rattle.ff_plan.specs.Fitting.{HasKinds}
 use Rattle.ff_plan.specs.Layout.{place_from}
-use Rattle.ff_plan.specs.Plain.{rows, IsBare, IsSmall}
-use Rattle.ff_plan.proofs.Layouts.{map_length}
-use Rattle.ff_plan.proofs.Limits.{all_imply, few_in_lists, below_word, lists_length, small_places}
+use Rattle.ff_plan.specs.Plain.{rows, IsBare}
+use Rattle.ff_plan.proofs.Limits.{all_imply, few_in_lists, below_word, lists_length}
 use Rattle.ff_plan.proofs.Plans.{few_by, ins_by, outs_by, fit_by, kinds_by, routes_by, sources_by}
-use Rattle.ff_plan.proofs.Today.{outputs_are_bare, made_by, too_large_by, upward_by, fed_by}
+use Rattle.ff_plan.proofs.Today.{outputs_are_bare, no_parts, made_by, too_large_by, upward_by, fed_by}
 use Rattle.ff_plan.proofs.planning.plan.Goals as goal
 
 pub all_outputs-requires-clause-streams : goal.all_outputs-requires-clause-streams
@@ -34,26 +33,28 @@ returns-then-len-gt16-clause-refused c =
     let many : 16 < length c.in_ok-placed.placed.items = (let a = c.if-len-gt16.true in let b = c.len.ensures in let d = c.in_ok-placed.placed.ok.0 in omega (arith, a, b, d)) in
     inr (too_large_by c.args.job.now (lists c.args.heads.now) c.in_ok-is_built.ensures.all c.as_slice-outs.result.now c.in_ok-all.all.items c.in_ok-placed.placed.items c.as_slice-outs.ensures c.in_ok-all.ensures.made places many)
 
-pub numbered-requires-clause-streams : goal.numbered-requires-clause-streams
-numbered-requires-clause-streams c = few_in_lists c.args.heads.now c.requires.limits.streams
+pub numbered_plan-requires-clause-streams : goal.numbered_plan-requires-clause-streams
+numbered_plan-requires-clause-streams c = few_in_lists c.args.heads.now c.requires.limits.streams
 
-pub numbered-requires-clause-small : goal.numbered-requires-clause-small
-numbered-requires-clause-small c =
-    let rs = rows c.in_ok-all.all.items in
-    let places : c.in_ok-placed.placed.items ≡ place_from 0 0 rs = c.in_ok-placed.ensures ∙ ap (λ (l : List (Vec OutStream Global)). place_from 0 0 (rows l)) c.as_slice.ensures.value in
+pub numbered_plan-requires-clause-few : goal.numbered_plan-requires-clause-few
+numbered_plan-requires-clause-few c =
+    let all = c.in_ok-all.all.items in
+    let places : c.in_ok-placed.placed.items ≡ place_from 0 0 (rows all) = c.in_ok-placed.ensures ∙ ap (λ (l : List (Vec OutStream Global)). place_from 0 0 (rows l)) c.as_slice.ensures.value in
     let few : length c.in_ok-placed.placed.items ≤ 16 = (let a = c.if-len-gt16.false in let b = c.len.ensures in let d = c.in_ok-placed.placed.ok.0 in omega (arith, a, b, d)) in
-    let long : length rs ≤ 16 =
-    (let a = map_length (λ (v : Vec OutStream Global). v.items) c.in_ok-all.all.items in let b = c.in_ok-all.all.ok.0 in let d = c.in_ok-all.ensures.same in
-    let e = ap (λ (l : List OutputJob). length l) c.as_slice-outs.ensures in let h = c.requires.limits.outputs in omega (arith, a, b, d, e, h)) in
-    subst (λ (ps : List Placed). AllByRecursion IsSmall ps) (sym (c.as_slice-2.ensures.value ∙ places)) (small_places rs (subst (λ (ps : List Placed). length ps ≤ 16) places few) long)
+    subst (λ (ps : List Placed). length ps ≤ 16) places few
+
+pub numbered_plan-requires-clause-outputs : goal.numbered_plan-requires-clause-outputs
+numbered_plan-requires-clause-outputs c =
+    (let b = c.in_ok-all.all.ok.0 in let d = c.in_ok-all.ensures.same in let e = ap (λ (l : List OutputJob). length l) c.as_slice-outs.ensures in let h = c.requires.limits.outputs in omega (arith, b, d, e, h))
 
 pub returns-clause-made : goal.returns-clause-made
 returns-clause-made c =
-    let places : c.as_slice-2.result.now ≡ place_from 0 0 (rows c.in_ok-all.all.items) = c.as_slice-2.ensures.value ∙ (c.in_ok-placed.ensures ∙ ap (λ (l : List (Vec OutStream Global)). place_from 0 0 (rows l)) c.as_slice.ensures.value) in
-    let few : length c.as_slice-2.result.now ≤ 16 = (let a = c.if-len-gt16.false in let b = c.len.ensures in let d = c.as_slice-2.ensures.len in omega (arith, a, b, d)) in
-    let count : length c.as_slice-outs.result.now ≡ length c.in_ok-all.all.items = (let b = c.in_ok-all.all.ok.0 in let d = c.in_ok-all.ensures.same in omega (arith, b, d)) in
-    made_by c.args.job.now (lists c.args.heads.now) c.in_ok-is_built.ensures.all c.as_slice-outs.result.now c.in_ok-all.all.items c.as_slice-2.result.now (length c.as_slice-outs.result.now) c.in_ok-plan.plan
-    c.as_slice-outs.ensures c.in_ok-all.ensures.made places few count c.in_ok-plan.ensures
+    let all = c.in_ok-all.all.items in
+    let heads = lists c.args.heads.now in
+    let places : c.in_ok-placed.placed.items ≡ place_from 0 0 (rows all) = c.in_ok-placed.ensures ∙ ap (λ (l : List (Vec OutStream Global)). place_from 0 0 (rows l)) c.as_slice.ensures.value in
+    let few : length c.in_ok-placed.placed.items ≤ 16 = (let a = c.if-len-gt16.false in let b = c.len.ensures in let d = c.in_ok-placed.placed.ok.0 in omega (arith, a, b, d)) in
+    made_by c.args.job.now heads c.in_ok-is_built.ensures.all c.as_slice-outs.result.now all c.in_ok-plan.plan c.as_slice-outs.ensures c.in_ok-all.ensures.made (subst (λ (ps : List Placed). length ps ≤ 16) places few)
+    (c.in_ok-plan.ensures ∙ no_parts heads (rows all) c.new.result.items c.new-2.result.items c.new.ensures.items c.new-2.ensures.items)
 
 pub returns-clause-upward : goal.returns-clause-upward
 returns-clause-upward c = upward_by c.args.job.now (lists c.args.heads.now) c.in_ok-is_built.ensures.all c.in_ok-plan.plan (returns-clause-made c)

@@ -1,6 +1,6 @@
-use Rattle.std.proofs.Common.{◌≡◌, ◌++◌, drop}
-use Rattle.ff_plan.specs.Plain.{enc_wires}
+use Rattle.std.proofs.Common.{◌≡◌, ◌++◌, map, drop}
+use Rattle.ff_plan.specs.Numbering.{enc_wire_in}
 use Rattle.ff_plan.proofs.wires.add_enc_wires.Given as goal
 
 abbrev pub invariant-loop-one : goal.invariant-loop-one
-invariant-loop-one l = l.wires.items ++ enc_wires l.inputs l.streams (drop l.one-index l.placed) ≡ l.initial.wires.items ++ enc_wires l.inputs l.streams l.placed
+invariant-loop-one l = l.wires.items ++ map (enc_wire_in l.firsts l.streams l.graphs) (drop l.one-index l.placed) ≡ l.initial.wires.items ++ map (enc_wire_in l.firsts l.streams l.graphs) l.placed

@@ -1,0 +1,117 @@
+-- How few the numbers of a plan with graphs are, and that the plan by rows is the layout's.
+use Rattle.std.proofs.Common.{◌≡◌, ℕ, ◌+◌, ◌*◌, ◌^◌, ◌<◌, ◌≤◌, Bool, true, false, List, [], ◌∷◌, ◌++◌, map, length, vec_len, refl, sym, ap, ◌∙◌, append_assoc, arith}
+use Rattle.std.specs.List.{AllByRecursion, flat_map, list_any, range_with_len}
+use Rattle.std.specs.declared.alloc.Global.{Global}
+use Rattle.std.specs.declared.vec.Vec.{Vec}
+use Rattle.ff_values.specs.declared.head.StreamHead.{StreamHead}
+use Rattle.ff_map.specs.declared.streams.Stream.{Stream}
+use Rattle.ff_map.specs.Choice.{all_streams}
+use Rattle.ff_plan.specs.declared.layout.InPad.{InPad}
+use Rattle.ff_plan.specs.declared.layout.OutStream.{OutStream}
+use Rattle.ff_plan.specs.declared.layout.Placed.{Placed}
+use Rattle.ff_plan.specs.declared.number.Wire.{Wire}
+use Rattle.ff_plan.specs.declared.planned.GraphText.{GraphText}
+use Rattle.ff_plan.specs.declared.planned.Plan.{Plan}
+use Rattle.ff_plan.specs.Layout.{Laid, Layout, place_row, place_from, placed, shows, used, used_inputs}
+use Rattle.ff_plan.specs.Nodes.{plan_of, nodes_of, routes_of}
+use Rattle.ff_plan.specs.Numbering.{Firsts, firsts_at, all_sources, demux_wire_in, pad_wire_in, pad_wires_in, shortest_wire_in, enc_wire_in, joint_wire_in, mux_wire_in, frame_wires_in, wires_in, streams_in, inputs_in, rows_plan, plan_in, HasFewIns}
+use Rattle.ff_plan.specs.Plain.{rows}
+use Rattle.ff_plan.specs.Wires.{edges_of}
+use Rattle.ff_plan.proofs.Layouts.{joined_length, map_length, range_length, row_length}
+use Rattle.ff_plan.proofs.Limits.{filter_few, streams_length}
+
+-- few streams are used
+pub few_used : (heads : List (List StreamHead)) (graphs : List Laid) (places : List Placed) → length heads ≤ 16 → AllByRecursion (λ hs. length hs ≤ 16) heads → length (streams_in heads graphs places) ≤ 256
+few_used heads graphs places le all =
+    let kept = filter_few (λ s. list_any (shows s.at) (all_sources graphs places)) (all_streams heads) in
+    let most = streams_length 0 heads all in
+    omega (arith, kept, most, le)
+
+-- ---- few wires
+
+module _ (f : Firsts) (streams : List Stream) (graphs : List Laid) where
+  pub pads_few : (gs : List Laid) → AllByRecursion HasFewIns gs → length (flat_map (pad_wires_in f streams graphs) gs) ≤ 65536 * length gs
+  pads_few [] all = omega arith
+  pads_few (g ∷ gs) all =
+      let j = joined_length (pad_wires_in f streams graphs g) (flat_map (pad_wires_in f streams graphs) gs) in
+      let m = map_length (λ (i : InPad). pad_wire_in f streams graphs g.graph i) g.ins in
+      let here = all.0 in
+      let rest = pads_few gs all.1 in
+      omega (arith, j, m, here, rest)
+
+  frames_few : (joint : Bool) (ps : List Placed) → length (frame_wires_in f streams graphs joint ps) ≤ 2 * length ps
+  frames_few true ps =
+      (let j = joined_length (map (shortest_wire_in f streams graphs) ps) (map (joint_wire_in f) ps) in
+      let a = map_length (λ (p : Placed). shortest_wire_in f streams graphs p) ps in
+      let b = map_length (λ (p : Placed). joint_wire_in f p) ps in
+      omega (arith, j, a, b))
+  frames_few false ps = (let a = map_length (λ (p : Placed). enc_wire_in f streams graphs p) ps in omega (arith, a))
+
+  pub wires_few : (inputs : List ℕ) (joint : Bool) (ps : List Placed) → length streams ≤ 256 → length graphs ≤ 16 → AllByRecursion HasFewIns graphs → length ps ≤ 16 → length (wires_in f inputs streams graphs joint ps) < 2 ^ 32
+  wires_few inputs joint ps few_streams few_graphs ins few_places =
+      let a = map (demux_wire_in f inputs streams) streams in let b = flat_map (pad_wires_in f streams graphs) graphs in
+      let c = frame_wires_in f streams graphs joint ps in let d = map (mux_wire_in f) ps in
+      let j1 = joined_length a (b ++ (c ++ d)) in let j2 = joined_length b (c ++ d) in let j3 = joined_length c d in
+      let la = map_length (λ (k : Stream). demux_wire_in f inputs streams k) streams in
+      let lb = pads_few graphs ins in
+      let lc = frames_few joint ps in
+      let ld = map_length (λ (p : Placed). mux_wire_in f p) ps in
+      omega (arith, j1, j2, j3, la, lb, lc, ld, few_streams, few_graphs, few_places)
+
+-- ---- each output has few streams where all have
+
+pub rows_few : (n o : ℕ) (all : List (Vec OutStream Global)) → length (place_from n o (rows all)) ≤ 16 → AllByRecursion (λ v. vec_len v ≤ 16) all
+rows_few n o [] few = tt
+rows_few n o (v ∷ all) few =
+    let j = joined_length (place_row n o 0 v.items) (place_from (n + length v.items) (o + 1) (rows all)) in
+    let r = row_length n o 0 v.items in
+    let e : v.len ≡ length v.items = v.ok.0 in
+    (omega (arith, j, r, e, few), rows_few (n + length v.items) (o + 1) all (omega (arith, j, few)))
+
+-- ---- the plan of a layout
+
+module _ (heads : List (List StreamHead)) (graphs : List Laid) (outputs : List (List OutStream)) (texts : List GraphText) where
+  abbrev whole : Bool → Layout
+  whole joint = record { heads = heads; graphs = graphs; outputs = outputs; texts = texts; joint = joint }
+
+  abbrev streams : List Stream
+  streams = used (whole true)
+
+  abbrev inputs : List ℕ
+  inputs = used_inputs (whole true)
+
+  -- where so many Shortest nodes stand before the Encs
+  abbrev behind_shortests : ℕ → Firsts
+  behind_shortests k = firsts_at (length inputs) (length streams) (length graphs) k (length (placed (whole true)))
+
+  -- with these wires to the Encs and to the Muxes
+  abbrev with_wires : Firsts → List Wire → Plan
+  with_wires f ws = record {
+    nodes = nodes_of (whole true);
+    edges = edges_of (map (demux_wire_in f inputs streams) streams ++ (flat_map (pad_wires_in f streams graphs) graphs ++ ws));
+    routes = routes_of (whole true);
+    texts = texts;
+  }
+
+  abbrev last_wires : Firsts → List Wire
+  last_wires f = frame_wires_in f streams graphs true (placed (whole true)) ++ map (mux_wire_in f) (placed (whole true))
+
+  pub plan_is : (joint : Bool) → plan_in heads joint graphs (placed (whole joint)) (length outputs) texts ≡ plan_of (whole joint)
+  plan_is false = refl
+  plan_is true =
+      let f = behind_shortests (length (range_with_len 0 (length outputs))) in
+      ap (λ (k : ℕ). with_wires (behind_shortests k) (last_wires (behind_shortests k))) (sym (range_length 0 (length outputs)))
+      ∙ ap (λ (ws : List Wire). with_wires f ws)
+      (append_assoc (map (shortest_wire_in f streams graphs) (placed (whole true))) (map (joint_wire_in f) (placed (whole true))) (map (mux_wire_in f) (placed (whole true))))
+
+  -- by what the calls gave
+  pub plan_by : (joint : Bool) (gs : List Laid) (ps : List Placed) (n : ℕ) → gs ≡ graphs → ps ≡ place_from 0 0 outputs → n ≡ length outputs → plan_in heads joint gs ps n texts ≡ plan_of (whole joint)
+  plan_by joint gs ps n g p e =
+      ap (λ (l : List Laid). plan_in heads joint l ps n texts) g
+      ∙ (ap (λ (l : List Placed). plan_in heads joint graphs l n texts) p ∙ (ap (λ (k : ℕ). plan_in heads joint graphs (place_from 0 0 outputs) k texts) e ∙ plan_is joint))
+
+pub rows_by : (heads : List (List StreamHead)) (graphs : List Laid) (joint : Bool) (ps : List Placed) (n : ℕ) (texts : List GraphText) (sources : ℕ) (is : List ℕ) (ss : List Stream)
+    → sources ≡ length heads → is ≡ inputs_in heads graphs ps → ss ≡ streams_in heads graphs ps → rows_plan sources is ss graphs joint ps n texts ≡ plan_in heads joint graphs ps n texts
+rows_by heads graphs joint ps n texts sources is ss a b c =
+    ap (λ (k : ℕ). rows_plan k is ss graphs joint ps n texts) a
+    ∙ (ap (λ (l : List ℕ). rows_plan (length heads) l ss graphs joint ps n texts) b ∙ ap (λ (l : List Stream). rows_plan (length heads) (inputs_in heads graphs ps) l graphs joint ps n texts) c)

@@ -1,0 +1,201 @@
+// From what a plan is made of to the plan.
+ghost use Rattle.std.specs.Prelude.{◌≡◌, ◌≤◌, IfOk, length, vec_len};
+ghost use Rattle.std.specs.List.{AllByRecursion};
+ghost use Rattle.ff_map.specs.Choice.{lists};
+ghost use Rattle.ff_plan.specs.Layout.{placed as placed_in};
+ghost use Rattle.ff_plan.specs.Nodes.{plan_of};
+ghost use Rattle.ff_plan.specs.Numbering.{firsts_at, outputs_wires, plan_in, rows_plan, routes_in, HasFewIns};
+ghost use Rattle.ff_plan.specs.Plain.{IsSmall};
+ghost use Rattle.ff_plan.specs.Whole.{layout_in};
+ghost use Rattle.ff_plan.specs.Wires.{edges_of};
+
+use crate::layout::{Laid, Laying, Placed};
+use crate::nodes::{all_nodes, count_shortests, place};
+use crate::number::number_ports;
+use crate::origins::{all_origins, used_inputs, used_streams};
+use crate::planned::{GraphText, Plan};
+use crate::routes::{graph_ways, ways};
+use crate::wires::{Firsts, wire_up};
+use ff_edges::Edge;
+use ff_lang::Sequence;
+use ff_map::Stream;
+use ff_sched::{Graphs, Routes, Ways};
+use ff_values::StreamHead;
+use std::alloc::{AllocError, Global};
+
+// The first numbers behind so many nodes of each kind.
+fn first_numbers(
+    inputs: usize,
+    streams: usize,
+    graphs: usize,
+    shortests: u32,
+    placed: usize,
+) -> Firsts
+    requires inputs { inputs ≤ 16 }
+    requires streams { streams ≤ 256 }
+    requires graphs { graphs ≤ 16 }
+    requires shortests { shortests ≤ 16 }
+    requires placed { placed ≤ 16 }
+    ensures { result ≡ firsts_at inputs streams graphs shortests placed }
+{
+    let decs = inputs as u32;
+    let first_graph = decs + streams as u32;
+    let first_shortest = first_graph + graphs as u32;
+    let encs = first_shortest + shortests;
+    Firsts {
+        decs,
+        graphs: first_graph,
+        shortests: first_shortest,
+        encs,
+        muxes: encs + placed as u32,
+    }
+}
+
+// The edges between the nodes of these rows.
+fn all_edges(
+    alloc: Global,
+    inputs: &[u32],
+    streams: &[Stream],
+    graphs: &[Laid],
+    joint: bool,
+    placed: &[Placed],
+    outputs: u32,
+) -> Result<Vec<Edge>, AllocError>
+    requires inputs { length inputs.now ≤ 16 }
+    requires streams { length streams.now ≤ 256 }
+    requires graphs { length graphs.now ≤ 16 }
+    requires ins { AllByRecursion HasFewIns graphs.now }
+    requires placed { length placed.now ≤ 16 }
+    requires small { AllByRecursion IsSmall placed.now }
+    requires outputs { outputs ≤ 16 }
+    ensures { IfOk result (λ es. es.items ≡ edges_of (outputs_wires inputs.now streams.now graphs.now joint placed.now outputs)) }
+{
+    let shortests = count_shortests(outputs, joint);
+    let firsts = first_numbers(
+        inputs.len(),
+        streams.len(),
+        graphs.len(),
+        shortests,
+        placed.len(),
+    );
+    let wires = wire_up(alloc, firsts, inputs, streams, graphs, joint, placed)?;
+    number_ports(alloc, wires.as_slice())
+}
+
+fn all_routes(
+    alloc: Global,
+    sources: u32,
+    graphs: &[Laid],
+    placed: &[Placed],
+) -> Result<Routes, AllocError>
+    requires { length graphs.now ≤ 16 }
+    ensures { IfOk result (λ r. r ≡ routes_in sources graphs.now placed.now) }
+{
+    let streams = ways(alloc, placed)?;
+    let graphs = graph_ways(alloc, graphs)?;
+    Ok(Routes {
+        sources,
+        streams: Ways::new(streams),
+        graphs: Graphs::new(graphs),
+    })
+}
+
+// The plan of these rows.
+fn plan_rows(
+    alloc: Global,
+    sources: u32,
+    inputs: &[u32],
+    streams: &[Stream],
+    graphs: &[Laid],
+    joint: bool,
+    placed: &[Placed],
+    outputs: u32,
+    texts: Vec<GraphText>,
+) -> Result<Plan, AllocError>
+    requires inputs { length inputs.now ≤ 16 }
+    requires streams { length streams.now ≤ 256 }
+    requires graphs { length graphs.now ≤ 16 }
+    requires ins { AllByRecursion HasFewIns graphs.now }
+    requires placed { length placed.now ≤ 16 }
+    requires small { AllByRecursion IsSmall placed.now }
+    requires outputs { outputs ≤ 16 }
+    ensures { IfOk result (λ p. p ≡ rows_plan sources inputs.now streams.now graphs.now joint placed.now outputs texts.items) }
+{
+    let shortests = count_shortests(outputs, joint);
+    let nodes = all_nodes(alloc, inputs, streams, graphs, shortests, placed, outputs)?;
+    let edges = all_edges(alloc, inputs, streams, graphs, joint, placed, outputs)?;
+    let routes = all_routes(alloc, sources, graphs, placed)?;
+    Ok(Plan {
+        nodes: Sequence::of(nodes),
+        edges: Sequence::of(edges),
+        routes,
+        texts: Sequence::of(texts),
+    })
+}
+
+// The plan of so many outputs with these streams.
+fn plan_placed(
+    alloc: Global,
+    heads: &[Vec<StreamHead>],
+    joint: bool,
+    graphs: &[Laid],
+    placed: &[Placed],
+    outputs: u32,
+    texts: Vec<GraphText>,
+) -> Result<Plan, AllocError>
+    requires inputs { length heads.now ≤ 16 }
+    requires streams { AllByRecursion (λ v. vec_len v ≤ 16) heads.now }
+    requires graphs { length graphs.now ≤ 16 }
+    requires ins { AllByRecursion HasFewIns graphs.now }
+    requires placed { length placed.now ≤ 16 }
+    requires small { AllByRecursion IsSmall placed.now }
+    requires outputs { outputs ≤ 16 }
+    ensures { IfOk result (λ p. p ≡ plan_in (lists heads.now) joint graphs.now placed.now outputs texts.items) }
+{
+    let origins = all_origins(alloc, graphs, placed)?;
+    let streams = used_streams(alloc, heads, origins.as_slice())?;
+    let inputs = used_inputs(alloc, heads.len(), streams.as_slice())?;
+    plan_rows(
+        alloc,
+        heads.len() as u32,
+        inputs.as_slice(),
+        streams.as_slice(),
+        graphs,
+        joint,
+        placed,
+        outputs,
+        texts,
+    )
+}
+
+/// The plan of a layout, for inputs with these heads, where each output has a Shortest node or none has.
+pub(crate) fn numbered_plan(
+    alloc: Global,
+    heads: &[Vec<StreamHead>],
+    joint: bool,
+    laying: Laying,
+) -> Result<Plan, AllocError>
+    requires inputs { length heads.now ≤ 16 }
+    requires streams { AllByRecursion (λ v. vec_len v ≤ 16) heads.now }
+    requires few { length (placed_in (layout_in (lists heads.now) joint laying)) ≤ 16 }
+    requires graphs { length laying.graphs.items ≤ 16 }
+    requires ins { AllByRecursion HasFewIns laying.graphs.items }
+    requires outputs { length laying.outputs.items ≤ 16 }
+    ensures { IfOk result (λ p. p ≡ plan_of (layout_in (lists heads.now) joint laying)) }
+{
+    let Laying {
+        graphs,
+        outputs,
+        texts,
+    } = laying;
+    let placed = place(alloc, outputs.as_slice())?;
+    plan_placed(
+        alloc,
+        heads,
+        joint,
+        graphs.as_slice(),
+        placed.as_slice(),
+        outputs.len() as u32,
+        texts,
+    )
+}

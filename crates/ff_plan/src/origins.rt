@@ -1,0 +1,165 @@
+// Where inputs of graphs and streams of outputs come from, and the streams and inputs that are used.
+ghost use Rattle.std.specs.Prelude.{◌≡◌, ◌^◌, ◌<◌, ◌++◌, ◌∷◌, [], IfOk, OnOk, vec_len, length, map};
+ghost use Rattle.std.specs.List.{AllByRecursion, filter, flat_map, list_any, range_with_len};
+ghost use Rattle.ff_map.specs.Choice.{lists, all_streams, streams_of, stream_at as the_stream_at};
+ghost use Rattle.ff_map.specs.declared.streams.Stream.{Stream};
+ghost use Rattle.ff_plan.specs.declared.layout.InPad.{InPad};
+ghost use Rattle.ff_plan.specs.declared.layout.Placed.{Placed};
+ghost use Rattle.ff_plan.specs.Layout.{same_ref as are_same, shows as is_shown_by};
+ghost use Rattle.ff_plan.specs.Numbering.{sources_of, all_sources};
+ghost use Rattle.ff_plan.specs.Plain.{has_stream as input_has};
+
+use crate::layout::{InPad, Laid, Origin, Placed};
+use ff_map::{Stream, StreamRef};
+use ff_values::StreamHead;
+use std::alloc::{AllocError, Global};
+
+pub(crate) fn same_ref(a: StreamRef, b: StreamRef) -> bool
+    ensures { result ≡ are_same a b }
+{
+    a.input == b.input && a.stream == b.stream
+}
+
+// Where the inputs of a graph come from.
+fn add_sources(origins: &mut Vec<Origin>, ins: &[InPad]) -> Result<(), AllocError>
+    ensures { OnOk result (origins.new.items ≡ origins.old.items ++ map (λ (i : InPad). i.source) ins.now) }
+{
+    for pad in ins {
+        origins.push(pad.source)?;
+    }
+    Ok(())
+}
+
+fn add_graph_sources(origins: &mut Vec<Origin>, graphs: &[Laid]) -> Result<(), AllocError>
+    ensures { OnOk result (origins.new.items ≡ origins.old.items ++ flat_map sources_of graphs.now) }
+{
+    for graph in graphs {
+        add_sources(origins, graph.ins.as_slice())?;
+    }
+    Ok(())
+}
+
+fn add_stream_sources(origins: &mut Vec<Origin>, placed: &[Placed]) -> Result<(), AllocError>
+    ensures { OnOk result (origins.new.items ≡ origins.old.items ++ map (λ (p : Placed). p.what.source) placed.now) }
+{
+    for one in placed {
+        origins.push(one.what.source)?;
+    }
+    Ok(())
+}
+
+/// Where all inputs of these graphs and all these streams of outputs come from.
+pub(crate) fn all_origins(
+    alloc: Global,
+    graphs: &[Laid],
+    placed: &[Placed],
+) -> Result<Vec<Origin>, AllocError>
+    ensures { IfOk result (λ os. os.items ≡ all_sources graphs.now placed.now) }
+{
+    let mut origins = Vec::new(alloc);
+    add_graph_sources(&mut origins, graphs)?;
+    add_stream_sources(&mut origins, placed)?;
+    Ok(origins)
+}
+
+fn shows(at: StreamRef, source: Origin) -> bool
+    ensures { result ≡ is_shown_by at source }
+{
+    match source {
+        Origin::Stream(shown) => same_ref(at, shown),
+        Origin::Pad { .. } => false,
+    }
+}
+
+fn is_shown(origins: &[Origin], at: StreamRef) -> bool
+    ensures { result ≡ list_any (is_shown_by at) origins.now }
+{
+    for origin in origins {
+        if shows(at, *origin) {
+            return true;
+        }
+    }
+    false
+}
+
+/// A stream with this head at its place.
+pub(crate) fn stream_at(input: u32, stream: u32, head: StreamHead) -> Stream
+    ensures { result ≡ the_stream_at input stream head }
+{
+    Stream {
+        at: StreamRef { input, stream },
+        head,
+    }
+}
+
+// One more stream, where something comes from it.
+fn add_shown(used: &mut Vec<Stream>, origins: &[Origin], stream: &Stream) -> Result<(), AllocError>
+    ensures { OnOk result (used.new.items ≡ used.old.items ++ filter (λ (s : Stream). list_any (is_shown_by s.at) origins.now) (stream.now ∷ [])) }
+{
+    if is_shown(origins, stream.at) {
+        used.push(stream_at(stream.at.input, stream.at.stream, stream.head))?;
+    }
+    Ok(())
+}
+
+fn add_used(
+    used: &mut Vec<Stream>,
+    input: u32,
+    heads: &[StreamHead],
+    origins: &[Origin],
+) -> Result<(), AllocError>
+    requires { length heads.now < 2 ^ 32 }
+    ensures { OnOk result (used.new.items ≡ used.old.items ++ filter (λ (s : Stream). list_any (is_shown_by s.at) origins.now) (streams_of input heads.now)) }
+{
+    for (number, head) in heads.iter().enumerate() {
+        let stream = stream_at(input, number as u32, *head);
+        add_shown(used, origins, &stream)?;
+    }
+    Ok(())
+}
+
+/// The streams of inputs from which something comes, by input and stream.
+pub(crate) fn used_streams(
+    alloc: Global,
+    heads: &[Vec<StreamHead>],
+    origins: &[Origin],
+) -> Result<Vec<Stream>, AllocError>
+    requires inputs { length heads.now < 2 ^ 32 }
+    requires streams { AllByRecursion (λ v. vec_len v < 2 ^ 32) heads.now }
+    ensures { IfOk result (λ ss. ss.items ≡ filter (λ (s : Stream). list_any (is_shown_by s.at) origins.now) (all_streams (lists heads.now))) }
+{
+    let mut used = Vec::new(alloc);
+    for (input, streams) in heads.iter().enumerate() {
+        add_used(&mut used, input as u32, streams.as_slice(), origins)?;
+    }
+    Ok(used)
+}
+
+fn has_stream(streams: &[Stream], input: u32) -> bool
+    ensures { result ≡ input_has streams.now input }
+{
+    for stream in streams {
+        if stream.at.input == input {
+            return true;
+        }
+    }
+    false
+}
+
+/// The inputs of these streams.
+pub(crate) fn used_inputs(
+    alloc: Global,
+    inputs: usize,
+    streams: &[Stream],
+) -> Result<Vec<u32>, AllocError>
+    requires { inputs < 2 ^ 32 }
+    ensures { IfOk result (λ is. is.items ≡ filter (input_has streams.now) (range_with_len 0 inputs)) }
+{
+    let mut used = Vec::new(alloc);
+    for input in 0..inputs {
+        if has_stream(streams, input as u32) {
+            used.push(input as u32)?;
+        }
+    }
+    Ok(used)
+}
