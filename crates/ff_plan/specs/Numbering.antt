@@ -10,6 +10,7 @@ use Rattle.ff_plan.specs.declared.layout.Laid.{Laid}
 use Rattle.ff_plan.specs.declared.layout.Origin.{Origin}
 use Rattle.ff_plan.specs.declared.layout.Origin.TheVariants as origin
 use Rattle.ff_plan.specs.declared.layout.Placed.{Placed}
+use Rattle.ff_plan.specs.declared.layout.Want.{Want}
 use Rattle.ff_plan.specs.declared.number.Wire.{Wire}
 use Rattle.ff_plan.specs.declared.planned.PlanNode.{PlanNode}
 use Rattle.ff_plan.specs.declared.planned.PlanNode.TheVariants as node
@@ -31,9 +32,12 @@ sources_of g = map (λ i. i.source) g.ins
 abbrev pub all_sources : List Laid → List Placed → List Origin
 all_sources graphs placed = flat_map sources_of graphs ++ map (λ p. p.what.source) placed
 
--- a graph with few inputs
+-- a graph with few inputs, and what few such get
 abbrev pub HasFewIns : Laid → Type 0
 HasFewIns g = length g.ins ≤ 65536
+
+abbrev pub IsFewWants : List Want → Type 0
+IsFewWants row = length row ≤ 65536
 
 abbrev pub joined_outputs : ℕ → Bool → ℕ
 joined_outputs outputs joint = cond joint outputs 0

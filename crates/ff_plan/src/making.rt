@@ -5,6 +5,7 @@ ghost use Rattle.ff_map.specs.Choice.{lists};
 ghost use Rattle.ff_plan.specs.Pads.{has_label as label_stands, labelled_out, made_at, pad_in as the_pad_in, head_in as the_head_in, made_of};
 ghost use Rattle.ff_plan.specs.Pads.{configure as as_configured, make_from, make_all as all_made, unlabelled_from, outs_of_made, unlabelled as all_unlabelled};
 ghost use Rattle.ff_plan.specs.Plain.{IsRefused};
+ghost use Rattle.ff_plan.specs.Numbering.{HasFewIns, IsFewWants};
 ghost use Rattle.ff_plan.specs.Whole.{HasFewPads};
 
 use crate::filtering::Filtering;
@@ -84,7 +85,8 @@ fn head_in(pad: Option<InPad>) -> Option<StreamHead>
 // The pads that were found.
 fn pads_in(alloc: Global, made: &[Made], row: &[Want]) -> Result<Vec<InPad>, AllocError>
     requires { AllByRecursion HasFewPads made.now }
-    ensures { IfOk result (λ pads. pads.items ≡ filter_map (the_pad_in made.now) row.now) }
+    ensures pads { IfOk result (λ pads. pads.items ≡ filter_map (the_pad_in made.now) row.now) }
+    ensures few { IfOk result (λ pads. vec_len pads ≤ length row.now) }
 {
     let mut pads = Vec::new(alloc);
     for want in row {
@@ -120,12 +122,14 @@ fn made_with<F: Filtering>(
     number: u32,
     graph: &Graph,
 ) -> Result<Made, PlanError>
-    requires { AllByRecursion HasFewPads made.now }
+    requires pads { AllByRecursion HasFewPads made.now }
+    requires wants { IsFewWants row.now }
     ensures made { IfOk result (λ m. made_of number (filter_map (the_pad_in made.now) row.now)
         ((F.rules filtering.now).configured graph.now (map (λ w. the_head_in (the_pad_in made.now w)) row.now)) ≡ Ok m) }
     ensures refused { IfErr result (IsRefused (made_of number (filter_map (the_pad_in made.now) row.now)
         ((F.rules filtering.now).configured graph.now (map (λ w. the_head_in (the_pad_in made.now w)) row.now)))) }
     ensures few { IfOk result HasFewPads }
+    ensures ins { IfOk result (λ m. HasFewIns m.laid) }
 {
     let ins = pads_in(alloc, made, row)?;
     let heads = heads_in(alloc, made, row)?;
@@ -146,7 +150,9 @@ fn made_with<F: Filtering>(
 }
 
 fn row_of(wants: &[Sequence<Want>], number: u32) -> &[Want]
-    ensures { result.now ≡ slice_index_or wants.now number [] }
+    requires { AllByRecursion IsFewWants wants.now }
+    ensures row { result.now ≡ slice_index_or wants.now number [] }
+    ensures few { IsFewWants result.now }
 {
     match wants.get(number as usize) {
         Some(row) => row.as_slice(),
@@ -163,10 +169,12 @@ fn configure<F: Filtering>(
     wants: &[Sequence<Want>],
     number: u32,
 ) -> Result<Made, PlanError>
-    requires { AllByRecursion HasFewPads made.now }
+    requires pads { AllByRecursion HasFewPads made.now }
+    requires wants { AllByRecursion IsFewWants wants.now }
     ensures made { IfOk result (λ m. as_configured (F.rules filtering.now) made.now wants.now number (slice_get graphs.now number) ≡ Ok m) }
     ensures refused { IfErr result (IsRefused (as_configured (F.rules filtering.now) made.now wants.now number (slice_get graphs.now number))) }
     ensures few { IfOk result HasFewPads }
+    ensures ins { IfOk result (λ m. HasFewIns m.laid) }
 {
     match graphs.get(number as usize) {
         Some(graph) => made_with(alloc, filtering, made, row_of(wants, number), number, graph),
@@ -183,8 +191,11 @@ fn configure<F: Filtering>(
 fn add_made(all: &mut Vec<Made>, made: Made) -> Result<(), AllocError>
     requires few { AllByRecursion HasFewPads all.now.items }
     requires more { HasFewPads made }
+    requires ins { AllByRecursion (λ m. HasFewIns m.laid) all.now.items }
+    requires more_ins { HasFewIns made.laid }
     ensures items { OnOk result (all.new.items ≡ all.old.items ++ made ∷ []) }
     ensures few { OnOk result (AllByRecursion HasFewPads all.new.items) }
+    ensures ins { OnOk result (AllByRecursion (λ m. HasFewIns m.laid) all.new.items) }
 {
     all.push(made)?;
     Ok(())
@@ -197,9 +208,11 @@ fn make_in_order<F: Filtering>(
     wants: &[Sequence<Want>],
     order: &[u32],
 ) -> Result<Vec<Made>, PlanError>
+    requires { AllByRecursion IsFewWants wants.now }
     ensures made { IfOk result (λ made. make_from (F.rules filtering.now) graphs.now wants.now [] order.now ≡ Ok made.items) }
     ensures refused { IfErr result (IsRefused (make_from (F.rules filtering.now) graphs.now wants.now [] order.now)) }
     ensures few { IfOk result (λ made. AllByRecursion HasFewPads made.items) }
+    ensures ins { IfOk result (λ made. AllByRecursion (λ m. HasFewIns m.laid) made.items) }
     ensures count { IfOk result (λ made. vec_len made ≡ length order.now) }
 {
     let mut made = Vec::new(alloc);
@@ -223,6 +236,7 @@ pub(crate) fn make_all<F: Filtering>(
     ensures made { IfOk result (λ made. all_made (F.rules filtering.now) (lists heads.now) graphs.now ≡ Ok made.items) }
     ensures refused { IfErr result (IsRefused (all_made (F.rules filtering.now) (lists heads.now) graphs.now)) }
     ensures few { IfOk result (λ made. AllByRecursion HasFewPads made.items) }
+    ensures ins { IfOk result (λ made. AllByRecursion (λ m. HasFewIns m.laid) made.items) }
 {
     let wants = all_wants(alloc, filtering, heads, graphs)?;
     let order = graphs_in_order(alloc, graphs)?;

@@ -5,6 +5,7 @@ ghost use Rattle.ff_map.specs.Choice.{lists, streams_of, all_streams, has_kind};
 ghost use Rattle.ff_plan.specs.Labels.{giver as number_of_giver, stream_of_label as of_label};
 ghost use Rattle.ff_plan.specs.Pads.{is_taken as was_taken, is_free as seems_free, known_or_nothing as known_or_none, want_of_giver};
 ghost use Rattle.ff_plan.specs.Pads.{want_of as the_want_of, wants_of as the_wants_of, all_wants as wants_of_all};
+ghost use Rattle.ff_plan.specs.Numbering.{IsFewWants};
 ghost use Rattle.ff_plan.specs.Whole.{flat};
 
 use crate::filtering::Filtering;
@@ -189,7 +190,8 @@ fn wants_of<F: Filtering>(
     requires inputs { length heads.now < 2 ^ 32 }
     requires streams { AllByRecursion (λ v. vec_len v < 2 ^ 32) heads.now }
     requires graphs { length graphs.now ≤ 16 }
-    ensures { IfOk result (λ row. row.items ≡ the_wants_of (F.rules filtering.now) (lists heads.now) graphs.now (flat rows.now) pads.now) }
+    ensures wants { IfOk result (λ row. row.items ≡ the_wants_of (F.rules filtering.now) (lists heads.now) graphs.now (flat rows.now) pads.now) }
+    ensures count { IfOk result (λ row. vec_len row ≡ length pads.now) }
 {
     let mut row = Vec::new(alloc);
     for pad in pads {
@@ -209,7 +211,8 @@ pub(crate) fn all_wants<F: Filtering>(
     requires inputs { length heads.now < 2 ^ 32 }
     requires streams { AllByRecursion (λ v. vec_len v < 2 ^ 32) heads.now }
     requires graphs { length graphs.now ≤ 16 }
-    ensures { IfOk result (λ rows. rows.items ≡ wants_of_all (F.rules filtering.now) (lists heads.now) graphs.now) }
+    ensures wants { IfOk result (λ rows. rows.items ≡ wants_of_all (F.rules filtering.now) (lists heads.now) graphs.now) }
+    ensures few { IfOk result (λ rows. AllByRecursion IsFewWants rows.items) }
 {
     let mut rows = Vec::new(alloc);
     for graph in graphs {

@@ -21,7 +21,7 @@ returns-in-Some-clause-refused g c =
     let there : slice_get graphs n ≡ Some graph = slice_get-get_or graphs n graph c.in-Some.ensures.lookup.3.0 ∙ ap (λ (x : Graph). Some x) (sym c.in-Some.ensures.lookup.1) in
     let same : configure rules made c.args.wants.now n (slice_get graphs n) ≡ made_of n (filter_map (pad_in made) row) (rules.configured graph (map (λ (w : Want). head_in (pad_in made w)) row)) =
     ap (λ (o : Option Graph). configure rules made c.args.wants.now n o) there
-    ∙ ap (λ (r : List Want). made_of n (filter_map (pad_in made) r) (rules.configured graph (map (λ (w : Want). head_in (pad_in made w)) r))) (sym c.row_of.ensures) in
+    ∙ ap (λ (r : List Want). made_of n (filter_map (pad_in made) r) (rules.configured graph (map (λ (w : Want). head_in (pad_in made w)) r))) (sym c.row_of.ensures.row) in
     subst (λ (r : Planned Made). IfErr c.made_with.result (IsRefused r)) (sym same) c.made_with.ensures.refused
 
 pub returns-in-None-clause-made : goal.returns-in-None-clause-made

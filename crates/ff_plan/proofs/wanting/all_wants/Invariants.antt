@@ -1,8 +1,13 @@
 use Rattle.std.proofs.Common.{◌≡◌, ◌++◌, [], drop}
+use Rattle.std.specs.List.{AllByRecursion}
 use Rattle.ff_map.specs.Choice.{lists}
+use Rattle.ff_plan.specs.Numbering.{IsFewWants}
 use Rattle.ff_plan.specs.Pads.{wants_from}
 use Rattle.ff_plan.specs.Whole.{flat}
 use Rattle.ff_plan.proofs.wanting.all_wants.Given as goal
 
 abbrev pub invariant-loop-graph : goal.invariant-loop-graph
-invariant-loop-graph g l = l.rows.items ++ wants_from (g.F.Filtering.rules l.filtering) (lists l.heads) l.graphs (flat l.rows.items) (drop l.graph-index l.graphs) ≡ wants_from (g.F.Filtering.rules l.filtering) (lists l.heads) l.graphs [] l.graphs
+invariant-loop-graph g l = record {
+  wants : l.rows.items ++ wants_from (g.F.Filtering.rules l.filtering) (lists l.heads) l.graphs (flat l.rows.items) (drop l.graph-index l.graphs) ≡ wants_from (g.F.Filtering.rules l.filtering) (lists l.heads) l.graphs [] l.graphs;
+  few : AllByRecursion IsFewWants l.rows.items;
+}
