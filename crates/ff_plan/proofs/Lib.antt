@@ -5,6 +5,7 @@ pub mod EndFits
 mod ByRows
 mod Counts
 mod EndFits
+mod FewIns
 mod Filters
 mod Fitting
 mod Fronts

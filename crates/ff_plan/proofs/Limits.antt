@@ -1,5 +1,5 @@
 -- What the limits of a job give.
-use Rattle.std.proofs.Common.{◌≡◌, ℕ, suc, ◌+◌, ◌*◌, ◌^◌, ◌<◌, ◌≤◌, Bool, true, false, cond, List, [], ◌∷◌, ◌++◌, length, vec_len, refl, ap, arith}
+use Rattle.std.proofs.Common.{◌≡◌, ℕ, suc, ◌+◌, ◌*◌, ◌^◌, ◌<◌, ◌≤◌, Bool, true, false, cond, List, [], ◌∷◌, length, vec_len, refl, ap, arith}
 use Rattle.std.specs.List.{AllByRecursion, filter, range_with_len}
 use Rattle.std.specs.declared.alloc.Global.{Global}
 use Rattle.std.specs.declared.vec.Vec.{Vec}
@@ -8,8 +8,7 @@ use Rattle.ff_map.specs.Choice.{lists, numbered, streams_from, all_streams}
 use Rattle.ff_plan.specs.declared.layout.OutStream.{OutStream}
 use Rattle.ff_plan.specs.declared.layout.Placed.{Placed}
 use Rattle.ff_plan.specs.Layout.{place_from}
-use Rattle.ff_map.specs.declared.streams.Stream.{Stream}
-use Rattle.ff_plan.specs.Plain.{rows, shown_by, IsSmall, plain_streams, plain_wires, demux_wires, enc_wires, mux_wires, demux_wire_of, enc_wire_of, mux_wire_of}
+use Rattle.ff_plan.specs.Plain.{rows, shown_by, IsSmall, plain_streams}
 use Rattle.ff_plan.proofs.Among.{all_among}
 use Rattle.ff_plan.proofs.Layouts.{joined_length, map_length, place_in, range_length}
 
@@ -65,16 +64,3 @@ small_places rs few le = all_among IsSmall (place_from 0 0 rs) (λ p i. (let r =
 pub lists_few : (vs : List (Vec StreamHead Global)) → AllByRecursion (λ v. vec_len v ≤ 16) vs → AllByRecursion (λ hs. length hs ≤ 16) (lists vs)
 lists_few [] all = tt
 lists_few (v ∷ vs) all = ((let e : v.len ≡ length v.items = v.ok.0 in let h = all.0 in omega (arith, e, h)), lists_few vs all.1)
-
-pub wires_length : (inputs : List ℕ) (streams : List Stream) (placed : List Placed) → length (plain_wires inputs streams placed) ≡ length streams + (length placed + length placed)
-wires_length inputs streams placed =
-    let a = demux_wires inputs streams streams in let b = enc_wires inputs streams placed in let c = mux_wires inputs streams (length placed) placed in
-    let j1 = joined_length a (b ++ c) in let j2 = joined_length b c in
-    let la = map_length (λ (k : Stream). demux_wire_of inputs streams k) streams in
-    let lb = map_length (λ (p : Placed). enc_wire_of inputs streams p) placed in
-    let lc = map_length (λ (p : Placed). mux_wire_of inputs streams (length placed) p) placed in
-    omega (arith, j1, j2, la, lb, lc)
-
--- the used inputs, streams and outputs' streams are few
-pub numbers_fit : (a b p : ℕ) → a ≤ 16 → b ≤ 256 → p ≤ 16 → a + b + p < 2 ^ 16
-numbers_fit a b p la lb lp = omega (arith, la, lb, lp)
