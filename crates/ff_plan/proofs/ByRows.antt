@@ -10,11 +10,13 @@ use Rattle.ff_plan.specs.declared.layout.InPad.{InPad}
 use Rattle.ff_plan.specs.declared.layout.OutStream.{OutStream}
 use Rattle.ff_plan.specs.declared.layout.Placed.{Placed}
 use Rattle.ff_plan.specs.declared.number.Wire.{Wire}
+use Rattle.ff_plan.specs.declared.numbering.Drawing.{Drawing}
 use Rattle.ff_plan.specs.declared.planned.GraphText.{GraphText}
 use Rattle.ff_plan.specs.declared.planned.Plan.{Plan}
+use Rattle.ff_sched.specs.declared.routes.Routes.{Routes}
 use Rattle.ff_plan.specs.Layout.{Laid, Layout, place_row, place_from, placed, shows, used, used_inputs}
 use Rattle.ff_plan.specs.Nodes.{plan_of, nodes_of, routes_of}
-use Rattle.ff_plan.specs.Numbering.{Firsts, firsts_at, all_sources, demux_wire_in, pad_wire_in, pad_wires_in, shortest_wire_in, enc_wire_in, joint_wire_in, mux_wire_in, frame_wires_in, wires_in, streams_in, inputs_in, rows_plan, plan_in, HasFewIns}
+use Rattle.ff_plan.specs.Numbering.{Firsts, firsts_at, all_sources, demux_wire_in, pad_wire_in, pad_wires_in, shortest_wire_in, enc_wire_in, joint_wire_in, mux_wire_in, frame_wires_in, wires_in, streams_in, inputs_in, routes_in, drawing_of, with_drawing, plan_in, HasFewIns}
 use Rattle.ff_plan.specs.Plain.{rows}
 use Rattle.ff_plan.specs.Wires.{edges_of}
 use Rattle.ff_plan.proofs.Layouts.{joined_length, map_length, range_length, row_length}
@@ -110,8 +112,12 @@ module _ (heads : List (List StreamHead)) (graphs : List Laid) (outputs : List (
       ap (λ (l : List Laid). plan_in heads joint l ps n texts) g
       ∙ (ap (λ (l : List Placed). plan_in heads joint graphs l n texts) p ∙ (ap (λ (k : ℕ). plan_in heads joint graphs (place_from 0 0 outputs) k texts) e ∙ plan_is joint))
 
-pub rows_by : (heads : List (List StreamHead)) (graphs : List Laid) (joint : Bool) (ps : List Placed) (n : ℕ) (texts : List GraphText) (sources : ℕ) (is : List ℕ) (ss : List Stream)
-    → sources ≡ length heads → is ≡ inputs_in heads graphs ps → ss ≡ streams_in heads graphs ps → rows_plan sources is ss graphs joint ps n texts ≡ plan_in heads joint graphs ps n texts
-rows_by heads graphs joint ps n texts sources is ss a b c =
-    ap (λ (k : ℕ). rows_plan k is ss graphs joint ps n texts) a
-    ∙ (ap (λ (l : List ℕ). rows_plan (length heads) l ss graphs joint ps n texts) b ∙ ap (λ (l : List Stream). rows_plan (length heads) (inputs_in heads graphs ps) l graphs joint ps n texts) c)
+-- by what was drawn
+pub drawn_by : (heads : List (List StreamHead)) (graphs : List Laid) (joint : Bool) (ps : List Placed) (n sources : ℕ) (texts whole : List GraphText) (is : List ℕ) (ss : List Stream) (d : Drawing) (r : Routes)
+    → d ≡ drawing_of is ss graphs joint ps n → is ≡ inputs_in heads graphs ps → ss ≡ streams_in heads graphs ps → r ≡ routes_in sources graphs ps → sources ≡ length heads → whole ≡ texts
+    → with_drawing d r whole ≡ plan_in heads joint graphs ps n texts
+drawn_by heads graphs joint ps n sources texts whole is ss d r drawn i s ways count same =
+    let drawing = drawing_of (inputs_in heads graphs ps) (streams_in heads graphs ps) graphs joint ps n in
+    ap (λ (x : Drawing). with_drawing x r whole) (drawn ∙ (ap (λ (l : List ℕ). drawing_of l ss graphs joint ps n) i ∙ ap (λ (l : List Stream). drawing_of (inputs_in heads graphs ps) l graphs joint ps n) s))
+    ∙ (ap (λ (x : Routes). with_drawing drawing x whole) (ways ∙ ap (λ (k : ℕ). routes_in k graphs ps) count)
+    ∙ ap (λ (t : List GraphText). with_drawing drawing (routes_in (length heads) graphs ps) t) same)

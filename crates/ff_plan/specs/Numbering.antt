@@ -14,7 +14,8 @@ use Rattle.ff_plan.specs.declared.layout.Want.{Want}
 use Rattle.ff_plan.specs.declared.number.Wire.{Wire}
 use Rattle.ff_plan.specs.declared.planned.PlanNode.{PlanNode}
 use Rattle.ff_plan.specs.declared.planned.PlanNode.TheVariants as node
-pub use Rattle.ff_plan.specs.declared.wires.Firsts.{Firsts}
+pub use Rattle.ff_plan.specs.declared.firsts.Firsts.{Firsts}
+use Rattle.ff_plan.specs.declared.numbering.Drawing.{Drawing}
 use Rattle.ff_plan.specs.declared.planned.GraphText.{GraphText}
 use Rattle.ff_plan.specs.declared.planned.Plan.{Plan}
 use Rattle.ff_sched.specs.declared.routes.Routes.{Routes}
@@ -132,15 +133,17 @@ routes_in sources graphs placed = record {
   graphs = map (λ g. ways_in (find (λ x. x.graph == g) graphs)) (range_with_len 0 (length graphs));
 }
 
--- the plan of these rows
-abbrev pub rows_plan : ℕ → List ℕ → List Stream → List Laid → Bool → List Placed → ℕ → List GraphText → Plan
-rows_plan sources inputs streams graphs joint placed outputs texts = record {
+-- the nodes of these rows and the edges between them
+abbrev pub drawing_of : List ℕ → List Stream → List Laid → Bool → List Placed → ℕ → Drawing
+drawing_of inputs streams graphs joint placed outputs = record {
   nodes = nodes_in inputs streams graphs (joined_outputs outputs joint) placed outputs;
   edges = edges_of (outputs_wires inputs streams graphs joint placed outputs);
-  routes = routes_in sources graphs placed;
-  texts = texts;
 }
 
+abbrev pub with_drawing : Drawing → Routes → List GraphText → Plan
+with_drawing drawing routes texts = record { nodes = drawing.nodes; edges = drawing.edges; routes = routes; texts = texts }
+
+-- the plan of so many outputs
 abbrev pub plan_in : List (List StreamHead) → Bool → List Laid → List Placed → ℕ → List GraphText → Plan
 plan_in heads joint graphs placed outputs texts =
-    rows_plan (length heads) (inputs_in heads graphs placed) (streams_in heads graphs placed) graphs joint placed outputs texts
+    with_drawing (drawing_of (inputs_in heads graphs placed) (streams_in heads graphs placed) graphs joint placed outputs) (routes_in (length heads) graphs placed) texts

@@ -19,6 +19,7 @@
 mod choosing;
 mod examples;
 mod filtering;
+mod firsts;
 mod graph_laws;
 mod labelled;
 mod laws;

@@ -4,24 +4,32 @@ ghost use Rattle.std.specs.List.{AllByRecursion};
 ghost use Rattle.ff_map.specs.Choice.{lists};
 ghost use Rattle.ff_plan.specs.Layout.{placed as placed_in};
 ghost use Rattle.ff_plan.specs.Nodes.{plan_of};
-ghost use Rattle.ff_plan.specs.Numbering.{firsts_at, outputs_wires, plan_in, rows_plan, routes_in, HasFewIns};
+ghost use Rattle.ff_plan.specs.Numbering.{drawing_of, firsts_at, outputs_wires, plan_in, routes_in, HasFewIns};
 ghost use Rattle.ff_plan.specs.Plain.{IsSmall};
 ghost use Rattle.ff_plan.specs.Whole.{layout_in};
 ghost use Rattle.ff_plan.specs.Wires.{edges_of};
 
+use crate::firsts::Firsts;
 use crate::layout::{Laid, Laying, Placed};
 use crate::nodes::{all_nodes, count_shortests, place};
 use crate::number::number_ports;
 use crate::origins::{all_origins, used_inputs, used_streams};
-use crate::planned::{GraphText, Plan};
+use crate::planned::{GraphText, Plan, PlanNode};
 use crate::routes::{graph_ways, ways};
-use crate::wires::{Firsts, wire_up};
+use crate::wires::wire_up;
 use ff_edges::Edge;
 use ff_lang::Sequence;
 use ff_map::Stream;
 use ff_sched::{Graphs, Routes, Ways};
 use ff_values::StreamHead;
 use std::alloc::{AllocError, Global};
+
+/// The nodes of a plan and the edges between them.
+#[derive(Drop)]
+pub(crate) struct Drawing {
+    nodes: Sequence<PlanNode>,
+    edges: Sequence<Edge>,
+}
 
 // The first numbers behind so many nodes of each kind.
 fn first_numbers(
@@ -100,18 +108,16 @@ fn all_routes(
     })
 }
 
-// The plan of these rows.
-fn plan_rows(
+// The nodes of these rows, and the edges between them.
+fn draw(
     alloc: Global,
-    sources: u32,
     inputs: &[u32],
     streams: &[Stream],
     graphs: &[Laid],
     joint: bool,
     placed: &[Placed],
     outputs: u32,
-    texts: Vec<GraphText>,
-) -> Result<Plan, AllocError>
+) -> Result<Drawing, AllocError>
     requires inputs { length inputs.now ≤ 16 }
     requires streams { length streams.now ≤ 256 }
     requires graphs { length graphs.now ≤ 16 }
@@ -119,17 +125,14 @@ fn plan_rows(
     requires placed { length placed.now ≤ 16 }
     requires small { AllByRecursion IsSmall placed.now }
     requires outputs { outputs ≤ 16 }
-    ensures { IfOk result (λ p. p ≡ rows_plan sources inputs.now streams.now graphs.now joint placed.now outputs texts.items) }
+    ensures { IfOk result (λ d. d ≡ drawing_of inputs.now streams.now graphs.now joint placed.now outputs) }
 {
     let shortests = count_shortests(outputs, joint);
     let nodes = all_nodes(alloc, inputs, streams, graphs, shortests, placed, outputs)?;
     let edges = all_edges(alloc, inputs, streams, graphs, joint, placed, outputs)?;
-    let routes = all_routes(alloc, sources, graphs, placed)?;
-    Ok(Plan {
+    Ok(Drawing {
         nodes: Sequence::of(nodes),
         edges: Sequence::of(edges),
-        routes,
-        texts: Sequence::of(texts),
     })
 }
 
@@ -155,17 +158,22 @@ fn plan_placed(
     let origins = all_origins(alloc, graphs, placed)?;
     let streams = used_streams(alloc, heads, origins.as_slice())?;
     let inputs = used_inputs(alloc, heads.len(), streams.as_slice())?;
-    plan_rows(
+    let drawing = draw(
         alloc,
-        heads.len() as u32,
         inputs.as_slice(),
         streams.as_slice(),
         graphs,
         joint,
         placed,
         outputs,
-        texts,
-    )
+    )?;
+    let routes = all_routes(alloc, heads.len() as u32, graphs, placed)?;
+    Ok(Plan {
+        nodes: drawing.nodes,
+        edges: drawing.edges,
+        routes,
+        texts: Sequence::of(texts),
+    })
 }
 
 /// The plan of a layout, for inputs with these heads, where each output has a Shortest node or none has.

@@ -1,102 +1,15 @@
-// The numbers of nodes, and the wires between them.
-ghost use Rattle.std.specs.Prelude.{◌≡◌, ◌^◌, ◌<◌, ◌≤◌, ◌==◌, ◌++◌, ◌∷◌, [], IfOk, OnOk, length, map};
-ghost use Rattle.std.specs.List.{AllByRecursion, flat_map, position_or_len};
-ghost use Rattle.ff_map.specs.declared.streams.Stream.{Stream};
-ghost use Rattle.ff_plan.specs.declared.layout.Laid.{Laid};
-ghost use Rattle.ff_plan.specs.Layout.{same_ref as are_same};
-ghost use Rattle.ff_plan.specs.Nodes.{origin_port as port_of_origin};
-ghost use Rattle.ff_plan.specs.Plain.{demux_number as number_of_demux, IsSmall};
-ghost use Rattle.ff_plan.specs.Numbering.{wire_of, dec_in, graph_in, origin_in, demux_wire_in, pad_wire_in, pad_wires_in, shortest_wire_in, enc_wire_in, joint_wire_in, frame_wires_in, mux_wire_in, wires_in, IsLow};
+// The wires between the nodes.
+ghost use Rattle.std.specs.Prelude.{◌≡◌, ◌^◌, ◌<◌, ◌≤◌, ◌++◌, ◌∷◌, [], IfOk, OnOk, length, map};
+ghost use Rattle.std.specs.List.{AllByRecursion, flat_map};
+ghost use Rattle.ff_plan.specs.Numbering.{wire_of, demux_wire_in, pad_wire_in, pad_wires_in, shortest_wire_in, enc_wire_in, joint_wire_in, frame_wires_in, mux_wire_in, wires_in, IsLow};
+ghost use Rattle.ff_plan.specs.Plain.{IsSmall};
 
-use crate::layout::{InPad, Laid, Origin, Placed};
+use crate::firsts::{Firsts, dec_number, demux_number, graph_number, origin_number, port_of};
+use crate::layout::{InPad, Laid, Placed};
 use crate::number::Wire;
-use crate::origins::same_ref;
 use ff_frame::Lane;
-use ff_map::{Stream, StreamRef};
+use ff_map::Stream;
 use std::alloc::{AllocError, Global};
-
-/// The number of the first node of each kind behind the Demux nodes.
-#[derive(Clone, Copy)]
-pub(crate) struct Firsts {
-    pub(crate) decs: u32,
-    pub(crate) graphs: u32,
-    pub(crate) shortests: u32,
-    pub(crate) encs: u32,
-    pub(crate) muxes: u32,
-}
-
-fn demux_number(inputs: &[u32], input: u32) -> u32
-    requires { length inputs.now < 2 ^ 32 }
-    ensures { result ≡ number_of_demux inputs.now input }
-{
-    for (number, other) in inputs.iter().enumerate() {
-        if *other == input {
-            return number as u32;
-        }
-    }
-    inputs.len() as u32
-}
-
-fn place_of(streams: &[Stream], at: StreamRef) -> u32
-    requires { length streams.now < 2 ^ 32 }
-    ensures number { result ≡ position_or_len (λ (k : Stream). are_same k.at at) streams.now }
-    ensures small { result ≤ length streams.now }
-{
-    for (number, other) in streams.iter().enumerate() {
-        if same_ref(other.at, at) {
-            return number as u32;
-        }
-    }
-    streams.len() as u32
-}
-
-fn graph_place(graphs: &[Laid], graph: u32) -> u32
-    requires { length graphs.now < 2 ^ 32 }
-    ensures number { result ≡ position_or_len (λ (x : Laid). x.graph == graph) graphs.now }
-    ensures small { result ≤ length graphs.now }
-{
-    for (number, other) in graphs.iter().enumerate() {
-        if other.graph == graph {
-            return number as u32;
-        }
-    }
-    graphs.len() as u32
-}
-
-fn dec_number(firsts: Firsts, streams: &[Stream], at: StreamRef) -> u32
-    requires low { firsts.decs ≤ 65536 }
-    requires streams { length streams.now ≤ 65536 }
-    ensures { result ≡ dec_in firsts streams.now at }
-{
-    firsts.decs + place_of(streams, at)
-}
-
-fn graph_number(firsts: Firsts, graphs: &[Laid], graph: u32) -> u32
-    requires low { firsts.graphs ≤ 65536 }
-    requires graphs { length graphs.now ≤ 65536 }
-    ensures { result ≡ graph_in firsts graphs.now graph }
-{
-    firsts.graphs + graph_place(graphs, graph)
-}
-
-fn origin_number(firsts: Firsts, streams: &[Stream], graphs: &[Laid], source: Origin) -> u32
-    requires { IsLow firsts streams.now graphs.now }
-    ensures { result ≡ origin_in firsts streams.now graphs.now source }
-{
-    match source {
-        Origin::Stream(at) => dec_number(firsts, streams, at),
-        Origin::Pad { graph, pad: _ } => graph_number(firsts, graphs, graph),
-    }
-}
-
-fn port_of(source: Origin) -> Option<u32>
-    ensures { result ≡ port_of_origin source }
-{
-    match source {
-        Origin::Stream(_) => None,
-        Origin::Pad { graph: _, pad } => Some(pad),
-    }
-}
 
 fn add_wire(
     wires: &mut Vec<Wire>,

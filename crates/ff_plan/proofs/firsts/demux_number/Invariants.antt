@@ -1,6 +1,6 @@
 use Rattle.std.proofs.Common.{◌≡◌, ◌+◌, drop}
 use Rattle.ff_plan.specs.Plain.{demux_number}
-use Rattle.ff_plan.proofs.wires.demux_number.Given as goal
+use Rattle.ff_plan.proofs.firsts.demux_number.Given as goal
 
 abbrev pub invariant-loop-number : goal.invariant-loop-number
 invariant-loop-number l = l.number + demux_number (drop l.number l.inputs) l.input ≡ demux_number l.inputs l.input
