@@ -19,6 +19,8 @@ mod NodeKinds
 pub mod NodeRows
 mod Known
 pub mod Laid
+mod Laid
+mod LaidOut
 mod Lanes
 pub mod Layouts
 mod Limits
@@ -33,6 +35,16 @@ mod Plain
 mod Plans
 pub mod Ported
 pub mod Results
+mod Numbered
+mod Once
+mod Outs
+mod Picked
+mod Places
+mod Plain
+mod Plans
+mod Ported
+mod Results
+mod Rowed
 mod Rows
 mod Singles
 pub mod Small

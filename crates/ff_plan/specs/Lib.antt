@@ -14,6 +14,8 @@ pub mod Numbering
 pub mod Numbers
 pub mod Order
 pub mod Pads
+pub mod Passing
+pub mod Picking
 pub mod Plain
 pub mod Planned
 pub mod Rules

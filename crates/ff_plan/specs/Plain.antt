@@ -1,5 +1,5 @@
 -- Jobs without graphs: what their plans are made of.
-use Rattle.std.specs.Prelude.{◌≡◌, ◌⊎◌, ℕ, ◌+◌, ◌<◌, ◌≤◌, ◌==◌, Bool, false, List, [], ◌++◌, length, map, None, Err}
+use Rattle.std.specs.Prelude.{◌≡◌, ◌⊎◌, ℕ, ◌+◌, ◌<◌, ◌≤◌, ◌==◌, Bool, false, List, [], ◌++◌, length, map, Option, Some, None, Err}
 use Rattle.std.specs.List.{AllByRecursion, filter, list_any, position_or_len, range_with_len}
 use Rattle.std.specs.declared.alloc.Global.{Global}
 use Rattle.std.specs.declared.vec.Vec.{Vec}
@@ -8,6 +8,8 @@ use Rattle.ff_values.specs.declared.head.StreamHead.{StreamHead}
 use Rattle.ff_map.specs.declared.streams.Stream.{Stream}
 use Rattle.ff_map.specs.Choice.{all_streams}
 use Rattle.ff_map.specs.declared.streams.StreamRef.{StreamRef}
+use Rattle.ff_lang.specs.declared.graph.Graph.{Graph}
+use Rattle.ff_labels.specs.Labels.{filters_of}
 use Rattle.ff_words.specs.declared.job.Job.{Job}
 use Rattle.ff_words.specs.declared.job.OutputJob.{OutputJob}
 use Rattle.ff_plan.specs.declared.layout.Origin.{Origin}
@@ -50,12 +52,27 @@ IsBare out = (out.vf ≡ None) × (out.af ≡ None)
 abbrev pub IsRefused : {X : Type 0} → Planned X → PlanError → Type 0
 IsRefused wanted e = (e ≡ fault.NoMemory) ⊎ (wanted ≡ Err e)
 
--- the limits of jobs and heads: inputs, their streams, outputs, the maps of each
+-- a graph of at most 65,536 filters
+abbrev pub IsShort : Graph → Type 0
+IsShort g = length (filters_of g) ≤ 65536
+
+abbrev pub IsShortIfSome : Option Graph → Type 0
+IsShortIfSome None = Unit {0}
+IsShortIfSome (Some g) = IsShort g
+
+-- an output whose simple graphs are short
+abbrev pub HasShortGraphs : OutputJob → Type 0
+HasShortGraphs out = IsShortIfSome out.vf × IsShortIfSome out.af
+
+-- the limits of jobs and heads: inputs, their streams, outputs, the maps of each, graphs, the filters of each
 pub record IsWithinLimits (job : Job) (heads : List (List StreamHead)) : Type 0 where
   pub inputs : length heads ≤ 16
   pub streams : AllByRecursion (λ hs. length hs ≤ 16) heads
   pub outputs : length job.outputs ≤ 16
   pub maps : AllByRecursion (λ out. length out.maps ≤ 16) job.outputs
+  pub graphs : length job.graphs ≤ 16
+  pub short : AllByRecursion IsShort job.graphs
+  pub simple : AllByRecursion HasShortGraphs job.outputs
 
 -- ---- the numbers of nodes, by the used inputs, the used streams and the streams of outputs
 

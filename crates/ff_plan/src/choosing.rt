@@ -1,6 +1,6 @@
 // The streams of an output before its codecs.
 ghost use Rattle.std.specs.Prelude.{◌≡◌, ◌⊎◌, ◌^◌, ◌<◌, ◌++◌, ◌∷◌, [], OnOk, IfOk, IfErr, Ok, Err, vec_len, length, map};
-ghost use Rattle.std.specs.List.{AllByRecursion, filter};
+ghost use Rattle.std.specs.List.{AllByRecursion, cons_option, filter};
 ghost use Rattle.ff_map.specs.Choice.{lists};
 ghost use Rattle.ff_plan.specs.Choice.{head_at, known};
 ghost use Rattle.ff_plan.specs.Plain.{plain, IsRefused};
@@ -35,8 +35,18 @@ fn pad_of(at: StreamRef, head: StreamHead) -> InPad
     }
 }
 
-// The streams at these places.
-fn shown(
+/// The pad, if there is one.
+pub(crate) fn at_most_one(alloc: Global, pad: Option<InPad>) -> Result<Vec<InPad>, AllocError>
+    ensures { IfOk result (λ pads. pads.items ≡ cons_option pad []) }
+{
+    match pad {
+        Some(pad) => Vec::from_slice(alloc, &[pad]),
+        None => Ok(Vec::new(alloc)),
+    }
+}
+
+/// The streams at these places.
+pub(crate) fn shown(
     alloc: Global,
     heads: &[Vec<StreamHead>],
     refs: &[StreamRef],
@@ -62,8 +72,8 @@ fn add_kept(pads: &mut Vec<InPad>, out: &OutputJob, stream: &Stream) -> Result<(
     Ok(())
 }
 
-// Those of them whose kind the output doesn't drop.
-fn kept(
+/// Those of them whose kind the output doesn't drop.
+pub(crate) fn kept(
     alloc: Global,
     heads: &[Vec<StreamHead>],
     out: &OutputJob,
@@ -81,7 +91,8 @@ fn kept(
     Ok(pads)
 }
 
-fn unknown(alloc: Global, label: &Text) -> PlanError
+/// The refusal of a label that no graph gives.
+pub(crate) fn unknown(alloc: Global, label: &Text) -> PlanError
     ensures { (result ≡ PlanError.NoMemory) ⊎ (result ≡ PlanError.UnknownLabel label.now) }
 {
     match String::from_str(alloc, label.as_str()) {

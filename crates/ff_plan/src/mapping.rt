@@ -5,6 +5,7 @@ ghost use Rattle.ff_labels.specs.Labels.{is_one_of};
 ghost use Rattle.ff_map.specs.declared.map.MapSpec.{MapSpec};
 ghost use Rattle.ff_plan.specs.Labels.{taken_labels};
 ghost use Rattle.ff_plan.specs.Mapping.{is_unused, unused_among};
+ghost use Rattle.ff_plan.specs.Picking.{used_by};
 ghost use Rattle.ff_plan.specs.Planned.{labels_of, unused_of};
 ghost use Rattle.ff_plan.specs.Streams.{label_in};
 ghost use Rattle.ff_plan.specs.Whole.{IsFault};
@@ -66,6 +67,19 @@ fn is_taken(graphs: &[Graph], outs: &[OutputJob], label: &str) -> bool
     ensures { result ≡ is_one_of label.now (taken_labels graphs.now ++ flat_map labels_of outs.now) }
 {
     graphs_take(graphs, label) || outs_use(outs, label)
+}
+
+/// Whether a graph, a map of an earlier output or an earlier map uses a label.
+#[tactic(auto, using(crate::proofs::UsedLabels::is_used_before))]
+pub(crate) fn is_used(
+    graphs: &[Graph],
+    earlier: &[OutputJob],
+    maps: &[MapSpec],
+    label: &str,
+) -> bool
+    ensures { result ≡ is_one_of label.now (used_by graphs.now earlier.now maps.now) }
+{
+    graphs_take(graphs, label) || outs_use(earlier, label) || maps_use(maps, label)
 }
 
 fn unused(alloc: Global, label: &Text) -> PlanError

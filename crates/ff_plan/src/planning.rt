@@ -10,10 +10,12 @@ ghost use Rattle.ff_sched.specs.Routes.{AreRoutes};
 ghost use Rattle.ff_plan.specs.Today.{planned_today, unbuilt, unbuilt_in};
 
 use crate::layout::Laying;
+use crate::lengths::have_short_graphs;
 use crate::nodes::place;
 use crate::numbering::numbered_plan;
 use crate::outputs::all_outputs;
 use crate::planned::{Plan, PlanError, Unbuilt};
+use ff_labels::are_short;
 use ff_values::StreamHead;
 use ff_words::{Job, OutputJob};
 use std::alloc::{AllocError, Global};
@@ -79,14 +81,15 @@ fn have_few_maps(outs: &[OutputJob]) -> bool
 }
 
 /// Whether a job and the heads of its inputs are within the limits that `plan` asks for: at most 16 inputs of at most 16
-/// streams, and at most 16 outputs of at most 16 maps.
+/// streams, at most 16 outputs of at most 16 maps, and at most 16 graphs, each of at most 65,536 filters, as are those of outputs.
 pub fn is_within_limits(job: &Job, heads: &[Vec<StreamHead>]) -> bool
     ensures yes { result ≡ true → IsWithinLimits job.now (lists heads.now) }
     ensures no { result ≡ false → IsWithinLimits job.now (lists heads.now) → ⊥ }
 {
     let outs = job.outputs.as_slice();
-    let few = heads.len() <= MOST && outs.len() <= MOST;
-    few && are_narrow(heads) && have_few_maps(outs)
+    let graphs = job.graphs.as_slice();
+    let few = heads.len() <= MOST && outs.len() <= MOST && graphs.len() <= MOST;
+    few && are_narrow(heads) && have_few_maps(outs) && are_short(graphs) && have_short_graphs(outs)
 }
 
 /// The plan of a job with these heads of each of its inputs, or the refusal that comes first: of what isn't built, then of

@@ -1,12 +1,17 @@
 // What a format takes, and what becomes of a head.
-ghost use Rattle.std.specs.Prelude.{◌≡◌, []};
+ghost use Rattle.std.specs.Prelude.{◌≡◌, ◌<◌, [], true};
+ghost use Rattle.std.specs.List.{list_any};
+ghost use Rattle.ff_map.specs.Choice.{has_kind};
+ghost use Rattle.ff_plan.specs.declared.layout.InPad.{InPad};
 ghost use Rattle.ff_plan.specs.Choice.{kind_of as kind_in};
 ghost use Rattle.ff_plan.specs.Streams.{takes_kind as kind_taken, audio_codec as codec_of_sound, codec_or, packed_bits as bits_packed, packed_as as head_packed};
 ghost use Rattle.ff_plan.specs.Streams.{is_pcm as of_pcm, takes_sound as sound_taken, takes_head as head_taken};
 ghost use Rattle.ff_plan.specs.Streams.{drops as is_dropped, simple_of, is_graph, is_pad as shows_pad, takes as is_taken, is_wanted, most_streams as streams_most};
 ghost use Rattle.ff_plan.specs.Today.{no_filters};
 
+use crate::filtering::Filtering;
 use crate::layout::{InPad, Origin};
+use crate::wanting::is_kind;
 use ff_map::Kind;
 use ff_values::{Codec, StreamHead};
 use ff_words::{FileFormat, OutputJob};
@@ -47,6 +52,25 @@ pub(crate) fn wanted(out: &OutputJob, kind: Kind) -> bool
     ensures { result ≡ is_wanted out.now [] kind }
 {
     takes_kind(out.format, kind) && !drops(out, kind)
+}
+
+// Whether one of these pads shows a stream of this kind.
+fn has_kind_among(pads: &[InPad], kind: Kind) -> bool
+    ensures { result ≡ list_any (λ (i : InPad). has_kind kind i.head) pads.now }
+{
+    for pad in pads {
+        if is_kind(kind, pad.head) {
+            return true;
+        }
+    }
+    false
+}
+
+/// Whether the automatic choice looks for this kind, beside these pads.
+pub(crate) fn looks_for(out: &OutputJob, before: &[InPad], kind: Kind) -> bool
+    ensures { result ≡ is_wanted out.now before.now kind }
+{
+    takes_kind(out.format, kind) && !drops(out, kind) && !has_kind_among(before, kind)
 }
 
 fn codec_given(default: Codec, given: Option<Codec>) -> Codec
@@ -192,4 +216,13 @@ pub(crate) fn takes(out: &OutputJob, n: usize, pad: InPad) -> bool
 {
     let filtered_twice = is_pad(pad.source) && has_graph(out, kind_of(pad.head));
     takes_head(out, pad.head) && n < most_streams(out.format) && !filtered_twice
+}
+
+/// Whether an output takes this as its n-th stream, by rules of graphs.
+pub(crate) fn accepts<F: Filtering>(filtering: &F, out: &OutputJob, n: usize, pad: InPad) -> bool
+    ensures taken { result ≡ is_taken (F.rules filtering.now) out.now n pad }
+    ensures few { result ≡ true → n < 16 }
+{
+    let filtered_twice = is_pad(pad.source) && has_graph(out, kind_of(pad.head));
+    takes_head(out, pad.head) && n < filtering.most(out.format) && !filtered_twice
 }

@@ -57,7 +57,8 @@ fn in_rows(rows: &[Sequence<Want>], stream: &Stream) -> bool
     false
 }
 
-fn is_kind(kind: Kind, head: StreamHead) -> bool
+/// Whether a stream has this kind.
+pub(crate) fn is_kind(kind: Kind, head: StreamHead) -> bool
     ensures { result ≡ has_kind kind head }
 {
     match (kind, head) {
