@@ -1,6 +1,8 @@
 -- The steps in which a job is laid out, and what refuses it.
 use Rattle.std.proofs.Common.{◌≡◌, inl, inr, ℕ, ◌+◌, nat_lt, Bool, true, false, List, ◌++◌, map, length, Option, Some, None, refl, sym, ap, ◌∙◌, subst}
-use Rattle.std.specs.Prelude.{Ok, Err}
+use Rattle.std.proofs.lemmas.Result.{err_from_is_err_and}
+use Rattle.std.specs.Prelude.{Result, Ok, Err, IfErr}
+use Rattle.std.specs.Result.{IsErrAnd}
 use Rattle.std.specs.List.{flat_map, range_with_len}
 use Rattle.ff_values.specs.declared.head.StreamHead.{StreamHead}
 use Rattle.ff_lang.specs.declared.graph.Graph.{Graph}
@@ -33,6 +35,12 @@ refused_unless {X} o r e (inr h) = inr (ap (λ (f : Option PlanError). unless f 
 unless_or : {X : Type 0} (a b : Option PlanError) (r : Planned X) → unless a (unless b r) ≡ unless (or_else a b) r
 unless_or None b r = refl
 unless_or (Some e) b r = refl
+
+-- a refusal that is handed on
+pub handed_on : {A X : Type 0} (r : Result A PlanError) (whole : Planned X) (e : PlanError) → IsErrAnd r (λ y. y ≡ e) → IsRefused whole e → IfErr r (IsRefused whole)
+handed_on {A} r whole e is h =
+    let p = err_from_is_err_and r is in
+    subst (λ (q : Result A PlanError). IfErr q (IsRefused whole)) (sym p.1) (subst (λ (y : PlanError). IsRefused whole y) (sym p.2) h)
 
 module _ (rules : Rules) (job : Job) (heads : List (List StreamHead)) (gs : List Graph) (os : List OutputJob) (eg : gs ≡ job.graphs) (eo : os ≡ job.outputs) where
   abbrev whole : Planned Layout

@@ -171,3 +171,14 @@ have_rows rules job heads p come all_in limits h =
     let small = subst (λ (l : Layout). length (placed l) ≤ 16) (sym w.is) (few rules job heads at.0 at.1) in
     subst (λ (q : Plan). HasRows (length heads) (length job.outputs) q.nodes) (ap (λ (l : Layout). plan_of l) w.is ∙ same_ok (plan_of at.0) p at.2)
     (subst (λ (k : ℕ). HasRows (length heads) k (nodes_of (layout_of rules job heads w.made w.rows))) (outputs_count rules job heads at.0 w come all_in) (whole_rows rules job heads at.0 w come all_in limits small))
+
+pub few_laid : (rules : Rules) (job : Job) (heads : List (List StreamHead)) (l : Layout) → ComeInOrder (feeds job.graphs) (length job.graphs) [] (graph_order job.graphs)
+    → (HasNoLoop (feeds job.graphs) (length job.graphs) → (g : ℕ) → g < length job.graphs → is_in (graph_order job.graphs) g ≡ true)
+    → laid_out rules job heads ≡ Ok l → length l.graphs ≤ 16
+few_laid rules job heads l come all_in h =
+    let w = walked rules job heads l come h in
+    let numbers_are = graph_numbers rules job heads l w come all_in in
+    let d = map_length (λ (x : Laid). x.graph) (layout_of rules job heads w.made w.rows).graphs in
+    let e = once_length (length job.graphs + length (simples rules job heads l w come all_in)) numbers_are (all_once rules job heads l w come all_in) (none_above rules job heads l w come all_in) in
+    let wide = w.few_graphs in
+    subst (λ (q : Layout). length q.graphs ≤ 16) w.is (omega (arith, d, e, wide))

@@ -30,9 +30,9 @@ module _ {X : Type 0} (f : X → List (List ℕ)) where
       ∙ (ap (λ (b : Bool). is_one_of l (flat_map f xs) || b) (list_any-append (bytes_eq l) (f x) used)
       ∙ (swap_or (is_one_of l (flat_map f xs)) (is_one_of l (f x)) (is_one_of l used)
       ∙ (or_joins (is_one_of l (f x)) (is_one_of l (flat_map f xs)) (is_one_of l used) ∙ ap (λ (b : Bool). b || is_one_of l used) (sym (list_any-append (bytes_eq l) (f x) (flat_map f xs)))))) where
-    or_joins : (a b c : Bool) → (a || (b || c)) ≡ ((a || b) || c)
-    or_joins true b c = refl
-    or_joins false b c = refl
+        or_joins : (a b c : Bool) → (a || (b || c)) ≡ ((a || b) || c)
+        or_joins true b c = refl
+        or_joins false b c = refl
 
   pub before_more : (used : List (List ℕ)) (xs : List X) (x : X) → labels_before f used (xs ++ x ∷ []) ≡ f x ++ labels_before f used xs
   before_more used [] x = refl

@@ -22,6 +22,7 @@ use crate::passing::simple_graph;
 use crate::planned::{GraphText, PlanError};
 use crate::ready::Ready;
 use crate::takes::kind_of;
+use ff_labels::{orders_are_whole, orders_go_upward};
 use ff_lang::{Graph, Sequence};
 use ff_map::Kind;
 use ff_values::StreamHead;
@@ -68,12 +69,19 @@ fn add_texts(
     Ok(())
 }
 
+fn add_text(texts: &mut Vec<GraphText>, one: GraphText) -> Result<(), AllocError>
+    ensures { OnOk result (texts.new.items ≡ texts.old.items ++ one ∷ []) }
+{
+    texts.push(one)?;
+    Ok(())
+}
+
 fn complex_texts(alloc: Global, graphs: u32) -> Result<Vec<GraphText>, AllocError>
     ensures { IfOk result (λ texts. texts.items ≡ map text.Complex (range_with_len 0 graphs)) }
 {
     let mut texts = Vec::new(alloc);
     for graph in 0..graphs {
-        texts.push(GraphText::Complex { graph })?;
+        add_text(&mut texts, GraphText::Complex { graph })?;
     }
     Ok(texts)
 }
@@ -215,6 +223,8 @@ pub(crate) fn lay_out<F: Filtering>(
     ensures graphs { IfOk result (λ l. length l.graphs.items ≤ 16) }
     ensures outputs { IfOk result (λ l. length l.outputs.items ≡ length job.now.outputs) }
 {
+    orders_go_upward();
+    orders_are_whole();
     let graphs = job.graphs.as_slice();
     let outs = job.outputs.as_slice();
     check_graphs(alloc, filtering, heads, graphs)?;

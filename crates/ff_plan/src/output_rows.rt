@@ -56,7 +56,14 @@ pub(crate) fn output_rows<F: Filtering>(
     let mut number = ready.graphs.len() as u32;
     for (output, out) in outs.iter().enumerate() {
         let chosen = chosen(alloc, ready, &outs[..output], out, front(pads, output))?;
-        let row = all_passed(alloc, filtering, out, output as u32, number, chosen.as_slice())?;
+        let row = all_passed(
+            alloc,
+            filtering,
+            out,
+            output as u32,
+            number,
+            chosen.as_slice(),
+        )?;
         number += graphs_in(row.as_slice());
         add_row(&mut rows, row)?;
     }
