@@ -1,5 +1,5 @@
 -- Words for the code that plans whole jobs, with graphs.
-use Rattle.std.specs.Prelude.{◌≡◌, ◌⊎◌, ◌≤◌, Bool, List, length, Option, Some}
+use Rattle.std.specs.Prelude.{◌≡◌, ◌⊎◌, ◌^◌, ◌≤◌, Bool, List, length, Option, Some}
 use Rattle.std.specs.List.{flat_map}
 use Rattle.ff_values.specs.declared.head.StreamHead.{StreamHead}
 use Rattle.ff_plan.specs.declared.layout.Laying.{Laying}
@@ -19,7 +19,7 @@ flat rows = flat_map (λ row. row) rows
 
 -- a graph whose open output pads have small numbers
 abbrev pub HasFewPads : Made → Type 0
-HasFewPads m = length m.outs ≤ 65536
+HasFewPads m = length m.outs ≤ 2 ^ 20
 
 -- as a layout, for inputs with these heads, where each output has a Shortest node or none has
 abbrev pub layout_in : List (List StreamHead) → Bool → Laying → Layout

@@ -7,7 +7,7 @@ use std::alloc::{AllocError, Global};
 
 /// What a plan asks of filters and maps: `Rules` of `specs/Rules`, as code.
 pub trait Filtering {
-    ghost use Rattle.std.specs.Prelude.{◌≡◌, ◌≤◌, IfOk, length};
+    ghost use Rattle.std.specs.Prelude.{◌≡◌, ◌^◌, ◌≤◌, IfOk, length};
     ghost use Rattle.ff_plan.specs.Rules.{Rules};
 
     /// The rules that it goes by.
@@ -24,7 +24,7 @@ pub trait Filtering {
     /// The open input pads of a graph, in the order of writing.
     fn open_inputs(&self, alloc: Global, graph: &Graph) -> Result<Sequence<OpenIn>, AllocError>
         ensures pads { IfOk result (λ pads. pads ≡ (rules self.now).open_ins graph.now) }
-        ensures few { IfOk result (λ pads. length pads ≤ 65536) };
+        ensures few { IfOk result (λ pads. length pads ≤ 2 ^ 20) };
 
     /// The open output pads of a graph whose open input pads have these heads, none where a pad found no stream; or the refusal
     /// that comes first.
@@ -35,7 +35,7 @@ pub trait Filtering {
         heads: &[Option<StreamHead>],
     ) -> Result<Result<Sequence<OpenOut>, Refused>, AllocError>
         ensures pads { IfOk result (λ outs. outs ≡ (rules self.now).configured graph.now heads.now) }
-        ensures few { IfOk result (λ outs. IfOk outs (λ pads. length pads ≤ 65536)) };
+        ensures few { IfOk result (λ outs. IfOk outs (λ pads. length pads ≤ 2 ^ 20)) };
 
     /// The map that a text is, if it is one.
     fn map_of(&self, alloc: Global, text: &str) -> Result<Option<MapSpec>, AllocError>

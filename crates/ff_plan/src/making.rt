@@ -244,7 +244,7 @@ pub(crate) fn make_all<F: Filtering>(
 }
 
 fn add_unlabelled(pads: &mut Vec<InPad>, graph: u32, outs: &[OpenOut]) -> Result<(), AllocError>
-    requires { length outs.now ≤ 65536 }
+    requires { length outs.now ≤ 2 ^ 20 }
     ensures { OnOk result (pads.new.items ≡ pads.old.items ++ unlabelled_from graph 0 outs.now) }
 {
     for (pad, out) in outs.iter().enumerate() {
