@@ -1,0 +1,85 @@
+-- What every filter keeps of heads.
+use Rattle.std.proofs.Common.{◌≡◌, ℕ, ◌≤◌, nat_le, true, List, ◌∷◌, arith}
+use Rattle.std.proofs.lemmas.Bool.Decides.{nat_tests}
+use Rattle.ff_time.specs.Fraction.{Fraction, IsBase}
+use Rattle.ff_values.specs.declared.head.StreamHead.{StreamHead}
+use Rattle.ff_values.specs.declared.head.StreamHead.TheVariants.{Audio, Video}
+use Rattle.ff_vfilter.specs.Sizes.{sized}
+use Rattle.ff_vfilter.specs.FpsOptions.{fps_head}
+use Rattle.ff_afilter.specs.Channels.{mono_head}
+use Rattle.ff_stacks.specs.declared.shape.Direction.{Direction}
+use Rattle.ff_stacks.specs.declared.shape.Direction.TheVariants.{Beside, Below}
+use Rattle.ff_stacks.specs.Heads.{with_length}
+use Rattle.ff_joins.specs.JoinOptions.{channels_in, with_channels}
+use Rattle.ff_words.specs.declared.job.OutputJob.{OutputJob}
+use Rattle.ff_plan.specs.Streams.{takes_head}
+use Rattle.ff_rules.specs.Kept.{IsFitHead}
+
+-- What every filter keeps: what is so of its inputs' heads is so of those of its outputs.
+pub record IsKept (P : StreamHead → Type 0) : Type 0 where
+  pub sized_too : (h : StreamHead) (w k : ℕ) → P h → P (sized h w k)
+  pub paced_too : (h : StreamHead) (b : Fraction) → IsBase b → P h → P (fps_head (h, b))
+  pub mono_too : (h : StreamHead) → P h → P (mono_head h)
+  pub long_too : (d : Direction) (n : ℕ) (h : StreamHead) → P h → P (with_length d n h)
+  pub joined_too : (h : StreamHead) (hs : List StreamHead) → nat_le (channels_in (h ∷ hs)) 8 ≡ true → P h → P (with_channels h (channels_in (h ∷ hs)))
+
+-- ---- fit heads
+
+sized_fit : (h : StreamHead) (w k : ℕ) → IsFitHead h → IsFitHead (sized h w k)
+sized_fit (Audio tb rate bits channels codec) w k fit = fit
+sized_fit (Video tb format width height sar_num sar_den) w k fit = record { base = fit.base; channels = tt }
+
+paced_fit : (h : StreamHead) (b : Fraction) → IsBase b → IsFitHead h → IsFitHead (fps_head (h, b))
+paced_fit (Audio tb rate bits channels codec) b base fit = record { base = base; channels = fit.channels }
+paced_fit (Video tb format width height sar_num sar_den) b base fit = record { base = base; channels = tt }
+
+mono_fit : (h : StreamHead) → IsFitHead h → IsFitHead (mono_head h)
+mono_fit (Audio tb rate bits channels codec) fit = record { base = fit.base; channels = (omega arith, omega arith) }
+mono_fit (Video tb format width height sar_num sar_den) fit = fit
+
+long_fit : (d : Direction) (n : ℕ) (h : StreamHead) → IsFitHead h → IsFitHead (with_length d n h)
+long_fit d n (Audio tb rate bits channels codec) fit = fit
+long_fit Beside n (Video tb format width height sar_num sar_den) fit = record { base = fit.base; channels = tt }
+long_fit Below n (Video tb format width height sar_num sar_den) fit = record { base = fit.base; channels = tt }
+
+joined_fit : (h : StreamHead) (hs : List StreamHead) → nat_le (channels_in (h ∷ hs)) 8 ≡ true → IsFitHead h → IsFitHead (with_channels h (channels_in (h ∷ hs)))
+joined_fit (Audio tb rate bits channels codec) hs few fit =
+    let some : 1 ≤ channels = fit.channels.0 in
+    record { base = fit.base; channels = (omega (arith, some), grind (arith, nat_tests)) }
+joined_fit (Video tb format width height sar_num sar_den) hs few fit = record { base = fit.base; channels = tt }
+
+pub fit_is_kept : IsKept IsFitHead
+fit_is_kept = record { sized_too = sized_fit; paced_too = paced_fit; mono_too = mono_fit; long_too = long_fit; joined_too = joined_fit }
+
+-- ---- whether an output takes them
+
+sized_taken : (out : OutputJob) (h : StreamHead) (w k : ℕ) → takes_head out h ≡ true → takes_head out (sized h w k) ≡ true
+sized_taken out (Audio tb rate bits channels codec) w k e = e
+sized_taken out (Video tb format width height sar_num sar_den) w k e = e
+
+paced_taken : (out : OutputJob) (h : StreamHead) (b : Fraction) → IsBase b → takes_head out h ≡ true → takes_head out (fps_head (h, b)) ≡ true
+paced_taken out (Audio tb rate bits channels codec) b base e = e
+paced_taken out (Video tb format width height sar_num sar_den) b base e = e
+
+mono_taken : (out : OutputJob) (h : StreamHead) → takes_head out h ≡ true → takes_head out (mono_head h) ≡ true
+mono_taken out (Audio tb rate bits channels codec) e = e
+mono_taken out (Video tb format width height sar_num sar_den) e = e
+
+long_taken : (out : OutputJob) (d : Direction) (n : ℕ) (h : StreamHead) → takes_head out h ≡ true → takes_head out (with_length d n h) ≡ true
+long_taken out d n (Audio tb rate bits channels codec) e = e
+long_taken out Beside n (Video tb format width height sar_num sar_den) e = e
+long_taken out Below n (Video tb format width height sar_num sar_den) e = e
+
+joined_taken : (out : OutputJob) (h : StreamHead) (hs : List StreamHead) → nat_le (channels_in (h ∷ hs)) 8 ≡ true → takes_head out h ≡ true
+    → takes_head out (with_channels h (channels_in (h ∷ hs))) ≡ true
+joined_taken out (Audio tb rate bits channels codec) hs few e = e
+joined_taken out (Video tb format width height sar_num sar_den) hs few e = e
+
+pub taken_is_kept : (out : OutputJob) → IsKept (λ h. takes_head out h ≡ true)
+taken_is_kept out = record {
+  sized_too = sized_taken out;
+  paced_too = paced_taken out;
+  mono_too = mono_taken out;
+  long_too = long_taken out;
+  joined_too = joined_taken out;
+}

@@ -1,0 +1,13 @@
+mod Few
+mod Given
+mod Had
+mod Holds
+mod Keeping
+mod KeptHeads
+mod Labelled
+mod Lists
+mod Making
+mod Maps
+mod OpenPads
+mod Outputs
+mod Settings

@@ -1,0 +1,5 @@
+use Rattle.ff_rules.proofs.Maps.{map_is}
+use Rattle.ff_rules.proofs.laws.maps_are_read.Goals as goal
+
+pub returns : goal.returns
+returns c = map_is

@@ -1,0 +1,61 @@
+-- The rules of filters and maps that the product's plans go by.
+use Rattle.std.specs.Prelude.{Bool, true, false, if◌then◌else◌, List, map, Option, Result, Ok, Err}
+use Rattle.ff_values.specs.declared.config.ConfigError.TheVariants.{Pads}
+use Rattle.ff_values.specs.declared.head.StreamHead.{StreamHead}
+use Rattle.ff_lang.specs.declared.graph.Graph.{Graph}
+use Rattle.ff_map.specs.declared.map.Kind.{Kind}
+use Rattle.ff_map.specs.declared.map.Kind.TheVariants.{Audio, Video}
+use Rattle.ff_graph.specs.Opens as of_graph
+use Rattle.ff_graph.specs.Configured as of_graph_made
+use Rattle.ff_plan.specs.Rules.{Rules}
+use Rattle.ff_plan.specs.declared.open_pads.OpenIn.{OpenIn}
+use Rattle.ff_plan.specs.declared.open_pads.OpenOut.{OpenOut}
+use Rattle.ff_plan.specs.declared.open_pads.Refused.{Refused}
+use Rattle.ff_plan.specs.Streams.{most_streams}
+use Rattle.ff_rules.specs.Maps.{map_of}
+
+-- sound, else pictures
+abbrev pub kind_by : Bool → Kind
+kind_by true = Audio
+kind_by false = Video
+
+abbrev pub input_as : of_graph.OpenIn → OpenIn
+input_as i = record { label = i.label; kind = kind_by i.sound }
+
+abbrev pub output_as : of_graph_made.OpenOut → OpenOut
+output_as o = record { label = o.label; head = o.head }
+
+abbrev pub refused_as : of_graph_made.Refused → Refused
+refused_as r = record { filter = r.filter; kind = r.kind }
+
+abbrev pub outputs_as : Result (List of_graph_made.OpenOut) of_graph_made.Refused → Result (List OpenOut) Refused
+outputs_as (Ok outs) = Ok (map output_as outs)
+outputs_as (Err r) = Err (refused_as r)
+
+-- the open input pads of a graph
+abbrev pub open_ins : Graph → List OpenIn
+open_ins g = map input_as (of_graph.open_ins g)
+
+-- Its open output pads where those have these heads, or the refusal that comes first. A graph with a loop is refused; a plan asks for that first.
+abbrev pub configured : Graph → List (Option StreamHead) → Result (List OpenOut) Refused
+configured g heads = if of_graph.loops g then Err (record { filter = 0; kind = Pads }) else outputs_as (of_graph_made.configured g heads)
+
+-- with `null` and `anull` or without them, with a Shortest node for each output or without
+abbrev pub rules_with : Bool → Bool → Rules
+rules_with nulls joint = record {
+  map_of = map_of;
+  known = of_graph.is_known;
+  loops = of_graph.loops;
+  open_ins = open_ins;
+  configured = configured;
+  nulls = nulls;
+  joint = joint;
+  most = most_streams;
+}
+
+abbrev pub graph_rules : Rules
+graph_rules = rules_with true true
+
+-- where no stream passes through a filter that nobody asked for
+abbrev pub bare_rules : Rules
+bare_rules = rules_with false false

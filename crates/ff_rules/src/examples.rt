@@ -1,0 +1,23 @@
+// Maps and a graph by example, by computation.
+ghost use Rattle.std.specs.Prelude.{◌≡◌, true, false, [], ◌∷◌, codes, Some, None, Ok, Err};
+ghost use Rattle.ff_values.specs.declared.config.ConfigError.TheVariants.{Pads};
+ghost use Rattle.ff_map.specs.declared.map.Kind.TheVariants as kind;
+ghost use Rattle.ff_map.specs.declared.map.Pick.TheVariants as pick;
+ghost use Rattle.ff_rules.specs.Examples.{of_input, of_label, pictures, alone};
+ghost use Rattle.ff_rules.specs.Rules.{graph_rules};
+
+/// Texts and the maps that they are.
+pub fn some_maps()
+    ensures second { graph_rules.map_of (codes "0:v:1?") ≡ Some (of_input 0 (pick.Nth kind.Video 1) true) }
+    ensures label { graph_rules.map_of (codes "[x]") ≡ Some (of_label (codes "x")) }
+    ensures other { graph_rules.map_of (codes "0:x") ≡ None }
+{}
+
+/// Pictures side by side, and pictures of which one has no stream.
+pub fn two_pictures()
+    ensures inputs { graph_rules.open_ins (alone (codes "hstack"))
+        ≡ record { label = None; kind = kind.Video } ∷ record { label = None; kind = kind.Video } ∷ [] }
+    ensures stacked { graph_rules.configured (alone (codes "hstack")) (Some (pictures 2) ∷ Some (pictures 4) ∷ [])
+        ≡ Ok (record { label = None; head = pictures 6 } ∷ []) }
+    ensures missing { graph_rules.configured (alone (codes "hstack")) (Some (pictures 2) ∷ None ∷ []) ≡ Err (record { filter = 0; kind = Pads }) }
+{}

@@ -1,0 +1,31 @@
+//! Laws of the rules: functions that do nothing, whose clauses hold of all values.
+ghost use Rattle.std.specs.Prelude.{◌≡◌, ◌↔◌, ℕ, ◌^◌, ◌≤◌, Bool, List, Some, length};
+ghost use Rattle.ff_lang.specs.declared.graph.Graph.{Graph as Text};
+ghost use Rattle.ff_labels.specs.Labels.{filters_of};
+ghost use Rattle.ff_map.specs.Grammar.{IsMap};
+ghost use Rattle.ff_map.specs.declared.map.MapSpec.{MapSpec};
+ghost use Rattle.ff_plan.specs.Graphs.{AreRules};
+ghost use Rattle.ff_rules.specs.Kept.{KeepHeads};
+ghost use Rattle.ff_rules.specs.Maps.{map_of};
+ghost use Rattle.ff_rules.specs.Rules.{rules_with, open_ins};
+
+/// The function that reads maps reads all of them, and nothing else.
+pub fn maps_are_read()
+    ensures { (text : List ℕ) (map : MapSpec) → (map_of text ≡ Some map) ↔ IsMap text map }
+{}
+
+/// The rules are such as the laws of plans need: where a graph can be had, each of its open input pads has a stream, and the
+/// labels that it takes and gives stand at its open pads.
+pub fn rules_are_rules()
+    ensures { (nulls joint : Bool) → AreRules (rules_with nulls joint) }
+{}
+
+/// A graph that can be had has few open input pads, and what streams need to be coded and written its filters keep.
+pub fn heads_are_kept()
+    ensures { (nulls joint : Bool) → KeepHeads (rules_with nulls joint) }
+{}
+
+/// A graph of as many filters as a word of a command can write has no more open input pads than the code can give.
+pub fn words_have_few_pads()
+    ensures { (g : Text) → length (filters_of g) ≤ 65536 → length (open_ins g) ≤ 2 ^ 20 }
+{}

@@ -1,0 +1,16 @@
+//! The rules of filters and maps that plans go by: those of the filters that there are.
+//!
+//! ```text
+//!   ff_map ─────────► map_of ────────────────────────────────┐
+//!   ff_graph ───────► known, loops, open_ins, configured ────┴─► rules_with nulls joint ─► ff_plan
+//! ```
+//!
+//! A plan is defined over rules that say which names are filters, what the open pads of a graph are, and which map a text is
+//! (`ff_plan/specs/Rules`). Here they are those of the product (`specs/Rules`), and the laws say what plans need of them
+//! (`specs/Kept`, and `AreRules` of ff_plan).
+#![tactic(auto)]
+
+mod examples;
+mod laws;
+
+pub use laws::{heads_are_kept, maps_are_read, rules_are_rules, words_have_few_pads};
