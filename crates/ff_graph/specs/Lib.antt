@@ -1,5 +1,6 @@
 pub mod Configured
 pub mod Drawings
+pub mod Examples
 pub mod Meaning
 pub mod Opens
 pub mod Pads

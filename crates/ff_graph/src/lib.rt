@@ -5,20 +5,27 @@
 //!   Graph ──► drawn ──► sources (ff_drawn): the output pad that feeds each input pad
 //!     │            └──► in_order: each behind those that feed it, else by number; None for a loop
 //!     ├────► open_inputs, has_loop: what a plan asks before any head is known
-//!     └────► make_all: with the heads of the open inputs, the filters in that order, or the first refusal
+//!     ├────► make_all: with the heads of the open inputs, the filters in that order, or the first refusal
+//!     └────► configure_graph: all of that, and the open output pads with their heads
 //! ```
 #![tactic(auto)]
 
+mod configuring;
 mod drawing;
 mod fitting;
 mod heads;
+mod laws;
 mod making;
 mod opening;
 mod ordering;
+mod outputs;
 mod refusal;
 
+pub use configuring::{Configured, configure_graph};
 pub use drawing::drawn;
+pub use laws::{graphs_by_example, refusals_are_of_filters};
 pub use making::make_all;
 pub use opening::{OpenInput, is_known, open_inputs};
 pub use ordering::{has_loop, in_order};
+pub use outputs::OpenOutput;
 pub use refusal::Refusal;
