@@ -74,6 +74,9 @@ all_there made (w ∷ ws) all = step (pad_in made w) all.0 (all_there made ws al
   step (Some i) some rest = ap (λ (hs : List (Option StreamHead)). Some i.head ∷ hs) rest
   step None some rest = absurd (never some)
 
+length_some : {A : Type 0} (hs : List StreamHead) (xs : List A) {os : List (Option StreamHead)} → map (λ (h : StreamHead). Some h) hs ≡ os → length os ≡ length xs → length hs ≡ length xs
+length_some hs xs e long = sym (map_length (λ (h : StreamHead). Some h) hs) ∙ (ap (λ (os : List (Option StreamHead)). length os) e ∙ long)
+
 frames_of : (is : List InPad) → map (λ (i : InPad). Frames i.head) is ≡ map (λ (h : StreamHead). Frames h) (map (λ (i : InPad). i.head) is)
 frames_of [] = refl
 frames_of (i ∷ is) = ap (λ (ls : List Lane). Frames i.head ∷ ls) (frames_of is)
@@ -418,6 +421,8 @@ module _ (rules : Rules) (are : AreRules rules) (job : Job) (heads : List (List 
           outs = m.outs;
           made = ap (λ (is : List InPad). rules.configured s.how.text (map (λ h. Some h) (map (λ (i : InPad). i.head) is))) s.how.ins
               ∙ (ap (λ (hs : List (Option StreamHead)). rules.configured s.how.text hs) (sym there) ∙ s.how.outs);
+          counted = length_some (map (λ (i : InPad). i.head) m.laid.ins) (rules.open_ins s.how.text)
+              (ap (λ (is : List InPad). map (λ (h : StreamHead). Some h) (map (λ (i : InPad). i.head) is)) s.how.ins ∙ sym there) (had rules are job heads l w come all_in some_outputs m s).1;
           unlooped = (had rules are job heads l w come all_in some_outputs m s).0;
           clear = clear_at rules are job heads l w come all_in some_outputs s.number s.how.text s.how.there;
           ins = into_graph whole laid k low high m.laid at (once m.laid.graph) ∙ frames_of m.laid.ins;
@@ -439,6 +444,7 @@ module _ (rules : Rules) (are : AreRules rules) (job : Job) (heads : List (List 
           heads = r.pad.head ∷ [];
           outs = r.how.made ∷ [];
           made = r.how.outs;
+          counted = sym r.how.counted;
           unlooped = r.how.unlooped;
           clear = r.how.clear;
           ins = into_graph whole laid k low high x at (once x.graph) ∙ ap (λ (y : Laid). map (λ (i : InPad). Frames i.head) y.ins) r.is;

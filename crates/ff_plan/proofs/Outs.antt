@@ -166,6 +166,9 @@ filtered out g i o = record {
   graph = Some (record { graph = g; ins = i ∷ [] });
 }
 
+is_one : (n : ℕ) → not (n == 1) ≡ false → n ≡ 1
+is_one n h = grind (arith, nat_tests)
+
 -- through simple graph g
 pub record IsFiltered (rules : Rules) (out : OutputJob) (g : ℕ) (i : InPad) (p : Passed) : Type 0 where
   pub at : StreamRef
@@ -174,6 +177,7 @@ pub record IsFiltered (rules : Rules) (out : OutputJob) (g : ℕ) (i : InPad) (p
   pub is_text : (simple_of out (kind_of i.head) ≡ Some text) ⊎ ((simple_of out (kind_of i.head) ≡ None) × (text ≡ null_graph (kind_of i.head)))
   pub made : OpenOut
   pub outs : rules.configured text (Some i.head ∷ []) ≡ Ok (made ∷ [])
+  pub counted : length (rules.open_ins text) ≡ 1
   pub unlooped : rules.loops text ≡ false
   pub clear : IsClear text
   pub is : filtered out g i made ≡ p
@@ -192,14 +196,14 @@ module _ (rules : Rules) where
   IsText out i text = (simple_of out (kind_of i.head) ≡ Some text) ⊎ ((simple_of out (kind_of i.head) ≡ None) × (text ≡ null_graph (kind_of i.head)))
 
   through_is : (out : OutputJob) (g : ℕ) (i : InPad) (at : StreamRef) (text : Graph) (outs : List OpenOut) (p : Passed) → i.source ≡ origin.Stream at → IsText out i text
-      → (rules.loops text ≡ false) × IsClear text → rules.configured text (Some i.head ∷ []) ≡ Ok outs → through out g i outs ≡ Ok p → IsFiltered rules out g i p
+      → (rules.loops text ≡ false) × IsClear text × (length (rules.open_ins text) ≡ 1) → rules.configured text (Some i.head ∷ []) ≡ Ok outs → through out g i outs ≡ Ok p → IsFiltered rules out g i p
   through_is out g i at text [] p e t l c h = absurd (not_ok _ p h)
   through_is out g i at text (o ∷ []) p e t l c h =
-      record { at = at; from = e; text = text; is_text = t; made = o; outs = c; unlooped = l.0; clear = l.1; is = same_ok (filtered out g i o) p h }
+      record { at = at; from = e; text = text; is_text = t; made = o; outs = c; counted = l.2; unlooped = l.0; clear = l.1; is = same_ok (filtered out g i o) p h }
   through_is out g i at text (o ∷ x ∷ os) p e t l c h = absurd (not_ok _ p h)
 
   simple_is : (out : OutputJob) (g : ℕ) (i : InPad) (at : StreamRef) (text : Graph) (r : Result (List OpenOut) Refused) (p : Passed) → i.source ≡ origin.Stream at → IsText out i text
-      → (rules.loops text ≡ false) × IsClear text → rules.configured text (Some i.head ∷ []) ≡ r → behind (configured_simple g r) (through out g i) ≡ Ok p → IsFiltered rules out g i p
+      → (rules.loops text ≡ false) × IsClear text × (length (rules.open_ins text) ≡ 1) → rules.configured text (Some i.head ∷ []) ≡ r → behind (configured_simple g r) (through out g i) ≡ Ok p → IsFiltered rules out g i p
   simple_is out g i at text (Ok outs) p e t l c h = through_is out g i at text outs p e t l c h
   simple_is out g i at text (Err r) p e t l c h = absurd (not_ok _ p h)
 
@@ -214,7 +218,7 @@ module _ (rules : Rules) where
       let r2 = unless_ok unknown_ (unless loop_ (unless one made)) p r1 in
       let r3 = unless_ok loop_ (unless one made) p r2 in
       let clear_ = own_clear text (no_refusal (twice_in [] [] (filters_of text)) (unless_none twice_ (unless unknown_ (unless loop_ (unless one made))) p h)) in
-      simple_is out g i at text (rules.configured text (Some i.head ∷ [])) p e t (not_so (rules.loops text) (fault.Loop g) (unless_none loop_ (unless one made) p r2), clear_) refl (unless_ok one made p r3)
+      simple_is out g i at text (rules.configured text (Some i.head ∷ [])) p e t (not_so (rules.loops text) (fault.Loop g) (unless_none loop_ (unless one made) p r2), clear_, is_one (length (rules.open_ins text)) (not_so (not (length (rules.open_ins text) == 1)) (fault.Config g 0 config.Pads) (unless_none one made p r3))) refl (unless_ok one made p r3)
 
   by_is : (out : OutputJob) (g : ℕ) (i : InPad) (at : StreamRef) (nulls : Bool) (given : Option Graph) (p : Passed) → i.source ≡ origin.Stream at → simple_of out (kind_of i.head) ≡ given
       → passed_by rules out g i nulls given ≡ Ok p → IsPassed out g i p

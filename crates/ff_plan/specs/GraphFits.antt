@@ -1,5 +1,5 @@
 -- What stands at the ports of the nodes of graphs, of any plan.
-use Rattle.std.specs.Prelude.{◌≡◌, ℕ, false, List, map, slice_get, Some, Ok}
+use Rattle.std.specs.Prelude.{◌≡◌, ℕ, false, List, length, map, slice_get, Some, Ok}
 use Rattle.ff_edges.specs.declared.edge.Edge.{Edge}
 use Rattle.ff_edges.specs.Ports.{lanes_into, lanes_out_of}
 use Rattle.ff_frame.specs.declared.item.Lane.TheVariants.{Frames}
@@ -12,8 +12,8 @@ use Rattle.ff_plan.specs.Graphs.{IsClear}
 use Rattle.ff_plan.specs.Rules.{Rules, OpenOut}
 use Rattle.ff_plan.specs.Texts.{GraphText, graph_text}
 
--- Frames of these heads enter node k, the rules make graph g of its text with them, a graph without a loop whose labels are clear, and frames
--- of what they make leave it.
+-- Frames of these heads enter node k, one for each open input pad of the text of graph g; the rules make the graph with them, one without a
+-- loop whose labels are clear, and frames of what they make leave it.
 pub record FitsGraph (rules : Rules) (job : Job) (texts : List GraphText) (edges : List Edge) (k g : ℕ) : Type 0 where
   pub stands : GraphText
   pub at : slice_get texts g ≡ Some stands
@@ -22,6 +22,7 @@ pub record FitsGraph (rules : Rules) (job : Job) (texts : List GraphText) (edges
   pub heads : List StreamHead
   pub outs : List OpenOut
   pub made : rules.configured text (map (λ h. Some h) heads) ≡ Ok outs
+  pub counted : length heads ≡ length (rules.open_ins text)
   pub unlooped : rules.loops text ≡ false
   pub clear : IsClear text
   pub ins : lanes_into edges k ≡ map (λ h. Frames h) heads
