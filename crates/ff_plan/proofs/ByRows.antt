@@ -32,7 +32,7 @@ few_used heads graphs places le all =
 -- ---- few wires
 
 module _ (f : Firsts) (streams : List Stream) (graphs : List Laid) where
-  pub pads_few : (gs : List Laid) → AllByRecursion HasFewIns gs → length (flat_map (pad_wires_in f streams graphs) gs) ≤ 65536 * length gs
+  pub pads_few : (gs : List Laid) → AllByRecursion HasFewIns gs → length (flat_map (pad_wires_in f streams graphs) gs) ≤ 1048576 * length gs
   pads_few [] all = omega arith
   pads_few (g ∷ gs) all =
       let j = joined_length (pad_wires_in f streams graphs g) (flat_map (pad_wires_in f streams graphs) gs) in

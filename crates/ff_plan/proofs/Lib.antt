@@ -1,10 +1,8 @@
 pub mod Among
 mod Best
+mod ByRows
 pub mod Counts
 pub mod EndFits
-mod ByRows
-mod Counts
-mod EndFits
 mod FewIns
 mod Filters
 mod Fitting
@@ -15,11 +13,8 @@ pub mod GraphLanes
 mod GraphWires
 pub mod Graphed
 pub mod Kept
-mod NodeKinds
-pub mod NodeRows
 mod Known
 pub mod Laid
-mod Laid
 mod LaidOut
 mod Lanes
 pub mod Layouts
@@ -27,23 +22,17 @@ mod Limits
 pub mod Made
 mod Memory
 mod Named
+mod NodeKinds
+pub mod NodeRows
 pub mod Numbered
 pub mod Once
 pub mod Outs
+mod Picked
 mod Places
 mod Plain
 mod Plans
 pub mod Ported
 pub mod Results
-mod Numbered
-mod Once
-mod Outs
-mod Picked
-mod Places
-mod Plain
-mod Plans
-mod Ported
-mod Results
 mod Rowed
 mod Rows
 mod Singles

@@ -1,5 +1,5 @@
 -- The nodes and wires of rows of inputs, streams, graphs and outputs' streams, by the number of the first node of each kind.
-use Rattle.std.specs.Prelude.{ℕ, ◌+◌, ◌≤◌, ◌==◌, Bool, true, false, cond, List, ◌++◌, length, map, Option, None}
+use Rattle.std.specs.Prelude.{ℕ, ◌+◌, ◌^◌, ◌≤◌, ◌==◌, Bool, true, false, cond, List, ◌++◌, length, map, Option, None}
 use Rattle.std.specs.List.{filter, find, flat_map, list_any, position_or_len, range_with_len}
 use Rattle.ff_frame.specs.declared.item.Lane.{Lane}
 use Rattle.ff_frame.specs.declared.item.Lane.TheVariants.{Frames, Packets}
@@ -35,10 +35,10 @@ all_sources graphs placed = flat_map sources_of graphs ++ map (λ p. p.what.sour
 
 -- a graph with few inputs, and what few such get
 abbrev pub HasFewIns : Laid → Type 0
-HasFewIns g = length g.ins ≤ 65536
+HasFewIns g = length g.ins ≤ 2 ^ 20
 
 abbrev pub IsFewWants : List Want → Type 0
-IsFewWants row = length row ≤ 65536
+IsFewWants row = length row ≤ 2 ^ 20
 
 abbrev pub joined_outputs : ℕ → Bool → ℕ
 joined_outputs outputs joint = cond joint outputs 0

@@ -3,6 +3,7 @@ ghost use Rattle.std.specs.Prelude.{◌≡◌, ◌^◌, ◌<◌, ◌≤◌, ◌+
 ghost use Rattle.std.specs.List.{AllByRecursion, cons_option, flat_map, range_with_len};
 ghost use Rattle.ff_map.specs.Choice.{lists};
 ghost use Rattle.ff_plan.specs.Layout.{placed};
+ghost use Rattle.ff_plan.specs.Numbering.{HasFewIns};
 ghost use Rattle.ff_plan.specs.Passing.{laid_by, rows_behind as passed_rows, streams_by};
 ghost use Rattle.ff_plan.specs.Plain.{rows as rows_in, HasShortGraphs, IsRefused, IsWithinLimits};
 ghost use Rattle.ff_plan.specs.Planned.{laid_out};
@@ -222,6 +223,7 @@ pub(crate) fn lay_out<F: Filtering>(
     ensures streams { IfOk result (λ l. length (placed (layout_in (lists heads.now) (F.rules filtering.now).joint l)) ≤ 16) }
     ensures graphs { IfOk result (λ l. length l.graphs.items ≤ 16) }
     ensures outputs { IfOk result (λ l. length l.outputs.items ≡ length job.now.outputs) }
+    ensures ins { IfOk result (λ l. AllByRecursion HasFewIns l.graphs.items) }
 {
     orders_go_upward();
     orders_are_whole();

@@ -55,4 +55,4 @@ pub use graph_laws::{
 pub use number::{Wire, number_ports};
 pub use open_pads::{OpenIn, OpenOut, Refused};
 pub use planned::{GraphText, Plan, PlanError, PlanNode, Unbuilt};
-pub use planning::{is_within_limits, plan};
+pub use planning::{is_within_limits, plan, plan_with};

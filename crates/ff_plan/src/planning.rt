@@ -5,11 +5,14 @@ ghost use Rattle.ff_plan.specs.Fitting.{HasSingles, HasKinds, FitNodes};
 ghost use Rattle.ff_plan.specs.Laws.{GoUpward};
 ghost use Rattle.ff_plan.specs.Numbers.{HasFewStreams};
 ghost use Rattle.ff_plan.specs.Plain.{IsRefused, IsWithinLimits};
+ghost use Rattle.ff_plan.specs.Planned.{planned};
 ghost use Rattle.ff_edges.specs.Ports.{shape_of, IsFed, HasIns, HasOuts};
 ghost use Rattle.ff_sched.specs.Routes.{AreRoutes};
 ghost use Rattle.ff_plan.specs.Today.{planned_today, unbuilt, unbuilt_in};
 
+use crate::filtering::Filtering;
 use crate::layout::Laying;
+use crate::laying::lay_out;
 use crate::lengths::have_short_graphs;
 use crate::nodes::place;
 use crate::numbering::numbered_plan;
@@ -123,5 +126,23 @@ pub fn plan(alloc: Global, job: &Job, heads: &[Vec<StreamHead>]) -> Result<Plan,
         texts: Vec::new(alloc),
     };
     let plan = numbered_plan(alloc, heads, false, laying)?;
+    Ok(plan)
+}
+
+/// The plan of any job, by the rules of graphs that `filtering` has, with these heads of each of its inputs, or the refusal that comes first: of names and labels of complex graphs,
+/// of loops, of what their filters can't do, of each output in turn its maps, its lack of streams, what its format takes and its
+/// simple graphs, of a label that nothing uses, of too many streams or graphs. `NoMemory` may come in place of any answer.
+pub fn plan_with<F: Filtering>(
+    alloc: Global,
+    filtering: &F,
+    job: &Job,
+    heads: &[Vec<StreamHead>],
+) -> Result<Plan, PlanError>
+    requires limits { IsWithinLimits job.now (lists heads.now) }
+    ensures made { IfOk result (λ p. planned (F.rules filtering.now) job.now (lists heads.now) ≡ Ok p) }
+    ensures refused { IfErr result (IsRefused (planned (F.rules filtering.now) job.now (lists heads.now))) }
+{
+    let laying = lay_out(alloc, filtering, job, heads)?;
+    let plan = numbered_plan(alloc, heads, filtering.is_joint(), laying)?;
     Ok(plan)
 }

@@ -1,4 +1,4 @@
-use Rattle.std.proofs.Common.{◌≡◌, ℕ, ◌+◌, ◌^◌, ◌<◌, ◌≤◌, None, List, ◌++◌, map, length, vec_len, sym, ap, ◌∙◌, subst, arith}
+use Rattle.std.proofs.Common.{◌≡◌, ℕ, ◌+◌, ◌^◌, ◌<◌, ◌≤◌, None, List, [], ◌∷◌, ◌++◌, map, length, vec_len, sym, ap, ◌∙◌, subst, arith}
 use Rattle.std.specs.Prelude.{Ok}
 use Rattle.std.specs.List.{AllByRecursion, range_with_len}
 use Rattle.std.specs.declared.alloc.Global.{Global}
@@ -9,7 +9,11 @@ use Rattle.ff_map.specs.Choice.{lists}
 use Rattle.ff_labels.specs.Order.{feeds}
 use Rattle.ff_plan.specs.declared.layout.OutStream.{OutStream}
 use Rattle.ff_plan.specs.declared.planned.GraphText.TheVariants as text
-use Rattle.ff_plan.specs.Pads.{Made}
+use Rattle.ff_plan.specs.Labels.{taken_labels}
+use Rattle.ff_plan.specs.Layout.{Laid}
+use Rattle.ff_plan.specs.Numbering.{HasFewIns}
+use Rattle.ff_plan.specs.Order.{numbers}
+use Rattle.ff_plan.specs.Pads.{Made, unlabelled}
 use Rattle.ff_plan.specs.Passing.{count_fault, laid_by, rows_behind, streams_by}
 use Rattle.ff_plan.specs.Plain.{rows, IsRefused}
 use Rattle.ff_plan.specs.Planned.{laid_out}
@@ -17,6 +21,8 @@ use Rattle.ff_plan.specs.Rules.{Planned}
 use Rattle.ff_plan.specs.Streams.{Passed}
 use Rattle.ff_plan.specs.Texts.{texts_from}
 use Rattle.ff_plan.specs.Whole.{IsFault, layout_in}
+use Rattle.ff_plan.proofs.Among.{all_joined}
+use Rattle.ff_plan.proofs.FewIns.{simple_few}
 use Rattle.ff_plan.proofs.LaidOut.{handed_on, refused_loops, refused_graphs, refused_rows, refused_unused, refused_counts, laid_in}
 use Rattle.ff_plan.proofs.Layouts.{map_length}
 use Rattle.ff_plan.proofs.Limits.{all_imply, below_word, few_in_lists}
@@ -138,3 +144,20 @@ returns-clause-outputs g c =
     let ok : c.in_ok-rows.rows.len ≡ length outs = c.in_ok-rows.rows.ok.0 in
     let os = ap (λ (o : List OutputJob). length o) c.as_slice-outs.ensures in
     omega (arith, a, b, d, same, ok, os)
+
+laid_few : (ms : List Made) → AllByRecursion (λ (m : Made). HasFewIns m.laid) ms → AllByRecursion HasFewIns (map (λ (m : Made). m.laid) ms)
+laid_few [] all = tt
+laid_few (m ∷ ms) all = (all.0, laid_few ms all.1)
+
+pub returns-clause-ins : goal.returns-clause-ins
+returns-clause-ins g c =
+    let rules = g.F.Filtering.rules c.args.filtering.now in
+    let heads = lists c.args.heads.now in
+    let gs = c.as_slice-graphs.result.now in
+    let os = c.as_slice-outs.result.now in
+    let made = c.in_ok-made.made.items in
+    let outs = c.in_ok-rows.rows.items in
+    let rows_are : rows_behind rules heads gs made os ≡ Ok outs = ap (λ (m : List Made). rows_behind rules heads gs m os) (sym c.as_slice.ensures.value) ∙ c.in_ok-rows.ensures.made in
+    subst (λ (xs : List Laid). AllByRecursion HasFewIns xs) (sym c.in_ok-laid_apart.ensures.graphs)
+    (all_joined HasFewIns (map (λ (m : Made). m.laid) made) (laid_by outs) (laid_few made c.in_ok-made.ensures.ins)
+    (simple_few rules (record { heads = heads; graphs = gs; made = made }) 0 (length gs) (taken_labels gs) (unlabelled made (numbers gs)) os outs rows_are))
