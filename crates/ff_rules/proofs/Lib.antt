@@ -7,7 +7,7 @@ mod KeptHeads
 mod Labelled
 mod Lists
 mod Making
-mod Maps
+mod ReadMaps
 mod OpenPads
 mod Outputs
 mod Settings

@@ -6,11 +6,16 @@
 //! ```
 //!
 //! A plan is defined over rules that say which names are filters, what the open pads of a graph are, and which map a text is
-//! (`ff_plan/specs/Rules`). Here they are those of the product (`specs/Rules`), and the laws say what plans need of them
-//! (`specs/Kept`, and `AreRules` of ff_plan).
+//! (`ff_plan/specs/Rules`). Here they are those of the product (`specs/Rules`), [`GraphRules`] is them as code, and the laws say
+//! what plans need of them (`specs/Kept`, and `AreRules` of ff_plan).
 #![tactic(auto)]
 
 mod examples;
+mod in_pads;
 mod laws;
+mod maps;
+mod out_pads;
+mod rules;
 
 pub use laws::{heads_are_kept, maps_are_read, rules_are_rules, words_have_few_pads};
+pub use rules::GraphRules;

@@ -1,4 +1,4 @@
-use Rattle.ff_rules.proofs.Maps.{map_is}
+use Rattle.ff_rules.proofs.ReadMaps.{map_is}
 use Rattle.ff_rules.proofs.laws.maps_are_read.Goals as goal
 
 pub returns : goal.returns

@@ -1,5 +1,5 @@
 -- The function that reads maps reads each of them, and nothing else.
-use Rattle.std.proofs.Common.{◌≡◌, ◌↔◌, ℕ, Some, None, List, [], ◌∷◌, refl, ◌∙◌}
+use Rattle.std.proofs.Common.{◌≡◌, ◌↔◌, ℕ, Option, Some, None, List, [], ◌∷◌, refl, ◌∙◌}
 use Rattle.ff_map.specs.declared.map.MapSpec.{MapSpec}
 use Rattle.ff_map.specs.Grammar.{IsMap}
 use Rattle.ff_map.specs.Reading.{letter_of, start_next, byte_next, end_of}
@@ -44,3 +44,10 @@ map_read (b ∷ text) m h = first_read text (start_next (letter_of b)) ∙ reads
 
 pub map_is : (text : List ℕ) (m : MapSpec) → (map_of text ≡ Some m) ↔ IsMap text m
 map_is text m = (is_a_map text m, map_read text m)
+
+-- a text that is no map is read as none
+pub none_is : (text : List ℕ) → ((m : MapSpec) → IsMap text m → ⊥) → None ≡ map_of text
+none_is text none = step (map_of text) refl where
+  step : (o : Option MapSpec) → map_of text ≡ o → None ≡ o
+  step None e = refl
+  step (Some m) e = absurd (none m (is_a_map text m e))

@@ -1,0 +1,62 @@
+// The open input pads of a graph as plans have them.
+ghost use Rattle.std.specs.Prelude.{◌≡◌, ◌≤◌, ◌^◌, IfOk, length};
+ghost use Rattle.std.specs.Option.{option_copied};
+ghost use Rattle.ff_graph.specs.Pads.{input_of};
+ghost use Rattle.ff_rules.specs.Rules.{kind_by as kind_of, input_as, open_ins};
+
+use ff_graph::{OpenInput, open_inputs};
+use ff_lang::{Graph, Sequence, Text};
+use ff_map::Kind;
+use ff_plan::OpenIn;
+use std::alloc::{AllocError, Global};
+
+/// How many open pads a graph that a word of a command can write has at most: 65,536 filters of 16 pads.
+pub(crate) const MOST_PADS: usize = 1_048_576;
+
+// Sound, else pictures.
+fn kind_by(sound: bool) -> Kind
+    ensures { result ≡ kind_of sound }
+{
+    if sound { Kind::Audio } else { Kind::Video }
+}
+
+/// A text of one's own.
+pub(crate) fn text_of(alloc: Global, text: &str) -> Result<Text, AllocError>
+    ensures { IfOk result (λ copy. copy ≡ text.now) }
+{
+    Ok(Text::of(String::from_str(alloc, text)?))
+}
+
+fn label_of(alloc: Global, label: Option<&str>) -> Result<Option<Text>, AllocError>
+    ensures { IfOk result (λ l. l ≡ option_copied label.entry) }
+{
+    match label {
+        None => Ok(None),
+        Some(label) => Ok(Some(text_of(alloc, label)?)),
+    }
+}
+
+fn input_pad(alloc: Global, input: OpenInput<'_>) -> Result<OpenIn, AllocError>
+    ensures { IfOk result (λ pad. pad ≡ input_as (input_of input.entry)) }
+{
+    Ok(OpenIn {
+        label: label_of(alloc, input.label)?,
+        kind: kind_by(input.sound),
+    })
+}
+
+/// The open input pads of a graph, in the order of writing.
+pub(crate) fn input_pads(alloc: Global, graph: &Graph) -> Result<Sequence<OpenIn>, AllocError>
+    ensures pads { IfOk result (λ pads. pads ≡ open_ins graph.now) }
+    ensures few { IfOk result (λ pads. length pads ≤ 2 ^ 20) }
+{
+    let inputs = open_inputs(alloc, graph)?;
+    if inputs.len() > MOST_PADS {
+        return Err(AllocError);
+    }
+    let mut pads = Vec::new(alloc);
+    'pads: for at in 0..inputs.len() {
+        pads.push(input_pad(alloc, inputs[at])?)?;
+    }
+    Ok(Sequence::of(pads))
+}

@@ -1,0 +1,16 @@
+ghost use Rattle.std.specs.Prelude.{◌≡◌, ℕ, List, IfOk};
+ghost use Rattle.ff_rules.specs.Maps.{map_of as map_that};
+
+use ff_map::{MapError, MapSpec, read_map};
+use std::alloc::{AllocError, Global};
+
+/// The map that a text is, if it is one.
+pub(crate) fn map_of(alloc: Global, text: &str) -> Result<Option<MapSpec>, AllocError>
+    ensures { IfOk result (λ map. map ≡ map_that text.now) }
+{
+    match read_map(alloc, text) {
+        Ok(map) => Ok(Some(map)),
+        Err(MapError::Bad { at: _ }) => Ok(None),
+        Err(MapError::NoMemory) => Err(AllocError),
+    }
+}

@@ -1,0 +1,67 @@
+ghost use Rattle.std.specs.Prelude.{◌≡◌};
+ghost use Rattle.ff_plan.specs.Streams.{most_streams as most_of};
+ghost use Rattle.ff_rules.specs.Rules.{rules_with};
+
+use crate::in_pads::input_pads;
+use crate::maps::map_of;
+use crate::out_pads::configured;
+use ff_graph::{has_loop, is_known};
+use ff_lang::{Graph, Sequence};
+use ff_map::MapSpec;
+use ff_plan::{Filtering, OpenIn, OpenOut, Refused};
+use ff_values::StreamHead;
+use ff_words::FileFormat;
+use std::alloc::{AllocError, Global};
+
+/// The rules of the filters that there are, and of maps.
+#[derive(Clone, Copy, Debug, Drop)]
+pub struct GraphRules {
+    /// Whether a stream without a simple graph passes through `null` or `anull`.
+    pub nulls: bool,
+    /// Whether each output has a Shortest node.
+    pub joint: bool,
+}
+
+impl Filtering for GraphRules {
+    ghost rules = { λ r. rules_with r.nulls r.joint };
+
+    fn is_known(&self, name: &str) -> bool {
+        is_known(name)
+    }
+
+    fn has_loop(&self, alloc: Global, graph: &Graph) -> Result<bool, AllocError> {
+        has_loop(alloc, graph)
+    }
+
+    fn open_inputs(&self, alloc: Global, graph: &Graph) -> Result<Sequence<OpenIn>, AllocError> {
+        input_pads(alloc, graph)
+    }
+
+    fn configured(
+        &self,
+        alloc: Global,
+        graph: &Graph,
+        heads: &[Option<StreamHead>],
+    ) -> Result<Result<Sequence<OpenOut>, Refused>, AllocError> {
+        configured(alloc, graph, heads)
+    }
+
+    fn map_of(&self, alloc: Global, text: &str) -> Result<Option<MapSpec>, AllocError> {
+        map_of(alloc, text)
+    }
+
+    fn most(&self, format: FileFormat) -> usize {
+        match format {
+            FileFormat::FrameHash => 16,
+            _ => 1,
+        }
+    }
+
+    fn has_nulls(&self) -> bool {
+        self.nulls
+    }
+
+    fn is_joint(&self) -> bool {
+        self.joint
+    }
+}
