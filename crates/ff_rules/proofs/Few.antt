@@ -35,7 +35,7 @@ either_few : (b : Bool) (m n hi : ℕ) → m ≤ hi → n ≤ hi → cond b m n 
 either_few true m n hi f g = f
 either_few false m n hi f g = g
 
-last_few : {S : Type 0} (manual : Manual S) (option lo hi d : ℕ) (keyed : Bool) (place n : ℕ) (args : List Arg) → d ≤ hi → n ≤ hi
+pub last_few : {S : Type 0} (manual : Manual S) (option lo hi d : ℕ) (keyed : Bool) (place n : ℕ) (args : List Arg) → d ≤ hi → n ≤ hi
     → last_from manual option lo hi d keyed place n args ≤ hi
 last_few manual option lo hi d keyed place n [] f g = g
 last_few manual option lo hi d keyed place n (a ∷ others) f g =

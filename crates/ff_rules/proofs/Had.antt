@@ -83,6 +83,11 @@ as_ok : (r : Result (List of_graph_made.OpenOut) of_graph_made.Refused) (outs : 
 as_ok (Err x) outs e = absurd (no_ok (refused_as x) outs e)
 as_ok (Ok os) outs e = (os, refl, sym (same_ok (map output_as os) outs e))
 
+pub as_err : (r : Result (List of_graph_made.OpenOut) of_graph_made.Refused) (x : Refused) → outputs_as r ≡ Err x
+    → (y : of_graph_made.Refused) × (r ≡ Err y) × (y.filter ≡ x.filter) × (y.kind ≡ x.kind)
+as_err (Ok os) x e = absurd cc
+as_err (Err y) x e = (let same : refused_as y ≡ x = cc in (y, refl, ap (λ (z : Refused). z.filter) same, ap (λ (z : Refused). z.kind) same))
+
 -- its filters were made, and its open output pads are theirs
 pub record WasMade (g : Graph) (given : List (Option StreamHead)) (outs : List OpenOut) : Type 0 where
   pub made : Made

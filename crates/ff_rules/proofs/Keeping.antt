@@ -1,17 +1,14 @@
 -- What the filters of a graph keep of heads, and why it is refused.
-use Rattle.std.proofs.Common.{◌≡◌, ◌≢◌, ℕ, zero, suc, Bool, true, false, List, [], ◌∷◌, map, length, replicate, Option, None, Some, Result, Ok, Err, refl, sym, ap, subst, ◌∙◌, arith}
+use Rattle.std.proofs.Common.{◌≡◌, ◌≢◌, ℕ, zero, suc, Bool, true, false, List, [], ◌∷◌, map, length, replicate, Option, None, Some, Ok, Err, refl, sym, subst, ◌∙◌, arith}
 use Rattle.std.specs.Prelude.{slice_get, slice_index_or, if◌then◌else◌}
 use Rattle.std.specs.List.{AllByRecursion}
-use Rattle.ff_values.specs.declared.config.ConfigError.{ConfigError}
 use Rattle.ff_values.specs.declared.config.ConfigError.TheVariants as fault
 use Rattle.ff_values.specs.declared.head.StreamHead.{StreamHead}
 use Rattle.ff_lang.specs.declared.graph.Graph.{Graph}
 use Rattle.ff_drawn.specs.declared.drawn.Pad.{Pad}
 use Rattle.ff_drawn.specs.Links.{Seen}
-use Rattle.ff_filters.specs.declared.name.FilterName.{FilterName}
-use Rattle.ff_filters.specs.Names.{filter_named}
-use Rattle.ff_filters.specs.Configured.{Filtered, configured_as}
-use Rattle.ff_filters.proofs.Answering.{never_short}
+use Rattle.ff_filters.specs.Configured.{Filtered}
+use Rattle.ff_graph.proofs.Refusals.{never_for_memory}
 use Rattle.ff_graph.specs.Drawings.{seen_graph}
 use Rattle.ff_graph.specs.Opens as of_graph
 use Rattle.ff_graph.specs.Opens.{feeders_in, filter_order, sources_in, open_pads, open_in, open_ins_at}
@@ -28,7 +25,7 @@ use Rattle.ff_rules.proofs.Settings.{no_ok}
 use Rattle.ff_rules.proofs.Making.{made_parts, heads_keep}
 use Rattle.ff_rules.proofs.KeptHeads.{IsKept, fit_is_kept, taken_is_kept}
 use Rattle.ff_rules.proofs.Outputs.{gives_so}
-use Rattle.ff_rules.proofs.Had.{was_had, opens_size, opens_few}
+use Rattle.ff_rules.proofs.Had.{as_err, was_had, opens_size, opens_few}
 
 -- ---- heads that are kept
 
@@ -49,7 +46,7 @@ module _ (P : StreamHead → Type 0) (keeps : IsKept P) where
   head_fit : (heads : List (List StreamHead)) (p : Pad) (h : StreamHead) → AllByRecursion Each heads → of_graph_made.head_at heads p ≡ Some h → P h
   head_fit heads p h all e = all_at P (slice_index_or heads p.filter []) p.pad h (own_fit heads p.filter all) e
 
-  into_fit : (opens : List Pad) (given : List StreamHead) (heads : List (List StreamHead)) (k i : ℕ) (ss : List (Option Pad)) (xs : List StreamHead) → Each given
+  pub into_fit : (opens : List Pad) (given : List StreamHead) (heads : List (List StreamHead)) (k i : ℕ) (ss : List (Option Pad)) (xs : List StreamHead) → Each given
       → AllByRecursion Each heads → heads_into opens (map (λ (x : StreamHead). Some x) given) heads k i ss ≡ Some xs → Each xs
   into_fit opens given heads k i [] xs fit all e = subst Each (some_same [] xs e) tt
   into_fit opens given heads k i (s ∷ ss) xs fit all e =
@@ -123,47 +120,11 @@ module _ (P : StreamHead → Type 0) (keeps : IsKept P) where
 
 -- ---- refusals
 
-reason_of : (ds : List Seen) (given : List (Option StreamHead)) (heads : List (List StreamHead)) (k : ℕ) (o : Option Seen) → made_of ds given heads k o ≡ Err fault.NoMemory → ⊥
-reason_of ds given heads k None e = cc
-reason_of ds given heads k (Some d) e = by_name (filter_named d.filter.name) e where
-  by_surplus : (name : FilterName) (hs : List StreamHead) (c : Bool) → (if c then Err fault.Pads else configured_as name d.filter.args hs) ≡ Err fault.NoMemory → ⊥
-  by_surplus name hs true f = cc
-  by_surplus name hs false f = never_short name d.filter.args hs f
-
-  by_heads : (name : FilterName) (h : Option (List StreamHead)) → made_on name d h ≡ Err fault.NoMemory → ⊥
-  by_heads name None f = cc
-  by_heads name (Some hs) f = by_surplus name hs (is_surplus name d hs) f
-
-  by_fit : (name : FilterName) (c : Bool) → made_as (Some name) c d (heads_into (open_pads ds) given heads k 0 (slice_index_or (sources_in ds) k [])) ≡ Err fault.NoMemory → ⊥
-  by_fit name true f = cc
-  by_fit name false f = by_heads name (heads_into (open_pads ds) given heads k 0 (slice_index_or (sources_in ds) k [])) f
-
-  by_name : (n : Option FilterName)
-      → made_as n (is_misfit ds (open_pads ds) k d) d (heads_into (open_pads ds) given heads k 0 (slice_index_or (sources_in ds) k [])) ≡ Err fault.NoMemory → ⊥
-  by_name None f = cc
-  by_name (Some name) f = by_fit name (is_misfit ds (open_pads ds) k d) f
-
-refused_for : (ds : List Seen) (given : List (Option StreamHead)) (made : Made) (ks : List ℕ) (r : of_graph_made.Refused) → make_from ds given made ks ≡ Err r → r.kind ≢ fault.NoMemory
-refused_for ds given made [] r e = absurd cc
-refused_for ds given made (k ∷ ks) r e = step (made_of ds given made.heads k (slice_get ds k)) refl (λ m. refused_for ds given m ks r) e where
-  step : (q : Result Filtered ConfigError) → made_of ds given made.heads k (slice_get ds k) ≡ q
-      → ((m : Made) → make_from ds given m ks ≡ Err r → r.kind ≢ fault.NoMemory) → behind made k q (λ n. make_from ds given n ks) ≡ Err r → r.kind ≢ fault.NoMemory
-  step (Ok f) h more g = more (with_made made k f) g
-  step (Err x) h more g = λ none.
-      let same : x ≡ r.kind = cc in
-      reason_of ds given made.heads k (slice_get ds k) (h ∙ ap (λ (y : ConfigError). let q : Result Filtered ConfigError = Err y in q) (same ∙ none))
-
 reason_so : (g : Graph) (heads : List (Option StreamHead)) (r : Refused) → configured g heads ≡ Err r → r.kind ≢ fault.NoMemory
-reason_so g heads r e = looped (of_graph.loops g) e where
-  step : (q : Result Made of_graph_made.Refused) → make_all (seen_graph g) heads ≡ q → outputs_as (outs_by (seen_graph g) q) ≡ Err r → r.kind ≢ fault.NoMemory
-  step (Ok m) h f = absurd cc
-  step (Err x) h f =
-      let same : x.kind ≡ r.kind = cc in
-      λ none. refused_for (seen_graph g) heads (none_made (seen_graph g)) (filter_order (seen_graph g)) x h (same ∙ none)
-
-  looped : (c : Bool) → (if c then Err (record { filter = 0; kind = fault.Pads }) else outputs_as (of_graph_made.configured g heads)) ≡ Err r → r.kind ≢ fault.NoMemory
-  looped true f = (let same : fault.Pads ≡ r.kind = cc in λ none. cc)
-  looped false f = step (make_all (seen_graph g) heads) refl f
+reason_so g heads r e = step (of_graph.loops g) e where
+  step : (c : Bool) → (if c then Err (record { filter = 0; kind = fault.Pads }) else outputs_as (of_graph_made.configured g heads)) ≡ Err r → r.kind ≢ fault.NoMemory
+  step true f = (let same : fault.Pads ≡ r.kind = cc in λ none. cc)
+  step false f = (let k = as_err (of_graph_made.configured g heads) r f in λ none. never_for_memory g heads k.0 k.1 (k.3 ∙ none))
 
 pub keep_heads : (nulls joint : Bool) → KeepHeads (rules_with nulls joint)
 keep_heads nulls joint = record {

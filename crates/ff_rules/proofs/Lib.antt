@@ -1,4 +1,5 @@
 mod Few
+mod FewOuts
 mod Given
 mod Had
 mod Holds

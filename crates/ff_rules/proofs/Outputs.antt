@@ -60,7 +60,7 @@ use Rattle.ff_rules.proofs.Lists.{never}
 use Rattle.ff_rules.proofs.Settings.{same_ok, settled, fps_base, split_read}
 
 -- what holds of the heads of each machine that is made so
-by_each : {X : Type 0} (P : List StreamHead → Type 0) (shown : X → View) (outs : X → List StreamHead) (by : Result X ConfigError) (f : Filtered)
+pub by_each : {X : Type 0} (P : List StreamHead → Type 0) (shown : X → View) (outs : X → List StreamHead) (by : Result X ConfigError) (f : Filtered)
     → ((m : X) → by ≡ Ok m → P (outs m)) → filtered shown outs by ≡ Ok f → P f.outs
 by_each P shown outs (Ok m) f each e = (let same : (let g : Filtered = record { view = shown m; outs = outs m } in g) ≡ f = same_ok (record { view = shown m; outs = outs m }) f e in
     subst (λ (g : Filtered). P g.outs) same (each m refl))

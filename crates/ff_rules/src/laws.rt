@@ -1,13 +1,16 @@
 //! Laws of the rules: functions that do nothing, whose clauses hold of all values.
-ghost use Rattle.std.specs.Prelude.{◌≡◌, ◌↔◌, ℕ, ◌^◌, ◌≤◌, Bool, List, Some, length};
+ghost use Rattle.std.specs.Prelude.{◌≡◌, ◌↔◌, ℕ, ◌^◌, ◌<◌, ◌≤◌, Bool, List, Option, Some, Ok, Err, length, map};
+ghost use Rattle.ff_values.specs.declared.head.StreamHead.{StreamHead};
 ghost use Rattle.ff_lang.specs.declared.graph.Graph.{Graph as Text};
 ghost use Rattle.ff_labels.specs.Labels.{filters_of};
 ghost use Rattle.ff_map.specs.Grammar.{IsMap};
 ghost use Rattle.ff_map.specs.declared.map.MapSpec.{MapSpec};
 ghost use Rattle.ff_plan.specs.Graphs.{AreRules};
-ghost use Rattle.ff_rules.specs.Kept.{KeepHeads};
+ghost use Rattle.ff_plan.specs.declared.open_pads.OpenOut.{OpenOut};
+ghost use Rattle.ff_plan.specs.declared.open_pads.Refused.{Refused};
+ghost use Rattle.ff_rules.specs.Kept.{AreFitHeads, KeepHeads};
 ghost use Rattle.ff_rules.specs.Maps.{map_of};
-ghost use Rattle.ff_rules.specs.Rules.{rules_with, open_ins};
+ghost use Rattle.ff_rules.specs.Rules.{rules_with, open_ins, configured};
 
 /// The function that reads maps reads all of them, and nothing else.
 pub fn maps_are_read()
@@ -25,7 +28,12 @@ pub fn heads_are_kept()
     ensures { (nulls joint : Bool) → KeepHeads (rules_with nulls joint) }
 {}
 
-/// A graph of as many filters as a word of a command can write has no more open input pads than the code can give.
+/// A graph of as many filters as a word of a command can write has no more open pads than the code can give, where the heads that it
+/// gets are fit, and a filter that is refused has a number of few bits.
 pub fn words_have_few_pads()
-    ensures { (g : Text) → length (filters_of g) ≤ 65536 → length (open_ins g) ≤ 2 ^ 20 }
+    ensures inputs { (g : Text) → length (filters_of g) ≤ 65536 → length (open_ins g) ≤ 2 ^ 20 }
+    ensures outputs { (g : Text) (heads : List StreamHead) (outs : List OpenOut) → length (filters_of g) ≤ 65536 → AreFitHeads heads
+        → configured g (map (λ (h : StreamHead). Some h) heads) ≡ Ok outs → length outs ≤ 2 ^ 20 }
+    ensures number { (g : Text) (heads : List (Option StreamHead)) (r : Refused) → length (filters_of g) ≤ 65536
+        → configured g heads ≡ Err r → r.filter < 65536 }
 {}
