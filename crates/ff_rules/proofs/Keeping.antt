@@ -106,16 +106,16 @@ module _ (P : StreamHead → Type 0) (keeps : IsKept P) where
       all_joined FitOut (outs_at sources d.filter.outs k 0 hs) (outs_from sources (suc k) ds heads) (at_fit sources d.filter.outs k 0 hs all.0)
       (from_fit sources (suc k) ds heads all.1)
 
-  heads_of_outs : (os : List of_graph_made.OpenOut) → AllByRecursion FitOut os → Each (map (λ (o : OpenOut). o.head) (map output_as os))
+  heads_of_outs : (os : List of_graph_made.OpenOut) → AllByRecursion FitOut os → AllByRecursion (λ (out : OpenOut). P out.head) (map output_as os)
   heads_of_outs [] all = tt
   heads_of_outs (o ∷ os) all = (all.0, heads_of_outs os all.1)
 
-  pub kept_by : (g : Graph) (heads : List StreamHead) (outs : List OpenOut) → Each heads → configured g (map (λ (h : StreamHead). Some h) heads) ≡ Ok outs
-      → Each (map (λ (o : OpenOut). o.head) outs)
-  kept_by g heads outs fit e =
+  pub kept_by : (g : Graph) (heads : List StreamHead) (outs : List OpenOut) → configured g (map (λ (h : StreamHead). Some h) heads) ≡ Ok outs → Each heads
+      → AllByRecursion (λ (out : OpenOut). P out.head) outs
+  kept_by g heads outs e fit =
       let w = was_had g (map (λ (h : StreamHead). Some h) heads) outs e in
       let all = made_fit (seen_graph g) heads w.made fit w.is in
-      subst (λ (os : List OpenOut). Each (map (λ (o : OpenOut). o.head) os)) (sym w.open_)
+      subst (λ (os : List OpenOut). AllByRecursion (λ (out : OpenOut). P out.head) os) (sym w.open_)
       (heads_of_outs (open_outs (seen_graph g) w.made.heads) (from_fit (sources_in (seen_graph g)) 0 (seen_graph g) w.made.heads all))
 
 -- ---- refusals
@@ -134,6 +134,6 @@ keep_heads nulls joint = record {
       let size = opens_size g in
       omega (arith, few, size);
   kept = kept_by IsFitHead fit_is_kept;
-  taken = λ out g head made e takes. (kept_by (λ h. takes_head out h ≡ true) (taken_is_kept out) g (head ∷ []) (made ∷ []) (takes, tt) e).0;
+  taken = λ out g head made e takes. (kept_by (λ h. takes_head out h ≡ true) (taken_is_kept out) g (head ∷ []) (made ∷ []) e (takes, tt)).0;
   reason = reason_so;
 }

@@ -31,8 +31,8 @@ AreFitHeads heads = AllByRecursion IsFitHead heads
 -- takes a stream takes what a graph of one input and one output makes of it. Why a graph is refused is never that there was no memory.
 pub record KeepHeads (rules : Rules) : Type 0 where
   pub few : (g : Graph) (heads : List (Option StreamHead)) (outs : List OpenOut) → IsHad rules g heads outs → length (rules.open_ins g) ≤ 16
-  pub kept : (g : Graph) (heads : List StreamHead) (outs : List OpenOut) → AreFitHeads heads
-      → rules.configured g (map (λ (h : StreamHead). Some h) heads) ≡ Ok outs → AreFitHeads (map (λ (o : OpenOut). o.head) outs)
+  pub kept : (g : Graph) (heads : List StreamHead) (outs : List OpenOut) → rules.configured g (map (λ (h : StreamHead). Some h) heads) ≡ Ok outs
+      → AreFitHeads heads → AllByRecursion (λ (out : OpenOut). IsFitHead out.head) outs
   pub taken : (out : OutputJob) (g : Graph) (head : StreamHead) (made : OpenOut) → rules.configured g (Some head ∷ []) ≡ Ok (made ∷ [])
       → takes_head out head ≡ true → takes_head out made.head ≡ true
   pub reason : (g : Graph) (heads : List (Option StreamHead)) (r : Refused) → rules.configured g heads ≡ Err r → r.kind ≢ fault.NoMemory
