@@ -1,0 +1,15 @@
+pub mod Clear
+pub mod Connected
+pub mod Counts
+pub mod Drawing
+pub mod Feeding
+pub mod Fitting
+pub mod Limiting
+pub mod Elements
+pub mod Made
+pub mod Meaning
+pub mod Outs
+pub mod Seeing
+pub mod Sourced
+pub mod Timed
+pub mod Whole

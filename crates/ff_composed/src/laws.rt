@@ -1,0 +1,37 @@
+//! Laws of graphs as filters: functions that do nothing, whose clauses hold of all values.
+ghost use Rattle.std.specs.Prelude.{◌≡◌, List, Option, Ok, false, length, map};
+ghost use Rattle.ff_values.specs.declared.head.StreamHead.{StreamHead};
+ghost use Rattle.ff_frame.specs.declared.item.Lane.TheVariants.{Frames as FramesOf};
+ghost use Rattle.ff_lang.specs.declared.graph.Arg.{Arg};
+ghost use Rattle.ff_lang.specs.declared.graph.Graph.{Graph as Text};
+ghost use Rattle.ff_net_filter.specs.Limiting.{IsLimited};
+ghost use Rattle.ff_filters.specs.declared.name.FilterName.{FilterName};
+ghost use Rattle.ff_filters.specs.Configured.{Filtered, configured_as};
+ghost use Rattle.ff_limited.specs.Cuts.{AreTimed};
+ghost use Rattle.ff_graph.specs.Configured.{Made, OpenOut, configured, make_all, open_outs};
+ghost use Rattle.ff_graph.specs.Drawings.{seen_graph};
+ghost use Rattle.ff_graph.specs.Meaning.{graph_means};
+ghost use Rattle.ff_graph.specs.Opens.{filter_order, open_pads, sources_in, loops};
+ghost use Rattle.ff_wired.specs.Flows.{IsDrawing};
+ghost use Rattle.ff_composed.specs.Clear.{IsClear};
+ghost use Rattle.ff_composed.specs.Cuts.{all_given, graph_cuts};
+ghost use Rattle.ff_composed.specs.Ready.{counts_of, pads_of};
+
+/// Where the heads of what comes to a filter have time bases, so have those of what it gives.
+pub fn configured_heads_are_timed()
+    ensures { (name : FilterName) (args : List Arg) (heads : List StreamHead) (f : Filtered) → AreTimed heads
+        → configured_as name args heads ≡ Ok f → AreTimed f.outs }
+{}
+
+/// A text without a loop, whose labels tell its pads apart and whose filters were made, is a drawing of them.
+pub fn graphs_are_drawings()
+    ensures { (g : Text) (given : List (Option StreamHead)) (made : Made) → IsClear g → loops g ≡ false → make_all (seen_graph g) given ≡ Ok made
+        → IsDrawing (sources_in (seen_graph g)) (filter_order (seen_graph g)) (counts_of made.heads) (open_pads (seen_graph g))
+        (pads_of (open_outs (seen_graph g) made.heads)) }
+{}
+
+/// Its function is one behind limits: it is cut where a limit of one of its filters cuts what that filter gives.
+pub fn texts_are_limited()
+    ensures { (g : Text) (heads : List StreamHead) (outs : List OpenOut) → IsClear g → loops g ≡ false → configured g (all_given heads) ≡ Ok outs → AreTimed heads
+        → IsLimited (map FramesOf heads) (map (λ o. FramesOf o.head) outs) (graph_means g (all_given heads)) (graph_cuts g (all_given heads)) }
+{}

@@ -1,0 +1,20 @@
+//! A filtergraph as one filter.
+//!
+//! ```text
+//!   text, heads ──► configure_graph (ff_graph): the filters, and what feeds each
+//!                     └──► drawn_plan (ff_wired): the edges between them ──► Dag (ff_dag): one filter
+//! ```
+//!
+//! The filter does what the definition of the graph says, pad by pad; its outputs are broken off by a limit only where a limit of one of
+//! its filters cuts.
+#![tactic(auto)]
+
+mod connecting;
+mod graph;
+mod laws;
+mod lists;
+mod machine;
+
+pub use graph::{GraphFilter, make_graph};
+pub use laws::{configured_heads_are_timed, graphs_are_drawings, texts_are_limited};
+pub use machine::graph_machine;
