@@ -1,6 +1,5 @@
 use Rattle.std.proofs.Common.{map}
 use Rattle.ff_drawn.specs.Links.{pads_in}
-use Rattle.ff_graph.specs.Configured.{outs_at}
 use Rattle.ff_graph.specs.Pads.{output_of}
 use Rattle.ff_graph.proofs.Behind.{more_outs}
 use Rattle.ff_graph.proofs.outputs.add_outs.Goals as goal
