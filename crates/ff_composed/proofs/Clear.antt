@@ -1,14 +1,13 @@
 -- A label that a graph gives stands at one of its input pads at most.
-use Rattle.std.proofs.Common.{◌≡◌, ℕ, zero, suc, ◌+◌, ◌<◌, ◌≤◌, ◌||◌, Bool, true, false, cond, List, [], ◌∷◌, ◌++◌, map, slice_get, Option, None, Some}
-use Rattle.std.proofs.Common.{refl, ap, sym, ◌∙◌, subst, ◌⊎◌, inl, inr, arith}
+use Rattle.std.proofs.Common.{◌≡◌, ℕ, zero, suc, ◌+◌, ◌≤◌, ◌||◌, Bool, true, false, cond, List, [], ◌∷◌, ◌++◌, map, slice_get, Some}
+use Rattle.std.proofs.Common.{refl, ap, sym, ◌∙◌, arith}
 use Rattle.std.proofs.lemmas.Slice.Eq.{bytes_eq-Decides}
-use Rattle.std.specs.List.{list_any, flat_map}
 use Rattle.std.specs.Str.{bytes_eq}
 use Rattle.ff_lang.specs.declared.graph.Filter.{Filter}
 use Rattle.ff_edges.specs.Ports.{tally}
 use Rattle.ff_labels.specs.Labels.{is_one_of, ins_of, outs_of}
 use Rattle.ff_drawn.specs.Links.{Seen}
-use Rattle.ff_composed.proofs.Elements.{some_same, no_some, split, mapped}
+use Rattle.ff_composed.proofs.Elements.{some_same, no_some, mapped}
 use Rattle.ff_composed.proofs.Feeding.{OnceTaken}
 
 -- ---- how many there are

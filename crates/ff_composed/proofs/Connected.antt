@@ -1,11 +1,10 @@
 -- The plan of a drawing, with filters that are ready in its places.
-use Rattle.std.proofs.Common.{◌≡◌, ℕ, zero, suc, ◌<◌, ◌≤◌, List, [], ◌∷◌, length, map, slice_get, slice_index_or, Option, None, Some, Result, Ok, Err, IfOk, refl, ap, sym, ◌∙◌, subst, arith}
+use Rattle.std.proofs.Common.{◌≡◌, ℕ, zero, suc, ◌≤◌, List, [], ◌∷◌, length, map, slice_get, Option, None, Some, Result, Ok, Err, IfOk, refl, ap, sym, ◌∙◌, arith}
 use Rattle.ff_frame.specs.Ports.{nothing}
 use Rattle.ff_net.specs.Nets.{solve_from}
-use Rattle.ff_filter.specs.Joins.{Flow, Ports}
+use Rattle.ff_filter.specs.Joins.{Ports}
 use Rattle.ff_filter.specs.Views.{View}
 use Rattle.ff_drawn.specs.declared.drawn.Pad.{Pad}
-use Rattle.ff_dag.specs.declared.graph.Port.{Port}
 use Rattle.ff_dag.specs.declared.graph.Plan.{Plan}
 use Rattle.ff_dag.specs.Dags.{Spot}
 use Rattle.ff_dag.specs.Graphs.{Sound}

@@ -1,5 +1,5 @@
 -- A graph whose filters were made is a drawing.
-use Rattle.std.proofs.Common.{◌≡◌, ℕ, zero, suc, ◌+◌, ◌<◌, ◌≤◌, Bool, true, false, List, [], ◌∷◌, length, map, slice_get, slice_index_or, Option, None, Some, Result, Ok}
+use Rattle.std.proofs.Common.{◌≡◌, ℕ, zero, suc, ◌<◌, ◌≤◌, Bool, false, List, [], ◌∷◌, length, slice_get, slice_index_or, Option, Some, Ok}
 use Rattle.std.proofs.Common.{refl, ap, sym, ◌∙◌, subst, arith}
 use Rattle.ff_values.specs.declared.head.StreamHead.{StreamHead}
 use Rattle.ff_lang.specs.declared.graph.Graph.{Graph}
@@ -13,7 +13,7 @@ use Rattle.ff_frame.specs.declared.item.Lane.TheVariants.{Frames}
 use Rattle.ff_filters.proofs.PortLanes.{agrees}
 use Rattle.ff_graph.specs.Drawings.{seen_graph}
 use Rattle.ff_graph.specs.Opens.{feeders_in, filter_order, open_pads, sources_in, loops}
-use Rattle.ff_graph.specs.Configured.{Made, OpenOut, make_all, open_outs}
+use Rattle.ff_graph.specs.Configured.{Made, make_all, open_outs}
 use Rattle.ff_graph.proofs.Refusals.{feeders_size, order_there}
 use Rattle.ff_wired.specs.Flows.{IsForward, IsDrawing}
 use Rattle.ff_wired.proofs.Forward.{forward, all_come}
@@ -22,7 +22,7 @@ use Rattle.ff_composed.specs.Clear.{IsClear}
 use Rattle.ff_composed.specs.Ready.{pads_of, counts_of, IsReady, AreReady}
 use Rattle.ff_composed.proofs.Elements.{some_same, no_some, got_below, map_size, map_or}
 use Rattle.ff_composed.proofs.Sourced.{sources_size}
-use Rattle.ff_composed.proofs.Feeding.{OnceTaken, StartsAnew, HaveRoom, fed_once, fed_there, fed_after}
+use Rattle.ff_composed.proofs.Feeding.{HaveRoom, fed_once, fed_there, fed_after}
 use Rattle.ff_composed.proofs.Outs.{outs_there, outs_free, outs_once, outs_all}
 use Rattle.ff_composed.proofs.Seeing.{pads_there, starts_anew, labels_once}
 use Rattle.ff_composed.proofs.Counts.{outputs_there, labels_there}

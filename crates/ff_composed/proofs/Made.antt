@@ -1,6 +1,6 @@
 -- Filters that were made one after another, seen from the end.
-use Rattle.std.proofs.Common.{◌≡◌, ◌≢◌, ℕ, zero, suc, ◌+◌, ◌<◌, Bool, true, false, if◌then◌else◌, List, [], ◌∷◌, ◌++◌, length, replicate, slice_get, slice_index_or}
-use Rattle.std.proofs.Common.{slice_set, Option, None, Some, Result, Ok, Err, refl, ap, sym, ◌∙◌, subst, ◌⊎◌, inl, inr, append_assoc, arith}
+use Rattle.std.proofs.Common.{◌≡◌, ◌≢◌, ℕ, zero, suc, ◌<◌, Bool, true, false, if◌then◌else◌, List, [], ◌∷◌, ◌++◌, length, replicate, slice_get, slice_index_or}
+use Rattle.std.proofs.Common.{slice_set, Option, None, Some, Result, Ok, Err, refl, ap, sym, ◌∙◌, subst, ◌⊎◌, inl, inr, append_assoc}
 use Rattle.std.proofs.lemmas.List.{append-nil, length-replicate}
 use Rattle.ff_values.specs.declared.config.ConfigError.{ConfigError}
 use Rattle.ff_values.specs.declared.config.ConfigError.TheVariants as fault
@@ -11,7 +11,7 @@ use Rattle.ff_drawn.specs.Links.{Seen}
 use Rattle.ff_filters.specs.declared.name.FilterName.{FilterName}
 use Rattle.ff_filters.specs.Names.{filter_named}
 use Rattle.ff_filters.specs.Configured.{Filtered, configured_as}
-use Rattle.ff_graph.specs.Configured.{Made, Refused, place_of, head_at, head_into, heads_into, and_head, is_misfit, is_surplus, made_on, made_as, made_of, with_made, behind}
+use Rattle.ff_graph.specs.Configured.{Made, Refused, place_of, head_at, head_into, heads_into, and_head, is_misfit, is_surplus, made_as, made_of, with_made, behind}
 use Rattle.ff_graph.specs.Configured.{make_from, none_made}
 use Rattle.ff_graph.specs.Opens.{open_pads, sources_in}
 use Rattle.ff_graph.proofs.Refusals.{AreThere}
@@ -223,12 +223,18 @@ none_there zero j = refl
 none_there (suc n) zero = refl
 none_there (suc n) (suc j) = none_there n j
 
+none_size : (ds : List Seen) → length ds ≡ length (none_made ds).heads
+none_size ds = sym (length-replicate (length ds) (let hs : List StreamHead = [] in hs))
+
+none_timed : (ds : List Seen) → AllTimed (none_made ds).heads
+none_timed ds p h e =
+    let no : None ≡ Some h = sym (ap (λ (hs : List StreamHead). slice_get hs p.pad) (none_there (length ds) p.filter)) ∙ e in cc
+
 -- from the first filter on
 pub all_made : (ds : List Seen) (given : List (Option StreamHead)) (ks : List ℕ) (final : Made) → make_from ds given (none_made ds) ks ≡ Ok final
     → NoneTwice ks → AreThere (length ds) ks → AreMade ds given final.heads ks final.views × (length final.heads ≡ length ds)
 all_made ds given ks final e once there =
-    let size : length (none_made ds).heads ≡ length ds = length-replicate (length ds) [] in
     let b : IsBehind ds given (none_made ds) ks final =
-    made_behind ds given (none_made ds) ks final e once (there_still (length ds) (length (none_made ds).heads) ks (sym size) there) (λ i j s. none_there (length ds) j)
-    (λ g p h n. let no : None ≡ Some h = sym (ap (λ (hs : List StreamHead). slice_get hs p.pad) (none_there (length ds) p.filter)) ∙ n in cc) in
-    (subst (λ (vs : List View). AreMade ds given final.heads ks vs) (sym b.all) b.each, b.size ∙ size)
+    made_behind ds given (none_made ds) ks final e once (there_still (length ds) (length (none_made ds).heads) ks (none_size ds) there)
+    (λ i j s. none_there (length ds) j) (λ g. none_timed ds) in
+    (subst (λ (vs : List View). AreMade ds given final.heads ks vs) (sym b.all) b.each, b.size ∙ sym (none_size ds))

@@ -1,11 +1,11 @@
 -- Where an input pad of a text is fed, and by what.
-use Rattle.std.proofs.Common.{◌≡◌, ◌≢◌, ℕ, zero, suc, ◌+◌, ◌-◌, ◌<◌, ◌≤◌, Bool, true, false, cond, nat_lt, List, [], ◌∷◌, length, slice_get, slice_index_or}
+use Rattle.std.proofs.Common.{◌≡◌, ℕ, zero, suc, ◌+◌, ◌-◌, ◌<◌, Bool, true, false, cond, nat_lt, List, [], ◌∷◌, length, slice_get, slice_index_or}
 use Rattle.std.proofs.Common.{Option, None, Some, refl, ap, sym, ◌∙◌, subst, ◌⊎◌, inl, inr, arith}
 use Rattle.std.proofs.lemmas.Bool.Decides.{nat_tests}
 use Rattle.std.proofs.lemmas.Slice.Eq.{bytes_eq-Decides}
 use Rattle.std.specs.Str.{bytes_eq}
 use Rattle.ff_drawn.specs.declared.drawn.Pad.{Pad}
-use Rattle.ff_drawn.specs.Links.{Seen, place_from, pad_or, giver_from, next_pad, chained, source_by, source_of, sources_up, sources_of, sources_from}
+use Rattle.ff_drawn.specs.Links.{Seen, place_from, pad_or, giver_from, next_pad, source_by, source_of, sources_up, sources_of, sources_from}
 use Rattle.ff_graph.specs.Opens.{sources_in}
 use Rattle.ff_wired.specs.Flows.{source_at}
 use Rattle.ff_composed.proofs.Elements.{some_same, no_some, or_got, or_none, cond_some, there_or_not}

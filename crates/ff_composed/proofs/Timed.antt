@@ -1,5 +1,5 @@
 -- Where the heads of what comes to a filter have time bases, so have those of what it gives.
-use Rattle.std.proofs.Common.{◌≡◌, ℕ, zero, suc, ◌+◌, ◌==◌, nat_le, Bool, true, false, ◌||◌, is_some, Option, None, Some, Result, Ok, Err, List, [], ◌∷◌, length, map, refl, ap, sym, ◌∙◌, subst, arith, lit<}
+use Rattle.std.proofs.Common.{◌≡◌, ℕ, zero, suc, ◌+◌, ◌==◌, nat_le, Bool, false, ◌||◌, is_some, Option, None, Some, Result, Ok, Err, List, [], ◌∷◌, length, map, refl, sym, subst, lit<}
 use Rattle.std.specs.Prelude.{replicate}
 use Rattle.std.specs.Option.{option_map}
 use Rattle.ff_time.specs.Fraction.{Fraction, IsBase, IsBase-unit}
@@ -9,7 +9,7 @@ use Rattle.ff_values.specs.declared.head.StreamHead.{StreamHead}
 use Rattle.ff_values.specs.declared.head.StreamHead.TheVariants.{Audio, Video}
 use Rattle.ff_values.specs.Heads.{base_of_head}
 use Rattle.ff_frame.specs.declared.item.Lane.{Lane}
-use Rattle.ff_frame.specs.declared.item.Lane.TheVariants.{Frames, Packets}
+use Rattle.ff_frame.specs.declared.item.Lane.TheVariants.{Frames}
 use Rattle.ff_lang.specs.declared.graph.Arg.{Arg}
 use Rattle.ff_filter.specs.Options.{option_of, only_head, is_sound, is_video}
 use Rattle.ff_filter.specs.Plain.{pass_view, rebase_view}
@@ -41,7 +41,7 @@ use Rattle.ff_filters.specs.Heads.{each_is}
 use Rattle.ff_filters.specs.Texts.{on_some, base_of, rate_base}
 use Rattle.ff_filters.specs.ReadBy.{given_by, taken_by, and_then, read_by}
 use Rattle.ff_filters.specs.SetBy.{set_fps, set_stack, set_join}
-use Rattle.ff_filters.specs.Configured.{Filtered, filtered, configured_as, checked, plain_by, pass_by, rebase_by, trim_by, atrim_by, crop_by, pad_by, paced_as, fps_by}
+use Rattle.ff_filters.specs.Configured.{Filtered, filtered, configured_as, plain_by, pass_by, rebase_by, trim_by, atrim_by, crop_by, pad_by, paced_as, fps_by}
 use Rattle.ff_filters.specs.Configured.{split_by, stacked_as, stack_by, segments_as, concat_by, joined_as, join_by}
 use Rattle.ff_filters.proofs.LowestTerms.{base_out}
 use Rattle.ff_filters.proofs.Parting.{if_ok, then_ok, unless_ok}

@@ -1,5 +1,5 @@
 -- What a graph is whose filters were made.
-use Rattle.std.proofs.Common.{◌≡◌, ℕ, Bool, false, List, [], ◌∷◌, length, map, Option, None, Some, Result, Ok, Err, refl, ap, sym, ◌∙◌, subst}
+use Rattle.std.proofs.Common.{◌≡◌, ℕ, Bool, false, List, map, Option, Result, Ok, Err, refl, ap, sym, ◌∙◌, subst}
 use Rattle.ff_values.specs.declared.head.StreamHead.{StreamHead}
 use Rattle.ff_frame.specs.declared.item.Lane.{Lane}
 use Rattle.ff_frame.specs.declared.item.Lane.TheVariants.{Frames}
@@ -10,7 +10,7 @@ use Rattle.ff_filter.specs.Views.{View}
 use Rattle.ff_net_filter.specs.Limiting.{IsLimited, limit_cause}
 use Rattle.ff_net_filter.specs.Tasks.{Stands, filter_task}
 use Rattle.ff_drawn.specs.declared.drawn.Pad.{Pad}
-use Rattle.ff_drawn.specs.Links.{Seen, opens_from}
+use Rattle.ff_drawn.specs.Links.{opens_from}
 use Rattle.ff_limited.specs.Cuts.{AreTimed}
 use Rattle.ff_graph.specs.Drawings.{seen_graph}
 use Rattle.ff_graph.specs.Opens.{filter_order, open_pads, sources_in, loops}
@@ -19,9 +19,9 @@ use Rattle.ff_graph.specs.Meaning.{graph_means, means_as}
 use Rattle.ff_wired.specs.Flows.{no_flows, flows_from, IsDrawing}
 use Rattle.ff_wired.specs.Limits.{flows_at}
 use Rattle.ff_composed.specs.Clear.{IsClear}
-use Rattle.ff_composed.specs.Cuts.{cuts_as, graph_cuts, outs_or_none, all_given, graph_outs, graph_task}
+use Rattle.ff_composed.specs.Cuts.{cuts_as, graph_cuts, outs_or_none, all_given, graph_outs}
 use Rattle.ff_composed.specs.Ready.{pads_of, counts_of, AreReady}
-use Rattle.ff_composed.proofs.Drawing.{IsWhole, whole, are_ready}
+use Rattle.ff_composed.proofs.Drawing.{whole, are_ready}
 use Rattle.ff_composed.proofs.Limiting.{whole_limited}
 use Rattle.ff_composed.proofs.Meaning.{means_is}
 

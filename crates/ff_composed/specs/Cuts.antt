@@ -1,5 +1,5 @@
 -- Where the limits of a graph cut, and what the graph is to do as a node of a network.
-use Rattle.std.specs.Prelude.{ℕ, Bool, false, List, [], length, map, Option, Some, Result, Ok, Err}
+use Rattle.std.specs.Prelude.{Bool, false, List, [], length, map, Option, Some, Result, Ok, Err}
 use Rattle.ff_values.specs.declared.head.StreamHead.{StreamHead}
 use Rattle.ff_frame.specs.Ports.{stream_at}
 use Rattle.ff_lang.specs.declared.graph.Graph.{Graph}

@@ -28,6 +28,8 @@ pub fn graph_machine(
     ensures outs { IfOk result (λ m. (⟦<Alone<GraphFilter> as Machine>⟧.view m).out_lanes ≡ map (λ o. FramesOf o.head) (graph_outs graph.now heads.now)) }
     ensures source { IfOk result (λ m. (⟦<Alone<GraphFilter> as Machine>⟧.view m).source ≡ None) }
     ensures sound { IfOk result (λ m. (⟦<Alone<GraphFilter> as Machine>⟧.view m).fault ≡ None) }
+    ensures device { IfOk result (λ m. (⟦<Alone<GraphFilter> as Machine>⟧.view m).device ≡ None) }
+    ensures failures { IfOk result (λ m. (⟦<Alone<GraphFilter> as Machine>⟧.view m).failures ≡ 0) }
     ensures stands { IfOk result (λ m. AreTimed heads.now → (⟦<Alone<GraphFilter> as Machine>⟧.view m).stands (start (graph_task graph.now heads.now))) }
 {
     let filter = make_graph(alloc, graph, heads)?;
