@@ -2,6 +2,7 @@ pub mod Clear
 pub mod Connected
 pub mod Counts
 pub mod Drawing
+pub mod Fed
 pub mod Feeding
 pub mod Fitting
 pub mod Limiting

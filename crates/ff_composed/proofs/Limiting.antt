@@ -20,6 +20,7 @@ use Rattle.ff_wired.specs.Limits.{Takes, Suits, AreLimited, Leave}
 use Rattle.ff_wired.proofs.LimitedGraphs.{graph_limited}
 use Rattle.ff_composed.specs.Cuts.{cuts_as, all_given}
 use Rattle.ff_composed.proofs.Elements.{some_same, no_some}
+use Rattle.ff_composed.proofs.Fed.{pad_of}
 use Rattle.ff_composed.proofs.Outs.{open_out}
 use Rattle.ff_composed.proofs.Made.{IsMade, AreMade, GivenTimed, timed_at}
 use Rattle.ff_composed.proofs.Meaning.{place_is, means_is}
@@ -37,9 +38,6 @@ lane_none (x ∷ hs) zero e = cc
 lane_none (x ∷ hs) (suc i) e = lane_none hs i e
 
 -- ---- the heads of what comes to a filter
-
-abbrev pub pad_of : ℕ → ℕ → Pad
-pad_of k i = record { filter = k; pad = i }
 
 -- one more head in front
 pub record IsAnd (o : Option StreamHead) (os : Option (List StreamHead)) (ins : List StreamHead) : Type 0 where

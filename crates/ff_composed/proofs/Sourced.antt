@@ -46,10 +46,6 @@ up all k d i (suc n) zero m s z e =
     (omega arith, sym (some_same (source_of all k d i) s e) ∙ ap (λ (x : ℕ). source_of all k d x) here)
 up all k d i (suc n) (suc j) m s z e = let h = up all k d (suc i) n j m s (omega arith) e in let lt = h.0 in (omega (arith, lt), h.1)
 
-pub ups_size : (all : List Seen) (k : ℕ) (d : Seen) (i n : ℕ) → length (sources_up all k d i n) ≡ n
-ups_size all k d i zero = refl
-ups_size all k d i (suc n) = ap (λ (m : ℕ). suc m) (ups_size all k d (suc i) n)
-
 pub record Sourced (ds : List Seen) (f i : ℕ) (s : Option Pad) : Type 0 where
   pub filter : Seen
   pub there : slice_get ds f ≡ Some filter
