@@ -15,7 +15,7 @@ use Rattle.ff_plan.specs.Nodes.{way_to}
 use Rattle.ff_plan.specs.Numbers.{HasFewStreams}
 use Rattle.ff_sched.specs.declared.routes.Way.{Way}
 use Rattle.ff_sched.specs.Routes.{AreRoutes}
-use Rattle.ff_plan.specs.Plain.{plain, plain_plan, IsWithinLimits}
+use Rattle.ff_plan.specs.Plain.{plain, plain_plan, IsNarrow}
 use Rattle.ff_plan.specs.Planned.{outputs_from}
 use Rattle.ff_plan.specs.Streams.{Passed}
 use Rattle.ff_plan.specs.Today.{no_filters, planned_today, unbuilt}
@@ -61,7 +61,7 @@ module _ (job : Job) (heads : List (List StreamHead)) (built : unbuilt job ≡ N
       subst (λ (q : Plan). FitNodes heads job.outputs q) (sym is_made.is) (λ k d lt.
       from_at (FitsNode heads job.outputs q.edges) 0 q.nodes (all_fit heads job.outputs is_made.streams is_made.are singles) k k d (omega arith) lt)
 
-  pub kinds_by : IsWithinLimits job heads → HasKinds (length heads) (length job.outputs) p.nodes
+  pub kinds_by : IsNarrow job heads → HasKinds (length heads) (length job.outputs) p.nodes
   kinds_by limits =
       let ps = place_from 0 0 is_made.streams in
       let n = length is_made.streams in
@@ -73,7 +73,7 @@ module _ (job : Job) (heads : List (List StreamHead)) (built : unbuilt job ≡ N
   pub sources_by : p.routes.sources ≡ length heads
   sources_by = ap (λ (q : Plan). q.routes.sources) is_made.is
 
-  pub routes_by : IsWithinLimits job heads → AreRoutes p.routes
+  pub routes_by : IsNarrow job heads → AreRoutes p.routes
   routes_by limits =
       let ps = place_from 0 0 is_made.streams in
       subst (λ (q : Plan). AreRoutes q.routes) (sym is_made.is) (record {

@@ -64,7 +64,14 @@ IsShortIfSome (Some g) = IsShort g
 abbrev pub HasShortGraphs : OutputJob → Type 0
 HasShortGraphs out = IsShortIfSome out.vf × IsShortIfSome out.af
 
--- the limits of jobs and heads: inputs, their streams, outputs, the maps of each, graphs, the filters of each
+-- the limits of inputs, their streams, outputs and the maps of each
+pub record IsNarrow (job : Job) (heads : List (List StreamHead)) : Type 0 where
+  pub inputs : length heads ≤ 16
+  pub streams : AllByRecursion (λ hs. length hs ≤ 16) heads
+  pub outputs : length job.outputs ≤ 16
+  pub maps : AllByRecursion (λ out. length out.maps ≤ 16) job.outputs
+
+-- and those of graphs, and of the filters of each
 pub record IsWithinLimits (job : Job) (heads : List (List StreamHead)) : Type 0 where
   pub inputs : length heads ≤ 16
   pub streams : AllByRecursion (λ hs. length hs ≤ 16) heads

@@ -4,7 +4,7 @@ ghost use Rattle.ff_map.specs.Choice.{lists};
 ghost use Rattle.ff_plan.specs.Fitting.{HasSingles, HasKinds, FitNodes};
 ghost use Rattle.ff_plan.specs.Laws.{GoUpward};
 ghost use Rattle.ff_plan.specs.Numbers.{HasFewStreams};
-ghost use Rattle.ff_plan.specs.Plain.{IsRefused, IsWithinLimits};
+ghost use Rattle.ff_plan.specs.Plain.{IsNarrow, IsRefused, IsWithinLimits};
 ghost use Rattle.ff_plan.specs.Planned.{planned};
 ghost use Rattle.ff_edges.specs.Ports.{shape_of, IsFed, HasIns, HasOuts};
 ghost use Rattle.ff_sched.specs.Routes.{AreRoutes};
@@ -87,6 +87,7 @@ fn have_few_maps(outs: &[OutputJob]) -> bool
 /// streams, at most 16 outputs of at most 16 maps, and at most 16 graphs, each of at most 65,536 filters, as are those of outputs.
 pub fn is_within_limits(job: &Job, heads: &[Vec<StreamHead>]) -> bool
     ensures yes { result ≡ true → IsWithinLimits job.now (lists heads.now) }
+    ensures narrow { result ≡ true → IsNarrow job.now (lists heads.now) }
     ensures no { result ≡ false → IsWithinLimits job.now (lists heads.now) → ⊥ }
 {
     let outs = job.outputs.as_slice();
@@ -99,7 +100,7 @@ pub fn is_within_limits(job: &Job, heads: &[Vec<StreamHead>]) -> bool
 /// each output in turn its maps, its lack of streams and what its format takes, then of too many streams. `NoMemory` may come
 /// in place of any answer.
 pub fn plan(alloc: Global, job: &Job, heads: &[Vec<StreamHead>]) -> Result<Plan, PlanError>
-    requires limits { IsWithinLimits job.now (lists heads.now) }
+    requires limits { IsNarrow job.now (lists heads.now) }
     ensures made { IfOk result (λ p. planned_today job.now (lists heads.now) ≡ Ok p) }
     ensures refused { IfErr result (IsRefused (planned_today job.now (lists heads.now))) }
     ensures upward { IfOk result (λ p. GoUpward (length p.nodes) p.edges) }

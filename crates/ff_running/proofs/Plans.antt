@@ -12,7 +12,7 @@ use Rattle.ff_plan.specs.declared.planned.PlanError.{PlanError}
 use Rattle.ff_plan.specs.declared.planned.PlanError.TheVariants.{NoMemory}
 use Rattle.ff_plan.specs.Fitting.{HasKinds, HasSingles, FitNodes}
 use Rattle.ff_plan.specs.Numbers.{HasFewStreams}
-use Rattle.ff_plan.specs.Plain.{IsRefused, IsWithinLimits}
+use Rattle.ff_plan.specs.Plain.{IsNarrow, IsRefused}
 use Rattle.ff_plan.specs.Streams.{most_streams, packed_as, takes_head}
 use Rattle.ff_plan.specs.Today.{planned_today}
 use Rattle.ff_sched.specs.Routes.{AreRoutes}
@@ -36,8 +36,8 @@ module _ {H : Type 0} (is : KindsOf H) (job : Job) (heads : List H) (accepted : 
   many : length streams ≡ length heads
   many = length-map heads (λ h. is.stream h ∷ [])
 
-  pub limits : (lists : List (List StreamHead)) → lists ≡ streams → IsWithinLimits job lists
-  limits lists e = subst (IsWithinLimits job) (sym e) (record {
+  pub limits : (lists : List (List StreamHead)) → lists ≡ streams → IsNarrow job lists
+  limits lists e = subst (IsNarrow job) (sym e) (record {
     inputs = (let few = accepted.few_inputs in let count = accepted.count in let n = many in omega (arith, few, count, n));
     streams = narrow heads;
     outputs = accepted.few_outputs;
