@@ -1,0 +1,4 @@
+pub mod CutLaws
+pub mod Cuts
+pub mod CuttingLaws
+pub mod Taps

@@ -1,0 +1,165 @@
+ghost use Rattle.std.specs.Prelude.{◌≡◌, Ok, OnErr, None, Some, is_some, false, true};
+ghost use Rattle.ff_filter.specs.Views.{closes};
+ghost use Rattle.ff_frame.specs.declared.item.Item.{Item as AnItem};
+ghost use Rattle.ff_filter.specs.Joins.{Flow};
+ghost use Rattle.ff_filter.specs.Made.{is_over as is_over_by};
+ghost use Rattle.ff_filter.specs.Chains.{held_closes};
+
+use crate::cut::Cut;
+use ff_filter::{After, Given, Step, closing_of, discard};
+use ff_frame::{Item, StreamHead};
+use ff_time::TimeCut;
+use std::alloc::AllocError;
+
+/// What one step towards an output came to.
+#[derive(Drop)]
+pub enum Turn {
+    /// An item is due.
+    Gave(Item),
+    /// Nothing is due.
+    Waits,
+    /// It goes on.
+    On,
+}
+
+/// One output of a filter, with a cut behind it.
+#[derive(Drop)]
+pub struct Tap {
+    /// The cut.
+    pub cut: Cut,
+    /// An item that waits before the cut, since there was no memory for it.
+    pub held: Option<Item>,
+    /// How the output stands behind what was given.
+    pub after: After,
+    /// Whether the closing item was given.
+    pub ended: bool,
+    /// Whether the output isn't wanted any more.
+    pub stopped: bool,
+    pub ghost held_open: { held_closes held ≡ false },
+}
+
+impl Tap {
+    ghost use Rattle.ff_cutting.specs.Cuts.{cut as cut_of, starts_over};
+    ghost use Rattle.ff_cutting.specs.Taps.{way_of, IsNewWay, IsPut, IsKept, IsResumed, IsKeptStill, IsShut, IsLeft};
+
+    // With a length of 0 the output ends before anything comes.
+    fn at_once(length: Option<u64>) -> After
+        ensures { result ≡ starts_over length }
+    {
+        match length {
+            Some(0) => After::Whole,
+            Some(_) => After::More,
+            None => After::More,
+        }
+    }
+
+    /// An output of this head, to which nothing came.
+    pub fn new(head: &StreamHead, cut: TimeCut) -> Tap
+        ensures { IsNewWay head.now cut (way_of result) }
+    {
+        Tap {
+            cut: Cut::of(head, cut),
+            held: None,
+            after: Tap::at_once(cut.length),
+            ended: false,
+            stopped: false,
+        }
+    }
+
+    /// Whether it stands closed behind what was given.
+    pub fn is_over(&self) -> bool
+        ensures { result ≡ is_over_by self.now.after }
+    {
+        self.after != After::More
+    }
+
+    /// Whether an item waits before the cut.
+    pub fn holds(&self) -> bool
+        ensures { result ≡ is_some self.now.held }
+    {
+        self.held.is_some()
+    }
+
+    // Takes an item that closes nothing to the cut.
+    fn step_on(&mut self, item: Item) -> Result<Turn, AllocError>
+        requires going { self.old.ended ≡ false }
+        requires more { self.old.after ≡ After.More }
+        requires free { self.old.held ≡ None }
+        requires goes_on { closes item ≡ false }
+        ensures on { result ≡ Ok Turn.On → IsPut (way_of self.old) (way_of self.new) item None }
+        ensures gave { (y : AnItem) → result ≡ Ok (Turn.Gave y) → IsPut (way_of self.old) (way_of self.new) item (Some y) }
+        ensures due { result ≡ Ok Turn.Waits → ⊥ }
+        ensures kept { OnErr result (IsKept (way_of self.old) (way_of self.new) item) }
+    {
+        match self.cut.step(item) {
+            Ok(Given { item, after }) => {
+                self.after = after;
+                match item {
+                    Some(made) => Ok(Turn::Gave(made)),
+                    None => Ok(Turn::On),
+                }
+            }
+            Err(refused) => {
+                self.held = Some(refused.item);
+                Err(AllocError)
+            }
+        }
+    }
+
+    /// Takes an item to the cut. One for which there is no memory waits before it.
+    pub fn put(&mut self, item: Item) -> Result<Turn, AllocError>
+        requires going { self.old.ended ≡ false }
+        requires more { self.old.after ≡ After.More }
+        requires free { self.old.held ≡ None }
+        ensures on { result ≡ Ok Turn.On → IsPut (way_of self.old) (way_of self.new) item None }
+        ensures gave { (y : AnItem) → result ≡ Ok (Turn.Gave y) → IsPut (way_of self.old) (way_of self.new) item (Some y) }
+        ensures due { result ≡ Ok Turn.Waits → ⊥ }
+        ensures kept { OnErr result (IsKept (way_of self.old) (way_of self.new) item) }
+    {
+        match closing_of(&item) {
+            Some(after) => {
+                discard(item);
+                self.after = after;
+                Ok(Turn::On)
+            }
+            None => self.step_on(item),
+        }
+    }
+
+    /// Takes the item that waits to the cut once more.
+    pub fn resume(&mut self) -> Result<Turn, AllocError>
+        requires going { self.old.ended ≡ false }
+        requires more { self.old.after ≡ After.More }
+        requires held { is_some self.old.held ≡ true }
+        ensures on { result ≡ Ok Turn.On → IsResumed (way_of self.old) (way_of self.new) None }
+        ensures gave { (y : AnItem) → result ≡ Ok (Turn.Gave y) → IsResumed (way_of self.old) (way_of self.new) (Some y) }
+        ensures due { result ≡ Ok Turn.Waits → ⊥ }
+        ensures kept { OnErr result (IsKeptStill (way_of self.old) (way_of self.new)) }
+    {
+        match self.held.take() {
+            Some(item) => self.step_on(item),
+            None => unreachable!(),
+        }
+    }
+
+    /// Gives the closing item.
+    pub fn close(&mut self) -> Item
+        requires going { self.old.ended ≡ false }
+        requires over { is_over_by self.old.after ≡ true }
+        ensures { IsShut (way_of self.old) (way_of self.new) result }
+    {
+        self.ended = true;
+        match self.after {
+            After::More => unreachable!(),
+            After::Whole => Item::End,
+            After::Broke => Item::Broken,
+        }
+    }
+
+    /// The output isn't wanted any more.
+    pub fn stop(&mut self)
+        ensures { IsLeft (way_of self.old) (way_of self.new) }
+    {
+        self.stopped = true;
+    }
+}
