@@ -12,8 +12,12 @@
 
 mod cut;
 mod cutting;
+mod laws;
 mod tap;
 
 pub use cut::Cut;
 pub use cutting::Cutting;
+pub use laws::{
+    cuts_keep_limits, streams_further_on_are_cut_further_on, valid_streams_are_cut_to_valid_ones,
+};
 pub use tap::Tap;

@@ -1,0 +1,31 @@
+//! Laws of cuts: functions that do nothing, whose clauses hold of all values.
+ghost use Rattle.std.specs.Prelude.{◌≡◌, Bool, List, length, map};
+ghost use Rattle.ff_time.specs.declared.cut.TimeCut.{TimeCut};
+ghost use Rattle.ff_values.specs.declared.head.StreamHead.{StreamHead};
+ghost use Rattle.ff_frame.specs.declared.item.Lane.{Lane};
+ghost use Rattle.ff_frame.specs.declared.item.Lane.TheVariants.{Frames};
+ghost use Rattle.ff_frame.specs.Stream.{LiesBelow, opened};
+ghost use Rattle.ff_frame.specs.Ports.{IsClosed};
+ghost use Rattle.ff_filter.specs.Joins.{Flow, Ports};
+ghost use Rattle.ff_net_filter.specs.Limiting.{IsLimited};
+ghost use Rattle.ff_spread.specs.Valid.{GivesValid};
+ghost use Rattle.ff_cutting.specs.Cuts.{cut, cut_each};
+
+/// A stream further on is cut further on, whoever isn't told of a break gets no less, and where a stream closes so does its cut.
+pub fn streams_further_on_are_cut_further_on()
+    ensures below { (head : StreamHead) (c : TimeCut) (r s : Flow) → LiesBelow r s → LiesBelow (cut head c r) (cut head c s) }
+    ensures calm { (head : StreamHead) (c : TimeCut) (r : Flow) → LiesBelow (opened (cut head c r)) (cut head c (opened r)) }
+    ensures settles { (head : StreamHead) (c : TimeCut) (r : Flow) → IsClosed r → IsClosed (cut head c r) }
+{}
+
+/// A valid stream is cut to a valid one, which no limit shortens; an unbroken one doesn't break.
+pub fn valid_streams_are_cut_to_valid_ones()
+    ensures { (head : StreamHead) (c : TimeCut) → GivesValid (Frames head) (Frames head) (λ s. cut head c s) }
+{}
+
+/// A function behind limits with a cut behind each output is one behind the same limits: where an output breaks, so does the
+/// function's, before the end of the cut.
+pub fn cuts_keep_limits()
+    ensures { (ins : List Lane) (heads : List StreamHead) (cs : List TimeCut) (f : Ports → Ports) (cuts : List Flow → Bool)
+        → length cs ≡ length heads → IsLimited ins (map Frames heads) f cuts → IsLimited ins (map Frames heads) (cut_each heads cs f) cuts }
+{}
