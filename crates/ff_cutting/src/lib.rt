@@ -12,11 +12,13 @@
 
 mod cut;
 mod cutting;
+mod examples;
 mod laws;
 mod tap;
 
 pub use cut::Cut;
 pub use cutting::Cutting;
+pub use examples::cuts_of_some_streams;
 pub use laws::{
     cuts_keep_limits, streams_further_on_are_cut_further_on, valid_streams_are_cut_to_valid_ones,
 };
