@@ -1,6 +1,7 @@
 pub mod EarlierShape
 pub mod Limiting
 pub mod Moving
+pub mod Ruled
 pub mod Shifting
 pub mod Tapping
 pub mod Ticking

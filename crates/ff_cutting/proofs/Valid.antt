@@ -1,5 +1,5 @@
 -- Cuts of valid streams are valid.
-use Rattle.std.proofs.Common.{◌≡◌, ◌≢◌, ℕ, zero, suc, ◌+◌, ◌-◌, ◌*◌, ◌/◌, ◌<◌, ◌≤◌, ◌^◌, ◌⊎◌, inl, inr, ℤ, pos, negsuc, ◌+ℤ◌, ◌≤ℤ◌, min, Bool, true, false, cond, Option, Some, None, List, [], ◌∷◌, ◌++◌, map, drop, take, length, get_or, All, refl, ap, sym, ◌∙◌, subst, arith}
+use Rattle.std.proofs.Common.{◌≡◌, ◌≢◌, ℕ, zero, suc, ◌+◌, ◌-◌, ◌*◌, ◌/◌, ◌<◌, ◌≤◌, ◌⊎◌, inl, inr, ℤ, pos, negsuc, ◌+ℤ◌, ◌≤ℤ◌, Bool, true, false, cond, Option, Some, None, List, [], ◌∷◌, ◌++◌, map, drop, length, All, refl, sym, subst, arith}
 use Rattle.std.specs.Prelude.{nat_lt, nat_le}
 use Rattle.std.proofs.lemmas.Bool.Decides.{nat_tests}
 use Rattle.std.proofs.lemmas.List.{length-take, length-map, length-append}
@@ -19,7 +19,7 @@ use Rattle.ff_frame.specs.declared.item.Lane.TheVariants.{Frames}
 use Rattle.ff_frame.specs.Stream.{Mark, whole, broken, whole_stream}
 use Rattle.ff_frame.specs.Ports.{IsUnbroken}
 use Rattle.ff_frame.specs.Times.{start_of, end_of, ticks}
-use Rattle.ff_frame.specs.Lanes.{base_of, IsItemFor, AreInShape, EndsInTime, IsValid}
+use Rattle.ff_frame.specs.Lanes.{base_of, IsItemFor, EndsInTime, IsValid}
 use Rattle.ff_filter.specs.declared.range.Range.{Range}
 use Rattle.ff_filter.specs.Joins.{Flow}
 use Rattle.ff_filter.specs.Ranges.{is_past}
@@ -29,15 +29,15 @@ use Rattle.ff_vfilter.proofs.TrimSound.{trim_sound}
 use Rattle.ff_afilter.specs.Trims.{count_of, before_stop as samples_before, part, kept as kept_of, kept_all, ends_past, reaches as sound_reaches, sound_trimmed}
 use Rattle.ff_afilter.proofs.TrimSound.{sound_trim_sound}
 use Rattle.ff_spread.specs.Valid.{GivesValid}
-use Rattle.ff_cutting.specs.Cuts.{is_uncut, is_empty, range_in, from_range, kept, cut}
+use Rattle.ff_cutting.specs.Cuts.{is_uncut, is_empty, range_in, from_range, cut}
 use Rattle.ff_cutting.proofs.EarlierShape.{StartsFrom, shape_earlier}
 
 -- each of these items is so
-abbrev Each : (Item → Type 0) → List Item → Type 0
+abbrev pub Each : (Item → Type 0) → List Item → Type 0
 Each P [] = Unit {0}
 Each P (x ∷ xs) = P x × Each P xs
 
-each_of : (P : Item → Type 0) (xs : List Item) → All P xs → Each P xs
+pub each_of : (P : Item → Type 0) (xs : List Item) → All P xs → Each P xs
 each_of P [] a = tt
 each_of P (x ∷ xs) a = (a zero x (omega arith), each_of P xs (λ k d lt. a (suc k) d (omega (arith, lt))))
 
@@ -187,7 +187,7 @@ ticks_is : (z : ℤ) → pos 0 ≤ℤ z → pos (ticks z) ≡ z
 ticks_is (pos p) n = refl
 ticks_is (negsuc p) n = grind (arith)
 
-below_by : (a b : ℕ) → nat_lt a b ≡ true → a < b
+pub below_by : (a b : ℕ) → nat_lt a b ≡ true → a < b
 below_by a b e = grind (arith, nat_tests)
 
 -- what is kept of a frame ends no later, and starts no earlier than the range

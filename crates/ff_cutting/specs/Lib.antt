@@ -1,4 +1,5 @@
 pub mod CutLaws
 pub mod Cuts
 pub mod CuttingLaws
+pub mod Rules
 pub mod Taps

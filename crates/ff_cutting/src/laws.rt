@@ -1,5 +1,8 @@
 //! Laws of cuts: functions that do nothing, whose clauses hold of all values.
-ghost use Rattle.std.specs.Prelude.{◌≡◌, Bool, List, length, map};
+ghost use Rattle.std.specs.Prelude.{◌≡◌, Bool, false, List, length, map};
+ghost use Rattle.ff_time.specs.Fraction.{IsBase};
+ghost use Rattle.ff_values.specs.Heads.{base_of_head};
+ghost use Rattle.ff_frame.specs.Lanes.{IsValid};
 ghost use Rattle.ff_time.specs.declared.cut.TimeCut.{TimeCut};
 ghost use Rattle.ff_values.specs.declared.head.StreamHead.{StreamHead};
 ghost use Rattle.ff_frame.specs.declared.item.Lane.{Lane};
@@ -9,7 +12,8 @@ ghost use Rattle.ff_frame.specs.Ports.{IsClosed};
 ghost use Rattle.ff_filter.specs.Joins.{Flow, Ports};
 ghost use Rattle.ff_net_filter.specs.Limiting.{IsLimited};
 ghost use Rattle.ff_spread.specs.Valid.{GivesValid};
-ghost use Rattle.ff_cutting.specs.Cuts.{cut, cut_each};
+ghost use Rattle.ff_cutting.specs.Cuts.{cut, cut_each, is_uncut, is_empty};
+ghost use Rattle.ff_cutting.specs.Rules.{by_rule};
 
 /// A stream further on is cut further on, whoever isn't told of a break gets no less, and where a stream closes so does its cut.
 pub fn streams_further_on_are_cut_further_on()
@@ -28,4 +32,11 @@ pub fn valid_streams_are_cut_to_valid_ones()
 pub fn cuts_keep_limits()
     ensures { (ins : List Lane) (heads : List StreamHead) (cs : List TimeCut) (f : Ports → Ports) (cuts : List Flow → Bool)
         → length cs ≡ length heads → IsLimited ins (map Frames heads) f cuts → IsLimited ins (map Frames heads) (cut_each heads cs f) cuts }
+{}
+
+/// Of a valid stream a cut that cuts something, and whose length isn't 0, is what its rule says step by step: what lies from the
+/// start on is kept, the start is taken from all times, and then what lies below the length is kept, as a trim does it.
+pub fn cuts_are_as_their_rule_says()
+    ensures { (head : StreamHead) (c : TimeCut) (s : Flow) → IsBase (base_of_head head) → is_uncut c ≡ false → is_empty c.length ≡ false
+        → IsValid (Frames head) s → cut head c s ≡ by_rule head c s }
 {}

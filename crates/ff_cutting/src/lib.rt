@@ -20,6 +20,7 @@ pub use cut::Cut;
 pub use cutting::Cutting;
 pub use examples::cuts_of_some_streams;
 pub use laws::{
-    cuts_keep_limits, streams_further_on_are_cut_further_on, valid_streams_are_cut_to_valid_ones,
+    cuts_are_as_their_rule_says, cuts_keep_limits, streams_further_on_are_cut_further_on,
+    valid_streams_are_cut_to_valid_ones,
 };
 pub use tap::Tap;
