@@ -1,10 +1,12 @@
 -- A cut of a valid stream is what its rule says.
-use Rattle.std.proofs.Common.{◌≡◌, ℕ, zero, suc, ◌+◌, ◌-◌, ◌*◌, ◌/◌, ◌<◌, ◌≤◌, ℤ, pos, Bool, true, false, cond, Option, Some, None, option_map, List, [], ◌∷◌, ◌++◌, map, drop, take, length, refl, ap, sym, ◌∙◌, arith}
-use Rattle.std.specs.Prelude.{nat_lt, nat_le}
+use Rattle.std.proofs.Common.{◌≤ℤ◌, negsuc, ◌≡◌, ℕ, zero, suc, ◌+◌, ◌-◌, ◌*◌, ◌/◌, ◌<◌, ◌≤◌, ℤ, pos, Bool, true, false, cond, Option, Some, None, option_map, List, [], ◌∷◌, ◌++◌, map, drop, take, length, refl, ap, sym, ◌∙◌, arith}
+use Rattle.std.specs.Prelude.{nat_lt, nat_le, ◌==◌, not, ◌&&◌, is_some}
 use Rattle.std.proofs.lemmas.Bool.Decides.{nat_tests}
 use Rattle.std.proofs.lemmas.List.{length-take-le, length-drop, map-append}
 use Rattle.std.proofs.lemmas.Nat.{div-mul-add}
-use Rattle.std.proofs.Math.Nat.{add-mul, mul-le-mul_right, div-mul-le_self}
+use Rattle.std.proofs.lemmas.Bool.{and_parts}
+use Rattle.std.proofs.Math.Seq.{take-length}
+use Rattle.std.proofs.Math.Nat.{suc-mul, add-mul, mul-le-mul_right, div-mul-le_self}
 use Rattle.ff_time.specs.Fraction.{Fraction, IsBase}
 use Rattle.ff_time.specs.declared.cut.TimeCut.{TimeCut}
 use Rattle.ff_time.proofs.Ceiling.{IsCeiling-div_ceil}
@@ -27,7 +29,7 @@ use Rattle.ff_filter.specs.Ranges.{is_past}
 use Rattle.ff_filter.specs.Shifts.{earlier, start_ticks, shifted}
 use Rattle.ff_vfilter.specs.Trims.{trimmed, from_start, before_stop, reaches}
 use Rattle.ff_afilter.specs.Trims.{count_of, before_stop as samples_before, part, kept as kept_of, kept_all, ends_past, reaches as sound_reaches, sound_trimmed}
-use Rattle.ff_cutting.specs.Cuts.{ticks_at, start_in, range_in, from_range, is_uncut, is_empty, cut}
+use Rattle.ff_cutting.specs.Cuts.{ticks_at, in_bits, start_in, range_in, from_range, is_uncut, is_empty, cut}
 use Rattle.ff_cutting.specs.Rules.{from_start_of, to_length_of, by_rule}
 use Rattle.ff_cutting.proofs.Valid.{Each, each_of, below_by}
 
@@ -467,6 +469,165 @@ range_rule (VideoHead tb format width height sar_num sar_den) c s b e v =
     none_reached [] = refl
     none_reached (x ∷ xs) = none_reached xs
 
-pub cut_by_rule : (h : StreamHead) (c : TimeCut) (s : Flow) → IsBase (base_of_head h) → is_uncut c ≡ false → is_empty c.length ≡ false → IsValid (Frames h) s → cut h c s ≡ by_rule h c s
-cut_by_rule h c s b u e v = ap (λ k. cond k (whole_stream []) (cond (is_uncut c) s (from_range h (range_in (base_of_head h) c) s))) e
-    ∙ (ap (λ k. cond k s (from_range h (range_in (base_of_head h) c) s)) u ∙ range_rule h c s b e v)
+-- ---- a range of all times leaves a valid stream as it is
+
+abbrev IsKeptWhole : Item → Type 0
+IsKeptWhole (Audio f) = (pos 0 ≤ℤ f.pts) × (1 ≤ count_of f) × (kept_samples f.channels 0 (count_of f) f.samples ≡ f.samples)
+IsKeptWhole (Video f) = ⊥
+IsKeptWhole (Packet p) = ⊥
+IsKeptWhole (Trailer t) = ⊥
+IsKeptWhole End = ⊥
+IsKeptWhole Broken = ⊥
+
+time_same : (z : ℤ) → pos 0 ≤ℤ z → pos (ticks z + 0 - 0) ≡ z
+time_same (pos n) h = ap pos (let e : n + 0 - 0 ≡ n = omega arith in e)
+time_same (negsuc n) h = grind (arith)
+
+time_kept : (z : ℤ) → pos 0 ≤ℤ z → pos (ticks z - 0) ≡ z
+time_kept (pos n) h = ap pos (let e : n - 0 ≡ n = omega arith in e)
+time_kept (negsuc n) h = grind (arith)
+
+frame_same : (f : AFrame) → IsKeptWhole (Audio f) → map (earlier 0) (part f (0 - ticks f.pts) (count_of f)) ≡ Audio f ∷ []
+frame_same f h =
+    ap (λ k. map (earlier 0) (part f k (count_of f))) none
+    ∙ (ap (λ b. map (earlier 0) (cond b (Audio (record f { pts = pos (ticks f.pts + 0); samples = kept_samples f.channels 0 (count_of f - 0) f.samples }) ∷ []) [])) yes
+    ∙ (ap (λ (z : ℤ). Audio (record f { pts = z; samples = kept_samples f.channels 0 (count_of f - 0) f.samples }) ∷ []) (time_same f.pts h.0)
+    ∙ (ap (λ n. Audio (record f { samples = kept_samples f.channels 0 n f.samples }) ∷ []) less ∙ ap (λ (xs : List ℤ). Audio (record f { samples = xs }) ∷ []) h.2)))
+  where
+    none : 0 - ticks f.pts ≡ 0
+    none = omega arith
+
+    less : count_of f - 0 ≡ count_of f
+    less = omega arith
+
+    yes : nat_lt 0 (count_of f) ≡ true
+    yes = let some = h.1 in grind (arith, nat_tests)
+
+module _ (r : Range) (zero_start : r.start ≡ 0) (no_stop : r.stop ≡ None) where
+  sound_whole : (xs : List Item) → Each IsKeptWhole xs → map (earlier r.start) (kept_all r xs) ≡ xs
+  sound_whole [] h = refl
+  sound_whole (Audio f ∷ xs) h =
+      let here : map (earlier r.start) (kept_of r (Audio f)) ≡ Audio f ∷ [] =
+      ap (λ k. map (earlier k) (part f (k - ticks f.pts) (samples_before r.stop (ticks f.pts) (count_of f)))) zero_start
+      ∙ (ap (λ (o : Option ℕ). map (earlier 0) (part f (0 - ticks f.pts) (samples_before o (ticks f.pts) (count_of f)))) no_stop ∙ frame_same f h.0) in
+      map-append (earlier r.start) (kept_of r (Audio f)) (cond (ends_past r (Audio f)) [] (kept_all r xs))
+      ∙ (ap (λ (ys : List Item). ys ++ map (earlier r.start) (cond (ends_past r (Audio f)) [] (kept_all r xs))) here
+      ∙ (ap (λ (o : Option ℕ). Audio f ∷ map (earlier r.start) (cond (is_past o (ticks f.pts + count_of f)) [] (kept_all r xs))) no_stop
+      ∙ ap (λ (ys : List Item). Audio f ∷ ys) (sound_whole xs h.1)))
+  sound_whole (Video f ∷ xs) h = absurd h.0
+  sound_whole (Packet p ∷ xs) h = absurd h.0
+  sound_whole (Trailer t ∷ xs) h = absurd h.0
+  sound_whole (End ∷ xs) h = absurd h.0
+  sound_whole (Broken ∷ xs) h = absurd h.0
+
+  sound_goes_on : (xs : List Item) → Each IsKeptWhole xs → sound_reaches r xs ≡ false
+  sound_goes_on [] h = refl
+  sound_goes_on (Audio f ∷ xs) h = ap (λ (o : Option ℕ). cond (is_past o (ticks f.pts + count_of f)) true (sound_reaches r xs)) no_stop ∙ sound_goes_on xs h.1
+  sound_goes_on (Video f ∷ xs) h = absurd h.0
+  sound_goes_on (Packet p ∷ xs) h = absurd h.0
+  sound_goes_on (Trailer t ∷ xs) h = absurd h.0
+  sound_goes_on (End ∷ xs) h = absurd h.0
+  sound_goes_on (Broken ∷ xs) h = absurd h.0
+
+abbrev IsTimed : Item → Type 0
+IsTimed (Audio f) = ⊥
+IsTimed (Video f) = pos 0 ≤ℤ f.pts
+IsTimed (Packet p) = ⊥
+IsTimed (Trailer t) = ⊥
+IsTimed End = ⊥
+IsTimed Broken = ⊥
+
+pictures_whole : (xs : List Item) → Each IsTimed xs → map (earlier 0) (from_start 0 (before_stop None xs)) ≡ xs
+pictures_whole [] h = refl
+pictures_whole (Video f ∷ xs) h = ap (λ b. map (earlier 0) (cond b (Video f ∷ from_start 0 (before_stop None xs)) (from_start 0 (before_stop None xs)))) (none_le (ticks f.pts))
+    ∙ (ap (λ (z : ℤ). Video (record f { pts = z }) ∷ map (earlier 0) (from_start 0 (before_stop None xs))) (time_kept f.pts h.0)
+    ∙ ap (λ (ys : List Item). Video f ∷ ys) (pictures_whole xs h.1))
+pictures_whole (Audio f ∷ xs) h = absurd h.0
+pictures_whole (Packet p ∷ xs) h = absurd h.0
+pictures_whole (Trailer t ∷ xs) h = absurd h.0
+pictures_whole (End ∷ xs) h = absurd h.0
+pictures_whole (Broken ∷ xs) h = absurd h.0
+
+pictures_go_on : (xs : List Item) → reaches None xs ≡ false
+pictures_go_on [] = refl
+pictures_go_on (x ∷ xs) = pictures_go_on xs
+
+whole_of : (tb : Fraction) (rate bits channels : ℕ) (codec : Codec) (x : Item) → IsItemFor (Frames (AudioHead tb rate bits channels codec)) x → IsKeptWhole x
+whole_of tb rate bits channels codec (Audio f) i = (i.not_negative, (counted i.fits.audio).0, (counted i.fits.audio).1)
+  where
+    plus_none : (n : ℕ) → n ≡ n + 0
+    plus_none n = omega arith
+
+    counted : IsAudio f.bits f.channels f.samples → (1 ≤ count_of f) × (kept_samples f.channels 0 (count_of f) f.samples ≡ f.samples)
+    counted a =
+        let all : count_of f ≡ a.sample_frames = ap (λ (n : ℕ). n / f.channels) (a.interleaved ∙ plus_none (a.sample_frames * f.channels)) ∙ div-mul-add a.sample_frames f.channels 0
+        (let s = a.some_channels in omega (arith, s)) in
+        let some = a.some_sample_frames in
+        let none : 0 * f.channels ≡ 0 = omega arith in (
+          omega (arith, all, some),
+          ap (λ n. take (count_of f * f.channels) (drop n f.samples)) none
+              ∙ (ap (λ n. take n f.samples) (ap (λ n. n * f.channels) all ∙ sym a.interleaved) ∙ take-length f.samples),
+        )
+whole_of tb rate bits channels codec (Video f) i = i.fits
+whole_of tb rate bits channels codec (Packet p) i = i.fits
+whole_of tb rate bits channels codec (Trailer t) i = i.fits
+whole_of tb rate bits channels codec End i = i.fits
+whole_of tb rate bits channels codec Broken i = i.fits
+
+each_whole : (tb : Fraction) (rate bits channels : ℕ) (codec : Codec) (xs : List Item) → Each (IsItemFor (Frames (AudioHead tb rate bits channels codec))) xs → Each IsKeptWhole xs
+each_whole tb rate bits channels codec [] e = tt
+each_whole tb rate bits channels codec (x ∷ xs) e = (whole_of tb rate bits channels codec x e.0, each_whole tb rate bits channels codec xs e.1)
+
+timed_of : (tb : Fraction) (format : _) (width height sar_num sar_den : ℕ) (x : Item) → IsItemFor (Frames (VideoHead tb format width height sar_num sar_den)) x → IsTimed x
+timed_of tb format width height sar_num sar_den (Audio f) i = i.fits
+timed_of tb format width height sar_num sar_den (Video f) i = i.not_negative
+timed_of tb format width height sar_num sar_den (Packet p) i = i.fits
+timed_of tb format width height sar_num sar_den (Trailer t) i = i.fits
+timed_of tb format width height sar_num sar_den End i = i.fits
+timed_of tb format width height sar_num sar_den Broken i = i.fits
+
+each_timed : (tb : Fraction) (format : _) (width height sar_num sar_den : ℕ) (xs : List Item) → Each (IsItemFor (Frames (VideoHead tb format width height sar_num sar_den))) xs → Each IsTimed xs
+each_timed tb format width height sar_num sar_den [] e = tt
+each_timed tb format width height sar_num sar_den (x ∷ xs) e = (timed_of tb format width height sar_num sar_den x e.0, each_timed tb format width height sar_num sar_den xs e.1)
+
+all_times : (h : StreamHead) (r : Range) (s : Flow) → r.start ≡ 0 → r.stop ≡ None → IsValid (Frames h) s → from_range h r s ≡ s
+all_times (AudioHead tb rate bits channels codec) r s zs zn v =
+    let each = each_whole tb rate bits channels codec s.items (each_of (IsItemFor (Frames (AudioHead tb rate bits channels codec))) s.items v.shape.each) in
+    same_stream (shifted (Some r.start) (sound_trimmed r s)) s (sound_whole r zs zn s.items each) (ap (λ k. cond k whole s.mark) (sound_goes_on r zs zn s.items each))
+all_times (VideoHead tb format width height sar_num sar_den) r s zs zn v =
+    let each = each_timed tb format width height sar_num sar_den s.items (each_of (IsItemFor (Frames (VideoHead tb format width height sar_num sar_den))) s.items v.shape.each) in
+    same_stream (shifted (Some r.start) (trimmed r s)) s
+    (ap (λ k. map (earlier k) (from_start k (before_stop r.stop s.items))) zs ∙ (ap (λ (o : Option ℕ). map (earlier 0) (from_start 0 (before_stop o s.items))) zn ∙ pictures_whole s.items each))
+    (ap (λ (o : Option ℕ). cond (reaches o s.items) whole s.mark) zn ∙ ap (λ k. cond k whole s.mark) (pictures_go_on s.items))
+
+no_ticks : (tb : Fraction) → IsBase tb → in_bits (ticks_at tb 0) ≡ 0
+no_ticks tb b =
+    let num = b.num_positive in
+    let is = IsCeiling-div_ceil (0 * tb.den) (tb.num * 1000000) (omega (arith, num)) in
+    let none : 0 * tb.den ≡ 0 = omega arith in
+    at (ticks_at tb 0) refl is.least none
+  where
+    at : (n : ℕ) → ticks_at tb 0 ≡ n → ticks_at tb 0 * (tb.num * 1000000) < 0 * tb.den + tb.num * 1000000 → 0 * tb.den ≡ 0 → in_bits (ticks_at tb 0) ≡ 0
+    at zero e lt z = ap in_bits e
+    at (suc n) e lt z = absurd (let big : ticks_at tb 0 * (tb.num * 1000000) ≡ suc n * (tb.num * 1000000) = ap (λ k. k * (tb.num * 1000000)) e in omega (arith, big, suc-mul n (tb.num * 1000000), lt, z))
+
+uncut_start : (c : TimeCut) → is_uncut c ≡ true → (c.start ≡ 0) × (c.length ≡ None)
+uncut_start c e = let b = and_parts (c.start == 0) (not (is_some c.length)) e in (grind (arith, nat_tests), none c.length b.1)
+  where
+    none : (o : Option ℕ) → not (is_some o) ≡ true → o ≡ None
+    none None e = refl
+    none (Some n) e = cc
+
+-- a cut that cuts nothing is a range of all times
+uncut_same : (h : StreamHead) (c : TimeCut) (s : Flow) → IsBase (base_of_head h) → is_uncut c ≡ true → IsValid (Frames h) s → s ≡ from_range h (range_in (base_of_head h) c) s
+uncut_same h c s b u v =
+    let is = uncut_start c u in
+    let tb = base_of_head h in
+    sym (all_times h (range_in tb c) s (ap (λ n. in_bits (ticks_at tb n)) is.0 ∙ no_ticks tb b) (ap (λ (o : Option ℕ). option_map (λ us. start_in tb c + ticks_at tb us) o) is.1) v)
+
+pub cut_by_rule : (h : StreamHead) (c : TimeCut) (s : Flow) → IsBase (base_of_head h) → is_empty c.length ≡ false → IsValid (Frames h) s → cut h c s ≡ by_rule h c s
+cut_by_rule h c s b e v = ap (λ k. cond k (whole_stream []) (cond (is_uncut c) s (from_range h (range_in (base_of_head h) c) s))) e ∙ (at (is_uncut c) refl ∙ range_rule h c s b e v)
+  where
+    at : (k : Bool) → is_uncut c ≡ k → cond (is_uncut c) s (from_range h (range_in (base_of_head h) c) s) ≡ from_range h (range_in (base_of_head h) c) s
+    at true u = ap (λ k. cond k s (from_range h (range_in (base_of_head h) c) s)) u ∙ uncut_same h c s b u v
+    at false u = ap (λ k. cond k s (from_range h (range_in (base_of_head h) c) s)) u

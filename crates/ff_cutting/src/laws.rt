@@ -12,7 +12,7 @@ ghost use Rattle.ff_frame.specs.Ports.{IsClosed};
 ghost use Rattle.ff_filter.specs.Joins.{Flow, Ports};
 ghost use Rattle.ff_net_filter.specs.Limiting.{IsLimited};
 ghost use Rattle.ff_spread.specs.Valid.{GivesValid};
-ghost use Rattle.ff_cutting.specs.Cuts.{cut, cut_each, is_uncut, is_empty};
+ghost use Rattle.ff_cutting.specs.Cuts.{cut, cut_each, is_empty};
 ghost use Rattle.ff_cutting.specs.Rules.{by_rule};
 
 /// A stream further on is cut further on, whoever isn't told of a break gets no less, and where a stream closes so does its cut.
@@ -34,9 +34,9 @@ pub fn cuts_keep_limits()
         → length cs ≡ length heads → IsLimited ins (map Frames heads) f cuts → IsLimited ins (map Frames heads) (cut_each heads cs f) cuts }
 {}
 
-/// Of a valid stream a cut that cuts something, and whose length isn't 0, is what its rule says step by step: what lies from the
-/// start on is kept, the start is taken from all times, and then what lies below the length is kept, as a trim does it.
+/// Of a valid stream a cut whose length isn't 0 is what its rule says step by step: what lies from the start on is kept, the start
+/// is taken from all times, and then what lies below the length is kept, as a trim does it. A start that isn't given is 0.
 pub fn cuts_are_as_their_rule_says()
-    ensures { (head : StreamHead) (c : TimeCut) (s : Flow) → IsBase (base_of_head head) → is_uncut c ≡ false → is_empty c.length ≡ false
+    ensures { (head : StreamHead) (c : TimeCut) (s : Flow) → IsBase (base_of_head head) → is_empty c.length ≡ false
         → IsValid (Frames head) s → cut head c s ≡ by_rule head c s }
 {}

@@ -2,4 +2,4 @@ use Rattle.ff_cutting.proofs.Ruled.{cut_by_rule}
 use Rattle.ff_cutting.proofs.laws.cuts_are_as_their_rule_says.Goals as goal
 
 pub returns : goal.returns
-returns c head k s b u e v = cut_by_rule head k s b u e v
+returns c head k s b e v = cut_by_rule head k s b e v
