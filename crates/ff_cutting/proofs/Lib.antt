@@ -1,3 +1,4 @@
+pub mod ByFrames
 pub mod EarlierShape
 pub mod Limiting
 pub mod Moving

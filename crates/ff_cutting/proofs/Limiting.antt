@@ -1,5 +1,5 @@
 -- Cuts on whole streams: their laws, and that of functions behind limits with cuts behind them.
-use Rattle.std.proofs.Common.{◌≡◌, ℕ, zero, suc, Bool, true, false, cond, Some, List, [], ◌∷◌, map, length, arith}
+use Rattle.std.proofs.Common.{subst, sym, ◌∙◌, ◌≡◌, ℕ, zero, suc, Bool, true, false, cond, Some, List, [], ◌∷◌, map, length, arith}
 use Rattle.ff_time.specs.declared.cut.TimeCut.{TimeCut}
 use Rattle.ff_values.specs.declared.head.StreamHead.{StreamHead}
 use Rattle.ff_values.specs.declared.head.StreamHead.TheVariants.{Audio as AudioHead, Video as VideoHead}
@@ -13,6 +13,7 @@ use Rattle.ff_net.specs.Ways.{AreValid}
 use Rattle.ff_filter.specs.declared.range.Range.{Range}
 use Rattle.ff_filter.specs.Joins.{Flow, Ports, all_opened}
 use Rattle.ff_filter.specs.Shifts.{shifted-below}
+use Rattle.ff_filter.specs.Views.{View}
 use Rattle.ff_vfilter.specs.Trims.{trimmed}
 use Rattle.ff_vfilter.specs.TrimLaws.{trimmed-below, trimmed-calm, trimmed-settles}
 use Rattle.ff_afilter.specs.Trims.{sound_trimmed}
@@ -20,6 +21,7 @@ use Rattle.ff_afilter.specs.TrimLaws.{trimmed-below as sound-below, trimmed-calm
 use Rattle.ff_net_filter.specs.Tasks.{listed}
 use Rattle.ff_net_filter.specs.Limiting.{IsLimited}
 use Rattle.ff_cutting.specs.Cuts.{is_uncut, is_empty, range_in, from_range, cut, cut_at, cut_each}
+use Rattle.ff_cutting.specs.Taps.{IsCutting}
 use Rattle.ff_cutting.proofs.Valid.{cut_valid}
 
 range-below : (h : StreamHead) (range : Range) (r s : Flow) → LiesBelow r s → LiesBelow (from_range h range r) (from_range h range s)
@@ -110,3 +112,13 @@ cut_limited ins hs cs f cuts same l = record {
   stays = l.stays;
   breaks = λ ss q lt v u e. l.breaks ss q lt v u (at_breaks hs cs q (f (stream_at ss) q) e);
 }
+
+-- a filter with cuts behind its outputs, as it is seen when nothing was done to it
+pub cutting_limited : (hs : List StreamHead) (cs : List TimeCut) (v w : View) (cuts : List Flow → Bool) → length cs ≡ length hs → v.outs ≡ map Frames hs → IsCutting hs cs v w
+    → IsLimited v.ins v.outs v.rest cuts → IsLimited w.ins w.outs w.rest cuts
+cutting_limited hs cs v w cuts same outs c l =
+    let rest : w.rest ≡ cut_each hs cs v.rest = λ i ext q. c.rest ext q i in
+    let heads : w.outs ≡ map Frames hs = c.outs ∙ outs in
+    let cut_so : IsLimited v.ins (map Frames hs) (cut_each hs cs v.rest) cuts = cut_limited v.ins hs cs v.rest cuts same (subst (λ (ls : List Lane). IsLimited v.ins ls v.rest cuts) outs l) in
+    subst (λ (ls : List Lane). IsLimited ls w.outs w.rest cuts) (sym c.ins)
+    (subst (λ (ls : List Lane). IsLimited v.ins ls w.rest cuts) (sym heads) (subst (λ (f : Ports → Ports). IsLimited v.ins (map Frames hs) f cuts) (sym rest) cut_so))

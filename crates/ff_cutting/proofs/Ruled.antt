@@ -1,6 +1,6 @@
 -- A cut of a valid stream is what its rule says.
 use Rattle.std.proofs.Common.{◌≤ℤ◌, negsuc, ◌≡◌, ℕ, zero, suc, ◌+◌, ◌-◌, ◌*◌, ◌/◌, ◌<◌, ◌≤◌, ℤ, pos, Bool, true, false, cond, Option, Some, None, option_map, List, [], ◌∷◌, ◌++◌, map, drop, take, length, refl, ap, sym, ◌∙◌, arith}
-use Rattle.std.specs.Prelude.{nat_lt, nat_le, ◌==◌, not, ◌&&◌, is_some}
+use Rattle.std.specs.Prelude.{nat_lt, nat_le, ◌==◌, not, is_some}
 use Rattle.std.proofs.lemmas.Bool.Decides.{nat_tests}
 use Rattle.std.proofs.lemmas.List.{length-take-le, length-drop, map-append}
 use Rattle.std.proofs.lemmas.Nat.{div-mul-add}

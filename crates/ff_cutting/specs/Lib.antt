@@ -1,5 +1,6 @@
 pub mod CutLaws
 pub mod Cuts
 pub mod CuttingLaws
+pub mod Frames
 pub mod Rules
 pub mod Taps

@@ -12,7 +12,12 @@ ghost use Rattle.ff_frame.specs.Ports.{IsClosed};
 ghost use Rattle.ff_filter.specs.Joins.{Flow, Ports};
 ghost use Rattle.ff_net_filter.specs.Limiting.{IsLimited};
 ghost use Rattle.ff_spread.specs.Valid.{GivesValid};
-ghost use Rattle.ff_cutting.specs.Cuts.{cut, cut_each, is_empty};
+ghost use Rattle.ff_cutting.specs.Cuts.{cut, cut_each, from_range, is_empty};
+ghost use Rattle.ff_cutting.specs.Frames.{cut_step};
+ghost use Rattle.ff_cutting.specs.Taps.{IsCutting};
+ghost use Rattle.ff_filter.specs.Runs.{run, no_more};
+ghost use Rattle.ff_filter.specs.Views.{View};
+ghost use Rattle.ff_filter.specs.declared.range.Range.{Range};
 ghost use Rattle.ff_cutting.specs.Rules.{by_rule};
 
 /// A stream further on is cut further on, whoever isn't told of a break gets no less, and where a stream closes so does its cut.
@@ -39,4 +44,18 @@ pub fn cuts_keep_limits()
 pub fn cuts_are_as_their_rule_says()
     ensures { (head : StreamHead) (c : TimeCut) (s : Flow) → IsBase (base_of_head head) → is_empty c.length ≡ false
         → IsValid (Frames head) s → cut head c s ≡ by_rule head c s }
+{}
+
+/// A filter behind limits, to which nothing was done, is with cuts behind its outputs behind the same limits: so a node of it has the
+/// fault `TooLong` only where one of its own outputs breaks.
+pub fn filters_with_cuts_are_limited()
+    ensures { (heads : List StreamHead) (cs : List TimeCut) (v w : View) (cuts : List Flow → Bool)
+        → length cs ≡ length heads → v.outs ≡ map Frames heads → IsCutting heads cs v w
+        → IsLimited v.ins v.outs v.rest cuts → IsLimited w.ins w.outs w.rest cuts }
+{}
+
+/// A cut goes through a stream frame by frame, and looks at no other frame: of each at most one is left, and the stream is whole
+/// with the first that ends it.
+pub fn cuts_go_frame_by_frame()
+    ensures { (head : StreamHead) (range : Range) (s : Flow) → from_range head range s ≡ run (cut_step head) no_more range s }
 {}
