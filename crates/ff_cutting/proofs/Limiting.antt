@@ -69,7 +69,7 @@ range_breaks : (h : StreamHead) (range : Range) (s : Flow) → (from_range h ran
 range_breaks (AudioHead tb rate bits channels codec) range s e = broken_by _ s.mark e
 range_breaks (VideoHead tb format width height sar_num sar_den) range s e = broken_by _ s.mark e
 
-cut_breaks : (h : StreamHead) (c : TimeCut) (s : Flow) → (cut h c s).mark ≡ broken → s.mark ≡ broken
+pub cut_breaks : (h : StreamHead) (c : TimeCut) (s : Flow) → (cut h c s).mark ≡ broken → s.mark ≡ broken
 cut_breaks h c s =
     let range = range_in (base_of_head h) c in
     both_of (λ (x y : Flow). x.mark ≡ broken → s.mark ≡ broken) (is_empty c.length) (is_uncut c) (whole_stream []) (whole_stream []) s s (from_range h range s) (from_range h range s)

@@ -111,8 +111,7 @@ fn range_of(head: &StreamHead, cut: TimeCut) -> Range
 impl Cut {
     ghost use Rattle.ff_cutting.specs.Taps.{runs_of, lane_of};
 
-    /// The cut of a stream of this head, whatever its length: one of length 0 lets nothing through, and closes with the first item
-    /// that comes.
+    /// The cut of a stream of this head. That one of length 0 ends before anything comes is its output's to say (`Tap`).
     pub fn of(head: &StreamHead, cut: TimeCut) -> Cut
         ensures lane { lane_of result ≡ Frames head.now }
         ensures runs { (s : Flow) → runs_of result s ≡ kept head.now cut s }

@@ -7,7 +7,7 @@ ghost use Rattle.ff_time.specs.declared.cut.TimeCut.{TimeCut};
 ghost use Rattle.ff_values.specs.declared.head.StreamHead.{StreamHead};
 ghost use Rattle.ff_frame.specs.declared.item.Lane.{Lane};
 ghost use Rattle.ff_frame.specs.declared.item.Lane.TheVariants.{Frames};
-ghost use Rattle.ff_frame.specs.Stream.{LiesBelow, opened};
+ghost use Rattle.ff_frame.specs.Stream.{broken, LiesBelow, opened};
 ghost use Rattle.ff_frame.specs.Ports.{IsClosed};
 ghost use Rattle.ff_filter.specs.Joins.{Flow, Ports};
 ghost use Rattle.ff_net_filter.specs.Limiting.{IsLimited};
@@ -20,11 +20,13 @@ ghost use Rattle.ff_filter.specs.Views.{View};
 ghost use Rattle.ff_filter.specs.declared.range.Range.{Range};
 ghost use Rattle.ff_cutting.specs.Rules.{by_rule};
 
-/// A stream further on is cut further on, whoever isn't told of a break gets no less, and where a stream closes so does its cut.
+/// A stream further on is cut further on, whoever isn't told of a break gets no less, where a stream closes so does its cut, and a
+/// cut is broken only where its stream is.
 pub fn streams_further_on_are_cut_further_on()
     ensures below { (head : StreamHead) (c : TimeCut) (r s : Flow) → LiesBelow r s → LiesBelow (cut head c r) (cut head c s) }
     ensures calm { (head : StreamHead) (c : TimeCut) (r : Flow) → LiesBelow (opened (cut head c r)) (cut head c (opened r)) }
     ensures settles { (head : StreamHead) (c : TimeCut) (r : Flow) → IsClosed r → IsClosed (cut head c r) }
+    ensures breaks { (head : StreamHead) (c : TimeCut) (r : Flow) → (cut head c r).mark ≡ broken → r.mark ≡ broken }
 {}
 
 /// A valid stream is cut to a valid one, which no limit shortens; an unbroken one doesn't break.

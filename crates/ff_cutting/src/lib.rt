@@ -24,4 +24,4 @@ pub use laws::{
     filters_with_cuts_are_limited, streams_further_on_are_cut_further_on,
     valid_streams_are_cut_to_valid_ones,
 };
-pub use tap::Tap;
+pub use tap::{Tap, Turn};
