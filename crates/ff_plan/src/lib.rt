@@ -12,7 +12,8 @@
 //! each output has (`Streams`), then the numbers of the nodes and the wires between them (`Nodes`), then the ports (`Wires`),
 //! of which each that isn't named is the next one of its node. `specs/Laws` says what holds of the edges of every plan,
 //! `specs/Fitting` what stands at the ports of each node and in which order the nodes stand. The definitions are those of whole
-//! jobs, with graphs; `specs/Today` says which jobs are planned, and how another is refused: each output has one stream today.
+//! jobs, with graphs. `plan_with` plans any job, by rules of graphs that a `Filtering` has; `plan` is what the command calls as
+//! yet, and `specs/Today` says which jobs it plans, without graphs and Shortest nodes, and how it refuses another.
 //! `specs/Numbers` numbers the streams of all outputs.
 #![tactic(auto)]
 
