@@ -409,9 +409,11 @@ enc_there l r p at =
     let a = map (λ i. node.Demux i) (used_inputs l) in let b = map (λ (s : Stream). node.Dec s.at) (used l) in let c = map (λ (x : Laid). node.Graph x.graph) l.graphs in
     let f = map (λ o. node.Shortest o) (shortests l) in let g = map (λ (p : Placed). node.Enc p.output p.stream) (placed l) in let h = map (λ o. node.Mux o) (output_numbers l) in
     let last = get_left g h r (node.Enc p.output p.stream) (get_map (λ (p : Placed). node.Enc p.output p.stream) (placed l) r p at) in
-    let e1 = length f + r in let e2 = length c + e1 in let e3 = length b + e2 in let e4 = length a + e3 in
-    (e4, get_right a (b ++ (c ++ (f ++ (g ++ h)))) e4 e3 refl ∙ (get_right b (c ++ (f ++ (g ++ h))) e3 e2 refl
-        ∙ (get_right c (f ++ (g ++ h)) e2 e1 refl ∙ (get_right f (g ++ h) e1 r refl ∙ last))))
+    let e1 = length f + r in let e2 = length c + e1 in let e3 = length b + e2 in let e4 = length a + e3 in (
+      e4,
+      get_right a (b ++ (c ++ (f ++ (g ++ h)))) e4 e3 refl ∙ (get_right b (c ++ (f ++ (g ++ h))) e3 e2 refl
+          ∙ (get_right c (f ++ (g ++ h)) e2 e1 refl ∙ (get_right f (g ++ h) e1 r refl ∙ last))),
+    )
 
 pub stream_coded : (l : Layout) (o j : ℕ) → j < length (slice_index_or (map (λ (row : List OutStream). map (λ (s : OutStream). s.head) row) l.outputs) o [])
     → (e : ℕ) × (slice_get (nodes_of l) e ≡ Some (node.Enc o j))

@@ -11,8 +11,8 @@ ghost use Rattle.ff_sched.specs.Routes.{AreRoutes};
 ghost use Rattle.ff_plan.specs.Today.{planned_today, unbuilt, unbuilt_in};
 
 use crate::filtering::Filtering;
-use crate::layout::Laying;
 use crate::laying::lay_out;
+use crate::layout::Laying;
 use crate::lengths::have_short_graphs;
 use crate::nodes::place;
 use crate::numbering::numbered_plan;
