@@ -2,8 +2,8 @@ mod Few
 mod FewOuts
 mod Given
 mod Had
-mod Holds
-mod Keeping
+pub mod Holds
+pub mod Keeping
 mod KeptHeads
 mod Labelled
 mod Lists
