@@ -103,6 +103,7 @@ pub fn run_plan<
         nodes,
         edges,
         routes,
+        ..
     } = plan;
     let nodes = nodes.as_slice();
     let edges = edges.as_slice();
