@@ -1,5 +1,7 @@
 -- The frames behind the head: each a line, `FRAME` and perhaps parameters, and the planes (yuv4mpeg(5), "Frame Format").
 use Rattle.std.specs.Prelude.{◌≡◌, ℕ, zero, suc, ◌+◌, ◌≤◌, nat_lt, not, if◌then◌else◌, pos, List, [], ◌∷◌, codes, take, drop, length, Option, Some, None}
+use Rattle.ff_time.specs.Fraction.{IsBase}
+use Rattle.ff_values.specs.Heads.{base_of_head}
 use Rattle.ff_values.specs.Packet.{packet_at}
 use Rattle.ff_values.specs.Video.{frame_size, IsSide}
 use Rattle.ff_values.specs.declared.packet.Pkt.{Pkt}
@@ -56,4 +58,5 @@ IsStream (Video tb format width height sar_num sar_den) size = IsSide width × I
 -- what is true of every head that is read
 pub record IsHead (head : Y4mHead) : Type 0 where
   pub stream : IsStream head.head head.frame_bytes
+  pub base : IsBase (base_of_head head.head)
   pub start : head.start ≤ 1024
