@@ -3,9 +3,9 @@ use Rattle.std.proofs.Common.{◌≡◌, ◌⊎◌, inl, inr, ℕ, zero, suc, �
 use Rattle.std.proofs.lemmas.Option.{slice_get_past}
 use Rattle.ff_plan.specs.declared.planned.PlanNode.{PlanNode}
 use Rattle.ff_plan.specs.declared.planned.PlanNode.TheVariants as node
-use Rattle.ff_words.specs.declared.job.OutputJob.{OutputJob}
 use Rattle.ff_edges.specs.declared.edge.Edge.{Edge}
 use Rattle.ff_net.specs.Views.{View}
+use Rattle.ff_running.specs.Asked.{Asked}
 use Rattle.ff_running.specs.Kinds.{KindsOf, IsSourceOf, IsSinkOf}
 use Rattle.ff_running.specs.Parts.{IsBefore, IsAside, AllAside, AreParts, AreBack}
 use Rattle.ff_running.proofs.Numbers.{there, ordered, demux_before, mux_before}
@@ -68,9 +68,9 @@ module _ {T : Type 0} (nodes : List PlanNode) (mk : ℕ → PlanNode) (count cou
   ]
 
 module _ {H S K M : Type 0} (is : KindsOf H) (left named : S → Option (List ℕ)) (failed : S → ℕ) (holds called : K → Option (List ℕ)) (faulted : K → ℕ) (view : M → View)
-    (outputs : List OutputJob) (heads : List H) (edges : List Edge) (nodes : List PlanNode) (srcs : List S) (snks : List K) (olds news : List M)
+    (asked : Asked) (heads : List H) (edges : List Edge) (nodes : List PlanNode) (srcs : List S) (snks : List K) (olds news : List M)
     (sp sp' : List (Option S)) (kp kp' : List (Option K))
-    (parts : AreParts is left named failed holds called faulted view outputs heads edges nodes srcs snks olds sp kp) (many : length news ≡ length olds)
+    (parts : AreParts is left named failed holds called faulted view asked heads edges nodes srcs snks olds sp kp) (many : length news ≡ length olds)
     (sources : (k i : ℕ) (m : M) → slice_get nodes k ≡ Some (node.Demux i) → slice_get news k ≡ Some m → (s : S) × (slice_get sp' i ≡ Some (Some s)) × IsSourceOf named failed (view m) s)
     (sinks : (k o : ℕ) (m : M) → slice_get nodes k ≡ Some (node.Mux o) → slice_get news k ≡ Some m → (s : K) × (slice_get kp' o ≡ Some (Some s)) × IsSinkOf is holds called faulted (view m) s)
     (other_srcs : (i : ℕ) → (IsBefore nodes (length news) (node.Demux i) → ⊥) → slice_get sp' i ≡ slice_get sp i)

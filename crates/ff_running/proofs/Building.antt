@@ -5,7 +5,7 @@ use Rattle.ff_edges.specs.declared.edge.Edge.{Edge}
 use Rattle.ff_net.specs.Views.{View}
 use Rattle.ff_plan.specs.declared.planned.PlanNode.{PlanNode}
 use Rattle.ff_plan.specs.declared.planned.PlanNode.TheVariants as node
-use Rattle.ff_words.specs.declared.job.OutputJob.{OutputJob}
+use Rattle.ff_running.specs.Asked.{Asked}
 use Rattle.ff_running.specs.Kinds.{KindsOf}
 use Rattle.ff_edges.specs.Ports.{lanes_into, lanes_out_of}
 use Rattle.ff_running.specs.Tasks.{first_at}
@@ -26,10 +26,10 @@ pub some_same : {A : Type 0} (o : Option A) (x y : A) → o ≡ Some x → o ≡
 some_same o x y a b = (let same : Some x ≡ Some y = sym a ∙ b in cc)
 
 module _ {H S K M : Type 0} (is : KindsOf H) (left named : S → Option (List ℕ)) (failed : S → ℕ) (holds called : K → Option (List ℕ)) (faulted : K → ℕ) (view : M → View)
-    (outputs : List OutputJob) (heads : List H) (edges : List Edge) (nodes : List PlanNode) (srcs : List S) (snks : List K) where
+    (asked : Asked) (heads : List H) (edges : List Edge) (nodes : List PlanNode) (srcs : List S) (snks : List K) where
   -- before the first node
   pub no_parts : (parts : List M) (sp : List (Option S)) (kp : List (Option K)) → parts ≡ [] → AllAside srcs sp → AllAside snks kp
-      → AreParts is left named failed holds called faulted view outputs heads edges nodes srcs snks parts sp kp
+      → AreParts is left named failed holds called faulted view asked heads edges nodes srcs snks parts sp kp
   no_parts [] sp kp e a b = record {
     few = omega arith;
     each = λ k n m at there. absurd cc;
@@ -43,8 +43,8 @@ module _ {H S K M : Type 0} (is : KindsOf H) (left named : S → Option (List �
   -- the same in places that hold the same
   pub same_places : (parts : List M) (sp sp' : List (Option S)) (kp kp' : List (Option K)) → ((w : ℕ) → slice_get sp' w ≡ slice_get sp w) → ((w : ℕ) → slice_get kp' w ≡ slice_get kp w)
       → length sp' ≡ length sp → length kp' ≡ length kp
-      → AreParts is left named failed holds called faulted view outputs heads edges nodes srcs snks parts sp kp
-      → AreParts is left named failed holds called faulted view outputs heads edges nodes srcs snks parts sp' kp'
+      → AreParts is left named failed holds called faulted view asked heads edges nodes srcs snks parts sp kp
+      → AreParts is left named failed holds called faulted view asked heads edges nodes srcs snks parts sp' kp'
   same_places parts sp sp' kp kp' s k ls lk h = record {
     few = h.few;
     each = h.each;
@@ -56,24 +56,24 @@ module _ {H S K M : Type 0} (is : KindsOf H) (left named : S → Option (List �
 
   -- a source that is in no part yet is in its place, for the next node
   pub source_there : (parts : List M) (sp : List (Option S)) (kp : List (Option K)) (i : ℕ) → AreOrdered (length srcs) (length snks) nodes
-      → AreParts is left named failed holds called faulted view outputs heads edges nodes srcs snks parts sp kp
+      → AreParts is left named failed holds called faulted view asked heads edges nodes srcs snks parts sp kp
       → slice_get nodes (length parts) ≡ Some (node.Demux i) → IsAside srcs sp i
   source_there parts sp kp i ordered h at =
       h.srcs_aside i (ordered.inputs_there (length parts) i at) (λ b. let lt = ordered.rising b.0 (length parts) i i b.2 at b.1 in omega (arith, lt))
 
   pub sink_there : (parts : List M) (sp : List (Option S)) (kp : List (Option K)) (o : ℕ) → AreOrdered (length srcs) (length snks) nodes
-      → AreParts is left named failed holds called faulted view outputs heads edges nodes srcs snks parts sp kp
+      → AreParts is left named failed holds called faulted view asked heads edges nodes srcs snks parts sp kp
       → slice_get nodes (length parts) ≡ Some (node.Mux o) → IsAside snks kp o
   sink_there parts sp kp o ordered h at =
       h.snks_aside o (ordered.outputs_there (length parts) o at) (λ b. let lt = ordered.muxes_rise b.0 (length parts) o o b.2 at b.1 in omega (arith, lt))
 
   -- with the part of the next node
   pub next_part : (parts parts' : List M) (sp sp' : List (Option S)) (kp kp' : List (Option K)) (n : PlanNode) (m : M) → slice_get nodes (length parts) ≡ Some n → parts' ≡ parts ++ m ∷ []
-      → IsPart is left named failed holds called faulted outputs heads srcs snks (first_at outputs nodes edges (length parts)) (lanes_into edges (length parts)) (lanes_out_of edges (length parts)) n (view m)
+      → IsPart is left named failed holds called faulted asked heads srcs snks (first_at asked nodes edges (length parts)) (lanes_into edges (length parts)) (lanes_out_of edges (length parts)) n (view m)
       → ((w : ℕ) → (n ≡ node.Demux w → ⊥) → slice_get sp' w ≡ slice_get sp w) → ((w : ℕ) → (n ≡ node.Mux w → ⊥) → slice_get kp' w ≡ slice_get kp w)
       → length sp' ≡ length sp → length kp' ≡ length kp
-      → AreParts is left named failed holds called faulted view outputs heads edges nodes srcs snks parts sp kp
-      → AreParts is left named failed holds called faulted view outputs heads edges nodes srcs snks parts' sp' kp'
+      → AreParts is left named failed holds called faulted view asked heads edges nodes srcs snks parts sp kp
+      → AreParts is left named failed holds called faulted view asked heads edges nodes srcs snks parts' sp' kp'
   next_part parts parts' sp sp' kp kp' n m at more new s k ls lk h =
       let long : length parts' ≡ length parts + 1 = ap length more ∙ length_more parts m in
       let here : length parts < length nodes = slice_get_within nodes (length parts) n at in
@@ -83,9 +83,9 @@ module _ {H S K M : Type 0} (is : KindsOf H) (left named : S → Option (List �
           | inl old ↦ h.each j x y nj old
           | inr last ↦
               let nx : n ≡ x = some_same (slice_get nodes (length parts)) n x at (subst (λ (i : ℕ). slice_get nodes i ≡ Some x) last.0 nj) in
-              subst (λ (i : ℕ). IsPart is left named failed holds called faulted outputs heads srcs snks (first_at outputs nodes edges i) (lanes_into edges i) (lanes_out_of edges i) x (view y)) (sym last.0)
-              (subst (λ (z : PlanNode). IsPart is left named failed holds called faulted outputs heads srcs snks (first_at outputs nodes edges (length parts)) (lanes_into edges (length parts)) (lanes_out_of edges (length parts)) z (view y)) nx
-              (subst (λ (z : M). IsPart is left named failed holds called faulted outputs heads srcs snks (first_at outputs nodes edges (length parts)) (lanes_into edges (length parts)) (lanes_out_of edges (length parts)) n (view z)) last.1 new))
+              subst (λ (i : ℕ). IsPart is left named failed holds called faulted asked heads srcs snks (first_at asked nodes edges i) (lanes_into edges i) (lanes_out_of edges i) x (view y)) (sym last.0)
+              (subst (λ (z : PlanNode). IsPart is left named failed holds called faulted asked heads srcs snks (first_at asked nodes edges (length parts)) (lanes_into edges (length parts)) (lanes_out_of edges (length parts)) z (view y)) nx
+              (subst (λ (z : M). IsPart is left named failed holds called faulted asked heads srcs snks (first_at asked nodes edges (length parts)) (lanes_into edges (length parts)) (lanes_out_of edges (length parts)) n (view z)) last.1 new))
         ];
         srcs_aside = λ i lt out.
             let x = h.srcs_aside i lt (λ b. out (before (node.Demux i) b)) in

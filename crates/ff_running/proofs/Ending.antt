@@ -15,6 +15,7 @@ use Rattle.ff_plan.specs.Rules.{Planned}
 use Rattle.ff_files.specs.declared.work.WorkEnd.{WorkEnd}
 use Rattle.ff_files.specs.declared.work.WorkEnd.TheVariants as work_end
 use Rattle.ff_files.specs.Works.{AreTold, HoldFiles, HoldParts, HoldsPart, KeepEnds, FailNoMore, EndsWork, sound_sources, sound_sinks}
+use Rattle.ff_running.specs.Asked.{Asked, asked_of}
 use Rattle.ff_running.specs.declared.fault.RunFault.{RunFault}
 use Rattle.ff_running.specs.Kinds.{KindsOf}
 use Rattle.ff_running.specs.Claims.{tell_all}
@@ -42,22 +43,22 @@ empty_parts left holds srcs snks text file bytes told = λ j d lt. inl ([], text
 module _ {H S K M : Type 0} (is : KindsOf H) (left named : S → Option (List ℕ)) (failed : S → ℕ) (holds called : K → Option (List ℕ)) (faulted : K → ℕ) (view : M → View)
     (job : Job) (plan : Plan) (heads : List H) (srcs : List S) (snks : List K) (claims : Bool) (end : WorkEnd RunFault) (srcs' : List S) (snks' : List K)
     (for : IsPlanFor is job heads plan) (src_count : length srcs ≡ length heads) (snk_count : length snks ≡ length job.outputs) (claimed : claims ≡ tell_all left holds srcs snks)
-    (done : IsDone is left named failed holds called faulted view job.outputs heads plan.edges plan.nodes srcs snks claims end srcs' snks') where
+    (done : IsDone is left named failed holds called faulted view (asked_of job plan.texts) heads plan.edges plan.nodes srcs snks claims end srcs' snks') where
   order : AreOrdered (length srcs) (length snks) plan.nodes
   order =
       subst (λ (n : ℕ). AreOrdered n (length snks) plan.nodes) (sym src_count) (subst (λ (n : ℕ). AreOrdered (length heads) n plan.nodes) (sym snk_count) for.ordered)
 
   abbrev Says : WorkEnd RunFault → Type 0
-  Says = outcome.Says is left named failed holds called faulted view job.outputs heads plan.edges plan.nodes srcs snks claims done.olds done.news done.src_places done.snk_places done.fault srcs' snks' order done.run done.back
+  Says = outcome.Says is left named failed holds called faulted view (asked_of job plan.texts) heads plan.edges plan.nodes srcs snks claims done.olds done.news done.src_places done.snk_places done.fault srcs' snks' order done.run done.back
 
   said : Says end
   said = subst Says (sym done.end_is)
-      (outcome.says is left named failed holds called faulted view job.outputs heads plan.edges plan.nodes srcs snks claims done.olds done.news done.src_places done.snk_places done.fault srcs' snks' order done.run done.back)
+      (outcome.says is left named failed holds called faulted view (asked_of job plan.texts) heads plan.edges plan.nodes srcs snks claims done.olds done.news done.src_places done.snk_places done.fault srcs' snks' order done.run done.back)
 
   vouched : (bytes : List (List ℕ)) → AreTold left holds srcs snks bytes → claims ≡ true
   vouched bytes told = claimed ∙ tells_told left holds srcs snks bytes told
 
-  muxes : (bytes : List (List ℕ)) (o : ℕ) → o < length snks → slice_get plan.nodes (mux_node is job.outputs heads bytes plan.nodes plan.edges o) ≡ Some (node.Mux o)
+  muxes : (bytes : List (List ℕ)) (o : ℕ) → o < length snks → slice_get plan.nodes (mux_node is (asked_of job plan.texts) heads bytes plan.nodes plan.edges o) ≡ Some (node.Mux o)
   muxes bytes o lt = for.muxes o (subst (λ (n : ℕ). o < n) snk_count lt)
 
   ends_say : (e : WorkEnd RunFault) → Says e → EndsWork (means is job) failed faulted srcs snks srcs' snks' heads (AreTold left holds srcs snks) e
@@ -92,30 +93,30 @@ module _ {H S K M : Type 0} (is : KindsOf H) (left named : S → Option (List �
   all_sinks = sinks_say end said
 
   pub keeps_sources : KeepEnds named srcs srcs'
-  keeps_sources = outcome.keeps_sources is left named failed holds called faulted view job.outputs heads plan.edges plan.nodes srcs snks claims done.olds done.news done.src_places done.snk_places done.fault srcs' snks' order done.run done.back
+  keeps_sources = outcome.keeps_sources is left named failed holds called faulted view (asked_of job plan.texts) heads plan.edges plan.nodes srcs snks claims done.olds done.news done.src_places done.snk_places done.fault srcs' snks' order done.run done.back
 
   pub keeps_sinks : KeepEnds called snks snks'
-  keeps_sinks = outcome.keeps_sinks is left named failed holds called faulted view job.outputs heads plan.edges plan.nodes srcs snks claims done.olds done.news done.src_places done.snk_places done.fault srcs' snks' order done.run done.back
+  keeps_sinks = outcome.keeps_sinks is left named failed holds called faulted view (asked_of job plan.texts) heads plan.edges plan.nodes srcs snks claims done.olds done.news done.src_places done.snk_places done.fault srcs' snks' order done.run done.back
 
   pub all_files : end ≡ work_end.Fine → (bytes : List (List ℕ)) → AreTold left holds srcs snks bytes → HoldFiles holds ((means is job).file heads bytes) snks'
   all_files fine bytes told =
       subst (λ (p : Planned Plan). HoldFiles holds (λ o. file_of is job p heads bytes o) snks') (sym for.made)
-      (outcome.holds_file is left named failed holds called faulted view job.outputs heads plan.edges plan.nodes srcs snks claims done.olds done.news done.src_places done.snk_places done.fault srcs' snks' order done.run done.back
+      (outcome.holds_file is left named failed holds called faulted view (asked_of job plan.texts) heads plan.edges plan.nodes srcs snks claims done.olds done.news done.src_places done.snk_places done.fault srcs' snks' order done.run done.back
       bytes (vouched bytes told) told for.fitting (muxes bytes) (outcome.fine_only (length heads) plan.nodes done.fault (sym done.end_is ∙ fine)))
 
   pub all_parts : ((out : OutputJob) (coded : List StreamHead) (held : Option (List ℕ)) (rs ss : List Flow) → AllBelow (map opened rs) ss → HoldsPart held (is.text out coded rs) (is.file out coded rs) → HoldsPart held (is.text out coded ss) (is.file out coded ss))
       → (bytes : List (List ℕ)) → AreTold left holds srcs snks bytes → HoldParts holds ((means is job).text heads bytes) ((means is job).file heads bytes) snks'
   all_parts holds_on bytes told =
       subst (λ (p : Planned Plan). HoldParts holds (λ o. text_of is job p heads bytes o) (λ o. file_of is job p heads bytes o) snks') (sym for.made)
-      (outcome.holds_part is left named failed holds called faulted view job.outputs heads plan.edges plan.nodes srcs snks claims done.olds done.news done.src_places done.snk_places done.fault srcs' snks' order done.run done.back
+      (outcome.holds_part is left named failed holds called faulted view (asked_of job plan.texts) heads plan.edges plan.nodes srcs snks claims done.olds done.news done.src_places done.snk_places done.fault srcs' snks' order done.run done.back
       bytes (vouched bytes told) told for.fitting (muxes bytes) holds_on)
 
 -- by the parts of the plan and of the job
 pub done_for : {H S K M : Type 0} (is : KindsOf H) (left named : S → Option (List ℕ)) (failed : S → ℕ) (holds called : K → Option (List ℕ)) (faulted : K → ℕ) (view : M → View)
-    (outputs outputs' : List OutputJob) (heads : List H) (edges edges' : List Edge) (nodes nodes' : List PlanNode) (srcs : List S) (snks : List K) (claims : Bool) (end : WorkEnd RunFault) (srcs' : List S) (snks' : List K)
-    → outputs ≡ outputs' → edges ≡ edges' → nodes ≡ nodes' → IsDone is left named failed holds called faulted view outputs heads edges nodes srcs snks claims end srcs' snks'
-    → IsDone is left named failed holds called faulted view outputs' heads edges' nodes' srcs snks claims end srcs' snks'
-done_for is left named failed holds called faulted view outputs outputs' heads edges edges' nodes nodes' srcs snks claims end srcs' snks' o e n h =
-    subst (λ (x : List OutputJob). IsDone is left named failed holds called faulted view x heads edges' nodes' srcs snks claims end srcs' snks') o
-    (subst (λ (x : List Edge). IsDone is left named failed holds called faulted view outputs heads x nodes' srcs snks claims end srcs' snks') e
-    (subst (λ (x : List PlanNode). IsDone is left named failed holds called faulted view outputs heads edges x srcs snks claims end srcs' snks') n h))
+    (asked asked' : Asked) (heads : List H) (edges edges' : List Edge) (nodes nodes' : List PlanNode) (srcs : List S) (snks : List K) (claims : Bool) (end : WorkEnd RunFault) (srcs' : List S) (snks' : List K)
+    → asked ≡ asked' → edges ≡ edges' → nodes ≡ nodes' → IsDone is left named failed holds called faulted view asked heads edges nodes srcs snks claims end srcs' snks'
+    → IsDone is left named failed holds called faulted view asked' heads edges' nodes' srcs snks claims end srcs' snks'
+done_for is left named failed holds called faulted view asked asked' heads edges edges' nodes nodes' srcs snks claims end srcs' snks' o e n h =
+    subst (λ (x : Asked). IsDone is left named failed holds called faulted view x heads edges' nodes' srcs snks claims end srcs' snks') o
+    (subst (λ (x : List Edge). IsDone is left named failed holds called faulted view asked heads x nodes' srcs snks claims end srcs' snks') e
+    (subst (λ (x : List PlanNode). IsDone is left named failed holds called faulted view asked heads edges x srcs snks claims end srcs' snks') n h))

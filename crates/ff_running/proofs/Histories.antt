@@ -2,7 +2,6 @@
 use Rattle.std.proofs.Common.{◌≡◌, ℕ, ◌<◌, Bool, true, false, List, [], ◌∷◌, length, map, replicate, Option, Some, None, IfSome, IsSome, is_some, refl, sym, ap, ◌∙◌, subst, slice_get, arith}
 use Rattle.ff_values.specs.declared.event.Event.{Event}
 use Rattle.ff_values.specs.declared.head.StreamHead.{StreamHead}
-use Rattle.ff_words.specs.declared.job.OutputJob.{OutputJob}
 use Rattle.ff_edges.specs.declared.edge.Edge.{Edge}
 use Rattle.ff_frame.specs.Ports.{stream_at}
 use Rattle.ff_net.specs.Views.{View}
@@ -15,6 +14,7 @@ use Rattle.ff_sched.specs.declared.routes.Routes.{Routes}
 use Rattle.ff_sched.specs.Bits.{upto, mark_at}
 use Rattle.ff_sched.specs.State.{State}
 use Rattle.ff_network.specs.declared.run.NodeFault.{NodeFault}
+use Rattle.ff_running.specs.Asked.{Asked}
 use Rattle.ff_running.specs.Openings.{is_unused, IsOpening, or_memory}
 use Rattle.ff_running.specs.declared.fault.RunFault.{RunFault}
 use Rattle.ff_running.specs.Kinds.{KindsOf}
@@ -85,25 +85,25 @@ pub state_is : (plan : Plan) (nodes : List PlanNode) (routes : Routes) (state : 
 state_is plan nodes routes state n r o = opening_is plan.nodes plan.routes state (subst (λ (ns : List PlanNode). IsOpening ns plan.routes state) n o)
 
 pub log_for : {H S K M : Type 0} (is : KindsOf H) (left named : S → Option (List ℕ)) (failed : S → ℕ) (holds called : K → Option (List ℕ)) (faulted : K → ℕ) (view : M → View)
-    (outputs outputs' : List OutputJob) (heads : List H) (edges edges' : List Edge) (nodes nodes' : List PlanNode) (srcs : List S) (snks : List K) (claims : Bool)
+    (asked asked' : Asked) (heads : List H) (edges edges' : List Edge) (nodes nodes' : List PlanNode) (srcs : List S) (snks : List K) (claims : Bool)
     (routes routes' : Routes) (state state' : State) (end : WorkEnd RunFault) (srcs' : List S) (snks' : List K) (log : RunLog)
-    → outputs ≡ outputs' → edges ≡ edges' → nodes ≡ nodes' → routes ≡ routes' → state ≡ state'
-    → IsLogOf is left named failed holds called faulted view outputs heads edges nodes srcs snks claims routes state end srcs' snks' log
-    → IsLogOf is left named failed holds called faulted view outputs' heads edges' nodes' srcs snks claims routes' state' end srcs' snks' log
-log_for is left named failed holds called faulted view outputs outputs' heads edges edges' nodes nodes' srcs snks claims routes routes' state state' end srcs' snks' log o e n r s h =
-    subst (λ (x : State). IsLogOf is left named failed holds called faulted view outputs' heads edges' nodes' srcs snks claims routes' x end srcs' snks' log) s
-    (subst (λ (x : Routes). IsLogOf is left named failed holds called faulted view outputs' heads edges' nodes' srcs snks claims x state end srcs' snks' log) r
-    (subst (λ (x : List PlanNode). IsLogOf is left named failed holds called faulted view outputs' heads edges' x srcs snks claims routes state end srcs' snks' log) n
-    (subst (λ (x : List Edge). IsLogOf is left named failed holds called faulted view outputs' heads x nodes srcs snks claims routes state end srcs' snks' log) e
-    (subst (λ (x : List OutputJob). IsLogOf is left named failed holds called faulted view x heads edges nodes srcs snks claims routes state end srcs' snks' log) o h))))
+    → asked ≡ asked' → edges ≡ edges' → nodes ≡ nodes' → routes ≡ routes' → state ≡ state'
+    → IsLogOf is left named failed holds called faulted view asked heads edges nodes srcs snks claims routes state end srcs' snks' log
+    → IsLogOf is left named failed holds called faulted view asked' heads edges' nodes' srcs snks claims routes' state' end srcs' snks' log
+log_for is left named failed holds called faulted view asked asked' heads edges edges' nodes nodes' srcs snks claims routes routes' state state' end srcs' snks' log o e n r s h =
+    subst (λ (x : State). IsLogOf is left named failed holds called faulted view asked' heads edges' nodes' srcs snks claims routes' x end srcs' snks' log) s
+    (subst (λ (x : Routes). IsLogOf is left named failed holds called faulted view asked' heads edges' nodes' srcs snks claims x state end srcs' snks' log) r
+    (subst (λ (x : List PlanNode). IsLogOf is left named failed holds called faulted view asked' heads edges' x srcs snks claims routes state end srcs' snks' log) n
+    (subst (λ (x : List Edge). IsLogOf is left named failed holds called faulted view asked' heads x nodes srcs snks claims routes state end srcs' snks' log) e
+    (subst (λ (x : Asked). IsLogOf is left named failed holds called faulted view x heads edges nodes srcs snks claims routes state end srcs' snks' log) o h))))
 
 -- where each output stream has events, a history that has none isn't that of a plan with an output
-pub tells_some : {H : Type 0} (is : KindsOf H) (outputs : List OutputJob) (heads : List H) (bytes : List (List ℕ)) (nodes : List PlanNode) (edges : List Edge)
-    → ((n : ℕ) (coded : StreamHead) (s : Flow) → [] ≡ is.events n coded s → ⊥) → 0 < length outputs → TellsAll is outputs heads bytes nodes edges [] → ⊥
-tells_some is outputs heads bytes nodes edges some lt t =
-    by_head (number_in is outputs heads bytes nodes edges 0 0) (stream_at (streams_into is outputs heads bytes nodes edges (mux_node is outputs heads bytes nodes edges 0)) 0)
-    (slice_get (coded_in is outputs heads bytes nodes edges 0) 0) (t.streams 0 0 lt (let one = t.some 0 lt in omega (arith, one)))
+pub tells_some : {H : Type 0} (is : KindsOf H) (asked : Asked) (heads : List H) (bytes : List (List ℕ)) (nodes : List PlanNode) (edges : List Edge)
+    → ((n : ℕ) (coded : StreamHead) (s : Flow) → [] ≡ is.events n coded s → ⊥) → 0 < length asked.outputs → TellsAll is asked heads bytes nodes edges [] → ⊥
+tells_some is asked heads bytes nodes edges some lt t =
+    by_head (number_in is asked heads bytes nodes edges 0 0) (stream_at (streams_into is asked heads bytes nodes edges (mux_node is asked heads bytes nodes edges 0)) 0)
+    (slice_get (coded_in is asked heads bytes nodes edges 0) 0) (t.streams 0 0 lt (let one = t.some 0 lt in omega (arith, one)))
   where
-    by_head : (n : ℕ) (s : Flow) (head : Option StreamHead) → [] ≡ events_by is outputs heads bytes nodes edges n head s → ⊥
+    by_head : (n : ℕ) (s : Flow) (head : Option StreamHead) → [] ≡ events_by is asked heads bytes nodes edges n head s → ⊥
     by_head n s None e = cc
     by_head n s (Some coded) e = some n coded s e

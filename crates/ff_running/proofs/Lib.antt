@@ -16,6 +16,7 @@ pub mod Reading
 pub mod Running
 pub mod StreamNumbers
 pub mod Planning
+pub mod Rows
 pub mod Plans
 pub mod Tally
 pub mod Told

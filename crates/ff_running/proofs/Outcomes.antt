@@ -18,6 +18,7 @@ use Rattle.ff_plan.specs.declared.planned.PlanNode.TheVariants as node
 use Rattle.ff_files.specs.declared.work.WorkEnd.{WorkEnd}
 use Rattle.ff_files.specs.declared.work.WorkEnd.TheVariants as work_end
 use Rattle.ff_files.specs.Works.{AreTold, HoldFiles, HoldParts, HoldsPart, KeepEnds, FailNoMore}
+use Rattle.ff_running.specs.Asked.{Asked}
 use Rattle.ff_running.specs.declared.fault.RunFault.{RunFault}
 use Rattle.ff_running.specs.declared.fault.RunFault.TheVariants as run_fault
 use Rattle.ff_running.specs.Kinds.{KindsOf, first_streams}
@@ -73,10 +74,10 @@ abbrev IsBehind : PlanNode → Type 0
 IsBehind n = (i : ℕ) → n ≡ node.Demux i → ⊥
 
 module _ {H S K M : Type 0} (is : KindsOf H) (left named : S → Option (List ℕ)) (failed : S → ℕ) (holds called : K → Option (List ℕ)) (faulted : K → ℕ) (view : M → View)
-    (outputs : List OutputJob) (heads : List H) (edges : List Edge) (nodes : List PlanNode) (srcs : List S) (snks : List K) (claims : Bool) (olds news : List M) (sp : List (Option S)) (kp : List (Option K))
+    (asked : Asked) (heads : List H) (edges : List Edge) (nodes : List PlanNode) (srcs : List S) (snks : List K) (claims : Bool) (olds news : List M) (sp : List (Option S)) (kp : List (Option K))
     (fault : Option NodeFault) (srcs' : List S) (snks' : List K)
     (order : AreOrdered (length srcs) (length snks) nodes)
-    (run : AreRun is left named failed holds called faulted view outputs heads edges nodes srcs snks claims olds news sp kp fault)
+    (run : AreRun is left named failed holds called faulted view asked heads edges nodes srcs snks claims olds news sp kp fault)
     (back : AreBack is left named failed holds called faulted view nodes news srcs snks srcs' snks') where
   old_lt : (k : ℕ) → k < length olds → k < length nodes
   old_lt k lt = (let few = run.parts.few in omega (arith, few, lt))
@@ -203,7 +204,7 @@ module _ {H S K M : Type 0} (is : KindsOf H) (left named : S → Option (List �
 
   -- a fault that comes of the streams, where these are told
   abbrev pub BrokenBy : RunFault → Type 0
-  BrokenBy why = (bytes : List (List ℕ)) → claims ≡ true → AreTold left holds srcs snks bytes → BreaksIn is outputs heads bytes nodes edges why
+  BrokenBy why = (bytes : List (List ℕ)) → claims ≡ true → AreTold left holds srcs snks bytes → BreaksIn is asked heads bytes nodes edges why
 
   -- what an end says, by cases
   abbrev pub Says : WorkEnd RunFault → Type 0
@@ -215,7 +216,7 @@ module _ {H S K M : Type 0} (is : KindsOf H) (left named : S → Option (List �
 
   module _ (f : NodeFault) (reported : fault ≡ Some f) where
     cause_of : IsOfInputs f.fault → (bytes : List (List ℕ)) → claims ≡ true → AreTold left holds srcs snks bytes
-        → (task_at is outputs heads bytes nodes edges f.node).cause (map (solution is outputs heads bytes nodes edges) (edges_into edges f.node)) ≡ Some f.fault
+        → (task_at is asked heads bytes nodes edges f.node).cause (map (solution is asked heads bytes nodes edges) (edges_into edges f.node)) ≡ Some f.fault
     cause_of i bytes vouched told = (run.meets vouched bytes told).cause f reported i
 
     device_says : (n : PlanNode) → slice_get nodes f.node ≡ Some n → f.fault ≡ Device → Says (device_end n)
@@ -293,38 +294,38 @@ module _ {H S K M : Type 0} (is : KindsOf H) (left named : S → Option (List �
 
   -- ---- what the sinks hold
 
-  module _ (bytes : List (List ℕ)) (vouched : claims ≡ true) (told : AreTold left holds srcs snks bytes) (fitting : AreFitting is outputs heads edges nodes)
-      (muxes : (o : ℕ) → o < length snks → slice_get nodes (mux_node is outputs heads bytes nodes edges o) ≡ Some (node.Mux o)) where
+  module _ (bytes : List (List ℕ)) (vouched : claims ≡ true) (told : AreTold left holds srcs snks bytes) (fitting : AreFitting is asked heads edges nodes)
+      (muxes : (o : ℕ) → o < length snks → slice_get nodes (mux_node is asked heads bytes nodes edges o) ≡ Some (node.Mux o)) where
     -- a Mux node's task, and its output's file and text
-    mux_is : (k o : ℕ) → slice_get nodes k ≡ Some (node.Mux o) → (fits : FitsMux is outputs (lanes_into edges k) (lanes_out_of edges k) o) → task_at is outputs heads bytes nodes edges k ≡ is.mux_task (first_at outputs nodes edges k) fits.out fits.coded
+    mux_is : (k o : ℕ) → slice_get nodes k ≡ Some (node.Mux o) → (fits : FitsMux is asked (lanes_into edges k) (lanes_out_of edges k) o) → task_at is asked heads bytes nodes edges k ≡ is.mux_task (first_at asked nodes edges k) fits.out fits.coded
     mux_is k o at fits =
-        ap (λ (n : Option PlanNode). task_by is outputs heads bytes nodes edges n k) at
-        ∙ (ap (λ (x : Option OutputJob). mux_by is (first_at outputs nodes edges k) x (heads_on (lanes_into edges k))) fits.there
-        ∙ ap (λ (hs : List StreamHead). mux_by is (first_at outputs nodes edges k) (Some fits.out) hs) (coded_is (lanes_into edges k) fits.coded fits.ins_are))
+        ap (λ (n : Option PlanNode). task_by is asked heads bytes nodes edges n k) at
+        ∙ (ap (λ (x : Option OutputJob). mux_by is (first_at asked nodes edges k) x (heads_on (lanes_into edges k))) fits.there
+        ∙ ap (λ (hs : List StreamHead). mux_by is (first_at asked nodes edges k) (Some fits.out) hs) (coded_is (lanes_into edges k) fits.coded fits.ins_are))
 
-    file_is : (o : ℕ) (fits : FitsMux is outputs (lanes_into edges (mux_node is outputs heads bytes nodes edges o)) (lanes_out_of edges (mux_node is outputs heads bytes nodes edges o)) o)
-        → file_in is outputs heads bytes nodes edges o ≡ is.file fits.out fits.coded (streams_into is outputs heads bytes nodes edges (mux_node is outputs heads bytes nodes edges o))
+    file_is : (o : ℕ) (fits : FitsMux is asked (lanes_into edges (mux_node is asked heads bytes nodes edges o)) (lanes_out_of edges (mux_node is asked heads bytes nodes edges o)) o)
+        → file_in is asked heads bytes nodes edges o ≡ is.file fits.out fits.coded (streams_into is asked heads bytes nodes edges (mux_node is asked heads bytes nodes edges o))
     file_is o fits =
-        let k = mux_node is outputs heads bytes nodes edges o in
-        let s = streams_into is outputs heads bytes nodes edges k in
-        ap (λ (x : Option OutputJob). file_by is outputs heads bytes nodes edges x (heads_on (lanes_into edges k)) s) fits.there
-        ∙ ap (λ (hs : List StreamHead). file_by is outputs heads bytes nodes edges (Some fits.out) hs s) (coded_is (lanes_into edges k) fits.coded fits.ins_are)
+        let k = mux_node is asked heads bytes nodes edges o in
+        let s = streams_into is asked heads bytes nodes edges k in
+        ap (λ (x : Option OutputJob). file_by is asked heads bytes nodes edges x (heads_on (lanes_into edges k)) s) fits.there
+        ∙ ap (λ (hs : List StreamHead). file_by is asked heads bytes nodes edges (Some fits.out) hs s) (coded_is (lanes_into edges k) fits.coded fits.ins_are)
 
-    text_is : (o : ℕ) (fits : FitsMux is outputs (lanes_into edges (mux_node is outputs heads bytes nodes edges o)) (lanes_out_of edges (mux_node is outputs heads bytes nodes edges o)) o)
-        → text_in is outputs heads bytes nodes edges o ≡ is.text fits.out fits.coded (streams_into is outputs heads bytes nodes edges (mux_node is outputs heads bytes nodes edges o))
+    text_is : (o : ℕ) (fits : FitsMux is asked (lanes_into edges (mux_node is asked heads bytes nodes edges o)) (lanes_out_of edges (mux_node is asked heads bytes nodes edges o)) o)
+        → text_in is asked heads bytes nodes edges o ≡ is.text fits.out fits.coded (streams_into is asked heads bytes nodes edges (mux_node is asked heads bytes nodes edges o))
     text_is o fits =
-        let k = mux_node is outputs heads bytes nodes edges o in
-        let s = streams_into is outputs heads bytes nodes edges k in
-        ap (λ (x : Option OutputJob). text_by is outputs heads bytes nodes edges x (heads_on (lanes_into edges k)) s) fits.there
-        ∙ ap (λ (hs : List StreamHead). text_by is outputs heads bytes nodes edges (Some fits.out) hs s) (coded_is (lanes_into edges k) fits.coded fits.ins_are)
+        let k = mux_node is asked heads bytes nodes edges o in
+        let s = streams_into is asked heads bytes nodes edges k in
+        ap (λ (x : Option OutputJob). text_by is asked heads bytes nodes edges x (heads_on (lanes_into edges k)) s) fits.there
+        ∙ ap (λ (hs : List StreamHead). text_by is asked heads bytes nodes edges (Some fits.out) hs s) (coded_is (lanes_into edges k) fits.coded fits.ins_are)
 
     lt_snks : (o : ℕ) → o < length snks' → o < length snks
     lt_snks o lt = (let c = back.snk_count in omega (arith, lt, c))
 
     -- without a fault each holds its file
-    pub holds_file : fault ≡ None → HoldFiles holds (file_in is outputs heads bytes nodes edges) snks'
+    pub holds_file : fault ≡ None → HoldFiles holds (file_in is asked heads bytes nodes edges) snks'
     holds_file none o d lt =
-        let k = mux_node is outputs heads bytes nodes edges o in
+        let k = mux_node is asked heads bytes nodes edges o in
         let at = muxes o (lt_snks o lt) in
         let fits = fitting k (node.Mux o) at in
         let m = there news k (
@@ -336,19 +337,19 @@ module _ {H S K M : Type 0} (is : KindsOf H) (left named : S → Option (List �
         let fed = (run.meets vouched bytes told).settled none k m.0 m.1 fits.outs_are in
         let ws = edges_into edges k in
         let many = edge_count edges k fits.coded fits.ins_are in
-        let got = same_streams fed.past.got (solution is outputs heads bytes nodes edges) (length fits.coded) ws many fed.got in
-        let held = sink.2.whole fed.past (first_at outputs nodes edges k) fits.out fits.coded fed.fits (fed.task_is ∙ mux_is k o at fits) (run.tells.sound none k m.0 m.1)
+        let got = same_streams fed.past.got (solution is asked heads bytes nodes edges) (length fits.coded) ws many fed.got in
+        let held = sink.2.whole fed.past (first_at asked nodes edges k) fits.out fits.coded fed.fits (fed.task_is ∙ mux_is k o at fits) (run.tells.sound none k m.0 m.1)
         (λ p lt. let within : p < length ws = omega (arith, lt, many) in subst (λ (s : Flow). IsWhole s) (sym (fed.got p within)) (fed.whole p within)) in
-        let same : is.file fits.out fits.coded (first_streams (length fits.coded) fed.past.got) ≡ file_in is outputs heads bytes nodes edges o = ap (is.file fits.out fits.coded) got ∙ sym (file_is o fits) in
+        let same : is.file fits.out fits.coded (first_streams (length fits.coded) fed.past.got) ≡ file_in is asked heads bytes nodes edges o = ap (is.file fits.out fits.coded) got ∙ sym (file_is o fits) in
         let snk : slice_index_or snks' o d ≡ sink.0 = get_or_from_slice_get snks' o sink.0 d sink.1 in
         (subst (λ (x : Option (List ℕ)). IsSome x) same held.0, ap holds snk ∙ (held.1 ∙ same))
 
     -- and whatever the fault a front of its text, or its file
     pub holds_part : ((out : OutputJob) (coded : List StreamHead) (held : Option (List ℕ)) (rs ss : List Flow) → AllBelow (map opened rs) ss → HoldsPart held (is.text out coded rs) (is.file out coded rs) → HoldsPart held (is.text out coded ss) (is.file out coded ss))
-        → HoldParts holds (text_in is outputs heads bytes nodes edges) (file_in is outputs heads bytes nodes edges) snks'
+        → HoldParts holds (text_in is asked heads bytes nodes edges) (file_in is asked heads bytes nodes edges) snks'
     holds_part holds_on o d lt = elim (mux_before nodes (length news) o) [
       | inl b ↦
-          let k = mux_node is outputs heads bytes nodes edges o in
+          let k = mux_node is asked heads bytes nodes edges o in
           let at = muxes o (lt_snks o lt) in
           let fits = fitting k (node.Mux o) at in
           let here : b.0 ≡ k = mux_once (length srcs) (length snks) nodes order b.0 k o b.2 at in
@@ -356,16 +357,16 @@ module _ {H S K M : Type 0} (is : KindsOf H) (left named : S → Option (List �
           let sink = back.sinks k o m.0 at m.1 in
           let fed = (run.meets vouched bytes told).below k m.0 m.1 in
           let ws = edges_into edges k in
-          let lies = below_streams fed.past.got (solution is outputs heads bytes nodes edges) (length fits.coded) ws (edge_count edges k fits.coded fits.ins_are) fed.got in
-          let part = sink.2.part fed.past (first_at outputs nodes edges k) fits.out fits.coded fed.fits (fed.task_is ∙ mux_is k o at fits) in
-          let more = holds_on fits.out fits.coded (holds sink.0) (first_streams (length fits.coded) fed.past.got) (streams_into is outputs heads bytes nodes edges k) lies part in
+          let lies = below_streams fed.past.got (solution is asked heads bytes nodes edges) (length fits.coded) ws (edge_count edges k fits.coded fits.ins_are) fed.got in
+          let part = sink.2.part fed.past (first_at asked nodes edges k) fits.out fits.coded fed.fits (fed.task_is ∙ mux_is k o at fits) in
+          let more = holds_on fits.out fits.coded (holds sink.0) (first_streams (length fits.coded) fed.past.got) (streams_into is asked heads bytes nodes edges k) lies part in
           let snk : slice_index_or snks' o d ≡ sink.0 = get_or_from_slice_get snks' o sink.0 d sink.1 in
-          subst (λ (x : K). HoldsPart (holds x) (text_in is outputs heads bytes nodes edges o) (file_in is outputs heads bytes nodes edges o)) (sym snk)
-          (subst (λ (t : List ℕ). HoldsPart (holds sink.0) t (file_in is outputs heads bytes nodes edges o)) (sym (text_is o fits))
-          (subst (λ (x : Option (List ℕ)). HoldsPart (holds sink.0) (is.text fits.out fits.coded (streams_into is outputs heads bytes nodes edges k)) x) (sym (file_is o fits)) more))
+          subst (λ (x : K). HoldsPart (holds x) (text_in is asked heads bytes nodes edges o) (file_in is asked heads bytes nodes edges o)) (sym snk)
+          (subst (λ (t : List ℕ). HoldsPart (holds sink.0) t (file_in is asked heads bytes nodes edges o)) (sym (text_is o fits))
+          (subst (λ (x : Option (List ℕ)). HoldsPart (holds sink.0) (is.text fits.out fits.coded (streams_into is asked heads bytes nodes edges k)) x) (sym (file_is o fits)) more))
       | inr never ↦
           let x = there snks o (lt_snks o lt) in
           let now : slice_index_or snks' o d ≡ x.0 = get_or_from_slice_get snks' o x.0 d (back.other_snks o never ∙ x.1) in
           let empty : holds (slice_index_or snks' o d) ≡ Some [] = ap holds (now ∙ sym (get_or_from_slice_get snks o x.0 d x.1)) ∙ told.empty o d (lt_snks o lt) in
-          inl ([], text_in is outputs heads bytes nodes edges o, empty, refl)
+          inl ([], text_in is asked heads bytes nodes edges o, empty, refl)
     ]

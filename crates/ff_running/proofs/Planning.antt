@@ -1,141 +1,160 @@
 -- What a plan's nodes and edges are to the kinds of part.
-use Rattle.std.proofs.Common.{◌≡◌, ◌⊎◌, inl, inr, ℕ, zero, suc, ◌+◌, ◌-◌, ◌<◌, ◌≤◌, true, List, [], ◌∷◌, length, map, replicate, slice_get, slice_index_or, unwrap_or, Some, refl, sym, ap, ◌∙◌, subst, arith}
-use Rattle.std.specs.List.{All, AllByRecursion}
-use Rattle.std.proofs.lemmas.Option.{slice_get_within, get_or_from_slice_get, slice_get-get_or}
-use Rattle.std.proofs.lemmas.Bool.{cases_lt}
+use Rattle.std.proofs.Common.{◌≡◌, ℕ, zero, suc, ◌+◌, ◌-◌, ◌<◌, ◌≤◌, Bool, true, false, List, [], ◌∷◌, length, map, replicate, slice_get, slice_index_or, unwrap_or, Option, Some, None, refl, sym, ap, ◌∙◌, subst, arith}
+use Rattle.std.specs.Prelude.{cond, Ok}
+use Rattle.std.specs.List.{All, AllByRecursion, cons_option, filter, filter_map}
+use Rattle.std.proofs.lemmas.Option.{slice_get_within, get_or_from_slice_get}
 use Rattle.std.proofs.lemmas.List.{length-map, length-replicate}
 use Rattle.ff_values.specs.declared.head.StreamHead.{StreamHead}
 use Rattle.ff_frame.specs.declared.item.Lane.{Lane}
 use Rattle.ff_frame.specs.declared.item.Lane.TheVariants.{Frames, Packets}
+use Rattle.ff_lang.specs.declared.graph.Graph.{Graph}
+use Rattle.ff_map.specs.declared.streams.Stream.{Stream}
 use Rattle.ff_map.specs.declared.streams.StreamRef.{StreamRef}
+use Rattle.ff_map.specs.Choice.{streams_from}
+use Rattle.ff_words.specs.declared.job.Job.{Job}
 use Rattle.ff_words.specs.declared.job.OutputJob.{OutputJob}
 use Rattle.ff_edges.specs.declared.edge.Edge.{Edge}
-use Rattle.ff_edges.specs.Ports.{lanes_into, lanes_out_of}
+use Rattle.ff_edges.specs.Ports.{lane_of, lanes_into, lanes_out_of, edges_to, shape_of}
+use Rattle.ff_plan.specs.declared.open_pads.OpenOut.{OpenOut}
+use Rattle.ff_plan.specs.declared.planned.GraphText.{GraphText}
+use Rattle.ff_plan.specs.declared.planned.Plan.{Plan}
 use Rattle.ff_plan.specs.declared.planned.PlanNode.{PlanNode}
 use Rattle.ff_plan.specs.declared.planned.PlanNode.TheVariants as node
-use Rattle.ff_plan.specs.Choice.{head_at}
+use Rattle.ff_plan.specs.EndFits as ends
 use Rattle.ff_plan.specs.Fitting as fitting
+use Rattle.ff_plan.specs.GraphFits as graphs
 use Rattle.ff_plan.specs.Numbers.{streams_between}
-use Rattle.ff_plan.specs.Streams.{most_streams, packed_as, takes_head}
-use Rattle.ff_running.specs.Kinds.{KindsOf}
+use Rattle.ff_plan.specs.StartFits as starts
+use Rattle.ff_plan.specs.Streams.{packed_as, takes_head}
+use Rattle.ff_plan.specs.Taken.{AllFrames, HasFrames, OutputsFit}
+use Rattle.ff_running.specs.Asked.{Asked, asked_of, text_there}
+use Rattle.ff_running.specs.Kinds.{KindsOf, GraphsAreHad}
 use Rattle.ff_running.specs.Parts.{IsFitting, AreOrdered, HaveNumbers}
+use Rattle.ff_running.proofs.Rows.{all_at}
 use Rattle.ff_running.proofs.StreamNumbers.{one_past}
 
--- ---- the order of the nodes
+-- ---- lists
 
-module _ (inputs outputs : ℕ) (nodes : List PlanNode) (kinds : fitting.HasKinds inputs outputs nodes) where
-  -- a node in front is a Demux, one at the end a Mux, and one between decodes or codes
-  abbrev IsFront : ℕ → PlanNode → Type 0
-  IsFront k n = (k < length kinds.demuxed) × (n ≡ node.Demux (slice_index_or kinds.demuxed k 0))
+all_from : {A : Type 0} (P : A → Type 0) (xs : List A) → ((j : ℕ) (x : A) → slice_get xs j ≡ Some x → P x) → AllByRecursion P xs
+all_from P [] each = tt
+all_from P (x ∷ xs) each = (each 0 x refl, all_from P xs (λ j y e. each (suc j) y e))
 
-  abbrev IsLast : ℕ → PlanNode → Type 0
-  IsLast k n = (o : ℕ) × (o < outputs) × (k ≡ (length nodes - outputs) + o) × (n ≡ node.Mux o)
+both_all : {A : Type 0} (P Q : A → Type 0) (xs : List A) → AllByRecursion P xs → AllByRecursion Q xs → AllByRecursion (λ x. P x × Q x) xs
+both_all P Q [] p q = tt
+both_all P Q (x ∷ xs) p q = ((p.0, q.0), both_all P Q xs p.1 q.1)
 
-  kind_of : (k : ℕ) (n : PlanNode) → slice_get nodes k ≡ Some n → IsFront k n ⊎ (((length kinds.demuxed ≤ k) × fitting.IsCoder n) ⊎ ((length kinds.demuxed ≤ k) × IsLast k n))
-  kind_of k n at =
-      let lt : k < length nodes = slice_get_within nodes k n at in
-      let room = kinds.room in
-      let is : slice_index_or nodes k n ≡ n = get_or_from_slice_get nodes k n n at in
-      elim (cases_lt k (length kinds.demuxed)) [
-        | inl front ↦ inl (front, sym is ∙ kinds.demuxes k 0 n front)
-        | inr behind ↦ inr (elim (cases_lt (k + outputs) (length nodes)) [
-          | inl coder ↦ inl (behind, subst (λ (x : PlanNode). fitting.IsCoder x) is (kinds.coders k n behind coder))
-          | inr last ↦
-              let o = k - (length nodes - outputs) in
-              let o_lt : o < outputs = omega (arith, lt, last, room) in
-              let k_is : k ≡ (length nodes - outputs) + o = omega (arith, lt, last, room) in
-              inr (behind, (o, o_lt, k_is, sym is ∙ (ap (λ (j : ℕ). slice_index_or nodes j n) k_is ∙ kinds.muxes o n o_lt)))
-        ])
-      ]
+two_maps : {A B C : Type 0} (f : A → B) (g : B → C) (xs : List A) → map (λ x. g (f x)) xs ≡ map g (map f xs)
+two_maps f g [] = refl
+two_maps f g (x ∷ xs) = ap (λ (ys : List _). g (f x) ∷ ys) (two_maps f g xs)
 
-  front_is : (k i : ℕ) → slice_get nodes k ≡ Some (node.Demux i) → (k < length kinds.demuxed) × (i ≡ slice_index_or kinds.demuxed k 0)
-  front_is k i at = elim (kind_of k (node.Demux i) at) [
-    | inl h ↦ (h.0, (let same : node.Demux i ≡ node.Demux (slice_index_or kinds.demuxed k 0) = h.1 in cc))
-    | inr r ↦ elim r [ inl h ↦ absurd h.1 | inr h ↦ absurd (let same : node.Demux i ≡ node.Mux h.1.0 = h.1.3 in cc) ]
-  ]
+-- ---- the frames on the edges at a node
 
-  last_is : (k o : ℕ) → slice_get nodes k ≡ Some (node.Mux o) → (o < outputs) × (k ≡ (length nodes - outputs) + o)
-  last_is k o at = elim (kind_of k (node.Mux o) at) [
-    | inl h ↦ absurd (let same : node.Mux o ≡ node.Demux (slice_index_or kinds.demuxed k 0) = h.1 in cc)
-    | inr r ↦ elim r [
-      | inl h ↦ absurd h.1
-      | inr h ↦
-          let same : node.Mux o ≡ node.Mux h.1.0 = h.1.3 in
-          let equal : h.1.0 ≡ o = cc in
-          (subst (λ (p : ℕ). p < outputs) equal h.1.1, subst (λ (p : ℕ). k ≡ (length nodes - outputs) + p) equal h.1.2)
-    ]
-  ]
+module _ (P : StreamHead → Type 0) where
+  lane_has : (edges : List Edge) (w : ℕ) (l : Lane) → AllFrames P edges → lane_of edges w ≡ Some l → HasFrames P l
+  lane_has [] w l all e = absurd cc
+  lane_has (d ∷ ds) zero l all e = (let same : Some d.lane ≡ Some l = e in let is : d.lane ≡ l = cc in subst (HasFrames P) is all.0)
+  lane_has (d ∷ ds) (suc w) l all e = lane_has ds w l all.1 e
 
-  pub are_ordered : AreOrdered inputs outputs nodes
-  are_ordered = record {
-    inputs_there = λ k i at. (let h = front_is k i at in subst (λ (j : ℕ). j < inputs) (sym h.1) (kinds.inputs_are k 0 h.0));
-    outputs_there = λ k o at. (last_is k o at).0;
-    rising = λ j k i i' a b lt.
-        let x = front_is j i a in
-        let y = front_is k i' b in
-        subst (λ (n : ℕ). n < i') (sym x.1) (subst (λ (n : ℕ). slice_index_or kinds.demuxed j 0 < n) (sym y.1) (kinds.rising j k 0 lt y.0));
-    first = λ j k i n a b le.
-        let x = front_is j i a in
-        let j_lt = x.0 in
-        elim (kind_of k n b) [
-          | inl h ↦ (slice_index_or kinds.demuxed k 0, h.1)
-          | inr r ↦ elim r [ inl h ↦ (let behind = h.0 in absurd (omega (arith, j_lt, le, behind))) | inr h ↦ (let behind = h.0 in absurd (omega (arith, j_lt, le, behind))) ]
-        ];
-    muxes_at = λ k o at. (last_is k o at).1;
-    muxes_rise = λ j k o o' a b lt.
-        let x = (last_is j o a).1 in
-        let y = (last_is k o' b).1 in
-        omega (arith, x, y, lt);
-  }
+  lanes_step : (o : Option Lane) (ls : List Lane) → ((l : Lane) → o ≡ Some l → HasFrames P l) → AllByRecursion (HasFrames P) ls → AllByRecursion (HasFrames P) (cons_option o ls)
+  lanes_step None ls has all = all
+  lanes_step (Some l) ls has all = (has l refl, all)
 
-  pub muxes_there : (o : ℕ) → o < outputs → slice_get nodes ((length nodes - outputs) + o) ≡ Some (node.Mux o)
-  muxes_there o lt =
-      let room = kinds.room in
-      let within : (length nodes - outputs) + o < length nodes = omega (arith, lt, room) in
-      slice_get-get_or nodes ((length nodes - outputs) + o) (node.Mux o) within ∙ ap (λ (n : PlanNode). Some n) (kinds.muxes o (node.Mux o) lt)
+  lanes_have : (edges : List Edge) (ws : List ℕ) → AllFrames P edges → AllByRecursion (HasFrames P) (filter_map (lane_of edges) ws)
+  lanes_have edges [] all = tt
+  lanes_have edges (w ∷ ws) all = lanes_step (lane_of edges w) (filter_map (lane_of edges) ws) (λ l e. lane_has edges w l all e) (lanes_have edges ws all)
 
--- ---- the lanes at the ports of a node
+  heads_have : (heads : List StreamHead) → AllByRecursion (HasFrames P) (map (λ h. Frames h) heads) → AllByRecursion P heads
+  heads_have [] all = tt
+  heads_have (h ∷ hs) all = (all.0, heads_have hs all.1)
 
-module _ {H : Type 0} (is : KindsOf H) (outputs : List OutputJob) (heads : List H) (sound : All is.IsHead heads)
-    (decodes : (h : H) → is.IsHead h → is.CanDecode (is.stream h))
-    (encodes : (h : H) (out : OutputJob) → is.IsHead h → takes_head out (is.stream h) ≡ true → is.CanEncode (is.stream h) (packed_as out (is.stream h)))
-    (writes : (hs : List H) (out : OutputJob) → AllByRecursion (λ h. is.IsHead h × (takes_head out (is.stream h) ≡ true)) hs → 1 ≤ length hs → length hs ≤ most_streams out.format
-    → is.CanMux out (map (λ h. packed_as out (is.stream h)) hs)) where
-  abbrev singles : List H → List (List StreamHead)
-  singles hs = map (λ h. is.stream h ∷ []) hs
+  -- of frames of these heads that enter a node
+  frames_in : (edges : List Edge) (k : ℕ) (heads : List StreamHead) → AllFrames P edges → lanes_into edges k ≡ map (λ h. Frames h) heads → AllByRecursion P heads
+  frames_in edges k heads all e = heads_have heads (subst (AllByRecursion (HasFrames P)) e (lanes_have edges (edges_to (shape_of edges) edges k) all))
 
-  -- the head of an input
-  one_head : (hs : List H) (i : ℕ) (head : StreamHead) → slice_get (singles hs) i ≡ Some (head ∷ []) → (h : H) × (slice_get hs i ≡ Some h) × (is.stream h ≡ head)
-  one_head [] i head e = absurd cc
-  one_head (h ∷ hs) zero head e = (h, refl, (let same : Some (is.stream h ∷ []) ≡ Some (head ∷ []) = e in cc))
-  one_head (h ∷ hs) (suc i) head e = one_head hs i head e
+-- ---- the one stream of an input
 
-  in_one : (h : H) (n : ℕ) (head : StreamHead) → slice_get (is.stream h ∷ []) n ≡ Some head → is.stream h ≡ head
-  in_one h zero head e = (let same : Some (is.stream h) ≡ Some head = e in cc)
+module _ {H : Type 0} (stream : H → StreamHead) where
+  abbrev pub singles : List H → List (List StreamHead)
+  singles hs = map (λ h. stream h ∷ []) hs
+
+  in_one : (h : H) (n : ℕ) (head : StreamHead) → slice_get (stream h ∷ []) n ≡ Some head → stream h ≡ head
+  in_one h zero head e = (let same : Some (stream h) ≡ Some head = e in cc)
   in_one h (suc n) head e = absurd cc
 
-  one_stream : (hs : List H) (i n : ℕ) (head : StreamHead) → slice_get (unwrap_or (slice_get (singles hs) i) []) n ≡ Some head → (h : H) × (slice_get hs i ≡ Some h) × (is.stream h ≡ head)
+  one_stream : (hs : List H) (i n : ℕ) (head : StreamHead) → slice_get (unwrap_or (slice_get (singles hs) i) []) n ≡ Some head → (h : H) × (slice_get hs i ≡ Some h) × (stream h ≡ head)
   one_stream [] i n head e = absurd cc
   one_stream (h ∷ hs) zero n head e = (h, refl, in_one h n head e)
   one_stream (h ∷ hs) (suc i) n head e = one_stream hs i n head e
 
-  sound_at : (i : ℕ) (h : H) → slice_get heads i ≡ Some h → is.IsHead h
+  abbrev one : ℕ → H → Stream
+  one i h = record { at = record { input = i; stream = 0 }; head = stream h }
+
+  -- the streams from an input on that are shown, by whether its one is
+  shown_step : (shown : Stream → Bool) (a : ℕ) (h : H) (hs : List H) (b : Bool) → shown (one a h) ≡ b
+      → filter shown (streams_from a (singles (h ∷ hs))) ≡ cond b (one a h ∷ filter shown (streams_from (a + 1) (singles hs))) (filter shown (streams_from (a + 1) (singles hs)))
+  shown_step shown a h hs b e = ap (λ (c : Bool). cond c (one a h ∷ filter shown (streams_from (a + 1) (singles hs))) (filter shown (streams_from (a + 1) (singles hs)))) e
+
+  -- none is of inputs from a later one on
+  none_later : (shown : Stream → Bool) (i : ℕ) → ((s : Stream) → shown s ≡ true → s.at.input ≡ i) → (a : ℕ) (hs : List H) → i < a → filter shown (streams_from a (singles hs)) ≡ []
+  none_later shown i own a [] lt = refl
+  none_later shown i own a (h ∷ hs) lt = skip (shown (one a h)) refl (none_later shown i own (a + 1) hs (omega (arith, lt))) where
+    skip : (b : Bool) → shown (one a h) ≡ b → filter shown (streams_from (a + 1) (singles hs)) ≡ [] → filter shown (streams_from a (singles (h ∷ hs))) ≡ []
+    skip true e none = absurd (let same = own (one a h) e in omega (arith, lt, same))
+    skip false e none = shown_step shown a h hs false e ∙ none
+
+  -- the one stream of one of some inputs, the first of which has this number, is all that is shown
+  abbrev IsShown : (Stream → Bool) → ℕ → ℕ → List H → Type 0
+  IsShown shown i a hs = (j : ℕ) × (h : H) × (i ≡ a + j) × (slice_get hs j ≡ Some h) × (filter shown (streams_from a (singles hs)) ≡ one i h ∷ [])
+
+  one_shown : (shown : Stream → Bool) (i : ℕ) → ((s : Stream) → shown s ≡ true → s.at.input ≡ i) → (a : ℕ) (hs : List H) → 1 ≤ length (filter shown (streams_from a (singles hs))) → IsShown shown i a hs
+  one_shown shown i own a [] some = absurd (omega (arith, some))
+  one_shown shown i own a (h ∷ hs) some = by (shown (one a h)) refl (λ later. one_shown shown i own (a + 1) hs later) where
+    by : (b : Bool) → shown (one a h) ≡ b → (1 ≤ length (filter shown (streams_from (a + 1) (singles hs))) → IsShown shown i (a + 1) hs) → IsShown shown i a (h ∷ hs)
+    by true e later =
+        let same : a ≡ i = own (one a h) e in (
+          0,
+          h,
+          omega (arith, same),
+          refl,
+          shown_step shown a h hs true e ∙ (ap (λ (xs : List Stream). one a h ∷ xs) (none_later shown i own (a + 1) hs (omega (arith, same)))
+              ∙ ap (λ (n : ℕ). one n h ∷ []) same),
+        )
+    by false e later =
+        let more = later (subst (λ (xs : List Stream). 1 ≤ length xs) (shown_step shown a h hs false e) some) in
+        let j_is = more.2 in
+        (suc more.0, more.1, omega (arith, j_is), more.3, shown_step shown a h hs false e ∙ more.4)
+
+-- ---- the lanes at the ports of a node
+
+module _ {H : Type 0} (is : KindsOf H) (job : Job) (heads : List H) (plan : Plan) (sound : All is.IsHead heads) (frames : AllFrames is.IsFrames plan.edges) where
+  abbrev pub asked : Asked
+  asked = asked_of job plan.texts
+
+  abbrev pub Fits : ℕ → PlanNode → Type 0
+  Fits k n = IsFitting is asked heads (lanes_into plan.edges k) (lanes_out_of plan.edges k) n
+
+  pub sound_at : (i : ℕ) (h : H) → slice_get heads i ≡ Some h → is.IsHead h
   sound_at i h at = subst is.IsHead (get_or_from_slice_get heads i h h at) (sound i h (slice_get_within heads i h at))
 
-  demux_fits : (edges : List Edge) (k i : ℕ) → fitting.FitsDemux (singles heads) edges k i → IsFitting is outputs heads (lanes_into edges k) (lanes_out_of edges k) (node.Demux i)
-  demux_fits edges k i f =
-      let h = one_head heads i f.head f.is in record {
-        head = h.0;
-        there = h.1;
-        sound = sound_at i h.0 h.1;
+  pub demux_fits : (k i : ℕ) → 1 ≤ length (lanes_out_of plan.edges k) → starts.FitsCutter (singles is.stream heads) plan.edges k i → Fits k (node.Demux i)
+  demux_fits k i used f =
+      let many : length (lanes_out_of plan.edges k) ≡ length (filter f.shown (streams_from 0 (singles is.stream heads))) =
+      ap (λ (ls : List Lane). length ls) f.outs ∙ length-map (filter f.shown (streams_from 0 (singles is.stream heads))) (λ (s : Stream). Packets s.head) in
+      let one = one_shown is.stream f.shown i f.of_input 0 heads (omega (arith, used, many)) in
+      let j_is = one.2 in
+      let is_i : one.0 ≡ i = omega (arith, j_is) in
+      let there : slice_get heads i ≡ Some one.1 = subst (λ (j : ℕ). slice_get heads j ≡ Some one.1) is_i one.3 in record {
+        head = one.1;
+        there = there;
+        sound = sound_at i one.1 there;
         ins_are = f.ins;
-        outs_are = f.outs ∙ ap (λ (x : StreamHead). Packets x ∷ []) (sym h.2);
+        outs_are = f.outs ∙ ap (λ (ss : List Stream). map (λ (s : Stream). Packets s.head) ss) one.4;
       }
 
-  dec_fits : (edges : List Edge) (k : ℕ) (at : StreamRef) → fitting.FitsDec (singles heads) edges k at → IsFitting is outputs heads (lanes_into edges k) (lanes_out_of edges k) (node.Dec at)
-  dec_fits edges k at f =
-      let h = one_stream heads at.input at.stream f.head f.is in
-      let many : length (lanes_out_of edges k) ≡ f.uses = ap length f.outs ∙ length-replicate f.uses (Frames f.head) in
+  pub dec_fits : ((h : H) → is.IsHead h → is.CanDecode (is.stream h)) → (k : ℕ) (at : StreamRef) → fitting.FitsDec (singles is.stream heads) plan.edges k at → Fits k (node.Dec at)
+  dec_fits decodes k at f =
+      let h = one_stream is.stream heads at.input at.stream f.head f.is in
+      let many : length (lanes_out_of plan.edges k) ≡ f.uses = ap length f.outs ∙ length-replicate f.uses (Frames f.head) in
       let used = f.used in record {
         head = f.head;
         can = subst is.CanDecode h.2 (decodes h.0 (sound_at at.input h.0 h.1));
@@ -144,77 +163,82 @@ module _ {H : Type 0} (is : KindsOf H) (outputs : List OutputJob) (heads : List 
         outs_are = f.outs ∙ ap (λ (n : ℕ). replicate n (Frames f.head)) (sym many);
       }
 
-  can_encode : (head : StreamHead) (at : StreamRef) (o : ℕ) (out : OutputJob) → head_at (singles heads) at ≡ Some head → slice_get outputs o ≡ Some out → takes_head out head ≡ true → is.CanEncode head (packed_as out head)
-  can_encode head at o out there_at out_at takes =
-      let h = one_stream heads at.input at.stream head there_at in
-      subst (λ (x : StreamHead). is.CanEncode x (packed_as out x)) h.2
-      (encodes h.0 out (sound_at at.input h.0 h.1) (subst (λ (x : StreamHead). takes_head out x ≡ true) (sym h.2) takes))
-
-  -- the heads of inputs whose streams an output takes
-  abbrev AreTaken : OutputJob → List H → Type 0
-  AreTaken out hs = AllByRecursion (λ h. is.IsHead h × (takes_head out (is.stream h) ≡ true)) hs
-
-  heads_taken : (out : OutputJob) (taken : List StreamHead) → AllByRecursion (fitting.TakesFrames (singles heads) out) taken
-      → (hs : List H) × (map (λ h. is.stream h) hs ≡ taken) × AreTaken out hs
-  heads_taken out [] all = ([], refl, tt)
-  heads_taken out (t ∷ ts) all =
-      let at = all.0.0 in
-      let h = one_stream heads at.input at.stream t all.0.1 in
-      let more = heads_taken out ts all.1 in (
-        h.0 ∷ more.0,
-        ap (λ (x : StreamHead). x ∷ map (λ (g : H). is.stream g) more.0) h.2 ∙ ap (λ (xs : List StreamHead). t ∷ xs) more.1,
-        ((sound_at at.input h.0 h.1, subst (λ (x : StreamHead). takes_head out x ≡ true) (sym h.2) all.0.2), more.2),
-      )
-
-  packed_lanes : (out : OutputJob) (hs : List H)
-      → map (λ (x : StreamHead). Packets (packed_as out x)) (map (λ h. is.stream h) hs) ≡ map (λ (x : StreamHead). Packets x) (map (λ h. packed_as out (is.stream h)) hs)
-  packed_lanes out [] = refl
-  packed_lanes out (h ∷ hs) = ap (λ (ls : List Lane). Packets (packed_as out (is.stream h)) ∷ ls) (packed_lanes out hs)
-
-  mux_fits : (edges : List Edge) (k o : ℕ) → fitting.FitsMux (singles heads) outputs edges k o → IsFitting is outputs heads (lanes_into edges k) (lanes_out_of edges k) (node.Mux o)
-  mux_fits edges k o f =
-      let hs = heads_taken f.out f.taken f.each in
-      let long : length hs.0 ≡ length f.taken = sym (length-map hs.0 (λ h. is.stream h)) ∙ ap length hs.1 in
-      let many : length (map (λ h. packed_as f.out (is.stream h)) hs.0) ≡ length hs.0 = length-map hs.0 (λ h. packed_as f.out (is.stream h)) in
-      let some = f.some in
-      let few = f.few in record {
-        out = f.out;
-        there = f.out_is;
-        coded = map (λ h. packed_as f.out (is.stream h)) hs.0;
-        some = omega (arith, many, long, some);
-        can = writes hs.0 f.out hs.2 (omega (arith, long, some)) (omega (arith, long, few));
-        ins_are = f.ins ∙ (ap (λ (xs : List StreamHead). map (λ (x : StreamHead). Packets (packed_as f.out x)) xs) (sym hs.1) ∙ packed_lanes f.out hs.0);
-        outs_are = f.outs;
-      }
-
-  fits_kind : (edges : List Edge) (k : ℕ) (n : PlanNode) → fitting.FitsNode (singles heads) outputs edges k n → IsFitting is outputs heads (lanes_into edges k) (lanes_out_of edges k) n
-  fits_kind edges k (node.Demux i) f = demux_fits edges k i f
-  fits_kind edges k (node.Dec at) f = dec_fits edges k at f
-  fits_kind edges k (node.Graph g) f = f
-  fits_kind edges k (node.Shortest o) f = f
-  fits_kind edges k (node.Enc o j) f = record {
-    head = f.taken.head;
-    coded = packed_as f.taken.out f.taken.head;
-    can = can_encode f.taken.head f.taken.at o f.taken.out f.taken.is f.taken.out_is f.taken.takes;
+  pub graph_fits : GraphsAreHad is → (k g : ℕ) → graphs.FitsGraph is.rules job plan.texts plan.edges k g → Fits k (node.Graph g)
+  graph_fits filters k g f = record {
+    text = f.text;
+    there = ap (λ (o : Option GraphText). text_there job o) f.at ∙ f.is;
+    heads = f.heads;
+    made = map (λ (out : OpenOut). out.head) f.outs;
+    can = filters f.text f.heads f.outs f.made f.counted f.unlooped f.clear (frames_in is.IsFrames plan.edges k f.heads frames f.ins);
     ins_are = f.ins;
-    outs_are = f.outs;
+    outs_are = f.frames ∙ two_maps (λ (out : OpenOut). out.head) (λ (h : StreamHead). Frames h) f.outs;
   }
-  fits_kind edges k (node.Mux o) f = mux_fits edges k o f
 
-  -- the plan's nodes fit the kinds of part
-  pub are_fitting : (edges : List Edge) (nodes : List PlanNode) → ((k : ℕ) (d : PlanNode) → k < length nodes → fitting.FitsNode (singles heads) outputs edges k (slice_index_or nodes k d))
-      → (k : ℕ) (n : PlanNode) → slice_get nodes k ≡ Some n → IsFitting is outputs heads (lanes_into edges k) (lanes_out_of edges k) n
-  are_fitting edges nodes fit k n at =
-      fits_kind edges k n (subst (λ (x : PlanNode). fitting.FitsNode (singles heads) outputs edges k x) (get_or_from_slice_get nodes k n n at) (fit k n (slice_get_within nodes k n at)))
+  module _ (fit : OutputsFit is.rules job.outputs plan) (ordered : AreOrdered (length heads) (length job.outputs) plan.nodes) where
+    abbrev pub heads_at : ℕ → List StreamHead
+    heads_at o = slice_index_or fit.ends.heads o []
+
+    abbrev pub CodesEach : Type 0
+    CodesEach = (k o j : ℕ) → slice_get plan.nodes k ≡ Some (node.Mux o) → j < length (lanes_into plan.edges k) → (e : ℕ) × (slice_get plan.nodes e ≡ Some (node.Enc o j))
+
+    coder_frames : (e o j : ℕ) (head : StreamHead) → slice_get plan.nodes e ≡ Some (node.Enc o j) → slice_get (heads_at o) j ≡ Some head → is.IsFrames head
+    coder_frames e o j head at there =
+        let f : ends.FitsCoder job.outputs (heads_at o) plan.edges e o j = fit.ends.fit e (node.Enc o j) at in
+        let same : Some f.head ≡ Some head = sym f.is ∙ there in
+        let all = frames_in is.IsFrames plan.edges e (f.head ∷ []) frames f.ins in
+        let own : f.head ≡ head = cc in
+        subst is.IsFrames own all.0
+
+    pub enc_fits : ((h : StreamHead) (out : OutputJob) → is.IsFrames h → takes_head out h ≡ true → is.CanEncode h (packed_as out h))
+        → (k o j : ℕ) → slice_get plan.nodes k ≡ Some (node.Enc o j) → ends.FitsCoder job.outputs (heads_at o) plan.edges k o j → Fits k (node.Enc o j)
+    enc_fits encodes k o j at f = record {
+      head = f.head;
+      coded = packed_as f.out f.head;
+      can = encodes f.head f.out (coder_frames k o j f.head at f.is) (all_at (λ h. takes_head f.out h ≡ true) (heads_at o) j f.head (fit.taken.each o f.out f.out_is) f.is);
+      ins_are = f.ins;
+      outs_are = f.outs;
+    }
+
+    pub shortest_fits : ((heads : List StreamHead) → AllByRecursion is.IsFrames heads → is.CanJoin heads) → (k o : ℕ) (out : OutputJob) → slice_get job.outputs o ≡ Some out
+        → ends.FitsShortest (heads_at o) plan.edges k → Fits k (node.Shortest o)
+    shortest_fits joins k o out there f = record {
+      out = out;
+      there = there;
+      heads = heads_at o;
+      can = joins (heads_at o) (frames_in is.IsFrames plan.edges k (heads_at o) frames f.ins);
+      ins_are = f.ins;
+      outs_are = f.outs;
+    }
+
+    pub mux_fits : CodesEach
+        → ((hs : List StreamHead) (out : OutputJob) → AllByRecursion (λ h. is.IsFrames h × (takes_head out h ≡ true)) hs → 1 ≤ length hs → length hs ≤ is.rules.most out.format
+        → is.CanMux out (map (λ h. packed_as out h) hs))
+        → (k o : ℕ) → slice_get plan.nodes k ≡ Some (node.Mux o) → ends.FitsWriter job.outputs (heads_at o) plan.edges k o → Fits k (node.Mux o)
+    mux_fits codes writes k o at f =
+        let many : length (lanes_into plan.edges k) ≡ length (heads_at o) = ap (λ (ls : List Lane). length ls) f.ins ∙ length-map (heads_at o) (λ h. Packets (packed_as f.out h)) in
+        let all : AllByRecursion is.IsFrames (heads_at o) = all_from is.IsFrames (heads_at o) (λ j head there.
+        let lt = slice_get_within (heads_at o) j head there in
+        let e = codes k o j at (omega (arith, lt, many)) in
+        coder_frames e.0 o j head e.1 there) in
+        let some = fit.taken.some o (ordered.outputs_there k o at) in
+        let long = length-map (heads_at o) (λ h. packed_as f.out h) in record {
+          out = f.out;
+          there = f.out_is;
+          coded = map (λ h. packed_as f.out h) (heads_at o);
+          some = omega (arith, long, some);
+          can = writes (heads_at o) f.out (both_all is.IsFrames (λ h. takes_head f.out h ≡ true) (heads_at o) all (fit.taken.each o f.out f.out_is)) some (fit.taken.few o f.out f.out_is);
+          ins_are = f.ins ∙ two_maps (λ h. packed_as f.out h) (λ (h : StreamHead). Packets h) (heads_at o);
+          outs_are = f.outs;
+        }
 
 -- the numbers of output streams are small
-pub have_numbers : (inputs : ℕ) (outputs : List OutputJob) (edges : List Edge) (nodes : List PlanNode) → AreOrdered inputs (length outputs) nodes
-    → ((k : ℕ) → streams_between (length nodes - length outputs) k edges ≤ 16) → HaveNumbers outputs edges nodes
-have_numbers inputs outputs edges nodes ordered few = record {
+pub have_numbers : (inputs : ℕ) (asked : Asked) (edges : List Edge) (nodes : List PlanNode) → AreOrdered inputs (length asked.outputs) nodes
+    → ((k : ℕ) → streams_between (length nodes - length asked.outputs) k edges ≤ 16) → HaveNumbers asked edges nodes
+have_numbers inputs asked edges nodes ordered few = record {
   before = few;
   at = λ k o at.
       let is = ordered.muxes_at k o at in
-      let low = length nodes - length outputs in
+      let low = length nodes - length asked.outputs in
       let le = one_past edges low k (omega (arith, is)) in
       let most = few (suc k) in
       omega (arith, le, most);

@@ -1,77 +1,128 @@
 -- The plan that is made for heads which are accepted.
-use Rattle.std.proofs.Common.{◌≡◌, ◌≢◌, inl, inr, ℕ, ◌≤◌, true, List, [], ◌∷◌, length, map, Some, None, Ok, refl, sym, ap, ◌∙◌, subst, arith}
+use Rattle.std.proofs.Common.{◌≡◌, ◌≢◌, inl, inr, ℕ, suc, ◌≤◌, true, List, [], ◌∷◌, length, map, slice_get, Some, None, Ok, sym, ap, ◌∙◌, subst, arith}
 use Rattle.std.specs.List.{AllByRecursion}
+use Rattle.std.specs.Prelude.{All}
 use Rattle.std.proofs.lemmas.List.{length-map}
 use Rattle.ff_values.specs.declared.head.StreamHead.{StreamHead}
+use Rattle.ff_lang.specs.declared.graph.Graph.{Graph}
 use Rattle.ff_words.specs.declared.job.Job.{Job}
 use Rattle.ff_words.specs.declared.job.OutputJob.{OutputJob}
-use Rattle.ff_edges.specs.Ports.{shape_of, IsFed, HasIns, HasOuts}
+use Rattle.ff_edges.specs.Ports.{shape_of, IsFed}
 use Rattle.ff_network.proofs.PortLanes.{own_lanes_fit}
+use Rattle.ff_plan.specs.declared.open_pads.OpenOut.{OpenOut}
 use Rattle.ff_plan.specs.declared.planned.Plan.{Plan}
 use Rattle.ff_plan.specs.declared.planned.PlanError.{PlanError}
 use Rattle.ff_plan.specs.declared.planned.PlanError.TheVariants.{NoMemory}
-use Rattle.ff_plan.specs.Fitting.{HasKinds, HasSingles, FitNodes}
-use Rattle.ff_plan.specs.Numbers.{HasFewStreams}
-use Rattle.ff_plan.specs.Plain.{IsNarrow, IsRefused}
-use Rattle.ff_plan.specs.Streams.{most_streams, packed_as, takes_head}
-use Rattle.ff_plan.specs.Today.{planned_today}
-use Rattle.ff_sched.specs.Routes.{AreRoutes}
-use Rattle.ff_running.specs.Kinds.{KindsOf}
+use Rattle.ff_plan.specs.declared.planned.PlanNode.{PlanNode}
+use Rattle.ff_plan.specs.declared.planned.PlanNode.TheVariants as node
+use Rattle.ff_plan.specs.EndFits.{FitsEnd}
+use Rattle.ff_plan.specs.GraphFits.{GraphsFit}
+use Rattle.ff_plan.specs.NodeRows.{HasRows}
+use Rattle.ff_plan.specs.Plain.{IsRefused, IsWithinLimits}
+use Rattle.ff_plan.specs.Planned.{planned}
+use Rattle.ff_plan.specs.Rules.{Rules}
+use Rattle.ff_plan.specs.StartFits.{FitsStart, StartsFit}
+use Rattle.ff_plan.specs.Streams.{packed_as, takes_head}
+use Rattle.ff_plan.specs.Taken.{AllFrames}
+use Rattle.ff_running.specs.Kinds.{KindsOf, GraphsAreHad}
 use Rattle.ff_running.specs.Meaning.{plan_for, refusal_of}
 use Rattle.ff_running.specs.Accepting.{IsAccepted, IsPlanFor}
-use Rattle.ff_running.proofs.Planning.{are_ordered, muxes_there, are_fitting, have_numbers}
+use Rattle.ff_running.specs.Asked.{asked_of}
+use Rattle.ff_running.specs.Parts.{AreFitting}
+use Rattle.ff_plan_laws.specs.Sound.{IsSoundPlan}
+use Rattle.ff_running.proofs.Numbers.{there}
+use Rattle.ff_running.proofs.Planning as fits
+use Rattle.ff_running.proofs.Rows.{are_ordered, muxes_there, shortest_there}
+
+-- each plan of a job within the limits that has an output is sound, and what is so of all heads of inputs is so of the frames on its edges
+abbrev pub PlansAreSound : Rules → Type 0
+PlansAreSound rules = (job : Job) (heads : List (List StreamHead)) (p : Plan) → IsWithinLimits job heads → 1 ≤ length job.outputs → planned rules job heads ≡ Ok p
+    → IsSoundPlan rules job heads p
+
+abbrev pub FramesAreKept : Rules → (StreamHead → Type 0) → Type 0
+FramesAreKept rules P = (job : Job) (heads : List (List StreamHead)) (p : Plan) → 1 ≤ length job.outputs → planned rules job heads ≡ Ok p
+    → AllByRecursion (λ hs. AllByRecursion P hs) heads → AllFrames P p.edges
+
+-- what the kinds of node owe, and plans
+pub record AreLawful {H : Type 0} (is : KindsOf H) : Type 0 where
+  pub decodes : (h : H) → is.IsHead h → is.CanDecode (is.stream h)
+  pub frames : (h : H) → is.IsHead h → is.IsFrames (is.stream h)
+  pub plans : PlansAreSound is.rules
+  pub carries : FramesAreKept is.rules is.IsFrames
+  pub filters : GraphsAreHad is
+  pub joins : (heads : List StreamHead) → AllByRecursion is.IsFrames heads → is.CanJoin heads
+  pub encodes : (h : StreamHead) (out : OutputJob) → is.IsFrames h → takes_head out h ≡ true → is.CanEncode h (packed_as out h)
+  pub writes : (hs : List StreamHead) (out : OutputJob) → AllByRecursion (λ h. is.IsFrames h × (takes_head out h ≡ true)) hs → 1 ≤ length hs → length hs ≤ is.rules.most out.format
+      → is.CanMux out (map (λ h. packed_as out h) hs)
 
 module _ {H : Type 0} (is : KindsOf H) (job : Job) (heads : List H) (accepted : IsAccepted is job heads) where
   abbrev pub streams : List (List StreamHead)
   streams = map (λ h. is.stream h ∷ []) heads
 
-  narrow : (hs : List H) → AllByRecursion (λ xs. length xs ≤ 16) (map (λ h. is.stream h ∷ []) hs)
-  narrow [] = tt
-  narrow (h ∷ hs) = (omega arith, narrow hs)
-
-  single : (hs : List H) → HasSingles (map (λ h. is.stream h ∷ []) hs)
-  single [] = tt
-  single (h ∷ hs) = (refl, single hs)
-
   many : length streams ≡ length heads
   many = length-map heads (λ h. is.stream h ∷ [])
 
-  pub limits : (lists : List (List StreamHead)) → lists ≡ streams → IsNarrow job lists
-  limits lists e = subst (IsNarrow job) (sym e) (record {
-    inputs = (let few = accepted.few_inputs in let count = accepted.count in let n = many in omega (arith, few, count, n));
-    streams = narrow heads;
-    outputs = accepted.few_outputs;
-    maps = accepted.few_maps;
-  })
-
   -- there is no refusal where there is a plan, and the refusal of one is the plan's
-  pub none_refused : (lists : List (List StreamHead)) (plan : Plan) → lists ≡ streams → planned_today job lists ≡ Ok plan → refusal_of is job (plan_for is job heads) ≡ None
-  none_refused lists plan e made = ap (refusal_of is job) (ap (planned_today job) (sym e) ∙ made)
+  pub none_refused : (lists : List (List StreamHead)) (plan : Plan) → lists ≡ streams → planned is.rules job lists ≡ Ok plan → refusal_of is job (plan_for is job heads) ≡ None
+  none_refused lists plan e made = ap (refusal_of is job) (ap (planned is.rules job) (sym e) ∙ made)
 
-  pub is_refused : (lists : List (List StreamHead)) (refusal : PlanError) → lists ≡ streams → IsRefused (planned_today job lists) refusal → refusal ≢ NoMemory → refusal_of is job (plan_for is job heads) ≡ Some refusal
+  pub is_refused : (lists : List (List StreamHead)) (refusal : PlanError) → lists ≡ streams → IsRefused (planned is.rules job lists) refusal → refusal ≢ NoMemory → refusal_of is job (plan_for is job heads) ≡ Some refusal
   is_refused lists refusal e (inl memory) other = absurd (other memory)
-  is_refused lists refusal e (inr made) other = ap (refusal_of is job) (ap (planned_today job) (sym e) ∙ made)
+  is_refused lists refusal e (inr made) other = ap (refusal_of is job) (ap (planned is.rules job) (sym e) ∙ made)
 
-  pub is_plan : (decodes : (h : H) → is.IsHead h → is.CanDecode (is.stream h))
-      (encodes : (h : H) (out : OutputJob) → is.IsHead h → takes_head out (is.stream h) ≡ true → is.CanEncode (is.stream h) (packed_as out (is.stream h)))
-      (writes : (hs : List H) (out : OutputJob) → AllByRecursion (λ h. is.IsHead h × (takes_head out (is.stream h) ≡ true)) hs → 1 ≤ length hs → length hs ≤ most_streams out.format
-      → is.CanMux out (map (λ h. packed_as out (is.stream h)) hs))
-      (lists : List (List StreamHead)) (count : ℕ) (plan : Plan) → lists ≡ streams → count ≡ length lists → planned_today job lists ≡ Ok plan → IsFed (shape_of plan.edges) (length plan.nodes) plan.edges
-      → ((k : ℕ) → HasIns plan.edges k) → ((k : ℕ) → HasOuts plan.edges k) → HasKinds count (length job.outputs) plan.nodes → (HasSingles lists → FitNodes lists job.outputs plan)
-      → AreRoutes plan.routes → plan.routes.sources ≡ count → HasFewStreams (length job.outputs) plan
+  -- what is true of the heads of frames is true of the heads of inputs
+  all_frames : ((h : H) → is.IsHead h → is.IsFrames (is.stream h)) → (hs : List H) → All is.IsHead hs → AllByRecursion (λ xs. AllByRecursion is.IsFrames xs) (map (λ h. is.stream h ∷ []) hs)
+  all_frames own [] all = tt
+  all_frames own (h ∷ hs) all = ((own h (all 0 h (omega arith)), tt), all_frames own hs (λ i d lt. all (suc i) d (omega (arith, lt))))
+
+  module _ (laws : AreLawful is) (plan : Plan) (made : planned is.rules job streams ≡ Ok plan) (within : IsWithinLimits job streams) where
+    sound : IsSoundPlan is.rules job streams plan
+    sound = laws.plans job streams plan within accepted.some_outputs made
+
+    frames : AllFrames is.IsFrames plan.edges
+    frames = laws.carries job streams plan accepted.some_outputs made (all_frames laws.frames heads accepted.sound)
+
+    -- the plan's nodes fit the kinds of part
+    are_fitting : HasRows (length heads) (length job.outputs) plan.nodes → GraphsFit is.rules job plan → StartsFit streams plan → AreFitting is (asked_of job plan.texts) heads plan.edges plan.nodes
+    are_fitting rows graphs starts k n at = by n at (starts k n at) (sound.outputs.ends.fit k n at) where
+      by : (n : PlanNode) → slice_get plan.nodes k ≡ Some n → FitsStart streams plan.edges k n → FitsEnd job.outputs sound.outputs.ends.heads plan.edges k n
+          → fits.Fits is job heads plan accepted.sound frames k n
+      by (node.Demux i) at start end = fits.demux_fits is job heads plan accepted.sound frames k i (sound.used k i at) start
+      by (node.Dec ref) at start end = fits.dec_fits is job heads plan accepted.sound frames laws.decodes k ref start
+      by (node.Graph g) at start end = fits.graph_fits is job heads plan accepted.sound frames laws.filters k g (graphs k g at)
+      by (node.Shortest o) at start end =
+          let out = there job.outputs o (shortest_there (length heads) (length job.outputs) plan.nodes rows k o at) in
+          fits.shortest_fits is job heads plan accepted.sound frames sound.outputs (are_ordered (length heads) (length job.outputs) plan.nodes rows) laws.joins k o out.0 out.1 end
+      by (node.Enc o j) at start end =
+          fits.enc_fits is job heads plan accepted.sound frames sound.outputs (are_ordered (length heads) (length job.outputs) plan.nodes rows) laws.encodes k o j at end
+      by (node.Mux o) at start end =
+          fits.mux_fits is job heads plan accepted.sound frames sound.outputs (are_ordered (length heads) (length job.outputs) plan.nodes rows) sound.coded laws.writes k o at end
+
+    plan_is : HasRows (length streams) (length job.outputs) plan.nodes → GraphsFit is.rules job plan → StartsFit streams plan → IsFed (shape_of plan.edges) (length plan.nodes) plan.edges
+        → IsPlanFor is job heads plan
+    plan_is rows graphs starts fed =
+        let here : HasRows (length heads) (length job.outputs) plan.nodes = subst (λ (n : ℕ). HasRows n (length job.outputs) plan.nodes) many rows in
+        let order = are_ordered (length heads) (length job.outputs) plan.nodes here in record {
+          made = made;
+          few = (here.few, (let few = accepted.few_inputs in let same = accepted.count in omega (arith, few, same)));
+          queue = accepted.queue;
+          routes = sound.routes;
+          sources = sound.sources ∙ many;
+          fits = own_lanes_fit (length plan.nodes) plan.edges fed (λ k lt. sound.ins k) (λ k lt. sound.outs k);
+          fitting = are_fitting here graphs starts;
+          numbers = fits.have_numbers (length heads) (asked_of job plan.texts) plan.edges plan.nodes order sound.few;
+          ordered = order;
+          muxes = muxes_there (length heads) (length job.outputs) plan.nodes here;
+        }
+
+  -- by the lists that the plan was made for
+  pub is_plan : AreLawful is → (lists : List (List StreamHead)) (plan : Plan) → lists ≡ streams → IsWithinLimits job lists → planned is.rules job lists ≡ Ok plan
+      → (IsWithinLimits job lists → planned is.rules job lists ≡ Ok plan → HasRows (length lists) (length job.outputs) plan.nodes)
+      → (1 ≤ length job.outputs → planned is.rules job lists ≡ Ok plan → GraphsFit is.rules job plan)
+      → (1 ≤ length job.outputs → planned is.rules job lists ≡ Ok plan → StartsFit lists plan)
+      → (1 ≤ length job.outputs → planned is.rules job lists ≡ Ok plan → IsFed (shape_of plan.edges) (length plan.nodes) plan.edges)
       → IsPlanFor is job heads plan
-  is_plan decodes encodes writes lists count plan e is_count made fed ins outs kinds fit routes sources few_streams =
-      let inputs : count ≡ length heads = is_count ∙ (ap length e ∙ many) in
-      let here : HasKinds (length heads) (length job.outputs) plan.nodes = subst (λ (n : ℕ). HasKinds n (length job.outputs) plan.nodes) inputs kinds in
-      let fits : FitNodes streams job.outputs plan = subst (λ (hs : List (List StreamHead)). HasSingles hs → FitNodes hs job.outputs plan) e fit (single heads) in record {
-        made = ap (planned_today job) (sym e) ∙ made;
-        few = (here.few, (let few = accepted.few_inputs in let same = accepted.count in omega (arith, few, same)));
-        queue = accepted.queue;
-        routes = routes;
-        sources = sources ∙ inputs;
-        fits = own_lanes_fit (length plan.nodes) plan.edges fed (λ k lt. ins k) (λ k lt. outs k);
-        fitting = are_fitting is job.outputs heads accepted.sound decodes encodes writes plan.edges plan.nodes fits;
-        numbers = have_numbers (length heads) job.outputs plan.edges plan.nodes (are_ordered (length heads) (length job.outputs) plan.nodes here) few_streams;
-        ordered = are_ordered (length heads) (length job.outputs) plan.nodes here;
-        muxes = muxes_there (length heads) (length job.outputs) plan.nodes here;
-      }
+  is_plan laws lists plan e within made rows graphs starts fed =
+      plan_is laws plan (ap (planned is.rules job) (sym e) ∙ made) (subst (IsWithinLimits job) e within)
+      (subst (λ (hs : List (List StreamHead)). HasRows (length hs) (length job.outputs) plan.nodes) e (rows within made))
+      (graphs accepted.some_outputs made) (subst (λ (hs : List (List StreamHead)). StartsFit hs plan) e (starts accepted.some_outputs made)) (fed accepted.some_outputs made)

@@ -10,7 +10,6 @@ use Rattle.ff_frame.specs.declared.item.Lane.{Lane}
 use Rattle.ff_frame.specs.Stream.{LiesBelow}
 use Rattle.ff_frame.specs.Ports.{stream_at, IsWhole}
 use Rattle.ff_words.specs.declared.job.Job.{Job}
-use Rattle.ff_words.specs.declared.job.OutputJob.{OutputJob}
 use Rattle.ff_edges.specs.declared.edge.Edge.{Edge}
 use Rattle.ff_edges.specs.Ports.{lanes_into, lanes_out_of}
 use Rattle.ff_sched.specs.declared.routes.Routes.{Routes}
@@ -32,6 +31,7 @@ use Rattle.ff_plan.specs.declared.planned.PlanNode.TheVariants as node
 use Rattle.ff_files.specs.declared.work.WorkEnd.{WorkEnd}
 use Rattle.ff_files.specs.declared.work.WorkEnd.TheVariants as work_end
 use Rattle.ff_files.specs.Works.{AreTold}
+use Rattle.ff_running.specs.Asked.{Asked, asked_of}
 use Rattle.ff_running.specs.declared.fault.RunFault.{RunFault}
 use Rattle.ff_running.specs.declared.reads.RunLog.{RunLog}
 use Rattle.ff_running.specs.Accepting.{IsPlanFor}
@@ -125,59 +125,59 @@ parts_read {M} view (m ∷ ms) f g k same =
     ∙ ap (λ (ps : List Part). record (f k) { means = λ ss. tried_of (view m) ((f k).means ss) } ∷ ps) (parts_read view ms f g (suc k) (λ j at x e here. same (suc j) at x (omega (arith, e)) here))
 
 module _ {H S K M : Type 0} (is : KindsOf H) (own : TellOfThemselves is) (left named : S → Option (List ℕ)) (failed : S → ℕ) (holds called : K → Option (List ℕ)) (faulted : K → ℕ)
-    (view : M → View) (laws : (m : M) → Laws (view m)) (outputs : List OutputJob) (heads : List H) (edges : List Edge) (nodes : List PlanNode) (srcs : List S) (snks : List K) (claims : Bool)
+    (view : M → View) (laws : (m : M) → Laws (view m)) (asked : Asked) (heads : List H) (edges : List Edge) (nodes : List PlanNode) (srcs : List S) (snks : List K) (claims : Bool)
     (olds news : List M) (sp : List (Option S)) (kp : List (Option K)) (fault : Option NodeFault) (srcs' : List S) (snks' : List K) (routes : Routes) (state : State) (events : List Event)
-    (order : AreOrdered (length srcs) (length snks) nodes) (fitting : AreFitting is outputs heads edges nodes)
-    (run : AreRun is left named failed holds called faulted view outputs heads edges nodes srcs snks claims olds news sp kp fault)
+    (order : AreOrdered (length srcs) (length snks) nodes) (fitting : AreFitting is asked heads edges nodes)
+    (run : AreRun is left named failed holds called faulted view asked heads edges nodes srcs snks claims olds news sp kp fault)
     (back : AreBack is left named failed holds called faulted view nodes news srcs snks srcs' snks')
     (sound : fault ≡ None) (s : AreScheduled view edges claims olds news routes state fault events)
-    (bytes : List (List ℕ)) (vouched : claims ≡ true) (tells : AreTold left holds srcs snks bytes) (snk_count : length snks ≡ length outputs)
+    (bytes : List (List ℕ)) (vouched : claims ≡ true) (tells : AreTold left holds srcs snks bytes) (snk_count : length snks ≡ length asked.outputs)
     (suffice : AreSufficient view edges claims olds news fault) (src_count : length srcs ≡ length heads)
     (reads : List (List ℕ)) (are : reads ≡ first_reads view (length heads) nodes news events) where
   abbrev tasks : ℕ → Task
-  tasks = task_at is outputs heads bytes nodes edges
+  tasks = task_at is asked heads bytes nodes edges
 
   abbrev ports : Ports
   ports = ports_of view olds
 
   there_now : (k : ℕ) → k < length nodes → k < length news
   there_now =
-      told.new_there is own left named failed holds called faulted view laws outputs heads edges nodes srcs snks claims olds news sp kp fault srcs' snks' routes state
+      told.new_there is own left named failed holds called faulted view laws asked heads edges nodes srcs snks claims olds news sp kp fault srcs' snks' routes state
       events order fitting run back sound s bytes vouched tells snk_count
 
   same_kind : (j : ℕ) (e : M) (n : PlanNode) → j < length news → slice_get nodes j ≡ Some n → is_some (source_in n) ≡ is_some (view (slice_index_or news j e)).source
   same_kind =
-      told.same_kind is own left named failed holds called faulted view laws outputs heads edges nodes srcs snks claims olds news sp kp fault srcs' snks' routes state
+      told.same_kind is own left named failed holds called faulted view laws asked heads edges nodes srcs snks claims olds news sp kp fault srcs' snks' routes state
       events order fitting run back sound s bytes vouched tells snk_count
 
   is_reader : (j i : ℕ) (e : M) → j < length news → (view (slice_index_or news j e)).source ≡ Some i → (i' : ℕ) × (slice_get nodes j ≡ Some (node.Demux i'))
   is_reader =
-      told.is_reader is own left named failed holds called faulted view laws outputs heads edges nodes srcs snks claims olds news sp kp fault srcs' snks' routes state
+      told.is_reader is own left named failed holds called faulted view laws asked heads edges nodes srcs snks claims olds news sp kp fault srcs' snks' routes state
       events order fitting run back sound s bytes vouched tells snk_count
 
   reads_own : (j i i' : ℕ) (e : M) → j < length news → (view (slice_index_or news j e)).source ≡ Some i → slice_get nodes j ≡ Some (node.Demux i') → i ≡ i'
   reads_own =
-      told.reads_own is own left named failed holds called faulted view laws outputs heads edges nodes srcs snks claims olds news sp kp fault srcs' snks' routes state
+      told.reads_own is own left named failed holds called faulted view laws asked heads edges nodes srcs snks claims olds news sp kp fault srcs' snks' routes state
       events order fitting run back sound s bytes vouched tells snk_count
 
   node_there : (k : ℕ) → k < length news → k < length nodes
   node_there =
-      told.node_there is own left named failed holds called faulted view laws outputs heads edges nodes srcs snks claims olds news sp kp fault srcs' snks' routes state
+      told.node_there is own left named failed holds called faulted view laws asked heads edges nodes srcs snks claims olds news sp kp fault srcs' snks' routes state
       events order fitting run back sound s bytes vouched tells snk_count
 
   old_there : (k : ℕ) → k < length nodes → k < length olds
   old_there =
-      told.old_there is own left named failed holds called faulted view laws outputs heads edges nodes srcs snks claims olds news sp kp fault srcs' snks' routes state
+      told.old_there is own left named failed holds called faulted view laws asked heads edges nodes srcs snks claims olds news sp kp fault srcs' snks' routes state
       events order fitting run back sound s bytes vouched tells snk_count
 
   begun : (claims ≡ true) × AllStart view tasks olds
   begun =
-      told.begun is own left named failed holds called faulted view laws outputs heads edges nodes srcs snks claims olds news sp kp fault srcs' snks' routes state
+      told.begun is own left named failed holds called faulted view laws asked heads edges nodes srcs snks claims olds news sp kp fault srcs' snks' routes state
       events order fitting run back sound s bytes vouched tells snk_count
 
   logs : AreLogged view tasks (solve (network tasks ports edges (length olds))) (ins_at ports edges) (outs_at ports edges) news fault s.logs
   logs =
-      told.logs is own left named failed holds called faulted view laws outputs heads edges nodes srcs snks claims olds news sp kp fault srcs' snks' routes state
+      told.logs is own left named failed holds called faulted view laws asked heads edges nodes srcs snks claims olds news sp kp fault srcs' snks' routes state
       events order fitting run back sound s bytes vouched tells snk_count
 
   -- a part is the source that its node is
@@ -229,7 +229,7 @@ module _ {H S K M : Type 0} (is : KindsOf H) (own : TellOfThemselves is) (left n
         let all = logs.settled sound k reader.0 lt in
         let stood : (view reader.0).stands all.past = subst (λ (x : M). (view x).stands all.past) is_here all.fits in
         let source = back.sources k i reader.0 at reader.1 in
-        let ends = have_ends is left named failed holds called faulted view outputs heads edges nodes srcs snks olds news sp kp run.parts run.kept fitting k (node.Demux i) reader.0 at reader.1 in
+        let ends = have_ends is left named failed holds called faulted view asked heads edges nodes srcs snks olds news sp kp run.parts run.kept fitting k (node.Demux i) reader.0 at reader.1 in
         let none : (view reader.0).in_lanes ≡ [] = ends.source i refl in
         let valid : AreValid [] all.past.got = subst (λ (ls : List Lane). AreValid ls all.past.got) none ((laws reader.0).valid all.past stood) in
         let empty : AreValid (view reader.0).in_lanes [] = subst (λ (ls : List Lane). AreValid ls []) (sym none) (λ p. refl) in
@@ -259,9 +259,9 @@ module _ {H S K M : Type 0} (is : KindsOf H) (own : TellOfThemselves is) (left n
       let x = reader i k at_i in
       units i k at_i ∙ ap (λ (y : M). (view y).tried) (same_some (slice_get news k) x.0 m x.1 here))
 
-  nets_same : network (read_task is outputs heads bytes nodes edges reads) ports edges (length news) ≡ read_parts view news (network tasks ports edges (length news))
+  nets_same : network (read_task is asked heads bytes nodes edges reads) ports edges (length news) ≡ read_parts view news (network tasks ports edges (length news))
   nets_same =
-      parts_read view news (part_at tasks ports edges) (part_at (read_task is outputs heads bytes nodes edges reads) ports edges) 0
+      parts_read view news (part_at tasks ports edges) (part_at (read_task is asked heads bytes nodes edges reads) ports edges) 0
       (λ j at m e here.
       let number : at ≡ j = omega (arith, e) in
       let make : (List Flow → List Flow) → Part = λ means. record { means = means; in_lanes = ports.ins at; out_lanes = ports.outs at; ins = ins_at ports edges at; outs = outs_at ports edges at } in
@@ -274,13 +274,13 @@ module _ {H S K M : Type 0} (is : KindsOf H) (own : TellOfThemselves is) (left n
     within : k < length olds
     within = old_there k (slice_get_within nodes k (node.Mux o) at)
 
-    fits : FitsMux is outputs (lanes_into edges k) (lanes_out_of edges k) o
+    fits : FitsMux is asked (lanes_into edges k) (lanes_out_of edges k) o
     fits = fitting k (node.Mux o) at
 
     lanes : (j : ℕ) (m : M) → slice_get olds j ≡ Some m → ((view m).in_lanes ≡ lanes_into edges j) × ((view m).out_lanes ≡ lanes_out_of edges j)
-    lanes = part_lanes is left named failed holds called faulted view outputs heads edges nodes srcs snks olds sp kp run.parts
+    lanes = part_lanes is left named failed holds called faulted view asked heads edges nodes srcs snks olds sp kp run.parts
 
-    enough : read_solution is outputs heads bytes nodes edges reads edge ≡ solution is outputs heads bytes nodes edges edge
+    enough : read_solution is asked heads bytes nodes edges reads edge ≡ solution is asked heads bytes nodes edges edge
     enough =
         let long = run.all sound in
         let many = run.kept.count in
@@ -289,41 +289,41 @@ module _ {H S K M : Type 0} (is : KindsOf H) (own : TellOfThemselves is) (left n
         let outs = plan_outs view edges olds (length nodes) long lanes k within fits.outs_are in
         let in_it : IsIn edge (ins_at ports edges k) = subst (λ (ws : List ℕ). IsIn edge ws) (sym ins) (stands_in (edges_into edges k) p lt) in
         let now : k < length news = there_now k (slice_get_within nodes k (node.Mux o) at) in
-        ap (λ (σ : ℕ → Flow). σ edge) (sym (net (read_task is outputs heads bytes nodes edges reads)))
-        ∙ (ap (λ (c : ℕ). solve (network (read_task is outputs heads bytes nodes edges reads) ports edges c) edge) (sym many)
+        ap (λ (σ : ℕ → Flow). σ edge) (sym (net (read_task is asked heads bytes nodes edges reads)))
+        ∙ (ap (λ (c : ℕ). solve (network (read_task is asked heads bytes nodes edges reads) ports edges c) edge) (sym many)
         ∙ (ap (λ (ps : List Part). solve ps edge) nets_same
         ∙ (ap (λ (c : ℕ). solve (read_parts view news (network tasks ports edges c)) edge) many
         ∙ (suffice vouched tasks begun.1 sound k edge now outs in_it
         ∙ ap (λ (σ : ℕ → Flow). σ edge) (net tasks)))))
 
-    whole : IsWhole (read_solution is outputs heads bytes nodes edges reads edge)
+    whole : IsWhole (read_solution is asked heads bytes nodes edges reads edge)
     whole =
         let m = there news k (there_now k (slice_get_within nodes k (node.Mux o) at)) in
         let fed = (run.meets vouched bytes tells).settled sound k m.0 m.1 fits.outs_are in
         subst (λ (x : Flow). IsWhole x) (sym enough) (fed.whole p lt)
 
-  pub are_enough : ((o : ℕ) → o < length outputs → slice_get nodes (mux_node is outputs heads bytes nodes edges o) ≡ Some (node.Mux o)) → AreEnough is outputs heads bytes nodes edges reads
+  pub are_enough : ((o : ℕ) → o < length asked.outputs → slice_get nodes (mux_node is asked heads bytes nodes edges o) ≡ Some (node.Mux o)) → AreEnough is asked heads bytes nodes edges reads
   are_enough muxes = record {
     few = λ i k at. few_units i k at;
-    enough = λ o p lt below. enough o (mux_node is outputs heads bytes nodes edges o) p (muxes o lt) below;
-    whole = λ o p lt below. whole o (mux_node is outputs heads bytes nodes edges o) p (muxes o lt) below;
+    enough = λ o p lt below. enough o (mux_node is asked heads bytes nodes edges o) p (muxes o lt) below;
+    whole = λ o p lt below. whole o (mux_node is asked heads bytes nodes edges o) p (muxes o lt) below;
   }
 
 -- what a job's run that did all has logged, over inputs whose bytes may be told
 module _ {H S K M : Type 0} (is : KindsOf H) (own : TellOfThemselves is) (left named : S → Option (List ℕ)) (failed : S → ℕ) (holds called : K → Option (List ℕ)) (faulted : K → ℕ)
     (view : M → View) (laws : (m : M) → Laws (view m)) (job : Job) (plan : Plan) (heads : List H) (srcs : List S) (snks : List K) (end : WorkEnd RunFault) (srcs' : List S) (snks' : List K)
     (log : RunLog) (for : IsPlanFor is job heads plan) (src_count : length srcs ≡ length heads) (snk_count : length snks ≡ length job.outputs)
-    (h : IsLogOf is left named failed holds called faulted view job.outputs heads plan.edges plan.nodes srcs snks (tell_all left holds srcs snks) plan.routes (state_before plan) end srcs' snks' log)
+    (h : IsLogOf is left named failed holds called faulted view (asked_of job plan.texts) heads plan.edges plan.nodes srcs snks (tell_all left holds srcs snks) plan.routes (state_before plan) end srcs' snks' log)
     (fine : end ≡ work_end.Fine) where
   order : AreOrdered (length srcs) (length snks) plan.nodes
   order =
       subst (λ (n : ℕ). AreOrdered n (length snks) plan.nodes) (sym src_count) (subst (λ (n : ℕ). AreOrdered (length heads) n plan.nodes) (sym snk_count) for.ordered)
 
-  enough_read : (bytes : Option (List (List ℕ))) → IfSome bytes (AreTold left holds srcs snks) → IfSome bytes (λ b. AreEnough is job.outputs heads b plan.nodes plan.edges (places_in log.reads.items))
+  enough_read : (bytes : Option (List (List ℕ))) → IfSome bytes (AreTold left holds srcs snks) → IfSome bytes (λ b. AreEnough is (asked_of job plan.texts) heads b plan.nodes plan.edges (places_in log.reads.items))
   enough_read None tells = tt
   enough_read (Some bytes) tells =
       let d = h.history.done in
-      are_enough is own left named failed holds called faulted view laws job.outputs heads plan.edges plan.nodes srcs snks (tell_all left holds srcs snks) d.olds d.news
+      are_enough is own left named failed holds called faulted view laws (asked_of job plan.texts) heads plan.edges plan.nodes srcs snks (tell_all left holds srcs snks) d.olds d.news
       d.src_places d.snk_places d.fault srcs' snks' plan.routes (state_before plan) log.history order for.fitting d.run d.back
       (fine_only (length heads) plan.nodes d.fault (sym d.end_is ∙ fine)) h.history.run bytes (tells_told left holds srcs snks bytes tells) tells snk_count h.suffice src_count
       (places_in log.reads.items) h.reads for.muxes

@@ -1,7 +1,6 @@
 -- The run of parts that were built.
 use Rattle.std.proofs.Common.{◌≡◌, ℕ, ◌<◌, ◌≤◌, true, Bool, List, length, slice_get, Option, Some, None, sym, ap, ◌∙◌, subst, arith}
 use Rattle.std.proofs.lemmas.Option.{slice_get_within, get_or_from_slice_get}
-use Rattle.ff_words.specs.declared.job.OutputJob.{OutputJob}
 use Rattle.ff_edges.specs.declared.edge.Edge.{Edge}
 use Rattle.ff_edges.specs.Ports.{lanes_into, lanes_out_of}
 use Rattle.ff_net.specs.Pasts.{Task, start}
@@ -14,6 +13,7 @@ use Rattle.ff_plan.specs.declared.planned.PlanNode.{PlanNode}
 use Rattle.ff_plan.specs.declared.planned.PlanNode.TheVariants as node
 use Rattle.ff_sched.specs.declared.routes.Routes.{Routes}
 use Rattle.ff_files.specs.Works.{AreTold}
+use Rattle.ff_running.specs.Asked.{Asked}
 use Rattle.ff_running.specs.Kinds.{KindsOf}
 use Rattle.ff_running.specs.Meaning.{task_by, task_at}
 use Rattle.ff_running.specs.Parts.{FitsDemux, FitsMux, IsFitting, AreFitting, AreOrdered, HasEnds, AreParts, source_in}
@@ -32,8 +32,8 @@ is_demux (node.Enc o j) s e = absurd cc
 is_demux (node.Mux o) s e = absurd cc
 
 module _ {H S K M : Type 0} (is : KindsOf H) (left named : S → Option (List ℕ)) (failed : S → ℕ) (holds called : K → Option (List ℕ)) (faulted : K → ℕ) (view : M → View)
-    (outputs : List OutputJob) (heads : List H) (edges : List Edge) (nodes : List PlanNode) (srcs : List S) (snks : List K) (olds : List M) (sp : List (Option S)) (kp : List (Option K))
-    (parts : AreParts is left named failed holds called faulted view outputs heads edges nodes srcs snks olds sp kp) where
+    (asked : Asked) (heads : List H) (edges : List Edge) (nodes : List PlanNode) (srcs : List S) (snks : List K) (olds : List M) (sp : List (Option S)) (kp : List (Option K))
+    (parts : AreParts is left named failed holds called faulted view asked heads edges nodes srcs snks olds sp kp) where
   node_there : (k : ℕ) (m : M) → slice_get olds k ≡ Some m → (n : PlanNode) × (slice_get nodes k ≡ Some n)
   node_there k m at = there nodes k (let w = slice_get_within olds k m at in let few = parts.few in omega (arith, w, few))
 
@@ -43,16 +43,16 @@ module _ {H S K M : Type 0} (is : KindsOf H) (left named : S → Option (List �
   pub part_sound : (k : ℕ) (m : M) → slice_get olds k ≡ Some m → (view m).fault ≡ None
   part_sound k m at = (let n = node_there k m at in (parts.each k n.0 m n.1 at).sound)
 
-  part_stands : (bytes : List (List ℕ)) → AreTold left holds srcs snks bytes → (k : ℕ) (m : M) → slice_get olds k ≡ Some m → (view m).stands (start (task_at is outputs heads bytes nodes edges k))
+  part_stands : (bytes : List (List ℕ)) → AreTold left holds srcs snks bytes → (k : ℕ) (m : M) → slice_get olds k ≡ Some m → (view m).stands (start (task_at is asked heads bytes nodes edges k))
   part_stands bytes told k m at =
       let n = node_there k m at in
-      subst (λ (o : Option PlanNode). (view m).stands (start (task_by is outputs heads bytes nodes edges o k))) (sym n.1) ((parts.each k n.0 m n.1 at).starts bytes told)
+      subst (λ (o : Option PlanNode). (view m).stands (start (task_by is asked heads bytes nodes edges o k))) (sym n.1) ((parts.each k n.0 m n.1 at).starts bytes told)
 
   -- the parts start with the tasks of their nodes
-  pub all_start : (bytes : List (List ℕ)) → AreTold left holds srcs snks bytes → AllStart view (task_at is outputs heads bytes nodes edges) olds
+  pub all_start : (bytes : List (List ℕ)) → AreTold left holds srcs snks bytes → AllStart view (task_at is asked heads bytes nodes edges) olds
   all_start bytes told = λ k d lt.
       let x = there olds k lt in
-      subst (λ (m : M). (view m).stands (start (task_at is outputs heads bytes nodes edges k))) (sym (get_or_from_slice_get olds k x.0 d x.1)) (part_stands bytes told k x.0 x.1)
+      subst (λ (m : M). (view m).stands (start (task_at is asked heads bytes nodes edges k))) (sym (get_or_from_slice_get olds k x.0 d x.1)) (part_stands bytes told k x.0 x.1)
 
   -- the source of a part has the number of an input
   pub are_within : (inputs outs : ℕ) (routes : Routes) → AreOrdered inputs outs nodes → inputs ≤ routes.sources → AllRouted view routes olds
@@ -72,30 +72,30 @@ module _ {H S K M : Type 0} (is : KindsOf H) (left named : S → Option (List �
   pub run_ok : length olds ≡ length nodes → (news : List M) (fault : Option NodeFault) (claims : Bool) → AllKept view olds news → TellsRun view news fault
       → (claims ≡ true → (tasks : ℕ → Task) → AllStart view tasks olds
       → MeetsNetwork view tasks (network tasks (ports_of view olds) edges (length olds)) (ins_at (ports_of view olds) edges) (outs_at (ports_of view olds) edges) news fault)
-      → AreRun is left named failed holds called faulted view outputs heads edges nodes srcs snks claims olds news sp kp fault
+      → AreRun is left named failed holds called faulted view asked heads edges nodes srcs snks claims olds news sp kp fault
   run_ok long news fault claims kept tells solved = record {
     parts = parts;
     all = λ none. long;
     kept = kept;
     tells = tells;
     meets = λ vouched bytes told.
-        meets_streams view edges olds (length nodes) long part_lanes (task_at is outputs heads bytes nodes edges) news fault kept.count tells
-        (solved vouched (task_at is outputs heads bytes nodes edges) (all_start bytes told));
+        meets_streams view edges olds (length nodes) long part_lanes (task_at is asked heads bytes nodes edges) news fault kept.count tells
+        (solved vouched (task_at is asked heads bytes nodes edges) (all_start bytes told));
   }
 
-  pub run_err : (fault : Option NodeFault) (claims : Bool) → fault ≡ unstarted → AreRun is left named failed holds called faulted view outputs heads edges nodes srcs snks claims olds olds sp kp fault
+  pub run_err : (fault : Option NodeFault) (claims : Bool) → fault ≡ unstarted → AreRun is left named failed holds called faulted view asked heads edges nodes srcs snks claims olds olds sp kp fault
   run_err fault claims e = record {
     parts = parts;
     all = λ none. absurd (let both : None ≡ unstarted = sym none ∙ e in cc);
     kept = kept_same view olds;
     tells = unstarted_tells view olds fault e part_sound;
-    meets = λ vouched bytes told. unstarted_streams view (task_at is outputs heads bytes nodes edges) _ edges olds fault e (part_stands bytes told);
+    meets = λ vouched bytes told. unstarted_streams view (task_at is asked heads bytes nodes edges) _ edges olds fault e (part_stands bytes told);
   }
 
 -- a demuxer that was run has no inputs, and a muxer no outputs
 module _ {H S K M : Type 0} (is : KindsOf H) (left named : S → Option (List ℕ)) (failed : S → ℕ) (holds called : K → Option (List ℕ)) (faulted : K → ℕ) (view : M → View)
-    (outputs : List OutputJob) (heads : List H) (edges : List Edge) (nodes : List PlanNode) (srcs : List S) (snks : List K) (olds news : List M) (sp : List (Option S)) (kp : List (Option K))
-    (parts : AreParts is left named failed holds called faulted view outputs heads edges nodes srcs snks olds sp kp) (kept : AllKept view olds news) (fitting : AreFitting is outputs heads edges nodes) where
+    (asked : Asked) (heads : List H) (edges : List Edge) (nodes : List PlanNode) (srcs : List S) (snks : List K) (olds news : List M) (sp : List (Option S)) (kp : List (Option K))
+    (parts : AreParts is left named failed holds called faulted view asked heads edges nodes srcs snks olds sp kp) (kept : AllKept view olds news) (fitting : AreFitting is asked heads edges nodes) where
   pub have_ends : (k : ℕ) (n : PlanNode) (m : M) → slice_get nodes k ≡ Some n → slice_get news k ≡ Some m → HasEnds n (view m)
   have_ends k n m at now =
       let lt : k < length olds = (let w = slice_get_within news k m now in let c = kept.count in omega (arith, w, c)) in
@@ -106,9 +106,9 @@ module _ {H S K M : Type 0} (is : KindsOf H) (left named : S → Option (List �
       let outs : (view m).out_lanes ≡ lanes_out_of edges k =
       ap (λ (x : M). (view x).out_lanes) (sym (get_or_from_slice_get news k m m now)) ∙ (kept.out_lanes k old.0 m lt ∙ (ap (λ (x : M). (view x).out_lanes) (get_or_from_slice_get olds k old.0 old.0 old.1) ∙ part.out_lanes)) in record {
         source = λ i e.
-            let fits : FitsDemux is heads (lanes_into edges k) (lanes_out_of edges k) i = subst (λ (x : PlanNode). IsFitting is outputs heads (lanes_into edges k) (lanes_out_of edges k) x) e (fitting k n at) in
+            let fits : FitsDemux is heads (lanes_into edges k) (lanes_out_of edges k) i = subst (λ (x : PlanNode). IsFitting is asked heads (lanes_into edges k) (lanes_out_of edges k) x) e (fitting k n at) in
             ins ∙ fits.ins_are;
         sink = λ o e.
-            let fits : FitsMux is outputs (lanes_into edges k) (lanes_out_of edges k) o = subst (λ (x : PlanNode). IsFitting is outputs heads (lanes_into edges k) (lanes_out_of edges k) x) e (fitting k n at) in
+            let fits : FitsMux is asked (lanes_into edges k) (lanes_out_of edges k) o = subst (λ (x : PlanNode). IsFitting is asked heads (lanes_into edges k) (lanes_out_of edges k) x) e (fitting k n at) in
             outs ∙ fits.outs_are;
       }

@@ -7,7 +7,7 @@ use Rattle.ff_values.specs.declared.head.StreamHead.{StreamHead}
 use Rattle.ff_frame.specs.Stream.{LiesBelow, opened}
 use Rattle.ff_frame.specs.Ports.{stream_at, AllBelow}
 use Rattle.ff_frame.specs.declared.item.Lane.{Lane}
-use Rattle.ff_frame.specs.declared.item.Lane.TheVariants.{Packets}
+use Rattle.ff_frame.specs.declared.item.Lane.TheVariants.{Frames, Packets}
 use Rattle.ff_edges.specs.declared.edge.Edge.{Edge}
 use Rattle.ff_edges.specs.Ports.{tally, edge_to, edges_to, lane_of, lanes_into, shape_of}
 use Rattle.ff_net.specs.Ways.{Flow}
@@ -70,6 +70,14 @@ one_past edges low k le = numbers_apart edges low k (suc k) le (omega arith)
 pub heads_back : (coded : List StreamHead) → heads_on (map (λ (head : StreamHead). Packets head) coded) ≡ coded
 heads_back [] = refl
 heads_back (c ∷ cs) = ap (λ (xs : List StreamHead). c ∷ xs) (heads_back cs)
+
+-- and of frames
+frames_back : (heads : List StreamHead) → heads_on (map (λ (head : StreamHead). Frames head) heads) ≡ heads
+frames_back [] = refl
+frames_back (h ∷ hs) = ap (λ (xs : List StreamHead). h ∷ xs) (frames_back hs)
+
+pub framed_is : (lanes : List Lane) (heads : List StreamHead) → lanes ≡ map (λ (head : StreamHead). Frames head) heads → heads_on lanes ≡ heads
+framed_is lanes heads e = ap (λ (ls : List Lane). heads_on ls) e ∙ frames_back heads
 
 pub coded_is : (lanes : List Lane) (coded : List StreamHead) → lanes ≡ map (λ (head : StreamHead). Packets head) coded → heads_on lanes ≡ coded
 coded_is lanes coded e = ap (λ (ls : List Lane). heads_on ls) e ∙ heads_back coded

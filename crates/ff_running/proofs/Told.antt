@@ -7,6 +7,7 @@ use Rattle.ff_values.specs.declared.event.Event.TheVariants.{Exited}
 use Rattle.ff_values.specs.declared.head.StreamHead.{StreamHead}
 use Rattle.ff_frame.specs.Stream.{whole}
 use Rattle.ff_frame.specs.Ports.{stream_at, IsClosed}
+use Rattle.ff_lang.specs.declared.graph.Graph.{Graph}
 use Rattle.ff_words.specs.declared.job.Job.{Job}
 use Rattle.ff_words.specs.declared.job.OutputJob.{OutputJob}
 use Rattle.ff_edges.specs.declared.edge.Edge.{Edge}
@@ -29,18 +30,19 @@ use Rattle.ff_plan.specs.declared.planned.PlanNode.TheVariants as node
 use Rattle.ff_files.specs.declared.work.WorkEnd.{WorkEnd}
 use Rattle.ff_files.specs.declared.work.WorkEnd.TheVariants as work_end
 use Rattle.ff_files.specs.Works.{AreTold}
+use Rattle.ff_running.specs.Asked.{Asked, asked_of}
 use Rattle.ff_running.specs.declared.fault.RunFault.{RunFault}
 use Rattle.ff_running.specs.Accepting.{IsPlanFor}
 use Rattle.ff_running.specs.Claims.{tell_all}
 use Rattle.ff_running.specs.Kinds.{KindsOf, is_of_stream}
-use Rattle.ff_running.specs.Events.{is_exit_of, TellOfThemselves, TellAlone}
+use Rattle.ff_running.specs.Events.{is_best_of, ChangeBest, is_exit_of, TellOfThemselves, TellAlone}
 use Rattle.ff_running.specs.Histories.{state_before, HasExited, TellsAll, IsHistoryFor, IsHistoryOf, AreScheduled}
 use Rattle.ff_running.specs.Meaning.{edges_into, task_by, task_at, solution, streams_into, mux_node, events_by}
 use Rattle.ff_running.specs.Openings.{reads_in, is_read}
-use Rattle.ff_running.specs.Parts.{FitsDemux, FitsMux, AreFitting, AreOrdered, AreBack, source_in}
+use Rattle.ff_running.specs.Parts.{FitsDemux, FitsGraph, FitsMux, AreFitting, AreOrdered, AreBack, source_in}
 use Rattle.ff_running.specs.Runs.{AreRun}
-use Rattle.ff_running.specs.Tasks.{first_at, heads_on, demux_by, mux_by}
-use Rattle.ff_running.proofs.EventSteps.{itself, same_number, plans_tell_alone}
+use Rattle.ff_running.specs.Tasks.{first_at, heads_on, demux_by, graph_by, mux_by}
+use Rattle.ff_running.proofs.EventSteps.{change_all, itself, same_number, plans_tell_alone}
 use Rattle.ff_running.proofs.Gathering.{demux_once}
 use Rattle.ff_running.proofs.Networks.{plan_net, plan_ins, plan_outs}
 use Rattle.ff_running.proofs.Numbers.{there}
@@ -82,27 +84,27 @@ exited_same : (i j : ℕ) → Exited i ∷ [] ≡ Exited j ∷ [] → i ≡ j
 exited_same i j e = cc
 
 module _ {H S K M : Type 0} (is : KindsOf H) (own : TellOfThemselves is) (left named : S → Option (List ℕ)) (failed : S → ℕ) (holds called : K → Option (List ℕ)) (faulted : K → ℕ)
-    (view : M → View) (laws : (m : M) → Laws (view m)) (outputs : List OutputJob) (heads : List H) (edges : List Edge) (nodes : List PlanNode) (srcs : List S) (snks : List K) (claims : Bool)
+    (view : M → View) (laws : (m : M) → Laws (view m)) (asked : Asked) (heads : List H) (edges : List Edge) (nodes : List PlanNode) (srcs : List S) (snks : List K) (claims : Bool)
     (olds news : List M) (sp : List (Option S)) (kp : List (Option K)) (fault : Option NodeFault) (srcs' : List S) (snks' : List K) (routes : Routes) (state : State) (events : List Event)
-    (order : AreOrdered (length srcs) (length snks) nodes) (fitting : AreFitting is outputs heads edges nodes)
-    (run : AreRun is left named failed holds called faulted view outputs heads edges nodes srcs snks claims olds news sp kp fault)
+    (order : AreOrdered (length srcs) (length snks) nodes) (fitting : AreFitting is asked heads edges nodes)
+    (run : AreRun is left named failed holds called faulted view asked heads edges nodes srcs snks claims olds news sp kp fault)
     (back : AreBack is left named failed holds called faulted view nodes news srcs snks srcs' snks')
     (sound : fault ≡ None) (s : AreScheduled view edges claims olds news routes state fault events)
-    (bytes : List (List ℕ)) (vouched : claims ≡ true) (told : AreTold left holds srcs snks bytes) (many : length snks ≡ length outputs) where
+    (bytes : List (List ℕ)) (vouched : claims ≡ true) (told : AreTold left holds srcs snks bytes) (many : length snks ≡ length asked.outputs) where
   abbrev tasks : ℕ → Task
-  tasks = task_at is outputs heads bytes nodes edges
+  tasks = task_at is asked heads bytes nodes edges
 
   pub begun : (claims ≡ true) × AllStart view tasks olds
-  begun = (vouched, all_start is left named failed holds called faulted view outputs heads edges nodes srcs snks olds sp kp run.parts bytes told)
+  begun = (vouched, all_start is left named failed holds called faulted view asked heads edges nodes srcs snks olds sp kp run.parts bytes told)
 
   pub logs : AreLogged view tasks (solve (network tasks (ports_of view olds) edges (length olds))) (ins_at (ports_of view olds) edges) (outs_at (ports_of view olds) edges) news fault s.logs
   logs = s.logged tasks begun
 
-  alone : TellAlone is outputs heads bytes nodes edges
-  alone = plans_tell_alone is own outputs heads bytes nodes edges (length srcs) (subst (λ (n : ℕ). AreOrdered (length srcs) n nodes) many order)
+  alone : TellAlone is asked heads bytes nodes edges
+  alone = plans_tell_alone is own asked heads bytes nodes edges (length srcs) (subst (λ (n : ℕ). AreOrdered (length srcs) n nodes) many order)
 
   lanes : (k : ℕ) (m : M) → slice_get olds k ≡ Some m → ((view m).in_lanes ≡ lanes_into edges k) × ((view m).out_lanes ≡ lanes_out_of edges k)
-  lanes = part_lanes is left named failed holds called faulted view outputs heads edges nodes srcs snks olds sp kp run.parts
+  lanes = part_lanes is left named failed holds called faulted view asked heads edges nodes srcs snks olds sp kp run.parts
 
   -- as many parts as nodes
   pub old_there : (k : ℕ) → k < length nodes → k < length olds
@@ -120,18 +122,18 @@ module _ {H S K M : Type 0} (is : KindsOf H) (own : TellOfThemselves is) (left n
     within : k < length nodes
     within = slice_get_within nodes k (node.Mux o) at
 
-    abbrev pub fits : FitsMux is outputs (lanes_into edges k) (lanes_out_of edges k) o
+    abbrev pub fits : FitsMux is asked (lanes_into edges k) (lanes_out_of edges k) o
     fits = fitting k (node.Mux o) at
 
     abbrev pub first : ℕ
-    first = first_at outputs nodes edges k
+    first = first_at asked nodes edges k
 
     pub coded_are : heads_on (lanes_into edges k) ≡ fits.coded
     coded_are = coded_is (lanes_into edges k) fits.coded fits.ins_are
 
     task_is : tasks k ≡ is.mux_task first fits.out fits.coded
     task_is =
-        ap (λ (n : Option PlanNode). task_by is outputs heads bytes nodes edges n k) at
+        ap (λ (n : Option PlanNode). task_by is asked heads bytes nodes edges n k) at
         ∙ (ap (λ (x : Option OutputJob). mux_by is first x (heads_on (lanes_into edges k))) fits.there ∙ ap (λ (hs : List StreamHead). mux_by is first (Some fits.out) hs) coded_are)
 
     abbrev muxer : (m : M) × (slice_get news k ≡ Some m)
@@ -140,7 +142,7 @@ module _ {H S K M : Type 0} (is : KindsOf H) (own : TellOfThemselves is) (left n
     abbrev log : List Logged
     log = slice_index_or s.logs k []
 
-    logged : LoggedSink (view muxer.0) (tasks k) (solution is outputs heads bytes nodes edges) (edges_into edges k) log
+    logged : LoggedSink (view muxer.0) (tasks k) (solution is asked heads bytes nodes edges) (edges_into edges k) log
     logged =
         let lt = old_there k within in
         let net = plan_net view edges olds (length nodes) (run.all sound) lanes tasks in
@@ -153,7 +155,7 @@ module _ {H S K M : Type 0} (is : KindsOf H) (own : TellOfThemselves is) (left n
 
     -- of its stream j
     pub events_are : (j : ℕ) (head : StreamHead) → slice_get fits.coded j ≡ Some head
-        → filter (is_of_stream (first + j)) events ≡ is.events (first + j) head (stream_at (streams_into is outputs heads bytes nodes edges k) j)
+        → filter (is_of_stream (first + j)) events ≡ is.events (first + j) head (stream_at (streams_into is asked heads bytes nodes edges k) j)
     events_are j head here =
         let fed = logged.fed in
         let feeds = fed.past.feeds in
@@ -167,19 +169,19 @@ module _ {H S K M : Type 0} (is : KindsOf H) (own : TellOfThemselves is) (left n
         ∙ (ap (filter (is_of_stream (first + j))) logged.all_told
         ∙ (sym (ap (λ (t : Task). filter (is_of_stream (first + j)) (t.tells feeds)) fed.task_is)
         ∙ (sink.2.told fed.past first fits.out fits.coded j head fed.fits (fed.task_is ∙ task_is) here closed
-        ∙ ap (is.events (first + j) head) (got ∙ sym (at_streams (solution is outputs heads bytes nodes edges) (edges_into edges k) j edge)))))
+        ∙ ap (is.events (first + j) head) (got ∙ sym (at_streams (solution is asked heads bytes nodes edges) (edges_into edges k) j edge)))))
 
     -- as the meaning has them
     pub means_events : (j : ℕ) (head : StreamHead) → slice_get fits.coded j ≡ Some head
-        → events_by is outputs heads bytes nodes edges (first + j) (slice_get (heads_on (lanes_into edges k)) j) (stream_at (streams_into is outputs heads bytes nodes edges k) j)
-        ≡ is.events (first + j) head (stream_at (streams_into is outputs heads bytes nodes edges k) j)
+        → events_by is asked heads bytes nodes edges (first + j) (slice_get (heads_on (lanes_into edges k)) j) (stream_at (streams_into is asked heads bytes nodes edges k) j)
+        ≡ is.events (first + j) head (stream_at (streams_into is asked heads bytes nodes edges k) j)
     means_events j head here =
-        ap (λ (x : Option StreamHead). events_by is outputs heads bytes nodes edges (first + j) x (stream_at (streams_into is outputs heads bytes nodes edges k) j))
+        ap (λ (x : Option StreamHead). events_by is asked heads bytes nodes edges (first + j) x (stream_at (streams_into is asked heads bytes nodes edges k) j))
         (ap (λ (hs : List StreamHead). slice_get hs j) coded_are ∙ here)
 
     pub stream_told : (j : ℕ) → j < length (heads_on (lanes_into edges k))
         → filter (is_of_stream (first + j)) events
-        ≡ events_by is outputs heads bytes nodes edges (first + j) (slice_get (heads_on (lanes_into edges k)) j) (stream_at (streams_into is outputs heads bytes nodes edges k) j)
+        ≡ events_by is asked heads bytes nodes edges (first + j) (slice_get (heads_on (lanes_into edges k)) j) (stream_at (streams_into is asked heads bytes nodes edges k) j)
     stream_told j lt =
         let head = there fits.coded j (subst (λ (hs : List StreamHead). j < length hs) coded_are lt) in
         events_are j head.0 head.1 ∙ sym (means_events j head.0 head.1)
@@ -187,12 +189,29 @@ module _ {H S K M : Type 0} (is : KindsOf H) (own : TellOfThemselves is) (left n
     pub some_streams : 1 ≤ length (heads_on (lanes_into edges k))
     some_streams = subst (λ (hs : List StreamHead). 1 ≤ length hs) (sym coded_are) fits.some
 
+  -- ---- the best inputs of a graph
+
+  bests_told : (k g : ℕ) → slice_get nodes k ≡ Some (node.Graph g) → ChangeBest g 0 (filter (is_best_of g) events)
+  bests_told k g at =
+      let lt = new_there k (slice_get_within nodes k (node.Graph g) at) in
+      let m = there news k lt in
+      let all = logs.settled sound k m.0 lt in
+      let feeds = all.past.feeds in
+      let framed = heads_on (lanes_into edges k) in
+      let fits : FitsGraph is asked (lanes_into edges k) (lanes_out_of edges k) g = fitting k (node.Graph g) at in
+      let task : tasks k ≡ is.graph_task g fits.text framed =
+      ap (λ (n : Option PlanNode). task_by is asked heads bytes nodes edges n k) at ∙ ap (λ (t : Option Graph). graph_by is g t framed) fits.there in
+      let bests : ChangeBest g 0 ((tasks k).tells feeds) = subst (λ (t : Task). ChangeBest g 0 (t.tells feeds)) (sym task) (own.graph g fits.text framed feeds) in
+      let same : filter (is_best_of g) events ≡ (tasks k).tells feeds =
+      (s.told tasks begun k (is_best_of g) lt (alone.best (length news) k g at)).same ∙ (ap (filter (is_best_of g)) all.all_told ∙ change_all g 0 ((tasks k).tells feeds) bests) in
+      subst (ChangeBest g 0) (sym same) bests
+
   -- ---- the exit of an input
 
   demux_task_is : (i k : ℕ) (at : slice_get nodes k ≡ Some (node.Demux i)) (fits : FitsDemux is heads (lanes_into edges k) (lanes_out_of edges k) i)
       → tasks k ≡ is.demux_task i fits.head (slice_index_or bytes i [])
   demux_task_is i k at fits =
-      ap (λ (n : Option PlanNode). task_by is outputs heads bytes nodes edges n k) at ∙ ap (λ (h : Option H). demux_by is i h (slice_index_or bytes i [])) fits.there
+      ap (λ (n : Option PlanNode). task_by is asked heads bytes nodes edges n k) at ∙ ap (λ (h : Option H). demux_by is i h (slice_index_or bytes i [])) fits.there
 
   -- the events of the part of a Demux node
   due_exit : (i k : ℕ) → slice_get nodes k ≡ Some (node.Demux i) → (feeds : List Feed) → (tasks k).tells feeds ≡ Exited i ∷ []
@@ -256,10 +275,11 @@ module _ {H S K M : Type 0} (is : KindsOf H) (own : TellOfThemselves is) (left n
 
   -- ---- both
 
-  pub tells_all : ((o : ℕ) → o < length outputs → slice_get nodes (mux_node is outputs heads bytes nodes edges o) ≡ Some (node.Mux o)) → TellsAll is outputs heads bytes nodes edges events
+  pub tells_all : ((o : ℕ) → o < length asked.outputs → slice_get nodes (mux_node is asked heads bytes nodes edges o) ≡ Some (node.Mux o)) → TellsAll is asked heads bytes nodes edges events
   tells_all muxes = record {
-    some = λ o lt. some_streams o (mux_node is outputs heads bytes nodes edges o) (muxes o lt);
-    streams = λ o j lt there. stream_told o (mux_node is outputs heads bytes nodes edges o) (muxes o lt) j there;
+    some = λ o lt. some_streams o (mux_node is asked heads bytes nodes edges o) (muxes o lt);
+    streams = λ o j lt there. stream_told o (mux_node is asked heads bytes nodes edges o) (muxes o lt) j there;
+    graphs = bests_told;
     inputs = λ i read. (let k = reader_of nodes i read in has_exited i k.0 k.1);
   }
 
@@ -267,16 +287,16 @@ module _ {H S K M : Type 0} (is : KindsOf H) (own : TellOfThemselves is) (left n
 module _ {H S K M : Type 0} (is : KindsOf H) (own : TellOfThemselves is) (left named : S → Option (List ℕ)) (failed : S → ℕ) (holds called : K → Option (List ℕ)) (faulted : K → ℕ)
     (view : M → View) (laws : (m : M) → Laws (view m)) (job : Job) (plan : Plan) (heads : List H) (srcs : List S) (snks : List K) (end : WorkEnd RunFault) (srcs' : List S) (snks' : List K)
     (events : List Event) (for : IsPlanFor is job heads plan) (src_count : length srcs ≡ length heads) (snk_count : length snks ≡ length job.outputs)
-    (h : IsHistoryOf is left named failed holds called faulted view job.outputs heads plan.edges plan.nodes srcs snks (tell_all left holds srcs snks) plan.routes (state_before plan) end srcs' snks' events)
+    (h : IsHistoryOf is left named failed holds called faulted view (asked_of job plan.texts) heads plan.edges plan.nodes srcs snks (tell_all left holds srcs snks) plan.routes (state_before plan) end srcs' snks' events)
     (fine : end ≡ work_end.Fine) where
   order : AreOrdered (length srcs) (length snks) plan.nodes
   order =
       subst (λ (n : ℕ). AreOrdered n (length snks) plan.nodes) (sym src_count) (subst (λ (n : ℕ). AreOrdered (length heads) n plan.nodes) (sym snk_count) for.ordered)
 
-  streams_told : (bytes : Option (List (List ℕ))) → IfSome bytes (AreTold left holds srcs snks) → IfSome bytes (λ b. TellsAll is job.outputs heads b plan.nodes plan.edges events)
+  streams_told : (bytes : Option (List (List ℕ))) → IfSome bytes (AreTold left holds srcs snks) → IfSome bytes (λ b. TellsAll is (asked_of job plan.texts) heads b plan.nodes plan.edges events)
   streams_told None told = tt
   streams_told (Some bytes) told =
-      tells_all is own left named failed holds called faulted view laws job.outputs heads plan.edges plan.nodes srcs snks (tell_all left holds srcs snks) h.done.olds h.done.news
+      tells_all is own left named failed holds called faulted view laws (asked_of job plan.texts) heads plan.edges plan.nodes srcs snks (tell_all left holds srcs snks) h.done.olds h.done.news
       h.done.src_places h.done.snk_places h.done.fault srcs' snks' plan.routes (state_before plan) events order for.fitting h.done.run h.done.back
       (fine_only (length heads) plan.nodes h.done.fault (sym h.done.end_is ∙ fine)) h.run bytes (tells_told left holds srcs snks bytes told) told snk_count for.muxes
 

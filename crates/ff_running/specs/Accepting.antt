@@ -6,6 +6,7 @@ use Rattle.ff_network.specs.Fits.{AreFit, ports_by}
 use Rattle.ff_plan.specs.declared.planned.Plan.{Plan}
 use Rattle.ff_plan.specs.declared.planned.PlanNode.TheVariants as node
 use Rattle.ff_sched.specs.Routes.{AreRoutes}
+use Rattle.ff_running.specs.Asked.{asked_of}
 use Rattle.ff_running.specs.Kinds.{KindsOf}
 use Rattle.ff_running.specs.Meaning.{plan_for}
 use Rattle.ff_running.specs.Parts.{AreFitting, AreOrdered, HaveNumbers}
@@ -16,6 +17,7 @@ module _ {H : Type 0} (is : KindsOf H) (job : Job) where
     pub count : length heads ≡ length job.inputs
     pub sound : All is.IsHead heads
     pub few_inputs : length job.inputs ≤ 16
+    pub some_outputs : 1 ≤ length job.outputs
     pub few_outputs : length job.outputs ≤ 16
     pub few_maps : AllByRecursion (λ out. length out.maps ≤ 16) job.outputs
     pub queue : (1 ≤ job.queue) × (job.queue ≤ 1024)
@@ -28,7 +30,7 @@ module _ {H : Type 0} (is : KindsOf H) (job : Job) where
     pub routes : AreRoutes plan.routes
     pub sources : plan.routes.sources ≡ length heads
     pub fits : AreFit (ports_by plan.edges) (length plan.nodes) plan.edges
-    pub fitting : AreFitting is job.outputs heads plan.edges plan.nodes
-    pub numbers : HaveNumbers job.outputs plan.edges plan.nodes
+    pub fitting : AreFitting is (asked_of job plan.texts) heads plan.edges plan.nodes
+    pub numbers : HaveNumbers (asked_of job plan.texts) plan.edges plan.nodes
     pub ordered : AreOrdered (length heads) (length job.outputs) plan.nodes
     pub muxes : (o : ℕ) → o < length job.outputs → slice_get plan.nodes ((length plan.nodes - length job.outputs) + o) ≡ Some (node.Mux o)

@@ -1,15 +1,17 @@
 -- Which events the nodes of a plan have to tell, each of its own output streams or input alone.
-use Rattle.std.specs.Prelude.{◌≡◌, ℕ, ◌+◌, ◌<◌, ◌&&◌, nat_eq, nat_le, nat_lt, Bool, true, false, All, List, [], ◌∷◌, length, slice_get, Some}
+use Rattle.std.specs.Prelude.{◌≡◌, ◌≢◌, ℕ, ◌+◌, ◌<◌, ◌&&◌, nat_eq, nat_le, nat_lt, Bool, true, false, All, List, [], ◌∷◌, length, slice_get, Some}
 use Rattle.ff_values.specs.declared.head.StreamHead.{StreamHead}
 use Rattle.ff_values.specs.declared.event.Event.{Event}
 use Rattle.ff_values.specs.declared.event.Event.TheVariants.{Grant, Sent, Finished, Best, Exited}
 use Rattle.ff_edges.specs.declared.edge.Edge.{Edge}
 use Rattle.ff_edges.specs.Ports.{lanes_into}
+use Rattle.ff_lang.specs.declared.graph.Graph.{Graph}
 use Rattle.ff_words.specs.declared.job.OutputJob.{OutputJob}
 use Rattle.ff_net.specs.Pasts.{Feed}
 use Rattle.ff_network.specs.Scheduling.{TellsAlone}
 use Rattle.ff_plan.specs.declared.planned.PlanNode.{PlanNode}
 use Rattle.ff_plan.specs.declared.planned.PlanNode.TheVariants as node
+use Rattle.ff_running.specs.Asked.{Asked}
 use Rattle.ff_running.specs.Kinds.{KindsOf, is_of_stream}
 use Rattle.ff_running.specs.Meaning.{task_at}
 use Rattle.ff_running.specs.Parts.{AreOrdered}
@@ -27,6 +29,23 @@ is_of_streams first count (Finished j) = is_among first count j
 is_of_streams first count (Best g i) = false
 is_of_streams first count (Exited s) = false
 
+-- that another input of the graph of this number is its best
+abbrev pub is_best_of : ℕ → Event → Bool
+is_best_of g (Grant s) = false
+is_best_of g (Sent j t) = false
+is_best_of g (Finished j) = false
+is_best_of g (Best h i) = nat_eq h g
+is_best_of g (Exited s) = false
+
+-- one by one that another input of this graph is its best, where this one was it before
+abbrev pub ChangeBest : ℕ → ℕ → List Event → Type 0
+ChangeBest g best [] = Unit {0}
+ChangeBest g best (Grant s ∷ es) = ⊥
+ChangeBest g best (Sent j t ∷ es) = ⊥
+ChangeBest g best (Finished j ∷ es) = ⊥
+ChangeBest g best (Best h i ∷ es) = (h ≡ g) × (i ≢ best) × ChangeBest g i es
+ChangeBest g best (Exited s ∷ es) = ⊥
+
 -- that the input of this number has exited
 abbrev pub is_exit_of : ℕ → Event → Bool
 is_exit_of i (Grant s) = false
@@ -36,21 +55,26 @@ is_exit_of i (Best g k) = false
 is_exit_of i (Exited s) = nat_eq s i
 
 module _ {H : Type 0} (is : KindsOf H) where
-  -- whatever it was fed, a demuxer tells that its input has exited, a muxer of its output's streams, and a decoder and an encoder nothing
+  -- whatever it was fed, a demuxer tells that its input has exited, a muxer of its output's streams, a graph when its
+  -- best input is another than before, which is the first one at first, and each other nothing
   pub record TellOfThemselves : Type 0 where
     pub demuxer : (i : ℕ) (head : H) (bytes : List ℕ) (feeds : List Feed) → (is.demux_task i head bytes).tells feeds ≡ Exited i ∷ []
     pub decoder : (head : StreamHead) (outputs : ℕ) (feeds : List Feed) → (is.dec_task head outputs).tells feeds ≡ []
+    pub graph : (g : ℕ) (text : Graph) (heads : List StreamHead) (feeds : List Feed) → ChangeBest g 0 ((is.graph_task g text heads).tells feeds)
+    pub shortest : (ends : Bool) (heads : List StreamHead) (feeds : List Feed) → (is.shortest_task ends heads).tells feeds ≡ []
     pub encoder : (head coded : StreamHead) (feeds : List Feed) → (is.enc_task head coded).tells feeds ≡ []
     pub muxer : (first : ℕ) (out : OutputJob) (coded : List StreamHead) (feeds : List Feed)
         → All (λ e. is_of_streams first (length coded) e ≡ true) ((is.mux_task first out coded).tells feeds)
 
-  -- so of the nodes of a plan, which have different numbers, one alone tells of an output stream, and one alone that an input has exited
-  pub record TellAlone (outputs : List OutputJob) (heads : List H) (bytes : List (List ℕ)) (nodes : List PlanNode) (edges : List Edge) : Type 0 where
+  -- so of the nodes of a plan, which have different numbers, one alone tells of an output stream, one alone of a graph's best input, and one alone
+  -- that an input has exited
+  pub record TellAlone (asked : Asked) (heads : List H) (bytes : List (List ℕ)) (nodes : List PlanNode) (edges : List Edge) : Type 0 where
     pub output : (count k o j : ℕ) → slice_get nodes k ≡ Some (node.Mux o) → j < length (lanes_into edges k)
-        → TellsAlone (task_at is outputs heads bytes nodes edges) count k (is_of_stream (first_at outputs nodes edges k + j))
+        → TellsAlone (task_at is asked heads bytes nodes edges) count k (is_of_stream (first_at asked nodes edges k + j))
+    pub best : (count k g : ℕ) → slice_get nodes k ≡ Some (node.Graph g) → TellsAlone (task_at is asked heads bytes nodes edges) count k (is_best_of g)
     pub input : (count k i : ℕ) → slice_get nodes k ≡ Some (node.Demux i)
-        → TellsAlone (task_at is outputs heads bytes nodes edges) count k (is_exit_of i)
+        → TellsAlone (task_at is asked heads bytes nodes edges) count k (is_exit_of i)
 
   abbrev pub PlansTellAlone : Type 0
-  PlansTellAlone = (outputs : List OutputJob) (heads : List H) (bytes : List (List ℕ)) (nodes : List PlanNode) (edges : List Edge) (i : ℕ)
-      → AreOrdered i (length outputs) nodes → TellAlone outputs heads bytes nodes edges
+  PlansTellAlone = (asked : Asked) (heads : List H) (bytes : List (List ℕ)) (nodes : List PlanNode) (edges : List Edge) (i : ℕ)
+      → AreOrdered i (length asked.outputs) nodes → TellAlone asked heads bytes nodes edges

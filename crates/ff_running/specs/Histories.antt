@@ -3,7 +3,6 @@ use Rattle.std.specs.Prelude.{◌≡◌, ℕ, ◌<◌, ◌≤◌, true, false, B
 use Rattle.ff_values.specs.declared.event.Event.{Event}
 use Rattle.ff_values.specs.declared.event.Event.TheVariants.{Grant, Exited}
 use Rattle.ff_words.specs.declared.job.Job.{Job}
-use Rattle.ff_words.specs.declared.job.OutputJob.{OutputJob}
 use Rattle.ff_edges.specs.declared.edge.Edge.{Edge}
 use Rattle.ff_sched.specs.declared.routes.Routes.{Routes}
 use Rattle.ff_sched.specs.Bits.{upto}
@@ -17,9 +16,11 @@ use Rattle.ff_network.specs.Networks.{AllStart, ports_of}
 use Rattle.ff_network.specs.Scheduling.{Scheduled}
 use Rattle.ff_plan.specs.declared.planned.Plan.{Plan}
 use Rattle.ff_plan.specs.declared.planned.PlanNode.{PlanNode}
+use Rattle.ff_plan.specs.declared.planned.PlanNode.TheVariants as node
 use Rattle.ff_files.specs.declared.work.WorkEnd.{WorkEnd}
 use Rattle.ff_running.specs.declared.fault.RunFault.{RunFault}
-use Rattle.ff_running.specs.Events.{is_exit_of}
+use Rattle.ff_running.specs.Events.{is_best_of, ChangeBest, is_exit_of}
+use Rattle.ff_running.specs.Asked.{Asked, asked_of}
 use Rattle.ff_running.specs.Kinds.{KindsOf, is_of_stream}
 use Rattle.ff_running.specs.Meaning.{plan_for, streams_in, number_in, events_in}
 use Rattle.ff_running.specs.Openings.{is_read, is_unused}
@@ -44,19 +45,20 @@ pub record HasExited (i : ℕ) (events : List Event) : Type 0 where
   pub last : (p q : ℕ) → slice_get events p ≡ Some (Grant i) → slice_get events q ≡ Some (Exited i) → p < q
 
 -- Each output has a stream. Of each stream of each output, by its number over all outputs, it is told when each of its packets is decoded, in order, and then
--- that it has finished, and nothing else; and each input that is read has exited.
-pub record TellsAll {H : Type 0} (is : KindsOf H) (outputs : List OutputJob) (heads : List H) (bytes : List (List ℕ))
+-- that it has finished, and nothing else; of each graph it is told when another input than before is its best; and each input that is read has exited.
+pub record TellsAll {H : Type 0} (is : KindsOf H) (asked : Asked) (heads : List H) (bytes : List (List ℕ))
     (nodes : List PlanNode) (edges : List Edge) (events : List Event) : Type 0 where
-  pub some : (o : ℕ) → o < length outputs → 1 ≤ streams_in is outputs heads bytes nodes edges o
-  pub streams : (o j : ℕ) → o < length outputs → j < streams_in is outputs heads bytes nodes edges o
-      → filter (is_of_stream (number_in is outputs heads bytes nodes edges o j)) events ≡ events_in is outputs heads bytes nodes edges o j
+  pub some : (o : ℕ) → o < length asked.outputs → 1 ≤ streams_in is asked heads bytes nodes edges o
+  pub streams : (o j : ℕ) → o < length asked.outputs → j < streams_in is asked heads bytes nodes edges o
+      → filter (is_of_stream (number_in is asked heads bytes nodes edges o j)) events ≡ events_in is asked heads bytes nodes edges o j
+  pub graphs : (k g : ℕ) → slice_get nodes k ≡ Some (node.Graph g) → ChangeBest g 0 (filter (is_best_of g) events)
   pub inputs : (i : ℕ) → is_read nodes i ≡ true → HasExited i events
 
 -- The history of a run of this plan over inputs with these heads and, where they are told, these bytes: each grant stands where the
 -- events before it, from the state before the run on, unchoke its source.
 pub record IsHistoryIn {H : Type 0} (is : KindsOf H) (job : Job) (heads : List H) (bytes : Option (List (List ℕ))) (plan : Plan) (events : List Event) : Type 0 where
   pub legal : IsLegal plan.routes (state_before plan) events
-  pub told : IfSome bytes (λ b. TellsAll is job.outputs heads b plan.nodes plan.edges events)
+  pub told : IfSome bytes (λ b. TellsAll is (asked_of job plan.texts) heads b plan.nodes plan.edges events)
 
 -- that of a run of the plan for these heads
 abbrev pub IsHistoryFor : {H : Type 0} → KindsOf H → Job → List H → Option (List (List ℕ)) → List Event → Type 0
@@ -71,8 +73,8 @@ AreScheduled view edges claims olds news routes state fault events =
     news fault events
 
 module _ {H S K M : Type 0} (is : KindsOf H) (left named : S → Option (List ℕ)) (failed : S → ℕ) (holds called : K → Option (List ℕ)) (faulted : K → ℕ) (view : M → View)
-    (outputs : List OutputJob) (heads : List H) (edges : List Edge) (nodes : List PlanNode) (srcs : List S) (snks : List K) (claims : Bool) where
+    (asked : Asked) (heads : List H) (edges : List Edge) (nodes : List PlanNode) (srcs : List S) (snks : List K) (claims : Bool) where
   -- The parts of a plan's nodes were run so, with this end, and these are the sources and the sinks then.
   pub record IsHistoryOf (routes : Routes) (state : State) (end : WorkEnd RunFault) (srcs' : List S) (snks' : List K) (events : List Event) : Type 0 where
-    pub done : IsDone is left named failed holds called faulted view outputs heads edges nodes srcs snks claims end srcs' snks'
+    pub done : IsDone is left named failed holds called faulted view asked heads edges nodes srcs snks claims end srcs' snks'
     pub run : AreScheduled view edges claims done.olds done.news routes state done.fault events

@@ -1,16 +1,20 @@
 -- The kinds of node of a plan: what each is there for, and what of a part is seen from outside.
-use Rattle.std.specs.Prelude.{◌≡◌, ℕ, ◌+◌, ◌<◌, ◌≤◌, nat_eq, Bool, false, List, [], ◌∷◌, filter, length, map, slice_get, Option, None, Some, IsSome}
-use Rattle.std.specs.List.{range_with_len}
+use Rattle.std.specs.Prelude.{◌≡◌, ℕ, ◌+◌, ◌<◌, ◌≤◌, nat_eq, Bool, false, List, [], ◌∷◌, filter, length, map, slice_get, Option, None, Some, IsSome, Ok}
+use Rattle.std.specs.List.{AllByRecursion, range_with_len}
 use Rattle.ff_values.specs.declared.head.StreamHead.{StreamHead}
 use Rattle.ff_values.specs.declared.event.Event.{Event}
 use Rattle.ff_values.specs.declared.event.Event.TheVariants.{Grant, Sent, Finished, Best, Exited}
 use Rattle.ff_frame.specs.declared.item.Lane.{Lane}
 use Rattle.ff_frame.specs.Ports.{stream_at, IsClosed, IsWhole}
+use Rattle.ff_lang.specs.declared.graph.Graph.{Graph}
 use Rattle.ff_words.specs.declared.job.OutputJob.{OutputJob}
 use Rattle.ff_net.specs.Pasts.{Past, Task}
 use Rattle.ff_net.specs.Views.{View}
 use Rattle.ff_net.specs.Ways.{Flow}
 use Rattle.ff_files.specs.Works.{HoldsPart}
+use Rattle.ff_plan.specs.Graphs.{IsClear}
+use Rattle.ff_plan.specs.Rules.{Rules}
+use Rattle.ff_plan.specs.declared.open_pads.OpenOut.{OpenOut}
 use Rattle.ff_running.specs.declared.kinds.Ends.{Ends}
 use Rattle.ff_running.specs.declared.kinds.Ends.TheVariants as ends
 
@@ -19,11 +23,22 @@ pub record KindsOf (H : Type 0) : Type 1 where
   -- what is true of every head that is read, and what it tells of its one stream
   pub IsHead : H → Type 0
   pub stream : H → StreamHead
+  -- what a plan asks of filters, and what is true of the heads of all frames in it
+  pub rules : Rules
+  pub IsFrames : StreamHead → Type 0
   -- what the demuxer of the input of this number with this head and these bytes is there for
   pub demux_task : ℕ → H → List ℕ → Task
   -- the streams that can be decoded, and what a decoder with so many outputs is there for
   pub CanDecode : StreamHead → Type 0
   pub dec_task : StreamHead → ℕ → Task
+  -- the graphs of a text that can be had with frames of these heads at their inputs and of those at their outputs, and what the
+  -- graph of this number is there for
+  pub CanFilter : Graph → List StreamHead → List StreamHead → Type 0
+  pub graph_task : ℕ → Graph → List StreamHead → Task
+  -- the frames that can go to an output together, and what a node of these is there for, where they end with the shortest or are
+  -- given as they are
+  pub CanJoin : List StreamHead → Type 0
+  pub shortest_task : Bool → List StreamHead → Task
   -- the streams that can be coded as others, and what an encoder is there for
   pub CanEncode : StreamHead → StreamHead → Type 0
   pub enc_task : StreamHead → StreamHead → Task
@@ -82,6 +97,12 @@ pub record IsSinkOf {H K : Type 0} (is : KindsOf H) (holds called : K → Option
   pub told : (past : Past) (first : ℕ) (out : OutputJob) (coded : List StreamHead) (p : ℕ) (head : StreamHead) → v.stands past → past.task ≡ is.mux_task first out coded
       → slice_get coded p ≡ Some head → IsClosed (stream_at past.got p)
       → filter (is_of_stream (first + p)) (past.task.tells past.feeds) ≡ is.events (first + p) head (stream_at past.got p)
+
+-- of frames at all open pads of a text without a loop, whose labels are clear, the rules make a graph that can be had
+abbrev pub GraphsAreHad : {H : Type 0} → KindsOf H → Type 0
+GraphsAreHad is = (text : Graph) (heads : List StreamHead) (outs : List OpenOut) → is.rules.configured text (map (λ h. Some h) heads) ≡ Ok outs
+    → length heads ≡ length (is.rules.open_ins text) → is.rules.loops text ≡ false → IsClear text → AllByRecursion is.IsFrames heads
+    → is.CanFilter text heads (map (λ (out : OpenOut). out.head) outs)
 
 -- what a part gives back: a demuxer, which has no inputs, its source, a muxer, which has no outputs, its sink
 abbrev pub GivesEnds : {H S K : Type 0} → KindsOf H → (S → Option (List ℕ)) → (S → ℕ) → (K → Option (List ℕ)) → (K → Option (List ℕ)) → (K → ℕ) → View → Ends S K → Type 0

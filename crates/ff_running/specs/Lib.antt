@@ -1,3 +1,4 @@
+pub mod Asked
 pub mod Kinds
 pub mod Openings
 pub mod Tasks

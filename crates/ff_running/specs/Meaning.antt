@@ -17,11 +17,12 @@ use Rattle.ff_plan.specs.declared.planned.Plan.{Plan}
 use Rattle.ff_plan.specs.declared.planned.PlanError.{PlanError}
 use Rattle.ff_plan.specs.declared.planned.PlanNode.{PlanNode}
 use Rattle.ff_plan.specs.declared.planned.PlanNode.TheVariants as node
+use Rattle.ff_plan.specs.Planned.{planned}
 use Rattle.ff_plan.specs.Rules.{Planned}
-use Rattle.ff_plan.specs.Today.{planned_today}
 use Rattle.ff_files.specs.Works.{Meaning}
 use Rattle.ff_running.specs.declared.fault.RunFault.{RunFault}
 use Rattle.ff_running.specs.declared.fault.RunFault.TheVariants as run_fault
+use Rattle.ff_running.specs.Asked.{Asked, asked_of}
 use Rattle.ff_running.specs.Kinds.{KindsOf}
 use Rattle.ff_edges.specs.Ports.{lanes_into, lanes_out_of}
 use Rattle.ff_running.specs.Tasks.{idle, first_at, heads_on, task_of}
@@ -48,10 +49,10 @@ read_before inputs (node.Shortest o) = inputs
 read_before inputs (node.Enc o j) = inputs
 read_before inputs (node.Mux o) = inputs
 
-module _ {H : Type 0} (is : KindsOf H) (outputs : List OutputJob) (heads : List H) (bytes : List (List ℕ)) (nodes : List PlanNode) (edges : List Edge) where
+module _ {H : Type 0} (is : KindsOf H) (asked : Asked) (heads : List H) (bytes : List (List ℕ)) (nodes : List PlanNode) (edges : List Edge) where
   abbrev pub task_by : Option PlanNode → ℕ → Task
   task_by None k = idle
-  task_by (Some n) k = task_of is outputs heads bytes (first_at outputs nodes edges k) (lanes_into edges k) (lanes_out_of edges k) n
+  task_by (Some n) k = task_of is asked heads bytes (first_at asked nodes edges k) (lanes_into edges k) (lanes_out_of edges k) n
 
   abbrev pub task_at : ℕ → Task
   task_at k = task_by (slice_get nodes k) k
@@ -70,7 +71,7 @@ module _ {H : Type 0} (is : KindsOf H) (outputs : List OutputJob) (heads : List 
 
   -- the Mux nodes stand last, one for each output
   abbrev pub mux_node : ℕ → ℕ
-  mux_node o = (length nodes - length outputs) + o
+  mux_node o = (length nodes - length asked.outputs) + o
 
   -- the heads of the packets of an output's streams
   abbrev pub coded_in : ℕ → List StreamHead
@@ -86,17 +87,17 @@ module _ {H : Type 0} (is : KindsOf H) (outputs : List OutputJob) (heads : List 
 
   -- the file of an output, and the text of which a front is held until it is done
   abbrev pub file_in : ℕ → Option (List ℕ)
-  file_in o = file_by (slice_get outputs o) (coded_in o) (streams_into (mux_node o))
+  file_in o = file_by (slice_get asked.outputs o) (coded_in o) (streams_into (mux_node o))
 
   abbrev pub text_in : ℕ → List ℕ
-  text_in o = text_by (slice_get outputs o) (coded_in o) (streams_into (mux_node o))
+  text_in o = text_by (slice_get asked.outputs o) (coded_in o) (streams_into (mux_node o))
 
   -- how many streams an output has, and the number of its stream j among those of all outputs
   abbrev pub streams_in : ℕ → ℕ
   streams_in o = length (coded_in o)
 
   abbrev pub number_in : ℕ → ℕ → ℕ
-  number_in o j = first_at outputs nodes edges (mux_node o) + j
+  number_in o j = first_at asked nodes edges (mux_node o) + j
 
   -- the events of the output stream of this number, of packets of this head; without a head it has none, and only finishes
   abbrev pub events_by : ℕ → Option StreamHead → Flow → List Event
@@ -124,22 +125,22 @@ comes_after (run_fault.TooLarge output) = 2 ^ 32
 
 module _ {H : Type 0} (is : KindsOf H) (job : Job) where
   abbrev pub plan_for : List H → Planned Plan
-  plan_for heads = planned_today job (map (λ h. is.stream h ∷ []) heads)
+  plan_for heads = planned is.rules job (map (λ h. is.stream h ∷ []) heads)
 
   abbrev pub refusal_of : Planned Plan → Option PlanError
   refusal_of (Ok plan) = None
   refusal_of (Err refusal) = Some refusal
 
   abbrev pub file_of : Planned Plan → List H → List (List ℕ) → ℕ → Option (List ℕ)
-  file_of (Ok plan) heads bytes o = file_in is job.outputs heads bytes plan.nodes plan.edges o
+  file_of (Ok plan) heads bytes o = file_in is (asked_of job plan.texts) heads bytes plan.nodes plan.edges o
   file_of (Err refusal) heads bytes o = None
 
   abbrev pub text_of : Planned Plan → List H → List (List ℕ) → ℕ → List ℕ
-  text_of (Ok plan) heads bytes o = text_in is job.outputs heads bytes plan.nodes plan.edges o
+  text_of (Ok plan) heads bytes o = text_in is (asked_of job plan.texts) heads bytes plan.nodes plan.edges o
   text_of (Err refusal) heads bytes o = []
 
   abbrev pub BreaksBy : Planned Plan → List H → List (List ℕ) → RunFault → Type 0
-  BreaksBy (Ok plan) heads bytes why = BreaksIn is job.outputs heads bytes plan.nodes plan.edges why
+  BreaksBy (Ok plan) heads bytes why = BreaksIn is (asked_of job plan.texts) heads bytes plan.nodes plan.edges why
   BreaksBy (Err refusal) heads bytes why = ⊥
 
   -- all that contracts see of a run of a job's plan

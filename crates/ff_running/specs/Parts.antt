@@ -3,6 +3,7 @@ use Rattle.std.specs.Prelude.{◌≡◌, ℕ, ◌+◌, ◌-◌, ◌<◌, ◌≤�
 use Rattle.ff_values.specs.declared.head.StreamHead.{StreamHead}
 use Rattle.ff_frame.specs.declared.item.Lane.{Lane}
 use Rattle.ff_frame.specs.declared.item.Lane.TheVariants.{Frames, Packets}
+use Rattle.ff_lang.specs.declared.graph.Graph.{Graph}
 use Rattle.ff_words.specs.declared.job.OutputJob.{OutputJob}
 use Rattle.ff_edges.specs.declared.edge.Edge.{Edge}
 use Rattle.ff_net.specs.Pasts.{start}
@@ -10,6 +11,7 @@ use Rattle.ff_net.specs.Views.{View}
 use Rattle.ff_plan.specs.declared.planned.PlanNode.{PlanNode}
 use Rattle.ff_plan.specs.declared.planned.PlanNode.TheVariants as node
 use Rattle.ff_files.specs.Works.{AreTold}
+use Rattle.ff_running.specs.Asked.{Asked}
 use Rattle.ff_running.specs.Kinds.{KindsOf, IsSourceOf, IsSinkOf}
 use Rattle.ff_edges.specs.Ports.{lanes_into, lanes_out_of}
 use Rattle.ff_running.specs.Tasks.{first_at, task_of}
@@ -31,6 +33,23 @@ module _ {H : Type 0} (is : KindsOf H) where
     pub ins_are : ins ≡ Packets head ∷ []
     pub outs_are : outs ≡ replicate (length outs) (Frames head)
 
+  pub record FitsGraph (asked : Asked) (ins outs : List Lane) (g : ℕ) : Type 0 where
+    pub text : Graph
+    pub there : asked.text g ≡ Some text
+    pub heads : List StreamHead
+    pub made : List StreamHead
+    pub can : is.CanFilter text heads made
+    pub ins_are : ins ≡ map (λ head. Frames head) heads
+    pub outs_are : outs ≡ map (λ head. Frames head) made
+
+  pub record FitsShortest (asked : Asked) (ins outs : List Lane) (o : ℕ) : Type 0 where
+    pub out : OutputJob
+    pub there : slice_get asked.outputs o ≡ Some out
+    pub heads : List StreamHead
+    pub can : is.CanJoin heads
+    pub ins_are : ins ≡ map (λ head. Frames head) heads
+    pub outs_are : outs ≡ map (λ head. Frames head) heads
+
   pub record FitsEnc (ins outs : List Lane) : Type 0 where
     pub head : StreamHead
     pub coded : StreamHead
@@ -38,9 +57,9 @@ module _ {H : Type 0} (is : KindsOf H) where
     pub ins_are : ins ≡ Frames head ∷ []
     pub outs_are : outs ≡ Packets coded ∷ []
 
-  pub record FitsMux (outputs : List OutputJob) (ins outs : List Lane) (o : ℕ) : Type 0 where
+  pub record FitsMux (asked : Asked) (ins outs : List Lane) (o : ℕ) : Type 0 where
     pub out : OutputJob
-    pub there : slice_get outputs o ≡ Some out
+    pub there : slice_get asked.outputs o ≡ Some out
     pub coded : List StreamHead
     pub some : 1 ≤ length coded
     pub can : is.CanMux out coded
@@ -48,23 +67,23 @@ module _ {H : Type 0} (is : KindsOf H) where
     pub outs_are : outs ≡ []
 
   -- a node with these lanes at its ports
-  abbrev pub IsFitting : List OutputJob → List H → List Lane → List Lane → PlanNode → Type 0
-  IsFitting outputs heads ins outs (node.Demux i) = FitsDemux heads ins outs i
-  IsFitting outputs heads ins outs (node.Dec at) = FitsDec ins outs
-  IsFitting outputs heads ins outs (node.Graph g) = ⊥
-  IsFitting outputs heads ins outs (node.Shortest o) = ⊥
-  IsFitting outputs heads ins outs (node.Enc o j) = FitsEnc ins outs
-  IsFitting outputs heads ins outs (node.Mux o) = FitsMux outputs ins outs o
+  abbrev pub IsFitting : Asked → List H → List Lane → List Lane → PlanNode → Type 0
+  IsFitting asked heads ins outs (node.Demux i) = FitsDemux heads ins outs i
+  IsFitting asked heads ins outs (node.Dec at) = FitsDec ins outs
+  IsFitting asked heads ins outs (node.Graph g) = FitsGraph asked ins outs g
+  IsFitting asked heads ins outs (node.Shortest o) = FitsShortest asked ins outs o
+  IsFitting asked heads ins outs (node.Enc o j) = FitsEnc ins outs
+  IsFitting asked heads ins outs (node.Mux o) = FitsMux asked ins outs o
 
 -- the output streams have numbers up to 16: before each node, and at each Mux node
-pub record HaveNumbers (outputs : List OutputJob) (edges : List Edge) (nodes : List PlanNode) : Type 0 where
-  pub before : (k : ℕ) → first_at outputs nodes edges k ≤ 16
-  pub at : (k o : ℕ) → slice_get nodes k ≡ Some (node.Mux o) → first_at outputs nodes edges k + length (lanes_into edges k) ≤ 16
+pub record HaveNumbers (asked : Asked) (edges : List Edge) (nodes : List PlanNode) : Type 0 where
+  pub before : (k : ℕ) → first_at asked nodes edges k ≤ 16
+  pub at : (k o : ℕ) → slice_get nodes k ≡ Some (node.Mux o) → first_at asked nodes edges k + length (lanes_into edges k) ≤ 16
 
 -- each node by its edges
-abbrev pub AreFitting : {H : Type 0} → KindsOf H → List OutputJob → List H → List Edge → List PlanNode → Type 0
-AreFitting is outputs heads edges nodes =
-    (k : ℕ) (n : PlanNode) → slice_get nodes k ≡ Some n → IsFitting is outputs heads (lanes_into edges k) (lanes_out_of edges k) n
+abbrev pub AreFitting : {H : Type 0} → KindsOf H → Asked → List H → List Edge → List PlanNode → Type 0
+AreFitting is asked heads edges nodes =
+    (k : ℕ) (n : PlanNode) → slice_get nodes k ≡ Some n → IsFitting is asked heads (lanes_into edges k) (lanes_out_of edges k) n
 
 -- ---- which nodes there are
 
@@ -72,12 +91,13 @@ AreFitting is outputs heads edges nodes =
 abbrev pub IsBefore : List PlanNode → ℕ → PlanNode → Type 0
 IsBefore nodes count n = (j : ℕ) × (j < count) × (slice_get nodes j ≡ Some n)
 
--- First stand the Demux nodes, by the numbers of their inputs, and last the Mux nodes, one for each output.
+-- First stand the Demux nodes, by the numbers of their inputs, and last the Mux nodes, one for each output; each graph stands once.
 pub record AreOrdered (inputs outputs : ℕ) (nodes : List PlanNode) : Type 0 where
   pub inputs_there : (k i : ℕ) → slice_get nodes k ≡ Some (node.Demux i) → i < inputs
   pub outputs_there : (k o : ℕ) → slice_get nodes k ≡ Some (node.Mux o) → o < outputs
   pub rising : (j k i i' : ℕ) → slice_get nodes j ≡ Some (node.Demux i) → slice_get nodes k ≡ Some (node.Demux i') → j < k → i < i'
   pub first : (j k i : ℕ) (n : PlanNode) → slice_get nodes j ≡ Some (node.Demux i) → slice_get nodes k ≡ Some n → k ≤ j → (i' : ℕ) × (n ≡ node.Demux i')
+  pub graphs_once : (j k g : ℕ) → slice_get nodes j ≡ Some (node.Graph g) → slice_get nodes k ≡ Some (node.Graph g) → j ≡ k
   pub muxes_at : (k o : ℕ) → slice_get nodes k ≡ Some (node.Mux o) → k ≡ (length nodes - outputs) + o
   pub muxes_rise : (j k o o' : ℕ) → slice_get nodes j ≡ Some (node.Mux o) → slice_get nodes k ≡ Some (node.Mux o') → j < k → o < o'
 
@@ -109,21 +129,21 @@ pub record HasEnds (n : PlanNode) (v : View) : Type 0 where
 module _ {H S K : Type 0} (is : KindsOf H) (left named : S → Option (List ℕ)) (failed : S → ℕ) (holds called : K → Option (List ℕ)) (faulted : K → ℕ) where
   -- a part with these lanes at its ports that nothing was done with, as this node of a plan over these sources and sinks, where the
   -- node's first output stream has this number
-  pub record IsPart (outputs : List OutputJob) (heads : List H) (srcs : List S) (snks : List K) (first : ℕ) (ins outs : List Lane) (n : PlanNode) (v : View) : Type 0 where
+  pub record IsPart (asked : Asked) (heads : List H) (srcs : List S) (snks : List K) (first : ℕ) (ins outs : List Lane) (n : PlanNode) (v : View) : Type 0 where
     pub source_is : v.source ≡ source_in n
     pub in_lanes : v.in_lanes ≡ ins
     pub out_lanes : v.out_lanes ≡ outs
     pub sound : v.fault ≡ None
     pub source : (i : ℕ) (s : S) → n ≡ node.Demux i → slice_get srcs i ≡ Some s → (v.device ≡ named s) × (v.failures ≡ failed s)
     pub sink : (o : ℕ) (s : K) → n ≡ node.Mux o → slice_get snks o ≡ Some s → (v.device ≡ called s) × (v.failures ≡ faulted s)
-    pub starts : (bytes : List (List ℕ)) → AreTold left holds srcs snks bytes → v.stands (start (task_of is outputs heads bytes first ins outs n))
+    pub starts : (bytes : List (List ℕ)) → AreTold left holds srcs snks bytes → v.stands (start (task_of is asked heads bytes first ins outs n))
 
   -- the parts of the first nodes, and all sources and sinks that are in none of them in their places
-  pub record AreParts {M : Type 0} (view : M → View) (outputs : List OutputJob) (heads : List H) (edges : List Edge) (nodes : List PlanNode) (srcs : List S) (snks : List K)
+  pub record AreParts {M : Type 0} (view : M → View) (asked : Asked) (heads : List H) (edges : List Edge) (nodes : List PlanNode) (srcs : List S) (snks : List K)
       (parts : List M) (src_places : List (Option S)) (snk_places : List (Option K)) : Type 0 where
     pub few : length parts ≤ length nodes
     pub each : (k : ℕ) (n : PlanNode) (m : M) → slice_get nodes k ≡ Some n → slice_get parts k ≡ Some m
-        → IsPart outputs heads srcs snks (first_at outputs nodes edges k) (lanes_into edges k) (lanes_out_of edges k) n (view m)
+        → IsPart asked heads srcs snks (first_at asked nodes edges k) (lanes_into edges k) (lanes_out_of edges k) n (view m)
     pub srcs_aside : (i : ℕ) → i < length srcs → (IsBefore nodes (length parts) (node.Demux i) → ⊥) → IsAside srcs src_places i
     pub snks_aside : (o : ℕ) → o < length snks → (IsBefore nodes (length parts) (node.Mux o) → ⊥) → IsAside snks snk_places o
     pub src_count : length src_places ≡ length srcs

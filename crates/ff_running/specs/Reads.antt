@@ -7,7 +7,6 @@ use Rattle.ff_values.specs.declared.event.Event.{Event}
 use Rattle.ff_values.specs.declared.event.Event.TheVariants.{Grant, Sent, Finished, Best, Exited}
 use Rattle.ff_frame.specs.Ports.{stream_at, IsWhole}
 use Rattle.ff_words.specs.declared.job.Job.{Job}
-use Rattle.ff_words.specs.declared.job.OutputJob.{OutputJob}
 use Rattle.ff_edges.specs.declared.edge.Edge.{Edge}
 use Rattle.ff_sched.specs.declared.routes.Routes.{Routes}
 use Rattle.ff_sched.specs.Bits.{upto}
@@ -27,6 +26,7 @@ use Rattle.ff_files.specs.declared.work.WorkEnd.{WorkEnd}
 use Rattle.ff_running.specs.declared.fault.RunFault.{RunFault}
 use Rattle.ff_running.specs.declared.reads.RunLog.{RunLog}
 use Rattle.ff_running.specs.Histories.{IsHistoryFor, IsHistoryOf}
+use Rattle.ff_running.specs.Asked.{Asked, asked_of}
 use Rattle.ff_running.specs.Kinds.{KindsOf}
 use Rattle.ff_running.specs.Meaning.{edges_into, mux_node, plan_for, solution, task_at}
 use Rattle.ff_running.specs.Openings.{reads_in, is_read}
@@ -76,11 +76,11 @@ abbrev pub source_at : Option PlanNode → Option ℕ
 source_at None = None
 source_at (Some n) = source_in n
 
-module _ {H : Type 0} (is : KindsOf H) (outputs : List OutputJob) (heads : List H) (bytes : List (List ℕ)) (nodes : List PlanNode) (edges : List Edge) where
+module _ {H : Type 0} (is : KindsOf H) (asked : Asked) (heads : List H) (bytes : List (List ℕ)) (nodes : List PlanNode) (edges : List Edge) where
   -- what each node is there for, the sources only as far as the units that they read
   abbrev pub read_task : List (List ℕ) → ℕ → Task
   read_task reads k =
-      record (task_at is outputs heads bytes nodes edges k) { means = λ ss. as_read reads (source_at (slice_get nodes k)) ((task_at is outputs heads bytes nodes edges k).means ss) }
+      record (task_at is asked heads bytes nodes edges k) { means = λ ss. as_read reads (source_at (slice_get nodes k)) ((task_at is asked heads bytes nodes edges k).means ss) }
 
   -- the streams on all edges that come of these units alone
   abbrev pub read_solution : List (List ℕ) → ℕ → Flow
@@ -90,19 +90,19 @@ module _ {H : Type 0} (is : KindsOf H) (outputs : List OutputJob) (heads : List 
   -- node they give the whole stream already.
   pub record AreEnough (reads : List (List ℕ)) : Type 0 where
     pub few : (i k : ℕ) → slice_get nodes k ≡ Some (node.Demux i)
-        → length (reads_at reads i) ≤ length (stream_at ((task_at is outputs heads bytes nodes edges k).means []) 0).items + 1
-    pub enough : (o p : ℕ) → o < length outputs → p < length (edges_into edges (mux_node is outputs heads bytes nodes edges o))
-        → read_solution reads (slice_index_or (edges_into edges (mux_node is outputs heads bytes nodes edges o)) p 0)
-        ≡ solution is outputs heads bytes nodes edges (slice_index_or (edges_into edges (mux_node is outputs heads bytes nodes edges o)) p 0)
-    pub whole : (o p : ℕ) → o < length outputs → p < length (edges_into edges (mux_node is outputs heads bytes nodes edges o))
-        → IsWhole (read_solution reads (slice_index_or (edges_into edges (mux_node is outputs heads bytes nodes edges o)) p 0))
+        → length (reads_at reads i) ≤ length (stream_at ((task_at is asked heads bytes nodes edges k).means []) 0).items + 1
+    pub enough : (o p : ℕ) → o < length asked.outputs → p < length (edges_into edges (mux_node is asked heads bytes nodes edges o))
+        → read_solution reads (slice_index_or (edges_into edges (mux_node is asked heads bytes nodes edges o)) p 0)
+        ≡ solution is asked heads bytes nodes edges (slice_index_or (edges_into edges (mux_node is asked heads bytes nodes edges o)) p 0)
+    pub whole : (o p : ℕ) → o < length asked.outputs → p < length (edges_into edges (mux_node is asked heads bytes nodes edges o))
+        → IsWhole (read_solution reads (slice_index_or (edges_into edges (mux_node is asked heads bytes nodes edges o)) p 0))
 
 -- The reads of a run of this plan over inputs with these heads and, where they are told, these bytes: under grants of this history, none of an
 -- input that no node reads, and enough.
 pub record AreReadsIn {H : Type 0} (is : KindsOf H) (job : Job) (heads : List H) (bytes : Option (List (List ℕ))) (plan : Plan) (events : List Event) (reads : List (List ℕ)) : Type 0 where
   pub granted : AreGranted (length heads) events reads
   pub unread : (i : ℕ) → is_read plan.nodes i ≡ false → reads_at reads i ≡ []
-  pub enough : IfSome bytes (λ b. AreEnough is job.outputs heads b plan.nodes plan.edges reads)
+  pub enough : IfSome bytes (λ b. AreEnough is (asked_of job plan.texts) heads b plan.nodes plan.edges reads)
 
 -- those of a run of the plan for these heads
 abbrev pub AreReadsFor : {H : Type 0} → KindsOf H → Job → List H → Option (List (List ℕ)) → List Event → List (List ℕ) → Type 0
@@ -132,9 +132,9 @@ AreSufficient view edges claims olds news fault =
     → ReadsSuffice view (network tasks (ports_of view olds) edges (length olds)) (ins_at (ports_of view olds) edges) (outs_at (ports_of view olds) edges) news fault
 
 module _ {H S K M : Type 0} (is : KindsOf H) (left named : S → Option (List ℕ)) (failed : S → ℕ) (holds called : K → Option (List ℕ)) (faulted : K → ℕ) (view : M → View)
-    (outputs : List OutputJob) (heads : List H) (edges : List Edge) (nodes : List PlanNode) (srcs : List S) (snks : List K) (claims : Bool) where
+    (asked : Asked) (heads : List H) (edges : List Edge) (nodes : List PlanNode) (srcs : List S) (snks : List K) (claims : Bool) where
   -- the parts of a plan's nodes were run so, and this was logged of it
   pub record IsLogOf (routes : Routes) (state : State) (end : WorkEnd RunFault) (srcs' : List S) (snks' : List K) (log : RunLog) : Type 0 where
-    pub history : IsHistoryOf is left named failed holds called faulted view outputs heads edges nodes srcs snks claims routes state end srcs' snks' log.history
+    pub history : IsHistoryOf is left named failed holds called faulted view asked heads edges nodes srcs snks claims routes state end srcs' snks' log.history
     pub suffice : AreSufficient view edges claims history.done.olds history.done.news history.done.fault
     pub reads : places_in log.reads.items ≡ first_reads view (length heads) nodes history.done.news log.history

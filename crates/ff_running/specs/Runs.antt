@@ -1,6 +1,5 @@
 -- How a run of a plan's nodes ends.
 use Rattle.std.specs.Prelude.{◌≡◌, ◌≢◌, ℕ, ◌<◌, true, Bool, List, [], length, map, slice_get, Option, None, Some}
-use Rattle.ff_words.specs.declared.job.OutputJob.{OutputJob}
 use Rattle.ff_edges.specs.declared.edge.Edge.{Edge}
 use Rattle.ff_net.specs.declared.fault.Fault.{Fault}
 use Rattle.ff_net.specs.declared.fault.Fault.TheVariants as net_fault
@@ -17,6 +16,7 @@ use Rattle.ff_files.specs.declared.work.WorkEnd.TheVariants as work_end
 use Rattle.ff_files.specs.Works.{AreTold}
 use Rattle.ff_running.specs.declared.fault.RunFault.{RunFault}
 use Rattle.ff_running.specs.declared.fault.RunFault.TheVariants as run_fault
+use Rattle.ff_running.specs.Asked.{Asked}
 use Rattle.ff_running.specs.Kinds.{KindsOf}
 use Rattle.ff_edges.specs.Ports.{lanes_out_of}
 use Rattle.ff_running.specs.Meaning.{edges_into, read_before, task_at, solution}
@@ -85,23 +85,23 @@ pub record MeetsStreams {M : Type 0} (view : M → View) (tasks : ℕ → Task) 
 
 module _ {H S K : Type 0} (is : KindsOf H) (left named : S → Option (List ℕ)) (failed : S → ℕ) (holds called : K → Option (List ℕ)) (faulted : K → ℕ) where
   -- the parts of a plan's first nodes were run, all of them where no fault is reported
-  pub record AreRun {M : Type 0} (view : M → View) (outputs : List OutputJob) (heads : List H) (edges : List Edge) (nodes : List PlanNode) (srcs : List S) (snks : List K)
+  pub record AreRun {M : Type 0} (view : M → View) (asked : Asked) (heads : List H) (edges : List Edge) (nodes : List PlanNode) (srcs : List S) (snks : List K)
       (claims : Bool) (olds news : List M) (src_places : List (Option S)) (snk_places : List (Option K)) (fault : Option NodeFault) : Type 0 where
-    pub parts : AreParts is left named failed holds called faulted view outputs heads edges nodes srcs snks olds src_places snk_places
+    pub parts : AreParts is left named failed holds called faulted view asked heads edges nodes srcs snks olds src_places snk_places
     pub all : fault ≡ None → length olds ≡ length nodes
     pub kept : AllKept view olds news
     pub tells : TellsRun view news fault
     pub meets : claims ≡ true → (bytes : List (List ℕ)) → AreTold left holds srcs snks bytes
-        → MeetsStreams view (task_at is outputs heads bytes nodes edges) (solution is outputs heads bytes nodes edges) edges news fault
+        → MeetsStreams view (task_at is asked heads bytes nodes edges) (solution is asked heads bytes nodes edges) edges news fault
 
   -- a plan's nodes were built, run and taken apart: this is the end, and these are the sources and the sinks then
-  pub record IsDone {M : Type 0} (view : M → View) (outputs : List OutputJob) (heads : List H) (edges : List Edge) (nodes : List PlanNode) (srcs : List S) (snks : List K)
+  pub record IsDone {M : Type 0} (view : M → View) (asked : Asked) (heads : List H) (edges : List Edge) (nodes : List PlanNode) (srcs : List S) (snks : List K)
       (claims : Bool) (end : WorkEnd RunFault) (srcs' : List S) (snks' : List K) : Type 0 where
     pub olds : List M
     pub news : List M
     pub src_places : List (Option S)
     pub snk_places : List (Option K)
     pub fault : Option NodeFault
-    pub run : AreRun view outputs heads edges nodes srcs snks claims olds news src_places snk_places fault
+    pub run : AreRun view asked heads edges nodes srcs snks claims olds news src_places snk_places fault
     pub back : AreBack is left named failed holds called faulted view nodes news srcs snks srcs' snks'
     pub end_is : end ≡ end_with (length heads) nodes fault

@@ -3,12 +3,14 @@ use Rattle.std.specs.Prelude.{ℕ, ◌-◌, false, List, [], ◌∷◌, length, 
 use Rattle.ff_values.specs.declared.head.StreamHead.{StreamHead}
 use Rattle.ff_frame.specs.declared.item.Lane.{Lane}
 use Rattle.ff_frame.specs.Lanes.{head_of}
+use Rattle.ff_lang.specs.declared.graph.Graph.{Graph}
 use Rattle.ff_words.specs.declared.job.OutputJob.{OutputJob}
 use Rattle.ff_edges.specs.declared.edge.Edge.{Edge}
 use Rattle.ff_net.specs.Pasts.{Task, no_events}
 use Rattle.ff_plan.specs.Numbers.{first_stream}
 use Rattle.ff_plan.specs.declared.planned.PlanNode.{PlanNode}
 use Rattle.ff_plan.specs.declared.planned.PlanNode.TheVariants as node
+use Rattle.ff_running.specs.Asked.{Asked}
 use Rattle.ff_running.specs.Kinds.{KindsOf}
 
 -- that of a node that isn't there
@@ -16,8 +18,8 @@ abbrev pub idle : Task
 idle = record { means = λ ss. []; cause = λ ss. None; source = false; tells = no_events }
 
 -- the number of the first output stream at a node: the Mux nodes stand last, one for each output
-abbrev pub first_at : List OutputJob → List PlanNode → List Edge → ℕ → ℕ
-first_at outputs nodes edges k = first_stream (length nodes - length outputs) edges k
+abbrev pub first_at : Asked → List PlanNode → List Edge → ℕ → ℕ
+first_at asked nodes edges k = first_stream (length nodes - length asked.outputs) edges k
 
 -- the heads of the streams on some lanes
 abbrev pub heads_on : List Lane → List StreamHead
@@ -37,6 +39,14 @@ module _ {H : Type 0} (is : KindsOf H) where
   dec_by None outputs = idle
   dec_by (Some head) outputs = is.dec_task head outputs
 
+  abbrev pub graph_by : ℕ → Option Graph → List StreamHead → Task
+  graph_by g None heads = idle
+  graph_by g (Some text) heads = is.graph_task g text heads
+
+  abbrev pub shortest_by : Option OutputJob → List StreamHead → Task
+  shortest_by None heads = idle
+  shortest_by (Some out) heads = is.shortest_task out.shortest heads
+
   abbrev pub enc_by : Option StreamHead → Option StreamHead → Task
   enc_by None coded = idle
   enc_by (Some head) None = idle
@@ -46,12 +56,11 @@ module _ {H : Type 0} (is : KindsOf H) where
   mux_by first None coded = idle
   mux_by first (Some out) coded = is.mux_task first out coded
 
-  -- of a node with these lanes at its inputs and at its outputs, where its first output stream has this number; graphs and Shortest
-  -- nodes come later
-  abbrev pub task_of : List OutputJob → List H → List (List ℕ) → ℕ → List Lane → List Lane → PlanNode → Task
-  task_of outputs heads bytes first ins outs (node.Demux i) = demux_by i (slice_get heads i) (slice_index_or bytes i [])
-  task_of outputs heads bytes first ins outs (node.Dec at) = dec_by (first_head ins) (length outs)
-  task_of outputs heads bytes first ins outs (node.Graph g) = idle
-  task_of outputs heads bytes first ins outs (node.Shortest o) = idle
-  task_of outputs heads bytes first ins outs (node.Enc o j) = enc_by (first_head ins) (first_head outs)
-  task_of outputs heads bytes first ins outs (node.Mux o) = mux_by first (slice_get outputs o) (heads_on ins)
+  -- of a node with these lanes at its inputs and at its outputs, where its first output stream has this number
+  abbrev pub task_of : Asked → List H → List (List ℕ) → ℕ → List Lane → List Lane → PlanNode → Task
+  task_of asked heads bytes first ins outs (node.Demux i) = demux_by i (slice_get heads i) (slice_index_or bytes i [])
+  task_of asked heads bytes first ins outs (node.Dec at) = dec_by (first_head ins) (length outs)
+  task_of asked heads bytes first ins outs (node.Graph g) = graph_by g (asked.text g) (heads_on ins)
+  task_of asked heads bytes first ins outs (node.Shortest o) = shortest_by (slice_get asked.outputs o) (heads_on ins)
+  task_of asked heads bytes first ins outs (node.Enc o j) = enc_by (first_head ins) (first_head outs)
+  task_of asked heads bytes first ins outs (node.Mux o) = mux_by first (slice_get asked.outputs o) (heads_on ins)

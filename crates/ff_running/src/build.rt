@@ -5,12 +5,14 @@ ghost use Rattle.ff_frame.specs.declared.item.Lane.TheVariants.{Packets};
 ghost use Rattle.ff_net.specs.Pasts.{start};
 ghost use Rattle.ff_words.specs.declared.job.OutputJob.{OutputJob};
 ghost use Rattle.ff_plan.specs.declared.planned.PlanNode.TheVariants.{Demux as DemuxNode, Mux as MuxNode};
+ghost use Rattle.ff_running.specs.Asked.{asked_of};
 ghost use Rattle.ff_running.specs.Kinds.{IsNew};
 ghost use Rattle.ff_running.specs.Tasks.{first_at};
 ghost use Rattle.ff_running.specs.Parts.{FitsDemux, HaveNumbers, IsFitting, IsAside, IsPart, AreFitting, AreOrdered, AllAside, AreParts};
 ghost use Rattle.ff_edges.specs.Ports.{lanes_into as lanes_into_of, lanes_out_of as lanes_out_of_node};
 ghost use Rattle.ff_plan.specs.declared.planned.PlanNode.{PlanNode};
 
+use crate::graphs::{graph_at, shortest_at};
 use crate::kinds::Kinds;
 use crate::lanes::{head_of, heads_on, lanes_into, lanes_out_of, streams_between};
 use crate::tables::{put, take};
@@ -18,8 +20,8 @@ use ff_edges::Edge;
 use ff_frame::{Lane, StreamHead};
 use ff_host::{Sink, Source};
 use ff_net::Machine;
-use ff_plan::PlanNode;
-use ff_words::OutputJob;
+use ff_plan::{GraphText, PlanNode};
+use ff_words::{Job, OutputJob};
 use std::alloc::Global;
 
 /// The sources and sinks of a run in their places, by number; a place is empty while a part has what belongs there.
@@ -107,16 +109,17 @@ fn part_at<
     ins: &[Lane],
     outs: &[Lane],
     heads: &[K::Head],
-    outputs: &[OutputJob],
+    job: &Job,
+    texts: &[GraphText],
     places: &mut Places<Src, Snk>,
 ) -> Option<M>
-    requires fits { IsFitting K.is outputs.now heads.now ins.now outs.now node }
+    requires fits { IsFitting K.is (asked_of job.now texts.now) heads.now ins.now outs.now node }
     requires numbers { (o : ℕ) → node ≡ MuxNode o → first + length ins.now ≤ 2 ^ 32 }
     requires source { (i : ℕ) → node ≡ DemuxNode i → (s : Src) × (slice_get places.old.srcs.items i ≡ Some (Some s)) }
     requires sink { (o : ℕ) → node ≡ MuxNode o → (s : Snk) × (slice_get places.old.snks.items o ≡ Some (Some s)) }
     ensures made { IfSome result (λ m. (srcs : List Src) (snks : List Snk) → ((i : ℕ) → node ≡ DemuxNode i → IsAside srcs places.old.srcs.items i)
         → ((o : ℕ) → node ≡ MuxNode o → IsAside snks places.old.snks.items o)
-        → IsPart K.is Src.left Src.name Src.faults Snk.holds Snk.name Snk.faults outputs.now heads.now srcs snks first ins.now outs.now node (M.view m)) }
+        → IsPart K.is Src.left Src.name Src.faults Snk.holds Snk.name Snk.faults (asked_of job.now texts.now) heads.now srcs snks first ins.now outs.now node (M.view m)) }
     ensures srcs_back { IsNone result → (w : ℕ) → slice_get places.new.srcs.items w ≡ slice_get places.old.srcs.items w }
     ensures snks_back { IsNone result → (w : ℕ) → slice_get places.new.snks.items w ≡ slice_get places.old.snks.items w }
     ensures srcs_kept { (w : ℕ) → (node ≡ DemuxNode w → ⊥) → slice_get places.new.srcs.items w ≡ slice_get places.old.srcs.items w }
@@ -129,14 +132,26 @@ fn part_at<
             demuxer_at::<K, Src, Snk, M>(alloc, input, heads, &mut places.srcs)
         }
         PlanNode::Dec { .. } => K::decoder(alloc, &head_of(&ins[0]), outs.len()).ok(),
+        PlanNode::Graph { graph } => {
+            let Ok(heads) = heads_on(alloc, ins) else {
+                return None;
+            };
+            graph_at::<K, Src, Snk, M>(alloc, graph, job, texts, &heads)
+        }
+        PlanNode::Shortest { output } => {
+            let Ok(heads) = heads_on(alloc, ins) else {
+                return None;
+            };
+            shortest_at::<K, Src, Snk, M>(alloc, output, job.outputs.as_slice(), &heads)
+        }
         PlanNode::Enc { .. } => K::encoder(alloc, &head_of(&ins[0]), &head_of(&outs[0])).ok(),
         PlanNode::Mux { output } => {
             let Ok(coded) = heads_on(alloc, ins) else {
                 return None;
             };
+            let outputs = job.outputs.as_slice();
             muxer_at::<K, Src, Snk, M>(alloc, output, first, outputs, &coded, &mut places.snks)
         }
-        PlanNode::Graph { .. } | PlanNode::Shortest { .. } => unreachable!(),
     }
 }
 
@@ -152,18 +167,19 @@ fn part_of<
     nodes: &[PlanNode],
     edges: &[Edge],
     heads: &[K::Head],
-    outputs: &[OutputJob],
+    job: &Job,
+    texts: &[GraphText],
     places: &mut Places<Src, Snk>,
 ) -> Option<M>
     requires there { number < length nodes.now }
-    requires fitting { AreFitting K.is outputs.now heads.now edges.now nodes.now }
-    requires numbers { HaveNumbers outputs.now edges.now nodes.now }
+    requires fitting { AreFitting K.is (asked_of job.now texts.now) heads.now edges.now nodes.now }
+    requires numbers { HaveNumbers (asked_of job.now texts.now) edges.now nodes.now }
     requires source { (i : ℕ) → slice_get nodes.now number ≡ Some (DemuxNode i) → (s : Src) × (slice_get places.old.srcs.items i ≡ Some (Some s)) }
     requires sink { (o : ℕ) → slice_get nodes.now number ≡ Some (MuxNode o) → (s : Snk) × (slice_get places.old.snks.items o ≡ Some (Some s)) }
     ensures made { IfSome result (λ m. (n : PlanNode) → slice_get nodes.now number ≡ Some n → (srcs : List Src) (snks : List Snk)
         → ((i : ℕ) → n ≡ DemuxNode i → IsAside srcs places.old.srcs.items i) → ((o : ℕ) → n ≡ MuxNode o → IsAside snks places.old.snks.items o)
-        → IsPart K.is Src.left Src.name Src.faults Snk.holds Snk.name Snk.faults outputs.now heads.now srcs snks
-        (first_at outputs.now nodes.now edges.now number) (lanes_into_of edges.now number) (lanes_out_of_node edges.now number) n (M.view m)) }
+        → IsPart K.is Src.left Src.name Src.faults Snk.holds Snk.name Snk.faults (asked_of job.now texts.now) heads.now srcs snks
+        (first_at (asked_of job.now texts.now) nodes.now edges.now number) (lanes_into_of edges.now number) (lanes_out_of_node edges.now number) n (M.view m)) }
     ensures srcs_back { IsNone result → (w : ℕ) → slice_get places.new.srcs.items w ≡ slice_get places.old.srcs.items w }
     ensures snks_back { IsNone result → (w : ℕ) → slice_get places.new.snks.items w ≡ slice_get places.old.snks.items w }
     ensures srcs_kept { (w : ℕ) → (slice_get nodes.now number ≡ Some (DemuxNode w) → ⊥) → slice_get places.new.srcs.items w ≡ slice_get places.old.srcs.items w }
@@ -177,7 +193,7 @@ fn part_of<
     let Ok(outs) = lanes_out_of(alloc, edges, number) else {
         return None;
     };
-    let muxes = nodes.len().saturating_sub(outputs.len());
+    let muxes = nodes.len().saturating_sub(job.outputs.as_slice().len());
     let first = streams_between(edges, muxes, number) as u32;
     part_at::<K, Src, Snk, M>(
         alloc,
@@ -186,7 +202,8 @@ fn part_of<
         &ins,
         &outs,
         heads,
-        outputs,
+        job,
+        texts,
         places,
     )
 }
@@ -202,25 +219,26 @@ pub(crate) fn build<
     nodes: &[PlanNode],
     edges: &[Edge],
     heads: &[K::Head],
-    outputs: &[OutputJob],
+    job: &Job,
+    texts: &[GraphText],
     mut parts: Vec<M>,
     places: &mut Places<Src, Snk>,
 ) -> Result<Vec<M>, Vec<M>>
     requires room { (parts.items ≡ []) × (length nodes.now ≤ vec_capacity parts) }
-    requires fitting { AreFitting K.is outputs.now heads.now edges.now nodes.now }
-    requires numbers { HaveNumbers outputs.now edges.now nodes.now }
+    requires fitting { AreFitting K.is (asked_of job.now texts.now) heads.now edges.now nodes.now }
+    requires numbers { HaveNumbers (asked_of job.now texts.now) edges.now nodes.now }
     requires ordered { AreOrdered (length places.old.srcs.items) (length places.old.snks.items) nodes.now }
     requires aside { (srcs : List Src) × (snks : List Snk) × AllAside srcs places.old.srcs.items × AllAside snks places.old.snks.items }
     ensures all { IfOk result (λ parts. length parts.items ≡ length nodes.now) }
     ensures ok { IfOk result (λ parts. (srcs : List Src) (snks : List Snk) → AllAside srcs places.old.srcs.items → AllAside snks places.old.snks.items
-        → AreParts K.is Src.left Src.name Src.faults Snk.holds Snk.name Snk.faults M.view outputs.now heads.now edges.now nodes.now srcs snks
+        → AreParts K.is Src.left Src.name Src.faults Snk.holds Snk.name Snk.faults M.view (asked_of job.now texts.now) heads.now edges.now nodes.now srcs snks
         parts.items places.new.srcs.items places.new.snks.items) }
     ensures err { IfErr result (λ parts. (srcs : List Src) (snks : List Snk) → AllAside srcs places.old.srcs.items → AllAside snks places.old.snks.items
-        → AreParts K.is Src.left Src.name Src.faults Snk.holds Snk.name Snk.faults M.view outputs.now heads.now edges.now nodes.now srcs snks
+        → AreParts K.is Src.left Src.name Src.faults Snk.holds Snk.name Snk.faults M.view (asked_of job.now texts.now) heads.now edges.now nodes.now srcs snks
         parts.items places.new.srcs.items places.new.snks.items) }
 {
     for number in 0..nodes.len() {
-        match part_of::<K, Src, Snk, M>(alloc, number, nodes, edges, heads, outputs, places) {
+        match part_of::<K, Src, Snk, M>(alloc, number, nodes, edges, heads, job, texts, places) {
             Some(part) => parts.push_reserved(part),
             None => return Err(parts),
         }

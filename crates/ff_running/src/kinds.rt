@@ -1,5 +1,5 @@
 // The kinds of node of a plan.
-ghost use Rattle.std.specs.Prelude.{◌≡◌, ◌≢◌, ◌≤◌, ◌+◌, ◌^◌, ℕ, true, List, [], ◌∷◌, length, map, Option, Some, None, IfOk, IfErr, replicate};
+ghost use Rattle.std.specs.Prelude.{◌≡◌, ◌≢◌, ◌≤◌, ◌+◌, ◌^◌, ℕ, true, List, [], ◌∷◌, length, map, Option, Some, None, Ok, IfOk, IfErr, replicate};
 ghost use Rattle.ff_frame.specs.declared.item.Lane.TheVariants.{Frames, Packets};
 ghost use Rattle.ff_frame.specs.Ports.{AllBelow};
 ghost use Rattle.ff_frame.specs.Stream.{opened};
@@ -7,16 +7,24 @@ ghost use Rattle.ff_net.specs.Pasts.{start};
 ghost use Rattle.ff_net.specs.Ways.{Flow};
 ghost use Rattle.ff_files.specs.Works.{HoldsPart};
 ghost use Rattle.std.specs.List.{AllByRecursion};
-ghost use Rattle.ff_plan.specs.Streams.{most_streams, packed_as, takes_head};
+ghost use Rattle.ff_map.specs.Choice.{lists};
+ghost use Rattle.ff_plan.specs.Graphs.{AreRules};
+ghost use Rattle.ff_plan.specs.Plain.{IsRefused, IsWithinLimits};
+ghost use Rattle.ff_plan.specs.Planned.{planned};
+ghost use Rattle.ff_plan.specs.Streams.{packed_as, takes_head};
+ghost use Rattle.ff_plan.specs.Taken.{AreKeptBy};
 ghost use Rattle.ff_words.specs.declared.job.OutputJob.{OutputJob};
 ghost use Rattle.ff_values.specs.declared.head.StreamHead.{StreamHead};
 ghost use Rattle.ff_running.specs.Events.{TellOfThemselves};
-ghost use Rattle.ff_running.specs.Kinds.{KindsOf, IsNew, GivesEnds};
+ghost use Rattle.ff_running.specs.Kinds.{KindsOf, IsNew, GivesEnds, GraphsAreHad};
+ghost use Rattle.ff_plan_laws.specs.Sound.{HasFewIns, KeepsTaken};
 
 use ff_host::{Sink, Source};
+use ff_lang::Graph;
 use ff_net::Machine;
+use ff_plan::{Plan, PlanError};
 use ff_values::StreamHead;
-use ff_words::OutputJob;
+use ff_words::{Job, OutputJob};
 use std::alloc::{AllocError, Global};
 
 /// What a part gives back of its source or sink.
@@ -42,6 +50,13 @@ pub trait Kinds<Src: Source + Send + Drop, Snk: Sink + Send + Drop, Part: Machin
     fn stream(head: &Self::Head) -> StreamHead
         ensures { result ≡ is.stream head.now };
 
+    /// The plan of a job with these heads of each of its inputs, or the refusal that comes first. `NoMemory` may come in place of any
+    /// answer.
+    fn plan(alloc: Global, job: &Job, heads: &[Vec<StreamHead>]) -> Result<Plan, PlanError>
+        requires { IsWithinLimits job.now (lists heads.now) }
+        ensures made { IfOk result (λ p. planned is.rules job.now (lists heads.now) ≡ Ok p) }
+        ensures refused { IfErr result (IsRefused (planned is.rules job.now (lists heads.now))) };
+
     /// Cuts what a source gives into packets; it gives the input of this number from the first byte on. The source comes back
     /// where memory is refused.
     fn demuxer(alloc: Global, input: u32, head: &Self::Head, src: Src) -> Result<Part, Src>
@@ -56,6 +71,24 @@ pub trait Kinds<Src: Source + Send + Drop, Snk: Sink + Send + Drop, Part: Machin
         requires some { 1 ≤ outputs }
         ensures new { IfOk result (λ m. IsNew None (Packets head.now ∷ []) (replicate outputs (Frames head.now)) None 0 (Part.view m)) }
         ensures starts { IfOk result (λ m. (Part.view m).stands (start (is.dec_task head.now outputs))) };
+
+    /// Filters frames of these heads, by the text of the graph of this number.
+    fn graph(
+        alloc: Global,
+        number: u32,
+        text: &Graph,
+        heads: &[StreamHead],
+    ) -> Result<Part, AllocError>
+        requires { (made : List StreamHead) × is.CanFilter text.now heads.now made }
+        ensures new { IfOk result (λ m. (made : List StreamHead) → is.CanFilter text.now heads.now made
+            → IsNew None (map (λ head. Frames head) heads.now) (map (λ head. Frames head) made) None 0 (Part.view m)) }
+        ensures starts { IfOk result (λ m. (Part.view m).stands (start (is.graph_task number text.now heads.now))) };
+
+    /// Ends frames of streams with these heads with the shortest of the streams, or gives them as they are.
+    fn shortest(alloc: Global, ends: bool, heads: &[StreamHead]) -> Result<Part, AllocError>
+        requires { is.CanJoin heads.now }
+        ensures new { IfOk result (λ m. IsNew None (map (λ head. Frames head) heads.now) (map (λ head. Frames head) heads.now) None 0 (Part.view m)) }
+        ensures starts { IfOk result (λ m. (Part.view m).stands (start (is.shortest_task ends heads.now))) };
 
     /// Codes the frames of a stream as packets with this head.
     fn encoder(alloc: Global, head: &StreamHead, coded: &StreamHead) -> Result<Part, AllocError>
@@ -89,13 +122,33 @@ pub trait Kinds<Src: Source + Send + Drop, Snk: Sink + Send + Drop, Part: Machin
     /// What a head tells of its stream can be decoded,
     ghost decodes: { (h : Self.Head) → is.IsHead h → is.CanDecode (is.stream h) };
 
-    /// coded as an output takes it,
-    ghost encodes: { (h : Self.Head) (out : OutputJob) → is.IsHead h → takes_head out (is.stream h) ≡ true
-        → is.CanEncode (is.stream h) (packed_as out (is.stream h)) };
+    /// and what is true of the heads of frames is true of it.
+    ghost frames: { (h : Self.Head) → is.IsHead h → is.IsFrames (is.stream h) };
+
+    /// The rules are such as plans ask for,
+    ghost ruled: { AreRules is.rules };
+
+    /// and keep what is true of the heads of frames.
+    ghost kept: { AreKeptBy is.rules is.IsFrames };
+
+    /// They make no graph of more than 16 inputs,
+    ghost few: { HasFewIns is.rules };
+
+    /// and an output that takes a stream takes what a graph of one input makes of it.
+    ghost takes: { KeepsTaken is.rules };
+
+    /// What the rules make can be had as a graph,
+    ghost filters: { GraphsAreHad is };
+
+    /// frames can go to an output together,
+    ghost joins: { (heads : List StreamHead) → AllByRecursion is.IsFrames heads → is.CanJoin heads };
+
+    /// each can be coded as an output takes it,
+    ghost encodes: { (h : StreamHead) (out : OutputJob) → is.IsFrames h → takes_head out h ≡ true → is.CanEncode h (packed_as out h) };
 
     /// and written to it: some streams, and no more than its format holds.
-    ghost writes: { (hs : List Self.Head) (out : OutputJob) → AllByRecursion (λ h. is.IsHead h × (takes_head out (is.stream h) ≡ true)) hs
-        → 1 ≤ length hs → length hs ≤ most_streams out.format → is.CanMux out (map (λ h. packed_as out (is.stream h)) hs) };
+    ghost writes: { (hs : List StreamHead) (out : OutputJob) → AllByRecursion (λ h. is.IsFrames h × (takes_head out h ≡ true)) hs
+        → 1 ≤ length hs → length hs ≤ is.rules.most out.format → is.CanMux out (map (λ h. packed_as out h) hs) };
 
     /// Each node tells of its own input or output alone.
     ghost own: { TellOfThemselves is };

@@ -23,6 +23,7 @@ mod build;
 mod end;
 mod fault;
 mod gather;
+mod graphs;
 mod kinds;
 mod lanes;
 mod opening;

@@ -6,6 +6,7 @@ ghost use Rattle.ff_network.specs.Fits.{ins_at, outs_at, network, AreFit};
 ghost use Rattle.ff_network.specs.Networks.{Fits, AllStart, ports_of};
 ghost use Rattle.ff_network.specs.Runs.{AllKept, MeetsNetwork};
 ghost use Rattle.ff_files.specs.Works.{AreTold};
+ghost use Rattle.ff_running.specs.Asked.{asked_of};
 ghost use Rattle.ff_running.specs.Claims.{tell_all};
 ghost use Rattle.ff_network.specs.Fits.{ports_by};
 ghost use Rattle.ff_running.specs.Parts.{AreFitting, AreOrdered, AllAside, HaveNumbers};
@@ -30,8 +31,8 @@ use ff_host::{Sink, Source};
 use ff_link::Claims;
 use ff_net::{Fault, Machine};
 use ff_network::{NodeFault, Ran, run_network};
-use ff_plan::PlanNode;
-use ff_words::OutputJob;
+use ff_plan::{GraphText, PlanNode};
+use ff_words::Job;
 use std::alloc::{AllocError, Global};
 use std::sync::Wait;
 use std::thread::Threads;
@@ -149,7 +150,8 @@ fn build_and_run<
     edges: &[Edge],
     size: usize,
     heads: &[K::Head],
-    outputs: &[OutputJob],
+    job: &Job,
+    texts: &[GraphText],
     opening: Opening,
     parts: Vec<M>,
     places: &mut Places<Src, Snk>,
@@ -158,22 +160,22 @@ fn build_and_run<
     requires few { (length nodes.now < 2 ^ 16) × (length heads.now < 2 ^ 32) }
     requires size { (1 ≤ size) × (size ≤ 1024) }
     requires fits { AreFit (ports_by edges.now) (length nodes.now) edges.now }
-    requires fitting { AreFitting K.is outputs.now heads.now edges.now nodes.now }
-    requires numbers { HaveNumbers outputs.now edges.now nodes.now }
+    requires fitting { AreFitting K.is (asked_of job.now texts.now) heads.now edges.now nodes.now }
+    requires numbers { HaveNumbers (asked_of job.now texts.now) edges.now nodes.now }
     requires ordered { AreOrdered (length places.old.srcs.items) (length places.old.snks.items) nodes.now }
     requires opening { CanBegin opening }
     requires sources { length places.old.srcs.items ≤ opening.routes.sources }
     requires aside { (srcs : List Src) × (snks : List Snk) × AllAside srcs places.old.srcs.items × AllAside snks places.old.snks.items
         × (C.claims ≡ true → (bytes : List (List ℕ)) × AreTold Src.left Snk.holds srcs snks bytes) }
     ensures ran { (srcs : List Src) (snks : List Snk) → AllAside srcs places.old.srcs.items → AllAside snks places.old.snks.items
-        → (olds : List M) × AreRun K.is Src.left Src.name Src.faults Snk.holds Snk.name Snk.faults M.view outputs.now heads.now edges.now nodes.now srcs snks C.claims
+        → (olds : List M) × AreRun K.is Src.left Src.name Src.faults Snk.holds Snk.name Snk.faults M.view (asked_of job.now texts.now) heads.now edges.now nodes.now srcs snks C.claims
         olds result.machines.items places.new.srcs.items places.new.snks.items result.fault
         × IfSome result.log (λ log. AreScheduled M.view edges.now C.claims olds result.machines.items opening.routes opening.state result.fault log.history)
         × AreSufficient M.view edges.now C.claims olds result.machines.items result.fault }
     ensures told { result.fault ≡ None → IsSome result.log }
     ensures reads { IfSome result.log (λ log. places_in log.reads.items ≡ first_reads M.view (length heads.now) nodes.now result.machines.items log.history) }
 {
-    match build::<K, Src, Snk, M>(alloc, nodes, edges, heads, outputs, parts, places) {
+    match build::<K, Src, Snk, M>(alloc, nodes, edges, heads, job, texts, parts, places) {
         Ok(parts) => {
             let inputs = heads.len() as u32;
             run_parts::<C, K, R, Src, Snk, M>(rt, alloc, inputs, nodes, parts, edges, size, opening)
@@ -230,7 +232,8 @@ pub(crate) fn run_nodes<
     edges: &[Edge],
     size: usize,
     heads: &[K::Head],
-    outputs: &[OutputJob],
+    job: &Job,
+    texts: &[GraphText],
     opening: Opening,
     srcs: Vec<Src>,
     snks: Vec<Snk>,
@@ -240,16 +243,16 @@ pub(crate) fn run_nodes<
     requires few { (length nodes.now < 2 ^ 16) × (length heads.now < 2 ^ 32) }
     requires size { (1 ≤ size) × (size ≤ 1024) }
     requires fits { AreFit (ports_by edges.now) (length nodes.now) edges.now }
-    requires fitting { AreFitting K.is outputs.now heads.now edges.now nodes.now }
-    requires numbers { HaveNumbers outputs.now edges.now nodes.now }
+    requires fitting { AreFitting K.is (asked_of job.now texts.now) heads.now edges.now nodes.now }
+    requires numbers { HaveNumbers (asked_of job.now texts.now) edges.now nodes.now }
     requires ordered { AreOrdered (length srcs.items) (length snks.items) nodes.now }
     requires opening { CanBegin opening }
     requires sources { length srcs.items ≤ opening.routes.sources }
     requires told { C.claims ≡ tell_all Src.left Snk.holds srcs.items snks.items }
-    ensures done { IsDone K.is Src.left Src.name Src.faults Snk.holds Snk.name Snk.faults M.view outputs.now heads.now edges.now nodes.now srcs.items snks.items C.claims
+    ensures done { IsDone K.is Src.left Src.name Src.faults Snk.holds Snk.name Snk.faults M.view (asked_of job.now texts.now) heads.now edges.now nodes.now srcs.items snks.items C.claims
         result.end result.srcs.items result.snks.items }
     ensures told { result.end ≡ WorkEnd.Fine → IsSome result.log }
-    ensures logged { IfSome result.log (λ log. IsLogOf K.is Src.left Src.name Src.faults Snk.holds Snk.name Snk.faults M.view outputs.now heads.now edges.now nodes.now
+    ensures logged { IfSome result.log (λ log. IsLogOf K.is Src.left Src.name Src.faults Snk.holds Snk.name Snk.faults M.view (asked_of job.now texts.now) heads.now edges.now nodes.now
         srcs.items snks.items C.claims opening.routes opening.state result.end result.srcs.items result.snks.items log) }
 {
     let mut places = Places {
@@ -267,7 +270,8 @@ pub(crate) fn run_nodes<
         edges,
         size,
         heads,
-        outputs,
+        job,
+        texts,
         opening,
         room.parts,
         &mut places,

@@ -3,6 +3,7 @@ ghost use Rattle.std.specs.Prelude.{◌≡◌, ℕ, List, [], ◌∷◌, length,
 ghost use Rattle.ff_map.specs.Choice.{lists};
 ghost use Rattle.ff_files.specs.Works.{HasLog, AreTold, HoldFiles, HoldParts, KeepEnds, FailNoMore, EndsWork, sound_sources, sound_sinks};
 ghost use Rattle.ff_running.specs.Accepting.{IsAccepted, IsPlanFor};
+ghost use Rattle.ff_running.specs.Asked.{asked_of};
 ghost use Rattle.ff_running.specs.Claims.{tell_all};
 ghost use Rattle.ff_running.specs.Histories.{state_before};
 ghost use Rattle.ff_running.specs.Reads.{IsLogFor, IsLogOf};
@@ -15,8 +16,12 @@ use crate::reads::RunLog;
 use crate::run::{Room, run_nodes};
 use ff_files::{Done, PlanEnd, WorkEnd};
 use ff_host::{Sink, Source};
+use ff_labels::{orders_are_whole, orders_go_upward};
 use ff_net::Machine;
-use ff_plan::{Plan, PlanError, plan as plan_of};
+use ff_plan::{
+    Plan, PlanError, graph_plans_are_fed, graphs_fit, is_within_limits, nodes_have_rows, starts_fit,
+};
+use ff_plan_laws::plans_are_sound;
 use ff_values::StreamHead;
 use ff_words::Job;
 use std::alloc::{AllocError, Global};
@@ -42,7 +47,7 @@ fn streams_of<
     Ok(streams)
 }
 
-/// The plan of a job for the heads of its inputs.
+/// The plan of a job for the heads of its inputs. A graph of more filters than a word can write would want memory that there isn't.
 pub fn make_plan<
     K: Kinds<Src, Snk, M>,
     Src: Source + Send + Drop,
@@ -57,7 +62,18 @@ pub fn make_plan<
     let Ok(streams) = streams_of::<K, Src, Snk, M>(alloc, heads) else {
         return Err(PlanEnd::NoMemory);
     };
-    match plan_of(alloc, job, &streams) {
+    orders_go_upward();
+    orders_are_whole();
+    plans_are_sound();
+    graph_plans_are_fed();
+    graphs_fit();
+    starts_fit();
+    nodes_have_rows();
+    let lists = streams.as_slice();
+    if !is_within_limits(job, lists) {
+        return Err(PlanEnd::NoMemory);
+    }
+    match K::plan(alloc, job, lists) {
         Ok(plan) => Ok(plan),
         Err(PlanError::NoMemory) => Err(PlanEnd::NoMemory),
         Err(refusal) => Err(PlanEnd::Refused(refusal)),
@@ -96,17 +112,18 @@ pub fn run_plan<
     ensures sound_snks { FailNoMore Snk.faults snks.items result.snks.items (sound_sinks (means_of K.is job.now) result.end (length snks.items)) }
     ensures logged { result.end ≡ WorkEnd.Fine → (bytes : Option (List (List ℕ))) → IfSome bytes (AreTold Src.left Snk.holds srcs.items snks.items)
         → HasLog (IsLogFor K.is job.now heads.now bytes) result.log }
-    ensures scheduled { IfSome result.log (λ log. IsLogOf K.is Src.left Src.name Src.faults Snk.holds Snk.name Snk.faults M.view job.now.outputs heads.now plan.edges plan.nodes
+    ensures scheduled { IfSome result.log (λ log. IsLogOf K.is Src.left Src.name Src.faults Snk.holds Snk.name Snk.faults M.view (asked_of job.now plan.texts) heads.now plan.edges plan.nodes
         srcs.items snks.items (tell_all Src.left Snk.holds srcs.items snks.items) plan.routes (state_before plan) result.end result.srcs.items result.snks.items log) }
 {
     let Plan {
         nodes,
         edges,
         routes,
-        ..
+        texts,
     } = plan;
     let nodes = nodes.as_slice();
     let edges = edges.as_slice();
+    let texts = texts.as_slice();
     let outputs = job.outputs.as_slice();
     if srcs.len() != heads.len() || snks.len() != outputs.len() {
         return Done {
@@ -127,6 +144,6 @@ pub fn run_plan<
     let size = job.queue as usize;
     let opening = before_run(nodes, routes);
     run_nodes::<Brand, K, R, Src, Snk, M>(
-        rt, alloc, nodes, edges, size, heads, outputs, opening, srcs, snks, room,
+        rt, alloc, nodes, edges, size, heads, job, texts, opening, srcs, snks, room,
     )
 }

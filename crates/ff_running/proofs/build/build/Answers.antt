@@ -4,6 +4,7 @@ use Rattle.std.proofs.lemmas.Grind.{common_steps}
 use Rattle.ff_plan.specs.declared.planned.PlanNode.{PlanNode}
 use Rattle.ff_plan.specs.declared.planned.PlanNode.TheVariants as node
 use Rattle.ff_edges.specs.Ports.{lanes_into, lanes_out_of}
+use Rattle.ff_running.specs.Asked.{asked_of}
 use Rattle.ff_running.specs.Parts.{AreOrdered, IsPart}
 use Rattle.ff_running.specs.Tasks.{first_at}
 use Rattle.ff_running.proofs.Numbers.{same_some}
@@ -20,7 +21,7 @@ part_of-requires-clause-source g c κs within = λ i at.
     let parts = c.loop-number.parts.items in
     let count : length parts ≡ c.loop-number.number = sym c.loop-number.parts.ok.0 ∙ was.count in
     let order : AreOrdered (length aside.0) (length aside.1) c.args.nodes.now = subst (λ (n : ℕ). AreOrdered n (length aside.1) c.args.nodes.now) aside.2.count (subst (λ (n : ℕ). AreOrdered (length c.args.places.now.srcs.items) n c.args.nodes.now) aside.3.count c.requires.ordered) in
-    let found = source_there g.K.Kinds.is S.left S.name S.faults K.holds K.name K.faults g.M.Machine.view c.args.outputs.now c.args.heads.now c.args.edges.now c.args.nodes.now aside.0 aside.1
+    let found = source_there g.K.Kinds.is S.left S.name S.faults K.holds K.name K.faults g.M.Machine.view (asked_of c.args.job.now c.args.texts.now) c.args.heads.now c.args.edges.now c.args.nodes.now aside.0 aside.1
     parts c.loop-number.places.srcs.items c.loop-number.places.snks.items i order made (subst (λ (n : ℕ). slice_get c.args.nodes.now n ≡ Some (node.Demux i)) (sym count) at) in
     (found.0, found.2)
 
@@ -34,7 +35,7 @@ part_of-requires-clause-sink g c κs within = λ o at.
     let parts = c.loop-number.parts.items in
     let count : length parts ≡ c.loop-number.number = sym c.loop-number.parts.ok.0 ∙ was.count in
     let order : AreOrdered (length aside.0) (length aside.1) c.args.nodes.now = subst (λ (n : ℕ). AreOrdered n (length aside.1) c.args.nodes.now) aside.2.count (subst (λ (n : ℕ). AreOrdered (length c.args.places.now.srcs.items) n c.args.nodes.now) aside.3.count c.requires.ordered) in
-    let found = sink_there g.K.Kinds.is S.left S.name S.faults K.holds K.name K.faults g.M.Machine.view c.args.outputs.now c.args.heads.now c.args.edges.now c.args.nodes.now aside.0 aside.1
+    let found = sink_there g.K.Kinds.is S.left S.name S.faults K.holds K.name K.faults g.M.Machine.view (asked_of c.args.job.now c.args.texts.now) c.args.heads.now c.args.edges.now c.args.nodes.now aside.0 aside.1
     parts c.loop-number.places.srcs.items c.loop-number.places.snks.items o order made (subst (λ (n : ℕ). slice_get c.args.nodes.now n ≡ Some (node.Mux o)) (sym count) at) in
     (found.0, found.2)
 
@@ -42,7 +43,7 @@ pub returns-in-None-clause-err : goal.returns-in-None-clause-err
 returns-in-None-clause-err g c = λ srcs snks a b.
     let S = g.Src.Source in
     let K = g.Snk.Sink in
-    same_places g.K.Kinds.is S.left S.name S.faults K.holds K.name K.faults g.M.Machine.view c.args.outputs.now c.args.heads.now c.args.edges.now c.args.nodes.now srcs snks
+    same_places g.K.Kinds.is S.left S.name S.faults K.holds K.name K.faults g.M.Machine.view (asked_of c.args.job.now c.args.texts.now) c.args.heads.now c.args.edges.now c.args.nodes.now srcs snks
     c.loop-number.parts.items c.loop-number.places.srcs.items c.part_of.new.places.srcs.items c.loop-number.places.snks.items c.part_of.new.places.snks.items
     (c.in-None.ensures.srcs_back refl) (c.in-None.ensures.snks_back refl) c.part_of.ensures.src_count c.part_of.ensures.snk_count (c.loop-number.invariant.made srcs snks a b)
 
@@ -65,7 +66,7 @@ loop-number-preserved g c =
       made = λ srcs snks a b.
           let is = g.K.Kinds.is in
           let view = g.M.Machine.view in
-          let outputs = c.args.outputs.now in
+          let asked = (asked_of c.args.job.now c.args.texts.now) in
           let heads = c.args.heads.now in
           let edges = c.args.edges.now in
           let old = c.loop-number.places in
@@ -74,10 +75,10 @@ loop-number-preserved g c =
           let order : AreOrdered (length srcs) (length snks) nodes = subst (λ (k : ℕ). AreOrdered k (length snks) nodes) a.count (subst (λ (k : ℕ). AreOrdered (length c.args.places.now.srcs.items) k nodes) b.count c.requires.ordered) in
           let here : slice_get nodes (length parts) ≡ Some x = subst (λ (k : ℕ). slice_get nodes k ≡ Some x) (sym count) at in
           let part = c.in-Some.ensures.made x at srcs snks
-          (λ i e. source_there is S.left S.name S.faults K.holds K.name K.faults view outputs heads edges nodes srcs snks parts old.srcs.items old.snks.items i order before (here ∙ ap (λ (z : PlanNode). Some z) e))
-          (λ o e. sink_there is S.left S.name S.faults K.holds K.name K.faults view outputs heads edges nodes srcs snks parts old.srcs.items old.snks.items o order before (here ∙ ap (λ (z : PlanNode). Some z) e)) in
-          next_part is S.left S.name S.faults K.holds K.name K.faults view outputs heads edges nodes srcs snks parts c.push_reserved.new.self.items old.srcs.items new.srcs.items old.snks.items new.snks.items x m here c.push_reserved.ensures.items
-          (subst (λ (k : ℕ). IsPart is S.left S.name S.faults K.holds K.name K.faults outputs heads srcs snks (first_at outputs nodes edges k) (lanes_into edges k) (lanes_out_of edges k) x (view m)) (sym count) part)
+          (λ i e. source_there is S.left S.name S.faults K.holds K.name K.faults view asked heads edges nodes srcs snks parts old.srcs.items old.snks.items i order before (here ∙ ap (λ (z : PlanNode). Some z) e))
+          (λ o e. sink_there is S.left S.name S.faults K.holds K.name K.faults view asked heads edges nodes srcs snks parts old.srcs.items old.snks.items o order before (here ∙ ap (λ (z : PlanNode). Some z) e)) in
+          next_part is S.left S.name S.faults K.holds K.name K.faults view asked heads edges nodes srcs snks parts c.push_reserved.new.self.items old.srcs.items new.srcs.items old.snks.items new.snks.items x m here c.push_reserved.ensures.items
+          (subst (λ (k : ℕ). IsPart is S.left S.name S.faults K.holds K.name K.faults asked heads srcs snks (first_at asked nodes edges k) (lanes_into edges k) (lanes_out_of edges k) x (view m)) (sym count) part)
           (λ w out. c.part_of.ensures.srcs_kept w (λ e. out (same_some (slice_get nodes n) x (node.Demux w) at e)))
           (λ w out. c.part_of.ensures.snks_kept w (λ e. out (same_some (slice_get nodes n) x (node.Mux w) at e)))
           c.part_of.ensures.src_count c.part_of.ensures.snk_count before;

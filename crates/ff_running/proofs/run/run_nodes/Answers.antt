@@ -1,4 +1,5 @@
 use Rattle.std.proofs.Common.{◌≡◌, ℕ, List, length, map, Some, sym, ap, ◌∙◌, subst, arith}
+use Rattle.ff_running.specs.Asked.{asked_of}
 use Rattle.ff_running.specs.Histories.{AreScheduled}
 use Rattle.ff_running.specs.Parts.{AreOrdered}
 use Rattle.ff_running.specs.Reads.{places_in, first_reads, IsLogOf}
@@ -33,7 +34,7 @@ gather-requires-clause-ends g c κs within =
     let K = g.Snk.Sink in
     let places = c.build_and_run-machines.new.places in
     let ran = c.build_and_run-machines.ensures.ran c.args.srcs.items c.args.snks.items (all_aside c.args.srcs.items c.tabled.result.items c.tabled.ensures) (all_aside c.args.snks.items c.tabled-2.result.items c.tabled-2.ensures) in
-    have_ends g.K.Kinds.is S.left S.name S.faults K.holds K.name K.faults g.M.Machine.view c.args.outputs.now c.args.heads.now c.args.edges.now c.args.nodes.now c.args.srcs.items c.args.snks.items
+    have_ends g.K.Kinds.is S.left S.name S.faults K.holds K.name K.faults g.M.Machine.view (asked_of c.args.job.now c.args.texts.now) c.args.heads.now c.args.edges.now c.args.nodes.now c.args.srcs.items c.args.snks.items
     ran.0 c.build_and_run-machines.result.machines.items places.srcs.items places.snks.items ran.1.parts ran.1.kept c.requires.fitting
 
 pub gather-requires-clause-ordered : goal.gather-requires-clause-ordered
@@ -51,7 +52,7 @@ listed-requires-clause-full g c =
     let back = c.gather.new.places in
     let gave = c.gather.ensures in
     let ran = c.build_and_run-machines.ensures.ran c.args.srcs.items c.args.snks.items (all_aside c.args.srcs.items c.tabled.result.items c.tabled.ensures) (all_aside c.args.snks.items c.tabled-2.result.items c.tabled-2.ensures) in
-    srcs_full g.K.Kinds.is S.left S.name S.faults K.holds K.name K.faults g.M.Machine.view c.args.outputs.now c.args.heads.now c.args.edges.now c.args.nodes.now c.args.srcs.items c.args.snks.items
+    srcs_full g.K.Kinds.is S.left S.name S.faults K.holds K.name K.faults g.M.Machine.view (asked_of c.args.job.now c.args.texts.now) c.args.heads.now c.args.edges.now c.args.nodes.now c.args.srcs.items c.args.snks.items
     ran.0 c.build_and_run-machines.result.machines.items places.srcs.items back.srcs.items places.snks.items back.snks.items ran.1.parts ran.1.kept.count
     gave.sources gave.sinks gave.other_srcs gave.other_snks gave.src_count gave.snk_count
 
@@ -63,7 +64,7 @@ listed-requires-2-clause-full g c =
     let back = c.gather.new.places in
     let gave = c.gather.ensures in
     let ran = c.build_and_run-machines.ensures.ran c.args.srcs.items c.args.snks.items (all_aside c.args.srcs.items c.tabled.result.items c.tabled.ensures) (all_aside c.args.snks.items c.tabled-2.result.items c.tabled-2.ensures) in
-    snks_full g.K.Kinds.is S.left S.name S.faults K.holds K.name K.faults g.M.Machine.view c.args.outputs.now c.args.heads.now c.args.edges.now c.args.nodes.now c.args.srcs.items c.args.snks.items
+    snks_full g.K.Kinds.is S.left S.name S.faults K.holds K.name K.faults g.M.Machine.view (asked_of c.args.job.now c.args.texts.now) c.args.heads.now c.args.edges.now c.args.nodes.now c.args.srcs.items c.args.snks.items
     ran.0 c.build_and_run-machines.result.machines.items places.srcs.items back.srcs.items places.snks.items back.snks.items ran.1.parts ran.1.kept.count
     gave.sources gave.sinks gave.other_srcs gave.other_snks gave.src_count gave.snk_count
 
@@ -89,7 +90,7 @@ returns-clause-done g c =
     let view = g.M.Machine.view in
     let S = g.Src.Source in
     let K = g.Snk.Sink in
-    let outputs = c.args.outputs.now in
+    let asked = (asked_of c.args.job.now c.args.texts.now) in
     let heads = c.args.heads.now in
     let edges = c.args.edges.now in
     let nodes = c.args.nodes.now in
@@ -100,9 +101,9 @@ returns-clause-done g c =
     let back = c.gather.new.places in
     let gave = c.gather.ensures in
     let ran = c.build_and_run-machines.ensures.ran srcs snks (all_aside srcs c.tabled.result.items c.tabled.ensures) (all_aside snks c.tabled-2.result.items c.tabled-2.ensures) in
-    let all_srcs = srcs_full is S.left S.name S.faults K.holds K.name K.faults view outputs heads edges nodes srcs snks ran.0 news places.srcs.items back.srcs.items places.snks.items back.snks.items ran.1.parts ran.1.kept.count
+    let all_srcs = srcs_full is S.left S.name S.faults K.holds K.name K.faults view asked heads edges nodes srcs snks ran.0 news places.srcs.items back.srcs.items places.snks.items back.snks.items ran.1.parts ran.1.kept.count
     gave.sources gave.sinks gave.other_srcs gave.other_snks gave.src_count gave.snk_count in
-    let all_snks = snks_full is S.left S.name S.faults K.holds K.name K.faults view outputs heads edges nodes srcs snks ran.0 news places.srcs.items back.srcs.items places.snks.items back.snks.items ran.1.parts ran.1.kept.count
+    let all_snks = snks_full is S.left S.name S.faults K.holds K.name K.faults view asked heads edges nodes srcs snks ran.0 news places.srcs.items back.srcs.items places.snks.items back.snks.items ran.1.parts ran.1.kept.count
     gave.sources gave.sinks gave.other_srcs gave.other_snks gave.src_count gave.snk_count in record {
       olds = ran.0;
       news = news;
@@ -110,7 +111,7 @@ returns-clause-done g c =
       snk_places = places.snks.items;
       fault = c.build_and_run-machines.result.fault;
       run = ran.1;
-      back = are_back is S.left S.name S.faults K.holds K.name K.faults view outputs heads edges nodes srcs snks ran.0 news places.srcs.items back.srcs.items places.snks.items back.snks.items ran.1.parts ran.1.kept.count
+      back = are_back is S.left S.name S.faults K.holds K.name K.faults view asked heads edges nodes srcs snks ran.0 news places.srcs.items back.srcs.items places.snks.items back.snks.items ran.1.parts ran.1.kept.count
           gave.sources gave.sinks gave.other_srcs gave.other_snks gave.src_count gave.snk_count c.listed.result.items c.listed-2.result.items
           (all_srcs.1 ∙ ap (λ (xs : List g.row.Src.Denot). map Some xs) (sym (c.listed.ensures all_srcs.0 all_srcs.1)))
           (all_snks.1 ∙ ap (λ (xs : List g.row.Snk.Denot). map Some xs) (sym (c.listed-2.ensures all_snks.0 all_snks.1)));
@@ -136,7 +137,7 @@ returns-clause-logged g c =
     if_some_both
     (λ log. AreScheduled view c.args.edges.now claims ran.0 news opening.routes opening.state fault log.history)
     (λ log. places_in log.reads.items ≡ first_reads view (length c.args.heads.now) c.args.nodes.now news log.history)
-    (λ log. IsLogOf g.K.Kinds.is S.left S.name S.faults K.holds K.name K.faults view c.args.outputs.now c.args.heads.now c.args.edges.now c.args.nodes.now srcs snks claims
+    (λ log. IsLogOf g.K.Kinds.is S.left S.name S.faults K.holds K.name K.faults view (asked_of c.args.job.now c.args.texts.now) c.args.heads.now c.args.edges.now c.args.nodes.now srcs snks claims
     opening.routes opening.state c.end_with-end.result c.listed.result.items c.listed-2.result.items log)
     c.build_and_run-machines.result.log
     (λ log run reads. record { history = record { done = returns-clause-done g c; run = run }; suffice = ran.3; reads = reads })

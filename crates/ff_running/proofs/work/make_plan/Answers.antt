@@ -1,24 +1,37 @@
-use Rattle.std.proofs.Common.{◌≡◌, length, Some, sym, ap, subst, ◌∙◌, rules, arith}
-use Rattle.std.proofs.lemmas.List.{length-map}
-use Rattle.std.specs.declared.alloc.Global.{Global}
-use Rattle.std.specs.declared.vec.Vec.{Vec}
-use Rattle.ff_values.specs.declared.head.StreamHead.{StreamHead}
+use Rattle.std.proofs.Common.{◌≡◌, length, Some, ap, subst, ◌∙◌, rules, arith}
+use Rattle.ff_labels.specs.Order.{feeds}
 use Rattle.ff_map.specs.Choice.{lists}
 use Rattle.ff_plan.specs.declared.planned.PlanError.{PlanError}
+use Rattle.ff_plan_laws.proofs.Frames.{frames_kept}
 use Rattle.ff_running.specs.Meaning.{plan_for, refusal_of}
-use Rattle.ff_running.proofs.Plans.{limits, is_plan, is_refused}
+use Rattle.ff_running.proofs.Plans.{AreLawful, is_plan, none_refused, is_refused}
 use Rattle.ff_running.proofs.work.make_plan.Goals as goal
 
-pub plan-requires : goal.plan-requires
-plan-requires g c = record { limits = limits g.K.Kinds.is c.args.job.now c.args.heads.now c.requires (lists c.deref.result.now) (ap lists c.deref.ensures.value ∙ c.in-Ok.ensures) }
+pub returns-in-Ok-plan-clause-ok : goal.returns-in-Ok-plan-clause-ok
+returns-in-Ok-plan-clause-ok g c =
+    let told = c.in-Ok-plan.ensures in
+    let kinds = g.met.K.Kinds in
+    let laws : AreLawful g.K.Kinds.is = record {
+      decodes = kinds.decodes;
+      frames = kinds.frames;
+      plans = λ job heads p within some made. c.plans_are_sound.ensures g.K.Kinds.is.rules job heads p kinds.ruled kinds.few kinds.takes within some made;
+      carries = λ job heads p some made all.
+          frames_kept g.K.Kinds.is.IsFrames g.K.Kinds.is.rules job heads p kinds.ruled kinds.kept all (c.orders_go_upward.ensures (feeds job.graphs) (length job.graphs))
+          (λ no graph lt. c.orders_are_whole.ensures (feeds job.graphs) (length job.graphs) graph no lt) some made;
+      filters = kinds.filters;
+      joins = kinds.joins;
+      encodes = kinds.encodes;
+      writes = kinds.writes;
+    } in
+    is_plan g.K.Kinds.is c.args.job.now c.args.heads.now c.requires laws (lists c.as_slice-lists.result.now) c.in-Ok-plan.plan (ap lists c.as_slice-lists.ensures.value ∙ c.in-Ok.ensures) (c.is_within_limits.ensures.yes c.if-not-is_within_limits.false) told.made
+    (c.nodes_have_rows.ensures g.K.Kinds.is.rules c.args.job.now (lists c.as_slice-lists.result.now) c.in-Ok-plan.plan)
+    (c.graphs_fit.ensures g.K.Kinds.is.rules c.args.job.now (lists c.as_slice-lists.result.now) c.in-Ok-plan.plan kinds.ruled)
+    (c.starts_fit.ensures g.K.Kinds.is.rules c.args.job.now (lists c.as_slice-lists.result.now) c.in-Ok-plan.plan kinds.ruled)
+    (c.graph_plans_are_fed.ensures g.K.Kinds.is.rules c.args.job.now (lists c.as_slice-lists.result.now) c.in-Ok-plan.plan kinds.ruled)
 
-pub returns-in-Ok-plan_of-clause-ok : goal.returns-in-Ok-plan_of-clause-ok
-returns-in-Ok-plan_of-clause-ok g c =
-    let told = c.in-Ok-plan_of.ensures in
-    let lent = c.deref.result.now in
-    let laws = g.met.K.Kinds in
-    is_plan g.K.Kinds.is c.args.job.now c.args.heads.now c.requires laws.decodes laws.encodes laws.writes (lists lent) (length lent) c.in-Ok-plan_of.plan (ap lists c.deref.ensures.value ∙ c.in-Ok.ensures)
-    (sym (length-map lent (λ (v : Vec StreamHead Global). v.items))) told.made told.fed told.ins told.outs told.kinds told.fit told.routes told.sources told.numbers
+pub returns-in-Ok-plan-clause-some : goal.returns-in-Ok-plan-clause-some
+returns-in-Ok-plan-clause-some g c =
+    none_refused g.K.Kinds.is c.args.job.now c.args.heads.now c.requires (lists c.as_slice-lists.result.now) c.in-Ok-plan.plan (ap lists c.as_slice-lists.ensures.value ∙ c.in-Ok.ensures) c.in-Ok-plan.ensures.made
 
 pub returns : goal.returns
 returns g c =
@@ -27,6 +40,6 @@ returns g c =
       some = tt;
       refused = λ why same. (let e : c.in-Err.refusal ≡ why = cc in
           subst (λ (w : PlanError). refusal_of g.K.Kinds.is c.args.job.now (plan_for g.K.Kinds.is c.args.job.now c.args.heads.now) ≡ Some w) e
-          (is_refused g.K.Kinds.is c.args.job.now c.args.heads.now c.requires (lists c.deref.result.now) c.in-Err.refusal (ap lists c.deref.ensures.value ∙ c.in-Ok.ensures) c.in-Err.ensures.refused
+          (is_refused g.K.Kinds.is c.args.job.now c.args.heads.now c.requires (lists c.as_slice-lists.result.now) c.in-Err.refusal (ap lists c.as_slice-lists.ensures.value ∙ c.in-Ok.ensures) c.in-Err.ensures.refused
           (λ memory. first_of (search rules, grind arith))));
     }

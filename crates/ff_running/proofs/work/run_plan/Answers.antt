@@ -1,5 +1,6 @@
 use Rattle.std.proofs.Common.{◌≡◌, length, refl, ap, ◌∙◌, arith}
 use Rattle.ff_net.specs.Laws.{Laws}
+use Rattle.ff_running.specs.Asked.{asked_of}
 use Rattle.ff_running.specs.Claims.{tell_all}
 use Rattle.ff_running.specs.Histories.{state_before}
 use Rattle.ff_running.specs.Reads.{IsLogFor, IsLogOf}
@@ -22,8 +23,8 @@ returns-clause-fine g c =
     let claims = tell_all S.left K.holds srcs snks in
     let srcs_len : length srcs ≡ length heads = (let t = c.if-len-heads.false in let l = c.len.ensures in let ok = c.args.srcs.ok.0 in omega (arith, t, l, ok)) in
     let snks_len : length snks ≡ length c.as_slice-outputs.result.now = (let t = c.if-len-outputs.false in let l = c.len-else-len-heads.ensures in let ok = c.args.snks.ok.0 in omega (arith, t, l, ok)) in
-    let done = done_for is S.left S.name S.faults K.holds K.name K.faults view c.as_slice-outputs.result.now job.outputs heads c.as_slice-edges.result.now plan.edges c.as_slice-nodes.result.now plan.nodes srcs snks claims
-    c.run_nodes.result.end c.run_nodes.result.srcs.items c.run_nodes.result.snks.items c.as_slice-outputs.ensures c.as_slice-edges.ensures c.as_slice-nodes.ensures c.run_nodes.ensures.done in
+    let done = done_for is S.left S.name S.faults K.holds K.name K.faults view (asked_of job c.as_slice-texts.result.now) (asked_of job plan.texts) heads c.as_slice-edges.result.now plan.edges c.as_slice-nodes.result.now plan.nodes srcs snks claims
+    c.run_nodes.result.end c.run_nodes.result.srcs.items c.run_nodes.result.snks.items (ap (asked_of job) c.as_slice-texts.ensures) c.as_slice-edges.ensures c.as_slice-nodes.ensures c.run_nodes.ensures.done in
     all_files is S.left S.name S.faults K.holds K.name K.faults view job plan heads srcs snks claims c.run_nodes.result.end c.run_nodes.result.srcs.items c.run_nodes.result.snks.items
     c.requires srcs_len (snks_len ∙ ap length c.as_slice-outputs.ensures) refl done
 
@@ -41,8 +42,8 @@ returns-clause-parts g c =
     let claims = tell_all S.left K.holds srcs snks in
     let srcs_len : length srcs ≡ length heads = (let t = c.if-len-heads.false in let l = c.len.ensures in let ok = c.args.srcs.ok.0 in omega (arith, t, l, ok)) in
     let snks_len : length snks ≡ length c.as_slice-outputs.result.now = (let t = c.if-len-outputs.false in let l = c.len-else-len-heads.ensures in let ok = c.args.snks.ok.0 in omega (arith, t, l, ok)) in
-    let done = done_for is S.left S.name S.faults K.holds K.name K.faults view c.as_slice-outputs.result.now job.outputs heads c.as_slice-edges.result.now plan.edges c.as_slice-nodes.result.now plan.nodes srcs snks claims
-    c.run_nodes.result.end c.run_nodes.result.srcs.items c.run_nodes.result.snks.items c.as_slice-outputs.ensures c.as_slice-edges.ensures c.as_slice-nodes.ensures c.run_nodes.ensures.done in
+    let done = done_for is S.left S.name S.faults K.holds K.name K.faults view (asked_of job c.as_slice-texts.result.now) (asked_of job plan.texts) heads c.as_slice-edges.result.now plan.edges c.as_slice-nodes.result.now plan.nodes srcs snks claims
+    c.run_nodes.result.end c.run_nodes.result.srcs.items c.run_nodes.result.snks.items (ap (asked_of job) c.as_slice-texts.ensures) c.as_slice-edges.ensures c.as_slice-nodes.ensures c.run_nodes.ensures.done in
     all_parts is S.left S.name S.faults K.holds K.name K.faults view job plan heads srcs snks claims c.run_nodes.result.end c.run_nodes.result.srcs.items c.run_nodes.result.snks.items
     c.requires srcs_len (snks_len ∙ ap length c.as_slice-outputs.ensures) refl done g.met.K.Kinds.holds_on
 
@@ -60,8 +61,8 @@ returns-clause-srcs g c =
     let claims = tell_all S.left K.holds srcs snks in
     let srcs_len : length srcs ≡ length heads = (let t = c.if-len-heads.false in let l = c.len.ensures in let ok = c.args.srcs.ok.0 in omega (arith, t, l, ok)) in
     let snks_len : length snks ≡ length c.as_slice-outputs.result.now = (let t = c.if-len-outputs.false in let l = c.len-else-len-heads.ensures in let ok = c.args.snks.ok.0 in omega (arith, t, l, ok)) in
-    let done = done_for is S.left S.name S.faults K.holds K.name K.faults view c.as_slice-outputs.result.now job.outputs heads c.as_slice-edges.result.now plan.edges c.as_slice-nodes.result.now plan.nodes srcs snks claims
-    c.run_nodes.result.end c.run_nodes.result.srcs.items c.run_nodes.result.snks.items c.as_slice-outputs.ensures c.as_slice-edges.ensures c.as_slice-nodes.ensures c.run_nodes.ensures.done in
+    let done = done_for is S.left S.name S.faults K.holds K.name K.faults view (asked_of job c.as_slice-texts.result.now) (asked_of job plan.texts) heads c.as_slice-edges.result.now plan.edges c.as_slice-nodes.result.now plan.nodes srcs snks claims
+    c.run_nodes.result.end c.run_nodes.result.srcs.items c.run_nodes.result.snks.items (ap (asked_of job) c.as_slice-texts.ensures) c.as_slice-edges.ensures c.as_slice-nodes.ensures c.run_nodes.ensures.done in
     keeps_sources is S.left S.name S.faults K.holds K.name K.faults view job plan heads srcs snks claims c.run_nodes.result.end c.run_nodes.result.srcs.items c.run_nodes.result.snks.items
     c.requires srcs_len (snks_len ∙ ap length c.as_slice-outputs.ensures) refl done
 
@@ -79,8 +80,8 @@ returns-clause-snks g c =
     let claims = tell_all S.left K.holds srcs snks in
     let srcs_len : length srcs ≡ length heads = (let t = c.if-len-heads.false in let l = c.len.ensures in let ok = c.args.srcs.ok.0 in omega (arith, t, l, ok)) in
     let snks_len : length snks ≡ length c.as_slice-outputs.result.now = (let t = c.if-len-outputs.false in let l = c.len-else-len-heads.ensures in let ok = c.args.snks.ok.0 in omega (arith, t, l, ok)) in
-    let done = done_for is S.left S.name S.faults K.holds K.name K.faults view c.as_slice-outputs.result.now job.outputs heads c.as_slice-edges.result.now plan.edges c.as_slice-nodes.result.now plan.nodes srcs snks claims
-    c.run_nodes.result.end c.run_nodes.result.srcs.items c.run_nodes.result.snks.items c.as_slice-outputs.ensures c.as_slice-edges.ensures c.as_slice-nodes.ensures c.run_nodes.ensures.done in
+    let done = done_for is S.left S.name S.faults K.holds K.name K.faults view (asked_of job c.as_slice-texts.result.now) (asked_of job plan.texts) heads c.as_slice-edges.result.now plan.edges c.as_slice-nodes.result.now plan.nodes srcs snks claims
+    c.run_nodes.result.end c.run_nodes.result.srcs.items c.run_nodes.result.snks.items (ap (asked_of job) c.as_slice-texts.ensures) c.as_slice-edges.ensures c.as_slice-nodes.ensures c.run_nodes.ensures.done in
     keeps_sinks is S.left S.name S.faults K.holds K.name K.faults view job plan heads srcs snks claims c.run_nodes.result.end c.run_nodes.result.srcs.items c.run_nodes.result.snks.items
     c.requires srcs_len (snks_len ∙ ap length c.as_slice-outputs.ensures) refl done
 
@@ -98,8 +99,8 @@ returns-clause-ends g c =
     let claims = tell_all S.left K.holds srcs snks in
     let srcs_len : length srcs ≡ length heads = (let t = c.if-len-heads.false in let l = c.len.ensures in let ok = c.args.srcs.ok.0 in omega (arith, t, l, ok)) in
     let snks_len : length snks ≡ length c.as_slice-outputs.result.now = (let t = c.if-len-outputs.false in let l = c.len-else-len-heads.ensures in let ok = c.args.snks.ok.0 in omega (arith, t, l, ok)) in
-    let done = done_for is S.left S.name S.faults K.holds K.name K.faults view c.as_slice-outputs.result.now job.outputs heads c.as_slice-edges.result.now plan.edges c.as_slice-nodes.result.now plan.nodes srcs snks claims
-    c.run_nodes.result.end c.run_nodes.result.srcs.items c.run_nodes.result.snks.items c.as_slice-outputs.ensures c.as_slice-edges.ensures c.as_slice-nodes.ensures c.run_nodes.ensures.done in
+    let done = done_for is S.left S.name S.faults K.holds K.name K.faults view (asked_of job c.as_slice-texts.result.now) (asked_of job plan.texts) heads c.as_slice-edges.result.now plan.edges c.as_slice-nodes.result.now plan.nodes srcs snks claims
+    c.run_nodes.result.end c.run_nodes.result.srcs.items c.run_nodes.result.snks.items (ap (asked_of job) c.as_slice-texts.ensures) c.as_slice-edges.ensures c.as_slice-nodes.ensures c.run_nodes.ensures.done in
     all_ends is S.left S.name S.faults K.holds K.name K.faults view job plan heads srcs snks claims c.run_nodes.result.end c.run_nodes.result.srcs.items c.run_nodes.result.snks.items
     c.requires srcs_len (snks_len ∙ ap length c.as_slice-outputs.ensures) refl done
 
@@ -117,8 +118,8 @@ returns-clause-sound_srcs g c =
     let claims = tell_all S.left K.holds srcs snks in
     let srcs_len : length srcs ≡ length heads = (let t = c.if-len-heads.false in let l = c.len.ensures in let ok = c.args.srcs.ok.0 in omega (arith, t, l, ok)) in
     let snks_len : length snks ≡ length c.as_slice-outputs.result.now = (let t = c.if-len-outputs.false in let l = c.len-else-len-heads.ensures in let ok = c.args.snks.ok.0 in omega (arith, t, l, ok)) in
-    let done = done_for is S.left S.name S.faults K.holds K.name K.faults view c.as_slice-outputs.result.now job.outputs heads c.as_slice-edges.result.now plan.edges c.as_slice-nodes.result.now plan.nodes srcs snks claims
-    c.run_nodes.result.end c.run_nodes.result.srcs.items c.run_nodes.result.snks.items c.as_slice-outputs.ensures c.as_slice-edges.ensures c.as_slice-nodes.ensures c.run_nodes.ensures.done in
+    let done = done_for is S.left S.name S.faults K.holds K.name K.faults view (asked_of job c.as_slice-texts.result.now) (asked_of job plan.texts) heads c.as_slice-edges.result.now plan.edges c.as_slice-nodes.result.now plan.nodes srcs snks claims
+    c.run_nodes.result.end c.run_nodes.result.srcs.items c.run_nodes.result.snks.items (ap (asked_of job) c.as_slice-texts.ensures) c.as_slice-edges.ensures c.as_slice-nodes.ensures c.run_nodes.ensures.done in
     all_sources is S.left S.name S.faults K.holds K.name K.faults view job plan heads srcs snks claims c.run_nodes.result.end c.run_nodes.result.srcs.items c.run_nodes.result.snks.items
     c.requires srcs_len (snks_len ∙ ap length c.as_slice-outputs.ensures) refl done
 
@@ -136,8 +137,8 @@ returns-clause-sound_snks g c =
     let claims = tell_all S.left K.holds srcs snks in
     let srcs_len : length srcs ≡ length heads = (let t = c.if-len-heads.false in let l = c.len.ensures in let ok = c.args.srcs.ok.0 in omega (arith, t, l, ok)) in
     let snks_len : length snks ≡ length c.as_slice-outputs.result.now = (let t = c.if-len-outputs.false in let l = c.len-else-len-heads.ensures in let ok = c.args.snks.ok.0 in omega (arith, t, l, ok)) in
-    let done = done_for is S.left S.name S.faults K.holds K.name K.faults view c.as_slice-outputs.result.now job.outputs heads c.as_slice-edges.result.now plan.edges c.as_slice-nodes.result.now plan.nodes srcs snks claims
-    c.run_nodes.result.end c.run_nodes.result.srcs.items c.run_nodes.result.snks.items c.as_slice-outputs.ensures c.as_slice-edges.ensures c.as_slice-nodes.ensures c.run_nodes.ensures.done in
+    let done = done_for is S.left S.name S.faults K.holds K.name K.faults view (asked_of job c.as_slice-texts.result.now) (asked_of job plan.texts) heads c.as_slice-edges.result.now plan.edges c.as_slice-nodes.result.now plan.nodes srcs snks claims
+    c.run_nodes.result.end c.run_nodes.result.srcs.items c.run_nodes.result.snks.items (ap (asked_of job) c.as_slice-texts.ensures) c.as_slice-edges.ensures c.as_slice-nodes.ensures c.run_nodes.ensures.done in
     all_sinks is S.left S.name S.faults K.holds K.name K.faults view job plan heads srcs snks claims c.run_nodes.result.end c.run_nodes.result.srcs.items c.run_nodes.result.snks.items
     c.requires srcs_len (snks_len ∙ ap length c.as_slice-outputs.ensures) refl done
 
@@ -155,12 +156,12 @@ returns-clause-scheduled g c =
     let routes : c.before_run-opening.result.routes ≡ plan.routes = c.before_run-opening.ensures.routes in
     let state = state_is plan c.as_slice-nodes.result.now c.before_run-opening.result.routes c.before_run-opening.result.state c.as_slice-nodes.ensures routes c.before_run-opening.ensures.state in
     if_some_more _
-    (λ log. IsLogOf g.K.Kinds.is S.left S.name S.faults K.holds K.name K.faults g.M.Machine.view c.args.job.now.outputs c.args.heads.now plan.edges plan.nodes srcs snks
+    (λ log. IsLogOf g.K.Kinds.is S.left S.name S.faults K.holds K.name K.faults g.M.Machine.view (asked_of c.args.job.now plan.texts) c.args.heads.now plan.edges plan.nodes srcs snks
     claims plan.routes (state_before plan) end srcs' snks' log)
     c.run_nodes.result.log
-    (λ log h. log_for g.K.Kinds.is S.left S.name S.faults K.holds K.name K.faults g.M.Machine.view c.as_slice-outputs.result.now c.args.job.now.outputs c.args.heads.now
+    (λ log h. log_for g.K.Kinds.is S.left S.name S.faults K.holds K.name K.faults g.M.Machine.view (asked_of c.args.job.now c.as_slice-texts.result.now) (asked_of c.args.job.now plan.texts) c.args.heads.now
     c.as_slice-edges.result.now plan.edges c.as_slice-nodes.result.now plan.nodes srcs snks claims c.before_run-opening.result.routes plan.routes
-    c.before_run-opening.result.state (state_before plan) end srcs' snks' log c.as_slice-outputs.ensures c.as_slice-edges.ensures c.as_slice-nodes.ensures routes state h)
+    c.before_run-opening.result.state (state_before plan) end srcs' snks' log (ap (asked_of c.args.job.now) c.as_slice-texts.ensures) c.as_slice-edges.ensures c.as_slice-nodes.ensures routes state h)
     c.run_nodes.ensures.logged
 
 pub returns-clause-logged : goal.returns-clause-logged

@@ -1,0 +1,19 @@
+-- What the nodes of a plan are asked for: the outputs of its job, and by number the texts of its graphs.
+use Rattle.std.specs.Prelude.{ℕ, List, slice_get, Option, Some, None}
+use Rattle.ff_lang.specs.declared.graph.Graph.{Graph}
+use Rattle.ff_words.specs.declared.job.Job.{Job}
+use Rattle.ff_words.specs.declared.job.OutputJob.{OutputJob}
+use Rattle.ff_plan.specs.declared.planned.GraphText.{GraphText}
+use Rattle.ff_plan.specs.Texts.{graph_text}
+
+pub record Asked : Type 0 where
+  pub outputs : List OutputJob
+  pub text : ℕ → Option Graph
+
+abbrev pub text_there : Job → Option GraphText → Option Graph
+text_there job None = None
+text_there job (Some stands) = graph_text job stands
+
+-- of a plan of this job, where the texts of its graphs stand there
+abbrev pub asked_of : Job → List GraphText → Asked
+asked_of job texts = record { outputs = job.outputs; text = λ g. text_there job (slice_get texts g) }

@@ -1,0 +1,113 @@
+// The parts of graphs and of Shortest nodes.
+ghost use Rattle.std.specs.Prelude.{◌≡◌, ◌<◌, List, length, map, slice_get, None, Some, IfOk, IfSome};
+ghost use Rattle.ff_frame.specs.declared.item.Lane.TheVariants.{Frames};
+ghost use Rattle.ff_lang.specs.declared.graph.Graph.{Graph};
+ghost use Rattle.ff_net.specs.Pasts.{start};
+ghost use Rattle.ff_plan.specs.Streams.{null_graph as null_of, simple_of};
+ghost use Rattle.ff_plan.specs.Texts.{graph_text};
+ghost use Rattle.ff_running.specs.Asked.{asked_of};
+ghost use Rattle.ff_running.specs.Kinds.{IsNew};
+ghost use Rattle.ff_values.specs.declared.head.StreamHead.{StreamHead};
+ghost use Rattle.ff_words.specs.declared.job.OutputJob.{OutputJob};
+
+use crate::kinds::Kinds;
+use ff_frame::StreamHead;
+use ff_host::{Sink, Source};
+use ff_lang::{Chain, Filter, Graph, Sequence, Text};
+use ff_map::Kind;
+use ff_net::Machine;
+use ff_plan::GraphText;
+use ff_words::{Job, OutputJob};
+use std::alloc::{AllocError, Global};
+
+// The graph that changes nothing, for a stream of this kind.
+fn null_graph(alloc: Global, kind: Kind) -> Result<Graph, AllocError>
+    ensures { IfOk result (λ g. g ≡ null_of kind) }
+{
+    let name = match kind {
+        Kind::Audio => "anull",
+        Kind::Video => "null",
+    };
+    let mut filters = Sequence::new(alloc);
+    filters.push(Filter {
+        ins: Sequence::new(alloc),
+        name: Text::of(String::from_str(alloc, name)?),
+        args: Sequence::new(alloc),
+        outs: Sequence::new(alloc),
+    })?;
+    let mut chains = Sequence::new(alloc);
+    chains.push(Chain { filters })?;
+    Ok(Graph { chains })
+}
+
+// The simple graph of an output for streams of a kind.
+fn simple_text(out: &OutputJob, kind: Kind) -> &Option<Graph>
+    ensures { result.now ≡ simple_of out.now kind }
+{
+    match kind {
+        Kind::Audio => &out.af,
+        Kind::Video => &out.vf,
+    }
+}
+
+// The graph of this number, whose text stands there.
+fn graph_by<
+    K: Kinds<Src, Snk, M>,
+    Src: Source + Send + Drop,
+    Snk: Sink + Send + Drop,
+    M: Machine + Send + Drop,
+>(alloc: Global, number: u32, job: &Job, stands: GraphText, heads: &[StreamHead]) -> Option<M>
+    requires { (text : Graph) × (graph_text job.now stands ≡ Some text) × (made : List StreamHead) × K.is.CanFilter text heads.now made }
+    ensures new { IfSome result (λ m. (text : Graph) (made : List StreamHead) → graph_text job.now stands ≡ Some text → K.is.CanFilter text heads.now made
+        → IsNew None (map (λ head. Frames head) heads.now) (map (λ head. Frames head) made) None 0 (M.view m)) }
+    ensures starts { IfSome result (λ m. (text : Graph) → graph_text job.now stands ≡ Some text
+        → (M.view m).stands (start (K.is.graph_task number text heads.now))) }
+{
+    match stands {
+        GraphText::Complex { graph } => {
+            K::graph(alloc, number, &job.graphs.as_slice()[graph as usize], heads).ok()
+        }
+        GraphText::Simple { output, kind } => {
+            match simple_text(&job.outputs.as_slice()[output as usize], kind) {
+                Some(text) => K::graph(alloc, number, text, heads).ok(),
+                None => unreachable!(),
+            }
+        }
+        GraphText::Null { kind } => match null_graph(alloc, kind) {
+            Ok(text) => K::graph(alloc, number, &text, heads).ok(),
+            Err(_) => None,
+        },
+    }
+}
+
+/// The graph of this number, by the places where the texts of all graphs stand.
+pub(crate) fn graph_at<
+    K: Kinds<Src, Snk, M>,
+    Src: Source + Send + Drop,
+    Snk: Sink + Send + Drop,
+    M: Machine + Send + Drop,
+>(alloc: Global, number: u32, job: &Job, texts: &[GraphText], heads: &[StreamHead]) -> Option<M>
+    requires { (text : Graph) × ((asked_of job.now texts.now).text number ≡ Some text) × (made : List StreamHead) × K.is.CanFilter text heads.now made }
+    ensures new { IfSome result (λ m. (text : Graph) (made : List StreamHead) → (asked_of job.now texts.now).text number ≡ Some text → K.is.CanFilter text heads.now made
+        → IsNew None (map (λ head. Frames head) heads.now) (map (λ head. Frames head) made) None 0 (M.view m)) }
+    ensures starts { IfSome result (λ m. (text : Graph) → (asked_of job.now texts.now).text number ≡ Some text
+        → (M.view m).stands (start (K.is.graph_task number text heads.now))) }
+{
+    graph_by::<K, Src, Snk, M>(alloc, number, job, texts[number as usize], heads)
+}
+
+/// The Shortest node of an output, over frames of these heads.
+pub(crate) fn shortest_at<
+    K: Kinds<Src, Snk, M>,
+    Src: Source + Send + Drop,
+    Snk: Sink + Send + Drop,
+    M: Machine + Send + Drop,
+>(alloc: Global, output: u32, outputs: &[OutputJob], heads: &[StreamHead]) -> Option<M>
+    requires there { output < length outputs.now }
+    requires can { K.is.CanJoin heads.now }
+    ensures new { IfSome result (λ m. IsNew None (map (λ head. Frames head) heads.now) (map (λ head. Frames head) heads.now) None 0 (M.view m)) }
+    ensures starts { IfSome result (λ m. (out : OutputJob) → slice_get outputs.now output ≡ Some out
+        → (M.view m).stands (start (K.is.shortest_task out.shortest heads.now))) }
+{
+    K::shortest(alloc, outputs[output as usize].shortest, heads).ok()
+}
