@@ -1,1 +1,2 @@
+mod Leads
 pub mod Sinks

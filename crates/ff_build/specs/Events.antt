@@ -14,7 +14,12 @@ use Rattle.ff_muxing.specs.Muxing.{head_bases}
 use Rattle.ff_muxing.specs.Telling.{IsAmong, IsOfStreams, mux_tells}
 use Rattle.ff_muxing.proofs.StreamTells.{something_told}
 use Rattle.ff_muxing.proofs.TellSteps.{all_of_streams}
-use Rattle.ff_running.specs.Events.{is_among, is_of_streams, TellOfThemselves}
+use Rattle.ff_best.specs.Bests.{best_events}
+use Rattle.ff_best.specs.Inputs.{bases_of_heads}
+use Rattle.ff_best.specs.Laws.{AreTurns, IsBestOf}
+use Rattle.ff_best.proofs.Namings.{events_named, events_turn}
+use Rattle.ff_shortest.specs.JointTask.{joint_task}
+use Rattle.ff_running.specs.Events.{is_among, is_of_streams, ChangeBest, TellOfThemselves}
 use Rattle.ff_words.specs.declared.job.OutputJob.{OutputJob}
 use Rattle.ff_build.specs.Parts.{all_kinds, enc_task_to, is_flac_coded}
 
@@ -49,10 +54,31 @@ encoder_tells : (flac : Bool) (coded : StreamHead) (feeds : List Feed) → (enc_
 encoder_tells true coded feeds = refl
 encoder_tells false coded feeds = refl
 
+-- a graph tells of its own best input, each time another
+changes : (g n best : ℕ) (es : List Event) → All (IsBestOf g n) es → AreTurns best es → ChangeBest g best es
+changes g n best [] all turn = tt
+changes g n best (Grant s ∷ es) all turn = absurd turn
+changes g n best (Sent j t ∷ es) all turn = absurd turn
+changes g n best (Finished j ∷ es) all turn = absurd turn
+changes g n best (Best h i ∷ es) all turn =
+    ((All-head (IsBestOf g n) (Best h i) es all).0, turn.0, changes g n i es (All-tail (IsBestOf g n) (Best h i) es all) turn.1)
+changes g n best (Exited s ∷ es) all turn = absurd turn
+
+graph_tells : (g : ℕ) (heads : List StreamHead) (feeds : List Feed) → ChangeBest g 0 (best_events g (bases_of_heads heads) feeds)
+graph_tells g heads feeds =
+    let bases = bases_of_heads heads in
+    changes g (length bases) 0 (best_events g bases feeds) (events_named g bases [] 0 feeds) (events_turn g bases [] 0 feeds)
+
+-- streams that come together tell nothing
+joint_tells : (ends : Bool) (heads : List StreamHead) (feeds : List Feed) → (joint_task ends heads).tells feeds ≡ []
+joint_tells ends heads feeds = refl
+
 pub parts_tell_of_themselves : TellOfThemselves all_kinds
 parts_tell_of_themselves = record {
   demuxer = λ i head bytes feeds. refl;
   decoder = λ head outputs feeds. refl;
+  graph = λ g text heads feeds. graph_tells g heads feeds;
+  shortest = joint_tells;
   encoder = λ head coded feeds. encoder_tells (is_flac_coded coded) coded feeds;
   muxer = muxer_tells;
 }

@@ -1,6 +1,7 @@
 pub mod PartViews
-pub mod PartLaws
 pub mod Parts
 pub mod Events
 pub mod Held
 pub mod Takes
+pub mod Throughs
+pub mod Graphs

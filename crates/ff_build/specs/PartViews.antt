@@ -7,6 +7,7 @@ use Rattle.ff_demuxing.specs.DemuxViews.{demux_view}
 use Rattle.ff_coding.specs.Kinds.{dec_view, enc_view}
 use Rattle.ff_flac_coder.specs.Machines as flac
 use Rattle.ff_muxing.specs.Kinds.{mux_view}
+use Rattle.ff_build.specs.Throughs.{through_shown}
 use Rattle.ff_build.specs.declared.part.Part.{Part}
 use Rattle.ff_build.specs.declared.part.Part.TheVariants as part
 
@@ -14,6 +15,8 @@ use Rattle.ff_build.specs.declared.part.Part.TheVariants as part
 abbrev pub part_view : {S K : Type 0} {G : SinkGhosts K} → (S → Option (List ℕ)) → (S → Option (List ℕ)) → (S → ℕ) → Part S K G → View
 part_view left named failed (part.Demux m) = demux_view left named failed m
 part_view left named failed (part.Dec m) = dec_view any_head any_frame m
+part_view left named failed (part.Graph m) = through_shown m
+part_view left named failed (part.Joint m) = through_shown m
 part_view left named failed (part.Enc m) = enc_view any_serves any_coded any_packet m
 part_view left named failed (part.FlacEnc m) = flac.enc_view m
 part_view left named failed (part.Mux m) = mux_view m

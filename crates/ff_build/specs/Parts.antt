@@ -1,23 +1,32 @@
 -- What the nodes of a plan are there for, by the definitions of formats and codecs.
-use Rattle.std.specs.Prelude.{◌≡◌, Bool, true, false}
+use Rattle.std.specs.Prelude.{◌≡◌, ℕ, ◌≤◌, Bool, true, false, List, length, map}
 use Rattle.ff_values.specs.Heads.{base_of_head}
 use Rattle.ff_values.specs.declared.head.Codec.{Codec}
 use Rattle.ff_values.specs.declared.head.Codec.TheVariants as codec
 use Rattle.ff_values.specs.declared.head.StreamHead.{StreamHead}
 use Rattle.ff_values.specs.declared.head.StreamHead.TheVariants.{Audio, Video}
+use Rattle.ff_best.specs.Bests.{best_events}
+use Rattle.ff_best.specs.Inputs.{bases_of_heads}
 use Rattle.ff_coders.specs.Choices.{CanDecode, CanEncode, frame_made, packet_made}
 use Rattle.ff_coding.specs.Decoding.{dec_task}
 use Rattle.ff_coding.specs.Encoding.{enc_task}
+use Rattle.ff_composed.specs.Clear.{IsClear}
+use Rattle.ff_composed.specs.Cuts.{graph_outs, graph_task}
 use Rattle.ff_cuts.specs.AnyCutters.{any_cutter}
 use Rattle.ff_demuxing.specs.Demuxing.{demux_task}
 use Rattle.ff_flac_coder.specs.Coding.{CanCode, coded_head, flac_task}
+use Rattle.ff_graph.specs.Opens.{open_ins}
 use Rattle.ff_heads.specs.declared.head.InputHead.{InputHead}
 use Rattle.ff_heads.specs.Heads.{IsHead, stream_in}
+use Rattle.ff_lang.specs.declared.graph.Graph.{Graph}
 use Rattle.ff_muxing.specs.Muxing.{mux_task, unpatched, file, head_bases}
 use Rattle.ff_muxing.specs.Outputs.{CanWrite, layout_of}
 use Rattle.ff_muxing.specs.StreamEvents.{stream_events}
 use Rattle.ff_net.specs.Pasts.{Task}
+use Rattle.ff_rules.specs.Kept.{IsFitHead, AreFitHeads}
+use Rattle.ff_rules.specs.Rules.{bare_rules}
 use Rattle.ff_running.specs.Kinds.{KindsOf}
+use Rattle.ff_shortest.specs.JointTask.{joint_task}
 use Rattle.ff_words.specs.declared.job.OutputJob.{OutputJob}
 
 abbrev pub is_flac : Codec → Bool
@@ -39,15 +48,33 @@ abbrev pub enc_task_to : Bool → StreamHead → Task
 enc_task_to true coded = flac_task
 enc_task_to false coded = enc_task (packet_made coded)
 
--- a demuxer gives an input's packets, a decoder their frames, an encoder packets of frames, and a muxer writes them in the output's
--- format
+-- a graph of this text, whose labels are clear, on frames of these heads at its open inputs, which are few, and of those at its outputs
+pub record CanFilter (text : Graph) (heads outs : List StreamHead) : Type 0 where
+  pub fit : AreFitHeads heads
+  pub clear : IsClear text
+  pub counted : length heads ≡ length (open_ins text)
+  pub few : length heads ≤ 16
+  pub outs_are : outs ≡ map (λ o. o.head) (graph_outs text heads)
+
+-- what the graph of this number is there for: what its filters make of its streams, and to tell which of them is the best one
+abbrev pub told_graph : ℕ → Graph → List StreamHead → Task
+told_graph g text heads = record (graph_task text heads) { tells = best_events g (bases_of_heads heads) }
+
+-- a demuxer gives an input's packets, a decoder their frames, a graph frames of frames, an encoder packets of frames, and a muxer writes
+-- them in the output's format
 abbrev pub all_kinds : KindsOf InputHead
 all_kinds = record {
   IsHead = IsHead;
   stream = stream_in;
+  rules = bare_rules;
+  IsFrames = IsFitHead;
   demux_task = demux_task any_cutter;
   CanDecode = CanDecode;
   dec_task = λ head outputs. dec_task (frame_made head) outputs;
+  CanFilter = CanFilter;
+  graph_task = told_graph;
+  CanJoin = λ heads. Unit {0};
+  shortest_task = joint_task;
   CanEncode = λ head coded. CanEncodeTo (is_flac_coded coded) head coded;
   enc_task = λ head coded. enc_task_to (is_flac_coded coded) coded;
   CanMux = λ out coded. CanWrite out.format coded;

@@ -14,6 +14,8 @@ use Rattle.ff_coders.specs.Choices.{CanDecode, CanDecodeSound}
 use Rattle.ff_flac_dec.specs.Streams.{IsFlacHead, stream_of}
 use Rattle.ff_flac_frame.specs.Frame.{IsStream}
 use Rattle.ff_heads.specs.Heads.{IsHead, stream_in}
+use Rattle.ff_rules.specs.Kept.{IsFitHead}
+use Rattle.ff_values.specs.Heads.{base_of_head}
 use Rattle.ff_heads.specs.declared.head.InputHead.{InputHead}
 use Rattle.ff_heads.specs.declared.head.InputHead.TheVariants.{Wav, Y4m, Flac}
 use Rattle.ff_map.specs.declared.map.Kind.TheVariants as kind
@@ -55,32 +57,28 @@ heads_decode (Wav h) is = wav_decodes h.head is.stream
 heads_decode (Y4m h) is = y4m_decodes h.head h.frame_bytes is.stream
 heads_decode (Flac h) is = flac_decodes h.head is.sound is.stream
 
--- sound of 1 to 8 channels, with a time base; or pictures
-abbrev IsReadSound : StreamHead → Type 0
-IsReadSound (Audio tb rate bits channels coded) = IsBase tb × (1 ≤ channels) × (channels ≤ 8)
-IsReadSound (Video tb format width height sar_num sar_den) = Unit {0}
-
 base_of_rate : (tb : Fraction) (rate : ℕ) → tb ≡ record { num = 1; den = rate } → 1 ≤ rate → rate < 2 ^ 31 → IsBase tb
 base_of_rate tb rate ticks some small = subst IsBase (sym ticks) (IsBase-unit rate (omega (arith, some)) small)
 
-wav_sound : (head : StreamHead) → wav.IsStream head → IsReadSound head
-wav_sound (Audio tb rate bits channels coded) h = (base_of_rate tb rate h.ticks h.some_rate h.small_rate, h.some_channels, h.few_channels)
-wav_sound (Video tb format width height sar_num sar_den) h = absurd h
+wav_fits : (head : StreamHead) → wav.IsStream head → IsFitHead head
+wav_fits (Audio tb rate bits channels coded) h =
+    record { base = base_of_rate tb rate h.ticks h.some_rate h.small_rate; channels = (h.some_channels, h.few_channels) }
+wav_fits (Video tb format width height sar_num sar_den) h = absurd h
 
-y4m_sound : (head : StreamHead) (size : ℕ) → y4m.IsStream head size → IsReadSound head
-y4m_sound (Audio base rate bits channels codec) size h = absurd h
-y4m_sound (Video tb format width height sar_num sar_den) size h = tt
+y4m_fits : (head : StreamHead) (size : ℕ) → y4m.IsStream head size → IsBase (base_of_head head) → IsFitHead head
+y4m_fits (Audio base rate bits channels codec) size h b = absurd h
+y4m_fits (Video tb format width height sar_num sar_den) size h b = record { base = b; channels = tt }
 
-flac_sound : (head : StreamHead) → IsFlacHead head → IsStream (stream_of head) → IsReadSound head
-flac_sound (Audio tb rate bits channels coded) h i =
+flac_fits : (head : StreamHead) → IsFlacHead head → IsStream (stream_of head) → IsFitHead head
+flac_fits (Audio tb rate bits channels coded) h i =
     let small : rate < 1048576 = i.rate_high in
-    (base_of_rate tb rate h.ticks i.rate_low (omega (arith, small)), i.channels_low, i.channels_high)
-flac_sound (Video tb format width height sar_num sar_den) h i = absurd h
+    record { base = base_of_rate tb rate h.ticks i.rate_low (omega (arith, small)); channels = (i.channels_low, i.channels_high) }
+flac_fits (Video tb format width height sar_num sar_den) h i = absurd h
 
-read_sound : (h : InputHead) → IsHead h → IsReadSound (stream_in h)
-read_sound (Wav h) is = wav_sound h.head is.stream
-read_sound (Y4m h) is = y4m_sound h.head h.frame_bytes is.stream
-read_sound (Flac h) is = flac_sound h.head is.sound is.stream
+pub heads_fit : (h : InputHead) → IsHead h → IsFitHead (stream_in h)
+heads_fit (Wav h) is = wav_fits h.head is.stream
+heads_fit (Y4m h) is = y4m_fits h.head h.frame_bytes is.stream is.base
+heads_fit (Flac h) is = flac_fits h.head is.sound is.stream
 
 -- FLAC is taken by its own format alone, and with a rate that has 20 bits
 flac_rate : (f : FileFormat) (rate : ℕ) → (takes_kind f kind.Audio && takes_sound f codec.Flac rate) ≡ true → rate < 1048576
@@ -105,14 +103,10 @@ encode_sound f codec.PcmS32le tb rate bits channels from base e = (tt, refl)
 encode_sound f codec.Flac tb rate bits channels from base e = ((base, flac_rate f rate e), refl)
 encode_sound f codec.RawVideo tb rate bits channels from base e = absurd (no_pictures f rate e)
 
-encode : (head : StreamHead) (out : OutputJob) → IsReadSound head → takes_head out head ≡ true
+pub heads_encode : (head : StreamHead) (out : OutputJob) → IsFitHead head → takes_head out head ≡ true
     → CanEncodeTo (is_flac_coded (packed_as out head)) head (packed_as out head)
-encode (Audio tb rate bits channels from) out read t = encode_sound out.format (audio_codec out out.format) tb rate bits channels from read.0 t
-encode (Video tb format width height sar_num sar_den) out read t = refl
-
-pub heads_encode : (h : InputHead) (out : OutputJob) → IsHead h → takes_head out (stream_in h) ≡ true
-    → CanEncodeTo (is_flac_coded (packed_as out (stream_in h))) (stream_in h) (packed_as out (stream_in h))
-heads_encode h out is t = encode (stream_in h) out (read_sound h is) t
+heads_encode (Audio tb rate bits channels from) out fit t = encode_sound out.format (audio_codec out out.format) tb rate bits channels from fit.base t
+heads_encode (Video tb format width height sar_num sar_den) out fit t = refl
 
 pcm_of : (c : Codec) → is_pcm c ≡ true → IsPcmCodec c
 pcm_of codec.PcmU8 e = tt
@@ -164,10 +158,10 @@ write_pictures format.Flac tb p w h a b e = absurd cc
 write_pictures format.Y4m tb p w h a b e = tt
 write_pictures format.FrameHash tb p w h a b e = (omega arith, omega arith)
 
-written : (head : StreamHead) (out : OutputJob) → IsReadSound head → takes_head out head ≡ true → CanWrite out.format (packed_as out head ∷ [])
-written (Audio tb rate bits channels from) out read t =
-    write_sound out.format (audio_codec out out.format) tb rate bits channels read.1 read.2 t
-written (Video tb p width height sar_num sar_den) out read t = write_pictures out.format tb p width height sar_num sar_den t
+written : (head : StreamHead) (out : OutputJob) → IsFitHead head → takes_head out head ≡ true → CanWrite out.format (packed_as out head ∷ [])
+written (Audio tb rate bits channels from) out fit t =
+    write_sound out.format (audio_codec out out.format) tb rate bits channels fit.channels.0 fit.channels.1 t
+written (Video tb p width height sar_num sar_den) out fit t = write_pictures out.format tb p width height sar_num sar_den t
 
 -- more than one stream are taken by framehash alone
 many_written : (f : FileFormat) (heads : List StreamHead) → 2 ≤ length heads → length heads ≤ most_streams f → CanWrite f heads
@@ -176,11 +170,11 @@ many_written format.Flac heads some few = absurd (omega (arith, some, few))
 many_written format.Y4m heads some few = absurd (omega (arith, some, few))
 many_written format.FrameHash heads some few = (omega (arith, some), few)
 
-pub heads_are_written : (hs : List InputHead) (out : OutputJob) → AllByRecursion (λ h. IsHead h × (takes_head out (stream_in h) ≡ true)) hs
-    → 1 ≤ length hs → length hs ≤ most_streams out.format → CanWrite out.format (map (λ h. packed_as out (stream_in h)) hs)
+pub heads_are_written : (hs : List StreamHead) (out : OutputJob) → AllByRecursion (λ h. IsFitHead h × (takes_head out h ≡ true)) hs
+    → 1 ≤ length hs → length hs ≤ most_streams out.format → CanWrite out.format (map (λ h. packed_as out h) hs)
 heads_are_written [] out all some few = absurd (omega (arith, some))
-heads_are_written (h ∷ []) out all some few = written (stream_in h) out (read_sound h all.0.0) all.0.1
+heads_are_written (h ∷ []) out all some few = written h out all.0.0 all.0.1
 heads_are_written (h ∷ g ∷ hs) out all some few =
-    let heads = map (λ k. packed_as out (stream_in k)) (h ∷ g ∷ hs) in
-    let long : length heads ≡ length (h ∷ g ∷ hs) = length-map (h ∷ g ∷ hs) (λ k. packed_as out (stream_in k)) in
+    let heads = map (λ k. packed_as out k) (h ∷ g ∷ hs) in
+    let long : length heads ≡ length (h ∷ g ∷ hs) = length-map (h ∷ g ∷ hs) (λ k. packed_as out k) in
     many_written out.format heads (omega arith) (subst (λ (n : ℕ). n ≤ most_streams out.format) (sym long) few)

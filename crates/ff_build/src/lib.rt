@@ -14,7 +14,9 @@
 mod laws;
 mod part;
 mod parts;
+mod through;
 
 pub use laws::events_of_a_plan;
 pub use part::Part;
 pub use parts::Parts;
+pub use through::Through;

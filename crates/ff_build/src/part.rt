@@ -1,13 +1,19 @@
 // A part of any kind, as one machine.
+use crate::through::Through;
+use ff_best::Leading;
 use ff_coders::{AnyDecoder, AnyEncoder};
 use ff_coding::{Dec, Enc};
+use ff_composed::GraphFilter;
 use ff_cuts::AnyCut;
 use ff_demuxing::Demux;
+use ff_filter::Filter;
 use ff_flac_coder::{FlacEnc, InOrder};
 use ff_frame::{Event, Item, Refused, Ticket};
 use ff_host::{Sink, Source};
 use ff_muxing::Mux;
 use ff_net::{Fault, Machine};
+use ff_net_filter::Alone;
+use ff_shortest::Joint;
 use ff_writers::AnyWriter;
 use std::alloc::AllocError;
 
@@ -19,6 +25,10 @@ pub enum Part<Src: Source + Drop, Snk: Sink + Drop> {
     Demux(Demux<Src, AnyCut>),
     /// Decodes packets to frames.
     Dec(Dec<AnyDecoder>),
+    /// Filters frames, and tells which of its inputs is the best one.
+    Graph(Through<Leading<Alone<GraphFilter>>>),
+    /// Ends the streams of an output with the shortest of them, or gives them as they are.
+    Joint(Through<Alone<Joint>>),
     /// Encodes frames to packets, one for one.
     Enc(Enc<AnyEncoder>),
     /// Encodes sound to FLAC.
@@ -29,7 +39,23 @@ pub enum Part<Src: Source + Drop, Snk: Sink + Drop> {
 
 impl<Src: Source + Drop, Snk: Sink + Drop> Machine for Part<Src, Snk> {
     ghost use Rattle.ff_build.specs.PartViews.{part_view};
-    ghost use Rattle.ff_build.specs.PartLaws.{part_laws};
+    ghost use Rattle.ff_build.specs.declared.part.Part.TheVariants as part;
+    ghost use Rattle.ff_coders.specs.AnyCoders.{any_head, any_frame, any_serves, any_coded, any_packet};
+    ghost use Rattle.ff_demuxing.specs.AnyShapes.{any_shaped};
+    ghost use Rattle.ff_demuxing.specs.DemuxViews.{demux_laws};
+    ghost use Rattle.ff_coding.specs.Kinds.{dec_laws, enc_laws};
+    ghost use Rattle.ff_flac_coder.specs.Machines as flac;
+    ghost use Rattle.ff_muxing.specs.Kinds.{mux_laws};
+    ghost use Rattle.std.specs.Prelude.{◌≡◌, ◌<◌, ℕ, length, true};
+    ghost use Rattle.ff_filter.specs.Views.{AllDone, IsSpent};
+    ghost use Rattle.ff_dag.specs.Over.{graph_spent_only, graph_shut_spent, graph_done_spent};
+    ghost use Rattle.ff_net_filter.specs.AloneLaws.{alone_laws};
+    ghost use Rattle.ff_best.specs.LeadLaws.{leading_laws};
+    ghost use Rattle.ff_shortest.specs.declared.joint.Joint.{Joint};
+    ghost use Rattle.ff_shortest.specs.declared.joint.Joint.TheVariants as joint;
+    ghost use Rattle.ff_shortest.specs.ShortLaws.{shortest-spent_only, shortest-shut_spent, shortest-done_spent};
+    ghost use Rattle.ff_shortest.specs.StraightLaws.{straight-spent_only, straight-shut_spent, straight-done_spent};
+    ghost use Rattle.ff_shortest.specs.Lines.{lines_of, lanes_of};
 
     ghost view = { part_view Src.left Src.name Src.faults };
 
@@ -37,6 +63,8 @@ impl<Src: Source + Drop, Snk: Sink + Drop> Machine for Part<Src, Snk> {
         match self {
             Part::Demux(m) => m.inputs(),
             Part::Dec(m) => m.inputs(),
+            Part::Graph(m) => m.inputs(),
+            Part::Joint(m) => m.inputs(),
             Part::Enc(m) => m.inputs(),
             Part::FlacEnc(m) => m.inputs(),
             Part::Mux(m) => m.inputs(),
@@ -47,6 +75,8 @@ impl<Src: Source + Drop, Snk: Sink + Drop> Machine for Part<Src, Snk> {
         match self {
             Part::Demux(m) => m.outputs(),
             Part::Dec(m) => m.outputs(),
+            Part::Graph(m) => m.outputs(),
+            Part::Joint(m) => m.outputs(),
             Part::Enc(m) => m.outputs(),
             Part::FlacEnc(m) => m.outputs(),
             Part::Mux(m) => m.outputs(),
@@ -57,6 +87,8 @@ impl<Src: Source + Drop, Snk: Sink + Drop> Machine for Part<Src, Snk> {
         match self {
             Part::Demux(m) => m.source(),
             Part::Dec(m) => m.source(),
+            Part::Graph(m) => m.source(),
+            Part::Joint(m) => m.source(),
             Part::Enc(m) => m.source(),
             Part::FlacEnc(m) => m.source(),
             Part::Mux(m) => m.source(),
@@ -67,6 +99,8 @@ impl<Src: Source + Drop, Snk: Sink + Drop> Machine for Part<Src, Snk> {
         match self {
             Part::Demux(m) => m.fault(),
             Part::Dec(m) => m.fault(),
+            Part::Graph(m) => m.fault(),
+            Part::Joint(m) => m.fault(),
             Part::Enc(m) => m.fault(),
             Part::FlacEnc(m) => m.fault(),
             Part::Mux(m) => m.fault(),
@@ -77,6 +111,8 @@ impl<Src: Source + Drop, Snk: Sink + Drop> Machine for Part<Src, Snk> {
         match self {
             Part::Demux(m) => m.allow(ticket),
             Part::Dec(m) => m.allow(ticket),
+            Part::Graph(m) => m.allow(ticket),
+            Part::Joint(m) => m.allow(ticket),
             Part::Enc(m) => m.allow(ticket),
             Part::FlacEnc(m) => m.allow(ticket),
             Part::Mux(m) => m.allow(ticket),
@@ -87,6 +123,8 @@ impl<Src: Source + Drop, Snk: Sink + Drop> Machine for Part<Src, Snk> {
         match self {
             Part::Demux(m) => m.feed(port, item),
             Part::Dec(m) => m.feed(port, item),
+            Part::Graph(m) => m.feed(port, item),
+            Part::Joint(m) => m.feed(port, item),
             Part::Enc(m) => m.feed(port, item),
             Part::FlacEnc(m) => m.feed(port, item),
             Part::Mux(m) => m.feed(port, item),
@@ -97,6 +135,8 @@ impl<Src: Source + Drop, Snk: Sink + Drop> Machine for Part<Src, Snk> {
         match self {
             Part::Demux(m) => m.pull(port),
             Part::Dec(m) => m.pull(port),
+            Part::Graph(m) => m.pull(port),
+            Part::Joint(m) => m.pull(port),
             Part::Enc(m) => m.pull(port),
             Part::FlacEnc(m) => m.pull(port),
             Part::Mux(m) => m.pull(port),
@@ -107,6 +147,8 @@ impl<Src: Source + Drop, Snk: Sink + Drop> Machine for Part<Src, Snk> {
         match self {
             Part::Demux(m) => m.stop(port),
             Part::Dec(m) => m.stop(port),
+            Part::Graph(m) => m.stop(port),
+            Part::Joint(m) => m.stop(port),
             Part::Enc(m) => m.stop(port),
             Part::FlacEnc(m) => m.stop(port),
             Part::Mux(m) => m.stop(port),
@@ -117,6 +159,8 @@ impl<Src: Source + Drop, Snk: Sink + Drop> Machine for Part<Src, Snk> {
         match self {
             Part::Demux(m) => m.spent(port),
             Part::Dec(m) => m.spent(port),
+            Part::Graph(m) => m.spent(port),
+            Part::Joint(m) => m.spent(port),
             Part::Enc(m) => m.spent(port),
             Part::FlacEnc(m) => m.spent(port),
             Part::Mux(m) => m.spent(port),
@@ -127,11 +171,42 @@ impl<Src: Source + Drop, Snk: Sink + Drop> Machine for Part<Src, Snk> {
         match self {
             Part::Demux(m) => m.next_event(),
             Part::Dec(m) => m.next_event(),
+            Part::Graph(m) => m.next_event(),
+            Part::Joint(m) => m.next_event(),
             Part::Enc(m) => m.next_event(),
             Part::FlacEnc(m) => m.next_event(),
             Part::Mux(m) => m.next_event(),
         }
     }
 
-    ghost laws = { part_laws Src.left Src.name Src.faults };
+    ghost laws = { elim [
+      | part.Demux m ↦ demux_laws Src.left Src.name Src.faults any_shaped m m.same_head
+      | part.Dec m ↦ dec_laws any_head any_frame m
+      | part.Graph m ↦
+          let filter = m.machine.machine.filter in
+          let v = ⟦<GraphFilter as Filter>⟧.view filter in
+          leading_laws (⟦<Alone<GraphFilter> as Machine>⟧.view m.machine.machine) m.machine.lead
+          (alone_laws v (λ p. ⟦<GraphFilter as Filter>⟧.spends filter p) m.machine.machine.hurt m.machine.machine.long
+          (λ p lt e. graph_spent_only v filter.over.items p filter.told e)
+          (λ p lt e. graph_shut_spent v filter.over.items p e)
+          (λ p lt z d. graph_done_spent v filter.over.items p filter.told z d))
+      | part.Joint m ↦
+          let only : (j : Joint) (p : ℕ) → p < length (⟦<Joint as Filter>⟧.view j).ins → ⟦<Joint as Filter>⟧.spends j p ≡ true → IsSpent (⟦<Joint as Filter>⟧.view j) p = elim [
+            | joint.Shortest s ↦ λ p lt e. shortest-spent_only s.sides.items p lt e
+            | joint.Straight s ↦ λ p lt e. straight-spent_only s.sides.items p lt e
+          ] in
+          let shut : (j : Joint) (p : ℕ) → p < length (⟦<Joint as Filter>⟧.view j).ins → (⟦<Joint as Filter>⟧.view j).shut p ≡ true → ⟦<Joint as Filter>⟧.spends j p ≡ true = elim [
+            | joint.Shortest s ↦ λ p lt e. shortest-shut_spent (lanes_of s.sides.items) (lines_of s.sides.items) p e
+            | joint.Straight s ↦ λ p lt e. straight-shut_spent (lanes_of s.sides.items) (lines_of s.sides.items) p e
+          ] in
+          let done : (j : Joint) (p : ℕ) → p < length (⟦<Joint as Filter>⟧.view j).ins → 0 < length (⟦<Joint as Filter>⟧.view j).outs → AllDone (⟦<Joint as Filter>⟧.view j) → ⟦<Joint as Filter>⟧.spends j p ≡ true = elim [
+            | joint.Shortest s ↦ λ p lt z d. shortest-done_spent s.sides.items p d
+            | joint.Straight s ↦ λ p lt z d. straight-done_spent s.sides.items p d
+          ] in
+          let filter = m.machine.filter in
+          alone_laws (⟦<Joint as Filter>⟧.view filter) (λ p. ⟦<Joint as Filter>⟧.spends filter p) m.machine.hurt m.machine.long (only filter) (shut filter) (done filter)
+      | part.Enc m ↦ enc_laws any_serves any_coded any_packet m
+      | part.FlacEnc m ↦ flac.enc_laws m
+      | part.Mux m ↦ mux_laws m
+    ] };
 }

@@ -1,18 +1,25 @@
 // The kinds of node, built.
-ghost use Rattle.std.specs.Prelude.{◌≡◌};
+ghost use Rattle.std.specs.Prelude.{◌≡◌, false};
 ghost use Rattle.ff_build.specs.Parts.{is_flac as flac_is, is_flac_coded as flac_is_coded};
 
 use crate::part::Part;
+use crate::through::Through;
+use ff_best::Leading;
 use ff_coders::{decoder_of, encoder_of};
 use ff_coding::{Dec, Enc};
+use ff_composed::graph_machine;
 use ff_demuxing::Demux;
 use ff_flac_coder::{FlacEnc, InOrder};
 use ff_heads::InputHead;
 use ff_host::{Sink, Source};
+use ff_lang::Graph;
 use ff_muxing::{Mux, writer_of};
+use ff_plan::{Plan, PlanError, plan_with};
+use ff_rules::GraphRules;
 use ff_running::{Ends, Kinds};
+use ff_shortest::joint_machine;
 use ff_values::{Codec, StreamHead};
-use ff_words::OutputJob;
+use ff_words::{Job, OutputJob};
 use std::alloc::{AllocError, Global};
 
 fn is_flac(codec: Codec) -> bool
@@ -41,9 +48,12 @@ pub struct Parts;
 
 impl<Src: Source + Send + Drop, Snk: Sink + Send + Drop> Kinds<Src, Snk, Part<Src, Snk>> for Parts {
     ghost use Rattle.ff_build.specs.Events.{parts_tell_of_themselves};
+    ghost use Rattle.ff_build.specs.Graphs.{graphs_are_had};
     ghost use Rattle.ff_build.specs.Held.{parts_are_held};
     ghost use Rattle.ff_build.specs.Parts.{all_kinds};
-    ghost use Rattle.ff_build.specs.Takes.{heads_decode, heads_encode, heads_are_written};
+    ghost use Rattle.ff_rules.proofs.Holds.{are_rules};
+    ghost use Rattle.ff_rules.proofs.Keeping.{keep_heads};
+    ghost use Rattle.ff_build.specs.Takes.{heads_decode, heads_fit, heads_encode, heads_are_written};
 
     type Head = InputHead;
 
@@ -51,6 +61,18 @@ impl<Src: Source + Send + Drop, Snk: Sink + Send + Drop> Kinds<Src, Snk, Part<Sr
 
     fn stream(head: &InputHead) -> StreamHead {
         head.stream()
+    }
+
+    fn plan(alloc: Global, job: &Job, heads: &[Vec<StreamHead>]) -> Result<Plan, PlanError> {
+        plan_with(
+            alloc,
+            &GraphRules {
+                nulls: false,
+                joint: false,
+            },
+            job,
+            heads,
+        )
     }
 
     fn demuxer(
@@ -72,6 +94,36 @@ impl<Src: Source + Send + Drop, Snk: Sink + Send + Drop> Kinds<Src, Snk, Part<Sr
     ) -> Result<Part<Src, Snk>, AllocError> {
         let dec = Dec::new(alloc, decoder_of(alloc, head), outputs)?;
         Ok(Part::Dec(dec))
+    }
+
+    fn graph(
+        alloc: Global,
+        number: u32,
+        text: &Graph,
+        heads: &[StreamHead],
+    ) -> Result<Part<Src, Snk>, AllocError> {
+        let Ok(machine) = graph_machine(alloc, text, heads) else {
+            return Err(AllocError);
+        };
+        let Ok(graph) = Leading::new(alloc, number, heads, machine) else {
+            return Err(AllocError);
+        };
+        match Through::new(graph) {
+            Some(graph) => Ok(Part::Graph(graph)),
+            None => Err(AllocError),
+        }
+    }
+
+    fn shortest(
+        alloc: Global,
+        ends: bool,
+        heads: &[StreamHead],
+    ) -> Result<Part<Src, Snk>, AllocError> {
+        let joint = joint_machine(alloc, ends, heads)?;
+        match Through::new(joint) {
+            Some(joint) => Ok(Part::Joint(joint)),
+            None => Err(AllocError),
+        }
     }
 
     fn encoder(
@@ -105,19 +157,39 @@ impl<Src: Source + Send + Drop, Snk: Sink + Send + Drop> Kinds<Src, Snk, Part<Sr
     fn tried(part: &Part<Src, Snk>) -> u64 {
         match part {
             Part::Demux(m) => m.tried(),
-            Part::Dec(_) | Part::Enc(_) | Part::FlacEnc(_) | Part::Mux(_) => 0,
+            Part::Dec(_)
+            | Part::Graph(_)
+            | Part::Joint(_)
+            | Part::Enc(_)
+            | Part::FlacEnc(_)
+            | Part::Mux(_) => 0,
         }
     }
 
     fn into_ends(part: Part<Src, Snk>) -> Ends<Src, Snk> {
         match part {
             Part::Demux(m) => Ends::Source(m.into_source()),
-            Part::Dec(_) | Part::Enc(_) | Part::FlacEnc(_) => Ends::Neither,
+            Part::Dec(_) | Part::Graph(_) | Part::Joint(_) | Part::Enc(_) | Part::FlacEnc(_) =>
+                Ends::Neither,
             Part::Mux(m) => Ends::Sink(m.into_sink()),
         }
     }
 
     ghost decodes = { heads_decode };
+
+    ghost frames = { heads_fit };
+
+    ghost ruled = { are_rules false false };
+
+    ghost kept = { (keep_heads false false).kept };
+
+    ghost few = { (keep_heads false false).few };
+
+    ghost takes = { (keep_heads false false).taken };
+
+    ghost filters = { graphs_are_had };
+
+    ghost joins = { λ heads all. tt };
 
     ghost encodes = { heads_encode };
 

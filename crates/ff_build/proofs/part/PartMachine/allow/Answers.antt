@@ -6,6 +6,7 @@ use Rattle.ff_muxing.specs.Muxers.{mux_stands}
 use Rattle.ff_net.specs.Pasts.{Past}
 use Rattle.ff_build.specs.declared.part.Part.{Part}
 use Rattle.ff_build.specs.PartViews.{part_view}
+use Rattle.ff_build.specs.Throughs.{through_shown}
 use Rattle.ff_build.proofs.part.PartMachine.allow.Goals as goal
 
 pub returns-in-Mux-clause-back : goal.returns-in-Mux-clause-back
@@ -24,3 +25,10 @@ returns-in-Demux-clause-back g c =
     (λ (p : Part g.row.Src.Denot g.row.Snk.Denot g.Snk.Sink). IfSome c.allow.result (λ t. (t ≡ c.args.ticket) × ((past : Past) → (part_view g.Src.Source.left g.Src.Source.name g.Src.Source.faults p).stands past → demux_stands g.Src.Source.left c.allow.new.self past)))
     (sym c.in-Demux.is)
     c.allow.ensures.back
+
+pub returns-in-Graph-clause-back : goal.returns-in-Graph-clause-back
+returns-in-Graph-clause-back g c =
+    subst
+    (λ (p : Part g.row.Src.Denot g.row.Snk.Denot g.Snk.Sink). IfSome c.allow-in-Graph.result (λ t. (t ≡ c.args.ticket) × ((past : Past) → (part_view g.Src.Source.left g.Src.Source.name g.Src.Source.faults p).stands past → (through_shown c.allow-in-Graph.new.self).stands past)))
+    (sym c.in-Graph.is)
+    c.allow-in-Graph.ensures.back

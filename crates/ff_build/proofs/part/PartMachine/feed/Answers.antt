@@ -8,6 +8,7 @@ use Rattle.ff_net.specs.Pasts.{Past, fed}
 use Rattle.ff_net.specs.Ways.{AreValid}
 use Rattle.ff_build.specs.declared.part.Part.{Part}
 use Rattle.ff_build.specs.PartViews.{part_view}
+use Rattle.ff_build.specs.Throughs.{through_shown}
 use Rattle.ff_build.proofs.part.PartMachine.feed.Goals as goal
 
 pub returns-in-Mux-clause-accepted : goal.returns-in-Mux-clause-accepted
@@ -23,3 +24,17 @@ returns-in-Mux-clause-unchanged g c =
     (λ (p : Part g.row.Src.Denot g.row.Snk.Denot g.Snk.Sink). OnErr c.feed-in-Mux.result ((past : Past) → (part_view g.Src.Source.left g.Src.Source.name g.Src.Source.faults p).stands past → mux_stands c.feed-in-Mux.new.self past))
     (sym c.in-Mux.is)
     c.feed-in-Mux.ensures.unchanged
+
+pub returns-in-Graph-clause-accepted : goal.returns-in-Graph-clause-accepted
+returns-in-Graph-clause-accepted g c =
+    subst
+    (λ (p : Part g.row.Src.Denot g.row.Snk.Denot g.Snk.Sink). OnOk c.feed-in-Graph.result ((past : Past) → (part_view g.Src.Source.left g.Src.Source.name g.Src.Source.faults p).stands past → (stream_at past.got c.args.port).mark ≡ still_open → AreValid (part_view g.Src.Source.left g.Src.Source.name g.Src.Source.faults p).in_lanes (fed past c.args.port c.args.item).got → (through_shown c.feed-in-Graph.new.self).stands (fed past c.args.port c.args.item)))
+    (sym c.in-Graph.is)
+    c.feed-in-Graph.ensures.accepted
+
+pub returns-in-Graph-clause-unchanged : goal.returns-in-Graph-clause-unchanged
+returns-in-Graph-clause-unchanged g c =
+    subst
+    (λ (p : Part g.row.Src.Denot g.row.Snk.Denot g.Snk.Sink). OnErr c.feed-in-Graph.result ((past : Past) → (part_view g.Src.Source.left g.Src.Source.name g.Src.Source.faults p).stands past → (through_shown c.feed-in-Graph.new.self).stands past))
+    (sym c.in-Graph.is)
+    c.feed-in-Graph.ensures.unchanged

@@ -17,3 +17,6 @@ returns-in-Mux-clause-waits g c n past s = c.next_event-in-Mux.ensures.waits n p
 
 pub returns-in-Demux-clause-waits : goal.returns-in-Demux-clause-waits
 returns-in-Demux-clause-waits g c n past s = c.next_event.ensures.waits n past (rw c.in-Demux.is at s)
+
+pub returns-in-Graph-clause-waits : goal.returns-in-Graph-clause-waits
+returns-in-Graph-clause-waits g c n past s = c.next_event-in-Graph.ensures.waits n past (rw c.in-Graph.is at s)

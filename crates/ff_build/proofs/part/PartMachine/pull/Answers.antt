@@ -4,6 +4,7 @@ use Rattle.ff_net.specs.Pasts.{Past}
 use Rattle.std.proofs.Common.{subst, sym}
 use Rattle.std.specs.Result.{OnErr}
 use Rattle.ff_demuxing.specs.Demuxers.{demux_stands}
+use Rattle.ff_build.specs.Throughs.{through_shown}
 use Rattle.ff_build.proofs.part.PartMachine.pull.Goals as goal
 
 pub returns-in-Demux-clause-gives : goal.returns-in-Demux-clause-gives
@@ -27,3 +28,19 @@ returns-in-Demux-clause-unchanged g c =
     (λ (p : Part g.row.Src.Denot g.row.Snk.Denot g.Snk.Sink). OnErr c.pull.result ((past : Past) → (part_view g.Src.Source.left g.Src.Source.name g.Src.Source.faults p).stands past → demux_stands g.Src.Source.left c.pull.new.self past))
     (sym c.in-Demux.is)
     c.pull.ensures.unchanged
+
+pub returns-in-Graph-clause-gives : goal.returns-in-Graph-clause-gives
+returns-in-Graph-clause-gives g c x is past s stopped = c.pull-in-Graph.ensures.gives x is past (rw c.in-Graph.is at s) stopped
+
+pub returns-in-Graph-clause-waits : goal.returns-in-Graph-clause-waits
+returns-in-Graph-clause-waits g c w past s out = c.pull-in-Graph.ensures.waits w past (rw c.in-Graph.is at s) out
+
+pub returns-in-Graph-clause-unchanged : goal.returns-in-Graph-clause-unchanged
+returns-in-Graph-clause-unchanged g c =
+    subst
+    (λ (p : Part g.row.Src.Denot g.row.Snk.Denot g.Snk.Sink). OnErr c.pull-in-Graph.result ((past : Past) → (part_view g.Src.Source.left g.Src.Source.name g.Src.Source.faults p).stands past → (through_shown c.pull-in-Graph.new.self).stands past))
+    (sym c.in-Graph.is)
+    c.pull-in-Graph.ensures.unchanged
+
+pub returns-in-Joint-clause-gives : goal.returns-in-Joint-clause-gives
+returns-in-Joint-clause-gives g c x is past s stopped = c.pull-in-Joint.ensures.gives x is past (rw c.in-Joint.is at s) stopped

@@ -2,3 +2,6 @@ use Rattle.ff_build.proofs.part.PartMachine.stop.Goals as goal
 
 pub returns-in-Demux-clause-stopped : goal.returns-in-Demux-clause-stopped
 returns-in-Demux-clause-stopped g c past s = c.stop.ensures.stopped past (rw c.in-Demux.is at s)
+
+pub returns-in-Graph-clause-stopped : goal.returns-in-Graph-clause-stopped
+returns-in-Graph-clause-stopped g c past s = c.stop-in-Graph.ensures.stopped past (rw c.in-Graph.is at s)

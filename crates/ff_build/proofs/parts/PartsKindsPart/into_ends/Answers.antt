@@ -51,8 +51,14 @@ returns-in-Dec g c =
     elim c.in-Dec.is [
       | inl w ↦ subst HasEnds (sym w.1) (one_lane (Packets (any_head w.0.decoder)), some_lanes (length w.0.spread.outs.items) (Frames (any_head w.0.decoder)) w.0.spread.some)
       | inr v ↦ elim v [
-        | inl w ↦ subst HasEnds (sym w.1) (one_lane (Frames w.0.head), some_lanes (length w.0.spread.outs.items) (Packets (any_coded w.0.encoder w.0.head)) w.0.spread.some)
-        | inr w ↦ subst HasEnds (sym w.1) (one_lane (Frames w.0.head), one_lane (Packets (coded_head w.0.head)))
+        | inl w ↦ subst HasEnds (sym w.1) (w.0.ins, w.0.outs)
+        | inr u ↦ elim u [
+          | inl w ↦ subst HasEnds (sym w.1) (w.0.ins, w.0.outs)
+          | inr t ↦ elim t [
+            | inl w ↦ subst HasEnds (sym w.1) (one_lane (Frames w.0.head), some_lanes (length w.0.spread.outs.items) (Packets (any_coded w.0.encoder w.0.head)) w.0.spread.some)
+            | inr w ↦ subst HasEnds (sym w.1) (one_lane (Frames w.0.head), one_lane (Packets (coded_head w.0.head)))
+          ]
+        ]
       ]
     ]
 

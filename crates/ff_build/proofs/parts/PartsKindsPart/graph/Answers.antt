@@ -1,0 +1,37 @@
+use Rattle.std.proofs.Common.{◌≡◌, None, List, map, refl, sym, ap, ◌∙◌}
+use Rattle.ff_frame.specs.declared.item.Lane.{Lane}
+use Rattle.ff_frame.specs.declared.item.Lane.TheVariants.{Frames}
+use Rattle.ff_values.specs.declared.head.StreamHead.{StreamHead}
+use Rattle.ff_composed.specs.Cuts.{graph_outs, graph_task}
+use Rattle.ff_net.specs.Pasts.{start}
+use Rattle.ff_net.specs.Views.{View}
+use Rattle.ff_running.specs.Kinds.{IsNew}
+use Rattle.ff_build.specs.Graphs.{are_timed}
+use Rattle.ff_build.specs.Parts.{told_graph}
+use Rattle.ff_build.proofs.Leads.{shown_as, two_steps}
+use Rattle.ff_build.proofs.parts.PartsKindsPart.graph.Goals as goal
+
+pub returns-in-Some-clause-new : goal.returns-in-Some-clause-new
+returns-in-Some-clause-new g c = λ made can.
+    let heads = c.args.heads.now in
+    let shape = c.in-Ok-new.ensures.shape in
+    let outs = graph_outs c.args.text.now heads in
+    shown_as c.in-Some.graph.machine c.in-Ok-new.graph c.in-Some.ensures
+    (λ (v : View). IsNew None (map (λ (h : StreamHead). Frames h) heads) (map (λ (h : StreamHead). Frames h) made) None 0 v)
+    (record {
+      source_is = shape.source ∙ c.in-Ok.ensures.source;
+      in_lanes = shape.in_lanes ∙ c.in-Ok.ensures.ins;
+      out_lanes = shape.out_lanes ∙ (c.in-Ok.ensures.outs ∙ (two_steps (λ o. o.head) (λ (h : StreamHead). Frames h) outs
+          ∙ ap (λ (hs : List StreamHead). map (λ (h : StreamHead). Frames h) hs) (sym can.outs_are)));
+      sound = c.in-Ok-new.ensures.fault ∙ c.in-Ok.ensures.sound;
+      device_is = c.in-Ok-new.ensures.device ∙ c.in-Ok.ensures.device;
+      failures_are = refl;
+    })
+
+pub returns-in-Some-clause-starts : goal.returns-in-Some-clause-starts
+returns-in-Some-clause-starts g c =
+    let heads = c.args.heads.now in
+    let text = c.args.text.now in
+    shown_as c.in-Some.graph.machine c.in-Ok-new.graph c.in-Some.ensures
+    (λ (v : View). v.stands (start (told_graph c.args.number text heads)))
+    (c.in-Ok-new.ensures.stands (graph_task text heads) refl (c.in-Ok.ensures.stands (are_timed heads c.requires.1.fit)))
