@@ -11,6 +11,7 @@ accepted job heads all = record {
   count = all.as_many;
   sound = all.heads_are;
   few_inputs = all.bounded.few_inputs;
+  some_outputs = all.bounded.some_outputs;
   few_outputs = all.bounded.few_outputs;
   few_maps = all.bounded.few_maps;
   queue = (all.bounded.some_queue, all.bounded.short_queue);

@@ -1,6 +1,6 @@
 -- What a job means: which bytes each of its outputs holds, and what of its inputs' heads and bytes keeps it from that.
 --
--- The heads of the inputs give a plan (`planned_today` of ff_plan): nodes with numbers, each a Demux, a Dec, an Enc or a Mux, and
+-- The heads of the inputs give a plan (`planned` of ff_plan): nodes with numbers, each a Demux, a Dec, a Graph, an Enc or a Mux, and
 -- edges between their ports. Each node is there for a function on whole streams (`all_kinds` of ff_build), node after node from
 -- number 0 up they give the stream on each edge (`solve` of ff_net), and an output's file is what its format makes of the stream
 -- at its Mux. No queue, no thread, no order of turns and no piece of a file is in it.
