@@ -22,8 +22,27 @@ pub static USAGE: [&'static str; 4] = [
 ];
 
 /// What stands behind the codecs.
-pub static ENDS: [&'static str; 11] = [
-    "Filters: none yet",
+pub static ENDS: [&'static str; 30] = [
+    "Filters of pictures, each with its arguments:",
+    "  null                      no effect",
+    "  trim=start:end            the pictures from one time to before another",
+    "  setpts=PTS-STARTPTS       times from 0 on",
+    "  crop=w:h:x:y              a part of each picture",
+    "  pad=w:h:x:y               each picture on a larger black one",
+    "  hflip                     left and right changed",
+    "  vflip                     top and bottom changed",
+    "  fps=fps                   so many pictures a second",
+    "  split=outputs             the same pictures several times",
+    "  hstack=inputs:shortest    pictures of several inputs side by side",
+    "  vstack=inputs:shortest    pictures of several inputs one below the other",
+    "  concat=n:v:a              streams one after another, of sound with v=0:a=1",
+    "Filters of sound:",
+    "  anull                     no effect",
+    "  atrim=start:end           the samples from one time to before another",
+    "  asetpts=PTS-STARTPTS      times from 0 on",
+    "  asplit=outputs            the same sound several times",
+    "  channelsplit              each channel by itself",
+    "  join=inputs               the channels of several inputs beside each other",
     "Statuses, each but 0 with a line that names its cause:",
     "  0  all was done",
     "  1  the words ask for nothing",
