@@ -10,7 +10,7 @@ use Rattle.ff_best.specs.Inputs.{bases_of_heads}
 use Rattle.ff_coders.specs.Choices.{CanDecode, CanEncode, frame_made, packet_made}
 use Rattle.ff_coding.specs.Decoding.{dec_task}
 use Rattle.ff_coding.specs.Encoding.{enc_task}
-use Rattle.ff_composed.specs.Clear.{IsClear}
+use Rattle.ff_labels.specs.Clear.{IsClear}
 use Rattle.ff_composed.specs.Cuts.{graph_outs, graph_task}
 use Rattle.ff_cuts.specs.AnyCutters.{any_cutter}
 use Rattle.ff_demuxing.specs.Demuxing.{demux_task}

@@ -18,7 +18,7 @@ use Rattle.ff_graph.proofs.Refusals.{feeders_size, order_there}
 use Rattle.ff_wired.specs.Flows.{IsForward, IsDrawing}
 use Rattle.ff_wired.proofs.Forward.{forward, all_come}
 use Rattle.ff_wired.proofs.Opening.{opens_open, opens_once, opens_all}
-use Rattle.ff_composed.specs.Clear.{IsClear}
+use Rattle.ff_labels.specs.Clear.{IsClear}
 use Rattle.ff_composed.specs.Ready.{pads_of, counts_of, IsReady, AreReady}
 use Rattle.ff_composed.proofs.Elements.{some_same, no_some, got_below, map_size, map_or}
 use Rattle.ff_composed.proofs.Sourced.{sources_size}

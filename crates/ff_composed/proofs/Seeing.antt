@@ -14,7 +14,7 @@ use Rattle.ff_filters.specs.declared.name.FilterName.{FilterName}
 use Rattle.ff_filters.specs.Names.{filter_named}
 use Rattle.ff_filters.specs.Pads.{inputs_of, outputs_of}
 use Rattle.ff_graph.specs.Drawings.{seen_as, seen_chain, seen_chains, seen_graph}
-use Rattle.ff_composed.specs.Clear.{IsClear}
+use Rattle.ff_labels.specs.Clear.{IsClear}
 use Rattle.ff_composed.proofs.Elements.{some_same, no_some, split}
 use Rattle.ff_composed.proofs.Feeding.{OnceTaken, StartsAnew}
 use Rattle.ff_composed.proofs.Clear.{filters_in, taken_once}

@@ -18,7 +18,7 @@ use Rattle.ff_graph.specs.Configured.{Made, OpenOut, Refused, configured, make_a
 use Rattle.ff_graph.specs.Meaning.{graph_means, means_as}
 use Rattle.ff_wired.specs.Flows.{no_flows, flows_from, IsDrawing}
 use Rattle.ff_wired.specs.Limits.{flows_at}
-use Rattle.ff_composed.specs.Clear.{IsClear}
+use Rattle.ff_labels.specs.Clear.{IsClear}
 use Rattle.ff_composed.specs.Cuts.{cuts_as, graph_cuts, outs_or_none, all_given, graph_outs}
 use Rattle.ff_composed.specs.Ready.{pads_of, counts_of, AreReady}
 use Rattle.ff_composed.proofs.Drawing.{whole, are_ready}

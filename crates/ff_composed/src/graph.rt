@@ -10,7 +10,7 @@ ghost use Rattle.ff_graph.specs.Opens.{open_ins};
 ghost use Rattle.ff_graph.specs.Pads.{heads_in, output_of, IsRefused};
 ghost use Rattle.ff_wired.specs.Flows.{no_flows, flows_from, IsDrawing};
 ghost use Rattle.ff_wired.specs.Limits.{flows_at};
-ghost use Rattle.ff_composed.specs.Clear.{IsClear};
+ghost use Rattle.ff_labels.specs.Clear.{IsClear};
 ghost use Rattle.ff_composed.specs.Cuts.{all_given, graph_cuts, graph_outs};
 ghost use Rattle.ff_composed.specs.Ready.{AreReady, counts_of, pads_of as pads_in_order};
 

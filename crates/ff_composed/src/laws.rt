@@ -13,7 +13,7 @@ ghost use Rattle.ff_graph.specs.Drawings.{seen_graph};
 ghost use Rattle.ff_graph.specs.Meaning.{graph_means};
 ghost use Rattle.ff_graph.specs.Opens.{filter_order, open_pads, sources_in, loops};
 ghost use Rattle.ff_wired.specs.Flows.{IsDrawing};
-ghost use Rattle.ff_composed.specs.Clear.{IsClear};
+ghost use Rattle.ff_labels.specs.Clear.{IsClear};
 ghost use Rattle.ff_composed.specs.Cuts.{all_given, graph_cuts};
 ghost use Rattle.ff_composed.specs.Ready.{counts_of, pads_of};
 

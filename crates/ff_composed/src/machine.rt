@@ -4,7 +4,7 @@ ghost use Rattle.ff_net.specs.Pasts.{start};
 ghost use Rattle.ff_limited.specs.Cuts.{AreTimed};
 ghost use Rattle.ff_graph.specs.Opens.{open_ins};
 ghost use Rattle.ff_graph.specs.Pads.{IsRefused};
-ghost use Rattle.ff_composed.specs.Clear.{IsClear};
+ghost use Rattle.ff_labels.specs.Clear.{IsClear};
 ghost use Rattle.ff_composed.specs.Cuts.{all_given, graph_outs, graph_task};
 
 use crate::graph::{GraphFilter, make_graph};

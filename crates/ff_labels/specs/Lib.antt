@@ -1,3 +1,4 @@
+pub mod Clear
 pub mod Labels
 pub mod Names
 pub mod Order

@@ -12,7 +12,7 @@ use Rattle.ff_labels.specs.declared.fault.LabelFault.TheVariants as label_fault
 use Rattle.ff_labels.specs.Labels.{is_one_of, filters_of, ins_of, outs_of, taken_in, given_in}
 use Rattle.ff_labels.specs.Names.{or_else, where_so, twice, unknown_label, filter_fault, filters_fault, graphs_fault, all_given, own_fault, twice_in, labels_fault as names_fault}
 use Rattle.ff_plan.specs.declared.planned.PlanError.TheVariants as fault
-use Rattle.ff_plan.specs.Graphs.{IsClear}
+use Rattle.ff_labels.specs.Clear.{IsClear}
 use Rattle.ff_plan.specs.Labels.{giver, refused, refusal_of}
 use Rattle.ff_plan.specs.Planned.{unused_of}
 use Rattle.ff_plan.proofs.Among.{never}

@@ -20,7 +20,8 @@ use Rattle.ff_plan.specs.declared.layout.InPad.{InPad}
 use Rattle.ff_plan.specs.declared.layout.Origin.{Origin}
 use Rattle.ff_plan.specs.declared.layout.OutStream.{OutStream}
 use Rattle.ff_plan.specs.declared.layout.Placed.{Placed}
-use Rattle.ff_plan.specs.Graphs.{AreRules, IsHad, IsClear, open_taken, open_given, asks}
+use Rattle.ff_labels.specs.Clear.{IsClear}
+use Rattle.ff_plan.specs.Graphs.{AreRules, IsHad, open_taken, open_given, asks}
 use Rattle.ff_plan.specs.Labels.{giver, stream_of_label, taken_labels}
 use Rattle.ff_plan.specs.Layout.{IsAmong, Laid, Layout, place_row, place_from}
 use Rattle.ff_plan.specs.Order.{numbers, loop_of, loop_fault}

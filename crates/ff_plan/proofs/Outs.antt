@@ -22,7 +22,7 @@ use Rattle.ff_plan.specs.declared.layout.Origin.TheVariants as origin
 use Rattle.ff_plan.specs.declared.planned.PlanError.{PlanError}
 use Rattle.ff_plan.specs.declared.planned.PlanError.TheVariants as fault
 use Rattle.ff_plan.specs.Choice.{kind_of, known, best}
-use Rattle.ff_plan.specs.Graphs.{IsClear}
+use Rattle.ff_labels.specs.Clear.{IsClear}
 use Rattle.ff_plan.specs.Labels.{refused, is_given, giver}
 use Rattle.ff_plan.specs.Layout.{IsAmong}
 use Rattle.ff_plan.specs.Pads.{made_at, labelled_out}

@@ -1,10 +1,11 @@
 -- What the laws of plans with graphs need of the rules of graphs.
-use Rattle.std.specs.Prelude.{◌≡◌, ℕ, ◌≤◌, Bool, true, false, not, List, length, Option, Some, None, Ok, IsSome}
+use Rattle.std.specs.Prelude.{◌≡◌, ℕ, Bool, true, false, not, List, length, Option, Some, None, Ok, IsSome}
 use Rattle.std.specs.List.{AllByRecursion, filter}
 use Rattle.std.specs.Str.{bytes_eq}
 use Rattle.ff_values.specs.declared.head.StreamHead.{StreamHead}
 use Rattle.ff_lang.specs.declared.graph.Graph.{Graph}
 use Rattle.ff_edges.specs.Ports.{tally}
+use Rattle.ff_labels.specs.Clear.{IsClear}
 use Rattle.ff_labels.specs.Labels.{is_one_of, taken_in, given_in}
 use Rattle.ff_plan.specs.Pads.{has_label}
 use Rattle.ff_plan.specs.Rules.{Rules, OpenIn, OpenOut}
@@ -22,10 +23,6 @@ asks label i = label_is i.label where
   label_is : Option (List ℕ) → Bool
   label_is None = false
   label_is (Some l) = bytes_eq l label
-
--- no label that the graph gives stands at two of its pads of one direction
-abbrev pub IsClear : Graph → Type 0
-IsClear g = (label : List ℕ) → is_one_of label (given_in g) ≡ true → (tally (bytes_eq label) (given_in g) ≤ 1) × (tally (bytes_eq label) (taken_in g) ≤ 1)
 
 -- the rules make these open output pads of a graph without a loop, with a head or none for each open input pad
 abbrev pub IsHad : Rules → Graph → List (Option StreamHead) → List OpenOut → Type 0

@@ -13,7 +13,8 @@ use Rattle.ff_labels.specs.Labels.{is_one_of, filters_of, ins_of, outs_of, given
 use Rattle.ff_graph.specs.Drawings.{seen_graph}
 use Rattle.ff_graph.specs.Opens.{sources_in}
 use Rattle.ff_graph.specs.Configured.{feeds_one, open_outs}
-use Rattle.ff_plan.specs.Graphs.{IsHad, IsClear, AreRules, asks, open_taken, open_given}
+use Rattle.ff_labels.specs.Clear.{IsClear}
+use Rattle.ff_plan.specs.Graphs.{IsHad, AreRules, asks, open_taken, open_given}
 use Rattle.ff_plan.specs.Pads.{has_label}
 use Rattle.ff_plan.specs.declared.open_pads.OpenOut.{OpenOut}
 use Rattle.ff_rules.specs.Rules.{output_as, open_ins, rules_with}

@@ -12,7 +12,7 @@ use Rattle.ff_net.specs.Pasts.{Past, Task}
 use Rattle.ff_net.specs.Views.{View}
 use Rattle.ff_net.specs.Ways.{Flow}
 use Rattle.ff_files.specs.Works.{HoldsPart}
-use Rattle.ff_plan.specs.Graphs.{IsClear}
+use Rattle.ff_labels.specs.Clear.{IsClear}
 use Rattle.ff_plan.specs.Rules.{Rules}
 use Rattle.ff_plan.specs.declared.open_pads.OpenOut.{OpenOut}
 use Rattle.ff_running.specs.declared.kinds.Ends.{Ends}
