@@ -10,7 +10,7 @@ use Rattle.ff_words.specs.declared.job.Job.{Job}
 use Rattle.ff_words.specs.declared.error.Fault.{Fault}
 use Rattle.ff_words.specs.declared.error.WordError.{WordError}
 use Rattle.ff_words.specs.declared.error.WordError.TheVariants.{At, NoMemory}
-use Rattle.ff_words.specs.Bounds.{IsBounded, IsPlain}
+use Rattle.ff_words.specs.Bounds.{IsBounded}
 use Rattle.ff_words.specs.Words.{fault as wrong_at, written}
 use Rattle.ff_heads.specs.declared.head.InputHead.{InputHead}
 use Rattle.ff_heads.specs.Heads.{IsHead}
@@ -36,7 +36,6 @@ pub record AreAllHeads (job : Job) (heads : List InputHead) : Type 0 where
   pub as_many : length heads ≡ length job.inputs
   pub heads_are : All IsHead heads
   pub bounded : IsBounded job
-  pub plain : IsPlain job
 
 -- the status of words that ask for nothing
 abbrev pub wrong_words : WordError → Status

@@ -1,6 +1,6 @@
 // A job over its files.
 ghost use Rattle.std.specs.Prelude.{◌≡◌, IfSome};
-ghost use Rattle.ff_words.specs.Bounds.{IsBounded, IsPlain};
+ghost use Rattle.ff_words.specs.Bounds.{IsBounded};
 ghost use Rattle.ff_files.specs.Works.{HasLog};
 ghost use Rattle.ff_command.specs.Command.{refused_plan, over, IsReported, HoldsPrinted};
 ghost use Rattle.ff_command.specs.Histories.{LogHas};
@@ -85,7 +85,6 @@ pub(crate) fn run_job<H: Host, P: Worker<Begun<H::Src>, H::Snk>>(
 ) -> JobRun
     requires able { P.is_able worker.now }
     requires bounded { IsBounded job.now }
-    requires plain { IsPlain job.now }
     ensures ran { Ran (P.means worker.now) job.now (H.files host.old) (H.files host.new)
         (record { before = H.in_faults host.old; after = H.in_faults host.new })
         (record { before = H.out_faults host.old; after = H.out_faults host.new }) result.status }

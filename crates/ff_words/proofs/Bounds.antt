@@ -1,9 +1,8 @@
 -- What holds of every job that words ask for: of what one pass keeps, by each further entry.
 use Rattle.std.proofs.Common.{◌≡◌, ℕ, ◌+◌, ◌≤◌, Bool, true, false, Option, Some, None, Result, Ok, Err, List, [], ◌∷◌, ◌++◌, length, refl, sym, ap, subst, ◌∙◌, arith, length-append}
 use Rattle.std.specs.Prelude.{codes}
-use Rattle.std.specs.Prelude.{if◌then◌else◌, not, is_some, nat_le, unwrap_or, ◌&&◌, ◌||◌, ◌==◌, map}
+use Rattle.std.specs.Prelude.{if◌then◌else◌, not, is_some, nat_le, unwrap_or, ◌==◌}
 use Rattle.std.specs.List.{AllByRecursion}
-use Rattle.std.specs.Str.{bytes_eq}
 use Rattle.ff_lang.specs.declared.graph.Graph.{Graph}
 use Rattle.ff_map.specs.declared.map.MapSpec.{MapSpec}
 use Rattle.ff_values.specs.declared.head.Codec.{Codec}
@@ -25,40 +24,25 @@ use Rattle.ff_words.specs.declared.table.Kind.TheVariants as kind
 use Rattle.ff_words.specs.declared.table.Named.{Named}
 use Rattle.ff_words.specs.declared.table.Rule.{Rule}
 use Rattle.ff_words.specs.declared.table.Table.{Table}
-use Rattle.ff_words.specs.declared.table.Table.TheVariants as table
-use Rattle.ff_words.specs.declared.table.TheConstants.{OPTIONS}
 use Rattle.ff_words.specs.declared.reader.Reader.{Reader}
-use Rattle.ff_words.specs.declared.value.Micros.{Micros}
 use Rattle.ff_words.specs.declared.value.Value.{Value}
 use Rattle.ff_words.specs.declared.value.Value.TheVariants as value
-use Rattle.ff_words.specs.Bounds.{HasFewMaps, IsBounded, IsUncut, IsPlainOutput, IsPlain}
-use Rattle.ff_words.specs.Table.{rule_in, option_named, format_named, audio_codec, video_codec, is_level}
+use Rattle.ff_words.specs.Bounds.{HasFewMaps, IsBounded}
+use Rattle.ff_words.specs.Table.{option_named, format_named, audio_codec, video_codec, is_level}
 use Rattle.ff_words.specs.Values.{Reads, ReadsWhole, ReadsTime, ReadsGraph, ReadsMap, Makes, made, switched, or_bad, format_value, codec_value, level_value, hash_value, is_spelled}
 use Rattle.ff_words.specs.Table.{format_ending}
-use Rattle.ff_words.specs.Words.{Token, Entry, fault, early, option_fault, given_fault, is_full, is_too_much, is_dashed, is_file, is_output, late, misplaced, bad_at, or_else, takes, placed, IsOption, IsNamed, IsToken, TokenReads, IsEntry, AreRead, IsAnswer, tokens, command, job, last, as_solo, end_fault, end_by, stands_alone, run_fault, groups, inputs, outputs, same_name, output_format, command_by, start_of, length_of, cut_of, first_place, not_before_input, not_before_output, not_at_end, unreadable, unwritable}
+use Rattle.ff_words.specs.Words.{Token, Entry, fault, early, option_fault, given_fault, is_full, is_too_much, is_dashed, is_file, is_output, late, misplaced, bad_at, or_else, takes, placed, IsOption, IsNamed, IsToken, TokenReads, IsEntry, AreRead, IsAnswer, tokens, command, job, last, as_solo, end_fault, end_by, stands_alone, run_fault, groups, inputs, outputs, same_name, output_format, command_by, first_place, not_before_input, not_before_output, not_at_end, unreadable, unwritable}
 use Rattle.ff_words.specs.Reading.{reader, optioned, with_input, with_output}
 use Rattle.ff_words.proofs.Snoc.{entry, filed-is, output-filed, reader-snoc, reader-input}
 use Rattle.ff_words.proofs.Steps.{early-option}
 
 -- ---- what an option of a kind reads as
 
--- the kinds whose options may read as this value
-abbrev OfSolo : Solo → Kind → Type 0
-OfSolo Help k = k ≡ kind.Help
-OfSolo Version k = k ≡ kind.Version
-OfSolo (SelfRun n) k = k ≡ kind.SelfRun
-
+-- what an option of this kind may read as: what adds up is of its own kind, and a size is in its range
 abbrev OfKind : Value → Kind → Type 0
-OfKind value.Shortest k = k ≡ kind.Shortest
 OfKind (value.Complex g) k = k ≡ kind.Complex
 OfKind (value.Queue n) k = (1 ≤ n) × (n ≤ 1024)
-OfKind (value.Trace n) k = k ≡ kind.Trace
-OfKind (value.Solo s) k = OfSolo s k
-OfKind (value.Start m) k = k ≡ kind.Start
-OfKind (value.Length m) k = k ≡ kind.Length
 OfKind (value.Map m) k = k ≡ kind.Map
-OfKind (value.VideoGraph g) k = k ≡ kind.VideoGraph
-OfKind (value.AudioGraph g) k = k ≡ kind.AudioGraph
 OfKind (value.Output n x) k = ⊥
 OfKind _ k = Unit {0}
 
@@ -99,17 +83,17 @@ reads-kind t kind.Version text v h = absurd h
 reads-kind t kind.Level text v h = of-named v kind.Level (level_value text) (of-test value.Nothing kind.Level tt (is_level text) None (of-none kind.Level)) h
 reads-kind t kind.Complex text v h = of-made value.Complex (ReadsGraph text) v kind.Complex (λ x is. refl) h
 reads-kind t kind.Queue text v h = of-made value.Queue (ReadsWhole 1 1024 text) v kind.Queue (λ x is. (is.1, is.2)) h
-reads-kind t kind.Trace text v h = (let same : value.Trace text ≡ v = cc in subst (λ x. OfKind x kind.Trace) same refl)
-reads-kind t kind.SelfRun text v h = of-made (λ n. value.Solo (SelfRun n)) (ReadsWhole 0 3600 text) v kind.SelfRun (λ x is. refl) h
+reads-kind t kind.Trace text v h = (let same : value.Trace text ≡ v = cc in subst (λ x. OfKind x kind.Trace) same tt)
+reads-kind t kind.SelfRun text v h = of-made (λ n. value.Solo (SelfRun n)) (ReadsWhole 0 3600 text) v kind.SelfRun (λ x is. tt) h
 reads-kind t kind.Format text v h = of-named v kind.Format (format_value (format_named t text)) (of-format kind.Format (format_named t text)) h
-reads-kind t kind.Start text v h = of-made value.Start (ReadsTime text) v kind.Start (λ x is. refl) h
-reads-kind t kind.Length text v h = of-made value.Length (ReadsTime text) v kind.Length (λ x is. refl) h
+reads-kind t kind.Start text v h = of-made value.Start (ReadsTime text) v kind.Start (λ x is. tt) h
+reads-kind t kind.Length text v h = of-made value.Length (ReadsTime text) v kind.Length (λ x is. tt) h
 reads-kind t kind.Input text v h = (let same : value.Input text ≡ v = cc in subst (λ x. OfKind x kind.Input) same tt)
 reads-kind t kind.Map text v h = of-made value.Map (ReadsMap text) v kind.Map (λ x is. refl) h
 reads-kind t kind.AudioCodec text v h = of-named v kind.AudioCodec (codec_value value.AudioCodec (audio_codec t text)) (of-codec value.AudioCodec kind.AudioCodec (λ c. tt) (audio_codec t text)) h
 reads-kind t kind.VideoCodec text v h = of-named v kind.VideoCodec (codec_value value.VideoCodec (video_codec t text)) (of-codec value.VideoCodec kind.VideoCodec (λ c. tt) (video_codec t text)) h
-reads-kind t kind.VideoGraph text v h = of-made value.VideoGraph (ReadsGraph text) v kind.VideoGraph (λ x is. refl) h
-reads-kind t kind.AudioGraph text v h = of-made value.AudioGraph (ReadsGraph text) v kind.AudioGraph (λ x is. refl) h
+reads-kind t kind.VideoGraph text v h = of-made value.VideoGraph (ReadsGraph text) v kind.VideoGraph (λ x is. tt) h
+reads-kind t kind.AudioGraph text v h = of-made value.AudioGraph (ReadsGraph text) v kind.AudioGraph (λ x is. tt) h
 reads-kind t kind.Hash text v h =
     of-named v kind.Hash (hash_value text)
     (of-test (value.Hash Sha256) kind.Hash tt (is_spelled text (codes "SHA256")) (if is_spelled text (codes "MD5") then Some (value.Hash Md5) else None)
@@ -121,9 +105,9 @@ switched-kind kind.Nothing w e = (let same : value.Nothing ≡ w = cc in subst (
 switched-kind kind.NoStats w e = (let same : value.Nothing ≡ w = cc in subst (λ x. OfKind x kind.NoStats) same tt)
 switched-kind kind.NoVideo w e = (let same : value.NoVideo ≡ w = cc in subst (λ x. OfKind x kind.NoVideo) same tt)
 switched-kind kind.NoAudio w e = (let same : value.NoAudio ≡ w = cc in subst (λ x. OfKind x kind.NoAudio) same tt)
-switched-kind kind.Shortest w e = (let same : value.Shortest ≡ w = cc in subst (λ x. OfKind x kind.Shortest) same refl)
-switched-kind kind.Help w e = (let same : value.Solo Help ≡ w = cc in subst (λ x. OfKind x kind.Help) same refl)
-switched-kind kind.Version w e = (let same : value.Solo Version ≡ w = cc in subst (λ x. OfKind x kind.Version) same refl)
+switched-kind kind.Shortest w e = (let same : value.Shortest ≡ w = cc in subst (λ x. OfKind x kind.Shortest) same tt)
+switched-kind kind.Help w e = (let same : value.Solo Help ≡ w = cc in subst (λ x. OfKind x kind.Help) same tt)
+switched-kind kind.Version w e = (let same : value.Solo Version ≡ w = cc in subst (λ x. OfKind x kind.Version) same tt)
 switched-kind kind.Level w e = absurd cc
 switched-kind kind.Complex w e = absurd cc
 switched-kind kind.Queue w e = absurd cc
@@ -358,175 +342,3 @@ pub bounded : (t : Table) (words : List (List ℕ)) (j : Job) → IsAnswer t wor
 bounded t words j h =
     let end = ends-run h.0 (length words) (last as_solo h.0) j refl h.2 h.3 in
     subst IsBounded (sym end.0) (bounded-job h.0 (length words) (small-all t h.0 (tokens t 0 words) h.1) end.1)
-
--- ---- what is done today
-
--- the kinds of option that the list of today has
-abbrev is_done : Kind → Bool
-is_done kind.SelfRun = false
-is_done kind.Start = false
-is_done kind.Length = false
-is_done kind.Shortest = false
-is_done _ = true
-
-abbrev Holds : Bool → Type 0
-Holds true = Unit {0}
-Holds false = ⊥
-
-abbrev IsDone : Kind → Type 0
-IsDone k = Holds (is_done k)
-
-abbrev Line : Type 0
-Line = List ℕ × Concern × Kind × Bool
-
--- a line of what is done has such a kind
-abbrev IsFineLine : Line → Type 0
-IsFineLine line = line.3 ≡ true → IsDone line.2
-
-abbrev is_fine : List Line → Bool
-is_fine [] = true
-is_fine (line ∷ list) = (not line.3 || is_done line.2) && is_fine list
-
-fine-line : (done : Bool) (k : Kind) (rest : Bool) → ((not done || is_done k) && rest) ≡ true → (done ≡ true → IsDone k) × (rest ≡ true)
-fine-line false k rest h = (λ e. absurd cc, h)
-fine-line true k rest h = fine-kind (is_done k) rest h where
-  fine-kind : (b rest : Bool) → (b && rest) ≡ true → (true ≡ true → Holds b) × (rest ≡ true)
-  fine-kind true rest h = (λ e. tt, h)
-  fine-kind false rest h = absurd cc
-
-fine-lines : (list : List Line) → is_fine list ≡ true → AllByRecursion IsFineLine list
-fine-lines [] h = tt
-fine-lines (line ∷ list) h = (let both = fine-line line.3 line.2 (is_fine list) h in (both.0, fine-lines list both.1))
-
-abbrev kind_in : Kind → Option Rule → Kind
-kind_in k None = k
-kind_in k (Some rule) = rule.kind
-
-done-line : (b c : Bool) (concern : Concern) (k : Kind) (rest : Option Rule) (rule : Rule) → (b ≡ true → IsDone k) → (rest ≡ Some rule → IsDone rule.kind)
-    → (if b && c then Some (record { concern = concern; kind = k }) else rest) ≡ Some rule → IsDone rule.kind
-done-line true true concern k rest rule here there e = (let same : k ≡ rule.kind = ap (kind_in k) e in subst IsDone same (here refl))
-done-line true false concern k rest rule here there e = there e
-done-line false c concern k rest rule here there e = there e
-
-done-in : (list : List Line) (word : List ℕ) (rule : Rule) → AllByRecursion IsFineLine list → rule_in table.Today list word ≡ Some rule → IsDone rule.kind
-done-in [] word rule fine e = absurd cc
-done-in (line ∷ list) word rule fine e = done-line line.3 (bytes_eq line.0 word) line.1 line.2 (rule_in table.Today list word) rule fine.0 (done-in list word rule fine.1) e
-
-done-kind : (word : List ℕ) (rule : Rule) → option_named table.Today word ≡ Some rule → IsDone rule.kind
-unfolding option_named
-done-kind word rule e =
-    (let list : List Line = map (λ line. (line.0.now, line.1, line.2, line.3)) OPTIONS in done-in list word rule (fine-lines list refl) e)
-
--- nothing generated is asked for
-abbrev IsNoSelfRun : Option Solo → Type 0
-IsNoSelfRun None = Unit {0}
-IsNoSelfRun (Some Help) = Unit {0}
-IsNoSelfRun (Some Version) = Unit {0}
-IsNoSelfRun (Some (SelfRun n)) = ⊥
-
--- of what a reader keeps: nothing that isn't done yet
-record Plain (solo : Option Solo) (ins : List InputJob) (outs : List OutputJob) (start length : Option Micros) (shortest : Bool) : Type 0 where
-  no_self_run : IsNoSelfRun solo
-  ins_uncut : AllByRecursion (λ (i : InputJob). IsUncut i.cut) ins
-  outs_plain : AllByRecursion IsPlainOutput outs
-  no_start : start ≡ None
-  no_length : length ≡ None
-  whole : shortest ≡ false
-
-abbrev IsPlainReader : Reader → Type 0
-IsPlainReader r = Plain r.solo r.inputs r.outputs r.pending.start r.pending.length r.pending.shortest
-
-never-done : (token : Token) (rule : Rule) (k : Kind) → option_named table.Today token.word ≡ Some rule → rule.kind ≡ k → IsDone k
-never-done token rule k named is = subst IsDone is (done-kind token.word rule named)
-
-plain-solo : (token : Token) (rule : Rule) (n : Solo) (r : Reader) → option_named table.Today token.word ≡ Some rule → OfSolo n rule.kind → IsPlainReader r → IsPlainReader (record r { solo = Some n })
-plain-solo token rule Help r named of s = record { no_self_run = tt; ins_uncut = s.ins_uncut; outs_plain = s.outs_plain; no_start = s.no_start; no_length = s.no_length; whole = s.whole }
-plain-solo token rule Version r named of s = record { no_self_run = tt; ins_uncut = s.ins_uncut; outs_plain = s.outs_plain; no_start = s.no_start; no_length = s.no_length; whole = s.whole }
-plain-solo token rule (SelfRun n) r named of s = absurd (never-done token rule kind.SelfRun named of)
-
-plain-option : (es : List Entry) (token : Token) (at : ℕ) (concern : Concern) (v : Value) → is_file v ≡ false → HasRule table.Today token v
-    → IsPlainReader (reader es) → IsPlainReader (optioned (entry at concern v) (reader es))
-plain-option es token at concern value.Nothing plain h s = s
-plain-option es token at concern value.NoVideo plain h s = s
-plain-option es token at concern value.NoAudio plain h s = s
-plain-option es token at concern value.Shortest plain h s = absurd (never-done token h.0 kind.Shortest h.2 h.3)
-plain-option es token at concern (value.Complex g) plain h s = s
-plain-option es token at concern (value.Queue n) plain h s = s
-plain-option es token at concern (value.Trace n) plain h s = s
-plain-option es token at concern (value.Solo n) plain h s = plain-solo token h.0 n (reader es) h.2 h.3 s
-plain-option es token at concern (value.Format f read written) plain h s = s
-plain-option es token at concern (value.Start m) plain h s = absurd (never-done token h.0 kind.Start h.2 h.3)
-plain-option es token at concern (value.Length m) plain h s = absurd (never-done token h.0 kind.Length h.2 h.3)
-plain-option es token at concern (value.Input n) plain h s = absurd cc
-plain-option es token at concern (value.Map m) plain h s = s
-plain-option es token at concern (value.AudioCodec c) plain h s = s
-plain-option es token at concern (value.VideoCodec c) plain h s = s
-plain-option es token at concern (value.VideoGraph g) plain h s = s
-plain-option es token at concern (value.AudioGraph g) plain h s = s
-plain-option es token at concern (value.Hash d) plain h s = s
-plain-option es token at concern (value.Output n x) plain h s = absurd cc
-
-uncut : (start length : Option Micros) → start ≡ None → length ≡ None → IsUncut (cut_of start length)
-uncut start length e f = (ap start_of e, ap length_of f)
-
-plain-input : (es : List Entry) (name : List ℕ) → IsPlainReader (reader es) → IsPlainReader (with_input name (reader es))
-plain-input es name s =
-    record {
-      no_self_run = s.no_self_run;
-      outs_plain = s.outs_plain;
-      ins_uncut = all-more (λ (i : InputJob). IsUncut i.cut) (inputs es) _ s.ins_uncut (uncut (reader es).pending.start (reader es).pending.length s.no_start s.no_length);
-      no_start = refl;
-      no_length = refl;
-      whole = refl;
-    }
-
-plain-output : (es : List Entry) (name : List ℕ) (format : FileFormat) → IsPlainReader (reader es) → IsPlainReader (with_output name format (reader es))
-plain-output es name format s =
-    record {
-      no_self_run = s.no_self_run;
-      ins_uncut = s.ins_uncut;
-      outs_plain = all-more IsPlainOutput (outputs es) _ s.outs_plain (record {
-        uncut = uncut (reader es).pending.start (reader es).pending.length s.no_start s.no_length;
-        whole = s.whole;
-      });
-      no_start = refl;
-      no_length = refl;
-      whole = refl;
-    }
-
-plain-step : (es : List Entry) (token : Token) (e : Entry) → IsEntry table.Today es token e → IsPlainReader (reader es) → IsPlainReader (reader (es ++ e ∷ []))
-plain-step es token e is s =
-    by-value table.Today IsPlainReader es token e.at e.concern e.value is.0 is.1 is.3
-    (λ plain has. plain-option es token e.at e.concern e.value plain has s)
-    (λ name fine. plain-input es name s)
-    (λ name ending format fine. plain-output es name format s)
-
-plain-none : IsPlainReader (reader [])
-plain-none = record {
-  no_self_run = tt;
-  ins_uncut = tt;
-  outs_plain = tt;
-  no_start = refl;
-  no_length = refl;
-  whole = refl;
-}
-
-plain-all : (es : List Entry) (ts : List Token) → AreRead table.Today [] ts es → IsPlainReader (reader es)
-plain-all es ts read = along table.Today (λ xs. IsPlainReader (reader xs)) plain-step [] ts es read plain-none
-
-plain-job : (es : List Entry) → IsPlainReader (reader es) → IsPlain (job es)
-plain-job es s = record { inputs = s.ins_uncut; outputs = s.outs_plain }
-
-pub plain : (words : List (List ℕ)) (j : Job) → IsAnswer table.Today words (Ok (asked.Run j)) → IsPlain j
-plain words j h =
-    let end = ends-run h.0 (length words) (last as_solo h.0) j refl h.2 h.3 in
-    subst IsPlain (sym end.0) (plain-job h.0 (plain-all h.0 (tokens table.Today 0 words) h.1))
-
-no-self : (es : List Entry) (o : Option Solo) (n : ℕ) → IsNoSelfRun o → asked.Solo (SelfRun n) ≡ command_by o es → ⊥
-no-self es (Some Help) n none is = cc
-no-self es (Some Version) n none is = cc
-no-self es (Some (SelfRun m)) n none is = none
-no-self es None n none is = cc
-
-pub never-generated : (words : List (List ℕ)) (n : ℕ) → IsAnswer table.Today words (Ok (asked.Solo (SelfRun n))) → ⊥
-never-generated words n h = no-self h.0 (last as_solo h.0) n (plain-all h.0 (tokens table.Today 0 words) h.1).no_self_run h.3

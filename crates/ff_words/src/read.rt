@@ -1,11 +1,10 @@
-ghost use Rattle.std.specs.Prelude.{◌≡◌, ◌⊎◌, ℕ, Ok, Err, IsErrOf};
-ghost use Rattle.ff_words.specs.Bounds.{IsBounded, IsPlain};
+ghost use Rattle.std.specs.Prelude.{◌≡◌, ◌⊎◌, Ok, Err, IsErrOf};
+ghost use Rattle.ff_words.specs.Bounds.{IsBounded};
 ghost use Rattle.ff_words.specs.Reading.{Answers, as_error};
 ghost use Rattle.ff_words.specs.Words.{texts, IsAnswer};
 ghost use Rattle.ff_words.specs.declared.error.Fault.{Fault};
 ghost use Rattle.ff_words.specs.declared.job.Command.{Command};
 ghost use Rattle.ff_words.specs.declared.job.Job.{Job};
-ghost use Rattle.ff_words.specs.declared.job.Solo.TheVariants.{SelfRun};
 
 use crate::error::WordError;
 use crate::job::Command;
@@ -21,8 +20,6 @@ pub fn read_words(alloc: Global, words: &[String]) -> Result<Command, WordError>
     ensures fault { (f : Fault) → IsAnswer Table.Today (texts words.now) (Err f)
         → IsErrOf result (as_error f) ⊎ IsErrOf result WordError.NoMemory }
     ensures bounded { (job : Job) → result ≡ Ok (Command.Run job) → IsBounded job }
-    ensures plain { (job : Job) → result ≡ Ok (Command.Run job) → IsPlain job }
-    ensures no_self_run { (seconds : ℕ) → result ≡ Ok (Command.Solo (SelfRun seconds)) → ⊥ }
 {
     read_words_by(alloc, Table::Today, words)
 }

@@ -110,10 +110,10 @@ pub static OPTIONS: [(&'static str, Concern, Kind, bool); 32] = [
     ("-sched_trace", Concern::All, Kind::Trace, true),
     ("-h", Concern::Alone, Kind::Help, true),
     ("-version", Concern::Alone, Kind::Version, true),
-    ("-selfrun", Concern::Alone, Kind::SelfRun, false),
+    ("-selfrun", Concern::Alone, Kind::SelfRun, true),
     ("-f", Concern::File, Kind::Format, true),
-    ("-ss", Concern::File, Kind::Start, false),
-    ("-t", Concern::File, Kind::Length, false),
+    ("-ss", Concern::File, Kind::Start, true),
+    ("-t", Concern::File, Kind::Length, true),
     ("-i", Concern::Itself, Kind::Input, true),
     ("-map", Concern::Output, Kind::Map, true),
     ("-c:a", Concern::Output, Kind::AudioCodec, true),
@@ -128,7 +128,7 @@ pub static OPTIONS: [(&'static str, Concern, Kind, bool); 32] = [
     ("-filter:a", Concern::Output, Kind::AudioGraph, true),
     ("-vn", Concern::Output, Kind::NoVideo, true),
     ("-an", Concern::Output, Kind::NoAudio, true),
-    ("-shortest", Concern::Output, Kind::Shortest, false),
+    ("-shortest", Concern::Output, Kind::Shortest, true),
     ("-hash", Concern::Output, Kind::Hash, true),
 ];
 
