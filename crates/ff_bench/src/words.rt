@@ -1,6 +1,6 @@
-//! Command lines of about 1,024 words, read by the whole list of options.
+//! Command lines of about 1,024 words.
 
-use ff_words::{Table, read_words_by};
+use ff_words::read_words;
 use std::alloc::{AllocError, Global};
 use std::io;
 use std::rt::Clock;
@@ -33,7 +33,7 @@ fn timed(rt: &(impl Print + AllocGlobal + Clock), name: &str, words: &[String]) 
     let start = Instant::now(rt)?;
     let mut read = 0u32;
     for _ in 0..READINGS {
-        if read_words_by(rt.alloc(), Table::Whole, words).is_ok() {
+        if read_words(rt.alloc(), words).is_ok() {
             read = read.wrapping_add(1);
         }
     }

@@ -8,8 +8,7 @@ use ff_lang::Graph;
 use ff_time::TimeCut;
 use ff_values::{Codec, HashKind};
 use ff_words::{
-    Command, FileFormat, InputJob, Job, OutputJob, Solo, Table, WordError, WordKind, read_words,
-    read_words_by,
+    Command, FileFormat, InputJob, Job, OutputJob, Solo, WordError, WordKind, read_words,
 };
 use std::alloc::{AllocError, Global};
 
@@ -156,14 +155,8 @@ fn shown(alloc: Global, read: Result<Command, WordError>) -> Result<String, Stop
     }
 }
 
-/// `command WORD..`: what the words ask for by the whole table.
+/// `command WORD..`: what the words ask for.
 pub fn command(words: Words) -> Result<String, Stop> {
-    let read = read_words_by(words.alloc, Table::Whole, words.all());
-    shown(words.alloc, read)
-}
-
-/// `command_today WORD..`: the same by what the command does today.
-pub fn today(words: Words) -> Result<String, Stop> {
     shown(words.alloc, read_words(words.alloc, words.all()))
 }
 
@@ -184,6 +177,5 @@ pub fn made(words: Words) -> Result<String, Stop> {
     for pair in 0..words.len() / 2 {
         add_words(words, &mut made, pair * 2)?;
     }
-    let read = read_words_by(words.alloc, Table::Whole, made.as_slice());
-    shown(words.alloc, read)
+    shown(words.alloc, read_words(words.alloc, made.as_slice()))
 }

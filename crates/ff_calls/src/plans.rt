@@ -7,7 +7,7 @@ use ff_frame::Lane;
 use ff_plan::{Edge, Plan, PlanError, PlanNode, Unbuilt, is_within_limits, plan};
 use ff_sched::Way;
 use ff_values::StreamHead;
-use ff_words::{Command, Job, Table, read_words_by};
+use ff_words::{Command, Job, read_words};
 use std::alloc::{AllocError, Global};
 
 fn show_node(alloc: Global, node: PlanNode) -> Result<String, AllocError> {
@@ -126,7 +126,7 @@ pub fn plan_of(words: Words) -> Result<String, Stop> {
     for place in at..words.len() {
         rest.push(String::from_str(alloc, words.text(place)?)?)?;
     }
-    match read_words_by(alloc, Table::Whole, rest.as_slice()) {
+    match read_words(alloc, rest.as_slice()) {
         Ok(Command::Run(job)) => planned(alloc, &job, heads.as_slice()),
         _ => Err(Stop::Unreadable),
     }

@@ -11,7 +11,6 @@ use Rattle.ff_words.specs.declared.error.Fault.{Fault}
 use Rattle.ff_words.specs.declared.error.WordError.{WordError}
 use Rattle.ff_words.specs.declared.error.WordError.TheVariants.{At, NoMemory}
 use Rattle.ff_words.specs.declared.error.WordKind.{WordKind}
-use Rattle.ff_words.specs.declared.table.Table.TheVariants.{Today}
 use Rattle.ff_words.specs.Words.{fault as wrong_at}
 use Rattle.ff_words.specs.Reading as reading
 use Rattle.ff_words.proofs.Unique.{answer-one}
@@ -30,21 +29,21 @@ use Rattle.ff_command.specs.Steps.{IsEndText, wrong_words, Comes, Ran, Answered}
 
 -- words ask for one job at most
 same-job : (words : List (List ℕ)) (job other : Job) → Ask words job → Ask words other → job ≡ other
-same-job words job other a b = (let same : (let x : Result Command Fault = Ok (asked.Run job) in x) ≡ Ok (asked.Run other) = answer-one Today words (Ok (asked.Run job)) (Ok (asked.Run other)) a b in cc)
+same-job words job other a b = (let same : (let x : Result Command Fault = Ok (asked.Run job) in x) ≡ Ok (asked.Run other) = answer-one words (Ok (asked.Run job)) (Ok (asked.Run other)) a b in cc)
 
 -- and none where they are wrong
 not-both : (words : List (List ℕ)) (job : Job) (f : Fault) → Ask words job → AreWrong words f → ⊥
-not-both words job f a w = (let same : (let x : Result Command Fault = Ok (asked.Run job) in x) ≡ Err f = answer-one Today words (Ok (asked.Run job)) (Err f) a w in cc)
+not-both words job f a w = (let same : (let x : Result Command Fault = Ok (asked.Run job) in x) ≡ Err f = answer-one words (Ok (asked.Run job)) (Err f) a w in cc)
 
 same-fault : (words : List (List ℕ)) (f g : Fault) → AreWrong words f → AreWrong words g → f ≡ g
-same-fault words f g a b = (let same : (let x : Result Command Fault = Err f in x) ≡ Err g = answer-one Today words (Err f) (Err g) a b in cc)
+same-fault words f g a b = (let same : (let x : Result Command Fault = Err f in x) ≡ Err g = answer-one words (Err f) (Err g) a b in cc)
 
 -- words that ask for what stands alone ask for no job, and aren't wrong
 pub not-alone : (words : List (List ℕ)) (job : Job) → Ask words job → AsksAlone words → ⊥
-not-alone words job a s = (let same : (let x : Result Command Fault = Ok (asked.Run job) in x) ≡ Ok (asked.Solo s.0) = answer-one Today words (Ok (asked.Run job)) (Ok (asked.Solo s.0)) a s.1 in cc)
+not-alone words job a s = (let same : (let x : Result Command Fault = Ok (asked.Run job) in x) ≡ Ok (asked.Solo s.0) = answer-one words (Ok (asked.Run job)) (Ok (asked.Solo s.0)) a s.1 in cc)
 
 alone-wrong : (words : List (List ℕ)) (f : Fault) → AsksAlone words → AreWrong words f → ⊥
-alone-wrong words f s w = (let same : (let x : Result Command Fault = Ok (asked.Solo s.0) in x) ≡ Err f = answer-one Today words (Ok (asked.Solo s.0)) (Err f) s.1 w in cc)
+alone-wrong words f s w = (let same : (let x : Result Command Fault = Ok (asked.Solo s.0) in x) ≡ Err f = answer-one words (Ok (asked.Solo s.0)) (Err f) s.1 w in cc)
 
 fault-of : (place p : ℕ) (kind k : WordKind) → status.Words place kind ≡ status.Words p k → wrong_at place kind ≡ wrong_at p k
 fault-of place p kind k e = (let a : place ≡ p = cc in (let b : kind ≡ k = cc in ap (λ n. wrong_at n kind) a ∙ ap (λ x. wrong_at p x) b))
@@ -191,6 +190,6 @@ module _ (means : Job → Meaning InputHead PlanError RunFault) where
     solo-answered answer asks (inl is) = subst (Answered means words files files ins outs) (sym is) (told-answered asks)
     solo-answered answer asks (inr is) = subst (Answered means words files files ins outs) (sym is) none-answered
 
-    pub words-answered : (error : WordError) (answer : Status) → reading.Answers Today words (Err error) → answer ≡ wrong_words error → Answered means words files files ins outs answer
+    pub words-answered : (error : WordError) (answer : Status) → reading.Answers words (Err error) → answer ≡ wrong_words error → Answered means words files files ins outs answer
     words-answered (At place kind) answer wrong is = subst (Answered means words files files ins outs) (sym is) (wrong-answered place kind wrong)
     words-answered NoMemory answer wrong is = subst (Answered means words files files ins outs) (sym is) none-answered

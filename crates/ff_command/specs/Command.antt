@@ -14,7 +14,6 @@ use Rattle.ff_words.specs.declared.job.Job.{Job}
 use Rattle.ff_words.specs.declared.job.Command.TheVariants as asked
 use Rattle.ff_words.specs.declared.job.Solo.{Solo}
 use Rattle.ff_words.specs.declared.error.Fault.{Fault}
-use Rattle.ff_words.specs.declared.table.Table.TheVariants.{Today}
 use Rattle.ff_words.specs.Words.{IsAnswer, written}
 use Rattle.ff_heads.specs.declared.head.InputHead.{InputHead}
 use Rattle.ff_heads.specs.Formats.{input_head}
@@ -36,13 +35,13 @@ use Rattle.ff_command.specs.Texts.{fault_text}
 
 -- ---- what words ask for
 
--- the words ask for this job, by the options that are done today
+-- the words ask for this job
 abbrev pub Ask : List (List ℕ) → Job → Type 0
-Ask words job = IsAnswer Today words (Ok (asked.Run job))
+Ask words job = IsAnswer words (Ok (asked.Run job))
 
 -- they ask for what an option says that stands alone
 abbrev pub AskSolo : List (List ℕ) → Solo → Type 0
-AskSolo words solo = IsAnswer Today words (Ok (asked.Solo solo))
+AskSolo words solo = IsAnswer words (Ok (asked.Solo solo))
 
 abbrev pub AsksAlone : List (List ℕ) → Type 0
 AsksAlone words = (solo : Solo) × AskSolo words solo
@@ -57,7 +56,7 @@ IfAsked words Is = (job : Job) → Ask words job → Is job
 
 -- they ask for nothing, and this is what is wrong first
 abbrev pub AreWrong : List (List ℕ) → Fault → Type 0
-AreWrong words f = IsAnswer Today words (Err f)
+AreWrong words f = IsAnswer words (Err f)
 
 -- ---- the files of a job, by number
 

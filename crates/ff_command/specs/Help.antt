@@ -1,5 +1,5 @@
 -- What is told of the command itself: the texts that `-h` and `-version` ask for.
-use Rattle.std.specs.Prelude.{ℕ, ◌-◌, Bool, true, false, ◌||◌, if◌then◌else◌, List, [], ◌∷◌, ◌++◌, length, map, replicate, codes}
+use Rattle.std.specs.Prelude.{ℕ, ◌-◌, Bool, true, false, List, [], ◌∷◌, ◌++◌, length, map, replicate, codes}
 use Rattle.ff_lists.specs.Text.{line}
 use Rattle.ff_values.specs.declared.head.Codec.{Codec}
 use Rattle.ff_words.specs.declared.job.FileFormat.{FileFormat}
@@ -7,12 +7,9 @@ use Rattle.ff_words.specs.declared.job.Solo.{Solo}
 use Rattle.ff_words.specs.declared.job.Solo.TheVariants.{Help, Version, SelfRun}
 use Rattle.ff_words.specs.declared.table.Concern.{Concern}
 use Rattle.ff_words.specs.declared.table.Concern.TheVariants as concern
-use Rattle.ff_words.specs.declared.table.Doing.{Doing}
 use Rattle.ff_words.specs.declared.table.Kind.{Kind}
 use Rattle.ff_words.specs.declared.table.Kind.TheVariants as kind
-use Rattle.ff_words.specs.declared.table.Table.TheVariants.{Today}
 use Rattle.ff_words.specs.declared.table.TheConstants.{OPTIONS, FORMATS, AUDIO_CODECS, VIDEO_CODECS}
-use Rattle.ff_words.specs.Table.{does}
 use Rattle.ff_command.specs.declared.help.TheConstants.{USAGE, ENDS, PROGRAM}
 
 -- a text at the left of so many places, before blanks
@@ -82,10 +79,9 @@ effect kind.Hash = codes "the digest of a framehash, SHA256 or MD5; SHA256 witho
 abbrev pub option_line : List ℕ → Concern → Kind → List ℕ
 option_line name c k = line (left 26 (codes "  " ++ name ++ taken k) ++ left 8 (concerned c) ++ effect k)
 
--- the lines of those that are done
-abbrev pub option_lines : List (List ℕ × Concern × Kind × Bool) → List ℕ
+abbrev pub option_lines : List (List ℕ × Concern × Kind) → List ℕ
 option_lines [] = []
-option_lines (l ∷ list) = if l.3 then option_line l.0 l.1 l.2 ++ option_lines list else option_lines list
+option_lines (l ∷ list) = option_line l.0 l.1 l.2 ++ option_lines list
 
 -- ---- formats and codecs
 
@@ -94,32 +90,30 @@ ways true true = codes "read, written"
 ways true false = codes "read"
 ways false written = codes "written"
 
--- the line of a format that is read or written
+-- the line of a format
 abbrev pub format_line : List ℕ → Bool → Bool → List ℕ
 format_line name read written = line (left 26 (codes "  " ++ name) ++ ways read written)
 
-abbrev pub format_lines : List (List ℕ × List ℕ × FileFormat × Doing × Doing) → List ℕ
+abbrev pub format_lines : List (List ℕ × List ℕ × FileFormat × Bool × Bool) → List ℕ
 format_lines [] = []
-format_lines (l ∷ list) =
-    if does Today l.3 || does Today l.4 then format_line l.0 (does Today l.3) (does Today l.4) ++ format_lines list else format_lines list
+format_lines (l ∷ list) = format_line l.0 l.3 l.4 ++ format_lines list
 
--- the lines of the codecs that are done
-abbrev pub codec_lines : List (List ℕ × Codec × Bool) → List ℕ
+abbrev pub codec_lines : List (List ℕ × Codec) → List ℕ
 codec_lines [] = []
-codec_lines (l ∷ list) = if l.2 then line (codes "  " ++ l.0) ++ codec_lines list else codec_lines list
+codec_lines (l ∷ list) = line (codes "  " ++ l.0) ++ codec_lines list
 
 -- ---- the texts
 
 unfoldable pub help_text : List ℕ
 help_text =
     all_lines (map (λ l. l.now) USAGE)
-    ++ option_lines (map (λ l. (l.0.now, l.1, l.2, l.3)) OPTIONS)
+    ++ option_lines (map (λ l. (l.0.now, l.1, l.2)) OPTIONS)
     ++ line (codes "Formats:")
     ++ format_lines (map (λ l. (l.0.now, l.1.now, l.2, l.3, l.4)) FORMATS)
     ++ line (codes "Codecs of sound:")
-    ++ codec_lines (map (λ l. (l.0.now, l.1, l.2)) AUDIO_CODECS)
+    ++ codec_lines (map (λ l. (l.0.now, l.1)) AUDIO_CODECS)
     ++ line (codes "Codecs of pictures:")
-    ++ codec_lines (map (λ l. (l.0.now, l.1, l.2)) VIDEO_CODECS)
+    ++ codec_lines (map (λ l. (l.0.now, l.1)) VIDEO_CODECS)
     ++ all_lines (map (λ l. l.now) ENDS)
 
 unfoldable pub version_text : List ℕ

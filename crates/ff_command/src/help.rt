@@ -1,16 +1,13 @@
 // What is told of the command itself, from the lists by which its words are read.
 ghost use Rattle.std.specs.Prelude.{◌≡◌, ◌++◌, OnOk, IfOk, ℕ, codes};
 ghost use Rattle.ff_lists.specs.Text.{line};
-ghost use Rattle.ff_words.specs.Table.{does, lines, formats, codecs, names};
+ghost use Rattle.ff_words.specs.Table.{lines, formats, codecs, names};
 ghost use Rattle.ff_words.specs.declared.job.Solo.TheVariants.{SelfRun};
-ghost use Rattle.ff_words.specs.declared.table.Table.TheVariants.{Today};
 ghost use Rattle.ff_command.specs.Help.{left, all_lines, concerned, taken, effect as effect_of, option_line, option_lines, ways, format_line, format_lines};
 ghost use Rattle.ff_command.specs.Help.{codec_lines, help_text, version_text, solo_text as told_of};
 
 use ff_values::Codec;
-use ff_words::{
-    AUDIO_CODECS, Concern, Doing, FORMATS, FileFormat, Kind, OPTIONS, Solo, VIDEO_CODECS,
-};
+use ff_words::{AUDIO_CODECS, Concern, FORMATS, FileFormat, Kind, OPTIONS, Solo, VIDEO_CODECS};
 use std::alloc::{AllocError, Global};
 
 /// What stands before the options.
@@ -133,15 +130,6 @@ fn way_text(read: bool, written: bool) -> &'static str
     }
 }
 
-fn is_done(doing: Doing) -> bool
-    ensures { result ≡ does Today doing }
-{
-    match doing {
-        Doing::Today => true,
-        _ => false,
-    }
-}
-
 fn push(out: &mut Vec<u8>, text: &str) -> Result<(), AllocError>
     ensures { OnOk result (out.new.items ≡ out.old.items ++ text.now) }
 {
@@ -227,14 +215,12 @@ fn push_lines(out: &mut Vec<u8>, list: &[&'static str]) -> Result<(), AllocError
 fn push_options(
     alloc: Global,
     out: &mut Vec<u8>,
-    list: &[(&'static str, Concern, Kind, bool)],
+    list: &[(&'static str, Concern, Kind)],
 ) -> Result<(), AllocError>
     ensures { OnOk result (out.new.items ≡ out.old.items ++ option_lines (lines list.now)) }
 {
-    for (name, concern, kind, done) in list.iter() {
-        if *done {
-            push_option(alloc, out, name, *concern, *kind)?;
-        }
+    for (name, concern, kind) in list.iter() {
+        push_option(alloc, out, name, *concern, *kind)?;
     }
     Ok(())
 }
@@ -242,16 +228,12 @@ fn push_options(
 fn push_formats(
     alloc: Global,
     out: &mut Vec<u8>,
-    list: &[(&'static str, &'static str, FileFormat, Doing, Doing)],
+    list: &[(&'static str, &'static str, FileFormat, bool, bool)],
 ) -> Result<(), AllocError>
     ensures { OnOk result (out.new.items ≡ out.old.items ++ format_lines (formats list.now)) }
 {
-    for (name, _ending, _format, reading, writing) in list.iter() {
-        let read = is_done(*reading);
-        let written = is_done(*writing);
-        if read || written {
-            push_format(alloc, out, name, read, written)?;
-        }
+    for (name, _ending, _format, read, written) in list.iter() {
+        push_format(alloc, out, name, *read, *written)?;
     }
     Ok(())
 }
@@ -259,14 +241,12 @@ fn push_formats(
 fn push_codecs(
     alloc: Global,
     out: &mut Vec<u8>,
-    list: &[(&'static str, Codec, bool)],
+    list: &[(&'static str, Codec)],
 ) -> Result<(), AllocError>
     ensures { OnOk result (out.new.items ≡ out.old.items ++ codec_lines (codecs list.now)) }
 {
-    for (name, _codec, done) in list.iter() {
-        if *done {
-            push_codec(alloc, out, name)?;
-        }
+    for (name, _codec) in list.iter() {
+        push_codec(alloc, out, name)?;
     }
     Ok(())
 }

@@ -23,7 +23,6 @@ use Rattle.ff_words.specs.declared.table.Kind.{Kind}
 use Rattle.ff_words.specs.declared.table.Kind.TheVariants as kind
 use Rattle.ff_words.specs.declared.table.Named.{Named}
 use Rattle.ff_words.specs.declared.table.Rule.{Rule}
-use Rattle.ff_words.specs.declared.table.Table.{Table}
 use Rattle.ff_words.specs.declared.reader.Reader.{Reader}
 use Rattle.ff_words.specs.declared.value.Value.{Value}
 use Rattle.ff_words.specs.declared.value.Value.TheVariants as value
@@ -72,29 +71,29 @@ of-test v k is false o other w e = other w e
 of-none : (k : Kind) (w : Value) → None ≡ Some w → OfKind w k
 of-none k w e = absurd cc
 
-reads-kind : (t : Table) (k : Kind) (text : List ℕ) (v : Value) → Reads t k text (Ok v) → OfKind v k
-reads-kind t kind.Nothing text v h = absurd h
-reads-kind t kind.NoStats text v h = absurd h
-reads-kind t kind.NoVideo text v h = absurd h
-reads-kind t kind.NoAudio text v h = absurd h
-reads-kind t kind.Shortest text v h = absurd h
-reads-kind t kind.Help text v h = absurd h
-reads-kind t kind.Version text v h = absurd h
-reads-kind t kind.Level text v h = of-named v kind.Level (level_value text) (of-test value.Nothing kind.Level tt (is_level text) None (of-none kind.Level)) h
-reads-kind t kind.Complex text v h = of-made value.Complex (ReadsGraph text) v kind.Complex (λ x is. refl) h
-reads-kind t kind.Queue text v h = of-made value.Queue (ReadsWhole 1 1024 text) v kind.Queue (λ x is. (is.1, is.2)) h
-reads-kind t kind.Trace text v h = (let same : value.Trace text ≡ v = cc in subst (λ x. OfKind x kind.Trace) same tt)
-reads-kind t kind.SelfRun text v h = of-made (λ n. value.Solo (SelfRun n)) (ReadsWhole 0 3600 text) v kind.SelfRun (λ x is. tt) h
-reads-kind t kind.Format text v h = of-named v kind.Format (format_value (format_named t text)) (of-format kind.Format (format_named t text)) h
-reads-kind t kind.Start text v h = of-made value.Start (ReadsTime text) v kind.Start (λ x is. tt) h
-reads-kind t kind.Length text v h = of-made value.Length (ReadsTime text) v kind.Length (λ x is. tt) h
-reads-kind t kind.Input text v h = (let same : value.Input text ≡ v = cc in subst (λ x. OfKind x kind.Input) same tt)
-reads-kind t kind.Map text v h = of-made value.Map (ReadsMap text) v kind.Map (λ x is. refl) h
-reads-kind t kind.AudioCodec text v h = of-named v kind.AudioCodec (codec_value value.AudioCodec (audio_codec t text)) (of-codec value.AudioCodec kind.AudioCodec (λ c. tt) (audio_codec t text)) h
-reads-kind t kind.VideoCodec text v h = of-named v kind.VideoCodec (codec_value value.VideoCodec (video_codec t text)) (of-codec value.VideoCodec kind.VideoCodec (λ c. tt) (video_codec t text)) h
-reads-kind t kind.VideoGraph text v h = of-made value.VideoGraph (ReadsGraph text) v kind.VideoGraph (λ x is. tt) h
-reads-kind t kind.AudioGraph text v h = of-made value.AudioGraph (ReadsGraph text) v kind.AudioGraph (λ x is. tt) h
-reads-kind t kind.Hash text v h =
+reads-kind : (k : Kind) (text : List ℕ) (v : Value) → Reads k text (Ok v) → OfKind v k
+reads-kind kind.Nothing text v h = absurd h
+reads-kind kind.NoStats text v h = absurd h
+reads-kind kind.NoVideo text v h = absurd h
+reads-kind kind.NoAudio text v h = absurd h
+reads-kind kind.Shortest text v h = absurd h
+reads-kind kind.Help text v h = absurd h
+reads-kind kind.Version text v h = absurd h
+reads-kind kind.Level text v h = of-named v kind.Level (level_value text) (of-test value.Nothing kind.Level tt (is_level text) None (of-none kind.Level)) h
+reads-kind kind.Complex text v h = of-made value.Complex (ReadsGraph text) v kind.Complex (λ x is. refl) h
+reads-kind kind.Queue text v h = of-made value.Queue (ReadsWhole 1 1024 text) v kind.Queue (λ x is. (is.1, is.2)) h
+reads-kind kind.Trace text v h = (let same : value.Trace text ≡ v = cc in subst (λ x. OfKind x kind.Trace) same tt)
+reads-kind kind.SelfRun text v h = of-made (λ n. value.Solo (SelfRun n)) (ReadsWhole 0 3600 text) v kind.SelfRun (λ x is. tt) h
+reads-kind kind.Format text v h = of-named v kind.Format (format_value (format_named text)) (of-format kind.Format (format_named text)) h
+reads-kind kind.Start text v h = of-made value.Start (ReadsTime text) v kind.Start (λ x is. tt) h
+reads-kind kind.Length text v h = of-made value.Length (ReadsTime text) v kind.Length (λ x is. tt) h
+reads-kind kind.Input text v h = (let same : value.Input text ≡ v = cc in subst (λ x. OfKind x kind.Input) same tt)
+reads-kind kind.Map text v h = of-made value.Map (ReadsMap text) v kind.Map (λ x is. refl) h
+reads-kind kind.AudioCodec text v h = of-named v kind.AudioCodec (codec_value value.AudioCodec (audio_codec text)) (of-codec value.AudioCodec kind.AudioCodec (λ c. tt) (audio_codec text)) h
+reads-kind kind.VideoCodec text v h = of-named v kind.VideoCodec (codec_value value.VideoCodec (video_codec text)) (of-codec value.VideoCodec kind.VideoCodec (λ c. tt) (video_codec text)) h
+reads-kind kind.VideoGraph text v h = of-made value.VideoGraph (ReadsGraph text) v kind.VideoGraph (λ x is. tt) h
+reads-kind kind.AudioGraph text v h = of-made value.AudioGraph (ReadsGraph text) v kind.AudioGraph (λ x is. tt) h
+reads-kind kind.Hash text v h =
     of-named v kind.Hash (hash_value text)
     (of-test (value.Hash Sha256) kind.Hash tt (is_spelled text (codes "SHA256")) (if is_spelled text (codes "MD5") then Some (value.Hash Md5) else None)
     (of-test (value.Hash Md5) kind.Hash tt (is_spelled text (codes "MD5")) None (of-none kind.Hash)))
@@ -124,30 +123,30 @@ switched-kind kind.VideoGraph w e = absurd cc
 switched-kind kind.AudioGraph w e = absurd cc
 switched-kind kind.Hash w e = absurd cc
 
-placed-kind : (t : Table) (at : ℕ) (rule : Rule) (text : List ℕ) (v : Value) (read : Result Value WordKind) → Reads t rule.kind text read → Ok v ≡ placed (at + 1) read → OfKind v rule.kind
-placed-kind t at rule text v (Ok w) reads e = (let same : w ≡ v = cc in reads-kind t rule.kind text v (subst (λ x. Reads t rule.kind text (Ok x)) same reads))
-placed-kind t at rule text v (Err k) reads e = absurd cc
+placed-kind : (at : ℕ) (rule : Rule) (text : List ℕ) (v : Value) (read : Result Value WordKind) → Reads rule.kind text read → Ok v ≡ placed (at + 1) read → OfKind v rule.kind
+placed-kind at rule text v (Ok w) reads e = (let same : w ≡ v = cc in reads-kind rule.kind text v (subst (λ x. Reads rule.kind text (Ok x)) same reads))
+placed-kind at rule text v (Err k) reads e = absurd cc
 
-option-kind : (t : Table) (at : ℕ) (rule : Rule) (o : Option Value) (given : Option (List ℕ)) (concern : Concern) (v : Value) → switched rule.kind ≡ o → IsOption t at rule o given concern (Ok v) → OfKind v rule.kind
-option-kind t at rule (Some w) given concern v s h = (let same : w ≡ v = (let e : Ok v ≡ Ok w = h.1 in cc) in subst (λ x. OfKind x rule.kind) same (switched-kind rule.kind w s))
-option-kind t at rule None None concern v s h = absurd h
-option-kind t at rule None (Some text) concern v s h = placed-kind t at rule text v h.1 h.2 h.3
+option-kind : (at : ℕ) (rule : Rule) (o : Option Value) (given : Option (List ℕ)) (concern : Concern) (v : Value) → switched rule.kind ≡ o → IsOption at rule o given concern (Ok v) → OfKind v rule.kind
+option-kind at rule (Some w) given concern v s h = (let same : w ≡ v = (let e : Ok v ≡ Ok w = h.1 in cc) in subst (λ x. OfKind x rule.kind) same (switched-kind rule.kind w s))
+option-kind at rule None None concern v s h = absurd h
+option-kind at rule None (Some text) concern v s h = placed-kind at rule text v h.1 h.2 h.3
 
 -- a value that is no output is that of an option in the list
-abbrev HasRule : Table → Token → Value → Type 0
-HasRule t token v = (rule : Rule) × (is_dashed token.word ≡ true) × (option_named t token.word ≡ Some rule) × OfKind v rule.kind
+abbrev HasRule : Token → Value → Type 0
+HasRule token v = (rule : Rule) × (is_dashed token.word ≡ true) × (option_named token.word ≡ Some rule) × OfKind v rule.kind
 
-named-rule : (t : Table) (token : Token) (o : Option Rule) (concern : Concern) (v : Value) → is_dashed token.word ≡ true → option_named t token.word ≡ o → IsNamed t token o concern (Ok v) → HasRule t token v
-named-rule t token None concern v dashed named h = absurd h
-named-rule t token (Some rule) concern v dashed named h = (rule, dashed, named, option-kind t token.at rule (switched rule.kind) token.value concern v refl h)
+named-rule : (token : Token) (o : Option Rule) (concern : Concern) (v : Value) → is_dashed token.word ≡ true → option_named token.word ≡ o → IsNamed token o concern (Ok v) → HasRule token v
+named-rule token None concern v dashed named h = absurd h
+named-rule token (Some rule) concern v dashed named h = (rule, dashed, named, option-kind token.at rule (switched rule.kind) token.value concern v refl h)
 
 abbrev is_written : Value → Bool
 is_written (value.Output name ending) = true
 is_written _ = false
 
-token-rule : (t : Table) (token : Token) (b : Bool) (concern : Concern) (v : Value) → is_dashed token.word ≡ b → is_written v ≡ false → IsToken t token b concern (Ok v) → HasRule t token v
-token-rule t token false concern v dashed not_written h = absurd (let same : v ≡ value.Output token.word (format_ending t token.word) = (let e = h.1 in cc) in (let w : is_written v ≡ true = ap is_written same in cc))
-token-rule t token true concern v dashed not_written h = named-rule t token (option_named t token.word) concern v dashed refl h
+token-rule : (token : Token) (b : Bool) (concern : Concern) (v : Value) → is_dashed token.word ≡ b → is_written v ≡ false → IsToken token b concern (Ok v) → HasRule token v
+token-rule token false concern v dashed not_written h = absurd (let same : v ≡ value.Output token.word (format_ending token.word) = (let e = h.1 in cc) in (let w : is_written v ≡ true = ap is_written same in cc))
+token-rule token true concern v dashed not_written h = named-rule token (option_named token.word) concern v dashed refl h
 
 -- ---- what the faults of a token leave
 
@@ -167,12 +166,12 @@ given-room es at k None e = absurd cc
 given-room es at k (Some v) e = (none-of (is_full es k) (fault at TooMany) (if is_too_much (at + 1) v then Some (fault (at + 1) TooMany) else None) e).0
 
 -- a token whose option adds up isn't one too many
-has-room : (t : Table) (es : List Entry) (token : Token) (rule : Rule) → early t es token ≡ None → is_dashed token.word ≡ true → option_named t token.word ≡ Some rule → takes (Some rule) ≡ true
+has-room : (es : List Entry) (token : Token) (rule : Rule) → early es token ≡ None → is_dashed token.word ≡ true → option_named token.word ≡ Some rule → takes (Some rule) ≡ true
     → is_full es rule.kind ≡ false
-has-room t es token rule fine dashed named valued =
-    let short : is_too_much token.at token.word ≡ false = (none-of (is_too_much token.at token.word) (fault token.at TooMany) (if is_dashed token.word then option_fault es token (option_named t token.word) else None) fine).0 in
+has-room es token rule fine dashed named valued =
+    let short : is_too_much token.at token.word ≡ false = (none-of (is_too_much token.at token.word) (fault token.at TooMany) (if is_dashed token.word then option_fault es token (option_named token.word) else None) fine).0 in
     let given : given_fault es token.at rule.kind token.value ≡ None =
-    ap (λ b. if b then given_fault es token.at rule.kind token.value else None) (sym valued) ∙ (sym (early-option t es token rule short dashed named) ∙ fine) in
+    ap (λ b. if b then given_fault es token.at rule.kind token.value else None) (sym valued) ∙ (sym (early-option es token rule short dashed named) ∙ fine) in
     given-room es token.at rule.kind token.value given
 
 -- ---- how many there are
@@ -197,34 +196,34 @@ all-more : {X : Type 0} (P : X → Type 0) (xs : List X) (x : X) → AllByRecurs
 all-more P [] x all is = (is, tt)
 all-more P (y ∷ xs) x all is = (all.0, all-more P xs x all.1 is)
 
-kind-room : (t : Table) (es : List Entry) (token : Token) (rule : Rule) (k : Kind) → early t es token ≡ None → is_dashed token.word ≡ true → option_named t token.word ≡ Some rule → rule.kind ≡ k → switched k ≡ None
+kind-room : (es : List Entry) (token : Token) (rule : Rule) (k : Kind) → early es token ≡ None → is_dashed token.word ≡ true → option_named token.word ≡ Some rule → rule.kind ≡ k → switched k ≡ None
     → is_full es k ≡ false
-kind-room t es token rule k fine dashed named is valued =
+kind-room es token rule k fine dashed named is valued =
     subst (λ l. is_full es l ≡ false) is
-    (has-room t es token rule fine dashed named (ap (λ l. not (is_some (switched l))) is ∙ ap (λ o. not (is_some o)) valued))
+    (has-room es token rule fine dashed named (ap (λ l. not (is_some (switched l))) is ∙ ap (λ o. not (is_some o)) valued))
 
 -- an option that waits or concerns all
-small-option : (t : Table) (es : List Entry) (token : Token) (at : ℕ) (concern : Concern) (v : Value) → is_file v ≡ false → early t es token ≡ None → HasRule t token v
+small-option : (es : List Entry) (token : Token) (at : ℕ) (concern : Concern) (v : Value) → is_file v ≡ false → early es token ≡ None → HasRule token v
     → Small (reader es) → Small (optioned (entry at concern v) (reader es))
-small-option t es token at concern value.Nothing plain fine h s = s
-small-option t es token at concern value.NoVideo plain fine h s = s
-small-option t es token at concern value.NoAudio plain fine h s = s
-small-option t es token at concern value.Shortest plain fine h s = s
-small-option t es token at concern (value.Complex g) plain fine h s = record { some_queue = s.some_queue; short_queue = s.short_queue; few_graphs = one-more (reader es).graphs g (not-full (length (reader es).graphs) (kind-room t es token h.0 kind.Complex fine h.1 h.2 h.3 refl)); few_inputs = s.few_inputs; few_outputs = s.few_outputs; few_maps = s.few_maps; few_waiting = s.few_waiting }
-small-option t es token at concern (value.Queue n) plain fine h s = record { some_queue = h.3.0; short_queue = h.3.1; few_graphs = s.few_graphs; few_inputs = s.few_inputs; few_outputs = s.few_outputs; few_maps = s.few_maps; few_waiting = s.few_waiting }
-small-option t es token at concern (value.Trace n) plain fine h s = s
-small-option t es token at concern (value.Solo n) plain fine h s = s
-small-option t es token at concern (value.Format f read written) plain fine h s = s
-small-option t es token at concern (value.Start m) plain fine h s = s
-small-option t es token at concern (value.Length m) plain fine h s = s
-small-option t es token at concern (value.Input n) plain fine h s = absurd cc
-small-option t es token at concern (value.Map m) plain fine h s = record { some_queue = s.some_queue; short_queue = s.short_queue; few_graphs = s.few_graphs; few_inputs = s.few_inputs; few_outputs = s.few_outputs; few_maps = s.few_maps; few_waiting = one-more (reader es).pending.maps m (not-full (length (reader es).pending.maps) (kind-room t es token h.0 kind.Map fine h.1 h.2 h.3 refl)) }
-small-option t es token at concern (value.AudioCodec c) plain fine h s = s
-small-option t es token at concern (value.VideoCodec c) plain fine h s = s
-small-option t es token at concern (value.VideoGraph g) plain fine h s = s
-small-option t es token at concern (value.AudioGraph g) plain fine h s = s
-small-option t es token at concern (value.Hash d) plain fine h s = s
-small-option t es token at concern (value.Output n x) plain fine h s = absurd cc
+small-option es token at concern value.Nothing plain fine h s = s
+small-option es token at concern value.NoVideo plain fine h s = s
+small-option es token at concern value.NoAudio plain fine h s = s
+small-option es token at concern value.Shortest plain fine h s = s
+small-option es token at concern (value.Complex g) plain fine h s = record { some_queue = s.some_queue; short_queue = s.short_queue; few_graphs = one-more (reader es).graphs g (not-full (length (reader es).graphs) (kind-room es token h.0 kind.Complex fine h.1 h.2 h.3 refl)); few_inputs = s.few_inputs; few_outputs = s.few_outputs; few_maps = s.few_maps; few_waiting = s.few_waiting }
+small-option es token at concern (value.Queue n) plain fine h s = record { some_queue = h.3.0; short_queue = h.3.1; few_graphs = s.few_graphs; few_inputs = s.few_inputs; few_outputs = s.few_outputs; few_maps = s.few_maps; few_waiting = s.few_waiting }
+small-option es token at concern (value.Trace n) plain fine h s = s
+small-option es token at concern (value.Solo n) plain fine h s = s
+small-option es token at concern (value.Format f read written) plain fine h s = s
+small-option es token at concern (value.Start m) plain fine h s = s
+small-option es token at concern (value.Length m) plain fine h s = s
+small-option es token at concern (value.Input n) plain fine h s = absurd cc
+small-option es token at concern (value.Map m) plain fine h s = record { some_queue = s.some_queue; short_queue = s.short_queue; few_graphs = s.few_graphs; few_inputs = s.few_inputs; few_outputs = s.few_outputs; few_maps = s.few_maps; few_waiting = one-more (reader es).pending.maps m (not-full (length (reader es).pending.maps) (kind-room es token h.0 kind.Map fine h.1 h.2 h.3 refl)) }
+small-option es token at concern (value.AudioCodec c) plain fine h s = s
+small-option es token at concern (value.VideoCodec c) plain fine h s = s
+small-option es token at concern (value.VideoGraph g) plain fine h s = s
+small-option es token at concern (value.AudioGraph g) plain fine h s = s
+small-option es token at concern (value.Hash d) plain fine h s = s
+small-option es token at concern (value.Output n x) plain fine h s = absurd cc
 
 small-input : (es : List Entry) (at : ℕ) (name : List ℕ) → late es at (value.Input name) ≡ None → Small (reader es) → Small (with_input name (reader es))
 small-input es at name fine s =
@@ -256,49 +255,49 @@ small-output es at name ending format fine s =
 -- ---- by each further entry
 
 -- what holds of what was read behind no entry, and behind one more holds still, holds behind all
-along : (t : Table) (P : List Entry → Type 0) → ((es : List Entry) (token : Token) (e : Entry) → IsEntry t es token e → P es → P (es ++ e ∷ []))
-    → (es : List Entry) (ts : List Token) (all : List Entry) → AreRead t es ts all → P es → P all
-along t P step es [] all read p = subst P read p
-along t P step es (token ∷ ts) all read p = along t P step (es ++ read.0 ∷ []) ts all read.2 (step es token read.0 read.1 p)
+along : (P : List Entry → Type 0) → ((es : List Entry) (token : Token) (e : Entry) → IsEntry es token e → P es → P (es ++ e ∷ []))
+    → (es : List Entry) (ts : List Token) (all : List Entry) → AreRead es ts all → P es → P all
+along P step es [] all read p = subst P read p
+along P step es (token ∷ ts) all read p = along P step (es ++ read.0 ∷ []) ts all read.2 (step es token read.0 read.1 p)
 
 -- one more entry, by whether it is a file
-by-value : (t : Table) (P : Reader → Type 0) (es : List Entry) (token : Token) (at : ℕ) (concern : Concern) (v : Value) → early t es token ≡ None → TokenReads t token concern (Ok v) → late es token.at v ≡ None
-    → (is_file v ≡ false → HasRule t token v → P (optioned (entry at concern v) (reader es)))
+by-value : (P : Reader → Type 0) (es : List Entry) (token : Token) (at : ℕ) (concern : Concern) (v : Value) → early es token ≡ None → TokenReads token concern (Ok v) → late es token.at v ≡ None
+    → (is_file v ≡ false → HasRule token v → P (optioned (entry at concern v) (reader es)))
     → ((name : List ℕ) → late es token.at (value.Input name) ≡ None → P (with_input name (reader es)))
     → ((name : List ℕ) (ending : Option FileFormat) (format : FileFormat) → late es token.at (value.Output name ending) ≡ None → P (with_output name format (reader es)))
     → P (reader (es ++ entry at concern v ∷ []))
-by-value t P es token at concern value.Nothing before reads fine option ins outs = subst P (sym (reader-snoc es (entry at concern value.Nothing) refl)) (option refl (token-rule t token (is_dashed token.word) concern value.Nothing refl refl reads))
-by-value t P es token at concern value.NoVideo before reads fine option ins outs = subst P (sym (reader-snoc es (entry at concern value.NoVideo) refl)) (option refl (token-rule t token (is_dashed token.word) concern value.NoVideo refl refl reads))
-by-value t P es token at concern value.NoAudio before reads fine option ins outs = subst P (sym (reader-snoc es (entry at concern value.NoAudio) refl)) (option refl (token-rule t token (is_dashed token.word) concern value.NoAudio refl refl reads))
-by-value t P es token at concern value.Shortest before reads fine option ins outs = subst P (sym (reader-snoc es (entry at concern value.Shortest) refl)) (option refl (token-rule t token (is_dashed token.word) concern value.Shortest refl refl reads))
-by-value t P es token at concern (value.Complex g) before reads fine option ins outs = subst P (sym (reader-snoc es (entry at concern (value.Complex g)) refl)) (option refl (token-rule t token (is_dashed token.word) concern (value.Complex g) refl refl reads))
-by-value t P es token at concern (value.Queue n) before reads fine option ins outs = subst P (sym (reader-snoc es (entry at concern (value.Queue n)) refl)) (option refl (token-rule t token (is_dashed token.word) concern (value.Queue n) refl refl reads))
-by-value t P es token at concern (value.Trace n) before reads fine option ins outs = subst P (sym (reader-snoc es (entry at concern (value.Trace n)) refl)) (option refl (token-rule t token (is_dashed token.word) concern (value.Trace n) refl refl reads))
-by-value t P es token at concern (value.Solo n) before reads fine option ins outs = subst P (sym (reader-snoc es (entry at concern (value.Solo n)) refl)) (option refl (token-rule t token (is_dashed token.word) concern (value.Solo n) refl refl reads))
-by-value t P es token at concern (value.Format f read written) before reads fine option ins outs = subst P (sym (reader-snoc es (entry at concern (value.Format f read written)) refl)) (option refl (token-rule t token (is_dashed token.word) concern (value.Format f read written) refl refl reads))
-by-value t P es token at concern (value.Start m) before reads fine option ins outs = subst P (sym (reader-snoc es (entry at concern (value.Start m)) refl)) (option refl (token-rule t token (is_dashed token.word) concern (value.Start m) refl refl reads))
-by-value t P es token at concern (value.Length m) before reads fine option ins outs = subst P (sym (reader-snoc es (entry at concern (value.Length m)) refl)) (option refl (token-rule t token (is_dashed token.word) concern (value.Length m) refl refl reads))
-by-value t P es token at concern (value.Input n) before reads fine option ins outs = subst P (sym (reader-input es at concern n)) (ins n fine)
-by-value t P es token at concern (value.Map m) before reads fine option ins outs = subst P (sym (reader-snoc es (entry at concern (value.Map m)) refl)) (option refl (token-rule t token (is_dashed token.word) concern (value.Map m) refl refl reads))
-by-value t P es token at concern (value.AudioCodec c) before reads fine option ins outs = subst P (sym (reader-snoc es (entry at concern (value.AudioCodec c)) refl)) (option refl (token-rule t token (is_dashed token.word) concern (value.AudioCodec c) refl refl reads))
-by-value t P es token at concern (value.VideoCodec c) before reads fine option ins outs = subst P (sym (reader-snoc es (entry at concern (value.VideoCodec c)) refl)) (option refl (token-rule t token (is_dashed token.word) concern (value.VideoCodec c) refl refl reads))
-by-value t P es token at concern (value.VideoGraph g) before reads fine option ins outs = subst P (sym (reader-snoc es (entry at concern (value.VideoGraph g)) refl)) (option refl (token-rule t token (is_dashed token.word) concern (value.VideoGraph g) refl refl reads))
-by-value t P es token at concern (value.AudioGraph g) before reads fine option ins outs = subst P (sym (reader-snoc es (entry at concern (value.AudioGraph g)) refl)) (option refl (token-rule t token (is_dashed token.word) concern (value.AudioGraph g) refl refl reads))
-by-value t P es token at concern (value.Hash h) before reads fine option ins outs = subst P (sym (reader-snoc es (entry at concern (value.Hash h)) refl)) (option refl (token-rule t token (is_dashed token.word) concern (value.Hash h) refl refl reads))
-by-value t P es token at concern (value.Output n x) before reads fine option ins outs = subst P (sym (filed-is es (entry at concern (value.Output n x)) refl ∙ output-filed n x es)) (outs n x (unwrap_or (output_format (groups es).behind x) FrameHash) fine)
+by-value P es token at concern value.Nothing before reads fine option ins outs = subst P (sym (reader-snoc es (entry at concern value.Nothing) refl)) (option refl (token-rule token (is_dashed token.word) concern value.Nothing refl refl reads))
+by-value P es token at concern value.NoVideo before reads fine option ins outs = subst P (sym (reader-snoc es (entry at concern value.NoVideo) refl)) (option refl (token-rule token (is_dashed token.word) concern value.NoVideo refl refl reads))
+by-value P es token at concern value.NoAudio before reads fine option ins outs = subst P (sym (reader-snoc es (entry at concern value.NoAudio) refl)) (option refl (token-rule token (is_dashed token.word) concern value.NoAudio refl refl reads))
+by-value P es token at concern value.Shortest before reads fine option ins outs = subst P (sym (reader-snoc es (entry at concern value.Shortest) refl)) (option refl (token-rule token (is_dashed token.word) concern value.Shortest refl refl reads))
+by-value P es token at concern (value.Complex g) before reads fine option ins outs = subst P (sym (reader-snoc es (entry at concern (value.Complex g)) refl)) (option refl (token-rule token (is_dashed token.word) concern (value.Complex g) refl refl reads))
+by-value P es token at concern (value.Queue n) before reads fine option ins outs = subst P (sym (reader-snoc es (entry at concern (value.Queue n)) refl)) (option refl (token-rule token (is_dashed token.word) concern (value.Queue n) refl refl reads))
+by-value P es token at concern (value.Trace n) before reads fine option ins outs = subst P (sym (reader-snoc es (entry at concern (value.Trace n)) refl)) (option refl (token-rule token (is_dashed token.word) concern (value.Trace n) refl refl reads))
+by-value P es token at concern (value.Solo n) before reads fine option ins outs = subst P (sym (reader-snoc es (entry at concern (value.Solo n)) refl)) (option refl (token-rule token (is_dashed token.word) concern (value.Solo n) refl refl reads))
+by-value P es token at concern (value.Format f read written) before reads fine option ins outs = subst P (sym (reader-snoc es (entry at concern (value.Format f read written)) refl)) (option refl (token-rule token (is_dashed token.word) concern (value.Format f read written) refl refl reads))
+by-value P es token at concern (value.Start m) before reads fine option ins outs = subst P (sym (reader-snoc es (entry at concern (value.Start m)) refl)) (option refl (token-rule token (is_dashed token.word) concern (value.Start m) refl refl reads))
+by-value P es token at concern (value.Length m) before reads fine option ins outs = subst P (sym (reader-snoc es (entry at concern (value.Length m)) refl)) (option refl (token-rule token (is_dashed token.word) concern (value.Length m) refl refl reads))
+by-value P es token at concern (value.Input n) before reads fine option ins outs = subst P (sym (reader-input es at concern n)) (ins n fine)
+by-value P es token at concern (value.Map m) before reads fine option ins outs = subst P (sym (reader-snoc es (entry at concern (value.Map m)) refl)) (option refl (token-rule token (is_dashed token.word) concern (value.Map m) refl refl reads))
+by-value P es token at concern (value.AudioCodec c) before reads fine option ins outs = subst P (sym (reader-snoc es (entry at concern (value.AudioCodec c)) refl)) (option refl (token-rule token (is_dashed token.word) concern (value.AudioCodec c) refl refl reads))
+by-value P es token at concern (value.VideoCodec c) before reads fine option ins outs = subst P (sym (reader-snoc es (entry at concern (value.VideoCodec c)) refl)) (option refl (token-rule token (is_dashed token.word) concern (value.VideoCodec c) refl refl reads))
+by-value P es token at concern (value.VideoGraph g) before reads fine option ins outs = subst P (sym (reader-snoc es (entry at concern (value.VideoGraph g)) refl)) (option refl (token-rule token (is_dashed token.word) concern (value.VideoGraph g) refl refl reads))
+by-value P es token at concern (value.AudioGraph g) before reads fine option ins outs = subst P (sym (reader-snoc es (entry at concern (value.AudioGraph g)) refl)) (option refl (token-rule token (is_dashed token.word) concern (value.AudioGraph g) refl refl reads))
+by-value P es token at concern (value.Hash h) before reads fine option ins outs = subst P (sym (reader-snoc es (entry at concern (value.Hash h)) refl)) (option refl (token-rule token (is_dashed token.word) concern (value.Hash h) refl refl reads))
+by-value P es token at concern (value.Output n x) before reads fine option ins outs = subst P (sym (filed-is es (entry at concern (value.Output n x)) refl ∙ output-filed n x es)) (outs n x (unwrap_or (output_format (groups es).behind x) FrameHash) fine)
 
-small-step : (t : Table) (es : List Entry) (token : Token) (e : Entry) → IsEntry t es token e → Small (reader es) → Small (reader (es ++ e ∷ []))
-small-step t es token e is s =
-    by-value t Small es token e.at e.concern e.value is.0 is.1 is.3
-    (λ plain has. small-option t es token e.at e.concern e.value plain is.0 has s)
+small-step : (es : List Entry) (token : Token) (e : Entry) → IsEntry es token e → Small (reader es) → Small (reader (es ++ e ∷ []))
+small-step es token e is s =
+    by-value Small es token e.at e.concern e.value is.0 is.1 is.3
+    (λ plain has. small-option es token e.at e.concern e.value plain is.0 has s)
     (λ name fine. small-input es token.at name fine s)
     (λ name ending format fine. small-output es token.at name ending format fine s)
 
 small-none : Small (reader [])
 small-none = record { some_queue = omega arith; short_queue = omega arith; few_graphs = omega arith; few_inputs = omega arith; few_outputs = omega arith; few_maps = tt; few_waiting = omega arith }
 
-small-all : (t : Table) (es : List Entry) (ts : List Token) → AreRead t [] ts es → Small (reader es)
-small-all t es ts read = along t (λ xs. Small (reader xs)) (small-step t) [] ts es read small-none
+small-all : (es : List Entry) (ts : List Token) → AreRead [] ts es → Small (reader es)
+small-all es ts read = along (λ xs. Small (reader xs)) small-step [] ts es read small-none
 
 -- ---- the end
 
@@ -338,7 +337,7 @@ ends-run es count None j self fine is =
     let ended : end_by count (command es) ≡ None = none-behind (first_place not_at_end (groups es).behind) (end_by count (command es)) behind in
     (cc, ap (λ c. end_by count (command_by c es)) (sym self) ∙ ended)
 
-pub bounded : (t : Table) (words : List (List ℕ)) (j : Job) → IsAnswer t words (Ok (asked.Run j)) → IsBounded j
-bounded t words j h =
+pub bounded : (words : List (List ℕ)) (j : Job) → IsAnswer words (Ok (asked.Run j)) → IsBounded j
+bounded words j h =
     let end = ends-run h.0 (length words) (last as_solo h.0) j refl h.2 h.3 in
-    subst IsBounded (sym end.0) (bounded-job h.0 (length words) (small-all t h.0 (tokens t 0 words) h.1) end.1)
+    subst IsBounded (sym end.0) (bounded-job h.0 (length words) (small-all h.0 (tokens 0 words) h.1) end.1)

@@ -6,7 +6,6 @@ use Rattle.ff_words.specs.declared.table.Concern.{Concern}
 use Rattle.ff_words.specs.declared.table.Concern.TheVariants.{Itself}
 use Rattle.ff_words.specs.declared.table.Kind.{Kind}
 use Rattle.ff_words.specs.declared.table.Kind.TheVariants as kind
-use Rattle.ff_words.specs.declared.table.Table.TheVariants as table
 use Rattle.ff_words.specs.declared.table.Rule.{Rule}
 use Rattle.ff_words.specs.declared.value.Value.{Value}
 use Rattle.ff_words.specs.declared.value.Value.TheVariants as value
@@ -24,11 +23,11 @@ use Rattle.ff_words.proofs.Tokens.{token-given, token-switch, token-output, valu
 -- some front of the words was read, and these stand behind it
 pub record Goes (ws : List (List ℕ)) (rest : List (List ℕ)) (r : Reader) : Type 0 where
   pub at : ℕ
-  pub stands : Stands table.Whole ws at r
+  pub stands : Stands ws at r
   pub behind : drop at ws ≡ rest
 
 pub goes-start : (ws : List (List ℕ)) → Goes ws ws (reader [])
-goes-start ws = record { at = 0; stands = stands-start table.Whole ws (reader []) refl; behind = refl }
+goes-start ws = record { at = 0; stands = stands-start ws (reader []) refl; behind = refl }
 
 pub goes-by : (ws rest others : List (List ℕ)) (r : Reader) → rest ≡ others → Goes ws rest r → Goes ws others r
 goes-by ws rest others r e g = record { at = g.at; stands = g.stands; behind = g.behind ∙ e }
@@ -70,8 +69,8 @@ abbrev Text : Type 0
 Text = List ℕ
 
 -- the step over the words there, whatever the value makes of the reader
-given-step : (ws : List Text) (few : length ws ≤ 1024) (at : ℕ) (w v : Text) (rest : List Text) (r new : Reader) (rl : Rule) (x : Value) (s : Stands table.Whole ws at r) → drop at ws ≡ w ∷ v ∷ rest
-    → is_dashed w ≡ true → option_named table.Whole w ≡ Some rl → switched rl.kind ≡ None → length w ≤ 65536 → length v ≤ 65536 → full rl.kind r ≡ false → Reads table.Whole rl.kind v (Ok x)
+given-step : (ws : List Text) (few : length ws ≤ 1024) (at : ℕ) (w v : Text) (rest : List Text) (r new : Reader) (rl : Rule) (x : Value) (s : Stands ws at r) → drop at ws ≡ w ∷ v ∷ rest
+    → is_dashed w ≡ true → option_named w ≡ Some rl → switched rl.kind ≡ None → length w ≤ 65536 → length v ≤ 65536 → full rl.kind r ≡ false → Reads rl.kind v (Ok x)
     → Taken s.es at rl.concern x (Ok tt) new → Goes ws rest new
 given-step ws few at w v rest r new rl x s h dashed named valued short small room reads taken =
     let there : at < length ws = some-there ws at w (v ∷ rest) h in
@@ -80,31 +79,31 @@ given-step ws few at w v rest r new rl x s h dashed named valued short small roo
     let there2 : at + 1 < length ws = some-there ws (at + 1) v rest behind in
     let is2 : word_at ws (at + 1) ≡ v = word-is ws (at + 1) v rest behind in
     let given : slice_get ws (at + 1) ≡ Some (word_at ws (at + 1)) = get_there ws (at + 1) there2 in
-    let named' : option_named table.Whole (word_at ws at) ≡ Some rl = ap (option_named table.Whole) is ∙ named in
-    let token_value : (token_at table.Whole ws at).value ≡ Some (word_at ws (at + 1)) = value-is table.Whole ws at rl named' valued ∙ given in
-    let wide : at + 2 ≡ at + width (token_at table.Whole ws at).value = ap (λ o. at + width o) (sym token_value) in
+    let named' : option_named (word_at ws at) ≡ Some rl = ap option_named is ∙ named in
+    let token_value : (token_at ws at).value ≡ Some (word_at ws (at + 1)) = value-is ws at rl named' valued ∙ given in
+    let wide : at + 2 ≡ at + width (token_at ws at).value = ap (λ o. at + width o) (sym token_value) in
     let value_short : is_too_much (at + 1) (word_at ws (at + 1)) ≡ false = ap (is_too_much (at + 1)) is2 ∙ fits (at + 1) v (omega (arith, there2, few)) small in
-    let reads' : Reads table.Whole rl.kind (word_at ws (at + 1)) (Ok x) = subst (λ t. Reads table.Whole rl.kind t (Ok x)) (sym is2) reads in
-    let step : Steps table.Whole s.es (token_at table.Whole ws at) (Ok tt) new =
-    token-given table.Whole s.es ws at rl (Ok tt) new (ap (is_too_much at) is ∙ fits at w (omega (arith, there, few)) short) (ap is_dashed is ∙ dashed) named' valued given
-    (λ t here tv too d n sw. given-ok table.Whole s.es t rl (word_at ws (at + 1)) at x (Ok tt) new here d n sw tv
-    (given-fine table.Whole s.es t rl (word_at ws (at + 1)) at r here s.kept too d n sw tv room value_short) reads' taken) in
+    let reads' : Reads rl.kind (word_at ws (at + 1)) (Ok x) = subst (λ t. Reads rl.kind t (Ok x)) (sym is2) reads in
+    let step : Steps s.es (token_at ws at) (Ok tt) new =
+    token-given s.es ws at rl (Ok tt) new (ap (is_too_much at) is ∙ fits at w (omega (arith, there, few)) short) (ap is_dashed is ∙ dashed) named' valued given
+    (λ t here tv too d n sw. given-ok s.es t rl (word_at ws (at + 1)) at x (Ok tt) new here d n sw tv
+    (given-fine s.es t rl (word_at ws (at + 1)) at r here s.kept too d n sw tv room value_short) reads' taken) in
     let again : at + 1 + 1 ≡ at + 2 = omega arith in
     record {
       at = at + 2;
-      stands = stands-on table.Whole ws at (at + 2) r new s there (omega (arith, there, few)) wide step;
+      stands = stands-on ws at (at + 2) r new s there (omega (arith, there, few)) wide step;
       behind = ap (λ n. drop n ws) (sym again) ∙ rest-is ws (at + 1) v rest behind;
     }
 
 pub goes-option : (ws : List Text) (few : length ws ≤ 1024) (w v : Text) (rest : List Text) (r : Reader) (c : Concern) (k : Kind) (x : Value) (g : Goes ws (w ∷ v ∷ rest) r) → is_dashed w ≡ true
-    → option_named table.Whole w ≡ Some (rule c k) → switched k ≡ None → length w ≤ 65536 → length v ≤ 65536 → full k r ≡ false → is_file x ≡ false → Reads table.Whole k v (Ok x)
+    → option_named w ≡ Some (rule c k) → switched k ≡ None → length w ≤ 65536 → length v ≤ 65536 → full k r ≡ false → is_file x ≡ false → Reads k v (Ok x)
     → Goes ws rest (optioned (entry g.at c x) r)
 goes-option ws few w v rest r c k x g dashed named valued short small room plain reads =
     given-step ws few g.at w v rest r (optioned (entry g.at c x) r) (rule c k) x g.stands g.behind dashed named valued short small room reads
     (taken-option g.stands.es g.at c x r (optioned (entry g.at c x) r) plain g.stands.kept refl)
 
 pub goes-input : (ws : List Text) (few : length ws ≤ 1024) (w name : Text) (rest : List Text) (r : Reader) (g : Goes ws (w ∷ name ∷ rest) r) → is_dashed w ≡ true
-    → option_named table.Whole w ≡ Some (rule Itself kind.Input) → length w ≤ 65536 → length name ≤ 65536 → None ≡ input_wrong g.at r → Goes ws rest (with_input name r)
+    → option_named w ≡ Some (rule Itself kind.Input) → length w ≤ 65536 → length name ≤ 65536 → None ≡ input_wrong g.at r → Goes ws rest (with_input name r)
 goes-input ws few w name rest r g dashed named short small fine =
     given-step ws few g.at w name rest r (with_input name r) (rule Itself kind.Input) (value.Input name) g.stands g.behind dashed named refl short small refl refl
     (taken-input g.stands.es g.at Itself (value.Input name) name r (with_input name r) refl g.stands.kept fine refl)
@@ -114,36 +113,36 @@ goes-input ws few w name rest r g dashed named short small fine =
 none_if : (b : Bool) (o : Option Text) → b ≡ false → (if b then o else None) ≡ None
 none_if b o h = ap (λ x. if x then o else None) h
 
-one-step : (ws : List Text) (few : length ws ≤ 1024) (at : ℕ) (w : Text) (rest : List Text) (r new : Reader) (s : Stands table.Whole ws at r) → drop at ws ≡ w ∷ rest → takes_value table.Whole w ≡ false
-    → Steps table.Whole s.es (token_at table.Whole ws at) (Ok tt) new → Goes ws rest new
+one-step : (ws : List Text) (few : length ws ≤ 1024) (at : ℕ) (w : Text) (rest : List Text) (r new : Reader) (s : Stands ws at r) → drop at ws ≡ w ∷ rest → takes_value w ≡ false
+    → Steps s.es (token_at ws at) (Ok tt) new → Goes ws rest new
 one-step ws few at w rest r new s h takes_none step =
     let there : at < length ws = some-there ws at w rest h in
     let is : word_at ws at ≡ w = word-is ws at w rest h in
-    let none : (token_at table.Whole ws at).value ≡ None = none_if (takes_value table.Whole (word_at ws at)) (slice_get ws (at + 1)) (ap (takes_value table.Whole) is ∙ takes_none) in
-    let wide : at + 1 ≡ at + width (token_at table.Whole ws at).value = ap (λ o. at + width o) (sym none) in
+    let none : (token_at ws at).value ≡ None = none_if (takes_value (word_at ws at)) (slice_get ws (at + 1)) (ap takes_value is ∙ takes_none) in
+    let wide : at + 1 ≡ at + width (token_at ws at).value = ap (λ o. at + width o) (sym none) in
     record {
       at = at + 1;
-      stands = stands-on table.Whole ws at (at + 1) r new s there (omega (arith, there, few)) wide step;
+      stands = stands-on ws at (at + 1) r new s there (omega (arith, there, few)) wide step;
       behind = rest-is ws at w rest h;
     }
 
 pub goes-switch : (ws : List Text) (few : length ws ≤ 1024) (w : Text) (rest : List Text) (r : Reader) (c : Concern) (k : Kind) (x : Value) (g : Goes ws (w ∷ rest) r) → is_dashed w ≡ true
-    → option_named table.Whole w ≡ Some (rule c k) → switched k ≡ Some x → takes (Some (rule c k)) ≡ false → length w ≤ 65536 → is_file x ≡ false → Goes ws rest (optioned (entry g.at c x) r)
+    → option_named w ≡ Some (rule c k) → switched k ≡ Some x → takes (Some (rule c k)) ≡ false → length w ≤ 65536 → is_file x ≡ false → Goes ws rest (optioned (entry g.at c x) r)
 goes-switch ws few w rest r c k x g dashed named valued no_value short plain =
     let there : g.at < length ws = some-there ws g.at w rest g.behind in
     let is : word_at ws g.at ≡ w = word-is ws g.at w rest g.behind in
     one-step ws few g.at w rest r (optioned (entry g.at c x) r) g.stands g.behind (ap takes named ∙ no_value)
-    (token-switch table.Whole g.stands.es ws g.at (rule c k) x (Ok tt) (optioned (entry g.at c x) r) (ap (is_too_much g.at) is ∙ fits g.at w (omega (arith, there, few)) short)
-    (ap is_dashed is ∙ dashed) (ap (option_named table.Whole) is ∙ named) valued (taken-option g.stands.es g.at c x r (optioned (entry g.at c x) r) plain g.stands.kept refl))
+    (token-switch g.stands.es ws g.at (rule c k) x (Ok tt) (optioned (entry g.at c x) r) (ap (is_too_much g.at) is ∙ fits g.at w (omega (arith, there, few)) short)
+    (ap is_dashed is ∙ dashed) (ap option_named is ∙ named) valued (taken-option g.stands.es g.at c x r (optioned (entry g.at c x) r) plain g.stands.kept refl))
 
 pub goes-output : (ws : List Text) (few : length ws ≤ 1024) (name : Text) (rest : List Text) (r : Reader) (f : FileFormat) (g : Goes ws (name ∷ rest) r) → is_dashed name ≡ false → length name ≤ 65536
     → ((ending : Option FileFormat) → None ≡ output_wrong g.at name ending r) → r.pending.format ≡ Some f → Goes ws rest (with_output name f r)
 goes-output ws few name rest r f g plain short fine told =
     let there : g.at < length ws = some-there ws g.at name rest g.behind in
     let is : word_at ws g.at ≡ name = word-is ws g.at name rest g.behind in
-    let ending : Option FileFormat = format_ending table.Whole (word_at ws g.at) in
+    let ending : Option FileFormat = format_ending (word_at ws g.at) in
     let same : value.Output (word_at ws g.at) ending ≡ value.Output name ending = ap (λ n. value.Output n ending) is in
     let has : Some f ≡ pending_format r.pending ending = ap (λ o. or_else o ending) (sym told) in
     one-step ws few g.at name rest r (with_output name f r) g.stands g.behind (ap takes (no-option name plain))
-    (token-output table.Whole g.stands.es ws g.at (Ok tt) (with_output name f r) (ap (is_too_much g.at) is ∙ fits g.at name (omega (arith, there, few)) short)
+    (token-output g.stands.es ws g.at (Ok tt) (with_output name f r) (ap (is_too_much g.at) is ∙ fits g.at name (omega (arith, there, few)) short)
     (ap is_dashed is ∙ plain) (taken-output g.stands.es g.at Itself (value.Output (word_at ws g.at) ending) name ending f r (with_output name f r) same g.stands.kept (fine ending) has refl))

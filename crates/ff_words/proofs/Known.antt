@@ -20,7 +20,6 @@ use Rattle.ff_words.specs.declared.table.Kind.{Kind}
 use Rattle.ff_words.specs.declared.table.Kind.TheVariants as kind
 use Rattle.ff_words.specs.declared.table.Named.{Named}
 use Rattle.ff_words.specs.declared.table.Rule.{Rule}
-use Rattle.ff_words.specs.declared.table.Table.TheVariants as table
 use Rattle.ff_words.specs.declared.table.TheConstants.{OPTIONS}
 use Rattle.ff_words.specs.declared.value.Micros.{Micros}
 use Rattle.ff_words.specs.declared.value.Value.TheVariants as value
@@ -36,7 +35,7 @@ abbrev pub rule : Concern → Kind → Rule
 rule c k = record { concern = c; kind = k }
 
 abbrev IsLine : List ℕ → Concern → Kind → Type 0
-IsLine name c k = option_named table.Whole name ≡ Some (rule c k)
+IsLine name c k = option_named name ≡ Some (rule c k)
 
 pub line-queue : IsLine (codes "-thread_queue_size") All kind.Queue
 unfolding option_named
@@ -122,7 +121,7 @@ other-word name word h d = elim (cases_Bool (bytes_eq name word)) [
   | inr e ↦ e
 ]
 
-abbrev all_dashed : List (List ℕ × Concern × Kind × Bool) → Bool
+abbrev all_dashed : List (List ℕ × Concern × Kind) → Bool
 all_dashed [] = true
 all_dashed (line ∷ list) = is_dashed line.0 && all_dashed list
 
@@ -130,16 +129,16 @@ both : (a b : Bool) → (a && b) ≡ true → (a ≡ true) × (b ≡ true)
 both true b h = (refl, h)
 both false b h = cc
 
-none-in : (list : List (List ℕ × Concern × Kind × Bool)) (word : List ℕ) → all_dashed list ≡ true → is_dashed word ≡ false → rule_in table.Whole list word ≡ None
+none-in : (list : List (List ℕ × Concern × Kind)) (word : List ℕ) → all_dashed list ≡ true → is_dashed word ≡ false → rule_in list word ≡ None
 none-in [] word h d = refl
 none-in (line ∷ list) word h d =
     let parts : (is_dashed line.0 ≡ true) × (all_dashed list ≡ true) = both (is_dashed line.0) (all_dashed list) h in
-    ap (λ b. if b then Some (rule line.1 line.2) else rule_in table.Whole list word) (other-word line.0 word parts.0 d) ∙ none-in list word parts.1 d
+    ap (λ b. if b then Some (rule line.1 line.2) else rule_in list word) (other-word line.0 word parts.0 d) ∙ none-in list word parts.1 d
 
-pub no-option : (word : List ℕ) → is_dashed word ≡ false → option_named table.Whole word ≡ None
+pub no-option : (word : List ℕ) → is_dashed word ≡ false → option_named word ≡ None
 unfolding option_named
 no-option word d =
-    let list : List (List ℕ × Concern × Kind × Bool) = map (λ line. (line.0.now, line.1, line.2, line.3)) OPTIONS in
+    let list : List (List ℕ × Concern × Kind) = map (λ line. (line.0.now, line.1, line.2)) OPTIONS in
     none-in list word refl d
 
 -- ---- values
@@ -153,17 +152,17 @@ readable format.FrameHash = false
 abbrev named_as : FileFormat → Named
 named_as f = record { format = f; read = readable f; written = true }
 
-format-is : (f : FileFormat) → format_named table.Whole (format_name f) ≡ Some (named_as f)
+format-is : (f : FileFormat) → format_named (format_name f) ≡ Some (named_as f)
 unfolding format_named
 format-is format.Wav = refl
 format-is format.Flac = refl
 format-is format.Y4m = refl
 format-is format.FrameHash = refl
 
-pub reads-format : (f : FileFormat) → Reads table.Whole kind.Format (format_name f) (Ok (value.Format f (readable f) true))
+pub reads-format : (f : FileFormat) → Reads kind.Format (format_name f) (Ok (value.Format f (readable f) true))
 reads-format f = sym (ap (λ o. or_bad (format_value o)) (format-is f))
 
-audio-is : (c : Codec) → IsSoundCodec c → audio_codec table.Whole (codec_name c) ≡ Some c
+audio-is : (c : Codec) → IsSoundCodec c → audio_codec (codec_name c) ≡ Some c
 unfolding audio_codec
 audio-is codec.PcmU8 h = refl
 audio-is codec.PcmS16le h = refl
@@ -172,38 +171,38 @@ audio-is codec.PcmS32le h = refl
 audio-is codec.Flac h = refl
 audio-is codec.RawVideo h = absurd h
 
-pub reads-audio : (c : Codec) → IsSoundCodec c → Reads table.Whole kind.AudioCodec (codec_name c) (Ok (value.AudioCodec c))
+pub reads-audio : (c : Codec) → IsSoundCodec c → Reads kind.AudioCodec (codec_name c) (Ok (value.AudioCodec c))
 reads-audio c h = sym (ap (λ o. or_bad (codec_value value.AudioCodec o)) (audio-is c h))
 
-video-is : video_codec table.Whole (codec_name codec.RawVideo) ≡ Some codec.RawVideo
+video-is : video_codec (codec_name codec.RawVideo) ≡ Some codec.RawVideo
 unfolding video_codec
 video-is = refl
 
-pub reads-video : (c : Codec) → c ≡ codec.RawVideo → Reads table.Whole kind.VideoCodec (codec_name c) (Ok (value.VideoCodec c))
+pub reads-video : (c : Codec) → c ≡ codec.RawVideo → Reads kind.VideoCodec (codec_name c) (Ok (value.VideoCodec c))
 reads-video c h =
-    subst (λ d. Reads table.Whole kind.VideoCodec (codec_name d) (Ok (value.VideoCodec d))) (sym h) (sym (ap (λ o. or_bad (codec_value value.VideoCodec o)) video-is))
+    subst (λ d. Reads kind.VideoCodec (codec_name d) (Ok (value.VideoCodec d))) (sym h) (sym (ap (λ o. or_bad (codec_value value.VideoCodec o)) video-is))
 
 hash-is : (h : HashKind) → hash_value (hash_name h) ≡ Some (value.Hash h)
 hash-is Sha256 = refl
 hash-is Md5 = refl
 
-pub reads-hash : (h : HashKind) → Reads table.Whole kind.Hash (hash_name h) (Ok (value.Hash h))
+pub reads-hash : (h : HashKind) → Reads kind.Hash (hash_name h) (Ok (value.Hash h))
 reads-hash h = sym (ap or_bad (hash-is h))
 
-pub reads-map : (m : MapSpec) → IsFineMap m → Reads table.Whole kind.Map (map_text m) (Ok (value.Map m))
+pub reads-map : (m : MapSpec) → IsFineMap m → Reads kind.Map (map_text m) (Ok (value.Map m))
 reads-map m h = (Ok m, is-map m h, refl)
 
-pub reads-complex : (g : Graph) → IsFineGraph g → Reads table.Whole kind.Complex (printed g) (Ok (value.Complex g))
+pub reads-complex : (g : Graph) → IsFineGraph g → Reads kind.Complex (printed g) (Ok (value.Complex g))
 reads-complex g h = (Ok g, printed_is g h.0, refl)
 
-pub reads-vf : (g : Graph) → IsFineGraph g → Reads table.Whole kind.VideoGraph (printed g) (Ok (value.VideoGraph g))
+pub reads-vf : (g : Graph) → IsFineGraph g → Reads kind.VideoGraph (printed g) (Ok (value.VideoGraph g))
 reads-vf g h = (Ok g, printed_is g h.0, refl)
 
-pub reads-af : (g : Graph) → IsFineGraph g → Reads table.Whole kind.AudioGraph (printed g) (Ok (value.AudioGraph g))
+pub reads-af : (g : Graph) → IsFineGraph g → Reads kind.AudioGraph (printed g) (Ok (value.AudioGraph g))
 reads-af g h = (Ok g, printed_is g h.0, refl)
 
-pub reads-start : (m : Micros) → Reads table.Whole kind.Start (micros_text m.us) (Ok (value.Start m))
+pub reads-start : (m : Micros) → Reads kind.Start (micros_text m.us) (Ok (value.Start m))
 reads-start m = (Ok m, is-duration m.us m.bound, refl)
 
-pub reads-length : (m : Micros) → Reads table.Whole kind.Length (micros_text m.us) (Ok (value.Length m))
+pub reads-length : (m : Micros) → Reads kind.Length (micros_text m.us) (Ok (value.Length m))
 reads-length m = (Ok m, is-duration m.us m.bound, refl)

@@ -29,7 +29,6 @@ use Rattle.ff_words.specs.declared.reader.Pending.{Pending}
 use Rattle.ff_words.specs.declared.reader.Reader.{Reader}
 use Rattle.ff_words.specs.declared.table.Concern.TheVariants.{All, Alone, File, Output}
 use Rattle.ff_words.specs.declared.table.Kind.TheVariants as kind
-use Rattle.ff_words.specs.declared.table.Table.TheVariants as table
 use Rattle.ff_words.specs.declared.value.Micros.{Micros}
 use Rattle.ff_words.specs.declared.value.Value.TheVariants as value
 use Rattle.ff_words.specs.Reading.{pending, reader, place_unless, end_wrong}
@@ -491,34 +490,34 @@ fine_end true b c count h k l = cc
 fine_end false true c count h k l = cc
 fine_end false false true count h k l = cc
 
-job-read : (j : Job) → IsFineJob j → IsAnswer table.Whole (job_words j) (Ok (asked.Run j))
+job-read : (j : Job) → IsFineJob j → IsAnswer (job_words j) (Ok (asked.Run j))
 job-read j fine =
     let g : Goes (job_words j) [] (done j) = all-read j fine (few j fine) in
     let no_input : (length j.inputs == 0) ≡ false = ne_eqb (length j.inputs) 0 (λ e. omega (arith, e, fine.some_inputs)) in
     let no_output : (length j.outputs == 0) ≡ false = ne_eqb (length j.outputs) 0 (λ e. omega (arith, e, fine.some_outputs)) in
     let right : end_wrong (length (job_words j)) (done j) ≡ None =
     fine_end (length j.inputs == 0) (length j.outputs == 0) (same_name j) (length (job_words j)) no_input no_output fine.names in
-    ended table.Whole (job_words j) g.at (done j) g.stands (Ok (asked.Run j)) (none_left (job_words j) g.at g.behind) (right, refl)
+    ended (job_words j) g.at (done j) g.stands (Ok (asked.Run j)) (none_left (job_words j) g.at g.behind) (right, refl)
 
 -- a word that stands alone
 abbrev alone : Solo → ℕ → Reader
 alone s at = record (state 8 None [] [] []) { solo = Some s; pending = record (pending []) { before_input = Some at; before_output = Some at; at_end = Some at } }
 
-help-read : IsAnswer table.Whole (solo_words Help) (Ok (asked.Solo Help))
+help-read : IsAnswer (solo_words Help) (Ok (asked.Solo Help))
 help-read =
     let ws : List Text = solo_words Help in
     let start : Goes ws ws (reader []) = goes-start ws in
     let g : Goes ws [] (alone Help start.at) = goes-switch ws (omega arith) (codes "-h") [] (state 8 None [] [] []) Alone kind.Help (value.Solo Help) start refl line-help refl refl (omega arith) refl in
-    ended table.Whole ws g.at (alone Help start.at) g.stands (Ok (asked.Solo Help)) (none_left ws g.at g.behind) (refl, refl)
+    ended ws g.at (alone Help start.at) g.stands (Ok (asked.Solo Help)) (none_left ws g.at g.behind) (refl, refl)
 
-version-read : IsAnswer table.Whole (solo_words Version) (Ok (asked.Solo Version))
+version-read : IsAnswer (solo_words Version) (Ok (asked.Solo Version))
 version-read =
     let ws : List Text = solo_words Version in
     let start : Goes ws ws (reader []) = goes-start ws in
     let g : Goes ws [] (alone Version start.at) = goes-switch ws (omega arith) (codes "-version") [] (state 8 None [] [] []) Alone kind.Version (value.Solo Version) start refl line-version refl refl (omega arith) refl in
-    ended table.Whole ws g.at (alone Version start.at) g.stands (Ok (asked.Solo Version)) (none_left ws g.at g.behind) (refl, refl)
+    ended ws g.at (alone Version start.at) g.stands (Ok (asked.Solo Version)) (none_left ws g.at g.behind) (refl, refl)
 
-self_run-read : (n : ℕ) → n ≤ 3600 → IsAnswer table.Whole (solo_words (SelfRun n)) (Ok (asked.Solo (SelfRun n)))
+self_run-read : (n : ℕ) → n ≤ 3600 → IsAnswer (solo_words (SelfRun n)) (Ok (asked.Solo (SelfRun n)))
 self_run-read n high =
     let ws : List Text = solo_words (SelfRun n) in
     let small : n < 10 ^ 9 = omega (arith, high) in
@@ -528,13 +527,13 @@ self_run-read n high =
     let g : Goes ws [] after =
     goes-option ws (omega arith) (codes "-selfrun") (decimal n) [] old Alone kind.SelfRun (value.Solo (SelfRun n)) start refl line-self_run refl (omega arith) (omega (arith, number-short n small)) refl refl
     (Ok n, (is-number n small, omega arith, high), refl) in
-    ended table.Whole ws g.at after g.stands (Ok (asked.Solo (SelfRun n))) (none_left ws g.at g.behind) (refl, refl)
+    ended ws g.at after g.stands (Ok (asked.Solo (SelfRun n))) (none_left ws g.at g.behind) (refl, refl)
 
-solo-read : (s : Solo) → IsFineSolo s → IsAnswer table.Whole (solo_words s) (Ok (asked.Solo s))
+solo-read : (s : Solo) → IsFineSolo s → IsAnswer (solo_words s) (Ok (asked.Solo s))
 solo-read Help fine = help-read
 solo-read Version fine = version-read
 solo-read (SelfRun n) fine = self_run-read n fine
 
-pub written-read : (c : Command) → IsFineCommand c → IsAnswer table.Whole (command_words c) (Ok c)
+pub written-read : (c : Command) → IsFineCommand c → IsAnswer (command_words c) (Ok c)
 written-read (asked.Run j) fine = job-read j fine
 written-read (asked.Solo s) fine = solo-read s fine

@@ -23,7 +23,6 @@ use Rattle.ff_words.specs.declared.table.Concern.{Concern}
 use Rattle.ff_words.specs.declared.table.Kind.{Kind}
 use Rattle.ff_words.specs.declared.table.Kind.TheVariants as kind
 use Rattle.ff_words.specs.declared.table.Rule.{Rule}
-use Rattle.ff_words.specs.declared.table.Table.{Table}
 use Rattle.ff_words.specs.declared.value.Micros.{Micros}
 use Rattle.ff_words.specs.declared.value.Value.{Value}
 use Rattle.ff_words.specs.declared.value.Value.TheVariants as value
@@ -81,49 +80,49 @@ map-one text (Err d) (Err e) x y = ap Err (x.2 ∙ (ap BadMap (map_text.IsBadAt-
 makes-one : {X : Type 0} (make : X → Value) (Is : Result X WordKind → Type 0) (r s : Result Value WordKind) → ((p q : Result X WordKind) → Is p → Is q → p ≡ q) → Makes make Is r → Makes make Is s → r ≡ s
 makes-one make Is r s one h k = h.2 ∙ (ap (made make) (one h.0 k.0 h.1 k.1) ∙ sym k.2)
 
-reads-one : (table : Table) (k : Kind) (text : List ℕ) (r s : Result Value WordKind) → Reads table k text r → Reads table k text s → r ≡ s
-reads-one table kind.Nothing text r s h j = absurd h
-reads-one table kind.NoStats text r s h j = absurd h
-reads-one table kind.NoVideo text r s h j = absurd h
-reads-one table kind.NoAudio text r s h j = absurd h
-reads-one table kind.Shortest text r s h j = absurd h
-reads-one table kind.Help text r s h j = absurd h
-reads-one table kind.Version text r s h j = absurd h
-reads-one table kind.Level text r s h j = h ∙ sym j
-reads-one table kind.Complex text r s h j = makes-one value.Complex (ReadsGraph text) r s (graph-one text) h j
-reads-one table kind.Queue text r s h j = makes-one value.Queue (ReadsWhole 1 1024 text) r s (whole-one 1 1024 text) h j
-reads-one table kind.Trace text r s h j = h ∙ sym j
-reads-one table kind.SelfRun text r s h j = makes-one (λ n. value.Solo (SelfRun n)) (ReadsWhole 0 3600 text) r s (whole-one 0 3600 text) h j
-reads-one table kind.Format text r s h j = h ∙ sym j
-reads-one table kind.Start text r s h j = makes-one value.Start (ReadsTime text) r s (time-one text) h j
-reads-one table kind.Length text r s h j = makes-one value.Length (ReadsTime text) r s (time-one text) h j
-reads-one table kind.Input text r s h j = h ∙ sym j
-reads-one table kind.Map text r s h j = makes-one value.Map (ReadsMap text) r s (map-one text) h j
-reads-one table kind.AudioCodec text r s h j = h ∙ sym j
-reads-one table kind.VideoCodec text r s h j = h ∙ sym j
-reads-one table kind.VideoGraph text r s h j = makes-one value.VideoGraph (ReadsGraph text) r s (graph-one text) h j
-reads-one table kind.AudioGraph text r s h j = makes-one value.AudioGraph (ReadsGraph text) r s (graph-one text) h j
-reads-one table kind.Hash text r s h j = h ∙ sym j
+reads-one : (k : Kind) (text : List ℕ) (r s : Result Value WordKind) → Reads k text r → Reads k text s → r ≡ s
+reads-one kind.Nothing text r s h j = absurd h
+reads-one kind.NoStats text r s h j = absurd h
+reads-one kind.NoVideo text r s h j = absurd h
+reads-one kind.NoAudio text r s h j = absurd h
+reads-one kind.Shortest text r s h j = absurd h
+reads-one kind.Help text r s h j = absurd h
+reads-one kind.Version text r s h j = absurd h
+reads-one kind.Level text r s h j = h ∙ sym j
+reads-one kind.Complex text r s h j = makes-one value.Complex (ReadsGraph text) r s (graph-one text) h j
+reads-one kind.Queue text r s h j = makes-one value.Queue (ReadsWhole 1 1024 text) r s (whole-one 1 1024 text) h j
+reads-one kind.Trace text r s h j = h ∙ sym j
+reads-one kind.SelfRun text r s h j = makes-one (λ n. value.Solo (SelfRun n)) (ReadsWhole 0 3600 text) r s (whole-one 0 3600 text) h j
+reads-one kind.Format text r s h j = h ∙ sym j
+reads-one kind.Start text r s h j = makes-one value.Start (ReadsTime text) r s (time-one text) h j
+reads-one kind.Length text r s h j = makes-one value.Length (ReadsTime text) r s (time-one text) h j
+reads-one kind.Input text r s h j = h ∙ sym j
+reads-one kind.Map text r s h j = makes-one value.Map (ReadsMap text) r s (map-one text) h j
+reads-one kind.AudioCodec text r s h j = h ∙ sym j
+reads-one kind.VideoCodec text r s h j = h ∙ sym j
+reads-one kind.VideoGraph text r s h j = makes-one value.VideoGraph (ReadsGraph text) r s (graph-one text) h j
+reads-one kind.AudioGraph text r s h j = makes-one value.AudioGraph (ReadsGraph text) r s (graph-one text) h j
+reads-one kind.Hash text r s h j = h ∙ sym j
 
 -- ---- tokens
 
-option-one : (table : Table) (at : ℕ) (rule : Rule) (o : Option Value) (given : Option (List ℕ)) (c d : Concern) (r s : Result Value Fault)
-    → IsOption table at rule o given c r → IsOption table at rule o given d s → (c ≡ d) × (r ≡ s)
-option-one table at rule (Some v) given c d r s h k = (h.0 ∙ sym k.0, h.1 ∙ sym k.1)
-option-one table at rule None None c d r s h k = absurd h
-option-one table at rule None (Some text) c d r s h k =
-    (h.0 ∙ sym k.0, h.3 ∙ (ap (placed (at + 1)) (reads-one table rule.kind text h.1 k.1 h.2 k.2) ∙ sym k.3))
+option-one : (at : ℕ) (rule : Rule) (o : Option Value) (given : Option (List ℕ)) (c d : Concern) (r s : Result Value Fault)
+    → IsOption at rule o given c r → IsOption at rule o given d s → (c ≡ d) × (r ≡ s)
+option-one at rule (Some v) given c d r s h k = (h.0 ∙ sym k.0, h.1 ∙ sym k.1)
+option-one at rule None None c d r s h k = absurd h
+option-one at rule None (Some text) c d r s h k =
+    (h.0 ∙ sym k.0, h.3 ∙ (ap (placed (at + 1)) (reads-one rule.kind text h.1 k.1 h.2 k.2) ∙ sym k.3))
 
-named-one : (table : Table) (t : Token) (o : Option Rule) (c d : Concern) (r s : Result Value Fault) → IsNamed table t o c r → IsNamed table t o d s → (c ≡ d) × (r ≡ s)
-named-one table t None c d r s h k = absurd h
-named-one table t (Some rule) c d r s h k = option-one table t.at rule (switched rule.kind) t.value c d r s h k
+named-one : (t : Token) (o : Option Rule) (c d : Concern) (r s : Result Value Fault) → IsNamed t o c r → IsNamed t o d s → (c ≡ d) × (r ≡ s)
+named-one t None c d r s h k = absurd h
+named-one t (Some rule) c d r s h k = option-one t.at rule (switched rule.kind) t.value c d r s h k
 
-token-one : (table : Table) (t : Token) (b : Bool) (c d : Concern) (r s : Result Value Fault) → IsToken table t b c r → IsToken table t b d s → (c ≡ d) × (r ≡ s)
-token-one table t false c d r s h k = (h.0 ∙ sym k.0, h.1 ∙ sym k.1)
-token-one table t true c d r s h k = named-one table t (option_named table t.word) c d r s h k
+token-one : (t : Token) (b : Bool) (c d : Concern) (r s : Result Value Fault) → IsToken t b c r → IsToken t b d s → (c ≡ d) × (r ≡ s)
+token-one t false c d r s h k = (h.0 ∙ sym k.0, h.1 ∙ sym k.1)
+token-one t true c d r s h k = named-one t (option_named t.word) c d r s h k
 
-reading-one : (table : Table) (t : Token) (c d : Concern) (r s : Result Value Fault) → TokenReads table t c r → TokenReads table t d s → (c ≡ d) × (r ≡ s)
-reading-one table t c d r s h k = token-one table t (is_dashed t.word) c d r s h k
+reading-one : (t : Token) (c d : Concern) (r s : Result Value Fault) → TokenReads t c r → TokenReads t d s → (c ≡ d) × (r ≡ s)
+reading-one t c d r s h k = token-one t (is_dashed t.word) c d r s h k
 
 abbrev entry : ℕ → Concern → Value → Entry
 entry at c v = record { at = at; concern = c; value = v }
@@ -140,43 +139,43 @@ Err' f = Err f
 ok-value : (v w : Value) → Ok' v ≡ Ok' w → v ≡ w
 ok-value v w e = cc
 
-pub entry-one : (table : Table) (es : List Entry) (t : Token) (e d : Entry) → IsEntry table es t e → IsEntry table es t d → e ≡ d
-entry-one table es t e d h k =
-    let r : (e.concern ≡ d.concern) × (Ok' e.value ≡ Ok' d.value) = reading-one table t e.concern d.concern (Ok e.value) (Ok d.value) h.1 k.1 in
+pub entry-one : (es : List Entry) (t : Token) (e d : Entry) → IsEntry es t e → IsEntry es t d → e ≡ d
+entry-one es t e d h k =
+    let r : (e.concern ≡ d.concern) × (Ok' e.value ≡ Ok' d.value) = reading-one t e.concern d.concern (Ok e.value) (Ok d.value) h.1 k.1 in
     same-entry e.at d.at e.concern d.concern e.value d.value (h.2 ∙ sym k.2) r.0 (ok-value e.value d.value r.1)
 
-pub not-both : (table : Table) (es : List Entry) (t : Token) (e : Entry) (f : Fault) → IsEntry table es t e → IsFaultAt table es t f → ⊥
-not-both table es t e f h (inl k) = cc (h.0, k)
-not-both table es t e f h (inr (inl k)) = (let r : (e.concern ≡ k.0) × (Ok' e.value ≡ Err' f) = reading-one table t e.concern k.0 (Ok e.value) (Err f) h.1 k.2 in cc (r.1))
-not-both table es t e f h (inr (inr k)) =
-    (let r : (e.concern ≡ k.0) × (Ok' e.value ≡ Ok' k.1) = reading-one table t e.concern k.0 (Ok e.value) (Ok k.1) h.1 k.3 in
+pub not-both : (es : List Entry) (t : Token) (e : Entry) (f : Fault) → IsEntry es t e → IsFaultAt es t f → ⊥
+not-both es t e f h (inl k) = cc (h.0, k)
+not-both es t e f h (inr (inl k)) = (let r : (e.concern ≡ k.0) × (Ok' e.value ≡ Err' f) = reading-one t e.concern k.0 (Ok e.value) (Err f) h.1 k.2 in cc (r.1))
+not-both es t e f h (inr (inr k)) =
+    (let r : (e.concern ≡ k.0) × (Ok' e.value ≡ Ok' k.1) = reading-one t e.concern k.0 (Ok e.value) (Ok k.1) h.1 k.3 in
     let same : late es t.at e.value ≡ late es t.at k.1 = ap (late es t.at) (ok-value e.value k.1 r.1) in
     cc (h.3, k.4, same))
 
-fault-one : (table : Table) (es : List Entry) (t : Token) (f g : Fault) → IsFaultAt table es t f → IsFaultAt table es t g → f ≡ g
-fault-one table es t f g (inl h) (inl k) = cc (h, k)
-fault-one table es t f g (inl h) (inr (inl k)) = cc (h, k.1)
-fault-one table es t f g (inl h) (inr (inr k)) = cc (h, k.2)
-fault-one table es t f g (inr (inl h)) (inl k) = cc (h.1, k)
-fault-one table es t f g (inr (inr h)) (inl k) = cc (h.2, k)
-fault-one table es t f g (inr (inl h)) (inr (inl k)) = (let r : (h.0 ≡ k.0) × (Err' f ≡ Err' g) = reading-one table t h.0 k.0 (Err f) (Err g) h.2 k.2 in cc (r.1))
-fault-one table es t f g (inr (inl h)) (inr (inr k)) = (let r : (h.0 ≡ k.0) × (Err' f ≡ Ok' k.1) = reading-one table t h.0 k.0 (Err f) (Ok k.1) h.2 k.3 in cc (r.1))
-fault-one table es t f g (inr (inr h)) (inr (inl k)) = (let r : (h.0 ≡ k.0) × (Ok' h.1 ≡ Err' g) = reading-one table t h.0 k.0 (Ok h.1) (Err g) h.3 k.2 in cc (r.1))
-fault-one table es t f g (inr (inr h)) (inr (inr k)) =
-    (let r : (h.0 ≡ k.0) × (Ok' h.1 ≡ Ok' k.1) = reading-one table t h.0 k.0 (Ok h.1) (Ok k.1) h.3 k.3 in
+fault-one : (es : List Entry) (t : Token) (f g : Fault) → IsFaultAt es t f → IsFaultAt es t g → f ≡ g
+fault-one es t f g (inl h) (inl k) = cc (h, k)
+fault-one es t f g (inl h) (inr (inl k)) = cc (h, k.1)
+fault-one es t f g (inl h) (inr (inr k)) = cc (h, k.2)
+fault-one es t f g (inr (inl h)) (inl k) = cc (h.1, k)
+fault-one es t f g (inr (inr h)) (inl k) = cc (h.2, k)
+fault-one es t f g (inr (inl h)) (inr (inl k)) = (let r : (h.0 ≡ k.0) × (Err' f ≡ Err' g) = reading-one t h.0 k.0 (Err f) (Err g) h.2 k.2 in cc (r.1))
+fault-one es t f g (inr (inl h)) (inr (inr k)) = (let r : (h.0 ≡ k.0) × (Err' f ≡ Ok' k.1) = reading-one t h.0 k.0 (Err f) (Ok k.1) h.2 k.3 in cc (r.1))
+fault-one es t f g (inr (inr h)) (inr (inl k)) = (let r : (h.0 ≡ k.0) × (Ok' h.1 ≡ Err' g) = reading-one t h.0 k.0 (Ok h.1) (Err g) h.3 k.2 in cc (r.1))
+fault-one es t f g (inr (inr h)) (inr (inr k)) =
+    (let r : (h.0 ≡ k.0) × (Ok' h.1 ≡ Ok' k.1) = reading-one t h.0 k.0 (Ok h.1) (Ok k.1) h.3 k.3 in
     let same : late es t.at h.1 ≡ late es t.at k.1 = ap (late es t.at) (ok-value h.1 k.1 r.1) in
     cc (h.4, k.4, same))
 
 -- ---- whole lists
 
-pub read-one : (table : Table) (ts : List Token) (es all other : List Entry) → AreRead table es ts all → AreRead table es ts other → all ≡ other
-read-one table [] es all other h k = sym h ∙ k
-read-one table (t ∷ ts) es all other h k =
-    let same : k.0 ≡ h.0 = entry-one table es t k.0 h.0 k.1 h.1 in
-    read-one table ts (es ++ h.0 ∷ []) all other h.2 (subst (λ e. AreRead table (es ++ e ∷ []) ts other) same k.2)
+pub read-one : (ts : List Token) (es all other : List Entry) → AreRead es ts all → AreRead es ts other → all ≡ other
+read-one [] es all other h k = sym h ∙ k
+read-one (t ∷ ts) es all other h k =
+    let same : k.0 ≡ h.0 = entry-one es t k.0 h.0 k.1 h.1 in
+    read-one ts (es ++ h.0 ∷ []) all other h.2 (subst (λ e. AreRead (es ++ e ∷ []) ts other) same k.2)
 
-abbrev Parts : Table → List Entry → Token → List Token → Fault → Type 0
-Parts table es t ts f = IsFaultAt table es t f ⊎ ((e : Entry) × IsEntry table es t e × Stops table (es ++ e ∷ []) ts f)
+abbrev Parts : List Entry → Token → List Token → Fault → Type 0
+Parts es t ts f = IsFaultAt es t f ⊎ ((e : Entry) × IsEntry es t e × Stops (es ++ e ∷ []) ts f)
 
 first-same : (t u : Token) (ts us : List Token) → t ∷ ts ≡ u ∷ us → t ≡ u
 first-same t u ts us e = cc
@@ -184,62 +183,62 @@ first-same t u ts us e = cc
 rest-same : (t u : Token) (ts us : List Token) → t ∷ ts ≡ u ∷ us → ts ≡ us
 rest-same t u ts us e = cc
 
-parts-of : (table : Table) (es : List Entry) (t : Token) (ts : List Token) (f : Fault) (front : List Token) (u : Token) (behind : List Token) (all : List Entry)
-    → t ∷ ts ≡ front ++ u ∷ behind → AreRead table es front all → IsFaultAt table all u f → Parts table es t ts f
-parts-of table es t ts f [] u behind all e h k =
-    inl (subst (λ x. IsFaultAt table x t f) (sym h) (subst (λ x. IsFaultAt table all x f) (sym (first-same t u ts behind e)) k))
-parts-of table es t ts f (x ∷ front) u behind all e h k =
-    inr (h.0, subst (λ y. IsEntry table es y h.0) (sym (first-same t x ts (front ++ u ∷ behind) e)) h.1, (front, u, behind, all, rest-same t x ts (front ++ u ∷ behind) e, h.2, k))
+parts-of : (es : List Entry) (t : Token) (ts : List Token) (f : Fault) (front : List Token) (u : Token) (behind : List Token) (all : List Entry)
+    → t ∷ ts ≡ front ++ u ∷ behind → AreRead es front all → IsFaultAt all u f → Parts es t ts f
+parts-of es t ts f [] u behind all e h k =
+    inl (subst (λ x. IsFaultAt x t f) (sym h) (subst (λ x. IsFaultAt all x f) (sym (first-same t u ts behind e)) k))
+parts-of es t ts f (x ∷ front) u behind all e h k =
+    inr (h.0, subst (λ y. IsEntry es y h.0) (sym (first-same t x ts (front ++ u ∷ behind) e)) h.1, (front, u, behind, all, rest-same t x ts (front ++ u ∷ behind) e, h.2, k))
 
-pub stops-parts : (table : Table) (es : List Entry) (t : Token) (ts : List Token) (f : Fault) → Stops table es (t ∷ ts) f → Parts table es t ts f
-stops-parts table es t ts f h = parts-of table es t ts f h.0 h.1 h.2 h.3 h.4 h.5 h.6
+pub stops-parts : (es : List Entry) (t : Token) (ts : List Token) (f : Fault) → Stops es (t ∷ ts) f → Parts es t ts f
+stops-parts es t ts f h = parts-of es t ts f h.0 h.1 h.2 h.3 h.4 h.5 h.6
 
 empty-parts : (front : List Token) (u : Token) (behind : List Token) → [] ≡ front ++ u ∷ behind → ⊥
 empty-parts [] u behind e = cc
 empty-parts (x ∷ front) u behind e = cc
 
-stops-empty : (table : Table) (es : List Entry) (f : Fault) → Stops table es [] f → ⊥
-stops-empty table es f h = empty-parts h.0 h.1 h.2 h.4
+stops-empty : (es : List Entry) (f : Fault) → Stops es [] f → ⊥
+stops-empty es f h = empty-parts h.0 h.1 h.2 h.4
 
-not-read : (table : Table) (ts : List Token) (es all : List Entry) (f : Fault) → AreRead table es ts all → Stops table es ts f → ⊥
-not-read table [] es all f h k = stops-empty table es f k
-not-read table (t ∷ ts) es all f h k =
-    elim (stops-parts table es t ts f k) [
-      | inl at ↦ not-both table es t h.0 f h.1 at
-      | inr on ↦ (let same : on.0 ≡ h.0 = entry-one table es t on.0 h.0 on.1 h.1 in
-          not-read table ts (es ++ h.0 ∷ []) all f h.2 (subst (λ e. Stops table (es ++ e ∷ []) ts f) same on.2))
+not-read : (ts : List Token) (es all : List Entry) (f : Fault) → AreRead es ts all → Stops es ts f → ⊥
+not-read [] es all f h k = stops-empty es f k
+not-read (t ∷ ts) es all f h k =
+    elim (stops-parts es t ts f k) [
+      | inl at ↦ not-both es t h.0 f h.1 at
+      | inr on ↦ (let same : on.0 ≡ h.0 = entry-one es t on.0 h.0 on.1 h.1 in
+          not-read ts (es ++ h.0 ∷ []) all f h.2 (subst (λ e. Stops (es ++ e ∷ []) ts f) same on.2))
     ]
 
-stops-one : (table : Table) (ts : List Token) (es : List Entry) (f g : Fault) → Stops table es ts f → Stops table es ts g → f ≡ g
-stops-one table [] es f g h k = absurd (stops-empty table es f h)
-stops-one table (t ∷ ts) es f g h k =
-    elim (stops-parts table es t ts f h) [
-      | inl at ↦ elim (stops-parts table es t ts g k) [
-        | inl here ↦ fault-one table es t f g at here
-        | inr on ↦ absurd (not-both table es t on.0 f on.1 at)
+stops-one : (ts : List Token) (es : List Entry) (f g : Fault) → Stops es ts f → Stops es ts g → f ≡ g
+stops-one [] es f g h k = absurd (stops-empty es f h)
+stops-one (t ∷ ts) es f g h k =
+    elim (stops-parts es t ts f h) [
+      | inl at ↦ elim (stops-parts es t ts g k) [
+        | inl here ↦ fault-one es t f g at here
+        | inr on ↦ absurd (not-both es t on.0 f on.1 at)
       ]
-      | inr on ↦ elim (stops-parts table es t ts g k) [
-        | inl here ↦ absurd (not-both table es t on.0 g on.1 here)
-        | inr too ↦ (let same : too.0 ≡ on.0 = entry-one table es t too.0 on.0 too.1 on.1 in
-            stops-one table ts (es ++ on.0 ∷ []) f g on.2 (subst (λ e. Stops table (es ++ e ∷ []) ts g) same too.2))
+      | inr on ↦ elim (stops-parts es t ts g k) [
+        | inl here ↦ absurd (not-both es t on.0 g on.1 here)
+        | inr too ↦ (let same : too.0 ≡ on.0 = entry-one es t too.0 on.0 too.1 on.1 in
+            stops-one ts (es ++ on.0 ∷ []) f g on.2 (subst (λ e. Stops (es ++ e ∷ []) ts g) same too.2))
       ]
     ]
 
-pub answer-one : (table : Table) (words : List (List ℕ)) (a b : Result Command Fault) → IsAnswer table words a → IsAnswer table words b → a ≡ b
-answer-one table words (Ok c) (Ok d) h k = ap Ok (h.3 ∙ (ap command (read-one table (tokens table 0 words) [] h.0 k.0 h.1 k.1) ∙ sym k.3))
-answer-one table words (Ok c) (Err f) h (inl k) = absurd (not-read table (tokens table 0 words) [] h.0 f h.1 k)
-answer-one table words (Ok c) (Err f) h (inr k) =
-    (let same : end_fault (length words) h.0 ≡ end_fault (length words) k.0 = ap (end_fault (length words)) (read-one table (tokens table 0 words) [] h.0 k.0 h.1 k.1) in
+pub answer-one : (words : List (List ℕ)) (a b : Result Command Fault) → IsAnswer words a → IsAnswer words b → a ≡ b
+answer-one words (Ok c) (Ok d) h k = ap Ok (h.3 ∙ (ap command (read-one (tokens 0 words) [] h.0 k.0 h.1 k.1) ∙ sym k.3))
+answer-one words (Ok c) (Err f) h (inl k) = absurd (not-read (tokens 0 words) [] h.0 f h.1 k)
+answer-one words (Ok c) (Err f) h (inr k) =
+    (let same : end_fault (length words) h.0 ≡ end_fault (length words) k.0 = ap (end_fault (length words)) (read-one (tokens 0 words) [] h.0 k.0 h.1 k.1) in
     cc (h.2, k.2, same))
-answer-one table words (Err f) (Ok c) (inl h) k = absurd (not-read table (tokens table 0 words) [] k.0 f k.1 h)
-answer-one table words (Err f) (Ok c) (inr h) k =
-    (let same : end_fault (length words) h.0 ≡ end_fault (length words) k.0 = ap (end_fault (length words)) (read-one table (tokens table 0 words) [] h.0 k.0 h.1 k.1) in
+answer-one words (Err f) (Ok c) (inl h) k = absurd (not-read (tokens 0 words) [] k.0 f k.1 h)
+answer-one words (Err f) (Ok c) (inr h) k =
+    (let same : end_fault (length words) h.0 ≡ end_fault (length words) k.0 = ap (end_fault (length words)) (read-one (tokens 0 words) [] h.0 k.0 h.1 k.1) in
     cc (h.2, k.2, same))
-answer-one table words (Err f) (Err g) (inl h) (inl k) = ap Err (stops-one table (tokens table 0 words) [] f g h k)
-answer-one table words (Err f) (Err g) (inl h) (inr k) = absurd (not-read table (tokens table 0 words) [] k.0 f k.1 h)
-answer-one table words (Err f) (Err g) (inr h) (inl k) = absurd (not-read table (tokens table 0 words) [] h.0 g h.1 k)
-answer-one table words (Err f) (Err g) (inr h) (inr k) =
-    (let same : end_fault (length words) h.0 ≡ end_fault (length words) k.0 = ap (end_fault (length words)) (read-one table (tokens table 0 words) [] h.0 k.0 h.1 k.1) in
+answer-one words (Err f) (Err g) (inl h) (inl k) = ap Err (stops-one (tokens 0 words) [] f g h k)
+answer-one words (Err f) (Err g) (inl h) (inr k) = absurd (not-read (tokens 0 words) [] k.0 f k.1 h)
+answer-one words (Err f) (Err g) (inr h) (inl k) = absurd (not-read (tokens 0 words) [] h.0 g h.1 k)
+answer-one words (Err f) (Err g) (inr h) (inr k) =
+    (let same : end_fault (length words) h.0 ≡ end_fault (length words) k.0 = ap (end_fault (length words)) (read-one (tokens 0 words) [] h.0 k.0 h.1 k.1) in
     cc (h.2, k.2, same))
 
 -- ---- the call's answer
@@ -248,14 +247,14 @@ abbrev pub as_answer : Result Command Fault → Result Command WordError
 as_answer (Ok c) = Ok c
 as_answer (Err f) = Err (as_error f)
 
-pub known : (table : Table) (words : List (List ℕ)) (r : Result Command WordError) (a : Result Command Fault) → Answers table words r → IsAnswer table words a → (r ≡ as_answer a) ⊎ IsErrOf r NoMemory
-known table words (Ok c) a h k = inl (ap as_answer (answer-one table words (Ok c) a h k))
-known table words (Err (At w kind)) a h k = inl (ap as_answer (answer-one table words (Err (record { word = w; kind = kind })) a h k))
-known table words (Err NoMemory) a h k = inr refl
+pub known : (words : List (List ℕ)) (r : Result Command WordError) (a : Result Command Fault) → Answers words r → IsAnswer words a → (r ≡ as_answer a) ⊎ IsErrOf r NoMemory
+known words (Ok c) a h k = inl (ap as_answer (answer-one words (Ok c) a h k))
+known words (Err (At w kind)) a h k = inl (ap as_answer (answer-one words (Err (record { word = w; kind = kind })) a h k))
+known words (Err NoMemory) a h k = inr refl
 
 -- ---- what stands behind a fault
 
-pub fault-stays : (table : Table) (front behind : List (List ℕ)) (f : Fault) → EndsBetween table front → FaultOfFront table front f → IsAnswer table (front ++ behind) (Err f)
-fault-stays table front behind f ends h =
-    let rest : List Token = tokens table (length front) behind in
+pub fault-stays : (front behind : List (List ℕ)) (f : Fault) → EndsBetween front → FaultOfFront front f → IsAnswer (front ++ behind) (Err f)
+fault-stays front behind f ends h =
+    let rest : List Token = tokens (length front) behind in
     inl (h.0, h.1, h.2 ++ rest, h.3, ends behind ∙ (ap (λ ts. ts ++ rest) h.4 ∙ append_assoc h.0 (h.1 ∷ h.2) rest), h.5, h.6)

@@ -9,8 +9,8 @@ use Rattle.ff_words.specs.Words.{same_name}
 abbrev pub HasFewMaps : OutputJob → Type 0
 HasFewMaps out = length out.maps ≤ 16
 
--- By any list of options: the size of the queues is 1 to 1,024, there are one to sixteen inputs and outputs, at most sixteen graphs
--- and maps of an output, and no written name stands twice or is that of an input.
+-- The size of the queues is 1 to 1,024, there are one to sixteen inputs and outputs, at most sixteen graphs and maps of an output,
+-- and no written name stands twice or is that of an input.
 pub record IsBounded (job : Job) : Type 0 where
   pub some_queue : 1 ≤ job.queue
   pub short_queue : job.queue ≤ 1024

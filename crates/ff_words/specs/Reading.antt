@@ -18,7 +18,6 @@ use Rattle.ff_words.specs.declared.error.WordError.TheVariants.{At, NoMemory}
 use Rattle.ff_words.specs.declared.error.WordKind.TheVariants.{TooMany, BadValue}
 use Rattle.ff_values.specs.declared.hash.HashKind.TheVariants.{Sha256}
 use Rattle.ff_words.specs.Table.{option_named}
-use Rattle.ff_words.specs.declared.table.Table.{Table}
 use Rattle.ff_words.specs.Values.{switched}
 use Rattle.ff_words.specs.declared.table.Rule.{Rule}
 use Rattle.ff_words.specs.declared.table.Kind.{Kind}
@@ -162,29 +161,29 @@ Taken es at concern v (Err (At w k)) new = late es at v ≡ Some (fault w k)
 Taken es at concern v (Err NoMemory) new = Unit {0}
 
 -- a token is read behind the entries
-abbrev pub Steps : Table → List Entry → Token → Result (Unit {0}) WordError → Reader → Type 0
-Steps table es t (Ok u) new = (e : Entry) × IsEntry table es t e × (new ≡ reader (es ++ e ∷ []))
-Steps table es t (Err (At w k)) new = IsFaultAt table es t (fault w k)
-Steps table es t (Err NoMemory) new = Unit {0}
+abbrev pub Steps : List Entry → Token → Result (Unit {0}) WordError → Reader → Type 0
+Steps es t (Ok u) new = (e : Entry) × IsEntry es t e × (new ≡ reader (es ++ e ∷ []))
+Steps es t (Err (At w k)) new = IsFaultAt es t (fault w k)
+Steps es t (Err NoMemory) new = Unit {0}
 
 -- the word at a place
 abbrev pub word_at : List (List ℕ) → ℕ → List ℕ
 word_at words at = unwrap_or (slice_get words at) []
 
 -- the token at a place, where a word is there
-abbrev pub token_at : Table → List (List ℕ) → ℕ → Token
-token_at table words at =
-    record { at = at; word = word_at words at; value = if takes_value table (word_at words at) then slice_get words (at + 1) else None }
+abbrev pub token_at : List (List ℕ) → ℕ → Token
+token_at words at =
+    record { at = at; word = word_at words at; value = if takes_value (word_at words at) then slice_get words (at + 1) else None }
 
 abbrev pub width : Option (List ℕ) → ℕ
 width None = 1
 width (Some v) = 2
 
 -- a given value is read
-abbrev pub Given : Table → List Entry → ℕ → Rule → List ℕ → Result (Unit {0}) WordError → Reader → Type 0
-Given table es at rule text result new =
-    (t : Token) → t.at ≡ at → t.value ≡ Some text → is_too_much t.at t.word ≡ false → is_dashed t.word ≡ true → option_named table t.word ≡ Some rule
-    → switched rule.kind ≡ None → Steps table es t result new
+abbrev pub Given : List Entry → ℕ → Rule → List ℕ → Result (Unit {0}) WordError → Reader → Type 0
+Given es at rule text result new =
+    (t : Token) → t.at ≡ at → t.value ≡ Some text → is_too_much t.at t.word ≡ false → is_dashed t.word ≡ true → option_named t.word ≡ Some rule
+    → switched rule.kind ≡ None → Steps es t result new
 
 abbrev pub full : Kind → Reader → Bool
 full kind.Map r = nat_le 16 (length r.pending.maps)
@@ -192,11 +191,11 @@ full kind.Complex r = nat_le 16 (length r.graphs)
 full _ r = false
 
 -- what a front of the words was read as
-pub record Stands (table : Table) (words : List (List ℕ)) (at : ℕ) (r : Reader) : Type 0 where
+pub record Stands (words : List (List ℕ)) (at : ℕ) (r : Reader) : Type 0 where
   pub es : List Entry
   pub front : List Token
-  pub split : tokens table 0 words ≡ front ++ tokens table at (drop at words)
-  pub are_read : AreRead table [] front es
+  pub split : tokens 0 words ≡ front ++ tokens at (drop at words)
+  pub are_read : AreRead [] front es
   pub kept : r ≡ reader es
   pub bound : at ≤ 1025
 
@@ -217,10 +216,10 @@ Ended count r (Err (At w k)) = end_wrong count r ≡ Some (fault w k)
 Ended count r (Err NoMemory) = Unit {0}
 
 -- the answer of the call; want of memory says nothing of the words
-abbrev pub Answers : Table → List (List ℕ) → Result Command WordError → Type 0
-Answers table words (Ok c) = IsAnswer table words (Ok c)
-Answers table words (Err (At w k)) = IsAnswer table words (Err (fault w k))
-Answers table words (Err NoMemory) = Unit {0}
+abbrev pub Answers : List (List ℕ) → Result Command WordError → Type 0
+Answers words (Ok c) = IsAnswer words (Ok c)
+Answers words (Err (At w k)) = IsAnswer words (Err (fault w k))
+Answers words (Err NoMemory) = Unit {0}
 
 -- a fault as the call answers it
 abbrev pub as_error : Fault → WordError

@@ -16,7 +16,6 @@ use Rattle.ff_words.specs.declared.error.WordKind.{WordKind}
 use Rattle.ff_words.specs.declared.job.Solo.TheVariants.{Help, Version, SelfRun}
 use Rattle.ff_words.specs.declared.error.WordKind.TheVariants.{BadValue, BadTime, BadMap, BadGraph}
 use Rattle.ff_words.specs.declared.table.Named.{Named}
-use Rattle.ff_words.specs.declared.table.Table.{Table}
 use Rattle.ff_words.specs.declared.table.Kind.{Kind}
 use Rattle.ff_words.specs.declared.table.Kind.TheVariants as kind
 use Rattle.ff_words.specs.declared.value.Micros.{Micros}
@@ -89,13 +88,13 @@ switched kind.Version = Some (value.Solo Version)
 switched _ = None
 
 -- the value of a list that the text names
-abbrev pub value_named : Table → Kind → List ℕ → Option Value
-value_named t kind.Level text = level_value text
-value_named t kind.Format text = format_value (format_named t text)
-value_named t kind.AudioCodec text = codec_value value.AudioCodec (audio_codec t text)
-value_named t kind.VideoCodec text = codec_value value.VideoCodec (video_codec t text)
-value_named t kind.Hash text = hash_value text
-value_named t _ text = None
+abbrev pub value_named : Kind → List ℕ → Option Value
+value_named kind.Level text = level_value text
+value_named kind.Format text = format_value (format_named text)
+value_named kind.AudioCodec text = codec_value value.AudioCodec (audio_codec text)
+value_named kind.VideoCodec text = codec_value value.VideoCodec (video_codec text)
+value_named kind.Hash text = hash_value text
+value_named _ text = None
 
 -- kinds whose values are numbers, times or names of a list
 abbrev pub IsSmall : Kind → Type 0
@@ -111,26 +110,26 @@ IsSmall kind.Hash = Unit {0}
 IsSmall _ = ⊥
 
 -- the text, as the value of an option of this kind, reads so
-abbrev pub Reads : Table → Kind → List ℕ → Result Value WordKind → Type 0
-Reads t kind.Nothing text r = ⊥
-Reads t kind.NoStats text r = ⊥
-Reads t kind.NoVideo text r = ⊥
-Reads t kind.NoAudio text r = ⊥
-Reads t kind.Shortest text r = ⊥
-Reads t kind.Help text r = ⊥
-Reads t kind.Version text r = ⊥
-Reads t kind.Level text r = r ≡ or_bad (value_named t kind.Level text)
-Reads t kind.Complex text r = Makes value.Complex (ReadsGraph text) r
-Reads t kind.Queue text r = Makes value.Queue (ReadsWhole 1 1024 text) r
-Reads t kind.Trace text r = r ≡ Ok (value.Trace text)
-Reads t kind.SelfRun text r = Makes (λ n. value.Solo (SelfRun n)) (ReadsWhole 0 3600 text) r
-Reads t kind.Format text r = r ≡ or_bad (value_named t kind.Format text)
-Reads t kind.Start text r = Makes value.Start (ReadsTime text) r
-Reads t kind.Length text r = Makes value.Length (ReadsTime text) r
-Reads t kind.Input text r = r ≡ Ok (value.Input text)
-Reads t kind.Map text r = Makes value.Map (ReadsMap text) r
-Reads t kind.AudioCodec text r = r ≡ or_bad (value_named t kind.AudioCodec text)
-Reads t kind.VideoCodec text r = r ≡ or_bad (value_named t kind.VideoCodec text)
-Reads t kind.VideoGraph text r = Makes value.VideoGraph (ReadsGraph text) r
-Reads t kind.AudioGraph text r = Makes value.AudioGraph (ReadsGraph text) r
-Reads t kind.Hash text r = r ≡ or_bad (value_named t kind.Hash text)
+abbrev pub Reads : Kind → List ℕ → Result Value WordKind → Type 0
+Reads kind.Nothing text r = ⊥
+Reads kind.NoStats text r = ⊥
+Reads kind.NoVideo text r = ⊥
+Reads kind.NoAudio text r = ⊥
+Reads kind.Shortest text r = ⊥
+Reads kind.Help text r = ⊥
+Reads kind.Version text r = ⊥
+Reads kind.Level text r = r ≡ or_bad (value_named kind.Level text)
+Reads kind.Complex text r = Makes value.Complex (ReadsGraph text) r
+Reads kind.Queue text r = Makes value.Queue (ReadsWhole 1 1024 text) r
+Reads kind.Trace text r = r ≡ Ok (value.Trace text)
+Reads kind.SelfRun text r = Makes (λ n. value.Solo (SelfRun n)) (ReadsWhole 0 3600 text) r
+Reads kind.Format text r = r ≡ or_bad (value_named kind.Format text)
+Reads kind.Start text r = Makes value.Start (ReadsTime text) r
+Reads kind.Length text r = Makes value.Length (ReadsTime text) r
+Reads kind.Input text r = r ≡ Ok (value.Input text)
+Reads kind.Map text r = Makes value.Map (ReadsMap text) r
+Reads kind.AudioCodec text r = r ≡ or_bad (value_named kind.AudioCodec text)
+Reads kind.VideoCodec text r = r ≡ or_bad (value_named kind.VideoCodec text)
+Reads kind.VideoGraph text r = Makes value.VideoGraph (ReadsGraph text) r
+Reads kind.AudioGraph text r = Makes value.AudioGraph (ReadsGraph text) r
+Reads kind.Hash text r = r ≡ or_bad (value_named kind.Hash text)

@@ -27,7 +27,6 @@ use Rattle.ff_words.specs.declared.job.Solo.TheVariants.{Help, Version, SelfRun}
 use Rattle.ff_time.specs.declared.cut.TimeCut.{TimeCut}
 use Rattle.ff_words.specs.declared.value.Micros.{Micros}
 use Rattle.ff_words.specs.declared.table.Rule.{Rule}
-use Rattle.ff_words.specs.declared.table.Table.{Table}
 use Rattle.ff_words.specs.declared.table.Kind.{Kind}
 use Rattle.ff_words.specs.declared.table.Kind.TheVariants as kind
 use Rattle.ff_words.specs.declared.table.Concern.{Concern}
@@ -62,16 +61,16 @@ takes None = false
 takes (Some rule) = not (is_some (switched rule.kind))
 
 -- the word is an option with a value
-abbrev pub takes_value : Table → List ℕ → Bool
-takes_value t word = takes (option_named t word)
+abbrev pub takes_value : List ℕ → Bool
+takes_value word = takes (option_named word)
 
-abbrev pub tokens : Table → ℕ → List (List ℕ) → List Token
-tokens t n [] = []
-tokens t n (w ∷ []) = (record { at = n; word = w; value = None }) ∷ []
-tokens t n (w ∷ v ∷ ws) =
-    if takes_value t w
-    then (record { at = n; word = w; value = Some v }) ∷ tokens t (n + 2) ws
-    else (record { at = n; word = w; value = None }) ∷ tokens t (n + 1) (v ∷ ws)
+abbrev pub tokens : ℕ → List (List ℕ) → List Token
+tokens n [] = []
+tokens n (w ∷ []) = (record { at = n; word = w; value = None }) ∷ []
+tokens n (w ∷ v ∷ ws) =
+    if takes_value w
+    then (record { at = n; word = w; value = Some v }) ∷ tokens (n + 2) ws
+    else (record { at = n; word = w; value = None }) ∷ tokens (n + 1) (v ∷ ws)
 
 -- ---- (b) each file has the options between it and the file before
 
@@ -301,33 +300,33 @@ option_fault es t (Some rule) = if takes (Some rule) then given_fault es t.at ru
 
 -- What is wrong with a token behind those that were read, before its value is looked at: the word is too much, it is no
 -- option, its value is missing, it is one too many, or its value is too much.
-abbrev pub early : Table → List Entry → Token → Option Fault
-early table es t =
+abbrev pub early : List Entry → Token → Option Fault
+early es t =
     if is_too_much t.at t.word then Some (fault t.at TooMany) else
-    (if is_dashed t.word then option_fault es t (option_named table t.word) else None)
+    (if is_dashed t.word then option_fault es t (option_named t.word) else None)
 
 abbrev pub placed : ℕ → Result Value WordKind → Result Value Fault
 placed at (Ok v) = Ok v
 placed at (Err k) = Err (fault at k)
 
 -- what an option reads as
-abbrev pub IsOption : Table → ℕ → Rule → Option Value → Option (List ℕ) → Concern → Result Value Fault → Type 0
-IsOption table at rule (Some v) given concern r = (concern ≡ rule.concern) × (r ≡ Ok v)
-IsOption table at rule None None concern r = ⊥
-IsOption table at rule None (Some text) concern r =
-    (concern ≡ rule.concern) × (read : Result Value WordKind) × Reads table rule.kind text read × (r ≡ placed (at + 1) read)
+abbrev pub IsOption : ℕ → Rule → Option Value → Option (List ℕ) → Concern → Result Value Fault → Type 0
+IsOption at rule (Some v) given concern r = (concern ≡ rule.concern) × (r ≡ Ok v)
+IsOption at rule None None concern r = ⊥
+IsOption at rule None (Some text) concern r =
+    (concern ≡ rule.concern) × (read : Result Value WordKind) × Reads rule.kind text read × (r ≡ placed (at + 1) read)
 
-abbrev pub IsNamed : Table → Token → Option Rule → Concern → Result Value Fault → Type 0
-IsNamed table t None concern r = ⊥
-IsNamed table t (Some rule) concern r = IsOption table t.at rule (switched rule.kind) t.value concern r
+abbrev pub IsNamed : Token → Option Rule → Concern → Result Value Fault → Type 0
+IsNamed t None concern r = ⊥
+IsNamed t (Some rule) concern r = IsOption t.at rule (switched rule.kind) t.value concern r
 
 -- The token concerns so, and reads as this value or is this fault. A word without a dash is an output.
-abbrev pub IsToken : Table → Token → Bool → Concern → Result Value Fault → Type 0
-IsToken table t false concern r = (concern ≡ Itself) × (r ≡ Ok (value.Output t.word (format_ending table t.word)))
-IsToken table t true concern r = IsNamed table t (option_named table t.word) concern r
+abbrev pub IsToken : Token → Bool → Concern → Result Value Fault → Type 0
+IsToken t false concern r = (concern ≡ Itself) × (r ≡ Ok (value.Output t.word (format_ending t.word)))
+IsToken t true concern r = IsNamed t (option_named t.word) concern r
 
-abbrev pub TokenReads : Table → Token → Concern → Result Value Fault → Type 0
-TokenReads table t concern r = IsToken table t (is_dashed t.word) concern r
+abbrev pub TokenReads : Token → Concern → Result Value Fault → Type 0
+TokenReads t concern r = IsToken t (is_dashed t.word) concern r
 
 -- the place of the first option for which the test holds
 abbrev pub first_place : (Concern → Bool) → List Entry → Option ℕ
@@ -402,20 +401,20 @@ late es at _ = None
 -- ---- reading
 
 -- the token, behind those that were read, is read as this entry
-abbrev pub IsEntry : Table → List Entry → Token → Entry → Type 0
-IsEntry table es t e = (early table es t ≡ None) × TokenReads table t e.concern (Ok e.value) × (e.at ≡ t.at) × (late es t.at e.value ≡ None)
+abbrev pub IsEntry : List Entry → Token → Entry → Type 0
+IsEntry es t e = (early es t ≡ None) × TokenReads t e.concern (Ok e.value) × (e.at ≡ t.at) × (late es t.at e.value ≡ None)
 
 -- the token, behind those that were read, is this fault
-abbrev pub IsFaultAt : Table → List Entry → Token → Fault → Type 0
-IsFaultAt table es t f =
-    (early table es t ≡ Some f)
-    ⊎ (((concern : Concern) × (early table es t ≡ None) × TokenReads table t concern (Err f))
-    ⊎ ((concern : Concern) × (v : Value) × (early table es t ≡ None) × TokenReads table t concern (Ok v) × (late es t.at v ≡ Some f)))
+abbrev pub IsFaultAt : List Entry → Token → Fault → Type 0
+IsFaultAt es t f =
+    (early es t ≡ Some f)
+    ⊎ (((concern : Concern) × (early es t ≡ None) × TokenReads t concern (Err f))
+    ⊎ ((concern : Concern) × (v : Value) × (early es t ≡ None) × TokenReads t concern (Ok v) × (late es t.at v ≡ Some f)))
 
 -- behind entries the tokens are read as more of them
-abbrev pub AreRead : Table → List Entry → List Token → List Entry → Type 0
-AreRead table es [] all = es ≡ all
-AreRead table es (t ∷ ts) all = (e : Entry) × IsEntry table es t e × AreRead table (es ++ e ∷ []) ts all
+abbrev pub AreRead : List Entry → List Token → List Entry → Type 0
+AreRead es [] all = es ≡ all
+AreRead es (t ∷ ts) all = (e : Entry) × IsEntry es t e × AreRead (es ++ e ∷ []) ts all
 
 abbrev pub written : Job → List (List ℕ)
 written j = map (λ (o : OutputJob). o.name) j.outputs ++ option_to_list j.trace
@@ -459,24 +458,24 @@ end_fault count es =
     misplaced (first_place not_at_end (groups es).behind) (end_by count (command es))
 
 -- behind those that were read, some tokens are read, and the next is this fault
-abbrev pub Stops : Table → List Entry → List Token → Fault → Type 0
-Stops table es ts f =
+abbrev pub Stops : List Entry → List Token → Fault → Type 0
+Stops es ts f =
     (front : List Token) × (t : Token) × (behind : List Token) × (all : List Entry)
-    × (ts ≡ front ++ t ∷ behind) × AreRead table es front all × IsFaultAt table all t f
+    × (ts ≡ front ++ t ∷ behind) × AreRead es front all × IsFaultAt all t f
 
 -- the words are this command, or this is their first fault
-abbrev pub IsAnswer : Table → List (List ℕ) → Result Command Fault → Type 0
-IsAnswer table words (Ok c) =
-    (es : List Entry) × AreRead table [] (tokens table 0 words) es × (end_fault (length words) es ≡ None) × (c ≡ command es)
-IsAnswer table words (Err f) =
-    Stops table [] (tokens table 0 words) f
-    ⊎ ((es : List Entry) × AreRead table [] (tokens table 0 words) es × (end_fault (length words) es ≡ Some f))
+abbrev pub IsAnswer : List (List ℕ) → Result Command Fault → Type 0
+IsAnswer words (Ok c) =
+    (es : List Entry) × AreRead [] (tokens 0 words) es × (end_fault (length words) es ≡ None) × (c ≡ command es)
+IsAnswer words (Err f) =
+    Stops [] (tokens 0 words) f
+    ⊎ ((es : List Entry) × AreRead [] (tokens 0 words) es × (end_fault (length words) es ≡ Some f))
 
 -- whatever follows the words, their last option has its value among them
-abbrev pub EndsBetween : Table → List (List ℕ) → Type 0
-EndsBetween table front =
-    (behind : List (List ℕ)) → tokens table 0 (front ++ behind) ≡ tokens table 0 front ++ tokens table (length front) behind
+abbrev pub EndsBetween : List (List ℕ) → Type 0
+EndsBetween front =
+    (behind : List (List ℕ)) → tokens 0 (front ++ behind) ≡ tokens 0 front ++ tokens (length front) behind
 
 -- a fault at one of the words, not at their end
-abbrev pub FaultOfFront : Table → List (List ℕ) → Fault → Type 0
-FaultOfFront table front f = Stops table [] (tokens table 0 front) f
+abbrev pub FaultOfFront : List (List ℕ) → Fault → Type 0
+FaultOfFront front f = Stops [] (tokens 0 front) f

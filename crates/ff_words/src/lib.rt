@@ -27,5 +27,5 @@ mod value;
 pub use error::{WordError, WordKind};
 pub use job::{Command, FileFormat, InputJob, Job, OutputJob, Solo};
 pub use laws::{a_fault_stays, words_have_one_answer, written_commands_are_read};
-pub use read::{read_words, read_words_by};
-pub use table::{AUDIO_CODECS, Concern, Doing, FORMATS, Kind, OPTIONS, Table, VIDEO_CODECS};
+pub use read::read_words;
+pub use table::{AUDIO_CODECS, Concern, FORMATS, Kind, OPTIONS, VIDEO_CODECS};

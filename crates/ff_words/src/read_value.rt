@@ -6,7 +6,7 @@ ghost use Rattle.ff_words.specs.Values.{Reads, ReadsGraph, ReadsTime, ReadsMap, 
 
 use crate::error::WordKind;
 use crate::job::Solo;
-use crate::table::{Kind, Table, audio_codec, format_of, is_level, video_codec};
+use crate::table::{Kind, audio_codec, format_of, is_level, video_codec};
 use crate::value::{Micros, Value};
 use ff_lang::{Graph, LangError, Text, read_graph};
 use ff_map::{MapError, MapSpec, read_map};
@@ -137,12 +137,11 @@ pub(crate) fn text_of(alloc: Global, text: &str) -> Result<Text, AllocError>
 /// What the text reads as, as the value of an option of this kind, which has one.
 pub(crate) fn read_value(
     alloc: Global,
-    table: Table,
     kind: Kind,
     text: &str,
 ) -> Result<Result<Value, WordKind>, AllocError>
     requires { switched kind ≡ None }
-    ensures { IfOk result (λ r. Reads table kind text.now r) }
+    ensures { IfOk result (λ r. Reads kind text.now r) }
 {
     match kind {
         Kind::Complex => match graph_of(alloc, text)? {
@@ -163,14 +162,14 @@ pub(crate) fn read_value(
         },
         Kind::Input => Ok(Ok(Value::Input(text_of(alloc, text)?))),
         Kind::Trace => Ok(Ok(Value::Trace(text_of(alloc, text)?))),
-        kind => Ok(read_small(table, kind, text)),
+        kind => Ok(read_small(kind, text)),
     }
 }
 
 // The same of a value that is no text and no structure.
-fn read_small(table: Table, kind: Kind, text: &str) -> Result<Value, WordKind>
+fn read_small(kind: Kind, text: &str) -> Result<Value, WordKind>
     requires { IsSmall kind }
-    ensures { Reads table kind text.now result }
+    ensures { Reads kind text.now result }
 {
     match kind {
         Kind::Start => match time_of(text) {
@@ -189,16 +188,16 @@ fn read_small(table: Table, kind: Kind, text: &str) -> Result<Value, WordKind>
             Ok(seconds) => Ok(Value::Solo(Solo::SelfRun(seconds))),
             Err(kind) => Err(kind),
         },
-        kind => named_value(table, kind, text).ok_or(WordKind::BadValue),
+        kind => named_value(kind, text).ok_or(WordKind::BadValue),
     }
 }
 
 // The value of a list that the text names.
-fn named_value(table: Table, kind: Kind, text: &str) -> Option<Value>
-    ensures { result ≡ value_named table kind text.now }
+fn named_value(kind: Kind, text: &str) -> Option<Value>
+    ensures { result ≡ value_named kind text.now }
 {
     match kind {
-        Kind::Format => match format_of(table, text) {
+        Kind::Format => match format_of(text) {
             Some(named) => Some(Value::Format {
                 format: named.format,
                 read: named.read,
@@ -206,11 +205,11 @@ fn named_value(table: Table, kind: Kind, text: &str) -> Option<Value>
             }),
             None => None,
         },
-        Kind::AudioCodec => match audio_codec(table, text) {
+        Kind::AudioCodec => match audio_codec(text) {
             Some(codec) => Some(Value::AudioCodec(codec)),
             None => None,
         },
-        Kind::VideoCodec => match video_codec(table, text) {
+        Kind::VideoCodec => match video_codec(text) {
             Some(codec) => Some(Value::VideoCodec(codec)),
             None => None,
         },

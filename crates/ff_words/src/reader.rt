@@ -16,7 +16,7 @@ use crate::cuts::cut;
 use crate::error::{Fault, WordError, WordKind};
 use crate::job::{Command, FileFormat, InputJob, Job, OutputJob, Solo};
 use crate::read_value::{read_value, text_of};
-use crate::table::{Concern, Kind, Rule, Table, find_option, format_ending};
+use crate::table::{Concern, Kind, Rule, find_option, format_ending};
 use crate::value::{Micros, Value};
 use ff_lang::{Graph, Sequence, Text};
 use ff_map::MapSpec;
@@ -357,17 +357,10 @@ impl Reader {
     }
 
     // The value of an option.
-    fn given(
-        &mut self,
-        alloc: Global,
-        table: Table,
-        at: u32,
-        rule: Rule,
-        text: &str,
-    ) -> Result<(), WordError>
+    fn given(&mut self, alloc: Global, at: u32, rule: Rule, text: &str) -> Result<(), WordError>
         requires bound { at < 1024 }
         requires valued { switched rule.kind ≡ None }
-        ensures { (es : List Entry) → self.old ≡ reader es → Given table es at rule text.now result self.new }
+        ensures { (es : List Entry) → self.old ≡ reader es → Given es at rule text.now result self.new }
     {
         if self.is_full(rule.kind) {
             return Err(WordError::At {
@@ -381,7 +374,7 @@ impl Reader {
                 kind: WordKind::TooMany,
             });
         }
-        match read_value(alloc, table, rule.kind, text)? {
+        match read_value(alloc, rule.kind, text)? {
             Ok(value) => self.take(alloc, at, rule.concern, value),
             Err(kind) => Err(WordError::At { word: at + 1, kind }),
         }
@@ -391,13 +384,12 @@ impl Reader {
     pub(crate) fn token(
         &mut self,
         alloc: Global,
-        table: Table,
         words: &[String],
         at: usize,
     ) -> Result<(), WordError>
         requires there { at < length words.now }
         requires bound { at ≤ 1025 }
-        ensures step { (es : List Entry) → self.old ≡ reader es → Steps table es (token_at table (texts words.now) at) result self.new }
+        ensures step { (es : List Entry) → self.old ≡ reader es → Steps es (token_at (texts words.now) at) result self.new }
         ensures bound { OnOk result (at < 1024) }
     {
         let word = word_text(words, at);
@@ -408,7 +400,7 @@ impl Reader {
             });
         }
         if !is_dashed(word) {
-            let ending = format_ending(table, word);
+            let ending = format_ending(word);
             let name = text_of(alloc, word)?;
             return self.take(
                 alloc,
@@ -417,7 +409,7 @@ impl Reader {
                 Value::Output(name, ending),
             );
         }
-        match find_option(table, word) {
+        match find_option(word) {
             None => Err(WordError::At {
                 word: at as u32,
                 kind: WordKind::UnknownOption,
@@ -427,7 +419,7 @@ impl Reader {
                 None => {
                     if at + 1 < words.len() {
                         let text = word_text(words, at + 1);
-                        self.given(alloc, table, at as u32, rule, text)
+                        self.given(alloc, at as u32, rule, text)
                     } else {
                         Err(WordError::At {
                             word: at as u32,
@@ -572,12 +564,12 @@ fn word_text(words: &[String], place: usize) -> &str
 }
 
 /// Where reading goes on behind the token at a place.
-pub(crate) fn next_place(table: Table, words: &[String], at: usize) -> usize
+pub(crate) fn next_place(words: &[String], at: usize) -> usize
     requires there { at < length words.now }
     requires bound { at < 1024 }
-    ensures { result ≡ at + width (token_at table (texts words.now) at).value }
+    ensures { result ≡ at + width (token_at (texts words.now) at).value }
 {
-    match find_option(table, words[at].as_str()) {
+    match find_option(words[at].as_str()) {
         None => at + 1,
         Some(rule) => match valueless(rule.kind) {
             Some(_value) => at + 1,

@@ -2,7 +2,6 @@ use Rattle.std.proofs.Common.{Ok, inl, inr, refl, sym, ◌∙◌, subst}
 use Rattle.ff_files.specs.Counts.{Counts}
 use Rattle.ff_words.specs.Words.{texts}
 use Rattle.ff_words.specs.Reading.{Answers}
-use Rattle.ff_words.specs.declared.table.Table.TheVariants.{Today}
 use Rattle.ff_command.specs.Command.{ReportsHistory, HoldsTrace}
 use Rattle.ff_command.specs.Histories.{LogHas}
 use Rattle.ff_command.proofs.Reports.{has_more, if_some_more, never_fine}
@@ -16,7 +15,7 @@ returns-in-Err-clause-answered g c =
     let ins : Counts = record { before = H.in_faults c.args.host.now; after = H.in_faults c.args.host.now } in
     let outs : Counts = record { before = H.out_faults c.args.host.now; after = H.out_faults c.args.host.now } in
     words-answered (g.P.Worker.means c.args.worker.now) words (H.files c.args.host.now) ins outs (λ n. refl) (λ n. refl) c.in-Err.error c.status_of_words.result
-    (subst (Answers Today words) c.in-Err.is c.read_words.ensures.answer) c.status_of_words.ensures
+    (subst (Answers words) c.in-Err.is c.read_words.ensures.answer) c.status_of_words.ensures
 
 pub returns-in-Ok-Solo-clause-answered : goal.returns-in-Ok-Solo-clause-answered
 returns-in-Ok-Solo-clause-answered g c =
@@ -24,7 +23,7 @@ returns-in-Ok-Solo-clause-answered g c =
     let words = texts c.args.words.now in
     let ins : Counts = record { before = H.in_faults c.args.host.now; after = H.in_faults c.args.host.now } in
     let outs : Counts = record { before = H.out_faults c.args.host.now; after = H.out_faults c.args.host.now } in
-    let asks = subst (λ x. Answers Today words (Ok x)) c.in-Ok-Solo.field-0-is (subst (Answers Today words) c.in-Ok-Solo.is c.read_words.ensures.answer) in
+    let asks = subst (λ x. Answers words (Ok x)) c.in-Ok-Solo.field-0-is (subst (Answers words) c.in-Ok-Solo.is c.read_words.ensures.answer) in
     solo-answered (g.P.Worker.means c.args.worker.now) words (H.files c.args.host.now) ins outs (λ n. refl) (λ n. refl) c.tell.result.status (c.in-Ok-Solo.solo, asks) c.tell.ensures.status
 
 pub returns-in-Ok-Run-clause-answered : goal.returns-in-Ok-Run-clause-answered
@@ -34,18 +33,18 @@ returns-in-Ok-Run-clause-answered g c =
     let ins : Counts = record { before = H.in_faults c.args.host.now; after = H.in_faults c.run_job-status.new.host } in
     let outs : Counts = record { before = H.out_faults c.args.host.now; after = H.out_faults c.run_job-status.new.host } in
     job-answered (g.P.Worker.means c.args.worker.now) words c.in-Ok-Run.job (H.files c.args.host.now) (H.files c.run_job-status.new.host) ins outs c.run_job-status.result.status
-    (subst (λ x. Answers Today words (Ok x)) c.in-Ok-Run.field-0-is (subst (Answers Today words) c.in-Ok-Run.is c.read_words.ensures.answer)) c.run_job-status.ensures.ran
+    (subst (λ x. Answers words (Ok x)) c.in-Ok-Run.field-0-is (subst (Answers words) c.in-Ok-Run.is c.read_words.ensures.answer)) c.run_job-status.ensures.ran
 
 pub returns-in-Ok-Solo-clause-told : goal.returns-in-Ok-Solo-clause-told
 returns-in-Ok-Solo-clause-told g c =
     let words = texts c.args.words.now in
-    let asks = subst (λ x. Answers Today words (Ok x)) c.in-Ok-Solo.field-0-is (subst (Answers Today words) c.in-Ok-Solo.is c.read_words.ensures.answer) in
+    let asks = subst (λ x. Answers words (Ok x)) c.in-Ok-Solo.field-0-is (subst (Answers words) c.in-Ok-Solo.is c.read_words.ensures.answer) in
     told-text words c.in-Ok-Solo.solo asks c.tell.result.told c.tell.result.status c.tell.ensures.told
 
 pub returns-in-Ok-Run-clause-alone : goal.returns-in-Ok-Run-clause-alone
 returns-in-Ok-Run-clause-alone g c = λ alone.
     let words = texts c.args.words.now in
-    let asks = subst (λ x. Answers Today words (Ok x)) c.in-Ok-Run.field-0-is (subst (Answers Today words) c.in-Ok-Run.is c.read_words.ensures.answer) in
+    let asks = subst (λ x. Answers words (Ok x)) c.in-Ok-Run.field-0-is (subst (Answers words) c.in-Ok-Run.is c.read_words.ensures.answer) in
     absurd (not-alone words c.in-Ok-Run.job asks alone)
 
 pub returns-in-Err-clause-silent : goal.returns-in-Err-clause-silent
@@ -57,7 +56,7 @@ returns-in-Ok-Solo-clause-silent g c = λ fine none. absurd (c.tell.ensures.fine
 pub returns-in-Ok-Run-clause-silent : goal.returns-in-Ok-Run-clause-silent
 returns-in-Ok-Run-clause-silent g c = λ fine none.
     let words = texts c.args.words.now in
-    (c.in-Ok-Run.job, subst (λ x. Answers Today words (Ok x)) c.in-Ok-Run.field-0-is (subst (Answers Today words) c.in-Ok-Run.is c.read_words.ensures.answer), tt)
+    (c.in-Ok-Run.job, subst (λ x. Answers words (Ok x)) c.in-Ok-Run.field-0-is (subst (Answers words) c.in-Ok-Run.is c.read_words.ensures.answer), tt)
 
 pub returns-in-Ok-Solo-clause-named : goal.returns-in-Ok-Solo-clause-named
 returns-in-Ok-Solo-clause-named g c = λ file is. absurd (only-memory c.tell.result.status file c.tell.ensures.status is)
@@ -68,13 +67,13 @@ returns-in-Err-clause-logged g c = λ fine. absurd (never_fine c.in-Err.error (s
 pub returns-in-Ok-Solo-clause-logged : goal.returns-in-Ok-Solo-clause-logged
 returns-in-Ok-Solo-clause-logged g c = λ fine.
     let words = texts c.args.words.now in
-    inl (c.in-Ok-Solo.solo, subst (λ x. Answers Today words (Ok x)) c.in-Ok-Solo.field-0-is (subst (Answers Today words) c.in-Ok-Solo.is c.read_words.ensures.answer))
+    inl (c.in-Ok-Solo.solo, subst (λ x. Answers words (Ok x)) c.in-Ok-Solo.field-0-is (subst (Answers words) c.in-Ok-Solo.is c.read_words.ensures.answer))
 
 pub returns-in-Ok-Run-clause-logged : goal.returns-in-Ok-Run-clause-logged
 returns-in-Ok-Run-clause-logged g c = λ fine.
     let words = texts c.args.words.now in
     let job = c.in-Ok-Run.job in
-    let asks = subst (λ x. Answers Today words (Ok x)) c.in-Ok-Run.field-0-is (subst (Answers Today words) c.in-Ok-Run.is c.read_words.ensures.answer) in
+    let asks = subst (λ x. Answers words (Ok x)) c.in-Ok-Run.field-0-is (subst (Answers words) c.in-Ok-Run.is c.read_words.ensures.answer) in
     let P = g.P.Worker in
     let worker = c.args.worker.now in
     inr (has_more _ (ReportsHistory (P.means worker) (λ j heads bytes log. LogHas (P.tells worker j heads bytes) (P.reads worker j heads bytes) log) words (g.H.Host.files c.args.host.now))
@@ -87,6 +86,6 @@ pub returns-in-Ok-Run-clause-traced : goal.returns-in-Ok-Run-clause-traced
 returns-in-Ok-Run-clause-traced g c = λ fine.
     let words = texts c.args.words.now in
     let job = c.in-Ok-Run.job in
-    let asks = subst (λ x. Answers Today words (Ok x)) c.in-Ok-Run.field-0-is (subst (Answers Today words) c.in-Ok-Run.is c.read_words.ensures.answer) in
+    let asks = subst (λ x. Answers words (Ok x)) c.in-Ok-Run.field-0-is (subst (Answers words) c.in-Ok-Run.is c.read_words.ensures.answer) in
     if_some_more _ (λ log. HoldsTrace words (g.H.Host.files c.args.host.now) (g.H.Host.files c.run_job-status.new.host) log.history) c.run_job-status.result.log
     (λ log held. (job, asks, held)) (c.run_job-status.ensures.traced fine)

@@ -7,4 +7,4 @@ abbrev pub decreases-words : goal.decreases-words
 decreases-words l = length l.words - l.at
 
 abbrev pub invariant-words : goal.invariant-words
-invariant-words l = Stands l.fn.table (texts l.words) l.at l.reader
+invariant-words l = Stands (texts l.words) l.at l.reader

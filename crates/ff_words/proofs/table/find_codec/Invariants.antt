@@ -3,4 +3,4 @@ use Rattle.ff_words.specs.Table.{codec_in, codecs}
 use Rattle.ff_words.proofs.table.find_codec.Given as goal
 
 abbrev pub invariant-loop-name : goal.invariant-loop-name
-invariant-loop-name l = codec_in l.table (codecs (drop l.name-index l.list)) l.word ≡ codec_in l.table (codecs l.list) l.word
+invariant-loop-name l = codec_in (codecs (drop l.name-index l.list)) l.word ≡ codec_in (codecs l.list) l.word
