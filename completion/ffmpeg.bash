@@ -14,8 +14,8 @@ _ffmpeg_words() {
     -loglevel | -v) offered='quiet panic fatal error warning info verbose debug' ;;
     -i | -sched_trace) offered='' ;;
     *)
-      offered='-y -hide_banner -nostdin -nostats -loglevel -v -filter_complex -lavfi -thread_queue_size -sched_trace -h -version'
-      offered+=' -f -i -map -c:a -codec:a -acodec -c:v -codec:v -vcodec -vf -filter:v -af -filter:a -vn -an -hash'
+      offered='-y -hide_banner -nostdin -nostats -loglevel -v -filter_complex -lavfi -thread_queue_size -sched_trace -h -version -selfrun'
+      offered+=' -f -ss -t -i -map -c:a -codec:a -acodec -c:v -codec:v -vcodec -vf -filter:v -af -filter:a -vn -an -shortest -hash'
       ;;
   esac
   # Where nothing is offered bash goes on with the names of files.
