@@ -7,8 +7,6 @@ use Rattle.ff_words.specs.declared.error.WordKind.{WordKind}
 use Rattle.ff_words.specs.declared.error.WordKind.TheVariants as word
 use Rattle.ff_plan.specs.declared.planned.PlanError.{PlanError}
 use Rattle.ff_plan.specs.declared.planned.PlanError.TheVariants as refusal
-use Rattle.ff_plan.specs.declared.planned.Unbuilt.{Unbuilt}
-use Rattle.ff_plan.specs.declared.planned.Unbuilt.TheVariants as part
 use Rattle.ff_command.specs.declared.report.Status.{Status}
 use Rattle.ff_command.specs.declared.report.Status.TheVariants as status
 
@@ -37,12 +35,6 @@ filter_fault config.Mismatch = codes "mismatch"
 filter_fault config.BadSize = codes "bad size"
 filter_fault config.NoMemory = codes "out of memory"
 
--- what no plan has yet
-abbrev pub unbuilt_fault : Unbuilt → List ℕ
-unbuilt_fault part.Complex = codes "no graphs over several streams yet"
-unbuilt_fault (part.Simple output) = codes "output " ++ decimal output ++ codes ": no graphs yet"
-unbuilt_fault (part.Shortest output) = codes "output " ++ decimal output ++ codes ": no shortest yet"
-
 -- why there is no plan
 abbrev pub plan_fault : PlanError → List ℕ
 plan_fault (refusal.NoStream output map) = codes "output " ++ decimal output ++ codes " map " ++ decimal map ++ codes ": no stream"
@@ -55,7 +47,6 @@ plan_fault (refusal.Config graph filter kind) = codes "graph " ++ decimal graph 
 plan_fault (refusal.Takes output stream) = codes "output " ++ decimal output ++ codes " stream " ++ decimal stream ++ codes ": not taken"
 plan_fault refusal.TooManyStreams = codes "too many streams"
 plan_fault refusal.TooManyGraphs = codes "too many graphs"
-plan_fault (refusal.Unbuilt part) = unbuilt_fault part
 plan_fault refusal.NoMemory = codes "out of memory"
 
 -- what is wrong, with the name of the file of a device's fault

@@ -1,10 +1,10 @@
 // What is wrong, as texts.
 ghost use Rattle.std.specs.Prelude.{◌≡◌, ◌≢◌, ◌++◌, IfOk, codes, decimal, string_bytes};
 ghost use Rattle.ff_lists.specs.Text.{line};
-ghost use Rattle.ff_command.specs.Texts.{word_fault, filter_fault, unbuilt_fault, plan_fault, status_fault, fault_text};
+ghost use Rattle.ff_command.specs.Texts.{word_fault, filter_fault, plan_fault, status_fault, fault_text};
 
 use crate::report::Status;
-use ff_plan::{PlanError, Unbuilt};
+use ff_plan::PlanError;
 use ff_values::ConfigError;
 use ff_words::WordKind;
 use std::alloc::{AllocError, Global};
@@ -100,17 +100,6 @@ fn config_text(
     format!(in alloc; "graph {graph} filter {filter}: {why}")
 }
 
-// What no plan has yet.
-fn unbuilt_text(alloc: Global, part: Unbuilt) -> Result<String, AllocError>
-    ensures { IfOk result (λ text. string_bytes text ≡ unbuilt_fault part) }
-{
-    match part {
-        Unbuilt::Complex => fixed(alloc, "no graphs over several streams yet"),
-        Unbuilt::Simple { output } => of_number(alloc, "output ", output, ": no graphs yet"),
-        Unbuilt::Shortest { output } => of_number(alloc, "output ", output, ": no shortest yet"),
-    }
-}
-
 // Why there is no plan.
 fn plan_text(alloc: Global, why: &PlanError) -> Result<String, AllocError>
     ensures { IfOk result (λ text. string_bytes text ≡ plan_fault why.now) }
@@ -145,7 +134,6 @@ fn plan_text(alloc: Global, why: &PlanError) -> Result<String, AllocError>
         }
         PlanError::TooManyStreams => fixed(alloc, "too many streams"),
         PlanError::TooManyGraphs => fixed(alloc, "too many graphs"),
-        PlanError::Unbuilt { part } => unbuilt_text(alloc, *part),
         PlanError::NoMemory => fixed(alloc, "out of memory"),
     }
 }

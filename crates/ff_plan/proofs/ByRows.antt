@@ -17,7 +17,7 @@ use Rattle.ff_sched.specs.declared.routes.Routes.{Routes}
 use Rattle.ff_plan.specs.Layout.{Laid, Layout, place_row, place_from, placed, shows, used, used_inputs}
 use Rattle.ff_plan.specs.Nodes.{plan_of, nodes_of, routes_of}
 use Rattle.ff_plan.specs.Numbering.{Firsts, firsts_at, all_sources, demux_wire_in, pad_wire_in, pad_wires_in, shortest_wire_in, enc_wire_in, joint_wire_in, mux_wire_in, frame_wires_in, wires_in, streams_in, inputs_in, routes_in, drawing_of, with_drawing, plan_in, HasFewIns}
-use Rattle.ff_plan.specs.Plain.{rows}
+use Rattle.ff_plan.specs.Rows.{rows}
 use Rattle.ff_plan.specs.Wires.{edges_of}
 use Rattle.ff_plan.proofs.Layouts.{joined_length, map_length, range_length, row_length}
 use Rattle.ff_plan.proofs.Limits.{filter_few, streams_length}

@@ -30,8 +30,8 @@ use Rattle.ff_plan.specs.Planned.{labels_of, graphs_of, layout_of, laid_out, pla
 use Rattle.ff_plan.specs.Rules.{Rules}
 use Rattle.ff_plan.specs.Streams.{Inside, Passed, graph_of, packed_as}
 use Rattle.ff_plan.specs.Wires.{Wire, enters_node, leaves_node, edges_of}
+use Rattle.ff_plan.proofs.Rising.{number_at}
 use Rattle.ff_plan.proofs.Among.{never}
-use Rattle.ff_plan.proofs.Fitting.{number_at}
 use Rattle.ff_plan.proofs.Graphed.{Walked, walked, walked_laid, inside_of}
 use Rattle.ff_plan.proofs.GraphFits.{get_either, get_left, get_map, get_right}
 use Rattle.ff_plan.proofs.GraphLanes.{lanes_joined, lanes_none}

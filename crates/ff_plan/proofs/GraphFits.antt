@@ -35,13 +35,12 @@ use Rattle.ff_plan.specs.Planned.{labels_of, graphs_of, layout_of, laid_out, pla
 use Rattle.ff_plan.specs.Rules.{Rules, OpenOut}
 use Rattle.ff_plan.specs.Streams.{Inside, Passed, graph_of, null_graph, simple_of}
 use Rattle.ff_plan.specs.Wires.{edges_of}
-use Rattle.ff_plan.proofs.Among.{never, all_map, among_either, among_left, among_right, among_flat, among_map}
+use Rattle.ff_plan.proofs.Among.{never, all_map, among_either, among_left, among_right, among_flat, among_map, each_of, of_flat}
 use Rattle.ff_plan.proofs.Counts.{below_range, tally_any, tally_joined, tally_among}
 use Rattle.ff_plan.proofs.Graphed.{Stands, Walked, walked, walked_laid, inside_of, ins_from, of_map}
 use Rattle.ff_plan.proofs.GraphLanes.{into_graph, out_of_graph}
 use Rattle.ff_plan.proofs.Kept.{nothing, same_some, among_at, at_map, below_at}
-use Rattle.ff_plan.proofs.Laid.{each_of, of_flat, place_holds}
-use Rattle.ff_plan.proofs.Layouts.{map_length, range_length, nat_self}
+use Rattle.ff_plan.proofs.Layouts.{map_length, range_length, nat_self, place_holds}
 use Rattle.ff_plan.proofs.Made.{Comes, comes_left}
 use Rattle.ff_plan.proofs.Numbered.{tally_hit}
 use Rattle.ff_plan.proofs.Once.{in_all, had, clear_at}

@@ -22,9 +22,8 @@ use Rattle.ff_plan.specs.Pads.{Want, Made, made_at, all_wants, make_all, unlabel
 use Rattle.ff_plan.specs.Planned.{layout_of, limited, laid_out, outputs_from, unused_label, simple_graphs}
 use Rattle.ff_plan.specs.Rules.{Rules, OpenOut, Planned, behind, unless, where_so}
 use Rattle.ff_plan.specs.Streams.{Inside, Passed, graph_of}
-use Rattle.ff_plan.proofs.Among.{all_map, all_flat, place_among, among_right, among_either, among_map, among_flat}
-use Rattle.ff_plan.proofs.Laid.{each_of, of_flat, place_holds}
-use Rattle.ff_plan.proofs.Layouts.{nat_self, joined_length, map_length}
+use Rattle.ff_plan.proofs.Among.{all_map, all_flat, place_among, among_right, among_either, among_map, among_flat, each_of, of_flat}
+use Rattle.ff_plan.proofs.Layouts.{nat_self, joined_length, map_length, place_holds}
 use Rattle.ff_plan.proofs.Made.{Comes, IsShown, IsOpen, IsMade, AreMade, found_is, made_all, ins_come, wants_fit}
 use Rattle.ff_plan.proofs.Numbered.{hit, miss, is_same}
 use Rattle.ff_plan.proofs.Outs.{was_false, IsFiltered, AreOutputs, Passes, outputs_are, outputs_pass}

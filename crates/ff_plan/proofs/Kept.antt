@@ -1,14 +1,10 @@
 -- What filters keep of lists, by places.
-use Rattle.std.proofs.Common.{◌≡◌, ℕ, zero, suc, ◌+◌, ◌<◌, ◌≤◌, inl, inr, Bool, true, false, cond, List, [], ◌∷◌, ◌++◌, map, length, slice_index_or, Option, Some, None, refl, sym, ap, ◌∙◌, subst, arith}
-use Rattle.std.specs.Prelude.{slice_get, replicate, unwrap_or, ◌||◌}
+use Rattle.std.proofs.Common.{◌≡◌, ℕ, zero, suc, ◌<◌, inl, inr, Bool, true, false, cond, List, [], ◌∷◌, map, length, slice_index_or, Option, Some, None, refl, sym, ap, ◌∙◌, subst, arith}
+use Rattle.std.specs.Prelude.{slice_get, unwrap_or, ◌||◌}
 use Rattle.std.specs.List.{position_or_len, filter, list_any}
 use Rattle.ff_plan.specs.Layout.{IsAmong}
 use Rattle.ff_plan.proofs.Among.{never}
 use Rattle.ff_plan.proofs.Numbered.{hit, miss}
-
-pub not_true : (b : Bool) → (b ≡ true → ⊥) → b ≡ false
-not_true true h = absurd (h refl)
-not_true false h = refl
 
 abbrev IsThere : {A : Type 0} → Option A → Type 0
 IsThere None = ⊥
@@ -50,10 +46,6 @@ module _ {A : Type 0} where
   at_index [] i d lt = absurd (omega (arith, lt))
   at_index (x ∷ xs) zero d lt = refl
   at_index (x ∷ xs) (suc i) d lt = at_index xs i d (omega (arith, lt))
-
-  pub some_long : (x : A) (xs : List A) → IsAmong x xs → 1 ≤ length xs
-  some_long x [] i = absurd i
-  some_long x (y ∷ ys) i = omega arith
 
 module _ {A : Type 0} (p : A → Bool) where
   keep : (x : A) (xs : List A) → p x ≡ true → filter p (x ∷ xs) ≡ x ∷ filter p xs
@@ -108,18 +100,6 @@ module _ {A : Type 0} (p : A → Bool) where
   any_there (y ∷ ys) h = any_step y ys (p y) refl (any_there ys) h
 
 module _ {A B : Type 0} where
-  step : (f : A → B) (x : A) (xs : List A) (ys : List B) (b : Bool) → ys ≡ map f xs → cond b (f x ∷ ys) ys ≡ map f (cond b (x ∷ xs) xs)
-  step f x xs ys true e = ap (λ (l : List B). f x ∷ l) e
-  step f x xs ys false e = e
-
-  pub filter_of_map : (q : B → Bool) (f : A → B) (xs : List A) → filter q (map f xs) ≡ map f (filter (λ x. q (f x)) xs)
-  filter_of_map q f [] = refl
-  filter_of_map q f (x ∷ xs) = step f x (filter (λ x. q (f x)) xs) (filter q (map f xs)) (q (f x)) (filter_of_map q f xs)
-
-  pub map_same : (f : A → B) (c : B) (xs : List A) → ((x : A) → IsAmong x xs → f x ≡ c) → map f xs ≡ replicate (length xs) c
-  map_same f c [] each = refl
-  map_same f c (x ∷ xs) each = ap (λ (y : B). y ∷ map f xs) (each x (inl refl)) ∙ ap (λ (l : List B). c ∷ l) (map_same f c xs (λ y i. each y (inr i)))
-
   pub at_map : (f : A → B) (xs : List A) (i : ℕ) (y : B) → slice_get (map f xs) i ≡ Some y → (x : A) × (slice_get xs i ≡ Some x) × (f x ≡ y)
   at_map f [] i y e = absurd (nothing y e)
   at_map f (x ∷ xs) zero y e = (x, refl, same_some (f x) y e)
@@ -129,22 +109,3 @@ module _ {A B : Type 0} where
   map_at f [] i x e = absurd (nothing x e)
   map_at f (y ∷ ys) zero x e = ap (λ (z : A). Some (f z)) (same_some y x e)
   map_at f (y ∷ ys) (suc i) x e = map_at f ys i x e
-
--- what holds of each element and its number, from this one on
-module _ {A : Type 0} (P : ℕ → A → Type 0) where
-  abbrev pub AllFrom : ℕ → List A → Type 0
-  AllFrom n [] = Unit {0}
-  AllFrom n (x ∷ xs) = P n x × AllFrom (suc n) xs
-
-  pub from_joined : (n m : ℕ) (xs ys : List A) → m ≡ n + length xs → AllFrom n xs → AllFrom m ys → AllFrom n (xs ++ ys)
-  from_joined n m [] ys e a b = subst (λ (k : ℕ). AllFrom k ys) (let f : m ≡ n = omega (arith, e) in f) b
-  from_joined n m (x ∷ xs) ys e a b = (a.0, from_joined (suc n) m xs ys (omega (arith, e)) a.1 b)
-
-  pub from_at : (n : ℕ) (xs : List A) → AllFrom n xs → (m k : ℕ) (d : A) → m ≡ n + k → k < length xs → P m (slice_index_or xs k d)
-  from_at n [] all m k d e lt = absurd (omega (arith, lt))
-  from_at n (x ∷ xs) all m zero d e lt = subst (λ (j : ℕ). P j x) (let f : n ≡ m = omega (arith, e) in f) all.0
-  from_at n (x ∷ xs) all m (suc k) d e lt = from_at (suc n) xs all.1 m k d (omega (arith, e)) (omega (arith, lt))
-
-pub from_map : {A B : Type 0} (P : ℕ → B → Type 0) (f : A → B) (n : ℕ) (xs : List A) → ((m i : ℕ) (x : A) → m ≡ n + i → slice_get xs i ≡ Some x → P m (f x)) → AllFrom P n (map f xs)
-from_map P f n [] each = tt
-from_map P f n (x ∷ xs) each = (each n 0 x (omega arith) refl, from_map P f (suc n) xs (λ m i y e at. each m (suc i) y (omega (arith, e)) at))

@@ -20,12 +20,12 @@ use Rattle.ff_plan.specs.Mapping.{unused_among}
 use Rattle.ff_plan.specs.Order.{numbers, loop_fault}
 use Rattle.ff_plan.specs.Pads.{Made, make_all}
 use Rattle.ff_plan.specs.Passing.{count_fault, laid_by, streams_by, rows_behind}
-use Rattle.ff_plan.specs.Plain.{rows, IsRefused}
+use Rattle.ff_plan.specs.Rows.{rows, layout_in}
+use Rattle.ff_plan.specs.Refusals.{IsRefused, IsFault}
 use Rattle.ff_plan.specs.Planned.{layout_of, limited, laid_out, simple_graphs}
 use Rattle.ff_plan.specs.Rules.{Rules, Planned, behind, unless, or_else, where_so}
 use Rattle.ff_plan.specs.Streams.{Passed}
 use Rattle.ff_plan.specs.Texts.{texts_from}
-use Rattle.ff_plan.specs.Whole.{IsFault, layout_in}
 use Rattle.ff_plan.proofs.Fronts.{fine, refused_behind}
 
 refused_unless : {X : Type 0} (o : Option PlanError) (r : Planned X) (e : PlanError) → IsFault o e → IsRefused (unless o r) e

@@ -52,6 +52,15 @@ row_in number output stream [] p i = absurd i
 row_in number output stream (s ∷ ss) p (inl e) = (let n : number ≡ p.number = ap (λ (p : Placed). p.number) e in (omega (arith, n), sym (ap (λ (p : Placed). p.output) e)))
 row_in number output stream (s ∷ ss) p (inr i) = (let r = row_in (number + 1) output (stream + 1) ss p i in let lt = r.0 in (omega (arith, lt), r.1))
 
+-- what holds of each stream of outputs holds of it in its place
+row_holds : (T : OutStream → Type 0) (n o k : ℕ) (ss : List OutStream) → AllByRecursion T ss → AllByRecursion (λ p. T p.what) (place_row n o k ss)
+row_holds T n o k [] all = tt
+row_holds T n o k (s ∷ ss) all = (all.0, row_holds T (n + 1) o (k + 1) ss all.1)
+
+pub place_holds : (T : OutStream → Type 0) (n o : ℕ) (rows : List (List OutStream)) → AllByRecursion (λ row. AllByRecursion T row) rows → AllByRecursion (λ p. T p.what) (place_from n o rows)
+place_holds T n o [] all = tt
+place_holds T n o (row ∷ rows) all = all_joined (λ p. T p.what) (place_row n o 0 row) (place_from (n + length row) (o + 1) rows) (row_holds T n o 0 row all.0) (place_holds T (n + length row) (o + 1) rows all.1)
+
 pub joined_length : {A : Type 0} (xs ys : List A) → length (xs ++ ys) ≡ length xs + length ys
 joined_length [] ys = omega arith
 joined_length (x ∷ xs) ys = (let e = joined_length xs ys in omega (arith, e))
@@ -208,6 +217,3 @@ module _ (l : Layout) where
 
     pub fed : GraphsHaveOuts l → IsFed (shape_of (edges_of (wires_of l))) (node_count l) (edges_of (wires_of l))
     fed outs = is_fed (node_count l) (edges_of (wires_of l)) (λ k. has_ins k (wires_of l)) (outs_all outs) (go_upward (node_count l) (wires_of l) wires_up)
-
-    pub plain_fed : l.graphs ≡ [] → IsFed (shape_of (edges_of (wires_of l))) (node_count l) (edges_of (wires_of l))
-    plain_fed none = fed (λ k low high. absurd (let n : length l.graphs ≡ 0 = ap (λ (gs : List Laid). length gs) none in omega (arith, n, low, high)))

@@ -4,11 +4,11 @@ use Rattle.std.specs.List.{AllByRecursion, filter, range_with_len}
 use Rattle.std.specs.declared.alloc.Global.{Global}
 use Rattle.std.specs.declared.vec.Vec.{Vec}
 use Rattle.ff_values.specs.declared.head.StreamHead.{StreamHead}
-use Rattle.ff_map.specs.Choice.{lists, numbered, streams_from, all_streams}
+use Rattle.ff_map.specs.Choice.{lists, numbered, streams_from}
 use Rattle.ff_plan.specs.declared.layout.OutStream.{OutStream}
-use Rattle.ff_plan.specs.declared.layout.Placed.{Placed}
 use Rattle.ff_plan.specs.Layout.{place_from}
-use Rattle.ff_plan.specs.Plain.{rows, shown_by, IsSmall, plain_streams}
+use Rattle.ff_plan.specs.Rows.{rows}
+use Rattle.ff_plan.specs.Limits.{IsSmall}
 use Rattle.ff_plan.proofs.Among.{all_among}
 use Rattle.ff_plan.proofs.Layouts.{joined_length, map_length, place_in, range_length}
 
@@ -48,13 +48,7 @@ streams_length i (row ∷ rows) all =
     let rest = streams_length (i + 1) rows all.1 in
     omega (arith, j, here, low, rest)
 
--- few streams are used, and few inputs
-pub few_streams : (heads : List (List StreamHead)) (placed : List Placed) → length heads ≤ 16 → AllByRecursion (λ hs. length hs ≤ 16) heads → length (plain_streams heads placed) ≤ 256
-few_streams heads placed le all =
-    let kept = filter_few (λ s. shown_by placed s.at) (all_streams heads) in
-    let most = streams_length 0 heads all in
-    omega (arith, kept, most, le)
-
+-- few inputs are used
 pub few_inputs : (p : ℕ → Bool) (n : ℕ) → n ≤ 16 → length (filter p (range_with_len 0 n)) ≤ 16
 few_inputs p n le = (let kept = filter_few p (range_with_len 0 n) in let most = range_length 0 n in omega (arith, kept, most, le))
 

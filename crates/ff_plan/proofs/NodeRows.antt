@@ -20,14 +20,13 @@ use Rattle.ff_plan.specs.NodeRows.{HasRows}
 use Rattle.ff_plan.specs.Nodes.{shortests, output_numbers, nodes_of, plan_of}
 use Rattle.ff_plan.specs.Order.{numbers}
 use Rattle.ff_plan.specs.Pads.{Made, all_wants, unlabelled}
-use Rattle.ff_plan.specs.Plain.{IsWithinLimits}
+use Rattle.ff_plan.specs.Limits.{IsWithinLimits}
 use Rattle.ff_plan.specs.Planned.{laid_out, planned, layout_of}
 use Rattle.ff_plan.specs.Rules.{Rules}
 use Rattle.ff_plan.specs.Streams.{Passed, graph_of}
 use Rattle.ff_plan.proofs.Among.{was_among}
 use Rattle.ff_plan.proofs.Counts.{once_each, once_length, tally_joined, tally_none}
 use Rattle.ff_plan.proofs.EndFits.{rows_count}
-use Rattle.ff_plan.proofs.Fitting.{number_at}
 use Rattle.ff_plan.proofs.Graphed.{Walked, walked, inside_of}
 use Rattle.ff_plan.proofs.Kept.{at_index, among_at, below_at, place_of}
 use Rattle.ff_plan.proofs.Layouts.{counted, less_or, map_length, range_length}
@@ -36,7 +35,7 @@ use Rattle.ff_plan.proofs.Numbered.{is_same}
 use Rattle.ff_plan.proofs.Once.{low_in, once_in, in_tally, has_no_loop, numbers_are}
 use Rattle.ff_plan.proofs.Ported.{range_above, rows_numbers}
 use Rattle.ff_plan.proofs.Results.{same_ok, behind_ok}
-use Rattle.ff_plan.proofs.Singles.{rises_less, range_rises}
+use Rattle.ff_plan.proofs.Rising.{rises_less, range_rises, number_at}
 use Rattle.ff_plan.proofs.Small.{few}
 
 map_twice : {A B C : Type 0} (f : B → C) (g : A → B) (xs : List A) → map (λ x. f (g x)) xs ≡ map f (map g xs)

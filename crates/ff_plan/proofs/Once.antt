@@ -29,12 +29,11 @@ use Rattle.ff_plan.specs.Pads.{Want, Made, has_label, made_at, all_wants, unlabe
 use Rattle.ff_plan.specs.Planned.{labels_of, graphs_of}
 use Rattle.ff_plan.specs.Rules.{Rules, OpenIn, OpenOut}
 use Rattle.ff_plan.specs.Streams.{Inside, Passed, label_in}
-use Rattle.ff_plan.proofs.Among.{never, in_range}
+use Rattle.ff_plan.proofs.Among.{never, in_range, each_of}
 use Rattle.ff_plan.proofs.Counts.{total, total_same, total_map, tally_filter_few, total_zero, total_order, tally_joined, tally_none, tally_any, tally_not_any, any_tally, tally_among, tally_filter_in, tally_filter_out, tally_same, tally_map, tally_flat, same_text, text_self, turn_text}
 use Rattle.ff_plan.proofs.Given.{often, part_few, giver_is, given_once, taken_once, clear, no_refusal, no_unused}
 use Rattle.ff_plan.proofs.Graphed.{Stands, Walked, stand, graph_number, inside_of}
 use Rattle.ff_plan.proofs.Kept.{nothing, same_some, among_at, below_at, index_at, map_at}
-use Rattle.ff_plan.proofs.Laid.{each_of}
 use Rattle.ff_plan.proofs.Layouts.{joined_length, map_length}
 use Rattle.ff_plan.proofs.Made.{AreMade, wants_fit, fit_length}
 use Rattle.ff_plan.proofs.Numbered.{is_same}

@@ -27,13 +27,12 @@ use Rattle.ff_plan.specs.Pads.{Made, has_label, all_wants, unlabelled}
 use Rattle.ff_plan.specs.Planned.{labels_of, graphs_of, layout_of, laid_out, planned}
 use Rattle.ff_plan.specs.Rules.{Rules, OpenOut}
 use Rattle.ff_plan.specs.Streams.{Passed, graph_of}
-use Rattle.ff_plan.proofs.Among.{among_either, among_map}
+use Rattle.ff_plan.proofs.Among.{among_either, among_map, each_of, of_flat}
 use Rattle.ff_plan.proofs.Counts.{below_range, tally_among, text_self, total, total_same, total_zero, total_map, tally_joined, tally_none, tally_same, tally_map, tally_flat}
 use Rattle.ff_plan.proofs.Given.{given_among}
 use Rattle.ff_plan.proofs.Graphed.{Stands, Walked, walked, walked_laid, laid, inside_of, ins_from, unlabelled_come, of_map, graph_number}
 use Rattle.ff_plan.proofs.GraphWires.{node_outs}
 use Rattle.ff_plan.proofs.Kept.{among_at, at_below, below_at}
-use Rattle.ff_plan.proofs.Laid.{each_of, of_flat}
 use Rattle.ff_plan.proofs.Layouts.{counted, fed, joined_length, less_or, nat_self}
 use Rattle.ff_plan.proofs.Made.{Comes, comes_left}
 use Rattle.ff_plan.proofs.Once.{once_in, low_in, numbers_are, placed_sources, standing, used_once, label_is_open, complex_none, complex_own, streams_are}

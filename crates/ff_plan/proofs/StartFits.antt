@@ -29,24 +29,22 @@ use Rattle.ff_plan.specs.Streams.{Passed}
 use Rattle.ff_plan.specs.Layout.{IsAmong, Laid, Layout, same_ref, placed, origins, shows, used, is_used, used_inputs}
 use Rattle.ff_plan.specs.Nodes.{before_decs, before_graphs, demux_at, dec_at, graph_at, origin_at, demux_wire, pad_wire, pad_wires, shortest_wire, enc_wire, mux_wire, shortest_wires, wires_of, plan_of}
 use Rattle.ff_plan.specs.Laws.{IsLaid}
-use Rattle.ff_plan.specs.Fitting.{FitsDec}
-use Rattle.ff_plan.specs.StartFits.{FitsCutter, FitsStart, StartsFit}
+use Rattle.ff_plan.specs.StartFits.{FitsCutter, FitsStart, StartsFit, FitsDec}
 use Rattle.ff_plan.specs.Wires.{Wire, enters_node, leaves_node, edges_of}
-use Rattle.ff_plan.proofs.Among.{never, all_joined, all_map, all_flat, was_among, among_either, among_map, among_flat}
+use Rattle.ff_plan.proofs.Among.{never, all_joined, all_map, all_flat, was_among, among_either, among_map, among_flat, of_flat}
 use Rattle.ff_plan.proofs.Counts.{tally_any, tally_joined, tally_among, tally_filter_few}
 use Rattle.ff_plan.proofs.EndFits.{IsAt, In_demuxes, In_decs, In_graphs, In_shortests, In_encs, In_muxes, is_at, five, lanes_some}
 use Rattle.ff_plan.proofs.Graphed.{Walked, walked, walked_laid, inside_of, of_map}
 use Rattle.ff_plan.proofs.GraphFits.{in_comes, by_rows}
 use Rattle.ff_plan.proofs.GraphLanes.{lanes_joined, lanes_none}
 use Rattle.ff_plan.proofs.Kept.{any_there, same_some, among_at, below_at, first_place, place_passes, one_kept}
-use Rattle.ff_plan.proofs.Laid.{of_flat}
 use Rattle.ff_plan.proofs.Lanes.{wire_lanes, into_is, out_is}
 use Rattle.ff_plan.proofs.Layouts.{demux_below, map_length, less_or, nat_self, same_self, wires_next}
 use Rattle.ff_plan.proofs.Made.{Comes}
 use Rattle.ff_plan.proofs.Numbered.{is_same}
 use Rattle.ff_plan.proofs.Outs.{Passes}
 use Rattle.ff_plan.proofs.Results.{same_ok, behind_ok}
-use Rattle.ff_plan.proofs.Singles.{rises_less, range_rises, head_is}
+use Rattle.ff_plan.proofs.Rising.{rises_less, range_rises, head_is}
 use Rattle.ff_plan.proofs.Steps.{same_test, other_test}
 use Rattle.ff_plan.proofs.Uses.{only_place}
 

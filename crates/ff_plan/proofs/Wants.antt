@@ -12,7 +12,7 @@ use Rattle.ff_map.specs.Choice.{lists, streams_of, streams_from}
 use Rattle.ff_plan.specs.Layout.{same_ref}
 use Rattle.ff_plan.specs.Pads.{Want, is_taken}
 use Rattle.ff_plan.specs.declared.layout.Want.TheVariants.{KnownStream, Labelled, Nothing}
-use Rattle.ff_plan.specs.Whole.{flat}
+use Rattle.ff_plan.specs.Rows.{flat}
 use Rattle.ff_plan.proofs.Fronts.{drop_next}
 
 or_step : (a b c d : Bool) → b ≡ (c || d) → (a || b) ≡ ((a || c) || d)

@@ -1,8 +1,6 @@
 -- What holds of the edges of every plan.
-use Rattle.std.specs.Prelude.{◌≡◌, ◌⊎◌, ℕ, ◌<◌, ◌≤◌, ◌==◌, false, cond, List, [], ◌∷◌, length, slice_index_or, Some, None, Ok}
-use Rattle.std.specs.List.{AllByRecursion, position_or_len, cons_option, IsDistinct}
-use Rattle.ff_values.specs.declared.head.StreamHead.{StreamHead}
-use Rattle.ff_words.specs.declared.job.Job.{Job}
+use Rattle.std.specs.Prelude.{◌≡◌, ◌⊎◌, ℕ, ◌<◌, ◌≤◌, ◌==◌, cond, List, [], ◌∷◌, length, slice_index_or, Some, None}
+use Rattle.std.specs.List.{position_or_len, cons_option, IsDistinct}
 use Rattle.ff_edges.specs.declared.edge.Edge.{Edge}
 use Rattle.ff_map.specs.declared.streams.Stream.{Stream}
 use Rattle.ff_map.specs.Choice.{all_streams}
@@ -12,8 +10,6 @@ use Rattle.ff_plan.specs.declared.layout.InPad.{InPad}
 use Rattle.ff_plan.specs.declared.layout.Placed.{Placed}
 use Rattle.ff_plan.specs.Layout.{IsAmong, Laid, Layout, placed}
 use Rattle.ff_plan.specs.Nodes.{before_graphs, before_shortests, wires_of}
-use Rattle.ff_plan.specs.Planned.{laid_out}
-use Rattle.ff_plan.specs.Rules.{Rules}
 use Rattle.ff_plan.specs.Wires.{Wire, edges_of}
 use Rattle.ff_edges.specs.Ports.{HasOuts}
 
@@ -47,14 +43,6 @@ IsNoGraph l k = (k < before_graphs l) ⊎ (before_shortests l ≤ k)
 -- each open output pad of each graph is used once; `edges_have_outs` shows this of all other nodes
 abbrev pub GraphsHaveOuts : Layout → Type 0
 GraphsHaveOuts l = (k : ℕ) → before_graphs l ≤ k → k < before_shortests l → HasOuts (edges_of (wires_of l)) k
-
--- the job has no complex graph, and the rules lay out this
-abbrev pub IsLaidOut : Rules → Job → List (List StreamHead) → Layout → Type 0
-IsLaidOut rules job heads l = (job.graphs ≡ []) × (laid_out rules job heads ≡ Ok l)
-
--- no stream passes through a simple graph
-abbrev pub HasNoGraphs : Rules → Job → Type 0
-HasNoGraphs rules job = (rules.nulls ≡ false) × AllByRecursion (λ out. (out.vf ≡ None) × (out.af ≡ None)) job.outputs
 
 -- where the wire leaves this node, its port is named
 abbrev pub IsNamedOf : ℕ → Wire → Type 0

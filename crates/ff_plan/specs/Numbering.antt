@@ -23,8 +23,14 @@ use Rattle.ff_values.specs.declared.head.StreamHead.{StreamHead}
 use Rattle.ff_map.specs.Choice.{all_streams}
 use Rattle.ff_plan.specs.Layout.{same_ref, shows}
 use Rattle.ff_plan.specs.Nodes.{origin_port, way_to, ways_in}
-use Rattle.ff_plan.specs.Plain.{has_stream}
 use Rattle.ff_plan.specs.Wires.{edges_of}
+
+-- whether one of these streams is the input's
+abbrev pub has_stream : List Stream → ℕ → Bool
+has_stream streams i = list_any (λ s. s.at.input == i) streams
+
+abbrev pub demux_number : List ℕ → ℕ → ℕ
+demux_number inputs i = position_or_len (λ j. j == i) inputs
 
 -- where the inputs of a graph come from
 abbrev pub sources_of : Laid → List Origin
@@ -83,7 +89,7 @@ origin_in f streams graphs (origin.Stream s) = dec_in f streams s
 origin_in f streams graphs (origin.Pad g p) = graph_in f graphs g
 
 abbrev pub demux_wire_in : Firsts → List ℕ → List Stream → Stream → Wire
-demux_wire_in f inputs streams k = record { from = position_or_len (λ j. j == k.at.input) inputs; port = None; to = dec_in f streams k.at; lane = Packets k.head }
+demux_wire_in f inputs streams k = record { from = demux_number inputs k.at.input; port = None; to = dec_in f streams k.at; lane = Packets k.head }
 
 abbrev pub pad_wire_in : Firsts → List Stream → List Laid → ℕ → InPad → Wire
 pad_wire_in f streams graphs g i = record { from = origin_in f streams graphs i.source; port = origin_port i.source; to = graph_in f graphs g; lane = Frames i.head }
@@ -92,10 +98,20 @@ abbrev pub pad_wires_in : Firsts → List Stream → List Laid → Laid → List
 pad_wires_in f streams graphs g = map (pad_wire_in f streams graphs g.graph) g.ins
 
 abbrev pub shortest_wire_in : Firsts → List Stream → List Laid → Placed → Wire
-shortest_wire_in f streams graphs p = record { from = origin_in f streams graphs p.what.source; port = origin_port p.what.source; to = f.shortests + p.output; lane = Frames p.what.head }
+shortest_wire_in f streams graphs p = record {
+  from = origin_in f streams graphs p.what.source;
+  port = origin_port p.what.source;
+  to = f.shortests + p.output;
+  lane = Frames p.what.head;
+}
 
 abbrev pub enc_wire_in : Firsts → List Stream → List Laid → Placed → Wire
-enc_wire_in f streams graphs p = record { from = origin_in f streams graphs p.what.source; port = origin_port p.what.source; to = f.encs + p.number; lane = Frames p.what.head }
+enc_wire_in f streams graphs p = record {
+  from = origin_in f streams graphs p.what.source;
+  port = origin_port p.what.source;
+  to = f.encs + p.number;
+  lane = Frames p.what.head;
+}
 
 -- from an output's Shortest node to an Enc
 abbrev pub joint_wire_in : Firsts → Placed → Wire

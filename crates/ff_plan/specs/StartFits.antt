@@ -1,16 +1,17 @@
 -- What stands at the ports of the nodes of inputs, of any plan.
-use Rattle.std.specs.Prelude.{◌≡◌, ℕ, ◌≤◌, Bool, true, List, [], length, map, slice_get, Some}
+use Rattle.std.specs.Prelude.{◌≡◌, ℕ, ◌≤◌, Bool, true, List, [], ◌∷◌, length, map, replicate, slice_get, Some}
 use Rattle.std.specs.List.{filter}
 use Rattle.ff_edges.specs.declared.edge.Edge.{Edge}
 use Rattle.ff_edges.specs.Ports.{lanes_into, lanes_out_of}
-use Rattle.ff_frame.specs.declared.item.Lane.TheVariants.{Packets}
+use Rattle.ff_frame.specs.declared.item.Lane.TheVariants.{Frames, Packets}
 use Rattle.ff_values.specs.declared.head.StreamHead.{StreamHead}
 use Rattle.ff_map.specs.declared.streams.Stream.{Stream}
+use Rattle.ff_map.specs.declared.streams.StreamRef.{StreamRef}
 use Rattle.ff_map.specs.Choice.{all_streams}
 use Rattle.ff_plan.specs.declared.planned.Plan.{Plan}
 use Rattle.ff_plan.specs.declared.planned.PlanNode.{PlanNode}
 use Rattle.ff_plan.specs.declared.planned.PlanNode.TheVariants as node
-use Rattle.ff_plan.specs.Fitting.{FitsDec}
+use Rattle.ff_plan.specs.Choice.{head_at}
 
 -- the packets of some streams of input i leave node k, in the order of the streams: of one at least
 pub record FitsCutter (heads : List (List StreamHead)) (edges : List Edge) (k i : ℕ) : Type 0 where
@@ -19,6 +20,15 @@ pub record FitsCutter (heads : List (List StreamHead)) (edges : List Edge) (k i 
   pub ins : lanes_into edges k ≡ []
   pub outs : lanes_out_of edges k ≡ map (λ (s : Stream). Packets s.head) (filter shown (all_streams heads))
   pub some : 1 ≤ length (lanes_out_of edges k)
+
+-- the packets of this stream enter node k, and its frames leave it once for each use
+pub record FitsDec (heads : List (List StreamHead)) (edges : List Edge) (k : ℕ) (at : StreamRef) : Type 0 where
+  pub head : StreamHead
+  pub is : head_at heads at ≡ Some head
+  pub uses : ℕ
+  pub used : 1 ≤ uses
+  pub ins : lanes_into edges k ≡ Packets head ∷ []
+  pub outs : lanes_out_of edges k ≡ replicate uses (Frames head)
 
 -- by kind, where the inputs have these heads
 abbrev pub FitsStart : List (List StreamHead) → List Edge → ℕ → PlanNode → Type 0

@@ -1,17 +1,15 @@
-// The streams of an output before its codecs.
-ghost use Rattle.std.specs.Prelude.{◌≡◌, ◌⊎◌, ◌^◌, ◌<◌, ◌++◌, ◌∷◌, [], OnOk, IfOk, IfErr, Ok, Err, vec_len, length, map};
-ghost use Rattle.std.specs.List.{AllByRecursion, cons_option, filter};
+// The streams of inputs that an output asks for, and the refusal of a label.
+ghost use Rattle.std.specs.Prelude.{◌≡◌, ◌⊎◌, ◌++◌, ◌∷◌, [], OnOk, IfOk, map};
+ghost use Rattle.std.specs.List.{cons_option, filter};
 ghost use Rattle.ff_map.specs.Choice.{lists};
 ghost use Rattle.ff_plan.specs.Choice.{head_at, known};
-ghost use Rattle.ff_plan.specs.Plain.{plain, IsRefused};
-ghost use Rattle.ff_plan.specs.Streams.{as_pad, is_kept, mapped as pads_mapped, all_mapped as all_pads_mapped, automatic as chosen_by_itself};
-ghost use Rattle.ff_plan.specs.Streams.{asked as pads_asked, chosen as pads_chosen};
+ghost use Rattle.ff_plan.specs.Streams.{as_pad, is_kept};
 
 use crate::layout::{InPad, Origin};
 use crate::planned::PlanError;
-use crate::takes::{drops, kind_of, wanted};
+use crate::takes::{drops, kind_of};
 use ff_lang::Text;
-use ff_map::{Kind, MapFrom, MapSpec, Stream, StreamRef, best_streams, select};
+use ff_map::{Stream, StreamRef};
 use ff_values::StreamHead;
 use ff_words::OutputJob;
 use std::alloc::{AllocError, Global};
@@ -100,112 +98,5 @@ pub(crate) fn unknown(alloc: Global, label: &Text) -> PlanError
             label: Text::of(copy),
         },
         Err(_) => PlanError::NoMemory,
-    }
-}
-
-// The streams of one map, of this number.
-fn mapped(
-    alloc: Global,
-    heads: &[Vec<StreamHead>],
-    out: &OutputJob,
-    output: u32,
-    number: u32,
-    spec: &MapSpec,
-) -> Result<Vec<InPad>, PlanError>
-    requires inputs { length heads.now < 2 ^ 32 }
-    requires streams { AllByRecursion (λ v. vec_len v < 2 ^ 32) heads.now }
-    ensures made { IfOk result (λ pads. pads_mapped (plain (lists heads.now)) out.now output number [] spec.now.optional spec.now.from ≡ Ok pads.items) }
-    ensures refused { IfErr result (IsRefused (pads_mapped (plain (lists heads.now)) out.now output number [] spec.now.optional spec.now.from)) }
-{
-    match &spec.from {
-        MapFrom::Input { file, pick: _ } => {
-            let refs = select(alloc, spec, heads)?;
-            let missing = refs.is_empty() && !spec.optional;
-            if heads.len() <= *file as usize || missing {
-                return Err(PlanError::NoStream {
-                    output,
-                    map: number,
-                });
-            }
-            Ok(kept(alloc, heads, out, refs.as_slice())?)
-        }
-        MapFrom::Label(label) => Err(unknown(alloc, label)),
-    }
-}
-
-// The streams of all maps in order.
-fn all_mapped(
-    alloc: Global,
-    heads: &[Vec<StreamHead>],
-    out: &OutputJob,
-    output: u32,
-) -> Result<Vec<InPad>, PlanError>
-    requires inputs { length heads.now < 2 ^ 32 }
-    requires streams { AllByRecursion (λ v. vec_len v < 2 ^ 32) heads.now }
-    requires maps { length out.now.maps < 2 ^ 32 }
-    ensures made { IfOk result (λ pads. all_pads_mapped (plain (lists heads.now)) out.now output 0 [] out.now.maps ≡ Ok pads.items) }
-    ensures refused { IfErr result (IsRefused (all_pads_mapped (plain (lists heads.now)) out.now output 0 [] out.now.maps)) }
-{
-    let mut pads = Vec::new(alloc);
-    for (number, spec) in out.maps.as_slice().iter().enumerate() {
-        let more = mapped(alloc, heads, out, output, number as u32, spec)?;
-        pads.extend_from_slice(more.as_slice())?;
-    }
-    Ok(pads)
-}
-
-// The automatic choice.
-fn automatic(
-    alloc: Global,
-    heads: &[Vec<StreamHead>],
-    out: &OutputJob,
-) -> Result<Vec<InPad>, AllocError>
-    requires inputs { length heads.now < 2 ^ 32 }
-    requires streams { AllByRecursion (λ v. vec_len v < 2 ^ 32) heads.now }
-    ensures { IfOk result (λ pads. pads.items ≡ chosen_by_itself (plain (lists heads.now)) out.now []) }
-{
-    let video = wanted(out, Kind::Video);
-    let audio = wanted(out, Kind::Audio);
-    let refs = best_streams(alloc, heads, video, audio)?;
-    shown(alloc, heads, refs.as_slice())
-}
-
-fn asked(
-    alloc: Global,
-    heads: &[Vec<StreamHead>],
-    out: &OutputJob,
-    output: u32,
-) -> Result<Vec<InPad>, PlanError>
-    requires inputs { length heads.now < 2 ^ 32 }
-    requires streams { AllByRecursion (λ v. vec_len v < 2 ^ 32) heads.now }
-    requires maps { length out.now.maps < 2 ^ 32 }
-    ensures made { IfOk result (λ pads. pads_asked (plain (lists heads.now)) out.now output [] [] out.now.maps ≡ Ok pads.items) }
-    ensures refused { IfErr result (IsRefused (pads_asked (plain (lists heads.now)) out.now output [] [] out.now.maps)) }
-{
-    if out.maps.as_slice().is_empty() {
-        Ok(automatic(alloc, heads, out)?)
-    } else {
-        all_mapped(alloc, heads, out, output)
-    }
-}
-
-/// The streams of an output: those of its maps, or the automatic choice.
-pub(crate) fn chosen(
-    alloc: Global,
-    heads: &[Vec<StreamHead>],
-    out: &OutputJob,
-    output: u32,
-) -> Result<Vec<InPad>, PlanError>
-    requires inputs { length heads.now < 2 ^ 32 }
-    requires streams { AllByRecursion (λ v. vec_len v < 2 ^ 32) heads.now }
-    requires maps { length out.now.maps < 2 ^ 32 }
-    ensures made { IfOk result (λ pads. pads_chosen (plain (lists heads.now)) out.now output [] [] ≡ Ok pads.items) }
-    ensures refused { IfErr result (IsRefused (pads_chosen (plain (lists heads.now)) out.now output [] [])) }
-{
-    let pads = asked(alloc, heads, out, output)?;
-    if pads.is_empty() {
-        Err(PlanError::NoStreams { output })
-    } else {
-        Ok(pads)
     }
 }

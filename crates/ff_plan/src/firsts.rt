@@ -5,8 +5,7 @@ ghost use Rattle.ff_map.specs.declared.streams.Stream.{Stream};
 ghost use Rattle.ff_plan.specs.declared.layout.Laid.{Laid};
 ghost use Rattle.ff_plan.specs.Layout.{same_ref as are_same};
 ghost use Rattle.ff_plan.specs.Nodes.{origin_port as port_of_origin};
-ghost use Rattle.ff_plan.specs.Numbering.{dec_in, graph_in, origin_in, IsLow};
-ghost use Rattle.ff_plan.specs.Plain.{demux_number as number_of_demux};
+ghost use Rattle.ff_plan.specs.Numbering.{dec_in, graph_in, origin_in, IsLow, demux_number as number_of_demux};
 
 use crate::layout::{Laid, Origin};
 use crate::origins::same_ref;

@@ -7,7 +7,7 @@ ghost use Rattle.ff_plan.specs.Graphs.{AreRules};
 ghost use Rattle.ff_plan.specs.Laws.{IsLaid, GraphsHaveOuts};
 ghost use Rattle.ff_plan.specs.Layout.{Layout};
 ghost use Rattle.ff_plan.specs.NodeRows.{HasRows};
-ghost use Rattle.ff_plan.specs.Plain.{IsWithinLimits};
+ghost use Rattle.ff_plan.specs.Limits.{IsWithinLimits};
 ghost use Rattle.ff_plan.specs.Planned.{laid_out, planned};
 ghost use Rattle.ff_plan.specs.Rules.{Rules};
 ghost use Rattle.ff_plan.specs.StartFits.{StartsFit};

@@ -1,25 +1,19 @@
 // What holds of the edges of every plan.
-ghost use Rattle.std.specs.Prelude.{◌≡◌, ◌<◌, ◌≤◌, Some, slice_get, ℕ, List, [], length, Ok};
+ghost use Rattle.std.specs.Prelude.{◌≡◌, ℕ, ◌<◌, ◌≤◌, Bool, List, length, slice_get, Some, Ok};
 ghost use Rattle.std.specs.List.{AllByRecursion};
-ghost use Rattle.std.specs.Prelude.{Err, Bool};
 ghost use Rattle.ff_map.specs.Choice.{AreBest};
 ghost use Rattle.ff_map.specs.declared.streams.StreamRef.{StreamRef};
 ghost use Rattle.ff_plan.specs.Choice.{best};
-ghost use Rattle.ff_plan.specs.Today.{planned_today};
-ghost use Rattle.ff_plan.specs.declared.planned.PlanError.TheVariants as fault;
 ghost use Rattle.ff_plan.specs.Wires.{Wire, edges_of};
-ghost use Rattle.ff_edges.specs.Ports.{shape_of, IsFed};
+ghost use Rattle.ff_edges.specs.Ports.{shape_of, HasIns, HasOuts, IsFed};
 ghost use Rattle.ff_values.specs.declared.head.StreamHead.{StreamHead};
 ghost use Rattle.ff_words.specs.declared.job.Job.{Job};
 ghost use Rattle.ff_plan.specs.declared.planned.PlanNode.TheVariants as node;
 ghost use Rattle.ff_plan.specs.Layout.{Layout, placed};
 ghost use Rattle.ff_plan.specs.Rules.{Rules};
-ghost use Rattle.ff_plan.specs.Planned.{laid_out, planned};
-ghost use Rattle.ff_plan.specs.declared.planned.Plan.{Plan};
+ghost use Rattle.ff_plan.specs.Planned.{laid_out};
 ghost use Rattle.ff_plan.specs.Nodes.{mux_at, node_count, nodes_of, wires_of};
-ghost use Rattle.ff_plan.specs.Laws.{IsLaid, GoUpward, IsNextOf, IsUp, IsNamedOf, named_at, EachOnce, IsNoGraph, GraphsHaveOuts, IsLaidOut};
-ghost use Rattle.ff_edges.specs.Ports.{HasIns, HasOuts};
-ghost use Rattle.ff_plan.specs.Laws.{HasNoGraphs};
+ghost use Rattle.ff_plan.specs.Laws.{IsLaid, GoUpward, IsNextOf, IsUp, IsNamedOf, named_at, EachOnce, IsNoGraph, GraphsHaveOuts};
 
 /// Every input of every node has one edge.
 pub fn wires_have_ins()
@@ -57,25 +51,9 @@ pub fn layouts_are_fed()
     ensures { (l : Layout) → IsLaid l → GraphsHaveOuts l → IsFed (shape_of (edges_of (wires_of l))) (node_count l) (edges_of (wires_of l)) }
 {}
 
-/// So it is without graphs.
-pub fn plain_layouts_are_fed()
-    ensures { (l : Layout) → IsLaid l → l.graphs ≡ [] → IsFed (shape_of (edges_of (wires_of l))) (node_count l) (edges_of (wires_of l)) }
-{}
-
 /// There are as many nodes as numbers.
 pub fn nodes_are_counted()
     ensures { (l : Layout) → length (nodes_of l) ≡ node_count l }
-{}
-
-/// What is laid out without complex graphs has all its origins.
-pub fn plans_are_laid()
-    ensures { (rules : Rules) (job : Job) (heads : List (List StreamHead)) (l : Layout) → IsLaidOut rules job heads l → IsLaid l }
-{}
-
-/// A plan without graphs is fed: each input of each node is an output of an earlier one.
-pub fn plain_plans_are_fed()
-    ensures { (rules : Rules) (job : Job) (heads : List (List StreamHead)) (p : Plan) → job.graphs ≡ [] → HasNoGraphs rules job → planned rules job heads ≡ Ok p
-        → IsFed (shape_of p.edges) (length p.nodes) p.edges }
 {}
 
 /// Every output of a node whose wires name each of its ports once has one edge.
@@ -96,9 +74,4 @@ pub fn muxes_are_last()
 /// The automatic choice is the best choice of the streams, and no other is.
 pub fn best_choices_are_one()
     ensures { (video audio : Bool) (heads : List (List StreamHead)) (refs : List StreamRef) → AreBest video audio heads refs → best heads video audio ≡ refs }
-{}
-
-/// No plan is refused for want of memory: that answer says nothing of the job.
-pub fn plans_never_want_memory()
-    ensures { (job : Job) (heads : List (List StreamHead)) → planned_today job heads ≡ Err fault.NoMemory → ⊥ }
 {}

@@ -5,11 +5,12 @@ ghost use Rattle.ff_map.specs.Choice.{lists};
 ghost use Rattle.ff_plan.specs.Layout.{placed};
 ghost use Rattle.ff_plan.specs.Numbering.{HasFewIns};
 ghost use Rattle.ff_plan.specs.Passing.{laid_by, rows_behind as passed_rows, streams_by};
-ghost use Rattle.ff_plan.specs.Plain.{rows as rows_in, HasShortGraphs, IsRefused, IsWithinLimits};
+ghost use Rattle.ff_plan.specs.Rows.{rows as rows_in, layout_in};
+ghost use Rattle.ff_plan.specs.Limits.{HasShortGraphs, IsWithinLimits, HasFewPads};
+ghost use Rattle.ff_plan.specs.Refusals.{IsRefused};
 ghost use Rattle.ff_plan.specs.Planned.{laid_out};
 ghost use Rattle.ff_plan.specs.Streams.{Passed as Through, graph_of, simple_of};
 ghost use Rattle.ff_plan.specs.Texts.{simple_or_null, texts_of_laid, texts_of_row, texts_from};
-ghost use Rattle.ff_plan.specs.Whole.{HasFewPads, layout_in};
 ghost use Rattle.ff_plan.specs.declared.layout.Made.{Made as Built};
 ghost use Rattle.ff_plan.specs.declared.planned.GraphText.TheVariants as text;
 

@@ -1,7 +1,7 @@
 // Whether graphs are short.
 ghost use Rattle.std.specs.Prelude.{◌≡◌, true, false, List};
 ghost use Rattle.std.specs.List.{AllByRecursion};
-ghost use Rattle.ff_plan.specs.Plain.{IsShort, IsShortIfSome, HasShortGraphs};
+ghost use Rattle.ff_plan.specs.Limits.{IsShort, IsShortIfSome, HasShortGraphs};
 
 use ff_lang::Graph;
 use ff_words::OutputJob;

@@ -4,16 +4,16 @@
 //! job, heads ─► streams by output ─► nodes, wires ─► edges
 //!
 //! -i a.wav -i v.y4m -map 0:a o.wav -map 1:v p.y4m
-//!   0 Demux 0 ──► 2 Dec 0:0 ──► 4 Enc 0 0 ──► 6 Mux 0
-//!   1 Demux 1 ──► 3 Dec 1:0 ──► 5 Enc 1 0 ──► 7 Mux 1
+//!   0 Demux 0 ──► 2 Dec 0:0 ──► 4 Graph 0 ──► 6 Shortest 0 ──► 8 Enc 0 0 ──► 10 Mux 0
+//!   1 Demux 1 ──► 3 Dec 1:0 ──► 5 Graph 1 ──► 7 Shortest 1 ──► 9 Enc 1 0 ──► 11 Mux 1
 //! ```
 //!
 //! `planned` of `specs/Planned` says which plan a job has with the heads of its inputs, or which refusal: first which streams
 //! each output has (`Streams`), then the numbers of the nodes and the wires between them (`Nodes`), then the ports (`Wires`),
-//! of which each that isn't named is the next one of its node. `specs/Laws` says what holds of the edges of every plan,
-//! `specs/Fitting` what stands at the ports of each node and in which order the nodes stand. The definitions are those of whole
-//! jobs, with graphs. `plan_with` plans any job, by rules of graphs that a `Filtering` has; `plan` is what the command calls as
-//! yet, and `specs/Today` says which jobs it plans, without graphs and Shortest nodes, and how it refuses another.
+//! of which each that isn't named is the next one of its node. `plan` makes that plan, by rules of graphs that a `Filtering` has:
+//! what filters there are, what their graphs make of streams, whether a stream without a graph passes through one that changes
+//! nothing, whether each output has a Shortest node. `specs/Laws` says what holds of the edges of every plan, `specs/NodeRows` in
+//! which order the nodes stand, `specs/StartFits`, `specs/GraphFits` and `specs/EndFits` what stands at their ports, and
 //! `specs/Numbers` numbers the streams of all outputs.
 #![tactic(auto)]
 
@@ -36,7 +36,6 @@ mod numbering;
 mod open_pads;
 mod origins;
 mod output_rows;
-mod outputs;
 mod passing;
 mod picking;
 mod planned;
@@ -55,5 +54,5 @@ pub use graph_laws::{
 };
 pub use number::{Wire, number_ports};
 pub use open_pads::{OpenIn, OpenOut, Refused};
-pub use planned::{GraphText, Plan, PlanError, PlanNode, Unbuilt};
-pub use planning::{is_within_limits, plan, plan_with};
+pub use planned::{GraphText, Plan, PlanError, PlanNode};
+pub use planning::{is_within_limits, plan};

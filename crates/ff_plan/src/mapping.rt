@@ -8,7 +8,7 @@ ghost use Rattle.ff_plan.specs.Mapping.{is_unused, unused_among};
 ghost use Rattle.ff_plan.specs.Picking.{used_by};
 ghost use Rattle.ff_plan.specs.Planned.{labels_of, unused_of};
 ghost use Rattle.ff_plan.specs.Streams.{label_in};
-ghost use Rattle.ff_plan.specs.Whole.{IsFault};
+ghost use Rattle.ff_plan.specs.Refusals.{IsFault};
 
 use crate::planned::PlanError;
 use ff_labels::{labels_given, takes};

@@ -7,7 +7,7 @@ ghost use Rattle.ff_map.specs.Choice.{lists};
 ghost use Rattle.ff_labels.specs.Labels.{filters_of};
 ghost use Rattle.ff_plan.specs.Labels.{stream_of_label as of_label, refusal_of, labels_fault};
 ghost use Rattle.ff_plan.specs.Order.{loop_fault};
-ghost use Rattle.ff_plan.specs.Whole.{IsFault};
+ghost use Rattle.ff_plan.specs.Refusals.{IsFault};
 
 use crate::filtering::Filtering;
 use crate::labelled::stream_of_label;

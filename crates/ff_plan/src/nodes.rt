@@ -7,7 +7,7 @@ ghost use Rattle.ff_plan.specs.declared.layout.Placed.{Placed};
 ghost use Rattle.ff_plan.specs.declared.planned.PlanNode.TheVariants as node;
 ghost use Rattle.ff_plan.specs.Layout.{place_row as row_placed, place_from};
 ghost use Rattle.ff_plan.specs.Numbering.{joined_outputs, nodes_in};
-ghost use Rattle.ff_plan.specs.Plain.{rows};
+ghost use Rattle.ff_plan.specs.Rows.{rows};
 
 use crate::layout::{Laid, OutStream, Placed};
 use crate::planned::PlanNode;

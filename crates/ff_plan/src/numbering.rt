@@ -5,8 +5,8 @@ ghost use Rattle.ff_map.specs.Choice.{lists};
 ghost use Rattle.ff_plan.specs.Layout.{placed as placed_in};
 ghost use Rattle.ff_plan.specs.Nodes.{plan_of};
 ghost use Rattle.ff_plan.specs.Numbering.{drawing_of, firsts_at, outputs_wires, plan_in, routes_in, HasFewIns};
-ghost use Rattle.ff_plan.specs.Plain.{IsSmall};
-ghost use Rattle.ff_plan.specs.Whole.{layout_in};
+ghost use Rattle.ff_plan.specs.Limits.{IsSmall};
+ghost use Rattle.ff_plan.specs.Rows.{layout_in};
 ghost use Rattle.ff_plan.specs.Wires.{edges_of};
 
 use crate::firsts::Firsts;

@@ -6,8 +6,7 @@ ghost use Rattle.ff_map.specs.declared.streams.Stream.{Stream};
 ghost use Rattle.ff_plan.specs.declared.layout.InPad.{InPad};
 ghost use Rattle.ff_plan.specs.declared.layout.Placed.{Placed};
 ghost use Rattle.ff_plan.specs.Layout.{same_ref as are_same, shows as is_shown_by};
-ghost use Rattle.ff_plan.specs.Numbering.{sources_of, all_sources};
-ghost use Rattle.ff_plan.specs.Plain.{has_stream as input_has};
+ghost use Rattle.ff_plan.specs.Numbering.{sources_of, all_sources, has_stream as input_has};
 
 use crate::layout::{InPad, Laid, Origin, Placed};
 use ff_map::{Stream, StreamRef};

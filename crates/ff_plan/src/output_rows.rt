@@ -4,10 +4,10 @@ ghost use Rattle.std.specs.List.{AllByRecursion, flat_map};
 ghost use Rattle.ff_plan.specs.Labels.{taken_labels};
 ghost use Rattle.ff_plan.specs.Passing.{count_fault};
 ghost use Rattle.ff_plan.specs.Picking.{inside_of, front_of};
-ghost use Rattle.ff_plan.specs.Plain.{IsRefused, HasShortGraphs};
+ghost use Rattle.ff_plan.specs.Refusals.{IsRefused, IsFault};
+ghost use Rattle.ff_plan.specs.Limits.{HasShortGraphs};
 ghost use Rattle.ff_plan.specs.Planned.{outputs_from, simple_graphs};
 ghost use Rattle.ff_plan.specs.Streams.{Passed as Through};
-ghost use Rattle.ff_plan.specs.Whole.{IsFault};
 
 use crate::filtering::Filtering;
 use crate::layout::{InPad, Passed};

@@ -4,12 +4,13 @@ ghost use Rattle.ff_labels.specs.Labels.{filters_of};
 ghost use Rattle.ff_labels.specs.Names.{twice_in, unknown_filter};
 ghost use Rattle.ff_plan.specs.Labels.{refused};
 ghost use Rattle.ff_plan.specs.Passing.{simple_fault};
-ghost use Rattle.ff_plan.specs.Plain.{IsRefused, IsShort, HasShortGraphs};
+ghost use Rattle.ff_plan.specs.Refusals.{IsRefused, IsFault};
+ghost use Rattle.ff_plan.specs.Limits.{IsShort, HasShortGraphs};
 ghost use Rattle.ff_plan.specs.Planned.{graphs_of};
 ghost use Rattle.ff_plan.specs.Rules.{where_so};
 ghost use Rattle.ff_plan.specs.Streams.{simply as simply_passed, through as through_graph, as_it_is as unchanged, null_graph as graph_of_nothing, simple_of};
-ghost use Rattle.ff_plan.specs.Streams.{null_name as name_of_null, packed_as as packed_by, passed as stream_passed, passed_by as passed_with, passed_from as passed_by_origin, all_passed as streams_passed, graph_of};
-ghost use Rattle.ff_plan.specs.Whole.{IsFault};
+ghost use Rattle.ff_plan.specs.Streams.{null_name as name_of_null, packed_as as packed_by, passed as stream_passed};
+ghost use Rattle.ff_plan.specs.Streams.{passed_by as passed_with, passed_from as passed_by_origin, all_passed as streams_passed, graph_of};
 
 use crate::filtering::Filtering;
 use crate::layout::{InPad, Laid, Origin, OutStream, Passed};

@@ -46,17 +46,6 @@ pub struct Plan {
     pub texts: Sequence<GraphText>,
 }
 
-/// What a job may ask for and no plan has yet.
-#[derive(Clone, Copy, Debug, PartialEq, Eq)]
-pub enum Unbuilt {
-    /// A graph over several streams.
-    Complex,
-    /// A graph over the video or the audio streams of an output, each by itself.
-    Simple { output: u32 },
-    /// An output whose streams end with the shortest of them.
-    Shortest { output: u32 },
-}
-
 /// Why there is no plan.
 #[derive(Debug, Drop)]
 pub enum PlanError {
@@ -100,10 +89,6 @@ pub enum PlanError {
     TooManyStreams,
     /// More than 16 graphs.
     TooManyGraphs,
-    /// The job asks for something that no plan has yet.
-    Unbuilt {
-        part: Unbuilt,
-    },
     /// There was no memory.
     NoMemory,
 }

@@ -2,7 +2,7 @@
 ghost use Rattle.std.specs.Prelude.{◌^◌, ◌<◌, ◌≤◌, vec_len, length};
 ghost use Rattle.std.proofs.Props.{props};
 ghost use Rattle.std.specs.List.{AllByRecursion};
-ghost use Rattle.ff_plan.specs.Whole.{HasFewPads};
+ghost use Rattle.ff_plan.specs.Limits.{HasFewPads};
 
 use crate::layout::Made;
 use ff_lang::Graph;

@@ -1,13 +1,12 @@
 // What a format takes, and what becomes of a head.
-ghost use Rattle.std.specs.Prelude.{◌≡◌, ◌<◌, [], true};
+ghost use Rattle.std.specs.Prelude.{◌≡◌, ◌<◌, true};
 ghost use Rattle.std.specs.List.{list_any};
 ghost use Rattle.ff_map.specs.Choice.{has_kind};
 ghost use Rattle.ff_plan.specs.declared.layout.InPad.{InPad};
 ghost use Rattle.ff_plan.specs.Choice.{kind_of as kind_in};
 ghost use Rattle.ff_plan.specs.Streams.{takes_kind as kind_taken, audio_codec as codec_of_sound, codec_or, packed_bits as bits_packed, packed_as as head_packed};
 ghost use Rattle.ff_plan.specs.Streams.{is_pcm as of_pcm, takes_sound as sound_taken, takes_head as head_taken};
-ghost use Rattle.ff_plan.specs.Streams.{drops as is_dropped, simple_of, is_graph, is_pad as shows_pad, takes as is_taken, is_wanted, most_streams as streams_most};
-ghost use Rattle.ff_plan.specs.Today.{no_filters};
+ghost use Rattle.ff_plan.specs.Streams.{drops as is_dropped, simple_of, is_graph, is_pad as shows_pad, takes as is_taken, is_wanted};
 
 use crate::filtering::Filtering;
 use crate::layout::{InPad, Origin};
@@ -45,13 +44,6 @@ pub(crate) fn drops(out: &OutputJob, kind: Kind) -> bool
         Kind::Audio => out.no_audio,
         Kind::Video => out.no_video,
     }
-}
-
-/// Whether the automatic choice looks for this kind.
-pub(crate) fn wanted(out: &OutputJob, kind: Kind) -> bool
-    ensures { result ≡ is_wanted out.now [] kind }
-{
-    takes_kind(out.format, kind) && !drops(out, kind)
 }
 
 // Whether one of these pads shows a stream of this kind.
@@ -181,16 +173,6 @@ fn takes_head(out: &OutputJob, head: StreamHead) -> bool
     }
 }
 
-// How many streams an output of a format can have.
-fn most_streams(format: FileFormat) -> usize
-    ensures { result ≡ streams_most format }
-{
-    match format {
-        FileFormat::FrameHash => 16,
-        FileFormat::Wav | FileFormat::Flac | FileFormat::Y4m => 1,
-    }
-}
-
 // Whether an output has a simple graph for a kind.
 fn has_graph(out: &OutputJob, kind: Kind) -> bool
     ensures { result ≡ is_graph (simple_of out.now kind) }
@@ -208,14 +190,6 @@ fn is_pad(source: Origin) -> bool
         Origin::Stream(_) => false,
         Origin::Pad { .. } => true,
     }
-}
-
-/// Whether an output takes this as its n-th stream.
-pub(crate) fn takes(out: &OutputJob, n: usize, pad: InPad) -> bool
-    ensures { result ≡ is_taken no_filters out.now n pad }
-{
-    let filtered_twice = is_pad(pad.source) && has_graph(out, kind_of(pad.head));
-    takes_head(out, pad.head) && n < most_streams(out.format) && !filtered_twice
 }
 
 /// Whether an output takes this as its n-th stream, by rules of graphs.

@@ -6,7 +6,7 @@ ghost use Rattle.ff_plan.specs.Labels.{giver as number_of_giver, stream_of_label
 ghost use Rattle.ff_plan.specs.Pads.{is_taken as was_taken, is_free as seems_free, known_or_nothing as known_or_none, want_of_giver};
 ghost use Rattle.ff_plan.specs.Pads.{want_of as the_want_of, wants_of as the_wants_of, all_wants as wants_of_all};
 ghost use Rattle.ff_plan.specs.Numbering.{IsFewWants};
-ghost use Rattle.ff_plan.specs.Whole.{flat};
+ghost use Rattle.ff_plan.specs.Rows.{flat};
 
 use crate::filtering::Filtering;
 use crate::labelled::stream_of_label;

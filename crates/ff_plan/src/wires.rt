@@ -1,8 +1,9 @@
 // The wires between the nodes.
 ghost use Rattle.std.specs.Prelude.{◌≡◌, ◌^◌, ◌<◌, ◌≤◌, ◌++◌, ◌∷◌, [], IfOk, OnOk, length, map};
 ghost use Rattle.std.specs.List.{AllByRecursion, flat_map};
-ghost use Rattle.ff_plan.specs.Numbering.{wire_of, demux_wire_in, pad_wire_in, pad_wires_in, shortest_wire_in, enc_wire_in, joint_wire_in, frame_wires_in, mux_wire_in, wires_in, IsLow};
-ghost use Rattle.ff_plan.specs.Plain.{IsSmall};
+ghost use Rattle.ff_plan.specs.Numbering.{wire_of, demux_wire_in, pad_wire_in, pad_wires_in, shortest_wire_in, enc_wire_in};
+ghost use Rattle.ff_plan.specs.Numbering.{joint_wire_in, frame_wires_in, mux_wire_in, wires_in, IsLow};
+ghost use Rattle.ff_plan.specs.Limits.{IsSmall};
 
 use crate::firsts::{Firsts, dec_number, demux_number, graph_number, origin_number, port_of};
 use crate::layout::{InPad, Laid, Placed};

@@ -19,11 +19,10 @@ use Rattle.ff_plan.specs.Planned.{layout_of, laid_out, planned}
 use Rattle.ff_plan.specs.Rules.{Rules}
 use Rattle.ff_plan.specs.Taken.{AreKeptBy, HasFrames, AllFrames}
 use Rattle.ff_plan.specs.Wires.{edges_behind, edges_of}
-use Rattle.ff_plan.proofs.Among.{all_among, all_joined, all_map, all_flat, among_left}
+use Rattle.ff_plan.proofs.Among.{all_among, all_joined, all_map, all_flat, among_left, each_of}
 use Rattle.ff_plan.proofs.Graphed.{Stands, Walked, walked, inside_of, ins_from, place_left, place_right}
 use Rattle.ff_plan.proofs.GraphFits.{all_there, in_comes, by_rows}
 use Rattle.ff_plan.proofs.Kept.{among_at}
-use Rattle.ff_plan.proofs.Laid.{each_of}
 use Rattle.ff_plan.proofs.Layouts.{nat_self}
 use Rattle.ff_plan.proofs.Made.{Comes}
 use Rattle.ff_plan.proofs.Once.{had}

@@ -27,19 +27,18 @@ use Rattle.ff_plan.specs.Nodes.{before_muxes, node_count, output_numbers, shorte
 use Rattle.ff_plan.specs.Numbers.{leads_between, streams_between, HasFewStreams}
 use Rattle.ff_plan.specs.Order.{numbers}
 use Rattle.ff_plan.specs.Pads.{all_wants, pad_in, head_in, unlabelled}
-use Rattle.ff_plan.specs.Plain.{IsWithinLimits}
+use Rattle.ff_plan.specs.Limits.{IsWithinLimits}
 use Rattle.ff_plan.specs.Planned.{labels_of, graphs_of, layout_of, laid_out, planned}
 use Rattle.ff_plan.specs.Rules.{Rules}
 use Rattle.ff_plan.specs.Streams.{Inside, graph_of}
 use Rattle.ff_plan.specs.Texts.{texts_of_row, texts_from}
 use Rattle.ff_plan.specs.Wires.{edges_behind, edges_of}
-use Rattle.ff_plan.proofs.Among.{all_map, among_either}
+use Rattle.ff_plan.proofs.Among.{all_map, among_either, each_of, of_flat}
 use Rattle.ff_plan.proofs.Counts.{once_length, tally_joined, tally_none}
 use Rattle.ff_plan.proofs.EndFits.{rows_count}
 use Rattle.ff_plan.proofs.Graphed.{Stands, Walked, walked, walked_laid, inside_of, of_map}
 use Rattle.ff_plan.proofs.GraphFits.{graphs_fit, row_long}
 use Rattle.ff_plan.proofs.Kept.{below_at}
-use Rattle.ff_plan.proofs.Laid.{each_of, of_flat}
 use Rattle.ff_plan.proofs.Layouts.{counted, joined_length, map_length, range_length, number_in, output_in, dec_below, graph_below, wires_up, outs_all}
 use Rattle.ff_plan.proofs.Made.{found_is, fit_length, wants_fit}
 use Rattle.ff_plan.proofs.NodeRows.{all_once, none_above}

@@ -2,7 +2,7 @@
 ghost use Rattle.std.specs.Prelude.{◌≡◌, ◌≤◌, ℕ, List, length, Ok, Err};
 ghost use Rattle.std.specs.List.{AllByRecursion};
 ghost use Rattle.ff_plan.specs.Graphs.{AreRules};
-ghost use Rattle.ff_plan.specs.Plain.{IsWithinLimits};
+ghost use Rattle.ff_plan.specs.Limits.{IsWithinLimits};
 ghost use Rattle.ff_plan.specs.Planned.{planned};
 ghost use Rattle.ff_plan.specs.Rules.{Rules};
 ghost use Rattle.ff_plan.specs.Taken.{AllFrames, AreKeptBy, OutputsFit};

@@ -21,7 +21,6 @@ use Rattle.ff_plan.specs.declared.planned.Plan.{Plan}
 use Rattle.ff_plan.specs.declared.planned.PlanNode.{PlanNode}
 use Rattle.ff_plan.specs.declared.planned.PlanNode.TheVariants as node
 use Rattle.ff_plan.specs.EndFits as ends
-use Rattle.ff_plan.specs.Fitting as fitting
 use Rattle.ff_plan.specs.GraphFits as graphs
 use Rattle.ff_plan.specs.Numbers.{streams_between}
 use Rattle.ff_plan.specs.StartFits as starts
@@ -151,7 +150,7 @@ module _ {H : Type 0} (is : KindsOf H) (job : Job) (heads : List H) (plan : Plan
         outs_are = f.outs ∙ ap (λ (ss : List Stream). map (λ (s : Stream). Packets s.head) ss) one.4;
       }
 
-  pub dec_fits : ((h : H) → is.IsHead h → is.CanDecode (is.stream h)) → (k : ℕ) (at : StreamRef) → fitting.FitsDec (singles is.stream heads) plan.edges k at → Fits k (node.Dec at)
+  pub dec_fits : ((h : H) → is.IsHead h → is.CanDecode (is.stream h)) → (k : ℕ) (at : StreamRef) → starts.FitsDec (singles is.stream heads) plan.edges k at → Fits k (node.Dec at)
   dec_fits decodes k at f =
       let h = one_stream is.stream heads at.input at.stream f.head f.is in
       let many : length (lanes_out_of plan.edges k) ≡ f.uses = ap length f.outs ∙ length-replicate f.uses (Frames f.head) in

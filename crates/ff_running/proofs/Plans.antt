@@ -18,7 +18,8 @@ use Rattle.ff_plan.specs.declared.planned.PlanNode.TheVariants as node
 use Rattle.ff_plan.specs.EndFits.{FitsEnd}
 use Rattle.ff_plan.specs.GraphFits.{GraphsFit}
 use Rattle.ff_plan.specs.NodeRows.{HasRows}
-use Rattle.ff_plan.specs.Plain.{IsRefused, IsWithinLimits}
+use Rattle.ff_plan.specs.Limits.{IsWithinLimits}
+use Rattle.ff_plan.specs.Refusals.{IsRefused}
 use Rattle.ff_plan.specs.Planned.{planned}
 use Rattle.ff_plan.specs.Rules.{Rules}
 use Rattle.ff_plan.specs.StartFits.{FitsStart, StartsFit}

@@ -2,7 +2,7 @@ use Rattle.std.proofs.Common.{◌≡◌, ◌++◌, map}
 use Rattle.std.specs.Vec.Iter.{into_iter_items}
 use Rattle.ff_plan.specs.Pads.{Made}
 use Rattle.ff_plan.specs.Passing.{laid_by, streams_by}
-use Rattle.ff_plan.specs.Plain.{rows}
+use Rattle.ff_plan.specs.Rows.{rows}
 use Rattle.ff_plan.proofs.laying.laid_apart.Given as goal
 
 abbrev pub invariant-loop-row : goal.invariant-loop-row

@@ -15,12 +15,12 @@ use Rattle.ff_plan.specs.Numbering.{HasFewIns}
 use Rattle.ff_plan.specs.Order.{numbers}
 use Rattle.ff_plan.specs.Pads.{Made, unlabelled}
 use Rattle.ff_plan.specs.Passing.{count_fault, laid_by, rows_behind, streams_by}
-use Rattle.ff_plan.specs.Plain.{rows, IsRefused}
+use Rattle.ff_plan.specs.Rows.{rows, layout_in}
+use Rattle.ff_plan.specs.Refusals.{IsRefused, IsFault}
 use Rattle.ff_plan.specs.Planned.{laid_out}
 use Rattle.ff_plan.specs.Rules.{Planned}
 use Rattle.ff_plan.specs.Streams.{Passed}
 use Rattle.ff_plan.specs.Texts.{texts_from}
-use Rattle.ff_plan.specs.Whole.{IsFault, layout_in}
 use Rattle.ff_plan.proofs.Among.{all_joined}
 use Rattle.ff_plan.proofs.FewIns.{simple_few}
 use Rattle.ff_plan.proofs.LaidOut.{handed_on, refused_loops, refused_graphs, refused_rows, refused_unused, refused_counts, laid_in}

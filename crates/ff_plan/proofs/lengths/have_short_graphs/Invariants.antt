@@ -1,6 +1,6 @@
 use Rattle.std.proofs.Common.{drop}
 use Rattle.std.specs.List.{AllByRecursion}
-use Rattle.ff_plan.specs.Plain.{HasShortGraphs}
+use Rattle.ff_plan.specs.Limits.{HasShortGraphs}
 use Rattle.ff_plan.proofs.lengths.have_short_graphs.Given as goal
 
 abbrev pub invariant-loop-out : goal.invariant-loop-out

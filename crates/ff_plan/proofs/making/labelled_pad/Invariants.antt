@@ -1,7 +1,7 @@
 use Rattle.std.proofs.Common.{◌≡◌, drop}
 use Rattle.std.specs.List.{AllByRecursion}
 use Rattle.ff_plan.specs.Pads.{labelled_out, made_at}
-use Rattle.ff_plan.specs.Whole.{HasFewPads}
+use Rattle.ff_plan.specs.Limits.{HasFewPads}
 use Rattle.ff_plan.proofs.making.labelled_pad.Given as goal
 
 abbrev pub invariant-loop-one : goal.invariant-loop-one

@@ -2,7 +2,7 @@ use Rattle.std.proofs.Common.{◌≡◌, [], drop, vec_len}
 use Rattle.std.specs.List.{AllByRecursion}
 use Rattle.ff_plan.specs.Pads.{make_from}
 use Rattle.ff_plan.specs.Numbering.{HasFewIns}
-use Rattle.ff_plan.specs.Whole.{HasFewPads}
+use Rattle.ff_plan.specs.Limits.{HasFewPads}
 use Rattle.ff_plan.proofs.making.make_in_order.Given as goal
 
 abbrev pub invariant-loop-number : goal.invariant-loop-number

@@ -4,7 +4,7 @@ use Rattle.std.specs.List.{find, flat_map}
 use Rattle.ff_labels.specs.Labels.{given_in}
 use Rattle.ff_plan.specs.Mapping.{is_unused}
 use Rattle.ff_plan.specs.Planned.{unused_of}
-use Rattle.ff_plan.specs.Whole.{IsFault}
+use Rattle.ff_plan.specs.Refusals.{IsFault}
 use Rattle.ff_plan.proofs.mapping.check_unused.Goals as goal
 
 pub returns : goal.returns

@@ -7,7 +7,8 @@ use Rattle.ff_plan.specs.declared.layout.OutStream.{OutStream}
 use Rattle.ff_plan.specs.declared.layout.Placed.{Placed}
 use Rattle.ff_plan.specs.declared.planned.Plan.{Plan}
 use Rattle.ff_plan.specs.Layout.{place_from}
-use Rattle.ff_plan.specs.Plain.{rows, IsSmall}
+use Rattle.ff_plan.specs.Rows.{rows}
+use Rattle.ff_plan.specs.Limits.{IsSmall}
 use Rattle.ff_plan.proofs.ByRows.{rows_few, plan_by}
 use Rattle.ff_plan.proofs.Layouts.{map_length}
 use Rattle.ff_plan.proofs.Limits.{small_places}

@@ -4,8 +4,7 @@ use Rattle.ff_map.specs.declared.streams.Stream.{Stream}
 use Rattle.ff_map.specs.Choice.{all_streams, lists}
 use Rattle.ff_plan.specs.declared.layout.Origin.{Origin}
 use Rattle.ff_plan.specs.Layout.{shows}
-use Rattle.ff_plan.specs.Numbering.{streams_in, inputs_in}
-use Rattle.ff_plan.specs.Plain.{has_stream}
+use Rattle.ff_plan.specs.Numbering.{streams_in, inputs_in, has_stream}
 use Rattle.ff_plan.proofs.ByRows.{few_used, drawn_by}
 use Rattle.ff_plan.proofs.Limits.{few_inputs, lists_few, lists_length}
 use Rattle.ff_plan.proofs.numbering.plan_placed.Goals as goal

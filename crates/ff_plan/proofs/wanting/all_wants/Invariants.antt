@@ -3,7 +3,7 @@ use Rattle.std.specs.List.{AllByRecursion}
 use Rattle.ff_map.specs.Choice.{lists}
 use Rattle.ff_plan.specs.Numbering.{IsFewWants}
 use Rattle.ff_plan.specs.Pads.{wants_from}
-use Rattle.ff_plan.specs.Whole.{flat}
+use Rattle.ff_plan.specs.Rows.{flat}
 use Rattle.ff_plan.proofs.wanting.all_wants.Given as goal
 
 abbrev pub invariant-loop-graph : goal.invariant-loop-graph

@@ -3,7 +3,7 @@ use Rattle.std.specs.Prelude.{Some, None}
 use Rattle.std.specs.List.{find}
 use Rattle.ff_map.specs.Choice.{lists, all_streams}
 use Rattle.ff_plan.specs.Pads.{is_free}
-use Rattle.ff_plan.specs.Whole.{flat}
+use Rattle.ff_plan.specs.Rows.{flat}
 use Rattle.ff_plan.proofs.Wants.{streams_next}
 use Rattle.ff_plan.proofs.wanting.free_stream.Goals as goal
 

@@ -1,6 +1,6 @@
 use Rattle.std.proofs.Common.{List, true, false, sym, ap, ◌∙◌}
 use Rattle.ff_plan.specs.Pads.{Want, is_taken}
-use Rattle.ff_plan.specs.Whole.{flat}
+use Rattle.ff_plan.specs.Rows.{flat}
 use Rattle.ff_plan.proofs.Wants.{rows_next}
 use Rattle.ff_plan.proofs.wanting.in_rows.Goals as goal
 

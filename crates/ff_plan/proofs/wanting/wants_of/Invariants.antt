@@ -1,7 +1,7 @@
 use Rattle.std.proofs.Common.{◌≡◌, ◌++◌, drop, vec_len}
 use Rattle.ff_map.specs.Choice.{lists}
 use Rattle.ff_plan.specs.Pads.{wants_of}
-use Rattle.ff_plan.specs.Whole.{flat}
+use Rattle.ff_plan.specs.Rows.{flat}
 use Rattle.ff_plan.proofs.wanting.wants_of.Given as goal
 
 abbrev pub invariant-loop-pad : goal.invariant-loop-pad

@@ -2,8 +2,7 @@ use Rattle.std.proofs.Common.{◌≡◌, ℕ, ◌+◌, ◌<◌, List, [], ◌∷
 use Rattle.ff_frame.specs.declared.item.Lane.TheVariants.{Packets}
 use Rattle.ff_map.specs.declared.streams.Stream.{Stream}
 use Rattle.ff_plan.specs.declared.number.Wire.{Wire}
-use Rattle.ff_plan.specs.Numbering.{wire_of, demux_wire_in}
-use Rattle.ff_plan.specs.Plain.{demux_number}
+use Rattle.ff_plan.specs.Numbering.{wire_of, demux_wire_in, demux_number}
 use Rattle.ff_plan.proofs.Fronts.{drop_next}
 use Rattle.ff_plan.proofs.wires.add_demux_wires.Goals as goal
 
