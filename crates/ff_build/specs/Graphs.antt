@@ -38,7 +38,7 @@ graphs_are_had text heads outs made count unlooped clear fit = record {
   clear = clear;
   counted = count ∙ length-map (pads.open_ins text) input_as;
   few = subst (λ (n : ℕ). n ≤ 16) (sym count)
-      ((keep_heads false false).few text (map (λ h. Some h) heads) outs (unlooped, length-map heads (λ h. Some h) ∙ count, made));
+      (keep_heads.few text (map (λ h. Some h) heads) outs (unlooped, length-map heads (λ h. Some h) ∙ count, made));
   outs_are = heads_made (pads.loops text) (of_graph.configured text (all_given heads)) _ outs unlooped made;
 }
 

@@ -24,7 +24,7 @@ use Rattle.ff_muxing.specs.Outputs.{CanWrite, layout_of}
 use Rattle.ff_muxing.specs.StreamEvents.{stream_events}
 use Rattle.ff_net.specs.Pasts.{Task}
 use Rattle.ff_rules.specs.Kept.{IsFitHead, AreFitHeads}
-use Rattle.ff_rules.specs.Rules.{bare_rules}
+use Rattle.ff_rules.specs.Rules.{graph_rules}
 use Rattle.ff_running.specs.Kinds.{KindsOf}
 use Rattle.ff_shortest.specs.JointTask.{joint_task}
 use Rattle.ff_words.specs.declared.job.OutputJob.{OutputJob}
@@ -66,7 +66,7 @@ abbrev pub all_kinds : KindsOf InputHead
 all_kinds = record {
   IsHead = IsHead;
   stream = stream_in;
-  rules = bare_rules;
+  rules = graph_rules;
   IsFrames = IsFitHead;
   demux_task = demux_task any_cutter;
   CanDecode = CanDecode;

@@ -14,7 +14,7 @@ use ff_heads::InputHead;
 use ff_host::{Sink, Source};
 use ff_lang::Graph;
 use ff_muxing::{Mux, writer_of};
-use ff_plan::{Plan, PlanError, plan_with};
+use ff_plan::{Plan, PlanError, plan};
 use ff_rules::GraphRules;
 use ff_running::{Ends, Kinds};
 use ff_shortest::joint_machine;
@@ -64,15 +64,7 @@ impl<Src: Source + Send + Drop, Snk: Sink + Send + Drop> Kinds<Src, Snk, Part<Sr
     }
 
     fn plan(alloc: Global, job: &Job, heads: &[Vec<StreamHead>]) -> Result<Plan, PlanError> {
-        plan_with(
-            alloc,
-            &GraphRules {
-                nulls: false,
-                joint: false,
-            },
-            job,
-            heads,
-        )
+        plan(alloc, &GraphRules, job, heads)
     }
 
     fn demuxer(
@@ -179,13 +171,13 @@ impl<Src: Source + Send + Drop, Snk: Sink + Send + Drop> Kinds<Src, Snk, Part<Sr
 
     ghost frames = { heads_fit };
 
-    ghost ruled = { are_rules false false };
+    ghost ruled = { are_rules };
 
-    ghost kept = { (keep_heads false false).kept };
+    ghost kept = { keep_heads.kept };
 
-    ghost few = { (keep_heads false false).few };
+    ghost few = { keep_heads.few };
 
-    ghost takes = { (keep_heads false false).taken };
+    ghost takes = { keep_heads.taken };
 
     ghost filters = { graphs_are_had };
 

@@ -4,9 +4,11 @@ use crate::maps::streams;
 use crate::table::Stop;
 use crate::words::Words;
 use ff_frame::Lane;
-use ff_plan::{Edge, Plan, PlanError, PlanNode, Unbuilt, is_within_limits, plan};
+use ff_lang::Text;
+use ff_plan::{Edge, Plan, PlanError, PlanNode, is_within_limits, plan};
+use ff_rules::GraphRules;
 use ff_sched::Way;
-use ff_values::StreamHead;
+use ff_values::{ConfigError, StreamHead};
 use ff_words::{Command, Job, read_words};
 use std::alloc::{AllocError, Global};
 
@@ -74,12 +76,37 @@ fn show_plan(alloc: Global, plan: &Plan) -> Result<String, AllocError> {
     Ok(out)
 }
 
-fn show_unbuilt(alloc: Global, part: Unbuilt) -> Result<String, AllocError> {
-    match part {
-        Unbuilt::Complex => format!(in alloc; "unbuilt complex graph"),
-        Unbuilt::Simple { output } => format!(in alloc; "unbuilt graph of output {output}"),
-        Unbuilt::Shortest { output } => format!(in alloc; "unbuilt shortest of output {output}"),
+fn reason(kind: ConfigError) -> &'static str {
+    match kind {
+        ConfigError::UnknownFilter => "unknown filter",
+        ConfigError::UnknownOption => "unknown option",
+        ConfigError::BadOption => "bad option",
+        ConfigError::Kind => "wrong kind",
+        ConfigError::Pads => "wrong number of pads",
+        ConfigError::Mismatch => "mismatch",
+        ConfigError::BadSize => "bad size",
+        ConfigError::NoMemory => "out of memory",
     }
+}
+
+fn show_config(
+    alloc: Global,
+    graph: u32,
+    filter: u32,
+    kind: ConfigError,
+) -> Result<String, AllocError> {
+    let why = reason(kind);
+    format!(in alloc; "graph {graph} filter {filter}: {why}")
+}
+
+fn show_label(
+    alloc: Global,
+    before: &str,
+    label: &Text,
+    behind: &str,
+) -> Result<String, AllocError> {
+    let label = label.as_str();
+    format!(in alloc; "{before}{label}{behind}")
 }
 
 fn show_error(alloc: Global, error: PlanError) -> Result<String, Stop> {
@@ -88,16 +115,21 @@ fn show_error(alloc: Global, error: PlanError) -> Result<String, Stop> {
             format!(in alloc; "output {output} map {map}: no stream")?
         }
         PlanError::NoStreams { output } => format!(in alloc; "output {output}: no streams")?,
-        PlanError::UnknownLabel { label } => {
-            let label = label.as_str();
-            format!(in alloc; "unknown label {label}")?
-        }
+        PlanError::UnknownLabel { label } => show_label(alloc, "unknown label ", &label, "")?,
+        PlanError::UnusedLabel { label } => show_label(alloc, "unused label ", &label, "")?,
+        PlanError::LabelTwice { label } => show_label(alloc, "label ", &label, " used twice")?,
+        PlanError::Loop { graph } => format!(in alloc; "loop in graph {graph}")?,
+        PlanError::Config {
+            graph,
+            filter,
+            kind,
+        } => show_config(alloc, graph, filter, kind)?,
         PlanError::Takes { output, stream } => {
             format!(in alloc; "output {output} stream {stream}: not taken")?
         }
         PlanError::TooManyStreams => format!(in alloc; "too many streams")?,
-        PlanError::Unbuilt { part } => show_unbuilt(alloc, part)?,
-        _ => return Err(Stop::Broken),
+        PlanError::TooManyGraphs => format!(in alloc; "too many graphs")?,
+        PlanError::NoMemory => return Err(Stop::Broken),
     };
     Ok(text)
 }
@@ -106,7 +138,7 @@ fn planned(alloc: Global, job: &Job, heads: &[Vec<StreamHead>]) -> Result<String
     if !is_within_limits(job, heads) {
         return Err(Stop::Unreadable);
     }
-    match plan(alloc, job, heads) {
+    match plan(alloc, &GraphRules, job, heads) {
         Ok(plan) => Ok(show_plan(alloc, &plan)?),
         Err(error) => show_error(alloc, error),
     }

@@ -19,7 +19,7 @@ use Rattle.ff_plan.specs.Streams.{takes_head}
 use Rattle.ff_plan.specs.declared.open_pads.OpenOut.{OpenOut}
 use Rattle.ff_plan.specs.declared.open_pads.Refused.{Refused}
 use Rattle.ff_rules.specs.Kept.{IsFitHead, KeepHeads}
-use Rattle.ff_rules.specs.Rules.{output_as, outputs_as, configured, rules_with}
+use Rattle.ff_rules.specs.Rules.{output_as, outputs_as, configured, graph_rules}
 use Rattle.ff_rules.proofs.Lists.{some_same, no_some, all_at, all_joined}
 use Rattle.ff_rules.proofs.Settings.{no_ok}
 use Rattle.ff_rules.proofs.Making.{made_parts, heads_keep}
@@ -126,8 +126,8 @@ reason_so g heads r e = step (of_graph.loops g) e where
   step true f = (let same : fault.Pads ≡ r.kind = cc in λ none. cc)
   step false f = (let k = as_err (of_graph_made.configured g heads) r f in λ none. never_for_memory g heads k.0 k.1 (k.3 ∙ none))
 
-pub keep_heads : (nulls joint : Bool) → KeepHeads (rules_with nulls joint)
-keep_heads nulls joint = record {
+pub keep_heads : KeepHeads graph_rules
+keep_heads = record {
   few = λ g heads outs had.
       let w = was_had g heads outs had.2 in
       let few = opens_few (seen_graph g) heads w.made had.0 w.is in

@@ -40,22 +40,15 @@ open_ins g = map input_as (of_graph.open_ins g)
 abbrev pub configured : Graph → List (Option StreamHead) → Result (List OpenOut) Refused
 configured g heads = if of_graph.loops g then Err (record { filter = 0; kind = Pads }) else outputs_as (of_graph_made.configured g heads)
 
--- with `null` and `anull` or without them, with a Shortest node for each output or without
-abbrev pub rules_with : Bool → Bool → Rules
-rules_with nulls joint = record {
+-- each stream of an input without a simple graph passes through `null` or `anull`, and each output has a Shortest node
+abbrev pub graph_rules : Rules
+graph_rules = record {
   map_of = map_of;
   known = of_graph.is_known;
   loops = of_graph.loops;
   open_ins = open_ins;
   configured = configured;
-  nulls = nulls;
-  joint = joint;
+  nulls = true;
+  joint = true;
   most = most_streams;
 }
-
-abbrev pub graph_rules : Rules
-graph_rules = rules_with true true
-
--- where no stream passes through a filter that nobody asked for
-abbrev pub bare_rules : Rules
-bare_rules = rules_with false false

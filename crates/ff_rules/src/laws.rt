@@ -1,5 +1,5 @@
 //! Laws of the rules: functions that do nothing, whose clauses hold of all values.
-ghost use Rattle.std.specs.Prelude.{◌≡◌, ◌↔◌, ℕ, ◌^◌, ◌<◌, ◌≤◌, Bool, List, Option, Some, Ok, Err, length, map};
+ghost use Rattle.std.specs.Prelude.{◌≡◌, ◌↔◌, ℕ, ◌^◌, ◌<◌, ◌≤◌, List, Option, Some, Ok, Err, length, map};
 ghost use Rattle.ff_values.specs.declared.head.StreamHead.{StreamHead};
 ghost use Rattle.ff_lang.specs.declared.graph.Graph.{Graph as Text};
 ghost use Rattle.ff_labels.specs.Labels.{filters_of};
@@ -10,7 +10,7 @@ ghost use Rattle.ff_plan.specs.declared.open_pads.OpenOut.{OpenOut};
 ghost use Rattle.ff_plan.specs.declared.open_pads.Refused.{Refused};
 ghost use Rattle.ff_rules.specs.Kept.{AreFitHeads, KeepHeads};
 ghost use Rattle.ff_rules.specs.Maps.{map_of};
-ghost use Rattle.ff_rules.specs.Rules.{rules_with, open_ins, configured};
+ghost use Rattle.ff_rules.specs.Rules.{graph_rules, open_ins, configured};
 
 /// The function that reads maps reads all of them, and nothing else.
 pub fn maps_are_read()
@@ -20,12 +20,12 @@ pub fn maps_are_read()
 /// The rules are such as the laws of plans need: where a graph can be had, each of its open input pads has a stream, and the
 /// labels that it takes and gives stand at its open pads.
 pub fn rules_are_rules()
-    ensures { (nulls joint : Bool) → AreRules (rules_with nulls joint) }
+    ensures { AreRules graph_rules }
 {}
 
 /// A graph that can be had has few open input pads, and what streams need to be coded and written its filters keep.
 pub fn heads_are_kept()
-    ensures { (nulls joint : Bool) → KeepHeads (rules_with nulls joint) }
+    ensures { KeepHeads graph_rules }
 {}
 
 /// A graph of as many filters as a word of a command can write has no more open pads than the code can give, where the heads that it

@@ -2,7 +2,7 @@
 //!
 //! ```text
 //!   ff_map ─────────► map_of ────────────────────────────────┐
-//!   ff_graph ───────► known, loops, open_ins, configured ────┴─► rules_with nulls joint ─► ff_plan
+//!   ff_graph ───────► known, loops, open_ins, configured ────┴─► graph_rules ─► ff_plan
 //! ```
 //!
 //! A plan is defined over rules that say which names are filters, what the open pads of a graph are, and which map a text is

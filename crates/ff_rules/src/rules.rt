@@ -1,6 +1,6 @@
 ghost use Rattle.std.specs.Prelude.{◌≡◌};
 ghost use Rattle.ff_plan.specs.Streams.{most_streams as most_of};
-ghost use Rattle.ff_rules.specs.Rules.{rules_with};
+ghost use Rattle.ff_rules.specs.Rules.{graph_rules};
 
 use crate::in_pads::input_pads;
 use crate::maps::map_of;
@@ -13,17 +13,13 @@ use ff_values::StreamHead;
 use ff_words::FileFormat;
 use std::alloc::{AllocError, Global};
 
-/// The rules of the filters that there are, and of maps.
+/// The rules of the filters that there are, and of maps. Each stream without a simple graph passes through `null` or `anull`, and
+/// each output has a Shortest node.
 #[derive(Clone, Copy, Debug, Drop)]
-pub struct GraphRules {
-    /// Whether a stream without a simple graph passes through `null` or `anull`.
-    pub nulls: bool,
-    /// Whether each output has a Shortest node.
-    pub joint: bool,
-}
+pub struct GraphRules;
 
 impl Filtering for GraphRules {
-    ghost rules = { λ r. rules_with r.nulls r.joint };
+    ghost rules = { λ r. graph_rules };
 
     fn is_known(&self, name: &str) -> bool {
         is_known(name)
@@ -58,10 +54,10 @@ impl Filtering for GraphRules {
     }
 
     fn has_nulls(&self) -> bool {
-        self.nulls
+        true
     }
 
     fn is_joint(&self) -> bool {
-        self.joint
+        true
     }
 }
