@@ -8,7 +8,7 @@ use Rattle.ff_plan.specs.declared.planned.PlanNode.TheVariants as node
 use Rattle.ff_running.specs.Asked.{Asked}
 use Rattle.ff_running.specs.Kinds.{KindsOf}
 use Rattle.ff_edges.specs.Ports.{lanes_into, lanes_out_of}
-use Rattle.ff_running.specs.Tasks.{first_at}
+use Rattle.ff_running.specs.Tasks.{first_at, cuts_at}
 use Rattle.ff_running.specs.Parts.{IsBefore, AreOrdered, IsAside, AllAside, IsPart, AreParts}
 
 pub length_more : {A : Type 0} (xs : List A) (y : A) → length (xs ++ y ∷ []) ≡ length xs + 1
@@ -69,7 +69,7 @@ module _ {H S K M : Type 0} (is : KindsOf H) (left named : S → Option (List �
 
   -- with the part of the next node
   pub next_part : (parts parts' : List M) (sp sp' : List (Option S)) (kp kp' : List (Option K)) (n : PlanNode) (m : M) → slice_get nodes (length parts) ≡ Some n → parts' ≡ parts ++ m ∷ []
-      → IsPart is left named failed holds called faulted asked heads srcs snks (first_at asked nodes edges (length parts)) (lanes_into edges (length parts)) (lanes_out_of edges (length parts)) n (view m)
+      → IsPart is left named failed holds called faulted asked heads srcs snks (first_at asked nodes edges (length parts)) (cuts_at asked nodes edges (length parts)) (lanes_into edges (length parts)) (lanes_out_of edges (length parts)) n (view m)
       → ((w : ℕ) → (n ≡ node.Demux w → ⊥) → slice_get sp' w ≡ slice_get sp w) → ((w : ℕ) → (n ≡ node.Mux w → ⊥) → slice_get kp' w ≡ slice_get kp w)
       → length sp' ≡ length sp → length kp' ≡ length kp
       → AreParts is left named failed holds called faulted view asked heads edges nodes srcs snks parts sp kp
@@ -83,9 +83,9 @@ module _ {H S K M : Type 0} (is : KindsOf H) (left named : S → Option (List �
           | inl old ↦ h.each j x y nj old
           | inr last ↦
               let nx : n ≡ x = some_same (slice_get nodes (length parts)) n x at (subst (λ (i : ℕ). slice_get nodes i ≡ Some x) last.0 nj) in
-              subst (λ (i : ℕ). IsPart is left named failed holds called faulted asked heads srcs snks (first_at asked nodes edges i) (lanes_into edges i) (lanes_out_of edges i) x (view y)) (sym last.0)
-              (subst (λ (z : PlanNode). IsPart is left named failed holds called faulted asked heads srcs snks (first_at asked nodes edges (length parts)) (lanes_into edges (length parts)) (lanes_out_of edges (length parts)) z (view y)) nx
-              (subst (λ (z : M). IsPart is left named failed holds called faulted asked heads srcs snks (first_at asked nodes edges (length parts)) (lanes_into edges (length parts)) (lanes_out_of edges (length parts)) n (view z)) last.1 new))
+              subst (λ (i : ℕ). IsPart is left named failed holds called faulted asked heads srcs snks (first_at asked nodes edges i) (cuts_at asked nodes edges i) (lanes_into edges i) (lanes_out_of edges i) x (view y)) (sym last.0)
+              (subst (λ (z : PlanNode). IsPart is left named failed holds called faulted asked heads srcs snks (first_at asked nodes edges (length parts)) (cuts_at asked nodes edges (length parts)) (lanes_into edges (length parts)) (lanes_out_of edges (length parts)) z (view y)) nx
+              (subst (λ (z : M). IsPart is left named failed holds called faulted asked heads srcs snks (first_at asked nodes edges (length parts)) (cuts_at asked nodes edges (length parts)) (lanes_into edges (length parts)) (lanes_out_of edges (length parts)) n (view z)) last.1 new))
         ];
         srcs_aside = λ i lt out.
             let x = h.srcs_aside i lt (λ b. out (before (node.Demux i) b)) in

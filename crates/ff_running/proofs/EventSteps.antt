@@ -7,6 +7,7 @@ use Rattle.std.proofs.lemmas.List.{length-map}
 use Rattle.std.proofs.lemmas.List.Elements.{All-head, All-tail}
 use Rattle.ff_frame.specs.declared.item.Lane.{Lane}
 use Rattle.ff_frame.specs.Lanes.{head_of}
+use Rattle.ff_time.specs.declared.cut.TimeCut.{TimeCut}
 use Rattle.ff_values.specs.declared.head.StreamHead.{StreamHead}
 use Rattle.ff_values.specs.declared.event.Event.{Event}
 use Rattle.ff_values.specs.declared.event.Event.TheVariants.{Grant, Sent, Finished, Best, Exited}
@@ -20,7 +21,7 @@ use Rattle.ff_plan.specs.declared.planned.PlanNode.TheVariants as node
 use Rattle.ff_running.specs.Asked.{Asked}
 use Rattle.ff_running.specs.Kinds.{KindsOf, is_of_stream}
 use Rattle.ff_running.specs.Meaning.{task_by}
-use Rattle.ff_running.specs.Tasks.{first_at, first_head, heads_on, demux_by, dec_by, graph_by, shortest_by, enc_by, mux_by}
+use Rattle.ff_running.specs.Tasks.{first_at, cuts_at, first_head, heads_on, demux_by, dec_by, graph_by, shortest_by, enc_by, mux_by}
 use Rattle.ff_running.specs.Events.{is_among, is_of_streams, is_best_of, ChangeBest, is_exit_of, TellOfThemselves, PlansTellAlone}
 use Rattle.ff_running.specs.Parts.{AreOrdered}
 use Rattle.ff_running.proofs.StreamNumbers.{numbers_apart}
@@ -111,19 +112,19 @@ module _ {H : Type 0} (is : KindsOf H) (own : TellOfThemselves is) (asked : Aske
   demux_none kind i apart (Some head) text =
       ap (filter kind) (own.demuxer i head text feeds) ∙ ap (λ (b : Bool). cond b (Exited i ∷ []) []) apart
 
-  dec_none : (kind : Event → Bool) (head : Option StreamHead) (n : ℕ) → filter kind ((dec_by is head n).tells feeds) ≡ []
-  dec_none kind None n = refl
-  dec_none kind (Some head) n = ap (filter kind) (own.decoder head n feeds)
+  dec_none : (kind : Event → Bool) (head : Option StreamHead) (cut : TimeCut) (n : ℕ) → filter kind ((dec_by is head cut n).tells feeds) ≡ []
+  dec_none kind None cut n = refl
+  dec_none kind (Some head) cut n = ap (filter kind) (own.decoder head cut n feeds)
 
   enc_none : (kind : Event → Bool) (head coded : Option StreamHead) → filter kind ((enc_by is head coded).tells feeds) ≡ []
   enc_none kind None coded = refl
   enc_none kind (Some head) None = refl
   enc_none kind (Some head) (Some coded) = ap (filter kind) (own.encoder head coded feeds)
 
-  graph_none : (kind : Event → Bool) (g : ℕ) (text : Option Graph) (framed : List StreamHead) → ((i : ℕ) → kind (Best g i) ≡ false)
-      → filter kind ((graph_by is g text framed).tells feeds) ≡ []
-  graph_none kind g None framed apart = refl
-  graph_none kind g (Some text) framed apart = change_none kind g 0 ((is.graph_task g text framed).tells feeds) apart (own.graph g text framed feeds)
+  graph_none : (kind : Event → Bool) (g : ℕ) (text : Option Graph) (framed : List StreamHead) (cuts : List TimeCut) → ((i : ℕ) → kind (Best g i) ≡ false)
+      → filter kind ((graph_by is g text framed cuts).tells feeds) ≡ []
+  graph_none kind g None framed cuts apart = refl
+  graph_none kind g (Some text) framed cuts apart = change_none kind g 0 ((is.graph_task g text framed cuts).tells feeds) apart (own.graph g text framed cuts feeds)
 
   shortest_none : (kind : Event → Bool) (out : Option OutputJob) (framed : List StreamHead) → filter kind ((shortest_by is out framed).tells feeds) ≡ []
   shortest_none kind None framed = refl
@@ -140,8 +141,8 @@ module _ {H : Type 0} (is : KindsOf H) (own : TellOfThemselves is) (asked : Aske
       → filter (is_of_stream t) ((task_by is asked heads bytes nodes edges n j).tells feeds) ≡ []
   none_of_stream t j None other = refl
   none_of_stream t j (Some (node.Demux i)) other = demux_none (is_of_stream t) i refl (slice_get heads i) (slice_index_or bytes i [])
-  none_of_stream t j (Some (node.Dec at)) other = dec_none (is_of_stream t) (first_head (lanes_into edges j)) (length (lanes_out_of edges j))
-  none_of_stream t j (Some (node.Graph g)) other = graph_none (is_of_stream t) g (asked.text g) (heads_on (lanes_into edges j)) (λ i. refl)
+  none_of_stream t j (Some (node.Dec at)) other = dec_none (is_of_stream t) (first_head (lanes_into edges j)) (asked.cut at.input) (length (lanes_out_of edges j))
+  none_of_stream t j (Some (node.Graph g)) other = graph_none (is_of_stream t) g (asked.text g) (heads_on (lanes_into edges j)) (cuts_at asked nodes edges j) (λ i. refl)
   none_of_stream t j (Some (node.Shortest p)) other = shortest_none (is_of_stream t) (slice_get asked.outputs p) (heads_on (lanes_into edges j))
   none_of_stream t j (Some (node.Enc p q)) other = enc_none (is_of_stream t) (first_head (lanes_into edges j)) (first_head (lanes_out_of edges j))
   none_of_stream t j (Some (node.Mux p)) other =
@@ -154,8 +155,8 @@ module _ {H : Type 0} (is : KindsOf H) (own : TellOfThemselves is) (asked : Aske
   none_of_input i j None other = refl
   none_of_input i j (Some (node.Demux p)) other =
       demux_none (is_exit_of i) p (other_number p i p (λ e. other (ap (λ (m : ℕ). Some (node.Demux m)) e)) (itself p p refl)) (slice_get heads p) (slice_index_or bytes p [])
-  none_of_input i j (Some (node.Dec at)) other = dec_none (is_exit_of i) (first_head (lanes_into edges j)) (length (lanes_out_of edges j))
-  none_of_input i j (Some (node.Graph g)) other = graph_none (is_exit_of i) g (asked.text g) (heads_on (lanes_into edges j)) (λ k. refl)
+  none_of_input i j (Some (node.Dec at)) other = dec_none (is_exit_of i) (first_head (lanes_into edges j)) (asked.cut at.input) (length (lanes_out_of edges j))
+  none_of_input i j (Some (node.Graph g)) other = graph_none (is_exit_of i) g (asked.text g) (heads_on (lanes_into edges j)) (cuts_at asked nodes edges j) (λ k. refl)
   none_of_input i j (Some (node.Shortest p)) other = shortest_none (is_exit_of i) (slice_get asked.outputs p) (heads_on (lanes_into edges j))
   none_of_input i j (Some (node.Enc p q)) other = enc_none (is_exit_of i) (first_head (lanes_into edges j)) (first_head (lanes_out_of edges j))
   none_of_input i j (Some (node.Mux p)) other =
@@ -165,9 +166,9 @@ module _ {H : Type 0} (is : KindsOf H) (own : TellOfThemselves is) (asked : Aske
   none_of_best : (g j : ℕ) (n : Option PlanNode) → n ≢ Some (node.Graph g) → filter (is_best_of g) ((task_by is asked heads bytes nodes edges n j).tells feeds) ≡ []
   none_of_best g j None other = refl
   none_of_best g j (Some (node.Demux p)) other = demux_none (is_best_of g) p refl (slice_get heads p) (slice_index_or bytes p [])
-  none_of_best g j (Some (node.Dec at)) other = dec_none (is_best_of g) (first_head (lanes_into edges j)) (length (lanes_out_of edges j))
+  none_of_best g j (Some (node.Dec at)) other = dec_none (is_best_of g) (first_head (lanes_into edges j)) (asked.cut at.input) (length (lanes_out_of edges j))
   none_of_best g j (Some (node.Graph h)) other =
-      graph_none (is_best_of g) h (asked.text h) (heads_on (lanes_into edges j)) (λ i. other_number h g h (λ e. other (ap (λ (m : ℕ). Some (node.Graph m)) e)) (itself h h refl))
+      graph_none (is_best_of g) h (asked.text h) (heads_on (lanes_into edges j)) (cuts_at asked nodes edges j) (λ i. other_number h g h (λ e. other (ap (λ (m : ℕ). Some (node.Graph m)) e)) (itself h h refl))
   none_of_best g j (Some (node.Shortest p)) other = shortest_none (is_best_of g) (slice_get asked.outputs p) (heads_on (lanes_into edges j))
   none_of_best g j (Some (node.Enc p q)) other = enc_none (is_best_of g) (first_head (lanes_into edges j)) (first_head (lanes_out_of edges j))
   none_of_best g j (Some (node.Mux p)) other =

@@ -1,5 +1,6 @@
 pub mod Backs
 pub mod Building
+pub mod Cutting
 pub mod Ending
 pub mod EventSteps
 pub mod Gathering

@@ -1,6 +1,7 @@
 -- A part that was made, as the part of its node.
 use Rattle.std.proofs.Common.{◌≡◌, ℕ, List, [], map, slice_get, slice_index_or, Option, Some, None, IfSome, sym, ap, ◌∙◌, subst}
 use Rattle.std.proofs.lemmas.Option.{slice_get_within, get_or_from_slice_get}
+use Rattle.ff_time.specs.declared.cut.TimeCut.{TimeCut}
 use Rattle.ff_values.specs.declared.head.StreamHead.{StreamHead}
 use Rattle.ff_frame.specs.declared.item.Lane.{Lane}
 use Rattle.ff_frame.specs.declared.item.Lane.TheVariants.{Frames, Packets}
@@ -21,10 +22,10 @@ if_both P Q R None p q f = tt
 if_both P Q R (Some x) p q f = f x p q
 
 module _ {H S K : Type 0} (is : KindsOf H) (left named : S → Option (List ℕ)) (failed : S → ℕ) (holds called : K → Option (List ℕ)) (faulted : K → ℕ)
-    (asked : Asked) (heads : List H) (srcs : List S) (snks : List K) (first : ℕ) (ins outs : List Lane) (v : View) where
+    (asked : Asked) (heads : List H) (srcs : List S) (snks : List K) (first : ℕ) (cuts : List TimeCut) (ins outs : List Lane) (v : View) where
   pub demux_part : (i : ℕ) (fits : FitsDemux is heads ins outs i) (src : S) → slice_get srcs i ≡ Some src → IsNew (Some i) ins outs (named src) (failed src) v
       → ((head : H) → slice_get heads i ≡ Some head → (bytes : List ℕ) → left src ≡ Some bytes → v.stands (start (is.demux_task i head bytes)))
-      → IsPart is left named failed holds called faulted asked heads srcs snks first ins outs (node.Demux i) v
+      → IsPart is left named failed holds called faulted asked heads srcs snks first cuts ins outs (node.Demux i) v
   demux_part i fits src at new starts = record {
     source_is = new.source_is;
     in_lanes = new.in_lanes;
@@ -43,8 +44,8 @@ module _ {H S K : Type 0} (is : KindsOf H) (left named : S → Option (List ℕ)
   pub graph_part : (g : ℕ) (fits : FitsGraph is asked ins outs g) (framed : List StreamHead) → framed ≡ heads_on ins
       → ((text : Graph) (made : List StreamHead) → asked.text g ≡ Some text → is.CanFilter text framed made
       → IsNew None (map (λ (head : StreamHead). Frames head) framed) (map (λ (head : StreamHead). Frames head) made) None 0 v)
-      → ((text : Graph) → asked.text g ≡ Some text → v.stands (start (is.graph_task g text framed)))
-      → IsPart is left named failed holds called faulted asked heads srcs snks first ins outs (node.Graph g) v
+      → ((text : Graph) → asked.text g ≡ Some text → v.stands (start (is.graph_task g text framed cuts)))
+      → IsPart is left named failed holds called faulted asked heads srcs snks first cuts ins outs (node.Graph g) v
   graph_part g fits framed e news starts =
       let own : framed ≡ fits.heads = e ∙ framed_is ins fits.heads fits.ins_are in
       let new = news fits.text fits.made fits.there (subst (λ (hs : List StreamHead). is.CanFilter fits.text hs fits.made) (sym own) fits.can) in record {
@@ -55,14 +56,14 @@ module _ {H S K : Type 0} (is : KindsOf H) (left named : S → Option (List ℕ)
         source = λ i s e. absurd cc;
         sink = λ p s e. absurd cc;
         starts = λ bytes told.
-            subst (λ (hs : List StreamHead). v.stands (start (graph_by is g (asked.text g) hs))) e
-            (subst (λ (x : Option Graph). v.stands (start (graph_by is g x framed))) (sym fits.there) (starts fits.text fits.there));
+            subst (λ (hs : List StreamHead). v.stands (start (graph_by is g (asked.text g) hs cuts))) e
+            (subst (λ (x : Option Graph). v.stands (start (graph_by is g x framed cuts))) (sym fits.there) (starts fits.text fits.there));
       }
 
   pub shortest_part : (o : ℕ) (fits : FitsShortest is asked ins outs o) (framed : List StreamHead) → framed ≡ heads_on ins
       → IsNew None (map (λ (head : StreamHead). Frames head) framed) (map (λ (head : StreamHead). Frames head) framed) None 0 v
       → ((out : OutputJob) → slice_get asked.outputs o ≡ Some out → v.stands (start (is.shortest_task out.shortest framed)))
-      → IsPart is left named failed holds called faulted asked heads srcs snks first ins outs (node.Shortest o) v
+      → IsPart is left named failed holds called faulted asked heads srcs snks first cuts ins outs (node.Shortest o) v
   shortest_part o fits framed e new starts =
       let own : framed ≡ fits.heads = e ∙ framed_is ins fits.heads fits.ins_are in record {
         source_is = new.source_is;
@@ -78,7 +79,7 @@ module _ {H S K : Type 0} (is : KindsOf H) (left named : S → Option (List ℕ)
 
   pub mux_part : (o : ℕ) (fits : FitsMux is asked ins outs o) (coded : List StreamHead) → coded ≡ fits.coded → (snk : K) → slice_get snks o ≡ Some snk → IsNew None (map (λ (head : StreamHead). Packets head) coded) [] (called snk) (faulted snk) v
       → ((out : OutputJob) → slice_get asked.outputs o ≡ Some out → holds snk ≡ Some [] → v.stands (start (is.mux_task first out coded)))
-      → IsPart is left named failed holds called faulted asked heads srcs snks first ins outs (node.Mux o) v
+      → IsPart is left named failed holds called faulted asked heads srcs snks first cuts ins outs (node.Mux o) v
   mux_part o fits coded e snk at new starts = record {
     source_is = new.source_is;
     in_lanes = new.in_lanes ∙ (ap (λ (hs : List StreamHead). map (λ (head : StreamHead). Packets head) hs) e ∙ sym fits.ins_are);

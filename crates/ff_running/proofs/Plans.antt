@@ -4,12 +4,10 @@ use Rattle.std.specs.List.{AllByRecursion}
 use Rattle.std.specs.Prelude.{All}
 use Rattle.std.proofs.lemmas.List.{length-map}
 use Rattle.ff_values.specs.declared.head.StreamHead.{StreamHead}
-use Rattle.ff_lang.specs.declared.graph.Graph.{Graph}
 use Rattle.ff_words.specs.declared.job.Job.{Job}
 use Rattle.ff_words.specs.declared.job.OutputJob.{OutputJob}
 use Rattle.ff_edges.specs.Ports.{shape_of, IsFed}
 use Rattle.ff_network.proofs.PortLanes.{own_lanes_fit}
-use Rattle.ff_plan.specs.declared.open_pads.OpenOut.{OpenOut}
 use Rattle.ff_plan.specs.declared.planned.Plan.{Plan}
 use Rattle.ff_plan.specs.declared.planned.PlanError.{PlanError}
 use Rattle.ff_plan.specs.declared.planned.PlanError.TheVariants.{NoMemory}

@@ -57,17 +57,23 @@ no_edge [] w le = refl
 no_edge (e ∷ es) zero le = absurd (omega (arith, le))
 no_edge (e ∷ es) (suc w) le = no_edge es w (omega (arith, le))
 
-module _ (edges : List Edge) (numbers : List ℕ) (k : ℕ) (lt : k < length numbers) where
-  one_more : filter_map (lane_of edges) (take (k + 1) numbers) ≡ filter_map (lane_of edges) (take k numbers) ++ cons_option (lane_of edges (get_or numbers k 0)) []
-  one_more = ap (filter_map (lane_of edges)) (take_more numbers k 0 lt) ∙ filter_map-append (lane_of edges) (take k numbers) (get_or numbers k 0 ∷ [])
+-- one more of what is there at some numbers
+module _ {A : Type 0} (f : ℕ → Option A) (numbers : List ℕ) (k : ℕ) (lt : k < length numbers) where
+  one_more : filter_map f (take (k + 1) numbers) ≡ filter_map f (take k numbers) ++ cons_option (f (get_or numbers k 0)) []
+  one_more = ap (filter_map f) (take_more numbers k 0 lt) ∙ filter_map-append f (take k numbers) (get_or numbers k 0 ∷ [])
 
+  pub one_kept : (x : A) (xs : List A) → f (get_or numbers k 0) ≡ Some x → xs ≡ filter_map f (take k numbers) → xs ++ x ∷ [] ≡ filter_map f (take (k + 1) numbers)
+  one_kept x xs e h =
+      ap (λ (ys : List A). ys ++ x ∷ []) h ∙ (ap (λ (o : Option A). filter_map f (take k numbers) ++ cons_option o []) (sym e) ∙ sym one_more)
+
+  pub one_passed : (xs : List A) → f (get_or numbers k 0) ≡ None → xs ≡ filter_map f (take k numbers) → xs ≡ filter_map f (take (k + 1) numbers)
+  one_passed xs e h =
+      h ∙ (sym (append-nil (filter_map f (take k numbers))) ∙ (ap (λ (o : Option A). filter_map f (take k numbers) ++ cons_option o []) (sym e) ∙ sym one_more))
+
+module _ (edges : List Edge) (numbers : List ℕ) (k : ℕ) (lt : k < length numbers) where
   pub lane_more : (w : ℕ) (d : Edge) (lanes : List Lane) → w ≡ get_or numbers k 0 → w < length edges → lanes ≡ filter_map (lane_of edges) (take k numbers)
       → lanes ++ (get_or edges w d).lane ∷ [] ≡ filter_map (lane_of edges) (take (k + 1) numbers)
-  lane_more w d lanes e there h =
-      ap (λ (ls : List Lane). ls ++ (get_or edges w d).lane ∷ []) h
-      ∙ (ap (λ (o : Option Lane). filter_map (lane_of edges) (take k numbers) ++ cons_option o []) (sym (at_edge edges w d there) ∙ ap (lane_of edges) e) ∙ sym one_more)
+  lane_more w d lanes e there h = one_kept (lane_of edges) numbers k lt (get_or edges w d).lane lanes (sym (ap (lane_of edges) e) ∙ at_edge edges w d there) h
 
   pub lane_passed : (w : ℕ) (lanes : List Lane) → w ≡ get_or numbers k 0 → length edges ≤ w → lanes ≡ filter_map (lane_of edges) (take k numbers) → lanes ≡ filter_map (lane_of edges) (take (k + 1) numbers)
-  lane_passed w lanes e there h =
-      h ∙ (sym (append-nil (filter_map (lane_of edges) (take k numbers)))
-      ∙ (ap (λ (o : Option Lane). filter_map (lane_of edges) (take k numbers) ++ cons_option o []) (sym (no_edge edges w there) ∙ ap (lane_of edges) e) ∙ sym one_more))
+  lane_passed w lanes e there h = one_passed (lane_of edges) numbers k lt lanes (sym (ap (lane_of edges) e) ∙ no_edge edges w there) h

@@ -41,7 +41,7 @@ use Rattle.ff_running.specs.Meaning.{edges_into, task_by, task_at, solution, str
 use Rattle.ff_running.specs.Openings.{reads_in, is_read}
 use Rattle.ff_running.specs.Parts.{FitsDemux, FitsGraph, FitsMux, AreFitting, AreOrdered, AreBack, source_in}
 use Rattle.ff_running.specs.Runs.{AreRun}
-use Rattle.ff_running.specs.Tasks.{first_at, heads_on, demux_by, graph_by, mux_by}
+use Rattle.ff_running.specs.Tasks.{first_at, cuts_at, heads_on, demux_by, graph_by, mux_by}
 use Rattle.ff_running.proofs.EventSteps.{change_all, itself, same_number, plans_tell_alone}
 use Rattle.ff_running.proofs.Gathering.{demux_once}
 use Rattle.ff_running.proofs.Networks.{plan_net, plan_ins, plan_outs}
@@ -199,9 +199,10 @@ module _ {H S K M : Type 0} (is : KindsOf H) (own : TellOfThemselves is) (left n
       let feeds = all.past.feeds in
       let framed = heads_on (lanes_into edges k) in
       let fits : FitsGraph is asked (lanes_into edges k) (lanes_out_of edges k) g = fitting k (node.Graph g) at in
-      let task : tasks k ≡ is.graph_task g fits.text framed =
-      ap (λ (n : Option PlanNode). task_by is asked heads bytes nodes edges n k) at ∙ ap (λ (t : Option Graph). graph_by is g t framed) fits.there in
-      let bests : ChangeBest g 0 ((tasks k).tells feeds) = subst (λ (t : Task). ChangeBest g 0 (t.tells feeds)) (sym task) (own.graph g fits.text framed feeds) in
+      let cuts = cuts_at asked nodes edges k in
+      let task : tasks k ≡ is.graph_task g fits.text framed cuts =
+      ap (λ (n : Option PlanNode). task_by is asked heads bytes nodes edges n k) at ∙ ap (λ (t : Option Graph). graph_by is g t framed cuts) fits.there in
+      let bests : ChangeBest g 0 ((tasks k).tells feeds) = subst (λ (t : Task). ChangeBest g 0 (t.tells feeds)) (sym task) (own.graph g fits.text framed cuts feeds) in
       let same : filter (is_best_of g) events ≡ (tasks k).tells feeds =
       (s.told tasks begun k (is_best_of g) lt (alone.best (length news) k g at)).same ∙ (ap (filter (is_best_of g)) all.all_told ∙ change_all g 0 ((tasks k).tells feeds) bests) in
       subst (ChangeBest g 0) (sym same) bests

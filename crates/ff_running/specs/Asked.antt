@@ -1,13 +1,16 @@
--- What the nodes of a plan are asked for: the outputs of its job, and by number the texts of its graphs.
+-- What the nodes of a plan are asked for: the outputs of its job, and by number the cuts of its inputs and the texts of its graphs.
 use Rattle.std.specs.Prelude.{ℕ, List, slice_get, Option, Some, None}
+use Rattle.ff_time.specs.declared.cut.TimeCut.{TimeCut}
 use Rattle.ff_lang.specs.declared.graph.Graph.{Graph}
 use Rattle.ff_words.specs.declared.job.Job.{Job}
 use Rattle.ff_words.specs.declared.job.OutputJob.{OutputJob}
 use Rattle.ff_plan.specs.declared.planned.GraphText.{GraphText}
 use Rattle.ff_plan.specs.Texts.{graph_text}
+use Rattle.ff_running.specs.Cuts.{input_cut}
 
 pub record Asked : Type 0 where
   pub outputs : List OutputJob
+  pub cut : ℕ → TimeCut
   pub text : ℕ → Option Graph
 
 abbrev pub text_there : Job → Option GraphText → Option Graph
@@ -16,4 +19,9 @@ text_there job (Some stands) = graph_text job stands
 
 -- of a plan of this job, where the texts of its graphs stand there
 abbrev pub asked_of : Job → List GraphText → Asked
-asked_of job texts = record { outputs = job.outputs; text = λ g. text_there job (slice_get texts g) }
+asked_of job texts =
+    record {
+      outputs = job.outputs;
+      cut = λ i. input_cut (slice_get job.inputs i);
+      text = λ g. text_there job (slice_get texts g);
+    }

@@ -1,6 +1,7 @@
 -- The kinds of node of a plan: what each is there for, and what of a part is seen from outside.
 use Rattle.std.specs.Prelude.{◌≡◌, ℕ, ◌+◌, ◌<◌, ◌≤◌, nat_eq, Bool, false, List, [], ◌∷◌, filter, length, map, slice_get, Option, None, Some, IsSome, Ok}
 use Rattle.std.specs.List.{AllByRecursion, range_with_len}
+use Rattle.ff_time.specs.declared.cut.TimeCut.{TimeCut}
 use Rattle.ff_values.specs.declared.head.StreamHead.{StreamHead}
 use Rattle.ff_values.specs.declared.event.Event.{Event}
 use Rattle.ff_values.specs.declared.event.Event.TheVariants.{Grant, Sent, Finished, Best, Exited}
@@ -28,13 +29,13 @@ pub record KindsOf (H : Type 0) : Type 1 where
   pub IsFrames : StreamHead → Type 0
   -- what the demuxer of the input of this number with this head and these bytes is there for
   pub demux_task : ℕ → H → List ℕ → Task
-  -- the streams that can be decoded, and what a decoder with so many outputs is there for
+  -- the streams that can be decoded, and what a decoder with this cut behind it and so many outputs is there for
   pub CanDecode : StreamHead → Type 0
-  pub dec_task : StreamHead → ℕ → Task
+  pub dec_task : StreamHead → TimeCut → ℕ → Task
   -- the graphs of a text that can be had with frames of these heads at their inputs and of those at their outputs, and what the
-  -- graph of this number is there for
+  -- graph of this number is there for, with a cut behind each of its outputs
   pub CanFilter : Graph → List StreamHead → List StreamHead → Type 0
-  pub graph_task : ℕ → Graph → List StreamHead → Task
+  pub graph_task : ℕ → Graph → List StreamHead → List TimeCut → Task
   -- the frames that can go to an output together, and what a node of these is there for, where they end with the shortest or are
   -- given as they are
   pub CanJoin : List StreamHead → Type 0

@@ -1,3 +1,4 @@
+pub mod Cuts
 pub mod Asked
 pub mod Kinds
 pub mod Openings

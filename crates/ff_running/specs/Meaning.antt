@@ -25,7 +25,7 @@ use Rattle.ff_running.specs.declared.fault.RunFault.TheVariants as run_fault
 use Rattle.ff_running.specs.Asked.{Asked, asked_of}
 use Rattle.ff_running.specs.Kinds.{KindsOf}
 use Rattle.ff_edges.specs.Ports.{lanes_into, lanes_out_of}
-use Rattle.ff_running.specs.Tasks.{idle, first_at, heads_on, task_of}
+use Rattle.ff_running.specs.Tasks.{idle, first_at, cuts_at, heads_on, task_of}
 
 -- the edges at the inputs of a node
 abbrev pub edges_into : List Edge → ℕ → List ℕ
@@ -52,7 +52,7 @@ read_before inputs (node.Mux o) = inputs
 module _ {H : Type 0} (is : KindsOf H) (asked : Asked) (heads : List H) (bytes : List (List ℕ)) (nodes : List PlanNode) (edges : List Edge) where
   abbrev pub task_by : Option PlanNode → ℕ → Task
   task_by None k = idle
-  task_by (Some n) k = task_of is asked heads bytes (first_at asked nodes edges k) (lanes_into edges k) (lanes_out_of edges k) n
+  task_by (Some n) k = task_of is asked heads bytes (first_at asked nodes edges k) (cuts_at asked nodes edges k) (lanes_into edges k) (lanes_out_of edges k) n
 
   abbrev pub task_at : ℕ → Task
   task_at k = task_by (slice_get nodes k) k

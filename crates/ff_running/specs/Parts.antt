@@ -1,5 +1,6 @@
 -- The parts of a plan's nodes, and the sources and sinks that are in them or stand aside.
 use Rattle.std.specs.Prelude.{◌≡◌, ℕ, ◌+◌, ◌-◌, ◌<◌, ◌≤◌, List, [], ◌∷◌, length, map, replicate, slice_get, Option, None, Some}
+use Rattle.ff_time.specs.declared.cut.TimeCut.{TimeCut}
 use Rattle.ff_values.specs.declared.head.StreamHead.{StreamHead}
 use Rattle.ff_frame.specs.declared.item.Lane.{Lane}
 use Rattle.ff_frame.specs.declared.item.Lane.TheVariants.{Frames, Packets}
@@ -14,7 +15,7 @@ use Rattle.ff_files.specs.Works.{AreTold}
 use Rattle.ff_running.specs.Asked.{Asked}
 use Rattle.ff_running.specs.Kinds.{KindsOf, IsSourceOf, IsSinkOf}
 use Rattle.ff_edges.specs.Ports.{lanes_into, lanes_out_of}
-use Rattle.ff_running.specs.Tasks.{first_at, task_of}
+use Rattle.ff_running.specs.Tasks.{first_at, cuts_at, task_of}
 
 -- ---- what a part can be made of: a head and the lanes at the ports
 
@@ -128,29 +129,31 @@ pub record HasEnds (n : PlanNode) (v : View) : Type 0 where
 
 module _ {H S K : Type 0} (is : KindsOf H) (left named : S → Option (List ℕ)) (failed : S → ℕ) (holds called : K → Option (List ℕ)) (faulted : K → ℕ) where
   -- a part with these lanes at its ports that nothing was done with, as this node of a plan over these sources and sinks, where the
-  -- node's first output stream has this number
-  pub record IsPart (asked : Asked) (heads : List H) (srcs : List S) (snks : List K) (first : ℕ) (ins outs : List Lane) (n : PlanNode) (v : View) : Type 0 where
+  -- node's first output stream has this number, and what it gives to graphs and outputs has these cuts
+  pub record IsPart (asked : Asked) (heads : List H) (srcs : List S) (snks : List K) (first : ℕ) (cuts : List TimeCut) (ins outs : List Lane) (n : PlanNode)
+      (v : View) : Type 0 where
     pub source_is : v.source ≡ source_in n
     pub in_lanes : v.in_lanes ≡ ins
     pub out_lanes : v.out_lanes ≡ outs
     pub sound : v.fault ≡ None
     pub source : (i : ℕ) (s : S) → n ≡ node.Demux i → slice_get srcs i ≡ Some s → (v.device ≡ named s) × (v.failures ≡ failed s)
     pub sink : (o : ℕ) (s : K) → n ≡ node.Mux o → slice_get snks o ≡ Some s → (v.device ≡ called s) × (v.failures ≡ faulted s)
-    pub starts : (bytes : List (List ℕ)) → AreTold left holds srcs snks bytes → v.stands (start (task_of is asked heads bytes first ins outs n))
+    pub starts : (bytes : List (List ℕ)) → AreTold left holds srcs snks bytes → v.stands (start (task_of is asked heads bytes first cuts ins outs n))
 
   -- the parts of the first nodes, and all sources and sinks that are in none of them in their places
   pub record AreParts {M : Type 0} (view : M → View) (asked : Asked) (heads : List H) (edges : List Edge) (nodes : List PlanNode) (srcs : List S) (snks : List K)
       (parts : List M) (src_places : List (Option S)) (snk_places : List (Option K)) : Type 0 where
     pub few : length parts ≤ length nodes
     pub each : (k : ℕ) (n : PlanNode) (m : M) → slice_get nodes k ≡ Some n → slice_get parts k ≡ Some m
-        → IsPart asked heads srcs snks (first_at asked nodes edges k) (lanes_into edges k) (lanes_out_of edges k) n (view m)
+        → IsPart asked heads srcs snks (first_at asked nodes edges k) (cuts_at asked nodes edges k) (lanes_into edges k) (lanes_out_of edges k) n (view m)
     pub srcs_aside : (i : ℕ) → i < length srcs → (IsBefore nodes (length parts) (node.Demux i) → ⊥) → IsAside srcs src_places i
     pub snks_aside : (o : ℕ) → o < length snks → (IsBefore nodes (length parts) (node.Mux o) → ⊥) → IsAside snks snk_places o
     pub src_count : length src_places ≡ length srcs
     pub snk_count : length snk_places ≡ length snks
 
   -- the sources and sinks of parts are back: each that was in one as it is there now, and each other as it was
-  pub record AreBack {M : Type 0} (view : M → View) (nodes : List PlanNode) (parts : List M) (srcs : List S) (snks : List K) (srcs' : List S) (snks' : List K) : Type 0 where
+  pub record AreBack {M : Type 0} (view : M → View) (nodes : List PlanNode) (parts : List M) (srcs : List S) (snks : List K)
+      (srcs' : List S) (snks' : List K) : Type 0 where
     pub src_count : length srcs' ≡ length srcs
     pub snk_count : length snks' ≡ length snks
     pub sources : (k i : ℕ) (m : M) → slice_get nodes k ≡ Some (node.Demux i) → slice_get parts k ≡ Some m

@@ -80,7 +80,9 @@ module _ {H : Type 0} (is : KindsOf H) (asked : Asked) (heads : List H) (bytes :
   -- what each node is there for, the sources only as far as the units that they read
   abbrev pub read_task : List (List ℕ) → ℕ → Task
   read_task reads k =
-      record (task_at is asked heads bytes nodes edges k) { means = λ ss. as_read reads (source_at (slice_get nodes k)) ((task_at is asked heads bytes nodes edges k).means ss) }
+      record (task_at is asked heads bytes nodes edges k) {
+        means = λ ss. as_read reads (source_at (slice_get nodes k)) ((task_at is asked heads bytes nodes edges k).means ss);
+      }
 
   -- the streams on all edges that come of these units alone
   abbrev pub read_solution : List (List ℕ) → ℕ → Flow
@@ -99,7 +101,8 @@ module _ {H : Type 0} (is : KindsOf H) (asked : Asked) (heads : List H) (bytes :
 
 -- The reads of a run of this plan over inputs with these heads and, where they are told, these bytes: under grants of this history, none of an
 -- input that no node reads, and enough.
-pub record AreReadsIn {H : Type 0} (is : KindsOf H) (job : Job) (heads : List H) (bytes : Option (List (List ℕ))) (plan : Plan) (events : List Event) (reads : List (List ℕ)) : Type 0 where
+pub record AreReadsIn {H : Type 0} (is : KindsOf H) (job : Job) (heads : List H) (bytes : Option (List (List ℕ))) (plan : Plan)
+    (events : List Event) (reads : List (List ℕ)) : Type 0 where
   pub granted : AreGranted (length heads) events reads
   pub unread : (i : ℕ) → is_read plan.nodes i ≡ false → reads_at reads i ≡ []
   pub enough : IfSome bytes (λ b. AreEnough is (asked_of job plan.texts) heads b plan.nodes plan.edges reads)

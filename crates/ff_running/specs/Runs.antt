@@ -78,7 +78,8 @@ pub record TellsRun {M : Type 0} (view : M → View) (parts : List M) (fault : O
 
 -- by the streams on the edges each part was fed no more than is there, but for a break; without a fault those without
 -- outputs were fed all; and a fault of the inputs is what these streams make at its node
-pub record MeetsStreams {M : Type 0} (view : M → View) (tasks : ℕ → Task) (streams : ℕ → Flow) (edges : List Edge) (parts : List M) (fault : Option NodeFault) : Type 0 where
+pub record MeetsStreams {M : Type 0} (view : M → View) (tasks : ℕ → Task) (streams : ℕ → Flow) (edges : List Edge) (parts : List M)
+    (fault : Option NodeFault) : Type 0 where
   pub below : (k : ℕ) (m : M) → slice_get parts k ≡ Some m → FedPart (view m) (tasks k) streams (edges_into edges k)
   pub settled : fault ≡ None → (k : ℕ) (m : M) → slice_get parts k ≡ Some m → lanes_out_of edges k ≡ [] → FedAll (view m) (tasks k) streams (edges_into edges k)
   pub cause : (f : NodeFault) → fault ≡ Some f → IsOfInputs f.fault → (tasks f.node).cause (map streams (edges_into edges f.node)) ≡ Some f.fault

@@ -1,5 +1,6 @@
 -- What each node of a plan is there for, by the heads and the bytes of the inputs and the lanes at its ports.
 use Rattle.std.specs.Prelude.{ℕ, ◌-◌, false, List, [], ◌∷◌, length, map, slice_get, slice_index_or, Option, None, Some}
+use Rattle.ff_time.specs.declared.cut.TimeCut.{TimeCut}
 use Rattle.ff_values.specs.declared.head.StreamHead.{StreamHead}
 use Rattle.ff_frame.specs.declared.item.Lane.{Lane}
 use Rattle.ff_frame.specs.Lanes.{head_of}
@@ -11,6 +12,7 @@ use Rattle.ff_plan.specs.Numbers.{first_stream}
 use Rattle.ff_plan.specs.declared.planned.PlanNode.{PlanNode}
 use Rattle.ff_plan.specs.declared.planned.PlanNode.TheVariants as node
 use Rattle.ff_running.specs.Asked.{Asked}
+use Rattle.ff_running.specs.Cuts.{cuts_out_of}
 use Rattle.ff_running.specs.Kinds.{KindsOf}
 
 -- that of a node that isn't there
@@ -20,6 +22,10 @@ idle = record { means = λ ss. []; cause = λ ss. None; source = false; tells = 
 -- the number of the first output stream at a node: the Mux nodes stand last, one for each output
 abbrev pub first_at : Asked → List PlanNode → List Edge → ℕ → ℕ
 first_at asked nodes edges k = first_stream (length nodes - length asked.outputs) edges k
+
+-- the cuts of the frames at the outputs of a node, as many as its lanes there
+abbrev pub cuts_at : Asked → List PlanNode → List Edge → ℕ → List TimeCut
+cuts_at asked nodes edges k = cuts_out_of asked.outputs nodes edges k
 
 -- the heads of the streams on some lanes
 abbrev pub heads_on : List Lane → List StreamHead
@@ -35,13 +41,13 @@ module _ {H : Type 0} (is : KindsOf H) where
   demux_by input None bytes = idle
   demux_by input (Some head) bytes = is.demux_task input head bytes
 
-  abbrev pub dec_by : Option StreamHead → ℕ → Task
-  dec_by None outputs = idle
-  dec_by (Some head) outputs = is.dec_task head outputs
+  abbrev pub dec_by : Option StreamHead → TimeCut → ℕ → Task
+  dec_by None cut outputs = idle
+  dec_by (Some head) cut outputs = is.dec_task head cut outputs
 
-  abbrev pub graph_by : ℕ → Option Graph → List StreamHead → Task
-  graph_by g None heads = idle
-  graph_by g (Some text) heads = is.graph_task g text heads
+  abbrev pub graph_by : ℕ → Option Graph → List StreamHead → List TimeCut → Task
+  graph_by g None heads cuts = idle
+  graph_by g (Some text) heads cuts = is.graph_task g text heads cuts
 
   abbrev pub shortest_by : Option OutputJob → List StreamHead → Task
   shortest_by None heads = idle
@@ -56,11 +62,12 @@ module _ {H : Type 0} (is : KindsOf H) where
   mux_by first None coded = idle
   mux_by first (Some out) coded = is.mux_task first out coded
 
-  -- of a node with these lanes at its inputs and at its outputs, where its first output stream has this number
-  abbrev pub task_of : Asked → List H → List (List ℕ) → ℕ → List Lane → List Lane → PlanNode → Task
-  task_of asked heads bytes first ins outs (node.Demux i) = demux_by i (slice_get heads i) (slice_index_or bytes i [])
-  task_of asked heads bytes first ins outs (node.Dec at) = dec_by (first_head ins) (length outs)
-  task_of asked heads bytes first ins outs (node.Graph g) = graph_by g (asked.text g) (heads_on ins)
-  task_of asked heads bytes first ins outs (node.Shortest o) = shortest_by (slice_get asked.outputs o) (heads_on ins)
-  task_of asked heads bytes first ins outs (node.Enc o j) = enc_by (first_head ins) (first_head outs)
-  task_of asked heads bytes first ins outs (node.Mux o) = mux_by first (slice_get asked.outputs o) (heads_on ins)
+  -- of a node with these lanes at its inputs and at its outputs, where its first output stream has this number, and what it gives to graphs
+  -- and outputs has these cuts
+  abbrev pub task_of : Asked → List H → List (List ℕ) → ℕ → List TimeCut → List Lane → List Lane → PlanNode → Task
+  task_of asked heads bytes first cuts ins outs (node.Demux i) = demux_by i (slice_get heads i) (slice_index_or bytes i [])
+  task_of asked heads bytes first cuts ins outs (node.Dec at) = dec_by (first_head ins) (asked.cut at.input) (length outs)
+  task_of asked heads bytes first cuts ins outs (node.Graph g) = graph_by g (asked.text g) (heads_on ins) cuts
+  task_of asked heads bytes first cuts ins outs (node.Shortest o) = shortest_by (slice_get asked.outputs o) (heads_on ins)
+  task_of asked heads bytes first cuts ins outs (node.Enc o j) = enc_by (first_head ins) (first_head outs)
+  task_of asked heads bytes first cuts ins outs (node.Mux o) = mux_by first (slice_get asked.outputs o) (heads_on ins)

@@ -7,11 +7,12 @@ ghost use Rattle.ff_words.specs.declared.job.OutputJob.{OutputJob};
 ghost use Rattle.ff_plan.specs.declared.planned.PlanNode.TheVariants.{Demux as DemuxNode, Mux as MuxNode};
 ghost use Rattle.ff_running.specs.Asked.{asked_of};
 ghost use Rattle.ff_running.specs.Kinds.{IsNew};
-ghost use Rattle.ff_running.specs.Tasks.{first_at};
+ghost use Rattle.ff_running.specs.Tasks.{first_at, cuts_at};
 ghost use Rattle.ff_running.specs.Parts.{FitsDemux, HaveNumbers, IsFitting, IsAside, IsPart, AreFitting, AreOrdered, AllAside, AreParts};
 ghost use Rattle.ff_edges.specs.Ports.{lanes_into as lanes_into_of, lanes_out_of as lanes_out_of_node};
 ghost use Rattle.ff_plan.specs.declared.planned.PlanNode.{PlanNode};
 
+use crate::cuts::{cuts_out_of, input_cut};
 use crate::graphs::{graph_at, shortest_at};
 use crate::kinds::Kinds;
 use crate::lanes::{head_of, heads_on, lanes_into, lanes_out_of, streams_between};
@@ -21,6 +22,7 @@ use ff_frame::{Lane, StreamHead};
 use ff_host::{Sink, Source};
 use ff_net::Machine;
 use ff_plan::{GraphText, PlanNode};
+use ff_time::TimeCut;
 use ff_words::{Job, OutputJob};
 use std::alloc::Global;
 
@@ -95,8 +97,8 @@ fn muxer_at<
     }
 }
 
-// The part of a node with these lanes at its inputs and outputs, whose first output stream has this number. None where memory is
-// refused; then all is in its place.
+// The part of a node with these lanes at its inputs and outputs, whose first output stream has this number, with these cuts behind its
+// outputs. None where memory is refused; then all is in its place.
 fn part_at<
     K: Kinds<Src, Snk, M>,
     Src: Source + Send + Drop,
@@ -106,6 +108,7 @@ fn part_at<
     alloc: Global,
     node: PlanNode,
     first: u32,
+    cuts: &[TimeCut],
     ins: &[Lane],
     outs: &[Lane],
     heads: &[K::Head],
@@ -115,11 +118,13 @@ fn part_at<
 ) -> Option<M>
     requires fits { IsFitting K.is (asked_of job.now texts.now) heads.now ins.now outs.now node }
     requires numbers { (o : ℕ) → node ≡ MuxNode o → first + length ins.now ≤ 2 ^ 32 }
+    requires as_many { length cuts.now ≡ length outs.now }
     requires source { (i : ℕ) → node ≡ DemuxNode i → (s : Src) × (slice_get places.old.srcs.items i ≡ Some (Some s)) }
     requires sink { (o : ℕ) → node ≡ MuxNode o → (s : Snk) × (slice_get places.old.snks.items o ≡ Some (Some s)) }
     ensures made { IfSome result (λ m. (srcs : List Src) (snks : List Snk) → ((i : ℕ) → node ≡ DemuxNode i → IsAside srcs places.old.srcs.items i)
         → ((o : ℕ) → node ≡ MuxNode o → IsAside snks places.old.snks.items o)
-        → IsPart K.is Src.left Src.name Src.faults Snk.holds Snk.name Snk.faults (asked_of job.now texts.now) heads.now srcs snks first ins.now outs.now node (M.view m)) }
+        → IsPart K.is Src.left Src.name Src.faults Snk.holds Snk.name Snk.faults (asked_of job.now texts.now) heads.now srcs snks
+        first cuts.now ins.now outs.now node (M.view m)) }
     ensures srcs_back { IsNone result → (w : ℕ) → slice_get places.new.srcs.items w ≡ slice_get places.old.srcs.items w }
     ensures snks_back { IsNone result → (w : ℕ) → slice_get places.new.snks.items w ≡ slice_get places.old.snks.items w }
     ensures srcs_kept { (w : ℕ) → (node ≡ DemuxNode w → ⊥) → slice_get places.new.srcs.items w ≡ slice_get places.old.srcs.items w }
@@ -131,12 +136,15 @@ fn part_at<
         PlanNode::Demux { input } => {
             demuxer_at::<K, Src, Snk, M>(alloc, input, heads, &mut places.srcs)
         }
-        PlanNode::Dec { .. } => K::decoder(alloc, &head_of(&ins[0]), outs.len()).ok(),
+        PlanNode::Dec { stream } => {
+            let cut = input_cut(job.inputs.as_slice(), stream.input);
+            K::decoder(alloc, &head_of(&ins[0]), cut, outs.len()).ok()
+        }
         PlanNode::Graph { graph } => {
             let Ok(heads) = heads_on(alloc, ins) else {
                 return None;
             };
-            graph_at::<K, Src, Snk, M>(alloc, graph, job, texts, &heads)
+            graph_at::<K, Src, Snk, M>(alloc, graph, job, texts, &heads, cuts)
         }
         PlanNode::Shortest { output } => {
             let Ok(heads) = heads_on(alloc, ins) else {
@@ -179,7 +187,8 @@ fn part_of<
     ensures made { IfSome result (λ m. (n : PlanNode) → slice_get nodes.now number ≡ Some n → (srcs : List Src) (snks : List Snk)
         → ((i : ℕ) → n ≡ DemuxNode i → IsAside srcs places.old.srcs.items i) → ((o : ℕ) → n ≡ MuxNode o → IsAside snks places.old.snks.items o)
         → IsPart K.is Src.left Src.name Src.faults Snk.holds Snk.name Snk.faults (asked_of job.now texts.now) heads.now srcs snks
-        (first_at (asked_of job.now texts.now) nodes.now edges.now number) (lanes_into_of edges.now number) (lanes_out_of_node edges.now number) n (M.view m)) }
+        (first_at (asked_of job.now texts.now) nodes.now edges.now number) (cuts_at (asked_of job.now texts.now) nodes.now edges.now number)
+        (lanes_into_of edges.now number) (lanes_out_of_node edges.now number) n (M.view m)) }
     ensures srcs_back { IsNone result → (w : ℕ) → slice_get places.new.srcs.items w ≡ slice_get places.old.srcs.items w }
     ensures snks_back { IsNone result → (w : ℕ) → slice_get places.new.snks.items w ≡ slice_get places.old.snks.items w }
     ensures srcs_kept { (w : ℕ) → (slice_get nodes.now number ≡ Some (DemuxNode w) → ⊥) → slice_get places.new.srcs.items w ≡ slice_get places.old.srcs.items w }
@@ -193,12 +202,17 @@ fn part_of<
     let Ok(outs) = lanes_out_of(alloc, edges, number) else {
         return None;
     };
-    let muxes = nodes.len().saturating_sub(job.outputs.as_slice().len());
+    let outputs = job.outputs.as_slice();
+    let Ok(cuts) = cuts_out_of(alloc, outputs, nodes, edges, number) else {
+        return None;
+    };
+    let muxes = nodes.len().saturating_sub(outputs.len());
     let first = streams_between(edges, muxes, number) as u32;
     part_at::<K, Src, Snk, M>(
         alloc,
         nodes[number],
         first,
+        &cuts,
         &ins,
         &outs,
         heads,

@@ -23,7 +23,8 @@ fn put_back<
     requires source { (i : ℕ) → node ≡ DemuxNode i → i < length places.old.srcs.items }
     requires sink { (o : ℕ) → node ≡ MuxNode o → o < length places.old.snks.items }
     ensures source { (i : ℕ) → node ≡ DemuxNode i → (s : Src) × (slice_get places.new.srcs.items i ≡ Some (Some s)) × IsSourceOf Src.name Src.faults (M.view part) s }
-    ensures sink { (o : ℕ) → node ≡ MuxNode o → (s : Snk) × (slice_get places.new.snks.items o ≡ Some (Some s)) × IsSinkOf K.is Snk.holds Snk.name Snk.faults (M.view part) s }
+    ensures sink { (o : ℕ) → node ≡ MuxNode o
+        → (s : Snk) × (slice_get places.new.snks.items o ≡ Some (Some s)) × IsSinkOf K.is Snk.holds Snk.name Snk.faults (M.view part) s }
     ensures srcs_kept { (w : ℕ) → (node ≡ DemuxNode w → ⊥) → slice_get places.new.srcs.items w ≡ slice_get places.old.srcs.items w }
     ensures snks_kept { (w : ℕ) → (node ≡ MuxNode w → ⊥) → slice_get places.new.snks.items w ≡ slice_get places.old.snks.items w }
     ensures src_count { length places.new.srcs.items ≡ length places.old.srcs.items }

@@ -17,6 +17,7 @@ use ff_lang::{Chain, Filter, Graph, Sequence, Text};
 use ff_map::Kind;
 use ff_net::Machine;
 use ff_plan::GraphText;
+use ff_time::TimeCut;
 use ff_words::{Job, OutputJob};
 use std::alloc::{AllocError, Global};
 
@@ -56,25 +57,34 @@ fn graph_by<
     Src: Source + Send + Drop,
     Snk: Sink + Send + Drop,
     M: Machine + Send + Drop,
->(alloc: Global, number: u32, job: &Job, stands: GraphText, heads: &[StreamHead]) -> Option<M>
-    requires { (text : Graph) × (graph_text job.now stands ≡ Some text) × (made : List StreamHead) × K.is.CanFilter text heads.now made }
+>(
+    alloc: Global,
+    number: u32,
+    job: &Job,
+    stands: GraphText,
+    heads: &[StreamHead],
+    cuts: &[TimeCut],
+) -> Option<M>
+    requires { (text : Graph) × (graph_text job.now stands ≡ Some text)
+        × (made : List StreamHead) × K.is.CanFilter text heads.now made × (length cuts.now ≡ length made) }
     ensures new { IfSome result (λ m. (text : Graph) (made : List StreamHead) → graph_text job.now stands ≡ Some text → K.is.CanFilter text heads.now made
         → IsNew None (map (λ head. Frames head) heads.now) (map (λ head. Frames head) made) None 0 (M.view m)) }
     ensures starts { IfSome result (λ m. (text : Graph) → graph_text job.now stands ≡ Some text
-        → (M.view m).stands (start (K.is.graph_task number text heads.now))) }
+        → (M.view m).stands (start (K.is.graph_task number text heads.now cuts.now))) }
 {
     match stands {
         GraphText::Complex { graph } => {
-            K::graph(alloc, number, &job.graphs.as_slice()[graph as usize], heads).ok()
+            let text = &job.graphs.as_slice()[graph as usize];
+            K::graph(alloc, number, text, heads, cuts).ok()
         }
         GraphText::Simple { output, kind } => {
             match simple_text(&job.outputs.as_slice()[output as usize], kind) {
-                Some(text) => K::graph(alloc, number, text, heads).ok(),
+                Some(text) => K::graph(alloc, number, text, heads, cuts).ok(),
                 None => unreachable!(),
             }
         }
         GraphText::Null { kind } => match null_graph(alloc, kind) {
-            Ok(text) => K::graph(alloc, number, &text, heads).ok(),
+            Ok(text) => K::graph(alloc, number, &text, heads, cuts).ok(),
             Err(_) => None,
         },
     }
@@ -86,14 +96,22 @@ pub(crate) fn graph_at<
     Src: Source + Send + Drop,
     Snk: Sink + Send + Drop,
     M: Machine + Send + Drop,
->(alloc: Global, number: u32, job: &Job, texts: &[GraphText], heads: &[StreamHead]) -> Option<M>
-    requires { (text : Graph) × ((asked_of job.now texts.now).text number ≡ Some text) × (made : List StreamHead) × K.is.CanFilter text heads.now made }
+>(
+    alloc: Global,
+    number: u32,
+    job: &Job,
+    texts: &[GraphText],
+    heads: &[StreamHead],
+    cuts: &[TimeCut],
+) -> Option<M>
+    requires { (text : Graph) × ((asked_of job.now texts.now).text number ≡ Some text)
+        × (made : List StreamHead) × K.is.CanFilter text heads.now made × (length cuts.now ≡ length made) }
     ensures new { IfSome result (λ m. (text : Graph) (made : List StreamHead) → (asked_of job.now texts.now).text number ≡ Some text → K.is.CanFilter text heads.now made
         → IsNew None (map (λ head. Frames head) heads.now) (map (λ head. Frames head) made) None 0 (M.view m)) }
     ensures starts { IfSome result (λ m. (text : Graph) → (asked_of job.now texts.now).text number ≡ Some text
-        → (M.view m).stands (start (K.is.graph_task number text heads.now))) }
+        → (M.view m).stands (start (K.is.graph_task number text heads.now cuts.now))) }
 {
-    graph_by::<K, Src, Snk, M>(alloc, number, job, texts[number as usize], heads)
+    graph_by::<K, Src, Snk, M>(alloc, number, job, texts[number as usize], heads, cuts)
 }
 
 /// The Shortest node of an output, over frames of these heads.

@@ -24,6 +24,7 @@ use ff_host::{Sink, Source};
 use ff_lang::Graph;
 use ff_net::Machine;
 use ff_plan::{Plan, PlanError};
+use ff_time::TimeCut;
 use ff_values::StreamHead;
 use ff_words::{Job, OutputJob};
 use std::alloc::{AllocError, Global};
@@ -66,24 +67,30 @@ pub trait Kinds<Src: Source + Send + Drop, Snk: Sink + Send + Drop, Part: Machin
         ensures starts { IfOk result (λ m. (bytes : List ℕ) → Src.left src ≡ Some bytes → (Part.view m).stands (start (is.demux_task input head.now bytes))) }
         ensures back { IfErr result (λ back. back ≡ src) };
 
-    /// Decodes the packets of a stream, for so many outputs.
-    fn decoder(alloc: Global, head: &StreamHead, outputs: usize) -> Result<Part, AllocError>
+    /// Decodes the packets of a stream, and cuts what that gives, for so many outputs.
+    fn decoder(
+        alloc: Global,
+        head: &StreamHead,
+        cut: TimeCut,
+        outputs: usize,
+    ) -> Result<Part, AllocError>
         requires can { is.CanDecode head.now }
         requires some { 1 ≤ outputs }
         ensures new { IfOk result (λ m. IsNew None (Packets head.now ∷ []) (replicate outputs (Frames head.now)) None 0 (Part.view m)) }
-        ensures starts { IfOk result (λ m. (Part.view m).stands (start (is.dec_task head.now outputs))) };
+        ensures starts { IfOk result (λ m. (Part.view m).stands (start (is.dec_task head.now cut outputs))) };
 
-    /// Filters frames of these heads, by the text of the graph of this number.
+    /// Filters frames of these heads, by the text of the graph of this number, and cuts what each of its outputs gives.
     fn graph(
         alloc: Global,
         number: u32,
         text: &Graph,
         heads: &[StreamHead],
+        cuts: &[TimeCut],
     ) -> Result<Part, AllocError>
-        requires { (made : List StreamHead) × is.CanFilter text.now heads.now made }
+        requires { (made : List StreamHead) × is.CanFilter text.now heads.now made × (length cuts.now ≡ length made) }
         ensures new { IfOk result (λ m. (made : List StreamHead) → is.CanFilter text.now heads.now made
             → IsNew None (map (λ head. Frames head) heads.now) (map (λ head. Frames head) made) None 0 (Part.view m)) }
-        ensures starts { IfOk result (λ m. (Part.view m).stands (start (is.graph_task number text.now heads.now))) };
+        ensures starts { IfOk result (λ m. (Part.view m).stands (start (is.graph_task number text.now heads.now cuts.now))) };
 
     /// Ends frames of streams with these heads with the shortest of the streams, or gives them as they are.
     fn shortest(alloc: Global, ends: bool, heads: &[StreamHead]) -> Result<Part, AllocError>

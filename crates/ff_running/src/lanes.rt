@@ -42,8 +42,8 @@ fn count_into(edges: &[Edge], node: usize) -> usize
     count
 }
 
-// How many edges leave a node.
-fn count_out_of(edges: &[Edge], node: usize) -> usize
+/// How many edges leave a node.
+pub(crate) fn count_out_of(edges: &[Edge], node: usize) -> usize
     ensures { result ≡ (shape_of edges.now node).outputs }
 {
     let mut count: usize = 0;

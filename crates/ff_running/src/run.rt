@@ -108,7 +108,8 @@ fn run_parts<
     ensures kept { AllKept M.view parts.items result.machines.items }
     ensures tells { TellsRun M.view result.machines.items result.fault }
     ensures solved { C.claims ≡ true → (tasks : ℕ → Task) → AllStart M.view tasks parts.items
-        → MeetsNetwork M.view tasks (network tasks (ports_of M.view parts.items) edges.now (length parts.items)) (ins_at (ports_of M.view parts.items) edges.now) (outs_at (ports_of M.view parts.items) edges.now) result.machines.items result.fault }
+        → MeetsNetwork M.view tasks (network tasks (ports_of M.view parts.items) edges.now (length parts.items))
+        (ins_at (ports_of M.view parts.items) edges.now) (outs_at (ports_of M.view parts.items) edges.now) result.machines.items result.fault }
     ensures told { result.fault ≡ None → IsSome result.log }
     ensures scheduled { IfSome result.log (λ log. AreScheduled M.view edges.now C.claims parts.items result.machines.items
         opening.routes opening.state result.fault log.history) }
@@ -168,7 +169,8 @@ fn build_and_run<
     requires aside { (srcs : List Src) × (snks : List Snk) × AllAside srcs places.old.srcs.items × AllAside snks places.old.snks.items
         × (C.claims ≡ true → (bytes : List (List ℕ)) × AreTold Src.left Snk.holds srcs snks bytes) }
     ensures ran { (srcs : List Src) (snks : List Snk) → AllAside srcs places.old.srcs.items → AllAside snks places.old.snks.items
-        → (olds : List M) × AreRun K.is Src.left Src.name Src.faults Snk.holds Snk.name Snk.faults M.view (asked_of job.now texts.now) heads.now edges.now nodes.now srcs snks C.claims
+        → (olds : List M) × AreRun K.is Src.left Src.name Src.faults Snk.holds Snk.name Snk.faults M.view
+        (asked_of job.now texts.now) heads.now edges.now nodes.now srcs snks C.claims
         olds result.machines.items places.new.srcs.items places.new.snks.items result.fault
         × IfSome result.log (λ log. AreScheduled M.view edges.now C.claims olds result.machines.items opening.routes opening.state result.fault log.history)
         × AreSufficient M.view edges.now C.claims olds result.machines.items result.fault }
@@ -249,10 +251,12 @@ pub(crate) fn run_nodes<
     requires opening { CanBegin opening }
     requires sources { length srcs.items ≤ opening.routes.sources }
     requires told { C.claims ≡ tell_all Src.left Snk.holds srcs.items snks.items }
-    ensures done { IsDone K.is Src.left Src.name Src.faults Snk.holds Snk.name Snk.faults M.view (asked_of job.now texts.now) heads.now edges.now nodes.now srcs.items snks.items C.claims
+    ensures done { IsDone K.is Src.left Src.name Src.faults Snk.holds Snk.name Snk.faults M.view
+        (asked_of job.now texts.now) heads.now edges.now nodes.now srcs.items snks.items C.claims
         result.end result.srcs.items result.snks.items }
     ensures told { result.end ≡ WorkEnd.Fine → IsSome result.log }
-    ensures logged { IfSome result.log (λ log. IsLogOf K.is Src.left Src.name Src.faults Snk.holds Snk.name Snk.faults M.view (asked_of job.now texts.now) heads.now edges.now nodes.now
+    ensures logged { IfSome result.log (λ log. IsLogOf K.is Src.left Src.name Src.faults Snk.holds Snk.name Snk.faults M.view
+        (asked_of job.now texts.now) heads.now edges.now nodes.now
         srcs.items snks.items C.claims opening.routes opening.state result.end result.srcs.items result.snks.items log) }
 {
     let mut places = Places {

@@ -6,7 +6,7 @@ use Rattle.ff_plan.specs.declared.planned.PlanNode.TheVariants as node
 use Rattle.ff_edges.specs.Ports.{lanes_into, lanes_out_of}
 use Rattle.ff_running.specs.Asked.{asked_of}
 use Rattle.ff_running.specs.Parts.{AreOrdered, IsPart}
-use Rattle.ff_running.specs.Tasks.{first_at}
+use Rattle.ff_running.specs.Tasks.{first_at, cuts_at}
 use Rattle.ff_running.proofs.Numbers.{same_some}
 use Rattle.ff_running.proofs.Building.{same_places, source_there, sink_there, next_part}
 use Rattle.ff_running.proofs.build.build.Goals as goal
@@ -78,7 +78,7 @@ loop-number-preserved g c =
           (λ i e. source_there is S.left S.name S.faults K.holds K.name K.faults view asked heads edges nodes srcs snks parts old.srcs.items old.snks.items i order before (here ∙ ap (λ (z : PlanNode). Some z) e))
           (λ o e. sink_there is S.left S.name S.faults K.holds K.name K.faults view asked heads edges nodes srcs snks parts old.srcs.items old.snks.items o order before (here ∙ ap (λ (z : PlanNode). Some z) e)) in
           next_part is S.left S.name S.faults K.holds K.name K.faults view asked heads edges nodes srcs snks parts c.push_reserved.new.self.items old.srcs.items new.srcs.items old.snks.items new.snks.items x m here c.push_reserved.ensures.items
-          (subst (λ (k : ℕ). IsPart is S.left S.name S.faults K.holds K.name K.faults asked heads srcs snks (first_at asked nodes edges k) (lanes_into edges k) (lanes_out_of edges k) x (view m)) (sym count) part)
+          (subst (λ (k : ℕ). IsPart is S.left S.name S.faults K.holds K.name K.faults asked heads srcs snks (first_at asked nodes edges k) (cuts_at asked nodes edges k) (lanes_into edges k) (lanes_out_of edges k) x (view m)) (sym count) part)
           (λ w out. c.part_of.ensures.srcs_kept w (λ e. out (same_some (slice_get nodes n) x (node.Demux w) at e)))
           (λ w out. c.part_of.ensures.snks_kept w (λ e. out (same_some (slice_get nodes n) x (node.Mux w) at e)))
           c.part_of.ensures.src_count c.part_of.ensures.snk_count before;

@@ -4,6 +4,7 @@ use Rattle.std.proofs.lemmas.Option.{slice_get_within}
 use Rattle.ff_words.specs.declared.job.OutputJob.{OutputJob}
 use Rattle.ff_values.specs.declared.head.StreamHead.{StreamHead}
 use Rattle.ff_frame.specs.declared.item.Lane.{Lane}
+use Rattle.ff_frame.specs.declared.item.Lane.TheVariants.{Frames}
 use Rattle.ff_frame.specs.Lanes.{head_of}
 use Rattle.ff_running.specs.Asked.{asked_of}
 use Rattle.ff_running.specs.Tasks.{heads_on}
@@ -19,14 +20,15 @@ graph_at-requires-after_bounds g c κs within =
     let fits : FitsGraph is (asked_of c.args.job.now c.args.texts.now) c.args.ins.now c.args.outs.now c.in-Graph.graph =
     subst (λ (n : PlanNode). IsFitting is (asked_of c.args.job.now c.args.texts.now) c.args.heads.now c.args.ins.now c.args.outs.now n) c.in-Graph.is c.requires.fits in
     let framed : c.deref.result.now ≡ fits.heads = c.deref.ensures.value ∙ (c.in-Ok.ensures ∙ framed_is c.args.ins.now fits.heads fits.ins_are) in
-    (fits.text, fits.there, fits.made, subst (λ (hs : List StreamHead). is.CanFilter fits.text hs fits.made) (sym framed) fits.can)
+    let many : length c.args.cuts.now ≡ length fits.made = c.requires.as_many ∙ (ap (λ (ls : List Lane). length ls) fits.outs_are ∙ length-map fits.made (λ (h : StreamHead). Frames h)) in
+    (fits.text, fits.there, fits.made, subst (λ (hs : List StreamHead). is.CanFilter fits.text hs fits.made) (sym framed) fits.can, many)
 
 pub shortest_at-requires-clause-there : goal.shortest_at-requires-clause-there
 shortest_at-requires-clause-there g c κs within =
     let is = g.K.Kinds.is in
     let fits : FitsShortest is (asked_of c.args.job.now c.args.texts.now) c.args.ins.now c.args.outs.now c.in-Shortest.output =
     subst (λ (n : PlanNode). IsFitting is (asked_of c.args.job.now c.args.texts.now) c.args.heads.now c.args.ins.now c.args.outs.now n) c.in-Shortest.is c.requires.fits in
-    subst (λ (os : List OutputJob). c.in-Shortest.output < length os) (sym c.as_slice.ensures) (slice_get_within c.args.job.now.outputs c.in-Shortest.output fits.out fits.there)
+    subst (λ (os : List OutputJob). c.in-Shortest.output < length os) (sym c.as_slice-in-Shortest.ensures) (slice_get_within c.args.job.now.outputs c.in-Shortest.output fits.out fits.there)
 
 pub shortest_at-requires-clause-can : goal.shortest_at-requires-clause-can
 shortest_at-requires-clause-can g c κs within =
@@ -61,8 +63,8 @@ returns-in-Demux-clause-made g c =
     subst (λ (n : PlanNode). IsFitting is (asked_of c.args.job.now c.args.texts.now) c.args.heads.now c.args.ins.now c.args.outs.now n) c.in-Demux.is c.requires.fits in
     if_both _ _ _ c.demuxer_at.result c.demuxer_at.ensures.made c.demuxer_at.ensures.starts (λ m new starts srcs snks src_aside snk_aside.
     let aside = src_aside i c.in-Demux.is in
-    subst (λ (n : PlanNode). IsPart is S.left S.name S.faults K.holds K.name K.faults (asked_of c.args.job.now c.args.texts.now) c.args.heads.now srcs snks c.args.first c.args.ins.now c.args.outs.now n (g.M.Machine.view m)) (sym c.in-Demux.is)
-    (demux_part is S.left S.name S.faults K.holds K.name K.faults (asked_of c.args.job.now c.args.texts.now) c.args.heads.now srcs snks c.args.first c.args.ins.now c.args.outs.now (g.M.Machine.view m) i fits aside.0 aside.1
+    subst (λ (n : PlanNode). IsPart is S.left S.name S.faults K.holds K.name K.faults (asked_of c.args.job.now c.args.texts.now) c.args.heads.now srcs snks c.args.first c.args.cuts.now c.args.ins.now c.args.outs.now n (g.M.Machine.view m)) (sym c.in-Demux.is)
+    (demux_part is S.left S.name S.faults K.holds K.name K.faults (asked_of c.args.job.now c.args.texts.now) c.args.heads.now srcs snks c.args.first c.args.cuts.now c.args.ins.now c.args.outs.now (g.M.Machine.view m) i fits aside.0 aside.1
     (new aside.0 aside.2 c.args.ins.now c.args.outs.now fits) (starts aside.0 aside.2)))
 
 pub returns-in-Ok-clause-made : goal.returns-in-Ok-clause-made
@@ -75,8 +77,8 @@ returns-in-Ok-clause-made g c =
     let fits : FitsGraph is asked c.args.ins.now c.args.outs.now number =
     subst (λ (n : PlanNode). IsFitting is asked c.args.heads.now c.args.ins.now c.args.outs.now n) c.in-Graph.is c.requires.fits in
     if_both _ _ _ c.graph_at.result c.graph_at.ensures.new c.graph_at.ensures.starts (λ m new starts srcs snks src_aside snk_aside.
-    subst (λ (n : PlanNode). IsPart is S.left S.name S.faults K.holds K.name K.faults asked c.args.heads.now srcs snks c.args.first c.args.ins.now c.args.outs.now n (g.M.Machine.view m)) (sym c.in-Graph.is)
-    (graph_part is S.left S.name S.faults K.holds K.name K.faults asked c.args.heads.now srcs snks c.args.first c.args.ins.now c.args.outs.now (g.M.Machine.view m) number fits
+    subst (λ (n : PlanNode). IsPart is S.left S.name S.faults K.holds K.name K.faults asked c.args.heads.now srcs snks c.args.first c.args.cuts.now c.args.ins.now c.args.outs.now n (g.M.Machine.view m)) (sym c.in-Graph.is)
+    (graph_part is S.left S.name S.faults K.holds K.name K.faults asked c.args.heads.now srcs snks c.args.first c.args.cuts.now c.args.ins.now c.args.outs.now (g.M.Machine.view m) number fits
     c.deref.result.now (c.deref.ensures.value ∙ c.in-Ok.ensures) new starts))
 
 pub returns-in-Ok-heads_on-clause-made : goal.returns-in-Ok-heads_on-clause-made
@@ -89,10 +91,10 @@ returns-in-Ok-heads_on-clause-made g c =
     let fits : FitsShortest is asked c.args.ins.now c.args.outs.now o =
     subst (λ (n : PlanNode). IsFitting is asked c.args.heads.now c.args.ins.now c.args.outs.now n) c.in-Shortest.is c.requires.fits in
     if_both _ _ _ c.shortest_at.result c.shortest_at.ensures.new c.shortest_at.ensures.starts (λ m new starts srcs snks src_aside snk_aside.
-    subst (λ (n : PlanNode). IsPart is S.left S.name S.faults K.holds K.name K.faults asked c.args.heads.now srcs snks c.args.first c.args.ins.now c.args.outs.now n (g.M.Machine.view m)) (sym c.in-Shortest.is)
-    (shortest_part is S.left S.name S.faults K.holds K.name K.faults asked c.args.heads.now srcs snks c.args.first c.args.ins.now c.args.outs.now (g.M.Machine.view m) o fits
+    subst (λ (n : PlanNode). IsPart is S.left S.name S.faults K.holds K.name K.faults asked c.args.heads.now srcs snks c.args.first c.args.cuts.now c.args.ins.now c.args.outs.now n (g.M.Machine.view m)) (sym c.in-Shortest.is)
+    (shortest_part is S.left S.name S.faults K.holds K.name K.faults asked c.args.heads.now srcs snks c.args.first c.args.cuts.now c.args.ins.now c.args.outs.now (g.M.Machine.view m) o fits
     c.deref-in-Shortest.result.now (c.deref-in-Shortest.ensures.value ∙ c.in-Ok-heads_on.ensures) new
-    (λ out there. starts out (ap (λ (os : List OutputJob). slice_get os o) c.as_slice.ensures ∙ there))))
+    (λ out there. starts out (ap (λ (os : List OutputJob). slice_get os o) c.as_slice-in-Shortest.ensures ∙ there))))
 
 pub returns-in-Ok-heads_on-2-clause-made : goal.returns-in-Ok-heads_on-2-clause-made
 returns-in-Ok-heads_on-2-clause-made g c =
@@ -105,6 +107,6 @@ returns-in-Ok-heads_on-2-clause-made g c =
     let coded : c.deref-in-Mux.result.now ≡ fits.coded = c.deref-in-Mux.ensures.value ∙ (c.in-Ok-heads_on-2.ensures ∙ coded_is c.args.ins.now fits.coded fits.ins_are) in
     if_both _ _ _ c.muxer_at.result c.muxer_at.ensures.made c.muxer_at.ensures.starts (λ m new starts srcs snks src_aside snk_aside.
     let aside = snk_aside o c.in-Mux.is in
-    subst (λ (n : PlanNode). IsPart is S.left S.name S.faults K.holds K.name K.faults (asked_of c.args.job.now c.args.texts.now) c.args.heads.now srcs snks c.args.first c.args.ins.now c.args.outs.now n (g.M.Machine.view m)) (sym c.in-Mux.is)
-    (mux_part is S.left S.name S.faults K.holds K.name K.faults (asked_of c.args.job.now c.args.texts.now) c.args.heads.now srcs snks c.args.first c.args.ins.now c.args.outs.now (g.M.Machine.view m) o fits c.deref-in-Mux.result.now coded aside.0 aside.1
+    subst (λ (n : PlanNode). IsPart is S.left S.name S.faults K.holds K.name K.faults (asked_of c.args.job.now c.args.texts.now) c.args.heads.now srcs snks c.args.first c.args.cuts.now c.args.ins.now c.args.outs.now n (g.M.Machine.view m)) (sym c.in-Mux.is)
+    (mux_part is S.left S.name S.faults K.holds K.name K.faults (asked_of c.args.job.now c.args.texts.now) c.args.heads.now srcs snks c.args.first c.args.cuts.now c.args.ins.now c.args.outs.now (g.M.Machine.view m) o fits c.deref-in-Mux.result.now coded aside.0 aside.1
     (new aside.0 aside.2) (λ out there. starts aside.0 aside.2 out (ap (λ (os : List OutputJob). slice_get os o) c.as_slice-outputs.ensures ∙ there))))

@@ -1,0 +1,45 @@
+-- The cuts of a job: of what its decoders and its graphs give.
+use Rattle.std.specs.Prelude.{ℕ, List, slice_get, Option, Some, None}
+use Rattle.std.specs.List.{filter_map}
+use Rattle.ff_time.specs.declared.cut.TimeCut.{TimeCut}
+use Rattle.ff_words.specs.declared.job.InputJob.{InputJob}
+use Rattle.ff_words.specs.declared.job.OutputJob.{OutputJob}
+use Rattle.ff_words.specs.Words.{cut_of}
+use Rattle.ff_edges.specs.declared.edge.Edge.{Edge}
+use Rattle.ff_edges.specs.Ports.{edges_from, shape_of}
+use Rattle.ff_plan.specs.declared.planned.PlanNode.{PlanNode}
+use Rattle.ff_plan.specs.declared.planned.PlanNode.TheVariants as node
+
+-- without a start and a length all is kept
+abbrev pub uncut : TimeCut
+uncut = cut_of None None
+
+abbrev pub input_cut : Option InputJob → TimeCut
+input_cut None = uncut
+input_cut (Some input) = input.cut
+
+abbrev pub output_cut : Option OutputJob → TimeCut
+output_cut None = uncut
+output_cut (Some out) = out.cut
+
+-- of the frames that go to a node: those of an output pass its Shortest node, and are cut before it
+abbrev pub cut_before : List OutputJob → PlanNode → TimeCut
+cut_before outputs (node.Demux i) = uncut
+cut_before outputs (node.Dec at) = uncut
+cut_before outputs (node.Graph g) = uncut
+cut_before outputs (node.Shortest o) = output_cut (slice_get outputs o)
+cut_before outputs (node.Enc o j) = uncut
+cut_before outputs (node.Mux o) = uncut
+
+abbrev pub cut_at_end : List OutputJob → Option PlanNode → TimeCut
+cut_at_end outputs None = uncut
+cut_at_end outputs (Some n) = cut_before outputs n
+
+-- of the frames on an edge, where it is there
+abbrev pub cut_on : List OutputJob → List PlanNode → Option Edge → Option TimeCut
+cut_on outputs nodes None = None
+cut_on outputs nodes (Some e) = Some (cut_at_end outputs (slice_get nodes e.to))
+
+-- of the frames at the outputs of a node, by port
+abbrev pub cuts_out_of : List OutputJob → List PlanNode → List Edge → ℕ → List TimeCut
+cuts_out_of outputs nodes edges k = filter_map (λ w. cut_on outputs nodes (slice_get edges w)) (edges_from (shape_of edges) edges k)
