@@ -76,8 +76,8 @@ joint_tells ends heads feeds = refl
 pub parts_tell_of_themselves : TellOfThemselves all_kinds
 parts_tell_of_themselves = record {
   demuxer = λ i head bytes feeds. refl;
-  decoder = λ head outputs feeds. refl;
-  graph = λ g text heads feeds. graph_tells g heads feeds;
+  decoder = λ head cut outputs feeds. refl;
+  graph = λ g text heads cuts feeds. graph_tells g heads feeds;
   shortest = joint_tells;
   encoder = λ head coded feeds. encoder_tells (is_flac_coded coded) coded feeds;
   muxer = muxer_tells;

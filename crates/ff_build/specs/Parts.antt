@@ -1,5 +1,6 @@
 -- What the nodes of a plan are there for, by the definitions of formats and codecs.
 use Rattle.std.specs.Prelude.{◌≡◌, ℕ, ◌≤◌, Bool, true, false, List, length, map}
+use Rattle.ff_time.specs.declared.cut.TimeCut.{TimeCut}
 use Rattle.ff_values.specs.Heads.{base_of_head}
 use Rattle.ff_values.specs.declared.head.Codec.{Codec}
 use Rattle.ff_values.specs.declared.head.Codec.TheVariants as codec
@@ -56,11 +57,12 @@ pub record CanFilter (text : Graph) (heads outs : List StreamHead) : Type 0 wher
   pub few : length heads ≤ 16
   pub outs_are : outs ≡ map (λ o. o.head) (graph_outs text heads)
 
--- what the graph of this number is there for: what its filters make of its streams, and to tell which of them is the best one
-abbrev pub told_graph : ℕ → Graph → List StreamHead → Task
-told_graph g text heads = record (graph_task text heads) { tells = best_events g (bases_of_heads heads) }
+-- what the graph of this number is there for: what its filters make of its streams, with one of these cuts behind each output, and to tell
+-- which of the streams is the best one
+abbrev pub told_graph : ℕ → Graph → List StreamHead → List TimeCut → Task
+told_graph g text heads cuts = record (graph_task text heads cuts) { tells = best_events g (bases_of_heads heads) }
 
--- a demuxer gives an input's packets, a decoder their frames, a graph frames of frames, an encoder packets of frames, and a muxer writes
+-- a demuxer gives an input's packets, a decoder their frames, cut, a graph frames of frames, an encoder packets of frames, and a muxer writes
 -- them in the output's format
 abbrev pub all_kinds : KindsOf InputHead
 all_kinds = record {
@@ -70,7 +72,7 @@ all_kinds = record {
   IsFrames = IsFitHead;
   demux_task = demux_task any_cutter;
   CanDecode = CanDecode;
-  dec_task = λ head outputs. dec_task (frame_made head) outputs;
+  dec_task = λ head cut outputs. dec_task head (frame_made head) cut outputs;
   CanFilter = CanFilter;
   graph_task = told_graph;
   CanJoin = λ heads. Unit {0};

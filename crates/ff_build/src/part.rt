@@ -3,10 +3,9 @@ use crate::through::Through;
 use ff_best::Leading;
 use ff_coders::{AnyDecoder, AnyEncoder};
 use ff_coding::{Dec, Enc};
-use ff_composed::GraphFilter;
+use ff_composed::CutGraph;
 use ff_cuts::AnyCut;
 use ff_demuxing::Demux;
-use ff_filter::Filter;
 use ff_flac_coder::{FlacEnc, InOrder};
 use ff_frame::{Event, Item, Refused, Ticket};
 use ff_host::{Sink, Source};
@@ -23,10 +22,10 @@ use std::alloc::AllocError;
 pub enum Part<Src: Source + Drop, Snk: Sink + Drop> {
     /// Gives an input's packets.
     Demux(Demux<Src, AnyCut>),
-    /// Decodes packets to frames.
+    /// Decodes packets to frames, and cuts these.
     Dec(Dec<AnyDecoder>),
-    /// Filters frames, and tells which of its inputs is the best one.
-    Graph(Through<Leading<Alone<GraphFilter>>>),
+    /// Filters frames, cuts what it gives, and tells which of its inputs is the best one.
+    Graph(Through<Leading<Alone<CutGraph>>>),
     /// Ends the streams of an output with the shortest of them, or gives them as they are.
     Joint(Through<Alone<Joint>>),
     /// Encodes frames to packets, one for one.
@@ -46,16 +45,9 @@ impl<Src: Source + Drop, Snk: Sink + Drop> Machine for Part<Src, Snk> {
     ghost use Rattle.ff_coding.specs.Kinds.{dec_laws, enc_laws};
     ghost use Rattle.ff_flac_coder.specs.Machines as flac;
     ghost use Rattle.ff_muxing.specs.Kinds.{mux_laws};
-    ghost use Rattle.std.specs.Prelude.{◌≡◌, ◌<◌, ℕ, length, true};
-    ghost use Rattle.ff_filter.specs.Views.{AllDone, IsSpent};
-    ghost use Rattle.ff_dag.specs.Over.{graph_spent_only, graph_shut_spent, graph_done_spent};
-    ghost use Rattle.ff_net_filter.specs.AloneLaws.{alone_laws};
     ghost use Rattle.ff_best.specs.LeadLaws.{leading_laws};
-    ghost use Rattle.ff_shortest.specs.declared.joint.Joint.{Joint};
-    ghost use Rattle.ff_shortest.specs.declared.joint.Joint.TheVariants as joint;
-    ghost use Rattle.ff_shortest.specs.ShortLaws.{shortest-spent_only, shortest-shut_spent, shortest-done_spent};
-    ghost use Rattle.ff_shortest.specs.StraightLaws.{straight-spent_only, straight-shut_spent, straight-done_spent};
-    ghost use Rattle.ff_shortest.specs.Lines.{lines_of, lanes_of};
+    ghost use Rattle.ff_composed.specs.Machines.{graph_laws};
+    ghost use Rattle.ff_shortest.specs.Joints.{joint_laws};
 
     ghost view = { part_view Src.left Src.name Src.faults };
 
@@ -183,28 +175,8 @@ impl<Src: Source + Drop, Snk: Sink + Drop> Machine for Part<Src, Snk> {
       | part.Demux m ↦ demux_laws Src.left Src.name Src.faults any_shaped m m.same_head
       | part.Dec m ↦ dec_laws any_head any_frame m
       | part.Graph m ↦
-          let filter = m.machine.machine.filter in
-          let v = ⟦<GraphFilter as Filter>⟧.view filter in
-          leading_laws (⟦<Alone<GraphFilter> as Machine>⟧.view m.machine.machine) m.machine.lead
-          (alone_laws v (λ p. ⟦<GraphFilter as Filter>⟧.spends filter p) m.machine.machine.hurt m.machine.machine.long
-          (λ p lt e. graph_spent_only v filter.over.items p filter.told e)
-          (λ p lt e. graph_shut_spent v filter.over.items p e)
-          (λ p lt z d. graph_done_spent v filter.over.items p filter.told z d))
-      | part.Joint m ↦
-          let only : (j : Joint) (p : ℕ) → p < length (⟦<Joint as Filter>⟧.view j).ins → ⟦<Joint as Filter>⟧.spends j p ≡ true → IsSpent (⟦<Joint as Filter>⟧.view j) p = elim [
-            | joint.Shortest s ↦ λ p lt e. shortest-spent_only s.sides.items p lt e
-            | joint.Straight s ↦ λ p lt e. straight-spent_only s.sides.items p lt e
-          ] in
-          let shut : (j : Joint) (p : ℕ) → p < length (⟦<Joint as Filter>⟧.view j).ins → (⟦<Joint as Filter>⟧.view j).shut p ≡ true → ⟦<Joint as Filter>⟧.spends j p ≡ true = elim [
-            | joint.Shortest s ↦ λ p lt e. shortest-shut_spent (lanes_of s.sides.items) (lines_of s.sides.items) p e
-            | joint.Straight s ↦ λ p lt e. straight-shut_spent (lanes_of s.sides.items) (lines_of s.sides.items) p e
-          ] in
-          let done : (j : Joint) (p : ℕ) → p < length (⟦<Joint as Filter>⟧.view j).ins → 0 < length (⟦<Joint as Filter>⟧.view j).outs → AllDone (⟦<Joint as Filter>⟧.view j) → ⟦<Joint as Filter>⟧.spends j p ≡ true = elim [
-            | joint.Shortest s ↦ λ p lt z d. shortest-done_spent s.sides.items p d
-            | joint.Straight s ↦ λ p lt z d. straight-done_spent s.sides.items p d
-          ] in
-          let filter = m.machine.filter in
-          alone_laws (⟦<Joint as Filter>⟧.view filter) (λ p. ⟦<Joint as Filter>⟧.spends filter p) m.machine.hurt m.machine.long (only filter) (shut filter) (done filter)
+          leading_laws (⟦<Alone<CutGraph> as Machine>⟧.view m.machine.machine) m.machine.lead (graph_laws m.machine.machine)
+      | part.Joint m ↦ joint_laws m.machine
       | part.Enc m ↦ enc_laws any_serves any_coded any_packet m
       | part.FlacEnc m ↦ flac.enc_laws m
       | part.Mux m ↦ mux_laws m

@@ -18,6 +18,7 @@ use ff_plan::{Plan, PlanError, plan};
 use ff_rules::GraphRules;
 use ff_running::{Ends, Kinds};
 use ff_shortest::joint_machine;
+use ff_time::TimeCut;
 use ff_values::{Codec, StreamHead};
 use ff_words::{Job, OutputJob};
 use std::alloc::{AllocError, Global};
@@ -82,9 +83,10 @@ impl<Src: Source + Send + Drop, Snk: Sink + Send + Drop> Kinds<Src, Snk, Part<Sr
     fn decoder(
         alloc: Global,
         head: &StreamHead,
+        cut: TimeCut,
         outputs: usize,
     ) -> Result<Part<Src, Snk>, AllocError> {
-        let dec = Dec::new(alloc, decoder_of(alloc, head), outputs)?;
+        let dec = Dec::new(alloc, decoder_of(alloc, head), *head, cut, outputs)?;
         Ok(Part::Dec(dec))
     }
 
@@ -93,8 +95,9 @@ impl<Src: Source + Send + Drop, Snk: Sink + Send + Drop> Kinds<Src, Snk, Part<Sr
         number: u32,
         text: &Graph,
         heads: &[StreamHead],
+        cuts: &[TimeCut],
     ) -> Result<Part<Src, Snk>, AllocError> {
-        let Ok(machine) = graph_machine(alloc, text, heads) else {
+        let Ok(machine) = graph_machine(alloc, text, heads, cuts) else {
             return Err(AllocError);
         };
         let Ok(graph) = Leading::new(alloc, number, heads, machine) else {

@@ -1,5 +1,5 @@
 // Machines in the middle of a plan.
-ghost use Rattle.std.specs.Prelude.{◌≡◌, [], IfSome};
+ghost use Rattle.std.specs.Prelude.{◌≡◌, ◌⊎◌, [], IfSome, IsNone};
 
 use ff_frame::{Event, Item, Refused, Ticket};
 use ff_net::{Fault, Machine};
@@ -15,9 +15,10 @@ pub struct Through<M: Machine> {
 }
 
 impl<M: Machine + Drop> Through<M> {
-    /// The machine, where it has both.
+    /// The machine, where it has both; none where it has no input or no output.
     pub fn new(machine: M) -> Option<Through<M>>
-        ensures { IfSome result (λ t. t.machine ≡ machine) }
+        ensures same { IfSome result (λ t. t.machine ≡ machine) }
+        ensures none { IsNone result → ((M.view machine).in_lanes ≡ []) ⊎ ((M.view machine).out_lanes ≡ []) }
     {
         if machine.inputs() == 0 || machine.outputs() == 0 {
             return None;

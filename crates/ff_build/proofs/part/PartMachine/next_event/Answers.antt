@@ -3,6 +3,9 @@ use Rattle.ff_build.proofs.part.PartMachine.next_event.Goals as goal
 pub returns-in-Demux-clause-gives : goal.returns-in-Demux-clause-gives
 returns-in-Demux-clause-gives g c e is past s = let h = c.next_event.ensures.gives e is past (rw c.in-Demux.is at s) in (h.0, λ r. h.1 (rw c.in-Demux.is at r))
 
+pub returns-in-Dec-clause-gives : goal.returns-in-Dec-clause-gives
+returns-in-Dec-clause-gives g c e is past s = let h = c.next_event-in-Dec.ensures.gives e is past (rw c.in-Dec.is at s) in (h.0, λ r. h.1 (rw c.in-Dec.is at r))
+
 pub returns-in-Enc-clause-gives : goal.returns-in-Enc-clause-gives
 returns-in-Enc-clause-gives g c e is past s = let h = c.next_event-in-Enc.ensures.gives e is past (rw c.in-Enc.is at s) in (h.0, λ r. h.1 (rw c.in-Enc.is at r))
 

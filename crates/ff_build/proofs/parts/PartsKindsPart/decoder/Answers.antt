@@ -11,6 +11,6 @@ use Rattle.ff_build.proofs.parts.PartsKindsPart.decoder.Goals as goal
 pub returns-clause-starts : goal.returns-clause-starts
 returns-clause-starts g c =
     subst
-    (λ (f : Pkt → Option Item). dec_stands any_head any_frame c.in_ok-dec.dec (start (dec_task f c.args.outputs)))
+    (λ (f : Pkt → Option Item). dec_stands any_head any_frame c.in_ok-dec.dec (start (dec_task c.args.head.now f c.args.cut c.args.outputs)))
     c.decoder_of.ensures.frame
     c.in_ok-dec.ensures.stands

@@ -16,7 +16,7 @@ returns-in-Some-clause-new g c = λ made can.
     let heads = c.args.heads.now in
     let shape = c.in-Ok-new.ensures.shape in
     let outs = graph_outs c.args.text.now heads in
-    shown_as c.in-Some.graph.machine c.in-Ok-new.graph c.in-Some.ensures
+    shown_as c.in-Some.graph.machine c.in-Ok-new.graph c.in-Some.ensures.same
     (λ (v : View). IsNew None (map (λ (h : StreamHead). Frames h) heads) (map (λ (h : StreamHead). Frames h) made) None 0 v)
     (record {
       source_is = shape.source ∙ c.in-Ok.ensures.source;
@@ -32,6 +32,7 @@ pub returns-in-Some-clause-starts : goal.returns-in-Some-clause-starts
 returns-in-Some-clause-starts g c =
     let heads = c.args.heads.now in
     let text = c.args.text.now in
-    shown_as c.in-Some.graph.machine c.in-Ok-new.graph c.in-Some.ensures
-    (λ (v : View). v.stands (start (told_graph c.args.number text heads)))
-    (c.in-Ok-new.ensures.stands (graph_task text heads) refl (c.in-Ok.ensures.stands (are_timed heads c.requires.1.fit)))
+    let cuts = c.args.cuts.now in
+    shown_as c.in-Some.graph.machine c.in-Ok-new.graph c.in-Some.ensures.same
+    (λ (v : View). v.stands (start (told_graph c.args.number text heads cuts)))
+    (c.in-Ok-new.ensures.stands (graph_task text heads cuts) refl (c.in-Ok.ensures.stands (are_timed heads c.requires.1.fit)))
