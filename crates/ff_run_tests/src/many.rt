@@ -73,7 +73,7 @@ fn runs<R: Threads + Wait + Sync>(
     Ok(right)
 }
 
-// 64 threads, 50 times by each of four sizes.
+// 96 threads, 50 times by each of four sizes.
 #[test]
 fn one_result(rt: HostRuntime) -> Result<(), AllocError> {
     let alloc = rt.alloc();
