@@ -1,3 +1,4 @@
+pub mod Joints
 pub mod JointTask
 pub mod Lines
 pub mod Moves

@@ -13,7 +13,8 @@ use Rattle.ff_filter.specs.Made.{behind, is_over, mark_after}
 use Rattle.ff_filter.specs.Views.{Settles, IsSpent, AllDone}
 use Rattle.ff_shortest.specs.declared.side.Side.{Side}
 use Rattle.ff_shortest.specs.Lines.{Line, line_at, lines_of, lanes_of, came}
-use Rattle.ff_shortest.specs.ShortLaws.{SofterFlow, behind_below, waits_below, ended_below, soft_below, mark_softer, items_opened, ended_softer, behind_over, silent_mark, lanes_long}
+use Rattle.ff_shortest.specs.ShortLaws.{SofterFlow, behind_below, waits_below, ended_below, soft_below, mark_softer}
+use Rattle.ff_shortest.specs.ShortLaws.{items_opened, ended_softer, behind_over, silent_mark, lanes_long}
 use Rattle.ff_shortest.specs.Straights.{still_came, straight_view, straight_of, is_through, through_to, straight_spent}
 
 still_below : (l : Line) (s t : Flow) → LiesBelow s t → LiesBelow (still_came l s) (still_came l t)

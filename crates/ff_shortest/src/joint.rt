@@ -2,11 +2,8 @@ ghost use Rattle.std.specs.Prelude.{IfOk, ◌≡◌, map, None};
 ghost use Rattle.ff_frame.specs.declared.item.Lane.TheVariants.{Frames};
 ghost use Rattle.ff_net.specs.Pasts.{start};
 ghost use Rattle.ff_shortest.specs.JointTask.{joint_task, IsJointOf};
-ghost use Rattle.ff_shortest.specs.ShortLaws.{shortest-grows, shortest-hides, shortest-settles, shortest-quiet};
-ghost use Rattle.ff_shortest.specs.ShortLaws.{shortest-spent_only, shortest-shut_spent, shortest-done_spent};
-ghost use Rattle.ff_shortest.specs.StraightLaws.{straight-grows, straight-hides, straight-settles, straight-quiet};
-ghost use Rattle.ff_shortest.specs.StraightLaws.{straight-spent_only, straight-shut_spent, straight-done_spent};
-ghost use Rattle.ff_shortest.specs.Lines.{lines_of, lanes_of};
+ghost use Rattle.ff_shortest.specs.Joints.{joint_view, joint_spends, joint-grows, joint-hides, joint-settles, joint-quiet};
+ghost use Rattle.ff_shortest.specs.Joints.{joint-spent_only, joint-shut_spent, joint-done_spent};
 
 use crate::shortest::Shortest;
 use crate::straight::Straight;
@@ -26,17 +23,9 @@ pub enum Joint {
 }
 
 impl Filter for Joint {
-    ghost use Rattle.ff_shortest.specs.declared.joint.Joint.TheVariants as joint;
+    ghost view = { joint_view };
 
-    ghost view = { elim [
-      | joint.Shortest m ↦ ⟦<Shortest as Filter>⟧.view m
-      | joint.Straight m ↦ ⟦<Straight as Filter>⟧.view m
-    ] };
-
-    ghost spends = { elim [
-      | joint.Shortest m ↦ ⟦<Shortest as Filter>⟧.spends m
-      | joint.Straight m ↦ ⟦<Straight as Filter>⟧.spends m
-    ] };
+    ghost spends = { joint_spends };
 
     fn inputs(&self) -> usize {
         match self {
@@ -94,40 +83,19 @@ impl Filter for Joint {
         }
     }
 
-    ghost grows = { elim [
-      | joint.Shortest m ↦ shortest-grows (lanes_of m.sides.items) (lines_of m.sides.items)
-      | joint.Straight m ↦ straight-grows (lanes_of m.sides.items) (lines_of m.sides.items)
-    ] };
+    ghost grows = { joint-grows };
 
-    ghost hides = { elim [
-      | joint.Shortest m ↦ shortest-hides (lanes_of m.sides.items) (lines_of m.sides.items)
-      | joint.Straight m ↦ straight-hides (lanes_of m.sides.items) (lines_of m.sides.items)
-    ] };
+    ghost hides = { joint-hides };
 
-    ghost settles = { elim [
-      | joint.Shortest m ↦ shortest-settles m.sides.items
-      | joint.Straight m ↦ straight-settles m.sides.items
-    ] };
+    ghost settles = { joint-settles };
 
-    ghost quiet = { elim [
-      | joint.Shortest m ↦ λ q e ext. shortest-quiet (lanes_of m.sides.items) (lines_of m.sides.items) q e ext
-      | joint.Straight m ↦ λ q e ext. straight-quiet (lanes_of m.sides.items) (lines_of m.sides.items) q e ext
-    ] };
+    ghost quiet = { joint-quiet };
 
-    ghost spent_only = { elim [
-      | joint.Shortest m ↦ λ p lt e. shortest-spent_only m.sides.items p lt e
-      | joint.Straight m ↦ λ p lt e. straight-spent_only m.sides.items p lt e
-    ] };
+    ghost spent_only = { joint-spent_only };
 
-    ghost shut_spent = { elim [
-      | joint.Shortest m ↦ λ p lt e. shortest-shut_spent (lanes_of m.sides.items) (lines_of m.sides.items) p e
-      | joint.Straight m ↦ λ p lt e. straight-shut_spent (lanes_of m.sides.items) (lines_of m.sides.items) p e
-    ] };
+    ghost shut_spent = { joint-shut_spent };
 
-    ghost done_spent = { elim [
-      | joint.Shortest m ↦ λ p lt z d. shortest-done_spent m.sides.items p d
-      | joint.Straight m ↦ λ p lt z d. straight-done_spent m.sides.items p d
-    ] };
+    ghost done_spent = { joint-done_spent };
 }
 
 // The filter, of which nothing came yet.
