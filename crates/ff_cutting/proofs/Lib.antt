@@ -6,5 +6,6 @@ pub mod Ruled
 pub mod Shifting
 pub mod Tapping
 pub mod Ticking
+pub mod Turns
 pub mod Valid
 pub mod Ways

@@ -1,5 +1,6 @@
 -- Cuts of streams in time: from a start on, which is taken from all times, to below an end.
-use Rattle.std.specs.Prelude.{ℕ, zero, suc, ◌+◌, ◌*◌, ◌-◌, ◌<◌, ◌^◌, ◌==◌, min, Bool, true, false, not, ◌&&◌, cond, Option, None, Some, is_some, option_map, List, [], ◌∷◌}
+use Rattle.std.specs.Prelude.{ℕ, zero, suc, ◌+◌, ◌*◌, ◌-◌, ◌<◌, ◌^◌, ◌==◌, min, Bool, true, false, not, ◌&&◌, cond, Option, None, Some, is_some, option_map}
+use Rattle.std.specs.Prelude.{List, [], ◌∷◌}
 use Rattle.std.specs.Int.{div_ceil}
 use Rattle.std.proofs.Common.{arith}
 use Rattle.ff_time.specs.Fraction.{Fraction}

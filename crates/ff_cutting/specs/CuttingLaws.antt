@@ -49,9 +49,13 @@ still_calm w i r s h = left_calm [] w.ended w.after (w.runs (after_held w.held r
     (i.below (opened (after_held w.held r)) (after_held w.held s) (held_calm w.held r s h)))
 
 -- the output closes where what comes to its cut does
-still_closed : (w : Way) → ((r : Flow) → IsClosed r → IsClosed (w.runs r)) → (s : Flow) → (is_over w.after ≡ true) ⊎ IsClosed s → (w.ended ≡ true) ⊎ IsClosed (still_cut w s)
+still_closed : (w : Way) → ((r : Flow) → IsClosed r → IsClosed (w.runs r)) → (s : Flow) → (is_over w.after ≡ true) ⊎ IsClosed s
+    → (w.ended ≡ true) ⊎ IsClosed (still_cut w s)
 still_closed w i s h = left_closed [] w.ended w.after (w.runs (after_held w.held s))
-    (elim h as (λ _. (is_over w.after ≡ true) ⊎ IsClosed (w.runs (after_held w.held s))) [ inl e ↦ inl e | inr c ↦ inr (i (after_held w.held s) (held_closed w.held s c)) ])
+    (elim h as (λ _. (is_over w.after ≡ true) ⊎ IsClosed (w.runs (after_held w.held s))) [
+      | inl e ↦ inl e
+      | inr c ↦ inr (i (after_held w.held s) (held_closed w.held s c))
+    ])
 
 module _ (v : View) (ts : List Tap) where
   pub cutting-grows : Grows v.rest → Grows (cutting_view v (ways_of ts)).rest
@@ -83,7 +87,11 @@ module _ (v : View) (ts : List Tap) where
   pub cutting-spent : Tied v (ways_of ts) → (p : ℕ) → IsSpent v p → IsSpent (cutting_view v (ways_of ts)) p
   cutting-spent t p (inl e) = inl e
   cutting-spent t p (inr h) = let long = t.long in
-      inr (h.0, λ q lt on. closes_so silence q (way_at (ways_of ts) q) (t.each q (omega (arith, lt, long))) (each_settles ts q (omega (arith, lt, long))) on (λ z. h.1 q lt z))
+      inr (
+        h.0,
+        λ q lt on. let there : q < length (ways_of ts) = omega (arith, lt, long) in
+            closes_so silence q (way_at (ways_of ts) q) (t.each q there) (each_settles ts q there) on (λ z. h.1 q lt z),
+      )
 
   pub cutting-done : Tied v (ways_of ts) → AllDone (cutting_view v (ways_of ts)) → AllDone v
   cutting-done t d q lt =

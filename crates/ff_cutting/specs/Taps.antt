@@ -1,5 +1,7 @@
 -- How a filter with a cut behind each output is seen.
 use Rattle.std.specs.Prelude.{◌≡◌, ℕ, zero, suc, ◌+◌, ◌*◌, ◌<◌, Bool, true, false, ◌||◌, cond, Option, None, Some, is_some, List, [], ◌∷◌, map, length}
+use Rattle.std.specs.Prelude.{Result, Ok, OnErr}
+use Rattle.std.specs.declared.alloc.AllocError.{AllocError}
 use Rattle.ff_frame.specs.declared.item.Item.{Item}
 use Rattle.ff_frame.specs.declared.item.Lane.{Lane}
 use Rattle.ff_frame.specs.declared.item.Lane.TheVariants.{Frames}
@@ -8,7 +10,7 @@ use Rattle.ff_filter.specs.declared.after.After.{After}
 use Rattle.ff_filter.specs.declared.after.After.TheVariants.{More}
 use Rattle.ff_filter.specs.Joins.{Flow, Ports, silence, before}
 use Rattle.ff_filter.specs.Made.{left, is_over}
-use Rattle.ff_filter.specs.Views.{View, IsNew, closes}
+use Rattle.ff_filter.specs.Views.{View, IsNew, Same, Gave, Waits, closes}
 use Rattle.ff_filter.specs.Chains.{after_held, held_closes}
 use Rattle.ff_filter.specs.Shifts.{shifted}
 use Rattle.ff_vfilter.specs.Trims.{trimmed}
@@ -19,6 +21,8 @@ use Rattle.ff_cutting.specs.Cuts.{cut, cut_at, cut_each}
 use Rattle.ff_cutting.specs.declared.cut.Cut.{Cut}
 use Rattle.ff_cutting.specs.declared.cut.Cut.TheVariants.{Uncut, Sound, Pictures}
 use Rattle.ff_cutting.specs.declared.tap.Tap.{Tap}
+use Rattle.ff_cutting.specs.declared.tap.Turn.{Turn}
+use Rattle.ff_cutting.specs.declared.tap.Turn.TheVariants.{Gave as Turned, Waits as Idle, On}
 
 -- what a cut makes of what comes
 abbrev pub runs_of : Cut → Flow → Flow
@@ -86,6 +90,16 @@ pub record Tied (v : View) (ws : List Way) : Type 0 where
 -- how much is still to go from the filter to the cut of an output
 abbrev pub to_go : View → Way → ℕ → ℕ
 to_go v w q = 2 * (length (v.rest silence q).items + cond (v.ended q) 0 1) + cond (is_some w.held) 1 0
+
+-- One step towards output q came to this: it goes on, nearer to the end, an item was given, or nothing is due; where there was no
+-- memory nothing has changed.
+pub record IsTurn (v : View) (ts : List Tap) (w : View) (us : List Tap) (q : ℕ) (came : Result Turn AllocError) : Type 0 where
+  pub on : came ≡ Ok On → Same (cut_view v ts) (cut_view w us)
+  pub less : came ≡ Ok On → to_go w (way_at (ways_of us) q) q < to_go v (way_at (ways_of ts) q) q
+  pub gave : (y : Item) → came ≡ Ok (Turned y) → Gave (cut_view v ts) (cut_view w us) q y
+  pub waits : came ≡ Ok Idle → Waits (cut_view v ts) (cut_view w us) q
+  pub unchanged : OnErr came (Same (cut_view v ts) (cut_view w us))
+  pub long : length us ≡ length ts
 
 -- an item was taken to a cut, and nothing or this was given for it
 pub record IsPut (old new : Way) (x : Item) (given : Option Item) : Type 0 where

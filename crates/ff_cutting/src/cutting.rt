@@ -1,9 +1,8 @@
-ghost use Rattle.std.specs.Prelude.{◌≡◌, ◌<◌, map, length, Ok, IfOk, OnErr, Some, None, is_some, false, true};
-ghost use Rattle.ff_frame.specs.declared.item.Item.{Item as AnItem};
+ghost use Rattle.std.specs.Prelude.{◌≡◌, ◌<◌, map, length, Ok, IfOk, is_some, false, true};
 ghost use Rattle.ff_frame.specs.declared.item.Lane.TheVariants.{Frames};
 ghost use Rattle.ff_filter.specs.Made.{is_over};
-ghost use Rattle.ff_filter.specs.Views.{IsNew, Same, Gave, Waits};
-ghost use Rattle.ff_cutting.specs.Taps.{ways_of, way_at, cut_view, Tied, to_go, AreNewWays, IsCutting};
+ghost use Rattle.ff_filter.specs.Views.{IsNew, Gave};
+ghost use Rattle.ff_cutting.specs.Taps.{ways_of, way_at, cut_view, Tied, IsTurn, AreNewWays, IsCutting};
 ghost use Rattle.ff_cutting.specs.CuttingLaws.{cutting-grows, cutting-hides, cutting-settles, cutting-quiet, cutting-spent, cutting-done};
 
 use crate::tap::{Tap, Turn};
@@ -59,6 +58,7 @@ impl<F: Filter> Cutting<F> {
         requires going { (way_at (ways_of self.old.taps.items) q).ended ≡ false }
         requires over { is_over (way_at (ways_of self.old.taps.items) q).after ≡ true }
         ensures gave { Gave (cut_view (F.view self.old.filter) self.old.taps.items) (cut_view (F.view self.new.filter) self.new.taps.items) q result }
+        ensures long { length self.new.taps.items ≡ length self.old.taps.items }
     {
         self.filter.stop(q);
         self.taps[q].close()
@@ -70,12 +70,8 @@ impl<F: Filter> Cutting<F> {
         requires going { (way_at (ways_of self.old.taps.items) q).ended ≡ false }
         requires more { is_over (way_at (ways_of self.old.taps.items) q).after ≡ false }
         requires held { is_some (way_at (ways_of self.old.taps.items) q).held ≡ true }
-        ensures on { result ≡ Ok Turn.On → Same (cut_view (F.view self.old.filter) self.old.taps.items) (cut_view (F.view self.new.filter) self.new.taps.items) }
-        ensures less { result ≡ Ok Turn.On → to_go (F.view self.new.filter) (way_at (ways_of self.new.taps.items) q) q < to_go (F.view self.old.filter) (way_at (ways_of self.old.taps.items) q) q }
-        ensures gave { (y : AnItem) → result ≡ Ok (Turn.Gave y) → Gave (cut_view (F.view self.old.filter) self.old.taps.items) (cut_view (F.view self.new.filter) self.new.taps.items) q y }
+        ensures turn { IsTurn (F.view self.old.filter) self.old.taps.items (F.view self.new.filter) self.new.taps.items q result }
         ensures due { result ≡ Ok Turn.Waits → ⊥ }
-        ensures unchanged { OnErr result (Same (cut_view (F.view self.old.filter) self.old.taps.items) (cut_view (F.view self.new.filter) self.new.taps.items)) }
-        ensures long { length self.new.taps.items ≡ length self.old.taps.items }
     {
         self.taps[q].resume()
     }
@@ -87,12 +83,7 @@ impl<F: Filter> Cutting<F> {
         requires going { (way_at (ways_of self.old.taps.items) q).ended ≡ false }
         requires more { is_over (way_at (ways_of self.old.taps.items) q).after ≡ false }
         requires free { is_some (way_at (ways_of self.old.taps.items) q).held ≡ false }
-        ensures on { result ≡ Ok Turn.On → Same (cut_view (F.view self.old.filter) self.old.taps.items) (cut_view (F.view self.new.filter) self.new.taps.items) }
-        ensures less { result ≡ Ok Turn.On → to_go (F.view self.new.filter) (way_at (ways_of self.new.taps.items) q) q < to_go (F.view self.old.filter) (way_at (ways_of self.old.taps.items) q) q }
-        ensures gave { (y : AnItem) → result ≡ Ok (Turn.Gave y) → Gave (cut_view (F.view self.old.filter) self.old.taps.items) (cut_view (F.view self.new.filter) self.new.taps.items) q y }
-        ensures waits { result ≡ Ok Turn.Waits → Waits (cut_view (F.view self.old.filter) self.old.taps.items) (cut_view (F.view self.new.filter) self.new.taps.items) q }
-        ensures unchanged { OnErr result (Same (cut_view (F.view self.old.filter) self.old.taps.items) (cut_view (F.view self.new.filter) self.new.taps.items)) }
-        ensures long { length self.new.taps.items ≡ length self.old.taps.items }
+        ensures { IsTurn (F.view self.old.filter) self.old.taps.items (F.view self.new.filter) self.new.taps.items q result }
     {
         match self.filter.pull(q) {
             Err(error) => Err(error),
@@ -106,12 +97,7 @@ impl<F: Filter> Cutting<F> {
         requires there { q < length self.old.taps.items }
         requires wanted { (way_at (ways_of self.old.taps.items) q).stopped ≡ false }
         requires going { (way_at (ways_of self.old.taps.items) q).ended ≡ false }
-        ensures on { result ≡ Ok Turn.On → Same (cut_view (F.view self.old.filter) self.old.taps.items) (cut_view (F.view self.new.filter) self.new.taps.items) }
-        ensures less { result ≡ Ok Turn.On → to_go (F.view self.new.filter) (way_at (ways_of self.new.taps.items) q) q < to_go (F.view self.old.filter) (way_at (ways_of self.old.taps.items) q) q }
-        ensures gave { (y : AnItem) → result ≡ Ok (Turn.Gave y) → Gave (cut_view (F.view self.old.filter) self.old.taps.items) (cut_view (F.view self.new.filter) self.new.taps.items) q y }
-        ensures waits { result ≡ Ok Turn.Waits → Waits (cut_view (F.view self.old.filter) self.old.taps.items) (cut_view (F.view self.new.filter) self.new.taps.items) q }
-        ensures unchanged { OnErr result (Same (cut_view (F.view self.old.filter) self.old.taps.items) (cut_view (F.view self.new.filter) self.new.taps.items)) }
-        ensures long { length self.new.taps.items ≡ length self.old.taps.items }
+        ensures { IsTurn (F.view self.old.filter) self.old.taps.items (F.view self.new.filter) self.new.taps.items q result }
     {
         if self.taps[q].is_over() {
             return Ok(Turn::Gave(self.close(q)));

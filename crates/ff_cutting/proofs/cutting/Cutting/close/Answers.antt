@@ -24,15 +24,13 @@ invariant_of-self g c =
           (subst (λ (w : Way). IsShut w (way_of n) c.close.result) (sym (way_there ts q c.index_mut.result.now c.requires.there c.index_mut.ensures.value)) c.close.ensures);
     }
 
-pub returns : goal.returns
-returns g c =
+pub returns-clause-gave : goal.returns-clause-gave
+returns-clause-gave g c =
     let ts = c.args.self.now.taps.items in
     let q = c.args.q in
     let n = c.close.new.self in
     let also = long_ways ts in
     let there : q < length (ways_of ts) = omega (arith, c.requires.there, also) in
-    record {
-      gave = shut_gave (g.F.Filter.view c.args.self.now.filter) (g.F.Filter.view c.stop.new.self) (ways_of ts) (ways_of (set ts q n)) q (way_of n) there c.stop.ensures.stopped
-          (replaced ts q n c.requires.there) c.args.self.now.tied c.close.result
-          (subst (λ (w : Way). IsShut w (way_of n) c.close.result) (sym (way_there ts q c.index_mut.result.now c.requires.there c.index_mut.ensures.value)) c.close.ensures);
-    }
+    shut_gave (g.F.Filter.view c.args.self.now.filter) (g.F.Filter.view c.stop.new.self) (ways_of ts) (ways_of (set ts q n)) q (way_of n) there c.stop.ensures.stopped
+    (replaced ts q n c.requires.there) c.args.self.now.tied c.close.result
+    (subst (λ (w : Way). IsShut w (way_of n) c.close.result) (sym (way_there ts q c.index_mut.result.now c.requires.there c.index_mut.ensures.value)) c.close.ensures)
