@@ -2,9 +2,11 @@ pub mod Clear
 pub mod Connected
 pub mod Counts
 pub mod Drawing
+pub mod Ends
 pub mod Fed
 pub mod Feeding
 pub mod Fitting
+pub mod Kept
 pub mod Limiting
 pub mod Elements
 pub mod Made

@@ -1,4 +1,5 @@
 -- Each filter of a graph is behind limits, and takes what comes to it.
+use Rattle.std.specs.List.{AllByRecursion}
 use Rattle.std.proofs.Common.{◌≡◌, ℕ, zero, suc, ◌+◌, List, [], ◌∷◌, length, map, slice_get, slice_index_or, Option, None, Some, Ok, refl, ap, sym, ◌∙◌, subst, arith}
 use Rattle.ff_values.specs.declared.head.StreamHead.{StreamHead}
 use Rattle.ff_frame.specs.declared.item.Lane.{Lane}
@@ -22,7 +23,8 @@ use Rattle.ff_composed.specs.Cuts.{cuts_as, all_given}
 use Rattle.ff_composed.proofs.Elements.{some_same, no_some}
 use Rattle.ff_composed.proofs.Fed.{pad_of}
 use Rattle.ff_composed.proofs.Outs.{open_out}
-use Rattle.ff_composed.proofs.Made.{IsMade, AreMade, GivenTimed, timed_at}
+use Rattle.ff_composed.proofs.Made.{IsMade, AreMade, GivenSo, so_at}
+use Rattle.ff_composed.proofs.Timed.{IsTimed, each_timed, are_timed}
 use Rattle.ff_composed.proofs.Meaning.{place_is, means_is}
 
 -- ---- heads and lanes
@@ -94,8 +96,8 @@ given_got [] n h e = no_some h e
 given_got (x ∷ heads) zero h e = e
 given_got (x ∷ heads) (suc n) h e = given_got heads n h e
 
-pub given_timed : (heads : List StreamHead) → AreTimed heads → GivenTimed (all_given heads)
-given_timed heads t n h e = timed_at heads n h t (given_got heads n h e)
+pub given_so : (P : StreamHead → Type 0) (heads : List StreamHead) → AllByRecursion P heads → GivenSo P (all_given heads)
+given_so P heads t n h e = so_at P heads n h t (given_got heads n h e)
 
 -- ---- each filter
 
@@ -134,7 +136,7 @@ module _ (ds : List Seen) (heads : List StreamHead) (final : List (List StreamHe
   one_limited : (k : ℕ) (v : View) → AreTimed heads → IsMade ds (all_given heads) final k v → IsLimited v.ins v.outs v.rest (cuts_in v)
   one_limited k v t m =
       subst (λ (x : View). IsLimited x.ins x.outs x.rest (cuts_in x)) m.view
-      (limited m.made.name m.own.filter.args m.made.ins m.filter (m.timed (given_timed heads t)) m.made.is)
+      (limited m.made.name m.own.filter.args m.made.ins m.filter (are_timed m.made.ins (m.timed (given_so IsTimed heads (each_timed heads t)))) m.made.is)
 
   are_limited : (ks : List ℕ) (vs : List View) → AreTimed heads → AreMade ds (all_given heads) final ks vs
       → AreLimited (sources_in ds) (open_pads ds) (map Frames heads) (lanes_by final) ks vs (map (λ v. cuts_in v) vs)

@@ -1,9 +1,10 @@
 //! Laws of graphs as filters: functions that do nothing, whose clauses hold of all values.
-ghost use Rattle.std.specs.Prelude.{◌≡◌, List, Option, Ok, false, length, map};
+ghost use Rattle.std.specs.Prelude.{◌≡◌, ◌≤◌, ℕ, List, Option, Ok, false, length, map};
 ghost use Rattle.ff_values.specs.declared.head.StreamHead.{StreamHead};
 ghost use Rattle.ff_frame.specs.declared.item.Lane.TheVariants.{Frames as FramesOf};
 ghost use Rattle.ff_lang.specs.declared.graph.Arg.{Arg};
 ghost use Rattle.ff_lang.specs.declared.graph.Graph.{Graph as Text};
+ghost use Rattle.ff_lang.specs.Grammar.{IsGraph};
 ghost use Rattle.ff_net_filter.specs.Limiting.{IsLimited};
 ghost use Rattle.ff_filters.specs.declared.name.FilterName.{FilterName};
 ghost use Rattle.ff_filters.specs.Configured.{Filtered, configured_as};
@@ -11,10 +12,11 @@ ghost use Rattle.ff_limited.specs.Cuts.{AreTimed};
 ghost use Rattle.ff_graph.specs.Configured.{Made, OpenOut, configured, make_all, open_outs};
 ghost use Rattle.ff_graph.specs.Drawings.{seen_graph};
 ghost use Rattle.ff_graph.specs.Meaning.{graph_means};
-ghost use Rattle.ff_graph.specs.Opens.{filter_order, open_pads, sources_in, loops};
+ghost use Rattle.ff_graph.specs.Opens.{filter_order, open_ins, open_pads, sources_in, loops};
 ghost use Rattle.ff_wired.specs.Flows.{IsDrawing};
 ghost use Rattle.ff_labels.specs.Clear.{IsClear};
 ghost use Rattle.ff_composed.specs.Cuts.{all_given, graph_cuts};
+ghost use Rattle.ff_composed.specs.Pads.{HasFilter, HaveChannels};
 ghost use Rattle.ff_composed.specs.Ready.{counts_of, pads_of};
 
 /// Where the heads of what comes to a filter have time bases, so have those of what it gives.
@@ -34,4 +36,18 @@ pub fn graphs_are_drawings()
 pub fn texts_are_limited()
     ensures { (g : Text) (heads : List StreamHead) (outs : List OpenOut) → IsClear g → loops g ≡ false → configured g (all_given heads) ≡ Ok outs → AreTimed heads
         → IsLimited (map FramesOf heads) (map (λ o. FramesOf o.head) outs) (graph_means g (all_given heads)) (graph_cuts g (all_given heads)) }
+{}
+
+/// A graph without a loop that has a filter has an open input pad, and where all sound that comes to it has a channel an open output
+/// pad.
+pub fn graphs_have_open_pads()
+    ensures inputs { (g : Text) (heads : List StreamHead) (outs : List OpenOut) → IsClear g → loops g ≡ false → configured g (all_given heads) ≡ Ok outs
+        → HasFilter g → 1 ≤ length (open_ins g) }
+    ensures outputs { (g : Text) (heads : List StreamHead) (outs : List OpenOut) → IsClear g → loops g ≡ false → configured g (all_given heads) ≡ Ok outs
+        → HasFilter g → HaveChannels heads → 1 ≤ length outs }
+{}
+
+/// A graph that is written has a filter.
+pub fn written_graphs_have_filters()
+    ensures { (text : List ℕ) (g : Text) → IsGraph text g → HasFilter g }
 {}

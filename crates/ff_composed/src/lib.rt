@@ -16,5 +16,8 @@ mod lists;
 mod machine;
 
 pub use graph::{GraphFilter, make_graph};
-pub use laws::{configured_heads_are_timed, graphs_are_drawings, texts_are_limited};
+pub use laws::{
+    configured_heads_are_timed, graphs_are_drawings, graphs_have_open_pads, texts_are_limited,
+    written_graphs_have_filters,
+};
 pub use machine::graph_machine;

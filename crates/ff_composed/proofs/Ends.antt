@@ -1,0 +1,282 @@
+-- A graph whose filters were made has open pads: the first of them in their order is fed by none, and the last feeds none.
+use Rattle.std.proofs.Common.{◌≡◌, ◌⊎◌, inl, inr, ℕ, zero, suc, ◌+◌, ◌==◌, ◌≤◌, ◌<◌, Bool, true, false, ◌||◌, cond, is_some, Option, None, Some, Result, Ok, Err}
+use Rattle.std.proofs.Common.{List, [], ◌∷◌, ◌++◌, length, slice_get, slice_index_or, refl, ap, sym, ◌∙◌, subst, arith}
+use Rattle.std.proofs.lemmas.List.{length-replicate}
+use Rattle.std.specs.List.{AllByRecursion}
+use Rattle.ff_values.specs.declared.config.ConfigError.{ConfigError}
+use Rattle.ff_values.specs.declared.config.ConfigError.TheVariants.{Pads, Kind}
+use Rattle.ff_values.specs.declared.head.StreamHead.{StreamHead}
+use Rattle.ff_values.specs.declared.head.StreamHead.TheVariants.{Audio, Video}
+use Rattle.ff_lang.specs.declared.graph.Arg.{Arg}
+use Rattle.ff_lang.specs.declared.graph.Chain.{Chain}
+use Rattle.ff_lang.specs.declared.graph.Filter.{Filter}
+use Rattle.ff_lang.specs.declared.graph.Graph.{Graph}
+use Rattle.ff_lang.specs.Grammar.{IsFilter, IsChain, IsGraph, IsSeries}
+use Rattle.ff_filter.specs.Options.{Manual, option_of, is_sound, is_video}
+use Rattle.ff_filter.specs.Plain.{no_manual}
+use Rattle.ff_filter.specs.Views.{View}
+use Rattle.ff_spread.specs.Splits.{split_manual}
+use Rattle.ff_afilter.specs.Channels.{channels_view, channels_in, mono_head, mono_heads}
+use Rattle.ff_stacks.specs.declared.shape.Direction.{Direction}
+use Rattle.ff_stacks.specs.declared.shape.Direction.TheVariants.{Beside, Below}
+use Rattle.ff_stacks.specs.Heads.{input_fault}
+use Rattle.ff_stacks.specs.Options.{stack_manual, counted}
+use Rattle.ff_stacks.specs.Stacks.{StackOf, stack_view, head_of}
+use Rattle.ff_joins.specs.Arguments.{each_head, ranged, or_else, gives, last_from, last_number}
+use Rattle.ff_joins.specs.ConcatOptions.{concat_manual, concat_set, concat_start, segments_said, video_said, sound_said, is_of_kind, concat_view, concat_head}
+use Rattle.ff_joins.specs.JoinOptions.{join_manual, inputs_said}
+use Rattle.ff_joins.specs.JoinView.{join_view}
+use Rattle.ff_drawn.specs.declared.drawn.Pad.{Pad}
+use Rattle.ff_drawn.specs.Links.{Seen}
+use Rattle.ff_filters.specs.declared.name.FilterName.{FilterName}
+use Rattle.ff_filters.specs.declared.name.FilterName.TheVariants as filter
+use Rattle.ff_filters.specs.ReadBy.{read_by}
+use Rattle.ff_filters.specs.SetBy.{set_none, set_stack, set_join}
+use Rattle.ff_filters.specs.Configured.{Filtered, filtered, plain_by, stacked_as, stack_by, segments_as, concat_by, joined_as, join_by, configured_as}
+use Rattle.ff_filters.proofs.Parting.{if_ok, then_ok, unless_ok, parts_of}
+use Rattle.ff_filters.proofs.SettingsBy.{ranged_out}
+use Rattle.ff_graph.specs.Configured.{Made, OpenOut, Refused, configured, make_all, outs_of, open_outs}
+use Rattle.ff_graph.specs.Drawings.{seen_chain, seen_chains, seen_graph}
+use Rattle.ff_graph.specs.Opens.{filter_order, loops, open_in, open_ins, open_pads, sources_in}
+use Rattle.ff_labels.specs.Clear.{IsClear}
+use Rattle.ff_wired.specs.Flows.{IsForward, IsDrawing, source_at}
+use Rattle.ff_composed.specs.Cuts.{all_given}
+use Rattle.ff_composed.specs.Pads.{HasChannel, HasFilter, HaveChannels}
+use Rattle.ff_composed.specs.Ready.{pads_of, counts_of}
+use Rattle.ff_composed.proofs.Counts.{outputs_there}
+use Rattle.ff_composed.proofs.Drawing.{IsWhole, made_at, whole}
+use Rattle.ff_composed.proofs.Elements.{some_same, no_some, got, got_below, or_none, there_or_not, map_size, map_or}
+use Rattle.ff_composed.proofs.Fed.{pad_of}
+use Rattle.ff_composed.proofs.Limiting.{into_size, given_so}
+use Rattle.ff_composed.proofs.Made.{IsMade, GivenSo}
+use Rattle.ff_composed.proofs.Sourced.{sources_size}
+use Rattle.ff_composed.proofs.Whole.{outs_are}
+
+was_made : {X : Type 0} (shown : X → View) (outs : X → List StreamHead) (r : Result X ConfigError) (f : Filtered) → filtered shown outs r ≡ Ok f
+    → (m : X) × (r ≡ Ok m) × (f.outs ≡ outs m)
+was_made shown outs (Ok m) f e =
+    (let same : (let g : Filtered = record { view = shown m; outs = outs m } in g) ≡ f = cc in (m, refl, sym (ap (λ (g : Filtered). g.outs) same)))
+was_made shown outs (Err x) f e = cc
+
+-- ---- each filter takes a stream
+
+no_stack : (d : Direction) (args : List Arg) (m : StackOf) → stack_by d args [] ≡ Ok m → ⊥
+no_stack d args m e =
+    let first = unless_ok (input_fault (counted false 0 2 args) is_video []) _ m e in
+    let second = then_ok (stacked_as d []) (read_by stack_manual set_stack false 0 (record { inputs = 2; shortest = false }) args) m first.1 in
+    let clash : (let r : Result StackOf ConfigError = Err Pads in r) ≡ Ok m = second.2 in cc
+
+no_concat : (args : List Arg) (m : StreamHead × ℕ) → concat_by args [] ≡ Ok m → ⊥
+no_concat args m e =
+    let first = if_ok (0 == segments_said args) _ Pads m e in
+    let second = if_ok (each_head (is_of_kind (video_said args) (sound_said args)) []) _ Kind m first.1 in
+    let third = then_ok (λ s. segments_as []) (read_by concat_manual concat_set false 0 (concat_start args) args) m second.1 in
+    let clash : (let r : Result (StreamHead × ℕ) ConfigError = Err Pads in r) ≡ Ok m = third.2 in cc
+
+no_join : (args : List Arg) (m : StreamHead) → join_by args [] ≡ Ok m → ⊥
+no_join args m e =
+    let first = if_ok (0 == inputs_said args) _ Pads m e in
+    let second = if_ok (each_head is_sound []) _ Kind m first.1 in
+    let third = then_ok (λ s. joined_as []) (read_by join_manual set_join false 0 (record { inputs = 2 }) args) m second.1 in
+    let clash : (let r : Result StreamHead ConfigError = Err Pads in r) ≡ Ok m = third.2 in cc
+
+none_in : (name : FilterName) (args : List Arg) (f : Filtered) → configured_as name args [] ≡ Ok f → ⊥
+none_in filter.HStack args f e = let w = was_made stack_view (λ m. head_of m ∷ []) (stack_by Beside args []) f e in no_stack Beside args w.0 w.1
+none_in filter.VStack args f e = let w = was_made stack_view (λ m. head_of m ∷ []) (stack_by Below args []) f e in no_stack Below args w.0 w.1
+none_in filter.Concat args f e = let w = was_made concat_view (λ m. concat_head m ∷ []) (concat_by args []) f e in no_concat args w.0 w.1
+none_in filter.Join args f e = let w = was_made (join_view []) (λ head. head ∷ []) (join_by args []) f e in no_join args w.0 w.1
+none_in filter.Null args f e = cc
+none_in filter.Trim args f e = cc
+none_in filter.SetPts args f e = cc
+none_in filter.Crop args f e = cc
+none_in filter.Pad args f e = cc
+none_in filter.HFlip args f e = cc
+none_in filter.VFlip args f e = cc
+none_in filter.Fps args f e = cc
+none_in filter.Split args f e = cc
+none_in filter.ANull args f e = cc
+none_in filter.ATrim args f e = cc
+none_in filter.ASetPts args f e = cc
+none_in filter.ASplit args f e = cc
+none_in filter.ChannelSplit args f e = cc
+
+some_in : (name : FilterName) (args : List Arg) (heads : List StreamHead) (f : Filtered) → configured_as name args heads ≡ Ok f → 1 ≤ length heads
+some_in name args [] f e = absurd (none_in name args f e)
+some_in name args (h ∷ hs) f e = omega arith
+
+-- ---- and gives one
+
+or_least : (lo hi d : ℕ) (text : List ℕ) (o : Option ℕ) → ranged lo hi text ≡ o → lo ≤ d → lo ≤ or_else d o
+or_least lo hi d text None e le = le
+or_least lo hi d text (Some n) e le = (ranged_out lo hi n text e).low
+
+either_least : (b : Bool) (lo m n : ℕ) → lo ≤ m → lo ≤ n → lo ≤ cond b m n
+either_least true lo m n a b = a
+either_least false lo m n a b = b
+
+last_least : {S : Type 0} (manual : Manual S) (option lo hi d : ℕ) (keyed : Bool) (place n : ℕ) (args : List Arg) → lo ≤ d → lo ≤ n
+    → lo ≤ last_from manual option lo hi d keyed place n args
+last_least manual option lo hi d keyed place n [] a b = b
+last_least manual option lo hi d keyed place n (x ∷ args) a b =
+    last_least manual option lo hi d (keyed || is_some x.key) (place + 1) (cond (gives option (option_of manual keyed place x.key)) (or_else d (ranged lo hi x.value)) n)
+    args a (either_least (gives option (option_of manual keyed place x.key)) lo (or_else d (ranged lo hi x.value)) n
+    (or_least lo hi d x.value (ranged lo hi x.value) refl a) b)
+
+split_least : (args : List Arg) → 1 ≤ last_number split_manual 0 1 16 2 args
+split_least args = last_least split_manual 0 1 16 2 false 0 2 args (omega arith) (omega arith)
+
+sound_channels : (h : StreamHead) → is_sound h ≡ true → HasChannel h → 1 ≤ channels_in h
+sound_channels (Audio tb rate bits channels codec) s c = c
+sound_channels (Video tb format width height sar_num sar_den) s c = cc
+
+channel_out : (args : List Arg) (heads : List StreamHead) (f : Filtered) → AllByRecursion HasChannel heads
+    → filtered channels_view mono_heads (plain_by is_sound (λ head. head) args heads) ≡ Ok f → 1 ≤ length f.outs
+channel_out args heads f c e =
+    let w = was_made channels_view mono_heads (plain_by is_sound (λ head. head) args heads) f e in
+    let parts = parts_of is_sound no_manual set_none (record {}) (λ head s. Ok head) args heads w.0 w.1 in
+    let same : parts.head ≡ w.0 = cc (parts.made_is) in
+    let size : length f.outs ≡ channels_in w.0 = ap (λ (hs : List StreamHead). length hs) w.2 ∙ length-replicate (channels_in w.0) (mono_head w.0) in
+    let own : AllByRecursion HasChannel (parts.head ∷ []) = subst (λ (hs : List StreamHead). AllByRecursion HasChannel hs) parts.only c in
+    let some : 1 ≤ channels_in parts.head = sound_channels parts.head parts.kind own.0 in
+    let alike : channels_in parts.head ≡ channels_in w.0 = ap channels_in same in
+    omega (arith, size, some, alike)
+
+some_out : (name : FilterName) (args : List Arg) (heads : List StreamHead) (f : Filtered) → AllByRecursion HasChannel heads → configured_as name args heads ≡ Ok f
+    → 1 ≤ length f.outs
+some_out filter.ChannelSplit args heads f c e = channel_out args heads f c e
+some_out filter.Split args heads f c e = let h = outputs_there filter.Split args heads f e in let k = split_least args in omega (arith, h, k)
+some_out filter.ASplit args heads f c e = let h = outputs_there filter.ASplit args heads f e in let k = split_least args in omega (arith, h, k)
+some_out filter.Null args heads f c e = outputs_there filter.Null args heads f e
+some_out filter.Trim args heads f c e = outputs_there filter.Trim args heads f e
+some_out filter.SetPts args heads f c e = outputs_there filter.SetPts args heads f e
+some_out filter.Crop args heads f c e = outputs_there filter.Crop args heads f e
+some_out filter.Pad args heads f c e = outputs_there filter.Pad args heads f e
+some_out filter.HFlip args heads f c e = outputs_there filter.HFlip args heads f e
+some_out filter.VFlip args heads f c e = outputs_there filter.VFlip args heads f e
+some_out filter.Fps args heads f c e = outputs_there filter.Fps args heads f e
+some_out filter.ANull args heads f c e = outputs_there filter.ANull args heads f e
+some_out filter.ATrim args heads f c e = outputs_there filter.ATrim args heads f e
+some_out filter.ASetPts args heads f c e = outputs_there filter.ASetPts args heads f e
+some_out filter.HStack args heads f c e = outputs_there filter.HStack args heads f e
+some_out filter.VStack args heads f c e = outputs_there filter.VStack args heads f e
+some_out filter.Concat args heads f c e = outputs_there filter.Concat args heads f e
+some_out filter.Join args heads f c e = outputs_there filter.Join args heads f e
+
+-- ---- the first and the last in their order
+
+-- no filter is fed by one that doesn't come before it
+none_later : (sources : List (List (Option Pad))) (order : List ℕ) (j n f i : ℕ) (from : Pad) → IsForward sources order → slice_get order j ≡ Some f
+    → source_at sources f i ≡ Some (Some from) → slice_get order n ≡ Some from.filter → j ≤ n → ⊥
+none_later sources [] j n f i from w a s b le = no_some f a
+none_later sources (k ∷ ks) zero n f i from w a s b le =
+    let same : k ≡ f = some_same k f a in
+    w.1 i from (ap (λ (x : ℕ). source_at sources x i) same ∙ s) n b
+none_later sources (k ∷ ks) (suc j) zero f i from w a s b le = absurd (omega (arith, le))
+none_later sources (k ∷ ks) (suc j) (suc n) f i from w a s b le = none_later sources ks j n f i from w.2 a s b (omega (arith, le))
+
+-- a filter that has this pad is there
+row_there : (sources : List (List (Option Pad))) (f i : ℕ) (from : Option Pad) → source_at sources f i ≡ Some from → f < length sources
+row_there sources f i from s = at (there_or_not (slice_get sources f))
+  where
+    at : (slice_get sources f ≡ None) ⊎ ((row : List (Option Pad)) × (slice_get sources f ≡ Some row)) → f < length sources
+    at (inl none) = no_some from (ap (λ (row : List (Option Pad)). slice_get row i) (sym (or_none sources f [] none)) ∙ s)
+    at (inr row) = got_below sources f row.0 row.1
+
+count_there : (counts : List ℕ) (f p : ℕ) → p < slice_index_or counts f 0 → f < length counts
+count_there counts f p lt = at (there_or_not (slice_get counts f))
+  where
+    at : (slice_get counts f ≡ None) ⊎ ((n : ℕ) × (slice_get counts f ≡ Some n)) → f < length counts
+    at (inl none) = (let no : slice_index_or counts f 0 ≡ 0 = or_none counts f 0 none in absurd (omega (arith, lt, no)))
+    at (inr n) = got_below counts f n.0 n.1
+
+module _ (sources : List (List (Option Pad))) (order counts : List ℕ) (opens outs : List Pad) (d : IsDrawing sources order counts opens outs) where
+  -- an input pad of the first is open
+  first_open : (k : ℕ) → slice_get order 0 ≡ Some k → (from : Option Pad) → source_at sources k 0 ≡ Some from → 1 ≤ length opens
+  first_open k first None s = let o = d.opens_all (pad_of k 0) s in let lt = got_below opens o.0 (pad_of k 0) o.1 in omega (arith, lt)
+  first_open k first (Some p) s =
+      let counted = d.counted in
+      let there = count_there counts p.filter p.pad (d.there k 0 p s) in
+      let at = d.all p.filter (omega (arith, there, counted)) in
+      absurd (none_later sources order 0 at.0 k 0 p d.forward first s at.1 (omega arith))
+
+  -- an output pad of the last is open
+  last_open : (n k : ℕ) → suc n ≡ length order → slice_get order n ≡ Some k → 0 < slice_index_or counts k 0 → 1 ≤ length outs
+  last_open n k size last lt = at (d.outs_all (pad_of k 0) lt)
+    where
+      at : ((f : ℕ) × (i : ℕ) × (source_at sources f i ≡ Some (Some (pad_of k 0)))) ⊎ ((q : ℕ) × (slice_get outs q ≡ Some (pad_of k 0))) → 1 ≤ length outs
+      at (inl fed) =
+          (let comes = d.all fed.0 (row_there sources fed.0 fed.1 (Some (pad_of k 0)) fed.2) in
+          let before = got_below order comes.0 fed.0 comes.1 in
+          absurd (none_later sources order comes.0 n fed.0 fed.1 (pad_of k 0) d.forward comes.1 fed.2 last (omega (arith, before, size))))
+      at (inr q) = (let there = got_below outs q.0 (pad_of k 0) q.1 in omega (arith, there))
+
+-- ---- both
+
+-- so many filters in their order, of which there is at least one
+some_order : (ds : List Seen) (given : List (Option StreamHead)) (made : Made) → IsWhole ds given made → 1 ≤ length ds → 1 ≤ length (filter_order ds)
+some_order ds given made w some =
+    let rows : length (sources_in ds) ≡ length ds = sources_size ds 0 ds in
+    let at = w.drawing.all 0 (omega (arith, rows, some)) in
+    let there = got_below (filter_order ds) at.0 0 at.1 in
+    omega (arith, there)
+
+pub some_opens : (ds : List Seen) (given : List (Option StreamHead)) (made : Made) → IsWhole ds given made → 1 ≤ length ds → 1 ≤ length (open_pads ds)
+some_opens ds given made w some =
+    let long = some_order ds given made w some in
+    let k = got (filter_order ds) 0 (omega (arith, long)) in
+    let m = made_at ds given made.heads (filter_order ds) made.views 0 k.0 w.each k.1 in
+    let own : IsMade ds given made.heads k.0 m.0 = m.2 in
+    let ins = some_in own.made.name own.own.filter.args own.made.ins own.filter own.made.is in
+    let size = into_size (open_pads ds) given own.heads k.0 0 (slice_index_or (sources_in ds) k.0 []) own.made.ins own.made.comes in
+    let from = got (slice_index_or (sources_in ds) k.0 []) 0 (omega (arith, ins, size)) in
+    first_open (sources_in ds) (filter_order ds) (counts_of made.heads) (open_pads ds) (pads_of (open_outs ds made.heads)) w.drawing k.0 k.1 from.0 from.1
+
+pub some_outs : (ds : List Seen) (given : List (Option StreamHead)) (made : Made) → IsWhole ds given made → 1 ≤ length ds → GivenSo HasChannel given
+    → 1 ≤ length (open_outs ds made.heads)
+some_outs ds given made w some heard =
+    let long = some_order ds given made w some in
+    let last : (n : ℕ) × (suc n ≡ length (filter_order ds)) = before (length (filter_order ds)) long in
+    let size = last.1 in
+    let k = got (filter_order ds) last.0 (omega (arith, size)) in
+    let m = made_at ds given made.heads (filter_order ds) made.views last.0 k.0 w.each k.1 in
+    let own : IsMade ds given made.heads k.0 m.0 = m.2 in
+    let outs = some_out own.made.name own.own.filter.args own.made.ins own.filter (own.heard heard) own.made.is in
+    let count : slice_index_or (counts_of made.heads) k.0 0 ≡ length own.filter.outs =
+    map_or (λ (hs : List StreamHead). length hs) made.heads k.0 [] ∙ ap (λ (hs : List StreamHead). length hs) own.outs in
+    let open_one = last_open (sources_in ds) (filter_order ds) (counts_of made.heads) (open_pads ds) (pads_of (open_outs ds made.heads)) w.drawing last.0 k.0 size k.1
+    (omega (arith, outs, count)) in
+    let same = map_size (λ o. o.at) (open_outs ds made.heads) in
+    omega (arith, open_one, same)
+  where
+    before : (n : ℕ) → 1 ≤ n → (m : ℕ) × (suc m ≡ n)
+    before zero le = absurd (omega (arith, le))
+    before (suc n) le = (n, refl)
+
+pub text_pads : (g : Graph) (heads : List StreamHead) (os : List OpenOut) → IsClear g → loops g ≡ false → configured g (all_given heads) ≡ Ok os → HasFilter g
+    → (1 ≤ length (open_ins g)) × (HaveChannels heads → 1 ≤ length os)
+text_pads g heads os clear unlooped c some = at (make_all (seen_graph g) (all_given heads)) refl
+  where
+    at : (r : Result Made Refused) → make_all (seen_graph g) (all_given heads) ≡ r → (1 ≤ length (open_ins g)) × (HaveChannels heads → 1 ≤ length os)
+    at (Err e) m = (let no : (let q : Result (List OpenOut) Refused = Err e in q) ≡ Ok os = sym (ap (λ (r : Result Made Refused). outs_of (seen_graph g) r) m) ∙ c in cc)
+    at (Ok made) m =
+        (let w = whole g (all_given heads) made clear unlooped m in
+        let opens = some_opens (seen_graph g) (all_given heads) made w some in
+        let size : length (open_ins g) ≡ length (open_pads (seen_graph g)) = map_size (λ (p : Pad). open_in p.pad (slice_get (seen_graph g) p.filter))
+        (open_pads (seen_graph g)) in (
+          omega (arith, opens, size),
+          λ heard. subst (λ (x : List OpenOut). 1 ≤ length x) (sym (outs_are g (all_given heads) made os c m))
+              (some_outs (seen_graph g) (all_given heads) made w some (given_so HasChannel heads heard)),
+        ))
+
+-- ---- a graph that is written
+
+pub written_has : (text : List ℕ) (g : Graph) → IsGraph text g → HasFilter g
+written_has text g w = at g.chains w
+  where
+    in_chain : (fs : List Filter) (cs : List Chain) (first : List ℕ) → IsSeries IsFilter 44 first fs → 1 ≤ length (seen_chain false fs ++ seen_chains cs)
+    in_chain [] cs first h = absurd h
+    in_chain (f ∷ fs) cs first h = omega arith
+
+    at : (cs : List Chain) → IsSeries IsChain 59 text cs → 1 ≤ length (seen_chains cs)
+    at [] h = absurd h
+    at (c ∷ cs) h = in_chain c.filters cs h.0 h.3

@@ -1,0 +1,8 @@
+use Rattle.ff_composed.proofs.Ends.{text_pads}
+use Rattle.ff_composed.proofs.laws.graphs_have_open_pads.Goals as goal
+
+pub returns-clause-inputs : goal.returns-clause-inputs
+returns-clause-inputs c g heads outs clear unlooped made some = (text_pads g heads outs clear unlooped made some).0
+
+pub returns-clause-outputs : goal.returns-clause-outputs
+returns-clause-outputs c g heads outs clear unlooped made some = (text_pads g heads outs clear unlooped made some).1
