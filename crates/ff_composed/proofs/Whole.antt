@@ -1,5 +1,6 @@
 -- What a graph is whose filters were made.
-use Rattle.std.proofs.Common.{◌≡◌, ℕ, Bool, false, List, map, Option, Result, Ok, Err, refl, ap, sym, ◌∙◌, subst}
+use Rattle.std.proofs.Common.{◌≡◌, ℕ, Bool, false, List, [], ◌∷◌, length, map, Option, Result, Ok, Err, refl, ap, sym, ◌∙◌, subst}
+use Rattle.ff_time.specs.declared.cut.TimeCut.{TimeCut}
 use Rattle.ff_values.specs.declared.head.StreamHead.{StreamHead}
 use Rattle.ff_frame.specs.declared.item.Lane.{Lane}
 use Rattle.ff_frame.specs.declared.item.Lane.TheVariants.{Frames}
@@ -12,6 +13,7 @@ use Rattle.ff_net_filter.specs.Tasks.{Stands, filter_task}
 use Rattle.ff_drawn.specs.declared.drawn.Pad.{Pad}
 use Rattle.ff_drawn.specs.Links.{opens_from}
 use Rattle.ff_limited.specs.Cuts.{AreTimed}
+use Rattle.ff_cutting.specs.Cuts.{cut_at, cut_each}
 use Rattle.ff_graph.specs.Drawings.{seen_graph}
 use Rattle.ff_graph.specs.Opens.{filter_order, open_pads, sources_in, loops}
 use Rattle.ff_graph.specs.Configured.{Made, OpenOut, Refused, configured, make_all, outs_of, open_outs}
@@ -22,6 +24,7 @@ use Rattle.ff_labels.specs.Clear.{IsClear}
 use Rattle.ff_composed.specs.Cuts.{cuts_as, graph_cuts, outs_or_none, all_given, graph_outs}
 use Rattle.ff_composed.specs.Ready.{pads_of, counts_of, AreReady}
 use Rattle.ff_composed.proofs.Drawing.{whole, are_ready}
+use Rattle.ff_composed.proofs.Elements.{map_size}
 use Rattle.ff_composed.proofs.Limiting.{whole_limited}
 use Rattle.ff_composed.proofs.Meaning.{means_is}
 
@@ -96,3 +99,22 @@ stands_so v hurt long k n f h cuts size e s =
     let same : f ≡ h = (λ j ext q. e ext q j) in
     subst (λ (x : Ports → Ports). Stands v hurt long (start (filter_task n x (limit_cause n x cuts)))) same
     (subst (λ (m : ℕ). Stands v hurt long (start (filter_task m f (limit_cause m f cuts)))) size s)
+
+-- ---- with a cut behind each output
+
+framed : (os : List OpenOut) → map (λ o. Frames o.head) os ≡ map (λ h. Frames h) (map (λ o. o.head) os)
+framed [] = refl
+framed (o ∷ os) = ap (λ (ls : List Lane). Frames o.head ∷ ls) (framed os)
+
+-- these heads are those at the open output pads
+pub framed_so : (hs : List StreamHead) (os : List OpenOut) (outs : List Lane) → hs ≡ map (λ o. o.head) os → outs ≡ map (λ o. Frames o.head) os
+    → outs ≡ map (λ h. Frames h) hs
+framed_so hs os outs h o = o ∙ framed os ∙ ap (λ (xs : List StreamHead). map (λ (x : StreamHead). Frames x) xs) (sym h)
+
+pub counted_so : (hs : List StreamHead) (os : List OpenOut) (n : ℕ) → hs ≡ map (λ o. o.head) os → n ≡ length os → n ≡ length hs
+counted_so hs os n h e = e ∙ sym (ap (λ (xs : List StreamHead). length xs) h ∙ map_size (λ (o : OpenOut). o.head) os)
+
+-- cuts behind what does the same
+pub cut_so : (hs ks : List StreamHead) (cs : List TimeCut) (f h : Ports → Ports) → hs ≡ ks → ((ext : Ports) (q : ℕ) → f ext q ≡ h ext q) → (ext : Ports) (q : ℕ)
+    → cut_each hs cs f ext q ≡ cut_each ks cs h ext q
+cut_so hs ks cs f h same e ext q = ap (λ (xs : List StreamHead). cut_at xs cs q (f ext q)) same ∙ ap (λ (s : Flow). cut_at ks cs q s) (e ext q)

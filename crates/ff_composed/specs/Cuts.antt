@@ -1,10 +1,11 @@
 -- Where the limits of a graph cut, and what the graph is to do as a node of a network.
 use Rattle.std.specs.Prelude.{Bool, false, List, [], length, map, Option, Some, Result, Ok, Err}
+use Rattle.ff_time.specs.declared.cut.TimeCut.{TimeCut}
 use Rattle.ff_values.specs.declared.head.StreamHead.{StreamHead}
 use Rattle.ff_frame.specs.Ports.{stream_at}
 use Rattle.ff_lang.specs.declared.graph.Graph.{Graph}
 use Rattle.ff_net.specs.Pasts.{Task}
-use Rattle.ff_filter.specs.Joins.{Flow}
+use Rattle.ff_filter.specs.Joins.{Flow, Ports}
 use Rattle.ff_net_filter.specs.Limiting.{limit_cause}
 use Rattle.ff_net_filter.specs.Tasks.{filter_task}
 use Rattle.ff_drawn.specs.Links.{Seen}
@@ -13,6 +14,7 @@ use Rattle.ff_graph.specs.Opens.{filter_order, open_pads, sources_in}
 use Rattle.ff_graph.specs.Configured.{Made, OpenOut, Refused, configured, make_all}
 use Rattle.ff_graph.specs.Meaning.{graph_means}
 use Rattle.ff_limited.specs.Cuts.{cuts_in}
+use Rattle.ff_cutting.specs.Cuts.{cut_each}
 use Rattle.ff_wired.specs.Flows.{no_flows}
 use Rattle.ff_wired.specs.Limits.{cuts_from}
 
@@ -36,7 +38,16 @@ all_given heads = map (λ h. Some h) heads
 abbrev pub graph_outs : Graph → List StreamHead → List OpenOut
 graph_outs g heads = outs_or_none (configured g (all_given heads))
 
--- What a graph does as one node: its function, whose outputs are broken off by a limit where a limit of one of its filters cuts.
-abbrev pub graph_task : Graph → List StreamHead → Task
-graph_task g heads = filter_task (length (graph_outs g heads)) (graph_means g (all_given heads))
-    (limit_cause (length (graph_outs g heads)) (graph_means g (all_given heads)) (graph_cuts g (all_given heads)))
+-- the heads at the open output pads
+abbrev pub out_heads : Graph → List StreamHead → List StreamHead
+out_heads g heads = map (λ o. o.head) (graph_outs g heads)
+
+-- The function of a graph on streams of these heads, with one of these cuts behind each open output pad.
+abbrev pub graph_cut : Graph → List StreamHead → List TimeCut → Ports → Ports
+graph_cut g heads cuts = cut_each (out_heads g heads) cuts (graph_means g (all_given heads))
+
+-- What a graph does as one node: its function with a cut behind each output, which are broken off by a limit where a limit of one of its
+-- filters cuts.
+abbrev pub graph_task : Graph → List StreamHead → List TimeCut → Task
+graph_task g heads cuts = filter_task (length (graph_outs g heads)) (graph_cut g heads cuts)
+    (limit_cause (length (graph_outs g heads)) (graph_cut g heads cuts) (graph_cuts g (all_given heads)))

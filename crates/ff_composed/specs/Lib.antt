@@ -1,3 +1,4 @@
 pub mod Cuts
+pub mod Machines
 pub mod Pads
 pub mod Ready

@@ -1,4 +1,4 @@
-ghost use Rattle.std.specs.Prelude.{◌≡◌, ℕ, IfOk, IfErr, length, map};
+ghost use Rattle.std.specs.Prelude.{◌≡◌, ◌≤◌, ℕ, IfOk, IfErr, length, map};
 ghost use Rattle.ff_frame.specs.declared.item.Lane.TheVariants.{Frames as FramesOf};
 ghost use Rattle.ff_filter.specs.Joins.{Ports};
 ghost use Rattle.ff_filter.specs.Views.{IsNew};
@@ -11,11 +11,12 @@ ghost use Rattle.ff_graph.specs.Pads.{heads_in, output_of, IsRefused};
 ghost use Rattle.ff_wired.specs.Flows.{no_flows, flows_from, IsDrawing};
 ghost use Rattle.ff_wired.specs.Limits.{flows_at};
 ghost use Rattle.ff_labels.specs.Clear.{IsClear};
-ghost use Rattle.ff_composed.specs.Cuts.{all_given, graph_cuts, graph_outs};
+ghost use Rattle.ff_composed.specs.Cuts.{all_given, graph_cuts, graph_outs, out_heads};
+ghost use Rattle.ff_composed.specs.Pads.{HasFilter, HaveChannels};
 ghost use Rattle.ff_composed.specs.Ready.{AreReady, counts_of, pads_of as pads_in_order};
 
 use crate::connecting::connect;
-use crate::lists::{counts, given, in_lanes, out_lanes, pads_of};
+use crate::lists::{counts, given, heads_of, in_lanes, out_lanes, pads_of};
 use ff_dag::Dag;
 use ff_drawn::open_inputs;
 use ff_filter::Filter;
@@ -33,7 +34,8 @@ pub type GraphFilter = Dag<AnyFilter>;
 fn compose(alloc: Global, made: Configured, heads: &[StreamHead]) -> Result<GraphFilter, AllocError>
     requires drawing { IsDrawing (pads_in made.sources.items) made.order.items (counts_of (heads_in made.heads.items)) (opens_from 0 (pads_in made.sources.items))
         (pads_in_order (map output_of made.outs.items)) }
-    requires ready { AreReady (pads_in made.sources.items) (counts_of (heads_in made.heads.items)) made.order.items (map (⟦<AnyFilter as Filter>⟧.view) made.filters.items) }
+    requires ready { AreReady (pads_in made.sources.items) (counts_of (heads_in made.heads.items)) made.order.items
+        (map (⟦<AnyFilter as Filter>⟧.view) made.filters.items) }
     requires counted { length heads.now ≡ length (opens_from 0 (pads_in made.sources.items)) }
     ensures ins { IfOk result (λ m. (⟦<GraphFilter as Filter>⟧.view m).ins ≡ map FramesOf heads.now) }
     ensures outs { IfOk result (λ m. (⟦<GraphFilter as Filter>⟧.view m).outs ≡ map (λ o. FramesOf o.head) (map output_of made.outs.items)) }
@@ -64,25 +66,35 @@ fn compose(alloc: Global, made: Configured, heads: &[StreamHead]) -> Result<Grap
     connect(alloc, &drawing, filters, ins, outs)
 }
 
+/// A graph as one filter.
+#[derive(Drop)]
+pub struct MadeGraph {
+    /// The filter.
+    pub filter: GraphFilter,
+    /// The heads of its outputs.
+    pub outs: Vec<StreamHead>,
+}
+
 /// A graph as one filter, where a stream of each of these heads comes to its open input pads in the order of writing. `Loop` only where
 /// its filters feed one another in a loop.
-pub fn make_graph(
-    alloc: Global,
-    graph: &Graph,
-    heads: &[StreamHead],
-) -> Result<GraphFilter, Refusal>
+pub fn make_graph(alloc: Global, graph: &Graph, heads: &[StreamHead]) -> Result<MadeGraph, Refusal>
     requires clear { IsClear graph.now }
     requires counted { length heads.now ≡ length (open_ins graph.now) }
     ensures refused { IfErr result (IsRefused graph.now (all_given heads.now)) }
-    ensures new { IfOk result (λ m. IsNew (⟦<GraphFilter as Filter>⟧.view m)) }
-    ensures ins { IfOk result (λ m. (⟦<GraphFilter as Filter>⟧.view m).ins ≡ map FramesOf heads.now) }
-    ensures outs { IfOk result (λ m. (⟦<GraphFilter as Filter>⟧.view m).outs ≡ map (λ o. FramesOf o.head) (graph_outs graph.now heads.now)) }
-    ensures means { IfOk result (λ m. (ext : Ports) (q : ℕ) → (⟦<GraphFilter as Filter>⟧.view m).rest ext q ≡ graph_means graph.now (all_given heads.now) ext q) }
-    ensures limited { IfOk result (λ m. AreTimed heads.now → IsLimited (⟦<GraphFilter as Filter>⟧.view m).ins (⟦<GraphFilter as Filter>⟧.view m).outs
-        (⟦<GraphFilter as Filter>⟧.view m).rest (graph_cuts graph.now (all_given heads.now))) }
+    ensures heads { IfOk result (λ m. m.outs.items ≡ out_heads graph.now heads.now) }
+    ensures new { IfOk result (λ m. IsNew (⟦<GraphFilter as Filter>⟧.view m.filter)) }
+    ensures ins { IfOk result (λ m. (⟦<GraphFilter as Filter>⟧.view m.filter).ins ≡ map FramesOf heads.now) }
+    ensures outs { IfOk result (λ m. (⟦<GraphFilter as Filter>⟧.view m.filter).outs ≡ map (λ o. FramesOf o.head) (graph_outs graph.now heads.now)) }
+    ensures means { IfOk result (λ m. (ext : Ports) (q : ℕ)
+        → (⟦<GraphFilter as Filter>⟧.view m.filter).rest ext q ≡ graph_means graph.now (all_given heads.now) ext q) }
+    ensures limited { IfOk result (λ m. AreTimed heads.now → IsLimited (⟦<GraphFilter as Filter>⟧.view m.filter).ins
+        (⟦<GraphFilter as Filter>⟧.view m.filter).outs (⟦<GraphFilter as Filter>⟧.view m.filter).rest (graph_cuts graph.now (all_given heads.now))) }
+    ensures some_ins { IfOk result (λ m. HasFilter graph.now → 1 ≤ length (⟦<GraphFilter as Filter>⟧.view m.filter).ins) }
+    ensures some_outs { IfOk result (λ m. HasFilter graph.now → HaveChannels heads.now → 1 ≤ length (⟦<GraphFilter as Filter>⟧.view m.filter).outs) }
 {
     let given = given(alloc, heads)?;
     let made = configure_graph(alloc, graph, &given)?;
+    let outs = heads_of(alloc, &made.outs)?;
     let filter = compose(alloc, made, heads)?;
-    Ok(filter)
+    Ok(MadeGraph { filter, outs })
 }

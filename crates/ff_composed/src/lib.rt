@@ -3,10 +3,11 @@
 //! ```text
 //!   text, heads ──► configure_graph (ff_graph): the filters, and what feeds each
 //!                     └──► drawn_plan (ff_wired): the edges between them ──► Dag (ff_dag): one filter
+//!   cuts ──► Cutting (ff_cutting): a cut behind each output
 //! ```
 //!
 //! The filter does what the definition of the graph says, pad by pad; its outputs are broken off by a limit only where a limit of one of
-//! its filters cuts.
+//! its filters cuts. What it gives may then be cut in time, output by output.
 #![tactic(auto)]
 
 mod connecting;
@@ -15,9 +16,9 @@ mod laws;
 mod lists;
 mod machine;
 
-pub use graph::{GraphFilter, make_graph};
+pub use graph::{GraphFilter, MadeGraph, make_graph};
 pub use laws::{
     configured_heads_are_timed, graphs_are_drawings, graphs_have_open_pads, texts_are_limited,
     written_graphs_have_filters,
 };
-pub use machine::graph_machine;
+pub use machine::{CutGraph, graph_machine};

@@ -48,6 +48,17 @@ pub(crate) fn pads_of(alloc: Global, outs: &[OpenOutput]) -> Result<Vec<Pad>, Al
     Ok(pads)
 }
 
+/// The heads at the open output pads.
+pub(crate) fn heads_of(alloc: Global, outs: &[OpenOutput]) -> Result<Vec<StreamHead>, AllocError>
+    ensures { IfOk result (λ heads. heads.items ≡ map (λ o. o.head) (map output_of outs.now)) }
+{
+    let mut heads = Vec::new(alloc);
+    'outs: for at in 0..outs.len() {
+        heads.push(outs[at].head)?;
+    }
+    Ok(heads)
+}
+
 /// Frames of each of these heads.
 pub(crate) fn in_lanes(alloc: Global, heads: &[StreamHead]) -> Result<Vec<Lane>, AllocError>
     ensures { IfOk result (λ lanes. lanes.items ≡ map FramesOf heads.now) }

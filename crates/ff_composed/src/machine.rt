@@ -1,4 +1,4 @@
-ghost use Rattle.std.specs.Prelude.{◌≡◌, IfOk, IfErr, None, length, map};
+ghost use Rattle.std.specs.Prelude.{◌≡◌, IfOk, IfErr, None, [], length, map};
 ghost use Rattle.ff_frame.specs.declared.item.Lane.TheVariants.{Frames as FramesOf};
 ghost use Rattle.ff_net.specs.Pasts.{start};
 ghost use Rattle.ff_limited.specs.Cuts.{AreTimed};
@@ -6,32 +6,46 @@ ghost use Rattle.ff_graph.specs.Opens.{open_ins};
 ghost use Rattle.ff_graph.specs.Pads.{IsRefused};
 ghost use Rattle.ff_labels.specs.Clear.{IsClear};
 ghost use Rattle.ff_composed.specs.Cuts.{all_given, graph_outs, graph_task};
+ghost use Rattle.ff_composed.specs.Pads.{HasFilter, HaveChannels};
 
-use crate::graph::{GraphFilter, make_graph};
+use crate::graph::{GraphFilter, MadeGraph, make_graph};
+use ff_cutting::Cutting;
 use ff_frame::StreamHead;
 use ff_graph::Refusal;
 use ff_lang::Graph;
 use ff_net::Machine;
 use ff_net_filter::Alone;
+use ff_time::TimeCut;
 use std::alloc::Global;
 
-/// A graph as one machine of a network, where a stream of each of these heads comes to its open input pads in the order of writing.
+/// The filters of a graph with a cut behind each output, as one filter.
+pub type CutGraph = Cutting<GraphFilter>;
+
+/// A graph as one machine of a network, where a stream of each of these heads comes to its open input pads in the order of writing, with
+/// one of these cuts behind each of its open output pads.
 pub fn graph_machine(
     alloc: Global,
     graph: &Graph,
     heads: &[StreamHead],
-) -> Result<Alone<GraphFilter>, Refusal>
+    cuts: &[TimeCut],
+) -> Result<Alone<CutGraph>, Refusal>
     requires clear { IsClear graph.now }
     requires counted { length heads.now ≡ length (open_ins graph.now) }
+    requires each { length cuts.now ≡ length (graph_outs graph.now heads.now) }
     ensures refused { IfErr result (IsRefused graph.now (all_given heads.now)) }
-    ensures ins { IfOk result (λ m. (⟦<Alone<GraphFilter> as Machine>⟧.view m).in_lanes ≡ map FramesOf heads.now) }
-    ensures outs { IfOk result (λ m. (⟦<Alone<GraphFilter> as Machine>⟧.view m).out_lanes ≡ map (λ o. FramesOf o.head) (graph_outs graph.now heads.now)) }
-    ensures source { IfOk result (λ m. (⟦<Alone<GraphFilter> as Machine>⟧.view m).source ≡ None) }
-    ensures sound { IfOk result (λ m. (⟦<Alone<GraphFilter> as Machine>⟧.view m).fault ≡ None) }
-    ensures device { IfOk result (λ m. (⟦<Alone<GraphFilter> as Machine>⟧.view m).device ≡ None) }
-    ensures failures { IfOk result (λ m. (⟦<Alone<GraphFilter> as Machine>⟧.view m).failures ≡ 0) }
-    ensures stands { IfOk result (λ m. AreTimed heads.now → (⟦<Alone<GraphFilter> as Machine>⟧.view m).stands (start (graph_task graph.now heads.now))) }
+    ensures ins { IfOk result (λ m. (⟦<Alone<CutGraph> as Machine>⟧.view m).in_lanes ≡ map FramesOf heads.now) }
+    ensures outs { IfOk result (λ m. (⟦<Alone<CutGraph> as Machine>⟧.view m).out_lanes ≡ map (λ o. FramesOf o.head) (graph_outs graph.now heads.now)) }
+    ensures source { IfOk result (λ m. (⟦<Alone<CutGraph> as Machine>⟧.view m).source ≡ None) }
+    ensures sound { IfOk result (λ m. (⟦<Alone<CutGraph> as Machine>⟧.view m).fault ≡ None) }
+    ensures device { IfOk result (λ m. (⟦<Alone<CutGraph> as Machine>⟧.view m).device ≡ None) }
+    ensures failures { IfOk result (λ m. (⟦<Alone<CutGraph> as Machine>⟧.view m).failures ≡ 0) }
+    ensures stands { IfOk result (λ m. AreTimed heads.now
+        → (⟦<Alone<CutGraph> as Machine>⟧.view m).stands (start (graph_task graph.now heads.now cuts.now))) }
+    ensures has_ins { IfOk result (λ m. HasFilter graph.now → (⟦<Alone<CutGraph> as Machine>⟧.view m).in_lanes ≡ [] → ⊥) }
+    ensures has_outs { IfOk result (λ m. HasFilter graph.now → HaveChannels heads.now → (⟦<Alone<CutGraph> as Machine>⟧.view m).out_lanes ≡ [] → ⊥) }
 {
-    let filter = make_graph(alloc, graph, heads)?;
-    Ok(Alone::new(filter))
+    let made = make_graph(alloc, graph, heads)?;
+    let MadeGraph { filter, outs } = made;
+    let cutting = Cutting::new(alloc, filter, &outs, cuts)?;
+    Ok(Alone::new(cutting))
 }

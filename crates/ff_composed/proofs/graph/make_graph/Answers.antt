@@ -1,5 +1,6 @@
-use Rattle.std.proofs.Common.{◌≡◌, List, map, Option, sym, ap, ◌∙◌}
+use Rattle.std.proofs.Common.{◌≡◌, List, length, map, Option, sym, ap, ◌∙◌, arith}
 use Rattle.ff_values.specs.declared.head.StreamHead.{StreamHead}
+use Rattle.ff_frame.specs.declared.item.Lane.{Lane}
 use Rattle.ff_frame.specs.declared.item.Lane.TheVariants.{Frames}
 use Rattle.ff_filter.specs.Joins.{Ports}
 use Rattle.ff_filters.specs.contracts.any.AnyFilterFilter.TheImpl.{ghosts}
@@ -8,8 +9,11 @@ use Rattle.ff_dag.specs.Graphs.{graph_view, spots}
 use Rattle.ff_graph.specs.Configured.{OpenOut, configured}
 use Rattle.ff_graph.specs.Meaning.{graph_means}
 use Rattle.ff_graph.specs.Pads.{made_by, output_of}
+use Rattle.ff_graph.specs.declared.outputs.OpenOutput.{OpenOutput}
 use Rattle.ff_composed.specs.Cuts.{all_given, graph_cuts}
-use Rattle.ff_composed.proofs.Whole.{drawn_so, ready_so, means_so, text_limited, limited_so}
+use Rattle.ff_composed.proofs.Elements.{map_size}
+use Rattle.ff_composed.proofs.Ends.{text_pads}
+use Rattle.ff_composed.proofs.Whole.{drawn_so, ready_so, means_so, outs_there, text_limited, limited_so}
 use Rattle.ff_composed.proofs.graph.make_graph.Goals as goal
 
 pub compose-requires-clause-drawing : goal.compose-requires-clause-drawing
@@ -48,3 +52,37 @@ returns-clause-limited c t =
     c.in_ok-filter.ensures.ins c.in_ok-filter.ensures.outs (returns-clause-means c)
     (text_limited c.args.graph.now c.args.heads.now (map output_of m.outs.items) c.requires.clear e.unlooped
     (sym (ap (λ (hs : List (Option StreamHead)). configured c.args.graph.now hs) given) ∙ e.made) t)
+
+pub returns-clause-heads : goal.returns-clause-heads
+returns-clause-heads c =
+    let m = c.in_ok-made.made in
+    let e = c.in_ok-made.ensures in
+    let given : c.deref.result.now ≡ all_given c.args.heads.now = c.deref.ensures.value ∙ c.in_ok-given.ensures in
+    c.in_ok-outs.ensures ∙ ap (λ (os : List OpenOutput). map (λ (o : OpenOut). o.head) (map output_of os)) c.deref-2.ensures.value
+    ∙ ap (λ (os : List OpenOut). map (λ (o : OpenOut). o.head) os) (outs_there c.args.graph.now c.args.heads.now (map output_of m.outs.items)
+    (sym (ap (λ (hs : List (Option StreamHead)). configured c.args.graph.now hs) given) ∙ e.made))
+
+pub returns-clause-some_ins : goal.returns-clause-some_ins
+returns-clause-some_ins c some =
+    let m = c.in_ok-made.made in
+    let e = c.in_ok-made.ensures in
+    let given : c.deref.result.now ≡ all_given c.args.heads.now = c.deref.ensures.value ∙ c.in_ok-given.ensures in
+    let pads = text_pads c.args.graph.now c.args.heads.now (map output_of m.outs.items) c.requires.clear e.unlooped
+    (sym (ap (λ (hs : List (Option StreamHead)). configured c.args.graph.now hs) given) ∙ e.made) some in
+    let opens = pads.0 in
+    let size : length (graph_view c.in_ok-filter.filter.graph.plan (spots ghosts.view c.in_ok-filter.filter.graph.places.items)).ins ≡ length c.args.heads.now =
+    ap (λ (ls : List Lane). length ls) c.in_ok-filter.ensures.ins ∙ map_size (λ (h : StreamHead). Frames h) c.args.heads.now in
+    omega (arith, opens, size, c.requires.counted)
+
+pub returns-clause-some_outs : goal.returns-clause-some_outs
+returns-clause-some_outs c some heard =
+    let m = c.in_ok-made.made in
+    let e = c.in_ok-made.ensures in
+    let given : c.deref.result.now ≡ all_given c.args.heads.now = c.deref.ensures.value ∙ c.in_ok-given.ensures in
+    let pads = text_pads c.args.graph.now c.args.heads.now (map output_of m.outs.items) c.requires.clear e.unlooped
+    (sym (ap (λ (hs : List (Option StreamHead)). configured c.args.graph.now hs) given) ∙ e.made) some in
+    let outs = pads.1 heard in
+    let size : length (graph_view c.in_ok-filter.filter.graph.plan (spots ghosts.view c.in_ok-filter.filter.graph.places.items)).outs
+    ≡ length (map output_of m.outs.items) =
+    ap (λ (ls : List Lane). length ls) c.in_ok-filter.ensures.outs ∙ map_size (λ (o : OpenOut). Frames o.head) (map output_of m.outs.items) in
+    omega (arith, outs, size)
