@@ -1,2 +1,3 @@
+pub mod CutSteps
 pub mod LineSteps
 pub mod SpreadSteps

@@ -2,9 +2,10 @@
 use Rattle.std.proofs.Common.{◌≡◌, ◌≢◌, ℕ, zero, suc, ◌+◌, ◌<◌, ◌≤◌, List, [], ◌∷◌, ◌++◌, ◌⊎◌, length, slice_index_or, slice_set, Some, true, Bool, refl, ap, sym, ◌∙◌, subst, arith, inl, inr, get_or-set_same, get_or-set_other, false}
 use Rattle.std.proofs.lemmas.List.{length-set}
 use Rattle.ff_frame.specs.declared.item.Item.{Item}
+use Rattle.ff_filter.specs.declared.after.After.{After}
 use Rattle.ff_net.proofs.Flows.{same_or_not}
 use Rattle.ff_coding.specs.declared.ready.Ready.{Ready}
-use Rattle.ff_coding.specs.Lines.{line_of, line_at, next_at, HasRoom, HaveRoom, AreSame}
+use Rattle.ff_coding.specs.Lines.{line_of, line_at, next_at, HasRoom, HaveRoom, closing_items, AreSame}
 use Rattle.ff_coding.specs.Puts.{IsLast, AreNext}
 use Rattle.ff_coding.specs.Spreads.{Line}
 
@@ -143,15 +144,15 @@ next_all made outs rs q old new last same is e h n k less on = elim (same_or_not
         elim (lower_or_above a b (λ s. m (ap suc s))) as (λ _. (suc a < suc b) ⊎ (suc b < suc a)) [ inl l ↦ inl (omega arith) | inr g ↦ inr (omega arith) ]
 
 -- the item that was to be put next was put
-pub put_queue : (made : Item) (first rs : List Ready) (q : ℕ) (old new : Ready) → q < length rs → old ≡ slice_index_or rs q old
+pub put_queue : (made : Item) (after : After) (first rs : List Ready) (q : ℕ) (old new : Ready) → q < length rs → old ≡ slice_index_or rs q old
     → line_at rs q ≡ line_at first q → next_at rs q ≡ next_at first q → next_at first q ≡ Some made → (line_at first q).stopped ≡ false
-    → ((x : Item) → old.next ≡ Some x → old.stopped ≡ false → new.queue.items ≡ old.queue.items ++ x ∷ [])
-    → (line_at (slice_set rs q new) q).queue ≡ (line_at first q).queue ++ made ∷ []
-put_queue made first rs q old new lt is line next some on puts =
+    → ((x : Item) → old.next ≡ Some x → old.stopped ≡ false → new.queue.items ≡ old.queue.items ++ x ∷ closing_items after)
+    → (line_at (slice_set rs q new) q).queue ≡ (line_at first q).queue ++ made ∷ closing_items after
+put_queue made after first rs q old new lt is line next some on puts =
     let old_line : line_of old ≡ line_at first q = sym (line_is rs q old lt is) ∙ line in
     let old_next : old.next ≡ Some made = sym (next_is rs q old lt is) ∙ (next ∙ some) in
     let goes : old.stopped ≡ false = ap (λ (x : Line). x.stopped) old_line ∙ on in
-    ap (λ (x : Line). x.queue) (line_set_same rs q new lt) ∙ (puts made old_next goes ∙ ap (λ (x : Line). x.queue ++ made ∷ []) old_line)
+    ap (λ (x : Line). x.queue) (line_set_same rs q new lt) ∙ (puts made old_next goes ∙ ap (λ (x : Line). x.queue ++ made ∷ closing_items after) old_line)
 
 pub put_stopped : (first rs : List Ready) (q k : ℕ) (old new : Ready) → q < length rs → old ≡ slice_index_or rs q old → new.stopped ≡ old.stopped
     → (line_at rs k).stopped ≡ (line_at first k).stopped → (line_at (slice_set rs q new) k).stopped ≡ (line_at first k).stopped

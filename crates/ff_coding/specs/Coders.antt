@@ -1,5 +1,5 @@
 -- The decoder and the encoder as machines: their lanes, their faults, and when an input of theirs is spent.
-use Rattle.std.specs.Prelude.{ℕ, List, [], ◌∷◌, replicate, Option}
+use Rattle.std.specs.Prelude.{◌≡◌, ℕ, List, [], ◌∷◌, replicate, Option}
 use Rattle.ff_values.specs.declared.packet.Pkt.{Pkt}
 use Rattle.ff_values.specs.declared.head.StreamHead.{StreamHead}
 use Rattle.ff_frame.specs.declared.item.Item.{Item}
@@ -9,9 +9,9 @@ use Rattle.ff_net.specs.declared.fault.Fault.{Fault}
 use Rattle.ff_net.specs.Pasts.{Past}
 use Rattle.ff_coding.specs.declared.dec.Dec.{Dec}
 use Rattle.ff_coding.specs.declared.enc.Enc.{Enc}
-use Rattle.ff_coding.specs.Making.{fault_by}
+use Rattle.ff_coding.specs.Making.{by_items, fault_by}
 use Rattle.ff_coding.specs.Standing.{outputs_of, spread_spent, SpreadStands}
-use Rattle.ff_coding.specs.Decoding.{decoded_item}
+use Rattle.ff_coding.specs.Decoding.{cut_frames}
 use Rattle.ff_coding.specs.Encoding.{encoded_item}
 
 -- ---- a decoder of any codec, by the head of its stream and the frames that it makes
@@ -30,7 +30,8 @@ abbrev pub dec_spent : {D : Type 0} → Dec D → ℕ → Type 0
 dec_spent m p = spread_spent m.spread p
 
 abbrev pub dec_stands : {D : Type 0} → (D → StreamHead) → (D → Pkt → Option Item) → Dec D → Past → Type 0
-dec_stands head made m past = SpreadStands (Packets (head m.decoder)) (Frames (head m.decoder)) (decoded_item (made m.decoder)) m.spread past
+dec_stands head made m past =
+    (m.head ≡ head m.decoder) × SpreadStands (Packets (head m.decoder)) (Frames (head m.decoder)) (cut_frames (head m.decoder) (made m.decoder) m.cut) m.spread past
 
 -- ---- an encoder to any codec, by the heads that it serves and makes of them, and the packets that it makes
 
@@ -48,4 +49,4 @@ enc_spent m p = spread_spent m.spread p
 
 abbrev pub enc_stands : {E : Type 0} → (E → StreamHead → Type 0) → (E → StreamHead → StreamHead) → (E → Item → Option Pkt) → Enc E → Past → Type 0
 enc_stands serves coded made m past =
-    serves m.encoder m.head × SpreadStands (Frames m.head) (Packets (coded m.encoder m.head)) (encoded_item (made m.encoder)) m.spread past
+    serves m.encoder m.head × SpreadStands (Frames m.head) (Packets (coded m.encoder m.head)) (by_items (encoded_item (made m.encoder))) m.spread past

@@ -15,10 +15,10 @@ use Rattle.ff_coding.specs.declared.dec.Dec.{Dec}
 use Rattle.ff_coding.specs.declared.enc.Enc.{Enc}
 use Rattle.ff_coding.specs.declared.spread.Spread.{Spread}
 use Rattle.ff_coding.specs.Coders.{dec_stands, enc_stands}
-use Rattle.ff_coding.specs.Decoding.{decoded_item}
+use Rattle.ff_coding.specs.Decoding.{cut_frames}
 use Rattle.ff_coding.specs.Encoding.{encoded_item}
 use Rattle.ff_coding.specs.Lines.{line_at}
-use Rattle.ff_coding.specs.Making.{Outcome, fault_by}
+use Rattle.ff_coding.specs.Making.{Making, by_items, fault_by}
 use Rattle.ff_coding.specs.SpreadLaws.{no_device, spreads_valid, spreads_keeps, spreads_monotone, spreads_cause_stays, spreads_calm, spreads_given, spreads_unbroken, spreads_caused, spreads_spent_only, spreads_closed_spent, spreads_done_spent, spreads_settles}
 use Rattle.ff_coding.specs.Standing.{outputs_of, spread_spent, SpreadStands}
 use Rattle.ff_coding.specs.Spreads.{Line}
@@ -53,7 +53,7 @@ abbrev pub spread_view : Lane → Lane → Spread → (Past → Type 0) → View
 spread_view lane_in lane_out m stands = coder_view (lane_in ∷ []) (replicate (outputs_of m) lane_out) m.damage (spread_spent m) stands
 
 -- the laws of what gives on each output what it makes of its input
-module _ (lane_in lane_out : Lane) (f : Item → Outcome) (m : Spread) (stands : Past → Type 0)
+module _ (lane_in lane_out : Lane) (f : Making) (m : Spread) (stands : Past → Type 0)
     (is : (past : Past) → stands past → SpreadStands lane_in lane_out f m past) where
   abbrev n : ℕ
   n = outputs_of m
@@ -88,8 +88,8 @@ module _ {D : Type 0} (head : D → StreamHead) (made : D → Pkt → Option Ite
 
   pub dec_laws : (m : Dec D) → Laws (dec_view m)
   dec_laws m =
-      spread_laws (Packets (head m.decoder)) (Frames (head m.decoder)) (decoded_item (made m.decoder)) m.spread (dec_stands head made m)
-      (λ past s. s)
+      spread_laws (Packets (head m.decoder)) (Frames (head m.decoder)) (cut_frames (head m.decoder) (made m.decoder) m.cut) m.spread
+      (dec_stands head made m) (λ past s. s.1)
 
 module _ {E : Type 0} (serves : E → StreamHead → Type 0) (coded : E → StreamHead → StreamHead) (made : E → Item → Option Pkt) where
   abbrev pub enc_view : Enc E → View
@@ -97,7 +97,7 @@ module _ {E : Type 0} (serves : E → StreamHead → Type 0) (coded : E → Stre
 
   pub enc_laws : (m : Enc E) → Laws (enc_view m)
   enc_laws m =
-      spread_laws (Frames m.head) (Packets (coded m.encoder m.head)) (encoded_item (made m.encoder)) m.spread (enc_stands serves coded made m)
+      spread_laws (Frames m.head) (Packets (coded m.encoder m.head)) (by_items (encoded_item (made m.encoder))) m.spread (enc_stands serves coded made m)
       (λ past s. s.1)
 
 pub same_shape : (lane_in lane_out : Lane) (m k : Spread) (stands stands' : Past → Type 0) → outputs_of k ≡ outputs_of m

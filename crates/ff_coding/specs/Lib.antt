@@ -1,5 +1,6 @@
 pub mod Coders
 pub mod CodingLaws
+pub mod CutFrames
 pub mod DecodeLaws
 pub mod Decoding
 pub mod EncodeLaws

@@ -1,7 +1,10 @@
 -- The outputs of a machine, as they are.
-use Rattle.std.specs.Prelude.{◌≡◌, ℕ, zero, suc, ◌<◌, true, List, [], ◌∷◌, length, All, Option, None}
+use Rattle.std.specs.Prelude.{◌≡◌, ℕ, zero, suc, ◌+◌, ◌≤◌, Bool, true, false, List, [], ◌∷◌, length, All, Option, None}
 use Rattle.std.specs.VecDeque.{deque_len, deque_capacity}
 use Rattle.ff_frame.specs.declared.item.Item.{Item}
+use Rattle.ff_frame.specs.declared.item.Item.TheVariants.{End, Broken}
+use Rattle.ff_filter.specs.declared.after.After.{After}
+use Rattle.ff_filter.specs.declared.after.After.TheVariants.{More, Whole, Broke}
 use Rattle.ff_coding.specs.declared.ready.Ready.{Ready}
 use Rattle.ff_coding.specs.Spreads.{Line}
 
@@ -20,9 +23,20 @@ next_at [] q = None
 next_at (r ∷ rs) zero = r.next
 next_at (r ∷ rs) (suc q) = next_at rs q
 
--- there is room for an item more
+-- there is room for an item more, and for one that closes the output behind it
 abbrev pub HasRoom : Ready → Type 0
-HasRoom ready = deque_len ready.queue < deque_capacity ready.queue
+HasRoom ready = deque_len ready.queue + 2 ≤ deque_capacity ready.queue
+
+-- what closes an output that is over
+abbrev pub closing_items : After → List Item
+closing_items More = []
+closing_items Whole = End ∷ []
+closing_items Broke = Broken ∷ []
+
+-- what waits on an output before anything comes
+abbrev pub first_items : Bool → List Item
+first_items true = End ∷ []
+first_items false = []
 
 abbrev pub HaveRoom : List Ready → Type 0
 HaveRoom outs = All HasRoom outs

@@ -40,6 +40,15 @@ mark_by (Some offset) m = broken
 abbrev pub made_stream : (Item → Outcome) → Flow → Flow
 made_stream f s = record { items = made_items f s.items; mark = mark_by (damage_in f s.items) s.mark }
 
+-- what is made of the stream of an input; and where that breaks it off, since the input is damaged there
+pub record Making : Type 0 where
+  pub stream : Flow → Flow
+  pub damage : Flow → Option ℕ
+
+-- what is made item by item
+abbrev pub by_items : (Item → Outcome) → Making
+by_items f = record { stream = λ s. made_stream f s; damage = λ s. damage_in f s.items }
+
 -- a damaged input is a fault
 abbrev pub fault_by : Option ℕ → Option Fault
 fault_by None = None

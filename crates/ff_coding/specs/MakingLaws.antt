@@ -6,15 +6,16 @@ use Rattle.ff_values.specs.declared.head.StreamHead.{StreamHead}
 use Rattle.ff_values.specs.declared.head.StreamHead.TheVariants.{Audio as AudioHead, Video as VideoHead}
 use Rattle.ff_frame.specs.declared.item.Item.{Item}
 use Rattle.ff_frame.specs.declared.item.Lane.{Lane}
-use Rattle.ff_frame.specs.Stream.{Mark, still_open, LiesBelow, opened, opened_mark}
+use Rattle.ff_frame.specs.Stream.{Mark, still_open, whole, broken, LiesBelow, opened, opened_mark}
 use Rattle.ff_frame.specs.Order.{prefix_self, same_stream}
 use Rattle.ff_frame.specs.Ports.{IsClosed, IsUnbroken}
 use Rattle.ff_frame.specs.Lanes.{base_of, head_of, StartsAfter, Follows, InOrder, IsItemFor, EndsInTime, IsValid}
 use Rattle.ff_frame.specs.Times.{HasTime, start_of, end_of, ticks, IsInTime}
+use Rattle.ff_filter.specs.Joins.{joined, joined_at}
 use Rattle.ff_coders.specs.Made.{IsMadeOf}
 use Rattle.ff_net.specs.Ways.{Flow}
-use Rattle.ff_coding.specs.Making.{Outcome, gives, passes, breaks, and_items, made_items, or_damage, damage_in, mark_by, made_stream}
-use Rattle.ff_coding.specs.Spreads.{IsOutcomeOf, Carries}
+use Rattle.ff_coding.specs.Making.{Outcome, gives, passes, breaks, and_items, made_items, or_damage, damage_in, mark_by, made_stream, by_items}
+use Rattle.ff_coding.specs.Spreads.{IsOutcomeOf, Carries, Makes}
 
 -- ---- one stream after another
 
@@ -228,3 +229,46 @@ module _ (lane_in lane_out : Lane) (f : Item → Outcome) (c : Carries lane_in l
     few = at_most (length (made_items f s.items)) (length s.items) (2 ^ 40) (fewer s.items) v.few;
     in_time = time_for s.items v.shape.each v.in_time;
   }
+
+-- ---- as the items come
+
+module _ (f : Item → Outcome) where
+  abbrev GoesOn : List Item → Mark → Flow → Type 0
+  GoesOn xs m u =
+      (made_stream f (joined_at xs m u) ≡ joined_at (made_items f xs) (mark_by (damage_in f xs) m) (made_stream f u))
+      × (damage_in f (joined_at xs m u).items ≡ damage_in f u.items)
+
+  goes_on_at : (xs : List Item) (m : Mark) (u : Flow) → m ≡ still_open → mark_by (damage_in f xs) m ≡ still_open → GoesOn xs m u
+  goes_on_at xs whole u o p = cc
+  goes_on_at xs broken u o p = cc
+  goes_on_at xs still_open u o p = elim (some_or_none (damage_in f xs)) as (λ _. GoesOn xs still_open u) [
+    | inl d ↦ (let clash : broken ≡ still_open = sym (ap (λ (k : Option ℕ). mark_by k still_open) d.1) ∙ p in cc)
+    | inr none ↦ (
+      same_stream (made_stream f (joined_at xs still_open u)) (joined_at (made_items f xs) still_open (made_stream f u))
+          (items_after f xs u.items none)
+          (ap (λ (k : Option ℕ). mark_by k u.mark) (damage_after f xs u.items none))
+          ∙ ap (λ (k : Mark). joined_at (made_items f xs) k (made_stream f u)) (sym p),
+      damage_after f xs u.items none,
+    )
+  ]
+
+  -- what is made of a stream, and then of what comes behind it
+  pub made_goes_on : (t u : Flow) → t.mark ≡ still_open → (made_stream f t).mark ≡ still_open
+      → (made_stream f (joined t u) ≡ joined (made_stream f t) (made_stream f u)) × (damage_in f (joined t u).items ≡ damage_in f u.items)
+  made_goes_on t u o p = goes_on_at t.items t.mark u o p
+
+  pub made_broken : (s : Flow) (offset : ℕ) → damage_in f s.items ≡ Some offset → (made_stream f s).mark ≡ broken
+  made_broken s offset e = ap (λ (d : Option ℕ). mark_by d s.mark) e
+
+-- what is made item by item
+pub items_make : (lane_in lane_out : Lane) (f : Item → Outcome) → Carries lane_in lane_out f → Makes lane_in lane_out (by_items f)
+items_make lane_in lane_out f c = record {
+  below = made_below f;
+  calm = made_calm f;
+  closed = made_closed f;
+  valid = made_valid lane_in lane_out f c;
+  unbroken = made_unbroken f;
+  broken = made_broken f;
+  stays = damage_stays f;
+  goes_on = made_goes_on f;
+}

@@ -1,8 +1,9 @@
 -- What functions of all outputs say.
-use Rattle.std.specs.Prelude.{◌≡◌, ℕ, ◌<◌, List, [], ◌∷◌, ◌++◌, length, true, false, Some}
+use Rattle.std.specs.Prelude.{◌≡◌, ℕ, ◌<◌, List, ◌∷◌, ◌++◌, length, true, false, Some}
 use Rattle.ff_frame.specs.declared.item.Item.{Item}
+use Rattle.ff_filter.specs.declared.after.After.{After}
 use Rattle.ff_coding.specs.declared.ready.Ready.{Ready}
-use Rattle.ff_coding.specs.Lines.{line_at, next_at}
+use Rattle.ff_coding.specs.Lines.{line_at, next_at, closing_items}
 
 -- the last output that is wanted
 pub record IsLast (outs : List Ready) (last : ℕ) : Type 0 where
@@ -14,8 +15,8 @@ pub record IsLast (outs : List Ready) (last : ℕ) : Type 0 where
 abbrev pub AreNext : Item → ℕ → List Ready → Type 0
 AreNext made end outs = (q : ℕ) → q < end → (line_at outs q).stopped ≡ false → next_at outs q ≡ Some made
 
--- this item was put on each output that is wanted
-pub record ArePut (made : Item) (old new : List Ready) : Type 0 where
+-- this item was put on each output that is wanted, and behind it what closes the output, if it is over
+pub record ArePut (made : Item) (after : After) (old new : List Ready) : Type 0 where
   pub count : length new ≡ length old
   pub stopped : (q : ℕ) → (line_at new q).stopped ≡ (line_at old q).stopped
-  pub queues : (q : ℕ) → q < length old → (line_at old q).stopped ≡ false → (line_at new q).queue ≡ (line_at old q).queue ++ made ∷ []
+  pub queues : (q : ℕ) → q < length old → (line_at old q).stopped ≡ false → (line_at new q).queue ≡ (line_at old q).queue ++ made ∷ closing_items after

@@ -2,7 +2,6 @@
 use Rattle.std.specs.Prelude.{◌≡◌, ℕ, zero, suc, ◌<◌, ◌≤◌, ◌⊎◌, Bool, true, false, List, [], ◌∷◌, map, length, replicate, Option, None, Some, refl}
 use Rattle.std.proofs.Common.{sym, subst, ap, inl, inr, ◌∙◌, arith}
 use Rattle.std.proofs.lemmas.List.{length-replicate}
-use Rattle.ff_frame.specs.declared.item.Item.{Item}
 use Rattle.ff_frame.specs.declared.item.Lane.{Lane}
 use Rattle.ff_frame.specs.Stream.{LiesBelow, opened}
 use Rattle.ff_frame.specs.Order.{below_self, unbroken_below, stream_at-opened}
@@ -14,8 +13,7 @@ use Rattle.ff_net.specs.Pasts.{Past, IsIn, due}
 use Rattle.ff_net.specs.Laws.{CauseStays, OutputsClose, MaySpend, Settles}
 use Rattle.ff_net.proofs.Flows.{due_meant}
 use Rattle.ff_net.proofs.Matters.{may_spend}
-use Rattle.ff_coding.specs.Making.{Outcome, damage_in, made_stream, fault_by}
-use Rattle.ff_coding.specs.MakingLaws.{made_below, made_calm, made_closed, made_unbroken, made_valid, damage_stays}
+use Rattle.ff_coding.specs.Making.{Making, fault_by}
 use Rattle.ff_coding.specs.Spreads.{spread, Line, AllStopped, is_spent_spread, Spreads}
 
 -- ---- one stream for each port
@@ -83,7 +81,7 @@ some_goes_on (suc n) lines = elim (some_goes_on n lines) as (λ _. AllStopped (s
     pick all true e = inl (last all e)
     pick all false e = inr (n, omega arith, e)
 
-module _ (lane_in lane_out : Lane) (f : Item → Outcome) (n : ℕ) (lines : ℕ → Line) (closed : Bool) (found : Option ℕ) (past : Past)
+module _ (lane_in lane_out : Lane) (f : Making) (n : ℕ) (lines : ℕ → Line) (closed : Bool) (found : Option ℕ) (past : Past)
     (s : Spreads lane_in lane_out f n lines closed found past) where
   pub spreads_valid : AreValid (lane_in ∷ []) past.got
   spreads_valid zero = s.valid
@@ -91,8 +89,8 @@ module _ (lane_in lane_out : Lane) (f : Item → Outcome) (n : ℕ) (lines : ℕ
 
   keeps_at : (ss : List Flow) → AreValid (lane_in ∷ []) ss → AreValid (replicate n lane_out) (spread n f ss)
   keeps_at ss v q = elim (below_or q n) [
-    | inl lt ↦ rw (lane_replicate n q lane_out lt, at_replicate n q (made_stream f (stream_at ss 0)) lt) (made_valid lane_in lane_out f s.carries (stream_at ss 0) (v 0))
-    | inr le ↦ rw (lane_past n q lane_out le) (past_replicate n q (made_stream f (stream_at ss 0)) le)
+    | inl lt ↦ rw (lane_replicate n q lane_out lt, at_replicate n q (f.stream (stream_at ss 0)) lt) (s.makes.valid (stream_at ss 0) (v 0))
+    | inr le ↦ rw (lane_past n q lane_out le) (past_replicate n q (f.stream (stream_at ss 0)) le)
   ]
 
   pub spreads_keeps : (ss : List Flow) → AreValid (lane_in ∷ []) ss → AreValid (replicate n lane_out) (past.task.means ss)
@@ -100,21 +98,21 @@ module _ (lane_in lane_out : Lane) (f : Item → Outcome) (n : ℕ) (lines : ℕ
 
   pub spreads_monotone : IsMonotone (AreValid (lane_in ∷ [])) past.task.means
   spreads_monotone = subst (λ (g : List Flow → List Flow). IsMonotone (AreValid (lane_in ∷ [])) g) (sym s.means)
-      (λ rs ss v w b. all_at n (made_stream f (stream_at rs 0)) (made_stream f (stream_at ss 0)) (made_below f (stream_at rs 0) (stream_at ss 0) (b 0)))
+      (λ rs ss v w b. all_at n (f.stream (stream_at rs 0)) (f.stream (stream_at ss 0)) (s.makes.below (stream_at rs 0) (stream_at ss 0) (b 0)))
 
   pub spreads_cause_stays : CauseStays (lane_in ∷ []) past.task.cause
   spreads_cause_stays rs ss c v w b e =
-      let before : fault_by (damage_in f (stream_at rs 0).items) ≡ Some c = sym (s.cause rs) ∙ e in
-      let d = damage_fault (damage_in f (stream_at rs 0).items) c before in
-      let later : damage_in f (stream_at ss 0).items ≡ Some d.0 = damage_stays f (stream_at rs 0) (stream_at ss 0) d.0 (b 0) d.1 in
+      let before : fault_by (f.damage (stream_at rs 0)) ≡ Some c = sym (s.cause rs) ∙ e in
+      let d = damage_fault (f.damage (stream_at rs 0)) c before in
+      let later : f.damage (stream_at ss 0) ≡ Some d.0 = s.makes.stays (stream_at rs 0) (stream_at ss 0) d.0 (b 0) d.1 in
       s.cause ss ∙ (ap fault_by later ∙ (sym (ap fault_by d.1) ∙ before))
 
   calm_at : (rs : List Flow) → AllBelow (map opened (spread n f rs)) (spread n f (map opened rs))
   calm_at rs q =
-      let out = made_stream f (stream_at rs 0) in
-      let later = made_stream f (stream_at (map opened rs) 0) in
+      let out = f.stream (stream_at rs 0) in
+      let later = f.stream (stream_at (map opened rs) 0) in
       let here : LiesBelow (opened out) later =
-      subst (λ (x : Flow). LiesBelow (opened out) (made_stream f x)) (sym (stream_at-opened rs 0)) (made_calm f (stream_at rs 0)) in
+      subst (λ (x : Flow). LiesBelow (opened out) (f.stream x)) (sym (stream_at-opened rs 0)) (s.makes.calm (stream_at rs 0)) in
       rw (stream_at-opened (spread n f rs) q) (elim (below_or q n) [
         | inl lt ↦ rw (at_replicate n q out lt, at_replicate n q later lt) here
         | inr le ↦ rw (past_replicate n q out le, past_replicate n q later le) (below_self nothing)
@@ -128,7 +126,7 @@ module _ (lane_in lane_out : Lane) (f : Item → Outcome) (n : ℕ) (lines : ℕ
 
   below_at : (q : ℕ) → LiesBelow (stream_at past.gave q) (stream_at (spread n f past.got) q)
   below_at q =
-      let out = made_stream f (stream_at past.got 0) in
+      let out = f.stream (stream_at past.got 0) in
       elim (below_or q n) [
         | inl lt ↦ rw (at_replicate n q out lt) (s.below q lt)
         | inr le ↦ rw (past_replicate n q out le, s.beyond q le) (below_self nothing)
@@ -139,10 +137,10 @@ module _ (lane_in lane_out : Lane) (f : Item → Outcome) (n : ℕ) (lines : ℕ
 
   pub spreads_unbroken : fault_by found ≡ None → AllUnbroken past.got → AllUnbroken past.gave
   spreads_unbroken e u q =
-      let out = made_stream f (stream_at past.got 0) in
-      let none : damage_in f (stream_at past.got 0).items ≡ None = sym s.found_is ∙ fault_damage found e in
+      let out = f.stream (stream_at past.got 0) in
+      let none : f.damage (stream_at past.got 0) ≡ None = sym s.found_is ∙ fault_damage found e in
       elim (below_or q n) [
-        | inl lt ↦ unbroken_below (stream_at past.gave q) out (s.below q lt) (made_unbroken f (stream_at past.got 0) none (u 0))
+        | inl lt ↦ unbroken_below (stream_at past.gave q) out (s.below q lt) (s.makes.unbroken (stream_at past.got 0) none (u 0))
         | inr le ↦ subst (λ (x : Flow). IsUnbroken x) (sym (s.beyond q le)) (λ b. cc)
       ]
 
@@ -152,8 +150,8 @@ module _ (lane_in lane_out : Lane) (f : Item → Outcome) (n : ℕ) (lines : ℕ
   out_count : length (replicate n lane_out) ≡ n
   out_count = simp length-replicate
 
-  meant_at : (q : ℕ) → q < n → stream_at (past.task.means past.got) q ≡ made_stream f (stream_at past.got 0)
-  meant_at q lt = ap (λ (g : List Flow → List Flow). stream_at (g past.got) q) s.means ∙ at_replicate n q (made_stream f (stream_at past.got 0)) lt
+  meant_at : (q : ℕ) → q < n → stream_at (past.task.means past.got) q ≡ f.stream (stream_at past.got 0)
+  meant_at q lt = ap (λ (g : List Flow → List Flow). stream_at (g past.got) q) s.means ∙ at_replicate n q (f.stream (stream_at past.got 0)) lt
 
   closes_from : (closed ≡ true) ⊎ AllStopped n lines → OutputsClose (length (replicate n lane_out)) past
   closes_from (inl e) q lt goes =
@@ -168,7 +166,7 @@ module _ (lane_in lane_out : Lane) (f : Item → Outcome) (n : ℕ) (lines : ℕ
       (inr (subst (λ (k : ℕ). 0 < k) (sym out_count) (let le : 1 ≤ n = s.some in omega (arith, le)), closes_from sp.1))
 
   pub spreads_closed_spent : (p : ℕ) → p < 1 → IsClosed (stream_at past.got p) → is_spent_spread n lines closed p
-  spreads_closed_spent zero lt c = (lt, inl (s.closed_is.1 (made_closed f (stream_at past.got 0) c)))
+  spreads_closed_spent zero lt c = (lt, inl (s.closed_is.1 (s.makes.closed (stream_at past.got 0) c)))
   spreads_closed_spent (suc p) lt c = absurd (omega arith)
 
   not_both : (b : Bool) → b ≡ true → b ≡ false → ⊥
@@ -190,7 +188,7 @@ module _ (lane_in lane_out : Lane) (f : Item → Outcome) (n : ℕ) (lines : ℕ
   settles_at : Settles (lane_in ∷ []) (length (replicate n lane_out)) (spread n f)
   settles_at ss v c q lt =
       let here : q < n = subst (λ (k : ℕ). q < k) out_count lt in
-      rw (at_replicate n q (made_stream f (stream_at ss 0)) here) (made_closed f (stream_at ss 0) (c 0 (omega arith)))
+      rw (at_replicate n q (f.stream (stream_at ss 0)) here) (s.makes.closed (stream_at ss 0) (c 0 (omega arith)))
 
   pub spreads_settles : Settles (lane_in ∷ []) (length (replicate n lane_out)) past.task.means
   spreads_settles = subst (λ (g : List Flow → List Flow). Settles (lane_in ∷ []) (length (replicate n lane_out)) g) (sym s.means) settles_at

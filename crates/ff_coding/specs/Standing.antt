@@ -1,18 +1,19 @@
 -- A machine with its outputs, and what it has behind it.
-use Rattle.std.specs.Prelude.{◌≡◌, ℕ, length, false, List, Option, None, Some}
-use Rattle.ff_frame.specs.declared.item.Item.{Item}
+use Rattle.std.specs.Prelude.{◌≡◌, ℕ, length, Bool, true, false, List, [], Option, None, Some}
 use Rattle.ff_frame.specs.declared.item.Lane.{Lane}
+use Rattle.ff_frame.specs.Ports.{nothing}
+use Rattle.ff_frame.specs.Stream.{whole_stream}
 use Rattle.ff_net.specs.Ways.{Flow}
 use Rattle.ff_net.specs.Pasts.{Task, Past, no_events}
 use Rattle.ff_coding.specs.declared.spread.Spread.{Spread}
 use Rattle.ff_coding.specs.Lines.{line_at, AreSame}
-use Rattle.ff_coding.specs.Making.{Outcome}
+use Rattle.ff_coding.specs.Making.{Making}
 use Rattle.ff_coding.specs.Spreads.{spread, damage_cause, is_spent_spread, Spreads}
 
 abbrev pub outputs_of : Spread → ℕ
 outputs_of m = length m.outs.items
 
-abbrev pub SpreadStands : Lane → Lane → (Item → Outcome) → Spread → Past → Type 0
+abbrev pub SpreadStands : Lane → Lane → Making → Spread → Past → Type 0
 SpreadStands lane_in lane_out f m past = Spreads lane_in lane_out f (length m.outs.items) (line_at m.outs.items) m.closed m.damage past
 
 abbrev pub spread_spent : Spread → ℕ → Type 0
@@ -24,8 +25,13 @@ pub record IsSameSpread (old new : Spread) : Type 0 where
   pub closed : new.closed ≡ old.closed
   pub damage : new.damage ≡ old.damage
 
+-- what is there before anything comes: nothing, or all
+abbrev pub at_first : Bool → Flow
+at_first true = whole_stream []
+at_first false = nothing
+
 -- a task to make this of the input and give it on so many outputs
-pub record IsSpreadTask (n : ℕ) (f : Item → Outcome) (task : Task) : Type 0 where
+pub record IsSpreadTask (n : ℕ) (f : Making) (task : Task) : Type 0 where
   pub means : task.means ≡ spread n f
   pub cause : (ss : List Flow) → task.cause ss ≡ damage_cause f ss
   pub plain : task.source ≡ false

@@ -1,5 +1,6 @@
 // What follows of the definitions of decoding and encoding alone.
 ghost use Rattle.std.specs.Prelude.{◌≡◌, ◌<◌, ◌++◌, ◌∷◌, [], ℕ, List, Option, Some, None, map, IsSome};
+ghost use Rattle.ff_time.specs.declared.cut.TimeCut.{TimeCut};
 ghost use Rattle.ff_values.specs.declared.packet.Pkt.{Pkt};
 ghost use Rattle.ff_values.specs.declared.head.StreamHead.{StreamHead};
 ghost use Rattle.ff_frame.specs.declared.item.Item.{Item};
@@ -11,9 +12,10 @@ ghost use Rattle.ff_frame.specs.Ports.{stream_at};
 ghost use Rattle.ff_frame.specs.Stream.{Mark, LiesBelow, broken};
 ghost use Rattle.ff_frame.specs.Within.{within, passes_limits};
 ghost use Rattle.ff_net.specs.Ways.{Flow};
+ghost use Rattle.ff_cutting.specs.Cuts.{cut};
 ghost use Rattle.ff_coders.specs.Choices.{CanDecode, CanEncode, frame_made, packet_made};
 ghost use Rattle.ff_coders.specs.Decoding.{pcm_frame, raw_frame, IsPictureHead};
-ghost use Rattle.ff_coding.specs.Making.{damage_in};
+ghost use Rattle.ff_coding.specs.Making.{damage_in, fault_by};
 ghost use Rattle.ff_coding.specs.CodingLaws.{IsUndamaged, packets_in};
 ghost use Rattle.ff_coding.specs.Decoding.{decoded_item, decoded, dec_task};
 ghost use Rattle.ff_coding.specs.Encoding.{encoded, enc_task};
@@ -39,26 +41,52 @@ pub fn plain_packets_are_undamaged()
     ensures raw { (head : StreamHead) (items : List Item) → IsPictureHead head → damage_in (decoded_item (raw_frame head)) items ≡ None }
 {}
 
-/// What a decoder, where each packet has a frame, and an encoder mean keeps the broken rule: a broken input counts as open
-/// without a further item, and the output is broken exactly where the input is.
+/// What a decoder, where each packet has a frame, and an encoder mean keeps the broken rule, with a cut as well: a broken input
+/// counts as open without a further item, and the output is broken exactly where the input is and no cut was over before.
 pub fn coding_keeps_the_broken_rule()
     ensures decoding { (made : Pkt → Option Item) → KeepsBrokenRule (IsUndamaged (decoded_item made)) (λ ss. decoded made (stream_at ss 0)) }
+    ensures cut_decoding { (head : StreamHead) (made : Pkt → Option Item) (c : TimeCut)
+        → KeepsBrokenRule (IsUndamaged (decoded_item made)) (λ ss. cut head c (decoded made (stream_at ss 0))) }
     ensures encoding { (made : Item → Option Pkt) → KeepsBrokenRule (λ ss. Unit {0}) (λ ss. encoded made (stream_at ss 0)) }
 {}
 
-/// Each output of a decoder has the frames, and the output of an encoder the packets.
+/// Each output of a decoder has the frames, cut, and the output of an encoder the packets.
 pub fn coding_is_on_each_output()
-    ensures decoding { (made : Pkt → Option Item) (outputs q : ℕ) (ss : List Flow) → q < outputs
-        → stream_at ((dec_task made outputs).means ss) q ≡ decoded made (stream_at ss 0) }
+    ensures decoding { (head : StreamHead) (made : Pkt → Option Item) (c : TimeCut) (outputs q : ℕ) (ss : List Flow) → q < outputs
+        → stream_at ((dec_task head made c outputs).means ss) q ≡ cut head c (decoded made (stream_at ss 0)) }
     ensures encoding { (made : Item → Option Pkt) (ss : List Flow) → stream_at ((enc_task made).means ss) 0 ≡ encoded made (stream_at ss 0) }
 {}
 
-/// The frames of valid packets are valid, and pass no limit: cutting them there changes nothing.
+/// With no start and no length nothing is cut: each output has all frames, and the fault is the first packet that has none.
+pub fn decoding_without_a_cut()
+    ensures stream { (head : StreamHead) (made : Pkt → Option Item) (c : TimeCut) (outputs q : ℕ) (ss : List Flow) → c.start ≡ 0 → c.length ≡ None
+        → q < outputs → stream_at ((dec_task head made c outputs).means ss) q ≡ decoded made (stream_at ss 0) }
+    ensures fault { (head : StreamHead) (made : Pkt → Option Item) (c : TimeCut) (outputs : ℕ) (ss : List Flow) → c.start ≡ 0 → c.length ≡ None
+        → (dec_task head made c outputs).cause ss ≡ fault_by (damage_in (decoded_item made) (stream_at ss 0).items) }
+{}
+
+/// Damage is a fault where what is left by the cut breaks off by it. Where that is whole, or goes on, it is none: the cut was over
+/// before the damage, or nothing is damaged.
+pub fn damage_behind_a_cut_is_no_fault()
+    ensures broken_off { (head : StreamHead) (made : Pkt → Option Item) (c : TimeCut) (outputs : ℕ) (ss : List Flow)
+        → (cut head c (decoded made (stream_at ss 0))).mark ≡ broken
+        → (dec_task head made c outputs).cause ss ≡ fault_by (damage_in (decoded_item made) (stream_at ss 0).items) }
+    ensures not_broken { (head : StreamHead) (made : Pkt → Option Item) (c : TimeCut) (outputs : ℕ) (ss : List Flow)
+        → ((cut head c (decoded made (stream_at ss 0))).mark ≡ broken → ⊥) → (dec_task head made c outputs).cause ss ≡ None }
+    ensures at_once { (head : StreamHead) (made : Pkt → Option Item) (c : TimeCut) (outputs : ℕ) (ss : List Flow) → c.length ≡ Some 0
+        → (dec_task head made c outputs).cause ss ≡ None }
+{}
+
+/// The frames of valid packets are valid, whole or cut, and pass no limit: cutting them there changes nothing.
 pub fn decoding_passes_no_limit()
     ensures valid { (head : StreamHead) (packets : Flow) → CanDecode head → IsValid (Packets head) packets
         → IsValid (Frames head) (decoded (frame_made head) packets) }
     ensures within_limits { (head : StreamHead) (packets : Flow) → CanDecode head → IsValid (Packets head) packets
         → within (passes_limits (Frames head)) (decoded (frame_made head) packets) ≡ decoded (frame_made head) packets }
+    ensures cut_valid { (head : StreamHead) (c : TimeCut) (packets : Flow) → CanDecode head → IsValid (Packets head) packets
+        → IsValid (Frames head) (cut head c (decoded (frame_made head) packets)) }
+    ensures cut_within_limits { (head : StreamHead) (c : TimeCut) (packets : Flow) → CanDecode head → IsValid (Packets head) packets
+        → within (passes_limits (Frames head)) (cut head c (decoded (frame_made head) packets)) ≡ cut head c (decoded (frame_made head) packets) }
 {}
 
 /// The packets of valid frames are valid, and pass no limit: cutting them there changes nothing.

@@ -6,19 +6,25 @@ ghost use Rattle.ff_coding.specs.Decoding.{decoded_item};
 ghost use Rattle.ff_coding.specs.Steps.{FollowsFrom, GivesBack};
 ghost use Rattle.ff_coding.specs.Taken.{IsTakenPacket};
 
+use crate::cut::{cut_step, is_uncut, starts_over};
 use crate::spread::Spread;
 use crate::step::{Step, closing, discard};
 use ff_coders::Decoder;
-use ff_frame::{Event, Item, Pkt, Refused, Ticket};
+use ff_filter::After;
+use ff_frame::{Event, Item, Pkt, Refused, StreamHead, Ticket};
 use ff_net::{Fault, Machine};
+use ff_time::TimeCut;
 use std::alloc::{AllocError, Global};
 
-/// Decodes the packets of a stream, whatever its codec: gives the frame of each packet on each output, and how the stream
-/// ends. A packet that has no frame breaks it off, with the fault that the input is damaged there.
+/// Decodes the packets of a stream, whatever its codec: gives what a cut leaves of the frame of each packet on each output, and
+/// how the stream ends. A packet that has no frame breaks it off, with the fault that the input is damaged there; behind the end
+/// of the cut no packet is looked at.
 #[derive(Drop)]
 pub struct Dec<D> {
     alloc: Global,
     decoder: D,
+    head: StreamHead,
+    cut: TimeCut,
     spread: Spread,
 }
 
@@ -29,18 +35,27 @@ impl<D: Decoder + Drop> Dec<D> {
     ghost use Rattle.ff_coding.specs.Decoding.{dec_task};
     ghost use Rattle.ff_coding.specs.Coders.{dec_in_lanes, dec_out_lanes, dec_fault, dec_stands};
 
-    /// A decoder to which nothing was fed, with so many outputs.
-    pub fn new(alloc: Global, decoder: D, outputs: usize) -> Result<Dec<D>, AllocError>
+    /// A decoder of this head's packets to which nothing was fed, with a cut of its frames, the same on each of so many outputs.
+    pub fn new(
+        alloc: Global,
+        decoder: D,
+        head: StreamHead,
+        cut: TimeCut,
+        outputs: usize,
+    ) -> Result<Dec<D>, AllocError>
+        requires head { head ≡ D.head decoder }
         requires some { 1 ≤ outputs }
         ensures in_lanes { IfOk result (λ m. dec_in_lanes D.head m ≡ Packets (D.head decoder) ∷ []) }
         ensures out_lanes { IfOk result (λ m. dec_out_lanes D.head m ≡ replicate outputs (Frames (D.head decoder))) }
         ensures fault { IfOk result (λ m. dec_fault m ≡ None) }
-        ensures stands { IfOk result (λ m. dec_stands D.head D.made m (start (dec_task (D.made decoder) outputs))) }
+        ensures stands { IfOk result (λ m. dec_stands D.head D.made m (start (dec_task head (D.made decoder) cut outputs))) }
     {
-        let spread = Spread::new(alloc, outputs)?;
+        let spread = Spread::new(alloc, outputs, starts_over(cut))?;
         Ok(Dec {
             alloc,
             decoder,
+            head,
+            cut,
             spread,
         })
     }
@@ -51,14 +66,14 @@ fn decode<D: Decoder>(
     alloc: Global,
     decoder: &D,
     packet: Pkt,
-    shared: bool,
+    spared: bool,
 ) -> Result<Step, Refused>
     requires { D.takes decoder.now packet }
     ensures follows { IfOk result (λ step. FollowsFrom (decoded_item (D.made decoder.now)) (Packet packet) step) }
-    ensures spare { IfOk result (λ step. shared ≡ true → GivesBack (Packet packet) step) }
+    ensures spare { IfOk result (λ step. spared ≡ true → GivesBack (Packet packet) step) }
     ensures back { IfErr result (λ refused. refused.item ≡ Packet packet) }
 {
-    let spare = match copy_if(alloc, &packet, shared) {
+    let spare = match copy_if(alloc, &packet, spared) {
         Ok(spare) => spare,
         Err(_) => {
             return Err(Refused {
@@ -70,11 +85,13 @@ fn decode<D: Decoder>(
     match decoder.decode(packet) {
         Ok(Some(frame)) => Ok(Step::Puts {
             made: frame,
+            after: After::More,
             damage: None,
             spare,
         }),
         Ok(None) => Ok(Step::Puts {
             made: Item::Broken,
+            after: After::More,
             damage: Some(offset),
             spare,
         }),
@@ -85,10 +102,10 @@ fn decode<D: Decoder>(
 }
 
 // An equal packet, where one may have to be given back.
-fn copy_if(alloc: Global, packet: &Pkt, shared: bool) -> Result<Option<Item>, AllocError>
-    ensures { IfOk result (λ copy. shared ≡ true → copy ≡ Some (Packet packet.now)) }
+fn copy_if(alloc: Global, packet: &Pkt, spared: bool) -> Result<Option<Item>, AllocError>
+    ensures { IfOk result (λ copy. spared ≡ true → copy ≡ Some (Packet packet.now)) }
 {
-    if !shared {
+    if !spared {
         return Ok(None);
     }
     let copy = packet.try_copy(alloc)?;
@@ -96,9 +113,9 @@ fn copy_if(alloc: Global, packet: &Pkt, shared: bool) -> Result<Option<Item>, Al
 }
 
 // What is to be done for an item.
-fn step<D: Decoder>(alloc: Global, decoder: &D, item: Item, shared: bool) -> Result<Step, Refused>
+fn step<D: Decoder>(alloc: Global, decoder: &D, item: Item, spared: bool) -> Result<Step, Refused>
     ensures follows { IfOk result (λ step. IsTakenPacket (D.takes decoder.now) item → FollowsFrom (decoded_item (D.made decoder.now)) item step) }
-    ensures spare { IfOk result (λ step. shared ≡ true → GivesBack item step) }
+    ensures spare { IfOk result (λ step. spared ≡ true → GivesBack item step) }
     ensures back { IfErr result (λ refused. refused.item ≡ item) }
 {
     if item.closes() {
@@ -106,7 +123,7 @@ fn step<D: Decoder>(alloc: Global, decoder: &D, item: Item, shared: bool) -> Res
     }
     match item {
         Item::Packet(packet) => if decoder.can_take(&packet) {
-            decode(alloc, decoder, packet, shared)
+            decode(alloc, decoder, packet, spared)
         } else {
             discard(Item::Packet(packet));
             Ok(Step::Passes)
@@ -157,8 +174,12 @@ impl<D: Decoder + Drop> Machine for Dec<D> {
         if self.spread.reserve().is_err() {
             return Err(Refused { item });
         }
-        match step(self.alloc, &self.decoder, item, self.spread.is_shared()) {
-            Ok(step) => self.spread.follow(self.alloc, step),
+        let spared = self.spread.is_shared() | !is_uncut(self.cut);
+        match step(self.alloc, &self.decoder, item, spared) {
+            Ok(step) => match cut_step(&self.head, self.cut, step) {
+                Ok(left) => self.spread.follow(self.alloc, left),
+                Err(refused) => Err(refused),
+            },
             Err(refused) => Err(refused),
         }
     }

@@ -8,6 +8,7 @@ ghost use Rattle.ff_coding.specs.Taken.{IsTakenFrame};
 use crate::spread::Spread;
 use crate::step::{Step, closing, discard};
 use ff_coders::Encoder;
+use ff_filter::After;
 use ff_frame::{Event, Item, Refused, StreamHead, Ticket};
 use ff_net::{Fault, Machine};
 use std::alloc::{AllocError, Global};
@@ -35,7 +36,7 @@ impl<E: Encoder + Drop> Enc<E> {
         ensures fault { IfOk result (λ m. enc_fault m ≡ None) }
         ensures stands { IfOk result (λ m. enc_stands E.serves E.coded E.made m (start (enc_task (E.made encoder)))) }
     {
-        let spread = Spread::new(alloc, 1)?;
+        let spread = Spread::new(alloc, 1, false)?;
         Ok(Enc {
             alloc,
             encoder,
@@ -65,6 +66,7 @@ fn encode<E: Encoder>(
     match encoder.encode(frame) {
         Ok(packet) => Ok(Step::Puts {
             made: Item::Packet(packet),
+            after: After::More,
             damage: None,
             spare,
         }),

@@ -6,14 +6,16 @@
 //!                  └──► frames
 //! ```
 //!
-//! [`Dec`] gives the frame of each packet on each of its outputs: a frame is decoded once, copied for all outputs that are
-//! still wanted but the last, and moved to that. A packet that has no frame breaks the outputs off, with the fault that the
-//! input is damaged there. [`Enc`] gives the packet of each frame. Which codec it is they know by the traits of ff_coders
-//! alone. `specs/Making` says what is made of a stream item by item, `Decoding` and `Encoding` what the two mean, and
-//! `Spreads` what a machine of one input and some outputs keeps, from which every law of a machine follows once for both.
+//! [`Dec`] gives what a cut leaves of the frame of each packet on each of its outputs: a frame is decoded and cut once, copied for
+//! all outputs that are still wanted but the last, and moved to that. A packet that has no frame breaks the outputs off, with the
+//! fault that the input is damaged there; once the cut is over they are whole, and nothing more is asked of the input. [`Enc`] gives
+//! the packet of each frame. Which codec it is they know by the traits of ff_coders alone. `specs/Making` says what is made of a
+//! stream, `Decoding` and `Encoding` what the two mean, and `Spreads` what a machine of one input and some outputs keeps, from which
+//! every law of a machine follows once for both.
 #![tactic(auto)]
 
 mod coding;
+mod cut;
 mod dec;
 mod enc;
 mod outs;
@@ -22,9 +24,9 @@ mod spread;
 mod step;
 
 pub use coding::{
-    coding_is_on_each_output, coding_keeps_the_broken_rule, decoding_ends_at_damage,
-    decoding_is_by_packets, decoding_passes_no_limit, encoding_passes_no_limit,
-    plain_packets_are_undamaged,
+    coding_is_on_each_output, coding_keeps_the_broken_rule, damage_behind_a_cut_is_no_fault,
+    decoding_ends_at_damage, decoding_is_by_packets, decoding_passes_no_limit,
+    decoding_without_a_cut, encoding_passes_no_limit, plain_packets_are_undamaged,
 };
 pub use dec::Dec;
 pub use enc::Enc;

@@ -7,10 +7,11 @@ ghost use Rattle.ff_coding.specs.Spreads.{AllStopped};
 
 use crate::ready::Ready;
 use crate::step::discard;
+use ff_filter::After;
 use ff_frame::Item;
 use std::alloc::{AllocError, Global};
 
-/// Makes room for an item more on each.
+/// Makes room for an item more on each, and for one that closes it.
 pub fn reserve_all(outs: &mut Vec<Ready>) -> Result<(), AllocError>
     ensures same { AreSame outs.old.items outs.new.items }
     ensures room { OnOk result (HaveRoom outs.new.items) }
@@ -80,27 +81,33 @@ fn set_all(alloc: Global, outs: &mut Vec<Ready>, made: Item) -> Result<(), Alloc
     }
 }
 
-// Puts on each output what is to be put next.
-fn put_all(outs: &mut Vec<Ready>)
+// Puts on each output what is to be put next, and behind it what closes the output, if it is over.
+fn put_all(outs: &mut Vec<Ready>, after: After)
     requires { HaveRoom outs.old.items }
-    ensures puts { (made : Item) → AreNext made (length outs.old.items) outs.old.items → ArePut made outs.old.items outs.new.items }
+    ensures puts { (made : Item) → AreNext made (length outs.old.items) outs.old.items → ArePut made after outs.old.items outs.new.items }
     ensures count { length outs.new.items ≡ length outs.old.items }
 {
     for q in 0..outs.len() {
         let out = &mut outs[q];
-        out.put_next();
+        out.put_next(after);
     }
 }
 
-/// Puts an item on each output that is wanted. Without memory for the copies nothing changes.
-pub fn put_on_all(alloc: Global, outs: &mut Vec<Ready>, made: Item) -> Result<(), AllocError>
+/// Puts an item on each output that is wanted, and behind it what closes the output, if it is over. Without memory for the copies
+/// nothing changes.
+pub fn put_on_all(
+    alloc: Global,
+    outs: &mut Vec<Ready>,
+    made: Item,
+    after: After,
+) -> Result<(), AllocError>
     requires { HaveRoom outs.old.items }
-    ensures puts { OnOk result (ArePut made outs.old.items outs.new.items) }
+    ensures puts { OnOk result (ArePut made after outs.old.items outs.new.items) }
     ensures same { OnErr result (AreSame outs.old.items outs.new.items) }
     ensures shared { OnErr result (2 ≤ length outs.old.items) }
     ensures count { length outs.new.items ≡ length outs.old.items }
 {
     set_all(alloc, outs, made)?;
-    put_all(outs);
+    put_all(outs, after);
     Ok(())
 }

@@ -1,9 +1,11 @@
 // An output of a machine.
-ghost use Rattle.std.specs.Prelude.{◌≡◌, ◌∷◌, [], ◌++◌, false, Some, None, OnOk};
+ghost use Rattle.std.specs.Prelude.{◌≡◌, ◌<◌, ◌∷◌, ◌++◌, false, Some, None, IfOk, OnOk};
+ghost use Rattle.std.specs.VecDeque.{deque_len, deque_capacity};
 ghost use Rattle.ff_frame.specs.declared.item.Item.{Item};
-ghost use Rattle.ff_coding.specs.Lines.{line_of, HasRoom};
+ghost use Rattle.ff_coding.specs.Lines.{line_of, HasRoom, first_items, closing_items};
 
 use crate::step::discard;
+use ff_filter::After;
 use ff_frame::Item;
 use std::alloc::{AllocError, Global};
 use std::collections::VecDeque;
@@ -19,23 +21,27 @@ pub struct Ready {
 }
 
 impl Ready {
-    /// Nothing was made yet.
-    pub fn new(alloc: Global) -> Ready
-        ensures { line_of result ≡ record { queue = []; stopped = false } }
+    /// Nothing was made yet. Where all is over then, what closes the output waits.
+    pub fn new(alloc: Global, over: bool) -> Result<Ready, AllocError>
+        ensures { IfOk result (λ ready. line_of ready ≡ record { queue = first_items over; stopped = false }) }
     {
-        Ready {
-            queue: VecDeque::new(alloc),
+        let mut queue = VecDeque::new(alloc);
+        if over {
+            queue.push_back(Item::End)?;
+        }
+        Ok(Ready {
+            queue,
             next: None,
             stopped: false,
-        }
+        })
     }
 
-    /// Makes room for an item more.
+    /// Makes room for an item more, and for one that closes the output.
     pub fn reserve(&mut self) -> Result<(), AllocError>
         ensures same { line_of self.new ≡ line_of self.old }
         ensures room { OnOk result (HasRoom self.new) }
     {
-        self.queue.reserve(1)
+        self.queue.reserve(2)
     }
 
     /// An equal item is to be put next, where one is wanted.
@@ -61,11 +67,26 @@ impl Ready {
         self.next = Some(made);
     }
 
-    /// Puts the item that is to be put behind the others; once the output was stopped, it is let go.
-    pub fn put_next(&mut self)
+    // Puts what closes the output, where it is over.
+    fn close(&mut self, after: After)
+        requires { deque_len self.old.queue < deque_capacity self.old.queue }
+        ensures stopped { self.new.stopped ≡ self.old.stopped }
+        ensures puts { self.new.queue.items ≡ self.old.queue.items ++ closing_items after }
+    {
+        match after {
+            After::More => {}
+            After::Whole => self.queue.push_back_reserved(Item::End),
+            After::Broke => self.queue.push_back_reserved(Item::Broken),
+        }
+    }
+
+    /// Puts the item that is to be put behind the others, and what closes the output behind it; once the output was stopped, it is
+    /// let go.
+    pub fn put_next(&mut self, after: After)
         requires { HasRoom self.old }
         ensures stopped { self.new.stopped ≡ self.old.stopped }
-        ensures puts { (x : Item) → self.old.next ≡ Some x → self.old.stopped ≡ false → self.new.queue.items ≡ self.old.queue.items ++ x ∷ [] }
+        ensures puts { (x : Item) → self.old.next ≡ Some x → self.old.stopped ≡ false
+            → self.new.queue.items ≡ self.old.queue.items ++ x ∷ closing_items after }
     {
         match self.next.take() {
             None => {}
@@ -73,6 +94,7 @@ impl Ready {
                 discard(item);
             } else {
                 self.queue.push_back_reserved(item);
+                self.close(after);
             },
         }
     }

@@ -4,17 +4,18 @@ ghost use Rattle.ff_frame.specs.declared.item.Item.{Item};
 ghost use Rattle.ff_frame.specs.declared.item.Lane.{Lane};
 ghost use Rattle.ff_frame.specs.Stream.{still_open, LiesBelow};
 ghost use Rattle.ff_frame.specs.Items.{with_item};
-ghost use Rattle.ff_frame.specs.Ports.{stream_at};
+ghost use Rattle.ff_frame.specs.Ports.{nothing, stream_at};
 ghost use Rattle.ff_net.specs.Ways.{AreValid};
 ghost use Rattle.ff_net.specs.Pasts.{Task, Past, IsIn, fed, gave_item, was_asked, was_stopped, due, start};
-ghost use Rattle.ff_coding.specs.Making.{Outcome, fault_by};
-ghost use Rattle.ff_coding.specs.Spreads.{Carries, AllStopped};
-ghost use Rattle.ff_coding.specs.Steps.{FollowsFrom, GivesBack, HasSpare, IsPut};
+ghost use Rattle.ff_coding.specs.Making.{Making, fault_by};
+ghost use Rattle.ff_coding.specs.Spreads.{Makes, AllStopped};
+ghost use Rattle.ff_coding.specs.Steps.{GivesBack, HasSpare};
 ghost use Rattle.ff_coding.specs.Lines.{line_at, HaveRoom};
 
 use crate::outs::{last_wanted, put_on_all, reserve_all};
 use crate::ready::Ready;
-use crate::step::Step;
+use crate::step::{Step, is_over};
+use ff_filter::After;
 use ff_frame::{Item, Refused};
 use ff_net::Fault;
 use std::alloc::{AllocError, Global};
@@ -31,23 +32,25 @@ pub struct Spread {
 }
 
 impl Spread {
-    ghost use Rattle.ff_coding.specs.Standing.{SpreadStands, IsSameSpread, GoesOnSpread, IsSpreadTask};
+    ghost use Rattle.ff_coding.specs.Standing.{SpreadStands, IsSameSpread, GoesOnSpread, IsSpreadTask, at_first};
     ghost use Rattle.ff_coding.specs.Feeding.{IsFedPut, IsFollowed};
 
-    /// Nothing was made yet, for so many outputs.
-    pub fn new(alloc: Global, outputs: usize) -> Result<Spread, AllocError>
+    /// Nothing was made yet, for so many outputs; all is over, where that is so before anything comes.
+    pub fn new(alloc: Global, outputs: usize, over: bool) -> Result<Spread, AllocError>
         requires { 1 ≤ outputs }
         ensures count { IfOk result (λ m. length m.outs.items ≡ outputs) }
         ensures sound { IfOk result (λ m. m.damage ≡ None) }
-        ensures stands { IfOk result (λ m. (lane_in lane_out : Lane) (f : Item → Outcome) (task : Task) → Carries lane_in lane_out f → IsSpreadTask outputs f task → SpreadStands lane_in lane_out f m (start task)) }
+        ensures stands { IfOk result (λ m. (lane_in lane_out : Lane) (f : Making) (task : Task) → Makes lane_in lane_out f → IsSpreadTask outputs f task
+            → f.stream nothing ≡ at_first over → SpreadStands lane_in lane_out f m (start task)) }
     {
         let mut outs = Vec::new(alloc);
         for _q in 0..outputs {
-            outs.push(Ready::new(alloc))?;
+            let ready = Ready::new(alloc, over)?;
+            outs.push(ready)?;
         }
         Ok(Spread {
             outs,
-            closed: false,
+            closed: over,
             damage: None,
         })
     }
@@ -76,7 +79,7 @@ impl Spread {
         self.closed
     }
 
-    /// Makes room for an item more.
+    /// Makes room for an item more, and for one that closes the outputs.
     pub fn reserve(&mut self) -> Result<(), AllocError>
         ensures same { IsSameSpread self.old self.new }
         ensures room { OnOk result (HaveRoom self.new.outs.items) }
@@ -91,17 +94,24 @@ impl Spread {
         self.outs.len() > 1
     }
 
-    // Puts an item on each output that is wanted.
-    fn put(&mut self, alloc: Global, made: Item, damage: Option<u64>) -> Result<(), AllocError>
+    // Puts an item on each output that is wanted, and behind it what closes the output, if it is over.
+    fn put(
+        &mut self,
+        alloc: Global,
+        made: Item,
+        after: After,
+        damage: Option<u64>,
+    ) -> Result<(), AllocError>
         requires { HaveRoom self.old.outs.items }
-        ensures accepted { OnOk result (IsFedPut self.old self.new made damage) }
+        ensures accepted { OnOk result (IsFedPut self.old self.new made after damage) }
         ensures goes_on { GoesOnSpread self.old self.new }
         ensures same { OnErr result (IsSameSpread self.old self.new) }
         ensures shared { OnErr result (2 ≤ length self.old.outs.items) }
     {
         let closes = made.closes();
-        put_on_all(alloc, &mut self.outs, made)?;
-        self.closed = self.closed | closes;
+        let over = is_over(after);
+        put_on_all(alloc, &mut self.outs, made, after)?;
+        self.closed = self.closed | (closes | over);
         if self.damage.is_none() {
             self.damage = damage;
         }
@@ -121,9 +131,10 @@ impl Spread {
             Step::Passes => Ok(()),
             Step::Puts {
                 made,
+                after,
                 damage,
                 spare,
-            } => match self.put(alloc, made, damage) {
+            } => match self.put(alloc, made, after, damage) {
                 Ok(()) => Ok(()),
                 Err(_) => match spare {
                     Some(item) => Err(Refused { item }),
@@ -136,12 +147,12 @@ impl Spread {
     /// The next item that is ready on an output.
     pub fn take(&mut self, port: usize) -> Option<Item>
         requires { port < length self.old.outs.items }
-        ensures gives { (lane_in lane_out : Lane) (f : Item → Outcome) (past : Past) (x : Item) → result ≡ Some x
+        ensures gives { (lane_in lane_out : Lane) (f : Making) (past : Past) (x : Item) → result ≡ Some x
             → SpreadStands lane_in lane_out f self.old past → (IsIn port past.stopped → ⊥)
             → SpreadStands lane_in lane_out f self.new (gave_item past port x) × ((stream_at past.gave port).mark ≡ still_open) × LiesBelow (with_item (stream_at past.gave port) x) (stream_at (due past) port) }
-        ensures waits { (lane_in lane_out : Lane) (f : Item → Outcome) (past : Past) → result ≡ None → SpreadStands lane_in lane_out f self.old past
+        ensures waits { (lane_in lane_out : Lane) (f : Making) (past : Past) → result ≡ None → SpreadStands lane_in lane_out f self.old past
             → SpreadStands lane_in lane_out f self.new (was_asked past port) }
-        ensures none_due { (lane_in lane_out : Lane) (f : Item → Outcome) (past : Past) → result ≡ None
+        ensures none_due { (lane_in lane_out : Lane) (f : Making) (past : Past) → result ≡ None
             → SpreadStands lane_in lane_out f self.old past → (IsIn port past.stopped → ⊥) → stream_at past.gave port ≡ stream_at (due past) port }
         ensures count { length self.new.outs.items ≡ length self.old.outs.items }
         ensures damage { self.new.damage ≡ self.old.damage }
@@ -153,7 +164,7 @@ impl Spread {
     /// Nothing more is wanted on an output: what is ready there is let go.
     pub fn stop(&mut self, port: usize)
         requires { port < length self.old.outs.items }
-        ensures stopped { (lane_in lane_out : Lane) (f : Item → Outcome) (past : Past) → SpreadStands lane_in lane_out f self.old past
+        ensures stopped { (lane_in lane_out : Lane) (f : Making) (past : Past) → SpreadStands lane_in lane_out f self.old past
             → SpreadStands lane_in lane_out f self.new (was_stopped past port) }
         ensures count { length self.new.outs.items ≡ length self.old.outs.items }
         ensures damage { self.new.damage ≡ self.old.damage }

@@ -2,9 +2,11 @@
 ghost use Rattle.std.specs.Prelude.{◌≡◌, ℕ};
 ghost use Rattle.ff_frame.specs.declared.item.Item.{Item};
 ghost use Rattle.ff_frame.specs.Items.{Closes};
+ghost use Rattle.ff_filter.specs.Made.{is_over as is_over_by};
 ghost use Rattle.ff_coding.specs.Making.{Outcome};
 ghost use Rattle.ff_coding.specs.Steps.{FollowsFrom, GivesBack};
 
+use ff_filter::After;
 use ff_frame::Item;
 
 /// What is to be done on the outputs.
@@ -13,6 +15,8 @@ pub enum Step {
     /// An item is put on each, the last one where the input is damaged at an offset.
     Puts {
         made: Item,
+        /// Whether more can come behind it.
+        after: After,
         damage: Option<u64>,
         /// The item that was fed, where it may have to be given back.
         spare: Option<Item>,
@@ -23,6 +27,13 @@ pub enum Step {
 
 pub(crate) fn discard(_item: Item) {}
 
+/// Whether nothing more comes.
+pub fn is_over(after: After) -> bool
+    ensures { result ≡ is_over_by after }
+{
+    after != After::More
+}
+
 /// An input that closes closes each output.
 pub fn closing(item: Item) -> Step
     requires { Closes item }
@@ -32,11 +43,13 @@ pub fn closing(item: Item) -> Step
     match item {
         Item::End => Step::Puts {
             made: Item::End,
+            after: After::More,
             damage: None,
             spare: Some(Item::End),
         },
         Item::Broken => Step::Puts {
             made: Item::Broken,
+            after: After::More,
             damage: None,
             spare: Some(Item::Broken),
         },

@@ -1,5 +1,5 @@
 use Rattle.ff_frame.specs.Ports.{stream_at}
-use Rattle.ff_coding.specs.CodingLaws.{made_keeps_broken_rule, always_keeps_broken_rule}
+use Rattle.ff_coding.specs.CodingLaws.{made_keeps_broken_rule, always_keeps_broken_rule, left_keeps_broken_rule}
 use Rattle.ff_coding.specs.Decoding.{decoded_item}
 use Rattle.ff_coding.specs.EncodeLaws.{no_damage}
 use Rattle.ff_coding.specs.Encoding.{encoded_item}
@@ -10,3 +10,6 @@ returns-clause-decoding c made = made_keeps_broken_rule (decoded_item made)
 
 pub returns-clause-encoding : goal.returns-clause-encoding
 returns-clause-encoding c made = always_keeps_broken_rule (encoded_item made) (λ ss. no_damage made (stream_at ss 0).items)
+
+pub returns-clause-cut_decoding : goal.returns-clause-cut_decoding
+returns-clause-cut_decoding c head made k = left_keeps_broken_rule head made k

@@ -5,6 +5,9 @@ use Rattle.ff_frame.specs.WithinLaws.{valid_within}
 use Rattle.ff_net.specs.Ways.{Flow}
 use Rattle.ff_coders.specs.ChoiceLaws.{IsTakenOf, choice_decoded}
 use Rattle.ff_coders.specs.Choices.{CanDecode, frame_made}
+use Rattle.ff_time.specs.declared.cut.TimeCut.{TimeCut}
+use Rattle.ff_cutting.specs.Cuts.{cut}
+use Rattle.ff_cutting.proofs.Valid.{cut_valid}
 use Rattle.ff_coding.specs.Decoding.{decoded_item, decoded}
 use Rattle.ff_coding.specs.DecodeLaws.{decoding_carries}
 use Rattle.ff_coding.specs.MakingLaws.{made_valid}
@@ -21,3 +24,14 @@ returns-clause-valid c head packets can v = valid_frames head packets can v
 
 pub returns-clause-within_limits : goal.returns-clause-within_limits
 returns-clause-within_limits c head packets can v = valid_within (Frames head) (decoded (frame_made head) packets) (valid_frames head packets can v)
+
+valid_cut : (head : StreamHead) (c : TimeCut) (packets : Flow) → CanDecode head → IsValid (Packets head) packets
+    → IsValid (Frames head) (cut head c (decoded (frame_made head) packets))
+valid_cut head c packets can v = (cut_valid head c).valid (decoded (frame_made head) packets) (valid_frames head packets can v)
+
+pub returns-clause-cut_valid : goal.returns-clause-cut_valid
+returns-clause-cut_valid c head k packets can v = valid_cut head k packets can v
+
+pub returns-clause-cut_within_limits : goal.returns-clause-cut_within_limits
+returns-clause-cut_within_limits c head k packets can v =
+    valid_within (Frames head) (cut head k (decoded (frame_made head) packets)) (valid_cut head k packets can v)

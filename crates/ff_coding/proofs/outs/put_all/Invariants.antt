@@ -1,7 +1,7 @@
-use Rattle.std.proofs.Common.{◌≡◌, ◌<◌, ◌≤◌, ◌++◌, ◌∷◌, [], ℕ, false, length, slice_index_or}
+use Rattle.std.proofs.Common.{◌≡◌, ◌<◌, ◌≤◌, ◌++◌, ◌∷◌, ℕ, false, length, slice_index_or}
 use Rattle.ff_frame.specs.declared.item.Item.{Item}
 use Rattle.ff_coding.specs.declared.ready.Ready.{Ready}
-use Rattle.ff_coding.specs.Lines.{line_at, next_at, HasRoom}
+use Rattle.ff_coding.specs.Lines.{line_at, next_at, HasRoom, closing_items}
 use Rattle.ff_coding.specs.Puts.{AreNext}
 use Rattle.ff_coding.proofs.outs.put_all.Given as goal
 
@@ -13,5 +13,5 @@ invariant-loop-q l = record {
   lines : (k : ℕ) → l.q ≤ k → line_at l.outs.items k ≡ line_at l.fn.outs.items k;
   stopped : (k : ℕ) → (line_at l.outs.items k).stopped ≡ (line_at l.fn.outs.items k).stopped;
   queues : (made : Item) → AreNext made (length l.fn.outs.items) l.fn.outs.items → (k : ℕ) → k < l.q → (line_at l.fn.outs.items k).stopped ≡ false
-      → (line_at l.outs.items k).queue ≡ (line_at l.fn.outs.items k).queue ++ made ∷ [];
+      → (line_at l.outs.items k).queue ≡ (line_at l.fn.outs.items k).queue ++ made ∷ closing_items l.fn.after;
 }

@@ -1,40 +1,97 @@
-use Rattle.std.proofs.Common.{◌≡◌, [], ◌∷◌, false, sym, ◌∙◌}
+use Rattle.std.proofs.Common.{◌≡◌, [], ◌∷◌, false, sym, ◌∙◌, subst}
+use Rattle.ff_values.specs.declared.head.StreamHead.{StreamHead}
+use Rattle.ff_frame.specs.Ports.{stream_at}
 use Rattle.ff_frame.specs.declared.item.Lane.TheVariants.{Frames, Packets}
-use Rattle.ff_coding.specs.Decoding.{decoded_item}
-use Rattle.ff_coding.specs.DecodeLaws.{taken_packet}
+use Rattle.ff_net.specs.Pasts.{Past}
+use Rattle.ff_coding.specs.CutFrames.{not_empty}
+use Rattle.ff_coding.specs.Decoding.{decoded, cut_frames}
+use Rattle.ff_coding.specs.DecodeLaws.{decoding_carries, taken_packet}
 use Rattle.ff_coding.specs.Feeding.{StandsFed, IsFollowed}
-use Rattle.ff_coding.specs.Standing.{SpreadStands}
-use Rattle.ff_coding.proofs.SpreadSteps.{fits_at, over_at, spread_same, on_ok}
+use Rattle.ff_coding.specs.Kinds.{fares}
+use Rattle.ff_coding.specs.Standing.{IsSameSpread, SpreadStands}
+use Rattle.ff_coding.specs.Steps.{IsCutTo}
+use Rattle.ff_coding.proofs.CutSteps.{cut_step_for, has_spare, spared_shared, spared_cut}
+use Rattle.ff_coding.proofs.SpreadSteps.{fits_at, over_at, open_made, spread_same, on_ok, on_err}
 use Rattle.ff_coding.proofs.dec.DecMachine.feed.Goals as goal
 
 pub returns-then-is_closed-clause-accepted : goal.returns-then-is_closed-clause-accepted
 returns-then-is_closed-clause-accepted g c past s o v =
     let m = c.args.self.now in
-    let lane_in = Packets (g.D.Decoder.head m.decoder) in
-    let lane_out = Frames (g.D.Decoder.head m.decoder) in
-    let f = decoded_item (g.D.Decoder.made m.decoder) in
-    over_at lane_in lane_out f _ _ m.spread.closed m.spread.damage past s c.args._port c.args.item (sym c.is_closed.ensures ∙ c.if-is_closed.true)
-    c.requires o v
+    let head = g.D.Decoder.head m.decoder in
+    let f = cut_frames head (g.D.Decoder.made m.decoder) m.cut in
+    (s.0, over_at (Packets head) (Frames head) f _ _ m.spread.closed m.spread.damage past s.1 c.args._port c.args.item (sym c.is_closed.ensures ∙ c.if-is_closed.true) c.requires o v)
 
-pub returns-in-Ok-clause-accepted : goal.returns-in-Ok-clause-accepted
-returns-in-Ok-clause-accepted g c =
+pub follow-requires-clause-spare : goal.follow-requires-clause-spare
+follow-requires-clause-spare g c le =
+    has_spare c.args.item c.in-Ok-cut_step.left
+    (c.in-Ok-cut_step.ensures.again c.args.item (c.in-Ok.ensures.spare (spared_shared c.is_shared.result c.is_uncut.result (c.is_shared.ensures le))))
+
+pub returns-in-Ok-cut_step-clause-fares : goal.returns-in-Ok-cut_step-clause-fares
+returns-in-Ok-cut_step-clause-fares g c =
+    let m = c.args.self.now in
+    let head = g.D.Decoder.head m.decoder in
+    fares (Packets head) (Frames head) m.spread c.follow.new.self _ _
+    (λ offset e. c.follow.ensures.goes_on.stays offset (c.reserve.ensures.same.damage ∙ e))
+
+pub returns-in-Ok-cut_step-clause-accepted : goal.returns-in-Ok-cut_step-clause-accepted
+returns-in-Ok-cut_step-clause-accepted g c =
     let m = c.args.self.now in
     let head = g.D.Decoder.head m.decoder in
     let lane_in = Packets head in
     let lane_out = Frames head in
     let made = g.D.Decoder.made m.decoder in
-    let f = decoded_item made in
+    let takes = g.D.Decoder.takes m.decoder in
+    let f = cut_frames head made m.cut in
     let p = c.args._port in
     let x = c.args.item in
-    let open_now : c.reserve.new.self.closed ≡ false = c.reserve.ensures.same.closed ∙ (sym c.is_closed.ensures ∙ c.if-is_closed.false) in
-    on_ok c.follow.result (IsFollowed c.reserve.new.self c.follow.new.self c.in-Ok.step)
-    (StandsFed (lane_in ∷ []) p x (SpreadStands lane_in lane_out f m.spread) (SpreadStands lane_in lane_out f c.follow.new.self))
+    let step = c.in-Ok.step in
+    let left = c.in-Ok-cut_step.left in
+    let was_open : m.spread.closed ≡ false = sym c.is_closed.ensures ∙ c.if-is_closed.false in
+    on_ok c.follow.result (IsFollowed c.reserve.new.self c.follow.new.self left)
+    (StandsFed (lane_in ∷ []) p x (λ past. (m.head ≡ head) × SpreadStands lane_in lane_out f m.spread past) (λ past. (m.head ≡ head) × SpreadStands lane_in lane_out f c.follow.new.self past))
     (λ h past s o v.
-    let taken = taken_packet head (g.D.Decoder.takes m.decoder) made
-    (λ q fits. g.met.D.Decoder.carries m.decoder q fits) x (fits_at lane_in lane_out f _ _ m.spread.closed m.spread.damage past s p x c.requires v) in
-    h lane_in lane_out f p x open_now c.requires (c.in-Ok.ensures.follows taken) past
-    (spread_same lane_in lane_out f m.spread c.reserve.new.self past c.reserve.ensures.same s) o v)
+    let fits = fits_at lane_in lane_out f _ _ m.spread.closed m.spread.damage past s.1 p x c.requires v in
+    let taken = taken_packet head takes made (λ q t. g.met.D.Decoder.carries m.decoder q t) x fits in
+    let carries = decoding_carries head takes made (λ q t. g.met.D.Decoder.carries m.decoder q t) in
+    let goes = not_empty head m.cut (decoded made (stream_at past.got 0))
+    (open_made lane_in lane_out f _ _ m.spread.closed m.spread.damage past s.1 was_open) in
+    let cut : IsCutTo head m.cut step left = subst (λ (k : StreamHead). IsCutTo k m.cut step left) s.0 c.in-Ok-cut_step.ensures.cut in
+    let now = cut_step_for head made m.cut x step left goes carries fits (c.in-Ok.ensures.follows taken) cut in
+    (s.0, h lane_in lane_out f p x (c.reserve.ensures.same.closed ∙ was_open) c.requires now past (spread_same lane_in lane_out f m.spread c.reserve.new.self past c.reserve.ensures.same s.1) o v))
     c.follow.ensures.accepted
 
-pub returns-in-Ok-clause-refused : goal.returns-in-Ok-clause-refused
-returns-in-Ok-clause-refused g c = c.follow.ensures.back c.args.item (λ le. c.in-Ok.ensures.spare (c.is_shared.ensures le))
+pub returns-in-Ok-cut_step-clause-refused : goal.returns-in-Ok-cut_step-clause-refused
+returns-in-Ok-cut_step-clause-refused g c =
+    c.follow.ensures.back c.args.item
+    (λ le. c.in-Ok-cut_step.ensures.again c.args.item (c.in-Ok.ensures.spare (spared_shared c.is_shared.result c.is_uncut.result (c.is_shared.ensures le))))
+
+pub returns-in-Ok-cut_step-clause-unchanged : goal.returns-in-Ok-cut_step-clause-unchanged
+returns-in-Ok-cut_step-clause-unchanged g c =
+    let m = c.args.self.now in
+    let head = g.D.Decoder.head m.decoder in
+    let lane_in = Packets head in
+    let lane_out = Frames head in
+    let f = cut_frames head (g.D.Decoder.made m.decoder) m.cut in
+    on_err c.follow.result (IsSameSpread c.reserve.new.self c.follow.new.self)
+    ((past : Past) → (m.head ≡ head) × SpreadStands lane_in lane_out f m.spread past → (m.head ≡ head) × SpreadStands lane_in lane_out f c.follow.new.self past)
+    (λ same past s. (s.0, spread_same lane_in lane_out f c.reserve.new.self c.follow.new.self past same (spread_same lane_in lane_out f m.spread c.reserve.new.self past c.reserve.ensures.same s.1)))
+    c.follow.ensures.same
+
+pub returns-in-Err-cut_step-clause-refused : goal.returns-in-Err-cut_step-clause-refused
+returns-in-Err-cut_step-clause-refused g c =
+    c.in-Err-cut_step.ensures.back c.args.item
+    (λ e. c.in-Ok.ensures.spare (spared_cut c.is_shared.result c.is_uncut.result (c.is_uncut.ensures ∙ e)))
+
+pub returns-in-Err-cut_step-clause-unchanged : goal.returns-in-Err-cut_step-clause-unchanged
+returns-in-Err-cut_step-clause-unchanged g c past s =
+    let m = c.args.self.now in
+    let head = g.D.Decoder.head m.decoder in
+    let f = cut_frames head (g.D.Decoder.made m.decoder) m.cut in
+    (s.0, spread_same (Packets head) (Frames head) f m.spread c.reserve.new.self past c.reserve.ensures.same s.1)
+
+pub returns-in-Err-clause-unchanged : goal.returns-in-Err-clause-unchanged
+returns-in-Err-clause-unchanged g c past s =
+    let m = c.args.self.now in
+    let head = g.D.Decoder.head m.decoder in
+    let f = cut_frames head (g.D.Decoder.made m.decoder) m.cut in
+    (s.0, spread_same (Packets head) (Frames head) f m.spread c.reserve.new.self past c.reserve.ensures.same s.1)

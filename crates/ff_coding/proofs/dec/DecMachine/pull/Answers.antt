@@ -1,6 +1,6 @@
 use Rattle.std.proofs.Common.{◌≡◌, inl, None, Some}
 use Rattle.ff_frame.specs.declared.item.Lane.TheVariants.{Frames, Packets}
-use Rattle.ff_coding.specs.Decoding.{decoded_item}
+use Rattle.ff_coding.specs.Decoding.{cut_frames}
 use Rattle.ff_coding.proofs.dec.DecMachine.pull.Goals as goal
 
 pub returns-clause-gives : goal.returns-clause-gives
@@ -8,24 +8,25 @@ returns-clause-gives g c x is past s on =
     let m = c.args.self.now in
     let lane_in = Packets (g.D.Decoder.head m.decoder) in
     let lane_out = Frames (g.D.Decoder.head m.decoder) in
-    let f = decoded_item (g.D.Decoder.made m.decoder) in
+    let f = cut_frames (g.D.Decoder.head m.decoder) (g.D.Decoder.made m.decoder) m.cut in
     let some : c.take.result ≡ Some x = cc (is) in
-    c.take.ensures.gives lane_in lane_out f past x some s on
+    let r = c.take.ensures.gives lane_in lane_out f past x some s.1 on in
+    ((s.0, r.0), r.1, r.2)
 
 pub returns-clause-waits : goal.returns-clause-waits
 returns-clause-waits g c is past s on =
     let m = c.args.self.now in
     let lane_in = Packets (g.D.Decoder.head m.decoder) in
     let lane_out = Frames (g.D.Decoder.head m.decoder) in
-    let f = decoded_item (g.D.Decoder.made m.decoder) in
+    let f = cut_frames (g.D.Decoder.head m.decoder) (g.D.Decoder.made m.decoder) m.cut in
     let none : c.take.result ≡ None = cc (is) in
-    c.take.ensures.waits lane_in lane_out f past none s
+    (s.0, c.take.ensures.waits lane_in lane_out f past none s.1)
 
 pub returns-clause-none_due : goal.returns-clause-none_due
 returns-clause-none_due g c is fine past s on =
     let m = c.args.self.now in
     let lane_in = Packets (g.D.Decoder.head m.decoder) in
     let lane_out = Frames (g.D.Decoder.head m.decoder) in
-    let f = decoded_item (g.D.Decoder.made m.decoder) in
+    let f = cut_frames (g.D.Decoder.head m.decoder) (g.D.Decoder.made m.decoder) m.cut in
     let none : c.take.result ≡ None = cc (is) in
-    inl (c.take.ensures.none_due lane_in lane_out f past none s on)
+    inl (c.take.ensures.none_due lane_in lane_out f past none s.1 on)

@@ -1,5 +1,5 @@
 use Rattle.ff_frame.specs.declared.item.Lane.TheVariants.{Frames, Packets}
-use Rattle.ff_coding.specs.Decoding.{decoded_item}
+use Rattle.ff_coding.specs.Decoding.{cut_frames}
 use Rattle.ff_coding.proofs.dec.DecMachine.stop.Goals as goal
 
 pub returns-clause-stopped : goal.returns-clause-stopped
@@ -7,5 +7,5 @@ returns-clause-stopped g c past s =
     let m = c.args.self.now in
     let lane_in = Packets (g.D.Decoder.head m.decoder) in
     let lane_out = Frames (g.D.Decoder.head m.decoder) in
-    let f = decoded_item (g.D.Decoder.made m.decoder) in
-    c.stop.ensures.stopped lane_in lane_out f past s
+    let f = cut_frames (g.D.Decoder.head m.decoder) (g.D.Decoder.made m.decoder) m.cut in
+    (s.0, c.stop.ensures.stopped lane_in lane_out f past s.1)

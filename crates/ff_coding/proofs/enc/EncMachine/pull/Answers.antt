@@ -1,6 +1,7 @@
 use Rattle.std.proofs.Common.{◌≡◌, inl, None, Some}
 use Rattle.ff_frame.specs.declared.item.Lane.TheVariants.{Frames, Packets}
 use Rattle.ff_coding.specs.Encoding.{encoded_item}
+use Rattle.ff_coding.specs.Making.{by_items}
 use Rattle.ff_coding.proofs.enc.EncMachine.pull.Goals as goal
 
 pub returns-clause-gives : goal.returns-clause-gives
@@ -8,7 +9,7 @@ returns-clause-gives g c x is past s on =
     let m = c.args.self.now in
     let lane_in = Frames m.head in
     let lane_out = Packets (g.E.Encoder.coded m.encoder m.head) in
-    let f = encoded_item (g.E.Encoder.made m.encoder) in
+    let f = by_items (encoded_item (g.E.Encoder.made m.encoder)) in
     let some : c.take.result ≡ Some x = cc (is) in
     let r = c.take.ensures.gives lane_in lane_out f past x some s.1 on in
     ((s.0, r.0), r.1, r.2)
@@ -18,7 +19,7 @@ returns-clause-waits g c is past s on =
     let m = c.args.self.now in
     let lane_in = Frames m.head in
     let lane_out = Packets (g.E.Encoder.coded m.encoder m.head) in
-    let f = encoded_item (g.E.Encoder.made m.encoder) in
+    let f = by_items (encoded_item (g.E.Encoder.made m.encoder)) in
     let none : c.take.result ≡ None = cc (is) in
     (s.0, c.take.ensures.waits lane_in lane_out f past none s.1)
 
@@ -27,6 +28,6 @@ returns-clause-none_due g c is fine past s on =
     let m = c.args.self.now in
     let lane_in = Frames m.head in
     let lane_out = Packets (g.E.Encoder.coded m.encoder m.head) in
-    let f = encoded_item (g.E.Encoder.made m.encoder) in
+    let f = by_items (encoded_item (g.E.Encoder.made m.encoder)) in
     let none : c.take.result ≡ None = cc (is) in
     inl (c.take.ensures.none_due lane_in lane_out f past none s.1 on)
