@@ -1,0 +1,20 @@
+//! The run over generated input: what `-selfrun N` asks for.
+//!
+//! ```text
+//! N ──► a.wav, v.y4m (ff_generated) ──► the files of a host in memory ─┐
+//!       words ──────────────────────► job ────────────────────────────┴─► run ──► out ──► selfrun N: B bytes, sha256 X
+//! ```
+//!
+//! `specs/SelfRun` has the words, the files and the line. [`own_job`] gives the job that the words ask for, [`own_host`] the files, and
+//! [`own_line`] the line that tells of what the job wrote. How a job is run isn't known here.
+#![tactic(auto)]
+
+mod files;
+mod line;
+mod seconds;
+mod words;
+
+pub use files::own_host;
+pub use line::own_line;
+pub use seconds::seconds_are_few;
+pub use words::own_job;

@@ -1,0 +1,53 @@
+// The words, and the job that they ask for.
+ghost use Rattle.std.specs.Prelude.{◌≡◌, ◌∷◌, [], IfOk, codes};
+ghost use Rattle.ff_words.specs.Bounds.{IsBounded};
+ghost use Rattle.ff_words.specs.Table.{names};
+ghost use Rattle.ff_words.specs.Words.{texts, written};
+ghost use Rattle.ff_self_run.specs.SelfRun.{IsOwnJob};
+
+use ff_words::{Command, Job, WordError, read_words};
+use std::alloc::{AllocError, Global};
+
+/// The words of the job.
+pub static WORDS: [&'static str; 14] = [
+    "-i",
+    "a.wav",
+    "-i",
+    "v.y4m",
+    "-filter_complex",
+    "[1:v]split[p][q];[q]hflip[r];[p][r]hstack[v]",
+    "-map",
+    "0:a",
+    "-map",
+    "[v]",
+    "-shortest",
+    "-f",
+    "framehash",
+    "out",
+];
+
+// Texts as a command takes its words.
+fn words_from(alloc: Global, list: &[&'static str]) -> Result<Vec<String>, AllocError>
+    ensures { IfOk result (λ words. texts words.items ≡ names list.now) }
+{
+    let mut words = Vec::new(alloc);
+    'words: for text in list.iter() {
+        words.push(String::from_str(alloc, text)?)?;
+    }
+    Ok(words)
+}
+
+/// The job that the words ask for.
+pub fn own_job(alloc: Global) -> Result<Job, AllocError>
+    ensures job { IfOk result (λ job. IsOwnJob job) }
+    ensures bounded { IfOk result (λ job. IsBounded job) }
+    ensures output { IfOk result (λ job. written job ≡ codes "out" ∷ []) }
+{
+    let words = words_from(alloc, &WORDS)?;
+    match read_words(alloc, &words) {
+        Ok(Command::Run(job)) => Ok(job),
+        Ok(Command::Solo(_)) => unreachable!(),
+        Err(WordError::At { .. }) => unreachable!(),
+        Err(WordError::NoMemory) => Err(AllocError),
+    }
+}
