@@ -13,6 +13,7 @@ use Rattle.ff_words.specs.declared.job.OutputJob.{OutputJob}
 use Rattle.ff_words.specs.declared.job.Job.{Job}
 use Rattle.ff_words.specs.declared.job.Command.TheVariants as asked
 use Rattle.ff_words.specs.declared.job.Solo.{Solo}
+use Rattle.ff_words.specs.declared.job.Solo.TheVariants.{Help, Version, SelfRun}
 use Rattle.ff_words.specs.declared.error.Fault.{Fault}
 use Rattle.ff_words.specs.Words.{IsAnswer, written}
 use Rattle.ff_heads.specs.declared.head.InputHead.{InputHead}
@@ -24,13 +25,14 @@ use Rattle.ff_running.specs.declared.fault.RunFault.TheVariants as run_fault
 use Rattle.ff_files.specs.Names.{name_at, names_of, KeepsAllBut}
 use Rattle.ff_files.specs.Counts.{Counts, Faulted, KeepsCounts}
 use Rattle.ff_files.specs.Heads.{HaveHeads, IsRefused}
-use Rattle.ff_files.specs.Works.{Meaning, Command, AreHeadsIn, HoldMeaning, HoldWritten, told_bytes}
-use Rattle.ff_files.specs.Ends.{IsPlanned, IsBroken, IsFirstRefused, HasNoPlan, CanBeDone}
+use Rattle.ff_files.specs.Works.{Meaning, Command, AreHeadsIn, HoldMeaning, HoldWritten, told_bytes, meaning}
+use Rattle.ff_files.specs.Ends.{IsPlanned, IsPlanRefused, IsBroken, IsFirstRefused, HasNoPlan, CanBeDone}
 use Rattle.ff_command.specs.declared.report.FileRef.{FileRef}
 use Rattle.ff_command.specs.declared.report.FileRef.TheVariants.{Input, Output, Trace}
 use Rattle.ff_command.specs.declared.report.Status.{Status}
 use Rattle.ff_command.specs.declared.report.Status.TheVariants as status
-use Rattle.ff_command.specs.Help.{solo_text}
+use Rattle.ff_self_run.specs.SelfRun.{IsOwnJob, own_files, own_line}
+use Rattle.ff_command.specs.Help.{help_text, version_text}
 use Rattle.ff_command.specs.Texts.{fault_text}
 
 -- ---- what words ask for
@@ -45,6 +47,27 @@ AskSolo words solo = IsAnswer words (Ok (asked.Solo solo))
 
 abbrev pub AsksAlone : List (List ℕ) → Type 0
 AsksAlone words = (solo : Solo) × AskSolo words solo
+
+-- it says that a text is asked for, and no run
+abbrev pub IsText : Solo → Type 0
+IsText Help = Unit {0}
+IsText Version = Unit {0}
+IsText (SelfRun seconds) = ⊥
+
+-- they ask for such a text alone
+abbrev pub AsksText : List (List ℕ) → Type 0
+AsksText words = (solo : Solo) × AskSolo words solo × IsText solo
+
+-- they ask for the run over generated input, of so many seconds
+abbrev pub AskGenerated : List (List ℕ) → ℕ → Type 0
+AskGenerated words seconds = AskSolo words (SelfRun seconds)
+
+abbrev pub AsksGenerated : List (List ℕ) → Type 0
+AsksGenerated words = (seconds : ℕ) × AskGenerated words seconds
+
+-- this is so of the one job of that run, and of its files
+abbrev pub OfGenerated : ℕ → (Job → Files → Type 0) → Type 0
+OfGenerated seconds Is = (job : Job) × IsOwnJob job × Is job (own_files seconds)
 
 -- they ask for a job, of which this is so
 abbrev pub AskFor : List (List ℕ) → (Job → Type 0) → Type 0
@@ -82,18 +105,6 @@ file_name job Trace = unwrap_or job.trace []
 abbrev pub IsNamed : List (List ℕ) → Status → List ℕ → Type 0
 IsNamed words (status.Device file) name = AskFor words (λ job. HasFile job file × (name ≡ file_name job file))
 IsNamed words _ name = ⊤
-
--- ---- the text that is logged
-
--- they ask for this text
-abbrev pub IsTold : List (List ℕ) → List ℕ → Type 0
-IsTold words text = (solo : Solo) × AskSolo words solo × (text ≡ solo_text solo)
-
--- the text that is due: that of an option that stands alone, or the line of a fault
-abbrev pub IsDue : List (List ℕ) → Status → List ℕ → Type 0
-IsDue words answer text =
-    ((answer ≡ status.Fine) × IsTold words text)
-    ⊎ ((answer ≢ status.Fine) × ((name : List ℕ) × IsNamed words answer name × (text ≡ fault_text answer name)))
 
 -- ---- what stands, whatever a job means
 
@@ -161,6 +172,30 @@ module _ (means : Job → Meaning InputHead PlanError RunFault) where
     count = length job.outputs;
     means = means job;
   }
+
+  -- ---- the text that is logged
+
+  -- the one output of the run over generated input holds some bytes by what its job means, and this is the line that tells of them
+  abbrev pub IsGeneratedText : ℕ → List ℕ → Type 0
+  IsGeneratedText seconds text = OfGenerated seconds (λ job files. (bytes : List ℕ) × (meaning (over job) files 0 ≡ Some bytes) × (text ≡ own_line seconds bytes))
+
+  -- the text of an option that stands alone
+  abbrev pub IsSoloText : Solo → List ℕ → Type 0
+  IsSoloText Help text = text ≡ help_text
+  IsSoloText Version text = text ≡ version_text
+  IsSoloText (SelfRun seconds) text = IsGeneratedText seconds text
+
+  -- they ask for this text
+  abbrev pub IsTold : List (List ℕ) → List ℕ → Type 0
+  IsTold words text = (solo : Solo) × AskSolo words solo × IsSoloText solo text
+
+  -- the text that is due: that of an option that stands alone, or the line of a fault
+  abbrev pub IsDue : List (List ℕ) → Status → List ℕ → Type 0
+  IsDue words answer text =
+      ((answer ≡ status.Fine) × IsTold words text)
+      ⊎ ((answer ≢ status.Fine) × ((name : List ℕ) × IsNamed words answer name × (text ≡ fault_text answer name)))
+
+  -- ---- what stands
 
   -- the words ask for a job that means some bytes for each of its outputs, and each holds these
   abbrev pub HoldsMeaning : List (List ℕ) → Option Files → Option Files → Type 0
@@ -251,3 +286,37 @@ module _ (means : Job → Meaning InputHead PlanError RunFault) where
 
   abbrev pub KeepsOutputCounts : List (List ℕ) → Option Files → Counts → Status → Type 0
   KeepsOutputCounts words before outs status = SameCounts outs.before outs.after ⊎ AskFor words (λ job. KeepsOutputs job before outs status)
+
+  -- ---- the run over generated input
+
+  -- When the job over these files comes to each answer: they tell what they hold, nothing of them fails, and the words of the job are right.
+  abbrev pub ComesOf : Job → Files → Status → Type 0
+  ComesOf job files status.Fine = IsSome (meaning (over job) files 0)
+  ComesOf job files (status.Words word kind) = ⊥
+  ComesOf job files (status.Plan refusal) = (refusal ≢ why.NoMemory) × IsPlanRefused (over job) (Some files) refusal
+  ComesOf job files (status.Device file) = ⊥
+  ComesOf job files (status.Damaged k offset) =
+      IsHeadRefused job (Some files) k (fault.Damaged offset) ⊎ IsBroken (over job) (Some files) (run_fault.Damaged k offset)
+  ComesOf job files (status.TooLong node) = IsTooLong job (Some files) node
+  ComesOf job files (status.TooLarge output) = IsBroken (over job) (Some files) (run_fault.TooLarge output)
+  ComesOf job files (status.Unsupported k offset) = IsHeadRefused job (Some files) k (fault.Unsupported offset)
+  ComesOf job files status.NoMemory = Unit {0}
+
+  -- The run over generated input of so many seconds answers so: each answer comes where the job over its files comes to it, and where the
+  -- heads are refused, or the plan, or all can be done, it is that answer, unless memory ran out.
+  pub record IsOwnAnswer (seconds : ℕ) (answer : Status) : Type 0 where
+    pub comes : OfGenerated seconds (λ job files. ComesOf job files answer)
+    pub refused : (k : ℕ) (why : HeadFault) → OfGenerated seconds (λ job files. IsFirstRefused (over job) (Some files) k why)
+        → (answer ≡ refused_head k why) ⊎ (answer ≡ status.NoMemory)
+    pub no_plan : (why : PlanError) → OfGenerated seconds (λ job files. HasNoPlan (over job) (Some files) why)
+        → (answer ≡ refused_plan why) ⊎ (answer ≡ status.NoMemory)
+    pub complete : OfGenerated seconds (λ job files. CanBeDone (over job) (Some files)) → (answer ≡ status.Fine) ⊎ (answer ≡ status.NoMemory)
+
+  -- This is told of the history of that run, and of its reads by the history.
+  abbrev pub ReportsOwn : {L : Type 0} → (Job → List InputHead → Option (List (List ℕ)) → L → Type 0) → ℕ → L → Type 0
+  ReportsOwn tells seconds history = OfGenerated seconds (λ job files. IsReported (over job) (tells job) (Some files) history)
+
+  abbrev pub ReportsOwnReads : (Job → List InputHead → Option (List (List ℕ)) → List Event → List (List ℕ) → Type 0)
+      → ℕ → List Event → List (List ℕ) → Type 0
+  ReportsOwnReads are seconds history reads =
+      OfGenerated seconds (λ job files. IsReported (over job) (λ heads bytes rs. are job heads bytes history rs) (Some files) reads)

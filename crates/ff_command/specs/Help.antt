@@ -3,8 +3,6 @@ use Rattle.std.specs.Prelude.{ℕ, ◌-◌, Bool, true, false, List, [], ◌∷�
 use Rattle.ff_lists.specs.Text.{line}
 use Rattle.ff_values.specs.declared.head.Codec.{Codec}
 use Rattle.ff_words.specs.declared.job.FileFormat.{FileFormat}
-use Rattle.ff_words.specs.declared.job.Solo.{Solo}
-use Rattle.ff_words.specs.declared.job.Solo.TheVariants.{Help, Version, SelfRun}
 use Rattle.ff_words.specs.declared.table.Concern.{Concern}
 use Rattle.ff_words.specs.declared.table.Concern.TheVariants as concern
 use Rattle.ff_words.specs.declared.table.Kind.{Kind}
@@ -118,9 +116,3 @@ help_text =
 
 unfoldable pub version_text : List ℕ
 version_text = all_lines (map (λ l. l.now) PROGRAM)
-
--- what is told where the option stands alone; the generated run isn't done yet
-abbrev pub solo_text : Solo → List ℕ
-solo_text Help = help_text
-solo_text Version = version_text
-solo_text (SelfRun n) = []

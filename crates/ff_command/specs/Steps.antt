@@ -29,7 +29,7 @@ use Rattle.ff_command.specs.declared.report.FileRef.TheVariants.{Input, Output, 
 use Rattle.ff_command.specs.declared.report.Status.{Status}
 use Rattle.ff_command.specs.declared.report.Status.TheVariants as status
 use Rattle.ff_command.specs.Texts.{fault_text}
-use Rattle.ff_command.specs.Command.{AskFor, AsksAlone, AreWrong, KeepsOtherFiles, ComesBeforeOutputs, AreSoundTo, InputsAreSound, OutputsAreSound, refused_head, refused_plan, over, HoldsMeaning, HoldsFront, IsHeadRefused, IsDamaged, IsTooLong, HasFailed, HasFile, GivesNoHead, GivesNoPlan, GivesAll, KeepsInputs, KeepsOutputs, KeepsInputCounts, KeepsOutputCounts}
+use Rattle.ff_command.specs.Command.{AskFor, AsksAlone, AsksText, AsksGenerated, AreWrong, KeepsOtherFiles, ComesBeforeOutputs, AreSoundTo, InputsAreSound, OutputsAreSound, refused_head, refused_plan, over, HoldsMeaning, HoldsFront, IsHeadRefused, IsDamaged, IsTooLong, HasFailed, HasFile, GivesNoHead, GivesNoPlan, GivesAll, KeepsInputs, KeepsOutputs, KeepsInputCounts, KeepsOutputCounts}
 
 -- the heads of all inputs of a job that words may ask for
 pub record AreAllHeads (job : Job) (heads : List InputHead) : Type 0 where
@@ -103,18 +103,23 @@ module _ (means : Job → Meaning InputHead PlanError RunFault) where
   -- words were run
   pub record Answered (words : List (List ℕ)) (before after : Option Files) (ins outs : Counts) (answer : Status) : Type 0 where
     pub bytes : answer ≡ status.Fine → AsksAlone words ⊎ HoldsMeaning means words before after
-    pub alone : AsksAlone words → (answer ≡ status.Fine) ⊎ (answer ≡ status.NoMemory)
+    pub text : AsksText words → (answer ≡ status.Fine) ⊎ (answer ≡ status.NoMemory)
     pub front : HoldsFront means words before after
     pub others : KeepsOtherFiles words before after
     pub untouched : ComesBeforeOutputs answer → KeepsFiles before after
     pub words_at : (place : ℕ) (kind : _) → answer ≡ status.Words place kind → AreWrong words (wrong_at place kind)
     pub wrong : (f : Fault) → AreWrong words f → (answer ≡ status.Words f.word f.kind) ⊎ (answer ≡ status.NoMemory)
-    pub plan : (why : PlanError) → answer ≡ status.Plan why → AskFor words (λ job. IsPlanRefused (over means job) before why)
+    pub plan : (why : PlanError) → answer ≡ status.Plan why
+        → AsksGenerated words ⊎ AskFor words (λ job. IsPlanRefused (over means job) before why)
     pub plan_memory : answer ≢ status.Plan why.NoMemory
-    pub unsupported : (k offset : ℕ) → answer ≡ status.Unsupported k offset → AskFor words (λ job. IsHeadRefused means job before k (fault.Unsupported offset))
-    pub damaged : (k offset : ℕ) → answer ≡ status.Damaged k offset → AskFor words (λ job. IsDamaged means job before after k offset)
-    pub too_long : (node : ℕ) → answer ≡ status.TooLong node → AskFor words (λ job. IsTooLong means job before node)
-    pub too_large : (output : ℕ) → answer ≡ status.TooLarge output → AskFor words (λ job. IsBroken (over means job) before (run_fault.TooLarge output))
+    pub unsupported : (k offset : ℕ) → answer ≡ status.Unsupported k offset
+        → AsksGenerated words ⊎ AskFor words (λ job. IsHeadRefused means job before k (fault.Unsupported offset))
+    pub damaged : (k offset : ℕ) → answer ≡ status.Damaged k offset
+        → AsksGenerated words ⊎ AskFor words (λ job. IsDamaged means job before after k offset)
+    pub too_long : (node : ℕ) → answer ≡ status.TooLong node
+        → AsksGenerated words ⊎ AskFor words (λ job. IsTooLong means job before node)
+    pub too_large : (output : ℕ) → answer ≡ status.TooLarge output
+        → AsksGenerated words ⊎ AskFor words (λ job. IsBroken (over means job) before (run_fault.TooLarge output))
     pub device : (file : FileRef) → answer ≡ status.Device file → AskFor words (λ job. HasFailed means job before ins outs file)
     pub no_head : (k : ℕ) (why : HeadFault) → GivesNoHead means words before ins k why → (answer ≡ refused_head k why) ⊎ (answer ≡ status.NoMemory)
     pub no_plan : (why : PlanError) → GivesNoPlan means words before ins why → (answer ≡ refused_plan why) ⊎ (answer ≡ status.NoMemory)

@@ -10,27 +10,26 @@ ghost use Rattle.ff_words.specs.Words.{texts, fault};
 ghost use Rattle.ff_words.specs.declared.error.Fault.{Fault};
 ghost use Rattle.ff_running.specs.declared.fault.RunFault.TheVariants as run_fault;
 ghost use Rattle.ff_files.specs.Ends.{IsPlanRefused, IsBroken};
-ghost use Rattle.ff_command.specs.Command.{AsksAlone, IsTold, IsDue};
+ghost use Rattle.ff_command.specs.Command.{AsksAlone, AsksText, AskGenerated, AsksGenerated, IsTold, IsDue, IsOwnAnswer, ReportsOwn, ReportsOwnReads};
 ghost use Rattle.ff_command.specs.Command.{Ask, AskFor, AreWrong, IsNamed, HasFile, file_name, KeepsOtherFiles, ComesBeforeOutputs, ReportsHistory, ReportsReads, HoldsTrace};
 ghost use Rattle.ff_command.specs.Command.{refused_head, refused_plan, over, HoldsMeaning, HoldsFront, IsHeadRefused, IsDamaged, IsTooLong};
 ghost use Rattle.ff_command.specs.Command.{HasFailed, GivesNoHead, GivesNoPlan, GivesAll, KeepsInputCounts, KeepsOutputCounts};
 ghost use Rattle.ff_command.specs.Histories.{history_in, reads_in, LogHas};
 ghost use Rattle.ff_running.specs.Reads.{places_in};
-ghost use Rattle.ff_command.specs.Help.{solo_text as told_of};
-ghost use Rattle.ff_words.specs.declared.job.Solo.TheVariants.{SelfRun};
 ghost use Rattle.ff_files.specs.Works.{HasLog};
 ghost use Rattle.ff_command.specs.Steps.{wrong_words, IsOfJob, Answered};
 
-use crate::help::solo_text;
 use crate::history::History;
 use crate::log::log_end;
 use crate::report::{FileRef, Line, Report, Status};
 use crate::run::{JobRun, run_job};
+use crate::told::{Told, tell};
 use crate::worker::Worker;
 use ff_host::{Begun, Host, Sink};
+use ff_memory_host::{QuietSink, QuietSource};
 use ff_plan::PlanError;
 use ff_running::RunLog;
-use ff_words::{Command, Job, Solo, WordError, WordKind, read_words};
+use ff_words::{Command, Job, WordError, WordKind, read_words};
 use std::alloc::Global;
 
 // The status of words that ask for nothing.
@@ -67,51 +66,34 @@ struct Worked {
     run: Option<RunLog>,
 }
 
-// What is told of the command itself.
-fn tell(alloc: Global, solo: Solo) -> Worked
-    requires { (seconds : ℕ) → solo ≡ SelfRun seconds → ⊥ }
-    ensures status { (result.status ≡ Status.Fine) ⊎ (result.status ≡ Status.NoMemory) }
-    ensures job { result.job ≡ None }
-    ensures told { IfSome result.told (λ text. (text.items ≡ told_of solo) × (result.status ≡ Status.Fine)) }
-    ensures fine { result.status ≡ Status.Fine → result.told ≢ None }
-    ensures run { result.run ≡ None }
-{
-    match solo_text(alloc, solo) {
-        Ok(text) => Worked {
-            status: Status::Fine,
-            job: None,
-            told: Some(text),
-            run: None,
-        },
-        Err(_) => Worked {
-            status: Status::NoMemory,
-            job: None,
-            told: None,
-            run: None,
-        },
-    }
-}
-
 // Reads the words, and runs the job that they ask for.
-fn run_words<H: Host, P: Worker<Begun<H::Src>, H::Snk>>(
+fn run_words<H: Host, P: Worker<Begun<H::Src>, H::Snk>, Q: Worker<Begun<QuietSource>, QuietSink>>(
     alloc: Global,
     worker: &P,
+    own: &Q,
     words: &[String],
     host: &mut H,
 ) -> Worked
-    requires { P.is_able worker.now }
+    requires able { P.is_able worker.now }
+    requires own { Q.is_able own.now }
     ensures answered { Answered (P.means worker.now) (texts words.now) (H.files host.old) (H.files host.new)
         (record { before = H.in_faults host.old; after = H.in_faults host.new })
         (record { before = H.out_faults host.old; after = H.out_faults host.new }) result.status }
     ensures asked { IfSome result.job (λ job. Ask (texts words.now) job) }
-    ensures told { IfSome result.told (λ text. IsTold (texts words.now) text.items × (result.status ≡ Status.Fine)) }
-    ensures alone { AsksAlone (texts words.now) → (host.new ≡ host.old) × (result.run ≡ None) }
+    ensures told { IfSome result.told (λ text. IsTold (Q.means own.now) (texts words.now) text.items × (result.status ≡ Status.Fine)) }
+    ensures alone { AsksAlone (texts words.now) → host.new ≡ host.old }
+    ensures text { AsksText (texts words.now) → result.run ≡ None }
+    ensures generated { (seconds : ℕ) → AskGenerated (texts words.now) seconds → IsOwnAnswer (Q.means own.now) seconds result.status }
+    ensures own_logged { (seconds : ℕ) → AskGenerated (texts words.now) seconds → result.status ≡ Status.Fine
+        → HasLog (ReportsOwn (Q.means own.now)
+        (λ job heads bytes log. LogHas (Q.tells own.now job heads bytes) (Q.reads own.now job heads bytes) log) seconds) result.run }
     ensures silent { result.status ≡ Status.Fine → result.told ≡ None → AskFor (texts words.now) (λ job. ⊤) }
     ensures named { (file : _) → result.status ≡ Status.Device file → IsOfJob result.job file }
     ensures logged { result.status ≡ Status.Fine
         → AsksAlone (texts words.now) ⊎ HasLog (ReportsHistory (P.means worker.now)
         (λ job heads bytes log. LogHas (P.tells worker.now job heads bytes) (P.reads worker.now job heads bytes) log) (texts words.now) (H.files host.old)) result.run }
-    ensures traced { result.status ≡ Status.Fine → IfSome result.run (λ log. HoldsTrace (texts words.now) (H.files host.old) (H.files host.new) log.history) }
+    ensures traced { result.status ≡ Status.Fine
+        → AsksAlone (texts words.now) ⊎ IfSome result.run (λ log. HoldsTrace (texts words.now) (H.files host.old) (H.files host.new) log.history) }
     ensures closed { (H.open_sources host.new ≡ H.open_sources host.old) × (H.open_sinks host.new ≡ H.open_sinks host.old) }
 {
     match read_words(alloc, words) {
@@ -121,7 +103,15 @@ fn run_words<H: Host, P: Worker<Begun<H::Src>, H::Snk>>(
             told: None,
             run: None,
         },
-        Ok(Command::Solo(solo)) => tell(alloc, solo),
+        Ok(Command::Solo(solo)) => {
+            let Told { status, text, run } = tell(alloc, own, solo);
+            Worked {
+                status,
+                job: None,
+                told: text,
+                run,
+            }
+        }
         Ok(Command::Run(job)) => {
             let JobRun { status, log } = run_job(alloc, worker, &job, host);
             Worked {
@@ -191,20 +181,27 @@ fn reported(alloc: Global, status: &Status, run: Option<RunLog>) -> RunReport
 ///
 /// Where the words ask for a trace, its file is created behind the outputs, gets the printed history in one append where no node
 /// has a fault, and is closed last.
-pub fn run_command<H: Host, E: Sink, P: Worker<Begun<H::Src>, H::Snk>>(
-    alloc: Global,
-    worker: &P,
-    words: &[String],
-    host: &mut H,
-    log: &mut E,
-) -> Report
-    requires { P.is_able worker.now }
+///
+/// Where the words ask for the run over generated input, that job is worked by `own` over a host in memory, nothing of `host` is
+/// touched, and the line that tells of its output is appended to the log.
+pub fn run_command<
+    H: Host,
+    E: Sink,
+    P: Worker<Begun<H::Src>, H::Snk>,
+    Q: Worker<Begun<QuietSource>, QuietSink>,
+>(alloc: Global, worker: &P, own: &Q, words: &[String], host: &mut H, log: &mut E) -> Report
+    requires able { P.is_able worker.now }
+    requires own { Q.is_able own.now }
 
     // With status Fine the words ask for a job, and each of its outputs holds the bytes that the job means; or for what an option
-    // says that stands alone, which touches no file and ends so, or for want of memory.
+    // says that stands alone, which touches no file. A text that is asked for so is told, or memory ran out.
     ensures bytes { result.status ≡ Status.Fine → AsksAlone (texts words.now) ⊎ HoldsMeaning (P.means worker.now) (texts words.now) (H.files host.old) (H.files host.new) }
 
-    ensures alone { AsksAlone (texts words.now) → ((result.status ≡ Status.Fine) ⊎ (result.status ≡ Status.NoMemory)) × (host.new ≡ host.old) × (result.history ≡ []) }
+    ensures alone { AsksAlone (texts words.now) → host.new ≡ host.old }
+    ensures text { AsksText (texts words.now) → ((result.status ≡ Status.Fine) ⊎ (result.status ≡ Status.NoMemory)) × (result.history ≡ []) }
+
+    // The run over generated input answers as its one job over its own files does; nothing of these fails.
+    ensures generated { (seconds : ℕ) → AskGenerated (texts words.now) seconds → IsOwnAnswer (Q.means own.now) seconds result.status }
 
     // Whatever the status, no other file changes but the trace. Words, heads and plans are refused before any file is created, and a run that
     // fails later leaves of each output what was there, a front of what is written to it, or all of it.
@@ -218,25 +215,27 @@ pub fn run_command<H: Host, E: Sink, P: Worker<Begun<H::Src>, H::Snk>>(
 
     // A head is refused exactly where it is the first that is, unless reading it or one before it failed.
     ensures unsupported { (i offset : ℕ) → result.status ≡ Status.Unsupported i offset
-        → AskFor (texts words.now) (λ job. IsHeadRefused (P.means worker.now) job (H.files host.old) i (head_fault.Unsupported offset)) }
+        → AsksGenerated (texts words.now)
+        ⊎ AskFor (texts words.now) (λ job. IsHeadRefused (P.means worker.now) job (H.files host.old) i (head_fault.Unsupported offset)) }
     ensures damaged { (i offset : ℕ) → result.status ≡ Status.Damaged i offset
-        → AskFor (texts words.now) (λ job. IsDamaged (P.means worker.now) job (H.files host.old) (H.files host.new) i offset) }
+        → AsksGenerated (texts words.now) ⊎ AskFor (texts words.now) (λ job. IsDamaged (P.means worker.now) job (H.files host.old) (H.files host.new) i offset) }
     ensures refused { (i : ℕ) (why : HeadFault)
         → GivesNoHead (P.means worker.now) (texts words.now) (H.files host.old) (record { before = H.in_faults host.old; after = H.in_faults host.new }) i why
         → (result.status ≡ refused_head i why) ⊎ (result.status ≡ Status.NoMemory) }
 
     // The plan is refused exactly where the heads give none, unless reading failed.
     ensures plan { (why : PlanError) → result.status ≡ Status.Plan why
-        → AskFor (texts words.now) (λ job. IsPlanRefused (over (P.means worker.now) job) (H.files host.old) why) }
+        → AsksGenerated (texts words.now) ⊎ AskFor (texts words.now) (λ job. IsPlanRefused (over (P.means worker.now) job) (H.files host.old) why) }
     ensures no_plan { (why : PlanError)
         → GivesNoPlan (P.means worker.now) (texts words.now) (H.files host.old) (record { before = H.in_faults host.old; after = H.in_faults host.new }) why
         → (result.status ≡ refused_plan why) ⊎ (result.status ≡ Status.NoMemory) }
     ensures plan_memory { result.status ≢ Status.Plan PlanError.NoMemory }
 
     // A run breaks only of the bytes of its inputs.
-    ensures too_long { (node : ℕ) → result.status ≡ Status.TooLong node → AskFor (texts words.now) (λ job. IsTooLong (P.means worker.now) job (H.files host.old) node) }
+    ensures too_long { (node : ℕ) → result.status ≡ Status.TooLong node
+        → AsksGenerated (texts words.now) ⊎ AskFor (texts words.now) (λ job. IsTooLong (P.means worker.now) job (H.files host.old) node) }
     ensures too_large { (output : ℕ) → result.status ≡ Status.TooLarge output
-        → AskFor (texts words.now) (λ job. IsBroken (over (P.means worker.now) job) (H.files host.old) (run_fault.TooLarge output)) }
+        → AsksGenerated (texts words.now) ⊎ AskFor (texts words.now) (λ job. IsBroken (over (P.means worker.now) job) (H.files host.old) (run_fault.TooLarge output)) }
 
     // A fault of a device is answered only where the count of that file's name rose.
     ensures device { (file : _) → result.status ≡ Status.Device file → AskFor (texts words.now) (λ job. HasFailed (P.means worker.now) job (H.files host.old)
@@ -257,13 +256,14 @@ pub fn run_command<H: Host, E: Sink, P: Worker<Begun<H::Src>, H::Snk>>(
     // Whatever the status, each source and each sink that it opened is given back.
     ensures closed { (H.open_sources host.new ≡ H.open_sources host.old) × (H.open_sinks host.new ≡ H.open_sinks host.old) }
 
-    // The text that an option asks for that stands alone, or the line of a fault; that of a device's names the file.
+    // The text that an option asks for that stands alone, for the run over generated input the line that tells of its output; or the
+    // line of a fault. That of a device's names the file.
     ensures line_not_due { (result.line ≡ Line.NotDue) ↔ ((result.status ≡ Status.Fine) × AskFor (texts words.now) (λ job. ⊤)) }
     ensures not_logged { result.line ≡ Line.NotDue → Keeps (E.holds log.old) (E.holds log.new) }
-    ensures logged { result.line ≡ Line.Whole → (text : List ℕ) × IsDue (texts words.now) result.status text
+    ensures logged { result.line ≡ Line.Whole → (text : List ℕ) × IsDue (Q.means own.now) (texts words.now) result.status text
         × Appends (E.holds log.old) (E.holds log.new) text }
     ensures log_failed { result.line ≡ Line.Failed → Rose (E.faults log.old) (E.faults log.new)
-        × ((text : List ℕ) × IsDue (texts words.now) result.status text × AppendsPrefix (E.holds log.old) (E.holds log.new) text) }
+        × ((text : List ℕ) × IsDue (Q.means own.now) (texts words.now) result.status text × AppendsPrefix (E.holds log.old) (E.holds log.new) text) }
     ensures line_no_memory { result.line ≡ Line.NoMemory → Keeps (E.holds log.old) (E.holds log.new) }
 
     // The history of what the scheduler of the run granted and was told, which the trace holds where the words ask for one.
@@ -275,14 +275,20 @@ pub fn run_command<H: Host, E: Sink, P: Worker<Begun<H::Src>, H::Snk>>(
     // For each input the places in that history of the grants under which its source tried a unit.
     ensures reads { result.status ≡ Status.Fine → AsksAlone (texts words.now)
         ⊎ ReportsReads (P.means worker.now) (P.reads worker.now) (texts words.now) (H.files host.old) result.history (places_in result.reads.items) }
-    ensures no_reads { (result.status ≢ Status.Fine) ⊎ AsksAlone (texts words.now) → result.reads.items ≡ [] }
+    ensures no_reads { (result.status ≢ Status.Fine) ⊎ AsksText (texts words.now) → result.reads.items ≡ [] }
+
+    // Those of the run over generated input are of its one job over its own files.
+    ensures own_history { (seconds : ℕ) → AskGenerated (texts words.now) seconds → result.status ≡ Status.Fine
+        → ReportsOwn (Q.means own.now) (Q.tells own.now) seconds result.history }
+    ensures own_reads { (seconds : ℕ) → AskGenerated (texts words.now) seconds → result.status ≡ Status.Fine
+        → ReportsOwnReads (Q.means own.now) (Q.reads own.now) seconds result.history (places_in result.reads.items) }
 {
     let Worked {
         status,
         job,
         told,
         run,
-    } = run_words(alloc, worker, words, host);
+    } = run_words(alloc, worker, own, words, host);
     let line = log_end(alloc, &told, &status, name_of(&status, &job), log);
     let RunReport { history, reads } = reported(alloc, &status, run);
     Report {

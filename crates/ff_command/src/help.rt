@@ -2,12 +2,11 @@
 ghost use Rattle.std.specs.Prelude.{◌≡◌, ◌++◌, OnOk, IfOk, ℕ, codes};
 ghost use Rattle.ff_lists.specs.Text.{line};
 ghost use Rattle.ff_words.specs.Table.{lines, formats, codecs, names};
-ghost use Rattle.ff_words.specs.declared.job.Solo.TheVariants.{SelfRun};
 ghost use Rattle.ff_command.specs.Help.{left, all_lines, concerned, taken, effect as effect_of, option_line, option_lines, ways, format_line, format_lines};
-ghost use Rattle.ff_command.specs.Help.{codec_lines, help_text, version_text, solo_text as told_of};
+ghost use Rattle.ff_command.specs.Help.{codec_lines, help_text, version_text};
 
 use ff_values::Codec;
-use ff_words::{AUDIO_CODECS, Concern, FORMATS, FileFormat, Kind, OPTIONS, Solo, VIDEO_CODECS};
+use ff_words::{AUDIO_CODECS, Concern, FORMATS, FileFormat, Kind, OPTIONS, VIDEO_CODECS};
 use std::alloc::{AllocError, Global};
 
 /// What stands before the options.
@@ -251,8 +250,9 @@ fn push_codecs(
     Ok(())
 }
 
+/// What `-h` asks for.
 #[tactic(auto, unfolding(crate::specs::Help::help_text))]
-fn help(alloc: Global) -> Result<Vec<u8>, AllocError>
+pub(crate) fn help(alloc: Global) -> Result<Vec<u8>, AllocError>
     ensures { IfOk result (λ text. text.items ≡ help_text) }
 {
     let mut out = Vec::new(alloc);
@@ -268,23 +268,12 @@ fn help(alloc: Global) -> Result<Vec<u8>, AllocError>
     Ok(out)
 }
 
+/// What `-version` asks for.
 #[tactic(auto, unfolding(crate::specs::Help::version_text))]
-fn version(alloc: Global) -> Result<Vec<u8>, AllocError>
+pub(crate) fn version(alloc: Global) -> Result<Vec<u8>, AllocError>
     ensures { IfOk result (λ text. text.items ≡ version_text) }
 {
     let mut out = Vec::new(alloc);
     push_lines(&mut out, &PROGRAM)?;
     Ok(out)
-}
-
-/// What is told where an option stands alone that only asks for a text.
-pub(crate) fn solo_text(alloc: Global, solo: Solo) -> Result<Vec<u8>, AllocError>
-    requires { (seconds : ℕ) → solo ≡ SelfRun seconds → ⊥ }
-    ensures { IfOk result (λ text. text.items ≡ told_of solo) }
-{
-    match solo {
-        Solo::Help => help(alloc),
-        Solo::Version => version(alloc),
-        Solo::SelfRun(_) => unreachable!(),
-    }
 }

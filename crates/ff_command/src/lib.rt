@@ -9,7 +9,8 @@
 //! lines of faults and the numbers. [`run_command`] is proved to keep to them over any host, any log and any [`Worker`]: what is done
 //! of a job between the opening of its inputs and the closing of its outputs a worker says, and does. The history of a run is
 //! reported, and printed into the file of the trace where the words ask for one. What is told of the command itself, where an option
-//! stands alone, is in `specs/Help`, over the lists by which words are read.
+//! stands alone, is in `specs/Help`, over the lists by which words are read. The run over generated input (ff_self_run) is a job like
+//! any other, over a host in memory, by a worker of its own.
 #![tactic(auto)]
 
 mod command;
@@ -19,6 +20,7 @@ mod log;
 mod report;
 mod run;
 mod texts;
+mod told;
 mod worker;
 mod written;
 

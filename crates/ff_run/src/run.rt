@@ -11,7 +11,7 @@ ghost use Rattle.ff_words.specs.Words.{texts, fault};
 ghost use Rattle.ff_words.specs.declared.error.Fault.{Fault};
 ghost use Rattle.ff_running.specs.declared.fault.RunFault.TheVariants as run_fault;
 ghost use Rattle.ff_files.specs.Ends.{IsPlanRefused, IsBroken};
-ghost use Rattle.ff_command.specs.Command.{AsksAlone, IsDue};
+ghost use Rattle.ff_command.specs.Command.{AsksAlone, AsksText, AskGenerated, AsksGenerated, IsDue, IsOwnAnswer, ReportsOwn, ReportsOwnReads};
 ghost use Rattle.ff_command.specs.Command.{AskFor, AreWrong, KeepsOtherFiles, ComesBeforeOutputs, ReportsHistory, ReportsReads, HoldsTrace};
 ghost use Rattle.ff_command.specs.Command.{refused_head, refused_plan, over, HoldsMeaning, HoldsFront, IsHeadRefused, IsDamaged, IsTooLong};
 ghost use Rattle.ff_command.specs.Command.{HasFailed, GivesNoHead, GivesNoPlan, GivesAll, KeepsInputCounts, KeepsOutputCounts};
@@ -19,7 +19,7 @@ ghost use Rattle.ff_build.specs.Parts.{all_kinds};
 ghost use Rattle.ff_running.specs.Accepting.{IsAccepted, IsPlanFor};
 ghost use Rattle.ff_run.specs.Meaning.{job_means, IsJobHistory, AreJobReads};
 ghost use Rattle.ff_running.specs.Reads.{places_in};
-ghost use Rattle.ff_run.specs.Saying.{BegunSays, PlanSays, RunSays};
+ghost use Rattle.ff_run.specs.Saying.{BegunSays, PlanSays, QuietSays, RunSays};
 
 use crate::worker::Threaded;
 use ff_build::{Part, Parts};
@@ -27,6 +27,7 @@ use ff_command::{Line, Report, Status, run_command};
 use ff_files::{Done, PlanEnd};
 use ff_heads::InputHead;
 use ff_host::{Begun, Host, Sink, Source};
+use ff_memory_host::{QuietSink, QuietSource};
 use ff_plan::{Plan, PlanError};
 use ff_running::{RunFault, RunLog, make_plan, run_plan};
 use ff_words::Job;
@@ -69,11 +70,14 @@ pub fn ffmpeg<R: Threads + Wait + Sync, H: Host, E: Sink>(
     log: &mut E,
 ) -> Report
     // With status Fine the words ask for a job, and each of its outputs holds the bytes that the job means; or for what an option
-    // says that stands alone, which touches no file and ends so, or for want of memory.
+    // says that stands alone, which touches no file. A text that is asked for so is told, or memory ran out.
     ensures bytes { result.status ≡ Status.Fine → AsksAlone (texts words.now) ⊎ HoldsMeaning job_means (texts words.now) (H.files host.old) (H.files host.new) }
 
-    ensures alone { AsksAlone (texts words.now)
-        → ((result.status ≡ Status.Fine) ⊎ (result.status ≡ Status.NoMemory)) × (host.new ≡ host.old) × (result.history ≡ []) }
+    ensures alone { AsksAlone (texts words.now) → host.new ≡ host.old }
+    ensures text { AsksText (texts words.now) → ((result.status ≡ Status.Fine) ⊎ (result.status ≡ Status.NoMemory)) × (result.history ≡ []) }
+
+    // The run over generated input answers as its one job over its own files does; nothing of these fails.
+    ensures generated { (seconds : ℕ) → AskGenerated (texts words.now) seconds → IsOwnAnswer job_means seconds result.status }
 
     // Whatever the status, no other file changes but the trace. Words, heads and plans are refused before any file is created, and a run that
     // fails later leaves of each output what was there, a front of what is written to it, or all of it.
@@ -87,25 +91,26 @@ pub fn ffmpeg<R: Threads + Wait + Sync, H: Host, E: Sink>(
 
     // A head is refused exactly where it is the first that is, unless reading it or one before it failed.
     ensures unsupported { (i offset : ℕ) → result.status ≡ Status.Unsupported i offset
-        → AskFor (texts words.now) (λ job. IsHeadRefused job_means job (H.files host.old) i (head_fault.Unsupported offset)) }
+        → AsksGenerated (texts words.now) ⊎ AskFor (texts words.now) (λ job. IsHeadRefused job_means job (H.files host.old) i (head_fault.Unsupported offset)) }
     ensures damaged { (i offset : ℕ) → result.status ≡ Status.Damaged i offset
-        → AskFor (texts words.now) (λ job. IsDamaged job_means job (H.files host.old) (H.files host.new) i offset) }
+        → AsksGenerated (texts words.now) ⊎ AskFor (texts words.now) (λ job. IsDamaged job_means job (H.files host.old) (H.files host.new) i offset) }
     ensures refused { (i : ℕ) (why : HeadFault)
         → GivesNoHead job_means (texts words.now) (H.files host.old) (record { before = H.in_faults host.old; after = H.in_faults host.new }) i why
         → (result.status ≡ refused_head i why) ⊎ (result.status ≡ Status.NoMemory) }
 
     // The plan is refused exactly where the heads give none, unless reading failed.
     ensures plan { (why : PlanError) → result.status ≡ Status.Plan why
-        → AskFor (texts words.now) (λ job. IsPlanRefused (over job_means job) (H.files host.old) why) }
+        → AsksGenerated (texts words.now) ⊎ AskFor (texts words.now) (λ job. IsPlanRefused (over job_means job) (H.files host.old) why) }
     ensures no_plan { (why : PlanError)
         → GivesNoPlan job_means (texts words.now) (H.files host.old) (record { before = H.in_faults host.old; after = H.in_faults host.new }) why
         → (result.status ≡ refused_plan why) ⊎ (result.status ≡ Status.NoMemory) }
     ensures plan_memory { result.status ≢ Status.Plan PlanError.NoMemory }
 
     // A run breaks only of the bytes of its inputs.
-    ensures too_long { (node : ℕ) → result.status ≡ Status.TooLong node → AskFor (texts words.now) (λ job. IsTooLong job_means job (H.files host.old) node) }
+    ensures too_long { (node : ℕ) → result.status ≡ Status.TooLong node
+        → AsksGenerated (texts words.now) ⊎ AskFor (texts words.now) (λ job. IsTooLong job_means job (H.files host.old) node) }
     ensures too_large { (output : ℕ) → result.status ≡ Status.TooLarge output
-        → AskFor (texts words.now) (λ job. IsBroken (over job_means job) (H.files host.old) (run_fault.TooLarge output)) }
+        → AsksGenerated (texts words.now) ⊎ AskFor (texts words.now) (λ job. IsBroken (over job_means job) (H.files host.old) (run_fault.TooLarge output)) }
 
     // A fault of a device is answered only where the count of that file's name rose.
     ensures device { (file : _) → result.status ≡ Status.Device file → AskFor (texts words.now) (λ job. HasFailed job_means job (H.files host.old)
@@ -128,13 +133,14 @@ pub fn ffmpeg<R: Threads + Wait + Sync, H: Host, E: Sink>(
     // Whatever the status, each source and each sink that it opened is given back.
     ensures closed { (H.open_sources host.new ≡ H.open_sources host.old) × (H.open_sinks host.new ≡ H.open_sinks host.old) }
 
-    // The text that an option asks for that stands alone, or the line of a fault; that of a device's names the file.
+    // The text that an option asks for that stands alone, for the run over generated input the line that tells of its output; or the
+    // line of a fault. That of a device's names the file.
     ensures line_not_due { (result.line ≡ Line.NotDue) ↔ ((result.status ≡ Status.Fine) × AskFor (texts words.now) (λ job. ⊤)) }
     ensures not_logged { result.line ≡ Line.NotDue → Keeps (E.holds log.old) (E.holds log.new) }
-    ensures logged { result.line ≡ Line.Whole → (text : List ℕ) × IsDue (texts words.now) result.status text
+    ensures logged { result.line ≡ Line.Whole → (text : List ℕ) × IsDue job_means (texts words.now) result.status text
         × Appends (E.holds log.old) (E.holds log.new) text }
     ensures log_failed { result.line ≡ Line.Failed → Rose (E.faults log.old) (E.faults log.new)
-        × ((text : List ℕ) × IsDue (texts words.now) result.status text × AppendsPrefix (E.holds log.old) (E.holds log.new) text) }
+        × ((text : List ℕ) × IsDue job_means (texts words.now) result.status text × AppendsPrefix (E.holds log.old) (E.holds log.new) text) }
     ensures line_no_memory { result.line ≡ Line.NoMemory → Keeps (E.holds log.old) (E.holds log.new) }
 
     // The history of what the scheduler of the run granted and was told, from the opening state of the plan on, which the trace
@@ -149,7 +155,13 @@ pub fn ffmpeg<R: Threads + Wait + Sync, H: Host, E: Sink>(
     // read under them is at each output the whole stream already, and each input has at most one more than packets.
     ensures reads { result.status ≡ Status.Fine → AsksAlone (texts words.now)
         ⊎ ReportsReads job_means AreJobReads (texts words.now) (H.files host.old) result.history (places_in result.reads.items) }
-    ensures no_reads { (result.status ≢ Status.Fine) ⊎ AsksAlone (texts words.now) → result.reads.items ≡ [] }
+    ensures no_reads { (result.status ≢ Status.Fine) ⊎ AsksText (texts words.now) → result.reads.items ≡ [] }
+
+    // Those of the run over generated input are of its one job over its own files.
+    ensures own_history { (seconds : ℕ) → AskGenerated (texts words.now) seconds → result.status ≡ Status.Fine
+        → ReportsOwn job_means IsJobHistory seconds result.history }
+    ensures own_reads { (seconds : ℕ) → AskGenerated (texts words.now) seconds → result.status ≡ Status.Fine
+        → ReportsOwnReads job_means AreJobReads seconds result.history (places_in result.reads.items) }
 {
     let plan = |job: &Job, heads: &[InputHead]| -> Result<Plan, PlanEnd<PlanError>>
         requires { IsAccepted all_kinds job.now heads.now }
@@ -163,6 +175,25 @@ pub fn ffmpeg<R: Threads + Wait + Sync, H: Host, E: Sink>(
         ensures { BegunSays all_kinds H.Src.left H.Src.name H.Src.faults H.Snk.holds H.Snk.name H.Snk.faults
             job.now heads.now srcs.items snks.items result.end result.log result.srcs.items result.snks.items }
     { run_parts::<R, Begun<H::Src>, H::Snk>(rt, alloc, job, plan, heads, srcs, snks) };
+    let own_plan = |job: &Job, heads: &[InputHead]| -> Result<Plan, PlanEnd<PlanError>>
+        requires { IsAccepted all_kinds job.now heads.now }
+        ensures { PlanSays all_kinds job.now heads.now result }
+    {
+        make_plan::<Parts, Begun<QuietSource>, QuietSink, Part<Begun<QuietSource>, QuietSink>>(
+            alloc, job, heads,
+        )
+    };
+    let own_run = |job: &Job, plan: Plan, heads: &[InputHead], srcs: Vec<
+        Begun<QuietSource>,
+    >, snks: Vec<QuietSink>| -> Done<RunFault, Begun<QuietSource>, QuietSink, RunLog>
+        requires sync { IsSync R.row }
+        requires plan { IsPlanFor all_kinds job.now heads.now plan }
+        ensures { QuietSays all_kinds job.now heads.now srcs.items snks.items result.end result.log result.srcs.items result.snks.items }
+    { run_parts::<R, Begun<QuietSource>, QuietSink>(rt, alloc, job, plan, heads, srcs, snks) };
     let worker = Threaded { plan, run };
-    run_command(alloc, &worker, words, host, log)
+    let own = Threaded {
+        plan: own_plan,
+        run: own_run,
+    };
+    run_command(alloc, &worker, &own, words, host, log)
 }

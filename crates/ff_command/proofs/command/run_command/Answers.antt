@@ -2,17 +2,15 @@ use Rattle.std.proofs.Common.{ℕ, List, inl, inr, sym, subst}
 use Rattle.ff_values.specs.declared.event.Event.{Event}
 use Rattle.ff_running.specs.Reads.{places_in}
 use Rattle.ff_words.specs.Words.{texts}
-use Rattle.ff_command.specs.Command.{ReportsHistory, ReportsReads, HoldsTrace}
+use Rattle.ff_command.specs.Command.{ReportsHistory, ReportsReads, ReportsOwn, ReportsOwnReads, HoldsTrace}
 use Rattle.ff_command.specs.Histories.{history_in}
 use Rattle.ff_command.proofs.Answers.{due-text, none-told}
 use Rattle.ff_command.proofs.Reports.{has_more, reported_history, reported_reads, also_reported}
 use Rattle.ff_command.proofs.command.run_command.Goals as goal
 
-pub returns-clause-alone : goal.returns-clause-alone
-returns-clause-alone g c = λ asks.
-    let ends = c.run_words-status.ensures.answered.alone asks in
-    let same = c.run_words-status.ensures.alone asks in
-    (ends, same.0, (c.reported-history.ensures.other (inr same.1)).0)
+pub returns-clause-text : goal.returns-clause-text
+returns-clause-text g c = λ asks.
+    (c.run_words-status.ensures.answered.text asks, (c.reported-history.ensures.other (inr (c.run_words-status.ensures.text asks))).0)
 
 pub returns-clause-no_history : goal.returns-clause-no_history
 returns-clause-no_history g c = λ other. (c.reported-history.ensures.other (inl other)).0
@@ -20,7 +18,7 @@ returns-clause-no_history g c = λ other. (c.reported-history.ensures.other (inl
 pub returns-clause-no_reads : goal.returns-clause-no_reads
 returns-clause-no_reads g c = λ which. elim which [
   | inl other ↦ (c.reported-history.ensures.other (inl other)).1
-  | inr asks ↦ (c.reported-history.ensures.other (inr (c.run_words-status.ensures.alone asks).1)).1
+  | inr asks ↦ (c.reported-history.ensures.other (inr (c.run_words-status.ensures.text asks))).1
 ]
 
 pub returns-clause-line_not_due : goal.returns-clause-line_not_due
@@ -28,7 +26,7 @@ returns-clause-line_not_due g c = (
   λ quiet.
       let none = c.log_end-line.ensures.not_due quiet in
       (none.1, c.run_words-status.ensures.silent none.1 none.0),
-  λ asked. c.log_end-line.ensures.due asked.0 (none-told (texts c.args.words.now) c.run_words-status.result.told c.run_words-status.result.status c.run_words-status.ensures.told asked.1),
+  λ asked. c.log_end-line.ensures.due asked.0 (none-told (g.Q.Worker.means c.args.own.now) (texts c.args.words.now) c.run_words-status.result.told c.run_words-status.result.status c.run_words-status.ensures.told asked.1),
 )
 
 pub returns-clause-logged : goal.returns-clause-logged
@@ -36,7 +34,7 @@ returns-clause-logged g c = λ whole.
     let words = texts c.args.words.now in
     let told = c.log_end-line.ensures.whole whole in (
       told.0,
-      due-text words c.run_words-status.result.told c.run_words-status.result.status c.name_of.result.now told.0 c.run_words-status.ensures.told (c.name_of.ensures words c.run_words-status.ensures.asked) told.1,
+      due-text (g.Q.Worker.means c.args.own.now) words c.run_words-status.result.told c.run_words-status.result.status c.name_of.result.now told.0 c.run_words-status.ensures.told (c.name_of.ensures words c.run_words-status.ensures.asked) told.1,
       told.2,
     )
 
@@ -47,7 +45,7 @@ returns-clause-log_failed g c = λ failed.
       told.0,
       (
         told.1.0,
-        due-text words c.run_words-status.result.told c.run_words-status.result.status c.name_of.result.now told.1.0 c.run_words-status.ensures.told (c.name_of.ensures words c.run_words-status.ensures.asked) told.1.1,
+        due-text (g.Q.Worker.means c.args.own.now) words c.run_words-status.result.told c.run_words-status.result.status c.name_of.result.now told.1.0 c.run_words-status.ensures.told (c.name_of.ensures words c.run_words-status.ensures.asked) told.1.1,
         told.1.2,
       ),
     )
@@ -78,10 +76,31 @@ returns-clause-reads g c = λ fine.
           (reported_reads are run (has_more _ (λ log. are log.history (places_in log.reads.items)) run (λ log x. (x.0, x.1, (x.2.0, x.2.1, x.2.2.1))) logged))))
     ]
 
+pub returns-clause-own_history : goal.returns-clause-own_history
+returns-clause-own_history g c = λ seconds asks fine.
+    let Q = g.Q.Worker in
+    let own = c.args.own.now in
+    let told = ReportsOwn (Q.means own) (Q.tells own) seconds in
+    subst told (sym (c.reported-history.ensures.fine fine).0)
+    (reported_history told c.run_words-status.result.run (has_more _ (λ log. told log.history) c.run_words-status.result.run (λ log x. (x.0, x.1, (x.2.0, x.2.1, x.2.2.0))) (c.run_words-status.ensures.own_logged seconds asks fine)))
+
+pub returns-clause-own_reads : goal.returns-clause-own_reads
+returns-clause-own_reads g c = λ seconds asks fine.
+    let Q = g.Q.Worker in
+    let own = c.args.own.now in
+    let run = c.run_words-status.result.run in
+    let are = ReportsOwnReads (Q.means own) (Q.reads own) seconds in
+    let is = c.reported-history.ensures.fine fine in
+    subst (λ (events : List Event). are events (places_in c.reported-history.result.reads.items)) (sym is.0) (subst (λ (rs : List (List ℕ)). are (history_in run) rs) (sym is.1)
+    (reported_reads are run (has_more _ (λ log. are log.history (places_in log.reads.items)) run (λ log x. (x.0, x.1, (x.2.0, x.2.1, x.2.2.1))) (c.run_words-status.ensures.own_logged seconds asks fine))))
+
 pub returns-clause-trace : goal.returns-clause-trace
 returns-clause-trace g c = λ fine.
     let held = HoldsTrace (texts c.args.words.now) (g.H.Host.files c.args.host.now) (g.H.Host.files c.run_words-status.new.host) in
     elim (c.run_words-status.ensures.logged fine) [
       | inl alone ↦ inl alone
-      | inr logged ↦ inr (subst held (sym (c.reported-history.ensures.fine fine).0) (also_reported _ held c.run_words-status.result.run logged (c.run_words-status.ensures.traced fine)))
+      | inr logged ↦ elim (c.run_words-status.ensures.traced fine) [
+        | inl alone ↦ inl alone
+        | inr traced ↦ inr (subst held (sym (c.reported-history.ensures.fine fine).0) (also_reported _ held c.run_words-status.result.run logged traced))
+      ]
     ]
