@@ -29,7 +29,10 @@ use Rattle.ff_command.specs.declared.report.FileRef.TheVariants.{Input, Output, 
 use Rattle.ff_command.specs.declared.report.Status.{Status}
 use Rattle.ff_command.specs.declared.report.Status.TheVariants as status
 use Rattle.ff_command.specs.Texts.{fault_text}
-use Rattle.ff_command.specs.Command.{AskFor, AsksAlone, AsksText, AsksGenerated, AreWrong, KeepsOtherFiles, ComesBeforeOutputs, AreSoundTo, InputsAreSound, OutputsAreSound, refused_head, refused_plan, over, HoldsMeaning, HoldsFront, IsHeadRefused, IsDamaged, IsTooLong, HasFailed, HasFile, GivesNoHead, GivesNoPlan, GivesAll, KeepsInputs, KeepsOutputs, KeepsInputCounts, KeepsOutputCounts}
+use Rattle.ff_command.specs.Command.{AskFor, AsksAlone, AsksText, AsksGenerated, AreWrong, KeepsOtherFiles, ComesBeforeOutputs, AreSoundTo}
+use Rattle.ff_command.specs.Command.{InputsAreSound, OutputsAreSound, refused_head, refused_plan, over, HoldsMeaning, HoldsFront, IsHeadRefused}
+use Rattle.ff_command.specs.Command.{IsDamaged, IsTooLong, HasFailed, HasFile, GivesNoHead, GivesNoPlan, GivesAll, KeepsInputs, KeepsOutputs}
+use Rattle.ff_command.specs.Command.{KeepsInputCounts, KeepsOutputCounts}
 
 -- the heads of all inputs of a job that words may ask for
 pub record AreAllHeads (job : Job) (heads : List InputHead) : Type 0 where
