@@ -19,3 +19,4 @@ pub mod Tables
 pub mod Slices
 pub mod LawLemmas
 pub mod NumberBelow
+pub mod Windows

@@ -44,6 +44,46 @@ front_of (false ∷ xs) (suc z) m e below above =
     let rest = front_of xs z m (omega arith) (omega arith) (omega arith) in
     (ap (λ (ys : List Bool). false ∷ ys) rest.0, elim rest.1 [ inl n ↦ inl n | inr y ↦ inr (subst (λ (k : ℕ). false ∷ xs ≡ replicate (suc z) false ++ true ∷ drop k (false ∷ xs)) next (ap (λ (ys : List Bool). false ∷ ys) y)) ])
 
+-- the zeros at the front of a word, by its bits
+pub front_in : (xs : List Bool) (s : ℕ) → length xs ≡ 64 → s ≡ value_of xs → (m : ℕ) × IsFrontOf (count_leading_zeros 64 s) m xs × (count_leading_zeros 64 s + m ≡ 64)
+front_in xs s len e =
+    let below : s < 2 ^ 64 = subst (λ (k : ℕ). s < 2 ^ k) len (subst (λ (v : ℕ). v < 2 ^ length xs) (sym e) (value_below xs)) in
+    let t = leading_length 64 s below in
+    (t.0, front_of xs (count_leading_zeros 64 s) t.0 (t.1 ∙ sym len) (subst (λ (v : ℕ). v < 2 ^ t.0) e t.2) (subst (λ (v : ℕ). 2 ^ t.0 ≤ 2 * v + 1) e t.3), t.1)
+
+-- a word moved left
+pub shifted_left : (n : ℕ) (xs : List Bool) → length xs ≡ 64 → n ≤ 64 → (value_of xs * 2 ^ n) % 2 ^ 64 ≡ value_of (drop n xs ++ replicate n false)
+shifted_left n xs len le =
+    let back : List Bool = drop n xs in
+    let front : List Bool = take n xs in
+    let lb : length back ≡ 64 - n = omega (arith, length-drop n xs) in
+    let parts : value_of xs ≡ value_of front * 2 ^ (64 - n) + value_of back = ap value_of (sym (take-append-drop n xs)) ∙ value_of-append front back ∙ ap (λ (k : ℕ). value_of front * 2 ^ k + value_of back) lb in
+    let p : 2 ^ (64 - n) * 2 ^ n ≡ 2 ^ 64 = sym (pow-add 2 (64 - n) n) ∙ ap (λ (k : ℕ). 2 ^ k) (let e : 64 - n + n ≡ 64 = omega arith in e) in
+    let product : value_of xs * 2 ^ n ≡ value_of front * 2 ^ 64 + value_of back * 2 ^ n =
+    ap (λ (x : ℕ). x * 2 ^ n) parts ∙ (let e : (value_of front * 2 ^ (64 - n) + value_of back) * 2 ^ n ≡ value_of front * (2 ^ (64 - n) * 2 ^ n) + value_of back * 2 ^ n = omega arith in e) ∙ ap (λ (k : ℕ). value_of front * k + value_of back * 2 ^ n) p in
+    let low0 : value_of back < 2 ^ (64 - n) = subst (λ (k : ℕ). value_of back < 2 ^ k) lb (value_below back) in
+    let low : value_of back * 2 ^ n < 2 ^ 64 = subst (λ (y : ℕ). value_of back * 2 ^ n < y) p (mul-lt-mul_of_pos_right low0 (pow_pos n)) in
+    let behind : value_of (back ++ replicate n false) ≡ value_of back * 2 ^ n =
+    value_of-append back (replicate n false) ∙ ap (λ (k : ℕ). value_of back * 2 ^ k + value_of (replicate n false)) (length-replicate n false) ∙ omega (arith, value_of-zeros n) in
+    ap (λ (x : ℕ). x % 2 ^ 64) product ∙ mod_low (value_of front) 64 (value_of back * 2 ^ n) low ∙ sym behind
+
+-- bits that begin as others do, which begin with zeros and a one
+pub like_one : (z : ℕ) (ys xs : List Bool) → take (z + 1) ys ≡ take (z + 1) xs → xs ≡ replicate z false ++ true ∷ drop (z + 1) xs → ys ≡ replicate z false ++ true ∷ drop (z + 1) ys
+like_one z ys xs same e =
+    let zs : List Bool = replicate z false ++ true ∷ [] in
+    let behind : List Bool = drop (z + 1) xs in
+    let lz : length zs ≡ z + 1 = length-append (replicate z false) (true ∷ []) ∙ omega (arith, length-replicate z false) in
+    let split : xs ≡ zs ++ behind = e ∙ sym (append_assoc (replicate z false) (true ∷ []) behind) in
+    let t : take (z + 1) ys ≡ zs = same ∙ ap (take (z + 1)) split ∙ take_at zs behind (z + 1) lz in
+    sym (take-append-drop (z + 1) ys) ∙ ap (λ (m : List Bool). m ++ drop (z + 1) ys) t ∙ append_assoc (replicate z false) (true ∷ []) (drop (z + 1) ys)
+
+-- bits that begin as others do, which begin with zeros
+pub like_zeros : (z n : ℕ) (ys xs : List Bool) → n ≤ z → take n ys ≡ take n xs → xs ≡ replicate z false ++ drop z xs → ys ≡ replicate n false ++ drop n ys
+like_zeros z n ys xs le same e =
+    let lz : n ≤ length (replicate z false) = omega (arith, length-replicate z false) in
+    let t : take n ys ≡ replicate n false = same ∙ ap (take n) e ∙ take-append-le n (replicate z false) (drop z xs) lz ∙ take-replicate n z false le in
+    sym (take-append-drop n ys) ∙ ap (λ (m : List Bool). m ++ drop n ys) t
+
 -- the bits of the word from a reader's place on, filled up with zeros
 abbrev pub seen : ℕ → List ℕ → List Bool
 seen used bytes = drop used (bits (take 8 (bytes ++ replicate 8 0))) ++ replicate used false
@@ -65,20 +105,7 @@ module _ (used : ℕ) (bytes : List ℕ) (few : used < 8) where
 
   pub shifted : (word : ℕ) → word ≡ value_of (bits (take 8 (bytes ++ replicate 8 0))) → (word * 2 ^ used) % 2 ^ 64 ≡ value_of (seen used bytes)
   unfolding in_word
-  shifted word w =
-      let back : List Bool = drop used in_word in
-      let front : List Bool = take used in_word in
-      let lb : length back ≡ 64 - used = omega (arith, length-drop used in_word, length-in_word) in
-      let parts : word ≡ value_of front * 2 ^ (64 - used) + value_of back =
-      w ∙ ap value_of (sym (take-append-drop used in_word)) ∙ value_of-append front back ∙ ap (λ (k : ℕ). value_of front * 2 ^ k + value_of back) lb in
-      let p : 2 ^ (64 - used) * 2 ^ used ≡ 2 ^ 64 = sym (pow-add 2 (64 - used) used) ∙ ap (λ (k : ℕ). 2 ^ k) (let e : 64 - used + used ≡ 64 = omega arith in e) in
-      let product : word * 2 ^ used ≡ value_of front * 2 ^ 64 + value_of back * 2 ^ used =
-      ap (λ (x : ℕ). x * 2 ^ used) parts ∙ (let e : (value_of front * 2 ^ (64 - used) + value_of back) * 2 ^ used ≡ value_of front * (2 ^ (64 - used) * 2 ^ used) + value_of back * 2 ^ used = omega arith in e) ∙ ap (λ (k : ℕ). value_of front * k + value_of back * 2 ^ used) p in
-      let low0 : value_of back < 2 ^ (64 - used) = subst (λ (k : ℕ). value_of back < 2 ^ k) lb (value_below back) in
-      let low : value_of back * 2 ^ used < 2 ^ 64 = subst (λ (y : ℕ). value_of back * 2 ^ used < y) p (mul-lt-mul_of_pos_right low0 (pow_pos used)) in
-      let behind : value_of (seen used bytes) ≡ value_of back * 2 ^ used =
-      value_of-append back (replicate used false) ∙ ap (λ (k : ℕ). value_of back * 2 ^ k + value_of (replicate used false)) (length-replicate used false) ∙ omega (arith, value_of-zeros used) in
-      ap (λ (x : ℕ). x % 2 ^ 64) product ∙ mod_low (value_of front) 64 (value_of back * 2 ^ used) low ∙ sym behind
+  shifted word w = ap (λ (x : ℕ). (x * 2 ^ used) % 2 ^ 64) w ∙ shifted_left used in_word length-in_word (omega arith)
 
   -- bits that are there are those of the word
   pub same_front : (n : ℕ) → used + n ≤ 64 → used + n ≤ 8 * length bytes → take n (drop used (bits bytes)) ≡ take n (seen used bytes)
@@ -104,32 +131,18 @@ module _ (used : ℕ) (bytes : List ℕ) (few : used < 8) where
 
   -- z zeros at the front of the word
   pub front_seen : (s : ℕ) → s ≡ value_of (seen used bytes) → (m : ℕ) × IsFrontOf (count_leading_zeros 64 s) m (seen used bytes) × (count_leading_zeros 64 s + m ≡ 64)
-  front_seen s e =
-      let below : s < 2 ^ 64 = subst (λ (k : ℕ). s < 2 ^ k) length-seen (subst (λ (v : ℕ). v < 2 ^ length (seen used bytes)) (sym e) (value_below (seen used bytes))) in
-      let t = leading_length 64 s below in
-      (t.0, front_of (seen used bytes) (count_leading_zeros 64 s) t.0 (t.1 ∙ sym length-seen) (subst (λ (v : ℕ). v < 2 ^ t.0) e t.2) (subst (λ (v : ℕ). 2 ^ t.0 ≤ 2 * v + 1) e t.3), t.1)
+  front_seen s e = front_in (seen used bytes) s length-seen e
 
   -- a one behind fewer zeros than there are bits
   pub one_behind : (z there : ℕ) → z < there → used + there ≤ 64 → used + there ≤ 8 * length bytes → seen used bytes ≡ replicate z false ++ true ∷ drop (z + 1) (seen used bytes)
       → drop used (bits bytes) ≡ replicate z false ++ true ∷ drop (z + 1) (drop used (bits bytes))
   one_behind z there lt h k e =
-      let ys : List Bool = drop used (bits bytes) in
-      let zs : List Bool = replicate z false ++ true ∷ [] in
-      let behind : List Bool = drop (z + 1) (seen used bytes) in
-      let lz : length zs ≡ z + 1 = length-append (replicate z false) (true ∷ []) ∙ omega (arith, length-replicate z false) in
-      let split : seen used bytes ≡ zs ++ behind = e ∙ sym (append_assoc (replicate z false) (true ∷ []) behind) in
-      let t : take (z + 1) ys ≡ zs = same_front (z + 1) (omega arith) (omega arith) ∙ ap (take (z + 1)) split ∙ take_at zs behind (z + 1) lz in
-      sym (take-append-drop (z + 1) ys) ∙ ap (λ (m : List Bool). m ++ drop (z + 1) ys) t ∙ append_assoc (replicate z false) (true ∷ []) (drop (z + 1) ys)
+      like_one z (drop used (bits bytes)) (seen used bytes) (same_front (z + 1) (omega arith) (omega arith)) e
 
   -- no one in the bits of the word that are there
   pub none_there : (z there : ℕ) → there ≤ z → used + there ≤ 64 → used + there ≤ 8 * length bytes → seen used bytes ≡ replicate z false ++ drop z (seen used bytes)
       → drop used (bits bytes) ≡ replicate there false ++ drop there (drop used (bits bytes))
-  none_there z there le h k e =
-      let ys : List Bool = drop used (bits bytes) in
-      let lz : there ≤ length (replicate z false) = omega (arith, length-replicate z false) in
-      let t : take there ys ≡ replicate there false =
-      same_front there h k ∙ ap (take there) e ∙ take-append-le there (replicate z false) (drop z (seen used bytes)) lz ∙ take-replicate there z false le in
-      sym (take-append-drop there ys) ∙ ap (λ (m : List Bool). m ++ drop there ys) t
+  none_there z there le h k e = like_zeros z there (drop used (bits bytes)) (seen used bytes) le (same_front there h k) e
 
 pub further_zeros : (n m : ℕ) (whole now rest : List Bool) → whole ≡ replicate n false ++ now → now ≡ replicate m false ++ rest → whole ≡ replicate (n + m) false ++ rest
 further_zeros n m whole now rest e f =

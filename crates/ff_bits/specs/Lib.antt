@@ -8,3 +8,4 @@ pub mod Writer
 pub mod Pieces
 pub mod Reading
 pub mod NumberGrammar
+pub mod Window

@@ -12,6 +12,7 @@ mod reader;
 mod table16;
 mod table8;
 mod waiting;
+mod window;
 mod word;
 mod writer;
 
@@ -21,4 +22,5 @@ pub use laws::{
     coded_numbers_have_31_or_36_bits, shortest_is_shortest, what_was_written_is_read,
 };
 pub use reader::{BitEnd, BitReader};
+pub use window::BitWindow;
 pub use writer::BitWriter;

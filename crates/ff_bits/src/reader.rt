@@ -7,6 +7,7 @@ ghost use Rattle.ff_bits.specs.Runs.{IsRun};
 ghost use Rattle.ff_bits.specs.Reading.{zeros};
 ghost use Rattle.ff_bits.specs.NumberGrammar.{Answers};
 
+use crate::window::BitWindow;
 use crate::word::word_of;
 use std::marker::Model;
 
@@ -46,6 +47,24 @@ impl<'a> BitReader<'a> {
         ensures len { length result ≡ 8 * length bytes.now }
     {
         BitReader { bytes, used: 0 }
+    }
+
+    /// All bits of these bytes but the first `used`.
+    #[inline(always)]
+    pub(crate) fn past(bytes: &'a [u8], used: u32) -> BitReader<'a>
+        requires few { used < 8 }
+        requires there { used ≤ 8 * length bytes.now }
+        ensures { result ≡ drop used (bits bytes.now) }
+    {
+        BitReader { bytes, used }
+    }
+
+    /// A window over the same bits.
+    #[inline(always)]
+    pub fn window(&self) -> BitWindow<'a>
+        ensures { result ≡ self.now }
+    {
+        BitWindow::past(self.bytes, self.used)
     }
 
     /// Whether `n` bits are left, of 64 at most.

@@ -1,0 +1,137 @@
+//! Reading codes, several of them from one word.
+
+ghost use Rattle.std.specs.Prelude.{◌≡◌, ℕ, ◌≤◌, ◌<◌, ◌+◌, ◌*◌, ◌^◌, length, drop, IfSome, IfNone};
+ghost use lib.Count.{count_leading_zeros};
+ghost use Rattle.ff_bits.specs.Bits.{bits};
+ghost use Rattle.ff_bits.specs.Reads.{IsCounted, IsCoded};
+ghost use Rattle.ff_bits.specs.Window.{IsWindow};
+
+use crate::reader::BitReader;
+use crate::word::word_of;
+use std::marker::Model;
+
+/// The bits that a reader has left, the next of them in a word. To a contract it is the list of them.
+#[derive(Drop)]
+pub struct BitWindow<'a> {
+    bytes: &'a [u8],
+    /// How many bytes the bits end behind that the word holds.
+    at: usize,
+    /// The bits that come next, the first of them the highest, and then zeros.
+    word: u64,
+    /// How many bits the word holds, below 64. Behind them some bits of the byte at `at` may stand already.
+    held: u32,
+}
+
+impl<'a> Model for BitWindow<'a> {
+    ghost use Rattle.std.specs.Prelude.{◌*◌, ◌-◌, List, Bool, drop};
+    ghost use Rattle.ff_bits.specs.Bits.{bits};
+    ghost use Rattle.ff_bits.specs.Window.{IsWindow};
+
+    ghost Value = { List Bool };
+
+    ghost view = { λ w. drop (8 * w.at - w.held) (bits w.bytes.now) };
+
+    ghost invariant = { λ w. IsWindow w.bytes.now w.at w.word w.held };
+}
+
+impl<'a> BitWindow<'a> {
+    /// All bits of these bytes but the first `used`.
+    #[inline(always)]
+    pub(crate) fn past(bytes: &'a [u8], used: u32) -> BitWindow<'a>
+        requires few { used < 8 }
+        requires there { used ≤ 8 * length bytes.now }
+        ensures { result ≡ drop used (bits bytes.now) }
+    {
+        let at = bytes.len().min(7);
+        BitWindow {
+            bytes,
+            at,
+            word: word_of(bytes) << used,
+            held: 8 * at as u32 - used,
+        }
+    }
+
+    /// A reader of the same bits.
+    #[inline(always)]
+    pub fn reader(&self) -> BitReader<'a>
+        ensures { result ≡ self.now }
+    {
+        let back = (self.held + 7) / 8;
+        BitReader::past(&self.bytes[self.at - back as usize..], 8 * back - self.held)
+    }
+
+    /// Fills the word up, so that the next codes are read from it.
+    #[inline(always)]
+    pub fn fill(&mut self)
+        ensures { self.new ≡ self.old }
+    {
+        let (word, more) = filled(self.bytes, self.at, self.word, self.held);
+        self.word = word;
+        self.at += more as usize;
+        self.held += 8 * more;
+    }
+
+    /// How many zeros stand before the next one, and the value of the `n` bits behind it. None, which leaves the window,
+    /// only where fewer than 120 bits are left or these are more than 56.
+    #[inline(always)]
+    pub fn code(&mut self, n: u32) -> Option<(u32, u64)>
+        requires { n ≤ 57 }
+        ensures read { IfSome result (λ r. IsCoded n self.old r.0 r.1 self.new) }
+        ensures below { IfSome result (λ r. (r.0 < 64) × (r.1 < 2 ^ n)) }
+        ensures none { IfNone result ((zeros : ℕ) → zeros + 1 + n ≤ 56 → 120 ≤ length self.old → IsCounted self.old zeros (drop (zeros + 1) self.old) → ⊥) }
+        ensures unchanged { IfNone result (self.new ≡ self.old) }
+        ensures shorter { length self.new ≤ length self.old }
+    {
+        let high = match high_in(self.word, self.held, n) {
+            Some(high) => high,
+            None => {
+                let (word, more) = filled(self.bytes, self.at, self.word, self.held);
+                self.word = word;
+                self.at += more as usize;
+                self.held += 8 * more;
+                match high_in(self.word, self.held, n) {
+                    Some(high) => high,
+                    None => return None,
+                }
+            }
+        };
+        let low = (self.word >> (high - n)) & ((1u64 << n) - 1);
+        let len = 64 + n - high;
+        self.word <<= len;
+        self.held -= len;
+        Some((63 - high, low))
+    }
+}
+
+/// The place of a word's highest one, the lowest place being 0, where the bits from there on and `n` more are held.
+#[inline(always)]
+fn high_in(word: u64, held: u32, n: u32) -> Option<u32>
+    requires held { held < 64 }
+    requires more { n ≤ 57 }
+    ensures some { IfSome result (λ high. (high + count_leading_zeros 64 word ≡ 63) × (64 + n ≤ high + held)) }
+    ensures none { IfNone result (held < count_leading_zeros 64 word + 1 + n) }
+{
+    if word == 0 {
+        return None;
+    }
+    let high = 63 - word.leading_zeros();
+    if 64 + n - high > held {
+        return None;
+    }
+    Some(high)
+}
+
+/// The word with the bits that follow those that it holds, and how many whole bytes more it holds then: none only where
+/// fewer than eight are left or no more fit in.
+#[inline(always)]
+fn filled(bytes: &[u8], at: usize, word: u64, held: u32) -> (u64, u32)
+    requires { IsWindow bytes.now at word held }
+    ensures window { IsWindow bytes.now (at + result.1) result.0 (held + 8 * result.1) }
+    ensures full { at + 8 ≤ length bytes.now → 56 ≤ held + 8 * result.1 }
+{
+    if bytes.len() - at < 8 {
+        return (word, 0);
+    }
+    let next = word_of(&bytes[at..]);
+    (word | next >> held, (63 - held) / 8)
+}
