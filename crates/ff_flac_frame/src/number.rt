@@ -77,6 +77,7 @@ pub fn rice_of(zeros: u32, low: u64, k: u32) -> Result<i32, FrameEnd>
     }
 }
 
+#[cold]
 #[tactic(auto, unfolding(crate::specs::Frame::rice, crate::specs::Frame::quotient_limit))]
 pub fn read_rice(reader: &mut BitReader, k: u32) -> Result<i32, FrameEnd>
     requires { k ≤ 31 }

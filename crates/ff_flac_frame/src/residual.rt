@@ -39,21 +39,32 @@ fn read_rices(
     requires { k ≤ 31 }
     ensures { Gives (λ _. out.new.items) result (with_front out.old.items (times count (rice k) reader.old)) reader.new }
 {
-    // (no call is handed this reader, so that it keeps to registers)
-    let mut near = reader.copy();
+    out.reserve(count as usize)?;
+    // (no call is handed this window, so that it keeps to registers)
+    let mut near = reader.window();
+    // Filled up, the word holds 56 bits at least: mostly eight, four or two codes of so many low bits.
+    let mask = match k {
+        0..=4 => 7,
+        5..=11 => 3,
+        12..=22 => 1,
+        _ => 0,
+    };
     for i in 0..count {
+        if i & mask == 0 {
+            near.fill();
+        }
         let value = match near.code(k) {
             Some((zeros, low)) => rice_of(zeros, low, k)?,
             None => {
-                *reader = near;
+                *reader = near.reader();
                 let long = read_rice(reader, k)?;
-                near = reader.copy();
+                near = reader.window();
                 long
             }
         };
-        out.push(value)?;
+        out.push_reserved(value);
     }
-    *reader = near;
+    *reader = near.reader();
     Ok(())
 }
 
