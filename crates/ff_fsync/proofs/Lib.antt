@@ -1,5 +1,6 @@
 pub mod Dropping
 pub mod Finding
+pub mod GivenBack
 pub mod Inputting
 pub mod MarkLaws
 pub mod Showing

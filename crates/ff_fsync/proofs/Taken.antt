@@ -1,8 +1,8 @@
--- Of each input the last picture by a time is taken.
-use Rattle.std.specs.Prelude.{◌≡◌, ◌≢◌, ℕ, zero, suc, ◌+◌, ◌<◌, ◌⊎◌, Bool, true, false, Result, Ok, Err, IfOk, is_ok, is_err, if◌then◌else◌, List, [], ◌∷◌, ◌++◌, map, length, refl}
+-- The pictures of each input before the last one by a time are let go.
+use Rattle.std.specs.Prelude.{◌≡◌, ◌≢◌, ℕ, zero, suc, ◌+◌, ◌<◌, ◌⊎◌, Bool, true, Result, Ok, Err, IfOk, List, [], ◌∷◌, map, length, refl}
 use Rattle.std.proofs.Common.{inl, inr, ap, sym, ◌∙◌, subst, arith, get_or, set}
 use Rattle.std.proofs.lemmas.Bool.{cases_lt, cases_eq, false_from_ne_true}
-use Rattle.std.proofs.lemmas.List.{map-append, length-set}
+use Rattle.std.proofs.lemmas.List.{length-set}
 use Rattle.ff_values.specs.declared.video.VFrame.{VFrame}
 use Rattle.ff_values.specs.declared.head.StreamHead.{StreamHead}
 use Rattle.ff_frame.specs.declared.item.Item.{Item}
@@ -13,12 +13,11 @@ use Rattle.ff_filter.specs.Joins.{Flow}
 use Rattle.ff_filter.specs.Made.{mark_after}
 use Rattle.ff_filter.specs.Shifts.{start_ticks}
 use Rattle.ff_fsync.specs.declared.input.Input.{Input}
-use Rattle.ff_fsync.specs.Ranges.{list_to, list_same}
-use Rattle.ff_fsync.specs.Synced.{is_shown, pictures, Timing}
+use Rattle.ff_fsync.specs.Synced.{is_shown, Timing}
 use Rattle.ff_fsync.specs.SyncLaws.{clash, Risen, ready_at}
 use Rattle.ff_fsync.specs.Sides.{Side, side_at, frames_of}
-use Rattle.ff_fsync.specs.Inputs.{items_of, last_by, begun_by, Trims}
-use Rattle.ff_fsync.specs.Syncs.{side_of, sides_of, sides_sound, standing_of, timing_of, IsDue, AreTrimmed, AreTaken}
+use Rattle.ff_fsync.specs.Inputs.{items_of, begun_by, Trims, IsLastBy, IsLed}
+use Rattle.ff_fsync.specs.Syncs.{side_of, sides_of, sides_sound, standing_of, timing_of, IsDue, AreTrimmed, AreLed}
 use Rattle.ff_fsync.proofs.Inputting.{rises_of}
 use Rattle.ff_fsync.proofs.Finding.{side_there, long_sides}
 use Rattle.ff_fsync.proofs.Dropping.{Drops, drop_shown, drop_no_more}
@@ -49,12 +48,14 @@ replaced lane is p i j lt e l = record {
   others = λ q n. set_others lane is p q i n;
 }
 
-pub taken_none : (head : StreamHead) (is : List Input) (t : ℕ) → AreTaken head is is t 0 []
-taken_none head is t = record { long = refl; lanes = refl; done = λ q lt. absurd (omega arith); others = λ q le. refl; pictures = refl }
+pub led_none : (head : StreamHead) (is : List Input) (t : ℕ) → AreLed head is is t 0
+led_none head is t = record { long = refl; lanes = refl; done = λ q lt. absurd (omega arith); others = λ q le. refl; led = λ q lt. absurd (omega arith) }
 
-pub taken_more : (head : StreamHead) (old is : List Input) (t p : ℕ) (fs gs : List VFrame) (i j : Input) (f : VFrame) → AreTaken head old is t p fs → p < length is → j ≡ get_or is p j → Trims t (side_of j) (side_of i)
-    → last_by (items_of i.queue.items) t ≡ Video f ∷ [] → gs ≡ fs ++ f ∷ [] → AreTaken head old (set is p i) t (p + 1) gs
-taken_more head old is t p fs gs i j f h lt e d last more = record {
+led_by_last : (fs : List VFrame) (t : ℕ) → IsLastBy fs t → IsLed (items_of fs) t
+led_by_last fs t last = record { frame = last.frame; others = items_of last.others; is = ap (λ (gs : List VFrame). items_of gs) last.is; last = last.last }
+
+pub led_more : (head : StreamHead) (old is : List Input) (t p : ℕ) (i j : Input) → AreLed head old is t p → p < length is → j ≡ get_or is p j → Trims t (side_of j) (side_of i) → IsLastBy i.queue.items t → AreLed head old (set is p i) t (p + 1)
+led_more head old is t p i j h lt e d last = record {
   long = length-set is p i ∙ h.long;
   lanes = set_lanes is p i j lt e d.lane ∙ h.lanes;
   done = λ q l. elim (cases_eq q p) as (λ _. Trims t (side_at (Frames head) (sides_of old) q) (side_at (Frames head) (sides_of (set is p i)) q)) [
@@ -64,48 +65,25 @@ taken_more head old is t p fs gs i j f h lt e d last more = record {
     | inr n ↦ subst (λ (s : Side). Trims t (side_at (Frames head) (sides_of old) q) s) (sym (set_others (Frames head) is p q i n)) (h.done q (omega (arith, l, n)))
   ];
   others = λ q le. set_others (Frames head) is p q i (λ same. omega (arith, same, le)) ∙ h.others q (omega (arith, le));
-  pictures =
-      let f' : ℕ → List Item = λ q. last_by (side_at (Frames head) (sides_of (set is p i)) q).waits t in
-      let g' : ℕ → List Item = λ q. last_by (side_at (Frames head) (sides_of is) q).waits t in
-      one_more p f' ∙ (ap (λ (xs : List Item). xs ++ f' p) (list_same p f' g' (λ q l. ap (λ (s : Side). last_by s.waits t) (set_others (Frames head) is p q i (λ same. omega (arith, same, l)))))
-      ∙ (ap (λ (xs : List Item). xs ++ f' p) h.pictures ∙ (ap (λ (xs : List Item). map Video fs ++ xs) (ap (λ (s : Side). last_by s.waits t) (set_here (Frames head) is p i lt) ∙ last)
-      ∙ (sym (map-append Video fs (f ∷ [])) ∙ ap (λ (hs : List VFrame). map Video hs) (sym more)))));
+  led = λ q l. elim (cases_eq q p) as (λ _. IsLed (side_at (Frames head) (sides_of (set is p i)) q).waits t) [
+    | inl same ↦ subst (λ r. IsLed (side_at (Frames head) (sides_of (set is p i)) r).waits t) (sym same)
+        (subst (λ (s : Side). IsLed s.waits t) (sym (set_here (Frames head) is p i lt)) (led_by_last i.queue.items t last))
+    | inr n ↦ subst (λ (s : Side). IsLed s.waits t) (sym (set_others (Frames head) is p q i n)) (h.led q (omega (arith, l, n)))
+  ];
 }
-  where
-    one_more : (n : ℕ) (f : ℕ → List Item) → list_to (n + 1) f ≡ list_to n f ++ f n
-    one_more n f = let e : n + 1 ≡ suc n = omega arith in ap (λ m. list_to m f) e
 
-pub trimmed_of : (head : StreamHead) (old new : List Input) (t n : ℕ) (fs : List VFrame) → AreTaken head old new t n fs → AreTrimmed head old new t
-trimmed_of head old new t n fs h = record {
+pub trimmed_of : (head : StreamHead) (old new : List Input) (t n : ℕ) → AreLed head old new t n → AreTrimmed head old new t
+trimmed_of head old new t n h = record {
   long = long_sides new ∙ (h.long ∙ sym (long_sides old));
   lanes = h.lanes;
   sides = λ q. elim (cases_lt q n) as (λ _. (side_at (Frames head) (sides_of new) q ≡ side_at (Frames head) (sides_of old) q) ⊎ Trims t (side_at (Frames head) (sides_of old) q) (side_at (Frames head) (sides_of new) q)) [ inl lt ↦ inr (h.done q lt) | inr le ↦ inl (h.others q le) ];
 }
 
--- where one more was trimmed and not taken
-pub trimmed_more : (head : StreamHead) (old is : List Input) (t p : ℕ) (fs : List VFrame) (i j : Input) → AreTaken head old is t p fs → p < length is → j ≡ get_or is p j → Trims t (side_of j) (side_of i) → AreTrimmed head old (set is p i) t
-trimmed_more head old is t p fs i j h lt e d = record {
-  long = long_sides (set is p i) ∙ (length-set is p i ∙ (h.long ∙ sym (long_sides old)));
-  lanes = set_lanes is p i j lt e d.lane ∙ h.lanes;
-  sides = λ q. elim (cases_eq q p) as (λ _. (side_at (Frames head) (sides_of (set is p i)) q ≡ side_at (Frames head) (sides_of old) q) ⊎ Trims t (side_at (Frames head) (sides_of old) q) (side_at (Frames head) (sides_of (set is p i)) q)) [
-    | inl same ↦ inr (subst (λ r. Trims t (side_at (Frames head) (sides_of old) r) (side_at (Frames head) (sides_of (set is p i)) r)) (sym same)
-        (subst (λ (s : Side). Trims t s (side_at (Frames head) (sides_of (set is p i)) p)) (sym (side_there (Frames head) is p j lt e) ∙ h.others p (omega arith))
-        (subst (λ (s : Side). Trims t (side_of j) s) (sym (set_here (Frames head) is p i lt)) d)))
-    | inr n ↦ elim (cases_lt q p) as (λ _. (side_at (Frames head) (sides_of (set is p i)) q ≡ side_at (Frames head) (sides_of old) q) ⊎ Trims t (side_at (Frames head) (sides_of old) q) (side_at (Frames head) (sides_of (set is p i)) q)) [
-      | inl l ↦ inr (subst (λ (s : Side). Trims t (side_at (Frames head) (sides_of old) q) s) (sym (set_others (Frames head) is p q i n)) (h.done q l))
-      | inr le ↦ inl (set_others (Frames head) is p q i n ∙ h.others q le)
-    ]
-  ];
-}
-
 -- the input has begun, as it was when the time was found
-pub begun_still : (head : StreamHead) (shortest : Bool) (old is : List Input) (from t p : ℕ) (fs : List VFrame) (j : Input) → IsDue (timing_of shortest old) from (standing_of head old) t → AreTaken head old is t p fs → p < length is → j ≡ get_or is p j → begun_by (items_of j.queue.items) t ≡ true
-begun_still head shortest old is from t p fs j due h lt e =
+pub begun_still : (head : StreamHead) (shortest : Bool) (old is : List Input) (from t p : ℕ) (j : Input) → IsDue (timing_of shortest old) from (standing_of head old) t → AreLed head old is t p → p < length is → j ≡ get_or is p j → begun_by (items_of j.queue.items) t ≡ true
+begun_still head shortest old is from t p j due h lt e =
     let b = (ready_at (timing_of shortest old) (standing_of head old) t due.shown p (let l = long_sides old in let m = h.long in omega (arith, l, m, lt))).0 in
     ap (λ (s : Side). begun_by s.waits t) (sym (side_there (Frames head) is p j lt e) ∙ h.others p (omega arith)) ∙ b
-
-pub pictures_taken : (head : StreamHead) (shortest : Bool) (old is : List Input) (t n : ℕ) (fs : List VFrame) → n ≡ length is → AreTaken head old is t n fs → pictures (timing_of shortest is) (standing_of head is) t ≡ map Video fs
-pictures_taken head shortest old is t n fs e h = ap (λ m. list_to m (λ q. last_by (side_at (Frames head) (sides_of is) q).waits t)) (long_sides is ∙ sym e) ∙ h.pictures
 
 stand_drop : (t : ℕ) (s r : Side) → Trims t s r → Drops start_ticks t (let a : Flow = record { items = s.waits; mark = mark_after s.after } in a) (let b : Flow = record { items = r.waits; mark = mark_after r.after } in b)
 stand_drop t s r d = record { gone = d.gone; first = d.first; others = d.others; was = d.was; now = d.now; by = d.by; mark = sym (ap mark_after d.after) }
@@ -144,7 +122,3 @@ ports_there is p lt = let e = long_lanes is in omega (arith, lt, e)
 pub if_ok : {A E : Type 0} (r : Result A E) (P Q : A → Type 0) → ((x : A) → P x → Q x) → IfOk r P → IfOk r Q
 if_ok (Ok x) P Q h p = h x p
 if_ok (Err e) P Q h p = tt
-
-pub pushed : {E : Type 0} (r : Result (Unit {0}) E) (fs gs : List VFrame) (f : VFrame) → gs ≡ (if is_ok r then fs ++ f ∷ [] else fs) → is_err r ≡ false → gs ≡ fs ++ f ∷ []
-pushed (Ok u) fs gs f e n = e
-pushed (Err x) fs gs f e n = cc

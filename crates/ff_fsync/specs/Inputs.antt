@@ -76,3 +76,25 @@ IsNextIn xs lo (Some t) = IsNextStart xs lo t
 -- the mark says whole, or is open where that counts as whole
 abbrev pub whole_if : Bool → Mark → Bool
 whole_if ended m = is_whole m || (ended && is_open m)
+
+-- these items with this picture in the place of the first
+abbrev pub led_by : VFrame → List Item → List Item
+led_by f [] = []
+led_by f (x ∷ xs) = Video f ∷ xs
+
+-- an input with this picture back in the place of its first
+abbrev pub given_back : VFrame → Side → Side
+given_back f s = record { lane = s.lane; waits = led_by f s.waits; after = s.after; next = s.next }
+
+-- inputs, each with its picture back; those behind the pictures as they are
+abbrev pub all_back : List VFrame → List Side → List Side
+all_back [] ss = ss
+all_back (f ∷ fs) [] = []
+all_back (f ∷ fs) (s ∷ ss) = given_back f s ∷ all_back fs ss
+
+-- the first of these items is a picture, the last by this time
+pub record IsLed (xs : List Item) (t : ℕ) : Type 0 where
+  pub frame : VFrame
+  pub others : List Item
+  pub is : xs ≡ Video frame ∷ others
+  pub last : last_by xs t ≡ Video frame ∷ []

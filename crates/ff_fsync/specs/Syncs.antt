@@ -1,18 +1,16 @@
 -- The machine of framesync as the definitions see it.
 use Rattle.std.specs.Prelude.{◌≡◌, ℕ, zero, suc, ◌<◌, ◌≤◌, ◌^◌, ◌⊎◌, Bool, true, false, ◌||◌, nat_lt, cond, Option, None, Some, List, [], ◌∷◌, map, length, refl}
-use Rattle.ff_values.specs.declared.video.VFrame.{VFrame}
 use Rattle.ff_values.specs.declared.head.StreamHead.{StreamHead}
 use Rattle.ff_frame.specs.declared.item.Item.{Item}
-use Rattle.ff_frame.specs.declared.item.Item.TheVariants.{Video}
 use Rattle.ff_frame.specs.declared.item.Lane.{Lane}
 use Rattle.ff_frame.specs.declared.item.Lane.TheVariants.{Frames}
 use Rattle.ff_frame.specs.Stream.{Stream}
 use Rattle.ff_filter.specs.Joins.{Flow}
 use Rattle.ff_fsync.specs.declared.input.Input.{Input}
-use Rattle.ff_fsync.specs.Ranges.{all_to, any_to, list_to}
+use Rattle.ff_fsync.specs.Ranges.{all_to, any_to}
 use Rattle.ff_fsync.specs.Synced.{Timing, starts, begun, is_known, is_shown, is_open, is_broken, all_ended}
 use Rattle.ff_fsync.specs.Sides.{Side, side_at, standing, timing, Sound}
-use Rattle.ff_fsync.specs.Inputs.{side_by, last_by, Trims}
+use Rattle.ff_fsync.specs.Inputs.{side_by, Trims, IsLed}
 
 abbrev pub side_of : Input → Side
 side_of i = side_by i.head i.queue.items i.after i.next
@@ -88,10 +86,14 @@ pub record AreTrimmed (head : StreamHead) (old new : List Input) (t : ℕ) : Typ
   pub lanes : map (λ (s : Side). s.lane) (sides_of new) ≡ map (λ (s : Side). s.lane) (sides_of old)
   pub sides : (q : ℕ) → (side_at (Frames head) (sides_of new) q ≡ side_at (Frames head) (sides_of old) q) ⊎ Trims t (side_at (Frames head) (sides_of old) q) (side_at (Frames head) (sides_of new) q)
 
--- of so many inputs the last picture by a time was taken, and those before it let go
-pub record AreTaken (head : StreamHead) (old new : List Input) (t n : ℕ) (fs : List VFrame) : Type 0 where
+-- of so many inputs all but the last picture by a time was let go
+pub record AreLed (head : StreamHead) (old new : List Input) (t n : ℕ) : Type 0 where
   pub long : length new ≡ length old
   pub lanes : map (λ (s : Side). s.lane) (sides_of new) ≡ map (λ (s : Side). s.lane) (sides_of old)
   pub done : (q : ℕ) → q < n → Trims t (side_at (Frames head) (sides_of old) q) (side_at (Frames head) (sides_of new) q)
   pub others : (q : ℕ) → n ≤ q → side_at (Frames head) (sides_of new) q ≡ side_at (Frames head) (sides_of old) q
-  pub pictures : list_to n (λ q. last_by (side_at (Frames head) (sides_of new) q).waits t) ≡ map Video fs
+  pub led : (q : ℕ) → q < n → IsLed (side_at (Frames head) (sides_of new) q).waits t
+
+-- each of these inputs has a picture
+abbrev pub AreBegun : List Side → Type 0
+AreBegun ss = (lane : Lane) (p : ℕ) → p < length ss → 0 < length (side_at lane ss p).waits

@@ -1,4 +1,4 @@
-ghost use Rattle.std.specs.Prelude.{◌≡◌, ◌<◌, ◌≤◌, ◌^◌, ℕ, ◌||◌, ◌&&◌, not, min, nat_lt, [], ◌∷◌, true, false, nat_le, IfOk, IfErr, IfSome, IsNone, OnOk, OnErr};
+ghost use Rattle.std.specs.Prelude.{◌≡◌, ◌<◌, ◌≤◌, ◌^◌, ℕ, ◌||◌, ◌&&◌, not, min, nat_lt, [], true, false, length, nat_le, IfErr, IfSome, IsNone, OnOk, OnErr};
 ghost use Rattle.std.specs.VecDeque.{deque_len, deque_capacity};
 ghost use Rattle.ff_frame.specs.declared.item.Lane.TheVariants.{Frames};
 ghost use Rattle.ff_filter.specs.Joins.{Flow, before};
@@ -6,13 +6,15 @@ ghost use Rattle.ff_filter.specs.Made.{is_over, mark_after};
 ghost use Rattle.ff_filter.specs.Views.{closes};
 ghost use Rattle.ff_fsync.specs.Synced.{is_empty as none_waits, is_whole as whole_mark, is_open as open_mark, is_broken as broken_mark};
 ghost use Rattle.ff_fsync.specs.Sides.{coming, no_side, fills_to, frames_of};
-ghost use Rattle.ff_fsync.specs.Inputs.{items_of, side_by, begun_by, reaches, last_by, Trims, IsNextIn, IsLastBy, whole_if, second_by as second_starts_by};
+ghost use Rattle.ff_fsync.specs.Inputs.{items_of, side_by, begun_by, reaches, Trims, IsNextIn, IsLastBy, whole_if, second_by as second_starts_by, led_by, given_back};
 
 use crate::time::time_among;
 use ff_filter::{After, discard};
 use ff_frame::{Item, Refused, StreamHead, VFrame};
+use ff_values::Bytes;
 use std::alloc::{AllocError, Global};
 use std::collections::VecDeque;
+use std::mem::replace;
 
 /// An input of pictures, which keeps what may still be shown: the last picture that was shown, and those after it.
 #[derive(Drop)]
@@ -254,8 +256,8 @@ impl Input {
         }
     }
 
-    // Lets its pictures go before the last one by a time.
-    fn trim(&mut self, time: u64)
+    /// Lets its pictures go before the last one by a time.
+    pub(crate) fn trim(&mut self, time: u64)
         requires begun { begun_by (items_of self.old.queue.items) time ≡ true }
         ensures trims { Trims time (side_by self.old.head self.old.queue.items self.old.after self.old.next) (side_by self.new.head self.new.queue.items self.new.after self.new.next) }
         ensures last { IsLastBy self.new.queue.items time }
@@ -267,14 +269,40 @@ impl Input {
         }
     }
 
-    /// The last of its pictures by a time. Those before it are let go.
-    pub fn shown(&mut self, alloc: Global, time: u64) -> Result<VFrame, AllocError>
-        requires begun { begun_by (items_of self.old.queue.items) time ≡ true }
-        ensures trims { Trims time (side_by self.old.head self.old.queue.items self.old.after self.old.next) (side_by self.new.head self.new.queue.items self.new.after self.new.next) }
-        ensures last { IfOk result (λ f. last_by (items_of self.new.queue.items) time ≡ Item.Video f ∷ []) }
+    /// Hands out its first picture, and keeps its place by one without planes.
+    pub(crate) fn lend(&mut self, alloc: Global) -> VFrame
+        requires some { 0 < length self.old.queue.items }
+        ensures { given_back result (side_by self.new.head self.new.queue.items self.new.after self.new.next)
+            ≡ side_by self.old.head self.old.queue.items self.old.after self.old.next }
     {
-        self.trim(time);
-        self.queue[0].try_copy(alloc)
+        let place = bare(alloc, &self.queue[0]);
+        replace(&mut self.queue[0], place)
+    }
+
+    /// Takes its first picture back.
+    pub(crate) fn take_back(&mut self, picture: VFrame)
+        requires fills { fills_to 0 (led_by picture (items_of self.old.queue.items)) self.old.next ≡ true }
+        ensures { side_by self.new.head self.new.queue.items self.new.after self.new.next
+            ≡ given_back picture (side_by self.old.head self.old.queue.items self.old.after self.old.next) }
+    {
+        match self.queue.front_mut() {
+            None => discard(Item::Video(picture)),
+            Some(first) => *first = picture,
+        }
+    }
+}
+
+// A picture at the same time, without planes.
+fn bare(alloc: Global, picture: &VFrame) -> VFrame
+    ensures { result.pts ≡ picture.now.pts }
+{
+    VFrame {
+        pts: picture.pts,
+        duration: picture.duration,
+        format: picture.format,
+        width: picture.width,
+        height: picture.height,
+        planes: Bytes::new(Vec::new(alloc)),
     }
 }
 

@@ -15,6 +15,7 @@
 mod framesync;
 mod input;
 mod laws;
+mod lending;
 mod machine;
 mod marking;
 mod stack;

@@ -6,20 +6,20 @@ ghost use Rattle.ff_filter.specs.Views.{Fed, Same, Gave, Waits, IsSpent};
 ghost use Rattle.ff_fsync.specs.Synced.{pictures};
 ghost use Rattle.ff_fsync.specs.Sides.{side_at, shown_as, sync_view, sync_spent, is_done as is_done_by};
 ghost use Rattle.ff_fsync.specs.SideLaws.{sync-grows, sync-hides, sync-settles, sync-quiet, sync-spent_only, sync-shut_spent, sync-done_spent};
-ghost use Rattle.ff_fsync.specs.Syncs.{sides_of, sides_sound, standing_of, timing_of, IsDue, NoneFrom, AreTrimmed};
+ghost use Rattle.ff_fsync.specs.Syncs.{sides_of, sides_sound, standing_of, timing_of, IsDue, NoneFrom, AreLed};
 
 use crate::framesync::Framesync;
+use crate::lending::{lend, restore};
 use crate::stack::Stack;
 use ff_filter::{After, Filter};
 use ff_frame::{Item, Refused, VFrame};
 use std::alloc::AllocError;
 
 impl<S: Stack> Framesync<S> {
-    // Of each input the last picture by the time of what is due.
-    fn pictures(&mut self, time: u64) -> Result<Vec<VFrame>, AllocError>
+    // Lets the pictures of each input go before the last one by the time of what is due.
+    fn trim(&mut self, time: u64)
         requires due { IsDue (timing_of self.old.shortest self.old.inputs.items) self.old.from (standing_of self.old.head self.old.inputs.items) time }
-        ensures trimmed { AreTrimmed self.old.head self.old.inputs.items self.new.inputs.items time }
-        ensures pictures { IfOk result (λ fs. pictures (timing_of self.new.shortest self.new.inputs.items) (standing_of self.new.head self.new.inputs.items) time ≡ map Video fs.items) }
+        ensures led { AreLed self.old.head self.old.inputs.items self.new.inputs.items time (length self.old.inputs.items) }
         ensures stack { self.new.stack ≡ self.old.stack }
         ensures head { self.new.head ≡ self.old.head }
         ensures shortest { self.new.shortest ≡ self.old.shortest }
@@ -27,19 +27,9 @@ impl<S: Stack> Framesync<S> {
         ensures ended { self.new.ended ≡ self.old.ended }
         ensures stopped { self.new.stopped ≡ self.old.stopped }
     {
-        let mut pictures = Vec::with_capacity(self.alloc, self.inputs.len())?;
         'inputs: for p in 0..self.inputs.len() {
-            let alloc = self.alloc;
-            match self.inputs[p].shown(alloc, time) {
-                Err(error) => return Err(error),
-                Ok(picture) => {
-                    if pictures.push(picture).is_err() {
-                        return Err(AllocError);
-                    }
-                }
-            }
+            self.inputs[p].trim(time);
         }
-        Ok(pictures)
     }
 }
 
@@ -85,11 +75,14 @@ impl<S: Stack> Framesync<S> {
         ensures ended { self.new.ended ≡ self.old.ended }
         ensures stopped { self.new.stopped ≡ self.old.stopped }
     {
-        let pictures = match self.pictures(time) {
+        self.trim(time);
+        let pictures = match lend(&mut self.inputs, self.alloc) {
             Err(error) => return Err(error),
             Ok(pictures) => pictures,
         };
-        self.stack.show(time, pictures.as_slice())
+        let shown = self.stack.show(time, pictures.as_slice());
+        restore(&mut self.inputs, pictures);
+        shown
     }
 
     // The next item, where the output isn't closed.

@@ -1,10 +1,10 @@
 use Rattle.std.proofs.Common.{◌≡◌}
-use Rattle.ff_fsync.specs.Syncs.{AreTaken}
-use Rattle.ff_fsync.proofs.framesync.Framesync.pictures.Given as goal
+use Rattle.ff_fsync.specs.Syncs.{AreLed}
+use Rattle.ff_fsync.proofs.framesync.Framesync.trim.Given as goal
 
 abbrev pub invariant-inputs : goal.invariant-inputs
 invariant-inputs g l = record {
-  taken : AreTaken l.fn.self.head l.fn.self.inputs.items l.self.inputs.items l.time l.p l.pictures.items;
+  led : AreLed l.fn.self.head l.fn.self.inputs.items l.self.inputs.items l.time l.p;
   stack : l.self.stack ≡ l.fn.self.stack;
   head : l.self.head ≡ l.fn.self.head;
   shortest : l.self.shortest ≡ l.fn.self.shortest;
