@@ -1,11 +1,11 @@
 // The files of YUV4MPEG2.
-ghost use Rattle.std.specs.Prelude.{◌≡◌, ◌++◌, ◌↔◌, IfOk, OnOk, ⊤};
+ghost use Rattle.std.specs.Prelude.{◌≡◌, ◌++◌, ◌↔◌, IfOk, IfErr, OnOk, OnErr, ⊤};
 ghost use Rattle.ff_y4m.specs.Header.{IsVideoHead, frame_line};
 ghost use Rattle.ff_writers.specs.Formats.{y4m_layout};
 ghost use Rattle.ff_writers.specs.Pictures.{IsVideoHead-prop};
 
 use crate::writer::{Patch, Writer};
-use ff_values::{Pkt, StreamHead, Totals};
+use ff_values::{Bytes, Pkt, StreamHead, Totals};
 use ff_wav::TooLarge;
 use ff_y4m::y4m_header;
 use std::alloc::{AllocError, Global};
@@ -33,14 +33,25 @@ impl Y4mWriter {
     }
 }
 
-// A frame: its line, and its planes.
-fn framed(alloc: Global, planes: &[u8]) -> Result<Vec<u8>, AllocError>
-    ensures { IfOk result (λ text. text.items ≡ frame_line ++ planes.now) }
+// Puts the line of a frame behind its planes. No more room is made than that takes.
+fn push_line(planes: &mut Vec<u8>) -> Result<(), AllocError>
+    ensures ok { OnOk result (planes.new.items ≡ planes.old.items ++ frame_line) }
+    ensures err { OnErr result (planes.new.items ≡ planes.old.items) }
 {
-    let mut text = Vec::new(alloc);
-    text.reserve(planes.len())?;
-    text.extend_from_slice(FRAME)?;
-    text.extend_from_slice(planes)?;
+    planes.reserve_exact(FRAME.len())?;
+    planes.extend_from_slice(FRAME)
+}
+
+// A frame: its line, and its planes, in their own memory. Without memory they come back.
+fn framed(planes: Bytes) -> Result<Vec<u8>, Bytes>
+    ensures ok { IfOk result (λ text. text.items ≡ frame_line ++ planes) }
+    ensures err { IfErr result (λ back. back ≡ planes) }
+{
+    let mut text = planes.into_vec();
+    if push_line(&mut text).is_err() {
+        return Err(Bytes::new(text));
+    }
+    text.rotate_right(FRAME.len());
     Ok(text)
 }
 
@@ -56,9 +67,9 @@ impl Writer for Y4mWriter {
     }
 
     fn text(&self, _stream: u32, packet: Pkt) -> Result<Vec<u8>, Pkt> {
-        match framed(self.alloc, packet.bytes.as_slice()) {
+        match framed(packet.bytes) {
             Ok(text) => Ok(text),
-            Err(_) => Err(packet),
+            Err(bytes) => Err(Pkt { bytes, ..packet }),
         }
     }
 
