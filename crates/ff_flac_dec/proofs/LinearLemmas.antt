@@ -1,6 +1,6 @@
 -- Sums of products.
 use Rattle.std.proofs.Common.{◌≡◌, ℕ, ◌+◌, ◌-◌, ◌*◌, ◌^◌, ◌<◌, ◌≤◌, List, length, drop, get_or, refl, sym, ap, ◌∙◌, arith}
-use Rattle.std.proofs.Common.{ℤ, pos, negsuc, neg_ℤ, ◌+ℤ◌, ◌*ℤ◌, ◌≤ℤ◌, to_z, of_z, unsigned_abs}
+use Rattle.std.proofs.Common.{ℤ, pos, negsuc, ◌+ℤ◌, ◌*ℤ◌, to_z, of_z, unsigned_abs}
 use Rattle.std.specs.Int.{w64}
 use Rattle.std.specs.Int.Signed.{shr_z}
 use Rattle.std.proofs.lemmas.Int.{ints, to_z-of_z, unsigned_abs-mul, fits_signed_from_abs}
@@ -41,13 +41,6 @@ add_assoc a b c = omega (arith, ints)
 pub weighted_goes_on : (coefs xs : List ℤ) (i : ℕ) (sum term total : ℤ) → i < length coefs → term ≡ get_or coefs i (pos 0) *ℤ ago (i + 1) xs → sum +ℤ weighted (drop i coefs) (i + 1) xs ≡ total → (sum +ℤ term) +ℤ weighted (drop (i + 1) coefs) (i + 1 + 1) xs ≡ total
 weighted_goes_on coefs xs i sum term total lt e so_far =
     add_assoc sum term (weighted (drop (i + 1) coefs) (i + 1 + 1) xs) ∙ ap (λ (t : ℤ). sum +ℤ (t +ℤ weighted (drop (i + 1) coefs) (i + 1 + 1) xs)) e ∙ ap (λ (t : ℤ). sum +ℤ t) (sym (weighted-step coefs xs i (i + 1) lt)) ∙ so_far
-
--- one term more before the others
-pub weighted_with : (coefs xs : List ℤ) (i : ℕ) (sum term : ℤ) → i < length coefs → term ≡ get_or coefs i (pos 0) *ℤ ago (i + 1) xs → sum ≡ weighted (drop (i + 1) coefs) (i + 2) xs → sum +ℤ term ≡ weighted (drop i coefs) (i + 1) xs
-weighted_with coefs xs i sum term lt e behind =
-    let turned : sum +ℤ term ≡ term +ℤ sum = omega (arith, ints) in
-    let next : i + 2 ≡ i + 1 + 1 = omega arith in
-    turned ∙ ap (λ (t : ℤ). t +ℤ sum) e ∙ ap (λ (s : ℤ). (get_or coefs i (pos 0) *ℤ ago (i + 1) xs) +ℤ s) (behind ∙ ap (λ (k : ℕ). weighted (drop (i + 1) coefs) k xs) next) ∙ sym (weighted-step coefs xs i (i + 1) lt)
 
 pub weighted_ends : (coefs xs : List ℤ) (i : ℕ) (sum total : ℤ) → length coefs ≤ i → sum +ℤ weighted (drop i coefs) (i + 1) xs ≡ total → sum ≡ total
 weighted_ends coefs xs i sum total le so_far =

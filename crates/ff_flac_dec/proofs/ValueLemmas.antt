@@ -1,6 +1,6 @@
 -- Samples and their depth.
 use Rattle.std.proofs.Common.{◌≡◌, ℕ, ◌+◌, ◌-◌, ◌^◌, ◌<◌, ◌≤◌, List, [], ◌∷◌, ◌++◌, length, drop, get_or, refl, sym, ap, subst, ◌∙◌, append_assoc, arith, length-append, inl, inr}
-use Rattle.std.proofs.Common.{ℤ, pos, neg_ℤ, ◌+ℤ◌, ◌≤ℤ◌, to_z, of_z}
+use Rattle.std.proofs.Common.{ℤ, pos, ◌+ℤ◌, to_z, of_z}
 use Rattle.std.specs.Int.{w32, w64}
 use Rattle.std.proofs.lemmas.Int.{ints, to_z-of_z}
 use Rattle.std.proofs.lemmas.Bool.{cases_lt}
@@ -9,7 +9,7 @@ use Rattle.std.proofs.Math.Nat.{pow-le-pow_right}
 use Rattle.ff_values.specs.Audio.{FitsBits}
 use Rattle.ff_flac_frame.proofs.FrameSound.{fits_low, fits_high}
 use Rattle.ff_flac_dec.specs.Bounds.{IsSmall, IsBounded, IsWide}
-use Rattle.ff_flac_dec.specs.Values.{restored, AllInDepth}
+use Rattle.ff_flac_dec.specs.Values.{ago, restored, AllInDepth}
 use Rattle.ff_flac_dec.specs.Channels.{both}
 
 pub IsSmall-in_depth : (depth : ℕ) (x : ℤ) → depth ≤ 25 → FitsBits depth x → IsSmall x
@@ -29,6 +29,12 @@ AllInDepth-push depth xs x h g k lt =
           let e : length xs ≡ k = omega (arith, length_push xs x) in
           rw (get_or_push xs x (pos 0) k e) g
     ]
+
+-- the last sample is the one that was pushed
+pub ago_push : (xs : List ℤ) (x : ℤ) → ago 1 (xs ++ x ∷ []) ≡ x
+ago_push xs x =
+    let e : length xs ≡ length (xs ++ x ∷ []) - 1 = omega (arith, length_push xs x) in
+    get_or_push xs x (pos 0) (length (xs ++ x ∷ []) - 1) e
 
 -- what was restored stays at the front
 pub restored-front : (f : List ℤ → ℤ) (xs rest : List ℤ) → (more : List ℤ) × (restored f xs rest ≡ xs ++ more)

@@ -2,10 +2,10 @@ use Rattle.std.proofs.Common.{◌≡◌, ◌∙◌, ◌+◌, ◌<◌, ◌++◌, 
 use Rattle.std.specs.Int.{w32, w64}
 use Rattle.std.proofs.lemmas.Int.{ints, to_z-of_z}
 use Rattle.ff_values.specs.Audio.{FitsBits}
-use Rattle.ff_flac_dec.specs.Values.{linear, restored, AllInDepth}
-use Rattle.ff_flac_dec.proofs.ValueLemmas.{leaves, IsSmall-in_depth, AllInDepth-push, restored-step}
+use Rattle.ff_flac_dec.specs.Values.{ago, linear, restored, AllInDepth}
+use Rattle.ff_flac_dec.proofs.ValueLemmas.{leaves, IsSmall-in_depth, AllInDepth-push, ago_push, restored-step}
 use Rattle.ff_flac_dec.proofs.ChannelLemmas.{all_wider}
-use Rattle.ff_flac_dec.proofs.linear.restore_linear.Goals as goal
+use Rattle.ff_flac_dec.proofs.linear.restore_by.Goals as goal
 
 pub next_sample-x-requires-clause-within : goal.next_sample-x-requires-clause-within
 next_sample-x-requires-clause-within c = subst (λ (ys : List ℤ). AllInDepth 25 ys) (sym c.as_slice.ensures.value) (all_wider c.args.depth 25 c.loop-r.out.items c.requires.depth_high c.loop-r.invariant.within)
@@ -40,6 +40,7 @@ loop-r-preserved c =
     record {
       total = subst (λ (ys : List ℤ). restored (linear c.args.coefs.now c.args.shift) ys (drop (l.r-index + 1) c.args.rest.now) ≡ restored (linear c.args.coefs.now c.args.shift) c.args.warm.now c.args.rest.now) (sym items)
           (ap (λ (y : ℤ). restored (linear c.args.coefs.now c.args.shift) (l.out.items ++ y ∷ []) (drop (l.r-index + 1) c.args.rest.now)) x-is ∙ sym (restored-step (linear c.args.coefs.now c.args.shift) l.out.items c.args.rest.now l.r-index lt) ∙ l.invariant.total);
+      last = s ∙ sym (ap (λ (ys : List ℤ). ago 1 ys) items ∙ ago_push l.out.items x);
       there = rw items (omega (arith, length-append l.out.items (x ∷ []), l.invariant.there));
       within = subst (λ (ys : List ℤ). AllInDepth c.args.depth ys) (sym items) (AllInDepth-push c.args.depth l.out.items x l.invariant.within g);
     }
