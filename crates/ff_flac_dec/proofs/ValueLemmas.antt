@@ -36,6 +36,14 @@ ago_push xs x =
     let e : length xs ≡ length (xs ++ x ∷ []) - 1 = omega (arith, length_push xs x) in
     get_or_push xs x (pos 0) (length (xs ++ x ∷ []) - 1) e
 
+-- it is small, also where there is none
+pub IsSmall-last : (depth : ℕ) (xs : List ℤ) (x : ℤ) → depth ≤ 25 → AllInDepth depth xs → x ≡ ago 1 xs → IsSmall x
+IsSmall-last depth [] x le h e = rw e (record { low = omega (arith, ints); high = omega (arith, ints) })
+IsSmall-last depth (y ∷ ys) x le h e =
+    let k : ℕ = length (y ∷ ys) - 1 in
+    let lt : k < length (y ∷ ys) = omega arith in
+    rw e (IsSmall-in_depth depth (get_or (y ∷ ys) k (pos 0)) le (h k lt))
+
 -- what was restored stays at the front
 pub restored-front : (f : List ℤ → ℤ) (xs rest : List ℤ) → (more : List ℤ) × (restored f xs rest ≡ xs ++ more)
 restored-front f xs [] = ([], sym (append-nil xs))

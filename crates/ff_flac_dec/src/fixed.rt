@@ -17,6 +17,16 @@ pub fn is_in_depth(depth: u32, x: i64) -> bool
     -limit <= x && x < limit
 }
 
+/// The last sample, 0 where there is none.
+pub fn last_of(xs: &[i32]) -> i64
+    ensures { result ≡ ago 1 xs.now }
+{
+    match xs {
+        [] => 0,
+        [.., last] => *last as i64,
+    }
+}
+
 /// The sample k before the next one.
 fn look_back(depth: u32, xs: &[i32], k: usize) -> i64
     requires low { 1 ≤ k }
@@ -68,44 +78,80 @@ fn fourth(front: i64, c: i64, d: i64) -> i64
 }
 
 /// The fixed prediction.
-fn predict(order: u32, depth: u32, xs: &[i32]) -> i64
+#[inline(always)]
+fn predict(order: u32, depth: u32, xs: &[i32], last: i64) -> i64
     requires order { order ≤ 4 }
     requires there { order ≤ length xs.now }
     requires depth { depth ≤ 25 }
     requires within { AllInDepth depth xs.now }
+    requires last { last ≡ ago 1 xs.now }
+    requires small { IsSmall last }
     ensures value { result ≡ fixed order xs.now }
     ensures bounded { IsWide result }
 {
     if order == 0 {
         return 0;
     }
-    let a = look_back(depth, xs, 1);
     if order == 1 {
-        return a;
+        return last;
     }
     let b = look_back(depth, xs, 2);
     if order == 2 {
-        return second(a, b);
+        return second(last, b);
     }
     let c = look_back(depth, xs, 3);
     if order == 3 {
-        return third(a, b, c);
+        return third(last, b, c);
     }
     let d = look_back(depth, xs, 4);
-    fourth(fourth_front(a, b), c, d)
+    fourth(fourth_front(last, b), c, d)
 }
 
 /// The sample that the residual stands for.
-fn next_sample(order: u32, depth: u32, xs: &[i32], r: &i32) -> i64
+#[inline(always)]
+fn next_sample(order: u32, depth: u32, xs: &[i32], last: i64, r: &i32) -> i64
     requires order { order ≤ 4 }
     requires there { order ≤ length xs.now }
     requires depth { depth ≤ 25 }
     requires within { AllInDepth depth xs.now }
+    requires last { last ≡ ago 1 xs.now }
     ensures value { result ≡ fixed order xs.now +ℤ r.now }
     ensures fits { FitsSigned w64 result }
 {
     let residual = *r;
-    predict(order, depth, xs) + residual as i64
+    predict(order, depth, xs, last) + residual as i64
+}
+
+/// What `restore_fixed` gives. It stands at each call of its own with the order known.
+#[inline(always)]
+fn restore_by(
+    alloc: Global,
+    order: u32,
+    depth: u32,
+    warm: &[i32],
+    rest: &[i32],
+) -> Result<Vec<i32>, DecodeEnd>
+    requires order { order ≤ 4 }
+    requires there { order ≤ length warm.now }
+    requires depth_low { 1 ≤ depth }
+    requires depth_high { depth ≤ 25 }
+    requires within { AllInDepth depth warm.now }
+    ensures ok { IfOk result (λ v. v.items ≡ restored (fixed order) warm.now rest.now) }
+    ensures within { IfOk result (λ v. AllInDepth depth v.items) }
+    ensures out { IsErrOf result DecodeEnd.OutOfDepth → AllInDepth depth (restored (fixed order) warm.now rest.now) → ⊥ }
+{
+    let mut out = Vec::from_slice(alloc, warm)?;
+    out.reserve(rest.len())?;
+    let mut last = last_of(warm);
+    for r in rest {
+        let x = next_sample(order, depth, out.as_slice(), last, r);
+        if !is_in_depth(depth, x) {
+            return Err(DecodeEnd::OutOfDepth);
+        }
+        out.push(x as i32)?;
+        last = x;
+    }
+    Ok(out)
 }
 
 /// The samples that these residuals stand for under a fixed predictor, behind the warm-up samples.
@@ -125,14 +171,11 @@ pub fn restore_fixed(
     ensures within { IfOk result (λ v. AllInDepth depth v.items) }
     ensures out { IsErrOf result DecodeEnd.OutOfDepth → AllInDepth depth (restored (fixed order) warm.now rest.now) → ⊥ }
 {
-    let mut out = Vec::from_slice(alloc, warm)?;
-    out.reserve(rest.len())?;
-    for r in rest {
-        let x = next_sample(order, depth, out.as_slice(), r);
-        if !is_in_depth(depth, x) {
-            return Err(DecodeEnd::OutOfDepth);
-        }
-        out.push(x as i32)?;
+    match order {
+        0 => restore_by(alloc, 0, depth, warm, rest),
+        1 => restore_by(alloc, 1, depth, warm, rest),
+        2 => restore_by(alloc, 2, depth, warm, rest),
+        3 => restore_by(alloc, 3, depth, warm, rest),
+        _ => restore_by(alloc, 4, depth, warm, rest),
     }
-    Ok(out)
 }

@@ -4,7 +4,7 @@ ghost use Rattle.ff_values.specs.Audio.{FitsBits};
 ghost use Rattle.ff_flac_dec.specs.Values.{ago, weighted, linear, restored, AllInDepth};
 
 use crate::end::DecodeEnd;
-use crate::fixed::is_in_depth;
+use crate::fixed::{is_in_depth, last_of};
 use std::alloc::Global;
 
 /// A coefficient times a sample.
@@ -85,16 +85,6 @@ fn next_sample(order: usize, coefs: &[i32], shift: u32, xs: &[i32], last: i64, r
     let residual = *r;
     let predicted = weigh(order, coefs, xs, last) >> shift;
     predicted + residual as i64
-}
-
-/// The last sample, 0 where there is none.
-fn last_of(xs: &[i32]) -> i64
-    ensures { result ≡ ago 1 xs.now }
-{
-    match xs {
-        [] => 0,
-        [.., last] => *last as i64,
-    }
 }
 
 /// What `restore_linear` gives, by this many coefficients. It stands at each call of its own with the order known, so that the

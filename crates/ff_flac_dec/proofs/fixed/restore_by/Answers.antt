@@ -2,9 +2,9 @@ use Rattle.std.proofs.Common.{◌≡◌, ◌∙◌, ◌+◌, ◌<◌, ◌++◌, 
 use Rattle.std.specs.Int.{w32, w64}
 use Rattle.std.proofs.lemmas.Int.{ints, to_z-of_z}
 use Rattle.ff_values.specs.Audio.{FitsBits}
-use Rattle.ff_flac_dec.specs.Values.{fixed, restored, AllInDepth}
-use Rattle.ff_flac_dec.proofs.ValueLemmas.{leaves, IsSmall-in_depth, AllInDepth-push, restored-step}
-use Rattle.ff_flac_dec.proofs.fixed.restore_fixed.Goals as goal
+use Rattle.ff_flac_dec.specs.Values.{ago, fixed, restored, AllInDepth}
+use Rattle.ff_flac_dec.proofs.ValueLemmas.{leaves, IsSmall-in_depth, AllInDepth-push, ago_push, restored-step}
+use Rattle.ff_flac_dec.proofs.fixed.restore_by.Goals as goal
 
 pub returns-then-not-is_in_depth-clause-out : goal.returns-then-not-is_in_depth-clause-out
 returns-then-not-is_in_depth-clause-out c =
@@ -36,6 +36,7 @@ loop-r-preserved c =
     record {
       total = subst (λ (ys : List ℤ). restored (fixed c.args.order) ys (drop (l.r-index + 1) c.args.rest.now) ≡ restored (fixed c.args.order) c.args.warm.now c.args.rest.now) (sym items)
           (ap (λ (y : ℤ). restored (fixed c.args.order) (l.out.items ++ y ∷ []) (drop (l.r-index + 1) c.args.rest.now)) x-is ∙ sym (restored-step (fixed c.args.order) l.out.items c.args.rest.now l.r-index lt) ∙ l.invariant.total);
+      last = s ∙ sym (ap (λ (ys : List ℤ). ago 1 ys) items ∙ ago_push l.out.items x);
       there = rw items (omega (arith, length-append l.out.items (x ∷ []), l.invariant.there));
       within = subst (λ (ys : List ℤ). AllInDepth c.args.depth ys) (sym items) (AllInDepth-push c.args.depth l.out.items x l.invariant.within g);
     }
