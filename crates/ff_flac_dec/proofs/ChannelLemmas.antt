@@ -1,6 +1,6 @@
 -- Lists of samples and their depth.
 use Rattle.std.proofs.Common.{◌≡◌, ℕ, zero, suc, ◌+◌, ◌-◌, ◌*◌, ◌^◌, ◌<◌, ◌≤◌, List, [], ◌∷◌, ◌++◌, length, map, drop, get_or, refl, sym, ap, subst, ◌∙◌, append_assoc, arith, length-append}
-use Rattle.std.proofs.Common.{ℤ, pos, negsuc, neg_ℤ, ◌+ℤ◌, ◌*ℤ◌, ◌≤ℤ◌}
+use Rattle.std.proofs.Common.{ℤ, pos, negsuc, neg_ℤ, ◌+ℤ◌, ◌*ℤ◌}
 use Rattle.std.specs.Prelude.{replicate}
 use Rattle.std.proofs.Math.Nat.{mul-le-mul_right, mul-lt-mul_of_pos_right}
 use Rattle.std.proofs.lemmas.Nat.{pow_pos, pow-add}
@@ -95,7 +95,7 @@ within_signed : (z : ℤ) → Within (2 ^ 24) z → FitsSigned w32 z
 within_signed (pos n) lt = record { sfits = omega (arith, lt) }
 within_signed (negsuc n) lt = record { sfits = omega (arith, lt) }
 
-power_fits : (w : ℕ) → w ≤ 24 → to_z w32 (of_z w32 (pos (2 ^ w))) ≡ pos (2 ^ w)
+pub power_fits : (w : ℕ) → w ≤ 24 → to_z w32 (of_z w32 (pos (2 ^ w))) ≡ pos (2 ^ w)
 power_fits w le =
     let two : 0 < 2 = omega arith in
     let m : 2 ^ w ≤ 2 ^ 24 = pow-le-pow_right two le in

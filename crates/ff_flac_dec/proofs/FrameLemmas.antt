@@ -1,6 +1,6 @@
 -- The channels of a frame, and the frame of sound.
 use Rattle.std.proofs.Common.{◌≡◌, ℕ, zero, suc, ◌+◌, ◌-◌, ◌*◌, ◌<◌, ◌≤◌, Bool, true, false, cond, ltb, leb, eqb, ◌&&◌, ◌||◌, ◌⊎◌, inl, inr, List, [], ◌∷◌, ◌++◌, length, map, get_or, refl, sym, ap, subst, ◌∙◌, arith, length-append}
-use Rattle.std.proofs.Common.{ℤ, pos, negsuc}
+use Rattle.std.proofs.Common.{ℤ, pos}
 use Rattle.std.specs.Prelude.{replicate, slice_index_or}
 use Rattle.std.specs.List.{AllByRecursion, All}
 use Rattle.std.proofs.lemmas.Bool.{lt-ltb, le-ltb, ltb-true, cases_lt, and_parts, eqb-true}
@@ -90,7 +90,7 @@ all_append : {A : Type 0} (P : A → Type 0) (xs ys : List A) → AllByRecursion
 all_append P [] ys h g = g
 all_append P (x ∷ xs) ys h g = (h.0, all_append P xs ys h.1 g)
 
-fits_all : (d : ℕ) (channels : List (List ℤ)) (n t : ℕ) → AllChannels d channels → AllByRecursion (FitsBits d) (interleaved_from channels n t)
+pub fits_all : (d : ℕ) (channels : List (List ℤ)) (n t : ℕ) → AllChannels d channels → AllByRecursion (FitsBits d) (interleaved_from channels n t)
 fits_all d channels zero t h = tt
 fits_all d channels (suc n) t h = all_append (FitsBits d) (sample_frame channels t) (interleaved_from channels n (t + 1)) (fits_frame d channels t h) (fits_all d channels n (t + 1) h)
 

@@ -25,3 +25,8 @@ interleave_goes_on channels block place out new total lt e so_far =
     let k : block - place ≡ suc (block - (place + 1)) = omega arith in
     let tail : List ℤ = interleaved_from channels (block - (place + 1)) (place + 1) in
     ap (λ (m : List ℤ). m ++ tail) e ∙ append_assoc out (sample_frame channels place) tail ∙ ap (λ (n : ℕ). out ++ interleaved_from channels n place) (sym k) ∙ so_far
+
+-- one sample frame of two channels more
+pub two_go_on : (channels : List (List ℤ)) (block place : ℕ) (out total : List ℤ) (x y : ℤ) → place < block → sample_frame channels place ≡ x ∷ y ∷ [] → out ++ interleaved_from channels (block - place) place ≡ total → ((out ++ x ∷ []) ++ y ∷ []) ++ interleaved_from channels (block - (place + 1)) (place + 1) ≡ total
+two_go_on channels block place out total x y lt e so_far =
+    interleave_goes_on channels block place out ((out ++ x ∷ []) ++ y ∷ []) total lt (append_assoc out (x ∷ []) (y ∷ []) ∙ ap (λ (m : List ℤ). out ++ m) (sym e)) so_far

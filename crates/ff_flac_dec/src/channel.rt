@@ -65,7 +65,7 @@ fn without_wasted(
 }
 
 /// 2 to a power.
-fn power(by: u32) -> i32
+pub fn power(by: u32) -> i32
     requires { by ≤ 24 }
     ensures { result ≡ pos (2 ^ by) }
 {

@@ -5,7 +5,7 @@ ghost use Rattle.ff_flac_frame.specs.Frame.{IsStream, Begins};
 ghost use Rattle.ff_flac_frame.specs.Facts.{IsPart, IsFrame};
 ghost use Rattle.ff_flac_frame.specs.Parts.{part_of, frame_of};
 ghost use Rattle.ff_flac_dec.specs.Values.{channel_samples};
-ghost use Rattle.ff_flac_dec.specs.Channels.{AllChannels, IsCoded, IsWithinDepths, left_right, first_depth, second_depth, channels_of, decoded};
+ghost use Rattle.ff_flac_dec.specs.Channels.{AllChannels, IsCoded, IsWithinDepths, left_right, first_depth, second_depth, channels_of, interleaved, decoded};
 ghost use Rattle.ff_flac_dec.specs.Joins.{items_of};
 ghost use Rattle.ff_flac_dec.specs.Streams.{stream_of};
 
@@ -40,6 +40,25 @@ fn independent(
     Ok(channels)
 }
 
+/// The same channels, sample frame after sample frame.
+fn separate(
+    alloc: Global,
+    subframes: &[Subframe],
+    block: u32,
+    depth: u32,
+) -> Result<Vec<i32>, DecodeEnd>
+    requires parts { AllByRecursion (IsPart block depth) (map part_of subframes.now) }
+    requires depth { depth ≤ 25 }
+    ensures ok { IfOk result (λ v. v.items ≡ interleaved block (map (channel_samples block) (map part_of subframes.now))) }
+    ensures coded { IfOk result (λ _. AllByRecursion (IsCoded block depth) (map part_of subframes.now)) }
+    ensures within { IfOk result (λ _. AllChannels depth (map (channel_samples block) (map part_of subframes.now))) }
+    ensures out { IsErrOf result DecodeEnd.OutOfDepth → AllByRecursion (IsCoded block depth) (map part_of subframes.now) → ⊥ }
+{
+    let channels = independent(alloc, subframes, block, depth)?;
+    let samples = interleave(alloc, channels.as_slice(), block)?;
+    Ok(samples)
+}
+
 /// The depth of the first of two subframes: a side channel has one bit more.
 fn first_depth_of(form: u8, depth: u32) -> u32
     requires { depth ≤ 24 }
@@ -58,7 +77,7 @@ fn second_depth_of(form: u8, depth: u32) -> u32
     if form == 9 { depth } else { depth + 1 }
 }
 
-/// Left and right, of two subframes under a channel code from 8 on.
+/// Left and right, sample frame after sample frame, of two subframes under a channel code from 8 on.
 fn joint(
     alloc: Global,
     first: &Subframe,
@@ -66,39 +85,35 @@ fn joint(
     form: u8,
     block: u32,
     depth: u32,
-) -> Result<Vec<Vec<i32>>, DecodeEnd>
+) -> Result<Vec<i32>, DecodeEnd>
     requires first { IsPart block (first_depth form depth) (part_of first.now) }
     requires second { IsPart block (second_depth form depth) (part_of second.now) }
     requires depth_low { 1 ≤ depth }
     requires depth_high { depth ≤ 24 }
-    ensures ok { IfOk result (λ v. items_of v.items ≡ left_right form (channel_samples block (part_of first.now)) (channel_samples block (part_of second.now))) }
+    ensures ok { IfOk result (λ v. v.items ≡ interleaved block (left_right form (channel_samples block (part_of first.now)) (channel_samples block (part_of second.now)))) }
     ensures first { IfOk result (λ _. IsCoded block (first_depth form depth) (part_of first.now)) }
     ensures second { IfOk result (λ _. IsCoded block (second_depth form depth) (part_of second.now)) }
     ensures within { IfOk result (λ _. AllChannels depth (left_right form (channel_samples block (part_of first.now)) (channel_samples block (part_of second.now)))) }
     ensures out { IsErrOf result DecodeEnd.OutOfDepth → IsCoded block (first_depth form depth) (part_of first.now) → IsCoded block (second_depth form depth) (part_of second.now)
         → AllChannels depth (left_right form (channel_samples block (part_of first.now)) (channel_samples block (part_of second.now))) → ⊥ }
 {
-    let left = samples_of(alloc, first, block, first_depth_of(form, depth))?;
-    let right = samples_of(alloc, second, block, second_depth_of(form, depth))?;
-    left_and_right(alloc, form, depth, left, right)
+    let one = samples_of(alloc, first, block, first_depth_of(form, depth))?;
+    let other = samples_of(alloc, second, block, second_depth_of(form, depth))?;
+    left_and_right(alloc, form, depth, one.as_slice(), other.as_slice())
 }
 
-/// The channels of a frame.
-fn channels(
-    alloc: Global,
-    frame: &FlacFrame,
-    stream: &FlacStream,
-) -> Result<Vec<Vec<i32>>, DecodeEnd>
+/// The samples of a frame, sample frame after sample frame.
+fn samples(alloc: Global, frame: &FlacFrame, stream: &FlacStream) -> Result<Vec<i32>, DecodeEnd>
     requires stream { IsStream stream.now }
     requires frame { IsFrame stream.now (frame_of 0 frame.now) }
-    ensures ok { IfOk result (λ v. items_of v.items ≡ channels_of (frame_of 0 frame.now)) }
+    ensures ok { IfOk result (λ v. v.items ≡ interleaved frame.now.block (channels_of (frame_of 0 frame.now))) }
     ensures within { IfOk result (λ _. IsWithinDepths stream.now (frame_of 0 frame.now)) }
     ensures out { IsErrOf result DecodeEnd.OutOfDepth → IsWithinDepths stream.now (frame_of 0 frame.now) → ⊥ }
 {
     let depth = stream.bits as u32;
     let subframes = frame.subframes.as_slice();
     if frame.form < 8 {
-        let alone = independent(alloc, subframes, frame.block, depth)?;
+        let alone = separate(alloc, subframes, frame.block, depth)?;
         return Ok(alone);
     }
     let both = joint(
@@ -126,8 +141,7 @@ fn sound(
     ensures within { IfOk result (λ _. IsWithinDepths stream.now (frame_of 0 frame.now)) }
     ensures out { IsErrOf result DecodeEnd.OutOfDepth → IsWithinDepths stream.now (frame_of 0 frame.now) → ⊥ }
 {
-    let channels = channels(alloc, frame, stream)?;
-    let samples = interleave(alloc, channels.as_slice(), frame.block)?;
+    let samples = samples(alloc, frame, stream)?;
     Ok(AFrame::make(
         pts,
         stream.rate,

@@ -1,12 +1,11 @@
-ghost use Rattle.std.specs.Prelude.{◌≡◌, ◌<◌, ◌≤◌, ◌+◌, ◌∷◌, [], IfOk, IfErr, IsErrOf, length, pos, map, FitsSigned};
-ghost use Rattle.std.specs.Int.{w64};
+ghost use Rattle.std.specs.Prelude.{◌≡◌, ◌≤◌, ◌==◌, if◌then◌else◌, IfOk, IfErr, IsErrOf, IsTrue, ◌↔◌, length};
 ghost use Rattle.ff_values.specs.Audio.{FitsBits};
 ghost use Rattle.ff_flac_dec.specs.Values.{AllInDepth};
-ghost use Rattle.ff_flac_dec.specs.Channels.{both, left_right, AllChannels};
-ghost use Rattle.ff_flac_dec.specs.Joins.{joins, items_of};
+ghost use Rattle.ff_flac_dec.specs.Channels.{less, more, mid_left, mid_right, left_right, AllChannels, interleaved};
+ghost use Rattle.ff_flac_dec.specs.Joins.{joins};
 
+use crate::channel::power;
 use crate::end::DecodeEnd;
-use crate::fixed::is_in_depth;
 use std::alloc::Global;
 
 /// How a channel is made of two subframes (RFC 9639, section 4.2).
@@ -23,14 +22,12 @@ pub enum Join {
 }
 
 /// A sample of a channel that is made of two.
-fn joined(join: Join, x: &i32, y: &i32) -> i64
-    requires first { FitsBits 25 x.now }
-    requires second { FitsBits 25 y.now }
-    ensures value { result ≡ joins join x.now y.now }
-    ensures fits { FitsSigned w64 result }
+#[inline(always)]
+fn joined(join: Join, first: i32, second: i32) -> i32
+    requires first { FitsBits 25 first }
+    requires second { FitsBits 25 second }
+    ensures { result ≡ joins join first second }
 {
-    let first = *x as i64;
-    let second = *y as i64;
     match join {
         Join::Less => first - second,
         Join::More => first + second,
@@ -39,11 +36,98 @@ fn joined(join: Join, x: &i32, y: &i32) -> i64
     }
 }
 
-/// The channel that is made of two.
+/// The left sample, of one of each subframe under a channel code from 8 on.
 #[inline(always)]
-fn join_all(
+fn left_of(form: u8, first: i32, second: i32) -> i32
+    requires first { FitsBits 25 first }
+    requires second { FitsBits 25 second }
+    ensures { result ≡ (if form == 8 then first else (if form == 9 then more first second else mid_left first second)) }
+{
+    match form {
+        8 => first,
+        9 => joined(Join::More, first, second),
+        _ => joined(Join::MidLeft, first, second),
+    }
+}
+
+/// The right sample.
+#[inline(always)]
+fn right_of(form: u8, first: i32, second: i32) -> i32
+    requires first { FitsBits 25 first }
+    requires second { FitsBits 25 second }
+    ensures { result ≡ (if form == 8 then less first second else (if form == 9 then second else mid_right first second)) }
+{
+    match form {
+        8 => joined(Join::Less, first, second),
+        9 => second,
+        _ => joined(Join::MidRight, first, second),
+    }
+}
+
+/// Left and right, sample frame after sample frame. It stands at each call of its own with the channel code known.
+#[tactic(auto, unfolding(crate::specs::Channels::interleaved))]
+#[inline(always)]
+fn woven(alloc: Global, form: u8, first: &[i32], second: &[i32]) -> Result<Vec<i32>, DecodeEnd>
+    requires same { length first.now ≡ length second.now }
+    requires first { AllInDepth 25 first.now }
+    requires second { AllInDepth 25 second.now }
+    ensures ok { IfOk result (λ v. v.items ≡ interleaved (length first.now) (left_right form first.now second.now)) }
+    ensures memory { IfErr result (λ e. e ≡ DecodeEnd.NoMemory) }
+{
+    let count = first.len();
+    let mut out = Vec::with_capacity(alloc, count + count)?;
+    for i in 0..count {
+        let x = first[i];
+        let y = second[i];
+        out.push_reserved(left_of(form, x, y));
+        out.push_reserved(right_of(form, x, y));
+    }
+    Ok(out)
+}
+
+/// Whether a sample is within the depth.
+#[inline(always)]
+fn fits(depth: u32, x: i32) -> bool
+    requires low { 1 ≤ depth }
+    requires high { depth ≤ 25 }
+    ensures { IsTrue result ↔ FitsBits depth x }
+{
+    let limit = power(depth - 1);
+    -limit <= x && x < limit
+}
+
+/// Whether each sample is within the depth. It looks at all of them, so that it may look at several at once.
+fn all_fit(depth: u32, samples: &[i32]) -> bool
+    requires low { 1 ≤ depth }
+    requires high { depth ≤ 25 }
+    ensures { IsTrue result ↔ AllInDepth depth samples.now }
+{
+    let mut all = true;
+    for sample in samples {
+        all &= fits(depth, *sample);
+    }
+    all
+}
+
+/// Left and right, sample frame after sample frame, within the stream's depth or not.
+fn both_woven(alloc: Global, form: u8, first: &[i32], second: &[i32]) -> Result<Vec<i32>, DecodeEnd>
+    requires same { length first.now ≡ length second.now }
+    requires first { AllInDepth 25 first.now }
+    requires second { AllInDepth 25 second.now }
+    ensures ok { IfOk result (λ v. v.items ≡ interleaved (length first.now) (left_right form first.now second.now)) }
+    ensures memory { IfErr result (λ e. e ≡ DecodeEnd.NoMemory) }
+{
+    match form {
+        8 => woven(alloc, 8, first, second),
+        9 => woven(alloc, 9, first, second),
+        _ => woven(alloc, 10, first, second),
+    }
+}
+
+/// Left and right, sample frame after sample frame, of the two subframes under a channel code from 8 on.
+pub fn left_and_right(
     alloc: Global,
-    join: Join,
+    form: u8,
     depth: u32,
     first: &[i32],
     second: &[i32],
@@ -53,60 +137,13 @@ fn join_all(
     requires depth_high { depth ≤ 25 }
     requires first { AllInDepth 25 first.now }
     requires second { AllInDepth 25 second.now }
-    ensures ok { IfOk result (λ v. v.items ≡ both (joins join) first.now second.now) }
-    ensures within { IfOk result (λ v. AllInDepth depth v.items) }
-    ensures out { IsErrOf result DecodeEnd.OutOfDepth → AllInDepth depth (both (joins join) first.now second.now) → ⊥ }
+    ensures ok { IfOk result (λ v. v.items ≡ interleaved (length first.now) (left_right form first.now second.now)) }
+    ensures within { IfOk result (λ _. AllChannels depth (left_right form first.now second.now)) }
+    ensures out { IsErrOf result DecodeEnd.OutOfDepth → AllChannels depth (left_right form first.now second.now) → ⊥ }
 {
-    let mut out = Vec::with_capacity(alloc, first.len())?;
-    for i in 0..first.len() {
-        let x = joined(join, &first[i], &second[i]);
-        if !is_in_depth(depth, x) {
-            return Err(DecodeEnd::OutOfDepth);
-        }
-        out.push(x as i32)?;
+    let samples = both_woven(alloc, form, first, second)?;
+    if !all_fit(depth, samples.as_slice()) {
+        return Err(DecodeEnd::OutOfDepth);
     }
-    Ok(out)
-}
-
-/// Two lists, one after the other.
-fn pair(alloc: Global, first: Vec<i32>, second: Vec<i32>) -> Result<Vec<Vec<i32>>, DecodeEnd>
-    ensures ok { IfOk result (λ v. items_of v.items ≡ first.items ∷ second.items ∷ []) }
-    ensures memory { IfErr result (λ e. e ≡ DecodeEnd.NoMemory) }
-{
-    let mut channels = Vec::new(alloc);
-    channels.push(first)?;
-    channels.push(second)?;
-    Ok(channels)
-}
-
-/// Left and right, of the two subframes under a channel code from 8 on.
-pub fn left_and_right(
-    alloc: Global,
-    form: u8,
-    depth: u32,
-    first: Vec<i32>,
-    second: Vec<i32>,
-) -> Result<Vec<Vec<i32>>, DecodeEnd>
-    requires same { length first.items ≡ length second.items }
-    requires depth_low { 1 ≤ depth }
-    requires depth_high { depth ≤ 25 }
-    requires first { AllInDepth 25 first.items }
-    requires second { AllInDepth 25 second.items }
-    requires left { form ≡ 8 → AllInDepth depth first.items }
-    requires right { form ≡ 9 → AllInDepth depth second.items }
-    ensures ok { IfOk result (λ v. items_of v.items ≡ left_right form first.items second.items) }
-    ensures within { IfOk result (λ _. AllChannels depth (left_right form first.items second.items)) }
-    ensures out { IsErrOf result DecodeEnd.OutOfDepth → AllChannels depth (left_right form first.items second.items) → ⊥ }
-{
-    if form == 8 {
-        let right = join_all(alloc, Join::Less, depth, &first, &second)?;
-        return pair(alloc, first, right);
-    }
-    if form == 9 {
-        let left = join_all(alloc, Join::More, depth, &first, &second)?;
-        return pair(alloc, left, second);
-    }
-    let left = join_all(alloc, Join::MidLeft, depth, &first, &second)?;
-    let right = join_all(alloc, Join::MidRight, depth, &first, &second)?;
-    pair(alloc, left, right)
+    Ok(samples)
 }

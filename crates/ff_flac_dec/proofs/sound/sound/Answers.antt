@@ -6,13 +6,12 @@ use Rattle.ff_values.specs.Frame.{audio_frame}
 use Rattle.ff_values.specs.declared.audio.AFrame.{AFrame}
 use Rattle.ff_flac_frame.specs.Parts.{frame_of}
 use Rattle.ff_flac_frame.proofs.LawLemmas.{in_shape}
-use Rattle.ff_flac_dec.specs.Channels.{interleaved, decoded}
-use Rattle.ff_flac_dec.specs.Joins.{items_of}
+use Rattle.ff_flac_dec.specs.Channels.{decoded}
 use Rattle.ff_flac_dec.proofs.FrameLemmas.{is_audio, frame_again}
 use Rattle.ff_flac_dec.proofs.sound.sound.Goals as goal
 
-pub channels-requires-clause-frame : goal.channels-requires-clause-frame
-channels-requires-clause-frame c =
+pub samples-requires-clause-frame : goal.samples-requires-clause-frame
+samples-requires-clause-frame c =
     let t = c.requires.frame in
     frame_again c.args.stream.now t.1 c.args.frame.now (in_shape c.args.stream.now c.requires.stream t.0 (frame_of t.1 c.args.frame.now) t.2 t.3)
 
@@ -21,13 +20,13 @@ make-requires c =
     let t = c.requires.frame in
     let h = frame_again c.args.stream.now t.1 c.args.frame.now (in_shape c.args.stream.now c.requires.stream t.0 (frame_of t.1 c.args.frame.now) t.2 t.3) in
     let f = frame_of 0 c.args.frame.now in
-    let e = c.new.ensures ∙ c.in_ok-samples.ensures.ok ∙ ap (λ (m : _). interleaved c.args.frame.now.block (items_of m)) c.as_slice.ensures.value ∙ ap (λ (m : List (List ℤ)). interleaved c.args.frame.now.block m) c.in_ok-channels.ensures.ok in
-    subst (λ (xs : List ℤ). IsAudio c.args.stream.now.bits c.args.stream.now.channels xs) (sym e) (is_audio c.args.stream.now f c.requires.stream h c.in_ok-channels.ensures.within)
+    let e = c.new.ensures ∙ c.in_ok-samples.ensures.ok in
+    subst (λ (xs : List ℤ). IsAudio c.args.stream.now.bits c.args.stream.now.channels xs) (sym e) (is_audio c.args.stream.now f c.requires.stream h c.in_ok-samples.ensures.within)
 
 pub returns-clause-ok : goal.returns-clause-ok
 unfolding decoded
 returns-clause-ok c =
-    let e = c.new.ensures ∙ c.in_ok-samples.ensures.ok ∙ ap (λ (m : _). interleaved c.args.frame.now.block (items_of m)) c.as_slice.ensures.value ∙ ap (λ (m : List (List ℤ)). interleaved c.args.frame.now.block m) c.in_ok-channels.ensures.ok in
+    let e = c.new.ensures ∙ c.in_ok-samples.ensures.ok in
     c.make.ensures ∙ ap (λ (z : ℤ). audio_frame z c.args.stream.now.rate c.args.stream.now.bits c.args.stream.now.channels c.new.result) (to_z-of_z w64 c.args.pts c.ranges.pts) ∙ ap (λ (xs : List ℤ). audio_frame c.args.pts c.args.stream.now.rate c.args.stream.now.bits c.args.stream.now.channels xs) e
 
 pub returns-clause-sound : goal.returns-clause-sound
@@ -35,6 +34,6 @@ returns-clause-sound c =
     let t = c.requires.frame in
     let h = frame_again c.args.stream.now t.1 c.args.frame.now (in_shape c.args.stream.now c.requires.stream t.0 (frame_of t.1 c.args.frame.now) t.2 t.3) in
     let f = frame_of 0 c.args.frame.now in
-    let e = c.new.ensures ∙ c.in_ok-samples.ensures.ok ∙ ap (λ (m : _). interleaved c.args.frame.now.block (items_of m)) c.as_slice.ensures.value ∙ ap (λ (m : List (List ℤ)). interleaved c.args.frame.now.block m) c.in_ok-channels.ensures.ok in
-    let a = subst (λ (xs : List ℤ). IsAudio c.args.stream.now.bits c.args.stream.now.channels xs) (sym e) (is_audio c.args.stream.now f c.requires.stream h c.in_ok-channels.ensures.within) in
+    let e = c.new.ensures ∙ c.in_ok-samples.ensures.ok in
+    let a = subst (λ (xs : List ℤ). IsAudio c.args.stream.now.bits c.args.stream.now.channels xs) (sym e) (is_audio c.args.stream.now f c.requires.stream h c.in_ok-samples.ensures.within) in
     subst (λ (x : AFrame). IsAudio x.bits x.channels x.samples) (sym c.make.ensures) a

@@ -1,6 +1,6 @@
 use Rattle.ff_flac_dec.specs.Joins.{items_of}
 use Rattle.ff_flac_dec.proofs.SoundLemmas.{interleave_goes_on}
-use Rattle.ff_flac_dec.proofs.interleave.interleave.Goals as goal
+use Rattle.ff_flac_dec.proofs.interleave.interleave_any.Goals as goal
 
 pub loop-place-preserved : goal.loop-place-preserved
 loop-place-preserved c =

@@ -1,4 +1,4 @@
-use Rattle.std.proofs.Common.{◌≡◌, ◌∙◌, List, length, map, get_or, sym, ap, subst, arith}
+use Rattle.std.proofs.Common.{◌≡◌, ◌∙◌, ℤ, List, length, map, get_or, sym, ap, subst, arith}
 use Rattle.std.specs.List.{AllByRecursion}
 use Rattle.std.proofs.lemmas.Result.{err_from_is_err_and}
 use Rattle.std.proofs.lemmas.List.{length-map}
@@ -6,12 +6,12 @@ use Rattle.ff_flac_frame.specs.declared.subframe.Subframe.{Subframe}
 use Rattle.ff_flac_frame.specs.Facts.{IsPart}
 use Rattle.ff_flac_frame.specs.Parts.{part_of, frame_of}
 use Rattle.ff_flac_dec.specs.Values.{channel_samples}
-use Rattle.ff_flac_dec.specs.Channels.{IsCoded, AllChannels}
+use Rattle.ff_flac_dec.specs.Channels.{IsCoded, AllChannels, interleaved}
 use Rattle.ff_flac_dec.proofs.FrameLemmas.{frame_alone, channels_alone, within_alone, alone_within, frame_two, pair_parts, frame_first, frame_second, channels_joint, within_joint, first_within, second_within, joint_within}
-use Rattle.ff_flac_dec.proofs.sound.channels.Goals as goal
+use Rattle.ff_flac_dec.proofs.sound.samples.Goals as goal
 
-pub independent-requires-clause-parts : goal.independent-requires-clause-parts
-independent-requires-clause-parts c =
+pub separate-requires-clause-parts : goal.separate-requires-clause-parts
+separate-requires-clause-parts c =
     subst (λ (ss : List Subframe). AllByRecursion (IsPart c.args.frame.now.block c.args.stream.now.bits) (map part_of ss)) (sym c.as_slice-subframes.ensures) (frame_alone c.args.stream.now (frame_of 0 c.args.frame.now) c.requires.frame c.if-frame-lt8.true)
 
 pub returns-in_err-alone-clause-out : goal.returns-in_err-alone-clause-out
@@ -22,7 +22,7 @@ returns-in_err-alone-clause-out c =
 
 pub returns-then-frame-lt8-clause-ok : goal.returns-then-frame-lt8-clause-ok
 returns-then-frame-lt8-clause-ok c =
-    c.in_ok-alone.ensures.ok ∙ ap (λ (ss : List Subframe). map (channel_samples c.args.frame.now.block) (map part_of ss)) c.as_slice-subframes.ensures ∙ sym (channels_alone c.args.stream.now (frame_of 0 c.args.frame.now) c.requires.frame c.if-frame-lt8.true)
+    c.in_ok-alone.ensures.ok ∙ ap (λ (m : List (List ℤ)). interleaved c.args.frame.now.block m) (ap (λ (ss : List Subframe). map (channel_samples c.args.frame.now.block) (map part_of ss)) c.as_slice-subframes.ensures ∙ sym (channels_alone c.args.stream.now (frame_of 0 c.args.frame.now) c.requires.frame c.if-frame-lt8.true))
 
 pub returns-then-frame-lt8-clause-within : goal.returns-then-frame-lt8-clause-within
 returns-then-frame-lt8-clause-within c =
@@ -66,7 +66,7 @@ pub returns-clause-ok : goal.returns-clause-ok
 returns-clause-ok c =
     let h = c.requires.frame in
     let e = pair_parts c.args.frame.now.subframes c.index-subframes-0.result c.index-subframes-1.result (frame_two c.args.stream.now (frame_of 0 c.args.frame.now) h c.if-frame-lt8.false) (c.index-subframes-0.is ∙ ap (λ (ss : List Subframe). get_or ss 0 c.index-subframes-0.result) c.as_slice-subframes.ensures) (c.index-subframes-1.is ∙ ap (λ (ss : List Subframe). get_or ss 1 c.index-subframes-1.result) c.as_slice-subframes.ensures) in
-    c.in_ok-both.ensures.ok ∙ sym (channels_joint c.args.stream.now (frame_of 0 c.args.frame.now) h (part_of c.index-subframes-0.result) (part_of c.index-subframes-1.result) e c.if-frame-lt8.false)
+    c.in_ok-both.ensures.ok ∙ ap (λ (m : List (List ℤ)). interleaved c.args.frame.now.block m) (sym (channels_joint c.args.stream.now (frame_of 0 c.args.frame.now) h (part_of c.index-subframes-0.result) (part_of c.index-subframes-1.result) e c.if-frame-lt8.false))
 
 pub returns-clause-within : goal.returns-clause-within
 returns-clause-within c =
