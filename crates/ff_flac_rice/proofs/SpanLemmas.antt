@@ -186,6 +186,27 @@ spanned method low high top row part is spans some_left within fits last full fe
     ] in
     omega (arith, up, here, found.is, down)
 
+-- so nothing under another parameter has fewer bits than the lowest in the span
+pub spanned_below : (low high cost : ℕ) (g : ℕ → ℕ) (part : List ℕ) → IsSpan low high → IsLowEnd low (length part) (quotients 0 part) → IsHighEnd high (length part) (quotients 0 part)
+    → ((k : ℕ) → low ≤ k → k < high → g k ≡ part_cost 0 k part) → cost ≡ lowest g low (high - 1 - low) → (j : ℕ) → j < 31 → cost ≤ part_cost 0 j part
+spanned_below low high cost g part span below above same e j h =
+    let f : ℕ → ℕ = λ k. part_cost 0 k part in
+    let some_left : low < high = span.some_parameter in
+    let found = lowest-is g low (high - 1 - low) in
+    let at_low : cost ≤ f low = omega (arith, e, found.below low (omega arith) (omega arith), same low (omega arith) some_left) in
+    let at_top : cost ≤ f (high - 1) = omega (arith, e, found.below (high - 1) (omega (arith, some_left)) (omega (arith, some_left)), same (high - 1) (omega (arith, some_left)) (omega (arith, some_left))) in
+    elim (cases_lt j low) [
+      | inl lt ↦ omega (arith, at_low, falls_to f low (low - j) j (λ k l. step_down k part (below k l)) (omega (arith, lt)))
+      | inr ge ↦ elim (cases_lt j high) [
+        | inl inside ↦ omega (arith, e, found.below j ge (omega (arith, inside, ge)), same j ge inside)
+        | inr over ↦
+            let from : ℕ = high - 1 in
+            let reach : from + (j - from) ≡ j = omega (arith, over) in
+            let rise : f from ≤ f (from + (j - from)) = rises_from f from (j - from) (λ k l last. step_up k part (above k (omega (arith, l, some_left)) last)) (omega (arith, reach, h)) in
+            omega (arith, at_top, rise, ap f reach)
+      ]
+    ]
+
 sum_same : (method low high top : ℕ) (rows : List Row) (parts : List (List ℕ)) → AreRows low high rows parts → AllByRecursion (Spans low high) parts → low < top → top ≤ high → top ≤ count_of method
     → high ≤ 31 → (top < count_of method → top ≡ high) → count_of method ≤ 31 → sum_by (lowest_bits method low top) rows ≡ sum_by (best_cost method) parts
 sum_same method low high top [] [] h s a b c d e f = refl

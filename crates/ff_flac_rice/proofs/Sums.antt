@@ -1,4 +1,4 @@
-use Rattle.std.proofs.Common.{◌≡◌, ℕ, ◌+◌, ◌*◌, ◌/◌, ◌^◌, ◌<◌, ◌≤◌, List, [], ◌∷◌, length, map, get_or, replicate, inl, inr, refl, sym, ap, ◌∙◌, arith}
+use Rattle.std.proofs.Common.{◌≡◌, ℕ, ◌+◌, ◌-◌, ◌*◌, ◌/◌, ◌^◌, ◌<◌, ◌≤◌, List, [], ◌∷◌, length, map, get_or, replicate, inl, inr, refl, sym, ap, ◌∙◌, arith}
 use Rattle.std.specs.List.{All, sum_by}
 use lib.Lanes.{sum_l}
 use Rattle.std.proofs.Math.Path.{fun_ext}
@@ -45,6 +45,11 @@ pub halves_next : (k : ℕ) (us : List ℕ) → map (λ u. u / 2) (map (λ u. u 
 halves_next k us =
     let next : (u : ℕ) → u / 2 ^ k / 2 ≡ u / 2 ^ (k + 1) = λ u. shr-shr u k 1 in
     map-map (λ u. u / 2) (λ u. u / 2 ^ k) us ∙ ap (λ f. map f us) (fun_ext next)
+
+pub halves_at : (k : ℕ) (us lanes halves : List ℕ) → 0 < k → lanes ≡ map (λ u. u / 2 ^ (k - 1)) us → halves ≡ map (λ u. u / 2) lanes → halves ≡ map (λ u. u / 2 ^ k) us
+halves_at k us lanes halves h e f =
+    let reach : k - 1 + 1 ≡ k = omega arith in
+    f ∙ ap (map (λ u. u / 2)) e ∙ halves_next (k - 1) us ∙ ap (λ j. map (λ u. u / 2 ^ j) us) reach
 
 pub lanes_sum : (k : ℕ) (us lanes : List ℕ) → lanes ≡ map (λ u. u / 2 ^ k) us → sum_l lanes ≡ quotients k us
 lanes_sum k us lanes e = ap sum_l e ∙ sum_l-map (λ u. u / 2 ^ k) us

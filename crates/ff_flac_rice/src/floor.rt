@@ -1,54 +1,47 @@
-//! How few bits a residual may have, by its partitions' sums alone.
+//! How few bits a residual may have, by its smallest partitions alone.
 
-ghost use Rattle.std.specs.Prelude.{◌≡◌, ◌+◌, ◌-◌, ◌*◌, ◌/◌, ◌%◌, ◌^◌, ◌<◌, ◌≤◌, ℕ, length};
+ghost use Rattle.std.specs.Prelude.{◌≡◌, ◌+◌, ◌-◌, ◌*◌, ◌/◌, ◌%◌, ◌^◌, ◌<◌, ◌≤◌, ℕ, All, length};
 ghost use Rattle.std.specs.List.{AllByRecursion};
+ghost use Rattle.ff_flac_rice.specs.Row.{lowest};
+ghost use Rattle.ff_flac_rice.specs.Spans.{IsSpan};
 ghost use Rattle.ff_flac_rice.specs.Rice.{part_cost, residual_bits, codings};
 
 use crate::coding::finest_order;
-use crate::row::wide_quotients;
-use crate::span::scaled;
+use crate::row::{Row, greatest, halves_of, lanes_at, sum_of, total_of};
+use crate::span::{Span, span_at};
 
-/// The greatest parameter up to `k` at which so many times its power of two are no more than `raised`, or 0.
-fn down(k: usize, len: u64, raised: u64) -> usize
-    requires k { k ≤ 30 }
-    requires len { len ≤ 2 ^ 16 }
-    ensures within { result ≤ k }
-    ensures low { 0 < result → len * 2 ^ result ≤ raised }
+/// The fewest bits of 16 values whose sum fits 32 bits, under the parameters of a span.
+fn fewest_of_16(part: &[u32], most: u32, span: Span) -> u64
+    requires len { length part.now ≡ 16 }
+    requires most { All (λ u. u ≤ most) part.now }
+    requires fits { 16 * most < 2 ^ 32 }
+    requires span { IsSpan span.low span.high }
+    ensures lowest { result ≡ lowest (λ k. part_cost 0 k part.now) span.low (span.high - 1 - span.low) }
+    ensures small { result ≤ 2 ^ 33 }
 {
-    let mut k = k;
-    while k > 0 && raised < scaled(len, k) {
-        k -= 1;
+    let mut lanes = lanes_at(part, span.low);
+    let mut least = 16 * (span.low as u64 + 1) + sum_of(lanes) as u64;
+    for k in span.low + 1..span.high {
+        lanes = halves_of(lanes);
+        least = least.min(16 * (k as u64 + 1) + sum_of(lanes) as u64);
     }
-    k
+    least
 }
 
-/// The same of all parameters, from one on at which it is so.
-fn up(k: usize, len: u64, raised: u64) -> usize
-    requires k { k ≤ 30 }
-    requires len { len ≤ 2 ^ 16 }
-    requires low { 0 < k → len * 2 ^ k ≤ raised }
-    ensures within { result ≤ 30 }
-    ensures low { 0 < result → len * 2 ^ result ≤ raised }
-    ensures high { result < 30 → raised < len * 2 ^ (result + 1) }
-{
-    let mut k = k;
-    while k < 30 && scaled(len, k + 1) <= raised {
-        k += 1;
-    }
-    k
-}
-
-/// The values of a partition don't have fewer bits, whatever the parameter.
-fn part_floor(part: &[u32]) -> u64
-    requires { length part.now ≤ 2 ^ 15 }
+/// The values of a partition, of which none is above `most`, don't have fewer bits, whatever the parameter.
+fn part_floor(part: &[u32], most: u32) -> u64
+    requires len { length part.now ≤ 2 ^ 15 }
+    requires most { All (λ u. u ≤ most) part.now }
     ensures below { (k : ℕ) → k < 31 → result ≤ part_cost 0 k part.now }
     ensures small { result ≤ 2 ^ 50 }
 {
-    let len = part.len() as u64;
-    let raised = wide_quotients(part, 0) + len;
-    let near = len.leading_zeros().saturating_sub(raised.leading_zeros());
-    let k = up(down((near as usize).min(30), len, raised), len, raised);
-    len * k as u64 + (raised >> k)
+    let span = span_at(part.len() as u64, total_of(part, most));
+    if part.len() == 16 && most < 0x1000_0000 {
+        return fewest_of_16(part, most, span);
+    }
+    let mut row = Row::begun(part.len());
+    row.fill(part, span);
+    row.lowest_cost(span.low, span.high)
 }
 
 /// No coding of these zigzag values has fewer bits.
@@ -59,14 +52,15 @@ pub fn least_bits(us: &[u32], order: usize) -> u64
     ensures below { AllByRecursion (λ c. result ≤ length (residual_bits order c us.now)) (codings (length us.now + order) order) }
     ensures small { result ≤ 2 ^ 60 }
 {
+    let most = greatest(us);
     let finest = finest_order(us.len() + order, order);
     let size = (us.len() + order) >> finest;
     let (first, mut rest) = us.split_at(size - order);
-    let mut bits = part_floor(first);
+    let mut bits = part_floor(first, most);
     let mut left = (1usize << finest) - 1;
     while left > 0 {
         let (part, after) = rest.split_at(size);
-        bits += part_floor(part);
+        bits += part_floor(part, most);
         rest = after;
         left -= 1;
     }

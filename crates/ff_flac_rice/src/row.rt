@@ -17,7 +17,7 @@ pub struct Row {
 }
 
 /// The greatest value, or 0.
-fn greatest(part: &[u32]) -> u32
+pub(crate) fn greatest(part: &[u32]) -> u32
     ensures { All (λ u. u ≤ result) part.now }
 {
     let mut most: u32 = 0;
@@ -28,7 +28,7 @@ fn greatest(part: &[u32]) -> u32
 }
 
 /// The sum of 16 values, where it fits 32 bits.
-fn sum_of(lanes: u32x16) -> u32
+pub(crate) fn sum_of(lanes: u32x16) -> u32
     requires { sum_l lanes < 2 ^ 32 }
     ensures { result ≡ sum_l lanes }
 {
@@ -36,7 +36,7 @@ fn sum_of(lanes: u32x16) -> u32
 }
 
 /// The quotients of 16 values under one parameter.
-fn lanes_at(part: &[u32], k: usize) -> u32x16
+pub(crate) fn lanes_at(part: &[u32], k: usize) -> u32x16
     requires len { length part.now ≡ 16 }
     requires k { k < 32 }
     ensures { result ≡ map (λ u. u / 2 ^ k) part.now }
@@ -45,7 +45,7 @@ fn lanes_at(part: &[u32], k: usize) -> u32x16
 }
 
 /// Half of each of 16 values.
-fn halves_of(lanes: u32x16) -> u32x16
+pub(crate) fn halves_of(lanes: u32x16) -> u32x16
     requires { length lanes ≡ 16 }
     ensures { result ≡ map (λ u. u / 2) lanes }
 {
@@ -90,6 +90,18 @@ fn quotients_of(part: &[u32], k: u32, most: u32) -> u64
         return narrow_quotients(part, k, most) as u64;
     }
     wide_quotients(part, k)
+}
+
+/// The sum of values of which none is above `most`.
+pub(crate) fn total_of(part: &[u32], most: u32) -> u64
+    requires len { length part.now ≤ 2 ^ 16 }
+    requires most { All (λ u. u ≤ most) part.now }
+    ensures { result ≡ quotients 0 part.now }
+{
+    if part.len() == 16 && most < 0x1000_0000 {
+        return sum_of(lanes_at(part, 0)) as u64;
+    }
+    wide_quotients(part, 0)
 }
 
 /// How many parameters a method has.
@@ -208,7 +220,7 @@ impl Row {
     }
 
     /// The least bits of the values with a parameter from `low` on and below `high`.
-    fn lowest_cost(&self, low: usize, high: usize) -> u64
+    pub fn lowest_cost(&self, low: usize, high: usize) -> u64
         requires fits { RowFits self.now }
         requires some { low < high }
         requires few { high ≤ 31 }

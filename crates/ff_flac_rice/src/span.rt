@@ -31,6 +31,12 @@ fn low_end(low: usize, len: u64, total: u64) -> usize
     ensures within { result ≤ low }
     ensures is { IsLowEnd result len total }
 {
+    if low == 0 {
+        return 0;
+    }
+    if 3 * scaled(len, low - 1) <= total {
+        return low;
+    }
     let mut low = low;
     while low > 0 && total < 3 * scaled(len, low - 1) {
         low -= 1;
@@ -46,11 +52,33 @@ fn high_end(high: usize, len: u64, total: u64) -> usize
     ensures last { result ≤ 31 }
     ensures is { IsHighEnd result len total }
 {
+    if high == 31 {
+        return 31;
+    }
+    if total <= scaled(len, high - 1) {
+        return high;
+    }
     let mut high = high;
     while high < 31 && scaled(len, high - 1) < total {
         high += 1;
     }
     high
+}
+
+/// The parameters among which the best one of so many values with this sum is.
+pub(crate) fn span_at(len: u64, total: u64) -> Span
+    requires { len ≤ 2 ^ 16 }
+    ensures span { IsSpan result.low result.high }
+    ensures low { IsLowEnd result.low len total }
+    ensures high { IsHighEnd result.high len total }
+{
+    let near = len.leading_zeros().saturating_sub(total.leading_zeros()) as usize;
+    let low = low_end(near.saturating_sub(1).min(14), len, total);
+    let high = high_end((near + 2).min(31), len, total);
+    Span {
+        low,
+        high: high.max(low + 1),
+    }
 }
 
 /// As wide as before or wider, so that it serves one more partition.

@@ -1,21 +1,18 @@
-use Rattle.std.proofs.Common.{◌≡◌, ℕ, ◌+◌, ◌<◌, ◌/◌, ◌^◌, List, length, ap, arith}
-use Rattle.std.specs.List.{All}
-use Rattle.std.proofs.lemmas.List.Elements.{All-from_get_or}
-use Rattle.ff_flac_rice.specs.Rice.{quotients}
-use Rattle.ff_flac_rice.proofs.RowLemmas.{quotients_small}
-use Rattle.ff_flac_rice.proofs.Floors.{part_below}
+use Rattle.std.proofs.Common.{◌≡◌, ℕ, ◌+◌, ◌*◌, ◌<◌, ◌^◌, arith, refl}
+use Rattle.ff_flac_rice.specs.Rice.{part_cost}
+use Rattle.ff_flac_rice.specs.Row.{row_cost}
+use Rattle.ff_flac_rice.proofs.RowLemmas.{row_cost-of}
+use Rattle.ff_flac_rice.proofs.SpanLemmas.{spanned_below}
 use Rattle.ff_flac_rice.proofs.floor.part_floor.Goals as goal
 
-pub overflow_add-raised : goal.overflow_add-raised
-overflow_add-raised c =
-    let few : All (λ u. u < 2 ^ 32) c.args.part.now = All-from_get_or (λ u. u < 2 ^ 32) c.args.part.now 0 (λ i _. (c.type_inv.part i).fits) in
-    omega (arith, quotients_small 0 c.args.part.now few, c.wide_quotients.ensures, c.requires)
+pub returns-then-most-lt268435456-clause-below : goal.returns-then-most-lt268435456-clause-below
+returns-then-most-lt268435456-clause-below c =
+    spanned_below c.span_at-span.result.low c.span_at-span.result.high c.fewest_of_16.result (λ k. part_cost 0 k c.args.part.now) c.args.part.now c.span_at-span.ensures.span
+    (λ k l. omega (arith, c.span_at-span.ensures.low k l, c.total_of.ensures)) (λ k l last. omega (arith, c.span_at-span.ensures.high k l last, c.total_of.ensures))
+    (λ k a b. refl) c.fewest_of_16.ensures.lowest
 
 pub returns-clause-below : goal.returns-clause-below
-returns-clause-below c = λ j h.
-    let part : List ℕ = c.args.part.now in
-    let k : ℕ = c.up-k.result in
-    let e : c.wide_quotients.result ≡ quotients 0 part = c.wide_quotients.ensures in
-    let same : (c.wide_quotients.result + length part) / 2 ^ k ≡ (quotients 0 part + length part) / 2 ^ k = ap (λ n. (n + length part) / 2 ^ k) e in
-    let floor = part_below k part (λ l. omega (arith, c.up-k.ensures.low l, e)) (λ l. omega (arith, c.up-k.ensures.high l, e)) j h in
-    omega (arith, floor, same)
+returns-clause-below c =
+    spanned_below c.span_at-span.result.low c.span_at-span.result.high c.lowest_cost.result (λ k. row_cost 0 k c.fill.new.self) c.args.part.now c.span_at-span.ensures.span
+    (λ k l. omega (arith, c.span_at-span.ensures.low k l, c.total_of.ensures)) (λ k l last. omega (arith, c.span_at-span.ensures.high k l last, c.total_of.ensures))
+    (λ k a b. row_cost-of c.span_at-span.result.low c.span_at-span.result.high 0 k c.fill.new.self c.args.part.now c.fill.ensures a b) c.lowest_cost.ensures.lowest
