@@ -1,4 +1,4 @@
-use Rattle.std.proofs.Common.{◌≡◌, ℕ, zero, suc, ◌+◌, ◌-◌, ◌*◌, ◌/◌, ◌%◌, ◌^◌, ◌<◌, ◌≤◌, min, List, [], ◌∷◌, ◌++◌, length, refl, sym, ap, ◌∙◌, subst, arith, inl, inr}
+use Rattle.std.proofs.Common.{◌≡◌, ℕ, zero, suc, ◌+◌, ◌-◌, ◌*◌, ◌/◌, ◌%◌, ◌^◌, ◌<◌, ◌≤◌, min, max, List, [], ◌∷◌, ◌++◌, length, refl, sym, ap, ◌∙◌, subst, arith, inl, inr}
 use Rattle.std.specs.Option.{IfSome}
 use Rattle.std.specs.List.{range_with_len, AllByRecursion, sum_by}
 use Rattle.std.proofs.lemmas.Bool.{cases_lt}
@@ -247,24 +247,44 @@ high_reached high len total some_left h = λ k l last.
 pub high_all : (high len total : ℕ) → 31 ≤ high → IsHighEnd high len total
 high_all high len total e = λ k l last. absurd (omega (arith, l, last, e))
 
--- a wider span serves as well
-wider_one : (low high new_low new_high : ℕ) (part : List ℕ) → new_low ≤ low → high ≤ new_high → Spans low high part → Spans new_low new_high part
-wider_one low high new_low new_high part a b s = record {
-  below = λ k l. s.below k (omega (arith, l, a));
-  above = λ k l last. s.above k (omega (arith, l, b)) last;
-}
+-- what serves so many values with one sum, and so many others with the least and with the greatest sum, serves this partition
+pub record Served (len total size least most : ℕ) (part : List ℕ) : Type 0 where
+  pub by_ends : (low high : ℕ) → IsLowEnd low len total → IsHighEnd high len total → IsLowEnd low size least → IsHighEnd high size most → Spans low high part
 
-pub wider : (low high new_low new_high : ℕ) (parts : List (List ℕ)) → new_low ≤ low → high ≤ new_high → AllByRecursion (Spans low high) parts → AllByRecursion (Spans new_low new_high) parts
-wider low high new_low new_high [] a b h = tt
-wider low high new_low new_high (p ∷ parts) a b h = (wider_one low high new_low new_high p a b h.0, wider low high new_low new_high parts a b h.1)
+pub served_first : (size least most total : ℕ) (part : List ℕ) → total ≡ quotients 0 part → AllByRecursion (Served (length part) total size least most) (part ∷ [])
+served_first size least most total part e =
+    (record { by_ends = λ low high a b _ _. record { below = λ k l. omega (arith, a k l, e); above = λ k l last. omega (arith, b k l last, e) } }, tt)
+
+served_wider : (len total size least most new_least new_most : ℕ) (part : List ℕ) → new_least ≤ least → most ≤ new_most → Served len total size least most part → Served len total size new_least new_most part
+served_wider len total size least most new_least new_most part a b s =
+    record { by_ends = λ low high c d e f. s.by_ends low high c d (λ k l. omega (arith, e k l, a)) (λ k l last. omega (arith, f k l last, b)) }
+
+all_wider : (len total size least most new_least new_most : ℕ) (parts : List (List ℕ)) → new_least ≤ least → most ≤ new_most
+    → AllByRecursion (Served len total size least most) parts → AllByRecursion (Served len total size new_least new_most) parts
+all_wider len total size least most new_least new_most [] a b h = tt
+all_wider len total size least most new_least new_most (p ∷ parts) a b h =
+    (served_wider len total size least most new_least new_most p a b h.0, all_wider len total size least most new_least new_most parts a b h.1)
 
 all_and : (P : List ℕ → Type 0) (xs : List (List ℕ)) (x : List ℕ) → AllByRecursion P xs → P x → AllByRecursion P (xs ++ (x ∷ []))
 all_and P [] x h p = (p, tt)
 all_and P (y ∷ xs) x h p = (h.0, all_and P xs x h.1 p)
 
-pub spans_more : (low high new_low new_high : ℕ) (part : List ℕ) → new_low ≤ low → high ≤ new_high → Spans new_low new_high part
-    → (parts : List (List ℕ)) → AllByRecursion (Spans low high) parts → AllByRecursion (Spans new_low new_high) (parts ++ (part ∷ []))
-spans_more low high new_low new_high part a b s parts h = all_and (Spans new_low new_high) parts part (wider low high new_low new_high parts a b h) s
+pub served_more : (len total size least most new_least new_most other : ℕ) (part : List ℕ) → length part ≡ size → other ≡ quotients 0 part → new_least ≡ min least other → new_most ≡ max most other
+    → (parts : List (List ℕ)) → AllByRecursion (Served len total size least most) parts → AllByRecursion (Served len total size new_least new_most) (parts ++ (part ∷ []))
+served_more len total size least most new_least new_most other part n e a b parts h =
+    all_and (Served len total size new_least new_most) parts part
+    (all_wider len total size least most new_least new_most parts (omega (arith, a)) (omega (arith, b)) h)
+    (record {
+      by_ends = λ low high _ _ f g. record {
+        below = λ k l. omega (arith, f k l, e, a, ap (λ m. m * 2 ^ k) n);
+        above = λ k l last. omega (arith, g k l last, e, b, ap (λ m. m * 2 ^ k) n);
+      };
+    })
+
+pub served_all : (len total size least most low high : ℕ) → IsLowEnd low len total → IsHighEnd high len total → IsLowEnd low size least → IsHighEnd high size most
+    → (parts : List (List ℕ)) → AllByRecursion (Served len total size least most) parts → AllByRecursion (Spans low high) parts
+served_all len total size least most low high a b c d [] h = tt
+served_all len total size least most low high a b c d (p ∷ parts) h = (h.0.by_ends low high a b c d, served_all len total size least most low high a b c d parts h.1)
 
 spans_both : (low high : ℕ) (p q : List ℕ) → Spans low high p → Spans low high q → Spans low high (p ++ q)
 spans_both low high p q a b =

@@ -2,10 +2,10 @@
 
 ghost use Rattle.std.specs.Prelude.{◌≡◌, ◌+◌, ◌-◌, ◌*◌, ◌/◌, ◌%◌, ◌^◌, ◌<◌, ◌≤◌, length};
 ghost use Rattle.std.specs.List.{AllByRecursion};
-ghost use Rattle.ff_flac_rice.specs.Rice.{parts_of, quotients};
+ghost use Rattle.ff_flac_rice.specs.Rice.{parts_of};
 ghost use Rattle.ff_flac_rice.specs.Spans.{IsLowEnd, IsHighEnd, IsSpan, Spans};
 
-use crate::row::wide_quotients;
+use crate::row::{greatest, total_of};
 
 /// Parameters from `low` on and below `high`.
 #[derive(Clone, Copy)]
@@ -15,7 +15,7 @@ pub struct Span {
 }
 
 /// So many times a power of two.
-pub(crate) fn scaled(len: u64, k: usize) -> u64
+fn scaled(len: u64, k: usize) -> u64
     requires len { len ≤ 2 ^ 16 }
     requires k { k < 31 }
     ensures is { result ≡ len * 2 ^ k }
@@ -81,23 +81,6 @@ pub(crate) fn span_at(len: u64, total: u64) -> Span
     }
 }
 
-/// As wide as before or wider, so that it serves one more partition.
-fn widened(span: Span, part: &[u32]) -> Span
-    requires low { span.low ≤ 14 }
-    requires high { (1 ≤ span.high) × (span.high ≤ 31) }
-    requires len { length part.now ≤ 2 ^ 16 }
-    ensures low { result.low ≤ span.low }
-    ensures high { span.high ≤ result.high }
-    ensures last { result.high ≤ 31 }
-    ensures spans { Spans result.low result.high part.now }
-{
-    let total = wide_quotients(part, 0);
-    Span {
-        low: low_end(span.low, part.len() as u64, total),
-        high: high_end(span.high, part.len() as u64, total),
-    }
-}
-
 /// The parameters among which the best one of each partition is, for partitions of this order.
 pub fn span_of(us: &[u32], order: usize, partition_order: u32) -> Span
     requires len { length us.now ≤ 2 ^ 15 }
@@ -108,18 +91,27 @@ pub fn span_of(us: &[u32], order: usize, partition_order: u32) -> Span
     ensures span { IsSpan result.low result.high }
     ensures spans { AllByRecursion (Spans result.low result.high) (parts_of order partition_order us.now) }
 {
+    let most = greatest(us);
     let size = (us.len() + order) >> partition_order;
     let (first, mut rest) = us.split_at(size - order);
-    let mut span = widened(Span { low: 14, high: 1 }, first);
+    let total = total_of(first, most);
+    let mut low_total = u64::MAX;
+    let mut high_total = 0u64;
     let mut left = (1usize << partition_order) - 1;
     while left > 0 {
         let (part, after) = rest.split_at(size);
-        span = widened(span, part);
+        let other = total_of(part, most);
+        low_total = low_total.min(other);
+        high_total = high_total.max(other);
         rest = after;
         left -= 1;
     }
+    let first_low = low_end(14, first.len() as u64, total);
+    let low = low_end(first_low, size as u64, low_total);
+    let first_high = high_end(1, first.len() as u64, total);
+    let high = high_end(first_high, size as u64, high_total);
     Span {
-        low: span.low,
-        high: span.high.max(span.low + 1),
+        low,
+        high: high.max(low + 1),
     }
 }
