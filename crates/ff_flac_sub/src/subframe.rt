@@ -77,85 +77,64 @@ fn fixed_plan(
     })
 }
 
-/// No spelling of one order has fewer bits, by the residuals of that order.
-fn floor_of(
-    alloc: Global,
-    samples: &[i32],
-    rest: &[i32],
-    order: usize,
-    depth: u32,
-) -> Result<u64, AllocError>
+/// No spelling of one order has fewer bits, by the zigzag numbers of its residuals.
+fn floor_of(samples: &[i32], us: &[u32], order: usize, depth: u32) -> u64
     requires len { length samples.now ≤ 4096 }
     requires order { order ≤ 4 }
     requires longer { order < length samples.now }
     requires depth { depth ≤ 25 }
-    requires is { rest.now ≡ rest_of order samples.now }
-    requires small { All (λ x. magnitude x < 2 ^ 30) rest.now }
-    ensures { IfOk result (IsFloor depth samples.now order) }
+    requires is { us.now ≡ map zigzagged (rest_of order samples.now) }
+    ensures { IsFloor depth samples.now order result }
 {
-    let us = zigzags_of(alloc, rest)?;
-    Ok(8 + depth as u64 * order as u64 + least_bits(&us, order))
+    8 + depth as u64 * order as u64 + least_bits(us, order)
 }
 
-/// The same of each of the first orders.
-fn floors_of(
+/// What of each of the first orders is known before one is searched.
+#[derive(Drop)]
+struct Outlook {
+    floors: Vec<u64>,
+    /// The first order with the least floor.
+    first: usize,
+    /// The zigzag numbers of its residuals.
+    us: Vec<u32>,
+}
+
+/// The floors of the first orders, and the zigzag numbers of the one that may have the fewest bits.
+fn outlook_of(
     alloc: Global,
     samples: &[i32],
     orders: usize,
     depth: u32,
-) -> Result<Vec<u64>, AllocError>
+) -> Result<Outlook, AllocError>
     requires len { length samples.now ≤ 4096 }
+    requires some { 0 < orders }
     requires few { orders ≤ 5 }
     requires there { orders ≤ length samples.now }
     requires depth { depth ≤ 25 }
     requires fits { All (FitsBits 25) samples.now }
-    ensures len { IfOk result (λ v. length v.items ≡ orders) }
-    ensures floors { IfOk result (λ v. (o : ℕ) → o < orders → IsFloor depth samples.now o (slice_index v.items o)) }
+    ensures len { IfOk result (λ v. length v.floors.items ≡ orders) }
+    ensures floors { IfOk result (λ v. (o : ℕ) → o < orders → IsFloor depth samples.now o (slice_index v.floors.items o)) }
+    ensures first { IfOk result (λ v. v.first < orders) }
+    ensures us { IfOk result (λ v. v.us.items ≡ map zigzagged (rest_of v.first samples.now)) }
 {
     let mut rest = Vec::from_slice(alloc, samples)?;
+    let mut us = zigzags_of(alloc, &rest)?;
+    let mut first = 0;
+    let mut least = floor_of(samples, &us, 0, depth);
     let mut floors = Vec::new(alloc);
-    for order in 0..orders {
-        let floor = floor_of(alloc, samples, &rest, order, depth)?;
-        floors.push(floor)?;
+    floors.push(least)?;
+    for order in 1..orders {
         take_steps(&mut rest);
-    }
-    Ok(floors)
-}
-
-/// Where the least of some numbers stands.
-fn least_place(floors: &[u64]) -> usize
-    requires { 0 < length floors.now }
-    ensures { result < length floors.now }
-{
-    let mut least = 0;
-    for i in 1..floors.len() {
-        if floors[i] < floors[least] {
-            least = i;
+        let new = zigzags_of(alloc, &rest)?;
+        let floor = floor_of(samples, &new, order, depth);
+        floors.push(floor)?;
+        if floor < least {
+            least = floor;
+            first = order;
+            us = new;
         }
     }
-    least
-}
-
-/// The best plan of one order, by its residuals.
-fn plan_by_rest(
-    alloc: Global,
-    samples: &[i32],
-    rest: &[i32],
-    order: usize,
-    depth: u32,
-) -> Result<Planned, AllocError>
-    requires len { length samples.now ≤ 4096 }
-    requires order { order ≤ 4 }
-    requires longer { order < length samples.now }
-    requires depth { depth ≤ 25 }
-    requires is { rest.now ≡ rest_of order samples.now }
-    requires small { All (λ x. magnitude x < 2 ^ 30) rest.now }
-    ensures least { IfOk result (λ p. least (size depth samples.now) (fixed_of (length samples.now) order) ≡ Some (spelling_of samples.now p.plan)) }
-    ensures cost { IfOk result (λ p. p.cost ≡ size depth samples.now (spelling_of samples.now p.plan)) }
-    ensures fits { IfOk result (λ p. PlanFits samples.now p.plan) }
-{
-    let us = zigzags_of(alloc, rest)?;
-    fixed_plan(alloc, samples, &us, order, depth)
+    Ok(Outlook { floors, first, us })
 }
 
 /// The best plan of one order.
@@ -175,7 +154,8 @@ fn plan_by_order(
     ensures fits { IfOk result (λ p. PlanFits samples.now p.plan) }
 {
     let rest = rest_by(alloc, samples, order)?;
-    plan_by_rest(alloc, samples, &rest, order, depth)
+    let us = zigzags_of(alloc, &rest)?;
+    fixed_plan(alloc, samples, &us, order, depth)
 }
 
 /// The best plan of the constant and of the orders below one, of whose spellings one has so many bits: orders all of whose spellings
@@ -199,13 +179,11 @@ fn best_before(
     ensures { IfOk result (Leads depth samples.now limit (so_far samples.now order_known)) }
 {
     let mut best = constant_plan(samples, depth);
-    let mut rest = Vec::from_slice(alloc, samples)?;
     for order in 0..order_known {
         if floors[order] <= limit {
-            let new = plan_by_rest(alloc, samples, &rest, order, depth)?;
+            let new = plan_by_order(alloc, samples, order, depth)?;
             best = Some(lower(best, new));
         }
-        take_steps(&mut rest);
     }
     Ok(best)
 }
@@ -249,13 +227,13 @@ pub fn plan_of(alloc: Global, samples: &[i32], depth: u32) -> Result<Planned, Al
     ensures small { IfOk result (λ p. p.cost < 2 ^ 20) }
 {
     let orders = samples.len().min(5);
-    let floors = floors_of(alloc, samples, orders, depth)?;
-    let first = least_place(&floors);
-    let known = plan_by_order(alloc, samples, first, depth)?;
-    let before = best_before(alloc, samples, first, depth, &floors, known.cost)?;
+    let outlook = outlook_of(alloc, samples, orders, depth)?;
+    let first = outlook.first;
+    let known = fixed_plan(alloc, samples, &outlook.us, first, depth)?;
+    let before = best_before(alloc, samples, first, depth, &outlook.floors, known.cost)?;
     let mut best = lower(before, known);
     for order in first + 1..orders {
-        best = with_order(alloc, samples, order, depth, floors[order], best)?;
+        best = with_order(alloc, samples, order, depth, outlook.floors[order], best)?;
     }
     let verbatim = Planned {
         plan: Plan::Verbatim,

@@ -1,14 +1,17 @@
-use Rattle.std.proofs.Common.{◌≡◌, ◌*◌, ◌≤◌, min, Some, length, ap, arith, refl}
+use Rattle.std.proofs.Common.{◌≡◌, ◌*◌, ◌≤◌, min, Some, length, arith, refl, ◌∙◌}
 use Rattle.std.proofs.lemmas.Nat.{mul-le}
 use Rattle.ff_flac_sub.specs.Leads.{so_far}
 use Rattle.ff_flac_sub.proofs.Plans.{so_far-more, same_spellings, known_next, plan_last}
 use Rattle.ff_flac_sub.proofs.subframe.plan_of.Goals as goal
 
+pub fixed_plan-requires-clause-is : goal.fixed_plan-requires-clause-is
+fixed_plan-requires-clause-is c = c.deref.ensures.value ∙ c.in_ok-outlook.ensures.us
+
 pub loop-order-init : goal.loop-order-init
 loop-order-init c = record {
-  best = known_next c.args.depth c.least_place-first.result c.args.samples.now c.in_ok-before.before c.in_ok-known.known c.lower-best.result c.in_ok-before.ensures
+  best = known_next c.args.depth c.in_ok-outlook.outlook.first c.args.samples.now c.in_ok-before.before c.in_ok-known.known c.lower-best.result c.in_ok-before.ensures
       c.in_ok-known.ensures.least c.in_ok-known.ensures.cost c.in_ok-known.ensures.fits c.lower-best.ensures.chosen;
-  within = omega (arith, c.least_place-first.ensures, ap length c.deref.ensures.value, c.in_ok-floors.ensures.len);
+  within = omega (arith, c.in_ok-outlook.ensures.first);
 }
 
 pub loop-order-preserved : goal.loop-order-preserved
