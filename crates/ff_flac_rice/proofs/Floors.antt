@@ -1,17 +1,16 @@
-use Rattle.std.proofs.Common.{◌≡◌, ℕ, zero, suc, ◌+◌, ◌-◌, ◌*◌, ◌/◌, ◌%◌, ◌^◌, ◌<◌, ◌≤◌, true, List, [], ◌∷◌, ◌++◌, length, refl, sym, ap, ◌∙◌, subst, arith, inl, inr}
+use Rattle.std.proofs.Common.{◌≡◌, ℕ, zero, suc, ◌+◌, ◌-◌, ◌*◌, ◌/◌, ◌%◌, ◌^◌, ◌<◌, ◌≤◌, true, List, [], ◌∷◌, ◌++◌, length, refl, sym, ap, ◌∙◌, subst, arith}
 use Rattle.std.specs.Option.{IfSome}
 use Rattle.std.specs.List.{range_with_len, AllByRecursion, sum_by}
-use Rattle.std.proofs.lemmas.Bool.{cases_lt}
 use Rattle.std.proofs.lemmas.List.{length-append}
 use Rattle.std.proofs.lemmas.List.Sums.{sum_by-cons, sum_by-append}
-use Rattle.std.proofs.lemmas.Nat.{pow_pos, shr_split, mod_below}
-use Rattle.std.proofs.Math.Nat.{mul-le-mul_left, pow-le-pow_right, pow-suc}
-use Rattle.ff_flac_rice.specs.Rice.{is_allowed, orders, quotients, part_cost, best_k, best_cost, best_at, codings, codings_by, codings_at, parts_of, Coding}
+use Rattle.std.proofs.lemmas.Nat.{pow_pos}
+use Rattle.std.proofs.Math.Nat.{pow-suc}
+use Rattle.ff_flac_rice.specs.Rice.{is_allowed, orders, part_cost, best_k, best_cost, best_at, codings, codings_by, codings_at, parts_of, Coding}
 use Rattle.ff_flac_rice.specs.Row.{lowest}
 use Rattle.ff_flac_rice.proofs.LeastLemmas.{least_is_lowest}
 use Rattle.ff_flac_rice.proofs.Costs.{least-codings_at, length-parts_of}
 use Rattle.ff_flac_rice.proofs.RowLemmas.{best_k_within, count_within, pair_parts, pair_parts-parts_of}
-use Rattle.ff_flac_rice.proofs.SpanLemmas.{half_bounds, falls_to, rises_from, lowest-is}
+use Rattle.ff_flac_rice.proofs.SpanLemmas.{lowest-is}
 use Rattle.ff_flac_rice.proofs.Orders.{allowed_parts, allowed_below}
 use Rattle.ff_flac_rice.proofs.Levels.{coding_cost, cost_is, codings_by-cons, codings_by-nil}
 

@@ -1,4 +1,4 @@
-use Rattle.std.proofs.Common.{◌≡◌, ℕ, zero, suc, ◌+◌, ◌<◌, ◌≤◌, leb, cond, true, false, List, [], ◌∷◌, ◌++◌, map, Option, Some, None, refl, sym, ap, ◌∙◌, subst, arith, inl, inr}
+use Rattle.std.proofs.Common.{◌≡◌, ℕ, zero, suc, ◌+◌, ◌-◌, ◌<◌, ◌≤◌, leb, cond, true, false, List, [], ◌∷◌, ◌++◌, map, Option, Some, None, refl, sym, ap, ◌∙◌, subst, arith, inl, inr}
 use Rattle.std.proofs.Math.Path.{fun_ext}
 use Rattle.std.proofs.lemmas.Bool.Decides.{nat_tests}
 use Rattle.std.proofs.lemmas.Bool.{cases_lt}
@@ -121,7 +121,11 @@ pick_is f xs x rest d e =
     let is = ap (least f) e ∙ found.1 in
     is ∙ ap (λ a. Some a) (sym (least_is f xs d found.0 is))
 
--- ---- a loop over 0, 1, 2 ..
+-- ---- 0, 1, 2 ..
+
+below_range : (P : ℕ → Type 0) (a n : ℕ) → ((k : ℕ) → k < a + n → P k) → AllByRecursion P (range_with_len a n)
+below_range P a zero h = tt
+below_range P a (suc n) h = (h a (omega arith), below_range P (a + 1) n (λ k l. h k (omega arith)))
 
 pub range_more : (k : ℕ) → range_with_len 0 (k + 1) ≡ range_with_len 0 k ++ (k ∷ [])
 range_more k =
@@ -165,14 +169,29 @@ least-same_on {A} f g (x ∷ xs) h =
     ∙ choose_same f g x (least g xs) h.0 (least_holds P g xs h.1)
     ∙ sym (least-cons g x xs)
 
--- none of the rest is lower
-pub best_stays : (f : ℕ → ℕ) (k b n : ℕ) → least f (range_with_len 0 k) ≡ Some b → ((j : ℕ) → k ≤ j → f b ≤ f j) → least f (range_with_len 0 (k + n)) ≡ Some b
+-- each before it is higher, and none behind it is lower
+takes_first : (f : ℕ → ℕ) (b : ℕ) → ((j : ℕ) → j < b → f b < f j) → least f (range_with_len 0 (b + 1)) ≡ Some b
+takes_first f zero h = least_one f 0
+takes_first f (suc b) h =
+    let found = least_exists f 0 (range_with_len 1 b) in
+    let P : ℕ → Type 0 = λ a. a < suc b in
+    let within : IfSome (least f (range_with_len 0 (suc b))) P = least_holds P f (range_with_len 0 (suc b)) (below_range P 0 (suc b) (λ j l. omega (arith, l))) in
+    let low : found.0 < suc b = subst (λ o. IfSome o P) found.1 within in
+    best_takes f (suc b) found.0 found.1 (h found.0 low)
+
+best_stays : (f : ℕ → ℕ) (k b n : ℕ) → least f (range_with_len 0 k) ≡ Some b → ((j : ℕ) → k ≤ j → j < k + n → f b ≤ f j) → least f (range_with_len 0 (k + n)) ≡ Some b
 best_stays f k b zero h above =
     let e : k ≡ k + 0 = omega arith in
     sym (ap (λ m. least f (range_with_len 0 m)) e) ∙ h
 best_stays f k b (suc n) h above =
     let e : k + n + 1 ≡ k + suc n = omega arith in
-    sym (ap (λ m. least f (range_with_len 0 m)) e) ∙ best_keeps f (k + n) b (best_stays f k b n h above) (above (k + n) (omega arith))
+    sym (ap (λ m. least f (range_with_len 0 m)) e) ∙ best_keeps f (k + n) b (best_stays f k b n h (λ j g l. above j g (omega (arith, l)))) (above (k + n) (omega arith) (omega arith))
+
+pub first_is_least : (f : ℕ → ℕ) (b count : ℕ) → b < count → ((j : ℕ) → j < b → f b < f j) → ((j : ℕ) → b ≤ j → j < count → f b ≤ f j) → least f (range_with_len 0 count) ≡ Some b
+first_is_least f b count within before behind =
+    let reach : b + 1 + (count - (b + 1)) ≡ count = omega (arith, within) in
+    sym (ap (λ m. least f (range_with_len 0 m)) reach)
+    ∙ best_stays f (b + 1) b (count - (b + 1)) (takes_first f b before) (λ j g l. behind j (omega (arith, g)) (omega (arith, l, reach)))
 
 -- ---- the least is at most each candidate
 

@@ -1,24 +1,23 @@
-use Rattle.std.proofs.Common.{◌≡◌, ℕ, Some, set, zero, suc, ◌+◌, ◌-◌, ◌*◌, ◌/◌, ◌%◌, ◌^◌, ◌<◌, ◌≤◌, ◌≢◌, List, [], ◌∷◌, ◌++◌, length, get_or, length-set, get_or-set_other, replicate, take, drop, refl, sym, ap, ◌∙◌, subst, arith, cond, eqb, true, false, inl, inr}
-use Rattle.std.specs.Option.{unwrap_or, IfSome}
+use Rattle.std.proofs.Common.{◌≡◌, ℕ, set, zero, suc, ◌+◌, ◌-◌, ◌*◌, ◌/◌, ◌%◌, ◌^◌, ◌<◌, ◌≤◌, ◌≢◌, List, [], ◌∷◌, ◌++◌, length, get_or, length-set, get_or-set_other, replicate, take, drop, refl, sym, ap, ◌∙◌, subst, arith, cond, eqb, true, false, inl, inr}
+use Rattle.std.specs.Option.{IfSome}
 use Rattle.std.specs.List.{range_with_len, All, AllByRecursion}
 use Rattle.std.proofs.lemmas.List.{length-append, append_assoc, length-take, length-drop, drop-drop, get_or_past, append-nil, drop_more, take_more_set, drop-set-lt, drop_all}
 use Rattle.std.proofs.lemmas.List.Elements.{All-take, All-drop, All-from_recursion, All-weaker, All-same}
 use Rattle.std.proofs.lemmas.List.FromFn.{get_or-map-range_with_len}
-use Rattle.std.proofs.lemmas.List.Sums.{sum_by-append, sum_by-le, sum_by-le-sum_by}
-use Rattle.std.proofs.lemmas.Nat.{pow_pos, shr_le, shr-shr, shr_split, shl-shr}
+use Rattle.std.proofs.lemmas.List.Sums.{sum_by-append, sum_by-le}
+use Rattle.std.proofs.lemmas.Nat.{pow_pos, shr_le, shr_split, shl-shr}
 use Rattle.std.proofs.Math.Nat.{pow-suc}
 use Rattle.std.proofs.Math.Seq.{take-add}
 use Rattle.std.proofs.lemmas.Bool.{cases_lt, cases_eq}
 use Rattle.std.proofs.lemmas.Grind.{get_or-set_at}
 use Rattle.ff_flac_rice.specs.declared.row.Row.{Row}
-use Rattle.ff_flac_rice.specs.Least.{least}
 use Rattle.ff_flac_rice.specs.Rice.{quotients, part_cost, parameters, count_of, best_k, pieces, parts_of}
-use Rattle.ff_flac_rice.specs.Row.{IsRow, AreRows, EndsInZeros, sums_with, row_with, pair_rows, RowFits, row_cost, row_best}
-use Rattle.ff_flac_rice.proofs.LeastLemmas.{least-same_on, least_holds}
+use Rattle.ff_flac_rice.specs.Row.{IsRow, AreRows, sums_with, row_with, pair_rows, RowFits, row_cost}
+use Rattle.ff_flac_rice.proofs.LeastLemmas.{least_holds}
 use Rattle.ff_flac_rice.proofs.Costs.{best_k_is}
 use Rattle.ff_flac_rice.proofs.Sums.{zeros_zero}
 
--- ---- the best parameter of a row is that of its partition
+-- ---- costs by a row
 
 pub range_below : (P : ℕ → Type 0) (a n : ℕ) → ((k : ℕ) → k < a + n → P k) → AllByRecursion P (range_with_len a n)
 range_below P a zero h = tt
@@ -30,18 +29,6 @@ row_cost-of low high width k row part is l h =
 
 pub count_within : (method : ℕ) → count_of method ≤ 31
 count_within method = elim (eqb method 0) as (λ t. cond t 15 31 ≤ 31) [ true ↦ omega arith | false ↦ omega arith ]
-
-least-row : (width method : ℕ) (row : Row) (part : List ℕ) → IsRow 0 31 row part
-    → least (λ k. row_cost width k row) (parameters method) ≡ least (λ k. part_cost width k part) (parameters method)
-unfolding parameters
-least-row width method row part is =
-    least-same_on (λ k. row_cost width k row) (λ k. part_cost width k part) (range_with_len 0 (count_of method))
-    (range_below (λ k. row_cost width k row ≡ part_cost width k part) 0 (count_of method)
-    (λ k h. row_cost-of 0 31 width k row part is (omega arith) (omega (arith, h, count_within method))))
-
-pub row_best-is : (method : ℕ) (row : Row) (part : List ℕ) → IsRow 0 31 row part → row_best method row ≡ best_k method part
-unfolding row_best best_k
-row_best-is method row part is = ap (λ o. unwrap_or o 0) (least-row (4 + method) method row part is)
 
 pub best_k_within : (method : ℕ) (part : List ℕ) → best_k method part < count_of method
 unfolding parameters
@@ -147,20 +134,6 @@ pub quotients_small : (k : ℕ) (part : List ℕ) → All (λ u. u < 2 ^ 32) par
 quotients_small k part h =
     sum_by-le (λ u. u / 2 ^ k) (2 ^ 32) part (All-weaker (λ u. u < 2 ^ 32) (λ u. u / 2 ^ k ≤ 2 ^ 32) (λ u l. omega (arith, l, shr_le u k)) part h)
 
-quotient_falls : (i j u : ℕ) → i ≤ j → u / 2 ^ j ≤ u / 2 ^ i
-quotient_falls i j u h =
-    let e : i + (j - i) ≡ j = omega arith in
-    omega (arith, shr-shr u i (j - i), ap (λ k. u / 2 ^ k) e, shr_le (u / 2 ^ i) (j - i))
-
-pub quotients_fall : (i j : ℕ) (part : List ℕ) → i ≤ j → quotients j part ≤ quotients i part
-quotients_fall i j part h = sum_by-le-sum_by (λ u. u / 2 ^ j) (λ u. u / 2 ^ i) part (λ u. quotient_falls i j u h)
-
-pub row_zeros : (row : Row) (part : List ℕ) → IsRow 0 31 row part → EndsInZeros row
-row_zeros row part is i j h z = elim (cases_lt j 31) [
-  | inl l ↦ omega (arith, is.sums j (omega arith) l, is.sums i (omega arith) (omega (arith, l, h)), z, quotients_fall i j part h)
-  | inr g ↦ get_or_past row.sums j 0 (omega (arith, g, is.count))
-]
-
 -- ---- a row that is filled
 
 pub filled_start : (low : ℕ) (row : Row) (part : List ℕ) → row ≡ record { len = length part; sums = replicate 31 0 } → IsRow low low row part
@@ -248,10 +221,6 @@ rows_fit low high order partition_order us rows l h are =
     All-from_recursion RowFits rows (all_fit low high rows (parts_of order partition_order us) (small_parts order partition_order us (l, h)) are)
 
 -- ---- the loops
-
-pub row_best_is : (method : ℕ) (row : Row) (k : ℕ) → least (λ k. row_cost (4 + method) k row) (range_with_len 0 (count_of method)) ≡ Some k → row_best method row ≡ k
-unfolding row_best parameters
-row_best_is method row k h = ap (λ o. unwrap_or o 0) h
 
 pub rest_len : (len order s m p : ℕ) → p ≡ m + 1 → s * p ≡ len + order → order < s → len - (s - order) ≡ m * s
 rest_len len order s m p e h l = omega (arith, h, l, ap (λ q. s * q) e)

@@ -10,9 +10,9 @@ use Rattle.ff_flac_rice.specs.declared.row.Row.{Row}
 use Rattle.ff_flac_rice.specs.Rice.{quotients, part_cost, parameters, count_of, best_k, best_cost}
 use Rattle.ff_flac_rice.specs.Row.{IsRow, AreRows, row_cost, lowest, lowest_bits}
 use Rattle.ff_flac_rice.specs.Spans.{IsLowEnd, IsHighEnd, Spans, IsSpan}
-use Rattle.ff_flac_rice.proofs.LeastLemmas.{least_is_lowest}
+use Rattle.ff_flac_rice.proofs.LeastLemmas.{least_is_lowest, least_is, first_is_least}
 use Rattle.ff_flac_rice.proofs.Costs.{best_k_is}
-use Rattle.ff_flac_rice.proofs.RowLemmas.{row_cost-of, best_k_within, pair_parts}
+use Rattle.ff_flac_rice.proofs.RowLemmas.{row_cost-of, best_k_within, count_within, pair_parts}
 
 -- ---- what a value's quotient loses from one parameter to the next
 
@@ -186,6 +186,14 @@ spanned method low high top row part is spans some_left within fits last full fe
     ] in
     omega (arith, up, here, found.is, down)
 
+pub best_by_ends : (method b : ℕ) (part : List ℕ) → b < count_of method → ((j : ℕ) → j < b → part_cost 0 b part < part_cost 0 j part)
+    → ((j : ℕ) → b ≤ j → j < count_of method → part_cost 0 b part ≤ part_cost 0 j part) → b ≡ best_k method part
+unfolding best_k parameters
+best_by_ends method b part within before behind =
+    let f : ℕ → ℕ = λ k. part_cost (4 + method) k part in
+    sym (least_is f (range_with_len 0 (count_of method)) 0 b
+    (first_is_least f b (count_of method) within (λ j l. omega (arith, before j l)) (λ j g l. omega (arith, behind j g l))))
+
 -- so nothing under another parameter has fewer bits than the lowest in the span
 pub spanned_below : (low high cost : ℕ) (g : ℕ → ℕ) (part : List ℕ) → IsSpan low high → IsLowEnd low (length part) (quotients 0 part) → IsHighEnd high (length part) (quotients 0 part)
     → ((k : ℕ) → low ≤ k → k < high → g k ≡ part_cost 0 k part) → cost ≡ lowest g low (high - 1 - low) → (j : ℕ) → j < 31 → cost ≤ part_cost 0 j part
@@ -206,6 +214,26 @@ spanned_below low high cost g part span below above same e j h =
             omega (arith, at_top, rise, ap f reach)
       ]
     ]
+
+-- where the best one in the span, or anywhere, is not at its low end, it is the first of the best
+pub best_in_span : (method low high top b : ℕ) (part : List ℕ) → IsLowEnd low (length part) (quotients 0 part) → IsHighEnd high (length part) (quotients 0 part)
+    → low < b → top ≡ min high (count_of method) → b < top → ((j : ℕ) → low ≤ j → j < b → part_cost 0 b part < part_cost 0 j part)
+    → ((j : ℕ) → b ≤ j → j < top → part_cost 0 b part ≤ part_cost 0 j part) → b ≡ best_k method part
+best_in_span method low high top b part below above over e within before behind =
+    let f : ℕ → ℕ = λ k. part_cost 0 k part in
+    best_by_ends method b part (omega (arith, within, e))
+    (λ j l. elim (cases_lt j low) [
+      | inl lt ↦ omega (arith, before low (omega arith) over, falls_to f low (low - j) j (λ k m. step_down k part (below k m)) (omega (arith, lt)))
+      | inr ge ↦ before j ge l
+    ])
+    (λ j g l. elim (cases_lt j top) [
+      | inl inside ↦ behind j g inside
+      | inr out ↦
+          let from : ℕ = high - 1 in
+          let reach : from + (j - from) ≡ j = omega (arith, out, e, l) in
+          let rise : f from ≤ f (from + (j - from)) = rises_from f from (j - from) (λ k m last. step_up k part (above k (omega (arith, m)) last)) (omega (arith, reach, l, count_within method)) in
+          omega (arith, behind (high - 1) (omega (arith, within, e)) (omega (arith, out, e, l, within)), rise, ap f reach)
+    ])
 
 sum_same : (method low high top : ℕ) (rows : List Row) (parts : List (List ℕ)) → AreRows low high rows parts → AllByRecursion (Spans low high) parts → low < top → top ≤ high → top ≤ count_of method
     → high ≤ 31 → (top < count_of method → top ≡ high) → count_of method ≤ 31 → sum_by (lowest_bits method low top) rows ≡ sum_by (best_cost method) parts

@@ -1,7 +1,6 @@
-use Rattle.std.specs.Prelude.{◌≡◌, ℕ, zero, suc, ◌+◌, ◌-◌, ◌*◌, ◌^◌, ◌<◌, ◌≤◌, min, List, [], ◌∷◌, length, map, slice_index, unwrap_or}
+use Rattle.std.specs.Prelude.{◌≡◌, ℕ, zero, suc, ◌+◌, ◌-◌, ◌*◌, ◌^◌, ◌<◌, ◌≤◌, min, List, [], ◌∷◌, length, map, slice_index}
 use Rattle.std.specs.List.{range_with_len}
-use Rattle.ff_flac_rice.specs.Least.{least}
-use Rattle.ff_flac_rice.specs.Rice.{quotients, parameters}
+use Rattle.ff_flac_rice.specs.Rice.{quotients}
 use Rattle.ff_flac_rice.specs.declared.row.Row.{Row}
 
 -- a row of a partition for the parameters from low on and below high: how many values it has, and its quotients' sums under these
@@ -35,18 +34,8 @@ pub record RowFits (row : Row) : Type 0 where
   pub len : row.len ≤ 2 ^ 16
   pub sums : (k : ℕ) → slice_index row.sums k ≤ 2 ^ 48
 
--- sums that are 0 from one that is
-abbrev pub EndsInZeros : Row → Type 0
-EndsInZeros row = (i j : ℕ) → i ≤ j → slice_index row.sums i ≡ 0 → slice_index row.sums j ≡ 0
-
 abbrev pub row_cost : ℕ → ℕ → Row → ℕ
 row_cost width k row = width + (row.len * (k + 1) + slice_index row.sums k)
-
-unfoldable pub row_best : ℕ → Row → ℕ
-row_best method row = unwrap_or (least (λ k. row_cost (4 + method) k row) (parameters method)) 0
-
-abbrev pub row_best_cost : ℕ → Row → ℕ
-row_best_cost method row = row_cost (4 + method) (row_best method row) row
 
 -- the lowest value at low and so many numbers behind it
 unfoldable pub lowest : (ℕ → ℕ) → ℕ → ℕ → ℕ

@@ -8,6 +8,7 @@ mod coding;
 mod floor;
 mod laws;
 mod level;
+mod parameter;
 mod row;
 mod span;
 mod write;

@@ -1,10 +1,8 @@
 //! Sums over a partition, under each parameter.
 
-ghost use Rattle.std.specs.Prelude.{◌≡◌, ◌+◌, ◌-◌, ◌*◌, ◌/◌, ◌^◌, ◌<◌, ◌≤◌, min, length, map, Some, ℕ, All, replicate};
+ghost use Rattle.std.specs.Prelude.{◌≡◌, ◌+◌, ◌-◌, ◌*◌, ◌/◌, ◌^◌, ◌<◌, ◌≤◌, min, length, map, All, replicate};
 ghost use lib.Lanes.{sum_l};
-ghost use Rattle.std.specs.List.{range_with_len};
-ghost use Rattle.ff_flac_rice.specs.Least.{least};
-ghost use Rattle.ff_flac_rice.specs.Rice.{quotients, count_of};
+ghost use Rattle.ff_flac_rice.specs.Rice.{quotients};
 
 use crate::span::Span;
 use std::simd::prelude::*;
@@ -80,7 +78,7 @@ pub(crate) fn wide_quotients(part: &[u32], k: u32) -> u64
 }
 
 /// The sum of the quotients under one parameter.
-fn quotients_of(part: &[u32], k: u32, most: u32) -> u64
+pub(crate) fn quotients_of(part: &[u32], k: u32, most: u32) -> u64
     requires len { length part.now ≤ 2 ^ 16 }
     requires k { k < 32 }
     requires most { All (λ u. u ≤ most) part.now }
@@ -104,15 +102,8 @@ pub(crate) fn total_of(part: &[u32], most: u32) -> u64
     wide_quotients(part, 0)
 }
 
-/// How many parameters a method has.
-fn parameter_count(method: usize) -> usize
-    ensures { result ≡ count_of method }
-{
-    if method == 0 { 15 } else { 31 }
-}
-
 impl Row {
-    ghost use Rattle.ff_flac_rice.specs.Row.{IsRow, EndsInZeros, lowest, lowest_bits, row_with, row_cost, row_best, row_best_cost, RowFits};
+    ghost use Rattle.ff_flac_rice.specs.Row.{IsRow, lowest, lowest_bits, row_with, row_cost, RowFits};
     ghost use Rattle.ff_flac_rice.specs.Spans.{IsSpan};
 
     /// A row of so many values whose sums are still 0.
@@ -164,16 +155,6 @@ impl Row {
         }
     }
 
-    /// The row of a partition for every parameter.
-    pub fn of(part: &[u32]) -> Row
-        requires { length part.now ≤ 2 ^ 16 }
-        ensures { IsRow 0 31 result part.now }
-    {
-        let mut row = Row::begun(part.len());
-        row.fill(part, Span { low: 0, high: 31 });
-        row
-    }
-
     /// The row of two partitions one after the other.
     pub fn with(&self, other: &Row) -> Row
         requires left { RowFits self.now }
@@ -188,19 +169,6 @@ impl Row {
             len: self.len + other.len,
             sums,
         }
-    }
-
-    /// The best parameter of a method, and the bits with it.
-    pub fn best(&self, method: usize) -> (usize, u64)
-        requires fits { RowFits self.now }
-        requires zeros { EndsInZeros self.now }
-        requires method { method ≤ 1 }
-        ensures k { result.0 ≡ row_best method self.now }
-        ensures cost { result.1 ≡ row_best_cost method self.now }
-        ensures below { result.0 < count_of method }
-        ensures small { result.1 ≤ 2 ^ 49 }
-    {
-        self.best_below(4 + method as u64, parameter_count(method))
     }
 
     /// The bits with the best parameter of a span for each method.
@@ -232,32 +200,5 @@ impl Row {
             least = least.min(self.len * (k as u64 + 1) + self.sums[k]);
         }
         least
-    }
-
-    /// The best of the parameters below `count`, and its bits.
-    fn best_below(&self, width: u64, count: usize) -> (usize, u64)
-        requires fits { RowFits self.now }
-        requires zeros { EndsInZeros self.now }
-        requires width { width ≤ 5 }
-        requires some { 0 < count }
-        requires within { count ≤ 31 }
-        ensures k { least (λ k. row_cost width k self.now) (range_with_len 0 count) ≡ Some result.0 }
-        ensures cost { result.1 ≡ row_cost width result.0 self.now }
-        ensures below { result.0 < count }
-        ensures small { result.1 ≤ 2 ^ 49 }
-    {
-        let mut best = 0;
-        let mut cost = width + (self.len + self.sums[0]);
-        for k in 1..count {
-            if self.sums[k - 1] == 0 {
-                return (best, cost);
-            }
-            let other = width + (self.len * (k as u64 + 1) + self.sums[k]);
-            if other < cost {
-                best = k;
-                cost = other;
-            }
-        }
-        (best, cost)
     }
 }

@@ -3,7 +3,7 @@
 ghost use Rattle.std.specs.Prelude.{◌≡◌, ◌+◌, ◌-◌, ◌*◌, ◌/◌, ◌%◌, ◌^◌, ◌<◌, ◌≤◌, ◌++◌, length, OnOk, true, false, replicate};
 ghost use Rattle.ff_flac_rice.specs.Rice.{rice_bits, partition_bits, best_k, is_allowed, residual_bits, best_at};
 
-use crate::row::Row;
+use crate::parameter::best_parameter;
 use ff_bits::BitWriter;
 use std::alloc::AllocError;
 
@@ -43,7 +43,7 @@ fn write_part(out: &mut BitWriter, part: &[u32], method: usize) -> Result<(), Al
     requires method { method ≤ 1 }
     ensures { OnOk result (out.new ≡ out.old ++ partition_bits (4 + method) (best_k method part.now) part.now) }
 {
-    let (k, _) = Row::of(part).best(method);
+    let k = best_parameter(part, method);
     out.put(k as u64, 4 + method as u32)?;
     for u in part {
         put_rice(out, k as u32, *u)?;

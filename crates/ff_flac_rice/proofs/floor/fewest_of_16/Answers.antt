@@ -1,4 +1,4 @@
-use Rattle.std.proofs.Common.{◌≡◌, ◌≤◌, ◌<◌, ℕ, List, ◌+◌, ◌-◌, ◌*◌, ◌/◌, ◌^◌, length, map, arith, ap, ◌∙◌, sym, refl}
+use Rattle.std.proofs.Common.{◌≡◌, ℕ, List, ◌+◌, ◌-◌, ◌*◌, ◌/◌, ◌^◌, map, arith, ap, ◌∙◌}
 use Rattle.ff_flac_rice.specs.Rice.{part_cost, quotients}
 use Rattle.ff_flac_rice.specs.Row.{lowest}
 use Rattle.ff_flac_rice.proofs.SpanLemmas.{lowest-one, lowest_next}

@@ -1,4 +1,4 @@
-use Rattle.std.proofs.Common.{◌≡◌, ◌<◌, ◌≤◌, ◌+◌, ◌-◌, ◌/◌, ◌^◌, map}
+use Rattle.std.proofs.Common.{◌≡◌, ◌<◌, ◌≤◌, ◌-◌, ◌/◌, ◌^◌, map}
 use Rattle.ff_flac_rice.specs.Rice.{part_cost}
 use Rattle.ff_flac_rice.specs.Row.{lowest}
 use Rattle.ff_flac_rice.proofs.floor.fewest_of_16.Given as goal

@@ -1,4 +1,4 @@
-use Rattle.std.proofs.Common.{◌≡◌, ℕ, ◌+◌, ◌*◌, ◌<◌, ◌^◌, arith, refl}
+use Rattle.std.proofs.Common.{arith, refl}
 use Rattle.ff_flac_rice.specs.Rice.{part_cost}
 use Rattle.ff_flac_rice.specs.Row.{row_cost}
 use Rattle.ff_flac_rice.proofs.RowLemmas.{row_cost-of}

@@ -1,4 +1,4 @@
-use Rattle.std.proofs.Common.{◌≡◌, arith, length, ◌∙◌}
+use Rattle.std.proofs.Common.{arith, ◌∙◌}
 use Rattle.ff_flac_rice.proofs.Sums.{lanes_sum, lanes_small}
 use Rattle.ff_flac_rice.proofs.row.total_of.Goals as goal
 

@@ -1,5 +1,5 @@
 use Rattle.std.proofs.Common.{◌≡◌, ℕ, ◌+◌, ◌-◌, ◌*◌, ◌/◌, ◌^◌, ◌<◌, ◌≤◌, length, ◌∙◌, arith, suc}
-use Rattle.std.specs.List.{All, AllByRecursion}
+use Rattle.std.specs.List.{AllByRecursion}
 use Rattle.std.proofs.lemmas.List.Elements.{All-same, All-take, All-drop}
 use Rattle.std.proofs.lemmas.Nat.{one_shl, shr_split, pow_pos}
 use Rattle.ff_flac_rice.specs.Rice.{parts_of}
