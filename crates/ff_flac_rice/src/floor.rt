@@ -7,7 +7,7 @@ ghost use Rattle.ff_flac_rice.specs.Spans.{IsSpan};
 ghost use Rattle.ff_flac_rice.specs.Rice.{part_cost, residual_bits, codings};
 
 use crate::coding::finest_order;
-use crate::row::{Row, greatest, halves_of, lanes_at, sum_of, total_of};
+use crate::row::{Row, greatest, halves_of, lanes_at, sum_of, total_of, wide_quotients};
 use crate::span::{Span, span_at};
 
 /// The fewest bits of 16 values whose sum fits 32 bits, under the parameters of a span.
@@ -28,20 +28,42 @@ fn fewest_of_16(part: &[u32], most: u32, span: Span) -> u64
     least
 }
 
-/// The values of a partition, of which none is above `most`, don't have fewer bits, whatever the parameter.
+/// The values of such a partition don't have fewer bits, whatever the parameter.
+fn floor_of_16(part: &[u32], most: u32) -> u64
+    requires len { length part.now ≡ 16 }
+    requires most { All (λ u. u ≤ most) part.now }
+    requires fits { 16 * most < 2 ^ 32 }
+    ensures below { (k : ℕ) → k < 31 → result ≤ part_cost 0 k part.now }
+    ensures small { result ≤ 2 ^ 33 }
+{
+    let span = span_at(16, total_of(part, most));
+    fewest_of_16(part, most, span)
+}
+
+/// Nor do those of any other.
+#[inline(never)]
+fn floor_of_row(part: &[u32]) -> u64
+    requires { length part.now ≤ 2 ^ 15 }
+    ensures below { (k : ℕ) → k < 31 → result ≤ part_cost 0 k part.now }
+    ensures small { result ≤ 2 ^ 50 }
+{
+    let span = span_at(part.len() as u64, wide_quotients(part, 0));
+    let mut row = Row::begun(part.len());
+    row.fill(part, span);
+    row.lowest_cost(span.low, span.high)
+}
+
+/// Nor do those of any partition of values of which none is above `most`.
 fn part_floor(part: &[u32], most: u32) -> u64
     requires len { length part.now ≤ 2 ^ 15 }
     requires most { All (λ u. u ≤ most) part.now }
     ensures below { (k : ℕ) → k < 31 → result ≤ part_cost 0 k part.now }
     ensures small { result ≤ 2 ^ 50 }
 {
-    let span = span_at(part.len() as u64, total_of(part, most));
     if part.len() == 16 && most < 0x1000_0000 {
-        return fewest_of_16(part, most, span);
+        return floor_of_16(part, most);
     }
-    let mut row = Row::begun(part.len());
-    row.fill(part, span);
-    row.lowest_cost(span.low, span.high)
+    floor_of_row(part)
 }
 
 /// No coding of these zigzag values has fewer bits.
