@@ -308,6 +308,10 @@ pub small_enough : (n order : ℕ) (xs : List ℤ) → order ≤ 5 → All (λ x
 small_enough n order xs h a =
     All-weaker (λ x. magnitude x < 2 ^ (24 + order)) (λ x. magnitude x < 2 ^ 30) (λ x l. omega (arith, l, pow_le (24 + order) 30 (omega arith))) xs a
 
+pub few_enough : (order : ℕ) (xs : List ℤ) → order ≤ 4 → All (λ x. magnitude x < 2 ^ (24 + order)) xs → All (λ x. magnitude x < 2 ^ 29) xs
+few_enough order xs h a =
+    All-weaker (λ x. magnitude x < 2 ^ (24 + order)) (λ x. magnitude x < 2 ^ 29) (λ x l. omega (arith, l, pow_le (24 + order) 29 (omega arith))) xs a
+
 pub next_small : (order : ℕ) (xs ys : List ℤ) → ys ≡ steps xs → All (λ x. magnitude x < 2 ^ (24 + order)) xs → All (λ x. magnitude x < 2 ^ (24 + (order + 1))) ys
 next_small order xs ys e h =
     let p : 2 * 2 ^ (24 + order) ≡ 2 ^ (24 + (order + 1)) = sym (pow_two (24 + order) (24 + (order + 1)) (omega arith)) in

@@ -1,11 +1,12 @@
-use Rattle.std.proofs.Common.{◌≡◌, ℕ, zero, ◌^◌, suc, ◌+◌, ◌-◌, ◌*◌, ◌<◌, ◌≤◌, ℤ, pos, negsuc, List, [], ◌∷◌, ◌++◌, length, get_or, set, take, drop, refl, sym, ap, ◌∙◌, arith}
+use Rattle.std.proofs.Common.{◌≡◌, ℕ, zero, ◌^◌, suc, ◌+◌, ◌-◌, ◌*◌, ◌<◌, ◌≤◌, ℤ, pos, negsuc, List, [], ◌∷◌, ◌++◌, length, map, get_or, set, take, drop, refl, sym, ap, ◌∙◌, subst, arith}
 use Rattle.std.specs.Prelude.{◌+ℤ◌, ◌*ℤ◌, ◌-ℤ◌, ◌<ℤ◌, ◌≤ℤ◌, neg_ℤ}
 use Rattle.std.proofs.lemmas.Int.{ints}
 use Rattle.std.specs.List.{flat_map, All, AllByRecursion}
 use Rattle.std.proofs.lemmas.List.Elements.{All-from_recursion, recursion_from_All, All-same, All-drop}
-use Rattle.std.proofs.lemmas.List.{length-append, length-drop, append_assoc, append-nil, drop_more, drop-drop, drop-set-lt, take_more_set}
+use Rattle.std.proofs.lemmas.List.{length-append, map-append, get_or-drop, length-drop, append_assoc, append-nil, drop_more, drop-drop, drop-set-lt, take_more_set}
 use Rattle.ff_bits.proofs.BitsLemmas.{length-bits_of}
 use Rattle.ff_values.specs.Audio.{FitsBits}
+use Rattle.ff_flac_rice.specs.Rice.{zigzagged}
 use Rattle.ff_flac_sub.specs.Subframe.{steps, steps_from, rest_of, magnitude, sample_bits}
 
 pub step_next : (xs all : List ℤ) (i : ℕ) (d : ℤ) → i + 1 < length xs → d ≡ get_or xs (i + 1) (pos 0) -ℤ get_or xs i (pos 0)
@@ -37,6 +38,17 @@ pub step_end : (xs all : List ℤ) (i n : ℕ) → length xs ≡ n → i ≡ n -
 step_end xs all i n l e is =
     let none : steps (drop i xs) ≡ [] = steps_short (drop i xs) (omega (arith, length-drop i xs, l)) in
     ap (λ m. take m xs) (sym e) ∙ sym (append-nil (take i xs)) ∙ ap (λ l. take i xs ++ l) (sym none) ∙ is
+
+pub zigzags_next : (xs : List ℤ) (us : List ℕ) (i : ℕ) (d : ℤ) (u : ℕ) → i < length xs → i < length us → u ≡ zigzagged d → take i us ≡ map zigzagged (take i xs)
+    → take (i + 1) (set us i u) ≡ map zigzagged (take (i + 1) (set xs i d))
+zigzags_next xs us i d u l m e h =
+    take_more_set us i u m
+    ∙ ap (λ l. l ++ (u ∷ [])) h
+    ∙ ap (λ n. map zigzagged (take i xs) ++ (n ∷ [])) e
+    ∙ sym (ap (map zigzagged) (take_more_set xs i d l) ∙ map-append zigzagged (take i xs) (d ∷ []))
+
+pub small_at : (m : ℕ) (xs : List ℤ) (i k : ℕ) → All (λ x. magnitude x < m) (drop i xs) → i + k < length xs → magnitude (get_or xs (i + k) (pos 0)) < m
+small_at m xs i k h l = subst (λ z. magnitude z < m) (get_or-drop i xs k (pos 0)) (h k (pos 0) (omega (arith, length-drop i xs, l)))
 
 -- ---- how long residuals are, and how large
 

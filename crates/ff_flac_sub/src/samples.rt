@@ -44,11 +44,8 @@ fn zigzag_of(x: i32) -> u32
     requires { magnitude x < 2 ^ 30 }
     ensures { result ≡ zigzagged x }
 {
-    if x >= 0 {
-        2 * x as u32
-    } else {
-        2 * (-(x + 1)) as u32 + 1
-    }
+    let twice = 2 * x;
+    twice.max(-1 - twice) as u32
 }
 
 fn zeros(alloc: Global, count: usize) -> Result<Vec<u32>, AllocError>
@@ -74,6 +71,34 @@ pub fn zigzags_of(alloc: Global, xs: &[i32]) -> Result<Vec<u32>, AllocError>
 {
     let mut us = zeros(alloc, xs.len())?;
     zigzag_each(&mut us, xs);
+    Ok(us)
+}
+
+/// Makes of each sample but the last how the next one differs from it, and writes the numbers that stand for these.
+fn zigzag_steps(xs: &mut [i32], us: &mut [u32])
+    requires small { All (λ x. magnitude x < 2 ^ 29) xs.old }
+    requires len { length us.old ≡ length xs.old - 1 }
+    ensures len { length xs.new ≡ length xs.old }
+    ensures is { take (length xs.old - 1) xs.new ≡ steps xs.old }
+    ensures zigzags { us.new ≡ map zigzagged (steps xs.old) }
+{
+    for i in 0..us.len() {
+        let next = step(xs[i + 1], xs[i]);
+        xs[i] = next;
+        us[i] = zigzag_of(next);
+    }
+}
+
+/// Makes of samples how each differs from the one before, and gives the numbers that stand for these.
+pub fn next_zigzags(alloc: Global, xs: &mut Vec<i32>) -> Result<Vec<u32>, AllocError>
+    requires { All (λ x. magnitude x < 2 ^ 29) xs.old.items }
+    ensures steps { OnOk result (xs.new.items ≡ steps xs.old.items) }
+    ensures zigzags { IfOk result (λ v. v.items ≡ map zigzagged (steps xs.old.items)) }
+{
+    let count = xs.len().saturating_sub(1);
+    let mut us = zeros(alloc, count)?;
+    zigzag_steps(xs, &mut us);
+    xs.truncate(count);
     Ok(us)
 }
 

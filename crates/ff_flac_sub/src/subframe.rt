@@ -8,7 +8,7 @@ ghost use Rattle.ff_values.specs.Audio.{FitsBits};
 ghost use Rattle.ff_flac_sub.specs.Subframe.{magnitude, rest_of, subframe_bits, candidates, fixed_of, Spelling};
 ghost use Rattle.ff_flac_sub.specs.Plan.{spelling_of, size, IsBestPlan, PlanFits, constants};
 
-use crate::samples::{are_equal, put_sample, put_samples, take_steps, zigzags_of};
+use crate::samples::{are_equal, next_zigzags, put_sample, put_samples, take_steps, zigzags_of};
 use ff_bits::BitWriter;
 use ff_flac_rice::{best_coding, least_bits, write_residual};
 use std::alloc::{AllocError, Global};
@@ -124,8 +124,7 @@ fn outlook_of(
     let mut floors = Vec::new(alloc);
     floors.push(least)?;
     for order in 1..orders {
-        take_steps(&mut rest);
-        let new = zigzags_of(alloc, &rest)?;
+        let new = next_zigzags(alloc, &mut rest)?;
         let floor = floor_of(samples, &new, order, depth);
         floors.push(floor)?;
         if floor < least {

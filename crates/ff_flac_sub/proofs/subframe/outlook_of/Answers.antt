@@ -4,7 +4,7 @@ use Rattle.std.proofs.lemmas.List.Elements.{All-same}
 use Rattle.ff_flac_rice.specs.Rice.{zigzagged}
 use Rattle.ff_flac_sub.specs.Subframe.{magnitude, rest_of}
 use Rattle.ff_flac_sub.proofs.Predict.{rest_of-zero}
-use Rattle.ff_flac_sub.proofs.Plans.{magnitudes, small_enough, next_small, next_rest, one_floor}
+use Rattle.ff_flac_sub.proofs.Plans.{magnitudes, few_enough, next_small, next_rest, one_floor}
 use Rattle.ff_flac_sub.proofs.subframe.outlook_of.Goals as goal
 use Rattle.ff_flac_sub.proofs.subframe.outlook_of.Goals.{then-floor-least, else-floor-least}
 
@@ -24,22 +24,15 @@ loop-order-init c = record {
   small = All-same (λ x. magnitude x < 2 ^ 24) c.in_ok-rest.rest.items c.args.samples.now c.in_ok-rest.ensures.items (magnitudes c.args.samples.now c.requires.fits);
 }
 
-pub take_steps-requires : goal.take_steps-requires
-take_steps-requires c = small_enough 0 (c.loop-order.order - 1) c.loop-order.rest.items (omega (arith, c.loop-order-test.true, c.requires.few)) c.loop-order.invariant.small
-
-pub zigzags_of-requires-in-loop-order : goal.zigzags_of-requires-in-loop-order
-zigzags_of-requires-in-loop-order c =
-    let o : ℕ = c.loop-order.order - 1 in
-    All-same (λ x. magnitude x < 2 ^ 30) c.deref-in-loop-order.result.now c.take_steps.new.xs.items c.deref-in-loop-order.ensures.value
-    (small_enough 0 (o + 1) c.take_steps.new.xs.items (omega (arith, c.loop-order-test.true, c.requires.few))
-    (next_small o c.loop-order.rest.items c.take_steps.new.xs.items c.take_steps.ensures c.loop-order.invariant.small))
+pub next_zigzags-requires : goal.next_zigzags-requires
+next_zigzags-requires c = few_enough (c.loop-order.order - 1) c.loop-order.rest.items (omega (arith, c.loop-order-test.true, c.requires.few)) c.loop-order.invariant.small
 
 pub floor_of-floor-requires-clause-is : goal.floor_of-floor-requires-clause-is
 floor_of-floor-requires-clause-is c =
     let o : ℕ = c.loop-order.order - 1 in
     let reach : o + 1 ≡ c.loop-order.order = omega (arith, c.loop-order.invariant.some_order) in
-    c.deref-in-loop-order-2.ensures.value ∙ c.in_ok-new.ensures ∙ ap (map zigzagged) (c.deref-in-loop-order.ensures.value
-    ∙ next_rest o c.args.samples.now c.loop-order.rest.items c.take_steps.new.xs.items c.loop-order.invariant.rest c.take_steps.ensures
+    c.deref-in-loop-order.ensures.value ∙ c.in_ok-new.ensures.zigzags ∙ ap (map zigzagged) (sym c.in_ok-new.ensures.steps
+    ∙ next_rest o c.args.samples.now c.loop-order.rest.items c.next_zigzags.new.xs.items c.loop-order.invariant.rest c.in_ok-new.ensures.steps
     ∙ ap (λ n. rest_of n c.args.samples.now) reach)
 
 pub loop-order-preserved : goal.loop-order-preserved
@@ -48,9 +41,9 @@ loop-order-preserved c =
     let o : ℕ = c.loop-order.order - 1 in
     let reach : o + 1 ≡ c.loop-order.order = omega (arith, c.loop-order.invariant.some_order) in
     let back : o + 1 ≡ c.loop-order.order + 1 - 1 = omega (arith, c.loop-order.invariant.some_order) in
-    let rest : c.take_steps.new.xs.items ≡ rest_of (o + 1) xs = next_rest o xs c.loop-order.rest.items c.take_steps.new.xs.items c.loop-order.invariant.rest c.take_steps.ensures in
+    let rest : c.next_zigzags.new.xs.items ≡ rest_of (o + 1) xs = next_rest o xs c.loop-order.rest.items c.next_zigzags.new.xs.items c.loop-order.invariant.rest c.in_ok-new.ensures.steps in
     let new : c.in_ok-new.new.items ≡ map zigzagged (rest_of c.loop-order.order xs) =
-    c.in_ok-new.ensures ∙ ap (map zigzagged) (c.deref-in-loop-order.ensures.value ∙ rest ∙ ap (λ n. rest_of n xs) reach) in
+    c.in_ok-new.ensures.zigzags ∙ ap (map zigzagged) (sym c.in_ok-new.ensures.steps ∙ rest ∙ ap (λ n. rest_of n xs) reach) in
     record {
       some_order = omega arith;
       count = ap length c.in_ok-push-2.ensures.items ∙ length-append c.loop-order.floors.items (c.floor_of-floor.result ∷ []) ∙ ap (λ n. n + 1) c.loop-order.invariant.count;
@@ -65,5 +58,6 @@ loop-order-preserved c =
         | else-floor-least w ↦ ap (λ (v : Vec ℕ Global). v.items) w.us-is ∙ c.loop-order.invariant.us ∙ ap (λ n. map zigzagged (rest_of n xs)) (sym w.first-is)
       ];
       rest = rest ∙ ap (λ n. rest_of n xs) back;
-      small = subst (λ n. All (λ x. magnitude x < 2 ^ (24 + n)) c.take_steps.new.xs.items) back (next_small o c.loop-order.rest.items c.take_steps.new.xs.items c.take_steps.ensures c.loop-order.invariant.small);
+      small = subst (λ n. All (λ x. magnitude x < 2 ^ (24 + n)) c.next_zigzags.new.xs.items) back
+          (next_small o c.loop-order.rest.items c.next_zigzags.new.xs.items c.in_ok-new.ensures.steps c.loop-order.invariant.small);
     }
