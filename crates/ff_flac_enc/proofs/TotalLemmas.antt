@@ -1,7 +1,7 @@
 -- What one frame more adds to the totals.
-use Rattle.std.proofs.Common.{◌≡◌, ◌≢◌, ℕ, ◌+◌, ◌-◌, ◌*◌, ◌/◌, ◌^◌, ◌≤◌, min, max, ℤ, pos, negsuc, List, [], ◌∷◌, ◌++◌, length, Option, Some, None, refl, sym, ap, ◌∙◌, subst, arith, length-append, append-nil}
+use Rattle.std.proofs.Common.{◌≡◌, ◌≢◌, ℕ, ◌+◌, ◌-◌, ◌*◌, ◌/◌, ◌^◌, ◌<◌, ◌≤◌, min, max, ℤ, pos, negsuc, List, [], ◌∷◌, ◌++◌, length, get_or, set, take, Option, Some, None, refl, sym, ap, ◌∙◌, subst, arith, length-append, append-nil, append_assoc}
 use Rattle.std.specs.List.{All, sum_by}
-use Rattle.std.proofs.lemmas.List.{map-append}
+use Rattle.std.proofs.lemmas.List.{map-append, length-set, take_more, take_more_set}
 use Rattle.std.proofs.lemmas.List.Concat.{flat_map-append}
 use Rattle.std.proofs.lemmas.List.Sums.{sum_by-append}
 use Rattle.std.proofs.lemmas.List.Elements.{All-weaker}
@@ -13,7 +13,7 @@ use Rattle.ff_values.specs.declared.audio.AFrame.{AFrame}
 use Rattle.ff_values.specs.declared.totals.Totals.{Totals}
 use Rattle.ff_flac_enc.specs.declared.counter.Counter.{Counter}
 use Rattle.ff_flac_enc.specs.declared.counter.Sizes.{Sizes}
-use Rattle.ff_flac_enc.specs.Totals.{Added, added, sample_frames, frame_bytes, least_of, greatest_of, lens, frames_bytes, HaveSizes, Counts, totals_of}
+use Rattle.ff_flac_enc.specs.Totals.{Added, added, sample_frames, sample_bytes, samples_bytes, frame_bytes, least_of, greatest_of, lens, frames_bytes, HaveSizes, Counts, totals_of}
 
 least_push : (xs : List ℕ) (x : ℕ) → length xs ≢ 0 → least_of (xs ++ x ∷ []) ≡ min (least_of xs) x
 least_push [] x some = absurd (some refl)
@@ -64,6 +64,30 @@ wider b c (negsuc n) le h = let p : 2 ^ (b - 1) ≤ 2 ^ (c - 1) = pow_mono {i = 
 
 pub all_wider : (b : ℕ) (xs : List ℤ) → All (FitsBits b) xs → All (FitsBits (8 * ((b + 7) / 8))) xs
 all_wider b xs h = All-weaker (FitsBits b) (FitsBits (8 * ((b + 7) / 8))) (λ z. wider b (8 * ((b + 7) / 8)) z (omega arith)) xs h
+
+-- ---- two bytes more
+
+two_items : (xs : List ℕ) → length xs ≡ 2 → xs ≡ get_or xs 0 0 ∷ get_or xs 1 0 ∷ []
+two_items [] h = absurd (omega (arith, h))
+two_items (x ∷ []) h = absurd (omega (arith, h))
+two_items (x ∷ y ∷ []) h = refl
+two_items (x ∷ y ∷ z ∷ zs) h = absurd (omega (arith, h))
+
+pub two_more : (out bytes : List ℕ) (samples : List ℤ) (i : ℕ) → 2 * i + 1 < length out → i < length samples → length bytes ≡ 2 → bytes ≡ sample_bytes 2 (get_or samples i (pos 0))
+    → take (2 * i) out ≡ samples_bytes 2 (take i samples) → take (2 * (i + 1)) (set (set out (2 * i) (get_or bytes 0 0)) (2 * i + 1) (get_or bytes 1 0)) ≡ samples_bytes 2 (take (i + 1) samples)
+two_more out bytes samples i l m n e h =
+    let a : ℕ = get_or bytes 0 0 in
+    let b : ℕ = get_or bytes 1 0 in
+    let z : ℤ = get_or samples i (pos 0) in
+    let once : List ℕ = set out (2 * i) a in
+    let reach : 2 * (i + 1) ≡ 2 * i + 1 + 1 = omega arith in
+    ap (λ m. take m (set once (2 * i + 1) b)) reach
+    ∙ take_more_set once (2 * i + 1) b (omega (arith, l, length-set out (2 * i) a))
+    ∙ ap (λ xs. xs ++ (b ∷ [])) (take_more_set out (2 * i) a (omega (arith, l)))
+    ∙ append_assoc (take (2 * i) out) (a ∷ []) (b ∷ [])
+    ∙ ap (λ xs. xs ++ (a ∷ b ∷ [])) h
+    ∙ ap (λ xs. samples_bytes 2 (take i samples) ++ xs) (sym (two_items bytes n) ∙ e ∙ sym (append-nil (sample_bytes 2 z)))
+    ∙ sym (ap (samples_bytes 2) (take_more samples i (pos 0) m) ∙ flat_map-append (sample_bytes 2) (take i samples) (z ∷ []))
 
 -- ---- the totals
 

@@ -1,4 +1,4 @@
-ghost use Rattle.std.specs.Prelude.{◌≡◌, ◌+◌, ◌*◌, ◌^◌, ◌<◌, ◌≤◌, List, [], ◌∷◌, ◌++◌, Some, None, min, max, IfOk, OnOk, OnErr, All};
+ghost use Rattle.std.specs.Prelude.{◌≡◌, ◌+◌, ◌*◌, ◌^◌, ◌<◌, ◌≤◌, ◌≢◌, List, [], ◌∷◌, ◌++◌, Some, None, min, max, length, IfOk, OnOk, OnErr, All};
 ghost use Rattle.ff_values.specs.Audio.{FitsBits, IsAudio};
 ghost use Rattle.ff_flac_enc.specs.Totals.{sample_bytes, samples_bytes, frame_bytes, sample_frames};
 
@@ -98,14 +98,26 @@ fn push_1(out: &mut Vec<u8>, samples: &[i32]) -> Result<(), AllocError>
     Ok(())
 }
 
-fn push_2(out: &mut Vec<u8>, samples: &[i32]) -> Result<(), AllocError>
-    requires { All (FitsBits 16) samples.now }
-    ensures { OnOk result (out.new.items ≡ out.old.items ++ samples_bytes 2 samples.now) }
+// Each sample in two bytes, in the place of others: faster than one behind the other.
+fn write_2(out: &mut [u8], samples: &[i32])
+    requires fit { All (FitsBits 16) samples.now }
+    requires len { length out.old ≡ 2 * length samples.now }
+    ensures { out.new ≡ samples_bytes 2 samples.now }
 {
-    for sample in samples {
-        out.extend_from_slice(&bytes_2(*sample))?;
+    for i in 0..samples.len() {
+        let bytes = bytes_2(samples[i]);
+        out[2 * i] = bytes[0];
+        out[2 * i + 1] = bytes[1];
     }
-    Ok(())
+}
+
+fn bytes_of_2(alloc: Global, samples: &[i32]) -> Result<Vec<u8>, AllocError>
+    requires { All (FitsBits 16) samples.now }
+    ensures { IfOk result (λ v. v.items ≡ samples_bytes 2 samples.now) }
+{
+    let mut out = vec![in alloc; 0u8; 2 * samples.len()]?;
+    write_2(&mut out, samples);
+    Ok(out)
 }
 
 fn push_3(out: &mut Vec<u8>, samples: &[i32]) -> Result<(), AllocError>
@@ -131,12 +143,12 @@ fn push_4(out: &mut Vec<u8>, samples: &[i32]) -> Result<(), AllocError>
 fn push_all(out: &mut Vec<u8>, width: usize, samples: &[i32]) -> Result<(), AllocError>
     requires some { 1 ≤ width }
     requires few { width ≤ 4 }
+    requires other { width ≢ 2 }
     requires fit { All (FitsBits (8 * width)) samples.now }
     ensures { OnOk result (out.new.items ≡ out.old.items ++ samples_bytes width samples.now) }
 {
     match width {
         1 => push_1(out, samples),
-        2 => push_2(out, samples),
         3 => push_3(out, samples),
         _ => push_4(out, samples),
     }
@@ -149,6 +161,9 @@ fn bytes_of(alloc: Global, frame: &AFrame) -> Result<Vec<u8>, AllocError>
 {
     let width = (usize::from(frame.bits) + 7) / 8;
     let samples = frame.samples.as_slice();
+    if width == 2 {
+        return bytes_of_2(alloc, samples);
+    }
     let mut out = Vec::new(alloc);
     out.reserve(samples.len().saturating_mul(width))?;
     push_all(&mut out, width, samples)?;
