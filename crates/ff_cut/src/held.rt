@@ -1,7 +1,8 @@
-ghost use Rattle.std.specs.Prelude.{◌≡◌, ◌+◌, ◌-◌, ◌≤◌, ◌<◌, ◌^◌, [], ◌++◌, IfOk, OnOk, OnErr, IsOk, length, drop, vec_len, vec_capacity, slice_get};
+ghost use Rattle.std.specs.Prelude.{◌≡◌, ◌+◌, ◌-◌, ◌≤◌, ◌<◌, ◌^◌, [], ◌++◌, IfOk, OnOk, OnErr, IsOk, length, take, drop, vec_len, vec_capacity, slice_get};
 
 use std::alloc::{AllocError, Global};
 use std::marker::Model;
+use std::mem::replace;
 
 /// Bytes that wait to be used, from the front. What was used is let go at the next growth, at the cost of one copy of what waits
 /// and only where at least as much was used: so the copies are together no longer than the bytes that came.
@@ -85,6 +86,38 @@ impl Held {
     {
         self.taken += count;
     }
+
+    /// Takes so many bytes out, those behind the first ones, which are let go. Where they are most of what is kept they stay in
+    /// its memory, and the few behind them get new; else they are copied.
+    pub fn take_out(&mut self, skip: usize, count: usize) -> Result<Vec<u8>, AllocError>
+        requires { skip + count ≤ length self.old.bytes }
+        ensures ok { IfOk result (λ v. v.items ≡ take count (drop skip self.old.bytes)) }
+        ensures rest { OnOk result (self.new.bytes ≡ drop (skip + count) self.old.bytes) }
+        ensures err { OnErr result (self.new ≡ self.old) }
+    {
+        let first = self.taken + skip;
+        let rest = from_on(&self.buf, first + count);
+        if first + rest.len() > count / 4 {
+            let copy = from_on(&self.buf, first)[..count].to_vec(self.alloc)?;
+            self.taken = first + count;
+            return Ok(copy);
+        }
+        let fresh = rest.to_vec(self.alloc)?;
+        let whole = replace(&mut self.buf, fresh);
+        self.taken = 0;
+        Ok(middle_of(whole, first, count))
+    }
+}
+
+// So many bytes from a place on, moved to the front of their memory.
+fn middle_of(mut bytes: Vec<u8>, first: usize, count: usize) -> Vec<u8>
+    requires { first + count ≤ length bytes.items }
+    ensures { result.items ≡ take count (drop first bytes.items) }
+{
+    bytes.truncate(first + count);
+    bytes.rotate_left(first);
+    bytes.truncate(count);
+    bytes
 }
 
 fn from_on(bytes: &[u8], place: usize) -> &[u8]

@@ -1,4 +1,5 @@
 ghost use Rattle.std.specs.Prelude.{◌≡◌, ◌≢◌, ◌+◌, ◌-◌, ◌^◌, ◌≤◌, ◌<◌, ◌⊎◌, ◌↔◌, ℕ, List, [], ◌++◌, Some, None, true, false, length, take, drop, IfOk, OnOk, OnErr, IsOk, slice_get, pos};
+ghost use Rattle.ff_values.specs.Packet.{packet_at};
 ghost use Rattle.ff_values.specs.declared.packet.Pkt.{Pkt};
 ghost use Rattle.ff_cut.specs.Cutters.{GaveAll};
 ghost use Rattle.ff_y4m.specs.declared.head.Y4mHead.{Y4mHead};
@@ -27,27 +28,18 @@ pub struct Y4mCut {
     ghost few: { count ≤ used },
 }
 
-// The packet of a frame at the front, whose line has so many bytes before its line feed.
-fn packet(
-    alloc: Global,
-    size: usize,
-    place: u64,
-    count: u64,
-    line: usize,
-    bytes: &[u8],
-) -> Result<Pkt, AllocError>
+// The packet of a frame, whose planes these are.
+fn packet(place: u64, count: u64, planes: Vec<u8>) -> Pkt
     requires small { count < 2 ^ 63 }
-    requires there { line + 1 + size ≤ length bytes.now }
-    ensures { IfOk result (λ p. p ≡ packet_in size place count line bytes.now) }
+    ensures { result ≡ packet_at (pos count) (pos 1) place planes.items }
 {
-    let planes = bytes[line + 1..line + 1 + size].to_vec(alloc)?;
-    Ok(Pkt {
+    Pkt {
         pts: count as i64,
         dts: count as i64,
         duration: 1,
         pos: place,
         bytes: Bytes::new(planes),
-    })
+    }
 }
 
 impl Y4mCut {
@@ -103,13 +95,14 @@ impl PacketCut for Y4mCut {
         self.held.push(bytes)
     }
 
-    /// Makes room for so many bytes more, which `feed` then takes without fail. Room for the rest of the frame in hand
-    /// grows with what came, to at most twice that: the head alone may promise frames that never come.
+    /// Makes room for so many bytes more, which `feed` then takes without fail, and beyond them for the rest of the frame in
+    /// hand; that is no more than came so far, since the head alone may promise frames that never come.
     fn reserve(&mut self, count: usize) -> Result<(), AllocError> {
         let waits = self.held.len();
         let frame = 1024 + self.head.frame_bytes as usize;
-        let lacking = frame.saturating_sub(waits).min(waits);
-        self.held.reserve(count.max(lacking))
+        let came = waits.max(self.used as usize);
+        let lacking = frame.saturating_sub(waits).min(came);
+        self.held.reserve(count.saturating_add(lacking))
     }
 
     fn end(&mut self) {
@@ -151,15 +144,8 @@ impl PacketCut for Y4mCut {
         let size = self.head.frame_bytes as usize;
         match front_of(size, self.held.as_slice()) {
             Front::Frame(line) => {
-                let p = packet(
-                    self.alloc,
-                    size,
-                    self.head.start + self.used,
-                    self.count,
-                    line,
-                    self.held.as_slice(),
-                )?;
-                self.held.skip(line + 1 + size);
+                let planes = self.held.take_out(line + 1, size)?;
+                let p = packet(self.head.start + self.used, self.count, planes);
                 self.used += (line + 1 + size) as u64;
                 self.count += 1;
                 Ok(Cut::Pkt(p))

@@ -1,6 +1,5 @@
-use Rattle.std.proofs.Common.{◌≡◌, ◌+◌, ◌∙◌, ap, sym, refl, inl, inr, arith, Some, take, drop, length}
-use Rattle.std.proofs.lemmas.List.{length-take}
-use Rattle.ff_values.specs.declared.packet.Pkt.{Pkt}
+use Rattle.std.proofs.Common.{◌≡◌, ◌+◌, ◌∙◌, ap, sym, refl, inl, inr, arith, Some, pos}
+use Rattle.ff_values.specs.Packet.{packet_at}
 use Rattle.ff_values.specs.declared.cut.Cut.TheVariants.{End, Broken}
 use Rattle.ff_y4m.specs.declared.frame.Front.TheVariants.{Wait, Other, Frame}
 use Rattle.ff_y4m.specs.Packets.{unit, packet_in}
@@ -8,27 +7,14 @@ use Rattle.ff_y4m.proofs.UnitLaws.{frame_at, wait_few}
 use Rattle.ff_y4m.proofs.CutLaws.{frame_gives, over_left, broken_left}
 use Rattle.ff_y4m.proofs.cut.Y4mCutPacketCut.pull.Goals as goal
 
-pub packet-requires-clause-there : goal.packet-requires-clause-there
-packet-requires-clause-there c =
-    let e : unit c.args.self.now.head.frame_bytes c.args.self.now.held.bytes ≡ Frame c.in-Frame.line = sym (rw c.as_slice.ensures at c.in-Frame.ensures) in
-    let f = frame_at c.args.self.now.head.frame_bytes c.in-Frame.line c.args.self.now.held.bytes e in
-    omega (arith, f.3, ap length c.as_slice-in-Frame.ensures)
-
 pub overflow_add-line : goal.overflow_add-line
 overflow_add-line c =
     let e : unit c.args.self.now.head.frame_bytes c.args.self.now.held.bytes ≡ Frame c.in-Frame.line = sym (rw c.as_slice.ensures at c.in-Frame.ensures) in
     let f = frame_at c.args.self.now.head.frame_bytes c.in-Frame.line c.args.self.now.held.bytes e in
     omega (arith, f.2)
 
-pub overflow_add-line-in-Frame : goal.overflow_add-line-in-Frame
-overflow_add-line-in-Frame c =
-    let e : unit c.args.self.now.head.frame_bytes c.args.self.now.held.bytes ≡ Frame c.in-Frame.line = sym (rw c.as_slice.ensures at c.in-Frame.ensures) in
-    let f = frame_at c.args.self.now.head.frame_bytes c.in-Frame.line c.args.self.now.held.bytes e in
-    let s = c.args.self.now.size in
-    omega (arith, f.2, s)
-
-pub skip-requires : goal.skip-requires
-skip-requires c =
+pub take_out-requires : goal.take_out-requires
+take_out-requires c =
     let e : unit c.args.self.now.head.frame_bytes c.args.self.now.held.bytes ≡ Frame c.in-Frame.line = sym (rw c.as_slice.ensures at c.in-Frame.ensures) in
     let f = frame_at c.args.self.now.head.frame_bytes c.in-Frame.line c.args.self.now.held.bytes e in
     f.3
@@ -53,23 +39,23 @@ overflow_add-self-in-Frame-3 c =
     let s = c.args.self.now.size in
     omega (arith, f.2, s, c.requires)
 
-pub returns-in_ok-p-in-Frame-clause-gives : goal.returns-in_ok-p-in-Frame-clause-gives
-returns-in_ok-p-in-Frame-clause-gives c = λ p ok head fed n cuts.
+pub returns-in_ok-planes-in-Frame-clause-gives : goal.returns-in_ok-planes-in-Frame-clause-gives
+returns-in_ok-planes-in-Frame-clause-gives c = λ p ok head fed n cuts.
     let cut = c.args.self.now in
     let e : unit cut.head.frame_bytes cut.held.bytes ≡ Frame c.in-Frame.line = sym (rw c.as_slice.ensures at c.in-Frame.ensures) in
-    let same : p ≡ c.in_ok-p-in-Frame.p = cc in
+    let same : p ≡ c.packet-p.result = cc in
     let p_is : p ≡ packet_in cut.head.frame_bytes (cut.head.start + cut.used) cut.count c.in-Frame.line cut.held.bytes =
-    same ∙ (c.in_ok-p-in-Frame.ensures ∙ ap (λ xs. packet_in cut.head.frame_bytes (cut.head.start + cut.used) cut.count c.in-Frame.line xs) c.as_slice-in-Frame.ensures) in
-    frame_gives cut _ head fed n c.in-Frame.line p cuts e refl refl refl c.skip.ensures.bytes p_is
+    same ∙ (c.packet-p.ensures ∙ ap (λ xs. packet_at (pos cut.count) (pos 1) (cut.head.start + cut.used) xs) c.in_ok-planes-in-Frame.ensures.ok) in
+    frame_gives cut _ head fed n c.in-Frame.line p cuts e refl refl refl c.in_ok-planes-in-Frame.ensures.rest p_is
 
-pub returns-in_ok-p-in-Frame-clause-place : goal.returns-in_ok-p-in-Frame-clause-place
-returns-in_ok-p-in-Frame-clause-place c = λ p ok.
+pub returns-in_ok-planes-in-Frame-clause-place : goal.returns-in_ok-planes-in-Frame-clause-place
+returns-in_ok-planes-in-Frame-clause-place c = λ p ok.
     let cut = c.args.self.now in
     let e : unit cut.head.frame_bytes cut.held.bytes ≡ Frame c.in-Frame.line = sym (rw c.as_slice.ensures at c.in-Frame.ensures) in
     let f = frame_at cut.head.frame_bytes c.in-Frame.line cut.held.bytes e in
-    let same : p ≡ c.in_ok-p-in-Frame.p = cc in
+    let same : p ≡ c.packet-p.result = cc in
     let p_is : p ≡ packet_in cut.head.frame_bytes (cut.head.start + cut.used) cut.count c.in-Frame.line cut.held.bytes =
-    same ∙ (c.in_ok-p-in-Frame.ensures ∙ ap (λ xs. packet_in cut.head.frame_bytes (cut.head.start + cut.used) cut.count c.in-Frame.line xs) c.as_slice-in-Frame.ensures) in
+    same ∙ (c.packet-p.ensures ∙ ap (λ xs. packet_at (pos cut.count) (pos 1) (cut.head.start + cut.used) xs) c.in_ok-planes-in-Frame.ensures.ok) in
     (ap (λ q. q.pos) p_is, omega arith, omega (arith, f.2))
 
 pub returns-in-Other-clause-breaks : goal.returns-in-Other-clause-breaks
@@ -104,20 +90,9 @@ returns-in-Wait-clause-stays c = λ offset ok.
     let o : c.unfinished.result ≡ Broken offset = cc (ok) in
     let h = (c.unfinished.ensures.broken offset).0 o in (refl, h.2)
 
-pub returns-in_ok-p-in-Frame-clause-further : goal.returns-in_ok-p-in-Frame-clause-further
-returns-in_ok-p-in-Frame-clause-further c =
+pub returns-in_ok-planes-in-Frame-clause-further : goal.returns-in_ok-planes-in-Frame-clause-further
+returns-in_ok-planes-in-Frame-clause-further c =
     let cut = c.args.self.now in
     let e : unit cut.head.frame_bytes cut.held.bytes ≡ Frame c.in-Frame.line = sym (rw c.as_slice.ensures at c.in-Frame.ensures) in
     let f = frame_at cut.head.frame_bytes c.in-Frame.line cut.held.bytes e in
     omega (arith, f.2)
-
-pub returns-in_ok-p-in-Frame-clause-last : goal.returns-in_ok-p-in-Frame-clause-last
-returns-in_ok-p-in-Frame-clause-last c = λ p ok.
-    let cut = c.args.self.now in
-    let behind = drop (c.in-Frame.line + 1) c.as_slice-in-Frame.result.now in
-    let same : p ≡ c.in_ok-p-in-Frame.p = cc in
-    let p_is = same ∙ c.in_ok-p-in-Frame.ensures in
-    let bytes : length p.bytes ≡ length (take cut.head.frame_bytes behind) = ap (λ (q : Pkt). length q.bytes) p_is in
-    let place : p.pos ≡ cut.head.start + cut.used = ap (λ (q : Pkt). q.pos) p_is in
-    let s = cut.size in
-    omega (arith, c.requires, bytes, place, s, length-take cut.head.frame_bytes behind)
