@@ -1,141 +1,197 @@
-// Each call on the host fails once, in turn, in a command of one input and one output.
-use crate::runs::{log_of, mono, run, sized};
+// A command's calls on its host fail, each once in a run of its own.
+use crate::counting_host::CountingHost;
+use crate::runs::log_of;
 use ff_memory_host::{FailAt, HostCall, MemHost};
-use ff_run::{FileRef, Status};
+use ff_run::{FileRef, Status, ffmpeg};
 use std::alloc::{AllocError, Global};
 use std::sync::Wait;
 use std::thread::Threads;
 
-/// The words of the command.
-const COPY: [&str; 5] = ["-thread_queue_size", "1", "-i", "in.wav", "out.wav"];
+/// The kinds of call.
+const KINDS: [HostCall; 6] = [
+    HostCall::OpenSource,
+    HostCall::Read,
+    HostCall::Create,
+    HostCall::Append,
+    HostCall::Patch,
+    HostCall::CloseSink,
+];
 
-/// More calls of one kind than a run makes.
-const MANY: u32 = 200;
-
-/// The bytes of 24,000 samples: 23 packets of 1,024 and a shorter one.
-const BODY: usize = 48_000;
-
-// A file of these. The output is the same.
-fn finished(alloc: Global) -> Result<Vec<u8>, AllocError> {
-    let body = vec![in alloc; 200u8; BODY]?;
-    mono(alloc, &body)
+/// A command over files in memory that has one output. The head of each input is within the first piece that is read of it.
+#[derive(Drop)]
+pub struct Job {
+    pub words: Vec<String>,
+    pub inputs: Vec<(String, Vec<u8>)>,
+    pub output: String,
+    /// What is appended to the output,
+    pub appended: Vec<u8>,
+    /// and what it holds at the end.
+    pub finished: Vec<u8>,
 }
 
-// What stands in the output before its sizes are known: both are 0.
-fn unpatched(alloc: Global) -> Result<Vec<u8>, AllocError> {
-    let body = vec![in alloc; 200u8; BODY]?;
-    sized(alloc, 0, 0, &body)
+// What a run left.
+#[derive(Drop)]
+struct Left {
+    host: CountingHost,
+    status: Status,
+    log: Vec<u8>,
 }
 
-// Whether the output is left as it may be, where the call of this kind and number failed.
-fn is_left_well(
+impl Job {
+    // The name of a file that a status names.
+    fn name_of(&self, file: &FileRef) -> Option<&str> {
+        match file {
+            FileRef::Input(number) => match self.inputs.get(*number as usize) {
+                Some((name, _)) => Some(name.as_str()),
+                None => None,
+            },
+            FileRef::Output(0) => Some(self.output.as_str()),
+            _ => None,
+        }
+    }
+
+    // Whether the output is left as it may be, where the call of this kind and number failed.
+    fn is_left_well(&self, left: Option<&[u8]>, call: HostCall, number: u32) -> bool {
+        match (call, number, left) {
+            (HostCall::OpenSource | HostCall::Create, _, bytes) => bytes.is_none(),
+            (HostCall::Read, 1, bytes) => bytes.is_none(),
+            (HostCall::CloseSink, _, Some(bytes)) => bytes == self.finished.as_slice(),
+            (_, _, Some(bytes)) => self.appended.starts_with(bytes),
+            (_, _, None) => false,
+        }
+    }
+}
+
+impl Left {
+    // What the output holds.
+    fn output(&self, job: &Job) -> Option<&[u8]> {
+        self.host.files().file(job.output.as_str())
+    }
+
+    // Whether all is closed, the inputs are as they were, and no other file was made than the output.
+    fn keeps_the_rest(&self, job: &Job) -> bool {
+        for (name, bytes) in job.inputs.iter() {
+            if self.host.files().file(name.as_str()) != Some(bytes.as_slice()) {
+                return false;
+            }
+        }
+        self.host.has_all_back() & self.host.makes_only(job.output.as_str())
+    }
+
+    // Whether all was done, and nothing failed.
+    fn is_done(&self, job: &Job) -> bool {
+        let is_fine = matches!(self.status, Status::Fine) & self.log.is_empty();
+        is_fine & (self.output(job) == Some(job.finished.as_slice()))
+    }
+
+    // Whether the failure of one call on a file of this name is counted once and is what the status and the log tell.
+    fn tells(&self, alloc: Global, job: &Job, name: &str) -> Result<bool, AllocError> {
+        let Status::Device { file } = &self.status else {
+            return Ok(false);
+        };
+        let counted = match file {
+            FileRef::Input(_) => (1, 0),
+            _ => (0, 1),
+        };
+        let files = self.host.files();
+        let line = format!(in alloc; "ffmpeg: device fault on {name}\n")?;
+        let is_told = self.log.as_slice() == line.as_bytes();
+        let faults = (files.in_faults(name), files.out_faults(name));
+        Ok((job.name_of(file) == Some(name)) & is_told & (faults == counted))
+    }
+}
+
+// Runs the command, with these calls planned to fail.
+fn left_by<R: Threads + Wait + Sync>(
+    rt: &R,
     alloc: Global,
-    left: Option<&[u8]>,
-    call: HostCall,
-    number: u32,
-) -> Result<bool, AllocError> {
-    let unpatched = unpatched(alloc)?;
-    let finished = finished(alloc)?;
-    Ok(match (call, number, left) {
-        (HostCall::OpenSource | HostCall::Create, _, bytes) => bytes.is_none(),
-        (HostCall::Read, 1, bytes) => bytes.is_none(),
-        (HostCall::CloseSink, _, Some(bytes)) => bytes == finished.as_slice(),
-        (_, _, Some(bytes)) => unpatched.starts_with(bytes),
-        (_, _, None) => false,
+    job: &Job,
+    fails: Vec<FailAt>,
+) -> Result<Left, AllocError> {
+    let inner = MemHost::new(alloc, job.inputs.clone()?, fails)?;
+    let mut host = CountingHost::new(alloc, inner);
+    let mut log = log_of(alloc, Vec::new(alloc))?;
+    let report = ffmpeg(rt, alloc, &job.words, &mut host, &mut log);
+    Ok(Left {
+        host,
+        status: report.status,
+        log: log.bytes().to_vec(alloc)?,
     })
 }
 
-// A host with the input, whose call of this kind and number under this name is planned to fail.
-fn failing_host(
-    alloc: Global,
-    name: &str,
-    call: HostCall,
-    number: u32,
-) -> Result<MemHost, AllocError> {
-    let mut files = Vec::new(alloc);
-    files.push((String::from_str(alloc, "in.wav")?, finished(alloc)?))?;
-    let mut fails = Vec::new(alloc);
-    let name = String::from_str(alloc, name)?;
-    fails.push(FailAt { name, call, number })?;
-    MemHost::new(alloc, files, fails)
-}
-
-// Whether the run met its planned failure, and whether all that it came to is right.
+// Whether a run came to the call that was planned to fail, and whether all that the run came to is right.
 fn run_failing<R: Threads + Wait + Sync>(
     rt: &R,
     alloc: Global,
+    job: &Job,
     name: &str,
     call: HostCall,
     number: u32,
 ) -> Result<(bool, bool), AllocError> {
-    let mut host = failing_host(alloc, name, call, number)?;
-    let mut log = log_of(alloc, Vec::new(alloc))?;
-    let report = run(rt, alloc, &COPY, &mut host, &mut log)?;
-    let left = host.file("out.wav");
-    let told = format!(in alloc; "ffmpeg: device fault on {name}\n")?;
-    let is_told = log.bytes() == told.as_bytes();
-    Ok(match report.status {
-        Status::Fine => (false, left == Some(finished(alloc)?.as_slice())),
-        Status::Device {
-            file: FileRef::Input(0),
-        } => {
-            let is_right = (name == "in.wav") & is_told & (host.in_faults(name) == 1);
-            (true, is_right & is_left_well(alloc, left, call, number)?)
-        }
-        Status::Device {
-            file: FileRef::Output(0),
-        } => {
-            let is_right = (name == "out.wav") & is_told & (host.out_faults(name) == 1);
-            (true, is_right & is_left_well(alloc, left, call, number)?)
-        }
-        _ => (true, false),
-    })
+    let mut fails = Vec::new(alloc);
+    let own_name = String::from_str(alloc, name)?;
+    fails.push(FailAt {
+        name: own_name,
+        call,
+        number,
+    })?;
+    let left = left_by(rt, alloc, job, fails)?;
+    let is_met = left.host.calls(name, call) >= number;
+    let is_right = if is_met {
+        left.tells(alloc, job, name)? & job.is_left_well(left.output(job), call, number)
+    } else {
+        left.is_done(job)
+    };
+    Ok((is_met, is_right & left.keeps_the_rest(job)))
 }
 
-// How many calls of this kind a run makes under this name, if whichever of them fails all comes to what is right.
-fn calls<R: Threads + Wait + Sync>(
+// In how many of these runs the call came that was planned to fail, where that is this one of so many calls of a kind; none where what
+// one of the runs came to isn't right.
+fn failures<R: Threads + Wait + Sync>(
     rt: &R,
     alloc: Global,
+    job: &Job,
     name: &str,
     call: HostCall,
+    calls: u32,
 ) -> Result<Option<u32>, AllocError> {
-    for number in 1..MANY {
-        match run_failing(rt, alloc, name, call, number)? {
-            (true, true) => {}
-            (false, true) => return Ok(Some(number - 1)),
+    let mut failures = 0u32;
+    for number in 1..=calls {
+        match run_failing(rt, alloc, job, name, call, number)? {
+            (true, true) => failures = failures.saturating_add(1),
+            (false, true) => {}
             (_, false) => return Ok(None),
         }
     }
-    Ok(None)
+    Ok(Some(failures))
 }
 
-// The input is opened once, read for its head and then for the rest, and nothing is written under its name.
-#[test]
-fn each_call_of_an_input(rt: HostRuntime) -> Result<(), AllocError> {
-    let alloc = rt.alloc();
-    assert_eq!(rt; calls(&rt, alloc, "in.wav", HostCall::OpenSource)?, Some(1));
-    assert!(rt; calls(&rt, alloc, "in.wav", HostCall::Read)? >= Some(2));
-    for call in [
-        HostCall::Create,
-        HostCall::Append,
-        HostCall::Patch,
-        HostCall::CloseSink,
-    ] {
-        assert_eq!(rt; calls(&rt, alloc, "in.wav", call)?, Some(0));
+// How many calls of a kind are due.
+fn number_due(due: &[(HostCall, u32)], call: HostCall) -> u32 {
+    for (kind, number) in due {
+        if *kind == call {
+            return *number;
+        }
     }
-    Ok(())
+    0
 }
 
-// The output is created once, gets its header and 24 packets, has its sizes put right once and is closed once.
-#[test]
-fn each_call_of_an_output(rt: HostRuntime) -> Result<(), AllocError> {
-    let alloc = rt.alloc();
-    assert_eq!(rt; calls(&rt, alloc, "out.wav", HostCall::Create)?, Some(1));
-    assert_eq!(rt; calls(&rt, alloc, "out.wav", HostCall::Append)?, Some(25));
-    assert_eq!(rt; calls(&rt, alloc, "out.wav", HostCall::Patch)?, Some(1));
-    assert_eq!(rt; calls(&rt, alloc, "out.wav", HostCall::CloseSink)?, Some(1));
-    for call in [HostCall::OpenSource, HostCall::Read] {
-        assert_eq!(rt; calls(&rt, alloc, "out.wav", call)?, Some(0));
+/// Whether a run in which nothing fails makes these calls under a name, and no others but further reads, of which there may be more in
+/// one run than in another; and whether all comes to what is right in each of as many further runs, in which one of these calls fails.
+pub fn fails_well<R: Threads + Wait + Sync>(
+    rt: &R,
+    alloc: Global,
+    job: &Job,
+    name: &str,
+    due: &[(HostCall, u32)],
+) -> Result<bool, AllocError> {
+    let whole = left_by(rt, alloc, job, Vec::new(alloc))?;
+    let mut is_well = whole.is_done(job) & whole.keeps_the_rest(job);
+    for call in KINDS {
+        let number = number_due(due, call);
+        let failures = failures(rt, alloc, job, name, call, whole.host.calls(name, call))?;
+        let has_more = (call == HostCall::Read) & (failures > Some(number));
+        is_well = is_well & (has_more | (failures == Some(number)));
     }
-    Ok(())
+    Ok(is_well)
 }

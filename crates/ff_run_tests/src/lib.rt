@@ -4,9 +4,15 @@
 #![tactic(auto)]
 
 #[cfg(test)]
+mod counting_host;
+#[cfg(test)]
 mod demuxers;
 #[cfg(test)]
 mod failing;
+#[cfg(test)]
+mod failing_copy;
+#[cfg(test)]
+mod failing_shortest;
 #[cfg(test)]
 mod gate;
 #[cfg(test)]
