@@ -106,6 +106,15 @@ codings_floor order us finest bits e a h =
     (subst (λ l. AllByRecursion P (codings_by l 0)) (sym e) (by_floor order us finest bits 0 0 (finest + 1) (omega arith) a h))
     (subst (λ l. AllByRecursion P (codings_by l 1)) (sym e) (by_floor order us finest bits 1 0 (finest + 1) (omega arith) a h))
 
+-- as `codings_floor`, where the number of values is known otherwise
+pub codings_floor_of : (order : ℕ) (us : List ℕ) (count finest bits : ℕ) → length us ≡ count → orders (count + order) order ≡ range_with_len 0 (finest + 1) → is_allowed (count + order) order finest ≡ true
+    → bits ≤ sum_by fewest (parts_of order finest us) → AllByRecursion (λ c. 10 + bits ≤ coding_cost order us c) (codings (count + order) order)
+codings_floor_of order us count finest bits n e a h =
+    subst (λ n. AllByRecursion (λ c. 10 + bits ≤ coding_cost order us c) (codings (n + order) order)) n
+    (codings_floor order us finest bits
+    (ap (λ n. orders (n + order) order) n ∙ e)
+    (ap (λ n. is_allowed (n + order) order finest) n ∙ a) h)
+
 -- ---- the sum over the partitions so far
 
 pub one_fewest : (bits : ℕ) (part : List ℕ) → ((k : ℕ) → k < 31 → bits ≤ part_cost 0 k part) → bits ≤ sum_by fewest (part ∷ [])
