@@ -1,16 +1,22 @@
-use Rattle.std.proofs.Common.{◌≡◌, ℕ, zero, suc, ◌+◌, ◌-◌, ◌*◌, ◌/◌, ◌%◌, ◌^◌, ◌<◌, ◌≤◌, true, List, [], ◌∷◌, ◌++◌, length, refl, sym, ap, ◌∙◌, subst, arith}
+use Rattle.std.proofs.Common.{◌≡◌, ℕ, ℤ, zero, suc, ◌+◌, ◌-◌, ◌*◌, ◌/◌, ◌%◌, ◌^◌, ◌<◌, ◌≤◌, true, inl, inr}
+use Rattle.std.proofs.Common.{List, [], ◌∷◌, ◌++◌, length, take, drop, map, refl, sym, ap, ◌∙◌, subst, arith}
+use Rattle.std.specs.Int.Count.{count_leading_zeros}
 use Rattle.std.specs.Option.{IfSome}
-use Rattle.std.specs.List.{range_with_len, AllByRecursion, sum_by}
-use Rattle.std.proofs.lemmas.List.{length-append}
+use Rattle.std.specs.List.{range_with_len, All, AllByRecursion, sum_by}
+use Rattle.std.proofs.lemmas.Bool.{cases_lt}
+use Rattle.std.proofs.lemmas.List.{length-append, length-take, length-drop, length-map, take-map, drop-map}
+use Rattle.std.proofs.lemmas.List.Elements.{All-same, All-drop}
 use Rattle.std.proofs.lemmas.List.Sums.{sum_by-cons, sum_by-append}
-use Rattle.std.proofs.lemmas.Nat.{pow_pos}
-use Rattle.std.proofs.Math.Nat.{pow-suc}
-use Rattle.ff_flac_rice.specs.Rice.{is_allowed, orders, part_cost, best_k, best_cost, best_at, codings, codings_by, codings_at, parts_of, Coding}
+use Rattle.std.proofs.lemmas.Nat.{pow_pos, pow-add, shr_split, mod_below, div_below, mul-le, leading_top}
+use Rattle.std.proofs.Math.Nat.{pow-suc, mul-le-mul_left, pow-le-pow_right}
+use Rattle.ff_flac_rice.specs.Rice.{zigzagged, is_allowed, orders, quotients, part_cost, best_k, best_cost, best_at, parts_of, pieces}
+use Rattle.ff_flac_rice.specs.Rice.{codings, codings_by, codings_at, Coding}
 use Rattle.ff_flac_rice.specs.Row.{lowest}
 use Rattle.ff_flac_rice.proofs.LeastLemmas.{least_is_lowest}
 use Rattle.ff_flac_rice.proofs.Costs.{least-codings_at, length-parts_of}
-use Rattle.ff_flac_rice.proofs.RowLemmas.{best_k_within, count_within, pair_parts, pair_parts-parts_of}
-use Rattle.ff_flac_rice.proofs.SpanLemmas.{lowest-is}
+use Rattle.ff_flac_rice.proofs.RowLemmas.{best_k_within, count_within, pair_parts, pair_parts-parts_of, pieces-suc, parts_of-is}
+use Rattle.ff_flac_rice.proofs.RowLemmas.{rest_len, Front, front_start, front_step, front_end}
+use Rattle.ff_flac_rice.proofs.SpanLemmas.{lowest-is, le_of}
 use Rattle.ff_flac_rice.proofs.Orders.{allowed_parts, allowed_below}
 use Rattle.ff_flac_rice.proofs.Levels.{coding_cost, cost_is, codings_by-cons, codings_by-nil}
 
@@ -19,7 +25,7 @@ use Rattle.ff_flac_rice.proofs.Levels.{coding_cost, cost_is, codings_by-cons, co
 abbrev pub fewest : List ℕ → ℕ
 fewest part = lowest (λ k. part_cost 0 k part) 0 30
 
-pub fewest_from : (bits : ℕ) (part : List ℕ) → ((k : ℕ) → k < 31 → bits ≤ part_cost 0 k part) → bits ≤ fewest part
+fewest_from : (bits : ℕ) (part : List ℕ) → ((k : ℕ) → k < 31 → bits ≤ part_cost 0 k part) → bits ≤ fewest part
 fewest_from bits part h =
     let found = lowest-is (λ k. part_cost 0 k part) 0 30 in
     omega (arith, h found.at (omega (arith, found.within)), found.is)
@@ -97,7 +103,8 @@ by_floor order us finest bits method from (suc count) within a h =
     (at_floor order us finest bits method from (omega (arith, within)) a h)
     (by_floor order us finest bits method (from + 1) count (omega (arith, within)) a h))
 
-pub codings_floor : (order : ℕ) (us : List ℕ) (finest bits : ℕ) → orders (length us + order) order ≡ range_with_len 0 (finest + 1) → is_allowed (length us + order) order finest ≡ true
+codings_floor : (order : ℕ) (us : List ℕ) (finest bits : ℕ)
+    → orders (length us + order) order ≡ range_with_len 0 (finest + 1) → is_allowed (length us + order) order finest ≡ true
     → bits ≤ sum_by fewest (parts_of order finest us) → AllByRecursion (λ c. 10 + bits ≤ coding_cost order us c) (codings (length us + order) order)
 unfolding codings
 codings_floor order us finest bits e a h =
@@ -107,7 +114,8 @@ codings_floor order us finest bits e a h =
     (subst (λ l. AllByRecursion P (codings_by l 1)) (sym e) (by_floor order us finest bits 1 0 (finest + 1) (omega arith) a h))
 
 -- as `codings_floor`, where the number of values is known otherwise
-pub codings_floor_of : (order : ℕ) (us : List ℕ) (count finest bits : ℕ) → length us ≡ count → orders (count + order) order ≡ range_with_len 0 (finest + 1) → is_allowed (count + order) order finest ≡ true
+codings_floor_of : (order : ℕ) (us : List ℕ) (count finest bits : ℕ) → length us ≡ count
+    → orders (count + order) order ≡ range_with_len 0 (finest + 1) → is_allowed (count + order) order finest ≡ true
     → bits ≤ sum_by fewest (parts_of order finest us) → AllByRecursion (λ c. 10 + bits ≤ coding_cost order us c) (codings (count + order) order)
 codings_floor_of order us count finest bits n e a h =
     subst (λ n. AllByRecursion (λ c. 10 + bits ≤ coding_cost order us c) (codings (n + order) order)) n
@@ -117,10 +125,181 @@ codings_floor_of order us count finest bits n e a h =
 
 -- ---- the sum over the partitions so far
 
-pub one_fewest : (bits : ℕ) (part : List ℕ) → ((k : ℕ) → k < 31 → bits ≤ part_cost 0 k part) → bits ≤ sum_by fewest (part ∷ [])
+one_fewest : (bits : ℕ) (part : List ℕ) → ((k : ℕ) → k < 31 → bits ≤ part_cost 0 k part) → bits ≤ sum_by fewest (part ∷ [])
 one_fewest bits part h = omega (arith, sum_by-cons fewest part [], fewest_from bits part h)
 
-pub more_fewest : (bits more new : ℕ) (part : List ℕ) → new ≡ bits + more → ((k : ℕ) → k < 31 → more ≤ part_cost 0 k part)
-    → (parts : List (List ℕ)) → bits ≤ sum_by fewest parts → new ≤ sum_by fewest (parts ++ (part ∷ []))
-more_fewest bits more new part e h parts l =
-    omega (arith, e, l, sum_by-append fewest parts (part ∷ []), one_fewest more part h)
+more_fewest : (bits more : ℕ) (part : List ℕ) → ((k : ℕ) → k < 31 → more ≤ part_cost 0 k part)
+    → (parts : List (List ℕ)) → bits ≤ sum_by fewest parts → bits + more ≤ sum_by fewest (parts ++ (part ∷ []))
+more_fewest bits more part h parts l =
+    omega (arith, l, sum_by-append fewest parts (part ∷ []), one_fewest more part h)
+
+-- each value has at least one bit
+each_bit : (part : List ℕ) (k : ℕ) → length part ≤ part_cost 0 k part
+each_bit part k = omega arith
+
+pieces_bits : (count size : ℕ) (us : List ℕ) → length us ≡ count * size → length us ≤ sum_by fewest (pieces count size us)
+pieces_bits zero size us e = omega (arith, e)
+pieces_bits (suc count) size us e =
+    let part : List ℕ = take size us in
+    let rest : List ℕ = drop size us in
+    let len : length rest ≡ count * size = omega (arith, length-drop size us, e) in
+    omega (
+      arith,
+      ap (sum_by fewest) (pieces-suc count size us),
+      sum_by-cons fewest part (pieces count size rest),
+      length-take size us,
+      length-drop size us,
+      e,
+      fewest_from (length part) part (λ k h. each_bit part k),
+      pieces_bits count size rest len,
+    )
+
+parts_bits : (order p : ℕ) (us : List ℕ) → is_allowed (length us + order) order p ≡ true → length us ≤ sum_by fewest (parts_of order p us)
+parts_bits order p us a =
+    let n : ℕ = length us + order in
+    let size : ℕ = n / 2 ^ p in
+    let allowed = allowed_parts n order p a in
+    let whole : size * 2 ^ p ≡ n = omega (arith, shr_split n p, allowed.0) in
+    let part : List ℕ = take (size - order) us in
+    let rest : List ℕ = drop (size - order) us in
+    let len : length rest ≡ (2 ^ p - 1) * size =
+    length-drop (size - order) us ∙ rest_len (length us) order size (2 ^ p - 1) (2 ^ p) (omega (arith, pow_pos p)) whole allowed.1 in
+    omega (
+      arith,
+      ap (sum_by fewest) (parts_of-is order p us size refl),
+      sum_by-cons fewest part (pieces (2 ^ p - 1) size rest),
+      length-take (size - order) us,
+      length-drop (size - order) us,
+      fewest_from (length part) part (λ k h. each_bit part k),
+      pieces_bits (2 ^ p - 1) size rest len,
+    )
+
+-- ---- a floor of sixteen by their sum
+
+short : (k : ℕ) (us : List ℕ) → quotients 0 us + length us ≤ 2 ^ k * (quotients k us + length us)
+short k [] = omega arith
+short k (u ∷ us) =
+    let P : ℕ = 2 ^ k in
+    let whole : u / 2 ^ 0 ≡ u = omega arith in
+    let split : u / P * P + u % P ≡ u = shr_split u k in
+    let low : u % P < P = mod_below u P (pow_pos k) in
+    let a : P * (quotients k (u ∷ us) + length (u ∷ us)) ≡ P * (u / P) + P + P * (quotients k us + length us) =
+    ap (λ n. P * (n + length (u ∷ us))) (sum_by-cons (λ u. u / 2 ^ k) u us) ∙ omega arith in
+    let s : quotients 0 (u ∷ us) ≡ u / 2 ^ 0 + quotients 0 us = sum_by-cons (λ u. u / 2 ^ 0) u us in
+    omega (arith, a, s, whole, split, low, short k us)
+
+more_than : (j : ℕ) → j + 1 ≤ 2 ^ j
+more_than zero = omega arith
+more_than (suc j) = omega (arith, more_than j, pow-suc 2 j)
+
+-- a parameter above the one for which the sum's quotient is below 32 costs more, and one below costs no less
+floor_by_total : (us : List ℕ) (total at : ℕ) → length us ≡ 16 → total ≡ quotients 0 us + 16 → 16 * 2 ^ at ≤ total → total < 32 * 2 ^ at
+    → (k : ℕ) → 16 * at + total / 2 ^ at ≤ part_cost 0 k us
+floor_by_total us total at n t low high k =
+    let x : ℕ = total / 2 ^ at in
+    let q : ℕ = quotients k us in
+    let cost : part_cost 0 k us ≡ 16 * (k + 1) + q = omega (arith, ap (λ m. m * (k + 1)) n) in
+    let below : x < 32 = div_below total (2 ^ at) 32 (pow_pos at) high in
+    let split : x * 2 ^ at + total % 2 ^ at ≡ total = shr_split total at in
+    let from : 16 ≤ x = elim (cases_lt x 16) [
+      | inl less ↦
+          let next : (x + 1) * 2 ^ at ≤ 16 * 2 ^ at = mul-le (x + 1) (2 ^ at) 16 (2 ^ at) (omega (arith, less)) (omega arith) in
+          absurd (omega (arith, next, split, low, mod_below total (2 ^ at) (pow_pos at)))
+      | inr not_less ↦ not_less
+    ] in
+    elim (cases_lt at k) [
+      | inl above ↦ omega (arith, cost, below, above)
+      | inr under ↦
+          let j : ℕ = at - k in
+          let reach : j + k ≡ at = omega (arith, under) in
+          let power : 2 ^ at ≡ 2 ^ j * 2 ^ k = ap (λ m. 2 ^ m) (sym reach) ∙ pow-add 2 j k in
+          let scaled : x * 2 ^ at ≡ 2 ^ k * (x * 2 ^ j) = ap (λ m. x * m) power ∙ omega arith in
+          let enough : total ≤ 2 ^ k * (q + 16) = omega (arith, short k us, t, n, ap (λ m. 2 ^ k * (q + m)) n) in
+          let most : x * 2 ^ j ≤ q + 16 = le_of k (x * 2 ^ j) (q + 16) (omega (arith, scaled, split, enough)) in
+          let twice : x * (j + 1) ≤ x * 2 ^ j = mul-le-mul_left x (more_than j) in
+          let sixteen : 16 * j ≤ x * j = mul-le 16 j x j from (omega arith) in
+          omega (arith, cost, most, twice, sixteen, reach)
+    ]
+
+-- the parameter by the leading zeros of the sum
+pub record Near (total zeros : ℕ) : Type 0 where
+  pub within : zeros ≤ 27
+  pub low : 16 * 2 ^ (27 - zeros) ≤ total
+  pub high : total < 32 * 2 ^ (27 - zeros)
+
+pub near : (total : ℕ) → 16 ≤ total → total < 2 ^ 32 → Near total (count_leading_zeros 32 total)
+near total some few =
+    let z : ℕ = count_leading_zeros 32 total in
+    let found = leading_top 32 total (omega (arith, some)) few in
+    let j : ℕ = found.0 in
+    let within : z ≤ 27 = elim (cases_lt j 4) [
+      | inl lt ↦
+          let up : suc j ≤ 4 = omega (arith, lt) in
+          let small : 2 ^ suc j ≤ 2 ^ 4 = pow-le-pow_right (omega arith) up in
+          absurd (omega (arith, small, found.3, some))
+      | inr ge ↦ omega (arith, ge, found.1)
+    ] in
+    let e : (27 - z) + 4 ≡ j = omega (arith, within, found.1) in
+    let power : 2 ^ j ≡ 16 * 2 ^ (27 - z) = ap (λ m. 2 ^ m) (sym e) ∙ pow-add 2 (27 - z) 4 ∙ omega arith in
+    record { within = within; low = omega (arith, power, found.2); high = omega (arith, power, found.3, pow-suc 2 j) }
+
+zigzags_total : (xs : List ℤ) → sum_by zigzagged xs ≡ quotients 0 (map zigzagged xs)
+zigzags_total [] = refl
+zigzags_total (x ∷ xs) =
+    let whole : zigzagged x / 2 ^ 0 ≡ zigzagged x = omega arith in
+    omega (arith, sum_by-cons zigzagged x xs, sum_by-cons (λ u. u / 2 ^ 0) (zigzagged x) (map zigzagged xs), zigzags_total xs, whole)
+
+pub sixteen_below : (xs : List ℤ) (total zeros : ℕ) → length xs ≡ 16 → total ≡ sum_by zigzagged xs → Near (total + 16) zeros
+    → (k : ℕ) → k < 31 → 16 * (27 - zeros) + (total + 16) / 2 ^ (27 - zeros) ≤ part_cost 0 k (map zigzagged xs)
+sixteen_below xs total zeros n t at k h =
+    floor_by_total (map zigzagged xs) (total + 16) (27 - zeros) (length-map xs zigzagged ∙ n) (omega (arith, t, zigzags_total xs)) at.low at.high k
+
+pub sixteen_small : (total zeros : ℕ) → Near total zeros → 16 * (27 - zeros) + total / 2 ^ (27 - zeros) ≤ 2 ^ 10
+sixteen_small total zeros at =
+    omega (arith, div_below total (2 ^ (27 - zeros)) 32 (pow_pos (27 - zeros)) at.high)
+
+-- ---- the loop
+
+abbrev pub Floor : ℕ → ℕ → List ℤ → List (List ℕ) → Type 0
+Floor bits left rest parts = Front (λ done. bits ≤ sum_by fewest done) left 16 (map zigzagged rest) parts
+
+pub floor_start : (order p : ℕ) (xs first rest : List ℤ) → (length xs + order) / 2 ^ p ≡ 16 → first ≡ take (16 - order) xs → rest ≡ drop (16 - order) xs
+    → Floor (length first) (2 ^ p - 1) rest (parts_of order p (map zigzagged xs))
+floor_start order p xs first rest e f r =
+    let us : List ℕ = map zigzagged xs in
+    let size : (length us + order) / 2 ^ p ≡ 16 = ap (λ n. (n + order) / 2 ^ p) (length-map xs zigzagged) ∙ e in
+    let P : List (List ℕ) → Type 0 = λ done. length first ≤ sum_by fewest done in
+    let bits : (k : ℕ) → k < 31 → length first ≤ part_cost 0 k (map zigzagged first) =
+    λ k h. omega (arith, each_bit (map zigzagged first) k, length-map first zigzagged) in
+    subst (λ s. Front P (2 ^ p - 1) s (map zigzagged rest) (parts_of order p us)) size
+    (front_start P order p us (map zigzagged first) (map zigzagged rest)
+    (ap (map zigzagged) f ∙ sym (take-map zigzagged (16 - order) xs) ∙ ap (λ s. take (s - order) us) (sym size))
+    (ap (map zigzagged) r ∙ sym (drop-map zigzagged (16 - order) xs) ∙ ap (λ s. drop (s - order) us) (sym size))
+    (one_fewest (length first) (map zigzagged first) bits))
+
+pub floor_step : (bits more left m : ℕ) (rest part after : List ℤ) (parts : List (List ℕ)) → left ≡ suc m → part ≡ take 16 rest → after ≡ drop 16 rest
+    → ((k : ℕ) → k < 31 → more ≤ part_cost 0 k (map zigzagged part)) → Floor bits left rest parts → Floor (bits + more) m after parts
+floor_step bits more left m rest part after parts e p a below h =
+    front_step (λ done. bits ≤ sum_by fewest done) (λ done. bits + more ≤ sum_by fewest done) 16 left m
+    (map zigzagged rest) (map zigzagged part) (map zigzagged after) parts e
+    (ap (map zigzagged) p ∙ sym (take-map zigzagged 16 rest)) (ap (map zigzagged) a ∙ sym (drop-map zigzagged 16 rest))
+    (more_fewest bits more (map zigzagged part) below) h
+
+pub rest_most : (most n : ℕ) (xs after : List ℤ) → after ≡ drop n xs → All (λ x. zigzagged x ≤ most) xs → All (λ x. zigzagged x ≤ most) after
+rest_most most n xs after e h = All-same (λ x. zigzagged x ≤ most) after (drop n xs) e (All-drop (λ x. zigzagged x ≤ most) n xs h)
+
+pub floor_end : (order finest bits left : ℕ) (xs rest : List ℤ)
+    → orders (length xs + order) order ≡ range_with_len 0 (finest + 1) → is_allowed (length xs + order) order finest ≡ true
+    → left ≡ 0 → Floor bits left rest (parts_of order finest (map zigzagged xs))
+    → AllByRecursion (λ c. 10 + bits ≤ coding_cost order (map zigzagged xs) c) (codings (length xs + order) order)
+floor_end order finest bits left xs rest e a none h =
+    codings_floor_of order (map zigzagged xs) (length xs) finest bits (length-map xs zigzagged) e a
+    (front_end (λ done. bits ≤ sum_by fewest done) 16 left (map zigzagged rest) (parts_of order finest (map zigzagged xs)) none h)
+
+pub values_end : (order finest : ℕ) (xs : List ℤ) → orders (length xs + order) order ≡ range_with_len 0 (finest + 1) → is_allowed (length xs + order) order finest ≡ true
+    → AllByRecursion (λ c. 10 + length xs ≤ coding_cost order (map zigzagged xs) c) (codings (length xs + order) order)
+values_end order finest xs e a =
+    let us : List ℕ = map zigzagged xs in
+    let len : length us ≡ length xs = length-map xs zigzagged in
+    codings_floor_of order us (length xs) finest (length xs) len e a
+    (omega (arith, len, parts_bits order finest us (ap (λ n. is_allowed (n + order) order finest) len ∙ a)))

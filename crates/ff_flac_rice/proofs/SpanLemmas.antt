@@ -59,7 +59,7 @@ all_down k (u ∷ us) =
     omega (arith, a, b, s, whole, each_down k u, all_down k us)
 
 -- a factor is taken away
-le_of : (k a b : ℕ) → 2 ^ k * a ≤ 2 ^ k * b → a ≤ b
+pub le_of : (k a b : ℕ) → 2 ^ k * a ≤ 2 ^ k * b → a ≤ b
 le_of k a b h = elim (cases_lt b a) [
   | inl lt ↦
       let more : 2 ^ k * (b + 1) ≤ 2 ^ k * a = mul-le-mul_left (2 ^ k) (omega (arith, lt)) in
@@ -193,27 +193,6 @@ best_by_ends method b part within before behind =
     let f : ℕ → ℕ = λ k. part_cost (4 + method) k part in
     sym (least_is f (range_with_len 0 (count_of method)) 0 b
     (first_is_least f b (count_of method) within (λ j l. omega (arith, before j l)) (λ j g l. omega (arith, behind j g l))))
-
--- so nothing under another parameter has fewer bits than the lowest in the span
-pub spanned_below : (low high cost : ℕ) (g : ℕ → ℕ) (part : List ℕ) → IsSpan low high → IsLowEnd low (length part) (quotients 0 part) → IsHighEnd high (length part) (quotients 0 part)
-    → ((k : ℕ) → low ≤ k → k < high → g k ≡ part_cost 0 k part) → cost ≡ lowest g low (high - 1 - low) → (j : ℕ) → j < 31 → cost ≤ part_cost 0 j part
-spanned_below low high cost g part span below above same e j h =
-    let f : ℕ → ℕ = λ k. part_cost 0 k part in
-    let some_left : low < high = span.some_parameter in
-    let found = lowest-is g low (high - 1 - low) in
-    let at_low : cost ≤ f low = omega (arith, e, found.below low (omega arith) (omega arith), same low (omega arith) some_left) in
-    let at_top : cost ≤ f (high - 1) = omega (arith, e, found.below (high - 1) (omega (arith, some_left)) (omega (arith, some_left)), same (high - 1) (omega (arith, some_left)) (omega (arith, some_left))) in
-    elim (cases_lt j low) [
-      | inl lt ↦ omega (arith, at_low, falls_to f low (low - j) j (λ k l. step_down k part (below k l)) (omega (arith, lt)))
-      | inr ge ↦ elim (cases_lt j high) [
-        | inl inside ↦ omega (arith, e, found.below j ge (omega (arith, inside, ge)), same j ge inside)
-        | inr over ↦
-            let from : ℕ = high - 1 in
-            let reach : from + (j - from) ≡ j = omega (arith, over) in
-            let rise : f from ≤ f (from + (j - from)) = rises_from f from (j - from) (λ k l last. step_up k part (above k (omega (arith, l, some_left)) last)) (omega (arith, reach, h)) in
-            omega (arith, at_top, rise, ap f reach)
-      ]
-    ]
 
 -- where the best one in the span, or anywhere, is not at its low end, it is the first of the best
 pub best_in_span : (method low high top b : ℕ) (part : List ℕ) → IsLowEnd low (length part) (quotients 0 part) → IsHighEnd high (length part) (quotients 0 part)
