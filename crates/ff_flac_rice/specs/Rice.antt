@@ -12,6 +12,10 @@ zigzagged (negsuc n) = 2 * n + 1
 unfoldable pub rice_bits : ℕ → ℕ → List Bool
 rice_bits k u = replicate (u / 2 ^ k) false ++ true ∷ bits_of k u
 
+-- how many these are
+abbrev pub rice_length : ℕ → ℕ → ℕ
+rice_length k u = u / 2 ^ k + (1 + k)
+
 -- a partition: its parameter, and each value under it
 unfoldable pub partition_bits : ℕ → ℕ → List ℕ → List Bool
 partition_bits width k us = bits_of width k ++ flat_map (rice_bits k) us

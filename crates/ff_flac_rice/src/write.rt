@@ -1,7 +1,9 @@
 //! Writing a residual.
 
 ghost use Rattle.std.specs.Prelude.{◌≡◌, ◌+◌, ◌-◌, ◌*◌, ◌/◌, ◌%◌, ◌^◌, ◌<◌, ◌≤◌, ◌++◌, length, OnOk, true, false, replicate};
-ghost use Rattle.ff_flac_rice.specs.Rice.{rice_bits, partition_bits, best_k, is_allowed, residual_bits, best_at};
+ghost use Rattle.std.specs.List.{flat_map};
+ghost use Rattle.ff_bits.specs.Bits.{bits_of};
+ghost use Rattle.ff_flac_rice.specs.Rice.{rice_bits, rice_length, partition_bits, best_k, is_allowed, residual_bits, best_at};
 
 use crate::parameter::best_parameter;
 use ff_bits::BitWriter;
@@ -20,20 +22,120 @@ fn put_zeros(out: &mut BitWriter, count: u64) -> Result<(), AllocError>
     Ok(())
 }
 
+/// How many bits a value has under a parameter.
+fn length_of(k: u32, u: u32) -> u64
+    requires { k < 32 }
+    ensures { result ≡ rice_length k u }
+{
+    (u >> k) as u64 + (1 + k as u64)
+}
+
+/// These bits without the zeros in front.
+fn ending_of(k: u32, u: u32) -> u64
+    requires { k < 32 }
+    ensures { result ≡ 2 ^ k + u % 2 ^ k }
+{
+    let one = 1u64 << k;
+    one + (u as u64) % one
+}
+
 /// Writes a value under a parameter.
 fn put_rice(out: &mut BitWriter, k: u32, u: u32) -> Result<(), AllocError>
     requires { k < 32 }
     ensures { OnOk result (out.new ≡ out.old ++ rice_bits k u) }
 {
-    let zeros = (u >> k) as u64;
-    let one = 1u64 << k;
-    let ending = one + (u as u64) % one;
-    if zeros + k as u64 <= 63 {
-        out.put(ending, zeros as u32 + (1 + k))?;
+    let count = length_of(k, u);
+    if count <= 64 {
+        out.put(ending_of(k, u), count as u32)?;
         return Ok(());
     }
-    put_zeros(out, zeros)?;
-    out.put(ending, 1 + k)?;
+    put_zeros(out, (u >> k) as u64)?;
+    out.put(ending_of(k, u), 1 + k)?;
+    Ok(())
+}
+
+/// The `m` bits of `high`, then the `n` bits of `low`.
+fn joined(high: u64, m: u64, low: u64, n: u64) -> u64
+    requires high { high < 2 ^ m }
+    requires some { 0 < m }
+    requires low { low < 2 ^ n }
+    requires fits { m + n ≤ 64 }
+    ensures below { result < 2 ^ (m + n) }
+    ensures bits { bits_of (m + n) result ≡ bits_of m high ++ bits_of n low }
+{
+    high << n | low
+}
+
+/// The bits of two values under a parameter.
+fn both_of(k: u32, a: u32, b: u32) -> u64
+    requires k { k < 32 }
+    requires fits { rice_length k a + rice_length k b ≤ 64 }
+    ensures below { result < 2 ^ (rice_length k a + rice_length k b) }
+    ensures bits { bits_of (rice_length k a + rice_length k b) result ≡ rice_bits k a ++ rice_bits k b }
+{
+    joined(
+        ending_of(k, a),
+        length_of(k, a),
+        ending_of(k, b),
+        length_of(k, b),
+    )
+}
+
+/// Writes two values under a parameter.
+fn put_two(out: &mut BitWriter, k: u32, a: u32, b: u32) -> Result<(), AllocError>
+    requires { k < 32 }
+    ensures { OnOk result (out.new ≡ out.old ++ rice_bits k a ++ rice_bits k b) }
+{
+    let count = length_of(k, a) + length_of(k, b);
+    if count <= 64 {
+        out.put(both_of(k, a, b), count as u32)?;
+        return Ok(());
+    }
+    put_rice(out, k, a)?;
+    put_rice(out, k, b)?;
+    Ok(())
+}
+
+/// Writes four values under a parameter.
+fn put_four(out: &mut BitWriter, k: u32, a: u32, b: u32, c: u32, d: u32) -> Result<(), AllocError>
+    requires { k < 32 }
+    ensures { OnOk result (out.new ≡ out.old ++ rice_bits k a ++ rice_bits k b ++ rice_bits k c ++ rice_bits k d) }
+{
+    let front = length_of(k, a) + length_of(k, b);
+    let back = length_of(k, c) + length_of(k, d);
+    if front + back <= 64 {
+        let bits = joined(both_of(k, a, b), front, both_of(k, c, d), back);
+        out.put(bits, (front + back) as u32)?;
+        return Ok(());
+    }
+    put_two(out, k, a, b)?;
+    put_two(out, k, c, d)?;
+    Ok(())
+}
+
+/// Writes values under a parameter, one at a time.
+fn put_each(out: &mut BitWriter, k: u32, us: &[u32]) -> Result<(), AllocError>
+    requires { k < 32 }
+    ensures { OnOk result (out.new ≡ out.old ++ flat_map (rice_bits k) us.now) }
+{
+    for u in us {
+        put_rice(out, k, *u)?;
+    }
+    Ok(())
+}
+
+/// Writes values under a parameter.
+fn put_values(out: &mut BitWriter, k: u32, us: &[u32]) -> Result<(), AllocError>
+    requires { k < 32 }
+    ensures { OnOk result (out.new ≡ out.old ++ flat_map (rice_bits k) us.now) }
+{
+    let mut rest = us;
+    while rest.len() >= 4 {
+        let (four, after) = rest.split_at(4);
+        put_four(out, k, four[0], four[1], four[2], four[3])?;
+        rest = after;
+    }
+    put_each(out, k, rest)?;
     Ok(())
 }
 
@@ -45,9 +147,7 @@ fn write_part(out: &mut BitWriter, part: &[u32], method: usize) -> Result<(), Al
 {
     let k = best_parameter(part, method);
     out.put(k as u64, 4 + method as u32)?;
-    for u in part {
-        put_rice(out, k as u32, *u)?;
-    }
+    put_values(out, k as u32, part)?;
     Ok(())
 }
 

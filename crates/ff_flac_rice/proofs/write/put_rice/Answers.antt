@@ -1,30 +1,19 @@
-use Rattle.std.proofs.Common.{◌≡◌, ◌+◌, ◌*◌, ◌/◌, ◌%◌, ◌^◌, ◌++◌, ap, sym, ◌∙◌, append_assoc, arith, replicate, false}
-use Rattle.std.proofs.lemmas.Nat.{one_shl, mod_below, pow_pos}
-use Rattle.ff_bits.specs.Bits.{bits_of}
-use Rattle.ff_flac_rice.proofs.Writing.{rice-is, rice-parts, ending_below}
+use Rattle.std.proofs.Common.{◌≡◌, ◌+◌, ◌%◌, ◌^◌, arith}
+use Rattle.ff_flac_rice.proofs.Writing.{code_below, code_end, long_end, ending_below}
+use Rattle.std.proofs.lemmas.Nat.{mod_below, pow_pos}
 use Rattle.ff_flac_rice.proofs.write.put_rice.Goals as goal
 
 pub put-requires : goal.put-requires
-put-requires c =
-    rw (one_shl c.args.k 64 (omega arith)) (ending_below (c.args.u / 2 ^ c.args.k) c.args.k (c.args.u % 2 ^ c.args.k) (mod_below c.args.u (2 ^ c.args.k) (pow_pos c.args.k)))
+put-requires c = code_below c.args.k c.args.u c.ending_of.result c.length_of-count.result c.ending_of.ensures c.length_of-count.ensures
 
-pub returns-then-zeros-k-le63 : goal.returns-then-zeros-k-le63
-returns-then-zeros-k-le63 c =
-    let e : (1 * 2 ^ c.args.k) % 2 ^ 64 ≡ 2 ^ c.args.k = one_shl c.args.k 64 (omega arith) in
-    c.in_ok-put.ensures.ok
-    ∙ ap (λ p. c.args.out.now ++ bits_of (c.args.u / 2 ^ c.args.k + (1 + c.args.k)) (p + c.args.u % p)) e
-    ∙ ap (λ b. c.args.out.now ++ b) (sym (rice-is c.args.k c.args.u))
+pub returns-then-count-le64 : goal.returns-then-count-le64
+returns-then-count-le64 c =
+    code_end c.args.k c.args.u c.ending_of.result c.length_of-count.result c.args.out.now c.put.new.self c.ending_of.ensures c.length_of-count.ensures c.in_ok-put.ensures.ok
 
 pub put-requires-2 : goal.put-requires-2
 put-requires-2 c =
     let z : 0 + (1 + c.args.k) ≡ 1 + c.args.k = omega arith in
-    rw (one_shl c.args.k 64 (omega arith), ← z) (ending_below 0 c.args.k (c.args.u % 2 ^ c.args.k) (mod_below c.args.u (2 ^ c.args.k) (pow_pos c.args.k)))
+    rw (c.ending_of-2.ensures, ← z) (ending_below 0 c.args.k (c.args.u % 2 ^ c.args.k) (mod_below c.args.u (2 ^ c.args.k) (pow_pos c.args.k)))
 
 pub returns : goal.returns
-returns c =
-    let e : (1 * 2 ^ c.args.k) % 2 ^ 64 ≡ 2 ^ c.args.k = one_shl c.args.k 64 (omega arith) in
-    c.in_ok-put-2.ensures.ok
-    ∙ ap (λ b. b ++ bits_of (1 + c.args.k) ((1 * 2 ^ c.args.k) % 2 ^ 64 + c.args.u % ((1 * 2 ^ c.args.k) % 2 ^ 64))) c.in_ok-put_zeros.ensures
-    ∙ ap (λ p. (c.args.out.now ++ replicate (c.args.u / 2 ^ c.args.k) false) ++ bits_of (1 + c.args.k) (p + c.args.u % p)) e
-    ∙ append_assoc c.args.out.now (replicate (c.args.u / 2 ^ c.args.k) false) (bits_of (1 + c.args.k) (2 ^ c.args.k + c.args.u % 2 ^ c.args.k))
-    ∙ ap (λ b. c.args.out.now ++ b) (sym (rice-parts c.args.k c.args.u))
+returns c = long_end c.args.k c.args.u c.ending_of-2.result c.args.out.now c.put_zeros.new.out c.put-2.new.self c.ending_of-2.ensures c.in_ok-put_zeros.ensures c.in_ok-put-2.ensures.ok

@@ -1,7 +1,0 @@
-use Rattle.std.proofs.Common.{◌≡◌, ◌++◌, ◌<◌, take}
-use Rattle.std.specs.List.{flat_map}
-use Rattle.ff_flac_rice.specs.Rice.{rice_bits}
-use Rattle.ff_flac_rice.proofs.write.write_part.Given as goal
-
-abbrev pub invariant-loop-u : goal.invariant-loop-u
-invariant-loop-u l = record { small : l.k < 31; out : l.out ≡ l.initial.out ++ flat_map (rice_bits l.k) (take l.u-index l.part) }
