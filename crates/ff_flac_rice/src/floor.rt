@@ -16,6 +16,8 @@ fn zigzag_of(x: i32) -> u32
 }
 
 /// The sum of the zigzag numbers of 16 values.
+// Inlined, the loop over the partitions becomes one over lanes that are gathered one by one.
+#[inline(never)]
 fn total_of_16(part: &[i32], most: u32) -> u32
     requires len { length part.now ≡ 16 }
     requires most { All (λ x. zigzagged x ≤ most) part.now }
