@@ -1,18 +1,14 @@
-use Rattle.std.proofs.Common.{◌≡◌, ℕ, suc, ◌+◌, ◌-◌, ◌%◌, ◌^◌, ◌<◌, ◌≤◌, true, List, [], ◌∷◌, ◌++◌, length, Some, refl, sym, ap, ◌∙◌, subst, arith, cond, leb, inl, inr, get_or}
-use Rattle.std.specs.List.{range_with_len, sum_by, All, AllByRecursion}
+use Rattle.std.proofs.Common.{◌≡◌, ℕ, suc, ◌+◌, ◌-◌, ◌<◌, ◌≤◌, true, List, [], ◌∷◌, ◌++◌, length, Some, refl, sym, ap, ◌∙◌, subst, arith, cond, leb, inl, inr}
+use Rattle.std.specs.List.{range_with_len, sum_by, AllByRecursion}
 use Rattle.std.proofs.lemmas.List.{append-nil}
-use Rattle.std.proofs.lemmas.List.Elements.{All-from_get_or}
-use Rattle.std.proofs.Math.Nat.{pow-suc, pow-le-pow_right}
 use Rattle.std.proofs.lemmas.Bool.{leb-true, leb-false, cases_Bool}
-use Rattle.ff_flac_rice.specs.declared.row.Row.{Row}
 use Rattle.ff_flac_rice.specs.declared.coding.Choice.{Choice}
 use Rattle.ff_flac_rice.specs.Least.{choose, least}
 use Rattle.ff_flac_rice.specs.Rice.{is_allowed, orders, residual_bits, codings, codings_by, codings_at, best_at, best_cost, parts_of, Coding}
-use Rattle.ff_flac_rice.specs.Row.{AreRows, pair_rows, RowFits}
 use Rattle.ff_flac_rice.specs.Spans.{Spans}
 use Rattle.ff_flac_rice.proofs.LeastLemmas.{least-append, choose_first, choose_second}
-use Rattle.ff_flac_rice.proofs.Costs.{least-codings_at, length-best_at, length-parts_of}
-use Rattle.ff_flac_rice.proofs.RowLemmas.{rows_fit, rows_length, pair_rows-are, pair_parts-parts_of}
+use Rattle.ff_flac_rice.proofs.Costs.{least-codings_at, length-best_at}
+use Rattle.ff_flac_rice.proofs.RowLemmas.{pair_parts-parts_of}
 use Rattle.ff_flac_rice.proofs.SpanLemmas.{spans_pairs}
 use Rattle.ff_flac_rice.proofs.Orders.{allowed_parts}
 
@@ -118,39 +114,7 @@ both_second order us p first second e f g lt =
     best_of_both order us p first second e f g
     ∙ choose_second (coding_cost order us) _ _ (omega (arith, cost_is order us 0 first.partition_order first.cost f.cost, cost_is order us 1 second.partition_order second.cost g.cost, lt))
 
--- ---- what the rows of a level are like
-
-pub same_rows : (low high : ℕ) (rows others : List Row) (parts : List (List ℕ)) → rows ≡ others → AreRows low high others parts → AreRows low high rows parts
-same_rows low high rows others parts e h = subst (λ l. AreRows low high l parts) (sym e) h
-
-pub rows_fit_here : (low high order partition_order : ℕ) (us : List ℕ) (rows : List Row) → AreRows low high rows (parts_of order partition_order us) → length us ≤ 2 ^ 15
-    → ((i : ℕ) → get_or us i 0 < 2 ^ 32) → All RowFits rows
-rows_fit_here low high order partition_order us rows are l h =
-    rows_fit low high order partition_order us rows (omega (arith, l)) (All-from_get_or (λ u. u < 2 ^ 32) us 0 (λ i _. h i)) are
-
-pub rows_count : (low high order partition_order : ℕ) (us : List ℕ) (rows : List Row) → AreRows low high rows (parts_of order partition_order us) → length rows ≡ 2 ^ partition_order
-rows_count low high order partition_order us rows are = rows_length low high rows (parts_of order partition_order us) are ∙ length-parts_of order partition_order us
-
-pow_le : (i j : ℕ) → i ≤ j → 2 ^ i ≤ 2 ^ j
-pow_le i j h = pow-le-pow_right (omega arith) h
-
-pub rows_few : (low high order partition_order : ℕ) (us : List ℕ) (rows : List Row) → AreRows low high rows (parts_of order partition_order us) → partition_order ≤ 8 → length rows ≤ 256
-rows_few low high order partition_order us rows are h = omega (arith, rows_count low high order partition_order us rows are, pow_le partition_order 8 h)
-
-pub rows_even : (low high order partition_order : ℕ) (us : List ℕ) (rows : List Row) → AreRows low high rows (parts_of order (suc partition_order) us) → length rows % 2 ≡ 0
-rows_even low high order partition_order us rows are = omega (arith, rows_count low high order (suc partition_order) us rows are, pow-suc 2 partition_order)
-
-rows_next : (low high order partition_order : ℕ) (us : List ℕ) (rows new : List Row) → high ≤ 31 → is_allowed (length us + order) order (suc partition_order) ≡ true
-    → AreRows low high rows (parts_of order (suc partition_order) us) → new ≡ pair_rows rows → AreRows low high new (parts_of order partition_order us)
-rows_next low high order partition_order us rows new last a are h =
-    let p = allowed_parts (length us + order) order (suc partition_order) a in
-    subst (λ l. AreRows low high l (parts_of order partition_order us)) (sym h)
-    (subst (AreRows low high (pair_rows rows)) (pair_parts-parts_of order partition_order us p.0 p.1) (pair_rows-are low high rows (parts_of order (suc partition_order) us) last are))
-
-pub rows_after : (low high order partition_order p : ℕ) (us : List ℕ) (rows new : List Row) → high ≤ 31 → partition_order ≡ suc p → is_allowed (length us + order) order partition_order ≡ true
-    → AreRows low high rows (parts_of order partition_order us) → new ≡ pair_rows rows → AreRows low high new (parts_of order p us)
-rows_after low high order partition_order p us rows new last e a are h =
-    rows_next low high order p us rows new last (subst (λ m. is_allowed (length us + order) order m ≡ true) e a) (subst (λ m. AreRows low high rows (parts_of order m us)) e are) h
+-- ---- one level and the next
 
 spans_next : (low high order partition_order : ℕ) (us : List ℕ) → is_allowed (length us + order) order (suc partition_order) ≡ true
     → AllByRecursion (Spans low high) (parts_of order (suc partition_order) us) → AllByRecursion (Spans low high) (parts_of order partition_order us)

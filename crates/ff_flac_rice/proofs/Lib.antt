@@ -3,6 +3,7 @@ pub mod Costs
 pub mod Sums
 pub mod RowLemmas
 pub mod SpanLemmas
+pub mod ColumnLemmas
 pub mod Orders
 pub mod Levels
 pub mod Floors

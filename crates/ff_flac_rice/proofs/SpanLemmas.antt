@@ -1,18 +1,17 @@
 use Rattle.std.proofs.Common.{◌≡◌, ℕ, zero, suc, ◌+◌, ◌-◌, ◌*◌, ◌/◌, ◌%◌, ◌^◌, ◌<◌, ◌≤◌, min, max, List, [], ◌∷◌, ◌++◌, length, refl, sym, ap, ◌∙◌, subst, arith, inl, inr}
 use Rattle.std.specs.Option.{IfSome}
-use Rattle.std.specs.List.{range_with_len, AllByRecursion, sum_by}
+use Rattle.std.specs.List.{range_with_len, AllByRecursion}
 use Rattle.std.proofs.lemmas.Bool.{cases_lt}
 use Rattle.std.proofs.lemmas.List.{length-append}
 use Rattle.std.proofs.lemmas.List.Sums.{sum_by-cons, sum_by-append}
 use Rattle.std.proofs.lemmas.Nat.{pow_pos, shr_split, shr-shr, mod_below}
 use Rattle.std.proofs.Math.Nat.{mul-le-mul_left, pow-le-pow_right}
-use Rattle.ff_flac_rice.specs.declared.row.Row.{Row}
 use Rattle.ff_flac_rice.specs.Rice.{quotients, part_cost, parameters, count_of, best_k, best_cost}
-use Rattle.ff_flac_rice.specs.Row.{IsRow, AreRows, row_cost, lowest, lowest_bits}
+use Rattle.ff_flac_rice.specs.Columns.{lowest}
 use Rattle.ff_flac_rice.specs.Spans.{IsLowEnd, IsHighEnd, Spans, IsSpan}
 use Rattle.ff_flac_rice.proofs.LeastLemmas.{least_is_lowest, least_is, first_is_least}
 use Rattle.ff_flac_rice.proofs.Costs.{best_k_is}
-use Rattle.ff_flac_rice.proofs.RowLemmas.{row_cost-of, best_k_within, count_within, pair_parts}
+use Rattle.ff_flac_rice.proofs.RowLemmas.{best_k_within, count_within, pair_parts}
 
 -- ---- what a value's quotient loses from one parameter to the next
 
@@ -129,7 +128,7 @@ pub lowest-one : (f : ℕ → ℕ) (low : ℕ) → lowest f low 0 ≡ f low
 unfolding lowest
 lowest-one f low = refl
 
-lowest-more : (f : ℕ → ℕ) (low more : ℕ) → lowest f low (suc more) ≡ min (lowest f low more) (f (low + suc more))
+pub lowest-more : (f : ℕ → ℕ) (low more : ℕ) → lowest f low (suc more) ≡ min (lowest f low more) (f (low + suc more))
 unfolding lowest
 lowest-more f low more = refl
 
@@ -159,23 +158,21 @@ best_below_all method part j h =
     let here : f b ≤ f j = at_all (λ z. f b ≤ f z) 0 (count_of method) j all (omega arith) (omega (arith, h)) in
     omega (arith, here)
 
-spanned : (method low high top : ℕ) (row : Row) (part : List ℕ) → IsRow low high row part → Spans low high part → low < top → top ≤ high → top ≤ count_of method
-    → high ≤ 31 → (top < count_of method → top ≡ high) → count_of method ≤ 31 → lowest_bits method low top row ≡ best_cost method part
-spanned method low high top row part is spans some_left within fits last full few =
+pub spanned : (method low high top : ℕ) (part : List ℕ) → Spans low high part → low < top → top ≤ high → top ≤ count_of method
+    → (top < count_of method → top ≡ high) → 4 + method + lowest (λ k. part_cost 0 k part) low (top - 1 - low) ≡ best_cost method part
+spanned method low high top part spans some_left within fits full =
     let f : ℕ → ℕ = λ k. part_cost 0 k part in
-    let g : ℕ → ℕ = λ k. row_cost 0 k row in
-    let same : (k : ℕ) → low ≤ k → k < high → g k ≡ f k = λ k a b. row_cost-of low high 0 k row part is a b in
-    let found = lowest-is g low (top - 1 - low) in
+    let found = lowest-is f low (top - 1 - low) in
     let b : ℕ = best_k method part in
     let bound : b < count_of method = best_k_within method part in
+    let few : count_of method ≤ 31 = count_within method in
     let up : f b ≤ f found.at = best_below_all method part found.at (omega (arith, found.within, fits, some_left)) in
-    let here : g found.at ≡ f found.at = same found.at found.from (omega (arith, found.within, within, some_left)) in
-    let at_low : lowest g low (top - 1 - low) ≤ f low = omega (arith, found.below low (omega arith) (omega arith), same low (omega arith) (omega (arith, some_left, within))) in
-    let at_top : lowest g low (top - 1 - low) ≤ f (top - 1) = omega (arith, found.below (top - 1) (omega (arith, some_left)) (omega (arith, some_left)), same (top - 1) (omega (arith, some_left)) (omega (arith, some_left, within))) in
-    let down : lowest g low (top - 1 - low) ≤ f b = elim (cases_lt b low) [
+    let at_low : lowest f low (top - 1 - low) ≤ f low = found.below low (omega arith) (omega arith) in
+    let at_top : lowest f low (top - 1 - low) ≤ f (top - 1) = found.below (top - 1) (omega (arith, some_left)) (omega (arith, some_left)) in
+    let down : lowest f low (top - 1 - low) ≤ f b = elim (cases_lt b low) [
       | inl lt ↦ omega (arith, at_low, falls_to f low (low - b) b (λ k h. step_down k part (spans.below k h)) (omega (arith, lt)))
       | inr ge ↦ elim (cases_lt b top) [
-        | inl inside ↦ omega (arith, found.below b ge (omega (arith, inside, ge)), same b ge (omega (arith, inside, within)))
+        | inl inside ↦ found.below b ge (omega (arith, inside, ge))
         | inr above ↦
             let e : top ≡ high = full (omega (arith, above, bound)) in
             let from : ℕ = top - 1 in
@@ -184,7 +181,7 @@ spanned method low high top row part is spans some_left within fits last full fe
             omega (arith, at_top, rise, ap f reach)
       ]
     ] in
-    omega (arith, up, here, found.is, down)
+    omega (arith, up, found.is, down)
 
 pub best_by_ends : (method b : ℕ) (part : List ℕ) → b < count_of method → ((j : ℕ) → j < b → part_cost 0 b part < part_cost 0 j part)
     → ((j : ℕ) → b ≤ j → j < count_of method → part_cost 0 b part ≤ part_cost 0 j part) → b ≡ best_k method part
@@ -213,26 +210,6 @@ best_in_span method low high top b part below above over e within before behind 
           let rise : f from ≤ f (from + (j - from)) = rises_from f from (j - from) (λ k m last. step_up k part (above k (omega (arith, m)) last)) (omega (arith, reach, l, count_within method)) in
           omega (arith, behind (high - 1) (omega (arith, within, e)) (omega (arith, out, e, l, within)), rise, ap f reach)
     ])
-
-sum_same : (method low high top : ℕ) (rows : List Row) (parts : List (List ℕ)) → AreRows low high rows parts → AllByRecursion (Spans low high) parts → low < top → top ≤ high → top ≤ count_of method
-    → high ≤ 31 → (top < count_of method → top ≡ high) → count_of method ≤ 31 → sum_by (lowest_bits method low top) rows ≡ sum_by (best_cost method) parts
-sum_same method low high top [] [] h s a b c d e f = refl
-sum_same method low high top [] (p ∷ parts) h s a b c d e f = absurd h
-sum_same method low high top (r ∷ rows) [] h s a b c d e f = absurd h
-sum_same method low high top (r ∷ rows) (p ∷ parts) h s a b c d e f =
-    let one : lowest_bits method low top r ≡ best_cost method p = spanned method low high top r p h.0 s.0 a b c d e f in
-    let rest : sum_by (lowest_bits method low top) rows ≡ sum_by (best_cost method) parts = sum_same method low high top rows parts h.1 s.1 a b c d e f in
-    sum_by-cons (lowest_bits method low top) r rows ∙ ap (λ n. n + sum_by (lowest_bits method low top) rows) one ∙ ap (λ n. best_cost method p + n) rest ∙ sym (sum_by-cons (best_cost method) p parts)
-
-pub first_level : (low high cost : ℕ) (rows : List Row) (parts : List (List ℕ)) → IsSpan low high → AreRows low high rows parts → AllByRecursion (Spans low high) parts
-    → cost ≡ sum_by (lowest_bits 0 low (min high 15)) rows → cost ≡ sum_by (best_cost 0) parts
-first_level low high cost rows parts span h s e =
-    e ∙ sum_same 0 low high (min high 15) rows parts h s (omega (arith, span.first, span.some_parameter)) (omega arith) (omega arith) span.last (λ l. omega (arith, l)) (omega arith)
-
-pub second_level : (low high cost : ℕ) (rows : List Row) (parts : List (List ℕ)) → IsSpan low high → AreRows low high rows parts → AllByRecursion (Spans low high) parts
-    → cost ≡ sum_by (lowest_bits 1 low high) rows → cost ≡ sum_by (best_cost 1) parts
-second_level low high cost rows parts span h s e =
-    e ∙ sum_same 1 low high high rows parts h s span.some_parameter (omega arith) span.last span.last (λ l. refl) (omega arith)
 
 -- ---- ends that serve
 

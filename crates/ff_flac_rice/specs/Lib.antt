@@ -1,5 +1,5 @@
+pub mod Columns
 pub mod Least
 pub mod Rice
-pub mod Row
 pub mod Spans
 pub mod Spells

@@ -5,7 +5,8 @@ ghost use Rattle.std.specs.List.{range_with_len};
 ghost use Rattle.ff_flac_rice.specs.Least.{least};
 ghost use Rattle.ff_flac_rice.specs.Rice.{is_allowed, orders, residual_bits, codings, best_at};
 
-use crate::level::{halve, level_costs, rows_of};
+use crate::column::{columns_of, halve};
+use crate::level::level_costs;
 use crate::span::span_of;
 use std::alloc::{AllocError, Global};
 
@@ -79,9 +80,10 @@ pub fn best_coding(alloc: Global, us: &[u32], order: usize) -> Result<Found, All
 {
     let finest = finest_order(us.len() + order, order);
     let span = span_of(us, order, finest);
-    let mut rows = rows_of(alloc, us, order, finest, span)?;
+    let mut columns = columns_of(alloc, us, order, finest, span)?;
+    let mut least = vec![in alloc; 0u64; 1usize << finest]?;
     let mut partition_order = finest;
-    let (with_first, with_second) = level_costs(&rows, span);
+    let (with_first, with_second) = level_costs(&columns, &mut least, span);
     let mut first = Choice {
         partition_order,
         cost: with_first,
@@ -92,8 +94,9 @@ pub fn best_coding(alloc: Global, us: &[u32], order: usize) -> Result<Found, All
     };
     while partition_order > 0 {
         partition_order -= 1;
-        halve(&mut rows);
-        let (with_first, with_second) = level_costs(&rows, span);
+        halve(&mut columns);
+        let places = 1usize << partition_order;
+        let (with_first, with_second) = level_costs(&columns, &mut least[..places], span);
         first = lower(first, partition_order, with_first);
         second = lower(second, partition_order, with_second);
     }

@@ -1,87 +1,78 @@
-//! The rows of all partitions of one partition order.
+//! The least bits of all partitions of one partition order.
 
-ghost use Rattle.std.specs.Prelude.{◌≡◌, ◌+◌, ◌-◌, ◌*◌, ◌/◌, ◌%◌, ◌^◌, ◌<◌, ◌≤◌, ℕ, List, [], ◌∷◌, ◌++◌, min, length, IfOk, OnOk, All, vec_len};
-ghost use Rattle.std.specs.List.{sum_by};
-ghost use Rattle.ff_flac_rice.specs.Rice.{parts_of};
-ghost use Rattle.ff_flac_rice.specs.Row.{IsRow, AreRows, pair_rows, RowFits, lowest_bits};
+ghost use Rattle.std.specs.Prelude.{◌≡◌, ◌+◌, ◌-◌, ◌*◌, ◌^◌, ◌<◌, ◌≤◌, min, length, take, All};
+ghost use Rattle.std.specs.List.{fold, sum};
+ghost use lib.Lanes.{zip2};
+ghost use Rattle.ff_flac_rice.specs.Columns.{least_each, items_of};
 ghost use Rattle.ff_flac_rice.specs.Spans.{IsSpan};
 
-use crate::row::Row;
 use crate::span::Span;
-use std::alloc::{AllocError, Global};
 
-/// Adds the row of a partition, which is made in its place.
-fn push_row(rows: &mut Vec<Row>, part: &[u32], span: Span) -> Result<(), AllocError>
-    requires len { length part.now ≤ 2 ^ 16 }
-    requires span { IsSpan span.low span.high }
-    ensures { OnOk result ((row : _) × (rows.new.items ≡ rows.old.items ++ row ∷ []) × IsRow span.low span.high row part.now) }
+/// Takes the lower of each two.
+fn lower_each(least: &mut [u64], costs: &[u64])
+    requires { length least.old ≡ length costs.now }
+    ensures { least.new ≡ zip2 min least.old costs.now }
 {
-    let place = rows.len();
-    rows.push(Row::begun(part.len()))?;
-    rows[place].fill(part, span);
-    Ok(())
-}
-
-/// The rows of the values in `2 ^ partition_order` partitions.
-pub fn rows_of(
-    alloc: Global,
-    us: &[u32],
-    order: usize,
-    partition_order: u32,
-    span: Span,
-) -> Result<Vec<Row>, AllocError>
-    requires len { length us.now ≤ 2 ^ 15 }
-    requires order { order ≤ 4 }
-    requires partition_order { partition_order ≤ 8 }
-    requires whole { (length us.now + order) % 2 ^ partition_order ≡ 0 }
-    requires longer { order < (length us.now + order) / 2 ^ partition_order }
-    requires span { IsSpan span.low span.high }
-    ensures { IfOk result (λ rows. AreRows span.low span.high rows.items (parts_of order partition_order us.now)) }
-{
-    let size = (us.len() + order) >> partition_order;
-    let (first, mut rest) = us.split_at(size - order);
-    let mut rows = Vec::with_capacity(alloc, 1usize << partition_order)?;
-    push_row(&mut rows, first, span)?;
-    let mut left = (1usize << partition_order) - 1;
-    while left > 0 {
-        let (part, after) = rest.split_at(size);
-        push_row(&mut rows, part, span)?;
-        rest = after;
-        left -= 1;
+    for i in 0..least.len() {
+        least[i] = least[i].min(costs[i]);
     }
-    Ok(rows)
 }
 
-/// Makes one row of each two.
-pub fn halve(rows: &mut Vec<Row>)
-    requires fits { All RowFits rows.old.items }
-    requires even { vec_len rows.old % 2 ≡ 0 }
-    ensures { rows.new.items ≡ pair_rows rows.old.items }
+/// Takes the least in each place, of these and of all columns.
+fn lower_by(least: &mut [u64], columns: &[Vec<u64>])
+    requires { All (λ costs. length costs ≡ length least.old) (items_of columns.now) }
+    ensures len { length least.new ≡ length least.old }
+    ensures least { least.new ≡ fold (zip2 min) least.old (items_of columns.now) }
 {
-    let half = rows.len() / 2;
-    for i in 0..half {
-        let row = rows[2 * i].with(&rows[2 * i + 1]);
-        rows[i] = row;
+    for costs in columns {
+        lower_each(least, costs);
     }
-    rows.truncate(half);
 }
 
-/// The least bits of all partitions with each method, under the parameters of a span.
-pub fn level_costs(rows: &[Row], span: Span) -> (u64, u64)
-    requires fits { All RowFits rows.now }
-    requires few { length rows.now ≤ 256 }
+/// Writes the least in each place of all columns.
+fn put_least(least: &mut [u64], columns: &[Vec<u64>])
+    requires some { 0 < length columns.now }
+    requires same { All (λ costs. length costs ≡ length least.old) (items_of columns.now) }
+    ensures len { length least.new ≡ length least.old }
+    ensures least { least.new ≡ least_each (items_of columns.now) }
+{
+    least.copy_from_slice(&columns[0]);
+    lower_by(least, &columns[1..]);
+}
+
+/// The sum of all.
+fn total(costs: &[u64]) -> u64
+    requires { sum costs.now ≤ 2 ^ 56 }
+    ensures is { result ≡ sum costs.now }
+    ensures small { result ≤ 2 ^ 56 }
+{
+    let mut total = 0u64;
+    for cost in costs {
+        total += *cost;
+    }
+    total
+}
+
+/// The least bits of all partitions with each method, under the parameters of a span. Room for a column is lent.
+pub fn level_costs(columns: &[Vec<u64>], least: &mut [u64], span: Span) -> (u64, u64)
     requires span { IsSpan span.low span.high }
-    ensures first { result.0 ≡ sum_by (lowest_bits 0 span.low (min span.high 15)) rows.now }
-    ensures second { result.1 ≡ sum_by (lowest_bits 1 span.low span.high) rows.now }
+    requires count { length columns.now ≡ span.high - span.low }
+    requires same { All (λ costs. length costs ≡ length least.old) (items_of columns.now) }
+    requires few { length least.old ≤ 256 }
+    requires small { All (All (λ cost. cost ≤ 2 ^ 48)) (items_of columns.now) }
+    ensures len { length least.new ≡ length least.old }
+    ensures first { result.0 ≡ 4 * length least.old + sum (least_each (take (min span.high 15 - span.low) (items_of columns.now))) }
+    ensures second { result.1 ≡ 5 * length least.old + sum (least_each (items_of columns.now)) }
     ensures first_small { result.0 ≤ 2 ^ 57 }
     ensures second_small { result.1 ≤ 2 ^ 57 }
 {
-    let mut first = 0u64;
-    let mut second = 0u64;
-    for row in rows {
-        let (with_first, with_second) = row.least_costs(span);
-        first += with_first;
-        second += with_second;
+    let count = least.len() as u64;
+    let (of_first, others) = columns.split_at(span.high.min(15) - span.low);
+    put_least(least, of_first);
+    let first = 4 * count + total(least);
+    if others.is_empty() {
+        return (first, count + first);
     }
-    (first, second)
+    lower_by(least, others);
+    (first, 5 * count + total(least))
 }

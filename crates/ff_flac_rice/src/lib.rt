@@ -5,11 +5,12 @@
 #![tactic(auto)]
 
 mod coding;
+mod column;
 mod floor;
 mod laws;
 mod level;
 mod parameter;
-mod row;
+mod quotients;
 mod span;
 mod write;
 

@@ -3,7 +3,7 @@
 ghost use Rattle.std.specs.Prelude.{◌≡◌, ◌+◌, ◌*◌, ◌/◌, ◌^◌, ◌<◌, ◌≤◌, ℕ, length};
 ghost use Rattle.ff_flac_rice.specs.Rice.{part_cost, best_k, count_of};
 
-use crate::row::{greatest, quotients_of, wide_quotients};
+use crate::quotients::{greatest, quotients_of, wide_quotients};
 use crate::span::span_at;
 
 /// How many parameters a method has.

@@ -5,7 +5,7 @@ ghost use Rattle.std.specs.List.{AllByRecursion};
 ghost use Rattle.ff_flac_rice.specs.Rice.{parts_of};
 ghost use Rattle.ff_flac_rice.specs.Spans.{IsLowEnd, IsHighEnd, IsSpan, Spans};
 
-use crate::row::{greatest, total_of};
+use crate::quotients::{greatest, total_of};
 
 /// Parameters from `low` on and below `high`.
 #[derive(Clone, Copy)]

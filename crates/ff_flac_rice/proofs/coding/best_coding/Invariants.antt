@@ -1,7 +1,7 @@
 use Rattle.std.proofs.Common.{◌≡◌, ◌-◌, ◌+◌, ◌≤◌, ◌^◌, suc, true, length}
 use Rattle.std.specs.List.{AllByRecursion}
 use Rattle.ff_flac_rice.specs.Rice.{is_allowed, parts_of}
-use Rattle.ff_flac_rice.specs.Row.{AreRows}
+use Rattle.ff_flac_rice.specs.Columns.{columns, items_of}
 use Rattle.ff_flac_rice.specs.Spans.{Spans}
 use Rattle.ff_flac_rice.proofs.Levels.{IsBest}
 use Rattle.ff_flac_rice.proofs.coding.best_coding.Given as goal
@@ -13,7 +13,8 @@ invariant-loop-partition_order l = record {
   fine : l.finest ≤ 8;
   within : l.partition_order ≤ l.finest;
   allowed : is_allowed (length l.us + l.order) l.order l.partition_order ≡ true;
-  rows : AreRows l.span.low l.span.high l.rows.items (parts_of l.order l.partition_order l.us);
+  least : length l.least.items ≡ 2 ^ l.finest;
+  columns : items_of l.columns.items ≡ columns l.span.low (l.span.high - l.span.low) (parts_of l.order l.partition_order l.us);
   spans : AllByRecursion (Spans l.span.low l.span.high) (parts_of l.order l.partition_order l.us);
   first : IsBest l.order l.us 0 l.partition_order (suc (l.finest - l.partition_order)) l.first;
   second : IsBest l.order l.us 1 l.partition_order (suc (l.finest - l.partition_order)) l.second;

@@ -1,0 +1,10 @@
+use Rattle.std.proofs.Common.{◌≡◌, ◌≤◌, ◌-◌}
+use Rattle.ff_flac_rice.specs.Rice.{parts_of}
+use Rattle.ff_flac_rice.specs.Columns.{columns, items_of}
+use Rattle.ff_flac_rice.proofs.column.columns_of.Given as goal
+
+abbrev pub invariant-loop-k : goal.invariant-loop-k
+invariant-loop-k l = record {
+  from : l.fn.span.low ≤ l.k;
+  is : items_of l.columns.items ≡ columns l.fn.span.low (l.k - l.fn.span.low) (parts_of l.order l.partition_order l.us);
+}

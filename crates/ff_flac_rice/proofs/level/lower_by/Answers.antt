@@ -1,0 +1,9 @@
+use Rattle.std.proofs.Common.{◌≡◌, ◌∙◌, length, arith, ap, sym}
+use Rattle.ff_flac_rice.proofs.ColumnLemmas.{at_item}
+use Rattle.ff_flac_rice.proofs.level.lower_by.Goals as goal
+
+pub lower_each-requires : goal.lower_each-requires
+lower_each-requires c =
+    c.loop-costs.invariant.len
+    ∙ sym (at_item (λ costs. length costs ≡ length c.args.least.now) c.args.columns.now c.loop-costs.costs-index c.costs-item.result (omega (arith, c.loop-costs-test.true)) c.costs-item.is c.requires)
+    ∙ sym (ap length c.deref.ensures.value)
