@@ -7,6 +7,7 @@ ghost use Rattle.ff_flac_rice.specs.Rice.{is_allowed, orders, residual_bits, cod
 
 use crate::column::{columns_of, halve};
 use crate::level::level_costs;
+use crate::quotients::greatest;
 use crate::span::span_of;
 use std::alloc::{AllocError, Global};
 
@@ -79,8 +80,9 @@ pub fn best_coding(alloc: Global, us: &[u32], order: usize) -> Result<Found, All
     ensures small { IfOk result (λ f. f.cost ≤ 2 ^ 58) }
 {
     let finest = finest_order(us.len() + order, order);
-    let span = span_of(us, order, finest);
-    let mut columns = columns_of(alloc, us, order, finest, span)?;
+    let most = greatest(us);
+    let span = span_of(us, most, order, finest);
+    let mut columns = columns_of(alloc, us, most, order, finest, span)?;
     let mut least = vec![in alloc; 0u64; 1usize << finest]?;
     let mut partition_order = finest;
     let (with_first, with_second) = level_costs(&columns, &mut least, span);

@@ -7,7 +7,7 @@ ghost use Rattle.ff_flac_rice.specs.Rice.{part_cost, parts_of, pieces};
 ghost use Rattle.ff_flac_rice.specs.Columns.{column, columns as columns_from, items_of};
 ghost use Rattle.ff_flac_rice.specs.Spans.{IsSpan};
 
-use crate::quotients::{cost_of, cost_of_16, greatest};
+use crate::quotients::{cost_of, cost_of_16};
 use crate::span::Span;
 use std::alloc::{AllocError, Global};
 
@@ -55,22 +55,22 @@ fn fill(costs: &mut [u64], us: &[u32], size: usize, k: usize, most: u32)
     fill_by(costs, us, size, k, most);
 }
 
-/// The bits of each of `2 ^ partition_order` partitions under one parameter.
+/// The bits of each of `2 ^ partition_order` partitions under one parameter. No value is above `most`.
 fn column_of(
     alloc: Global,
     us: &[u32],
+    most: u32,
     order: usize,
     partition_order: u32,
     k: usize,
-    most: u32,
 ) -> Result<Vec<u64>, AllocError>
     requires len { length us.now ≤ 2 ^ 15 }
+    requires most { All (λ u. u ≤ most) us.now }
     requires order { order ≤ 4 }
     requires partition_order { partition_order ≤ 8 }
     requires whole { (length us.now + order) % 2 ^ partition_order ≡ 0 }
     requires longer { order < (length us.now + order) / 2 ^ partition_order }
     requires k { k < 31 }
-    requires most { All (λ u. u ≤ most) us.now }
     ensures { IfOk result (λ costs. costs.items ≡ column k (parts_of order partition_order us.now)) }
 {
     let size = (us.len() + order) >> partition_order;
@@ -81,15 +81,17 @@ fn column_of(
     Ok(costs)
 }
 
-/// A column for each parameter of a span.
+/// A column for each parameter of a span. No value is above `most`.
 pub fn columns_of(
     alloc: Global,
     us: &[u32],
+    most: u32,
     order: usize,
     partition_order: u32,
     span: Span,
 ) -> Result<Vec<Vec<u64>>, AllocError>
     requires len { length us.now ≤ 2 ^ 15 }
+    requires most { All (λ u. u ≤ most) us.now }
     requires order { order ≤ 4 }
     requires partition_order { partition_order ≤ 8 }
     requires whole { (length us.now + order) % 2 ^ partition_order ≡ 0 }
@@ -97,10 +99,9 @@ pub fn columns_of(
     requires span { IsSpan span.low span.high }
     ensures { IfOk result (λ columns. items_of columns.items ≡ columns_from span.low (span.high - span.low) (parts_of order partition_order us.now)) }
 {
-    let most = greatest(us);
     let mut columns = Vec::with_capacity(alloc, span.high - span.low)?;
     for k in span.low..span.high {
-        columns.push(column_of(alloc, us, order, partition_order, k, most)?)?;
+        columns.push(column_of(alloc, us, most, order, partition_order, k)?)?;
     }
     Ok(columns)
 }

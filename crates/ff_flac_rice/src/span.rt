@@ -1,11 +1,11 @@
 //! The parameters among which the best one of each partition is.
 
-ghost use Rattle.std.specs.Prelude.{◌≡◌, ◌+◌, ◌-◌, ◌*◌, ◌/◌, ◌%◌, ◌^◌, ◌<◌, ◌≤◌, length};
+ghost use Rattle.std.specs.Prelude.{◌≡◌, ◌+◌, ◌-◌, ◌*◌, ◌/◌, ◌%◌, ◌^◌, ◌<◌, ◌≤◌, length, All};
 ghost use Rattle.std.specs.List.{AllByRecursion};
 ghost use Rattle.ff_flac_rice.specs.Rice.{parts_of};
 ghost use Rattle.ff_flac_rice.specs.Spans.{IsLowEnd, IsHighEnd, IsSpan, Spans};
 
-use crate::quotients::{greatest, total_of};
+use crate::quotients::total_of;
 
 /// Parameters from `low` on and below `high`.
 #[derive(Clone, Copy)]
@@ -81,9 +81,10 @@ pub(crate) fn span_at(len: u64, total: u64) -> Span
     }
 }
 
-/// The parameters among which the best one of each partition is, for partitions of this order.
-pub fn span_of(us: &[u32], order: usize, partition_order: u32) -> Span
+/// The parameters among which the best one of each partition is, for partitions of this order. No value is above `most`.
+pub fn span_of(us: &[u32], most: u32, order: usize, partition_order: u32) -> Span
     requires len { length us.now ≤ 2 ^ 15 }
+    requires most { All (λ u. u ≤ most) us.now }
     requires order { order ≤ 4 }
     requires partition_order { partition_order ≤ 8 }
     requires whole { (length us.now + order) % 2 ^ partition_order ≡ 0 }
@@ -91,7 +92,6 @@ pub fn span_of(us: &[u32], order: usize, partition_order: u32) -> Span
     ensures span { IsSpan result.low result.high }
     ensures spans { AllByRecursion (Spans result.low result.high) (parts_of order partition_order us.now) }
 {
-    let most = greatest(us);
     let size = (us.len() + order) >> partition_order;
     let (first, mut rest) = us.split_at(size - order);
     let total = total_of(first, most);

@@ -16,7 +16,7 @@ loop-left-init c =
     let rest : length c.split_at.result.1.now ≡ length c.args.us.now - (n / 2 ^ c.args.partition_order - c.args.order) = omega (arith, c.split_at.ensures.back_len) in
     rw (one_shl c.args.partition_order 64 (omega arith)) (record {
       rest = rest ∙ rest_len (length c.args.us.now) c.args.order (n / 2 ^ c.args.partition_order) (2 ^ c.args.partition_order - 1) (2 ^ c.args.partition_order) (omega arith) whole c.requires.longer;
-      most = All-same (λ u. u ≤ c.greatest-most.result) c.split_at.result.1.now _ c.split_at.ensures.back (All-drop (λ u. u ≤ c.greatest-most.result) (size - c.args.order) c.args.us.now c.greatest-most.ensures);
+      most = All-same (λ u. u ≤ c.args.most) c.split_at.result.1.now _ c.split_at.ensures.back (All-drop (λ u. u ≤ c.args.most) (size - c.args.order) c.args.us.now c.requires.most);
       short = omega arith;
       served = front_start (AllByRecursion (Served (length c.split_at.result.0.now) c.total_of-total.result size _ 0)) c.args.order c.args.partition_order c.args.us.now c.split_at.result.0.now c.split_at.result.1.now
           c.split_at.ensures.front c.split_at.ensures.back (served_first size _ 0 c.total_of-total.result c.split_at.result.0.now c.total_of-total.ensures);
@@ -25,7 +25,7 @@ loop-left-init c =
 pub total_of-other-requires-clause-most : goal.total_of-other-requires-clause-most
 total_of-other-requires-clause-most c =
     let size : ℕ = (length c.args.us.now + c.args.order) / 2 ^ c.args.partition_order in
-    All-same (λ u. u ≤ c.greatest-most.result) c.split_at-in-loop-left.result.0.now _ c.split_at-in-loop-left.ensures.front (All-take (λ u. u ≤ c.greatest-most.result) size c.loop-left.rest.now c.loop-left.invariant.most)
+    All-same (λ u. u ≤ c.args.most) c.split_at-in-loop-left.result.0.now _ c.split_at-in-loop-left.ensures.front (All-take (λ u. u ≤ c.args.most) size c.loop-left.rest.now c.loop-left.invariant.most)
 
 pub loop-left-preserved : goal.loop-left-preserved
 loop-left-preserved c =
@@ -40,7 +40,7 @@ loop-left-preserved c =
     let new = Served len total size c.min-low_total.result c.max-high_total.result in
     record {
       rest = step_len c.loop-left.left m size (length c.loop-left.rest.now) (length c.split_at-in-loop-left.result.1.now) e' c.loop-left.invariant.rest (omega (arith, c.split_at-in-loop-left.ensures.back_len));
-      most = All-same (λ u. u ≤ c.greatest-most.result) c.split_at-in-loop-left.result.1.now _ c.split_at-in-loop-left.ensures.back (All-drop (λ u. u ≤ c.greatest-most.result) size c.loop-left.rest.now c.loop-left.invariant.most);
+      most = All-same (λ u. u ≤ c.args.most) c.split_at-in-loop-left.result.1.now _ c.split_at-in-loop-left.ensures.back (All-drop (λ u. u ≤ c.args.most) size c.loop-left.rest.now c.loop-left.invariant.most);
       short = omega (arith, c.split_at-in-loop-left.ensures.back_len, c.loop-left.invariant.short);
       served = front_step (AllByRecursion old) (AllByRecursion new) size c.loop-left.left m c.loop-left.rest.now part c.split_at-in-loop-left.result.1.now
           _ e c.split_at-in-loop-left.ensures.front c.split_at-in-loop-left.ensures.back
