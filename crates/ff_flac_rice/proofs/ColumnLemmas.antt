@@ -1,13 +1,15 @@
-use Rattle.std.proofs.Common.{◌≡◌, ℕ, set, zero, suc, ◌+◌, ◌-◌, ◌*◌, ◌/◌, ◌^◌, ◌<◌, ◌≤◌, length-set, min, true, List, [], ◌∷◌, ◌++◌, length, get_or, map, take, drop, refl, sym, ap, ◌∙◌, subst, arith}
+use Rattle.std.proofs.Common.{◌≡◌, ℕ, set, zero, suc, ◌+◌, ◌-◌, ◌*◌, ◌/◌, ◌%◌, ◌^◌, ◌<◌, ◌≤◌, min, true, refl, sym, ap, ◌∙◌, subst, arith}
+use Rattle.std.proofs.Common.{List, [], ◌∷◌, ◌++◌, length, length-set, get_or, map, take, drop}
 use Rattle.std.specs.List.{range_with_len, fold, sum, sum_by, All, AllByRecursion}
 use Rattle.std.specs.Prelude.{Vec}
 use lib.Lanes.{zip2, pair_sums}
 use Rattle.std.proofs.Math.Path.{fun_ext}
 use Rattle.std.proofs.Math.Seq.{take-append_seam}
-use Rattle.std.proofs.lemmas.Nat.{pow_pos}
+use Rattle.std.proofs.lemmas.Nat.{pow_pos, one_shl}
 use Rattle.std.proofs.Math.Nat.{pow-le-pow_right}
 use Rattle.std.proofs.lemmas.Grind.{get_or-set_at}
-use Rattle.std.proofs.lemmas.List.{length-append, append_assoc, append-nil, drop-drop, drop_more, drop-set-lt, take_more, take_more_set, length-map, length-take, length-drop, map_push, map-append, get_or-map, take_all, take-map, drop-map, take-append-drop}
+use Rattle.std.proofs.lemmas.List.{length-append, append_assoc, append-nil, drop-drop, drop_more, drop-set-lt, take_more, take_more_set, take_all}
+use Rattle.std.proofs.lemmas.List.{take-map, drop-map, take-append-drop, length-map, length-take, length-drop, map_push, map-append, get_or-map}
 use Rattle.std.proofs.lemmas.List.Elements.{All-drop, All-same, All-map, All-from_recursion, All-from_get_or, All-weaker, All-take, All-head, All-tail}
 use Rattle.std.proofs.lemmas.List.FromFn.{map-range_with_len_more, length-map-range_with_len, take-map-range_with_len}
 use Rattle.std.proofs.lemmas.List.Sums.{fold_push, fold-append, sum_by-append, sum_by-cons, sum_by-le}
@@ -48,26 +50,30 @@ filled_more k size xs us first i cost h e is =
     ∙ ap (λ l. first ∷ l) (sym (map_push (part_cost 0 k) (pieces i size us) (take size (drop (size * i) us))))
     ∙ ap (λ l. first ∷ column k l) (sym (pieces_push i size us) ∙ ap (λ n. pieces n size us) next)
 
-pub filled_all : (k size : ℕ) (xs us : List ℕ) (first i count : ℕ) → i ≡ count → length xs ≤ i + 1 → take (i + 1) xs ≡ first ∷ column k (pieces i size us) → xs ≡ first ∷ column k (pieces count size us)
+pub filled_all : (k size : ℕ) (xs us : List ℕ) (first i count : ℕ) → i ≡ count → length xs ≤ i + 1
+    → take (i + 1) xs ≡ first ∷ column k (pieces i size us) → xs ≡ first ∷ column k (pieces count size us)
 filled_all k size xs us first i count e l is =
     sym (take_all (i + 1) xs l) ∙ is ∙ ap (λ n. first ∷ column k (pieces n size us)) e
 
 pub column_filled : (k order partition_order : ℕ) (us first rest zeros begun costs : List ℕ) (len cost : ℕ) → length zeros ≡ len → len ≡ 2 ^ partition_order
-    → cost ≡ part_cost 0 k first → first ≡ take ((length us + order) / 2 ^ partition_order - order) us → rest ≡ drop ((length us + order) / 2 ^ partition_order - order) us
+    → cost ≡ part_cost 0 k first → first ≡ take ((length us + order) / 2 ^ partition_order - order) us
+    → rest ≡ drop ((length us + order) / 2 ^ partition_order - order) us
     → begun ≡ set zeros 0 cost → costs ≡ get_or begun 0 0 ∷ column k (pieces (length begun - 1) ((length us + order) / 2 ^ partition_order) rest)
     → take len (costs ++ drop (length costs) (set zeros 0 cost)) ≡ column k (parts_of order partition_order us)
 column_filled k order partition_order us first rest zeros begun costs len cost l e c f r b is =
     let size : ℕ = (length us + order) / 2 ^ partition_order in
     let some_left : 0 < length zeros = omega (arith, l, e, pow_pos partition_order) in
     let others : length begun - 1 ≡ 2 ^ partition_order - 1 = omega (arith, ap length b, length-set zeros 0 cost, l, e) in
-    let head : get_or begun 0 0 ≡ part_cost 0 k (take (size - order) us) = ap (λ xs. get_or xs 0 0) b ∙ get_or-set_at zeros 0 0 cost 0 refl some_left ∙ c ∙ ap (part_cost 0 k) f in
+    let head : get_or begun 0 0 ≡ part_cost 0 k (take (size - order) us) =
+    ap (λ xs. get_or xs 0 0) b ∙ get_or-set_at zeros 0 0 cost 0 refl some_left ∙ c ∙ ap (part_cost 0 k) f in
     let whole : costs ≡ column k (parts_of order partition_order us) =
     is
     ∙ ap (λ n. n ∷ column k (pieces (length begun - 1) size rest)) head
     ∙ ap (λ n. part_cost 0 k (take (size - order) us) ∷ column k (pieces n size rest)) others
     ∙ ap (λ l. part_cost 0 k (take (size - order) us) ∷ column k (pieces (2 ^ partition_order - 1) size l)) r
     ∙ ap (column k) (sym (parts_of-is order partition_order us size refl)) in
-    let all : len ≡ length costs = omega (arith, ap length whole, length-map (parts_of order partition_order us) (part_cost 0 k), length-parts_of order partition_order us, e) in
+    let parts : List (List ℕ) = parts_of order partition_order us in
+    let all : len ≡ length costs = omega (arith, ap length whole, length-map parts (part_cost 0 k), length-parts_of order partition_order us, e) in
     ap (λ n. take n (costs ++ drop (length costs) (set zeros 0 cost))) all ∙ take-append_seam costs (drop (length costs) (set zeros 0 cost)) ∙ whole
 
 pub columns_none : (low : ℕ) (parts cols : List (List ℕ)) → cols ≡ [] → cols ≡ columns low (low - low) parts
@@ -76,8 +82,8 @@ columns_none low parts cols e =
     let none : 0 ≡ low - low = omega arith in
     e ∙ ap (λ n. map (λ k. column k parts) (range_with_len low n)) none
 
-pub columns_push : (low k : ℕ) (parts old new : List (List ℕ)) (costs : List ℕ) → low ≤ k → new ≡ old ++ (costs ∷ []) → old ≡ columns low (k - low) parts → costs ≡ column k parts
-    → new ≡ columns low (k + 1 - low) parts
+pub columns_push : (low k : ℕ) (parts old new : List (List ℕ)) (costs : List ℕ) → low ≤ k → new ≡ old ++ (costs ∷ [])
+    → old ≡ columns low (k - low) parts → costs ≡ column k parts → new ≡ columns low (k + 1 - low) parts
 unfolding columns
 columns_push low k parts old new costs from e is last =
     let reach : low + (k - low) ≡ k = omega (arith, from) in
@@ -167,7 +173,8 @@ columns_more cols old i new h l same e is =
 pub item_at : {Z : Type 0} (vectors : List (Vec ℕ Z)) (i : ℕ) (v : Vec ℕ Z) → i < length vectors → v ≡ get_or vectors i v → v.items ≡ get_or (items_of vectors) i []
 item_at vectors i v h e = ap (λ w. w.items) e ∙ sym (get_or-map (λ v. v.items) vectors i v [] h)
 
-pub at_item : {Z : Type 0} (P : List ℕ → Type 0) (vectors : List (Vec ℕ Z)) (i : ℕ) (v : Vec ℕ Z) → i < length vectors → v ≡ get_or vectors i v → All P (items_of vectors) → P v.items
+pub at_item : {Z : Type 0} (P : List ℕ → Type 0) (vectors : List (Vec ℕ Z)) (i : ℕ) (v : Vec ℕ Z) → i < length vectors → v ≡ get_or vectors i v
+    → All P (items_of vectors) → P v.items
 at_item P vectors i v h e all = subst P (sym (item_at vectors i v h e)) (all i [] (omega (arith, h, length-map vectors (λ v. v.items))))
 
 pub items_front : {Z : Type 0} (P : List ℕ → Type 0) (vectors front : List (Vec ℕ Z)) (n : ℕ) → front ≡ take n vectors → All P (items_of vectors) → All P (items_of front)
@@ -228,7 +235,8 @@ pub columns_after : (low count order partition_order p : ℕ) (us : List ℕ) (c
     → is_allowed (length us + order) order partition_order ≡ true → cols ≡ columns low count (parts_of order partition_order us) → new ≡ map pair_sums cols
     → new ≡ columns low count (parts_of order p us)
 columns_after low count order partition_order p us cols new e a is h =
-    columns_next low count order p us cols new (subst (λ m. is_allowed (length us + order) order m ≡ true) e a) (is ∙ ap (λ m. columns low count (parts_of order m us)) e) h
+    columns_next low count order p us cols new (subst (λ m. is_allowed (length us + order) order m ≡ true) e a)
+    (is ∙ ap (λ m. columns low count (parts_of order m us)) e) h
 
 -- ---- the least of each partition's bits
 
@@ -250,18 +258,21 @@ least_each-columns : (low more : ℕ) (parts : List (List ℕ)) → least_each (
 unfolding columns least_each
 least_each-columns low more parts = least_from low more parts
 
-sum_with : (width : ℕ) (f g : List ℕ → ℕ) (parts : List (List ℕ)) → AllByRecursion (λ part. width + g part ≡ f part) parts → width * length parts + sum (map g parts) ≡ sum_by f parts
+sum_with : (width : ℕ) (f g : List ℕ → ℕ) (parts : List (List ℕ)) → AllByRecursion (λ part. width + g part ≡ f part) parts
+    → width * length parts + sum (map g parts) ≡ sum_by f parts
 sum_with width f g [] h = omega arith
 sum_with width f g (part ∷ parts) h =
     omega (arith, h.0, sum_with width f g parts h.1, sum_by-cons (λ x. x) (g part) (map g parts), sum_by-cons f part parts)
 
-all_spanned : (method low high top : ℕ) (parts : List (List ℕ)) → AllByRecursion (Spans low high) parts → low < top → top ≤ high → top ≤ count_of method → (top < count_of method → top ≡ high)
+all_spanned : (method low high top : ℕ) (parts : List (List ℕ)) → AllByRecursion (Spans low high) parts
+    → low < top → top ≤ high → top ≤ count_of method → (top < count_of method → top ≡ high)
     → AllByRecursion (λ part. 4 + method + lowest (λ k. part_cost 0 k part) low (top - 1 - low) ≡ best_cost method part) parts
 all_spanned method low high top [] s a b c d = tt
 all_spanned method low high top (part ∷ parts) s a b c d = (spanned method low high top part s.0 a b c d, all_spanned method low high top parts s.1 a b c d)
 
 level : (method low high top n cost : ℕ) (cols parts : List (List ℕ)) → cols ≡ columns low (top - low) parts → n ≡ length parts → AllByRecursion (Spans low high) parts
-    → low < top → top ≤ high → top ≤ count_of method → (top < count_of method → top ≡ high) → cost ≡ (4 + method) * n + sum (least_each cols) → cost ≡ sum_by (best_cost method) parts
+    → low < top → top ≤ high → top ≤ count_of method → (top < count_of method → top ≡ high)
+    → cost ≡ (4 + method) * n + sum (least_each cols) → cost ≡ sum_by (best_cost method) parts
 level method low high top n cost cols parts e len s a b c d is =
     let more : ℕ = top - 1 - low in
     let some_left : top - low ≡ suc more = omega (arith, a) in
@@ -275,14 +286,15 @@ columns_take : (low count n : ℕ) (parts : List (List ℕ)) → n ≤ count →
 unfolding columns
 columns_take low count n parts h = take-map-range_with_len (λ k. column k parts) low count n h
 
-pub first_level : (low high n cost : ℕ) (cols parts : List (List ℕ)) → IsSpan low high → cols ≡ columns low (high - low) parts → n ≡ length parts → AllByRecursion (Spans low high) parts
-    → cost ≡ 4 * n + sum (least_each (take (min high 15 - low) cols)) → cost ≡ sum_by (best_cost 0) parts
+pub first_level : (low high n cost : ℕ) (cols parts : List (List ℕ)) → IsSpan low high → cols ≡ columns low (high - low) parts → n ≡ length parts
+    → AllByRecursion (Spans low high) parts → cost ≡ 4 * n + sum (least_each (take (min high 15 - low) cols)) → cost ≡ sum_by (best_cost 0) parts
 first_level low high n cost cols parts span e len s is =
-    level 0 low high (min high 15) n cost (take (min high 15 - low) cols) parts (ap (take (min high 15 - low)) e ∙ columns_take low (high - low) (min high 15 - low) parts (omega arith)) len s
+    let top : ℕ = min high 15 in
+    level 0 low high top n cost (take (top - low) cols) parts (ap (take (top - low)) e ∙ columns_take low (high - low) (top - low) parts (omega arith)) len s
     (omega (arith, span.first, span.some_parameter)) (omega arith) (omega arith) (λ l. omega (arith, l)) is
 
-pub second_level : (low high n cost : ℕ) (cols parts : List (List ℕ)) → IsSpan low high → cols ≡ columns low (high - low) parts → n ≡ length parts → AllByRecursion (Spans low high) parts
-    → cost ≡ 5 * n + sum (least_each cols) → cost ≡ sum_by (best_cost 1) parts
+pub second_level : (low high n cost : ℕ) (cols parts : List (List ℕ)) → IsSpan low high → cols ≡ columns low (high - low) parts → n ≡ length parts
+    → AllByRecursion (Spans low high) parts → cost ≡ 5 * n + sum (least_each cols) → cost ≡ sum_by (best_cost 1) parts
 second_level low high n cost cols parts span e len s is =
     level 1 low high high n cost cols parts e len s span.some_parameter (omega arith) span.last (λ l. refl) is
 
@@ -292,7 +304,8 @@ pub lower_more : (xs old ys : List ℕ) (i lower : ℕ) → i < length xs → le
     → lower ≡ min (get_or xs i 0) (get_or ys i 0) → take i xs ≡ take i (zip2 min old ys) → take (i + 1) (set xs i lower) ≡ take (i + 1) (zip2 min old ys)
 lower_more xs old ys i lower h l m same e is =
     let all : List ℕ = zip2 min old ys in
-    let here : get_or all i 0 ≡ lower = get_or-zip2 min old ys i 0 0 0 (omega (arith, h, l, m)) (omega (arith, h, l)) ∙ ap (λ n. min n (get_or ys i 0)) (sym same) ∙ sym e in
+    let here : get_or all i 0 ≡ lower =
+    get_or-zip2 min old ys i 0 0 0 (omega (arith, h, l, m)) (omega (arith, h, l)) ∙ ap (λ n. min n (get_or ys i 0)) (sym same) ∙ sym e in
     take_more_set xs i lower h
     ∙ ap (λ l. l ++ (lower ∷ [])) is
     ∙ ap (λ n. take i all ++ (n ∷ [])) (sym here)
@@ -331,24 +344,28 @@ all_below : (xs : List ℕ) (others : List (List ℕ)) → sum (fold (zip2 min) 
 all_below xs [] = omega arith
 all_below xs (ys ∷ others) = omega (arith, all_below (zip2 min xs ys) others, below_first xs ys)
 
-pub least_small : (n : ℕ) (cols : List (List ℕ)) → n ≤ 256 → All (λ costs. length costs ≡ n) cols → All (All (λ cost. cost ≤ 2 ^ 48)) cols → sum (least_each cols) ≤ 2 ^ 56
+pub least_small : (n : ℕ) (cols : List (List ℕ)) → n ≤ 256 → All (λ costs. length costs ≡ n) cols
+    → All (All (λ cost. cost ≤ 2 ^ 48)) cols → sum (least_each cols) ≤ 2 ^ 56
 unfolding least_each
 least_small n [] l len small = omega arith
 least_small n (xs ∷ others) l len small =
-    omega (arith, all_below xs others, sum_by-le (λ x. x) (2 ^ 48) xs (All-head (All (λ cost. cost ≤ 2 ^ 48)) xs others small), All-head (λ costs. length costs ≡ n) xs others len, l)
+    let each : All (λ cost. cost ≤ 2 ^ 48) xs = All-head (All (λ cost. cost ≤ 2 ^ 48)) xs others small in
+    omega (arith, all_below xs others, sum_by-le (λ x. x) (2 ^ 48) xs each, All-head (λ costs. length costs ≡ n) xs others len, l)
 
 -- ---- room for a level's least
 
-pub places_are : (p finest n : ℕ) (xs : List ℕ) → p ≤ finest → n ≡ 2 ^ p → length xs ≡ 2 ^ finest → length (take n xs) ≡ 2 ^ p
-places_are p finest n xs h e l =
-    let less : 2 ^ p ≤ 2 ^ finest = pow-le-pow_right (omega arith) h in
-    omega (arith, length-take n xs, e, l, less)
+power_less : (i j : ℕ) → i ≤ j → 2 ^ i ≤ 2 ^ j
+power_less i j h = pow-le-pow_right (omega arith) h
+
+pub places_are : (p finest : ℕ) (xs : List ℕ) → p ≤ finest → finest ≤ 8 → length xs ≡ 2 ^ finest → length (take ((1 * 2 ^ p) % 2 ^ 64) xs) ≡ 2 ^ p
+places_are p finest xs h few l =
+    let places : ℕ = (1 * 2 ^ p) % 2 ^ 64 in
+    omega (arith, length-take places xs, one_shl p 64 (omega (arith, h, few)), l, power_less p finest h)
 
 pub places_few : (p n : ℕ) → n ≡ 2 ^ p → p ≤ 8 → n ≤ 256
-places_few p n e h =
-    let less : 2 ^ p ≤ 2 ^ 8 = pow-le-pow_right (omega arith) h in
-    omega (arith, e, less)
+places_few p n e h = omega (arith, e, power_less p 8 h)
 
 pub room_kept : (n : ℕ) (xs room : List ℕ) → n ≡ length room → length (take n (xs ++ drop (length xs) room)) ≡ n
 room_kept n xs room e =
-    omega (arith, length-take n (xs ++ drop (length xs) room), length-append xs (drop (length xs) room), length-drop (length xs) room, e)
+    let rest : List ℕ = drop (length xs) room in
+    omega (arith, length-take n (xs ++ rest), length-append xs rest, length-drop (length xs) room, e)

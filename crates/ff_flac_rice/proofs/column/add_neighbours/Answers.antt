@@ -17,4 +17,5 @@ loop-i-preserved c =
 
 pub returns-clause-sums : goal.returns-clause-sums
 returns-clause-sums c =
-    halve_end c.loop-i.costs _ c.loop-i.i (length c.args.costs.now / 2) (omega (arith, c.loop-i-test.false)) (omega (arith, c.loop-i.invariant.len, c.loop-i-test.false)) c.loop-i.invariant.is
+    halve_end c.loop-i.costs _ c.loop-i.i (length c.args.costs.now / 2) (omega (arith, c.loop-i-test.false))
+    (omega (arith, c.loop-i.invariant.len, c.loop-i-test.false)) c.loop-i.invariant.is

@@ -6,5 +6,7 @@ use Rattle.ff_flac_rice.proofs.column.column_of.Goals as goal
 pub returns : goal.returns
 returns c =
     let len : c.in_ok-costs.costs.len ≡ 2 ^ c.args.partition_order = omega (arith, c.in_ok-costs.ensures.len, one_shl c.args.partition_order 64 (omega arith)) in
-    column_filled c.args.k c.args.order c.args.partition_order c.args.us.now c.split_at.result.0.now c.split_at.result.1.now c.in_ok-costs.costs.items c.deref_mut.result.now c.fill.new.costs
-    c.in_ok-costs.costs.len c.cost_of.result (sym c.in_ok-costs.costs.ok.0) len c.cost_of.ensures.is c.split_at.ensures.front c.split_at.ensures.back c.deref_mut.ensures.value c.fill.ensures
+    let zeros = c.in_ok-costs.costs in
+    column_filled c.args.k c.args.order c.args.partition_order c.args.us.now c.split_at.result.0.now c.split_at.result.1.now
+    zeros.items c.deref_mut.result.now c.fill.new.costs zeros.len c.cost_of.result (sym zeros.ok.0) len
+    c.cost_of.ensures.is c.split_at.ensures.front c.split_at.ensures.back c.deref_mut.ensures.value c.fill.ensures

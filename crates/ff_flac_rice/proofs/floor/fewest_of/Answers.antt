@@ -20,7 +20,8 @@ loop-k-preserved c =
     let f : ℕ → ℕ = λ k. part_cost 0 k c.args.part.now in
     record {
       above = omega (arith, c.loop-k.invariant.above);
-      lowest = lowest_next f c.args.span.low c.loop-k.k c.loop-k.least c.cost_of.result _ c.loop-k.invariant.above c.loop-k.invariant.lowest c.cost_of.ensures.is c.min-least.ensures;
+      lowest = lowest_next f c.args.span.low c.loop-k.k c.loop-k.least c.cost_of.result _ c.loop-k.invariant.above c.loop-k.invariant.lowest
+          c.cost_of.ensures.is c.min-least.ensures;
       small = omega (arith, c.min-least.ensures, c.loop-k.invariant.small);
     }
 

@@ -6,7 +6,8 @@ use Rattle.ff_flac_rice.proofs.ColumnLemmas.{items_front, items_back, least_smal
 use Rattle.ff_flac_rice.proofs.level.level_costs.Goals as goal
 
 pub put_least-requires-clause-same : goal.put_least-requires-clause-same
-put_least-requires-clause-same c = items_front (λ costs. length costs ≡ length c.args.least.now) c.args.columns.now c.split_at.result.0.now _ c.split_at.ensures.front c.requires.same
+put_least-requires-clause-same c =
+    items_front (λ costs. length costs ≡ length c.args.least.now) c.args.columns.now c.split_at.result.0.now _ c.split_at.ensures.front c.requires.same
 
 pub total-requires : goal.total-requires
 total-requires c =
@@ -35,12 +36,16 @@ lower_by-requires c =
 
 pub total-requires-2 : goal.total-requires-2
 total-requires-2 c =
-    let all = least_all_of c.args.columns.now c.split_at.result.0.now c.split_at.result.1.now _ c.put_least.new.least c.lower_by.new.least c.split_at.ensures.front c.split_at.ensures.back
-    (omega (arith, c.split_at.ensures.front_len, c.min.ensures, c.requires.span.first, c.requires.span.some_parameter)) c.put_least.ensures.least c.lower_by.ensures.least in
+    let split = c.split_at in
+    let all = least_all_of c.args.columns.now split.result.0.now split.result.1.now _ c.put_least.new.least c.lower_by.new.least split.ensures.front split.ensures.back
+    (omega (arith, split.ensures.front_len, c.min.ensures, c.requires.span.first, c.requires.span.some_parameter))
+    c.put_least.ensures.least c.lower_by.ensures.least in
     omega (arith, ap sum all, least_small (length c.args.least.now) (items_of c.args.columns.now) c.requires.few c.requires.same c.requires.small)
 
 pub returns-clause-second : goal.returns-clause-second
 returns-clause-second c =
-    let all = least_all_of c.args.columns.now c.split_at.result.0.now c.split_at.result.1.now _ c.put_least.new.least c.lower_by.new.least c.split_at.ensures.front c.split_at.ensures.back
-    (omega (arith, c.split_at.ensures.front_len, c.min.ensures, c.requires.span.first, c.requires.span.some_parameter)) c.put_least.ensures.least c.lower_by.ensures.least in
+    let split = c.split_at in
+    let all = least_all_of c.args.columns.now split.result.0.now split.result.1.now _ c.put_least.new.least c.lower_by.new.least split.ensures.front split.ensures.back
+    (omega (arith, split.ensures.front_len, c.min.ensures, c.requires.span.first, c.requires.span.some_parameter))
+    c.put_least.ensures.least c.lower_by.ensures.least in
     omega (arith, c.total-2.ensures.is, ap sum all)

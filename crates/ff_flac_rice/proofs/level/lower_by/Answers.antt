@@ -4,6 +4,8 @@ use Rattle.ff_flac_rice.proofs.level.lower_by.Goals as goal
 
 pub lower_each-requires : goal.lower_each-requires
 lower_each-requires c =
-    c.loop-costs.invariant.len
-    ∙ sym (at_item (λ costs. length costs ≡ length c.args.least.now) c.args.columns.now c.loop-costs.costs-index c.costs-item.result (omega (arith, c.loop-costs-test.true)) c.costs-item.is c.requires)
+    let loop = c.loop-costs in
+    loop.invariant.len
+    ∙ sym (at_item (λ costs. length costs ≡ length c.args.least.now) c.args.columns.now loop.costs-index c.costs-item.result (omega (arith, c.loop-costs-test.true))
+    c.costs-item.is c.requires)
     ∙ sym (ap length c.deref.ensures.value)

@@ -9,8 +9,8 @@ loop-i-preserved c =
     let i : ℕ = c.loop-i.i in
     record {
       len = length-set c.loop-i.least i _ ∙ c.loop-i.invariant.len;
-      is = lower_more c.loop-i.least c.args.least.now c.args.costs.now i c.min.result (omega (arith, c.loop-i-test.true, c.loop-i.invariant.len, c.requires)) c.loop-i.invariant.len c.requires
-          (c.loop-i.invariant.rest i (omega arith)) c.min.ensures c.loop-i.invariant.is;
+      is = lower_more c.loop-i.least c.args.least.now c.args.costs.now i c.min.result (omega (arith, c.loop-i-test.true, c.loop-i.invariant.len, c.requires))
+          c.loop-i.invariant.len c.requires (c.loop-i.invariant.rest i (omega arith)) c.min.ensures c.loop-i.invariant.is;
       rest = λ j h. let ne : j ≢ i = omega (arith, h) in get_or-set_other c.loop-i.least i j _ 0 ne ∙ c.loop-i.invariant.rest j (omega (arith, h));
     }
 

@@ -11,4 +11,6 @@ lower_by-requires c =
     (λ costs e. e ∙ sym c.copy_from_slice.ensures.len) (items_of c.args.columns.now) c.requires.same)
 
 pub returns-clause-least : goal.returns-clause-least
-returns-clause-least c = least_put c.args.columns.now c.index-columns-0.result c.copy_from_slice.new.self _ c.requires.some c.index-columns-0.is (c.copy_from_slice.ensures.after ∙ c.deref.ensures.value) c.lower_by.ensures.least
+returns-clause-least c =
+    least_put c.args.columns.now c.index-columns-0.result c.copy_from_slice.new.self _ c.requires.some c.index-columns-0.is
+    (c.copy_from_slice.ensures.after ∙ c.deref.ensures.value) c.lower_by.ensures.least
