@@ -34,14 +34,6 @@ pub(crate) fn lanes_at(part: &[u32], k: usize) -> u32x16
     u32x16::from_slice(part) >> u32x16::splat(k as u32)
 }
 
-/// Half of each of 16 values.
-pub(crate) fn halves_of(lanes: u32x16) -> u32x16
-    requires { length lanes ≡ 16 }
-    ensures { result ≡ map (λ u. u / 2) lanes }
-{
-    lanes >> 1
-}
-
 /// The sum of the quotients under one parameter, where it fits 32 bits.
 fn narrow_quotients(part: &[u32], k: u32, most: u32) -> u32
     requires k { k < 32 }
