@@ -2,3 +2,4 @@ pub mod Predict
 pub mod Plans
 pub mod ReadsSub
 pub mod Restored
+pub mod Outlooks

@@ -21,7 +21,7 @@ use Rattle.ff_flac_rice.proofs.LeastLemmas.{choose_first, choose_second, choose_
 use Rattle.ff_flac_rice.proofs.Levels.{coding_cost}
 use Rattle.ff_flac_rice.proofs.Orders.{filter_all, filter_none, range_between, range_split}
 use Rattle.ff_flac_rice.proofs.RowLemmas.{range_below}
-use Rattle.ff_flac_sub.proofs.Predict.{magnitude_of, fits_of, length-samples, length-sample_bits, length-rest_of, steps_small, rest_of-suc}
+use Rattle.ff_flac_sub.proofs.Predict.{magnitude_of, fits_of, length-samples, length-sample_bits, length-rest_of, steps_small, steps_zigzags, rest_of-suc}
 
 pow_two : (m n : ℕ) → n ≡ suc m → 2 ^ n ≡ 2 * 2 ^ m
 pow_two m n e = ap (λ k. 2 ^ k) e ∙ omega (arith, pow-suc 2 m)
@@ -132,15 +132,14 @@ all_fixed : (depth order low : ℕ) (xs : List ℤ) (cs : List Coding) → order
 all_fixed depth order low xs [] h all = tt
 all_fixed depth order low xs (c ∷ cs) h all = (omega (arith, all.0, size-fixed depth order xs c h), all_fixed depth order low xs cs h all.1)
 
-pub floor_is : (depth order floor : ℕ) (xs : List ℤ) (us : List ℕ) → order ≤ length xs → us ≡ map zigzagged (rest_of order xs)
-    → AllByRecursion (λ c. floor ≤ length (residual_bits order c us)) (codings (length us + order) order) → IsFloor depth xs order (8 + depth * order + floor)
+pub floor_is : (depth order floor : ℕ) (xs rest : List ℤ) → order ≤ length xs → rest ≡ rest_of order xs
+    → AllByRecursion (λ c. floor ≤ length (residual_bits order c (map zigzagged rest))) (codings (length rest + order) order) → IsFloor depth xs order (8 + depth * order + floor)
 unfolding fixed_of
-floor_is depth order floor xs us h e low =
-    let n : length us + order ≡ length xs = omega (arith, ap length e, length-map (rest_of order xs) zigzagged, length-rest_of order xs, h) in
-    let vs : List ℕ = map zigzagged (rest_of order xs) in
-    let all : AllByRecursion (λ c. floor ≤ coding_cost order vs c) (codings (length xs) order) =
-    subst (λ m. AllByRecursion (λ c. floor ≤ coding_cost order vs c) (codings m order)) n
-    (subst (λ l. AllByRecursion (λ c. floor ≤ coding_cost order l c) (codings (length us + order) order)) e low) in
+floor_is depth order floor xs rest h e low =
+    let n : length rest + order ≡ length xs = omega (arith, ap length e, length-rest_of order xs, h) in
+    let all : AllByRecursion (λ c. floor ≤ coding_cost order (map zigzagged (rest_of order xs)) c) (codings (length xs) order) =
+    subst (λ m. AllByRecursion (λ c. floor ≤ coding_cost order (map zigzagged (rest_of order xs)) c) (codings m order)) n
+    (subst (λ l. AllByRecursion (λ c. floor ≤ coding_cost order (map zigzagged l) c) (codings (length rest + order) order)) e low) in
     all_fixed depth order floor xs (codings (length xs) order) h all
 
 pub same_spellings : (depth : ℕ) (xs : List ℤ) (cs ds : List Spelling) (best : Option Planned) → cs ≡ ds → IsBestPlan depth xs cs best → IsBestPlan depth xs ds best
@@ -246,6 +245,10 @@ pub leads_on : (depth limit order floor : ℕ) (xs : List ℤ) (best : Option Pl
 leads_on depth limit order floor xs best l all h =
     subst (λ l. Leads depth xs limit l best) (so_far-more xs order) (leads_past depth limit floor xs (so_far xs order) (fixed_of (length xs) order) best l all h)
 
+lower_floor : (depth low floor : ℕ) (xs : List ℤ) (es : List Spelling) → low ≤ floor → AllByRecursion (λ s. floor ≤ size depth xs s) es → AllByRecursion (λ s. low ≤ size depth xs s) es
+lower_floor depth low floor xs [] l h = tt
+lower_floor depth low floor xs (e ∷ es) l h = (omega (arith, l, h.0), lower_floor depth low floor xs es l h.1)
+
 -- one more floor
 pub one_floor : (depth : ℕ) (xs : List ℤ) (order : ℕ) (floors more : List ℕ) (floor : ℕ) → length floors ≡ order → more ≡ floors ++ (floor ∷ [])
     → ((o : ℕ) → o < order → IsFloor depth xs o (get_or floors o 0)) → IsFloor depth xs order floor → (o : ℕ) → o < order + 1 → IsFloor depth xs o (get_or more o 0)
@@ -258,6 +261,16 @@ one_floor depth xs order floors more floor n e h new o l = elim (cases_lt o orde
       let at : order ≡ o = omega (arith, ge, l) in
       let same : get_or more o 0 ≡ floor = ap (λ (m : List ℕ). get_or m o 0) e ∙ get_or_push floors floor 0 o (sym here) in
       subst (λ m. IsFloor depth xs o m) (sym same) (subst (λ k. IsFloor depth xs k floor) at new)
+]
+
+-- as floors of each order, what is no more than the new one and the old
+pub each_floor : (depth : ℕ) (xs : List ℤ) (order least floor low : ℕ) → low ≤ least → low ≤ floor
+    → ((o : ℕ) → o < order → IsFloor depth xs o least) → IsFloor depth xs order floor → (o : ℕ) → o < order + 1 → IsFloor depth xs o low
+each_floor depth xs order least floor low a b h new o l = elim (cases_lt o order) [
+  | inl lt ↦ lower_floor depth low least xs (fixed_of (length xs) o) a (h o lt)
+  | inr ge ↦
+      let at : order ≡ o = omega (arith, ge, l) in
+      lower_floor depth low floor xs (fixed_of (length xs) o) b (subst (λ k. IsFloor depth xs k floor) at new)
 ]
 
 -- behind the order that was known
@@ -274,9 +287,8 @@ known_next depth order xs best new result h d c w r =
       fits = subst (λ o. IfSome o (λ p. PlanFits xs p.plan)) r (chosen_holds (λ p. PlanFits xs p.plan) best new h.fits w);
     })
 
-lower_floor : (depth low floor : ℕ) (xs : List ℤ) (es : List Spelling) → low ≤ floor → AllByRecursion (λ s. floor ≤ size depth xs s) es → AllByRecursion (λ s. low ≤ size depth xs s) es
-lower_floor depth low floor xs [] l h = tt
-lower_floor depth low floor xs (e ∷ es) l h = (omega (arith, l, h.0), lower_floor depth low floor xs es l h.1)
+pub lower_floor_of : (depth order low floor : ℕ) (xs : List ℤ) → low ≤ floor → IsFloor depth xs order floor → IsFloor depth xs order low
+lower_floor_of depth order low floor xs l h = lower_floor depth low floor xs (fixed_of (length xs) order) l h
 
 pub floor_stays : (depth order floor : ℕ) (xs : List ℤ) (p : Planned) → p.cost ≤ floor → IsFloor depth xs order floor
     → (cs : List Spelling) → IsBestPlan depth xs cs (Some p) → IsBestPlan depth xs (cs ++ fixed_of (length xs) order) (Some p)
@@ -308,10 +320,6 @@ pub small_enough : (n order : ℕ) (xs : List ℤ) → order ≤ 5 → All (λ x
 small_enough n order xs h a =
     All-weaker (λ x. magnitude x < 2 ^ (24 + order)) (λ x. magnitude x < 2 ^ 30) (λ x l. omega (arith, l, pow_le (24 + order) 30 (omega arith))) xs a
 
-pub few_enough : (order : ℕ) (xs : List ℤ) → order ≤ 4 → All (λ x. magnitude x < 2 ^ (24 + order)) xs → All (λ x. magnitude x < 2 ^ 29) xs
-few_enough order xs h a =
-    All-weaker (λ x. magnitude x < 2 ^ (24 + order)) (λ x. magnitude x < 2 ^ 29) (λ x l. omega (arith, l, pow_le (24 + order) 29 (omega arith))) xs a
-
 pub next_small : (order : ℕ) (xs ys : List ℤ) → ys ≡ steps xs → All (λ x. magnitude x < 2 ^ (24 + order)) xs → All (λ x. magnitude x < 2 ^ (24 + (order + 1))) ys
 next_small order xs ys e h =
     let p : 2 * 2 ^ (24 + order) ≡ 2 ^ (24 + (order + 1)) = sym (pow_two (24 + order) (24 + (order + 1)) (omega arith)) in
@@ -322,6 +330,14 @@ pub next_rest : (order : ℕ) (xs rest next : List ℤ) → rest ≡ rest_of ord
 next_rest order xs rest next e h =
     let s : suc order ≡ order + 1 = omega arith in
     h ∙ ap steps e ∙ sym (rest_of-suc order xs) ∙ ap (λ m. rest_of m xs) s
+
+pub twice_small : (m n k : ℕ) → k ≡ suc n → m < 2 ^ n → m * 2 < 2 ^ k
+twice_small m n k e h = omega (arith, h, pow_two n k e)
+
+pub next_zigzags : (m : ℕ) (xs ys : List ℤ) → ys ≡ steps xs → All (λ x. zigzagged x ≤ m) xs → All (λ x. zigzagged x ≤ m * 2) ys
+next_zigzags m xs ys e h =
+    All-same (λ x. zigzagged x ≤ m * 2) ys (steps xs) e
+    (All-weaker (λ x. zigzagged x ≤ 2 * m) (λ x. zigzagged x ≤ m * 2) (λ x l. omega (arith, l)) (steps xs) (steps_zigzags m xs h))
 
 pub first_small : (depth : ℕ) (xs : List ℤ) → depth ≤ 25 → All (FitsBits depth) xs → All (FitsBits 25) xs
 first_small depth xs h a =

@@ -1,9 +1,9 @@
-use Rattle.std.proofs.Common.{◌≡◌, ℕ, zero, ◌^◌, suc, ◌+◌, ◌-◌, ◌*◌, ◌<◌, ◌≤◌, ℤ, pos, negsuc, List, [], ◌∷◌, ◌++◌, length, map, get_or, set, take, drop, refl, sym, ap, ◌∙◌, subst, arith}
+use Rattle.std.proofs.Common.{◌≡◌, ℕ, zero, ◌^◌, suc, ◌+◌, ◌-◌, ◌*◌, ◌<◌, ◌≤◌, ℤ, pos, negsuc, List, [], ◌∷◌, ◌++◌, length, get_or, set, take, drop, refl, sym, ap, ◌∙◌, arith}
 use Rattle.std.specs.Prelude.{◌+ℤ◌, ◌*ℤ◌, ◌-ℤ◌, ◌<ℤ◌, ◌≤ℤ◌, neg_ℤ}
 use Rattle.std.proofs.lemmas.Int.{ints}
 use Rattle.std.specs.List.{flat_map, All, AllByRecursion}
 use Rattle.std.proofs.lemmas.List.Elements.{All-from_recursion, recursion_from_All, All-same, All-drop}
-use Rattle.std.proofs.lemmas.List.{length-append, map-append, get_or-drop, length-drop, append_assoc, append-nil, drop_more, drop-drop, drop-set-lt, take_more_set}
+use Rattle.std.proofs.lemmas.List.{length-append, length-drop, append_assoc, append-nil, drop_more, drop-drop, drop-set-lt, take_more_set}
 use Rattle.ff_bits.proofs.BitsLemmas.{length-bits_of}
 use Rattle.ff_values.specs.Audio.{FitsBits}
 use Rattle.ff_flac_rice.specs.Rice.{zigzagged}
@@ -38,17 +38,6 @@ pub step_end : (xs all : List ℤ) (i n : ℕ) → length xs ≡ n → i ≡ n -
 step_end xs all i n l e is =
     let none : steps (drop i xs) ≡ [] = steps_short (drop i xs) (omega (arith, length-drop i xs, l)) in
     ap (λ m. take m xs) (sym e) ∙ sym (append-nil (take i xs)) ∙ ap (λ l. take i xs ++ l) (sym none) ∙ is
-
-pub zigzags_next : (xs : List ℤ) (us : List ℕ) (i : ℕ) (d : ℤ) (u : ℕ) → i < length xs → i < length us → u ≡ zigzagged d → take i us ≡ map zigzagged (take i xs)
-    → take (i + 1) (set us i u) ≡ map zigzagged (take (i + 1) (set xs i d))
-zigzags_next xs us i d u l m e h =
-    take_more_set us i u m
-    ∙ ap (λ l. l ++ (u ∷ [])) h
-    ∙ ap (λ n. map zigzagged (take i xs) ++ (n ∷ [])) e
-    ∙ sym (ap (map zigzagged) (take_more_set xs i d l) ∙ map-append zigzagged (take i xs) (d ∷ []))
-
-pub small_at : (m : ℕ) (xs : List ℤ) (i k : ℕ) → All (λ x. magnitude x < m) (drop i xs) → i + k < length xs → magnitude (get_or xs (i + k) (pos 0)) < m
-small_at m xs i k h l = subst (λ z. magnitude z < m) (get_or-drop i xs k (pos 0)) (h k (pos 0) (omega (arith, length-drop i xs, l)))
 
 -- ---- how long residuals are, and how large
 
@@ -100,6 +89,43 @@ step_small m x y h g =
     let c : neg_ℤ (pos m) ≤ℤ x = from_below m x h in
     let d : neg_ℤ (pos m) ≤ℤ y = from_below m y g in
     between (2 * m) (y -ℤ x) (omega (arith, ints)) (omega (arith, ints))
+
+-- what a number and what stands for it say of one another
+zigzag_high : (m : ℕ) (x : ℤ) → zigzagged x ≤ m → (pos 2 *ℤ x) ≤ℤ pos m
+zigzag_high m (pos n) h = omega (arith, ints)
+zigzag_high m (negsuc n) h = omega (arith, ints)
+
+zigzag_low : (m : ℕ) (x : ℤ) → zigzagged x ≤ m → neg_ℤ (pos (m + 1)) ≤ℤ (pos 2 *ℤ x)
+zigzag_low m (pos n) h = omega (arith, ints)
+zigzag_low m (negsuc n) h = omega (arith, ints)
+
+zigzag_between : (m : ℕ) (x : ℤ) → (pos 2 *ℤ x) ≤ℤ pos m → neg_ℤ (pos (m + 1)) ≤ℤ (pos 2 *ℤ x) → zigzagged x ≤ m
+zigzag_between m (pos n) h g = omega (arith, ints)
+zigzag_between m (negsuc n) h g = omega (arith, ints)
+
+pub zigzag_small : (m : ℕ) (x : ℤ) → magnitude x < m → zigzagged x < 2 * m
+zigzag_small m (pos n) h = omega arith
+zigzag_small m (negsuc n) h = omega arith
+
+step_zigzag : (m : ℕ) (x y : ℤ) → zigzagged x ≤ m → zigzagged y ≤ m → zigzagged (y -ℤ x) ≤ 2 * m
+step_zigzag m x y h g =
+    let a : (pos 2 *ℤ x) ≤ℤ pos m = zigzag_high m x h in
+    let b : (pos 2 *ℤ y) ≤ℤ pos m = zigzag_high m y g in
+    let c : neg_ℤ (pos (m + 1)) ≤ℤ (pos 2 *ℤ x) = zigzag_low m x h in
+    let d : neg_ℤ (pos (m + 1)) ≤ℤ (pos 2 *ℤ y) = zigzag_low m y g in
+    zigzag_between (2 * m) (y -ℤ x) (omega (arith, ints)) (omega (arith, ints))
+
+steps_from_zigzags : (m : ℕ) (x : ℤ) (ys : List ℤ) → zigzagged x ≤ m → AllByRecursion (λ z. zigzagged z ≤ m) ys → AllByRecursion (λ z. zigzagged z ≤ 2 * m) (steps_from x ys)
+steps_from_zigzags m x [] h g = tt
+steps_from_zigzags m x (y ∷ ys) h g = (step_zigzag m x y h g.0, steps_from_zigzags m y ys g.0 g.1)
+
+steps_zigzags_rec : (m : ℕ) (xs : List ℤ) → AllByRecursion (λ z. zigzagged z ≤ m) xs → AllByRecursion (λ z. zigzagged z ≤ 2 * m) (steps xs)
+steps_zigzags_rec m [] g = tt
+steps_zigzags_rec m (x ∷ xs) g = steps_from_zigzags m x xs g.0 g.1
+
+pub steps_zigzags : (m : ℕ) (xs : List ℤ) → All (λ z. zigzagged z ≤ m) xs → All (λ z. zigzagged z ≤ 2 * m) (steps xs)
+steps_zigzags m xs h =
+    All-from_recursion (λ z. zigzagged z ≤ 2 * m) (steps xs) (steps_zigzags_rec m xs (recursion_from_All (λ z. zigzagged z ≤ m) xs h))
 
 steps_from_small : (m : ℕ) (x : ℤ) (ys : List ℤ) → magnitude x < m → AllByRecursion (λ z. magnitude z < m) ys → AllByRecursion (λ z. magnitude z < 2 * m) (steps_from x ys)
 steps_from_small m x [] h g = tt

@@ -265,7 +265,7 @@ all-append P (x ∷ xs) ys h g = (h.0, all-append P xs ys h.1 g)
 
 -- what holds of each kind holds of each candidate
 pub all-candidates : (P : Spelling → Type 0) (xs : List ℤ) → (all_are (first_or_zero xs) xs ≡ true → P constant)
-    → ((order : ℕ) → order ≤ 4 → order ≤ length xs → AllByRecursion P (fixed_of (length xs) order)) → P verbatim → AllByRecursion P (candidates xs)
+    → ((order : ℕ) → order ≤ 4 → order < length xs → AllByRecursion P (fixed_of (length xs) order)) → P verbatim → AllByRecursion P (candidates xs)
 unfolding candidates predictors
 all-candidates P xs one some all =
     let test : Bool = all_are (first_or_zero xs) xs in
@@ -275,11 +275,11 @@ all-candidates P xs one some all =
     let range : AllByRecursion (λ k. k ≤ 4) (range_with_len 0 5) = range_below (λ k. k ≤ 4) 0 5 (λ k h. omega (arith, h)) in
     let fixeds : AllByRecursion P (flat_map (fixed_of n) (filter (λ order. ltb order n) (range_with_len 0 5))) =
     all-flat_map P (fixed_of n) (filter (λ order. ltb order n) (range_with_len 0 5))
-    (all-weaker (λ k. (ltb k n ≡ true) × (k ≤ 4)) (λ k. AllByRecursion P (fixed_of n k)) (λ k r. some k r.1 (let lt : k < n = ltb-true k n r.0 in omega (arith, lt)))
+    (all-weaker (λ k. (ltb k n ≡ true) × (k ≤ 4)) (λ k. AllByRecursion P (fixed_of n k)) (λ k r. some k r.1 (ltb-true k n r.0))
     (filter (λ order. ltb order n) (range_with_len 0 5)) (all-filter (λ order. ltb order n) (λ k. k ≤ 4) (range_with_len 0 5) range)) in
     all-append P (cond test (constant ∷ []) [] ++ flat_map (fixed_of n) (filter (λ order. ltb order n) (range_with_len 0 5))) (verbatim ∷ [])
     (all-append P (cond test (constant ∷ []) []) (flat_map (fixed_of n) (filter (λ order. ltb order n) (range_with_len 0 5))) constants fixeds) (all, tt)
 
 pub candidates_read : (depth : ℕ) (xs : List ℤ) → 0 < depth → depth ≤ 25 → 0 < length xs → AllByRecursion (FitsBits depth) xs → AllByRecursion (IsReadBack depth xs) (candidates xs)
 candidates_read depth xs h d n f =
-    all-candidates (IsReadBack depth xs) xs (λ e. read_constant depth xs h n f) (λ order le m. read_fixed_of depth xs order h d le m f) (read_verbatim depth xs h f)
+    all-candidates (IsReadBack depth xs) xs (λ e. read_constant depth xs h n f) (λ order le m. read_fixed_of depth xs order h d le (omega (arith, m)) f) (read_verbatim depth xs h f)

@@ -2,3 +2,4 @@ pub mod Subframe
 pub mod Plan
 pub mod Leads
 pub mod Part
+pub mod Outlook

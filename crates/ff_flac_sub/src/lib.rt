@@ -11,4 +11,6 @@ mod subframe;
 pub use laws::{
     least_is_the_first_of_the_shortest, subframes_are_read_back, subframes_stand_for_their_samples,
 };
-pub use subframe::{Plan, Planned, plan_of, write_plan, write_subframe};
+pub use subframe::{
+    Outlook, Plan, Planned, outlook_of, plan_by, plan_of, write_plan, write_subframe,
+};

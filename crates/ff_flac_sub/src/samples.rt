@@ -48,6 +48,19 @@ fn zigzag_of(x: i32) -> u32
     twice.max(-1 - twice) as u32
 }
 
+/// The greatest of the numbers that stand for samples.
+pub fn greatest_zigzag(xs: &[i32]) -> u32
+    requires { All (λ x. magnitude x < 2 ^ 24) xs.now }
+    ensures most { All (λ x. zigzagged x ≤ result) xs.now }
+    ensures small { result < 2 ^ 25 }
+{
+    let mut most: u32 = 0;
+    for x in xs {
+        most = most.max(zigzag_of(*x));
+    }
+    most
+}
+
 fn zeros(alloc: Global, count: usize) -> Result<Vec<u32>, AllocError>
     ensures { IfOk result (λ v. length v.items ≡ count) }
 {
@@ -71,34 +84,6 @@ pub fn zigzags_of(alloc: Global, xs: &[i32]) -> Result<Vec<u32>, AllocError>
 {
     let mut us = zeros(alloc, xs.len())?;
     zigzag_each(&mut us, xs);
-    Ok(us)
-}
-
-/// Makes of each sample but the last how the next one differs from it, and writes the numbers that stand for these.
-fn zigzag_steps(xs: &mut [i32], us: &mut [u32])
-    requires small { All (λ x. magnitude x < 2 ^ 29) xs.old }
-    requires len { length us.old ≡ length xs.old - 1 }
-    ensures len { length xs.new ≡ length xs.old }
-    ensures is { take (length xs.old - 1) xs.new ≡ steps xs.old }
-    ensures zigzags { us.new ≡ map zigzagged (steps xs.old) }
-{
-    for i in 0..us.len() {
-        let next = step(xs[i + 1], xs[i]);
-        xs[i] = next;
-        us[i] = zigzag_of(next);
-    }
-}
-
-/// Makes of samples how each differs from the one before, and gives the numbers that stand for these.
-pub fn next_zigzags(alloc: Global, xs: &mut Vec<i32>) -> Result<Vec<u32>, AllocError>
-    requires { All (λ x. magnitude x < 2 ^ 29) xs.old.items }
-    ensures steps { OnOk result (xs.new.items ≡ steps xs.old.items) }
-    ensures zigzags { IfOk result (λ v. v.items ≡ map zigzagged (steps xs.old.items)) }
-{
-    let count = xs.len().saturating_sub(1);
-    let mut us = zeros(alloc, count)?;
-    zigzag_steps(xs, &mut us);
-    xs.truncate(count);
     Ok(us)
 }
 

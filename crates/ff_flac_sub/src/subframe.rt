@@ -1,14 +1,16 @@
 //! The least spelling of a subframe.
 
-ghost use Rattle.std.specs.Prelude.{◌≡◌, ◌+◌, ◌-◌, ◌*◌, ◌^◌, ◌<◌, ◌≤◌, ◌++◌, List, length, map, slice_index, IfOk, OnOk, All, Some, ℕ};
+ghost use Rattle.std.specs.Prelude.{◌≡◌, ◌+◌, ◌-◌, ◌*◌, ◌^◌, ◌<◌, ◌≤◌, ◌++◌, List, length, map, min, slice_index, IfOk, OnOk, All, Some, ℕ};
+ghost use Rattle.std.specs.List.{AllByRecursion};
 ghost use Rattle.ff_flac_rice.specs.Rice.{zigzagged};
 ghost use Rattle.ff_flac_sub.specs.Leads.{so_far, IsFloor, Leads};
 ghost use Rattle.ff_flac_rice.specs.Least.{choose, least};
 ghost use Rattle.ff_values.specs.Audio.{FitsBits};
 ghost use Rattle.ff_flac_sub.specs.Subframe.{magnitude, rest_of, subframe_bits, candidates, fixed_of, Spelling};
 ghost use Rattle.ff_flac_sub.specs.Plan.{spelling_of, size, IsBestPlan, PlanFits, constants};
+ghost use Rattle.ff_flac_sub.specs.Outlook.{IsOutlook};
 
-use crate::samples::{are_equal, next_zigzags, put_sample, put_samples, take_steps, zigzags_of};
+use crate::samples::{are_equal, greatest_zigzag, put_sample, put_samples, take_steps, zigzags_of};
 use ff_bits::BitWriter;
 use ff_flac_rice::{best_coding, least_bits, write_residual};
 use std::alloc::{AllocError, Global};
@@ -77,63 +79,77 @@ fn fixed_plan(
     })
 }
 
-/// No spelling of one order has fewer bits, by the zigzag numbers of its residuals.
-fn floor_of(samples: &[i32], us: &[u32], order: usize, depth: u32) -> u64
+/// No spelling of one order has fewer bits, by its residuals, whose zigzag numbers are at most `most`.
+fn floor_of(samples: &[i32], rest: &[i32], order: usize, depth: u32, most: u32) -> u64
     requires len { length samples.now ≤ 4096 }
     requires order { order ≤ 4 }
     requires longer { order < length samples.now }
     requires depth { depth ≤ 25 }
-    requires is { us.now ≡ map zigzagged (rest_of order samples.now) }
+    requires is { rest.now ≡ rest_of order samples.now }
+    requires most { All (λ x. zigzagged x ≤ most) rest.now }
     ensures { IsFloor depth samples.now order result }
 {
-    8 + depth as u64 * order as u64 + least_bits(us, order)
+    8 + depth as u64 * order as u64 + least_bits(rest, order, most)
 }
 
-/// What of each of the first orders is known before one is searched.
-#[derive(Drop)]
-struct Outlook {
-    floors: Vec<u64>,
-    /// The first order with the least floor.
-    first: usize,
-    /// The zigzag numbers of its residuals.
-    us: Vec<u32>,
-}
-
-/// The floors of the first orders, and the zigzag numbers of the one that may have the fewest bits.
-fn outlook_of(
-    alloc: Global,
-    samples: &[i32],
-    orders: usize,
-    depth: u32,
-) -> Result<Outlook, AllocError>
+/// No candidate has fewer bits, where none by a fixed predictor has.
+fn bound_of(samples: &[i32], depth: u32, least: u64) -> u64
+    requires some { 0 < length samples.now }
     requires len { length samples.now ≤ 4096 }
-    requires some { 0 < orders }
-    requires few { orders ≤ 5 }
-    requires there { orders ≤ length samples.now }
+    requires depth { depth ≤ 25 }
+    requires least { (o : ℕ) → o < min (length samples.now) 5 → IsFloor depth samples.now o least }
+    ensures below { AllByRecursion (λ s. result ≤ size depth samples.now s) (candidates samples.now) }
+    ensures small { result < 2 ^ 20 }
+{
+    let bound = least.min(8 + depth as u64 * samples.len() as u64);
+    if are_equal(samples) {
+        return bound.min(8 + depth as u64);
+    }
+    bound
+}
+
+/// What is known of samples before an order is searched.
+#[derive(Drop)]
+pub struct Outlook {
+    /// No spelling of an order has fewer bits.
+    pub floors: Vec<u64>,
+    /// The first order with the least floor.
+    pub first: usize,
+    /// No candidate has fewer bits.
+    pub bound: u64,
+}
+
+/// How few bits samples may have.
+pub fn outlook_of(alloc: Global, samples: &[i32], depth: u32) -> Result<Outlook, AllocError>
+    requires some { 0 < length samples.now }
+    requires len { length samples.now ≤ 4096 }
     requires depth { depth ≤ 25 }
     requires fits { All (FitsBits 25) samples.now }
-    ensures len { IfOk result (λ v. length v.floors.items ≡ orders) }
-    ensures floors { IfOk result (λ v. (o : ℕ) → o < orders → IsFloor depth samples.now o (slice_index v.floors.items o)) }
-    ensures first { IfOk result (λ v. v.first < orders) }
-    ensures us { IfOk result (λ v. v.us.items ≡ map zigzagged (rest_of v.first samples.now)) }
+    ensures { IfOk result (λ v. IsOutlook depth samples.now v) }
 {
+    let orders = samples.len().min(5);
     let mut rest = Vec::from_slice(alloc, samples)?;
-    let mut us = zigzags_of(alloc, &rest)?;
+    let mut most = greatest_zigzag(samples);
+    let mut least = floor_of(samples, &rest, 0, depth, most);
     let mut first = 0;
-    let mut least = floor_of(samples, &us, 0, depth);
     let mut floors = Vec::new(alloc);
     floors.push(least)?;
     for order in 1..orders {
-        let new = next_zigzags(alloc, &mut rest)?;
-        let floor = floor_of(samples, &new, order, depth);
+        take_steps(&mut rest);
+        most *= 2;
+        let floor = floor_of(samples, &rest, order, depth, most);
         floors.push(floor)?;
         if floor < least {
             least = floor;
             first = order;
-            us = new;
         }
     }
-    Ok(Outlook { floors, first, us })
+    let bound = bound_of(samples, depth, least);
+    Ok(Outlook {
+        floors,
+        first,
+        bound,
+    })
 }
 
 /// The best plan of one order.
@@ -212,23 +228,29 @@ fn with_order(
     Ok(lower(Some(best), new))
 }
 
-/// The plan of the least spelling.
+/// The plan of the least spelling, by what is known of the samples.
 ///
 /// The order that may have the fewest bits is searched first: most of the others can't have fewer.
-pub fn plan_of(alloc: Global, samples: &[i32], depth: u32) -> Result<Planned, AllocError>
+pub fn plan_by(
+    alloc: Global,
+    samples: &[i32],
+    depth: u32,
+    outlook: &Outlook,
+) -> Result<Planned, AllocError>
     requires some { 0 < length samples.now }
     requires len { length samples.now ≤ 4096 }
     requires depth { depth ≤ 25 }
     requires fits { All (FitsBits 25) samples.now }
+    requires outlook { IsOutlook depth samples.now outlook.now }
     ensures least { IfOk result (λ p. least (size depth samples.now) (candidates samples.now) ≡ Some (spelling_of samples.now p.plan)) }
     ensures cost { IfOk result (λ p. p.cost ≡ size depth samples.now (spelling_of samples.now p.plan)) }
     ensures fits { IfOk result (λ p. PlanFits samples.now p.plan) }
     ensures small { IfOk result (λ p. p.cost < 2 ^ 20) }
+    ensures bound { IfOk result (λ p. outlook.now.bound ≤ p.cost) }
 {
     let orders = samples.len().min(5);
-    let outlook = outlook_of(alloc, samples, orders, depth)?;
     let first = outlook.first;
-    let known = fixed_plan(alloc, samples, &outlook.us, first, depth)?;
+    let known = plan_by_order(alloc, samples, first, depth)?;
     let before = best_before(alloc, samples, first, depth, &outlook.floors, known.cost)?;
     let mut best = lower(before, known);
     for order in first + 1..orders {
@@ -239,6 +261,21 @@ pub fn plan_of(alloc: Global, samples: &[i32], depth: u32) -> Result<Planned, Al
         cost: 8 + depth as u64 * samples.len() as u64,
     };
     Ok(lower(Some(best), verbatim))
+}
+
+/// The plan of the least spelling.
+pub fn plan_of(alloc: Global, samples: &[i32], depth: u32) -> Result<Planned, AllocError>
+    requires some { 0 < length samples.now }
+    requires len { length samples.now ≤ 4096 }
+    requires depth { depth ≤ 25 }
+    requires fits { All (FitsBits 25) samples.now }
+    ensures least { IfOk result (λ p. least (size depth samples.now) (candidates samples.now) ≡ Some (spelling_of samples.now p.plan)) }
+    ensures cost { IfOk result (λ p. p.cost ≡ size depth samples.now (spelling_of samples.now p.plan)) }
+    ensures fits { IfOk result (λ p. PlanFits samples.now p.plan) }
+    ensures small { IfOk result (λ p. p.cost < 2 ^ 20) }
+{
+    let outlook = outlook_of(alloc, samples, depth)?;
+    plan_by(alloc, samples, depth, &outlook)
 }
 
 /// The residuals of an order.

@@ -1,17 +1,15 @@
-use Rattle.std.proofs.Common.{◌≡◌, ◌*◌, ◌≤◌, min, Some, length, arith, refl, ◌∙◌}
+use Rattle.std.proofs.Common.{◌≡◌, ◌*◌, ◌≤◌, min, Some, length, arith, refl}
 use Rattle.std.proofs.lemmas.Nat.{mul-le}
 use Rattle.ff_flac_sub.specs.Leads.{so_far}
 use Rattle.ff_flac_sub.proofs.Plans.{so_far-more, same_spellings, known_next, plan_last}
-use Rattle.ff_flac_sub.proofs.subframe.plan_of.Goals as goal
-
-pub fixed_plan-requires-clause-is : goal.fixed_plan-requires-clause-is
-fixed_plan-requires-clause-is c = c.deref.ensures.value ∙ c.in_ok-outlook.ensures.us
+use Rattle.ff_flac_sub.proofs.Outlooks.{bound_holds}
+use Rattle.ff_flac_sub.proofs.subframe.plan_by.Goals as goal
 
 pub loop-order-init : goal.loop-order-init
 loop-order-init c = record {
-  best = known_next c.args.depth c.in_ok-outlook.outlook.first c.args.samples.now c.in_ok-before.before c.in_ok-known.known c.lower-best.result c.in_ok-before.ensures
+  best = known_next c.args.depth c.args.outlook.now.first c.args.samples.now c.in_ok-before.before c.in_ok-known.known c.lower-best.result c.in_ok-before.ensures
       c.in_ok-known.ensures.least c.in_ok-known.ensures.cost c.in_ok-known.ensures.fits c.lower-best.ensures.chosen;
-  within = omega (arith, c.in_ok-outlook.ensures.first);
+  within = omega (arith, c.requires.outlook.first);
 }
 
 pub loop-order-preserved : goal.loop-order-preserved
@@ -40,3 +38,9 @@ pub returns-clause-small : goal.returns-clause-small
 returns-clause-small c =
     let most : c.args.depth * length c.args.samples.now ≤ 25 * 4096 = mul-le c.args.depth (length c.args.samples.now) 25 4096 c.requires.depth c.requires.len in
     omega (arith, c.lower.ensures.small, most)
+
+pub returns-clause-bound : goal.returns-clause-bound
+returns-clause-bound c =
+    let e : c.loop-order.order ≡ min (length c.args.samples.now) 5 = omega (arith, c.loop-order.invariant.within) in
+    let best = plan_last c.args.depth c.args.samples.now c.loop-order.order (Some c.loop-order.best) _ c.lower.result e c.loop-order.invariant.best refl refl c.lower.ensures.chosen in
+    bound_holds c.args.depth c.args.outlook.now.bound c.args.samples.now c.lower.result c.requires.outlook.bound best.chosen best.cost

@@ -1,0 +1,10 @@
+use Rattle.std.proofs.Common.{◌<◌, ◌≤◌, ◌^◌, take}
+use Rattle.std.specs.List.{All}
+use Rattle.ff_flac_rice.specs.Rice.{zigzagged}
+use Rattle.ff_flac_sub.proofs.samples.greatest_zigzag.Given as goal
+
+abbrev pub invariant-loop-x : goal.invariant-loop-x
+invariant-loop-x l = record {
+  most : All (λ x. zigzagged x ≤ l.most) (take l.x-index l.xs);
+  small : l.most < 2 ^ 25;
+}
