@@ -22,5 +22,6 @@ bound_is depth low floor xs all one l floors =
 pub bound_holds : (depth bound : ℕ) (xs : List ℤ) (p : Planned) → AllByRecursion (λ s. bound ≤ size depth xs s) (candidates xs)
     → least (size depth xs) (candidates xs) ≡ Some (spelling_of xs p.plan) → p.cost ≡ size depth xs (spelling_of xs p.plan) → bound ≤ p.cost
 bound_holds depth bound xs p all chosen cost =
-    let low : bound ≤ size depth xs (spelling_of xs p.plan) = subst (λ o. IfSome o (λ s. bound ≤ size depth xs s)) chosen (least_holds (λ s. bound ≤ size depth xs s) (size depth xs) (candidates xs) all) in
+    let low : bound ≤ size depth xs (spelling_of xs p.plan) =
+    subst (λ o. IfSome o (λ s. bound ≤ size depth xs s)) chosen (least_holds (λ s. bound ≤ size depth xs s) (size depth xs) (candidates xs) all) in
     omega (arith, low, cost)

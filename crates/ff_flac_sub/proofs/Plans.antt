@@ -133,7 +133,8 @@ all_fixed depth order low xs [] h all = tt
 all_fixed depth order low xs (c ∷ cs) h all = (omega (arith, all.0, size-fixed depth order xs c h), all_fixed depth order low xs cs h all.1)
 
 pub floor_is : (depth order floor : ℕ) (xs rest : List ℤ) → order ≤ length xs → rest ≡ rest_of order xs
-    → AllByRecursion (λ c. floor ≤ length (residual_bits order c (map zigzagged rest))) (codings (length rest + order) order) → IsFloor depth xs order (8 + depth * order + floor)
+    → AllByRecursion (λ c. floor ≤ length (residual_bits order c (map zigzagged rest))) (codings (length rest + order) order)
+    → IsFloor depth xs order (8 + depth * order + floor)
 unfolding fixed_of
 floor_is depth order floor xs rest h e low =
     let n : length rest + order ≡ length xs = omega (arith, ap length e, length-rest_of order xs, h) in
@@ -245,7 +246,8 @@ pub leads_on : (depth limit order floor : ℕ) (xs : List ℤ) (best : Option Pl
 leads_on depth limit order floor xs best l all h =
     subst (λ l. Leads depth xs limit l best) (so_far-more xs order) (leads_past depth limit floor xs (so_far xs order) (fixed_of (length xs) order) best l all h)
 
-lower_floor : (depth low floor : ℕ) (xs : List ℤ) (es : List Spelling) → low ≤ floor → AllByRecursion (λ s. floor ≤ size depth xs s) es → AllByRecursion (λ s. low ≤ size depth xs s) es
+lower_floor : (depth low floor : ℕ) (xs : List ℤ) (es : List Spelling) → low ≤ floor
+    → AllByRecursion (λ s. floor ≤ size depth xs s) es → AllByRecursion (λ s. low ≤ size depth xs s) es
 lower_floor depth low floor xs [] l h = tt
 lower_floor depth low floor xs (e ∷ es) l h = (omega (arith, l, h.0), lower_floor depth low floor xs es l h.1)
 

@@ -1,11 +1,13 @@
-use Rattle.std.proofs.Common.{◌≡◌, ℕ, zero, ◌^◌, suc, ◌+◌, ◌-◌, ◌*◌, ◌<◌, ◌≤◌, ℤ, pos, negsuc, List, [], ◌∷◌, ◌++◌, length, get_or, set, take, drop, refl, sym, ap, ◌∙◌, arith}
+use Rattle.std.proofs.Common.{◌≡◌, ℕ, zero, ◌^◌, suc, ◌+◌, ◌-◌, ◌*◌, ◌<◌, ◌≤◌, ℤ, pos, negsuc, List, [], ◌∷◌, ◌++◌, length, map, get_or, set, take, drop}
+use Rattle.std.proofs.Common.{to_z, of_z, w32, refl, sym, ap, ◌∙◌, arith}
 use Rattle.std.specs.Prelude.{◌+ℤ◌, ◌*ℤ◌, ◌-ℤ◌, ◌<ℤ◌, ◌≤ℤ◌, neg_ℤ}
-use Rattle.std.proofs.lemmas.Int.{ints}
+use Rattle.std.proofs.lemmas.Int.{ints, to_z-of_z}
 use Rattle.std.specs.List.{flat_map, All, AllByRecursion}
 use Rattle.std.proofs.lemmas.List.Elements.{All-from_recursion, recursion_from_All, All-same, All-drop}
-use Rattle.std.proofs.lemmas.List.{length-append, length-drop, append_assoc, append-nil, drop_more, drop-drop, drop-set-lt, take_more_set}
+use Rattle.std.proofs.lemmas.List.{length-append, length-drop, append_assoc, append-nil, drop_more, drop-drop, drop-set-lt, take_more, take_more_set, map-append}
 use Rattle.ff_bits.proofs.BitsLemmas.{length-bits_of}
 use Rattle.ff_values.specs.Audio.{FitsBits}
+use Rattle.ff_flac_dec.specs.Bounds.{IsSmall, IsBounded, IsWide}
 use Rattle.ff_flac_rice.specs.Rice.{zigzagged}
 use Rattle.ff_flac_sub.specs.Subframe.{steps, steps_from, rest_of, magnitude, sample_bits}
 
@@ -115,7 +117,8 @@ step_zigzag m x y h g =
     let d : neg_ℤ (pos (m + 1)) ≤ℤ (pos 2 *ℤ y) = zigzag_low m y g in
     zigzag_between (2 * m) (y -ℤ x) (omega (arith, ints)) (omega (arith, ints))
 
-steps_from_zigzags : (m : ℕ) (x : ℤ) (ys : List ℤ) → zigzagged x ≤ m → AllByRecursion (λ z. zigzagged z ≤ m) ys → AllByRecursion (λ z. zigzagged z ≤ 2 * m) (steps_from x ys)
+steps_from_zigzags : (m : ℕ) (x : ℤ) (ys : List ℤ) → zigzagged x ≤ m
+    → AllByRecursion (λ z. zigzagged z ≤ m) ys → AllByRecursion (λ z. zigzagged z ≤ 2 * m) (steps_from x ys)
 steps_from_zigzags m x [] h g = tt
 steps_from_zigzags m x (y ∷ ys) h g = (step_zigzag m x y h g.0, steps_from_zigzags m y ys g.0 g.1)
 
@@ -187,3 +190,107 @@ pub prediction_4 : (xs : List ℤ) (i : ℕ) → suc (suc (suc (suc i))) < lengt
     → at (rest_of 4 xs) i ≡ at xs (suc (suc (suc (suc i)))) -ℤ (pos 4 *ℤ at xs (suc (suc (suc i))) -ℤ pos 6 *ℤ at xs (suc (suc i)) +ℤ pos 4 *ℤ at xs (suc i) -ℤ at xs i)
 prediction_4 xs i h =
     omega (arith, ints, next_order 3 xs i (omega arith), prediction_3 xs i (omega arith), prediction_3 xs (suc i) (omega arith))
+
+-- ---- residuals by index
+
+pub small_of : (x : ℤ) → magnitude x < 2 ^ 24 → IsSmall x
+small_of x h =
+    let a : x <ℤ pos (2 ^ 24) = above (2 ^ 24) x h in
+    let b : neg_ℤ (pos (2 ^ 24)) ≤ℤ x = from_below (2 ^ 24) x h in
+    record { low = b; high = omega (arith, ints) }
+
+pub magnitude_wide : (x : ℤ) → IsWide x → magnitude x < 2 ^ 30
+magnitude_wide x h = between (2 ^ 30) x (omega (arith, ints)) (omega (arith, ints))
+
+pub small_same : (x : ℤ) → IsSmall x → to_z w32 (of_z w32 x) ≡ x
+small_same x h = to_z-of_z w32 x (omega (arith, ints))
+
+pub wide_same : (x : ℤ) → IsWide x → to_z w32 (of_z w32 x) ≡ x
+wide_same x h = to_z-of_z w32 x (omega (arith, ints))
+
+pub bounded_same : (x : ℤ) → IsBounded x → to_z w32 (of_z w32 x) ≡ x
+bounded_same x h = to_z-of_z w32 x (omega (arith, ints))
+
+at_is : (xs : List ℤ) (i j : ℕ) → i ≡ j → at xs i ≡ get_or xs j (pos 0)
+unfolding at
+at_is xs i j e = ap (λ n. get_or xs n (pos 0)) e
+
+pub residual_0 : (xs : List ℤ) (i : ℕ) (v : ℤ) → v ≡ get_or xs i (pos 0) → v ≡ get_or (rest_of 0 xs) i (pos 0)
+residual_0 xs i v e = e ∙ ap (λ l. get_or l i (pos 0)) (sym (rest_of-zero xs))
+
+pub residual_1 : (xs : List ℤ) (i : ℕ) (v x r : ℤ) → i + 1 < length xs → v ≡ get_or xs i (pos 0) → x ≡ get_or xs (i + 1) (pos 0)
+    → r ≡ x -ℤ v → r ≡ get_or (rest_of 1 xs) i (pos 0)
+residual_1 xs i v x r h ev ex e =
+    omega (arith, ints, e, ev, ex, prediction_1 xs i (omega arith), at_is (rest_of 1 xs) i i refl, at_is xs i i refl, at_is xs (suc i) (i + 1) (omega arith))
+
+pub residual_2 : (xs : List ℤ) (i : ℕ) (v x y r : ℤ) → i + 2 < length xs → v ≡ get_or xs i (pos 0) → x ≡ get_or xs (i + 1) (pos 0) → y ≡ get_or xs (i + 2) (pos 0)
+    → r ≡ y -ℤ (pos 2 *ℤ x -ℤ v) → r ≡ get_or (rest_of 2 xs) i (pos 0)
+residual_2 xs i v x y r h ev ex ey e =
+    omega (
+      arith,
+      ints,
+      e,
+      ev,
+      ex,
+      ey,
+      prediction_2 xs i (omega arith),
+      at_is (rest_of 2 xs) i i refl,
+      at_is xs i i refl,
+      at_is xs (suc i) (i + 1) (omega arith),
+      at_is xs (suc (suc i)) (i + 2) (omega arith),
+    )
+
+pub residual_3 : (xs : List ℤ) (i : ℕ) (v x y z middle r : ℤ) → i + 3 < length xs
+    → v ≡ get_or xs i (pos 0) → x ≡ get_or xs (i + 1) (pos 0) → y ≡ get_or xs (i + 2) (pos 0) → z ≡ get_or xs (i + 3) (pos 0)
+    → middle ≡ pos 3 *ℤ (x -ℤ y) → r ≡ middle +ℤ z -ℤ v → r ≡ get_or (rest_of 3 xs) i (pos 0)
+residual_3 xs i v x y z middle r h ev ex ey ez em e =
+    omega (
+      arith,
+      ints,
+      e,
+      em,
+      ev,
+      ex,
+      ey,
+      ez,
+      prediction_3 xs i (omega arith),
+      at_is (rest_of 3 xs) i i refl,
+      at_is xs i i refl,
+      at_is xs (suc i) (i + 1) (omega arith),
+      at_is xs (suc (suc i)) (i + 2) (omega arith),
+      at_is xs (suc (suc (suc i))) (i + 3) (omega arith),
+    )
+
+pub residual_4 : (xs : List ℤ) (i : ℕ) (v x y z next middle r : ℤ) → i + 4 < length xs
+    → v ≡ get_or xs i (pos 0) → x ≡ get_or xs (i + 1) (pos 0) → y ≡ get_or xs (i + 2) (pos 0) → z ≡ get_or xs (i + 3) (pos 0)
+    → next ≡ get_or xs (i + 4) (pos 0) → middle ≡ pos 6 *ℤ y -ℤ pos 4 *ℤ (x +ℤ z) → r ≡ middle +ℤ next +ℤ v
+    → r ≡ get_or (rest_of 4 xs) i (pos 0)
+residual_4 xs i v x y z next middle r h ev ex ey ez en em e =
+    omega (
+      arith,
+      ints,
+      e,
+      em,
+      ev,
+      ex,
+      ey,
+      ez,
+      en,
+      prediction_4 xs i (omega arith),
+      at_is (rest_of 4 xs) i i refl,
+      at_is xs i i refl,
+      at_is xs (suc i) (i + 1) (omega arith),
+      at_is xs (suc (suc i)) (i + 2) (omega arith),
+      at_is xs (suc (suc (suc i))) (i + 3) (omega arith),
+      at_is xs (suc (suc (suc (suc i)))) (i + 4) (omega arith),
+    )
+
+-- one more of the numbers that stand for residuals
+pub zigzags_more : (rest : List ℤ) (us : List ℕ) (i u : ℕ) → i < length rest → i < length us
+    → u ≡ zigzagged (get_or rest i (pos 0)) → take i us ≡ map zigzagged (take i rest)
+    → take (i + 1) (set us i u) ≡ map zigzagged (take (i + 1) rest)
+zigzags_more rest us i u l m e h =
+    take_more_set us i u m
+    ∙ ap (λ l. l ++ (u ∷ [])) h
+    ∙ ap (λ n. map zigzagged (take i rest) ++ (n ∷ [])) e
+    ∙ sym (ap (map zigzagged) (take_more rest i (pos 0) l) ∙ map-append zigzagged (take i rest) (get_or rest i (pos 0) ∷ []))

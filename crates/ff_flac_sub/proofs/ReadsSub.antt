@@ -282,4 +282,5 @@ all-candidates P xs one some all =
 
 pub candidates_read : (depth : ℕ) (xs : List ℤ) → 0 < depth → depth ≤ 25 → 0 < length xs → AllByRecursion (FitsBits depth) xs → AllByRecursion (IsReadBack depth xs) (candidates xs)
 candidates_read depth xs h d n f =
-    all-candidates (IsReadBack depth xs) xs (λ e. read_constant depth xs h n f) (λ order le m. read_fixed_of depth xs order h d le (omega (arith, m)) f) (read_verbatim depth xs h f)
+    all-candidates (IsReadBack depth xs) xs (λ e. read_constant depth xs h n f)
+    (λ order le m. read_fixed_of depth xs order h d le (omega (arith, m)) f) (read_verbatim depth xs h f)

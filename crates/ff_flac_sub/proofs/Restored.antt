@@ -123,4 +123,5 @@ fixed_of_stands xs order h le = fixed_stands xs order h le (codings (length xs) 
 
 pub candidates_stand : (xs : List ℤ) → AllByRecursion (StandsFor xs) (candidates xs)
 candidates_stand xs =
-    all-candidates (StandsFor xs) xs (λ e. stands xs constant (constant_samples xs e) refl) (λ order le m. fixed_of_stands xs order le (omega (arith, m))) (stands xs verbatim (verbatim_samples xs) refl)
+    all-candidates (StandsFor xs) xs (λ e. stands xs constant (constant_samples xs e) refl)
+    (λ order le m. fixed_of_stands xs order le (omega (arith, m))) (stands xs verbatim (verbatim_samples xs) refl)

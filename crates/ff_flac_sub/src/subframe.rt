@@ -10,7 +10,7 @@ ghost use Rattle.ff_flac_sub.specs.Subframe.{magnitude, rest_of, subframe_bits, 
 ghost use Rattle.ff_flac_sub.specs.Plan.{spelling_of, size, IsBestPlan, PlanFits, constants};
 ghost use Rattle.ff_flac_sub.specs.Outlook.{IsOutlook};
 
-use crate::samples::{are_equal, greatest_zigzag, put_sample, put_samples, take_steps, zigzags_of};
+use crate::samples::{are_equal, greatest_zigzag, put_sample, put_samples, take_steps, zigzags_by};
 use ff_bits::BitWriter;
 use ff_flac_rice::{best_coding, least_bits, write_residual};
 use std::alloc::{AllocError, Global};
@@ -168,8 +168,7 @@ fn plan_by_order(
     ensures cost { IfOk result (λ p. p.cost ≡ size depth samples.now (spelling_of samples.now p.plan)) }
     ensures fits { IfOk result (λ p. PlanFits samples.now p.plan) }
 {
-    let rest = rest_by(alloc, samples, order)?;
-    let us = zigzags_of(alloc, &rest)?;
+    let us = zigzags_by(alloc, samples, order)?;
     fixed_plan(alloc, samples, &us, order, depth)
 }
 
@@ -278,20 +277,6 @@ pub fn plan_of(alloc: Global, samples: &[i32], depth: u32) -> Result<Planned, Al
     plan_by(alloc, samples, depth, &outlook)
 }
 
-/// The residuals of an order.
-fn rest_by(alloc: Global, samples: &[i32], order: usize) -> Result<Vec<i32>, AllocError>
-    requires order { order ≤ 4 }
-    requires fits { All (FitsBits 25) samples.now }
-    ensures is { IfOk result (λ v. v.items ≡ rest_of order samples.now) }
-    ensures small { IfOk result (λ v. All (λ x. magnitude x < 2 ^ 30) v.items) }
-{
-    let mut rest = Vec::from_slice(alloc, samples)?;
-    for done in 0..order {
-        take_steps(&mut rest);
-    }
-    Ok(rest)
-}
-
 /// Writes a subframe by a fixed predictor.
 fn write_fixed(
     alloc: Global,
@@ -311,8 +296,7 @@ fn write_fixed(
 {
     out.put(16 + 2 * order as u64, 8)?;
     put_samples(out, &samples[..order], depth)?;
-    let rest = rest_by(alloc, samples, order)?;
-    let us = zigzags_of(alloc, &rest)?;
+    let us = zigzags_by(alloc, samples, order)?;
     write_residual(out, &us, order, method, partition_order)?;
     Ok(())
 }

@@ -18,11 +18,13 @@ loop-x-preserved c =
     record {
       most =
           All-more (λ x. zigzagged x ≤ m) c.args.xs.now c.loop-x.x-index (pos 0) (omega arith)
-          (All-weaker (λ x. zigzagged x ≤ c.loop-x.most) (λ x. zigzagged x ≤ m) (λ x h. omega (arith, h, c.max-most.ensures)) (take c.loop-x.x-index c.args.xs.now) c.loop-x.invariant.most)
+          (All-weaker (λ x. zigzagged x ≤ c.loop-x.most) (λ x. zigzagged x ≤ m) (λ x h. omega (arith, h, c.max-most.ensures))
+          (take c.loop-x.x-index c.args.xs.now) c.loop-x.invariant.most)
           (omega (arith, is, c.max-most.ensures));
       small = omega (arith, is, c.max-most.ensures, c.loop-x.invariant.small, zigzag_small (2 ^ 24) x small);
     }
 
 pub returns-clause-most : goal.returns-clause-most
 returns-clause-most c =
-    All-same (λ x. zigzagged x ≤ c.loop-x.most) c.args.xs.now (take c.loop-x.x-index c.args.xs.now) (sym (take_all c.loop-x.x-index c.args.xs.now (omega arith))) c.loop-x.invariant.most
+    All-same (λ x. zigzagged x ≤ c.loop-x.most) c.args.xs.now (take c.loop-x.x-index c.args.xs.now)
+    (sym (take_all c.loop-x.x-index c.args.xs.now (omega arith))) c.loop-x.invariant.most

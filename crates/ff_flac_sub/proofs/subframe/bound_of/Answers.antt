@@ -9,5 +9,5 @@ returns-then-are_equal-clause-below c =
 
 pub returns-clause-below : goal.returns-clause-below
 returns-clause-below c =
-    bound_is c.args.depth c.min-bound.result c.args.least c.args.samples.now (omega (arith, c.min-bound.ensures)) (λ e. absurd (true≢false (sym e ∙ sym c.are_equal.ensures ∙ c.if-are_equal.false)))
-    (omega (arith, c.min-bound.ensures)) c.requires.least
+    bound_is c.args.depth c.min-bound.result c.args.least c.args.samples.now (omega (arith, c.min-bound.ensures))
+    (λ e. absurd (true≢false (sym e ∙ sym c.are_equal.ensures ∙ c.if-are_equal.false))) (omega (arith, c.min-bound.ensures)) c.requires.least

@@ -10,4 +10,5 @@ pub least_bits-requires-clause-some : goal.least_bits-requires-clause-some
 least_bits-requires-clause-some c = omega (arith, ap length c.requires.is, length-rest_of c.args.order c.args.samples.now, c.requires.longer)
 
 pub returns : goal.returns
-returns c = floor_is c.args.depth c.args.order c.least_bits.result c.args.samples.now c.args.rest.now (omega (arith, c.requires.longer)) c.requires.is c.least_bits.ensures.below
+returns c =
+    floor_is c.args.depth c.args.order c.least_bits.result c.args.samples.now c.args.rest.now (omega (arith, c.requires.longer)) c.requires.is c.least_bits.ensures.below

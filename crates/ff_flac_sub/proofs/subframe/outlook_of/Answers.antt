@@ -13,7 +13,8 @@ floor_of-least-requires-clause-is c = c.deref.ensures.value ∙ c.in_ok-rest.ens
 
 pub floor_of-least-requires-clause-most : goal.floor_of-least-requires-clause-most
 floor_of-least-requires-clause-most c =
-    All-same (λ x. zigzagged x ≤ c.greatest_zigzag-most.result) c.deref.result.now c.args.samples.now (c.deref.ensures.value ∙ c.in_ok-rest.ensures.items) c.greatest_zigzag-most.ensures.most
+    All-same (λ x. zigzagged x ≤ c.greatest_zigzag-most.result) c.deref.result.now c.args.samples.now
+    (c.deref.ensures.value ∙ c.in_ok-rest.ensures.items) c.greatest_zigzag-most.ensures.most
 
 pub loop-order-init : goal.loop-order-init
 loop-order-init c =
@@ -21,8 +22,10 @@ loop-order-init c =
     record {
       some_order = omega arith;
       within = omega (arith, c.min-orders.ensures, c.requires.some);
-      count = ap length c.in_ok-push.ensures.items ∙ length-append c.new-floors.result.items (c.floor_of-least.result ∷ []) ∙ ap (λ n. n + 1) (ap length c.new-floors.ensures.items);
-      floors = one_floor c.args.depth xs 0 c.new-floors.result.items c.push.new.self.items c.floor_of-least.result (ap length c.new-floors.ensures.items) c.in_ok-push.ensures.items
+      count = ap length c.in_ok-push.ensures.items ∙ length-append c.new-floors.result.items (c.floor_of-least.result ∷ [])
+          ∙ ap (λ n. n + 1) (ap length c.new-floors.ensures.items);
+      floors = one_floor c.args.depth xs 0 c.new-floors.result.items c.push.new.self.items c.floor_of-least.result
+          (ap length c.new-floors.ensures.items) c.in_ok-push.ensures.items
           (λ o l. absurd (omega (arith, l))) c.floor_of-least.ensures;
       least = each_floor c.args.depth xs 0 c.floor_of-least.result c.floor_of-least.result c.floor_of-least.result (omega arith) (omega arith)
           (λ o l. absurd (omega (arith, l))) c.floor_of-least.ensures;
@@ -55,7 +58,8 @@ loop-order-preserved c =
     let xs = c.args.samples.now in
     let o : ℕ = c.loop-order.order - 1 in
     let back : o + 1 ≡ c.loop-order.order + 1 - 1 = omega (arith, c.loop-order.invariant.some_order) in
-    let rest : c.take_steps.new.xs.items ≡ rest_of (o + 1) xs = next_rest o xs c.loop-order.rest.items c.take_steps.new.xs.items c.loop-order.invariant.rest c.take_steps.ensures in
+    let rest : c.take_steps.new.xs.items ≡ rest_of (o + 1) xs =
+    next_rest o xs c.loop-order.rest.items c.take_steps.new.xs.items c.loop-order.invariant.rest c.take_steps.ensures in
     record {
       some_order = omega arith;
       within = omega (arith, c.loop-order-test.true);
@@ -63,9 +67,11 @@ loop-order-preserved c =
       floors = one_floor c.args.depth xs c.loop-order.order c.loop-order.floors.items c.push-in-loop-order.new.self.items c.floor_of-floor.result c.loop-order.invariant.count c.in_ok-push-2.ensures.items
           c.loop-order.invariant.floors c.floor_of-floor.ensures;
       least = elim c.if-floor-least.branch [
-        | then-floor-least w ↦ each_floor c.args.depth xs c.loop-order.order c.loop-order.least c.floor_of-floor.result _ (omega (arith, w.least-is, w.if-floor-least.true)) (omega (arith, w.least-is))
+        | then-floor-least w ↦ each_floor c.args.depth xs c.loop-order.order c.loop-order.least c.floor_of-floor.result _
+            (omega (arith, w.least-is, w.if-floor-least.true)) (omega (arith, w.least-is))
             c.loop-order.invariant.least c.floor_of-floor.ensures
-        | else-floor-least w ↦ each_floor c.args.depth xs c.loop-order.order c.loop-order.least c.floor_of-floor.result _ (omega (arith, w.least-is)) (omega (arith, w.least-is, w.if-floor-least.false))
+        | else-floor-least w ↦ each_floor c.args.depth xs c.loop-order.order c.loop-order.least c.floor_of-floor.result _
+            (omega (arith, w.least-is)) (omega (arith, w.least-is, w.if-floor-least.false))
             c.loop-order.invariant.least c.floor_of-floor.ensures
       ];
       first = elim c.if-floor-least.branch [
@@ -76,5 +82,6 @@ loop-order-preserved c =
       small = subst (λ n. All (λ x. magnitude x < 2 ^ (24 + n)) c.take_steps.new.xs.items) back
           (next_small o c.loop-order.rest.items c.take_steps.new.xs.items c.take_steps.ensures c.loop-order.invariant.small);
       most = next_zigzags c.loop-order.most c.loop-order.rest.items c.take_steps.new.xs.items c.take_steps.ensures c.loop-order.invariant.most;
-      most_small = twice_small c.loop-order.most (25 + o) (25 + (c.loop-order.order + 1 - 1)) (omega (arith, c.loop-order.invariant.some_order)) c.loop-order.invariant.most_small;
+      most_small = twice_small c.loop-order.most (25 + o) (25 + (c.loop-order.order + 1 - 1))
+          (omega (arith, c.loop-order.invariant.some_order)) c.loop-order.invariant.most_small;
     }

@@ -42,5 +42,7 @@ returns-clause-small c =
 pub returns-clause-bound : goal.returns-clause-bound
 returns-clause-bound c =
     let e : c.loop-order.order ≡ min (length c.args.samples.now) 5 = omega (arith, c.loop-order.invariant.within) in
-    let best = plan_last c.args.depth c.args.samples.now c.loop-order.order (Some c.loop-order.best) _ c.lower.result e c.loop-order.invariant.best refl refl c.lower.ensures.chosen in
+    let best =
+    plan_last c.args.depth c.args.samples.now c.loop-order.order (Some c.loop-order.best) _ c.lower.result e c.loop-order.invariant.best
+    refl refl c.lower.ensures.chosen in
     bound_holds c.args.depth c.args.outlook.now.bound c.args.samples.now c.lower.result c.requires.outlook.bound best.chosen best.cost

@@ -1,0 +1,30 @@
+use Rattle.std.proofs.Common.{◌<◌, ◌^◌, ℤ, ap, sym, ◌∙◌, subst, arith, map}
+use Rattle.std.proofs.lemmas.List.{length-set, take_all}
+use Rattle.ff_flac_rice.specs.Rice.{zigzagged}
+use Rattle.ff_flac_sub.specs.Subframe.{rest_of, magnitude}
+use Rattle.ff_flac_sub.proofs.Predict.{magnitude_wide, wide_same, length-rest_of, zigzags_more}
+use Rattle.ff_flac_sub.proofs.samples.zigzag_each.Goals as goal
+
+pub zigzag_of-requires : goal.zigzag_of-requires
+zigzag_of-requires c =
+    let r : ℤ = c.residual_of.result in
+    subst (λ z. magnitude z < 2 ^ 30) (sym (wide_same r c.residual_of.ensures.wide)) (magnitude_wide r c.residual_of.ensures.wide)
+
+pub loop-i-preserved : goal.loop-i-preserved
+loop-i-preserved c =
+    let rest = rest_of c.args.order c.args.xs.now in
+    let r : ℤ = c.residual_of.result in
+    let i = c.loop-i.i in
+    record {
+      len = length-set c.loop-i.us i _ ∙ c.loop-i.invariant.len;
+      is = zigzags_more rest c.loop-i.us i c.zigzag_of.result
+          (omega (arith, length-rest_of c.args.order c.args.xs.now, c.loop-i-test.true, c.requires.len)) (omega (arith, c.loop-i.invariant.len, c.loop-i-test.true))
+          (c.zigzag_of.ensures ∙ ap zigzagged (wide_same r c.residual_of.ensures.wide ∙ c.residual_of.ensures.value)) c.loop-i.invariant.is;
+    }
+
+pub returns : goal.returns
+returns c =
+    let rest = rest_of c.args.order c.args.xs.now in
+    sym (take_all c.loop-i.i c.loop-i.us (omega (arith, c.loop-i.invariant.len, c.loop-i-test.false)))
+    ∙ c.loop-i.invariant.is
+    ∙ ap (map zigzagged) (take_all c.loop-i.i rest (omega (arith, length-rest_of c.args.order c.args.xs.now, c.loop-i-test.false, c.requires.len)))
