@@ -247,12 +247,11 @@ pub fn plan_by(
     ensures small { IfOk result (λ p. p.cost < 2 ^ 20) }
     ensures bound { IfOk result (λ p. outlook.now.bound ≤ p.cost) }
 {
-    let orders = samples.len().min(5);
     let first = outlook.first;
     let known = plan_by_order(alloc, samples, first, depth)?;
     let before = best_before(alloc, samples, first, depth, &outlook.floors, known.cost)?;
     let mut best = lower(before, known);
-    for order in first + 1..orders {
+    for order in first + 1..outlook.floors.len() {
         best = with_order(alloc, samples, order, depth, outlook.floors[order], best)?;
     }
     let verbatim = Planned {

@@ -1,4 +1,4 @@
-use Rattle.std.proofs.Common.{Some, ◌≤◌}
+use Rattle.std.proofs.Common.{Some, ◌≤◌, length}
 use Rattle.ff_flac_sub.specs.Plan.{IsBestPlan}
 use Rattle.ff_flac_sub.specs.Leads.{so_far}
 use Rattle.ff_flac_sub.proofs.subframe.plan_by.Given as goal
@@ -6,5 +6,5 @@ use Rattle.ff_flac_sub.proofs.subframe.plan_by.Given as goal
 abbrev pub invariant-loop-order : goal.invariant-loop-order
 invariant-loop-order l = record {
   best : IsBestPlan l.depth l.samples (so_far l.samples l.order) (Some l.best);
-  within : l.order ≤ l.orders;
+  within : l.order ≤ length l.outlook.floors.items;
 }
