@@ -18,7 +18,7 @@ use Rattle.ff_flac_rice.specs.Rice.{is_allowed, count_of, part_cost, best_cost, 
 use Rattle.ff_flac_rice.specs.Columns.{column, columns, least_each, lowest, items_of}
 use Rattle.ff_flac_rice.specs.Spans.{Spans, IsSpan}
 use Rattle.ff_flac_rice.proofs.Costs.{length-parts_of}
-use Rattle.ff_flac_rice.proofs.RowLemmas.{parts_of-is, pair_parts, pair_parts-parts_of, Small, small_parts, cost_small}
+use Rattle.ff_flac_rice.proofs.PartLemmas.{parts_of-is, pair_parts, pair_parts-parts_of, Small, small_parts, cost_small}
 use Rattle.ff_flac_rice.proofs.SpanLemmas.{lowest-one, lowest-more, spanned}
 use Rattle.ff_flac_rice.proofs.Orders.{allowed_parts, range_between}
 

@@ -14,8 +14,8 @@ use Rattle.ff_flac_rice.specs.Rice.{codings, codings_by, codings_at, Coding}
 use Rattle.ff_flac_rice.specs.Columns.{lowest}
 use Rattle.ff_flac_rice.proofs.LeastLemmas.{least_is_lowest}
 use Rattle.ff_flac_rice.proofs.Costs.{least-codings_at, length-parts_of}
-use Rattle.ff_flac_rice.proofs.RowLemmas.{best_k_within, count_within, pair_parts, pair_parts-parts_of, pieces-suc, parts_of-is}
-use Rattle.ff_flac_rice.proofs.RowLemmas.{rest_len, Front, front_start, front_step, front_end}
+use Rattle.ff_flac_rice.proofs.PartLemmas.{best_k_within, count_within, pair_parts, pair_parts-parts_of, pieces-suc, parts_of-is}
+use Rattle.ff_flac_rice.proofs.PartLemmas.{rest_len, Front, front_start, front_step, front_end}
 use Rattle.ff_flac_rice.proofs.SpanLemmas.{lowest-is, le_of}
 use Rattle.ff_flac_rice.proofs.Orders.{allowed_parts, allowed_below}
 use Rattle.ff_flac_rice.proofs.Levels.{coding_cost, cost_is, codings_by-cons, codings_by-nil}

@@ -8,7 +8,7 @@ use Rattle.ff_flac_rice.specs.Rice.{is_allowed, orders, residual_bits, codings, 
 use Rattle.ff_flac_rice.specs.Spans.{Spans}
 use Rattle.ff_flac_rice.proofs.LeastLemmas.{least-append, choose_first, choose_second}
 use Rattle.ff_flac_rice.proofs.Costs.{least-codings_at, length-best_at}
-use Rattle.ff_flac_rice.proofs.RowLemmas.{pair_parts-parts_of}
+use Rattle.ff_flac_rice.proofs.PartLemmas.{pair_parts-parts_of}
 use Rattle.ff_flac_rice.proofs.SpanLemmas.{spans_pairs}
 use Rattle.ff_flac_rice.proofs.Orders.{allowed_parts}
 

@@ -1,7 +1,7 @@
 pub mod LeastLemmas
 pub mod Costs
 pub mod Sums
-pub mod RowLemmas
+pub mod PartLemmas
 pub mod SpanLemmas
 pub mod ColumnLemmas
 pub mod Orders

@@ -18,7 +18,7 @@ use Rattle.ff_flac_rice.specs.Spells.{Reads}
 use Rattle.ff_flac_rice.specs.Rice.{zigzagged, rice_bits, partition_bits, partitions_bits, pieces, parts_of, Coding, residual_bits, count_of, parameters, choices, is_allowed, orders, codings_at, codings_by, codings}
 use Rattle.ff_flac_rice.proofs.ReadsBack.{reads-then, reads-map, reads-bits, reads-value, reads-if_false, reads-field, reads-zeros, reads-times}
 use Rattle.ff_flac_rice.proofs.Orders.{allowed_parts}
-use Rattle.ff_flac_rice.proofs.RowLemmas.{range_below, parts_of-is}
+use Rattle.ff_flac_rice.proofs.PartLemmas.{range_below, parts_of-is}
 
 abbrev pub IsSmall : ℕ → Type 0
 IsSmall u = u < residual_limit

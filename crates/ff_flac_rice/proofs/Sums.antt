@@ -1,27 +1,15 @@
-use Rattle.std.proofs.Common.{◌≡◌, ℕ, ◌+◌, ◌-◌, ◌*◌, ◌/◌, ◌^◌, ◌<◌, ◌≤◌, List, [], ◌∷◌, length, map, refl, sym, ap, ◌∙◌, arith}
+use Rattle.std.proofs.Common.{◌≡◌, ℕ, ◌+◌, ◌*◌, ◌/◌, ◌^◌, ◌<◌, ◌≤◌, List, [], ◌∷◌, length, map, refl, sym, ap, ◌∙◌, arith}
 use Rattle.std.specs.List.{All, sum_by}
 use lib.Lanes.{sum_l}
-use Rattle.std.proofs.Math.Path.{fun_ext}
 use Rattle.std.proofs.lemmas.List.{length-map}
 use Rattle.std.proofs.lemmas.List.Elements.{All-weaker}
 use Rattle.std.proofs.lemmas.List.Sums.{sum_by-le, sum_by-cons}
-use Rattle.std.proofs.lemmas.Nat.{shr_le, shr-shr}
-use Rattle.std.proofs.lemmas.Simd.{map-map}
+use Rattle.std.proofs.lemmas.Nat.{shr_le}
 use Rattle.ff_flac_rice.specs.Rice.{quotients}
 
 sum_l-map : (f : ℕ → ℕ) (us : List ℕ) → sum_l (map f us) ≡ sum_by f us
 sum_l-map f [] = refl
 sum_l-map f (u ∷ us) = ap (λ n. f u + n) (sum_l-map f us) ∙ sym (sum_by-cons f u us)
-
-halves_next : (k : ℕ) (us : List ℕ) → map (λ u. u / 2) (map (λ u. u / 2 ^ k) us) ≡ map (λ u. u / 2 ^ (k + 1)) us
-halves_next k us =
-    let next : (u : ℕ) → u / 2 ^ k / 2 ≡ u / 2 ^ (k + 1) = λ u. shr-shr u k 1 in
-    map-map (λ u. u / 2) (λ u. u / 2 ^ k) us ∙ ap (λ f. map f us) (fun_ext next)
-
-pub halves_at : (k : ℕ) (us lanes halves : List ℕ) → 0 < k → lanes ≡ map (λ u. u / 2 ^ (k - 1)) us → halves ≡ map (λ u. u / 2) lanes → halves ≡ map (λ u. u / 2 ^ k) us
-halves_at k us lanes halves h e f =
-    let reach : k - 1 + 1 ≡ k = omega arith in
-    f ∙ ap (map (λ u. u / 2)) e ∙ halves_next (k - 1) us ∙ ap (λ j. map (λ u. u / 2 ^ j) us) reach
 
 pub lanes_sum : (k : ℕ) (us lanes : List ℕ) → lanes ≡ map (λ u. u / 2 ^ k) us → sum_l lanes ≡ quotients k us
 lanes_sum k us lanes e = ap sum_l e ∙ sum_l-map (λ u. u / 2 ^ k) us

@@ -20,7 +20,7 @@ use Rattle.ff_flac_sub.specs.Leads.{so_far, IsFloor, Leads}
 use Rattle.ff_flac_rice.proofs.LeastLemmas.{choose_first, choose_second, choose_assoc, least-append, least-map, least-same, least-shift, least_holds, least_one, least-nil, choose-map, range_more}
 use Rattle.ff_flac_rice.proofs.Levels.{coding_cost}
 use Rattle.ff_flac_rice.proofs.Orders.{filter_all, filter_none, range_between, range_split}
-use Rattle.ff_flac_rice.proofs.RowLemmas.{range_below}
+use Rattle.ff_flac_rice.proofs.PartLemmas.{range_below}
 use Rattle.ff_flac_sub.proofs.Predict.{magnitude_of, fits_of, length-samples, length-sample_bits, length-rest_of, steps_small, steps_zigzags, rest_of-suc}
 
 pow_two : (m n : ℕ) → n ≡ suc m → 2 ^ n ≡ 2 * 2 ^ m

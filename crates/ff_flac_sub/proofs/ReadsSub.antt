@@ -21,7 +21,7 @@ use Rattle.ff_flac_rice.specs.Spells.{Reads}
 use Rattle.ff_flac_rice.specs.Rice.{zigzagged, Coding, codings, residual_bits}
 use Rattle.ff_flac_rice.proofs.ReadsBack.{reads-give, reads-then, reads-map, reads-bits, reads-value, reads-if_false, reads-if_true, reads-field, reads-times}
 use Rattle.ff_flac_rice.proofs.ReadsRice.{all-map, all-flat_map, all-weaker, all-filter, codings_read}
-use Rattle.ff_flac_rice.proofs.RowLemmas.{range_below}
+use Rattle.ff_flac_rice.proofs.PartLemmas.{range_below}
 use Rattle.ff_flac_sub.specs.Subframe.{Spelling, magnitude, sample_bits, subframe_bits, steps, rest_of, first_or_zero, all_are, fixed_of, predictors, candidates}
 use Rattle.ff_flac_sub.specs.Subframe.Spelling.{constant, fixed, verbatim}
 use Rattle.ff_flac_sub.specs.Part.{part_for}

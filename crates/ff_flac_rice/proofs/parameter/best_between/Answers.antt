@@ -4,7 +4,7 @@ use Rattle.std.proofs.lemmas.Bool.{cases_lt}
 use Rattle.std.proofs.lemmas.List.Elements.{All-from_get_or}
 use Rattle.std.proofs.Math.Nat.{mul-le-mul_left}
 use Rattle.ff_flac_rice.specs.Rice.{part_cost}
-use Rattle.ff_flac_rice.proofs.RowLemmas.{quotients_small}
+use Rattle.ff_flac_rice.proofs.PartLemmas.{quotients_small}
 use Rattle.ff_flac_rice.proofs.parameter.best_between.Goals as goal
 use Rattle.ff_flac_rice.proofs.parameter.best_between.Goals.{then-other-cost, else-other-cost}
 

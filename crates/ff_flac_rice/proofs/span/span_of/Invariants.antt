@@ -1,7 +1,7 @@
 use Rattle.std.proofs.Common.{◌≡◌, ◌*◌, ◌≤◌, length}
 use Rattle.std.specs.List.{All, AllByRecursion}
 use Rattle.ff_flac_rice.specs.Rice.{parts_of}
-use Rattle.ff_flac_rice.proofs.RowLemmas.{Front}
+use Rattle.ff_flac_rice.proofs.PartLemmas.{Front}
 use Rattle.ff_flac_rice.proofs.SpanLemmas.{Served}
 use Rattle.ff_flac_rice.proofs.span.span_of.Given as goal
 

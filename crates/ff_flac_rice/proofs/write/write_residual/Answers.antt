@@ -1,7 +1,7 @@
 use Rattle.std.proofs.Common.{◌≡◌, ℕ, ◌+◌, ◌-◌, ◌*◌, ◌/◌, ◌^◌, ◌<◌, length, ◌∙◌, arith, suc}
 use Rattle.std.proofs.lemmas.Nat.{one_shl, shr_split, pow_pos}
 use Rattle.ff_flac_rice.proofs.Orders.{allowed_parts}
-use Rattle.ff_flac_rice.proofs.RowLemmas.{rest_len, step_len}
+use Rattle.ff_flac_rice.proofs.PartLemmas.{rest_len, step_len}
 use Rattle.ff_flac_rice.proofs.Writing.{parts_start, parts_step, parts_end}
 use Rattle.ff_flac_rice.proofs.write.write_residual.Goals as goal
 
