@@ -132,13 +132,6 @@ pub lowest-more : (f : ℕ → ℕ) (low more : ℕ) → lowest f low (suc more)
 unfolding lowest
 lowest-more f low more = refl
 
--- one more number behind those so far
-pub lowest_next : (f : ℕ → ℕ) (low k least other new : ℕ) → low < k → least ≡ lowest f low (k - 1 - low) → other ≡ f k → new ≡ min least other → new ≡ lowest f low (k + 1 - 1 - low)
-lowest_next f low k least other new l h e m =
-    let a : k + 1 - 1 - low ≡ suc (k - 1 - low) = omega (arith, l) in
-    let b : low + suc (k - 1 - low) ≡ k = omega (arith, l) in
-    omega (arith, m, h, e, ap (lowest f low) a, lowest-more f low (k - 1 - low), ap f b)
-
 -- ---- the best parameter of a partition is as good as one of its span
 
 pub at_all : (P : ℕ → Type 0) (a n k : ℕ) → AllByRecursion P (range_with_len a n) → a ≤ k → k < a + n → P k

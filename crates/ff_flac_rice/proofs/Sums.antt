@@ -1,7 +1,6 @@
 use Rattle.std.proofs.Common.{◌≡◌, ℕ, ◌+◌, ◌*◌, ◌/◌, ◌^◌, ◌<◌, ◌≤◌, List, [], ◌∷◌, length, map, refl, sym, ap, ◌∙◌, arith}
 use Rattle.std.specs.List.{All, sum_by}
 use lib.Lanes.{sum_l}
-use Rattle.std.proofs.lemmas.List.{length-map}
 use Rattle.std.proofs.lemmas.List.Elements.{All-weaker}
 use Rattle.std.proofs.lemmas.List.Sums.{sum_by-le, sum_by-cons}
 use Rattle.std.proofs.lemmas.Nat.{shr_le}
@@ -18,6 +17,3 @@ pub lanes_small : (k most : ℕ) (us lanes : List ℕ) → lanes ≡ map (λ u. 
 lanes_small k most us lanes e h a l =
     let s : quotients k us ≤ length us * most = sum_by-le (λ u. u / 2 ^ k) most us (All-weaker (λ u. u ≤ most) (λ u. u / 2 ^ k ≤ most) (λ u m. omega (arith, m, shr_le u k)) us a) in
     omega (arith, lanes_sum k us lanes e, s, ap (λ n. n * most) h, l)
-
-pub lanes_len : (k : ℕ) (us lanes : List ℕ) → lanes ≡ map (λ u. u / 2 ^ k) us → length us ≡ 16 → length lanes ≡ 16
-lanes_len k us lanes e h = ap length e ∙ length-map us (λ u. u / 2 ^ k) ∙ h

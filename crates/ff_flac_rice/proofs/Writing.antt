@@ -1,10 +1,10 @@
-use Rattle.std.proofs.Common.{◌≡◌, ℕ, zero, suc, ◌+◌, ◌-◌, ◌*◌, ◌/◌, ◌%◌, ◌^◌, ◌<◌, ◌≤◌, Bool, true, false, List, [], ◌∷◌, ◌++◌, length, map, take, drop, get_or, replicate, refl, sym, ap, ◌∙◌, arith}
+use Rattle.std.proofs.Common.{◌≡◌, ℕ, suc, ◌+◌, ◌-◌, ◌*◌, ◌/◌, ◌%◌, ◌^◌, ◌<◌, ◌≤◌, Bool, true, false, List, [], ◌∷◌, ◌++◌, length, map, take, drop, get_or, replicate, refl, sym, ap, ◌∙◌, arith}
 use Rattle.std.specs.List.{flat_map}
 use Rattle.std.proofs.lemmas.List.{append_assoc, append-nil, replicate-append-replicate}
 use Rattle.std.proofs.lemmas.Nat.{pow_pos, pow-add, mul-le, mod_below}
 use Rattle.ff_bits.specs.Bits.{bits_of}
 use Rattle.ff_bits.proofs.BitsOf.{bits_of-add, bits_of-zeros, bits_of-mod}
-use Rattle.ff_flac_rice.specs.Rice.{rice_bits, rice_length, partition_bits, partitions_bits, best_k, best_at, residual_bits, parts_of, pieces, count_of}
+use Rattle.ff_flac_rice.specs.Rice.{rice_bits, rice_length, partition_bits, partitions_bits, best_k, best_at, residual_bits, parts_of, pieces}
 use Rattle.ff_flac_rice.proofs.PartLemmas.{pieces-suc, parts_of-is}
 
 bit_one : bits_of 1 1 ≡ true ∷ []
@@ -80,11 +80,6 @@ zeros_step out next end some left rest e n h =
     ∙ append_assoc out (replicate some false) (replicate rest false)
     ∙ ap (λ b. out ++ b) (replicate-append-replicate some rest false ∙ ap (λ m. replicate m false) e)
     ∙ h
-
-pub count_below : (method : ℕ) → method ≤ 1 → count_of method < 2 ^ (4 + method)
-count_below zero h = omega arith
-count_below (suc zero) h = omega arith
-count_below (suc (suc m)) h = absurd (omega arith)
 
 -- four values of the rest
 pub four_step : (k : ℕ) (rest four after : List ℕ) (out next end : List Bool) → 4 ≤ length rest → four ≡ take 4 rest → after ≡ drop 4 rest
