@@ -89,7 +89,7 @@ fn second_step(v: i32, x: i32, y: i32) -> i32
     y - 2 * x + v
 }
 
-/// What the samples between take part in a residual of the third order.
+/// The part that the samples between have in a residual of the third order.
 fn third_middle(x: i32, y: i32) -> i32
     requires x { IsSmall x }
     requires y { IsSmall y }
@@ -110,7 +110,7 @@ fn third_step(v: i32, middle: i32, z: i32) -> i32
     middle + z - v
 }
 
-/// What the samples between take part in a residual of the fourth order.
+/// The part that the samples between have in a residual of the fourth order.
 fn fourth_middle(x: i32, y: i32, z: i32) -> i32
     requires x { IsSmall x }
     requires y { IsSmall y }
