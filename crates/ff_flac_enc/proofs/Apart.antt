@@ -1,10 +1,11 @@
 -- Channels as subframes of their own.
-use Rattle.std.proofs.Common.{◌≡◌, ℕ, zero, suc, ◌+◌, ◌-◌, ◌*◌, ◌/◌, ◌^◌, ◌<◌, ◌≤◌, Bool, cond, ℤ, pos, List, [], ◌∷◌, ◌++◌, length, map, get_or, Some, refl, sym, ap, subst, ◌∙◌, arith}
+use Rattle.std.proofs.Common.{◌≡◌, ℕ, zero, suc, ◌+◌, ◌-◌, ◌*◌, ◌/◌, ◌^◌, ◌<◌, ◌≤◌, Bool, cond, ℤ, pos, List, [], ◌∷◌, ◌++◌, length, map, get_or, set, take, Some, refl, sym, ap, subst, ◌∙◌, arith}
 use Rattle.std.specs.Option.{unwrap_or}
 use Rattle.std.specs.List.{flat_map, range_with_len, All, AllByRecursion}
 use Rattle.std.proofs.lemmas.Bool.{lt-ltb, ne_eqb}
 use Rattle.std.specs.Prelude.{Result, Ok, Err, IfOk}
-use Rattle.std.proofs.lemmas.List.{append-nil, append_assoc, length-map}
+use Rattle.std.proofs.lemmas.List.{append-nil, append_assoc, length-map, take_all, take_more_set}
+use Rattle.std.proofs.lemmas.List.FromFn.{map-range_with_len_more}
 use Rattle.std.proofs.lemmas.List.Concat.{flat_map-append}
 use Rattle.ff_flac_enc.specs.Signal.{CanWrite}
 use Rattle.std.proofs.lemmas.List.Elements.{All-get_or, All-same, All-from_recursion}
@@ -121,6 +122,20 @@ index_in len n t c h l =
 
 abbrev pub sample_at : ℕ → List ℤ → ℕ → ℕ → ℤ
 sample_at n samples c t = get_or samples (t * n + c) (pos 0)
+
+pub next_sample : (n c : ℕ) (samples xs : List ℤ) (t : ℕ) (x : ℤ) → t < length xs → x ≡ sample_at n samples c t
+    → take t xs ≡ map (sample_at n samples c) (range_with_len 0 t) → take (t + 1) (set xs t x) ≡ map (sample_at n samples c) (range_with_len 0 (t + 1))
+next_sample n c samples xs t x h e is =
+    take_more_set xs t x h
+    ∙ ap (λ y. take t xs ++ (y ∷ [])) e
+    ∙ ap (λ l. l ++ (sample_at n samples c t ∷ [])) is
+    ∙ sym (map-range_with_len_more (sample_at n samples c) 0 t t (omega arith))
+
+pub all_picked : (n c : ℕ) (samples xs : List ℤ) (t : ℕ) → length xs ≡ length samples / n → length xs ≡ t
+    → take t xs ≡ map (sample_at n samples c) (range_with_len 0 t) → xs ≡ channel_of n samples c
+unfolding channel_of
+all_picked n c samples xs t l e is =
+    sym (take_all t xs (omega (arith, e))) ∙ is ∙ ap (λ k. map (sample_at n samples c) (range_with_len 0 k)) (sym e ∙ l)
 
 pub length-channel_of : (n c : ℕ) (samples : List ℤ) → length (channel_of n samples c) ≡ length samples / n
 unfolding channel_of

@@ -1,7 +1,7 @@
-use Rattle.std.proofs.Common.{◌≡◌, ℕ, ℤ, pos, negsuc, ◌*◌, ◌-◌, ◌^◌, zero, suc, get_or, take, ◌+◌, ◌<◌, ◌≤◌, Bool, List, [], ◌∷◌, ◌++◌, length, map, Some, refl, sym, ap, ◌∙◌, subst, arith}
+use Rattle.std.proofs.Common.{◌≡◌, ℕ, ℤ, pos, negsuc, ◌*◌, ◌-◌, ◌^◌, zero, suc, get_or, set, take, ◌+◌, ◌<◌, ◌≤◌, Bool, List, [], ◌∷◌, ◌++◌, length, map, Some, refl, sym, ap, ◌∙◌, subst, arith}
 use Rattle.std.specs.Option.{option_map}
 use Rattle.std.specs.List.{flat_map, All, AllByRecursion}
-use Rattle.std.proofs.lemmas.List.{length-append, append-nil, append_assoc}
+use Rattle.std.proofs.lemmas.List.{length-append, append-nil, append_assoc, take_all, take_more_set}
 use Rattle.std.proofs.lemmas.Bool.Decides.{nat_tests}
 use Rattle.ff_flac_rice.specs.Least.{choose, least}
 use Rattle.ff_values.specs.Audio.{FitsBits}
@@ -120,11 +120,20 @@ both_suc f (x ∷ xs) [] i h g = absurd (omega arith)
 both_suc f (x ∷ xs) (y ∷ ys) zero h g = refl
 both_suc f (x ∷ xs) (y ∷ ys) (suc i) h g = ap (λ l. f x y ∷ l) (both_suc f xs ys i (omega arith) (omega arith))
 
-pub both_more : (f : ℤ → ℤ → ℤ) (xs ys : List ℤ) (i : ℕ) → i < length xs → i < length ys
+both_more : (f : ℤ → ℤ → ℤ) (xs ys : List ℤ) (i : ℕ) → i < length xs → i < length ys
     → both f (take (i + 1) xs) (take (i + 1) ys) ≡ both f (take i xs) (take i ys) ++ (f (get_or xs i (pos 0)) (get_or ys i (pos 0)) ∷ [])
 both_more f xs ys i h g =
     let e : i + 1 ≡ suc i = omega arith in
     ap (λ n. both f (take n xs) (take n ys)) e ∙ both_suc f xs ys i h g
+
+pub both_next : (f : ℤ → ℤ → ℤ) (zs xs ys : List ℤ) (i : ℕ) (z : ℤ) → i < length zs → i < length xs → i < length ys → z ≡ f (get_or xs i (pos 0)) (get_or ys i (pos 0))
+    → take i zs ≡ both f (take i xs) (take i ys) → take (i + 1) (set zs i z) ≡ both f (take (i + 1) xs) (take (i + 1) ys)
+both_next f zs xs ys i z k h g e is =
+    take_more_set zs i z k ∙ ap (λ a. take i zs ++ (a ∷ [])) e ∙ ap (λ l. l ++ (f (get_or xs i (pos 0)) (get_or ys i (pos 0)) ∷ [])) is ∙ sym (both_more f xs ys i h g)
+
+pub both_end : (f : ℤ → ℤ → ℤ) (zs xs ys : List ℤ) (i : ℕ) → length zs ≤ i → length xs ≤ i → length ys ≤ i
+    → take i zs ≡ both f (take i xs) (take i ys) → zs ≡ both f xs ys
+both_end f zs xs ys i k h g is = sym (take_all i zs k) ∙ is ∙ ap (λ l. both f l (take i ys)) (take_all i xs h) ∙ ap (both f xs) (take_all i ys g)
 
 -- ---- the samples of the middle and the difference
 

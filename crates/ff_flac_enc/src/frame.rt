@@ -9,6 +9,7 @@ ghost use Rattle.ff_flac_enc.specs.Layout.{Layout, layouts, layout_size, body};
 ghost use Rattle.ff_flac_enc.specs.Channels.{channel_of, channels_in, best_bits};
 ghost use Rattle.ff_flac_enc.specs.Frame.{IsBlock, IsLeast, Spells, head_of};
 
+use crate::channels::{channel, two_channels};
 use crate::head::{Head, close_frame, open_frame};
 use crate::pair::write_pair;
 use ff_bits::BitWriter;
@@ -16,22 +17,6 @@ use ff_flac_frame::FlacStream;
 use ff_flac_sub::write_subframe;
 use ff_values::AFrame;
 use std::alloc::{AllocError, Global};
-
-/// The samples of one channel.
-#[tactic(auto, unfolding(crate::specs::Channels::channel_of))]
-fn channel(alloc: Global, samples: &[i32], n: usize, c: usize) -> Result<Vec<i32>, AllocError>
-    requires some { 0 < n }
-    requires one { c < n }
-    requires few { n ≤ 8 }
-    ensures { IfOk result (λ v. v.items ≡ channel_of n samples.now c) }
-{
-    let count = samples.len() / n;
-    let mut out = Vec::with_capacity(alloc, count)?;
-    for t in 0..count {
-        out.push(samples[t * n + c])?;
-    }
-    Ok(out)
-}
 
 /// Writes one channel as a subframe of its own.
 fn write_channel(
@@ -121,9 +106,8 @@ fn write_two(
     ensures { IfOk result (λ out. (y : Layout) × (least (layout_size bits (channels_in 2 samples.now)) (layouts bits (channels_in 2 samples.now)) ≡ Some y)
         × (out ≡ opened head.now y.form ++ body bits (channels_in 2 samples.now) y)) }
 {
-    let left = channel(alloc, samples, 2, 0)?;
-    let right = channel(alloc, samples, 2, 1)?;
-    let out = write_pair(alloc, head, &left, &right, bits)?;
+    let two = two_channels(alloc, samples)?;
+    let out = write_pair(alloc, head, &two.0, &two.1, bits)?;
     Ok(out)
 }
 

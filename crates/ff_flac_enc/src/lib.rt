@@ -10,6 +10,7 @@
 mod at_once;
 mod blocks;
 mod blocks_laws;
+mod channels;
 mod counter;
 mod format;
 mod frame;

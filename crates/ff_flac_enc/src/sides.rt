@@ -4,6 +4,7 @@ ghost use Rattle.std.specs.Prelude.{◌≡◌, ◌+◌, ◌-◌, ◌^◌, ◌<�
 ghost use Rattle.ff_values.specs.Audio.{FitsBits};
 ghost use Rattle.ff_flac_enc.specs.Layout.{half, mid_of, side_of};
 
+use crate::channels::zeros;
 use std::alloc::{AllocError, Global};
 
 fn middle(x: i32, y: i32) -> i32
@@ -22,6 +23,30 @@ fn difference(x: i32, y: i32) -> i32
     x - y
 }
 
+fn middles(mid: &mut [i32], left: &[i32], right: &[i32])
+    requires left { All (FitsBits 25) left.now }
+    requires right { All (FitsBits 25) right.now }
+    requires len { length left.now ≡ length right.now }
+    requires count { length mid.old ≡ length left.now }
+    ensures { mid.new ≡ mid_of left.now right.now }
+{
+    for i in 0..mid.len() {
+        mid[i] = middle(left[i], right[i]);
+    }
+}
+
+fn differences(side: &mut [i32], left: &[i32], right: &[i32])
+    requires left { All (FitsBits 25) left.now }
+    requires right { All (FitsBits 25) right.now }
+    requires len { length left.now ≡ length right.now }
+    requires count { length side.old ≡ length left.now }
+    ensures { side.new ≡ side_of left.now right.now }
+{
+    for i in 0..side.len() {
+        side[i] = difference(left[i], right[i]);
+    }
+}
+
 /// The middle of two channels.
 pub fn mid_samples(alloc: Global, left: &[i32], right: &[i32]) -> Result<Vec<i32>, AllocError>
     requires left { All (FitsBits 25) left.now }
@@ -29,10 +54,8 @@ pub fn mid_samples(alloc: Global, left: &[i32], right: &[i32]) -> Result<Vec<i32
     requires len { length left.now ≡ length right.now }
     ensures { IfOk result (λ v. v.items ≡ mid_of left.now right.now) }
 {
-    let mut out = Vec::with_capacity(alloc, left.len())?;
-    for i in 0..left.len() {
-        out.push(middle(left[i], right[i]))?;
-    }
+    let mut out = zeros(alloc, left.len())?;
+    middles(&mut out, left, right);
     Ok(out)
 }
 
@@ -43,9 +66,7 @@ pub fn side_samples(alloc: Global, left: &[i32], right: &[i32]) -> Result<Vec<i3
     requires len { length left.now ≡ length right.now }
     ensures { IfOk result (λ v. v.items ≡ side_of left.now right.now) }
 {
-    let mut out = Vec::with_capacity(alloc, left.len())?;
-    for i in 0..left.len() {
-        out.push(difference(left[i], right[i]))?;
-    }
+    let mut out = zeros(alloc, left.len())?;
+    differences(&mut out, left, right);
     Ok(out)
 }
