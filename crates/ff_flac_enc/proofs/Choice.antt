@@ -6,19 +6,14 @@ use Rattle.std.proofs.lemmas.Bool.Decides.{nat_tests}
 use Rattle.ff_flac_rice.specs.Least.{choose, least}
 use Rattle.ff_values.specs.Audio.{FitsBits}
 use Rattle.ff_flac_sub.specs.Subframe.{Spelling, subframe_bits, candidates, magnitude}
-use Rattle.ff_flac_sub.specs.Plan.{size, spelling_of}
-use Rattle.ff_flac_sub.specs.declared.subframe.Planned.{Planned}
-use Rattle.ff_flac_enc.specs.Signal.{CanWrite, IsLeast}
+use Rattle.ff_flac_sub.specs.Plan.{size}
+use Rattle.ff_flac_enc.specs.Signal.{CanWrite}
 use Rattle.ff_flac_sub.proofs.Plans.{first_small}
 use Rattle.std.proofs.Math.Nat.{pow-suc}
 use Rattle.ff_flac_rice.proofs.LeastLemmas.{least-append, least-map, least-same, least-shift, least-shift_right, least-flat_map}
 use Rattle.ff_flac_dec.specs.Channels.{both}
-use Rattle.ff_flac_enc.specs.declared.pair.Plans.{Plans}
-use Rattle.ff_flac_enc.specs.declared.pair.Shape.{Shape}
-use Rattle.ff_flac_enc.specs.declared.pair.Shape.TheVariants.{Independent, LeftSide, SideRight, MidSide}
-use Rattle.ff_flac_enc.specs.Shape.{form_of, Chooses, pair_layout}
 use Rattle.ff_flac_enc.specs.Layout.{Signal, forms, signals, products, bodies, Layout, layouts, layouts_with, body, layout_size, half, mid_of, side_of, signal}
-use Rattle.std.specs.Prelude.{Result, Ok, Err, OnOk, ◌+ℤ◌, ◌-ℤ◌, ◌<ℤ◌, ◌≤ℤ◌, neg_ℤ}
+use Rattle.std.specs.Prelude.{◌+ℤ◌, ◌-ℤ◌, ◌<ℤ◌, ◌≤ℤ◌, neg_ℤ}
 use Rattle.std.proofs.lemmas.Int.{ints}
 use Rattle.std.proofs.lemmas.List.Elements.{All-same, All-from_recursion, recursion_from_All}
 use Rattle.ff_flac_sub.proofs.Predict.{magnitude_of, fits_of, step_small, above, from_below, between}
@@ -75,10 +70,6 @@ size_of_two a b s t =
     length-append (subframe_bits a.depth a.samples s) (subframe_bits b.depth b.samples t ++ [])
     ∙ ap (λ l. size a.depth a.samples s + length l) (append-nil (subframe_bits b.depth b.samples t))
 
--- a form, the best of its layouts
-abbrev pub form_pair : ℕ → Spelling → Spelling → Layout
-form_pair form s t = record { form = form; spellings = s ∷ t ∷ [] }
-
 -- the four forms, one after another
 pub least-of_four : (bits : ℕ) (left right : List ℤ) (a b c d : Layout)
     → least (layout_size bits (left ∷ right ∷ [])) (layouts_with bits (left ∷ right ∷ []) 1) ≡ Some a → least (layout_size bits (left ∷ right ∷ [])) (layouts_with bits (left ∷ right ∷ []) 8) ≡ Some b
@@ -100,16 +91,16 @@ least-of_four bits left right a b c d ea eb ec ed =
     ∙ ap (choose f (Some c)) (ap (least f) (append-nil (L 10)) ∙ ed)))
 
 -- which of four is chosen
-chain_1 : {A : Type 0} (f : A → ℕ) (a b c d : A) → f a ≤ f b → f a ≤ f c → f a ≤ f d → choose f (Some a) (choose f (Some b) (choose f (Some c) (Some d))) ≡ Some a
+pub chain_1 : {A : Type 0} (f : A → ℕ) (a b c d : A) → f a ≤ f b → f a ≤ f c → f a ≤ f d → choose f (Some a) (choose f (Some b) (choose f (Some c) (Some d))) ≡ Some a
 chain_1 f a b c d p q r = grind (arith, nat_tests)
 
-chain_2 : {A : Type 0} (f : A → ℕ) (a b c d : A) → f b < f a → f b ≤ f c → f b ≤ f d → choose f (Some a) (choose f (Some b) (choose f (Some c) (Some d))) ≡ Some b
+pub chain_2 : {A : Type 0} (f : A → ℕ) (a b c d : A) → f b < f a → f b ≤ f c → f b ≤ f d → choose f (Some a) (choose f (Some b) (choose f (Some c) (Some d))) ≡ Some b
 chain_2 f a b c d p q r = grind (arith, nat_tests)
 
-chain_3 : {A : Type 0} (f : A → ℕ) (a b c d : A) → f c < f a → f c < f b → f c ≤ f d → choose f (Some a) (choose f (Some b) (choose f (Some c) (Some d))) ≡ Some c
+pub chain_3 : {A : Type 0} (f : A → ℕ) (a b c d : A) → f c < f a → f c < f b → f c ≤ f d → choose f (Some a) (choose f (Some b) (choose f (Some c) (Some d))) ≡ Some c
 chain_3 f a b c d p q r = grind (arith, nat_tests)
 
-chain_4 : {A : Type 0} (f : A → ℕ) (a b c d : A) → f d < f a → f d < f b → f d < f c → choose f (Some a) (choose f (Some b) (choose f (Some c) (Some d))) ≡ Some d
+pub chain_4 : {A : Type 0} (f : A → ℕ) (a b c d : A) → f d < f a → f d < f b → f d < f c → choose f (Some a) (choose f (Some b) (choose f (Some c) (Some d))) ≡ Some d
 chain_4 f a b c d p q r = grind (arith, nat_tests)
 
 -- ---- two channels as one, a sample more
@@ -221,7 +212,7 @@ can_side bits xs ys sides w h g l e =
 pub small_channel : (bits : ℕ) (xs : List ℤ) → CanWrite bits xs → All (FitsBits 25) xs
 small_channel bits xs h = first_small bits xs h.within h.fits
 
--- ---- the best of the four forms
+-- ---- what the four forms hold
 
 pub signals_1 : (bits : ℕ) (l r : List ℤ) → signals bits (l ∷ r ∷ []) 1 ≡ signal bits l ∷ signal bits r ∷ []
 unfolding signals
@@ -238,97 +229,3 @@ signals_3 bits l r = refl
 pub signals_4 : (bits : ℕ) (l r : List ℤ) → signals bits (l ∷ r ∷ []) 10 ≡ signal bits (mid_of l r) ∷ signal (bits + 1) (side_of l r) ∷ []
 unfolding signals
 signals_4 bits l r = refl
-
--- one form: its best pair, and what that costs
-abbrev pub spelled : Signal → Planned → Spelling
-spelled a p = spelling_of a.samples p.plan
-
-abbrev pub IsGood : Signal → Planned → Type 0
-IsGood a p = IsLeast a.depth a.samples p
-
-pub one_form : (bits : ℕ) (l r : List ℤ) (form : ℕ) (a b : Signal) (p q : Planned) → signals bits (l ∷ r ∷ []) form ≡ a ∷ b ∷ [] → IsGood a p → IsGood b q
-    → least (layout_size bits (l ∷ r ∷ [])) (layouts_with bits (l ∷ r ∷ []) form) ≡ Some (form_pair form (spelled a p) (spelled b q))
-one_form bits l r form a b p q e h g =
-    least-layouts_with bits (l ∷ r ∷ []) form (spelled a p ∷ spelled b q ∷ []) (subst (λ xs. AreBest xs (spelled a p ∷ spelled b q ∷ [])) (sym e) (h.chosen, (g.chosen, tt)))
-
-pub form_cost : (bits : ℕ) (l r : List ℤ) (form : ℕ) (a b : Signal) (p q : Planned) → signals bits (l ∷ r ∷ []) form ≡ a ∷ b ∷ [] → IsGood a p → IsGood b q
-    → layout_size bits (l ∷ r ∷ []) (form_pair form (spelled a p) (spelled b q)) ≡ p.cost + q.cost
-unfolding body
-form_cost bits l r form a b p q e h g =
-    ap (λ xs. length (bodies xs (spelled a p ∷ spelled b q ∷ []))) e
-    ∙ size_of_two a b (spelled a p) (spelled b q)
-    ∙ omega (arith, h.cost, g.cost)
-
-pub form_bits : (bits : ℕ) (l r : List ℤ) (form : ℕ) (a b : Signal) (s t : Spelling) (out next : List Bool) → signals bits (l ∷ r ∷ []) form ≡ a ∷ b ∷ []
-    → next ≡ out ++ bodies (a ∷ b ∷ []) (s ∷ t ∷ []) → next ≡ out ++ body bits (l ∷ r ∷ []) (form_pair form s t)
-unfolding body
-form_bits bits l r form a b s t out next e h = h ∙ ap (λ xs. out ++ bodies xs (s ∷ t ∷ [])) (sym e)
-
--- the plans of left, right, mid and side
-pub record ArePlans (bits : ℕ) (l r : List ℤ) (p : Plans) : Type 0 where
-  pub left : IsLeast bits l p.left
-  pub right : IsLeast bits r p.right
-  pub mid : IsLeast bits (mid_of l r) p.mid
-  pub side : IsLeast (bits + 1) (side_of l r) p.side
-
-pub best_form : (bits : ℕ) (l r : List ℤ) (p : Plans) → ArePlans bits l r p → (shape : Shape) → Chooses p.left.cost p.right.cost p.mid.cost p.side.cost shape
-    → least (layout_size bits (l ∷ r ∷ [])) (layouts bits (l ∷ r ∷ [])) ≡ Some (pair_layout l r p shape)
-best_form bits l r p h shape chosen =
-    let L : Signal = signal bits l in
-    let R : Signal = signal bits r in
-    let M : Signal = signal bits (mid_of l r) in
-    let S : Signal = signal (bits + 1) (side_of l r) in
-    let f : Layout → ℕ = layout_size bits (l ∷ r ∷ []) in
-    let A : Layout = pair_layout l r p Independent in
-    let B : Layout = pair_layout l r p LeftSide in
-    let C : Layout = pair_layout l r p SideRight in
-    let D : Layout = pair_layout l r p MidSide in
-    let four = least-of_four bits l r A B C D
-    (one_form bits l r 1 L R p.left p.right (signals_1 bits l r) h.left h.right) (one_form bits l r 8 L S p.left p.side (signals_2 bits l r) h.left h.side)
-    (one_form bits l r 9 S R p.side p.right (signals_3 bits l r) h.side h.right) (one_form bits l r 10 M S p.mid p.side (signals_4 bits l r) h.mid h.side) in
-    let ca : f A ≡ p.left.cost + p.right.cost = form_cost bits l r 1 L R p.left p.right (signals_1 bits l r) h.left h.right in
-    let cb : f B ≡ p.left.cost + p.side.cost = form_cost bits l r 8 L S p.left p.side (signals_2 bits l r) h.left h.side in
-    let cc' : f C ≡ p.side.cost + p.right.cost = form_cost bits l r 9 S R p.side p.right (signals_3 bits l r) h.side h.right in
-    let cd : f D ≡ p.mid.cost + p.side.cost = form_cost bits l r 10 M S p.mid p.side (signals_4 bits l r) h.mid h.side in
-    elim shape as (λ s. Chooses p.left.cost p.right.cost p.mid.cost p.side.cost s → least f (layouts bits (l ∷ r ∷ [])) ≡ Some (pair_layout l r p s)) [
-      | Independent ↦ λ h. four ∙ chain_1 f A B C D (omega (arith, ca, cb, h.0)) (omega (arith, ca, cc', h.1)) (omega (arith, ca, cd, h.2))
-      | LeftSide ↦ λ h. four ∙ chain_2 f A B C D (omega (arith, ca, cb, h.0)) (omega (arith, cb, cc', h.1)) (omega (arith, cb, cd, h.2))
-      | SideRight ↦ λ h. four ∙ chain_3 f A B C D (omega (arith, ca, cc', h.0)) (omega (arith, cb, cc', h.1)) (omega (arith, cc', cd, h.2))
-      | MidSide ↦ λ h. four ∙ chain_4 f A B C D (omega (arith, ca, cd, h.0)) (omega (arith, cb, cd, h.1)) (omega (arith, cc', cd, h.2))
-    ] chosen
-
-pub pair_form : (l r : List ℤ) (p : Plans) (shape : Shape) → (pair_layout l r p shape).form ≡ form_of shape
-pair_form l r p Independent = refl
-pair_form l r p LeftSide = refl
-pair_form l r p SideRight = refl
-pair_form l r p MidSide = refl
-
--- ---- two channels in one form
-
-pub on_ok : {A E : Type 0} {P Q : Type 0} (r : Result A E) → (P → Q) → OnOk r P → OnOk r Q
-on_ok (Ok a) f h = f h
-on_ok (Err e) f h = h
-
-module _ (bits : ℕ) (l r : List ℤ) (p : Plans) (shape : Shape) (out next : List Bool) where
-  shaped : (other : Shape) → shape ≡ other → next ≡ out ++ body bits (l ∷ r ∷ []) (pair_layout l r p other) → next ≡ out ++ body bits (l ∷ r ∷ []) (pair_layout l r p shape)
-  shaped other e h = h ∙ ap (λ s. out ++ body bits (l ∷ r ∷ []) (pair_layout l r p s)) (sym e)
-
-  pub shape_1 : shape ≡ Independent → next ≡ out ++ bodies (signal bits l ∷ signal bits r ∷ []) (spelling_of l p.left.plan ∷ spelling_of r p.right.plan ∷ [])
-      → next ≡ out ++ body bits (l ∷ r ∷ []) (pair_layout l r p shape)
-  shape_1 e h = shaped Independent e (form_bits bits l r 1 (signal bits l) (signal bits r) (spelling_of l p.left.plan) (spelling_of r p.right.plan) out next (signals_1 bits l r) h)
-
-  pub shape_2 : (side : List ℤ) → side ≡ side_of l r → shape ≡ LeftSide → next ≡ out ++ bodies (signal bits l ∷ signal (bits + 1) side ∷ []) (spelling_of l p.left.plan ∷ spelling_of side p.side.plan ∷ [])
-      → next ≡ out ++ body bits (l ∷ r ∷ []) (pair_layout l r p shape)
-  shape_2 side s e h = shaped LeftSide e (form_bits bits l r 8 (signal bits l) (signal (bits + 1) (side_of l r)) (spelling_of l p.left.plan) (spelling_of (side_of l r) p.side.plan) out next (signals_2 bits l r)
-      (h ∙ ap (λ xs. out ++ bodies (signal bits l ∷ signal (bits + 1) xs ∷ []) (spelling_of l p.left.plan ∷ spelling_of xs p.side.plan ∷ [])) s))
-
-  pub shape_3 : (side : List ℤ) → side ≡ side_of l r → shape ≡ SideRight → next ≡ out ++ bodies (signal (bits + 1) side ∷ signal bits r ∷ []) (spelling_of side p.side.plan ∷ spelling_of r p.right.plan ∷ [])
-      → next ≡ out ++ body bits (l ∷ r ∷ []) (pair_layout l r p shape)
-  shape_3 side s e h = shaped SideRight e (form_bits bits l r 9 (signal (bits + 1) (side_of l r)) (signal bits r) (spelling_of (side_of l r) p.side.plan) (spelling_of r p.right.plan) out next (signals_3 bits l r)
-      (h ∙ ap (λ xs. out ++ bodies (signal (bits + 1) xs ∷ signal bits r ∷ []) (spelling_of xs p.side.plan ∷ spelling_of r p.right.plan ∷ [])) s))
-
-  pub shape_4 : (mid side : List ℤ) → mid ≡ mid_of l r → side ≡ side_of l r → shape ≡ MidSide → next ≡ out ++ bodies (signal bits mid ∷ signal (bits + 1) side ∷ []) (spelling_of mid p.mid.plan ∷ spelling_of side p.side.plan ∷ [])
-      → next ≡ out ++ body bits (l ∷ r ∷ []) (pair_layout l r p shape)
-  shape_4 mid side m s e h = shaped MidSide e (form_bits bits l r 10 (signal bits (mid_of l r)) (signal (bits + 1) (side_of l r)) (spelling_of (mid_of l r) p.mid.plan) (spelling_of (side_of l r) p.side.plan) out next (signals_4 bits l r)
-      (h ∙ ap (λ xs. out ++ bodies (signal bits xs ∷ signal (bits + 1) side ∷ []) (spelling_of xs p.mid.plan ∷ spelling_of side p.side.plan ∷ [])) m
-      ∙ ap (λ xs. out ++ bodies (signal bits (mid_of l r) ∷ signal (bits + 1) xs ∷ []) (spelling_of (mid_of l r) p.mid.plan ∷ spelling_of xs p.side.plan ∷ [])) s))

@@ -1,6 +1,7 @@
 pub mod Choice
 pub mod HeadLemmas
 pub mod Apart
+mod Forms
 mod Short
 pub mod ReadsHead
 pub mod ReadsFrame

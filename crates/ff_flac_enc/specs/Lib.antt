@@ -1,5 +1,6 @@
 pub mod Layout
 pub mod Shape
+pub mod Choice
 pub mod Signal
 pub mod Head
 pub mod Channels

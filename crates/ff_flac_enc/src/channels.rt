@@ -6,13 +6,14 @@ ghost use Rattle.ff_flac_enc.specs.Channels.{channel_of};
 
 use std::alloc::{AllocError, Global};
 
-/// As many samples, to be written.
+/// So many samples, to be written.
 pub fn zeros(alloc: Global, count: usize) -> Result<Vec<i32>, AllocError>
     ensures { IfOk result (λ v. length v.items ≡ count) }
 {
     vec![in alloc; 0; count]
 }
 
+/// Writes the samples of one channel.
 fn pick_each(out: &mut [i32], samples: &[i32], n: usize, c: usize)
     requires some { 0 < n }
     requires one { c < n }
@@ -37,6 +38,7 @@ pub fn channel(alloc: Global, samples: &[i32], n: usize, c: usize) -> Result<Vec
     Ok(out)
 }
 
+/// Writes the samples of two channels.
 fn split(left: &mut [i32], right: &mut [i32], samples: &[i32])
     requires left { length left.old ≡ length samples.now / 2 }
     requires right { length right.old ≡ length samples.now / 2 }

@@ -17,6 +17,7 @@ mod frame;
 mod head;
 mod laws;
 mod pair;
+mod shape;
 mod sides;
 mod waiting;
 

@@ -7,6 +7,7 @@ ghost use Rattle.ff_flac_enc.specs.Layout.{half, mid_of, side_of};
 use crate::channels::zeros;
 use std::alloc::{AllocError, Global};
 
+/// The middle of two samples.
 fn middle(x: i32, y: i32) -> i32
     requires x { FitsBits 25 x }
     requires y { FitsBits 25 y }
@@ -15,6 +16,7 @@ fn middle(x: i32, y: i32) -> i32
     (x + y) >> 1
 }
 
+/// The difference of two samples.
 fn difference(x: i32, y: i32) -> i32
     requires x { FitsBits 25 x }
     requires y { FitsBits 25 y }
@@ -23,6 +25,7 @@ fn difference(x: i32, y: i32) -> i32
     x - y
 }
 
+/// Writes the middle of two channels.
 fn middles(mid: &mut [i32], left: &[i32], right: &[i32])
     requires left { All (FitsBits 25) left.now }
     requires right { All (FitsBits 25) right.now }
@@ -35,6 +38,7 @@ fn middles(mid: &mut [i32], left: &[i32], right: &[i32])
     }
 }
 
+/// Writes the difference of two channels.
 fn differences(side: &mut [i32], left: &[i32], right: &[i32])
     requires left { All (FitsBits 25) left.now }
     requires right { All (FitsBits 25) right.now }
