@@ -1,6 +1,6 @@
 -- The form of two channels that has the fewest bits.
 use Rattle.std.proofs.Common.{◌≡◌, ℕ, ℤ, pos, negsuc, true, ◌+◌, ◌*◌, ◌/◌, ◌^◌, ◌<◌, ◌≤◌, Bool, List, [], ◌∷◌, ◌++◌, length, Some, None, refl, sym, ap, ◌∙◌, subst, arith}
-use Rattle.std.specs.Prelude.{IfSome, IsSome, Result, Ok, Err, OnOk, ⊤, ◌+ℤ◌}
+use Rattle.std.specs.Prelude.{IfSome, Result, Ok, Err, OnOk, ⊤, ◌+ℤ◌}
 use Rattle.std.specs.Cmp.Lexicographic.{pointwise}
 use Rattle.std.specs.Ordering.{int_eq}
 use Rattle.std.proofs.lemmas.Bool.Decides.{Decides-int_eq}
@@ -16,13 +16,9 @@ use Rattle.ff_flac_sub.specs.declared.subframe.Outlook.{Outlook}
 use Rattle.ff_flac_sub.specs.declared.subframe.Plan.{Plan}
 use Rattle.ff_flac_sub.specs.declared.subframe.Planned.{Planned}
 use Rattle.ff_flac_enc.specs.Channels.{best, best_bits}
-use Rattle.ff_flac_enc.specs.Choice.{fewest, IsBest, IsKnown, CanWriteFour, AreOutlooks, AreKnown, ArePlanned, IsLowest, first_known, second_known, IsChoice}
-use Rattle.ff_flac_enc.specs.Layout.{Signal, Layout, signals, bodies, layouts, layouts_with, body, layout_size, half, mid_of, side_of, signal}
+use Rattle.ff_flac_enc.specs.Choice.{fewest, IsBest, IsKnown}
+use Rattle.ff_flac_enc.specs.Layout.{Layout, signals, bodies, layouts, layouts_with, body, layout_size, half, mid_of, side_of, signal}
 use Rattle.ff_flac_enc.specs.Shape.{form_of, Chooses, first_depth, first_samples, second_depth, second_samples, pair_layout}
-use Rattle.ff_flac_enc.specs.Signal.{CanWrite}
-use Rattle.ff_flac_enc.specs.declared.shape.Choice.{Choice}
-use Rattle.ff_flac_enc.specs.declared.shape.Four.{Four}
-use Rattle.ff_flac_enc.specs.declared.shape.Known.{Known}
 use Rattle.ff_flac_enc.specs.declared.shape.Shape.{Shape}
 use Rattle.ff_flac_enc.specs.declared.shape.Shape.TheVariants.{Independent, LeftSide, SideRight, MidSide}
 use Rattle.ff_flac_enc.proofs.Apart.{best_is, best_found}
@@ -30,7 +26,7 @@ use Rattle.ff_flac_enc.proofs.Choice.{AreBest, least-layouts_with, size_of_two, 
 
 -- ---- the best layout of each form
 
-pub signals_in : (bits : ℕ) (l r : List ℤ) (shape : Shape)
+signals_in : (bits : ℕ) (l r : List ℤ) (shape : Shape)
     → signals bits (l ∷ r ∷ []) (form_of shape)
     ≡ signal (first_depth bits shape) (first_samples l (mid_of l r) (side_of l r) shape) ∷ signal (second_depth bits shape) (second_samples r (side_of l r) shape) ∷ []
 signals_in bits l r Independent = signals_1 bits l r
@@ -39,7 +35,7 @@ signals_in bits l r SideRight = signals_3 bits l r
 signals_in bits l r MidSide = signals_4 bits l r
 
 -- what the best layout of a form costs
-abbrev pub pair_cost : ℕ → List ℤ → List ℤ → Shape → ℕ
+abbrev pair_cost : ℕ → List ℤ → List ℤ → Shape → ℕ
 pair_cost bits l r shape =
     fewest (first_depth bits shape) (first_samples l (mid_of l r) (side_of l r) shape) + fewest (second_depth bits shape) (second_samples r (side_of l r) shape)
 
@@ -76,7 +72,8 @@ best_form bits l r shape chosen =
     let B : Layout = pair_layout bits l r LeftSide in
     let C : Layout = pair_layout bits l r SideRight in
     let D : Layout = pair_layout bits l r MidSide in
-    let four = least-of_four bits l r A B C D (form_best bits l r Independent) (form_best bits l r LeftSide) (form_best bits l r SideRight) (form_best bits l r MidSide) in
+    let four = least-of_four bits l r A B C D
+    (form_best bits l r Independent) (form_best bits l r LeftSide) (form_best bits l r SideRight) (form_best bits l r MidSide) in
     let ca : f A ≡ L + R = form_cost bits l r Independent in
     let cb : f B ≡ L + S = form_cost bits l r LeftSide in
     let cc' : f C ≡ S + R = form_cost bits l r SideRight in
@@ -99,8 +96,8 @@ by_outlook depth xs outlook h = record {
   plan = tt;
 }
 
-pub by_plan : (depth : ℕ) (xs : List ℤ) (p : Planned) → least (size depth xs) (candidates xs) ≡ Some (spelling_of xs p.plan) → p.cost ≡ size depth xs (spelling_of xs p.plan)
-    → PlanFits xs p.plan → p.cost < 2 ^ 20 → IsKnown depth xs (record { bound = p.cost; plan = Some p.plan })
+pub by_plan : (depth : ℕ) (xs : List ℤ) (p : Planned) → least (size depth xs) (candidates xs) ≡ Some (spelling_of xs p.plan)
+    → p.cost ≡ size depth xs (spelling_of xs p.plan) → PlanFits xs p.plan → p.cost < 2 ^ 20 → IsKnown depth xs (record { bound = p.cost; plan = Some p.plan })
 by_plan depth xs p chosen cost fits small =
     let is : spelling_of xs p.plan ≡ best depth xs = sym (best_found depth xs (spelling_of xs p.plan) chosen) in
     let fewest_is : p.cost ≡ fewest depth xs = cost ∙ ap (size depth xs) is in

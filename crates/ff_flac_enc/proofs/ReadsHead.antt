@@ -1,5 +1,5 @@
 -- A header that was written is read back.
-use Rattle.std.proofs.Common.{◌≡◌, ℕ, zero, suc, ◌+◌, ◌-◌, ◌*◌, ◌^◌, ◌<◌, ◌≤◌, Bool, true, false, cond, eqb, ltb, leb, ◌&&◌, List, [], ◌++◌, length, refl, sym, ap, subst, ◌∙◌, arith, length-append, append_assoc, inl, inr}
+use Rattle.std.proofs.Common.{◌≡◌, ℕ, ◌+◌, ◌-◌, ◌^◌, ◌<◌, ◌≤◌, Bool, true, false, cond, eqb, ltb, leb, [], refl, sym, subst, arith}
 use Rattle.std.proofs.lemmas.Bool.{lt-ltb, eqb-true, leb-true}
 use Rattle.ff_bits.specs.Bits.{bits_of}
 use Rattle.ff_bits.specs.Number.{shortest}

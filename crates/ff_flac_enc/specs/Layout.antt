@@ -1,5 +1,5 @@
 -- How the channels of a frame are written (RFC 9639, sections 4.2 and 9.1.3): a channel code, and a spelling for each subframe.
-use Rattle.std.specs.Prelude.{ℕ, ℤ, pos, negsuc, ◌+◌, ◌-◌, ◌/◌, ◌==◌, nat_lt, if◌then◌else◌, ◌+ℤ◌, ◌-ℤ◌, Bool, List, [], ◌∷◌, ◌++◌, length, map}
+use Rattle.std.specs.Prelude.{ℕ, ℤ, pos, negsuc, ◌+◌, ◌-◌, ◌/◌, ◌==◌, if◌then◌else◌, ◌+ℤ◌, ◌-ℤ◌, Bool, List, [], ◌∷◌, ◌++◌, length, map}
 use Rattle.std.specs.List.{flat_map}
 use Rattle.ff_flac_frame.specs.Codes.{left_side, side_right, mid_side, is_alone}
 use Rattle.ff_flac_dec.specs.Channels.{both}

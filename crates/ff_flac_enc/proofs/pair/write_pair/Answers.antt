@@ -17,7 +17,8 @@ side_samples-requires-clause-right c = small_channel c.args.bits c.args.right.no
 
 pub write_alike-requires-clause-side : goal.write_alike-requires-clause-side
 write_alike-requires-clause-side c =
-    can_side c.args.bits c.args.left.now c.args.right.now c.deref.result.now c.requires.bits c.requires.left c.requires.right c.requires.same (c.deref.ensures.value ∙ c.in_ok-side.ensures)
+    can_side c.args.bits c.args.left.now c.args.right.now c.deref.result.now c.requires.bits c.requires.left c.requires.right c.requires.same
+    (c.deref.ensures.value ∙ c.in_ok-side.ensures)
 
 pub write_alike-requires-clause-alike : goal.write_alike-requires-clause-alike
 write_alike-requires-clause-alike c = same_samples c.args.left.now c.args.right.now c.eq.result c.eq.ensures c.if-eq.true
