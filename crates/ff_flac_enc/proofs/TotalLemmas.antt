@@ -89,6 +89,42 @@ two_more out bytes samples i l m n e h =
     ∙ ap (λ xs. samples_bytes 2 (take i samples) ++ xs) (sym (two_items bytes n) ∙ e ∙ sym (append-nil (sample_bytes 2 z)))
     ∙ sym (ap (samples_bytes 2) (take_more samples i (pos 0) m) ∙ flat_map-append (sample_bytes 2) (take i samples) (z ∷ []))
 
+-- ---- three bytes more
+
+three_items : (xs : List ℕ) → length xs ≡ 3 → xs ≡ get_or xs 0 0 ∷ get_or xs 1 0 ∷ get_or xs 2 0 ∷ []
+three_items [] h = absurd (omega (arith, h))
+three_items (x ∷ []) h = absurd (omega (arith, h))
+three_items (x ∷ y ∷ []) h = absurd (omega (arith, h))
+three_items (x ∷ y ∷ z ∷ []) h = refl
+three_items (x ∷ y ∷ z ∷ w ∷ ws) h = absurd (omega (arith, h))
+
+pub three_more : (out bytes : List ℕ) (samples : List ℤ) (i : ℕ) → 3 * i + 2 < length out → i < length samples → length bytes ≡ 3
+    → bytes ≡ sample_bytes 3 (get_or samples i (pos 0))
+    → take (3 * i) out ≡ samples_bytes 3 (take i samples)
+    → take (3 * (i + 1)) (set (set (set out (3 * i) (get_or bytes 0 0)) (3 * i + 1) (get_or bytes 1 0)) (3 * i + 2) (get_or bytes 2 0))
+    ≡ samples_bytes 3 (take (i + 1) samples)
+three_more out bytes samples i l m n e h =
+    let a : ℕ = get_or bytes 0 0 in
+    let b : ℕ = get_or bytes 1 0 in
+    let c : ℕ = get_or bytes 2 0 in
+    let z : ℤ = get_or samples i (pos 0) in
+    let once : List ℕ = set out (3 * i) a in
+    let twice : List ℕ = set once (3 * i + 1) b in
+    let reach : 3 * (i + 1) ≡ 3 * i + 2 + 1 = omega arith in
+    let second : 3 * i + 2 ≡ 3 * i + 1 + 1 = omega arith in
+    let long : length once ≡ length out = length-set out (3 * i) a in
+    let longer : length twice ≡ length once = length-set once (3 * i + 1) b in
+    ap (λ m. take m (set twice (3 * i + 2) c)) reach
+    ∙ take_more_set twice (3 * i + 2) c (omega (arith, l, long, longer))
+    ∙ ap (λ m. take m twice ++ (c ∷ [])) second
+    ∙ ap (λ xs. xs ++ (c ∷ [])) (take_more_set once (3 * i + 1) b (omega (arith, l, long)))
+    ∙ ap (λ xs. (xs ++ (b ∷ [])) ++ (c ∷ [])) (take_more_set out (3 * i) a (omega (arith, l)))
+    ∙ append_assoc (take (3 * i) out ++ (a ∷ [])) (b ∷ []) (c ∷ [])
+    ∙ append_assoc (take (3 * i) out) (a ∷ []) (b ∷ c ∷ [])
+    ∙ ap (λ xs. xs ++ (a ∷ b ∷ c ∷ [])) h
+    ∙ ap (λ xs. samples_bytes 3 (take i samples) ++ xs) (sym (three_items bytes n) ∙ e ∙ sym (append-nil (sample_bytes 3 z)))
+    ∙ sym (ap (samples_bytes 3) (take_more samples i (pos 0) m) ∙ flat_map-append (sample_bytes 3) (take i samples) (z ∷ []))
+
 -- ---- the totals
 
 abbrev pub none : Sizes

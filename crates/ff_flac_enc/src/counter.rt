@@ -120,14 +120,27 @@ fn bytes_of_2(alloc: Global, samples: &[i32]) -> Result<Vec<u8>, AllocError>
     Ok(out)
 }
 
-fn push_3(out: &mut Vec<u8>, samples: &[i32]) -> Result<(), AllocError>
-    requires { All (FitsBits 24) samples.now }
-    ensures { OnOk result (out.new.items ≡ out.old.items ++ samples_bytes 3 samples.now) }
+// As `write_2`, of three bytes.
+fn write_3(out: &mut [u8], samples: &[i32])
+    requires fit { All (FitsBits 24) samples.now }
+    requires len { length out.old ≡ 3 * length samples.now }
+    ensures { out.new ≡ samples_bytes 3 samples.now }
 {
-    for sample in samples {
-        out.extend_from_slice(&bytes_3(*sample))?;
+    for i in 0..samples.len() {
+        let bytes = bytes_3(samples[i]);
+        out[3 * i] = bytes[0];
+        out[3 * i + 1] = bytes[1];
+        out[3 * i + 2] = bytes[2];
     }
-    Ok(())
+}
+
+fn bytes_of_3(alloc: Global, samples: &[i32]) -> Result<Vec<u8>, AllocError>
+    requires { All (FitsBits 24) samples.now }
+    ensures { IfOk result (λ v. v.items ≡ samples_bytes 3 samples.now) }
+{
+    let mut out = vec![in alloc; 0u8; 3 * samples.len()]?;
+    write_3(&mut out, samples);
+    Ok(out)
 }
 
 fn push_4(out: &mut Vec<u8>, samples: &[i32]) -> Result<(), AllocError>
@@ -143,13 +156,13 @@ fn push_4(out: &mut Vec<u8>, samples: &[i32]) -> Result<(), AllocError>
 fn push_all(out: &mut Vec<u8>, width: usize, samples: &[i32]) -> Result<(), AllocError>
     requires some { 1 ≤ width }
     requires few { width ≤ 4 }
-    requires other { width ≢ 2 }
+    requires not_2 { width ≢ 2 }
+    requires not_3 { width ≢ 3 }
     requires fit { All (FitsBits (8 * width)) samples.now }
     ensures { OnOk result (out.new.items ≡ out.old.items ++ samples_bytes width samples.now) }
 {
     match width {
         1 => push_1(out, samples),
-        3 => push_3(out, samples),
         _ => push_4(out, samples),
     }
 }
@@ -163,6 +176,9 @@ fn bytes_of(alloc: Global, frame: &AFrame) -> Result<Vec<u8>, AllocError>
     let samples = frame.samples.as_slice();
     if width == 2 {
         return bytes_of_2(alloc, samples);
+    }
+    if width == 3 {
+        return bytes_of_3(alloc, samples);
     }
     let mut out = Vec::new(alloc);
     out.reserve(samples.len().saturating_mul(width))?;
