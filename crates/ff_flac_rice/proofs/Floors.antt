@@ -16,7 +16,7 @@ use Rattle.ff_flac_rice.proofs.LeastLemmas.{least_is_lowest}
 use Rattle.ff_flac_rice.proofs.Costs.{least-codings_at, length-parts_of}
 use Rattle.ff_flac_rice.proofs.PartLemmas.{best_k_within, count_within, pair_parts, pair_parts-parts_of, pieces-suc, parts_of-is}
 use Rattle.ff_flac_rice.proofs.PartLemmas.{rest_len, Front, front_start, front_step, front_end}
-use Rattle.ff_flac_rice.proofs.SpanLemmas.{lowest-is, le_of}
+use Rattle.ff_flac_rice.proofs.SpanLemmas.{lowest-is, le_of, best_below_all}
 use Rattle.ff_flac_rice.proofs.Orders.{allowed_parts, allowed_below}
 use Rattle.ff_flac_rice.proofs.Levels.{coding_cost, cost_is, codings_by-cons, codings_by-nil}
 
@@ -71,6 +71,17 @@ all_fewest method [] = omega arith
 all_fewest method (p ∷ parts) =
     omega (arith, sum_by-cons fewest p parts, sum_by-cons (best_cost method) p parts, best_fewest method p, all_fewest method parts)
 
+-- the second method has all parameters
+second_fewest : (part : List ℕ) → best_cost 1 part ≤ 5 + fewest part
+second_fewest part =
+    let found = lowest-is (λ k. part_cost 0 k part) 0 30 in
+    omega (arith, found.is, best_below_all 1 part found.at (omega (arith, found.within)))
+
+seconds_fewest : (parts : List (List ℕ)) → sum_by (best_cost 1) parts ≤ 5 * length parts + sum_by fewest parts
+seconds_fewest [] = omega arith
+seconds_fewest (p ∷ parts) =
+    omega (arith, sum_by-cons fewest p parts, sum_by-cons (best_cost 1) p parts, second_fewest p, seconds_fewest parts)
+
 -- ---- no coding has fewer
 
 both_all : {A : Type 0} (P : A → Type 0) (xs ys : List A) → AllByRecursion P xs → AllByRecursion P ys → AllByRecursion P (xs ++ ys)
@@ -112,6 +123,17 @@ codings_floor order us finest bits e a h =
     both_all P (codings_by (orders (length us + order) order) 0) (codings_by (orders (length us + order) order) 1)
     (subst (λ l. AllByRecursion P (codings_by l 0)) (sym e) (by_floor order us finest bits 0 0 (finest + 1) (omega arith) a h))
     (subst (λ l. AllByRecursion P (codings_by l 1)) (sym e) (by_floor order us finest bits 1 0 (finest + 1) (omega arith) a h))
+
+-- as `codings_floor`, by the bits that the second method has, for each limit that isn't above the floor
+pub seconds_floor : (order : ℕ) (us : List ℕ) (finest cost limit : ℕ)
+    → orders (length us + order) order ≡ range_with_len 0 (finest + 1) → is_allowed (length us + order) order finest ≡ true
+    → cost ≡ sum_by (best_cost 1) (parts_of order finest us) → limit ≤ 10 + (cost - 5 * 2 ^ finest)
+    → AllByRecursion (λ c. limit ≤ coding_cost order us c) (codings (length us + order) order)
+seconds_floor order us finest cost limit e a is h =
+    let bits : ℕ = cost - 5 * 2 ^ finest in
+    weaker_all order us (10 + bits) limit (codings (length us + order) order) h
+    (codings_floor order us finest bits e a
+    (omega (arith, is, seconds_fewest (parts_of order finest us), length-parts_of order finest us)))
 
 -- as `codings_floor`, where the number of values is known otherwise
 codings_floor_of : (order : ℕ) (us : List ℕ) (count finest bits : ℕ) → length us ≡ count

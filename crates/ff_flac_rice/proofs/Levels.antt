@@ -3,6 +3,7 @@ use Rattle.std.specs.List.{range_with_len, sum_by, AllByRecursion}
 use Rattle.std.proofs.lemmas.List.{append-nil}
 use Rattle.std.proofs.lemmas.Bool.{leb-true, leb-false, cases_Bool}
 use Rattle.ff_flac_rice.specs.declared.coding.Choice.{Choice}
+use Rattle.ff_flac_rice.specs.declared.coding.Found.{Found}
 use Rattle.ff_flac_rice.specs.Least.{choose, least}
 use Rattle.ff_flac_rice.specs.Rice.{is_allowed, orders, residual_bits, codings, codings_by, codings_at, best_at, best_cost, parts_of, Coding}
 use Rattle.ff_flac_rice.specs.Spans.{Spans}
@@ -14,6 +15,13 @@ use Rattle.ff_flac_rice.proofs.Orders.{allowed_parts}
 
 abbrev pub coding_cost : ℕ → List ℕ → Coding → ℕ
 coding_cost order us c = length (residual_bits order c us)
+
+-- what is found is the best coding, and costs so much
+abbrev pub IsBestFound : ℕ → List ℕ → Found → Type 0
+IsBestFound order us f = least (coding_cost order us) (codings (length us + order) order) ≡ Some (best_at order f.method f.partition_order us)
+
+abbrev pub IsCostFound : ℕ → List ℕ → Found → Type 0
+IsCostFound order us f = f.cost ≡ coding_cost order us (best_at order f.method f.partition_order us)
 
 -- the choice is the best of the partition orders from partition_order on, of which there are count
 pub record IsBest (order : ℕ) (us : List ℕ) (method partition_order count : ℕ) (choice : Choice) : Type 0 where

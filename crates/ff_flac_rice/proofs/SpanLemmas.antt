@@ -141,7 +141,7 @@ at_all P a (suc n) k h g l = elim (cases_lt a k) [
   | inr ge ↦ let e : a ≡ k = omega (arith, ge, g) in subst P e h.0
 ]
 
-best_below_all : (method : ℕ) (part : List ℕ) (j : ℕ) → j < count_of method → part_cost 0 (best_k method part) part ≤ part_cost 0 j part
+pub best_below_all : (method : ℕ) (part : List ℕ) (j : ℕ) → j < count_of method → part_cost 0 (best_k method part) part ≤ part_cost 0 j part
 unfolding parameters
 best_below_all method part j h =
     let f : ℕ → ℕ = λ k. part_cost (4 + method) k part in

@@ -1,7 +1,7 @@
 //! The best coding of a residual.
 
-ghost use Rattle.std.specs.Prelude.{◌≡◌, ◌+◌, ◌-◌, ◌*◌, ◌/◌, ◌%◌, ◌^◌, ◌<◌, ◌≤◌, ℕ, length, IfOk, Some, true, nat_le, if◌then◌else◌};
-ghost use Rattle.std.specs.List.{range_with_len};
+ghost use Rattle.std.specs.Prelude.{◌≡◌, ◌+◌, ◌-◌, ◌*◌, ◌/◌, ◌%◌, ◌^◌, ◌<◌, ◌≤◌, ℕ, length, IfOk, Ok, Some, None, true, nat_le, if◌then◌else◌};
+ghost use Rattle.std.specs.List.{range_with_len, AllByRecursion};
 ghost use Rattle.ff_flac_rice.specs.Least.{least};
 ghost use Rattle.ff_flac_rice.specs.Rice.{is_allowed, orders, residual_bits, codings, best_at};
 
@@ -66,18 +66,25 @@ fn lower(choice: Choice, partition_order: u32, cost: u64) -> Choice
     }
 }
 
-/// The best coding of the zigzag values of a residual.
-pub fn best_coding(alloc: Global, us: &[u32], order: usize) -> Result<Found, AllocError>
+/// The best coding of the zigzag values of a residual, or none where no coding has fewer bits than so many.
+pub fn coding_below(
+    alloc: Global,
+    us: &[u32],
+    order: usize,
+    limit: u64,
+) -> Result<Option<Found>, AllocError>
     requires len { length us.now ≤ 2 ^ 15 }
     requires some { 0 < length us.now }
     requires order { order ≤ 4 }
-    ensures least { IfOk result (λ f. least (λ c. length (residual_bits order c us.now)) (codings (length us.now + order) order)
-        ≡ Some (best_at order f.method f.partition_order us.now)) }
-    ensures cost { IfOk result (λ f. f.cost ≡ length (residual_bits order (best_at order f.method f.partition_order us.now) us.now)) }
-    ensures method { IfOk result (λ f. f.method ≤ 1) }
-    ensures partition_order { IfOk result (λ f. f.partition_order ≤ 8) }
-    ensures allowed { IfOk result (λ f. is_allowed (length us.now + order) order f.partition_order ≡ true) }
-    ensures small { IfOk result (λ f. f.cost ≤ 2 ^ 58) }
+    ensures none { result ≡ Ok None → AllByRecursion (λ c. limit ≤ length (residual_bits order c us.now)) (codings (length us.now + order) order) }
+    ensures some { result ≡ Ok None → limit ≤ 2 ^ 58 }
+    ensures least { (f : Found) → result ≡ Ok (Some f) → least (λ c. length (residual_bits order c us.now)) (codings (length us.now + order) order)
+        ≡ Some (best_at order f.method f.partition_order us.now) }
+    ensures cost { (f : Found) → result ≡ Ok (Some f) → f.cost ≡ length (residual_bits order (best_at order f.method f.partition_order us.now) us.now) }
+    ensures method { (f : Found) → result ≡ Ok (Some f) → f.method ≤ 1 }
+    ensures partition_order { (f : Found) → result ≡ Ok (Some f) → f.partition_order ≤ 8 }
+    ensures allowed { (f : Found) → result ≡ Ok (Some f) → is_allowed (length us.now + order) order f.partition_order ≡ true }
+    ensures small { (f : Found) → result ≡ Ok (Some f) → f.cost ≤ 2 ^ 58 }
 {
     let finest = finest_order(us.len() + order, order);
     let most = greatest(us);
@@ -86,6 +93,10 @@ pub fn best_coding(alloc: Global, us: &[u32], order: usize) -> Result<Found, All
     let mut least = vec![in alloc; 0u64; 1usize << finest]?;
     let mut partition_order = finest;
     let (with_first, with_second) = level_costs(&columns, &mut least, span);
+    // The method, the partition order and one parameter have at least 10 bits, and in larger partitions the values don't have fewer.
+    if limit <= 10 + (with_second - 5 * (1u64 << finest)) {
+        return Ok(None);
+    }
     let mut first = Choice {
         partition_order,
         cost: with_first,
@@ -103,15 +114,34 @@ pub fn best_coding(alloc: Global, us: &[u32], order: usize) -> Result<Found, All
         second = lower(second, partition_order, with_second);
     }
     if second.cost < first.cost {
-        return Ok(Found {
+        return Ok(Some(Found {
             method: 1,
             partition_order: second.partition_order,
             cost: 6 + second.cost,
-        });
+        }));
     }
-    Ok(Found {
+    Ok(Some(Found {
         method: 0,
         partition_order: first.partition_order,
         cost: 6 + first.cost,
-    })
+    }))
+}
+
+/// The best coding of the zigzag values of a residual.
+pub fn best_coding(alloc: Global, us: &[u32], order: usize) -> Result<Found, AllocError>
+    requires len { length us.now ≤ 2 ^ 15 }
+    requires some { 0 < length us.now }
+    requires order { order ≤ 4 }
+    ensures least { IfOk result (λ f. least (λ c. length (residual_bits order c us.now)) (codings (length us.now + order) order)
+        ≡ Some (best_at order f.method f.partition_order us.now)) }
+    ensures cost { IfOk result (λ f. f.cost ≡ length (residual_bits order (best_at order f.method f.partition_order us.now) us.now)) }
+    ensures method { IfOk result (λ f. f.method ≤ 1) }
+    ensures partition_order { IfOk result (λ f. f.partition_order ≤ 8) }
+    ensures allowed { IfOk result (λ f. is_allowed (length us.now + order) order f.partition_order ≡ true) }
+    ensures small { IfOk result (λ f. f.cost ≤ 2 ^ 58) }
+{
+    match coding_below(alloc, us, order, u64::MAX)? {
+        Some(found) => Ok(found),
+        None => unreachable!(),
+    }
 }

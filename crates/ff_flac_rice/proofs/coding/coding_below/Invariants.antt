@@ -4,7 +4,7 @@ use Rattle.ff_flac_rice.specs.Rice.{is_allowed, parts_of}
 use Rattle.ff_flac_rice.specs.Columns.{columns, items_of}
 use Rattle.ff_flac_rice.specs.Spans.{Spans}
 use Rattle.ff_flac_rice.proofs.Levels.{IsBest}
-use Rattle.ff_flac_rice.proofs.coding.best_coding.Given as goal
+use Rattle.ff_flac_rice.proofs.coding.coding_below.Given as goal
 
 abbrev pub invariant-loop-partition_order : goal.invariant-loop-partition_order
 invariant-loop-partition_order l = record {

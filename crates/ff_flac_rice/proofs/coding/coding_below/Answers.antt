@@ -1,13 +1,15 @@
 use Rattle.std.proofs.Common.{◌≡◌, ◌∙◌, ℕ, suc, ◌+◌, ◌-◌, ◌*◌, ◌%◌, ◌≤◌, ◌^◌, sym, ap, subst, arith, length, take, List, true}
 use Rattle.std.proofs.lemmas.Nat.{one_shl}
+use Rattle.ff_flac_rice.specs.declared.coding.Found.{Found}
 use Rattle.ff_flac_rice.specs.Rice.{is_allowed, parts_of}
 use Rattle.ff_flac_rice.specs.Columns.{columns, items_of}
 use Rattle.ff_flac_rice.proofs.Costs.{length-parts_of}
 use Rattle.ff_flac_rice.proofs.Orders.{allowed_down}
-use Rattle.ff_flac_rice.proofs.Levels.{IsBest, best_first, both_first, both_second, spans_after, best_after, best_end, cost_is}
+use Rattle.ff_flac_rice.proofs.Levels.{IsBest, IsBestFound, IsCostFound, best_first, both_first, both_second, spans_after, best_after, best_end, cost_is}
+use Rattle.ff_flac_rice.proofs.Floors.{seconds_floor}
 use Rattle.ff_flac_rice.proofs.ColumnLemmas.{columns_count, columns_same, columns_small, columns_after, first_level, second_level}
 use Rattle.ff_flac_rice.proofs.ColumnLemmas.{places_are, places_few, room_kept}
-use Rattle.ff_flac_rice.proofs.coding.best_coding.Goals as goal
+use Rattle.ff_flac_rice.proofs.coding.coding_below.Goals as goal
 
 pub level_costs-with_first-requires-clause-count : goal.level_costs-with_first-requires-clause-count
 level_costs-with_first-requires-clause-count c =
@@ -27,6 +29,21 @@ level_costs-with_first-requires-clause-small c =
     let is = ap items_of c.deref.ensures.value ∙ c.in_ok-columns.ensures in
     columns_small c.span_of-span.result.low _ c.args.order c.finest_order-finest.result c.args.us.now _ is
     (omega (arith, c.span_of-span.ensures.span.some_parameter, c.span_of-span.ensures.span.last)) c.requires.len (λ i. (c.type_inv.us i).fits)
+
+pub returns-then-limit-with_second-clause-none : goal.returns-then-limit-with_second-clause-none
+returns-then-limit-with_second-clause-none c = λ h.
+    let order : ℕ = c.args.order in
+    let us : List ℕ = c.args.us.now in
+    let p : ℕ = c.finest_order-finest.result in
+    let fine = c.finest_order-finest.ensures in
+    let span = c.span_of-span.ensures in
+    let level = c.level_costs-with_first in
+    let parts : List (List ℕ) = parts_of order p us in
+    let shifted = one_shl p 64 (omega (arith, fine.within)) in
+    let room : length c.deref_mut.result.now ≡ length parts = omega (arith, c.deref_mut.ensures.len, c.in_ok-least.ensures.len, shifted, length-parts_of order p us) in
+    let is = ap items_of c.deref.ensures.value ∙ c.in_ok-columns.ensures in
+    let b = second_level c.span_of-span.result.low c.span_of-span.result.high _ level.result.1 _ parts span.span is room span.spans level.ensures.second in
+    seconds_floor order us p level.result.1 c.args.limit fine.all fine.allowed b (omega (arith, c.if-limit-with_second.true, shifted))
 
 pub loop-partition_order-init : goal.loop-partition_order-init
 loop-partition_order-init c =
@@ -161,25 +178,37 @@ loop-partition_order-preserved c =
     }
 
 pub returns-then-second-first-clause-least : goal.returns-then-second-first-clause-least
-returns-then-second-first-clause-least c =
-    let z : c.loop-partition_order.partition_order ≡ 0 = omega arith in
+returns-then-second-first-clause-least c = λ f h.
     let loop = c.loop-partition_order in
-    both_second c.args.order c.args.us.now c.finest_order-finest.result loop.first loop.second c.finest_order-finest.ensures.all
-    (best_end _ _ _ _ _ _ z loop.invariant.first) (best_end _ _ _ _ _ _ z loop.invariant.second) c.if-second-first.true
+    let z : loop.partition_order ≡ 0 = omega arith in
+    let found : Found = record { method = 1; partition_order = loop.second.partition_order; cost = 6 + loop.second.cost } in
+    let is : found ≡ f = cc h in
+    subst (IsBestFound c.args.order c.args.us.now) is
+    (both_second c.args.order c.args.us.now c.finest_order-finest.result loop.first loop.second c.finest_order-finest.ensures.all
+    (best_end _ _ _ _ _ _ z loop.invariant.first) (best_end _ _ _ _ _ _ z loop.invariant.second) c.if-second-first.true)
 
 pub returns-then-second-first-clause-cost : goal.returns-then-second-first-clause-cost
-returns-then-second-first-clause-cost c =
+returns-then-second-first-clause-cost c = λ f h.
     let loop = c.loop-partition_order in
-    sym (cost_is c.args.order c.args.us.now 1 loop.second.partition_order loop.second.cost loop.invariant.second.cost)
+    let found : Found = record { method = 1; partition_order = loop.second.partition_order; cost = 6 + loop.second.cost } in
+    let is : found ≡ f = cc h in
+    subst (IsCostFound c.args.order c.args.us.now) is
+    (sym (cost_is c.args.order c.args.us.now 1 loop.second.partition_order loop.second.cost loop.invariant.second.cost))
 
 pub returns-clause-least : goal.returns-clause-least
-returns-clause-least c =
-    let z : c.loop-partition_order.partition_order ≡ 0 = omega arith in
+returns-clause-least c = λ f h.
     let loop = c.loop-partition_order in
-    both_first c.args.order c.args.us.now c.finest_order-finest.result loop.first loop.second c.finest_order-finest.ensures.all
-    (best_end _ _ _ _ _ _ z loop.invariant.first) (best_end _ _ _ _ _ _ z loop.invariant.second) c.if-second-first.false
+    let z : loop.partition_order ≡ 0 = omega arith in
+    let found : Found = record { method = 0; partition_order = loop.first.partition_order; cost = 6 + loop.first.cost } in
+    let is : found ≡ f = cc h in
+    subst (IsBestFound c.args.order c.args.us.now) is
+    (both_first c.args.order c.args.us.now c.finest_order-finest.result loop.first loop.second c.finest_order-finest.ensures.all
+    (best_end _ _ _ _ _ _ z loop.invariant.first) (best_end _ _ _ _ _ _ z loop.invariant.second) c.if-second-first.false)
 
 pub returns-clause-cost : goal.returns-clause-cost
-returns-clause-cost c =
+returns-clause-cost c = λ f h.
     let loop = c.loop-partition_order in
-    sym (cost_is c.args.order c.args.us.now 0 loop.first.partition_order loop.first.cost loop.invariant.first.cost)
+    let found : Found = record { method = 0; partition_order = loop.first.partition_order; cost = 6 + loop.first.cost } in
+    let is : found ≡ f = cc h in
+    subst (IsCostFound c.args.order c.args.us.now) is
+    (sym (cost_is c.args.order c.args.us.now 0 loop.first.partition_order loop.first.cost loop.invariant.first.cost))
