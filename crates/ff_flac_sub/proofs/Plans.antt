@@ -292,6 +292,16 @@ known_next depth order xs best new result h d c w r =
 pub lower_floor_of : (depth order low floor : ℕ) (xs : List ℤ) → low ≤ floor → IsFloor depth xs order floor → IsFloor depth xs order low
 lower_floor_of depth order low floor xs l h = lower_floor depth low floor xs (fixed_of (length xs) order) l h
 
+-- where no coding of the residual has fewer bits than the warm-up leaves
+pub floor_below : (depth order limit left : ℕ) (xs : List ℤ) (us : List ℕ) → order ≤ length xs → us ≡ map zigzagged (rest_of order xs) → left ≡ limit - (8 + depth * order)
+    → AllByRecursion (λ c. left ≤ length (residual_bits order c us)) (codings (length us + order) order) → IsFloor depth xs order limit
+floor_below depth order limit left xs us h e l all =
+    let rest : List ℤ = rest_of order xs in
+    let low : AllByRecursion (λ c. left ≤ coding_cost order (map zigzagged rest) c) (codings (length rest + order) order) =
+    subst (λ n. AllByRecursion (λ c. left ≤ coding_cost order (map zigzagged rest) c) (codings (n + order) order)) (length-map rest zigzagged)
+    (subst (λ vs. AllByRecursion (λ c. left ≤ coding_cost order vs c) (codings (length vs + order) order)) e all) in
+    lower_floor_of depth order limit (8 + depth * order + left) xs (omega (arith, l)) (floor_is depth order left xs rest h refl low)
+
 pub floor_stays : (depth order floor : ℕ) (xs : List ℤ) (p : Planned) → p.cost ≤ floor → IsFloor depth xs order floor
     → (cs : List Spelling) → IsBestPlan depth xs cs (Some p) → IsBestPlan depth xs (cs ++ fixed_of (length xs) order) (Some p)
 floor_stays depth order floor xs p l all cs h = plan_stays depth xs cs (fixed_of (length xs) order) (Some p) p refl (lower_floor depth p.cost floor xs (fixed_of (length xs) order) l all) h

@@ -1,6 +1,6 @@
 //! The least spelling of a subframe.
 
-ghost use Rattle.std.specs.Prelude.{◌≡◌, ◌+◌, ◌-◌, ◌*◌, ◌^◌, ◌<◌, ◌≤◌, ◌++◌, List, length, map, min, slice_index, IfOk, OnOk, All, Some, ℕ};
+ghost use Rattle.std.specs.Prelude.{◌≡◌, ◌+◌, ◌-◌, ◌*◌, ◌^◌, ◌<◌, ◌≤◌, ◌++◌, List, length, map, min, slice_index, IfOk, OnOk, All, None, Ok, Some, ℕ};
 ghost use Rattle.std.specs.List.{AllByRecursion};
 ghost use Rattle.ff_flac_rice.specs.Rice.{zigzagged};
 ghost use Rattle.ff_flac_sub.specs.Leads.{so_far, IsFloor, Leads};
@@ -12,7 +12,7 @@ ghost use Rattle.ff_flac_sub.specs.Outlook.{IsOutlook};
 
 use crate::samples::{are_equal, greatest_zigzag, put_sample, put_samples, take_steps, zigzags_by};
 use ff_bits::BitWriter;
-use ff_flac_rice::{best_coding, least_bits, write_residual};
+use ff_flac_rice::{best_coding, coding_below, least_bits, write_residual};
 use std::alloc::{AllocError, Global};
 
 /// A way to write a subframe: a fixed one by its order, method and partition order.
@@ -71,6 +71,7 @@ fn fixed_plan(
     ensures least { IfOk result (λ p. least (size depth samples.now) (fixed_of (length samples.now) order) ≡ Some (spelling_of samples.now p.plan)) }
     ensures cost { IfOk result (λ p. p.cost ≡ size depth samples.now (spelling_of samples.now p.plan)) }
     ensures fits { IfOk result (λ p. PlanFits samples.now p.plan) }
+    ensures small { IfOk result (λ p. p.cost < 2 ^ 60) }
 {
     let found = best_coding(alloc, us, order)?;
     Ok(Planned {
@@ -167,9 +168,39 @@ fn plan_by_order(
     ensures least { IfOk result (λ p. least (size depth samples.now) (fixed_of (length samples.now) order) ≡ Some (spelling_of samples.now p.plan)) }
     ensures cost { IfOk result (λ p. p.cost ≡ size depth samples.now (spelling_of samples.now p.plan)) }
     ensures fits { IfOk result (λ p. PlanFits samples.now p.plan) }
+    ensures small { IfOk result (λ p. p.cost < 2 ^ 60) }
 {
     let us = zigzags_by(alloc, samples, order)?;
     fixed_plan(alloc, samples, &us, order, depth)
+}
+
+/// The best plan of one order, or none where no spelling of it has fewer bits than so many.
+fn plan_below(
+    alloc: Global,
+    samples: &[i32],
+    order: usize,
+    depth: u32,
+    limit: u64,
+) -> Result<Option<Planned>, AllocError>
+    requires len { length samples.now ≤ 4096 }
+    requires order { order ≤ 4 }
+    requires longer { order < length samples.now }
+    requires depth { depth ≤ 25 }
+    requires fits { All (FitsBits 25) samples.now }
+    ensures none { result ≡ Ok None → IsFloor depth samples.now order limit }
+    ensures least { (p : Planned) → result ≡ Ok (Some p) → least (size depth samples.now) (fixed_of (length samples.now) order) ≡ Some (spelling_of samples.now p.plan) }
+    ensures cost { (p : Planned) → result ≡ Ok (Some p) → p.cost ≡ size depth samples.now (spelling_of samples.now p.plan) }
+    ensures fits { (p : Planned) → result ≡ Ok (Some p) → PlanFits samples.now p.plan }
+{
+    let us = zigzags_by(alloc, samples, order)?;
+    let before = 8 + depth as u64 * order as u64;
+    match coding_below(alloc, &us, order, limit.saturating_sub(before))? {
+        None => Ok(None),
+        Some(found) => Ok(Some(Planned {
+            plan: Plan::Fixed(order, found.method, found.partition_order),
+            cost: before + found.cost,
+        })),
+    }
 }
 
 /// The best plan of the constant and of the orders below one, of whose spellings one has so many bits: orders all of whose spellings
@@ -188,6 +219,7 @@ fn best_before(
     requires there { order_known < length samples.now }
     requires depth { depth ≤ 25 }
     requires fits { All (FitsBits 25) samples.now }
+    requires small { limit < 2 ^ 60 }
     requires all { order_known ≤ length floors.now }
     requires floors { (o : ℕ) → o < order_known → IsFloor depth samples.now o (slice_index floors.now o) }
     ensures { IfOk result (Leads depth samples.now limit (so_far samples.now order_known)) }
@@ -195,8 +227,9 @@ fn best_before(
     let mut best = constant_plan(samples, depth);
     for order in 0..order_known {
         if floors[order] <= limit {
-            let new = plan_by_order(alloc, samples, order, depth)?;
-            best = Some(lower(best, new));
+            if let Some(new) = plan_below(alloc, samples, order, depth, limit + 1)? {
+                best = Some(lower(best, new));
+            }
         }
     }
     Ok(best)
@@ -223,8 +256,10 @@ fn with_order(
     if best.cost <= floor {
         return Ok(best);
     }
-    let new = plan_by_order(alloc, samples, order, depth)?;
-    Ok(lower(Some(best), new))
+    match plan_below(alloc, samples, order, depth, best.cost)? {
+        None => Ok(best),
+        Some(new) => Ok(lower(Some(best), new)),
+    }
 }
 
 /// The plan of the least spelling, by what is known of the samples.

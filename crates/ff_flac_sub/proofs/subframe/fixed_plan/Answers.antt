@@ -1,4 +1,5 @@
-use Rattle.std.proofs.Common.{◌≡◌, ◌+◌, length, arith, subst, true}
+use Rattle.std.proofs.Common.{◌≡◌, ◌+◌, ◌*◌, ◌≤◌, length, arith, subst, true}
+use Rattle.std.proofs.lemmas.Nat.{mul-le}
 use Rattle.ff_flac_rice.specs.Rice.{is_allowed}
 use Rattle.ff_flac_sub.proofs.Plans.{least-fixed_of, cost-fixed, count_us}
 use Rattle.ff_flac_sub.proofs.subframe.fixed_plan.Goals as goal
@@ -28,3 +29,8 @@ returns-clause-fits c =
       c.in_ok-found.ensures.partition_order,
       subst (λ m. is_allowed m c.args.order c.in_ok-found.found.partition_order ≡ true) n c.in_ok-found.ensures.allowed,
     )
+
+pub returns-clause-small : goal.returns-clause-small
+returns-clause-small c =
+    let warm : c.args.depth * c.args.order ≤ 25 * 4 = mul-le c.args.depth c.args.order 25 4 c.requires.depth c.requires.order in
+    omega (arith, c.in_ok-found.ensures.small, warm)
