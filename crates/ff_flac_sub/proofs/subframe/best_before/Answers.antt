@@ -18,10 +18,12 @@ loop-order-preserved c =
           let was = w.in_ok-new.was ∙ ap (λ o. Ok o) w.in-Some.is in
           subst (Leads depth xs limit (so_far xs (order + 1))) (sym w.best-is)
           (leads_more depth limit order xs c.loop-order.best w.in-Some.new w.lower.result c.loop-order.invariant
-          (w.plan_below.ensures.least w.in-Some.new was) (w.plan_below.ensures.cost w.in-Some.new was) (w.plan_below.ensures.fits w.in-Some.new was) w.lower.ensures.chosen)
+          (w.plan_below.ensures.least w.in-Some.new was) (w.plan_below.ensures.cost w.in-Some.new was) (w.plan_below.ensures.fits w.in-Some.new was)
+          w.lower.ensures.chosen)
       | then-floors-order+in_ok-new+in_default w ↦
           subst (Leads depth xs limit (so_far xs (order + 1))) (sym w.best-is)
-          (leads_on depth limit order (limit + 1) xs c.loop-order.best (omega arith) (w.plan_below.ensures.none (w.in_ok-new.was ∙ ap (λ o. Ok o) w.in_default.is)) c.loop-order.invariant)
+          (leads_on depth limit order (limit + 1) xs c.loop-order.best (omega arith)
+          (w.plan_below.ensures.none (w.in_ok-new.was ∙ ap (λ o. Ok o) w.in_default.is)) c.loop-order.invariant)
       | else-floors-order w ↦
           subst (Leads depth xs limit (so_far xs (order + 1))) (sym w.best-is)
           (leads_on depth limit order (get_or c.args.floors.now order 0) xs c.loop-order.best w.if-floors-order.false (c.requires.floors order c.loop-order-test.true) c.loop-order.invariant)
