@@ -17,6 +17,7 @@ pub mod CodeLemmas
 pub mod CrcLemmas
 pub mod Tables
 pub mod Slices
+pub mod Carried
 pub mod LawLemmas
 pub mod NumberBelow
 pub mod Windows

@@ -14,7 +14,7 @@ use Rattle.ff_bits.proofs.Words.{value_of-append, value_of-bits_of}
 use Rattle.ff_bits.proofs.CrcLemmas.{cancels, xor_double, divides, brought_below, reduced_below, remainder_from-append}
 use Rattle.ff_bits.proofs.Tables.{reduced_low, brought_early, by_table}
 
-xor_zero_l : (a : ℕ) → bit_xor 0 a ≡ a
+pub xor_zero_l : (a : ℕ) → bit_xor 0 a ≡ a
 xor_zero_l a = xor_comm 0 a ∙ xor_zero_r a
 
 -- what bytes leave, each by itself
@@ -23,7 +23,7 @@ mixed divisor k [] = 0
 mixed divisor k (b ∷ bytes) = bit_xor (mixed divisor k bytes) (left_of divisor k (length bytes) b)
 
 module _ (divisor k : ℕ) (at_least : 2 ^ k ≤ divisor) (below : divisor < 2 ^ (k + 1)) where
-  reduced-xor : (p q : ℕ) → p < 2 ^ (k + 1) → q < 2 ^ (k + 1) → reduced divisor k (bit_xor p q) ≡ bit_xor (reduced divisor k p) (reduced divisor k q)
+  pub reduced-xor : (p q : ℕ) → p < 2 ^ (k + 1) → q < 2 ^ (k + 1) → reduced divisor k (bit_xor p q) ≡ bit_xor (reduced divisor k p) (reduced divisor k q)
   reduced-xor p q hp hq = elim (cases_lt q (2 ^ k)) [
     | inl low ↦ reduced_low divisor k p q (ltb p (2 ^ k)) refl hp low ∙ ap (λ (b : Bool). bit_xor (reduced divisor k p) (cond b q (bit_xor q divisor))) (sym (lt-ltb q (2 ^ k) low))
     | inr high ↦ elim (cases_lt p (2 ^ k)) [

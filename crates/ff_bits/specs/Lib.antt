@@ -9,3 +9,4 @@ pub mod Pieces
 pub mod Reading
 pub mod NumberGrammar
 pub mod Window
+pub mod Carried

@@ -1,11 +1,14 @@
-//! Sums that find damage: remainders of a division of polynomials, eight bytes at a time.
+//! Sums that find damage: remainders of a division of polynomials, eight bytes at a time. Of many bytes the longer sum adds
+//! words to later words first, so that few are left to divide.
 
-ghost use Rattle.std.specs.Prelude.{◌≡◌, ◌≤◌, ◌<◌, ◌^◌, ◌+◌, ◌*◌, length, take};
+ghost use Rattle.std.specs.Prelude.{◌≡◌, ◌≤◌, ◌<◌, ◌^◌, ◌+◌, ◌*◌, length, take, drop};
 ghost use Rattle.ff_bits.specs.Bits.{bits, bits_of};
 ghost use Rattle.ff_bits.specs.Crc.{IsRemainder, crc8_of, crc16_of, remainder_from, left_of};
+ghost use Rattle.ff_bits.specs.Carried.{word_bits, carried};
 
 use crate::table8::TABLE8;
 use crate::table16::TABLE16;
+use crate::word::whole_word;
 
 /// The sum of a frame header (RFC 9639, section 9.1.8): the remainder of the bytes by x^8 + x^2 + x + 1, which begins
 /// at 0, the most significant bit of a byte first.
@@ -31,14 +34,79 @@ pub fn crc16(bytes: &[u8]) -> u16
     ensures remainder { IsRemainder 0x18005 16 (bits bytes.now) result }
     ensures exact { result ≡ crc16_of (bits bytes.now) }
 {
+    if bytes.len() < 1024 {
+        bytes_to_16(0, bytes)
+    } else {
+        many_to_16(bytes)
+    }
+}
+
+/// The remainder with the next bytes.
+fn bytes_to_16(sum: u16, bytes: &[u8]) -> u16
+    ensures { result ≡ remainder_from 0x18005 16 sum (bits bytes.now) }
+{
     let mut left = bytes;
-    let mut sum = 0u16;
+    let mut sum = sum;
     while left.len() >= 8 {
         sum = eight_to_16(sum, left);
         left = &left[8..];
     }
     for byte in left {
         sum = byte_to_16(sum, *byte);
+    }
+    sum
+}
+
+/// The sum of bytes that are many: a step of the division waits for the one before it, and adding words doesn't.
+fn many_to_16(bytes: &[u8]) -> u16
+    ensures { result ≡ crc16_of (bits bytes.now) }
+{
+    let mut words = [0u64; 94];
+    let mut left = bytes;
+    while left.len() >= 512 {
+        bring_in(&mut words, left);
+        to_front(&mut words);
+        left = &left[512..];
+    }
+    bytes_to_16(carried_to_16(&words), left)
+}
+
+/// Writes the next 64 words behind the thirty that are carried, so that the last thirty stand for all of them.
+fn bring_in(words: &mut [u64; 94], bytes: &[u8])
+    requires { 512 ≤ length bytes.now }
+    ensures { carried (drop 64 words.new) ≡ remainder_from 0x18005 16 (carried words.old) (bits (take 512 bytes.now)) }
+{
+    for i in 0..64usize {
+        words[i + 30] = whole_word(&bytes[8 * i..]) ^ words[i] ^ words[i + 1] ^ words[i + 16];
+    }
+}
+
+/// Moves the last thirty words to the front.
+fn to_front(words: &mut [u64; 94])
+    ensures { take 30 words.new ≡ drop 64 words.old }
+{
+    for i in 0..30usize {
+        words[i] = words[i + 64];
+    }
+}
+
+/// The remainder of what is carried.
+fn carried_to_16(words: &[u64; 94]) -> u16
+    ensures { result ≡ carried words.now }
+{
+    let first = words_to_16(0, &words[..1]);
+    let sixteen = words_to_16(first, &words[1..16]);
+    let thirty = words_to_16(sixteen, &words[16..30]);
+    thirty ^ sixteen ^ first
+}
+
+/// The remainder with the next words.
+fn words_to_16(sum: u16, words: &[u64]) -> u16
+    ensures { result ≡ remainder_from 0x18005 16 sum (word_bits words.now) }
+{
+    let mut sum = sum;
+    for word in words {
+        sum = eight_to_16(sum, &word.to_be_bytes());
     }
     sum
 }

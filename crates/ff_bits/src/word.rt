@@ -15,7 +15,7 @@ pub fn word_of(bytes: &[u8]) -> u64
 }
 
 /// The first eight bytes as a number.
-fn whole_word(bytes: &[u8]) -> u64
+pub(crate) fn whole_word(bytes: &[u8]) -> u64
     requires { 8 ≤ length bytes.now }
     ensures { result ≡ value_of (bits (take 8 bytes.now)) }
 {
