@@ -1,6 +1,6 @@
 //! Reading codes, several of them from one word.
 
-ghost use Rattle.std.specs.Prelude.{◌≡◌, ℕ, ◌≤◌, ◌<◌, ◌+◌, ◌*◌, ◌^◌, length, drop, IfSome, IfNone};
+ghost use Rattle.std.specs.Prelude.{◌≡◌, ℕ, ◌≤◌, ◌<◌, ◌+◌, ◌-◌, ◌*◌, ◌^◌, List, Bool, length, drop, IfSome, IfNone};
 ghost use lib.Count.{count_leading_zeros};
 ghost use Rattle.ff_bits.specs.Bits.{bits};
 ghost use Rattle.ff_bits.specs.Reads.{IsCounted, IsCoded};
@@ -95,12 +95,62 @@ impl<'a> BitWindow<'a> {
                 }
             }
         };
-        let low = (self.word >> (high - n)) & ((1u64 << n) - 1);
-        let len = 64 + n - high;
-        self.word <<= len;
-        self.held -= len;
-        Some((63 - high, low))
+        let (read, word, held) = taken(self.word, self.held, n, high);
+        self.word = word;
+        self.held = held;
+        Some(read)
     }
+
+    /// The next four codes where the word holds them whole: of each how many zeros stand before its one, and the value of the
+    /// `n` bits behind that. None leaves the window.
+    #[inline(always)]
+    pub fn four(&mut self, n: u32) -> Option<((u32, u64), (u32, u64), (u32, u64), (u32, u64))>
+        requires { n ≤ 57 }
+        ensures read { IfSome result (λ r. (one two three : List Bool) × IsCoded n self.old r.0.0 r.0.1 one × IsCoded n one r.1.0 r.1.1 two
+            × IsCoded n two r.2.0 r.2.1 three × IsCoded n three r.3.0 r.3.1 self.new) }
+        ensures below { IfSome result (λ r. (r.0.0 < 64) × (r.0.1 < 2 ^ n) × (r.1.0 < 64) × (r.1.1 < 2 ^ n)
+            × (r.2.0 < 64) × (r.2.1 < 2 ^ n) × (r.3.0 < 64) × (r.3.1 < 2 ^ n)) }
+        ensures unchanged { IfNone result (self.new ≡ self.old) }
+    {
+        let (a, word, held) = coded(self.word, self.held, n)?;
+        let (b, word, held) = coded(word, held, n)?;
+        let (c, word, held) = coded(word, held, n)?;
+        let (d, word, held) = coded(word, held, n)?;
+        self.word = word;
+        self.held = held;
+        Some((a, b, c, d))
+    }
+}
+
+/// The first code that a word holds whole, the word behind it, and how many bits that holds.
+#[inline(always)]
+fn coded(word: u64, held: u32, n: u32) -> Option<((u32, u64), u64, u32)>
+    requires held { held < 64 }
+    requires more { n ≤ 57 }
+    ensures read { IfSome result (λ r. (bytes : List ℕ) → (at : ℕ) → IsWindow bytes at word held
+        → IsWindow bytes at r.1 r.2 × IsCoded n (drop (8 * at - held) (bits bytes)) r.0.0 r.0.1 (drop (8 * at - r.2) (bits bytes))) }
+    ensures below { IfSome result (λ r. (r.0.0 < 64) × (r.0.1 < 2 ^ n)) }
+    ensures less { IfSome result (λ r. r.2 ≤ held) }
+{
+    let high = high_in(word, held, n)?;
+    Some(taken(word, held, n, high))
+}
+
+/// The code whose one stands at place `high` of a word that holds all of it, the word behind it, and how many bits that holds.
+#[inline(always)]
+fn taken(word: u64, held: u32, n: u32, high: u32) -> ((u32, u64), u64, u32)
+    requires held { held < 64 }
+    requires more { n ≤ 57 }
+    requires high { high + count_leading_zeros 64 word ≡ 63 }
+    requires enough { 64 + n ≤ high + held }
+    ensures read { (bytes : List ℕ) → (at : ℕ) → IsWindow bytes at word held
+        → IsWindow bytes at result.1 result.2 × IsCoded n (drop (8 * at - held) (bits bytes)) result.0.0 result.0.1 (drop (8 * at - result.2) (bits bytes)) }
+    ensures below { (result.0.0 < 64) × (result.0.1 < 2 ^ n) }
+    ensures less { result.2 ≤ held }
+{
+    let low = (word >> (high - n)) & ((1u64 << n) - 1);
+    let len = 64 + n - high;
+    ((63 - high, low), word << len, held - len)
 }
 
 /// The place of a word's highest one, the lowest place being 0, where the bits from there on and `n` more are held.
