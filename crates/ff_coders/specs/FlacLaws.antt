@@ -23,7 +23,8 @@ use Rattle.ff_flac_frame.specs.Parts.{frame_of}
 use Rattle.ff_flac_frame.proofs.FrameSound.{IsSound-frame}
 use Rattle.ff_flac_dec.specs.Channels.{AllCoded, AllChannels, IsWithinDepths, channels_of, decoded}
 use Rattle.ff_flac_dec.specs.Streams.{stream_of}
-use Rattle.ff_flac_dec.specs.Values.{coded_samples, AllInDepth}
+use Rattle.ff_flac_frame.specs.Prediction.{AllInDepth}
+use Rattle.ff_flac_dec.specs.Values.{coded_samples}
 use Rattle.ff_flac_dec.proofs.FrameLemmas.{is_audio}
 use Rattle.ff_coders.specs.Made.{IsMadeOf, IsDecoded}
 use Rattle.ff_coders.specs.Decoding.{is_in_depth, all_in_depth, all_coded, all_channels, within_depths, IsFlacPacket, lasts, sound_if, frame_read, flac_frame}

@@ -19,8 +19,9 @@ use Rattle.ff_flac_frame.specs.declared.subframe.SubKind.TheVariants.{Constant, 
 use Rattle.ff_flac_frame.specs.Frame.{Part}
 use Rattle.ff_values.specs.Audio.{FitsBits}
 use Rattle.ff_flac_frame.specs.Facts.{HasShape, IsPart}
-use Rattle.ff_flac_frame.proofs.FrameSound.{FitsBits-wider}
-use Rattle.ff_flac_dec.specs.Values.{fixed, linear, restored, samples_as, coded_samples, AllInDepth}
+use Rattle.ff_flac_frame.specs.Prediction.{fixed, linear, restored, AllInDepth}
+use Rattle.ff_flac_frame.specs.Restored.{IsRestored}
+use Rattle.ff_flac_dec.specs.Values.{samples_as, coded_samples, channel_samples}
 
 pub all_from : (depth : ℕ) (xs : List ℤ) → AllByRecursion (FitsBits depth) xs → AllInDepth depth xs
 all_from depth [] h k lt = absurd (omega arith)
@@ -83,9 +84,6 @@ raised_in depth w x lt h =
     let p : 2 ^ (depth - 1) ≡ 2 ^ (depth - w - 1) * 2 ^ w = ap (λ (n : ℕ). 2 ^ n) k ∙ pow-add 2 (depth - w - 1) w in
     in_from depth (x *ℤ pos (2 ^ w)) (subst (λ (n : ℕ). Within n (x *ℤ pos (2 ^ w))) (sym p) t)
 
-pub all_wider : (depth wide : ℕ) (xs : List ℤ) → depth ≤ wide → AllInDepth depth xs → AllInDepth wide xs
-all_wider depth wide xs le h k lt = FitsBits-wider depth wide (slice_index_or xs k (pos 0)) le (h k lt)
-
 any_default : (xs : List ℤ) (k : ℕ) (d e : ℤ) → k < length xs → get_or xs k d ≡ get_or xs k e
 any_default [] k d e lt = absurd (omega arith)
 any_default (x ∷ xs) zero d e lt = refl
@@ -144,3 +142,20 @@ raised_channel block depth p h a = all_raised depth p.wasted (coded_samples bloc
 
 pub raised_length : (block depth : ℕ) (p : Part) → IsPart block depth p → length (map (λ x. x *ℤ pos (2 ^ p.wasted)) (coded_samples block p)) ≡ block
 raised_length block depth p h = length-map (coded_samples block p) (λ x. x *ℤ pos (2 ^ p.wasted)) ∙ length-coded block depth p h
+
+-- ---- restored as the subframe was read
+
+restored_as : (block : ℕ) (p : Part) (kind : SubKind) (xs : List ℤ) → IsRestored kind p.order p.coefs p.shift p.warm p.rest xs → xs ≡ samples_as block p kind
+restored_as block p Constant xs h = absurd h
+restored_as block p Verbatim xs h = absurd h
+restored_as block p Fixed xs h = h
+restored_as block p Lpc xs h = h
+
+-- where no bits were wasted these are the samples
+pub kept_channel : (block : ℕ) (p : Part) (xs : List ℤ) → p.wasted ≡ 0 → IsRestored p.kind p.order p.coefs p.shift p.warm p.rest xs → xs ≡ channel_samples block p
+unfolding coded_samples channel_samples
+kept_channel block p xs none h = restored_as block p p.kind xs h ∙ map_once p.wasted (coded_samples block p) none
+
+pub length-channel : (block depth : ℕ) (p : Part) → IsPart block depth p → length (channel_samples block p) ≡ block
+unfolding channel_samples
+length-channel block depth p h = raised_length block depth p h

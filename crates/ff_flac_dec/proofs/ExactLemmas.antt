@@ -1,7 +1,7 @@
 -- What bytes begin with is exact.
 use Rattle.std.proofs.Common.{◌≡◌, ℕ, List, ◌++◌, sym, ap, ◌∙◌}
 use Rattle.ff_flac_frame.specs.declared.stream.FlacStream.{FlacStream}
-use Rattle.ff_flac_frame.specs.Frame.{Frame, IsStream, Begins, IsNever}
+use Rattle.ff_flac_frame.specs.Frame.{IsStream, IsNever}
 use Rattle.ff_flac_frame.proofs.Whole.{is_not_yet}
 use Rattle.ff_flac_dec.specs.declared.front.Front.TheVariants.{Other, Whole}
 use Rattle.ff_flac_dec.specs.Packets.{unit}

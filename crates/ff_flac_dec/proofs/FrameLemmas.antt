@@ -14,7 +14,8 @@ use Rattle.ff_flac_frame.specs.Frame.{IsStream, Part, Frame}
 use Rattle.ff_flac_frame.specs.Facts.{IsPart, AreParts, IsFrame}
 use Rattle.ff_flac_frame.specs.declared.frame.FlacFrame.{FlacFrame}
 use Rattle.ff_flac_frame.specs.Parts.{part_of, frame_of}
-use Rattle.ff_flac_dec.specs.Values.{channel_samples, AllInDepth}
+use Rattle.ff_flac_frame.specs.Prediction.{AllInDepth}
+use Rattle.ff_flac_dec.specs.Values.{channel_samples}
 use Rattle.ff_flac_dec.specs.Channels.{IsCoded, AllCoded, AllChannels, IsWithinDepths, first_depth, second_depth, left_right, pair, channels_of, sample_frame, interleaved_from, interleaved}
 
 -- ---- channels that stand by themselves

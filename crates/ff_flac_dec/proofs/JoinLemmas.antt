@@ -7,12 +7,12 @@ use Rattle.std.specs.Int.{w32}
 use Rattle.std.specs.Int.RustNames.{FitsSigned}
 use Rattle.std.proofs.lemmas.Int.{ints, to_z-of_z, fits_signed_from_abs}
 use Rattle.ff_values.specs.Audio.{FitsBits}
-use Rattle.ff_flac_dec.proofs.LinearLemmas.{abs_in_depth, sum_bound, shr_bound}
+use Rattle.ff_flac_frame.proofs.LinearLemmas.{abs_in_depth, sum_bound, shr_bound}
 use Rattle.std.specs.Prelude.{◌==◌, if◌then◌else◌}
 use Rattle.std.specs.List.{AllByRecursion}
 use Rattle.ff_flac_dec.proofs.ChannelLemmas.{all_from}
 use Rattle.ff_flac_dec.proofs.FrameLemmas.{fits_all}
-use Rattle.ff_flac_dec.specs.Values.{AllInDepth}
+use Rattle.ff_flac_frame.specs.Prediction.{AllInDepth}
 use Rattle.ff_flac_dec.specs.Channels.{less, more, mid_left, mid_right, both, left_right, sample_frame, interleaved_from, interleaved, AllChannels}
 
 pub halved : (k : ℤ) → shr_z (k +ℤ k) 2 ≡ k

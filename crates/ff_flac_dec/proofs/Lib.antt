@@ -1,5 +1,3 @@
-pub mod ValueLemmas
-pub mod LinearLemmas
 pub mod ChannelLemmas
 pub mod JoinLemmas
 pub mod SoundLemmas

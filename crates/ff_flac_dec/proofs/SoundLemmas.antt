@@ -5,7 +5,7 @@ use Rattle.std.proofs.lemmas.List.{drop_more}
 use Rattle.ff_flac_frame.specs.declared.subframe.Subframe.{Subframe}
 use Rattle.ff_flac_frame.specs.Frame.{Part}
 use Rattle.ff_flac_frame.specs.Parts.{part_of}
-use Rattle.ff_flac_dec.specs.Values.{AllInDepth}
+use Rattle.ff_flac_frame.specs.Prediction.{AllInDepth}
 use Rattle.ff_flac_dec.specs.Channels.{sample_frame, interleaved_from, AllChannels}
 
 pub next_part : (ss : List Subframe) (i : ℕ) (s : Subframe) → i < length ss → s ≡ get_or ss i s → map part_of (drop i ss) ≡ part_of s ∷ map part_of (drop (i + 1) ss)

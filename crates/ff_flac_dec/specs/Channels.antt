@@ -1,12 +1,13 @@
 -- The channels that a frame stands for (RFC 9639, section 4.2), and the frame of sound.
-use Rattle.std.specs.Prelude.{ℕ, zero, suc, ◌+◌, ◌-◌, ◌%◌, ◌==◌, nat_lt, if◌then◌else◌, List, [], ◌∷◌, ◌++◌, map, slice_index_or, ℤ, pos, ◌+ℤ◌, ◌-ℤ◌, ◌*ℤ◌, unsigned_abs}
+use Rattle.std.specs.Prelude.{ℕ, zero, suc, ◌+◌, ◌-◌, ◌%◌, ◌==◌, if◌then◌else◌, List, [], ◌∷◌, ◌++◌, map, slice_index_or, ℤ, pos, ◌+ℤ◌, ◌-ℤ◌, ◌*ℤ◌, unsigned_abs}
 use Rattle.std.specs.Int.Signed.{shr_z}
 use Rattle.ff_flac_frame.specs.declared.stream.FlacStream.{FlacStream}
 use Rattle.ff_flac_frame.specs.Codes.{left_side, side_right, is_alone, depths}
 use Rattle.ff_flac_frame.specs.Frame.{Part, Frame}
 use Rattle.ff_values.specs.declared.audio.AFrame.{AFrame}
 use Rattle.ff_values.specs.Frame.{audio_frame}
-use Rattle.ff_flac_dec.specs.Values.{coded_samples, channel_samples, AllInDepth}
+use Rattle.ff_flac_frame.specs.Prediction.{AllInDepth}
+use Rattle.ff_flac_dec.specs.Values.{coded_samples, channel_samples}
 
 -- a function of two channels, sample by sample
 abbrev pub both : (ℤ → ℤ → ℤ) → List ℤ → List ℤ → List ℤ

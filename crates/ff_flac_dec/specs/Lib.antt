@@ -1,4 +1,3 @@
-pub mod Bounds
 pub mod Values
 pub mod Channels
 pub mod Joins

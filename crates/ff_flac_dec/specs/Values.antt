@@ -1,36 +1,9 @@
 -- The samples that a subframe stands for (RFC 9639, sections 9.2.3 to 9.2.7).
-use Rattle.std.specs.Prelude.{ℕ, ◌+◌, ◌-◌, ◌^◌, ◌<◌, ◌==◌, if◌then◌else◌, List, [], ◌∷◌, ◌++◌, length, map, replicate, slice_index_or, ℤ, pos, ◌+ℤ◌, ◌-ℤ◌, ◌*ℤ◌}
-use Rattle.std.specs.Int.Signed.{shr_z}
+use Rattle.std.specs.Prelude.{ℕ, ◌^◌, List, map, replicate, slice_index_or, ℤ, pos, ◌*ℤ◌}
 use Rattle.ff_flac_frame.specs.declared.subframe.SubKind.{SubKind}
 use Rattle.ff_flac_frame.specs.declared.subframe.SubKind.TheVariants.{Constant, Verbatim, Fixed, Lpc}
 use Rattle.ff_flac_frame.specs.Frame.{Part}
-use Rattle.ff_values.specs.Audio.{FitsBits}
-
--- the sample k before the next one
-abbrev pub ago : ℕ → List ℤ → ℤ
-ago k xs = slice_index_or xs (length xs - k) (pos 0)
-
--- the fixed prediction of this order (section 9.2.5)
-abbrev pub fixed : ℕ → List ℤ → ℤ
-fixed order xs =
-    if order == 0 then pos 0 else (if order == 1 then ago 1 xs
-    else (if order == 2 then ((pos 2 *ℤ ago 1 xs) -ℤ ago 2 xs)
-    else (if order == 3 then (((pos 3 *ℤ ago 1 xs) -ℤ (pos 3 *ℤ ago 2 xs)) +ℤ ago 3 xs)
-    else ((((pos 4 *ℤ ago 1 xs) -ℤ (pos 6 *ℤ ago 2 xs)) +ℤ (pos 4 *ℤ ago 3 xs)) -ℤ ago 4 xs))))
-
--- each coefficient times its sample, the first of them on the sample k before the next one
-abbrev pub weighted : List ℤ → ℕ → List ℤ → ℤ
-weighted [] k xs = pos 0
-weighted (c ∷ coefs) k xs = (c *ℤ ago k xs) +ℤ weighted coefs (k + 1) xs
-
--- the linear prediction: the sum of coefficient times sample, shifted right (section 9.2.6)
-unfoldable pub linear : List ℤ → ℕ → List ℤ → ℤ
-linear coefs shift xs = shr_z (weighted coefs 1 xs) (2 ^ shift)
-
--- the samples so far, and those that the residuals stand for under this prediction
-abbrev pub restored : (List ℤ → ℤ) → List ℤ → List ℤ → List ℤ
-restored predicted xs [] = xs
-restored predicted xs (r ∷ rest) = restored predicted (xs ++ (predicted xs +ℤ r) ∷ []) rest
+use Rattle.ff_flac_frame.specs.Prediction.{fixed, linear, restored}
 
 abbrev pub samples_as : ℕ → Part → SubKind → List ℤ
 samples_as block p Constant = replicate block (slice_index_or p.warm 0 (pos 0))
@@ -45,7 +18,3 @@ coded_samples block p = samples_as block p p.kind
 -- the samples: as many zeros behind each as bits were wasted (section 9.2.2)
 unfoldable pub channel_samples : ℕ → Part → List ℤ
 channel_samples block p = map (λ x. x *ℤ pos (2 ^ p.wasted)) (coded_samples block p)
-
--- each sample is within the depth
-abbrev pub AllInDepth : ℕ → List ℤ → Type 0
-AllInDepth depth xs = (k : ℕ) → k < length xs → FitsBits depth (slice_index_or xs k (pos 0))

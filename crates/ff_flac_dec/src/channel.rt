@@ -1,10 +1,11 @@
-ghost use Rattle.std.specs.Prelude.{◌≡◌, ◌<◌, ◌≤◌, ◌^◌, ◌-◌, ◌*ℤ◌, IfOk, IsErrOf, IfErr, length, pos, map, replicate, All, FitsSigned};
+ghost use Rattle.std.specs.Prelude.{◌≡◌, ◌<◌, ◌≤◌, ◌^◌, ◌-◌, ◌*ℤ◌, ℕ, IfOk, IsErrOf, IfErr, IfSome, length, pos, map, replicate, All, FitsSigned};
 ghost use Rattle.std.specs.Int.{w32};
 ghost use Rattle.ff_flac_frame.specs.Parts.{part_of};
-ghost use Rattle.ff_values.specs.Audio.{FitsBits};
 ghost use Rattle.ff_flac_frame.specs.Facts.{IsPart};
-ghost use Rattle.ff_flac_dec.specs.Values.{coded_samples, channel_samples, AllInDepth};
+ghost use Rattle.ff_flac_frame.specs.Prediction.{AllInDepth};
+ghost use Rattle.ff_flac_dec.specs.Values.{coded_samples, channel_samples};
 
+use crate::depth::{all_fit, power};
 use crate::end::DecodeEnd;
 use crate::fixed::restore_fixed;
 use crate::linear::restore_linear;
@@ -28,6 +29,20 @@ fn copied(alloc: Global, samples: &[i32]) -> Result<Vec<i32>, DecodeEnd>
     Ok(Vec::from_slice(alloc, samples)?)
 }
 
+/// An equal list, where each sample is within the depth.
+fn copied_within(alloc: Global, depth: u32, samples: &[i32]) -> Result<Vec<i32>, DecodeEnd>
+    requires low { 1 ≤ depth }
+    requires high { depth ≤ 25 }
+    ensures ok { IfOk result (λ v. v.items ≡ samples.now) }
+    ensures within { IfOk result (λ v. AllInDepth depth v.items) }
+    ensures out { IsErrOf result DecodeEnd.OutOfDepth → AllInDepth depth samples.now → ⊥ }
+{
+    if !all_fit(depth, samples) {
+        return Err(DecodeEnd::OutOfDepth);
+    }
+    copied(alloc, samples)
+}
+
 /// A subframe's samples without their wasted bits.
 #[tactic(auto, unfolding(crate::specs::Values::coded_samples))]
 fn without_wasted(
@@ -43,6 +58,9 @@ fn without_wasted(
     ensures out { IsErrOf result DecodeEnd.OutOfDepth → AllInDepth (depth - subframe.now.wasted) (coded_samples block (part_of subframe.now)) → ⊥ }
 {
     let own = depth - subframe.wasted as u32;
+    if let Some(samples) = subframe.restored() {
+        return copied_within(alloc, own, samples);
+    }
     match subframe.kind {
         SubKind::Constant => repeated(alloc, &subframe.warm.as_slice()[0], block),
         SubKind::Verbatim => copied(alloc, subframe.warm.as_slice()),
@@ -62,14 +80,6 @@ fn without_wasted(
             subframe.rest.as_slice(),
         ),
     }
-}
-
-/// 2 to a power.
-pub fn power(by: u32) -> i32
-    requires { by ≤ 24 }
-    ensures { result ≡ pos (2 ^ by) }
-{
-    (1u32 << by) as i32
 }
 
 /// A sample times a power of 2.
@@ -105,6 +115,26 @@ fn with_wasted(alloc: Global, samples: Vec<i32>, wasted: u32) -> Result<Vec<i32>
         return Ok(samples);
     }
     raise_all(alloc, samples.as_slice(), power(wasted))
+}
+
+/// A subframe's samples themselves, where they were restored as it was read, each is within the depth, and no bits were wasted.
+#[tactic(auto, unfolding(crate::specs::Values::coded_samples, crate::specs::Values::channel_samples))]
+pub fn kept(subframe: &Subframe, depth: u32) -> Option<&[i32]>
+    requires low { 1 ≤ depth }
+    requires high { depth ≤ 25 }
+    ensures samples { (block : ℕ) → IfSome result (λ xs. xs.now ≡ channel_samples block (part_of subframe.now)) }
+    ensures coded { (block : ℕ) → IfSome result (λ _. AllInDepth (depth - subframe.now.wasted) (coded_samples block (part_of subframe.now))) }
+    ensures within { IfSome result (λ xs. AllInDepth depth xs.now) }
+{
+    if subframe.wasted > 0 {
+        return None;
+    }
+    let samples = subframe.restored()?;
+    if all_fit(depth, samples) {
+        Some(samples)
+    } else {
+        None
+    }
 }
 
 /// A subframe's samples. They have the subframe's depth.

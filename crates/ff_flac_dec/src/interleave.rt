@@ -33,7 +33,7 @@ fn push_sample_frame(
 
 /// The samples of two channels of one length, sample frame after sample frame.
 #[tactic(auto, unfolding(crate::specs::Channels::interleaved))]
-fn interleave_two(alloc: Global, first: &[i32], second: &[i32]) -> Result<Vec<i32>, DecodeEnd>
+pub fn interleave_two(alloc: Global, first: &[i32], second: &[i32]) -> Result<Vec<i32>, DecodeEnd>
     requires { length first.now ≡ length second.now }
     ensures ok { IfOk result (λ v. v.items ≡ interleaved (length first.now) (first.now ∷ second.now ∷ [])) }
     ensures memory { IfErr result (λ e. e ≡ DecodeEnd.NoMemory) }

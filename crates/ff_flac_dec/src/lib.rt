@@ -9,6 +9,7 @@
 mod block;
 mod channel;
 mod cut;
+mod depth;
 mod end;
 mod fixed;
 mod frame;

@@ -9,10 +9,10 @@ ghost use Rattle.ff_flac_dec.specs.Channels.{AllChannels, IsCoded, IsWithinDepth
 ghost use Rattle.ff_flac_dec.specs.Joins.{items_of};
 ghost use Rattle.ff_flac_dec.specs.Streams.{stream_of};
 
-use crate::channel::samples_of;
+use crate::channel::{kept, samples_of};
 use crate::end::DecodeEnd;
 use crate::head::FlacHead;
-use crate::interleave::interleave;
+use crate::interleave::{interleave, interleave_two};
 use crate::stereo::left_and_right;
 use ff_flac_frame::{FlacFrame, FlacStream, Subframe};
 use ff_values::{AFrame, Samples};
@@ -40,8 +40,8 @@ fn independent(
     Ok(channels)
 }
 
-/// The same channels, sample frame after sample frame.
-fn separate(
+/// The same channels, sample frame after sample frame, by their samples as lists of their own.
+fn separate_of_copies(
     alloc: Global,
     subframes: &[Subframe],
     block: u32,
@@ -57,6 +57,32 @@ fn separate(
     let channels = independent(alloc, subframes, block, depth)?;
     let samples = interleave(alloc, channels.as_slice(), block)?;
     Ok(samples)
+}
+
+/// The same channels, sample frame after sample frame.
+fn separate(
+    alloc: Global,
+    subframes: &[Subframe],
+    block: u32,
+    depth: u32,
+) -> Result<Vec<i32>, DecodeEnd>
+    requires parts { AllByRecursion (IsPart block depth) (map part_of subframes.now) }
+    requires depth { depth ≤ 25 }
+    ensures ok { IfOk result (λ v. v.items ≡ interleaved block (map (channel_samples block) (map part_of subframes.now))) }
+    ensures coded { IfOk result (λ _. AllByRecursion (IsCoded block depth) (map part_of subframes.now)) }
+    ensures within { IfOk result (λ _. AllChannels depth (map (channel_samples block) (map part_of subframes.now))) }
+    ensures out { IsErrOf result DecodeEnd.OutOfDepth → AllByRecursion (IsCoded block depth) (map part_of subframes.now) → ⊥ }
+{
+    let [first, second] = subframes else {
+        return separate_of_copies(alloc, subframes, block, depth);
+    };
+    let Some(one) = kept(first, depth) else {
+        return separate_of_copies(alloc, subframes, block, depth);
+    };
+    let Some(other) = kept(second, depth) else {
+        return separate_of_copies(alloc, subframes, block, depth);
+    };
+    interleave_two(alloc, one, other)
 }
 
 /// The depth of the first of two subframes: a side channel has one bit more.
@@ -77,6 +103,34 @@ fn second_depth_of(form: u8, depth: u32) -> u32
     if form == 9 { depth } else { depth + 1 }
 }
 
+/// Left and right, sample frame after sample frame, of two subframes under a channel code from 8 on, by their samples as lists of
+/// their own.
+fn joint_of_copies(
+    alloc: Global,
+    first: &Subframe,
+    second: &Subframe,
+    form: u8,
+    block: u32,
+    depth: u32,
+) -> Result<Vec<i32>, DecodeEnd>
+    requires first { IsPart block (first_depth form depth) (part_of first.now) }
+    requires second { IsPart block (second_depth form depth) (part_of second.now) }
+    requires depth_low { 1 ≤ depth }
+    requires depth_high { depth ≤ 24 }
+    ensures ok { IfOk result (λ v. v.items
+        ≡ interleaved block (left_right form (channel_samples block (part_of first.now)) (channel_samples block (part_of second.now)))) }
+    ensures first { IfOk result (λ _. IsCoded block (first_depth form depth) (part_of first.now)) }
+    ensures second { IfOk result (λ _. IsCoded block (second_depth form depth) (part_of second.now)) }
+    ensures within { IfOk result (λ _. AllChannels depth (left_right form (channel_samples block (part_of first.now)) (channel_samples block (part_of second.now)))) }
+    ensures out { IsErrOf result DecodeEnd.OutOfDepth
+        → IsCoded block (first_depth form depth) (part_of first.now) → IsCoded block (second_depth form depth) (part_of second.now)
+        → AllChannels depth (left_right form (channel_samples block (part_of first.now)) (channel_samples block (part_of second.now))) → ⊥ }
+{
+    let one = samples_of(alloc, first, block, first_depth_of(form, depth))?;
+    let other = samples_of(alloc, second, block, second_depth_of(form, depth))?;
+    left_and_right(alloc, form, depth, one.as_slice(), other.as_slice())
+}
+
 /// Left and right, sample frame after sample frame, of two subframes under a channel code from 8 on.
 fn joint(
     alloc: Global,
@@ -90,16 +144,22 @@ fn joint(
     requires second { IsPart block (second_depth form depth) (part_of second.now) }
     requires depth_low { 1 ≤ depth }
     requires depth_high { depth ≤ 24 }
-    ensures ok { IfOk result (λ v. v.items ≡ interleaved block (left_right form (channel_samples block (part_of first.now)) (channel_samples block (part_of second.now)))) }
+    ensures ok { IfOk result (λ v. v.items
+        ≡ interleaved block (left_right form (channel_samples block (part_of first.now)) (channel_samples block (part_of second.now)))) }
     ensures first { IfOk result (λ _. IsCoded block (first_depth form depth) (part_of first.now)) }
     ensures second { IfOk result (λ _. IsCoded block (second_depth form depth) (part_of second.now)) }
     ensures within { IfOk result (λ _. AllChannels depth (left_right form (channel_samples block (part_of first.now)) (channel_samples block (part_of second.now)))) }
-    ensures out { IsErrOf result DecodeEnd.OutOfDepth → IsCoded block (first_depth form depth) (part_of first.now) → IsCoded block (second_depth form depth) (part_of second.now)
+    ensures out { IsErrOf result DecodeEnd.OutOfDepth
+        → IsCoded block (first_depth form depth) (part_of first.now) → IsCoded block (second_depth form depth) (part_of second.now)
         → AllChannels depth (left_right form (channel_samples block (part_of first.now)) (channel_samples block (part_of second.now))) → ⊥ }
 {
-    let one = samples_of(alloc, first, block, first_depth_of(form, depth))?;
-    let other = samples_of(alloc, second, block, second_depth_of(form, depth))?;
-    left_and_right(alloc, form, depth, one.as_slice(), other.as_slice())
+    let Some(one) = kept(first, first_depth_of(form, depth)) else {
+        return joint_of_copies(alloc, first, second, form, block, depth);
+    };
+    let Some(other) = kept(second, second_depth_of(form, depth)) else {
+        return joint_of_copies(alloc, first, second, form, block, depth);
+    };
+    left_and_right(alloc, form, depth, one, other)
 }
 
 /// The samples of a frame, sample frame after sample frame.

@@ -1,10 +1,10 @@
-ghost use Rattle.std.specs.Prelude.{◌≡◌, ◌≤◌, ◌==◌, if◌then◌else◌, IfOk, IfErr, IsErrOf, IsTrue, ◌↔◌, length};
+ghost use Rattle.std.specs.Prelude.{◌≡◌, ◌≤◌, ◌==◌, if◌then◌else◌, IfOk, IfErr, IsErrOf, length};
 ghost use Rattle.ff_values.specs.Audio.{FitsBits};
-ghost use Rattle.ff_flac_dec.specs.Values.{AllInDepth};
+ghost use Rattle.ff_flac_frame.specs.Prediction.{AllInDepth};
 ghost use Rattle.ff_flac_dec.specs.Channels.{less, more, mid_left, mid_right, left_right, AllChannels, interleaved};
 ghost use Rattle.ff_flac_dec.specs.Joins.{joins};
 
-use crate::channel::power;
+use crate::depth::all_fit;
 use crate::end::DecodeEnd;
 use std::alloc::Global;
 
@@ -83,30 +83,6 @@ fn woven(alloc: Global, form: u8, first: &[i32], second: &[i32]) -> Result<Vec<i
         out.push_reserved(right_of(form, x, y));
     }
     Ok(out)
-}
-
-/// Whether a sample is within the depth.
-#[inline(always)]
-fn fits(depth: u32, x: i32) -> bool
-    requires low { 1 ≤ depth }
-    requires high { depth ≤ 25 }
-    ensures { IsTrue result ↔ FitsBits depth x }
-{
-    let limit = power(depth - 1);
-    -limit <= x && x < limit
-}
-
-/// Whether each sample is within the depth. It looks at all of them, so that it may look at several at once.
-fn all_fit(depth: u32, samples: &[i32]) -> bool
-    requires low { 1 ≤ depth }
-    requires high { depth ≤ 25 }
-    ensures { IsTrue result ↔ AllInDepth depth samples.now }
-{
-    let mut all = true;
-    for sample in samples {
-        all &= fits(depth, *sample);
-    }
-    all
 }
 
 /// Left and right, sample frame after sample frame, within the stream's depth or not.

@@ -55,3 +55,9 @@ pub times_fails : {A : Type 0} (e : FrameEnd) (r : Reader A) (front : List A) (c
 times_fails NotYet r front count i bits total lt h so_far = times_more r front count i bits total lt h so_far
 times_fails Never r front count i bits total lt h so_far = times_bad r front count i bits total lt h so_far
 times_fails NoMemory r front count i bits total lt h so_far = tt
+
+pub times_left_fails : {A : Type 0} (e : FrameEnd) (r : Reader A) (front : List A) (left : ℕ) (bits : List Bool) (total : Answer (List A)) → 0 < left
+    → Fails e (r bits) → with_front front (times left r bits) ≡ total → Fails e total
+times_left_fails e r front left bits total lt h so_far =
+    let all : left - 0 ≡ left = omega arith in
+    times_fails e r front left 0 bits total lt h (ap (λ (k : ℕ). with_front front (times k r bits)) all ∙ so_far)

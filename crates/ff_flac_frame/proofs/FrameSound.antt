@@ -396,11 +396,11 @@ or_cases : (a b : Bool) → (a || b) ≡ true → (a ≡ true) ⊎ (b ≡ true)
 or_cases true b e = inl refl
 or_cases false b e = inr e
 
-kind_fixed : (code : ℕ) → 2 ≤ code → code < 32 → kind_of code ≡ Fixed
+pub kind_fixed : (code : ℕ) → 2 ≤ code → code < 32 → kind_of code ≡ Fixed
 unfolding kind_of
 kind_fixed code l h = rw (ne_eqb code 0 (λ e. omega arith), ne_eqb code 1 (λ e. omega arith), lt-ltb code 32 h) refl
 
-kind_linear : (code : ℕ) → 32 ≤ code → kind_of code ≡ Lpc
+pub kind_linear : (code : ℕ) → 32 ≤ code → kind_of code ≡ Lpc
 unfolding kind_of
 kind_linear code l = rw (ne_eqb code 0 (λ e. omega arith), ne_eqb code 1 (λ e. omega arith), le-ltb code 32 l) refl
 

@@ -1,3 +1,5 @@
+pub mod Bounds
+pub mod Prediction
 pub mod Codes
 pub mod Types
 pub mod Frame
@@ -6,3 +8,5 @@ pub mod Rules
 pub mod Gives
 pub mod Front
 pub mod Parts
+pub mod Restoring
+pub mod Restored

@@ -7,10 +7,14 @@
 
 mod end;
 mod field;
+mod fixed;
 mod frame;
 mod header;
 mod laws;
+mod linear;
 mod number;
+mod predictor;
+mod reading;
 mod residual;
 mod rule;
 mod sequence;
@@ -18,10 +22,12 @@ mod stream;
 mod subframe;
 
 pub use end::FrameEnd;
-pub use frame::{FlacFrame, frame_at};
+pub use fixed::{is_in_depth, last_of, next_fixed};
+pub use frame::{FlacFrame, frame_at, restored_frame_at};
 pub use laws::{
     frames_are_apart, frames_are_in_shape, subframe_types_are_the_table, what_follows_is_no_matter,
 };
+pub use linear::next_linear;
 pub use sequence::Sequence;
 pub use stream::FlacStream;
 pub use subframe::{SubKind, Subframe};

@@ -77,6 +77,19 @@ pub fn rice_of(zeros: u32, low: u64, k: u32) -> Result<i32, FrameEnd>
     }
 }
 
+/// The residual of so many zeros and these low bits, which are too few to leave the range.
+#[inline(always)]
+pub fn short_rice(zeros: u32, low: u64, k: u32) -> i32
+    requires parameter { k ≤ 12 }
+    requires zeros { zeros < 64 }
+    requires low { low < 2 ^ k }
+    ensures value { result ≡ zigzag (zeros * 2 ^ k + low) }
+    ensures within { zeros * 2 ^ k + low < residual_limit }
+    ensures fits { FitsSigned w32 result }
+{
+    zigzag_of(((zeros as u64) << k) + low)
+}
+
 #[cold]
 #[tactic(auto, unfolding(crate::specs::Frame::rice, crate::specs::Frame::quotient_limit))]
 pub fn read_rice(reader: &mut BitReader, k: u32) -> Result<i32, FrameEnd>

@@ -1,18 +1,7 @@
-ghost use Rattle.std.specs.Prelude.{◌≡◌, ◌<◌, ◌≤◌, ◌^◌, IfOk, nat_lt, if◌then◌else◌, [], ◌∷◌};
-ghost use Rattle.ff_bits.specs.Reading.{times, give};
-ghost use Rattle.ff_flac_frame.specs.Codes.{kind_of, order_of, warm_count};
-ghost use Rattle.ff_flac_frame.specs.Frame.{sample, residual, wasted_bits, predictor, subframe};
-ghost use Rattle.ff_flac_frame.specs.Gives.{Gives};
-ghost use Rattle.ff_flac_frame.specs.Parts.{part_of};
+ghost use Rattle.std.specs.Prelude.{◌≡◌, IfSome, true};
+ghost use Rattle.ff_flac_frame.specs.Restored.{IsRestored, IsRestored-prop};
 
-use crate::end::FrameEnd;
-use crate::field::read_field;
-use crate::number::read_zeros;
-use crate::residual::{read_residual, read_samples};
-use crate::rule::{Rule, order_from};
 use crate::sequence::Sequence;
-use ff_bits::BitReader;
-use std::alloc::Global;
 
 /// How a subframe stands for its samples (RFC 9639, section 9.2).
 #[derive(Clone, Copy, Debug, PartialEq, Eq)]
@@ -43,151 +32,22 @@ pub struct Subframe {
     pub warm: Sequence<i32>,
     /// The residuals.
     pub rest: Sequence<i32>,
+    /// Whether the samples were restored as the residuals were read.
+    pub(crate) is_restored: bool,
+    /// Then these are the samples, without their wasted bits.
+    pub(crate) samples: Sequence<i32>,
+    ghost restored: { is_restored ≡ true → IsRestored kind order coefs shift warm rest samples } by { IsRestored-prop is_restored kind order coefs shift warm rest samples },
 }
 
-fn samples(
-    alloc: Global,
-    reader: &mut BitReader,
-    count: u32,
-    depth: u32,
-) -> Result<Vec<i32>, FrameEnd>
-    requires { depth ≤ 32 }
-    ensures { Gives (λ v. v.items) result (times count (sample depth) reader.old) reader.new }
-{
-    let mut out = Vec::with_capacity(alloc, count as usize)?;
-    read_samples(reader, &mut out, count, depth)?;
-    Ok(out)
-}
-
-fn residuals(
-    alloc: Global,
-    reader: &mut BitReader,
-    block: u32,
-    order: u32,
-) -> Result<Vec<i32>, FrameEnd>
-    requires { order ≤ block }
-    ensures { Gives (λ v. v.items) result (residual block order reader.old) reader.new }
-{
-    let mut out = Vec::with_capacity(alloc, block as usize)?;
-    read_residual(reader, &mut out, block, order)?;
-    Ok(out)
-}
-
-#[tactic(auto, unfolding(crate::specs::Frame::wasted_bits))]
-fn read_wasted(reader: &mut BitReader, depth: u32) -> Result<u32, FrameEnd>
-    requires { 2 ≤ depth }
-    ensures reads { Gives (λ v. v) result (wasted_bits depth reader.old) reader.new }
-    ensures below { IfOk result (λ k. k < depth) }
-{
-    let flag = read_field(reader, 1, Rule::Any)?;
-    if flag == 0 {
-        return Ok(0);
+impl Subframe {
+    /// The samples, without their wasted bits, where they were restored as the residuals were read.
+    pub fn restored(&self) -> Option<&[i32]>
+        ensures { IfSome result (λ xs. IsRestored self.now.kind self.now.order self.now.coefs self.now.shift self.now.warm self.now.rest xs.now) }
+    {
+        if self.is_restored {
+            Some(self.samples.as_slice())
+        } else {
+            None
+        }
     }
-    let z = read_zeros(reader, (depth - 1) as u64)?;
-    Ok(z as u32 + 1)
-}
-
-#[tactic(auto, unfolding(crate::specs::Frame::predictor))]
-fn read_predictor(
-    alloc: Global,
-    reader: &mut BitReader,
-    order: u32,
-) -> Result<(u32, Vec<i32>), FrameEnd>
-    ensures reads { Gives (λ v. (v.0, v.1.items)) result (predictor order reader.old) reader.new }
-    ensures small { IfOk result (λ v. v.0 < 16) }
-{
-    let precision = read_field(reader, 4, Rule::Below(15))?;
-    let shift = read_field(reader, 5, Rule::Below(16))?;
-    let coefs = samples(alloc, reader, order, precision as u32 + 1)?;
-    Ok((shift as u32, coefs))
-}
-
-/// What a subframe of this type code is.
-#[tactic(auto, unfolding(crate::specs::Codes::kind_of))]
-fn kind_from(code: u64) -> SubKind
-    ensures { result ≡ kind_of code }
-{
-    if code == 0 {
-        SubKind::Constant
-    } else if code == 1 {
-        SubKind::Verbatim
-    } else if code < 32 {
-        SubKind::Fixed
-    } else {
-        SubKind::Lpc
-    }
-}
-
-/// How many samples stand before the residuals, or in their place.
-#[tactic(auto, unfolding(crate::specs::Codes::warm_count))]
-fn count_warm(block: u32, code: u64) -> u32
-    requires { code < 64 }
-    ensures { result ≡ warm_count block code }
-{
-    if code == 0 {
-        1
-    } else if code == 1 {
-        block
-    } else {
-        order_from(code) as u32
-    }
-}
-
-fn predictor_of(
-    alloc: Global,
-    reader: &mut BitReader,
-    code: u64,
-) -> Result<(u32, Vec<i32>), FrameEnd>
-    requires { code < 64 }
-    ensures small { IfOk result (λ v. v.0 < 16) }
-    ensures reads { Gives (λ v. (v.0, v.1.items)) result ((if nat_lt code 32 then give (0, []) else predictor (order_of code)) reader.old) reader.new }
-{
-    if code < 32 {
-        return Ok((0, Vec::new(alloc)));
-    }
-    read_predictor(alloc, reader, order_from(code) as u32)
-}
-
-fn residuals_of(
-    alloc: Global,
-    reader: &mut BitReader,
-    block: u32,
-    code: u64,
-) -> Result<Vec<i32>, FrameEnd>
-    requires small { code < 64 }
-    requires order { order_of code ≤ block }
-    ensures { Gives (λ v. v.items) result ((if nat_lt code 2 then give [] else residual block (order_of code)) reader.old) reader.new }
-{
-    if code < 2 {
-        return Ok(Vec::new(alloc));
-    }
-    residuals(alloc, reader, block, order_from(code) as u32)
-}
-
-#[tactic(auto, unfolding(crate::specs::Frame::subframe))]
-pub fn read_subframe(
-    alloc: Global,
-    reader: &mut BitReader,
-    block: u32,
-    depth: u32,
-) -> Result<Subframe, FrameEnd>
-    requires low { 2 ≤ depth }
-    requires high { depth ≤ 32 }
-    ensures { Gives part_of result (subframe block depth reader.old) reader.new }
-{
-    let _zero = read_field(reader, 1, Rule::Equal(0))?;
-    let code = read_field(reader, 6, Rule::Kind(block))?;
-    let wasted = read_wasted(reader, depth)?;
-    let warm = samples(alloc, reader, count_warm(block, code), depth - wasted)?;
-    let (shift, coefs) = predictor_of(alloc, reader, code)?;
-    let rest = residuals_of(alloc, reader, block, code)?;
-    Ok(Subframe {
-        wasted: wasted as u8,
-        kind: kind_from(code),
-        order: order_from(code) as u8,
-        shift: shift as u8,
-        coefs: Sequence::of(coefs),
-        warm: Sequence::of(warm),
-        rest: Sequence::of(rest),
-    })
 }

@@ -4,7 +4,8 @@ use Rattle.std.specs.Prelude.{◌+ℤ◌, ◌*ℤ◌, replicate}
 use Rattle.std.specs.List.{AllByRecursion}
 use Rattle.std.proofs.lemmas.Int.{ints}
 use Rattle.std.proofs.lemmas.List.{take_all, take_more, length-take, get_or-take}
-use Rattle.ff_flac_dec.specs.Values.{ago, fixed as predicted_fixed, restored, coded_samples, channel_samples}
+use Rattle.ff_flac_frame.specs.Prediction.{ago, fixed as predicted_fixed, restored}
+use Rattle.ff_flac_dec.specs.Values.{coded_samples, channel_samples}
 use Rattle.std.specs.List.{list_all}
 use Rattle.std.specs.Ordering.{int_eq}
 use Rattle.std.proofs.lemmas.Bool.{and_parts}

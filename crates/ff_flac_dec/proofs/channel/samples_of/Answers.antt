@@ -1,7 +1,8 @@
 use Rattle.std.proofs.Common.{◌≤◌, ◌-◌, ◌^◌, ◌∙◌, List, ℤ, pos, ◌*ℤ◌, map, sym, ap, subst, length, arith}
 use Rattle.ff_flac_frame.specs.Parts.{part_of}
-use Rattle.ff_flac_dec.specs.Values.{AllInDepth}
-use Rattle.ff_flac_dec.proofs.ChannelLemmas.{all_wider, raised_channel, raised_length}
+use Rattle.ff_flac_frame.specs.Prediction.{AllInDepth}
+use Rattle.ff_flac_frame.proofs.PredictionLemmas.{all_wider}
+use Rattle.ff_flac_dec.proofs.ChannelLemmas.{raised_channel, raised_length}
 use Rattle.ff_flac_dec.proofs.channel.samples_of.Goals as goal
 
 pub with_wasted-requires-clause-within : goal.with_wasted-requires-clause-within

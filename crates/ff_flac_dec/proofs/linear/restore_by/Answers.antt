@@ -2,35 +2,35 @@ use Rattle.std.proofs.Common.{◌≡◌, ◌∙◌, ◌+◌, ◌<◌, ◌++◌, 
 use Rattle.std.specs.Int.{w32, w64}
 use Rattle.std.proofs.lemmas.Int.{ints, to_z-of_z}
 use Rattle.ff_values.specs.Audio.{FitsBits}
-use Rattle.ff_flac_dec.specs.Values.{ago, linear, restored, AllInDepth}
-use Rattle.ff_flac_dec.proofs.ValueLemmas.{leaves, IsSmall-in_depth, AllInDepth-push, ago_push, restored-step}
-use Rattle.ff_flac_dec.proofs.ChannelLemmas.{all_wider}
+use Rattle.ff_flac_frame.specs.Prediction.{ago, linear, restored, AllInDepth}
+use Rattle.ff_flac_frame.proofs.PredictionLemmas.{leaves, IsSmall-in_depth, AllInDepth-push, ago_push, restored-step}
+use Rattle.ff_flac_frame.proofs.PredictionLemmas.{all_wider}
 use Rattle.ff_flac_dec.proofs.linear.restore_by.Goals as goal
 
-pub next_sample-x-requires-clause-within : goal.next_sample-x-requires-clause-within
-next_sample-x-requires-clause-within c = subst (λ (ys : List ℤ). AllInDepth 25 ys) (sym c.as_slice.ensures.value) (all_wider c.args.depth 25 c.loop-r.out.items c.requires.depth_high c.loop-r.invariant.within)
+pub next_linear-x-requires-clause-within : goal.next_linear-x-requires-clause-within
+next_linear-x-requires-clause-within c = subst (λ (ys : List ℤ). AllInDepth 25 ys) (sym c.as_slice.ensures.value) (all_wider c.args.depth 25 c.loop-r.out.items c.requires.depth_high c.loop-r.invariant.within)
 
 pub returns-then-not-is_in_depth-clause-out : goal.returns-then-not-is_in_depth-clause-out
 returns-then-not-is_in_depth-clause-out c =
-    let x = c.next_sample-x.result in
-    let s = to_z-of_z w64 x c.next_sample-x.ensures.fits in
-    let x-is = c.next_sample-x.ensures.value ∙ ap (λ (ys : List ℤ). linear c.args.coefs.now c.args.shift ys +ℤ get_or c.args.rest.now c.loop-r.r-index (pos 0)) c.as_slice.ensures.value in
+    let x = c.next_linear-x.result in
+    let s = to_z-of_z w64 x c.next_linear-x.ensures.fits in
+    let x-is = c.next_linear-x.ensures.value ∙ ap (λ (ys : List ℤ). linear c.args.coefs.now c.args.shift ys +ℤ get_or c.args.rest.now c.loop-r.r-index (pos 0)) c.as_slice.ensures.value in
     λ k all. leaves c.args.depth (linear c.args.coefs.now c.args.shift) c.loop-r.out.items c.args.rest.now _ c.loop-r.r-index x (omega arith) x-is c.loop-r.invariant.total
     (λ g. let t = c.if-not-is_in_depth.ensures.1 (subst (λ (y : ℤ). FitsBits c.args.depth y) (sym s) g) in cc) all
 
 pub overflow_cast-x : goal.overflow_cast-x
 overflow_cast-x c =
-    let x = c.next_sample-x.result in
-    let s = to_z-of_z w64 x c.next_sample-x.ensures.fits in
+    let x = c.next_linear-x.result in
+    let s = to_z-of_z w64 x c.next_linear-x.ensures.fits in
     let m = IsSmall-in_depth c.args.depth x c.requires.depth_high (subst (λ (y : ℤ). FitsBits c.args.depth y) s (c.if-not-is_in_depth.ensures.0 refl)) in
     rw s (omega (arith, ints))
 
 pub loop-r-preserved : goal.loop-r-preserved
 loop-r-preserved c =
     let l = c.loop-r in
-    let x = c.next_sample-x.result in
-    let s = to_z-of_z w64 x c.next_sample-x.ensures.fits in
-    let x-is = c.next_sample-x.ensures.value ∙ ap (λ (ys : List ℤ). linear c.args.coefs.now c.args.shift ys +ℤ get_or c.args.rest.now l.r-index (pos 0)) c.as_slice.ensures.value in
+    let x = c.next_linear-x.result in
+    let s = to_z-of_z w64 x c.next_linear-x.ensures.fits in
+    let x-is = c.next_linear-x.ensures.value ∙ ap (λ (ys : List ℤ). linear c.args.coefs.now c.args.shift ys +ℤ get_or c.args.rest.now l.r-index (pos 0)) c.as_slice.ensures.value in
     let g = subst (λ (y : ℤ). FitsBits c.args.depth y) s (c.if-not-is_in_depth.ensures.0 refl) in
     let m = IsSmall-in_depth c.args.depth x c.requires.depth_high g in
     let s32 : to_z w32 (of_z w32 x) ≡ x = to_z-of_z w32 x (omega (arith, ints)) in

@@ -1,5 +1,5 @@
 use Rattle.std.proofs.Common.{◌≡◌, ◌≤◌, length, drop}
-use Rattle.ff_flac_dec.specs.Values.{ago, linear, restored, AllInDepth}
+use Rattle.ff_flac_frame.specs.Prediction.{ago, linear, restored, AllInDepth}
 use Rattle.ff_flac_dec.proofs.linear.restore_by.Given as goal
 
 abbrev pub invariant-loop-r : goal.invariant-loop-r

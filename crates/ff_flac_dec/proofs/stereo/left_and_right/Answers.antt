@@ -1,5 +1,5 @@
 use Rattle.std.proofs.Common.{◌∙◌, ℤ, List, length, refl, sym, subst}
-use Rattle.ff_flac_dec.specs.Values.{AllInDepth}
+use Rattle.ff_flac_frame.specs.Prediction.{AllInDepth}
 use Rattle.ff_flac_dec.specs.Channels.{left_right}
 use Rattle.ff_flac_dec.proofs.JoinLemmas.{channels_fit, samples_fit}
 use Rattle.ff_flac_dec.proofs.stereo.left_and_right.Goals as goal

@@ -1,9 +1,0 @@
-use Rattle.std.proofs.Common.{◌≡◌, ◌≤◌, ◌+◌, ◌-◌, ◌*◌, ◌^◌, ◌+ℤ◌, drop, unsigned_abs}
-use Rattle.ff_flac_dec.specs.Values.{weighted}
-use Rattle.ff_flac_dec.proofs.linear.weigh_behind.Given as goal
-
-abbrev pub invariant-loop-i : goal.invariant-loop-i
-invariant-loop-i l = record {
-  total : l.sum +ℤ weighted (drop l.i l.coefs) (l.i + 1) l.xs ≡ weighted (drop 1 l.coefs) 2 l.xs;
-  bound : unsigned_abs l.sum ≤ (l.i - 1) * 2 ^ 38;
-}

@@ -1,0 +1,38 @@
+use Rattle.std.proofs.Common.{◌≡◌, ◌∙◌, ℕ, ℤ, List, [], ◌∷◌, length, map, ap, subst, sym, arith}
+use Rattle.std.specs.Prelude.{IfOk}
+use Rattle.std.specs.List.{AllByRecursion}
+use Rattle.std.proofs.lemmas.List.{length-map}
+use Rattle.ff_flac_frame.specs.Frame.{Part}
+use Rattle.ff_flac_frame.specs.Facts.{IsPart}
+use Rattle.ff_flac_frame.specs.Parts.{part_of}
+use Rattle.ff_flac_dec.specs.Values.{channel_samples}
+use Rattle.ff_flac_dec.specs.Channels.{interleaved}
+use Rattle.ff_flac_dec.proofs.ChannelLemmas.{length-channel}
+use Rattle.ff_flac_dec.proofs.FrameLemmas.{pair_parts}
+use Rattle.ff_flac_dec.proofs.sound.separate.Goals as goal
+
+pub interleave_two-requires : goal.interleave_two-requires
+interleave_two-requires c =
+    let block = c.args.block in
+    let two : length (map part_of c.args.subframes.now) ≡ 2 = omega (arith, length-map c.args.subframes.now part_of, c.in-len2.len_at_least, c.in-len2.len_below) in
+    let e = pair_parts c.args.subframes.now c.first-item.result c.second-item.result two c.first-item.is c.second-item.is in
+    let parts = subst (λ (ps : List Part). AllByRecursion (IsPart block c.args.depth) ps) e c.requires.parts in
+    let one : length c.in-Some.one.now ≡ block = ap length (c.in-Some.ensures.samples block) ∙ length-channel block c.args.depth (part_of c.first-item.result) parts.0 in
+    let other : length c.in-Some-kept.other.now ≡ block = ap length (c.in-Some-kept.ensures.samples block) ∙ length-channel block c.args.depth (part_of c.second-item.result) parts.1.0 in
+    one ∙ sym other
+
+pub returns-clause-ok : goal.returns-clause-ok
+returns-clause-ok c =
+    let block = c.args.block in
+    let two : length (map part_of c.args.subframes.now) ≡ 2 = omega (arith, length-map c.args.subframes.now part_of, c.in-len2.len_at_least, c.in-len2.len_below) in
+    let e = pair_parts c.args.subframes.now c.first-item.result c.second-item.result two c.first-item.is c.second-item.is in
+    let parts = subst (λ (ps : List Part). AllByRecursion (IsPart block c.args.depth) ps) e c.requires.parts in
+    let xs : List ℤ = channel_samples block (part_of c.first-item.result) in
+    let ys : List ℤ = channel_samples block (part_of c.second-item.result) in
+    let xs_are : c.in-Some.one.now ≡ xs = c.in-Some.ensures.samples block in
+    let ys_are : c.in-Some-kept.other.now ≡ ys = c.in-Some-kept.ensures.samples block in
+    let len : length xs ≡ block = length-channel block c.args.depth (part_of c.first-item.result) parts.0 in
+    subst (λ (ps : List Part). IfOk c.interleave_two.result (λ v. v.items ≡ interleaved block (map (channel_samples block) ps))) (sym e)
+    (subst (λ (n : ℕ). IfOk c.interleave_two.result (λ v. v.items ≡ interleaved n (xs ∷ ys ∷ []))) len
+    (subst (λ (zs : List ℤ). IfOk c.interleave_two.result (λ v. v.items ≡ interleaved (length xs) (xs ∷ zs ∷ []))) ys_are
+    (subst (λ (zs : List ℤ). IfOk c.interleave_two.result (λ v. v.items ≡ interleaved (length zs) (zs ∷ c.in-Some-kept.other.now ∷ []))) xs_are c.interleave_two.ensures.ok)))

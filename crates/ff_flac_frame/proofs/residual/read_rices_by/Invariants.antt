@@ -1,0 +1,20 @@
+use Rattle.std.proofs.Common.{◌≡◌, ◌+◌, ◌≤◌, true, vec_len, vec_capacity}
+use Rattle.ff_bits.specs.Reading.{times}
+use Rattle.ff_flac_frame.specs.Frame.{rice}
+use Rattle.ff_flac_frame.specs.Front.{with_front}
+use Rattle.ff_flac_frame.specs.Prediction.{ago}
+use Rattle.ff_flac_frame.specs.Restoring.{Restores}
+use Rattle.ff_flac_frame.proofs.residual.read_rices_by.Given as goal
+
+abbrev pub invariant-loop-left : goal.invariant-loop-left
+invariant-loop-left l = record {
+  read : with_front l.out.items (times l.left (rice l.k) l.near) ≡ with_front l.fn.out.items (times l.count (rice l.k) l.fn.reader);
+  room : vec_len l.out + l.left ≤ vec_capacity l.out;
+  room_restored : vec_len l.restoring.samples + l.left ≤ vec_capacity l.restoring.samples;
+  on : l.restoring.is_on ≡ true;
+  restores : Restores l.predictor l.restoring.samples.items l.out.items;
+  newest : l.last ≡ ago 1 l.restoring.samples.items;
+}
+
+abbrev pub decreases-loop-left : goal.decreases-loop-left
+decreases-loop-left l = l.left
