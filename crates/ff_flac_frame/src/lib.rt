@@ -3,6 +3,10 @@
 //! `specs/Frame` says what a frame is: readers on the list of an input's bits, one for each part of the grammar, with
 //! three answers: a value, more bits may make one, no bits will. `specs/Facts` says what holds of each frame.
 //! `frame_at` reads the frame that begins some bytes.
+//!
+//! `specs/Prediction` says how a sample is predicted from those before it. `restored_frame_at` reads the same frame, and restores
+//! its samples in the loop that reads their residuals: there the processor waits for the place of the next code, and works on a
+//! sample meanwhile. `specs/Restored` says what a subframe says of such samples.
 #![tactic(auto)]
 
 mod end;

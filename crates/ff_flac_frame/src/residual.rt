@@ -33,18 +33,49 @@ pub fn read_samples(
     Ok(())
 }
 
-/// Four codes of at most so many low bits mostly stand in a word that is filled up, which are 56 bits at least.
+/// How many codes of so many low bits a word mostly holds that is filled up, which are 56 bits at least.
+fn codes_in_word(k: u32) -> u32
+    ensures { 1 ≤ result }
+{
+    match k {
+        0..=4 => 8,
+        5..=11 => 4,
+        12..=22 => 2,
+        _ => 1,
+    }
+}
+
+/// Four codes of at most so many low bits mostly stand in a word that is filled up.
 const FOUR_LOW: u32 = 11;
 
-/// The next four residuals, where so many are left and the word shows them whole.
+/// Behind linear predictors of more than this order samples are restored one at a time: that work is as long as the reading of
+/// the next code, and the two are done side by side.
+const FOUR_ORDER: usize = 2;
+
+/// The word is filled up where the number of codes that are left has none of these bits: before each four that are read at once,
+/// and else before as many as it mostly holds.
+fn filled_before(by_four: bool, k: u32) -> u32 {
+    if by_four && k <= FOUR_LOW {
+        0
+    } else {
+        codes_in_word(k) - 1
+    }
+}
+
+/// The next four residuals, where they are wanted, so many are left and the word shows them whole.
 #[inline(always)]
-fn next_four(near: &mut BitWindow, left: u32, k: u32) -> Option<(i32, i32, i32, i32)>
+fn next_four(
+    is_wanted: bool,
+    near: &mut BitWindow,
+    left: u32,
+    k: u32,
+) -> Option<(i32, i32, i32, i32)>
     ensures left { IfSome result (λ r. 4 ≤ left) }
     ensures read { IfSome result (λ r. times 4 (rice k) near.old ≡ Done (r.0 ∷ r.1 ∷ r.2 ∷ r.3 ∷ []) near.new) }
     ensures fits { IfSome result (λ r. FitsSigned w32 r.0 × FitsSigned w32 r.1 × FitsSigned w32 r.2 × FitsSigned w32 r.3) }
     ensures unchanged { IfNone result (near.new ≡ near.old) }
 {
-    if k > FOUR_LOW || left < 4 {
+    if !is_wanted || k > FOUR_LOW || left < 4 {
         return None;
     }
     let (a, b, c, d) = near.four(k)?;
@@ -105,10 +136,13 @@ fn read_rices(
     out.reserve(count as usize)?;
     // (only calls that are inlined are handed this window, so that it keeps to registers)
     let mut near = reader.window();
+    let mask = filled_before(true, k);
     let mut left = count;
     while left > 0 {
-        near.fill();
-        match next_four(&mut near, left, k) {
+        if left & mask == 0 {
+            near.fill();
+        }
+        match next_four(true, &mut near, left, k) {
             Some(four) => {
                 push_four(out, four);
                 left -= 4;
@@ -148,11 +182,15 @@ fn read_rices_by(
     restoring.samples.reserve(count as usize)?;
     let mut last = last_of(restoring.samples.as_slice());
     let mut near = reader.window();
+    let by_four = !is_linear || order <= FOUR_ORDER;
+    let mask = filled_before(by_four, k);
     let mut left = count;
     while left > 0 {
-        near.fill();
+        if left & mask == 0 {
+            near.fill();
+        }
         let samples = &mut restoring.samples;
-        let is_within = match next_four(&mut near, left, k) {
+        let is_within = match next_four(by_four, &mut near, left, k) {
             Some(four) => {
                 push_four(out, four);
                 left -= 4;

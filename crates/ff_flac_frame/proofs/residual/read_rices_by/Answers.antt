@@ -8,7 +8,7 @@ use Rattle.ff_flac_frame.specs.Frame.{rice}
 use Rattle.ff_flac_frame.proofs.Loops.{times_go_on, times_next}
 use Rattle.ff_flac_frame.proofs.RestoringLemmas.{Restores-more, newest_same}
 use Rattle.ff_flac_frame.proofs.residual.read_rices_by.Goals as goal
-use Rattle.ff_flac_frame.proofs.residual.read_rices_by.Goals.{in-Some, in-None+in_ok-value-in-None, Joined-next_four}
+use Rattle.ff_flac_frame.proofs.residual.read_rices_by.Goals.{in-Some, in-None+in_ok-value-in-None, Joined-next_four, then-left-mask-eq0, else-left-mask-eq0}
 
 -- what is read behind the residuals that were pushed
 reads_on : (c : Joined-next_four) → with_front c.match-next_four.out.items (times c.match-next_four.left (rice c.args.k) c.match-next_four.near)
@@ -16,18 +16,20 @@ reads_on : (c : Joined-next_four) → with_front c.match-next_four.out.items (ti
 reads_on c =
     let k : ℕ = c.args.k in
     let l = c.loop-left in
+    let filled : c.if-left-mask-eq0.near ≡ l.near =
+    elim c.if-left-mask-eq0.branch [ then-left-mask-eq0 w ↦ w.near-is ∙ w.fill.ensures | else-left-mask-eq0 w ↦ w.near-is ] in
     elim c.match-next_four.branch [
       | in-Some w ↦
           let four = w.in-Some.four in
           let xs : List ℤ = four.0 ∷ four.1 ∷ four.2 ∷ four.3 ∷ [] in
-          let read : times 4 (rice k) l.near ≡ Done xs c.next_four.new.near = ap (λ (bits : List Bool). times 4 (rice k) bits) (sym c.fill.ensures) ∙ w.in-Some.ensures.read in
+          let read : times 4 (rice k) l.near ≡ Done xs c.next_four.new.near = ap (λ (bits : List Bool). times 4 (rice k) bits) (sym filled) ∙ w.in-Some.ensures.read in
           let on = times_go_on (rice k) 4 l.left l.out.items l.near _ xs c.next_four.new.near w.in-Some.ensures.left read l.invariant.read in
           rw (w.out-is, w.push_four.ensures.items, w.left-is, w.near-is) on
       | in-None+in_ok-value-in-None w ↦
           let x : ℤ = w.in_ok-value-in-None.value in
           let o = w.in_ok-value-in-None.ensures in
           let fit : to_z w32 (of_z w32 x) ≡ x = to_z-of_z w32 x o.fits in
-          let same : c.next_four.new.near ≡ l.near = w.in-None.ensures.unchanged ∙ c.fill.ensures in
+          let same : c.next_four.new.near ≡ l.near = w.in-None.ensures.unchanged ∙ filled in
           let read : rice k l.near ≡ Done x w.next_rice.new.near = ap (λ (bits : List Bool). rice k bits) (sym same) ∙ o.reads in
           let on = times_next (rice k) l.left l.out.items l.near _ x w.next_rice.new.near c.loop-left-test.true read l.invariant.read in
           rw (w.out-is, w.push_reserved.ensures.items, fit, w.left-is, w.near-is) on
