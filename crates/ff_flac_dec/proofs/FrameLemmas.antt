@@ -55,6 +55,13 @@ depths_joint form channels bits le =
     ap (λ (b : Bool). cond b (replicate channels bits) (cond (eqb form 9) ((bits + 1) ∷ bits ∷ []) (bits ∷ (bits + 1) ∷ []))) (le-ltb form 8 le)
     ∙ (elim (eqb form 9) as (λ b. cond b ((bits + 1) ∷ bits ∷ []) (bits ∷ (bits + 1) ∷ []) ≡ cond b (bits + 1) bits ∷ cond b bits (bits + 1) ∷ []) [ true ↦ refl | false ↦ refl ])
 
+-- ---- one subframe
+
+pub only_part : (ss : List Subframe) (d : Subframe) → length ss ≡ 1 → d ≡ get_or ss 0 d → map part_of ss ≡ part_of d ∷ []
+only_part [] d one is = absurd cc
+only_part (s ∷ []) d one is = ap (λ (x : Subframe). part_of x ∷ []) (sym is)
+only_part (s ∷ t ∷ ss) d one is = absurd (omega arith)
+
 -- ---- two subframes
 
 pub pair_items : (ss : List Subframe) (d e : Subframe) → length ss ≡ 2 → ss ≡ get_or ss 0 d ∷ get_or ss 1 e ∷ []

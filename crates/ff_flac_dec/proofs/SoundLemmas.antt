@@ -1,12 +1,12 @@
 -- Channels, one after the other.
-use Rattle.std.proofs.Common.{◌≡◌, ℕ, suc, ◌+◌, ◌-◌, ◌<◌, List, [], ◌∷◌, ◌++◌, length, map, drop, get_or, sym, ap, ◌∙◌, append_assoc, arith}
-use Rattle.std.proofs.Common.{ℤ}
-use Rattle.std.proofs.lemmas.List.{drop_more}
+use Rattle.std.proofs.Common.{◌≡◌, ℕ, zero, suc, ◌+◌, ◌-◌, ◌<◌, List, [], ◌∷◌, ◌++◌, length, map, drop, get_or, sym, ap, ◌∙◌, append_assoc, arith}
+use Rattle.std.proofs.Common.{ℤ, pos}
+use Rattle.std.proofs.lemmas.List.{drop_more, drop_all}
 use Rattle.ff_flac_frame.specs.declared.subframe.Subframe.{Subframe}
 use Rattle.ff_flac_frame.specs.Frame.{Part}
 use Rattle.ff_flac_frame.specs.Parts.{part_of}
 use Rattle.ff_flac_frame.specs.Prediction.{AllInDepth}
-use Rattle.ff_flac_dec.specs.Channels.{sample_frame, interleaved_from, AllChannels}
+use Rattle.ff_flac_dec.specs.Channels.{sample_frame, interleaved_from, interleaved, AllChannels}
 
 pub next_part : (ss : List Subframe) (i : ℕ) (s : Subframe) → i < length ss → s ≡ get_or ss i s → map part_of (drop i ss) ≡ part_of s ∷ map part_of (drop (i + 1) ss)
 next_part ss i s lt is =
@@ -30,3 +30,13 @@ interleave_goes_on channels block place out new total lt e so_far =
 pub two_go_on : (channels : List (List ℤ)) (block place : ℕ) (out total : List ℤ) (x y : ℤ) → place < block → sample_frame channels place ≡ x ∷ y ∷ [] → out ++ interleaved_from channels (block - place) place ≡ total → ((out ++ x ∷ []) ++ y ∷ []) ++ interleaved_from channels (block - (place + 1)) (place + 1) ≡ total
 two_go_on channels block place out total x y lt e so_far =
     interleave_goes_on channels block place out ((out ++ x ∷ []) ++ y ∷ []) total lt (append_assoc out (x ∷ []) (y ∷ []) ∙ ap (λ (m : List ℤ). out ++ m) (sym e)) so_far
+
+-- one channel is its own list of sample frames
+one_from : (xs : List ℤ) (n t : ℕ) → t + n ≡ length xs → interleaved_from (xs ∷ []) n t ≡ drop t xs
+one_from xs zero t e = sym (drop_all t xs (omega (arith, e)))
+one_from xs (suc n) t e =
+    ap (λ (ys : List ℤ). sample_frame (xs ∷ []) t ++ ys) (one_from xs n (t + 1) (omega (arith, e))) ∙ sym (drop_more xs t (pos 0) (omega (arith, e)))
+
+pub interleaved_one : (block : ℕ) (xs : List ℤ) → length xs ≡ block → interleaved block (xs ∷ []) ≡ xs
+unfolding interleaved
+interleaved_one block xs len = one_from xs block 0 (omega (arith, len))

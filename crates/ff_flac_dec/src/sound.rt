@@ -73,6 +73,10 @@ fn separate(
     ensures within { IfOk result (λ _. AllChannels depth (map (channel_samples block) (map part_of subframes.now))) }
     ensures out { IsErrOf result DecodeEnd.OutOfDepth → AllByRecursion (IsCoded block depth) (map part_of subframes.now) → ⊥ }
 {
+    // One channel is its own list of sample frames.
+    if let [only] = subframes {
+        return samples_of(alloc, only, block, depth);
+    }
     let [first, second] = subframes else {
         return separate_of_copies(alloc, subframes, block, depth);
     };

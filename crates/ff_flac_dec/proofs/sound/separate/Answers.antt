@@ -8,8 +8,24 @@ use Rattle.ff_flac_frame.specs.Parts.{part_of}
 use Rattle.ff_flac_dec.specs.Values.{channel_samples}
 use Rattle.ff_flac_dec.specs.Channels.{interleaved}
 use Rattle.ff_flac_dec.proofs.ChannelLemmas.{length-channel}
-use Rattle.ff_flac_dec.proofs.FrameLemmas.{pair_parts}
+use Rattle.ff_flac_dec.proofs.SoundLemmas.{interleaved_one}
+use Rattle.ff_flac_dec.proofs.FrameLemmas.{only_part, pair_parts}
 use Rattle.ff_flac_dec.proofs.sound.separate.Goals as goal
+
+pub samples_of-requires-clause-part : goal.samples_of-requires-clause-part
+samples_of-requires-clause-part c =
+    let e = only_part c.args.subframes.now c.only-item.result (omega (arith, c.in-len1.len_at_least, c.in-len1.len_below)) c.only-item.is in
+    (subst (λ (ps : List Part). AllByRecursion (IsPart c.args.block c.args.depth) ps) e c.requires.parts).0
+
+pub returns-in-len1-clause-ok : goal.returns-in-len1-clause-ok
+returns-in-len1-clause-ok c =
+    let block = c.args.block in
+    let e = only_part c.args.subframes.now c.only-item.result (omega (arith, c.in-len1.len_at_least, c.in-len1.len_below)) c.only-item.is in
+    let parts = subst (λ (ps : List Part). AllByRecursion (IsPart block c.args.depth) ps) e c.requires.parts in
+    let xs : List ℤ = channel_samples block (part_of c.only-item.result) in
+    let alone : interleaved block (xs ∷ []) ≡ xs = interleaved_one block xs (length-channel block c.args.depth (part_of c.only-item.result) parts.0) in
+    subst (λ (ps : List Part). IfOk c.samples_of.result (λ v. v.items ≡ interleaved block (map (channel_samples block) ps))) (sym e)
+    (subst (λ (zs : List ℤ). IfOk c.samples_of.result (λ v. v.items ≡ zs)) (sym alone) c.samples_of.ensures.ok)
 
 pub interleave_two-requires : goal.interleave_two-requires
 interleave_two-requires c =
