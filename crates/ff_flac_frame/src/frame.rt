@@ -1,7 +1,8 @@
 ghost use Rattle.std.specs.Prelude.{◌≡◌, ℕ, ◌<◌, ◌≤◌, ◌^◌, IfOk, IfErr, IsErrOf, EachIndex, slice_index, map, length};
 ghost use Rattle.ff_bits.specs.Bits.{bits};
+ghost use Rattle.ff_bits.specs.Reading.{Done};
 ghost use Rattle.ff_flac_frame.specs.Codes.{depths};
-ghost use Rattle.ff_flac_frame.specs.Frame.{IsStream, sealed_header, unpadded, padded, frame, subframes, Begins, IsNotYet, IsNever};
+ghost use Rattle.ff_flac_frame.specs.Frame.{IsStream, Frame, sealed_header, unpadded, frame, subframes, Begins, IsNotYet, IsNever};
 ghost use Rattle.ff_flac_frame.specs.Gives.{Gives};
 ghost use Rattle.ff_flac_frame.specs.Parts.{header_of, part_of, read_of, frame_of};
 
@@ -37,7 +38,7 @@ struct Body {
 }
 
 #[tactic(auto, unfolding(crate::specs::Codes::depths))]
-fn depths_of(alloc: Global, form: u8, channels: u8, bits: u8) -> Result<Vec<u32>, FrameEnd>
+pub fn depths_of(alloc: Global, form: u8, channels: u8, bits: u8) -> Result<Vec<u32>, FrameEnd>
     requires low { 2 ≤ bits }
     requires high { bits ≤ 31 }
     ensures list { IfOk result (λ v. v.items ≡ depths form channels bits) }
@@ -72,7 +73,11 @@ fn read_subframes(
     Ok(parts)
 }
 
-fn read_head(reader: &mut BitReader, bytes: &[u8], stream: &FlacStream) -> Result<Header, FrameEnd>
+pub fn read_head(
+    reader: &mut BitReader,
+    bytes: &[u8],
+    stream: &FlacStream,
+) -> Result<Header, FrameEnd>
     requires start { reader.old ≡ bits bytes.now }
     requires stream { IsStream stream.now }
     ensures { Gives header_of result (sealed_header stream.now reader.old) reader.new }
@@ -102,21 +107,18 @@ fn read_unpadded(
     Ok(Body { header, parts })
 }
 
-fn read_padded(
-    alloc: Global,
-    reader: &mut BitReader,
-    bytes: &[u8],
-    stream: &FlacStream,
-    restores: bool,
-) -> Result<Body, FrameEnd>
-    requires start { reader.old ≡ bits bytes.now }
+/// What stands behind the subframes: the zeros that fill the last byte, and the sum over all of the frame.
+pub fn read_end(reader: &mut BitReader, bytes: &[u8], stream: &FlacStream) -> Result<(), FrameEnd>
     requires stream { IsStream stream.now }
-    ensures { Gives read_of result (padded stream.now reader.old) reader.new }
+    requires body { (f : Frame) × (unpadded stream.now (bits bytes.now) ≡ Done f reader.old) }
+    ensures { (f : Frame) → unpadded stream.now (bits bytes.now) ≡ Done f reader.old → Gives (λ _. f) result (frame stream.now (bits bytes.now)) reader.new }
 {
-    let read = read_unpadded(alloc, reader, bytes, stream, restores)?;
     let pad = reader.bits_to_byte();
     let _zeros = read_field(reader, pad, Rule::Equal(0))?;
-    Ok(read)
+    let len = bytes.len() - reader.bytes_left();
+    let sum = crc16(&bytes[..len]);
+    let _sum = read_field(reader, 16, Rule::Equal(sum as u64))?;
+    Ok(())
 }
 
 fn read_frame(
@@ -130,10 +132,8 @@ fn read_frame(
     requires stream { IsStream stream.now }
     ensures { Gives read_of result (frame stream.now reader.old) reader.new }
 {
-    let read = read_padded(alloc, reader, bytes, stream, restores)?;
-    let len = bytes.len() - reader.bytes_left();
-    let sum = crc16(&bytes[..len]);
-    let _sum = read_field(reader, 16, Rule::Equal(sum as u64))?;
+    let read = read_unpadded(alloc, reader, bytes, stream, restores)?;
+    read_end(reader, bytes, stream)?;
     Ok(read)
 }
 
