@@ -3,8 +3,8 @@ use Rattle.std.proofs.Common.{◌≡◌, ℕ, ◌-◌, ◌^◌, ◌<◌, ◌≤�
 use Rattle.std.proofs.lemmas.List.{take_all, length-take}
 use Rattle.std.proofs.Math.Nat.{pow-le-pow_right}
 use Rattle.ff_bits.specs.Bits.{value_of}
-use Rattle.ff_bits.specs.Reading.{Answer, Done, More, Bad, Reader, on, give, times, some, field}
-use Rattle.ff_flac_frame.proofs.Loops.{with_front, skip_more, skip_bad, times_more, times_bad}
+use Rattle.ff_bits.specs.Reading.{Answer, Done, More, Bad, Reader, times, some, field}
+use Rattle.ff_flac_frame.proofs.Loops.{with_front, times_more, times_bad}
 use Rattle.ff_flac_frame.specs.declared.end.FrameEnd.{FrameEnd}
 use Rattle.ff_flac_frame.specs.declared.end.FrameEnd.TheVariants.{NotYet, Never, NoMemory}
 use Rattle.ff_flac_frame.specs.Gives.{Fails}
@@ -45,11 +45,6 @@ module _ (n : ℕ) (p : ℕ → Bool) (bits : List Bool) (v : ℕ) where
       omega arith
 
 -- ---- loops that end early
-
-pub skip_fails : {A B : Type 0} (e : FrameEnd) (r : Reader A) (x : B) (count i : ℕ) (bits : List Bool) (total : Answer B) → i < count → Fails e (r bits) → on (times (count - i) r bits) (λ _. give x) ≡ total → Fails e total
-skip_fails NotYet r x count i bits total lt h so_far = skip_more r x count i bits total lt h so_far
-skip_fails Never r x count i bits total lt h so_far = skip_bad r x count i bits total lt h so_far
-skip_fails NoMemory r x count i bits total lt h so_far = tt
 
 pub times_fails : {A : Type 0} (e : FrameEnd) (r : Reader A) (front : List A) (count i : ℕ) (bits : List Bool) (total : Answer (List A)) → i < count → Fails e (r bits) → with_front front (times (count - i) r bits) ≡ total → Fails e total
 times_fails NotYet r front count i bits total lt h so_far = times_more r front count i bits total lt h so_far

@@ -9,6 +9,7 @@ pub mod Whole
 pub mod FieldLemmas
 pub mod RiceLemmas
 pub mod ResidualLemmas
+pub mod PassedLemmas
 pub mod Seals
 pub mod LawLemmas
 mod TypeLemmas

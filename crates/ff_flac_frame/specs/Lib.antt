@@ -7,6 +7,7 @@ pub mod Facts
 pub mod Rules
 pub mod Gives
 pub mod Front
+pub mod Passed
 pub mod Parts
 pub mod Restoring
 pub mod Restored

@@ -2,7 +2,7 @@
 //!
 //! `specs/Frame` says what a frame is: readers on the list of an input's bits, one for each part of the grammar, with
 //! three answers: a value, more bits may make one, no bits will. `specs/Facts` says what holds of each frame.
-//! `frame_at` reads the frame that begins some bytes.
+//! `frame_at` reads the frame that begins some bytes, and `frame_size_at` only how long it is: that one keeps no residual.
 //!
 //! `specs/Prediction` says how a sample is predicted from those before it. `restored_frame_at` reads the same frame, and restores
 //! its samples in the loop that reads their residuals: there the processor waits for the place of the next code, and works on a
@@ -17,11 +17,13 @@ mod header;
 mod laws;
 mod linear;
 mod number;
+mod passing;
 mod predictor;
 mod reading;
 mod residual;
 mod rule;
 mod sequence;
+mod size;
 mod stream;
 mod subframe;
 
@@ -33,5 +35,6 @@ pub use laws::{
 };
 pub use linear::next_linear;
 pub use sequence::Sequence;
+pub use size::{FrameSize, frame_size_at};
 pub use stream::FlacStream;
 pub use subframe::{SubKind, Subframe};

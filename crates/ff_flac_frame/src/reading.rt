@@ -19,7 +19,7 @@ use crate::subframe::{SubKind, Subframe};
 use ff_bits::BitReader;
 use std::alloc::Global;
 
-fn samples(
+pub fn samples(
     alloc: Global,
     reader: &mut BitReader,
     count: u32,
@@ -52,7 +52,7 @@ fn residuals(
 }
 
 #[tactic(auto, unfolding(crate::specs::Frame::wasted_bits))]
-fn read_wasted(reader: &mut BitReader, depth: u32) -> Result<u32, FrameEnd>
+pub fn read_wasted(reader: &mut BitReader, depth: u32) -> Result<u32, FrameEnd>
     requires { 2 ≤ depth }
     ensures reads { Gives (λ v. v) result (wasted_bits depth reader.old) reader.new }
     ensures below { IfOk result (λ k. k < depth) }
@@ -98,7 +98,7 @@ fn kind_from(code: u64) -> SubKind
 
 /// How many samples stand before the residuals, or in their place.
 #[tactic(auto, unfolding(crate::specs::Codes::warm_count))]
-fn count_warm(block: u32, code: u64) -> u32
+pub fn count_warm(block: u32, code: u64) -> u32
     requires { code < 64 }
     ensures { result ≡ warm_count block code }
 {
@@ -111,7 +111,7 @@ fn count_warm(block: u32, code: u64) -> u32
     }
 }
 
-fn predictor_of(
+pub fn predictor_of(
     alloc: Global,
     reader: &mut BitReader,
     code: u64,

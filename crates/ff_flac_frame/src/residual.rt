@@ -54,7 +54,7 @@ const FOUR_ORDER: usize = 2;
 
 /// The word is filled up where the number of codes that are left has none of these bits: before each four that are read at once,
 /// and else before as many as it mostly holds.
-fn filled_before(by_four: bool, k: u32) -> u32 {
+pub fn filled_before(by_four: bool, k: u32) -> u32 {
     if by_four && k <= FOUR_LOW {
         0
     } else {
@@ -64,7 +64,7 @@ fn filled_before(by_four: bool, k: u32) -> u32 {
 
 /// The next four residuals, where they are wanted, so many are left and the word shows them whole.
 #[inline(always)]
-fn next_four(
+pub fn next_four(
     is_wanted: bool,
     near: &mut BitWindow,
     left: u32,
@@ -103,7 +103,7 @@ fn push_four(out: &mut Vec<i32>, four: (i32, i32, i32, i32))
 
 /// The next residual, from the word if that shows it whole.
 #[inline(always)]
-fn next_rice<'a>(
+pub fn next_rice<'a>(
     reader: &mut BitReader<'a>,
     near: &mut BitWindow<'a>,
     k: u32,
