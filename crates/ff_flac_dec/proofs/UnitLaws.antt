@@ -84,7 +84,7 @@ pub other_some : (s : FlacStream) → IsStream s → (bs : List ℕ) → unit s 
 unfolding bits
 other_some s i bs e n = absurd ((IsSound-frame s i).opens (ap (λ xs. frame s (bits xs)) (sym n) ∙ other_bad s bs e))
 
--- what `frame_at` answers
+-- what `frame_size_at` answers
 pub wait_is : (s : FlacStream) → IsStream s → (bs : List ℕ) → IsNotYet s bs → Wait ≡ unit s bs
 wait_is s i bs h = by_answer (frame s (bits bs)) refl
   where

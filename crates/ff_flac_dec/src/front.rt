@@ -2,7 +2,7 @@ ghost use Rattle.std.specs.Prelude.{◌≡◌, ◌≤◌, ℕ, length, IfOk};
 ghost use Rattle.ff_flac_frame.specs.Frame.{IsStream};
 ghost use Rattle.ff_flac_dec.specs.Packets.{unit};
 
-use ff_flac_frame::{FlacStream, FrameEnd, frame_at};
+use ff_flac_frame::{FlacStream, FrameEnd, frame_size_at};
 use std::alloc::{AllocError, Global};
 
 /// What some bytes begin with.
@@ -26,8 +26,8 @@ pub(crate) fn front_of(
     ensures exact { IfOk result (λ found. found ≡ unit stream.now bytes.now) }
     ensures bounds { (len block : ℕ) → result ≡ Ok (Front.Whole len block) → (8 ≤ len) × (len ≤ length bytes.now) × (1 ≤ block) × (block ≤ 65535) }
 {
-    match frame_at(alloc, bytes, stream) {
-        Ok(frame) => Ok(Front::Whole(frame.len, frame.block)),
+    match frame_size_at(alloc, bytes, stream) {
+        Ok(size) => Ok(Front::Whole(size.len, size.block)),
         Err(FrameEnd::NotYet) => Ok(Front::Wait),
         Err(FrameEnd::Never) => Ok(Front::Other),
         Err(FrameEnd::NoMemory) => Err(AllocError),
