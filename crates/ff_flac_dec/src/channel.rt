@@ -8,7 +8,7 @@ ghost use Rattle.ff_flac_dec.specs.Values.{coded_samples, channel_samples};
 use crate::depth::{all_fit, power};
 use crate::end::DecodeEnd;
 use crate::fixed::restore_fixed;
-use crate::linear::restore_linear;
+use crate::linear::restore_by_linear;
 use ff_flac_frame::{SubKind, Subframe};
 use std::alloc::Global;
 
@@ -71,7 +71,7 @@ fn without_wasted(
             subframe.warm.as_slice(),
             subframe.rest.as_slice(),
         ),
-        SubKind::Lpc => restore_linear(
+        SubKind::Lpc => restore_by_linear(
             alloc,
             subframe.coefs.as_slice(),
             subframe.shift as u32,

@@ -4,7 +4,7 @@ ghost use Rattle.ff_flac_frame.specs.Parts.{frame_of};
 ghost use Rattle.ff_flac_dec.specs.Streams.{stream_of};
 
 use crate::head::FlacHead;
-use ff_flac_frame::{FlacFrame, FrameEnd, restored_frame_at};
+use ff_flac_frame::{FlacFrame, FrameEnd};
 use std::alloc::Global;
 
 /// The frame that begins the bytes, in an input with this head (RFC 9639, section 9). A frame has the head's rate, depth and
@@ -19,5 +19,5 @@ pub fn frame_at(alloc: Global, bytes: &[u8], head: &FlacHead) -> Result<FlacFram
     ensures never { IsErrOf result FrameEnd.Never → IsNever (stream_of head.now.head) bytes.now }
 {
     let stream = head.stream();
-    restored_frame_at(alloc, bytes, &stream)
+    ff_flac_frame::frame_at(alloc, bytes, &stream)
 }

@@ -1,7 +1,8 @@
 -- Residuals, put behind what was read before.
-use Rattle.std.proofs.Common.{◌≡◌, ℕ, suc, ◌+◌, ◌-◌, ◌<◌, ◌≤◌, ◌/◌, ◌^◌, Bool, List, [], ◌++◌, refl, sym, ap, ◌∙◌, append_assoc, arith, true}
+use Rattle.std.proofs.Common.{◌≡◌, ℕ, suc, ◌+◌, ◌-◌, ◌<◌, ◌≤◌, ◌/◌, ◌^◌, Bool, List, [], ◌++◌, refl, sym, ap, ◌∙◌, append_assoc, drop, length, subst, arith, true}
 use Rattle.std.specs.Prelude.{ℤ}
 use Rattle.std.proofs.lemmas.List.{append-nil}
+use Rattle.std.proofs.Math.Seq.{drop-append_seam}
 use Rattle.std.proofs.lemmas.Bool.{and_parts, leb-true}
 use Rattle.ff_bits.specs.Reading.{Answer, Done, More, Bad, Reader, on, give}
 use Rattle.ff_flac_frame.specs.declared.end.FrameEnd.{FrameEnd}
@@ -57,3 +58,17 @@ pub with_front-nil : {A : Type 0} (v : Answer (List A)) → with_front [] v ≡ 
 with_front-nil (Done xs rest) = refl
 with_front-nil More = refl
 with_front-nil Bad = refl
+
+values_or : {A : Type 0} → A → Answer A → A
+values_or none (Done xs rest) = xs
+values_or none More = none
+values_or none Bad = none
+
+-- what was read before stays at the front
+pub front_stays : {A : Type 0} (front ys : List A) (v : Answer (List A)) (after : List Bool) → with_front front v ≡ Done ys after → front ++ drop (length front) ys ≡ ys
+unfolding values_or
+front_stays front ys (Done xs rest) after e =
+    let same : front ++ xs ≡ ys = ap (values_or ys) e in
+    subst (λ (zs : _). front ++ drop (length front) zs ≡ zs) same (ap (λ (zs : _). front ++ zs) (drop-append_seam front xs))
+front_stays front ys More after e = let k : More ≡ Done ys after = e in cc
+front_stays front ys Bad after e = let k : Bad ≡ Done ys after = e in cc

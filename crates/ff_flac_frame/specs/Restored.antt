@@ -14,7 +14,8 @@ IsRestored Fixed order coefs shift warm rest samples = samples ≡ restored (fix
 IsRestored Lpc order coefs shift warm rest samples = samples ≡ restored (linear coefs shift) warm rest
 
 -- there is one proof of it at most
-pub IsRestored-prop : (b : Bool) (kind : SubKind) (order : ℕ) (coefs : List ℤ) (shift : ℕ) (warm rest samples : List ℤ) → IsProp (b ≡ true → IsRestored kind order coefs shift warm rest samples)
+pub IsRestored-prop : (b : Bool) (kind : SubKind) (order : ℕ) (coefs : List ℤ) (shift : ℕ) (warm rest samples : List ℤ)
+    → IsProp (b ≡ true → IsRestored kind order coefs shift warm rest samples)
 IsRestored-prop b Constant order coefs shift warm rest samples = hlevel
 IsRestored-prop b Verbatim order coefs shift warm rest samples = hlevel
 IsRestored-prop b Fixed order coefs shift warm rest samples = hlevel (List-set ℤ_set)

@@ -60,14 +60,13 @@ fn read_subframes(
     reader: &mut BitReader,
     block: u32,
     depths: &[u32],
-    restores: bool,
 ) -> Result<Vec<Subframe>, FrameEnd>
     requires { EachIndex depths.now (λ k. (2 ≤ slice_index depths.now k) × (slice_index depths.now k ≤ 32)) }
     ensures { Gives (λ v. map part_of v.items) result (subframes block depths.now reader.old) reader.new }
 {
     let mut parts = Vec::new(alloc);
     for depth in depths {
-        let part = read_subframe(alloc, reader, block, *depth, restores)?;
+        let part = read_subframe(alloc, reader, block, *depth)?;
         parts.push(part)?;
     }
     Ok(parts)
@@ -95,7 +94,6 @@ fn read_unpadded(
     reader: &mut BitReader,
     bytes: &[u8],
     stream: &FlacStream,
-    restores: bool,
 ) -> Result<Body, FrameEnd>
     requires start { reader.old ≡ bits bytes.now }
     requires stream { IsStream stream.now }
@@ -103,7 +101,7 @@ fn read_unpadded(
 {
     let header = read_head(reader, bytes, stream)?;
     let depths = depths_of(alloc, header.form, stream.channels, stream.bits)?;
-    let parts = read_subframes(alloc, reader, header.block, depths.as_slice(), restores)?;
+    let parts = read_subframes(alloc, reader, header.block, depths.as_slice())?;
     Ok(Body { header, parts })
 }
 
@@ -126,38 +124,14 @@ fn read_frame(
     reader: &mut BitReader,
     bytes: &[u8],
     stream: &FlacStream,
-    restores: bool,
 ) -> Result<Body, FrameEnd>
     requires start { reader.old ≡ bits bytes.now }
     requires stream { IsStream stream.now }
     ensures { Gives read_of result (frame stream.now reader.old) reader.new }
 {
-    let read = read_unpadded(alloc, reader, bytes, stream, restores)?;
+    let read = read_unpadded(alloc, reader, bytes, stream)?;
     read_end(reader, bytes, stream)?;
     Ok(read)
-}
-
-/// The frame that begins the bytes, with samples that were restored where that is wanted.
-fn frame_with(
-    alloc: Global,
-    bytes: &[u8],
-    stream: &FlacStream,
-    restores: bool,
-) -> Result<FlacFrame, FrameEnd>
-    requires { IsStream stream.now }
-    ensures ok { IfOk result (λ f. (number : ℕ) × Begins stream.now bytes.now (frame_of number f) f.len) }
-    ensures not_yet { IsErrOf result FrameEnd.NotYet → IsNotYet stream.now bytes.now }
-    ensures never { IsErrOf result FrameEnd.Never → IsNever stream.now bytes.now }
-{
-    let mut reader = BitReader::new(bytes);
-    let Body { header, parts } = read_frame(alloc, &mut reader, bytes, stream, restores)?;
-    let len = bytes.len() - reader.bytes_left();
-    Ok(FlacFrame {
-        len,
-        block: header.block,
-        form: header.form,
-        subframes: Sequence::of(parts),
-    })
 }
 
 /// The frame that begins the bytes, in a stream of this kind. A frame has the stream's rate, depth and channels.
@@ -170,19 +144,13 @@ pub fn frame_at(alloc: Global, bytes: &[u8], stream: &FlacStream) -> Result<Flac
     // None does, whatever follows.
     ensures never { IsErrOf result FrameEnd.Never → IsNever stream.now bytes.now }
 {
-    frame_with(alloc, bytes, stream, false)
-}
-
-/// The same. Its samples are restored while its residuals are read, which takes less time than doing so afterwards.
-pub fn restored_frame_at(
-    alloc: Global,
-    bytes: &[u8],
-    stream: &FlacStream,
-) -> Result<FlacFrame, FrameEnd>
-    requires { IsStream stream.now }
-    ensures ok { IfOk result (λ f. (number : ℕ) × Begins stream.now bytes.now (frame_of number f) f.len) }
-    ensures not_yet { IsErrOf result FrameEnd.NotYet → IsNotYet stream.now bytes.now }
-    ensures never { IsErrOf result FrameEnd.Never → IsNever stream.now bytes.now }
-{
-    frame_with(alloc, bytes, stream, true)
+    let mut reader = BitReader::new(bytes);
+    let Body { header, parts } = read_frame(alloc, &mut reader, bytes, stream)?;
+    let len = bytes.len() - reader.bytes_left();
+    Ok(FlacFrame {
+        len,
+        block: header.block,
+        form: header.form,
+        subframes: Sequence::of(parts),
+    })
 }

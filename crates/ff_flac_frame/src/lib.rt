@@ -4,9 +4,10 @@
 //! three answers: a value, more bits may make one, no bits will. `specs/Facts` says what holds of each frame.
 //! `frame_at` reads the frame that begins some bytes, and `frame_size_at` only how long it is: that one keeps no residual.
 //!
-//! `specs/Prediction` says how a sample is predicted from those before it. `restored_frame_at` reads the same frame, and restores
-//! its samples in the loop that reads their residuals: there the processor waits for the place of the next code, and works on a
-//! sample meanwhile. `specs/Restored` says what a subframe says of such samples.
+//! `specs/Prediction` says how a sample is predicted from those before it. `frame_at` restores a subframe's samples too: by a
+//! predictor that looks back two samples at most in the loop that reads their residuals, since there the processor waits for the
+//! place of the next code and works on a sample meanwhile, and by a longer one partition after partition. `specs/Restored` says
+//! what a subframe says of such samples.
 #![tactic(auto)]
 
 mod end;
@@ -29,11 +30,11 @@ mod subframe;
 
 pub use end::FrameEnd;
 pub use fixed::{is_in_depth, last_of, next_fixed};
-pub use frame::{FlacFrame, frame_at, restored_frame_at};
+pub use frame::{FlacFrame, frame_at};
 pub use laws::{
     frames_are_apart, frames_are_in_shape, subframe_types_are_the_table, what_follows_is_no_matter,
 };
-pub use linear::next_linear;
+pub use linear::{restore_linear, widened};
 pub use sequence::Sequence;
 pub use size::{FrameSize, frame_size_at};
 pub use stream::FlacStream;

@@ -11,11 +11,12 @@ use crate::end::FrameEnd;
 use crate::field::read_field;
 use crate::number::read_sample;
 use crate::reading::{count_warm, predictor_of, read_wasted, samples};
-use crate::residual::{filled_before, next_four, next_rice};
+use crate::residual::{fill_mask, next_four, next_rice};
 use crate::rule::{Rule, order_from};
 use ff_bits::BitReader;
 use std::alloc::Global;
 
+/// Passes so many samples of one depth.
 fn pass_samples(reader: &mut BitReader, count: u32, depth: u32) -> Result<(), FrameEnd>
     requires { depth ≤ 32 }
     ensures { Gives (λ _. tt) result (passed (times count (sample depth)) reader.old) reader.new }
@@ -33,13 +34,13 @@ fn pass_rices(reader: &mut BitReader, count: u32, k: u32) -> Result<(), FrameEnd
 {
     // (only calls that are inlined are handed this window, so that it keeps to registers)
     let mut near = reader.window();
-    let mask = filled_before(true, k);
+    let mask = fill_mask(k);
     let mut left = count;
     while left > 0 {
         if left & mask == 0 {
             near.fill();
         }
-        match next_four(true, &mut near, left, k) {
+        match next_four(&mut near, left, k) {
             Some(_) => left -= 4,
             None => {
                 next_rice(reader, &mut near, k)?;
@@ -98,6 +99,7 @@ fn pass_rest(reader: &mut BitReader, block: u32, code: u64) -> Result<(), FrameE
     pass_residual(reader, block, order_from(code) as u32)
 }
 
+/// Passes a subframe.
 #[tactic(auto, unfolding(crate::specs::Frame::subframe))]
 pub fn pass_subframe(
     alloc: Global,

@@ -1,14 +1,15 @@
 //! Predictors, and what restores samples while their residuals are read.
 
-ghost use Rattle.std.specs.Prelude.{◌≡◌, ◌≤◌, ◌+◌, ◌+ℤ◌, IfOk, IfErr, IsTrue, ◌↔◌, [], ◌∷◌, FitsSigned, vec_len, vec_capacity};
+ghost use Rattle.std.specs.Prelude.{◌≡◌, ◌≤◌, ◌+◌, ◌+ℤ◌, ◌++◌, List, ℤ, true, IfOk, OnOk, IfErr, IsTrue, ◌↔◌, [], ◌∷◌, FitsSigned, vec_len, vec_capacity};
 ghost use Rattle.std.specs.Int.{w64};
 ghost use Rattle.ff_flac_frame.specs.Prediction.{ago, restored, AllInDepth};
 ghost use Rattle.ff_flac_frame.specs.Restoring.{predicted, IsLinear, IsPredictor, IsReady, Follows};
 
 use crate::end::FrameEnd;
 use crate::fixed::{is_in_depth, next_fixed};
-use crate::linear::next_linear;
+use crate::linear::{next_linear, restore_linear};
 use std::alloc::Global;
+use std::mem::try_take;
 
 /// By what samples are predicted from those before them (RFC 9639, sections 9.2.5 and 9.2.6).
 #[derive(Drop)]
@@ -18,7 +19,7 @@ pub struct Predictor<'a> {
     /// How many samples it looks back.
     pub order: usize,
     /// The coefficients of a linear one, the nearest sample's first.
-    pub coefs: &'a [i32],
+    pub coefs: &'a [i64],
     /// How far a linear prediction is shifted right.
     pub shift: u32,
     /// The warm-up samples, which stand before those that it predicts.
@@ -132,6 +133,18 @@ fn all_in_depth(depth: u32, xs: &[i32]) -> bool
     true
 }
 
+/// Whether each coefficient is within the greatest precision.
+fn are_coefficients(coefs: &[i64]) -> bool
+    ensures { IsTrue result ↔ AllInDepth 15 coefs.now }
+{
+    for c in coefs {
+        if !is_in_depth(15, *c) {
+            return false;
+        }
+    }
+    true
+}
+
 /// Whether it is one of the format's linear predictors.
 fn is_linear_predictor(predictor: &Predictor) -> bool
     ensures { IsTrue result ↔ IsLinear predictor.now }
@@ -139,7 +152,7 @@ fn is_linear_predictor(predictor: &Predictor) -> bool
     predictor.order == predictor.coefs.len()
         && predictor.order <= 32
         && predictor.shift <= 15
-        && all_in_depth(15, predictor.coefs)
+        && are_coefficients(predictor.coefs)
 }
 
 /// Whether it is a predictor of the format, and looks back no further than these samples.
@@ -178,4 +191,27 @@ pub fn start_restoring(
         is_on: false,
         samples: Vec::new(alloc),
     })
+}
+
+/// Restores the samples of further residuals by a linear predictor, as long as none leaves 25 bits.
+pub fn restore_behind(
+    predictor: &Predictor,
+    restoring: &mut Restoring,
+    rest: &[i32],
+) -> Result<(), FrameEnd>
+    requires linear { predictor.now.is_linear ≡ true }
+    requires follows { (before : List ℤ) × Follows predictor.now restoring.old before }
+    ensures follows { OnOk result ((before : List ℤ) → Follows predictor.now restoring.old before → Follows predictor.now restoring.new (before ++ rest.now)) }
+    ensures memory { IfErr result (λ e. e ≡ FrameEnd.NoMemory) }
+{
+    if !restoring.is_on {
+        return Ok(());
+    }
+    restoring.samples.reserve(rest.len())?;
+    let samples = try_take(&mut restoring.samples)?;
+    match restore_linear(predictor.coefs, predictor.shift, 25, samples, rest) {
+        Some(samples) => restoring.samples = samples,
+        None => restoring.is_on = false,
+    }
+    Ok(())
 }

@@ -10,6 +10,7 @@ ghost use Rattle.ff_flac_frame.specs.Restoring.{Follows};
 
 use crate::end::FrameEnd;
 use crate::field::read_field;
+use crate::linear::widened;
 use crate::number::read_zeros;
 use crate::predictor::{Predictor, Restoring, start_restoring};
 use crate::residual::{read_residual, read_samples};
@@ -19,6 +20,7 @@ use crate::subframe::{SubKind, Subframe};
 use ff_bits::BitReader;
 use std::alloc::Global;
 
+/// So many samples of one depth.
 pub fn samples(
     alloc: Global,
     reader: &mut BitReader,
@@ -160,25 +162,24 @@ fn read_rest(
     block: u32,
     code: u64,
     predictor: &Predictor,
-    restores: bool,
 ) -> Result<Rest, FrameEnd>
     requires small { code < 64 }
     requires order { order_of code ≤ block }
     ensures reads { Gives (λ r. r.rest.items) result ((if nat_lt code 2 then give [] else residual block (order_of code)) reader.old) reader.new }
     ensures follows { IfOk result (λ r. Follows predictor.now r.restored r.rest.items) }
 {
-    let mut restored = start_restoring(alloc, restores && code >= 2, predictor, block as usize)?;
+    let mut restored = start_restoring(alloc, code >= 2, predictor, block as usize)?;
     let rest = residuals_of(alloc, reader, block, code, predictor, &mut restored)?;
     Ok(Rest { rest, restored })
 }
 
+/// A subframe, and its samples where they can be restored as its residuals are read.
 #[tactic(auto, unfolding(crate::specs::Frame::subframe))]
 pub fn read_subframe(
     alloc: Global,
     reader: &mut BitReader,
     block: u32,
     depth: u32,
-    restores: bool,
 ) -> Result<Subframe, FrameEnd>
     requires low { 2 ≤ depth }
     requires high { depth ≤ 32 }
@@ -189,14 +190,15 @@ pub fn read_subframe(
     let wasted = read_wasted(reader, depth)?;
     let warm = samples(alloc, reader, count_warm(block, code), depth - wasted)?;
     let (shift, coefs) = predictor_of(alloc, reader, code)?;
+    let wide = widened(alloc, coefs.as_slice())?;
     let predictor = Predictor {
         is_linear: code >= 32,
         order: order_from(code) as usize,
-        coefs: coefs.as_slice(),
+        coefs: wide.as_slice(),
         shift,
         warm: warm.as_slice(),
     };
-    let Rest { rest, restored } = read_rest(alloc, reader, block, code, &predictor, restores)?;
+    let Rest { rest, restored } = read_rest(alloc, reader, block, code, &predictor)?;
     Ok(Subframe {
         wasted: wasted as u8,
         kind: kind_from(code),

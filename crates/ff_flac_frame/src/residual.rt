@@ -12,7 +12,7 @@ use crate::end::FrameEnd;
 use crate::field::read_field;
 use crate::fixed::last_of;
 use crate::number::{read_rice, read_sample, rice_of, short_rice};
-use crate::predictor::{Predictor, Restoring, restore_four, restore_next};
+use crate::predictor::{Predictor, Restoring, restore_behind, restore_four, restore_next};
 use crate::rule::Rule;
 use ff_bits::{BitReader, BitWindow};
 
@@ -48,34 +48,25 @@ fn codes_in_word(k: u32) -> u32
 /// Four codes of at most so many low bits mostly stand in a word that is filled up.
 const FOUR_LOW: u32 = 11;
 
-/// Behind linear predictors of more than this order samples are restored one at a time: that work is as long as the reading of
-/// the next code, and the two are done side by side.
-const FOUR_ORDER: usize = 2;
-
 /// The word is filled up where the number of codes that are left has none of these bits: before each four that are read at once,
 /// and else before as many as it mostly holds.
-pub fn filled_before(by_four: bool, k: u32) -> u32 {
-    if by_four && k <= FOUR_LOW {
+pub fn fill_mask(k: u32) -> u32 {
+    if k <= FOUR_LOW {
         0
     } else {
         codes_in_word(k) - 1
     }
 }
 
-/// The next four residuals, where they are wanted, so many are left and the word shows them whole.
+/// The next four residuals, where so many are left and the word shows them whole.
 #[inline(always)]
-pub fn next_four(
-    is_wanted: bool,
-    near: &mut BitWindow,
-    left: u32,
-    k: u32,
-) -> Option<(i32, i32, i32, i32)>
+pub fn next_four(near: &mut BitWindow, left: u32, k: u32) -> Option<(i32, i32, i32, i32)>
     ensures left { IfSome result (λ r. 4 ≤ left) }
     ensures read { IfSome result (λ r. times 4 (rice k) near.old ≡ Done (r.0 ∷ r.1 ∷ r.2 ∷ r.3 ∷ []) near.new) }
     ensures fits { IfSome result (λ r. FitsSigned w32 r.0 × FitsSigned w32 r.1 × FitsSigned w32 r.2 × FitsSigned w32 r.3) }
     ensures unchanged { IfNone result (near.new ≡ near.old) }
 {
-    if !is_wanted || k > FOUR_LOW || left < 4 {
+    if k > FOUR_LOW || left < 4 {
         return None;
     }
     let (a, b, c, d) = near.four(k)?;
@@ -136,13 +127,13 @@ fn read_rices(
     out.reserve(count as usize)?;
     // (only calls that are inlined are handed this window, so that it keeps to registers)
     let mut near = reader.window();
-    let mask = filled_before(true, k);
+    let mask = fill_mask(k);
     let mut left = count;
     while left > 0 {
         if left & mask == 0 {
             near.fill();
         }
-        match next_four(true, &mut near, left, k) {
+        match next_four(&mut near, left, k) {
             Some(four) => {
                 push_four(out, four);
                 left -= 4;
@@ -182,15 +173,14 @@ fn read_rices_by(
     restoring.samples.reserve(count as usize)?;
     let mut last = last_of(restoring.samples.as_slice());
     let mut near = reader.window();
-    let by_four = !is_linear || order <= FOUR_ORDER;
-    let mask = filled_before(by_four, k);
+    let mask = fill_mask(k);
     let mut left = count;
     while left > 0 {
         if left & mask == 0 {
             near.fill();
         }
         let samples = &mut restoring.samples;
-        let is_within = match next_four(by_four, &mut near, left, k) {
+        let is_within = match next_four(&mut near, left, k) {
             Some(four) => {
                 push_four(out, four);
                 left -= 4;
@@ -211,6 +201,27 @@ fn read_rices_by(
     }
     *reader = near.reader();
     Ok(())
+}
+
+/// The same by a linear predictor, one after the other: behind more than two samples a loop that does both at once runs out of
+/// registers.
+fn read_then_restore(
+    reader: &mut BitReader,
+    out: &mut Vec<i32>,
+    count: u32,
+    k: u32,
+    by: &Predictor,
+    restoring: &mut Restoring,
+) -> Result<(), FrameEnd>
+    requires parameter { k ≤ 31 }
+    requires linear { by.now.is_linear ≡ true }
+    requires follows { Follows by.now restoring.old out.old.items }
+    ensures reads { Gives (λ _. out.new.items) result (with_front out.old.items (times count (rice k) reader.old)) reader.new }
+    ensures follows { OnOk result (Follows by.now restoring.new out.new.items) }
+{
+    let start = out.as_slice().len();
+    read_rices(reader, out, count, k)?;
+    restore_behind(by, restoring, &out.as_slice()[start..])
 }
 
 /// So many residuals of one parameter, and their samples as long as these are restored.
@@ -234,17 +245,7 @@ fn read_rices_restored(
         return match by.order {
             1 => read_rices_by(true, 1, reader, out, count, k, by, restoring),
             2 => read_rices_by(true, 2, reader, out, count, k, by, restoring),
-            3 => read_rices_by(true, 3, reader, out, count, k, by, restoring),
-            4 => read_rices_by(true, 4, reader, out, count, k, by, restoring),
-            5 => read_rices_by(true, 5, reader, out, count, k, by, restoring),
-            6 => read_rices_by(true, 6, reader, out, count, k, by, restoring),
-            7 => read_rices_by(true, 7, reader, out, count, k, by, restoring),
-            8 => read_rices_by(true, 8, reader, out, count, k, by, restoring),
-            9 => read_rices_by(true, 9, reader, out, count, k, by, restoring),
-            10 => read_rices_by(true, 10, reader, out, count, k, by, restoring),
-            11 => read_rices_by(true, 11, reader, out, count, k, by, restoring),
-            12 => read_rices_by(true, 12, reader, out, count, k, by, restoring),
-            order => read_rices_by(true, order, reader, out, count, k, by, restoring),
+            _ => read_then_restore(reader, out, count, k, by, restoring),
         };
     }
     match by.order {

@@ -21,7 +21,7 @@ invariant_of-result c = record {
             let total = (c.in_ok-rest.ensures.follows is_on).total in
             rw (c.kind_from.ensures, c.order_from-2.ensures.value, c.of.ensures, c.of-2.ensures, c.of-3.ensures, c.of-4.ensures)
             (IsRestored-of_kind code (leb 32 code) (order_of code) shift.shift shift.coefs.items c.in_ok-warm.warm.items read.rest.items read.restored.samples.items
-            w.if-code-ge2.true refl (rw (c.order_from.ensures.value, c.as_slice.ensures.value, c.as_slice-2.ensures.value) at total))
+            w.if-code-ge2.true refl (rw (c.order_from.ensures.value, c.as_slice-2.ensures.value ∙ c.in_ok-wide.ensures ∙ c.as_slice.ensures.value, c.as_slice-3.ensures.value) at total))
         | else-code-ge2 w ↦ let later : 2 ≤ c.in_ok-code.code = leb-true 2 c.in_ok-code.code (sym w.result-is ∙ on) in absurd (omega arith)
       ];
 }

@@ -5,7 +5,7 @@ use Rattle.ff_flac_frame.specs.declared.subframe.Subframe.{Subframe}
 use Rattle.ff_flac_frame.specs.Gives.{Fails}
 use Rattle.ff_flac_frame.specs.Parts.{header_of, part_of, read_of}
 use Rattle.ff_flac_frame.proofs.Seals.{not_yet_from, never_from, begins}
-use Rattle.ff_flac_frame.proofs.frame.frame_with.Goals as goal
+use Rattle.ff_flac_frame.proofs.frame.frame_at.Goals as goal
 
 pub returns-in_err-header-clause-not_yet : goal.returns-in_err-header-clause-not_yet
 returns-in_err-header-clause-not_yet c =
