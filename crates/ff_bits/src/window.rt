@@ -112,28 +112,37 @@ impl<'a> BitWindow<'a> {
             × (r.2.0 < 64) × (r.2.1 < 2 ^ n) × (r.3.0 < 64) × (r.3.1 < 2 ^ n)) }
         ensures unchanged { IfNone result (self.new ≡ self.old) }
     {
-        let (a, word, held) = coded(self.word, self.held, n)?;
-        let (b, word, held) = coded(word, held, n)?;
-        let (c, word, held) = coded(word, held, n)?;
-        let (d, word, held) = coded(word, held, n)?;
+        let (a, word, first) = coded(self.word, n)?;
+        let (b, word, second) = coded(word, n)?;
+        let (c, word, third) = coded(word, n)?;
+        let (d, word, fourth) = coded(word, n)?;
+        let len = first + second + third + fourth;
+        if len > self.held {
+            return None;
+        }
         self.word = word;
-        self.held = held;
+        self.held -= len;
         Some((a, b, c, d))
     }
 }
 
-/// The first code that a word holds whole, the word behind it, and how many bits that holds.
+/// The code that begins with a word, the word behind it, and how many bits it is long. It is the code that comes next only
+/// where the word holds that many bits.
 #[inline(always)]
-fn coded(word: u64, held: u32, n: u32) -> Option<((u32, u64), u64, u32)>
-    requires held { held < 64 }
-    requires more { n ≤ 57 }
-    ensures read { IfSome result (λ r. (bytes : List ℕ) → (at : ℕ) → IsWindow bytes at word held
-        → IsWindow bytes at r.1 r.2 × IsCoded n (drop (8 * at - held) (bits bytes)) r.0.0 r.0.1 (drop (8 * at - r.2) (bits bytes))) }
+fn coded(word: u64, n: u32) -> Option<((u32, u64), u64, u32)>
+    requires { n ≤ 57 }
+    ensures read { IfSome result (λ r. (held : ℕ) → r.2 ≤ held → (bytes : List ℕ) → (at : ℕ) → IsWindow bytes at word held
+        → IsWindow bytes at r.1 (held - r.2) × IsCoded n (drop (8 * at - held) (bits bytes)) r.0.0 r.0.1 (drop (8 * at - (held - r.2)) (bits bytes))) }
     ensures below { IfSome result (λ r. (r.0.0 < 64) × (r.0.1 < 2 ^ n)) }
-    ensures less { IfSome result (λ r. r.2 ≤ held) }
+    ensures long { IfSome result (λ r. r.2 ≤ 64 + n) }
 {
-    let high = high_in(word, held, n)?;
-    Some(taken(word, held, n, high))
+    if word == 0 {
+        return None;
+    }
+    let high = 63 - word.leading_zeros();
+    let low = word.wrapping_shr(high.wrapping_sub(n)) & ((1u64 << n) - 1);
+    let len = 64 + n - high;
+    Some(((63 - high, low), word.wrapping_shl(len), len))
 }
 
 /// The code whose one stands at place `high` of a word that holds all of it, the word behind it, and how many bits that holds.
