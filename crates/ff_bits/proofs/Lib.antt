@@ -21,3 +21,4 @@ pub mod Carried
 pub mod LawLemmas
 pub mod NumberBelow
 pub mod Windows
+pub mod Fronts

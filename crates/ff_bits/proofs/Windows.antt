@@ -19,11 +19,11 @@ module _ (list : List Bool) (n : ℕ) (fits : n ≤ 64) (there : n ≤ length li
   length-front : length (take n list) ≡ n
   length-front = omega (arith, length-take n list)
 
-  length-shown : length (shown n list) ≡ 64
+  pub length-shown : length (shown n list) ≡ 64
   length-shown = length-append (take n list) (replicate (64 - n) false) ∙ omega (arith, length-front, length-replicate {A = Bool} (64 - n) false)
 
   -- the list begins as the word does
-  same : (m : ℕ) → m ≤ n → take m list ≡ take m (shown n list)
+  pub same : (m : ℕ) → m ≤ n → take m list ≡ take m (shown n list)
   same m le =
       let enough : m ≤ length (take n list) = omega (arith, length-front) in
       sym (take-append-le m (take n list) (replicate (64 - n) false) enough ∙ take-take m n list le)
@@ -233,23 +233,21 @@ filled_window at word held next bytes w room e =
       value = filled_up list w.seen held word next w.fits all long w.value next-is ∙ ap (λ (k : ℕ). value_of (shown 64 (drop k (bits bytes)))) place;
     }
 
-module _ (bytes : List ℕ) (at word held n high : ℕ) (w : IsWindow bytes at word held) (high-is : high + count_leading_zeros 64 word ≡ 63) (enough : 64 + n ≤ high + held) where
-  abbrev list : List Bool
-  list = drop (8 * at - held) (bits bytes)
-
-  place : 8 * at - (held - (64 + n - high)) ≡ 8 * at - held + (64 + n - high)
+-- the word behind some bits that it holds
+module _ (bytes : List ℕ) (at word held len : ℕ) (w : IsWindow bytes at word held) (le : len ≤ held) where
+  pub place : 8 * at - (held - len) ≡ 8 * at - held + len
   place =
       let before : held ≤ 8 * at = w.before in
       omega arith
 
-  pub code_window : IsWindow bytes at ((word * 2 ^ (64 + n - high)) % 2 ^ 64) (held - (64 + n - high))
-  code_window =
+  pub window_behind : IsWindow bytes at ((word * 2 ^ len) % 2 ^ 64) (held - len)
+  window_behind =
       let few : held < 64 = w.few in
       let before : held ≤ 8 * at = w.before in
       let all : held ≤ w.seen = w.all in
       let fits : w.seen ≤ 64 = w.fits in
+      let list : List Bool = drop (8 * at - held) (bits bytes) in
       let there : w.seen ≤ length list = w.there in
-      let len : ℕ = 64 + n - high in
       let behind : drop len list ≡ drop (8 * at - (held - len)) (bits bytes) = drop-drop len (8 * at - held) (bits bytes) ∙ ap (λ (k : ℕ). drop k (bits bytes)) (sym place) in
       record {
         few = omega arith;
@@ -261,6 +259,16 @@ module _ (bytes : List ℕ) (at word held n high : ℕ) (w : IsWindow bytes at w
         there = subst (λ (xs : List Bool). w.seen - len ≤ length xs) behind (omega (arith, length-drop len list));
         value = moved_on list w.seen fits there word len w.value (omega arith) ∙ ap (λ (xs : List Bool). value_of (shown (w.seen - len) xs)) behind;
       }
+
+module _ (bytes : List ℕ) (at word held n high : ℕ) (w : IsWindow bytes at word held) (high-is : high + count_leading_zeros 64 word ≡ 63) (enough : 64 + n ≤ high + held) where
+  abbrev list : List Bool
+  list = drop (8 * at - held) (bits bytes)
+
+  short : 64 + n - high ≤ held
+  short = omega arith
+
+  pub code_window : IsWindow bytes at ((word * 2 ^ (64 + n - high)) % 2 ^ 64) (held - (64 + n - high))
+  code_window = window_behind bytes at word held (64 + n - high) w short
 
   pub code_read : n ≤ 57 → IsCoded n list (63 - high) (bit_and (word / 2 ^ (high - n)) ((1 * 2 ^ n) % 2 ^ 64 - 1)) (drop (8 * at - (held - (64 + n - high))) (bits bytes))
   code_read small =
@@ -278,6 +286,6 @@ module _ (bytes : List ℕ) (at word held n high : ℕ) (w : IsWindow bytes at w
         record {
           enough = omega (arith, length-drop p list);
           value = ap (λ (m : ℕ). bit_and (word / 2 ^ (high - n)) (m - 1)) mask ∙ and_mask (word / 2 ^ (high - n)) n ∙ ap (λ (k : ℕ). word / 2 ^ k % 2 ^ n) shift ∙ middle list w.seen fits there word p n w.value (omega arith);
-          left = ap (λ (k : ℕ). drop k (bits bytes)) place ∙ sym (drop-drop (64 + n - high) (8 * at - held) (bits bytes)) ∙ ap (λ (k : ℕ). drop k list) (sym len) ∙ sym (drop-drop n p list);
+          left = ap (λ (k : ℕ). drop k (bits bytes)) (place bytes at word held (64 + n - high) w short) ∙ sym (drop-drop (64 + n - high) (8 * at - held) (bits bytes)) ∙ ap (λ (k : ℕ). drop k list) (sym len) ∙ sym (drop-drop n p list);
         },
       )

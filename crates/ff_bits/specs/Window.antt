@@ -16,3 +16,12 @@ pub record IsWindow (bytes : List ℕ) (at word held : ℕ) : Type 0 where
   pub fits : seen ≤ 64
   pub there : seen ≤ length (drop (8 * at - held) (bits bytes))
   pub value : word ≡ value_of (shown seen (drop (8 * at - held) (bits bytes)))
+
+-- a word whose first `held` bits are those that a list begins with; behind them stand any
+pub record IsFront (list : List Bool) (word held : ℕ) : Type 0 where
+  pub few : held < 64
+  pub there : held ≤ length list
+  pub all : List Bool
+  pub long : length all ≡ 64
+  pub value : word ≡ value_of all
+  pub same : take held all ≡ take held list

@@ -4,7 +4,7 @@ ghost use Rattle.std.specs.Prelude.{◌≡◌, ℕ, ◌≤◌, ◌<◌, ◌+◌,
 ghost use lib.Count.{count_leading_zeros};
 ghost use Rattle.ff_bits.specs.Bits.{bits};
 ghost use Rattle.ff_bits.specs.Reads.{IsCounted, IsCoded};
-ghost use Rattle.ff_bits.specs.Window.{IsWindow};
+ghost use Rattle.ff_bits.specs.Window.{IsWindow, IsFront};
 
 use crate::reader::BitReader;
 use crate::word::word_of;
@@ -112,37 +112,39 @@ impl<'a> BitWindow<'a> {
             × (r.2.0 < 64) × (r.2.1 < 2 ^ n) × (r.3.0 < 64) × (r.3.1 < 2 ^ n)) }
         ensures unchanged { IfNone result (self.new ≡ self.old) }
     {
-        let (a, word, first) = coded(self.word, n)?;
-        let (b, word, second) = coded(word, n)?;
-        let (c, word, third) = coded(word, n)?;
-        let (d, word, fourth) = coded(word, n)?;
+        // (no turned word is 0 where this one isn't, so that the zeros of all four are counted without a test for 0)
+        if self.word == 0 {
+            return None;
+        }
+        let (a, word, first) = turned(self.word, n);
+        let (b, word, second) = turned(word, n);
+        let (c, word, third) = turned(word, n);
+        let (d, _, fourth) = turned(word, n);
         let len = first + second + third + fourth;
         if len > self.held {
             return None;
         }
-        self.word = word;
+        self.word <<= len;
         self.held -= len;
         Some((a, b, c, d))
     }
 }
 
-/// The code that begins with a word, the word behind it, and how many bits it is long. It is the code that comes next only
-/// where the word holds that many bits.
+/// The code that a word begins with, the word turned so that it begins with what stands behind the code, and how many bits long
+/// the code is. What the word is turned by comes last in it, where no bits are held.
 #[inline(always)]
-fn coded(word: u64, n: u32) -> Option<((u32, u64), u64, u32)>
+fn turned(word: u64, n: u32) -> ((u32, u64), u64, u32)
     requires { n ≤ 57 }
-    ensures read { IfSome result (λ r. (held : ℕ) → r.2 ≤ held → (bytes : List ℕ) → (at : ℕ) → IsWindow bytes at word held
-        → IsWindow bytes at r.1 (held - r.2) × IsCoded n (drop (8 * at - held) (bits bytes)) r.0.0 r.0.1 (drop (8 * at - (held - r.2)) (bits bytes))) }
-    ensures below { IfSome result (λ r. (r.0.0 < 64) × (r.0.1 < 2 ^ n)) }
-    ensures long { IfSome result (λ r. r.2 ≤ 64 + n) }
+    ensures read { (held : ℕ) → result.2 ≤ held → (list : List Bool) → IsFront list word held
+        → IsFront (drop result.2 list) result.1 (held - result.2) × IsCoded n list result.0.0 result.0.1 (drop result.2 list) }
+    ensures zeros { result.0.0 ≤ 64 }
+    ensures low { result.0.1 < 2 ^ n }
+    ensures long { result.2 ≡ result.0.0 + 1 + n }
 {
-    if word == 0 {
-        return None;
-    }
-    let high = 63 - word.leading_zeros();
-    let low = word.wrapping_shr(high.wrapping_sub(n)) & ((1u64 << n) - 1);
-    let len = 64 + n - high;
-    Some(((63 - high, low), word.wrapping_shl(len), len))
+    let zeros = word.leading_zeros();
+    let len = zeros + 1 + n;
+    let word = word.rotate_left(len);
+    ((zeros, word & ((1u64 << n) - 1)), word, len)
 }
 
 /// The code whose one stands at place `high` of a word that holds all of it, the word behind it, and how many bits that holds.

@@ -1,44 +1,43 @@
-use Rattle.std.proofs.Common.{◌≡◌, ◌+◌, ◌-◌, ◌*◌, ℕ, Bool, List, subst, drop, arith}
+use Rattle.std.proofs.Common.{◌≡◌, ◌+◌, ◌-◌, ◌*◌, ◌∙◌, ℕ, Bool, List, sym, ap, subst, drop, arith}
+use Rattle.std.proofs.lemmas.List.{drop-drop}
 use Rattle.ff_bits.specs.Bits.{bits}
 use Rattle.ff_bits.specs.Reads.{IsCoded}
-use Rattle.ff_bits.specs.Window.{IsWindow}
+use Rattle.ff_bits.proofs.Fronts.{window_front}
+use Rattle.ff_bits.proofs.Windows.{window_behind, place}
 use Rattle.ff_bits.proofs.window.BitWindow.four.Goals as goal
 
 pub invariant_of-self : goal.invariant_of-self
 invariant_of-self c =
     let i = c.self.inside in
-    let held : ℕ = i.held in
-    let a : ℕ = c.in_ok-a.first in
-    let b : ℕ = c.in_ok-b.second in
-    let d : ℕ = c.in_ok-c.third in
-    let e : ℕ = c.in_ok-d.fourth in
-    let one = c.in_ok-a.ensures.read held (omega arith) i.bytes.now i.at c.self.invariant in
-    let two = c.in_ok-b.ensures.read (held - a) (omega arith) i.bytes.now i.at one.0 in
-    let three = c.in_ok-c.ensures.read (held - a - b) (omega arith) i.bytes.now i.at two.0 in
-    let four = c.in_ok-d.ensures.read (held - a - b - d) (omega arith) i.bytes.now i.at three.0 in
-    let whole : held - a - b - d - e ≡ held - (a + b + d + e) = omega arith in
-    subst (λ (h : ℕ). IsWindow i.bytes.now i.at c.in_ok-d.word h) whole four.0
+    let len : ℕ = c.turned-word.result.2 + c.turned-word-2.result.2 + c.turned-word-3.result.2 + c.turned-fourth.result.2 in
+    window_behind i.bytes.now i.at i.word i.held len c.self.invariant c.if-len-self.false
 
 pub returns-clause-read : goal.returns-clause-read
 returns-clause-read c =
     let i = c.self.inside in
     let n : ℕ = c.args.n in
     let held : ℕ = i.held in
-    let a : ℕ = c.in_ok-a.first in
-    let b : ℕ = c.in_ok-b.second in
-    let d : ℕ = c.in_ok-c.third in
-    let e : ℕ = c.in_ok-d.fourth in
-    let one = c.in_ok-a.ensures.read held (omega arith) i.bytes.now i.at c.self.invariant in
-    let two = c.in_ok-b.ensures.read (held - a) (omega arith) i.bytes.now i.at one.0 in
-    let three = c.in_ok-c.ensures.read (held - a - b) (omega arith) i.bytes.now i.at two.0 in
-    let four = c.in_ok-d.ensures.read (held - a - b - d) (omega arith) i.bytes.now i.at three.0 in
-    let whole : held - a - b - d - e ≡ held - (a + b + d + e) = omega arith in
-    let left = λ (h : ℕ). drop (8 * i.at - h) (bits i.bytes.now) in (
-      left (held - a),
-      left (held - a - b),
-      left (held - a - b - d),
-      subst (λ (xs : List Bool). IsCoded n xs c.in_ok-a.a.0 c.in_ok-a.a.1 (left (held - a))) c.self.view_is one.1,
+    let a : ℕ = c.turned-word.result.2 in
+    let b : ℕ = c.turned-word-2.result.2 in
+    let d : ℕ = c.turned-word-3.result.2 in
+    let e : ℕ = c.turned-fourth.result.2 in
+    let p : ℕ = 8 * i.at - held in
+    let xs : List Bool = bits i.bytes.now in
+    let list : List Bool = drop p xs in
+    let one = c.turned-word.ensures.read held (omega arith) list (window_front i.bytes.now i.at i.word held c.self.invariant) in
+    let two = c.turned-word-2.ensures.read (held - a) (omega arith) (drop a list) one.0 in
+    let three = c.turned-word-3.ensures.read (held - a - b) (omega arith) (drop b (drop a list)) two.0 in
+    let four = c.turned-fourth.ensures.read (held - a - b - d) (omega arith) (drop d (drop b (drop a list))) three.0 in
+    let left : drop e (drop d (drop b (drop a list))) ≡ drop (8 * i.at - (held - (a + b + d + e))) xs =
+    ap (λ (ys : List Bool). drop e (drop d (drop b ys))) (drop-drop a p xs) ∙ ap (λ (ys : List Bool). drop e (drop d ys)) (drop-drop b (p + a) xs)
+    ∙ ap (λ (ys : List Bool). drop e ys) (drop-drop d (p + a + b) xs) ∙ drop-drop e (p + a + b + d) xs
+    ∙ ap (λ (k : ℕ). drop k xs) (let same : p + a + b + d + e ≡ p + (a + b + d + e) = omega arith in same)
+    ∙ ap (λ (k : ℕ). drop k xs) (sym (place i.bytes.now i.at i.word held (a + b + d + e) c.self.invariant c.if-len-self.false)) in (
+      drop a list,
+      drop b (drop a list),
+      drop d (drop b (drop a list)),
+      subst (λ (ys : List Bool). IsCoded n ys c.turned-word.result.0.0 c.turned-word.result.0.1 (drop a list)) c.self.view_is one.1,
       two.1,
       three.1,
-      subst (λ (h : ℕ). IsCoded n (left (held - a - b - d)) c.in_ok-d.d.0 c.in_ok-d.d.1 (left h)) whole four.1,
+      subst (λ (ys : List Bool). IsCoded n (drop d (drop b (drop a list))) c.turned-fourth.result.0.0 c.turned-fourth.result.0.1 ys) left four.1,
     )
