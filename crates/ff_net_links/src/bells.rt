@@ -13,8 +13,8 @@ struct Asks {
     receiver: usize,
     // The sender asks to be woken once so many items were taken. 0 where it doesn't.
     room_at: AtomicU64,
-    // Whether the receiver asks to be woken once an item is there.
-    item: AtomicBool,
+    // The receiver asks to be woken once so many items were put. 0 where it doesn't.
+    item_at: AtomicU64,
 }
 
 #[derive(Drop)]
@@ -61,7 +61,7 @@ impl Bells {
                 sender: 0,
                 receiver: 0,
                 room_at: AtomicU64::new(0),
-                item: AtomicBool::new(false),
+                item_at: AtomicU64::new(0),
             })?;
         }
         Ok(all)
@@ -100,10 +100,10 @@ impl Bells {
         }
     }
 
-    /// The receiver of this link asks to be woken once an item is there, or no longer.
-    pub fn ask_for_item(&self, link: usize, wants: bool) {
+    /// The receiver of this link asks to be woken once so many items were put, or no longer where it is 0.
+    pub fn ask_for_item(&self, link: usize, put: u64) {
         if let Some(asks) = self.links.get(link) {
-            asks.item.store(wants, Ordering::SeqCst);
+            asks.item_at.store(put, Ordering::SeqCst);
         }
     }
 
@@ -148,25 +148,26 @@ impl Bells {
         let Some(asks) = self.links.get(link) else {
             return;
         };
-        let at = asks.room_at.load(Ordering::SeqCst);
-        if at == 0 || count < at {
-            return;
-        }
-        let found = asks
-            .room_at
-            .compare_exchange(at, 0, Ordering::SeqCst, Ordering::SeqCst);
-        if found.is_ok() {
-            self.ring(asks.sender);
-        }
+        self.ring_at(&asks.room_at, count, asks.sender);
     }
 
-    /// Something may have been put on this link. It wakes the receiver where that asks for it.
-    pub fn put(&self, link: usize) {
+    /// So many items were put on this link. It wakes the receiver where that asks for it.
+    pub fn put(&self, link: usize, count: u64) {
         let Some(asks) = self.links.get(link) else {
             return;
         };
-        if asks.item.load(Ordering::SeqCst) && asks.item.swap(false, Ordering::SeqCst) {
-            self.ring(asks.receiver);
+        self.ring_at(&asks.item_at, count, asks.receiver);
+    }
+
+    // Wakes a worker that asks for it at this count or a lower one, which it then no longer does.
+    fn ring_at(&self, asked: &AtomicU64, count: u64, worker: usize) {
+        let at = asked.load(Ordering::SeqCst);
+        if at == 0 || count < at {
+            return;
+        }
+        let found = asked.compare_exchange(at, 0, Ordering::SeqCst, Ordering::SeqCst);
+        if found.is_ok() {
+            self.ring(worker);
         }
     }
 

@@ -78,6 +78,28 @@ fn taken_before_room(sender: &Sender) -> u64 {
     sender.puts().saturating_sub(sender.size() as u64 / 8)
 }
 
+// While its sender goes on, a receiver is woken for so many items, or for half of what the link holds where that is less: waking
+// it for each takes the sender's time as well.
+const BATCH: u64 = 4;
+
+// How many of the items that were put on this link count for its receiver, which asks to be woken for one. Once the sender rests,
+// all do.
+fn put_to_wake(sender: &Sender, rests: bool) -> u64 {
+    if rests {
+        return sender.puts();
+    }
+    let batch = BATCH.min(sender.size() as u64 / 2);
+    sender.puts().saturating_sub(batch.saturating_sub(1))
+}
+
+// So many items are put on this link once there is one to take. 0 where nothing is taken any more.
+fn put_before_item(end: &InEnd) -> u64 {
+    match &end.taking {
+        Some(receiver) => receiver.taken().saturating_add(1),
+        None => 0,
+    }
+}
+
 impl<M: Machine> Linked<M> {
     /// A node on new wires, with the ends of new links, one for each port, in the order of the ports.
     pub fn new(node: Node<M>, wires: Wires, ins: Vec<InEnd>, outs: Vec<OutEnd>) -> Linked<M>
@@ -170,7 +192,7 @@ impl<M: Machine> Linked<M> {
             }
         } else {
             for end in &self.ins {
-                bells.ask_for_item(end.wire, end.taking.is_some());
+                bells.ask_for_item(end.wire, put_before_item(end));
             }
             if self.node.source().is_some() {
                 bells.ask_for_grant(worker, true);
@@ -184,14 +206,14 @@ impl<M: Machine> Linked<M> {
             bells.ask_for_room(end.wire, 0);
         }
         for end in &self.ins {
-            bells.ask_for_item(end.wire, false);
+            bells.ask_for_item(end.wire, 0);
         }
         bells.ask_for_grant(worker, false);
     }
 
     /// Wakes those at the other ends of its links who ask for what was taken and put, and those who wait for a grant, where its
-    /// pass has added events since there were so many.
-    pub(crate) fn tell(&self, bells: &Bells, logged: u64) {
+    /// pass has added events since there were so many. Where the node doesn't rest now, receivers wait for more than one item.
+    pub(crate) fn tell(&self, bells: &Bells, logged: u64, rests: bool) {
         for end in &self.ins {
             let count = match &end.taking {
                 Some(receiver) => receiver.taken(),
@@ -200,7 +222,7 @@ impl<M: Machine> Linked<M> {
             bells.taken(end.wire, count);
         }
         for end in &self.outs {
-            bells.put(end.wire);
+            bells.put(end.wire, put_to_wake(&end.sender, rests));
         }
         if self.logged() != logged {
             bells.told();

@@ -58,11 +58,11 @@ pub fn run<M: Machine, R: Wait>(
         let logged = node.logged();
         match node.turn(rt, cell) {
             Turn::Done => {
-                node.tell(bells, logged);
+                node.tell(bells, logged, true);
                 return;
             }
             Turn::Moved => {
-                node.tell(bells, logged);
+                node.tell(bells, logged, false);
                 go_on(bells, worker, node, &mut rest);
             }
             Turn::NotYet => wait(rt, bells, worker, node, &mut rest),
@@ -95,7 +95,7 @@ fn wait<M: Machine, R: Wait>(
         Step::Spin => spin_loop(),
         Step::Ask => {
             node.ask(bells, worker);
-            node.tell(bells, node.logged());
+            node.tell(bells, node.logged(), true);
         }
         Step::Sleep(milliseconds) => bells.sleep(rt, worker, milliseconds),
     }
@@ -173,7 +173,7 @@ fn tell_and_ask<M: Machine>(bells: &Bells, node: &Linked<M>, logged: u64, asks: 
     if asks {
         node.ask(bells, bells.caller());
     }
-    node.tell(bells, logged);
+    node.tell(bells, logged, true);
 }
 
 fn turn_back<M: Machine, R: Wait>(
