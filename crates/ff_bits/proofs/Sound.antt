@@ -1,15 +1,18 @@
 -- What holds of every reader of a grammar.
-use Rattle.std.proofs.Common.{◌≡◌, ℕ, zero, suc, ◌+◌, ◌*◌, ◌<◌, ◌≤◌, Bool, true, false, cond, ltb, ◌||◌, ◌⊎◌, List, [], ◌∷◌, ◌++◌, length, refl, sym, ap, subst, ◌∙◌, append_assoc, arith, inl, inr}
+use Rattle.std.proofs.Common.{◌≡◌, ℕ, zero, suc, ◌+◌, ◌-◌, ◌*◌, ◌<◌, ◌≤◌, Bool, true, false, cond, ltb, ◌||◌, ◌⊎◌, List, [], ◌∷◌, ◌++◌, length, take, refl, sym, ap, subst, ◌∙◌, append_assoc, arith, inl, inr, length-append}
+use Rattle.std.proofs.lemmas.List.{take_at}
 use Rattle.std.proofs.lemmas.Bool.{ltb-true, ltb-false}
 use Rattle.ff_bits.specs.Bits.{digit}
 use Rattle.ff_bits.specs.Reading.{Answer, Done, More, Bad, Reader, on, ◌>>=◌, give, some, field_from, field, zeros_from, zeros}
 
--- P holds of each value. More bits change no answer but More, which some bits complete with nothing left; and nothing is refused before its first bit.
+-- P holds of each value. More bits change no answer but More, which some bits complete with nothing left; what was taken is enough for
+-- its value; and nothing is refused before its first bit.
 pub record IsSound {A : Type 0} (P : A → Type 0) (r : Reader A) : Type 0 where
   pub gives : (bits : List Bool) (a : A) (rest : List Bool) → r bits ≡ Done a rest → P a
   pub takes : (bits : List Bool) (a : A) (rest : List Bool) → r bits ≡ Done a rest → (text : List Bool) × (bits ≡ text ++ rest)
   pub stays : (bits more : List Bool) (a : A) (rest : List Bool) → r bits ≡ Done a rest → r (bits ++ more) ≡ Done a (rest ++ more)
   pub stays_bad : (bits more : List Bool) → r bits ≡ Bad → r (bits ++ more) ≡ Bad
+  pub enough : (text rest : List Bool) (a : A) → r (text ++ rest) ≡ Done a rest → r text ≡ Done a []
   pub completes : (bits : List Bool) → r bits ≡ More → (more : List Bool) × (a : A) × (r (bits ++ more) ≡ Done a [])
   pub opens : r [] ≡ Bad → ⊥
 
@@ -22,6 +25,16 @@ nil_left (x ∷ text) rest e = absurd cc
 pub done_same : {A : Type 0} (a b : A) (s t : List Bool) → Done a s ≡ Done b t → (a ≡ b) × (s ≡ t)
 done_same a b s t e = (cc, cc)
 
+-- ---- what stands before a rest
+
+pub take_text : (bits text rest : List Bool) → bits ≡ text ++ rest → take (length bits - length rest) bits ≡ text
+take_text bits text rest e =
+    let len : length bits - length rest ≡ length text = omega (arith, ap length e, length-append text rest) in
+    rw (len, e) (take_at text rest (length text) refl)
+
+pub same_text : (text other rest : List Bool) → text ++ rest ≡ other ++ rest → text ≡ other
+same_text text other rest e = sym (take_text (text ++ rest) text rest refl) ∙ take_text (text ++ rest) other rest e
+
 -- ---- give
 
 pub IsSound-give : {A : Type 0} (P : A → Type 0) (a : A) → P a → IsSound P (give a)
@@ -30,6 +43,7 @@ IsSound-give P a h = record {
   takes = λ bits b rest e. ([], (done_same a b bits rest e).1);
   stays = λ bits more b rest e. let p = done_same a b bits rest e in rw (p.0, p.1) refl;
   stays_bad = λ bits more e. absurd cc;
+  enough = λ text rest b e. let p = done_same a b (text ++ rest) rest e in rw (p.0, same_text text [] rest p.1) refl;
   completes = λ bits e. absurd cc;
   opens = λ e. cc;
 }
@@ -62,6 +76,18 @@ module _ {A B : Type 0} (P : A → Type 0) (Q : B → Type 0) (r : Reader A) (f 
       rw (first.stays bits more a mid h) ((second a (first.gives bits a mid h)).stays_bad mid more e)
   on_stays_bad bits more More h e = absurd cc
   on_stays_bad bits more Bad h e = rw (first.stays_bad bits more h) refl
+
+  on_enough : (text rest : List Bool) (v : Answer A) → r (text ++ rest) ≡ v → (b : B) → on v f ≡ Done b rest → on (r text) f ≡ Done b []
+  on_enough text rest (Done a mid) h b e =
+      let p = first.gives (text ++ rest) a mid h in
+      let s = first.takes (text ++ rest) a mid h in
+      let t = (second a p).takes mid b rest e in
+      let split : text ++ rest ≡ (s.0 ++ t.0) ++ rest = s.1 ∙ ap (λ (m : List Bool). s.0 ++ m) t.1 ∙ sym (append_assoc s.0 t.0 rest) in
+      let alone : r s.0 ≡ Done a [] = first.enough s.0 mid a (subst (λ (m : List Bool). r m ≡ Done a mid) s.1 h) in
+      let before : r text ≡ Done a t.0 = ap r (same_text text (s.0 ++ t.0) rest split) ∙ first.stays s.0 t.0 a [] alone in
+      rw before ((second a p).enough t.0 rest b (subst (λ (m : List Bool). f a m ≡ Done b rest) t.1 e))
+  on_enough text rest More h b e = absurd cc
+  on_enough text rest Bad h b e = absurd cc
 
   -- where the first is done with nothing left
   from_nothing : (bits : List Bool) (a : A) → r bits ≡ Done a [] → (v : Answer B) → f a [] ≡ v → (more : List Bool) × (b : B) × (on (r (bits ++ more)) f ≡ Done b [])
@@ -98,6 +124,7 @@ module _ {A B : Type 0} (P : A → Type 0) (Q : B → Type 0) (r : Reader A) (f 
     takes = λ bits b rest e. on_takes bits (r bits) refl b rest e;
     stays = λ bits more b rest e. on_stays bits more (r bits) refl b rest e;
     stays_bad = λ bits more e. on_stays_bad bits more (r bits) refl e;
+    enough = λ text rest b e. on_enough text rest (r (text ++ rest)) refl b e;
     completes = λ bits e. on_completes bits (r bits) refl e;
     opens = λ e. on_opens (r []) refl e;
   }
@@ -110,6 +137,7 @@ IsSound-weaker P Q r w h = record {
   takes = h.takes;
   stays = h.stays;
   stays_bad = h.stays_bad;
+  enough = h.enough;
   completes = h.completes;
   opens = h.opens;
 }
@@ -199,6 +227,17 @@ field_stays_bad zero p v bits more e = rw (cond_done_bad (p v) v bits e) refl
 field_stays_bad (suc n) p v [] more e = field-none (suc n) p v more (cond_more_bad (some (suc n) p v) e)
 field_stays_bad (suc n) p v (b ∷ bits) more e = field_stays_bad n p (2 * v + digit b) bits more e
 
+-- how long a field is
+pub field_length : (n : ℕ) (p : ℕ → Bool) (v : ℕ) (bits : List Bool) (a : ℕ) (rest : List Bool) → field_from n p v bits ≡ Done a rest → length bits ≡ n + length rest
+field_length zero p v bits a rest e = ap length (cond_done (p v) v a bits rest e).2 ∙ (let z : length rest ≡ 0 + length rest = omega arith in z)
+field_length (suc n) p v [] a rest e = absurd (cond_more_done (some (suc n) p v) a rest e)
+field_length (suc n) p v (b ∷ bits) a rest e = let t = field_length n p (2 * v + digit b) bits a rest e in omega arith
+
+field_enough : (n : ℕ) (p : ℕ → Bool) (v : ℕ) (text rest : List Bool) (a : ℕ) → field_from n p v (text ++ rest) ≡ Done a rest → field_from n p v text ≡ Done a []
+field_enough zero p v text rest a e = let c = cond_done (p v) v a (text ++ rest) rest e in rw (c.0, c.1, same_text text [] rest c.2) refl
+field_enough (suc n) p v [] rest a e = let l : length rest ≡ suc n + length rest = field_length (suc n) p v rest a rest e in absurd (omega (arith, l))
+field_enough (suc n) p v (b ∷ text) rest a e = field_enough n p (2 * v + digit b) text rest a e
+
 field_completes : (n : ℕ) (p : ℕ → Bool) (v : ℕ) (bits : List Bool) → field_from n p v bits ≡ More → (more : List Bool) × (a : ℕ) × (field_from n p v (bits ++ more) ≡ Done a [])
 field_completes zero p v bits e = absurd (cond_done_more (p v) v bits e)
 field_completes (suc n) p v [] e = field-some (suc n) p v (cond_more (some (suc n) p v) e)
@@ -214,6 +253,7 @@ IsSound-field n p h = record {
   takes = field_takes n p 0;
   stays = field_stays n p 0;
   stays_bad = field_stays_bad n p 0;
+  enough = field_enough n p 0;
   completes = field_completes n p 0;
   opens = field_opens n p 0 h;
 }
@@ -263,6 +303,24 @@ zeros_stays_bad limit z (false ∷ bits) more e =
       | false ↦ λ k. refl
     ] e
 
+zeros_shorter : (limit z : ℕ) (bits : List Bool) (a : ℕ) (rest : List Bool) → zeros_from limit z bits ≡ Done a rest → length rest < length bits
+zeros_shorter limit z [] a rest e = absurd (cond_more_done (ltb z limit) a rest e)
+zeros_shorter limit z (true ∷ bits) a rest e = let l : length bits ≡ length rest = ap length (cond_done (ltb z limit) z a bits rest e).2 in omega (arith, l)
+zeros_shorter limit z (false ∷ bits) a rest e =
+    elim (ltb z limit) as (λ b. cond b (zeros_from limit (z + 1) bits) Bad ≡ Done a rest → length rest < length (false ∷ bits)) [
+      | true ↦ λ k. let l : length rest < length bits = zeros_shorter limit (z + 1) bits a rest k in omega (arith, l)
+      | false ↦ λ k. absurd cc
+    ] e
+
+zeros_enough : (limit z : ℕ) (text rest : List Bool) (a : ℕ) → zeros_from limit z (text ++ rest) ≡ Done a rest → zeros_from limit z text ≡ Done a []
+zeros_enough limit z [] rest a e = let l : length rest < length rest = zeros_shorter limit z rest a rest e in absurd (omega (arith, l))
+zeros_enough limit z (true ∷ text) rest a e = let c = cond_done (ltb z limit) z a (text ++ rest) rest e in rw (c.0, c.1, same_text text [] rest c.2) refl
+zeros_enough limit z (false ∷ text) rest a e =
+    elim (ltb z limit) as (λ b. cond b (zeros_from limit (z + 1) (text ++ rest)) Bad ≡ Done a rest → cond b (zeros_from limit (z + 1) text) Bad ≡ Done a []) [
+      | true ↦ λ k. zeros_enough limit (z + 1) text rest a k
+      | false ↦ λ k. absurd cc
+    ] e
+
 zeros_completes : (limit z : ℕ) (bits : List Bool) → zeros_from limit z bits ≡ More → (more : List Bool) × (a : ℕ) × (zeros_from limit z (bits ++ more) ≡ Done a [])
 zeros_completes limit z [] e = let h = cond_more (ltb z limit) e in (true ∷ [], z, rw h refl)
 zeros_completes limit z (true ∷ bits) e = absurd (cond_done_more (ltb z limit) z bits e)
@@ -278,16 +336,10 @@ IsSound-zeros limit h = record {
   takes = zeros_takes limit 0;
   stays = zeros_stays limit 0;
   stays_bad = zeros_stays_bad limit 0;
+  enough = zeros_enough limit 0;
   completes = zeros_completes limit 0;
   opens = λ e. let f : ltb 0 limit ≡ false = cond_more_bad (ltb 0 limit) e in let g : limit ≤ 0 = ltb-false 0 limit f in omega arith;
 }
-
--- ---- how long a field is
-
-pub field_length : (n : ℕ) (p : ℕ → Bool) (v : ℕ) (bits : List Bool) (a : ℕ) (rest : List Bool) → field_from n p v bits ≡ Done a rest → length bits ≡ n + length rest
-field_length zero p v bits a rest e = ap length (cond_done (p v) v a bits rest e).2 ∙ (let z : length rest ≡ 0 + length rest = omega arith in z)
-field_length (suc n) p v [] a rest e = absurd (cond_more_done (some (suc n) p v) a rest e)
-field_length (suc n) p v (b ∷ bits) a rest e = let t = field_length n p (2 * v + digit b) bits a rest e in omega arith
 
 -- a value that two readers gave
 pub done_of : {A B : Type 0} (r : Reader A) (f : A → Reader B) (bits : List Bool) (b : B) (rest : List Bool) → (r >>= f) bits ≡ Done b rest → (a : A) × (mid : List Bool) × (r bits ≡ Done a mid) × (f a mid ≡ Done b rest)

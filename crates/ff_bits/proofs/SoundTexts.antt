@@ -1,16 +1,11 @@
 -- The laws of readers of a value with its text, and of several values.
-use Rattle.std.proofs.Common.{◌≡◌, ℕ, zero, suc, ◌-◌, Bool, List, [], ◌∷◌, ◌++◌, length, take, refl, sym, ap, ◌∙◌, append_assoc, arith, length-append}
-use Rattle.std.proofs.lemmas.List.{append-nil, take_at}
+use Rattle.std.proofs.Common.{◌≡◌, ℕ, zero, suc, ◌-◌, Bool, List, [], ◌∷◌, ◌++◌, length, take, refl, sym, ap, ◌∙◌, append_assoc}
+use Rattle.std.proofs.lemmas.List.{append-nil}
 use Rattle.std.specs.List.{AllByRecursion}
 use Rattle.ff_bits.specs.Reading.{Answer, Done, More, Bad, Reader, ◌>>=◌, give, and_text, with_text, times}
-use Rattle.ff_bits.proofs.Sound.{IsSound, IsSound-give, IsSound-chain, done_same}
+use Rattle.ff_bits.proofs.Sound.{IsSound, IsSound-give, IsSound-chain, done_same, take_text, same_text as same_texts}
 
 -- ---- a value and its text
-
-pub take_text : (bits text rest : List Bool) → bits ≡ text ++ rest → take (length bits - length rest) bits ≡ text
-take_text bits text rest e =
-    let len : length bits - length rest ≡ length text = omega (arith, ap length e, length-append text rest) in
-    rw (len, e) (take_at text rest (length text) refl)
 
 module _ {A : Type 0} (P : A → Type 0) (r : Reader A) (h : IsSound P r) where
   text_of : (bits : List Bool) (v : Answer A) → r bits ≡ v → (x : A × List Bool) (rest : List Bool) → and_text bits v ≡ Done x rest → (r bits ≡ Done x.0 rest) × (bits ≡ x.1 ++ rest)
@@ -51,6 +46,9 @@ module _ {A : Type 0} (P : A → Type 0) (r : Reader A) (h : IsSound P r) where
     takes = λ bits x rest e. (x.1, (with_text_takes bits x rest e).1);
     stays = text_stays;
     stays_bad = λ bits more e. rw (h.stays_bad bits more (text_bad bits (r bits) e)) refl;
+    enough = λ text rest x e.
+        let t = with_text_takes (text ++ rest) x rest e in
+        with_text_done text x.0 x.1 [] (h.enough text rest x.0 t.0) (same_texts text x.1 rest t.1 ∙ sym (append-nil x.1));
     completes = λ bits e.
         let t = h.completes bits (text_more bits (r bits) e) in
         (t.0, (t.1, bits ++ t.0), with_text_done (bits ++ t.0) t.1 (bits ++ t.0) [] t.2 (sym (append-nil (bits ++ t.0))));

@@ -10,7 +10,7 @@ use Rattle.ff_bits.specs.NumberGrammar.{coded_below}
 use Rattle.ff_bits.specs.Reading.{Reader, Done, ◌>>=◌, give, field, with_text, and_text}
 use Rattle.ff_bits.proofs.BitsOf.{bits_of-zeros}
 use Rattle.ff_bits.proofs.CrcLemmas.{IsRemainder-crc8_of, IsRemainder-crc16_of}
-use Rattle.ff_bits.proofs.SoundTexts.{take_text}
+use Rattle.ff_bits.proofs.Sound.{take_text}
 use Rattle.std.proofs.lemmas.Nat.{pow_pos}
 use Rattle.ff_flac_frame.specs.declared.stream.FlacStream.{FlacStream}
 use Rattle.ff_flac_frame.specs.Codes.{any, equal, sync, not_zero, rate_fits, form_fits, depth_fits, depths}

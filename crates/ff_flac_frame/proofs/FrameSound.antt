@@ -85,6 +85,7 @@ IsSound-bounded n p h = record {
   takes = h.takes;
   stays = h.stays;
   stays_bad = h.stays_bad;
+  enough = h.enough;
   completes = h.completes;
   opens = h.opens;
 }

@@ -8,8 +8,7 @@ use Rattle.ff_bits.specs.Bits.{bits}
 use Rattle.ff_bits.specs.Reading.{Answer, Done, More, Bad, Reader, on, ◌>>=◌, give, field, with_text, and_text}
 use Rattle.ff_bits.specs.NumberGrammar.{is_within, follow, opened, sixes, coded_below}
 use Rattle.ff_bits.specs.Crc.{crc8_of, crc16_of}
-use Rattle.ff_bits.proofs.SoundTexts.{take_text}
-use Rattle.ff_bits.proofs.Sound.{field_length, done_of}
+use Rattle.ff_bits.proofs.Sound.{field_length, done_of, take_text}
 use Rattle.ff_bits.proofs.BitsLemmas.{length-bits, bits-append, drop-bits}
 use Rattle.ff_flac_frame.specs.declared.end.FrameEnd.{FrameEnd}
 use Rattle.ff_flac_frame.specs.declared.end.FrameEnd.TheVariants.{NotYet, Never, NoMemory}

@@ -1,6 +1,6 @@
 //! What the grammar keeps. Each function does nothing, and its contract is the law.
 
-ghost use Rattle.std.specs.Prelude.{◌≡◌, ◌<◌, ℕ, List, ◌++◌};
+ghost use Rattle.std.specs.Prelude.{◌≡◌, ◌<◌, ℕ, List, ◌++◌, take};
 ghost use Rattle.ff_flac_frame.specs.declared.stream.FlacStream.{FlacStream};
 ghost use Rattle.ff_flac_frame.specs.Frame.{Frame, IsStream, Begins};
 ghost use Rattle.ff_flac_frame.specs.Facts.{IsFrame};
@@ -14,6 +14,11 @@ pub fn frames_are_apart()
 /// A frame that begins bytes begins them whatever follows.
 pub fn what_follows_is_no_matter()
     ensures { (s : FlacStream) → IsStream s → (bytes more : List ℕ) (f : Frame) (n : ℕ) → Begins s bytes f n → Begins s (bytes ++ more) f n }
+{}
+
+/// A frame that begins bytes is all of so many of them, whatever follows.
+pub fn frames_are_their_bytes()
+    ensures { (s : FlacStream) → IsStream s → (bytes : List ℕ) (f : Frame) (n : ℕ) → Begins s bytes f n → Begins s (take n bytes) f n }
 {}
 
 /// A frame's subframes are as many as the stream has channels, and have as many samples and residuals as its block asks,

@@ -4,10 +4,10 @@
 //! three answers: a value, more bits may make one, no bits will. `specs/Facts` says what holds of each frame.
 //! `frame_at` reads the frame that begins some bytes, and `frame_size_at` only how long it is: that one keeps no residual.
 //!
-//! `specs/Prediction` says how a sample is predicted from those before it. `frame_at` restores a subframe's samples too: by a
-//! predictor that looks back two samples at most in the loop that reads their residuals, since there the processor waits for the
-//! place of the next code and works on a sample meanwhile, and by a longer one partition after partition. `specs/Restored` says
-//! what a subframe says of such samples.
+//! `specs/Prediction` says how a sample is predicted from those before it. By a fixed predictor, and by a linear one that looks back
+//! two samples at most, `frame_at` restores a subframe's samples in the loop that reads their residuals, since there the processor
+//! waits for the place of the next code and works on a sample meanwhile. `specs/Restored` says what a subframe says of such samples.
+//! By a longer predictor `restore_linear` does it afterwards, which can be in another thread.
 #![tactic(auto)]
 
 mod end;
@@ -32,7 +32,8 @@ pub use end::FrameEnd;
 pub use fixed::{is_in_depth, last_of, next_fixed};
 pub use frame::{FlacFrame, frame_at};
 pub use laws::{
-    frames_are_apart, frames_are_in_shape, subframe_types_are_the_table, what_follows_is_no_matter,
+    frames_are_apart, frames_are_in_shape, frames_are_their_bytes, subframe_types_are_the_table,
+    what_follows_is_no_matter,
 };
 pub use linear::{restore_linear, widened};
 pub use sequence::Sequence;

@@ -7,9 +7,8 @@ ghost use Rattle.ff_flac_frame.specs.Restoring.{predicted, IsLinear, IsPredictor
 
 use crate::end::FrameEnd;
 use crate::fixed::{is_in_depth, next_fixed};
-use crate::linear::{next_linear, restore_linear};
+use crate::linear::next_linear;
 use std::alloc::Global;
-use std::mem::try_take;
 
 /// By what samples are predicted from those before them (RFC 9639, sections 9.2.5 and 9.2.6).
 #[derive(Drop)]
@@ -24,6 +23,14 @@ pub struct Predictor<'a> {
     pub shift: u32,
     /// The warm-up samples, which stand before those that it predicts.
     pub warm: &'a [i32],
+}
+
+impl Predictor<'_> {
+    /// Whether samples are restored as their residuals are read. Behind more than two samples a loop that does both runs out of
+    /// registers.
+    fn is_short(&self) -> bool {
+        !self.is_linear || self.order <= 2
+    }
 }
 
 /// The samples so far of a subframe whose residuals are being read.
@@ -168,7 +175,7 @@ fn is_predictor(predictor: &Predictor, xs: &[i32]) -> bool
     predictor.order <= 4
 }
 
-/// What restores the samples behind the warm-up samples, in memory for so many, where that is wanted.
+/// What restores the samples behind the warm-up samples, in memory for so many, where that is wanted and the predictor is a short one.
 pub fn start_restoring(
     alloc: Global,
     is_wanted: bool,
@@ -179,7 +186,8 @@ pub fn start_restoring(
     ensures memory { IfErr result (λ e. e ≡ FrameEnd.NoMemory) }
 {
     let warm = predictor.warm;
-    if is_wanted && is_predictor(predictor, warm) && all_in_depth(25, warm) {
+    let is_on = is_wanted && predictor.is_short();
+    if is_on && is_predictor(predictor, warm) && all_in_depth(25, warm) {
         let mut samples = Vec::with_capacity(alloc, count)?;
         samples.extend_from_slice(warm)?;
         return Ok(Restoring {
@@ -191,27 +199,4 @@ pub fn start_restoring(
         is_on: false,
         samples: Vec::new(alloc),
     })
-}
-
-/// Restores the samples of further residuals by a linear predictor, as long as none leaves 25 bits.
-pub fn restore_behind(
-    predictor: &Predictor,
-    restoring: &mut Restoring,
-    rest: &[i32],
-) -> Result<(), FrameEnd>
-    requires linear { predictor.now.is_linear ≡ true }
-    requires follows { (before : List ℤ) × Follows predictor.now restoring.old before }
-    ensures follows { OnOk result ((before : List ℤ) → Follows predictor.now restoring.old before → Follows predictor.now restoring.new (before ++ rest.now)) }
-    ensures memory { IfErr result (λ e. e ≡ FrameEnd.NoMemory) }
-{
-    if !restoring.is_on {
-        return Ok(());
-    }
-    restoring.samples.reserve(rest.len())?;
-    let samples = try_take(&mut restoring.samples)?;
-    match restore_linear(predictor.coefs, predictor.shift, 25, samples, rest) {
-        Some(samples) => restoring.samples = samples,
-        None => restoring.is_on = false,
-    }
-    Ok(())
 }

@@ -12,7 +12,7 @@ use crate::end::FrameEnd;
 use crate::field::read_field;
 use crate::fixed::last_of;
 use crate::number::{read_rice, read_sample, rice_of, short_rice};
-use crate::predictor::{Predictor, Restoring, restore_behind, restore_four, restore_next};
+use crate::predictor::{Predictor, Restoring, restore_four, restore_next};
 use crate::rule::Rule;
 use ff_bits::{BitReader, BitWindow};
 
@@ -203,27 +203,6 @@ fn read_rices_by(
     Ok(())
 }
 
-/// The same by a linear predictor, one after the other: behind more than two samples a loop that does both at once runs out of
-/// registers.
-fn read_then_restore(
-    reader: &mut BitReader,
-    out: &mut Vec<i32>,
-    count: u32,
-    k: u32,
-    by: &Predictor,
-    restoring: &mut Restoring,
-) -> Result<(), FrameEnd>
-    requires parameter { k ≤ 31 }
-    requires linear { by.now.is_linear ≡ true }
-    requires follows { Follows by.now restoring.old out.old.items }
-    ensures reads { Gives (λ _. out.new.items) result (with_front out.old.items (times count (rice k) reader.old)) reader.new }
-    ensures follows { OnOk result (Follows by.now restoring.new out.new.items) }
-{
-    let start = out.as_slice().len();
-    read_rices(reader, out, count, k)?;
-    restore_behind(by, restoring, &out.as_slice()[start..])
-}
-
 /// So many residuals of one parameter, and their samples as long as these are restored.
 fn read_rices_restored(
     reader: &mut BitReader,
@@ -245,7 +224,10 @@ fn read_rices_restored(
         return match by.order {
             1 => read_rices_by(true, 1, reader, out, count, k, by, restoring),
             2 => read_rices_by(true, 2, reader, out, count, k, by, restoring),
-            _ => read_then_restore(reader, out, count, k, by, restoring),
+            _ => {
+                restoring.is_on = false;
+                read_rices(reader, out, count, k)
+            }
         };
     }
     match by.order {
