@@ -1,5 +1,6 @@
 -- The state of a cut, tied to what it was fed and gave.
-use Rattle.std.proofs.Common.{◌≡◌, ◌≢◌, ℕ, zero, suc, ◌+◌, ◌-◌, ◌⊎◌, inl, inr, true, List, [], ◌∷◌, ◌++◌, take, drop, length, Some, None, refl, sym, ap, ◌∙◌, subst, arith, length-append, append_assoc, append-nil}
+use Rattle.std.specs.Coded.{le_prop}
+use Rattle.std.proofs.Common.{◌*◌, ◌^◌, ◌≤◌, ◌≡◌, ◌≢◌, ℕ, zero, suc, ◌+◌, ◌-◌, ◌⊎◌, inl, inr, true, List, [], ◌∷◌, ◌++◌, take, drop, length, Some, None, refl, sym, ap, ◌∙◌, subst, arith, length-append, append_assoc, append-nil}
 use Rattle.std.specs.Prelude.{slice_get, pos, Result, Ok, Err, OnOk}
 use Rattle.std.proofs.lemmas.List.{length-drop, drop-drop, take-append-le, drop-append-le}
 use Rattle.ff_values.specs.Packet.{packet_at}
@@ -140,3 +141,29 @@ broken_left cut head fed n i c how more r =
 pub on_ok : {A E : Type 0} (r : Result A E) (P Q : Type 0) → OnOk r P → (P → Q) → OnOk r Q
 on_ok (Ok x) P Q h f = f h
 on_ok (Err x) P Q h f = tt
+
+-- ---- what a cut keeps of its numbers is no part of it
+
+abbrev with_facts : (cut : FlacCut) → cut.head.start ≤ 2 ^ 28 → IsStream (stream_of cut.head.head) → 8 * cut.count ≤ 65535 * cut.used → FlacCut
+with_facts cut start frames few = record {
+  alloc = cut.alloc;
+  head = cut.head;
+  used = cut.used;
+  count = cut.count;
+  held = cut.held;
+  ended = cut.ended;
+  sender = cut.sender;
+  start = start;
+  frames = frames;
+  few = few;
+}
+
+pub same_cut : (cut : FlacCut) (start : cut.head.start ≤ 2 ^ 28) (frames : IsStream (stream_of cut.head.head)) (few : 8 * cut.count ≤ 65535 * cut.used)
+    → with_facts cut start frames few ≡ cut
+same_cut cut start frames few =
+    let one : IsProp (cut.head.start ≤ 2 ^ 28) = hlevel le_prop in
+    let two : IsProp (IsStream (stream_of cut.head.head)) = hlevel le_prop in
+    let three : IsProp (8 * cut.count ≤ 65535 * cut.used) = hlevel le_prop in
+    ap (λ h. with_facts cut h frames few) (one start cut.start)
+    ∙ ap (λ h. with_facts cut cut.start h few) (two frames cut.frames)
+    ∙ ap (λ h. with_facts cut cut.start cut.frames h) (three few cut.few)

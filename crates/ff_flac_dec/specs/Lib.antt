@@ -11,3 +11,4 @@ pub mod Cuts
 pub mod BlockLaws
 pub mod HeadLaws
 pub mod SoundLaws
+pub mod HandedOver

@@ -9,7 +9,8 @@ ghost use Rattle.ff_flac_dec.specs.declared.front.Front.TheVariants.{Wait};
 ghost use Rattle.ff_flac_dec.specs.Streams.{stream_of, IsHead};
 ghost use Rattle.ff_flac_dec.specs.Packets.{unit, demuxed, broken_at};
 
-use crate::front::{Front, front_of};
+use crate::front::{Front, front_sent};
+use crate::hand_over::FrameSender;
 use crate::head::FlacHead;
 use ff_cut::{Held, PacketCut};
 use ff_lists::front;
@@ -32,6 +33,8 @@ pub struct FlacCut {
     count: u64,
     held: Held,
     ended: bool,
+    /// Where the frames go that it has read.
+    sender: FrameSender,
     ghost start: { head.start ≤ 2 ^ 28 },
     ghost frames: { IsStream (stream_of head.head) },
     ghost few: { 8 * count ≤ 65535 * used },
@@ -60,6 +63,13 @@ fn packet(
 
 impl FlacCut {
     ghost use Rattle.ff_flac_dec.specs.Cuts.{place_of};
+
+    /// Has it send the frames that it reads from now on to a decoder. Its packets stay the same.
+    pub fn send_frames_to(&mut self, sender: FrameSender)
+        ensures { self.new ≡ self.old }
+    {
+        self.sender = sender;
+    }
 
     // What comes where no whole frame is there: more bytes are wanted, or all came, or the last frame isn't whole.
     fn unfinished(&self) -> Cut
@@ -104,6 +114,7 @@ impl PacketCut for FlacCut {
             count: 0,
             held: Held::new(alloc),
             ended: false,
+            sender: FrameSender::of_none(),
         }
     }
 
@@ -157,7 +168,13 @@ impl PacketCut for FlacCut {
     {
         let stream = self.head.stream();
         let offset = self.head.start + self.used;
-        let found = front_of(self.alloc, self.held.as_slice(), &stream)?;
+        let found = front_sent(
+            self.alloc,
+            &mut self.sender,
+            offset,
+            self.held.as_slice(),
+            &stream,
+        )?;
         match found {
             Front::Whole(len, block) => {
                 let p = packet(

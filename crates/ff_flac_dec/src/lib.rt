@@ -4,6 +4,7 @@
 //! and which first bytes decide it, `specs/Streams` what a head says of the frames. `specs/Values` says which samples a subframe
 //! stands for, `specs/Channels` which channels a frame has. `specs/Packets` says which packets an input has, `specs/Units`
 //! what it means that a frame is whole, or isn't yet, and `specs/Cuts` how a cut's state is tied to what it was fed and gave.
+//! A cut can send the frames that it has read to a decoder (`frame_channel`), so that these aren't read once more.
 #![tactic(auto)]
 
 mod block;
@@ -14,6 +15,7 @@ mod end;
 mod fixed;
 mod frame;
 mod front;
+mod hand_over;
 mod head;
 mod interleave;
 mod laws;
@@ -27,6 +29,7 @@ pub use end::DecodeEnd;
 pub use ff_cut::HeadFault;
 pub use ff_flac_frame::{FlacFrame, FlacStream, FrameEnd, SubKind, Subframe};
 pub use frame::frame_at;
+pub use hand_over::{FrameReceiver, FrameSender, frame_channel};
 pub use head::FlacHead;
 pub use laws::{streaminfo_is_its_fields, units_are_exact};
 pub use sound::decode;
