@@ -1,5 +1,7 @@
+ghost use Rattle.std.specs.Prelude.{◌≡◌};
+
 use ff_cut::PacketCut;
-use ff_flac_dec::FlacCut;
+use ff_flac_dec::{FlacCut, FrameSender};
 use ff_heads::InputHead;
 use ff_values::{Cut, StreamHead};
 use ff_wav::WavCut;
@@ -15,6 +17,26 @@ pub enum AnyCut {
     Y4m(Y4mCut),
     /// FLAC.
     Flac(FlacCut),
+}
+
+impl AnyCut {
+    /// Whether it can send frames to a decoder.
+    pub fn sends_frames(&self) -> bool {
+        match self {
+            AnyCut::Flac(_) => true,
+            AnyCut::Wav(_) | AnyCut::Y4m(_) => false,
+        }
+    }
+
+    /// Has a cut of FLAC send the frames that it reads from now on to a decoder. The packets of each cut stay the same.
+    pub fn send_frames_to(&mut self, sender: FrameSender)
+        ensures { self.new ≡ self.old }
+    {
+        match self {
+            AnyCut::Flac(cut) => cut.send_frames_to(sender),
+            AnyCut::Wav(_) | AnyCut::Y4m(_) => {}
+        }
+    }
 }
 
 impl PacketCut for AnyCut {

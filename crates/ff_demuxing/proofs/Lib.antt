@@ -7,3 +7,4 @@ pub mod OpenSteps
 pub mod ReadSteps
 pub mod WavOpen
 pub mod Y4mOpen
+mod Sending

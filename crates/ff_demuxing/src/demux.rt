@@ -6,6 +6,8 @@ use crate::demuxable::{Demuxable, PIECE};
 use crate::reading::{ReadEnd, read_more};
 use crate::unit::{Unit, next_unit};
 use ff_cut::PacketCut;
+use ff_cuts::AnyCut;
+use ff_flac_dec::FrameSender;
 use ff_frame::{Event, Item, Refused, StreamHead, Ticket};
 use ff_host::Source;
 use ff_net::{Fault, Machine};
@@ -129,6 +131,22 @@ impl<S: Source + Drop, C: Demuxable + Drop> Demux<S, C> {
         ensures few { (past : Past) → demux_stands S.left self past → demux_reads self ≤ length (stream_at (past.task.means past.got) 0).items + 1 }
     {
         self.src
+    }
+}
+
+impl<S: Source + Drop> Demux<S, AnyCut> {
+    ghost use Rattle.std.specs.Prelude.{◌≡◌};
+
+    /// Whether it can send frames to a decoder.
+    pub fn sends_frames(&self) -> bool {
+        self.cut.sends_frames()
+    }
+
+    /// Has it send the frames that it reads from now on to a decoder, where its input is FLAC. It gives what it gave.
+    pub fn send_frames_to(&mut self, sender: FrameSender)
+        ensures { self.new ≡ self.old }
+    {
+        self.cut.send_frames_to(sender);
     }
 }
 
