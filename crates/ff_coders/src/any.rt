@@ -34,7 +34,7 @@ impl Decoder for AnyDecoder {
         }
     }
 
-    fn decode(&self, packet: Pkt) -> Result<Option<Item>, Pkt> {
+    fn decode(&mut self, packet: Pkt) -> Result<Option<Item>, Pkt> {
         match self {
             AnyDecoder::Pcm(decoder) => decoder.decode(packet),
             AnyDecoder::Raw(decoder) => decoder.decode(packet),

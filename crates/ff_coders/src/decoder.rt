@@ -24,11 +24,13 @@ pub trait Decoder {
     fn can_take(&self, packet: &Pkt) -> bool
         ensures { IsTrue result ↔ takes self.now packet.now };
 
-    /// The frame of a packet; None where its bytes stand for none. Without memory the packet comes back.
-    fn decode(&self, packet: Pkt) -> Result<Option<Item>, Pkt>
-        requires { takes self.now packet }
-        ensures made { IfOk result (λ frame. frame ≡ made self.now packet) }
-        ensures back { IfErr result (λ back. back ≡ packet) };
+    /// The frame of a packet; None where its bytes stand for none. Without memory the packet comes back. It decodes other packets
+    /// as before.
+    fn decode(&mut self, packet: Pkt) -> Result<Option<Item>, Pkt>
+        requires { takes self.old packet }
+        ensures made { IfOk result (λ frame. frame ≡ made self.old packet) }
+        ensures back { IfErr result (λ back. back ≡ packet) }
+        ensures same { self.new ≡ self.old };
 
     /// What the lane of its packets carries it can be given, and the frame fits the lane of frames and has the packet's times.
     ghost carries: { (d : Self) (p : Pkt) → FitsPackets (head d) (Packet p) → IsDecoded (head d) p (takes d p) (made d p) };

@@ -103,7 +103,7 @@ impl Decoder for FlacDecoder {
         true
     }
 
-    fn decode(&self, packet: Pkt) -> Result<Option<Item>, Pkt> {
+    fn decode(&mut self, packet: Pkt) -> Result<Option<Item>, Pkt> {
         let head = FlacHead {
             head: self.head,
             start: 0,

@@ -67,7 +67,7 @@ impl Decoder for PcmDecoder {
         has_blocks(&self.head, packet)
     }
 
-    fn decode(&self, packet: Pkt) -> Result<Option<Item>, Pkt> {
+    fn decode(&mut self, packet: Pkt) -> Result<Option<Item>, Pkt> {
         match frame(self.alloc, &self.head, &packet) {
             Ok(frame) => Ok(Some(Item::Audio(frame))),
             Err(_) => Err(packet),

@@ -61,7 +61,7 @@ impl Decoder for RawDecoder {
         }
     }
 
-    fn decode(&self, packet: Pkt) -> Result<Option<Item>, Pkt> {
+    fn decode(&mut self, packet: Pkt) -> Result<Option<Item>, Pkt> {
         match self.head {
             StreamHead::Video {
                 format,

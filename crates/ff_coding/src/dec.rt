@@ -64,14 +64,15 @@ impl<D: Decoder + Drop> Dec<D> {
 // What a packet gives: its frame, or the break where it has none.
 fn decode<D: Decoder>(
     alloc: Global,
-    decoder: &D,
+    decoder: &mut D,
     packet: Pkt,
     spared: bool,
 ) -> Result<Step, Refused>
-    requires { D.takes decoder.now packet }
-    ensures follows { IfOk result (λ step. FollowsFrom (decoded_item (D.made decoder.now)) (Packet packet) step) }
+    requires { D.takes decoder.old packet }
+    ensures follows { IfOk result (λ step. FollowsFrom (decoded_item (D.made decoder.old)) (Packet packet) step) }
     ensures spare { IfOk result (λ step. spared ≡ true → GivesBack (Packet packet) step) }
     ensures back { IfErr result (λ refused. refused.item ≡ Packet packet) }
+    ensures same { decoder.new ≡ decoder.old }
 {
     let spare = match copy_if(alloc, &packet, spared) {
         Ok(spare) => spare,
@@ -113,10 +114,16 @@ fn copy_if(alloc: Global, packet: &Pkt, spared: bool) -> Result<Option<Item>, Al
 }
 
 // What is to be done for an item.
-fn step<D: Decoder>(alloc: Global, decoder: &D, item: Item, spared: bool) -> Result<Step, Refused>
-    ensures follows { IfOk result (λ step. IsTakenPacket (D.takes decoder.now) item → FollowsFrom (decoded_item (D.made decoder.now)) item step) }
+fn step<D: Decoder>(
+    alloc: Global,
+    decoder: &mut D,
+    item: Item,
+    spared: bool,
+) -> Result<Step, Refused>
+    ensures follows { IfOk result (λ step. IsTakenPacket (D.takes decoder.old) item → FollowsFrom (decoded_item (D.made decoder.old)) item step) }
     ensures spare { IfOk result (λ step. spared ≡ true → GivesBack item step) }
     ensures back { IfErr result (λ refused. refused.item ≡ item) }
+    ensures same { decoder.new ≡ decoder.old }
 {
     if item.closes() {
         return Ok(closing(item));
@@ -175,7 +182,7 @@ impl<D: Decoder + Drop> Machine for Dec<D> {
             return Err(Refused { item });
         }
         let spared = self.spread.is_shared() | !is_uncut(self.cut);
-        match step(self.alloc, &self.decoder, item, spared) {
+        match step(self.alloc, &mut self.decoder, item, spared) {
             Ok(step) => match cut_step(&self.head, self.cut, step) {
                 Ok(left) => self.spread.follow(self.alloc, left),
                 Err(refused) => Err(refused),
