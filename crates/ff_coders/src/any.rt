@@ -1,3 +1,4 @@
+ghost use Rattle.std.specs.Prelude.{◌≡◌};
 ghost use Rattle.ff_coders.specs.AnyCoders.{any_head, any_takes, any_frame, any_decoded, any_serves, any_coded, any_accepts, any_packet, any_encoded, any_times};
 
 use crate::decoder::Decoder;
@@ -5,6 +6,7 @@ use crate::encoder::Encoder;
 use crate::flac::FlacDecoder;
 use crate::pcm::{PcmDecoder, PcmEncoder};
 use crate::raw::{RawDecoder, RawEncoder};
+use ff_flac_dec::FrameReceiver;
 use ff_frame::Item;
 use ff_values::Pkt;
 
@@ -17,6 +19,18 @@ pub enum AnyDecoder {
     Raw(RawDecoder),
     /// FLAC.
     Flac(FlacDecoder),
+}
+
+impl AnyDecoder {
+    /// Has a decoder of FLAC take the frames that a cut sends, so that it needn't read these packets itself. Each decodes as before.
+    pub fn take_frames_from(&mut self, frames: FrameReceiver)
+        ensures { self.new ≡ self.old }
+    {
+        match self {
+            AnyDecoder::Flac(decoder) => decoder.take_frames_from(frames),
+            AnyDecoder::Pcm(_) | AnyDecoder::Raw(_) => {}
+        }
+    }
 }
 
 impl Decoder for AnyDecoder {

@@ -1,5 +1,5 @@
 // FLAC.
-ghost use Rattle.std.specs.Prelude.{◌≡◌, ◌↔◌, ℕ, Some, IsTrue, IfOk, IfErr};
+ghost use Rattle.std.specs.Prelude.{◌≡◌, ◌↔◌, ℕ, Some, IsTrue, IfOk, IfErr, IfSome};
 ghost use Rattle.ff_values.specs.declared.packet.Pkt.{Pkt};
 ghost use Rattle.ff_values.specs.declared.audio.AFrame.{AFrame};
 ghost use Rattle.ff_values.specs.declared.head.StreamHead.{StreamHead};
@@ -12,7 +12,7 @@ ghost use Rattle.ff_coders.specs.FlacLaws.{HoldsSound, IsFoundIn, flac_decoded};
 
 use crate::decoder::Decoder;
 use crate::pcm::sample_frames;
-use ff_flac_dec::{DecodeEnd, FlacFrame, FlacHead, FrameEnd, decode, frame_at};
+use ff_flac_dec::{DecodeEnd, FlacFrame, FlacHead, FrameEnd, FrameReceiver, decode, frame_at};
 use ff_frame::Item;
 use ff_values::{Pkt, StreamHead};
 use std::alloc::{AllocError, Global};
@@ -22,6 +22,8 @@ use std::alloc::{AllocError, Global};
 pub struct FlacDecoder {
     alloc: Global,
     head: StreamHead,
+    /// Where frames come from that were read as their packets were cut.
+    frames: FrameReceiver,
     ghost stream: { IsStream (stream_of head) },
 }
 
@@ -33,7 +35,18 @@ impl FlacDecoder {
         requires { IsStream (stream_of head) }
         ensures { flac_head result ≡ head }
     {
-        FlacDecoder { alloc, head }
+        FlacDecoder {
+            alloc,
+            head,
+            frames: FrameReceiver::of_none(),
+        }
+    }
+
+    /// Has it take the frames that a cut sends, so that it needn't read these packets itself. It decodes as before.
+    pub fn take_frames_from(&mut self, frames: FrameReceiver)
+        ensures { self.new ≡ self.old }
+    {
+        self.frames = frames;
     }
 }
 
@@ -53,6 +66,29 @@ fn frame_in(alloc: Global, head: &FlacHead, packet: &Pkt) -> Result<Option<FlacF
         Err(FrameEnd::NotYet) => Ok(None),
         Err(FrameEnd::Never) => Ok(None),
         Err(FrameEnd::NoMemory) => Err(AllocError),
+    }
+}
+
+// The same, where a cut sent that frame.
+fn frame_sent(head: &FlacHead, frames: &mut FrameReceiver, packet: &Pkt) -> Option<FlacFrame>
+    ensures { IfSome result (λ f. (number : ℕ) × IsFlacPacket head.now.head packet.now (frame_of number f)) }
+{
+    frames.take(&head.stream(), packet.pos, packet.bytes.as_slice())
+}
+
+// The same, sent or read.
+fn frame_for(
+    alloc: Global,
+    head: &FlacHead,
+    frames: &mut FrameReceiver,
+    packet: &Pkt,
+) -> Result<Option<FlacFrame>, AllocError>
+    requires { IsStream (stream_of head.now.head) }
+    ensures { IfOk result (λ found. IsFoundIn head.now.head packet.now found) }
+{
+    match frame_sent(head, frames, packet) {
+        Some(frame) => Ok(Some(frame)),
+        None => frame_in(alloc, head, packet),
     }
 }
 
@@ -80,11 +116,16 @@ fn sound_of(
 }
 
 // The sound of a packet, if its bytes stand for any.
-fn sound_in(alloc: Global, head: &FlacHead, packet: &Pkt) -> Result<Option<Item>, AllocError>
+fn sound_in(
+    alloc: Global,
+    head: &FlacHead,
+    frames: &mut FrameReceiver,
+    packet: &Pkt,
+) -> Result<Option<Item>, AllocError>
     requires { IsStream (stream_of head.now.head) }
     ensures { IfOk result (λ sound. sound ≡ flac_frame head.now.head packet.now) }
 {
-    match frame_in(alloc, head, packet)? {
+    match frame_for(alloc, head, frames, packet)? {
         Some(frame) => sound_of(alloc, head, &frame, packet),
         None => Ok(None),
     }
@@ -108,7 +149,7 @@ impl Decoder for FlacDecoder {
             head: self.head,
             start: 0,
         };
-        match sound_in(self.alloc, &head, &packet) {
+        match sound_in(self.alloc, &head, &mut self.frames, &packet) {
             Ok(sound) => Ok(sound),
             Err(_) => Err(packet),
         }

@@ -9,8 +9,9 @@ ghost use Rattle.ff_coding.specs.Taken.{IsTakenPacket};
 use crate::cut::{cut_step, is_uncut, starts_over};
 use crate::spread::Spread;
 use crate::step::{Step, closing, discard};
-use ff_coders::Decoder;
+use ff_coders::{AnyDecoder, Decoder};
 use ff_filter::After;
+use ff_flac_dec::FrameReceiver;
 use ff_frame::{Event, Item, Pkt, Refused, StreamHead, Ticket};
 use ff_net::{Fault, Machine};
 use ff_time::TimeCut;
@@ -58,6 +59,15 @@ impl<D: Decoder + Drop> Dec<D> {
             cut,
             spread,
         })
+    }
+}
+
+impl Dec<AnyDecoder> {
+    /// Has it take the frames that a cut of FLAC sends, so that it needn't read these packets itself. It gives what it gave.
+    pub fn take_frames_from(&mut self, frames: FrameReceiver)
+        ensures { self.new ≡ self.old }
+    {
+        self.decoder.take_frames_from(frames);
     }
 }
 
