@@ -12,6 +12,7 @@ ghost use Rattle.ff_running.specs.Parts.{FitsDemux, HaveNumbers, IsFitting, IsAs
 ghost use Rattle.ff_edges.specs.Ports.{lanes_into as lanes_into_of, lanes_out_of as lanes_out_of_node};
 ghost use Rattle.ff_plan.specs.declared.planned.PlanNode.{PlanNode};
 
+use crate::connecting::connect_all;
 use crate::cuts::{cuts_out_of, input_cut};
 use crate::graphs::{graph_at, shortest_at};
 use crate::kinds::Kinds;
@@ -222,7 +223,7 @@ fn part_of<
     )
 }
 
-/// The parts of all nodes, or where memory is refused those of the nodes in front.
+/// The parts of all nodes, told of each other along the edges, or where memory is refused those of the nodes in front, at most of all.
 pub(crate) fn build<
     K: Kinds<Src, Snk, M>,
     Src: Source + Send + Drop,
@@ -232,6 +233,7 @@ pub(crate) fn build<
     alloc: Global,
     nodes: &[PlanNode],
     edges: &[Edge],
+    queue: usize,
     heads: &[K::Head],
     job: &Job,
     texts: &[GraphText],
@@ -257,5 +259,8 @@ pub(crate) fn build<
             None => return Err(parts),
         }
     }
-    Ok(parts)
+    match connect_all::<K, Src, Snk, M>(alloc, queue, edges, parts.as_mut_slice()) {
+        Ok(()) => Ok(parts),
+        Err(_) => Err(parts),
+    }
 }

@@ -119,6 +119,17 @@ pub trait Kinds<Src: Source + Send + Drop, Snk: Sink + Send + Drop, Part: Machin
         ensures starts { IfOk result (λ m. Snk.holds snk ≡ Some [] → (Part.view m).stands (start (is.mux_task first out.now coded.now))) }
         ensures back { IfErr result (λ back. back ≡ snk) };
 
+    /// Lets a part that gives packets and a part that takes them know of each other, where the queue between them holds so many, so that
+    /// the one may spare the other some work. Nothing that they mean changes.
+    fn connect(
+        alloc: Global,
+        queue: usize,
+        giver: &mut Part,
+        taker: &mut Part,
+    ) -> Result<(), AllocError>
+        ensures giver { giver.new ≡ giver.old }
+        ensures taker { taker.new ≡ taker.old };
+
     /// Under how many of its tickets, from the first on, a part has tried a unit.
     fn tried(part: &Part) -> u64
         ensures { result ≡ (Part.view part.now).tried };

@@ -177,7 +177,7 @@ fn build_and_run<
     ensures told { result.fault ≡ None → IsSome result.log }
     ensures reads { IfSome result.log (λ log. places_in log.reads.items ≡ first_reads M.view (length heads.now) nodes.now result.machines.items log.history) }
 {
-    match build::<K, Src, Snk, M>(alloc, nodes, edges, heads, job, texts, parts, places) {
+    match build::<K, Src, Snk, M>(alloc, nodes, edges, size, heads, job, texts, parts, places) {
         Ok(parts) => {
             let inputs = heads.len() as u32;
             run_parts::<C, K, R, Src, Snk, M>(rt, alloc, inputs, nodes, parts, edges, size, opening)
