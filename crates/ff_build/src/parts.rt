@@ -5,11 +5,13 @@ ghost use Rattle.ff_build.specs.Parts.{is_flac as flac_is, is_flac_coded as flac
 use crate::part::Part;
 use crate::through::Through;
 use ff_best::Leading;
-use ff_coders::{decoder_of, encoder_of};
+use ff_coders::{AnyDecoder, decoder_of, encoder_of};
 use ff_coding::{Dec, Enc};
 use ff_composed::graph_machine;
+use ff_cuts::AnyCut;
 use ff_demuxing::Demux;
 use ff_flac_coder::{FlacEnc, InOrder};
+use ff_flac_dec::frame_channel;
 use ff_heads::InputHead;
 use ff_host::{Sink, Source};
 use ff_lang::Graph;
@@ -41,6 +43,28 @@ fn is_flac_coded(coded: &StreamHead) -> bool
         StreamHead::Audio { codec, .. } => is_flac(*codec),
         StreamHead::Video { .. } => false,
     }
+}
+
+/// How many packets are on no queue: the one that waits for room on it, and the one that is being decoded.
+const IN_HAND: usize = 2;
+
+// Has a demuxer of FLAC send each frame that it has read to the decoder of its packets, which reads the others itself.
+fn share_frames<Src: Source + Drop>(
+    alloc: Global,
+    queue: usize,
+    demux: &mut Demux<Src, AnyCut>,
+    dec: &mut Dec<AnyDecoder>,
+) -> Result<(), AllocError>
+    ensures demux { demux.new ≡ demux.old }
+    ensures dec { dec.new ≡ dec.old }
+{
+    if !demux.sends_frames() {
+        return Ok(());
+    }
+    let (sender, receiver) = frame_channel(alloc, queue.saturating_add(IN_HAND))?;
+    demux.send_frames_to(sender);
+    dec.take_frames_from(receiver);
+    Ok(())
 }
 
 /// The kinds of node of a plan, over any format and codec that is read or written.
@@ -147,6 +171,21 @@ impl<Src: Source + Send + Drop, Snk: Sink + Send + Drop> Kinds<Src, Snk, Part<Sr
             Ok(mux) => Ok(Part::Mux(mux)),
             Err(snk) => Err(snk),
         }
+    }
+
+    fn connect(
+        alloc: Global,
+        queue: usize,
+        giver: &mut Part<Src, Snk>,
+        taker: &mut Part<Src, Snk>,
+    ) -> Result<(), AllocError> {
+        let Part::Demux(demux) = giver else {
+            return Ok(());
+        };
+        let Part::Dec(dec) = taker else {
+            return Ok(());
+        };
+        share_frames(alloc, queue, demux, dec)
     }
 
     fn tried(part: &Part<Src, Snk>) -> u64 {
