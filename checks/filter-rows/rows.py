@@ -1,4 +1,4 @@
-"""Rows of the tables of crates/ff_filter_rows: the text of heads and items, and what must come at each step of a row."""
+"""Rows of the tables of crates/ff_rows_filter: the text of heads and items, and what must come at each step of a row."""
 
 from filters import BROKEN, OPEN, WHOLE, Refused, Stream, configured, frame, is_sound, sizes
 

@@ -6,17 +6,17 @@ use Rattle.std.proofs.lemmas.List.{length-map}
 use Rattle.std.proofs.lemmas.List.FromFn.{length-map-range_with_len, get_or-map-range_with_len}
 use Rattle.std.proofs.lemmas.Nat.{div-mul-add}
 use Rattle.ff_time.specs.Fraction.{Fraction}
-use Rattle.ff_values.specs.declared.audio.AFrame.{AFrame}
-use Rattle.ff_values.specs.declared.head.Codec.{Codec}
-use Rattle.ff_values.specs.declared.head.StreamHead.TheVariants.{Audio as AudioHead}
-use Rattle.ff_values.specs.Audio.{IsAudio, FitsBits}
-use Rattle.ff_frame.specs.declared.item.Item.{Item}
-use Rattle.ff_frame.specs.declared.item.Item.TheVariants.{Audio, Video, Packet, Trailer, End, Broken}
-use Rattle.ff_frame.specs.declared.item.Lane.TheVariants.{Frames}
-use Rattle.ff_frame.specs.Stream.{map_stream}
-use Rattle.ff_frame.specs.Times.{HasTime, start_of, end_of, ticks, IsInTime}
-use Rattle.ff_frame.specs.Lanes.{Follows, InOrder, IsItemFor, EndsInTime}
-use Rattle.ff_spread.specs.Valid.{GivesValid}
+use Rattle.ff_frame.specs.declared.audio.AFrame.{AFrame}
+use Rattle.ff_frame.specs.declared.head.Codec.{Codec}
+use Rattle.ff_frame.specs.declared.head.StreamHead.TheVariants.{Audio as AudioHead}
+use Rattle.ff_frame.specs.Audio.{IsAudio, FitsBits}
+use Rattle.ff_stream.specs.declared.item.Item.{Item}
+use Rattle.ff_stream.specs.declared.item.Item.TheVariants.{Audio, Video, Packet, Trailer, End, Broken}
+use Rattle.ff_stream.specs.declared.item.Lane.TheVariants.{Frames}
+use Rattle.ff_stream.specs.Stream.{map_stream}
+use Rattle.ff_stream.specs.Times.{HasTime, start_of, end_of, ticks, IsInTime}
+use Rattle.ff_stream.specs.Lanes.{Follows, InOrder, IsItemFor, EndsInTime}
+use Rattle.ff_filter.specs.spread.Valid.{GivesValid}
 use Rattle.ff_afilter.specs.Channels.{channel_of, channel_frame, channel_item}
 use Rattle.ff_afilter.proofs.Picking.{sample_there}
 

@@ -1,8 +1,8 @@
 -- A trim is configured.
 use Rattle.std.proofs.Common.{◌≡◌, List, None, Result, Ok, Err, inr, refl}
-use Rattle.ff_values.specs.declared.config.ConfigError.{ConfigError}
-use Rattle.ff_values.specs.declared.head.StreamHead.{StreamHead}
-use Rattle.ff_values.specs.Heads.{base_of_head}
+use Rattle.ff_frame.specs.declared.config.ConfigError.{ConfigError}
+use Rattle.ff_frame.specs.declared.head.StreamHead.{StreamHead}
+use Rattle.ff_frame.specs.Heads.{base_of_head}
 use Rattle.ff_lang.specs.declared.graph.Arg.{Arg}
 use Rattle.ff_filter.specs.declared.range.Range.{Range}
 use Rattle.ff_filter.specs.declared.range.RangeSettings.{RangeSettings}

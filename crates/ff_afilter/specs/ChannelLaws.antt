@@ -1,7 +1,7 @@
 -- What is made of an item for a channel closes nothing where the item doesn't.
 use Rattle.std.specs.Prelude.{◌≡◌, ℕ, false}
-use Rattle.ff_frame.specs.declared.item.Item.{Item}
-use Rattle.ff_frame.specs.declared.item.Item.TheVariants.{Audio, Video, Packet, Trailer, End, Broken}
+use Rattle.ff_stream.specs.declared.item.Item.{Item}
+use Rattle.ff_stream.specs.declared.item.Item.TheVariants.{Audio, Video, Packet, Trailer, End, Broken}
 use Rattle.ff_filter.specs.Views.{closes}
 use Rattle.ff_afilter.specs.Channels.{channel_item}
 

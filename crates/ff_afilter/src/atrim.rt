@@ -1,8 +1,8 @@
 ghost use Rattle.std.specs.Prelude.{◌≡◌, ◌+◌, ◌-◌, ◌*◌, ◌/◌, ◌<◌, ◌≤◌, ◌^◌, pos, length, IfOk, IfErr, IfSome, Some, false};
-ghost use Rattle.ff_frame.specs.declared.item.Item.{Item};
-ghost use Rattle.ff_frame.specs.declared.item.Item.TheVariants.{Audio};
-ghost use Rattle.ff_frame.specs.declared.item.Lane.TheVariants.{Frames};
-ghost use Rattle.ff_frame.specs.Times.{ticks};
+ghost use Rattle.ff_stream.specs.declared.item.Item.{Item};
+ghost use Rattle.ff_stream.specs.declared.item.Item.TheVariants.{Audio};
+ghost use Rattle.ff_stream.specs.declared.item.Lane.TheVariants.{Frames};
+ghost use Rattle.ff_stream.specs.Times.{ticks};
 ghost use Rattle.ff_filter.specs.Views.{closes};
 ghost use Rattle.ff_filter.specs.Made.{listed_option};
 ghost use Rattle.ff_filter.specs.Ranges.{is_past};
@@ -11,8 +11,9 @@ use ff_filter::{
     After, Filter, Given, Limited, Range, RangeSettings, Step, Stepper, machine_of, shared,
     sound_settings, ticks_of,
 };
-use ff_frame::{AFrame, ConfigError, Item, Refused, StreamHead};
+use ff_frame::{AFrame, ConfigError, StreamHead};
 use ff_lang::Arg;
+use ff_stream::{Item, Refused};
 use std::alloc::Global;
 
 /// `atrim`: the sound from a start to below an end, cut at the sample frame. The output ends with the first frame that ends
@@ -94,7 +95,7 @@ impl ATrim {
 impl Step for ATrim {
     ghost use Rattle.ff_afilter.specs.Trims.{sound_trimmed};
     ghost use Rattle.ff_afilter.specs.TrimLaws.{trimmed-below, trimmed-calm, trimmed-settles, trimmed-bare};
-    ghost use Rattle.ff_frame.specs.Stream.{still_open, whole, broken};
+    ghost use Rattle.ff_stream.specs.Stream.{still_open, whole, broken};
 
     ghost lane_in = { λ m. Frames m.head };
 

@@ -1,12 +1,12 @@
 ghost use Rattle.std.specs.Prelude.{◌≡◌, ◌<◌, ◌+◌, ◌*◌, ◌/◌, length, cond, nat_lt, false, replicate, IfOk, IfErr};
-ghost use Rattle.ff_frame.specs.declared.item.Lane.TheVariants.{Frames};
-ghost use Rattle.ff_values.specs.declared.config.ConfigError.TheVariants.{NoMemory};
+ghost use Rattle.ff_stream.specs.declared.item.Lane.TheVariants.{Frames};
+ghost use Rattle.ff_frame.specs.declared.config.ConfigError.TheVariants.{NoMemory};
 ghost use Rattle.ff_afilter.specs.Channels.{channel_of, channel_frame, mono_head as head_of_one, channels_in as channels_of_head, channels_view, mono_heads};
 
-use ff_filter::{Filter, NoSettings, shared, sound_settings};
-use ff_frame::{AFrame, ConfigError, Item, Samples, StreamHead};
+use ff_filter::{Filter, NoSettings, Share, Spreader, same_heads, shared, sound_settings};
+use ff_frame::{AFrame, ConfigError, Samples, StreamHead};
 use ff_lang::Arg;
-use ff_spread::{Share, Spreader, same_heads};
+use ff_stream::Item;
 use std::alloc::{AllocError, Global};
 
 /// Gives each output one channel.
@@ -183,7 +183,7 @@ pub struct ChannelSplit {}
 
 impl ChannelSplit {
     ghost use Rattle.ff_filter.specs.Options.{IsRefused};
-    ghost use Rattle.ff_spread.specs.Many.{AreMade};
+    ghost use Rattle.ff_filter.specs.spread.Many.{AreMade};
     ghost use Rattle.ff_afilter.specs.Channels.{IsChannelSplit};
 
     /// The filter by its arguments, of which it takes none, and the head of its input; beside it a head for each channel, which

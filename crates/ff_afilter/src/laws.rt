@@ -1,19 +1,19 @@
 //! Laws of the filters' functions: functions that do nothing, whose clauses hold of all values.
 ghost use Rattle.std.specs.Prelude.{ℕ, ◌<◌, List, None};
 ghost use Rattle.ff_time.specs.Fraction.{Fraction};
-ghost use Rattle.ff_values.specs.declared.head.Codec.{Codec};
-ghost use Rattle.ff_values.specs.declared.head.StreamHead.TheVariants.{Audio as AudioHead};
-ghost use Rattle.ff_frame.specs.declared.item.Lane.{Lane};
-ghost use Rattle.ff_frame.specs.declared.item.Lane.TheVariants.{Frames};
-ghost use Rattle.ff_frame.specs.Breaks.{KeepsBrokenRule};
-ghost use Rattle.ff_frame.specs.Lanes.{IsValid};
-ghost use Rattle.ff_frame.specs.Ports.{stream_at};
-ghost use Rattle.ff_frame.specs.Stream.{map_stream};
+ghost use Rattle.ff_frame.specs.declared.head.Codec.{Codec};
+ghost use Rattle.ff_frame.specs.declared.head.StreamHead.TheVariants.{Audio as AudioHead};
+ghost use Rattle.ff_stream.specs.declared.item.Lane.{Lane};
+ghost use Rattle.ff_stream.specs.declared.item.Lane.TheVariants.{Frames};
+ghost use Rattle.ff_stream.specs.Breaks.{KeepsBrokenRule};
+ghost use Rattle.ff_stream.specs.Lanes.{IsValid};
+ghost use Rattle.ff_stream.specs.Ports.{stream_at};
+ghost use Rattle.ff_stream.specs.Stream.{map_stream};
 ghost use Rattle.ff_filter.specs.declared.range.Range.{Range};
 ghost use Rattle.ff_filter.specs.Joins.{Flow};
 ghost use Rattle.ff_filter.specs.Shifts.{shifted};
 ghost use Rattle.ff_filter.specs.Sound.{IsSound};
-ghost use Rattle.ff_spread.specs.Valid.{GivesValid};
+ghost use Rattle.ff_filter.specs.spread.Valid.{GivesValid};
 ghost use Rattle.ff_afilter.specs.Channels.{channel_item};
 ghost use Rattle.ff_afilter.specs.Trims.{sound_trimmed};
 

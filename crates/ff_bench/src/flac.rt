@@ -1,11 +1,11 @@
 //! Blocks of sound as FLAC frames.
 
 ghost use Rattle.std.specs.Prelude.{◌≡◌, ◌*◌, ◌≤◌, IfOk, All, length};
-ghost use Rattle.ff_values.specs.Audio.{FitsBits};
+ghost use Rattle.ff_frame.specs.Audio.{FitsBits};
 ghost use Rattle.ff_flac_enc.specs.Frame.{IsBlock};
 
 use ff_flac_enc::encode_block;
-use ff_values::{AFrame, Samples};
+use ff_frame::{AFrame, Samples};
 use std::alloc::{AllocError, Global};
 use std::io;
 use std::rt::Clock;

@@ -4,10 +4,10 @@ ghost use Rattle.std.specs.Prelude.{◌≡◌, ◌+◌, ◌*◌, ◌^◌, ◌≤
 ghost use Rattle.ff_y4m.specs.Cuts.{full_frame, place_of, has_ended};
 ghost use Rattle.ff_y4m.specs.Packets.{IsHead};
 
-use ff_cut::PacketCut;
+use ff_frame::{Cut, Format, Pkt, StreamHead};
 use ff_pcm::{raw_decode, raw_encode};
+use ff_reader::PacketCut;
 use ff_time::Rational;
-use ff_values::{Cut, Format, Pkt, StreamHead};
 use ff_y4m::{Y4mCut, Y4mHead};
 use std::alloc::{AllocError, Global};
 use std::io;

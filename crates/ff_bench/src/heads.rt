@@ -1,7 +1,7 @@
 //! A head of 2^28 bytes, all of them chunks that are passed over, read at once and in pieces.
 
+use ff_frame::HeadEnd;
 use ff_lists::front;
-use ff_values::HeadEnd;
 use ff_wav::{WavWalk, read_head};
 use std::alloc::{AllocError, Global};
 use std::io;

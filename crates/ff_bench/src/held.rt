@@ -4,10 +4,10 @@ ghost use Rattle.std.specs.Prelude.{◌≡◌};
 ghost use Rattle.ff_flac_dec.specs.Streams.{IsHead};
 
 use ff_bits::crc8;
-use ff_cut::PacketCut;
 use ff_flac_dec::{FlacCut, FlacHead, read_head};
+use ff_frame::Cut;
 use ff_lists::{from_place, front};
-use ff_values::Cut;
+use ff_reader::PacketCut;
 use std::alloc::{AllocError, Global};
 use std::io;
 use std::rt::Clock;

@@ -1,9 +1,9 @@
 //! Items that pass over a link from one thread to another.
 
 ghost use Rattle.std.specs.Prelude.{◌≤◌, ◌^◌};
-ghost use Rattle.ff_net_plain.specs.Packets.{IsWhole};
+ghost use Rattle.ff_test_machines.specs.Packets.{IsWhole};
 
-use ff_net_plain::{one_over, pass_packets};
+use ff_test_machines::{one_over, pass_packets};
 use ff_time::Rational;
 use std::alloc::Global;
 use std::io;

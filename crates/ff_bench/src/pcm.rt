@@ -1,15 +1,15 @@
 //! Samples of the bytes of packets, and bytes of the samples of frames.
 
 ghost use Rattle.std.specs.Prelude.{◌≡◌, ◌≤◌, ◌*◌, IfOk, length};
-ghost use Rattle.ff_values.specs.Audio.{IsAudio};
-ghost use Rattle.ff_values.specs.Heads.{IsFrameOf};
-ghost use Rattle.ff_values.specs.Codecs.{IsPcmCodec, sample_bytes};
+ghost use Rattle.ff_frame.specs.Audio.{IsAudio};
+ghost use Rattle.ff_frame.specs.Heads.{IsFrameOf};
+ghost use Rattle.ff_frame.specs.Codecs.{IsPcmCodec, sample_bytes};
 ghost use Rattle.ff_pcm.specs.Frames.{IsPcmHead, HasBlocks};
 ghost use Rattle.ff_pcm.specs.Samples.{depth};
 
+use ff_frame::{AFrame, Bytes, Codec, Pkt, StreamHead};
 use ff_pcm::{pcm_decode, pcm_encode};
 use ff_time::Rational;
-use ff_values::{AFrame, Bytes, Codec, Pkt, StreamHead};
 use std::alloc::{AllocError, Global};
 use std::io;
 use std::rt::Clock;

@@ -2,8 +2,8 @@
 
 ghost use Rattle.std.specs.Prelude.{◌≡◌, ◌<◌, ◌≤◌, ◌^◌, [], length, IfOk};
 
+use ff_frame::Event;
 use ff_sched::{Graphs, Pass, Routes, SchedCell, SchedState, Way, Ways};
-use ff_values::Event;
 use std::alloc::{AllocError, Global};
 use std::io;
 use std::rt::Clock;

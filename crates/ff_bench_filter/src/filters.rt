@@ -1,9 +1,10 @@
 // Filters of pictures of 1920x1080 in 4:2:0, from memory to memory.
 
 use ff_filter::Filter;
-use ff_frame::{Bytes, ConfigError, Format, Item, StreamHead, VFrame};
+use ff_frame::{Bytes, ConfigError, Format, StreamHead, VFrame};
+use ff_fsync::{HStack, VStack};
 use ff_lang::{Filter as Named, read_graph};
-use ff_stacks::{HStack, VStack};
+use ff_stream::Item;
 use ff_time::Rational;
 use ff_vfilter::{Crop, Fps, HFlip, Pad, Split, VFlip};
 use std::alloc::{AllocError, Global};

@@ -2,23 +2,23 @@
 use Rattle.std.proofs.Common.{◌≡◌, ◌≢◌, ◌⊎◌, inl, inr, ℕ, zero, suc, ◌<◌, ◌≤◌, Bool, true, false, if◌then◌else◌, nat_lt, List, [], ◌∷◌, ◌++◌, length, Option, Some, None, IsSome, IfSome, refl, sym, ap, subst, ◌∙◌, arith}
 use Rattle.std.proofs.lemmas.Bool.Decides.{nat_tests}
 use Rattle.std.specs.Prelude.{option_to_list, unwrap_or}
-use Rattle.ff_values.specs.declared.event.Event.{Event}
+use Rattle.ff_frame.specs.declared.event.Event.{Event}
 use Rattle.ff_sched.specs.Printing.{printed}
 use Rattle.ff_host.specs.Causes.{Rose, SameCounts}
 use Rattle.ff_host.specs.Files.{Files, KeepsFiles}
-use Rattle.ff_cut.specs.declared.fault.HeadFault.{HeadFault}
-use Rattle.ff_cut.specs.declared.fault.HeadFault.TheVariants as fault
+use Rattle.ff_reader.specs.declared.fault.HeadFault.{HeadFault}
+use Rattle.ff_reader.specs.declared.fault.HeadFault.TheVariants as fault
 use Rattle.ff_words.specs.declared.job.InputJob.{InputJob}
 use Rattle.ff_words.specs.declared.job.OutputJob.{OutputJob}
 use Rattle.ff_words.specs.declared.job.Job.{Job}
-use Rattle.ff_heads.specs.declared.head.InputHead.{InputHead}
+use Rattle.ff_input.specs.declared.heads.head.InputHead.{InputHead}
 use Rattle.ff_plan.specs.declared.planned.PlanError.{PlanError}
 use Rattle.ff_plan.specs.declared.planned.PlanError.TheVariants as why
-use Rattle.ff_running.specs.declared.fault.RunFault.{RunFault}
-use Rattle.ff_running.specs.declared.fault.RunFault.TheVariants as run_fault
+use Rattle.ff_run_plan.specs.declared.fault.RunFault.{RunFault}
+use Rattle.ff_run_plan.specs.declared.fault.RunFault.TheVariants as run_fault
 use Rattle.ff_files.specs.Names.{name_at, names_of, KeepsAllBut}
 use Rattle.ff_files.specs.Counts.{Counts, Faulted, KeepsCounts}
-use Rattle.ff_heads.specs.Formats.{input_head}
+use Rattle.ff_input.specs.heads.Formats.{input_head}
 use Rattle.ff_files.specs.Works.{Meaning, Command, HoldMeaning, HoldTrace, HoldWritten}
 use Rattle.ff_files.specs.Ends as ends
 use Rattle.ff_files.specs.Ends.{Ends, IsPlanned, IsFirstRefused, HasNoPlan, CanBeDone, refusal, sound_inputs, sound_outputs}

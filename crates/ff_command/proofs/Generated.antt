@@ -12,15 +12,15 @@ use Rattle.ff_words.specs.declared.job.Solo.TheVariants.{SelfRun}
 use Rattle.ff_words.specs.Bounds.{IsBounded}
 use Rattle.ff_words.specs.Words.{written}
 use Rattle.ff_words.proofs.Unique.{answer-one}
-use Rattle.ff_heads.specs.declared.head.InputHead.{InputHead}
+use Rattle.ff_input.specs.declared.heads.head.InputHead.{InputHead}
 use Rattle.ff_plan.specs.declared.planned.PlanError.{PlanError}
-use Rattle.ff_running.specs.declared.fault.RunFault.{RunFault}
+use Rattle.ff_run_plan.specs.declared.fault.RunFault.{RunFault}
 use Rattle.ff_files.specs.Counts.{Counts}
 use Rattle.ff_files.specs.Names.{name_at}
 use Rattle.ff_files.specs.Works.{Meaning, HasLog, meaning}
 use Rattle.ff_files.specs.Ends.{IsFirstRefused, HasNoPlan, CanBeDone}
-use Rattle.ff_self_run.specs.SelfRun.{IsOwnJob, own_files, own_line, own_words}
-use Rattle.ff_self_run.proofs.Own.{own_job, own-read}
+use Rattle.ff_selfrun.specs.SelfRun.{IsOwnJob, own_files, own_line, own_words}
+use Rattle.ff_selfrun.proofs.Own.{own_job, own-read}
 use Rattle.ff_command.specs.declared.report.FileRef.{FileRef}
 use Rattle.ff_command.specs.declared.report.FileRef.TheVariants.{Input, Output, Trace}
 use Rattle.ff_command.specs.declared.report.Status.{Status}

@@ -1,13 +1,13 @@
 -- What is reported of a run, by what it has logged.
 use Rattle.std.proofs.Common.{◌≡◌, ℕ, List, Option, None, Some, IfSome}
-use Rattle.ff_values.specs.declared.event.Event.{Event}
+use Rattle.ff_frame.specs.declared.event.Event.{Event}
 use Rattle.ff_words.specs.declared.error.WordError.{WordError}
 use Rattle.ff_words.specs.declared.error.WordError.TheVariants.{At, NoMemory}
 use Rattle.ff_files.specs.Works.{HasLog}
 use Rattle.ff_command.specs.declared.report.Status.TheVariants as status
 use Rattle.ff_command.specs.Histories.{history_in, reads_in}
-use Rattle.ff_running.specs.declared.reads.RunLog.{RunLog}
-use Rattle.ff_running.specs.Reads.{places_in}
+use Rattle.ff_run_plan.specs.declared.reads.RunLog.{RunLog}
+use Rattle.ff_run_plan.specs.Reads.{places_in}
 use Rattle.ff_command.specs.Steps.{wrong_words}
 
 -- what is so of a log is so of it in other words

@@ -1,7 +1,7 @@
 -- What is told of the command itself: the texts that `-h` and `-version` ask for.
 use Rattle.std.specs.Prelude.{ℕ, ◌-◌, Bool, true, false, List, [], ◌∷◌, ◌++◌, length, map, replicate, codes}
 use Rattle.ff_lists.specs.Text.{line}
-use Rattle.ff_values.specs.declared.head.Codec.{Codec}
+use Rattle.ff_frame.specs.declared.head.Codec.{Codec}
 use Rattle.ff_words.specs.declared.job.FileFormat.{FileFormat}
 use Rattle.ff_words.specs.declared.table.Concern.{Concern}
 use Rattle.ff_words.specs.declared.table.Concern.TheVariants as concern

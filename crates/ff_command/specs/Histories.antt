@@ -1,8 +1,8 @@
 -- What a run has logged, where there is something: the events of its history, and the reads of its inputs.
 use Rattle.std.specs.Prelude.{ℕ, List, [], Option, None, Some}
-use Rattle.ff_values.specs.declared.event.Event.{Event}
-use Rattle.ff_running.specs.declared.reads.RunLog.{RunLog}
-use Rattle.ff_running.specs.Reads.{places_in}
+use Rattle.ff_frame.specs.declared.event.Event.{Event}
+use Rattle.ff_run_plan.specs.declared.reads.RunLog.{RunLog}
+use Rattle.ff_run_plan.specs.Reads.{places_in}
 
 abbrev pub events_in : Option (List Event) → List Event
 events_in None = []

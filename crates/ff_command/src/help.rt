@@ -5,7 +5,7 @@ ghost use Rattle.ff_words.specs.Table.{lines, formats, codecs, names};
 ghost use Rattle.ff_command.specs.Help.{left, all_lines, concerned, taken, effect as effect_of, option_line, option_lines, ways, format_line, format_lines};
 ghost use Rattle.ff_command.specs.Help.{codec_lines, help_text, version_text};
 
-use ff_values::Codec;
+use ff_frame::Codec;
 use ff_words::{AUDIO_CODECS, Concern, FORMATS, FileFormat, Kind, OPTIONS, VIDEO_CODECS};
 use std::alloc::{AllocError, Global};
 

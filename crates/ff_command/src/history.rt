@@ -2,8 +2,8 @@
 ghost use Rattle.std.specs.Prelude.{◌≡◌};
 ghost use Rattle.ff_command.specs.Histories.{events_in};
 
+use ff_frame::Event;
 use ff_sched::History as Scheduled;
-use ff_values::Event;
 use std::marker::Model;
 
 /// All that the scheduler of a run granted and was told, in one order.
@@ -14,7 +14,7 @@ pub struct History {
 
 impl Model for History {
     ghost use Rattle.std.specs.Prelude.{List};
-    ghost use Rattle.ff_values.specs.declared.event.Event.{Event};
+    ghost use Rattle.ff_frame.specs.declared.event.Event.{Event};
     ghost use Rattle.ff_command.specs.Histories.{events_in};
 
     ghost Value = { List Event };

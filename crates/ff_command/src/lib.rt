@@ -9,7 +9,7 @@
 //! lines of faults and the numbers. [`run_command`] is proved to keep to them over any host, any log and any [`Worker`]: what is done
 //! of a job between the opening of its inputs and the closing of its outputs a worker says, and does. The history of a run is
 //! reported, and printed into the file of the trace where the words ask for one. What is told of the command itself, where an option
-//! stands alone, is in `specs/Help`, over the lists by which words are read. The run over generated input (ff_self_run) is a job like
+//! stands alone, is in `specs/Help`, over the lists by which words are read. The run over generated input (ff_selfrun) is a job like
 //! any other, over a host in memory, by a worker of its own.
 #![tactic(auto)]
 
@@ -25,7 +25,6 @@ mod worker;
 mod written;
 
 pub use command::run_command;
-pub use ff_values::Event;
 pub use history::History;
 pub use report::{FileRef, Line, Report, Status, status_number};
 pub use texts::fault_line;

@@ -4,8 +4,8 @@ ghost use Rattle.ff_lists.specs.Text.{line};
 ghost use Rattle.ff_command.specs.Texts.{word_fault, filter_fault, plan_fault, status_fault, fault_text};
 
 use crate::report::Status;
+use ff_frame::ConfigError;
 use ff_plan::PlanError;
-use ff_values::ConfigError;
 use ff_words::WordKind;
 use std::alloc::{AllocError, Global};
 

@@ -2,8 +2,8 @@
 ghost use Rattle.std.specs.Prelude.{◌≡◌, ◌≢◌, ◌⊎◌, ◌≤◌, ℕ, List, None, Some, Ok, IfSome, IsSome, codes};
 ghost use Rattle.ff_words.specs.declared.job.Solo.TheVariants.{SelfRun};
 ghost use Rattle.ff_files.specs.Works.{HasLog};
-ghost use Rattle.ff_memory_host.specs.QuietHost.{quiet_files};
-ghost use Rattle.ff_self_run.specs.SelfRun.{own_line as line_of};
+ghost use Rattle.ff_host.specs.memory.QuietHost.{quiet_files};
+ghost use Rattle.ff_selfrun.specs.SelfRun.{own_line as line_of};
 ghost use Rattle.ff_command.specs.Command.{IsText, IsSoloText, IsGeneratedText, IsOwnAnswer, ReportsOwn};
 ghost use Rattle.ff_command.specs.Histories.{LogHas};
 
@@ -11,10 +11,9 @@ use crate::help::{help, version};
 use crate::report::Status;
 use crate::run::{JobRun, run_job};
 use crate::worker::Worker;
-use ff_host::Begun;
-use ff_memory_host::{QuietHost, QuietSink, QuietSource};
-use ff_running::RunLog;
-use ff_self_run::{own_host, own_job, own_line};
+use ff_host::{Begun, QuietHost, QuietSink, QuietSource};
+use ff_run_plan::RunLog;
+use ff_selfrun::{own_host, own_job, own_line};
 use ff_words::Solo;
 use std::alloc::{AllocError, Global};
 

@@ -1,20 +1,20 @@
 //! How jobs are worked.
 ghost use Rattle.std.specs.Prelude.{◌≡◌, List, ℕ, Option, None, Some, IfErr, OnOk, IfOk, IfSome, length};
 ghost use Rattle.ff_files.specs.Works.{Meaning, AreTold, HoldFiles, HoldParts, KeepEnds, FailNoMore, EndsWork, HasLog, sound_sources, sound_sinks};
-ghost use Rattle.ff_values.specs.declared.event.Event.{Event};
+ghost use Rattle.ff_frame.specs.declared.event.Event.{Event};
 ghost use Rattle.ff_sched.specs.Printing.{printed};
-ghost use Rattle.ff_heads.specs.declared.head.InputHead.{InputHead};
+ghost use Rattle.ff_input.specs.declared.heads.head.InputHead.{InputHead};
 ghost use Rattle.ff_plan.specs.declared.planned.PlanError.{PlanError};
-ghost use Rattle.ff_running.specs.declared.fault.RunFault.{RunFault};
+ghost use Rattle.ff_run_plan.specs.declared.fault.RunFault.{RunFault};
 ghost use Rattle.ff_words.specs.declared.job.Job.{Job};
 ghost use Rattle.ff_command.specs.Histories.{LogHas};
 ghost use Rattle.ff_command.specs.Steps.{AreAllHeads};
 
 use ff_files::{Done, PlanEnd, Work, WorkEnd};
-use ff_heads::InputHead;
 use ff_host::{Sink, Source};
+use ff_input::InputHead;
 use ff_plan::PlanError;
-use ff_running::{RunFault, RunLog};
+use ff_run_plan::{RunFault, RunLog};
 use ff_sched::print_history;
 use ff_words::Job;
 use std::alloc::{AllocError, Global};

@@ -1,9 +1,9 @@
 -- The answers of a reader that decides the head of its bytes, whatever follows, are those that an input's head is read by.
 use Rattle.std.proofs.Common.{◌≡◌, ℕ, Bool, true, false, List, [], ◌++◌, Result, Ok, Err, refl, sym, ap, ◌∙◌, append-nil}
-use Rattle.ff_values.specs.declared.cut.HeadEnd.{HeadEnd}
-use Rattle.ff_values.specs.declared.cut.HeadEnd.TheVariants as head_end
-use Rattle.ff_cut.specs.declared.fault.HeadFault.TheVariants.{Damaged, Unsupported}
-use Rattle.ff_cut.specs.Heads.{Found, answered}
+use Rattle.ff_frame.specs.declared.cut.HeadEnd.{HeadEnd}
+use Rattle.ff_frame.specs.declared.cut.HeadEnd.TheVariants as head_end
+use Rattle.ff_reader.specs.declared.fault.HeadFault.TheVariants.{Damaged, Unsupported}
+use Rattle.ff_reader.specs.Heads.{Found, answered}
 use Rattle.ff_files.specs.Heads.{Decide, Answers}
 
 module _ {H : Type 0} (head : List ℕ → Found H) where

@@ -4,8 +4,8 @@ use Rattle.ff_host.specs.Causes.{Rose}
 use Rattle.ff_host.specs.Files.{Files, KeepsFiles}
 use Rattle.ff_host.specs.declared.host.HostError.{HostError}
 use Rattle.ff_host.specs.declared.host.HostError.TheVariants as host_error
-use Rattle.ff_cut.specs.declared.fault.HeadFault.{HeadFault}
-use Rattle.ff_cut.specs.declared.fault.HeadFault.TheVariants as fault
+use Rattle.ff_reader.specs.declared.fault.HeadFault.{HeadFault}
+use Rattle.ff_reader.specs.declared.fault.HeadFault.TheVariants as fault
 use Rattle.ff_files.specs.Names.{names_of, name_at}
 use Rattle.ff_files.specs.Counts.{Counts, Faulted, KeepsCounts, CountsFaults}
 use Rattle.ff_files.specs.Heads.{Refusal, HaveHeads}

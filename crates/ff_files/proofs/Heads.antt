@@ -3,9 +3,9 @@ use Rattle.std.proofs.Common.{◌≡◌, inl, inr, ℕ, zero, suc, ◌+◌, ◌<
 use Rattle.std.proofs.lemmas.List.{drop_more}
 use Rattle.ff_host.specs.Causes.{SameElsewhere, SameCounts}
 use Rattle.ff_host.specs.Files.{Files, bytes_at, KeepsFiles, GivesFile}
-use Rattle.ff_cut.specs.declared.fault.HeadFault.{HeadFault}
-use Rattle.ff_cut.specs.declared.fault.HeadFault.TheVariants as fault
-use Rattle.ff_cut.specs.Heads.{Found}
+use Rattle.ff_reader.specs.declared.fault.HeadFault.{HeadFault}
+use Rattle.ff_reader.specs.declared.fault.HeadFault.TheVariants as fault
+use Rattle.ff_reader.specs.Heads.{Found}
 use Rattle.ff_files.specs.Names.{name_at}
 use Rattle.ff_files.specs.Counts.{KeepsCounts, AreUnfailed}
 use Rattle.ff_files.specs.Heads.{Heads, Refusal, with_heads, next_head, head_in, heads_from, heads_of, HaveHeads, IsRefused}

@@ -1,12 +1,12 @@
 -- The heads of inputs, whatever their formats: of an input is given its name, and what the head of its bytes is.
 use Rattle.std.specs.Prelude.{◌≡◌, ⊤, ℕ, suc, List, [], ◌∷◌, ◌++◌, take, Bool, false, Option, Some, None, Result, Ok, Err}
 use Rattle.ff_host.specs.Files.{Files, bytes_at}
-use Rattle.ff_values.specs.declared.cut.HeadEnd.{HeadEnd}
-use Rattle.ff_values.specs.declared.cut.HeadEnd.TheVariants as head_end
-use Rattle.ff_cut.specs.declared.fault.HeadFault.{HeadFault}
-use Rattle.ff_cut.specs.declared.fault.HeadFault.TheVariants.{Damaged, Unsupported}
-use Rattle.ff_cut.specs.Heads.{Found}
-use Rattle.ff_cut.specs.Cutters.{IsRest}
+use Rattle.ff_frame.specs.declared.cut.HeadEnd.{HeadEnd}
+use Rattle.ff_frame.specs.declared.cut.HeadEnd.TheVariants as head_end
+use Rattle.ff_reader.specs.declared.fault.HeadFault.{HeadFault}
+use Rattle.ff_reader.specs.declared.fault.HeadFault.TheVariants.{Damaged, Unsupported}
+use Rattle.ff_reader.specs.Heads.{Found}
+use Rattle.ff_reader.specs.Cutters.{IsRest}
 
 -- the bytes so far, of which `whole` says that they are all, decide the head, whatever follows
 abbrev pub Decide : {H : Type 0} → (List ℕ → Found H) → Bool → List ℕ → Found H → Type 0

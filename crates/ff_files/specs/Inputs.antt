@@ -5,8 +5,8 @@ use Rattle.ff_host.specs.Begun.{still_in}
 use Rattle.ff_host.specs.Causes.{Rose}
 use Rattle.ff_host.specs.Files.{Files, bytes_at, GivesFile}
 use Rattle.ff_host.specs.declared.begun.Begun.{Begun}
-use Rattle.ff_cut.specs.declared.fault.HeadFault.TheVariants as fault
-use Rattle.ff_cut.specs.Heads.{Found}
+use Rattle.ff_reader.specs.declared.fault.HeadFault.TheVariants as fault
+use Rattle.ff_reader.specs.Heads.{Found}
 use Rattle.ff_files.specs.Names.{name_at}
 use Rattle.ff_files.specs.Heads.{IsRefused, heads_of, HaveHeads}
 use Rattle.ff_files.specs.declared.head.InputEnd.{InputEnd}

@@ -3,7 +3,7 @@ use Rattle.std.specs.Prelude.{◌≡◌, ◌⊎◌, ⊤, ℕ, ◌<◌, ◌≤◌
 use Rattle.std.specs.Io.KnownBytes.{Appends}
 use Rattle.ff_host.specs.Causes.{Rose}
 use Rattle.ff_host.specs.Files.{Files, bytes_at}
-use Rattle.ff_cut.specs.Heads.{Found}
+use Rattle.ff_reader.specs.Heads.{Found}
 use Rattle.ff_files.specs.Names.{name_at, names_of}
 use Rattle.ff_files.specs.Heads.{Heads, heads_of}
 use Rattle.ff_files.specs.declared.work.WorkEnd.{WorkEnd}

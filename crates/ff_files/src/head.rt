@@ -1,14 +1,14 @@
 // Reading the head of an input.
 ghost use Rattle.std.specs.Prelude.{◌≡◌, ◌<◌, ◌≤◌, ◌^◌, List, [], ℕ, length, vec_len, Ok, Err, IfOk, OnOk, IfErr, IfSome};
 ghost use Rattle.std.specs.Io.KnownBytes.{Consumes};
-ghost use Rattle.ff_cut.specs.Heads.{Found};
+ghost use Rattle.ff_reader.specs.Heads.{Found};
 ghost use Rattle.ff_files.specs.Heads.{Answers, GoOn};
 ghost use Rattle.ff_files.specs.Inputs.{EndsHead};
 ghost use Rattle.ff_files.specs.declared.head.InputEnd.TheVariants.{Failed, NoMemory};
 
 use crate::named::Named;
+use ff_frame::HeadEnd;
 use ff_host::Source;
-use ff_values::HeadEnd;
 use std::alloc::{AllocError, Global};
 
 /// How many bytes are asked for at a time until the head is decided.

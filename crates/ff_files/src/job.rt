@@ -1,12 +1,12 @@
 //! The inputs and the outputs of a job: their names, and how the heads of the inputs are read.
-ghost use Rattle.ff_heads.specs.Formats.{input_head};
-ghost use Rattle.ff_heads.specs.Heads.{IsHead};
-ghost use Rattle.ff_heads.specs.Places.{Reached};
+ghost use Rattle.ff_input.specs.heads.Formats.{input_head};
+ghost use Rattle.ff_input.specs.heads.Heads.{IsHead};
+ghost use Rattle.ff_input.specs.heads.Places.{Reached};
 
 use crate::head::InputFile;
 use crate::named::Named;
-use ff_heads::{InputHead, InputWalk};
-use ff_values::HeadEnd;
+use ff_frame::HeadEnd;
+use ff_input::{InputHead, InputWalk};
 use ff_words::{InputJob, OutputJob};
 
 impl Named for InputJob {

@@ -2,7 +2,7 @@
 ghost use Rattle.std.specs.Prelude.{◌≡◌, ◌⊎◌, Option, Some, None, ◌<◌, ◌≤◌, ◌+◌, ◌-◌, ◌^◌, ℕ, List, [], length, vec_len, vec_capacity, IfOk, IfSome};
 ghost use Rattle.std.specs.List.{All};
 ghost use Rattle.ff_host.specs.Files.{Files, KeepsFiles};
-ghost use Rattle.ff_cut.specs.declared.fault.HeadFault.{HeadFault};
+ghost use Rattle.ff_reader.specs.declared.fault.HeadFault.{HeadFault};
 ghost use Rattle.ff_files.specs.Names.{names_of, AreApart, KeepsAllBut};
 ghost use Rattle.ff_files.specs.Counts.{Faulted, KeepsCounts, AreUnfailed};
 ghost use Rattle.ff_files.specs.Hosts.{AreOpen};

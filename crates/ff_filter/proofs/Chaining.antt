@@ -1,9 +1,9 @@
 -- What each move in a chain does.
 use Rattle.std.proofs.Common.{◌≡◌, ℕ, ◌<◌, ◌⊎◌, inl, inr, Bool, true, false, cond, ◌==◌, ◌||◌, ◌&&◌, is_some, length, List, Option, Some, None, Result, Ok, Err, OnErr, refl, ap, sym, ◌∙◌, subst}
 use Rattle.std.specs.declared.alloc.AllocError.{AllocError}
-use Rattle.ff_frame.specs.declared.item.Item.{Item}
-use Rattle.ff_frame.specs.declared.item.Lane.{Lane}
-use Rattle.ff_frame.specs.Ports.{nothing, IsClosed}
+use Rattle.ff_stream.specs.declared.item.Item.{Item}
+use Rattle.ff_stream.specs.declared.item.Lane.{Lane}
+use Rattle.ff_stream.specs.Ports.{nothing, IsClosed}
 use Rattle.ff_filter.specs.Joins.{Flow, Ports, silence, before, before_if, before_at}
 use Rattle.ff_filter.specs.Views.{View, SamePorts, Same, Fed, Gave, Waits, closes, IsSpent, IsOver}
 use Rattle.ff_filter.specs.Chains.{wire, after_held, held_closes, chain_view, Linked}

@@ -1,12 +1,12 @@
 -- Items of a stream with some left out.
 use Rattle.std.proofs.Common.{◌≡◌, ℕ, zero, suc, ◌<◌, ◌⊎◌, inl, inr, Bool, true, false, not, List, [], ◌∷◌, length, refl, sym, ap, ◌∙◌, subst, arith, All, ℤ, pos, negsuc, ◌<ℤ◌, ◌≤ℤ◌}
 use Rattle.std.specs.Int.Signed.{<ℤ-≤ℤ_trans, clash_ℤ, lt_z, lt_z_yes, lt_z_no}
-use Rattle.ff_values.specs.declared.head.StreamHead.{StreamHead}
-use Rattle.ff_values.specs.declared.head.StreamHead.TheVariants.{Audio as AudioHead, Video as VideoHead}
-use Rattle.ff_frame.specs.declared.item.Item.{Item}
-use Rattle.ff_frame.specs.declared.item.Lane.{Lane}
-use Rattle.ff_frame.specs.Times.{HasTime, start_of, end_of}
-use Rattle.ff_frame.specs.Lanes.{head_of, StartsAfter, Follows, InOrder, IsItemFor, AreInShape}
+use Rattle.ff_frame.specs.declared.head.StreamHead.{StreamHead}
+use Rattle.ff_frame.specs.declared.head.StreamHead.TheVariants.{Audio as AudioHead, Video as VideoHead}
+use Rattle.ff_stream.specs.declared.item.Item.{Item}
+use Rattle.ff_stream.specs.declared.item.Lane.{Lane}
+use Rattle.ff_stream.specs.Times.{HasTime, start_of, end_of}
+use Rattle.ff_stream.specs.Lanes.{head_of, StartsAfter, Follows, InOrder, IsItemFor, AreInShape}
 
 -- ys are items of xs in their order
 abbrev pub IsPart : List Item → List Item → Type 0

@@ -1,12 +1,12 @@
 -- A stream with times from the start of its first item on is valid.
 use Rattle.std.proofs.Common.{◌≡◌, ℕ, zero, suc, ◌+◌, ◌-◌, ◌/◌, ◌<◌, ◌≤◌, ℤ, pos, negsuc, ◌+ℤ◌, ◌<ℤ◌, ◌≤ℤ◌, Option, Some, None, List, [], ◌∷◌, map, length, All, refl, sym, subst, arith}
-use Rattle.ff_values.specs.declared.head.StreamHead.{StreamHead}
-use Rattle.ff_values.specs.declared.head.StreamHead.TheVariants.{Audio as AudioHead, Video as VideoHead}
-use Rattle.ff_frame.specs.declared.item.Item.{Item}
-use Rattle.ff_frame.specs.declared.item.Item.TheVariants.{Audio, Video, Packet, Trailer, End, Broken}
-use Rattle.ff_frame.specs.declared.item.Lane.TheVariants.{Frames}
-use Rattle.ff_frame.specs.Times.{HasTime, start_of, end_of, ticks}
-use Rattle.ff_frame.specs.Lanes.{FitsFrames, StartsAfter, Follows, InOrder, IsItemFor, AreInShape}
+use Rattle.ff_frame.specs.declared.head.StreamHead.{StreamHead}
+use Rattle.ff_frame.specs.declared.head.StreamHead.TheVariants.{Audio as AudioHead, Video as VideoHead}
+use Rattle.ff_stream.specs.declared.item.Item.{Item}
+use Rattle.ff_stream.specs.declared.item.Item.TheVariants.{Audio, Video, Packet, Trailer, End, Broken}
+use Rattle.ff_stream.specs.declared.item.Lane.TheVariants.{Frames}
+use Rattle.ff_stream.specs.Times.{HasTime, start_of, end_of, ticks}
+use Rattle.ff_stream.specs.Lanes.{FitsFrames, StartsAfter, Follows, InOrder, IsItemFor, AreInShape}
 use Rattle.ff_filter.specs.Shifts.{earlier, start_ticks, from_first, shifted}
 use Rattle.ff_filter.specs.Sound.{IsSound}
 

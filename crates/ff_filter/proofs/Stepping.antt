@@ -1,10 +1,10 @@
 -- What each move of a machine that steps does.
 use Rattle.std.proofs.Common.{◌≡◌, IsTrue, not, inl, inr, ◌≢◌, ℕ, ◌<◌, ◌||◌, Bool, true, false, cond, Result, Ok, Err, OnOk, Option, Some, None, List, [], ◌∷◌, ◌++◌, refl, ap, sym, ◌∙◌, subst, arith, append-nil}
-use Rattle.ff_frame.specs.declared.item.Item.{Item}
-use Rattle.ff_frame.specs.declared.item.Item.TheVariants.{Audio, Video, Packet, Trailer, End, Broken}
-use Rattle.ff_frame.specs.declared.item.Lane.{Lane}
-use Rattle.ff_frame.specs.declared.item.Refused.{Refused}
-use Rattle.ff_frame.specs.Ports.{nothing, IsClosed}
+use Rattle.ff_stream.specs.declared.item.Item.{Item}
+use Rattle.ff_stream.specs.declared.item.Item.TheVariants.{Audio, Video, Packet, Trailer, End, Broken}
+use Rattle.ff_stream.specs.declared.item.Lane.{Lane}
+use Rattle.ff_stream.specs.declared.item.Refused.{Refused}
+use Rattle.ff_stream.specs.Ports.{nothing, IsClosed}
 use Rattle.ff_filter.specs.declared.after.After.{After}
 use Rattle.ff_filter.specs.declared.after.After.TheVariants.{More, Whole, Broke}
 use Rattle.ff_filter.specs.Joins.{Flow, one, before, before_all, before_all-last, joined, joined_assoc}

@@ -1,10 +1,10 @@
 -- The laws of two machines in a chain.
 use Rattle.std.proofs.Common.{◌≡◌, ℕ, zero, suc, ◌<◌, ◌⊎◌, inl, inr, Bool, true, false, cond, ◌==◌, ◌||◌, length, Option, Some, None, refl, ◌∙◌, arith}
-use Rattle.ff_frame.specs.declared.item.Item.{Item}
-use Rattle.ff_frame.specs.declared.item.Item.TheVariants.{Audio, Video, Packet, Trailer, End, Broken}
-use Rattle.ff_frame.specs.Stream.{LiesBelow, opened}
-use Rattle.ff_frame.specs.Ports.{nothing, IsClosed}
-use Rattle.ff_frame.specs.Order.{below_self, below_trans, nothing_below}
+use Rattle.ff_stream.specs.declared.item.Item.{Item}
+use Rattle.ff_stream.specs.declared.item.Item.TheVariants.{Audio, Video, Packet, Trailer, End, Broken}
+use Rattle.ff_stream.specs.Stream.{LiesBelow, opened}
+use Rattle.ff_stream.specs.Ports.{nothing, IsClosed}
+use Rattle.ff_stream.specs.Order.{below_self, below_trans, nothing_below}
 use Rattle.ff_filter.specs.Joins.{Flow, Ports, silence, one, before, EachBelow, all_opened, Grows, HidesBreaks, joined_keeps, opened_joined, joined_closed, closed_above}
 use Rattle.ff_filter.specs.Views.{View, closes, Settles, IsSpent, IsOver}
 use Rattle.ff_filter.specs.Chains.{wire, after_held, held_closes, chain_view, Linked}

@@ -1,7 +1,7 @@
 -- Two filters, the second fed by the first.
 use Rattle.std.specs.Prelude.{◌≡◌, ℕ, ◌+◌, ◌*◌, ◌<◌, Bool, false, cond, ◌==◌, ◌||◌, ◌&&◌, Option, Some, None, length, is_some}
-use Rattle.ff_frame.specs.declared.item.Item.{Item}
-use Rattle.ff_frame.specs.Ports.{nothing}
+use Rattle.ff_stream.specs.declared.item.Item.{Item}
+use Rattle.ff_stream.specs.Ports.{nothing}
 use Rattle.ff_filter.specs.Joins.{Flow, Ports, silence, before}
 use Rattle.ff_filter.specs.Views.{View, closes}
 

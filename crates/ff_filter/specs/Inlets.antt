@@ -1,7 +1,7 @@
 -- What comes next on an input that keeps items until they can be used.
 use Rattle.std.specs.Prelude.{◌≡◌, false}
-use Rattle.ff_frame.specs.declared.item.Item.TheVariants.{End, Broken}
-use Rattle.ff_frame.specs.Ports.{nothing}
+use Rattle.ff_stream.specs.declared.item.Item.TheVariants.{End, Broken}
+use Rattle.ff_stream.specs.Ports.{nothing}
 use Rattle.ff_filter.specs.declared.inlet.Next.{Next}
 use Rattle.ff_filter.specs.declared.inlet.Next.TheVariants as next
 use Rattle.ff_filter.specs.Joins.{Flow, one, before}

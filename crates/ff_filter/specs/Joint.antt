@@ -1,11 +1,11 @@
 -- Functions of several streams that go by what comes next on each.
 use Rattle.std.proofs.Common.{◌≡◌, ◌≢◌, ℕ, zero, suc, ◌<◌, ◌⊎◌, inl, inr, Bool, true, false, length, List, ◌+◌, ◌≤◌, [], ◌∷◌, ◌++◌, length-append, Option, Some, None, refl, ap, sym, ◌∙◌, subst, arith}
-use Rattle.ff_frame.specs.declared.item.Item.{Item}
-use Rattle.ff_frame.specs.declared.item.Item.TheVariants.{Broken}
+use Rattle.ff_stream.specs.declared.item.Item.{Item}
+use Rattle.ff_stream.specs.declared.item.Item.TheVariants.{Broken}
 use mathlib.Core.List.{IsPrefix}
-use Rattle.ff_frame.specs.Stream.{Mark, still_open, whole, broken, LiesBelow, opened, opened_mark}
-use Rattle.ff_frame.specs.Ports.{nothing, IsClosed}
-use Rattle.ff_frame.specs.Order.{below_self, below_trans, nothing_below}
+use Rattle.ff_stream.specs.Stream.{Mark, still_open, whole, broken, LiesBelow, opened, opened_mark}
+use Rattle.ff_stream.specs.Ports.{nothing, IsClosed}
+use Rattle.ff_stream.specs.Order.{below_self, below_trans, nothing_below}
 use Rattle.ff_filter.specs.Joins.{Flow, joined, Ports, one, EachBelow, all_opened, joined_keeps, opened_joined, joined_closed}
 
 -- what comes next on an input: an item, the end, a break, or that isn't known yet

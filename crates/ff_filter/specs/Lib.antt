@@ -15,3 +15,4 @@ pub mod Singles
 pub mod Sound
 pub mod StepperLaws
 pub mod Views
+pub mod spread

@@ -1,11 +1,11 @@
 -- The laws of a function with its limits behind it.
 use Rattle.std.specs.Prelude.{◌≡◌, ℕ, Bool}
 use Rattle.std.proofs.Common.{ap}
-use Rattle.ff_frame.specs.declared.item.Item.{Item}
-use Rattle.ff_frame.specs.declared.item.Item.TheVariants.{End, Broken}
-use Rattle.ff_frame.specs.Stream.{LiesBelow, opened}
-use Rattle.ff_frame.specs.Ports.{nothing, IsClosed}
-use Rattle.ff_frame.specs.Order.{below_trans}
+use Rattle.ff_stream.specs.declared.item.Item.{Item}
+use Rattle.ff_stream.specs.declared.item.Item.TheVariants.{End, Broken}
+use Rattle.ff_stream.specs.Stream.{LiesBelow, opened}
+use Rattle.ff_stream.specs.Ports.{nothing, IsClosed}
+use Rattle.ff_stream.specs.Order.{below_trans}
 use Rattle.ff_filter.specs.Joins.{Flow, one}
 use Rattle.ff_filter.specs.Runs.{no_more, run_below, run_calm, run_settles}
 use Rattle.ff_filter.specs.Limits.{limit_step, limited}

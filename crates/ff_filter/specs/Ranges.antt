@@ -2,7 +2,7 @@
 use Rattle.std.specs.Prelude.{◌≡◌, ℕ, zero, suc, ℤ, ◌≤ℤ◌, Bool, false, nat_le, Option, Some, None, List, [], ◌∷◌, codes}
 use Rattle.ff_time.specs.Fraction.{Fraction}
 use Rattle.ff_time.specs.Rescale.{Reaches}
-use Rattle.ff_frame.specs.Times.{ticks}
+use Rattle.ff_stream.specs.Times.{ticks}
 use Rattle.ff_filter.specs.declared.range.Range.{Range}
 use Rattle.ff_filter.specs.declared.range.RangeSettings.{RangeSettings}
 use Rattle.ff_filter.specs.Options.{Manual, IsTime}

@@ -1,7 +1,7 @@
 -- What a function of one stream owes besides its laws, so that behind limits it gives valid streams.
-use Rattle.ff_frame.specs.declared.item.Lane.{Lane}
-use Rattle.ff_frame.specs.Lanes.{AreInShape, IsValid}
-use Rattle.ff_frame.specs.Ports.{IsUnbroken}
+use Rattle.ff_stream.specs.declared.item.Lane.{Lane}
+use Rattle.ff_stream.specs.Lanes.{AreInShape, IsValid}
+use Rattle.ff_stream.specs.Ports.{IsUnbroken}
 use Rattle.ff_filter.specs.Joins.{Flow}
 
 -- of valid streams it gives items in shape for its output, and of unbroken ones no break

@@ -1,7 +1,7 @@
 ghost use Rattle.std.specs.Prelude.{◌≡◌};
 ghost use Rattle.ff_filter.specs.Made.{closing};
 
-use ff_frame::Item;
+use ff_stream::Item;
 
 /// How a stream goes on behind an item.
 #[derive(Clone, Copy, PartialEq, Eq, Debug)]

@@ -1,13 +1,13 @@
 ghost use Rattle.std.specs.Prelude.{◌≡◌, ◌<◌, ◌≤◌, [], length, false, true, OnOk};
 ghost use Rattle.std.specs.VecDeque.{deque_len, deque_capacity};
-ghost use Rattle.ff_frame.specs.declared.item.Item.{Item};
+ghost use Rattle.ff_stream.specs.declared.item.Item.{Item};
 ghost use Rattle.ff_filter.specs.Joins.{Flow, before};
 ghost use Rattle.ff_filter.specs.Views.{closes, none_closes};
 ghost use Rattle.ff_filter.specs.Made.{waiting, is_over};
 ghost use Rattle.ff_filter.specs.Inlets.{IsNext};
 
 use crate::after::{After, closing_of, discard};
-use ff_frame::Item;
+use ff_stream::Item;
 use std::alloc::{AllocError, Global};
 use std::collections::VecDeque;
 

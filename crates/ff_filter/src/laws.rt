@@ -1,8 +1,8 @@
 //! A law of the functions that filters share: a function that does nothing, whose clauses hold of all values.
 ghost use Rattle.std.specs.Prelude.{None};
-ghost use Rattle.ff_values.specs.declared.head.StreamHead.{StreamHead};
-ghost use Rattle.ff_frame.specs.declared.item.Lane.{Lane};
-ghost use Rattle.ff_frame.specs.declared.item.Lane.TheVariants.{Frames};
+ghost use Rattle.ff_frame.specs.declared.head.StreamHead.{StreamHead};
+ghost use Rattle.ff_stream.specs.declared.item.Lane.{Lane};
+ghost use Rattle.ff_stream.specs.declared.item.Lane.TheVariants.{Frames};
 ghost use Rattle.ff_filter.specs.Shifts.{shifted};
 ghost use Rattle.ff_filter.specs.Sound.{IsSound};
 

@@ -8,6 +8,8 @@
 //!
 //! A filter is seen as what it still gives for what is still to come. Each call is an equation between two such views:
 //! what was fed stands before what still comes, and what was given before what is still given. No past is kept.
+//!
+//! `spread`: Filters of one input and several outputs.
 #![tactic(auto)]
 
 mod after;
@@ -23,6 +25,7 @@ mod pass;
 mod plain;
 mod range;
 mod rebase;
+mod spread;
 mod step;
 mod stepper;
 
@@ -39,5 +42,6 @@ pub use pass::Pass;
 pub use plain::{ExprSettings, NoSettings};
 pub use range::{Range, RangeSettings};
 pub use rebase::{Rebase, start_of_item, ticks_of};
+pub use spread::{Copies, Share, SplitSettings, Spreader, copies_of, same_heads};
 pub use step::{Given, Step};
 pub use stepper::Stepper;

@@ -1,8 +1,8 @@
 ghost use Rattle.std.specs.Prelude.{◌≡◌, ◌≤◌, ◌<◌, ◌*◌, ◌/◌, ◌^◌, ◌≤ℤ◌, pos, negsuc, nat_lt, refl, Option, IsTrue};
-ghost use Rattle.ff_values.specs.Heads.{base_of_head};
-ghost use Rattle.ff_frame.specs.Times.{end_of, ticks};
-ghost use Rattle.ff_frame.specs.Within.{passes_limits};
-ghost use Rattle.ff_frame.specs.declared.item.Lane.TheVariants.{Frames};
+ghost use Rattle.ff_frame.specs.Heads.{base_of_head};
+ghost use Rattle.ff_stream.specs.Times.{end_of, ticks};
+ghost use Rattle.ff_stream.specs.Within.{passes_limits};
+ghost use Rattle.ff_stream.specs.declared.item.Lane.TheVariants.{Frames};
 ghost use Rattle.ff_filter.specs.Views.{closes};
 ghost use Rattle.ff_filter.specs.Runs.{run_below, run_calm, run_settles, no_more};
 ghost use Rattle.ff_filter.specs.Limits.{limit_step, limited};
@@ -10,7 +10,8 @@ ghost use Rattle.ff_filter.specs.LimitLaws.{limited-waits, limited-ends, limited
 
 use crate::after::After;
 use crate::step::{Given, Step};
-use ff_frame::{Item, Refused, StreamHead};
+use ff_frame::StreamHead;
+use ff_stream::{Item, Refused};
 use ff_time::Rational;
 
 // The limits.

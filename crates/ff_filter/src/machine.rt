@@ -1,6 +1,6 @@
 ghost use Rattle.std.specs.Prelude.{◌≡◌, ◌∷◌, [], IfOk, IfErr};
-ghost use Rattle.ff_frame.specs.declared.item.Lane.TheVariants.{Frames};
-ghost use Rattle.ff_values.specs.declared.config.ConfigError.TheVariants.{NoMemory};
+ghost use Rattle.ff_stream.specs.declared.item.Lane.TheVariants.{Frames};
+ghost use Rattle.ff_frame.specs.declared.config.ConfigError.TheVariants.{NoMemory};
 ghost use Rattle.ff_filter.specs.Singles.{single_view};
 
 use crate::after::After;

@@ -1,13 +1,13 @@
 ghost use Rattle.std.specs.Prelude.{◌≡◌, ◌<◌, ◌++◌, ◌∷◌, ◌||◌, [], OnOk, IfSome, Some, None, true, false};
 ghost use Rattle.std.specs.VecDeque.{deque_len, deque_capacity};
-ghost use Rattle.ff_frame.specs.declared.item.Item.{Item};
-ghost use Rattle.ff_frame.specs.Ports.{nothing};
+ghost use Rattle.ff_stream.specs.declared.item.Item.{Item};
+ghost use Rattle.ff_stream.specs.Ports.{nothing};
 ghost use Rattle.ff_filter.specs.Joins.{Flow, before};
 ghost use Rattle.ff_filter.specs.Views.{closes, none_closes};
 ghost use Rattle.ff_filter.specs.Made.{left, listed_option};
 
 use crate::after::{After, discard};
-use ff_frame::Item;
+use ff_stream::Item;
 use std::alloc::{AllocError, Global};
 use std::collections::VecDeque;
 

@@ -1,11 +1,12 @@
 ghost use Rattle.std.specs.Prelude.{◌≡◌, refl, false};
-ghost use Rattle.ff_frame.specs.declared.item.Lane.TheVariants.{Frames};
-ghost use Rattle.ff_frame.specs.Stream.{opened};
-ghost use Rattle.ff_frame.specs.Order.{below_self};
+ghost use Rattle.ff_stream.specs.declared.item.Lane.TheVariants.{Frames};
+ghost use Rattle.ff_stream.specs.Stream.{opened};
+ghost use Rattle.ff_stream.specs.Order.{below_self};
 
 use crate::after::After;
 use crate::step::{Given, Step};
-use ff_frame::{Item, Refused, StreamHead};
+use ff_frame::StreamHead;
+use ff_stream::{Item, Refused};
 
 /// Gives each item as it came.
 #[derive(Drop)]

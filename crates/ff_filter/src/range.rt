@@ -75,7 +75,7 @@ impl Settings for RangeSettings {
 }
 
 impl Range {
-    ghost use Rattle.ff_values.specs.Heads.{base_of_head};
+    ghost use Rattle.ff_frame.specs.Heads.{base_of_head};
     ghost use Rattle.ff_filter.specs.Ranges.{IsRange, IsStop, IsCeiling, is_past as past};
 
     // The least number of ticks that is at least so many microseconds.

@@ -1,14 +1,15 @@
 ghost use Rattle.std.specs.Prelude.{◌≡◌, ◌-◌, ◌<◌, ◌^◌, pos, refl, false, Some};
-ghost use Rattle.ff_frame.specs.declared.item.Lane.TheVariants.{Frames};
-ghost use Rattle.ff_frame.specs.Stream.{opened, still_open, whole, broken};
-ghost use Rattle.ff_frame.specs.Order.{below_self};
-ghost use Rattle.ff_frame.specs.Times.{ticks};
+ghost use Rattle.ff_stream.specs.declared.item.Lane.TheVariants.{Frames};
+ghost use Rattle.ff_stream.specs.Stream.{opened, still_open, whole, broken};
+ghost use Rattle.ff_stream.specs.Order.{below_self};
+ghost use Rattle.ff_stream.specs.Times.{ticks};
 ghost use Rattle.ff_filter.specs.Views.{closes};
 ghost use Rattle.ff_filter.specs.Shifts.{shifted, start_ticks, earlier as earlier_by, shifted-below, shifted-bare};
 
 use crate::after::After;
 use crate::step::{Given, Step};
-use ff_frame::{Item, Refused, StreamHead};
+use ff_frame::StreamHead;
+use ff_stream::{Item, Refused};
 
 /// Takes the start of the first item from the time of each.
 #[derive(Drop)]

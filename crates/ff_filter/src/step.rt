@@ -1,14 +1,14 @@
 ghost use Rattle.std.specs.Prelude.{◌≡◌, OnErr, IfOk, IfErr, IfSome, false};
-ghost use Rattle.ff_frame.specs.declared.item.Item.TheVariants.{End, Broken};
-ghost use Rattle.ff_frame.specs.declared.item.Lane.{Lane};
-ghost use Rattle.ff_frame.specs.Stream.{LiesBelow, opened};
-ghost use Rattle.ff_frame.specs.Ports.{nothing, IsClosed};
+ghost use Rattle.ff_stream.specs.declared.item.Item.TheVariants.{End, Broken};
+ghost use Rattle.ff_stream.specs.declared.item.Lane.{Lane};
+ghost use Rattle.ff_stream.specs.Stream.{LiesBelow, opened};
+ghost use Rattle.ff_stream.specs.Ports.{nothing, IsClosed};
 ghost use Rattle.ff_filter.specs.Joins.{Flow, one, before, joined};
 ghost use Rattle.ff_filter.specs.Views.{closes};
 ghost use Rattle.ff_filter.specs.Made.{made_of};
 
 use crate::after::After;
-use ff_frame::{Item, Refused};
+use ff_stream::{Item, Refused};
 
 /// What a step gives for an item, and how the output stands behind it.
 #[derive(Drop)]

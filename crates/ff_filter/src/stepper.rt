@@ -7,7 +7,7 @@ use crate::after::{After, closing_of, discard};
 use crate::filter::Filter;
 use crate::outlet::Outlet;
 use crate::step::Step;
-use ff_frame::{Item, Refused};
+use ff_stream::{Item, Refused};
 use std::alloc::{AllocError, Global};
 
 /// The machine of a function that gives at most one item for each.

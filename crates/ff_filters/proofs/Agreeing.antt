@@ -2,11 +2,11 @@
 use Rattle.std.proofs.Common.{◌≡◌, ℕ, ◌==◌, nat_le, Bool, true, false, cond, Option, Some, None, Result, Ok, Err, List, [], ◌∷◌, length, inl, inr, refl, sym, ap}
 use Rattle.std.proofs.Common.{subst, ◌∙◌}
 use Rattle.ff_time.specs.Fraction.{Fraction}
-use Rattle.ff_values.specs.declared.config.ConfigError.{ConfigError}
-use Rattle.ff_values.specs.declared.config.ConfigError.TheVariants.{Pads, Kind, Mismatch, BadSize, BadOption}
-use Rattle.ff_values.specs.declared.head.StreamHead.{StreamHead}
-use Rattle.ff_values.specs.declared.head.StreamHead.TheVariants.{Audio, Video}
-use Rattle.ff_values.specs.Heads.{base_of_head}
+use Rattle.ff_frame.specs.declared.config.ConfigError.{ConfigError}
+use Rattle.ff_frame.specs.declared.config.ConfigError.TheVariants.{Pads, Kind, Mismatch, BadSize, BadOption}
+use Rattle.ff_frame.specs.declared.head.StreamHead.{StreamHead}
+use Rattle.ff_frame.specs.declared.head.StreamHead.TheVariants.{Audio, Video}
+use Rattle.ff_frame.specs.Heads.{base_of_head}
 use Rattle.ff_lang.specs.declared.graph.Arg.{Arg}
 use Rattle.ff_filter.specs.Options.{is_sound, is_video, Manual, AreRead, IsConfigured}
 use Rattle.ff_filter.specs.declared.range.RangeSettings.{RangeSettings}
@@ -14,7 +14,7 @@ use Rattle.ff_filter.specs.declared.range.Range.{Range}
 use Rattle.ff_filter.specs.Ranges.{range_manual, IsRange}
 use Rattle.ff_filter.specs.declared.rebase.Rebase.{Rebase}
 use Rattle.ff_filter.specs.Plain.{no_manual, expr_manual, IsRebase}
-use Rattle.ff_spread.specs.Splits.{split_manual, IsSplit}
+use Rattle.ff_filter.specs.spread.Splits.{split_manual, IsSplit}
 use Rattle.ff_planes.specs.declared.rectangle.Rectangle.{Rectangle}
 use Rattle.ff_vfilter.specs.declared.trim.Trim.{Trim}
 use Rattle.ff_vfilter.specs.declared.crop.CropSettings.{CropSettings}
@@ -25,11 +25,11 @@ use Rattle.ff_vfilter.specs.FpsOptions.{fps_manual, IsFps}
 use Rattle.ff_vfilter.specs.Trims.{IsTrim}
 use Rattle.ff_afilter.specs.declared.atrim.ATrim.{ATrim}
 use Rattle.ff_afilter.specs.Trims.{IsATrim}
-use Rattle.ff_stacks.specs.declared.options.StackSettings.{StackSettings}
-use Rattle.ff_stacks.specs.declared.shape.Direction.{Direction}
-use Rattle.ff_stacks.specs.Options.{stack_manual, counted}
-use Rattle.ff_stacks.specs.Stacks.{StackOf, Unless, stack_on, AfterRead, IsStack}
-use Rattle.ff_stacks.specs.Heads.{input_fault, stack_fault}
+use Rattle.ff_fsync.specs.declared.stacks.options.StackSettings.{StackSettings}
+use Rattle.ff_fsync.specs.declared.stacks.shape.Direction.{Direction}
+use Rattle.ff_fsync.specs.stacks.Options.{stack_manual, counted}
+use Rattle.ff_fsync.specs.stacks.Stacks.{StackOf, Unless, stack_on, AfterRead, IsStack}
+use Rattle.ff_fsync.specs.stacks.Heads.{input_fault, stack_fault}
 use Rattle.ff_joins.specs.ConcatOptions.{concat_manual, concat_set, concat_start, EachIs, AreJoined, IsConcat, segments_said, video_said, sound_said, is_of_kind}
 use Rattle.ff_joins.specs.JoinOptions.{channels_in, join_manual, inputs_said, is_like, AreAlike, IsJoin}
 use Rattle.ff_joins.specs.Arguments.{Checked, GoesOn, AfterRead as AfterArgs, each_head}

@@ -1,15 +1,15 @@
 -- What a name, arguments and heads make, is what the function says.
 use Rattle.std.proofs.Common.{◌≡◌, ◌⊎◌, inl, inr, Bool, false, None, Result, Ok, Err, List, [], ◌∷◌, refl, sym, ap, subst, ◌∙◌}
-use Rattle.ff_values.specs.declared.config.ConfigError.{ConfigError}
-use Rattle.ff_values.specs.declared.config.ConfigError.TheVariants.{BadOption, NoMemory}
-use Rattle.ff_values.specs.declared.head.StreamHead.{StreamHead}
+use Rattle.ff_frame.specs.declared.config.ConfigError.{ConfigError}
+use Rattle.ff_frame.specs.declared.config.ConfigError.TheVariants.{BadOption, NoMemory}
+use Rattle.ff_frame.specs.declared.head.StreamHead.{StreamHead}
 use Rattle.ff_lang.specs.declared.graph.Arg.{Arg}
 use Rattle.ff_filter.specs.Options.{is_sound, is_video, IsMade, IsRefused}
 use Rattle.ff_filter.specs.Plain.{no_manual, expr_manual, IsPass, IsRebase, pass_view, rebase_view}
 use Rattle.ff_filter.specs.Ranges.{range_manual}
 use Rattle.ff_filter.specs.Views.{View}
-use Rattle.ff_spread.specs.Splits.{split_manual, IsSplit, split_view, split_heads}
-use Rattle.ff_spread.specs.Many.{AreMade}
+use Rattle.ff_filter.specs.spread.Splits.{split_manual, IsSplit, split_view, split_heads}
+use Rattle.ff_filter.specs.spread.Many.{AreMade}
 use Rattle.ff_vfilter.specs.Crops.{crop_manual, IsCrop, crop_head, crop_view}
 use Rattle.ff_vfilter.specs.Pads.{pad_manual, IsPad, pad_head, pad_view}
 use Rattle.ff_vfilter.specs.FpsOptions.{fps_manual, IsFps, fps_head, fps_view}
@@ -19,8 +19,8 @@ use Rattle.ff_vfilter.specs.HFlips.{IsHFlip, hflip_view}
 use Rattle.ff_vfilter.specs.VFlips.{IsVFlip, vflip_view}
 use Rattle.ff_afilter.specs.Trims.{IsATrim, atrim_view}
 use Rattle.ff_afilter.specs.Channels.{IsChannelSplit, channels_view, mono_heads}
-use Rattle.ff_stacks.specs.declared.shape.Direction.TheVariants.{Beside, Below}
-use Rattle.ff_stacks.specs.Stacks.{IsStack, stack_view, head_of}
+use Rattle.ff_fsync.specs.declared.stacks.shape.Direction.TheVariants.{Beside, Below}
+use Rattle.ff_fsync.specs.stacks.Stacks.{IsStack, stack_view, head_of}
 use Rattle.ff_joins.specs.ConcatOptions.{IsConcat, concat_view, concat_head}
 use Rattle.ff_joins.specs.JoinOptions.{IsJoin}
 use Rattle.ff_joins.specs.JoinView.{join_view, head_itself}

@@ -9,3 +9,4 @@ pub mod Refusing
 pub mod Parting
 pub mod Answering
 pub mod PortLanes
+pub mod LimitedLemmas

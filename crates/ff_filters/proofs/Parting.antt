@@ -1,8 +1,8 @@
 -- What a filter that isn't refused was made of.
 use Rattle.std.proofs.Common.{◌≡◌, ℕ, Bool, true, false, cond, Option, Some, None, Result, Ok, Err, List, [], ◌∷◌, refl, ap, subst}
-use Rattle.ff_values.specs.declared.config.ConfigError.{ConfigError}
-use Rattle.ff_values.specs.declared.config.ConfigError.TheVariants.{Kind}
-use Rattle.ff_values.specs.declared.head.StreamHead.{StreamHead}
+use Rattle.ff_frame.specs.declared.config.ConfigError.{ConfigError}
+use Rattle.ff_frame.specs.declared.config.ConfigError.TheVariants.{Kind}
+use Rattle.ff_frame.specs.declared.head.StreamHead.{StreamHead}
 use Rattle.ff_lang.specs.declared.graph.Arg.{Arg}
 use Rattle.ff_filter.specs.Options.{Manual, only_head}
 use Rattle.ff_filters.specs.ReadBy.{and_then, unless, read_by, configured_by}

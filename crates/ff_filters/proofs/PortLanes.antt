@@ -2,13 +2,13 @@
 use Rattle.std.proofs.Common.{◌≡◌, ℕ, zero, suc, ◌==◌, Bool, false, Option, None, Result, Ok, Err, List, [], ◌∷◌, length, map, refl, sym, ap, subst, ◌∙◌}
 use Rattle.std.specs.Prelude.{replicate}
 use Rattle.ff_time.specs.Fraction.{Fraction}
-use Rattle.ff_values.specs.declared.config.ConfigError.{ConfigError}
-use Rattle.ff_values.specs.declared.config.ConfigError.TheVariants.{Pads, Kind, Mismatch, BadSize, BadOption}
-use Rattle.ff_values.specs.declared.head.StreamHead.{StreamHead}
-use Rattle.ff_values.specs.declared.head.StreamHead.TheVariants.{Audio, Video}
-use Rattle.ff_values.specs.Heads.{base_of_head}
-use Rattle.ff_frame.specs.declared.item.Lane.{Lane}
-use Rattle.ff_frame.specs.declared.item.Lane.TheVariants.{Frames}
+use Rattle.ff_frame.specs.declared.config.ConfigError.{ConfigError}
+use Rattle.ff_frame.specs.declared.config.ConfigError.TheVariants.{Pads, Kind, Mismatch, BadSize, BadOption}
+use Rattle.ff_frame.specs.declared.head.StreamHead.{StreamHead}
+use Rattle.ff_frame.specs.declared.head.StreamHead.TheVariants.{Audio, Video}
+use Rattle.ff_frame.specs.Heads.{base_of_head}
+use Rattle.ff_stream.specs.declared.item.Lane.{Lane}
+use Rattle.ff_stream.specs.declared.item.Lane.TheVariants.{Frames}
 use Rattle.ff_lang.specs.declared.graph.Arg.{Arg}
 use Rattle.ff_filter.specs.Options.{Manual, is_sound, is_video}
 use Rattle.ff_filter.specs.declared.plain.ExprSettings.{ExprSettings}
@@ -16,7 +16,7 @@ use Rattle.ff_filter.specs.declared.rebase.Rebase.{Rebase}
 use Rattle.ff_filter.specs.Plain.{no_manual, expr_manual, pass_view, rebase_view}
 use Rattle.ff_filter.specs.Ranges.{range_manual}
 use Rattle.ff_filter.specs.Views.{View, IsNew}
-use Rattle.ff_spread.specs.Splits.{split_manual, split_view, split_heads}
+use Rattle.ff_filter.specs.spread.Splits.{split_manual, split_view, split_heads}
 use Rattle.ff_planes.specs.declared.rectangle.Rectangle.{Rectangle}
 use Rattle.ff_vfilter.specs.declared.trim.Trim.{Trim}
 use Rattle.ff_vfilter.specs.Crops.{crop_manual, crop_part, can_crop, crop_head, crop_view}
@@ -31,12 +31,12 @@ use Rattle.ff_vfilter.specs.VFlips.{vflip_view}
 use Rattle.ff_afilter.specs.declared.atrim.ATrim.{ATrim}
 use Rattle.ff_afilter.specs.Channels.{mono_head, channels_in, channels_view, mono_heads}
 use Rattle.ff_afilter.specs.Trims.{atrim_view}
-use Rattle.ff_stacks.specs.declared.shape.Direction.TheVariants.{Beside, Below}
-use Rattle.ff_stacks.specs.declared.shape.Direction.{Direction}
-use Rattle.ff_stacks.specs.declared.options.StackSettings.{StackSettings}
-use Rattle.ff_stacks.specs.Options.{counted, stack_manual}
-use Rattle.ff_stacks.specs.Stacks.{StackOf, stack_on, stack_view, head_of}
-use Rattle.ff_stacks.specs.Heads.{input_fault, stack_fault}
+use Rattle.ff_fsync.specs.declared.stacks.shape.Direction.TheVariants.{Beside, Below}
+use Rattle.ff_fsync.specs.declared.stacks.shape.Direction.{Direction}
+use Rattle.ff_fsync.specs.declared.stacks.options.StackSettings.{StackSettings}
+use Rattle.ff_fsync.specs.stacks.Options.{counted, stack_manual}
+use Rattle.ff_fsync.specs.stacks.Stacks.{StackOf, stack_on, stack_view, head_of}
+use Rattle.ff_fsync.specs.stacks.Heads.{input_fault, stack_fault}
 use Rattle.ff_joins.specs.ConcatOptions.{EachIs, segments_said, video_said, sound_said, is_of_kind, concat_manual, concat_set, concat_start, concat_view, concat_head}
 use Rattle.ff_joins.specs.Arguments.{each_head}
 use Rattle.ff_joins.specs.JoinView.{join_view}

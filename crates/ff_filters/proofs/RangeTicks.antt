@@ -9,7 +9,7 @@ use Rattle.std.proofs.lemmas.Bool.{cases_lt}
 use Rattle.ff_time.specs.Fraction.{Fraction}
 use Rattle.ff_time.specs.Rescale.{Reaches}
 use Rattle.ff_time.proofs.Ceiling.{IsCeiling-div_ceil, Reaches-ceiling, Reaches-least}
-use Rattle.ff_frame.specs.Times.{ticks}
+use Rattle.ff_stream.specs.Times.{ticks}
 use Rattle.ff_filter.specs.Options.{IsTime}
 use Rattle.ff_filter.specs.declared.range.RangeSettings.{RangeSettings}
 use Rattle.ff_filter.specs.declared.range.Range.{Range}

@@ -1,20 +1,20 @@
 -- Why a filter is refused is never that there was no memory.
 use Rattle.std.proofs.Common.{◌≡◌, ℕ, ◌+◌, ◌==◌, nat_eq, nat_le, Bool, true, false, ◌||◌, is_some, cond, Option, Some, None, Result, Ok, Err, List, [], ◌∷◌, length}
 use Rattle.std.specs.Prelude.{IfErr, IfSome}
-use Rattle.ff_values.specs.declared.config.ConfigError.{ConfigError}
-use Rattle.ff_values.specs.declared.config.ConfigError.TheVariants.{Pads, Kind, Mismatch, BadSize, NoMemory}
-use Rattle.ff_values.specs.declared.head.StreamHead.{StreamHead}
-use Rattle.ff_values.specs.declared.head.StreamHead.TheVariants.{Audio, Video}
+use Rattle.ff_frame.specs.declared.config.ConfigError.{ConfigError}
+use Rattle.ff_frame.specs.declared.config.ConfigError.TheVariants.{Pads, Kind, Mismatch, BadSize, NoMemory}
+use Rattle.ff_frame.specs.declared.head.StreamHead.{StreamHead}
+use Rattle.ff_frame.specs.declared.head.StreamHead.TheVariants.{Audio, Video}
 use Rattle.ff_lang.specs.declared.graph.Arg.{Arg}
 use Rattle.ff_filter.specs.Options.{is_sound, is_video, Manual, option_of, only_head}
 use Rattle.ff_vfilter.specs.declared.crop.CropSettings.{CropSettings}
 use Rattle.ff_vfilter.specs.declared.pad.PadSettings.{PadSettings}
 use Rattle.ff_vfilter.specs.Crops.{crop_part, can_crop}
 use Rattle.ff_vfilter.specs.Pads.{pad_of, can_pad}
-use Rattle.ff_stacks.specs.declared.shape.Direction.{Direction}
-use Rattle.ff_stacks.specs.declared.options.StackSettings.{StackSettings}
-use Rattle.ff_stacks.specs.Options.{counted, stack_manual}
-use Rattle.ff_stacks.specs.Heads.{input_fault, stack_fault, has_size}
+use Rattle.ff_fsync.specs.declared.stacks.shape.Direction.{Direction}
+use Rattle.ff_fsync.specs.declared.stacks.options.StackSettings.{StackSettings}
+use Rattle.ff_fsync.specs.stacks.Options.{counted, stack_manual}
+use Rattle.ff_fsync.specs.stacks.Heads.{input_fault, stack_fault, has_size}
 use Rattle.ff_joins.specs.ConcatOptions.{segments_said, video_said, sound_said, is_of_kind, concat_manual, concat_set, concat_start}
 use Rattle.ff_joins.specs.JoinOptions.{channels_in, inputs_said, is_like, join_manual}
 use Rattle.ff_joins.specs.Arguments.{each_head}

@@ -6,8 +6,8 @@ use Rattle.ff_time.specs.Fraction.{Fraction}
 use Rattle.ff_filter.specs.Options.{number_of}
 use Rattle.ff_filter.specs.declared.plain.ExprSettings.{ExprSettings}
 use Rattle.ff_filter.specs.Plain.{no_manual, expr_manual}
-use Rattle.ff_spread.specs.declared.copies.SplitSettings.{SplitSettings}
-use Rattle.ff_spread.specs.Splits.{split_manual}
+use Rattle.ff_filter.specs.declared.spread.copies.SplitSettings.{SplitSettings}
+use Rattle.ff_filter.specs.spread.Splits.{split_manual}
 use Rattle.ff_vfilter.specs.declared.sizes.Sizes.{Sizes}
 use Rattle.ff_vfilter.specs.declared.crop.CropSettings.{CropSettings}
 use Rattle.ff_vfilter.specs.declared.pad.PadSettings.{PadSettings}
@@ -16,8 +16,8 @@ use Rattle.ff_vfilter.specs.Sizes.{put}
 use Rattle.ff_vfilter.specs.Crops.{crop_manual}
 use Rattle.ff_vfilter.specs.Pads.{pad_manual}
 use Rattle.ff_vfilter.specs.FpsOptions.{ratio_of, SetsFps, fps_manual}
-use Rattle.ff_stacks.specs.declared.options.StackSettings.{StackSettings}
-use Rattle.ff_stacks.specs.Options.{SetsStack, stack_manual}
+use Rattle.ff_fsync.specs.declared.stacks.options.StackSettings.{StackSettings}
+use Rattle.ff_fsync.specs.stacks.Options.{SetsStack, stack_manual}
 use Rattle.ff_joins.specs.declared.join_options.JoinSettings.{JoinSettings}
 use Rattle.ff_joins.specs.JoinOptions.{join_manual}
 use Rattle.ff_joins.specs.ConcatOptions.{concat_manual, concat_set}

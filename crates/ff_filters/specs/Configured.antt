@@ -1,11 +1,11 @@
 -- What each filter is by its arguments and the heads of its inputs, as a function.
 use Rattle.std.specs.Prelude.{ℕ, ◌==◌, nat_le, cond, false, Bool, None, List, [], ◌∷◌, length, Result, Ok, Err}
 use Rattle.ff_time.specs.Fraction.{Fraction}
-use Rattle.ff_values.specs.declared.config.ConfigError.{ConfigError}
-use Rattle.ff_values.specs.declared.config.ConfigError.TheVariants.{Pads, Kind, Mismatch, BadSize, BadOption}
-use Rattle.ff_values.specs.declared.head.StreamHead.{StreamHead}
-use Rattle.ff_values.specs.declared.head.StreamHead.TheVariants.{Audio, Video}
-use Rattle.ff_values.specs.Heads.{base_of_head}
+use Rattle.ff_frame.specs.declared.config.ConfigError.{ConfigError}
+use Rattle.ff_frame.specs.declared.config.ConfigError.TheVariants.{Pads, Kind, Mismatch, BadSize, BadOption}
+use Rattle.ff_frame.specs.declared.head.StreamHead.{StreamHead}
+use Rattle.ff_frame.specs.declared.head.StreamHead.TheVariants.{Audio, Video}
+use Rattle.ff_frame.specs.Heads.{base_of_head}
 use Rattle.ff_lang.specs.declared.graph.Arg.{Arg}
 use Rattle.ff_filter.specs.declared.pass.Pass.{Pass}
 use Rattle.ff_filter.specs.declared.plain.ExprSettings.{ExprSettings}
@@ -14,8 +14,8 @@ use Rattle.ff_filter.specs.Options.{is_sound, is_video}
 use Rattle.ff_filter.specs.Plain.{no_manual, expr_manual, pass_view, rebase_view}
 use Rattle.ff_filter.specs.Ranges.{range_manual}
 use Rattle.ff_filter.specs.Views.{View}
-use Rattle.ff_spread.specs.declared.copies.SplitSettings.{SplitSettings}
-use Rattle.ff_spread.specs.Splits.{split_manual, split_view, split_heads}
+use Rattle.ff_filter.specs.declared.spread.copies.SplitSettings.{SplitSettings}
+use Rattle.ff_filter.specs.spread.Splits.{split_manual, split_view, split_heads}
 use Rattle.ff_planes.specs.declared.rectangle.Rectangle.{Rectangle}
 use Rattle.ff_vfilter.specs.declared.crop.CropSettings.{CropSettings}
 use Rattle.ff_vfilter.specs.declared.pad.PadSettings.{PadSettings}
@@ -31,12 +31,12 @@ use Rattle.ff_vfilter.specs.FpsOptions.{fps_manual, fps_view, fps_head}
 use Rattle.ff_afilter.specs.declared.atrim.ATrim.{ATrim}
 use Rattle.ff_afilter.specs.Trims.{atrim_view}
 use Rattle.ff_afilter.specs.Channels.{channels_view, mono_heads}
-use Rattle.ff_stacks.specs.declared.options.StackSettings.{StackSettings}
-use Rattle.ff_stacks.specs.declared.shape.Direction.{Direction}
-use Rattle.ff_stacks.specs.declared.shape.Direction.TheVariants.{Beside, Below}
-use Rattle.ff_stacks.specs.Heads.{input_fault, stack_fault}
-use Rattle.ff_stacks.specs.Options.{stack_manual, counted}
-use Rattle.ff_stacks.specs.Stacks.{StackOf, stack_on, stack_view, head_of}
+use Rattle.ff_fsync.specs.declared.stacks.options.StackSettings.{StackSettings}
+use Rattle.ff_fsync.specs.declared.stacks.shape.Direction.{Direction}
+use Rattle.ff_fsync.specs.declared.stacks.shape.Direction.TheVariants.{Beside, Below}
+use Rattle.ff_fsync.specs.stacks.Heads.{input_fault, stack_fault}
+use Rattle.ff_fsync.specs.stacks.Options.{stack_manual, counted}
+use Rattle.ff_fsync.specs.stacks.Stacks.{StackOf, stack_on, stack_view, head_of}
 use Rattle.ff_joins.specs.Arguments.{each_head}
 use Rattle.ff_joins.specs.ConcatOptions.{concat_manual, concat_set, concat_start, segments_said, video_said, sound_said, is_of_kind, concat_view, concat_head}
 use Rattle.ff_joins.specs.JoinOptions.{join_manual, inputs_said, is_like, channels_in, with_channels}

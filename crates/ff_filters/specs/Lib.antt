@@ -8,3 +8,4 @@ pub mod ReadBy
 pub mod SetBy
 pub mod Configured
 pub mod SingleLaws
+pub mod limited

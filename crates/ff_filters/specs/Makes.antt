@@ -1,13 +1,13 @@
 -- What each filter is by its arguments and the heads of its inputs.
 use Rattle.std.specs.Prelude.{List}
-use Rattle.ff_values.specs.declared.config.ConfigError.{ConfigError}
-use Rattle.ff_values.specs.declared.head.StreamHead.{StreamHead}
+use Rattle.ff_frame.specs.declared.config.ConfigError.{ConfigError}
+use Rattle.ff_frame.specs.declared.head.StreamHead.{StreamHead}
 use Rattle.ff_lang.specs.declared.graph.Arg.{Arg}
 use Rattle.ff_filter.specs.Options.{is_sound, is_video, IsMade, IsRefused}
 use Rattle.ff_filter.specs.Plain.{IsPass, pass_view, IsRebase, rebase_view}
 use Rattle.ff_filter.specs.Views.{View}
-use Rattle.ff_spread.specs.Many.{AreMade}
-use Rattle.ff_spread.specs.Splits.{IsSplit, split_view, split_heads}
+use Rattle.ff_filter.specs.spread.Many.{AreMade}
+use Rattle.ff_filter.specs.spread.Splits.{IsSplit, split_view, split_heads}
 use Rattle.ff_vfilter.specs.Trims.{IsTrim, trim_view}
 use Rattle.ff_vfilter.specs.Crops.{IsCrop, crop_view, crop_head}
 use Rattle.ff_vfilter.specs.Pads.{IsPad, pad_view, pad_head}
@@ -16,8 +16,8 @@ use Rattle.ff_vfilter.specs.VFlips.{IsVFlip, vflip_view}
 use Rattle.ff_vfilter.specs.FpsOptions.{IsFps, fps_view, fps_head}
 use Rattle.ff_afilter.specs.Trims.{IsATrim, atrim_view}
 use Rattle.ff_afilter.specs.Channels.{IsChannelSplit, channels_view, mono_heads}
-use Rattle.ff_stacks.specs.declared.shape.Direction.TheVariants.{Beside, Below}
-use Rattle.ff_stacks.specs.Stacks.{IsStack, stack_view, head_of}
+use Rattle.ff_fsync.specs.declared.stacks.shape.Direction.TheVariants.{Beside, Below}
+use Rattle.ff_fsync.specs.stacks.Stacks.{IsStack, stack_view, head_of}
 use Rattle.ff_joins.specs.ConcatOptions.{IsConcat, concat_view, concat_head}
 use Rattle.ff_joins.specs.JoinOptions.{IsJoin}
 use Rattle.ff_joins.specs.JoinView.{join_view, head_itself}

@@ -1,8 +1,8 @@
 -- How many pads a filter has by its arguments, and of which kind (ffmpeg-filters).
 use Rattle.std.specs.Prelude.{ℕ, ◌&&◌, Bool, true, false, not, List}
 use Rattle.ff_lang.specs.declared.graph.Arg.{Arg}
-use Rattle.ff_spread.specs.Splits.{split_manual}
-use Rattle.ff_stacks.specs.Options.{counted}
+use Rattle.ff_filter.specs.spread.Splits.{split_manual}
+use Rattle.ff_fsync.specs.stacks.Options.{counted}
 use Rattle.ff_joins.specs.Arguments.{last_number}
 use Rattle.ff_joins.specs.ConcatOptions.{segments_said, video_said, sound_said}
 use Rattle.ff_joins.specs.JoinOptions.{inputs_said}

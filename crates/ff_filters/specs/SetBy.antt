@@ -4,12 +4,12 @@ use Rattle.std.specs.Str.{bytes_eq}
 use Rattle.ff_filter.specs.Options.{number_of}
 use Rattle.ff_filter.specs.declared.plain.NoSettings.{NoSettings}
 use Rattle.ff_filter.specs.declared.plain.ExprSettings.{ExprSettings}
-use Rattle.ff_spread.specs.declared.copies.SplitSettings.{SplitSettings}
+use Rattle.ff_filter.specs.declared.spread.copies.SplitSettings.{SplitSettings}
 use Rattle.ff_vfilter.specs.declared.crop.CropSettings.{CropSettings}
 use Rattle.ff_vfilter.specs.declared.pad.PadSettings.{PadSettings}
 use Rattle.ff_vfilter.specs.declared.fps.FpsSettings.{FpsSettings}
 use Rattle.ff_vfilter.specs.Sizes.{put}
-use Rattle.ff_stacks.specs.declared.options.StackSettings.{StackSettings}
+use Rattle.ff_fsync.specs.declared.stacks.options.StackSettings.{StackSettings}
 use Rattle.ff_joins.specs.declared.join_options.JoinSettings.{JoinSettings}
 use Rattle.ff_joins.specs.Arguments.{ranged}
 use Rattle.ff_filters.specs.Texts.{rate_base}

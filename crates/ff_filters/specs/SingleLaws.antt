@@ -1,9 +1,9 @@
 -- The laws of the machines that are alike for all functions of one stream, and for all ways to share items out.
 use Rattle.std.specs.Prelude.{◌≡◌, ℕ, ◌<◌, Bool, true, length}
-use Rattle.ff_frame.specs.declared.item.Lane.TheVariants.{Frames}
-use Rattle.ff_frame.specs.Stream.{LiesBelow, opened}
-use Rattle.ff_frame.specs.Ports.{nothing, IsClosed}
-use Rattle.ff_frame.specs.Within.{passes_limits}
+use Rattle.ff_stream.specs.declared.item.Lane.TheVariants.{Frames}
+use Rattle.ff_stream.specs.Stream.{LiesBelow, opened}
+use Rattle.ff_stream.specs.Ports.{nothing, IsClosed}
+use Rattle.ff_stream.specs.Within.{passes_limits}
 use Rattle.ff_filter.specs.declared.limited.Limited.{Limited}
 use Rattle.ff_filter.specs.declared.step.Step.{Ghosts as StepGhosts}
 use Rattle.ff_filter.specs.declared.stepper.Stepper.{Stepper}
@@ -13,11 +13,11 @@ use Rattle.ff_filter.specs.Limits.{limited}
 use Rattle.ff_filter.specs.Made.{stepper_view, steps_spent}
 use Rattle.ff_filter.specs.StepperLaws.{stepper-grows, stepper-hides, stepper-settles, stepper-quiet, stepper-spent, stepper-shut, stepper-done}
 use Rattle.ff_filter.specs.Views.{View, Settles, IsSpent, AllDone}
-use Rattle.ff_spread.specs.declared.share.Share.{Ghosts as ShareGhosts}
-use Rattle.ff_spread.specs.declared.spreader.Spreader.{Spreader}
-use Rattle.ff_spread.specs.Lines.{lines}
-use Rattle.ff_spread.specs.SpreadLaws.{spread-grows, spread-hides, spread-settles, spread-quiet, spread-spent_only, spread-shut_spent, spread-done_spent}
-use Rattle.ff_spread.specs.Spreads.{spread_view, spread_spent}
+use Rattle.ff_filter.specs.declared.spread.share.Share.{Ghosts as ShareGhosts}
+use Rattle.ff_filter.specs.declared.spread.spreader.Spreader.{Spreader}
+use Rattle.ff_filter.specs.spread.Lines.{lines}
+use Rattle.ff_filter.specs.spread.SpreadLaws.{spread-grows, spread-hides, spread-settles, spread-quiet, spread-spent_only, spread-shut_spent, spread-done_spent}
+use Rattle.ff_filter.specs.spread.Spreads.{spread_view, spread_spent}
 
 -- a function of one stream, of at most one item for each, within the limits of its output
 module _ {A : Type 0} {G : StepGhosts A} where

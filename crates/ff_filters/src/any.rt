@@ -1,16 +1,16 @@
 ghost use Rattle.std.specs.Prelude.{◌≡◌};
-ghost use Rattle.ff_frame.specs.declared.item.Lane.TheVariants.{Frames};
-ghost use Rattle.ff_frame.specs.Stream.{opened};
-ghost use Rattle.ff_frame.specs.Order.{below_self};
+ghost use Rattle.ff_stream.specs.declared.item.Lane.TheVariants.{Frames};
+ghost use Rattle.ff_stream.specs.Stream.{opened};
+ghost use Rattle.ff_stream.specs.Order.{below_self};
 ghost use Rattle.ff_filter.specs.Shifts.{shifted, shifted-below};
 ghost use Rattle.ff_vfilter.specs.TrimLaws.{trimmed-below, trimmed-calm, trimmed-settles};
 ghost use Rattle.ff_vfilter.specs.Pictures.{repainted, repainted-below};
 ghost use Rattle.ff_vfilter.specs.RateLaws.{rate-grows, rate-hides, rate-settles, rate-quiet};
 ghost use Rattle.ff_vfilter.specs.RateSpent.{rate-spent_only, rate-shut_spent, rate-done_spent};
 ghost use Rattle.ff_afilter.specs.TrimLaws.{trimmed-below as sound-below, trimmed-calm as sound-calm, trimmed-settles as sound-settles};
-ghost use Rattle.ff_stacks.specs.Limits.{limits-grows, limits-hides, limits-settles, limits-quiet};
-ghost use Rattle.ff_stacks.specs.Stacked.{sync_seen};
-ghost use Rattle.ff_stacks.specs.StackedLaws.{sync_grows, sync_hides, sync_settles, sync_quiet, stacked-spent_only, stacked-shut_spent, stacked-done_spent};
+ghost use Rattle.ff_fsync.specs.stacks.Limits.{limits-grows, limits-hides, limits-settles, limits-quiet};
+ghost use Rattle.ff_fsync.specs.stacks.Stacked.{sync_seen};
+ghost use Rattle.ff_fsync.specs.stacks.StackedLaws.{sync_grows, sync_hides, sync_settles, sync_quiet, stacked-spent_only, stacked-shut_spent, stacked-done_spent};
 ghost use Rattle.ff_joins.specs.SegmentLaws.{segments-grows, segments-hides, segments-settles, segments-quiet};
 ghost use Rattle.ff_joins.specs.SegmentLaws.{segments-spent_only, segments-shut_spent, segments-done_spent};
 ghost use Rattle.ff_joins.specs.JoinLaws.{join-grows, join-hides, join-settles, join-quiet, join-spent_only, join-shut_spent, join-done_spent};
@@ -18,11 +18,10 @@ ghost use Rattle.ff_filters.specs.SingleLaws.{single-grows, single-hides, single
 ghost use Rattle.ff_filters.specs.SingleLaws.{shared-grows, shared-hides, shared-settles, shared-quiet, shared-spent_only, shared-shut_spent, shared-done_spent};
 
 use ff_afilter::{ATrim, Channels};
-use ff_filter::{Filter, Limited, Pass, Rebase, Stepper};
-use ff_frame::{Item, Refused};
+use ff_filter::{Copies, Filter, Limited, Pass, Rebase, Spreader, Stepper};
+use ff_fsync::Stacked;
 use ff_joins::{Concat, Join};
-use ff_spread::{Copies, Spreader};
-use ff_stacks::Stacked;
+use ff_stream::{Item, Refused};
 use ff_vfilter::{Crop, HFlip, Pad, Paint, Rate, Repaint, Trim, VFlip};
 use std::alloc::AllocError;
 

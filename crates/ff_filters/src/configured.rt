@@ -1,5 +1,5 @@
 ghost use Rattle.std.specs.Prelude.{◌≡◌, ◌⊎◌, Ok, Err, IfOk, IfErr};
-ghost use Rattle.ff_values.specs.declared.config.ConfigError.TheVariants.{NoMemory};
+ghost use Rattle.ff_frame.specs.declared.config.ConfigError.TheVariants.{NoMemory};
 ghost use Rattle.ff_filters.specs.Configured.{configured_as};
 ghost use Rattle.ff_filters.specs.Makes.{Makes, Refuses};
 
@@ -8,9 +8,9 @@ use crate::name::FilterName;
 use ff_afilter::{ANull, ASetPts, ASplit, ATrim, ChannelSplit};
 use ff_filter::Filter;
 use ff_frame::{ConfigError, StreamHead};
+use ff_fsync::{HStack, VStack};
 use ff_joins::{Concat, Join};
 use ff_lang::Arg;
-use ff_stacks::{HStack, VStack};
 use ff_vfilter::{Crop, Fps, HFlip, Null, Pad, SetPts, Split, Trim, VFlip};
 use std::alloc::Global;
 

@@ -1,10 +1,10 @@
 //! Laws of what filters are by their arguments and heads: functions that do nothing, whose clauses hold of all values.
 ghost use Rattle.std.specs.Prelude.{◌≡◌, ◌≢◌, ◌⊎◌, ◌↔◌, ℕ, List, Some, Ok, Err, map};
 ghost use Rattle.ff_time.specs.Duration.{IsDuration};
-ghost use Rattle.ff_values.specs.declared.config.ConfigError.{ConfigError};
-ghost use Rattle.ff_values.specs.declared.config.ConfigError.TheVariants.{NoMemory};
-ghost use Rattle.ff_values.specs.declared.head.StreamHead.{StreamHead};
-ghost use Rattle.ff_frame.specs.declared.item.Lane.TheVariants.{Frames};
+ghost use Rattle.ff_frame.specs.declared.config.ConfigError.{ConfigError};
+ghost use Rattle.ff_frame.specs.declared.config.ConfigError.TheVariants.{NoMemory};
+ghost use Rattle.ff_frame.specs.declared.head.StreamHead.{StreamHead};
+ghost use Rattle.ff_stream.specs.declared.item.Lane.TheVariants.{Frames};
 ghost use Rattle.ff_lang.specs.declared.graph.Arg.{Arg};
 ghost use Rattle.ff_filter.specs.Views.{View, IsNew};
 ghost use Rattle.ff_filters.specs.declared.name.FilterName.{FilterName};

@@ -2,10 +2,10 @@ ghost use Rattle.std.specs.Prelude.{◌≡◌};
 ghost use Rattle.ff_filters.specs.Pads.{inputs_of, outputs_of, takes_sound as sound_taken};
 
 use crate::name::FilterName;
+use ff_filter::SplitSettings;
+use ff_fsync::count_inputs;
 use ff_joins::{ConcatSettings, JoinSettings, last_number};
 use ff_lang::Arg;
-use ff_spread::SplitSettings;
-use ff_stacks::count_inputs;
 
 /// How many input pads a filter has by its arguments. The last that says so counts; where that one is refused, as many as
 /// where none says so.

@@ -17,7 +17,7 @@ use Rattle.std.proofs.Math.Nat.{pow-le-pow_right}
 use Rattle.ff_flac_frame.specs.declared.subframe.SubKind.{SubKind}
 use Rattle.ff_flac_frame.specs.declared.subframe.SubKind.TheVariants.{Constant, Verbatim, Fixed, Lpc}
 use Rattle.ff_flac_frame.specs.Frame.{Part}
-use Rattle.ff_values.specs.Audio.{FitsBits}
+use Rattle.ff_frame.specs.Audio.{FitsBits}
 use Rattle.ff_flac_frame.specs.Facts.{HasShape, IsPart}
 use Rattle.ff_flac_frame.specs.Prediction.{fixed, linear, restored, AllInDepth}
 use Rattle.ff_flac_frame.specs.Restored.{IsRestored}

@@ -6,7 +6,7 @@ use Rattle.std.specs.List.{AllByRecursion, All}
 use Rattle.std.proofs.lemmas.Bool.{lt-ltb, le-ltb, ltb-true, cases_lt, and_parts, eqb-true}
 use Rattle.std.proofs.lemmas.Nat.{pow_pos}
 use Rattle.std.proofs.lemmas.List.{length-map, get_or_past}
-use Rattle.ff_values.specs.Audio.{FitsBits, IsAudio}
+use Rattle.ff_frame.specs.Audio.{FitsBits, IsAudio}
 use Rattle.ff_flac_frame.specs.declared.stream.FlacStream.{FlacStream}
 use Rattle.ff_flac_frame.specs.declared.subframe.Subframe.{Subframe}
 use Rattle.ff_flac_frame.specs.Codes.{form_fits, depths}

@@ -4,8 +4,8 @@ use Rattle.std.proofs.lemmas.List.{length-drop}
 use Rattle.ff_bits.specs.Bits.{bits}
 use Rattle.ff_bits.specs.Reading.{Answer, Done, More, Bad}
 use Rattle.ff_bits.proofs.BitsLemmas.{length-bits, bits-append}
-use Rattle.ff_values.specs.Packet.{packet_at}
-use Rattle.ff_values.specs.declared.packet.Pkt.{Pkt}
+use Rattle.ff_frame.specs.Packet.{packet_at}
+use Rattle.ff_frame.specs.declared.packet.Pkt.{Pkt}
 use Rattle.ff_flac_frame.specs.declared.stream.FlacStream.{FlacStream}
 use Rattle.ff_flac_frame.specs.Frame.{Frame, IsStream, frame, Begins, IsNotYet, IsNever}
 use Rattle.ff_flac_frame.proofs.FrameSound.{IsSound-frame}

@@ -4,8 +4,8 @@ use Rattle.std.specs.Int.Signed.{shr_z}
 use Rattle.ff_flac_frame.specs.declared.stream.FlacStream.{FlacStream}
 use Rattle.ff_flac_frame.specs.Codes.{left_side, side_right, is_alone, depths}
 use Rattle.ff_flac_frame.specs.Frame.{Part, Frame}
-use Rattle.ff_values.specs.declared.audio.AFrame.{AFrame}
-use Rattle.ff_values.specs.Frame.{audio_frame}
+use Rattle.ff_frame.specs.declared.audio.AFrame.{AFrame}
+use Rattle.ff_frame.specs.Frame.{audio_frame}
 use Rattle.ff_flac_frame.specs.Prediction.{AllInDepth}
 use Rattle.ff_flac_dec.specs.Values.{coded_samples, channel_samples}
 

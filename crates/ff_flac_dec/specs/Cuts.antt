@@ -1,7 +1,7 @@
 -- A cut does not keep what it was fed and gave: it is tied to it.
 use Rattle.std.specs.Prelude.{◌≡◌, ℕ, ◌+◌, ◌^◌, ◌≤◌, Bool, List, ◌++◌, drop, length}
-use Rattle.ff_cut.specs.Cutters.{Cutter}
-use Rattle.ff_values.specs.declared.packet.Pkt.{Pkt}
+use Rattle.ff_reader.specs.Cutters.{Cutter}
+use Rattle.ff_frame.specs.declared.packet.Pkt.{Pkt}
 use Rattle.ff_flac_dec.specs.declared.head.FlacHead.{FlacHead}
 use Rattle.ff_flac_dec.specs.declared.cut.FlacCut.{FlacCut}
 use Rattle.ff_flac_dec.specs.Streams.{stream_of, IsHead}

@@ -1,6 +1,6 @@
 -- What the metadata blocks owe to the reading of heads.
 use Rattle.std.proofs.Common.{[], ◌∷◌, ◌++◌, arith, length-append, lit<}
-use Rattle.ff_cut.specs.Walks.{IsGrammar, DamagesBefore}
+use Rattle.ff_reader.specs.Walks.{IsGrammar, DamagesBefore}
 use Rattle.ff_flac_dec.specs.Blocks.{block}
 use Rattle.ff_flac_dec.specs.Heads.{grammar}
 use Rattle.ff_flac_dec.specs.BlockLaws.{block_settles, block_damaged, block_there}

@@ -2,8 +2,8 @@
 use Rattle.std.specs.Prelude.{ℕ, zero, suc, ◌+◌, ◌-◌, ◌/◌, pos, List, [], ◌∷◌, take, length, Option, Some, None}
 use Rattle.ff_bits.specs.Bits.{bits}
 use Rattle.ff_bits.specs.Reading.{Answer, Done, More, Bad}
-use Rattle.ff_values.specs.Packet.{packet_at}
-use Rattle.ff_values.specs.declared.packet.Pkt.{Pkt}
+use Rattle.ff_frame.specs.Packet.{packet_at}
+use Rattle.ff_frame.specs.declared.packet.Pkt.{Pkt}
 use Rattle.ff_flac_frame.specs.declared.stream.FlacStream.{FlacStream}
 use Rattle.ff_flac_frame.specs.Frame.{Frame, frame}
 use Rattle.ff_flac_dec.specs.declared.front.Front.{Front}

@@ -2,13 +2,13 @@
 use Rattle.std.proofs.Common.{◌≡◌, ℕ, ◌+◌, ◌≤◌, Bool, true, false, cond, List, length, Option, Some, None, Ok, Err, refl, arith}
 use Rattle.std.specs.Prelude.{slice_index, ◌==◌, ◌&&◌, ◌/◌, ◌%◌, not, nat_le, nat_lt, IfSome}
 use Rattle.std.proofs.lemmas.Bool.Decides.{nat_tests}
-use Rattle.ff_values.specs.declared.head.StreamHead.{StreamHead}
-use Rattle.ff_cut.specs.declared.fault.HeadFault.{HeadFault}
-use Rattle.ff_cut.specs.declared.fault.HeadFault.TheVariants.{Damaged, Unsupported}
-use Rattle.ff_cut.specs.declared.step.Step.TheVariants.{Wait, Decide, Skip}
+use Rattle.ff_frame.specs.declared.head.StreamHead.{StreamHead}
+use Rattle.ff_reader.specs.declared.fault.HeadFault.{HeadFault}
+use Rattle.ff_reader.specs.declared.fault.HeadFault.TheVariants.{Damaged, Unsupported}
+use Rattle.ff_reader.specs.declared.step.Step.TheVariants.{Wait, Decide, Skip}
 use Rattle.ff_flac_dec.specs.Streams.{IsHead}
 use Rattle.ff_flac_dec.specs.Blocks.{BlockStep, number_24, kind_of, is_last, rate_in, channels_in, bits_in, sound_of, closes, info, other, after, block}
-use Rattle.ff_cut.specs.Walks.{head_limit, IsKept, Keeps}
+use Rattle.ff_reader.specs.Walks.{head_limit, IsKept, Keeps}
 use Rattle.ff_flac_dec.specs.Heads.{IsFlacStream}
 
 -- within the limit a step gives a sound head, or goes on with such a stream

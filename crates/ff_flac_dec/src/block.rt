@@ -1,12 +1,12 @@
 ghost use Rattle.std.specs.Prelude.{◌≡◌, ◌+◌, ◌*◌, ◌≤◌, ◌<◌, ◌^◌, ℕ, Option, length, drop, Ok, Some};
-ghost use Rattle.ff_values.specs.declared.head.StreamHead.{StreamHead};
-ghost use Rattle.ff_cut.specs.declared.step.Step.TheVariants.{Skip};
+ghost use Rattle.ff_frame.specs.declared.head.StreamHead.{StreamHead};
+ghost use Rattle.ff_reader.specs.declared.step.Step.TheVariants.{Skip};
 ghost use Rattle.ff_flac_dec.specs.Blocks.{number_24, kind_of, is_last, rate_in, channels_in, bits_in, sound_of, closes, info, other, after, block};
 
 use crate::head::{BlockStep, FlacHead};
-use ff_cut::{HeadFault, Step};
+use ff_frame::{Codec, StreamHead};
+use ff_reader::{HeadFault, Step};
 use ff_time::{Rational, TimeError};
-use ff_values::{Codec, StreamHead};
 
 fn at_24(bytes: &[u8], place: usize) -> u32
     requires { place + 3 ≤ length bytes.now }

@@ -1,9 +1,9 @@
 ghost use Rattle.std.specs.Prelude.{◌≡◌, ◌≢◌, ◌+◌, ◌*◌, ◌^◌, ◌≤◌, ◌<◌, ◌↔◌, ℕ, List, [], ◌++◌, Some, None, true, false, length, IfOk, OnOk, OnErr, IsOk, slice_get, pos};
-ghost use Rattle.ff_values.specs.Packet.{packet_at};
-ghost use Rattle.ff_values.specs.Codecs.{IsFlac};
-ghost use Rattle.ff_values.specs.declared.packet.Pkt.{Pkt};
+ghost use Rattle.ff_frame.specs.Packet.{packet_at};
+ghost use Rattle.ff_frame.specs.Codecs.{IsFlac};
+ghost use Rattle.ff_frame.specs.declared.packet.Pkt.{Pkt};
 ghost use Rattle.ff_flac_frame.specs.Frame.{IsStream};
-ghost use Rattle.ff_cut.specs.Cutters.{GaveAll, GivesPacket};
+ghost use Rattle.ff_reader.specs.Cutters.{GaveAll, GivesPacket};
 ghost use Rattle.ff_flac_dec.specs.declared.head.FlacHead.{FlacHead};
 ghost use Rattle.ff_flac_dec.specs.declared.front.Front.TheVariants.{Wait};
 ghost use Rattle.ff_flac_dec.specs.Streams.{stream_of, IsHead};
@@ -12,9 +12,9 @@ ghost use Rattle.ff_flac_dec.specs.Packets.{unit, demuxed, broken_at};
 use crate::front::{Front, front_sent};
 use crate::hand_over::FrameSender;
 use crate::head::FlacHead;
-use ff_cut::{Held, PacketCut};
+use ff_frame::{Bytes, Cut, Pkt, StreamHead};
 use ff_lists::front;
-use ff_values::{Bytes, Cut, Pkt, StreamHead};
+use ff_reader::{Held, PacketCut};
 use std::alloc::{AllocError, Global};
 
 /// The packets of a FLAC input, from pieces of any size. Each is one frame (RFC 9639, section 9).

@@ -1,7 +1,7 @@
 //! Samples and their depth.
 
 ghost use Rattle.std.specs.Prelude.{◌≡◌, ◌≤◌, ◌^◌, IsTrue, ◌↔◌, pos};
-ghost use Rattle.ff_values.specs.Audio.{FitsBits};
+ghost use Rattle.ff_frame.specs.Audio.{FitsBits};
 ghost use Rattle.ff_flac_frame.specs.Prediction.{AllInDepth};
 
 /// 2 to a power.

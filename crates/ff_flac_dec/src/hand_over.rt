@@ -12,7 +12,7 @@ ghost use Rattle.ff_flac_frame.specs.Frame.{Begins};
 ghost use Rattle.ff_flac_frame.specs.Parts.{frame_of};
 
 use ff_flac_frame::{FlacFrame, FlacStream};
-use ff_values::Bytes;
+use ff_frame::Bytes;
 use rtrb::{Consumer, Producer, Protocol, RingBuffer};
 use std::alloc::{AllocError, Global};
 use std::marker::Model;

@@ -1,9 +1,9 @@
 ghost use Rattle.std.specs.Prelude.{◌≡◌};
 ghost use Rattle.ff_flac_dec.specs.Streams.{stream_of};
 
-use ff_cut::Step;
 use ff_flac_frame::FlacStream;
-use ff_values::StreamHead;
+use ff_frame::StreamHead;
+use ff_reader::Step;
 
 /// The head of a FLAC input: what comes before its first frame (RFC 9639, section 8).
 #[derive(Clone, Copy, PartialEq, Eq, Debug)]

@@ -26,8 +26,6 @@ mod walk;
 
 pub use cut::FlacCut;
 pub use end::DecodeEnd;
-pub use ff_cut::HeadFault;
-pub use ff_flac_frame::{FlacFrame, FlacStream, FrameEnd, SubKind, Subframe};
 pub use frame::frame_at;
 pub use hand_over::{FrameReceiver, FrameSender, frame_channel};
 pub use head::FlacHead;

@@ -1,6 +1,6 @@
 ghost use Rattle.std.specs.Prelude.{◌≡◌, ◌<◌, ◌≤◌, ◌+◌, ◌-◌, ℕ, List, IfOk, IfErr, IsErrOf, length, map, ◌∷◌, []};
 ghost use Rattle.std.specs.List.{AllByRecursion};
-ghost use Rattle.ff_values.specs.Audio.{IsAudio};
+ghost use Rattle.ff_frame.specs.Audio.{IsAudio};
 ghost use Rattle.ff_flac_frame.specs.Frame.{IsStream, Begins};
 ghost use Rattle.ff_flac_frame.specs.Facts.{IsPart, IsFrame};
 ghost use Rattle.ff_flac_frame.specs.Parts.{part_of, frame_of};
@@ -15,7 +15,7 @@ use crate::head::FlacHead;
 use crate::interleave::{interleave, interleave_two};
 use crate::stereo::left_and_right;
 use ff_flac_frame::{FlacFrame, FlacStream, Subframe};
-use ff_values::{AFrame, Samples};
+use ff_frame::{AFrame, Samples};
 use std::alloc::Global;
 
 /// The channels of subframes of one depth that stand for one channel each.

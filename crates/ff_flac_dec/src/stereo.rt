@@ -1,5 +1,5 @@
 ghost use Rattle.std.specs.Prelude.{◌≡◌, ◌≤◌, ◌==◌, if◌then◌else◌, IfOk, IfErr, IsErrOf, length};
-ghost use Rattle.ff_values.specs.Audio.{FitsBits};
+ghost use Rattle.ff_frame.specs.Audio.{FitsBits};
 ghost use Rattle.ff_flac_frame.specs.Prediction.{AllInDepth};
 ghost use Rattle.ff_flac_dec.specs.Channels.{less, more, mid_left, mid_right, left_right, AllChannels, interleaved};
 ghost use Rattle.ff_flac_dec.specs.Joins.{joins};

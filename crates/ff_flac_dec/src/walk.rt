@@ -6,8 +6,8 @@ ghost use Rattle.ff_flac_dec.specs.SoundLaws.{is_kept};
 
 use crate::block::block_at;
 use crate::head::{BlockStep, FlacHead};
-use ff_cut::{HeadFormat, HeadWalk};
-use ff_values::{HeadEnd, StreamHead};
+use ff_frame::{HeadEnd, StreamHead};
+use ff_reader::{HeadFormat, HeadWalk};
 
 /// What an input begins with.
 const MAGIC: [Option<u8>; 4] = [Some(b'f'), Some(b'L'), Some(b'a'), Some(b'C')];
@@ -65,5 +65,5 @@ pub fn read_head(bytes: &[u8], whole: bool) -> Result<FlacHead, HeadEnd>
     ensures stays { (result ≡ Err HeadEnd.NotYet → ⊥) → whole ≡ false
         → (more : List ℕ) → head (bytes.now ++ more) ≡ head bytes.now }
 {
-    ff_cut::read_head::<Flac>(bytes, whole)
+    ff_reader::read_head::<Flac>(bytes, whole)
 }

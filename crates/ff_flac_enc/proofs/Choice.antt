@@ -3,20 +3,20 @@ use Rattle.std.specs.Option.{option_map}
 use Rattle.std.specs.List.{flat_map, All, AllByRecursion}
 use Rattle.std.proofs.lemmas.List.{length-append, append-nil, append_assoc, take_all, take_more_set}
 use Rattle.std.proofs.lemmas.Bool.Decides.{nat_tests}
-use Rattle.ff_flac_rice.specs.Least.{choose, least}
-use Rattle.ff_values.specs.Audio.{FitsBits}
-use Rattle.ff_flac_sub.specs.Subframe.{Spelling, subframe_bits, candidates, magnitude}
-use Rattle.ff_flac_sub.specs.Plan.{size}
+use Rattle.ff_flac_subframe.specs.rice.Least.{choose, least}
+use Rattle.ff_frame.specs.Audio.{FitsBits}
+use Rattle.ff_flac_subframe.specs.Subframe.{Spelling, subframe_bits, candidates, magnitude}
+use Rattle.ff_flac_subframe.specs.Plan.{size}
 use Rattle.ff_flac_enc.specs.Signal.{CanWrite}
-use Rattle.ff_flac_sub.proofs.Plans.{first_small}
+use Rattle.ff_flac_subframe.proofs.Plans.{first_small}
 use Rattle.std.proofs.Math.Nat.{pow-suc}
-use Rattle.ff_flac_rice.proofs.LeastLemmas.{least-append, least-map, least-same, least-shift, least-shift_right, least-flat_map}
+use Rattle.ff_flac_subframe.proofs.RiceLemmas.LeastLemmas.{least-append, least-map, least-same, least-shift, least-shift_right, least-flat_map}
 use Rattle.ff_flac_dec.specs.Channels.{both}
 use Rattle.ff_flac_enc.specs.Layout.{Signal, forms, signals, products, bodies, Layout, layouts, layouts_with, body, layout_size, half, mid_of, side_of, signal}
 use Rattle.std.specs.Prelude.{◌+ℤ◌, ◌-ℤ◌, ◌<ℤ◌, ◌≤ℤ◌, neg_ℤ}
 use Rattle.std.proofs.lemmas.Int.{ints}
 use Rattle.std.proofs.lemmas.List.Elements.{All-same, All-from_recursion, recursion_from_All}
-use Rattle.ff_flac_sub.proofs.Predict.{magnitude_of, fits_of, step_small, above, from_below, between}
+use Rattle.ff_flac_subframe.proofs.Predict.{magnitude_of, fits_of, step_small, above, from_below, between}
 
 -- each signal is best written so
 abbrev pub AreBest : List Signal → List Spelling → Type 0

@@ -7,14 +7,14 @@ use Rattle.std.proofs.lemmas.Bool.Decides.{Decides-int_eq}
 use Rattle.std.proofs.lemmas.Int.{ints}
 use Rattle.std.proofs.lemmas.Slice.Eq.{slice_eq-Decides}
 use Rattle.ff_flac_dec.specs.Channels.{both}
-use Rattle.ff_flac_rice.specs.Least.{least}
-use Rattle.ff_flac_rice.proofs.LeastLemmas.{least_holds}
-use Rattle.ff_flac_sub.specs.Subframe.{Spelling, candidates, subframe_bits}
-use Rattle.ff_flac_sub.specs.Plan.{size, spelling_of, PlanFits}
-use Rattle.ff_flac_sub.specs.Outlook.{IsOutlook}
-use Rattle.ff_flac_sub.specs.declared.subframe.Outlook.{Outlook}
-use Rattle.ff_flac_sub.specs.declared.subframe.Plan.{Plan}
-use Rattle.ff_flac_sub.specs.declared.subframe.Planned.{Planned}
+use Rattle.ff_flac_subframe.specs.rice.Least.{least}
+use Rattle.ff_flac_subframe.proofs.RiceLemmas.LeastLemmas.{least_holds}
+use Rattle.ff_flac_subframe.specs.Subframe.{Spelling, candidates, subframe_bits}
+use Rattle.ff_flac_subframe.specs.Plan.{size, spelling_of, PlanFits}
+use Rattle.ff_flac_subframe.specs.Outlook.{IsOutlook}
+use Rattle.ff_flac_subframe.specs.declared.subframe.Outlook.{Outlook}
+use Rattle.ff_flac_subframe.specs.declared.subframe.Plan.{Plan}
+use Rattle.ff_flac_subframe.specs.declared.subframe.Planned.{Planned}
 use Rattle.ff_flac_enc.specs.Channels.{best, best_bits}
 use Rattle.ff_flac_enc.specs.Choice.{fewest, IsBest, IsKnown}
 use Rattle.ff_flac_enc.specs.Layout.{Layout, signals, bodies, layouts, layouts_with, body, layout_size, half, mid_of, side_of, signal}

@@ -10,18 +10,18 @@ use Rattle.std.proofs.lemmas.Nat.{le-div}
 use Rattle.std.proofs.Math.Nat.{mul-le-mul_right, lt-div-mul-add, mul-add-div_right, mul-div_cancel, le-mul_of_pos_right}
 use mathlib.Core.List.{IsPrefix}
 use Rattle.ff_time.specs.Fraction.{IsBase}
-use Rattle.ff_values.specs.Audio.{IsAudio}
-use Rattle.ff_values.specs.Frame.{audio_frame}
-use Rattle.ff_values.specs.Heads.{base_of_head}
-use Rattle.ff_frame.specs.Lanes.{IsItemFor, InOrder, IsValid, EndsInTime, FitsFrames}
-use Rattle.ff_frame.specs.Stream.{Mark}
-use Rattle.ff_frame.specs.Times.{end_of, ticks}
-use Rattle.ff_values.specs.declared.audio.AFrame.{AFrame}
-use Rattle.ff_values.specs.declared.head.StreamHead.{StreamHead}
-use Rattle.ff_values.specs.declared.head.StreamHead.TheVariants.{Audio as AudioHead, Video as VideoHead}
-use Rattle.ff_frame.specs.declared.item.Item.{Item}
-use Rattle.ff_frame.specs.declared.item.Item.TheVariants.{Audio}
-use Rattle.ff_frame.specs.declared.item.Lane.TheVariants.{Frames}
+use Rattle.ff_frame.specs.Audio.{IsAudio}
+use Rattle.ff_frame.specs.Frame.{audio_frame}
+use Rattle.ff_frame.specs.Heads.{base_of_head}
+use Rattle.ff_stream.specs.Lanes.{IsItemFor, InOrder, IsValid, EndsInTime, FitsFrames}
+use Rattle.ff_stream.specs.Stream.{Mark}
+use Rattle.ff_stream.specs.Times.{end_of, ticks}
+use Rattle.ff_frame.specs.declared.audio.AFrame.{AFrame}
+use Rattle.ff_frame.specs.declared.head.StreamHead.{StreamHead}
+use Rattle.ff_frame.specs.declared.head.StreamHead.TheVariants.{Audio as AudioHead, Video as VideoHead}
+use Rattle.ff_stream.specs.declared.item.Item.{Item}
+use Rattle.ff_stream.specs.declared.item.Item.TheVariants.{Audio}
+use Rattle.ff_stream.specs.declared.item.Lane.TheVariants.{Frames}
 use Rattle.ff_flac_enc.specs.declared.blocks.Blocks.{Blocks}
 use Rattle.ff_flac_enc.specs.Gathered.{changed, format_of, full_size, all_samples, count_due, block_at, blocks_due, EndInTime}
 use Rattle.ff_flac_enc.specs.Cuts.{Cuts, IsLike}

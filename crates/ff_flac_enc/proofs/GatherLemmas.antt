@@ -7,8 +7,8 @@ use Rattle.std.proofs.lemmas.List.Elements.{All-append, All-take, All-drop}
 use Rattle.std.proofs.lemmas.List.FromFn.{length-map-range_with_len}
 use Rattle.std.proofs.lemmas.Nat.{le-div, div_below}
 use Rattle.std.proofs.Math.Nat.{div-mul-le_self, mul-le-mul_right, add-mul-mod_self_right, mul-mod_left, div-add-mod'}
-use Rattle.ff_values.specs.Audio.{FitsBits, IsAudio}
-use Rattle.ff_values.specs.declared.audio.AFrame.{AFrame}
+use Rattle.ff_frame.specs.Audio.{FitsBits, IsAudio}
+use Rattle.ff_frame.specs.declared.audio.AFrame.{AFrame}
 use Rattle.ff_flac_enc.specs.declared.format.Format.{Format}
 use Rattle.ff_flac_enc.specs.Gathered.{format_of, full_size, count_due, block_at, blocks_from, IsDue, IsKept, Holds}
 use Rattle.ff_flac_enc.specs.Cuts.{IsLike}

@@ -5,8 +5,8 @@ use Rattle.std.proofs.lemmas.Int.{ints}
 use Rattle.std.proofs.lemmas.List.{drop-append-le}
 use Rattle.std.proofs.lemmas.List.Concat.{flat_map-append}
 use Rattle.std.proofs.lemmas.Nat.{le-div}
-use Rattle.ff_values.specs.Frame.{audio_frame}
-use Rattle.ff_values.specs.declared.audio.AFrame.{AFrame}
+use Rattle.ff_frame.specs.Frame.{audio_frame}
+use Rattle.ff_frame.specs.declared.audio.AFrame.{AFrame}
 use Rattle.ff_flac_enc.specs.declared.format.Format.{Format}
 use Rattle.ff_flac_enc.specs.declared.blocks.Blocks.{Blocks}
 use Rattle.ff_flac_enc.specs.Gathered.{format_of, full_size, all_samples, count_due, block_at, blocks_due, EndInTime, IsDue, IsKept, Holds}

@@ -15,15 +15,15 @@ use Rattle.std.proofs.lemmas.Nat.{pow_pos}
 use Rattle.ff_flac_frame.specs.declared.stream.FlacStream.{FlacStream}
 use Rattle.ff_flac_frame.specs.Codes.{any, equal, sync, not_zero, rate_fits, form_fits, depth_fits, depths}
 use Rattle.ff_flac_frame.specs.Frame.{Header, Part, Frame, block_of, rate_of, header, sealed_header, subframe, subframes, unpadded, padded, frame}
-use Rattle.ff_flac_rice.specs.Spells.{Reads}
-use Rattle.ff_flac_rice.proofs.ReadsBack.{reads-give, reads-then, reads-map, reads-bits, reads-field}
-use Rattle.ff_flac_rice.proofs.ReadsRice.{all-map, all-flat_map, all-weaker}
+use Rattle.ff_flac_subframe.specs.rice.Spells.{Reads}
+use Rattle.ff_flac_subframe.proofs.RiceLemmas.ReadsBack.{reads-give, reads-then, reads-map, reads-bits, reads-field}
+use Rattle.ff_flac_subframe.proofs.RiceLemmas.ReadsRice.{all-map, all-flat_map, all-weaker}
 use Rattle.ff_flac_dec.specs.Values.{channel_samples}
-use Rattle.ff_flac_sub.specs.Subframe.{Spelling, subframe_bits, candidates}
-use Rattle.ff_flac_sub.specs.Part.{part_for}
-use Rattle.ff_values.specs.Audio.{FitsBits}
-use Rattle.ff_flac_sub.proofs.ReadsSub.{IsReadBack, candidates_read}
-use Rattle.ff_flac_sub.proofs.Restored.{StandsFor, candidates_stand}
+use Rattle.ff_flac_subframe.specs.Subframe.{Spelling, subframe_bits, candidates}
+use Rattle.ff_flac_subframe.specs.Part.{part_for}
+use Rattle.ff_frame.specs.Audio.{FitsBits}
+use Rattle.ff_flac_subframe.proofs.ReadsSub.{IsReadBack, candidates_read}
+use Rattle.ff_flac_subframe.proofs.Restored.{StandsFor, candidates_stand}
 use Rattle.ff_flac_enc.specs.declared.head.Head.{Head}
 use Rattle.ff_flac_enc.specs.Head.{IsHead, block_code, block_bits_by, rate_code, depth_code, codes_bits, header_bits, opened, closed, filled}
 use Rattle.ff_flac_enc.specs.Layout.{Signal, products, bodies, Layout}

@@ -6,18 +6,18 @@ use Rattle.std.proofs.lemmas.Bool.{cases_eq, ne_eqb}
 use Rattle.std.proofs.lemmas.List.{append-nil, append_assoc, length-append, length-replicate, map-append}
 use Rattle.std.proofs.lemmas.List.Concat.{flat_map-append}
 use Rattle.std.proofs.lemmas.Nat.{mul-le}
-use Rattle.ff_values.specs.declared.audio.AFrame.{AFrame}
+use Rattle.ff_frame.specs.declared.audio.AFrame.{AFrame}
 use Rattle.ff_bits.specs.Bits.{bits_of, padding}
 use Rattle.ff_bits.specs.Number.{shortest, first_byte, further_bytes}
 use Rattle.ff_bits.specs.Crc.{crc8_of, crc16_of}
 use Rattle.ff_bits.proofs.BitsLemmas.{length-bits_of, length-bits}
 use Rattle.ff_bits.proofs.FirstByte.{length-first_byte}
 use Rattle.ff_bits.proofs.LawLemmas.{shortest_is_code}
-use Rattle.ff_flac_rice.specs.Least.{least}
-use Rattle.ff_flac_rice.proofs.LeastLemmas.{least_is_lowest}
-use Rattle.ff_flac_sub.specs.Subframe.{Spelling, subframe_bits, candidates, fixed_of, predictors, all_are, first_or_zero}
-use Rattle.ff_flac_sub.specs.Subframe.Spelling.{constant, verbatim}
-use Rattle.ff_flac_sub.proofs.Plans.{size-verbatim}
+use Rattle.ff_flac_subframe.specs.rice.Least.{least}
+use Rattle.ff_flac_subframe.proofs.RiceLemmas.LeastLemmas.{least_is_lowest}
+use Rattle.ff_flac_subframe.specs.Subframe.{Spelling, subframe_bits, candidates, fixed_of, predictors, all_are, first_or_zero}
+use Rattle.ff_flac_subframe.specs.Subframe.Spelling.{constant, verbatim}
+use Rattle.ff_flac_subframe.proofs.Plans.{size-verbatim}
 use Rattle.ff_flac_enc.specs.declared.head.Head.{Head}
 use Rattle.ff_flac_enc.specs.Head.{header_bits, codes_bits, block_bits_by, block_code, opened, closed}
 use Rattle.ff_flac_enc.specs.Layout.{Signal, signal, signals, products, bodies, forms, layouts, layouts_with, layout_size, body, Layout}

@@ -12,16 +12,16 @@ use Rattle.std.proofs.Math.Seq.{take-add}
 use Rattle.ff_bits.specs.Bits.{bits as bits_in}
 use Rattle.ff_bits.specs.Reading.{Done}
 use Rattle.ff_bits.proofs.BitsLemmas.{bits-append}
-use Rattle.ff_values.specs.declared.audio.AFrame.{AFrame}
-use Rattle.ff_values.specs.Frame.{audio_frame}
-use Rattle.ff_values.specs.Audio.{FitsBits}
+use Rattle.ff_frame.specs.declared.audio.AFrame.{AFrame}
+use Rattle.ff_frame.specs.Frame.{audio_frame}
+use Rattle.ff_frame.specs.Audio.{FitsBits}
 use Rattle.ff_flac_frame.specs.Codes.{form_fits, depths}
 use Rattle.ff_flac_frame.specs.Frame.{Frame, frame}
 use Rattle.ff_flac_dec.specs.Channels.{both, mid_right, separated, pair, channels_of, sample_frame, interleaved, interleaved_from, decoded}
-use Rattle.ff_flac_rice.specs.Least.{least}
-use Rattle.ff_flac_rice.specs.Spells.{Reads}
-use Rattle.ff_flac_rice.proofs.LeastLemmas.{least_holds}
-use Rattle.ff_flac_rice.proofs.ReadsRice.{all-map, all-flat_map, all-weaker}
+use Rattle.ff_flac_subframe.specs.rice.Least.{least}
+use Rattle.ff_flac_subframe.specs.rice.Spells.{Reads}
+use Rattle.ff_flac_subframe.proofs.RiceLemmas.LeastLemmas.{least_holds}
+use Rattle.ff_flac_subframe.proofs.RiceLemmas.ReadsRice.{all-map, all-flat_map, all-weaker}
 use Rattle.ff_flac_enc.specs.declared.head.Head.{Head}
 use Rattle.ff_flac_enc.specs.Head.{IsHead, opened, closed}
 use Rattle.ff_flac_enc.specs.Layout.{Signal, signal, signals, mid_of, side_of, products, bodies, Layout, layouts, layouts_with, layout_size, forms, body}

@@ -8,9 +8,9 @@ use Rattle.std.proofs.lemmas.List.Elements.{All-weaker}
 use Rattle.std.proofs.Math.Pow.{pow_mono}
 use Rattle.std.specs.Prelude.{unwrap_or}
 use Rattle.md5.specs.Md5.{md5, Holds}
-use Rattle.ff_values.specs.Audio.{FitsBits}
-use Rattle.ff_values.specs.declared.audio.AFrame.{AFrame}
-use Rattle.ff_values.specs.declared.totals.Totals.{Totals}
+use Rattle.ff_frame.specs.Audio.{FitsBits}
+use Rattle.ff_frame.specs.declared.audio.AFrame.{AFrame}
+use Rattle.ff_frame.specs.declared.totals.Totals.{Totals}
 use Rattle.ff_flac_enc.specs.declared.counter.Counter.{Counter}
 use Rattle.ff_flac_enc.specs.declared.counter.Sizes.{Sizes}
 use Rattle.ff_flac_enc.specs.Totals.{Added, added, sample_frames, sample_bytes, samples_bytes, frame_bytes, least_of, greatest_of, lens, frames_bytes, HaveSizes, Counts, totals_of}

@@ -1,7 +1,7 @@
 -- Blocks that are coded at once.
 use Rattle.std.specs.Prelude.{◌≡◌, ℕ, ◌+◌, ◌<◌, List, [], length, Result, IfOk, slice_index_or}
 use Rattle.std.specs.declared.alloc.AllocError.{AllocError}
-use Rattle.ff_values.specs.declared.audio.AFrame.{AFrame}
+use Rattle.ff_frame.specs.declared.audio.AFrame.{AFrame}
 use Rattle.ff_flac_enc.specs.Frame.{IsLeast, Spells}
 
 -- these bytes are the block's frame

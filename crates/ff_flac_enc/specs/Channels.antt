@@ -1,10 +1,10 @@
 -- The channels of interleaved samples, and the best subframe of each.
 use Rattle.std.specs.Prelude.{ℕ, ℤ, pos, ◌+◌, ◌*◌, ◌/◌, Bool, List, length, map, slice_index_or, unwrap_or}
 use Rattle.std.specs.List.{range_with_len}
-use Rattle.ff_flac_rice.specs.Least.{least}
-use Rattle.ff_flac_sub.specs.Subframe.{Spelling, subframe_bits, candidates}
-use Rattle.ff_flac_sub.specs.Subframe.Spelling.{verbatim}
-use Rattle.ff_flac_sub.specs.Plan.{size}
+use Rattle.ff_flac_subframe.specs.rice.Least.{least}
+use Rattle.ff_flac_subframe.specs.Subframe.{Spelling, subframe_bits, candidates}
+use Rattle.ff_flac_subframe.specs.Subframe.Spelling.{verbatim}
+use Rattle.ff_flac_subframe.specs.Plan.{size}
 
 -- the samples of one of n channels
 unfoldable pub channel_of : ℕ → List ℤ → ℕ → List ℤ

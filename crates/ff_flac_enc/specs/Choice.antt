@@ -1,8 +1,8 @@
 -- What is known of two channels, their middle and their difference before all are planned.
 use Rattle.std.specs.Prelude.{◌≡◌, ℕ, ℤ, ◌+◌, ◌^◌, ◌<◌, ◌≤◌, List, IfSome, IsSome}
-use Rattle.ff_flac_sub.specs.Plan.{spelling_of, size, PlanFits}
-use Rattle.ff_flac_sub.specs.Outlook.{IsOutlook}
-use Rattle.ff_flac_sub.specs.declared.subframe.Plan.{Plan}
+use Rattle.ff_flac_subframe.specs.Plan.{spelling_of, size, PlanFits}
+use Rattle.ff_flac_subframe.specs.Outlook.{IsOutlook}
+use Rattle.ff_flac_subframe.specs.declared.subframe.Plan.{Plan}
 use Rattle.ff_flac_enc.specs.Channels.{best}
 use Rattle.ff_flac_enc.specs.Signal.{CanWrite}
 use Rattle.ff_flac_enc.specs.Shape.{Chooses, first_depth, first_samples, second_depth, second_samples}

@@ -1,6 +1,6 @@
 -- What was gathered doesn't keep what it was fed and gave: it is tied to it.
 use Rattle.std.specs.Prelude.{◌≡◌, ℕ, ℤ, pos, ◌*◌, ◌≤◌, ◌⊎◌, ◌+ℤ◌, Bool, List, [], ◌∷◌, length, drop, Option, Some, None}
-use Rattle.ff_values.specs.declared.audio.AFrame.{AFrame}
+use Rattle.ff_frame.specs.declared.audio.AFrame.{AFrame}
 use Rattle.ff_flac_enc.specs.declared.format.Format.{Format}
 use Rattle.ff_flac_enc.specs.declared.blocks.Blocks.{Blocks}
 use Rattle.ff_flac_enc.specs.Gathered.{format_of, full_size, all_samples, count_due, EndInTime}

@@ -1,12 +1,12 @@
 -- A frame of sound as the bytes of a FLAC frame (RFC 9639, section 9).
 use Rattle.std.specs.Prelude.{◌≡◌, ℕ, ◌*◌, ◌/◌, ◌<◌, ◌≤◌, Some, Bool, List, ◌++◌, length}
-use Rattle.ff_values.specs.declared.audio.AFrame.{AFrame}
-use Rattle.ff_values.specs.Audio.{IsAudio}
+use Rattle.ff_frame.specs.declared.audio.AFrame.{AFrame}
+use Rattle.ff_frame.specs.Audio.{IsAudio}
 use Rattle.ff_bits.specs.Bits.{bits}
 use Rattle.ff_flac_frame.specs.declared.stream.FlacStream.{FlacStream}
 use Rattle.ff_flac_frame.specs.Frame.{Frame, Begins}
 use Rattle.ff_flac_dec.specs.Channels.{decoded}
-use Rattle.ff_flac_rice.specs.Least.{least}
+use Rattle.ff_flac_subframe.specs.rice.Least.{least}
 use Rattle.ff_flac_enc.specs.declared.head.Head.{Head}
 use Rattle.ff_flac_enc.specs.Head.{opened, closed}
 use Rattle.ff_flac_enc.specs.Layout.{Layout, layouts, layout_size, body}

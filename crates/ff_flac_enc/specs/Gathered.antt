@@ -4,9 +4,9 @@ use Rattle.std.specs.List.{flat_map, range_with_len, All}
 use Rattle.std.specs.Coded.{le_prop}
 use Rattle.std.proofs.Math.Nat.{ℕ_set}
 use Rattle.std.proofs.Math.Path.{fun_ext}
-use Rattle.ff_values.specs.declared.audio.AFrame.{AFrame}
-use Rattle.ff_values.specs.Audio.{FitsBits}
-use Rattle.ff_values.specs.Frame.{audio_frame}
+use Rattle.ff_frame.specs.declared.audio.AFrame.{AFrame}
+use Rattle.ff_frame.specs.Audio.{FitsBits}
+use Rattle.ff_frame.specs.Frame.{audio_frame}
 use Rattle.ff_flac_enc.specs.declared.format.Format.{Format}
 
 -- what all frames of a stream have in common

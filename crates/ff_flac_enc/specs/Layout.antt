@@ -3,7 +3,7 @@ use Rattle.std.specs.Prelude.{ℕ, ℤ, pos, negsuc, ◌+◌, ◌-◌, ◌/◌, 
 use Rattle.std.specs.List.{flat_map}
 use Rattle.ff_flac_frame.specs.Codes.{left_side, side_right, mid_side, is_alone}
 use Rattle.ff_flac_dec.specs.Channels.{both}
-use Rattle.ff_flac_sub.specs.Subframe.{Spelling, subframe_bits, candidates}
+use Rattle.ff_flac_subframe.specs.Subframe.{Spelling, subframe_bits, candidates}
 
 -- half of a number, rounded down
 abbrev pub half : ℤ → ℤ

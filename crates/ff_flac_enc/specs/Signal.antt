@@ -1,6 +1,6 @@
 use Rattle.std.specs.Prelude.{ℕ, ℤ, ◌<◌, ◌≤◌, List, length}
 use Rattle.std.specs.List.{All}
-use Rattle.ff_values.specs.Audio.{FitsBits}
+use Rattle.ff_frame.specs.Audio.{FitsBits}
 
 -- samples that can be written at a depth
 pub record CanWrite (depth : ℕ) (xs : List ℤ) : Type 0 where

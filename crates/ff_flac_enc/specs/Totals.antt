@@ -3,8 +3,8 @@ use Rattle.std.specs.Prelude.{◌≡◌, ◌≢◌, ℕ, ℤ, ◌+◌, ◌*◌, 
 use Rattle.std.specs.List.{flat_map, sum_by}
 use Rattle.md5.specs.Md5.{md5, Holds}
 use Rattle.ff_bits.specs.Integers.{unsigned, number_bytes}
-use Rattle.ff_values.specs.declared.audio.AFrame.{AFrame}
-use Rattle.ff_values.specs.declared.totals.Totals.{Totals}
+use Rattle.ff_frame.specs.declared.audio.AFrame.{AFrame}
+use Rattle.ff_frame.specs.declared.totals.Totals.{Totals}
 use Rattle.ff_flac_enc.specs.declared.counter.Counter.{Counter}
 use Rattle.ff_flac_enc.specs.declared.counter.Sizes.{Sizes}
 

@@ -5,7 +5,7 @@ ghost use Rattle.ff_flac_enc.specs.Frame.{IsBlock};
 ghost use Rattle.ff_flac_enc.specs.Blocks.{IsCoded, AreCoded, GiveCoded};
 
 use crate::frame::encode_block;
-use ff_values::{AFrame, Bytes};
+use ff_frame::{AFrame, Bytes};
 use std::alloc::{AllocError, Global};
 use std::thread;
 use std::thread::Threads;

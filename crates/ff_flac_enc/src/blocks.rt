@@ -1,13 +1,13 @@
 ghost use Rattle.std.specs.Prelude.{◌≡◌, ◌+◌, ◌^◌, ◌≤◌, ◌+ℤ◌, ◌<ℤ◌, ℕ, List, [], ◌∷◌, ◌++◌, Some, None, true, false, length, IfOk, IfErr, OnOk, OnErr, slice_get, pos};
-ghost use Rattle.ff_values.specs.declared.audio.AFrame.{AFrame};
-ghost use Rattle.ff_values.specs.Audio.{IsAudio};
-ghost use Rattle.ff_values.specs.Frame.{audio_frame};
+ghost use Rattle.ff_frame.specs.declared.audio.AFrame.{AFrame};
+ghost use Rattle.ff_frame.specs.Audio.{IsAudio};
+ghost use Rattle.ff_frame.specs.Frame.{audio_frame};
 ghost use Rattle.ff_flac_enc.specs.Gathered.{Holds, Holds-prop, IsDue, full_size, format_of};
 
 use crate::format::Format;
 use crate::waiting::Waiting;
-use ff_frame::{Item, Refused};
-use ff_values::{AFrame, Samples};
+use ff_frame::{AFrame, Samples};
+use ff_stream::{Item, Refused};
 use std::alloc::{AllocError, Global};
 
 /// The samples of frames in blocks of 4,096 sample frames, the last one the rest. What is fed is copied once when it comes and

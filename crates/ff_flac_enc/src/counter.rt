@@ -1,8 +1,8 @@
 ghost use Rattle.std.specs.Prelude.{◌≡◌, ◌+◌, ◌*◌, ◌^◌, ◌<◌, ◌≤◌, ◌≢◌, List, [], ◌∷◌, ◌++◌, Some, None, min, max, length, IfOk, OnOk, OnErr, All};
-ghost use Rattle.ff_values.specs.Audio.{FitsBits, IsAudio};
+ghost use Rattle.ff_frame.specs.Audio.{FitsBits, IsAudio};
 ghost use Rattle.ff_flac_enc.specs.Totals.{sample_bytes, samples_bytes, frame_bytes, sample_frames};
 
-use ff_values::{AFrame, Totals};
+use ff_frame::{AFrame, Totals};
 use md5::{Digest, Md5};
 use std::alloc::{AllocError, Global};
 

@@ -1,6 +1,6 @@
 ghost use Rattle.std.specs.Prelude.{◌≡◌};
 
-use ff_values::AFrame;
+use ff_frame::AFrame;
 
 /// What all frames of a stream have in common.
 #[derive(Clone, Copy, Debug, PartialEq, Eq)]

@@ -2,8 +2,8 @@
 
 ghost use Rattle.std.specs.Prelude.{◌≡◌, ◌+◌, ◌-◌, ◌*◌, ◌/◌, ◌^◌, ◌<◌, ◌≤◌, ◌≢◌, ◌++◌, length, map, IfOk, OnOk, All, Some};
 ghost use Rattle.std.specs.List.{flat_map, range_with_len};
-ghost use Rattle.ff_values.specs.Audio.{FitsBits};
-ghost use Rattle.ff_flac_rice.specs.Least.{least};
+ghost use Rattle.ff_frame.specs.Audio.{FitsBits};
+ghost use Rattle.ff_flac_subframe.specs.rice.Least.{least};
 ghost use Rattle.ff_flac_enc.specs.Head.{IsHead, opened};
 ghost use Rattle.ff_flac_enc.specs.Layout.{Layout, layouts, layout_size, body};
 ghost use Rattle.ff_flac_enc.specs.Channels.{channel_of, channels_in, best_bits};
@@ -14,8 +14,8 @@ use crate::head::{Head, close_frame, open_frame};
 use crate::pair::write_pair;
 use ff_bits::BitWriter;
 use ff_flac_frame::FlacStream;
-use ff_flac_sub::write_subframe;
-use ff_values::AFrame;
+use ff_flac_subframe::write_subframe;
+use ff_frame::AFrame;
 use std::alloc::{AllocError, Global};
 
 /// Writes one channel as a subframe of its own.

@@ -1,8 +1,8 @@
 //! What the definitions of this crate keep. Each function does nothing, and its contract is the law.
 
 ghost use Rattle.std.specs.Prelude.{◌≡◌, ◌^◌, ◌<◌, ℕ, List, length, Some};
-ghost use Rattle.ff_values.specs.declared.audio.AFrame.{AFrame};
-ghost use Rattle.ff_flac_rice.specs.Least.{least, IsFirstLeast};
+ghost use Rattle.ff_frame.specs.declared.audio.AFrame.{AFrame};
+ghost use Rattle.ff_flac_subframe.specs.rice.Least.{least, IsFirstLeast};
 ghost use Rattle.ff_flac_enc.specs.Layout.{Layout};
 ghost use Rattle.ff_flac_enc.specs.Frame.{IsBlock, IsLeast, candidates, subframe_bits_of};
 

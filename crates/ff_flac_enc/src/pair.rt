@@ -1,8 +1,8 @@
 //! Two channels, under the channel code with the fewest bits.
 
 ghost use Rattle.std.specs.Prelude.{◌≡◌, ◌+◌, ◌≤◌, ◌++◌, [], ◌∷◌, length, IfOk, OnOk, IsSome, Some, ℕ, ℤ, List};
-ghost use Rattle.ff_flac_rice.specs.Least.{least};
-ghost use Rattle.ff_flac_sub.specs.Outlook.{IsOutlook};
+ghost use Rattle.ff_flac_subframe.specs.rice.Least.{least};
+ghost use Rattle.ff_flac_subframe.specs.Outlook.{IsOutlook};
 ghost use Rattle.ff_flac_enc.specs.Head.{IsHead, opened};
 ghost use Rattle.ff_flac_enc.specs.Layout.{Layout, layouts, layout_size, body, mid_of, side_of};
 ghost use Rattle.ff_flac_enc.specs.Channels.{best_bits};
@@ -17,7 +17,7 @@ use crate::shape::{
 };
 use crate::sides::{mid_samples, side_samples};
 use ff_bits::BitWriter;
-use ff_flac_sub::{Outlook, Plan, outlook_of, plan_by, write_plan};
+use ff_flac_subframe::{Outlook, Plan, outlook_of, plan_by, write_plan};
 use std::alloc::{AllocError, Global};
 
 /// The outlooks of left, right, mid and side.

@@ -4,7 +4,7 @@ ghost use Rattle.std.specs.Prelude.{◌≡◌, ◌+◌, ◌<◌, ◌≤◌, ◌^
 ghost use Rattle.ff_flac_enc.specs.Shape.{form_of, Chooses, first_depth, first_samples, second_depth, second_samples};
 ghost use Rattle.ff_flac_enc.specs.Choice.{first_known, second_known, AreKnown, ArePlanned, IsLowest, IsChoice};
 
-use ff_flac_sub::Plan;
+use ff_flac_subframe::Plan;
 
 /// The form of two channels (RFC 9639, section 9.1.3).
 #[derive(Clone, Copy)]

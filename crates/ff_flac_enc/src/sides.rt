@@ -1,7 +1,7 @@
 //! The middle and the difference of two channels.
 
 ghost use Rattle.std.specs.Prelude.{◌≡◌, ◌+◌, ◌-◌, ◌^◌, ◌<◌, ◌≤◌, ◌+ℤ◌, ◌-ℤ◌, length, IfOk, All};
-ghost use Rattle.ff_values.specs.Audio.{FitsBits};
+ghost use Rattle.ff_frame.specs.Audio.{FitsBits};
 ghost use Rattle.ff_flac_enc.specs.Layout.{half, mid_of, side_of};
 
 use crate::channels::zeros;

@@ -7,7 +7,7 @@ use Rattle.std.proofs.lemmas.Int.{ints, to_z-of_z}
 use Rattle.std.proofs.lemmas.Bool.{cases_lt}
 use Rattle.std.proofs.lemmas.List.{get_or_append_left, get_or_push, length_push, drop_more, append-nil, get_or_at}
 use Rattle.std.proofs.Math.Nat.{pow-le-pow_right}
-use Rattle.ff_values.specs.Audio.{FitsBits}
+use Rattle.ff_frame.specs.Audio.{FitsBits}
 use Rattle.ff_flac_frame.proofs.FrameSound.{fits_low, fits_high, FitsBits-wider}
 use Rattle.ff_flac_frame.specs.Bounds.{IsSmall, IsBounded, IsWide}
 use Rattle.ff_flac_frame.specs.Prediction.{ago, restored, AllInDepth}

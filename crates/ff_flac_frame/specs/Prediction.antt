@@ -1,7 +1,7 @@
 -- How samples are predicted from those before them (RFC 9639, sections 9.2.5 and 9.2.6).
 use Rattle.std.specs.Prelude.{ℕ, ◌+◌, ◌-◌, ◌^◌, ◌<◌, ◌==◌, if◌then◌else◌, List, [], ◌∷◌, ◌++◌, length, slice_index_or, ℤ, pos, ◌+ℤ◌, ◌-ℤ◌, ◌*ℤ◌}
 use Rattle.std.specs.Int.Signed.{shr_z}
-use Rattle.ff_values.specs.Audio.{FitsBits}
+use Rattle.ff_frame.specs.Audio.{FitsBits}
 
 -- the sample k before the next one
 abbrev pub ago : ℕ → List ℤ → ℤ

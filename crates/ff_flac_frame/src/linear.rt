@@ -2,7 +2,7 @@
 
 ghost use Rattle.std.specs.Prelude.{◌≡◌, ◌<◌, ◌≤◌, ◌+◌, ◌^◌, ◌-◌, ◌*◌, drop, length, ◌*ℤ◌, ◌+ℤ◌, FitsSigned, unsigned_abs, vec_len, vec_capacity, IfOk, IfSome, IfNone};
 ghost use Rattle.std.specs.Int.{w64};
-ghost use Rattle.ff_values.specs.Audio.{FitsBits};
+ghost use Rattle.ff_frame.specs.Audio.{FitsBits};
 ghost use Rattle.ff_flac_frame.specs.Prediction.{ago, weighted, linear, restored, AllInDepth};
 
 use crate::fixed::{is_in_depth, last_of};

@@ -3,3 +3,4 @@ pub mod Plans
 pub mod ReadsSub
 pub mod Restored
 pub mod Outlooks
+pub mod RiceLemmas

@@ -2,14 +2,14 @@
 use Rattle.std.proofs.Common.{◌≡◌, ℕ, ◌+◌, ◌*◌, ◌<◌, ◌≤◌, min, true, ℤ, List, length, Some, subst, arith}
 use Rattle.std.specs.Option.{IfSome}
 use Rattle.std.specs.List.{AllByRecursion}
-use Rattle.ff_flac_rice.specs.Least.{least}
-use Rattle.ff_flac_rice.proofs.LeastLemmas.{least_holds}
-use Rattle.ff_flac_sub.specs.declared.subframe.Planned.{Planned}
-use Rattle.ff_flac_sub.specs.Subframe.{candidates, all_are, first_or_zero}
-use Rattle.ff_flac_sub.specs.Plan.{spelling_of, size}
-use Rattle.ff_flac_sub.specs.Leads.{IsFloor}
-use Rattle.ff_flac_sub.proofs.ReadsSub.{all-candidates}
-use Rattle.ff_flac_sub.proofs.Plans.{size-constant, size-verbatim, lower_floor_of}
+use Rattle.ff_flac_subframe.specs.rice.Least.{least}
+use Rattle.ff_flac_subframe.proofs.RiceLemmas.LeastLemmas.{least_holds}
+use Rattle.ff_flac_subframe.specs.declared.subframe.Planned.{Planned}
+use Rattle.ff_flac_subframe.specs.Subframe.{candidates, all_are, first_or_zero}
+use Rattle.ff_flac_subframe.specs.Plan.{spelling_of, size}
+use Rattle.ff_flac_subframe.specs.Leads.{IsFloor}
+use Rattle.ff_flac_subframe.proofs.ReadsSub.{all-candidates}
+use Rattle.ff_flac_subframe.proofs.Plans.{size-constant, size-verbatim, lower_floor_of}
 
 pub bound_is : (depth low floor : ℕ) (xs : List ℤ) → low ≤ 8 + depth * length xs → (all_are (first_or_zero xs) xs ≡ true → low ≤ 8 + depth) → low ≤ floor
     → ((o : ℕ) → o < min (length xs) 5 → IsFloor depth xs o floor) → AllByRecursion (λ s. low ≤ size depth xs s) (candidates xs)

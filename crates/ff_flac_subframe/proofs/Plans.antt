@@ -8,20 +8,20 @@ use Rattle.std.proofs.Math.Nat.{pow-suc, pow-le-pow_right}
 use Rattle.std.proofs.lemmas.Bool.{lt-ltb, le-ltb, cases_lt}
 use Rattle.ff_bits.specs.Bits.{bits_of}
 use Rattle.ff_bits.proofs.BitsLemmas.{length-bits_of}
-use Rattle.ff_flac_sub.specs.declared.subframe.Planned.{Planned}
-use Rattle.ff_flac_sub.specs.declared.subframe.Plan.TheVariants.{Verbatim}
-use Rattle.ff_flac_rice.specs.Least.{choose, least}
-use Rattle.ff_flac_rice.specs.Rice.{zigzagged, Coding, codings, residual_bits, best_at}
-use Rattle.ff_values.specs.Audio.{FitsBits}
-use Rattle.ff_flac_sub.specs.Subframe.{Spelling, magnitude, steps, subframe_bits, sample_bits, rest_of, fixed_of, predictors, candidates, all_are, first_or_zero}
-use Rattle.ff_flac_sub.specs.Subframe.Spelling.{constant, fixed, verbatim}
-use Rattle.ff_flac_sub.specs.Plan.{spelling_of, size, IsBestPlan, PlanFits, constants}
-use Rattle.ff_flac_sub.specs.Leads.{so_far, IsFloor, Leads}
-use Rattle.ff_flac_rice.proofs.LeastLemmas.{choose_first, choose_second, choose_assoc, least-append, least-map, least-same, least-shift, least_holds, least_one, least-nil, choose-map, range_more}
-use Rattle.ff_flac_rice.proofs.Levels.{coding_cost}
-use Rattle.ff_flac_rice.proofs.Orders.{filter_all, filter_none, range_between, range_split}
-use Rattle.ff_flac_rice.proofs.PartLemmas.{range_below}
-use Rattle.ff_flac_sub.proofs.Predict.{magnitude_of, fits_of, length-samples, length-sample_bits, length-rest_of, steps_small, steps_zigzags, rest_of-suc}
+use Rattle.ff_flac_subframe.specs.declared.subframe.Planned.{Planned}
+use Rattle.ff_flac_subframe.specs.declared.subframe.Plan.TheVariants.{Verbatim}
+use Rattle.ff_flac_subframe.specs.rice.Least.{choose, least}
+use Rattle.ff_flac_subframe.specs.rice.Rice.{zigzagged, Coding, codings, residual_bits, best_at}
+use Rattle.ff_frame.specs.Audio.{FitsBits}
+use Rattle.ff_flac_subframe.specs.Subframe.{Spelling, magnitude, steps, subframe_bits, sample_bits, rest_of, fixed_of, predictors, candidates, all_are, first_or_zero}
+use Rattle.ff_flac_subframe.specs.Subframe.Spelling.{constant, fixed, verbatim}
+use Rattle.ff_flac_subframe.specs.Plan.{spelling_of, size, IsBestPlan, PlanFits, constants}
+use Rattle.ff_flac_subframe.specs.Leads.{so_far, IsFloor, Leads}
+use Rattle.ff_flac_subframe.proofs.RiceLemmas.LeastLemmas.{choose_first, choose_second, choose_assoc, least-append, least-map, least-same, least-shift, least_holds, least_one, least-nil, choose-map, range_more}
+use Rattle.ff_flac_subframe.proofs.RiceLemmas.Levels.{coding_cost}
+use Rattle.ff_flac_subframe.proofs.RiceLemmas.Orders.{filter_all, filter_none, range_between, range_split}
+use Rattle.ff_flac_subframe.proofs.RiceLemmas.PartLemmas.{range_below}
+use Rattle.ff_flac_subframe.proofs.Predict.{magnitude_of, fits_of, length-samples, length-sample_bits, length-rest_of, steps_small, steps_zigzags, rest_of-suc}
 
 pow_two : (m n : ℕ) → n ≡ suc m → 2 ^ n ≡ 2 * 2 ^ m
 pow_two m n e = ap (λ k. 2 ^ k) e ∙ omega (arith, pow-suc 2 m)

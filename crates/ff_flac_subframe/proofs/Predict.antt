@@ -6,10 +6,10 @@ use Rattle.std.specs.List.{flat_map, All, AllByRecursion}
 use Rattle.std.proofs.lemmas.List.Elements.{All-from_recursion, recursion_from_All, All-same, All-drop}
 use Rattle.std.proofs.lemmas.List.{length-append, length-drop, append_assoc, append-nil, drop_more, drop-drop, drop-set-lt, take_more, take_more_set, map-append}
 use Rattle.ff_bits.proofs.BitsLemmas.{length-bits_of}
-use Rattle.ff_values.specs.Audio.{FitsBits}
+use Rattle.ff_frame.specs.Audio.{FitsBits}
 use Rattle.ff_flac_frame.specs.Bounds.{IsSmall, IsBounded, IsWide}
-use Rattle.ff_flac_rice.specs.Rice.{zigzagged}
-use Rattle.ff_flac_sub.specs.Subframe.{steps, steps_from, rest_of, magnitude, sample_bits}
+use Rattle.ff_flac_subframe.specs.rice.Rice.{zigzagged}
+use Rattle.ff_flac_subframe.specs.Subframe.{steps, steps_from, rest_of, magnitude, sample_bits}
 
 pub step_next : (xs all : List ℤ) (i : ℕ) (d : ℤ) → i + 1 < length xs → d ≡ get_or xs (i + 1) (pos 0) -ℤ get_or xs i (pos 0)
     → take i xs ++ steps (drop i xs) ≡ all → take (i + 1) (set xs i d) ++ steps (drop (i + 1) (set xs i d)) ≡ all

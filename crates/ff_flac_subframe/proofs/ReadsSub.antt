@@ -9,7 +9,7 @@ use Rattle.std.proofs.lemmas.List.Elements.{All-from_recursion, recursion_from_A
 use Rattle.std.proofs.Math.Nat.{pow-suc, pow-le-pow_right}
 use Rattle.ff_bits.specs.Bits.{bits_of}
 use Rattle.ff_bits.specs.Integers.{signed, unsigned}
-use Rattle.ff_values.specs.Audio.{FitsBits}
+use Rattle.ff_frame.specs.Audio.{FitsBits}
 use Rattle.ff_bits.specs.Reading.{Reader, ◌>>=◌, give, field, zeros, times}
 use Rattle.ff_bits.proofs.BitsOf.{bits_of-add}
 use Rattle.ff_flac_frame.specs.declared.subframe.SubKind.{SubKind}
@@ -17,15 +17,15 @@ use Rattle.ff_flac_frame.specs.declared.subframe.SubKind.TheVariants.{Constant, 
 use Rattle.ff_flac_frame.specs.Codes.{any, equal, kind_fits, kind_of, order_of, warm_count}
 use Rattle.ff_flac_frame.specs.Frame.{Part, sample, residual, wasted_bits, predictor, subframe}
 use Rattle.ff_flac_frame.specs.Facts.{IsResidual}
-use Rattle.ff_flac_rice.specs.Spells.{Reads}
-use Rattle.ff_flac_rice.specs.Rice.{zigzagged, Coding, codings, residual_bits}
-use Rattle.ff_flac_rice.proofs.ReadsBack.{reads-give, reads-then, reads-map, reads-bits, reads-value, reads-if_false, reads-if_true, reads-field, reads-times}
-use Rattle.ff_flac_rice.proofs.ReadsRice.{all-map, all-flat_map, all-weaker, all-filter, codings_read}
-use Rattle.ff_flac_rice.proofs.PartLemmas.{range_below}
-use Rattle.ff_flac_sub.specs.Subframe.{Spelling, magnitude, sample_bits, subframe_bits, steps, rest_of, first_or_zero, all_are, fixed_of, predictors, candidates}
-use Rattle.ff_flac_sub.specs.Subframe.Spelling.{constant, fixed, verbatim}
-use Rattle.ff_flac_sub.specs.Part.{part_for}
-use Rattle.ff_flac_sub.proofs.Predict.{magnitude_of, length-rest_of, from_below, above, steps_small, rest_of-suc, rest_of-zero}
+use Rattle.ff_flac_subframe.specs.rice.Spells.{Reads}
+use Rattle.ff_flac_subframe.specs.rice.Rice.{zigzagged, Coding, codings, residual_bits}
+use Rattle.ff_flac_subframe.proofs.RiceLemmas.ReadsBack.{reads-give, reads-then, reads-map, reads-bits, reads-value, reads-if_false, reads-if_true, reads-field, reads-times}
+use Rattle.ff_flac_subframe.proofs.RiceLemmas.ReadsRice.{all-map, all-flat_map, all-weaker, all-filter, codings_read}
+use Rattle.ff_flac_subframe.proofs.RiceLemmas.PartLemmas.{range_below}
+use Rattle.ff_flac_subframe.specs.Subframe.{Spelling, magnitude, sample_bits, subframe_bits, steps, rest_of, first_or_zero, all_are, fixed_of, predictors, candidates}
+use Rattle.ff_flac_subframe.specs.Subframe.Spelling.{constant, fixed, verbatim}
+use Rattle.ff_flac_subframe.specs.Part.{part_for}
+use Rattle.ff_flac_subframe.proofs.Predict.{magnitude_of, length-rest_of, from_below, above, steps_small, rest_of-suc, rest_of-zero}
 
 two_halves : (depth : ℕ) → 0 < depth → 2 ^ depth ≡ 2 * 2 ^ (depth - 1)
 two_halves depth h =

@@ -10,12 +10,12 @@ use Rattle.std.specs.List.{list_all}
 use Rattle.std.specs.Ordering.{int_eq}
 use Rattle.std.proofs.lemmas.Bool.{and_parts}
 use Rattle.std.proofs.lemmas.Bool.Decides.{Decides-int_eq}
-use Rattle.ff_flac_rice.specs.Rice.{Coding, codings}
-use Rattle.ff_flac_sub.specs.Subframe.{Spelling, rest_of, first_or_zero, all_are, fixed_of, candidates}
-use Rattle.ff_flac_sub.specs.Subframe.Spelling.{constant, fixed, verbatim}
-use Rattle.ff_flac_sub.specs.Part.{part_for}
-use Rattle.ff_flac_sub.proofs.ReadsSub.{all-candidates}
-use Rattle.ff_flac_sub.proofs.Predict.{at, length-rest_of, rest_of-zero, prediction_1, prediction_2, prediction_3, prediction_4}
+use Rattle.ff_flac_subframe.specs.rice.Rice.{Coding, codings}
+use Rattle.ff_flac_subframe.specs.Subframe.{Spelling, rest_of, first_or_zero, all_are, fixed_of, candidates}
+use Rattle.ff_flac_subframe.specs.Subframe.Spelling.{constant, fixed, verbatim}
+use Rattle.ff_flac_subframe.specs.Part.{part_for}
+use Rattle.ff_flac_subframe.proofs.ReadsSub.{all-candidates}
+use Rattle.ff_flac_subframe.proofs.Predict.{at, length-rest_of, rest_of-zero, prediction_1, prediction_2, prediction_3, prediction_4}
 
 pub restored_is : (P : List ℤ → ℤ) (order : ℕ) (xs rest : List ℤ) → length rest + order ≡ length xs
     → ((j : ℕ) → j < length rest → P (take (j + order) xs) +ℤ at rest j ≡ at xs (j + order)) → restored P (take order xs) rest ≡ xs

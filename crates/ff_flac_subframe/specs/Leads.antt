@@ -2,10 +2,10 @@
 use Rattle.std.specs.Prelude.{◌≡◌, ℕ, ◌≤◌, ℤ, List, ◌++◌, length, Option, Some, IfSome}
 use Rattle.std.specs.Option.{option_map}
 use Rattle.std.specs.List.{flat_map, range_with_len, AllByRecursion}
-use Rattle.ff_flac_rice.specs.Least.{choose, least}
-use Rattle.ff_flac_sub.specs.Subframe.{Spelling, fixed_of}
-use Rattle.ff_flac_sub.specs.Plan.{spelling_of, size, PlanFits, constants}
-use Rattle.ff_flac_sub.specs.declared.subframe.Planned.{Planned}
+use Rattle.ff_flac_subframe.specs.rice.Least.{choose, least}
+use Rattle.ff_flac_subframe.specs.Subframe.{Spelling, fixed_of}
+use Rattle.ff_flac_subframe.specs.Plan.{spelling_of, size, PlanFits, constants}
+use Rattle.ff_flac_subframe.specs.declared.subframe.Planned.{Planned}
 
 -- the spellings of the constant and of the orders below this one
 abbrev pub so_far : List ℤ → ℕ → List Spelling

@@ -3,3 +3,4 @@ pub mod Plan
 pub mod Leads
 pub mod Part
 pub mod Outlook
+pub mod rice

@@ -1,10 +1,10 @@
 -- What is known of samples before an order is searched.
 use Rattle.std.specs.Prelude.{◌≡◌, ◌<◌, ◌≤◌, ◌^◌, ℕ, ℤ, List, length, min, slice_index_or}
 use Rattle.std.specs.List.{AllByRecursion}
-use Rattle.ff_flac_sub.specs.Subframe.{candidates}
-use Rattle.ff_flac_sub.specs.Plan.{size}
-use Rattle.ff_flac_sub.specs.Leads.{IsFloor}
-use Rattle.ff_flac_sub.specs.declared.subframe.Outlook.{Outlook}
+use Rattle.ff_flac_subframe.specs.Subframe.{candidates}
+use Rattle.ff_flac_subframe.specs.Plan.{size}
+use Rattle.ff_flac_subframe.specs.Leads.{IsFloor}
+use Rattle.ff_flac_subframe.specs.declared.subframe.Outlook.{Outlook}
 
 -- no spelling of an order has fewer bits than its floor, and no candidate fewer than the bound
 pub record IsOutlook (depth : ℕ) (xs : List ℤ) (outlook : Outlook) : Type 0 where

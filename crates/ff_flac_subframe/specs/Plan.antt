@@ -1,12 +1,12 @@
 use Rattle.std.specs.Prelude.{◌≡◌, ◌<◌, ◌≤◌, ⊤, true, ℕ, ℤ, List, [], ◌∷◌, length, map, Option, IfSome, if◌then◌else◌}
 use Rattle.std.specs.Option.{option_map}
-use Rattle.ff_flac_rice.specs.Least.{least}
-use Rattle.ff_flac_rice.specs.Rice.{zigzagged, best_at, is_allowed}
-use Rattle.ff_flac_sub.specs.Subframe.{Spelling, rest_of, subframe_bits, all_are, first_or_zero}
-use Rattle.ff_flac_sub.specs.Subframe.Spelling.{constant, fixed, verbatim}
-use Rattle.ff_flac_sub.specs.declared.subframe.Plan.{Plan}
-use Rattle.ff_flac_sub.specs.declared.subframe.Plan.TheVariants.{Constant, Fixed, Verbatim}
-use Rattle.ff_flac_sub.specs.declared.subframe.Planned.{Planned}
+use Rattle.ff_flac_subframe.specs.rice.Least.{least}
+use Rattle.ff_flac_subframe.specs.rice.Rice.{zigzagged, best_at, is_allowed}
+use Rattle.ff_flac_subframe.specs.Subframe.{Spelling, rest_of, subframe_bits, all_are, first_or_zero}
+use Rattle.ff_flac_subframe.specs.Subframe.Spelling.{constant, fixed, verbatim}
+use Rattle.ff_flac_subframe.specs.declared.subframe.Plan.{Plan}
+use Rattle.ff_flac_subframe.specs.declared.subframe.Plan.TheVariants.{Constant, Fixed, Verbatim}
+use Rattle.ff_flac_subframe.specs.declared.subframe.Planned.{Planned}
 
 -- the spelling that a plan stands for
 abbrev pub spelling_of : List ℤ → Plan → Spelling

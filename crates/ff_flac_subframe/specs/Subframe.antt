@@ -3,7 +3,7 @@ use Rattle.std.specs.Ordering.{int_eq}
 use Rattle.std.specs.List.{flat_map, range_with_len, list_all}
 use Rattle.ff_bits.specs.Bits.{bits_of}
 use Rattle.ff_bits.specs.Integers.{unsigned}
-use Rattle.ff_flac_rice.specs.Rice.{zigzagged, residual_bits, Coding, codings}
+use Rattle.ff_flac_subframe.specs.rice.Rice.{zigzagged, residual_bits, Coding, codings}
 
 -- how a subframe is written
 pub data Spelling : Type 0 where

@@ -1,9 +1,8 @@
 //! The residual of a fixed predictor, in the fewest bits (RFC 9639, section 9.2.7).
 //!
-//! `specs/Rice` says how a residual is written, and lists the ways to write it in the order of ties. `best_coding` finds
+//! `specs/rice/Rice` says how a residual is written, and lists the ways to write it in the order of ties. `best_coding` finds
 //! the first of the shortest, `coding_below` the same where one may be short enough, and `write_residual` writes it. No list
 //! of parameters is kept: each partition has its best.
-#![tactic(auto)]
 
 mod coding;
 mod column;

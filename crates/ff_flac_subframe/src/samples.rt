@@ -4,10 +4,10 @@ ghost use Rattle.std.specs.Prelude.{◌≡◌, ◌+◌, ◌-◌, ◌*◌, ◌^�
 ghost use Rattle.std.specs.List.{flat_map, list_all};
 ghost use Rattle.std.specs.Ordering.{int_eq};
 ghost use Rattle.ff_flac_frame.specs.Bounds.{IsSmall, IsBounded, IsWide};
-ghost use Rattle.ff_flac_rice.specs.Rice.{zigzagged};
+ghost use Rattle.ff_flac_subframe.specs.rice.Rice.{zigzagged};
 ghost use Rattle.ff_bits.specs.Integers.{unsigned};
-ghost use Rattle.ff_values.specs.Audio.{FitsBits};
-ghost use Rattle.ff_flac_sub.specs.Subframe.{steps, rest_of, magnitude, sample_bits, all_are, first_or_zero};
+ghost use Rattle.ff_frame.specs.Audio.{FitsBits};
+ghost use Rattle.ff_flac_subframe.specs.Subframe.{steps, rest_of, magnitude, sample_bits, all_are, first_or_zero};
 
 use ff_bits::BitWriter;
 use std::alloc::{AllocError, Global};

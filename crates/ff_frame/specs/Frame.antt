@@ -1,8 +1,8 @@
 -- Decoded frames.
 use Rattle.std.specs.Prelude.{ℕ, ℤ, List}
-use Rattle.ff_values.specs.declared.audio.AFrame.{AFrame}
-use Rattle.ff_values.specs.declared.video.Format.{Format}
-use Rattle.ff_values.specs.declared.video.VFrame.{VFrame}
+use Rattle.ff_frame.specs.declared.audio.AFrame.{AFrame}
+use Rattle.ff_frame.specs.declared.video.Format.{Format}
+use Rattle.ff_frame.specs.declared.video.VFrame.{VFrame}
 
 -- the audio frame of these fields
 abbrev pub audio_frame : ℤ → ℕ → ℕ → ℕ → List ℤ → AFrame

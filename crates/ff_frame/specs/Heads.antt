@@ -1,14 +1,14 @@
 -- Heads of streams, and the frames that belong to one.
 use Rattle.std.specs.Prelude.{◌≡◌, ◌≤◌, ℕ}
 use Rattle.ff_time.specs.Fraction.{Fraction}
-use Rattle.ff_values.specs.declared.audio.AFrame.{AFrame}
-use Rattle.ff_values.specs.declared.video.Format.{Format}
-use Rattle.ff_values.specs.declared.video.VFrame.{VFrame}
-use Rattle.ff_values.specs.declared.head.StreamHead.{StreamHead}
-use Rattle.ff_values.specs.declared.head.StreamHead.TheVariants.{Audio as AudioHead, Video as VideoHead}
-use Rattle.ff_values.specs.Audio.{IsAudio}
-use Rattle.ff_values.specs.Video.{IsSide, IsVideo}
-use Rattle.ff_values.specs.Codecs.{IsPcmCodec}
+use Rattle.ff_frame.specs.declared.audio.AFrame.{AFrame}
+use Rattle.ff_frame.specs.declared.video.Format.{Format}
+use Rattle.ff_frame.specs.declared.video.VFrame.{VFrame}
+use Rattle.ff_frame.specs.declared.head.StreamHead.{StreamHead}
+use Rattle.ff_frame.specs.declared.head.StreamHead.TheVariants.{Audio as AudioHead, Video as VideoHead}
+use Rattle.ff_frame.specs.Audio.{IsAudio}
+use Rattle.ff_frame.specs.Video.{IsSide, IsVideo}
+use Rattle.ff_frame.specs.Codecs.{IsPcmCodec}
 
 -- the time base of a stream's times
 abbrev pub base_of_head : StreamHead → Fraction

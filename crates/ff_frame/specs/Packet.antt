@@ -1,6 +1,6 @@
 -- Coded packets.
 use Rattle.std.specs.Prelude.{ℕ, ℤ, List}
-use Rattle.ff_values.specs.declared.packet.Pkt.{Pkt}
+use Rattle.ff_frame.specs.declared.packet.Pkt.{Pkt}
 
 -- the packet of these fields, whose presentation and decoding time are one
 abbrev pub packet_at : ℤ → ℤ → ℕ → List ℕ → Pkt

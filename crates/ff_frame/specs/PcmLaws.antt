@@ -1,10 +1,10 @@
 -- What a packet is where the codec is known to be linear PCM.
 use Rattle.std.specs.Prelude.{ℕ, ◌*◌}
 use Rattle.std.specs.Coded.{Unit-prop}
-use Rattle.ff_values.specs.declared.head.Codec.{Codec}
-use Rattle.ff_values.specs.declared.head.Codec.TheVariants.{PcmU8, PcmS16le, PcmS24le, PcmS32le, Flac, RawVideo}
-use Rattle.ff_values.specs.declared.packet.Pkt.{Pkt}
-use Rattle.ff_values.specs.Codecs.{IsPcmCodec, IsFlacCodec, sample_bytes, IsPcm, IsSoundPacket}
+use Rattle.ff_frame.specs.declared.head.Codec.{Codec}
+use Rattle.ff_frame.specs.declared.head.Codec.TheVariants.{PcmU8, PcmS16le, PcmS24le, PcmS32le, Flac, RawVideo}
+use Rattle.ff_frame.specs.declared.packet.Pkt.{Pkt}
+use Rattle.ff_frame.specs.Codecs.{IsPcmCodec, IsFlacCodec, sample_bytes, IsPcm, IsSoundPacket}
 
 pub IsPcmCodec-prop : (codec : Codec) → IsProp (IsPcmCodec codec)
 IsPcmCodec-prop PcmU8 = Unit-prop

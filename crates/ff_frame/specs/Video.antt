@@ -1,7 +1,7 @@
 -- Pictures: how large their planes are, and when the fields of a video frame agree (yuv4mpeg(5), "Frame Format").
 use Rattle.std.specs.Prelude.{◌≡◌, ◌≤◌, ◌+◌, ◌*◌, ◌/◌, ℕ, List, length}
-use Rattle.ff_values.specs.declared.video.Format.{Format}
-use Rattle.ff_values.specs.declared.video.Format.TheVariants.{C420, C422, C444, Mono}
+use Rattle.ff_frame.specs.declared.video.Format.{Format}
+use Rattle.ff_frame.specs.declared.video.Format.TheVariants.{C420, C422, C444, Mono}
 
 -- half of the columns or rows, rounded up
 abbrev pub half : ℕ → ℕ

@@ -1,6 +1,6 @@
 ghost use Rattle.std.specs.Prelude.{◌≡◌, ◌≤◌, ◌+◌, ◌*◌, ◌+ℤ◌, pos, length, FitsSigned, IfOk};
 ghost use Rattle.std.specs.Int.{w64};
-ghost use Rattle.ff_values.specs.Audio.{IsAudio, kept_samples};
+ghost use Rattle.ff_frame.specs.Audio.{IsAudio, kept_samples};
 
 use crate::lists::Samples;
 use std::alloc::{AllocError, Global};
@@ -21,7 +21,7 @@ pub struct AFrame {
 }
 
 impl AFrame {
-    ghost use Rattle.ff_values.specs.Frame.{audio_frame};
+    ghost use Rattle.ff_frame.specs.Frame.{audio_frame};
 
     /// The frame of these fields, which agree: 1 to 65,535 sample frames, and each sample within the bits.
     pub fn make(pts: i64, rate: u32, bits: u8, channels: u8, samples: Samples) -> AFrame

@@ -1,20 +1,30 @@
-//! Items, the ways that carry them, and the streams that they make.
+//! The values that travel through a run: heads of streams, frames, packets, tickets and events.
 //!
-//! ```text
-//! a part ──► Packet, Packet, .. Trailer, End ──► a part
-//!            └──────── a way: its Lane ───────┘
-//! ```
+//! Times are counted in ticks of a stream's time base. A frame or a packet is given by its fields alone: two with
+//! equal fields are one value for every contract, wherever their bytes lie.
 //!
-//! An item is a frame or a packet, or says that nothing more comes. `specs/` has the streams that travel so: their order
-//! (`Stream`, `Order`, `Ports`), what each item adds to one (`Items`), when one is valid for the way that carries it
-//! (`Times`, `Lanes`), where one is cut for its length (`Within`), and what becomes of a function of streams where an
-//! input breaks off (`Breaks`). The values themselves are those of `ff_values`, which this crate passes on.
+//! `specs/Heads` and `Codecs` say which heads there are and which packets a codec makes, `Audio` and `Video` when the
+//! fields of a frame agree.
 #![tactic(auto)]
 
-mod item;
+mod audio;
+mod config;
+mod cut;
+mod event;
+mod hash;
+mod head;
+mod lists;
+mod packet;
+mod totals;
+mod video;
 
-pub use ff_values::{
-    AFrame, Bytes, Codec, ConfigError, Cut, Event, Format, HashKind, HeadEnd, Pkt, Samples,
-    StreamHead, Ticket, Totals, VFrame,
-};
-pub use item::{Item, Lane, Refused};
+pub use audio::AFrame;
+pub use config::ConfigError;
+pub use cut::{Cut, HeadEnd};
+pub use event::{Event, Ticket};
+pub use hash::HashKind;
+pub use head::{Codec, StreamHead};
+pub use lists::{Bytes, Samples};
+pub use packet::Pkt;
+pub use totals::Totals;
+pub use video::{Format, VFrame};

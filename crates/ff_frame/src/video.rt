@@ -1,5 +1,5 @@
 ghost use Rattle.std.specs.Prelude.{◌≡◌, ◌≤◌, IfOk};
-ghost use Rattle.ff_values.specs.Video.{chroma_width as width_of_chroma, chroma_height as height_of_chroma, frame_size as size_of_frame, IsVideo};
+ghost use Rattle.ff_frame.specs.Video.{chroma_width as width_of_chroma, chroma_height as height_of_chroma, frame_size as size_of_frame, IsVideo};
 
 use crate::lists::Bytes;
 use std::alloc::{AllocError, Global};
@@ -72,7 +72,7 @@ pub struct VFrame {
 }
 
 impl VFrame {
-    ghost use Rattle.ff_values.specs.Frame.{video_frame};
+    ghost use Rattle.ff_frame.specs.Frame.{video_frame};
 
     /// The frame of these fields, which agree: 1 to 16,384 columns and rows, and all samples of the planes.
     pub fn make(

@@ -5,3 +5,4 @@ pub mod Inputting
 pub mod MarkLaws
 pub mod Showing
 pub mod Taken
+pub mod StacksLemmas

@@ -1,16 +1,16 @@
 -- An input of framesync as the definitions see it.
 use Rattle.std.specs.Prelude.{◌≡◌, ℕ, ◌≤◌, ◌<◌, ◌||◌, ◌&&◌, Bool, false, true, Option, None, Some, List, [], ◌∷◌, ◌++◌, map, nat_le, nat_eq}
-use Rattle.ff_values.specs.declared.video.VFrame.{VFrame}
-use Rattle.ff_frame.specs.declared.item.Item.{Item}
-use Rattle.ff_frame.specs.declared.item.Item.TheVariants.{Video}
-use Rattle.ff_frame.specs.declared.item.Lane.TheVariants.{Frames}
-use Rattle.ff_frame.specs.Times.{ticks}
+use Rattle.ff_frame.specs.declared.video.VFrame.{VFrame}
+use Rattle.ff_stream.specs.declared.item.Item.{Item}
+use Rattle.ff_stream.specs.declared.item.Item.TheVariants.{Video}
+use Rattle.ff_stream.specs.declared.item.Lane.TheVariants.{Frames}
+use Rattle.ff_stream.specs.Times.{ticks}
 use Rattle.ff_filter.specs.declared.after.After.{After}
 use Rattle.ff_filter.specs.Shifts.{start_ticks}
-use Rattle.ff_values.specs.declared.head.StreamHead.{StreamHead}
+use Rattle.ff_frame.specs.declared.head.StreamHead.{StreamHead}
 use Rattle.ff_fsync.specs.Sides.{Side}
 use Rattle.ff_fsync.specs.Synced.{some_of, last_of, is_whole, is_open}
-use Rattle.ff_frame.specs.Stream.{Mark}
+use Rattle.ff_stream.specs.Stream.{Mark}
 
 abbrev pub items_of : List VFrame → List Item
 items_of fs = map Video fs

@@ -10,3 +10,4 @@ pub mod SyncLaws
 pub mod SyncStreams
 pub mod Synced
 pub mod Syncs
+pub mod stacks

@@ -1,10 +1,10 @@
 -- Framesync of streams of pictures: a law of its definition, and what it is of valid streams.
 use Rattle.std.specs.Prelude.{ℕ, pos, Bool, List, [], ◌∷◌, refl}
-use Rattle.ff_values.specs.declared.video.Format.TheVariants.{Mono}
-use Rattle.ff_frame.specs.declared.item.Item.{Item}
-use Rattle.ff_frame.specs.declared.item.Item.TheVariants.{Video}
-use Rattle.ff_frame.specs.Breaks.{KeepsBrokenRule}
-use Rattle.ff_frame.specs.Ports.{stream_at}
+use Rattle.ff_frame.specs.declared.video.Format.TheVariants.{Mono}
+use Rattle.ff_stream.specs.declared.item.Item.{Item}
+use Rattle.ff_stream.specs.declared.item.Item.TheVariants.{Video}
+use Rattle.ff_stream.specs.Breaks.{KeepsBrokenRule}
+use Rattle.ff_stream.specs.Ports.{stream_at}
 use Rattle.ff_filter.specs.Joins.{Flow}
 use Rattle.ff_fsync.specs.Synced.{Timing, synced}
 use Rattle.ff_fsync.specs.SyncBreaks.{AreRisen, synced-keeps}

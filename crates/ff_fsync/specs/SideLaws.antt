@@ -5,12 +5,12 @@ use Rattle.std.proofs.lemmas.Bool.{cases_Bool, and_parts, or_cases, or_left, or_
 use Rattle.std.proofs.lemmas.Bool.Decides.{nat_tests}
 use Rattle.std.proofs.lemmas.List.{append-nil}
 use mathlib.Core.List.{IsPrefix}
-use Rattle.ff_values.specs.declared.video.VFrame.{VFrame}
-use Rattle.ff_frame.specs.declared.item.Item.{Item}
-use Rattle.ff_frame.specs.declared.item.Lane.{Lane}
-use Rattle.ff_frame.specs.Stream.{Mark, still_open, whole, broken, LiesBelow, opened}
-use Rattle.ff_frame.specs.Ports.{nothing, IsClosed}
-use Rattle.ff_frame.specs.Order.{below_self, prefix_self, nothing_below}
+use Rattle.ff_frame.specs.declared.video.VFrame.{VFrame}
+use Rattle.ff_stream.specs.declared.item.Item.{Item}
+use Rattle.ff_stream.specs.declared.item.Lane.{Lane}
+use Rattle.ff_stream.specs.Stream.{Mark, still_open, whole, broken, LiesBelow, opened}
+use Rattle.ff_stream.specs.Ports.{nothing, IsClosed}
+use Rattle.ff_stream.specs.Order.{below_self, prefix_self, nothing_below}
 use Rattle.ff_filter.specs.declared.after.After.{After}
 use Rattle.ff_filter.specs.declared.after.After.TheVariants.{More, Whole, Broke}
 use Rattle.ff_filter.specs.Joins.{Flow, Ports, silence, Grows, HidesBreaks}

@@ -1,10 +1,10 @@
 -- How the machine of framesync is seen: what waits of each input, and from which time on something is still to be shown.
 use Rattle.std.specs.Prelude.{◌≡◌, ℕ, zero, suc, Bool, true, false, ◌||◌, ◌&&◌, not, cond, nat_le, nat_eq, List, [], ◌∷◌, ◌++◌, length, map}
-use Rattle.ff_values.specs.declared.video.VFrame.{VFrame}
-use Rattle.ff_frame.specs.declared.item.Item.{Item}
-use Rattle.ff_frame.specs.declared.item.Item.TheVariants.{Audio, Video, Packet, Trailer, End, Broken}
-use Rattle.ff_frame.specs.declared.item.Lane.{Lane}
-use Rattle.ff_frame.specs.Ports.{nothing}
+use Rattle.ff_frame.specs.declared.video.VFrame.{VFrame}
+use Rattle.ff_stream.specs.declared.item.Item.{Item}
+use Rattle.ff_stream.specs.declared.item.Item.TheVariants.{Audio, Video, Packet, Trailer, End, Broken}
+use Rattle.ff_stream.specs.declared.item.Lane.{Lane}
+use Rattle.ff_stream.specs.Ports.{nothing}
 use Rattle.ff_filter.specs.declared.after.After.{After}
 use Rattle.ff_filter.specs.declared.after.After.TheVariants.{More}
 use Rattle.ff_filter.specs.Joins.{Flow, Ports}

@@ -1,6 +1,6 @@
 -- Framesync: n streams, one item of each at each time at which one of them starts an item.
 use Rattle.std.specs.Prelude.{ℕ, zero, suc, ◌+◌, ◌-◌, max, Bool, true, false, ◌||◌, ◌&&◌, not, nat_lt, nat_le, nat_eq, List, [], ◌∷◌, length}
-use Rattle.ff_frame.specs.Stream.{Mark, still_open, whole, broken, Stream}
+use Rattle.ff_stream.specs.Stream.{Mark, still_open, whole, broken, Stream}
 use Rattle.ff_fsync.specs.Ranges.{all_to, any_to, list_to}
 use Rattle.ff_fsync.specs.Events.{events}
 

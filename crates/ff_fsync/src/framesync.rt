@@ -1,6 +1,6 @@
 ghost use Rattle.std.specs.Prelude.{◌≡◌, ◌↔◌, ◌<◌, ◌≤◌, ◌^◌, ◌+◌, ℕ, Bool, ◌&&◌, ◌||◌, not, cond, nat_lt, List, length, IsTrue, IsNone, IfSome, IfOk, OnOk, OnErr, IfErr, Ok, Some, None, true, false};
-ghost use Rattle.ff_frame.specs.declared.item.Item.{Item};
-ghost use Rattle.ff_frame.specs.declared.item.Lane.TheVariants.{Frames};
+ghost use Rattle.ff_stream.specs.declared.item.Item.{Item};
+ghost use Rattle.ff_stream.specs.declared.item.Lane.TheVariants.{Frames};
 ghost use Rattle.ff_filter.specs.Made.{is_over, mark_after};
 ghost use Rattle.ff_filter.specs.Views.{Fed, Same, Gave, Waits, IsSpent};
 ghost use Rattle.ff_fsync.specs.Ranges.{all_to};
@@ -11,7 +11,8 @@ ghost use Rattle.ff_fsync.specs.Syncs.{sides_of, sides_sound, standing_of, timin
 use crate::input::Input;
 use crate::stack::Stack;
 use ff_filter::{After, Filter};
-use ff_frame::{Item, Refused, StreamHead, VFrame};
+use ff_frame::{StreamHead, VFrame};
+use ff_stream::{Item, Refused};
 use std::alloc::{AllocError, Global};
 
 /// The machine of framesync: it shows something of the pictures of its inputs at each time at which one of them starts a

@@ -1,6 +1,6 @@
 ghost use Rattle.std.specs.Prelude.{◌≡◌, ◌<◌, ◌≤◌, ◌^◌, ℕ, ◌||◌, ◌&&◌, not, min, nat_lt, [], true, false, length, nat_le, IfErr, IfSome, IsNone, OnOk, OnErr};
 ghost use Rattle.std.specs.VecDeque.{deque_len, deque_capacity};
-ghost use Rattle.ff_frame.specs.declared.item.Lane.TheVariants.{Frames};
+ghost use Rattle.ff_stream.specs.declared.item.Lane.TheVariants.{Frames};
 ghost use Rattle.ff_filter.specs.Joins.{Flow, before};
 ghost use Rattle.ff_filter.specs.Made.{is_over, mark_after};
 ghost use Rattle.ff_filter.specs.Views.{closes};
@@ -10,8 +10,8 @@ ghost use Rattle.ff_fsync.specs.Inputs.{items_of, side_by, begun_by, reaches, Tr
 
 use crate::time::time_among;
 use ff_filter::{After, discard};
-use ff_frame::{Item, Refused, StreamHead, VFrame};
-use ff_values::Bytes;
+use ff_frame::{Bytes, StreamHead, VFrame};
+use ff_stream::{Item, Refused};
 use std::alloc::{AllocError, Global};
 use std::collections::VecDeque;
 use std::mem::replace;

@@ -1,7 +1,7 @@
 //! A law of what framesync shows: a function that does nothing, whose clause holds of all values.
 ghost use Rattle.std.specs.Prelude.{ℕ, Bool, List};
-ghost use Rattle.ff_frame.specs.declared.item.Item.{Item};
-ghost use Rattle.ff_frame.specs.Breaks.{KeepsBrokenRule};
+ghost use Rattle.ff_stream.specs.declared.item.Item.{Item};
+ghost use Rattle.ff_stream.specs.Breaks.{KeepsBrokenRule};
 ghost use Rattle.ff_fsync.specs.SyncBreaks.{AreRisen};
 ghost use Rattle.ff_fsync.specs.Pictures.{timed, shown_of};
 

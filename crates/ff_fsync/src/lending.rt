@@ -1,6 +1,6 @@
 // The pictures that are shown are moved out of the inputs for that time, and not copied.
 ghost use Rattle.std.specs.Prelude.{◌≡◌, ◌≤◌, length, IfOk, OnErr};
-ghost use Rattle.ff_frame.specs.declared.item.Lane.{Lane};
+ghost use Rattle.ff_stream.specs.declared.item.Lane.{Lane};
 ghost use Rattle.ff_fsync.specs.Inputs.{all_back};
 ghost use Rattle.ff_fsync.specs.Sides.{Sound};
 ghost use Rattle.ff_fsync.specs.Syncs.{sides_of, AreBegun};

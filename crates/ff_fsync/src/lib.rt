@@ -10,6 +10,8 @@
 //! Framesync is one part for any number of inputs: `specs/Synced` says on whole streams at which times something is shown, of
 //! which pictures, and when the output is whole or broken. Its machine keeps of each input the picture that is shown and
 //! those after it. What is shown of the pictures is said by a `Stack`.
+//!
+//! `stacks`: Pictures of several inputs, side by side or one below the other.
 #![tactic(auto)]
 
 mod framesync;
@@ -19,9 +21,14 @@ mod lending;
 mod machine;
 mod marking;
 mod stack;
+mod stacks;
 mod time;
 
 pub use framesync::Framesync;
 pub use input::Input;
 pub use laws::framesync_keeps_the_broken_rule;
 pub use stack::Stack;
+pub use stacks::{
+    Direction, HStack, Plan, Shape, StackSettings, Stacked, Stacking, VStack, count_inputs,
+    stacks_keep_valid_streams, stacks_of_two_pixels, stacks_of_valid_streams,
+};

@@ -1,7 +1,7 @@
 ghost use Rattle.std.specs.Prelude.{◌≡◌, ◌↔◌, ◌<◌, ◌≤◌, ◌^◌, ◌+◌, List, length, map, IsTrue, IfOk, OnOk, OnErr, IfErr, Ok, Some, None, true, false};
-ghost use Rattle.ff_frame.specs.declared.item.Item.{Item as AnItem};
-ghost use Rattle.ff_frame.specs.declared.item.Item.TheVariants.{Video};
-ghost use Rattle.ff_frame.specs.declared.item.Lane.TheVariants.{Frames};
+ghost use Rattle.ff_stream.specs.declared.item.Item.{Item as AnItem};
+ghost use Rattle.ff_stream.specs.declared.item.Item.TheVariants.{Video};
+ghost use Rattle.ff_stream.specs.declared.item.Lane.TheVariants.{Frames};
 ghost use Rattle.ff_filter.specs.Views.{Fed, Same, Gave, Waits, IsSpent};
 ghost use Rattle.ff_fsync.specs.Synced.{pictures};
 ghost use Rattle.ff_fsync.specs.Sides.{side_at, shown_as, sync_view, sync_spent, is_done as is_done_by};
@@ -12,7 +12,8 @@ use crate::framesync::Framesync;
 use crate::lending::{lend, restore};
 use crate::stack::Stack;
 use ff_filter::{After, Filter};
-use ff_frame::{Item, Refused, VFrame};
+use ff_frame::VFrame;
+use ff_stream::{Item, Refused};
 use std::alloc::AllocError;
 
 impl<S: Stack> Framesync<S> {

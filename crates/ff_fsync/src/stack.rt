@@ -1,5 +1,5 @@
 ghost use Rattle.std.specs.Prelude.{◌≡◌, ◌<◌, ◌^◌, ℕ, List, IfOk};
-ghost use Rattle.ff_values.specs.declared.video.VFrame.{VFrame};
+ghost use Rattle.ff_frame.specs.declared.video.VFrame.{VFrame};
 
 use ff_frame::VFrame;
 use std::alloc::AllocError;

@@ -8,9 +8,8 @@
 //! ```
 //!
 //! Which pictures are shown together, and when, is framesync's (`ff_fsync`); how the planes of a stack lie is `ff_planes`'.
-//! `specs/Shapes` says what a picture of the stack is, `specs/Stacks` which stack arguments and heads make, or why they are
-//! refused, and `specs/Stacked` how its machine is seen, with the limits of every stream behind it.
-#![tactic(auto)]
+//! `specs/stacks/Shapes` says what a picture of the stack is, `specs/stacks/Stacks` which stack arguments and heads make, or why they are
+//! refused, and `specs/stacks/Stacked` how its machine is seen, with the limits of every stream behind it.
 
 mod configured;
 mod heads;

@@ -1,5 +1,5 @@
 ghost use Rattle.std.specs.Prelude.{◌≡◌, ◌<◌, ◌^◌};
-ghost use Rattle.ff_frame.specs.Times.{ticks};
+ghost use Rattle.ff_stream.specs.Times.{ticks};
 
 use ff_filter::ticks_of;
 use ff_frame::VFrame;

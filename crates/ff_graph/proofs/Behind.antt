@@ -1,10 +1,10 @@
 -- Heads behind others, and filters one by one.
 use Rattle.std.proofs.Common.{◌≡◌, ℕ, zero, suc, ◌+◌, ◌<◌, Bool, true, false, arith, length, drop, get_or, slice_get, Result, Err, sym, ◌∙◌, List, [], ◌∷◌, ◌++◌, Option, None, Some, slice_set, refl, ap, append_assoc, drop-cons}
 use Rattle.std.specs.declared.vec.Vec.{Vec}
-use Rattle.ff_values.specs.declared.head.StreamHead.{StreamHead}
-use Rattle.ff_values.specs.declared.config.ConfigError.{ConfigError}
-use Rattle.ff_drawn.specs.declared.drawn.Pad.{Pad}
-use Rattle.ff_drawn.specs.Links.{Seen}
+use Rattle.ff_frame.specs.declared.head.StreamHead.{StreamHead}
+use Rattle.ff_frame.specs.declared.config.ConfigError.{ConfigError}
+use Rattle.ff_graph_links.specs.declared.pads.drawn.Pad.{Pad}
+use Rattle.ff_graph_links.specs.pads.Links.{Seen}
 use Rattle.ff_filters.specs.Configured.{Filtered}
 use Rattle.ff_graph.specs.Configured.{Made, Refused, and_head, made_of, behind, make_from, OpenOut, feeds_one, unless_fed, outs_at}
 use Rattle.ff_graph.specs.Pads.{heads_in}

@@ -2,13 +2,13 @@
 use Rattle.std.proofs.Common.{◌≡◌, ◌≢◌, ℕ, zero, suc, ◌+◌, ◌<◌, Bool, true, false, List, [], ◌∷◌, length, Option, None, Some, if◌then◌else◌, Result, Ok, Err}
 use Rattle.std.proofs.Common.{replicate, slice_get, slice_index_or, slice_set, refl, ap, ◌∙◌, subst, arith}
 use Rattle.std.proofs.lemmas.List.{length-replicate}
-use Rattle.ff_values.specs.declared.config.ConfigError.{ConfigError}
-use Rattle.ff_values.specs.declared.config.ConfigError.TheVariants as fault
-use Rattle.ff_values.specs.declared.head.StreamHead.{StreamHead}
+use Rattle.ff_frame.specs.declared.config.ConfigError.{ConfigError}
+use Rattle.ff_frame.specs.declared.config.ConfigError.TheVariants as fault
+use Rattle.ff_frame.specs.declared.head.StreamHead.{StreamHead}
 use Rattle.ff_lang.specs.declared.graph.Graph.{Graph}
-use Rattle.ff_order.specs.Orders.{is_ready, first_ready, next_ready, order_on}
-use Rattle.ff_order.proofs.Stuck.{size_set}
-use Rattle.ff_drawn.specs.Links.{Seen, feeders_from}
+use Rattle.ff_graph_links.specs.orders.Orders.{is_ready, first_ready, next_ready, order_on}
+use Rattle.ff_graph_links.proofs.OrdersLemmas.Stuck.{size_set}
+use Rattle.ff_graph_links.specs.pads.Links.{Seen, feeders_from}
 use Rattle.ff_filters.specs.declared.name.FilterName.{FilterName}
 use Rattle.ff_filters.specs.Names.{filter_named}
 use Rattle.ff_filters.specs.Configured.{Filtered, configured_as}

@@ -1,8 +1,8 @@
 -- Small graphs.
 use Rattle.std.specs.Prelude.{ℕ, List, [], ◌∷◌, Option, None, codes}
-use Rattle.ff_values.specs.declared.head.StreamHead.{StreamHead}
-use Rattle.ff_values.specs.declared.head.StreamHead.TheVariants.{Video}
-use Rattle.ff_values.specs.declared.video.Format.TheVariants.{C444}
+use Rattle.ff_frame.specs.declared.head.StreamHead.{StreamHead}
+use Rattle.ff_frame.specs.declared.head.StreamHead.TheVariants.{Video}
+use Rattle.ff_frame.specs.declared.video.Format.TheVariants.{C444}
 use Rattle.ff_lang.specs.declared.graph.Arg.{Arg}
 use Rattle.ff_lang.specs.declared.graph.Chain.{Chain}
 use Rattle.ff_lang.specs.declared.graph.Graph.{Graph}

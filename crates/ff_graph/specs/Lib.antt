@@ -4,3 +4,4 @@ pub mod Examples
 pub mod Meaning
 pub mod Opens
 pub mod Pads
+pub mod composed

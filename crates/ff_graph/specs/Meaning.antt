@@ -1,12 +1,12 @@
 -- What a graph does: the stream on each of its open output pads for the streams on its open input pads.
 use Rattle.std.specs.Prelude.{ℕ, zero, suc, ◌==◌, if◌then◌else◌, List, [], ◌∷◌, slice_get, slice_index_or, Option, None, Some, Result, Ok, Err}
-use Rattle.ff_values.specs.declared.head.StreamHead.{StreamHead}
-use Rattle.ff_frame.specs.Ports.{nothing}
+use Rattle.ff_frame.specs.declared.head.StreamHead.{StreamHead}
+use Rattle.ff_stream.specs.Ports.{nothing}
 use Rattle.ff_lang.specs.declared.graph.Graph.{Graph}
 use Rattle.ff_filter.specs.Joins.{Flow, Ports}
 use Rattle.ff_filter.specs.Views.{View}
-use Rattle.ff_drawn.specs.declared.drawn.Pad.{Pad}
-use Rattle.ff_drawn.specs.Links.{Seen}
+use Rattle.ff_graph_links.specs.declared.pads.drawn.Pad.{Pad}
+use Rattle.ff_graph_links.specs.pads.Links.{Seen}
 use Rattle.ff_graph.specs.Drawings.{seen_graph}
 use Rattle.ff_graph.specs.Opens.{filter_order, sources_in, open_pads}
 use Rattle.ff_graph.specs.Configured.{Made, Refused, OpenOut, place_of, make_all, open_outs}

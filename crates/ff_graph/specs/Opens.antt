@@ -2,9 +2,9 @@
 use Rattle.std.specs.Prelude.{ℕ, Bool, false, List, map, slice_get, Option, None, Some, is_some}
 use Rattle.ff_lang.specs.declared.graph.Arg.{Arg}
 use Rattle.ff_lang.specs.declared.graph.Graph.{Graph}
-use Rattle.ff_order.specs.Orders.{order_of, loops as is_looped}
-use Rattle.ff_drawn.specs.declared.drawn.Pad.{Pad}
-use Rattle.ff_drawn.specs.Links.{Seen, feeders_from, sources_from, opens_from}
+use Rattle.ff_graph_links.specs.orders.Orders.{order_of, loops as is_looped}
+use Rattle.ff_graph_links.specs.declared.pads.drawn.Pad.{Pad}
+use Rattle.ff_graph_links.specs.pads.Links.{Seen, feeders_from, sources_from, opens_from}
 use Rattle.ff_filters.specs.declared.name.FilterName.{FilterName}
 use Rattle.ff_filters.specs.Names.{filter_named}
 use Rattle.ff_filters.specs.Pads.{takes_sound}

@@ -2,8 +2,8 @@
 use Rattle.std.specs.Prelude.{◌≡◌, ◌≢◌, true, List, map, Option, Result, Err}
 use Rattle.std.specs.Option.{option_copied}
 use Rattle.std.specs.declared.vec.Vec.{Vec}
-use Rattle.ff_values.specs.declared.config.ConfigError.TheVariants as fault
-use Rattle.ff_values.specs.declared.head.StreamHead.{StreamHead}
+use Rattle.ff_frame.specs.declared.config.ConfigError.TheVariants as fault
+use Rattle.ff_frame.specs.declared.head.StreamHead.{StreamHead}
 use Rattle.ff_filter.specs.Views.{View}
 use Rattle.ff_filters.specs.Configured.{Filtered}
 use Rattle.ff_lang.specs.declared.graph.Graph.{Graph}

@@ -2,13 +2,12 @@
 //!
 //! ```text
 //!   text, heads ──► configure_graph (ff_graph): the filters, and what feeds each
-//!                     └──► drawn_plan (ff_wired): the edges between them ──► Dag (ff_dag): one filter
-//!   cuts ──► Cutting (ff_cutting): a cut behind each output
+//!                     └──► drawn_plan (ff_graph_dag): the edges between them ──► Dag (ff_graph_dag): one filter
+//!   cuts ──► Cutting (ff_trim): a cut behind each output
 //! ```
 //!
 //! The filter does what the definition of the graph says, pad by pad; its outputs are broken off by a limit only where a limit of one of
 //! its filters cuts. What it gives may then be cut in time, output by output.
-#![tactic(auto)]
 
 mod connecting;
 mod graph;

@@ -1,5 +1,5 @@
 ghost use Rattle.std.specs.Prelude.{◌≡◌, IfOk, IfErr, Ok, false, length, map};
-ghost use Rattle.ff_drawn.specs.Links.{all_seen, pads_in};
+ghost use Rattle.ff_graph_links.specs.pads.Links.{all_seen, pads_in};
 ghost use Rattle.ff_graph.specs.Configured.{configured, make_all as all_made, open_outs as open_outs_of};
 ghost use Rattle.ff_graph.specs.Drawings.{seen_graph};
 ghost use Rattle.ff_graph.specs.Opens.{filter_order, loops, sources_in};
@@ -10,10 +10,10 @@ use crate::making::make_all;
 use crate::ordering::in_order;
 use crate::outputs::{OpenOutput, open_outs};
 use crate::refusal::Refusal;
-use ff_drawn::{Drawn, Pad, sources};
 use ff_filter::Filter;
 use ff_filters::AnyFilter;
 use ff_frame::StreamHead;
+use ff_graph_links::{Drawn, Pad, sources};
 use ff_lang::Graph;
 use std::alloc::Global;
 

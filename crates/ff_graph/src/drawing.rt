@@ -1,10 +1,10 @@
 ghost use Rattle.std.specs.Prelude.{◌≡◌, ◌++◌, IfOk, OnOk, false, map};
-ghost use Rattle.ff_drawn.specs.Links.{seen, all_seen};
+ghost use Rattle.ff_graph_links.specs.pads.Links.{seen, all_seen};
 ghost use Rattle.ff_filters.specs.Names.{filter_named};
 ghost use Rattle.ff_graph.specs.Drawings.{seen_as, seen_chain, seen_graph};
 
-use ff_drawn::Drawn;
 use ff_filters::{inputs, named, outputs};
+use ff_graph_links::Drawn;
 use ff_lang::{Filter, Graph};
 use std::alloc::{AllocError, Global};
 

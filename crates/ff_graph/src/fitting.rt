@@ -1,10 +1,10 @@
 ghost use Rattle.std.specs.Prelude.{◌≡◌, ◌-◌, length, slice_get};
-ghost use Rattle.ff_drawn.specs.Links.{Seen, seen, all_seen};
+ghost use Rattle.ff_graph_links.specs.pads.Links.{Seen, seen, all_seen};
 ghost use Rattle.ff_graph.specs.Configured.{leaves_over as left_over, stands_at as is_at, is_misfit as misfits, too_few_channels, is_surplus as has_surplus};
 
-use ff_drawn::{Drawn, Pad};
 use ff_filters::FilterName;
 use ff_frame::StreamHead;
+use ff_graph_links::{Drawn, Pad};
 
 // Whether the filter before it in its chain has output pads without a label that no input pad of its own takes.
 fn leaves_over(drawn: &[Drawn<'_>], filter: usize, own: &Drawn<'_>) -> bool

@@ -3,8 +3,8 @@ ghost use Rattle.std.specs.Option.{option_map};
 ghost use Rattle.ff_graph.specs.Configured.{same_pad as same, place_of as place_in, head_at as head_of, head_into as head_to, heads_into as heads_to};
 ghost use Rattle.ff_graph.specs.Pads.{heads_in};
 
-use ff_drawn::Pad;
 use ff_frame::StreamHead;
+use ff_graph_links::Pad;
 use std::alloc::{AllocError, Global};
 
 /// Whether these are the same pad.

@@ -1,7 +1,7 @@
 //! Laws of what a graph is: functions that do nothing, whose clauses hold of all values.
 ghost use Rattle.std.specs.Prelude.{◌≡◌, ◌≢◌, ◌<◌, List, Option, None, Some, Ok, Err, [], ◌∷◌, length, replicate};
-ghost use Rattle.ff_values.specs.declared.config.ConfigError.TheVariants as fault;
-ghost use Rattle.ff_values.specs.declared.head.StreamHead.{StreamHead};
+ghost use Rattle.ff_frame.specs.declared.config.ConfigError.TheVariants as fault;
+ghost use Rattle.ff_frame.specs.declared.head.StreamHead.{StreamHead};
 ghost use Rattle.ff_lang.specs.declared.graph.Graph.{Graph as Text};
 ghost use Rattle.ff_graph.specs.Configured.{Refused, configured};
 ghost use Rattle.ff_graph.specs.Drawings.{seen_graph};

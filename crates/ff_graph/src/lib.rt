@@ -2,14 +2,17 @@
 //! pads are, and the filters themselves, each configured by the heads of what comes to it.
 //!
 //! ```text
-//!   Graph ──► drawn ──► sources (ff_drawn): the output pad that feeds each input pad
+//!   Graph ──► drawn ──► sources (ff_graph_links): the output pad that feeds each input pad
 //!     │            └──► in_order: each behind those that feed it, else by number; None for a loop
 //!     ├────► open_inputs, has_loop: what a plan asks before any head is known
 //!     ├────► make_all: with the heads of the open inputs, the filters in that order, or the first refusal
 //!     └────► configure_graph: all of that, and the open output pads with their heads
 //! ```
+//!
+//! `composed`: A filtergraph as one filter.
 #![tactic(auto)]
 
+mod composed;
 mod configuring;
 mod drawing;
 mod fitting;
@@ -21,6 +24,11 @@ mod ordering;
 mod outputs;
 mod refusal;
 
+pub use composed::{
+    CutGraph, GraphFilter, MadeGraph, configured_heads_are_timed, graph_machine,
+    graphs_are_drawings, graphs_have_open_pads, make_graph, texts_are_limited,
+    written_graphs_have_filters,
+};
 pub use configuring::{Configured, configure_graph};
 pub use drawing::drawn;
 pub use laws::{graphs_by_example, refusals_are_of_filters};

@@ -1,8 +1,8 @@
 ghost use Rattle.std.specs.Prelude.{◌≡◌, ◌⊎◌, ◌<◌, IfOk, IfErr, OnOk, Ok, Err, [], ◌∷◌, ◌++◌, map, length, replicate, slice_get, slice_index_or, slice_set};
 ghost use Rattle.std.specs.Option.{option_map};
-ghost use Rattle.ff_values.specs.declared.config.ConfigError.TheVariants as fault;
+ghost use Rattle.ff_frame.specs.declared.config.ConfigError.TheVariants as fault;
 ghost use Rattle.ff_filter.specs.Views.{View};
-ghost use Rattle.ff_drawn.specs.Links.{seen, all_seen, pads_in};
+ghost use Rattle.ff_graph_links.specs.pads.Links.{seen, all_seen, pads_in};
 ghost use Rattle.ff_graph.specs.Opens.{sources_in, open_pads};
 ghost use Rattle.ff_graph.specs.Configured.{Made, heads_into as heads_to, made_on, made_of, make_from, none_made};
 ghost use Rattle.ff_graph.specs.Pads.{heads_in, filtered_by, made_by, IsRefusal};
@@ -10,10 +10,10 @@ ghost use Rattle.ff_graph.specs.Pads.{heads_in, filtered_by, made_by, IsRefusal}
 use crate::fitting::{is_misfit, is_surplus};
 use crate::heads::heads_into;
 use crate::refusal::{Refusal, refuse};
-use ff_drawn::{Drawn, Pad, open_inputs, sources};
 use ff_filter::Filter;
 use ff_filters::{AnyFilter, FilterName, configure, named};
 use ff_frame::{ConfigError, StreamHead};
+use ff_graph_links::{Drawn, Pad, open_inputs, sources};
 use std::alloc::{AllocError, Global};
 
 // The heads of what comes to the input pads of a filter. None where one has no stream.

@@ -1,13 +1,13 @@
 ghost use Rattle.std.specs.Prelude.{◌≡◌, IfOk, map, slice_get};
 ghost use Rattle.std.specs.Option.{option_copied};
-ghost use Rattle.ff_drawn.specs.Links.{all_seen};
+ghost use Rattle.ff_graph_links.specs.pads.Links.{all_seen};
 ghost use Rattle.ff_filters.specs.Names.{filter_named};
 ghost use Rattle.ff_graph.specs.Opens.{is_known as known, takes_sound_as, open_in, open_ins};
 ghost use Rattle.ff_graph.specs.Pads.{input_of};
 
 use crate::drawing::drawn;
-use ff_drawn::{Drawn, Pad, sources};
 use ff_filters::{named, takes_sound};
+use ff_graph_links::{Drawn, Pad, sources};
 use ff_lang::{Filter, Graph, Text};
 use std::alloc::{AllocError, Global};
 
@@ -70,7 +70,7 @@ pub fn open_inputs<'a>(alloc: Global, graph: &'a Graph) -> Result<Vec<OpenInput<
 {
     let filters = drawn(alloc, graph)?;
     let fed = sources(alloc, &filters)?;
-    let pads = ff_drawn::open_inputs(alloc, &fed)?;
+    let pads = ff_graph_links::open_inputs(alloc, &fed)?;
     let mut inputs = Vec::new(alloc);
     'pads: for at in 0..pads.len() {
         inputs.push(open_input(&filters, pads[at]))?;

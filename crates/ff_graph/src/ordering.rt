@@ -1,12 +1,11 @@
 ghost use Rattle.std.specs.Prelude.{◌≡◌, ℕ, List, IfOk, IfSome, Ok, None, is_some, not};
-ghost use Rattle.ff_drawn.specs.Links.{all_seen};
-ghost use Rattle.ff_order.specs.Orders.{IsOrder, IsLowestOrder, loops as is_looped};
+ghost use Rattle.ff_graph_links.specs.pads.Links.{all_seen};
+ghost use Rattle.ff_graph_links.specs.orders.Orders.{IsOrder, IsLowestOrder, loops as is_looped};
 ghost use Rattle.ff_graph.specs.Opens.{feeders_in, filter_order, loops};
 
 use crate::drawing::drawn;
-use ff_drawn::{Drawn, feeders};
+use ff_graph_links::{Drawn, feeders, order};
 use ff_lang::Graph;
-use ff_order::order;
 use std::alloc::{AllocError, Global};
 
 /// The order in which the filters of a graph are made: each behind those that feed it, else by number. None only where there is

@@ -3,21 +3,21 @@ use Rattle.std.proofs.Common.{Result, Ok, Err, OnOk, OnErr, ◌≡◌, ◌≢◌
 use Rattle.std.proofs.Common.{slice_set, refl, ap, sym, ◌∙◌, subst, arith}
 use Rattle.std.proofs.lemmas.List.{get_or-set_same, get_or-set_other}
 use Rattle.std.specs.declared.alloc.AllocError.{AllocError}
-use Rattle.ff_frame.specs.declared.item.Item.{Item}
-use Rattle.ff_frame.specs.Ports.{nothing}
+use Rattle.ff_stream.specs.declared.item.Item.{Item}
+use Rattle.ff_stream.specs.Ports.{nothing}
 use Rattle.ff_filter.specs.Joins.{silence}
 use Rattle.ff_filter.specs.Views.{View, Same}
-use Rattle.ff_dag.specs.declared.graph.Port.{Port}
-use Rattle.ff_dag.specs.declared.graph.Wire.{Wire}
-use Rattle.ff_dag.specs.declared.graph.Plan.{Plan}
-use Rattle.ff_dag.specs.declared.placed.Placed.{Placed}
-use Rattle.ff_dag.specs.Dags.{Spot, spot_of, held_at, IsReady, Delivered, Kept, Stored, Pulled}
-use Rattle.ff_dag.specs.Graphs.{spots, no_spot, spot_at, wire_at, port_held, graph_view, Sound, IsCarried, IsEmpty, to_go, InThere}
-use Rattle.ff_dag.specs.Readings.{spots_size}
-use Rattle.ff_dag.proofs.Edges.{stored}
-use Rattle.ff_dag.proofs.Moving.{spots_set, spot_is, size_set, node_of, to_there, from_there, kept_carried, kept_sound, kept_same, delivered_sound}
-use Rattle.ff_dag.proofs.Moving.{delivered_same, delivered_less}
-use Rattle.ff_dag.proofs.Drawing.{drawn_sound, drawn_same, drawn_less}
+use Rattle.ff_graph_dag.specs.declared.graph.Port.{Port}
+use Rattle.ff_graph_dag.specs.declared.graph.Wire.{Wire}
+use Rattle.ff_graph_dag.specs.declared.graph.Plan.{Plan}
+use Rattle.ff_graph_dag.specs.declared.placed.Placed.{Placed}
+use Rattle.ff_graph_dag.specs.Dags.{Spot, spot_of, held_at, IsReady, Delivered, Kept, Stored, Pulled}
+use Rattle.ff_graph_dag.specs.Graphs.{spots, no_spot, spot_at, wire_at, port_held, graph_view, Sound, IsCarried, IsEmpty, to_go, InThere}
+use Rattle.ff_graph_dag.specs.Readings.{spots_size}
+use Rattle.ff_graph_dag.proofs.Edges.{stored}
+use Rattle.ff_graph_dag.proofs.Moving.{spots_set, spot_is, size_set, node_of, to_there, from_there, kept_carried, kept_sound, kept_same, delivered_sound}
+use Rattle.ff_graph_dag.proofs.Moving.{delivered_same, delivered_less}
+use Rattle.ff_graph_dag.proofs.DrawingLemmas.{drawn_sound, drawn_same, drawn_less}
 
 -- the graph is sound, and nothing that can be seen changed
 pub record Fine (p : Plan) (ss ts : List Spot) : Type 0 where

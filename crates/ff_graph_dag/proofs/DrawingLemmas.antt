@@ -3,21 +3,21 @@ use Rattle.std.proofs.Common.{◌≡◌, ◌≢◌, ℕ, suc, ◌+◌, ◌*◌, 
 use Rattle.std.proofs.Common.{None, Some, slice_index_or, slice_set, refl, ap, sym, ◌∙◌, subst, arith}
 use Rattle.std.proofs.lemmas.Bool.Decides.{nat_tests}
 use Rattle.std.proofs.lemmas.List.{get_or-set_same, get_or-set_other}
-use Rattle.ff_frame.specs.declared.item.Item.{Item}
-use Rattle.ff_frame.specs.declared.item.Item.TheVariants.{Audio, Video, Packet, Trailer, End, Broken}
-use Rattle.ff_frame.specs.declared.item.Lane.{Lane}
+use Rattle.ff_stream.specs.declared.item.Item.{Item}
+use Rattle.ff_stream.specs.declared.item.Item.TheVariants.{Audio, Video, Packet, Trailer, End, Broken}
+use Rattle.ff_stream.specs.declared.item.Lane.{Lane}
 use Rattle.ff_filter.specs.Joins.{Flow}
 use Rattle.ff_filter.specs.Joins.{Ports, silence, before, before_if, before_at}
 use Rattle.ff_filter.specs.Views.{View, SamePorts, Same, closes}
 use Rattle.ff_filter.specs.Chains.{held_closes}
-use Rattle.ff_dag.specs.declared.graph.Port.{Port}
-use Rattle.ff_dag.specs.declared.graph.Plan.{Plan}
-use Rattle.ff_dag.specs.Dags.{Spot, held_at, spot_shut, reads, solve_spots, Stored, Pulled}
-use Rattle.ff_dag.specs.Graphs.{no_spot, spot_at, wire_at, port_shut, port_ended, port_stopped, port_held, graph_view, Apart, InThere, OutThere, Sound}
-use Rattle.ff_dag.specs.Graphs.{begins, go_on, to_go}
-use Rattle.ff_dag.specs.Readings.{is_same, is_other}
-use Rattle.ff_dag.proofs.Edges.{reads_free, solve_drawn}
-use Rattle.ff_dag.proofs.Moving.{size_set, node_of, each_by, each_map, each_both, each_all, flags, sum_less, fits_alike, from_there, else_by}
+use Rattle.ff_graph_dag.specs.declared.graph.Port.{Port}
+use Rattle.ff_graph_dag.specs.declared.graph.Plan.{Plan}
+use Rattle.ff_graph_dag.specs.Dags.{Spot, held_at, spot_shut, reads, solve_spots, Stored, Pulled}
+use Rattle.ff_graph_dag.specs.Graphs.{no_spot, spot_at, wire_at, port_shut, port_ended, port_stopped, port_held, graph_view, Apart, InThere, OutThere, Sound}
+use Rattle.ff_graph_dag.specs.Graphs.{begins, go_on, to_go}
+use Rattle.ff_graph_dag.specs.Readings.{is_same, is_other}
+use Rattle.ff_graph_dag.proofs.Edges.{reads_free, solve_drawn}
+use Rattle.ff_graph_dag.proofs.Moving.{size_set, node_of, each_by, each_map, each_both, each_all, flags, sum_less, fits_alike, from_there, else_by}
 
 -- the same ports, and as much room
 pub record Alikes (u v : Spot) : Type 0 where

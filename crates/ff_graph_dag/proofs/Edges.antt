@@ -3,17 +3,17 @@ use Rattle.std.proofs.Common.{Result, Ok, Err, OnErr, ◌≡◌, ◌≢◌, ℕ,
 use Rattle.std.proofs.Common.{length, Option, None, Some, slice_index_or, slice_set, refl, ap, sym, ◌∙◌, arith}
 use Rattle.std.proofs.lemmas.Bool.Decides.{nat_tests}
 use Rattle.std.specs.declared.alloc.AllocError.{AllocError}
-use Rattle.ff_frame.specs.declared.item.Item.{Item}
-use Rattle.ff_frame.specs.Ports.{nothing}
+use Rattle.ff_stream.specs.declared.item.Item.{Item}
+use Rattle.ff_stream.specs.Ports.{nothing}
 use Rattle.ff_filter.specs.Joins.{Flow}
 use Rattle.ff_net.specs.Nets.{put_all}
 use Rattle.ff_filter.specs.Joins.{Ports, before, before_if, before_at}
 use Rattle.ff_filter.specs.Views.{View, Same, Fed, Gave, closes}
 use Rattle.ff_filter.specs.Chains.{after_held, held_closes}
-use Rattle.ff_dag.specs.declared.graph.Node.{Node}
-use Rattle.ff_dag.specs.Dags.{Spot, held_at, spot_shut, reads, comes, gives, after, solve_spots, Free, StandsAt, Untouched, AllUntouched, Reads, Leaves, Leads}
-use Rattle.ff_dag.specs.Dags.{Kept, Delivered, Stored, Pulled}
-use Rattle.ff_dag.specs.Readings.{is_other, is_same}
+use Rattle.ff_graph_dag.specs.declared.graph.Node.{Node}
+use Rattle.ff_graph_dag.specs.Dags.{Spot, held_at, spot_shut, reads, comes, gives, after, solve_spots, Free, StandsAt, Untouched, AllUntouched, Reads, Leaves, Leads}
+use Rattle.ff_graph_dag.specs.Dags.{Kept, Delivered, Stored, Pulled}
+use Rattle.ff_graph_dag.specs.Readings.{is_other, is_same}
 
 suc_zero : (p : ℕ) → (suc p == 0) ≡ false
 suc_zero p = grind (arith, nat_tests)

@@ -3,23 +3,23 @@ use Rattle.std.proofs.Common.{Result, Ok, Err, OnErr, ◌≡◌, ℕ, zero, suc,
 use Rattle.std.proofs.Common.{Some, slice_index_or, slice_set, refl, ap, sym, ◌∙◌, subst, arith}
 use Rattle.std.proofs.lemmas.List.{get_or-set_same}
 use Rattle.std.specs.declared.alloc.AllocError.{AllocError}
-use Rattle.ff_frame.specs.declared.item.Item.{Item}
-use Rattle.ff_frame.specs.declared.item.Lane.{Lane}
-use Rattle.ff_frame.specs.Ports.{nothing}
+use Rattle.ff_stream.specs.declared.item.Item.{Item}
+use Rattle.ff_stream.specs.declared.item.Lane.{Lane}
+use Rattle.ff_stream.specs.Ports.{nothing}
 use Rattle.ff_filter.specs.Joins.{Ports, silence, before_if, before_at}
 use Rattle.ff_filter.specs.Views.{View, Same, Gave, closes}
 use Rattle.ff_filter.specs.Chains.{held_closes}
-use Rattle.ff_dag.specs.declared.graph.Port.{Port}
-use Rattle.ff_dag.specs.declared.graph.Plan.{Plan}
-use Rattle.ff_dag.specs.declared.placed.Placed.{Placed}
-use Rattle.ff_dag.specs.Dags.{Spot, spot_of, held_at, reads, solve_spots, Kept, Pulled}
-use Rattle.ff_dag.specs.Graphs.{spots, no_spot, spot_at, no_port, pad_at, edge_at, wire_at, flag_at, port_shut, port_ended, port_stopped, graph_view, Apart}
-use Rattle.ff_dag.specs.Graphs.{Each, InThere, OutThere, Sound, IsPad, IsCarried, IsQuiet}
-use Rattle.ff_dag.specs.Readings.{is_same, is_other, spots_size, flag_is}
-use Rattle.ff_dag.proofs.Edges.{reads_at, solve_gave}
-use Rattle.ff_dag.proofs.Moving.{spots_set, spot_is, size_set, node_of, each_by, each_map, each_all, flags, fits_alike, from_there, else_by, kept_sound}
-use Rattle.ff_dag.proofs.Moving.{kept_same, kept_carried}
-use Rattle.ff_dag.proofs.Drawing.{Alikes, alikes_self}
+use Rattle.ff_graph_dag.specs.declared.graph.Port.{Port}
+use Rattle.ff_graph_dag.specs.declared.graph.Plan.{Plan}
+use Rattle.ff_graph_dag.specs.declared.placed.Placed.{Placed}
+use Rattle.ff_graph_dag.specs.Dags.{Spot, spot_of, held_at, reads, solve_spots, Kept, Pulled}
+use Rattle.ff_graph_dag.specs.Graphs.{spots, no_spot, spot_at, no_port, pad_at, edge_at, wire_at, flag_at, port_shut, port_ended, port_stopped, graph_view, Apart}
+use Rattle.ff_graph_dag.specs.Graphs.{Each, InThere, OutThere, Sound, IsPad, IsCarried, IsQuiet}
+use Rattle.ff_graph_dag.specs.Readings.{is_same, is_other, spots_size, flag_is}
+use Rattle.ff_graph_dag.proofs.Edges.{reads_at, solve_gave}
+use Rattle.ff_graph_dag.proofs.Moving.{spots_set, spot_is, size_set, node_of, each_by, each_map, each_all, flags, fits_alike, from_there, else_by, kept_sound}
+use Rattle.ff_graph_dag.proofs.Moving.{kept_same, kept_carried}
+use Rattle.ff_graph_dag.proofs.DrawingLemmas.{Alikes, alikes_self}
 
 pub flags_by : (ps : List Port) (f g : Port → Bool) (q : ℕ) → (q < length ps → f (slice_index_or ps q no_port) ≡ g (slice_index_or ps q no_port))
     → flag_at ps f q ≡ flag_at ps g q

@@ -1,5 +1,5 @@
 pub mod Carrying
-pub mod Drawing
+pub mod DrawingLemmas
 pub mod Edges
 pub mod Entering
 pub mod Giving
@@ -8,3 +8,5 @@ pub mod Silence
 pub mod Stopping
 pub mod Sweeping
 pub mod Telling
+pub mod TiesLemmas
+pub mod WiringLemmas

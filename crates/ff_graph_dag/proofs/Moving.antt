@@ -3,18 +3,18 @@ use Rattle.std.proofs.Common.{◌≡◌, ◌≢◌, ℕ, zero, suc, ◌+◌, ◌
 use Rattle.std.proofs.Common.{Option, None, Some, slice_index_or, slice_set, refl, ap, sym, ◌∙◌, subst, arith}
 use Rattle.std.proofs.lemmas.Bool.Decides.{nat_tests}
 use Rattle.std.proofs.lemmas.List.{get_or-set_same, get_or-set_other}
-use Rattle.ff_frame.specs.declared.item.Item.{Item}
-use Rattle.ff_frame.specs.declared.item.Lane.{Lane}
+use Rattle.ff_stream.specs.declared.item.Item.{Item}
+use Rattle.ff_stream.specs.declared.item.Lane.{Lane}
 use Rattle.ff_filter.specs.Joins.{Ports, silence}
 use Rattle.ff_filter.specs.Views.{View, SamePorts, Same}
-use Rattle.ff_dag.specs.declared.graph.Node.{Node}
-use Rattle.ff_dag.specs.declared.graph.Port.{Port}
-use Rattle.ff_dag.specs.declared.graph.Plan.{Plan}
-use Rattle.ff_dag.specs.declared.placed.Placed.{Placed}
-use Rattle.ff_dag.specs.Dags.{Spot, spot_of, held_at, reads, solve_spots, Alike, Kept, Delivered}
-use Rattle.ff_dag.specs.Graphs.{spots, no_spot, spot_at, wire_at, flag_at, port_shut, port_ended, port_stopped, port_held, graph_view, Apart, Each, InThere}
-use Rattle.ff_dag.specs.Graphs.{OutThere, Fits, Sound, IsCarried, begins, go_on, sum_below, to_go}
-use Rattle.ff_dag.proofs.Edges.{solve_same, kept_self}
+use Rattle.ff_graph_dag.specs.declared.graph.Node.{Node}
+use Rattle.ff_graph_dag.specs.declared.graph.Port.{Port}
+use Rattle.ff_graph_dag.specs.declared.graph.Plan.{Plan}
+use Rattle.ff_graph_dag.specs.declared.placed.Placed.{Placed}
+use Rattle.ff_graph_dag.specs.Dags.{Spot, spot_of, held_at, reads, solve_spots, Alike, Kept, Delivered}
+use Rattle.ff_graph_dag.specs.Graphs.{spots, no_spot, spot_at, wire_at, flag_at, port_shut, port_ended, port_stopped, port_held, graph_view, Apart, Each, InThere}
+use Rattle.ff_graph_dag.specs.Graphs.{OutThere, Fits, Sound, IsCarried, begins, go_on, sum_below, to_go}
+use Rattle.ff_graph_dag.proofs.Edges.{solve_same, kept_self}
 
 -- lists ---------------------------------------------------------------------------------------------------------
 

@@ -2,17 +2,17 @@
 use Rattle.std.proofs.Common.{◌≡◌, ℕ, zero, suc, ◌<◌, ◌==◌, ◌||◌, Bool, true, false, cond, is_some, List, [], ◌∷◌, length, Option, None, Some}
 use Rattle.std.proofs.Common.{slice_index_or, refl, sym, ◌∙◌, subst, arith}
 use Rattle.std.proofs.lemmas.Bool.Decides.{nat_tests}
-use Rattle.ff_frame.specs.declared.item.Item.{Item}
-use Rattle.ff_frame.specs.Ports.{nothing}
+use Rattle.ff_stream.specs.declared.item.Item.{Item}
+use Rattle.ff_stream.specs.Ports.{nothing}
 use Rattle.ff_filter.specs.Joins.{Ports, silence}
-use Rattle.ff_dag.specs.declared.graph.Node.{Node}
-use Rattle.ff_dag.specs.declared.graph.Port.{Port}
-use Rattle.ff_dag.specs.declared.graph.Plan.{Plan}
-use Rattle.ff_dag.specs.Dags.{Spot, held_at, reads, solve_spots}
-use Rattle.ff_dag.specs.Graphs.{no_spot, spot_at, pad_at, edge_at, wire_at, port_held, graph_view, Sound, IsEmpty, AreEmpty, IsQuiet, among, ways_of, on_way}
-use Rattle.ff_dag.specs.Graphs.{out_edge, in_edge, is_port, comes_from, IsCone}
-use Rattle.ff_dag.specs.Readings.{at_is, port_is, from_is, own_way, is_way, read_is}
-use Rattle.ff_dag.proofs.Sweeping.{Quiets, solve_quiet, gives_quiet}
+use Rattle.ff_graph_dag.specs.declared.graph.Node.{Node}
+use Rattle.ff_graph_dag.specs.declared.graph.Port.{Port}
+use Rattle.ff_graph_dag.specs.declared.graph.Plan.{Plan}
+use Rattle.ff_graph_dag.specs.Dags.{Spot, held_at, reads, solve_spots}
+use Rattle.ff_graph_dag.specs.Graphs.{no_spot, spot_at, pad_at, edge_at, wire_at, port_held, graph_view, Sound, IsEmpty, AreEmpty, IsQuiet, among, ways_of, on_way}
+use Rattle.ff_graph_dag.specs.Graphs.{out_edge, in_edge, is_port, comes_from, IsCone}
+use Rattle.ff_graph_dag.specs.Readings.{at_is, port_is, from_is, own_way, is_way, read_is}
+use Rattle.ff_graph_dag.proofs.Sweeping.{Quiets, solve_quiet, gives_quiet}
 
 -- flags ---------------------------------------------------------------------------------------------------------
 

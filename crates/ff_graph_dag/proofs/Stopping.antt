@@ -3,24 +3,24 @@ use Rattle.std.proofs.Common.{◌≡◌, ◌≢◌, ℕ, zero, suc, ◌<◌, ◌
 use Rattle.std.proofs.Common.{slice_index_or, slice_set, refl, ap, sym, ◌∙◌, subst, arith}
 use Rattle.std.proofs.lemmas.Bool.Decides.{nat_tests}
 use Rattle.std.proofs.lemmas.List.{get_or-set_same}
-use Rattle.ff_frame.specs.declared.item.Item.{Item}
-use Rattle.ff_frame.specs.declared.item.Lane.{Lane}
+use Rattle.ff_stream.specs.declared.item.Item.{Item}
+use Rattle.ff_stream.specs.declared.item.Lane.{Lane}
 use Rattle.ff_net.specs.Nets.{put_all}
 use Rattle.ff_filter.specs.Joins.{Flow, Ports}
 use Rattle.ff_filter.specs.Views.{View, Stopped}
 use Rattle.ff_filter.specs.Chains.{after_held, held_closes}
-use Rattle.ff_dag.specs.declared.graph.Node.{Node}
-use Rattle.ff_dag.specs.declared.graph.Port.{Port}
-use Rattle.ff_dag.specs.declared.graph.Plan.{Plan}
-use Rattle.ff_dag.specs.declared.placed.Placed.{Placed}
-use Rattle.ff_dag.specs.Dags.{Spot, spot_of, held_at, reads, comes, gives, after, solve_spots, Free, StandsAt, AllUntouched, Leaves, Halted}
-use Rattle.ff_dag.specs.Graphs.{spots, no_spot, spot_at, pad_at, edge_at, wire_at, port_shut, port_ended, port_stopped, graph_view, Apart, InThere}
-use Rattle.ff_dag.specs.Graphs.{OutThere, Sound, IsPad}
-use Rattle.ff_dag.specs.Readings.{spots_size, flag_is}
-use Rattle.ff_dag.proofs.Edges.{OutsFit, gives_by}
-use Rattle.ff_dag.proofs.Moving.{spots_set, spot_is, size_set, node_of, each_by, each_map, each_all, flags, fits_alike, from_there, else_by}
-use Rattle.ff_dag.proofs.Drawing.{Alikes, alikes_self}
-use Rattle.ff_dag.proofs.Giving.{flags_by, each_at}
+use Rattle.ff_graph_dag.specs.declared.graph.Node.{Node}
+use Rattle.ff_graph_dag.specs.declared.graph.Port.{Port}
+use Rattle.ff_graph_dag.specs.declared.graph.Plan.{Plan}
+use Rattle.ff_graph_dag.specs.declared.placed.Placed.{Placed}
+use Rattle.ff_graph_dag.specs.Dags.{Spot, spot_of, held_at, reads, comes, gives, after, solve_spots, Free, StandsAt, AllUntouched, Leaves, Halted}
+use Rattle.ff_graph_dag.specs.Graphs.{spots, no_spot, spot_at, pad_at, edge_at, wire_at, port_shut, port_ended, port_stopped, graph_view, Apart, InThere}
+use Rattle.ff_graph_dag.specs.Graphs.{OutThere, Sound, IsPad}
+use Rattle.ff_graph_dag.specs.Readings.{spots_size, flag_is}
+use Rattle.ff_graph_dag.proofs.Edges.{OutsFit, gives_by}
+use Rattle.ff_graph_dag.proofs.Moving.{spots_set, spot_is, size_set, node_of, each_by, each_map, each_all, flags, fits_alike, from_there, else_by}
+use Rattle.ff_graph_dag.proofs.DrawingLemmas.{Alikes, alikes_self}
+use Rattle.ff_graph_dag.proofs.Giving.{flags_by, each_at}
 
 -- the same on every other edge ------------------------------------------------------------------------------------
 

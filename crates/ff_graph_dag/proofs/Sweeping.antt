@@ -2,19 +2,19 @@
 use Rattle.std.proofs.Common.{◌≡◌, ℕ, zero, suc, ◌+◌, ◌*◌, ◌<◌, ◌≤◌, ◌==◌, if◌then◌else◌, Bool, true, false, cond, is_some, List, [], ◌∷◌, length}
 use Rattle.std.proofs.Common.{map, take, Option, None, Some, slice_index_or, refl, ap, sym, ◌∙◌, subst, arith}
 use Rattle.std.proofs.lemmas.Bool.Decides.{nat_tests}
-use Rattle.ff_frame.specs.declared.item.Item.{Item}
-use Rattle.ff_frame.specs.Ports.{nothing}
+use Rattle.ff_stream.specs.declared.item.Item.{Item}
+use Rattle.ff_stream.specs.Ports.{nothing}
 use Rattle.ff_filter.specs.Joins.{Flow}
 use Rattle.ff_net.specs.Nets.{put_all}
 use Rattle.ff_filter.specs.Joins.{Ports, silence}
-use Rattle.ff_dag.specs.declared.graph.Node.{Node}
-use Rattle.ff_dag.specs.declared.graph.Port.{Port}
-use Rattle.ff_dag.specs.declared.graph.Plan.{Plan}
-use Rattle.ff_dag.specs.Dags.{Spot, held_at, reads, comes, gives, after, solve_spots, Kept}
-use Rattle.ff_dag.specs.Graphs.{no_spot, spot_at, wire_at, port_held, port_ended, Sound, IsCarried, IsEmpty, AreEmpty, begins, go_on, to_go}
-use Rattle.ff_dag.specs.Readings.{at_is}
-use Rattle.ff_dag.proofs.Edges.{solve_alike, kept_self}
-use Rattle.ff_dag.proofs.Moving.{sum_same}
+use Rattle.ff_graph_dag.specs.declared.graph.Node.{Node}
+use Rattle.ff_graph_dag.specs.declared.graph.Port.{Port}
+use Rattle.ff_graph_dag.specs.declared.graph.Plan.{Plan}
+use Rattle.ff_graph_dag.specs.Dags.{Spot, held_at, reads, comes, gives, after, solve_spots, Kept}
+use Rattle.ff_graph_dag.specs.Graphs.{no_spot, spot_at, wire_at, port_held, port_ended, Sound, IsCarried, IsEmpty, AreEmpty, begins, go_on, to_go}
+use Rattle.ff_graph_dag.specs.Readings.{at_is}
+use Rattle.ff_graph_dag.proofs.Edges.{solve_alike, kept_self}
+use Rattle.ff_graph_dag.proofs.Moving.{sum_same}
 
 pub carried_self : (ss : List Spot) → IsCarried ss ss
 carried_self ss = record { size = refl; kept = λ k. kept_self (spot_at ss k) }

@@ -3,10 +3,10 @@ use Rattle.std.proofs.Common.{Result, Ok, Err, OnOk, OnErr, ◌≡◌, ◌≢◌
 use Rattle.std.proofs.Common.{slice_set, replicate, refl, ap, sym, ◌∙◌, subst, arith}
 use Rattle.std.proofs.lemmas.Bool.Decides.{nat_tests}
 use Rattle.std.proofs.lemmas.List.{get_or-set_same, get_or-set_other}
-use Rattle.ff_frame.specs.declared.item.Item.{Item}
-use Rattle.ff_frame.specs.declared.item.Lane.{Lane}
+use Rattle.ff_stream.specs.declared.item.Item.{Item}
+use Rattle.ff_stream.specs.declared.item.Lane.{Lane}
 use Rattle.ff_filter.specs.Views.{View, SamePorts, Same, Fed, Gave, Stopped, IsNew, closes}
-use Rattle.ff_dag.specs.Over.{Told}
+use Rattle.ff_graph_dag.specs.Over.{Told}
 
 pub told_same : (u v : View) (bs : List Bool) → SamePorts u v → ((q : ℕ) → v.ended q ≡ u.ended q) → ((q : ℕ) → v.stopped q ≡ u.stopped q) → Told u bs → Told v bs
 told_same u v bs p e s t = record {

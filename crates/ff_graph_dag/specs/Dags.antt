@@ -2,14 +2,14 @@
 use Rattle.std.specs.Prelude.{◌≡◌, ◌≢◌, ℕ, zero, suc, ◌<◌, ◌||◌, Bool, true, false, cond, List, [], ◌∷◌, length, Option, None, Some, is_some}
 use Rattle.std.specs.Prelude.{slice_index_or}
 use Rattle.std.proofs.Math.Nat.{ℕ_set}
-use Rattle.ff_frame.specs.declared.item.Item.{Item}
-use Rattle.ff_frame.specs.Ports.{nothing}
+use Rattle.ff_stream.specs.declared.item.Item.{Item}
+use Rattle.ff_stream.specs.Ports.{nothing}
 use Rattle.ff_net.specs.Nets.{put_all}
 use Rattle.ff_filter.specs.Joins.{Ports, before_at}
 use Rattle.ff_filter.specs.Views.{View, SamePorts, closes}
 use Rattle.ff_filter.specs.Chains.{after_held, held_closes}
-use Rattle.ff_dag.specs.declared.graph.Node.{Node}
-use Rattle.ff_dag.specs.declared.placed.Placed.{Placed}
+use Rattle.ff_graph_dag.specs.declared.graph.Node.{Node}
+use Rattle.ff_graph_dag.specs.declared.placed.Placed.{Placed}
 
 -- a filter in its place: what it still gives, and what is held before each input
 pub record Spot : Type 0 where

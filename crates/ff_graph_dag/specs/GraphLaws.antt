@@ -1,22 +1,22 @@
 -- A graph of filters that grow and hide breaks does so too, and an output that was closed gives nothing more.
 use Rattle.std.proofs.Common.{◌≡◌, ℕ, zero, suc, ◌<◌, ◌==◌, if◌then◌else◌, Bool, true, false, cond, List, [], ◌∷◌, length, Option, None, Some}
 use Rattle.std.proofs.Common.{slice_index_or, refl, ap, sym, ◌∙◌, subst, arith}
-use Rattle.ff_frame.specs.declared.item.Item.{Item}
-use Rattle.ff_frame.specs.Stream.{LiesBelow, opened}
-use Rattle.ff_frame.specs.Ports.{nothing}
-use Rattle.ff_frame.specs.Order.{below_self, below_trans}
+use Rattle.ff_stream.specs.declared.item.Item.{Item}
+use Rattle.ff_stream.specs.Stream.{LiesBelow, opened}
+use Rattle.ff_stream.specs.Ports.{nothing}
+use Rattle.ff_stream.specs.Order.{below_self, below_trans}
 use Rattle.ff_net.specs.Nets.{put_all}
 use Rattle.ff_filter.specs.Joins.{Flow, Ports, one, EachBelow, all_opened, Grows, HidesBreaks, opened_joined}
 use Rattle.ff_filter.specs.Views.{View}
 use Rattle.ff_filter.specs.Chains.{after_held}
 use Rattle.ff_filter.specs.ChainLaws.{held_keeps}
-use Rattle.ff_dag.specs.declared.graph.Node.{Node}
-use Rattle.ff_dag.specs.declared.graph.Port.{Port}
-use Rattle.ff_dag.specs.declared.graph.Plan.{Plan}
-use Rattle.ff_dag.specs.declared.placed.Placed.{Placed}
-use Rattle.ff_dag.specs.Dags.{Spot, spot_of, held_at, reads, comes, gives, after, solve_spots, Free, StandsAt, AllUntouched, Leaves}
-use Rattle.ff_dag.specs.Graphs.{spots, no_spot, spot_at, pad_at, edge_at, flag_at, port_ended, graph_view, Sound, IsPad}
-use Rattle.ff_dag.specs.Readings.{is_same, is_other, spots_size, flag_is, read_is}
+use Rattle.ff_graph_dag.specs.declared.graph.Node.{Node}
+use Rattle.ff_graph_dag.specs.declared.graph.Port.{Port}
+use Rattle.ff_graph_dag.specs.declared.graph.Plan.{Plan}
+use Rattle.ff_graph_dag.specs.declared.placed.Placed.{Placed}
+use Rattle.ff_graph_dag.specs.Dags.{Spot, spot_of, held_at, reads, comes, gives, after, solve_spots, Free, StandsAt, AllUntouched, Leaves}
+use Rattle.ff_graph_dag.specs.Graphs.{spots, no_spot, spot_at, pad_at, edge_at, flag_at, port_ended, graph_view, Sound, IsPad}
+use Rattle.ff_graph_dag.specs.Readings.{is_same, is_other, spots_size, flag_is, read_is}
 
 cond_keeps : (b : Bool) (r s : Flow) → LiesBelow r s → LiesBelow (cond b nothing r) (cond b nothing s)
 cond_keeps true r s h = below_self nothing

@@ -4,16 +4,16 @@ use Rattle.std.specs.Prelude.{Option, None, Some, is_some}
 use Rattle.std.proofs.Math.Nat.{ℕ_set}
 use Rattle.std.proofs.Math.Bool.{Bool-set}
 use Rattle.std.specs.Coded.{le_prop}
-use Rattle.ff_frame.specs.Ports.{nothing}
+use Rattle.ff_stream.specs.Ports.{nothing}
 use Rattle.ff_filter.specs.Joins.{silence}
 use Rattle.ff_filter.specs.Views.{View}
-use Rattle.ff_dag.specs.declared.graph.Node.{Node}
-use Rattle.ff_dag.specs.declared.graph.Port.{Port}
-use Rattle.ff_dag.specs.declared.graph.Wire.{Wire}
-use Rattle.ff_dag.specs.declared.graph.Plan.{Plan}
-use Rattle.ff_dag.specs.declared.placed.Placed.{Placed}
-use Rattle.ff_dag.specs.Dags.{Spot, spot_of, held_at, spot_shut, reads, solve_spots, Free, StandsAt, Reads, Leaves, Leads, Kept, Free-prop}
-use Rattle.ff_dag.specs.Dags.{StandsAt-prop, Reads-prop, Leaves-prop, Leads-prop}
+use Rattle.ff_graph_dag.specs.declared.graph.Node.{Node}
+use Rattle.ff_graph_dag.specs.declared.graph.Port.{Port}
+use Rattle.ff_graph_dag.specs.declared.graph.Wire.{Wire}
+use Rattle.ff_graph_dag.specs.declared.graph.Plan.{Plan}
+use Rattle.ff_graph_dag.specs.declared.placed.Placed.{Placed}
+use Rattle.ff_graph_dag.specs.Dags.{Spot, spot_of, held_at, spot_shut, reads, solve_spots, Free, StandsAt, Reads, Leaves, Leads, Kept, Free-prop}
+use Rattle.ff_graph_dag.specs.Dags.{StandsAt-prop, Reads-prop, Leaves-prop, Leads-prop}
 
 abbrev pub spots : {F : Type 0} → (F → View) → List (Placed F) → List Spot
 spots view ps = map (λ p. spot_of view p) ps

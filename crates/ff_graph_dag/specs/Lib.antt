@@ -5,3 +5,5 @@ pub mod Over
 pub mod Parts
 pub mod Readings
 pub mod SettleLaws
+pub mod ties
+pub mod wiring

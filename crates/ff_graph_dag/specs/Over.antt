@@ -3,10 +3,10 @@ use Rattle.std.specs.Prelude.{◌≡◌, ℕ, zero, suc, ◌<◌, ◌||◌, ◌&
 use Rattle.std.proofs.Common.{◌⊎◌, inl, inr, sym, ◌∙◌, arith}
 use Rattle.std.proofs.Math.Nat.{ℕ_set}
 use Rattle.std.proofs.Math.Bool.{Bool-set}
-use Rattle.ff_frame.specs.Ports.{IsClosed}
+use Rattle.ff_stream.specs.Ports.{IsClosed}
 use Rattle.ff_filter.specs.Joins.{silence}
 use Rattle.ff_filter.specs.Views.{View, IsSpent, AllDone}
-use Rattle.ff_dag.specs.Readings.{left_true, right_true}
+use Rattle.ff_graph_dag.specs.Readings.{left_true, right_true}
 
 abbrev pub all_true : List Bool → Bool
 all_true [] = true

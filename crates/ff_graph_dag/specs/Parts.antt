@@ -1,18 +1,18 @@
 -- A graph of filters to which nothing was done stands for the solution of a network of parts.
 use Rattle.std.proofs.Common.{◌≡◌, ℕ, zero, suc, ◌<◌, ◌==◌, if◌then◌else◌, Bool, false, cond, replicate, List, [], ◌∷◌, length, map, Option, None}
 use Rattle.std.proofs.Common.{slice_index_or, refl, ap, sym, ◌∙◌, arith}
-use Rattle.ff_frame.specs.declared.item.Item.{Item}
-use Rattle.ff_frame.specs.Ports.{nothing, stream_at}
+use Rattle.ff_stream.specs.declared.item.Item.{Item}
+use Rattle.ff_stream.specs.Ports.{nothing, stream_at}
 use Rattle.ff_net.specs.Nets.{Part, put_all, solve_from}
-use Rattle.ff_net_filter.specs.Tasks.{listed, ported}
+use Rattle.ff_node_filter.specs.Tasks.{listed, ported}
 use Rattle.ff_filter.specs.Joins.{Flow, Ports}
 use Rattle.ff_filter.specs.Views.{View, IsNew}
 use Rattle.ff_filter.specs.Chains.{after_held}
-use Rattle.ff_dag.specs.declared.graph.Node.{Node}
-use Rattle.ff_dag.specs.declared.graph.Port.{Port}
-use Rattle.ff_dag.specs.declared.graph.Plan.{Plan}
-use Rattle.ff_dag.specs.Dags.{Spot, held_at, spot_shut, reads, comes, gives, after, solve_spots}
-use Rattle.ff_dag.specs.Graphs.{spot_at, flag_at, Fits, port_shut, port_ended, port_stopped, graph_view}
+use Rattle.ff_graph_dag.specs.declared.graph.Node.{Node}
+use Rattle.ff_graph_dag.specs.declared.graph.Port.{Port}
+use Rattle.ff_graph_dag.specs.declared.graph.Plan.{Plan}
+use Rattle.ff_graph_dag.specs.Dags.{Spot, held_at, spot_shut, reads, comes, gives, after, solve_spots}
+use Rattle.ff_graph_dag.specs.Graphs.{spot_at, flag_at, Fits, port_shut, port_ended, port_stopped, graph_view}
 
 -- nothing was fed, given or stopped, and nothing waits
 pub record IsNewSpot (s : Spot) : Type 0 where

@@ -4,11 +4,11 @@ use Rattle.std.proofs.Common.{ap, sym, arith}
 use Rattle.std.proofs.lemmas.Bool.Decides.{nat_tests}
 use Rattle.ff_filter.specs.Joins.{Ports}
 use Rattle.ff_filter.specs.Views.{View}
-use Rattle.ff_dag.specs.declared.graph.Port.{Port}
-use Rattle.ff_dag.specs.declared.graph.Plan.{Plan}
-use Rattle.ff_dag.specs.declared.placed.Placed.{Placed}
-use Rattle.ff_dag.specs.Dags.{reads, StandsAt}
-use Rattle.ff_dag.specs.Graphs.{spots, no_port, edge_at, wire_at, feed_at, flag_at, among, ways_of, on_way, is_port, comes_from, IsEntry}
+use Rattle.ff_graph_dag.specs.declared.graph.Port.{Port}
+use Rattle.ff_graph_dag.specs.declared.graph.Plan.{Plan}
+use Rattle.ff_graph_dag.specs.declared.placed.Placed.{Placed}
+use Rattle.ff_graph_dag.specs.Dags.{reads, StandsAt}
+use Rattle.ff_graph_dag.specs.Graphs.{spots, no_port, edge_at, wire_at, feed_at, flag_at, among, ways_of, on_way, is_port, comes_from, IsEntry}
 
 pub is_other : (u w : ℕ) → u ≢ w → (u == w) ≡ false
 is_other u w n = grind (arith, nat_tests)

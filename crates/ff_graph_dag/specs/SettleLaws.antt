@@ -2,22 +2,22 @@
 use Rattle.std.proofs.Common.{◌≡◌, ◌≢◌, ◌⊎◌, inl, inr, ℕ, zero, suc, ◌<◌, ◌==◌, ◌||◌, if◌then◌else◌, Bool, true, false, cond, is_some, List, [], ◌∷◌, length}
 use Rattle.std.proofs.Common.{Option, None, Some, slice_index_or, refl, ap, sym, ◌∙◌, subst, arith}
 use Rattle.std.proofs.lemmas.Bool.Decides.{nat_tests}
-use Rattle.ff_frame.specs.declared.item.Item.{Item}
-use Rattle.ff_frame.specs.declared.item.Item.TheVariants.{Audio, Video, Packet, Trailer, End, Broken}
-use Rattle.ff_frame.specs.Ports.{nothing, IsClosed}
+use Rattle.ff_stream.specs.declared.item.Item.{Item}
+use Rattle.ff_stream.specs.declared.item.Item.TheVariants.{Audio, Video, Packet, Trailer, End, Broken}
+use Rattle.ff_stream.specs.Ports.{nothing, IsClosed}
 use Rattle.ff_net.specs.Nets.{put_all}
 use Rattle.ff_filter.specs.Joins.{Flow, Ports, one, before, joined_closed}
 use Rattle.ff_filter.specs.Views.{View, Settles, closes}
 use Rattle.ff_filter.specs.Chains.{after_held, held_closes}
-use Rattle.ff_dag.specs.declared.graph.Node.{Node}
-use Rattle.ff_dag.specs.declared.graph.Port.{Port}
-use Rattle.ff_dag.specs.declared.graph.Plan.{Plan}
-use Rattle.ff_dag.specs.declared.placed.Placed.{Placed}
-use Rattle.ff_dag.specs.Dags.{Spot, held_at, spot_shut, reads, comes, gives, after, solve_spots, Free, StandsAt, AllUntouched, Reads, Leaves, Leads}
-use Rattle.ff_dag.specs.Graphs.{spots, no_spot, spot_at, pad_at, edge_at, wire_at, port_shut, port_ended, port_stopped, graph_view, Fits, Sound, among}
-use Rattle.ff_dag.specs.Graphs.{ways_of, on_way, out_edge, in_edge, is_port, comes_from, IsCone}
-use Rattle.ff_dag.specs.Readings.{spots_size, at_is, flag_is, port_is, from_is, own_way, is_way, read_is, feed_is}
-use Rattle.ff_dag.specs.GraphLaws.{all_spots}
+use Rattle.ff_graph_dag.specs.declared.graph.Node.{Node}
+use Rattle.ff_graph_dag.specs.declared.graph.Port.{Port}
+use Rattle.ff_graph_dag.specs.declared.graph.Plan.{Plan}
+use Rattle.ff_graph_dag.specs.declared.placed.Placed.{Placed}
+use Rattle.ff_graph_dag.specs.Dags.{Spot, held_at, spot_shut, reads, comes, gives, after, solve_spots, Free, StandsAt, AllUntouched, Reads, Leaves, Leads}
+use Rattle.ff_graph_dag.specs.Graphs.{spots, no_spot, spot_at, pad_at, edge_at, wire_at, port_shut, port_ended, port_stopped, graph_view, Fits, Sound, among}
+use Rattle.ff_graph_dag.specs.Graphs.{ways_of, on_way, out_edge, in_edge, is_port, comes_from, IsCone}
+use Rattle.ff_graph_dag.specs.Readings.{spots_size, at_is, flag_is, port_is, from_is, own_way, is_way, read_is, feed_is}
+use Rattle.ff_graph_dag.specs.GraphLaws.{all_spots}
 
 -- no filter of the list gives the edge, or none from this place on
 abbrev pub Late : ℕ → List Node → Type 0

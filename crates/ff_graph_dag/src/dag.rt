@@ -1,16 +1,16 @@
 ghost use Rattle.std.specs.Prelude.{◌≡◌, ℕ, IfOk, replicate, false};
 ghost use Rattle.ff_filter.specs.Joins.{Ports};
-ghost use Rattle.ff_dag.specs.Parts.{AreNew, composed};
+ghost use Rattle.ff_graph_dag.specs.Parts.{AreNew, composed};
 ghost use Rattle.ff_filter.specs.Views.{IsNew};
-ghost use Rattle.ff_dag.specs.Graphs.{graph_view, spots, Sound};
-ghost use Rattle.ff_dag.specs.GraphLaws.{graph_grows, graph_hides, graph_quiet};
-ghost use Rattle.ff_dag.specs.SettleLaws.{graph_settles};
-ghost use Rattle.ff_dag.specs.Over.{Told, Told-prop, all_true, each_over, graph_spends, graph_spent_only, graph_shut_spent, graph_done_spent};
+ghost use Rattle.ff_graph_dag.specs.Graphs.{graph_view, spots, Sound};
+ghost use Rattle.ff_graph_dag.specs.GraphLaws.{graph_grows, graph_hides, graph_quiet};
+ghost use Rattle.ff_graph_dag.specs.SettleLaws.{graph_settles};
+ghost use Rattle.ff_graph_dag.specs.Over.{Told, Told-prop, all_true, each_over, graph_spends, graph_spent_only, graph_shut_spent, graph_done_spent};
 
 use crate::graph::{Graph, Plan};
 use crate::placed::{Placed, is_last};
 use ff_filter::Filter;
-use ff_frame::{Item, Refused};
+use ff_stream::{Item, Refused};
 use std::alloc::{AllocError, Global};
 
 /// Filters fed by filters, as one filter.

@@ -1,11 +1,11 @@
 ghost use Rattle.std.specs.Prelude.{◌≡◌, ◌<◌, length, Option, None, Ok, Some, OnOk, OnErr, IfOk, IfErr, true, false};
-ghost use Rattle.ff_dag.specs.Graphs.{Sound, Sound-prop, graph_view, spots, to_go, IsCarried, IsEmpty, AreEmpty, IsQuiet, ways_of, port_held, wire_at};
-ghost use Rattle.ff_frame.specs.declared.item.Item.{Item};
+ghost use Rattle.ff_graph_dag.specs.Graphs.{Sound, Sound-prop, graph_view, spots, to_go, IsCarried, IsEmpty, AreEmpty, IsQuiet, ways_of, port_held, wire_at};
+ghost use Rattle.ff_stream.specs.declared.item.Item.{Item};
 ghost use Rattle.ff_filter.specs.Views.{Same, Fed, Gave, Waits, Stopped};
 
 use crate::placed::Placed;
 use ff_filter::Filter;
-use ff_frame::{Item, Lane, Refused};
+use ff_stream::{Item, Lane, Refused};
 use std::alloc::AllocError;
 
 /// A port of a filter: the filter by its number, and the port by its number there.

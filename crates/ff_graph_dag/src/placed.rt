@@ -1,13 +1,13 @@
 ghost use Rattle.std.specs.Prelude.{◌≡◌, ℕ, ◌<◌, length, slice_set, replicate, is_some, IfOk, Option, None, Ok, Some, OnOk, OnErr, true, false, refl};
 ghost use Rattle.ff_filter.specs.Joins.{silence, Ports};
-ghost use Rattle.ff_frame.specs.Ports.{nothing};
+ghost use Rattle.ff_stream.specs.Ports.{nothing};
 ghost use Rattle.ff_filter.specs.Views.{Gave, Waits, Same, Stopped, IsNew, closes};
 ghost use Rattle.ff_filter.specs.Chains.{held_closes};
-ghost use Rattle.ff_dag.specs.Parts.{IsNewSpot};
-ghost use Rattle.ff_dag.specs.Dags.{spot_of, spot_shut, held_at, IsReady, Delivered, Kept, Pulled, Halted};
+ghost use Rattle.ff_graph_dag.specs.Parts.{IsNewSpot};
+ghost use Rattle.ff_graph_dag.specs.Dags.{spot_of, spot_shut, held_at, IsReady, Delivered, Kept, Pulled, Halted};
 
 use ff_filter::Filter;
-use ff_frame::{Item, Refused};
+use ff_stream::{Item, Refused};
 use std::alloc::{AllocError, Global};
 
 /// A filter, and one item that waits before each input.

@@ -5,9 +5,8 @@
 //!              └────► None: an edge doesn't lead where it stands
 //! ```
 //!
-//! `specs/Tied` says what is looked at; that it makes a plan sound for filters to which nothing was done is proved, once for any
+//! `specs/ties/Tied` says what is looked at; that it makes a plan sound for filters to which nothing was done is proved, once for any
 //! plan (`tied_plans_are_sound`).
-#![tactic(auto)]
 
 mod edges;
 mod laws;

@@ -1,4 +1,4 @@
-mod Faults
-mod Orders
-mod Own
-mod Tabled
+pub mod Faults
+pub mod Orders
+pub mod Own
+pub mod Tabled

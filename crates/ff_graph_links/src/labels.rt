@@ -1,10 +1,9 @@
 //! Names, labels and order of filtergraphs: what a plan asks of a job's graphs before it numbers nodes.
 //!
 //! A label at an input pad names the output pad of a complex graph that has it, else a stream of an input, so graphs feed graphs.
-//! `specs/Labels` says which labels a graph takes and gives, `specs/Names` what is wrong with names and labels, and what comes first,
-//! `specs/Order` which graph feeds which, which lies on a loop, and in which order they stand: each behind those that feed it, else
+//! `specs/labels/Labels` says which labels a graph takes and gives, `specs/labels/Names` what is wrong with names and labels, and what comes first,
+//! `specs/labels/Order` which graph feeds which, which lies on a loop, and in which order they stand: each behind those that feed it, else
 //! by number.
-#![tactic(auto)]
 
 mod alone;
 mod fault;

@@ -4,7 +4,6 @@
 //!   0 ◄── 2 ◄── 1        0, 2, 1: of those whose feeders were all taken, the lowest is taken next
 //!   3 ◄─► 4              no order: each waits for the other
 //! ```
-#![tactic(auto)]
 
 mod laws;
 mod taking;

@@ -7,7 +7,6 @@
 //!
 //! How many pads a filter has is told; what its labels and its place in its chain make of them is said here. An input pad that no
 //! filter of the graph feeds is open: something from outside comes there.
-#![tactic(auto)]
 
 mod drawn;
 mod feeding;

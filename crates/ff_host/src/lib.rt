@@ -5,12 +5,15 @@
 //! host. Each counts its faults, a host by name and direction, and answers `Failed` only where the count rose. A host
 //! keeps its counts by name in a [`Table`] of [`Marks`]. [`Begun`] is a source of which some bytes were read already.
 //!
-//! The hosts in memory are in ff_memory_host, the one over the machine's files in the program.
+//! The hosts in memory are in ff_host, the one over the machine's files in the program.
+//!
+//! `memory`: Hosts in memory.
 #![tactic(auto)]
 
 mod begun;
 mod fill;
 mod host;
+mod memory;
 mod sink;
 mod source;
 mod tally;
@@ -18,6 +21,10 @@ mod tally;
 pub use begun::Begun;
 pub use fill::copy_front;
 pub use host::{Host, HostError};
+pub use memory::{
+    FailAt, HostCall, MeetHost, MeetSource, MemHost, MemSink, MemSource, QuietHost, QuietSink,
+    QuietSource,
+};
 pub use sink::{Sink, SinkError};
 pub use source::{Failed, Source};
 pub use tally::{Marks, Table, make_room, marks_of, set_marks};

@@ -2,7 +2,6 @@
 //!
 //! [`QuietHost`] holds its files in memory and never fails; [`MemHost`] stands on it and fails exactly where it was
 //! planned. On it stands [`MeetHost`] as well, whose sources fail where two of them aren't read at one time.
-#![tactic(auto)]
 
 mod contents;
 mod meet_host;

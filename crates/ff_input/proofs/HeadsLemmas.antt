@@ -1,3 +1,3 @@
-mod FirstBytes
-mod Told
-mod Walking
+pub mod FirstBytes
+pub mod Told
+pub mod Walking

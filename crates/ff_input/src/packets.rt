@@ -5,11 +5,10 @@
 //! bytes ──► feed, reserve, end ──► pull ──► packets, and where they break
 //! ```
 //!
-//! `specs/AnyCutters` says what a cut of any format is to contracts: by cases on the format of its head, what the format's own cut
+//! `specs/packets/AnyCutters` says what a cut of any format is to contracts: by cases on the format of its head, what the format's own cut
 //! is. No cut of a format has a head of another.
 //!
-//! A format has a variant of `AnyCut`, its lines in `specs/AnyCutters`, and in `proofs/Formats` that it is one of them.
-#![tactic(auto)]
+//! A format has a variant of `AnyCut`, its lines in `specs/packets/AnyCutters`, and in `proofs/Formats` that it is one of them.
 
 mod any;
 

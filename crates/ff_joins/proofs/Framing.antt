@@ -6,8 +6,8 @@ use Rattle.std.proofs.lemmas.List.{take-append-drop, take-append-le, drop-append
 use Rattle.std.proofs.Math.Nat.{mul-le-mul_right}
 use Rattle.std.proofs.Math.Seq.{take-suc, drop-nil}
 use Rattle.ff_filter.specs.declared.after.After.TheVariants.{More}
-use Rattle.ff_frame.specs.declared.item.Lane.{Lane}
-use Rattle.ff_frame.specs.declared.item.Lane.TheVariants.{Frames}
+use Rattle.ff_stream.specs.declared.item.Lane.{Lane}
+use Rattle.ff_stream.specs.declared.item.Lane.TheVariants.{Frames}
 use Rattle.ff_joins.specs.declared.sound_inlet.SoundInlet.{SoundInlet}
 use Rattle.ff_joins.specs.Joined.{Row, split_rows}
 use Rattle.ff_joins.specs.Lots.{Lot, lots, lot_of, lane_of, rows_kept, skipped, cell, no_rows, has_started}

@@ -8,16 +8,16 @@ use Rattle.std.proofs.lemmas.List.{length-append, length-drop, length-take, leng
 use Rattle.std.proofs.lemmas.List.Elements.{All-nil, All-cons, All-head, All-tail, All-append, All-push, All-take, All-drop}
 use Rattle.std.proofs.Math.Nat.{div-mul-le_self}
 use Rattle.ff_time.specs.Fraction.{Fraction}
-use Rattle.ff_values.specs.declared.head.Codec.{Codec}
-use Rattle.ff_values.specs.declared.head.StreamHead.TheVariants.{Audio as AudioHead}
-use Rattle.ff_values.specs.Audio.{FitsBits, IsAudio}
-use Rattle.ff_frame.specs.declared.item.Item.{Item}
-use Rattle.ff_frame.specs.declared.item.Item.TheVariants.{Audio, Video, Packet, Trailer, End, Broken}
-use Rattle.ff_frame.specs.declared.item.Lane.{Lane}
-use Rattle.ff_frame.specs.declared.item.Lane.TheVariants.{Frames}
-use Rattle.ff_frame.specs.Times.{start_of, end_of}
-use Rattle.ff_frame.specs.Stream.{Mark, still_open, whole, broken, Stream}
-use Rattle.ff_frame.specs.Lanes.{IsItemFor, Follows, InOrder, AreInShape, IsValid}
+use Rattle.ff_frame.specs.declared.head.Codec.{Codec}
+use Rattle.ff_frame.specs.declared.head.StreamHead.TheVariants.{Audio as AudioHead}
+use Rattle.ff_frame.specs.Audio.{FitsBits, IsAudio}
+use Rattle.ff_stream.specs.declared.item.Item.{Item}
+use Rattle.ff_stream.specs.declared.item.Item.TheVariants.{Audio, Video, Packet, Trailer, End, Broken}
+use Rattle.ff_stream.specs.declared.item.Lane.{Lane}
+use Rattle.ff_stream.specs.declared.item.Lane.TheVariants.{Frames}
+use Rattle.ff_stream.specs.Times.{start_of, end_of}
+use Rattle.ff_stream.specs.Stream.{Mark, still_open, whole, broken, Stream}
+use Rattle.ff_stream.specs.Lanes.{IsItemFor, Follows, InOrder, AreInShape, IsValid}
 use Rattle.ff_filter.specs.Joins.{Ports}
 use Rattle.ff_joins.specs.Joined.{Row, split_rows, rows_of, all_rows_of, row_stream, side_by_side, rows_to, join_mark, frames_in, frame_at, frames_to, flattened}
 use Rattle.ff_joins.specs.Joined.{first_start, sound_frame, side_to_side}

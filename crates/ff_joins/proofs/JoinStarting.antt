@@ -2,11 +2,11 @@
 use Rattle.std.proofs.Common.{◌≡◌, ℕ, zero, suc, ℤ, ◌+◌, ◌-◌, ◌<◌, Bool, true, false, None, List, [], ◌∷◌, ◌++◌, length, map, take, refl, ap, sym}
 use Rattle.std.proofs.Common.{◌∙◌, arith, get_or}
 use Rattle.std.proofs.Math.Seq.{take-suc}
-use Rattle.ff_values.specs.declared.head.StreamHead.{StreamHead}
-use Rattle.ff_frame.specs.declared.item.Item.{Item}
-use Rattle.ff_frame.specs.declared.item.Lane.{Lane}
-use Rattle.ff_frame.specs.declared.item.Lane.TheVariants.{Frames}
-use Rattle.ff_frame.specs.Within.{passes_limits}
+use Rattle.ff_frame.specs.declared.head.StreamHead.{StreamHead}
+use Rattle.ff_stream.specs.declared.item.Item.{Item}
+use Rattle.ff_stream.specs.declared.item.Lane.{Lane}
+use Rattle.ff_stream.specs.declared.item.Lane.TheVariants.{Frames}
+use Rattle.ff_stream.specs.Within.{passes_limits}
 use Rattle.ff_filter.specs.declared.after.After.TheVariants.{More}
 use Rattle.ff_filter.specs.Joins.{Ports}
 use Rattle.ff_filter.specs.Limits.{limited, limited_is}

@@ -6,17 +6,17 @@ use Rattle.std.proofs.lemmas.Bool.Decides.{nat_tests}
 use Rattle.std.proofs.lemmas.Int.{ints}
 use Rattle.std.proofs.lemmas.List.Elements.{All-nil, All-cons, All-head, All-tail}
 use Rattle.ff_time.specs.Fraction.{IsBase}
-use Rattle.ff_values.specs.declared.head.StreamHead.{StreamHead}
-use Rattle.ff_values.specs.declared.head.StreamHead.TheVariants.{Audio as AudioHead, Video as VideoHead}
-use Rattle.ff_values.specs.Heads.{base_of_head}
-use Rattle.ff_frame.specs.declared.item.Item.{Item}
-use Rattle.ff_frame.specs.declared.item.Item.TheVariants.{Audio, Video, Packet, Trailer, End, Broken}
-use Rattle.ff_frame.specs.declared.item.Lane.TheVariants.{Frames}
-use Rattle.ff_frame.specs.Times.{HasTime, start_of, end_of, ticks}
-use Rattle.ff_frame.specs.Stream.{Mark, still_open, whole, broken}
-use Rattle.ff_frame.specs.Lanes.{FitsFrames, StartsAfter, IsItemFor, Follows, InOrder, AreInShape, IsValid, EndsInTime}
-use Rattle.ff_frame.specs.Within.{before_pass, within, passes_limits}
-use Rattle.ff_frame.specs.WithinLaws.{within_valid}
+use Rattle.ff_frame.specs.declared.head.StreamHead.{StreamHead}
+use Rattle.ff_frame.specs.declared.head.StreamHead.TheVariants.{Audio as AudioHead, Video as VideoHead}
+use Rattle.ff_frame.specs.Heads.{base_of_head}
+use Rattle.ff_stream.specs.declared.item.Item.{Item}
+use Rattle.ff_stream.specs.declared.item.Item.TheVariants.{Audio, Video, Packet, Trailer, End, Broken}
+use Rattle.ff_stream.specs.declared.item.Lane.TheVariants.{Frames}
+use Rattle.ff_stream.specs.Times.{HasTime, start_of, end_of, ticks}
+use Rattle.ff_stream.specs.Stream.{Mark, still_open, whole, broken}
+use Rattle.ff_stream.specs.Lanes.{FitsFrames, StartsAfter, IsItemFor, Follows, InOrder, AreInShape, IsValid, EndsInTime}
+use Rattle.ff_stream.specs.Within.{before_pass, within, passes_limits}
+use Rattle.ff_stream.specs.WithinLaws.{within_valid}
 use Rattle.ff_filter.specs.Joins.{Flow, Ports}
 use Rattle.ff_joins.specs.Concats.{end_ticks, time_later, moved, later, last_end, in_order, concatenated}
 use Rattle.ff_joins.specs.Following.{followed_at}

@@ -1,8 +1,8 @@
 -- Filters whose arguments say how many inputs they have.
 use Rattle.std.specs.Prelude.{◌≡◌, ℕ, ◌+◌, ◌==◌, nat_le, ◌&&◌, Bool, true, false, ◌||◌, cond, is_some, Option, Some, None, List, [], ◌∷◌, Result, Ok}
 use Rattle.std.specs.Prelude.{Err}
-use Rattle.ff_values.specs.declared.config.ConfigError.{ConfigError}
-use Rattle.ff_values.specs.declared.head.StreamHead.{StreamHead}
+use Rattle.ff_frame.specs.declared.config.ConfigError.{ConfigError}
+use Rattle.ff_frame.specs.declared.head.StreamHead.{StreamHead}
 use Rattle.ff_lang.specs.declared.graph.Arg.{Arg}
 use Rattle.ff_filter.specs.Options.{Manual, option_of, AreRead, number_of}
 

@@ -3,11 +3,11 @@ use Rattle.std.specs.Prelude.{◌≡◌, ◌≢◌, ℕ, zero, suc, ◌+◌, ◌
 use Rattle.std.proofs.Common.{inl, inr, ap, sym, ◌∙◌, subst, arith}
 use Rattle.std.proofs.lemmas.Bool.{cases_eq}
 use Rattle.std.proofs.lemmas.List.{length-append}
-use Rattle.ff_frame.specs.declared.item.Item.{Item}
-use Rattle.ff_frame.specs.Stream.{Mark, still_open, whole, broken, LiesBelow, opened, opened_mark}
-use Rattle.ff_frame.specs.Ports.{stream_at, AllBelow}
-use Rattle.ff_frame.specs.Order.{closed_below, stream_at-opened}
-use Rattle.ff_frame.specs.Breaks.{KeepsBrokenRule}
+use Rattle.ff_stream.specs.declared.item.Item.{Item}
+use Rattle.ff_stream.specs.Stream.{Mark, still_open, whole, broken, LiesBelow, opened, opened_mark}
+use Rattle.ff_stream.specs.Ports.{stream_at, AllBelow}
+use Rattle.ff_stream.specs.Order.{closed_below, stream_at-opened}
+use Rattle.ff_stream.specs.Breaks.{KeepsBrokenRule}
 use Rattle.ff_filter.specs.Joins.{Flow, Ports}
 use Rattle.ff_joins.specs.Following.{followed_at, made_then}
 use Rattle.ff_joins.specs.Concats.{later, last_end, in_order, concatenated}

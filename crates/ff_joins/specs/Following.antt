@@ -3,10 +3,10 @@ use Rattle.std.specs.Prelude.{◌≡◌, List, ◌++◌, map, refl}
 use Rattle.std.proofs.Common.{inl, inr, ap, sym, ◌∙◌, subst, append_assoc}
 use Rattle.std.proofs.lemmas.List.{map-append}
 use mathlib.Core.List.{IsPrefix}
-use Rattle.ff_frame.specs.declared.item.Item.{Item}
-use Rattle.ff_frame.specs.Stream.{Mark, still_open, whole, broken, LiesBelow, opened, opened_mark, map_stream}
-use Rattle.ff_frame.specs.Ports.{IsClosed}
-use Rattle.ff_frame.specs.Order.{prefix_trans}
+use Rattle.ff_stream.specs.declared.item.Item.{Item}
+use Rattle.ff_stream.specs.Stream.{Mark, still_open, whole, broken, LiesBelow, opened, opened_mark, map_stream}
+use Rattle.ff_stream.specs.Ports.{IsClosed}
+use Rattle.ff_stream.specs.Order.{prefix_trans}
 use Rattle.ff_filter.specs.Joins.{Flow}
 
 -- s, and where it is whole, then t

@@ -1,9 +1,9 @@
 -- Which of the next frames of streams side by side passes a limit.
 use Rattle.std.specs.Prelude.{ℕ, zero, suc, ◌+◌, ◌*◌, ◌/◌, ◌^◌, ◌+ℤ◌, pos, ◌||◌, nat_lt, Bool, List, length}
-use Rattle.ff_values.specs.Heads.{base_of_head}
-use Rattle.ff_frame.specs.declared.item.Item.{Item}
-use Rattle.ff_frame.specs.Ports.{nothing}
-use Rattle.ff_frame.specs.Times.{ticks}
+use Rattle.ff_frame.specs.Heads.{base_of_head}
+use Rattle.ff_stream.specs.declared.item.Item.{Item}
+use Rattle.ff_stream.specs.Ports.{nothing}
+use Rattle.ff_stream.specs.Times.{ticks}
 use Rattle.ff_joins.specs.declared.join.Join.{Join}
 use Rattle.ff_joins.specs.Joined.{rows_to, frames_to}
 use Rattle.ff_joins.specs.JoinOptions.{channels_of}

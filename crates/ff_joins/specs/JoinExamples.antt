@@ -1,8 +1,8 @@
 -- A worked example of streams side by side.
 use Rattle.std.specs.Prelude.{◌≡◌, ℕ, ℤ, pos, List, [], ◌∷◌, refl}
-use Rattle.ff_values.specs.Frame.{audio_frame}
-use Rattle.ff_frame.specs.declared.item.Item.{Item}
-use Rattle.ff_frame.specs.declared.item.Item.TheVariants.{Audio}
+use Rattle.ff_frame.specs.Frame.{audio_frame}
+use Rattle.ff_stream.specs.declared.item.Item.{Item}
+use Rattle.ff_stream.specs.declared.item.Item.TheVariants.{Audio}
 use Rattle.ff_filter.specs.Joins.{Flow}
 use Rattle.ff_joins.specs.Joined.{side_to_side}
 use Rattle.ff_joins.specs.ConcatExamples.{all_of, two_whole}

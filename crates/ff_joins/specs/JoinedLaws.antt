@@ -5,9 +5,9 @@ use Rattle.std.proofs.Common.{inl, inr, ap, sym, ◌∙◌, subst, arith, append
 use Rattle.std.proofs.lemmas.Bool.{cases_lt}
 use Rattle.std.proofs.lemmas.List.{length-append}
 use mathlib.Core.List.{IsPrefix}
-use Rattle.ff_frame.specs.declared.item.Item.{Item}
-use Rattle.ff_frame.specs.Stream.{Stream}
-use Rattle.ff_frame.specs.Order.{prefix_self, prefix_trans}
+use Rattle.ff_stream.specs.declared.item.Item.{Item}
+use Rattle.ff_stream.specs.Stream.{Stream}
+use Rattle.ff_stream.specs.Order.{prefix_self, prefix_trans}
 use Rattle.ff_joins.specs.Joined.{Row, side_by_side, rows_to, rows_in, frame_at}
 use Rattle.ff_joins.specs.Joined.{frames_to}
 

@@ -2,13 +2,13 @@
 use Rattle.std.specs.Prelude.{◌≡◌, ℕ, zero, suc, ◌+◌, ◌-◌, ◌<◌, ◌⊎◌, true, false, ◌||◌, List, [], ◌∷◌, length}
 use Rattle.std.proofs.Common.{inl, inr, sym, ◌∙◌, arith}
 use Rattle.std.proofs.lemmas.List.{length-replicate}
-use Rattle.ff_frame.specs.declared.item.Item.{Item}
-use Rattle.ff_frame.specs.declared.item.Item.TheVariants.{End, Broken}
-use Rattle.ff_frame.specs.declared.item.Lane.TheVariants.{Frames}
-use Rattle.ff_frame.specs.Stream.{LiesBelow, opened}
-use Rattle.ff_frame.specs.Ports.{nothing, IsClosed}
-use Rattle.ff_frame.specs.Order.{below_self, below_trans, nothing_below}
-use Rattle.ff_frame.specs.Within.{passes_limits}
+use Rattle.ff_stream.specs.declared.item.Item.{Item}
+use Rattle.ff_stream.specs.declared.item.Item.TheVariants.{End, Broken}
+use Rattle.ff_stream.specs.declared.item.Lane.TheVariants.{Frames}
+use Rattle.ff_stream.specs.Stream.{LiesBelow, opened}
+use Rattle.ff_stream.specs.Ports.{nothing, IsClosed}
+use Rattle.ff_stream.specs.Order.{below_self, below_trans, nothing_below}
+use Rattle.ff_stream.specs.Within.{passes_limits}
 use Rattle.ff_filter.specs.declared.after.After.{After}
 use Rattle.ff_filter.specs.declared.after.After.TheVariants.{More, Whole, Broke}
 use Rattle.ff_filter.specs.declared.inlet.Inlet.{Inlet}

@@ -7,7 +7,7 @@ ghost use Rattle.ff_joins.specs.SegmentLaws.{segments-quiet, segments-spent_only
 use crate::over::is_over;
 use crate::segments::Segments;
 use ff_filter::Filter;
-use ff_frame::{Item, Refused};
+use ff_stream::{Item, Refused};
 use std::alloc::AllocError;
 
 /// `concat`: the segments one after another, each later by the end of the last item before it.

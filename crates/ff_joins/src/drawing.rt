@@ -1,6 +1,6 @@
 ghost use Rattle.std.specs.Prelude.{◌≡◌, ◌≢◌, ◌<◌, ◌≤◌, ◌+◌, ◌||◌, length, true, false, Some, None, Ok, OnOk, OnErr, IfErr, IfSome};
 ghost use Rattle.std.specs.VecDeque.{deque_len, deque_capacity};
-ghost use Rattle.ff_frame.specs.declared.item.Item.{Item as AnItem};
+ghost use Rattle.ff_stream.specs.declared.item.Item.{Item as AnItem};
 ghost use Rattle.ff_filter.specs.Joins.{Flow, before};
 ghost use Rattle.ff_filter.specs.Made.{is_over as is_over_by, closing, waiting};
 ghost use Rattle.ff_filter.specs.Views.{closes, Same, Fed, Gave, Waits};
@@ -10,7 +10,7 @@ use crate::over::is_over;
 use crate::segments::Segments;
 use crate::times::{end_ticks, is_long, later};
 use ff_filter::{After, Inlet, Next, Outlet, closing_of, discard};
-use ff_frame::{Item, Refused};
+use ff_stream::{Item, Refused};
 
 // How many items wait on these inputs.
 fn waits(inlets: &[Inlet]) -> Option<usize>

@@ -1,5 +1,5 @@
 ghost use Rattle.std.specs.Prelude.{◌≡◌, ◌<◌, ◌∷◌, [], length, IfOk, IfErr};
-ghost use Rattle.ff_values.specs.declared.config.ConfigError.TheVariants.{NoMemory};
+ghost use Rattle.ff_frame.specs.declared.config.ConfigError.TheVariants.{NoMemory};
 ghost use Rattle.ff_filter.specs.Options.{IsMade, IsRefused};
 ghost use Rattle.ff_joins.specs.JoinOptions.{IsJoin};
 ghost use Rattle.ff_joins.specs.JoinView.{join_view, head_itself, AreEmpty};

@@ -5,7 +5,7 @@ ghost use Rattle.ff_joins.specs.JoinLaws.{join-grows, join-hides, join-settles, 
 use crate::join::Join;
 use crate::over::is_over;
 use ff_filter::Filter;
-use ff_frame::{Item, Refused};
+use ff_stream::{Item, Refused};
 use std::alloc::AllocError;
 
 impl Filter for Join {

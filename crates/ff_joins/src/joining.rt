@@ -1,9 +1,9 @@
 ghost use Rattle.std.specs.Prelude.{◌≡◌, ◌↔◌, ◌≤◌, ◌<◌, ◌*◌, ◌^◌, ◌||◌, IsTrue, ℤ, List, length, false, true, Some, None, Ok, OnOk, OnErr, IfOk, IfErr, IfSome};
-ghost use Rattle.ff_frame.specs.declared.item.Item.{Item as AnItem};
-ghost use Rattle.ff_frame.specs.declared.item.Lane.TheVariants.{Frames};
-ghost use Rattle.ff_frame.specs.Ports.{nothing};
-ghost use Rattle.ff_frame.specs.Times.{start_of as start_of_item};
-ghost use Rattle.ff_frame.specs.Within.{passes_limits, some_pass};
+ghost use Rattle.ff_stream.specs.declared.item.Item.{Item as AnItem};
+ghost use Rattle.ff_stream.specs.declared.item.Lane.TheVariants.{Frames};
+ghost use Rattle.ff_stream.specs.Ports.{nothing};
+ghost use Rattle.ff_stream.specs.Times.{start_of as start_of_item};
+ghost use Rattle.ff_stream.specs.Within.{passes_limits, some_pass};
 ghost use Rattle.ff_filter.specs.declared.after.After.TheVariants.{More};
 ghost use Rattle.ff_filter.specs.Made.{is_over as is_over_by};
 ghost use Rattle.ff_filter.specs.Views.{Same, Fed, Gave, Waits, IsSpent};
@@ -18,7 +18,8 @@ use crate::over::is_over;
 use crate::rows::{any_stands, fewest, first_rows, skip_rows, width};
 use crate::times::{ends_past, is_long, ticks_from};
 use ff_filter::{After, closing_of, discard, time_base};
-use ff_frame::{AFrame, Item, Refused};
+use ff_frame::AFrame;
+use ff_stream::{Item, Refused};
 use std::alloc::AllocError;
 
 // The sample frames of a frame, but for the last one.

@@ -1,16 +1,16 @@
 //! Laws of the filters' functions: functions that do nothing, whose clauses hold of all values.
 ghost use Rattle.std.specs.Prelude.{◌≡◌, ◌<◌, ◌≤◌, ℕ, suc, ℤ, List, [], ◌∷◌, get_or, length, Ok, true};
 ghost use Rattle.ff_time.specs.Fraction.{Fraction, IsBase};
-ghost use Rattle.ff_values.specs.declared.head.Codec.{Codec};
-ghost use Rattle.ff_values.specs.declared.head.StreamHead.{StreamHead};
-ghost use Rattle.ff_values.specs.declared.head.StreamHead.TheVariants.{Audio as AudioHead};
-ghost use Rattle.ff_values.specs.Heads.{base_of_head};
-ghost use Rattle.ff_values.specs.declared.video.VFrame.{VFrame};
-ghost use Rattle.ff_frame.specs.declared.item.Item.{Item};
-ghost use Rattle.ff_frame.specs.declared.item.Lane.TheVariants.{Frames};
-ghost use Rattle.ff_frame.specs.Breaks.{KeepsBrokenRule};
-ghost use Rattle.ff_frame.specs.Lanes.{AreInShape, IsValid};
-ghost use Rattle.ff_frame.specs.Within.{within, passes_limits};
+ghost use Rattle.ff_frame.specs.declared.head.Codec.{Codec};
+ghost use Rattle.ff_frame.specs.declared.head.StreamHead.{StreamHead};
+ghost use Rattle.ff_frame.specs.declared.head.StreamHead.TheVariants.{Audio as AudioHead};
+ghost use Rattle.ff_frame.specs.Heads.{base_of_head};
+ghost use Rattle.ff_frame.specs.declared.video.VFrame.{VFrame};
+ghost use Rattle.ff_stream.specs.declared.item.Item.{Item};
+ghost use Rattle.ff_stream.specs.declared.item.Lane.TheVariants.{Frames};
+ghost use Rattle.ff_stream.specs.Breaks.{KeepsBrokenRule};
+ghost use Rattle.ff_stream.specs.Lanes.{AreInShape, IsValid};
+ghost use Rattle.ff_stream.specs.Within.{within, passes_limits};
 ghost use Rattle.ff_filter.specs.Options.{is_sound};
 ghost use Rattle.ff_joins.specs.Arguments.{each_head};
 ghost use Rattle.ff_joins.specs.ConcatBreaks.{AreSo, segments_of};
@@ -22,8 +22,8 @@ ghost use Rattle.ff_joins.specs.JoinView.{channels_at};
 ghost use Rattle.ff_joins.specs.JoinExamples.{sound_at, one_channel, all_sound};
 ghost use Rattle.ff_joins.specs.Joined.{side_to_side};
 ghost use Rattle.ff_joins.specs.JoinRule.{AreMany, joined_list};
-ghost use Rattle.ff_frame.specs.Ports.{IsUnbroken};
-ghost use Rattle.ff_frame.specs.Stream.{LiesBelow};
+ghost use Rattle.ff_stream.specs.Ports.{IsUnbroken};
+ghost use Rattle.ff_stream.specs.Stream.{LiesBelow};
 ghost use Rattle.ff_filter.specs.Joins.{Ports};
 
 /// Segments one after another keep the broken rule: a broken input counts as open without a further item, and the output is

@@ -1,13 +1,14 @@
 ghost use Rattle.std.specs.Prelude.{◌≡◌, ◌≤◌, ◌<◌, ◌*◌, ◌^◌, nat_lt, false};
-ghost use Rattle.ff_values.specs.Heads.{base_of_head};
-ghost use Rattle.ff_frame.specs.declared.item.Lane.TheVariants.{Frames};
-ghost use Rattle.ff_frame.specs.Times.{ticks};
-ghost use Rattle.ff_frame.specs.Within.{passes_limits};
+ghost use Rattle.ff_frame.specs.Heads.{base_of_head};
+ghost use Rattle.ff_stream.specs.declared.item.Lane.TheVariants.{Frames};
+ghost use Rattle.ff_stream.specs.Times.{ticks};
+ghost use Rattle.ff_stream.specs.Within.{passes_limits};
 ghost use Rattle.ff_filter.specs.Views.{closes};
 ghost use Rattle.ff_joins.specs.Concats.{end_ticks as end_of_ticks, time_later, moved as moved_by, later as later_by};
 
 use ff_filter::{shared, ticks_of, time_base};
-use ff_frame::{Item, StreamHead};
+use ff_frame::StreamHead;
+use ff_stream::Item;
 
 // The limits.
 const LAST_SECOND: u128 = 1_000_000_000;

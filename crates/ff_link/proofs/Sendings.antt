@@ -1,14 +1,14 @@
 -- Sendings are closed under fronts, and no sending is long.
 use Rattle.std.proofs.Common.{◌≡◌, ◌≤◌, ◌+◌, ◌^◌, ℕ, Bool, true, false, List, [], ◌∷◌, ◌++◌, length, refl, sym, subst, arith, length-append}
-use Rattle.ff_frame.specs.declared.item.Item.{Item}
-use Rattle.ff_frame.specs.declared.item.Item.TheVariants.{Audio, Video, Packet, Trailer, End, Broken}
-use Rattle.ff_frame.specs.declared.item.Lane.{Lane}
-use Rattle.ff_frame.specs.Stream.{Stream, still_open}
-use Rattle.ff_frame.specs.Items.{with_item, Leads}
-use Rattle.ff_frame.specs.Lanes.{IsValid}
-use Rattle.ff_frame.specs.LaneLaws.{valid_below, nothing_valid}
-use Rattle.ff_frame.specs.Order.{leads_below, leads_push}
-use Rattle.ff_frame.specs.Ports.{nothing}
+use Rattle.ff_stream.specs.declared.item.Item.{Item}
+use Rattle.ff_stream.specs.declared.item.Item.TheVariants.{Audio, Video, Packet, Trailer, End, Broken}
+use Rattle.ff_stream.specs.declared.item.Lane.{Lane}
+use Rattle.ff_stream.specs.Stream.{Stream, still_open}
+use Rattle.ff_stream.specs.Items.{with_item, Leads}
+use Rattle.ff_stream.specs.Lanes.{IsValid}
+use Rattle.ff_stream.specs.LaneLaws.{valid_below, nothing_valid}
+use Rattle.ff_stream.specs.Order.{leads_below, leads_push}
+use Rattle.ff_stream.specs.Ports.{nothing}
 use Rattle.ff_link.specs.Sendings.{stream_from, stream_of, IsSending, Carries}
 
 -- what items lead to is the stream that they make

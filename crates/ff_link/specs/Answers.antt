@@ -2,7 +2,7 @@
 -- word that tells of one rests on a fact that only the look shows.
 use Rattle.std.specs.Prelude.{◌≡◌, ℕ, Option, Some, None, Result, Ok, Err, [], ◌∷◌, ◌++◌}
 use Rattle.crossbeam_queue.specs.Fifo.{Held}
-use Rattle.ff_frame.specs.declared.item.Item.{Item}
+use Rattle.ff_stream.specs.declared.item.Item.{Item}
 use Rattle.ff_link.specs.declared.answers.Put.{Put}
 use Rattle.ff_link.specs.declared.answers.Put.TheVariants.{Done, Full, Finished}
 use Rattle.ff_link.specs.declared.answers.Take.{Take}

@@ -1,11 +1,11 @@
 -- Items as they are sent, one after another: which stream they make, and when they may be sent over a lane.
 use Rattle.std.specs.Prelude.{◌+◌, ◌^◌, ◌≤◌, Bool, true, false, List, [], ◌∷◌, length}
-use Rattle.ff_frame.specs.declared.item.Item.{Item}
-use Rattle.ff_frame.specs.declared.item.Lane.{Lane}
-use Rattle.ff_frame.specs.Stream.{Stream}
-use Rattle.ff_frame.specs.Items.{with_item, Leads}
-use Rattle.ff_frame.specs.Lanes.{IsValid}
-use Rattle.ff_frame.specs.Ports.{nothing}
+use Rattle.ff_stream.specs.declared.item.Item.{Item}
+use Rattle.ff_stream.specs.declared.item.Lane.{Lane}
+use Rattle.ff_stream.specs.Stream.{Stream}
+use Rattle.ff_stream.specs.Items.{with_item, Leads}
+use Rattle.ff_stream.specs.Lanes.{IsValid}
+use Rattle.ff_stream.specs.Ports.{nothing}
 
 -- the stream, with these items one after another
 abbrev pub stream_from : Stream Item → List Item → Stream Item

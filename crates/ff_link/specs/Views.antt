@@ -1,8 +1,8 @@
 -- What a contract sees of the ends of a link.
 use Rattle.std.specs.Prelude.{◌+◌, ℕ, Bool, Option, None, List, [], min}
 use Rattle.atomic_table.specs.Seated.{TableId}
-use Rattle.ff_frame.specs.declared.item.Item.{Item}
-use Rattle.ff_frame.specs.declared.item.Lane.{Lane}
+use Rattle.ff_stream.specs.declared.item.Item.{Item}
+use Rattle.ff_stream.specs.declared.item.Lane.{Lane}
 
 -- a link is named by its two queues; and whether what is sent over it is claimed to be valid for its lane
 pub record Link : Type 0 where

@@ -1,4 +1,4 @@
-use ff_frame::Item;
+use ff_stream::Item;
 
 /// The answer to a put.
 #[derive(Debug, Drop)]

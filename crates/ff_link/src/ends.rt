@@ -8,7 +8,7 @@ ghost use Rattle.ff_link.specs.Answers.{after_take, TakesValid, SawEmpty};
 
 use crate::answers::{Put, Settled, Take};
 use crate::side::{AllCounts, AllItems, Down, DownPass, Hears, Puts, Takes, Up, UpPass, Whole};
-use ff_frame::Item;
+use ff_stream::Item;
 use std::marker::Model;
 use std::sync::{Arc, Wait};
 

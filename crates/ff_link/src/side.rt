@@ -2,7 +2,7 @@
 use atomic_table::{Join, Split};
 use crossbeam_queue::protocol::{Lesson, Outcome, Protocol};
 use crossbeam_queue::{Pass, RuledArrayQueue};
-use ff_frame::{Item, Lane};
+use ff_stream::{Item, Lane};
 use std::collections::LinkedList;
 use std::marker::PhantomData;
 

@@ -5,7 +5,7 @@ use Rattle.std.specs.Prelude.{unwrap_or, slice_get}
 use Rattle.std.specs.List.{AllByRecursion}
 use Rattle.std.specs.declared.alloc.Global.{Global}
 use Rattle.std.specs.declared.vec.Vec.{Vec}
-use Rattle.ff_values.specs.declared.head.StreamHead.{StreamHead}
+use Rattle.ff_frame.specs.declared.head.StreamHead.{StreamHead}
 use Rattle.ff_map.specs.declared.map.Pick.{Pick}
 use Rattle.ff_map.specs.declared.map.Pick.TheVariants as pick
 use Rattle.ff_map.specs.declared.streams.Stream.{Stream}

@@ -5,7 +5,7 @@ ghost use Rattle.ff_map.specs.declared.streams.Stream.{Stream};
 
 use crate::map::Kind;
 use crate::streams::{Stream, StreamRef, has_kind, size};
-use ff_values::StreamHead;
+use ff_frame::StreamHead;
 use std::alloc::{AllocError, Global};
 
 /// The video stream with the largest width times height and then the audio stream with the most channels, of the kinds that

@@ -4,7 +4,7 @@ ghost use Rattle.ff_map.specs.Choice.{lists, selected, picked as named_by, place
 
 use crate::map::{Kind, MapFrom, MapSpec, Pick};
 use crate::streams::{StreamRef, has_kind};
-use ff_values::StreamHead;
+use ff_frame::StreamHead;
 use std::alloc::{AllocError, Global};
 
 /// The streams that a map names, in their order, of these heads of each input.

@@ -2,7 +2,7 @@ ghost use Rattle.std.specs.Prelude.{◌≡◌};
 ghost use Rattle.ff_map.specs.Choice.{has_kind as is_of_kind, size as size_of};
 
 use crate::map::Kind;
-use ff_values::StreamHead;
+use ff_frame::StreamHead;
 
 /// A stream by its input and its number there.
 #[derive(Clone, Copy, Debug, PartialEq, Eq)]

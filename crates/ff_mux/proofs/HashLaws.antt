@@ -1,8 +1,8 @@
 -- The text of one stream with SHA-256.
 use Rattle.std.proofs.Common.{◌≡◌, ℕ, ◌++◌, [], ◌∷◌, refl, ap, ◌∙◌, append-nil}
-use Rattle.ff_values.specs.declared.hash.HashKind.TheVariants.{Sha256}
-use Rattle.ff_values.specs.declared.packet.Pkt.{Pkt}
-use Rattle.ff_values.specs.declared.head.StreamHead.{StreamHead}
+use Rattle.ff_frame.specs.declared.hash.HashKind.TheVariants.{Sha256}
+use Rattle.ff_frame.specs.declared.packet.Pkt.{Pkt}
+use Rattle.ff_frame.specs.declared.head.StreamHead.{StreamHead}
 use Rattle.ff_mux.specs.FrameHash.{header, first_lines, columns, stream_lines, packet_line, digest_text}
 use Rattle.ff_mux.specs.HashTexts.{digest_by, first_by, text_before, line_by}
 

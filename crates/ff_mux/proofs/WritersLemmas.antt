@@ -1,1 +1,1 @@
-mod FinishedLaws
+pub mod FinishedLaws

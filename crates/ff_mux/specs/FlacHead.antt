@@ -1,10 +1,10 @@
 -- What stands before the frames of a FLAC file that is written (RFC 9639, sections 6, 8 and 8.2).
 use Rattle.std.specs.Prelude.{ℕ, ◌+◌, ◌-◌, ◌*◌, ◌^◌, ◌<◌, ◌≤◌, nat_lt, if◌then◌else◌, List, [], ◌∷◌, ◌++◌, codes, take, replicate}
 use Rattle.std.specs.Int.{bytes_high_first}
-use Rattle.ff_values.specs.Codecs.{IsFlacCodec}
-use Rattle.ff_values.specs.declared.head.StreamHead.{StreamHead}
-use Rattle.ff_values.specs.declared.head.StreamHead.TheVariants.{Audio, Video}
-use Rattle.ff_values.specs.declared.totals.Totals.{Totals}
+use Rattle.ff_frame.specs.Codecs.{IsFlacCodec}
+use Rattle.ff_frame.specs.declared.head.StreamHead.{StreamHead}
+use Rattle.ff_frame.specs.declared.head.StreamHead.TheVariants.{Audio, Video}
+use Rattle.ff_frame.specs.declared.totals.Totals.{Totals}
 
 -- STREAMINFO has room for this rate, these bits and these channels
 pub record HasRoom (rate bits channels : ℕ) : Type 0 where

@@ -1,7 +1,7 @@
 -- STREAMINFO as the standard lists its fields, by their widths (RFC 9639, section 8.2).
 use Rattle.std.specs.Prelude.{◌≡◌, ℕ, ◌-◌, ◌++◌}
 use Rattle.ff_bits.specs.Bits.{bits, bits_of}
-use Rattle.ff_values.specs.declared.totals.Totals.{Totals}
+use Rattle.ff_frame.specs.declared.totals.Totals.{Totals}
 use Rattle.ff_mux.specs.FlacHead.{HasRoom, stream_info, told, digest_of}
 
 -- The bits of the block are the least and the greatest block, the least and the greatest frame, the rate, the channels less one, the

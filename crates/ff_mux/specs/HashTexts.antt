@@ -5,10 +5,10 @@ use Rattle.sha2.specs.Sha256.{sha256}
 use Rattle.md5.specs.Md5.{md5}
 use Rattle.hex.specs.Hex.{encode_lower}
 use Rattle.ff_lists.specs.Text.{line}
-use Rattle.ff_values.specs.declared.hash.HashKind.{HashKind}
-use Rattle.ff_values.specs.declared.hash.HashKind.TheVariants.{Sha256, Md5}
-use Rattle.ff_values.specs.declared.packet.Pkt.{Pkt}
-use Rattle.ff_values.specs.declared.head.StreamHead.{StreamHead}
+use Rattle.ff_frame.specs.declared.hash.HashKind.{HashKind}
+use Rattle.ff_frame.specs.declared.hash.HashKind.TheVariants.{Sha256, Md5}
+use Rattle.ff_frame.specs.declared.packet.Pkt.{Pkt}
+use Rattle.ff_frame.specs.declared.head.StreamHead.{StreamHead}
 use Rattle.ff_mux.specs.FrameHash.{stream_lines, columns, column}
 
 -- the digest of some bytes as a text

@@ -3,3 +3,4 @@ pub mod HashTexts
 pub mod Puts
 pub mod FlacHead
 pub mod FlacLaws
+pub mod writers

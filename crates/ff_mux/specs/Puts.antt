@@ -1,7 +1,7 @@
 -- What a writer of framehash text writes of.
 use Rattle.std.specs.Prelude.{List}
-use Rattle.ff_values.specs.declared.hash.HashKind.{HashKind}
-use Rattle.ff_values.specs.declared.head.StreamHead.{StreamHead}
+use Rattle.ff_frame.specs.declared.hash.HashKind.{HashKind}
+use Rattle.ff_frame.specs.declared.head.StreamHead.{StreamHead}
 use Rattle.ff_mux.specs.declared.put.HashPut.{HashPut}
 
 -- the digest of a packet's bytes

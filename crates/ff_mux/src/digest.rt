@@ -2,7 +2,7 @@
 ghost use Rattle.std.specs.Prelude.{◌≡◌, IfOk, string_bytes};
 ghost use Rattle.ff_mux.specs.HashTexts.{digest_by, hash_name};
 
-use ff_values::HashKind;
+use ff_frame::HashKind;
 use md5::{Digest as Md5Digest, Md5};
 use sha2::{Digest as Sha256Digest, Sha256};
 use std::alloc::{AllocError, Global};

@@ -3,7 +3,7 @@ ghost use Rattle.std.specs.Prelude.{◌≡◌, ◌++◌, take, IfOk, OnOk};
 ghost use Rattle.std.specs.Int.{bytes_high_first};
 ghost use Rattle.ff_mux.specs.FlacHead.{HasRoom, HasRoomFor, told, sound_of, stream_info, info_of, before_info, flac_start, unknown};
 
-use ff_values::{StreamHead, Totals};
+use ff_frame::{StreamHead, Totals};
 use std::alloc::{AllocError, Global};
 
 /// The mark, and the head of the last block of metadata, which has 34 bytes.

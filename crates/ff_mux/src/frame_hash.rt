@@ -5,8 +5,8 @@ ghost use Rattle.ff_mux.specs.FrameHash.{base_name, codec_name, layout_name, siz
 ghost use Rattle.ff_mux.specs.HashTexts.{digest_by, first_by, streams_from, text_before, line_by};
 
 use crate::digest::digest_text;
+use ff_frame::{Codec, Format, HashKind, Pkt, StreamHead};
 use ff_time::Rational;
-use ff_values::{Codec, Format, HashKind, Pkt, StreamHead};
 use std::alloc::{AllocError, Global};
 
 /// The line behind those on the streams, over the columns of the packets.

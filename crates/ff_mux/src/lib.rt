@@ -3,6 +3,8 @@
 //! [`HashPut`] gives the text of a framehash file, in the pieces in which it is written: the lines before the packets, and a line for
 //! each packet; `specs/HashTexts` has them, for any number of streams and either digest, and `specs/FrameHash` the text of one stream
 //! with SHA-256 as a whole.
+//!
+//! `writers`: What an output's format writes: its bytes around the packets and of each, as pure state.
 #![tactic(auto)]
 
 mod digest;
@@ -10,7 +12,12 @@ mod flac;
 mod frame_hash;
 mod laws;
 mod put;
+mod writers;
 
 pub use flac::{flac_first, flac_last};
 pub use laws::stream_info_is_its_fields;
 pub use put::HashPut;
+pub use writers::{
+    AnyWriter, FlacWriter, HashWriter, Patch, Writer, Y4mWriter, finished_flacs_are_streams,
+    finished_hashes_are_texts, finished_pictures_are_yuv4mpeg2, finished_wavs_are_riff,
+};

@@ -1,7 +1,7 @@
 ghost use Rattle.std.specs.Prelude.{◌≡◌, ◌<◌, ◌^◌, length, IfOk};
 
 use crate::frame_hash::{hash_header, hash_line};
-use ff_values::{HashKind, Pkt, StreamHead};
+use ff_frame::{HashKind, Pkt, StreamHead};
 use std::alloc::{AllocError, Global};
 
 /// The text of a framehash file of any number of streams, with either digest of each packet's bytes.

@@ -5,10 +5,9 @@
 //!           last ──► takes the place of as many bytes of it, once every stream is whole
 //! ```
 //!
-//! `specs/Layouts` says what a format is to whoever writes files: a `Layout`, and by it the text as a whole, and the finished file,
+//! `specs/writers/Layouts` says what a format is to whoever writes files: a `Layout`, and by it the text as a whole, and the finished file,
 //! which is defined once for all formats. `Writer` is what gives the pieces. A format has a file here and a variant of `AnyWriter`;
-//! `specs/Formats` has their layouts, and the laws say that the finished files are those of the formats' own definitions.
-#![tactic(auto)]
+//! `specs/writers/Formats` has their layouts, and the laws say that the finished files are those of the formats' own definitions.
 
 mod any;
 mod flac;
@@ -19,7 +18,6 @@ mod writer;
 mod y4m;
 
 pub use any::AnyWriter;
-pub use ff_wav::{TooLarge, WavPut};
 pub use flac::FlacWriter;
 pub use frame_hash::HashWriter;
 pub use laws::{

@@ -7,7 +7,7 @@ use Rattle.ff_net.specs.Pasts.{Past}
 use Rattle.ff_net.specs.Worlds.{Wire, Stand}
 use Rattle.ff_net.specs.Nodes.{IsSound, IsSame, NodeStands, in_wires_of, out_wires_of}
 use mathlib.Core.List.{IsPrefix}
-use Rattle.ff_frame.specs.Order.{prefix_self}
+use Rattle.ff_stream.specs.Order.{prefix_self}
 use Rattle.ff_net.specs.Logs.{PassStep, tickets_in}
 use Rattle.ff_net.specs.Steps.{Course, Acts, IsDue, Rests, Turns, Prepares, Later, Stepped}
 use Rattle.ff_sched.specs.Passing.{Passing}

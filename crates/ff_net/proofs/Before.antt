@@ -1,9 +1,9 @@
 -- A node below which none has a fault.
 use Rattle.std.proofs.Common.{◌≡◌, ℕ, zero, suc, ◌<◌, ◌≤◌, inl, inr, List, [], ◌∷◌, ◌++◌, length, map, slice_index_or, refl, ap, sym, subst, arith, Some}
-use Rattle.ff_frame.specs.declared.item.Lane.{Lane}
-use Rattle.ff_frame.specs.Stream.{LiesBelow}
-use Rattle.ff_frame.specs.Order.{below_trans}
-use Rattle.ff_frame.specs.Ports.{stream_at, AllBelow, nothing}
+use Rattle.ff_stream.specs.declared.item.Lane.{Lane}
+use Rattle.ff_stream.specs.Stream.{LiesBelow}
+use Rattle.ff_stream.specs.Order.{below_trans}
+use Rattle.ff_stream.specs.Ports.{stream_at, AllBelow, nothing}
 use Rattle.ff_net.specs.declared.fault.Fault.{Fault}
 use Rattle.ff_net.specs.declared.node.Node.{Node}
 use Rattle.ff_net.specs.Ways.{Flow, lane_at, IsValidOn, AreValid}

@@ -2,13 +2,13 @@
 use Rattle.std.proofs.Common.{◌≡◌, ◌≢◌, ℕ, ◌<◌, ◌≤◌, ◌⊎◌, inl, inr, Bool, true, false, List, length, slice_set, refl, ap, sym, ◌∙◌, subst, Option, None, Some, IsTrue, ◌↔◌, is_some}
 use mathlib.Core.List.{IsPrefix}
 use Rattle.std.proofs.lemmas.List.{length-set}
-use Rattle.ff_frame.specs.declared.item.Item.{Item}
-use Rattle.ff_frame.specs.declared.item.Item.TheVariants.{Broken}
-use Rattle.ff_frame.specs.declared.item.Lane.{Lane}
-use Rattle.ff_frame.specs.Stream.{Mark, still_open, LiesBelow, opened, opened_mark}
-use Rattle.ff_frame.specs.Items.{Closes, with_item}
-use Rattle.ff_frame.specs.Order.{below_self, below_trans, with_item_above, with_item_open, with_item_closed, opened_below, prefix_self}
-use Rattle.ff_frame.specs.Ports.{AllBelow, stream_at, IsClosed}
+use Rattle.ff_stream.specs.declared.item.Item.{Item}
+use Rattle.ff_stream.specs.declared.item.Item.TheVariants.{Broken}
+use Rattle.ff_stream.specs.declared.item.Lane.{Lane}
+use Rattle.ff_stream.specs.Stream.{Mark, still_open, LiesBelow, opened, opened_mark}
+use Rattle.ff_stream.specs.Items.{Closes, with_item}
+use Rattle.ff_stream.specs.Order.{below_self, below_trans, with_item_above, with_item_open, with_item_closed, opened_below, prefix_self}
+use Rattle.ff_stream.specs.Ports.{AllBelow, stream_at, IsClosed}
 use Rattle.ff_net.specs.declared.fault.Fault.{Fault}
 use Rattle.ff_net.specs.declared.ports.InPort.{InPort}
 use Rattle.ff_net.specs.declared.ports.OutPort.{OutPort}

@@ -2,13 +2,13 @@
 use Rattle.std.proofs.Common.{◌≡◌, ◌≢◌, ℕ, zero, suc, ◌<◌, ◌≤◌, ◌==◌, ◌⊎◌, inl, inr, Bool, true, false, cond, List, [], ◌∷◌, map, length, take, nat_le, refl, ap, sym, subst, arith, Option, None, Some}
 use Rattle.std.proofs.lemmas.Bool.Decides.{nat_tests}
 use mathlib.Core.List.{IsPrefix}
-use Rattle.ff_frame.specs.declared.item.Item.{Item}
-use Rattle.ff_frame.specs.declared.item.Lane.{Lane}
-use Rattle.ff_frame.specs.Stream.{still_open, LiesBelow}
-use Rattle.ff_frame.specs.Items.{with_item}
-use Rattle.ff_frame.specs.Order.{below_self, below_both, nothing_below, with_item_above, all_trans, prefix_self}
-use Rattle.ff_frame.specs.Ports.{nothing, stream_at, AllBelow}
-use Rattle.ff_frame.specs.LaneLaws.{valid_below, valid_front}
+use Rattle.ff_stream.specs.declared.item.Item.{Item}
+use Rattle.ff_stream.specs.declared.item.Lane.{Lane}
+use Rattle.ff_stream.specs.Stream.{still_open, LiesBelow}
+use Rattle.ff_stream.specs.Items.{with_item}
+use Rattle.ff_stream.specs.Order.{below_self, below_both, nothing_below, with_item_above, all_trans, prefix_self}
+use Rattle.ff_stream.specs.Ports.{nothing, stream_at, AllBelow}
+use Rattle.ff_stream.specs.LaneLaws.{valid_below, valid_front}
 use Rattle.ff_net.specs.Ways.{Flow, lane_at, IsValidOn, AreValid, with_item_at}
 use Rattle.ff_net.specs.Pasts.{Past, due, cut_to, fed}
 

@@ -1,11 +1,11 @@
 -- The network whose sources are taken as far as the units that they have tried.
 use Rattle.std.proofs.Common.{◌≡◌, ℕ, zero, suc, ◌<◌, inl, inr, Bool, true, false, ◌||◌, List, [], ◌∷◌, ◌++◌, map, length, take, nat_le, cond, slice_index_or, refl, ap, sym, ◌∙◌, subst, arith, Option, None, Some, IsSome, is_some}
 use mathlib.Core.List.{IsPrefix}
-use Rattle.ff_frame.specs.declared.item.Item.{Item}
-use Rattle.ff_frame.specs.declared.item.Lane.{Lane}
-use Rattle.ff_frame.specs.Stream.{Mark, still_open, whole, LiesBelow, opened, opened_mark}
-use Rattle.ff_frame.specs.Order.{below_trans, closed_below, stream_at-opened}
-use Rattle.ff_frame.specs.Ports.{nothing, stream_at, AllBelow, IsClosed}
+use Rattle.ff_stream.specs.declared.item.Item.{Item}
+use Rattle.ff_stream.specs.declared.item.Lane.{Lane}
+use Rattle.ff_stream.specs.Stream.{Mark, still_open, whole, LiesBelow, opened, opened_mark}
+use Rattle.ff_stream.specs.Order.{below_trans, closed_below, stream_at-opened}
+use Rattle.ff_stream.specs.Ports.{nothing, stream_at, AllBelow, IsClosed}
 use Rattle.ff_net.specs.declared.ports.InPort.{InPort}
 use Rattle.ff_net.specs.declared.node.Node.{Node}
 use Rattle.ff_net.specs.Ways.{Flow, lane_at, IsValidOn, AreValid}

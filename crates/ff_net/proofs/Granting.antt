@@ -1,9 +1,9 @@
 -- How a source is granted what it may read, and a machine is asked what it has to tell.
 use Rattle.std.proofs.Common.{◌≡◌, ℕ, List, ◌<◌, ◌≤◌, ◌+◌, ◌⊎◌, inl, inr, Bool, true, false, ◌||◌, ◌++◌, ◌∷◌, [], length, refl, ap, sym, ◌∙◌, subst, arith, length-append, append_assoc, Option, None, Some, IsSome}
-use Rattle.ff_values.specs.declared.event.Event.TheVariants.{Grant}
+use Rattle.ff_frame.specs.declared.event.Event.TheVariants.{Grant}
 use Rattle.ff_sched.specs.Histories.{logged}
 use Rattle.ff_sched.specs.Passing.{Passing, Scheduler, Told}
-use Rattle.ff_values.specs.declared.event.Event.{Event}
+use Rattle.ff_frame.specs.declared.event.Event.{Event}
 use Rattle.ff_net.specs.declared.fault.Fault.{Fault}
 use Rattle.ff_net.specs.declared.node.Node.{Node}
 use Rattle.ff_net.specs.declared.wires.Wires.{Wires}

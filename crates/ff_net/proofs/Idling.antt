@@ -1,10 +1,10 @@
 -- Where nothing moved.
 use Rattle.std.proofs.Common.{◌≡◌, ℕ, zero, suc, ◌<◌, ◌⊎◌, inl, inr, Bool, true, false, List, [], ◌∷◌, length, refl, ap, sym, ◌∙◌, subst, arith, Option, None, Some, is_some}
-use Rattle.ff_frame.specs.declared.item.Item.{Item}
-use Rattle.ff_frame.specs.Stream.{LiesBelow}
-use Rattle.ff_frame.specs.Items.{with_item}
-use Rattle.ff_frame.specs.Order.{below_both, with_item_above}
-use Rattle.ff_frame.specs.Ports.{stream_at, IsClosed}
+use Rattle.ff_stream.specs.declared.item.Item.{Item}
+use Rattle.ff_stream.specs.Stream.{LiesBelow}
+use Rattle.ff_stream.specs.Items.{with_item}
+use Rattle.ff_stream.specs.Order.{below_both, with_item_above}
+use Rattle.ff_stream.specs.Ports.{stream_at, IsClosed}
 use Rattle.ff_net.specs.declared.node.Node.{Node}
 use Rattle.ff_net.specs.declared.ports.InPort.{InPort}
 use Rattle.ff_net.specs.declared.ports.OutPort.{OutPort}

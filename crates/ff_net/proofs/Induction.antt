@@ -1,10 +1,10 @@
 -- From node to node upward.
 use Rattle.std.proofs.Common.{◌≡◌, ◌≢◌, ℕ, zero, suc, ◌⊎◌, inl, inr, Bool, true, false, ◌==◌, if◌then◌else◌, List, [], ◌∷◌, ◌++◌, map, refl, ap, sym, ◌∙◌, subst, arith, Option, Some}
 use Rattle.std.proofs.lemmas.Bool.Decides.{nat_tests}
-use Rattle.ff_frame.specs.declared.item.Lane.{Lane}
-use Rattle.ff_frame.specs.Stream.{LiesBelow, opened}
-use Rattle.ff_frame.specs.Order.{below_self, below_trans, opened_below, opened_keeps, unbroken_below, all_trans, all_opened_keeps, all_opened_twice}
-use Rattle.ff_frame.specs.Ports.{nothing, stream_at, AllBelow, IsMonotone, IsCalm, IsUnbroken}
+use Rattle.ff_stream.specs.declared.item.Lane.{Lane}
+use Rattle.ff_stream.specs.Stream.{LiesBelow, opened}
+use Rattle.ff_stream.specs.Order.{below_self, below_trans, opened_below, opened_keeps, unbroken_below, all_trans, all_opened_keeps, all_opened_twice}
+use Rattle.ff_stream.specs.Ports.{nothing, stream_at, AllBelow, IsMonotone, IsCalm, IsUnbroken}
 use Rattle.ff_net.specs.Ways.{Flow, lane_at, IsValidOn, AreValid}
 use Rattle.ff_net.specs.Pasts.{IsIn}
 use Rattle.ff_net.specs.Nets.{Part, put_all, solve_from, solve, IsUpward}

@@ -1,10 +1,10 @@
 -- Inputs of which nothing more matters.
 use Rattle.std.proofs.Common.{◌≡◌, ◌≢◌, ℕ, zero, suc, ◌<◌, ◌≤◌, ◌⊎◌, inl, inr, List, [], ◌∷◌, length, refl, ap, sym, ◌∙◌, subst, arith}
-use Rattle.ff_frame.specs.declared.item.Item.{Item}
-use Rattle.ff_frame.specs.declared.item.Lane.{Lane}
-use Rattle.ff_frame.specs.Stream.{Mark, still_open, whole, broken, LiesBelow}
-use Rattle.ff_frame.specs.Ports.{nothing, stream_at, AllBelow, IsClosed, IsMonotone}
-use Rattle.ff_frame.specs.Order.{all_trans, prefix_self, below_both, below_self, closed_below}
+use Rattle.ff_stream.specs.declared.item.Item.{Item}
+use Rattle.ff_stream.specs.declared.item.Lane.{Lane}
+use Rattle.ff_stream.specs.Stream.{Mark, still_open, whole, broken, LiesBelow}
+use Rattle.ff_stream.specs.Ports.{nothing, stream_at, AllBelow, IsClosed, IsMonotone}
+use Rattle.ff_stream.specs.Order.{all_trans, prefix_self, below_both, below_self, closed_below}
 use Rattle.ff_net.specs.Ways.{Flow, lane_at, IsValidOn, AreValid}
 use Rattle.ff_net.specs.Pasts.{Task, Past, IsIn}
 use Rattle.ff_net.specs.Laws.{OutputsClose, NoMatter, MaySpend, Settles}

@@ -1,8 +1,8 @@
 -- One node takes a turn, and the others stand as they did.
 use Rattle.std.proofs.Common.{◌≡◌, ℕ, ◌<◌, inl, inr, List, length, slice_index_or, slice_set, refl, ap, sym, ◌∙◌, subst, get_or-set_same, get_or-set_other, zero, suc, [], ◌∷◌, arith}
 use Rattle.std.proofs.lemmas.List.{length-set, get_or_default}
-use Rattle.ff_frame.specs.declared.item.Lane.{Lane}
-use Rattle.ff_frame.specs.Ports.{stream_at}
+use Rattle.ff_stream.specs.declared.item.Lane.{Lane}
+use Rattle.ff_stream.specs.Ports.{stream_at}
 use Rattle.ff_net.specs.declared.ports.InPort.{InPort}
 use Rattle.ff_net.specs.declared.ports.OutPort.{OutPort}
 use Rattle.ff_net.specs.declared.node.Node.{Node}

@@ -2,13 +2,13 @@
 use Rattle.std.proofs.Common.{All, ◌≡◌, ◌≢◌, ℕ, zero, suc, ◌<◌, ◌==◌, Bool, true, false, if◌then◌else◌, List, [], ◌∷◌, ◌++◌, length, slice_index_or, slice_set, refl, ap, sym, ◌∙◌, subst, arith, get_or-set_same, get_or-set_other, Option, None, Some}
 use Rattle.std.proofs.lemmas.List.{length-set, length-map}
 use Rattle.std.proofs.lemmas.Bool.Decides.{nat_tests}
-use Rattle.ff_frame.specs.declared.item.Item.{Item}
-use Rattle.ff_frame.specs.declared.item.Lane.{Lane}
-use Rattle.ff_frame.specs.Stream.{still_open, LiesBelow}
-use Rattle.ff_frame.specs.Items.{with_item, Leads}
-use Rattle.ff_frame.specs.Order.{leads_below, leads_push, below_self}
-use Rattle.ff_frame.specs.Ports.{nothing}
-use Rattle.ff_frame.specs.LaneLaws.{nothing_valid}
+use Rattle.ff_stream.specs.declared.item.Item.{Item}
+use Rattle.ff_stream.specs.declared.item.Lane.{Lane}
+use Rattle.ff_stream.specs.Stream.{still_open, LiesBelow}
+use Rattle.ff_stream.specs.Items.{with_item, Leads}
+use Rattle.ff_stream.specs.Order.{leads_below, leads_push, below_self}
+use Rattle.ff_stream.specs.Ports.{nothing}
+use Rattle.ff_stream.specs.LaneLaws.{nothing_valid}
 use Rattle.ff_net.specs.declared.wires.Queue.{Queue}
 use Rattle.ff_net.specs.Ways.{lane_at, IsValidOn}
 use Rattle.ff_net.specs.Worlds.{Wire, fresh, sizes_in, QueueStands, QueuesStand, lanes_in, with_wire, put_on, take_on, finish_on}

@@ -1,10 +1,10 @@
 -- What is sent and fed is valid, and what was closed by what was fed stays closed.
 use Rattle.std.proofs.Common.{◌≡◌, ℕ, false, ◌<◌, List, length, refl, sym, subst, Option, Some}
-use Rattle.ff_frame.specs.declared.item.Item.{Item}
-use Rattle.ff_frame.specs.declared.item.Item.TheVariants.{Broken}
-use Rattle.ff_frame.specs.declared.item.Lane.{Lane}
-use Rattle.ff_frame.specs.Items.{with_item}
-use Rattle.ff_frame.specs.Ports.{stream_at, AllBelow}
+use Rattle.ff_stream.specs.declared.item.Item.{Item}
+use Rattle.ff_stream.specs.declared.item.Item.TheVariants.{Broken}
+use Rattle.ff_stream.specs.declared.item.Lane.{Lane}
+use Rattle.ff_stream.specs.Items.{with_item}
+use Rattle.ff_stream.specs.Ports.{stream_at, AllBelow}
 use Rattle.ff_net.specs.declared.node.Node.{Node}
 use Rattle.ff_net.specs.declared.wires.Wires.{Wires}
 use Rattle.ff_net.specs.Ways.{Flow, lane_at, IsValidOn, AreValid}

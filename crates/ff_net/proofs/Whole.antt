@@ -1,9 +1,9 @@
 -- From nodes on wires to the theorem on the network.
 use Rattle.std.proofs.Common.{◌≡◌, ℕ, zero, suc, ◌<◌, ◌≤◌, ◌⊎◌, inl, inr, Bool, true, false, ◌||◌, List, [], ◌∷◌, map, length, slice_index_or, refl, ap, sym, ◌∙◌, subst, arith, Option, None, Some, is_some}
-use Rattle.ff_frame.specs.declared.item.Lane.{Lane}
-use Rattle.ff_frame.specs.Stream.{LiesBelow, opened}
-use Rattle.ff_frame.specs.Order.{below_self, below_trans, nothing_below, unbroken_below, closed_below, whole_if_closed, all_trans, stream_at-opened, with_item_above}
-use Rattle.ff_frame.specs.Ports.{nothing, stream_at, AllBelow, AllUnbroken, IsCalm, IsClosed, IsMonotone, IsWhole, IsUnbroken}
+use Rattle.ff_stream.specs.declared.item.Lane.{Lane}
+use Rattle.ff_stream.specs.Stream.{LiesBelow, opened}
+use Rattle.ff_stream.specs.Order.{below_self, below_trans, nothing_below, unbroken_below, closed_below, whole_if_closed, all_trans, stream_at-opened, with_item_above}
+use Rattle.ff_stream.specs.Ports.{nothing, stream_at, AllBelow, AllUnbroken, IsCalm, IsClosed, IsMonotone, IsWhole, IsUnbroken}
 use Rattle.ff_net.specs.declared.fault.Fault.{Fault}
 use Rattle.ff_net.specs.declared.ports.InPort.{InPort}
 use Rattle.ff_net.specs.declared.ports.OutPort.{OutPort}

@@ -1,9 +1,9 @@
 -- The laws of a machine, and their words.
 use Rattle.std.specs.Prelude.{◌≡◌, ◌≢◌, ℕ, ◌<◌, ◌≤◌, ◌⊎◌, ◌+◌, ◌-◌, ◌^◌, min, List, [], map, length, take, Option, None, Some, is_some, IsSome}
 use mathlib.Core.List.{IsPrefix}
-use Rattle.ff_frame.specs.declared.item.Lane.{Lane}
-use Rattle.ff_frame.specs.Stream.{still_open}
-use Rattle.ff_frame.specs.Ports.{stream_at, AllBelow, AllUnbroken, IsMonotone, IsCalm, IsClosed}
+use Rattle.ff_stream.specs.declared.item.Lane.{Lane}
+use Rattle.ff_stream.specs.Stream.{still_open}
+use Rattle.ff_stream.specs.Ports.{stream_at, AllBelow, AllUnbroken, IsMonotone, IsCalm, IsClosed}
 use Rattle.ff_net.specs.declared.fault.Fault.{Fault}
 use Rattle.ff_net.specs.declared.fault.Fault.TheVariants.{Device, Damaged, TooLong, TooLarge, NoMemory}
 use Rattle.ff_net.specs.Ways.{Flow, AreValid}

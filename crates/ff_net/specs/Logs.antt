@@ -1,9 +1,9 @@
 -- The log of a node's pass, and how a pass goes on.
 use Rattle.std.specs.Prelude.{◌≡◌, ℕ, All, List, [], ◌∷◌, ◌++◌, Option, None, Some}
 use mathlib.Core.List.{IsPrefix}
-use Rattle.ff_values.specs.declared.event.Ticket.{Ticket}
-use Rattle.ff_values.specs.declared.event.Event.{Event}
-use Rattle.ff_values.specs.declared.event.Event.TheVariants.{Grant, Sent, Finished, Best, Exited}
+use Rattle.ff_frame.specs.declared.event.Ticket.{Ticket}
+use Rattle.ff_frame.specs.declared.event.Event.{Event}
+use Rattle.ff_frame.specs.declared.event.Event.TheVariants.{Grant, Sent, Finished, Best, Exited}
 use Rattle.ff_sched.specs.declared.logged.Logged.{Logged}
 use Rattle.ff_sched.specs.Passing.{Passing}
 use Rattle.ff_sched.specs.Events.{fold}

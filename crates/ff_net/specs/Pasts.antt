@@ -1,9 +1,9 @@
 -- What a machine is there for, and what it has behind it.
 use Rattle.std.specs.Prelude.{◌≡◌, ℕ, ◌⊎◌, Bool, List, [], ◌∷◌, ◌++◌, map, length, take, nat_le, cond, Option}
-use Rattle.ff_frame.specs.declared.item.Item.{Item}
-use Rattle.ff_values.specs.declared.event.Ticket.{Ticket}
-use Rattle.ff_frame.specs.Stream.{still_open}
-use Rattle.ff_values.specs.declared.event.Event.{Event}
+use Rattle.ff_stream.specs.declared.item.Item.{Item}
+use Rattle.ff_frame.specs.declared.event.Ticket.{Ticket}
+use Rattle.ff_stream.specs.Stream.{still_open}
+use Rattle.ff_frame.specs.declared.event.Event.{Event}
 use Rattle.ff_net.specs.declared.fault.Fault.{Fault}
 use Rattle.ff_net.specs.Ways.{Flow, with_item_at}
 

@@ -1,8 +1,8 @@
 -- Machines that tell nothing.
 use Rattle.std.proofs.Common.{◌≡◌, List, ap, sym, ◌∙◌, subst}
 use mathlib.Core.List.{IsPrefix}
-use Rattle.ff_frame.specs.Order.{prefix_self}
-use Rattle.ff_values.specs.declared.event.Event.{Event}
+use Rattle.ff_stream.specs.Order.{prefix_self}
+use Rattle.ff_frame.specs.declared.event.Event.{Event}
 use Rattle.ff_net.specs.Pasts.{Past, Feed}
 use Rattle.ff_net.specs.Laws.{IsSilent}
 

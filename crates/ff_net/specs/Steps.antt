@@ -1,7 +1,7 @@
 -- What a node does, whatever it and its wires have behind them.
 use Rattle.std.specs.Prelude.{◌≡◌, ◌≢◌, ℕ, ◌<◌, ◌⊎◌, Bool, true, false, List, length, None, Some}
 use mathlib.Core.List.{IsPrefix}
-use Rattle.ff_frame.specs.Stream.{LiesBelow}
+use Rattle.ff_stream.specs.Stream.{LiesBelow}
 use Rattle.ff_net.specs.declared.node.Node.{Node}
 use Rattle.ff_net.specs.declared.wires.Wires.{Wires}
 use Rattle.ff_net.specs.Laws.{FaultStep}
@@ -11,7 +11,7 @@ use Rattle.ff_net.specs.Worlds.{Wire, Stand, lanes_of}
 use Rattle.ff_net.specs.Nodes.{NodeStands, IsSound, in_wires_of, out_wires_of}
 use Rattle.ff_net.specs.Ports.{out_at, NoneHeld}
 use Rattle.ff_net.specs.Views.{View}
-use Rattle.ff_frame.specs.Ports.{stream_at}
+use Rattle.ff_stream.specs.Ports.{stream_at}
 
 -- from one moment to a later one: only a node's own wires change, what was done stays done, and nothing is taken from a
 -- wire that was finished

@@ -18,8 +18,8 @@
 -- The theorem is the record `MeetsSolution`. It is about moments, not ends: it holds after each turn. That a run ends isn't
 -- in it.
 use Rattle.std.specs.Prelude.{◌≡◌, ℕ, ◌<◌, List, length, map, slice_index_or, Some}
-use Rattle.ff_frame.specs.Ports.{stream_at, IsWhole}
-use Rattle.ff_frame.specs.Stream.{LiesBelow, opened}
+use Rattle.ff_stream.specs.Ports.{stream_at, IsWhole}
+use Rattle.ff_stream.specs.Stream.{LiesBelow, opened}
 use Rattle.ff_net.specs.declared.fault.Fault.{Fault}
 use Rattle.ff_net.specs.declared.node.Node.{Node}
 use Rattle.ff_net.specs.Laws.{FaultStep, IsOfInputs}

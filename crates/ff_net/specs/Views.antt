@@ -1,6 +1,6 @@
 -- What a machine shows to contracts, at one moment. All that is said of a machine from outside is said of its view.
 use Rattle.std.specs.Prelude.{◌≡◌, ℕ, List, Option}
-use Rattle.ff_frame.specs.declared.item.Lane.{Lane}
+use Rattle.ff_stream.specs.declared.item.Lane.{Lane}
 use Rattle.ff_net.specs.declared.fault.Fault.{Fault}
 use Rattle.ff_net.specs.Pasts.{Past}
 

@@ -28,7 +28,7 @@
 //! no turn and no wire's size is in it. Whatever the turns were, what a node took is a front of its solution, and once
 //! every node is done and none has a fault, a node without outputs was fed the solution itself.
 //!
-//! Not promised: that a network ever gets done, or that each node gets its turn. Nothing here waits; `ff_net_links` runs
+//! Not promised: that a network ever gets done, or that each node gets its turn. Nothing here waits; `ff_net_threads` runs
 //! nodes in threads of their own.
 #![tactic(auto)]
 

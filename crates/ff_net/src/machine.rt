@@ -1,8 +1,8 @@
 ghost use Rattle.std.specs.Prelude.{◌≡◌, ◌<◌, ◌⊎◌, ◌↔◌, length, IsSome, IsNone, IfSome, OnOk, OnErr, IfErr, IsTrue, None, Some, Ok};
-ghost use Rattle.ff_frame.specs.Stream.{still_open, LiesBelow};
-ghost use Rattle.ff_frame.specs.Items.{with_item};
-ghost use Rattle.ff_frame.specs.Ports.{stream_at};
-ghost use Rattle.ff_values.specs.declared.event.Event.{Event};
+ghost use Rattle.ff_stream.specs.Stream.{still_open, LiesBelow};
+ghost use Rattle.ff_stream.specs.Items.{with_item};
+ghost use Rattle.ff_stream.specs.Ports.{stream_at};
+ghost use Rattle.ff_frame.specs.declared.event.Event.{Event};
 ghost use Rattle.ff_net.specs.declared.fault.Fault.{Fault};
 ghost use Rattle.ff_net.specs.declared.fault.Fault.TheVariants.{Device};
 ghost use Rattle.ff_net.specs.Ways.{AreValid};
@@ -11,7 +11,8 @@ ghost use Rattle.ff_net.specs.Laws.{FaultStep, GoesOn, IsReading, Laws};
 ghost use Rattle.ff_net.specs.Views.{View, IsSameShape};
 
 use crate::fault::Fault;
-use ff_frame::{Event, Item, Refused, Ticket};
+use ff_frame::{Event, Ticket};
+use ff_stream::{Item, Refused};
 use std::alloc::AllocError;
 
 /// A part that takes streams and gives streams, an item at a time.

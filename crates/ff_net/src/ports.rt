@@ -1,7 +1,7 @@
 ghost use Rattle.std.specs.Prelude.{◌≡◌, ◌<◌, ◌↔◌, length, slice_set, true, false, None, Some, is_some, map, IfOk, IsTrue};
 ghost use Rattle.ff_net.specs.Ports.{in_at, out_at, AreDone};
 
-use ff_frame::Item;
+use ff_stream::Item;
 use std::alloc::{AllocError, Global};
 
 /// An input of a node: its wire, and whether the node has finished it.

@@ -1,7 +1,7 @@
 ghost use Rattle.std.specs.Prelude.{◌≡◌, ◌<◌, ◌≤◌};
 ghost use Rattle.std.specs.VecDeque.{deque_len, deque_capacity};
 
-use ff_frame::{Item, Lane};
+use ff_stream::{Item, Lane};
 use std::alloc::{AllocError, Global};
 use std::collections::VecDeque;
 
@@ -44,8 +44,8 @@ pub struct Wires {
 
 impl Wires {
     ghost use Rattle.std.specs.Prelude.{◌≡◌, ◌<◌, ℕ, length, false, true, IfOk, All};
-    ghost use Rattle.ff_frame.specs.Stream.{still_open};
-    ghost use Rattle.ff_frame.specs.Items.{with_item};
+    ghost use Rattle.ff_stream.specs.Stream.{still_open};
+    ghost use Rattle.ff_stream.specs.Items.{with_item};
     ghost use Rattle.ff_net.specs.Ways.{lane_at, IsValidOn};
     ghost use Rattle.ff_net.specs.Worlds.{Wire, Stand, fresh, put_on, take_on, finish_on, lanes_of, sizes_of, IsFull, HasRoom, IsEmpty, IsFinished};
 

@@ -2,7 +2,7 @@ pub mod After
 pub mod Carrying
 pub mod Linking
 pub mod Meeting
-mod Served
+pub mod Served
 pub mod Tables
-mod Turns
-mod Senders
+pub mod Turns
+pub mod Senders

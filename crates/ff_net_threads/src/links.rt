@@ -12,7 +12,6 @@
 //! So all that is known of a node on wires is known here, and nothing is shared but the links and the scheduler's cell, at
 //! which each node has its pass. A node whose source may not be read sleeps until another has told the cell something. That a
 //! run ends is not promised.
-#![tactic(auto)]
 
 mod bells;
 mod ends;
@@ -24,7 +23,6 @@ mod threads;
 mod worker;
 
 pub use ends::{InEnd, OutEnd};
-pub use ff_link::Settled;
 pub use linked::Linked;
 pub use room::Room;
 pub use settling::{Ran, settle_all};

@@ -1,7 +1,7 @@
 //! Any number of machines as the nodes of a network, on links between threads.
 //!
 //! Machines have numbers, by their places in a list, and an edge leads from an output of one to an input of a later one.
-//! Each edge becomes a link of `ff_link`, each machine a node of `ff_net_links` at the ends of its links, and each node
+//! Each edge becomes a link of `ff_link`, each machine a node of `ff_net_threads` at the ends of its links, and each node
 //! runs in a thread of its own.
 //!
 //! ```text
@@ -20,12 +20,11 @@
 //!            the machines in their order, the fault of the first that has one, and the history of the scheduler
 //! ```
 //!
-//! The edges have to fit the machines (`specs/Fits`): at each port stands an edge of its lane, and the edge at each input
-//! leaves an earlier machine. Then what each machine was fed is known by the solution of the network (`specs/Runs`),
+//! The edges have to fit the machines (`specs/network/Fits`): at each port stands an edge of its lane, and the edge at each input
+//! leaves an earlier machine. Then what each machine was fed is known by the solution of the network (`specs/network/Runs`),
 //! whatever the sizes of the links and the order of the threads. All nodes share the cell of one scheduler, at which each has a
-//! pass. Once they have ended, their passes give the one history of what was granted and told (`specs/Scheduling`): each grant
+//! pass. Once they have ended, their passes give the one history of what was granted and told (`specs/network/Scheduling`): each grant
 //! came where the history before it unchokes the source. That a run ends is not promised.
-#![tactic(auto)]
 
 mod laws;
 mod node;

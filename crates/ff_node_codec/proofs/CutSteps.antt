@@ -3,34 +3,34 @@ use Rattle.std.proofs.Common.{◌≡◌, ℕ, Bool, true, false, not, ◌||◌, 
 use Rattle.std.specs.Result.{IfOk}
 use Rattle.std.specs.declared.result.Result.{Result}
 use Rattle.ff_time.specs.declared.cut.TimeCut.{TimeCut}
-use Rattle.ff_values.specs.Heads.{base_of_head}
-use Rattle.ff_values.specs.declared.head.StreamHead.{StreamHead}
-use Rattle.ff_values.specs.declared.packet.Pkt.{Pkt}
-use Rattle.ff_frame.specs.declared.item.Item.{Item}
-use Rattle.ff_frame.specs.declared.item.Item.TheVariants.{Audio, Video, Packet, Trailer, End, Broken}
-use Rattle.ff_frame.specs.declared.item.Lane.TheVariants.{Frames, Packets}
-use Rattle.ff_frame.specs.Items.{Closes}
-use Rattle.ff_frame.specs.Lanes.{FitsLane}
-use Rattle.ff_frame.specs.Ports.{nothing}
-use Rattle.ff_frame.specs.Stream.{Mark, still_open, whole, broken}
+use Rattle.ff_frame.specs.Heads.{base_of_head}
+use Rattle.ff_frame.specs.declared.head.StreamHead.{StreamHead}
+use Rattle.ff_frame.specs.declared.packet.Pkt.{Pkt}
+use Rattle.ff_stream.specs.declared.item.Item.{Item}
+use Rattle.ff_stream.specs.declared.item.Item.TheVariants.{Audio, Video, Packet, Trailer, End, Broken}
+use Rattle.ff_stream.specs.declared.item.Lane.TheVariants.{Frames, Packets}
+use Rattle.ff_stream.specs.Items.{Closes}
+use Rattle.ff_stream.specs.Lanes.{FitsLane}
+use Rattle.ff_stream.specs.Ports.{nothing}
+use Rattle.ff_stream.specs.Stream.{Mark, still_open, whole, broken}
 use Rattle.ff_filter.specs.declared.after.After.{After}
 use Rattle.ff_filter.specs.declared.after.After.TheVariants.{More}
 use Rattle.ff_filter.specs.Joins.{joined, joined_nothing, one, before}
 use Rattle.ff_filter.specs.Made.{made_of}
 use Rattle.ff_filter.specs.Views.{closes}
 use Rattle.ff_net.specs.Ways.{Flow}
-use Rattle.ff_cutting.specs.declared.cut.Cut.{Cut}
-use Rattle.ff_cutting.specs.CutLaws.{runs-waits}
-use Rattle.ff_cutting.specs.Taps.{runs_of}
-use Rattle.ff_cutting.specs.Cuts.{is_empty, is_uncut, range_in, from_range, kept, cut}
-use Rattle.ff_coding.specs.declared.step.Step.{Step}
-use Rattle.ff_coding.specs.declared.step.Step.TheVariants.{Puts, Passes}
-use Rattle.ff_coding.specs.CutFrames.{kept_bare, cut_kept, none_left}
-use Rattle.ff_coding.specs.Decoding.{decoded_item, decoded, if_broken, cut_frames}
-use Rattle.ff_coding.specs.Making.{passes, damage_in, made_stream}
-use Rattle.ff_coding.specs.Spreads.{Carries}
-use Rattle.ff_coding.specs.Steps.{damage_of, IsStepFor, FollowsFrom, IsLeft, IsCutTo, GivesBack, HasSpare}
-use Rattle.ff_coding.proofs.SpreadSteps.{put_one, PutsFor, puts_for, Putting, closing, going, breaking, one_made, one_damage}
+use Rattle.ff_trim.specs.declared.cut.Cut.{Cut}
+use Rattle.ff_trim.specs.CutLaws.{runs-waits}
+use Rattle.ff_trim.specs.Taps.{runs_of}
+use Rattle.ff_trim.specs.Cuts.{is_empty, is_uncut, range_in, from_range, kept, cut}
+use Rattle.ff_node_codec.specs.declared.step.Step.{Step}
+use Rattle.ff_node_codec.specs.declared.step.Step.TheVariants.{Puts, Passes}
+use Rattle.ff_node_codec.specs.CutFrames.{kept_bare, cut_kept, none_left}
+use Rattle.ff_node_codec.specs.Decoding.{decoded_item, decoded, if_broken, cut_frames}
+use Rattle.ff_node_codec.specs.Making.{passes, damage_in, made_stream}
+use Rattle.ff_node_codec.specs.Spreads.{Carries}
+use Rattle.ff_node_codec.specs.Steps.{damage_of, IsStepFor, FollowsFrom, IsLeft, IsCutTo, GivesBack, HasSpare}
+use Rattle.ff_node_codec.proofs.SpreadSteps.{put_one, PutsFor, puts_for, Putting, closing, going, breaking, one_made, one_damage}
 
 -- the two ways to say that nothing comes behind an item
 pub goes_on_so : (x : Item) → closes x ≡ false → Closes x → ⊥

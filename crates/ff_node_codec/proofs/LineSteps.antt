@@ -1,13 +1,13 @@
 -- One output changes, and the others are as they were.
 use Rattle.std.proofs.Common.{◌≡◌, ◌≢◌, ℕ, zero, suc, ◌+◌, ◌<◌, ◌≤◌, List, [], ◌∷◌, ◌++◌, ◌⊎◌, length, slice_index_or, slice_set, Some, true, Bool, refl, ap, sym, ◌∙◌, subst, arith, inl, inr, get_or-set_same, get_or-set_other, false}
 use Rattle.std.proofs.lemmas.List.{length-set}
-use Rattle.ff_frame.specs.declared.item.Item.{Item}
+use Rattle.ff_stream.specs.declared.item.Item.{Item}
 use Rattle.ff_filter.specs.declared.after.After.{After}
 use Rattle.ff_net.proofs.Flows.{same_or_not}
-use Rattle.ff_coding.specs.declared.ready.Ready.{Ready}
-use Rattle.ff_coding.specs.Lines.{line_of, line_at, next_at, HasRoom, HaveRoom, closing_items, AreSame}
-use Rattle.ff_coding.specs.Puts.{IsLast, AreNext}
-use Rattle.ff_coding.specs.Spreads.{Line}
+use Rattle.ff_node_codec.specs.declared.ready.Ready.{Ready}
+use Rattle.ff_node_codec.specs.Lines.{line_of, line_at, next_at, HasRoom, HaveRoom, closing_items, AreSame}
+use Rattle.ff_node_codec.specs.Puts.{IsLast, AreNext}
+use Rattle.ff_node_codec.specs.Spreads.{Line}
 
 pub line_is : (rs : List Ready) (q : ℕ) (r : Ready) → q < length rs → r ≡ slice_index_or rs q r → line_at rs q ≡ line_of r
 line_is [] q r lt is = absurd (omega arith)

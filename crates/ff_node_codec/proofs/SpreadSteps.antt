@@ -3,33 +3,33 @@ use Rattle.std.proofs.Common.{All, ◌≡◌, ◌≢◌, ◌↔◌, ℕ, zero, s
 use Rattle.std.specs.Result.{OnOk, OnErr}
 use Rattle.std.specs.declared.result.Result.{Result}
 use Rattle.std.proofs.lemmas.List.{append-nil}
-use Rattle.ff_frame.specs.declared.item.Item.{Item}
-use Rattle.ff_frame.specs.declared.item.Item.TheVariants.{Audio, Video, Packet, Trailer, End, Broken}
-use Rattle.ff_frame.specs.declared.item.Lane.{Lane}
-use Rattle.ff_frame.specs.Stream.{Mark, still_open, whole, broken, LiesBelow}
-use Rattle.ff_frame.specs.Items.{Closes, with_item, Leads}
-use Rattle.ff_frame.specs.Order.{below_trans, closed_below, leads_below, leads_push, with_item_above, with_item_open, with_item_closed, nothing_below}
-use Rattle.ff_frame.specs.Ports.{nothing, stream_at, IsClosed, IsUnbroken}
-use Rattle.ff_frame.specs.Lanes.{FitsLane, IsItemFor, IsValid}
-use Rattle.ff_frame.specs.Times.{HasTime}
-use Rattle.ff_frame.specs.LaneLaws.{nothing_valid}
+use Rattle.ff_stream.specs.declared.item.Item.{Item}
+use Rattle.ff_stream.specs.declared.item.Item.TheVariants.{Audio, Video, Packet, Trailer, End, Broken}
+use Rattle.ff_stream.specs.declared.item.Lane.{Lane}
+use Rattle.ff_stream.specs.Stream.{Mark, still_open, whole, broken, LiesBelow}
+use Rattle.ff_stream.specs.Items.{Closes, with_item, Leads}
+use Rattle.ff_stream.specs.Order.{below_trans, closed_below, leads_below, leads_push, with_item_above, with_item_open, with_item_closed, nothing_below}
+use Rattle.ff_stream.specs.Ports.{nothing, stream_at, IsClosed, IsUnbroken}
+use Rattle.ff_stream.specs.Lanes.{FitsLane, IsItemFor, IsValid}
+use Rattle.ff_stream.specs.Times.{HasTime}
+use Rattle.ff_stream.specs.LaneLaws.{nothing_valid}
 use Rattle.ff_filter.specs.declared.after.After.{After}
 use Rattle.ff_filter.specs.declared.after.After.TheVariants.{More, Whole, Broke}
 use Rattle.ff_filter.specs.Joins.{joined, joined_at, one, joined_assoc, joined_nothing, joined_above, joined_closed}
 use Rattle.ff_filter.specs.Made.{made_of, mark_after, is_over}
-use Rattle.ff_coding.specs.declared.step.Step.{Step}
-use Rattle.ff_coding.specs.declared.step.Step.TheVariants.{Puts, Passes}
+use Rattle.ff_node_codec.specs.declared.step.Step.{Step}
+use Rattle.ff_node_codec.specs.declared.step.Step.TheVariants.{Puts, Passes}
 use Rattle.ff_net.specs.Ways.{Flow, AreValid}
 use Rattle.ff_net.specs.Pasts.{Task, Past, IsIn, due, fed, gave_item, was_asked, was_stopped, start}
 use Rattle.ff_net.proofs.Flows.{same_or_not, stream_at-with_item_same, stream_at-with_item_other}
-use Rattle.ff_coding.specs.Making.{Outcome, gives, passes, breaks, Making, by_items, and_items, or_damage, damage_in, mark_by, made_stream}
-use Rattle.ff_coding.specs.MakingLaws.{some_or_none}
-use Rattle.ff_coding.specs.Spreads.{IsOutcomeOf, Carries, Makes, Line, spread, Spreads}
-use Rattle.ff_coding.specs.SpreadLaws.{at_replicate, spreads_due}
-use Rattle.ff_coding.specs.declared.spread.Spread.{Spread}
-use Rattle.ff_coding.specs.Lines.{line_at, closing_items, first_items}
-use Rattle.ff_coding.specs.Standing.{at_first, IsSpreadTask, IsSameSpread, SpreadStands, first_damage}
-use Rattle.ff_coding.specs.Steps.{IsStepFor, FollowsFrom, IsPut, IsPutFor}
+use Rattle.ff_node_codec.specs.Making.{Outcome, gives, passes, breaks, Making, by_items, and_items, or_damage, damage_in, mark_by, made_stream}
+use Rattle.ff_node_codec.specs.MakingLaws.{some_or_none}
+use Rattle.ff_node_codec.specs.Spreads.{IsOutcomeOf, Carries, Makes, Line, spread, Spreads}
+use Rattle.ff_node_codec.specs.SpreadLaws.{at_replicate, spreads_due}
+use Rattle.ff_node_codec.specs.declared.spread.Spread.{Spread}
+use Rattle.ff_node_codec.specs.Lines.{line_at, closing_items, first_items}
+use Rattle.ff_node_codec.specs.Standing.{at_first, IsSpreadTask, IsSameSpread, SpreadStands, first_damage}
+use Rattle.ff_node_codec.specs.Steps.{IsStepFor, FollowsFrom, IsPut, IsPutFor}
 
 pub only_port : (p : ℕ) → p < 1 → p ≡ 0
 only_port p lt = omega arith

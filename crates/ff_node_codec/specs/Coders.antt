@@ -1,18 +1,18 @@
 -- The decoder and the encoder as machines: their lanes, their faults, and when an input of theirs is spent.
 use Rattle.std.specs.Prelude.{◌≡◌, ℕ, List, [], ◌∷◌, replicate, Option}
-use Rattle.ff_values.specs.declared.packet.Pkt.{Pkt}
-use Rattle.ff_values.specs.declared.head.StreamHead.{StreamHead}
-use Rattle.ff_frame.specs.declared.item.Item.{Item}
-use Rattle.ff_frame.specs.declared.item.Lane.{Lane}
-use Rattle.ff_frame.specs.declared.item.Lane.TheVariants.{Frames, Packets}
+use Rattle.ff_frame.specs.declared.packet.Pkt.{Pkt}
+use Rattle.ff_frame.specs.declared.head.StreamHead.{StreamHead}
+use Rattle.ff_stream.specs.declared.item.Item.{Item}
+use Rattle.ff_stream.specs.declared.item.Lane.{Lane}
+use Rattle.ff_stream.specs.declared.item.Lane.TheVariants.{Frames, Packets}
 use Rattle.ff_net.specs.declared.fault.Fault.{Fault}
 use Rattle.ff_net.specs.Pasts.{Past}
-use Rattle.ff_coding.specs.declared.dec.Dec.{Dec}
-use Rattle.ff_coding.specs.declared.enc.Enc.{Enc}
-use Rattle.ff_coding.specs.Making.{by_items, fault_by}
-use Rattle.ff_coding.specs.Standing.{outputs_of, spread_spent, SpreadStands}
-use Rattle.ff_coding.specs.Decoding.{cut_frames}
-use Rattle.ff_coding.specs.Encoding.{encoded_item}
+use Rattle.ff_node_codec.specs.declared.dec.Dec.{Dec}
+use Rattle.ff_node_codec.specs.declared.enc.Enc.{Enc}
+use Rattle.ff_node_codec.specs.Making.{by_items, fault_by}
+use Rattle.ff_node_codec.specs.Standing.{outputs_of, spread_spent, SpreadStands}
+use Rattle.ff_node_codec.specs.Decoding.{cut_frames}
+use Rattle.ff_node_codec.specs.Encoding.{encoded_item}
 
 -- ---- a decoder of any codec, by the head of its stream and the frames that it makes
 

@@ -3,24 +3,24 @@ use Rattle.std.specs.Prelude.{◌≡◌, ◌↔◌, ℕ, zero, suc, ◌==◌, no
 use Rattle.std.proofs.Common.{inl, inr, ap, sym, ◌∙◌, subst}
 use mathlib.Core.List.{IsPrefix}
 use Rattle.ff_time.specs.declared.cut.TimeCut.{TimeCut}
-use Rattle.ff_values.specs.Heads.{base_of_head}
-use Rattle.ff_values.specs.declared.head.StreamHead.{StreamHead}
-use Rattle.ff_values.specs.declared.head.StreamHead.TheVariants.{Audio as AudioHead, Video as VideoHead}
-use Rattle.ff_values.specs.declared.packet.Pkt.{Pkt}
-use Rattle.ff_frame.specs.declared.item.Item.{Item}
-use Rattle.ff_frame.specs.declared.item.Item.TheVariants.{Audio, Video, Packet, Trailer, End, Broken}
-use Rattle.ff_frame.specs.Stream.{Mark, still_open, whole, broken, whole_stream, LiesBelow, opened, opened_mark}
-use Rattle.ff_frame.specs.Ports.{stream_at, AllBelow, IsClosed, IsUnbroken}
-use Rattle.ff_frame.specs.Order.{prefix_self, closed_below, stream_at-opened, whole_if_closed}
-use Rattle.ff_frame.specs.Breaks.{IsBrokenOff, KeepsBrokenRule}
+use Rattle.ff_frame.specs.Heads.{base_of_head}
+use Rattle.ff_frame.specs.declared.head.StreamHead.{StreamHead}
+use Rattle.ff_frame.specs.declared.head.StreamHead.TheVariants.{Audio as AudioHead, Video as VideoHead}
+use Rattle.ff_frame.specs.declared.packet.Pkt.{Pkt}
+use Rattle.ff_stream.specs.declared.item.Item.{Item}
+use Rattle.ff_stream.specs.declared.item.Item.TheVariants.{Audio, Video, Packet, Trailer, End, Broken}
+use Rattle.ff_stream.specs.Stream.{Mark, still_open, whole, broken, whole_stream, LiesBelow, opened, opened_mark}
+use Rattle.ff_stream.specs.Ports.{stream_at, AllBelow, IsClosed, IsUnbroken}
+use Rattle.ff_stream.specs.Order.{prefix_self, closed_below, stream_at-opened, whole_if_closed}
+use Rattle.ff_stream.specs.Breaks.{IsBrokenOff, KeepsBrokenRule}
 use Rattle.ff_filter.specs.declared.range.Range.{Range}
 use Rattle.ff_net.specs.Ways.{Flow}
-use Rattle.ff_cutting.specs.Cuts.{is_uncut, is_empty, range_in, from_range, kept, cut}
-use Rattle.ff_cutting.proofs.Limiting.{cut-settles, cut_breaks}
-use Rattle.ff_coding.specs.Making.{Outcome, and_items, made_items, or_damage, damage_in, mark_by, made_stream}
-use Rattle.ff_coding.specs.MakingLaws.{made_below, made_closed}
-use Rattle.ff_coding.specs.CutFrames.{none_left}
-use Rattle.ff_coding.specs.Decoding.{frame_or_damage, decoded_item, decoded, if_broken, cut_frames}
+use Rattle.ff_trim.specs.Cuts.{is_uncut, is_empty, range_in, from_range, kept, cut}
+use Rattle.ff_trim.proofs.Limiting.{cut-settles, cut_breaks}
+use Rattle.ff_node_codec.specs.Making.{Outcome, and_items, made_items, or_damage, damage_in, mark_by, made_stream}
+use Rattle.ff_node_codec.specs.MakingLaws.{made_below, made_closed}
+use Rattle.ff_node_codec.specs.CutFrames.{none_left}
+use Rattle.ff_node_codec.specs.Decoding.{frame_or_damage, decoded_item, decoded, if_broken, cut_frames}
 
 -- ---- the broken rule
 

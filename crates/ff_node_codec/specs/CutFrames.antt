@@ -2,28 +2,28 @@
 use Rattle.std.specs.Prelude.{◌≡◌, ℕ, ◌⊎◌, Bool, true, false, cond, List, [], ◌∷◌, Option, None, Some, refl}
 use Rattle.std.proofs.Common.{sym, ap, inl, inr, ◌∙◌}
 use Rattle.ff_time.specs.declared.cut.TimeCut.{TimeCut}
-use Rattle.ff_values.specs.Heads.{base_of_head}
-use Rattle.ff_values.specs.declared.head.StreamHead.{StreamHead}
-use Rattle.ff_values.specs.declared.head.StreamHead.TheVariants.{Audio as AudioHead, Video as VideoHead}
-use Rattle.ff_values.specs.declared.packet.Pkt.{Pkt}
-use Rattle.ff_frame.specs.declared.item.Item.{Item}
-use Rattle.ff_frame.specs.declared.item.Lane.TheVariants.{Frames, Packets}
-use Rattle.ff_frame.specs.Order.{below_trans, closed_below}
-use Rattle.ff_frame.specs.Ports.{nothing, IsUnbroken}
-use Rattle.ff_frame.specs.Stream.{Mark, still_open, whole, broken, whole_stream, LiesBelow, opened}
+use Rattle.ff_frame.specs.Heads.{base_of_head}
+use Rattle.ff_frame.specs.declared.head.StreamHead.{StreamHead}
+use Rattle.ff_frame.specs.declared.head.StreamHead.TheVariants.{Audio as AudioHead, Video as VideoHead}
+use Rattle.ff_frame.specs.declared.packet.Pkt.{Pkt}
+use Rattle.ff_stream.specs.declared.item.Item.{Item}
+use Rattle.ff_stream.specs.declared.item.Lane.TheVariants.{Frames, Packets}
+use Rattle.ff_stream.specs.Order.{below_trans, closed_below}
+use Rattle.ff_stream.specs.Ports.{nothing, IsUnbroken}
+use Rattle.ff_stream.specs.Stream.{Mark, still_open, whole, broken, whole_stream, LiesBelow, opened}
 use Rattle.ff_filter.specs.declared.range.Range.{Range}
 use Rattle.ff_filter.specs.Joins.{joined, joined_at}
 use Rattle.ff_filter.specs.Runs.{run, run_at, rest_of, run_on, no_more}
 use Rattle.ff_net.specs.Ways.{Flow}
-use Rattle.ff_cutting.specs.Cuts.{is_uncut, is_empty, range_in, from_range, kept, cut}
-use Rattle.ff_cutting.specs.Frames.{cut_step}
-use Rattle.ff_cutting.proofs.ByFrames.{by_frames}
-use Rattle.ff_cutting.proofs.Limiting.{cut-below, cut-calm, cut-settles, cut_breaks}
-use Rattle.ff_cutting.proofs.Valid.{cut_valid}
-use Rattle.ff_coding.specs.Decoding.{decoded_item, decoded, if_broken, cut_frames}
-use Rattle.ff_coding.specs.Making.{damage_in}
-use Rattle.ff_coding.specs.MakingLaws.{made_below, made_calm, made_closed, made_valid, made_unbroken, made_goes_on, damage_stays}
-use Rattle.ff_coding.specs.Spreads.{Carries, Makes}
+use Rattle.ff_trim.specs.Cuts.{is_uncut, is_empty, range_in, from_range, kept, cut}
+use Rattle.ff_trim.specs.Frames.{cut_step}
+use Rattle.ff_trim.proofs.ByFrames.{by_frames}
+use Rattle.ff_trim.proofs.Limiting.{cut-below, cut-calm, cut-settles, cut_breaks}
+use Rattle.ff_trim.proofs.Valid.{cut_valid}
+use Rattle.ff_node_codec.specs.Decoding.{decoded_item, decoded, if_broken, cut_frames}
+use Rattle.ff_node_codec.specs.Making.{damage_in}
+use Rattle.ff_node_codec.specs.MakingLaws.{made_below, made_calm, made_closed, made_valid, made_unbroken, made_goes_on, damage_stays}
+use Rattle.ff_node_codec.specs.Spreads.{Carries, Makes}
 
 -- ---- a cut of a stream, and then of what comes behind it
 

@@ -1,17 +1,17 @@
 -- What decoding makes of what a lane of packets carries.
 use Rattle.std.specs.Prelude.{Option, None, Some, IfSome, refl}
-use Rattle.ff_values.specs.declared.packet.Pkt.{Pkt}
-use Rattle.ff_values.specs.declared.head.StreamHead.{StreamHead}
-use Rattle.ff_values.specs.declared.head.StreamHead.TheVariants.{Audio as AudioHead, Video as VideoHead}
-use Rattle.ff_frame.specs.declared.item.Item.{Item}
-use Rattle.ff_frame.specs.declared.item.Item.TheVariants.{Audio, Video, Packet, Trailer, End, Broken}
-use Rattle.ff_frame.specs.declared.item.Lane.TheVariants.{Frames, Packets}
-use Rattle.ff_frame.specs.Items.{Closes}
-use Rattle.ff_frame.specs.Lanes.{FitsPackets}
-use Rattle.ff_coders.specs.Made.{IsMadeOf, IsDecoded}
-use Rattle.ff_coding.specs.Decoding.{frame_or_damage, decoded_item}
-use Rattle.ff_coding.specs.Spreads.{IsOutcomeOf, Carries}
-use Rattle.ff_coding.specs.Taken.{IsTakenPacket}
+use Rattle.ff_frame.specs.declared.packet.Pkt.{Pkt}
+use Rattle.ff_frame.specs.declared.head.StreamHead.{StreamHead}
+use Rattle.ff_frame.specs.declared.head.StreamHead.TheVariants.{Audio as AudioHead, Video as VideoHead}
+use Rattle.ff_stream.specs.declared.item.Item.{Item}
+use Rattle.ff_stream.specs.declared.item.Item.TheVariants.{Audio, Video, Packet, Trailer, End, Broken}
+use Rattle.ff_stream.specs.declared.item.Lane.TheVariants.{Frames, Packets}
+use Rattle.ff_stream.specs.Items.{Closes}
+use Rattle.ff_stream.specs.Lanes.{FitsPackets}
+use Rattle.ff_node_codec.specs.codecs.Made.{IsMadeOf, IsDecoded}
+use Rattle.ff_node_codec.specs.Decoding.{frame_or_damage, decoded_item}
+use Rattle.ff_node_codec.specs.Spreads.{IsOutcomeOf, Carries}
+use Rattle.ff_node_codec.specs.Taken.{IsTakenPacket}
 
 module _ (head : StreamHead) (takes : Pkt → Type 0) (made : Pkt → Option Item)
     (law : (p : Pkt) → FitsPackets head (Packet p) → IsDecoded head p (takes p) (made p)) where

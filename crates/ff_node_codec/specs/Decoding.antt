@@ -1,16 +1,16 @@
 -- Decoding, as what a part of a run means: the frame of each packet, up to the first that has none; and then cut.
 use Rattle.std.specs.Prelude.{ℕ, Option, None, Some}
-use Rattle.ff_values.specs.declared.packet.Pkt.{Pkt}
+use Rattle.ff_frame.specs.declared.packet.Pkt.{Pkt}
 use Rattle.ff_time.specs.declared.cut.TimeCut.{TimeCut}
-use Rattle.ff_values.specs.declared.head.StreamHead.{StreamHead}
-use Rattle.ff_frame.specs.declared.item.Item.{Item}
-use Rattle.ff_frame.specs.declared.item.Item.TheVariants.{Audio, Video, Packet, Trailer, End, Broken}
-use Rattle.ff_frame.specs.Stream.{Mark, still_open, whole, broken}
-use Rattle.ff_cutting.specs.Cuts.{cut}
+use Rattle.ff_frame.specs.declared.head.StreamHead.{StreamHead}
+use Rattle.ff_stream.specs.declared.item.Item.{Item}
+use Rattle.ff_stream.specs.declared.item.Item.TheVariants.{Audio, Video, Packet, Trailer, End, Broken}
+use Rattle.ff_stream.specs.Stream.{Mark, still_open, whole, broken}
+use Rattle.ff_trim.specs.Cuts.{cut}
 use Rattle.ff_net.specs.Ways.{Flow}
 use Rattle.ff_net.specs.Pasts.{Task}
-use Rattle.ff_coding.specs.Making.{Outcome, gives, passes, breaks, Making, damage_in, made_stream}
-use Rattle.ff_coding.specs.Spreads.{spread_task}
+use Rattle.ff_node_codec.specs.Making.{Outcome, gives, passes, breaks, Making, damage_in, made_stream}
+use Rattle.ff_node_codec.specs.Spreads.{spread_task}
 
 -- a packet without a frame is damage at its place
 abbrev pub frame_or_damage : Pkt → Option Item → Outcome

@@ -1,19 +1,19 @@
 -- What encoding makes of what a lane of frames carries.
 use Rattle.std.specs.Prelude.{◌≡◌, List, [], ◌∷◌, Option, None, Some, IsSomeAnd, refl}
-use Rattle.ff_values.specs.declared.packet.Pkt.{Pkt}
-use Rattle.ff_values.specs.declared.head.StreamHead.{StreamHead}
-use Rattle.ff_values.specs.declared.head.StreamHead.TheVariants.{Audio as AudioHead, Video as VideoHead}
-use Rattle.ff_frame.specs.declared.item.Item.{Item}
-use Rattle.ff_frame.specs.declared.item.Item.TheVariants.{Audio, Video, Packet, Trailer, End, Broken}
-use Rattle.ff_frame.specs.declared.item.Lane.TheVariants.{Frames, Packets}
-use Rattle.ff_frame.specs.Items.{Closes}
-use Rattle.ff_frame.specs.Lanes.{FitsFrames}
-use Rattle.ff_frame.specs.Times.{HasTime}
-use Rattle.ff_coders.specs.Made.{HasSameTimes, IsMadeOf, IsEncoded}
-use Rattle.ff_coding.specs.Encoding.{packet_or_nothing, encoded_item}
-use Rattle.ff_coding.specs.Making.{or_damage, damage_in}
-use Rattle.ff_coding.specs.Spreads.{IsOutcomeOf, Carries}
-use Rattle.ff_coding.specs.Taken.{IsTakenFrame}
+use Rattle.ff_frame.specs.declared.packet.Pkt.{Pkt}
+use Rattle.ff_frame.specs.declared.head.StreamHead.{StreamHead}
+use Rattle.ff_frame.specs.declared.head.StreamHead.TheVariants.{Audio as AudioHead, Video as VideoHead}
+use Rattle.ff_stream.specs.declared.item.Item.{Item}
+use Rattle.ff_stream.specs.declared.item.Item.TheVariants.{Audio, Video, Packet, Trailer, End, Broken}
+use Rattle.ff_stream.specs.declared.item.Lane.TheVariants.{Frames, Packets}
+use Rattle.ff_stream.specs.Items.{Closes}
+use Rattle.ff_stream.specs.Lanes.{FitsFrames}
+use Rattle.ff_stream.specs.Times.{HasTime}
+use Rattle.ff_node_codec.specs.codecs.Made.{HasSameTimes, IsMadeOf, IsEncoded}
+use Rattle.ff_node_codec.specs.Encoding.{packet_or_nothing, encoded_item}
+use Rattle.ff_node_codec.specs.Making.{or_damage, damage_in}
+use Rattle.ff_node_codec.specs.Spreads.{IsOutcomeOf, Carries}
+use Rattle.ff_node_codec.specs.Taken.{IsTakenFrame}
 
 -- a frame has a time
 frame_timed : (head : StreamHead) (x : Item) → FitsFrames head x → HasTime x

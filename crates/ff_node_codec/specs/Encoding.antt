@@ -1,13 +1,13 @@
 -- Encoding, as what a part of a run means: the packet of each frame.
 use Rattle.std.specs.Prelude.{[], ◌∷◌, List, Option, None, Some, false}
-use Rattle.ff_values.specs.declared.packet.Pkt.{Pkt}
-use Rattle.ff_frame.specs.declared.item.Item.{Item}
-use Rattle.ff_frame.specs.declared.item.Item.TheVariants.{Packet}
-use Rattle.ff_frame.specs.Ports.{stream_at}
+use Rattle.ff_frame.specs.declared.packet.Pkt.{Pkt}
+use Rattle.ff_stream.specs.declared.item.Item.{Item}
+use Rattle.ff_stream.specs.declared.item.Item.TheVariants.{Packet}
+use Rattle.ff_stream.specs.Ports.{stream_at}
 use Rattle.ff_net.specs.declared.fault.Fault.{Fault}
 use Rattle.ff_net.specs.Ways.{Flow}
 use Rattle.ff_net.specs.Pasts.{Task, no_events}
-use Rattle.ff_coding.specs.Making.{Outcome, gives, passes, made_stream}
+use Rattle.ff_node_codec.specs.Making.{Outcome, gives, passes, made_stream}
 
 abbrev pub packet_or_nothing : Option Pkt → Outcome
 packet_or_nothing (Some packet) = gives (Packet packet)

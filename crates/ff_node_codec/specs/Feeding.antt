@@ -1,21 +1,21 @@
 -- What becomes of a machine that is fed an item.
 use Rattle.std.specs.Prelude.{◌≡◌, ℕ, ◌<◌, false, List, [], ◌∷◌, Option, Some}
-use Rattle.ff_frame.specs.declared.item.Item.{Item}
-use Rattle.ff_frame.specs.declared.item.Lane.{Lane}
-use Rattle.ff_frame.specs.Items.{Closes}
-use Rattle.ff_frame.specs.Stream.{still_open}
-use Rattle.ff_frame.specs.Ports.{stream_at}
+use Rattle.ff_stream.specs.declared.item.Item.{Item}
+use Rattle.ff_stream.specs.declared.item.Lane.{Lane}
+use Rattle.ff_stream.specs.Items.{Closes}
+use Rattle.ff_stream.specs.Stream.{still_open}
+use Rattle.ff_stream.specs.Ports.{stream_at}
 use Rattle.ff_filter.specs.declared.after.After.{After}
 use Rattle.ff_filter.specs.declared.after.After.TheVariants.{More}
 use Rattle.ff_filter.specs.Joins.{one}
 use Rattle.ff_filter.specs.Made.{made_of}
 use Rattle.ff_net.specs.Pasts.{Past, fed}
 use Rattle.ff_net.specs.Ways.{AreValid}
-use Rattle.ff_coding.specs.declared.spread.Spread.{Spread}
-use Rattle.ff_coding.specs.declared.step.Step.{Step}
-use Rattle.ff_coding.specs.Making.{Making}
-use Rattle.ff_coding.specs.Standing.{SpreadStands}
-use Rattle.ff_coding.specs.Steps.{IsStepFor}
+use Rattle.ff_node_codec.specs.declared.spread.Spread.{Spread}
+use Rattle.ff_node_codec.specs.declared.step.Step.{Step}
+use Rattle.ff_node_codec.specs.Making.{Making}
+use Rattle.ff_node_codec.specs.Standing.{SpreadStands}
+use Rattle.ff_node_codec.specs.Steps.{IsStepFor}
 
 -- fed this item on this input, which hadn't closed, one that stood so stands so
 abbrev pub StandsFed : List Lane → ℕ → Item → (Past → Type 0) → (Past → Type 0) → Type 0

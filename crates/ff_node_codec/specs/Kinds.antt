@@ -1,27 +1,27 @@
 -- The decoder and the encoder as the laws of machines see them, and these laws.
 use Rattle.std.specs.Prelude.{◌≡◌, ℕ, true, false, List, [], ◌∷◌, replicate, Option, None, Some, refl}
 use Rattle.std.proofs.Common.{arith, ap, ◌∙◌}
-use Rattle.ff_values.specs.declared.packet.Pkt.{Pkt}
-use Rattle.ff_values.specs.declared.head.StreamHead.{StreamHead}
-use Rattle.ff_frame.specs.declared.item.Item.{Item}
-use Rattle.ff_frame.specs.declared.item.Lane.{Lane}
-use Rattle.ff_frame.specs.declared.item.Lane.TheVariants.{Frames, Packets}
+use Rattle.ff_frame.specs.declared.packet.Pkt.{Pkt}
+use Rattle.ff_frame.specs.declared.head.StreamHead.{StreamHead}
+use Rattle.ff_stream.specs.declared.item.Item.{Item}
+use Rattle.ff_stream.specs.declared.item.Lane.{Lane}
+use Rattle.ff_stream.specs.declared.item.Lane.TheVariants.{Frames, Packets}
 use Rattle.ff_net.specs.declared.fault.Fault.{Fault}
 use Rattle.ff_net.specs.Laws.{FaultStep, Laws}
 use Rattle.ff_net.specs.Pasts.{Past}
 use Rattle.ff_net.specs.Silence.{silent_front}
 use Rattle.ff_net.specs.Views.{View, IsSameShape}
-use Rattle.ff_coding.specs.declared.dec.Dec.{Dec}
-use Rattle.ff_coding.specs.declared.enc.Enc.{Enc}
-use Rattle.ff_coding.specs.declared.spread.Spread.{Spread}
-use Rattle.ff_coding.specs.Coders.{dec_stands, enc_stands}
-use Rattle.ff_coding.specs.Decoding.{cut_frames}
-use Rattle.ff_coding.specs.Encoding.{encoded_item}
-use Rattle.ff_coding.specs.Lines.{line_at}
-use Rattle.ff_coding.specs.Making.{Making, by_items, fault_by}
-use Rattle.ff_coding.specs.SpreadLaws.{no_device, spreads_valid, spreads_keeps, spreads_monotone, spreads_cause_stays, spreads_calm, spreads_given, spreads_unbroken, spreads_caused, spreads_spent_only, spreads_closed_spent, spreads_done_spent, spreads_settles}
-use Rattle.ff_coding.specs.Standing.{outputs_of, spread_spent, SpreadStands}
-use Rattle.ff_coding.specs.Spreads.{Line}
+use Rattle.ff_node_codec.specs.declared.dec.Dec.{Dec}
+use Rattle.ff_node_codec.specs.declared.enc.Enc.{Enc}
+use Rattle.ff_node_codec.specs.declared.spread.Spread.{Spread}
+use Rattle.ff_node_codec.specs.Coders.{dec_stands, enc_stands}
+use Rattle.ff_node_codec.specs.Decoding.{cut_frames}
+use Rattle.ff_node_codec.specs.Encoding.{encoded_item}
+use Rattle.ff_node_codec.specs.Lines.{line_at}
+use Rattle.ff_node_codec.specs.Making.{Making, by_items, fault_by}
+use Rattle.ff_node_codec.specs.SpreadLaws.{no_device, spreads_valid, spreads_keeps, spreads_monotone, spreads_cause_stays, spreads_calm, spreads_given, spreads_unbroken, spreads_caused, spreads_spent_only, spreads_closed_spent, spreads_done_spent, spreads_settles}
+use Rattle.ff_node_codec.specs.Standing.{outputs_of, spread_spent, SpreadStands}
+use Rattle.ff_node_codec.specs.Spreads.{Line}
 
 -- a machine that is no source, and whose only fault is a damaged input
 abbrev pub coder_view : List Lane → List Lane → Option ℕ → (ℕ → Type 0) → (Past → Type 0) → View

@@ -16,3 +16,4 @@ pub mod Spreads
 pub mod Standing
 pub mod Steps
 pub mod Taken
+pub mod codecs

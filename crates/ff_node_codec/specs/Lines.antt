@@ -1,12 +1,12 @@
 -- The outputs of a machine, as they are.
 use Rattle.std.specs.Prelude.{◌≡◌, ℕ, zero, suc, ◌+◌, ◌≤◌, Bool, true, false, List, [], ◌∷◌, length, All, Option, None}
 use Rattle.std.specs.VecDeque.{deque_len, deque_capacity}
-use Rattle.ff_frame.specs.declared.item.Item.{Item}
-use Rattle.ff_frame.specs.declared.item.Item.TheVariants.{End, Broken}
+use Rattle.ff_stream.specs.declared.item.Item.{Item}
+use Rattle.ff_stream.specs.declared.item.Item.TheVariants.{End, Broken}
 use Rattle.ff_filter.specs.declared.after.After.{After}
 use Rattle.ff_filter.specs.declared.after.After.TheVariants.{More, Whole, Broke}
-use Rattle.ff_coding.specs.declared.ready.Ready.{Ready}
-use Rattle.ff_coding.specs.Spreads.{Line}
+use Rattle.ff_node_codec.specs.declared.ready.Ready.{Ready}
+use Rattle.ff_node_codec.specs.Spreads.{Line}
 
 abbrev pub line_of : Ready → Line
 line_of ready = record { queue = ready.queue.items; stopped = ready.stopped }

@@ -2,20 +2,20 @@
 use Rattle.std.specs.Prelude.{◌≡◌, ℕ, zero, suc, ◌^◌, ◌≤◌, ◌⊎◌, ℤ, List, [], ◌∷◌, ◌++◌, length, All, Option, None, Some, refl}
 use Rattle.std.proofs.Common.{sym, subst, ap, inl, inr, ◌∙◌, arith}
 use Rattle.ff_time.specs.Fraction.{Fraction}
-use Rattle.ff_values.specs.declared.head.StreamHead.{StreamHead}
-use Rattle.ff_values.specs.declared.head.StreamHead.TheVariants.{Audio as AudioHead, Video as VideoHead}
-use Rattle.ff_frame.specs.declared.item.Item.{Item}
-use Rattle.ff_frame.specs.declared.item.Lane.{Lane}
-use Rattle.ff_frame.specs.Stream.{Mark, still_open, whole, broken, LiesBelow, opened, opened_mark}
-use Rattle.ff_frame.specs.Order.{prefix_self, same_stream}
-use Rattle.ff_frame.specs.Ports.{IsClosed, IsUnbroken}
-use Rattle.ff_frame.specs.Lanes.{base_of, head_of, StartsAfter, Follows, InOrder, IsItemFor, EndsInTime, IsValid}
-use Rattle.ff_frame.specs.Times.{HasTime, start_of, end_of, ticks, IsInTime}
+use Rattle.ff_frame.specs.declared.head.StreamHead.{StreamHead}
+use Rattle.ff_frame.specs.declared.head.StreamHead.TheVariants.{Audio as AudioHead, Video as VideoHead}
+use Rattle.ff_stream.specs.declared.item.Item.{Item}
+use Rattle.ff_stream.specs.declared.item.Lane.{Lane}
+use Rattle.ff_stream.specs.Stream.{Mark, still_open, whole, broken, LiesBelow, opened, opened_mark}
+use Rattle.ff_stream.specs.Order.{prefix_self, same_stream}
+use Rattle.ff_stream.specs.Ports.{IsClosed, IsUnbroken}
+use Rattle.ff_stream.specs.Lanes.{base_of, head_of, StartsAfter, Follows, InOrder, IsItemFor, EndsInTime, IsValid}
+use Rattle.ff_stream.specs.Times.{HasTime, start_of, end_of, ticks, IsInTime}
 use Rattle.ff_filter.specs.Joins.{joined, joined_at}
-use Rattle.ff_coders.specs.Made.{IsMadeOf}
+use Rattle.ff_node_codec.specs.codecs.Made.{IsMadeOf}
 use Rattle.ff_net.specs.Ways.{Flow}
-use Rattle.ff_coding.specs.Making.{Outcome, gives, passes, breaks, and_items, made_items, or_damage, damage_in, mark_by, made_stream, by_items}
-use Rattle.ff_coding.specs.Spreads.{IsOutcomeOf, Carries, Makes}
+use Rattle.ff_node_codec.specs.Making.{Outcome, gives, passes, breaks, and_items, made_items, or_damage, damage_in, mark_by, made_stream, by_items}
+use Rattle.ff_node_codec.specs.Spreads.{IsOutcomeOf, Carries, Makes}
 
 -- ---- one stream after another
 

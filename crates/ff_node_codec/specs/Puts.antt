@@ -1,9 +1,9 @@
 -- What functions of all outputs say.
 use Rattle.std.specs.Prelude.{◌≡◌, ℕ, ◌<◌, List, ◌∷◌, ◌++◌, length, true, false, Some}
-use Rattle.ff_frame.specs.declared.item.Item.{Item}
+use Rattle.ff_stream.specs.declared.item.Item.{Item}
 use Rattle.ff_filter.specs.declared.after.After.{After}
-use Rattle.ff_coding.specs.declared.ready.Ready.{Ready}
-use Rattle.ff_coding.specs.Lines.{line_at, next_at, closing_items}
+use Rattle.ff_node_codec.specs.declared.ready.Ready.{Ready}
+use Rattle.ff_node_codec.specs.Lines.{line_at, next_at, closing_items}
 
 -- the last output that is wanted
 pub record IsLast (outs : List Ready) (last : ℕ) : Type 0 where

@@ -1,19 +1,19 @@
 -- A machine that makes a stream of one input, and gives it on each of its outputs.
 use Rattle.std.specs.Prelude.{◌≡◌, ◌↔◌, ℕ, ◌<◌, ◌≤◌, ◌⊎◌, Bool, true, false, List, replicate, Option, None, Some}
-use Rattle.ff_frame.specs.declared.item.Item.{Item}
-use Rattle.ff_frame.specs.declared.item.Lane.{Lane}
-use Rattle.ff_frame.specs.Stream.{still_open, broken, LiesBelow, opened}
-use Rattle.ff_frame.specs.Items.{Leads}
-use Rattle.ff_frame.specs.Lanes.{base_of, head_of, FitsLane, StartsAfter, IsValid}
-use Rattle.ff_frame.specs.Ports.{nothing, stream_at, IsClosed, IsUnbroken}
-use Rattle.ff_frame.specs.Times.{HasTime}
+use Rattle.ff_stream.specs.declared.item.Item.{Item}
+use Rattle.ff_stream.specs.declared.item.Lane.{Lane}
+use Rattle.ff_stream.specs.Stream.{still_open, broken, LiesBelow, opened}
+use Rattle.ff_stream.specs.Items.{Leads}
+use Rattle.ff_stream.specs.Lanes.{base_of, head_of, FitsLane, StartsAfter, IsValid}
+use Rattle.ff_stream.specs.Ports.{nothing, stream_at, IsClosed, IsUnbroken}
+use Rattle.ff_stream.specs.Times.{HasTime}
 use Rattle.ff_filter.specs.Joins.{joined}
-use Rattle.ff_coders.specs.Made.{IsMadeOf}
+use Rattle.ff_node_codec.specs.codecs.Made.{IsMadeOf}
 use Rattle.ff_net.specs.declared.fault.Fault.{Fault}
 use Rattle.ff_net.specs.Ways.{Flow}
 use Rattle.ff_net.specs.Pasts.{Task, Past, IsIn, no_events}
 use Rattle.ff_net.specs.Laws.{IsSilent}
-use Rattle.ff_coding.specs.Making.{Outcome, gives, passes, breaks, Making, fault_by}
+use Rattle.ff_node_codec.specs.Making.{Outcome, gives, passes, breaks, Making, fault_by}
 
 -- each of n outputs has the stream that is made of the one input
 abbrev pub spread : ℕ → Making → List Flow → List Flow

@@ -1,14 +1,14 @@
 -- A machine with its outputs, and what it has behind it.
 use Rattle.std.specs.Prelude.{◌≡◌, ℕ, length, Bool, true, false, List, [], Option, None, Some}
-use Rattle.ff_frame.specs.declared.item.Lane.{Lane}
-use Rattle.ff_frame.specs.Ports.{nothing}
-use Rattle.ff_frame.specs.Stream.{whole_stream}
+use Rattle.ff_stream.specs.declared.item.Lane.{Lane}
+use Rattle.ff_stream.specs.Ports.{nothing}
+use Rattle.ff_stream.specs.Stream.{whole_stream}
 use Rattle.ff_net.specs.Ways.{Flow}
 use Rattle.ff_net.specs.Pasts.{Task, Past, no_events}
-use Rattle.ff_coding.specs.declared.spread.Spread.{Spread}
-use Rattle.ff_coding.specs.Lines.{line_at, AreSame}
-use Rattle.ff_coding.specs.Making.{Making}
-use Rattle.ff_coding.specs.Spreads.{spread, damage_cause, is_spent_spread, Spreads}
+use Rattle.ff_node_codec.specs.declared.spread.Spread.{Spread}
+use Rattle.ff_node_codec.specs.Lines.{line_at, AreSame}
+use Rattle.ff_node_codec.specs.Making.{Making}
+use Rattle.ff_node_codec.specs.Spreads.{spread, damage_cause, is_spent_spread, Spreads}
 
 abbrev pub outputs_of : Spread → ℕ
 outputs_of m = length m.outs.items

@@ -1,18 +1,18 @@
 -- What is done on the outputs for an item that is fed.
 use Rattle.std.specs.Prelude.{◌≡◌, ℕ, ◌⊎◌, Option, None, Some}
 use Rattle.ff_time.specs.declared.cut.TimeCut.{TimeCut}
-use Rattle.ff_values.specs.declared.head.StreamHead.{StreamHead}
-use Rattle.ff_frame.specs.declared.item.Item.{Item}
-use Rattle.ff_frame.specs.declared.item.Item.TheVariants.{Broken}
-use Rattle.ff_frame.specs.Items.{Closes}
-use Rattle.ff_frame.specs.Ports.{nothing}
+use Rattle.ff_frame.specs.declared.head.StreamHead.{StreamHead}
+use Rattle.ff_stream.specs.declared.item.Item.{Item}
+use Rattle.ff_stream.specs.declared.item.Item.TheVariants.{Broken}
+use Rattle.ff_stream.specs.Items.{Closes}
+use Rattle.ff_stream.specs.Ports.{nothing}
 use Rattle.ff_filter.specs.declared.after.After.TheVariants.{More}
 use Rattle.ff_filter.specs.Joins.{Flow, one}
 use Rattle.ff_filter.specs.Made.{made_of}
-use Rattle.ff_cutting.specs.Cuts.{kept}
-use Rattle.ff_coding.specs.declared.step.Step.{Step}
-use Rattle.ff_coding.specs.declared.step.Step.TheVariants.{Puts, Passes}
-use Rattle.ff_coding.specs.Making.{Outcome, gives, passes, breaks, Making}
+use Rattle.ff_trim.specs.Cuts.{kept}
+use Rattle.ff_node_codec.specs.declared.step.Step.{Step}
+use Rattle.ff_node_codec.specs.declared.step.Step.TheVariants.{Puts, Passes}
+use Rattle.ff_node_codec.specs.Making.{Outcome, gives, passes, breaks, Making}
 
 -- what a step puts on each output
 abbrev pub puts_of : Step → Flow

@@ -1,7 +1,7 @@
 -- Items that a codec takes.
-use Rattle.ff_values.specs.declared.packet.Pkt.{Pkt}
-use Rattle.ff_frame.specs.declared.item.Item.{Item}
-use Rattle.ff_frame.specs.declared.item.Item.TheVariants.{Audio, Video, Packet, Trailer, End, Broken}
+use Rattle.ff_frame.specs.declared.packet.Pkt.{Pkt}
+use Rattle.ff_stream.specs.declared.item.Item.{Item}
+use Rattle.ff_stream.specs.declared.item.Item.TheVariants.{Audio, Video, Packet, Trailer, End, Broken}
 
 -- of a packet, that it is taken; nothing of other items
 abbrev pub IsTakenPacket : (Pkt → Type 0) → Item → Type 0

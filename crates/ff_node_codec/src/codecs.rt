@@ -6,8 +6,7 @@
 //!
 //! `Decoder` and `Encoder` say what a codec is to whoever runs it: which items it takes, what it makes of each, and that this fits
 //! the lane and keeps the times. A codec has a file here and a variant of `AnyDecoder` and `AnyEncoder`: linear PCM, FLAC,
-//! which is read here alone, and raw video, whose planes are moved. `specs/Decoding` and `specs/Encoding` have what they make.
-#![tactic(auto)]
+//! which is read here alone, and raw video, whose planes are moved. `specs/codecs/Decoding` and `specs/codecs/Encoding` have what they make.
 
 mod any;
 mod choice;

@@ -1,24 +1,24 @@
 // What follows of the definitions of decoding and encoding alone.
 ghost use Rattle.std.specs.Prelude.{◌≡◌, ◌<◌, ◌++◌, ◌∷◌, [], ℕ, List, Option, Some, None, map, IsSome};
 ghost use Rattle.ff_time.specs.declared.cut.TimeCut.{TimeCut};
-ghost use Rattle.ff_values.specs.declared.packet.Pkt.{Pkt};
-ghost use Rattle.ff_values.specs.declared.head.StreamHead.{StreamHead};
-ghost use Rattle.ff_frame.specs.declared.item.Item.{Item};
-ghost use Rattle.ff_frame.specs.declared.item.Item.TheVariants.{Packet};
-ghost use Rattle.ff_frame.specs.declared.item.Lane.TheVariants.{Frames, Packets};
-ghost use Rattle.ff_frame.specs.Breaks.{KeepsBrokenRule};
-ghost use Rattle.ff_frame.specs.Lanes.{IsValid};
-ghost use Rattle.ff_frame.specs.Ports.{stream_at};
-ghost use Rattle.ff_frame.specs.Stream.{Mark, LiesBelow, broken};
-ghost use Rattle.ff_frame.specs.Within.{within, passes_limits};
+ghost use Rattle.ff_frame.specs.declared.packet.Pkt.{Pkt};
+ghost use Rattle.ff_frame.specs.declared.head.StreamHead.{StreamHead};
+ghost use Rattle.ff_stream.specs.declared.item.Item.{Item};
+ghost use Rattle.ff_stream.specs.declared.item.Item.TheVariants.{Packet};
+ghost use Rattle.ff_stream.specs.declared.item.Lane.TheVariants.{Frames, Packets};
+ghost use Rattle.ff_stream.specs.Breaks.{KeepsBrokenRule};
+ghost use Rattle.ff_stream.specs.Lanes.{IsValid};
+ghost use Rattle.ff_stream.specs.Ports.{stream_at};
+ghost use Rattle.ff_stream.specs.Stream.{Mark, LiesBelow, broken};
+ghost use Rattle.ff_stream.specs.Within.{within, passes_limits};
 ghost use Rattle.ff_net.specs.Ways.{Flow};
-ghost use Rattle.ff_cutting.specs.Cuts.{cut};
-ghost use Rattle.ff_coders.specs.Choices.{CanDecode, CanEncode, frame_made, packet_made};
-ghost use Rattle.ff_coders.specs.Decoding.{pcm_frame, raw_frame, IsPictureHead};
-ghost use Rattle.ff_coding.specs.Making.{damage_in, fault_by};
-ghost use Rattle.ff_coding.specs.CodingLaws.{IsUndamaged, packets_in};
-ghost use Rattle.ff_coding.specs.Decoding.{decoded_item, decoded, dec_task};
-ghost use Rattle.ff_coding.specs.Encoding.{encoded, enc_task};
+ghost use Rattle.ff_trim.specs.Cuts.{cut};
+ghost use Rattle.ff_node_codec.specs.codecs.Choices.{CanDecode, CanEncode, frame_made, packet_made};
+ghost use Rattle.ff_node_codec.specs.codecs.Decoding.{pcm_frame, raw_frame, IsPictureHead};
+ghost use Rattle.ff_node_codec.specs.Making.{damage_in, fault_by};
+ghost use Rattle.ff_node_codec.specs.CodingLaws.{IsUndamaged, packets_in};
+ghost use Rattle.ff_node_codec.specs.Decoding.{decoded_item, decoded, dec_task};
+ghost use Rattle.ff_node_codec.specs.Encoding.{encoded, enc_task};
 
 /// Decoding gives the frames of the packets before the first that has none, and is broken there.
 pub fn decoding_is_by_packets()

@@ -1,18 +1,19 @@
 // The cut of what a step puts on the outputs.
 ghost use Rattle.std.specs.Prelude.{◌≡◌, false, true, None, Some, IfOk, IfErr, IfSome, OnErr};
-ghost use Rattle.ff_frame.specs.declared.item.Item.{Item};
-ghost use Rattle.ff_frame.specs.Items.{Closes};
+ghost use Rattle.ff_stream.specs.declared.item.Item.{Item};
+ghost use Rattle.ff_stream.specs.Items.{Closes};
 ghost use Rattle.ff_filter.specs.Joins.{one};
 ghost use Rattle.ff_filter.specs.Made.{made_of};
 ghost use Rattle.ff_filter.specs.Views.{closes};
-ghost use Rattle.ff_cutting.specs.Cuts.{is_uncut as uncut, is_empty, kept};
-ghost use Rattle.ff_coding.specs.Steps.{puts_of, damage_of, ClosesOnce, IsLeft, IsCutTo, GivesBack, HasSpare};
+ghost use Rattle.ff_trim.specs.Cuts.{is_uncut as uncut, is_empty, kept};
+ghost use Rattle.ff_node_codec.specs.Steps.{puts_of, damage_of, ClosesOnce, IsLeft, IsCutTo, GivesBack, HasSpare};
 
 use crate::step::Step;
-use ff_cutting::Cut;
 use ff_filter::{After, Given, Step as _};
-use ff_frame::{Item, Refused, StreamHead};
+use ff_frame::StreamHead;
+use ff_stream::{Item, Refused};
 use ff_time::TimeCut;
+use ff_trim::Cut;
 
 /// Whether nothing is cut.
 pub fn is_uncut(cut: TimeCut) -> bool

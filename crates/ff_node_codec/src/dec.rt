@@ -1,19 +1,20 @@
 ghost use Rattle.std.specs.Prelude.{◌≡◌, ◌↔◌, [], ◌∷◌, replicate, true, None, Some, Option, IsTrue, IfOk, IfErr, OnOk, OnErr};
-ghost use Rattle.ff_values.specs.declared.packet.Pkt.{Pkt};
-ghost use Rattle.ff_frame.specs.declared.item.Item.{Item};
-ghost use Rattle.ff_frame.specs.declared.item.Item.TheVariants.{Packet};
-ghost use Rattle.ff_coding.specs.Decoding.{decoded_item};
-ghost use Rattle.ff_coding.specs.Steps.{FollowsFrom, GivesBack};
-ghost use Rattle.ff_coding.specs.Taken.{IsTakenPacket};
+ghost use Rattle.ff_frame.specs.declared.packet.Pkt.{Pkt};
+ghost use Rattle.ff_stream.specs.declared.item.Item.{Item};
+ghost use Rattle.ff_stream.specs.declared.item.Item.TheVariants.{Packet};
+ghost use Rattle.ff_node_codec.specs.Decoding.{decoded_item};
+ghost use Rattle.ff_node_codec.specs.Steps.{FollowsFrom, GivesBack};
+ghost use Rattle.ff_node_codec.specs.Taken.{IsTakenPacket};
 
+use crate::codecs::{AnyDecoder, Decoder};
 use crate::cut::{cut_step, is_uncut, starts_over};
 use crate::spread::Spread;
 use crate::step::{Step, closing, discard};
-use ff_coders::{AnyDecoder, Decoder};
 use ff_filter::After;
 use ff_flac_dec::FrameReceiver;
-use ff_frame::{Event, Item, Pkt, Refused, StreamHead, Ticket};
+use ff_frame::{Event, Pkt, StreamHead, Ticket};
 use ff_net::{Fault, Machine};
+use ff_stream::{Item, Refused};
 use ff_time::TimeCut;
 use std::alloc::{AllocError, Global};
 
@@ -31,10 +32,10 @@ pub struct Dec<D> {
 
 impl<D: Decoder + Drop> Dec<D> {
     ghost use Rattle.std.specs.Prelude.{◌≤◌};
-    ghost use Rattle.ff_frame.specs.declared.item.Lane.TheVariants.{Frames, Packets};
+    ghost use Rattle.ff_stream.specs.declared.item.Lane.TheVariants.{Frames, Packets};
     ghost use Rattle.ff_net.specs.Pasts.{start};
-    ghost use Rattle.ff_coding.specs.Decoding.{dec_task};
-    ghost use Rattle.ff_coding.specs.Coders.{dec_in_lanes, dec_out_lanes, dec_fault, dec_stands};
+    ghost use Rattle.ff_node_codec.specs.Decoding.{dec_task};
+    ghost use Rattle.ff_node_codec.specs.Coders.{dec_in_lanes, dec_out_lanes, dec_fault, dec_stands};
 
     /// A decoder of this head's packets to which nothing was fed, with a cut of its frames, the same on each of so many outputs.
     pub fn new(
@@ -159,7 +160,7 @@ fn step<D: Decoder>(
 }
 
 impl<D: Decoder + Drop> Machine for Dec<D> {
-    ghost use Rattle.ff_coding.specs.Kinds.{dec_view, dec_laws};
+    ghost use Rattle.ff_node_codec.specs.Kinds.{dec_view, dec_laws};
 
     ghost view = { dec_view D.head D.made };
 

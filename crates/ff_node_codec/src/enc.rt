@@ -1,16 +1,17 @@
 ghost use Rattle.std.specs.Prelude.{◌≡◌, ◌↔◌, [], ◌∷◌, true, None, Some, Option, IsTrue, IfOk, IfErr, OnOk, OnErr};
-ghost use Rattle.ff_frame.specs.declared.item.Item.{Item};
-ghost use Rattle.ff_frame.specs.Items.{Closes};
-ghost use Rattle.ff_coding.specs.Encoding.{encoded_item};
-ghost use Rattle.ff_coding.specs.Steps.{FollowsFrom, GivesBack};
-ghost use Rattle.ff_coding.specs.Taken.{IsTakenFrame};
+ghost use Rattle.ff_stream.specs.declared.item.Item.{Item};
+ghost use Rattle.ff_stream.specs.Items.{Closes};
+ghost use Rattle.ff_node_codec.specs.Encoding.{encoded_item};
+ghost use Rattle.ff_node_codec.specs.Steps.{FollowsFrom, GivesBack};
+ghost use Rattle.ff_node_codec.specs.Taken.{IsTakenFrame};
 
+use crate::codecs::Encoder;
 use crate::spread::Spread;
 use crate::step::{Step, closing, discard};
-use ff_coders::Encoder;
 use ff_filter::After;
-use ff_frame::{Event, Item, Refused, StreamHead, Ticket};
+use ff_frame::{Event, StreamHead, Ticket};
 use ff_net::{Fault, Machine};
+use ff_stream::{Item, Refused};
 use std::alloc::{AllocError, Global};
 
 /// Encodes the frames of a stream, whatever the codec: gives a packet for each frame, and how the stream ends.
@@ -23,10 +24,10 @@ pub struct Enc<E> {
 }
 
 impl<E: Encoder + Drop> Enc<E> {
-    ghost use Rattle.ff_frame.specs.declared.item.Lane.TheVariants.{Frames, Packets};
+    ghost use Rattle.ff_stream.specs.declared.item.Lane.TheVariants.{Frames, Packets};
     ghost use Rattle.ff_net.specs.Pasts.{start};
-    ghost use Rattle.ff_coding.specs.Encoding.{enc_task};
-    ghost use Rattle.ff_coding.specs.Coders.{enc_in_lanes, enc_out_lanes, enc_fault, enc_stands};
+    ghost use Rattle.ff_node_codec.specs.Encoding.{enc_task};
+    ghost use Rattle.ff_node_codec.specs.Coders.{enc_in_lanes, enc_out_lanes, enc_fault, enc_stands};
 
     /// An encoder of this head's frames, to which nothing was fed.
     pub fn new(alloc: Global, encoder: E, head: StreamHead) -> Result<Enc<E>, AllocError>
@@ -102,7 +103,7 @@ fn step<E: Encoder>(alloc: Global, encoder: &E, item: Item, shared: bool) -> Res
 }
 
 impl<E: Encoder + Drop> Machine for Enc<E> {
-    ghost use Rattle.ff_coding.specs.Kinds.{enc_view, enc_laws};
+    ghost use Rattle.ff_node_codec.specs.Kinds.{enc_view, enc_laws};
 
     ghost view = { enc_view E.serves E.coded E.made };
 

@@ -1,14 +1,14 @@
 // All outputs of a machine.
 ghost use Rattle.std.specs.Prelude.{◌≡◌, ◌<◌, ◌≤◌, ℕ, length, true, Some, None, OnOk, OnErr, IfErr, IfOk};
-ghost use Rattle.ff_frame.specs.declared.item.Item.{Item};
-ghost use Rattle.ff_coding.specs.Lines.{line_at, next_at, HaveRoom, AreSame};
-ghost use Rattle.ff_coding.specs.Puts.{IsLast, AreNext, ArePut};
-ghost use Rattle.ff_coding.specs.Spreads.{AllStopped};
+ghost use Rattle.ff_stream.specs.declared.item.Item.{Item};
+ghost use Rattle.ff_node_codec.specs.Lines.{line_at, next_at, HaveRoom, AreSame};
+ghost use Rattle.ff_node_codec.specs.Puts.{IsLast, AreNext, ArePut};
+ghost use Rattle.ff_node_codec.specs.Spreads.{AllStopped};
 
 use crate::ready::Ready;
 use crate::step::discard;
 use ff_filter::After;
-use ff_frame::Item;
+use ff_stream::Item;
 use std::alloc::{AllocError, Global};
 
 /// Makes room for an item more on each, and for one that closes it.

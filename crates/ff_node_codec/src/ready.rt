@@ -1,12 +1,12 @@
 // An output of a machine.
 ghost use Rattle.std.specs.Prelude.{◌≡◌, ◌<◌, ◌∷◌, ◌++◌, false, Some, None, IfOk, OnOk};
 ghost use Rattle.std.specs.VecDeque.{deque_len, deque_capacity};
-ghost use Rattle.ff_frame.specs.declared.item.Item.{Item};
-ghost use Rattle.ff_coding.specs.Lines.{line_of, HasRoom, first_items, closing_items};
+ghost use Rattle.ff_stream.specs.declared.item.Item.{Item};
+ghost use Rattle.ff_node_codec.specs.Lines.{line_of, HasRoom, first_items, closing_items};
 
 use crate::step::discard;
 use ff_filter::After;
-use ff_frame::Item;
+use ff_stream::Item;
 use std::alloc::{AllocError, Global};
 use std::collections::VecDeque;
 

@@ -1,23 +1,23 @@
 // A machine of one input and some outputs, which gives what it makes of the input on each.
 ghost use Rattle.std.specs.Prelude.{◌≡◌, ◌<◌, ◌≤◌, ◌⊎◌, ◌↔◌, ◌∷◌, [], ℕ, true, false, None, Some, IsTrue, OnOk, OnErr, IfOk, IfErr, length};
-ghost use Rattle.ff_frame.specs.declared.item.Item.{Item};
-ghost use Rattle.ff_frame.specs.declared.item.Lane.{Lane};
-ghost use Rattle.ff_frame.specs.Stream.{still_open, LiesBelow};
-ghost use Rattle.ff_frame.specs.Items.{with_item};
-ghost use Rattle.ff_frame.specs.Ports.{nothing, stream_at};
+ghost use Rattle.ff_stream.specs.declared.item.Item.{Item};
+ghost use Rattle.ff_stream.specs.declared.item.Lane.{Lane};
+ghost use Rattle.ff_stream.specs.Stream.{still_open, LiesBelow};
+ghost use Rattle.ff_stream.specs.Items.{with_item};
+ghost use Rattle.ff_stream.specs.Ports.{nothing, stream_at};
 ghost use Rattle.ff_net.specs.Ways.{AreValid};
 ghost use Rattle.ff_net.specs.Pasts.{Task, Past, IsIn, fed, gave_item, was_asked, was_stopped, due, start};
-ghost use Rattle.ff_coding.specs.Making.{Making, fault_by};
-ghost use Rattle.ff_coding.specs.Spreads.{Makes, AllStopped};
-ghost use Rattle.ff_coding.specs.Steps.{GivesBack, HasSpare};
-ghost use Rattle.ff_coding.specs.Lines.{line_at, HaveRoom};
+ghost use Rattle.ff_node_codec.specs.Making.{Making, fault_by};
+ghost use Rattle.ff_node_codec.specs.Spreads.{Makes, AllStopped};
+ghost use Rattle.ff_node_codec.specs.Steps.{GivesBack, HasSpare};
+ghost use Rattle.ff_node_codec.specs.Lines.{line_at, HaveRoom};
 
 use crate::outs::{last_wanted, put_on_all, reserve_all};
 use crate::ready::Ready;
 use crate::step::{Step, is_over};
 use ff_filter::After;
-use ff_frame::{Item, Refused};
 use ff_net::Fault;
+use ff_stream::{Item, Refused};
 use std::alloc::{AllocError, Global};
 
 /// The outputs, and what is known of the input.
@@ -32,8 +32,8 @@ pub struct Spread {
 }
 
 impl Spread {
-    ghost use Rattle.ff_coding.specs.Standing.{SpreadStands, IsSameSpread, GoesOnSpread, IsSpreadTask, at_first};
-    ghost use Rattle.ff_coding.specs.Feeding.{IsFedPut, IsFollowed};
+    ghost use Rattle.ff_node_codec.specs.Standing.{SpreadStands, IsSameSpread, GoesOnSpread, IsSpreadTask, at_first};
+    ghost use Rattle.ff_node_codec.specs.Feeding.{IsFedPut, IsFollowed};
 
     /// Nothing was made yet, for so many outputs; all is over, where that is so before anything comes.
     pub fn new(alloc: Global, outputs: usize, over: bool) -> Result<Spread, AllocError>

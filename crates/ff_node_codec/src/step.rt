@@ -1,13 +1,13 @@
 // What a machine does on its outputs for an item that it is fed.
 ghost use Rattle.std.specs.Prelude.{◌≡◌, ℕ};
-ghost use Rattle.ff_frame.specs.declared.item.Item.{Item};
-ghost use Rattle.ff_frame.specs.Items.{Closes};
+ghost use Rattle.ff_stream.specs.declared.item.Item.{Item};
+ghost use Rattle.ff_stream.specs.Items.{Closes};
 ghost use Rattle.ff_filter.specs.Made.{is_over as is_over_by};
-ghost use Rattle.ff_coding.specs.Making.{Outcome};
-ghost use Rattle.ff_coding.specs.Steps.{FollowsFrom, GivesBack};
+ghost use Rattle.ff_node_codec.specs.Making.{Outcome};
+ghost use Rattle.ff_node_codec.specs.Steps.{FollowsFrom, GivesBack};
 
 use ff_filter::After;
-use ff_frame::Item;
+use ff_stream::Item;
 
 /// What is to be done on the outputs.
 #[derive(Drop)]

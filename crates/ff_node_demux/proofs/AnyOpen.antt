@@ -1,10 +1,10 @@
 -- A format among others: what its own cut leaves open, the cut of any format does.
 use Rattle.std.proofs.Common.{◌≡◌, ℕ, ◌++◌, ◌≤◌, List, sym, ap, ◌∙◌, subst}
 use Rattle.std.specs.Prelude.{slice_get}
-use Rattle.ff_values.specs.declared.packet.Pkt.{Pkt}
-use Rattle.ff_cut.specs.Cutters.{Cutter}
-use Rattle.ff_cuts.proofs.Among.{IsAmong}
-use Rattle.ff_demuxing.specs.Reading.{IsUndecided, LeavesOpen, AsksWithin}
+use Rattle.ff_frame.specs.declared.packet.Pkt.{Pkt}
+use Rattle.ff_reader.specs.Cutters.{Cutter}
+use Rattle.ff_input.proofs.PacketsLemmas.Among.{IsAmong}
+use Rattle.ff_node_demux.specs.Reading.{IsUndecided, LeavesOpen, AsksWithin}
 
 module _ {H C K D : Type 0} {own : Cutter H C} {all : Cutter K D} {head_in : H → K} {cut_in : C → D} (a : IsAmong own all head_in cut_in) where
   undecided_among : (h : H) (fed : List ℕ) (n : ℕ) → IsUndecided own h fed n → IsUndecided all (head_in h) fed n

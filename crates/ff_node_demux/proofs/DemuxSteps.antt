@@ -5,26 +5,26 @@ use Rattle.std.specs.Option.{option_map}
 use Rattle.std.specs.Io.KnownBytes.{Consumes, Keeps, IsAtEnd}
 use Rattle.std.proofs.lemmas.Option.{slice_get-map}
 use Rattle.std.proofs.lemmas.List.{append-nil, take_all, length-drop}
-use Rattle.ff_frame.specs.declared.item.Item.{Item}
-use Rattle.ff_frame.specs.declared.item.Item.TheVariants.{Packet, End, Broken}
-use Rattle.ff_frame.specs.declared.item.Lane.TheVariants.{Packets}
-use Rattle.ff_values.specs.declared.event.Event.{Event}
-use Rattle.ff_values.specs.declared.event.Ticket.{Ticket}
-use Rattle.ff_values.specs.declared.packet.Pkt.{Pkt}
-use Rattle.ff_frame.specs.Stream.{Mark, still_open, broken, LiesBelow}
-use Rattle.ff_frame.specs.Items.{with_item}
-use Rattle.ff_frame.specs.Ports.{stream_at}
-use Rattle.ff_frame.specs.Within.{before_pass}
+use Rattle.ff_stream.specs.declared.item.Item.{Item}
+use Rattle.ff_stream.specs.declared.item.Item.TheVariants.{Packet, End, Broken}
+use Rattle.ff_stream.specs.declared.item.Lane.TheVariants.{Packets}
+use Rattle.ff_frame.specs.declared.event.Event.{Event}
+use Rattle.ff_frame.specs.declared.event.Ticket.{Ticket}
+use Rattle.ff_frame.specs.declared.packet.Pkt.{Pkt}
+use Rattle.ff_stream.specs.Stream.{Mark, still_open, broken, LiesBelow}
+use Rattle.ff_stream.specs.Items.{with_item}
+use Rattle.ff_stream.specs.Ports.{stream_at}
+use Rattle.ff_stream.specs.Within.{before_pass}
 use Rattle.ff_net.specs.declared.fault.Fault.{Fault}
 use Rattle.ff_net.specs.declared.fault.Fault.TheVariants.{Device, Damaged, TooLong}
 use Rattle.ff_net.specs.Laws.{IsOfInputs}
 use Rattle.ff_net.specs.Ways.{Flow}
 use Rattle.ff_net.specs.Pasts.{Past, start, due, gave_item, was_asked, was_allowed, was_stopped, was_told}
-use Rattle.ff_cut.specs.Cutters.{Cutter, IsRest, Feeds, KeepsCut, GivesPacket, GaveAll}
-use Rattle.ff_demuxing.specs.Demuxing.{mark_at, damage_at, items_of, break_of, demux_of, is_too_long, fault_in, demux_cause, demux_task, passes_in_demux, Demuxes, DemuxStands}
-use Rattle.ff_demuxing.specs.DemuxLaws.{demux_mark, demux_items, demux_closed}
-use Rattle.ff_demuxing.specs.Sources.{Sources, source_gives, source_ends, source_waits, source_over}
-use Rattle.ff_demuxing.proofs.LimitSteps.{before_get, before_stop, before_all}
+use Rattle.ff_reader.specs.Cutters.{Cutter, IsRest, Feeds, KeepsCut, GivesPacket, GaveAll}
+use Rattle.ff_node_demux.specs.Demuxing.{mark_at, damage_at, items_of, break_of, demux_of, is_too_long, fault_in, demux_cause, demux_task, passes_in_demux, Demuxes, DemuxStands}
+use Rattle.ff_node_demux.specs.DemuxLaws.{demux_mark, demux_items, demux_closed}
+use Rattle.ff_node_demux.specs.Sources.{Sources, source_gives, source_ends, source_waits, source_over}
+use Rattle.ff_node_demux.proofs.LimitSteps.{before_get, before_stop, before_all}
 
 pub drop-append : (k : ℕ) (xs ys : List ℕ) → drop k (xs ++ ys) ≡ drop k xs ++ drop (k - length xs) ys
 drop-append zero xs ys = let e : zero - length xs ≡ zero = omega arith in rw e refl

@@ -1,18 +1,18 @@
 -- When a demuxer tells that it has exited.
 use Rattle.std.proofs.Common.{◌≡◌, ◌≢◌, ℕ, zero, suc, ◌<◌, ◌⊎◌, inl, inr, Bool, true, false, cond, List, [], ◌∷◌, ◌++◌, Option, None, Some, refl, sym, ap, subst, ◌∙◌, arith}
 use Rattle.std.specs.Prelude.{IsSome}
-use Rattle.ff_values.specs.declared.event.Event.{Event}
-use Rattle.ff_values.specs.declared.event.Event.TheVariants.{Exited}
-use Rattle.ff_frame.specs.Stream.{still_open}
-use Rattle.ff_frame.specs.Ports.{stream_at}
+use Rattle.ff_frame.specs.declared.event.Event.{Event}
+use Rattle.ff_frame.specs.declared.event.Event.TheVariants.{Exited}
+use Rattle.ff_stream.specs.Stream.{still_open}
+use Rattle.ff_stream.specs.Ports.{stream_at}
 use Rattle.ff_net.specs.declared.fault.Fault.{Fault}
 use Rattle.ff_net.specs.Laws.{IsPending}
 use Rattle.ff_net.specs.Ways.{Flow}
 use Rattle.ff_net.specs.Pasts.{Past, Feed, was_told, was_stopped}
-use Rattle.ff_cut.specs.Cutters.{Cutter}
-use Rattle.ff_demuxing.specs.Demuxing.{demux_of, DemuxStands}
-use Rattle.ff_demuxing.specs.DemuxLaws.{demux_closed}
-use Rattle.ff_demuxing.specs.Exiting.{Exits, IsOver}
+use Rattle.ff_reader.specs.Cutters.{Cutter}
+use Rattle.ff_node_demux.specs.Demuxing.{demux_of, DemuxStands}
+use Rattle.ff_node_demux.specs.DemuxLaws.{demux_closed}
+use Rattle.ff_node_demux.specs.Exiting.{Exits, IsOver}
 
 -- it gives nothing more where it isn't without a fault and neither ended nor stopped
 pub is_over : (ended stopped : Bool) (fault : Option Fault) → (ended ≡ false → stopped ≡ false → fault ≢ None)

@@ -1,8 +1,8 @@
 -- Where a cut of FLAC wants more, its next packet is open.
 use Rattle.std.proofs.Common.{◌≡◌, ℕ, ◌+◌, List, [], ◌++◌, take, Some, None, inl, sym, ap, ◌∙◌, append-nil}
 use Rattle.std.specs.Prelude.{slice_get, pos}
-use Rattle.ff_values.specs.Packet.{packet_at}
-use Rattle.ff_values.specs.declared.packet.Pkt.{Pkt}
+use Rattle.ff_frame.specs.Packet.{packet_at}
+use Rattle.ff_frame.specs.declared.packet.Pkt.{Pkt}
 use Rattle.ff_flac_frame.specs.Frame.{IsStream}
 use Rattle.ff_flac_frame.proofs.Whole.{is_not_yet}
 use Rattle.ff_flac_dec.specs.declared.head.FlacHead.{FlacHead}
@@ -11,8 +11,8 @@ use Rattle.ff_flac_dec.specs.Streams.{stream_of}
 use Rattle.ff_flac_dec.specs.Packets.{unit, packets_from, demuxed}
 use Rattle.ff_flac_dec.specs.Cuts.{Goes, flac_cutter}
 use Rattle.ff_flac_dec.proofs.UnitLaws.{wait_more, unit_begins, packets_whole, packets_none}
-use Rattle.ff_demuxing.specs.Reading.{IsUndecided}
-use Rattle.ff_demuxing.proofs.OpenSteps.{get_behind, get_past}
+use Rattle.ff_node_demux.specs.Reading.{IsUndecided}
+use Rattle.ff_node_demux.proofs.OpenSteps.{get_behind, get_past}
 
 pub flac_open : (head : FlacHead) (used count n : ℕ) (held fed : List ℕ) → IsStream (stream_of head.head) → unit (stream_of head.head) held ≡ Wait
     → ((more : List ℕ) → Goes head used count n held fed more) → IsUndecided flac_cutter head fed n

@@ -1,10 +1,10 @@
 -- What a demuxer has read, step by step.
 use Rattle.std.proofs.Common.{◌≡◌, ℕ, ◌+◌, ◌-◌, ◌≤◌, inl, inr, Bool, true, false, List, [], ◌++◌, drop, length, Option, None, Some, refl, sym, ap, subst, ◌∙◌, arith, append_assoc, length-append, append-nil}
 use Rattle.std.specs.Io.KnownBytes.{Consumes, Keeps}
-use Rattle.ff_values.specs.declared.packet.Pkt.{Pkt}
-use Rattle.ff_cut.specs.Cutters.{Cutter, Feeds, KeepsCut, GivesPacket}
-use Rattle.ff_demuxing.specs.Reading.{IsUndecided, LeavesOpen, AsksWithin, IsFed, IsNear, HasRead, FeedsOn, Reads}
-use Rattle.ff_demuxing.proofs.DemuxSteps.{drop-append}
+use Rattle.ff_frame.specs.declared.packet.Pkt.{Pkt}
+use Rattle.ff_reader.specs.Cutters.{Cutter, Feeds, KeepsCut, GivesPacket}
+use Rattle.ff_node_demux.specs.Reading.{IsUndecided, LeavesOpen, AsksWithin, IsFed, IsNear, HasRead, FeedsOn, Reads}
+use Rattle.ff_node_demux.proofs.DemuxSteps.{drop-append}
 
 consumes_none : (left : Option (List ℕ)) → Consumes left left []
 consumes_none None = tt

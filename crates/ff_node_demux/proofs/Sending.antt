@@ -1,9 +1,9 @@
 -- A demuxer is told by what it does: what it keeps of its own numbers and of its cut stays true where the cut is the same.
 use Rattle.std.proofs.Common.{◌≡◌, ◌≢◌, ◌^◌, ◌≤◌, ◌<◌, true, false, length, Some, None, ap, sym, subst, ◌∙◌}
 use Rattle.std.proofs.Props.{props}
-use Rattle.ff_cut.specs.declared.cutter.PacketCut.{Ghosts}
+use Rattle.ff_reader.specs.declared.cutter.PacketCut.{Ghosts}
 use Rattle.ff_net.specs.declared.fault.Fault.TheVariants.{TooLarge}
-use Rattle.ff_demuxing.specs.declared.demux.Demux.{Demux}
+use Rattle.ff_node_demux.specs.declared.demux.Demux.{Demux}
 
 module _ {S C H : Type 0} {G : Ghosts C H} (m : Demux S C H G) where
   -- with another cut

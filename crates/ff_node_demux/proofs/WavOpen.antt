@@ -7,18 +7,18 @@ use Rattle.std.proofs.lemmas.List.{take_all, length-replicate}
 use Rattle.std.proofs.lemmas.Nat.{le-div, div_below}
 use Rattle.std.proofs.lemmas.Option.{slice_get_past}
 use Rattle.std.proofs.Math.Nat.{div-mul-le_self, mul-le-mul_right}
-use Rattle.ff_values.specs.declared.head.Codec.{Codec}
-use Rattle.ff_values.specs.declared.head.Codec.TheVariants.{PcmU8, PcmS16le, PcmS24le, PcmS32le, Flac, RawVideo}
-use Rattle.ff_values.specs.declared.head.StreamHead.{StreamHead}
-use Rattle.ff_values.specs.declared.head.StreamHead.TheVariants.{Audio, Video}
-use Rattle.ff_values.specs.declared.packet.Pkt.{Pkt}
-use Rattle.ff_values.specs.Codecs.{sample_bytes}
+use Rattle.ff_frame.specs.declared.head.Codec.{Codec}
+use Rattle.ff_frame.specs.declared.head.Codec.TheVariants.{PcmU8, PcmS16le, PcmS24le, PcmS32le, Flac, RawVideo}
+use Rattle.ff_frame.specs.declared.head.StreamHead.{StreamHead}
+use Rattle.ff_frame.specs.declared.head.StreamHead.TheVariants.{Audio, Video}
+use Rattle.ff_frame.specs.declared.packet.Pkt.{Pkt}
+use Rattle.ff_frame.specs.Codecs.{sample_bytes}
 use Rattle.ff_wav.specs.declared.head.WavHead.{WavHead}
 use Rattle.ff_wav.specs.declared.cut.WavCut.{WavCut}
 use Rattle.ff_wav.specs.Packets.{block_of, body, frames, packet_at, packet_count, packets_of, whole_len, IsHead, IsStream}
 use Rattle.ff_wav.specs.Cuts.{ReachesLen, IsBodyEnded, Cuts, has_ended, is_done, wav_cutter}
 use Rattle.ff_wav.proofs.CutLaws.{packet_is, packets_get, packets_length, body_length}
-use Rattle.ff_demuxing.specs.Reading.{IsUndecided}
+use Rattle.ff_node_demux.specs.Reading.{IsUndecided}
 
 le_or_more : (m n : ℕ) → (m ≤ n) ⊎ (n < m)
 le_or_more zero n = inl (omega arith)

@@ -1,15 +1,15 @@
 -- Where a cut of YUV4MPEG2 wants more, its next packet is open.
 use Rattle.std.proofs.Common.{◌≡◌, ℕ, ◌+◌, List, [], ◌++◌, Some, None, inl, sym, ap, ◌∙◌, append-nil}
 use Rattle.std.specs.Prelude.{slice_get}
-use Rattle.ff_values.specs.declared.packet.Pkt.{Pkt}
+use Rattle.ff_frame.specs.declared.packet.Pkt.{Pkt}
 use Rattle.ff_y4m.specs.declared.head.Y4mHead.{Y4mHead}
 use Rattle.ff_y4m.specs.declared.frame.Front.TheVariants.{Wait, Frame}
 use Rattle.ff_y4m.specs.Packets.{unit, packets_from, packet_in, demuxed}
 use Rattle.ff_y4m.specs.Cuts.{Goes, y4m_cutter}
 use Rattle.ff_y4m.proofs.DecidedLaws.{wait_more, frame_found}
 use Rattle.ff_y4m.proofs.UnitLaws.{packets_frame, packets_none}
-use Rattle.ff_demuxing.specs.Reading.{IsUndecided}
-use Rattle.ff_demuxing.proofs.OpenSteps.{get_behind, get_past}
+use Rattle.ff_node_demux.specs.Reading.{IsUndecided}
+use Rattle.ff_node_demux.proofs.OpenSteps.{get_behind, get_past}
 
 pub y4m_open : (head : Y4mHead) (used n : ℕ) (held fed : List ℕ) → unit head.frame_bytes held ≡ Wait → ((more : List ℕ) → Goes head used n held fed more)
     → IsUndecided y4m_cutter head fed n

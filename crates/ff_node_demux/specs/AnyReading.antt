@@ -2,11 +2,11 @@
 use Rattle.std.specs.Prelude.{ℕ, max, length}
 use Rattle.ff_flac_dec.specs.Cuts.{flac_cutter, longest_frame}
 use Rattle.ff_flac_dec.specs.declared.cut.FlacCut.{FlacCut}
-use Rattle.ff_heads.specs.declared.head.InputHead.{InputHead}
-use Rattle.ff_heads.specs.declared.head.InputHead.TheVariants as head
-use Rattle.ff_cuts.specs.declared.any.AnyCut.{AnyCut}
-use Rattle.ff_cuts.specs.declared.any.AnyCut.TheVariants.{Wav, Y4m, Flac}
-use Rattle.ff_demuxing.specs.Reading.{piece_size}
+use Rattle.ff_input.specs.declared.heads.head.InputHead.{InputHead}
+use Rattle.ff_input.specs.declared.heads.head.InputHead.TheVariants as head
+use Rattle.ff_input.specs.declared.packets.any.AnyCut.{AnyCut}
+use Rattle.ff_input.specs.declared.packets.any.AnyCut.TheVariants.{Wav, Y4m, Flac}
+use Rattle.ff_node_demux.specs.Reading.{piece_size}
 
 -- of FLAC a piece, or as many bytes as wait where these are more
 abbrev pub flac_asks : FlacCut → ℕ

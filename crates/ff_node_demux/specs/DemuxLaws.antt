@@ -1,21 +1,21 @@
 -- The laws of the part that gives an input's packets.
 use Rattle.std.specs.Prelude.{◌≡◌, ℕ, zero, suc, ◌+◌, ◌<◌, ◌≤◌, Bool, true, false, cond, List, [], ◌∷◌, ◌++◌, map, length, Option, None, Some, refl}
 use Rattle.std.proofs.Common.{sym, subst, ap, ◌∙◌, arith}
-use Rattle.ff_values.specs.declared.head.StreamHead.{StreamHead}
-use Rattle.ff_frame.specs.declared.item.Lane.{Lane}
-use Rattle.ff_frame.specs.declared.item.Lane.TheVariants.{Packets}
-use Rattle.ff_frame.specs.Stream.{still_open, whole, broken}
-use Rattle.ff_frame.specs.Ports.{AllBelow, AllUnbroken, IsMonotone, IsCalm, IsClosed, stream_at}
-use Rattle.ff_frame.specs.Within.{before_pass}
+use Rattle.ff_frame.specs.declared.head.StreamHead.{StreamHead}
+use Rattle.ff_stream.specs.declared.item.Lane.{Lane}
+use Rattle.ff_stream.specs.declared.item.Lane.TheVariants.{Packets}
+use Rattle.ff_stream.specs.Stream.{still_open, whole, broken}
+use Rattle.ff_stream.specs.Ports.{AllBelow, AllUnbroken, IsMonotone, IsCalm, IsClosed, stream_at}
+use Rattle.ff_stream.specs.Within.{before_pass}
 use Rattle.ff_net.specs.declared.fault.Fault.{Fault}
 use Rattle.ff_net.specs.declared.fault.Fault.TheVariants.{TooLong}
 use Rattle.ff_net.specs.Laws.{IsOfInputs, CauseStays, IsPending, AllAsked}
 use Rattle.ff_net.specs.Pasts.{Past, due, cut_to}
 use Rattle.ff_net.specs.Ways.{Flow, AreValid}
-use Rattle.ff_cut.specs.Cutters.{Cutter}
-use Rattle.ff_demuxing.specs.Demuxing.{mark_at, damage_at, items_of, break_of, demux_of, is_too_long, fault_in, passes_in_demux, DemuxStands}
-use Rattle.ff_demuxing.specs.DemuxShapes.{IsShaped, demux_valid}
-use Rattle.ff_demuxing.specs.Sources.{source_valid, source_keeps, source_monotone, source_calm, source_unbroken, source_given, tried_of, source_tried, source_few, source_units}
+use Rattle.ff_reader.specs.Cutters.{Cutter}
+use Rattle.ff_node_demux.specs.Demuxing.{mark_at, damage_at, items_of, break_of, demux_of, is_too_long, fault_in, passes_in_demux, DemuxStands}
+use Rattle.ff_node_demux.specs.DemuxShapes.{IsShaped, demux_valid}
+use Rattle.ff_node_demux.specs.Sources.{source_valid, source_keeps, source_monotone, source_calm, source_unbroken, source_given, tried_of, source_tried, source_few, source_units}
 
 module _ {H C : Type 0} (cutter : Cutter H C) where
   pub demux_mark : (head : H) (file : List ℕ) (b : Bool) → is_too_long cutter head file ≡ b

@@ -2,14 +2,14 @@
 use Rattle.std.specs.Prelude.{ℕ, ◌+◌, ◌||◌, Bool, true, false, cond, List, [], ◌∷◌, refl}
 use Rattle.std.proofs.Common.{ap}
 use mathlib.Core.List.{IsPrefix}
-use Rattle.ff_cut.specs.Cutters.{Cutter}
-use Rattle.ff_frame.specs.declared.item.Lane.TheVariants.{Packets}
-use Rattle.ff_frame.specs.LaneLaws.{valid_front}
-use Rattle.ff_frame.specs.Lanes.{AreInShape, IsValid}
-use Rattle.ff_frame.specs.Within.{before_pass, within, passes_limits}
-use Rattle.ff_frame.specs.WithinLaws.{within_valid}
+use Rattle.ff_reader.specs.Cutters.{Cutter}
+use Rattle.ff_stream.specs.declared.item.Lane.TheVariants.{Packets}
+use Rattle.ff_stream.specs.LaneLaws.{valid_front}
+use Rattle.ff_stream.specs.Lanes.{AreInShape, IsValid}
+use Rattle.ff_stream.specs.Within.{before_pass, within, passes_limits}
+use Rattle.ff_stream.specs.WithinLaws.{within_valid}
 use Rattle.ff_net.specs.Ways.{Flow}
-use Rattle.ff_demuxing.specs.Demuxing.{mark_at, items_of, break_of, demux_of, passes_in_demux, ends_beyond}
+use Rattle.ff_node_demux.specs.Demuxing.{mark_at, items_of, break_of, demux_of, passes_in_demux, ends_beyond}
 
 module _ {H C : Type 0} (cutter : Cutter H C) where
   -- of each input with a head the packets are in shape for their lane: what a format owes

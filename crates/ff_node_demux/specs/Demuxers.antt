@@ -1,15 +1,15 @@
 -- A demuxer, as the laws of machines see it. What its source tells is passed in.
 use Rattle.std.specs.Prelude.{◌≡◌, ℕ, true, List, [], ◌∷◌, Option, Some}
-use Rattle.ff_frame.specs.declared.item.Lane.{Lane}
-use Rattle.ff_frame.specs.declared.item.Lane.TheVariants.{Packets}
+use Rattle.ff_stream.specs.declared.item.Lane.{Lane}
+use Rattle.ff_stream.specs.declared.item.Lane.TheVariants.{Packets}
 use Rattle.ff_net.specs.declared.fault.Fault.{Fault}
 use Rattle.ff_net.specs.Pasts.{Past}
-use Rattle.ff_cut.specs.declared.cutter.PacketCut.{Ghosts}
-use Rattle.ff_demuxing.specs.Demuxing.{DemuxStands}
-use Rattle.ff_demuxing.specs.Exiting.{Exits}
-use Rattle.ff_demuxing.specs.Reading.{HasRead, Reads}
-use Rattle.ff_demuxing.specs.Sources.{tried_of}
-use Rattle.ff_demuxing.specs.declared.demux.Demux.{Demux}
+use Rattle.ff_reader.specs.declared.cutter.PacketCut.{Ghosts}
+use Rattle.ff_node_demux.specs.Demuxing.{DemuxStands}
+use Rattle.ff_node_demux.specs.Exiting.{Exits}
+use Rattle.ff_node_demux.specs.Reading.{HasRead, Reads}
+use Rattle.ff_node_demux.specs.Sources.{tried_of}
+use Rattle.ff_node_demux.specs.declared.demux.Demux.{Demux}
 
 module _ {S C H : Type 0} {G : Ghosts C H} where
   abbrev pub demux_in_lanes : Demux S C H G → List Lane

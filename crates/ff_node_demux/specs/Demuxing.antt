@@ -1,19 +1,19 @@
 -- The part that gives an input's packets, as what it means.
 use Rattle.std.specs.Prelude.{◌≡◌, ◌⊎◌, ℕ, ◌+◌, ◌-◌, ◌^◌, nat_lt, ◌||◌, Bool, true, false, if◌then◌else◌, List, [], ◌++◌, drop, map, length, Option, None, Some}
-use Rattle.ff_frame.specs.declared.item.Item.{Item}
-use Rattle.ff_frame.specs.declared.item.Item.TheVariants.{Audio, Video, Packet, Trailer, End, Broken}
-use Rattle.ff_frame.specs.declared.item.Lane.{Lane}
-use Rattle.ff_frame.specs.declared.item.Lane.TheVariants.{Packets}
-use Rattle.ff_frame.specs.Stream.{Mark, whole, broken}
-use Rattle.ff_frame.specs.Within.{some_pass, within, passes_limits}
-use Rattle.ff_cut.specs.Cutters.{Cutter}
+use Rattle.ff_stream.specs.declared.item.Item.{Item}
+use Rattle.ff_stream.specs.declared.item.Item.TheVariants.{Audio, Video, Packet, Trailer, End, Broken}
+use Rattle.ff_stream.specs.declared.item.Lane.{Lane}
+use Rattle.ff_stream.specs.declared.item.Lane.TheVariants.{Packets}
+use Rattle.ff_stream.specs.Stream.{Mark, whole, broken}
+use Rattle.ff_stream.specs.Within.{some_pass, within, passes_limits}
+use Rattle.ff_reader.specs.Cutters.{Cutter}
 use Rattle.ff_net.specs.declared.fault.Fault.{Fault}
 use Rattle.ff_net.specs.declared.fault.Fault.TheVariants.{Device, Damaged, TooLong}
 use Rattle.ff_net.specs.Laws.{IsOfInputs}
 use Rattle.ff_net.specs.Pasts.{Past, Task, IsIn}
 use Rattle.ff_net.specs.Ways.{Flow}
-use Rattle.ff_demuxing.specs.Exiting.{exits}
-use Rattle.ff_demuxing.specs.Sources.{Sources, only}
+use Rattle.ff_node_demux.specs.Exiting.{exits}
+use Rattle.ff_node_demux.specs.Sources.{Sources, only}
 
 -- the offset past which no packet may end
 abbrev pub last_byte : ℕ

@@ -2,10 +2,10 @@
 use Rattle.std.specs.Prelude.{◌≡◌, ◌↔◌, ◌⊎◌, ℕ, Bool, true, false, cond, List, [], ◌∷◌, Option, IsSome, refl}
 use Rattle.std.proofs.Common.{sym, subst, ap}
 use mathlib.Core.List.{IsPrefix}
-use Rattle.ff_frame.specs.Order.{prefix_self}
-use Rattle.ff_frame.specs.Ports.{stream_at, IsClosed}
-use Rattle.ff_values.specs.declared.event.Event.{Event}
-use Rattle.ff_values.specs.declared.event.Event.TheVariants.{Exited}
+use Rattle.ff_stream.specs.Order.{prefix_self}
+use Rattle.ff_stream.specs.Ports.{stream_at, IsClosed}
+use Rattle.ff_frame.specs.declared.event.Event.{Event}
+use Rattle.ff_frame.specs.declared.event.Event.TheVariants.{Exited}
 use Rattle.ff_net.specs.declared.fault.Fault.{Fault}
 use Rattle.ff_net.specs.Pasts.{Past, Feed, IsIn}
 

@@ -4,15 +4,15 @@ use Rattle.std.proofs.Common.{sym, subst, ◌∙◌, arith}
 use Rattle.std.proofs.lemmas.Int.{ints}
 use Rattle.std.proofs.lemmas.List.Elements.{All-nil}
 use Rattle.ff_time.specs.Fraction.{Fraction}
-use Rattle.ff_values.specs.declared.packet.Pkt.{Pkt}
-use Rattle.ff_values.specs.declared.head.Codec.{Codec}
-use Rattle.ff_values.specs.declared.head.Codec.TheVariants as codec
-use Rattle.ff_values.specs.declared.head.StreamHead.{StreamHead}
-use Rattle.ff_values.specs.declared.head.StreamHead.TheVariants.{Audio as AudioHead, Video as VideoHead}
-use Rattle.ff_frame.specs.declared.item.Item.TheVariants.{Packet}
-use Rattle.ff_frame.specs.declared.item.Lane.{Lane}
-use Rattle.ff_frame.specs.declared.item.Lane.TheVariants.{Packets}
-use Rattle.ff_frame.specs.Lanes.{IsItemFor, InOrder, Follows, AreInShape}
+use Rattle.ff_frame.specs.declared.packet.Pkt.{Pkt}
+use Rattle.ff_frame.specs.declared.head.Codec.{Codec}
+use Rattle.ff_frame.specs.declared.head.Codec.TheVariants as codec
+use Rattle.ff_frame.specs.declared.head.StreamHead.{StreamHead}
+use Rattle.ff_frame.specs.declared.head.StreamHead.TheVariants.{Audio as AudioHead, Video as VideoHead}
+use Rattle.ff_stream.specs.declared.item.Item.TheVariants.{Packet}
+use Rattle.ff_stream.specs.declared.item.Lane.{Lane}
+use Rattle.ff_stream.specs.declared.item.Lane.TheVariants.{Packets}
+use Rattle.ff_stream.specs.Lanes.{IsItemFor, InOrder, Follows, AreInShape}
 use Rattle.ff_flac_frame.specs.declared.stream.FlacStream.{FlacStream}
 use Rattle.ff_flac_frame.specs.Frame.{IsStream}
 use Rattle.ff_flac_dec.specs.declared.front.Front.{Front}
@@ -21,8 +21,8 @@ use Rattle.ff_flac_dec.specs.Streams.{stream_of, IsFlacHead}
 use Rattle.ff_flac_dec.specs.Packets.{unit, packets_from}
 use Rattle.ff_flac_dec.specs.Cuts.{flac_cutter}
 use Rattle.ff_flac_dec.proofs.UnitLaws.{whole_at, packets_step}
-use Rattle.ff_demuxing.specs.DemuxShapes.{IsShaped}
-use Rattle.ff_demuxing.specs.WavShapes.{all_first}
+use Rattle.ff_node_demux.specs.DemuxShapes.{IsShaped}
+use Rattle.ff_node_demux.specs.WavShapes.{all_first}
 
 -- a frame from this sample frame on, of so many
 record IsAt (n block : ℕ) (p : Pkt) : Type 0 where

@@ -1,7 +1,7 @@
 -- What a demuxer reads of its input: only where what it has read leaves the next packet undecided, and then a piece.
 use Rattle.std.specs.Prelude.{◌≡◌, ◌≢◌, ◌⊎◌, ℕ, ◌-◌, ◌≤◌, Bool, false, List, [], ◌++◌, drop, length, slice_get, Option}
 use Rattle.std.specs.Io.KnownBytes.{Consumes}
-use Rattle.ff_cut.specs.Cutters.{Cutter}
+use Rattle.ff_reader.specs.Cutters.{Cutter}
 
 -- the bytes of a piece, where the rest of a packet is no reason for more
 abbrev pub piece_size : ℕ

@@ -4,13 +4,13 @@ use Rattle.std.proofs.Common.{sym, subst, ap, inl, inr, ◌∙◌, arith}
 use Rattle.std.proofs.lemmas.List.{take_all}
 use Rattle.std.proofs.lemmas.Bool.Decides.{nat_tests}
 use mathlib.Core.List.{IsPrefix}
-use Rattle.ff_frame.specs.declared.item.Item.{Item}
-use Rattle.ff_frame.specs.declared.item.Lane.{Lane}
-use Rattle.ff_frame.specs.Stream.{Mark, still_open, broken, LiesBelow, opened}
-use Rattle.ff_frame.specs.Items.{with_item}
-use Rattle.ff_frame.specs.Lanes.{IsValid}
-use Rattle.ff_frame.specs.Ports.{nothing, stream_at, AllBelow, AllUnbroken, IsMonotone, IsCalm, IsClosed, IsUnbroken}
-use Rattle.ff_frame.specs.Order.{below_self, opened_below}
+use Rattle.ff_stream.specs.declared.item.Item.{Item}
+use Rattle.ff_stream.specs.declared.item.Lane.{Lane}
+use Rattle.ff_stream.specs.Stream.{Mark, still_open, broken, LiesBelow, opened}
+use Rattle.ff_stream.specs.Items.{with_item}
+use Rattle.ff_stream.specs.Lanes.{IsValid}
+use Rattle.ff_stream.specs.Ports.{nothing, stream_at, AllBelow, AllUnbroken, IsMonotone, IsCalm, IsClosed, IsUnbroken}
+use Rattle.ff_stream.specs.Order.{below_self, opened_below}
 use Rattle.ff_net.specs.Ways.{Flow, AreValid}
 use Rattle.ff_net.specs.Pasts.{Past, gave_item, due, cut_to}
 use Rattle.ff_net.proofs.Flows.{stream_at-with_item_same, stream_at-with_item_other}

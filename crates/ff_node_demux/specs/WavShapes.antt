@@ -7,19 +7,19 @@ use Rattle.std.proofs.lemmas.List.{length-take, length-drop}
 use Rattle.std.proofs.lemmas.List.Elements.{All-nil}
 use Rattle.std.proofs.Math.Nat.{div-mul-le_self, mul-le-mul_right}
 use Rattle.ff_time.specs.Fraction.{Fraction}
-use Rattle.ff_values.specs.declared.head.Codec.{Codec}
-use Rattle.ff_values.specs.declared.head.StreamHead.{StreamHead}
-use Rattle.ff_values.specs.declared.head.StreamHead.TheVariants.{Audio as AudioHead, Video as VideoHead}
-use Rattle.ff_frame.specs.declared.item.Item.{Item}
-use Rattle.ff_frame.specs.declared.item.Item.TheVariants.{Packet}
-use Rattle.ff_frame.specs.declared.item.Lane.{Lane}
-use Rattle.ff_frame.specs.declared.item.Lane.TheVariants.{Packets}
-use Rattle.ff_values.specs.PcmLaws.{packet_pcm}
-use Rattle.ff_values.specs.Codecs.{IsPcmCodec, sample_bytes}
-use Rattle.ff_frame.specs.Lanes.{IsItemFor, InOrder, Follows, AreInShape}
+use Rattle.ff_frame.specs.declared.head.Codec.{Codec}
+use Rattle.ff_frame.specs.declared.head.StreamHead.{StreamHead}
+use Rattle.ff_frame.specs.declared.head.StreamHead.TheVariants.{Audio as AudioHead, Video as VideoHead}
+use Rattle.ff_stream.specs.declared.item.Item.{Item}
+use Rattle.ff_stream.specs.declared.item.Item.TheVariants.{Packet}
+use Rattle.ff_stream.specs.declared.item.Lane.{Lane}
+use Rattle.ff_stream.specs.declared.item.Lane.TheVariants.{Packets}
+use Rattle.ff_frame.specs.PcmLaws.{packet_pcm}
+use Rattle.ff_frame.specs.Codecs.{IsPcmCodec, sample_bytes}
+use Rattle.ff_stream.specs.Lanes.{IsItemFor, InOrder, Follows, AreInShape}
 use Rattle.ff_wav.specs.Packets.{block_of, frames, packet_at, packet_count, packets_of, body, whole_len, IsStream}
 use Rattle.ff_wav.specs.Cuts.{wav_cutter}
-use Rattle.ff_demuxing.specs.DemuxShapes.{IsShaped}
+use Rattle.ff_node_demux.specs.DemuxShapes.{IsShaped}
 
 pub all_first : (P : Item → Type 0) (x : Item) (ys : List Item) → P x → All P ys → All P (x ∷ ys)
 all_first P x ys p all zero d lt = p

@@ -5,22 +5,22 @@ use Rattle.std.proofs.lemmas.Int.{ints}
 use Rattle.std.proofs.lemmas.List.{length-take, length-drop}
 use Rattle.std.proofs.lemmas.List.Elements.{All-nil}
 use Rattle.ff_time.specs.Fraction.{Fraction}
-use Rattle.ff_values.specs.Video.{frame_size}
-use Rattle.ff_values.specs.declared.packet.Pkt.{Pkt}
-use Rattle.ff_values.specs.declared.video.Format.{Format}
-use Rattle.ff_values.specs.declared.head.StreamHead.{StreamHead}
-use Rattle.ff_values.specs.declared.head.StreamHead.TheVariants.{Audio as AudioHead, Video as VideoHead}
-use Rattle.ff_frame.specs.declared.item.Item.TheVariants.{Packet}
-use Rattle.ff_frame.specs.declared.item.Lane.{Lane}
-use Rattle.ff_frame.specs.declared.item.Lane.TheVariants.{Packets}
-use Rattle.ff_frame.specs.Lanes.{IsItemFor, InOrder, Follows, AreInShape}
+use Rattle.ff_frame.specs.Video.{frame_size}
+use Rattle.ff_frame.specs.declared.packet.Pkt.{Pkt}
+use Rattle.ff_frame.specs.declared.video.Format.{Format}
+use Rattle.ff_frame.specs.declared.head.StreamHead.{StreamHead}
+use Rattle.ff_frame.specs.declared.head.StreamHead.TheVariants.{Audio as AudioHead, Video as VideoHead}
+use Rattle.ff_stream.specs.declared.item.Item.TheVariants.{Packet}
+use Rattle.ff_stream.specs.declared.item.Lane.{Lane}
+use Rattle.ff_stream.specs.declared.item.Lane.TheVariants.{Packets}
+use Rattle.ff_stream.specs.Lanes.{IsItemFor, InOrder, Follows, AreInShape}
 use Rattle.ff_y4m.specs.declared.frame.Front.{Front}
 use Rattle.ff_y4m.specs.declared.frame.Front.TheVariants.{Wait, Other, Frame}
 use Rattle.ff_y4m.specs.Packets.{unit, packet_in, packets_from, IsStream}
 use Rattle.ff_y4m.specs.Cuts.{y4m_cutter}
 use Rattle.ff_y4m.proofs.UnitLaws.{frame_at, packets_step}
-use Rattle.ff_demuxing.specs.DemuxShapes.{IsShaped}
-use Rattle.ff_demuxing.specs.WavShapes.{all_first}
+use Rattle.ff_node_demux.specs.DemuxShapes.{IsShaped}
+use Rattle.ff_node_demux.specs.WavShapes.{all_first}
 
 -- a frame of this number: it lasts one tick, and has planes of this size
 record IsNumbered (size n : ℕ) (p : Pkt) : Type 0 where

@@ -1,16 +1,17 @@
 ghost use Rattle.std.specs.Prelude.{◌≡◌, ◌≢◌, ◌+◌, ◌^◌, ◌≤◌, ◌<◌, ◌⊎◌, ℕ, List, [], Some, None, Ok, Err, true, false, length, OnErr, IfOk, IfErr, IfSome, IsSome, IsNone};
-ghost use Rattle.ff_frame.specs.declared.item.Lane.TheVariants.{Packets};
+ghost use Rattle.ff_stream.specs.declared.item.Lane.TheVariants.{Packets};
 ghost use Rattle.ff_net.specs.declared.fault.Fault.TheVariants.{TooLarge};
 
 use crate::demuxable::{Demuxable, PIECE};
 use crate::reading::{ReadEnd, read_more};
 use crate::unit::{Unit, next_unit};
-use ff_cut::PacketCut;
-use ff_cuts::AnyCut;
 use ff_flac_dec::FrameSender;
-use ff_frame::{Event, Item, Refused, StreamHead, Ticket};
+use ff_frame::{Event, StreamHead, Ticket};
 use ff_host::Source;
+use ff_input::AnyCut;
 use ff_net::{Fault, Machine};
+use ff_reader::PacketCut;
+use ff_stream::{Item, Refused};
 use std::alloc::{AllocError, Global};
 
 /// Gives the packets of an input of any format, one for each ticket, and reads no further than the next packet wants.
@@ -61,12 +62,12 @@ fn lengthen(piece: &mut Vec<u8>, wanted: usize)
 
 impl<S: Source + Drop, C: Demuxable + Drop> Demux<S, C> {
     ghost use Rattle.std.specs.Prelude.{◌∷◌};
-    ghost use Rattle.ff_values.specs.declared.event.Event.TheVariants.{Exited};
-    ghost use Rattle.ff_frame.specs.Ports.{stream_at};
+    ghost use Rattle.ff_frame.specs.declared.event.Event.TheVariants.{Exited};
+    ghost use Rattle.ff_stream.specs.Ports.{stream_at};
     ghost use Rattle.ff_net.specs.Pasts.{Past, start};
-    ghost use Rattle.ff_demuxing.specs.Demuxing.{demux_task};
-    ghost use Rattle.ff_demuxing.specs.Exiting.{IsOver};
-    ghost use Rattle.ff_demuxing.specs.Demuxers.{demux_out_lanes, demux_source, demux_fault, demux_failures, demux_device, demux_reads, demux_stands, demux_has_read};
+    ghost use Rattle.ff_node_demux.specs.Demuxing.{demux_task};
+    ghost use Rattle.ff_node_demux.specs.Exiting.{IsOver};
+    ghost use Rattle.ff_node_demux.specs.Demuxers.{demux_out_lanes, demux_source, demux_fault, demux_failures, demux_device, demux_reads, demux_stands, demux_has_read};
 
     /// Over a source that gives the input from its first byte on, whose head this is. The source comes back where there
     /// was no memory.
@@ -151,15 +152,15 @@ impl<S: Source + Drop> Demux<S, AnyCut> {
 }
 
 impl<S: Source + Drop, C: Demuxable + Drop> Machine for Demux<S, C> {
-    ghost use Rattle.ff_frame.specs.Stream.{still_open, LiesBelow};
-    ghost use Rattle.ff_frame.specs.Items.{with_item};
-    ghost use Rattle.ff_frame.specs.Ports.{stream_at};
+    ghost use Rattle.ff_stream.specs.Stream.{still_open, LiesBelow};
+    ghost use Rattle.ff_stream.specs.Items.{with_item};
+    ghost use Rattle.ff_stream.specs.Ports.{stream_at};
     ghost use Rattle.ff_net.specs.declared.fault.Fault.TheVariants.{Device};
     ghost use Rattle.ff_net.specs.Laws.{FaultStep, GoesOn, IsReading};
     ghost use Rattle.ff_net.specs.Pasts.{Past, IsIn, gave_item, was_allowed, was_asked, was_stopped, was_told, due};
     ghost use Rattle.ff_net.specs.Views.{IsSameShape};
-    ghost use Rattle.ff_demuxing.specs.Demuxers.{demux_source, demux_fault, demux_holds, demux_stands, demux_reads_nothing, demux_reads_on};
-    ghost use Rattle.ff_demuxing.specs.DemuxViews.{demux_view, demux_laws};
+    ghost use Rattle.ff_node_demux.specs.Demuxers.{demux_source, demux_fault, demux_holds, demux_stands, demux_reads_nothing, demux_reads_on};
+    ghost use Rattle.ff_node_demux.specs.DemuxViews.{demux_view, demux_laws};
 
     ghost view = { demux_view S.left S.name S.faults };
 

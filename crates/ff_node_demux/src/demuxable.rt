@@ -1,11 +1,11 @@
 ghost use Rattle.std.specs.Prelude.{◌≡◌, ◌+◌, ◌≤◌, ◌<◌, ◌^◌, ℕ, None, Some, Ok, false, length, OnErr};
-ghost use Rattle.ff_values.specs.declared.packet.Pkt.{Pkt};
-ghost use Rattle.ff_cut.specs.Cutters.{GivesPacket, GaveAll};
+ghost use Rattle.ff_frame.specs.declared.packet.Pkt.{Pkt};
+ghost use Rattle.ff_reader.specs.Cutters.{GivesPacket, GaveAll};
 
-use ff_cut::PacketCut;
-use ff_cuts::AnyCut;
 use ff_flac_dec::FlacCut;
-use ff_values::Cut;
+use ff_frame::Cut;
+use ff_input::AnyCut;
+use ff_reader::PacketCut;
 use ff_wav::WavCut;
 use ff_y4m::Y4mCut;
 use std::alloc::AllocError;
@@ -16,8 +16,8 @@ pub(crate) const PIECE: usize = 65536;
 /// A format whose inputs can be demuxed: of each the packets are in shape for their lane, and more is read only where what was
 /// read leaves the next packet undecided.
 pub trait Demuxable: PacketCut {
-    ghost use Rattle.ff_demuxing.specs.DemuxShapes.{IsShaped};
-    ghost use Rattle.ff_demuxing.specs.Reading.{LeavesOpen, AsksWithin};
+    ghost use Rattle.ff_node_demux.specs.DemuxShapes.{IsShaped};
+    ghost use Rattle.ff_node_demux.specs.Reading.{LeavesOpen, AsksWithin};
 
     /// How many bytes are asked for where more are wanted,
     ghost asks: { Self → ℕ };
@@ -54,8 +54,8 @@ pub trait Demuxable: PacketCut {
 }
 
 impl Demuxable for WavCut {
-    ghost use Rattle.ff_demuxing.specs.Reading.{piece_size};
-    ghost use Rattle.ff_demuxing.specs.WavShapes.{wav_shaped};
+    ghost use Rattle.ff_node_demux.specs.Reading.{piece_size};
+    ghost use Rattle.ff_node_demux.specs.WavShapes.{wav_shaped};
 
     ghost asks = { λ cut. piece_size };
 
@@ -73,8 +73,8 @@ impl Demuxable for WavCut {
 }
 
 impl Demuxable for Y4mCut {
-    ghost use Rattle.ff_demuxing.specs.Reading.{piece_size};
-    ghost use Rattle.ff_demuxing.specs.Y4mShapes.{y4m_shaped};
+    ghost use Rattle.ff_node_demux.specs.Reading.{piece_size};
+    ghost use Rattle.ff_node_demux.specs.Y4mShapes.{y4m_shaped};
 
     ghost asks = { λ cut. piece_size };
 
@@ -93,8 +93,8 @@ impl Demuxable for Y4mCut {
 
 impl Demuxable for FlacCut {
     ghost use Rattle.ff_flac_dec.specs.Cuts.{longest_frame};
-    ghost use Rattle.ff_demuxing.specs.AnyReading.{flac_asks};
-    ghost use Rattle.ff_demuxing.specs.FlacShapes.{flac_shaped};
+    ghost use Rattle.ff_node_demux.specs.AnyReading.{flac_asks};
+    ghost use Rattle.ff_node_demux.specs.FlacShapes.{flac_shaped};
 
     ghost asks = { flac_asks };
 
@@ -114,8 +114,8 @@ impl Demuxable for FlacCut {
 }
 
 impl Demuxable for AnyCut {
-    ghost use Rattle.ff_demuxing.specs.AnyReading.{any_asks, any_ahead};
-    ghost use Rattle.ff_demuxing.specs.AnyShapes.{any_shaped};
+    ghost use Rattle.ff_node_demux.specs.AnyReading.{any_asks, any_ahead};
+    ghost use Rattle.ff_node_demux.specs.AnyShapes.{any_shaped};
 
     ghost asks = { any_asks };
 

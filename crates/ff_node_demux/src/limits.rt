@@ -1,10 +1,10 @@
 // The limits that no packet passes.
 ghost use Rattle.std.specs.Prelude.{◌≡◌, ◌+◌, ◌*◌, ◌^◌, ◌≤◌, ◌<◌, length, nat_lt};
-ghost use Rattle.ff_frame.specs.declared.item.Item.{Item};
-ghost use Rattle.ff_frame.specs.declared.item.Lane.TheVariants.{Packets};
-ghost use Rattle.ff_frame.specs.Times.{end_of, ticks};
-ghost use Rattle.ff_values.specs.Heads.{base_of_head};
-ghost use Rattle.ff_demuxing.specs.Demuxing.{ends_beyond, passes_in_demux};
+ghost use Rattle.ff_stream.specs.declared.item.Item.{Item};
+ghost use Rattle.ff_stream.specs.declared.item.Lane.TheVariants.{Packets};
+ghost use Rattle.ff_stream.specs.Times.{end_of, ticks};
+ghost use Rattle.ff_frame.specs.Heads.{base_of_head};
+ghost use Rattle.ff_node_demux.specs.Demuxing.{ends_beyond, passes_in_demux};
 
 use ff_frame::{Pkt, StreamHead};
 use ff_time::Rational;

@@ -4,13 +4,13 @@ ghost use Rattle.std.specs.Io.KnownBytes.{Keeps};
 ghost use Rattle.ff_host.specs.Causes.{HasCauseOf};
 ghost use Rattle.ff_net.specs.declared.fault.Fault.{Fault};
 ghost use Rattle.ff_net.specs.Pasts.{Past};
-ghost use Rattle.ff_cut.specs.Cutters.{Feeds, KeepsCut, SameElsewhere};
-ghost use Rattle.ff_demuxing.specs.Demuxing.{DemuxStands};
-ghost use Rattle.ff_demuxing.specs.Reading.{FeedsOn};
-ghost use Rattle.ff_demuxing.specs.declared.reading.ReadEnd.TheVariants.{Failed, NoMemory};
+ghost use Rattle.ff_reader.specs.Cutters.{Feeds, KeepsCut, SameElsewhere};
+ghost use Rattle.ff_node_demux.specs.Demuxing.{DemuxStands};
+ghost use Rattle.ff_node_demux.specs.Reading.{FeedsOn};
+ghost use Rattle.ff_node_demux.specs.declared.reading.ReadEnd.TheVariants.{Failed, NoMemory};
 
-use ff_cut::PacketCut;
 use ff_host::Source;
+use ff_reader::PacketCut;
 use std::alloc::AllocError;
 
 /// Why no further bytes of the input came.

@@ -1,11 +1,11 @@
 // What comes next of what was read.
 ghost use Rattle.std.specs.Prelude.{◌≡◌, ◌+◌, ◌^◌, ◌≤◌, ◌<◌, ℕ, Some, None, Ok, true, false, length, OnErr};
-ghost use Rattle.ff_frame.specs.declared.item.Item.{Item};
-ghost use Rattle.ff_frame.specs.declared.item.Lane.TheVariants.{Packets};
-ghost use Rattle.ff_values.specs.declared.packet.Pkt.{Pkt};
-ghost use Rattle.ff_cut.specs.Cutters.{GivesPacket, GaveAll};
-ghost use Rattle.ff_demuxing.specs.Demuxing.{passes_in_demux};
-ghost use Rattle.ff_demuxing.specs.Reading.{LeavesOpen, AsksWithin};
+ghost use Rattle.ff_stream.specs.declared.item.Item.{Item};
+ghost use Rattle.ff_stream.specs.declared.item.Lane.TheVariants.{Packets};
+ghost use Rattle.ff_frame.specs.declared.packet.Pkt.{Pkt};
+ghost use Rattle.ff_reader.specs.Cutters.{GivesPacket, GaveAll};
+ghost use Rattle.ff_node_demux.specs.Demuxing.{passes_in_demux};
+ghost use Rattle.ff_node_demux.specs.Reading.{LeavesOpen, AsksWithin};
 
 use crate::demuxable::Demuxable;
 use crate::limits::is_long;

@@ -8,8 +8,8 @@ use Rattle.ff_net.specs.Laws.{FaultStep, Laws}
 use Rattle.ff_net.specs.Silence.{silent_front}
 use Rattle.ff_net.proofs.Matters.{may_spend}
 use Rattle.ff_filter.specs.Views.{View, SamePorts, IsSpent, AllDone}
-use Rattle.ff_net_filter.specs.Alones.{fault_by, alone_view, not_too_long, fault_caused}
-use Rattle.ff_net_filter.specs.StandLaws.{task_keeps, task_monotone, task_calm, task_settles, given, spent_only, all_done}
+use Rattle.ff_node_filter.specs.Alones.{fault_by, alone_view, not_too_long, fault_caused}
+use Rattle.ff_node_filter.specs.StandLaws.{task_keeps, task_monotone, task_calm, task_settles, given, spent_only, all_done}
 
 pub same_shape : (v w : View) (s t : ℕ → Bool) (hurt hurt' long long' : Bool) → SamePorts v w → IsSameShape (alone_view v s hurt long) (alone_view w t hurt' long')
 same_shape v w s t hurt hurt' long long' p = record { in_lanes = p.ins; out_lanes = p.outs; source = refl }

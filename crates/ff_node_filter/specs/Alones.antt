@@ -5,7 +5,7 @@ use Rattle.ff_net.specs.declared.fault.Fault.{Fault}
 use Rattle.ff_net.specs.declared.fault.Fault.TheVariants.{TooLong}
 use Rattle.ff_net.specs.Views.{View as NetView}
 use Rattle.ff_filter.specs.Views.{View}
-use Rattle.ff_net_filter.specs.Tasks.{Stands}
+use Rattle.ff_node_filter.specs.Tasks.{Stands}
 
 -- its only fault is that a limit cut what it gives
 abbrev pub fault_by : Bool → Option Fault

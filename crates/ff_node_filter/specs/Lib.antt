@@ -3,3 +3,4 @@ pub mod Alones
 pub mod Limiting
 pub mod StandLaws
 pub mod Tasks
+pub mod best

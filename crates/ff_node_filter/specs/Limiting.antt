@@ -2,14 +2,14 @@
 use Rattle.std.specs.Prelude.{◌≡◌, ◌≢◌, ℕ, zero, suc, ◌+◌, ◌<◌, ◌⊎◌, Bool, true, false, ◌||◌, ◌&&◌, ◌==◌, cond, List, [], ◌∷◌, ◌++◌, length, Option, None, Some, refl}
 use Rattle.std.proofs.Common.{inl, inr, ap, sym, ◌∙◌, subst, arith}
 use Rattle.std.proofs.lemmas.Bool.Decides.{nat_tests}
-use Rattle.ff_frame.specs.declared.item.Item.{Item}
-use Rattle.ff_frame.specs.declared.item.Lane.{Lane}
-use Rattle.ff_frame.specs.Stream.{Mark, still_open, whole, broken, LiesBelow, opened}
-use Rattle.ff_frame.specs.Ports.{nothing, stream_at, AllBelow, AllUnbroken, IsUnbroken}
-use Rattle.ff_frame.specs.Order.{below_self, below_trans, below_items, closed_below}
-use Rattle.ff_frame.specs.Lanes.{AreInShape, IsValid}
-use Rattle.ff_frame.specs.Within.{some_pass, passes_limits}
-use Rattle.ff_frame.specs.WithinLaws.{within_valid}
+use Rattle.ff_stream.specs.declared.item.Item.{Item}
+use Rattle.ff_stream.specs.declared.item.Lane.{Lane}
+use Rattle.ff_stream.specs.Stream.{Mark, still_open, whole, broken, LiesBelow, opened}
+use Rattle.ff_stream.specs.Ports.{nothing, stream_at, AllBelow, AllUnbroken, IsUnbroken}
+use Rattle.ff_stream.specs.Order.{below_self, below_trans, below_items, closed_below}
+use Rattle.ff_stream.specs.Lanes.{AreInShape, IsValid}
+use Rattle.ff_stream.specs.Within.{some_pass, passes_limits}
+use Rattle.ff_stream.specs.WithinLaws.{within_valid}
 use Rattle.ff_net.specs.declared.fault.Fault.{Fault}
 use Rattle.ff_net.specs.declared.fault.Fault.TheVariants.{TooLong}
 use Rattle.ff_net.specs.Ways.{AreValid}
@@ -17,8 +17,8 @@ use Rattle.ff_filter.specs.Joins.{Flow, Ports, EachBelow, all_opened, Grows, Hid
 use Rattle.ff_filter.specs.Chains.{wire}
 use Rattle.ff_filter.specs.Limits.{limited, limited_is}
 use Rattle.ff_filter.specs.LimitLaws.{limited-below, limited-calm}
-use Rattle.ff_net_filter.specs.Tasks.{listed, ported, IsLawful}
-use Rattle.ff_net_filter.specs.StandLaws.{listed_below}
+use Rattle.ff_node_filter.specs.Tasks.{listed, ported, IsLawful}
+use Rattle.ff_node_filter.specs.StandLaws.{listed_below}
 
 abbrev pub is_broken : Mark → Bool
 is_broken still_open = false

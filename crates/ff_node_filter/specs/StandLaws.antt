@@ -3,23 +3,23 @@ use Rattle.std.specs.Prelude.{◌≡◌, ◌≢◌, ◌↔◌, ℕ, zero, suc, �
 use Rattle.std.proofs.Common.{inl, inr, ap, sym, ◌∙◌, subst, arith}
 use Rattle.std.proofs.lemmas.Bool.Decides.{nat_tests}
 use Rattle.std.proofs.lemmas.List.{append-nil}
-use Rattle.ff_frame.specs.declared.item.Item.{Item}
-use Rattle.ff_frame.specs.declared.item.Item.TheVariants.{Audio, Video, Packet, Trailer, End, Broken}
-use Rattle.ff_frame.specs.declared.item.Lane.{Lane}
-use Rattle.ff_frame.specs.Stream.{Mark, still_open, whole, broken, LiesBelow, opened}
-use Rattle.ff_frame.specs.Items.{with_item}
-use Rattle.ff_frame.specs.Order.{nothing_below, closed_below, unbroken_below, all_trans, stream_at-opened}
-use Rattle.ff_frame.specs.Ports.{nothing, stream_at, AllBelow, AllUnbroken, IsClosed, IsUnbroken, IsMonotone, IsCalm}
+use Rattle.ff_stream.specs.declared.item.Item.{Item}
+use Rattle.ff_stream.specs.declared.item.Item.TheVariants.{Audio, Video, Packet, Trailer, End, Broken}
+use Rattle.ff_stream.specs.declared.item.Lane.{Lane}
+use Rattle.ff_stream.specs.Stream.{Mark, still_open, whole, broken, LiesBelow, opened}
+use Rattle.ff_stream.specs.Items.{with_item}
+use Rattle.ff_stream.specs.Order.{nothing_below, closed_below, unbroken_below, all_trans, stream_at-opened}
+use Rattle.ff_stream.specs.Ports.{nothing, stream_at, AllBelow, AllUnbroken, IsClosed, IsUnbroken, IsMonotone, IsCalm}
 use Rattle.ff_net.specs.declared.fault.Fault.{Fault}
 use Rattle.ff_net.specs.declared.fault.Fault.TheVariants.{TooLong}
 use Rattle.ff_net.specs.Ways.{lane_at, IsValidOn, AreValid, with_item_at}
-use Rattle.ff_frame.specs.LaneLaws.{nothing_valid}
+use Rattle.ff_stream.specs.LaneLaws.{nothing_valid}
 use Rattle.ff_net.specs.Pasts.{Past, IsIn, fed, gave_item, was_asked, was_stopped, due, start}
 use Rattle.ff_net.specs.Laws.{OutputsClose, IsPending, AllAsked}
 use Rattle.ff_net.proofs.Flows.{stream_at-with_item_same, stream_at-with_item_other, due_meant, fed_above}
 use Rattle.ff_filter.specs.Joins.{Flow, Ports, silence, joined, joined_at, one, before_if, before_at, all_joined, all_opened, EachBelow, joined_assoc, joined_nothing, joined_above, joined_closed, closed_joined}
 use Rattle.ff_filter.specs.Views.{View, closes, breaks, SamePorts, Same, Fed, Gave, Waits, Stopped, IsOver, IsSpent, Settles, AllDone, IsNew}
-use Rattle.ff_net_filter.specs.Tasks.{listed, ported, filter_task, ClosesAll, IsLawful, Stands}
+use Rattle.ff_node_filter.specs.Tasks.{listed, ported, filter_task, ClosesAll, IsLawful, Stands}
 
 pub stream_at-listed : (n : ℕ) (g : Ports) (q : ℕ) → q < n → stream_at (listed n g) q ≡ g q
 stream_at-listed zero g q lt = absurd (omega arith)

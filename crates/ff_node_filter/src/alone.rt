@@ -3,14 +3,15 @@ ghost use Rattle.ff_filter.specs.Joins.{Flow};
 ghost use Rattle.ff_net.specs.declared.fault.Fault.{Fault};
 ghost use Rattle.ff_net.specs.Pasts.{start};
 ghost use Rattle.ff_filter.specs.Views.{IsNew, breaks};
-ghost use Rattle.ff_net_filter.specs.Tasks.{IsLawful, Stands, filter_task};
-ghost use Rattle.ff_net_filter.specs.Alones.{alone_view};
-ghost use Rattle.ff_net_filter.specs.AloneLaws.{alone_laws};
-ghost use Rattle.ff_net_filter.specs.Limiting.{IsLimited, limit_cause};
+ghost use Rattle.ff_node_filter.specs.Tasks.{IsLawful, Stands, filter_task};
+ghost use Rattle.ff_node_filter.specs.Alones.{alone_view};
+ghost use Rattle.ff_node_filter.specs.AloneLaws.{alone_laws};
+ghost use Rattle.ff_node_filter.specs.Limiting.{IsLimited, limit_cause};
 
 use ff_filter::{Filter, discard};
-use ff_frame::{Event, Item, Refused, Ticket};
+use ff_frame::{Event, Ticket};
 use ff_net::{Fault, Machine};
+use ff_stream::{Item, Refused};
 use std::alloc::AllocError;
 
 /// One filter as a machine of a network: each law and clause of a machine, from those of a filter, once for all filters.

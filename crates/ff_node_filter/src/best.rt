@@ -8,7 +8,6 @@
 //! A scheduler walks through a graph by its best input, towards the source whose packet the graph waits for. Of the inputs that
 //! haven't closed it is the one whose last item ends earliest, compared exactly over their time bases; an input without an item
 //! goes before each that has one, and of several the lowest is the best. Where all have closed it stays.
-#![tactic(auto)]
 
 mod choosing;
 mod input;

@@ -1,19 +1,19 @@
 //! Laws of the functions that filters have: a function that does nothing, whose clauses hold of all values.
 ghost use Rattle.std.specs.Prelude.{ℕ, ◌<◌, List, [], ◌∷◌, replicate, false};
-ghost use Rattle.ff_values.specs.declared.head.StreamHead.{StreamHead};
-ghost use Rattle.ff_frame.specs.declared.item.Item.{Item};
-ghost use Rattle.ff_frame.specs.declared.item.Lane.{Lane};
-ghost use Rattle.ff_frame.specs.declared.item.Lane.TheVariants.{Frames};
-ghost use Rattle.ff_frame.specs.Ports.{stream_at};
-ghost use Rattle.ff_frame.specs.Stream.{LiesBelow, opened, map_stream};
-ghost use Rattle.ff_frame.specs.Within.{some_pass, passes_limits};
+ghost use Rattle.ff_frame.specs.declared.head.StreamHead.{StreamHead};
+ghost use Rattle.ff_stream.specs.declared.item.Item.{Item};
+ghost use Rattle.ff_stream.specs.declared.item.Lane.{Lane};
+ghost use Rattle.ff_stream.specs.declared.item.Lane.TheVariants.{Frames};
+ghost use Rattle.ff_stream.specs.Ports.{stream_at};
+ghost use Rattle.ff_stream.specs.Stream.{LiesBelow, opened, map_stream};
+ghost use Rattle.ff_stream.specs.Within.{some_pass, passes_limits};
 ghost use Rattle.ff_filter.specs.declared.after.After.TheVariants.{More, Whole};
 ghost use Rattle.ff_filter.specs.Joins.{Flow};
 ghost use Rattle.ff_filter.specs.Singles.{single_view};
 ghost use Rattle.ff_filter.specs.Sound.{IsSound};
-ghost use Rattle.ff_spread.specs.Spreads.{spread_start};
-ghost use Rattle.ff_spread.specs.Valid.{GivesValid};
-ghost use Rattle.ff_net_filter.specs.Limiting.{IsLimited};
+ghost use Rattle.ff_filter.specs.spread.Spreads.{spread_start};
+ghost use Rattle.ff_filter.specs.spread.Valid.{GivesValid};
+ghost use Rattle.ff_node_filter.specs.Limiting.{IsLimited};
 
 /// A filter of one input and one output whose function is monotone and calm, and of valid streams gives items in shape, is a
 /// function behind limits, which cut it where an item passes one; so is one whose output ends at once. A filter of several

@@ -10,10 +10,16 @@
 //! each output: what comes out, whatever still comes in, is what was given and then the rest. From that come all clauses
 //! and laws of a machine, once for all filters. A function behind limits breaks off without a broken input only where a
 //! limit cuts it, so a machine needs no more than two bits to know its fault.
+//!
+//! `best`: A machine that tells which of its inputs is the best one.
 #![tactic(auto)]
 
 mod alone;
+mod best;
 mod laws;
 
 pub use alone::Alone;
+pub use best::{
+    Leading, best_inputs_worked_out, events_of_the_best_input, the_best_input_is_the_first,
+};
 pub use laws::filters_are_limited;

@@ -1,39 +1,39 @@
 -- What the encoder does at each call.
 use Rattle.std.proofs.Common.{◌≡◌, ℕ, zero, suc, ◌+◌, ◌<◌, inl, inr, Bool, true, false, cond, List, [], ◌∷◌, ◌++◌, length, All, refl, sym, ap, ◌∙◌, subst, arith, append_assoc, append-nil}
 use mathlib.Core.List.{IsPrefix}
-use Rattle.ff_values.specs.Audio.{IsAudio}
-use Rattle.ff_values.specs.declared.audio.AFrame.{AFrame}
-use Rattle.ff_values.specs.declared.packet.Pkt.{Pkt}
-use Rattle.ff_values.specs.declared.totals.Totals.{Totals}
-use Rattle.ff_values.specs.declared.head.StreamHead.{StreamHead}
-use Rattle.ff_values.specs.declared.head.StreamHead.TheVariants.{Audio as AudioHead, Video as VideoHead}
-use Rattle.ff_frame.specs.declared.item.Item.{Item}
-use Rattle.ff_frame.specs.declared.item.Item.TheVariants.{Audio, Video, Packet, Trailer, End, Broken}
-use Rattle.ff_frame.specs.declared.item.Lane.TheVariants.{Frames}
-use Rattle.ff_frame.specs.Items.{with_item}
-use Rattle.ff_frame.specs.Lanes.{FitsFrames, IsItemFor, IsValid}
-use Rattle.ff_frame.specs.Order.{same_stream, below_trans, with_item_above, prefix_self}
-use Rattle.ff_frame.specs.Ports.{stream_at, IsClosed, IsUnbroken}
-use Rattle.ff_frame.specs.Stream.{Mark, still_open, whole, broken, LiesBelow}
-use Rattle.ff_frame.specs.Within.{some_pass, before_pass}
-use Rattle.ff_frame.specs.WithinLaws.{within_same}
+use Rattle.ff_frame.specs.Audio.{IsAudio}
+use Rattle.ff_frame.specs.declared.audio.AFrame.{AFrame}
+use Rattle.ff_frame.specs.declared.packet.Pkt.{Pkt}
+use Rattle.ff_frame.specs.declared.totals.Totals.{Totals}
+use Rattle.ff_frame.specs.declared.head.StreamHead.{StreamHead}
+use Rattle.ff_frame.specs.declared.head.StreamHead.TheVariants.{Audio as AudioHead, Video as VideoHead}
+use Rattle.ff_stream.specs.declared.item.Item.{Item}
+use Rattle.ff_stream.specs.declared.item.Item.TheVariants.{Audio, Video, Packet, Trailer, End, Broken}
+use Rattle.ff_stream.specs.declared.item.Lane.TheVariants.{Frames}
+use Rattle.ff_stream.specs.Items.{with_item}
+use Rattle.ff_stream.specs.Lanes.{FitsFrames, IsItemFor, IsValid}
+use Rattle.ff_stream.specs.Order.{same_stream, below_trans, with_item_above, prefix_self}
+use Rattle.ff_stream.specs.Ports.{stream_at, IsClosed, IsUnbroken}
+use Rattle.ff_stream.specs.Stream.{Mark, still_open, whole, broken, LiesBelow}
+use Rattle.ff_stream.specs.Within.{some_pass, before_pass}
+use Rattle.ff_stream.specs.WithinLaws.{within_same}
 use Rattle.ff_flac_enc.specs.declared.format.Format.{Format}
 use Rattle.ff_flac_enc.specs.Gathered.{EndInTime, blocks_due}
 use Rattle.ff_flac_enc.specs.Totals.{totals_of}
 use Rattle.ff_net.specs.Pasts.{Past, fed, gave_item, was_asked, due}
 use Rattle.ff_net.specs.Ways.{Flow, AreValid}
 use Rattle.ff_net.proofs.Flows.{stream_at-with_item_same, stream_at-with_item_other}
-use Rattle.ff_flac_coder.specs.declared.queue.Queue.{Queue}
-use Rattle.ff_flac_coder.specs.declared.shut.Shut.{Shut}
-use Rattle.ff_flac_coder.specs.declared.shut.Shut.TheVariants as shut
-use Rattle.ff_flac_coder.specs.Packets.{coded_bits, at_coded, packet_of, packets_from, trailer_of, items_of, added_from}
-use Rattle.ff_flac_coder.specs.Coding.{CanCode, sounds, is_whole, blocks_in, all_coded, passes_in_flac, flac_coded, is_long}
-use Rattle.ff_flac_coder.specs.CodingLaws.{sounds_more, packets_more, items_above, coded_above, long_stays, coded_in_time}
-use Rattle.ff_flac_coder.specs.Encoders.{mark_of, IsFormatOf, StandsAt, Encodes}
-use Rattle.ff_flac_coder.specs.EncoderLaws.{due_is}
-use Rattle.ff_flac_coder.specs.Kept.{IsTaken}
-use Rattle.ff_flac_coder.specs.Queues.{format_of_queue, queue_ended, Queues, HasGivenAll, GivesNext, IsTooLong}
-use Rattle.ff_flac_coder.proofs.Gathers.{prefix_first}
+use Rattle.ff_node_flac.specs.declared.queue.Queue.{Queue}
+use Rattle.ff_node_flac.specs.declared.shut.Shut.{Shut}
+use Rattle.ff_node_flac.specs.declared.shut.Shut.TheVariants as shut
+use Rattle.ff_node_flac.specs.Packets.{coded_bits, at_coded, packet_of, packets_from, trailer_of, items_of, added_from}
+use Rattle.ff_node_flac.specs.Coding.{CanCode, sounds, is_whole, blocks_in, all_coded, passes_in_flac, flac_coded, is_long}
+use Rattle.ff_node_flac.specs.CodingLaws.{sounds_more, packets_more, items_above, coded_above, long_stays, coded_in_time}
+use Rattle.ff_node_flac.specs.Encoders.{mark_of, IsFormatOf, StandsAt, Encodes}
+use Rattle.ff_node_flac.specs.EncoderLaws.{due_is}
+use Rattle.ff_node_flac.specs.Kept.{IsTaken}
+use Rattle.ff_node_flac.specs.Queues.{format_of_queue, queue_ended, Queues, HasGivenAll, GivesNext, IsTooLong}
+use Rattle.ff_node_flac.proofs.Gathers.{prefix_first}
 
 -- ---- limits
 

@@ -8,14 +8,14 @@ use Rattle.std.proofs.lemmas.Bool.Decides.{nat_tests}
 use Rattle.std.proofs.lemmas.List.Elements.{All-append, All-take}
 use Rattle.std.proofs.Math.Nat.{mul-mod_left, mod-eq-sub-div-mul, div-mul-le_self, le_of_mul-le-mul_right}
 use mathlib.Core.List.{IsPrefix}
-use Rattle.ff_values.specs.Audio.{IsAudio}
-use Rattle.ff_values.specs.declared.audio.AFrame.{AFrame}
-use Rattle.ff_values.specs.Frame.{audio_frame}
+use Rattle.ff_frame.specs.Audio.{IsAudio}
+use Rattle.ff_frame.specs.declared.audio.AFrame.{AFrame}
+use Rattle.ff_frame.specs.Frame.{audio_frame}
 use Rattle.ff_pcm.specs.Depth.{at_depth}
 use Rattle.ff_pcm.proofs.DepthLaws.{all_same}
 use Rattle.ff_flac_enc.specs.Frame.{IsBlock}
-use Rattle.ff_frame.specs.declared.item.Item.TheVariants.{Packet}
-use Rattle.ff_frame.specs.Order.{prefix_trans}
+use Rattle.ff_stream.specs.declared.item.Item.TheVariants.{Packet}
+use Rattle.ff_stream.specs.Order.{prefix_trans}
 use Rattle.ff_flac_enc.specs.declared.blocks.Blocks.{Blocks}
 use Rattle.ff_flac_enc.specs.declared.counter.Counter.{Counter}
 use Rattle.ff_flac_enc.specs.declared.format.Format.{Format}
@@ -24,11 +24,11 @@ use Rattle.ff_flac_enc.specs.Cuts.{Cuts, has_ended, format_in}
 use Rattle.ff_flac_enc.specs.Gathered.{Holds, IsKept, blocks_due, format_of, full_size}
 use Rattle.ff_flac_enc.specs.Totals.{Added, added, Counts}
 use Rattle.ff_flac_enc.proofs.GatherLaws.{stays}
-use Rattle.ff_flac_coder.specs.Packets.{coded_bits, at_coded, added_from, block_bytes, packet_of}
-use Rattle.ff_flac_coder.specs.Coding.{passes_in_flac}
-use Rattle.ff_flac_coder.specs.Gathering.{AreCodes, Gathers}
-use Rattle.ff_flac_coder.specs.Kept.{IsCut, IsFormat}
-use Rattle.ff_flac_coder.proofs.Codes.{coded_is, codes_more, added_more}
+use Rattle.ff_node_flac.specs.Packets.{coded_bits, at_coded, added_from, block_bytes, packet_of}
+use Rattle.ff_node_flac.specs.Coding.{passes_in_flac}
+use Rattle.ff_node_flac.specs.Gathering.{AreCodes, Gathers}
+use Rattle.ff_node_flac.specs.Kept.{IsCut, IsFormat}
+use Rattle.ff_node_flac.proofs.Codes.{coded_is, codes_more, added_more}
 
 -- ---- the first of what is due
 

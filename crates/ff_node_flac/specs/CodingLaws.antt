@@ -9,28 +9,28 @@ use Rattle.std.proofs.lemmas.List.Elements.{All-head, All-tail}
 use Rattle.std.proofs.Math.Nat.{div-mul-le_self, mul-le-mul_right, mul-div_cancel, le-mul_of_pos_right}
 use mathlib.Core.List.{IsPrefix}
 use Rattle.ff_time.specs.Fraction.{Fraction, IsBase}
-use Rattle.ff_values.specs.Frame.{audio_frame}
-use Rattle.ff_values.specs.declared.audio.AFrame.{AFrame}
-use Rattle.ff_values.specs.declared.head.Codec.{Codec}
-use Rattle.ff_values.specs.declared.head.StreamHead.{StreamHead}
-use Rattle.ff_values.specs.declared.head.StreamHead.TheVariants.{Audio as AudioHead, Video as VideoHead}
-use Rattle.ff_frame.specs.declared.item.Item.{Item}
-use Rattle.ff_frame.specs.declared.item.Item.TheVariants.{Audio, Video, Packet, Trailer, End, Broken}
-use Rattle.ff_frame.specs.declared.item.Lane.{Lane}
-use Rattle.ff_frame.specs.declared.item.Lane.TheVariants.{Frames, Packets}
-use Rattle.ff_frame.specs.LaneLaws.{shape_front}
-use Rattle.ff_frame.specs.Lanes.{IsItemFor, InOrder, Follows, AreInShape, IsValid, EndsInTime}
-use Rattle.ff_frame.specs.Ports.{IsClosed, IsUnbroken}
-use Rattle.ff_frame.specs.Stream.{Mark, still_open, whole, broken, LiesBelow, opened}
-use Rattle.ff_frame.specs.Times.{end_of, ticks}
-use Rattle.ff_frame.specs.Within.{some_pass, before_pass, within}
-use Rattle.ff_frame.specs.WithinLaws.{before_pass-prefix, within_monotone, within_calm}
+use Rattle.ff_frame.specs.Frame.{audio_frame}
+use Rattle.ff_frame.specs.declared.audio.AFrame.{AFrame}
+use Rattle.ff_frame.specs.declared.head.Codec.{Codec}
+use Rattle.ff_frame.specs.declared.head.StreamHead.{StreamHead}
+use Rattle.ff_frame.specs.declared.head.StreamHead.TheVariants.{Audio as AudioHead, Video as VideoHead}
+use Rattle.ff_stream.specs.declared.item.Item.{Item}
+use Rattle.ff_stream.specs.declared.item.Item.TheVariants.{Audio, Video, Packet, Trailer, End, Broken}
+use Rattle.ff_stream.specs.declared.item.Lane.{Lane}
+use Rattle.ff_stream.specs.declared.item.Lane.TheVariants.{Frames, Packets}
+use Rattle.ff_stream.specs.LaneLaws.{shape_front}
+use Rattle.ff_stream.specs.Lanes.{IsItemFor, InOrder, Follows, AreInShape, IsValid, EndsInTime}
+use Rattle.ff_stream.specs.Ports.{IsClosed, IsUnbroken}
+use Rattle.ff_stream.specs.Stream.{Mark, still_open, whole, broken, LiesBelow, opened}
+use Rattle.ff_stream.specs.Times.{end_of, ticks}
+use Rattle.ff_stream.specs.Within.{some_pass, before_pass, within}
+use Rattle.ff_stream.specs.WithinLaws.{before_pass-prefix, within_monotone, within_calm}
 use Rattle.ff_flac_enc.specs.Gathered.{all_samples, full_size, count_due, block_at, blocks_due, EndInTime}
 use Rattle.ff_flac_enc.specs.Totals.{sample_frames}
 use Rattle.ff_flac_enc.proofs.GatherLaws.{stays}
 use Rattle.ff_net.specs.Ways.{Flow}
-use Rattle.ff_flac_coder.specs.Packets.{at_coded, packet_of, packets_from, trailer_of, items_of}
-use Rattle.ff_flac_coder.specs.Coding.{CanCode, coded_head, and_sound, sounds, is_whole, blocks_in, all_coded, passes_in_flac, flac_coded, is_long}
+use Rattle.ff_node_flac.specs.Packets.{at_coded, packet_of, packets_from, trailer_of, items_of}
+use Rattle.ff_node_flac.specs.Coding.{CanCode, coded_head, and_sound, sounds, is_whole, blocks_in, all_coded, passes_in_flac, flac_coded, is_long}
 
 -- ---- the frames among items
 

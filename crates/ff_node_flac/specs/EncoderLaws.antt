@@ -1,11 +1,11 @@
 -- The laws of the encoder.
 use Rattle.std.specs.Prelude.{◌≡◌, ◌≢◌, ℕ, zero, suc, ◌<◌, ◌⊎◌, Bool, true, false, List, [], ◌∷◌, map, Option, None, Some, refl}
 use Rattle.std.proofs.Common.{sym, ap, subst, inl, inr, ◌∙◌, arith}
-use Rattle.ff_values.specs.declared.head.StreamHead.{StreamHead}
-use Rattle.ff_frame.specs.declared.item.Lane.TheVariants.{Frames, Packets}
-use Rattle.ff_frame.specs.Order.{below_self, closed_below, stream_at-opened}
-use Rattle.ff_frame.specs.Ports.{nothing, stream_at, AllBelow, AllUnbroken, IsClosed, IsUnbroken, IsMonotone, IsCalm}
-use Rattle.ff_frame.specs.Stream.{Mark, still_open, whole, broken, LiesBelow, opened}
+use Rattle.ff_frame.specs.declared.head.StreamHead.{StreamHead}
+use Rattle.ff_stream.specs.declared.item.Lane.TheVariants.{Frames, Packets}
+use Rattle.ff_stream.specs.Order.{below_self, closed_below, stream_at-opened}
+use Rattle.ff_stream.specs.Ports.{nothing, stream_at, AllBelow, AllUnbroken, IsClosed, IsUnbroken, IsMonotone, IsCalm}
+use Rattle.ff_stream.specs.Stream.{Mark, still_open, whole, broken, LiesBelow, opened}
 use Rattle.ff_net.specs.declared.fault.Fault.{Fault}
 use Rattle.ff_net.specs.declared.fault.Fault.TheVariants.{Device}
 use Rattle.ff_net.specs.Laws.{CauseStays, OutputsClose, AllAsked, Settles, FaultStep, Laws}
@@ -14,12 +14,12 @@ use Rattle.ff_net.specs.Silence.{silent_front}
 use Rattle.ff_net.specs.Ways.{Flow, AreValid}
 use Rattle.ff_net.proofs.Flows.{due_meant}
 use Rattle.ff_net.proofs.Matters.{may_spend}
-use Rattle.ff_flac_coder.specs.declared.queue.Queue.{Queue}
-use Rattle.ff_flac_coder.specs.declared.shut.Shut.{Shut}
-use Rattle.ff_flac_coder.specs.declared.shut.Shut.TheVariants as shut
-use Rattle.ff_flac_coder.specs.Coding.{coded_head, flac_coded, is_long, long_fault}
-use Rattle.ff_flac_coder.specs.CodingLaws.{coded_valid, coded_above, coded_calm, coded_closed, long_stays}
-use Rattle.ff_flac_coder.specs.Encoders.{mark_of, Encodes, IsSpentBy, encoder_view}
+use Rattle.ff_node_flac.specs.declared.queue.Queue.{Queue}
+use Rattle.ff_node_flac.specs.declared.shut.Shut.{Shut}
+use Rattle.ff_node_flac.specs.declared.shut.Shut.TheVariants as shut
+use Rattle.ff_node_flac.specs.Coding.{coded_head, flac_coded, is_long, long_fault}
+use Rattle.ff_node_flac.specs.CodingLaws.{coded_valid, coded_above, coded_calm, coded_closed, long_stays}
+use Rattle.ff_node_flac.specs.Encoders.{mark_of, Encodes, IsSpentBy, encoder_view}
 
 one_below : (a b : Flow) → LiesBelow a b → AllBelow (a ∷ []) (b ∷ [])
 one_below a b h zero = h

@@ -1,14 +1,14 @@
 -- Blocks on their way from the frames that were fed to the packets that are given.
 use Rattle.std.specs.Prelude.{◌≡◌, ℕ, ◌+◌, List, [], ◌∷◌, ◌++◌, length}
 use mathlib.Core.List.{IsPrefix}
-use Rattle.ff_values.specs.declared.audio.AFrame.{AFrame}
+use Rattle.ff_frame.specs.declared.audio.AFrame.{AFrame}
 use Rattle.ff_flac_enc.specs.declared.blocks.Blocks.{Blocks}
 use Rattle.ff_flac_enc.specs.declared.counter.Counter.{Counter}
 use Rattle.ff_flac_enc.specs.Blocks.{IsCoded}
 use Rattle.ff_flac_enc.specs.Cuts.{Cuts, has_ended}
 use Rattle.ff_flac_enc.specs.Gathered.{blocks_due}
 use Rattle.ff_flac_enc.specs.Totals.{Counts}
-use Rattle.ff_flac_coder.specs.Packets.{added_from}
+use Rattle.ff_node_flac.specs.Packets.{added_from}
 
 -- these are the bytes of the first blocks, numbered from this number on
 abbrev pub AreCodes : ℕ → List (List ℕ) → List AFrame → Type 0

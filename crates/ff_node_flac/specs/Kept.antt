@@ -4,10 +4,10 @@ use Rattle.std.specs.List.{All}
 use Rattle.std.specs.Coded.{Unit-prop, le_prop}
 use Rattle.std.proofs.Math.Nat.{ℕ_set}
 use Rattle.std.proofs.Math.Path.{fun_ext}
-use Rattle.ff_values.specs.declared.audio.AFrame.{AFrame}
+use Rattle.ff_frame.specs.declared.audio.AFrame.{AFrame}
 use Rattle.ff_flac_enc.specs.declared.format.Format.{Format}
 use Rattle.ff_flac_enc.specs.Gathered.{IsKept, Holds-prop, format_of, full_size}
-use Rattle.ff_flac_coder.specs.Packets.{coded_bits}
+use Rattle.ff_node_flac.specs.Packets.{coded_bits}
 
 -- a block: 1 to 4,096 sample frames, at most 24 bits, and a rate below 2^20
 pub record IsCut (a : AFrame) : Type 0 where

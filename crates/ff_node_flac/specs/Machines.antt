@@ -1,13 +1,13 @@
 -- The encoder as the laws of machines see it.
 use Rattle.std.specs.Prelude.{◌≡◌, [], ◌∷◌}
-use Rattle.ff_values.specs.declared.head.StreamHead.{StreamHead}
-use Rattle.ff_frame.specs.declared.item.Lane.TheVariants.{Frames, Packets}
+use Rattle.ff_frame.specs.declared.head.StreamHead.{StreamHead}
+use Rattle.ff_stream.specs.declared.item.Lane.TheVariants.{Frames, Packets}
 use Rattle.ff_net.specs.Laws.{Laws}
 use Rattle.ff_net.specs.Views.{View}
-use Rattle.ff_flac_coder.specs.declared.enc.FlacEnc.{FlacEnc}
-use Rattle.ff_flac_coder.specs.Coding.{coded_head}
-use Rattle.ff_flac_coder.specs.Encoders.{encoder_view}
-use Rattle.ff_flac_coder.specs.EncoderLaws.{encoder_laws}
+use Rattle.ff_node_flac.specs.declared.enc.FlacEnc.{FlacEnc}
+use Rattle.ff_node_flac.specs.Coding.{coded_head}
+use Rattle.ff_node_flac.specs.Encoders.{encoder_view}
+use Rattle.ff_node_flac.specs.EncoderLaws.{encoder_laws}
 
 abbrev pub enc_view : {R : Type 0} → FlacEnc R → View
 enc_view m = encoder_view m.head m.queue m.shut m.told m.over m.stopped m.long

@@ -1,13 +1,13 @@
 -- The packets that blocks of sound are coded in (RFC 9639, section 9), and what is told of them once all were coded.
 use Rattle.std.specs.Prelude.{ℕ, zero, suc, take, drop, ◌+◌, ◌/◌, pos, ◌&&◌, nat_le, if◌then◌else◌, Bool, true, false, List, [], ◌∷◌, ◌++◌, length, Option, None, Some}
 use Rattle.ff_bits.specs.Bits.{value_of}
-use Rattle.ff_values.specs.declared.audio.AFrame.{AFrame}
-use Rattle.ff_values.specs.declared.packet.Pkt.{Pkt}
-use Rattle.ff_values.specs.Packet.{packet_at}
-use Rattle.ff_frame.specs.declared.item.Item.{Item}
-use Rattle.ff_frame.specs.declared.item.Item.TheVariants.{Packet, Trailer}
+use Rattle.ff_frame.specs.declared.audio.AFrame.{AFrame}
+use Rattle.ff_frame.specs.declared.packet.Pkt.{Pkt}
+use Rattle.ff_frame.specs.Packet.{packet_at}
+use Rattle.ff_stream.specs.declared.item.Item.{Item}
+use Rattle.ff_stream.specs.declared.item.Item.TheVariants.{Packet, Trailer}
 use Rattle.ff_pcm.specs.Depth.{at_depth}
-use Rattle.ff_flac_rice.specs.Least.{least}
+use Rattle.ff_flac_subframe.specs.rice.Least.{least}
 use Rattle.ff_flac_enc.specs.Layout.{Layout}
 use Rattle.ff_flac_enc.specs.Frame.{candidates, subframe_bits_of, spelled}
 use Rattle.ff_flac_enc.specs.Totals.{Added, added, sample_frames, totals_of}

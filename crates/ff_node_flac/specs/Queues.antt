@@ -1,16 +1,16 @@
 -- What coding keeps of what it was fed and gave.
 use Rattle.std.specs.Prelude.{◌≡◌, Bool, true, false, List, [], ◌∷◌, ◌++◌, length}
 use mathlib.Core.List.{IsPrefix}
-use Rattle.ff_values.specs.declared.audio.AFrame.{AFrame}
-use Rattle.ff_values.specs.declared.packet.Pkt.{Pkt}
-use Rattle.ff_frame.specs.declared.item.Item.TheVariants.{Packet}
+use Rattle.ff_frame.specs.declared.audio.AFrame.{AFrame}
+use Rattle.ff_frame.specs.declared.packet.Pkt.{Pkt}
+use Rattle.ff_stream.specs.declared.item.Item.TheVariants.{Packet}
 use Rattle.ff_flac_enc.specs.declared.format.Format.{Format}
 use Rattle.ff_flac_enc.specs.Cuts.{has_ended}
 use Rattle.ff_flac_enc.specs.Gathered.{blocks_due}
-use Rattle.ff_flac_coder.specs.declared.queue.Queue.{Queue}
-use Rattle.ff_flac_coder.specs.Packets.{packet_of}
-use Rattle.ff_flac_coder.specs.Coding.{passes_in_flac}
-use Rattle.ff_flac_coder.specs.Gathering.{Gathers}
+use Rattle.ff_node_flac.specs.declared.queue.Queue.{Queue}
+use Rattle.ff_node_flac.specs.Packets.{packet_of}
+use Rattle.ff_node_flac.specs.Coding.{passes_in_flac}
+use Rattle.ff_node_flac.specs.Gathering.{Gathers}
 
 -- what the frames are coded in
 abbrev pub format_of_queue : Queue → Format

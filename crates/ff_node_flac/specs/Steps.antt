@@ -1,13 +1,13 @@
 -- What becomes of the encoder at each call.
 use Rattle.std.specs.Prelude.{◌≡◌, [], ◌∷◌}
-use Rattle.ff_frame.specs.declared.item.Item.{Item}
-use Rattle.ff_frame.specs.declared.item.Lane.TheVariants.{Frames}
-use Rattle.ff_frame.specs.Ports.{stream_at}
-use Rattle.ff_frame.specs.Stream.{still_open}
+use Rattle.ff_stream.specs.declared.item.Item.{Item}
+use Rattle.ff_stream.specs.declared.item.Lane.TheVariants.{Frames}
+use Rattle.ff_stream.specs.Ports.{stream_at}
+use Rattle.ff_stream.specs.Stream.{still_open}
 use Rattle.ff_net.specs.Pasts.{Past, fed}
 use Rattle.ff_net.specs.Ways.{AreValid}
-use Rattle.ff_flac_coder.specs.declared.enc.FlacEnc.{FlacEnc}
-use Rattle.ff_flac_coder.specs.Machines.{enc_view}
+use Rattle.ff_node_flac.specs.declared.enc.FlacEnc.{FlacEnc}
+use Rattle.ff_node_flac.specs.Machines.{enc_view}
 
 -- fed this item, one that stood so stands so
 abbrev pub IsFed : {R : Type 0} → FlacEnc R → FlacEnc R → Item → Type 0

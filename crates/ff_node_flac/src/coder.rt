@@ -2,7 +2,7 @@ ghost use Rattle.std.specs.Prelude.{◌+◌, ◌<◌, ◌≤◌, ◌^◌, length
 ghost use Rattle.ff_flac_enc.specs.Frame.{IsBlock};
 ghost use Rattle.ff_flac_enc.specs.Blocks.{AreCoded};
 
-use ff_values::{AFrame, Bytes};
+use ff_frame::{AFrame, Bytes};
 use std::alloc::{AllocError, Global};
 
 /// How the blocks that wait are coded: whoever has threads codes them at once.

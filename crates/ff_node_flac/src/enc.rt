@@ -1,19 +1,20 @@
 // The encoder as a machine.
 ghost use Rattle.std.specs.Prelude.{◌≡◌, ◌∷◌, [], ◌+◌, ◌≤◌, ◌<◌, false, true, None, IfOk, IfErr, OnOk, OnErr};
-ghost use Rattle.ff_values.specs.declared.head.StreamHead.{StreamHead};
-ghost use Rattle.ff_frame.specs.declared.item.Item.{Item};
-ghost use Rattle.ff_frame.specs.declared.item.Item.TheVariants.{Audio};
-ghost use Rattle.ff_frame.specs.Items.{Closes};
+ghost use Rattle.ff_frame.specs.declared.head.StreamHead.{StreamHead};
+ghost use Rattle.ff_stream.specs.declared.item.Item.{Item};
+ghost use Rattle.ff_stream.specs.declared.item.Item.TheVariants.{Audio};
+ghost use Rattle.ff_stream.specs.Items.{Closes};
 ghost use Rattle.ff_flac_enc.specs.declared.format.Format.{Format};
-ghost use Rattle.ff_flac_coder.specs.Coding.{CanCode};
-ghost use Rattle.ff_flac_coder.specs.Encoders.{IsFormatOf, goes_on};
+ghost use Rattle.ff_node_flac.specs.Coding.{CanCode};
+ghost use Rattle.ff_node_flac.specs.Encoders.{IsFormatOf, goes_on};
 
 use crate::coder::Coder;
 use crate::queue::{Given, Queue, coded};
 use crate::shut::Shut;
 use ff_flac_enc::Format;
-use ff_frame::{AFrame, Event, Item, Refused, StreamHead, Ticket};
+use ff_frame::{AFrame, Event, StreamHead, Ticket};
 use ff_net::{Fault, Machine};
+use ff_stream::{Item, Refused};
 use std::alloc::{AllocError, Global};
 
 /// Encodes the frames of a stream of sound as FLAC: a packet of each block of 4,096 sample frames, the last one of the rest, and
@@ -59,8 +60,8 @@ fn format_of(head: &StreamHead) -> Format
 
 impl<C: Coder + Drop> FlacEnc<C> {
     ghost use Rattle.ff_net.specs.Pasts.{start};
-    ghost use Rattle.ff_flac_coder.specs.Coding.{flac_task};
-    ghost use Rattle.ff_flac_coder.specs.Machines.{enc_view, KeepsHead};
+    ghost use Rattle.ff_node_flac.specs.Coding.{flac_task};
+    ghost use Rattle.ff_node_flac.specs.Machines.{enc_view, KeepsHead};
 
     /// An encoder of this head's frames, to which nothing was fed.
     pub fn new(alloc: Global, coder: C, head: StreamHead) -> FlacEnc<C>
@@ -83,7 +84,7 @@ impl<C: Coder + Drop> FlacEnc<C> {
 }
 
 impl<C> FlacEnc<C> {
-    ghost use Rattle.ff_flac_coder.specs.Steps.{IsFed, IsKeptOn};
+    ghost use Rattle.ff_node_flac.specs.Steps.{IsFed, IsKeptOn};
 
     // Takes a frame, where one is wanted.
     fn take(&mut self, frame: AFrame) -> Result<(), Refused>
@@ -110,7 +111,7 @@ impl<C> FlacEnc<C> {
 fn discard(_item: Item) {}
 
 impl<C: Coder + Drop> Machine for FlacEnc<C> {
-    ghost use Rattle.ff_flac_coder.specs.Machines.{enc_view, enc_laws};
+    ghost use Rattle.ff_node_flac.specs.Machines.{enc_view, enc_laws};
 
     ghost view = { enc_view };
 

@@ -1,7 +1,7 @@
 // Blocks coded one after another.
 use crate::coder::Coder;
 use ff_flac_enc::coded_block;
-use ff_values::{AFrame, Bytes};
+use ff_frame::{AFrame, Bytes};
 use std::alloc::{AllocError, Global};
 
 /// Codes the blocks that wait one after another, in the thread that asks.

@@ -1,21 +1,21 @@
 // Blocks on their way from frames to packets.
 ghost use Rattle.std.specs.Prelude.{◌≡◌, ◌+◌, ◌*◌, ◌^◌, ◌<◌, ◌≤◌, ◌⊎◌, ℕ, pos, take, List, [], ◌∷◌, ◌++◌, Ok, true, false, length, slice_index, IfOk, IfErr, OnOk, OnErr, All};
-ghost use Rattle.ff_values.specs.declared.audio.AFrame.{AFrame};
-ghost use Rattle.ff_values.specs.declared.packet.Pkt.{Pkt};
-ghost use Rattle.ff_values.specs.Audio.{IsAudio};
-ghost use Rattle.ff_values.specs.Packet.{packet_at};
-ghost use Rattle.ff_frame.specs.declared.item.Item.{Item};
+ghost use Rattle.ff_frame.specs.declared.audio.AFrame.{AFrame};
+ghost use Rattle.ff_frame.specs.declared.packet.Pkt.{Pkt};
+ghost use Rattle.ff_frame.specs.Audio.{IsAudio};
+ghost use Rattle.ff_frame.specs.Packet.{packet_at};
+ghost use Rattle.ff_stream.specs.declared.item.Item.{Item};
 ghost use Rattle.ff_flac_enc.specs.Cuts.{format_in};
 ghost use Rattle.ff_flac_enc.specs.Gathered.{EndInTime};
 ghost use Rattle.ff_flac_enc.specs.Totals.{counted, sample_frames};
-ghost use Rattle.ff_flac_coder.specs.Packets.{at_coded, coded_bits};
-ghost use Rattle.ff_flac_coder.specs.Kept.{IsCut, AllCut-prop, IsFormat, IsFormat-prop, IsTaken};
+ghost use Rattle.ff_node_flac.specs.Packets.{at_coded, coded_bits};
+ghost use Rattle.ff_node_flac.specs.Kept.{IsCut, AllCut-prop, IsFormat, IsFormat-prop, IsTaken};
 
 use crate::coder::Coder;
 use ff_flac_enc::{Blocks, Counter, Format};
-use ff_frame::{Item, Refused};
+use ff_frame::{AFrame, Bytes, Pkt, Totals};
 use ff_pcm::{depth_change, is_audio};
-use ff_values::{AFrame, Bytes, Pkt, Totals};
+use ff_stream::{Item, Refused};
 use std::alloc::{AllocError, Global};
 use std::mem;
 
@@ -122,9 +122,9 @@ fn sample_frames_of(block: &AFrame) -> i64
 }
 
 impl Queue {
-    ghost use Rattle.ff_flac_coder.specs.Queues.{format_of_queue, queue_ended, Queues, StillQueues, AllCut, AllCutSince, HasGivenAll, GivesNext, IsTooLong};
+    ghost use Rattle.ff_node_flac.specs.Queues.{format_of_queue, queue_ended, Queues, StillQueues, AllCut, AllCutSince, HasGivenAll, GivesNext, IsTooLong};
     ghost use Rattle.ff_flac_enc.specs.Totals.{totals_of};
-    ghost use Rattle.ff_flac_coder.specs.Packets.{added_from};
+    ghost use Rattle.ff_node_flac.specs.Packets.{added_from};
 
     /// Fed nothing, it has given nothing.
     pub fn new(alloc: Global, format: Format) -> Queue

@@ -4,10 +4,10 @@ use Rattle.std.specs.Prelude.{nat_le}
 use Rattle.std.specs.Io.KnownBytes.{Appends, Keeps}
 use Rattle.std.proofs.lemmas.Bool.Decides.{nat_tests}
 use Rattle.ff_lists.specs.Appends.{AppendsPrefix}
-use Rattle.ff_values.specs.declared.totals.Totals.{Totals}
-use Rattle.ff_writers.specs.Layouts.{Layout}
-use Rattle.ff_writers.specs.Patches.{StandsIn, IsInside}
-use Rattle.ff_muxing.specs.Writing.{text_before}
+use Rattle.ff_frame.specs.declared.totals.Totals.{Totals}
+use Rattle.ff_mux.specs.writers.Layouts.{Layout}
+use Rattle.ff_mux.specs.writers.Patches.{StandsIn, IsInside}
+use Rattle.ff_node_mux.specs.Writing.{text_before}
 
 -- they gained all, and stay so
 pub front_kept : (before between now : Option (List ℕ)) (bytes : List ℕ) → Appends before between bytes → Keeps between now

@@ -3,18 +3,18 @@ use Rattle.std.proofs.Common.{◌≡◌, ℕ, zero, suc, ◌<◌, ◌+◌, ◌==
 use Rattle.std.specs.Prelude.{◌&&◌}
 use Rattle.std.proofs.lemmas.Bool.{cases_eq, eq-eqb, ne_eqb, and_right}
 use Rattle.ff_time.specs.Fraction.{Fraction}
-use Rattle.ff_frame.specs.declared.item.Item.{Item}
-use Rattle.ff_frame.specs.declared.item.Item.TheVariants.{Audio, Video, Packet, Trailer, End, Broken}
-use Rattle.ff_frame.specs.Stream.{Mark, still_open, whole, broken, Stream}
-use Rattle.ff_frame.specs.Items.{with_item}
-use Rattle.ff_frame.specs.Ports.{stream_at}
+use Rattle.ff_stream.specs.declared.item.Item.{Item}
+use Rattle.ff_stream.specs.declared.item.Item.TheVariants.{Audio, Video, Packet, Trailer, End, Broken}
+use Rattle.ff_stream.specs.Stream.{Mark, still_open, whole, broken, Stream}
+use Rattle.ff_stream.specs.Items.{with_item}
+use Rattle.ff_stream.specs.Ports.{stream_at}
 use Rattle.ff_filter.specs.Joins.{Ports, silence, joined, joined_at, joined_assoc, joined_nothing, one, before_if, before_at}
-use Rattle.ff_interleave.specs.Merges.{Placed, is_whole, packets_in, decided, merge_to}
-use Rattle.ff_interleave.specs.Queues.{base_at}
+use Rattle.ff_node_mux.specs.merge.Merges.{Placed, is_whole, packets_in, decided, merge_to}
+use Rattle.ff_node_mux.specs.merge.Queues.{base_at}
 use Rattle.ff_net.specs.Ways.{Flow, with_item_at}
 use Rattle.ff_net.proofs.Flows.{stream_at-with_item_same, stream_at-with_item_other}
-use Rattle.ff_muxing.specs.Mixing.{mixed_alike}
-use Rattle.ff_muxing.specs.Muxing.{packets_at, are_whole, count_open, one_if_not, left_with, mixed, and_then, NothingCame}
+use Rattle.ff_node_mux.specs.Mixing.{mixed_alike}
+use Rattle.ff_node_mux.specs.Muxing.{packets_at, are_whole, count_open, one_if_not, left_with, mixed, and_then, NothingCame}
 
 -- an item more on an open stream
 grown_at : (xs : List Item) (m : Mark) (x : Item) → m ≡ still_open → with_item (record { items = xs; mark = m }) x ≡ joined_at xs m (one x)

@@ -6,3 +6,4 @@ pub mod StreamTells
 pub mod TellSteps
 pub mod Texts
 pub mod WriteSteps
+pub mod MergeLemmas

@@ -4,34 +4,34 @@ use Rattle.std.specs.Prelude.{if◌then◌else◌, IsNone, IfSome}
 use Rattle.std.proofs.lemmas.Bool.{cases_Bool, cases_eq, eq-eqb, ne_eqb}
 use Rattle.std.proofs.lemmas.List.Elements.{filter-append}
 use Rattle.ff_time.specs.Fraction.{Fraction}
-use Rattle.ff_values.specs.declared.head.StreamHead.{StreamHead}
-use Rattle.ff_values.specs.declared.event.Event.{Event}
-use Rattle.ff_values.specs.declared.totals.Totals.{Totals}
-use Rattle.ff_frame.specs.declared.item.Item.{Item}
-use Rattle.ff_frame.specs.Stream.{still_open, whole, Stream, LiesBelow}
-use Rattle.ff_frame.specs.Order.{with_item_above, below_self, below_trans}
-use Rattle.ff_frame.specs.declared.item.Lane.TheVariants.{Packets}
-use Rattle.ff_frame.specs.LaneLaws.{nothing_valid}
-use Rattle.ff_frame.specs.Ports.{nothing, stream_at, AllBelow, IsClosed}
+use Rattle.ff_frame.specs.declared.head.StreamHead.{StreamHead}
+use Rattle.ff_frame.specs.declared.event.Event.{Event}
+use Rattle.ff_frame.specs.declared.totals.Totals.{Totals}
+use Rattle.ff_stream.specs.declared.item.Item.{Item}
+use Rattle.ff_stream.specs.Stream.{still_open, whole, Stream, LiesBelow}
+use Rattle.ff_stream.specs.Order.{with_item_above, below_self, below_trans}
+use Rattle.ff_stream.specs.declared.item.Lane.TheVariants.{Packets}
+use Rattle.ff_stream.specs.LaneLaws.{nothing_valid}
+use Rattle.ff_stream.specs.Ports.{nothing, stream_at, AllBelow, IsClosed}
 use Rattle.ff_filter.specs.Views.{closes}
 use Rattle.ff_filter.specs.Joins.{Ports, silence, before_at, joined}
-use Rattle.ff_interleave.specs.Merges.{Placed, packets_in, interleaved}
-use Rattle.ff_interleave.specs.Queues.{Merging, IsNew, Same, base_at}
+use Rattle.ff_node_mux.specs.merge.Merges.{Placed, packets_in, interleaved}
+use Rattle.ff_node_mux.specs.merge.Queues.{Merging, IsNew, Same, base_at}
 use Rattle.ff_net.specs.declared.fault.Fault.{Fault}
 use Rattle.ff_net.specs.declared.fault.Fault.TheVariants.{TooLarge}
 use Rattle.ff_net.specs.Ways.{Flow, lane_at, IsValidOn, AreValid, with_item_at}
 use Rattle.ff_net.specs.Pasts.{Past, Feed, fed, start, was_told}
 use Rattle.ff_net.specs.Laws.{IsOfInputs}
 use Rattle.ff_net.proofs.Flows.{stream_at-with_item_same, stream_at-with_item_other}
-use Rattle.ff_writers.specs.Layouts.{Layout, body, written, text_of, fits, with_last}
-use Rattle.ff_muxing.specs.Feeding.{feed_of, is_feed_of, feeds_of, feeds_at}
-use Rattle.ff_muxing.specs.Growing.{causes_grow, held_open, open_text, written_more}
-use Rattle.ff_muxing.specs.Mixing.{bases_long, lanes_long, mixed_grows, whole_to}
-use Rattle.ff_muxing.specs.Muxing.{head_bases, head_lanes, are_whole, count_open, whole_if, mixed, totals_of, totals_in, totals_on, left_with, text_for, file_for, size_for, cause_for, mux_task, unpatched, file, and_then, HoldsOf, HoldsSmall, MuxStands}
-use Rattle.ff_muxing.specs.Writing.{text_before, WroteOn, StuckOn}
-use Rattle.ff_muxing.proofs.Joining.{all_or_open, count_fed, mixed_nothing, open_none, then_on, then_silence}
-use Rattle.ff_muxing.proofs.StreamTells.{feeds_more}
-use Rattle.ff_muxing.proofs.Texts.{prefixed, ended, totals_more, something, closes_iff, closed_then, size_then, small_cause, large_cause, fits_none}
+use Rattle.ff_mux.specs.writers.Layouts.{Layout, body, written, text_of, fits, with_last}
+use Rattle.ff_node_mux.specs.Feeding.{feed_of, is_feed_of, feeds_of, feeds_at}
+use Rattle.ff_node_mux.specs.Growing.{causes_grow, held_open, open_text, written_more}
+use Rattle.ff_node_mux.specs.Mixing.{bases_long, lanes_long, mixed_grows, whole_to}
+use Rattle.ff_node_mux.specs.Muxing.{head_bases, head_lanes, are_whole, count_open, whole_if, mixed, totals_of, totals_in, totals_on, left_with, text_for, file_for, size_for, cause_for, mux_task, unpatched, file, and_then, HoldsOf, HoldsSmall, MuxStands}
+use Rattle.ff_node_mux.specs.Writing.{text_before, WroteOn, StuckOn}
+use Rattle.ff_node_mux.proofs.Joining.{all_or_open, count_fed, mixed_nothing, open_none, then_on, then_silence}
+use Rattle.ff_node_mux.proofs.StreamTells.{feeds_more}
+use Rattle.ff_node_mux.proofs.Texts.{prefixed, ended, totals_more, something, closes_iff, closed_then, size_then, small_cause, large_cause, fits_none}
 
 -- an event was told
 pub mux_told : (holds : Option (List ℕ)) (layout : Layout) (counts : ℕ → Type 0) (totals : Option Totals) (heads : List StreamHead) (unended : ℕ) (begun : Bool)

@@ -2,28 +2,28 @@
 use Rattle.std.proofs.Common.{◌≡◌, ℕ, zero, suc, ◌<◌, List, [], ◌∷◌, ◌++◌, length, None, inl, inr, refl, ap, sym, ◌∙◌, subst, arith}
 use mathlib.Core.List.{IsPrefix}
 use Rattle.ff_time.specs.Fraction.{Fraction}
-use Rattle.ff_frame.specs.declared.item.Item.{Item}
-use Rattle.ff_frame.specs.declared.item.Item.TheVariants.{Audio, Video, Packet, Trailer, End, Broken}
-use Rattle.ff_frame.specs.Stream.{still_open, Stream, LiesBelow}
-use Rattle.ff_frame.specs.Order.{same_stream, below_self}
-use Rattle.ff_frame.specs.Ports.{stream_at}
+use Rattle.ff_stream.specs.declared.item.Item.{Item}
+use Rattle.ff_stream.specs.declared.item.Item.TheVariants.{Audio, Video, Packet, Trailer, End, Broken}
+use Rattle.ff_stream.specs.Stream.{still_open, Stream, LiesBelow}
+use Rattle.ff_stream.specs.Order.{same_stream, below_self}
+use Rattle.ff_stream.specs.Ports.{stream_at}
 use Rattle.ff_host.specs.declared.sink.Sink.{Ghosts as SinkGhosts}
-use Rattle.ff_interleave.specs.Merges.{Placed, is_whole, packets_of, placed}
-use Rattle.ff_interleave.specs.Queues.{base_at}
-use Rattle.ff_interleave.proofs.Alike.{interleaved_one}
+use Rattle.ff_node_mux.specs.merge.Merges.{Placed, is_whole, packets_of, placed}
+use Rattle.ff_node_mux.specs.merge.Queues.{base_at}
+use Rattle.ff_node_mux.specs.merge.Alike.{interleaved_one}
 use Rattle.ff_net.specs.Pasts.{Past}
 use Rattle.ff_net.specs.Ways.{Flow}
-use Rattle.ff_writers.specs.Layouts.{Layout}
-use Rattle.ff_writers.specs.declared.writer.Writer.{Ghosts as WriterGhosts}
-use Rattle.ff_muxing.specs.declared.mux.Mux.{Mux}
-use Rattle.ff_muxing.specs.Growing.{held_open}
-use Rattle.ff_muxing.specs.Held.{HoldsPart, part_of, part_by}
-use Rattle.ff_muxing.specs.Mixing.{mixed_alike}
-use Rattle.ff_muxing.specs.Muxers.{mux_sink, mux_layout, mux_bases, mux_writes}
-use Rattle.ff_muxing.specs.Muxing.{packets_at, whole_if, mixed, totals_in, totals_of, text_for, file_for, cause_for, mux_cause, mux_task, mux_task_of, unpatched, file, HoldsOf, HoldsSmall, MixedOne}
-use Rattle.ff_muxing.specs.MuxLaws.{its_count}
-use Rattle.ff_muxing.specs.TaskLaws.{same_text, same_file, same_cause}
-use Rattle.ff_muxing.specs.Telling.{mux_tells}
+use Rattle.ff_mux.specs.writers.Layouts.{Layout}
+use Rattle.ff_mux.specs.declared.writers.writer.Writer.{Ghosts as WriterGhosts}
+use Rattle.ff_node_mux.specs.declared.mux.Mux.{Mux}
+use Rattle.ff_node_mux.specs.Growing.{held_open}
+use Rattle.ff_node_mux.specs.Held.{HoldsPart, part_of, part_by}
+use Rattle.ff_node_mux.specs.Mixing.{mixed_alike}
+use Rattle.ff_node_mux.specs.Muxers.{mux_sink, mux_layout, mux_bases, mux_writes}
+use Rattle.ff_node_mux.specs.Muxing.{packets_at, whole_if, mixed, totals_in, totals_of, text_for, file_for, cause_for, mux_cause, mux_task, mux_task_of, unpatched, file, HoldsOf, HoldsSmall, MixedOne}
+use Rattle.ff_node_mux.specs.MuxLaws.{its_count}
+use Rattle.ff_node_mux.specs.TaskLaws.{same_text, same_file, same_cause}
+use Rattle.ff_node_mux.specs.Telling.{mux_tells}
 
 pub mixed_one : MixedOne
 mixed_one base s =

@@ -6,25 +6,25 @@ use Rattle.std.proofs.lemmas.List.{map-append}
 use Rattle.std.proofs.lemmas.List.Concat.{flat_map-append}
 use Rattle.std.proofs.lemmas.List.Elements.{All-head, All-tail, filter-append}
 use Rattle.ff_time.specs.Fraction.{Fraction}
-use Rattle.ff_values.specs.Heads.{base_of_head}
-use Rattle.ff_values.specs.declared.head.StreamHead.{StreamHead}
-use Rattle.ff_values.specs.declared.head.StreamHead.TheVariants.{Audio as AudioHead, Video as VideoHead}
-use Rattle.ff_values.specs.declared.event.Event.{Event}
-use Rattle.ff_values.specs.declared.event.Event.TheVariants.{Sent, Finished}
-use Rattle.ff_frame.specs.declared.item.Item.{Item}
-use Rattle.ff_frame.specs.declared.item.Item.TheVariants.{Audio, Video, Packet, Trailer, End, Broken}
-use Rattle.ff_frame.specs.declared.item.Lane.TheVariants.{Packets}
-use Rattle.ff_frame.specs.Lanes.{FitsPackets, IsItemFor}
-use Rattle.ff_frame.specs.Stream.{Mark, still_open, whole, broken}
-use Rattle.ff_frame.specs.Items.{with_item}
-use Rattle.ff_interleave.specs.Merges.{packets_of}
-use Rattle.ff_interleave.specs.Queues.{base_at}
+use Rattle.ff_frame.specs.Heads.{base_of_head}
+use Rattle.ff_frame.specs.declared.head.StreamHead.{StreamHead}
+use Rattle.ff_frame.specs.declared.head.StreamHead.TheVariants.{Audio as AudioHead, Video as VideoHead}
+use Rattle.ff_frame.specs.declared.event.Event.{Event}
+use Rattle.ff_frame.specs.declared.event.Event.TheVariants.{Sent, Finished}
+use Rattle.ff_stream.specs.declared.item.Item.{Item}
+use Rattle.ff_stream.specs.declared.item.Item.TheVariants.{Audio, Video, Packet, Trailer, End, Broken}
+use Rattle.ff_stream.specs.declared.item.Lane.TheVariants.{Packets}
+use Rattle.ff_stream.specs.Lanes.{FitsPackets, IsItemFor}
+use Rattle.ff_stream.specs.Stream.{Mark, still_open, whole, broken}
+use Rattle.ff_stream.specs.Items.{with_item}
+use Rattle.ff_node_mux.specs.merge.Merges.{packets_of}
+use Rattle.ff_node_mux.specs.merge.Queues.{base_at}
 use Rattle.ff_net.specs.Pasts.{Feed}
 use Rattle.ff_net.specs.Ways.{Flow}
-use Rattle.ff_muxing.specs.Feeding.{feed_of, closing_feeds, feeds_of, feeds_at}
-use Rattle.ff_muxing.specs.Muxing.{head_bases}
-use Rattle.ff_muxing.specs.StreamEvents.{sent, stream_events, events_of, is_event_of, ToldOfStreams, ToldOfOne}
-use Rattle.ff_muxing.specs.Telling.{micros_of, told_by, told_at, mux_tells}
+use Rattle.ff_node_mux.specs.Feeding.{feed_of, closing_feeds, feeds_of, feeds_at}
+use Rattle.ff_node_mux.specs.Muxing.{head_bases}
+use Rattle.ff_node_mux.specs.StreamEvents.{sent, stream_events, events_of, is_event_of, ToldOfStreams, ToldOfOne}
+use Rattle.ff_node_mux.specs.Telling.{micros_of, told_by, told_at, mux_tells}
 
 module _ (p : ℕ) where
   -- nothing closes an open stream

@@ -11,18 +11,18 @@ use Rattle.std.proofs.Math.Nat.{le-div_iff_mul-le, div-mul-le_self, mul-le-mul_r
 use Rattle.ff_time.specs.Fraction.{Fraction, IsBase, IsBase-unit}
 use Rattle.ff_time.specs.Rescale.{IsNearest, IsRescaled, IsRounded}
 use Rattle.ff_time.proofs.Nearest.{IsNearest-pos, IsNearest-unique}
-use Rattle.ff_values.specs.Heads.{base_of_head}
-use Rattle.ff_values.specs.declared.head.StreamHead.{StreamHead}
-use Rattle.ff_values.specs.declared.head.StreamHead.TheVariants.{Audio as AudioHead, Video as VideoHead}
-use Rattle.ff_values.specs.declared.packet.Pkt.{Pkt}
-use Rattle.ff_values.specs.declared.event.Event.{Event}
-use Rattle.ff_values.specs.declared.event.Event.TheVariants.{Grant, Sent, Finished, Best, Exited}
-use Rattle.ff_frame.specs.declared.item.Item.{Item}
-use Rattle.ff_frame.specs.declared.item.Item.TheVariants.{Audio, Video, Packet, Trailer, End, Broken}
-use Rattle.ff_frame.specs.Lanes.{FitsPackets}
-use Rattle.ff_frame.specs.Times.{ticks, IsInTime}
+use Rattle.ff_frame.specs.Heads.{base_of_head}
+use Rattle.ff_frame.specs.declared.head.StreamHead.{StreamHead}
+use Rattle.ff_frame.specs.declared.head.StreamHead.TheVariants.{Audio as AudioHead, Video as VideoHead}
+use Rattle.ff_frame.specs.declared.packet.Pkt.{Pkt}
+use Rattle.ff_frame.specs.declared.event.Event.{Event}
+use Rattle.ff_frame.specs.declared.event.Event.TheVariants.{Grant, Sent, Finished, Best, Exited}
+use Rattle.ff_stream.specs.declared.item.Item.{Item}
+use Rattle.ff_stream.specs.declared.item.Item.TheVariants.{Audio, Video, Packet, Trailer, End, Broken}
+use Rattle.ff_stream.specs.Lanes.{FitsPackets}
+use Rattle.ff_stream.specs.Times.{ticks, IsInTime}
 use Rattle.ff_net.specs.Pasts.{Past, Feed, was_told, fed}
-use Rattle.ff_muxing.specs.Telling.{microsecond, micros_of, told_by, told_at, mux_tells, TellsFed, IsAmong, IsOfStreams, AllOfStreams, SentTimes}
+use Rattle.ff_node_mux.specs.Telling.{microsecond, micros_of, told_by, told_at, mux_tells, TellsFed, IsAmong, IsOfStreams, AllOfStreams, SentTimes}
 
 -- ---- times
 

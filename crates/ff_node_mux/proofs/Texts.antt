@@ -5,22 +5,22 @@ use Rattle.std.specs.Io.KnownBytes.{Appends}
 use Rattle.std.proofs.lemmas.Bool.Decides.{nat_tests}
 use Rattle.ff_host.specs.Files.{patched}
 use Rattle.ff_lists.specs.Appends.{AppendsPrefix}
-use Rattle.ff_values.specs.declared.totals.Totals.{Totals}
-use Rattle.ff_frame.specs.declared.item.Item.{Item}
-use Rattle.ff_frame.specs.declared.item.Item.TheVariants.{Audio, Video, Packet, Trailer, End, Broken}
-use Rattle.ff_frame.specs.Stream.{still_open, Stream}
-use Rattle.ff_frame.specs.Items.{Closes, with_item}
-use Rattle.ff_frame.specs.Order.{with_item_open, with_item_closed}
-use Rattle.ff_frame.specs.Ports.{nothing, IsClosed}
+use Rattle.ff_frame.specs.declared.totals.Totals.{Totals}
+use Rattle.ff_stream.specs.declared.item.Item.{Item}
+use Rattle.ff_stream.specs.declared.item.Item.TheVariants.{Audio, Video, Packet, Trailer, End, Broken}
+use Rattle.ff_stream.specs.Stream.{still_open, Stream}
+use Rattle.ff_stream.specs.Items.{Closes, with_item}
+use Rattle.ff_stream.specs.Order.{with_item_open, with_item_closed}
+use Rattle.ff_stream.specs.Ports.{nothing, IsClosed}
 use Rattle.ff_filter.specs.Views.{closes}
-use Rattle.ff_interleave.specs.Merges.{Placed}
+use Rattle.ff_node_mux.specs.merge.Merges.{Placed}
 use Rattle.ff_net.specs.declared.fault.Fault.{Fault}
 use Rattle.ff_net.specs.declared.fault.Fault.TheVariants.{TooLarge}
 use Rattle.ff_net.specs.Ways.{Flow}
-use Rattle.ff_writers.specs.Layouts.{Layout, body, fits, with_last, IsBeyond}
-use Rattle.ff_muxing.specs.Growing.{body_more}
-use Rattle.ff_muxing.specs.Muxing.{totals_with, totals_after, totals_of, size_for, cause_for}
-use Rattle.ff_muxing.specs.Writing.{Replaces, EndsAs}
+use Rattle.ff_mux.specs.writers.Layouts.{Layout, body, fits, with_last, IsBeyond}
+use Rattle.ff_node_mux.specs.Growing.{body_more}
+use Rattle.ff_node_mux.specs.Muxing.{totals_with, totals_after, totals_of, size_for, cause_for}
+use Rattle.ff_node_mux.specs.Writing.{Replaces, EndsAs}
 
 -- ---- bytes that are told
 

@@ -3,18 +3,18 @@ use Rattle.std.proofs.Common.{◌≡◌, ◌⊎◌, inl, inr, ℕ, ◌+◌, Bool
 use Rattle.std.specs.Prelude.{IfSome, IsSome}
 use Rattle.std.specs.Io.KnownBytes.{Appends}
 use Rattle.ff_filter.specs.Joins.{Ports, silence}
-use Rattle.ff_interleave.specs.Merges.{Placed}
-use Rattle.ff_interleave.specs.Queues.{Merging}
+use Rattle.ff_node_mux.specs.merge.Merges.{Placed}
+use Rattle.ff_node_mux.specs.merge.Queues.{Merging}
 use Rattle.ff_lists.specs.Appends.{AppendsPrefix}
 use Rattle.ff_lists.proofs.Written.{grows, front_of, front_after}
 use Rattle.ff_net.specs.declared.fault.Fault.{Fault}
 use Rattle.ff_net.specs.declared.fault.Fault.TheVariants.{TooLarge, NoMemory}
 use Rattle.ff_net.specs.Laws.{IsOfInputs}
-use Rattle.ff_values.specs.declared.totals.Totals.{Totals}
-use Rattle.ff_writers.specs.Layouts.{Layout, body, fits, IsBeyond}
-use Rattle.ff_muxing.specs.Growing.{body_more}
-use Rattle.ff_muxing.specs.Writing.{text_before, EndsAs, StaysWithin, Wrote, WroteAll, Stuck, WroteOn, StuckOn}
-use Rattle.ff_muxing.proofs.Texts.{adds_none, front_none, size_then, within_fits, beyond_fits, still_beyond}
+use Rattle.ff_frame.specs.declared.totals.Totals.{Totals}
+use Rattle.ff_mux.specs.writers.Layouts.{Layout, body, fits, IsBeyond}
+use Rattle.ff_node_mux.specs.Growing.{body_more}
+use Rattle.ff_node_mux.specs.Writing.{text_before, EndsAs, StaysWithin, Wrote, WroteAll, Stuck, WroteOn, StuckOn}
+use Rattle.ff_node_mux.proofs.Texts.{adds_none, front_none, size_then, within_fits, beyond_fits, still_beyond}
 
 no_more : (n : ℕ) → n ≡ n + 0
 no_more n = omega arith

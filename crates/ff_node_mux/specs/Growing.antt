@@ -5,16 +5,16 @@ use Rattle.std.proofs.lemmas.Bool.Decides.{nat_tests}
 use Rattle.std.proofs.lemmas.List.Concat.{flat_map-append}
 use mathlib.Core.List.{IsPrefix}
 use Rattle.ff_time.specs.Fraction.{Fraction}
-use Rattle.ff_values.specs.declared.totals.Totals.{Totals}
-use Rattle.ff_frame.specs.Stream.{Mark, still_open, whole, broken, Stream, LiesBelow}
-use Rattle.ff_frame.specs.Order.{prefix_self, prefix_trans, below_items}
-use Rattle.ff_frame.specs.Ports.{AllBelow}
-use Rattle.ff_interleave.specs.Merges.{Placed}
+use Rattle.ff_frame.specs.declared.totals.Totals.{Totals}
+use Rattle.ff_stream.specs.Stream.{Mark, still_open, whole, broken, Stream, LiesBelow}
+use Rattle.ff_stream.specs.Order.{prefix_self, prefix_trans, below_items}
+use Rattle.ff_stream.specs.Ports.{AllBelow}
+use Rattle.ff_node_mux.specs.merge.Merges.{Placed}
 use Rattle.ff_net.specs.declared.fault.Fault.{Fault}
 use Rattle.ff_net.specs.Ways.{Flow}
-use Rattle.ff_writers.specs.Layouts.{Layout, body, written, fits}
-use Rattle.ff_muxing.specs.Muxing.{mixed, text_by, text_for, file_for, file_by, size_for, cause_for, mux_cause, HoldsOf, HoldsSmall}
-use Rattle.ff_muxing.specs.Mixing.{mixed_grows}
+use Rattle.ff_mux.specs.writers.Layouts.{Layout, body, written, fits}
+use Rattle.ff_node_mux.specs.Muxing.{mixed, text_by, text_for, file_for, file_by, size_for, cause_for, mux_cause, HoldsOf, HoldsSmall}
+use Rattle.ff_node_mux.specs.Mixing.{mixed_grows}
 
 module _ (layout : Layout) where
   -- further packets are further bytes

@@ -3,16 +3,16 @@ use Rattle.std.specs.Prelude.{◌≡◌, ℕ, zero, suc, ◌⊎◌, List, [], �
 use Rattle.std.proofs.Common.{subst, inl, inr, ap, sym, ◌∙◌}
 use Rattle.std.proofs.lemmas.Bool.{cases_Bool}
 use Rattle.ff_time.specs.Fraction.{Fraction}
-use Rattle.ff_values.specs.declared.totals.Totals.{Totals}
-use Rattle.ff_frame.specs.Stream.{Stream, LiesBelow, opened}
-use Rattle.ff_frame.specs.Order.{below_self}
-use Rattle.ff_frame.specs.Ports.{nothing, AllBelow}
-use Rattle.ff_interleave.specs.Merges.{Placed}
+use Rattle.ff_frame.specs.declared.totals.Totals.{Totals}
+use Rattle.ff_stream.specs.Stream.{Stream, LiesBelow, opened}
+use Rattle.ff_stream.specs.Order.{below_self}
+use Rattle.ff_stream.specs.Ports.{nothing, AllBelow}
+use Rattle.ff_node_mux.specs.merge.Merges.{Placed}
 use Rattle.ff_net.specs.Ways.{Flow}
-use Rattle.ff_writers.specs.Layouts.{Layout}
-use Rattle.ff_muxing.specs.Growing.{held_grows, held_open}
-use Rattle.ff_muxing.specs.Mixing.{mixed_grows, mixed_opened, same_whole, totals_alike, totals_opened}
-use Rattle.ff_muxing.specs.Muxing.{unpatched, file, text_for, file_for, totals_in, mixed, are_whole, whole_if, HoldsOf}
+use Rattle.ff_mux.specs.writers.Layouts.{Layout}
+use Rattle.ff_node_mux.specs.Growing.{held_grows, held_open}
+use Rattle.ff_node_mux.specs.Mixing.{mixed_grows, mixed_opened, same_whole, totals_alike, totals_opened}
+use Rattle.ff_node_mux.specs.Muxing.{unpatched, file, text_for, file_for, totals_in, mixed, are_whole, whole_if, HoldsOf}
 
 -- a front of this text is held, or the finished file
 abbrev pub HoldsPart : Option (List ℕ) → List ℕ → Option (List ℕ) → Type 0

@@ -4,11 +4,11 @@ use Rattle.std.proofs.Common.{arith}
 use Rattle.ff_net.specs.Laws.{Laws}
 use Rattle.ff_net.specs.Views.{View}
 use Rattle.ff_host.specs.declared.sink.Sink.{Ghosts as SinkGhosts}
-use Rattle.ff_writers.specs.declared.writer.Writer.{Ghosts as WriterGhosts}
-use Rattle.ff_muxing.specs.declared.mux.Mux.{Mux}
-use Rattle.ff_muxing.specs.Muxers.{mux_sink, mux_stands, mux_in_lanes, mux_fault, mux_spent, mux_first, mux_bases}
-use Rattle.ff_muxing.specs.Telling.{told_front}
-use Rattle.ff_muxing.specs.MuxLaws.{mux_source, mux_valid, mux_keeps, mux_monotone, mux_cause_stays, mux_calm, mux_given, mux_unbroken, mux_caused, mux_spent_only, mux_closed_spent, no_output}
+use Rattle.ff_mux.specs.declared.writers.writer.Writer.{Ghosts as WriterGhosts}
+use Rattle.ff_node_mux.specs.declared.mux.Mux.{Mux}
+use Rattle.ff_node_mux.specs.Muxers.{mux_sink, mux_stands, mux_in_lanes, mux_fault, mux_spent, mux_first, mux_bases}
+use Rattle.ff_node_mux.specs.Telling.{told_front}
+use Rattle.ff_node_mux.specs.MuxLaws.{mux_source, mux_valid, mux_keeps, mux_monotone, mux_cause_stays, mux_calm, mux_given, mux_unbroken, mux_caused, mux_spent_only, mux_closed_spent, no_output}
 
 no_source : false ≡ true → ⊥
 no_source e = cc

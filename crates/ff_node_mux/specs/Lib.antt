@@ -11,3 +11,4 @@ pub mod StreamEvents
 pub mod TaskLaws
 pub mod Telling
 pub mod Writing
+pub mod merge

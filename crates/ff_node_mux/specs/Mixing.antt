@@ -3,21 +3,21 @@ use Rattle.std.specs.Prelude.{◌≡◌, ℕ, zero, suc, ◌<◌, ◌≤◌, Boo
 use Rattle.std.proofs.Common.{inl, inr, ap, sym, ◌∙◌, subst, arith}
 use Rattle.std.proofs.lemmas.Bool.{cases_Bool, cases_eq, and_from, and_parts}
 use Rattle.ff_time.specs.Fraction.{Fraction}
-use Rattle.ff_values.specs.declared.head.StreamHead.{StreamHead}
-use Rattle.ff_values.specs.declared.packet.Pkt.{Pkt}
-use Rattle.ff_frame.specs.declared.item.Item.{Item}
-use Rattle.ff_frame.specs.declared.item.Item.TheVariants.{Audio, Video, Packet, Trailer, End, Broken}
-use Rattle.ff_frame.specs.declared.item.Lane.TheVariants.{Packets as PacketLane}
-use Rattle.ff_frame.specs.Lanes.{IsValid}
-use Rattle.ff_frame.specs.Stream.{Mark, still_open, whole, broken, LiesBelow, opened, opened_mark}
-use Rattle.ff_frame.specs.Order.{same_stream, closed_below, stream_at-opened}
-use Rattle.ff_frame.specs.Ports.{nothing, stream_at, AllBelow, IsWhole}
-use Rattle.ff_interleave.specs.Merges.{is_whole, packets_of, packets_in}
-use Rattle.ff_interleave.specs.Queues.{base_at}
-use Rattle.ff_interleave.proofs.Alike.{interleaved_alike}
-use Rattle.ff_interleave.proofs.Ordered.{stays}
+use Rattle.ff_frame.specs.declared.head.StreamHead.{StreamHead}
+use Rattle.ff_frame.specs.declared.packet.Pkt.{Pkt}
+use Rattle.ff_stream.specs.declared.item.Item.{Item}
+use Rattle.ff_stream.specs.declared.item.Item.TheVariants.{Audio, Video, Packet, Trailer, End, Broken}
+use Rattle.ff_stream.specs.declared.item.Lane.TheVariants.{Packets as PacketLane}
+use Rattle.ff_stream.specs.Lanes.{IsValid}
+use Rattle.ff_stream.specs.Stream.{Mark, still_open, whole, broken, LiesBelow, opened, opened_mark}
+use Rattle.ff_stream.specs.Order.{same_stream, closed_below, stream_at-opened}
+use Rattle.ff_stream.specs.Ports.{nothing, stream_at, AllBelow, IsWhole}
+use Rattle.ff_node_mux.specs.merge.Merges.{is_whole, packets_of, packets_in}
+use Rattle.ff_node_mux.specs.merge.Queues.{base_at}
+use Rattle.ff_node_mux.specs.merge.Alike.{interleaved_alike}
+use Rattle.ff_node_mux.specs.merge.Ordered.{stays}
 use Rattle.ff_net.specs.Ways.{Flow, lane_at, IsValidOn, AreValid}
-use Rattle.ff_muxing.specs.Muxing.{head_bases, head_lanes, packets_at, are_whole, whole_if, mixed, totals_of, totals_in}
+use Rattle.ff_node_mux.specs.Muxing.{head_bases, head_lanes, packets_at, are_whole, whole_if, mixed, totals_of, totals_in}
 
 -- ---- whole streams
 

@@ -3,27 +3,27 @@ use Rattle.std.specs.Prelude.{◌≡◌, ℕ, ◌<◌, false, true, List, [], So
 use Rattle.std.proofs.Common.{sym, subst, ap, inl, inr, ◌∙◌, arith}
 use Rattle.std.proofs.lemmas.Bool.{cases_Bool}
 use Rattle.ff_time.specs.Fraction.{Fraction}
-use Rattle.ff_values.specs.declared.head.StreamHead.{StreamHead}
-use Rattle.ff_frame.specs.declared.item.Lane.TheVariants.{Packets}
-use Rattle.ff_frame.specs.Lanes.{IsValid}
-use Rattle.ff_frame.specs.Order.{below_self}
-use Rattle.ff_frame.specs.Ports.{nothing, stream_at, AllBelow, AllUnbroken, IsClosed, IsUnbroken, IsWhole, IsMonotone, IsCalm}
+use Rattle.ff_frame.specs.declared.head.StreamHead.{StreamHead}
+use Rattle.ff_stream.specs.declared.item.Lane.TheVariants.{Packets}
+use Rattle.ff_stream.specs.Lanes.{IsValid}
+use Rattle.ff_stream.specs.Order.{below_self}
+use Rattle.ff_stream.specs.Ports.{nothing, stream_at, AllBelow, AllUnbroken, IsClosed, IsUnbroken, IsWhole, IsMonotone, IsCalm}
 use Rattle.ff_net.specs.declared.fault.Fault.{Fault}
 use Rattle.ff_net.specs.Ways.{Flow, AreValid}
 use Rattle.ff_net.specs.Pasts.{Past, Task, due}
 use Rattle.ff_net.specs.Laws.{CauseStays, IsOfInputs, MaySpend}
 use Rattle.ff_net.proofs.Flows.{due_meant}
 use Rattle.ff_host.specs.declared.sink.Sink.{Ghosts as SinkGhosts}
-use Rattle.ff_writers.specs.Layouts.{Layout}
-use Rattle.ff_writers.specs.declared.writer.Writer.{Ghosts as WriterGhosts}
-use Rattle.ff_muxing.specs.declared.mux.Mux.{Mux}
-use Rattle.ff_muxing.specs.Growing.{causes_grow, small_held}
-use Rattle.ff_muxing.specs.Held.{HoldsPart, part_of, part_by, there_is}
-use Rattle.ff_muxing.specs.Mixing.{lanes_long, valid_there, whole_from, whole_to}
-use Rattle.ff_muxing.specs.Muxing.{are_whole, mixed, totals_in, unpatched, file, mux_task, NothingCame}
-use Rattle.ff_muxing.specs.Telling.{mux_tells}
-use Rattle.ff_muxing.specs.TaskLaws.{gives_none, means_keeps, means_monotone, means_calm, same_count, same_text, same_file}
-use Rattle.ff_muxing.specs.Muxers.{mux_sink, mux_layout, mux_bases, mux_writes, mux_in_lanes, mux_fault, mux_spent}
+use Rattle.ff_mux.specs.writers.Layouts.{Layout}
+use Rattle.ff_mux.specs.declared.writers.writer.Writer.{Ghosts as WriterGhosts}
+use Rattle.ff_node_mux.specs.declared.mux.Mux.{Mux}
+use Rattle.ff_node_mux.specs.Growing.{causes_grow, small_held}
+use Rattle.ff_node_mux.specs.Held.{HoldsPart, part_of, part_by, there_is}
+use Rattle.ff_node_mux.specs.Mixing.{lanes_long, valid_there, whole_from, whole_to}
+use Rattle.ff_node_mux.specs.Muxing.{are_whole, mixed, totals_in, unpatched, file, mux_task, NothingCame}
+use Rattle.ff_node_mux.specs.Telling.{mux_tells}
+use Rattle.ff_node_mux.specs.TaskLaws.{gives_none, means_keeps, means_monotone, means_calm, same_count, same_text, same_file}
+use Rattle.ff_node_mux.specs.Muxers.{mux_sink, mux_layout, mux_bases, mux_writes, mux_in_lanes, mux_fault, mux_spent}
 
 -- there is no output
 pub no_output : (q : ℕ) → q < 0 → ⊥

@@ -1,16 +1,16 @@
 -- A muxer, as the laws of machines see it.
 use Rattle.std.specs.Prelude.{◌≡◌, ℕ, ◌<◌, true, List, Option, length}
 use Rattle.ff_time.specs.Fraction.{Fraction}
-use Rattle.ff_frame.specs.declared.item.Lane.{Lane}
-use Rattle.ff_interleave.specs.Queues.{Merging, merging}
+use Rattle.ff_stream.specs.declared.item.Lane.{Lane}
+use Rattle.ff_node_mux.specs.merge.Queues.{Merging, merging}
 use Rattle.ff_net.specs.declared.fault.Fault.{Fault}
 use Rattle.ff_net.specs.Pasts.{Past}
 use Rattle.ff_host.specs.declared.sink.Sink.{Ghosts as SinkGhosts}
-use Rattle.ff_writers.specs.Layouts.{Layout}
-use Rattle.ff_writers.specs.declared.writer.Writer.{Ghosts as WriterGhosts}
-use Rattle.ff_muxing.specs.Muxing.{MuxStands, head_bases, head_lanes}
-use Rattle.ff_muxing.specs.Telling.{TellsFed}
-use Rattle.ff_muxing.specs.declared.mux.Mux.{Mux}
+use Rattle.ff_mux.specs.writers.Layouts.{Layout}
+use Rattle.ff_mux.specs.declared.writers.writer.Writer.{Ghosts as WriterGhosts}
+use Rattle.ff_node_mux.specs.Muxing.{MuxStands, head_bases, head_lanes}
+use Rattle.ff_node_mux.specs.Telling.{TellsFed}
+use Rattle.ff_node_mux.specs.declared.mux.Mux.{Mux}
 
 module _ {K W : Type 0} {S : SinkGhosts K} {F : WriterGhosts W} where
   abbrev pub mux_sink : Mux K W S F → K

@@ -4,29 +4,29 @@
 use Rattle.std.specs.Prelude.{pos, ◌≡◌, ◌↔◌, ℕ, zero, suc, ◌+◌, ◌-◌, ◌⊎◌, Bool, true, false, ◌&&◌, if◌then◌else◌, List, [], ◌∷◌, ◌++◌, map, length, Option, Some, None}
 use mathlib.Core.List.{IsPrefix}
 use Rattle.ff_time.specs.Fraction.{Fraction}
-use Rattle.ff_values.specs.Heads.{base_of_head}
-use Rattle.ff_values.specs.declared.event.Event.{Event}
-use Rattle.ff_values.specs.declared.packet.Pkt.{Pkt}
-use Rattle.ff_values.specs.declared.totals.Totals.{Totals}
-use Rattle.ff_values.specs.declared.head.StreamHead.{StreamHead}
-use Rattle.ff_values.specs.Packet.{packet_at}
-use Rattle.ff_frame.specs.declared.item.Item.{Item}
-use Rattle.ff_frame.specs.declared.item.Item.TheVariants.{Audio, Video, Packet, Trailer, End, Broken}
-use Rattle.ff_frame.specs.declared.item.Lane.{Lane}
-use Rattle.ff_frame.specs.declared.item.Lane.TheVariants.{Packets}
-use Rattle.ff_frame.specs.Stream.{Mark, still_open, whole, broken, Stream, whole_stream, LiesBelow}
-use Rattle.ff_frame.specs.Ports.{nothing, stream_at, IsClosed}
+use Rattle.ff_frame.specs.Heads.{base_of_head}
+use Rattle.ff_frame.specs.declared.event.Event.{Event}
+use Rattle.ff_frame.specs.declared.packet.Pkt.{Pkt}
+use Rattle.ff_frame.specs.declared.totals.Totals.{Totals}
+use Rattle.ff_frame.specs.declared.head.StreamHead.{StreamHead}
+use Rattle.ff_frame.specs.Packet.{packet_at}
+use Rattle.ff_stream.specs.declared.item.Item.{Item}
+use Rattle.ff_stream.specs.declared.item.Item.TheVariants.{Audio, Video, Packet, Trailer, End, Broken}
+use Rattle.ff_stream.specs.declared.item.Lane.{Lane}
+use Rattle.ff_stream.specs.declared.item.Lane.TheVariants.{Packets}
+use Rattle.ff_stream.specs.Stream.{Mark, still_open, whole, broken, Stream, whole_stream, LiesBelow}
+use Rattle.ff_stream.specs.Ports.{nothing, stream_at, IsClosed}
 use Rattle.ff_filter.specs.Joins.{Ports, joined}
-use Rattle.ff_interleave.specs.Merges.{Placed, is_whole, packets_of, packets_in, placed, interleaved}
-use Rattle.ff_interleave.specs.Queues.{Merging, base_at}
+use Rattle.ff_node_mux.specs.merge.Merges.{Placed, is_whole, packets_of, packets_in, placed, interleaved}
+use Rattle.ff_node_mux.specs.merge.Queues.{Merging, base_at}
 use Rattle.ff_net.specs.declared.fault.Fault.{Fault}
 use Rattle.ff_net.specs.declared.fault.Fault.TheVariants.{TooLarge}
 use Rattle.ff_net.specs.Ways.{Flow, AreValid}
 use Rattle.ff_net.specs.Pasts.{Past, Task, Feed}
 use Rattle.ff_net.specs.Laws.{IsOfInputs}
-use Rattle.ff_writers.specs.Layouts.{Layout, body, written, text_of, fits, finished}
-use Rattle.ff_muxing.specs.Feeding.{feeds_of, feeds_at}
-use Rattle.ff_muxing.specs.Telling.{mux_tells}
+use Rattle.ff_mux.specs.writers.Layouts.{Layout, body, written, text_of, fits, finished}
+use Rattle.ff_node_mux.specs.Feeding.{feeds_of, feeds_at}
+use Rattle.ff_node_mux.specs.Telling.{mux_tells}
 
 -- the bases of the times of streams with these heads
 abbrev pub head_bases : List StreamHead → List Fraction

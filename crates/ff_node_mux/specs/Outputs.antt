@@ -1,14 +1,14 @@
 -- What of which streams is written in each format, and how.
 use Rattle.std.specs.Prelude.{◌≤◌, List, [], ◌∷◌, length, None}
-use Rattle.ff_values.specs.declared.hash.HashKind.{HashKind}
-use Rattle.ff_values.specs.declared.head.StreamHead.{StreamHead}
-use Rattle.ff_values.specs.Heads.{IsPcmCoded}
+use Rattle.ff_frame.specs.declared.hash.HashKind.{HashKind}
+use Rattle.ff_frame.specs.declared.head.StreamHead.{StreamHead}
+use Rattle.ff_frame.specs.Heads.{IsPcmCoded}
 use Rattle.ff_words.specs.declared.job.FileFormat.{FileFormat}
 use Rattle.ff_words.specs.declared.job.FileFormat.TheVariants.{Wav, Flac, Y4m, FrameHash}
 use Rattle.ff_y4m.specs.Header.{IsVideoHead}
-use Rattle.ff_writers.specs.Layouts.{Layout}
+use Rattle.ff_mux.specs.writers.Layouts.{Layout}
 use Rattle.ff_mux.specs.FlacHead.{CanHold}
-use Rattle.ff_writers.specs.Formats.{wav_layout, flac_layout, y4m_layout, hash_layout}
+use Rattle.ff_mux.specs.writers.Formats.{wav_layout, flac_layout, y4m_layout, hash_layout}
 
 -- one stream alone, of which this is true
 abbrev pub IsAlone : (StreamHead → Type 0) → List StreamHead → Type 0

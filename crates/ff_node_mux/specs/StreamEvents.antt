@@ -1,19 +1,19 @@
 -- What a muxer tells of an output stream, by the whole stream of packets that it was fed.
 use Rattle.std.specs.Prelude.{◌≡◌, ℕ, ◌+◌, ◌<◌, ◌==◌, Bool, false, List, [], ◌∷◌, ◌++◌, filter, map, length}
 use Rattle.ff_time.specs.Fraction.{Fraction}
-use Rattle.ff_values.specs.declared.packet.Pkt.{Pkt}
-use Rattle.ff_values.specs.declared.event.Event.{Event}
-use Rattle.ff_values.specs.declared.event.Event.TheVariants.{Grant, Sent, Finished, Best, Exited}
-use Rattle.ff_values.specs.declared.head.StreamHead.{StreamHead}
-use Rattle.ff_frame.specs.declared.item.Lane.TheVariants.{Packets}
-use Rattle.ff_frame.specs.Lanes.{IsValid}
-use Rattle.ff_frame.specs.Ports.{IsClosed}
-use Rattle.ff_interleave.specs.Merges.{packets_of}
-use Rattle.ff_interleave.specs.Queues.{base_at}
+use Rattle.ff_frame.specs.declared.packet.Pkt.{Pkt}
+use Rattle.ff_frame.specs.declared.event.Event.{Event}
+use Rattle.ff_frame.specs.declared.event.Event.TheVariants.{Grant, Sent, Finished, Best, Exited}
+use Rattle.ff_frame.specs.declared.head.StreamHead.{StreamHead}
+use Rattle.ff_stream.specs.declared.item.Lane.TheVariants.{Packets}
+use Rattle.ff_stream.specs.Lanes.{IsValid}
+use Rattle.ff_stream.specs.Ports.{IsClosed}
+use Rattle.ff_node_mux.specs.merge.Merges.{packets_of}
+use Rattle.ff_node_mux.specs.merge.Queues.{base_at}
 use Rattle.ff_net.specs.Pasts.{Feed}
 use Rattle.ff_net.specs.Ways.{Flow}
-use Rattle.ff_muxing.specs.Feeding.{feeds_of, feeds_at}
-use Rattle.ff_muxing.specs.Telling.{micros_of, mux_tells}
+use Rattle.ff_node_mux.specs.Feeding.{feeds_of, feeds_at}
+use Rattle.ff_node_mux.specs.Telling.{micros_of, mux_tells}
 
 -- that a packet was sent to the output stream of this number: when it is decoded, in microseconds
 abbrev pub sent : ℕ → Fraction → Pkt → Event

@@ -3,18 +3,18 @@ use Rattle.std.specs.Prelude.{◌≡◌, ◌≢◌, ℕ, zero, suc, ◌<◌, Lis
 use Rattle.std.proofs.Common.{ap, sym, ◌∙◌, inl, inr, arith}
 use Rattle.std.proofs.lemmas.Bool.{cases_eq}
 use Rattle.ff_time.specs.Fraction.{Fraction}
-use Rattle.ff_values.specs.declared.event.Event.{Event}
-use Rattle.ff_values.specs.declared.head.StreamHead.{StreamHead}
-use Rattle.ff_frame.specs.declared.item.Item.{Item}
-use Rattle.ff_frame.specs.declared.item.Item.TheVariants.{Audio, Video, Packet, Trailer, End, Broken}
-use Rattle.ff_frame.specs.Stream.{Mark, still_open, whole, broken, opened}
-use Rattle.ff_frame.specs.Order.{below_self, stream_at-opened}
-use Rattle.ff_frame.specs.Ports.{nothing, stream_at, IsMonotone, IsCalm}
+use Rattle.ff_frame.specs.declared.event.Event.{Event}
+use Rattle.ff_frame.specs.declared.head.StreamHead.{StreamHead}
+use Rattle.ff_stream.specs.declared.item.Item.{Item}
+use Rattle.ff_stream.specs.declared.item.Item.TheVariants.{Audio, Video, Packet, Trailer, End, Broken}
+use Rattle.ff_stream.specs.Stream.{Mark, still_open, whole, broken, opened}
+use Rattle.ff_stream.specs.Order.{below_self, stream_at-opened}
+use Rattle.ff_stream.specs.Ports.{nothing, stream_at, IsMonotone, IsCalm}
 use Rattle.ff_net.specs.Pasts.{Task, Feed}
 use Rattle.ff_net.specs.Ways.{Flow, AreValid}
-use Rattle.ff_writers.specs.Layouts.{Layout}
-use Rattle.ff_muxing.specs.Muxing.{head_bases, head_lanes, mixed, totals_in, text_for, file_for, unpatched, file, mux_answer, mux_cause, mux_means, mux_task_of, shown_file}
-use Rattle.ff_muxing.specs.Mixing.{mixed_alike, totals_alike, valid_behind}
+use Rattle.ff_mux.specs.writers.Layouts.{Layout}
+use Rattle.ff_node_mux.specs.Muxing.{head_bases, head_lanes, mixed, totals_in, text_for, file_for, unpatched, file, mux_answer, mux_cause, mux_means, mux_task_of, shown_file}
+use Rattle.ff_node_mux.specs.Mixing.{mixed_alike, totals_alike, valid_behind}
 
 module _ (layout : Layout) where
   -- without an input behind its last one it gives nothing

@@ -6,16 +6,16 @@ use Rattle.std.proofs.Common.{sym, ap, ◌∙◌}
 use mathlib.Core.List.{IsPrefix}
 use Rattle.ff_time.specs.Fraction.{Fraction, IsBase}
 use Rattle.ff_time.specs.Rescale.{IsRescaled}
-use Rattle.ff_values.specs.Heads.{base_of_head}
-use Rattle.ff_values.specs.declared.head.StreamHead.{StreamHead}
-use Rattle.ff_values.specs.declared.packet.Pkt.{Pkt}
-use Rattle.ff_values.specs.declared.event.Event.{Event}
-use Rattle.ff_values.specs.declared.event.Event.TheVariants.{Grant, Sent, Finished, Best, Exited}
-use Rattle.ff_frame.specs.declared.item.Item.{Item}
-use Rattle.ff_frame.specs.declared.item.Item.TheVariants.{Audio, Video, Packet, Trailer, End, Broken}
-use Rattle.ff_frame.specs.declared.item.Lane.TheVariants.{Packets}
-use Rattle.ff_frame.specs.Lanes.{IsItemFor, EndsInTime}
-use Rattle.ff_frame.specs.Times.{ticks}
+use Rattle.ff_frame.specs.Heads.{base_of_head}
+use Rattle.ff_frame.specs.declared.head.StreamHead.{StreamHead}
+use Rattle.ff_frame.specs.declared.packet.Pkt.{Pkt}
+use Rattle.ff_frame.specs.declared.event.Event.{Event}
+use Rattle.ff_frame.specs.declared.event.Event.TheVariants.{Grant, Sent, Finished, Best, Exited}
+use Rattle.ff_stream.specs.declared.item.Item.{Item}
+use Rattle.ff_stream.specs.declared.item.Item.TheVariants.{Audio, Video, Packet, Trailer, End, Broken}
+use Rattle.ff_stream.specs.declared.item.Lane.TheVariants.{Packets}
+use Rattle.ff_stream.specs.Lanes.{IsItemFor, EndsInTime}
+use Rattle.ff_stream.specs.Times.{ticks}
 use Rattle.ff_net.specs.Pasts.{Past, Feed}
 
 -- a millionth of a second

@@ -3,15 +3,15 @@ use Rattle.std.specs.Prelude.{◌≡◌, ◌≢◌, ℕ, ◌+◌, ◌||◌, ◌�
 use Rattle.std.specs.Io.KnownBytes.{Appends}
 use Rattle.ff_filter.specs.Joins.{Ports, silence, before_at}
 use Rattle.ff_filter.specs.Views.{closes}
-use Rattle.ff_frame.specs.declared.item.Item.{Item}
+use Rattle.ff_stream.specs.declared.item.Item.{Item}
 use Rattle.ff_host.specs.Files.{Patches}
-use Rattle.ff_interleave.specs.Merges.{Placed}
-use Rattle.ff_interleave.specs.Queues.{Merging}
+use Rattle.ff_node_mux.specs.merge.Merges.{Placed}
+use Rattle.ff_node_mux.specs.merge.Queues.{Merging}
 use Rattle.ff_lists.specs.Appends.{AppendsPrefix}
 use Rattle.ff_net.specs.declared.fault.Fault.{Fault}
 use Rattle.ff_net.specs.declared.fault.Fault.TheVariants.{TooLarge}
-use Rattle.ff_values.specs.declared.totals.Totals.{Totals}
-use Rattle.ff_writers.specs.Layouts.{Layout, body, fits}
+use Rattle.ff_frame.specs.declared.totals.Totals.{Totals}
+use Rattle.ff_mux.specs.writers.Layouts.{Layout, body, fits}
 
 -- what stands before the packets, where nothing was written yet
 abbrev pub text_before : Bool → Layout → List ℕ

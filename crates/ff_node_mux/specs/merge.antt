@@ -3,3 +3,6 @@ pub mod MergeLaws
 pub mod Merges
 pub mod Orders
 pub mod Queues
+pub mod Alike
+pub mod Fronting
+pub mod Ordered

@@ -1,8 +1,8 @@
 // What follows of the definitions alone.
-ghost use Rattle.ff_muxing.specs.Held.{HeldPartsStay};
-ghost use Rattle.ff_muxing.specs.Muxing.{MixedOne};
-ghost use Rattle.ff_muxing.specs.StreamEvents.{ToldOfStreams, ToldOfOne};
-ghost use Rattle.ff_muxing.specs.Telling.{AllOfStreams, SentTimes};
+ghost use Rattle.ff_node_mux.specs.Held.{HeldPartsStay};
+ghost use Rattle.ff_node_mux.specs.Muxing.{MixedOne};
+ghost use Rattle.ff_node_mux.specs.StreamEvents.{ToldOfStreams, ToldOfOne};
+ghost use Rattle.ff_node_mux.specs.Telling.{AllOfStreams, SentTimes};
 
 /// What a muxer's sink holds of the streams that it was fed is held of all streams that go on from them, but for breaks: a front of
 /// what is written, or the file.

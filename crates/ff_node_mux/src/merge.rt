@@ -8,7 +8,6 @@
 //!
 //! A packet is decided once each other stream is whole or has a packet behind it in that order. What is decided doesn't hang on
 //! the order in which packets arrive.
-#![tactic(auto)]
 
 mod interleave;
 mod laws;

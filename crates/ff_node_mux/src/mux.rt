@@ -1,27 +1,27 @@
 // The part that writes streams of packets in any format.
 ghost use Rattle.std.specs.Prelude.{◌≡◌, ◌≢◌, ◌≤◌, ◌<◌, ◌+◌, ◌^◌, ◌⊎◌, ℕ, [], ◌∷◌, true, List, length, None, Some, Ok, IsSome, IfOk, IfErr};
 ghost use Rattle.ff_time.specs.Fraction.{Fraction};
-ghost use Rattle.ff_frame.specs.Stream.{LiesBelow};
-ghost use Rattle.ff_frame.specs.Ports.{stream_at, IsClosed, IsWhole};
-ghost use Rattle.ff_interleave.specs.Queues.{merging, base_at, IsNew};
+ghost use Rattle.ff_stream.specs.Stream.{LiesBelow};
+ghost use Rattle.ff_stream.specs.Ports.{stream_at, IsClosed, IsWhole};
+ghost use Rattle.ff_node_mux.specs.merge.Queues.{merging, base_at, IsNew};
 ghost use Rattle.ff_net.specs.Pasts.{Past, start};
 ghost use Rattle.ff_net.specs.Ways.{Flow};
-ghost use Rattle.ff_writers.specs.Layouts.{Layout};
-ghost use Rattle.ff_muxing.specs.Muxing.{head_bases, head_lanes, mux_cause, mux_task, unpatched, file, NothingCame};
-ghost use Rattle.ff_muxing.specs.Held.{HoldsPart};
-ghost use Rattle.ff_muxing.specs.StreamEvents.{events_of, stream_events};
+ghost use Rattle.ff_mux.specs.writers.Layouts.{Layout};
+ghost use Rattle.ff_node_mux.specs.Muxing.{head_bases, head_lanes, mux_cause, mux_task, unpatched, file, NothingCame};
+ghost use Rattle.ff_node_mux.specs.Held.{HoldsPart};
+ghost use Rattle.ff_node_mux.specs.StreamEvents.{events_of, stream_events};
 
+use crate::merge::Interleave;
 use crate::telling::{put, time_base, told_by};
 use crate::totals::{left_with, totals_on};
 use crate::writing::{take_in, write_on};
 use ff_filter::discard;
-use ff_frame::{Event, Item, Refused, StreamHead, Ticket};
+use ff_frame::{Event, StreamHead, Ticket, Totals};
 use ff_host::Sink;
-use ff_interleave::Interleave;
+use ff_mux::Writer;
 use ff_net::{Fault, Machine};
+use ff_stream::{Item, Refused};
 use ff_time::Rational;
-use ff_values::Totals;
-use ff_writers::Writer;
 use std::alloc::{AllocError, Global};
 use std::collections::VecDeque;
 
@@ -84,7 +84,7 @@ fn merge_of(alloc: Global, heads: &[StreamHead]) -> Result<Interleave, AllocErro
 }
 
 impl<K: Sink + Drop, W: Writer + Drop> Mux<K, W> {
-    ghost use Rattle.ff_muxing.specs.Muxers.{mux_sink, mux_stands, mux_in_lanes, mux_fault};
+    ghost use Rattle.ff_node_mux.specs.Muxers.{mux_sink, mux_stands, mux_in_lanes, mux_fault};
 
     /// Over a sink that holds nothing and a writer that counted nothing, for the packets of output streams of these heads, with numbers
     /// from this one on. The sink comes back where memory is refused.
@@ -158,7 +158,7 @@ impl<K: Sink + Drop, W: Writer + Drop> Mux<K, W> {
 }
 
 impl<K: Sink + Drop, W: Writer + Drop> Machine for Mux<K, W> {
-    ghost use Rattle.ff_muxing.specs.Kinds.{mux_view, mux_laws};
+    ghost use Rattle.ff_node_mux.specs.Kinds.{mux_view, mux_laws};
 
     ghost view = { mux_view };
 

@@ -1,11 +1,12 @@
 // The writer of an output's format.
 ghost use Rattle.std.specs.Prelude.{◌≡◌, IfOk};
-ghost use Rattle.ff_writers.specs.AnyWriters.{any_layout, any_counts};
-ghost use Rattle.ff_muxing.specs.Outputs.{CanWrite, layout_of};
+ghost use Rattle.ff_mux.specs.writers.AnyWriters.{any_layout, any_counts};
+ghost use Rattle.ff_node_mux.specs.Outputs.{CanWrite, layout_of};
 
-use ff_values::{HashKind, StreamHead};
+use ff_frame::{HashKind, StreamHead};
+use ff_mux::{AnyWriter, FlacWriter, HashWriter, Y4mWriter};
+use ff_wav::WavPut;
 use ff_words::FileFormat;
-use ff_writers::{AnyWriter, FlacWriter, HashWriter, WavPut, Y4mWriter};
 use std::alloc::{AllocError, Global};
 
 /// The writer of a format for the packets of streams of these heads, with this digest where the format has one. No byte of a packet

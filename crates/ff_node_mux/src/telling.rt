@@ -1,10 +1,11 @@
 // What is told of an item.
 ghost use Rattle.std.specs.Prelude.{◌≡◌, ◌<◌, ◌++◌, option_to_list};
 ghost use Rattle.std.specs.VecDeque.{deque_len, deque_capacity};
-ghost use Rattle.ff_values.specs.Heads.{base_of_head};
-ghost use Rattle.ff_muxing.specs.Telling.{micros_of, told_by};
+ghost use Rattle.ff_frame.specs.Heads.{base_of_head};
+ghost use Rattle.ff_node_mux.specs.Telling.{micros_of, told_by};
 
-use ff_frame::{Event, Item, StreamHead};
+use ff_frame::{Event, StreamHead};
+use ff_stream::Item;
 use ff_time::{Rational, rescale};
 use std::collections::VecDeque;
 

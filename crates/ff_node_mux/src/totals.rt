@@ -1,9 +1,9 @@
 // What is known of streams by one item of one of them.
 ghost use Rattle.std.specs.Prelude.{◌≡◌};
-ghost use Rattle.ff_muxing.specs.Muxing.{totals_on, left_with};
+ghost use Rattle.ff_node_mux.specs.Muxing.{totals_on, left_with};
 
-use ff_frame::Item;
-use ff_values::Totals;
+use ff_frame::Totals;
+use ff_stream::Item;
 
 /// The totals that were told, once this item has come too on the input of this number.
 pub(crate) fn totals_on(port: usize, totals: Option<Totals>, item: &Item) -> Option<Totals>

@@ -1,20 +1,20 @@
 // What is written of what is decided.
 ghost use Rattle.std.specs.Prelude.{◌≡◌, ◌≢◌, ◌+◌, ◌<◌, ◌≤◌, ℕ, Bool, [], ◌∷◌, true, false, length, None, Some, Ok, IfErr, OnOk, OnErr, IsNone, IsSome, IfSome};
 ghost use Rattle.ff_filter.specs.Joins.{silence};
-ghost use Rattle.ff_interleave.specs.Merges.{Placed};
-ghost use Rattle.ff_interleave.specs.Queues.{merging, Same};
+ghost use Rattle.ff_node_mux.specs.merge.Merges.{Placed};
+ghost use Rattle.ff_node_mux.specs.merge.Queues.{merging, Same};
 ghost use Rattle.ff_net.specs.declared.fault.Fault.TheVariants.{TooLarge};
 ghost use Rattle.ff_net.specs.Laws.{Rose, IsOfInputs};
-ghost use Rattle.ff_muxing.specs.Writing.{Alike, Took, Wrote, WroteAll, Stuck, WroteOn, StuckOn};
+ghost use Rattle.ff_node_mux.specs.Writing.{Alike, Took, Wrote, WroteAll, Stuck, WroteOn, StuckOn};
 
+use crate::merge::Interleave;
 use crate::write::{text_before, write, write_end, write_packet};
 use ff_filter::discard;
-use ff_frame::{Item, Refused};
+use ff_frame::Totals;
 use ff_host::Sink;
-use ff_interleave::Interleave;
+use ff_mux::Writer;
 use ff_net::Fault;
-use ff_values::Totals;
-use ff_writers::Writer;
+use ff_stream::{Item, Refused};
 use std::alloc::Global;
 
 /// Hands an item to the merge; behind a failure only what closes its stream.

@@ -5,27 +5,27 @@ use Rattle.std.specs.Prelude.{◌||◌}
 use Rattle.std.proofs.lemmas.List.{length-set}
 use Rattle.std.proofs.lemmas.Bool.{cases_eq, eq-eqb, ne_eqb, and_from, and_left, and_right}
 use Rattle.ff_time.specs.Fraction.{Fraction}
-use Rattle.ff_values.specs.declared.head.StreamHead.{StreamHead}
-use Rattle.ff_values.specs.Heads.{base_of_head}
-use Rattle.ff_frame.specs.declared.item.Item.{Item}
-use Rattle.ff_frame.specs.declared.item.Item.TheVariants.{Audio, Video, Packet, Trailer, End, Broken}
-use Rattle.ff_frame.specs.declared.item.Lane.{Lane}
-use Rattle.ff_frame.specs.declared.item.Lane.TheVariants.{Frames}
-use Rattle.ff_frame.specs.Stream.{Mark, still_open}
-use Rattle.ff_frame.specs.Ports.{nothing}
+use Rattle.ff_frame.specs.declared.head.StreamHead.{StreamHead}
+use Rattle.ff_frame.specs.Heads.{base_of_head}
+use Rattle.ff_stream.specs.declared.item.Item.{Item}
+use Rattle.ff_stream.specs.declared.item.Item.TheVariants.{Audio, Video, Packet, Trailer, End, Broken}
+use Rattle.ff_stream.specs.declared.item.Lane.{Lane}
+use Rattle.ff_stream.specs.declared.item.Lane.TheVariants.{Frames}
+use Rattle.ff_stream.specs.Stream.{Mark, still_open}
+use Rattle.ff_stream.specs.Ports.{nothing}
 use Rattle.ff_filter.specs.declared.after.After.{After}
 use Rattle.ff_filter.specs.declared.after.After.TheVariants.{More, Whole, Broke}
 use Rattle.ff_filter.specs.Joins.{Flow, Ports, silence, before, before_if, before_at}
 use Rattle.ff_filter.specs.Shifts.{start_ticks}
 use Rattle.ff_filter.specs.Made.{behind, is_over, mark_after}
 use Rattle.ff_filter.specs.Views.{Same, Fed, Gave, Waits, Stopped, IsSpent, closes}
-use Rattle.ff_shortest.specs.declared.side.Side.{Side}
-use Rattle.ff_shortest.specs.Shortened.{Fate, Kept, Held, both, put_kept, kept_by, fate_by, fate_to, furthest, is_before}
-use Rattle.ff_shortest.specs.Lines.{Line, new_line, line_of, line_at, lines_of, lanes_of, came, bases, end_with, mark_with, ends_with, marks_with, still_kept}
-use Rattle.ff_shortest.specs.Lines.{shortest_view, view_of, reaches, stands, fate_now, next_fate, fate_is, is_closed, is_done, done_to, shortest_spent, head_base}
-use Rattle.ff_shortest.specs.Lines.{IsShortest, AreNew}
-use Rattle.ff_shortest.specs.Moves.{Takes, IsTaken, IsEnded, IsStopped, IsClosedAt}
-use Rattle.ff_shortest.specs.ShortLaws.{Refines, Further, fate_refines, kept_alike, still_silent, furthest-more, shortest-spent_only, spent_from, lanes_long}
+use Rattle.ff_node_sync.specs.declared.side.Side.{Side}
+use Rattle.ff_node_sync.specs.Shortened.{Fate, Kept, Held, both, put_kept, kept_by, fate_by, fate_to, furthest, is_before}
+use Rattle.ff_node_sync.specs.Lines.{Line, new_line, line_of, line_at, lines_of, lanes_of, came, bases, end_with, mark_with, ends_with, marks_with, still_kept}
+use Rattle.ff_node_sync.specs.Lines.{shortest_view, view_of, reaches, stands, fate_now, next_fate, fate_is, is_closed, is_done, done_to, shortest_spent, head_base}
+use Rattle.ff_node_sync.specs.Lines.{IsShortest, AreNew}
+use Rattle.ff_node_sync.specs.Moves.{Takes, IsTaken, IsEnded, IsStopped, IsClosedAt}
+use Rattle.ff_node_sync.specs.ShortLaws.{Refines, Further, fate_refines, kept_alike, still_silent, furthest-more, shortest-spent_only, spent_from, lanes_long}
 
 pub before_goes_on : (x : Item) (t : Flow) → closes x ≡ false → before x t ≡ record { items = x ∷ t.items; mark = t.mark }
 before_goes_on (Audio f) t e = refl

@@ -2,18 +2,18 @@
 use Rattle.std.proofs.Common.{◌≡◌, ℕ, zero, suc, ◌+◌, ◌<◌, inl, inr, Bool, true, false, List, length, refl, ap, sym, ◌∙◌, subst, arith, IsTrue}
 use Rattle.std.specs.Prelude.{◌||◌}
 use Rattle.std.proofs.lemmas.Bool.{cases_eq, eq-eqb, ne_eqb, and_from, and_left, and_right}
-use Rattle.ff_values.specs.declared.head.StreamHead.{StreamHead}
-use Rattle.ff_frame.specs.declared.item.Item.{Item}
-use Rattle.ff_frame.specs.declared.item.Lane.{Lane}
+use Rattle.ff_frame.specs.declared.head.StreamHead.{StreamHead}
+use Rattle.ff_stream.specs.declared.item.Item.{Item}
+use Rattle.ff_stream.specs.declared.item.Lane.{Lane}
 use Rattle.ff_filter.specs.Joins.{before, before_if, before_at}
 use Rattle.ff_filter.specs.Made.{is_over}
 use Rattle.ff_filter.specs.Views.{Same, Fed, Gave, Waits, Stopped, IsSpent, closes}
-use Rattle.ff_shortest.specs.declared.side.Side.{Side}
-use Rattle.ff_shortest.specs.Lines.{Line, line_at, lines_of, came, AreNew}
-use Rattle.ff_shortest.specs.Moves.{Takes, IsStopped}
-use Rattle.ff_shortest.specs.Straights.{still_came, IsGiven, IsHeld, straight_view, straight_of, IsStraight, is_through, through_to, straight_spent}
-use Rattle.ff_shortest.specs.StraightLaws.{straight-spent_only, straight-spent_from}
-use Rattle.ff_shortest.proofs.Moving.{Replaced, cond_same, long_lanes}
+use Rattle.ff_node_sync.specs.declared.side.Side.{Side}
+use Rattle.ff_node_sync.specs.Lines.{Line, line_at, lines_of, came, AreNew}
+use Rattle.ff_node_sync.specs.Moves.{Takes, IsStopped}
+use Rattle.ff_node_sync.specs.Straights.{still_came, IsGiven, IsHeld, straight_view, straight_of, IsStraight, is_through, through_to, straight_spent}
+use Rattle.ff_node_sync.specs.StraightLaws.{straight-spent_only, straight-spent_from}
+use Rattle.ff_node_sync.proofs.Moving.{Replaced, cond_same, long_lanes}
 
 pub self_same : (lanes : List Lane) (ls : List Line) → Same (straight_view lanes ls) (straight_view lanes ls)
 self_same lanes ls = record { ports = record { ins = refl; outs = refl }; rest = λ ext q on. refl; shut = λ p. refl; ended = λ q. refl; stopped = λ q. refl }

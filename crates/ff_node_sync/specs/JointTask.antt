@@ -1,13 +1,13 @@
 -- What a node on which all streams of one output come together is there for.
 use Rattle.std.specs.Prelude.{◌≡◌, Bool, true, false, List, map, length, None}
-use Rattle.ff_values.specs.declared.head.StreamHead.{StreamHead}
-use Rattle.ff_frame.specs.declared.item.Lane.TheVariants.{Frames}
+use Rattle.ff_frame.specs.declared.head.StreamHead.{StreamHead}
+use Rattle.ff_stream.specs.declared.item.Lane.TheVariants.{Frames}
 use Rattle.ff_filter.specs.Joins.{Ports}
 use Rattle.ff_filter.specs.Views.{View, IsNew}
 use Rattle.ff_net.specs.Pasts.{Task}
-use Rattle.ff_net_filter.specs.Tasks.{filter_task}
-use Rattle.ff_shortest.specs.Lines.{head_base}
-use Rattle.ff_shortest.specs.Shortened.{shortened}
+use Rattle.ff_node_filter.specs.Tasks.{filter_task}
+use Rattle.ff_node_sync.specs.Lines.{head_base}
+use Rattle.ff_node_sync.specs.Shortened.{shortened}
 
 -- the streams of these heads: each up to the end of the shortest, or as they are
 abbrev pub joint : Bool → List StreamHead → Ports → Ports

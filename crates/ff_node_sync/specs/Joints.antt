@@ -1,21 +1,21 @@
 -- The streams of one output together, whether shortened or as they are: how they are seen, their laws as those of a filter, and of a machine.
 use Rattle.std.specs.Prelude.{◌≡◌, ℕ, ◌<◌, Bool, true, length}
-use Rattle.ff_frame.specs.Ports.{nothing}
+use Rattle.ff_stream.specs.Ports.{nothing}
 use Rattle.ff_net.specs.Laws.{Laws}
 use Rattle.ff_net.specs.Views.{View as NetView}
 use Rattle.ff_filter.specs.Joins.{Ports, Grows, HidesBreaks}
 use Rattle.ff_filter.specs.Views.{View, Settles, IsSpent, AllDone}
-use Rattle.ff_net_filter.specs.declared.alone.Alone.{Alone}
-use Rattle.ff_net_filter.specs.Alones.{alone_view}
-use Rattle.ff_net_filter.specs.AloneLaws.{alone_laws}
-use Rattle.ff_shortest.specs.declared.joint.Joint.{Joint}
-use Rattle.ff_shortest.specs.declared.joint.Joint.TheVariants.{Shortest, Straight}
-use Rattle.ff_shortest.specs.Lines.{lines_of, lanes_of, view_of, shortest_spent}
-use Rattle.ff_shortest.specs.Straights.{straight_of, straight_spent}
-use Rattle.ff_shortest.specs.ShortLaws.{shortest-grows, shortest-hides, shortest-settles, shortest-quiet}
-use Rattle.ff_shortest.specs.ShortLaws.{shortest-spent_only, shortest-shut_spent, shortest-done_spent}
-use Rattle.ff_shortest.specs.StraightLaws.{straight-grows, straight-hides, straight-settles, straight-quiet}
-use Rattle.ff_shortest.specs.StraightLaws.{straight-spent_only, straight-shut_spent, straight-done_spent}
+use Rattle.ff_node_filter.specs.declared.alone.Alone.{Alone}
+use Rattle.ff_node_filter.specs.Alones.{alone_view}
+use Rattle.ff_node_filter.specs.AloneLaws.{alone_laws}
+use Rattle.ff_node_sync.specs.declared.joint.Joint.{Joint}
+use Rattle.ff_node_sync.specs.declared.joint.Joint.TheVariants.{Shortest, Straight}
+use Rattle.ff_node_sync.specs.Lines.{lines_of, lanes_of, view_of, shortest_spent}
+use Rattle.ff_node_sync.specs.Straights.{straight_of, straight_spent}
+use Rattle.ff_node_sync.specs.ShortLaws.{shortest-grows, shortest-hides, shortest-settles, shortest-quiet}
+use Rattle.ff_node_sync.specs.ShortLaws.{shortest-spent_only, shortest-shut_spent, shortest-done_spent}
+use Rattle.ff_node_sync.specs.StraightLaws.{straight-grows, straight-hides, straight-settles, straight-quiet}
+use Rattle.ff_node_sync.specs.StraightLaws.{straight-spent_only, straight-shut_spent, straight-done_spent}
 
 abbrev pub joint_view : Joint → View
 joint_view (Shortest m) = view_of m.sides.items

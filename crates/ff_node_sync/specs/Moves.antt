@@ -1,11 +1,11 @@
 -- What each move of one stream does to it.
 use Rattle.std.specs.Prelude.{◌≡◌, ◌≢◌, ℕ, length, true, false, List, ◌∷◌}
-use Rattle.ff_frame.specs.declared.item.Item.{Item}
+use Rattle.ff_stream.specs.declared.item.Item.{Item}
 use Rattle.ff_filter.specs.Joins.{Flow, before}
 use Rattle.ff_filter.specs.Made.{is_over}
 use Rattle.ff_filter.specs.Shifts.{start_ticks}
 use Rattle.ff_filter.specs.Views.{closes}
-use Rattle.ff_shortest.specs.Lines.{Line, line_at, came, end_with, mark_with}
+use Rattle.ff_node_sync.specs.Lines.{Line, line_at, came, end_with, mark_with}
 
 -- An item was taken in: however the stream goes on, it ends and stands as with the item before that; and where the output is
 -- wanted, the item waits behind the others.

@@ -5,21 +5,21 @@ use Rattle.std.proofs.Math.Nat.{mul-le-mul_right}
 use Rattle.std.proofs.lemmas.Bool.{cases_Bool, cases_eq, and_from, and_parts, or_cases, or_left, or_right, lt-ltb, ltb-true}
 use mathlib.Core.List.{IsPrefix}
 use Rattle.ff_time.specs.Fraction.{Fraction}
-use Rattle.ff_frame.specs.declared.item.Item.{Item}
-use Rattle.ff_frame.specs.declared.item.Lane.{Lane}
-use Rattle.ff_frame.specs.Stream.{Mark, still_open, whole, broken, LiesBelow, opened, opened_mark}
-use Rattle.ff_frame.specs.Ports.{nothing, IsClosed}
-use Rattle.ff_frame.specs.Order.{nothing_below, opened_below, same_stream}
+use Rattle.ff_stream.specs.declared.item.Item.{Item}
+use Rattle.ff_stream.specs.declared.item.Lane.{Lane}
+use Rattle.ff_stream.specs.Stream.{Mark, still_open, whole, broken, LiesBelow, opened, opened_mark}
+use Rattle.ff_stream.specs.Ports.{nothing, IsClosed}
+use Rattle.ff_stream.specs.Order.{nothing_below, opened_below, same_stream}
 use Rattle.ff_filter.specs.declared.after.After.{After}
 use Rattle.ff_filter.specs.declared.after.After.TheVariants.{More, Whole, Broke}
 use Rattle.ff_filter.specs.Joins.{Flow, Ports, silence, Grows, HidesBreaks, all_opened}
 use Rattle.ff_filter.specs.Made.{behind, is_over, mark_after}
 use Rattle.ff_filter.specs.Shifts.{start_ticks}
 use Rattle.ff_filter.specs.Views.{Settles, IsSpent, AllDone}
-use Rattle.ff_shortest.specs.declared.side.Side.{Side}
-use Rattle.ff_shortest.specs.Shortened.{Fate, Kept, Held, held_by, both, put_kept, kept_by, fate_by, fate_to, furthest, is_before, end_ticks}
-use Rattle.ff_shortest.specs.Lines.{Line, line_at, lines_of, lanes_of, came, bases, ends_with, marks_with, still_kept, shortest_view, view_of, reaches, stands, fate_now}
-use Rattle.ff_shortest.specs.Lines.{mark_now, is_closed, is_done, done_to, shortest_spent}
+use Rattle.ff_node_sync.specs.declared.side.Side.{Side}
+use Rattle.ff_node_sync.specs.Shortened.{Fate, Kept, Held, held_by, both, put_kept, kept_by, fate_by, fate_to, furthest, is_before, end_ticks}
+use Rattle.ff_node_sync.specs.Lines.{Line, line_at, lines_of, lanes_of, came, bases, ends_with, marks_with, still_kept, shortest_view, view_of, reaches, stands, fate_now}
+use Rattle.ff_node_sync.specs.Lines.{mark_now, is_closed, is_done, done_to, shortest_spent}
 
 -- what wasn't decided may have come to be
 abbrev pub Refines : Fate → Fate → Type 0

@@ -2,20 +2,20 @@
 use Rattle.std.specs.Prelude.{◌≡◌, ◌≢◌, ℕ, zero, suc, ◌<◌, ◌⊎◌, Bool, true, false, ◌||◌, cond, List, ◌++◌, length, refl}
 use Rattle.std.proofs.Common.{inl, inr, ap, sym, ◌∙◌, subst, arith}
 use Rattle.std.proofs.lemmas.Bool.{cases_Bool, cases_eq, and_from, and_parts, or_cases, or_left, or_right}
-use Rattle.ff_frame.specs.declared.item.Item.{Item}
-use Rattle.ff_frame.specs.declared.item.Lane.{Lane}
-use Rattle.ff_frame.specs.Stream.{still_open, LiesBelow, opened}
-use Rattle.ff_frame.specs.Ports.{nothing, IsClosed}
+use Rattle.ff_stream.specs.declared.item.Item.{Item}
+use Rattle.ff_stream.specs.declared.item.Lane.{Lane}
+use Rattle.ff_stream.specs.Stream.{still_open, LiesBelow, opened}
+use Rattle.ff_stream.specs.Ports.{nothing, IsClosed}
 use Rattle.ff_filter.specs.declared.after.After.{After}
 use Rattle.ff_filter.specs.declared.after.After.TheVariants.{More, Whole, Broke}
 use Rattle.ff_filter.specs.Joins.{Flow, Ports, Grows, HidesBreaks}
 use Rattle.ff_filter.specs.Made.{behind, is_over, mark_after}
 use Rattle.ff_filter.specs.Views.{Settles, IsSpent, AllDone}
-use Rattle.ff_shortest.specs.declared.side.Side.{Side}
-use Rattle.ff_shortest.specs.Lines.{Line, line_at, lines_of, lanes_of, came}
-use Rattle.ff_shortest.specs.ShortLaws.{SofterFlow, behind_below, waits_below, ended_below, soft_below, mark_softer}
-use Rattle.ff_shortest.specs.ShortLaws.{items_opened, ended_softer, behind_over, silent_mark, lanes_long}
-use Rattle.ff_shortest.specs.Straights.{still_came, straight_view, straight_of, is_through, through_to, straight_spent}
+use Rattle.ff_node_sync.specs.declared.side.Side.{Side}
+use Rattle.ff_node_sync.specs.Lines.{Line, line_at, lines_of, lanes_of, came}
+use Rattle.ff_node_sync.specs.ShortLaws.{SofterFlow, behind_below, waits_below, ended_below, soft_below, mark_softer}
+use Rattle.ff_node_sync.specs.ShortLaws.{items_opened, ended_softer, behind_over, silent_mark, lanes_long}
+use Rattle.ff_node_sync.specs.Straights.{still_came, straight_view, straight_of, is_through, through_to, straight_spent}
 
 still_below : (l : Line) (s t : Flow) → LiesBelow s t → LiesBelow (still_came l s) (still_came l t)
 still_below l s t h = ended_below l.ended (came l s) (came l t) (waits_below l.waits (behind l.after s) (behind l.after t) (behind_below l.after s t h))

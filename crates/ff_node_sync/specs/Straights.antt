@@ -1,15 +1,15 @@
 -- How streams that are given as they are are seen.
 use Rattle.std.specs.Prelude.{◌≡◌, ℕ, zero, suc, Bool, true, ◌||◌, ◌&&◌, cond, false, List, map, length}
-use Rattle.ff_values.specs.declared.head.StreamHead.{StreamHead}
-use Rattle.ff_frame.specs.declared.item.Item.{Item}
-use Rattle.ff_frame.specs.declared.item.Lane.{Lane}
-use Rattle.ff_frame.specs.declared.item.Lane.TheVariants.{Frames}
-use Rattle.ff_frame.specs.Ports.{nothing}
+use Rattle.ff_frame.specs.declared.head.StreamHead.{StreamHead}
+use Rattle.ff_stream.specs.declared.item.Item.{Item}
+use Rattle.ff_stream.specs.declared.item.Lane.{Lane}
+use Rattle.ff_stream.specs.declared.item.Lane.TheVariants.{Frames}
+use Rattle.ff_stream.specs.Ports.{nothing}
 use Rattle.ff_filter.specs.Joins.{Flow, Ports, before}
 use Rattle.ff_filter.specs.Made.{is_over}
 use Rattle.ff_filter.specs.Views.{View, IsNew, closes}
-use Rattle.ff_shortest.specs.declared.side.Side.{Side}
-use Rattle.ff_shortest.specs.Lines.{Line, line_at, lines_of, lanes_of, came}
+use Rattle.ff_node_sync.specs.declared.side.Side.{Side}
+use Rattle.ff_node_sync.specs.Lines.{Line, line_at, lines_of, lanes_of, came}
 
 -- what is still given of a stream that goes on as t; nothing where its closing item was given
 abbrev pub still_came : Line → Flow → Flow

@@ -1,10 +1,10 @@
 ghost use Rattle.std.specs.Prelude.{◌≡◌, ◌≤◌, ◌^◌, max};
-ghost use Rattle.ff_frame.specs.Times.{ticks};
+ghost use Rattle.ff_stream.specs.Times.{ticks};
 ghost use Rattle.ff_filter.specs.Made.{is_over as is_over_by};
-ghost use Rattle.ff_shortest.specs.Shortened.{end_ticks as end_of_ticks, is_before as is_before_by};
+ghost use Rattle.ff_node_sync.specs.Shortened.{end_ticks as end_of_ticks, is_before as is_before_by};
 
 use ff_filter::{After, shared};
-use ff_frame::Item;
+use ff_stream::Item;
 use ff_time::Rational;
 
 // A time in ticks from 0; what lies before 0 counts as 0.

@@ -1,16 +1,17 @@
 ghost use Rattle.std.specs.Prelude.{IfOk, ◌≡◌, map, None};
-ghost use Rattle.ff_frame.specs.declared.item.Lane.TheVariants.{Frames};
+ghost use Rattle.ff_stream.specs.declared.item.Lane.TheVariants.{Frames};
 ghost use Rattle.ff_net.specs.Pasts.{start};
-ghost use Rattle.ff_shortest.specs.JointTask.{joint_task, IsJointOf};
-ghost use Rattle.ff_shortest.specs.Joints.{joint_view, joint_spends, joint-grows, joint-hides, joint-settles, joint-quiet};
-ghost use Rattle.ff_shortest.specs.Joints.{joint-spent_only, joint-shut_spent, joint-done_spent};
+ghost use Rattle.ff_node_sync.specs.JointTask.{joint_task, IsJointOf};
+ghost use Rattle.ff_node_sync.specs.Joints.{joint_view, joint_spends, joint-grows, joint-hides, joint-settles, joint-quiet};
+ghost use Rattle.ff_node_sync.specs.Joints.{joint-spent_only, joint-shut_spent, joint-done_spent};
 
 use crate::shortest::Shortest;
 use crate::straight::Straight;
 use ff_filter::Filter;
-use ff_frame::{Item, Refused, StreamHead};
+use ff_frame::StreamHead;
 use ff_net::Machine;
-use ff_net_filter::Alone;
+use ff_node_filter::Alone;
+use ff_stream::{Item, Refused};
 use std::alloc::{AllocError, Global};
 
 /// The streams of one output together: each up to the end of the shortest, or as they are.

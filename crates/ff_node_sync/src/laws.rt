@@ -1,10 +1,10 @@
 //! What the functions of the streams of one output are, as those of a node: functions that do nothing, whose clauses hold of all values.
 ghost use Rattle.std.specs.Prelude.{List, None};
-ghost use Rattle.ff_values.specs.declared.head.StreamHead.{StreamHead};
+ghost use Rattle.ff_frame.specs.declared.head.StreamHead.{StreamHead};
 ghost use Rattle.ff_filter.specs.Views.{View};
-ghost use Rattle.ff_net_filter.specs.Tasks.{IsLawful};
-ghost use Rattle.ff_shortest.specs.Lines.{IsShortest};
-ghost use Rattle.ff_shortest.specs.Straights.{IsStraight};
+ghost use Rattle.ff_node_filter.specs.Tasks.{IsLawful};
+ghost use Rattle.ff_node_sync.specs.Lines.{IsShortest};
+ghost use Rattle.ff_node_sync.specs.Straights.{IsStraight};
 
 /// Streams further on are shortened to streams further on, whoever isn't told of breaks gets no less, valid streams are shortened to
 /// valid ones, and of unbroken streams none breaks: so a node of it has no fault.

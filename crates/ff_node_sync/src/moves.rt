@@ -1,17 +1,18 @@
 ghost use Rattle.std.specs.Prelude.{◌≡◌, ◌<◌, [], ◌||◌, OnOk, OnErr, IfErr, IfSome, IsNone, Some, true, false};
 ghost use Rattle.std.specs.VecDeque.{deque_len, deque_capacity};
-ghost use Rattle.ff_frame.specs.declared.item.Item.{Item as AnItem};
-ghost use Rattle.ff_values.specs.Heads.{base_of_head};
+ghost use Rattle.ff_stream.specs.declared.item.Item.{Item as AnItem};
+ghost use Rattle.ff_frame.specs.Heads.{base_of_head};
 ghost use Rattle.ff_filter.specs.Made.{is_over, closing};
 ghost use Rattle.ff_filter.specs.Views.{closes};
-ghost use Rattle.ff_shortest.specs.Moves.{Takes, IsStart, IsTaken, IsEnded, IsStopped};
-ghost use Rattle.ff_shortest.specs.Lines.{line_of, new_line};
-ghost use Rattle.ff_shortest.specs.Straights.{IsGiven, IsHeld};
+ghost use Rattle.ff_node_sync.specs.Moves.{Takes, IsStart, IsTaken, IsEnded, IsStopped};
+ghost use Rattle.ff_node_sync.specs.Lines.{line_of, new_line};
+ghost use Rattle.ff_node_sync.specs.Straights.{IsGiven, IsHeld};
 
 use crate::end::{end_ticks, later};
 use crate::side::Side;
 use ff_filter::{After, closing_of, discard, start_of_item};
-use ff_frame::{Item, Refused, StreamHead};
+use ff_frame::StreamHead;
+use ff_stream::{Item, Refused};
 use std::alloc::{AllocError, Global};
 use std::collections::VecDeque;
 

@@ -1,19 +1,20 @@
 ghost use Rattle.std.specs.Prelude.{◌≡◌, ◌↔◌, ◌<◌, length, IsTrue, IfOk, IsNone, Some, None, false};
-ghost use Rattle.ff_frame.specs.declared.item.Item.{Item as AnItem};
+ghost use Rattle.ff_stream.specs.declared.item.Item.{Item as AnItem};
 ghost use Rattle.ff_filter.specs.Made.{mark_after};
 ghost use Rattle.ff_filter.specs.Shifts.{start_ticks};
 ghost use Rattle.ff_filter.specs.Views.{Gave, Waits, IsSpent};
-ghost use Rattle.ff_shortest.specs.Shortened.{Kept, both as both_of, fate_by as fate_by_of};
-ghost use Rattle.ff_shortest.specs.Lines.{lines_of, lanes_of, line_at, bases, reaches, stands, view_of, IsShortest, fate_is, fate_now, next_fate, AreNew};
-ghost use Rattle.ff_shortest.specs.Lines.{mark_now, is_done as is_done_of, done_to, shortest_spent};
-ghost use Rattle.ff_shortest.specs.Moves.{IsClosedAt};
-ghost use Rattle.ff_shortest.specs.ShortLaws.{shortest-grows, shortest-hides, shortest-settles, shortest-quiet, shortest-spent_only};
-ghost use Rattle.ff_shortest.specs.ShortLaws.{shortest-shut_spent, shortest-done_spent};
+ghost use Rattle.ff_node_sync.specs.Shortened.{Kept, both as both_of, fate_by as fate_by_of};
+ghost use Rattle.ff_node_sync.specs.Lines.{lines_of, lanes_of, line_at, bases, reaches, stands, view_of, IsShortest, fate_is, fate_now, next_fate, AreNew};
+ghost use Rattle.ff_node_sync.specs.Lines.{mark_now, is_done as is_done_of, done_to, shortest_spent};
+ghost use Rattle.ff_node_sync.specs.Moves.{IsClosedAt};
+ghost use Rattle.ff_node_sync.specs.ShortLaws.{shortest-grows, shortest-hides, shortest-settles, shortest-quiet, shortest-spent_only};
+ghost use Rattle.ff_node_sync.specs.ShortLaws.{shortest-shut_spent, shortest-done_spent};
 
 use crate::end::{is_before, is_over};
 use crate::side::Side;
 use ff_filter::{After, Filter, start_of_item, time_base};
-use ff_frame::{Item, Refused, StreamHead};
+use ff_frame::StreamHead;
+use ff_stream::{Item, Refused};
 use std::alloc::{AllocError, Global};
 
 /// The streams of one output, each up to the end of the shortest: an input and an output for each of them.

@@ -2,7 +2,8 @@ ghost use Rattle.std.specs.Prelude.{◌≡◌, ◌≤◌, ◌^◌, true};
 ghost use Rattle.ff_filter.specs.Views.{none_closes};
 
 use ff_filter::After;
-use ff_frame::{Item, StreamHead};
+use ff_frame::StreamHead;
+use ff_stream::Item;
 use std::collections::VecDeque;
 
 /// A stream that is shortened by others.

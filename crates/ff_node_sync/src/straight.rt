@@ -1,14 +1,15 @@
 ghost use Rattle.std.specs.Prelude.{◌≡◌, ◌↔◌, ◌<◌, length, IsTrue, IfOk};
 ghost use Rattle.ff_filter.specs.Views.{IsSpent};
-ghost use Rattle.ff_shortest.specs.Lines.{lines_of, lanes_of};
-ghost use Rattle.ff_shortest.specs.Straights.{straight_of, IsStraight, is_through as is_through_of, through_to, straight_spent};
-ghost use Rattle.ff_shortest.specs.StraightLaws.{straight-grows, straight-hides, straight-settles, straight-quiet};
-ghost use Rattle.ff_shortest.specs.StraightLaws.{straight-spent_only, straight-shut_spent, straight-done_spent};
+ghost use Rattle.ff_node_sync.specs.Lines.{lines_of, lanes_of};
+ghost use Rattle.ff_node_sync.specs.Straights.{straight_of, IsStraight, is_through as is_through_of, through_to, straight_spent};
+ghost use Rattle.ff_node_sync.specs.StraightLaws.{straight-grows, straight-hides, straight-settles, straight-quiet};
+ghost use Rattle.ff_node_sync.specs.StraightLaws.{straight-spent_only, straight-shut_spent, straight-done_spent};
 
 use crate::shortest::new_sides;
 use crate::side::Side;
 use ff_filter::Filter;
-use ff_frame::{Item, Refused, StreamHead};
+use ff_frame::StreamHead;
+use ff_stream::{Item, Refused};
 use std::alloc::{AllocError, Global};
 
 /// The streams of one output as they are: an input and an output for each of them.

@@ -12,9 +12,9 @@ use Rattle.std.proofs.lemmas.List.Elements.{All-map}
 use Rattle.std.proofs.lemmas.Nat.{div_below, pow-add, div-mul-add}
 use Rattle.std.proofs.Math.Nat.{mul-le-mul_right, mul-lt-mul_of_pos_right, mul-div_cancel}
 use Rattle.std.proofs.Math.Pow.{pow_mono}
-use Rattle.ff_values.specs.Audio.{FitsBits, IsAudio}
-use Rattle.ff_values.specs.Frame.{audio_frame}
-use Rattle.ff_values.specs.declared.audio.AFrame.{AFrame}
+use Rattle.ff_frame.specs.Audio.{FitsBits, IsAudio}
+use Rattle.ff_frame.specs.Frame.{audio_frame}
+use Rattle.ff_frame.specs.declared.audio.AFrame.{AFrame}
 use Rattle.ff_pcm.specs.Depth.{shifted, at_depth}
 
 -- a list each of whose samples is made of the one at its place

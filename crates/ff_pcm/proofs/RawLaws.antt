@@ -1,9 +1,9 @@
 -- Raw video and back.
 use Rattle.std.proofs.Common.{◌≡◌, ap}
-use Rattle.ff_values.specs.declared.head.StreamHead.{StreamHead}
-use Rattle.ff_values.specs.declared.head.StreamHead.TheVariants.{Audio, Video}
-use Rattle.ff_values.specs.declared.packet.Pkt.{Pkt}
-use Rattle.ff_values.specs.declared.video.VFrame.{VFrame}
+use Rattle.ff_frame.specs.declared.head.StreamHead.{StreamHead}
+use Rattle.ff_frame.specs.declared.head.StreamHead.TheVariants.{Audio, Video}
+use Rattle.ff_frame.specs.declared.packet.Pkt.{Pkt}
+use Rattle.ff_frame.specs.declared.video.VFrame.{VFrame}
 use Rattle.ff_pcm.specs.Raw.{IsFrameIn}
 
 pub planes_back : (head : StreamHead) (packet : Pkt) (frame : VFrame) → IsFrameIn head packet frame → frame.planes ≡ packet.bytes

@@ -2,9 +2,9 @@
 use Rattle.std.specs.Prelude.{ℕ, ◌+◌, ◌-◌, ℤ, pos, negsuc, List}
 use Rattle.std.specs.List.{flat_map}
 use Rattle.ff_bits.specs.Integers.{unsigned, number_bytes}
-use Rattle.ff_values.specs.Codecs.{sample_bytes}
-use Rattle.ff_values.specs.declared.head.Codec.{Codec}
-use Rattle.ff_values.specs.declared.head.Codec.TheVariants.{PcmU8, PcmS16le, PcmS24le, PcmS32le, Flac, RawVideo}
+use Rattle.ff_frame.specs.Codecs.{sample_bytes}
+use Rattle.ff_frame.specs.declared.head.Codec.{Codec}
+use Rattle.ff_frame.specs.declared.head.Codec.TheVariants.{PcmU8, PcmS16le, PcmS24le, PcmS32le, Flac, RawVideo}
 
 -- counted from a middle
 abbrev pub from_middle : ℕ → ℤ → ℕ

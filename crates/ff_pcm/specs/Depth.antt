@@ -1,8 +1,8 @@
 -- Samples of other depths.
 use Rattle.std.specs.Prelude.{ℕ, ◌-◌, ◌^◌, ◌*ℤ◌, nat_le, if◌then◌else◌, ℤ, pos, map}
 use Rattle.std.specs.Int.Signed.{shr_z}
-use Rattle.ff_values.specs.Frame.{audio_frame}
-use Rattle.ff_values.specs.declared.audio.AFrame.{AFrame}
+use Rattle.ff_frame.specs.Frame.{audio_frame}
+use Rattle.ff_frame.specs.declared.audio.AFrame.{AFrame}
 
 -- A sample of b bits as one of c bits: times 2^(c - b), or over 2^(b - c), rounded down.
 abbrev pub shifted : ℕ → ℕ → ℤ → ℤ

@@ -1,14 +1,14 @@
 -- The frame that a packet of linear PCM stands for.
 use Rattle.std.specs.Prelude.{◌≡◌, ℕ, ◌*◌, ◌≤◌, List, length}
-use Rattle.ff_values.specs.Frame.{audio_frame}
-use Rattle.ff_values.specs.Heads.{IsSoundHead}
-use Rattle.ff_values.specs.Codecs.{IsPcmCodec, sample_bytes}
-use Rattle.ff_values.specs.declared.audio.AFrame.{AFrame}
-use Rattle.ff_values.specs.declared.head.Codec.{Codec}
-use Rattle.ff_values.specs.declared.head.Codec.TheVariants.{PcmU8}
-use Rattle.ff_values.specs.declared.head.StreamHead.{StreamHead}
-use Rattle.ff_values.specs.declared.head.StreamHead.TheVariants.{Audio, Video}
-use Rattle.ff_values.specs.declared.packet.Pkt.{Pkt}
+use Rattle.ff_frame.specs.Frame.{audio_frame}
+use Rattle.ff_frame.specs.Heads.{IsSoundHead}
+use Rattle.ff_frame.specs.Codecs.{IsPcmCodec, sample_bytes}
+use Rattle.ff_frame.specs.declared.audio.AFrame.{AFrame}
+use Rattle.ff_frame.specs.declared.head.Codec.{Codec}
+use Rattle.ff_frame.specs.declared.head.Codec.TheVariants.{PcmU8}
+use Rattle.ff_frame.specs.declared.head.StreamHead.{StreamHead}
+use Rattle.ff_frame.specs.declared.head.StreamHead.TheVariants.{Audio, Video}
+use Rattle.ff_frame.specs.declared.packet.Pkt.{Pkt}
 use Rattle.ff_pcm.specs.Samples.{depth, samples_of}
 
 -- the fields of a head of sound; that of video has none, and what is said of it here is never used

@@ -1,11 +1,11 @@
 -- Raw video: a packet is the planes of one frame.
 use Rattle.std.specs.Prelude.{◌≡◌, List, ℕ}
-use Rattle.ff_values.specs.Frame.{video_frame}
-use Rattle.ff_values.specs.Video.{IsVideo}
-use Rattle.ff_values.specs.declared.head.StreamHead.{StreamHead}
-use Rattle.ff_values.specs.declared.head.StreamHead.TheVariants.{Audio, Video}
-use Rattle.ff_values.specs.declared.packet.Pkt.{Pkt}
-use Rattle.ff_values.specs.declared.video.VFrame.{VFrame}
+use Rattle.ff_frame.specs.Frame.{video_frame}
+use Rattle.ff_frame.specs.Video.{IsVideo}
+use Rattle.ff_frame.specs.declared.head.StreamHead.{StreamHead}
+use Rattle.ff_frame.specs.declared.head.StreamHead.TheVariants.{Audio, Video}
+use Rattle.ff_frame.specs.declared.packet.Pkt.{Pkt}
+use Rattle.ff_frame.specs.declared.video.VFrame.{VFrame}
 
 -- the head is of video, and these bytes are the planes of one frame of it
 abbrev pub HasFrame : StreamHead → List ℕ → Type 0

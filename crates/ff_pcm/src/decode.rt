@@ -1,13 +1,13 @@
 ghost use Rattle.std.specs.Prelude.{◌≡◌, ◌*◌, ◌<◌, ℕ, All, length, IfOk, pos, slice_index_or};
-ghost use Rattle.ff_values.specs.Audio.{FitsBits};
-ghost use Rattle.ff_values.specs.Heads.{IsFrameOf, IsSoundHead};
-ghost use Rattle.ff_values.specs.Codecs.{IsPcmCodec, sample_bytes};
-ghost use Rattle.ff_values.specs.declared.head.Codec.TheVariants.{PcmU8, PcmS16le, PcmS24le, PcmS32le};
+ghost use Rattle.ff_frame.specs.Audio.{FitsBits};
+ghost use Rattle.ff_frame.specs.Heads.{IsFrameOf, IsSoundHead};
+ghost use Rattle.ff_frame.specs.Codecs.{IsPcmCodec, sample_bytes};
+ghost use Rattle.ff_frame.specs.declared.head.Codec.TheVariants.{PcmU8, PcmS16le, PcmS24le, PcmS32le};
 ghost use Rattle.ff_pcm.specs.Frames.{rate_of, channels_of, bits_of, codec_of, IsPcmHead, HasBlocks, frame_of};
 ghost use Rattle.ff_pcm.specs.Samples.{depth, sample_at, StandFor};
 
 use crate::values::{number_2, number_3, number_4, signed_16, signed_24, signed_32};
-use ff_values::{AFrame, Codec, Pkt, Samples, StreamHead};
+use ff_frame::{AFrame, Codec, Pkt, Samples, StreamHead};
 use std::alloc::{AllocError, Global};
 
 fn decode_8(bytes: &[u8], samples: &mut [i32])

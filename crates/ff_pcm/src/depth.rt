@@ -2,10 +2,10 @@ ghost use Rattle.std.specs.Prelude.{◌≡◌, ◌≤◌, ◌<◌, ◌-◌, ◌^
 ghost use Rattle.std.specs.Int.{w32};
 ghost use Rattle.std.specs.Int.RustNames.{FitsSigned};
 ghost use Rattle.std.specs.Int.Signed.{shr_z};
-ghost use Rattle.ff_values.specs.Audio.{FitsBits, IsAudio};
+ghost use Rattle.ff_frame.specs.Audio.{FitsBits, IsAudio};
 ghost use Rattle.ff_pcm.specs.Depth.{shifted, at_depth};
 
-use ff_values::{AFrame, Samples};
+use ff_frame::{AFrame, Samples};
 
 // A sample at a lower depth.
 pub(crate) fn lowered(sample: i32, by: u8) -> i32

@@ -1,13 +1,13 @@
 ghost use Rattle.std.specs.Prelude.{◌≡◌, ◌*◌, ◌<◌, ℕ, All, length, IfOk, pos, ◌-ℤ◌, slice_index_or};
-ghost use Rattle.ff_values.specs.Audio.{FitsBits, IsAudio};
-ghost use Rattle.ff_values.specs.Codecs.{IsPcmCodec, sample_bytes};
-ghost use Rattle.ff_values.specs.declared.head.Codec.TheVariants.{PcmU8, PcmS16le, PcmS24le, PcmS32le};
+ghost use Rattle.ff_frame.specs.Audio.{FitsBits, IsAudio};
+ghost use Rattle.ff_frame.specs.Codecs.{IsPcmCodec, sample_bytes};
+ghost use Rattle.ff_frame.specs.declared.head.Codec.TheVariants.{PcmU8, PcmS16le, PcmS24le, PcmS32le};
 ghost use Rattle.ff_pcm.specs.Bytes.{bytes_of};
 ghost use Rattle.ff_pcm.specs.Samples.{sample_at, depth, StandFor};
 
 use crate::decode::size_of_sample;
 use crate::values::{put_2, put_3, put_4, unsigned_16, unsigned_24, unsigned_32};
-use ff_values::{AFrame, Codec};
+use ff_frame::{AFrame, Codec};
 use std::alloc::{AllocError, Global};
 
 fn byte_of(sample: i32) -> u8

@@ -1,11 +1,11 @@
 // What can be decoded, and what can be encoded.
 ghost use Rattle.std.specs.Prelude.{◌≡◌, ◌↔◌, ◌≤◌, ◌<◌, ◌*◌, ℕ, All, length, IsTrue};
-ghost use Rattle.ff_values.specs.Audio.{FitsBits, IsAudio};
+ghost use Rattle.ff_frame.specs.Audio.{FitsBits, IsAudio};
 ghost use Rattle.ff_pcm.specs.Frames.{AreBlocks, IsPcmHead, HasBlocks};
 
 use crate::decode::{audio_of, size_of_sample};
 use crate::depth::lowered;
-use ff_values::{AFrame, Pkt, StreamHead};
+use ff_frame::{AFrame, Pkt, StreamHead};
 
 fn are_blocks(count: usize, block: usize) -> bool
     requires { 0 < block }

@@ -1,11 +1,11 @@
 // What follows of the definitions alone.
 ghost use Rattle.std.specs.Prelude.{◌≡◌, ◌≤◌, ◌<◌, ◌*◌, ℕ, ℤ, List, All, length};
-ghost use Rattle.ff_values.specs.Codecs.{IsPcmCodec, sample_bytes};
-ghost use Rattle.ff_values.specs.declared.audio.AFrame.{AFrame};
-ghost use Rattle.ff_values.specs.declared.head.Codec.{Codec};
-ghost use Rattle.ff_values.specs.declared.head.StreamHead.{StreamHead};
-ghost use Rattle.ff_values.specs.declared.packet.Pkt.{Pkt};
-ghost use Rattle.ff_values.specs.declared.video.VFrame.{VFrame};
+ghost use Rattle.ff_frame.specs.Codecs.{IsPcmCodec, sample_bytes};
+ghost use Rattle.ff_frame.specs.declared.audio.AFrame.{AFrame};
+ghost use Rattle.ff_frame.specs.declared.head.Codec.{Codec};
+ghost use Rattle.ff_frame.specs.declared.head.StreamHead.{StreamHead};
+ghost use Rattle.ff_frame.specs.declared.packet.Pkt.{Pkt};
+ghost use Rattle.ff_frame.specs.declared.video.VFrame.{VFrame};
 ghost use Rattle.ff_pcm.specs.Bytes.{bytes_of};
 ghost use Rattle.ff_pcm.specs.Depth.{at_depth};
 ghost use Rattle.ff_pcm.specs.Raw.{IsFrameIn};

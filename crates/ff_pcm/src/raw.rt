@@ -1,8 +1,8 @@
 ghost use Rattle.std.specs.Prelude.{◌≡◌, IfOk};
-ghost use Rattle.ff_values.specs.Heads.{IsPictureFor};
+ghost use Rattle.ff_frame.specs.Heads.{IsPictureFor};
 ghost use Rattle.ff_pcm.specs.Raw.{HasFrame, IsFrameIn};
 
-use ff_values::{Pkt, StreamHead, VFrame};
+use ff_frame::{Pkt, StreamHead, VFrame};
 use std::alloc::{AllocError, Global};
 
 /// The frame of a packet of raw video: the packet's bytes are its planes, and its times are the packet's. The head is

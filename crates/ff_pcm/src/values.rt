@@ -1,6 +1,6 @@
 // One sample and its bytes.
 ghost use Rattle.std.specs.Prelude.{◌≡◌, ◌+◌, ◌*◌, ◌<◌, ◌≤◌, ◌^◌, ◌⊎◌, ℕ, length, slice_index, pos, ◌-ℤ◌};
-ghost use Rattle.ff_values.specs.Audio.{FitsBits};
+ghost use Rattle.ff_frame.specs.Audio.{FitsBits};
 ghost use Rattle.ff_bits.specs.Integers.{signed};
 ghost use Rattle.ff_pcm.specs.Samples.{number};
 

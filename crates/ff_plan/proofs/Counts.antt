@@ -5,7 +5,7 @@ use Rattle.std.proofs.lemmas.Map.Steps.{length-le_from_distinct_below, le-length
 use Rattle.std.proofs.lemmas.Slice.Eq.{bytes_eq-Decides}
 use Rattle.std.specs.List.{AllByRecursion, IsDistinct, filter, flat_map, list_any, range_with_len}
 use Rattle.std.specs.Str.{bytes_eq}
-use Rattle.ff_edges.specs.Ports.{tally}
+use Rattle.ff_stream.specs.edges.Ports.{tally}
 use Rattle.ff_plan.specs.Layout.{IsAmong}
 use Rattle.ff_plan.specs.Laws.{EachOnce}
 use Rattle.ff_plan.proofs.Among.{never}

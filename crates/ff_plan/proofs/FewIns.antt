@@ -2,11 +2,11 @@
 use Rattle.std.proofs.Common.{◌≡◌, ℕ, ◌+◌, ◌==◌, Bool, true, false, not, List, [], ◌∷◌, ◌++◌, length, Option, Some, None, subst, arith}
 use Rattle.std.specs.Prelude.{Ok}
 use Rattle.std.specs.List.{AllByRecursion, flat_map}
-use Rattle.ff_values.specs.declared.config.ConfigError.TheVariants as config
+use Rattle.ff_frame.specs.declared.config.ConfigError.TheVariants as config
 use Rattle.ff_lang.specs.declared.graph.Graph.{Graph}
 use Rattle.ff_words.specs.declared.job.OutputJob.{OutputJob}
-use Rattle.ff_labels.specs.Labels.{filters_of}
-use Rattle.ff_labels.specs.Names.{twice_in, unknown_filter}
+use Rattle.ff_graph_links.specs.labels.Labels.{filters_of}
+use Rattle.ff_graph_links.specs.labels.Names.{twice_in, unknown_filter}
 use Rattle.ff_plan.specs.declared.layout.InPad.{InPad}
 use Rattle.ff_plan.specs.declared.layout.Origin.{Origin}
 use Rattle.ff_plan.specs.declared.layout.Origin.TheVariants as origin

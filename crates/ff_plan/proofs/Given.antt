@@ -6,13 +6,13 @@ use Rattle.std.specs.Str.{bytes_eq}
 use Rattle.std.proofs.lemmas.Bool.Decides.{nat_tests}
 use Rattle.ff_lang.specs.declared.graph.Filter.{Filter}
 use Rattle.ff_lang.specs.declared.graph.Graph.{Graph}
-use Rattle.ff_edges.specs.Ports.{tally}
-use Rattle.ff_labels.specs.declared.fault.LabelFault.{LabelFault}
-use Rattle.ff_labels.specs.declared.fault.LabelFault.TheVariants as label_fault
-use Rattle.ff_labels.specs.Labels.{is_one_of, filters_of, ins_of, outs_of, taken_in, given_in}
-use Rattle.ff_labels.specs.Names.{or_else, where_so, twice, unknown_label, filter_fault, filters_fault, graphs_fault, all_given, own_fault, twice_in, labels_fault as names_fault}
+use Rattle.ff_stream.specs.edges.Ports.{tally}
+use Rattle.ff_graph_links.specs.declared.labels.fault.LabelFault.{LabelFault}
+use Rattle.ff_graph_links.specs.declared.labels.fault.LabelFault.TheVariants as label_fault
+use Rattle.ff_graph_links.specs.labels.Labels.{is_one_of, filters_of, ins_of, outs_of, taken_in, given_in}
+use Rattle.ff_graph_links.specs.labels.Names.{or_else, where_so, twice, unknown_label, filter_fault, filters_fault, graphs_fault, all_given, own_fault, twice_in, labels_fault as names_fault}
 use Rattle.ff_plan.specs.declared.planned.PlanError.TheVariants as fault
-use Rattle.ff_labels.specs.Clear.{IsClear}
+use Rattle.ff_graph_links.specs.labels.Clear.{IsClear}
 use Rattle.ff_plan.specs.Labels.{giver, refused, refusal_of}
 use Rattle.ff_plan.specs.Planned.{unused_of}
 use Rattle.ff_plan.proofs.Among.{never}

@@ -4,10 +4,10 @@ use Rattle.std.proofs.lemmas.List.{map-append, append-nil}
 use Rattle.std.specs.Prelude.{Ok, nat_lt, slice_get, slice_index_or}
 use Rattle.std.specs.List.{AllByRecursion, flat_map, position_or_len}
 use Rattle.std.proofs.lemmas.Bool.Decides.{nat_tests}
-use Rattle.ff_values.specs.declared.head.StreamHead.{StreamHead}
+use Rattle.ff_frame.specs.declared.head.StreamHead.{StreamHead}
 use Rattle.ff_lang.specs.declared.graph.Graph.{Graph}
 use Rattle.ff_words.specs.declared.job.Job.{Job}
-use Rattle.ff_labels.specs.Order.{ComeInOrder, graph_order, feeds, is_in}
+use Rattle.ff_graph_links.specs.labels.Order.{ComeInOrder, graph_order, feeds, is_in}
 use Rattle.ff_plan.specs.declared.layout.InPad.{InPad}
 use Rattle.ff_plan.specs.declared.layout.Origin.{Origin}
 use Rattle.ff_plan.specs.declared.layout.Origin.TheVariants as origin

@@ -2,9 +2,9 @@
 use Rattle.std.proofs.Common.{◌≡◌, ℕ, zero, suc, ◌+◌, ◌≤◌, inl, inr, ◌==◌, ◌&&◌, Bool, true, false, cond, List, [], ◌∷◌, ◌++◌, map, Option, Some, refl, sym, ap, ◌∙◌, arith}
 use Rattle.std.proofs.lemmas.List.FromFn.{map-range_with_len_more}
 use Rattle.std.specs.List.{position_or_len, AllByRecursion, filter, filter_map, cons_option, range_with_len}
-use Rattle.ff_frame.specs.declared.item.Lane.{Lane}
-use Rattle.ff_edges.specs.declared.edge.Edge.{Edge}
-use Rattle.ff_edges.specs.Ports.{tally, at_ports, edge_to, edge_from, lane_of, lanes_into, lanes_out_of}
+use Rattle.ff_stream.specs.declared.item.Lane.{Lane}
+use Rattle.ff_stream.specs.declared.edges.edge.Edge.{Edge}
+use Rattle.ff_stream.specs.edges.Ports.{tally, at_ports, edge_to, edge_from, lane_of, lanes_into, lanes_out_of}
 use Rattle.ff_plan.specs.Wires.{Wire, leaves_node, enters_node, edge_behind, edges_behind, edges_of}
 use Rattle.ff_plan.specs.Laws.{IsNextOf}
 use Rattle.ff_plan.proofs.Numbered.{Numbered, hit, miss, tally_hit, tally_miss, both, other_port, other_key, ins_numbered, outs_numbered}

@@ -2,12 +2,12 @@
 use Rattle.std.proofs.Common.{◌≡◌, ℕ, zero, suc, ◌+◌, ◌<◌, ◌≤◌, ◌⊎◌, inl, inr, ◌==◌, Bool, true, false, cond, List, [], ◌∷◌, ◌++◌, map, length, refl, sym, ap, ◌∙◌, subst, arith}
 use Rattle.std.specs.Prelude.{None}
 use Rattle.ff_plan.specs.Wires.{edges_of}
-use Rattle.ff_edges.specs.Ports.{shape_of, IsFed}
+use Rattle.ff_stream.specs.edges.Ports.{shape_of, IsFed}
 use Rattle.ff_plan.proofs.Numbered.{has_ins, has_outs}
 use Rattle.ff_plan.proofs.Upward.{go_upward, is_fed}
 use Rattle.std.specs.List.{position_or_len, AllByRecursion, flat_map, list_any, range_with_len}
 use Rattle.std.proofs.lemmas.Bool.Decides.{nat_tests}
-use Rattle.ff_values.specs.declared.head.StreamHead.{StreamHead}
+use Rattle.ff_frame.specs.declared.head.StreamHead.{StreamHead}
 use Rattle.ff_map.specs.declared.streams.StreamRef.{StreamRef}
 use Rattle.ff_map.specs.declared.streams.Stream.{Stream}
 use Rattle.ff_map.specs.Choice.{numbered, streams_from, all_streams}
@@ -20,7 +20,7 @@ use Rattle.ff_plan.specs.Layout.{IsAmong, Laid, Layout, same_ref, place_row, pla
 use Rattle.ff_plan.specs.Nodes.{before_decs, before_graphs, before_shortests, node_count, shortests, output_numbers, demux_at, dec_at, graph_at, origin_at, origin_port, nodes_of, demux_wire, pad_wire, pad_wires, shortest_wire, enc_wire, mux_wire, shortest_wires, wires_of}
 use Rattle.ff_plan.specs.declared.planned.PlanNode.TheVariants as node
 use Rattle.ff_plan.specs.Laws.{IsThere, IsLaid, IsUp, IsNextOf, IsNoGraph, GraphsHaveOuts}
-use Rattle.ff_edges.specs.Ports.{HasOuts}
+use Rattle.ff_stream.specs.edges.Ports.{HasOuts}
 use Rattle.ff_plan.proofs.Among.{all_joined, all_map, all_flat, any_among, place_among, kept_among, was_among, among_left, among_right, among_either, among_map, among_flat, in_range}
 
 pub same_self : (s : StreamRef) → same_ref s s ≡ true

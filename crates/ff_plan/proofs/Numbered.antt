@@ -2,11 +2,11 @@
 use Rattle.std.proofs.Common.{◌≡◌, ℕ, zero, suc, ◌+◌, ◌<◌, ◌≤◌, ◌⊎◌, inl, inr, ◌==◌, ◌&&◌, Bool, true, false, not, cond, List, [], ◌∷◌, length, slice_index_or, Option, refl, ap, ◌∙◌, subst, arith}
 use Rattle.std.specs.List.{position_or_len, AllByRecursion}
 use Rattle.std.proofs.lemmas.Bool.Decides.{nat_tests}
-use Rattle.ff_edges.specs.declared.edge.Edge.{Edge}
+use Rattle.ff_stream.specs.declared.edges.edge.Edge.{Edge}
 use Rattle.ff_plan.specs.Wires.{Wire, leaves_node, enters_node, port_or, edge_behind, edges_behind, edges_of}
-use Rattle.ff_edges.specs.Ports.{tally}
+use Rattle.ff_stream.specs.edges.Ports.{tally}
 use Rattle.ff_plan.specs.Laws.{IsNextOf}
-use Rattle.ff_edges.specs.Ports.{EachPort, HasIns, HasOuts}
+use Rattle.ff_stream.specs.edges.Ports.{EachPort, HasIns, HasOuts}
 
 pub hit : {A : Type 0} (p : A → Bool) (x : A) (xs : List A) → p x ≡ true → position_or_len p (x ∷ xs) ≡ 0
 hit p x xs e = ap (λ (b : Bool). cond (not b) (1 + position_or_len p xs) 0) e

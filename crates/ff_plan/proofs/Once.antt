@@ -5,22 +5,22 @@ use Rattle.std.specs.Prelude.{slice_get, slice_index_or, is_some}
 use Rattle.std.specs.List.{AllByRecursion, filter, find, flat_map, range_with_len}
 use Rattle.std.specs.Str.{bytes_eq}
 use Rattle.std.proofs.lemmas.Bool.Decides.{nat_tests}
-use Rattle.ff_values.specs.declared.head.StreamHead.{StreamHead}
+use Rattle.ff_frame.specs.declared.head.StreamHead.{StreamHead}
 use Rattle.ff_lang.specs.declared.graph.Graph.{Graph}
 use Rattle.ff_words.specs.declared.job.Job.{Job}
 use Rattle.ff_words.specs.declared.job.OutputJob.{OutputJob}
 use Rattle.ff_map.specs.declared.map.MapFrom.{MapFrom}
 use Rattle.ff_map.specs.declared.map.MapFrom.TheVariants as from
 use Rattle.ff_map.specs.declared.map.MapSpec.{MapSpec}
-use Rattle.ff_edges.specs.Ports.{tally}
-use Rattle.ff_labels.specs.Labels.{is_one_of, meet, taken_in, given_in}
-use Rattle.ff_labels.specs.Names.{labels_fault as names_fault}
-use Rattle.ff_labels.specs.Order.{ComeInOrder, HasNoLoop, comes_behind, below, on_loop, graph_order, feeds, gives_to, is_in}
+use Rattle.ff_stream.specs.edges.Ports.{tally}
+use Rattle.ff_graph_links.specs.labels.Labels.{is_one_of, meet, taken_in, given_in}
+use Rattle.ff_graph_links.specs.labels.Names.{labels_fault as names_fault}
+use Rattle.ff_graph_links.specs.labels.Order.{ComeInOrder, HasNoLoop, comes_behind, below, on_loop, graph_order, feeds, gives_to, is_in}
 use Rattle.ff_plan.specs.declared.layout.InPad.{InPad}
 use Rattle.ff_plan.specs.declared.layout.Origin.{Origin}
 use Rattle.ff_plan.specs.declared.layout.OutStream.{OutStream}
 use Rattle.ff_plan.specs.declared.layout.Placed.{Placed}
-use Rattle.ff_labels.specs.Clear.{IsClear}
+use Rattle.ff_graph_links.specs.labels.Clear.{IsClear}
 use Rattle.ff_plan.specs.Graphs.{AreRules, IsHad, open_taken, open_given, asks}
 use Rattle.ff_plan.specs.Labels.{giver, stream_of_label, taken_labels}
 use Rattle.ff_plan.specs.Layout.{IsAmong, Laid, Layout, place_row, place_from}

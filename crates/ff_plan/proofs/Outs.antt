@@ -3,8 +3,8 @@ use Rattle.std.proofs.Common.{◌≡◌, ◌⊎◌, inl, inr, ℕ, ◌+◌, ◌<
 use Rattle.std.specs.Prelude.{Ok, Err, Result, nat_lt}
 use Rattle.std.specs.List.{AllByRecursion, filter, flat_map, list_any, cons_option, position_or_len}
 use Rattle.std.proofs.lemmas.Bool.Decides.{nat_tests}
-use Rattle.ff_values.specs.declared.head.StreamHead.{StreamHead}
-use Rattle.ff_values.specs.declared.config.ConfigError.TheVariants as config
+use Rattle.ff_frame.specs.declared.head.StreamHead.{StreamHead}
+use Rattle.ff_frame.specs.declared.config.ConfigError.TheVariants as config
 use Rattle.ff_lang.specs.declared.graph.Graph.{Graph}
 use Rattle.ff_map.specs.declared.map.Kind.TheVariants as kind
 use Rattle.ff_map.specs.declared.map.MapFrom.{MapFrom}
@@ -14,15 +14,15 @@ use Rattle.ff_map.specs.declared.streams.Stream.{Stream}
 use Rattle.ff_map.specs.declared.streams.StreamRef.{StreamRef}
 use Rattle.ff_map.specs.Choice.{all_streams, selected}
 use Rattle.ff_words.specs.declared.job.OutputJob.{OutputJob}
-use Rattle.ff_labels.specs.Labels.{is_one_of, filters_of, given_in}
-use Rattle.ff_labels.specs.Names.{twice_in, unknown_filter}
+use Rattle.ff_graph_links.specs.labels.Labels.{is_one_of, filters_of, given_in}
+use Rattle.ff_graph_links.specs.labels.Names.{twice_in, unknown_filter}
 use Rattle.ff_plan.specs.declared.layout.InPad.{InPad}
 use Rattle.ff_plan.specs.declared.layout.Origin.{Origin}
 use Rattle.ff_plan.specs.declared.layout.Origin.TheVariants as origin
 use Rattle.ff_plan.specs.declared.planned.PlanError.{PlanError}
 use Rattle.ff_plan.specs.declared.planned.PlanError.TheVariants as fault
 use Rattle.ff_plan.specs.Choice.{kind_of, known, best}
-use Rattle.ff_labels.specs.Clear.{IsClear}
+use Rattle.ff_graph_links.specs.labels.Clear.{IsClear}
 use Rattle.ff_plan.specs.Labels.{refused, is_given, giver}
 use Rattle.ff_plan.specs.Layout.{IsAmong}
 use Rattle.ff_plan.specs.Pads.{made_at, labelled_out}

@@ -4,14 +4,14 @@ use Rattle.std.proofs.lemmas.List.{append-nil}
 use Rattle.std.specs.Prelude.{slice_get, replicate, Ok}
 use Rattle.std.specs.List.{AllByRecursion, filter, flat_map, list_any, position_or_len, range_with_len}
 use Rattle.std.proofs.lemmas.Bool.Decides.{nat_tests}
-use Rattle.ff_edges.specs.Ports.{lanes_out_of, tally}
-use Rattle.ff_frame.specs.declared.item.Lane.{Lane}
-use Rattle.ff_frame.specs.declared.item.Lane.TheVariants.{Frames, Packets}
-use Rattle.ff_labels.specs.Order.{ComeInOrder, HasNoLoop, graph_order, feeds, is_in}
+use Rattle.ff_stream.specs.edges.Ports.{lanes_out_of, tally}
+use Rattle.ff_stream.specs.declared.item.Lane.{Lane}
+use Rattle.ff_stream.specs.declared.item.Lane.TheVariants.{Frames, Packets}
+use Rattle.ff_graph_links.specs.labels.Order.{ComeInOrder, HasNoLoop, graph_order, feeds, is_in}
 use Rattle.ff_map.specs.declared.streams.Stream.{Stream}
 use Rattle.ff_map.specs.declared.streams.StreamRef.{StreamRef}
 use Rattle.ff_map.specs.Choice.{numbered, streams_from, all_streams}
-use Rattle.ff_values.specs.declared.head.StreamHead.{StreamHead}
+use Rattle.ff_frame.specs.declared.head.StreamHead.{StreamHead}
 use Rattle.ff_words.specs.declared.job.Job.{Job}
 use Rattle.ff_plan.specs.declared.layout.InPad.{InPad}
 use Rattle.ff_plan.specs.declared.layout.Origin.{Origin}

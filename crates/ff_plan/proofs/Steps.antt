@@ -1,9 +1,9 @@
 -- What the code that numbers ports keeps.
 use Rattle.std.proofs.Common.{◌≡◌, ℕ, zero, suc, ◌+◌, ◌<◌, ◌==◌, Bool, true, false, cond, List, [], ◌∷◌, ◌++◌, take, length, slice_index_or, refl, ap, ◌∙◌, arith}
 use Rattle.std.proofs.lemmas.Bool.Decides.{nat_tests}
-use Rattle.ff_edges.specs.declared.edge.Edge.{Edge}
+use Rattle.ff_stream.specs.declared.edges.edge.Edge.{Edge}
 use Rattle.ff_plan.specs.Wires.{Wire, leaves_node, enters_node, port_or, edge_behind, edges_behind, edges_of}
-use Rattle.ff_edges.specs.Ports.{tally}
+use Rattle.ff_stream.specs.edges.Ports.{tally}
 
 -- one more element
 pub take_next : {A : Type 0} (xs : List A) (n : ℕ) (d : A) → n < length xs → take (n + 1) xs ≡ take n xs ++ slice_index_or xs n d ∷ []

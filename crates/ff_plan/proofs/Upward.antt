@@ -2,11 +2,11 @@
 use Rattle.std.proofs.Common.{◌≡◌, ℕ, zero, suc, ◌+◌, ◌<◌, Bool, true, false, List, [], ◌∷◌, length, slice_index_or, refl, sym, ap, ◌∙◌, subst, arith}
 use Rattle.std.specs.List.{position_or_len, AllByRecursion}
 use Rattle.std.proofs.lemmas.Bool.Decides.{nat_tests}
-use Rattle.ff_edges.specs.declared.edge.Edge.{Edge}
+use Rattle.ff_stream.specs.declared.edges.edge.Edge.{Edge}
 use Rattle.ff_plan.specs.Wires.{Wire, edges_behind, edges_of}
-use Rattle.ff_edges.specs.Ports.{leads_to, edge_to, shape_of, IsFed}
+use Rattle.ff_stream.specs.edges.Ports.{leads_to, edge_to, shape_of, IsFed}
 use Rattle.ff_plan.specs.Laws.{GoUpward, IsUp}
-use Rattle.ff_edges.specs.Ports.{HasIns, HasOuts}
+use Rattle.ff_stream.specs.edges.Ports.{HasIns, HasOuts}
 use Rattle.ff_plan.proofs.Numbered.{hit, miss}
 
 -- the element at the first place that passes does pass

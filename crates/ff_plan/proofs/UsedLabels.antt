@@ -7,7 +7,7 @@ use Rattle.std.specs.Str.{bytes_eq}
 use Rattle.ff_words.specs.declared.job.OutputJob.{OutputJob}
 use Rattle.ff_lang.specs.declared.graph.Graph.{Graph}
 use Rattle.ff_map.specs.declared.map.MapSpec.{MapSpec}
-use Rattle.ff_labels.specs.Labels.{is_one_of}
+use Rattle.ff_graph_links.specs.labels.Labels.{is_one_of}
 use Rattle.ff_plan.specs.Labels.{taken_labels}
 use Rattle.ff_plan.specs.Planned.{labels_of}
 use Rattle.ff_plan.specs.Picking.{labels_before, labels_of_map, used_before, used_by}

@@ -2,8 +2,8 @@
 -- of their kind, is said in ff_map.
 use Rattle.std.specs.Prelude.{nat_lt, Bool, true, false, cond, if◌then◌else◌, List, [], ◌∷◌, ◌++◌, Option, Some, None, slice_get, unwrap_or, option_to_list}
 use Rattle.std.specs.List.{filter_map}
-use Rattle.ff_values.specs.declared.head.StreamHead.{StreamHead}
-use Rattle.ff_values.specs.declared.head.StreamHead.TheVariants as stream_head
+use Rattle.ff_frame.specs.declared.head.StreamHead.{StreamHead}
+use Rattle.ff_frame.specs.declared.head.StreamHead.TheVariants as stream_head
 use Rattle.ff_map.specs.declared.map.Kind.{Kind}
 use Rattle.ff_map.specs.declared.map.Kind.TheVariants as kind
 use Rattle.ff_map.specs.declared.streams.Stream.{Stream}

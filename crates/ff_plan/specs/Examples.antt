@@ -3,12 +3,12 @@ use Rattle.std.specs.Prelude.{ℕ, Bool, true, false, List, [], ◌∷◌, codes
 use Rattle.std.specs.Str.{bytes_eq}
 use Rattle.ff_time.specs.Fraction.{Fraction}
 use Rattle.ff_time.specs.declared.cut.TimeCut.{TimeCut}
-use Rattle.ff_values.specs.declared.hash.HashKind.TheVariants as hash
-use Rattle.ff_values.specs.declared.head.Codec.TheVariants as codec
-use Rattle.ff_values.specs.declared.head.StreamHead.{StreamHead}
-use Rattle.ff_values.specs.declared.head.StreamHead.TheVariants as stream_head
-use Rattle.ff_values.specs.declared.video.Format.TheVariants as picture
-use Rattle.ff_frame.specs.declared.item.Lane.TheVariants.{Frames, Packets}
+use Rattle.ff_frame.specs.declared.hash.HashKind.TheVariants as hash
+use Rattle.ff_frame.specs.declared.head.Codec.TheVariants as codec
+use Rattle.ff_frame.specs.declared.head.StreamHead.{StreamHead}
+use Rattle.ff_frame.specs.declared.head.StreamHead.TheVariants as stream_head
+use Rattle.ff_frame.specs.declared.video.Format.TheVariants as picture
+use Rattle.ff_stream.specs.declared.item.Lane.TheVariants.{Frames, Packets}
 use Rattle.ff_lang.specs.declared.graph.Graph.{Graph}
 use Rattle.ff_words.specs.declared.job.FileFormat.{FileFormat}
 use Rattle.ff_words.specs.declared.job.Job.{Job}
@@ -18,12 +18,12 @@ use Rattle.ff_map.specs.declared.map.MapFrom.TheVariants as from
 use Rattle.ff_map.specs.declared.map.MapSpec.{MapSpec}
 use Rattle.ff_words.specs.declared.job.OutputJob.{OutputJob}
 use Rattle.ff_map.specs.declared.map.Pick.TheVariants as pick
-use Rattle.ff_edges.specs.declared.edge.Edge.{Edge}
+use Rattle.ff_stream.specs.declared.edges.edge.Edge.{Edge}
 use Rattle.ff_plan.specs.declared.planned.Plan.{Plan}
 use Rattle.ff_plan.specs.declared.planned.PlanNode.TheVariants as node
 use Rattle.ff_plan.specs.Texts.{Complex, Null}
 use Rattle.ff_sched.specs.declared.routes.Way.TheVariants as way
-use Rattle.ff_labels.specs.Labels.{taken_in, given_in}
+use Rattle.ff_graph_links.specs.labels.Labels.{taken_in, given_in}
 use Rattle.ff_plan.specs.Rules.{Rules}
 use Rattle.ff_plan.specs.Streams.{most_streams}
 

@@ -1,14 +1,14 @@
 -- What stands at the ports of the nodes of graphs, of any plan.
 use Rattle.std.specs.Prelude.{◌≡◌, ℕ, false, List, length, map, slice_get, Some, Ok}
-use Rattle.ff_edges.specs.declared.edge.Edge.{Edge}
-use Rattle.ff_edges.specs.Ports.{lanes_into, lanes_out_of}
-use Rattle.ff_frame.specs.declared.item.Lane.TheVariants.{Frames}
+use Rattle.ff_stream.specs.declared.edges.edge.Edge.{Edge}
+use Rattle.ff_stream.specs.edges.Ports.{lanes_into, lanes_out_of}
+use Rattle.ff_stream.specs.declared.item.Lane.TheVariants.{Frames}
 use Rattle.ff_lang.specs.declared.graph.Graph.{Graph}
-use Rattle.ff_values.specs.declared.head.StreamHead.{StreamHead}
+use Rattle.ff_frame.specs.declared.head.StreamHead.{StreamHead}
 use Rattle.ff_words.specs.declared.job.Job.{Job}
 use Rattle.ff_plan.specs.declared.planned.Plan.{Plan}
 use Rattle.ff_plan.specs.declared.planned.PlanNode.TheVariants as node
-use Rattle.ff_labels.specs.Clear.{IsClear}
+use Rattle.ff_graph_links.specs.labels.Clear.{IsClear}
 use Rattle.ff_plan.specs.Rules.{Rules, OpenOut}
 use Rattle.ff_plan.specs.Texts.{GraphText, graph_text}
 

@@ -2,11 +2,11 @@
 use Rattle.std.specs.Prelude.{◌≡◌, ℕ, Bool, true, false, not, List, length, Option, Some, None, Ok, IsSome}
 use Rattle.std.specs.List.{AllByRecursion, filter}
 use Rattle.std.specs.Str.{bytes_eq}
-use Rattle.ff_values.specs.declared.head.StreamHead.{StreamHead}
+use Rattle.ff_frame.specs.declared.head.StreamHead.{StreamHead}
 use Rattle.ff_lang.specs.declared.graph.Graph.{Graph}
-use Rattle.ff_edges.specs.Ports.{tally}
-use Rattle.ff_labels.specs.Clear.{IsClear}
-use Rattle.ff_labels.specs.Labels.{is_one_of, taken_in, given_in}
+use Rattle.ff_stream.specs.edges.Ports.{tally}
+use Rattle.ff_graph_links.specs.labels.Clear.{IsClear}
+use Rattle.ff_graph_links.specs.labels.Labels.{is_one_of, taken_in, given_in}
 use Rattle.ff_plan.specs.Pads.{has_label}
 use Rattle.ff_plan.specs.Rules.{Rules, OpenIn, OpenOut}
 

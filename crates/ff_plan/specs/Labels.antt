@@ -1,21 +1,21 @@
 -- Labels of complex graphs: who gives one, who takes it, and the first refusals.
 use Rattle.std.specs.Prelude.{ℕ, Bool, true, false, List, [], ◌∷◌, Option, Some, None, is_some}
 use Rattle.std.specs.List.{flat_map, position}
-use Rattle.ff_values.specs.declared.head.StreamHead.{StreamHead}
+use Rattle.ff_frame.specs.declared.head.StreamHead.{StreamHead}
 use Rattle.ff_lang.specs.declared.graph.Graph.{Graph}
 use Rattle.ff_map.specs.declared.map.MapFrom.{MapFrom}
 use Rattle.ff_map.specs.declared.map.MapFrom.TheVariants as from
 use Rattle.ff_map.specs.declared.map.MapSpec.{MapSpec}
-use Rattle.ff_values.specs.declared.config.ConfigError.TheVariants as config
+use Rattle.ff_frame.specs.declared.config.ConfigError.TheVariants as config
 use Rattle.ff_plan.specs.declared.planned.PlanError.{PlanError}
 use Rattle.ff_plan.specs.declared.planned.PlanError.TheVariants as fault
 use Rattle.ff_map.specs.declared.streams.Stream.{Stream}
 use Rattle.ff_map.specs.Choice.{selected}
 use Rattle.ff_plan.specs.Choice.{known}
-use Rattle.ff_labels.specs.declared.fault.LabelFault.{LabelFault}
-use Rattle.ff_labels.specs.declared.fault.LabelFault.TheVariants as label_fault
-use Rattle.ff_labels.specs.Labels.{is_one_of, taken_in, given_in}
-use Rattle.ff_labels.specs.Names.{labels_fault as names_fault}
+use Rattle.ff_graph_links.specs.declared.labels.fault.LabelFault.{LabelFault}
+use Rattle.ff_graph_links.specs.declared.labels.fault.LabelFault.TheVariants as label_fault
+use Rattle.ff_graph_links.specs.labels.Labels.{is_one_of, taken_in, given_in}
+use Rattle.ff_graph_links.specs.labels.Names.{labels_fault as names_fault}
 use Rattle.ff_plan.specs.Rules.{Rules}
 
 -- the graph that gives a label

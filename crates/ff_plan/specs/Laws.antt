@@ -1,7 +1,7 @@
 -- What holds of the edges of every plan.
 use Rattle.std.specs.Prelude.{◌≡◌, ◌⊎◌, ℕ, ◌<◌, ◌≤◌, ◌==◌, cond, List, [], ◌∷◌, length, slice_index_or, Some, None}
 use Rattle.std.specs.List.{position_or_len, cons_option, IsDistinct}
-use Rattle.ff_edges.specs.declared.edge.Edge.{Edge}
+use Rattle.ff_stream.specs.declared.edges.edge.Edge.{Edge}
 use Rattle.ff_map.specs.declared.streams.Stream.{Stream}
 use Rattle.ff_map.specs.Choice.{all_streams}
 use Rattle.ff_plan.specs.declared.layout.Origin.{Origin}
@@ -11,7 +11,7 @@ use Rattle.ff_plan.specs.declared.layout.Placed.{Placed}
 use Rattle.ff_plan.specs.Layout.{IsAmong, Laid, Layout, placed}
 use Rattle.ff_plan.specs.Nodes.{before_graphs, before_shortests, wires_of}
 use Rattle.ff_plan.specs.Wires.{Wire, edges_of}
-use Rattle.ff_edges.specs.Ports.{HasOuts}
+use Rattle.ff_stream.specs.edges.Ports.{HasOuts}
 
 -- each edge goes upward, to a node that is there
 pub record GoUpward (count : ℕ) (edges : List Edge) : Type 0 where

@@ -1,7 +1,7 @@
 -- Numbers of nodes, and the wires between them.
 use Rattle.std.specs.Prelude.{ℕ, ◌+◌, ◌==◌, Bool, true, false, not, cond, List, [], ◌++◌, length, map, Option, Some, None}
 use Rattle.std.specs.List.{filter, flat_map, find, position_or_len, range_with_len}
-use Rattle.ff_frame.specs.declared.item.Lane.TheVariants.{Frames, Packets}
+use Rattle.ff_stream.specs.declared.item.Lane.TheVariants.{Frames, Packets}
 use Rattle.ff_map.specs.declared.streams.StreamRef.{StreamRef}
 use Rattle.ff_plan.specs.declared.planned.Plan.{Plan}
 use Rattle.ff_plan.specs.declared.planned.PlanNode.{PlanNode}

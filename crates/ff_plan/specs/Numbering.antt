@@ -1,8 +1,8 @@
 -- The nodes and wires of rows of inputs, streams, graphs and outputs' streams, by the number of the first node of each kind.
 use Rattle.std.specs.Prelude.{ℕ, ◌+◌, ◌^◌, ◌≤◌, ◌==◌, Bool, true, false, cond, List, ◌++◌, length, map, Option, None}
 use Rattle.std.specs.List.{filter, find, flat_map, list_any, position_or_len, range_with_len}
-use Rattle.ff_frame.specs.declared.item.Lane.{Lane}
-use Rattle.ff_frame.specs.declared.item.Lane.TheVariants.{Frames, Packets}
+use Rattle.ff_stream.specs.declared.item.Lane.{Lane}
+use Rattle.ff_stream.specs.declared.item.Lane.TheVariants.{Frames, Packets}
 use Rattle.ff_map.specs.declared.streams.Stream.{Stream}
 use Rattle.ff_map.specs.declared.streams.StreamRef.{StreamRef}
 use Rattle.ff_plan.specs.declared.layout.InPad.{InPad}
@@ -19,7 +19,7 @@ use Rattle.ff_plan.specs.declared.numbering.Drawing.{Drawing}
 use Rattle.ff_plan.specs.declared.planned.GraphText.{GraphText}
 use Rattle.ff_plan.specs.declared.planned.Plan.{Plan}
 use Rattle.ff_sched.specs.declared.routes.Routes.{Routes}
-use Rattle.ff_values.specs.declared.head.StreamHead.{StreamHead}
+use Rattle.ff_frame.specs.declared.head.StreamHead.{StreamHead}
 use Rattle.ff_map.specs.Choice.{all_streams}
 use Rattle.ff_plan.specs.Layout.{same_ref, shows}
 use Rattle.ff_plan.specs.Nodes.{origin_port, way_to, ways_in}

@@ -1,7 +1,7 @@
 -- The numbers of output streams, which count over all outputs.
 use Rattle.std.specs.Prelude.{ℕ, ◌-◌, ◌≤◌, ◌&&◌, nat_le, nat_lt, Bool, List, length}
-use Rattle.ff_edges.specs.declared.edge.Edge.{Edge}
-use Rattle.ff_edges.specs.Ports.{tally}
+use Rattle.ff_stream.specs.declared.edges.edge.Edge.{Edge}
+use Rattle.ff_stream.specs.edges.Ports.{tally}
 use Rattle.ff_plan.specs.declared.planned.Plan.{Plan}
 
 -- the edge leads to a node from this number on, before that one

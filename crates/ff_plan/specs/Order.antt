@@ -1,8 +1,8 @@
--- The loops of complex graphs. Which feed which, and their order, is said in ff_labels.
+-- The loops of complex graphs. Which feed which, and their order, is said in ff_graph_links.
 use Rattle.std.specs.Prelude.{ℕ, List, length, map, Option, Some, None}
 use Rattle.std.specs.List.{range_with_len}
 use Rattle.ff_lang.specs.declared.graph.Graph.{Graph}
-use Rattle.ff_labels.specs.Order.{on_loop}
+use Rattle.ff_graph_links.specs.labels.Order.{on_loop}
 use Rattle.ff_plan.specs.declared.planned.PlanError.{PlanError}
 use Rattle.ff_plan.specs.declared.planned.PlanError.TheVariants as fault
 use Rattle.ff_plan.specs.Rules.{Rules}

@@ -2,7 +2,7 @@
 use Rattle.std.specs.Prelude.{ℕ, suc, ◌==◌, ◌&&◌, ◌||◌, Bool, false, not, List, [], ◌∷◌, ◌++◌, map, slice_get, slice_index_or, Option, Some, None, Result, Ok, Err}
 use Rattle.std.specs.List.{find, filter_map, flat_map, position_or_len, cons_option}
 use Rattle.std.specs.Str.{bytes_eq}
-use Rattle.ff_values.specs.declared.head.StreamHead.{StreamHead}
+use Rattle.ff_frame.specs.declared.head.StreamHead.{StreamHead}
 use Rattle.ff_lang.specs.declared.graph.Graph.{Graph}
 use Rattle.ff_map.specs.declared.map.Kind.{Kind}
 use Rattle.ff_plan.specs.declared.planned.PlanError.TheVariants as fault
@@ -15,7 +15,7 @@ pub use Rattle.ff_plan.specs.declared.layout.Want.{Want}
 use Rattle.ff_plan.specs.declared.layout.Want.TheVariants.{KnownStream, Labelled, Nothing}
 use Rattle.ff_plan.specs.declared.layout.Origin.TheVariants as origin
 use Rattle.ff_plan.specs.Layout.{same_ref}
-use Rattle.ff_labels.specs.Order.{graph_order}
+use Rattle.ff_graph_links.specs.labels.Order.{graph_order}
 use Rattle.ff_plan.specs.Rules.{Rules, OpenIn, OpenOut, Refused, Planned, behind}
 
 abbrev pub known_or_nothing : Option Stream → Want

@@ -1,12 +1,12 @@
 -- Words for the code that takes streams through simple graphs, and for the limits of plans.
 use Rattle.std.specs.Prelude.{ℕ, ◌+◌, ◌==◌, nat_lt, not, List, [], length, map, Option}
 use Rattle.std.specs.List.{flat_map}
-use Rattle.ff_values.specs.declared.config.ConfigError.TheVariants as config
-use Rattle.ff_values.specs.declared.head.StreamHead.{StreamHead}
+use Rattle.ff_frame.specs.declared.config.ConfigError.TheVariants as config
+use Rattle.ff_frame.specs.declared.head.StreamHead.{StreamHead}
 use Rattle.ff_lang.specs.declared.graph.Graph.{Graph}
 use Rattle.ff_words.specs.declared.job.OutputJob.{OutputJob}
-use Rattle.ff_labels.specs.Labels.{filters_of}
-use Rattle.ff_labels.specs.Names.{twice_in, unknown_filter}
+use Rattle.ff_graph_links.specs.labels.Labels.{filters_of}
+use Rattle.ff_graph_links.specs.labels.Names.{twice_in, unknown_filter}
 use Rattle.ff_plan.specs.declared.layout.OutStream.{OutStream}
 use Rattle.ff_plan.specs.declared.planned.PlanError.{PlanError}
 use Rattle.ff_plan.specs.declared.planned.PlanError.TheVariants as fault

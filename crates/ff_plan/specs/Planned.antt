@@ -1,13 +1,13 @@
 -- The plan of a job and the heads of its inputs, or the refusal that comes first.
 use Rattle.std.specs.Prelude.{ℕ, ◌+◌, nat_lt, not, List, [], ◌∷◌, ◌++◌, length, map, Option, Some, None, Ok}
 use Rattle.std.specs.List.{find, flat_map}
-use Rattle.ff_values.specs.declared.head.StreamHead.{StreamHead}
+use Rattle.ff_frame.specs.declared.head.StreamHead.{StreamHead}
 use Rattle.ff_words.specs.declared.job.Job.{Job}
 use Rattle.ff_words.specs.declared.job.OutputJob.{OutputJob}
 use Rattle.ff_plan.specs.declared.planned.Plan.{Plan}
 use Rattle.ff_plan.specs.declared.planned.PlanError.{PlanError}
 use Rattle.ff_plan.specs.declared.planned.PlanError.TheVariants as fault
-use Rattle.ff_labels.specs.Labels.{is_one_of, given_in}
+use Rattle.ff_graph_links.specs.labels.Labels.{is_one_of, given_in}
 use Rattle.ff_plan.specs.Labels.{taken_labels, labels_fault}
 use Rattle.ff_plan.specs.declared.layout.InPad.{InPad}
 use Rattle.ff_plan.specs.Layout.{Layout}

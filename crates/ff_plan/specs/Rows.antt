@@ -3,7 +3,7 @@ use Rattle.std.specs.Prelude.{Bool, List, map}
 use Rattle.std.specs.List.{flat_map}
 use Rattle.std.specs.declared.alloc.Global.{Global}
 use Rattle.std.specs.declared.vec.Vec.{Vec}
-use Rattle.ff_values.specs.declared.head.StreamHead.{StreamHead}
+use Rattle.ff_frame.specs.declared.head.StreamHead.{StreamHead}
 use Rattle.ff_plan.specs.declared.layout.Laying.{Laying}
 use Rattle.ff_plan.specs.declared.layout.OutStream.{OutStream}
 use Rattle.ff_plan.specs.Layout.{Layout}

@@ -2,10 +2,10 @@
 use Rattle.std.specs.Prelude.{ℕ, ◌+◌, ◌==◌, ◌&&◌, ◌||◌, nat_le, nat_lt, Bool, true, false, not, if◌then◌else◌, List, [], ◌∷◌, ◌++◌, codes, length, map, Option}
 use Rattle.std.specs.Prelude.{Some, None, Result, Ok, Err}
 use Rattle.std.specs.List.{filter, list_any, cons_option}
-use Rattle.ff_values.specs.declared.head.Codec.{Codec}
-use Rattle.ff_values.specs.declared.head.Codec.TheVariants as codec
-use Rattle.ff_values.specs.declared.head.StreamHead.{StreamHead}
-use Rattle.ff_values.specs.declared.head.StreamHead.TheVariants as stream_head
+use Rattle.ff_frame.specs.declared.head.Codec.{Codec}
+use Rattle.ff_frame.specs.declared.head.Codec.TheVariants as codec
+use Rattle.ff_frame.specs.declared.head.StreamHead.{StreamHead}
+use Rattle.ff_frame.specs.declared.head.StreamHead.TheVariants as stream_head
 use Rattle.ff_lang.specs.declared.graph.Graph.{Graph}
 use Rattle.ff_words.specs.declared.job.FileFormat.{FileFormat}
 use Rattle.ff_words.specs.declared.job.FileFormat.TheVariants as format
@@ -15,13 +15,13 @@ use Rattle.ff_map.specs.declared.map.MapFrom.{MapFrom}
 use Rattle.ff_map.specs.declared.map.MapFrom.TheVariants as from
 use Rattle.ff_map.specs.declared.map.MapSpec.{MapSpec}
 use Rattle.ff_words.specs.declared.job.OutputJob.{OutputJob}
-use Rattle.ff_values.specs.declared.config.ConfigError.TheVariants as config
+use Rattle.ff_frame.specs.declared.config.ConfigError.TheVariants as config
 use Rattle.ff_plan.specs.declared.planned.PlanError.TheVariants as fault
 use Rattle.ff_map.specs.declared.streams.Stream.{Stream}
 use Rattle.ff_map.specs.Choice.{has_kind, selected}
 use Rattle.ff_plan.specs.Choice.{kind_of, same_kind, known, best}
-use Rattle.ff_labels.specs.Labels.{is_one_of, filters_of}
-use Rattle.ff_labels.specs.Names.{twice_in, unknown_filter}
+use Rattle.ff_graph_links.specs.labels.Labels.{is_one_of, filters_of}
+use Rattle.ff_graph_links.specs.labels.Names.{twice_in, unknown_filter}
 use Rattle.ff_plan.specs.Labels.{is_given, giver, refused}
 use Rattle.ff_plan.specs.declared.layout.Origin.{Origin}
 use Rattle.ff_plan.specs.declared.layout.Origin.TheVariants as origin

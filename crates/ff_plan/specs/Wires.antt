@@ -1,8 +1,8 @@
 -- Edges out of wires: a port that isn't named is the next one of its node.
 use Rattle.std.specs.Prelude.{ℕ, ◌==◌, Bool, List, [], ◌∷◌, Option, Some, None}
 pub use Rattle.ff_plan.specs.declared.number.Wire.{Wire}
-use Rattle.ff_edges.specs.declared.edge.Edge.{Edge}
-use Rattle.ff_edges.specs.Ports.{tally}
+use Rattle.ff_stream.specs.declared.edges.edge.Edge.{Edge}
+use Rattle.ff_stream.specs.edges.Ports.{tally}
 
 abbrev pub leaves_node : ℕ → Wire → Bool
 leaves_node k w = w.from == k

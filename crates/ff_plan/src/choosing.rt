@@ -8,9 +8,9 @@ ghost use Rattle.ff_plan.specs.Streams.{as_pad, is_kept};
 use crate::layout::{InPad, Origin};
 use crate::planned::PlanError;
 use crate::takes::{drops, kind_of};
+use ff_frame::StreamHead;
 use ff_lang::Text;
 use ff_map::{Stream, StreamRef};
-use ff_values::StreamHead;
 use ff_words::OutputJob;
 use std::alloc::{AllocError, Global};
 

@@ -1,7 +1,7 @@
 use crate::open_pads::{OpenIn, OpenOut, Refused};
+use ff_frame::StreamHead;
 use ff_lang::{Graph, Sequence};
 use ff_map::MapSpec;
-use ff_values::StreamHead;
 use ff_words::FileFormat;
 use std::alloc::{AllocError, Global};
 

@@ -1,6 +1,6 @@
 // What holds of plans with graphs.
 ghost use Rattle.std.specs.Prelude.{◌≡◌, ◌≤◌, List, length, Ok};
-ghost use Rattle.ff_edges.specs.Ports.{shape_of, IsFed};
+ghost use Rattle.ff_stream.specs.edges.Ports.{shape_of, IsFed};
 ghost use Rattle.ff_plan.specs.EndFits.{EndsFit};
 ghost use Rattle.ff_plan.specs.GraphFits.{GraphsFit};
 ghost use Rattle.ff_plan.specs.Graphs.{AreRules};
@@ -12,10 +12,10 @@ ghost use Rattle.ff_plan.specs.Planned.{laid_out, planned};
 ghost use Rattle.ff_plan.specs.Rules.{Rules};
 ghost use Rattle.ff_plan.specs.StartFits.{StartsFit};
 ghost use Rattle.ff_plan.specs.declared.planned.Plan.{Plan};
-ghost use Rattle.ff_values.specs.declared.head.StreamHead.{StreamHead};
+ghost use Rattle.ff_frame.specs.declared.head.StreamHead.{StreamHead};
 ghost use Rattle.ff_words.specs.declared.job.Job.{Job};
 
-use ff_labels::{orders_are_whole, orders_go_upward};
+use ff_graph_links::{orders_are_whole, orders_go_upward};
 
 /// What is laid out has all its origins, with graphs too: each graph stands after those that feed it.
 pub fn graph_plans_are_laid()

@@ -7,8 +7,8 @@ ghost use Rattle.ff_plan.specs.Labels.{first_known as first_stream, stream_of_sp
 
 use crate::choosing::head_of;
 use crate::filtering::Filtering;
+use ff_frame::StreamHead;
 use ff_map::{MapFrom, MapSpec, Stream, StreamRef, select};
-use ff_values::StreamHead;
 use std::alloc::{AllocError, Global};
 
 // The first of the streams at these places.

@@ -24,10 +24,10 @@ use crate::passing::simple_graph;
 use crate::planned::{GraphText, PlanError};
 use crate::ready::Ready;
 use crate::takes::kind_of;
-use ff_labels::{orders_are_whole, orders_go_upward};
+use ff_frame::StreamHead;
+use ff_graph_links::{orders_are_whole, orders_go_upward};
 use ff_lang::{Graph, Sequence};
 use ff_map::Kind;
-use ff_values::StreamHead;
 use ff_words::{Job, OutputJob};
 use std::alloc::{AllocError, Global};
 

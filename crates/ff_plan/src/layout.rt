@@ -1,8 +1,8 @@
 use crate::open_pads::OpenOut;
 use crate::planned::GraphText;
+use ff_frame::StreamHead;
 use ff_lang::{Sequence, Text};
 use ff_map::{Stream, StreamRef};
-use ff_values::StreamHead;
 
 /// Where frames come from: a stream of an input, or an open output pad of a graph.
 #[derive(Clone, Copy)]

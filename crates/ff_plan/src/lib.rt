@@ -46,7 +46,6 @@ mod takes;
 mod wanting;
 mod wires;
 
-pub use ff_edges::Edge;
 pub use filtering::Filtering;
 pub use graph_laws::{
     ends_fit, graph_plans_are_fed, graph_plans_are_laid, graphs_fit, graphs_have_outs,

@@ -13,9 +13,9 @@ use crate::layout::{InPad, Laid, Made, Origin, Want};
 use crate::open_pads::OpenOut;
 use crate::planned::PlanError;
 use crate::wanting::all_wants;
-use ff_labels::graphs_in_order;
+use ff_frame::StreamHead;
+use ff_graph_links::graphs_in_order;
 use ff_lang::{Graph, Sequence};
-use ff_values::StreamHead;
 use std::alloc::{AllocError, Global};
 
 fn has_label(label: &str, out: &OpenOut) -> bool

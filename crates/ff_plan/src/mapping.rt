@@ -1,7 +1,7 @@
 // The first label of a job's graphs that nothing uses.
 ghost use Rattle.std.specs.Prelude.{◌≡◌, ◌⊎◌, ◌++◌, None, IfOk, IfErr};
 ghost use Rattle.std.specs.List.{find, flat_map};
-ghost use Rattle.ff_labels.specs.Labels.{is_one_of};
+ghost use Rattle.ff_graph_links.specs.labels.Labels.{is_one_of};
 ghost use Rattle.ff_map.specs.declared.map.MapSpec.{MapSpec};
 ghost use Rattle.ff_plan.specs.Labels.{taken_labels};
 ghost use Rattle.ff_plan.specs.Mapping.{is_unused, unused_among};
@@ -11,7 +11,7 @@ ghost use Rattle.ff_plan.specs.Streams.{label_in};
 ghost use Rattle.ff_plan.specs.Refusals.{IsFault};
 
 use crate::planned::PlanError;
-use ff_labels::{labels_given, takes};
+use ff_graph_links::{labels_given, takes};
 use ff_lang::{Graph, Text};
 use ff_map::{MapFrom, MapSpec};
 use ff_words::OutputJob;

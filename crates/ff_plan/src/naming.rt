@@ -4,7 +4,7 @@ ghost use Rattle.std.proofs.Props.{props};
 ghost use Rattle.std.specs.List.{AllByRecursion};
 ghost use Rattle.ff_lang.specs.declared.graph.Graph.{Graph};
 ghost use Rattle.ff_map.specs.Choice.{lists};
-ghost use Rattle.ff_labels.specs.Labels.{filters_of};
+ghost use Rattle.ff_graph_links.specs.labels.Labels.{filters_of};
 ghost use Rattle.ff_plan.specs.Labels.{stream_of_label as of_label, refusal_of, labels_fault};
 ghost use Rattle.ff_plan.specs.Order.{loop_fault};
 ghost use Rattle.ff_plan.specs.Refusals.{IsFault};
@@ -12,9 +12,9 @@ ghost use Rattle.ff_plan.specs.Refusals.{IsFault};
 use crate::filtering::Filtering;
 use crate::labelled::stream_of_label;
 use crate::planned::PlanError;
-use ff_labels::{Known, LabelFault, check_labels, graph_on_loop};
+use ff_frame::{ConfigError, StreamHead};
+use ff_graph_links::{Known, LabelFault, check_labels, graph_on_loop};
 use ff_lang::Graph;
-use ff_values::{ConfigError, StreamHead};
 use std::alloc::{AllocError, Global};
 
 // What names and labels of graphs may name: filters, and streams of inputs.

@@ -1,11 +1,10 @@
 // Numbers of ports.
 ghost use Rattle.std.specs.Prelude.{◌≡◌, ◌<◌, ◌==◌, ◌^◌, length, IfOk};
-ghost use Rattle.ff_edges.specs.declared.edge.Edge.{Edge};
+ghost use Rattle.ff_stream.specs.declared.edges.edge.Edge.{Edge};
 ghost use Rattle.ff_plan.specs.Wires.{edges_of};
-ghost use Rattle.ff_edges.specs.Ports.{tally};
+ghost use Rattle.ff_stream.specs.edges.Ports.{tally};
 
-use ff_edges::Edge;
-use ff_frame::Lane;
+use ff_stream::{Edge, Lane};
 use std::alloc::{AllocError, Global};
 
 /// From a node to a later one. An output port is named where the node is a graph, by the number of its open output pad;

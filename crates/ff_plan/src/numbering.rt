@@ -17,11 +17,11 @@ use crate::origins::{all_origins, used_inputs, used_streams};
 use crate::planned::{GraphText, Plan, PlanNode};
 use crate::routes::{graph_ways, ways};
 use crate::wires::wire_up;
-use ff_edges::Edge;
+use ff_frame::StreamHead;
 use ff_lang::Sequence;
 use ff_map::Stream;
 use ff_sched::{Graphs, Routes, Ways};
-use ff_values::StreamHead;
+use ff_stream::Edge;
 use std::alloc::{AllocError, Global};
 
 /// The nodes of a plan and the edges between them.

@@ -1,6 +1,6 @@
+use ff_frame::{ConfigError, StreamHead};
 use ff_lang::Text;
 use ff_map::Kind;
-use ff_values::{ConfigError, StreamHead};
 
 /// An input pad of a graph that no filter of it feeds.
 #[derive(Debug, Drop)]

@@ -9,8 +9,8 @@ ghost use Rattle.ff_plan.specs.Layout.{same_ref as are_same, shows as is_shown_b
 ghost use Rattle.ff_plan.specs.Numbering.{sources_of, all_sources, has_stream as input_has};
 
 use crate::layout::{InPad, Laid, Origin, Placed};
+use ff_frame::StreamHead;
 use ff_map::{Stream, StreamRef};
-use ff_values::StreamHead;
 use std::alloc::{AllocError, Global};
 
 pub(crate) fn same_ref(a: StreamRef, b: StreamRef) -> bool

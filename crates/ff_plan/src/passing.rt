@@ -1,7 +1,7 @@
 // A stream of an output through its simple graph, or past all graphs.
 ghost use Rattle.std.specs.Prelude.{◌≡◌, ◌+◌, ◌^◌, ◌<◌, ◌≤◌, ◌==◌, ◌++◌, ◌∷◌, [], None, Ok, IfOk, IfErr, OnOk, not, length, vec_len, false};
-ghost use Rattle.ff_labels.specs.Labels.{filters_of};
-ghost use Rattle.ff_labels.specs.Names.{twice_in, unknown_filter};
+ghost use Rattle.ff_graph_links.specs.labels.Labels.{filters_of};
+ghost use Rattle.ff_graph_links.specs.labels.Names.{twice_in, unknown_filter};
 ghost use Rattle.ff_plan.specs.Labels.{refused};
 ghost use Rattle.ff_plan.specs.Passing.{simple_fault};
 ghost use Rattle.ff_plan.specs.Refusals.{IsRefused, IsFault};
@@ -18,10 +18,10 @@ use crate::naming::refusal;
 use crate::open_pads::OpenOut;
 use crate::planned::PlanError;
 use crate::takes::{accepts, kind_of, packed_as};
-use ff_labels::{Known, check_names, check_own_labels};
+use ff_frame::ConfigError;
+use ff_graph_links::{Known, check_names, check_own_labels};
 use ff_lang::{Chain, Filter, Graph, Sequence, Text};
 use ff_map::Kind;
-use ff_values::ConfigError;
 use ff_words::OutputJob;
 use std::alloc::{AllocError, Global};
 

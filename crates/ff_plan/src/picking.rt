@@ -14,7 +14,7 @@ use crate::planned::PlanError;
 use crate::ready::Ready;
 use crate::takes::looks_for;
 use crate::wanting::giver;
-use ff_labels::gives;
+use ff_graph_links::gives;
 use ff_lang::{Graph, Text};
 use ff_map::{Kind, MapFrom, MapSpec, best_streams, select};
 use ff_words::OutputJob;

@@ -1,11 +1,11 @@
 ghost use Rattle.std.specs.Prelude.{◌≡◌};
 ghost use Rattle.ff_plan.specs.declared.planned.PlanError.TheVariants.{NoMemory};
 
-use ff_edges::Edge;
+use ff_frame::ConfigError;
 use ff_lang::{Sequence, Text};
 use ff_map::{Kind, StreamRef};
 use ff_sched::Routes;
-use ff_values::ConfigError;
+use ff_stream::Edge;
 use std::alloc::AllocError;
 
 /// A node of a plan. Inputs, outputs and graphs have numbers from 0, over the whole job; so do the streams of an output.

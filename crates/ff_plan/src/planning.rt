@@ -10,8 +10,8 @@ use crate::laying::lay_out;
 use crate::lengths::have_short_graphs;
 use crate::numbering::numbered_plan;
 use crate::planned::{Plan, PlanError};
-use ff_labels::are_short;
-use ff_values::StreamHead;
+use ff_frame::StreamHead;
+use ff_graph_links::are_short;
 use ff_words::{Job, OutputJob};
 use std::alloc::Global;
 

@@ -5,8 +5,8 @@ ghost use Rattle.std.specs.List.{AllByRecursion};
 ghost use Rattle.ff_plan.specs.Limits.{HasFewPads};
 
 use crate::layout::Made;
+use ff_frame::StreamHead;
 use ff_lang::Graph;
-use ff_values::StreamHead;
 
 /// What was made before the outputs.
 #[derive(Drop)]

@@ -11,8 +11,8 @@ ghost use Rattle.ff_plan.specs.Streams.{drops as is_dropped, simple_of, is_graph
 use crate::filtering::Filtering;
 use crate::layout::{InPad, Origin};
 use crate::wanting::is_kind;
+use ff_frame::{Codec, StreamHead};
 use ff_map::Kind;
-use ff_values::{Codec, StreamHead};
 use ff_words::{FileFormat, OutputJob};
 
 pub(crate) fn kind_of(head: StreamHead) -> Kind

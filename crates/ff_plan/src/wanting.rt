@@ -13,10 +13,10 @@ use crate::labelled::stream_of_label;
 use crate::layout::Want;
 use crate::open_pads::OpenIn;
 use crate::origins::{same_ref, stream_at};
-use ff_labels::gives;
+use ff_frame::StreamHead;
+use ff_graph_links::gives;
 use ff_lang::{Graph, Sequence, Text};
 use ff_map::{Kind, Stream};
-use ff_values::StreamHead;
 use std::alloc::{AllocError, Global};
 
 /// The number of the graph that gives a label.

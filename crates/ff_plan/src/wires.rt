@@ -8,8 +8,8 @@ ghost use Rattle.ff_plan.specs.Limits.{IsSmall};
 use crate::firsts::{Firsts, dec_number, demux_number, graph_number, origin_number, port_of};
 use crate::layout::{InPad, Laid, Placed};
 use crate::number::Wire;
-use ff_frame::Lane;
 use ff_map::Stream;
+use ff_stream::Lane;
 use std::alloc::{AllocError, Global};
 
 fn add_wire(

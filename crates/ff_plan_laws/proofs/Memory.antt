@@ -8,14 +8,14 @@ use Rattle.ff_map.specs.declared.map.MapFrom.{MapFrom}
 use Rattle.ff_map.specs.declared.map.MapFrom.TheVariants as from
 use Rattle.ff_map.specs.declared.map.MapSpec.{MapSpec}
 use Rattle.ff_map.specs.Choice.{selected}
-use Rattle.ff_labels.specs.declared.fault.LabelFault.{LabelFault}
-use Rattle.ff_labels.specs.declared.fault.LabelFault.TheVariants as label_fault
-use Rattle.ff_labels.specs.Labels.{is_one_of, filters_of, taken_in, given_in}
-use Rattle.ff_labels.specs.Names.{or_else, where_so as fault_where, unknown_label, twice, filter_fault, filters_fault, graphs_fault, all_given, own_fault, twice_in, unknown_filter}
-use Rattle.ff_labels.specs.Order.{graph_order}
-use Rattle.ff_values.specs.declared.config.ConfigError.{ConfigError}
-use Rattle.ff_values.specs.declared.config.ConfigError.TheVariants as config
-use Rattle.ff_values.specs.declared.head.StreamHead.{StreamHead}
+use Rattle.ff_graph_links.specs.declared.labels.fault.LabelFault.{LabelFault}
+use Rattle.ff_graph_links.specs.declared.labels.fault.LabelFault.TheVariants as label_fault
+use Rattle.ff_graph_links.specs.labels.Labels.{is_one_of, filters_of, taken_in, given_in}
+use Rattle.ff_graph_links.specs.labels.Names.{or_else, where_so as fault_where, unknown_label, twice, filter_fault, filters_fault, graphs_fault, all_given, own_fault, twice_in, unknown_filter}
+use Rattle.ff_graph_links.specs.labels.Order.{graph_order}
+use Rattle.ff_frame.specs.declared.config.ConfigError.{ConfigError}
+use Rattle.ff_frame.specs.declared.config.ConfigError.TheVariants as config
+use Rattle.ff_frame.specs.declared.head.StreamHead.{StreamHead}
 use Rattle.ff_words.specs.declared.job.Job.{Job}
 use Rattle.ff_words.specs.declared.job.OutputJob.{OutputJob}
 use Rattle.ff_plan.specs.declared.open_pads.OpenOut.{OpenOut}

@@ -1,6 +1,6 @@
 -- What is sound of every plan, and what the rules of graphs owe for it.
 use Rattle.std.specs.Prelude.{◌≡◌, ◌≢◌, ℕ, ◌<◌, ◌≤◌, true, List, [], ◌∷◌, length, slice_get, slice_index_or, Option, Some, Ok, Err}
-use Rattle.ff_edges.specs.Ports.{lanes_into, lanes_out_of, HasIns, HasOuts}
+use Rattle.ff_stream.specs.edges.Ports.{lanes_into, lanes_out_of, HasIns, HasOuts}
 use Rattle.ff_lang.specs.declared.graph.Graph.{Graph}
 use Rattle.ff_plan.specs.Graphs.{IsHad}
 use Rattle.ff_plan.specs.Laws.{GoUpward}
@@ -13,8 +13,8 @@ use Rattle.ff_plan.specs.Taken.{OutputsFit}
 use Rattle.ff_plan.specs.declared.planned.Plan.{Plan}
 use Rattle.ff_plan.specs.declared.planned.PlanNode.TheVariants as node
 use Rattle.ff_sched.specs.Routes.{AreRoutes}
-use Rattle.ff_values.specs.declared.config.ConfigError.TheVariants as config
-use Rattle.ff_values.specs.declared.head.StreamHead.{StreamHead}
+use Rattle.ff_frame.specs.declared.config.ConfigError.TheVariants as config
+use Rattle.ff_frame.specs.declared.head.StreamHead.{StreamHead}
 use Rattle.ff_words.specs.declared.job.Job.{Job}
 use Rattle.ff_words.specs.declared.job.OutputJob.{OutputJob}
 

@@ -9,11 +9,11 @@ ghost use Rattle.ff_plan.specs.Taken.{AllFrames, AreKeptBy, OutputsFit};
 ghost use Rattle.ff_plan.specs.declared.planned.Plan.{Plan};
 ghost use Rattle.ff_plan.specs.declared.planned.PlanError.TheVariants as fault;
 ghost use Rattle.ff_plan_laws.specs.Sound.{AreRouted, HasFewIns, IsSoundPlan, KeepsTaken, NeverWantsMemory};
-ghost use Rattle.ff_values.specs.declared.config.ConfigError.TheVariants as config;
-ghost use Rattle.ff_values.specs.declared.head.StreamHead.{StreamHead};
+ghost use Rattle.ff_frame.specs.declared.config.ConfigError.TheVariants as config;
+ghost use Rattle.ff_frame.specs.declared.head.StreamHead.{StreamHead};
 ghost use Rattle.ff_words.specs.declared.job.Job.{Job};
 
-use ff_labels::{orders_are_whole, orders_go_upward};
+use ff_graph_links::{orders_are_whole, orders_go_upward};
 use std::marker::Brand;
 
 /// Each output has some streams, no more than its format holds, and its format takes each.
@@ -51,7 +51,7 @@ pub fn plans_never_want_memory()
 
 /// Something that can be so of the head of a stream.
 pub trait HeadFact {
-    ghost use Rattle.ff_values.specs.declared.head.StreamHead.{StreamHead};
+    ghost use Rattle.ff_frame.specs.declared.head.StreamHead.{StreamHead};
 
     /// It is so of this head.
     ghost is_so: { StreamHead → Type 0 };

@@ -7,23 +7,23 @@ use Rattle.ff_lang.specs.declared.graph.Arg.{Arg}
 use Rattle.ff_lang.specs.declared.graph.Chain.{Chain}
 use Rattle.ff_lang.specs.declared.graph.Filter.{Filter}
 use Rattle.ff_lang.specs.declared.graph.Graph.{Graph}
-use Rattle.ff_labels.specs.Labels.{filters_of}
+use Rattle.ff_graph_links.specs.labels.Labels.{filters_of}
 use Rattle.ff_filter.specs.Options.{Manual, number_of, option_of}
-use Rattle.ff_stacks.specs.Options.{taken_inputs, inputs_of as stack_inputs, gives_inputs, counted}
+use Rattle.ff_fsync.specs.stacks.Options.{taken_inputs, inputs_of as stack_inputs, gives_inputs, counted}
 use Rattle.ff_joins.specs.Arguments.{ranged, or_else, gives, last_from}
 use Rattle.ff_joins.specs.ConcatOptions.{concat_manual}
 use Rattle.ff_joins.specs.JoinOptions.{join_manual}
-use Rattle.ff_drawn.specs.declared.drawn.Pad.{Pad}
-use Rattle.ff_drawn.specs.Links.{Seen, sources_up, sources_of, sources_from, opens_at, opens_from}
+use Rattle.ff_graph_links.specs.declared.pads.drawn.Pad.{Pad}
+use Rattle.ff_graph_links.specs.pads.Links.{Seen, sources_up, sources_of, sources_from, opens_at, opens_from}
 use Rattle.ff_filters.specs.declared.name.FilterName.{FilterName}
 use Rattle.ff_filters.specs.declared.name.FilterName.TheVariants as filter
 use Rattle.ff_filters.specs.Names.{filter_named}
 use Rattle.ff_filters.specs.Pads.{inputs_of}
 use Rattle.ff_filters.proofs.SettingsBy.{ranged_out}
 use Rattle.ff_graph.specs.Drawings.{seen_as, seen_chain, seen_chains, seen_graph}
-use Rattle.ff_rules.specs.Rules.{open_ins}
-use Rattle.ff_rules.proofs.Had.{graph_written, opens_size}
-use Rattle.ff_rules.proofs.Lists.{all_joined}
+use Rattle.ff_plan_rules.specs.Rules.{open_ins}
+use Rattle.ff_plan_rules.proofs.Had.{graph_written, opens_size}
+use Rattle.ff_plan_rules.proofs.Lists.{all_joined}
 
 -- ---- of one filter
 

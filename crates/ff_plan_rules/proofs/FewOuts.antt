@@ -3,18 +3,18 @@ use Rattle.std.proofs.Common.{◌≡◌, ℕ, zero, suc, ◌*◌, ◌^◌, ◌<�
 use Rattle.std.specs.Prelude.{slice_get, slice_index_or, if◌then◌else◌}
 use Rattle.std.specs.List.{AllByRecursion}
 use Rattle.std.proofs.lemmas.List.{length-map, length-replicate}
-use Rattle.ff_values.specs.declared.config.ConfigError.{ConfigError}
-use Rattle.ff_values.specs.declared.config.ConfigError.TheVariants as fault
-use Rattle.ff_values.specs.declared.head.StreamHead.{StreamHead}
-use Rattle.ff_values.specs.declared.head.StreamHead.TheVariants.{Audio, Video}
+use Rattle.ff_frame.specs.declared.config.ConfigError.{ConfigError}
+use Rattle.ff_frame.specs.declared.config.ConfigError.TheVariants as fault
+use Rattle.ff_frame.specs.declared.head.StreamHead.{StreamHead}
+use Rattle.ff_frame.specs.declared.head.StreamHead.TheVariants.{Audio, Video}
 use Rattle.ff_lang.specs.declared.graph.Arg.{Arg}
 use Rattle.ff_lang.specs.declared.graph.Filter.{Filter}
 use Rattle.ff_lang.specs.declared.graph.Graph.{Graph}
-use Rattle.ff_labels.specs.Labels.{filters_of}
+use Rattle.ff_graph_links.specs.labels.Labels.{filters_of}
 use Rattle.ff_filter.specs.Options.{is_sound, is_video}
 use Rattle.ff_filter.specs.Plain.{no_manual, pass_view, rebase_view}
 use Rattle.ff_filter.specs.Views.{View}
-use Rattle.ff_spread.specs.Splits.{split_manual, split_view, split_heads}
+use Rattle.ff_filter.specs.spread.Splits.{split_manual, split_view, split_heads}
 use Rattle.ff_vfilter.specs.Trims.{trim_view}
 use Rattle.ff_vfilter.specs.Crops.{crop_view, crop_head}
 use Rattle.ff_vfilter.specs.Pads.{pad_view, pad_head}
@@ -23,12 +23,12 @@ use Rattle.ff_vfilter.specs.HFlips.{hflip_view}
 use Rattle.ff_vfilter.specs.VFlips.{vflip_view}
 use Rattle.ff_afilter.specs.Trims.{atrim_view}
 use Rattle.ff_afilter.specs.Channels.{mono_head, channels_view, mono_heads}
-use Rattle.ff_stacks.specs.declared.shape.Direction.TheVariants.{Beside, Below}
-use Rattle.ff_stacks.specs.Stacks.{stack_view, head_of}
+use Rattle.ff_fsync.specs.declared.stacks.shape.Direction.TheVariants.{Beside, Below}
+use Rattle.ff_fsync.specs.stacks.Stacks.{stack_view, head_of}
 use Rattle.ff_joins.specs.ConcatOptions.{concat_view, concat_head}
 use Rattle.ff_joins.specs.JoinView.{join_view}
-use Rattle.ff_drawn.specs.declared.drawn.Pad.{Pad}
-use Rattle.ff_drawn.specs.Links.{Seen}
+use Rattle.ff_graph_links.specs.declared.pads.drawn.Pad.{Pad}
+use Rattle.ff_graph_links.specs.pads.Links.{Seen}
 use Rattle.ff_filters.specs.declared.name.FilterName.{FilterName}
 use Rattle.ff_filters.specs.declared.name.FilterName.TheVariants as filter
 use Rattle.ff_filters.specs.SetBy.{set_none, set_split}
@@ -43,16 +43,16 @@ use Rattle.ff_graph.specs.Configured.{Made, made_of, none_made, make_all, feeds_
 use Rattle.ff_graph.proofs.Refusals.{refused_there}
 use Rattle.ff_plan.specs.declared.open_pads.OpenOut.{OpenOut}
 use Rattle.ff_plan.specs.declared.open_pads.Refused.{Refused}
-use Rattle.ff_rules.specs.Kept.{IsFitHead, AreFitHeads}
-use Rattle.ff_rules.specs.Rules.{output_as, outputs_as, configured}
-use Rattle.ff_rules.proofs.Lists.{all_more}
-use Rattle.ff_rules.proofs.Settings.{same_ok, no_ok, settled, split_read}
-use Rattle.ff_rules.proofs.Making.{made_parts, heads_keep}
-use Rattle.ff_rules.proofs.KeptHeads.{fit_is_kept}
-use Rattle.ff_rules.proofs.Outputs.{by_each, gives_so}
-use Rattle.ff_rules.proofs.Keeping.{into_fit}
-use Rattle.ff_rules.proofs.Few.{last_few}
-use Rattle.ff_rules.proofs.Had.{graph_written, as_err, was_had}
+use Rattle.ff_plan_rules.specs.Kept.{IsFitHead, AreFitHeads}
+use Rattle.ff_plan_rules.specs.Rules.{output_as, outputs_as, configured}
+use Rattle.ff_plan_rules.proofs.Lists.{all_more}
+use Rattle.ff_plan_rules.proofs.Settings.{same_ok, no_ok, settled, split_read}
+use Rattle.ff_plan_rules.proofs.Making.{made_parts, heads_keep}
+use Rattle.ff_plan_rules.proofs.KeptHeads.{fit_is_kept}
+use Rattle.ff_plan_rules.proofs.Outputs.{by_each, gives_so}
+use Rattle.ff_plan_rules.proofs.Keeping.{into_fit}
+use Rattle.ff_plan_rules.proofs.Few.{last_few}
+use Rattle.ff_plan_rules.proofs.Had.{graph_written, as_err, was_had}
 
 abbrev IsFew : List StreamHead → Type 0
 IsFew hs = length hs ≤ 16

@@ -6,15 +6,15 @@ use Rattle.std.proofs.lemmas.Bool.{cases_lt}
 use Rattle.std.proofs.lemmas.Bool.Decides.{nat_tests}
 use Rattle.std.proofs.lemmas.List.{length-map, length-replicate, map-append}
 use Rattle.std.proofs.lemmas.Option.{slice_get_within}
-use Rattle.ff_values.specs.declared.config.ConfigError.TheVariants as fault
-use Rattle.ff_values.specs.declared.head.StreamHead.{StreamHead}
+use Rattle.ff_frame.specs.declared.config.ConfigError.TheVariants as fault
+use Rattle.ff_frame.specs.declared.head.StreamHead.{StreamHead}
 use Rattle.ff_lang.specs.declared.graph.Chain.{Chain}
 use Rattle.ff_lang.specs.declared.graph.Filter.{Filter}
 use Rattle.ff_lang.specs.declared.graph.Graph.{Graph}
-use Rattle.ff_order.specs.Orders.{loops as is_looped}
-use Rattle.ff_drawn.specs.declared.drawn.Pad.{Pad}
-use Rattle.ff_drawn.specs.Links.{Seen, sources_from}
-use Rattle.ff_labels.specs.Labels.{filters_of}
+use Rattle.ff_graph_links.specs.orders.Orders.{loops as is_looped}
+use Rattle.ff_graph_links.specs.declared.pads.drawn.Pad.{Pad}
+use Rattle.ff_graph_links.specs.pads.Links.{Seen, sources_from}
+use Rattle.ff_graph_links.specs.labels.Labels.{filters_of}
 use Rattle.ff_filters.specs.declared.name.FilterName.{FilterName}
 use Rattle.ff_filters.specs.Names.{filter_named}
 use Rattle.ff_filters.specs.Pads.{outputs_of}
@@ -27,13 +27,13 @@ use Rattle.ff_graph.specs.Configured.{Made, heads_into, leaves_over, stands_at, 
 use Rattle.ff_graph.specs.Configured.{feeds_one, unless_fed, outs_at, outs_from, open_outs, outs_of as outs_by, place_of}
 use Rattle.ff_plan.specs.declared.open_pads.OpenOut.{OpenOut}
 use Rattle.ff_plan.specs.declared.open_pads.Refused.{Refused}
-use Rattle.ff_rules.specs.Rules.{input_as, output_as, refused_as, outputs_as, open_ins, configured}
-use Rattle.ff_rules.proofs.Lists.{never, some_same, no_some, all_from, all_at, all_joined}
-use Rattle.ff_rules.proofs.Settings.{same_ok, no_ok}
-use Rattle.ff_rules.proofs.OpenPads.{IsOpen, are_open, place_is, given_there}
-use Rattle.ff_rules.proofs.Given.{written, HasPads}
-use Rattle.ff_rules.proofs.Making.{IsMadeOf, made_parts, was_made, heads_stay, outputs_are, in_order}
-use Rattle.ff_rules.proofs.Outputs.{labels_held}
+use Rattle.ff_plan_rules.specs.Rules.{input_as, output_as, refused_as, outputs_as, open_ins, configured}
+use Rattle.ff_plan_rules.proofs.Lists.{never, some_same, no_some, all_from, all_at, all_joined}
+use Rattle.ff_plan_rules.proofs.Settings.{same_ok, no_ok}
+use Rattle.ff_plan_rules.proofs.OpenPads.{IsOpen, are_open, place_is, given_there}
+use Rattle.ff_plan_rules.proofs.Given.{written, HasPads}
+use Rattle.ff_plan_rules.proofs.Making.{IsMadeOf, made_parts, was_made, heads_stay, outputs_are, in_order}
+use Rattle.ff_plan_rules.proofs.Outputs.{labels_held}
 
 -- ---- drawings
 

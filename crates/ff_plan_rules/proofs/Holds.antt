@@ -4,24 +4,24 @@ use Rattle.std.specs.Prelude.{slice_get, IsSome}
 use Rattle.std.specs.List.{AllByRecursion, filter}
 use Rattle.std.specs.Str.{bytes_eq}
 use Rattle.std.proofs.lemmas.Option.{slice_get_within, get_or_from_slice_get}
-use Rattle.ff_values.specs.declared.head.StreamHead.{StreamHead}
+use Rattle.ff_frame.specs.declared.head.StreamHead.{StreamHead}
 use Rattle.ff_lang.specs.declared.graph.Filter.{Filter}
 use Rattle.ff_lang.specs.declared.graph.Graph.{Graph}
-use Rattle.ff_drawn.specs.Links.{Seen}
-use Rattle.ff_edges.specs.Ports.{tally}
-use Rattle.ff_labels.specs.Labels.{is_one_of, filters_of, ins_of, outs_of, given_in}
+use Rattle.ff_graph_links.specs.pads.Links.{Seen}
+use Rattle.ff_stream.specs.edges.Ports.{tally}
+use Rattle.ff_graph_links.specs.labels.Labels.{is_one_of, filters_of, ins_of, outs_of, given_in}
 use Rattle.ff_graph.specs.Drawings.{seen_graph}
 use Rattle.ff_graph.specs.Opens.{sources_in}
 use Rattle.ff_graph.specs.Configured.{feeds_one, open_outs}
-use Rattle.ff_labels.specs.Clear.{IsClear}
+use Rattle.ff_graph_links.specs.labels.Clear.{IsClear}
 use Rattle.ff_plan.specs.Graphs.{IsHad, AreRules, asks, open_taken, open_given}
 use Rattle.ff_plan.specs.Pads.{has_label}
 use Rattle.ff_plan.specs.declared.open_pads.OpenOut.{OpenOut}
-use Rattle.ff_rules.specs.Rules.{output_as, open_ins, graph_rules}
-use Rattle.ff_rules.proofs.Lists.{no_some, all_from, tally_map, tally_left, same_text}
-use Rattle.ff_rules.proofs.Given.{written, all_ins, all_outs, some_given, fed_is}
-use Rattle.ff_rules.proofs.Labelled.{ins_are, outs_are}
-use Rattle.ff_rules.proofs.Had.{graph_written, chains_outputs, was_had, opens_size, has_pads, given_at, outputs_long, heads_size}
+use Rattle.ff_plan_rules.specs.Rules.{output_as, open_ins, graph_rules}
+use Rattle.ff_plan_rules.proofs.Lists.{no_some, all_from, tally_map, tally_left, same_text}
+use Rattle.ff_plan_rules.proofs.Given.{written, all_ins, all_outs, some_given, fed_is}
+use Rattle.ff_plan_rules.proofs.Labelled.{ins_are, outs_are}
+use Rattle.ff_plan_rules.proofs.Had.{graph_written, chains_outputs, was_had, opens_size, has_pads, given_at, outputs_long, heads_size}
 
 -- ---- what plans ask of rules
 

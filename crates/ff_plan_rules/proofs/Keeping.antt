@@ -2,11 +2,11 @@
 use Rattle.std.proofs.Common.{◌≡◌, ◌≢◌, ℕ, zero, suc, Bool, true, false, List, [], ◌∷◌, map, length, replicate, Option, None, Some, Ok, Err, refl, sym, subst, ◌∙◌, arith}
 use Rattle.std.specs.Prelude.{slice_get, slice_index_or, if◌then◌else◌}
 use Rattle.std.specs.List.{AllByRecursion}
-use Rattle.ff_values.specs.declared.config.ConfigError.TheVariants as fault
-use Rattle.ff_values.specs.declared.head.StreamHead.{StreamHead}
+use Rattle.ff_frame.specs.declared.config.ConfigError.TheVariants as fault
+use Rattle.ff_frame.specs.declared.head.StreamHead.{StreamHead}
 use Rattle.ff_lang.specs.declared.graph.Graph.{Graph}
-use Rattle.ff_drawn.specs.declared.drawn.Pad.{Pad}
-use Rattle.ff_drawn.specs.Links.{Seen}
+use Rattle.ff_graph_links.specs.declared.pads.drawn.Pad.{Pad}
+use Rattle.ff_graph_links.specs.pads.Links.{Seen}
 use Rattle.ff_filters.specs.Configured.{Filtered}
 use Rattle.ff_graph.proofs.Refusals.{never_for_memory}
 use Rattle.ff_graph.specs.Drawings.{seen_graph}
@@ -18,14 +18,14 @@ use Rattle.ff_graph.specs.Configured.{feeds_one, unless_fed, outs_at, outs_from,
 use Rattle.ff_plan.specs.Streams.{takes_head}
 use Rattle.ff_plan.specs.declared.open_pads.OpenOut.{OpenOut}
 use Rattle.ff_plan.specs.declared.open_pads.Refused.{Refused}
-use Rattle.ff_rules.specs.Kept.{IsFitHead, KeepHeads}
-use Rattle.ff_rules.specs.Rules.{output_as, outputs_as, configured, graph_rules}
-use Rattle.ff_rules.proofs.Lists.{some_same, no_some, all_at, all_joined}
-use Rattle.ff_rules.proofs.Settings.{no_ok}
-use Rattle.ff_rules.proofs.Making.{made_parts, heads_keep}
-use Rattle.ff_rules.proofs.KeptHeads.{IsKept, fit_is_kept, taken_is_kept}
-use Rattle.ff_rules.proofs.Outputs.{gives_so}
-use Rattle.ff_rules.proofs.Had.{as_err, was_had, opens_size, opens_few}
+use Rattle.ff_plan_rules.specs.Kept.{IsFitHead, KeepHeads}
+use Rattle.ff_plan_rules.specs.Rules.{output_as, outputs_as, configured, graph_rules}
+use Rattle.ff_plan_rules.proofs.Lists.{some_same, no_some, all_at, all_joined}
+use Rattle.ff_plan_rules.proofs.Settings.{no_ok}
+use Rattle.ff_plan_rules.proofs.Making.{made_parts, heads_keep}
+use Rattle.ff_plan_rules.proofs.KeptHeads.{IsKept, fit_is_kept, taken_is_kept}
+use Rattle.ff_plan_rules.proofs.Outputs.{gives_so}
+use Rattle.ff_plan_rules.proofs.Had.{as_err, was_had, opens_size, opens_few}
 
 -- ---- heads that are kept
 

@@ -2,18 +2,18 @@
 use Rattle.std.proofs.Common.{◌≡◌, ℕ, ◌≤◌, nat_le, true, List, ◌∷◌, arith}
 use Rattle.std.proofs.lemmas.Bool.Decides.{nat_tests}
 use Rattle.ff_time.specs.Fraction.{Fraction, IsBase}
-use Rattle.ff_values.specs.declared.head.StreamHead.{StreamHead}
-use Rattle.ff_values.specs.declared.head.StreamHead.TheVariants.{Audio, Video}
+use Rattle.ff_frame.specs.declared.head.StreamHead.{StreamHead}
+use Rattle.ff_frame.specs.declared.head.StreamHead.TheVariants.{Audio, Video}
 use Rattle.ff_vfilter.specs.Sizes.{sized}
 use Rattle.ff_vfilter.specs.FpsOptions.{fps_head}
 use Rattle.ff_afilter.specs.Channels.{mono_head}
-use Rattle.ff_stacks.specs.declared.shape.Direction.{Direction}
-use Rattle.ff_stacks.specs.declared.shape.Direction.TheVariants.{Beside, Below}
-use Rattle.ff_stacks.specs.Heads.{with_length}
+use Rattle.ff_fsync.specs.declared.stacks.shape.Direction.{Direction}
+use Rattle.ff_fsync.specs.declared.stacks.shape.Direction.TheVariants.{Beside, Below}
+use Rattle.ff_fsync.specs.stacks.Heads.{with_length}
 use Rattle.ff_joins.specs.JoinOptions.{channels_in, with_channels}
 use Rattle.ff_words.specs.declared.job.OutputJob.{OutputJob}
 use Rattle.ff_plan.specs.Streams.{takes_head}
-use Rattle.ff_rules.specs.Kept.{IsFitHead}
+use Rattle.ff_plan_rules.specs.Kept.{IsFitHead}
 
 -- What every filter keeps: what is so of its inputs' heads is so of those of its outputs.
 pub record IsKept (P : StreamHead → Type 0) : Type 0 where

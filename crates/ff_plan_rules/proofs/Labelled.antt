@@ -3,20 +3,20 @@ use Rattle.std.proofs.Common.{◌≡◌, ℕ, zero, suc, ◌+◌, ◌≤◌, Boo
 use Rattle.std.specs.Prelude.{slice_get, slice_index_or, is_some}
 use Rattle.std.specs.List.{AllByRecursion, filter}
 use Rattle.std.specs.Str.{bytes_eq}
-use Rattle.ff_values.specs.declared.head.StreamHead.{StreamHead}
+use Rattle.ff_frame.specs.declared.head.StreamHead.{StreamHead}
 use Rattle.ff_map.specs.declared.map.Kind.{Kind}
-use Rattle.ff_drawn.specs.declared.drawn.Pad.{Pad}
-use Rattle.ff_drawn.specs.Links.{Seen, giver_from, source_by, source_of, sources_up, sources_of, sources_from, opens_at, opens_from}
-use Rattle.ff_edges.specs.Ports.{tally}
-use Rattle.ff_labels.specs.Labels.{is_one_of}
+use Rattle.ff_graph_links.specs.declared.pads.drawn.Pad.{Pad}
+use Rattle.ff_graph_links.specs.pads.Links.{Seen, giver_from, source_by, source_of, sources_up, sources_of, sources_from, opens_at, opens_from}
+use Rattle.ff_stream.specs.edges.Ports.{tally}
+use Rattle.ff_graph_links.specs.labels.Labels.{is_one_of}
 use Rattle.ff_graph.specs.Opens.{open_in, open_ins_at, open_pads}
 use Rattle.ff_graph.specs.Configured.{OpenOut, feeds_one, unless_fed, outs_at, outs_from}
 use Rattle.ff_plan.specs.Graphs.{asks}
 use Rattle.ff_plan.specs.Pads.{has_label, label_is}
 use Rattle.ff_plan.specs.declared.open_pads.OpenIn.{OpenIn}
-use Rattle.ff_rules.specs.Rules.{input_as, output_as}
-use Rattle.ff_rules.proofs.Lists.{never, tally_joined, tally_map, tally_left, turn_text}
-use Rattle.ff_rules.proofs.Given.{all_ins, all_outs, HasPads, giver_some}
+use Rattle.ff_plan_rules.specs.Rules.{input_as, output_as}
+use Rattle.ff_plan_rules.proofs.Lists.{never, tally_joined, tally_map, tally_left, turn_text}
+use Rattle.ff_plan_rules.proofs.Given.{all_ins, all_outs, HasPads, giver_some}
 
 -- none of so many
 none_of : (b : Bool) → ◌≡◌ {A = ℕ} 0 (cond b 0 0)

@@ -4,7 +4,7 @@ use Rattle.std.specs.Prelude.{slice_get}
 use Rattle.std.specs.List.{AllByRecursion, filter, list_any}
 use Rattle.std.specs.Str.{bytes_eq}
 use Rattle.std.proofs.lemmas.Slice.Eq.{bytes_eq-Decides}
-use Rattle.ff_edges.specs.Ports.{tally}
+use Rattle.ff_stream.specs.edges.Ports.{tally}
 
 pub never : true ≡ false → ⊥
 never e = cc

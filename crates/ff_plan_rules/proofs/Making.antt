@@ -4,20 +4,20 @@ use Rattle.std.specs.Prelude.{slice_get, slice_index_or, slice_set, if◌then◌
 use Rattle.std.specs.List.{AllByRecursion}
 use Rattle.std.proofs.lemmas.Bool.{cases_lt}
 use Rattle.std.proofs.lemmas.List.{get_or-set_same, get_or-set_other, length-set, length-replicate}
-use Rattle.ff_values.specs.declared.config.ConfigError.{ConfigError}
-use Rattle.ff_values.specs.declared.config.ConfigError.TheVariants as fault
-use Rattle.ff_values.specs.declared.head.StreamHead.{StreamHead}
-use Rattle.ff_order.specs.Orders.{is_taken, IsLowestFrom, loops as is_looped}
-use Rattle.ff_order.proofs.Lowest.{is_lowest}
-use Rattle.ff_order.proofs.Stuck.{taken_at, size_set}
-use Rattle.ff_drawn.specs.Links.{Seen, feeders_from}
+use Rattle.ff_frame.specs.declared.config.ConfigError.{ConfigError}
+use Rattle.ff_frame.specs.declared.config.ConfigError.TheVariants as fault
+use Rattle.ff_frame.specs.declared.head.StreamHead.{StreamHead}
+use Rattle.ff_graph_links.specs.orders.Orders.{is_taken, IsLowestFrom, loops as is_looped}
+use Rattle.ff_graph_links.proofs.OrdersLemmas.Lowest.{is_lowest}
+use Rattle.ff_graph_links.proofs.OrdersLemmas.Stuck.{taken_at, size_set}
+use Rattle.ff_graph_links.specs.pads.Links.{Seen, feeders_from}
 use Rattle.ff_filters.specs.declared.name.FilterName.{FilterName}
 use Rattle.ff_filters.specs.Names.{filter_named}
 use Rattle.ff_filters.specs.Configured.{Filtered, configured_as}
 use Rattle.ff_graph.specs.Opens.{feeders_in, filter_order, sources_in, open_pads}
 use Rattle.ff_graph.specs.Configured.{Made, Refused, heads_into, is_misfit, is_surplus, made_on, made_as, made_of, with_made, behind, make_from}
-use Rattle.ff_rules.proofs.Lists.{never}
-use Rattle.ff_rules.proofs.Settings.{same_ok, no_ok}
+use Rattle.ff_plan_rules.proofs.Lists.{never}
+use Rattle.ff_plan_rules.proofs.Settings.{same_ok, no_ok}
 
 -- ---- one filter
 

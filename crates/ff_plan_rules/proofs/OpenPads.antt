@@ -3,11 +3,11 @@ use Rattle.std.proofs.Common.{◌≡◌, ℕ, zero, suc, ◌+◌, ◌<◌, Bool,
 use Rattle.std.specs.Prelude.{slice_get, slice_index_or, if◌then◌else◌}
 use Rattle.std.specs.List.{AllByRecursion}
 use Rattle.std.proofs.lemmas.Bool.Decides.{nat_tests}
-use Rattle.ff_values.specs.declared.head.StreamHead.{StreamHead}
-use Rattle.ff_drawn.specs.declared.drawn.Pad.{Pad}
-use Rattle.ff_drawn.specs.Links.{opens_at, opens_from}
+use Rattle.ff_frame.specs.declared.head.StreamHead.{StreamHead}
+use Rattle.ff_graph_links.specs.declared.pads.drawn.Pad.{Pad}
+use Rattle.ff_graph_links.specs.pads.Links.{opens_at, opens_from}
 use Rattle.ff_graph.specs.Configured.{same_pad, place_from, place_of, and_head, head_into, heads_into}
-use Rattle.ff_rules.proofs.Lists.{some_same, no_some, all_at, all_more, all_joined}
+use Rattle.ff_plan_rules.proofs.Lists.{some_same, no_some, all_at, all_more, all_joined}
 
 pub same_self : (p : Pad) → same_pad p p ≡ true
 same_self p = grind (arith, nat_tests)

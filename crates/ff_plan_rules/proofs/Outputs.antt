@@ -6,11 +6,11 @@ use Rattle.std.proofs.Common.{lit<}
 use Rattle.std.proofs.lemmas.Bool.Decides.{nat_tests}
 use Rattle.std.proofs.lemmas.List.{length-replicate}
 use Rattle.ff_time.specs.Fraction.{Fraction, IsBase, IsBase-unit}
-use Rattle.ff_values.specs.declared.config.ConfigError.{ConfigError}
-use Rattle.ff_values.specs.declared.config.ConfigError.TheVariants.{Pads, Kind, Mismatch, BadSize, BadOption}
-use Rattle.ff_values.specs.declared.head.StreamHead.{StreamHead}
-use Rattle.ff_values.specs.declared.head.StreamHead.TheVariants.{Audio, Video}
-use Rattle.ff_values.specs.Heads.{base_of_head}
+use Rattle.ff_frame.specs.declared.config.ConfigError.{ConfigError}
+use Rattle.ff_frame.specs.declared.config.ConfigError.TheVariants.{Pads, Kind, Mismatch, BadSize, BadOption}
+use Rattle.ff_frame.specs.declared.head.StreamHead.{StreamHead}
+use Rattle.ff_frame.specs.declared.head.StreamHead.TheVariants.{Audio, Video}
+use Rattle.ff_frame.specs.Heads.{base_of_head}
 use Rattle.ff_lang.specs.declared.graph.Arg.{Arg}
 use Rattle.ff_filter.specs.declared.pass.Pass.{Pass}
 use Rattle.ff_filter.specs.declared.rebase.Rebase.{Rebase}
@@ -18,7 +18,7 @@ use Rattle.ff_filter.specs.Options.{is_sound, is_video}
 use Rattle.ff_filter.specs.Plain.{no_manual, expr_manual, pass_view, rebase_view}
 use Rattle.ff_filter.specs.Ranges.{range_manual}
 use Rattle.ff_filter.specs.Views.{View}
-use Rattle.ff_spread.specs.Splits.{split_manual, split_view, split_heads}
+use Rattle.ff_filter.specs.spread.Splits.{split_manual, split_view, split_heads}
 use Rattle.ff_planes.specs.declared.rectangle.Rectangle.{Rectangle}
 use Rattle.ff_vfilter.specs.declared.crop.CropSettings.{CropSettings}
 use Rattle.ff_vfilter.specs.declared.pad.PadSettings.{PadSettings}
@@ -33,17 +33,17 @@ use Rattle.ff_vfilter.specs.VFlips.{vflip_view}
 use Rattle.ff_afilter.specs.declared.atrim.ATrim.{ATrim}
 use Rattle.ff_afilter.specs.Trims.{atrim_view}
 use Rattle.ff_afilter.specs.Channels.{mono_head, channels_view, mono_heads}
-use Rattle.ff_stacks.specs.declared.options.StackSettings.{StackSettings}
-use Rattle.ff_stacks.specs.declared.shape.Direction.{Direction}
-use Rattle.ff_stacks.specs.declared.shape.Direction.TheVariants.{Beside, Below}
-use Rattle.ff_stacks.specs.Heads.{input_fault, stack_fault, total}
-use Rattle.ff_stacks.specs.Options.{stack_manual, counted}
-use Rattle.ff_stacks.specs.Stacks.{StackOf, stack_on, stack_view, head_of}
+use Rattle.ff_fsync.specs.declared.stacks.options.StackSettings.{StackSettings}
+use Rattle.ff_fsync.specs.declared.stacks.shape.Direction.{Direction}
+use Rattle.ff_fsync.specs.declared.stacks.shape.Direction.TheVariants.{Beside, Below}
+use Rattle.ff_fsync.specs.stacks.Heads.{input_fault, stack_fault, total}
+use Rattle.ff_fsync.specs.stacks.Options.{stack_manual, counted}
+use Rattle.ff_fsync.specs.stacks.Stacks.{StackOf, stack_on, stack_view, head_of}
 use Rattle.ff_joins.specs.Arguments.{each_head, last_number}
 use Rattle.ff_joins.specs.ConcatOptions.{concat_manual, concat_set, concat_start, segments_said, video_said, sound_said, is_of_kind, concat_view, concat_head}
 use Rattle.ff_joins.specs.JoinOptions.{join_manual, inputs_said, is_like, channels_in, with_channels}
 use Rattle.ff_joins.specs.JoinView.{join_view}
-use Rattle.ff_drawn.specs.Links.{Seen}
+use Rattle.ff_graph_links.specs.pads.Links.{Seen}
 use Rattle.ff_filters.specs.declared.name.FilterName.{FilterName}
 use Rattle.ff_filters.specs.declared.name.FilterName.TheVariants as filter
 use Rattle.ff_filters.specs.Heads.{each_is}
@@ -55,9 +55,9 @@ use Rattle.ff_filters.specs.Configured.{Filtered, filtered, configured_as, plain
 use Rattle.ff_filters.specs.Configured.{crop_by, padded_as, pad_by, paced_as, fps_by, copied_as, split_by, stacked_as, stack_by, segments_as, concat_by, joined_as, join_by}
 use Rattle.ff_filters.proofs.Parting.{if_ok, then_ok, unless_ok, parts_of}
 use Rattle.ff_graph.specs.Configured.{is_surplus}
-use Rattle.ff_rules.proofs.KeptHeads.{IsKept}
-use Rattle.ff_rules.proofs.Lists.{never}
-use Rattle.ff_rules.proofs.Settings.{same_ok, settled, fps_base, split_read}
+use Rattle.ff_plan_rules.proofs.KeptHeads.{IsKept}
+use Rattle.ff_plan_rules.proofs.Lists.{never}
+use Rattle.ff_plan_rules.proofs.Settings.{same_ok, settled, fps_base, split_read}
 
 -- what holds of the heads of each machine that is made so
 pub by_each : {X : Type 0} (P : List StreamHead → Type 0) (shown : X → View) (outs : X → List StreamHead) (by : Result X ConfigError) (f : Filtered)

@@ -6,7 +6,7 @@ use Rattle.ff_map.specs.Reading.{letter_of, start_next, byte_next, end_of}
 use Rattle.ff_map.proofs.Runs.{reads, and_reads, run, and_run}
 use Rattle.ff_map.proofs.Complete.{reads_map}
 use Rattle.ff_map.proofs.Places.{Read-ok}
-use Rattle.ff_rules.specs.Maps.{goes_on, read_on, map_of}
+use Rattle.ff_plan_rules.specs.Maps.{goes_on, read_on, map_of}
 
 -- ---- what is read in the end
 

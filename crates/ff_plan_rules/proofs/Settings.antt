@@ -4,12 +4,12 @@ use Rattle.std.specs.Prelude.{if◌then◌else◌}
 use Rattle.std.specs.Str.{bytes_eq}
 use Rattle.std.proofs.lemmas.Bool.Decides.{nat_tests}
 use Rattle.ff_time.specs.Fraction.{Fraction, IsBase}
-use Rattle.ff_values.specs.declared.config.ConfigError.{ConfigError}
-use Rattle.ff_values.specs.declared.head.StreamHead.{StreamHead}
+use Rattle.ff_frame.specs.declared.config.ConfigError.{ConfigError}
+use Rattle.ff_frame.specs.declared.head.StreamHead.{StreamHead}
 use Rattle.ff_lang.specs.declared.graph.Arg.{Arg}
 use Rattle.ff_filter.specs.Options.{Manual, option_of, only_head}
-use Rattle.ff_spread.specs.declared.copies.SplitSettings.{SplitSettings}
-use Rattle.ff_spread.specs.Splits.{split_manual}
+use Rattle.ff_filter.specs.declared.spread.copies.SplitSettings.{SplitSettings}
+use Rattle.ff_filter.specs.spread.Splits.{split_manual}
 use Rattle.ff_vfilter.specs.declared.fps.FpsSettings.{FpsSettings}
 use Rattle.ff_vfilter.specs.FpsOptions.{ratio_of}
 use Rattle.ff_joins.specs.Arguments.{ranged, or_else, gives, last_from}
@@ -19,7 +19,7 @@ use Rattle.ff_filters.specs.Texts.{on_some, base_of, rate_base}
 use Rattle.ff_filters.proofs.LowestTerms.{base_out}
 use Rattle.ff_filters.proofs.Parting.{then_ok}
 use Rattle.ff_filters.proofs.SettingsBy.{from_map}
-use Rattle.ff_rules.proofs.Lists.{some_same, no_some}
+use Rattle.ff_plan_rules.proofs.Lists.{some_same, no_some}
 
 pub same_ok : {X E : Type 0} (x y : X) → (let r : Result X E = Ok x in r) ≡ Ok y → x ≡ y
 same_ok x y e = cc

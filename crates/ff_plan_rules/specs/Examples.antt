@@ -1,8 +1,8 @@
 -- Maps and a graph by example.
 use Rattle.std.specs.Prelude.{ℕ, Bool, false, List, [], ◌∷◌}
-use Rattle.ff_values.specs.declared.head.StreamHead.{StreamHead}
-use Rattle.ff_values.specs.declared.head.StreamHead.TheVariants.{Video}
-use Rattle.ff_values.specs.declared.video.Format.TheVariants.{C420}
+use Rattle.ff_frame.specs.declared.head.StreamHead.{StreamHead}
+use Rattle.ff_frame.specs.declared.head.StreamHead.TheVariants.{Video}
+use Rattle.ff_frame.specs.declared.video.Format.TheVariants.{C420}
 use Rattle.ff_lang.specs.declared.graph.Graph.{Graph}
 use Rattle.ff_map.specs.declared.map.MapFrom.TheVariants.{Input, Label}
 use Rattle.ff_map.specs.declared.map.MapSpec.{MapSpec}

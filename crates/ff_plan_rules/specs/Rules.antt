@@ -1,7 +1,7 @@
 -- The rules of filters and maps that the product's plans go by.
 use Rattle.std.specs.Prelude.{Bool, true, false, if◌then◌else◌, List, map, Option, Result, Ok, Err}
-use Rattle.ff_values.specs.declared.config.ConfigError.TheVariants.{Pads}
-use Rattle.ff_values.specs.declared.head.StreamHead.{StreamHead}
+use Rattle.ff_frame.specs.declared.config.ConfigError.TheVariants.{Pads}
+use Rattle.ff_frame.specs.declared.head.StreamHead.{StreamHead}
 use Rattle.ff_lang.specs.declared.graph.Graph.{Graph}
 use Rattle.ff_map.specs.declared.map.Kind.{Kind}
 use Rattle.ff_map.specs.declared.map.Kind.TheVariants.{Audio, Video}
@@ -12,7 +12,7 @@ use Rattle.ff_plan.specs.declared.open_pads.OpenIn.{OpenIn}
 use Rattle.ff_plan.specs.declared.open_pads.OpenOut.{OpenOut}
 use Rattle.ff_plan.specs.declared.open_pads.Refused.{Refused}
 use Rattle.ff_plan.specs.Streams.{most_streams}
-use Rattle.ff_rules.specs.Maps.{map_of}
+use Rattle.ff_plan_rules.specs.Maps.{map_of}
 
 -- sound, else pictures
 abbrev pub kind_by : Bool → Kind

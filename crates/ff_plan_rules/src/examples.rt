@@ -1,10 +1,10 @@
 // Maps and a graph by example, by computation.
 ghost use Rattle.std.specs.Prelude.{◌≡◌, true, false, [], ◌∷◌, codes, Some, None, Ok, Err};
-ghost use Rattle.ff_values.specs.declared.config.ConfigError.TheVariants.{Pads};
+ghost use Rattle.ff_frame.specs.declared.config.ConfigError.TheVariants.{Pads};
 ghost use Rattle.ff_map.specs.declared.map.Kind.TheVariants as kind;
 ghost use Rattle.ff_map.specs.declared.map.Pick.TheVariants as pick;
-ghost use Rattle.ff_rules.specs.Examples.{of_input, of_label, pictures, alone};
-ghost use Rattle.ff_rules.specs.Rules.{graph_rules};
+ghost use Rattle.ff_plan_rules.specs.Examples.{of_input, of_label, pictures, alone};
+ghost use Rattle.ff_plan_rules.specs.Rules.{graph_rules};
 
 /// Texts and the maps that they are.
 pub fn some_maps()

@@ -2,7 +2,7 @@
 ghost use Rattle.std.specs.Prelude.{◌≡◌, ◌≤◌, ◌^◌, IfOk, length};
 ghost use Rattle.std.specs.Option.{option_copied};
 ghost use Rattle.ff_graph.specs.Pads.{input_of};
-ghost use Rattle.ff_rules.specs.Rules.{kind_by as kind_of, input_as, open_ins};
+ghost use Rattle.ff_plan_rules.specs.Rules.{kind_by as kind_of, input_as, open_ins};
 
 use ff_graph::{OpenInput, open_inputs};
 use ff_lang::{Graph, Sequence, Text};

@@ -1,16 +1,16 @@
 //! Laws of the rules: functions that do nothing, whose clauses hold of all values.
 ghost use Rattle.std.specs.Prelude.{◌≡◌, ◌↔◌, ℕ, ◌^◌, ◌<◌, ◌≤◌, List, Option, Some, Ok, Err, length, map};
-ghost use Rattle.ff_values.specs.declared.head.StreamHead.{StreamHead};
+ghost use Rattle.ff_frame.specs.declared.head.StreamHead.{StreamHead};
 ghost use Rattle.ff_lang.specs.declared.graph.Graph.{Graph as Text};
-ghost use Rattle.ff_labels.specs.Labels.{filters_of};
+ghost use Rattle.ff_graph_links.specs.labels.Labels.{filters_of};
 ghost use Rattle.ff_map.specs.Grammar.{IsMap};
 ghost use Rattle.ff_map.specs.declared.map.MapSpec.{MapSpec};
 ghost use Rattle.ff_plan.specs.Graphs.{AreRules};
 ghost use Rattle.ff_plan.specs.declared.open_pads.OpenOut.{OpenOut};
 ghost use Rattle.ff_plan.specs.declared.open_pads.Refused.{Refused};
-ghost use Rattle.ff_rules.specs.Kept.{AreFitHeads, KeepHeads};
-ghost use Rattle.ff_rules.specs.Maps.{map_of};
-ghost use Rattle.ff_rules.specs.Rules.{graph_rules, open_ins, configured};
+ghost use Rattle.ff_plan_rules.specs.Kept.{AreFitHeads, KeepHeads};
+ghost use Rattle.ff_plan_rules.specs.Maps.{map_of};
+ghost use Rattle.ff_plan_rules.specs.Rules.{graph_rules, open_ins, configured};
 
 /// The function that reads maps reads all of them, and nothing else.
 pub fn maps_are_read()

@@ -1,5 +1,5 @@
 ghost use Rattle.std.specs.Prelude.{◌≡◌, ℕ, List, IfOk};
-ghost use Rattle.ff_rules.specs.Maps.{map_of as map_that};
+ghost use Rattle.ff_plan_rules.specs.Maps.{map_of as map_that};
 
 use ff_map::{MapError, MapSpec, read_map};
 use std::alloc::{AllocError, Global};

@@ -1,13 +1,13 @@
 // The open output pads of a graph as plans have them.
 ghost use Rattle.std.specs.Prelude.{◌≡◌, ◌≤◌, ◌^◌, IfOk, length, map};
 ghost use Rattle.ff_graph.specs.Pads.{output_of};
-ghost use Rattle.ff_rules.specs.Rules.{output_as, configured as configured_as};
+ghost use Rattle.ff_plan_rules.specs.Rules.{output_as, configured as configured_as};
 
 use crate::in_pads::{MOST_PADS, text_of};
+use ff_frame::{ConfigError, StreamHead};
 use ff_graph::{OpenOutput, Refusal, configure_graph, has_loop};
 use ff_lang::{Graph, Sequence};
 use ff_plan::{OpenOut, Refused};
-use ff_values::{ConfigError, StreamHead};
 use std::alloc::{AllocError, Global};
 
 fn output_pad(alloc: Global, output: &OpenOutput) -> Result<OpenOut, AllocError>

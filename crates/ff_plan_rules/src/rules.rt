@@ -1,15 +1,15 @@
 ghost use Rattle.std.specs.Prelude.{◌≡◌};
 ghost use Rattle.ff_plan.specs.Streams.{most_streams as most_of};
-ghost use Rattle.ff_rules.specs.Rules.{graph_rules};
+ghost use Rattle.ff_plan_rules.specs.Rules.{graph_rules};
 
 use crate::in_pads::input_pads;
 use crate::maps::map_of;
 use crate::out_pads::configured;
+use ff_frame::StreamHead;
 use ff_graph::{has_loop, is_known};
 use ff_lang::{Graph, Sequence};
 use ff_map::MapSpec;
 use ff_plan::{Filtering, OpenIn, OpenOut, Refused};
-use ff_values::StreamHead;
 use ff_words::FileFormat;
 use std::alloc::{AllocError, Global};
 

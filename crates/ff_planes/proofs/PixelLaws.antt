@@ -3,9 +3,9 @@ use Rattle.std.proofs.Common.{◌≡◌, ℕ, ◌+◌, ◌-◌, ◌*◌, ◌<◌
 use Rattle.std.specs.Prelude.{if◌then◌else◌}
 use Rattle.std.proofs.lemmas.List.{length-append, take_at, drop_at, get_or-take, get_or-drop}
 use Rattle.std.proofs.lemmas.List.FromFn.{length-map-range_with_len, get_or-map-range_with_len}
-use Rattle.ff_values.specs.declared.video.Format.{Format}
-use Rattle.ff_values.specs.declared.video.VFrame.{VFrame}
-use Rattle.ff_values.specs.Video.{frame_size, chroma_width, chroma_height}
+use Rattle.ff_frame.specs.declared.video.Format.{Format}
+use Rattle.ff_frame.specs.declared.video.VFrame.{VFrame}
+use Rattle.ff_frame.specs.Video.{frame_size, chroma_width, chroma_height}
 use Rattle.ff_planes.specs.declared.component.Component.{Component}
 use Rattle.ff_planes.specs.declared.component.Component.TheVariants.{Luma, Blue, Red}
 use Rattle.ff_planes.specs.declared.rectangle.Rectangle.{Rectangle}

@@ -1,7 +1,7 @@
 -- A picture made plane by plane.
 use Rattle.std.proofs.Common.{◌≡◌, ℕ, ◌*◌, List, ◌++◌, take, drop, refl, ap, ◌∙◌}
-use Rattle.ff_values.specs.declared.video.Format.{Format}
-use Rattle.ff_values.specs.Video.{chroma_width, chroma_height}
+use Rattle.ff_frame.specs.declared.video.Format.{Format}
+use Rattle.ff_frame.specs.Video.{chroma_width, chroma_height}
 use Rattle.ff_planes.specs.declared.component.Component.TheVariants.{Luma, Blue, Red}
 use Rattle.ff_planes.specs.Grid.{plane}
 use Rattle.ff_planes.specs.Flips.{hflipped, vflipped, mirrored, turned_over}

@@ -3,9 +3,9 @@ use Rattle.std.proofs.Common.{◌≡◌, ℕ, suc, ◌+◌, ◌-◌, ◌*◌, �
 use Rattle.std.specs.Prelude.{All, nat_lt, if◌then◌else◌}
 use Rattle.std.proofs.lemmas.Bool.Decides.{nat_tests}
 use Rattle.std.proofs.lemmas.List.{length-take-le, length-drop}
-use Rattle.ff_values.specs.declared.video.Format.{Format}
-use Rattle.ff_values.specs.declared.video.VFrame.{VFrame}
-use Rattle.ff_values.specs.Video.{IsVideo, chroma_width, chroma_height}
+use Rattle.ff_frame.specs.declared.video.Format.{Format}
+use Rattle.ff_frame.specs.declared.video.VFrame.{VFrame}
+use Rattle.ff_frame.specs.Video.{IsVideo, chroma_width, chroma_height}
 use Rattle.ff_planes.specs.declared.component.Component.{Component}
 use Rattle.ff_planes.specs.declared.component.Component.TheVariants.{Luma, Blue, Red}
 use Rattle.ff_planes.specs.Grid.{columns, rows, plane, line, lines, row_of, plane_of, sample}

@@ -1,8 +1,8 @@
 -- The pictures of the worked examples.
 use Rattle.std.specs.Prelude.{ℕ, List, [], ◌∷◌, pos}
-use Rattle.ff_values.specs.declared.video.Format.TheVariants.{C422, Mono}
-use Rattle.ff_values.specs.declared.video.VFrame.{VFrame}
-use Rattle.ff_values.specs.Frame.{video_frame}
+use Rattle.ff_frame.specs.declared.video.Format.TheVariants.{C422, Mono}
+use Rattle.ff_frame.specs.declared.video.VFrame.{VFrame}
+use Rattle.ff_frame.specs.Frame.{video_frame}
 use Rattle.ff_planes.specs.declared.rectangle.Rectangle.{Rectangle}
 
 -- three columns and two rows of 4:2:0: six pixels of Y, two of Cb and two of Cr

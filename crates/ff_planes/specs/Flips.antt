@@ -1,6 +1,6 @@
 -- Mirrored pictures.
 use Rattle.std.specs.Prelude.{ℕ, ◌-◌, List}
-use Rattle.ff_values.specs.declared.video.Format.{Format}
+use Rattle.ff_frame.specs.declared.video.Format.{Format}
 use Rattle.ff_planes.specs.Grid.{columns, rows, pixel, sample, plane_of, picture_of}
 
 -- left and right change places: in each plane the last column comes first

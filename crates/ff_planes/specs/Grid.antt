@@ -1,8 +1,8 @@
 -- Where the pixels of a picture lie, and the picture whose pixels a function gives (yuv4mpeg(5), "Frame Format").
 use Rattle.std.specs.Prelude.{ℕ, zero, suc, ◌+◌, ◌*◌, List, [], ◌++◌, map, take, drop, slice_index}
 use Rattle.std.specs.List.{range_with_len}
-use Rattle.ff_values.specs.declared.video.Format.{Format}
-use Rattle.ff_values.specs.Video.{chroma_width, chroma_height}
+use Rattle.ff_frame.specs.declared.video.Format.{Format}
+use Rattle.ff_frame.specs.Video.{chroma_width, chroma_height}
 use Rattle.ff_planes.specs.declared.component.Component.{Component}
 use Rattle.ff_planes.specs.declared.component.Component.TheVariants.{Luma, Blue, Red}
 

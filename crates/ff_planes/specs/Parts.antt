@@ -1,8 +1,8 @@
 -- A part of a picture, and a picture on black.
 use Rattle.std.specs.Prelude.{ℕ, ◌+◌, ◌-◌, ◌/◌, ◌≤◌, Bool, ◌&&◌, nat_lt, nat_le, if◌then◌else◌, List, ◌++◌, replicate}
-use Rattle.ff_values.specs.declared.video.Format.{Format}
-use Rattle.ff_values.specs.declared.video.Format.TheVariants.{C420, C422, C444, Mono}
-use Rattle.ff_values.specs.Video.{chroma_width, chroma_height}
+use Rattle.ff_frame.specs.declared.video.Format.{Format}
+use Rattle.ff_frame.specs.declared.video.Format.TheVariants.{C420, C422, C444, Mono}
+use Rattle.ff_frame.specs.Video.{chroma_width, chroma_height}
 use Rattle.ff_planes.specs.declared.rectangle.Rectangle.{Rectangle}
 use Rattle.ff_planes.specs.declared.component.Component.{Component}
 use Rattle.ff_planes.specs.declared.component.Component.TheVariants.{Luma, Blue, Red}

@@ -1,4 +1,4 @@
-use ff_values::Format;
+use ff_frame::Format;
 
 /// Which plane of a picture.
 #[derive(Clone, Copy, Debug, PartialEq, Eq)]
@@ -13,7 +13,7 @@ pub enum Component {
 
 impl Component {
     ghost use Rattle.std.specs.Prelude.{◌≡◌, ◌≤◌, ◌*◌, length};
-    ghost use Rattle.ff_values.specs.Video.{IsVideo};
+    ghost use Rattle.ff_frame.specs.Video.{IsVideo};
     ghost use Rattle.ff_planes.specs.Grid.{columns as columns_of, rows as rows_of, plane as plane_of};
 
     /// The columns of this plane, for so many of Y.

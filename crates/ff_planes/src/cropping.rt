@@ -1,10 +1,10 @@
 ghost use Rattle.std.specs.Prelude.{◌≡◌, ◌+◌, ◌*◌, ◌≤◌, ◌++◌, length, OnOk, IfOk};
-ghost use Rattle.ff_values.specs.Video.{IsVideo};
+ghost use Rattle.ff_frame.specs.Video.{IsVideo};
 ghost use Rattle.ff_planes.specs.Parts.{IsPart, cropped, part_of};
 
 use crate::component::Component;
 use crate::rectangle::Rectangle;
-use ff_values::Format;
+use ff_frame::Format;
 use std::alloc::{AllocError, Global};
 
 // Adds what a rectangle shows of a plane.

@@ -1,9 +1,9 @@
 ghost use Rattle.std.specs.Prelude.{◌≡◌, ◌≢◌, ℕ, ◌+◌, ◌-◌, ◌*◌, ◌<◌, ◌≤◌, ◌++◌, length, take, drop};
-ghost use Rattle.ff_values.specs.Video.{IsVideo};
+ghost use Rattle.ff_frame.specs.Video.{IsVideo};
 ghost use Rattle.ff_planes.specs.Grid.{line};
 ghost use Rattle.ff_planes.specs.Flips.{hflipped, vflipped, mirrored, turned_over};
 
-use ff_values::Format;
+use ff_frame::Format;
 
 // Each row of a plane from its last column to its first.
 fn mirror_rows(columns: usize, rows: usize, bytes: &mut [u8])

@@ -1,10 +1,10 @@
 // What follows of the definitions alone.
 ghost use Rattle.std.specs.Prelude.{◌≡◌, ◌<◌, ℕ, List, [], ◌∷◌, length};
-ghost use Rattle.ff_values.specs.declared.video.Format.{Format};
-ghost use Rattle.ff_values.specs.declared.video.Format.TheVariants.{C420, C422, C444, Mono};
-ghost use Rattle.ff_values.specs.Video.{IsVideo, frame_size};
+ghost use Rattle.ff_frame.specs.declared.video.Format.{Format};
+ghost use Rattle.ff_frame.specs.declared.video.Format.TheVariants.{C420, C422, C444, Mono};
+ghost use Rattle.ff_frame.specs.Video.{IsVideo, frame_size};
 ghost use Rattle.ff_planes.specs.declared.component.Component.{Component};
-ghost use Rattle.ff_values.specs.declared.video.VFrame.{VFrame};
+ghost use Rattle.ff_frame.specs.declared.video.VFrame.{VFrame};
 ghost use Rattle.ff_planes.specs.declared.component.Component.TheVariants.{Luma};
 ghost use Rattle.ff_planes.specs.declared.rectangle.Rectangle.{Rectangle};
 ghost use Rattle.ff_planes.specs.Grid.{columns, rows, pixel, picture_of};

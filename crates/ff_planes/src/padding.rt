@@ -1,11 +1,11 @@
 ghost use Rattle.std.specs.Prelude.{◌≡◌, ◌+◌, ◌*◌, ◌^◌, ◌≤◌, ◌++◌, length, replicate, OnOk, IfOk};
-ghost use Rattle.ff_values.specs.Video.{IsSide, IsVideo};
+ghost use Rattle.ff_frame.specs.Video.{IsSide, IsVideo};
 ghost use Rattle.ff_planes.specs.Grid.{lines};
 ghost use Rattle.ff_planes.specs.Parts.{IsPart, padded, on_black, between_values};
 
 use crate::component::Component;
 use crate::rectangle::Rectangle;
-use ff_values::Format;
+use ff_frame::Format;
 use std::alloc::{AllocError, Global};
 
 // Adds so many bytes of one value.

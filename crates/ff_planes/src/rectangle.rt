@@ -1,4 +1,4 @@
-use ff_values::Format;
+use ff_frame::Format;
 
 /// A rectangle of a picture, in pixels of Y.
 #[derive(Clone, Copy, Debug, PartialEq, Eq)]

@@ -1,11 +1,11 @@
 ghost use Rattle.std.specs.Prelude.{◌≡◌, ◌<◌, ◌≤◌, ◌++◌, All, OnOk, IfOk};
 ghost use Rattle.std.specs.List.{flat_map};
-ghost use Rattle.ff_values.specs.Video.{IsSide};
+ghost use Rattle.ff_frame.specs.Video.{IsSide};
 ghost use Rattle.ff_planes.specs.Grid.{rows, line, lines, columns as columns_of, plane as plane_of};
 ghost use Rattle.ff_planes.specs.Stacks.{IsAsHigh, IsAsWide, FillColumns, FillRows, hstacked, vstacked, beside_row, below_plane};
 
 use crate::component::Component;
-use ff_values::{Format, VFrame};
+use ff_frame::{Format, VFrame};
 use std::alloc::{AllocError, Global};
 
 // Adds a row of pictures side by side.

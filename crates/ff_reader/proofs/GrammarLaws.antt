@@ -1,11 +1,11 @@
 -- What an answer says of the head of a whole input, in a format that is read unit by unit.
 use Rattle.std.proofs.Common.{◌≡◌, ℕ, Bool, false, List, ◌++◌, length, Err}
 use Rattle.std.specs.Prelude.{◌↔◌, IfOk}
-use Rattle.ff_values.specs.declared.cut.HeadEnd.TheVariants as end
-use Rattle.ff_cut.specs.Heads.{early, answered, IsOpen}
-use Rattle.ff_cut.specs.Walks.{Grammar, reading, head_limit, head_by, answer_by, IsGrammar, Keeps}
-use Rattle.ff_cut.proofs.AnswerLaws as answers
-use Rattle.ff_cut.proofs.ReadingLaws.{reading_stays, reading_opens, reading_sound, early_sound}
+use Rattle.ff_frame.specs.declared.cut.HeadEnd.TheVariants as end
+use Rattle.ff_reader.specs.Heads.{early, answered, IsOpen}
+use Rattle.ff_reader.specs.Walks.{Grammar, reading, head_limit, head_by, answer_by, IsGrammar, Keeps}
+use Rattle.ff_reader.proofs.AnswerLaws as answers
+use Rattle.ff_reader.proofs.ReadingLaws.{reading_stays, reading_opens, reading_sound, early_sound}
 
 -- not yet exactly where the input goes on, and some bytes decide otherwise than others
 pub answer_not_yet : {H S : Type 0} (g : Grammar H S) → IsGrammar g → (whole : Bool) (bs : List ℕ) → (answer_by g whole bs ≡ Err end.NotYet) ↔ ((whole ≡ false) × IsOpen (head_by g) bs)

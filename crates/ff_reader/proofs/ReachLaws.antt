@@ -1,12 +1,12 @@
 -- The place that a reading has reached.
 use Rattle.std.proofs.Common.{◌≡◌, ℕ, suc, ◌+◌, ◌-◌, ◌<◌, ◌≤◌, inl, inr, List, [], ◌∷◌, ◌++◌, take, drop, length, Option, Some, None, refl, sym, ap, ◌∙◌, subst, arith, append_assoc, append-nil, length-append}
 use Rattle.std.proofs.lemmas.List.{drop-append-le, drop-drop, drop_all, take_all, length-drop}
-use Rattle.ff_cut.specs.declared.step.Step.{Step}
-use Rattle.ff_cut.specs.declared.step.Step.TheVariants.{Wait, Decide, Skip}
-use Rattle.ff_cut.specs.Heads.{Found}
-use Rattle.ff_cut.specs.Walks.{Reading, Grammar, walk, walked, head_limit, Reached, IsReached, IsGrammar, Settles}
-use Rattle.ff_cut.proofs.WalkLaws.{stepped, walk-drop}
-use Rattle.ff_cut.proofs.ReadingLaws.{take-append}
+use Rattle.ff_reader.specs.declared.step.Step.{Step}
+use Rattle.ff_reader.specs.declared.step.Step.TheVariants.{Wait, Decide, Skip}
+use Rattle.ff_reader.specs.Heads.{Found}
+use Rattle.ff_reader.specs.Walks.{Reading, Grammar, walk, walked, head_limit, Reached, IsReached, IsGrammar, Settles}
+use Rattle.ff_reader.proofs.WalkLaws.{stepped, walk-drop}
+use Rattle.ff_reader.proofs.ReadingLaws.{take-append}
 
 pub Reached-start : {H S : Type 0} (g : Grammar H S) → Reached g (length g.magic) g.start []
 Reached-start g more =

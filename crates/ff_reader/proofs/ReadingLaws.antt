@@ -4,12 +4,12 @@ use Rattle.std.specs.Prelude.{nat_lt, All}
 use Rattle.std.proofs.lemmas.List.{take-append-le, take_all, length-take, length-drop, drop_all}
 use Rattle.std.proofs.lemmas.List.Elements.{All-nil, All-cons, All-drop}
 use Rattle.std.proofs.lemmas.Bool.Decides.{nat_tests}
-use Rattle.ff_cut.specs.declared.fault.HeadFault.TheVariants.{Damaged, Unsupported}
-use Rattle.ff_cut.specs.Heads.{Found, early, IsOpen, Stays, Opens}
-use Rattle.ff_cut.specs.Walks.{Grammar, agrees, walk, walked, within, reading, head_limit, head_by, IsGrammar, Keeps}
-use Rattle.ff_cut.proofs.AgreeLaws.{bool_cases, agrees-append, agrees_long, filled, agrees_complete, filled_bytes, length_filled}
-use Rattle.ff_cut.proofs.AnswerLaws.{head_none, head_some, early_long, early_short}
-use Rattle.ff_cut.proofs.WalkLaws.{walk-drop, walk_long, walk-append, walk_damaged, walk_sound}
+use Rattle.ff_reader.specs.declared.fault.HeadFault.TheVariants.{Damaged, Unsupported}
+use Rattle.ff_reader.specs.Heads.{Found, early, IsOpen, Stays, Opens}
+use Rattle.ff_reader.specs.Walks.{Grammar, agrees, walk, walked, within, reading, head_limit, head_by, IsGrammar, Keeps}
+use Rattle.ff_reader.proofs.AgreeLaws.{bool_cases, agrees-append, agrees_long, filled, agrees_complete, filled_bytes, length_filled}
+use Rattle.ff_reader.proofs.AnswerLaws.{head_none, head_some, early_long, early_short}
+use Rattle.ff_reader.proofs.WalkLaws.{walk-drop, walk_long, walk-append, walk_damaged, walk_sound}
 
 pub take-append : (n : ℕ) (bs more : List ℕ) → take n (bs ++ more) ≡ take n bs ++ take (n - length bs) more
 take-append zero bs more = let e : zero - length bs ≡ zero = omega arith in rw e refl

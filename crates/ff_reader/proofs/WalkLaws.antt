@@ -1,10 +1,10 @@
 -- The walk over the units of a head.
 use Rattle.std.proofs.Common.{◌≡◌, ℕ, zero, suc, ◌+◌, ◌<◌, ◌≤◌, ◌⊎◌, inl, inr, List, [], ◌∷◌, ◌++◌, drop, length, Option, Some, None, Ok, Err, refl, sym, ap, ◌∙◌, subst, arith, add-zero}
-use Rattle.ff_cut.specs.declared.fault.HeadFault.TheVariants.{Damaged}
-use Rattle.ff_cut.specs.declared.step.Step.{Step}
-use Rattle.ff_cut.specs.declared.step.Step.TheVariants.{Wait, Decide, Skip}
-use Rattle.ff_cut.specs.Heads.{Found}
-use Rattle.ff_cut.specs.Walks.{Reading, walk, head_limit, Settles, DamagesBefore, IsKept, Keeps}
+use Rattle.ff_reader.specs.declared.fault.HeadFault.TheVariants.{Damaged}
+use Rattle.ff_reader.specs.declared.step.Step.{Step}
+use Rattle.ff_reader.specs.declared.step.Step.TheVariants.{Wait, Decide, Skip}
+use Rattle.ff_reader.specs.Heads.{Found}
+use Rattle.ff_reader.specs.Walks.{Reading, walk, head_limit, Settles, DamagesBefore, IsKept, Keeps}
 
 -- what follows a step
 abbrev pub stepped : {H S : Type 0} → Reading H S → Step H S → ℕ → List ℕ → Option (Found H)

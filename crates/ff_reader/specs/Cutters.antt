@@ -1,7 +1,7 @@
 -- What a cut of any format is to contracts.
 use Rattle.std.specs.Prelude.{◌≡◌, ℕ, ◌+◌, Bool, true, List, [], ◌++◌, length, slice_get, Option, Some}
-use Rattle.ff_values.specs.declared.head.StreamHead.{StreamHead}
-use Rattle.ff_values.specs.declared.packet.Pkt.{Pkt}
+use Rattle.ff_frame.specs.declared.head.StreamHead.{StreamHead}
+use Rattle.ff_frame.specs.declared.packet.Pkt.{Pkt}
 
 -- of a format's heads H and its cuts C
 pub record Cutter (H C : Type 0) : Type 1 where

@@ -1,10 +1,10 @@
 -- The head of a whole input, and what its first bytes decide, in any format. Of a format is given what the first bytes decide,
 -- whatever follows (`reading`), and what an input is that ends before they do (`short`).
 use Rattle.std.specs.Prelude.{◌≡◌, ◌≢◌, ℕ, ◌<◌, nat_lt, Bool, if◌then◌else◌, List, ◌++◌, length, Option, Some, None, unwrap_or, Result, Ok, Err, All}
-use Rattle.ff_values.specs.declared.cut.HeadEnd.{HeadEnd}
-use Rattle.ff_values.specs.declared.cut.HeadEnd.TheVariants as end
-use Rattle.ff_cut.specs.declared.fault.HeadFault.{HeadFault}
-use Rattle.ff_cut.specs.declared.fault.HeadFault.TheVariants.{Damaged, Unsupported}
+use Rattle.ff_frame.specs.declared.cut.HeadEnd.{HeadEnd}
+use Rattle.ff_frame.specs.declared.cut.HeadEnd.TheVariants as end
+use Rattle.ff_reader.specs.declared.fault.HeadFault.{HeadFault}
+use Rattle.ff_reader.specs.declared.fault.HeadFault.TheVariants.{Damaged, Unsupported}
 
 -- a head, or the fault for which there is none
 abbrev pub Found : Type 0 → Type 0

@@ -1,10 +1,10 @@
 -- The head of a format that is read unit by unit (a chunk, a block of metadata, a box).
 use Rattle.std.specs.Prelude.{◌≡◌, ℕ, zero, suc, ◌+◌, ◌^◌, ◌<◌, ◌≤◌, ◌⊎◌, ◌==◌, ◌&&◌, nat_le, not, Bool, true, if◌then◌else◌, List, [], ◌∷◌, ◌++◌, take, drop, length, Option, Some, None, Result, Ok, Err}
-use Rattle.ff_values.specs.declared.cut.HeadEnd.{HeadEnd}
-use Rattle.ff_cut.specs.declared.fault.HeadFault.TheVariants.{Damaged, Unsupported}
-use Rattle.ff_cut.specs.declared.step.Step.{Step}
-use Rattle.ff_cut.specs.declared.step.Step.TheVariants.{Wait, Decide, Skip}
-use Rattle.ff_cut.specs.Heads.{Found, early, head, answer}
+use Rattle.ff_frame.specs.declared.cut.HeadEnd.{HeadEnd}
+use Rattle.ff_reader.specs.declared.fault.HeadFault.TheVariants.{Damaged, Unsupported}
+use Rattle.ff_reader.specs.declared.step.Step.{Step}
+use Rattle.ff_reader.specs.declared.step.Step.TheVariants.{Wait, Decide, Skip}
+use Rattle.ff_reader.specs.Heads.{Found, early, head, answer}
 
 -- What a unit does that begins the bytes, at an offset of the input, behind what is known.
 abbrev pub Reading : Type 0 → Type 0 → Type 0

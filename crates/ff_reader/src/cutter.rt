@@ -1,8 +1,8 @@
 ghost use Rattle.std.specs.Prelude.{◌≡◌, ◌+◌, ◌≤◌, ◌<◌, ◌^◌, ℕ, [], ◌++◌, Some, None, false, true, length, OnOk, OnErr, IsOk};
-ghost use Rattle.ff_values.specs.declared.packet.Pkt.{Pkt};
-ghost use Rattle.ff_cut.specs.Cutters.{Cutter, Feeds, KeepsCut, GivesPacket, GaveAll, SameElsewhere};
+ghost use Rattle.ff_frame.specs.declared.packet.Pkt.{Pkt};
+ghost use Rattle.ff_reader.specs.Cutters.{Cutter, Feeds, KeepsCut, GivesPacket, GaveAll, SameElsewhere};
 
-use ff_values::{Cut, StreamHead};
+use ff_frame::{Cut, StreamHead};
 use std::alloc::{AllocError, Global};
 
 /// The packets of a format's input, from pieces of any size.

@@ -1,7 +1,7 @@
 ghost use Rattle.std.specs.Prelude.{◌≡◌, Err, if◌then◌else◌};
-ghost use Rattle.ff_cut.specs.Heads.{early, answered, answered_or};
+ghost use Rattle.ff_reader.specs.Heads.{early, answered, answered_or};
 
-use ff_values::HeadEnd;
+use ff_frame::HeadEnd;
 
 /// Why an input has no head.
 #[derive(Clone, Copy, PartialEq, Eq, Debug)]

@@ -1,6 +1,6 @@
 ghost use Rattle.std.specs.Prelude.{◌≡◌, ◌<◌, ◌≤◌, ◌^◌, ℕ};
-ghost use Rattle.ff_cut.specs.Walks.{Grammar, IsGrammar, Keeps};
-ghost use Rattle.ff_cut.specs.declared.step.Step.TheVariants.{Skip};
+ghost use Rattle.ff_reader.specs.Walks.{Grammar, IsGrammar, Keeps};
+ghost use Rattle.ff_reader.specs.declared.step.Step.TheVariants.{Skip};
 
 use crate::step::Step;
 

@@ -17,7 +17,7 @@ pub struct Held {
 
 impl Model for Held {
     ghost use Rattle.std.specs.Prelude.{◌≤◌, ◌-◌, drop, length, vec_capacity, vec_len};
-    ghost use Rattle.ff_cut.specs.Kept.{Kept};
+    ghost use Rattle.ff_reader.specs.Kept.{Kept};
 
     ghost Value = { Kept };
 

@@ -1,12 +1,12 @@
 ghost use Rattle.std.specs.Prelude.{◌≡◌, ◌≤◌, ◌^◌, ◌↔◌, List, [], ◌∷◌, ◌++◌, ℕ, Err, None, length, false, IfOk};
-ghost use Rattle.ff_cut.specs.Heads.{answered, IsOpen};
-ghost use Rattle.ff_cut.specs.Walks.{agrees, walked, reading, head_limit, head_by, answer_by, Reached, IsReached};
+ghost use Rattle.ff_reader.specs.Heads.{answered, IsOpen};
+ghost use Rattle.ff_reader.specs.Walks.{agrees, walked, reading, head_limit, head_by, answer_by, Reached, IsReached};
 
 use crate::fault::{HeadFault, answer_to};
 use crate::format::HeadFormat;
 use crate::step::Step;
+use ff_frame::HeadEnd;
 use ff_lists::{from_place, front};
-use ff_values::HeadEnd;
 
 /// A head is complete within so many bytes.
 const LIMIT: usize = 1 << 28;

@@ -1,9 +1,9 @@
 // Rows of the whole command: a run over a host in memory, and what must come of it.
 use crate::noting_host::NotingHost;
-use ff_calls::{Stop, bytes_of, escaped, halves, plain, plain_text, printable};
-use ff_host::Host;
-use ff_memory_host::{FailAt, HostCall, MemHost};
-use ff_run::{ffmpeg, status_number};
+use ff_command::status_number;
+use ff_host::{FailAt, Host, HostCall, MemHost};
+use ff_rows_calls::{Stop, bytes_of, escaped, halves, plain, plain_text, printable};
+use ff_run::ffmpeg;
 use std::alloc::{AllocError, Global};
 use std::sync::Wait;
 use std::thread::Threads;

@@ -9,7 +9,7 @@ mod noting_host;
 mod row;
 mod runner;
 
-use ff_calls::Stop;
+use ff_rows_calls::Stop;
 use runner::Runner;
 use std::io::{self, Write};
 use std::process::ExitCode;

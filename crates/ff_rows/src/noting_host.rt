@@ -1,8 +1,7 @@
 // A host in memory that notes which names were created.
 ghost use Rattle.std.specs.Prelude.{};
 
-use ff_host::{Failed, Host, HostError};
-use ff_memory_host::{MemHost, MemSink, MemSource};
+use ff_host::{Failed, Host, HostError, MemHost, MemSink, MemSource};
 use std::alloc::Global;
 
 /// A host in memory, and each name on which a sink was to be created.

@@ -1,7 +1,7 @@
 // One row: what it gives, what it runs, and what doesn't hold.
 use crate::command::{Given, Left, failure_of, given_bytes, run_command, speaks_of_file};
-use ff_calls::{Stop, answer, bytes_of, escaped, halves, plain, plain_text, plain_words};
-use ff_memory_host::FailAt;
+use ff_host::FailAt;
+use ff_rows_calls::{Stop, answer, bytes_of, escaped, halves, plain, plain_text, plain_words};
 use std::alloc::{AllocError, Global};
 use std::mem;
 use std::sync::Wait;

@@ -1,6 +1,6 @@
 // Runs tables row by row, counts the rows, and keeps what is to be printed.
 use crate::row::Row;
-use ff_calls::Stop;
+use ff_rows_calls::Stop;
 use std::alloc::{AllocError, Global};
 use std::sync::Wait;
 use std::thread::Threads;

@@ -1,5 +1,5 @@
 ghost use Rattle.std.specs.Prelude.{◌≤◌, ◌+◌, ◌^◌, IfSome};
-ghost use Rattle.ff_values.specs.Audio.{IsAudio};
+ghost use Rattle.ff_frame.specs.Audio.{IsAudio};
 ghost use Rattle.ff_flac_enc.specs.Frame.{IsBlock};
 ghost use Rattle.ff_flac_enc.specs.Totals.{counted};
 
@@ -7,8 +7,8 @@ use crate::made::{Kind, Later, made};
 use crate::table::Stop;
 use crate::words::{Words, read_number};
 use ff_flac_enc::{Counter, encode_block};
+use ff_frame::{AFrame, Samples, Totals};
 use ff_pcm::is_audio;
-use ff_values::{AFrame, Samples, Totals};
 use std::alloc::{AllocError, Global};
 
 // The block of these samples, if it is one.

@@ -4,9 +4,9 @@ use crate::lang::show;
 use crate::maps::show_map;
 use crate::table::{Stop, text_of};
 use crate::words::{Words, read_number};
+use ff_frame::{Codec, HashKind};
 use ff_lang::Graph;
 use ff_time::TimeCut;
-use ff_values::{Codec, HashKind};
 use ff_words::{
     Command, FileFormat, InputJob, Job, OutputJob, Solo, WordError, WordKind, read_words,
 };

@@ -1,8 +1,8 @@
 ghost use Rattle.std.specs.Prelude.{◌≡◌, ◌+◌, ◌≤◌, ◌^◌, false, length};
 
 use crate::table::Stop;
-use ff_cut::PacketCut;
-use ff_values::{Cut, Pkt};
+use ff_frame::{Cut, Pkt};
+use ff_reader::PacketCut;
 use std::alloc::Global;
 
 /// The cut of an input of any format: it is fed, then ended, and gives what it gives.

@@ -5,9 +5,10 @@ ghost use Rattle.ff_mux.specs.FlacHead.{CanHold};
 use crate::table::Stop;
 use crate::wav::head_of;
 use crate::words::Words;
+use ff_frame::{Bytes, Codec, Format, HashKind, Pkt, StreamHead, Totals};
+use ff_mux::{AnyWriter, FlacWriter, HashWriter, Writer, Y4mWriter};
 use ff_time::Rational;
-use ff_values::{Bytes, Codec, Format, HashKind, Pkt, StreamHead, Totals};
-use ff_writers::{AnyWriter, FlacWriter, HashWriter, WavPut, Writer, Y4mWriter};
+use ff_wav::WavPut;
 use std::alloc::Global;
 
 // The packet of this number, a tick long, of the bytes that the word at this place says.

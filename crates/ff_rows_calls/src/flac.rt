@@ -9,9 +9,9 @@ use crate::table::Stop;
 use crate::words::Words;
 use ff_flac_dec::{DecodeEnd, FlacHead, FlacWalk, decode};
 use ff_flac_frame::{FlacFrame, FlacStream, FrameEnd, SubKind, Subframe, frame_at};
+use ff_frame::{Codec, StreamHead};
 use ff_lists::front;
 use ff_time::Rational;
-use ff_values::{Codec, StreamHead};
 use std::alloc::Global;
 
 fn name_of(kind: SubKind) -> &'static str {

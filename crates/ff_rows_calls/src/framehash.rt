@@ -1,8 +1,8 @@
 // Calls of the framehash muxer: the lines before those of the packets, and the line of a packet.
 use crate::table::{Stop, bytes_of, text_of};
+use ff_frame::{Bytes, Codec, Format, HashKind, Pkt, StreamHead};
 use ff_mux::HashPut;
 use ff_time::Rational;
-use ff_values::{Bytes, Codec, Format, HashKind, Pkt, StreamHead};
 use std::alloc::Global;
 
 /// More streams than any row has.

@@ -3,7 +3,7 @@ ghost use Rattle.std.specs.Prelude.{◌≤◌, IfOk};
 
 use crate::table::Stop;
 use crate::words::Words;
-use ff_generated::{gen_wav, gen_y4m};
+use ff_selfrun::{gen_wav, gen_y4m};
 use sha2::{Digest, Sha256};
 use std::alloc::Global;
 

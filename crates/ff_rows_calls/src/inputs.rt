@@ -3,9 +3,9 @@ use crate::heads::{is_whole, show_end, show_flac, show_stream, show_wav, show_y4
 use crate::runs::Runs;
 use crate::table::Stop;
 use crate::words::Words;
-use ff_heads::{InputHead, InputWalk, read_input_head};
+use ff_frame::HeadEnd;
+use ff_input::{InputHead, InputWalk, read_input_head};
 use ff_lists::front;
-use ff_values::HeadEnd;
 use ff_words::FileFormat;
 use std::alloc::Global;
 

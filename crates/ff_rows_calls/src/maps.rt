@@ -4,9 +4,9 @@ ghost use Rattle.std.specs.List.{AllByRecursion};
 
 use crate::table::Stop;
 use crate::words::{Words, read_number};
+use ff_frame::{Codec, Format, StreamHead};
 use ff_map::{Kind, MapError, MapFrom, MapSpec, Pick, StreamRef, best_streams, read_map, select};
 use ff_time::Rational;
-use ff_values::{Codec, Format, StreamHead};
 use std::alloc::{AllocError, Global};
 
 fn name_of(kind: Kind) -> &'static str {

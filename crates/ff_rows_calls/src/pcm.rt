@@ -1,13 +1,13 @@
 ghost use Rattle.std.specs.Prelude.{◌≡◌, ◌≤◌, IfOk, IfSome};
-ghost use Rattle.ff_values.specs.Audio.{IsAudio};
-ghost use Rattle.ff_values.specs.Codecs.{IsPcmCodec};
+ghost use Rattle.ff_frame.specs.Audio.{IsAudio};
+ghost use Rattle.ff_frame.specs.Codecs.{IsPcmCodec};
 ghost use Rattle.ff_pcm.specs.Frames.{IsPcmHead};
 
 use crate::table::Stop;
 use crate::words::Words;
+use ff_frame::{AFrame, Bytes, Codec, Pkt, Samples, StreamHead};
 use ff_pcm::{depth_change, depth_of, has_blocks, is_audio, pcm_decode, pcm_encode};
 use ff_time::Rational;
-use ff_values::{AFrame, Bytes, Codec, Pkt, Samples, StreamHead};
 use std::alloc::Global;
 
 /// The codec of linear PCM of this name.

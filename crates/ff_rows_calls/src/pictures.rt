@@ -1,12 +1,12 @@
 ghost use Rattle.std.specs.Prelude.{◌≤◌, IfOk};
-ghost use Rattle.ff_values.specs.Video.{IsVideo};
+ghost use Rattle.ff_frame.specs.Video.{IsVideo};
 
 use crate::heads::name_of_format;
 use crate::table::Stop;
 use crate::words::Words;
+use ff_frame::{Bytes, Format, Pkt, StreamHead, VFrame};
 use ff_pcm::{raw_decode, raw_encode};
 use ff_time::Rational;
-use ff_values::{Bytes, Format, Pkt, StreamHead, VFrame};
 use ff_y4m::y4m_header;
 use std::alloc::Global;
 

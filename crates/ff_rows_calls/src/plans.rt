@@ -3,12 +3,12 @@ use crate::heads::name_of;
 use crate::maps::streams;
 use crate::table::Stop;
 use crate::words::Words;
-use ff_frame::Lane;
+use ff_frame::{ConfigError, StreamHead};
 use ff_lang::Text;
-use ff_plan::{Edge, Plan, PlanError, PlanNode, is_within_limits, plan};
-use ff_rules::GraphRules;
+use ff_plan::{Plan, PlanError, PlanNode, is_within_limits, plan};
+use ff_plan_rules::GraphRules;
 use ff_sched::Way;
-use ff_values::{ConfigError, StreamHead};
+use ff_stream::{Edge, Lane};
 use ff_words::{Command, Job, read_words};
 use std::alloc::{AllocError, Global};
 

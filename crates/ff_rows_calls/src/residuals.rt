@@ -1,11 +1,10 @@
 ghost use Rattle.std.specs.Prelude.{◌≡◌, ◌≤◌, true, All};
-ghost use Rattle.ff_values.specs.Audio.{FitsBits};
+ghost use Rattle.ff_frame.specs.Audio.{FitsBits};
 
 use crate::table::Stop;
 use crate::words::Words;
 use ff_bits::BitWriter;
-use ff_flac_rice::{best_coding, write_residual};
-use ff_flac_sub::write_subframe;
+use ff_flac_subframe::{best_coding, write_residual, write_subframe};
 use std::alloc::Global;
 
 // The bits of the best coding, filled up to bytes, and how many they are.

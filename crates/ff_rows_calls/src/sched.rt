@@ -5,10 +5,10 @@ ghost use Rattle.ff_sched.specs.Events.{IsSmall};
 use crate::runs::Runs;
 use crate::table::{Stop, text_of};
 use crate::words::{Words, read_number};
+use ff_frame::Event;
 use ff_sched::{
     Grant, Graphs, Routes, SchedNode, SchedState, Way, Ways, print_history, step, unchoked,
 };
-use ff_values::Event;
 use std::alloc::Global;
 
 fn small(text: &str) -> Result<u32, Stop> {

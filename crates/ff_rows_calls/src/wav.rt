@@ -1,12 +1,12 @@
 ghost use Rattle.std.specs.Prelude.{IfOk};
-ghost use Rattle.ff_values.specs.Heads.{IsPcmCoded};
+ghost use Rattle.ff_frame.specs.Heads.{IsPcmCoded};
 
 use crate::pcm::codec_of;
 use crate::table::Stop;
 use crate::words::Words;
+use ff_frame::StreamHead;
 use ff_pcm::depth_of;
 use ff_time::Rational;
-use ff_values::StreamHead;
 use ff_wav::WavPut;
 
 /// The head of `CODEC CHANNELS`, at 44,100 sample frames a second.

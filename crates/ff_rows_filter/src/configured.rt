@@ -5,10 +5,10 @@ use crate::table::Stop;
 use ff_afilter::{ANull, ASetPts, ASplit, ATrim, ChannelSplit};
 use ff_filter::Filter;
 use ff_frame::{ConfigError, StreamHead};
+use ff_fsync::{HStack, VStack};
 use ff_joins::{Concat, Join};
 use ff_lang::{Filter as Named, read_graph};
-use ff_shortest::Shortest;
-use ff_stacks::{HStack, VStack};
+use ff_node_sync::Shortest;
 use ff_vfilter::{Crop, Fps, HFlip, Null, Pad, SetPts, Split, Trim, VFlip};
 use std::alloc::{AllocError, Global};
 

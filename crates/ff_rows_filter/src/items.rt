@@ -2,7 +2,8 @@
 use crate::heads::name_of_format;
 use crate::sound::{read_samples, show_samples};
 use crate::table::{Stop, parted};
-use ff_frame::{AFrame, Bytes, Item, Samples, StreamHead, VFrame};
+use ff_frame::{AFrame, Bytes, Samples, StreamHead, VFrame};
+use ff_stream::Item;
 use std::alloc::{AllocError, Global};
 
 // Bytes in hex, so many times as a number behind a `*` says.

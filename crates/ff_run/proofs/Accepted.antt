@@ -1,10 +1,10 @@
 -- What words ask for has inputs and outputs that plans are made for.
 use Rattle.std.proofs.Common.{List}
-use Rattle.ff_heads.specs.declared.head.InputHead.{InputHead}
+use Rattle.ff_input.specs.declared.heads.head.InputHead.{InputHead}
 use Rattle.ff_words.specs.declared.job.Job.{Job}
-use Rattle.ff_build.specs.Parts.{all_kinds}
+use Rattle.ff_run.specs.build.Parts.{all_kinds}
 use Rattle.ff_command.specs.Steps.{AreAllHeads}
-use Rattle.ff_running.specs.Accepting.{IsAccepted}
+use Rattle.ff_run_plan.specs.Accepting.{IsAccepted}
 
 pub accepted : (job : Job) (heads : List InputHead) → AreAllHeads job heads → IsAccepted all_kinds job heads
 accepted job heads all = record {

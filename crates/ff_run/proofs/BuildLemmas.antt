@@ -1,2 +1,2 @@
-mod Leads
+pub mod Leads
 pub mod Sinks

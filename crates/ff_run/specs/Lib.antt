@@ -1,3 +1,4 @@
 pub mod Meaning
 pub mod Saying
 pub mod Telling
+pub mod build

@@ -1,20 +1,20 @@
 -- What a job means: which bytes each of its outputs holds, and what of its inputs' heads and bytes keeps it from that.
 --
 -- The heads of the inputs give a plan (`planned` of ff_plan): nodes with numbers, each a Demux, a Dec, a Graph, an Enc or a Mux, and
--- edges between their ports. Each node is there for a function on whole streams (`all_kinds` of ff_build), node after node from
+-- edges between their ports. Each node is there for a function on whole streams (`all_kinds` of ff_run), node after node from
 -- number 0 up they give the stream on each edge (`solve` of ff_net), and an output's file is what its format makes of the stream
 -- at its Mux. No queue, no thread, no order of turns and no piece of a file is in it.
 use Rattle.std.specs.Prelude.{ℕ, List, Option}
-use Rattle.ff_values.specs.declared.event.Event.{Event}
-use Rattle.ff_heads.specs.declared.head.InputHead.{InputHead}
+use Rattle.ff_frame.specs.declared.event.Event.{Event}
+use Rattle.ff_input.specs.declared.heads.head.InputHead.{InputHead}
 use Rattle.ff_plan.specs.declared.planned.PlanError.{PlanError}
 use Rattle.ff_words.specs.declared.job.Job.{Job}
 use Rattle.ff_files.specs.Works.{Meaning}
-use Rattle.ff_running.specs.declared.fault.RunFault.{RunFault}
-use Rattle.ff_running.specs.Histories.{IsHistoryFor}
-use Rattle.ff_running.specs.Meaning.{means}
-use Rattle.ff_running.specs.Reads.{AreReadsFor}
-use Rattle.ff_build.specs.Parts.{all_kinds}
+use Rattle.ff_run_plan.specs.declared.fault.RunFault.{RunFault}
+use Rattle.ff_run_plan.specs.Histories.{IsHistoryFor}
+use Rattle.ff_run_plan.specs.Meaning.{means}
+use Rattle.ff_run_plan.specs.Reads.{AreReadsFor}
+use Rattle.ff_run.specs.build.Parts.{all_kinds}
 
 -- what the plan of a job, by its nodes' tasks, makes of the inputs
 abbrev pub job_means : Job → Meaning InputHead PlanError RunFault

@@ -3,7 +3,7 @@ use Rattle.std.specs.Prelude.{◌≡◌, ℕ, List, length, Option, None, Some, 
 use Rattle.std.specs.Io.KnownBytes.{prepend_known}
 use Rattle.ff_host.specs.Begun.{still_in}
 use Rattle.ff_host.specs.declared.begun.Begun.{Begun}
-use Rattle.ff_memory_host.specs.QuietEnds.{QuietReading, QuietWriting}
+use Rattle.ff_host.specs.memory.QuietEnds.{QuietReading, QuietWriting}
 use Rattle.ff_words.specs.declared.job.Job.{Job}
 use Rattle.ff_plan.specs.declared.planned.Plan.{Plan}
 use Rattle.ff_plan.specs.declared.planned.PlanError.{PlanError}
@@ -12,12 +12,12 @@ use Rattle.ff_files.specs.declared.work.PlanEnd.TheVariants as plan_end
 use Rattle.ff_files.specs.declared.work.WorkEnd.{WorkEnd}
 use Rattle.ff_files.specs.declared.work.WorkEnd.TheVariants as work_end
 use Rattle.ff_files.specs.Works.{AreTold, HoldFiles, HoldParts, KeepEnds, FailNoMore, EndsWork, HasLog, sound_sources, sound_sinks}
-use Rattle.ff_running.specs.declared.fault.RunFault.{RunFault}
-use Rattle.ff_running.specs.Kinds.{KindsOf}
-use Rattle.ff_running.specs.Accepting.{IsPlanFor}
-use Rattle.ff_running.specs.declared.reads.RunLog.{RunLog}
-use Rattle.ff_running.specs.Meaning.{plan_for, refusal_of, means}
-use Rattle.ff_running.specs.Reads.{IsLogFor}
+use Rattle.ff_run_plan.specs.declared.fault.RunFault.{RunFault}
+use Rattle.ff_run_plan.specs.Kinds.{KindsOf}
+use Rattle.ff_run_plan.specs.Accepting.{IsPlanFor}
+use Rattle.ff_run_plan.specs.declared.reads.RunLog.{RunLog}
+use Rattle.ff_run_plan.specs.Meaning.{plan_for, refusal_of, means}
+use Rattle.ff_run_plan.specs.Reads.{IsLogFor}
 
 -- of a job and the heads of its inputs
 pub record PlanSays {H : Type 0} (is : KindsOf H) (job : Job) (heads : List H) (result : Result Plan (PlanEnd PlanError)) : Type 0 where

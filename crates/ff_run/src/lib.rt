@@ -2,19 +2,21 @@
 //!
 //! ```text
 //! words, files ──► ff_command: read, opened, closed, answered
-//!                       └─ Threaded: planned (ff_plan), built (ff_build), run in threads and gathered (ff_running)
+//!                       └─ Threaded: planned (ff_plan), built (ff_run), run in threads and gathered (ff_run_plan)
 //! ```
 //!
 //! `specs/Meaning` says what a job means: which bytes each of its outputs holds, as a function of the heads and the bytes of its
 //! inputs. `Command` of ff_command's specs says by that when each answer comes and what stands then. [`ffmpeg`] is proved to keep
 //! to them over any host and any log, whatever the sizes of its queues and the order in which its threads ran.
+//!
+//! `build`: The nodes of a plan: parts of any kind, each built from the heads at its edges.
 #![tactic(auto)]
 
+mod build;
 mod laws;
 mod run;
 mod worker;
 
-pub use ff_command::{Event, FileRef, History, Line, Report, Status, fault_line, status_number};
-pub use ff_words::WordKind;
+pub use build::{Part, Parts, Through, events_of_a_plan};
 pub use laws::no_history_is_empty;
 pub use run::ffmpeg;

@@ -1,19 +1,19 @@
 // How jobs are worked: planned, and run in threads over parts of any format.
 ghost use Rattle.std.specs.Prelude.{◌≡◌, ℕ, List, length, Option, Some, None, IfOk, IfSome, IfErr, OnOk};
-ghost use Rattle.ff_build.specs.Parts.{all_kinds};
+ghost use Rattle.ff_run.specs.build.Parts.{all_kinds};
 ghost use Rattle.ff_command.specs.Histories.{LogHas};
 ghost use Rattle.ff_command.specs.Steps.{AreAllHeads};
 ghost use Rattle.ff_files.specs.Works.{AreTold, HoldFiles, HoldParts, KeepEnds, FailNoMore, EndsWork, HasLog, sound_sources, sound_sinks};
-ghost use Rattle.ff_running.specs.Accepting.{IsAccepted, IsPlanFor};
+ghost use Rattle.ff_run_plan.specs.Accepting.{IsAccepted, IsPlanFor};
 ghost use Rattle.ff_run.specs.Meaning.{job_means, IsJobHistory, AreJobReads};
 ghost use Rattle.ff_run.specs.Saying.{PlanSays, RunSays};
 
 use ff_command::Worker;
 use ff_files::{Done, PlanEnd, WorkEnd};
-use ff_heads::InputHead;
 use ff_host::{Sink, Source};
+use ff_input::InputHead;
 use ff_plan::{Plan, PlanError};
-use ff_running::{RunFault, RunLog};
+use ff_run_plan::{RunFault, RunLog};
 use ff_words::Job;
 
 /// Each node of a plan in a thread of its own: whoever has the threads says how a plan is made, and how it is run.

@@ -3,12 +3,12 @@ use Rattle.std.proofs.Common.{◌≡◌, ◌⊎◌, inl, inr, ℕ, zero, suc, �
 use Rattle.std.proofs.lemmas.Option.{slice_get_past}
 use Rattle.ff_plan.specs.declared.planned.PlanNode.{PlanNode}
 use Rattle.ff_plan.specs.declared.planned.PlanNode.TheVariants as node
-use Rattle.ff_edges.specs.declared.edge.Edge.{Edge}
+use Rattle.ff_stream.specs.declared.edges.edge.Edge.{Edge}
 use Rattle.ff_net.specs.Views.{View}
-use Rattle.ff_running.specs.Asked.{Asked}
-use Rattle.ff_running.specs.Kinds.{KindsOf, IsSourceOf, IsSinkOf}
-use Rattle.ff_running.specs.Parts.{IsBefore, IsAside, AllAside, AreParts, AreBack}
-use Rattle.ff_running.proofs.Numbers.{there, ordered, demux_before, mux_before}
+use Rattle.ff_run_plan.specs.Asked.{Asked}
+use Rattle.ff_run_plan.specs.Kinds.{KindsOf, IsSourceOf, IsSinkOf}
+use Rattle.ff_run_plan.specs.Parts.{IsBefore, IsAside, AllAside, AreParts, AreBack}
+use Rattle.ff_run_plan.proofs.Numbers.{there, ordered, demux_before, mux_before}
 
 -- places none of which is empty
 pub full : {T : Type 0} (places : List (Option T)) → ((i : ℕ) → i < length places → (x : T) × (slice_get places i ≡ Some (Some x))) → (all : List T) × (places ≡ map Some all)

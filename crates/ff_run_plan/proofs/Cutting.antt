@@ -3,13 +3,13 @@ use Rattle.std.proofs.Common.{◌≡◌, ℕ, zero, suc, ◌+◌, ◌<◌, ◌�
 use Rattle.std.specs.List.{filter_map, cons_option}
 use Rattle.std.proofs.lemmas.Option.{slice_get-get_or}
 use Rattle.ff_time.specs.declared.cut.TimeCut.{TimeCut}
-use Rattle.ff_frame.specs.declared.item.Lane.{Lane}
+use Rattle.ff_stream.specs.declared.item.Lane.{Lane}
 use Rattle.ff_words.specs.declared.job.OutputJob.{OutputJob}
-use Rattle.ff_edges.specs.declared.edge.Edge.{Edge}
-use Rattle.ff_edges.specs.Ports.{edges_from, shape_of, lane_of, lanes_out_of}
+use Rattle.ff_stream.specs.declared.edges.edge.Edge.{Edge}
+use Rattle.ff_stream.specs.edges.Ports.{edges_from, shape_of, lane_of, lanes_out_of}
 use Rattle.ff_plan.specs.declared.planned.PlanNode.{PlanNode}
-use Rattle.ff_running.specs.Cuts.{cut_at_end, cut_on, cuts_out_of}
-use Rattle.ff_running.proofs.Tally.{one_kept, one_passed}
+use Rattle.ff_run_plan.specs.Cuts.{cut_at_end, cut_on, cuts_out_of}
+use Rattle.ff_run_plan.proofs.Tally.{one_kept, one_passed}
 
 none_there : {A : Type 0} (xs : List A) (w : ℕ) → length xs ≤ w → slice_get xs w ≡ None
 none_there [] w le = refl

@@ -1,11 +1,11 @@
 -- The clauses of a run that was done, and of one that was not begun.
 use Rattle.std.proofs.Common.{◌≡◌, inl, ℕ, ◌<◌, true, Bool, List, [], length, map, slice_get, Option, Some, refl, sym, ◌∙◌, subst, arith}
-use Rattle.ff_frame.specs.Stream.{opened}
-use Rattle.ff_frame.specs.Ports.{AllBelow}
-use Rattle.ff_values.specs.declared.head.StreamHead.{StreamHead}
+use Rattle.ff_stream.specs.Stream.{opened}
+use Rattle.ff_stream.specs.Ports.{AllBelow}
+use Rattle.ff_frame.specs.declared.head.StreamHead.{StreamHead}
 use Rattle.ff_words.specs.declared.job.Job.{Job}
 use Rattle.ff_words.specs.declared.job.OutputJob.{OutputJob}
-use Rattle.ff_edges.specs.declared.edge.Edge.{Edge}
+use Rattle.ff_stream.specs.declared.edges.edge.Edge.{Edge}
 use Rattle.ff_net.specs.Views.{View}
 use Rattle.ff_net.specs.Ways.{Flow}
 use Rattle.ff_plan.specs.declared.planned.Plan.{Plan}
@@ -15,16 +15,16 @@ use Rattle.ff_plan.specs.Rules.{Planned}
 use Rattle.ff_files.specs.declared.work.WorkEnd.{WorkEnd}
 use Rattle.ff_files.specs.declared.work.WorkEnd.TheVariants as work_end
 use Rattle.ff_files.specs.Works.{AreTold, HoldFiles, HoldParts, HoldsPart, KeepEnds, FailNoMore, EndsWork, sound_sources, sound_sinks}
-use Rattle.ff_running.specs.Asked.{Asked, asked_of}
-use Rattle.ff_running.specs.declared.fault.RunFault.{RunFault}
-use Rattle.ff_running.specs.Kinds.{KindsOf}
-use Rattle.ff_running.specs.Claims.{tell_all}
-use Rattle.ff_running.specs.Meaning.{mux_node, BreaksBy, file_of, text_of, means}
-use Rattle.ff_running.specs.Accepting.{IsPlanFor}
-use Rattle.ff_running.specs.Parts.{AreOrdered}
-use Rattle.ff_running.specs.Runs.{IsDone}
-use Rattle.ff_running.proofs.Outcomes as outcome
-use Rattle.ff_running.proofs.Telling.{tells_told}
+use Rattle.ff_run_plan.specs.Asked.{Asked, asked_of}
+use Rattle.ff_run_plan.specs.declared.fault.RunFault.{RunFault}
+use Rattle.ff_run_plan.specs.Kinds.{KindsOf}
+use Rattle.ff_run_plan.specs.Claims.{tell_all}
+use Rattle.ff_run_plan.specs.Meaning.{mux_node, BreaksBy, file_of, text_of, means}
+use Rattle.ff_run_plan.specs.Accepting.{IsPlanFor}
+use Rattle.ff_run_plan.specs.Parts.{AreOrdered}
+use Rattle.ff_run_plan.specs.Runs.{IsDone}
+use Rattle.ff_run_plan.proofs.Outcomes as outcome
+use Rattle.ff_run_plan.proofs.Telling.{tells_told}
 
 -- ---- where nothing was begun
 

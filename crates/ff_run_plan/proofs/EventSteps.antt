@@ -5,26 +5,26 @@ use Rattle.std.proofs.lemmas.Bool.Decides.{nat_tests}
 use Rattle.std.proofs.lemmas.Bool.{cases_lt}
 use Rattle.std.proofs.lemmas.List.{length-map}
 use Rattle.std.proofs.lemmas.List.Elements.{All-head, All-tail}
-use Rattle.ff_frame.specs.declared.item.Lane.{Lane}
-use Rattle.ff_frame.specs.Lanes.{head_of}
+use Rattle.ff_stream.specs.declared.item.Lane.{Lane}
+use Rattle.ff_stream.specs.Lanes.{head_of}
 use Rattle.ff_time.specs.declared.cut.TimeCut.{TimeCut}
-use Rattle.ff_values.specs.declared.head.StreamHead.{StreamHead}
-use Rattle.ff_values.specs.declared.event.Event.{Event}
-use Rattle.ff_values.specs.declared.event.Event.TheVariants.{Grant, Sent, Finished, Best, Exited}
-use Rattle.ff_edges.specs.declared.edge.Edge.{Edge}
-use Rattle.ff_edges.specs.Ports.{lanes_into, lanes_out_of}
+use Rattle.ff_frame.specs.declared.head.StreamHead.{StreamHead}
+use Rattle.ff_frame.specs.declared.event.Event.{Event}
+use Rattle.ff_frame.specs.declared.event.Event.TheVariants.{Grant, Sent, Finished, Best, Exited}
+use Rattle.ff_stream.specs.declared.edges.edge.Edge.{Edge}
+use Rattle.ff_stream.specs.edges.Ports.{lanes_into, lanes_out_of}
 use Rattle.ff_lang.specs.declared.graph.Graph.{Graph}
 use Rattle.ff_words.specs.declared.job.OutputJob.{OutputJob}
 use Rattle.ff_net.specs.Pasts.{Feed}
 use Rattle.ff_plan.specs.declared.planned.PlanNode.{PlanNode}
 use Rattle.ff_plan.specs.declared.planned.PlanNode.TheVariants as node
-use Rattle.ff_running.specs.Asked.{Asked}
-use Rattle.ff_running.specs.Kinds.{KindsOf, is_of_stream}
-use Rattle.ff_running.specs.Meaning.{task_by}
-use Rattle.ff_running.specs.Tasks.{first_at, cuts_at, first_head, heads_on, demux_by, dec_by, graph_by, shortest_by, enc_by, mux_by}
-use Rattle.ff_running.specs.Events.{is_among, is_of_streams, is_best_of, ChangeBest, is_exit_of, TellOfThemselves, PlansTellAlone}
-use Rattle.ff_running.specs.Parts.{AreOrdered}
-use Rattle.ff_running.proofs.StreamNumbers.{numbers_apart}
+use Rattle.ff_run_plan.specs.Asked.{Asked}
+use Rattle.ff_run_plan.specs.Kinds.{KindsOf, is_of_stream}
+use Rattle.ff_run_plan.specs.Meaning.{task_by}
+use Rattle.ff_run_plan.specs.Tasks.{first_at, cuts_at, first_head, heads_on, demux_by, dec_by, graph_by, shortest_by, enc_by, mux_by}
+use Rattle.ff_run_plan.specs.Events.{is_among, is_of_streams, is_best_of, ChangeBest, is_exit_of, TellOfThemselves, PlansTellAlone}
+use Rattle.ff_run_plan.specs.Parts.{AreOrdered}
+use Rattle.ff_run_plan.proofs.StreamNumbers.{numbers_apart}
 
 -- ---- kinds of events
 

@@ -2,8 +2,8 @@
 use Rattle.std.proofs.Common.{◌≡◌, inl, inr, ℕ, zero, suc, ◌+◌, ◌<◌, ◌≤◌, List, [], ◌∷◌, length, drop, slice_get, Option, Some, ap, ◌∙◌, subst, arith, add-one}
 use Rattle.ff_plan.specs.declared.planned.PlanNode.{PlanNode}
 use Rattle.ff_plan.specs.declared.planned.PlanNode.TheVariants as node
-use Rattle.ff_running.specs.Parts.{IsBefore, AreOrdered}
-use Rattle.ff_running.proofs.Numbers.{same_some, ordered}
+use Rattle.ff_run_plan.specs.Parts.{IsBefore, AreOrdered}
+use Rattle.ff_run_plan.proofs.Numbers.{same_some, ordered}
 
 head_of_drop : {A : Type 0} (xs : List A) (n : ℕ) (m : A) (rest : List A) → drop n xs ≡ m ∷ rest → (slice_get xs n ≡ Some m) × (drop (suc n) xs ≡ rest)
 head_of_drop [] zero m rest e = absurd cc

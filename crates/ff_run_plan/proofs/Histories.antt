@@ -1,9 +1,9 @@
 -- The history of a run of a plan, from that of a run of its parts.
 use Rattle.std.proofs.Common.{◌≡◌, ℕ, ◌<◌, Bool, true, false, List, [], ◌∷◌, length, map, replicate, Option, Some, None, IfSome, IsSome, is_some, refl, sym, ap, ◌∙◌, subst, slice_get, arith}
-use Rattle.ff_values.specs.declared.event.Event.{Event}
-use Rattle.ff_values.specs.declared.head.StreamHead.{StreamHead}
-use Rattle.ff_edges.specs.declared.edge.Edge.{Edge}
-use Rattle.ff_frame.specs.Ports.{stream_at}
+use Rattle.ff_frame.specs.declared.event.Event.{Event}
+use Rattle.ff_frame.specs.declared.head.StreamHead.{StreamHead}
+use Rattle.ff_stream.specs.declared.edges.edge.Edge.{Edge}
+use Rattle.ff_stream.specs.Ports.{stream_at}
 use Rattle.ff_net.specs.Views.{View}
 use Rattle.ff_net.specs.Ways.{Flow}
 use Rattle.ff_files.specs.declared.work.WorkEnd.{WorkEnd}
@@ -13,15 +13,15 @@ use Rattle.ff_plan.specs.declared.planned.PlanNode.{PlanNode}
 use Rattle.ff_sched.specs.declared.routes.Routes.{Routes}
 use Rattle.ff_sched.specs.Bits.{upto, mark_at}
 use Rattle.ff_sched.specs.State.{State}
-use Rattle.ff_network.specs.declared.run.NodeFault.{NodeFault}
-use Rattle.ff_running.specs.Asked.{Asked}
-use Rattle.ff_running.specs.Openings.{is_unused, IsOpening, or_memory}
-use Rattle.ff_running.specs.declared.fault.RunFault.{RunFault}
-use Rattle.ff_running.specs.Kinds.{KindsOf}
-use Rattle.ff_running.specs.Histories.{state_at, state_before, TellsAll}
-use Rattle.ff_running.specs.Reads.{IsLogOf}
-use Rattle.ff_running.specs.declared.reads.RunLog.{RunLog}
-use Rattle.ff_running.specs.Meaning.{coded_in, events_by, mux_node, number_in, streams_into}
+use Rattle.ff_net_threads.specs.declared.network.run.NodeFault.{NodeFault}
+use Rattle.ff_run_plan.specs.Asked.{Asked}
+use Rattle.ff_run_plan.specs.Openings.{is_unused, IsOpening, or_memory}
+use Rattle.ff_run_plan.specs.declared.fault.RunFault.{RunFault}
+use Rattle.ff_run_plan.specs.Kinds.{KindsOf}
+use Rattle.ff_run_plan.specs.Histories.{state_at, state_before, TellsAll}
+use Rattle.ff_run_plan.specs.Reads.{IsLogOf}
+use Rattle.ff_run_plan.specs.declared.reads.RunLog.{RunLog}
+use Rattle.ff_run_plan.specs.Meaning.{coded_in, events_by, mux_node, number_in, streams_into}
 
 -- lists mapped alike
 map_same : {A B : Type 0} (f g : A → B) (xs : List A) → ((x : A) → f x ≡ g x) → map f xs ≡ map g xs

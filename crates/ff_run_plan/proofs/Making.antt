@@ -2,20 +2,20 @@
 use Rattle.std.proofs.Common.{◌≡◌, ℕ, List, [], map, slice_get, slice_index_or, Option, Some, None, IfSome, sym, ap, ◌∙◌, subst}
 use Rattle.std.proofs.lemmas.Option.{slice_get_within, get_or_from_slice_get}
 use Rattle.ff_time.specs.declared.cut.TimeCut.{TimeCut}
-use Rattle.ff_values.specs.declared.head.StreamHead.{StreamHead}
-use Rattle.ff_frame.specs.declared.item.Lane.{Lane}
-use Rattle.ff_frame.specs.declared.item.Lane.TheVariants.{Frames, Packets}
+use Rattle.ff_frame.specs.declared.head.StreamHead.{StreamHead}
+use Rattle.ff_stream.specs.declared.item.Lane.{Lane}
+use Rattle.ff_stream.specs.declared.item.Lane.TheVariants.{Frames, Packets}
 use Rattle.ff_lang.specs.declared.graph.Graph.{Graph}
 use Rattle.ff_words.specs.declared.job.OutputJob.{OutputJob}
 use Rattle.ff_net.specs.Pasts.{start}
 use Rattle.ff_net.specs.Views.{View}
 use Rattle.ff_plan.specs.declared.planned.PlanNode.TheVariants as node
-use Rattle.ff_running.specs.Asked.{Asked}
-use Rattle.ff_running.specs.Kinds.{KindsOf, IsNew}
-use Rattle.ff_running.specs.Tasks.{heads_on, demux_by, graph_by, shortest_by, mux_by}
-use Rattle.ff_running.specs.Parts.{FitsDemux, FitsGraph, FitsShortest, FitsMux, IsPart}
-use Rattle.ff_running.proofs.Numbers.{same_some}
-use Rattle.ff_running.proofs.StreamNumbers.{coded_is, framed_is}
+use Rattle.ff_run_plan.specs.Asked.{Asked}
+use Rattle.ff_run_plan.specs.Kinds.{KindsOf, IsNew}
+use Rattle.ff_run_plan.specs.Tasks.{heads_on, demux_by, graph_by, shortest_by, mux_by}
+use Rattle.ff_run_plan.specs.Parts.{FitsDemux, FitsGraph, FitsShortest, FitsMux, IsPart}
+use Rattle.ff_run_plan.proofs.Numbers.{same_some}
+use Rattle.ff_run_plan.proofs.StreamNumbers.{coded_is, framed_is}
 
 pub if_both : {A : Type 0} (P Q R : A → Type 0) (o : Option A) → IfSome o P → IfSome o Q → ((x : A) → P x → Q x → R x) → IfSome o R
 if_both P Q R None p q f = tt

@@ -5,12 +5,12 @@ use Rattle.ff_host.specs.Causes.{Rose}
 use Rattle.ff_net.specs.declared.fault.Fault.TheVariants.{Device}
 use Rattle.ff_net.specs.Laws.{FaultStep}
 use Rattle.ff_net.specs.Views.{View}
-use Rattle.ff_network.specs.Runs.{AllKept}
+use Rattle.ff_net_threads.specs.network.Runs.{AllKept}
 use Rattle.ff_plan.specs.declared.planned.PlanNode.{PlanNode}
 use Rattle.ff_files.specs.Works.{KeepEnds}
-use Rattle.ff_running.specs.Kinds.{IsEndOf}
-use Rattle.ff_running.specs.Parts.{IsBefore}
-use Rattle.ff_running.proofs.Numbers.{there}
+use Rattle.ff_run_plan.specs.Kinds.{IsEndOf}
+use Rattle.ff_run_plan.specs.Parts.{IsBefore}
+use Rattle.ff_run_plan.proofs.Numbers.{there}
 
 module _ {T M : Type 0} (named : T → Option (List ℕ)) (failed : T → ℕ) (view : M → View) (mk : ℕ → PlanNode) (nodes : List PlanNode) (all all' : List T) (olds news : List M) where
   -- of the nodes that have such an end: what a part has before the run, and what it gives back after it

@@ -1,25 +1,25 @@
 -- The network of parts with the lanes of a plan's edges.
 use Rattle.std.proofs.Common.{◌≡◌, ℕ, zero, suc, ◌+◌, ◌<◌, ◌≤◌, inr, Bool, true, false, List, [], ◌∷◌, length, map, slice_get, slice_index_or, Option, Some, None, refl, sym, ap, ◌∙◌, subst, arith}
 use Rattle.std.proofs.lemmas.Option.{slice_get_within, get_or_from_slice_get}
-use Rattle.ff_frame.specs.declared.item.Lane.{Lane}
-use Rattle.ff_edges.specs.declared.edge.Edge.{Edge}
-use Rattle.ff_edges.specs.Ports.{edge_to, edge_from, at_ports}
+use Rattle.ff_stream.specs.declared.item.Lane.{Lane}
+use Rattle.ff_stream.specs.declared.edges.edge.Edge.{Edge}
+use Rattle.ff_stream.specs.edges.Ports.{edge_to, edge_from, at_ports}
 use Rattle.ff_net.specs.declared.fault.Fault.TheVariants.{NoMemory}
 use Rattle.ff_net.specs.Laws.{FaultStep, IsOfInputs}
 use Rattle.ff_net.specs.Nets.{Part, solve}
 use Rattle.ff_net.specs.Pasts.{Task, start}
 use Rattle.ff_net.specs.Views.{View}
 use Rattle.ff_net.specs.Ways.{Flow, lane_at}
-use Rattle.ff_network.specs.declared.run.NodeFault.{NodeFault}
-use Rattle.ff_network.specs.Fits.{Ports, AreFit, edge_lanes, ins_at, outs_at, part_at, parts_from, network}
-use Rattle.ff_network.specs.Networks.{AllStart, lanes_at, ports_of}
-use Rattle.ff_network.specs.Runs.{AllKept, FedPart, FedAll, MeetsNetwork, TellsFault}
-use Rattle.ff_edges.specs.Ports.{lanes_out_of}
-use Rattle.ff_network.specs.Fits.{ports_by}
-use Rattle.ff_running.specs.Meaning.{edges_into}
-use Rattle.ff_running.specs.Openings.{unstarted, or_memory}
-use Rattle.ff_running.specs.Runs.{TellsRun, MeetsStreams}
-use Rattle.ff_running.proofs.Numbers.{there, same_some}
+use Rattle.ff_net_threads.specs.declared.network.run.NodeFault.{NodeFault}
+use Rattle.ff_net_threads.specs.network.Fits.{Ports, AreFit, edge_lanes, ins_at, outs_at, part_at, parts_from, network}
+use Rattle.ff_net_threads.specs.network.Networks.{AllStart, lanes_at, ports_of}
+use Rattle.ff_net_threads.specs.network.Runs.{AllKept, FedPart, FedAll, MeetsNetwork, TellsFault}
+use Rattle.ff_stream.specs.edges.Ports.{lanes_out_of}
+use Rattle.ff_net_threads.specs.network.Fits.{ports_by}
+use Rattle.ff_run_plan.specs.Meaning.{edges_into}
+use Rattle.ff_run_plan.specs.Openings.{unstarted, or_memory}
+use Rattle.ff_run_plan.specs.Runs.{TellsRun, MeetsStreams}
+use Rattle.ff_run_plan.proofs.Numbers.{there, same_some}
 
 -- the lanes of the part of a number
 lanes_are : {M : Type 0} (lanes : View → List Lane) (view : M → View) (ms : List M) (k : ℕ) (m : M) → slice_get ms k ≡ Some m → lanes_at lanes view ms k ≡ lanes (view m)

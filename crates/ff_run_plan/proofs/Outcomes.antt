@@ -2,35 +2,35 @@
 use Rattle.std.proofs.Common.{◌≡◌, ◌≢◌, ◌⊎◌, inl, inr, ℕ, zero, suc, ◌+◌, ◌<◌, ◌≤◌, true, Bool, List, [], length, map, slice_get, slice_index_or, Option, Some, None, IsSome, refl, sym, ap, ◌∙◌, subst, arith}
 use Rattle.std.proofs.lemmas.Option.{slice_get_within, get_or_from_slice_get}
 use Rattle.ff_host.specs.Causes.{Rose}
-use Rattle.ff_values.specs.declared.head.StreamHead.{StreamHead}
-use Rattle.ff_frame.specs.Stream.{opened}
-use Rattle.ff_frame.specs.Ports.{IsWhole, AllBelow}
+use Rattle.ff_frame.specs.declared.head.StreamHead.{StreamHead}
+use Rattle.ff_stream.specs.Stream.{opened}
+use Rattle.ff_stream.specs.Ports.{IsWhole, AllBelow}
 use Rattle.ff_words.specs.declared.job.OutputJob.{OutputJob}
-use Rattle.ff_edges.specs.declared.edge.Edge.{Edge}
+use Rattle.ff_stream.specs.declared.edges.edge.Edge.{Edge}
 use Rattle.ff_net.specs.declared.fault.Fault.{Fault}
 use Rattle.ff_net.specs.declared.fault.Fault.TheVariants.{Device, Damaged, TooLong, TooLarge, NoMemory}
 use Rattle.ff_net.specs.Laws.{IsOfInputs}
 use Rattle.ff_net.specs.Views.{View}
 use Rattle.ff_net.specs.Ways.{Flow}
-use Rattle.ff_network.specs.declared.run.NodeFault.{NodeFault}
+use Rattle.ff_net_threads.specs.declared.network.run.NodeFault.{NodeFault}
 use Rattle.ff_plan.specs.declared.planned.PlanNode.{PlanNode}
 use Rattle.ff_plan.specs.declared.planned.PlanNode.TheVariants as node
 use Rattle.ff_files.specs.declared.work.WorkEnd.{WorkEnd}
 use Rattle.ff_files.specs.declared.work.WorkEnd.TheVariants as work_end
 use Rattle.ff_files.specs.Works.{AreTold, HoldFiles, HoldParts, HoldsPart, KeepEnds, FailNoMore}
-use Rattle.ff_running.specs.Asked.{Asked}
-use Rattle.ff_running.specs.declared.fault.RunFault.{RunFault}
-use Rattle.ff_running.specs.declared.fault.RunFault.TheVariants as run_fault
-use Rattle.ff_running.specs.Kinds.{KindsOf, first_streams}
-use Rattle.ff_edges.specs.Ports.{lanes_into, lanes_out_of}
-use Rattle.ff_running.specs.Tasks.{first_at, heads_on, mux_by}
-use Rattle.ff_running.specs.Meaning.{edges_into, read_before, comes_after, task_by, task_at, solution, streams_into, mux_node, file_by, text_by, file_in, text_in, BreaksIn}
-use Rattle.ff_running.specs.Parts.{FitsMux, AreFitting, AreOrdered, AreBack}
-use Rattle.ff_running.specs.Runs.{AreRun, device_end, damaged_end, large_end, end_at, end_in, end_with}
-use Rattle.ff_running.proofs.Gathering.{mux_once}
-use Rattle.ff_running.proofs.Moves.{AreEnds, keep_ends, unfailed, has_risen}
-use Rattle.ff_running.proofs.Numbers.{there, same_some, ordered, demux_before, mux_before}
-use Rattle.ff_running.proofs.StreamNumbers.{coded_is, edge_count, same_streams, below_streams}
+use Rattle.ff_run_plan.specs.Asked.{Asked}
+use Rattle.ff_run_plan.specs.declared.fault.RunFault.{RunFault}
+use Rattle.ff_run_plan.specs.declared.fault.RunFault.TheVariants as run_fault
+use Rattle.ff_run_plan.specs.Kinds.{KindsOf, first_streams}
+use Rattle.ff_stream.specs.edges.Ports.{lanes_into, lanes_out_of}
+use Rattle.ff_run_plan.specs.Tasks.{first_at, heads_on, mux_by}
+use Rattle.ff_run_plan.specs.Meaning.{edges_into, read_before, comes_after, task_by, task_at, solution, streams_into, mux_node, file_by, text_by, file_in, text_in, BreaksIn}
+use Rattle.ff_run_plan.specs.Parts.{FitsMux, AreFitting, AreOrdered, AreBack}
+use Rattle.ff_run_plan.specs.Runs.{AreRun, device_end, damaged_end, large_end, end_at, end_in, end_with}
+use Rattle.ff_run_plan.proofs.Gathering.{mux_once}
+use Rattle.ff_run_plan.proofs.Moves.{AreEnds, keep_ends, unfailed, has_risen}
+use Rattle.ff_run_plan.proofs.Numbers.{there, same_some, ordered, demux_before, mux_before}
+use Rattle.ff_run_plan.proofs.StreamNumbers.{coded_is, edge_count, same_streams, below_streams}
 
 -- only a run without a fault is fine
 fine_device : (n : PlanNode) → device_end n ≡ work_end.Fine → ⊥

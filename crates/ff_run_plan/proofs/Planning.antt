@@ -4,16 +4,16 @@ use Rattle.std.specs.Prelude.{cond}
 use Rattle.std.specs.List.{All, AllByRecursion, cons_option, filter, filter_map}
 use Rattle.std.proofs.lemmas.Option.{slice_get_within, get_or_from_slice_get}
 use Rattle.std.proofs.lemmas.List.{length-map, length-replicate}
-use Rattle.ff_values.specs.declared.head.StreamHead.{StreamHead}
-use Rattle.ff_frame.specs.declared.item.Lane.{Lane}
-use Rattle.ff_frame.specs.declared.item.Lane.TheVariants.{Frames, Packets}
+use Rattle.ff_frame.specs.declared.head.StreamHead.{StreamHead}
+use Rattle.ff_stream.specs.declared.item.Lane.{Lane}
+use Rattle.ff_stream.specs.declared.item.Lane.TheVariants.{Frames, Packets}
 use Rattle.ff_map.specs.declared.streams.Stream.{Stream}
 use Rattle.ff_map.specs.declared.streams.StreamRef.{StreamRef}
 use Rattle.ff_map.specs.Choice.{streams_from}
 use Rattle.ff_words.specs.declared.job.Job.{Job}
 use Rattle.ff_words.specs.declared.job.OutputJob.{OutputJob}
-use Rattle.ff_edges.specs.declared.edge.Edge.{Edge}
-use Rattle.ff_edges.specs.Ports.{lane_of, lanes_into, lanes_out_of, edges_to, shape_of}
+use Rattle.ff_stream.specs.declared.edges.edge.Edge.{Edge}
+use Rattle.ff_stream.specs.edges.Ports.{lane_of, lanes_into, lanes_out_of, edges_to, shape_of}
 use Rattle.ff_plan.specs.declared.open_pads.OpenOut.{OpenOut}
 use Rattle.ff_plan.specs.declared.planned.GraphText.{GraphText}
 use Rattle.ff_plan.specs.declared.planned.Plan.{Plan}
@@ -25,11 +25,11 @@ use Rattle.ff_plan.specs.Numbers.{streams_between}
 use Rattle.ff_plan.specs.StartFits as starts
 use Rattle.ff_plan.specs.Streams.{packed_as, takes_head}
 use Rattle.ff_plan.specs.Taken.{AllFrames, HasFrames, OutputsFit}
-use Rattle.ff_running.specs.Asked.{Asked, asked_of, text_there}
-use Rattle.ff_running.specs.Kinds.{KindsOf, GraphsAreHad}
-use Rattle.ff_running.specs.Parts.{IsFitting, AreOrdered, HaveNumbers}
-use Rattle.ff_running.proofs.Rows.{all_at}
-use Rattle.ff_running.proofs.StreamNumbers.{one_past}
+use Rattle.ff_run_plan.specs.Asked.{Asked, asked_of, text_there}
+use Rattle.ff_run_plan.specs.Kinds.{KindsOf, GraphsAreHad}
+use Rattle.ff_run_plan.specs.Parts.{IsFitting, AreOrdered, HaveNumbers}
+use Rattle.ff_run_plan.proofs.Rows.{all_at}
+use Rattle.ff_run_plan.proofs.StreamNumbers.{one_past}
 
 -- ---- lists
 

@@ -3,11 +3,11 @@ use Rattle.std.proofs.Common.{◌≡◌, ◌≢◌, inl, inr, ℕ, suc, ◌≤�
 use Rattle.std.specs.List.{AllByRecursion}
 use Rattle.std.specs.Prelude.{All}
 use Rattle.std.proofs.lemmas.List.{length-map}
-use Rattle.ff_values.specs.declared.head.StreamHead.{StreamHead}
+use Rattle.ff_frame.specs.declared.head.StreamHead.{StreamHead}
 use Rattle.ff_words.specs.declared.job.Job.{Job}
 use Rattle.ff_words.specs.declared.job.OutputJob.{OutputJob}
-use Rattle.ff_edges.specs.Ports.{shape_of, IsFed}
-use Rattle.ff_network.proofs.PortLanes.{own_lanes_fit}
+use Rattle.ff_stream.specs.edges.Ports.{shape_of, IsFed}
+use Rattle.ff_net_threads.proofs.NetworkLemmas.PortLanes.{own_lanes_fit}
 use Rattle.ff_plan.specs.declared.planned.Plan.{Plan}
 use Rattle.ff_plan.specs.declared.planned.PlanError.{PlanError}
 use Rattle.ff_plan.specs.declared.planned.PlanError.TheVariants.{NoMemory}
@@ -23,15 +23,15 @@ use Rattle.ff_plan.specs.Rules.{Rules}
 use Rattle.ff_plan.specs.StartFits.{FitsStart, StartsFit}
 use Rattle.ff_plan.specs.Streams.{packed_as, takes_head}
 use Rattle.ff_plan.specs.Taken.{AllFrames}
-use Rattle.ff_running.specs.Kinds.{KindsOf, GraphsAreHad}
-use Rattle.ff_running.specs.Meaning.{plan_for, refusal_of}
-use Rattle.ff_running.specs.Accepting.{IsAccepted, IsPlanFor}
-use Rattle.ff_running.specs.Asked.{asked_of}
-use Rattle.ff_running.specs.Parts.{AreFitting}
+use Rattle.ff_run_plan.specs.Kinds.{KindsOf, GraphsAreHad}
+use Rattle.ff_run_plan.specs.Meaning.{plan_for, refusal_of}
+use Rattle.ff_run_plan.specs.Accepting.{IsAccepted, IsPlanFor}
+use Rattle.ff_run_plan.specs.Asked.{asked_of}
+use Rattle.ff_run_plan.specs.Parts.{AreFitting}
 use Rattle.ff_plan_laws.specs.Sound.{IsSoundPlan}
-use Rattle.ff_running.proofs.Numbers.{there}
-use Rattle.ff_running.proofs.Planning as fits
-use Rattle.ff_running.proofs.Rows.{are_ordered, muxes_there, shortest_there}
+use Rattle.ff_run_plan.proofs.Numbers.{there}
+use Rattle.ff_run_plan.proofs.Planning as fits
+use Rattle.ff_run_plan.proofs.Rows.{are_ordered, muxes_there, shortest_there}
 
 -- each plan of a job within the limits that has an output is sound, and what is so of all heads of inputs is so of the frames on its edges
 abbrev pub PlansAreSound : Rules → Type 0

@@ -5,13 +5,13 @@ use Rattle.std.proofs.lemmas.Bool.{cases_lt}
 use Rattle.std.proofs.lemmas.List.{length-append, length-take-le}
 use Rattle.std.proofs.lemmas.Option.{slice_get_within, get_or_from_slice_get}
 use mathlib.Core.List.{IsPrefix}
-use Rattle.ff_values.specs.declared.event.Event.{Event}
-use Rattle.ff_frame.specs.declared.item.Lane.{Lane}
-use Rattle.ff_frame.specs.Stream.{LiesBelow}
-use Rattle.ff_frame.specs.Ports.{stream_at, IsWhole}
+use Rattle.ff_frame.specs.declared.event.Event.{Event}
+use Rattle.ff_stream.specs.declared.item.Lane.{Lane}
+use Rattle.ff_stream.specs.Stream.{LiesBelow}
+use Rattle.ff_stream.specs.Ports.{stream_at, IsWhole}
 use Rattle.ff_words.specs.declared.job.Job.{Job}
-use Rattle.ff_edges.specs.declared.edge.Edge.{Edge}
-use Rattle.ff_edges.specs.Ports.{lanes_into, lanes_out_of}
+use Rattle.ff_stream.specs.declared.edges.edge.Edge.{Edge}
+use Rattle.ff_stream.specs.edges.Ports.{lanes_into, lanes_out_of}
 use Rattle.ff_sched.specs.declared.routes.Routes.{Routes}
 use Rattle.ff_sched.specs.State.{State}
 use Rattle.ff_net.specs.Laws.{Laws, reads_of}
@@ -20,39 +20,39 @@ use Rattle.ff_net.specs.Pasts.{Task, IsIn, cut_to}
 use Rattle.ff_net.specs.Serial.{tried_by, tried_of}
 use Rattle.ff_net.specs.Views.{View}
 use Rattle.ff_net.specs.Ways.{Flow, AreValid}
-use Rattle.ff_network.specs.declared.run.NodeFault.{NodeFault}
-use Rattle.ff_network.specs.Fits.{Ports, ports_by, ins_at, outs_at, part_at, parts_from, network}
-use Rattle.ff_network.specs.Networks.{AllStart, ports_of}
-use Rattle.ff_network.specs.Runs.{read_parts}
-use Rattle.ff_network.specs.Scheduling.{AreLogged, ReadsUnderGrants}
+use Rattle.ff_net_threads.specs.declared.network.run.NodeFault.{NodeFault}
+use Rattle.ff_net_threads.specs.network.Fits.{Ports, ports_by, ins_at, outs_at, part_at, parts_from, network}
+use Rattle.ff_net_threads.specs.network.Networks.{AllStart, ports_of}
+use Rattle.ff_net_threads.specs.network.Runs.{read_parts}
+use Rattle.ff_net_threads.specs.network.Scheduling.{AreLogged, ReadsUnderGrants}
 use Rattle.ff_plan.specs.declared.planned.Plan.{Plan}
 use Rattle.ff_plan.specs.declared.planned.PlanNode.{PlanNode}
 use Rattle.ff_plan.specs.declared.planned.PlanNode.TheVariants as node
 use Rattle.ff_files.specs.declared.work.WorkEnd.{WorkEnd}
 use Rattle.ff_files.specs.declared.work.WorkEnd.TheVariants as work_end
 use Rattle.ff_files.specs.Works.{AreTold}
-use Rattle.ff_running.specs.Asked.{Asked, asked_of}
-use Rattle.ff_running.specs.declared.fault.RunFault.{RunFault}
-use Rattle.ff_running.specs.declared.reads.RunLog.{RunLog}
-use Rattle.ff_running.specs.Accepting.{IsPlanFor}
-use Rattle.ff_running.specs.Claims.{tell_all}
-use Rattle.ff_running.specs.Events.{TellOfThemselves}
-use Rattle.ff_running.specs.Histories.{state_before, AreScheduled}
-use Rattle.ff_running.specs.Kinds.{KindsOf}
-use Rattle.ff_running.specs.Meaning.{edges_into, mux_node, solution, task_at}
-use Rattle.ff_running.specs.Openings.{is_read}
-use Rattle.ff_running.specs.Parts.{FitsMux, AreFitting, AreOrdered, AreBack, source_in}
-use Rattle.ff_running.specs.Reads.{grants_of, places_in, reads_at, AreGranted, as_read, source_at, read_task, read_solution, AreEnough, IsLogFor, tried_in, first_reads, AreSufficient, IsLogOf}
-use Rattle.ff_running.specs.Runs.{AreRun}
-use Rattle.ff_running.proofs.Gathering.{demux_once}
-use Rattle.ff_running.proofs.Grants.{no_more, front, first_rise, first_held, at_upto, beyond_upto, long_upto}
-use Rattle.ff_running.proofs.Networks.{plan_net, plan_ins, plan_outs}
-use Rattle.ff_running.proofs.Numbers.{there, same_some}
-use Rattle.ff_running.proofs.Outcomes.{fine_only}
-use Rattle.ff_running.proofs.Running.{part_lanes, have_ends}
-use Rattle.ff_running.proofs.Telling.{tells_told}
-use Rattle.ff_running.proofs.Told as told
-use Rattle.ff_running.proofs.Trying.{unread, tried_is}
+use Rattle.ff_run_plan.specs.Asked.{Asked, asked_of}
+use Rattle.ff_run_plan.specs.declared.fault.RunFault.{RunFault}
+use Rattle.ff_run_plan.specs.declared.reads.RunLog.{RunLog}
+use Rattle.ff_run_plan.specs.Accepting.{IsPlanFor}
+use Rattle.ff_run_plan.specs.Claims.{tell_all}
+use Rattle.ff_run_plan.specs.Events.{TellOfThemselves}
+use Rattle.ff_run_plan.specs.Histories.{state_before, AreScheduled}
+use Rattle.ff_run_plan.specs.Kinds.{KindsOf}
+use Rattle.ff_run_plan.specs.Meaning.{edges_into, mux_node, solution, task_at}
+use Rattle.ff_run_plan.specs.Openings.{is_read}
+use Rattle.ff_run_plan.specs.Parts.{FitsMux, AreFitting, AreOrdered, AreBack, source_in}
+use Rattle.ff_run_plan.specs.Reads.{grants_of, places_in, reads_at, AreGranted, as_read, source_at, read_task, read_solution, AreEnough, IsLogFor, tried_in, first_reads, AreSufficient, IsLogOf}
+use Rattle.ff_run_plan.specs.Runs.{AreRun}
+use Rattle.ff_run_plan.proofs.Gathering.{demux_once}
+use Rattle.ff_run_plan.proofs.Grants.{no_more, front, first_rise, first_held, at_upto, beyond_upto, long_upto}
+use Rattle.ff_run_plan.proofs.Networks.{plan_net, plan_ins, plan_outs}
+use Rattle.ff_run_plan.proofs.Numbers.{there, same_some}
+use Rattle.ff_run_plan.proofs.Outcomes.{fine_only}
+use Rattle.ff_run_plan.proofs.Running.{part_lanes, have_ends}
+use Rattle.ff_run_plan.proofs.Telling.{tells_told}
+use Rattle.ff_run_plan.proofs.Told as told
+use Rattle.ff_run_plan.proofs.Trying.{unread, tried_is}
 
 -- ---- under which grants
 

@@ -9,7 +9,7 @@ use Rattle.ff_plan.specs.declared.planned.PlanNode.{PlanNode}
 use Rattle.ff_plan.specs.declared.planned.PlanNode.TheVariants as node
 use Rattle.ff_plan.specs.Layout.{placed}
 use Rattle.ff_plan.specs.NodeRows.{HasRows}
-use Rattle.ff_running.specs.Parts.{AreOrdered}
+use Rattle.ff_run_plan.specs.Parts.{AreOrdered}
 
 -- ---- lists
 

@@ -1,27 +1,27 @@
 -- The run of parts that were built.
 use Rattle.std.proofs.Common.{◌≡◌, ℕ, ◌<◌, ◌≤◌, true, Bool, List, length, slice_get, Option, Some, None, sym, ap, ◌∙◌, subst, arith}
 use Rattle.std.proofs.lemmas.Option.{slice_get_within, get_or_from_slice_get}
-use Rattle.ff_edges.specs.declared.edge.Edge.{Edge}
-use Rattle.ff_edges.specs.Ports.{lanes_into, lanes_out_of}
+use Rattle.ff_stream.specs.declared.edges.edge.Edge.{Edge}
+use Rattle.ff_stream.specs.edges.Ports.{lanes_into, lanes_out_of}
 use Rattle.ff_net.specs.Pasts.{Task, start}
 use Rattle.ff_net.specs.Views.{View}
-use Rattle.ff_network.specs.declared.run.NodeFault.{NodeFault}
-use Rattle.ff_network.specs.Fits.{AreFit, ports_by, ins_at, outs_at, network}
-use Rattle.ff_network.specs.Networks.{AllStart, ports_of}
-use Rattle.ff_network.specs.Runs.{AllKept, MeetsNetwork}
+use Rattle.ff_net_threads.specs.declared.network.run.NodeFault.{NodeFault}
+use Rattle.ff_net_threads.specs.network.Fits.{AreFit, ports_by, ins_at, outs_at, network}
+use Rattle.ff_net_threads.specs.network.Networks.{AllStart, ports_of}
+use Rattle.ff_net_threads.specs.network.Runs.{AllKept, MeetsNetwork}
 use Rattle.ff_plan.specs.declared.planned.PlanNode.{PlanNode}
 use Rattle.ff_plan.specs.declared.planned.PlanNode.TheVariants as node
 use Rattle.ff_sched.specs.declared.routes.Routes.{Routes}
 use Rattle.ff_files.specs.Works.{AreTold}
-use Rattle.ff_running.specs.Asked.{Asked}
-use Rattle.ff_running.specs.Kinds.{KindsOf}
-use Rattle.ff_running.specs.Meaning.{task_by, task_at}
-use Rattle.ff_running.specs.Parts.{FitsDemux, FitsMux, IsFitting, AreFitting, AreOrdered, HasEnds, AreParts, source_in}
-use Rattle.ff_running.specs.Runs.{TellsRun, AreRun}
-use Rattle.ff_network.specs.Scheduling.{AllRouted}
-use Rattle.ff_running.specs.Openings.{unstarted}
-use Rattle.ff_running.proofs.Networks.{kept_same, unstarted_tells, unstarted_streams, parts_fit, meets_streams}
-use Rattle.ff_running.proofs.Numbers.{there}
+use Rattle.ff_run_plan.specs.Asked.{Asked}
+use Rattle.ff_run_plan.specs.Kinds.{KindsOf}
+use Rattle.ff_run_plan.specs.Meaning.{task_by, task_at}
+use Rattle.ff_run_plan.specs.Parts.{FitsDemux, FitsMux, IsFitting, AreFitting, AreOrdered, HasEnds, AreParts, source_in}
+use Rattle.ff_run_plan.specs.Runs.{TellsRun, AreRun}
+use Rattle.ff_net_threads.specs.network.Scheduling.{AllRouted}
+use Rattle.ff_run_plan.specs.Openings.{unstarted}
+use Rattle.ff_run_plan.proofs.Networks.{kept_same, unstarted_tells, unstarted_streams, parts_fit, meets_streams}
+use Rattle.ff_run_plan.proofs.Numbers.{there}
 
 is_demux : (n : PlanNode) (s : ℕ) → source_in n ≡ Some s → n ≡ node.Demux s
 is_demux (node.Demux i) s e = cc

@@ -3,19 +3,19 @@ use Rattle.std.proofs.Common.{◌≡◌, inr, ℕ, zero, suc, ◌+◌, ◌<◌, 
 use Rattle.std.specs.List.{cons_option, filter_map, range_with_len}
 use Rattle.std.proofs.lemmas.Bool.Decides.{nat_tests}
 use Rattle.std.proofs.lemmas.List.{length-map}
-use Rattle.ff_values.specs.declared.head.StreamHead.{StreamHead}
-use Rattle.ff_frame.specs.Stream.{LiesBelow, opened}
-use Rattle.ff_frame.specs.Ports.{stream_at, AllBelow}
-use Rattle.ff_frame.specs.declared.item.Lane.{Lane}
-use Rattle.ff_frame.specs.declared.item.Lane.TheVariants.{Frames, Packets}
-use Rattle.ff_edges.specs.declared.edge.Edge.{Edge}
-use Rattle.ff_edges.specs.Ports.{tally, edge_to, edges_to, lane_of, lanes_into, shape_of}
+use Rattle.ff_frame.specs.declared.head.StreamHead.{StreamHead}
+use Rattle.ff_stream.specs.Stream.{LiesBelow, opened}
+use Rattle.ff_stream.specs.Ports.{stream_at, AllBelow}
+use Rattle.ff_stream.specs.declared.item.Lane.{Lane}
+use Rattle.ff_stream.specs.declared.item.Lane.TheVariants.{Frames, Packets}
+use Rattle.ff_stream.specs.declared.edges.edge.Edge.{Edge}
+use Rattle.ff_stream.specs.edges.Ports.{tally, edge_to, edges_to, lane_of, lanes_into, shape_of}
 use Rattle.ff_net.specs.Ways.{Flow}
-use Rattle.ff_network.proofs.Fitting.{count_ports}
+use Rattle.ff_net_threads.proofs.NetworkLemmas.Fitting.{count_ports}
 use Rattle.ff_plan.specs.Numbers.{leads_between, streams_between}
-use Rattle.ff_running.specs.Kinds.{first_streams}
-use Rattle.ff_running.specs.Meaning.{edges_into}
-use Rattle.ff_running.specs.Tasks.{heads_on}
+use Rattle.ff_run_plan.specs.Kinds.{first_streams}
+use Rattle.ff_run_plan.specs.Meaning.{edges_into}
+use Rattle.ff_run_plan.specs.Tasks.{heads_on}
 
 -- ---- numbers
 

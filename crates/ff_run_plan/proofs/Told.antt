@@ -2,16 +2,16 @@
 use Rattle.std.proofs.Common.{◌≡◌, ◌⊎◌, inl, inr, ℕ, suc, ◌+◌, ◌<◌, ◌≤◌, ◌||◌, Bool, true, false, cond, List, [], ◌∷◌, filter, length, slice_get, slice_index_or, Option, Some, None, is_some, refl, sym, ap, ◌∙◌, subst, arith}
 use Rattle.std.specs.Prelude.{IfSome}
 use Rattle.std.proofs.lemmas.Option.{slice_get_within, get_or_from_slice_get}
-use Rattle.ff_values.specs.declared.event.Event.{Event}
-use Rattle.ff_values.specs.declared.event.Event.TheVariants.{Exited}
-use Rattle.ff_values.specs.declared.head.StreamHead.{StreamHead}
-use Rattle.ff_frame.specs.Stream.{whole}
-use Rattle.ff_frame.specs.Ports.{stream_at, IsClosed}
+use Rattle.ff_frame.specs.declared.event.Event.{Event}
+use Rattle.ff_frame.specs.declared.event.Event.TheVariants.{Exited}
+use Rattle.ff_frame.specs.declared.head.StreamHead.{StreamHead}
+use Rattle.ff_stream.specs.Stream.{whole}
+use Rattle.ff_stream.specs.Ports.{stream_at, IsClosed}
 use Rattle.ff_lang.specs.declared.graph.Graph.{Graph}
 use Rattle.ff_words.specs.declared.job.Job.{Job}
 use Rattle.ff_words.specs.declared.job.OutputJob.{OutputJob}
-use Rattle.ff_edges.specs.declared.edge.Edge.{Edge}
-use Rattle.ff_edges.specs.Ports.{lanes_into, lanes_out_of}
+use Rattle.ff_stream.specs.declared.edges.edge.Edge.{Edge}
+use Rattle.ff_stream.specs.edges.Ports.{lanes_into, lanes_out_of}
 use Rattle.ff_sched.specs.declared.logged.Logged.{Logged}
 use Rattle.ff_sched.specs.declared.routes.Routes.{Routes}
 use Rattle.ff_sched.specs.State.{State}
@@ -20,36 +20,36 @@ use Rattle.ff_net.specs.Nets.{solve}
 use Rattle.ff_net.specs.Pasts.{Feed, Task, start}
 use Rattle.ff_net.specs.Views.{View}
 use Rattle.ff_net.specs.Ways.{Flow}
-use Rattle.ff_network.specs.declared.run.NodeFault.{NodeFault}
-use Rattle.ff_network.specs.Fits.{network, ins_at, outs_at}
-use Rattle.ff_network.specs.Networks.{AllStart, ports_of}
-use Rattle.ff_network.specs.Scheduling.{AreLogged, LoggedSink, AreToldBy, IsOnlySource}
+use Rattle.ff_net_threads.specs.declared.network.run.NodeFault.{NodeFault}
+use Rattle.ff_net_threads.specs.network.Fits.{network, ins_at, outs_at}
+use Rattle.ff_net_threads.specs.network.Networks.{AllStart, ports_of}
+use Rattle.ff_net_threads.specs.network.Scheduling.{AreLogged, LoggedSink, AreToldBy, IsOnlySource}
 use Rattle.ff_plan.specs.declared.planned.Plan.{Plan}
 use Rattle.ff_plan.specs.declared.planned.PlanNode.{PlanNode}
 use Rattle.ff_plan.specs.declared.planned.PlanNode.TheVariants as node
 use Rattle.ff_files.specs.declared.work.WorkEnd.{WorkEnd}
 use Rattle.ff_files.specs.declared.work.WorkEnd.TheVariants as work_end
 use Rattle.ff_files.specs.Works.{AreTold}
-use Rattle.ff_running.specs.Asked.{Asked, asked_of}
-use Rattle.ff_running.specs.declared.fault.RunFault.{RunFault}
-use Rattle.ff_running.specs.Accepting.{IsPlanFor}
-use Rattle.ff_running.specs.Claims.{tell_all}
-use Rattle.ff_running.specs.Kinds.{KindsOf, is_of_stream}
-use Rattle.ff_running.specs.Events.{is_best_of, ChangeBest, is_exit_of, TellOfThemselves, TellAlone}
-use Rattle.ff_running.specs.Histories.{state_before, HasExited, TellsAll, IsHistoryFor, IsHistoryOf, AreScheduled}
-use Rattle.ff_running.specs.Meaning.{edges_into, task_by, task_at, solution, streams_into, mux_node, events_by}
-use Rattle.ff_running.specs.Openings.{reads_in, is_read}
-use Rattle.ff_running.specs.Parts.{FitsDemux, FitsGraph, FitsMux, AreFitting, AreOrdered, AreBack, source_in}
-use Rattle.ff_running.specs.Runs.{AreRun}
-use Rattle.ff_running.specs.Tasks.{first_at, cuts_at, heads_on, demux_by, graph_by, mux_by}
-use Rattle.ff_running.proofs.EventSteps.{change_all, itself, same_number, plans_tell_alone}
-use Rattle.ff_running.proofs.Gathering.{demux_once}
-use Rattle.ff_running.proofs.Networks.{plan_net, plan_ins, plan_outs}
-use Rattle.ff_running.proofs.Numbers.{there}
-use Rattle.ff_running.proofs.Outcomes.{fine_only}
-use Rattle.ff_running.proofs.Running.{all_start, part_lanes}
-use Rattle.ff_running.proofs.StreamNumbers.{coded_is, lane_count, edge_count, at_streams}
-use Rattle.ff_running.proofs.Telling.{tells_told}
+use Rattle.ff_run_plan.specs.Asked.{Asked, asked_of}
+use Rattle.ff_run_plan.specs.declared.fault.RunFault.{RunFault}
+use Rattle.ff_run_plan.specs.Accepting.{IsPlanFor}
+use Rattle.ff_run_plan.specs.Claims.{tell_all}
+use Rattle.ff_run_plan.specs.Kinds.{KindsOf, is_of_stream}
+use Rattle.ff_run_plan.specs.Events.{is_best_of, ChangeBest, is_exit_of, TellOfThemselves, TellAlone}
+use Rattle.ff_run_plan.specs.Histories.{state_before, HasExited, TellsAll, IsHistoryFor, IsHistoryOf, AreScheduled}
+use Rattle.ff_run_plan.specs.Meaning.{edges_into, task_by, task_at, solution, streams_into, mux_node, events_by}
+use Rattle.ff_run_plan.specs.Openings.{reads_in, is_read}
+use Rattle.ff_run_plan.specs.Parts.{FitsDemux, FitsGraph, FitsMux, AreFitting, AreOrdered, AreBack, source_in}
+use Rattle.ff_run_plan.specs.Runs.{AreRun}
+use Rattle.ff_run_plan.specs.Tasks.{first_at, cuts_at, heads_on, demux_by, graph_by, mux_by}
+use Rattle.ff_run_plan.proofs.EventSteps.{change_all, itself, same_number, plans_tell_alone}
+use Rattle.ff_run_plan.proofs.Gathering.{demux_once}
+use Rattle.ff_run_plan.proofs.Networks.{plan_net, plan_ins, plan_outs}
+use Rattle.ff_run_plan.proofs.Numbers.{there}
+use Rattle.ff_run_plan.proofs.Outcomes.{fine_only}
+use Rattle.ff_run_plan.proofs.Running.{all_start, part_lanes}
+use Rattle.ff_run_plan.proofs.StreamNumbers.{coded_is, lane_count, edge_count, at_streams}
+use Rattle.ff_run_plan.proofs.Telling.{tells_told}
 
 -- ---- which node reads an input
 

@@ -3,10 +3,10 @@ use Rattle.std.proofs.Common.{◌≡◌, ℕ, zero, suc, ◌+◌, ◌≤◌, ◌
 use Rattle.ff_net.specs.Views.{View}
 use Rattle.ff_plan.specs.declared.planned.PlanNode.{PlanNode}
 use Rattle.ff_plan.specs.declared.planned.PlanNode.TheVariants as node
-use Rattle.ff_running.specs.Openings.{reads_in, is_read}
-use Rattle.ff_running.specs.Reads.{tried_in}
-use Rattle.ff_running.proofs.EventSteps.{itself}
-use Rattle.ff_running.proofs.Told.{reads_demux}
+use Rattle.ff_run_plan.specs.Openings.{reads_in, is_read}
+use Rattle.ff_run_plan.specs.Reads.{tried_in}
+use Rattle.ff_run_plan.proofs.EventSteps.{itself}
+use Rattle.ff_run_plan.proofs.Told.{reads_demux}
 
 module _ {M : Type 0} (view : M → View) (i : ℕ) where
   -- from the number of a node on

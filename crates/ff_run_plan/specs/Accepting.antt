@@ -2,14 +2,14 @@
 use Rattle.std.specs.Prelude.{◌≡◌, ℕ, ◌+◌, ◌-◌, ◌^◌, ◌<◌, ◌≤◌, List, All, length, slice_get, Some, Ok}
 use Rattle.std.specs.List.{AllByRecursion}
 use Rattle.ff_words.specs.declared.job.Job.{Job}
-use Rattle.ff_network.specs.Fits.{AreFit, ports_by}
+use Rattle.ff_net_threads.specs.network.Fits.{AreFit, ports_by}
 use Rattle.ff_plan.specs.declared.planned.Plan.{Plan}
 use Rattle.ff_plan.specs.declared.planned.PlanNode.TheVariants as node
 use Rattle.ff_sched.specs.Routes.{AreRoutes}
-use Rattle.ff_running.specs.Asked.{asked_of}
-use Rattle.ff_running.specs.Kinds.{KindsOf}
-use Rattle.ff_running.specs.Meaning.{plan_for}
-use Rattle.ff_running.specs.Parts.{AreFitting, AreOrdered, HaveNumbers}
+use Rattle.ff_run_plan.specs.Asked.{asked_of}
+use Rattle.ff_run_plan.specs.Kinds.{KindsOf}
+use Rattle.ff_run_plan.specs.Meaning.{plan_for}
+use Rattle.ff_run_plan.specs.Parts.{AreFitting, AreOrdered, HaveNumbers}
 
 module _ {H : Type 0} (is : KindsOf H) (job : Job) where
   -- one head that was read for each input of a job within its limits

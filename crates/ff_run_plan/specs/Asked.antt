@@ -6,7 +6,7 @@ use Rattle.ff_words.specs.declared.job.Job.{Job}
 use Rattle.ff_words.specs.declared.job.OutputJob.{OutputJob}
 use Rattle.ff_plan.specs.declared.planned.GraphText.{GraphText}
 use Rattle.ff_plan.specs.Texts.{graph_text}
-use Rattle.ff_running.specs.Cuts.{input_cut}
+use Rattle.ff_run_plan.specs.Cuts.{input_cut}
 
 pub record Asked : Type 0 where
   pub outputs : List OutputJob

@@ -5,8 +5,8 @@ use Rattle.ff_time.specs.declared.cut.TimeCut.{TimeCut}
 use Rattle.ff_words.specs.declared.job.InputJob.{InputJob}
 use Rattle.ff_words.specs.declared.job.OutputJob.{OutputJob}
 use Rattle.ff_words.specs.Words.{cut_of}
-use Rattle.ff_edges.specs.declared.edge.Edge.{Edge}
-use Rattle.ff_edges.specs.Ports.{edges_from, shape_of}
+use Rattle.ff_stream.specs.declared.edges.edge.Edge.{Edge}
+use Rattle.ff_stream.specs.edges.Ports.{edges_from, shape_of}
 use Rattle.ff_plan.specs.declared.planned.PlanNode.{PlanNode}
 use Rattle.ff_plan.specs.declared.planned.PlanNode.TheVariants as node
 

@@ -1,22 +1,22 @@
 -- Which events the nodes of a plan have to tell, each of its own output streams or input alone.
 use Rattle.std.specs.Prelude.{◌≡◌, ◌≢◌, ℕ, ◌+◌, ◌<◌, ◌&&◌, nat_eq, nat_le, nat_lt, Bool, true, false, All, List, [], ◌∷◌, length, slice_get, Some}
 use Rattle.ff_time.specs.declared.cut.TimeCut.{TimeCut}
-use Rattle.ff_values.specs.declared.head.StreamHead.{StreamHead}
-use Rattle.ff_values.specs.declared.event.Event.{Event}
-use Rattle.ff_values.specs.declared.event.Event.TheVariants.{Grant, Sent, Finished, Best, Exited}
-use Rattle.ff_edges.specs.declared.edge.Edge.{Edge}
-use Rattle.ff_edges.specs.Ports.{lanes_into}
+use Rattle.ff_frame.specs.declared.head.StreamHead.{StreamHead}
+use Rattle.ff_frame.specs.declared.event.Event.{Event}
+use Rattle.ff_frame.specs.declared.event.Event.TheVariants.{Grant, Sent, Finished, Best, Exited}
+use Rattle.ff_stream.specs.declared.edges.edge.Edge.{Edge}
+use Rattle.ff_stream.specs.edges.Ports.{lanes_into}
 use Rattle.ff_lang.specs.declared.graph.Graph.{Graph}
 use Rattle.ff_words.specs.declared.job.OutputJob.{OutputJob}
 use Rattle.ff_net.specs.Pasts.{Feed}
-use Rattle.ff_network.specs.Scheduling.{TellsAlone}
+use Rattle.ff_net_threads.specs.network.Scheduling.{TellsAlone}
 use Rattle.ff_plan.specs.declared.planned.PlanNode.{PlanNode}
 use Rattle.ff_plan.specs.declared.planned.PlanNode.TheVariants as node
-use Rattle.ff_running.specs.Asked.{Asked}
-use Rattle.ff_running.specs.Kinds.{KindsOf, is_of_stream}
-use Rattle.ff_running.specs.Meaning.{task_at}
-use Rattle.ff_running.specs.Parts.{AreOrdered}
-use Rattle.ff_running.specs.Tasks.{first_at}
+use Rattle.ff_run_plan.specs.Asked.{Asked}
+use Rattle.ff_run_plan.specs.Kinds.{KindsOf, is_of_stream}
+use Rattle.ff_run_plan.specs.Meaning.{task_at}
+use Rattle.ff_run_plan.specs.Parts.{AreOrdered}
+use Rattle.ff_run_plan.specs.Tasks.{first_at}
 
 -- the number is one of so many, from the first one on
 abbrev pub is_among : ℕ → ℕ → ℕ → Bool

@@ -1,30 +1,30 @@
 -- The history of a run of a plan: what the scheduler granted and was told.
 use Rattle.std.specs.Prelude.{◌≡◌, ℕ, ◌<◌, ◌≤◌, true, false, Bool, List, [], ◌∷◌, filter, length, map, replicate, slice_get, Option, None, Some, IfSome, Ok}
-use Rattle.ff_values.specs.declared.event.Event.{Event}
-use Rattle.ff_values.specs.declared.event.Event.TheVariants.{Grant, Exited}
+use Rattle.ff_frame.specs.declared.event.Event.{Event}
+use Rattle.ff_frame.specs.declared.event.Event.TheVariants.{Grant, Exited}
 use Rattle.ff_words.specs.declared.job.Job.{Job}
-use Rattle.ff_edges.specs.declared.edge.Edge.{Edge}
+use Rattle.ff_stream.specs.declared.edges.edge.Edge.{Edge}
 use Rattle.ff_sched.specs.declared.routes.Routes.{Routes}
 use Rattle.ff_sched.specs.Bits.{upto}
 use Rattle.ff_sched.specs.Histories.{IsLegal}
 use Rattle.ff_sched.specs.State.{State}
 use Rattle.ff_net.specs.Nets.{solve}
 use Rattle.ff_net.specs.Views.{View}
-use Rattle.ff_network.specs.declared.run.NodeFault.{NodeFault}
-use Rattle.ff_network.specs.Fits.{ins_at, outs_at, network}
-use Rattle.ff_network.specs.Networks.{AllStart, ports_of}
-use Rattle.ff_network.specs.Scheduling.{Scheduled}
+use Rattle.ff_net_threads.specs.declared.network.run.NodeFault.{NodeFault}
+use Rattle.ff_net_threads.specs.network.Fits.{ins_at, outs_at, network}
+use Rattle.ff_net_threads.specs.network.Networks.{AllStart, ports_of}
+use Rattle.ff_net_threads.specs.network.Scheduling.{Scheduled}
 use Rattle.ff_plan.specs.declared.planned.Plan.{Plan}
 use Rattle.ff_plan.specs.declared.planned.PlanNode.{PlanNode}
 use Rattle.ff_plan.specs.declared.planned.PlanNode.TheVariants as node
 use Rattle.ff_files.specs.declared.work.WorkEnd.{WorkEnd}
-use Rattle.ff_running.specs.declared.fault.RunFault.{RunFault}
-use Rattle.ff_running.specs.Events.{is_best_of, ChangeBest, is_exit_of}
-use Rattle.ff_running.specs.Asked.{Asked, asked_of}
-use Rattle.ff_running.specs.Kinds.{KindsOf, is_of_stream}
-use Rattle.ff_running.specs.Meaning.{plan_for, streams_in, number_in, events_in}
-use Rattle.ff_running.specs.Openings.{is_read, is_unused}
-use Rattle.ff_running.specs.Runs.{IsDone}
+use Rattle.ff_run_plan.specs.declared.fault.RunFault.{RunFault}
+use Rattle.ff_run_plan.specs.Events.{is_best_of, ChangeBest, is_exit_of}
+use Rattle.ff_run_plan.specs.Asked.{Asked, asked_of}
+use Rattle.ff_run_plan.specs.Kinds.{KindsOf, is_of_stream}
+use Rattle.ff_run_plan.specs.Meaning.{plan_for, streams_in, number_in, events_in}
+use Rattle.ff_run_plan.specs.Openings.{is_read, is_unused}
+use Rattle.ff_run_plan.specs.Runs.{IsDone}
 
 -- before a run nothing was sent and no stream has finished, and exactly the inputs that no node reads have exited
 abbrev pub state_at : List PlanNode → Routes → State

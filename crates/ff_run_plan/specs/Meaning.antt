@@ -1,18 +1,18 @@
 -- What a run of the plan of a job comes to, by the heads and the bytes of its inputs.
 use Rattle.std.specs.Prelude.{◌≡◌, ℕ, ◌+◌, ◌-◌, ◌^◌, List, [], ◌∷◌, length, map, slice_get, Option, None, Some, Ok, Err}
-use Rattle.ff_values.specs.declared.head.StreamHead.{StreamHead}
-use Rattle.ff_values.specs.declared.event.Event.{Event}
-use Rattle.ff_values.specs.declared.event.Event.TheVariants.{Finished}
+use Rattle.ff_frame.specs.declared.head.StreamHead.{StreamHead}
+use Rattle.ff_frame.specs.declared.event.Event.{Event}
+use Rattle.ff_frame.specs.declared.event.Event.TheVariants.{Finished}
 use Rattle.ff_words.specs.declared.job.Job.{Job}
 use Rattle.ff_words.specs.declared.job.OutputJob.{OutputJob}
-use Rattle.ff_edges.specs.declared.edge.Edge.{Edge}
-use Rattle.ff_frame.specs.Ports.{stream_at}
+use Rattle.ff_stream.specs.declared.edges.edge.Edge.{Edge}
+use Rattle.ff_stream.specs.Ports.{stream_at}
 use Rattle.ff_net.specs.declared.fault.Fault.{Fault}
 use Rattle.ff_net.specs.declared.fault.Fault.TheVariants as net_fault
 use Rattle.ff_net.specs.Nets.{solve}
 use Rattle.ff_net.specs.Pasts.{Task}
 use Rattle.ff_net.specs.Ways.{Flow}
-use Rattle.ff_network.specs.Fits.{ports_by, ins_at, network}
+use Rattle.ff_net_threads.specs.network.Fits.{ports_by, ins_at, network}
 use Rattle.ff_plan.specs.declared.planned.Plan.{Plan}
 use Rattle.ff_plan.specs.declared.planned.PlanError.{PlanError}
 use Rattle.ff_plan.specs.declared.planned.PlanNode.{PlanNode}
@@ -20,12 +20,12 @@ use Rattle.ff_plan.specs.declared.planned.PlanNode.TheVariants as node
 use Rattle.ff_plan.specs.Planned.{planned}
 use Rattle.ff_plan.specs.Rules.{Planned}
 use Rattle.ff_files.specs.Works.{Meaning}
-use Rattle.ff_running.specs.declared.fault.RunFault.{RunFault}
-use Rattle.ff_running.specs.declared.fault.RunFault.TheVariants as run_fault
-use Rattle.ff_running.specs.Asked.{Asked, asked_of}
-use Rattle.ff_running.specs.Kinds.{KindsOf}
-use Rattle.ff_edges.specs.Ports.{lanes_into, lanes_out_of}
-use Rattle.ff_running.specs.Tasks.{idle, first_at, cuts_at, heads_on, task_of}
+use Rattle.ff_run_plan.specs.declared.fault.RunFault.{RunFault}
+use Rattle.ff_run_plan.specs.declared.fault.RunFault.TheVariants as run_fault
+use Rattle.ff_run_plan.specs.Asked.{Asked, asked_of}
+use Rattle.ff_run_plan.specs.Kinds.{KindsOf}
+use Rattle.ff_stream.specs.edges.Ports.{lanes_into, lanes_out_of}
+use Rattle.ff_run_plan.specs.Tasks.{idle, first_at, cuts_at, heads_on, task_of}
 
 -- the edges at the inputs of a node
 abbrev pub edges_into : List Edge → ℕ → List ℕ

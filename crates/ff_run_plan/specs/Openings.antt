@@ -7,8 +7,8 @@ use Rattle.ff_sched.specs.Bits.{mark_at}
 use Rattle.ff_sched.specs.Routes.{AreRoutes}
 use Rattle.ff_sched.specs.State.{State, opening_of}
 use Rattle.ff_net.specs.declared.fault.Fault.TheVariants.{NoMemory}
-use Rattle.ff_network.specs.declared.run.NodeFault.{NodeFault}
-use Rattle.ff_running.specs.declared.opening.Opening.{Opening}
+use Rattle.ff_net_threads.specs.declared.network.run.NodeFault.{NodeFault}
+use Rattle.ff_run_plan.specs.declared.opening.Opening.{Opening}
 
 -- whether the node reads the input of this number
 abbrev pub reads_in : ℕ → PlanNode → Bool

@@ -1,21 +1,21 @@
 -- The parts of a plan's nodes, and the sources and sinks that are in them or stand aside.
 use Rattle.std.specs.Prelude.{◌≡◌, ℕ, ◌+◌, ◌-◌, ◌<◌, ◌≤◌, List, [], ◌∷◌, length, map, replicate, slice_get, Option, None, Some}
 use Rattle.ff_time.specs.declared.cut.TimeCut.{TimeCut}
-use Rattle.ff_values.specs.declared.head.StreamHead.{StreamHead}
-use Rattle.ff_frame.specs.declared.item.Lane.{Lane}
-use Rattle.ff_frame.specs.declared.item.Lane.TheVariants.{Frames, Packets}
+use Rattle.ff_frame.specs.declared.head.StreamHead.{StreamHead}
+use Rattle.ff_stream.specs.declared.item.Lane.{Lane}
+use Rattle.ff_stream.specs.declared.item.Lane.TheVariants.{Frames, Packets}
 use Rattle.ff_lang.specs.declared.graph.Graph.{Graph}
 use Rattle.ff_words.specs.declared.job.OutputJob.{OutputJob}
-use Rattle.ff_edges.specs.declared.edge.Edge.{Edge}
+use Rattle.ff_stream.specs.declared.edges.edge.Edge.{Edge}
 use Rattle.ff_net.specs.Pasts.{start}
 use Rattle.ff_net.specs.Views.{View}
 use Rattle.ff_plan.specs.declared.planned.PlanNode.{PlanNode}
 use Rattle.ff_plan.specs.declared.planned.PlanNode.TheVariants as node
 use Rattle.ff_files.specs.Works.{AreTold}
-use Rattle.ff_running.specs.Asked.{Asked}
-use Rattle.ff_running.specs.Kinds.{KindsOf, IsSourceOf, IsSinkOf}
-use Rattle.ff_edges.specs.Ports.{lanes_into, lanes_out_of}
-use Rattle.ff_running.specs.Tasks.{first_at, cuts_at, task_of}
+use Rattle.ff_run_plan.specs.Asked.{Asked}
+use Rattle.ff_run_plan.specs.Kinds.{KindsOf, IsSourceOf, IsSinkOf}
+use Rattle.ff_stream.specs.edges.Ports.{lanes_into, lanes_out_of}
+use Rattle.ff_run_plan.specs.Tasks.{first_at, cuts_at, task_of}
 
 -- ---- what a part can be made of: a head and the lanes at the ports
 

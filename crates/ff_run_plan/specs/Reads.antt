@@ -3,11 +3,11 @@ use Rattle.std.specs.Prelude.{◌≡◌, ℕ, suc, ◌+◌, ◌<◌, ◌≤◌, 
 use Rattle.std.specs.declared.alloc.Global.{Global}
 use Rattle.std.specs.declared.vec.Vec.{Vec}
 use mathlib.Core.List.{IsPrefix}
-use Rattle.ff_values.specs.declared.event.Event.{Event}
-use Rattle.ff_values.specs.declared.event.Event.TheVariants.{Grant, Sent, Finished, Best, Exited}
-use Rattle.ff_frame.specs.Ports.{stream_at, IsWhole}
+use Rattle.ff_frame.specs.declared.event.Event.{Event}
+use Rattle.ff_frame.specs.declared.event.Event.TheVariants.{Grant, Sent, Finished, Best, Exited}
+use Rattle.ff_stream.specs.Ports.{stream_at, IsWhole}
 use Rattle.ff_words.specs.declared.job.Job.{Job}
-use Rattle.ff_edges.specs.declared.edge.Edge.{Edge}
+use Rattle.ff_stream.specs.declared.edges.edge.Edge.{Edge}
 use Rattle.ff_sched.specs.declared.routes.Routes.{Routes}
 use Rattle.ff_sched.specs.Bits.{upto}
 use Rattle.ff_sched.specs.State.{State}
@@ -15,22 +15,22 @@ use Rattle.ff_net.specs.Nets.{solve}
 use Rattle.ff_net.specs.Pasts.{Task, cut_to}
 use Rattle.ff_net.specs.Views.{View}
 use Rattle.ff_net.specs.Ways.{Flow}
-use Rattle.ff_network.specs.declared.run.NodeFault.{NodeFault}
-use Rattle.ff_network.specs.Fits.{ports_by, ins_at, outs_at, network}
-use Rattle.ff_network.specs.Networks.{AllStart, ports_of}
-use Rattle.ff_network.specs.Runs.{ReadsSuffice}
+use Rattle.ff_net_threads.specs.declared.network.run.NodeFault.{NodeFault}
+use Rattle.ff_net_threads.specs.network.Fits.{ports_by, ins_at, outs_at, network}
+use Rattle.ff_net_threads.specs.network.Networks.{AllStart, ports_of}
+use Rattle.ff_net_threads.specs.network.Runs.{ReadsSuffice}
 use Rattle.ff_plan.specs.declared.planned.Plan.{Plan}
 use Rattle.ff_plan.specs.declared.planned.PlanNode.{PlanNode}
 use Rattle.ff_plan.specs.declared.planned.PlanNode.TheVariants as node
 use Rattle.ff_files.specs.declared.work.WorkEnd.{WorkEnd}
-use Rattle.ff_running.specs.declared.fault.RunFault.{RunFault}
-use Rattle.ff_running.specs.declared.reads.RunLog.{RunLog}
-use Rattle.ff_running.specs.Histories.{IsHistoryFor, IsHistoryOf}
-use Rattle.ff_running.specs.Asked.{Asked, asked_of}
-use Rattle.ff_running.specs.Kinds.{KindsOf}
-use Rattle.ff_running.specs.Meaning.{edges_into, mux_node, plan_for, solution, task_at}
-use Rattle.ff_running.specs.Openings.{reads_in, is_read}
-use Rattle.ff_running.specs.Parts.{source_in}
+use Rattle.ff_run_plan.specs.declared.fault.RunFault.{RunFault}
+use Rattle.ff_run_plan.specs.declared.reads.RunLog.{RunLog}
+use Rattle.ff_run_plan.specs.Histories.{IsHistoryFor, IsHistoryOf}
+use Rattle.ff_run_plan.specs.Asked.{Asked, asked_of}
+use Rattle.ff_run_plan.specs.Kinds.{KindsOf}
+use Rattle.ff_run_plan.specs.Meaning.{edges_into, mux_node, plan_for, solution, task_at}
+use Rattle.ff_run_plan.specs.Openings.{reads_in, is_read}
+use Rattle.ff_run_plan.specs.Parts.{source_in}
 
 -- ---- places of a history
 

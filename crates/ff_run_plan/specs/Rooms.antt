@@ -2,7 +2,7 @@
 use Rattle.std.specs.Prelude.{◌≡◌, ℕ, ◌≤◌, [], vec_capacity}
 use Rattle.std.specs.declared.alloc.Global.{Global}
 use Rattle.std.specs.declared.vec.Vec.{Vec}
-use Rattle.ff_running.specs.declared.run.Room.{Room}
+use Rattle.ff_run_plan.specs.declared.run.Room.{Room}
 
 abbrev pub IsEmptyFor : {A : Type 0} → ℕ → Vec A Global → Type 0
 IsEmptyFor count v = (v.items ≡ []) × (count ≤ vec_capacity v)

@@ -1,26 +1,26 @@
 -- How a run of a plan's nodes ends.
 use Rattle.std.specs.Prelude.{◌≡◌, ◌≢◌, ℕ, ◌<◌, true, Bool, List, [], length, map, slice_get, Option, None, Some}
-use Rattle.ff_edges.specs.declared.edge.Edge.{Edge}
+use Rattle.ff_stream.specs.declared.edges.edge.Edge.{Edge}
 use Rattle.ff_net.specs.declared.fault.Fault.{Fault}
 use Rattle.ff_net.specs.declared.fault.Fault.TheVariants as net_fault
 use Rattle.ff_net.specs.Laws.{IsOfInputs}
 use Rattle.ff_net.specs.Pasts.{Task}
 use Rattle.ff_net.specs.Views.{View}
 use Rattle.ff_net.specs.Ways.{Flow}
-use Rattle.ff_network.specs.declared.run.NodeFault.{NodeFault}
-use Rattle.ff_network.specs.Runs.{AllKept, FedAll, FedPart}
+use Rattle.ff_net_threads.specs.declared.network.run.NodeFault.{NodeFault}
+use Rattle.ff_net_threads.specs.network.Runs.{AllKept, FedAll, FedPart}
 use Rattle.ff_plan.specs.declared.planned.PlanNode.{PlanNode}
 use Rattle.ff_plan.specs.declared.planned.PlanNode.TheVariants as node
 use Rattle.ff_files.specs.declared.work.WorkEnd.{WorkEnd}
 use Rattle.ff_files.specs.declared.work.WorkEnd.TheVariants as work_end
 use Rattle.ff_files.specs.Works.{AreTold}
-use Rattle.ff_running.specs.declared.fault.RunFault.{RunFault}
-use Rattle.ff_running.specs.declared.fault.RunFault.TheVariants as run_fault
-use Rattle.ff_running.specs.Asked.{Asked}
-use Rattle.ff_running.specs.Kinds.{KindsOf}
-use Rattle.ff_edges.specs.Ports.{lanes_out_of}
-use Rattle.ff_running.specs.Meaning.{edges_into, read_before, task_at, solution}
-use Rattle.ff_running.specs.Parts.{AreParts, AreBack}
+use Rattle.ff_run_plan.specs.declared.fault.RunFault.{RunFault}
+use Rattle.ff_run_plan.specs.declared.fault.RunFault.TheVariants as run_fault
+use Rattle.ff_run_plan.specs.Asked.{Asked}
+use Rattle.ff_run_plan.specs.Kinds.{KindsOf}
+use Rattle.ff_stream.specs.edges.Ports.{lanes_out_of}
+use Rattle.ff_run_plan.specs.Meaning.{edges_into, read_before, task_at, solution}
+use Rattle.ff_run_plan.specs.Parts.{AreParts, AreBack}
 
 -- ---- the end by the fault that is reported
 

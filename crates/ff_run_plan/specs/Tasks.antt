@@ -1,19 +1,19 @@
 -- What each node of a plan is there for, by the heads and the bytes of the inputs and the lanes at its ports.
 use Rattle.std.specs.Prelude.{ℕ, ◌-◌, false, List, [], ◌∷◌, length, map, slice_get, slice_index_or, Option, None, Some}
 use Rattle.ff_time.specs.declared.cut.TimeCut.{TimeCut}
-use Rattle.ff_values.specs.declared.head.StreamHead.{StreamHead}
-use Rattle.ff_frame.specs.declared.item.Lane.{Lane}
-use Rattle.ff_frame.specs.Lanes.{head_of}
+use Rattle.ff_frame.specs.declared.head.StreamHead.{StreamHead}
+use Rattle.ff_stream.specs.declared.item.Lane.{Lane}
+use Rattle.ff_stream.specs.Lanes.{head_of}
 use Rattle.ff_lang.specs.declared.graph.Graph.{Graph}
 use Rattle.ff_words.specs.declared.job.OutputJob.{OutputJob}
-use Rattle.ff_edges.specs.declared.edge.Edge.{Edge}
+use Rattle.ff_stream.specs.declared.edges.edge.Edge.{Edge}
 use Rattle.ff_net.specs.Pasts.{Task, no_events}
 use Rattle.ff_plan.specs.Numbers.{first_stream}
 use Rattle.ff_plan.specs.declared.planned.PlanNode.{PlanNode}
 use Rattle.ff_plan.specs.declared.planned.PlanNode.TheVariants as node
-use Rattle.ff_running.specs.Asked.{Asked}
-use Rattle.ff_running.specs.Cuts.{cuts_out_of}
-use Rattle.ff_running.specs.Kinds.{KindsOf}
+use Rattle.ff_run_plan.specs.Asked.{Asked}
+use Rattle.ff_run_plan.specs.Cuts.{cuts_out_of}
+use Rattle.ff_run_plan.specs.Kinds.{KindsOf}
 
 -- that of a node that isn't there
 abbrev pub idle : Task

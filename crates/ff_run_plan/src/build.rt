@@ -1,15 +1,15 @@
 // The part of each node of a plan.
 ghost use Rattle.std.specs.Prelude.{◌≡◌, ◌+◌, ◌^◌, ◌<◌, ◌≤◌, ℕ, List, [], length, map, slice_get, vec_capacity, Option, Some, None, IfSome, IsNone, IfOk, IfErr};
-ghost use Rattle.ff_frame.specs.declared.item.Lane.{Lane};
-ghost use Rattle.ff_frame.specs.declared.item.Lane.TheVariants.{Packets};
+ghost use Rattle.ff_stream.specs.declared.item.Lane.{Lane};
+ghost use Rattle.ff_stream.specs.declared.item.Lane.TheVariants.{Packets};
 ghost use Rattle.ff_net.specs.Pasts.{start};
 ghost use Rattle.ff_words.specs.declared.job.OutputJob.{OutputJob};
 ghost use Rattle.ff_plan.specs.declared.planned.PlanNode.TheVariants.{Demux as DemuxNode, Mux as MuxNode};
-ghost use Rattle.ff_running.specs.Asked.{asked_of};
-ghost use Rattle.ff_running.specs.Kinds.{IsNew};
-ghost use Rattle.ff_running.specs.Tasks.{first_at, cuts_at};
-ghost use Rattle.ff_running.specs.Parts.{FitsDemux, HaveNumbers, IsFitting, IsAside, IsPart, AreFitting, AreOrdered, AllAside, AreParts};
-ghost use Rattle.ff_edges.specs.Ports.{lanes_into as lanes_into_of, lanes_out_of as lanes_out_of_node};
+ghost use Rattle.ff_run_plan.specs.Asked.{asked_of};
+ghost use Rattle.ff_run_plan.specs.Kinds.{IsNew};
+ghost use Rattle.ff_run_plan.specs.Tasks.{first_at, cuts_at};
+ghost use Rattle.ff_run_plan.specs.Parts.{FitsDemux, HaveNumbers, IsFitting, IsAside, IsPart, AreFitting, AreOrdered, AllAside, AreParts};
+ghost use Rattle.ff_stream.specs.edges.Ports.{lanes_into as lanes_into_of, lanes_out_of as lanes_out_of_node};
 ghost use Rattle.ff_plan.specs.declared.planned.PlanNode.{PlanNode};
 
 use crate::connecting::connect_all;
@@ -18,11 +18,11 @@ use crate::graphs::{graph_at, shortest_at};
 use crate::kinds::Kinds;
 use crate::lanes::{head_of, heads_on, lanes_into, lanes_out_of, streams_between};
 use crate::tables::{put, take};
-use ff_edges::Edge;
-use ff_frame::{Lane, StreamHead};
+use ff_frame::StreamHead;
 use ff_host::{Sink, Source};
 use ff_net::Machine;
 use ff_plan::{GraphText, PlanNode};
+use ff_stream::{Edge, Lane};
 use ff_time::TimeCut;
 use ff_words::{Job, OutputJob};
 use std::alloc::Global;

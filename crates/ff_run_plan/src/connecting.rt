@@ -2,9 +2,9 @@
 ghost use Rattle.std.specs.Prelude.{◌≡◌};
 
 use crate::kinds::Kinds;
-use ff_edges::Edge;
 use ff_host::{Sink, Source};
 use ff_net::Machine;
+use ff_stream::Edge;
 use std::alloc::{AllocError, Global};
 
 // The part that gives along an edge and the part that takes are told of each other. An edge that doesn't lead from a part to one behind

@@ -1,12 +1,12 @@
 // The cuts of what decoders and graphs give.
 ghost use Rattle.std.specs.Prelude.{◌≡◌, IfOk, Some, slice_get};
 ghost use Rattle.std.specs.List.{filter_map};
-ghost use Rattle.ff_running.specs.Cuts.{uncut as uncut_time, input_cut as input_cut_of, output_cut as output_cut_of};
-ghost use Rattle.ff_running.specs.Cuts.{cut_before as cut_before_node, cut_at_end as cut_at_end_of, cut_on, cuts_out_of as cuts_out_of_node};
+ghost use Rattle.ff_run_plan.specs.Cuts.{uncut as uncut_time, input_cut as input_cut_of, output_cut as output_cut_of};
+ghost use Rattle.ff_run_plan.specs.Cuts.{cut_before as cut_before_node, cut_at_end as cut_at_end_of, cut_on, cuts_out_of as cuts_out_of_node};
 
 use crate::lanes::count_out_of;
-use ff_edges::{Edge, edges_out_of};
 use ff_plan::PlanNode;
+use ff_stream::{Edge, edges_out_of};
 use ff_time::TimeCut;
 use ff_words::{InputJob, OutputJob};
 use std::alloc::{AllocError, Global};

@@ -2,8 +2,8 @@
 ghost use Rattle.std.specs.Prelude.{◌≡◌, ◌<◌, ◌≤◌, ℕ, List, [], length, slice_get, Option, Some};
 ghost use Rattle.ff_plan.specs.declared.planned.PlanNode.{PlanNode};
 ghost use Rattle.ff_plan.specs.declared.planned.PlanNode.TheVariants.{Demux as DemuxNode, Mux as MuxNode};
-ghost use Rattle.ff_running.specs.Kinds.{IsSourceOf, IsSinkOf};
-ghost use Rattle.ff_running.specs.Parts.{IsBefore, AreOrdered, HasEnds};
+ghost use Rattle.ff_run_plan.specs.Kinds.{IsSourceOf, IsSinkOf};
+ghost use Rattle.ff_run_plan.specs.Parts.{IsBefore, AreOrdered, HasEnds};
 
 use crate::build::Places;
 use crate::kinds::{Ends, Kinds};

@@ -1,13 +1,13 @@
 // The parts of graphs and of Shortest nodes.
 ghost use Rattle.std.specs.Prelude.{◌≡◌, ◌<◌, List, length, map, slice_get, None, Some, IfOk, IfSome};
-ghost use Rattle.ff_frame.specs.declared.item.Lane.TheVariants.{Frames};
+ghost use Rattle.ff_stream.specs.declared.item.Lane.TheVariants.{Frames};
 ghost use Rattle.ff_lang.specs.declared.graph.Graph.{Graph};
 ghost use Rattle.ff_net.specs.Pasts.{start};
 ghost use Rattle.ff_plan.specs.Streams.{null_graph as null_of, simple_of};
 ghost use Rattle.ff_plan.specs.Texts.{graph_text};
-ghost use Rattle.ff_running.specs.Asked.{asked_of};
-ghost use Rattle.ff_running.specs.Kinds.{IsNew};
-ghost use Rattle.ff_values.specs.declared.head.StreamHead.{StreamHead};
+ghost use Rattle.ff_run_plan.specs.Asked.{asked_of};
+ghost use Rattle.ff_run_plan.specs.Kinds.{IsNew};
+ghost use Rattle.ff_frame.specs.declared.head.StreamHead.{StreamHead};
 ghost use Rattle.ff_words.specs.declared.job.OutputJob.{OutputJob};
 
 use crate::kinds::Kinds;

@@ -1,8 +1,8 @@
 // The kinds of node of a plan.
 ghost use Rattle.std.specs.Prelude.{◌≡◌, ◌≢◌, ◌≤◌, ◌+◌, ◌^◌, ℕ, true, List, [], ◌∷◌, length, map, Option, Some, None, Ok, IfOk, IfErr, replicate};
-ghost use Rattle.ff_frame.specs.declared.item.Lane.TheVariants.{Frames, Packets};
-ghost use Rattle.ff_frame.specs.Ports.{AllBelow};
-ghost use Rattle.ff_frame.specs.Stream.{opened};
+ghost use Rattle.ff_stream.specs.declared.item.Lane.TheVariants.{Frames, Packets};
+ghost use Rattle.ff_stream.specs.Ports.{AllBelow};
+ghost use Rattle.ff_stream.specs.Stream.{opened};
 ghost use Rattle.ff_net.specs.Pasts.{start};
 ghost use Rattle.ff_net.specs.Ways.{Flow};
 ghost use Rattle.ff_files.specs.Works.{HoldsPart};
@@ -15,17 +15,17 @@ ghost use Rattle.ff_plan.specs.Refusals.{IsRefused};
 ghost use Rattle.ff_plan.specs.Streams.{packed_as, takes_head};
 ghost use Rattle.ff_plan.specs.Taken.{AreKeptBy};
 ghost use Rattle.ff_words.specs.declared.job.OutputJob.{OutputJob};
-ghost use Rattle.ff_values.specs.declared.head.StreamHead.{StreamHead};
-ghost use Rattle.ff_running.specs.Events.{TellOfThemselves};
-ghost use Rattle.ff_running.specs.Kinds.{KindsOf, IsNew, GivesEnds, GraphsAreHad};
+ghost use Rattle.ff_frame.specs.declared.head.StreamHead.{StreamHead};
+ghost use Rattle.ff_run_plan.specs.Events.{TellOfThemselves};
+ghost use Rattle.ff_run_plan.specs.Kinds.{KindsOf, IsNew, GivesEnds, GraphsAreHad};
 ghost use Rattle.ff_plan_laws.specs.Sound.{HasFewIns, KeepsTaken};
 
+use ff_frame::StreamHead;
 use ff_host::{Sink, Source};
 use ff_lang::Graph;
 use ff_net::Machine;
 use ff_plan::{Plan, PlanError};
 use ff_time::TimeCut;
-use ff_values::StreamHead;
 use ff_words::{Job, OutputJob};
 use std::alloc::{AllocError, Global};
 

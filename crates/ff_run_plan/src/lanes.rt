@@ -1,14 +1,14 @@
 // The lanes at the ports of a node.
 ghost use Rattle.std.specs.Prelude.{◌≡◌, IfOk};
 ghost use Rattle.std.specs.List.{filter_map};
-ghost use Rattle.ff_frame.specs.Lanes.{head_of as head_of_lane};
-ghost use Rattle.ff_edges.specs.Ports.{shape_of};
+ghost use Rattle.ff_stream.specs.Lanes.{head_of as head_of_lane};
+ghost use Rattle.ff_stream.specs.edges.Ports.{shape_of};
 ghost use Rattle.ff_plan.specs.Numbers.{leads_between as leads_between_nodes, streams_between as streams_between_nodes};
-ghost use Rattle.ff_running.specs.Tasks.{heads_on as heads_on_lanes};
-ghost use Rattle.ff_edges.specs.Ports.{lane_of, lanes_into as lanes_into_of, lanes_out_of as lanes_out_of_node};
+ghost use Rattle.ff_run_plan.specs.Tasks.{heads_on as heads_on_lanes};
+ghost use Rattle.ff_stream.specs.edges.Ports.{lane_of, lanes_into as lanes_into_of, lanes_out_of as lanes_out_of_node};
 
-use ff_edges::{Edge, edges_into, edges_out_of};
-use ff_frame::{Lane, StreamHead};
+use ff_frame::StreamHead;
+use ff_stream::{Edge, Lane, edges_into, edges_out_of};
 use std::alloc::{AllocError, Global};
 
 /// The head of the streams on a lane.

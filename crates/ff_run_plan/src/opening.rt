@@ -4,7 +4,7 @@ ghost use Rattle.ff_plan.specs.declared.planned.PlanNode.{PlanNode};
 ghost use Rattle.ff_plan.specs.declared.planned.PlanNode.TheVariants.{Demux as DemuxNode};
 ghost use Rattle.ff_sched.specs.Bits.{mark_at};
 ghost use Rattle.ff_sched.specs.Routes.{AreRoutes};
-ghost use Rattle.ff_running.specs.Openings.{reads_in, is_read, is_unused, IsOpening};
+ghost use Rattle.ff_run_plan.specs.Openings.{reads_in, is_read, is_unused, IsOpening};
 
 use ff_plan::PlanNode;
 use ff_sched::{Routes, SchedState};

@@ -1,14 +1,14 @@
 // Under which grants of a run's history its sources have tried their units.
 ghost use Rattle.std.specs.Prelude.{◌≡◌, take, IfOk, IfSome, Some};
-ghost use Rattle.ff_running.specs.Reads.{is_grant_of as grant_of, grants_of, places_in, tried_in, first_reads};
+ghost use Rattle.ff_run_plan.specs.Reads.{is_grant_of as grant_of, grants_of, places_in, tried_in, first_reads};
 
 use crate::kinds::Kinds;
 use crate::opening::reads;
+use ff_frame::Event;
 use ff_host::{Sink, Source};
 use ff_net::Machine;
 use ff_plan::PlanNode;
 use ff_sched::History;
-use ff_values::Event;
 use std::alloc::{AllocError, Global};
 
 /// What a run of a plan's nodes has logged.

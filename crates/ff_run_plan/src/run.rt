@@ -2,20 +2,20 @@
 ghost use Rattle.std.specs.Prelude.{◌≡◌, ◌<◌, ◌≤◌, ◌^◌, ℕ, List, Bool, true, [], length, map, slice_get, vec_capacity, Option, None, Some, IfOk, IfSome, IsSome};
 ghost use Rattle.ff_net.specs.declared.fault.Fault.TheVariants.{NoMemory as NoMemoryFault};
 ghost use Rattle.ff_net.specs.Pasts.{Task};
-ghost use Rattle.ff_network.specs.Fits.{ins_at, outs_at, network, AreFit};
-ghost use Rattle.ff_network.specs.Networks.{Fits, AllStart, ports_of};
-ghost use Rattle.ff_network.specs.Runs.{AllKept, MeetsNetwork};
+ghost use Rattle.ff_net_threads.specs.network.Fits.{ins_at, outs_at, network, AreFit};
+ghost use Rattle.ff_net_threads.specs.network.Networks.{Fits, AllStart, ports_of};
+ghost use Rattle.ff_net_threads.specs.network.Runs.{AllKept, MeetsNetwork};
 ghost use Rattle.ff_files.specs.Works.{AreTold};
-ghost use Rattle.ff_running.specs.Asked.{asked_of};
-ghost use Rattle.ff_running.specs.Claims.{tell_all};
-ghost use Rattle.ff_network.specs.Fits.{ports_by};
-ghost use Rattle.ff_running.specs.Parts.{AreFitting, AreOrdered, AllAside, HaveNumbers};
-ghost use Rattle.ff_network.specs.Scheduling.{AllRouted};
-ghost use Rattle.ff_running.specs.Histories.{AreScheduled};
-ghost use Rattle.ff_running.specs.Reads.{AreSufficient, IsLogOf, first_reads, places_in};
-ghost use Rattle.ff_running.specs.Openings.{CanBegin, or_memory};
-ghost use Rattle.ff_running.specs.Rooms.{HasRoom};
-ghost use Rattle.ff_running.specs.Runs.{TellsRun, AreRun, IsDone};
+ghost use Rattle.ff_run_plan.specs.Asked.{asked_of};
+ghost use Rattle.ff_run_plan.specs.Claims.{tell_all};
+ghost use Rattle.ff_net_threads.specs.network.Fits.{ports_by};
+ghost use Rattle.ff_run_plan.specs.Parts.{AreFitting, AreOrdered, AllAside, HaveNumbers};
+ghost use Rattle.ff_net_threads.specs.network.Scheduling.{AllRouted};
+ghost use Rattle.ff_run_plan.specs.Histories.{AreScheduled};
+ghost use Rattle.ff_run_plan.specs.Reads.{AreSufficient, IsLogOf, first_reads, places_in};
+ghost use Rattle.ff_run_plan.specs.Openings.{CanBegin, or_memory};
+ghost use Rattle.ff_run_plan.specs.Rooms.{HasRoom};
+ghost use Rattle.ff_run_plan.specs.Runs.{TellsRun, AreRun, IsDone};
 
 use crate::build::{Places, build};
 use crate::end::end_with;
@@ -25,13 +25,13 @@ use crate::kinds::Kinds;
 use crate::opening::Opening;
 use crate::reads::{RunLog, logged};
 use crate::tables::{listed, tabled};
-use ff_edges::Edge;
 use ff_files::{Done, WorkEnd};
 use ff_host::{Sink, Source};
 use ff_link::Claims;
 use ff_net::{Fault, Machine};
-use ff_network::{NodeFault, Ran, run_network};
+use ff_net_threads::network::{NodeFault, Ran, run_network};
 use ff_plan::{GraphText, PlanNode};
+use ff_stream::Edge;
 use ff_words::Job;
 use std::alloc::{AllocError, Global};
 use std::sync::Wait;
@@ -197,7 +197,7 @@ pub(crate) struct Room<Part: Drop, Src: Drop, Snk: Drop> {
 }
 
 impl<Part: Drop, Src: Drop, Snk: Drop> Room<Part, Src, Snk> {
-    ghost use Rattle.ff_running.specs.Rooms.{HasRoom};
+    ghost use Rattle.ff_run_plan.specs.Rooms.{HasRoom};
 
     /// Room for so many of each.
     pub(crate) fn new(

@@ -2,12 +2,12 @@
 ghost use Rattle.std.specs.Prelude.{◌≡◌, ℕ, List, [], ◌∷◌, length, map, Option, None, Some, Ok, IfOk, IfSome, IfErr, OnOk};
 ghost use Rattle.ff_map.specs.Choice.{lists};
 ghost use Rattle.ff_files.specs.Works.{HasLog, AreTold, HoldFiles, HoldParts, KeepEnds, FailNoMore, EndsWork, sound_sources, sound_sinks};
-ghost use Rattle.ff_running.specs.Accepting.{IsAccepted, IsPlanFor};
-ghost use Rattle.ff_running.specs.Asked.{asked_of};
-ghost use Rattle.ff_running.specs.Claims.{tell_all};
-ghost use Rattle.ff_running.specs.Histories.{state_before};
-ghost use Rattle.ff_running.specs.Reads.{IsLogFor, IsLogOf};
-ghost use Rattle.ff_running.specs.Meaning.{plan_for, refusal_of, means as means_of};
+ghost use Rattle.ff_run_plan.specs.Accepting.{IsAccepted, IsPlanFor};
+ghost use Rattle.ff_run_plan.specs.Asked.{asked_of};
+ghost use Rattle.ff_run_plan.specs.Claims.{tell_all};
+ghost use Rattle.ff_run_plan.specs.Histories.{state_before};
+ghost use Rattle.ff_run_plan.specs.Reads.{IsLogFor, IsLogOf};
+ghost use Rattle.ff_run_plan.specs.Meaning.{plan_for, refusal_of, means as means_of};
 
 use crate::fault::RunFault;
 use crate::kinds::Kinds;
@@ -15,14 +15,14 @@ use crate::opening::before_run;
 use crate::reads::RunLog;
 use crate::run::{Room, run_nodes};
 use ff_files::{Done, PlanEnd, WorkEnd};
+use ff_frame::StreamHead;
+use ff_graph_links::{orders_are_whole, orders_go_upward};
 use ff_host::{Sink, Source};
-use ff_labels::{orders_are_whole, orders_go_upward};
 use ff_net::Machine;
 use ff_plan::{
     Plan, PlanError, graph_plans_are_fed, graphs_fit, is_within_limits, nodes_have_rows, starts_fit,
 };
 use ff_plan_laws::plans_are_sound;
-use ff_values::StreamHead;
 use ff_words::Job;
 use std::alloc::{AllocError, Global};
 use std::marker::Brand;

@@ -1,7 +1,7 @@
 -- What happens to one stream or source is told by one worker, so its events stand in the history in the worker's order.
 use Rattle.std.proofs.Common.{◌≡◌, ℕ, suc, ◌+◌, ◌-◌, ◌<◌, ◌≤◌, ◌⊎◌, ⊎_elim, Bool, true, false, List, [], ◌∷◌, map, slice_get, Some, nat_eq, cond, filter, refl, ap, ◌∙◌, subst, arith}
 use borrow.Author.Tests.{eqb-true, eqb-false}
-use Rattle.ff_values.specs.declared.event.Event.{Event}
+use Rattle.ff_frame.specs.declared.event.Event.{Event}
 use Rattle.ff_sched.specs.declared.logged.Logged.{Logged}
 use Rattle.ff_sched.proofs.Unchoking.{some_is, none_some}
 

@@ -1,7 +1,7 @@
 -- Lines of a history, one after another.
 use Rattle.std.proofs.Common.{◌≡◌, ℕ, ◌+◌, ◌<◌, List, [], ◌∷◌, ◌++◌, length, take, get_or, sym, refl, ap, ◌∙◌, append_assoc, append-nil}
 use Rattle.std.proofs.lemmas.List.{take_more}
-use Rattle.ff_values.specs.declared.event.Event.{Event}
+use Rattle.ff_frame.specs.declared.event.Event.{Event}
 use Rattle.ff_sched.specs.Printing.{event_line, printed}
 
 printed-append : (xs ys : List Event) → printed (xs ++ ys) ≡ printed xs ++ printed ys

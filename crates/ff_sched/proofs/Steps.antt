@@ -6,8 +6,8 @@ use Rattle.std.proofs.Math.Seq.{take-set-lt}
 use Rattle.std.proofs.Math.ListN.{length-set}
 use Rattle.ff_sched.specs.Bits.{upto, mark_at, four_at}
 use Rattle.ff_sched.specs.Words.{state_of, last_of}
-use Rattle.ff_values.specs.declared.event.Event.{Event}
-use Rattle.ff_values.specs.declared.event.Event.TheVariants.{Grant, Sent, Finished, Best, Exited}
+use Rattle.ff_frame.specs.declared.event.Event.{Event}
+use Rattle.ff_frame.specs.declared.event.Event.TheVariants.{Grant, Sent, Finished, Best, Exited}
 use Rattle.ff_sched.specs.State.{State, last_at, finished_at, exited_at, best_at, opening_of}
 use Rattle.ff_sched.specs.Events.{step_of}
 use Rattle.ff_sched.proofs.Bits.{same_on, set_on, four_is, low_bit, high_bit}

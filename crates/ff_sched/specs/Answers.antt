@@ -1,6 +1,6 @@
 -- What `take_grant` answers.
 use Rattle.std.specs.Prelude.{◌≡◌, ℕ}
-use Rattle.ff_values.specs.declared.event.Event.TheVariants.{Grant as GrantOf}
+use Rattle.ff_frame.specs.declared.event.Event.TheVariants.{Grant as GrantOf}
 use Rattle.ff_sched.specs.declared.cell.Grant.{Grant}
 use Rattle.ff_sched.specs.declared.cell.Grant.TheVariants.{Go, Choked}
 use Rattle.ff_sched.specs.Passing.{Passing, Told, IsChoked}

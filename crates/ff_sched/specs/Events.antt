@@ -1,7 +1,7 @@
 -- What an event does to the state.
 use Rattle.std.specs.Prelude.{◌+◌, ◌<◌, ◌^◌, true, List, [], ◌∷◌, Some, slice_set, slice_index_or, length}
-use Rattle.ff_values.specs.declared.event.Event.{Event}
-use Rattle.ff_values.specs.declared.event.Event.TheVariants.{Grant, Sent, Finished, Best, Exited}
+use Rattle.ff_frame.specs.declared.event.Event.{Event}
+use Rattle.ff_frame.specs.declared.event.Event.TheVariants.{Grant, Sent, Finished, Best, Exited}
 use Rattle.ff_sched.specs.declared.routes.Routes.{Routes}
 use Rattle.ff_sched.specs.State.{State}
 

@@ -1,7 +1,7 @@
 -- Histories: lists of events, and where the entries of a log stand in one.
 use Rattle.std.specs.Prelude.{◌≡◌, ℕ, ◌+◌, ◌<◌, List, [], ◌∷◌, ◌++◌, take, slice_get, Some, All}
-use Rattle.ff_values.specs.declared.event.Event.{Event}
-use Rattle.ff_values.specs.declared.event.Event.TheVariants.{Grant, Sent, Finished, Best, Exited}
+use Rattle.ff_frame.specs.declared.event.Event.{Event}
+use Rattle.ff_frame.specs.declared.event.Event.TheVariants.{Grant, Sent, Finished, Best, Exited}
 use Rattle.ff_sched.specs.declared.logged.Logged.{Logged}
 use Rattle.ff_sched.specs.declared.routes.Routes.{Routes}
 use Rattle.ff_sched.specs.State.{State}

@@ -1,6 +1,6 @@
 -- What the law on histories speaks of.
 use Rattle.std.specs.Prelude.{◌≡◌, ◌⊎◌, Bool, true, List, [], ◌∷◌, map}
-use Rattle.ff_values.specs.declared.event.Event.{Event}
+use Rattle.ff_frame.specs.declared.event.Event.{Event}
 use Rattle.ff_sched.specs.declared.logged.Logged.{Logged}
 use Rattle.ff_sched.specs.Histories.{all_in}
 use Rattle.ff_sched.specs.Passing.{Passing, logs_of}

@@ -1,7 +1,7 @@
 -- What a contract sees of a cell and of a pass, and what each call does to a pass. Each fact can be read alone.
 use Rattle.std.specs.Prelude.{◌≡◌, ℕ, true, ◌-◌, ◌^◌, List, [], ◌∷◌, ◌++◌, length, map, All}
 use Rattle.atomic_table.specs.Seated.{TableId}
-use Rattle.ff_values.specs.declared.event.Event.{Event}
+use Rattle.ff_frame.specs.declared.event.Event.{Event}
 use Rattle.ff_sched.specs.declared.logged.Logged.{Logged}
 use Rattle.ff_sched.specs.declared.routes.Routes.{Routes}
 use Rattle.ff_sched.specs.declared.rule.View.{View}

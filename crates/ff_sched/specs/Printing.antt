@@ -1,7 +1,7 @@
 -- The text of a history: a line for each event.
 use Rattle.std.specs.Prelude.{ℕ, List, [], ◌∷◌, ◌++◌, codes, decimal}
-use Rattle.ff_values.specs.declared.event.Event.{Event}
-use Rattle.ff_values.specs.declared.event.Event.TheVariants.{Grant, Sent, Finished, Best, Exited}
+use Rattle.ff_frame.specs.declared.event.Event.{Event}
+use Rattle.ff_frame.specs.declared.event.Event.TheVariants.{Grant, Sent, Finished, Best, Exited}
 
 abbrev pub one_number : List ℕ → ℕ → List ℕ
 one_number name n = name ++ codes " " ++ decimal n ++ codes "\n"

@@ -1,6 +1,6 @@
 -- Logs written at their places, and passes put together.
 use Rattle.std.specs.Prelude.{◌≡◌, ◌+◌, true, List, [], ◌∷◌, ◌++◌, All, sum_by, slice_set, length}
-use Rattle.ff_values.specs.declared.event.Event.{Event}
+use Rattle.ff_frame.specs.declared.event.Event.{Event}
 use Rattle.ff_sched.specs.declared.logged.Logged.{Logged}
 use Rattle.ff_sched.specs.declared.rule.View.{View}
 use Rattle.ff_sched.specs.declared.routes.Routes.{Routes}

@@ -1,6 +1,6 @@
 ghost use Rattle.std.specs.Prelude.{◌≡◌, ◌+◌, ◌-◌, ◌<◌, ◌≤◌, ◌^◌, true, false, List, length, slice_index, IfOk, OnErr, MatchResult};
 ghost use Rattle.crossbeam_utils.specs.Seq.{cell_view};
-ghost use Rattle.ff_values.specs.declared.event.Event.{Event};
+ghost use Rattle.ff_frame.specs.declared.event.Event.{Event};
 ghost use Rattle.ff_sched.specs.State.{State};
 ghost use Rattle.ff_sched.specs.Routes.{AreRoutes};
 ghost use Rattle.ff_sched.specs.Events.{IsSmall, IsInRange, IsTold};
@@ -19,7 +19,7 @@ use crate::rule::{
 };
 use crate::state::SchedState;
 use crate::words::{COUNT, stepped};
-use ff_values::{Event, Ticket};
+use ff_frame::{Event, Ticket};
 use std::alloc::{AllocError, Global};
 use std::marker::{Brand, Model};
 use std::sync::Wait;

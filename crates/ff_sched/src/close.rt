@@ -10,7 +10,7 @@ use crate::history::History;
 use crate::logged::Logged;
 use crate::pass::Pass;
 use crate::rule::{Cell, Seat};
-use ff_values::Event;
+use ff_frame::Event;
 use std::alloc::{AllocError, Global};
 use std::sync::Wait;
 

@@ -1,6 +1,6 @@
 ghost use Rattle.std.specs.Prelude.{◌≡◌};
 
-use ff_values::Event;
+use ff_frame::Event;
 use std::marker::Model;
 
 /// All that happened, in one order. Contracts see it as a list.
@@ -11,7 +11,7 @@ pub struct History {
 
 impl Model for History {
     ghost use Rattle.std.specs.Prelude.{List};
-    ghost use Rattle.ff_values.specs.declared.event.Event.{Event};
+    ghost use Rattle.ff_frame.specs.declared.event.Event.{Event};
 
     ghost Value = { List Event };
 

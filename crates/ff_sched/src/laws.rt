@@ -1,6 +1,6 @@
 //! A law of histories. It is a function that does nothing: its clause holds of all values.
 ghost use Rattle.std.specs.Prelude.{◌≡◌, Bool, List, filter};
-ghost use Rattle.ff_values.specs.declared.event.Event.{Event};
+ghost use Rattle.ff_frame.specs.declared.event.Event.{Event};
 ghost use Rattle.ff_sched.specs.Passing.{Scheduler, Passing, IsHistory};
 ghost use Rattle.ff_sched.specs.Laws.{IsPassOf, HasAllOf, events_in};
 

@@ -1,4 +1,4 @@
-use ff_values::Event;
+use ff_frame::Event;
 
 /// An event at its place in the history: an entry of the log of a pass.
 #[derive(Clone, Copy, Debug, PartialEq, Eq)]

@@ -10,7 +10,7 @@ use crate::choking::unchokes;
 use crate::history::History;
 use crate::routes::Routes;
 use crate::state::{SchedState, step};
-use ff_values::{Event, Ticket};
+use ff_frame::{Event, Ticket};
 use std::alloc::{AllocError, Global};
 use std::marker::Model;
 use std::snapshot::Snapshot;

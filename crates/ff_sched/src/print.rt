@@ -3,7 +3,7 @@ ghost use Rattle.std.specs.Prelude.{◌≡◌, ◌++◌, IfOk, OnOk, string_byte
 ghost use Rattle.ff_sched.specs.Printing.{event_line, one_number, two_numbers, printed};
 
 use crate::history::History;
-use ff_values::Event;
+use ff_frame::Event;
 use std::alloc::{AllocError, Global};
 
 fn one(alloc: Global, name: &str, number: u32) -> Result<String, AllocError>

@@ -3,7 +3,7 @@ ghost use Rattle.ff_sched.specs.Ways.{way_in};
 ghost use Rattle.ff_sched.specs.Routes.{AreRoutes};
 ghost use Rattle.ff_sched.specs.Events.{IsInRange};
 
-use ff_values::Event;
+use ff_frame::Event;
 use std::marker::Model;
 
 // How many sources, streams, graphs and inputs of a graph there may be.

@@ -6,7 +6,7 @@ use atomic_table::{Join, Split};
 use crossbeam_utils::atomic::seq_cell;
 use crossbeam_utils::atomic::seq_cell::RuledSeqCell;
 use crossbeam_utils::rule::{Outcome, Protocol};
-use ff_values::Event;
+use ff_frame::Event;
 use std::collections::LinkedList;
 use std::marker::{Brand, PhantomData};
 
@@ -35,13 +35,13 @@ impl Protocol<[u64; 20], View> for OneHistory {
 
 /// The event of one call, which the call picks.
 pub trait Named {
-    ghost use Rattle.ff_values.specs.declared.event.Event.{Event};
+    ghost use Rattle.ff_frame.specs.declared.event.Event.{Event};
 
     ghost event: { Event };
 }
 
 impl Named for Brand {
-    ghost use Rattle.ff_values.specs.declared.event.Event.TheVariants.{Grant};
+    ghost use Rattle.ff_frame.specs.declared.event.Event.TheVariants.{Grant};
 
     ghost event = { Grant 0 };
 }

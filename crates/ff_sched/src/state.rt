@@ -4,7 +4,7 @@ ghost use Rattle.ff_sched.specs.State.{last_at, finished_at, exited_at, best_at,
 
 use crate::routes::Routes;
 use crate::words::{BEST, COUNT, MARKS, stepped};
-use ff_values::Event;
+use ff_frame::Event;
 use std::marker::Model;
 
 /// The state of the scheduler. Contracts see it as lists.

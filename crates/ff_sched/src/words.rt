@@ -7,7 +7,7 @@ ghost use Rattle.ff_sched.specs.Bits.{four_at};
 ghost use Rattle.ff_sched.specs.Words.{state_of};
 ghost use Rattle.ff_sched.specs.Events.{step_of, IsSmall};
 
-use ff_values::Event;
+use ff_frame::Event;
 
 pub const MARKS: usize = 16;
 

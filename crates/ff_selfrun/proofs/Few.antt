@@ -1,8 +1,8 @@
 -- Words that ask for the run over generated input ask for 3,600 seconds at most.
 use Rattle.std.proofs.Common.{◌≡◌, ℕ, ◌+◌, ◌≤◌, Bool, true, false, Option, Some, None, Result, Ok, Err, List, [], ◌∷◌, ◌++◌, refl, sym, subst}
 use Rattle.std.specs.Prelude.{if◌then◌else◌, codes}
-use Rattle.ff_values.specs.declared.head.Codec.{Codec}
-use Rattle.ff_values.specs.declared.hash.HashKind.TheVariants.{Sha256, Md5}
+use Rattle.ff_frame.specs.declared.head.Codec.{Codec}
+use Rattle.ff_frame.specs.declared.hash.HashKind.TheVariants.{Sha256, Md5}
 use Rattle.ff_words.specs.declared.error.WordKind.{WordKind}
 use Rattle.ff_words.specs.declared.job.Command.TheVariants as asked
 use Rattle.ff_words.specs.declared.job.Solo.{Solo}
@@ -17,7 +17,7 @@ use Rattle.ff_words.specs.declared.value.Value.TheVariants as value
 use Rattle.ff_words.specs.Table.{option_named, format_named, format_ending, audio_codec, video_codec, is_level}
 use Rattle.ff_words.specs.Values.{Reads, ReadsWhole, ReadsTime, ReadsGraph, ReadsMap, Makes, made, switched, or_bad, format_value, codec_value, level_value, hash_value, is_spelled}
 use Rattle.ff_words.specs.Words.{Token, Entry, is_dashed, placed, IsOption, IsNamed, IsToken, AreRead, tokens, command_by, last, as_solo, or_else}
-use Rattle.ff_self_run.specs.SelfRun.{SecondsAreFew}
+use Rattle.ff_selfrun.specs.SelfRun.{SecondsAreFew}
 
 -- a value that asks for no more
 abbrev FewSolo : Solo → Type 0

@@ -32,8 +32,8 @@ use Rattle.ff_words.proofs.Goes.{goes-start, goes-option, goes-input, goes-switc
 use Rattle.ff_words.proofs.Known.{line-complex, line-format, line-input, line-map, line-shortest, reads-complex, reads-format, reads-map, readable}
 use Rattle.ff_words.proofs.Tokens.{ended}
 use Rattle.ff_words.proofs.Unique.{answer-one}
-use Rattle.ff_self_run.specs.declared.words.TheConstants.{WORDS}
-use Rattle.ff_self_run.specs.SelfRun.{IsOwnJob, own_words}
+use Rattle.ff_selfrun.specs.declared.words.TheConstants.{WORDS}
+use Rattle.ff_selfrun.specs.SelfRun.{IsOwnJob, own_words}
 
 abbrev Text : Type 0
 Text = List ℕ

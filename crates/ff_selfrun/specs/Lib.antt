@@ -1,1 +1,2 @@
 pub mod SelfRun
+pub mod generated

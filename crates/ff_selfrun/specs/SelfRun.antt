@@ -3,7 +3,7 @@ use Rattle.std.specs.Prelude.{ℕ, ◌≤◌, List, [], ◌∷◌, ◌++◌, len
 use Rattle.std.specs.Str.{bytes_eq}
 use Rattle.ff_host.specs.Files.{Files}
 use Rattle.ff_lists.specs.Text.{line}
-use Rattle.ff_generated.specs.Generated.{generated_wav, generated_y4m}
+use Rattle.ff_selfrun.specs.generated.Generated.{generated_wav, generated_y4m}
 use Rattle.ff_words.specs.declared.job.Job.{Job}
 use Rattle.ff_words.specs.declared.job.Command.TheVariants.{Run, Solo as Alone}
 use Rattle.ff_words.specs.declared.job.Solo.TheVariants.{SelfRun}

@@ -1,10 +1,10 @@
 // The files.
 ghost use Rattle.std.specs.Prelude.{◌≡◌, ◌≤◌, IfOk};
-ghost use Rattle.ff_memory_host.specs.QuietHost.{quiet_files};
-ghost use Rattle.ff_self_run.specs.SelfRun.{own_files};
+ghost use Rattle.ff_host.specs.memory.QuietHost.{quiet_files};
+ghost use Rattle.ff_selfrun.specs.SelfRun.{own_files};
 
-use ff_generated::{gen_wav, gen_y4m};
-use ff_memory_host::QuietHost;
+use crate::generated::{gen_wav, gen_y4m};
+use ff_host::QuietHost;
 use std::alloc::{AllocError, Global};
 
 /// A host in memory that has the two inputs, of so many seconds.

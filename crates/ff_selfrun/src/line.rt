@@ -3,7 +3,7 @@ ghost use Rattle.std.specs.Prelude.{◌≡◌, ◌++◌, IfOk, codes, decimal, l
 ghost use Rattle.hex.specs.Hex.{encode_lower};
 ghost use Rattle.sha2.specs.Sha256.{sha256};
 ghost use Rattle.ff_lists.specs.Text.{line};
-ghost use Rattle.ff_self_run.specs.SelfRun.{own_line as line_of};
+ghost use Rattle.ff_selfrun.specs.SelfRun.{own_line as line_of};
 
 use sha2::{Digest, Sha256};
 use std::alloc::{AllocError, Global};

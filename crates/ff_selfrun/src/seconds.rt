@@ -1,5 +1,5 @@
 // What follows of the words alone.
-ghost use Rattle.ff_self_run.specs.SelfRun.{SecondsAreFew};
+ghost use Rattle.ff_selfrun.specs.SelfRun.{SecondsAreFew};
 
 /// Words that ask for a run over generated input ask for 3,600 seconds at most.
 pub fn seconds_are_few()

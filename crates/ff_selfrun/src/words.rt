@@ -3,7 +3,7 @@ ghost use Rattle.std.specs.Prelude.{◌≡◌, ◌∷◌, [], IfOk, codes};
 ghost use Rattle.ff_words.specs.Bounds.{IsBounded};
 ghost use Rattle.ff_words.specs.Table.{names};
 ghost use Rattle.ff_words.specs.Words.{texts, written};
-ghost use Rattle.ff_self_run.specs.SelfRun.{IsOwnJob};
+ghost use Rattle.ff_selfrun.specs.SelfRun.{IsOwnJob};
 
 use ff_words::{Command, Job, WordError, read_words};
 use std::alloc::{AllocError, Global};

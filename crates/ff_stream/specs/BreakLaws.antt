@@ -3,10 +3,10 @@ use Rattle.std.specs.Prelude.{◌≡◌, ◌↔◌, ℕ, zero, suc, List, [], �
 use Rattle.std.proofs.Common.{inl, inr, ap, sym, ◌∙◌, subst}
 use Rattle.std.proofs.lemmas.List.{map-append}
 use mathlib.Core.List.{IsPrefix}
-use Rattle.ff_frame.specs.Stream.{Stream, Mark, still_open, whole, broken, LiesBelow, opened, opened_mark, map_stream}
-use Rattle.ff_frame.specs.Ports.{stream_at, AllBelow}
-use Rattle.ff_frame.specs.Order.{prefix_self, same_stream, closed_below, stream_at-opened}
-use Rattle.ff_frame.specs.Breaks.{IsBrokenOff, KeepsBrokenRule}
+use Rattle.ff_stream.specs.Stream.{Stream, Mark, still_open, whole, broken, LiesBelow, opened, opened_mark, map_stream}
+use Rattle.ff_stream.specs.Ports.{stream_at, AllBelow}
+use Rattle.ff_stream.specs.Order.{prefix_self, same_stream, closed_below, stream_at-opened}
+use Rattle.ff_stream.specs.Breaks.{IsBrokenOff, KeepsBrokenRule}
 
 open_or_whole : {B : Type 0} (s t : Stream B) (m : Mark) → s.mark ≡ m → s.items ≡ t.items → (s.mark ≡ whole → t.mark ≡ whole) → LiesBelow (opened s) t
 open_or_whole s t still_open e i w = inr (ap opened_mark e, subst (λ xs. IsPrefix s.items xs) i (prefix_self s.items))

@@ -1,7 +1,7 @@
 -- What becomes of a function of streams where an input breaks off.
 use Rattle.std.specs.Prelude.{◌≡◌, ◌≢◌, ◌↔◌, ℕ, List, map}
-use Rattle.ff_frame.specs.Stream.{Stream, whole, broken, opened}
-use Rattle.ff_frame.specs.Ports.{stream_at, AllBelow}
+use Rattle.ff_stream.specs.Stream.{Stream, whole, broken, opened}
+use Rattle.ff_stream.specs.Ports.{stream_at, AllBelow}
 
 -- an input is broken, the output isn't whole, and however the inputs go on, it gets no further item and isn't made whole
 pub record IsBrokenOff {A B : Type 0} (meant : List (Stream A) → Type 0) (f : List (Stream A) → Stream B) (ss : List (Stream A)) : Type 0 where

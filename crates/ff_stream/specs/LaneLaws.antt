@@ -2,12 +2,12 @@
 use Rattle.std.specs.Prelude.{◌≡◌, ℕ, zero, suc, ◌≤◌, List, [], ◌∷◌, ◌++◌, length, All}
 use Rattle.std.proofs.Common.{subst, sym, ap, arith, length-append, lit≤}
 use mathlib.Core.List.{IsPrefix}
-use Rattle.ff_frame.specs.declared.item.Item.{Item}
-use Rattle.ff_frame.specs.declared.item.Lane.{Lane}
-use Rattle.ff_frame.specs.Stream.{Stream, LiesBelow, opened}
-use Rattle.ff_frame.specs.Lanes.{InOrder, AreInShape, IsItemFor, IsValid, EndsInTime}
-use Rattle.ff_frame.specs.Order.{below_items, opened_below}
-use Rattle.ff_frame.specs.Ports.{nothing}
+use Rattle.ff_stream.specs.declared.item.Item.{Item}
+use Rattle.ff_stream.specs.declared.item.Lane.{Lane}
+use Rattle.ff_stream.specs.Stream.{Stream, LiesBelow, opened}
+use Rattle.ff_stream.specs.Lanes.{InOrder, AreInShape, IsItemFor, IsValid, EndsInTime}
+use Rattle.ff_stream.specs.Order.{below_items, opened_below}
+use Rattle.ff_stream.specs.Ports.{nothing}
 
 all_front : {A : Type 0} (P : A → Type 0) (xs ys : List A) → All P (xs ++ ys) → All P xs
 all_front P [] ys a k d lt = absurd (omega arith)

@@ -1,17 +1,17 @@
 -- When a stream is valid for the way that carries it.
 use Rattle.std.specs.Prelude.{◌≡◌, ◌^◌, ◌≤◌, pos, ◌<ℤ◌, ◌≤ℤ◌, List, [], ◌∷◌, length, All}
 use Rattle.ff_time.specs.Fraction.{Fraction}
-use Rattle.ff_values.specs.declared.head.StreamHead.{StreamHead}
-use Rattle.ff_values.specs.declared.head.StreamHead.TheVariants.{Audio as AudioHead, Video as VideoHead}
-use Rattle.ff_values.specs.Heads.{base_of_head, IsFrameOf, IsPictureOf}
-use Rattle.ff_values.specs.Codecs.{IsFlacCodec, IsSoundPacket}
-use Rattle.ff_values.specs.Video.{frame_size}
-use Rattle.ff_frame.specs.declared.item.Item.{Item}
-use Rattle.ff_frame.specs.declared.item.Item.TheVariants.{Audio, Video, Packet, Trailer, End, Broken}
-use Rattle.ff_frame.specs.declared.item.Lane.{Lane}
-use Rattle.ff_frame.specs.declared.item.Lane.TheVariants.{Frames, Packets}
-use Rattle.ff_frame.specs.Stream.{Stream}
-use Rattle.ff_frame.specs.Times.{HasTime, start_of, end_of, ticks, IsInTime}
+use Rattle.ff_frame.specs.declared.head.StreamHead.{StreamHead}
+use Rattle.ff_frame.specs.declared.head.StreamHead.TheVariants.{Audio as AudioHead, Video as VideoHead}
+use Rattle.ff_frame.specs.Heads.{base_of_head, IsFrameOf, IsPictureOf}
+use Rattle.ff_frame.specs.Codecs.{IsFlacCodec, IsSoundPacket}
+use Rattle.ff_frame.specs.Video.{frame_size}
+use Rattle.ff_stream.specs.declared.item.Item.{Item}
+use Rattle.ff_stream.specs.declared.item.Item.TheVariants.{Audio, Video, Packet, Trailer, End, Broken}
+use Rattle.ff_stream.specs.declared.item.Lane.{Lane}
+use Rattle.ff_stream.specs.declared.item.Lane.TheVariants.{Frames, Packets}
+use Rattle.ff_stream.specs.Stream.{Stream}
+use Rattle.ff_stream.specs.Times.{HasTime, start_of, end_of, ticks, IsInTime}
 
 abbrev pub head_of : Lane → StreamHead
 head_of (Frames head) = head

@@ -1,6 +1,6 @@
 -- Lists of streams, one for each port.
 use Rattle.std.specs.Prelude.{◌≡◌, ◌≢◌, ℕ, zero, suc, List, [], ◌∷◌, map}
-use Rattle.ff_frame.specs.Stream.{Stream, still_open, whole, broken, LiesBelow, opened}
+use Rattle.ff_stream.specs.Stream.{Stream, still_open, whole, broken, LiesBelow, opened}
 
 -- the stream that all begin with: nothing came yet
 abbrev pub nothing : {A : Type 0} → Stream A

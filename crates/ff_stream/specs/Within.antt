@@ -1,10 +1,10 @@
 -- A stream up to the last item before the first one that passes a limit.
 use Rattle.std.specs.Prelude.{ℕ, ◌+◌, ◌*◌, ◌^◌, Bool, true, false, ◌||◌, cond, nat_lt, List, [], ◌∷◌}
-use Rattle.ff_frame.specs.declared.item.Item.{Item}
-use Rattle.ff_frame.specs.declared.item.Lane.{Lane}
-use Rattle.ff_frame.specs.Stream.{Stream, broken}
-use Rattle.ff_frame.specs.Lanes.{base_of}
-use Rattle.ff_frame.specs.Times.{end_of, ticks}
+use Rattle.ff_stream.specs.declared.item.Item.{Item}
+use Rattle.ff_stream.specs.declared.item.Lane.{Lane}
+use Rattle.ff_stream.specs.Stream.{Stream, broken}
+use Rattle.ff_stream.specs.Lanes.{base_of}
+use Rattle.ff_stream.specs.Times.{end_of, ticks}
 
 -- one item passes a limit, where the first has this number
 abbrev pub some_pass : {A : Type 0} → (ℕ → A → Bool) → ℕ → List A → Bool

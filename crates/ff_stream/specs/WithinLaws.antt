@@ -3,14 +3,14 @@ use Rattle.std.specs.Prelude.{◌≡◌, ℕ, zero, suc, ◌+◌, ◌*◌, ◌^�
 use Rattle.std.proofs.Common.{inl, inr, ap, sym, ◌∙◌, subst, arith}
 use Rattle.std.proofs.lemmas.Bool.Decides.{nat_tests}
 use mathlib.Core.List.{IsPrefix}
-use Rattle.ff_frame.specs.declared.item.Item.{Item}
-use Rattle.ff_frame.specs.declared.item.Lane.{Lane}
-use Rattle.ff_frame.specs.Stream.{Stream, Mark, still_open, broken, LiesBelow, opened, opened_mark}
-use Rattle.ff_frame.specs.Order.{prefix_self, same_stream}
-use Rattle.ff_frame.specs.Lanes.{AreInShape, IsValid, EndsInTime, base_of}
-use Rattle.ff_frame.specs.LaneLaws.{shape_front}
-use Rattle.ff_frame.specs.Times.{ticks, end_of}
-use Rattle.ff_frame.specs.Within.{some_pass, before_pass, within, passes_limits}
+use Rattle.ff_stream.specs.declared.item.Item.{Item}
+use Rattle.ff_stream.specs.declared.item.Lane.{Lane}
+use Rattle.ff_stream.specs.Stream.{Stream, Mark, still_open, broken, LiesBelow, opened, opened_mark}
+use Rattle.ff_stream.specs.Order.{prefix_self, same_stream}
+use Rattle.ff_stream.specs.Lanes.{AreInShape, IsValid, EndsInTime, base_of}
+use Rattle.ff_stream.specs.LaneLaws.{shape_front}
+use Rattle.ff_stream.specs.Times.{ticks, end_of}
+use Rattle.ff_stream.specs.Within.{some_pass, before_pass, within, passes_limits}
 
 module _ {A : Type 0} (passes : ℕ → A → Bool) where
   -- where one passes, what comes behind doesn't matter

@@ -11,9 +11,8 @@
 //!               out 1                  edge 1                    in 1
 //! ```
 //!
-//! `specs/Ports` says which edge stands at a port, and when each input is fed by an earlier node. The order of the list
+//! `specs/edges/Ports` says which edge stands at a port, and when each input is fed by an earlier node. The order of the list
 //! means nothing: of two edges that name one port the first stands there.
-#![tactic(auto)]
 
 mod edge;
 mod ports;

@@ -1,7 +1,7 @@
 ghost use Rattle.std.specs.Prelude.{◌≡◌, ◌↔◌, IsTrue, IfOk};
-ghost use Rattle.ff_frame.specs.Items.{Closes};
+ghost use Rattle.ff_stream.specs.Items.{Closes};
 
-use ff_values::{AFrame, Pkt, StreamHead, Totals, VFrame};
+use ff_frame::{AFrame, Pkt, StreamHead, Totals, VFrame};
 use std::alloc::{AllocError, Global};
 
 /// What travels from one part of a run to the next.

@@ -1,21 +1,21 @@
 -- What the machine that joins two inputs does at each call.
 use Rattle.std.proofs.Common.{◌≡◌, ◌≢◌, ℕ, zero, suc, ◌+◌, ◌<◌, ◌≤◌, ◌⊎◌, inl, inr, Bool, true, false, List, [], ◌∷◌, ◌++◌, length, take, slice_index_or, refl, ap, sym, ◌∙◌, subst, arith}
 use Rattle.std.proofs.lemmas.List.{take_more}
-use Rattle.ff_frame.specs.declared.item.Item.{Item}
-use Rattle.ff_frame.specs.declared.item.Item.TheVariants.{Audio, Video, Packet, Trailer, End, Broken}
-use Rattle.ff_frame.specs.declared.item.Lane.{Lane}
-use Rattle.ff_frame.specs.Stream.{Mark, still_open, LiesBelow}
-use Rattle.ff_frame.specs.Items.{with_item}
-use Rattle.ff_frame.specs.Order.{below_self, below_items, closed_below, same_stream, with_item_above}
-use Rattle.ff_frame.specs.Lanes.{IsValid, FitsLane}
-use Rattle.ff_frame.specs.Ports.{nothing, stream_at, IsClosed}
+use Rattle.ff_stream.specs.declared.item.Item.{Item}
+use Rattle.ff_stream.specs.declared.item.Item.TheVariants.{Audio, Video, Packet, Trailer, End, Broken}
+use Rattle.ff_stream.specs.declared.item.Lane.{Lane}
+use Rattle.ff_stream.specs.Stream.{Mark, still_open, LiesBelow}
+use Rattle.ff_stream.specs.Items.{with_item}
+use Rattle.ff_stream.specs.Order.{below_self, below_items, closed_below, same_stream, with_item_above}
+use Rattle.ff_stream.specs.Lanes.{IsValid, FitsLane}
+use Rattle.ff_stream.specs.Ports.{nothing, stream_at, IsClosed}
 use Rattle.ff_net.specs.Ways.{Flow, AreValid}
 use Rattle.ff_net.specs.Pasts.{Past, due, fed, gave_item, was_asked, was_stopped}
 use Rattle.ff_net.proofs.Flows.{take_whole, stream_at-with_item_same, stream_at-with_item_other}
-use Rattle.ff_net_plain.specs.ListLaws.{take_less}
-use Rattle.ff_net_plain.specs.Joins.{joined, given_so_far, Joins}
-use Rattle.ff_net_plain.specs.JoinLaws.{joined_below, joins_due, longer, take_both}
-use Rattle.ff_net_plain.proofs.ListSteps.{fits_goes_on, item_added}
+use Rattle.ff_test_machines.specs.ListLaws.{take_less}
+use Rattle.ff_test_machines.specs.Joins.{joined, given_so_far, Joins}
+use Rattle.ff_test_machines.specs.JoinLaws.{joined_below, joins_due, longer, take_both}
+use Rattle.ff_test_machines.proofs.ListSteps.{fits_goes_on, item_added}
 
 -- an item that closes
 pub closes_with : (t : Flow) (x : Item) (m : Mark) → with_item nothing x ≡ record { items = []; mark = m } → with_item t x ≡ record { items = t.items; mark = m }

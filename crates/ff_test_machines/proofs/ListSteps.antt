@@ -1,20 +1,20 @@
 -- What a source does at each call.
 use Rattle.std.proofs.Common.{◌≡◌, ◌≢◌, ℕ, zero, suc, ◌+◌, ◌<◌, ◌≤◌, ◌⊎◌, inl, inr, Bool, true, false, List, [], ◌∷◌, ◌++◌, length, take, slice_index_or, refl, ap, sym, ◌∙◌, subst, arith}
 use Rattle.std.proofs.lemmas.List.{take_more}
-use Rattle.ff_values.specs.declared.head.StreamHead.TheVariants.{Audio as AudioHead, Video as VideoHead}
-use Rattle.ff_frame.specs.declared.item.Item.{Item}
-use Rattle.ff_frame.specs.declared.item.Item.TheVariants.{Audio, Video, Packet, Trailer, End, Broken}
-use Rattle.ff_frame.specs.declared.item.Lane.{Lane}
-use Rattle.ff_frame.specs.declared.item.Lane.TheVariants.{Frames, Packets}
-use Rattle.ff_frame.specs.Stream.{still_open, whole_stream, LiesBelow}
-use Rattle.ff_frame.specs.Items.{Closes, with_item}
-use Rattle.ff_frame.specs.Lanes.{FitsLane, IsValid}
-use Rattle.ff_frame.specs.Ports.{stream_at}
+use Rattle.ff_frame.specs.declared.head.StreamHead.TheVariants.{Audio as AudioHead, Video as VideoHead}
+use Rattle.ff_stream.specs.declared.item.Item.{Item}
+use Rattle.ff_stream.specs.declared.item.Item.TheVariants.{Audio, Video, Packet, Trailer, End, Broken}
+use Rattle.ff_stream.specs.declared.item.Lane.{Lane}
+use Rattle.ff_stream.specs.declared.item.Lane.TheVariants.{Frames, Packets}
+use Rattle.ff_stream.specs.Stream.{still_open, whole_stream, LiesBelow}
+use Rattle.ff_stream.specs.Items.{Closes, with_item}
+use Rattle.ff_stream.specs.Lanes.{FitsLane, IsValid}
+use Rattle.ff_stream.specs.Ports.{stream_at}
 use Rattle.ff_net.specs.Ways.{Flow}
 use Rattle.ff_net.specs.Pasts.{Past, due, gave_item, was_asked}
 use Rattle.ff_net.proofs.Flows.{stream_at-with_item_same, stream_at-with_item_other}
-use Rattle.ff_net_plain.specs.Lists.{given_of, Lists}
-use Rattle.ff_net_plain.specs.ListLaws.{cut_before, cut_after, lists_due}
+use Rattle.ff_test_machines.specs.Lists.{given_of, Lists}
+use Rattle.ff_test_machines.specs.ListLaws.{cut_before, cut_after, lists_due}
 
 pub fits_goes_on : (lane : Lane) (x : Item) → FitsLane lane x → Closes x → ⊥
 fits_goes_on lane (Audio f) h c = c

@@ -1,6 +1,6 @@
 -- Five nodes on five wires.
 use Rattle.std.proofs.Common.{◌≡◌, ◌≢◌, ℕ, zero, suc, ◌+◌, ◌<◌, List, [], ◌∷◌, map, length, slice_index_or, refl, ap, sym, ◌∙◌, subst, arith, inl, inr, Some}
-use Rattle.ff_frame.specs.declared.item.Lane.{Lane}
+use Rattle.ff_stream.specs.declared.item.Lane.{Lane}
 use Rattle.ff_net.specs.declared.node.Node.{Node}
 use Rattle.ff_net.specs.declared.wires.Wires.{Wires}
 use Rattle.ff_net.specs.Pasts.{IsIn}
@@ -9,9 +9,9 @@ use Rattle.ff_net.specs.Worlds.{lanes_of}
 use Rattle.ff_net.specs.Nodes.{AreApart, HaveLanes, IsOf, IsShaped, in_wires_of, out_wires_of}
 use Rattle.ff_net.specs.Serial.{AreOf, AreShaped}
 use Rattle.ff_sched.specs.Passing.{Scheduler}
-use Rattle.ff_net_plain.specs.declared.plain.Plain.{Plain}
-use Rattle.ff_net_plain.specs.Plains.{plain_view}
-use Rattle.ff_net_plain.specs.Networks.{Fits}
+use Rattle.ff_test_machines.specs.declared.plain.Plain.{Plain}
+use Rattle.ff_test_machines.specs.Plains.{plain_view}
+use Rattle.ff_test_machines.specs.Networks.{Fits}
 
 -- the node to which a wire leads, and that which it leaves
 abbrev leads_to : ℕ → ℕ

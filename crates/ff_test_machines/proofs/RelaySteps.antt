@@ -2,20 +2,20 @@
 use Rattle.std.proofs.Common.{◌≡◌, ◌≢◌, ◌↔◌, ℕ, zero, suc, ◌+◌, ◌-◌, ◌<◌, ◌≤◌, ◌⊎◌, inl, inr, Bool, true, false, ◌||◌, cond, nat_le, List, [], ◌∷◌, ◌++◌, length, drop, slice_index_or, slice_set, refl, ap, sym, ◌∙◌, subst, arith, add-one, drop-cons, get_or-set_same, get_or-set_other}
 use Rattle.std.proofs.lemmas.Bool.Decides.{nat_tests}
 use Rattle.std.proofs.lemmas.List.{append-nil, length-set, length-append}
-use Rattle.ff_frame.specs.declared.item.Item.{Item}
-use Rattle.ff_frame.specs.declared.item.Item.TheVariants.{Audio, Video, Packet, Trailer, End, Broken}
-use Rattle.ff_frame.specs.declared.item.Lane.{Lane}
-use Rattle.ff_frame.specs.Stream.{still_open, LiesBelow}
-use Rattle.ff_frame.specs.Items.{Closes, with_item, Leads}
-use Rattle.ff_frame.specs.Order.{same_stream, leads_below, leads_push}
-use Rattle.ff_frame.specs.Ports.{nothing, stream_at}
-use Rattle.ff_frame.specs.Lanes.{IsValid}
+use Rattle.ff_stream.specs.declared.item.Item.{Item}
+use Rattle.ff_stream.specs.declared.item.Item.TheVariants.{Audio, Video, Packet, Trailer, End, Broken}
+use Rattle.ff_stream.specs.declared.item.Lane.{Lane}
+use Rattle.ff_stream.specs.Stream.{still_open, LiesBelow}
+use Rattle.ff_stream.specs.Items.{Closes, with_item, Leads}
+use Rattle.ff_stream.specs.Order.{same_stream, leads_below, leads_push}
+use Rattle.ff_stream.specs.Ports.{nothing, stream_at}
+use Rattle.ff_stream.specs.Lanes.{IsValid}
 use Rattle.ff_net.specs.Ways.{Flow}
 use Rattle.ff_net.specs.Pasts.{Past, IsIn, due, fed, gave_item, was_asked}
 use Rattle.ff_net.proofs.Flows.{take_whole, same_or_not, stream_at-with_item_same, stream_at-with_item_other}
-use Rattle.ff_net_plain.specs.declared.relay.Out.{Out}
-use Rattle.ff_net_plain.specs.Relays.{stopped_at, relay, closed_mark, out_of, with_end, Relays}
-use Rattle.ff_net_plain.specs.RelayLaws.{at_replicate, stopped_before, stopped_mark, stopped_same, due_is}
+use Rattle.ff_test_machines.specs.declared.relay.Out.{Out}
+use Rattle.ff_test_machines.specs.Relays.{stopped_at, relay, closed_mark, out_of, with_end, Relays}
+use Rattle.ff_test_machines.specs.RelayLaws.{at_replicate, stopped_before, stopped_mark, stopped_same, due_is}
 
 drop_at : (k : ℕ) (xs : List Item) (d : Item) → k < length xs → drop k xs ≡ slice_index_or xs k d ∷ drop (k + 1) xs
 drop_at k xs d lt = rw (add-one k) (drop-cons xs k d lt)

@@ -1,15 +1,15 @@
 -- One relay between two wires.
 use Rattle.std.proofs.Common.{◌≡◌, ℕ, ◌<◌, List, [], ◌∷◌, map, length, slice_index_or, replicate, ap, sym, ◌∙◌, subst, arith, Option, Some}
-use Rattle.ff_frame.specs.declared.item.Lane.{Lane}
+use Rattle.ff_stream.specs.declared.item.Lane.{Lane}
 use Rattle.ff_net.specs.declared.node.Node.{Node}
 use Rattle.ff_net.specs.declared.wires.Wires.{Wires}
 use Rattle.ff_net.specs.Ways.{lane_at}
 use Rattle.ff_net.specs.Worlds.{lanes_of}
 use Rattle.ff_net.specs.Nodes.{AreApart, HaveLanes, IsShaped, in_wires_of, out_wires_of}
 use Rattle.ff_net.specs.Serial.{AreShaped}
-use Rattle.ff_net_plain.specs.declared.relay.Relay.{Relay}
-use Rattle.ff_net_plain.specs.Kinds.{relay_view}
-use Rattle.ff_net_plain.specs.Trials.{relay_ins, relay_outs}
+use Rattle.ff_test_machines.specs.declared.relay.Relay.{Relay}
+use Rattle.ff_test_machines.specs.Kinds.{relay_view}
+use Rattle.ff_test_machines.specs.Trials.{relay_ins, relay_outs}
 
 single : (w : ℕ) (ws : List ℕ) → ws ≡ w ∷ [] → AreApart ws
 single w ws e p q plt qlt same =

@@ -4,18 +4,18 @@ use Rattle.std.specs.Prelude.{All}
 use Rattle.std.proofs.lemmas.Int.{ints}
 use Rattle.std.proofs.lemmas.List.Elements.{All-append, All-nil}
 use Rattle.ff_time.specs.Fraction.{Fraction}
-use Rattle.ff_frame.specs.declared.item.Item.{Item}
-use Rattle.ff_frame.specs.declared.item.Item.TheVariants.{Audio, Video, Packet, Trailer, End, Broken}
-use Rattle.ff_frame.specs.declared.item.Lane.{Lane}
-use Rattle.ff_frame.specs.Stream.{Stream, still_open}
-use Rattle.ff_frame.specs.Items.{Closes, with_item, Leads}
-use Rattle.ff_frame.specs.Lanes.{IsValid, IsItemFor, InOrder, Follows, EndsInTime}
-use Rattle.ff_frame.specs.Order.{leads_push}
-use Rattle.ff_frame.specs.Ports.{nothing}
+use Rattle.ff_stream.specs.declared.item.Item.{Item}
+use Rattle.ff_stream.specs.declared.item.Item.TheVariants.{Audio, Video, Packet, Trailer, End, Broken}
+use Rattle.ff_stream.specs.declared.item.Lane.{Lane}
+use Rattle.ff_stream.specs.Stream.{Stream, still_open}
+use Rattle.ff_stream.specs.Items.{Closes, with_item, Leads}
+use Rattle.ff_stream.specs.Lanes.{IsValid, IsItemFor, InOrder, Follows, EndsInTime}
+use Rattle.ff_stream.specs.Order.{leads_push}
+use Rattle.ff_stream.specs.Ports.{nothing}
 use Rattle.ff_link.specs.Sendings.{stream_of, IsSending, Carries}
 use Rattle.ff_link.specs.Views.{Link, Sending}
 use Rattle.ff_link.proofs.Sendings.{leads_to, sending_push}
-use Rattle.ff_net_plain.specs.Packets.{IsWhole, byte_lane, byte_packet, byte_packets, Sent, IsGoing}
+use Rattle.ff_test_machines.specs.Packets.{IsWhole, byte_lane, byte_packet, byte_packets, Sent, IsGoing}
 
 one_more : (P : Item → Type 0) (xs : List Item) (x : Item) → All P xs → P x → All P (xs ++ x ∷ [])
 one_more P xs x a p = All-append P xs (x ∷ []) a (only P x p)

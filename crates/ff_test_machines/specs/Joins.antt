@@ -1,16 +1,16 @@
 -- A machine that joins two inputs: it gives the first of each pair of items.
 use Rattle.std.specs.Prelude.{◌≡◌, ◌↔◌, ℕ, zero, suc, ◌<◌, ◌≤◌, ◌⊎◌, Bool, true, false, cond, nat_le, List, [], ◌∷◌, length, take}
-use Rattle.ff_frame.specs.declared.item.Lane.{Lane}
-use Rattle.ff_frame.specs.Stream.{Mark, still_open, whole, broken}
-use Rattle.ff_frame.specs.Lanes.{IsValid}
-use Rattle.ff_frame.specs.Ports.{nothing, stream_at, IsClosed}
+use Rattle.ff_stream.specs.declared.item.Lane.{Lane}
+use Rattle.ff_stream.specs.Stream.{Mark, still_open, whole, broken}
+use Rattle.ff_stream.specs.Lanes.{IsValid}
+use Rattle.ff_stream.specs.Ports.{nothing, stream_at, IsClosed}
 use Rattle.ff_net.specs.Ways.{Flow}
 use Rattle.ff_net.specs.Pasts.{Past, IsIn}
 use Rattle.ff_net.specs.Laws.{IsSilent}
-use Rattle.ff_net_plain.specs.declared.join.Ending.{Ending}
-use Rattle.ff_net_plain.specs.declared.join.Ending.TheVariants.{Open, Whole, Broken}
-use Rattle.ff_net_plain.specs.declared.join.Kept.{Kept}
-use Rattle.ff_net_plain.specs.Relays.{no_cause}
+use Rattle.ff_test_machines.specs.declared.join.Ending.{Ending}
+use Rattle.ff_test_machines.specs.declared.join.Ending.TheVariants.{Open, Whole, Broken}
+use Rattle.ff_test_machines.specs.declared.join.Kept.{Kept}
+use Rattle.ff_test_machines.specs.Relays.{no_cause}
 
 -- the items of the first stream that have a partner in the second; it ends as the first where each has one, and as the
 -- second where one has none

@@ -4,18 +4,18 @@ use Rattle.std.proofs.Common.{arith}
 use Rattle.ff_net.specs.Laws.{Laws}
 use Rattle.ff_net.specs.Silence.{silent_front}
 use Rattle.ff_net.specs.Views.{View}
-use Rattle.ff_net_plain.specs.declared.join.Join.{Join}
-use Rattle.ff_net_plain.specs.declared.relay.Relay.{Relay}
-use Rattle.ff_net_plain.specs.declared.source.Source.{Source}
-use Rattle.ff_net_plain.specs.Joins.{kept_of, is_spent_join}
-use Rattle.ff_net_plain.specs.Lists.{fault_if, as_count}
-use Rattle.ff_net_plain.specs.Relays.{is_spent_relay}
-use Rattle.ff_net_plain.specs.Starts.{source_stands, relay_stands, join_stands}
-use Rattle.ff_net_plain.specs.Trials.{source_outs, relay_ins, relay_outs, join_ins, join_outs}
-use Rattle.ff_net_plain.specs.ListLaws.{lists_keeps, lists_monotone, lists_cause_stays, lists_calm, lists_given, lists_tried, lists_units, lists_unbroken, lists_caused, lists_ticket_used, lists_no_port, lists_is_source}
-use Rattle.ff_net_plain.specs.ListLaws.{lists_told}
-use Rattle.ff_net_plain.specs.RelayLaws.{relays_no_fault, relays_valid, relays_keeps, relays_monotone, relays_cause_stays, relays_calm, relays_given, relays_unbroken, relays_spent_only, relays_closed_spent, relays_done_spent, relays_settles}
-use Rattle.ff_net_plain.specs.JoinLaws.{joins_valid, joins_keeps, joins_monotone, joins_cause_stays, joins_calm, joins_given, joins_unbroken, joins_spent_only, joins_closed_spent, joins_done_spent, joins_settles}
+use Rattle.ff_test_machines.specs.declared.join.Join.{Join}
+use Rattle.ff_test_machines.specs.declared.relay.Relay.{Relay}
+use Rattle.ff_test_machines.specs.declared.source.Source.{Source}
+use Rattle.ff_test_machines.specs.Joins.{kept_of, is_spent_join}
+use Rattle.ff_test_machines.specs.Lists.{fault_if, as_count}
+use Rattle.ff_test_machines.specs.Relays.{is_spent_relay}
+use Rattle.ff_test_machines.specs.Starts.{source_stands, relay_stands, join_stands}
+use Rattle.ff_test_machines.specs.Trials.{source_outs, relay_ins, relay_outs, join_ins, join_outs}
+use Rattle.ff_test_machines.specs.ListLaws.{lists_keeps, lists_monotone, lists_cause_stays, lists_calm, lists_given, lists_tried, lists_units, lists_unbroken, lists_caused, lists_ticket_used, lists_no_port, lists_is_source}
+use Rattle.ff_test_machines.specs.ListLaws.{lists_told}
+use Rattle.ff_test_machines.specs.RelayLaws.{relays_no_fault, relays_valid, relays_keeps, relays_monotone, relays_cause_stays, relays_calm, relays_given, relays_unbroken, relays_spent_only, relays_closed_spent, relays_done_spent, relays_settles}
+use Rattle.ff_test_machines.specs.JoinLaws.{joins_valid, joins_keeps, joins_monotone, joins_cause_stays, joins_calm, joins_given, joins_unbroken, joins_spent_only, joins_closed_spent, joins_done_spent, joins_settles}
 
 no_source : false ≡ true → ⊥
 no_source e = cc

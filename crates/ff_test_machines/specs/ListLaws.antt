@@ -3,21 +3,21 @@ use Rattle.std.specs.Prelude.{◌≡◌, ◌≢◌, ℕ, zero, suc, ◌+◌, ◌
 use Rattle.std.proofs.Common.{sym, subst, ap, inl, inr, ◌∙◌, arith}
 use Rattle.std.proofs.lemmas.Bool.Decides.{nat_tests}
 use mathlib.Core.List.{IsPrefix}
-use Rattle.ff_frame.specs.declared.item.Item.{Item}
-use Rattle.ff_frame.specs.declared.item.Lane.{Lane}
-use Rattle.ff_frame.specs.Stream.{still_open, whole, broken, whole_stream, LiesBelow}
-use Rattle.ff_frame.specs.Order.{below_self}
-use Rattle.ff_frame.specs.Ports.{nothing, stream_at, AllBelow, AllUnbroken, IsUnbroken, IsMonotone, IsCalm}
+use Rattle.ff_stream.specs.declared.item.Item.{Item}
+use Rattle.ff_stream.specs.declared.item.Lane.{Lane}
+use Rattle.ff_stream.specs.Stream.{still_open, whole, broken, whole_stream, LiesBelow}
+use Rattle.ff_stream.specs.Order.{below_self}
+use Rattle.ff_stream.specs.Ports.{nothing, stream_at, AllBelow, AllUnbroken, IsUnbroken, IsMonotone, IsCalm}
 use Rattle.ff_net.specs.declared.fault.Fault.{Fault}
 use Rattle.ff_net.specs.declared.fault.Fault.TheVariants.{Device}
 use Rattle.ff_net.specs.Ways.{Flow, AreValid}
-use Rattle.ff_values.specs.declared.event.Event.{Event}
-use Rattle.ff_values.specs.declared.event.Event.TheVariants.{Exited}
+use Rattle.ff_frame.specs.declared.event.Event.{Event}
+use Rattle.ff_frame.specs.declared.event.Event.TheVariants.{Exited}
 use Rattle.ff_net.specs.Pasts.{Past, Feed, IsIn, due, cut_to}
 use Rattle.ff_net.specs.Laws.{CauseStays, IsOfInputs, IsPending, AllAsked}
 use Rattle.ff_net.proofs.Flows.{take_whole}
-use Rattle.ff_net_plain.specs.RelayLaws.{relays_no_fault, below_or}
-use Rattle.ff_net_plain.specs.Lists.{list_of, given_of, as_count, fault_if, exits, Exits, Lists}
+use Rattle.ff_test_machines.specs.RelayLaws.{relays_no_fault, below_or}
+use Rattle.ff_test_machines.specs.Lists.{list_of, given_of, as_count, fault_if, exits, Exits, Lists}
 
 pub lists_no_port : (p : ℕ) → p < 0 → ⊥
 lists_no_port p lt = omega arith

@@ -1,17 +1,17 @@
 -- A machine that gives a list, an item for each ticket, and then the end.
 use Rattle.std.specs.Prelude.{◌≡◌, ◌↔◌, ℕ, ◌+◌, ◌≤◌, ◌⊎◌, Bool, true, false, cond, List, [], ◌∷◌, length, take, Option, None, Some}
-use Rattle.ff_frame.specs.declared.item.Item.{Item}
-use Rattle.ff_frame.specs.declared.item.Lane.{Lane}
-use Rattle.ff_frame.specs.Stream.{still_open, whole, whole_stream}
-use Rattle.ff_frame.specs.Lanes.{IsValid}
-use Rattle.ff_frame.specs.Ports.{nothing, stream_at}
+use Rattle.ff_stream.specs.declared.item.Item.{Item}
+use Rattle.ff_stream.specs.declared.item.Lane.{Lane}
+use Rattle.ff_stream.specs.Stream.{still_open, whole, whole_stream}
+use Rattle.ff_stream.specs.Lanes.{IsValid}
+use Rattle.ff_stream.specs.Ports.{nothing, stream_at}
 use Rattle.ff_net.specs.declared.fault.Fault.{Fault}
 use Rattle.ff_net.specs.declared.fault.Fault.TheVariants.{Device}
 use Rattle.ff_net.specs.Ways.{Flow}
-use Rattle.ff_values.specs.declared.event.Event.{Event}
-use Rattle.ff_values.specs.declared.event.Event.TheVariants.{Exited}
+use Rattle.ff_frame.specs.declared.event.Event.{Event}
+use Rattle.ff_frame.specs.declared.event.Event.TheVariants.{Exited}
 use Rattle.ff_net.specs.Pasts.{Past, Feed, IsIn}
-use Rattle.ff_net_plain.specs.Relays.{no_cause}
+use Rattle.ff_test_machines.specs.Relays.{no_cause}
 
 abbrev pub list_of : List Item → List Flow → List Flow
 list_of items ss = whole_stream items ∷ []

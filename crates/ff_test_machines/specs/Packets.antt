@@ -1,13 +1,13 @@
 -- A stream of packets of one byte each, and senders that send it.
 use Rattle.std.specs.Prelude.{◌≡◌, ◌≤◌, ◌^◌, true, ℕ, zero, suc, ◌%◌, pos, List, [], ◌∷◌, ◌++◌}
 use Rattle.ff_time.specs.Fraction.{Fraction}
-use Rattle.ff_values.specs.declared.head.Codec.TheVariants.{PcmU8}
-use Rattle.ff_values.specs.declared.head.StreamHead.TheVariants.{Audio}
-use Rattle.ff_frame.specs.declared.item.Item.{Item}
-use Rattle.ff_frame.specs.declared.item.Item.TheVariants.{Packet}
-use Rattle.ff_frame.specs.declared.item.Lane.{Lane}
-use Rattle.ff_frame.specs.declared.item.Lane.TheVariants.{Packets}
-use Rattle.ff_values.specs.Packet.{packet_at}
+use Rattle.ff_frame.specs.declared.head.Codec.TheVariants.{PcmU8}
+use Rattle.ff_frame.specs.declared.head.StreamHead.TheVariants.{Audio}
+use Rattle.ff_stream.specs.declared.item.Item.{Item}
+use Rattle.ff_stream.specs.declared.item.Item.TheVariants.{Packet}
+use Rattle.ff_stream.specs.declared.item.Lane.{Lane}
+use Rattle.ff_stream.specs.declared.item.Lane.TheVariants.{Packets}
+use Rattle.ff_frame.specs.Packet.{packet_at}
 use Rattle.ff_link.specs.Views.{Sending}
 
 -- one second over a whole number

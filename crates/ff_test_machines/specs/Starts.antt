@@ -1,14 +1,14 @@
 -- What the machines are there for, and where they can be.
 use Rattle.std.specs.Prelude.{ℕ, List, true, false}
-use Rattle.ff_frame.specs.declared.item.Item.{Item}
+use Rattle.ff_stream.specs.declared.item.Item.{Item}
 use Rattle.ff_net.specs.Pasts.{Past, Task, no_events}
-use Rattle.ff_net_plain.specs.declared.join.Join.{Join}
-use Rattle.ff_net_plain.specs.declared.relay.Out.{Out}
-use Rattle.ff_net_plain.specs.declared.relay.Relay.{Relay}
-use Rattle.ff_net_plain.specs.declared.source.Source.{Source}
-use Rattle.ff_net_plain.specs.Joins.{Joins, join, kept_of}
-use Rattle.ff_net_plain.specs.Lists.{Lists, Exits, exits, list_of}
-use Rattle.ff_net_plain.specs.Relays.{Relays, relay, no_cause}
+use Rattle.ff_test_machines.specs.declared.join.Join.{Join}
+use Rattle.ff_test_machines.specs.declared.relay.Out.{Out}
+use Rattle.ff_test_machines.specs.declared.relay.Relay.{Relay}
+use Rattle.ff_test_machines.specs.declared.source.Source.{Source}
+use Rattle.ff_test_machines.specs.Joins.{Joins, join, kept_of}
+use Rattle.ff_test_machines.specs.Lists.{Lists, Exits, exits, list_of}
+use Rattle.ff_test_machines.specs.Relays.{Relays, relay, no_cause}
 
 -- to give these items, and the end, and to tell that this source has exited
 abbrev pub list_task : ℕ → List Item → Task

@@ -1,14 +1,14 @@
 -- The lanes of machines that are tried.
 use Rattle.std.specs.Prelude.{ℕ, List, [], ◌∷◌, length, replicate}
 use Rattle.ff_time.specs.Fraction.{Fraction}
-use Rattle.ff_values.specs.declared.head.Codec.TheVariants.{PcmU8}
-use Rattle.ff_values.specs.declared.head.StreamHead.TheVariants.{Audio}
-use Rattle.ff_frame.specs.declared.item.Item.{Item}
-use Rattle.ff_frame.specs.declared.item.Lane.{Lane}
-use Rattle.ff_frame.specs.declared.item.Lane.TheVariants.{Packets}
-use Rattle.ff_net_plain.specs.declared.join.Join.{Join}
-use Rattle.ff_net_plain.specs.declared.relay.Relay.{Relay}
-use Rattle.ff_net_plain.specs.declared.source.Source.{Source}
+use Rattle.ff_frame.specs.declared.head.Codec.TheVariants.{PcmU8}
+use Rattle.ff_frame.specs.declared.head.StreamHead.TheVariants.{Audio}
+use Rattle.ff_stream.specs.declared.item.Item.{Item}
+use Rattle.ff_stream.specs.declared.item.Lane.{Lane}
+use Rattle.ff_stream.specs.declared.item.Lane.TheVariants.{Packets}
+use Rattle.ff_test_machines.specs.declared.join.Join.{Join}
+use Rattle.ff_test_machines.specs.declared.relay.Relay.{Relay}
+use Rattle.ff_test_machines.specs.declared.source.Source.{Source}
 
 -- packets of sound of 8,000 samples a second
 abbrev pub trial_lane : Fraction → Lane

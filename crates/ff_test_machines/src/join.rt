@@ -1,12 +1,13 @@
 ghost use Rattle.std.specs.Prelude.{◌≡◌, ◌<◌, ◌≤◌, ◌⊎◌, ◌↔◌, ℕ, length, true, false, None, Some, Ok, Err, ◌∷◌, [], ◌++◌, OnOk, OnErr, IfErr, IsTrue};
-ghost use Rattle.ff_frame.specs.declared.item.Item.{Item};
-ghost use Rattle.ff_frame.specs.Stream.{still_open};
-ghost use Rattle.ff_frame.specs.Items.{with_item};
-ghost use Rattle.ff_frame.specs.Ports.{nothing};
-ghost use Rattle.ff_net_plain.specs.Joins.{Joins, joined, mark_of, kept_of, is_spent_join};
+ghost use Rattle.ff_stream.specs.declared.item.Item.{Item};
+ghost use Rattle.ff_stream.specs.Stream.{still_open};
+ghost use Rattle.ff_stream.specs.Items.{with_item};
+ghost use Rattle.ff_stream.specs.Ports.{nothing};
+ghost use Rattle.ff_test_machines.specs.Joins.{Joins, joined, mark_of, kept_of, is_spent_join};
 
-use ff_frame::{Event, Item, Lane, Refused, Ticket};
+use ff_frame::{Event, Ticket};
 use ff_net::{Fault, Machine};
+use ff_stream::{Item, Lane, Refused};
 use std::alloc::{AllocError, Global};
 
 /// How an input has ended, if it has.
@@ -81,8 +82,8 @@ pub struct Join {
 
 impl Join {
     ghost use Rattle.ff_net.specs.Pasts.{start};
-    ghost use Rattle.ff_net_plain.specs.Starts.{join_task, join_stands};
-    ghost use Rattle.ff_net_plain.specs.Trials.{join_ins, join_outs};
+    ghost use Rattle.ff_test_machines.specs.Starts.{join_task, join_stands};
+    ghost use Rattle.ff_test_machines.specs.Trials.{join_ins, join_outs};
 
     /// A machine that joins two inputs of this lane, and refuses what comes after `room` items.
     pub fn new(alloc: Global, lane: Lane, room: usize) -> Join
@@ -158,7 +159,7 @@ fn closing_item(ending: Ending) -> Option<Item>
 }
 
 impl Machine for Join {
-    ghost use Rattle.ff_net_plain.specs.Kinds.{join_view, join_laws};
+    ghost use Rattle.ff_test_machines.specs.Kinds.{join_view, join_laws};
 
     ghost view = { join_view };
 

@@ -1,9 +1,10 @@
 // A stream of packets that are told apart by their times and bytes: the one at place n starts at tick n, lasts one
 // tick and has one byte, the last eight bits of n.
 ghost use Rattle.std.specs.Prelude.{◌≡◌, ◌≤◌, IfOk, IfSome};
-ghost use Rattle.ff_net_plain.specs.Packets.{byte_lane, byte_packet, IsWhole};
+ghost use Rattle.ff_test_machines.specs.Packets.{byte_lane, byte_packet, IsWhole};
 
-use ff_frame::{Bytes, Codec, Item, Lane, Pkt, StreamHead};
+use ff_frame::{Bytes, Codec, Pkt, StreamHead};
+use ff_stream::{Item, Lane};
 use ff_time::Rational;
 use std::alloc::{AllocError, Global};
 

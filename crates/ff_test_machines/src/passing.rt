@@ -1,11 +1,11 @@
 ghost use Rattle.std.specs.Prelude.{◌≡◌, ◌≤◌, ◌^◌, [], ◌∷◌, ◌++◌, length, IfOk, IfSome, IsTrue};
-ghost use Rattle.ff_frame.specs.Items.{Closes};
+ghost use Rattle.ff_stream.specs.Items.{Closes};
 ghost use Rattle.ff_link.specs.Sendings.{Carries};
-ghost use Rattle.ff_net_plain.specs.Packets.{byte_lane, IsWhole, Sent, IsGoing};
+ghost use Rattle.ff_test_machines.specs.Packets.{byte_lane, IsWhole, Sent, IsGoing};
 
 use crate::packets::{is_packet, lane_of, packet};
-use ff_frame::Item;
 use ff_link::{Finished, Put, Receiver, Sender, Settled, Take, link, settle};
+use ff_stream::Item;
 use ff_time::Rational;
 use std::alloc::{AllocError, Global};
 use std::sync::Wait;

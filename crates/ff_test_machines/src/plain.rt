@@ -1,8 +1,9 @@
 use crate::join::Join;
 use crate::relay::Relay;
 use crate::source::Source;
-use ff_frame::{Event, Item, Refused, Ticket};
+use ff_frame::{Event, Ticket};
 use ff_net::{Fault, Machine};
+use ff_stream::{Item, Refused};
 use std::alloc::AllocError;
 
 /// A machine of one of the kinds.
@@ -17,8 +18,8 @@ pub enum Plain {
 }
 
 impl Machine for Plain {
-    ghost use Rattle.ff_net_plain.specs.Plains.{plain_view};
-    ghost use Rattle.ff_net_plain.specs.PlainLaws.{plain_laws};
+    ghost use Rattle.ff_test_machines.specs.Plains.{plain_view};
+    ghost use Rattle.ff_test_machines.specs.PlainLaws.{plain_laws};
 
     ghost view = { plain_view };
 

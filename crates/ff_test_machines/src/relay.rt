@@ -1,8 +1,9 @@
 ghost use Rattle.std.specs.Prelude.{◌≡◌, ◌<◌, ◌⊎◌, ℕ, length, replicate, true, false, None, Some, Ok, Err, ◌∷◌, []};
-ghost use Rattle.ff_net_plain.specs.Relays.{Relays, is_spent_relay, outs_stopped};
+ghost use Rattle.ff_test_machines.specs.Relays.{Relays, is_spent_relay, outs_stopped};
 
-use ff_frame::{Event, Item, Lane, Refused, Ticket};
+use ff_frame::{Event, Ticket};
 use ff_net::{Fault, Machine};
+use ff_stream::{Item, Lane, Refused};
 use std::alloc::{AllocError, Global};
 
 /// An output: how many items went there, and whether its receiver has finished.
@@ -28,8 +29,8 @@ pub struct Relay {
 impl Relay {
     ghost use Rattle.std.specs.Prelude.{IfOk};
     ghost use Rattle.ff_net.specs.Pasts.{start};
-    ghost use Rattle.ff_net_plain.specs.Starts.{relay_task, relay_stands};
-    ghost use Rattle.ff_net_plain.specs.Trials.{relay_ins, relay_outs, given_by};
+    ghost use Rattle.ff_test_machines.specs.Starts.{relay_task, relay_stands};
+    ghost use Rattle.ff_test_machines.specs.Trials.{relay_ins, relay_outs, given_by};
 
     /// A relay of this lane with so many outputs, which ends after `limit` items and refuses what comes after `room`.
     pub fn new(
@@ -84,7 +85,7 @@ fn all_stopped(outs: &Vec<Out>) -> bool
 }
 
 impl Machine for Relay {
-    ghost use Rattle.ff_net_plain.specs.Kinds.{relay_view, relay_laws};
+    ghost use Rattle.ff_test_machines.specs.Kinds.{relay_view, relay_laws};
 
     ghost view = { relay_view };
 

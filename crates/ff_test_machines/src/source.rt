@@ -1,8 +1,9 @@
 ghost use Rattle.std.specs.Prelude.{◌≡◌, ◌<◌, ◌⊎◌, ℕ, length, true, false, None, Some, Ok, Err, ◌∷◌, []};
-ghost use Rattle.ff_net_plain.specs.Lists.{Lists, fault_if, as_count};
+ghost use Rattle.ff_test_machines.specs.Lists.{Lists, fault_if, as_count};
 
-use ff_frame::{Event, Item, Lane, Refused, Ticket};
+use ff_frame::{Event, Ticket};
 use ff_net::{Fault, Machine};
+use ff_stream::{Item, Lane, Refused};
 use std::alloc::{AllocError, Global};
 
 /// Gives the packets of a list, one for each ticket, and then the end. Once it has ended, was stopped or has a fault, it
@@ -24,11 +25,11 @@ pub struct Source {
 }
 
 impl Source {
-    ghost use Rattle.ff_frame.specs.Lanes.{IsValid};
-    ghost use Rattle.ff_frame.specs.Stream.{whole_stream};
+    ghost use Rattle.ff_stream.specs.Lanes.{IsValid};
+    ghost use Rattle.ff_stream.specs.Stream.{whole_stream};
     ghost use Rattle.ff_net.specs.Pasts.{start};
-    ghost use Rattle.ff_net_plain.specs.Starts.{list_task, source_stands};
-    ghost use Rattle.ff_net_plain.specs.Trials.{source_outs, source_number, count_given};
+    ghost use Rattle.ff_test_machines.specs.Starts.{list_task, source_stands};
+    ghost use Rattle.ff_test_machines.specs.Trials.{source_outs, source_number, count_given};
 
     /// The source of this number, of packets that are valid for this lane. Its device fails at the packet `fails_at`, and
     /// memory is refused for the packet `refuses_at`.
@@ -77,7 +78,7 @@ fn is_over(ended: bool, stopped: bool, failed: bool) -> bool
 }
 
 impl Machine for Source {
-    ghost use Rattle.ff_net_plain.specs.Kinds.{source_view, source_laws};
+    ghost use Rattle.ff_test_machines.specs.Kinds.{source_view, source_laws};
 
     ghost view = { source_view };
 

@@ -1,5 +1,3 @@
 //! Tests of networks of machines in threads: five machines with a fork and a join, over links of several sizes.
-#![tactic(auto)]
 
-#[cfg(test)]
 mod five;

@@ -1,8 +1,5 @@
 //! Tests of the scheduler's cell that no row of data can say: two and four passes at once, whose logs are put together to one
 //! history, which a plain reader reads.
-#![tactic(auto)]
 
-#[cfg(test)]
 mod passes;
-#[cfg(test)]
 mod reader;

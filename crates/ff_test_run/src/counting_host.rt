@@ -1,8 +1,9 @@
 // A host in memory that counts the calls on it, on its sources and on its sinks, by name and kind.
 ghost use Rattle.std.specs.Prelude.{};
 
-use ff_host::{Failed, Host, HostError, Sink, SinkError, Source};
-use ff_memory_host::{HostCall, MemHost, MemSink, MemSource};
+use ff_host::{
+    Failed, Host, HostCall, HostError, MemHost, MemSink, MemSource, Sink, SinkError, Source,
+};
 use std::alloc::{AllocError, Global};
 
 /// How often a kind of call came under a name.

@@ -1,13 +1,12 @@
 // The head is written out by hand from the RIFF WAVE layout.
 ghost use Rattle.std.specs.Prelude.{◌+◌, ◌<◌, ◌≤◌, ◌^◌, length, IfOk};
 
-use ff_cuts::AnyCut;
-use ff_demuxing::{Demux, is_long};
-use ff_frame::{Bytes, Codec, Event, Item, Pkt, StreamHead, Ticket};
-use ff_heads::read_input_head;
-use ff_host::{Failed, Host, Source};
-use ff_memory_host::{FailAt, HostCall, MemHost, MemSource};
+use ff_frame::{Bytes, Codec, Event, Pkt, StreamHead, Ticket};
+use ff_host::{FailAt, Failed, Host, HostCall, MemHost, MemSource, Source};
+use ff_input::{AnyCut, read_input_head};
 use ff_net::{Fault, Machine};
+use ff_node_demux::{Demux, is_long};
+use ff_stream::Item;
 use ff_time::Rational;
 use std::alloc::{AllocError, Global};
 

@@ -1,8 +1,9 @@
 // A command's calls on its host fail, each once in a run of its own.
 use crate::counting_host::CountingHost;
 use crate::runs::log_of;
-use ff_memory_host::{FailAt, HostCall, MemHost};
-use ff_run::{FileRef, Status, ffmpeg};
+use ff_command::{FileRef, Status};
+use ff_host::{FailAt, HostCall, MemHost};
+use ff_run::ffmpeg;
 use std::alloc::{AllocError, Global};
 use std::sync::Wait;
 use std::thread::Threads;

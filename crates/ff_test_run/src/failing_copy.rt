@@ -1,7 +1,7 @@
 // Each call on the host fails once, in a command of one input and one output.
 use crate::failing::{Job, fails_well};
 use crate::runs::{mono, sized, words_of};
-use ff_memory_host::HostCall;
+use ff_host::HostCall;
 use std::alloc::{AllocError, Global};
 
 /// The bytes of 24,000 samples: 23 packets of 1,024 and a shorter one.

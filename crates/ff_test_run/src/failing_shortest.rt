@@ -1,7 +1,7 @@
 // Each call on the host fails once, in a command of two inputs, a graph and one output, whose streams end together.
 use crate::failing::{Job, fails_well};
 use crate::runs::words_of;
-use ff_memory_host::HostCall;
+use ff_host::HostCall;
 use std::alloc::{AllocError, Global};
 
 /// The lines of the output before those of the packets.

@@ -1,6 +1,7 @@
 ghost use Rattle.std.specs.Prelude.{◌≢◌};
 
-use ff_run::{FileRef, Status, WordKind, fault_line, status_number};
+use ff_command::{FileRef, Status, fault_line, status_number};
+use ff_words::WordKind;
 use std::alloc::{AllocError, Global};
 
 // Whether a status has this number, and this line with this name.

@@ -1,8 +1,9 @@
 ghost use Rattle.std.specs.Prelude.{◌<◌};
 
 use crate::runs::{input, log_of};
-use ff_memory_host::QuietHost;
-use ff_run::{Status, ffmpeg};
+use ff_command::Status;
+use ff_host::QuietHost;
+use ff_run::ffmpeg;
 use std::alloc::{AllocError, Global};
 use std::sync::Wait;
 use std::thread::Threads;

@@ -1,5 +1,5 @@
 use crate::runs::{comes_to, input};
-use ff_memory_host::MeetHost;
+use ff_host::MeetHost;
 use std::alloc::{AllocError, Global};
 
 /// Past both heads, and past what is read with them.

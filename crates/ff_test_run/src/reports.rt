@@ -1,6 +1,7 @@
 use crate::runs::{WORDS, host_of, input, log_of, run};
-use ff_memory_host::{FailAt, HostCall, MemHost};
-use ff_run::{FileRef, Line, Status, WordKind};
+use ff_command::{FileRef, Line, Status};
+use ff_host::{FailAt, HostCall, MemHost};
+use ff_words::WordKind;
 use std::alloc::{AllocError, Global};
 use std::sync::Wait;
 use std::thread::Threads;

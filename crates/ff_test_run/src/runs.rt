@@ -1,7 +1,7 @@
 // What the tests share: inputs, words, and one run of the command.
-use ff_host::Host;
-use ff_memory_host::{FailAt, MemHost, MemSink};
-use ff_run::{Line, Report, ffmpeg, status_number};
+use ff_command::{Line, Report, status_number};
+use ff_host::{FailAt, Host, MemHost, MemSink};
+use ff_run::ffmpeg;
 use std::alloc::{AllocError, Global};
 use std::sync::Wait;
 use std::thread::Threads;

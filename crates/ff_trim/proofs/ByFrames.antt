@@ -2,10 +2,10 @@
 use Rattle.std.proofs.Common.{◌≡◌, Bool, true, false, cond, List, [], ◌∷◌, ◌++◌, map, refl, ap, sym, ◌∙◌}
 use Rattle.std.specs.Prelude.{nat_le}
 use Rattle.std.proofs.lemmas.List.{map-append, append-nil}
-use Rattle.ff_values.specs.declared.head.StreamHead.{StreamHead}
-use Rattle.ff_values.specs.declared.head.StreamHead.TheVariants.{Audio as AudioHead, Video as VideoHead}
-use Rattle.ff_frame.specs.declared.item.Item.{Item}
-use Rattle.ff_frame.specs.Stream.{Mark, still_open, whole, broken}
+use Rattle.ff_frame.specs.declared.head.StreamHead.{StreamHead}
+use Rattle.ff_frame.specs.declared.head.StreamHead.TheVariants.{Audio as AudioHead, Video as VideoHead}
+use Rattle.ff_stream.specs.declared.item.Item.{Item}
+use Rattle.ff_stream.specs.Stream.{Mark, still_open, whole, broken}
 use Rattle.ff_filter.specs.declared.range.Range.{Range}
 use Rattle.ff_filter.specs.Joins.{Flow, joined}
 use Rattle.ff_filter.specs.Ranges.{is_past}
@@ -13,8 +13,8 @@ use Rattle.ff_filter.specs.Runs.{run, run_at, no_more}
 use Rattle.ff_filter.specs.Shifts.{earlier, start_ticks}
 use Rattle.ff_vfilter.specs.Trims.{from_start, before_stop, reaches}
 use Rattle.ff_afilter.specs.Trims.{kept as sound_kept, kept_all, ends_past, reaches as sound_reaches}
-use Rattle.ff_cutting.specs.Cuts.{from_range}
-use Rattle.ff_cutting.specs.Frames.{cut_step}
+use Rattle.ff_trim.specs.Cuts.{from_range}
+use Rattle.ff_trim.specs.Frames.{cut_step}
 
 -- a frame of sound, and what comes behind it
 sound_at : (range : Range) (a : Bool) (ks xs : List Item) (r : Bool) (m : Mark)

@@ -1,12 +1,12 @@
 -- Items so many ticks earlier are in shape, where none starts before that.
 use Rattle.std.proofs.Common.{◌≡◌, ℕ, zero, suc, ◌+◌, ◌-◌, ◌/◌, ◌≤◌, ℤ, pos, negsuc, ◌+ℤ◌, ◌<ℤ◌, ◌≤ℤ◌, List, [], ◌∷◌, map, length, All, refl, sym, subst, arith}
-use Rattle.ff_values.specs.declared.head.StreamHead.{StreamHead}
-use Rattle.ff_values.specs.declared.head.StreamHead.TheVariants.{Audio as AudioHead, Video as VideoHead}
-use Rattle.ff_frame.specs.declared.item.Item.{Item}
-use Rattle.ff_frame.specs.declared.item.Item.TheVariants.{Audio, Video, Packet, Trailer, End, Broken}
-use Rattle.ff_frame.specs.declared.item.Lane.TheVariants.{Frames}
-use Rattle.ff_frame.specs.Times.{HasTime, start_of, end_of, ticks}
-use Rattle.ff_frame.specs.Lanes.{FitsFrames, StartsAfter, Follows, InOrder, IsItemFor, AreInShape}
+use Rattle.ff_frame.specs.declared.head.StreamHead.{StreamHead}
+use Rattle.ff_frame.specs.declared.head.StreamHead.TheVariants.{Audio as AudioHead, Video as VideoHead}
+use Rattle.ff_stream.specs.declared.item.Item.{Item}
+use Rattle.ff_stream.specs.declared.item.Item.TheVariants.{Audio, Video, Packet, Trailer, End, Broken}
+use Rattle.ff_stream.specs.declared.item.Lane.TheVariants.{Frames}
+use Rattle.ff_stream.specs.Times.{HasTime, start_of, end_of, ticks}
+use Rattle.ff_stream.specs.Lanes.{FitsFrames, StartsAfter, Follows, InOrder, IsItemFor, AreInShape}
 use Rattle.ff_filter.specs.Shifts.{earlier, start_ticks}
 
 abbrev len_of : Item → ℤ

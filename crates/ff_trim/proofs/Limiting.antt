@@ -1,14 +1,14 @@
 -- Cuts on whole streams: their laws, and that of functions behind limits with cuts behind them.
 use Rattle.std.proofs.Common.{subst, sym, ◌∙◌, ◌≡◌, ℕ, zero, suc, Bool, true, false, cond, Some, List, [], ◌∷◌, map, length, arith}
 use Rattle.ff_time.specs.declared.cut.TimeCut.{TimeCut}
-use Rattle.ff_values.specs.declared.head.StreamHead.{StreamHead}
-use Rattle.ff_values.specs.declared.head.StreamHead.TheVariants.{Audio as AudioHead, Video as VideoHead}
-use Rattle.ff_values.specs.Heads.{base_of_head}
-use Rattle.ff_frame.specs.declared.item.Lane.{Lane}
-use Rattle.ff_frame.specs.declared.item.Lane.TheVariants.{Frames}
-use Rattle.ff_frame.specs.Stream.{Mark, whole, broken, whole_stream, LiesBelow, opened}
-use Rattle.ff_frame.specs.Order.{below_self, below_trans}
-use Rattle.ff_frame.specs.Ports.{nothing, stream_at, IsClosed}
+use Rattle.ff_frame.specs.declared.head.StreamHead.{StreamHead}
+use Rattle.ff_frame.specs.declared.head.StreamHead.TheVariants.{Audio as AudioHead, Video as VideoHead}
+use Rattle.ff_frame.specs.Heads.{base_of_head}
+use Rattle.ff_stream.specs.declared.item.Lane.{Lane}
+use Rattle.ff_stream.specs.declared.item.Lane.TheVariants.{Frames}
+use Rattle.ff_stream.specs.Stream.{Mark, whole, broken, whole_stream, LiesBelow, opened}
+use Rattle.ff_stream.specs.Order.{below_self, below_trans}
+use Rattle.ff_stream.specs.Ports.{nothing, stream_at, IsClosed}
 use Rattle.ff_net.specs.Ways.{AreValid}
 use Rattle.ff_filter.specs.declared.range.Range.{Range}
 use Rattle.ff_filter.specs.Joins.{Flow, Ports, all_opened}
@@ -18,11 +18,11 @@ use Rattle.ff_vfilter.specs.Trims.{trimmed}
 use Rattle.ff_vfilter.specs.TrimLaws.{trimmed-below, trimmed-calm, trimmed-settles}
 use Rattle.ff_afilter.specs.Trims.{sound_trimmed}
 use Rattle.ff_afilter.specs.TrimLaws.{trimmed-below as sound-below, trimmed-calm as sound-calm, trimmed-settles as sound-settles}
-use Rattle.ff_net_filter.specs.Tasks.{listed}
-use Rattle.ff_net_filter.specs.Limiting.{IsLimited}
-use Rattle.ff_cutting.specs.Cuts.{is_uncut, is_empty, range_in, from_range, cut, cut_at, cut_each}
-use Rattle.ff_cutting.specs.Taps.{IsCutting}
-use Rattle.ff_cutting.proofs.Valid.{cut_valid}
+use Rattle.ff_node_filter.specs.Tasks.{listed}
+use Rattle.ff_node_filter.specs.Limiting.{IsLimited}
+use Rattle.ff_trim.specs.Cuts.{is_uncut, is_empty, range_in, from_range, cut, cut_at, cut_each}
+use Rattle.ff_trim.specs.Taps.{IsCutting}
+use Rattle.ff_trim.proofs.Valid.{cut_valid}
 
 range-below : (h : StreamHead) (range : Range) (r s : Flow) → LiesBelow r s → LiesBelow (from_range h range r) (from_range h range s)
 range-below (AudioHead tb rate bits channels codec) range r s b = shifted-below (Some range.start) (sound_trimmed range r) (sound_trimmed range s) (sound-below range r s b)

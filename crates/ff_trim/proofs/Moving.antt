@@ -2,12 +2,12 @@
 use Rattle.std.proofs.Common.{◌≡◌, ◌≢◌, ℕ, suc, ◌<◌, inl, inr, Bool, true, false, cond, ◌||◌, Option, None, Some, is_some, Result, Ok, Err, OnOk, OnErr, List, [], ◌∷◌, map, length, refl, ap, sym, ◌∙◌, subst, arith}
 use Rattle.std.proofs.lemmas.Bool.{cases_eq}
 use Rattle.ff_time.specs.declared.cut.TimeCut.{TimeCut}
-use Rattle.ff_values.specs.declared.head.StreamHead.{StreamHead}
-use Rattle.ff_frame.specs.declared.item.Item.{Item}
-use Rattle.ff_frame.specs.declared.item.Item.TheVariants.{Audio, Video, Packet, Trailer, End, Broken}
-use Rattle.ff_frame.specs.declared.item.Lane.{Lane}
-use Rattle.ff_frame.specs.declared.item.Lane.TheVariants.{Frames}
-use Rattle.ff_frame.specs.Ports.{nothing}
+use Rattle.ff_frame.specs.declared.head.StreamHead.{StreamHead}
+use Rattle.ff_stream.specs.declared.item.Item.{Item}
+use Rattle.ff_stream.specs.declared.item.Item.TheVariants.{Audio, Video, Packet, Trailer, End, Broken}
+use Rattle.ff_stream.specs.declared.item.Lane.{Lane}
+use Rattle.ff_stream.specs.declared.item.Lane.TheVariants.{Frames}
+use Rattle.ff_stream.specs.Ports.{nothing}
 use Rattle.ff_filter.specs.declared.after.After.{After}
 use Rattle.ff_filter.specs.declared.after.After.TheVariants.{More, Whole, Broke}
 use Rattle.ff_filter.specs.Joins.{Flow, Ports, silence, before, before_at}
@@ -16,11 +16,11 @@ use Rattle.ff_filter.specs.Views.{View, SamePorts, Same, Fed, Gave, Waits, Stopp
 use Rattle.ff_filter.specs.Chains.{after_held, held_closes}
 use Rattle.ff_filter.specs.StepperLaws.{or_left, or_right}
 use Rattle.std.specs.declared.alloc.AllocError.{AllocError}
-use Rattle.ff_cutting.specs.declared.tap.Tap.{Tap}
-use Rattle.ff_cutting.specs.declared.tap.Turn.{Turn}
-use Rattle.ff_cutting.specs.declared.tap.Turn.TheVariants.{Gave as Turned, Waits as Idle, On}
-use Rattle.ff_cutting.specs.Taps.{Way, ways_of, way_at, still_cut, cutting_view, cut_view, IsTied, Tied, to_go, IsPut, IsKept, IsResumed, IsKeptStill, IsShut, IsLeft, AreNewWays, IsCutting}
-use Rattle.ff_cutting.proofs.Ways.{Replaced, there_or, runs_nothing}
+use Rattle.ff_trim.specs.declared.tap.Tap.{Tap}
+use Rattle.ff_trim.specs.declared.tap.Turn.{Turn}
+use Rattle.ff_trim.specs.declared.tap.Turn.TheVariants.{Gave as Turned, Waits as Idle, On}
+use Rattle.ff_trim.specs.Taps.{Way, ways_of, way_at, still_cut, cutting_view, cut_view, IsTied, Tied, to_go, IsPut, IsKept, IsResumed, IsKeptStill, IsShut, IsLeft, AreNewWays, IsCutting}
+use Rattle.ff_trim.proofs.Ways.{Replaced, there_or, runs_nothing}
 
 -- something was done at output q of a filter; the others go on as before
 pub record Moves (v w : View) (q : ℕ) : Type 0 where

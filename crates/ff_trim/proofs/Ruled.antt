@@ -10,28 +10,28 @@ use Rattle.std.proofs.Math.Nat.{suc-mul, add-mul, mul-le-mul_right, div-mul-le_s
 use Rattle.ff_time.specs.Fraction.{Fraction, IsBase}
 use Rattle.ff_time.specs.declared.cut.TimeCut.{TimeCut}
 use Rattle.ff_time.proofs.Ceiling.{IsCeiling-div_ceil}
-use Rattle.ff_values.specs.declared.audio.AFrame.{AFrame}
-use Rattle.ff_values.specs.declared.head.Codec.{Codec}
-use Rattle.ff_values.specs.declared.head.StreamHead.{StreamHead}
-use Rattle.ff_values.specs.declared.head.StreamHead.TheVariants.{Audio as AudioHead, Video as VideoHead}
-use Rattle.ff_values.specs.Audio.{IsAudio, kept_samples}
-use Rattle.ff_values.specs.Heads.{base_of_head}
-use Rattle.ff_frame.specs.declared.item.Item.{Item}
-use Rattle.ff_frame.specs.declared.item.Item.TheVariants.{Audio, Video, Packet, Trailer, End, Broken}
-use Rattle.ff_frame.specs.declared.item.Lane.TheVariants.{Frames}
-use Rattle.ff_frame.specs.Stream.{whole, whole_stream}
-use Rattle.ff_frame.specs.Order.{same_stream}
-use Rattle.ff_frame.specs.Times.{ticks}
-use Rattle.ff_frame.specs.Lanes.{IsItemFor, IsValid}
+use Rattle.ff_frame.specs.declared.audio.AFrame.{AFrame}
+use Rattle.ff_frame.specs.declared.head.Codec.{Codec}
+use Rattle.ff_frame.specs.declared.head.StreamHead.{StreamHead}
+use Rattle.ff_frame.specs.declared.head.StreamHead.TheVariants.{Audio as AudioHead, Video as VideoHead}
+use Rattle.ff_frame.specs.Audio.{IsAudio, kept_samples}
+use Rattle.ff_frame.specs.Heads.{base_of_head}
+use Rattle.ff_stream.specs.declared.item.Item.{Item}
+use Rattle.ff_stream.specs.declared.item.Item.TheVariants.{Audio, Video, Packet, Trailer, End, Broken}
+use Rattle.ff_stream.specs.declared.item.Lane.TheVariants.{Frames}
+use Rattle.ff_stream.specs.Stream.{whole, whole_stream}
+use Rattle.ff_stream.specs.Order.{same_stream}
+use Rattle.ff_stream.specs.Times.{ticks}
+use Rattle.ff_stream.specs.Lanes.{IsItemFor, IsValid}
 use Rattle.ff_filter.specs.declared.range.Range.{Range}
 use Rattle.ff_filter.specs.Joins.{Flow}
 use Rattle.ff_filter.specs.Ranges.{is_past}
 use Rattle.ff_filter.specs.Shifts.{earlier, start_ticks, shifted}
 use Rattle.ff_vfilter.specs.Trims.{trimmed, from_start, before_stop, reaches}
 use Rattle.ff_afilter.specs.Trims.{count_of, before_stop as samples_before, part, kept as kept_of, kept_all, ends_past, reaches as sound_reaches, sound_trimmed}
-use Rattle.ff_cutting.specs.Cuts.{ticks_at, in_bits, start_in, range_in, from_range, is_uncut, is_empty, cut}
-use Rattle.ff_cutting.specs.Rules.{from_start_of, to_length_of, by_rule}
-use Rattle.ff_cutting.proofs.Valid.{Each, each_of, below_by}
+use Rattle.ff_trim.specs.Cuts.{ticks_at, in_bits, start_in, range_in, from_range, is_uncut, is_empty, cut}
+use Rattle.ff_trim.specs.Rules.{from_start_of, to_length_of, by_rule}
+use Rattle.ff_trim.proofs.Valid.{Each, each_of, below_by}
 
 -- a stop so many ticks later
 abbrev later : ℕ → Option ℕ → Option ℕ

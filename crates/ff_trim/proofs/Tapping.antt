@@ -1,14 +1,14 @@
 -- What each call does to one output with a cut behind it.
 use Rattle.std.proofs.Common.{◌≡◌, false, Option, None, Some, is_some, [], refl, ap, ◌∙◌, subst}
-use Rattle.ff_frame.specs.declared.item.Item.{Item}
-use Rattle.ff_frame.specs.declared.item.Item.TheVariants.{Audio, Video, Packet, Trailer, End, Broken}
+use Rattle.ff_stream.specs.declared.item.Item.{Item}
+use Rattle.ff_stream.specs.declared.item.Item.TheVariants.{Audio, Video, Packet, Trailer, End, Broken}
 use Rattle.ff_filter.specs.declared.after.After.{After}
 use Rattle.ff_filter.specs.declared.after.After.TheVariants.{More, Whole, Broke}
 use Rattle.ff_filter.specs.Joins.{Flow, before, joined}
 use Rattle.ff_filter.specs.Made.{left, behind, made_of, is_over}
 use Rattle.ff_filter.specs.Views.{closes}
 use Rattle.ff_filter.specs.Chains.{after_held}
-use Rattle.ff_cutting.specs.Taps.{Way, IsPut, IsResumed}
+use Rattle.ff_trim.specs.Taps.{Way, IsPut, IsResumed}
 
 -- what is made, and then what comes behind it
 pub made_behind : (given : Option Item) (a : After) (r s : Flow) → ((y : Item) → given ≡ Some y → closes y ≡ false) → r ≡ joined (made_of given a) s

@@ -6,11 +6,11 @@ use Rattle.std.proofs.lemmas.Bool.{cases_lt}
 use Rattle.ff_time.specs.Fraction.{Fraction}
 use Rattle.ff_time.specs.Rescale.{Reaches}
 use Rattle.ff_time.proofs.Ceiling.{IsCeiling-div_ceil, Reaches-ceiling, Reaches-least}
-use Rattle.ff_frame.specs.Times.{ticks}
+use Rattle.ff_stream.specs.Times.{ticks}
 use Rattle.ff_filter.specs.declared.range.Range.{Range}
 use Rattle.ff_filter.specs.declared.range.RangeSettings.{RangeSettings}
 use Rattle.ff_filter.specs.Ranges.{IsCeiling, IsRange}
-use Rattle.ff_cutting.specs.Cuts.{ticks_at, in_bits}
+use Rattle.ff_trim.specs.Cuts.{ticks_at, in_bits}
 
 ints_between : (a b : ℤ) → a ≤ℤ b → b ≤ℤ a → a ≡ b
 ints_between a b p q = omega (arith, ints)

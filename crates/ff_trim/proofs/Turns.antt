@@ -2,16 +2,16 @@
 use Rattle.std.proofs.Common.{◌≡◌, ℕ, ◌<◌, true, false, Option, None, Some, Result, Ok, Err, OnErr, List, length, set, sym, subst, arith}
 use Rattle.std.proofs.lemmas.List.{length-set}
 use Rattle.std.specs.declared.alloc.AllocError.{AllocError}
-use Rattle.ff_frame.specs.declared.item.Item.{Item}
-use Rattle.ff_frame.specs.Ports.{nothing}
+use Rattle.ff_stream.specs.declared.item.Item.{Item}
+use Rattle.ff_stream.specs.Ports.{nothing}
 use Rattle.ff_filter.specs.Joins.{Ports}
 use Rattle.ff_filter.specs.Views.{View, Same, Gave, Waits}
-use Rattle.ff_cutting.specs.declared.tap.Tap.{Tap}
-use Rattle.ff_cutting.specs.declared.tap.Turn.{Turn}
-use Rattle.ff_cutting.specs.declared.tap.Turn.TheVariants.{Gave as Turned, Waits as Idle, On}
-use Rattle.ff_cutting.specs.Taps.{Way, way_of, ways_of, way_at, cut_view, Tied, IsTurn, IsPut, IsKept, IsResumed, IsKeptStill, to_go}
-use Rattle.ff_cutting.proofs.Ways.{replaced, long_ways}
-use Rattle.ff_cutting.proofs.Moving.{put_same, put_gave, put_less, kept_same, resumed_same, resumed_gave, resumed_less, again_same, on_err}
+use Rattle.ff_trim.specs.declared.tap.Tap.{Tap}
+use Rattle.ff_trim.specs.declared.tap.Turn.{Turn}
+use Rattle.ff_trim.specs.declared.tap.Turn.TheVariants.{Gave as Turned, Waits as Idle, On}
+use Rattle.ff_trim.specs.Taps.{Way, way_of, ways_of, way_at, cut_view, Tied, IsTurn, IsPut, IsKept, IsResumed, IsKeptStill, to_go}
+use Rattle.ff_trim.proofs.Ways.{replaced, long_ways}
+use Rattle.ff_trim.proofs.Moving.{put_same, put_gave, put_less, kept_same, resumed_same, resumed_gave, resumed_less, again_same, on_err}
 
 module _ (v w : View) (ts us : List Tap) (q : ℕ) (long : length us ≡ length ts) where
   pub failed : (e : AllocError) → Same (cut_view v ts) (cut_view w us) → IsTurn v ts w us q (Err e)

@@ -6,20 +6,20 @@ use Rattle.std.proofs.lemmas.List.{length-take, length-map, length-append}
 use Rattle.std.proofs.Math.Nat.{mul-le-mul_right, mul_comm, div-le_of_le-mul}
 use Rattle.ff_time.specs.Fraction.{Fraction}
 use Rattle.ff_time.specs.declared.cut.TimeCut.{TimeCut}
-use Rattle.ff_values.specs.declared.audio.AFrame.{AFrame}
-use Rattle.ff_values.specs.declared.head.Codec.{Codec}
-use Rattle.ff_values.specs.declared.head.StreamHead.{StreamHead}
-use Rattle.ff_values.specs.declared.head.StreamHead.TheVariants.{Audio as AudioHead, Video as VideoHead}
-use Rattle.ff_values.specs.Audio.{kept_samples}
-use Rattle.ff_values.specs.Heads.{base_of_head}
-use Rattle.ff_frame.specs.declared.item.Item.{Item}
-use Rattle.ff_frame.specs.declared.item.Item.TheVariants.{Audio, Video, Packet, Trailer, End, Broken}
-use Rattle.ff_frame.specs.declared.item.Lane.{Lane}
-use Rattle.ff_frame.specs.declared.item.Lane.TheVariants.{Frames}
-use Rattle.ff_frame.specs.Stream.{Mark, whole, broken, whole_stream}
-use Rattle.ff_frame.specs.Ports.{IsUnbroken}
-use Rattle.ff_frame.specs.Times.{start_of, end_of, ticks}
-use Rattle.ff_frame.specs.Lanes.{base_of, IsItemFor, EndsInTime, IsValid}
+use Rattle.ff_frame.specs.declared.audio.AFrame.{AFrame}
+use Rattle.ff_frame.specs.declared.head.Codec.{Codec}
+use Rattle.ff_frame.specs.declared.head.StreamHead.{StreamHead}
+use Rattle.ff_frame.specs.declared.head.StreamHead.TheVariants.{Audio as AudioHead, Video as VideoHead}
+use Rattle.ff_frame.specs.Audio.{kept_samples}
+use Rattle.ff_frame.specs.Heads.{base_of_head}
+use Rattle.ff_stream.specs.declared.item.Item.{Item}
+use Rattle.ff_stream.specs.declared.item.Item.TheVariants.{Audio, Video, Packet, Trailer, End, Broken}
+use Rattle.ff_stream.specs.declared.item.Lane.{Lane}
+use Rattle.ff_stream.specs.declared.item.Lane.TheVariants.{Frames}
+use Rattle.ff_stream.specs.Stream.{Mark, whole, broken, whole_stream}
+use Rattle.ff_stream.specs.Ports.{IsUnbroken}
+use Rattle.ff_stream.specs.Times.{start_of, end_of, ticks}
+use Rattle.ff_stream.specs.Lanes.{base_of, IsItemFor, EndsInTime, IsValid}
 use Rattle.ff_filter.specs.declared.range.Range.{Range}
 use Rattle.ff_filter.specs.Joins.{Flow}
 use Rattle.ff_filter.specs.Ranges.{is_past}
@@ -28,9 +28,9 @@ use Rattle.ff_vfilter.specs.Trims.{trimmed, from_start, before_stop, reaches}
 use Rattle.ff_vfilter.proofs.TrimSound.{trim_sound}
 use Rattle.ff_afilter.specs.Trims.{count_of, before_stop as samples_before, part, kept as kept_of, kept_all, ends_past, reaches as sound_reaches, sound_trimmed}
 use Rattle.ff_afilter.proofs.TrimSound.{sound_trim_sound}
-use Rattle.ff_spread.specs.Valid.{GivesValid}
-use Rattle.ff_cutting.specs.Cuts.{is_uncut, is_empty, range_in, from_range, cut}
-use Rattle.ff_cutting.proofs.EarlierShape.{StartsFrom, shape_earlier}
+use Rattle.ff_filter.specs.spread.Valid.{GivesValid}
+use Rattle.ff_trim.specs.Cuts.{is_uncut, is_empty, range_in, from_range, cut}
+use Rattle.ff_trim.proofs.EarlierShape.{StartsFrom, shape_earlier}
 
 -- each of these items is so
 abbrev pub Each : (Item → Type 0) → List Item → Type 0

@@ -2,13 +2,13 @@
 use Rattle.std.proofs.Common.{◌≡◌, ◌≢◌, ℕ, zero, suc, ◌<◌, ◌≤◌, ◌⊎◌, inl, inr, false, None, List, [], ◌∷◌, ◌++◌, length, refl, ap, sym, ◌∙◌, subst, arith, get_or, set, take}
 use Rattle.std.proofs.lemmas.List.{length-set}
 use Rattle.ff_time.specs.declared.cut.TimeCut.{TimeCut}
-use Rattle.ff_values.specs.declared.head.StreamHead.{StreamHead}
-use Rattle.ff_frame.specs.Ports.{nothing}
+use Rattle.ff_frame.specs.declared.head.StreamHead.{StreamHead}
+use Rattle.ff_stream.specs.Ports.{nothing}
 use Rattle.ff_filter.specs.Joins.{Flow}
-use Rattle.ff_cutting.specs.declared.tap.Tap.{Tap}
-use Rattle.ff_cutting.specs.Cuts.{cut_at}
-use Rattle.ff_cutting.specs.CutLaws.{runs-waits}
-use Rattle.ff_cutting.specs.Taps.{Way, no_way, way_of, ways_of, way_at, still_cut, IsNewWay, AreNewWays}
+use Rattle.ff_trim.specs.declared.tap.Tap.{Tap}
+use Rattle.ff_trim.specs.Cuts.{cut_at}
+use Rattle.ff_trim.specs.CutLaws.{runs-waits}
+use Rattle.ff_trim.specs.Taps.{Way, no_way, way_of, ways_of, way_at, still_cut, IsNewWay, AreNewWays}
 
 -- one output was replaced
 pub record Replaced (ws us : List Way) (q : ℕ) (n : Way) : Type 0 where

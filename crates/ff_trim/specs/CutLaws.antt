@@ -1,18 +1,18 @@
 -- The laws of a cut: from those of the trims.
 use Rattle.std.specs.Prelude.{◌≡◌, Some, refl}
-use Rattle.ff_frame.specs.declared.item.Item.TheVariants.{End, Broken}
-use Rattle.ff_frame.specs.Stream.{LiesBelow, opened}
-use Rattle.ff_frame.specs.Ports.{nothing, IsClosed}
-use Rattle.ff_frame.specs.Order.{below_self}
+use Rattle.ff_stream.specs.declared.item.Item.TheVariants.{End, Broken}
+use Rattle.ff_stream.specs.Stream.{LiesBelow, opened}
+use Rattle.ff_stream.specs.Ports.{nothing, IsClosed}
+use Rattle.ff_stream.specs.Order.{below_self}
 use Rattle.ff_filter.specs.Joins.{Flow, one}
 use Rattle.ff_filter.specs.Shifts.{shifted-below}
 use Rattle.ff_vfilter.specs.Trims.{trimmed}
 use Rattle.ff_vfilter.specs.TrimLaws.{trimmed-below, trimmed-calm, trimmed-settles}
 use Rattle.ff_afilter.specs.Trims.{sound_trimmed}
 use Rattle.ff_afilter.specs.TrimLaws.{trimmed-below as sound-below, trimmed-calm as sound-calm, trimmed-settles as sound-settles}
-use Rattle.ff_cutting.specs.declared.cut.Cut.{Cut}
-use Rattle.ff_cutting.specs.declared.cut.Cut.TheVariants.{Uncut, Sound, Pictures}
-use Rattle.ff_cutting.specs.Taps.{runs_of}
+use Rattle.ff_trim.specs.declared.cut.Cut.{Cut}
+use Rattle.ff_trim.specs.declared.cut.Cut.TheVariants.{Uncut, Sound, Pictures}
+use Rattle.ff_trim.specs.Taps.{runs_of}
 
 pub runs-below : (c : Cut) (r s : Flow) → LiesBelow r s → LiesBelow (runs_of c r) (runs_of c s)
 runs-below (Uncut m) r s h = h

@@ -5,11 +5,11 @@ use Rattle.std.specs.Int.{div_ceil}
 use Rattle.std.proofs.Common.{arith}
 use Rattle.ff_time.specs.Fraction.{Fraction}
 use Rattle.ff_time.specs.declared.cut.TimeCut.{TimeCut}
-use Rattle.ff_values.specs.declared.head.StreamHead.{StreamHead}
-use Rattle.ff_values.specs.declared.head.StreamHead.TheVariants.{Audio, Video}
-use Rattle.ff_values.specs.Heads.{base_of_head}
-use Rattle.ff_frame.specs.Stream.{whole_stream}
-use Rattle.ff_frame.specs.Ports.{nothing}
+use Rattle.ff_frame.specs.declared.head.StreamHead.{StreamHead}
+use Rattle.ff_frame.specs.declared.head.StreamHead.TheVariants.{Audio, Video}
+use Rattle.ff_frame.specs.Heads.{base_of_head}
+use Rattle.ff_stream.specs.Stream.{whole_stream}
+use Rattle.ff_stream.specs.Ports.{nothing}
 use Rattle.ff_filter.specs.declared.after.After.{After}
 use Rattle.ff_filter.specs.declared.after.After.TheVariants.{More, Whole}
 use Rattle.ff_filter.specs.declared.range.Range.{Range}

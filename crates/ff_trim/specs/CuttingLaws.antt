@@ -1,19 +1,19 @@
 -- The laws of a filter with cuts behind its outputs, from those of the filter.
 use Rattle.std.specs.Prelude.{◌≡◌, ℕ, zero, suc, ◌<◌, ◌⊎◌, Bool, true, false, ◌||◌, Option, Some, None, List, [], ◌∷◌, length, refl}
 use Rattle.std.proofs.Common.{inl, inr, ap, ◌∙◌, arith}
-use Rattle.ff_frame.specs.declared.item.Item.{Item}
-use Rattle.ff_frame.specs.Stream.{LiesBelow, opened}
-use Rattle.ff_frame.specs.Ports.{nothing, IsClosed}
-use Rattle.ff_frame.specs.Order.{below_trans}
+use Rattle.ff_stream.specs.declared.item.Item.{Item}
+use Rattle.ff_stream.specs.Stream.{LiesBelow, opened}
+use Rattle.ff_stream.specs.Ports.{nothing, IsClosed}
+use Rattle.ff_stream.specs.Order.{below_trans}
 use Rattle.ff_filter.specs.Joins.{Flow, Ports, silence, one, all_opened, Grows, HidesBreaks, joined_closed, opened_joined}
 use Rattle.ff_filter.specs.Made.{is_over}
 use Rattle.ff_filter.specs.Views.{View, Settles, IsSpent, AllDone}
 use Rattle.ff_filter.specs.Chains.{after_held}
 use Rattle.ff_filter.specs.ChainLaws.{held_keeps}
 use Rattle.ff_filter.specs.StepperLaws.{left_keeps, left_calm, left_closed, or_left, or_right}
-use Rattle.ff_cutting.specs.declared.tap.Tap.{Tap}
-use Rattle.ff_cutting.specs.Taps.{Way, ways_of, way_at, still_cut, cutting_view, IsTied, Tied}
-use Rattle.ff_cutting.specs.CutLaws.{runs-below, runs-calm, runs-settles}
+use Rattle.ff_trim.specs.declared.tap.Tap.{Tap}
+use Rattle.ff_trim.specs.Taps.{Way, ways_of, way_at, still_cut, cutting_view, IsTied, Tied}
+use Rattle.ff_trim.specs.CutLaws.{runs-below, runs-calm, runs-settles}
 
 -- what the cut of an output owes
 pub record IsRun (w : Way) : Type 0 where

@@ -1,9 +1,9 @@
 -- A cut frame by frame.
 use Rattle.std.specs.Prelude.{Bool, cond, nat_le, List, [], ◌∷◌, map}
-use Rattle.ff_values.specs.declared.head.StreamHead.{StreamHead}
-use Rattle.ff_values.specs.declared.head.StreamHead.TheVariants.{Audio, Video}
-use Rattle.ff_frame.specs.declared.item.Item.{Item}
-use Rattle.ff_frame.specs.Stream.{still_open, whole}
+use Rattle.ff_frame.specs.declared.head.StreamHead.{StreamHead}
+use Rattle.ff_frame.specs.declared.head.StreamHead.TheVariants.{Audio, Video}
+use Rattle.ff_stream.specs.declared.item.Item.{Item}
+use Rattle.ff_stream.specs.Stream.{still_open, whole}
 use Rattle.ff_filter.specs.declared.range.Range.{Range}
 use Rattle.ff_filter.specs.Ranges.{is_past}
 use Rattle.ff_filter.specs.Runs.{Stepped}

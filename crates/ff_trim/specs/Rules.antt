@@ -3,15 +3,15 @@ use Rattle.std.specs.Prelude.{◌<◌, ◌^◌, None, Some, option_map}
 use Rattle.std.proofs.Common.{arith}
 use Rattle.ff_time.specs.Fraction.{Fraction}
 use Rattle.ff_time.specs.declared.cut.TimeCut.{TimeCut}
-use Rattle.ff_values.specs.declared.head.StreamHead.{StreamHead}
-use Rattle.ff_values.specs.declared.head.StreamHead.TheVariants.{Audio, Video}
-use Rattle.ff_values.specs.Heads.{base_of_head}
+use Rattle.ff_frame.specs.declared.head.StreamHead.{StreamHead}
+use Rattle.ff_frame.specs.declared.head.StreamHead.TheVariants.{Audio, Video}
+use Rattle.ff_frame.specs.Heads.{base_of_head}
 use Rattle.ff_filter.specs.declared.range.Range.{Range}
 use Rattle.ff_filter.specs.Joins.{Flow}
 use Rattle.ff_filter.specs.Shifts.{shifted}
 use Rattle.ff_vfilter.specs.Trims.{trimmed}
 use Rattle.ff_afilter.specs.Trims.{sound_trimmed}
-use Rattle.ff_cutting.specs.Cuts.{ticks_at, in_bits-near, start_in}
+use Rattle.ff_trim.specs.Cuts.{ticks_at, in_bits-near, start_in}
 
 -- a trim of a stream of this head
 abbrev pub trim_of : StreamHead → Range → Flow → Flow

@@ -2,10 +2,10 @@
 use Rattle.std.specs.Prelude.{◌≡◌, ℕ, zero, suc, ◌+◌, ◌*◌, ◌<◌, Bool, true, false, ◌||◌, cond, Option, None, Some, is_some, List, [], ◌∷◌, map, length}
 use Rattle.std.specs.Prelude.{Result, Ok, OnErr}
 use Rattle.std.specs.declared.alloc.AllocError.{AllocError}
-use Rattle.ff_frame.specs.declared.item.Item.{Item}
-use Rattle.ff_frame.specs.declared.item.Lane.{Lane}
-use Rattle.ff_frame.specs.declared.item.Lane.TheVariants.{Frames}
-use Rattle.ff_frame.specs.Ports.{nothing}
+use Rattle.ff_stream.specs.declared.item.Item.{Item}
+use Rattle.ff_stream.specs.declared.item.Lane.{Lane}
+use Rattle.ff_stream.specs.declared.item.Lane.TheVariants.{Frames}
+use Rattle.ff_stream.specs.Ports.{nothing}
 use Rattle.ff_filter.specs.declared.after.After.{After}
 use Rattle.ff_filter.specs.declared.after.After.TheVariants.{More}
 use Rattle.ff_filter.specs.Joins.{Flow, Ports, silence, before}
@@ -16,13 +16,13 @@ use Rattle.ff_filter.specs.Shifts.{shifted}
 use Rattle.ff_vfilter.specs.Trims.{trimmed}
 use Rattle.ff_afilter.specs.Trims.{sound_trimmed}
 use Rattle.ff_time.specs.declared.cut.TimeCut.{TimeCut}
-use Rattle.ff_values.specs.declared.head.StreamHead.{StreamHead}
-use Rattle.ff_cutting.specs.Cuts.{cut, cut_at, cut_each}
-use Rattle.ff_cutting.specs.declared.cut.Cut.{Cut}
-use Rattle.ff_cutting.specs.declared.cut.Cut.TheVariants.{Uncut, Sound, Pictures}
-use Rattle.ff_cutting.specs.declared.tap.Tap.{Tap}
-use Rattle.ff_cutting.specs.declared.tap.Turn.{Turn}
-use Rattle.ff_cutting.specs.declared.tap.Turn.TheVariants.{Gave as Turned, Waits as Idle, On}
+use Rattle.ff_frame.specs.declared.head.StreamHead.{StreamHead}
+use Rattle.ff_trim.specs.Cuts.{cut, cut_at, cut_each}
+use Rattle.ff_trim.specs.declared.cut.Cut.{Cut}
+use Rattle.ff_trim.specs.declared.cut.Cut.TheVariants.{Uncut, Sound, Pictures}
+use Rattle.ff_trim.specs.declared.tap.Tap.{Tap}
+use Rattle.ff_trim.specs.declared.tap.Turn.{Turn}
+use Rattle.ff_trim.specs.declared.tap.Turn.TheVariants.{Gave as Turned, Waits as Idle, On}
 
 -- what a cut makes of what comes
 abbrev pub runs_of : Cut → Flow → Flow

@@ -1,16 +1,17 @@
 ghost use Rattle.std.specs.Prelude.{◌≡◌, ◌+◌, ◌-◌, ◌<◌, ◌≤◌, ◌^◌, pos, refl, option_map, Option, IfSome, None, Some, false};
 ghost use Rattle.std.specs.Option.{ForSome};
-ghost use Rattle.ff_values.specs.Heads.{base_of_head};
-ghost use Rattle.ff_frame.specs.declared.item.Lane.TheVariants.{Frames};
-ghost use Rattle.ff_frame.specs.Times.{ticks};
+ghost use Rattle.ff_frame.specs.Heads.{base_of_head};
+ghost use Rattle.ff_stream.specs.declared.item.Lane.TheVariants.{Frames};
+ghost use Rattle.ff_stream.specs.Times.{ticks};
 ghost use Rattle.ff_filter.specs.Joins.{Flow};
 ghost use Rattle.ff_filter.specs.Views.{closes};
 ghost use Rattle.ff_filter.specs.Shifts.{earlier as earlier_by};
-ghost use Rattle.ff_cutting.specs.Cuts.{ticks_at, start_in, stop_in, range_in, kept};
+ghost use Rattle.ff_trim.specs.Cuts.{ticks_at, start_in, stop_in, range_in, kept};
 
 use ff_afilter::ATrim;
 use ff_filter::{Given, Pass, Range, RangeSettings, Step, ticks_of};
-use ff_frame::{Item, Refused, StreamHead};
+use ff_frame::StreamHead;
+use ff_stream::{Item, Refused};
 use ff_time::TimeCut;
 use ff_vfilter::Trim;
 
@@ -109,7 +110,7 @@ fn range_of(head: &StreamHead, cut: TimeCut) -> Range
 }
 
 impl Cut {
-    ghost use Rattle.ff_cutting.specs.Taps.{runs_of, lane_of};
+    ghost use Rattle.ff_trim.specs.Taps.{runs_of, lane_of};
 
     /// The cut of a stream of this head. That one of length 0 ends before anything comes is its output's to say (`Tap`).
     pub fn of(head: &StreamHead, cut: TimeCut) -> Cut
@@ -128,8 +129,8 @@ impl Cut {
 }
 
 impl Step for Cut {
-    ghost use Rattle.ff_cutting.specs.Taps.{runs_of, lane_of};
-    ghost use Rattle.ff_cutting.specs.CutLaws.{runs-below, runs-calm, runs-settles, runs-waits, runs-ends, runs-breaks};
+    ghost use Rattle.ff_trim.specs.Taps.{runs_of, lane_of};
+    ghost use Rattle.ff_trim.specs.CutLaws.{runs-below, runs-calm, runs-settles, runs-waits, runs-ends, runs-breaks};
 
     ghost lane_in = { λ m. lane_of m };
 

@@ -1,13 +1,14 @@
 ghost use Rattle.std.specs.Prelude.{◌≡◌, ◌<◌, map, length, Ok, IfOk, is_some, false, true};
-ghost use Rattle.ff_frame.specs.declared.item.Lane.TheVariants.{Frames};
+ghost use Rattle.ff_stream.specs.declared.item.Lane.TheVariants.{Frames};
 ghost use Rattle.ff_filter.specs.Made.{is_over};
 ghost use Rattle.ff_filter.specs.Views.{IsNew, Gave};
-ghost use Rattle.ff_cutting.specs.Taps.{ways_of, way_at, cut_view, Tied, IsTurn, AreNewWays, IsCutting};
-ghost use Rattle.ff_cutting.specs.CuttingLaws.{cutting-grows, cutting-hides, cutting-settles, cutting-quiet, cutting-spent, cutting-done};
+ghost use Rattle.ff_trim.specs.Taps.{ways_of, way_at, cut_view, Tied, IsTurn, AreNewWays, IsCutting};
+ghost use Rattle.ff_trim.specs.CuttingLaws.{cutting-grows, cutting-hides, cutting-settles, cutting-quiet, cutting-spent, cutting-done};
 
 use crate::tap::{Tap, Turn};
 use ff_filter::Filter;
-use ff_frame::{Item, Refused, StreamHead};
+use ff_frame::StreamHead;
+use ff_stream::{Item, Refused};
 use ff_time::TimeCut;
 use std::alloc::{AllocError, Global};
 

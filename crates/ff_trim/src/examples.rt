@@ -1,16 +1,16 @@
 //! Worked examples of cuts: a function that does nothing, whose clauses hold.
 ghost use Rattle.std.specs.Prelude.{◌≡◌, ℕ, pos, length, take, None, Some, [], ◌∷◌};
 ghost use Rattle.ff_time.specs.declared.cut.TimeCut.{TimeCut};
-ghost use Rattle.ff_values.specs.declared.audio.AFrame.{AFrame};
-ghost use Rattle.ff_values.specs.declared.head.Codec.{Codec};
-ghost use Rattle.ff_values.specs.declared.head.StreamHead.TheVariants.{Audio as AudioHead, Video as VideoHead};
-ghost use Rattle.ff_values.specs.declared.video.Format.{Format};
-ghost use Rattle.ff_frame.specs.declared.item.Item.{Item};
-ghost use Rattle.ff_frame.specs.declared.item.Item.TheVariants.{Audio};
-ghost use Rattle.ff_frame.specs.Stream.{Mark, whole, whole_stream};
+ghost use Rattle.ff_frame.specs.declared.audio.AFrame.{AFrame};
+ghost use Rattle.ff_frame.specs.declared.head.Codec.{Codec};
+ghost use Rattle.ff_frame.specs.declared.head.StreamHead.TheVariants.{Audio as AudioHead, Video as VideoHead};
+ghost use Rattle.ff_frame.specs.declared.video.Format.{Format};
+ghost use Rattle.ff_stream.specs.declared.item.Item.{Item};
+ghost use Rattle.ff_stream.specs.declared.item.Item.TheVariants.{Audio};
+ghost use Rattle.ff_stream.specs.Stream.{Mark, whole, whole_stream};
 ghost use Rattle.ff_filter.specs.Joins.{Flow};
 ghost use Rattle.ff_filter.specs.Shifts.{earlier, start_ticks};
-ghost use Rattle.ff_cutting.specs.Cuts.{cut};
+ghost use Rattle.ff_trim.specs.Cuts.{cut};
 
 /// A second of three at 8,000 samples a second is 8,000 samples, and the stream is whole there, however it goes on (`second`); five
 /// seconds into three there is nothing (`behind`); of pictures 25 a second one a second in lasts to below the next, which isn't kept,

@@ -1,24 +1,24 @@
 //! Laws of cuts: functions that do nothing, whose clauses hold of all values.
 ghost use Rattle.std.specs.Prelude.{◌≡◌, Bool, false, List, length, map};
 ghost use Rattle.ff_time.specs.Fraction.{IsBase};
-ghost use Rattle.ff_values.specs.Heads.{base_of_head};
-ghost use Rattle.ff_frame.specs.Lanes.{IsValid};
+ghost use Rattle.ff_frame.specs.Heads.{base_of_head};
+ghost use Rattle.ff_stream.specs.Lanes.{IsValid};
 ghost use Rattle.ff_time.specs.declared.cut.TimeCut.{TimeCut};
-ghost use Rattle.ff_values.specs.declared.head.StreamHead.{StreamHead};
-ghost use Rattle.ff_frame.specs.declared.item.Lane.{Lane};
-ghost use Rattle.ff_frame.specs.declared.item.Lane.TheVariants.{Frames};
-ghost use Rattle.ff_frame.specs.Stream.{broken, LiesBelow, opened};
-ghost use Rattle.ff_frame.specs.Ports.{IsClosed};
+ghost use Rattle.ff_frame.specs.declared.head.StreamHead.{StreamHead};
+ghost use Rattle.ff_stream.specs.declared.item.Lane.{Lane};
+ghost use Rattle.ff_stream.specs.declared.item.Lane.TheVariants.{Frames};
+ghost use Rattle.ff_stream.specs.Stream.{broken, LiesBelow, opened};
+ghost use Rattle.ff_stream.specs.Ports.{IsClosed};
 ghost use Rattle.ff_filter.specs.Joins.{Flow, Ports};
-ghost use Rattle.ff_net_filter.specs.Limiting.{IsLimited};
-ghost use Rattle.ff_spread.specs.Valid.{GivesValid};
-ghost use Rattle.ff_cutting.specs.Cuts.{cut, cut_each, from_range, is_empty};
-ghost use Rattle.ff_cutting.specs.Frames.{cut_step};
-ghost use Rattle.ff_cutting.specs.Taps.{IsCutting};
+ghost use Rattle.ff_node_filter.specs.Limiting.{IsLimited};
+ghost use Rattle.ff_filter.specs.spread.Valid.{GivesValid};
+ghost use Rattle.ff_trim.specs.Cuts.{cut, cut_each, from_range, is_empty};
+ghost use Rattle.ff_trim.specs.Frames.{cut_step};
+ghost use Rattle.ff_trim.specs.Taps.{IsCutting};
 ghost use Rattle.ff_filter.specs.Runs.{run, no_more};
 ghost use Rattle.ff_filter.specs.Views.{View};
 ghost use Rattle.ff_filter.specs.declared.range.Range.{Range};
-ghost use Rattle.ff_cutting.specs.Rules.{by_rule};
+ghost use Rattle.ff_trim.specs.Rules.{by_rule};
 
 /// A stream further on is cut further on, whoever isn't told of a break gets no less, where a stream closes so does its cut, and a
 /// cut is broken only where its stream is.

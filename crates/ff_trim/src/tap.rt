@@ -1,13 +1,14 @@
 ghost use Rattle.std.specs.Prelude.{◌≡◌, Ok, OnErr, None, Some, is_some, false, true};
 ghost use Rattle.ff_filter.specs.Views.{closes};
-ghost use Rattle.ff_frame.specs.declared.item.Item.{Item as AnItem};
+ghost use Rattle.ff_stream.specs.declared.item.Item.{Item as AnItem};
 ghost use Rattle.ff_filter.specs.Joins.{Flow};
 ghost use Rattle.ff_filter.specs.Made.{is_over as is_over_by};
 ghost use Rattle.ff_filter.specs.Chains.{held_closes};
 
 use crate::cut::Cut;
 use ff_filter::{After, Given, Step, closing_of, discard};
-use ff_frame::{Item, StreamHead};
+use ff_frame::StreamHead;
+use ff_stream::Item;
 use ff_time::TimeCut;
 use std::alloc::AllocError;
 
@@ -39,8 +40,8 @@ pub struct Tap {
 }
 
 impl Tap {
-    ghost use Rattle.ff_cutting.specs.Cuts.{cut as cut_of, starts_over};
-    ghost use Rattle.ff_cutting.specs.Taps.{way_of, IsNewWay, IsPut, IsKept, IsResumed, IsKeptStill, IsShut, IsLeft};
+    ghost use Rattle.ff_trim.specs.Cuts.{cut as cut_of, starts_over};
+    ghost use Rattle.ff_trim.specs.Taps.{way_of, IsNewWay, IsPut, IsKept, IsResumed, IsKeptStill, IsShut, IsLeft};
 
     // With a length of 0 the output ends before anything comes.
     fn at_once(length: Option<u64>) -> After

@@ -7,15 +7,15 @@ use Rattle.std.proofs.Math.Nat.{div-mul-le_self, mul-le-mul_right}
 use Rattle.ff_time.specs.Fraction.{Fraction, IsBase}
 use Rattle.ff_time.specs.Rescale.{IsRescaled, IsRounded}
 use Rattle.ff_time.proofs.Nearest.{IsNearest-size_pos}
-use Rattle.ff_values.specs.declared.video.Format.{Format}
-use Rattle.ff_values.specs.declared.video.VFrame.{VFrame}
-use Rattle.ff_values.specs.declared.head.StreamHead.TheVariants.{Video as VideoHead}
-use Rattle.ff_frame.specs.declared.item.Item.{Item}
-use Rattle.ff_frame.specs.declared.item.Item.TheVariants.{Audio, Video, Packet, Trailer, End, Broken}
-use Rattle.ff_frame.specs.declared.item.Lane.TheVariants.{Frames}
-use Rattle.ff_frame.specs.Stream.{Mark, still_open, whole, broken, opened_mark}
-use Rattle.ff_frame.specs.Times.{ticks}
-use Rattle.ff_frame.specs.Lanes.{InOrder, IsItemFor, IsValid, Follows}
+use Rattle.ff_frame.specs.declared.video.Format.{Format}
+use Rattle.ff_frame.specs.declared.video.VFrame.{VFrame}
+use Rattle.ff_frame.specs.declared.head.StreamHead.TheVariants.{Video as VideoHead}
+use Rattle.ff_stream.specs.declared.item.Item.{Item}
+use Rattle.ff_stream.specs.declared.item.Item.TheVariants.{Audio, Video, Packet, Trailer, End, Broken}
+use Rattle.ff_stream.specs.declared.item.Lane.TheVariants.{Frames}
+use Rattle.ff_stream.specs.Stream.{Mark, still_open, whole, broken, opened_mark}
+use Rattle.ff_stream.specs.Times.{ticks}
+use Rattle.ff_stream.specs.Lanes.{InOrder, IsItemFor, IsValid, Follows}
 use Rattle.ff_filter.specs.Joins.{Flow}
 use Rattle.ff_filter.specs.Runs.{run_at}
 use Rattle.ff_vfilter.specs.declared.scale.Scale.{Scale}

@@ -5,11 +5,11 @@ use Rattle.ff_time.specs.Fraction.{Fraction, IsBase, IsLowestOf, IsBelowOne, IsT
 use Rattle.ff_time.specs.declared.error.TimeError.{TimeError}
 use Rattle.ff_time.specs.declared.error.TimeError.TheVariants.{NotPositive, TooBig}
 use Rattle.ff_time.proofs.Lowest.{IsLowestOf-small}
-use Rattle.ff_values.specs.declared.head.StreamHead.{StreamHead}
-use Rattle.ff_values.specs.Heads.{base_of_head}
-use Rattle.ff_frame.specs.declared.item.Item.{Item}
-use Rattle.ff_frame.specs.declared.item.Lane.TheVariants.{Frames}
-use Rattle.ff_frame.specs.Within.{passes_limits}
+use Rattle.ff_frame.specs.declared.head.StreamHead.{StreamHead}
+use Rattle.ff_frame.specs.Heads.{base_of_head}
+use Rattle.ff_stream.specs.declared.item.Item.{Item}
+use Rattle.ff_stream.specs.declared.item.Lane.TheVariants.{Frames}
+use Rattle.ff_stream.specs.Within.{passes_limits}
 use Rattle.ff_filter.specs.declared.after.After.{After}
 use Rattle.ff_filter.specs.declared.after.After.TheVariants.{More}
 use Rattle.ff_filter.specs.Joins.{Ports}

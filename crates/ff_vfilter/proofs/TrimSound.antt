@@ -1,8 +1,8 @@
 -- A trim gives valid streams.
 use Rattle.std.proofs.Common.{◌≡◌, ◌≢◌, inl, Bool, true, false, cond, nat_le, List, [], ◌∷◌, refl}
-use Rattle.ff_frame.specs.declared.item.Item.{Item}
-use Rattle.ff_frame.specs.declared.item.Lane.{Lane}
-use Rattle.ff_frame.specs.Stream.{Mark, whole, broken}
+use Rattle.ff_stream.specs.declared.item.Item.{Item}
+use Rattle.ff_stream.specs.declared.item.Lane.{Lane}
+use Rattle.ff_stream.specs.Stream.{Mark, whole, broken}
 use Rattle.ff_filter.specs.declared.range.Range.{Range}
 use Rattle.ff_filter.specs.Ranges.{is_past}
 use Rattle.ff_filter.specs.Shifts.{start_ticks}

@@ -1,12 +1,12 @@
 -- Streams of parts of pictures (ffmpeg-filters, "crop").
 use Rattle.std.specs.Prelude.{◌≡◌, ℕ, ◌+◌, ◌-◌, ◌/◌, Bool, ◌&&◌, nat_le, cond, if◌then◌else◌, codes, List, [], ◌∷◌, Result, Ok, Err}
-use Rattle.ff_values.specs.declared.config.ConfigError.{ConfigError}
-use Rattle.ff_values.specs.declared.config.ConfigError.TheVariants.{BadSize}
-use Rattle.ff_values.specs.declared.head.StreamHead.{StreamHead}
-use Rattle.ff_values.specs.declared.head.StreamHead.TheVariants.{Audio, Video}
-use Rattle.ff_values.specs.declared.video.Format.{Format}
-use Rattle.ff_values.specs.declared.video.VFrame.{VFrame}
-use Rattle.ff_frame.specs.declared.item.Lane.TheVariants.{Frames}
+use Rattle.ff_frame.specs.declared.config.ConfigError.{ConfigError}
+use Rattle.ff_frame.specs.declared.config.ConfigError.TheVariants.{BadSize}
+use Rattle.ff_frame.specs.declared.head.StreamHead.{StreamHead}
+use Rattle.ff_frame.specs.declared.head.StreamHead.TheVariants.{Audio, Video}
+use Rattle.ff_frame.specs.declared.video.Format.{Format}
+use Rattle.ff_frame.specs.declared.video.VFrame.{VFrame}
+use Rattle.ff_stream.specs.declared.item.Lane.TheVariants.{Frames}
 use Rattle.ff_lang.specs.declared.graph.Arg.{Arg}
 use Rattle.ff_filter.specs.declared.after.After.TheVariants.{More}
 use Rattle.ff_filter.specs.Options.{Manual, is_video, IsConfigured}

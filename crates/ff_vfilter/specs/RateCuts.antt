@@ -1,10 +1,10 @@
 -- Which numbers are shown of what was fed, and whether one of them passes a limit.
 use Rattle.std.specs.Prelude.{ℕ, ◌+◌, ◌-◌, ◌*◌, ◌^◌, max, nat_lt, Bool, true, false, ◌||◌, ◌&&◌, Option, None, Some, List, [], ◌∷◌}
-use Rattle.ff_values.specs.declared.head.StreamHead.{StreamHead}
-use Rattle.ff_values.specs.declared.video.VFrame.{VFrame}
-use Rattle.ff_values.specs.Heads.{base_of_head}
-use Rattle.ff_frame.specs.declared.item.Item.{Item}
-use Rattle.ff_frame.specs.declared.item.Item.TheVariants.{Audio, Video, Packet, Trailer, End, Broken}
+use Rattle.ff_frame.specs.declared.head.StreamHead.{StreamHead}
+use Rattle.ff_frame.specs.declared.video.VFrame.{VFrame}
+use Rattle.ff_frame.specs.Heads.{base_of_head}
+use Rattle.ff_stream.specs.declared.item.Item.{Item}
+use Rattle.ff_stream.specs.declared.item.Item.TheVariants.{Audio, Video, Packet, Trailer, End, Broken}
 use Rattle.ff_vfilter.specs.declared.scale.Scale.{Scale}
 use Rattle.ff_vfilter.specs.declared.showing.Ahead.{Ahead}
 use Rattle.ff_vfilter.specs.declared.showing.Ahead.TheVariants as ahead

@@ -1,14 +1,14 @@
 -- The laws of the machine of an even rate.
 use Rattle.std.specs.Prelude.{◌≡◌, ℕ, ◌⊎◌, Bool, true, false, cond, List, refl}
 use Rattle.std.proofs.Common.{inl, inr, arith}
-use Rattle.ff_values.specs.declared.head.StreamHead.{StreamHead}
-use Rattle.ff_frame.specs.declared.item.Item.{Item}
-use Rattle.ff_frame.specs.declared.item.Item.TheVariants.{Video, End, Broken}
-use Rattle.ff_frame.specs.declared.item.Lane.TheVariants.{Frames}
-use Rattle.ff_frame.specs.Stream.{LiesBelow, opened}
-use Rattle.ff_frame.specs.Ports.{nothing, IsClosed}
-use Rattle.ff_frame.specs.Within.{passes_limits}
-use Rattle.ff_frame.specs.Order.{below_self, below_trans, nothing_below}
+use Rattle.ff_frame.specs.declared.head.StreamHead.{StreamHead}
+use Rattle.ff_stream.specs.declared.item.Item.{Item}
+use Rattle.ff_stream.specs.declared.item.Item.TheVariants.{Video, End, Broken}
+use Rattle.ff_stream.specs.declared.item.Lane.TheVariants.{Frames}
+use Rattle.ff_stream.specs.Stream.{LiesBelow, opened}
+use Rattle.ff_stream.specs.Ports.{nothing, IsClosed}
+use Rattle.ff_stream.specs.Within.{passes_limits}
+use Rattle.ff_stream.specs.Order.{below_self, below_trans, nothing_below}
 use Rattle.ff_filter.specs.declared.after.After.{After}
 use Rattle.ff_filter.specs.Joins.{Flow, Ports, one, before_all-closed, joined_keeps, joined_closed, opened_joined, Grows, HidesBreaks}
 use Rattle.ff_filter.specs.Views.{Settles}

@@ -2,10 +2,10 @@
 use Rattle.std.specs.Prelude.{◌≡◌, ◌≢◌, ℕ, ◌⊎◌, Bool, true, false, ◌||◌, cond, refl}
 use Rattle.std.proofs.Common.{inl, inr, sym, ◌∙◌, arith}
 use Rattle.std.proofs.lemmas.Bool.{or_cases, or_left, or_right}
-use Rattle.ff_frame.specs.declared.item.Lane.TheVariants.{Frames}
-use Rattle.ff_frame.specs.Ports.{nothing, IsClosed}
-use Rattle.ff_frame.specs.Stream.{Mark, still_open, whole, broken}
-use Rattle.ff_frame.specs.Within.{passes_limits}
+use Rattle.ff_stream.specs.declared.item.Lane.TheVariants.{Frames}
+use Rattle.ff_stream.specs.Ports.{nothing, IsClosed}
+use Rattle.ff_stream.specs.Stream.{Mark, still_open, whole, broken}
+use Rattle.ff_stream.specs.Within.{passes_limits}
 use Rattle.ff_filter.specs.Joins.{Flow}
 use Rattle.ff_filter.specs.Limits.{limited}
 use Rattle.ff_filter.specs.Made.{waiting, is_over}

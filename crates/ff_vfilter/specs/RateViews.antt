@@ -1,12 +1,12 @@
 -- How the machine of an even rate is seen.
 use Rattle.std.specs.Prelude.{◌≡◌, ℕ, ◌+◌, ◌*◌, Bool, cond, Option, None, Some, List, [], ◌∷◌, length}
-use Rattle.ff_values.specs.declared.head.StreamHead.{StreamHead}
-use Rattle.ff_values.specs.declared.video.VFrame.{VFrame}
-use Rattle.ff_frame.specs.declared.item.Item.{Item}
-use Rattle.ff_frame.specs.declared.item.Item.TheVariants.{Video, End, Broken}
-use Rattle.ff_frame.specs.declared.item.Lane.TheVariants.{Frames}
-use Rattle.ff_frame.specs.Ports.{nothing}
-use Rattle.ff_frame.specs.Within.{passes_limits}
+use Rattle.ff_frame.specs.declared.head.StreamHead.{StreamHead}
+use Rattle.ff_frame.specs.declared.video.VFrame.{VFrame}
+use Rattle.ff_stream.specs.declared.item.Item.{Item}
+use Rattle.ff_stream.specs.declared.item.Item.TheVariants.{Video, End, Broken}
+use Rattle.ff_stream.specs.declared.item.Lane.TheVariants.{Frames}
+use Rattle.ff_stream.specs.Ports.{nothing}
+use Rattle.ff_stream.specs.Within.{passes_limits}
 use Rattle.ff_filter.specs.declared.after.After.{After}
 use Rattle.ff_filter.specs.Joins.{Flow, one, before}
 use Rattle.ff_filter.specs.Views.{View}

@@ -1,11 +1,11 @@
 -- Pictures at an even rate: number n shows the last picture whose own number is at most n.
 use Rattle.std.specs.Prelude.{ℕ, zero, suc, ◌+◌, ◌*◌, ◌-◌, ◌/◌, ◌^◌, pos, ◌+ℤ◌, min, max, nat_le, cond, Option, None, Some, List, [], ◌∷◌}
-use Rattle.ff_values.specs.declared.video.VFrame.{VFrame}
-use Rattle.ff_frame.specs.declared.item.Item.{Item}
-use Rattle.ff_frame.specs.declared.item.Item.TheVariants.{Audio, Video, Packet, Trailer, End, Broken}
-use Rattle.ff_frame.specs.Stream.{Mark, still_open, whole, broken}
-use Rattle.ff_frame.specs.Times.{ticks}
-use Rattle.ff_frame.specs.Ports.{nothing}
+use Rattle.ff_frame.specs.declared.video.VFrame.{VFrame}
+use Rattle.ff_stream.specs.declared.item.Item.{Item}
+use Rattle.ff_stream.specs.declared.item.Item.TheVariants.{Audio, Video, Packet, Trailer, End, Broken}
+use Rattle.ff_stream.specs.Stream.{Mark, still_open, whole, broken}
+use Rattle.ff_stream.specs.Times.{ticks}
+use Rattle.ff_stream.specs.Ports.{nothing}
 use Rattle.ff_vfilter.specs.declared.scale.Scale.{Scale}
 use Rattle.ff_filter.specs.Joins.{Flow}
 use Rattle.ff_filter.specs.Runs.{Stepped, run}

@@ -1,9 +1,9 @@
 -- Sizes and places that arguments give, on the grid of Cb and Cr.
 use Rattle.std.specs.Prelude.{◌≡◌, ℕ, zero, suc, ◌*◌, ◌/◌, Bool, ◌&&◌, nat_le, Option, Some, None, List}
-use Rattle.ff_values.specs.declared.video.Format.{Format}
-use Rattle.ff_values.specs.declared.video.Format.TheVariants.{C420, C422, C444, Mono}
-use Rattle.ff_values.specs.declared.head.StreamHead.{StreamHead}
-use Rattle.ff_values.specs.declared.head.StreamHead.TheVariants.{Audio, Video}
+use Rattle.ff_frame.specs.declared.video.Format.{Format}
+use Rattle.ff_frame.specs.declared.video.Format.TheVariants.{C420, C422, C444, Mono}
+use Rattle.ff_frame.specs.declared.head.StreamHead.{StreamHead}
+use Rattle.ff_frame.specs.declared.head.StreamHead.TheVariants.{Audio, Video}
 use Rattle.ff_filter.specs.Options.{number_of}
 use Rattle.ff_vfilter.specs.declared.sizes.Sizes.{Sizes}
 

@@ -1,6 +1,6 @@
 ghost use Rattle.std.specs.Prelude.{◌≡◌, ◌<◌, ◌^◌, ◌∷◌, [], pos, None, Some, ℕ, IfSome, IsNone, IfOk, IfErr};
 ghost use Rattle.ff_time.specs.Fraction.{Fraction, IsBase, IsLowestOf};
-ghost use Rattle.ff_values.specs.declared.config.ConfigError.TheVariants.{NoMemory};
+ghost use Rattle.ff_frame.specs.declared.config.ConfigError.TheVariants.{NoMemory};
 ghost use Rattle.ff_vfilter.specs.FpsOptions.{ratio_of, fps_head, fps_view};
 
 use crate::rate::Rate;

@@ -1,5 +1,5 @@
 ghost use Rattle.std.specs.Prelude.{◌≡◌, ◌↔◌, false, IsNone, IfSome, IfOk, IfErr};
-ghost use Rattle.ff_values.specs.Video.{IsSide};
+ghost use Rattle.ff_frame.specs.Video.{IsSide};
 ghost use Rattle.ff_planes.specs.Parts.{IsPart};
 
 use crate::repaint::{Paint, Repaint, agrees};

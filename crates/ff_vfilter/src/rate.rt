@@ -1,8 +1,8 @@
 ghost use Rattle.std.specs.Prelude.{◌≡◌, ◌<◌, ◌≤◌, ◌^◌, ◌⊎◌, ◌↔◌, OnErr, Some, None, Ok, IsTrue, true, false};
-ghost use Rattle.ff_frame.specs.declared.item.Item.{Item as AnItem};
-ghost use Rattle.ff_frame.specs.declared.item.Lane.TheVariants.{Frames};
-ghost use Rattle.ff_values.specs.declared.video.VFrame.{VFrame as AFrame};
-ghost use Rattle.ff_frame.specs.Within.{passes_limits};
+ghost use Rattle.ff_stream.specs.declared.item.Item.{Item as AnItem};
+ghost use Rattle.ff_stream.specs.declared.item.Lane.TheVariants.{Frames};
+ghost use Rattle.ff_frame.specs.declared.video.VFrame.{VFrame as AFrame};
+ghost use Rattle.ff_stream.specs.Within.{passes_limits};
 ghost use Rattle.ff_filter.specs.Views.{Gave, Waits, Same, IsSpent};
 ghost use Rattle.ff_filter.specs.Made.{is_over};
 ghost use Rattle.ff_vfilter.specs.Rates.{number_of, shown};
@@ -13,7 +13,8 @@ ghost use Rattle.ff_vfilter.specs.RateCuts.{span_of, span_ahead, is_late as is_l
 use crate::showing::{Ahead, Showing};
 use crate::span::Span;
 use ff_filter::{Filter, Inlet, Next, discard, time_base};
-use ff_frame::{Item, Refused, StreamHead, VFrame};
+use ff_frame::{StreamHead, VFrame};
+use ff_stream::{Item, Refused};
 use std::alloc::{AllocError, Global};
 use std::mem::replace;
 

@@ -1,13 +1,14 @@
 ghost use Rattle.std.specs.Prelude.{◌≡◌, refl, false, IsTrue, IfOk, IfErr};
-ghost use Rattle.ff_values.specs.declared.video.VFrame.{VFrame};
-ghost use Rattle.ff_values.specs.Video.{IsVideo};
-ghost use Rattle.ff_frame.specs.declared.item.Lane.TheVariants.{Frames};
-ghost use Rattle.ff_frame.specs.Stream.{opened};
-ghost use Rattle.ff_frame.specs.Order.{below_self};
+ghost use Rattle.ff_frame.specs.declared.video.VFrame.{VFrame};
+ghost use Rattle.ff_frame.specs.Video.{IsVideo};
+ghost use Rattle.ff_stream.specs.declared.item.Lane.TheVariants.{Frames};
+ghost use Rattle.ff_stream.specs.Stream.{opened};
+ghost use Rattle.ff_stream.specs.Order.{below_self};
 ghost use Rattle.ff_vfilter.specs.Pictures.{agrees as fields_agree, repainted, repainted-below};
 
 use ff_filter::{After, Given, Step};
-use ff_frame::{Item, Refused, StreamHead, VFrame};
+use ff_frame::{StreamHead, VFrame};
+use ff_stream::{Item, Refused};
 
 /// What becomes of each picture.
 pub trait Paint {

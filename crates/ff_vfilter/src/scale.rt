@@ -1,5 +1,5 @@
 ghost use Rattle.std.specs.Prelude.{◌≡◌, ◌<◌, ◌≤◌, ◌*◌, ◌^◌, ◌+ℤ◌, ◌<ℤ◌, pos};
-ghost use Rattle.ff_frame.specs.Times.{ticks};
+ghost use Rattle.ff_stream.specs.Times.{ticks};
 ghost use Rattle.ff_time.specs.Fraction.{IsBase};
 ghost use Rattle.ff_vfilter.specs.Rates.{nearest as nearest_to, in_pictures as pictures_in, number_of as own_number, end_number as last_number};
 

@@ -5,7 +5,8 @@ ghost use Rattle.ff_vfilter.specs.RateCuts.{span_ahead, is_end as is_end_of};
 
 use crate::scale::Scale;
 use crate::span::Span;
-use ff_frame::{Item, VFrame};
+use ff_frame::VFrame;
+use ff_stream::Item;
 use std::alloc::{AllocError, Global};
 
 /// What comes next on the input, looked at and not yet used.

@@ -2,7 +2,7 @@ ghost use Rattle.std.specs.Prelude.{◌≡◌};
 ghost use Rattle.ff_vfilter.specs.RateCuts.{span_to, span_by};
 
 use crate::scale::Scale;
-use ff_frame::Item;
+use ff_stream::Item;
 
 /// The numbers that are shown of some pictures.
 #[derive(Clone, Copy, Debug)]

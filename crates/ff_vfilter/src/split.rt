@@ -1,12 +1,11 @@
 ghost use Rattle.std.specs.Prelude.{IfOk, IfErr};
 ghost use Rattle.ff_filter.specs.Options.{is_video, IsRefused};
-ghost use Rattle.ff_spread.specs.Many.{AreMade};
-ghost use Rattle.ff_spread.specs.Splits.{IsSplit, split_view, split_heads};
+ghost use Rattle.ff_filter.specs.spread.Many.{AreMade};
+ghost use Rattle.ff_filter.specs.spread.Splits.{IsSplit, split_view, split_heads};
 
-use ff_filter::{Filter, video_settings};
+use ff_filter::{Copies, Filter, SplitSettings, Spreader, copies_of, video_settings};
 use ff_frame::{ConfigError, StreamHead};
 use ff_lang::Arg;
-use ff_spread::{Copies, SplitSettings, Spreader, copies_of};
 use std::alloc::Global;
 
 /// `split`: the same stream on each of several outputs.

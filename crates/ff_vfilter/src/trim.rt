@@ -1,12 +1,13 @@
 ghost use Rattle.std.specs.Prelude.{◌≡◌, IfOk, IfErr, Some, false};
-ghost use Rattle.ff_frame.specs.declared.item.Lane.TheVariants.{Frames};
+ghost use Rattle.ff_stream.specs.declared.item.Lane.TheVariants.{Frames};
 
 use ff_filter::{
     After, Filter, Given, Limited, Range, RangeSettings, Step, Stepper, machine_of, start_of_item,
     video_settings,
 };
-use ff_frame::{ConfigError, Item, Refused, StreamHead};
+use ff_frame::{ConfigError, StreamHead};
 use ff_lang::Arg;
+use ff_stream::{Item, Refused};
 use std::alloc::Global;
 
 /// `trim`: the pictures from a start to below an end. The output ends at the first picture at or past the end.
@@ -21,7 +22,7 @@ pub struct Trim {
 impl Step for Trim {
     ghost use Rattle.ff_vfilter.specs.Trims.{trimmed};
     ghost use Rattle.ff_vfilter.specs.TrimLaws.{trimmed-below, trimmed-calm, trimmed-settles, trimmed-bare};
-    ghost use Rattle.ff_frame.specs.Stream.{still_open, whole, broken};
+    ghost use Rattle.ff_stream.specs.Stream.{still_open, whole, broken};
 
     ghost lane_in = { λ m. Frames m.head };
 

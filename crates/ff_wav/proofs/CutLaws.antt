@@ -6,9 +6,9 @@ use Rattle.std.proofs.lemmas.List.{length-take, take-append-le, take-take, drop-
 use Rattle.std.proofs.lemmas.List.FromFn.{length-map-range_with_len}
 use Rattle.std.proofs.lemmas.Nat.{le-div, div_below}
 use Rattle.std.proofs.Math.Nat.{mul-add-div_right, div-mul-le_self}
-use Rattle.ff_values.specs.declared.packet.Pkt.{Pkt}
-use Rattle.ff_values.specs.Packet.{packet_at as packet_from}
-use Rattle.ff_cut.specs.Cutters.{IsRest}
+use Rattle.ff_frame.specs.declared.packet.Pkt.{Pkt}
+use Rattle.ff_frame.specs.Packet.{packet_at as packet_from}
+use Rattle.ff_reader.specs.Cutters.{IsRest}
 use Rattle.ff_wav.specs.Packets.{body, frames, packet_at, packet_count, packets_of}
 use Rattle.ff_wav.specs.Cuts.{ReachesLen, IsBodyEnded}
 use Rattle.ff_wav.proofs.HeadLaws.{take-append}

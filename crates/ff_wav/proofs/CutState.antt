@@ -2,8 +2,8 @@
 use Rattle.std.proofs.Common.{◌≡◌, ℕ, ◌+◌, ◌-◌, ◌*◌, ◌/◌, ◌<◌, ◌≤◌, inl, inr, true, false, List, ◌++◌, length, take, drop, Option, Some, sym, ap, ◌∙◌, subst, arith, length-append}
 use Rattle.std.specs.Prelude.{slice_get, Bool, None, Result, Ok, Err, OnOk}
 use Rattle.std.proofs.lemmas.List.{length-drop, drop-drop, drop-append-le}
-use Rattle.ff_values.specs.declared.packet.Pkt.{Pkt}
-use Rattle.ff_cut.specs.Cutters.{IsRest}
+use Rattle.ff_frame.specs.declared.packet.Pkt.{Pkt}
+use Rattle.ff_reader.specs.Cutters.{IsRest}
 use Rattle.ff_wav.specs.declared.head.WavHead.{WavHead}
 use Rattle.ff_wav.specs.declared.cut.WavCut.{WavCut}
 use Rattle.ff_wav.specs.Packets.{body, block_of, whole_len, packet_count, packets_of, packet_at, demuxed}

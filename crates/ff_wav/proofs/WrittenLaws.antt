@@ -6,19 +6,19 @@ use Rattle.std.specs.Str.{bytes_eq}
 use Rattle.std.proofs.lemmas.Bool.Decides.{nat_tests}
 use Rattle.std.proofs.lemmas.Nat.{mul-le}
 use Rattle.ff_time.specs.Fraction.{Fraction}
-use Rattle.ff_values.specs.Codecs.{IsPcmCodec, sample_bytes}
-use Rattle.ff_values.specs.declared.head.Codec.{Codec}
-use Rattle.ff_values.specs.declared.head.Codec.TheVariants.{PcmU8, PcmS16le, PcmS24le, PcmS32le, Flac, RawVideo}
-use Rattle.ff_values.specs.declared.head.StreamHead.{StreamHead}
-use Rattle.ff_values.specs.declared.head.StreamHead.TheVariants.{Audio, Video}
-use Rattle.ff_cut.specs.declared.step.Step.TheVariants.{Decide}
-use Rattle.ff_cut.specs.Heads.{early}
-use Rattle.ff_cut.specs.Walks.{agrees, walk, within, head_limit, reading as read_within}
-use Rattle.ff_cut.proofs.AgreeLaws.{bool_cases}
-use Rattle.ff_cut.proofs.AnswerLaws.{head_some}
-use Rattle.ff_cut.proofs.WalkLaws.{walk-drop}
-use Rattle.ff_cut.proofs.ReadingLaws.{reading_at, reading_stays}
-use Rattle.ff_cut.proofs.ReachLaws.{walk_skip, walk_decide}
+use Rattle.ff_frame.specs.Codecs.{IsPcmCodec, sample_bytes}
+use Rattle.ff_frame.specs.declared.head.Codec.{Codec}
+use Rattle.ff_frame.specs.declared.head.Codec.TheVariants.{PcmU8, PcmS16le, PcmS24le, PcmS32le, Flac, RawVideo}
+use Rattle.ff_frame.specs.declared.head.StreamHead.{StreamHead}
+use Rattle.ff_frame.specs.declared.head.StreamHead.TheVariants.{Audio, Video}
+use Rattle.ff_reader.specs.declared.step.Step.TheVariants.{Decide}
+use Rattle.ff_reader.specs.Heads.{early}
+use Rattle.ff_reader.specs.Walks.{agrees, walk, within, head_limit, reading as read_within}
+use Rattle.ff_reader.proofs.AgreeLaws.{bool_cases}
+use Rattle.ff_reader.proofs.AnswerLaws.{head_some}
+use Rattle.ff_reader.proofs.WalkLaws.{walk-drop}
+use Rattle.ff_reader.proofs.ReadingLaws.{reading_at, reading_stays}
+use Rattle.ff_reader.proofs.ReachLaws.{walk_skip, walk_decide}
 use Rattle.ff_wav.specs.Chunks.{passed, number_16, number_32, codec_of, stream_of, format_of, fields, tagged, format_chunk, body_len, data_chunk, chunk}
 use Rattle.ff_wav.specs.Header.{le_16, le_32, is_plain, fields_of, pcm_guid, extension, riff, wave_format, data_id, plain_format, long_format, header, header_len, header_of, longest}
 use Rattle.std.proofs.Math.Seq.{drop-append_seam}

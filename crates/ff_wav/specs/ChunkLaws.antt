@@ -4,10 +4,10 @@ use Rattle.std.specs.Prelude.{slice_index, nat_lt, codes, ◌==◌, not}
 use Rattle.std.specs.Str.{bytes_eq}
 use Rattle.std.proofs.lemmas.List.{take-append-le}
 use Rattle.std.proofs.lemmas.Bool.Decides.{nat_tests}
-use Rattle.ff_values.specs.declared.head.StreamHead.{StreamHead}
-use Rattle.ff_cut.specs.declared.fault.HeadFault.{HeadFault}
-use Rattle.ff_cut.specs.declared.fault.HeadFault.TheVariants.{Damaged, Unsupported}
-use Rattle.ff_cut.specs.declared.step.Step.TheVariants.{Wait, Decide}
+use Rattle.ff_frame.specs.declared.head.StreamHead.{StreamHead}
+use Rattle.ff_reader.specs.declared.fault.HeadFault.{HeadFault}
+use Rattle.ff_reader.specs.declared.fault.HeadFault.TheVariants.{Damaged, Unsupported}
+use Rattle.ff_reader.specs.declared.step.Step.TheVariants.{Wait, Decide}
 use Rattle.ff_wav.specs.Chunks.{ChunkStep, passed, number_16, number_32, format_of, step_of, fields, tagged, format_chunk, data_chunk, chunk, body_len}
 
 -- the first waits, or is the second

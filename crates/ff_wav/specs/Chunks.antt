@@ -1,15 +1,15 @@
 -- The chunks of a RIFF WAVE (RIFF, "WAVE form definition"), one at a time. All numbers are little-endian.
 use Rattle.std.specs.Prelude.{ℕ, ◌+◌, ◌*◌, ◌/◌, ◌%◌, ◌^◌, ◌==◌, ◌&&◌, ◌||◌, nat_lt, nat_le, not, if◌then◌else◌, List, take, length, slice_index, Option, Some, None, Result, Ok, Err, codes}
 use Rattle.std.specs.Str.{bytes_eq}
-use Rattle.ff_values.specs.declared.head.StreamHead.{StreamHead}
-use Rattle.ff_values.specs.declared.head.StreamHead.TheVariants.{Audio}
-use Rattle.ff_values.specs.declared.head.Codec.{Codec}
-use Rattle.ff_values.specs.declared.head.Codec.TheVariants.{PcmU8, PcmS16le, PcmS24le, PcmS32le}
+use Rattle.ff_frame.specs.declared.head.StreamHead.{StreamHead}
+use Rattle.ff_frame.specs.declared.head.StreamHead.TheVariants.{Audio}
+use Rattle.ff_frame.specs.declared.head.Codec.{Codec}
+use Rattle.ff_frame.specs.declared.head.Codec.TheVariants.{PcmU8, PcmS16le, PcmS24le, PcmS32le}
 use Rattle.ff_wav.specs.declared.head.WavHead.{WavHead}
-use Rattle.ff_cut.specs.declared.fault.HeadFault.{HeadFault}
-use Rattle.ff_cut.specs.declared.fault.HeadFault.TheVariants.{Damaged, Unsupported}
-use Rattle.ff_cut.specs.declared.step.Step.{Step}
-use Rattle.ff_cut.specs.declared.step.Step.TheVariants.{Wait, Decide, Skip}
+use Rattle.ff_reader.specs.declared.fault.HeadFault.{HeadFault}
+use Rattle.ff_reader.specs.declared.fault.HeadFault.TheVariants.{Damaged, Unsupported}
+use Rattle.ff_reader.specs.declared.step.Step.{Step}
+use Rattle.ff_reader.specs.declared.step.Step.TheVariants.{Wait, Decide, Skip}
 
 -- what a chunk does to the reading of a head: where it is passed over, this is the stream's head from there on
 abbrev pub ChunkStep : Type 0

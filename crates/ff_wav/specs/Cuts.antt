@@ -1,6 +1,6 @@
 -- A cut does not keep what it was fed and gave: it is tied to it.
 use Rattle.std.specs.Prelude.{◌≡◌, ℕ, ◌+◌, ◌*◌, ◌^◌, ◌≤◌, ◌⊎◌, Bool, true, false, List, drop, length, Option, Some, None}
-use Rattle.ff_cut.specs.Cutters.{Cutter}
+use Rattle.ff_reader.specs.Cutters.{Cutter}
 use Rattle.ff_wav.specs.declared.head.WavHead.{WavHead}
 use Rattle.ff_wav.specs.declared.cut.WavCut.{WavCut}
 use Rattle.ff_wav.specs.Packets.{block_of, whole_len, body, packet_count, demuxed, IsHead}

@@ -1,6 +1,6 @@
 -- What the chunks owe to the reading of heads.
 use Rattle.std.proofs.Common.{[], ◌∷◌, ◌++◌, arith, length-append, lit<}
-use Rattle.ff_cut.specs.Walks.{IsGrammar, DamagesBefore}
+use Rattle.ff_reader.specs.Walks.{IsGrammar, DamagesBefore}
 use Rattle.ff_wav.specs.Chunks.{chunk}
 use Rattle.ff_wav.specs.Heads.{grammar}
 use Rattle.ff_wav.specs.ChunkLaws.{chunk_settles, chunk_damaged}

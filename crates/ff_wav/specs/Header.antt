@@ -1,9 +1,9 @@
 -- The header that is written (RIFF WAVE; the extensible form of `fmt ` for more than 2 channels or 16 bits).
 use Rattle.std.specs.Prelude.{ℕ, ◌+◌, ◌-◌, ◌*◌, ◌%◌, ◌^◌, ◌==◌, ◌&&◌, nat_le, Bool, if◌then◌else◌, List, [], ◌∷◌, ◌++◌, codes}
 use Rattle.std.specs.Int.{w16, w32, to_le_bytes}
-use Rattle.ff_values.specs.Codecs.{sample_bytes}
-use Rattle.ff_values.specs.declared.head.StreamHead.{StreamHead}
-use Rattle.ff_values.specs.declared.head.StreamHead.TheVariants.{Audio, Video}
+use Rattle.ff_frame.specs.Codecs.{sample_bytes}
+use Rattle.ff_frame.specs.declared.head.StreamHead.{StreamHead}
+use Rattle.ff_frame.specs.declared.head.StreamHead.TheVariants.{Audio, Video}
 use Rattle.ff_wav.specs.declared.put.WavPut.{WavPut}
 
 -- numbers in two and in four bytes, the lowest byte first

@@ -1,9 +1,9 @@
 -- The head of a whole input, and what is decided by its first bytes.
 use Rattle.std.specs.Prelude.{ℕ, Bool, List, ◌∷◌, ◌++◌, codes, map, Option, Some, None, Result}
-use Rattle.ff_values.specs.declared.head.StreamHead.{StreamHead}
-use Rattle.ff_values.specs.declared.cut.HeadEnd.{HeadEnd}
-use Rattle.ff_cut.specs.Heads as heads
-use Rattle.ff_cut.specs.Walks as walks
+use Rattle.ff_frame.specs.declared.head.StreamHead.{StreamHead}
+use Rattle.ff_frame.specs.declared.cut.HeadEnd.{HeadEnd}
+use Rattle.ff_reader.specs.Heads as heads
+use Rattle.ff_reader.specs.Walks as walks
 use Rattle.ff_wav.specs.declared.head.WavHead.{WavHead}
 use Rattle.ff_wav.specs.Chunks.{chunk}
 

@@ -2,13 +2,13 @@
 use Rattle.std.specs.Prelude.{◌≡◌, ℕ, ◌+◌, ◌-◌, ◌*◌, ◌/◌, ◌≤◌, ◌<◌, ◌^◌, pos, min, List, take, drop, map, length, Option, Some, None}
 use Rattle.std.specs.List.{range_with_len}
 use Rattle.std.specs.Option.{option_map}
-use Rattle.ff_values.specs.declared.packet.Pkt.{Pkt}
+use Rattle.ff_frame.specs.declared.packet.Pkt.{Pkt}
 use Rattle.ff_time.specs.Fraction.{Fraction}
-use Rattle.ff_values.specs.Codecs.{IsPcmCodec, sample_bytes}
-use Rattle.ff_values.specs.Packet.{packet_at as packet_from}
-use Rattle.ff_values.specs.declared.head.Codec.{Codec}
-use Rattle.ff_values.specs.declared.head.StreamHead.{StreamHead}
-use Rattle.ff_values.specs.declared.head.StreamHead.TheVariants.{Audio, Video}
+use Rattle.ff_frame.specs.Codecs.{IsPcmCodec, sample_bytes}
+use Rattle.ff_frame.specs.Packet.{packet_at as packet_from}
+use Rattle.ff_frame.specs.declared.head.Codec.{Codec}
+use Rattle.ff_frame.specs.declared.head.StreamHead.{StreamHead}
+use Rattle.ff_frame.specs.declared.head.StreamHead.TheVariants.{Audio, Video}
 use Rattle.ff_wav.specs.declared.head.WavHead.{WavHead}
 
 -- the bytes of one sample frame

@@ -1,9 +1,9 @@
 -- Heads of sound and of linear PCM: each is one in one way at most.
 use Rattle.std.specs.Coded.{Unit-prop}
-use Rattle.ff_values.specs.declared.head.StreamHead.{StreamHead}
-use Rattle.ff_values.specs.declared.head.StreamHead.TheVariants.{Audio, Video}
-use Rattle.ff_values.specs.PcmLaws.{IsPcmCodec-prop}
-use Rattle.ff_values.specs.Heads.{IsSoundHead, IsPcmCoded}
+use Rattle.ff_frame.specs.declared.head.StreamHead.{StreamHead}
+use Rattle.ff_frame.specs.declared.head.StreamHead.TheVariants.{Audio, Video}
+use Rattle.ff_frame.specs.PcmLaws.{IsPcmCodec-prop}
+use Rattle.ff_frame.specs.Heads.{IsSoundHead, IsPcmCoded}
 
 pub IsSoundHead-prop : (head : StreamHead) → IsProp (IsSoundHead head)
 IsSoundHead-prop (Audio base rate bits channels codec) = Unit-prop

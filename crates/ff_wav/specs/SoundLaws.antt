@@ -3,14 +3,14 @@ use Rattle.std.proofs.Common.{◌≡◌, ℕ, ◌+◌, ◌<◌, ◌≤◌, ◌*�
 use Rattle.std.specs.Prelude.{◌==◌, ◌&&◌, ◌||◌, not, nat_le, nat_lt, codes, IfSome}
 use Rattle.std.specs.Str.{bytes_eq}
 use Rattle.std.proofs.lemmas.Bool.Decides.{nat_tests}
-use Rattle.ff_values.specs.declared.head.StreamHead.{StreamHead}
-use Rattle.ff_values.specs.Codecs.{IsPcmCodec, sample_bytes}
-use Rattle.ff_values.specs.declared.head.Codec.TheVariants.{PcmU8, PcmS16le, PcmS24le, PcmS32le}
-use Rattle.ff_cut.specs.declared.fault.HeadFault.{HeadFault}
-use Rattle.ff_cut.specs.declared.fault.HeadFault.TheVariants.{Damaged, Unsupported}
-use Rattle.ff_cut.specs.declared.step.Step.TheVariants.{Wait, Decide}
+use Rattle.ff_frame.specs.declared.head.StreamHead.{StreamHead}
+use Rattle.ff_frame.specs.Codecs.{IsPcmCodec, sample_bytes}
+use Rattle.ff_frame.specs.declared.head.Codec.TheVariants.{PcmU8, PcmS16le, PcmS24le, PcmS32le}
+use Rattle.ff_reader.specs.declared.fault.HeadFault.{HeadFault}
+use Rattle.ff_reader.specs.declared.fault.HeadFault.TheVariants.{Damaged, Unsupported}
+use Rattle.ff_reader.specs.declared.step.Step.TheVariants.{Wait, Decide}
 use Rattle.ff_wav.specs.Chunks.{ChunkStep, passed, number_16, number_32, codec_of, stream_of, format_of, step_of, fields, tagged, format_chunk, data_chunk, chunk}
-use Rattle.ff_cut.specs.Walks.{head_limit, IsKept, Keeps}
+use Rattle.ff_reader.specs.Walks.{head_limit, IsKept, Keeps}
 use Rattle.ff_wav.specs.Packets.{IsHead, IsStream}
 
 GoodResult : Result StreamHead HeadFault → Type 0

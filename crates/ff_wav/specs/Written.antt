@@ -1,6 +1,6 @@
 -- A whole file as a writer leaves it, and what is read of it.
 use Rattle.std.specs.Prelude.{◌≡◌, ℕ, ◌%◌, ◌==◌, ◌^◌, ◌<◌, ◌≤◌, if◌then◌else◌, List, [], ◌∷◌, ◌++◌, drop, length, Ok}
-use Rattle.ff_values.specs.declared.head.StreamHead.{StreamHead}
+use Rattle.ff_frame.specs.declared.head.StreamHead.{StreamHead}
 use Rattle.ff_wav.specs.declared.head.WavHead.{WavHead}
 use Rattle.ff_wav.specs.Chunks.{body_len}
 use Rattle.ff_wav.specs.Heads.{head as head_read}

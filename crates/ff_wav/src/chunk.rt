@@ -1,13 +1,13 @@
 ghost use Rattle.std.specs.Prelude.{◌≡◌, ◌+◌, ◌≤◌, ◌<◌, ◌*◌, ◌^◌, ℕ, Option, length, take, Ok};
 ghost use Rattle.std.specs.Str.{bytes_eq};
-ghost use Rattle.ff_values.specs.declared.head.StreamHead.{StreamHead};
-ghost use Rattle.ff_cut.specs.declared.step.Step.TheVariants.{Skip};
+ghost use Rattle.ff_frame.specs.declared.head.StreamHead.{StreamHead};
+ghost use Rattle.ff_reader.specs.declared.step.Step.TheVariants.{Skip};
 ghost use Rattle.ff_wav.specs.Chunks.{number_16, number_32, format_of, codec_of, stream_of, passed, step_of, fields, tagged, format_chunk, data_chunk, chunk, body_len};
 
 use crate::head::{ChunkStep, WavHead};
-use ff_cut::{HeadFault, Step};
+use ff_frame::{Codec, StreamHead};
+use ff_reader::{HeadFault, Step};
 use ff_time::{Rational, TimeError};
-use ff_values::{Codec, StreamHead};
 
 fn at_16(bytes: &[u8], place: usize) -> u16
     requires { place + 2 ≤ length bytes.now }

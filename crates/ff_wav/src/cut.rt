@@ -1,15 +1,15 @@
 ghost use Rattle.std.specs.Prelude.{◌≡◌, ◌+◌, ◌-◌, ◌*◌, ◌/◌, ◌^◌, ◌≤◌, ◌<◌, ◌⊎◌, ◌↔◌, ℕ, List, [], ◌++◌, Option, Some, None, true, false, min, length, take, drop, IfOk, OnOk, OnErr, IsOk, IsTrue, slice_get, pos};
 ghost use Rattle.std.specs.Option.{option_map};
-ghost use Rattle.ff_values.specs.declared.packet.Pkt.{Pkt};
-ghost use Rattle.ff_cut.specs.Cutters.{Feeds, KeepsCut, GivesPacket, GaveAll, SameElsewhere};
+ghost use Rattle.ff_frame.specs.declared.packet.Pkt.{Pkt};
+ghost use Rattle.ff_reader.specs.Cutters.{Feeds, KeepsCut, GivesPacket, GaveAll, SameElsewhere};
 ghost use Rattle.ff_wav.specs.declared.head.WavHead.{WavHead};
 ghost use Rattle.ff_wav.specs.Packets.{block_of, whole_len, body, packet_count, demuxed, IsHead, IsStream};
-ghost use Rattle.ff_values.specs.Codecs.{IsPcmCodec, sample_bytes};
-ghost use Rattle.ff_values.specs.Packet.{packet_at as packet_from};
+ghost use Rattle.ff_frame.specs.Codecs.{IsPcmCodec, sample_bytes};
+ghost use Rattle.ff_frame.specs.Packet.{packet_at as packet_from};
 
 use crate::head::WavHead;
-use ff_cut::{Held, PacketCut};
-use ff_values::{Bytes, Codec, Cut, Pkt, StreamHead};
+use ff_frame::{Bytes, Codec, Cut, Pkt, StreamHead};
+use ff_reader::{Held, PacketCut};
 use std::alloc::{AllocError, Global};
 
 /// The packets of a WAV's body, from pieces of any size.

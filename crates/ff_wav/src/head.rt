@@ -1,5 +1,5 @@
-use ff_cut::Step;
-use ff_values::StreamHead;
+use ff_frame::StreamHead;
+use ff_reader::Step;
 
 /// The head of a WAV: what comes before the bytes of its samples (RIFF WAVE).
 #[derive(Clone, Copy, PartialEq, Eq, Debug)]

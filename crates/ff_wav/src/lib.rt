@@ -15,7 +15,6 @@ mod put;
 mod walk;
 
 pub use cut::WavCut;
-pub use ff_cut::HeadFault;
 pub use head::WavHead;
 pub use laws::what_is_written_is_read_again;
 pub use put::{TooLarge, WavPut};

@@ -1,9 +1,9 @@
 ghost use Rattle.std.specs.Prelude.{◌≡◌, ◌+◌, ◌%◌, ◌<◌, ◌≤◌, ◌↔◌, IsErr, IsTrue, IfOk, OnOk, OnErr};
-ghost use Rattle.ff_values.specs.Heads.{IsPcmCoded};
+ghost use Rattle.ff_frame.specs.Heads.{IsPcmCoded};
 ghost use Rattle.ff_wav.specs.Sound.{IsPcmCoded-prop};
 
 use crate::header::{header_bytes, len_of_header};
-use ff_values::StreamHead;
+use ff_frame::StreamHead;
 use std::alloc::{AllocError, Global};
 
 /// The body would be longer than a WAV holds.

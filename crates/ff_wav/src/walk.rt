@@ -6,8 +6,8 @@ ghost use Rattle.ff_wav.specs.SoundLaws.{is_kept};
 
 use crate::chunk::chunk_at;
 use crate::head::{ChunkStep, WavHead};
-use ff_cut::{HeadFormat, HeadWalk};
-use ff_values::{HeadEnd, StreamHead};
+use ff_frame::{HeadEnd, StreamHead};
+use ff_reader::{HeadFormat, HeadWalk};
 
 /// What an input begins with: `RIFF`, four bytes that aren't compared, and `WAVE`.
 const MAGIC: [Option<u8>; 12] = [
@@ -78,5 +78,5 @@ pub fn read_head(bytes: &[u8], whole: bool) -> Result<WavHead, HeadEnd>
     ensures stays { (result ≡ Err HeadEnd.NotYet → ⊥) → whole ≡ false
         → (more : List ℕ) → head (bytes.now ++ more) ≡ head bytes.now }
 {
-    ff_cut::read_head::<Wav>(bytes, whole)
+    ff_reader::read_head::<Wav>(bytes, whole)
 }

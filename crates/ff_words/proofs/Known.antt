@@ -8,10 +8,10 @@ use Rattle.ff_lang.specs.declared.graph.Graph.{Graph}
 use Rattle.ff_lang.proofs.Prints.{printed_is}
 use Rattle.ff_lang.specs.Printing.{printed}
 use Rattle.ff_map.specs.declared.map.MapSpec.{MapSpec}
-use Rattle.ff_values.specs.declared.head.Codec.{Codec}
-use Rattle.ff_values.specs.declared.head.Codec.TheVariants as codec
-use Rattle.ff_values.specs.declared.hash.HashKind.{HashKind}
-use Rattle.ff_values.specs.declared.hash.HashKind.TheVariants.{Sha256, Md5}
+use Rattle.ff_frame.specs.declared.head.Codec.{Codec}
+use Rattle.ff_frame.specs.declared.head.Codec.TheVariants as codec
+use Rattle.ff_frame.specs.declared.hash.HashKind.{HashKind}
+use Rattle.ff_frame.specs.declared.hash.HashKind.TheVariants.{Sha256, Md5}
 use Rattle.ff_words.specs.declared.job.FileFormat.{FileFormat}
 use Rattle.ff_words.specs.declared.job.FileFormat.TheVariants as format
 use Rattle.ff_words.specs.declared.table.Concern.{Concern}

@@ -16,7 +16,7 @@ use Rattle.ff_words.specs.declared.error.Fault.{Fault}
 use Rattle.ff_words.specs.declared.error.WordError.{WordError}
 use Rattle.ff_words.specs.declared.error.WordError.TheVariants.{At, NoMemory}
 use Rattle.ff_words.specs.declared.error.WordKind.TheVariants.{TooMany, BadValue}
-use Rattle.ff_values.specs.declared.hash.HashKind.TheVariants.{Sha256}
+use Rattle.ff_frame.specs.declared.hash.HashKind.TheVariants.{Sha256}
 use Rattle.ff_words.specs.Table.{option_named}
 use Rattle.ff_words.specs.Values.{switched}
 use Rattle.ff_words.specs.declared.table.Rule.{Rule}

@@ -3,7 +3,7 @@ use Rattle.std.specs.Prelude.{ℕ, Bool, true, false, ◌&&◌, Option, Some, No
 use Rattle.std.specs.List.{ends_with}
 use Rattle.std.specs.Borrow.{Bor}
 use Rattle.std.specs.Str.{bytes_eq}
-use Rattle.ff_values.specs.declared.head.Codec.{Codec}
+use Rattle.ff_frame.specs.declared.head.Codec.{Codec}
 use Rattle.ff_words.specs.declared.job.FileFormat.{FileFormat}
 use Rattle.ff_words.specs.declared.table.Concern.{Concern}
 use Rattle.ff_words.specs.declared.table.Kind.{Kind}

@@ -7,14 +7,14 @@ use Rattle.std.proofs.Common.{lit≤, ap, subst}
 use Rattle.std.specs.List.{list_any}
 use Rattle.std.specs.Str.{bytes_eq}
 use Rattle.std.specs.declared.alloc.Global.{Global}
-use Rattle.ff_values.specs.declared.head.Codec.{Codec}
+use Rattle.ff_frame.specs.declared.head.Codec.{Codec}
 use Rattle.ff_lang.specs.declared.graph.Graph.{Graph}
 use Rattle.ff_map.specs.declared.map.MapSpec.{MapSpec}
 use Rattle.ff_words.specs.declared.error.Fault.{Fault}
 use Rattle.ff_words.specs.declared.error.WordKind.{WordKind}
 use Rattle.ff_words.specs.declared.error.WordKind.TheVariants.{UnknownOption, MissingValue, BadValue, Misplaced, TooMany, NoInput, NoOutput, SameName}
-use Rattle.ff_values.specs.declared.hash.HashKind.{HashKind}
-use Rattle.ff_values.specs.declared.hash.HashKind.TheVariants.{Sha256}
+use Rattle.ff_frame.specs.declared.hash.HashKind.{HashKind}
+use Rattle.ff_frame.specs.declared.hash.HashKind.TheVariants.{Sha256}
 use Rattle.ff_words.specs.declared.job.FileFormat.{FileFormat}
 use Rattle.ff_words.specs.declared.job.FileFormat.TheVariants.{FrameHash}
 use Rattle.ff_words.specs.declared.job.InputJob.{InputJob}

@@ -1,7 +1,7 @@
+use ff_frame::{Codec, HashKind};
 use ff_lang::{Graph, Sequence, Text};
 use ff_map::MapSpec;
 use ff_time::TimeCut;
-use ff_values::{Codec, HashKind};
 
 /// A format of files.
 #[derive(Clone, Copy, Debug, PartialEq, Eq)]

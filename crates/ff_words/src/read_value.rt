@@ -8,10 +8,10 @@ use crate::error::WordKind;
 use crate::job::Solo;
 use crate::table::{Kind, audio_codec, format_of, is_level, video_codec};
 use crate::value::{Micros, Value};
+use ff_frame::HashKind;
 use ff_lang::{Graph, LangError, Text, read_graph};
 use ff_map::{MapError, MapSpec, read_map};
 use ff_time::{TimeError, read_duration};
-use ff_values::HashKind;
 use std::alloc::{AllocError, Global};
 
 // A graph, or where it leaves the language.

@@ -18,9 +18,9 @@ use crate::job::{Command, FileFormat, InputJob, Job, OutputJob, Solo};
 use crate::read_value::{read_value, text_of};
 use crate::table::{Concern, Kind, Rule, find_option, format_ending};
 use crate::value::{Micros, Value};
+use ff_frame::{Codec, HashKind};
 use ff_lang::{Graph, Sequence, Text};
 use ff_map::MapSpec;
-use ff_values::{Codec, HashKind};
 use std::alloc::{AllocError, Global};
 use std::mem;
 

@@ -6,7 +6,7 @@ ghost use Rattle.ff_words.specs.Table.{format_named, ending_in, format_ending as
 ghost use Rattle.ff_words.specs.Table.{video_codec as video_codec_named, level_in, is_level as level_named};
 
 use crate::job::FileFormat;
-use ff_values::Codec;
+use ff_frame::Codec;
 
 /// Whom an option concerns.
 #[derive(Clone, Copy, Debug, PartialEq, Eq)]

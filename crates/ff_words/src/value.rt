@@ -1,9 +1,9 @@
 ghost use Rattle.std.specs.Prelude.{◌≤◌, ◌^◌};
 
 use crate::job::{FileFormat, Solo};
+use ff_frame::{Codec, HashKind};
 use ff_lang::{Graph, Text};
 use ff_map::MapSpec;
-use ff_values::{Codec, HashKind};
 
 /// Microseconds of a cut.
 #[derive(Clone, Copy, Debug)]

@@ -2,13 +2,13 @@
 use Rattle.std.proofs.Common.{◌≡◌, ◌≢◌, ℕ, zero, suc, ◌+◌, ◌-◌, ◌≤◌, ◌⊎◌, inl, inr, Bool, true, List, [], ◌∷◌, ◌++◌, take, drop, length, Some, None, refl, sym, ap, ◌∙◌, subst, arith, length-append, append_assoc, append-nil}
 use Rattle.std.specs.Prelude.{slice_get, pos, Result, Ok, Err, OnOk}
 use Rattle.std.proofs.lemmas.List.{length-drop, drop-drop, take-append-le}
-use Rattle.ff_values.specs.Packet.{packet_at}
-use Rattle.ff_values.specs.declared.packet.Pkt.{Pkt}
+use Rattle.ff_frame.specs.Packet.{packet_at}
+use Rattle.ff_frame.specs.declared.packet.Pkt.{Pkt}
 use Rattle.ff_y4m.specs.declared.head.Y4mHead.{Y4mHead}
 use Rattle.ff_y4m.specs.declared.cut.Y4mCut.{Y4mCut}
 use Rattle.ff_y4m.specs.declared.frame.Front.TheVariants.{Wait, Other, Frame}
 use Rattle.ff_y4m.specs.Packets.{unit, packet_in, packets_from, broken_from, demuxed, broken_at}
-use Rattle.ff_cut.specs.Cutters.{IsRest}
+use Rattle.ff_reader.specs.Cutters.{IsRest}
 use Rattle.ff_y4m.specs.Cuts.{Goes, Cuts}
 use Rattle.ff_y4m.proofs.UnitLaws.{frame_at, frame-append, other-append, other_some, packets_frame, broken_frame, packets_none, broken_here}
 

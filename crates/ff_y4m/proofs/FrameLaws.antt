@@ -2,7 +2,7 @@
 use Rattle.std.proofs.Common.{◌≡◌, ℕ, zero, suc, ◌+◌, ◌≤◌, List, [], ◌∷◌, ◌++◌, drop, length, None, refl, sym, ap, ◌∙◌, arith, length-append, lit<}
 use Rattle.std.specs.Prelude.{All}
 use Rattle.std.proofs.lemmas.List.{drop-drop, drop_all, take_all, take-append-le}
-use Rattle.ff_values.specs.declared.packet.Pkt.{Pkt}
+use Rattle.ff_frame.specs.declared.packet.Pkt.{Pkt}
 use Rattle.ff_y4m.specs.declared.frame.Front.TheVariants.{Frame}
 use Rattle.ff_y4m.specs.Packets.{unit, packet_in, packets_from, broken_from}
 use Rattle.ff_y4m.specs.Header.{frame_line, frames, planes_of}

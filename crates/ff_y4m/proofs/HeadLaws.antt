@@ -5,8 +5,8 @@ use Rattle.std.specs.Option.{option_map}
 use Rattle.std.proofs.lemmas.List.{take-append-le}
 use Rattle.std.proofs.lemmas.List.Elements.{All-nil, All-cons, All-drop}
 use Rattle.std.proofs.lemmas.Bool.Decides.{nat_tests}
-use Rattle.ff_cut.proofs.AnswerLaws.{head_none, head_some, early_long, early_short}
-use Rattle.ff_cut.specs.declared.fault.HeadFault.TheVariants.{Damaged, Unsupported}
+use Rattle.ff_reader.proofs.AnswerLaws.{head_none, head_some, early_long, early_short}
+use Rattle.ff_reader.specs.declared.fault.HeadFault.TheVariants.{Damaged, Unsupported}
 use Rattle.ff_y4m.specs.Lines.{begins, line_end, longest_line}
 use Rattle.ff_y4m.specs.Heads.{Found, magic, line_head, found_at, reading, early, head, IsOpen}
 use Rattle.ff_y4m.proofs.LineLaws.{bool_cases, option_cases, begins-append, begins_long, NoFeed, line_longer, line_end-append, line_end_some}

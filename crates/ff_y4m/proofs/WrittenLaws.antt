@@ -5,13 +5,13 @@ use Rattle.std.specs.Int.{IsGcd, ◌∣◌}
 use Rattle.std.proofs.lemmas.Bool.Decides.{nat_tests}
 use Rattle.std.proofs.Math.Nat.{one-dvd}
 use Rattle.ff_time.specs.Fraction.{Fraction, IsBase, IsReduced}
-use Rattle.ff_values.specs.Video.{IsSide}
-use Rattle.ff_values.specs.declared.video.Format.{Format}
-use Rattle.ff_values.specs.declared.video.Format.TheVariants.{C420, C422, C444, Mono}
-use Rattle.ff_values.specs.declared.head.StreamHead.{StreamHead}
-use Rattle.ff_values.specs.declared.head.StreamHead.TheVariants.{Audio, Video}
-use Rattle.ff_cut.specs.declared.fault.HeadFault.{HeadFault}
-use Rattle.ff_cut.specs.declared.fault.HeadFault.TheVariants.{Damaged, Unsupported}
+use Rattle.ff_frame.specs.Video.{IsSide}
+use Rattle.ff_frame.specs.declared.video.Format.{Format}
+use Rattle.ff_frame.specs.declared.video.Format.TheVariants.{C420, C422, C444, Mono}
+use Rattle.ff_frame.specs.declared.head.StreamHead.{StreamHead}
+use Rattle.ff_frame.specs.declared.head.StreamHead.TheVariants.{Audio, Video}
+use Rattle.ff_reader.specs.declared.fault.HeadFault.{HeadFault}
+use Rattle.ff_reader.specs.declared.fault.HeadFault.TheVariants.{Damaged, Unsupported}
 use Rattle.ff_y4m.specs.declared.parameters.Parameters.{Parameters}
 use Rattle.ff_y4m.specs.Lines.{line_end, longest_line}
 use Rattle.ff_y4m.specs.Numbers.{base_of}
@@ -20,7 +20,7 @@ use Rattle.ff_y4m.specs.Heads.{magic, parameters, finished, line_head, found_at,
 use Rattle.ff_y4m.specs.Header.{format_name, sides, ratio, header, frames, planes_of}
 use Rattle.ff_y4m.specs.Packets.{packets_from, broken_from}
 use Rattle.ff_y4m.specs.Written.{IsPictures, aspect_again, head_again, planes_size, says, HeadersAreRead, FilesAreRead, FramesAreRead}
-use Rattle.ff_cut.proofs.AnswerLaws.{head_some}
+use Rattle.ff_reader.proofs.AnswerLaws.{head_some}
 use Rattle.ff_y4m.proofs.NumberLaws.{base_ok}
 use Rattle.ff_y4m.proofs.HeadLaws.{reading_at}
 use Rattle.ff_y4m.proofs.FrameLaws.{read_frames}

@@ -1,7 +1,7 @@
 -- A cut does not keep what it was fed and gave: it is tied to it.
 use Rattle.std.specs.Prelude.{◌≡◌, ℕ, ◌+◌, ◌^◌, ◌≤◌, Bool, List, ◌++◌, drop, length}
-use Rattle.ff_cut.specs.Cutters.{Cutter}
-use Rattle.ff_values.specs.declared.packet.Pkt.{Pkt}
+use Rattle.ff_reader.specs.Cutters.{Cutter}
+use Rattle.ff_frame.specs.declared.packet.Pkt.{Pkt}
 use Rattle.ff_y4m.specs.declared.head.Y4mHead.{Y4mHead}
 use Rattle.ff_y4m.specs.declared.cut.Y4mCut.{Y4mCut}
 use Rattle.ff_y4m.specs.Packets.{packets_from, broken_from, demuxed, broken_at, IsHead}

@@ -2,13 +2,13 @@
 use Rattle.std.specs.Prelude.{ℕ, zero, suc, ◌+◌, ◌==◌, nat_lt, not, Bool, if◌then◌else◌, List, [], ◌∷◌, codes, take, drop, length, Option, Some, None, unwrap_or, Result, Ok, Err}
 use Rattle.std.specs.Option.{option_map}
 use Rattle.ff_time.specs.Fraction.{Fraction}
-use Rattle.ff_values.specs.Video.{frame_size}
-use Rattle.ff_values.specs.declared.head.StreamHead.TheVariants.{Video}
-use Rattle.ff_values.specs.declared.cut.HeadEnd.{HeadEnd}
-use Rattle.ff_cut.specs.Heads as heads
+use Rattle.ff_frame.specs.Video.{frame_size}
+use Rattle.ff_frame.specs.declared.head.StreamHead.TheVariants.{Video}
+use Rattle.ff_frame.specs.declared.cut.HeadEnd.{HeadEnd}
+use Rattle.ff_reader.specs.Heads as heads
 use Rattle.ff_y4m.specs.declared.head.Y4mHead.{Y4mHead}
-use Rattle.ff_cut.specs.declared.fault.HeadFault.{HeadFault}
-use Rattle.ff_cut.specs.declared.fault.HeadFault.TheVariants.{Damaged, Unsupported}
+use Rattle.ff_reader.specs.declared.fault.HeadFault.{HeadFault}
+use Rattle.ff_reader.specs.declared.fault.HeadFault.TheVariants.{Damaged, Unsupported}
 use Rattle.ff_y4m.specs.declared.parameters.Parameters.{Parameters}
 use Rattle.ff_y4m.specs.Lines.{begins, line_end, longest_line}
 use Rattle.ff_y4m.specs.Numbers.{first_place}

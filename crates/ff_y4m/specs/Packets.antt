@@ -1,12 +1,12 @@
 -- The frames behind the head: each a line, `FRAME` and perhaps parameters, and the planes (yuv4mpeg(5), "Frame Format").
 use Rattle.std.specs.Prelude.{◌≡◌, ℕ, zero, suc, ◌+◌, ◌≤◌, nat_lt, not, if◌then◌else◌, pos, List, [], ◌∷◌, codes, take, drop, length, Option, Some, None}
 use Rattle.ff_time.specs.Fraction.{IsBase}
-use Rattle.ff_values.specs.Heads.{base_of_head}
-use Rattle.ff_values.specs.Packet.{packet_at}
-use Rattle.ff_values.specs.Video.{frame_size, IsSide}
-use Rattle.ff_values.specs.declared.packet.Pkt.{Pkt}
-use Rattle.ff_values.specs.declared.head.StreamHead.{StreamHead}
-use Rattle.ff_values.specs.declared.head.StreamHead.TheVariants.{Audio, Video}
+use Rattle.ff_frame.specs.Heads.{base_of_head}
+use Rattle.ff_frame.specs.Packet.{packet_at}
+use Rattle.ff_frame.specs.Video.{frame_size, IsSide}
+use Rattle.ff_frame.specs.declared.packet.Pkt.{Pkt}
+use Rattle.ff_frame.specs.declared.head.StreamHead.{StreamHead}
+use Rattle.ff_frame.specs.declared.head.StreamHead.TheVariants.{Audio, Video}
 use Rattle.ff_y4m.specs.declared.head.Y4mHead.{Y4mHead}
 use Rattle.ff_y4m.specs.declared.frame.Front.{Front}
 use Rattle.ff_y4m.specs.declared.frame.Front.TheVariants.{Wait, Other, Frame}

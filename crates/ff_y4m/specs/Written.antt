@@ -1,10 +1,10 @@
 -- What is read of a file that was written (yuv4mpeg(5)).
 use Rattle.std.specs.Prelude.{◌≡◌, ℕ, ◌^◌, ◌<◌, ◌==◌, ◌||◌, if◌then◌else◌, List, ◌++◌, drop, length, None, Ok, All}
 use Rattle.ff_time.specs.Fraction.{IsBase}
-use Rattle.ff_values.specs.Video.{frame_size, IsSide}
-use Rattle.ff_values.specs.declared.packet.Pkt.{Pkt}
-use Rattle.ff_values.specs.declared.head.StreamHead.{StreamHead}
-use Rattle.ff_values.specs.declared.head.StreamHead.TheVariants.{Audio, Video}
+use Rattle.ff_frame.specs.Video.{frame_size, IsSide}
+use Rattle.ff_frame.specs.declared.packet.Pkt.{Pkt}
+use Rattle.ff_frame.specs.declared.head.StreamHead.{StreamHead}
+use Rattle.ff_frame.specs.declared.head.StreamHead.TheVariants.{Audio, Video}
 use Rattle.ff_y4m.specs.declared.head.Y4mHead.{Y4mHead}
 use Rattle.ff_y4m.specs.Packets.{demuxed, broken_at}
 use Rattle.ff_y4m.specs.Header.{header, written, planes_of}

@@ -1,15 +1,15 @@
 ghost use Rattle.std.specs.Prelude.{◌≡◌, ◌≢◌, ◌+◌, ◌-◌, ◌^◌, ◌≤◌, ◌<◌, ◌⊎◌, ◌↔◌, ℕ, List, [], ◌++◌, Some, None, true, false, length, take, drop, IfOk, OnOk, OnErr, IsOk, slice_get, pos};
-ghost use Rattle.ff_values.specs.Packet.{packet_at};
-ghost use Rattle.ff_values.specs.declared.packet.Pkt.{Pkt};
-ghost use Rattle.ff_cut.specs.Cutters.{GaveAll};
+ghost use Rattle.ff_frame.specs.Packet.{packet_at};
+ghost use Rattle.ff_frame.specs.declared.packet.Pkt.{Pkt};
+ghost use Rattle.ff_reader.specs.Cutters.{GaveAll};
 ghost use Rattle.ff_y4m.specs.declared.head.Y4mHead.{Y4mHead};
 ghost use Rattle.ff_y4m.specs.declared.frame.Front.TheVariants.{Wait, Other};
 ghost use Rattle.ff_y4m.specs.Packets.{unit, packet_in, demuxed, broken_at, IsHead};
 
 use crate::frame::{Front, front_of};
 use crate::head::Y4mHead;
-use ff_cut::{Held, PacketCut};
-use ff_values::{Bytes, Cut, Pkt, StreamHead};
+use ff_frame::{Bytes, Cut, Pkt, StreamHead};
+use ff_reader::{Held, PacketCut};
 use std::alloc::{AllocError, Global};
 
 /// The packets of a YUV4MPEG2 input, from pieces of any size.

@@ -1,4 +1,4 @@
-use ff_values::StreamHead;
+use ff_frame::StreamHead;
 
 /// The head of a YUV4MPEG2 input: its first line (yuv4mpeg(5), "Stream Header").
 #[derive(Clone, Copy, PartialEq, Eq, Debug)]

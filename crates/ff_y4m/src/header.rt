@@ -2,7 +2,7 @@
 ghost use Rattle.std.specs.Prelude.{◌≡◌, ◌++◌, IfOk, OnOk, string_bytes};
 ghost use Rattle.ff_y4m.specs.Header.{IsVideoHead, format_name, sides, ratio, header};
 
-use ff_values::{Format, StreamHead};
+use ff_frame::{Format, StreamHead};
 use std::alloc::{AllocError, Global};
 
 fn name_of_format(format: Format) -> &'static str

@@ -1,6 +1,6 @@
 // What follows of the definitions alone.
 ghost use Rattle.std.specs.Prelude.{◌≡◌, ℕ, List, None, All, length};
-ghost use Rattle.ff_values.specs.declared.packet.Pkt.{Pkt};
+ghost use Rattle.ff_frame.specs.declared.packet.Pkt.{Pkt};
 ghost use Rattle.ff_time.specs.Fraction.{Fraction};
 ghost use Rattle.ff_y4m.specs.Header.{frames, planes_of};
 ghost use Rattle.ff_y4m.specs.Numbers.{IsBaseOf};

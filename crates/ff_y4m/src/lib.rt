@@ -18,7 +18,6 @@ mod parameters;
 mod read;
 
 pub use cut::Y4mCut;
-pub use ff_cut::HeadFault;
 pub use head::Y4mHead;
 pub use header::y4m_header;
 pub use laws::{

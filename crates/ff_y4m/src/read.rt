@@ -3,14 +3,14 @@ ghost use Rattle.std.specs.Prelude.{◌≡◌, ◌<◌, ◌≤◌, ◌↔◌, Li
 ghost use Rattle.ff_y4m.specs.Packets.{IsHead};
 ghost use Rattle.ff_y4m.specs.Parameters.{no_parameters, AreSane};
 ghost use Rattle.ff_y4m.specs.Heads.{word_len, parameters, complete, line_head, reading, head, answered, IsOpen};
-ghost use Rattle.ff_cut.specs.declared.fault.HeadFault.{HeadFault};
+ghost use Rattle.ff_reader.specs.declared.fault.HeadFault.{HeadFault};
 
 use crate::head::Y4mHead;
 use crate::line::{LONGEST_LINE, begins, line_end};
 use crate::number::{from_place, front, place_of};
 use crate::parameters::{Parameters, with_parameter};
-use ff_cut::{HeadFault, answer_to};
-use ff_values::{Format, HeadEnd, StreamHead};
+use ff_frame::{Format, HeadEnd, StreamHead};
+use ff_reader::{HeadFault, answer_to};
 
 /// What an input begins with.
 const MAGIC: &[u8] = b"YUV4MPEG2";

@@ -1,14 +1,16 @@
 //! The program: it hands its words, the machine's files and standard output to the command, and ends with the number
-//! of the status. The command itself is `ff_run::ffmpeg`, the files are those of `ff_file_host`.
+//! of the status. The command itself is `ff_run::ffmpeg`, the files are those of `ff_host_file`.
 #![tactic(auto)]
 
 mod words;
 
 ghost use Rattle.std.specs.Prelude.{◌≢◌};
 
-use ff_file_host::{FileHost, LogSink};
+use ff_command::{Status, fault_line, status_number};
 use ff_host::Sink;
-use ff_run::{Status, WordKind, fault_line, ffmpeg, status_number};
+use ff_host_file::{FileHost, LogSink};
+use ff_run::ffmpeg;
+use ff_words::WordKind;
 use std::alloc::Global;
 use std::io;
 use std::io::IsTerminal;

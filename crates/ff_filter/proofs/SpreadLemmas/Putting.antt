@@ -1,15 +1,15 @@
 -- An item is put on each output.
 use Rattle.std.proofs.Common.{◌≡◌, ◌≢◌, ℕ, zero, suc, ◌+◌, ◌<◌, ◌≤◌, ◌⊎◌, inl, inr, Bool, true, false, Result, Ok, Err, OnOk, List, [], ◌∷◌, ◌++◌, length, slice_index_or, slice_set, replicate, refl, ap, sym, ◌∙◌, subst, arith}
 use Rattle.std.proofs.lemmas.List.{length-set}
-use Rattle.ff_frame.specs.declared.item.Item.{Item}
-use Rattle.ff_frame.specs.Ports.{nothing}
+use Rattle.ff_stream.specs.declared.item.Item.{Item}
+use Rattle.ff_stream.specs.Ports.{nothing}
 use Rattle.ff_filter.specs.declared.after.After.{After}
 use Rattle.ff_filter.specs.declared.outlet.Outlet.{Outlet}
 use Rattle.ff_filter.specs.Joins.{Flow, before}
 use Rattle.ff_filter.specs.Views.{closes}
 use Rattle.ff_filter.specs.Made.{left}
-use Rattle.ff_spread.specs.Lines.{Line, fresh, line_of, lines, is_done, IsFront, IsPut, Took, HasAll}
-use Rattle.ff_spread.specs.LineLaws.{lines_set, lines_other, lines_read}
+use Rattle.ff_filter.specs.spread.Lines.{Line, fresh, line_of, lines, is_done, IsFront, IsPut, Took, HasAll}
+use Rattle.ff_filter.specs.spread.LineLaws.{lines_set, lines_other, lines_read}
 
 pub same_or_not : (p q : ℕ) → (p ≡ q) ⊎ (p ≢ q)
 same_or_not zero zero = inl refl

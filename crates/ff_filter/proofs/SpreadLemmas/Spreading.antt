@@ -1,21 +1,21 @@
 -- What each move of a machine that spreads does.
 use Rattle.std.specs.Prelude.{◌↔◌}
 use Rattle.std.proofs.Common.{◌≡◌, ◌≢◌, ℕ, zero, suc, ◌<◌, ◌≤◌, ◌⊎◌, inl, inr, nat_lt, Bool, true, false, cond, IsTrue, Result, Ok, Err, OnOk, Some, List, ◌∷◌, length, map, refl, ap, sym, ◌∙◌, subst, arith}
-use Rattle.ff_frame.specs.declared.item.Item.{Item}
-use Rattle.ff_frame.specs.declared.item.Item.TheVariants.{Audio, Video, Packet, Trailer, End, Broken}
-use Rattle.ff_frame.specs.declared.item.Lane.{Lane}
-use Rattle.ff_frame.specs.Stream.{Mark, map_stream}
-use Rattle.ff_frame.specs.Ports.{nothing}
+use Rattle.ff_stream.specs.declared.item.Item.{Item}
+use Rattle.ff_stream.specs.declared.item.Item.TheVariants.{Audio, Video, Packet, Trailer, End, Broken}
+use Rattle.ff_stream.specs.declared.item.Lane.{Lane}
+use Rattle.ff_stream.specs.Stream.{Mark, map_stream}
+use Rattle.ff_stream.specs.Ports.{nothing}
 use Rattle.ff_filter.specs.declared.after.After.{After}
 use Rattle.ff_filter.specs.declared.after.After.TheVariants.{More, Whole, Broke}
 use Rattle.ff_filter.specs.declared.outlet.Outlet.{Outlet}
 use Rattle.ff_filter.specs.Joins.{Flow, before, before_all, before_all-last}
 use Rattle.ff_filter.specs.Views.{closes, Same, Fed, Gave, Waits, Stopped, IsSpent}
 use Rattle.ff_filter.specs.Made.{behind, is_over, closing, left}
-use Rattle.ff_spread.specs.Lines.{Line, fresh, lines, IsPut, Took, HasAll}
-use Rattle.ff_spread.specs.Spreads.{on_output, spread_view, spread_start, spread_spent}
-use Rattle.ff_spread.specs.SpreadLaws.{below_by, on_there, spread-exact}
-use Rattle.ff_spread.proofs.Putting.{same_or_not, lines_beyond}
+use Rattle.ff_filter.specs.spread.Lines.{Line, fresh, lines, IsPut, Took, HasAll}
+use Rattle.ff_filter.specs.spread.Spreads.{on_output, spread_view, spread_start, spread_spent}
+use Rattle.ff_filter.specs.spread.SpreadLaws.{below_by, on_there, spread-exact}
+use Rattle.ff_filter.proofs.SpreadLemmas.Putting.{same_or_not, lines_beyond}
 
 -- what is made of an item that closes nothing stands before what is made of the others
 map_before : (g : Item → Item) (x : Item) (t : Flow) → closes x ≡ false → closes (g x) ≡ false → map_stream g (before x t) ≡ before (g x) (map_stream g t)

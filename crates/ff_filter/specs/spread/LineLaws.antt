@@ -3,7 +3,7 @@ use Rattle.std.specs.Prelude.{◌≡◌, ◌≢◌, ℕ, zero, suc, ◌<◌, ◌
 use Rattle.std.proofs.Common.{inl, inr, ap, sym, ◌∙◌, arith}
 use Rattle.ff_filter.specs.declared.outlet.Outlet.{Outlet}
 use Rattle.ff_filter.specs.Views.{none_closes}
-use Rattle.ff_spread.specs.Lines.{fresh, line_of, lines, is_done, all_done}
+use Rattle.ff_filter.specs.spread.Lines.{fresh, line_of, lines, is_done, all_done}
 
 pub lines_set : (os : List Outlet) (p : ℕ) (o : Outlet) → p < length os → lines (slice_set os p o) p ≡ line_of o
 lines_set [] p o lt = absurd (omega arith)

@@ -1,7 +1,7 @@
 -- A filter of several outputs, as it is configured.
 use Rattle.std.specs.Prelude.{◌≡◌, List, Result, Ok}
-use Rattle.ff_values.specs.declared.config.ConfigError.{ConfigError}
-use Rattle.ff_values.specs.declared.head.StreamHead.{StreamHead}
+use Rattle.ff_frame.specs.declared.config.ConfigError.{ConfigError}
+use Rattle.ff_frame.specs.declared.head.StreamHead.{StreamHead}
 use Rattle.ff_filter.specs.Views.{View}
 
 -- a machine that is configured so and shown as its function before anything was fed, and the heads of its outputs

@@ -1,13 +1,13 @@
 -- The same stream on several outputs.
 use Rattle.std.specs.Prelude.{◌≡◌, ◌≤◌, ℕ, Bool, false, List, [], ◌∷◌, codes, replicate, Some, Result, Ok}
-use Rattle.ff_values.specs.declared.config.ConfigError.{ConfigError}
-use Rattle.ff_values.specs.declared.head.StreamHead.{StreamHead}
-use Rattle.ff_frame.specs.declared.item.Lane.TheVariants.{Frames}
+use Rattle.ff_frame.specs.declared.config.ConfigError.{ConfigError}
+use Rattle.ff_frame.specs.declared.head.StreamHead.{StreamHead}
+use Rattle.ff_stream.specs.declared.item.Lane.TheVariants.{Frames}
 use Rattle.ff_lang.specs.declared.graph.Arg.{Arg}
 use Rattle.ff_filter.specs.Views.{View}
 use Rattle.ff_filter.specs.Options.{Manual, number_of, IsConfigured}
-use Rattle.ff_spread.specs.declared.copies.SplitSettings.{SplitSettings}
-use Rattle.ff_spread.specs.Spreads.{on_output}
+use Rattle.ff_filter.specs.declared.spread.copies.SplitSettings.{SplitSettings}
+use Rattle.ff_filter.specs.spread.Spreads.{on_output}
 
 -- `outputs` is a whole number of 1 to 16
 pub record SetsOutputs (value : List ℕ) (t : SplitSettings) : Type 0 where

@@ -2,21 +2,21 @@
 use Rattle.std.specs.Prelude.{◌≡◌, ℕ, ◌<◌, ◌⊎◌, ◌↔◌, nat_lt, Bool, true, false, ◌||◌, ◌&&◌, cond, List, length, refl}
 use Rattle.std.proofs.Common.{inl, inr, ap, sym, ◌∙◌, subst, arith}
 use Rattle.std.proofs.lemmas.Bool.Decides.{nat_tests}
-use Rattle.ff_frame.specs.declared.item.Item.{Item}
-use Rattle.ff_frame.specs.declared.item.Lane.{Lane}
-use Rattle.ff_frame.specs.Stream.{LiesBelow, opened, map_stream}
-use Rattle.ff_frame.specs.Ports.{nothing, IsClosed}
-use Rattle.ff_frame.specs.Order.{below_self}
-use Rattle.ff_frame.specs.BreakLaws.{map_stream_monotone}
+use Rattle.ff_stream.specs.declared.item.Item.{Item}
+use Rattle.ff_stream.specs.declared.item.Lane.{Lane}
+use Rattle.ff_stream.specs.Stream.{LiesBelow, opened, map_stream}
+use Rattle.ff_stream.specs.Ports.{nothing, IsClosed}
+use Rattle.ff_stream.specs.Order.{below_self}
+use Rattle.ff_stream.specs.BreakLaws.{map_stream_monotone}
 use Rattle.ff_filter.specs.declared.after.After.{After}
 use Rattle.ff_filter.specs.declared.outlet.Outlet.{Outlet}
 use Rattle.ff_filter.specs.Joins.{Flow, Ports, Grows, HidesBreaks}
 use Rattle.ff_filter.specs.Views.{IsSpent, IsOver, AllDone, Settles}
 use Rattle.ff_filter.specs.Made.{left, is_over}
 use Rattle.ff_filter.specs.StepperLaws.{left_keeps, left_calm, left_closed, over_left, or_left, or_right, or_one}
-use Rattle.ff_spread.specs.Lines.{Line, lines, is_done, all_done}
-use Rattle.ff_spread.specs.LineLaws.{lines_open, done_at, all_of, all_or_one}
-use Rattle.ff_spread.specs.Spreads.{on_output, spread_view, spread_spent}
+use Rattle.ff_filter.specs.spread.Lines.{Line, lines, is_done, all_done}
+use Rattle.ff_filter.specs.spread.LineLaws.{lines_open, done_at, all_of, all_or_one}
+use Rattle.ff_filter.specs.spread.Spreads.{on_output, spread_view, spread_spent}
 
 keeps_if : (b : Bool) (r s : Flow) → LiesBelow r s → LiesBelow (cond b r nothing) (cond b s nothing)
 keeps_if true r s h = h

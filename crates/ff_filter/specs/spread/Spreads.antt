@@ -1,15 +1,15 @@
 -- How a machine is seen that gives on each output what it gets of each item.
 use Rattle.std.specs.Prelude.{ℕ, nat_lt, Bool, false, ◌||◌, ◌&&◌, cond, List, [], ◌∷◌, length}
-use Rattle.ff_frame.specs.declared.item.Item.{Item}
-use Rattle.ff_frame.specs.declared.item.Lane.{Lane}
-use Rattle.ff_frame.specs.Stream.{map_stream}
-use Rattle.ff_frame.specs.Ports.{nothing}
+use Rattle.ff_stream.specs.declared.item.Item.{Item}
+use Rattle.ff_stream.specs.declared.item.Lane.{Lane}
+use Rattle.ff_stream.specs.Stream.{map_stream}
+use Rattle.ff_stream.specs.Ports.{nothing}
 use Rattle.ff_filter.specs.declared.after.After.{After}
 use Rattle.ff_filter.specs.declared.outlet.Outlet.{Outlet}
 use Rattle.ff_filter.specs.Joins.{Flow}
 use Rattle.ff_filter.specs.Views.{View}
 use Rattle.ff_filter.specs.Made.{left, is_over}
-use Rattle.ff_spread.specs.Lines.{Line, all_done}
+use Rattle.ff_filter.specs.spread.Lines.{Line, all_done}
 
 -- a stream on an output that is there, where there are n
 abbrev pub on_output : ℕ → ℕ → Flow → Flow

@@ -1,7 +1,7 @@
 -- What a function of one stream owes, so that what it gives of valid streams is valid with no limit behind it.
-use Rattle.ff_frame.specs.declared.item.Lane.{Lane}
-use Rattle.ff_frame.specs.Lanes.{IsValid}
-use Rattle.ff_frame.specs.Ports.{IsUnbroken}
+use Rattle.ff_stream.specs.declared.item.Lane.{Lane}
+use Rattle.ff_stream.specs.Lanes.{IsValid}
+use Rattle.ff_stream.specs.Ports.{IsUnbroken}
 use Rattle.ff_filter.specs.Joins.{Flow}
 
 -- of valid streams it gives valid ones, and of unbroken ones no break

@@ -1,12 +1,13 @@
 ghost use Rattle.std.specs.Prelude.{◌≡◌, IfOk, IfErr, replicate};
-ghost use Rattle.ff_frame.specs.declared.item.Lane.TheVariants.{Frames};
-ghost use Rattle.ff_values.specs.declared.config.ConfigError.TheVariants.{NoMemory};
-ghost use Rattle.ff_spread.specs.Splits.{split_view};
+ghost use Rattle.ff_stream.specs.declared.item.Lane.TheVariants.{Frames};
+ghost use Rattle.ff_frame.specs.declared.config.ConfigError.TheVariants.{NoMemory};
+ghost use Rattle.ff_filter.specs.spread.Splits.{split_view};
 
-use crate::share::Share;
-use crate::spreader::Spreader;
-use ff_filter::{Filter, Settings, read_number};
-use ff_frame::{ConfigError, Item, StreamHead};
+use crate::spread::share::Share;
+use crate::spread::spreader::Spreader;
+use crate::{Filter, Settings, read_number};
+use ff_frame::{ConfigError, StreamHead};
+use ff_stream::Item;
 use std::alloc::{AllocError, Global};
 
 /// Gives each output the whole stream.
@@ -46,7 +47,7 @@ pub struct SplitSettings {
 }
 
 impl Settings for SplitSettings {
-    ghost use Rattle.ff_spread.specs.Splits.{split_manual};
+    ghost use Rattle.ff_filter.specs.spread.Splits.{split_manual};
 
     ghost manual = { split_manual };
 

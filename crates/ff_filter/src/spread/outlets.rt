@@ -1,12 +1,12 @@
 // The outputs of a filter, by number.
 ghost use Rattle.std.specs.Prelude.{◌≡◌, ◌≢◌, ◌<◌, ◌≤◌, ℕ, length, IfOk, IfErr, OnOk, OnErr, Some, None, true, false};
-ghost use Rattle.ff_frame.specs.declared.item.Item.{Item as AnItem};
+ghost use Rattle.ff_stream.specs.declared.item.Item.{Item as AnItem};
 ghost use Rattle.ff_filter.specs.Views.{closes};
-ghost use Rattle.ff_spread.specs.Lines.{lines, fresh, all_done as each_done, IsFront, IsPut, Took, HasAll};
+ghost use Rattle.ff_filter.specs.spread.Lines.{lines, fresh, all_done as each_done, IsFront, IsPut, Took, HasAll};
 
-use crate::share::Share;
-use ff_filter::{After, Outlet, discard};
-use ff_frame::{Item, Refused};
+use crate::spread::share::Share;
+use crate::{After, Outlet, discard};
+use ff_stream::{Item, Refused};
 use std::alloc::{AllocError, Global};
 
 /// So many outputs on which nothing waits.

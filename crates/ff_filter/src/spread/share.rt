@@ -1,9 +1,9 @@
 ghost use Rattle.std.specs.Prelude.{◌≡◌, ℕ, List, IfOk, false};
-ghost use Rattle.ff_frame.specs.declared.item.Item.{Item as AnItem};
-ghost use Rattle.ff_frame.specs.declared.item.Lane.{Lane};
+ghost use Rattle.ff_stream.specs.declared.item.Item.{Item as AnItem};
+ghost use Rattle.ff_stream.specs.declared.item.Lane.{Lane};
 ghost use Rattle.ff_filter.specs.Views.{closes};
 
-use ff_frame::Item;
+use ff_stream::Item;
 use std::alloc::AllocError;
 
 /// What each output gets of an item: one item.

@@ -1,16 +1,16 @@
 -- Each filter, as it is configured, is behind limits.
 use Rattle.std.proofs.Common.{◌≡◌, ℕ, ◌==◌, Bool, true, false, Result, Ok, Err, List, [], ◌∷◌, length, refl, ap, subst}
 use Rattle.ff_time.specs.Fraction.{Fraction}
-use Rattle.ff_values.specs.declared.config.ConfigError.{ConfigError}
-use Rattle.ff_values.specs.declared.config.ConfigError.TheVariants.{Pads, Kind, Mismatch}
-use Rattle.ff_values.specs.declared.head.StreamHead.{StreamHead}
-use Rattle.ff_values.specs.Heads.{base_of_head}
+use Rattle.ff_frame.specs.declared.config.ConfigError.{ConfigError}
+use Rattle.ff_frame.specs.declared.config.ConfigError.TheVariants.{Pads, Kind, Mismatch}
+use Rattle.ff_frame.specs.declared.head.StreamHead.{StreamHead}
+use Rattle.ff_frame.specs.Heads.{base_of_head}
 use Rattle.ff_lang.specs.declared.graph.Arg.{Arg}
 use Rattle.ff_filter.specs.Options.{is_sound, is_video}
 use Rattle.ff_filter.specs.Plain.{no_manual, pass_view, rebase_view}
 use Rattle.ff_filter.specs.Ranges.{range_manual}
 use Rattle.ff_filter.specs.Views.{View}
-use Rattle.ff_spread.specs.Splits.{split_view, split_heads}
+use Rattle.ff_filter.specs.spread.Splits.{split_view, split_heads}
 use Rattle.ff_vfilter.specs.Sizes.{no_sizes}
 use Rattle.ff_vfilter.specs.Trims.{trim_view}
 use Rattle.ff_vfilter.specs.Crops.{crop_manual, crop_view, crop_head}
@@ -21,16 +21,16 @@ use Rattle.ff_vfilter.specs.VFlips.{vflip_view}
 use Rattle.ff_afilter.specs.declared.atrim.ATrim.{ATrim}
 use Rattle.ff_afilter.specs.Trims.{atrim_view}
 use Rattle.ff_afilter.specs.Channels.{channels_view, mono_heads}
-use Rattle.ff_stacks.specs.declared.shape.Direction.{Direction}
-use Rattle.ff_stacks.specs.declared.shape.Direction.TheVariants.{Beside, Below}
-use Rattle.ff_stacks.specs.Heads.{input_fault}
-use Rattle.ff_stacks.specs.Options.{stack_manual, counted}
-use Rattle.ff_stacks.specs.Stacks.{stack_view, head_of}
+use Rattle.ff_fsync.specs.declared.stacks.shape.Direction.{Direction}
+use Rattle.ff_fsync.specs.declared.stacks.shape.Direction.TheVariants.{Beside, Below}
+use Rattle.ff_fsync.specs.stacks.Heads.{input_fault}
+use Rattle.ff_fsync.specs.stacks.Options.{stack_manual, counted}
+use Rattle.ff_fsync.specs.stacks.Stacks.{stack_view, head_of}
 use Rattle.ff_joins.specs.Arguments.{each_head}
 use Rattle.ff_joins.specs.ConcatOptions.{concat_manual, concat_set, concat_start, segments_said, video_said, sound_said, is_of_kind, concat_view, concat_head}
 use Rattle.ff_joins.specs.JoinOptions.{join_manual, inputs_said}
 use Rattle.ff_joins.specs.JoinView.{join_view}
-use Rattle.ff_net_filter.specs.Limiting.{IsLimited}
+use Rattle.ff_node_filter.specs.Limiting.{IsLimited}
 use Rattle.ff_filters.specs.declared.name.FilterName.{FilterName}
 use Rattle.ff_filters.specs.declared.name.FilterName.TheVariants as filter
 use Rattle.ff_filters.specs.Heads.{each_is}
@@ -40,10 +40,10 @@ use Rattle.ff_filters.specs.Ticks.{set_times, range_in}
 use Rattle.ff_filters.specs.Configured.{Filtered, filtered, configured_as, plain_by, pass_by, rebase_by, trim_by, atrimmed_as, all_times, atrim_by, cropped_as}
 use Rattle.ff_filters.specs.Configured.{crop_by, padded_as, pad_by, paced_as, fps_by, split_by, stacked_as, stack_by, segments_as, concat_by, joined_as, join_by}
 use Rattle.ff_filters.proofs.Parting.{if_ok, then_ok, unless_ok, parts_of}
-use Rattle.ff_limited.specs.Cuts.{cuts_in, AreTimed}
-use Rattle.ff_limited.proofs.Opening.{Owes, opened_limited}
-use Rattle.ff_limited.proofs.Ones.{pass_owes, rebase_owes, trim_owes, atrim_owes, hflip_owes, vflip_owes, crop_owes, pad_owes, fps_owes, split_owes, channels_owes}
-use Rattle.ff_limited.proofs.Manies.{stack_owes, concat_owes, join_owes}
+use Rattle.ff_filters.specs.limited.Cuts.{cuts_in, AreTimed}
+use Rattle.ff_filters.proofs.LimitedLemmas.Opening.{Owes, opened_limited}
+use Rattle.ff_filters.proofs.LimitedLemmas.Ones.{pass_owes, rebase_owes, trim_owes, atrim_owes, hflip_owes, vflip_owes, crop_owes, pad_owes, fps_owes, split_owes, channels_owes}
+use Rattle.ff_filters.proofs.LimitedLemmas.Manies.{stack_owes, concat_owes, join_owes}
 
 -- a filter that is seen so owes it
 abbrev Pays : View → Type 0

@@ -3,19 +3,19 @@ use Rattle.std.proofs.Common.{◌≡◌, ℕ, zero, suc, ℤ, ◌+◌, ◌-◌, 
 use Rattle.std.proofs.Common.{refl, sym, ap, subst, ◌∙◌, arith}
 use Rattle.std.specs.Prelude.{replicate}
 use Rattle.ff_time.specs.Fraction.{IsBase}
-use Rattle.ff_values.specs.declared.config.ConfigError.{ConfigError}
-use Rattle.ff_values.specs.declared.config.ConfigError.TheVariants.{Mismatch, BadSize}
-use Rattle.ff_values.specs.declared.head.StreamHead.{StreamHead}
-use Rattle.ff_values.specs.Heads.{base_of_head}
-use Rattle.ff_frame.specs.declared.item.Item.{Item}
-use Rattle.ff_frame.specs.declared.item.Lane.{Lane}
-use Rattle.ff_frame.specs.declared.item.Lane.TheVariants.{Frames}
-use Rattle.ff_frame.specs.Stream.{opened}
-use Rattle.ff_frame.specs.Ports.{stream_at}
-use Rattle.ff_frame.specs.Order.{below_self, below_trans}
-use Rattle.ff_frame.specs.Lanes.{IsValid}
-use Rattle.ff_frame.specs.Within.{within, passes_limits}
-use Rattle.ff_frame.specs.WithinLaws.{within_valid}
+use Rattle.ff_frame.specs.declared.config.ConfigError.{ConfigError}
+use Rattle.ff_frame.specs.declared.config.ConfigError.TheVariants.{Mismatch, BadSize}
+use Rattle.ff_frame.specs.declared.head.StreamHead.{StreamHead}
+use Rattle.ff_frame.specs.Heads.{base_of_head}
+use Rattle.ff_stream.specs.declared.item.Item.{Item}
+use Rattle.ff_stream.specs.declared.item.Lane.{Lane}
+use Rattle.ff_stream.specs.declared.item.Lane.TheVariants.{Frames}
+use Rattle.ff_stream.specs.Stream.{opened}
+use Rattle.ff_stream.specs.Ports.{stream_at}
+use Rattle.ff_stream.specs.Order.{below_self, below_trans}
+use Rattle.ff_stream.specs.Lanes.{IsValid}
+use Rattle.ff_stream.specs.Within.{within, passes_limits}
+use Rattle.ff_stream.specs.WithinLaws.{within_valid}
 use Rattle.ff_net.specs.Ways.{lane_at, IsValidOn, AreValid}
 use Rattle.ff_filter.specs.declared.after.After.TheVariants.{More}
 use Rattle.ff_filter.specs.Joins.{Flow, Ports, all_opened, Grows, HidesBreaks}
@@ -25,14 +25,14 @@ use Rattle.ff_filter.specs.Options.{is_sound}
 use Rattle.ff_filter.specs.Views.{View}
 use Rattle.ff_fsync.specs.Sides.{Sound, sync_view}
 use Rattle.ff_fsync.specs.SideLaws.{sync-grows, sync-hides}
-use Rattle.ff_stacks.specs.declared.shape.Direction.{Direction}
-use Rattle.ff_stacks.specs.declared.options.StackSettings.{StackSettings}
-use Rattle.ff_stacks.specs.Heads.{stack_fault}
-use Rattle.ff_stacks.specs.Limits.{limits-grows, limits-hides}
-use Rattle.ff_stacks.specs.Shapes.{stacked, shape_of}
-use Rattle.ff_stacks.specs.Stacks.{StackOf, stack_on, stacked_of, stack_view, AreStreamsOf}
-use Rattle.ff_stacks.proofs.Seeing.{none_came, stack_seen}
-use Rattle.ff_stacks.proofs.Valid.{stacks_in_shape}
+use Rattle.ff_fsync.specs.declared.stacks.shape.Direction.{Direction}
+use Rattle.ff_fsync.specs.declared.stacks.options.StackSettings.{StackSettings}
+use Rattle.ff_fsync.specs.stacks.Heads.{stack_fault}
+use Rattle.ff_fsync.specs.stacks.Limits.{limits-grows, limits-hides}
+use Rattle.ff_fsync.specs.stacks.Shapes.{stacked, shape_of}
+use Rattle.ff_fsync.specs.stacks.Stacks.{StackOf, stack_on, stacked_of, stack_view, AreStreamsOf}
+use Rattle.ff_fsync.proofs.StacksLemmas.Seeing.{none_came, stack_seen}
+use Rattle.ff_fsync.proofs.StacksLemmas.Valid.{stacks_in_shape}
 use Rattle.ff_joins.specs.Arguments.{Checked, each_head}
 use Rattle.ff_joins.specs.Concats.{concatenated}
 use Rattle.ff_joins.specs.ConcatLaws.{in_order-keeps, in_order-calm}
@@ -44,10 +44,10 @@ use Rattle.ff_joins.specs.Lots.{Lot, all_come, frame_on, lots_view}
 use Rattle.ff_joins.specs.LotLaws.{lots-grows, lots-hides}
 use Rattle.ff_joins.proofs.JoinHeads.{join_valid}
 use Rattle.ff_joins.proofs.SegmentShape.{segments_valid}
-use Rattle.ff_net_filter.specs.Tasks.{ported}
+use Rattle.ff_node_filter.specs.Tasks.{ported}
 use Rattle.ff_filters.specs.Configured.{stacked_as, checked, joined_as}
 use Rattle.ff_filters.proofs.Parting.{unless_ok}
-use Rattle.ff_limited.proofs.Opening.{Owes}
+use Rattle.ff_filters.proofs.LimitedLemmas.Opening.{Owes}
 
 -- the only output is valid
 one_valid : (head : StreamHead) (f : Ports → Ports) (ss : List Flow) → IsValid (Frames head) (f (stream_at ss) 0) → AreValid (Frames head ∷ []) (ported 1 f ss)

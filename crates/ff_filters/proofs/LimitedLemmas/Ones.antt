@@ -5,19 +5,19 @@ use Rattle.std.specs.Prelude.{replicate}
 use Rattle.std.proofs.lemmas.Bool.Decides.{nat_tests}
 use Rattle.std.proofs.lemmas.List.{length-replicate}
 use Rattle.ff_time.specs.Fraction.{Fraction}
-use Rattle.ff_values.specs.declared.config.ConfigError.{ConfigError}
-use Rattle.ff_values.specs.declared.config.ConfigError.TheVariants.{BadSize}
-use Rattle.ff_values.specs.declared.head.StreamHead.{StreamHead}
-use Rattle.ff_values.specs.declared.head.StreamHead.TheVariants.{Audio, Video}
-use Rattle.ff_values.specs.Video.{IsSide}
-use Rattle.ff_frame.specs.declared.item.Item.{Item}
-use Rattle.ff_frame.specs.declared.item.Lane.{Lane}
-use Rattle.ff_frame.specs.declared.item.Lane.TheVariants.{Frames}
-use Rattle.ff_frame.specs.Stream.{LiesBelow, opened, map_stream}
-use Rattle.ff_frame.specs.Lanes.{IsValid}
-use Rattle.ff_frame.specs.Ports.{stream_at}
-use Rattle.ff_frame.specs.Order.{below_self}
-use Rattle.ff_frame.specs.Within.{some_pass, passes_limits}
+use Rattle.ff_frame.specs.declared.config.ConfigError.{ConfigError}
+use Rattle.ff_frame.specs.declared.config.ConfigError.TheVariants.{BadSize}
+use Rattle.ff_frame.specs.declared.head.StreamHead.{StreamHead}
+use Rattle.ff_frame.specs.declared.head.StreamHead.TheVariants.{Audio, Video}
+use Rattle.ff_frame.specs.Video.{IsSide}
+use Rattle.ff_stream.specs.declared.item.Item.{Item}
+use Rattle.ff_stream.specs.declared.item.Lane.{Lane}
+use Rattle.ff_stream.specs.declared.item.Lane.TheVariants.{Frames}
+use Rattle.ff_stream.specs.Stream.{LiesBelow, opened, map_stream}
+use Rattle.ff_stream.specs.Lanes.{IsValid}
+use Rattle.ff_stream.specs.Ports.{stream_at}
+use Rattle.ff_stream.specs.Order.{below_self}
+use Rattle.ff_stream.specs.Within.{some_pass, passes_limits}
 use Rattle.ff_filter.specs.declared.after.After.{After}
 use Rattle.ff_filter.specs.declared.after.After.TheVariants.{More, Whole, Broke}
 use Rattle.ff_filter.specs.declared.pass.Pass.{Pass}
@@ -31,9 +31,9 @@ use Rattle.ff_filter.specs.Shifts.{shifted, shifted-below}
 use Rattle.ff_filter.specs.Singles.{single_view}
 use Rattle.ff_filter.specs.Sound.{IsSound}
 use Rattle.ff_filter.proofs.ShiftSound.{shift_sound}
-use Rattle.ff_spread.specs.Splits.{split_view}
-use Rattle.ff_spread.specs.Spreads.{on_output, spread_start}
-use Rattle.ff_spread.specs.Valid.{GivesValid}
+use Rattle.ff_filter.specs.spread.Splits.{split_view}
+use Rattle.ff_filter.specs.spread.Spreads.{on_output, spread_start}
+use Rattle.ff_filter.specs.spread.Valid.{GivesValid}
 use Rattle.ff_planes.specs.declared.rectangle.Rectangle.{Rectangle}
 use Rattle.ff_vfilter.specs.declared.crop.CropSettings.{CropSettings}
 use Rattle.ff_vfilter.specs.declared.pad.PadSettings.{PadSettings}
@@ -58,10 +58,10 @@ use Rattle.ff_afilter.specs.Trims.{sound_trimmed, atrim_view, at_once as sound_a
 use Rattle.ff_afilter.specs.TrimLaws.{trimmed-below as sound-below, trimmed-calm as sound-calm}
 use Rattle.ff_afilter.proofs.TrimSound.{sound_trim_sound}
 use Rattle.ff_afilter.proofs.ChannelSound.{channel_valid}
-use Rattle.ff_net_filter.proofs.Limits.{single_limited, ended_limited, spread_limited}
+use Rattle.ff_node_filter.proofs.Limits.{single_limited, ended_limited, spread_limited}
 use Rattle.ff_filters.specs.Configured.{cropped_as, padded_as}
 use Rattle.ff_filters.proofs.Parting.{if_ok}
-use Rattle.ff_limited.proofs.Opening.{Owes, owed}
+use Rattle.ff_filters.proofs.LimitedLemmas.Opening.{Owes, owed}
 
 -- what a function of one stream owes, whose output is over from the start or not
 single_owes : (lane : Lane) (head : StreamHead) (f : Flow → Flow) (after : After) → (after ≡ Broke → ⊥)

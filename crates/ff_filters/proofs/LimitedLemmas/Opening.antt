@@ -1,15 +1,15 @@
 -- What makes a function one behind limits: where it breaks though it isn't told of a break, a limit cut it.
 use Rattle.std.proofs.Common.{◌≡◌, ℕ, zero, suc, ◌<◌, inl, inr, Bool, true, List, length, refl, sym, ap, subst, ◌∙◌, arith}
 use Rattle.std.proofs.lemmas.Bool.{or_cases, or_left, or_right}
-use Rattle.ff_frame.specs.declared.item.Item.{Item}
-use Rattle.ff_frame.specs.declared.item.Lane.{Lane}
-use Rattle.ff_frame.specs.Stream.{Mark, still_open, whole, broken, LiesBelow, opened}
-use Rattle.ff_frame.specs.Ports.{stream_at, AllUnbroken}
-use Rattle.ff_frame.specs.Order.{closed_below}
+use Rattle.ff_stream.specs.declared.item.Item.{Item}
+use Rattle.ff_stream.specs.declared.item.Lane.{Lane}
+use Rattle.ff_stream.specs.Stream.{Mark, still_open, whole, broken, LiesBelow, opened}
+use Rattle.ff_stream.specs.Ports.{stream_at, AllUnbroken}
+use Rattle.ff_stream.specs.Order.{closed_below}
 use Rattle.ff_net.specs.Ways.{AreValid}
 use Rattle.ff_filter.specs.Joins.{Flow, Ports, EachBelow, all_opened, Grows, HidesBreaks}
-use Rattle.ff_net_filter.specs.Tasks.{ported}
-use Rattle.ff_net_filter.specs.Limiting.{IsLimited, is_broken, some_broken}
+use Rattle.ff_node_filter.specs.Tasks.{ported}
+use Rattle.ff_node_filter.specs.Limiting.{IsLimited, is_broken, some_broken}
 
 -- the rest of what a function behind limits owes
 pub record Owes (ins outs : List Lane) (f : Ports → Ports) : Type 0 where

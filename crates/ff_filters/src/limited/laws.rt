@@ -1,11 +1,11 @@
 //! A law of what filters are: a function that does nothing, whose clause holds of all values.
 ghost use Rattle.std.specs.Prelude.{◌≡◌, List, Ok};
-ghost use Rattle.ff_values.specs.declared.head.StreamHead.{StreamHead};
+ghost use Rattle.ff_frame.specs.declared.head.StreamHead.{StreamHead};
 ghost use Rattle.ff_lang.specs.declared.graph.Arg.{Arg};
-ghost use Rattle.ff_net_filter.specs.Limiting.{IsLimited};
+ghost use Rattle.ff_node_filter.specs.Limiting.{IsLimited};
 ghost use Rattle.ff_filters.specs.declared.name.FilterName.{FilterName};
 ghost use Rattle.ff_filters.specs.Configured.{Filtered, configured_as};
-ghost use Rattle.ff_limited.specs.Cuts.{cuts_in, AreTimed};
+ghost use Rattle.ff_filters.specs.limited.Cuts.{cuts_in, AreTimed};
 
 /// The function of each filter, by its name, its arguments and the heads of its inputs, is one behind limits.
 pub fn configured_filters_are_limited()

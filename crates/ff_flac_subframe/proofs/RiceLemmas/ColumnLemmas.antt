@@ -14,13 +14,13 @@ use Rattle.std.proofs.lemmas.List.Elements.{All-drop, All-same, All-map, All-fro
 use Rattle.std.proofs.lemmas.List.FromFn.{map-range_with_len_more, length-map-range_with_len, take-map-range_with_len}
 use Rattle.std.proofs.lemmas.List.Sums.{fold_push, fold-append, sum_by-append, sum_by-cons, sum_by-le}
 use Rattle.std.proofs.lemmas.Simd.{map-map, zip2-map, get_or-zip2, length-zip2}
-use Rattle.ff_flac_rice.specs.Rice.{is_allowed, count_of, part_cost, best_cost, pieces, parts_of}
-use Rattle.ff_flac_rice.specs.Columns.{column, columns, least_each, lowest, items_of}
-use Rattle.ff_flac_rice.specs.Spans.{Spans, IsSpan}
-use Rattle.ff_flac_rice.proofs.Costs.{length-parts_of}
-use Rattle.ff_flac_rice.proofs.PartLemmas.{parts_of-is, pair_parts, pair_parts-parts_of, Small, small_parts, cost_small}
-use Rattle.ff_flac_rice.proofs.SpanLemmas.{lowest-one, lowest-more, spanned}
-use Rattle.ff_flac_rice.proofs.Orders.{allowed_parts, range_between}
+use Rattle.ff_flac_subframe.specs.rice.Rice.{is_allowed, count_of, part_cost, best_cost, pieces, parts_of}
+use Rattle.ff_flac_subframe.specs.rice.Columns.{column, columns, least_each, lowest, items_of}
+use Rattle.ff_flac_subframe.specs.rice.Spans.{Spans, IsSpan}
+use Rattle.ff_flac_subframe.proofs.RiceLemmas.Costs.{length-parts_of}
+use Rattle.ff_flac_subframe.proofs.RiceLemmas.PartLemmas.{parts_of-is, pair_parts, pair_parts-parts_of, Small, small_parts, cost_small}
+use Rattle.ff_flac_subframe.proofs.RiceLemmas.SpanLemmas.{lowest-one, lowest-more, spanned}
+use Rattle.ff_flac_subframe.proofs.RiceLemmas.Orders.{allowed_parts, range_between}
 
 -- ---- a column that is filled
 

@@ -6,9 +6,9 @@ use Rattle.std.proofs.lemmas.List.Sums.{sum_by-cons}
 use Rattle.std.proofs.lemmas.Nat.{pow_pos}
 use Rattle.ff_bits.specs.Bits.{bits_of}
 use Rattle.ff_bits.proofs.BitsLemmas.{length-bits_of}
-use Rattle.ff_flac_rice.specs.Least.{least}
-use Rattle.ff_flac_rice.specs.Rice.{rice_bits, partition_bits, partitions_bits, part_cost, parts_cost, quotients, residual_bits, Coding, choices, parameters, best_k, best_cost, best_at, codings_at, parts_of, pieces}
-use Rattle.ff_flac_rice.proofs.LeastLemmas.{least-flat_map, least-map, least-same, least-shift, least-shift_right, pick_is}
+use Rattle.ff_flac_subframe.specs.rice.Least.{least}
+use Rattle.ff_flac_subframe.specs.rice.Rice.{rice_bits, partition_bits, partitions_bits, part_cost, parts_cost, quotients, residual_bits, Coding, choices, parameters, best_k, best_cost, best_at, codings_at, parts_of, pieces}
+use Rattle.ff_flac_subframe.proofs.RiceLemmas.LeastLemmas.{least-flat_map, least-map, least-same, least-shift, least-shift_right, pick_is}
 
 -- ---- the bits are the sums
 

@@ -9,16 +9,16 @@ use Rattle.std.proofs.lemmas.List.Elements.{All-same, All-drop}
 use Rattle.std.proofs.lemmas.List.Sums.{sum_by-cons, sum_by-append}
 use Rattle.std.proofs.lemmas.Nat.{pow_pos, pow-add, shr_split, mod_below, div_below, mul-le, leading_top}
 use Rattle.std.proofs.Math.Nat.{pow-suc, mul-le-mul_left, pow-le-pow_right}
-use Rattle.ff_flac_rice.specs.Rice.{zigzagged, is_allowed, orders, quotients, part_cost, best_k, best_cost, best_at, parts_of, pieces}
-use Rattle.ff_flac_rice.specs.Rice.{codings, codings_by, codings_at, Coding}
-use Rattle.ff_flac_rice.specs.Columns.{lowest}
-use Rattle.ff_flac_rice.proofs.LeastLemmas.{least_is_lowest}
-use Rattle.ff_flac_rice.proofs.Costs.{least-codings_at, length-parts_of}
-use Rattle.ff_flac_rice.proofs.PartLemmas.{best_k_within, count_within, pair_parts, pair_parts-parts_of, pieces-suc, parts_of-is}
-use Rattle.ff_flac_rice.proofs.PartLemmas.{rest_len, Front, front_start, front_step, front_end}
-use Rattle.ff_flac_rice.proofs.SpanLemmas.{lowest-is, le_of, best_below_all}
-use Rattle.ff_flac_rice.proofs.Orders.{allowed_parts, allowed_below}
-use Rattle.ff_flac_rice.proofs.Levels.{coding_cost, cost_is, codings_by-cons, codings_by-nil}
+use Rattle.ff_flac_subframe.specs.rice.Rice.{zigzagged, is_allowed, orders, quotients, part_cost, best_k, best_cost, best_at, parts_of, pieces}
+use Rattle.ff_flac_subframe.specs.rice.Rice.{codings, codings_by, codings_at, Coding}
+use Rattle.ff_flac_subframe.specs.rice.Columns.{lowest}
+use Rattle.ff_flac_subframe.proofs.RiceLemmas.LeastLemmas.{least_is_lowest}
+use Rattle.ff_flac_subframe.proofs.RiceLemmas.Costs.{least-codings_at, length-parts_of}
+use Rattle.ff_flac_subframe.proofs.RiceLemmas.PartLemmas.{best_k_within, count_within, pair_parts, pair_parts-parts_of, pieces-suc, parts_of-is}
+use Rattle.ff_flac_subframe.proofs.RiceLemmas.PartLemmas.{rest_len, Front, front_start, front_step, front_end}
+use Rattle.ff_flac_subframe.proofs.RiceLemmas.SpanLemmas.{lowest-is, le_of, best_below_all}
+use Rattle.ff_flac_subframe.proofs.RiceLemmas.Orders.{allowed_parts, allowed_below}
+use Rattle.ff_flac_subframe.proofs.RiceLemmas.Levels.{coding_cost, cost_is, codings_by-cons, codings_by-nil}
 
 -- ---- the fewest bits of a partition's values, and of all partitions'
 

@@ -6,7 +6,7 @@ use Rattle.std.proofs.lemmas.List.{map-id}
 use Rattle.std.proofs.lemmas.List.FromFn.{map-range_with_len_more}
 use Rattle.std.specs.Option.{option_map, unwrap_or, IfSome}
 use Rattle.std.specs.List.{flat_map, range_with_len, AllByRecursion}
-use Rattle.ff_flac_rice.specs.Least.{choose, least, IsFirstLeast}
+use Rattle.ff_flac_subframe.specs.rice.Least.{choose, least, IsFirstLeast}
 
 pub least-nil : {A : Type 0} (f : A → ℕ) → least f [] ≡ None
 unfolding least

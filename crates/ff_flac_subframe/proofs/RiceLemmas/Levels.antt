@@ -2,16 +2,16 @@ use Rattle.std.proofs.Common.{◌≡◌, ℕ, suc, ◌+◌, ◌-◌, ◌<◌, �
 use Rattle.std.specs.List.{range_with_len, sum_by, AllByRecursion}
 use Rattle.std.proofs.lemmas.List.{append-nil}
 use Rattle.std.proofs.lemmas.Bool.{leb-true, leb-false, cases_Bool}
-use Rattle.ff_flac_rice.specs.declared.coding.Choice.{Choice}
-use Rattle.ff_flac_rice.specs.declared.coding.Found.{Found}
-use Rattle.ff_flac_rice.specs.Least.{choose, least}
-use Rattle.ff_flac_rice.specs.Rice.{is_allowed, orders, residual_bits, codings, codings_by, codings_at, best_at, best_cost, parts_of, Coding}
-use Rattle.ff_flac_rice.specs.Spans.{Spans}
-use Rattle.ff_flac_rice.proofs.LeastLemmas.{least-append, choose_first, choose_second}
-use Rattle.ff_flac_rice.proofs.Costs.{least-codings_at, length-best_at}
-use Rattle.ff_flac_rice.proofs.PartLemmas.{pair_parts-parts_of}
-use Rattle.ff_flac_rice.proofs.SpanLemmas.{spans_pairs}
-use Rattle.ff_flac_rice.proofs.Orders.{allowed_parts}
+use Rattle.ff_flac_subframe.specs.declared.rice.coding.Choice.{Choice}
+use Rattle.ff_flac_subframe.specs.declared.rice.coding.Found.{Found}
+use Rattle.ff_flac_subframe.specs.rice.Least.{choose, least}
+use Rattle.ff_flac_subframe.specs.rice.Rice.{is_allowed, orders, residual_bits, codings, codings_by, codings_at, best_at, best_cost, parts_of, Coding}
+use Rattle.ff_flac_subframe.specs.rice.Spans.{Spans}
+use Rattle.ff_flac_subframe.proofs.RiceLemmas.LeastLemmas.{least-append, choose_first, choose_second}
+use Rattle.ff_flac_subframe.proofs.RiceLemmas.Costs.{least-codings_at, length-best_at}
+use Rattle.ff_flac_subframe.proofs.RiceLemmas.PartLemmas.{pair_parts-parts_of}
+use Rattle.ff_flac_subframe.proofs.RiceLemmas.SpanLemmas.{spans_pairs}
+use Rattle.ff_flac_subframe.proofs.RiceLemmas.Orders.{allowed_parts}
 
 abbrev pub coding_cost : ℕ → List ℕ → Coding → ℕ
 coding_cost order us c = length (residual_bits order c us)

@@ -5,8 +5,8 @@ use Rattle.std.proofs.lemmas.List.{append-nil}
 use Rattle.std.proofs.lemmas.List.Elements.{filter-append}
 use Rattle.std.proofs.lemmas.Nat.{shr_split}
 use Rattle.std.proofs.Math.Nat.{pow-suc}
-use Rattle.ff_flac_rice.specs.Rice.{is_allowed, orders}
-use Rattle.ff_flac_rice.proofs.PartLemmas.{twice, range_below}
+use Rattle.ff_flac_subframe.specs.rice.Rice.{is_allowed, orders}
+use Rattle.ff_flac_subframe.proofs.RiceLemmas.PartLemmas.{twice, range_below}
 
 pub allowed_parts : (n order partition_order : ℕ) → is_allowed n order partition_order ≡ true → (n % 2 ^ partition_order ≡ 0) × (order < n / 2 ^ partition_order)
 allowed_parts n order partition_order h =

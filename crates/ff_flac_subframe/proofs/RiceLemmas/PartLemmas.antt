@@ -7,9 +7,9 @@ use Rattle.std.proofs.lemmas.List.Sums.{sum_by-le}
 use Rattle.std.proofs.lemmas.Nat.{pow_pos, shr_le, shr_split, shl-shr}
 use Rattle.std.proofs.Math.Nat.{pow-suc, mul-le-mul_left}
 use Rattle.std.proofs.Math.Seq.{take-add}
-use Rattle.ff_flac_rice.specs.Rice.{quotients, part_cost, parameters, count_of, best_k, pieces, parts_of}
-use Rattle.ff_flac_rice.proofs.LeastLemmas.{least_holds}
-use Rattle.ff_flac_rice.proofs.Costs.{best_k_is}
+use Rattle.ff_flac_subframe.specs.rice.Rice.{quotients, part_cost, parameters, count_of, best_k, pieces, parts_of}
+use Rattle.ff_flac_subframe.proofs.RiceLemmas.LeastLemmas.{least_holds}
+use Rattle.ff_flac_subframe.proofs.RiceLemmas.Costs.{best_k_is}
 
 -- ---- parameters
 

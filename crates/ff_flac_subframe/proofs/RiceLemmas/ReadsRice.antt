@@ -14,11 +14,11 @@ use Rattle.ff_bits.proofs.BitsOf.{bits_of-mod}
 use Rattle.ff_flac_frame.specs.Codes.{any, below, order_fits}
 use Rattle.ff_flac_frame.specs.Frame.{sample, zigzag, residual_limit, quotient_limit, rice, partition, partitions, residual}
 use Rattle.ff_flac_frame.specs.Facts.{IsResidual}
-use Rattle.ff_flac_rice.specs.Spells.{Reads}
-use Rattle.ff_flac_rice.specs.Rice.{zigzagged, rice_bits, partition_bits, partitions_bits, pieces, parts_of, Coding, residual_bits, count_of, parameters, choices, is_allowed, orders, codings_at, codings_by, codings}
-use Rattle.ff_flac_rice.proofs.ReadsBack.{reads-then, reads-map, reads-bits, reads-value, reads-if_false, reads-field, reads-zeros, reads-times}
-use Rattle.ff_flac_rice.proofs.Orders.{allowed_parts}
-use Rattle.ff_flac_rice.proofs.PartLemmas.{range_below, parts_of-is}
+use Rattle.ff_flac_subframe.specs.rice.Spells.{Reads}
+use Rattle.ff_flac_subframe.specs.rice.Rice.{zigzagged, rice_bits, partition_bits, partitions_bits, pieces, parts_of, Coding, residual_bits, count_of, parameters, choices, is_allowed, orders, codings_at, codings_by, codings}
+use Rattle.ff_flac_subframe.proofs.RiceLemmas.ReadsBack.{reads-then, reads-map, reads-bits, reads-value, reads-if_false, reads-field, reads-zeros, reads-times}
+use Rattle.ff_flac_subframe.proofs.RiceLemmas.Orders.{allowed_parts}
+use Rattle.ff_flac_subframe.proofs.RiceLemmas.PartLemmas.{range_below, parts_of-is}
 
 abbrev pub IsSmall : ℕ → Type 0
 IsSmall u = u < residual_limit

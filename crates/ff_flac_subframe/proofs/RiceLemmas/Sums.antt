@@ -4,7 +4,7 @@ use lib.Lanes.{sum_l}
 use Rattle.std.proofs.lemmas.List.Elements.{All-weaker}
 use Rattle.std.proofs.lemmas.List.Sums.{sum_by-le, sum_by-cons}
 use Rattle.std.proofs.lemmas.Nat.{shr_le}
-use Rattle.ff_flac_rice.specs.Rice.{quotients}
+use Rattle.ff_flac_subframe.specs.rice.Rice.{quotients}
 
 sum_l-map : (f : ℕ → ℕ) (us : List ℕ) → sum_l (map f us) ≡ sum_by f us
 sum_l-map f [] = refl

@@ -4,8 +4,8 @@ use Rattle.std.proofs.lemmas.List.{append_assoc, append-nil, replicate-append-re
 use Rattle.std.proofs.lemmas.Nat.{pow_pos, pow-add, mul-le, mod_below}
 use Rattle.ff_bits.specs.Bits.{bits_of}
 use Rattle.ff_bits.proofs.BitsOf.{bits_of-add, bits_of-zeros, bits_of-mod}
-use Rattle.ff_flac_rice.specs.Rice.{rice_bits, rice_length, partition_bits, partitions_bits, best_k, best_at, residual_bits, parts_of, pieces}
-use Rattle.ff_flac_rice.proofs.PartLemmas.{pieces-suc, parts_of-is}
+use Rattle.ff_flac_subframe.specs.rice.Rice.{rice_bits, rice_length, partition_bits, partitions_bits, best_k, best_at, residual_bits, parts_of, pieces}
+use Rattle.ff_flac_subframe.proofs.RiceLemmas.PartLemmas.{pieces-suc, parts_of-is}
 
 bit_one : bits_of 1 1 ≡ true ∷ []
 unfolding bits_of

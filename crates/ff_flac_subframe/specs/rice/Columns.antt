@@ -2,7 +2,7 @@
 use Rattle.std.specs.Prelude.{ℕ, zero, suc, ◌+◌, min, List, [], ◌∷◌, map, Vec}
 use Rattle.std.specs.List.{range_with_len, fold}
 use lib.Lanes.{zip2}
-use Rattle.ff_flac_rice.specs.Rice.{part_cost}
+use Rattle.ff_flac_subframe.specs.rice.Rice.{part_cost}
 
 -- the bits of the values of each partition under one parameter
 abbrev pub column : ℕ → List (List ℕ) → List ℕ

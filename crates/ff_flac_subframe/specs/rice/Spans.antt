@@ -1,6 +1,6 @@
 -- The parameters among which the best one of a partition is.
 use Rattle.std.specs.Prelude.{ℕ, ◌+◌, ◌*◌, ◌^◌, ◌<◌, ◌≤◌, List, length}
-use Rattle.ff_flac_rice.specs.Rice.{quotients}
+use Rattle.ff_flac_subframe.specs.rice.Rice.{quotients}
 
 -- a parameter below low costs so many values with this sum no less than the next one
 abbrev pub IsLowEnd : ℕ → ℕ → ℕ → Type 0

@@ -2,13 +2,13 @@
 
 ghost use Rattle.std.specs.Prelude.{◌≡◌, ◌+◌, ◌-◌, ◌*◌, ◌/◌, ◌%◌, ◌^◌, ◌<◌, ◌≤◌, ℕ, length, IfOk, Ok, Some, None, true, nat_le, if◌then◌else◌};
 ghost use Rattle.std.specs.List.{range_with_len, AllByRecursion};
-ghost use Rattle.ff_flac_rice.specs.Least.{least};
-ghost use Rattle.ff_flac_rice.specs.Rice.{is_allowed, orders, residual_bits, codings, best_at};
+ghost use Rattle.ff_flac_subframe.specs.rice.Least.{least};
+ghost use Rattle.ff_flac_subframe.specs.rice.Rice.{is_allowed, orders, residual_bits, codings, best_at};
 
-use crate::column::{columns_of, halve};
-use crate::level::level_costs;
-use crate::quotients::greatest;
-use crate::span::span_of;
+use crate::rice::column::{columns_of, halve};
+use crate::rice::level::level_costs;
+use crate::rice::quotients::greatest;
+use crate::rice::span::span_of;
 use std::alloc::{AllocError, Global};
 
 /// A way to code a residual, and its bits.

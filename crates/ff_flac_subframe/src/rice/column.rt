@@ -3,12 +3,12 @@
 ghost use Rattle.std.specs.Prelude.{◌≡◌, ◌+◌, ◌-◌, ◌*◌, ◌/◌, ◌%◌, ◌^◌, ◌<◌, ◌≤◌, ◌∷◌};
 ghost use Rattle.std.specs.Prelude.{length, map, take, slice_index, IfOk, All};
 ghost use lib.Lanes.{pair_sums};
-ghost use Rattle.ff_flac_rice.specs.Rice.{part_cost, parts_of, pieces};
-ghost use Rattle.ff_flac_rice.specs.Columns.{column, columns as columns_from, items_of};
-ghost use Rattle.ff_flac_rice.specs.Spans.{IsSpan};
+ghost use Rattle.ff_flac_subframe.specs.rice.Rice.{part_cost, parts_of, pieces};
+ghost use Rattle.ff_flac_subframe.specs.rice.Columns.{column, columns as columns_from, items_of};
+ghost use Rattle.ff_flac_subframe.specs.rice.Spans.{IsSpan};
 
-use crate::quotients::{cost_of, cost_of_16};
-use crate::span::Span;
+use crate::rice::quotients::{cost_of, cost_of_16};
+use crate::rice::span::Span;
 use std::alloc::{AllocError, Global};
 
 /// Behind the first, the bits of each partition of 16 values whose sum fits 32 bits.

@@ -2,9 +2,9 @@
 
 ghost use Rattle.std.specs.Prelude.{◌≡◌, ◌+◌, ◌*◌, ◌^◌, ◌<◌, ◌≤◌, ℕ, All, length, map};
 ghost use Rattle.std.specs.List.{AllByRecursion, sum_by};
-ghost use Rattle.ff_flac_rice.specs.Rice.{zigzagged, part_cost, residual_bits, codings};
+ghost use Rattle.ff_flac_subframe.specs.rice.Rice.{zigzagged, part_cost, residual_bits, codings};
 
-use crate::coding::finest_order;
+use crate::rice::coding::finest_order;
 
 /// The number from 0 on that stands for a value.
 fn zigzag_of(x: i32) -> u32

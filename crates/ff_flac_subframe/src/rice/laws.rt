@@ -4,9 +4,9 @@ ghost use Rattle.std.specs.Prelude.{◌≡◌, ℕ, ℤ, ◌+◌, List, length, 
 ghost use Rattle.std.specs.List.{AllByRecursion};
 ghost use Rattle.ff_flac_frame.specs.Frame.{residual};
 ghost use Rattle.ff_flac_frame.specs.Facts.{IsResidual};
-ghost use Rattle.ff_flac_rice.specs.Least.{least, IsFirstLeast};
-ghost use Rattle.ff_flac_rice.specs.Rice.{zigzagged, residual_bits, codings, Coding};
-ghost use Rattle.ff_flac_rice.specs.Spells.{Reads};
+ghost use Rattle.ff_flac_subframe.specs.rice.Least.{least, IsFirstLeast};
+ghost use Rattle.ff_flac_subframe.specs.rice.Rice.{zigzagged, residual_bits, codings, Coding};
+ghost use Rattle.ff_flac_subframe.specs.rice.Spells.{Reads};
 
 /// Whichever coding of the list writes residuals, a reader of the grammar takes its bits, whatever follows them, and gives
 /// the residuals back.

@@ -3,10 +3,10 @@
 ghost use Rattle.std.specs.Prelude.{◌≡◌, ◌+◌, ◌-◌, ◌*◌, ◌^◌, ◌<◌, ◌≤◌, min, length, take, All};
 ghost use Rattle.std.specs.List.{fold, sum};
 ghost use lib.Lanes.{zip2};
-ghost use Rattle.ff_flac_rice.specs.Columns.{least_each, items_of};
-ghost use Rattle.ff_flac_rice.specs.Spans.{IsSpan};
+ghost use Rattle.ff_flac_subframe.specs.rice.Columns.{least_each, items_of};
+ghost use Rattle.ff_flac_subframe.specs.rice.Spans.{IsSpan};
 
-use crate::span::Span;
+use crate::rice::span::Span;
 
 /// Takes the lower of each two.
 fn lower_each(least: &mut [u64], costs: &[u64])

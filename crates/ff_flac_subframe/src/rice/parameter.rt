@@ -1,10 +1,10 @@
 //! The best parameter of a partition.
 
 ghost use Rattle.std.specs.Prelude.{◌≡◌, ◌+◌, ◌*◌, ◌/◌, ◌^◌, ◌<◌, ◌≤◌, ℕ, length};
-ghost use Rattle.ff_flac_rice.specs.Rice.{part_cost, best_k, count_of};
+ghost use Rattle.ff_flac_subframe.specs.rice.Rice.{part_cost, best_k, count_of};
 
-use crate::quotients::{greatest, quotients_of, wide_quotients};
-use crate::span::span_at;
+use crate::rice::quotients::{greatest, quotients_of, wide_quotients};
+use crate::rice::span::span_at;
 
 /// How many parameters a method has.
 fn parameter_count(method: usize) -> usize

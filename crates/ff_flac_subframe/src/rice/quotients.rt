@@ -2,7 +2,7 @@
 
 ghost use Rattle.std.specs.Prelude.{◌≡◌, ◌+◌, ◌*◌, ◌/◌, ◌^◌, ◌<◌, ◌≤◌, length, map, All};
 ghost use lib.Lanes.{sum_l};
-ghost use Rattle.ff_flac_rice.specs.Rice.{quotients, part_cost};
+ghost use Rattle.ff_flac_subframe.specs.rice.Rice.{quotients, part_cost};
 
 use std::simd::prelude::*;
 

@@ -2,10 +2,10 @@
 
 ghost use Rattle.std.specs.Prelude.{◌≡◌, ◌+◌, ◌-◌, ◌*◌, ◌/◌, ◌%◌, ◌^◌, ◌<◌, ◌≤◌, length, All};
 ghost use Rattle.std.specs.List.{AllByRecursion};
-ghost use Rattle.ff_flac_rice.specs.Rice.{parts_of};
-ghost use Rattle.ff_flac_rice.specs.Spans.{IsLowEnd, IsHighEnd, IsSpan, Spans};
+ghost use Rattle.ff_flac_subframe.specs.rice.Rice.{parts_of};
+ghost use Rattle.ff_flac_subframe.specs.rice.Spans.{IsLowEnd, IsHighEnd, IsSpan, Spans};
 
-use crate::quotients::total_of;
+use crate::rice::quotients::total_of;
 
 /// Parameters from `low` on and below `high`.
 #[derive(Clone, Copy)]

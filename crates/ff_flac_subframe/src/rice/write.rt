@@ -3,9 +3,9 @@
 ghost use Rattle.std.specs.Prelude.{◌≡◌, ◌+◌, ◌-◌, ◌*◌, ◌/◌, ◌%◌, ◌^◌, ◌<◌, ◌≤◌, ◌++◌, length, OnOk, true, false, replicate};
 ghost use Rattle.std.specs.List.{flat_map};
 ghost use Rattle.ff_bits.specs.Bits.{bits_of};
-ghost use Rattle.ff_flac_rice.specs.Rice.{rice_bits, rice_length, partition_bits, best_k, is_allowed, residual_bits, best_at};
+ghost use Rattle.ff_flac_subframe.specs.rice.Rice.{rice_bits, rice_length, partition_bits, best_k, is_allowed, residual_bits, best_at};
 
-use crate::parameter::best_parameter;
+use crate::rice::parameter::best_parameter;
 use ff_bits::BitWriter;
 use std::alloc::AllocError;
 

@@ -1,8 +1,8 @@
 -- An item that closes its stream, by either test.
 use Rattle.std.specs.Prelude.{◌≡◌, true, false, refl}
-use Rattle.ff_frame.specs.declared.item.Item.{Item}
-use Rattle.ff_frame.specs.declared.item.Item.TheVariants.{Audio, Video, Packet, Trailer, End, Broken}
-use Rattle.ff_frame.specs.Items.{Closes}
+use Rattle.ff_stream.specs.declared.item.Item.{Item}
+use Rattle.ff_stream.specs.declared.item.Item.TheVariants.{Audio, Video, Packet, Trailer, End, Broken}
+use Rattle.ff_stream.specs.Items.{Closes}
 use Rattle.ff_filter.specs.Views.{closes}
 
 pub closes_so : (x : Item) → Closes x → closes x ≡ true

@@ -2,20 +2,20 @@
 use Rattle.std.specs.Prelude.{◌≡◌, ℕ, zero, suc, ◌+◌, ◌<◌, Bool, true, ◌&&◌, nat_le, nat_eq, All, List, [], ◌∷◌, length, refl}
 use Rattle.std.proofs.Common.{ap, subst, ◌∙◌, arith, get_or}
 use Rattle.std.proofs.lemmas.Bool.{and_parts, leb-true, eqb-true}
-use Rattle.ff_values.specs.declared.video.Format.{Format}
-use Rattle.ff_values.specs.declared.video.Format.TheVariants.{C420, C422, C444, Mono}
-use Rattle.ff_values.specs.declared.video.VFrame.{VFrame}
-use Rattle.ff_values.specs.Video.{IsSide, IsVideo, frame_size}
+use Rattle.ff_frame.specs.declared.video.Format.{Format}
+use Rattle.ff_frame.specs.declared.video.Format.TheVariants.{C420, C422, C444, Mono}
+use Rattle.ff_frame.specs.declared.video.VFrame.{VFrame}
+use Rattle.ff_frame.specs.Video.{IsSide, IsVideo, frame_size}
 use Rattle.ff_planes.specs.declared.component.Component.{Component}
 use Rattle.ff_planes.specs.declared.component.Component.TheVariants.{Luma, Blue, Red}
 use Rattle.ff_planes.specs.Grid.{columns, rows}
 use Rattle.ff_planes.specs.Stacks.{IsAsHigh, IsAsWide, FillColumns, FillRows, all_columns, all_rows}
 use Rattle.ff_fsync.specs.Synced.{each_of}
-use Rattle.ff_stacks.specs.declared.shape.Direction.{Direction}
-use Rattle.ff_stacks.specs.declared.shape.Direction.TheVariants.{Beside, Below}
-use Rattle.ff_stacks.specs.declared.shape.Shape.{Shape}
-use Rattle.ff_stacks.proofs.Alls.{all_none, all_more}
-use Rattle.ff_stacks.specs.Shapes.{same_format, agrees, is_across, sum_along, length_of, fits_stack}
+use Rattle.ff_fsync.specs.declared.stacks.shape.Direction.{Direction}
+use Rattle.ff_fsync.specs.declared.stacks.shape.Direction.TheVariants.{Beside, Below}
+use Rattle.ff_fsync.specs.declared.stacks.shape.Shape.{Shape}
+use Rattle.ff_fsync.proofs.StacksLemmas.Alls.{all_none, all_more}
+use Rattle.ff_fsync.specs.stacks.Shapes.{same_format, agrees, is_across, sum_along, length_of, fits_stack}
 
 pub format_is : (a b : Format) → same_format a b ≡ true → a ≡ b
 format_is C420 C420 e = refl

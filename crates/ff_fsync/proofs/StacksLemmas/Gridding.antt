@@ -1,9 +1,9 @@
 -- Streams of which all but the last lie on the grid, one after the other.
 use Rattle.std.specs.Prelude.{◌≡◌, ℕ, zero, suc, ◌+◌, ◌<◌, true, ◌&&◌, List, [], ◌∷◌, length, refl}
 use Rattle.std.proofs.Common.{ap, sym, arith, get_or, drop}
-use Rattle.ff_values.specs.declared.head.StreamHead.{StreamHead}
-use Rattle.ff_stacks.specs.declared.shape.Direction.{Direction}
-use Rattle.ff_stacks.specs.Heads.{head_on_grid, all_on_grid}
+use Rattle.ff_frame.specs.declared.head.StreamHead.{StreamHead}
+use Rattle.ff_fsync.specs.declared.stacks.shape.Direction.{Direction}
+use Rattle.ff_fsync.specs.stacks.Heads.{head_on_grid, all_on_grid}
 
 -- one that another stands behind
 pub grid_step : (d : Direction) (hs : List StreamHead) (j : ℕ) (h : StreamHead) → suc j < length hs → h ≡ get_or hs j h

@@ -4,17 +4,17 @@ use Rattle.std.proofs.Common.{ap, ◌∙◌, arith}
 use Rattle.std.proofs.lemmas.Bool.{and_from, le-leb}
 use Rattle.std.proofs.lemmas.Int.{ints}
 use Rattle.ff_time.specs.Fraction.{Fraction}
-use Rattle.ff_values.specs.declared.head.StreamHead.TheVariants.{Video as VideoHead}
-use Rattle.ff_values.specs.declared.video.Format.{Format}
-use Rattle.ff_frame.specs.declared.item.Item.{Item}
-use Rattle.ff_frame.specs.declared.item.Item.TheVariants.{Audio, Video, Packet, Trailer, End, Broken}
-use Rattle.ff_frame.specs.declared.item.Lane.TheVariants.{Frames}
-use Rattle.ff_frame.specs.Times.{HasTime, start_of, ticks}
-use Rattle.ff_frame.specs.Lanes.{FitsFrames, IsItemFor, InOrder, IsValid}
+use Rattle.ff_frame.specs.declared.head.StreamHead.TheVariants.{Video as VideoHead}
+use Rattle.ff_frame.specs.declared.video.Format.{Format}
+use Rattle.ff_stream.specs.declared.item.Item.{Item}
+use Rattle.ff_stream.specs.declared.item.Item.TheVariants.{Audio, Video, Packet, Trailer, End, Broken}
+use Rattle.ff_stream.specs.declared.item.Lane.TheVariants.{Frames}
+use Rattle.ff_stream.specs.Times.{HasTime, start_of, ticks}
+use Rattle.ff_stream.specs.Lanes.{FitsFrames, IsItemFor, InOrder, IsValid}
 use Rattle.ff_filter.specs.Joins.{Flow}
 use Rattle.ff_filter.specs.Shifts.{start_ticks}
 use Rattle.ff_fsync.specs.Events.{put_if}
-use Rattle.ff_stacks.proofs.Alls.{all_first, all_others}
+use Rattle.ff_fsync.proofs.StacksLemmas.Alls.{all_first, all_others}
 use Rattle.ff_fsync.specs.Sides.{is_picture, fits_at, next_by, kept_from, kept}
 
 later_ticks : (a b : ℤ) → pos 0 ≤ℤ a → a <ℤ b → suc (ticks a) ≤ ticks b

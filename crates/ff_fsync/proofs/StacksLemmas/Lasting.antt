@@ -4,13 +4,13 @@ use Rattle.std.proofs.Common.{inl, inr, ap, sym, ◌∙◌, subst, arith, get_or
 use Rattle.std.proofs.lemmas.Bool.{or_cases, cases_Bool}
 use Rattle.std.proofs.lemmas.List.{map-append}
 use Rattle.std.proofs.Math.Seq.{take-suc}
-use Rattle.ff_values.specs.declared.head.StreamHead.{StreamHead}
-use Rattle.ff_values.specs.declared.video.VFrame.{VFrame}
-use Rattle.ff_frame.specs.declared.item.Item.{Item}
-use Rattle.ff_frame.specs.declared.item.Item.TheVariants.{Video}
-use Rattle.ff_frame.specs.declared.item.Lane.TheVariants.{Frames}
-use Rattle.ff_frame.specs.Times.{ticks}
-use Rattle.ff_frame.specs.Within.{some_pass}
+use Rattle.ff_frame.specs.declared.head.StreamHead.{StreamHead}
+use Rattle.ff_frame.specs.declared.video.VFrame.{VFrame}
+use Rattle.ff_stream.specs.declared.item.Item.{Item}
+use Rattle.ff_stream.specs.declared.item.Item.TheVariants.{Video}
+use Rattle.ff_stream.specs.declared.item.Lane.TheVariants.{Frames}
+use Rattle.ff_stream.specs.Times.{ticks}
+use Rattle.ff_stream.specs.Within.{some_pass}
 use Rattle.ff_filter.specs.Joins.{Flow, silence, before}
 use Rattle.ff_filter.specs.Shifts.{start_ticks}
 use Rattle.ff_fsync.specs.declared.input.Input.{Input}
@@ -25,7 +25,7 @@ use Rattle.ff_fsync.specs.SyncLaws.{ready_at}
 use Rattle.ff_fsync.specs.Syncs.{sides_of, sides_sound, standing_of, timing_of, IsDue, NoneFrom}
 use Rattle.ff_fsync.proofs.Finding.{side_there, long_sides}
 use Rattle.ff_fsync.proofs.Showing.{shown_gave}
-use Rattle.ff_stacks.specs.Shapes.{lasts}
+use Rattle.ff_fsync.specs.stacks.Shapes.{lasts}
 
 -- one picture more
 pub last_more : (fs : List VFrame) (f : VFrame) (t : ℕ)

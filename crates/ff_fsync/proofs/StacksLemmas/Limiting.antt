@@ -1,16 +1,16 @@
 -- What each call does to how a filter is seen, with the limits behind it.
 use Rattle.std.specs.Prelude.{◌≡◌, ◌≢◌, ℕ, ◌+◌, ◌<◌, Bool, true, false, cond, [], ◌∷◌, length, Result, Ok, Err, OnOk, OnErr, refl}
 use Rattle.std.proofs.Common.{ap, sym, ◌∙◌, subst, arith}
-use Rattle.ff_frame.specs.declared.item.Item.{Item}
-use Rattle.ff_frame.specs.declared.item.Item.TheVariants.{Audio, Video, Packet, Trailer, End, Broken}
-use Rattle.ff_frame.specs.declared.item.Lane.{Lane}
-use Rattle.ff_frame.specs.Stream.{still_open, broken}
-use Rattle.ff_frame.specs.Within.{passes_limits}
+use Rattle.ff_stream.specs.declared.item.Item.{Item}
+use Rattle.ff_stream.specs.declared.item.Item.TheVariants.{Audio, Video, Packet, Trailer, End, Broken}
+use Rattle.ff_stream.specs.declared.item.Lane.{Lane}
+use Rattle.ff_stream.specs.Stream.{still_open, broken}
+use Rattle.ff_stream.specs.Within.{passes_limits}
 use Rattle.ff_filter.specs.Joins.{Flow, joined, before}
 use Rattle.ff_filter.specs.Limits.{limited, limit_step, run_next}
 use Rattle.ff_filter.specs.Runs.{no_more}
 use Rattle.ff_filter.specs.Views.{View, Same, Fed, Gave, Waits, Stopped, closes}
-use Rattle.ff_stacks.specs.Limits.{limits_view}
+use Rattle.ff_fsync.specs.stacks.Limits.{limits_view}
 
 data_then : (x : Item) (t : Flow) → closes x ≡ false → joined (record { items = x ∷ []; mark = still_open }) t ≡ before x t
 data_then (Audio f) t c = refl

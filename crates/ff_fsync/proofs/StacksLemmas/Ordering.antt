@@ -3,11 +3,11 @@ use Rattle.std.specs.Prelude.{◌≡◌, ℕ, zero, suc, ◌<◌, ◌≤◌, ◌
 use Rattle.std.proofs.Common.{inl, inr, ap, sym, ◌∙◌, subst, arith, append_assoc}
 use Rattle.std.proofs.lemmas.Bool.{cases_Bool, or_cases, or_left, or_right, leb-true, le-leb}
 use Rattle.std.proofs.lemmas.Int.{ints}
-use Rattle.ff_stacks.proofs.Alls.{all_none, all_more, all_first, all_others}
-use Rattle.ff_frame.specs.declared.item.Item.{Item}
-use Rattle.ff_frame.specs.declared.item.Lane.{Lane}
-use Rattle.ff_frame.specs.Times.{HasTime, end_of}
-use Rattle.ff_frame.specs.Lanes.{IsItemFor, InOrder, Follows}
+use Rattle.ff_fsync.proofs.StacksLemmas.Alls.{all_none, all_more, all_first, all_others}
+use Rattle.ff_stream.specs.declared.item.Item.{Item}
+use Rattle.ff_stream.specs.declared.item.Lane.{Lane}
+use Rattle.ff_stream.specs.Times.{HasTime, end_of}
+use Rattle.ff_stream.specs.Lanes.{IsItemFor, InOrder, Follows}
 use Rattle.ff_filter.specs.Shifts.{start_ticks}
 use Rattle.ff_fsync.specs.Events.{events, put_if}
 use Rattle.ff_fsync.specs.Ranges.{list_to}

@@ -1,11 +1,11 @@
 -- The machine of a stack before anything was fed.
 use Rattle.std.specs.Prelude.{◌≡◌, ℕ, zero, suc, Bool, false, List, [], ◌∷◌, map, length, refl}
 use Rattle.std.proofs.Common.{ap, ◌∙◌}
-use Rattle.ff_values.specs.declared.head.StreamHead.{StreamHead}
-use Rattle.ff_frame.specs.declared.item.Item.{Item}
-use Rattle.ff_frame.specs.declared.item.Lane.{Lane}
-use Rattle.ff_frame.specs.declared.item.Lane.TheVariants.{Frames}
-use Rattle.ff_frame.specs.Within.{within, passes_limits}
+use Rattle.ff_frame.specs.declared.head.StreamHead.{StreamHead}
+use Rattle.ff_stream.specs.declared.item.Item.{Item}
+use Rattle.ff_stream.specs.declared.item.Lane.{Lane}
+use Rattle.ff_stream.specs.declared.item.Lane.TheVariants.{Frames}
+use Rattle.ff_stream.specs.Within.{within, passes_limits}
 use Rattle.ff_filter.specs.Joins.{Flow, Ports}
 use Rattle.ff_filter.specs.Limits.{limited, limited_is}
 use Rattle.ff_filter.specs.Made.{is_over}
@@ -13,10 +13,10 @@ use Rattle.ff_filter.specs.Views.{View}
 use Rattle.ff_fsync.specs.Pictures.{timed}
 use Rattle.ff_fsync.specs.Sides.{Side, no_side, side_at, coming, kept, streams, timing, shown_as, sync_view}
 use Rattle.ff_fsync.specs.Synced.{Timing, synced_from}
-use Rattle.ff_stacks.specs.declared.shape.Shape.{Shape}
-use Rattle.ff_stacks.specs.Limits.{limits_view}
-use Rattle.ff_stacks.specs.Shapes.{stacked, shape_of}
-use Rattle.ff_stacks.specs.Stacks.{StackOf, stacked_of, stack_view}
+use Rattle.ff_fsync.specs.declared.stacks.shape.Shape.{Shape}
+use Rattle.ff_fsync.specs.stacks.Limits.{limits_view}
+use Rattle.ff_fsync.specs.stacks.Shapes.{stacked, shape_of}
+use Rattle.ff_fsync.specs.stacks.Stacks.{StackOf, stacked_of, stack_view}
 
 -- inputs of these streams, to which nothing came
 abbrev pub none_came : List StreamHead → List Side

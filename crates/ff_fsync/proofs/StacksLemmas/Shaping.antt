@@ -2,25 +2,25 @@
 use Rattle.std.specs.Prelude.{◌≡◌, ℕ, ◌+◌, true, ◌&&◌, nat_le, nat_eq, List, [], ◌∷◌, length, refl}
 use Rattle.std.proofs.Common.{ap, sym, ◌∙◌, subst}
 use Rattle.std.proofs.lemmas.Bool.{and_parts, and_from, eqb-true, eq-eqb, le-leb}
-use Rattle.ff_values.specs.declared.head.StreamHead.{StreamHead}
-use Rattle.ff_values.specs.declared.head.StreamHead.TheVariants.{Audio, Video}
-use Rattle.ff_values.specs.declared.video.Format.{Format}
-use Rattle.ff_values.specs.declared.video.Format.TheVariants.{C420, C422, C444, Mono}
-use Rattle.ff_values.specs.declared.video.VFrame.{VFrame}
-use Rattle.ff_values.specs.Heads.{IsPictureFor}
-use Rattle.ff_values.specs.Video.{IsSide, IsVideo, frame_size}
+use Rattle.ff_frame.specs.declared.head.StreamHead.{StreamHead}
+use Rattle.ff_frame.specs.declared.head.StreamHead.TheVariants.{Audio, Video}
+use Rattle.ff_frame.specs.declared.video.Format.{Format}
+use Rattle.ff_frame.specs.declared.video.Format.TheVariants.{C420, C422, C444, Mono}
+use Rattle.ff_frame.specs.declared.video.VFrame.{VFrame}
+use Rattle.ff_frame.specs.Heads.{IsPictureFor}
+use Rattle.ff_frame.specs.Video.{IsSide, IsVideo, frame_size}
 use Rattle.ff_planes.specs.declared.component.Component.TheVariants.{Luma, Blue}
 use Rattle.ff_planes.specs.Grid.{columns, rows}
 use Rattle.ff_planes.specs.Stacks.{IsOnColumns, IsOnRows, AreOnColumns, AreOnRows}
 use Rattle.ff_planes.proofs.GridLaws.{columns_filled, rows_filled}
 use Rattle.ff_planes.proofs.PixelLaws.{length-hstacked, length-vstacked}
 use Rattle.ff_fsync.specs.Synced.{each_of}
-use Rattle.ff_stacks.specs.declared.shape.Direction.{Direction}
-use Rattle.ff_stacks.specs.declared.shape.Direction.TheVariants.{Beside, Below}
-use Rattle.ff_stacks.specs.declared.shape.Shape.{Shape}
-use Rattle.ff_stacks.specs.Heads.{size_along, are_alike, on_grid, head_on_grid, all_on_grid, total, with_length}
-use Rattle.ff_stacks.specs.Shapes.{same_format, agrees, is_like, along, sum_along, length_of, fits_stack, planes_by, shape_of}
-use Rattle.ff_stacks.proofs.Fitting.{format_is, columns_sum, rows_sum}
+use Rattle.ff_fsync.specs.declared.stacks.shape.Direction.{Direction}
+use Rattle.ff_fsync.specs.declared.stacks.shape.Direction.TheVariants.{Beside, Below}
+use Rattle.ff_fsync.specs.declared.stacks.shape.Shape.{Shape}
+use Rattle.ff_fsync.specs.stacks.Heads.{size_along, are_alike, on_grid, head_on_grid, all_on_grid, total, with_length}
+use Rattle.ff_fsync.specs.stacks.Shapes.{same_format, agrees, is_like, along, sum_along, length_of, fits_stack, planes_by, shape_of}
+use Rattle.ff_fsync.proofs.StacksLemmas.Fitting.{format_is, columns_sum, rows_sum}
 
 -- one picture of each of these streams
 abbrev pub OneEach : List StreamHead → List VFrame → Type 0

@@ -3,19 +3,19 @@ use Rattle.std.specs.Prelude.{◌≡◌, ◌≢◌, ℕ, suc, ◌+◌, ◌-◌, 
 use Rattle.std.proofs.Common.{inl, inr, ap, sym, ◌∙◌, subst, arith}
 use Rattle.std.proofs.lemmas.Bool.{and_parts}
 use Rattle.std.proofs.lemmas.Int.{ints}
-use Rattle.ff_values.specs.declared.config.ConfigError.{ConfigError}
-use Rattle.ff_values.specs.declared.head.StreamHead.{StreamHead}
-use Rattle.ff_values.specs.declared.head.StreamHead.TheVariants.{Audio as AudioHead, Video as VideoHead}
-use Rattle.ff_values.specs.declared.video.VFrame.{VFrame}
-use Rattle.ff_values.specs.Heads.{IsPictureFor}
-use Rattle.ff_values.specs.Video.{IsVideo, frame_size}
-use Rattle.ff_frame.specs.declared.item.Item.{Item}
-use Rattle.ff_frame.specs.declared.item.Item.TheVariants.{Audio, Video, Packet, Trailer, End, Broken}
-use Rattle.ff_frame.specs.declared.item.Lane.TheVariants.{Frames}
-use Rattle.ff_frame.specs.Times.{HasTime, end_of, ticks}
-use Rattle.ff_frame.specs.Ports.{IsUnbroken}
-use Rattle.ff_frame.specs.Stream.{Mark, still_open, whole, broken}
-use Rattle.ff_frame.specs.Lanes.{FitsFrames, StartsAfter, IsItemFor, Follows, AreInShape, IsValid}
+use Rattle.ff_frame.specs.declared.config.ConfigError.{ConfigError}
+use Rattle.ff_frame.specs.declared.head.StreamHead.{StreamHead}
+use Rattle.ff_frame.specs.declared.head.StreamHead.TheVariants.{Audio as AudioHead, Video as VideoHead}
+use Rattle.ff_frame.specs.declared.video.VFrame.{VFrame}
+use Rattle.ff_frame.specs.Heads.{IsPictureFor}
+use Rattle.ff_frame.specs.Video.{IsVideo, frame_size}
+use Rattle.ff_stream.specs.declared.item.Item.{Item}
+use Rattle.ff_stream.specs.declared.item.Item.TheVariants.{Audio, Video, Packet, Trailer, End, Broken}
+use Rattle.ff_stream.specs.declared.item.Lane.TheVariants.{Frames}
+use Rattle.ff_stream.specs.Times.{HasTime, end_of, ticks}
+use Rattle.ff_stream.specs.Ports.{IsUnbroken}
+use Rattle.ff_stream.specs.Stream.{Mark, still_open, whole, broken}
+use Rattle.ff_stream.specs.Lanes.{FitsFrames, StartsAfter, IsItemFor, Follows, AreInShape, IsValid}
 use Rattle.ff_filter.specs.Joins.{Flow, Ports}
 use Rattle.ff_filter.specs.Options.{is_video}
 use Rattle.ff_filter.specs.Shifts.{start_ticks}
@@ -24,16 +24,16 @@ use Rattle.ff_fsync.specs.Ranges.{list_to, any_to, none_from}
 use Rattle.ff_fsync.specs.Sides.{frames_of, kept, shown_as}
 use Rattle.ff_fsync.specs.Synced.{each_of, some_of, last_of, is_shown, pictures, horizon, synced, is_broken, mark_by, is_complete, goes_on}
 use Rattle.ff_fsync.specs.SyncLaws.{ready_at}
-use Rattle.ff_stacks.specs.declared.shape.Direction.{Direction}
-use Rattle.ff_stacks.specs.declared.shape.Direction.TheVariants.{Beside, Below}
-use Rattle.ff_stacks.specs.declared.shape.Shape.{Shape}
-use Rattle.ff_stacks.specs.Heads.{are_alike, is_side, size_across, all_on_grid, has_size, total, with_length, stack_fault}
-use Rattle.ff_stacks.specs.Shapes.{end_ticks, fits_stack, planes_by, stacked_planes, lasts, stacked, shape_of}
-use Rattle.ff_stacks.specs.Stacks.{StackOf, stacked_of, stack_on, AreStreamsOf}
-use Rattle.ff_stacks.proofs.Keeping.{valid_kept}
-use Rattle.ff_stacks.proofs.Ordering.{list_shift, last_item, ends_later, events_each, events_order}
-use Rattle.ff_stacks.proofs.Planning.{sized}
-use Rattle.ff_stacks.proofs.Shaping.{OneEach, fits_valid, planes_long}
+use Rattle.ff_fsync.specs.declared.stacks.shape.Direction.{Direction}
+use Rattle.ff_fsync.specs.declared.stacks.shape.Direction.TheVariants.{Beside, Below}
+use Rattle.ff_fsync.specs.declared.stacks.shape.Shape.{Shape}
+use Rattle.ff_fsync.specs.stacks.Heads.{are_alike, is_side, size_across, all_on_grid, has_size, total, with_length, stack_fault}
+use Rattle.ff_fsync.specs.stacks.Shapes.{end_ticks, fits_stack, planes_by, stacked_planes, lasts, stacked, shape_of}
+use Rattle.ff_fsync.specs.stacks.Stacks.{StackOf, stacked_of, stack_on, AreStreamsOf}
+use Rattle.ff_fsync.proofs.StacksLemmas.Keeping.{valid_kept}
+use Rattle.ff_fsync.proofs.StacksLemmas.Ordering.{list_shift, last_item, ends_later, events_each, events_order}
+use Rattle.ff_fsync.proofs.StacksLemmas.Planning.{sized}
+use Rattle.ff_fsync.proofs.StacksLemmas.Shaping.{OneEach, fits_valid, planes_long}
 
 no_faults : (a b : Bool) (e f : ConfigError) → cond a (cond b None (Some e)) (Some f) ≡ None → (a ≡ true) × (b ≡ true)
 no_faults true true e f h = (refl, refl)

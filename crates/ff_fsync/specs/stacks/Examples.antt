@@ -1,15 +1,15 @@
 -- The streams of the worked examples.
 use Rattle.std.specs.Prelude.{ℕ, zero, suc, false, pos, List, [], ◌∷◌}
-use Rattle.ff_values.specs.declared.head.StreamHead.{StreamHead}
-use Rattle.ff_values.specs.declared.head.StreamHead.TheVariants.{Video as VideoHead}
-use Rattle.ff_values.specs.declared.video.Format.TheVariants.{Mono}
-use Rattle.ff_values.specs.Frame.{video_frame}
-use Rattle.ff_frame.specs.declared.item.Item.{Item}
-use Rattle.ff_frame.specs.declared.item.Item.TheVariants.{Video}
-use Rattle.ff_frame.specs.Stream.{whole}
+use Rattle.ff_frame.specs.declared.head.StreamHead.{StreamHead}
+use Rattle.ff_frame.specs.declared.head.StreamHead.TheVariants.{Video as VideoHead}
+use Rattle.ff_frame.specs.declared.video.Format.TheVariants.{Mono}
+use Rattle.ff_frame.specs.Frame.{video_frame}
+use Rattle.ff_stream.specs.declared.item.Item.{Item}
+use Rattle.ff_stream.specs.declared.item.Item.TheVariants.{Video}
+use Rattle.ff_stream.specs.Stream.{whole}
 use Rattle.ff_filter.specs.Joins.{Flow, Ports}
-use Rattle.ff_stacks.specs.declared.shape.Direction.{Direction}
-use Rattle.ff_stacks.specs.Stacks.{StackOf}
+use Rattle.ff_fsync.specs.declared.stacks.shape.Direction.{Direction}
+use Rattle.ff_fsync.specs.stacks.Stacks.{StackOf}
 
 -- a picture without colour that starts at a time and lasts for so many ticks
 abbrev pub grey : ℕ → ℕ → ℕ → ℕ → List ℕ → Item

@@ -3,7 +3,7 @@ use Rattle.std.specs.Prelude.{◌≡◌, ◌≤◌, ℕ, zero, suc, ◌+◌, Boo
 use Rattle.std.specs.Prelude.{◌&&◌, nat_le, cond, codes, is_some, Option, Some, None, List, [], ◌∷◌}
 use Rattle.ff_lang.specs.declared.graph.Arg.{Arg}
 use Rattle.ff_filter.specs.Options.{Manual, number_of, option_of}
-use Rattle.ff_stacks.specs.declared.options.StackSettings.{StackSettings}
+use Rattle.ff_fsync.specs.declared.stacks.options.StackSettings.{StackSettings}
 
 -- `inputs` is a whole number of 2 to 16, `shortest` one of 0 and 1
 abbrev pub SetsStack : StackSettings → ℕ → List ℕ → StackSettings → Type 0

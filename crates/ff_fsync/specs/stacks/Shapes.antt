@@ -1,21 +1,21 @@
 -- How pictures are stacked, and when they fit (ffmpeg-filters, "hstack" and "vstack").
 use Rattle.std.specs.Prelude.{ℕ, ◌+◌, ◌-◌, Bool, true, false, ◌&&◌, nat_le, nat_eq, if◌then◌else◌, max, min, pos, ◌+ℤ◌, List, [], ◌∷◌, length}
-use Rattle.ff_values.specs.declared.head.StreamHead.{StreamHead}
-use Rattle.ff_values.specs.declared.head.StreamHead.TheVariants.{Audio, Video}
-use Rattle.ff_values.specs.declared.video.Format.{Format}
-use Rattle.ff_values.specs.declared.video.Format.TheVariants.{C420, C422, C444, Mono}
-use Rattle.ff_values.specs.declared.video.VFrame.{VFrame}
-use Rattle.ff_values.specs.Video.{frame_size}
-use Rattle.ff_values.specs.Frame.{video_frame}
-use Rattle.ff_frame.specs.Times.{ticks}
+use Rattle.ff_frame.specs.declared.head.StreamHead.{StreamHead}
+use Rattle.ff_frame.specs.declared.head.StreamHead.TheVariants.{Audio, Video}
+use Rattle.ff_frame.specs.declared.video.Format.{Format}
+use Rattle.ff_frame.specs.declared.video.Format.TheVariants.{C420, C422, C444, Mono}
+use Rattle.ff_frame.specs.declared.video.VFrame.{VFrame}
+use Rattle.ff_frame.specs.Video.{frame_size}
+use Rattle.ff_frame.specs.Frame.{video_frame}
+use Rattle.ff_stream.specs.Times.{ticks}
 use Rattle.ff_planes.specs.declared.component.Component.{Component}
 use Rattle.ff_planes.specs.declared.component.Component.TheVariants.{Luma, Blue}
 use Rattle.ff_planes.specs.Grid.{columns, rows}
 use Rattle.ff_planes.specs.Stacks.{hstacked, vstacked}
 use Rattle.ff_fsync.specs.Synced.{each_of}
-use Rattle.ff_stacks.specs.declared.shape.Direction.{Direction}
-use Rattle.ff_stacks.specs.declared.shape.Direction.TheVariants.{Beside, Below}
-use Rattle.ff_stacks.specs.declared.shape.Shape.{Shape}
+use Rattle.ff_fsync.specs.declared.stacks.shape.Direction.{Direction}
+use Rattle.ff_fsync.specs.declared.stacks.shape.Direction.TheVariants.{Beside, Below}
+use Rattle.ff_fsync.specs.declared.stacks.shape.Shape.{Shape}
 
 abbrev pub same_format : Format → Format → Bool
 same_format C420 C420 = true

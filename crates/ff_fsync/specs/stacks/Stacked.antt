@@ -1,15 +1,15 @@
 -- How the machine of a stack is seen.
 use Rattle.std.specs.Prelude.{ℕ, Bool, ◌||◌, List}
-use Rattle.ff_values.specs.declared.video.VFrame.{VFrame}
-use Rattle.ff_frame.specs.declared.item.Lane.TheVariants.{Frames}
-use Rattle.ff_frame.specs.Within.{some_pass, passes_limits}
+use Rattle.ff_frame.specs.declared.video.VFrame.{VFrame}
+use Rattle.ff_stream.specs.declared.item.Lane.TheVariants.{Frames}
+use Rattle.ff_stream.specs.Within.{some_pass, passes_limits}
 use Rattle.ff_filter.specs.Joins.{silence}
 use Rattle.ff_filter.specs.Views.{View}
 use Rattle.ff_fsync.specs.Sides.{sync_view, sync_spent, left_to_show}
 use Rattle.ff_fsync.specs.Syncs.{sides_of}
-use Rattle.ff_stacks.specs.declared.stacked.Stacked.{Stacked}
-use Rattle.ff_stacks.specs.Shapes.{stacked}
-use Rattle.ff_stacks.specs.Limits.{limits_view}
+use Rattle.ff_fsync.specs.declared.stacks.stacked.Stacked.{Stacked}
+use Rattle.ff_fsync.specs.stacks.Shapes.{stacked}
+use Rattle.ff_fsync.specs.stacks.Limits.{limits_view}
 
 abbrev pub shows : Stacked → ℕ → List VFrame → VFrame
 shows m = stacked m.sync.stack.shape

@@ -2,11 +2,11 @@
 use Rattle.std.specs.Prelude.{◌≡◌, ℕ, ◌+◌, ◌⊎◌, Bool, true, false, cond, List, [], ◌∷◌, refl}
 use Rattle.std.proofs.Common.{inl, inr, sym, ◌∙◌, arith}
 use Rattle.std.proofs.lemmas.Bool.{cases_Bool, or_cases, or_left, or_right}
-use Rattle.ff_frame.specs.declared.item.Item.{Item}
-use Rattle.ff_frame.specs.declared.item.Lane.TheVariants.{Frames}
-use Rattle.ff_frame.specs.Stream.{Mark, still_open, whole, broken}
-use Rattle.ff_frame.specs.Ports.{nothing, IsClosed}
-use Rattle.ff_frame.specs.Within.{some_pass, passes_limits}
+use Rattle.ff_stream.specs.declared.item.Item.{Item}
+use Rattle.ff_stream.specs.declared.item.Lane.TheVariants.{Frames}
+use Rattle.ff_stream.specs.Stream.{Mark, still_open, whole, broken}
+use Rattle.ff_stream.specs.Ports.{nothing, IsClosed}
+use Rattle.ff_stream.specs.Within.{some_pass, passes_limits}
 use Rattle.ff_filter.specs.Joins.{Flow, Ports, silence, joined, Grows, HidesBreaks}
 use Rattle.ff_filter.specs.Limits.{limited, limit_step}
 use Rattle.ff_filter.specs.Made.{is_over}
@@ -15,9 +15,9 @@ use Rattle.ff_filter.specs.Views.{Settles, IsSpent, IsOver, AllDone}
 use Rattle.ff_fsync.specs.SideLaws.{sync-grows, sync-hides, sync-settles, sync-quiet, sync-spent_only, sync-spent_if, sync-done_spent}
 use Rattle.ff_fsync.specs.Sides.{side_at, left_to_show}
 use Rattle.ff_fsync.specs.Syncs.{sides_of, sides_sound}
-use Rattle.ff_stacks.specs.declared.stacked.Stacked.{Stacked}
-use Rattle.ff_stacks.specs.Limits.{limits-spent}
-use Rattle.ff_stacks.specs.Stacked.{shows, sync_seen, seen, is_cut, stack_spent}
+use Rattle.ff_fsync.specs.declared.stacks.stacked.Stacked.{Stacked}
+use Rattle.ff_fsync.specs.stacks.Limits.{limits-spent}
+use Rattle.ff_fsync.specs.stacks.Stacked.{shows, sync_seen, seen, is_cut, stack_spent}
 
 pub sync_grows : (m : Stacked) → Grows (sync_seen m).rest
 sync_grows m =

@@ -1,11 +1,11 @@
 -- Streams of stacked pictures (ffmpeg-filters, "hstack" and "vstack").
 use Rattle.std.specs.Prelude.{◌≡◌, suc, Bool, false, Option, Some, None, List, [], ◌∷◌, map, length, Result, Ok, Err}
-use Rattle.ff_values.specs.declared.config.ConfigError.{ConfigError}
-use Rattle.ff_values.specs.declared.config.ConfigError.TheVariants.{Pads}
-use Rattle.ff_values.specs.declared.head.StreamHead.{StreamHead}
-use Rattle.ff_frame.specs.declared.item.Lane.TheVariants.{Frames}
-use Rattle.ff_frame.specs.Lanes.{IsValid}
-use Rattle.ff_frame.specs.Within.{within, passes_limits}
+use Rattle.ff_frame.specs.declared.config.ConfigError.{ConfigError}
+use Rattle.ff_frame.specs.declared.config.ConfigError.TheVariants.{Pads}
+use Rattle.ff_frame.specs.declared.head.StreamHead.{StreamHead}
+use Rattle.ff_stream.specs.declared.item.Lane.TheVariants.{Frames}
+use Rattle.ff_stream.specs.Lanes.{IsValid}
+use Rattle.ff_stream.specs.Within.{within, passes_limits}
 use Rattle.ff_lang.specs.declared.graph.Arg.{Arg}
 use Rattle.ff_filter.specs.Joins.{Flow, Ports}
 use Rattle.ff_filter.specs.Options.{is_video, AreRead}
@@ -13,12 +13,12 @@ use Rattle.ff_filter.specs.Views.{View}
 use Rattle.ff_fsync.specs.Pictures.{timed}
 use Rattle.ff_fsync.specs.Sides.{kept, shown_as}
 use Rattle.ff_fsync.specs.Synced.{synced}
-use Rattle.ff_stacks.specs.declared.options.StackSettings.{StackSettings}
-use Rattle.ff_stacks.specs.declared.shape.Direction.{Direction}
-use Rattle.ff_stacks.specs.Heads.{total, with_length, input_fault, stack_fault}
-use Rattle.ff_stacks.specs.Options.{stack_manual, counted}
-use Rattle.ff_stacks.specs.declared.plan.Plan.{Plan}
-use Rattle.ff_stacks.specs.Shapes.{stacked, shape_of}
+use Rattle.ff_fsync.specs.declared.stacks.options.StackSettings.{StackSettings}
+use Rattle.ff_fsync.specs.declared.stacks.shape.Direction.{Direction}
+use Rattle.ff_fsync.specs.stacks.Heads.{total, with_length, input_fault, stack_fault}
+use Rattle.ff_fsync.specs.stacks.Options.{stack_manual, counted}
+use Rattle.ff_fsync.specs.declared.stacks.plan.Plan.{Plan}
+use Rattle.ff_fsync.specs.stacks.Shapes.{stacked, shape_of}
 
 -- a stack: its inputs, whether it ends where the first of them does, and its head
 pub record StackOf : Type 0 where

@@ -1,20 +1,20 @@
 ghost use Rattle.std.specs.Prelude.{◌≡◌, IfOk, IfErr};
 ghost use Rattle.ff_filter.specs.Options.{IsMade, IsRefused};
-ghost use Rattle.ff_values.specs.declared.config.ConfigError.TheVariants.{NoMemory};
-ghost use Rattle.ff_stacks.specs.Heads.{with_length as head_with_length};
-ghost use Rattle.ff_stacks.specs.Shapes.{shape_of};
-ghost use Rattle.ff_stacks.specs.Stacked.{seen};
-ghost use Rattle.ff_stacks.specs.Stacks.{IsStack, IsPlanned, stack_view, stack_by, planned_by, head_of};
+ghost use Rattle.ff_frame.specs.declared.config.ConfigError.TheVariants.{NoMemory};
+ghost use Rattle.ff_fsync.specs.stacks.Heads.{with_length as head_with_length};
+ghost use Rattle.ff_fsync.specs.stacks.Shapes.{shape_of};
+ghost use Rattle.ff_fsync.specs.stacks.Stacked.{seen};
+ghost use Rattle.ff_fsync.specs.stacks.Stacks.{IsStack, IsPlanned, stack_view, stack_by, planned_by, head_of};
 
-use crate::heads::{all_alike, all_video, has_size, inputs_for, total};
-use crate::options::{StackSettings, count_inputs};
-use crate::plan::Plan;
-use crate::shape::{Direction, Shape};
-use crate::stacked::Stacked;
-use crate::stacking::Stacking;
+use crate::Framesync;
+use crate::stacks::heads::{all_alike, all_video, has_size, inputs_for, total};
+use crate::stacks::options::{StackSettings, count_inputs};
+use crate::stacks::plan::Plan;
+use crate::stacks::shape::{Direction, Shape};
+use crate::stacks::stacked::Stacked;
+use crate::stacks::stacking::Stacking;
 use ff_filter::{Filter, read_args};
 use ff_frame::{ConfigError, Format, StreamHead};
-use ff_fsync::Framesync;
 use ff_lang::Arg;
 use std::alloc::{AllocError, Global};
 

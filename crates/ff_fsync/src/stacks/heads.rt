@@ -1,15 +1,15 @@
 ghost use Rattle.std.specs.Prelude.{◌≡◌, ◌<◌, true, IfOk, map};
-ghost use Rattle.ff_frame.specs.declared.item.Lane.TheVariants.{Frames};
+ghost use Rattle.ff_stream.specs.declared.item.Lane.TheVariants.{Frames};
 ghost use Rattle.ff_filter.specs.Options.{is_video};
 ghost use Rattle.ff_fsync.specs.Sides.{no_side};
 ghost use Rattle.ff_fsync.specs.Syncs.{sides_of};
 ghost use Rattle.ff_fsync.specs.Synced.{each_of};
-ghost use Rattle.ff_stacks.specs.Heads.{size_along, size_across, same_base, are_alike, on_grid};
-ghost use Rattle.ff_stacks.specs.Heads.{head_on_grid, all_on_grid, total, has_size};
+ghost use Rattle.ff_fsync.specs.stacks.Heads.{size_along, size_across, same_base, are_alike, on_grid};
+ghost use Rattle.ff_fsync.specs.stacks.Heads.{head_on_grid, all_on_grid, total, has_size};
 
-use crate::shape::{Direction, same_format};
+use crate::Input;
+use crate::stacks::shape::{Direction, same_format};
 use ff_frame::{Format, StreamHead};
-use ff_fsync::Input;
 use ff_time::Rational;
 use std::alloc::{AllocError, Global};
 

@@ -1,11 +1,11 @@
 ghost use Rattle.std.specs.Prelude.{IfOk, IfErr};
 ghost use Rattle.ff_filter.specs.Options.{IsMade, IsRefused};
-ghost use Rattle.ff_stacks.specs.declared.shape.Direction.TheVariants.{Beside};
-ghost use Rattle.ff_stacks.specs.Stacks.{IsStack, stack_view, head_of};
+ghost use Rattle.ff_fsync.specs.declared.stacks.shape.Direction.TheVariants.{Beside};
+ghost use Rattle.ff_fsync.specs.stacks.Stacks.{IsStack, stack_view, head_of};
 
-use crate::configured::stack_for;
-use crate::shape::Direction;
-use crate::stacked::Stacked;
+use crate::stacks::configured::stack_for;
+use crate::stacks::shape::Direction;
+use crate::stacks::stacked::Stacked;
 use ff_filter::Filter;
 use ff_frame::{ConfigError, StreamHead};
 use ff_lang::Arg;

@@ -1,19 +1,19 @@
 //! Laws of stacks: functions that do nothing, whose clauses hold of all values.
 ghost use Rattle.std.specs.Prelude.{◌≡◌, ℕ, Bool, None, List, [], ◌∷◌};
 ghost use Rattle.ff_time.specs.Fraction.{Fraction};
-ghost use Rattle.ff_values.specs.declared.head.StreamHead.{StreamHead};
-ghost use Rattle.ff_values.specs.declared.head.StreamHead.TheVariants.{Video as VideoHead};
-ghost use Rattle.ff_values.specs.declared.video.Format.{Format};
-ghost use Rattle.ff_frame.specs.declared.item.Lane.TheVariants.{Frames};
-ghost use Rattle.ff_frame.specs.Lanes.{IsValid, AreInShape};
-ghost use Rattle.ff_frame.specs.Ports.{IsUnbroken};
+ghost use Rattle.ff_frame.specs.declared.head.StreamHead.{StreamHead};
+ghost use Rattle.ff_frame.specs.declared.head.StreamHead.TheVariants.{Video as VideoHead};
+ghost use Rattle.ff_frame.specs.declared.video.Format.{Format};
+ghost use Rattle.ff_stream.specs.declared.item.Lane.TheVariants.{Frames};
+ghost use Rattle.ff_stream.specs.Lanes.{IsValid, AreInShape};
+ghost use Rattle.ff_stream.specs.Ports.{IsUnbroken};
 ghost use Rattle.ff_filter.specs.Joins.{Flow, Ports};
 ghost use Rattle.ff_fsync.specs.Sides.{kept};
-ghost use Rattle.ff_stacks.specs.declared.shape.Direction.{Direction};
-ghost use Rattle.ff_stacks.specs.declared.shape.Direction.TheVariants.{Beside, Below};
-ghost use Rattle.ff_stacks.specs.Examples.{grey, grey_stack, two_streams, whole_of};
-ghost use Rattle.ff_stacks.specs.Heads.{stack_fault};
-ghost use Rattle.ff_stacks.specs.Stacks.{StackOf, stacked_of, stack_on, AreStreamsOf};
+ghost use Rattle.ff_fsync.specs.declared.stacks.shape.Direction.{Direction};
+ghost use Rattle.ff_fsync.specs.declared.stacks.shape.Direction.TheVariants.{Beside, Below};
+ghost use Rattle.ff_fsync.specs.stacks.Examples.{grey, grey_stack, two_streams, whole_of};
+ghost use Rattle.ff_fsync.specs.stacks.Heads.{stack_fault};
+ghost use Rattle.ff_fsync.specs.stacks.Stacks.{StackOf, stacked_of, stack_on, AreStreamsOf};
 
 /// A stream with one pixel for two ticks, and one with a pixel for each of them, stacked: a picture of two pixels at each
 /// tick. The first is shown until the picture of the first input ends, though the second comes before that.

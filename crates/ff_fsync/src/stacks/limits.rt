@@ -1,9 +1,10 @@
 ghost use Rattle.std.specs.Prelude.{◌≡◌, ◌≤◌, ◌+◌, ◌^◌, ◌≤ℤ◌, pos, negsuc, false};
-ghost use Rattle.ff_frame.specs.Times.{end_of, ticks};
-ghost use Rattle.ff_stacks.specs.Limits.{long_at};
+ghost use Rattle.ff_stream.specs.Times.{end_of, ticks};
+ghost use Rattle.ff_fsync.specs.stacks.Limits.{long_at};
 
 use ff_filter::{shared, time_base};
-use ff_frame::{Item, StreamHead};
+use ff_frame::StreamHead;
+use ff_stream::Item;
 
 // The limits.
 const LAST_SECOND: u128 = 1_000_000_000;

@@ -1,22 +1,23 @@
 ghost use Rattle.std.specs.Prelude.{◌≡◌, ◌↔◌, ◌<◌, ◌^◌, nat_le, cond, [], ◌∷◌, length, IsTrue};
-ghost use Rattle.ff_frame.specs.declared.item.Lane.TheVariants.{Frames};
-ghost use Rattle.ff_frame.specs.Times.{ticks};
+ghost use Rattle.ff_stream.specs.declared.item.Lane.TheVariants.{Frames};
+ghost use Rattle.ff_stream.specs.Times.{ticks};
 ghost use Rattle.ff_filter.specs.Views.{View, Gave, IsSpent};
 ghost use Rattle.ff_fsync.specs.Inputs.{items_of, last_by};
 ghost use Rattle.ff_fsync.specs.Sides.{frames_of};
 ghost use Rattle.ff_fsync.specs.Synced.{pictures};
 ghost use Rattle.ff_fsync.specs.Syncs.{timing_of, standing_of, IsDue};
-ghost use Rattle.ff_stacks.specs.Shapes.{lasts as lasts_at};
-ghost use Rattle.ff_stacks.specs.Limits.{limits_view, limits-grows, limits-hides, limits-settles, limits-quiet};
-ghost use Rattle.ff_stacks.specs.Stacked.{seen, sync_seen, is_cut as is_cut_of, stack_spent};
-ghost use Rattle.ff_stacks.specs.StackedLaws.{sync_grows, sync_hides, sync_settles};
-ghost use Rattle.ff_stacks.specs.StackedLaws.{sync_quiet, stacked-spent_only, stacked-shut_spent, stacked-done_spent};
+ghost use Rattle.ff_fsync.specs.stacks.Shapes.{lasts as lasts_at};
+ghost use Rattle.ff_fsync.specs.stacks.Limits.{limits_view, limits-grows, limits-hides, limits-settles, limits-quiet};
+ghost use Rattle.ff_fsync.specs.stacks.Stacked.{seen, sync_seen, is_cut as is_cut_of, stack_spent};
+ghost use Rattle.ff_fsync.specs.stacks.StackedLaws.{sync_grows, sync_hides, sync_settles};
+ghost use Rattle.ff_fsync.specs.stacks.StackedLaws.{sync_quiet, stacked-spent_only, stacked-shut_spent, stacked-done_spent};
 
-use crate::limits::{end_ticks, is_long};
-use crate::stacked::Stacked;
-use crate::stacking::lasts_of;
+use crate::stacks::limits::{end_ticks, is_long};
+use crate::stacks::stacked::Stacked;
+use crate::stacks::stacking::lasts_of;
 use ff_filter::{Filter, discard, ticks_of};
-use ff_frame::{Item, Refused, VFrame};
+use ff_frame::VFrame;
+use ff_stream::{Item, Refused};
 use std::alloc::AllocError;
 use std::collections::VecDeque;
 

@@ -1,5 +1,5 @@
 ghost use Rattle.std.specs.Prelude.{◌≡◌, false};
-ghost use Rattle.ff_stacks.specs.Options.{counted, inputs_of, gives_inputs};
+ghost use Rattle.ff_fsync.specs.stacks.Options.{counted, inputs_of, gives_inputs};
 
 use ff_filter::{Settings, read_number};
 use ff_lang::Arg;
@@ -22,7 +22,7 @@ impl StackSettings {
 }
 
 impl Settings for StackSettings {
-    ghost use Rattle.ff_stacks.specs.Options.{stack_manual};
+    ghost use Rattle.ff_fsync.specs.stacks.Options.{stack_manual};
 
     ghost manual = { stack_manual };
 

@@ -1,8 +1,8 @@
 ghost use Rattle.std.specs.Prelude.{◌≡◌};
-ghost use Rattle.ff_values.specs.Video.{IsSide};
-ghost use Rattle.ff_stacks.specs.Shapes.{shape_of};
+ghost use Rattle.ff_frame.specs.Video.{IsSide};
+ghost use Rattle.ff_fsync.specs.stacks.Shapes.{shape_of};
 
-use crate::shape::Shape;
+use crate::stacks::shape::Shape;
 use ff_frame::StreamHead;
 
 /// What arguments and heads make a stack.

@@ -1,7 +1,7 @@
 ghost use Rattle.std.specs.Prelude.{◌≡◌, ◌≤◌, true};
 ghost use Rattle.ff_planes.specs.declared.component.Component.TheVariants.{Luma, Blue};
 ghost use Rattle.ff_fsync.specs.Synced.{each_of};
-ghost use Rattle.ff_stacks.specs.Shapes.{same_format as is_same_format, is_like, is_full, along, fills_stack, fits_stack};
+ghost use Rattle.ff_fsync.specs.stacks.Shapes.{same_format as is_same_format, is_like, is_full, along, fills_stack, fits_stack};
 
 use ff_frame::{Format, VFrame};
 

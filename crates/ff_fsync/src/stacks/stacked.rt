@@ -1,7 +1,7 @@
 ghost use Rattle.std.specs.Prelude.{◌≤◌, ◌^◌};
 
-use crate::stacking::Stacking;
-use ff_fsync::Framesync;
+use crate::Framesync;
+use crate::stacks::stacking::Stacking;
 
 /// Shows the pictures of several inputs stacked, within the limits of every stream.
 #[derive(Drop)]

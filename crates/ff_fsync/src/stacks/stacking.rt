@@ -1,10 +1,10 @@
 ghost use Rattle.std.specs.Prelude.{◌≡◌, ◌<◌, ◌^◌, true, IfOk, [], ◌∷◌};
-ghost use Rattle.ff_values.specs.Video.{IsSide};
-ghost use Rattle.ff_stacks.specs.Shapes.{end_ticks, fits_stack, planes_by, stacked_planes, lasts as lasts_at};
+ghost use Rattle.ff_frame.specs.Video.{IsSide};
+ghost use Rattle.ff_fsync.specs.stacks.Shapes.{end_ticks, fits_stack, planes_by, stacked_planes, lasts as lasts_at};
 
-use crate::shape::{Direction, Shape};
+use crate::Stack;
+use crate::stacks::shape::{Direction, Shape};
 use ff_frame::{Bytes, VFrame};
-use ff_fsync::Stack;
 use ff_planes::{hstack, vstack};
 use std::alloc::{AllocError, Global};
 
@@ -91,7 +91,7 @@ impl Stacking {
 }
 
 impl Stack for Stacking {
-    ghost use Rattle.ff_stacks.specs.Shapes.{stacked};
+    ghost use Rattle.ff_fsync.specs.stacks.Shapes.{stacked};
 
     ghost shows = { λ m t fs. stacked m.shape t fs };
 

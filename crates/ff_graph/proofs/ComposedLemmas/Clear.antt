@@ -4,11 +4,11 @@ use Rattle.std.proofs.Common.{refl, ap, sym, ◌∙◌, arith}
 use Rattle.std.proofs.lemmas.Slice.Eq.{bytes_eq-Decides}
 use Rattle.std.specs.Str.{bytes_eq}
 use Rattle.ff_lang.specs.declared.graph.Filter.{Filter}
-use Rattle.ff_edges.specs.Ports.{tally}
-use Rattle.ff_labels.specs.Labels.{is_one_of, ins_of, outs_of}
-use Rattle.ff_drawn.specs.Links.{Seen}
-use Rattle.ff_composed.proofs.Elements.{some_same, no_some, mapped}
-use Rattle.ff_composed.proofs.Feeding.{OnceTaken}
+use Rattle.ff_stream.specs.edges.Ports.{tally}
+use Rattle.ff_graph_links.specs.labels.Labels.{is_one_of, ins_of, outs_of}
+use Rattle.ff_graph_links.specs.pads.Links.{Seen}
+use Rattle.ff_graph.proofs.ComposedLemmas.Elements.{some_same, no_some, mapped}
+use Rattle.ff_graph.proofs.ComposedLemmas.Feeding.{OnceTaken}
 
 -- ---- how many there are
 

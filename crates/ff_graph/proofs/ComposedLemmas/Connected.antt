@@ -1,26 +1,26 @@
 -- The plan of a drawing, with filters that are ready in its places.
 use Rattle.std.proofs.Common.{◌≡◌, ℕ, zero, suc, ◌≤◌, List, [], ◌∷◌, length, map, slice_get, Option, None, Some, Result, Ok, Err, IfOk, refl, ap, sym, ◌∙◌, arith}
-use Rattle.ff_frame.specs.Ports.{nothing}
+use Rattle.ff_stream.specs.Ports.{nothing}
 use Rattle.ff_net.specs.Nets.{solve_from}
 use Rattle.ff_filter.specs.Joins.{Ports}
 use Rattle.ff_filter.specs.Views.{View}
-use Rattle.ff_drawn.specs.declared.drawn.Pad.{Pad}
-use Rattle.ff_dag.specs.declared.graph.Plan.{Plan}
-use Rattle.ff_dag.specs.Dags.{Spot}
-use Rattle.ff_dag.specs.Graphs.{Sound}
-use Rattle.ff_dag.specs.Parts.{composed, parts_of}
-use Rattle.ff_tied.specs.Tied.{IsTied}
-use Rattle.ff_tied.proofs.Tying.{tied_sound}
-use Rattle.ff_wired.specs.Wires.{wires_of, IsWired}
-use Rattle.ff_wired.specs.Flows.{Flows, no_flows, flows_from, port_at, placed, placed_pads, placed_counts, IsDrawing}
-use Rattle.ff_wired.specs.Limits.{flows_at}
-use Rattle.ff_wired.proofs.Tying.{numbers_size}
-use Rattle.ff_wired.proofs.Meaning.{reads_past}
-use Rattle.ff_wired.proofs.LimitedGraphs.{at_got}
-use Rattle.ff_wired.proofs.Drawn.{drawn_means}
-use Rattle.ff_composed.specs.Ready.{new_spot, AreReady}
-use Rattle.ff_composed.proofs.Elements.{got_above, none_got, map_size}
-use Rattle.ff_composed.proofs.Fitting.{size, new, fits}
+use Rattle.ff_graph_links.specs.declared.pads.drawn.Pad.{Pad}
+use Rattle.ff_graph_dag.specs.declared.graph.Plan.{Plan}
+use Rattle.ff_graph_dag.specs.Dags.{Spot}
+use Rattle.ff_graph_dag.specs.Graphs.{Sound}
+use Rattle.ff_graph_dag.specs.Parts.{composed, parts_of}
+use Rattle.ff_graph_dag.specs.ties.Tied.{IsTied}
+use Rattle.ff_graph_dag.proofs.TiesLemmas.Tying.{tied_sound}
+use Rattle.ff_graph_dag.specs.wiring.Wires.{wires_of, IsWired}
+use Rattle.ff_graph_dag.specs.wiring.Flows.{Flows, no_flows, flows_from, port_at, placed, placed_pads, placed_counts, IsDrawing}
+use Rattle.ff_graph_dag.specs.wiring.Limits.{flows_at}
+use Rattle.ff_graph_dag.proofs.WiringLemmas.Tying.{numbers_size}
+use Rattle.ff_graph_dag.proofs.WiringLemmas.Meaning.{reads_past}
+use Rattle.ff_graph_dag.proofs.WiringLemmas.LimitedGraphs.{at_got}
+use Rattle.ff_graph_dag.proofs.WiringLemmas.Drawn.{drawn_means}
+use Rattle.ff_graph.specs.composed.Ready.{new_spot, AreReady}
+use Rattle.ff_graph.proofs.ComposedLemmas.Elements.{got_above, none_got, map_size}
+use Rattle.ff_graph.proofs.ComposedLemmas.Fitting.{size, new, fits}
 
 views_of : (vs : List View) → map (λ (s : Spot). s.view) (map (λ (v : View). new_spot v) vs) ≡ vs
 views_of [] = refl

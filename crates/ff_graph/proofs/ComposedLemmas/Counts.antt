@@ -6,15 +6,15 @@ use Rattle.std.proofs.lemmas.List.{length-replicate}
 use Rattle.std.specs.Option.{option_map}
 use Rattle.std.specs.Prelude.{codes}
 use Rattle.std.specs.Str.{bytes_eq}
-use Rattle.ff_values.specs.declared.config.ConfigError.{ConfigError}
-use Rattle.ff_values.specs.declared.head.StreamHead.{StreamHead}
-use Rattle.ff_values.specs.declared.head.StreamHead.TheVariants.{Audio, Video}
+use Rattle.ff_frame.specs.declared.config.ConfigError.{ConfigError}
+use Rattle.ff_frame.specs.declared.head.StreamHead.{StreamHead}
+use Rattle.ff_frame.specs.declared.head.StreamHead.TheVariants.{Audio, Video}
 use Rattle.ff_lang.specs.declared.graph.Arg.{Arg}
 use Rattle.ff_filter.specs.Options.{is_sound, is_video, option_of, only_head}
 use Rattle.ff_filter.specs.Plain.{no_manual, pass_view, rebase_view}
 use Rattle.ff_filter.specs.Views.{View}
-use Rattle.ff_spread.specs.declared.copies.SplitSettings.{SplitSettings}
-use Rattle.ff_spread.specs.Splits.{split_manual, split_view, split_heads}
+use Rattle.ff_filter.specs.declared.spread.copies.SplitSettings.{SplitSettings}
+use Rattle.ff_filter.specs.spread.Splits.{split_manual, split_view, split_heads}
 use Rattle.ff_vfilter.specs.Trims.{trim_view}
 use Rattle.ff_vfilter.specs.Crops.{crop_view, crop_head}
 use Rattle.ff_vfilter.specs.Pads.{pad_view, pad_head}
@@ -23,8 +23,8 @@ use Rattle.ff_vfilter.specs.VFlips.{vflip_view}
 use Rattle.ff_vfilter.specs.FpsOptions.{fps_view, fps_head}
 use Rattle.ff_afilter.specs.Trims.{atrim_view}
 use Rattle.ff_afilter.specs.Channels.{channels_view, channels_in, mono_head, mono_heads}
-use Rattle.ff_stacks.specs.declared.shape.Direction.TheVariants.{Beside, Below}
-use Rattle.ff_stacks.specs.Stacks.{stack_view, head_of}
+use Rattle.ff_fsync.specs.declared.stacks.shape.Direction.TheVariants.{Beside, Below}
+use Rattle.ff_fsync.specs.stacks.Stacks.{stack_view, head_of}
 use Rattle.ff_joins.specs.ConcatOptions.{concat_view, concat_head}
 use Rattle.ff_joins.specs.JoinView.{join_view}
 use Rattle.ff_joins.specs.Arguments.{ranged, or_else, gives, last_from, last_number}
@@ -36,7 +36,7 @@ use Rattle.ff_filters.specs.Configured.{Filtered, filtered, plain_by, pass_by, r
 use Rattle.ff_filters.specs.Configured.{concat_by, join_by, configured_as}
 use Rattle.ff_filters.specs.Pads.{outputs_of}
 use Rattle.ff_filters.proofs.Parting.{then_ok, parts_of}
-use Rattle.ff_drawn.specs.Links.{Seen}
+use Rattle.ff_graph_links.specs.pads.Links.{Seen}
 use Rattle.ff_graph.specs.Configured.{too_few, too_few_channels, is_surplus}
 
 -- ---- split

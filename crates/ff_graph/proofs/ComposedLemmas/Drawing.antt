@@ -1,33 +1,33 @@
 -- A graph whose filters were made is a drawing.
 use Rattle.std.proofs.Common.{◌≡◌, ℕ, zero, suc, ◌<◌, ◌≤◌, Bool, false, List, [], ◌∷◌, length, slice_get, slice_index_or, Option, Some, Ok}
 use Rattle.std.proofs.Common.{refl, ap, sym, ◌∙◌, subst, arith}
-use Rattle.ff_values.specs.declared.head.StreamHead.{StreamHead}
+use Rattle.ff_frame.specs.declared.head.StreamHead.{StreamHead}
 use Rattle.ff_lang.specs.declared.graph.Graph.{Graph}
 use Rattle.ff_filter.specs.Views.{View}
-use Rattle.ff_order.specs.Orders.{loops as is_looped, IsOrder, IsOrderFrom, IsLowestFrom}
-use Rattle.ff_order.proofs.Lowest.{is_lowest}
-use Rattle.ff_drawn.specs.declared.drawn.Pad.{Pad}
-use Rattle.ff_drawn.specs.Links.{Seen}
-use Rattle.ff_frame.specs.declared.item.Lane.{Lane}
-use Rattle.ff_frame.specs.declared.item.Lane.TheVariants.{Frames}
+use Rattle.ff_graph_links.specs.orders.Orders.{loops as is_looped, IsOrder, IsOrderFrom, IsLowestFrom}
+use Rattle.ff_graph_links.proofs.OrdersLemmas.Lowest.{is_lowest}
+use Rattle.ff_graph_links.specs.declared.pads.drawn.Pad.{Pad}
+use Rattle.ff_graph_links.specs.pads.Links.{Seen}
+use Rattle.ff_stream.specs.declared.item.Lane.{Lane}
+use Rattle.ff_stream.specs.declared.item.Lane.TheVariants.{Frames}
 use Rattle.ff_filters.proofs.PortLanes.{agrees}
 use Rattle.ff_graph.specs.Drawings.{seen_graph}
 use Rattle.ff_graph.specs.Opens.{feeders_in, filter_order, open_pads, sources_in, loops}
 use Rattle.ff_graph.specs.Configured.{Made, make_all, open_outs}
 use Rattle.ff_graph.proofs.Refusals.{feeders_size, order_there}
-use Rattle.ff_wired.specs.Flows.{IsForward, IsDrawing}
-use Rattle.ff_wired.proofs.Forward.{forward, all_come}
-use Rattle.ff_wired.proofs.Opening.{opens_open, opens_once, opens_all}
-use Rattle.ff_labels.specs.Clear.{IsClear}
-use Rattle.ff_composed.specs.Ready.{pads_of, counts_of, IsReady, AreReady}
-use Rattle.ff_composed.proofs.Elements.{some_same, no_some, got_below, map_size, map_or}
-use Rattle.ff_composed.proofs.Sourced.{sources_size}
-use Rattle.ff_composed.proofs.Feeding.{HaveRoom, fed_once, fed_there, fed_after}
-use Rattle.ff_composed.proofs.Outs.{outs_there, outs_free, outs_once, outs_all}
-use Rattle.ff_composed.proofs.Seeing.{pads_there, starts_anew, labels_once}
-use Rattle.ff_composed.proofs.Counts.{outputs_there, labels_there}
-use Rattle.ff_composed.proofs.Made.{IsMade, AreMade, NoneTwice, all_made}
-use Rattle.ff_composed.proofs.Limiting.{into_size}
+use Rattle.ff_graph_dag.specs.wiring.Flows.{IsForward, IsDrawing}
+use Rattle.ff_graph_dag.proofs.WiringLemmas.Forward.{forward, all_come}
+use Rattle.ff_graph_dag.proofs.WiringLemmas.Opening.{opens_open, opens_once, opens_all}
+use Rattle.ff_graph_links.specs.labels.Clear.{IsClear}
+use Rattle.ff_graph.specs.composed.Ready.{pads_of, counts_of, IsReady, AreReady}
+use Rattle.ff_graph.proofs.ComposedLemmas.Elements.{some_same, no_some, got_below, map_size, map_or}
+use Rattle.ff_graph.proofs.ComposedLemmas.Sourced.{sources_size}
+use Rattle.ff_graph.proofs.ComposedLemmas.Feeding.{HaveRoom, fed_once, fed_there, fed_after}
+use Rattle.ff_graph.proofs.ComposedLemmas.Outs.{outs_there, outs_free, outs_once, outs_all}
+use Rattle.ff_graph.proofs.ComposedLemmas.Seeing.{pads_there, starts_anew, labels_once}
+use Rattle.ff_graph.proofs.ComposedLemmas.Counts.{outputs_there, labels_there}
+use Rattle.ff_graph.proofs.ComposedLemmas.Made.{IsMade, AreMade, NoneTwice, all_made}
+use Rattle.ff_graph.proofs.ComposedLemmas.Limiting.{into_size}
 
 -- ---- the order
 

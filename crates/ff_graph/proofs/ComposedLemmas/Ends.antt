@@ -3,10 +3,10 @@ use Rattle.std.proofs.Common.{◌≡◌, ◌⊎◌, inl, inr, ℕ, zero, suc, �
 use Rattle.std.proofs.Common.{List, [], ◌∷◌, ◌++◌, length, slice_get, slice_index_or, refl, ap, sym, ◌∙◌, subst, arith}
 use Rattle.std.proofs.lemmas.List.{length-replicate}
 use Rattle.std.specs.List.{AllByRecursion}
-use Rattle.ff_values.specs.declared.config.ConfigError.{ConfigError}
-use Rattle.ff_values.specs.declared.config.ConfigError.TheVariants.{Pads, Kind}
-use Rattle.ff_values.specs.declared.head.StreamHead.{StreamHead}
-use Rattle.ff_values.specs.declared.head.StreamHead.TheVariants.{Audio, Video}
+use Rattle.ff_frame.specs.declared.config.ConfigError.{ConfigError}
+use Rattle.ff_frame.specs.declared.config.ConfigError.TheVariants.{Pads, Kind}
+use Rattle.ff_frame.specs.declared.head.StreamHead.{StreamHead}
+use Rattle.ff_frame.specs.declared.head.StreamHead.TheVariants.{Audio, Video}
 use Rattle.ff_lang.specs.declared.graph.Arg.{Arg}
 use Rattle.ff_lang.specs.declared.graph.Chain.{Chain}
 use Rattle.ff_lang.specs.declared.graph.Filter.{Filter}
@@ -15,19 +15,19 @@ use Rattle.ff_lang.specs.Grammar.{IsFilter, IsChain, IsGraph, IsSeries}
 use Rattle.ff_filter.specs.Options.{Manual, option_of, is_sound, is_video}
 use Rattle.ff_filter.specs.Plain.{no_manual}
 use Rattle.ff_filter.specs.Views.{View}
-use Rattle.ff_spread.specs.Splits.{split_manual}
+use Rattle.ff_filter.specs.spread.Splits.{split_manual}
 use Rattle.ff_afilter.specs.Channels.{channels_view, channels_in, mono_head, mono_heads}
-use Rattle.ff_stacks.specs.declared.shape.Direction.{Direction}
-use Rattle.ff_stacks.specs.declared.shape.Direction.TheVariants.{Beside, Below}
-use Rattle.ff_stacks.specs.Heads.{input_fault}
-use Rattle.ff_stacks.specs.Options.{stack_manual, counted}
-use Rattle.ff_stacks.specs.Stacks.{StackOf, stack_view, head_of}
+use Rattle.ff_fsync.specs.declared.stacks.shape.Direction.{Direction}
+use Rattle.ff_fsync.specs.declared.stacks.shape.Direction.TheVariants.{Beside, Below}
+use Rattle.ff_fsync.specs.stacks.Heads.{input_fault}
+use Rattle.ff_fsync.specs.stacks.Options.{stack_manual, counted}
+use Rattle.ff_fsync.specs.stacks.Stacks.{StackOf, stack_view, head_of}
 use Rattle.ff_joins.specs.Arguments.{each_head, ranged, or_else, gives, last_from, last_number}
 use Rattle.ff_joins.specs.ConcatOptions.{concat_manual, concat_set, concat_start, segments_said, video_said, sound_said, is_of_kind, concat_view, concat_head}
 use Rattle.ff_joins.specs.JoinOptions.{join_manual, inputs_said}
 use Rattle.ff_joins.specs.JoinView.{join_view}
-use Rattle.ff_drawn.specs.declared.drawn.Pad.{Pad}
-use Rattle.ff_drawn.specs.Links.{Seen}
+use Rattle.ff_graph_links.specs.declared.pads.drawn.Pad.{Pad}
+use Rattle.ff_graph_links.specs.pads.Links.{Seen}
 use Rattle.ff_filters.specs.declared.name.FilterName.{FilterName}
 use Rattle.ff_filters.specs.declared.name.FilterName.TheVariants as filter
 use Rattle.ff_filters.specs.ReadBy.{read_by}
@@ -38,19 +38,19 @@ use Rattle.ff_filters.proofs.SettingsBy.{ranged_out}
 use Rattle.ff_graph.specs.Configured.{Made, OpenOut, Refused, configured, make_all, outs_of, open_outs}
 use Rattle.ff_graph.specs.Drawings.{seen_chain, seen_chains, seen_graph}
 use Rattle.ff_graph.specs.Opens.{filter_order, loops, open_in, open_ins, open_pads, sources_in}
-use Rattle.ff_labels.specs.Clear.{IsClear}
-use Rattle.ff_wired.specs.Flows.{IsForward, IsDrawing, source_at}
-use Rattle.ff_composed.specs.Cuts.{all_given}
-use Rattle.ff_composed.specs.Pads.{HasChannel, HasFilter, HaveChannels}
-use Rattle.ff_composed.specs.Ready.{pads_of, counts_of}
-use Rattle.ff_composed.proofs.Counts.{outputs_there}
-use Rattle.ff_composed.proofs.Drawing.{IsWhole, made_at, whole}
-use Rattle.ff_composed.proofs.Elements.{some_same, no_some, got, got_below, or_none, there_or_not, map_size, map_or}
-use Rattle.ff_composed.proofs.Fed.{pad_of}
-use Rattle.ff_composed.proofs.Limiting.{into_size, given_so}
-use Rattle.ff_composed.proofs.Made.{IsMade, GivenSo}
-use Rattle.ff_composed.proofs.Sourced.{sources_size}
-use Rattle.ff_composed.proofs.Whole.{outs_are}
+use Rattle.ff_graph_links.specs.labels.Clear.{IsClear}
+use Rattle.ff_graph_dag.specs.wiring.Flows.{IsForward, IsDrawing, source_at}
+use Rattle.ff_graph.specs.composed.Cuts.{all_given}
+use Rattle.ff_graph.specs.composed.Pads.{HasChannel, HasFilter, HaveChannels}
+use Rattle.ff_graph.specs.composed.Ready.{pads_of, counts_of}
+use Rattle.ff_graph.proofs.ComposedLemmas.Counts.{outputs_there}
+use Rattle.ff_graph.proofs.ComposedLemmas.Drawing.{IsWhole, made_at, whole}
+use Rattle.ff_graph.proofs.ComposedLemmas.Elements.{some_same, no_some, got, got_below, or_none, there_or_not, map_size, map_or}
+use Rattle.ff_graph.proofs.ComposedLemmas.Fed.{pad_of}
+use Rattle.ff_graph.proofs.ComposedLemmas.Limiting.{into_size, given_so}
+use Rattle.ff_graph.proofs.ComposedLemmas.Made.{IsMade, GivenSo}
+use Rattle.ff_graph.proofs.ComposedLemmas.Sourced.{sources_size}
+use Rattle.ff_graph.proofs.ComposedLemmas.Whole.{outs_are}
 
 was_made : {X : Type 0} (shown : X → View) (outs : X → List StreamHead) (r : Result X ConfigError) (f : Filtered) → filtered shown outs r ≡ Ok f
     → (m : X) × (r ≡ Ok m) × (f.outs ≡ outs m)

@@ -2,10 +2,10 @@
 use Rattle.std.proofs.Common.{◌≡◌, ℕ, zero, suc, ◌==◌, ◌&&◌, ◌||◌, Bool, true, false, List, [], ◌∷◌, slice_get, Option, None, Some}
 use Rattle.std.proofs.Common.{refl, ap, sym, ◌∙◌, ◌⊎◌, inl, inr}
 use Rattle.std.specs.List.{list_any}
-use Rattle.ff_drawn.specs.declared.drawn.Pad.{Pad}
+use Rattle.ff_graph_links.specs.declared.pads.drawn.Pad.{Pad}
 use Rattle.ff_graph.specs.Configured.{same_pad, is_pad, feeds_one}
-use Rattle.ff_wired.specs.Flows.{source_at}
-use Rattle.ff_composed.proofs.Elements.{some_same, no_some, or_got, or_none, there_or_not, both, is_it, it_is}
+use Rattle.ff_graph_dag.specs.wiring.Flows.{source_at}
+use Rattle.ff_graph.proofs.ComposedLemmas.Elements.{some_same, no_some, or_got, or_none, there_or_not, both, is_it, it_is}
 
 abbrev pub pad_of : ℕ → ℕ → Pad
 pad_of k i = record { filter = k; pad = i }

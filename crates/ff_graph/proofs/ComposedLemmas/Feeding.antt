@@ -2,13 +2,13 @@
 use Rattle.std.proofs.Common.{◌≡◌, ℕ, zero, suc, ◌+◌, ◌-◌, ◌<◌, ◌≤◌, Bool, true, false, cond, nat_lt, List, [], ◌∷◌, ◌++◌, length, map, slice_get, slice_index_or}
 use Rattle.std.proofs.Common.{Option, None, Some, refl, ap, sym, ◌∙◌, inl, inr, arith}
 use Rattle.std.proofs.lemmas.Bool.Decides.{nat_tests}
-use Rattle.ff_values.specs.declared.head.StreamHead.{StreamHead}
-use Rattle.ff_drawn.specs.declared.drawn.Pad.{Pad}
-use Rattle.ff_drawn.specs.Links.{Seen, giver_from, next_pad, chained, filter_and, first_fed, givers, feeders_of, feeders_from}
+use Rattle.ff_frame.specs.declared.head.StreamHead.{StreamHead}
+use Rattle.ff_graph_links.specs.declared.pads.drawn.Pad.{Pad}
+use Rattle.ff_graph_links.specs.pads.Links.{Seen, giver_from, next_pad, chained, filter_and, first_fed, givers, feeders_of, feeders_from}
 use Rattle.ff_graph.specs.Opens.{feeders_in, sources_in}
-use Rattle.ff_wired.specs.Flows.{source_at}
-use Rattle.ff_composed.proofs.Elements.{some_same, no_some, got_below, got_above, or_got, map_or}
-use Rattle.ff_composed.proofs.Sourced.{Sourced, sourced, IsLabelled, IsChained, fed_by}
+use Rattle.ff_graph_dag.specs.wiring.Flows.{source_at}
+use Rattle.ff_graph.proofs.ComposedLemmas.Elements.{some_same, no_some, got_below, got_above, or_got, map_or}
+use Rattle.ff_graph.proofs.ComposedLemmas.Sourced.{Sourced, sourced, IsLabelled, IsChained, fed_by}
 
 -- ---- once
 

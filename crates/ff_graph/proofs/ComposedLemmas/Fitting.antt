@@ -1,19 +1,19 @@
 -- Filters that are ready fit the edges of the plan of their drawing.
 use Rattle.std.proofs.Common.{◌≡◌, ℕ, zero, suc, ◌<◌, List, [], ◌∷◌, length, map, replicate, slice_get, slice_index_or, Option, None, Some, refl, ap, sym, ◌∙◌, subst, arith}
 use Rattle.std.proofs.lemmas.List.{length-replicate}
-use Rattle.ff_frame.specs.declared.item.Item.{Item}
+use Rattle.ff_stream.specs.declared.item.Item.{Item}
 use Rattle.ff_filter.specs.Views.{View}
-use Rattle.ff_drawn.specs.declared.drawn.Pad.{Pad}
-use Rattle.ff_dag.specs.declared.graph.Node.{Node}
-use Rattle.ff_dag.specs.declared.graph.Port.{Port}
-use Rattle.ff_dag.specs.declared.graph.Plan.{Plan}
-use Rattle.ff_dag.specs.Dags.{Spot, held_at}
-use Rattle.ff_dag.specs.Graphs.{no_spot, spot_at, Fits}
-use Rattle.ff_dag.specs.Parts.{AreNew}
-use Rattle.ff_wired.specs.Wires.{edges_up, ins_from, outs_from, wires_of, ends_of, starts_of, IsWired}
-use Rattle.ff_wired.specs.Flows.{port_of_source, placed, placed_pads, placed_counts}
-use Rattle.ff_composed.specs.Ready.{new_spot, IsReady, AreReady}
-use Rattle.ff_composed.proofs.Elements.{some_same, no_some, got, or_got, mapped, map_size}
+use Rattle.ff_graph_links.specs.declared.pads.drawn.Pad.{Pad}
+use Rattle.ff_graph_dag.specs.declared.graph.Node.{Node}
+use Rattle.ff_graph_dag.specs.declared.graph.Port.{Port}
+use Rattle.ff_graph_dag.specs.declared.graph.Plan.{Plan}
+use Rattle.ff_graph_dag.specs.Dags.{Spot, held_at}
+use Rattle.ff_graph_dag.specs.Graphs.{no_spot, spot_at, Fits}
+use Rattle.ff_graph_dag.specs.Parts.{AreNew}
+use Rattle.ff_graph_dag.specs.wiring.Wires.{edges_up, ins_from, outs_from, wires_of, ends_of, starts_of, IsWired}
+use Rattle.ff_graph_dag.specs.wiring.Flows.{port_of_source, placed, placed_pads, placed_counts}
+use Rattle.ff_graph.specs.composed.Ready.{new_spot, IsReady, AreReady}
+use Rattle.ff_graph.proofs.ComposedLemmas.Elements.{some_same, no_some, got, or_got, mapped, map_size}
 
 ups_size : (ps : List (Option Port)) (k i n : ℕ) → length (edges_up ps k i n) ≡ n
 ups_size ps k i zero = refl

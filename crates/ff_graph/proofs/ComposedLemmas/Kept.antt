@@ -4,16 +4,16 @@ use Rattle.std.specs.Prelude.{replicate}
 use Rattle.std.specs.List.{AllByRecursion}
 use Rattle.std.specs.Option.{option_map}
 use Rattle.ff_time.specs.Fraction.{Fraction, IsBase, IsBase-unit}
-use Rattle.ff_values.specs.declared.config.ConfigError.{ConfigError}
-use Rattle.ff_values.specs.declared.config.ConfigError.TheVariants.{Pads, Kind, Mismatch, BadSize}
-use Rattle.ff_values.specs.declared.head.StreamHead.{StreamHead}
-use Rattle.ff_frame.specs.declared.item.Lane.{Lane}
-use Rattle.ff_frame.specs.declared.item.Lane.TheVariants.{Frames}
+use Rattle.ff_frame.specs.declared.config.ConfigError.{ConfigError}
+use Rattle.ff_frame.specs.declared.config.ConfigError.TheVariants.{Pads, Kind, Mismatch, BadSize}
+use Rattle.ff_frame.specs.declared.head.StreamHead.{StreamHead}
+use Rattle.ff_stream.specs.declared.item.Lane.{Lane}
+use Rattle.ff_stream.specs.declared.item.Lane.TheVariants.{Frames}
 use Rattle.ff_lang.specs.declared.graph.Arg.{Arg}
 use Rattle.ff_filter.specs.Options.{option_of, only_head, is_sound, is_video}
 use Rattle.ff_filter.specs.Plain.{pass_view, rebase_view}
 use Rattle.ff_filter.specs.Views.{View}
-use Rattle.ff_spread.specs.Splits.{split_view, split_heads}
+use Rattle.ff_filter.specs.spread.Splits.{split_view, split_heads}
 use Rattle.ff_vfilter.specs.declared.fps.FpsSettings.{FpsSettings}
 use Rattle.ff_vfilter.specs.Sizes.{sized}
 use Rattle.ff_vfilter.specs.Trims.{trim_view}
@@ -24,12 +24,12 @@ use Rattle.ff_vfilter.specs.HFlips.{hflip_view}
 use Rattle.ff_vfilter.specs.VFlips.{vflip_view}
 use Rattle.ff_afilter.specs.Trims.{atrim_view}
 use Rattle.ff_afilter.specs.Channels.{channels_view, channels_in, mono_head, mono_heads}
-use Rattle.ff_stacks.specs.declared.options.StackSettings.{StackSettings}
-use Rattle.ff_stacks.specs.declared.shape.Direction.{Direction}
-use Rattle.ff_stacks.specs.declared.shape.Direction.TheVariants.{Beside, Below}
-use Rattle.ff_stacks.specs.Heads.{input_fault, stack_fault, total, with_length}
-use Rattle.ff_stacks.specs.Options.{stack_manual, counted}
-use Rattle.ff_stacks.specs.Stacks.{StackOf, stack_on, stack_view, head_of}
+use Rattle.ff_fsync.specs.declared.stacks.options.StackSettings.{StackSettings}
+use Rattle.ff_fsync.specs.declared.stacks.shape.Direction.{Direction}
+use Rattle.ff_fsync.specs.declared.stacks.shape.Direction.TheVariants.{Beside, Below}
+use Rattle.ff_fsync.specs.stacks.Heads.{input_fault, stack_fault, total, with_length}
+use Rattle.ff_fsync.specs.stacks.Options.{stack_manual, counted}
+use Rattle.ff_fsync.specs.stacks.Stacks.{StackOf, stack_on, stack_view, head_of}
 use Rattle.ff_joins.specs.Arguments.{each_head}
 use Rattle.ff_joins.specs.ConcatOptions.{concat_manual, concat_set, concat_start, segments_said, video_said, sound_said, is_of_kind, concat_view, concat_head}
 use Rattle.ff_joins.specs.JoinOptions.{join_manual, inputs_said, is_like, channels_in as all_channels, with_channels}

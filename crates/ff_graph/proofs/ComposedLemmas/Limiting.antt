@@ -1,31 +1,31 @@
 -- Each filter of a graph is behind limits, and takes what comes to it.
 use Rattle.std.specs.List.{AllByRecursion}
 use Rattle.std.proofs.Common.{◌≡◌, ℕ, zero, suc, ◌+◌, List, [], ◌∷◌, length, map, slice_get, slice_index_or, Option, None, Some, Ok, refl, ap, sym, ◌∙◌, subst, arith}
-use Rattle.ff_values.specs.declared.head.StreamHead.{StreamHead}
-use Rattle.ff_frame.specs.declared.item.Lane.{Lane}
-use Rattle.ff_frame.specs.declared.item.Lane.TheVariants.{Frames}
+use Rattle.ff_frame.specs.declared.head.StreamHead.{StreamHead}
+use Rattle.ff_stream.specs.declared.item.Lane.{Lane}
+use Rattle.ff_stream.specs.declared.item.Lane.TheVariants.{Frames}
 use Rattle.ff_net.specs.Ways.{lane_at}
 use Rattle.ff_filter.specs.Joins.{Ports}
 use Rattle.ff_filter.specs.Views.{View}
-use Rattle.ff_net_filter.specs.Limiting.{IsLimited}
-use Rattle.ff_drawn.specs.declared.drawn.Pad.{Pad}
-use Rattle.ff_drawn.specs.Links.{Seen}
+use Rattle.ff_node_filter.specs.Limiting.{IsLimited}
+use Rattle.ff_graph_links.specs.declared.pads.drawn.Pad.{Pad}
+use Rattle.ff_graph_links.specs.pads.Links.{Seen}
 use Rattle.ff_filters.proofs.PortLanes.{agrees}
-use Rattle.ff_limited.specs.Cuts.{cuts_in, AreTimed}
-use Rattle.ff_limited.proofs.Limited.{limited}
+use Rattle.ff_filters.specs.limited.Cuts.{cuts_in, AreTimed}
+use Rattle.ff_filters.proofs.LimitedLemmas.Limited.{limited}
 use Rattle.ff_graph.specs.Opens.{filter_order, open_pads, sources_in}
 use Rattle.ff_graph.specs.Configured.{Made, OpenOut, head_into, heads_into, and_head, place_of, open_outs}
 use Rattle.ff_graph.specs.Meaning.{means_as}
-use Rattle.ff_wired.specs.Flows.{source_at}
-use Rattle.ff_wired.specs.Limits.{Takes, Suits, AreLimited, Leave}
-use Rattle.ff_wired.proofs.LimitedGraphs.{graph_limited}
-use Rattle.ff_composed.specs.Cuts.{cuts_as, all_given}
-use Rattle.ff_composed.proofs.Elements.{some_same, no_some}
-use Rattle.ff_composed.proofs.Fed.{pad_of}
-use Rattle.ff_composed.proofs.Outs.{open_out}
-use Rattle.ff_composed.proofs.Made.{IsMade, AreMade, GivenSo, so_at}
-use Rattle.ff_composed.proofs.Timed.{IsTimed, each_timed, are_timed}
-use Rattle.ff_composed.proofs.Meaning.{place_is, means_is}
+use Rattle.ff_graph_dag.specs.wiring.Flows.{source_at}
+use Rattle.ff_graph_dag.specs.wiring.Limits.{Takes, Suits, AreLimited, Leave}
+use Rattle.ff_graph_dag.proofs.WiringLemmas.LimitedGraphs.{graph_limited}
+use Rattle.ff_graph.specs.composed.Cuts.{cuts_as, all_given}
+use Rattle.ff_graph.proofs.ComposedLemmas.Elements.{some_same, no_some}
+use Rattle.ff_graph.proofs.ComposedLemmas.Fed.{pad_of}
+use Rattle.ff_graph.proofs.ComposedLemmas.Outs.{open_out}
+use Rattle.ff_graph.proofs.ComposedLemmas.Made.{IsMade, AreMade, GivenSo, so_at}
+use Rattle.ff_graph.proofs.ComposedLemmas.Timed.{IsTimed, each_timed, are_timed}
+use Rattle.ff_graph.proofs.ComposedLemmas.Meaning.{place_is, means_is}
 
 -- ---- heads and lanes
 

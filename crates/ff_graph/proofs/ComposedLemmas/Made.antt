@@ -3,12 +3,12 @@ use Rattle.std.proofs.Common.{◌≡◌, ◌≢◌, ℕ, zero, suc, ◌<◌, Boo
 use Rattle.std.proofs.Common.{slice_set, Option, None, Some, Result, Ok, Err, refl, ap, sym, ◌∙◌, subst, ◌⊎◌, inl, inr, append_assoc}
 use Rattle.std.proofs.lemmas.List.{append-nil, length-replicate}
 use Rattle.std.specs.List.{AllByRecursion}
-use Rattle.ff_values.specs.declared.config.ConfigError.{ConfigError}
-use Rattle.ff_values.specs.declared.config.ConfigError.TheVariants as fault
-use Rattle.ff_values.specs.declared.head.StreamHead.{StreamHead}
+use Rattle.ff_frame.specs.declared.config.ConfigError.{ConfigError}
+use Rattle.ff_frame.specs.declared.config.ConfigError.TheVariants as fault
+use Rattle.ff_frame.specs.declared.head.StreamHead.{StreamHead}
 use Rattle.ff_filter.specs.Views.{View}
-use Rattle.ff_drawn.specs.declared.drawn.Pad.{Pad}
-use Rattle.ff_drawn.specs.Links.{Seen}
+use Rattle.ff_graph_links.specs.declared.pads.drawn.Pad.{Pad}
+use Rattle.ff_graph_links.specs.pads.Links.{Seen}
 use Rattle.ff_filters.specs.declared.name.FilterName.{FilterName}
 use Rattle.ff_filters.specs.Names.{filter_named}
 use Rattle.ff_filters.specs.Configured.{Filtered, configured_as}
@@ -16,11 +16,11 @@ use Rattle.ff_graph.specs.Configured.{Made, Refused, place_of, head_at, head_int
 use Rattle.ff_graph.specs.Configured.{make_from, none_made}
 use Rattle.ff_graph.specs.Opens.{open_pads, sources_in}
 use Rattle.ff_graph.proofs.Refusals.{AreThere}
-use Rattle.ff_wired.specs.Flows.{Absent}
-use Rattle.ff_composed.proofs.Elements.{some_same, no_some, same_or_not, set_here, set_there, set_size}
-use Rattle.ff_composed.specs.Pads.{HasChannel}
-use Rattle.ff_composed.proofs.Kept.{IsKept, kept_too}
-use Rattle.ff_composed.proofs.Timed.{IsTimed, timed_is_kept, heard_is_kept}
+use Rattle.ff_graph_dag.specs.wiring.Flows.{Absent}
+use Rattle.ff_graph.proofs.ComposedLemmas.Elements.{some_same, no_some, same_or_not, set_here, set_there, set_size}
+use Rattle.ff_graph.specs.composed.Pads.{HasChannel}
+use Rattle.ff_graph.proofs.ComposedLemmas.Kept.{IsKept, kept_too}
+use Rattle.ff_graph.proofs.ComposedLemmas.Timed.{IsTimed, timed_is_kept, heard_is_kept}
 
 -- ---- one filter
 

@@ -1,18 +1,18 @@
 -- What filters make one after another, as the definitions of graphs and of drawings say it.
 use Rattle.std.proofs.Common.{◌≡◌, ℕ, zero, suc, ◌+◌, Bool, true, false, cond, if◌then◌else◌, List, [], ◌∷◌, map, slice_get, slice_index_or}
 use Rattle.std.proofs.Common.{Option, None, Some, Ok, refl, ap, ◌∙◌, arith}
-use Rattle.ff_frame.specs.Ports.{nothing}
+use Rattle.ff_stream.specs.Ports.{nothing}
 use Rattle.ff_filter.specs.Joins.{Ports}
 use Rattle.ff_filter.specs.Views.{View}
-use Rattle.ff_drawn.specs.declared.drawn.Pad.{Pad}
-use Rattle.ff_drawn.specs.Links.{Seen}
+use Rattle.ff_graph_links.specs.declared.pads.drawn.Pad.{Pad}
+use Rattle.ff_graph_links.specs.pads.Links.{Seen}
 use Rattle.ff_graph.specs.Opens.{filter_order, open_pads, sources_in}
 use Rattle.ff_graph.specs.Configured.{Made, OpenOut, same_pad, place_from, place_of, open_outs}
 use Rattle.ff_graph.specs.Meaning.{Flows, no_flows, streams_at, means_as}
 use Rattle.ff_graph.specs.Meaning.{stream_into as graph_into, streams_into as graph_all_into, with_outputs, flows_from as graph_flows}
-use Rattle.ff_wired.specs.Flows.{pad_place, stream_into, streams_into, flows_from}
-use Rattle.ff_wired.specs.Limits.{flows_at}
-use Rattle.ff_composed.proofs.Elements.{some_same, no_some}
+use Rattle.ff_graph_dag.specs.wiring.Flows.{pad_place, stream_into, streams_into, flows_from}
+use Rattle.ff_graph_dag.specs.wiring.Limits.{flows_at}
+use Rattle.ff_graph.proofs.ComposedLemmas.Elements.{some_same, no_some}
 
 -- ---- the place of a pad
 

@@ -1,13 +1,13 @@
 -- The open output pads of a text: those that feed no input pad, each once, and no others.
 use Rattle.std.proofs.Common.{◌≡◌, ℕ, zero, suc, ◌+◌, ◌<◌, Bool, true, false, List, [], ◌∷◌, length, map, slice_get, slice_index_or, Option, None, Some}
 use Rattle.std.proofs.Common.{refl, ap, sym, ◌∙◌, subst, ◌⊎◌, inl, inr, arith}
-use Rattle.ff_values.specs.declared.head.StreamHead.{StreamHead}
-use Rattle.ff_drawn.specs.declared.drawn.Pad.{Pad}
-use Rattle.ff_drawn.specs.Links.{Seen}
+use Rattle.ff_frame.specs.declared.head.StreamHead.{StreamHead}
+use Rattle.ff_graph_links.specs.declared.pads.drawn.Pad.{Pad}
+use Rattle.ff_graph_links.specs.pads.Links.{Seen}
 use Rattle.ff_graph.specs.Configured.{OpenOut, feeds_one, unless_fed, outs_at, outs_from}
-use Rattle.ff_wired.specs.Flows.{source_at}
-use Rattle.ff_composed.proofs.Elements.{some_same, no_some, got_below, split, front, back, or_got, or_none, there_or_not, got, mapped, unmapped, map_or}
-use Rattle.ff_composed.proofs.Fed.{pad_of, feeds, is_fed}
+use Rattle.ff_graph_dag.specs.wiring.Flows.{source_at}
+use Rattle.ff_graph.proofs.ComposedLemmas.Elements.{some_same, no_some, got_below, split, front, back, or_got, or_none, there_or_not, got, mapped, unmapped, map_or}
+use Rattle.ff_graph.proofs.ComposedLemmas.Fed.{pad_of, feeds, is_fed}
 
 -- ---- those of one filter
 

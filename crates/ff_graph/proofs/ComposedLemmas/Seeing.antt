@@ -7,17 +7,17 @@ use Rattle.std.specs.Str.{bytes_eq}
 use Rattle.ff_lang.specs.declared.graph.Chain.{Chain}
 use Rattle.ff_lang.specs.declared.graph.Filter.{Filter}
 use Rattle.ff_lang.specs.declared.graph.Graph.{Graph}
-use Rattle.ff_edges.specs.Ports.{tally}
-use Rattle.ff_labels.specs.Labels.{is_one_of, ins_of, outs_of}
-use Rattle.ff_drawn.specs.Links.{Seen}
+use Rattle.ff_stream.specs.edges.Ports.{tally}
+use Rattle.ff_graph_links.specs.labels.Labels.{is_one_of, ins_of, outs_of}
+use Rattle.ff_graph_links.specs.pads.Links.{Seen}
 use Rattle.ff_filters.specs.declared.name.FilterName.{FilterName}
 use Rattle.ff_filters.specs.Names.{filter_named}
 use Rattle.ff_filters.specs.Pads.{inputs_of, outputs_of}
 use Rattle.ff_graph.specs.Drawings.{seen_as, seen_chain, seen_chains, seen_graph}
-use Rattle.ff_labels.specs.Clear.{IsClear}
-use Rattle.ff_composed.proofs.Elements.{some_same, no_some, split}
-use Rattle.ff_composed.proofs.Feeding.{OnceTaken, StartsAnew}
-use Rattle.ff_composed.proofs.Clear.{filters_in, taken_once}
+use Rattle.ff_graph_links.specs.labels.Clear.{IsClear}
+use Rattle.ff_graph.proofs.ComposedLemmas.Elements.{some_same, no_some, split}
+use Rattle.ff_graph.proofs.ComposedLemmas.Feeding.{OnceTaken, StartsAnew}
+use Rattle.ff_graph.proofs.ComposedLemmas.Clear.{filters_in, taken_once}
 
 -- ---- each is drawn by its name
 

@@ -4,11 +4,11 @@ use Rattle.std.proofs.Common.{Option, None, Some, refl, ap, sym, ◌∙◌, subs
 use Rattle.std.proofs.lemmas.Bool.Decides.{nat_tests}
 use Rattle.std.proofs.lemmas.Slice.Eq.{bytes_eq-Decides}
 use Rattle.std.specs.Str.{bytes_eq}
-use Rattle.ff_drawn.specs.declared.drawn.Pad.{Pad}
-use Rattle.ff_drawn.specs.Links.{Seen, place_from, pad_or, giver_from, next_pad, source_by, source_of, sources_up, sources_of, sources_from}
+use Rattle.ff_graph_links.specs.declared.pads.drawn.Pad.{Pad}
+use Rattle.ff_graph_links.specs.pads.Links.{Seen, place_from, pad_or, giver_from, next_pad, source_by, source_of, sources_up, sources_of, sources_from}
 use Rattle.ff_graph.specs.Opens.{sources_in}
-use Rattle.ff_wired.specs.Flows.{source_at}
-use Rattle.ff_composed.proofs.Elements.{some_same, no_some, or_got, or_none, cond_some, there_or_not}
+use Rattle.ff_graph_dag.specs.wiring.Flows.{source_at}
+use Rattle.ff_graph.proofs.ComposedLemmas.Elements.{some_same, no_some, or_got, or_none, cond_some, there_or_not}
 
 -- ---- one list for each filter
 

@@ -2,19 +2,19 @@
 use Rattle.std.proofs.Common.{ℕ, ◌≤◌, List, [], ◌∷◌, arith}
 use Rattle.std.specs.List.{AllByRecursion}
 use Rattle.ff_time.specs.Fraction.{Fraction, IsBase}
-use Rattle.ff_values.specs.declared.head.StreamHead.{StreamHead}
-use Rattle.ff_values.specs.declared.head.StreamHead.TheVariants.{Audio, Video}
-use Rattle.ff_values.specs.Heads.{base_of_head}
+use Rattle.ff_frame.specs.declared.head.StreamHead.{StreamHead}
+use Rattle.ff_frame.specs.declared.head.StreamHead.TheVariants.{Audio, Video}
+use Rattle.ff_frame.specs.Heads.{base_of_head}
 use Rattle.ff_vfilter.specs.Sizes.{sized}
 use Rattle.ff_vfilter.specs.FpsOptions.{fps_head}
 use Rattle.ff_afilter.specs.Channels.{mono_head}
-use Rattle.ff_stacks.specs.declared.shape.Direction.{Direction}
-use Rattle.ff_stacks.specs.declared.shape.Direction.TheVariants.{Beside, Below}
-use Rattle.ff_stacks.specs.Heads.{with_length}
+use Rattle.ff_fsync.specs.declared.stacks.shape.Direction.{Direction}
+use Rattle.ff_fsync.specs.declared.stacks.shape.Direction.TheVariants.{Beside, Below}
+use Rattle.ff_fsync.specs.stacks.Heads.{with_length}
 use Rattle.ff_joins.specs.JoinOptions.{channels_in, with_channels}
-use Rattle.ff_limited.specs.Cuts.{AreTimed}
-use Rattle.ff_composed.specs.Pads.{HasChannel}
-use Rattle.ff_composed.proofs.Kept.{IsKept}
+use Rattle.ff_filters.specs.limited.Cuts.{AreTimed}
+use Rattle.ff_graph.specs.composed.Pads.{HasChannel}
+use Rattle.ff_graph.proofs.ComposedLemmas.Kept.{IsKept}
 
 -- ---- time bases
 

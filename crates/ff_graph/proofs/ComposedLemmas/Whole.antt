@@ -1,32 +1,32 @@
 -- What a graph is whose filters were made.
 use Rattle.std.proofs.Common.{◌≡◌, ℕ, Bool, false, List, [], ◌∷◌, length, map, Option, Result, Ok, Err, refl, ap, sym, ◌∙◌, subst}
 use Rattle.ff_time.specs.declared.cut.TimeCut.{TimeCut}
-use Rattle.ff_values.specs.declared.head.StreamHead.{StreamHead}
-use Rattle.ff_frame.specs.declared.item.Lane.{Lane}
-use Rattle.ff_frame.specs.declared.item.Lane.TheVariants.{Frames}
+use Rattle.ff_frame.specs.declared.head.StreamHead.{StreamHead}
+use Rattle.ff_stream.specs.declared.item.Lane.{Lane}
+use Rattle.ff_stream.specs.declared.item.Lane.TheVariants.{Frames}
 use Rattle.ff_lang.specs.declared.graph.Graph.{Graph}
 use Rattle.ff_net.specs.Pasts.{start}
 use Rattle.ff_filter.specs.Joins.{Flow, Ports}
 use Rattle.ff_filter.specs.Views.{View}
-use Rattle.ff_net_filter.specs.Limiting.{IsLimited, limit_cause}
-use Rattle.ff_net_filter.specs.Tasks.{Stands, filter_task}
-use Rattle.ff_drawn.specs.declared.drawn.Pad.{Pad}
-use Rattle.ff_drawn.specs.Links.{opens_from}
-use Rattle.ff_limited.specs.Cuts.{AreTimed}
-use Rattle.ff_cutting.specs.Cuts.{cut_at, cut_each}
+use Rattle.ff_node_filter.specs.Limiting.{IsLimited, limit_cause}
+use Rattle.ff_node_filter.specs.Tasks.{Stands, filter_task}
+use Rattle.ff_graph_links.specs.declared.pads.drawn.Pad.{Pad}
+use Rattle.ff_graph_links.specs.pads.Links.{opens_from}
+use Rattle.ff_filters.specs.limited.Cuts.{AreTimed}
+use Rattle.ff_trim.specs.Cuts.{cut_at, cut_each}
 use Rattle.ff_graph.specs.Drawings.{seen_graph}
 use Rattle.ff_graph.specs.Opens.{filter_order, open_pads, sources_in, loops}
 use Rattle.ff_graph.specs.Configured.{Made, OpenOut, Refused, configured, make_all, outs_of, open_outs}
 use Rattle.ff_graph.specs.Meaning.{graph_means, means_as}
-use Rattle.ff_wired.specs.Flows.{no_flows, flows_from, IsDrawing}
-use Rattle.ff_wired.specs.Limits.{flows_at}
-use Rattle.ff_labels.specs.Clear.{IsClear}
-use Rattle.ff_composed.specs.Cuts.{cuts_as, graph_cuts, outs_or_none, all_given, graph_outs}
-use Rattle.ff_composed.specs.Ready.{pads_of, counts_of, AreReady}
-use Rattle.ff_composed.proofs.Drawing.{whole, are_ready}
-use Rattle.ff_composed.proofs.Elements.{map_size}
-use Rattle.ff_composed.proofs.Limiting.{whole_limited}
-use Rattle.ff_composed.proofs.Meaning.{means_is}
+use Rattle.ff_graph_dag.specs.wiring.Flows.{no_flows, flows_from, IsDrawing}
+use Rattle.ff_graph_dag.specs.wiring.Limits.{flows_at}
+use Rattle.ff_graph_links.specs.labels.Clear.{IsClear}
+use Rattle.ff_graph.specs.composed.Cuts.{cuts_as, graph_cuts, outs_or_none, all_given, graph_outs}
+use Rattle.ff_graph.specs.composed.Ready.{pads_of, counts_of, AreReady}
+use Rattle.ff_graph.proofs.ComposedLemmas.Drawing.{whole, are_ready}
+use Rattle.ff_graph.proofs.ComposedLemmas.Elements.{map_size}
+use Rattle.ff_graph.proofs.ComposedLemmas.Limiting.{whole_limited}
+use Rattle.ff_graph.proofs.ComposedLemmas.Meaning.{means_is}
 
 ok_same : {A E : Type 0} (x y : A) → (let r : Result A E = Ok x in r) ≡ Ok y → x ≡ y
 ok_same x y e = cc

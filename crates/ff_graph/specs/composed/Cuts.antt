@@ -1,22 +1,22 @@
 -- Where the limits of a graph cut, and what the graph is to do as a node of a network.
 use Rattle.std.specs.Prelude.{Bool, false, List, [], length, map, Option, Some, Result, Ok, Err}
 use Rattle.ff_time.specs.declared.cut.TimeCut.{TimeCut}
-use Rattle.ff_values.specs.declared.head.StreamHead.{StreamHead}
-use Rattle.ff_frame.specs.Ports.{stream_at}
+use Rattle.ff_frame.specs.declared.head.StreamHead.{StreamHead}
+use Rattle.ff_stream.specs.Ports.{stream_at}
 use Rattle.ff_lang.specs.declared.graph.Graph.{Graph}
 use Rattle.ff_net.specs.Pasts.{Task}
 use Rattle.ff_filter.specs.Joins.{Flow, Ports}
-use Rattle.ff_net_filter.specs.Limiting.{limit_cause}
-use Rattle.ff_net_filter.specs.Tasks.{filter_task}
-use Rattle.ff_drawn.specs.Links.{Seen}
+use Rattle.ff_node_filter.specs.Limiting.{limit_cause}
+use Rattle.ff_node_filter.specs.Tasks.{filter_task}
+use Rattle.ff_graph_links.specs.pads.Links.{Seen}
 use Rattle.ff_graph.specs.Drawings.{seen_graph}
 use Rattle.ff_graph.specs.Opens.{filter_order, open_pads, sources_in}
 use Rattle.ff_graph.specs.Configured.{Made, OpenOut, Refused, configured, make_all}
 use Rattle.ff_graph.specs.Meaning.{graph_means}
-use Rattle.ff_limited.specs.Cuts.{cuts_in}
-use Rattle.ff_cutting.specs.Cuts.{cut_each}
-use Rattle.ff_wired.specs.Flows.{no_flows}
-use Rattle.ff_wired.specs.Limits.{cuts_from}
+use Rattle.ff_filters.specs.limited.Cuts.{cuts_in}
+use Rattle.ff_trim.specs.Cuts.{cut_each}
+use Rattle.ff_graph_dag.specs.wiring.Flows.{no_flows}
+use Rattle.ff_graph_dag.specs.wiring.Limits.{cuts_from}
 
 abbrev pub cuts_as : List Seen → Result Made Refused → List Flow → Bool
 cuts_as ds (Err r) ss = false

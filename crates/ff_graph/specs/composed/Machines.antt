@@ -4,15 +4,15 @@ use Rattle.ff_net.specs.Laws.{Laws}
 use Rattle.ff_net.specs.Views.{View as NetView}
 use Rattle.ff_filter.specs.declared.filter.Filter.{Ghosts as FilterGhosts}
 use Rattle.ff_filter.specs.Views.{View, IsSpent, AllDone}
-use Rattle.ff_net_filter.specs.declared.alone.Alone.{Alone}
-use Rattle.ff_net_filter.specs.Alones.{alone_view}
-use Rattle.ff_net_filter.specs.AloneLaws.{alone_laws}
-use Rattle.ff_dag.specs.declared.dag.Dag.{Dag}
-use Rattle.ff_dag.specs.Graphs.{graph_view, spots}
-use Rattle.ff_dag.specs.Over.{graph_spends, graph_spent_only, graph_shut_spent, graph_done_spent}
-use Rattle.ff_cutting.specs.declared.cutting.Cutting.{Cutting}
-use Rattle.ff_cutting.specs.Taps.{cut_view}
-use Rattle.ff_cutting.specs.CuttingLaws.{cutting-spent, cutting-done}
+use Rattle.ff_node_filter.specs.declared.alone.Alone.{Alone}
+use Rattle.ff_node_filter.specs.Alones.{alone_view}
+use Rattle.ff_node_filter.specs.AloneLaws.{alone_laws}
+use Rattle.ff_graph_dag.specs.declared.dag.Dag.{Dag}
+use Rattle.ff_graph_dag.specs.Graphs.{graph_view, spots}
+use Rattle.ff_graph_dag.specs.Over.{graph_spends, graph_spent_only, graph_shut_spent, graph_done_spent}
+use Rattle.ff_trim.specs.declared.cutting.Cutting.{Cutting}
+use Rattle.ff_trim.specs.Taps.{cut_view}
+use Rattle.ff_trim.specs.CuttingLaws.{cutting-spent, cutting-done}
 
 -- filters of any kind, fed by one another
 module _ {F : Type 0} {G : FilterGhosts F} where

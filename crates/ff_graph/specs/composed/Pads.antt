@@ -1,8 +1,8 @@
 -- When a graph has open pads: it has a filter, and sound has a channel, since a filter that splits it into its channels gives nothing else.
 use Rattle.std.specs.Prelude.{◌≤◌, List, length}
 use Rattle.std.specs.List.{AllByRecursion}
-use Rattle.ff_values.specs.declared.head.StreamHead.{StreamHead}
-use Rattle.ff_values.specs.declared.head.StreamHead.TheVariants.{Audio, Video}
+use Rattle.ff_frame.specs.declared.head.StreamHead.{StreamHead}
+use Rattle.ff_frame.specs.declared.head.StreamHead.TheVariants.{Audio, Video}
 use Rattle.ff_lang.specs.declared.graph.Graph.{Graph}
 use Rattle.ff_graph.specs.Drawings.{seen_graph}
 

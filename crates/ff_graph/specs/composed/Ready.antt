@@ -1,9 +1,9 @@
 -- Filters that are ready to be put into their places.
 use Rattle.std.specs.Prelude.{◌≡◌, ℕ, List, [], ◌∷◌, length, map, replicate, slice_index_or, Option, None}
-use Rattle.ff_values.specs.declared.head.StreamHead.{StreamHead}
+use Rattle.ff_frame.specs.declared.head.StreamHead.{StreamHead}
 use Rattle.ff_filter.specs.Views.{View, IsNew}
-use Rattle.ff_drawn.specs.declared.drawn.Pad.{Pad}
-use Rattle.ff_dag.specs.Dags.{Spot}
+use Rattle.ff_graph_links.specs.declared.pads.drawn.Pad.{Pad}
+use Rattle.ff_graph_dag.specs.Dags.{Spot}
 use Rattle.ff_graph.specs.Configured.{OpenOut}
 
 -- a filter in its place, where nothing waits

@@ -1,17 +1,16 @@
 ghost use Rattle.std.specs.Prelude.{◌≡◌, ℕ, IfOk, map, length};
 ghost use Rattle.ff_filter.specs.Joins.{Ports};
 ghost use Rattle.ff_filter.specs.Views.{IsNew};
-ghost use Rattle.ff_drawn.specs.Links.{pads_in};
-ghost use Rattle.ff_dag.specs.Graphs.{graph_view, spots};
-ghost use Rattle.ff_wired.specs.Flows.{no_flows, flows_from, IsDrawing};
-ghost use Rattle.ff_wired.specs.Limits.{flows_at};
-ghost use Rattle.ff_composed.specs.Ready.{AreReady};
+ghost use Rattle.ff_graph_links.specs.pads.Links.{pads_in};
+ghost use Rattle.ff_graph_dag.specs.Graphs.{graph_view, spots};
+ghost use Rattle.ff_graph_dag.specs.wiring.Flows.{no_flows, flows_from, IsDrawing};
+ghost use Rattle.ff_graph_dag.specs.wiring.Limits.{flows_at};
+ghost use Rattle.ff_graph.specs.composed.Ready.{AreReady};
 
-use crate::lists::places;
-use ff_dag::Dag;
+use crate::composed::lists::places;
 use ff_filter::Filter;
-use ff_frame::Lane;
-use ff_wired::{Drawing, drawn_plan};
+use ff_graph_dag::{Dag, Drawing, drawn_plan};
+use ff_stream::Lane;
 use std::alloc::{AllocError, Global};
 
 /// Filters that are fed as they are drawn, as one filter: `ins` and `outs` are what the graph's inputs and outputs carry.

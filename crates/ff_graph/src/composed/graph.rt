@@ -1,30 +1,29 @@
 ghost use Rattle.std.specs.Prelude.{◌≡◌, ◌≤◌, ℕ, IfOk, IfErr, length, map};
-ghost use Rattle.ff_frame.specs.declared.item.Lane.TheVariants.{Frames as FramesOf};
+ghost use Rattle.ff_stream.specs.declared.item.Lane.TheVariants.{Frames as FramesOf};
 ghost use Rattle.ff_filter.specs.Joins.{Ports};
 ghost use Rattle.ff_filter.specs.Views.{IsNew};
-ghost use Rattle.ff_net_filter.specs.Limiting.{IsLimited};
-ghost use Rattle.ff_drawn.specs.Links.{pads_in, opens_from};
-ghost use Rattle.ff_limited.specs.Cuts.{AreTimed};
+ghost use Rattle.ff_node_filter.specs.Limiting.{IsLimited};
+ghost use Rattle.ff_graph_links.specs.pads.Links.{pads_in, opens_from};
+ghost use Rattle.ff_filters.specs.limited.Cuts.{AreTimed};
 ghost use Rattle.ff_graph.specs.Meaning.{graph_means};
 ghost use Rattle.ff_graph.specs.Opens.{open_ins};
 ghost use Rattle.ff_graph.specs.Pads.{heads_in, output_of, IsRefused};
-ghost use Rattle.ff_wired.specs.Flows.{no_flows, flows_from, IsDrawing};
-ghost use Rattle.ff_wired.specs.Limits.{flows_at};
-ghost use Rattle.ff_labels.specs.Clear.{IsClear};
-ghost use Rattle.ff_composed.specs.Cuts.{all_given, graph_cuts, graph_outs, out_heads};
-ghost use Rattle.ff_composed.specs.Pads.{HasFilter, HaveChannels};
-ghost use Rattle.ff_composed.specs.Ready.{AreReady, counts_of, pads_of as pads_in_order};
+ghost use Rattle.ff_graph_dag.specs.wiring.Flows.{no_flows, flows_from, IsDrawing};
+ghost use Rattle.ff_graph_dag.specs.wiring.Limits.{flows_at};
+ghost use Rattle.ff_graph_links.specs.labels.Clear.{IsClear};
+ghost use Rattle.ff_graph.specs.composed.Cuts.{all_given, graph_cuts, graph_outs, out_heads};
+ghost use Rattle.ff_graph.specs.composed.Pads.{HasFilter, HaveChannels};
+ghost use Rattle.ff_graph.specs.composed.Ready.{AreReady, counts_of, pads_of as pads_in_order};
 
-use crate::connecting::connect;
-use crate::lists::{counts, given, heads_of, in_lanes, out_lanes, pads_of};
-use ff_dag::Dag;
-use ff_drawn::open_inputs;
+use crate::composed::connecting::connect;
+use crate::composed::lists::{counts, given, heads_of, in_lanes, out_lanes, pads_of};
+use crate::{Configured, Refusal, configure_graph};
 use ff_filter::Filter;
 use ff_filters::AnyFilter;
 use ff_frame::StreamHead;
-use ff_graph::{Configured, Refusal, configure_graph};
+use ff_graph_dag::{Dag, Drawing};
+use ff_graph_links::open_inputs;
 use ff_lang::Graph;
-use ff_wired::Drawing;
 use std::alloc::{AllocError, Global};
 
 /// The filters of a graph, as one filter.

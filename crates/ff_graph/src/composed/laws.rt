@@ -1,23 +1,23 @@
 //! Laws of graphs as filters: functions that do nothing, whose clauses hold of all values.
 ghost use Rattle.std.specs.Prelude.{◌≡◌, ◌≤◌, ℕ, List, Option, Ok, false, length, map};
-ghost use Rattle.ff_values.specs.declared.head.StreamHead.{StreamHead};
-ghost use Rattle.ff_frame.specs.declared.item.Lane.TheVariants.{Frames as FramesOf};
+ghost use Rattle.ff_frame.specs.declared.head.StreamHead.{StreamHead};
+ghost use Rattle.ff_stream.specs.declared.item.Lane.TheVariants.{Frames as FramesOf};
 ghost use Rattle.ff_lang.specs.declared.graph.Arg.{Arg};
 ghost use Rattle.ff_lang.specs.declared.graph.Graph.{Graph as Text};
 ghost use Rattle.ff_lang.specs.Grammar.{IsGraph};
-ghost use Rattle.ff_net_filter.specs.Limiting.{IsLimited};
+ghost use Rattle.ff_node_filter.specs.Limiting.{IsLimited};
 ghost use Rattle.ff_filters.specs.declared.name.FilterName.{FilterName};
 ghost use Rattle.ff_filters.specs.Configured.{Filtered, configured_as};
-ghost use Rattle.ff_limited.specs.Cuts.{AreTimed};
+ghost use Rattle.ff_filters.specs.limited.Cuts.{AreTimed};
 ghost use Rattle.ff_graph.specs.Configured.{Made, OpenOut, configured, make_all, open_outs};
 ghost use Rattle.ff_graph.specs.Drawings.{seen_graph};
 ghost use Rattle.ff_graph.specs.Meaning.{graph_means};
 ghost use Rattle.ff_graph.specs.Opens.{filter_order, open_ins, open_pads, sources_in, loops};
-ghost use Rattle.ff_wired.specs.Flows.{IsDrawing};
-ghost use Rattle.ff_labels.specs.Clear.{IsClear};
-ghost use Rattle.ff_composed.specs.Cuts.{all_given, graph_cuts};
-ghost use Rattle.ff_composed.specs.Pads.{HasFilter, HaveChannels};
-ghost use Rattle.ff_composed.specs.Ready.{counts_of, pads_of};
+ghost use Rattle.ff_graph_dag.specs.wiring.Flows.{IsDrawing};
+ghost use Rattle.ff_graph_links.specs.labels.Clear.{IsClear};
+ghost use Rattle.ff_graph.specs.composed.Cuts.{all_given, graph_cuts};
+ghost use Rattle.ff_graph.specs.composed.Pads.{HasFilter, HaveChannels};
+ghost use Rattle.ff_graph.specs.composed.Ready.{counts_of, pads_of};
 
 /// Where the heads of what comes to a filter have time bases, so have those of what it gives.
 pub fn configured_heads_are_timed()

@@ -1,15 +1,16 @@
 ghost use Rattle.std.specs.Prelude.{◌≡◌, ℕ, IfOk, map, length};
-ghost use Rattle.ff_frame.specs.declared.item.Lane.TheVariants.{Frames as FramesOf};
-ghost use Rattle.ff_dag.specs.Graphs.{spots};
+ghost use Rattle.ff_stream.specs.declared.item.Lane.TheVariants.{Frames as FramesOf};
+ghost use Rattle.ff_graph_dag.specs.Graphs.{spots};
 ghost use Rattle.ff_graph.specs.Pads.{heads_in, output_of};
-ghost use Rattle.ff_composed.specs.Cuts.{all_given};
-ghost use Rattle.ff_composed.specs.Ready.{new_spot, counts_of, pads_of as pads_in_order};
+ghost use Rattle.ff_graph.specs.composed.Cuts.{all_given};
+ghost use Rattle.ff_graph.specs.composed.Ready.{new_spot, counts_of, pads_of as pads_in_order};
 
-use ff_dag::Placed;
-use ff_drawn::Pad;
+use crate::OpenOutput;
 use ff_filter::Filter;
-use ff_frame::{Lane, StreamHead};
-use ff_graph::OpenOutput;
+use ff_frame::StreamHead;
+use ff_graph_dag::Placed;
+use ff_graph_links::Pad;
+use ff_stream::Lane;
 use std::alloc::{AllocError, Global};
 
 /// What is given to open input pads, each of which has a stream.

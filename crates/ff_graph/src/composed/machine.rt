@@ -1,21 +1,21 @@
 ghost use Rattle.std.specs.Prelude.{◌≡◌, IfOk, IfErr, None, [], length, map};
-ghost use Rattle.ff_frame.specs.declared.item.Lane.TheVariants.{Frames as FramesOf};
+ghost use Rattle.ff_stream.specs.declared.item.Lane.TheVariants.{Frames as FramesOf};
 ghost use Rattle.ff_net.specs.Pasts.{start};
-ghost use Rattle.ff_limited.specs.Cuts.{AreTimed};
+ghost use Rattle.ff_filters.specs.limited.Cuts.{AreTimed};
 ghost use Rattle.ff_graph.specs.Opens.{open_ins};
 ghost use Rattle.ff_graph.specs.Pads.{IsRefused};
-ghost use Rattle.ff_labels.specs.Clear.{IsClear};
-ghost use Rattle.ff_composed.specs.Cuts.{all_given, graph_outs, graph_task};
-ghost use Rattle.ff_composed.specs.Pads.{HasFilter, HaveChannels};
+ghost use Rattle.ff_graph_links.specs.labels.Clear.{IsClear};
+ghost use Rattle.ff_graph.specs.composed.Cuts.{all_given, graph_outs, graph_task};
+ghost use Rattle.ff_graph.specs.composed.Pads.{HasFilter, HaveChannels};
 
-use crate::graph::{GraphFilter, MadeGraph, make_graph};
-use ff_cutting::Cutting;
+use crate::Refusal;
+use crate::composed::graph::{GraphFilter, MadeGraph, make_graph};
 use ff_frame::StreamHead;
-use ff_graph::Refusal;
 use ff_lang::Graph;
 use ff_net::Machine;
-use ff_net_filter::Alone;
+use ff_node_filter::Alone;
 use ff_time::TimeCut;
+use ff_trim::Cutting;
 use std::alloc::Global;
 
 /// The filters of a graph with a cut behind each output, as one filter.

@@ -3,12 +3,12 @@ use Rattle.std.proofs.Common.{◌≡◌, ◌≢◌, ℕ, zero, suc, ◌+◌, ◌
 use Rattle.std.proofs.lemmas.Bool.Decides.{nat_tests}
 use Rattle.std.specs.declared.vec.Vec.{Vec}
 use Rattle.ff_filter.specs.Views.{View}
-use Rattle.ff_dag.specs.declared.graph.Port.{Port}
-use Rattle.ff_dag.specs.declared.graph.Wire.{Wire}
-use Rattle.ff_dag.specs.declared.placed.Placed.{Placed}
-use Rattle.ff_dag.specs.Dags.{spot_of}
-use Rattle.ff_dag.specs.Graphs.{spots, spot_at, among}
-use Rattle.ff_tied.specs.Tied.{is_needed, wire_needed, ways_at, with_start, with_feeder, IsUpward}
+use Rattle.ff_graph_dag.specs.declared.graph.Port.{Port}
+use Rattle.ff_graph_dag.specs.declared.graph.Wire.{Wire}
+use Rattle.ff_graph_dag.specs.declared.placed.Placed.{Placed}
+use Rattle.ff_graph_dag.specs.Dags.{spot_of}
+use Rattle.ff_graph_dag.specs.Graphs.{spots, spot_at, among}
+use Rattle.ff_graph_dag.specs.ties.Tied.{is_needed, wire_needed, ways_at, with_start, with_feeder, IsUpward}
 
 or_assoc : (a b c : Bool) → (a || (b || c)) ≡ ((a || b) || c)
 or_assoc true b c = refl

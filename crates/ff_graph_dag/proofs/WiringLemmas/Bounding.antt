@@ -1,24 +1,24 @@
 -- The plan of a drawing of filters behind limits is behind limits.
 use Rattle.std.proofs.Common.{◌≡◌, ℕ, zero, suc, ◌<◌, ◌≤◌, Bool, List, [], ◌∷◌, length, map, slice_get, slice_index_or, Option, None, Some, refl, ap, sym, ◌∙◌, subst, arith}
-use Rattle.ff_frame.specs.declared.item.Lane.{Lane}
-use Rattle.ff_frame.specs.Ports.{nothing, stream_at}
+use Rattle.ff_stream.specs.declared.item.Lane.{Lane}
+use Rattle.ff_stream.specs.Ports.{nothing, stream_at}
 use Rattle.ff_net.specs.Nets.{solve_from}
 use Rattle.ff_filter.specs.Joins.{Flow, Ports}
-use Rattle.ff_net_filter.specs.Limiting.{IsLimited}
-use Rattle.ff_drawn.specs.declared.drawn.Pad.{Pad}
-use Rattle.ff_dag.specs.declared.graph.Node.{Node}
-use Rattle.ff_dag.specs.declared.graph.Plan.{Plan}
-use Rattle.ff_dag.specs.Dags.{Spot}
-use Rattle.ff_dag.specs.Graphs.{spot_at, Fits}
-use Rattle.ff_dag.specs.Parts.{AreNew, composed, parts_of}
-use Rattle.ff_tied.specs.Tied.{IsTied}
-use Rattle.ff_wired.specs.Wires.{wires_of, IsWired}
-use Rattle.ff_wired.specs.Flows.{Flows, no_flows, flows_from, port_at, placed, placed_pads, placed_counts, IsDrawing}
-use Rattle.ff_wired.specs.Limits.{flows_at, cuts_from, AreLimited, Leave}
-use Rattle.ff_wired.proofs.Tying.{map_size, numbers_size}
-use Rattle.ff_wired.proofs.Meaning.{got_above, reads_past}
-use Rattle.ff_wired.proofs.LimitedGraphs.{at_got, graph_limited}
-use Rattle.ff_wired.proofs.Drawn.{drawn_means}
+use Rattle.ff_node_filter.specs.Limiting.{IsLimited}
+use Rattle.ff_graph_links.specs.declared.pads.drawn.Pad.{Pad}
+use Rattle.ff_graph_dag.specs.declared.graph.Node.{Node}
+use Rattle.ff_graph_dag.specs.declared.graph.Plan.{Plan}
+use Rattle.ff_graph_dag.specs.Dags.{Spot}
+use Rattle.ff_graph_dag.specs.Graphs.{spot_at, Fits}
+use Rattle.ff_graph_dag.specs.Parts.{AreNew, composed, parts_of}
+use Rattle.ff_graph_dag.specs.ties.Tied.{IsTied}
+use Rattle.ff_graph_dag.specs.wiring.Wires.{wires_of, IsWired}
+use Rattle.ff_graph_dag.specs.wiring.Flows.{Flows, no_flows, flows_from, port_at, placed, placed_pads, placed_counts, IsDrawing}
+use Rattle.ff_graph_dag.specs.wiring.Limits.{flows_at, cuts_from, AreLimited, Leave}
+use Rattle.ff_graph_dag.proofs.WiringLemmas.Tying.{map_size, numbers_size}
+use Rattle.ff_graph_dag.proofs.WiringLemmas.Meaning.{got_above, reads_past}
+use Rattle.ff_graph_dag.proofs.WiringLemmas.LimitedGraphs.{at_got, graph_limited}
+use Rattle.ff_graph_dag.proofs.WiringLemmas.Drawn.{drawn_means}
 
 at_past : (os : List Pad) (f : Flows) (q : ℕ) → slice_get os q ≡ None → flows_at os f q ≡ nothing
 at_past [] f q e = refl

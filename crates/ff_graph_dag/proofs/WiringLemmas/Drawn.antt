@@ -1,20 +1,20 @@
 -- A plan that was made of a drawing stands for its filters, one after another.
 use Rattle.std.proofs.Common.{◌≡◌, ℕ, ◌<◌, List, length, map, slice_get, slice_index_or, Option, None, Some, ap, ◌∙◌}
 use Rattle.ff_filter.specs.Joins.{Ports}
-use Rattle.ff_drawn.specs.declared.drawn.Pad.{Pad}
-use Rattle.ff_dag.specs.declared.graph.Node.{Node}
-use Rattle.ff_dag.specs.declared.graph.Port.{Port}
-use Rattle.ff_dag.specs.declared.graph.Plan.{Plan}
-use Rattle.ff_dag.specs.Dags.{Spot}
-use Rattle.ff_dag.specs.Graphs.{spot_at, Fits}
-use Rattle.ff_dag.specs.Parts.{AreNew, composed}
-use Rattle.ff_tied.specs.Tied.{IsTied}
-use Rattle.ff_wired.specs.Wires.{IsWired}
-use Rattle.ff_wired.specs.Flows.{no_flows, flows_from, port_at, placed, placed_pads, placed_counts, pad_at, IsDrawing}
-use Rattle.ff_wired.proofs.Tying.{mapped, map_size, nodes_size}
-use Rattle.ff_wired.proofs.Ordering.{solves, back_again}
-use Rattle.ff_wired.proofs.Linking.{linked, fed_stands, from_stands, counted_stands}
-use Rattle.ff_wired.proofs.Meaning.{composed_as}
+use Rattle.ff_graph_links.specs.declared.pads.drawn.Pad.{Pad}
+use Rattle.ff_graph_dag.specs.declared.graph.Node.{Node}
+use Rattle.ff_graph_dag.specs.declared.graph.Port.{Port}
+use Rattle.ff_graph_dag.specs.declared.graph.Plan.{Plan}
+use Rattle.ff_graph_dag.specs.Dags.{Spot}
+use Rattle.ff_graph_dag.specs.Graphs.{spot_at, Fits}
+use Rattle.ff_graph_dag.specs.Parts.{AreNew, composed}
+use Rattle.ff_graph_dag.specs.ties.Tied.{IsTied}
+use Rattle.ff_graph_dag.specs.wiring.Wires.{IsWired}
+use Rattle.ff_graph_dag.specs.wiring.Flows.{no_flows, flows_from, port_at, placed, placed_pads, placed_counts, pad_at, IsDrawing}
+use Rattle.ff_graph_dag.proofs.WiringLemmas.Tying.{mapped, map_size, nodes_size}
+use Rattle.ff_graph_dag.proofs.WiringLemmas.Ordering.{solves, back_again}
+use Rattle.ff_graph_dag.proofs.WiringLemmas.Linking.{linked, fed_stands, from_stands, counted_stands}
+use Rattle.ff_graph_dag.proofs.WiringLemmas.Meaning.{composed_as}
 
 module _ (sources : List (List (Option Pad))) (order counts : List ℕ) (opens outs : List Pad) (d : IsDrawing sources order counts opens outs)
     (p : Plan) (w : IsWired (placed order sources) (placed_counts order counts) (placed_pads order opens) (placed_pads order outs) p) (t : IsTied p)

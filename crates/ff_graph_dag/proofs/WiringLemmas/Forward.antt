@@ -2,9 +2,9 @@
 use Rattle.std.proofs.Common.{◌≡◌, ◌≢◌, ℕ, zero, suc, ◌<◌, ◌==◌, ◌&&◌, not, Bool, true, false, List, [], ◌∷◌, length, replicate, slice_get, slice_index_or, slice_set, Option, None, Some, refl, ap, sym, ◌∙◌, arith}
 use Rattle.std.proofs.lemmas.Bool.Decides.{nat_tests}
 use Rattle.std.proofs.lemmas.List.{length-replicate}
-use Rattle.ff_drawn.specs.declared.drawn.Pad.{Pad}
-use Rattle.ff_order.specs.Orders.{is_taken, are_taken, all_taken, is_ready, IsOrderFrom, IsOrder}
-use Rattle.ff_wired.specs.Flows.{Absent, IsForward, source_at}
+use Rattle.ff_graph_links.specs.declared.pads.drawn.Pad.{Pad}
+use Rattle.ff_graph_links.specs.orders.Orders.{is_taken, are_taken, all_taken, is_ready, IsOrderFrom, IsOrder}
+use Rattle.ff_graph_dag.specs.wiring.Flows.{Absent, IsForward, source_at}
 
 some_same : {A : Type 0} (x y : A) → Some x ≡ Some y → x ≡ y
 some_same x y e = cc

@@ -1,21 +1,21 @@
 -- A graph of filters behind limits is behind limits.
 use Rattle.std.proofs.Common.{◌≡◌, ℕ, zero, suc, ◌<◌, ◌≤◌, ◌==◌, ◌||◌, Bool, true, false, if◌then◌else◌, List, [], ◌∷◌, length, slice_get, Option, None, Some, refl, ap, sym, ◌∙◌, subst, ◌⊎◌, inl, inr, arith}
 use Rattle.std.proofs.lemmas.Bool.Decides.{nat_tests}
-use Rattle.ff_frame.specs.declared.item.Lane.{Lane}
-use Rattle.ff_frame.specs.Stream.{LiesBelow, opened, broken}
-use Rattle.ff_frame.specs.Ports.{nothing, stream_at, AllUnbroken, IsUnbroken}
-use Rattle.ff_frame.specs.Order.{below_self, below_trans}
-use Rattle.ff_frame.specs.Lanes.{IsValid}
-use Rattle.ff_frame.specs.LaneLaws.{nothing_valid}
+use Rattle.ff_stream.specs.declared.item.Lane.{Lane}
+use Rattle.ff_stream.specs.Stream.{LiesBelow, opened, broken}
+use Rattle.ff_stream.specs.Ports.{nothing, stream_at, AllUnbroken, IsUnbroken}
+use Rattle.ff_stream.specs.Order.{below_self, below_trans}
+use Rattle.ff_stream.specs.Lanes.{IsValid}
+use Rattle.ff_stream.specs.LaneLaws.{nothing_valid}
 use Rattle.ff_net.specs.Ways.{lane_at, IsValidOn, AreValid}
 use Rattle.ff_filter.specs.Joins.{Flow, Ports, EachBelow, all_opened}
 use Rattle.ff_filter.specs.Views.{View}
-use Rattle.ff_net_filter.specs.Tasks.{listed, ported}
-use Rattle.ff_net_filter.specs.StandLaws.{stream_at-listed, stream_at-beyond, listed_below}
-use Rattle.ff_net_filter.specs.Limiting.{IsLimited}
-use Rattle.ff_drawn.specs.declared.drawn.Pad.{Pad}
-use Rattle.ff_wired.specs.Flows.{Flows, no_flows, pad_place, stream_into, streams_into, with_outputs, flows_from, source_at}
-use Rattle.ff_wired.specs.Limits.{flows_at, Takes, Suits, AreLimited, cuts_from, Leave}
+use Rattle.ff_node_filter.specs.Tasks.{listed, ported}
+use Rattle.ff_node_filter.specs.StandLaws.{stream_at-listed, stream_at-beyond, listed_below}
+use Rattle.ff_node_filter.specs.Limiting.{IsLimited}
+use Rattle.ff_graph_links.specs.declared.pads.drawn.Pad.{Pad}
+use Rattle.ff_graph_dag.specs.wiring.Flows.{Flows, no_flows, pad_place, stream_into, streams_into, with_outputs, flows_from, source_at}
+use Rattle.ff_graph_dag.specs.wiring.Limits.{flows_at, Takes, Suits, AreLimited, cuts_from, Leave}
 
 some_same : {A : Type 0} (x y : A) → Some x ≡ Some y → x ≡ y
 some_same x y e = cc

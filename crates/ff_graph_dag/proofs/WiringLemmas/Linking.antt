@@ -1,12 +1,12 @@
 -- A drawing by the places of its filters: filters that feed later ones only.
 use Rattle.std.proofs.Common.{◌≡◌, ℕ, zero, suc, ◌<◌, List, [], ◌∷◌, length, map, slice_get, slice_index_or, Option, None, Some, refl, ap, sym, ◌∙◌, subst, ◌⊎◌, inl, inr, arith}
-use Rattle.ff_drawn.specs.declared.drawn.Pad.{Pad}
-use Rattle.ff_dag.specs.declared.graph.Port.{Port}
-use Rattle.ff_tied.specs.Tied.{port_of}
-use Rattle.ff_wired.specs.Wires.{feeder_at, outputs_at, IsLinked}
-use Rattle.ff_wired.specs.Flows.{IsForward, place_in, port_at, port_of_source, placed, placed_pads, placed_counts, source_at, IsDrawing}
-use Rattle.ff_wired.proofs.Ordering.{got_source, feeder_placed, place_got, place_is, places_apart}
-use Rattle.ff_wired.proofs.Tying.{mapped, unmapped, map_size}
+use Rattle.ff_graph_links.specs.declared.pads.drawn.Pad.{Pad}
+use Rattle.ff_graph_dag.specs.declared.graph.Port.{Port}
+use Rattle.ff_graph_dag.specs.ties.Tied.{port_of}
+use Rattle.ff_graph_dag.specs.wiring.Wires.{feeder_at, outputs_at, IsLinked}
+use Rattle.ff_graph_dag.specs.wiring.Flows.{IsForward, place_in, port_at, port_of_source, placed, placed_pads, placed_counts, source_at, IsDrawing}
+use Rattle.ff_graph_dag.proofs.WiringLemmas.Ordering.{got_source, feeder_placed, place_got, place_is, places_apart}
+use Rattle.ff_graph_dag.proofs.WiringLemmas.Tying.{mapped, unmapped, map_size}
 
 some_same : {A : Type 0} (x y : A) → Some x ≡ Some y → x ≡ y
 some_same x y e = cc

@@ -1,9 +1,9 @@
 -- The input pads of a drawing that no filter feeds: each once, and no others.
 use Rattle.std.proofs.Common.{◌≡◌, ℕ, zero, suc, ◌+◌, List, [], ◌∷◌, length, slice_get, Option, None, Some, refl, ap, sym, ◌∙◌, inl, inr, arith}
-use Rattle.ff_drawn.specs.declared.drawn.Pad.{Pad}
-use Rattle.ff_drawn.specs.Links.{opens_at, opens_from}
-use Rattle.ff_wired.specs.Flows.{source_at}
-use Rattle.ff_wired.proofs.Tying.{split, front, back}
+use Rattle.ff_graph_links.specs.declared.pads.drawn.Pad.{Pad}
+use Rattle.ff_graph_links.specs.pads.Links.{opens_at, opens_from}
+use Rattle.ff_graph_dag.specs.wiring.Flows.{source_at}
+use Rattle.ff_graph_dag.proofs.WiringLemmas.Tying.{split, front, back}
 
 some_same : {A : Type 0} (x y : A) → Some x ≡ Some y → x ≡ y
 some_same x y e = cc

@@ -1,14 +1,14 @@
 -- Filters one by one solve the filters.
 use Rattle.std.proofs.Common.{◌≡◌, ◌≢◌, ℕ, zero, suc, ◌<◌, ◌==◌, ◌&&◌, Bool, true, false, if◌then◌else◌, cond, List, [], ◌∷◌, length, map, slice_get, slice_index_or, Option, None, Some, refl, ap, sym, ◌∙◌, subst, arith}
 use Rattle.std.proofs.lemmas.Bool.Decides.{nat_tests}
-use Rattle.ff_frame.specs.Ports.{nothing}
+use Rattle.ff_stream.specs.Ports.{nothing}
 use Rattle.ff_filter.specs.Joins.{Ports}
 use Rattle.ff_filter.specs.Views.{View}
-use Rattle.ff_drawn.specs.declared.drawn.Pad.{Pad}
-use Rattle.ff_dag.specs.declared.graph.Port.{Port}
-use Rattle.ff_wired.specs.Wires.{feeder_at, is_at}
-use Rattle.ff_wired.specs.Meant.{Streams, input_at, stream_to, streams_to, Solves}
-use Rattle.ff_wired.specs.Flows.{Flows, same_pad, pad_place, stream_into, streams_into, with_outputs, flows_from, Absent, IsForward, place_in, port_at, port_of_source, placed, placed_pads, pad_at}
+use Rattle.ff_graph_links.specs.declared.pads.drawn.Pad.{Pad}
+use Rattle.ff_graph_dag.specs.declared.graph.Port.{Port}
+use Rattle.ff_graph_dag.specs.wiring.Wires.{feeder_at, is_at}
+use Rattle.ff_graph_dag.specs.wiring.Meant.{Streams, input_at, stream_to, streams_to, Solves}
+use Rattle.ff_graph_dag.specs.wiring.Flows.{Flows, same_pad, pad_place, stream_into, streams_into, with_outputs, flows_from, Absent, IsForward, place_in, port_at, port_of_source, placed, placed_pads, pad_at}
 
 some_same : {A : Type 0} (x y : A) → Some x ≡ Some y → x ≡ y
 some_same x y e = cc

@@ -1,13 +1,13 @@
 -- A plan that was made from filters that feed one another: its edges fit together.
 use Rattle.std.proofs.Common.{◌≡◌, ℕ, zero, suc, ◌+◌, ◌-◌, ◌<◌, ◌≤◌, ◌==◌, ◌&&◌, Bool, true, false, cond, List, [], ◌∷◌, ◌++◌, length, map, slice_get, slice_index_or, Option, None, Some, refl, ap, sym, ◌∙◌, subst, ◌⊎◌, inl, inr, arith}
 use Rattle.std.proofs.lemmas.Bool.Decides.{nat_tests}
-use Rattle.ff_dag.specs.declared.graph.Node.{Node}
-use Rattle.ff_dag.specs.declared.graph.Port.{Port}
-use Rattle.ff_dag.specs.declared.graph.Wire.{Wire}
-use Rattle.ff_dag.specs.declared.graph.Plan.{Plan}
-use Rattle.ff_dag.specs.Graphs.{ways_of}
-use Rattle.ff_tied.specs.Tied.{port_of, goal_of, leads_to, start_of, leaves, ins_of, outs_of, edge_in, edge_out, IsUpward, IsReached, IsTied}
-use Rattle.ff_wired.specs.Wires.{feeder_at, outputs_at, entering, links_at, links_from, wires_of, ends_of, starts_of, is_at, edge_of, edges_up, ins_from, outs_from, numbers, IsWired, IsLinked}
+use Rattle.ff_graph_dag.specs.declared.graph.Node.{Node}
+use Rattle.ff_graph_dag.specs.declared.graph.Port.{Port}
+use Rattle.ff_graph_dag.specs.declared.graph.Wire.{Wire}
+use Rattle.ff_graph_dag.specs.declared.graph.Plan.{Plan}
+use Rattle.ff_graph_dag.specs.Graphs.{ways_of}
+use Rattle.ff_graph_dag.specs.ties.Tied.{port_of, goal_of, leads_to, start_of, leaves, ins_of, outs_of, edge_in, edge_out, IsUpward, IsReached, IsTied}
+use Rattle.ff_graph_dag.specs.wiring.Wires.{feeder_at, outputs_at, entering, links_at, links_from, wires_of, ends_of, starts_of, is_at, edge_of, edges_up, ins_from, outs_from, numbers, IsWired, IsLinked}
 
 -- lists ---------------------------------------------------------------------------------------------------------
 

@@ -1,11 +1,11 @@
 -- What can be read off a plan, port by port and edge by edge, that makes it sound for filters to which nothing was done.
 use Rattle.std.specs.Prelude.{◌≡◌, ℕ, ◌+◌, ◌-◌, ◌<◌, ◌≤◌, Bool, true, false, cond, List, [], length, map, slice_get, slice_index_or, slice_set, Option, None, Some}
 use Rattle.std.specs.declared.vec.Vec.{Vec}
-use Rattle.ff_dag.specs.declared.graph.Node.{Node}
-use Rattle.ff_dag.specs.declared.graph.Port.{Port}
-use Rattle.ff_dag.specs.declared.graph.Wire.{Wire}
-use Rattle.ff_dag.specs.declared.graph.Plan.{Plan}
-use Rattle.ff_dag.specs.Graphs.{among, ways_of}
+use Rattle.ff_graph_dag.specs.declared.graph.Node.{Node}
+use Rattle.ff_graph_dag.specs.declared.graph.Port.{Port}
+use Rattle.ff_graph_dag.specs.declared.graph.Wire.{Wire}
+use Rattle.ff_graph_dag.specs.declared.graph.Plan.{Plan}
+use Rattle.ff_graph_dag.specs.Graphs.{among, ways_of}
 
 abbrev pub port_of : ℕ → ℕ → Port
 port_of k i = record { filter = k; port = i }

@@ -1,14 +1,14 @@
 -- Filters whose functions are behind limits, as the parts of a graph: where a limit of one of them cuts.
 use Rattle.std.specs.Prelude.{◌≡◌, ℕ, zero, suc, ◌||◌, Bool, false, List, [], ◌∷◌, length, slice_get, Option, None, Some}
-use Rattle.ff_frame.specs.declared.item.Lane.{Lane}
-use Rattle.ff_frame.specs.Ports.{nothing}
+use Rattle.ff_stream.specs.declared.item.Lane.{Lane}
+use Rattle.ff_stream.specs.Ports.{nothing}
 use Rattle.ff_net.specs.Ways.{lane_at}
 use Rattle.ff_filter.specs.Joins.{Flow, Ports}
 use Rattle.ff_filter.specs.Views.{View}
-use Rattle.ff_net_filter.specs.Tasks.{listed}
-use Rattle.ff_net_filter.specs.Limiting.{IsLimited}
-use Rattle.ff_drawn.specs.declared.drawn.Pad.{Pad}
-use Rattle.ff_wired.specs.Flows.{Flows, pad_place, streams_into, with_outputs, source_at}
+use Rattle.ff_node_filter.specs.Tasks.{listed}
+use Rattle.ff_node_filter.specs.Limiting.{IsLimited}
+use Rattle.ff_graph_links.specs.declared.pads.drawn.Pad.{Pad}
+use Rattle.ff_graph_dag.specs.wiring.Flows.{Flows, pad_place, streams_into, with_outputs, source_at}
 
 -- the streams on these pads, by their place
 abbrev pub flows_at : List Pad → Flows → Ports

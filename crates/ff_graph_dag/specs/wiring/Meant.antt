@@ -1,10 +1,10 @@
 -- What filters that feed one another make of the streams on the graph's inputs, output by output.
 use Rattle.std.specs.Prelude.{◌≡◌, ℕ, suc, ◌<◌, cond, List, [], ◌∷◌, length, slice_get, Option, None, Some}
-use Rattle.ff_frame.specs.Ports.{nothing}
+use Rattle.ff_stream.specs.Ports.{nothing}
 use Rattle.ff_filter.specs.Joins.{Flow, Ports}
 use Rattle.ff_filter.specs.Views.{View}
-use Rattle.ff_dag.specs.declared.graph.Port.{Port}
-use Rattle.ff_wired.specs.Wires.{feeder_at, is_at}
+use Rattle.ff_graph_dag.specs.declared.graph.Port.{Port}
+use Rattle.ff_graph_dag.specs.wiring.Wires.{feeder_at, is_at}
 
 -- the stream on each output of the filters
 abbrev pub Streams : Type 0

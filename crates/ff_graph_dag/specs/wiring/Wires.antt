@@ -1,9 +1,9 @@
 -- Which edge stands at which port of filters that feed one another.
 use Rattle.std.specs.Prelude.{◌≡◌, ℕ, zero, suc, ◌<◌, ◌==◌, ◌&&◌, ◌⊎◌, Bool, false, cond, List, [], ◌∷◌, ◌++◌, length, map, slice_get, slice_index_or, Option, None, Some}
 use Rattle.std.specs.declared.vec.Vec.{Vec}
-use Rattle.ff_dag.specs.declared.graph.Port.{Port}
-use Rattle.ff_dag.specs.declared.graph.Wire.{Wire}
-use Rattle.ff_dag.specs.declared.graph.Plan.{Plan}
+use Rattle.ff_graph_dag.specs.declared.graph.Port.{Port}
+use Rattle.ff_graph_dag.specs.declared.graph.Wire.{Wire}
+use Rattle.ff_graph_dag.specs.declared.graph.Plan.{Plan}
 
 -- of each filter, which output feeds each of its inputs; None where the input is open
 abbrev pub feeds_in : {A : Type 0} → List (Vec (Option Port) A) → List (List (Option Port))

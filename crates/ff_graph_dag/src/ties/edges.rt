@@ -1,7 +1,7 @@
 ghost use Rattle.std.specs.Prelude.{◌≡◌, true, Some};
-ghost use Rattle.ff_tied.specs.Tied.{port_of, leads_to as goal_at, leaves as start_at, edge_in as edge_into, edge_out as edge_from};
+ghost use Rattle.ff_graph_dag.specs.ties.Tied.{port_of, leads_to as goal_at, leaves as start_at, edge_in as edge_into, edge_out as edge_from};
 
-use ff_dag::{Plan, Port};
+use crate::{Plan, Port};
 
 /// The input to which an edge leads.
 pub fn leads_to(plan: &Plan, edge: usize) -> Option<Port>

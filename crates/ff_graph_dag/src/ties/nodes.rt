@@ -1,8 +1,8 @@
 ghost use Rattle.std.specs.Prelude.{◌≡◌, ℕ, true, Some, slice_get};
-ghost use Rattle.ff_tied.specs.Tied.{port_of, leads_to as goal_at, leaves as start_at, edge_in, edge_out};
+ghost use Rattle.ff_graph_dag.specs.ties.Tied.{port_of, leads_to as goal_at, leaves as start_at, edge_in, edge_out};
 
-use crate::edges::{is_port, leads_to, leaves};
-use ff_dag::Plan;
+use crate::Plan;
+use crate::ties::edges::{is_port, leads_to, leaves};
 
 // Whether each of these edges leads to its input of a filter.
 fn ins_lead_back(plan: &Plan, filter: usize, edges: &[usize]) -> bool

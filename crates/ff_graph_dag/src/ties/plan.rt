@@ -1,13 +1,13 @@
 ghost use Rattle.std.specs.Prelude.{◌≡◌, ◌<◌, ℕ, true, length, slice_index_or, IfOk, IfSome};
-ghost use Rattle.ff_dag.specs.declared.graph.Node.{Node as ANode};
-ghost use Rattle.ff_dag.specs.Dags.{spot_of};
-ghost use Rattle.ff_dag.specs.Graphs.{spots, spot_at, Fits};
-ghost use Rattle.ff_tied.specs.Tied.{IsTied};
+ghost use Rattle.ff_graph_dag.specs.declared.graph.Node.{Node as ANode};
+ghost use Rattle.ff_graph_dag.specs.Dags.{spot_of};
+ghost use Rattle.ff_graph_dag.specs.Graphs.{spots, spot_at, Fits};
+ghost use Rattle.ff_graph_dag.specs.ties.Tied.{IsTied};
 
-use crate::nodes::nodes_fit;
-use crate::ways::all_ways;
-use crate::wires::{feeds_fit, pads_fit, wires_fit};
-use ff_dag::{Node, Placed, Plan};
+use crate::ties::nodes::nodes_fit;
+use crate::ties::ways::all_ways;
+use crate::ties::wires::{feeds_fit, pads_fit, wires_fit};
+use crate::{Node, Placed, Plan};
 use ff_filter::Filter;
 use std::alloc::{AllocError, Global};
 

@@ -1,10 +1,10 @@
 ghost use Rattle.std.specs.Prelude.{◌≡◌, ◌<◌, ◌+◌, ℕ, true, Some, None, length, slice_get};
-ghost use Rattle.ff_dag.specs.declared.graph.Port.{Port as APort};
-ghost use Rattle.ff_dag.specs.declared.graph.Wire.{Wire as AWire};
-ghost use Rattle.ff_tied.specs.Tied.{edge_in as edge_into, edge_out as edge_from};
+ghost use Rattle.ff_graph_dag.specs.declared.graph.Port.{Port as APort};
+ghost use Rattle.ff_graph_dag.specs.declared.graph.Wire.{Wire as AWire};
+ghost use Rattle.ff_graph_dag.specs.ties.Tied.{edge_in as edge_into, edge_out as edge_from};
 
-use crate::edges::{edge_in, edge_out, is_edge};
-use ff_dag::{Plan, Port, Wire};
+use crate::ties::edges::{edge_in, edge_out, is_edge};
+use crate::{Plan, Port, Wire};
 
 // Whether an edge comes from an earlier filter, at whose output it stands, or from an input of the graph.
 fn comes_from_there(plan: &Plan, wire: Wire, edge: usize) -> bool

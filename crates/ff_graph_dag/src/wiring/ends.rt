@@ -1,7 +1,7 @@
 ghost use Rattle.std.specs.Prelude.{◌≡◌, ◌++◌, Some, map, length, IfOk, OnOk};
-ghost use Rattle.ff_wired.specs.Wires.{ends_of, starts_of, numbers, is_at as is_port_at, edge_of as edge_at_port};
+ghost use Rattle.ff_graph_dag.specs.wiring.Wires.{ends_of, starts_of, numbers, is_at as is_port_at, edge_of as edge_at_port};
 
-use ff_dag::{Port, Wire};
+use crate::{Port, Wire};
 use std::alloc::{AllocError, Global};
 
 /// Where each edge that leads to a filter ends.

@@ -1,25 +1,25 @@
 //! What follows of the definitions alone.
 ghost use Rattle.std.specs.Prelude.{◌≡◌, ◌<◌, ℕ, Bool, List, [], Option, Some, None, length, map, slice_get, slice_index_or};
 ghost use Rattle.std.specs.List.{position_or_len};
-ghost use Rattle.ff_frame.specs.declared.item.Lane.{Lane};
-ghost use Rattle.ff_frame.specs.Ports.{stream_at};
+ghost use Rattle.ff_stream.specs.declared.item.Lane.{Lane};
+ghost use Rattle.ff_stream.specs.Ports.{stream_at};
 ghost use Rattle.ff_filter.specs.Joins.{Flow, Ports};
 ghost use Rattle.ff_filter.specs.Views.{View};
-ghost use Rattle.ff_net_filter.specs.Limiting.{IsLimited};
-ghost use Rattle.ff_drawn.specs.declared.drawn.Pad.{Pad as APad};
-ghost use Rattle.ff_dag.specs.declared.graph.Node.{Node};
-ghost use Rattle.ff_dag.specs.declared.graph.Port.{Port as APort};
-ghost use Rattle.ff_dag.specs.declared.graph.Plan.{Plan};
-ghost use Rattle.ff_dag.specs.Dags.{Spot};
-ghost use Rattle.ff_dag.specs.Graphs.{spot_at, Fits};
-ghost use Rattle.ff_dag.specs.Parts.{AreNew, composed};
-ghost use Rattle.ff_drawn.specs.Links.{opens_from};
-ghost use Rattle.ff_order.specs.Orders.{IsOrder};
-ghost use Rattle.ff_tied.specs.Tied.{IsTied};
-ghost use Rattle.ff_wired.specs.Flows.{no_flows, flows_from, same_pad, pad_place, placed, placed_counts, placed_pads, pad_at, source_at, IsForward, IsDrawing};
-ghost use Rattle.ff_wired.specs.Limits.{flows_at, cuts_from, AreLimited, Leave};
-ghost use Rattle.ff_wired.specs.Meant.{Streams, Solves};
-ghost use Rattle.ff_wired.specs.Wires.{IsLinked, IsWired};
+ghost use Rattle.ff_node_filter.specs.Limiting.{IsLimited};
+ghost use Rattle.ff_graph_links.specs.declared.pads.drawn.Pad.{Pad as APad};
+ghost use Rattle.ff_graph_dag.specs.declared.graph.Node.{Node};
+ghost use Rattle.ff_graph_dag.specs.declared.graph.Port.{Port as APort};
+ghost use Rattle.ff_graph_dag.specs.declared.graph.Plan.{Plan};
+ghost use Rattle.ff_graph_dag.specs.Dags.{Spot};
+ghost use Rattle.ff_graph_dag.specs.Graphs.{spot_at, Fits};
+ghost use Rattle.ff_graph_dag.specs.Parts.{AreNew, composed};
+ghost use Rattle.ff_graph_links.specs.pads.Links.{opens_from};
+ghost use Rattle.ff_graph_links.specs.orders.Orders.{IsOrder};
+ghost use Rattle.ff_graph_dag.specs.ties.Tied.{IsTied};
+ghost use Rattle.ff_graph_dag.specs.wiring.Flows.{no_flows, flows_from, same_pad, pad_place, placed, placed_counts, placed_pads, pad_at, source_at, IsForward, IsDrawing};
+ghost use Rattle.ff_graph_dag.specs.wiring.Limits.{flows_at, cuts_from, AreLimited, Leave};
+ghost use Rattle.ff_graph_dag.specs.wiring.Meant.{Streams, Solves};
+ghost use Rattle.ff_graph_dag.specs.wiring.Wires.{IsLinked, IsWired};
 
 /// A plan of filters to which nothing was done stands for the streams that solve its filters, so that they have one solution only.
 pub fn wired_plans_solve()
@@ -46,7 +46,7 @@ pub fn orders_go_forward()
     ensures all { (feeders : List (List ℕ)) (order : List ℕ) (f : ℕ) → IsOrder feeders order → f < length feeders → (j : ℕ) × (slice_get order j ≡ Some f) }
 {}
 
-/// The open inputs of ff_drawn are the pads that no filter feeds, each once.
+/// The open inputs of ff_graph_links are the pads that no filter feeds, each once.
 pub fn open_inputs_are_open()
     ensures free { (sources : List (List (Option APad))) (n : ℕ) (p : APad) → slice_get (opens_from 0 sources) n ≡ Some p
         → source_at sources p.filter p.pad ≡ Some None }

@@ -1,8 +1,8 @@
 ghost use Rattle.std.specs.Prelude.{◌≡◌, length, map, IfOk};
-ghost use Rattle.ff_wired.specs.Wires.{feeds_in, edges_up, ins_from, outs_from};
+ghost use Rattle.ff_graph_dag.specs.wiring.Wires.{feeds_in, edges_up, ins_from, outs_from};
 
-use crate::ends::edge_of;
-use ff_dag::{Node, Port};
+use crate::wiring::ends::edge_of;
+use crate::{Node, Port};
 use std::alloc::{AllocError, Global};
 
 // The edges at so many ports of a filter.

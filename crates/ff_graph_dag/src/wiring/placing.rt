@@ -1,11 +1,11 @@
 ghost use Rattle.std.specs.Prelude.{◌≡◌, ◌++◌, [], map, slice_index_or, IfOk};
-ghost use Rattle.ff_drawn.specs.Links.{pads_in};
-ghost use Rattle.ff_wired.specs.Wires.{feeds_in};
-ghost use Rattle.ff_wired.specs.Flows.{place_in as place_of, port_at as port_of_pad, port_of_source};
-ghost use Rattle.ff_wired.specs.Flows.{placed as placed_as, placed_pads as pads_placed, placed_counts as counts_placed};
+ghost use Rattle.ff_graph_links.specs.pads.Links.{pads_in};
+ghost use Rattle.ff_graph_dag.specs.wiring.Wires.{feeds_in};
+ghost use Rattle.ff_graph_dag.specs.wiring.Flows.{place_in as place_of, port_at as port_of_pad, port_of_source};
+ghost use Rattle.ff_graph_dag.specs.wiring.Flows.{placed as placed_as, placed_pads as pads_placed, placed_counts as counts_placed};
 
-use ff_dag::Port;
-use ff_drawn::Pad;
+use crate::Port;
+use ff_graph_links::Pad;
 use std::alloc::{AllocError, Global};
 
 // The place of a filter in the order; how many there are where it has none.

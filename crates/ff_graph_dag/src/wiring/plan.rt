@@ -1,17 +1,17 @@
 ghost use Rattle.std.specs.Prelude.{◌≡◌, ◌-◌, ◌≤◌, ℕ, length, IfOk};
-ghost use Rattle.ff_tied.specs.Tied.{IsTied};
-ghost use Rattle.ff_drawn.specs.Links.{pads_in};
-ghost use Rattle.ff_wired.specs.Flows.{placed as feeds_placed, placed_counts as counts_placed, placed_pads as pads_placed, IsDrawing};
-ghost use Rattle.ff_wired.specs.Wires.{feeds_in, numbers, IsLinked, IsWired};
+ghost use Rattle.ff_graph_dag.specs.ties.Tied.{IsTied};
+ghost use Rattle.ff_graph_links.specs.pads.Links.{pads_in};
+ghost use Rattle.ff_graph_dag.specs.wiring.Flows.{placed as feeds_placed, placed_counts as counts_placed, placed_pads as pads_placed, IsDrawing};
+ghost use Rattle.ff_graph_dag.specs.wiring.Wires.{feeds_in, numbers, IsLinked, IsWired};
 
-use crate::ends::{ends, starts};
-use crate::nodes::nodes;
-use crate::placing::{placed, placed_counts, placed_pads};
-use crate::wires::wires;
-use ff_dag::{Plan, Port};
-use ff_drawn::Pad;
-use ff_frame::Lane;
-use ff_tied::upward_ways;
+use crate::ties::upward_ways;
+use crate::wiring::ends::{ends, starts};
+use crate::wiring::nodes::nodes;
+use crate::wiring::placing::{placed, placed_counts, placed_pads};
+use crate::wiring::wires::wires;
+use crate::{Plan, Port};
+use ff_graph_links::Pad;
+use ff_stream::Lane;
 use std::alloc::{AllocError, Global};
 
 // The numbers from one up to another.

@@ -1,7 +1,7 @@
 ghost use Rattle.std.specs.Prelude.{◌≡◌, ◌++◌, None, Some, map, IfOk, OnOk};
-ghost use Rattle.ff_wired.specs.Wires.{feeds_in, entering, links_at, links_from, wires_of};
+ghost use Rattle.ff_graph_dag.specs.wiring.Wires.{feeds_in, entering, links_at, links_from, wires_of};
 
-use ff_dag::{Port, Wire};
+use crate::{Port, Wire};
 use std::alloc::{AllocError, Global};
 
 // Adds an edge for each input of the graph.

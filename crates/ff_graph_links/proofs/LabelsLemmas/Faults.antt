@@ -5,9 +5,9 @@ use Rattle.std.proofs.lemmas.List.Concat.{flat_map-append}
 use Rattle.std.specs.List.{flat_map}
 use Rattle.ff_lang.specs.declared.graph.Chain.{Chain}
 use Rattle.ff_lang.specs.declared.graph.Filter.{Filter}
-use Rattle.ff_labels.specs.declared.fault.LabelFault.{LabelFault}
-use Rattle.ff_labels.specs.Labels.{ins_of, outs_of}
-use Rattle.ff_labels.specs.Names.{or_else, filter_fault, filters_fault, IsFaultOf}
+use Rattle.ff_graph_links.specs.declared.labels.fault.LabelFault.{LabelFault}
+use Rattle.ff_graph_links.specs.labels.Labels.{ins_of, outs_of}
+use Rattle.ff_graph_links.specs.labels.Names.{or_else, filter_fault, filters_fault, IsFaultOf}
 
 pub fault_first : (o p : Option LabelFault) (e : LabelFault) → IsFaultOf o e → IsFaultOf (or_else o p) e
 fault_first o p e (inl memory) = inl memory

@@ -7,7 +7,7 @@ use Rattle.std.proofs.lemmas.Cmp.{nat_eq_equiv}
 use Rattle.std.proofs.lemmas.Map.Keys.{IsDistinct-cons, IsDistinct-push}
 use Rattle.std.proofs.lemmas.Map.Steps.{length-le_from_distinct_below}
 use Rattle.std.specs.List.{AllByRecursion, IsDistinct, find, list_all, list_any, range_with_len}
-use Rattle.ff_labels.specs.Order.{below, comes_behind, is_in, is_next, next_graph, order_on, order_by, ComeInOrder, HasNoLoop}
+use Rattle.ff_graph_links.specs.labels.Order.{below, comes_behind, is_in, is_next, next_graph, order_on, order_by, ComeInOrder, HasNoLoop}
 
 -- ---- tests
 

@@ -2,11 +2,11 @@
 use Rattle.std.proofs.Common.{◌≡◌, ℕ, ◌+◌, Bool, Option, None, List, [], ◌∷◌, ◌++◌, length, not, sym, ap, ◌∙◌, subst, arith, append_assoc}
 use Rattle.std.proofs.lemmas.List.{append-nil}
 use Rattle.ff_lang.specs.declared.graph.Filter.{Filter}
-use Rattle.ff_labels.specs.declared.fault.LabelFault.{LabelFault}
-use Rattle.ff_labels.specs.declared.fault.LabelFault.TheVariants as fault
-use Rattle.ff_labels.specs.Labels.{ins_of, outs_of}
-use Rattle.ff_labels.specs.Names.{or_else, where_so, own_fault, twice_in, unknown_filter, IsFaultOf}
-use Rattle.ff_labels.proofs.Faults.{fault_first, or_assoc}
+use Rattle.ff_graph_links.specs.declared.labels.fault.LabelFault.{LabelFault}
+use Rattle.ff_graph_links.specs.declared.labels.fault.LabelFault.TheVariants as fault
+use Rattle.ff_graph_links.specs.labels.Labels.{ins_of, outs_of}
+use Rattle.ff_graph_links.specs.labels.Names.{or_else, where_so, own_fault, twice_in, unknown_filter, IsFaultOf}
+use Rattle.ff_graph_links.proofs.LabelsLemmas.Faults.{fault_first, or_assoc}
 
 twice_append : (ins outs : List (List ℕ)) (xs ys : List Filter) → twice_in ins outs (xs ++ ys) ≡ or_else (twice_in ins outs xs) (twice_in (ins ++ ins_of xs) (outs ++ outs_of xs) ys)
 twice_append ins outs [] ys =

@@ -5,9 +5,9 @@ use Rattle.std.proofs.lemmas.Bool.{cases_lt}
 use Rattle.std.proofs.lemmas.Bool.Decides.{nat_tests}
 use Rattle.std.proofs.lemmas.List.{append-nil}
 use Rattle.std.specs.declared.vec.Vec.{Vec}
-use Rattle.ff_order.specs.Orders.{lists, IsOrder, IsLowestOrder, is_taken, are_taken, all_taken, left, is_ready, IsOrderFrom, IsLowestFrom}
-use Rattle.ff_order.specs.Orders.{first_ready, next_ready, order_on, order_from, order_of, loops}
-use Rattle.ff_order.proofs.Stuck.{left_falls, unready, stuck, size_set, lists_size, taken_at}
+use Rattle.ff_graph_links.specs.orders.Orders.{lists, IsOrder, IsLowestOrder, is_taken, are_taken, all_taken, left, is_ready, IsOrderFrom, IsLowestFrom}
+use Rattle.ff_graph_links.specs.orders.Orders.{first_ready, next_ready, order_on, order_from, order_of, loops}
+use Rattle.ff_graph_links.proofs.OrdersLemmas.Stuck.{left_falls, unready, stuck, size_set, lists_size, taken_at}
 
 either : (b : Bool) → (b ≡ true) ⊎ (b ≡ false)
 either true = inl refl

@@ -3,7 +3,7 @@ use Rattle.std.proofs.Common.{◌≡◌, ◌≢◌, ℕ, zero, suc, ◌<◌, ◌
 use Rattle.std.proofs.lemmas.Bool.Decides.{nat_tests}
 use Rattle.std.proofs.lemmas.List.{append-nil, get_or-set_other, length-map, length-replicate}
 use Rattle.std.specs.declared.vec.Vec.{Vec}
-use Rattle.ff_order.specs.Orders.{lists, IsOrder, IsLowestOrder, is_taken, are_taken, all_taken, left, is_ready, IsOrderFrom, IsLowestFrom}
+use Rattle.ff_graph_links.specs.orders.Orders.{lists, IsOrder, IsLowestOrder, is_taken, are_taken, all_taken, left, is_ready, IsOrderFrom, IsLowestFrom}
 
 both : (a b : Bool) → (a && b) ≡ true → (a ≡ true) × (b ≡ true)
 both true b e = (refl, e)

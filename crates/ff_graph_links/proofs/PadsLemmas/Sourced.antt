@@ -1,7 +1,7 @@
 -- The sources of input pads, one more.
 use Rattle.std.proofs.Common.{◌≡◌, ℕ, suc, ◌+◌, ◌-◌, ◌<◌, List, [], ◌∷◌, ◌++◌, Option, ap, sym, ◌∙◌, append_assoc, arith}
-use Rattle.ff_drawn.specs.declared.drawn.Pad.{Pad}
-use Rattle.ff_drawn.specs.Links.{Seen, source_of, sources_up}
+use Rattle.ff_graph_links.specs.declared.pads.drawn.Pad.{Pad}
+use Rattle.ff_graph_links.specs.pads.Links.{Seen, source_of, sources_up}
 
 next_up : (ds : List Seen) (k : ℕ) (d : Seen) (i n : ℕ) → i < n → sources_up ds k d i (n - i) ≡ source_of ds k d i ∷ sources_up ds k d (suc i) (n - suc i)
 next_up ds k d i n lt = let e : n - i ≡ suc (n - suc i) = omega arith in ap (λ (m : ℕ). sources_up ds k d i m) e

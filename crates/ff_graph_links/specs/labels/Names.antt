@@ -3,9 +3,9 @@ use Rattle.std.specs.Prelude.{◌≡◌, ◌⊎◌, ℕ, ◌+◌, ◌&&◌, ◌|
 use Rattle.std.specs.List.{flat_map}
 use Rattle.ff_lang.specs.declared.graph.Filter.{Filter}
 use Rattle.ff_lang.specs.declared.graph.Graph.{Graph}
-use Rattle.ff_labels.specs.declared.fault.LabelFault.{LabelFault}
-use Rattle.ff_labels.specs.declared.fault.LabelFault.TheVariants as fault
-use Rattle.ff_labels.specs.Labels.{is_one_of, filters_of, taken_in, given_in}
+use Rattle.ff_graph_links.specs.declared.labels.fault.LabelFault.{LabelFault}
+use Rattle.ff_graph_links.specs.declared.labels.fault.LabelFault.TheVariants as fault
+use Rattle.ff_graph_links.specs.labels.Labels.{is_one_of, filters_of, taken_in, given_in}
 
 -- the first of two faults
 abbrev pub or_else : Option LabelFault → Option LabelFault → Option LabelFault

@@ -3,7 +3,7 @@ use Rattle.std.specs.Prelude.{◌≡◌, ℕ, zero, suc, ◌+◌, ◌<◌, ◌==
 use Rattle.std.specs.Prelude.{slice_get, slice_index_or, Option, Some, None}
 use Rattle.std.specs.List.{find, list_all, list_any, range_with_len}
 use Rattle.ff_lang.specs.declared.graph.Graph.{Graph}
-use Rattle.ff_labels.specs.Labels.{meet, taken_in, given_in}
+use Rattle.ff_graph_links.specs.labels.Labels.{meet, taken_in, given_in}
 
 -- the numbers below this one
 abbrev pub below : ℕ → List ℕ

@@ -3,8 +3,8 @@ use Rattle.std.specs.Prelude.{ℕ, Bool, zero, suc, ◌+◌, ◌-◌, nat_lt, co
 use Rattle.std.specs.Str.{bytes_eq}
 use Rattle.std.specs.declared.vec.Vec.{Vec}
 use Rattle.ff_lang.specs.declared.graph.Filter.{Filter}
-use Rattle.ff_drawn.specs.declared.drawn.Drawn.{Drawn}
-use Rattle.ff_drawn.specs.declared.drawn.Pad.{Pad}
+use Rattle.ff_graph_links.specs.declared.pads.drawn.Drawn.{Drawn}
+use Rattle.ff_graph_links.specs.declared.pads.drawn.Pad.{Pad}
 
 -- A filter as it is drawn: itself, its input pads, its output pads that may be linked without a label, those with one counted too, and
 -- whether a filter stands before it in its chain.

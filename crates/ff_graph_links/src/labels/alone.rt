@@ -1,11 +1,11 @@
 // A simple graph by itself: its labels, which name pads of its own alone, and the names of its filters.
 ghost use Rattle.std.specs.Prelude.{◌≡◌, ◌+◌, ◌^◌, ◌<◌, ◌≤◌, ◌++◌, [], None, IfOk, IfErr, OnOk, length};
-ghost use Rattle.ff_labels.specs.Labels.{filters_of, ins_of, outs_of};
-ghost use Rattle.ff_labels.specs.Names.{own_fault, twice_in, unknown_filter, IsFaultOf};
+ghost use Rattle.ff_graph_links.specs.labels.Labels.{filters_of, ins_of, outs_of};
+ghost use Rattle.ff_graph_links.specs.labels.Names.{own_fault, twice_in, unknown_filter, IsFaultOf};
 
-use crate::fault::LabelFault;
-use crate::known::Known;
-use crate::names::{Seen, add_seen, check_twice};
+use crate::labels::fault::LabelFault;
+use crate::labels::known::Known;
+use crate::labels::names::{Seen, add_seen, check_twice};
 use ff_lang::{Filter, Graph};
 use std::alloc::Global;
 

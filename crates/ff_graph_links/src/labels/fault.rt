@@ -1,5 +1,5 @@
 ghost use Rattle.std.specs.Prelude.{◌≡◌};
-ghost use Rattle.ff_labels.specs.declared.fault.LabelFault.TheVariants.{NoMemory};
+ghost use Rattle.ff_graph_links.specs.declared.labels.fault.LabelFault.TheVariants.{NoMemory};
 
 use ff_lang::Text;
 use std::alloc::AllocError;

@@ -2,7 +2,7 @@
 ghost use Rattle.std.specs.Prelude.{◌≡◌, ◌<◌, ◌≤◌, true, false, length};
 ghost use Rattle.std.specs.List.{AllByRecursion};
 ghost use Rattle.ff_lang.specs.declared.graph.Graph.{Graph};
-ghost use Rattle.ff_labels.specs.Labels.{is_one_of as one_of, filters_of, outs_of, ins_of, given_in, taken_in, meet};
+ghost use Rattle.ff_graph_links.specs.labels.Labels.{is_one_of as one_of, filters_of, outs_of, ins_of, given_in, taken_in, meet};
 
 use ff_lang::{Chain, Graph, Text};
 

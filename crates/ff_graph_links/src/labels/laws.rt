@@ -1,6 +1,6 @@
 //! Laws of the order of graphs. Each is a function that does nothing: its clauses hold of all values.
 ghost use Rattle.std.specs.Prelude.{◌≡◌, ◌<◌, ℕ, Bool, true, []};
-ghost use Rattle.ff_labels.specs.Order.{order_by, ComeInOrder, HasNoLoop, is_in};
+ghost use Rattle.ff_graph_links.specs.labels.Order.{order_by, ComeInOrder, HasNoLoop, is_in};
 
 /// No graph stands twice, and all that feed a graph stand before it.
 pub fn orders_go_upward()

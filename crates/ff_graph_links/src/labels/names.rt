@@ -2,13 +2,13 @@
 ghost use Rattle.std.specs.Prelude.{◌≡◌, ◌⊎◌, ◌+◌, ◌^◌, ◌<◌, ◌≤◌, ◌++◌, ◌||◌, true, false, [], None, IfOk, IfErr, OnOk, length};
 ghost use Rattle.std.specs.List.{AllByRecursion};
 ghost use Rattle.ff_lang.specs.declared.graph.Graph.{Graph};
-ghost use Rattle.ff_labels.specs.Labels.{is_one_of as one_of, filters_of, ins_of, outs_of, taken_in, given_in};
-ghost use Rattle.ff_labels.specs.Names.{unknown_label, twice as stands_twice, filter_fault, filters_fault, graphs_fault};
-ghost use Rattle.ff_labels.specs.Names.{all_given, labels_fault, IsFaultOf};
+ghost use Rattle.ff_graph_links.specs.labels.Labels.{is_one_of as one_of, filters_of, ins_of, outs_of, taken_in, given_in};
+ghost use Rattle.ff_graph_links.specs.labels.Names.{unknown_label, twice as stands_twice, filter_fault, filters_fault, graphs_fault};
+ghost use Rattle.ff_graph_links.specs.labels.Names.{all_given, labels_fault, IsFaultOf};
 
-use crate::fault::LabelFault;
-use crate::known::Known;
-use crate::labels::is_one_of;
+use crate::labels::fault::LabelFault;
+use crate::labels::known::Known;
+use crate::labels::labels::is_one_of;
 use ff_lang::{Chain, Filter, Graph, Text};
 use std::alloc::{AllocError, Global};
 

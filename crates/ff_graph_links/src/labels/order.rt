@@ -1,11 +1,11 @@
 // Which graphs feed which, their order and their loops.
 ghost use Rattle.std.specs.Prelude.{◌≡◌, ◌<◌, ◌^◌, ◌||◌, not, IfOk, length, map, slice_index_or, false};
 ghost use Rattle.std.specs.List.{list_all};
-ghost use Rattle.ff_labels.specs.Order.{below, feeds, cell, reaches, comes_behind, first_on_loop, on_loop, is_in as stands_in};
-ghost use Rattle.ff_labels.specs.Order.{is_next as comes_next, next_graph as number_next, order_by, graph_order};
-ghost use Rattle.ff_labels.specs.Tables.{marks};
+ghost use Rattle.ff_graph_links.specs.labels.Order.{below, feeds, cell, reaches, comes_behind, first_on_loop, on_loop, is_in as stands_in};
+ghost use Rattle.ff_graph_links.specs.labels.Order.{is_next as comes_next, next_graph as number_next, order_by, graph_order};
+ghost use Rattle.ff_graph_links.specs.labels.Tables.{marks};
 
-use crate::labels::gives_to;
+use crate::labels::labels::gives_to;
 use ff_lang::Graph;
 use std::alloc::{AllocError, Global};
 

@@ -1,6 +1,6 @@
 //! Laws of orders. Each is a function that does nothing: its clauses hold of all values.
 ghost use Rattle.std.specs.Prelude.{◌≡◌, ℕ, List, true, false};
-ghost use Rattle.ff_order.specs.Orders.{IsOrder, IsLowestOrder, order_of, loops};
+ghost use Rattle.ff_graph_links.specs.orders.Orders.{IsOrder, IsLowestOrder, order_of, loops};
 
 /// The order that takes the lowest first has one answer.
 pub fn order_is_one()

@@ -1,6 +1,6 @@
 ghost use Rattle.std.specs.Prelude.{◌≡◌, ◌<◌, ℕ, List, length, replicate, slice_set, IfOk, IfSome, IsNone, Ok, None, Some, is_some, not, true, false};
-ghost use Rattle.ff_order.specs.Orders.{is_taken as taken_is, all_taken, are_taken as are_all_taken, is_ready as ready_is, lists, IsOrder, IsLowestOrder, left};
-ghost use Rattle.ff_order.specs.Orders.{first_ready, order_of, loops};
+ghost use Rattle.ff_graph_links.specs.orders.Orders.{is_taken as taken_is, all_taken, are_taken as are_all_taken, is_ready as ready_is, lists, IsOrder, IsLowestOrder, left};
+ghost use Rattle.ff_graph_links.specs.orders.Orders.{first_ready, order_of, loops};
 
 use std::alloc::{AllocError, Global};
 

@@ -1,5 +1,5 @@
 ghost use Rattle.std.specs.Prelude.{◌≡◌, slice_get};
-ghost use Rattle.ff_drawn.specs.Links.{seen, all_seen, place_from, giver_from, next_pad as next_pad_of, chained as chained_to};
+ghost use Rattle.ff_graph_links.specs.pads.Links.{seen, all_seen, place_from, giver_from, next_pad as next_pad_of, chained as chained_to};
 
 use ff_lang::{Filter, Text};
 

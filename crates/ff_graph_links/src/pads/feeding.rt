@@ -1,7 +1,7 @@
 ghost use Rattle.std.specs.Prelude.{◌≡◌, ◌++◌, [], IfOk, OnOk};
-ghost use Rattle.ff_drawn.specs.Links.{seen, all_seen, filter_and, first_fed, givers, feeders_of, feeders_from, filters_in};
+ghost use Rattle.ff_graph_links.specs.pads.Links.{seen, all_seen, filter_and, first_fed, givers, feeders_of, feeders_from, filters_in};
 
-use crate::drawn::{Drawn, Pad, chained, giver};
+use crate::pads::drawn::{Drawn, Pad, chained, giver};
 use ff_lang::Text;
 use std::alloc::{AllocError, Global};
 

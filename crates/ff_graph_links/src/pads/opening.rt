@@ -1,7 +1,7 @@
 ghost use Rattle.std.specs.Prelude.{◌≡◌, ◌++◌, IfOk, OnOk};
-ghost use Rattle.ff_drawn.specs.Links.{pads_in, opens_at, opens_from};
+ghost use Rattle.ff_graph_links.specs.pads.Links.{pads_in, opens_at, opens_from};
 
-use crate::drawn::Pad;
+use crate::pads::drawn::Pad;
 use std::alloc::{AllocError, Global};
 
 // Adds the open ones of a filter's input pads, of which each is fed so.

@@ -1,7 +1,7 @@
 ghost use Rattle.std.specs.Prelude.{◌≡◌, IfOk};
-ghost use Rattle.ff_drawn.specs.Links.{seen, all_seen, source_of, sources_of, sources_from, pads_in};
+ghost use Rattle.ff_graph_links.specs.pads.Links.{seen, all_seen, source_of, sources_of, sources_from, pads_in};
 
-use crate::drawn::{Drawn, Pad, chained, giver};
+use crate::pads::drawn::{Drawn, Pad, chained, giver};
 use std::alloc::{AllocError, Global};
 
 // The output pad that feeds an input pad of a filter. None where the pad is open.

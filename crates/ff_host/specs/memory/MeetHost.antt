@@ -1,10 +1,10 @@
 -- What the host whose sources meet holds, and what its calls note under a name.
 use Rattle.std.specs.Prelude.{◌≡◌, ◌≢◌, ℕ, List, true, IsTrue}
 use Rattle.ff_host.specs.Files.{Files, bytes_at}
-use Rattle.ff_memory_host.specs.MeetEnds.{MeetReading, new_meeting}
-use Rattle.ff_memory_host.specs.QuietHost.{quiet_files, quiet_sources, quiet_sinks}
+use Rattle.ff_host.specs.memory.MeetEnds.{MeetReading, new_meeting}
+use Rattle.ff_host.specs.memory.QuietHost.{quiet_files, quiet_sources, quiet_sinks}
 use Rattle.ff_host.specs.Tally.{marks_at}
-use Rattle.ff_memory_host.specs.declared.meet_host.MeetHost.{MeetHost}
+use Rattle.ff_host.specs.declared.memory.meet_host.MeetHost.{MeetHost}
 use Rattle.ff_host.specs.declared.tally.Marks.{Marks}
 
 -- its files, by name

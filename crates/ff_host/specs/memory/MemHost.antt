@@ -2,13 +2,13 @@
 use Rattle.std.specs.Prelude.{◌≡◌, ◌≢◌, ◌⊎◌, ℕ, List, None, true, IsTrue, IsSome}
 use Rattle.ff_host.specs.Causes.{added}
 use Rattle.ff_host.specs.Files.{Files, bytes_at}
-use Rattle.ff_memory_host.specs.MemEnds.{MemReading, MemWriting, new_reading, new_writing}
-use Rattle.ff_memory_host.specs.Plan.{IsPlannedNext, numbers_of}
-use Rattle.ff_memory_host.specs.QuietHost.{quiet_files, quiet_sources, quiet_sinks}
+use Rattle.ff_host.specs.memory.MemEnds.{MemReading, MemWriting, new_reading, new_writing}
+use Rattle.ff_host.specs.memory.Plan.{IsPlannedNext, numbers_of}
+use Rattle.ff_host.specs.memory.QuietHost.{quiet_files, quiet_sources, quiet_sinks}
 use Rattle.ff_host.specs.Tally.{marks_at}
-use Rattle.ff_memory_host.specs.declared.mem_host.MemHost.{MemHost}
-use Rattle.ff_memory_host.specs.declared.plan.FailAt.{FailAt}
-use Rattle.ff_memory_host.specs.declared.plan.HostCall.TheVariants.{OpenSource, Read, Create, Append, Patch, CloseSink}
+use Rattle.ff_host.specs.declared.memory.mem_host.MemHost.{MemHost}
+use Rattle.ff_host.specs.declared.memory.plan.FailAt.{FailAt}
+use Rattle.ff_host.specs.declared.memory.plan.HostCall.TheVariants.{OpenSource, Read, Create, Append, Patch, CloseSink}
 use Rattle.ff_host.specs.declared.tally.Marks.{Marks}
 
 -- its files, by name

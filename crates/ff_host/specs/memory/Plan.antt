@@ -2,9 +2,9 @@
 use Rattle.std.specs.Prelude.{ℕ, ◌==◌, ◌&&◌, ◌⊎◌, Bool, List, map, filter, string_bytes, IsTrue, Contains}
 use Rattle.std.specs.Str.{bytes_eq}
 use Rattle.ff_host.specs.Causes.{added}
-use Rattle.ff_memory_host.specs.declared.plan.FailAt.{FailAt}
-use Rattle.ff_memory_host.specs.declared.plan.HostCall.{HostCall}
-use Rattle.ff_memory_host.specs.declared.plan.HostCall.TheVariants.{OpenSource, Read, Create, Append, Patch, CloseSink}
+use Rattle.ff_host.specs.declared.memory.plan.FailAt.{FailAt}
+use Rattle.ff_host.specs.declared.memory.plan.HostCall.{HostCall}
+use Rattle.ff_host.specs.declared.memory.plan.HostCall.TheVariants.{OpenSource, Read, Create, Append, Patch, CloseSink}
 
 -- a kind's place among the kinds, by which they are compared
 abbrev pub place_of : HostCall → ℕ

@@ -1,8 +1,8 @@
 -- What the quiet host holds.
 use Rattle.std.specs.Prelude.{ℕ, ◌+◌, ◌-◌}
-use Rattle.ff_memory_host.specs.Contents.{file_at}
+use Rattle.ff_host.specs.memory.Contents.{file_at}
 use Rattle.ff_host.specs.Files.{Files}
-use Rattle.ff_memory_host.specs.declared.quiet_host.QuietHost.{QuietHost}
+use Rattle.ff_host.specs.declared.memory.quiet_host.QuietHost.{QuietHost}
 
 -- its files, by name
 abbrev pub quiet_files : QuietHost → Files

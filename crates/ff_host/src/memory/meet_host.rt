@@ -1,17 +1,17 @@
 ghost use Rattle.std.specs.Prelude.{◌≡◌, ◌-◌, ℕ, List, [], Some, IfOk, OnOk, OnErr, IsErrOf, IsOk, IsSome};
 ghost use Rattle.std.specs.Option.{option_map};
 ghost use Rattle.ff_host.specs.Files.{KeepsFiles, PutsFile};
-ghost use Rattle.ff_memory_host.specs.Given.{given};
-ghost use Rattle.ff_memory_host.specs.MemHost.{source_closed};
-ghost use Rattle.ff_memory_host.specs.MeetHost.{meet_files, meet_marks, meet_in_faults, meet_offset, meet_sources, meet_sinks, MeetOpened, new_meet_source, MeetNotes, MeetSame, now_opened};
+ghost use Rattle.ff_host.specs.memory.Given.{given};
+ghost use Rattle.ff_host.specs.memory.MemHost.{source_closed};
+ghost use Rattle.ff_host.specs.memory.MeetHost.{meet_files, meet_marks, meet_in_faults, meet_offset, meet_sources, meet_sinks, MeetOpened, new_meet_source, MeetNotes, MeetSame, now_opened};
 ghost use Rattle.ff_host.specs.Opens.{CountsOpening};
 ghost use Rattle.ff_host.specs.Tally.{blank};
 
-use crate::meet_source::MeetSource;
-use crate::meeting::Meeting;
-use crate::quiet_host::QuietHost;
-use crate::quiet_sink::QuietSink;
-use ff_host::{Failed, Host, HostError, Marks, Table, make_room, marks_of, set_marks};
+use crate::memory::meet_source::MeetSource;
+use crate::memory::meeting::Meeting;
+use crate::memory::quiet_host::QuietHost;
+use crate::memory::quiet_sink::QuietSink;
+use crate::{Failed, Host, HostError, Marks, Table, make_room, marks_of, set_marks};
 use std::alloc::{AllocError, Global};
 use std::collections::BTreeMap;
 

@@ -1,11 +1,11 @@
 ghost use Rattle.std.specs.Prelude.{◌≡◌, ◌+◌, ◌<◌, ◌≤◌, ◌⊎◌, [], ◌++◌, length, take, drop, min, false, Some, IfOk, IsOk, OnOk, OnErr, IsTrue, string_bytes};
 ghost use Rattle.ff_host.specs.Causes.{added, HasCause};
-ghost use Rattle.ff_memory_host.specs.MeetEnds.{new_meeting, most_turns, GoesOn, gave, failed_alone};
+ghost use Rattle.ff_host.specs.memory.MeetEnds.{new_meeting, most_turns, GoesOn, gave, failed_alone};
 
-use crate::meeting::{Meeting, TURNS};
-use crate::plan::one_more;
-use crate::quiet_source::QuietSource;
-use ff_host::{Failed, Source};
+use crate::memory::meeting::{Meeting, TURNS};
+use crate::memory::plan::one_more;
+use crate::memory::quiet_source::QuietSource;
+use crate::{Failed, Source};
 use std::marker::Model;
 
 /// A source in memory whose first read that begins at or past an offset waits until the other one's has begun.
@@ -24,7 +24,7 @@ pub struct MeetSource {
 }
 
 impl Model for MeetSource {
-    ghost use Rattle.ff_memory_host.specs.MeetEnds.{MeetReading};
+    ghost use Rattle.ff_host.specs.memory.MeetEnds.{MeetReading};
 
     ghost Value = { MeetReading };
 

@@ -2,20 +2,20 @@ ghost use Rattle.std.specs.Prelude.{◌≡◌, ◌-◌, ◌↔◌, ◌⊎◌, �
 ghost use Rattle.std.specs.Option.{option_map};
 ghost use Rattle.ff_host.specs.Causes.{HasCause, HasCauseOf, SameCounts, added};
 ghost use Rattle.ff_host.specs.Files.{KeepsFiles, PutsFile};
-ghost use Rattle.ff_memory_host.specs.Given.{given};
-ghost use Rattle.ff_memory_host.specs.MemHost.{files_of, plan_of, marks_in, in_faults_of, out_faults_of, open_sources_of, open_sinks_of, HasOpened, HasCreated, new_source, new_sink};
-ghost use Rattle.ff_memory_host.specs.MemHost.{OpenFails, CreateFails, CloseFails};
-ghost use Rattle.ff_memory_host.specs.MemHost.{Notes, no_change, one_opened, one_open_failed, one_created, one_create_failed, source_closed, sink_closed, close_failed};
+ghost use Rattle.ff_host.specs.memory.Given.{given};
+ghost use Rattle.ff_host.specs.memory.MemHost.{files_of, plan_of, marks_in, in_faults_of, out_faults_of, open_sources_of, open_sinks_of, HasOpened, HasCreated, new_source, new_sink};
+ghost use Rattle.ff_host.specs.memory.MemHost.{OpenFails, CreateFails, CloseFails};
+ghost use Rattle.ff_host.specs.memory.MemHost.{Notes, no_change, one_opened, one_open_failed, one_created, one_create_failed, source_closed, sink_closed, close_failed};
 ghost use Rattle.ff_host.specs.Opens.{CountsOpening};
-ghost use Rattle.ff_memory_host.specs.Plan.{IsPlannedNext};
-ghost use Rattle.ff_memory_host.specs.QuietHost.{quiet_files};
+ghost use Rattle.ff_host.specs.memory.Plan.{IsPlannedNext};
+ghost use Rattle.ff_host.specs.memory.QuietHost.{quiet_files};
 ghost use Rattle.ff_host.specs.Tally.{blank};
 
-use crate::mem_sink::MemSink;
-use crate::mem_source::MemSource;
-use crate::plan::{FailAt, HostCall, is_planned_next, one_more, planned_numbers};
-use crate::quiet_host::QuietHost;
-use ff_host::{Failed, Host, HostError, Marks, Table, make_room, marks_of, set_marks};
+use crate::memory::mem_sink::MemSink;
+use crate::memory::mem_source::MemSource;
+use crate::memory::plan::{FailAt, HostCall, is_planned_next, one_more, planned_numbers};
+use crate::memory::quiet_host::QuietHost;
+use crate::{Failed, Host, HostError, Marks, Table, make_room, marks_of, set_marks};
 use std::alloc::{AllocError, Global};
 use std::collections::BTreeMap;
 

@@ -1,12 +1,12 @@
 ghost use Rattle.std.specs.Prelude.{◌≡◌, ◌+◌, ◌≤◌, ◌↔◌, [], ◌++◌, length, Some, OnOk, OnErr, IsErr, IsErrOf};
 ghost use Rattle.ff_host.specs.Causes.{added, HasCause, HasCauseOf};
 ghost use Rattle.ff_host.specs.Files.{patched};
-ghost use Rattle.ff_memory_host.specs.MemEnds.{new_writing, failed_append, failed_patch};
-ghost use Rattle.ff_memory_host.specs.Plan.{FailsNext};
+ghost use Rattle.ff_host.specs.memory.MemEnds.{new_writing, failed_append, failed_patch};
+ghost use Rattle.ff_host.specs.memory.Plan.{FailsNext};
 
-use crate::plan::{fails_next, one_more};
-use crate::quiet_sink::QuietSink;
-use ff_host::{Failed, Sink, SinkError};
+use crate::memory::plan::{fails_next, one_more};
+use crate::memory::quiet_sink::QuietSink;
+use crate::{Failed, Sink, SinkError};
 use std::marker::Model;
 
 /// A sink in memory whose appends and patches fail where it was planned.
@@ -22,7 +22,7 @@ pub struct MemSink {
 }
 
 impl Model for MemSink {
-    ghost use Rattle.ff_memory_host.specs.MemEnds.{MemWriting};
+    ghost use Rattle.ff_host.specs.memory.MemEnds.{MemWriting};
 
     ghost Value = { MemWriting };
 

@@ -1,11 +1,11 @@
 ghost use Rattle.std.specs.Prelude.{◌≡◌, ◌+◌, ◌<◌, ◌↔◌, [], ◌++◌, length, take, drop, min, Some, IfOk, OnErr, IsErr, string_bytes};
 ghost use Rattle.ff_host.specs.Causes.{added, HasCause};
-ghost use Rattle.ff_memory_host.specs.MemEnds.{new_reading, failed_read};
-ghost use Rattle.ff_memory_host.specs.Plan.{FailsNext};
+ghost use Rattle.ff_host.specs.memory.MemEnds.{new_reading, failed_read};
+ghost use Rattle.ff_host.specs.memory.Plan.{FailsNext};
 
-use crate::plan::{fails_next, one_more};
-use crate::quiet_source::QuietSource;
-use ff_host::{Failed, Source};
+use crate::memory::plan::{fails_next, one_more};
+use crate::memory::quiet_source::QuietSource;
+use crate::{Failed, Source};
 use std::marker::Model;
 
 /// A source in memory whose reads fail where it was planned.
@@ -19,7 +19,7 @@ pub struct MemSource {
 }
 
 impl Model for MemSource {
-    ghost use Rattle.ff_memory_host.specs.MemEnds.{MemReading};
+    ghost use Rattle.ff_host.specs.memory.MemEnds.{MemReading};
 
     ghost Value = { MemReading };
 

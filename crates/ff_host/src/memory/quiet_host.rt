@@ -1,14 +1,16 @@
 ghost use Rattle.std.specs.Prelude.{◌≡◌, ◌-◌, ℕ, List, [], Some, IfOk, OnOk, OnErr, IsErrOf, IsOk, IsSome, ⊤};
 ghost use Rattle.std.specs.Option.{option_map};
 ghost use Rattle.ff_host.specs.Files.{bytes_at, KeepsFiles, PutsFile};
-ghost use Rattle.ff_memory_host.specs.Given.{given};
+ghost use Rattle.ff_host.specs.memory.Given.{given};
 ghost use Rattle.ff_host.specs.Opens.{CountsOpening};
-ghost use Rattle.ff_memory_host.specs.QuietHost.{quiet_files, quiet_sources, quiet_sinks, one_source_more, one_source_less};
+ghost use Rattle.ff_host.specs.memory.QuietHost.{quiet_files, quiet_sources, quiet_sinks, one_source_more, one_source_less};
 
-use crate::contents::{Contents, bytes_under, contents_of, copy_under, make_empty, put_bytes};
-use crate::quiet_sink::QuietSink;
-use crate::quiet_source::QuietSource;
-use ff_host::{Failed, Host, HostError};
+use crate::memory::contents::{
+    Contents, bytes_under, contents_of, copy_under, make_empty, put_bytes,
+};
+use crate::memory::quiet_sink::QuietSink;
+use crate::memory::quiet_source::QuietSource;
+use crate::{Failed, Host, HostError};
 use std::alloc::{AllocError, Global};
 
 /// A host in memory that never fails: its counts are 0, and a name that is not there opens as an empty source.

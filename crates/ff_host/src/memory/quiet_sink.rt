@@ -1,7 +1,7 @@
 ghost use Rattle.std.specs.Prelude.{◌≡◌, ◌+◌, ◌≤◌, [], ◌++◌, length, take, drop, Some, false, IsOk, OnOk, OnErr, string_bytes};
 ghost use Rattle.ff_host.specs.Files.{patched};
 
-use ff_host::{Failed, Sink, SinkError};
+use crate::{Failed, Sink, SinkError};
 use std::alloc::Global;
 use std::marker::Model;
 
@@ -14,7 +14,7 @@ pub struct QuietSink {
 
 impl Model for QuietSink {
     ghost use Rattle.std.specs.Prelude.{string_bytes};
-    ghost use Rattle.ff_memory_host.specs.QuietEnds.{QuietWriting};
+    ghost use Rattle.ff_host.specs.memory.QuietEnds.{QuietWriting};
 
     ghost Value = { QuietWriting };
 

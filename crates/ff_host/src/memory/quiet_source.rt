@@ -1,7 +1,7 @@
 ghost use Rattle.std.specs.Prelude.{◌≡◌, ◌+◌, ◌<◌, ◌≤◌, [], ◌++◌, length, take, drop, min, Some, false, IfOk, IsOk, string_bytes};
 ghost use Rattle.ff_host.specs.Causes.{HasCause};
 
-use ff_host::{Failed, Source, copy_front};
+use crate::{Failed, Source, copy_front};
 use std::marker::Model;
 
 /// A source in memory that never fails.
@@ -14,7 +14,7 @@ pub struct QuietSource {
 
 impl Model for QuietSource {
     ghost use Rattle.std.specs.Prelude.{◌≤◌, drop, length, string_bytes};
-    ghost use Rattle.ff_memory_host.specs.QuietEnds.{QuietReading};
+    ghost use Rattle.ff_host.specs.memory.QuietEnds.{QuietReading};
 
     ghost Value = { QuietReading };
 

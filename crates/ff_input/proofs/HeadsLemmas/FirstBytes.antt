@@ -3,13 +3,13 @@ use Rattle.std.proofs.Common.{◌≡◌, ℕ, ◌<◌, inl, inr, Bool, true, fal
 use Rattle.std.specs.Prelude.{nat_le, nat_lt, ◌==◌, ◌&&◌}
 use Rattle.std.proofs.lemmas.List.{length-take}
 use Rattle.std.proofs.lemmas.Bool.Decides.{nat_tests}
-use Rattle.ff_cut.specs.declared.fault.HeadFault.TheVariants.{Unsupported}
-use Rattle.ff_cut.specs.Heads as heads
-use Rattle.ff_cut.specs.Walks.{Grammar, agrees, walked, within, reading, head_limit, head_by as head_by_grammar, IsGrammar}
-use Rattle.ff_cut.proofs.AgreeLaws.{bool_cases}
-use Rattle.ff_cut.proofs.AnswerLaws.{head_none, head_some, early_short}
-use Rattle.ff_cut.proofs.WalkLaws.{walk_long}
-use Rattle.ff_cut.proofs.ReadingLaws.{reading_at, reading_else, within_short}
+use Rattle.ff_reader.specs.declared.fault.HeadFault.TheVariants.{Unsupported}
+use Rattle.ff_reader.specs.Heads as heads
+use Rattle.ff_reader.specs.Walks.{Grammar, agrees, walked, within, reading, head_limit, head_by as head_by_grammar, IsGrammar}
+use Rattle.ff_reader.proofs.AgreeLaws.{bool_cases}
+use Rattle.ff_reader.proofs.AnswerLaws.{head_none, head_some, early_short}
+use Rattle.ff_reader.proofs.WalkLaws.{walk_long}
+use Rattle.ff_reader.proofs.ReadingLaws.{reading_at, reading_else, within_short}
 use Rattle.ff_words.specs.declared.job.FileFormat.{FileFormat}
 use Rattle.ff_words.specs.declared.job.FileFormat.TheVariants as format
 use Rattle.ff_wav.specs.Heads as wav
@@ -20,8 +20,8 @@ use Rattle.ff_y4m.proofs.LineLaws.{option_cases, NoFeed, line_longer}
 use Rattle.ff_y4m.proofs.HeadLaws as y4m_laws
 use Rattle.ff_flac_dec.specs.Heads as flac
 use Rattle.ff_flac_dec.specs.HeadLaws as flac_laws
-use Rattle.ff_heads.specs.declared.head.InputHead.TheVariants.{Wav, Y4m, Flac}
-use Rattle.ff_heads.specs.Formats.{as_input, head_in, begins_by, begins_as, named, head_by, input_head, format_with}
+use Rattle.ff_input.specs.declared.heads.head.InputHead.TheVariants.{Wav, Y4m, Flac}
+use Rattle.ff_input.specs.heads.Formats.{as_input, head_in, begins_by, begins_as, named, head_by, input_head, format_with}
 
 and_no : (x y : Bool) → y ≡ false → (x && y) ≡ false
 and_no true y e = e

@@ -1,15 +1,15 @@
 -- What an answer of one format says of an input.
 use Rattle.std.proofs.Common.{◌≡◌, ℕ, Bool, List, [], ◌++◌, Result, Ok, Err, refl, sym, ap, ◌∙◌, subst, append-nil}
 use Rattle.std.specs.Prelude.{IfOk}
-use Rattle.ff_values.specs.declared.cut.HeadEnd.{HeadEnd}
-use Rattle.ff_values.specs.declared.cut.HeadEnd.TheVariants as end
-use Rattle.ff_cut.specs.declared.fault.HeadFault.TheVariants.{Damaged, Unsupported}
-use Rattle.ff_cut.specs.Heads.{Found, answered}
-use Rattle.ff_cut.specs.Walks.{Grammar, head_by as head_by_grammar, answer_by, IsGrammar, Keeps}
-use Rattle.ff_cut.proofs.GrammarLaws.{answer_not_yet, answer_decided, answer_stays, answer_sound}
-use Rattle.ff_heads.specs.declared.head.InputHead.{InputHead}
-use Rattle.ff_heads.specs.Formats.{as_input}
-use Rattle.ff_heads.specs.Answers.{Answers, as_answer}
+use Rattle.ff_frame.specs.declared.cut.HeadEnd.{HeadEnd}
+use Rattle.ff_frame.specs.declared.cut.HeadEnd.TheVariants as end
+use Rattle.ff_reader.specs.declared.fault.HeadFault.TheVariants.{Damaged, Unsupported}
+use Rattle.ff_reader.specs.Heads.{Found, answered}
+use Rattle.ff_reader.specs.Walks.{Grammar, head_by as head_by_grammar, answer_by, IsGrammar, Keeps}
+use Rattle.ff_reader.proofs.GrammarLaws.{answer_not_yet, answer_decided, answer_stays, answer_sound}
+use Rattle.ff_input.specs.declared.heads.head.InputHead.{InputHead}
+use Rattle.ff_input.specs.heads.Formats.{as_input}
+use Rattle.ff_input.specs.heads.Answers.{Answers, as_answer}
 
 -- what a format that is read unit by unit answers
 pub answers_by : {H S : Type 0} (g : Grammar H S) (is_known : S → Type 0) (is_sound : H → Type 0) → IsGrammar g → is_known g.start → Keeps is_known is_sound g.unit

@@ -2,12 +2,12 @@
 use Rattle.std.proofs.Common.{◌≡◌, ℕ, ◌<◌, ◌≤◌, inl, inr, Bool, true, false, List, [], ◌∷◌, ◌++◌, drop, length, Option, Some, None, Result, Err, refl, sym, ap, ◌∙◌, subst, arith, append_assoc, append-nil, lit<, lit≤}
 use Rattle.std.specs.Prelude.{All}
 use Rattle.std.proofs.lemmas.List.Elements.{All-nil, All-cons}
-use Rattle.ff_values.specs.declared.cut.HeadEnd.{HeadEnd}
-use Rattle.ff_values.specs.declared.cut.HeadEnd.TheVariants as end
-use Rattle.ff_cut.specs.declared.fault.HeadFault.TheVariants.{Damaged, Unsupported}
-use Rattle.ff_cut.specs.Heads.{IsOpen, answered}
-use Rattle.ff_cut.specs.Walks.{Grammar, walked, walk as walk_on, head_limit, Reached as ReachedIn}
-use Rattle.ff_cut.proofs.AnswerLaws.{head_some, head_stays}
+use Rattle.ff_frame.specs.declared.cut.HeadEnd.{HeadEnd}
+use Rattle.ff_frame.specs.declared.cut.HeadEnd.TheVariants as end
+use Rattle.ff_reader.specs.declared.fault.HeadFault.TheVariants.{Damaged, Unsupported}
+use Rattle.ff_reader.specs.Heads.{IsOpen, answered}
+use Rattle.ff_reader.specs.Walks.{Grammar, walked, walk as walk_on, head_limit, Reached as ReachedIn}
+use Rattle.ff_reader.proofs.AnswerLaws.{head_some, head_stays}
 use Rattle.ff_words.specs.declared.job.FileFormat.{FileFormat}
 use Rattle.ff_words.specs.declared.job.FileFormat.TheVariants as format
 use Rattle.ff_wav.specs.Heads as wav
@@ -15,17 +15,17 @@ use Rattle.ff_y4m.specs.Heads as y4m
 use Rattle.ff_y4m.specs.Lines.{longest_line}
 use Rattle.ff_y4m.proofs.LineLaws.{option_cases, line_end_none}
 use Rattle.ff_y4m.proofs.HeadLaws as y4m_laws
-use Rattle.ff_heads.specs.declared.walk.InputWalk.{InputWalk}
+use Rattle.ff_input.specs.declared.heads.walk.InputWalk.{InputWalk}
 use Rattle.ff_flac_dec.specs.Heads as flac
-use Rattle.ff_heads.specs.declared.walk.InputWalk.TheVariants.{Start, Other, Wav, Y4m, Flac}
-use Rattle.ff_heads.specs.declared.head.InputHead.{InputHead}
-use Rattle.ff_heads.specs.declared.head.InputHead.TheVariants as input
-use Rattle.ff_heads.specs.Heads.{IsHead}
-use Rattle.ff_heads.specs.Formats.{as_input, head_in, head_by, input_head, format_with}
-use Rattle.ff_heads.specs.Answers.{Answers}
-use Rattle.ff_heads.specs.Places.{IsOf, IsOfNone, Reached, IsReached}
-use Rattle.ff_heads.proofs.FirstBytes.{by_byte}
-use Rattle.ff_heads.proofs.Told.{answers_same}
+use Rattle.ff_input.specs.declared.heads.walk.InputWalk.TheVariants.{Start, Other, Wav, Y4m, Flac}
+use Rattle.ff_input.specs.declared.heads.head.InputHead.{InputHead}
+use Rattle.ff_input.specs.declared.heads.head.InputHead.TheVariants as input
+use Rattle.ff_input.specs.heads.Heads.{IsHead}
+use Rattle.ff_input.specs.heads.Formats.{as_input, head_in, head_by, input_head, format_with}
+use Rattle.ff_input.specs.heads.Answers.{Answers}
+use Rattle.ff_input.specs.heads.Places.{IsOf, IsOfNone, Reached, IsReached}
+use Rattle.ff_input.proofs.HeadsLemmas.FirstBytes.{by_byte}
+use Rattle.ff_input.proofs.HeadsLemmas.Told.{answers_same}
 
 -- ---- the first byte
 

@@ -1,8 +1,8 @@
 -- A format among others: what its own cut does, the cut of any format does.
 use Rattle.std.proofs.Common.{◌≡◌, ℕ, ◌+◌, List, ◌++◌, length, Option, sym, ap, ◌∙◌, subst}
 use Rattle.std.specs.Prelude.{slice_get, Result, Ok, Err, OnOk}
-use Rattle.ff_values.specs.declared.packet.Pkt.{Pkt}
-use Rattle.ff_cut.specs.Cutters.{Cutter, Feeds, KeepsCut, GivesPacket, GaveAll}
+use Rattle.ff_frame.specs.declared.packet.Pkt.{Pkt}
+use Rattle.ff_reader.specs.Cutters.{Cutter, Feeds, KeepsCut, GivesPacket, GaveAll}
 
 -- a head and a cut of the format are a head and a cut of any, and only its own heads are those of its cuts
 pub record IsAmong {H C K D : Type 0} (own : Cutter H C) (all : Cutter K D) (head_in : H → K) (cut_in : C → D) : Type 0 where

@@ -9,11 +9,11 @@ use Rattle.ff_y4m.specs.Cuts.{y4m_cutter}
 use Rattle.ff_flac_dec.specs.declared.head.FlacHead.{FlacHead}
 use Rattle.ff_flac_dec.specs.declared.cut.FlacCut.{FlacCut}
 use Rattle.ff_flac_dec.specs.Cuts.{flac_cutter}
-use Rattle.ff_heads.specs.declared.head.InputHead.{InputHead}
-use Rattle.ff_heads.specs.declared.head.InputHead.TheVariants as head
-use Rattle.ff_cuts.specs.declared.any.AnyCut.TheVariants as cut
-use Rattle.ff_cuts.specs.AnyCutters.{any_cutter, any_cuts}
-use Rattle.ff_cuts.proofs.Among.{IsAmong}
+use Rattle.ff_input.specs.declared.heads.head.InputHead.{InputHead}
+use Rattle.ff_input.specs.declared.heads.head.InputHead.TheVariants as head
+use Rattle.ff_input.specs.declared.packets.any.AnyCut.TheVariants as cut
+use Rattle.ff_input.specs.packets.AnyCutters.{any_cutter, any_cuts}
+use Rattle.ff_input.proofs.PacketsLemmas.Among.{IsAmong}
 
 wav_only : (c : WavCut) (k : InputHead) (fed : List ℕ) (n : ℕ) → any_cuts (cut.Wav c) k fed n → (h : WavHead) × (k ≡ head.Wav h) × wav_cutter.cuts c h fed n
 wav_only c (head.Wav h) fed n s = (h, refl, s)

@@ -1,9 +1,9 @@
 -- What an answer says of the head of an input that begins with these bytes, and where it is whole ends with them.
 use Rattle.std.specs.Prelude.{◌≡◌, ℕ, ◌↔◌, Bool, false, List, ◌++◌, Result, Ok, Err, IfOk}
-use Rattle.ff_values.specs.declared.cut.HeadEnd.{HeadEnd}
-use Rattle.ff_values.specs.declared.cut.HeadEnd.TheVariants as end
-use Rattle.ff_cut.specs.Heads.{Found, answered, IsOpen}
-use Rattle.ff_heads.specs.declared.head.InputHead.{InputHead}
+use Rattle.ff_frame.specs.declared.cut.HeadEnd.{HeadEnd}
+use Rattle.ff_frame.specs.declared.cut.HeadEnd.TheVariants as end
+use Rattle.ff_reader.specs.Heads.{Found, answered, IsOpen}
+use Rattle.ff_input.specs.declared.heads.head.InputHead.{InputHead}
 
 -- by what the head of a whole input is, and what is true of each
 pub record Answers {H : Type 0} (head : List ℕ → Found H) (is_sound : H → Type 0) (whole : Bool) (bs : List ℕ) (answer : Result H HeadEnd) : Type 0 where

@@ -1,16 +1,16 @@
 -- The head of a whole input: in the format that was given, or in the one whose first bytes it has.
 use Rattle.std.specs.Prelude.{ℕ, ◌==◌, ◌&&◌, nat_le, nat_lt, Bool, false, if◌then◌else◌, List, [], ◌∷◌, length, find, Option, Some, None, Ok, Err}
-use Rattle.ff_cut.specs.Heads as heads
-use Rattle.ff_cut.specs.Walks.{Grammar, agrees}
-use Rattle.ff_cut.specs.declared.fault.HeadFault.TheVariants.{Unsupported}
+use Rattle.ff_reader.specs.Heads as heads
+use Rattle.ff_reader.specs.Walks.{Grammar, agrees}
+use Rattle.ff_reader.specs.declared.fault.HeadFault.TheVariants.{Unsupported}
 use Rattle.ff_words.specs.declared.job.FileFormat.{FileFormat}
 use Rattle.ff_words.specs.declared.job.FileFormat.TheVariants as format
 use Rattle.ff_wav.specs.Heads as wav
 use Rattle.ff_y4m.specs.Heads as y4m
 use Rattle.ff_y4m.specs.Lines.{begins}
-use Rattle.ff_heads.specs.declared.head.InputHead.{InputHead}
+use Rattle.ff_input.specs.declared.heads.head.InputHead.{InputHead}
 use Rattle.ff_flac_dec.specs.Heads as flac
-use Rattle.ff_heads.specs.declared.head.InputHead.TheVariants.{Wav, Y4m, Flac}
+use Rattle.ff_input.specs.declared.heads.head.InputHead.TheVariants.{Wav, Y4m, Flac}
 
 -- a head, or the fault for which there is none
 abbrev pub Found : Type 0

@@ -1,11 +1,11 @@
 -- What the head of an input says, and what is true of it.
 use Rattle.std.specs.Prelude.{List, [], ◌∷◌}
-use Rattle.ff_values.specs.declared.head.StreamHead.{StreamHead}
+use Rattle.ff_frame.specs.declared.head.StreamHead.{StreamHead}
 use Rattle.ff_wav.specs.Packets as wav
 use Rattle.ff_y4m.specs.Packets as y4m
 use Rattle.ff_flac_dec.specs.Streams as flac
-use Rattle.ff_heads.specs.declared.head.InputHead.{InputHead}
-use Rattle.ff_heads.specs.declared.head.InputHead.TheVariants.{Wav, Y4m, Flac}
+use Rattle.ff_input.specs.declared.heads.head.InputHead.{InputHead}
+use Rattle.ff_input.specs.declared.heads.head.InputHead.TheVariants.{Wav, Y4m, Flac}
 
 -- what it says of its one stream
 abbrev pub stream_in : InputHead → StreamHead

@@ -1,14 +1,14 @@
 -- How far a walk has read the head of an input.
 use Rattle.std.specs.Prelude.{◌≡◌, ℕ, ◌≤◌, List, [], ◌++◌, length, Option, None, Err}
-use Rattle.ff_cut.specs.Walks.{head_limit, Reached as ReachedIn}
-use Rattle.ff_cut.specs.declared.fault.HeadFault.TheVariants.{Unsupported}
+use Rattle.ff_reader.specs.Walks.{head_limit, Reached as ReachedIn}
+use Rattle.ff_reader.specs.declared.fault.HeadFault.TheVariants.{Unsupported}
 use Rattle.ff_words.specs.declared.job.FileFormat.{FileFormat}
 use Rattle.ff_words.specs.declared.job.FileFormat.TheVariants as format
 use Rattle.ff_wav.specs.Heads as wav
 use Rattle.ff_flac_dec.specs.Heads as flac
-use Rattle.ff_heads.specs.Formats.{head_in, input_head}
-use Rattle.ff_heads.specs.declared.walk.InputWalk.{InputWalk}
-use Rattle.ff_heads.specs.declared.walk.InputWalk.TheVariants.{Start, Other, Wav, Y4m, Flac}
+use Rattle.ff_input.specs.heads.Formats.{head_in, input_head}
+use Rattle.ff_input.specs.declared.heads.walk.InputWalk.{InputWalk}
+use Rattle.ff_input.specs.declared.heads.walk.InputWalk.TheVariants.{Start, Other, Wav, Y4m, Flac}
 
 -- Whatever follows these bytes, the head of the input, of which this format was given or none, is that in another format.
 abbrev pub IsOf : Option FileFormat → FileFormat → List ℕ → Type 0

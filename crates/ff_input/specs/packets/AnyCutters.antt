@@ -1,15 +1,15 @@
 -- A cut of any format: a line for each.
 use Rattle.std.specs.Prelude.{ℕ, Bool, List, Option, max}
-use Rattle.ff_values.specs.declared.packet.Pkt.{Pkt}
-use Rattle.ff_cut.specs.Cutters.{Cutter}
-use Rattle.ff_heads.specs.Heads.{stream_in, IsHead}
-use Rattle.ff_heads.specs.declared.head.InputHead.{InputHead}
-use Rattle.ff_heads.specs.declared.head.InputHead.TheVariants as head
+use Rattle.ff_frame.specs.declared.packet.Pkt.{Pkt}
+use Rattle.ff_reader.specs.Cutters.{Cutter}
+use Rattle.ff_input.specs.heads.Heads.{stream_in, IsHead}
+use Rattle.ff_input.specs.declared.heads.head.InputHead.{InputHead}
+use Rattle.ff_input.specs.declared.heads.head.InputHead.TheVariants as head
 use Rattle.ff_wav.specs.Cuts.{wav_cutter}
 use Rattle.ff_y4m.specs.Cuts.{y4m_cutter}
 use Rattle.ff_flac_dec.specs.Cuts.{flac_cutter}
-use Rattle.ff_cuts.specs.declared.any.AnyCut.{AnyCut}
-use Rattle.ff_cuts.specs.declared.any.AnyCut.TheVariants.{Wav, Y4m, Flac}
+use Rattle.ff_input.specs.declared.packets.any.AnyCut.{AnyCut}
+use Rattle.ff_input.specs.declared.packets.any.AnyCut.TheVariants.{Wav, Y4m, Flac}
 
 -- the offset in the input of what follows a head, and there the packets, and where they break off
 abbrev pub any_start : InputHead → ℕ

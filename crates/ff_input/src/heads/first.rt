@@ -1,5 +1,5 @@
 ghost use Rattle.std.specs.Prelude.{◌≡◌};
-ghost use Rattle.ff_heads.specs.Formats.{format_with};
+ghost use Rattle.ff_input.specs.heads.Formats.{format_with};
 
 use ff_words::FileFormat;
 

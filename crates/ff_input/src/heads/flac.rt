@@ -1,15 +1,15 @@
 // FLAC among the formats of inputs.
 ghost use Rattle.std.specs.Prelude.{◌≡◌, ◌≤◌, length};
-ghost use Rattle.ff_heads.specs.Answers.{as_answer, Answers};
-ghost use Rattle.ff_heads.specs.Formats.{head_in};
-ghost use Rattle.ff_heads.specs.Heads.{IsHead};
-ghost use Rattle.ff_cut.specs.Walks.{head_limit, Reached, IsReached};
+ghost use Rattle.ff_input.specs.heads.Answers.{as_answer, Answers};
+ghost use Rattle.ff_input.specs.heads.Formats.{head_in};
+ghost use Rattle.ff_input.specs.heads.Heads.{IsHead};
+ghost use Rattle.ff_reader.specs.Walks.{head_limit, Reached, IsReached};
 ghost use Rattle.ff_flac_dec.specs.Heads.{grammar};
 ghost use Rattle.ff_words.specs.declared.job.FileFormat.{FileFormat};
 
-use crate::head::InputHead;
+use crate::heads::head::InputHead;
 use ff_flac_dec::{FlacHead, FlacWalk};
-use ff_values::HeadEnd;
+use ff_frame::HeadEnd;
 
 fn input_of(found: Result<FlacHead, HeadEnd>) -> Result<InputHead, HeadEnd>
     ensures { result ≡ as_answer InputHead.Flac found }

@@ -1,8 +1,8 @@
 ghost use Rattle.std.specs.Prelude.{◌≡◌, IfOk};
-ghost use Rattle.ff_heads.specs.Heads.{stream_in, streams_in};
+ghost use Rattle.ff_input.specs.heads.Heads.{stream_in, streams_in};
 
 use ff_flac_dec::FlacHead;
-use ff_values::StreamHead;
+use ff_frame::StreamHead;
 use ff_wav::WavHead;
 use ff_y4m::Y4mHead;
 use std::alloc::{AllocError, Global};

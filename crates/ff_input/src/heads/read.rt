@@ -1,11 +1,11 @@
 ghost use Rattle.std.specs.Prelude.{◌≡◌, ◌↔◌, List, ◌++◌, ℕ, false, IfOk};
-ghost use Rattle.ff_cut.specs.Heads.{answered, IsOpen};
-ghost use Rattle.ff_heads.specs.Formats.{input_head};
-ghost use Rattle.ff_heads.specs.Heads.{IsHead};
+ghost use Rattle.ff_reader.specs.Heads.{answered, IsOpen};
+ghost use Rattle.ff_input.specs.heads.Formats.{input_head};
+ghost use Rattle.ff_input.specs.heads.Heads.{IsHead};
 
-use crate::head::InputHead;
-use crate::walk::InputWalk;
-use ff_values::HeadEnd;
+use crate::heads::head::InputHead;
+use crate::heads::walk::InputWalk;
+use ff_frame::HeadEnd;
 use ff_words::FileFormat;
 
 /// The head of an input that begins with these bytes, and where `whole` ends with them: in this format, or without one in the

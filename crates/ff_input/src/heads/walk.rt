@@ -1,15 +1,15 @@
 ghost use Rattle.std.specs.Prelude.{◌≡◌, ◌≤◌, [], ◌∷◌, Option, Some, None, Err, length};
-ghost use Rattle.ff_cut.specs.Walks.{head_limit};
-ghost use Rattle.ff_heads.specs.Answers.{Answers};
-ghost use Rattle.ff_heads.specs.Formats.{input_head};
-ghost use Rattle.ff_heads.specs.Heads.{IsHead};
-ghost use Rattle.ff_heads.specs.Places.{Reached, IsReached};
+ghost use Rattle.ff_reader.specs.Walks.{head_limit};
+ghost use Rattle.ff_input.specs.heads.Answers.{Answers};
+ghost use Rattle.ff_input.specs.heads.Formats.{input_head};
+ghost use Rattle.ff_input.specs.heads.Heads.{IsHead};
+ghost use Rattle.ff_input.specs.heads.Places.{Reached, IsReached};
 
-use crate::first::format_by;
-use crate::head::InputHead;
-use crate::{flac, wav, y4m};
+use crate::heads::first::format_by;
+use crate::heads::head::InputHead;
+use crate::heads::{flac, wav, y4m};
 use ff_flac_dec::FlacWalk;
-use ff_values::HeadEnd;
+use ff_frame::HeadEnd;
 use ff_wav::WavWalk;
 use ff_words::FileFormat;
 

@@ -1,14 +1,14 @@
 // WAV among the formats of inputs.
 ghost use Rattle.std.specs.Prelude.{◌≡◌, ◌≤◌, length};
-ghost use Rattle.ff_heads.specs.Answers.{as_answer, Answers};
-ghost use Rattle.ff_heads.specs.Formats.{head_in};
-ghost use Rattle.ff_heads.specs.Heads.{IsHead};
-ghost use Rattle.ff_cut.specs.Walks.{head_limit, Reached, IsReached};
+ghost use Rattle.ff_input.specs.heads.Answers.{as_answer, Answers};
+ghost use Rattle.ff_input.specs.heads.Formats.{head_in};
+ghost use Rattle.ff_input.specs.heads.Heads.{IsHead};
+ghost use Rattle.ff_reader.specs.Walks.{head_limit, Reached, IsReached};
 ghost use Rattle.ff_wav.specs.Heads.{grammar};
 ghost use Rattle.ff_words.specs.declared.job.FileFormat.{FileFormat};
 
-use crate::head::InputHead;
-use ff_values::HeadEnd;
+use crate::heads::head::InputHead;
+use ff_frame::HeadEnd;
 use ff_wav::{WavHead, WavWalk};
 
 fn input_of(found: Result<WavHead, HeadEnd>) -> Result<InputHead, HeadEnd>

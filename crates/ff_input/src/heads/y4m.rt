@@ -1,12 +1,12 @@
 // YUV4MPEG2 among the formats of inputs.
 ghost use Rattle.std.specs.Prelude.{◌≡◌};
-ghost use Rattle.ff_heads.specs.Answers.{as_answer, Answers};
-ghost use Rattle.ff_heads.specs.Formats.{head_in};
-ghost use Rattle.ff_heads.specs.Heads.{IsHead};
+ghost use Rattle.ff_input.specs.heads.Answers.{as_answer, Answers};
+ghost use Rattle.ff_input.specs.heads.Formats.{head_in};
+ghost use Rattle.ff_input.specs.heads.Heads.{IsHead};
 ghost use Rattle.ff_words.specs.declared.job.FileFormat.{FileFormat};
 
-use crate::head::InputHead;
-use ff_values::HeadEnd;
+use crate::heads::head::InputHead;
+use ff_frame::HeadEnd;
 use ff_y4m::{Y4mHead, read_head};
 
 fn input_of(found: Result<Y4mHead, HeadEnd>) -> Result<InputHead, HeadEnd>

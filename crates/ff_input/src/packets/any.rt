@@ -1,9 +1,9 @@
 ghost use Rattle.std.specs.Prelude.{◌≡◌};
 
-use ff_cut::PacketCut;
+use crate::heads::InputHead;
 use ff_flac_dec::{FlacCut, FrameSender};
-use ff_heads::InputHead;
-use ff_values::{Cut, StreamHead};
+use ff_frame::{Cut, StreamHead};
+use ff_reader::PacketCut;
 use ff_wav::WavCut;
 use ff_y4m::Y4mCut;
 use std::alloc::{AllocError, Global};
@@ -40,7 +40,7 @@ impl AnyCut {
 }
 
 impl PacketCut for AnyCut {
-    ghost use Rattle.ff_cuts.specs.AnyCutters.{any_cutter};
+    ghost use Rattle.ff_input.specs.packets.AnyCutters.{any_cutter};
 
     type Head = InputHead;
 

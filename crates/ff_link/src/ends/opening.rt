@@ -4,7 +4,7 @@ ghost use Rattle.ff_link.specs.Views.{new_sender, new_receiver};
 
 use super::{Queues, Receiver, Sender};
 use crate::side::{Claims, Down, Fixed, PutsHere, Up};
-use ff_frame::Lane;
+use ff_stream::Lane;
 use std::alloc::{AllocError, Global};
 use std::marker::Brand;
 use std::sync::Arc;

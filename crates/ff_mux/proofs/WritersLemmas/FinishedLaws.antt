@@ -4,9 +4,9 @@ use Rattle.std.specs.Prelude.{map, nat_le, ◌-◌, ◌%◌}
 use Rattle.std.specs.List.{flat_map}
 use Rattle.std.proofs.lemmas.Bool.Decides.{nat_tests}
 use Rattle.ff_host.specs.Files.{patched}
-use Rattle.ff_values.specs.declared.hash.HashKind.TheVariants.{Sha256}
-use Rattle.ff_values.specs.declared.packet.Pkt.{Pkt}
-use Rattle.ff_values.specs.declared.head.StreamHead.{StreamHead}
+use Rattle.ff_frame.specs.declared.hash.HashKind.TheVariants.{Sha256}
+use Rattle.ff_frame.specs.declared.packet.Pkt.{Pkt}
+use Rattle.ff_frame.specs.declared.head.StreamHead.{StreamHead}
 use Rattle.ff_wav.specs.Header.{header, header_of, header_len, longest}
 use Rattle.ff_wav.specs.Written.{pad_of, file_of}
 use Rattle.ff_y4m.specs.Header as y4m
@@ -14,8 +14,8 @@ use Rattle.ff_mux.specs.FlacHead.{before_info, info_of, flac_start, unknown}
 use Rattle.ff_mux.specs.FrameHash as hash
 use Rattle.ff_mux.specs.HashTexts.{text_before, line_by}
 use Rattle.ff_mux.proofs.HashLaws.{header_same, line_same}
-use Rattle.ff_writers.specs.Finished.{bytes_in, WavsAreFiles, FlacsAreStreams, PicturesAreFiles, HashesAreTexts}
-use Rattle.ff_writers.specs.InsideLaws.{same_length, as_long}
+use Rattle.ff_mux.specs.writers.Finished.{bytes_in, WavsAreFiles, FlacsAreStreams, PicturesAreFiles, HashesAreTexts}
+use Rattle.ff_mux.specs.writers.InsideLaws.{same_length, as_long}
 
 behind : (xs ys : List ℕ) (n : ℕ) → n ≡ length xs → drop n (xs ++ ys) ≡ ys
 behind [] ys n e = rw e refl

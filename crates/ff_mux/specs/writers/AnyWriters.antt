@@ -1,14 +1,14 @@
 -- A writer of any format: a line for each.
 use Rattle.std.specs.Prelude.{◌≡◌, ⊤, ℕ, Option}
-use Rattle.ff_values.specs.declared.totals.Totals.{Totals}
+use Rattle.ff_frame.specs.declared.totals.Totals.{Totals}
 use Rattle.ff_wav.specs.Header.{written_head, body_size}
-use Rattle.ff_writers.specs.declared.any.AnyWriter.{AnyWriter}
-use Rattle.ff_writers.specs.declared.any.AnyWriter.TheVariants.{Wav, Flac, Y4m, Hash}
-use Rattle.ff_writers.specs.Layouts.{Layout}
-use Rattle.ff_writers.specs.Patches.{IsInside}
-use Rattle.ff_writers.specs.Formats.{wav_layout, flac_layout, y4m_layout, hash_layout}
-use Rattle.ff_writers.specs.Writers.{flac_head, y4m_head, hash_kind, hash_heads}
-use Rattle.ff_writers.specs.InsideLaws.{wav_inside, flac_inside}
+use Rattle.ff_mux.specs.declared.writers.any.AnyWriter.{AnyWriter}
+use Rattle.ff_mux.specs.declared.writers.any.AnyWriter.TheVariants.{Wav, Flac, Y4m, Hash}
+use Rattle.ff_mux.specs.writers.Layouts.{Layout}
+use Rattle.ff_mux.specs.writers.Patches.{IsInside}
+use Rattle.ff_mux.specs.writers.Formats.{wav_layout, flac_layout, y4m_layout, hash_layout}
+use Rattle.ff_mux.specs.writers.Writers.{flac_head, y4m_head, hash_kind, hash_heads}
+use Rattle.ff_mux.specs.writers.InsideLaws.{wav_inside, flac_inside}
 
 abbrev pub any_layout : AnyWriter → Layout
 any_layout (Wav put) = wav_layout (written_head put)

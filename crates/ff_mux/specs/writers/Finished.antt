@@ -1,17 +1,17 @@
 -- The finished files of the formats, by the formats' own definitions.
 use Rattle.std.specs.Prelude.{◌≡◌, ℕ, ◌≤◌, List, [], ◌∷◌, ◌++◌, map, length, Option, Some, IfSome, unwrap_or}
 use Rattle.std.specs.List.{flat_map}
-use Rattle.ff_values.specs.declared.hash.HashKind.TheVariants.{Sha256}
-use Rattle.ff_values.specs.declared.packet.Pkt.{Pkt}
-use Rattle.ff_values.specs.declared.totals.Totals.{Totals}
-use Rattle.ff_values.specs.declared.head.StreamHead.{StreamHead}
+use Rattle.ff_frame.specs.declared.hash.HashKind.TheVariants.{Sha256}
+use Rattle.ff_frame.specs.declared.packet.Pkt.{Pkt}
+use Rattle.ff_frame.specs.declared.totals.Totals.{Totals}
+use Rattle.ff_frame.specs.declared.head.StreamHead.{StreamHead}
 use Rattle.ff_wav.specs.Header.{longest}
 use Rattle.ff_wav.specs.Written.{file_of}
 use Rattle.ff_y4m.specs.Header as y4m
 use Rattle.ff_mux.specs.FlacHead as flac
 use Rattle.ff_mux.specs.FrameHash as hash
-use Rattle.ff_writers.specs.Layouts.{finished}
-use Rattle.ff_writers.specs.Formats.{wav_layout, flac_layout, y4m_layout, hash_layout}
+use Rattle.ff_mux.specs.writers.Layouts.{finished}
+use Rattle.ff_mux.specs.writers.Formats.{wav_layout, flac_layout, y4m_layout, hash_layout}
 
 -- the bytes of packets one behind the other
 abbrev pub bytes_in : List (ℕ × Pkt) → List ℕ

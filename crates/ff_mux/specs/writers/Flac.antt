@@ -1,10 +1,10 @@
 -- A head that a FLAC file can hold is one in one way at most.
 use Rattle.std.specs.Coded.{Unit-prop, le_prop}
-use Rattle.ff_values.specs.Codecs.{IsFlacCodec}
-use Rattle.ff_values.specs.declared.head.Codec.{Codec}
-use Rattle.ff_values.specs.declared.head.Codec.TheVariants.{PcmU8, PcmS16le, PcmS24le, PcmS32le, Flac, RawVideo}
-use Rattle.ff_values.specs.declared.head.StreamHead.{StreamHead}
-use Rattle.ff_values.specs.declared.head.StreamHead.TheVariants.{Audio, Video}
+use Rattle.ff_frame.specs.Codecs.{IsFlacCodec}
+use Rattle.ff_frame.specs.declared.head.Codec.{Codec}
+use Rattle.ff_frame.specs.declared.head.Codec.TheVariants.{PcmU8, PcmS16le, PcmS24le, PcmS32le, Flac, RawVideo}
+use Rattle.ff_frame.specs.declared.head.StreamHead.{StreamHead}
+use Rattle.ff_frame.specs.declared.head.StreamHead.TheVariants.{Audio, Video}
 use Rattle.ff_mux.specs.FlacHead.{HasRoom, HasRoomFor, IsFlacCoded, CanHold}
 
 HasRoom-prop : (rate bits channels : _) → IsProp (HasRoom rate bits channels)

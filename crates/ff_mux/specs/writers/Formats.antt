@@ -1,14 +1,14 @@
 -- The layouts of the formats that are written.
 use Rattle.std.specs.Prelude.{ℕ, List, [], ◌++◌, Option, Some, None}
-use Rattle.ff_values.specs.declared.hash.HashKind.{HashKind}
-use Rattle.ff_values.specs.declared.head.StreamHead.{StreamHead}
-use Rattle.ff_values.specs.declared.totals.Totals.{Totals}
+use Rattle.ff_frame.specs.declared.hash.HashKind.{HashKind}
+use Rattle.ff_frame.specs.declared.head.StreamHead.{StreamHead}
+use Rattle.ff_frame.specs.declared.totals.Totals.{Totals}
 use Rattle.ff_wav.specs.Header as wav
 use Rattle.ff_wav.specs.Written.{pad_of}
 use Rattle.ff_y4m.specs.Header as y4m
 use Rattle.ff_mux.specs.FlacHead as flac
 use Rattle.ff_mux.specs.HashTexts.{text_before, line_by}
-use Rattle.ff_writers.specs.Layouts.{Layout}
+use Rattle.ff_mux.specs.writers.Layouts.{Layout}
 
 -- WAV: a header with sizes 0, the packets as they stand, a byte 0 behind an odd number, and the header with its sizes
 abbrev pub wav_layout : StreamHead → Layout

@@ -1,13 +1,13 @@
 -- The header of a WAV has the same length with any sizes, and STREAMINFO is no longer with totals than without.
 use Rattle.std.proofs.Common.{◌≡◌, ℕ, suc, ◌+◌, ◌≤◌, List, ◌++◌, length, take, Option, Some, None, refl, sym, ◌∙◌, arith, length-append, length-take}
 use Rattle.std.specs.Prelude.{◌*◌, ◌-◌, ◌%◌}
-use Rattle.ff_values.specs.declared.head.StreamHead.{StreamHead}
-use Rattle.ff_values.specs.declared.head.StreamHead.TheVariants.{Audio, Video}
-use Rattle.ff_values.specs.Codecs.{sample_bytes}
-use Rattle.ff_values.specs.declared.totals.Totals.{Totals}
+use Rattle.ff_frame.specs.declared.head.StreamHead.{StreamHead}
+use Rattle.ff_frame.specs.declared.head.StreamHead.TheVariants.{Audio, Video}
+use Rattle.ff_frame.specs.Codecs.{sample_bytes}
+use Rattle.ff_frame.specs.declared.totals.Totals.{Totals}
 use Rattle.ff_mux.specs.FlacHead.{before_info, info_of, stream_info, flac_start, unknown}
-use Rattle.ff_writers.specs.Formats.{flac_last}
-use Rattle.ff_writers.specs.Patches.{StandsIn}
+use Rattle.ff_mux.specs.writers.Formats.{flac_last}
+use Rattle.ff_mux.specs.writers.Patches.{StandsIn}
 use Rattle.ff_wav.specs.Header.{le_32, riff, wave_format, data_id, format_bytes, header, header_of, header_len}
 
 four : (n : ℕ) → length (le_32 n) ≡ 4

@@ -2,8 +2,8 @@
 use Rattle.std.specs.Prelude.{ℕ, ◌<◌, nat_le, Bool, true, if◌then◌else◌, List, ◌++◌, length, Option, Some, None}
 use Rattle.std.specs.List.{flat_map}
 use Rattle.ff_host.specs.Files.{patched}
-use Rattle.ff_values.specs.declared.packet.Pkt.{Pkt}
-use Rattle.ff_values.specs.declared.totals.Totals.{Totals}
+use Rattle.ff_frame.specs.declared.packet.Pkt.{Pkt}
+use Rattle.ff_frame.specs.declared.totals.Totals.{Totals}
 
 pub record Layout : Type 0 where
   -- before the first packet

@@ -1,7 +1,7 @@
 -- A head of video is one in one way at most.
 use Rattle.std.specs.Coded.{Unit-prop}
-use Rattle.ff_values.specs.declared.head.StreamHead.{StreamHead}
-use Rattle.ff_values.specs.declared.head.StreamHead.TheVariants.{Audio, Video}
+use Rattle.ff_frame.specs.declared.head.StreamHead.{StreamHead}
+use Rattle.ff_frame.specs.declared.head.StreamHead.TheVariants.{Audio, Video}
 use Rattle.ff_y4m.specs.Header.{IsVideoHead}
 
 pub IsVideoHead-prop : (head : StreamHead) → IsProp (IsVideoHead head)

@@ -1,11 +1,11 @@
 -- What writers write of.
 use Rattle.std.specs.Prelude.{List}
-use Rattle.ff_values.specs.declared.hash.HashKind.{HashKind}
-use Rattle.ff_values.specs.declared.head.StreamHead.{StreamHead}
+use Rattle.ff_frame.specs.declared.hash.HashKind.{HashKind}
+use Rattle.ff_frame.specs.declared.head.StreamHead.{StreamHead}
 use Rattle.ff_mux.specs.Puts.{put_kind, put_heads}
-use Rattle.ff_writers.specs.declared.flac.FlacWriter.{FlacWriter}
-use Rattle.ff_writers.specs.declared.y4m.Y4mWriter.{Y4mWriter}
-use Rattle.ff_writers.specs.declared.frame_hash.HashWriter.{HashWriter}
+use Rattle.ff_mux.specs.declared.writers.flac.FlacWriter.{FlacWriter}
+use Rattle.ff_mux.specs.declared.writers.y4m.Y4mWriter.{Y4mWriter}
+use Rattle.ff_mux.specs.declared.writers.frame_hash.HashWriter.{HashWriter}
 
 -- the head of the stream of sound
 abbrev pub flac_head : FlacWriter → StreamHead

@@ -1,10 +1,10 @@
-ghost use Rattle.ff_writers.specs.AnyWriters.{any_layout, any_counts, any_inside};
+ghost use Rattle.ff_mux.specs.writers.AnyWriters.{any_layout, any_counts, any_inside};
 
-use crate::flac::FlacWriter;
-use crate::frame_hash::HashWriter;
-use crate::writer::{Patch, Writer};
-use crate::y4m::Y4mWriter;
-use ff_values::{Pkt, Totals};
+use crate::writers::flac::FlacWriter;
+use crate::writers::frame_hash::HashWriter;
+use crate::writers::writer::{Patch, Writer};
+use crate::writers::y4m::Y4mWriter;
+use ff_frame::{Pkt, Totals};
 use ff_wav::{TooLarge, WavPut};
 use std::alloc::AllocError;
 

@@ -1,13 +1,13 @@
 // The files of FLAC.
 ghost use Rattle.std.specs.Prelude.{◌≡◌, ◌↔◌, IfOk, OnOk, ⊤};
 ghost use Rattle.ff_mux.specs.FlacHead.{CanHold};
-ghost use Rattle.ff_writers.specs.Flac.{CanHold-prop};
-ghost use Rattle.ff_writers.specs.Formats.{flac_layout};
-ghost use Rattle.ff_writers.specs.InsideLaws.{flac_inside};
+ghost use Rattle.ff_mux.specs.writers.Flac.{CanHold-prop};
+ghost use Rattle.ff_mux.specs.writers.Formats.{flac_layout};
+ghost use Rattle.ff_mux.specs.writers.InsideLaws.{flac_inside};
 
-use crate::writer::{Patch, Writer};
-use ff_mux::{flac_first, flac_last};
-use ff_values::{Pkt, StreamHead, Totals};
+use crate::writers::writer::{Patch, Writer};
+use crate::{flac_first, flac_last};
+use ff_frame::{Pkt, StreamHead, Totals};
 use ff_wav::TooLarge;
 use std::alloc::{AllocError, Global};
 
@@ -24,7 +24,7 @@ pub struct FlacWriter {
 }
 
 impl FlacWriter {
-    ghost use Rattle.ff_writers.specs.Writers.{flac_head};
+    ghost use Rattle.ff_mux.specs.writers.Writers.{flac_head};
 
     /// For the packets of a stream of FLAC, of 1 to 8 channels, 4 to 24 bits and a rate of at most 1,048,575.
     pub fn new(alloc: Global, head: StreamHead) -> FlacWriter
@@ -36,7 +36,7 @@ impl FlacWriter {
 }
 
 impl Writer for FlacWriter {
-    ghost use Rattle.ff_writers.specs.Writers.{flac_head};
+    ghost use Rattle.ff_mux.specs.writers.Writers.{flac_head};
 
     ghost layout = { λ w. flac_layout (flac_head w) };
 

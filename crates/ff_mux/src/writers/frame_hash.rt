@@ -1,10 +1,10 @@
 // The files of digests.
 ghost use Rattle.std.specs.Prelude.{◌≡◌, ◌<◌, ◌^◌, ◌↔◌, length, vec_len, ⊤};
-ghost use Rattle.ff_writers.specs.Formats.{hash_layout};
+ghost use Rattle.ff_mux.specs.writers.Formats.{hash_layout};
 
-use crate::writer::{Patch, Writer};
-use ff_mux::HashPut;
-use ff_values::{HashKind, Pkt, StreamHead, Totals};
+use crate::HashPut;
+use crate::writers::writer::{Patch, Writer};
+use ff_frame::{HashKind, Pkt, StreamHead, Totals};
 use ff_wav::TooLarge;
 use std::alloc::{AllocError, Global};
 
@@ -15,7 +15,7 @@ pub struct HashWriter {
 }
 
 impl HashWriter {
-    ghost use Rattle.ff_writers.specs.Writers.{hash_kind, hash_heads};
+    ghost use Rattle.ff_mux.specs.writers.Writers.{hash_kind, hash_heads};
 
     /// For the packets of these streams, fewer than 2^32, with this digest.
     pub fn new(alloc: Global, kind: HashKind, heads: Vec<StreamHead>) -> HashWriter
@@ -30,7 +30,7 @@ impl HashWriter {
 }
 
 impl Writer for HashWriter {
-    ghost use Rattle.ff_writers.specs.Writers.{hash_kind, hash_heads};
+    ghost use Rattle.ff_mux.specs.writers.Writers.{hash_kind, hash_heads};
 
     ghost layout = { λ w. hash_layout (hash_kind w) (hash_heads w) };
 

@@ -1,5 +1,5 @@
 // What follows of the definitions alone.
-ghost use Rattle.ff_writers.specs.Finished.{WavsAreFiles, FlacsAreStreams, PicturesAreFiles, HashesAreTexts};
+ghost use Rattle.ff_mux.specs.writers.Finished.{WavsAreFiles, FlacsAreStreams, PicturesAreFiles, HashesAreTexts};
 
 /// The finished file of a WAV is its header with both sizes, the packets' bytes, and a pad byte where they are odd.
 pub fn finished_wavs_are_riff()

@@ -1,11 +1,11 @@
 // The files of WAV.
 ghost use Rattle.std.specs.Prelude.{◌≡◌};
 ghost use Rattle.ff_wav.specs.Header.{written_head, body_size};
-ghost use Rattle.ff_writers.specs.Formats.{wav_layout};
-ghost use Rattle.ff_writers.specs.InsideLaws.{wav_inside};
+ghost use Rattle.ff_mux.specs.writers.Formats.{wav_layout};
+ghost use Rattle.ff_mux.specs.writers.InsideLaws.{wav_inside};
 
-use crate::writer::{Patch, Writer};
-use ff_values::{Pkt, Totals};
+use crate::writers::writer::{Patch, Writer};
+use ff_frame::{Pkt, Totals};
 use ff_wav::{TooLarge, WavPut};
 use std::alloc::AllocError;
 

@@ -1,9 +1,9 @@
 ghost use Rattle.std.specs.Prelude.{◌≡◌, ◌+◌, ◌↔◌, ◌≤◌, ℕ, Option, length, IsErr, IfOk, IfErr, IfSome, OnOk, OnErr};
-ghost use Rattle.ff_values.specs.declared.totals.Totals.{Totals};
-ghost use Rattle.ff_writers.specs.Layouts.{Layout, IsBeyond};
-ghost use Rattle.ff_writers.specs.Patches.{replacing, IsInside};
+ghost use Rattle.ff_frame.specs.declared.totals.Totals.{Totals};
+ghost use Rattle.ff_mux.specs.writers.Layouts.{Layout, IsBeyond};
+ghost use Rattle.ff_mux.specs.writers.Patches.{replacing, IsInside};
 
-use ff_values::{Pkt, Totals};
+use ff_frame::{Pkt, Totals};
 use ff_wav::TooLarge;
 use std::alloc::AllocError;
 

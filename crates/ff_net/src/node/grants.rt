@@ -6,7 +6,7 @@ ghost use Rattle.ff_net.specs.Ports.{AreDone, NoneHeld};
 ghost use Rattle.ff_net.specs.Nodes.{IsOf, IsSound};
 ghost use Rattle.ff_net.specs.Steps.{Stepped, Grants, IsUngranted};
 ghost use Rattle.ff_sched.specs.Histories.{logged};
-ghost use Rattle.ff_values.specs.declared.event.Event.{Event};
+ghost use Rattle.ff_frame.specs.declared.event.Event.{Event};
 
 use crate::machine::Machine;
 use crate::node::Node;

@@ -1,7 +1,7 @@
 // How a node tells the events of its machine.
 ghost use Rattle.std.specs.Prelude.{◌≡◌, ◌<◌, ◌⊎◌, ℕ, length, true, false, Some, IsNone};
 ghost use Rattle.ff_net.specs.declared.wires.Wires.{Wires};
-ghost use Rattle.ff_values.specs.declared.event.Event.{Event};
+ghost use Rattle.ff_frame.specs.declared.event.Event.{Event};
 ghost use Rattle.ff_net.specs.Laws.{FaultStep, IsReading};
 ghost use Rattle.ff_net.specs.Logs.{PassStep, tickets_in};
 ghost use Rattle.ff_net.specs.Pasts.{Past, was_told};

@@ -1,6 +1,6 @@
 // A turn of a node.
 ghost use Rattle.std.specs.Prelude.{◌≡◌, ◌<◌, ◌≤◌, ◌+◌, ◌⊎◌, ℕ, length, true, false, IsTrue};
-ghost use Rattle.ff_frame.specs.Ports.{IsClosed};
+ghost use Rattle.ff_stream.specs.Ports.{IsClosed};
 ghost use Rattle.ff_net.specs.declared.wires.Wires.{Wires};
 ghost use Rattle.ff_net.specs.Pasts.{Past};
 ghost use Rattle.ff_net.specs.Ports.{in_at, out_at, SomeHeld, NoneHeld};

@@ -1,12 +1,12 @@
 -- What each step of an end keeps.
 use Rattle.std.proofs.Common.{◌≡◌, ℕ, inl, inr, Bool, true, false, IsTrue, ◌↔◌, List, [], ◌∷◌, ◌++◌, ◌≤◌, ◌+◌, ◌^◌, length, length-append, arith, refl, ap, sym, ◌∙◌, subst, Option, None, Some, is_some}
-use Rattle.ff_frame.specs.declared.item.Item.{Item}
-use Rattle.ff_frame.specs.declared.item.Lane.{Lane}
-use Rattle.ff_frame.specs.Stream.{still_open, LiesBelow}
-use Rattle.ff_frame.specs.Items.{Closes, with_item, Leads}
-use Rattle.ff_frame.specs.Lanes.{IsValid}
-use Rattle.ff_frame.specs.Order.{with_item_above, with_item_open, with_item_closed}
-use Rattle.ff_frame.specs.Ports.{nothing, IsClosed}
+use Rattle.ff_stream.specs.declared.item.Item.{Item}
+use Rattle.ff_stream.specs.declared.item.Lane.{Lane}
+use Rattle.ff_stream.specs.Stream.{still_open, LiesBelow}
+use Rattle.ff_stream.specs.Items.{Closes, with_item, Leads}
+use Rattle.ff_stream.specs.Lanes.{IsValid}
+use Rattle.ff_stream.specs.Order.{with_item_above, with_item_open, with_item_closed}
+use Rattle.ff_stream.specs.Ports.{nothing, IsClosed}
 use Rattle.ff_link.specs.Sendings.{stream_from, stream_of, IsSending, Carries}
 use Rattle.ff_link.specs.Views.{Link, Sending, Receiving}
 use Rattle.ff_link.proofs.Sendings.{stream_from-append, sending_push}
@@ -18,9 +18,9 @@ use Rattle.ff_net.specs.Nodes.{HeldIs}
 use Rattle.ff_net.proofs.Flows.{valid_on_below}
 use Rattle.ff_net.proofs.Moments.{with_wire_same, course_self}
 use Rattle.ff_net.proofs.Changes.{true_not_false, course_put, course_take, course_finish}
-use Rattle.ff_net_links.specs.declared.ends.InEnd.{InEnd}
-use Rattle.ff_net_links.specs.declared.ends.OutEnd.{OutEnd}
-use Rattle.ff_net_links.specs.Ends.{taken_in, InEndStands, OutEndStands, OnWires, claims_of, out_link}
+use Rattle.ff_net_threads.specs.declared.links.ends.InEnd.{InEnd}
+use Rattle.ff_net_threads.specs.declared.links.ends.OutEnd.{OutEnd}
+use Rattle.ff_net_threads.specs.links.Ends.{taken_in, InEndStands, OutEndStands, OnWires, claims_of, out_link}
 
 -- before the last item the stream was open
 leads_open : (s : Flow) (xs : List Item) (x : Item) (t : Flow) → Leads s (xs ++ x ∷ []) t → (stream_from s xs).mark ≡ still_open

@@ -1,10 +1,10 @@
 -- What each step of a node with its ends keeps.
 use Rattle.std.proofs.Common.{◌≡◌, ◌≢◌, ℕ, zero, suc, ◌<◌, inl, inr, true, false, Bool, List, [], ◌∷◌, length, map, slice_index_or, slice_set, refl, ap, sym, ◌∙◌, subst, arith, Option, None, Some, get_or-set_same, get_or-set_other}
 use Rattle.std.proofs.lemmas.List.{length-set}
-use Rattle.ff_frame.specs.declared.item.Lane.{Lane}
-use Rattle.ff_frame.specs.Stream.{LiesBelow, still_open}
-use Rattle.ff_frame.specs.Items.{with_item}
-use Rattle.ff_frame.specs.declared.item.Item.{Item}
+use Rattle.ff_stream.specs.declared.item.Lane.{Lane}
+use Rattle.ff_stream.specs.Stream.{LiesBelow, still_open}
+use Rattle.ff_stream.specs.Items.{with_item}
+use Rattle.ff_stream.specs.declared.item.Item.{Item}
 use Rattle.ff_link.specs.Sendings.{stream_of, IsSending}
 use Rattle.ff_link.proofs.Sendings.{nothing_sent}
 use Rattle.ff_link.specs.Views.{Link, Sending, Receiving}
@@ -23,12 +23,12 @@ use Rattle.ff_net.proofs.Flows.{same_or_not, there_lane}
 use Rattle.ff_net.proofs.Moments.{fault_self, fault_then, pass_self, pass_then}
 use Rattle.ff_net.proofs.NetSteps.{other_stands}
 use Rattle.ff_net.proofs.Rounds.{shaped_later}
-use Rattle.ff_net_links.proofs.Carrying.{claimed}
-use Rattle.ff_net_links.specs.declared.ends.InEnd.{InEnd}
-use Rattle.ff_net_links.specs.declared.ends.OutEnd.{OutEnd}
-use Rattle.ff_net_links.specs.declared.linked.Linked.{Linked}
-use Rattle.ff_net_links.specs.Ends.{taken_of, InEndStands, OutEndStands, Draws, Pours, CanPour, claims_of, in_link, out_link, in_end_at, new_in, new_out}
-use Rattle.ff_net_links.specs.Nodes.{in_ends_wires, out_ends_wires, in_ends_links, out_ends_links, IsWired, IsLawful, Behind, Follows, IsBeginning}
+use Rattle.ff_net_threads.proofs.LinksLemmas.Carrying.{claimed}
+use Rattle.ff_net_threads.specs.declared.links.ends.InEnd.{InEnd}
+use Rattle.ff_net_threads.specs.declared.links.ends.OutEnd.{OutEnd}
+use Rattle.ff_net_threads.specs.declared.links.linked.Linked.{Linked}
+use Rattle.ff_net_threads.specs.links.Ends.{taken_of, InEndStands, OutEndStands, Draws, Pours, CanPour, claims_of, in_link, out_link, in_end_at, new_in, new_out}
+use Rattle.ff_net_threads.specs.links.Nodes.{in_ends_wires, out_ends_wires, in_ends_links, out_ends_links, IsWired, IsLawful, Behind, Follows, IsBeginning}
 
 pub map_set_same : {A B : Type 0} (f : A → B) (xs : List A) (p : ℕ) (x d : A) → p < length xs → f x ≡ f (slice_index_or xs p d) → map f (slice_set xs p x) ≡ map f xs
 map_set_same f [] p x d lt e = refl

@@ -1,12 +1,12 @@
 -- What settled links tell of the nodes.
 use Rattle.std.proofs.Common.{◌≡◌, ℕ, zero, suc, ◌<◌, ◌⊎◌, inl, inr, true, List, [], ◌∷◌, ◌++◌, length, slice_index_or, refl, ap, sym, ◌∙◌, subst, arith}
 use mathlib.Core.List.{IsPrefix}
-use Rattle.ff_frame.specs.declared.item.Item.{Item}
-use Rattle.ff_frame.specs.declared.item.Lane.{Lane}
-use Rattle.ff_frame.specs.Stream.{LiesBelow}
-use Rattle.ff_frame.specs.Items.{with_item, Leads}
-use Rattle.ff_frame.specs.Order.{below_trans, nothing_below, leads_below}
-use Rattle.ff_frame.specs.Ports.{nothing, stream_at}
+use Rattle.ff_stream.specs.declared.item.Item.{Item}
+use Rattle.ff_stream.specs.declared.item.Lane.{Lane}
+use Rattle.ff_stream.specs.Stream.{LiesBelow}
+use Rattle.ff_stream.specs.Items.{with_item, Leads}
+use Rattle.ff_stream.specs.Order.{below_trans, nothing_below, leads_below}
+use Rattle.ff_stream.specs.Ports.{nothing, stream_at}
 use Rattle.ff_link.specs.Sendings.{stream_from, stream_of, IsSending}
 use Rattle.ff_net.specs.declared.node.Node.{Node}
 use Rattle.ff_net.specs.declared.ports.InPort.{InPort}
@@ -21,13 +21,13 @@ use Rattle.ff_net.specs.Views.{View}
 use Rattle.ff_net.proofs.Flows.{same_or_not}
 use Rattle.ff_net.proofs.PortSteps.{in_keep, out_keep, in_wire_in, out_wire_in}
 use Rattle.ff_net.proofs.Queues.{nothing_valid_on}
-use Rattle.ff_net_links.specs.declared.ends.InEnd.{InEnd}
-use Rattle.ff_net_links.specs.declared.ends.OutEnd.{OutEnd}
-use Rattle.ff_net_links.specs.declared.linked.Linked.{Linked}
-use Rattle.ff_net_links.specs.Ends.{taken_of, in_end_at}
-use Rattle.ff_net_links.specs.Nodes.{Behind, HasEnded, ins_of, in_ends_wires}
-use Rattle.ff_net_links.specs.Settling.{nodes_of, ends_of, IsFed, AllBehind, IsOutOf, IsInOf, AreMeeting, WasSent, AreFed}
-use Rattle.ff_net_links.proofs.Linking.{out_member}
+use Rattle.ff_net_threads.specs.declared.links.ends.InEnd.{InEnd}
+use Rattle.ff_net_threads.specs.declared.links.ends.OutEnd.{OutEnd}
+use Rattle.ff_net_threads.specs.declared.links.linked.Linked.{Linked}
+use Rattle.ff_net_threads.specs.links.Ends.{taken_of, in_end_at}
+use Rattle.ff_net_threads.specs.links.Nodes.{Behind, HasEnded, ins_of, in_ends_wires}
+use Rattle.ff_net_threads.specs.links.Settling.{nodes_of, ends_of, IsFed, AllBehind, IsOutOf, IsInOf, AreMeeting, WasSent, AreFed}
+use Rattle.ff_net_threads.proofs.LinksLemmas.Linking.{out_member}
 
 leads_front : (s : Flow) (xs ys : List Item) (t : Flow) → Leads s (xs ++ ys) t → Leads (stream_from s xs) ys t
 leads_front s [] ys t h = h

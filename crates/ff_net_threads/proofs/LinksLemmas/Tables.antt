@@ -6,12 +6,12 @@ use Rattle.ff_link.specs.declared.answers.Settled.{Settled}
 use Rattle.ff_net.specs.Nodes.{pass_of}
 use Rattle.ff_sched.specs.Passing.{Passing}
 use Rattle.ff_net.proofs.Flows.{same_or_not}
-use Rattle.ff_net_links.specs.declared.ends.InEnd.{InEnd}
-use Rattle.ff_net_links.specs.declared.ends.OutEnd.{OutEnd}
-use Rattle.ff_net_links.specs.declared.linked.Linked.{Linked}
-use Rattle.ff_net_links.specs.Ends.{taken_in, taken_of, link_in, in_link}
-use Rattle.ff_net_links.specs.Nodes.{node_of}
-use Rattle.ff_net_links.specs.Settling.{WasSentIn, IsSenderIn, IsTable, IsFed, IsSettled, passes_in}
+use Rattle.ff_net_threads.specs.declared.links.ends.InEnd.{InEnd}
+use Rattle.ff_net_threads.specs.declared.links.ends.OutEnd.{OutEnd}
+use Rattle.ff_net_threads.specs.declared.links.linked.Linked.{Linked}
+use Rattle.ff_net_threads.specs.links.Ends.{taken_in, taken_of, link_in, in_link}
+use Rattle.ff_net_threads.specs.links.Nodes.{node_of}
+use Rattle.ff_net_threads.specs.links.Settling.{WasSentIn, IsSenderIn, IsTable, IsFed, IsSettled, passes_in}
 
 pub table_set : (all : List (List OutEnd)) (links : ℕ → Link) (table : List (Option Sending)) (w : ℕ) (o : Option Sending) → ((s : Sending) → o ≡ Some s → IsSenderIn all w s × (s.link ≡ links w)) → IsTable all links table → IsTable all links (slice_set table w o)
 table_set all links table w o h t = record {

@@ -1,9 +1,9 @@
 -- What the steps of a turn come to.
 use Rattle.std.proofs.Common.{◌≡◌, ◌≢◌, ℕ, zero, suc, ◌<◌, ◌⊎◌, inl, inr, Bool, true, false, ◌||◌, List, [], ◌∷◌, ◌++◌, length, slice_index_or, slice_set, ◌≤◌, refl, ap, sym, ◌∙◌, subst, arith, Option, None, Some, is_some, get_or-set_other}
-use Rattle.ff_frame.specs.declared.item.Item.{Item}
-use Rattle.ff_frame.specs.Items.{Closes}
-use Rattle.ff_frame.specs.Order.{closed_below}
-use Rattle.ff_frame.specs.Ports.{IsClosed}
+use Rattle.ff_stream.specs.declared.item.Item.{Item}
+use Rattle.ff_stream.specs.Items.{Closes}
+use Rattle.ff_stream.specs.Order.{closed_below}
+use Rattle.ff_stream.specs.Ports.{IsClosed}
 use Rattle.ff_link.specs.Sendings.{stream_of}
 use Rattle.ff_net.specs.Ways.{Flow}
 use Rattle.ff_net.proofs.PortSteps.{out_wire_at}
@@ -24,13 +24,13 @@ use Rattle.ff_net.specs.Views.{View}
 use Rattle.ff_net.proofs.Flows.{same_or_not}
 use Rattle.ff_net.proofs.Moments.{stepped_as, stepped_then, then_moves}
 use Rattle.ff_net.proofs.Changes.{true_not_false}
-use Rattle.ff_net_links.specs.declared.ends.InEnd.{InEnd}
-use Rattle.ff_net_links.specs.declared.ends.OutEnd.{OutEnd}
-use Rattle.ff_net_links.specs.declared.linked.Linked.{Linked}
-use Rattle.ff_net_links.specs.Ends.{taken_in, taken_of, in_end_at}
-use Rattle.ff_net_links.specs.Nodes.{Behind}
-use Rattle.ff_net_links.proofs.Linking.{in_nth, out_nth, count_map}
-use Rattle.ff_net_links.specs.Turns.{TakesOneAtMost, InMoves, took, ended as in_ended, laid, InRests, Shuts, SendsOneAtMost, OutMoves, sent as was_sent, ended as out_ended, lifted, OutRests, HasMoved, at_input, at_output, at_node, at_end, at_pass}
+use Rattle.ff_net_threads.specs.declared.links.ends.InEnd.{InEnd}
+use Rattle.ff_net_threads.specs.declared.links.ends.OutEnd.{OutEnd}
+use Rattle.ff_net_threads.specs.declared.links.linked.Linked.{Linked}
+use Rattle.ff_net_threads.specs.links.Ends.{taken_in, taken_of, in_end_at}
+use Rattle.ff_net_threads.specs.links.Nodes.{Behind}
+use Rattle.ff_net_threads.proofs.LinksLemmas.Linking.{in_nth, out_nth, count_map}
+use Rattle.ff_net_threads.specs.links.Turns.{TakesOneAtMost, InMoves, took, ended as in_ended, laid, InRests, Shuts, SendsOneAtMost, OutMoves, sent as was_sent, ended as out_ended, lifted, OutRests, HasMoved, at_input, at_output, at_node, at_end, at_pass}
 
 some_none : {A : Type 0} (o : Option A) (x : A) → o ≡ Some x → o ≡ None → ⊥
 some_none o x e f = cc

@@ -4,9 +4,9 @@ use Rattle.std.proofs.Common.{slice_index_or, Some, refl, sym, ap, ◌∙◌, su
 use borrow.Author.Tests.{eqb-true, eqb-false}
 use mathlib.Core.List.{IsPrefix}
 use Rattle.std.proofs.lemmas.List.Elements.{All-head, All-tail, filter-append}
-use Rattle.ff_values.specs.declared.event.Event.{Event}
-use Rattle.ff_values.specs.declared.event.Event.TheVariants.{Grant, Sent, Finished, Best, Exited}
-use Rattle.ff_values.specs.declared.event.Ticket.{Ticket}
+use Rattle.ff_frame.specs.declared.event.Event.{Event}
+use Rattle.ff_frame.specs.declared.event.Event.TheVariants.{Grant, Sent, Finished, Best, Exited}
+use Rattle.ff_frame.specs.declared.event.Ticket.{Ticket}
 use Rattle.ff_sched.specs.declared.logged.Logged.{Logged}
 use Rattle.ff_sched.specs.Histories.{Rises, StandsIn, all_in, logged, numbered, weigh}
 use Rattle.ff_sched.specs.Laws.{IsEntryOf, IsPassOf, events_in}
@@ -16,7 +16,7 @@ use Rattle.ff_sched.proofs.Histories.{weigh-append}
 use Rattle.ff_sched.proofs.Unchoking.{some_is}
 use Rattle.ff_net.specs.Logs.{GrantsFirst, telling_of, ticket_of, tickets_in, told_in}
 use Rattle.ff_net.proofs.Logs.{tickets_append}
-use Rattle.ff_network.proofs.Grants.{HasGrant, above_first, rises_tail, ticket_entry}
+use Rattle.ff_net_threads.proofs.NetworkLemmas.Grants.{HasGrant, above_first, rises_tail, ticket_entry}
 
 -- the entry at a place
 abbrev HasPlace : ℕ → List Logged → Type 0

@@ -3,15 +3,15 @@ use Rattle.std.proofs.Common.{◌≡◌, ℕ, zero, suc, ◌+◌, ◌<◌, ◌�
 use Rattle.std.proofs.lemmas.List.{length-map}
 use Rattle.std.proofs.lemmas.List.Sums.{passes_at_first}
 use Rattle.std.proofs.lemmas.Bool.Decides.{nat_tests}
-use Rattle.ff_frame.specs.declared.item.Lane.{Lane}
-use Rattle.ff_edges.specs.declared.edge.Edge.{Edge}
-use Rattle.ff_edges.specs.Ports.{leads_to, leaves, edge_to, edge_from, at_ports}
+use Rattle.ff_stream.specs.declared.item.Lane.{Lane}
+use Rattle.ff_stream.specs.declared.edges.edge.Edge.{Edge}
+use Rattle.ff_stream.specs.edges.Ports.{leads_to, leaves, edge_to, edge_from, at_ports}
 use Rattle.ff_net.specs.Nets.{IsUpward}
 use Rattle.ff_net.specs.Nodes.{AreApart, HaveLanes}
 use Rattle.ff_net.specs.Pasts.{Task, IsIn}
 use Rattle.ff_net.specs.Ways.{lane_at}
-use Rattle.ff_network.specs.Fits.{Ports, edge_lanes, ins_at, outs_at, AreFit, part_at, parts_from, network}
-use Rattle.ff_network.proofs.Each.{each_next, at_before, at_end, some_one}
+use Rattle.ff_net_threads.specs.network.Fits.{Ports, edge_lanes, ins_at, outs_at, AreFit, part_at, parts_from, network}
+use Rattle.ff_net_threads.proofs.NetworkLemmas.Each.{each_next, at_before, at_end, some_one}
 
 in_left : (xs ys : List ℕ) (w : ℕ) → IsIn w xs → IsIn w (xs ++ ys)
 in_left [] ys w i = absurd i

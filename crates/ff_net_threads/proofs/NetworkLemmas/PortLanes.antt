@@ -2,12 +2,12 @@
 use Rattle.std.proofs.Common.{◌≡◌, ℕ, zero, suc, ◌<◌, List, [], ◌∷◌, ◌++◌, length, map, Option, Some, refl, sym, ap, ◌∙◌, arith}
 use Rattle.std.proofs.lemmas.List.{length-map}
 use Rattle.std.specs.List.{AllByRecursion, filter_map, cons_option}
-use Rattle.ff_frame.specs.declared.item.Lane.{Lane}
-use Rattle.ff_edges.specs.declared.edge.Edge.{Edge}
-use Rattle.ff_edges.specs.Ports.{edge_to, edge_from, at_ports, shape_of, IsFed, HasIns, HasOuts, lane_of}
+use Rattle.ff_stream.specs.declared.item.Lane.{Lane}
+use Rattle.ff_stream.specs.declared.edges.edge.Edge.{Edge}
+use Rattle.ff_stream.specs.edges.Ports.{edge_to, edge_from, at_ports, shape_of, IsFed, HasIns, HasOuts, lane_of}
 use Rattle.ff_net.specs.Ways.{lane_at}
-use Rattle.ff_network.specs.Fits.{edge_lanes, AreFit, ports_by}
-use Rattle.ff_network.proofs.Fitting.{count_ports}
+use Rattle.ff_net_threads.specs.network.Fits.{edge_lanes, AreFit, ports_by}
+use Rattle.ff_net_threads.proofs.NetworkLemmas.Fitting.{count_ports}
 
 same_lane : (edges : List Edge) (w : ℕ) → lane_at (edge_lanes edges) w ≡ lane_of edges w
 same_lane [] w = refl

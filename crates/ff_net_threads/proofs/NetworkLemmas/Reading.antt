@@ -2,15 +2,15 @@
 use Rattle.std.proofs.Common.{◌≡◌, ℕ, zero, suc, ◌+◌, ◌<◌, ◌≤◌, List, [], ◌∷◌, ◌++◌, length, map, take, slice_get, Option, None, Some, refl, sym, ◌∙◌, subst, arith}
 use Rattle.std.proofs.lemmas.List.{length-map, length-take-le}
 use Rattle.std.proofs.lemmas.Option.{get_or_from_slice_get, slice_get_within}
-use Rattle.ff_values.specs.declared.event.Event.{Event}
-use Rattle.ff_values.specs.declared.event.Event.TheVariants.{Grant}
-use Rattle.ff_values.specs.declared.event.Ticket.{Ticket}
+use Rattle.ff_frame.specs.declared.event.Event.{Event}
+use Rattle.ff_frame.specs.declared.event.Event.TheVariants.{Grant}
+use Rattle.ff_frame.specs.declared.event.Ticket.{Ticket}
 use Rattle.ff_sched.specs.declared.logged.Logged.{Logged}
 use Rattle.ff_net.specs.Laws.{reads_of}
 use Rattle.ff_net.specs.Logs.{AreTicketsOf, tickets_in}
 use Rattle.ff_net.specs.Pasts.{Past}
 use Rattle.ff_net.specs.Views.{View}
-use Rattle.ff_network.specs.Scheduling.{IsLogOf, ReadsUnderGrants}
+use Rattle.ff_net_threads.specs.network.Scheduling.{IsLogOf, ReadsUnderGrants}
 
 abbrev places_of : List Ticket → List ℕ
 places_of ts = map (λ t. t.place) ts

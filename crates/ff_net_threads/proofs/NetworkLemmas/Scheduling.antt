@@ -3,9 +3,9 @@ use Rattle.std.proofs.Common.{◌≡◌, ℕ, zero, suc, ◌+◌, ◌-◌, ◌*�
 use Rattle.std.proofs.Common.{Option, None, Some, IfSome, refl, sym, ap, ◌∙◌, subst, arith, append-nil, length-append}
 use Rattle.std.proofs.lemmas.List.{length-map}
 use Rattle.std.proofs.lemmas.List.Sums.{sum_by-append, sum_by-cons}
-use Rattle.ff_values.specs.declared.event.Event.{Event}
-use Rattle.ff_values.specs.declared.event.Event.TheVariants.{Grant}
-use Rattle.ff_values.specs.declared.event.Ticket.{Ticket}
+use Rattle.ff_frame.specs.declared.event.Event.{Event}
+use Rattle.ff_frame.specs.declared.event.Event.TheVariants.{Grant}
+use Rattle.ff_frame.specs.declared.event.Ticket.{Ticket}
 use Rattle.ff_sched.specs.declared.logged.Logged.{Logged}
 use Rattle.ff_sched.specs.declared.routes.Routes.{Routes}
 use Rattle.ff_sched.specs.Histories.{IsLegal, Rises, StandsIn, StartsWith, all_in, numbered, weigh}
@@ -16,14 +16,14 @@ use Rattle.ff_net.specs.Logs.{PassStep, tickets_in}
 use Rattle.ff_net.specs.Pasts.{Task}
 use Rattle.ff_net.specs.Views.{View}
 use Rattle.ff_net.specs.Ways.{Flow}
-use Rattle.ff_net_links.specs.declared.linked.Linked.{Linked}
-use Rattle.ff_network.specs.declared.run.NodeFault.{NodeFault}
-use Rattle.ff_network.specs.Scheduling.{AllPassed, AreLogged, AreSeated, Scheduled, logs_in, new_pass, node_share}
-use Rattle.ff_network.proofs.Each.{at_before, at_end, some_one, each_next}
-use Rattle.ff_network.proofs.Grants.{grant_stands, tickets_rise}
-use Rattle.ff_network.proofs.Entries.{event_entry, pass_of_list}
-use Rattle.ff_network.proofs.Reading.{reads_under}
-use Rattle.ff_network.proofs.Telling.{HaveEntries, its_grants, told_behind, told_same}
+use Rattle.ff_net_threads.specs.declared.links.linked.Linked.{Linked}
+use Rattle.ff_net_threads.specs.declared.network.run.NodeFault.{NodeFault}
+use Rattle.ff_net_threads.specs.network.Scheduling.{AllPassed, AreLogged, AreSeated, Scheduled, logs_in, new_pass, node_share}
+use Rattle.ff_net_threads.proofs.NetworkLemmas.Each.{at_before, at_end, some_one, each_next}
+use Rattle.ff_net_threads.proofs.NetworkLemmas.Grants.{grant_stands, tickets_rise}
+use Rattle.ff_net_threads.proofs.NetworkLemmas.Entries.{event_entry, pass_of_list}
+use Rattle.ff_net_threads.proofs.NetworkLemmas.Reading.{reads_under}
+use Rattle.ff_net_threads.proofs.NetworkLemmas.Telling.{HaveEntries, its_grants, told_behind, told_same}
 
 -- a pass of which another was split off
 pub split_new : (cell : Scheduler) (share n : ℕ) (p q r : Passing) → p ≡ new_pass cell share → IsSplit p n q r → (q ≡ new_pass cell (share - n)) × (r ≡ new_pass cell n)

@@ -3,11 +3,11 @@ use Rattle.std.proofs.Common.{◌≡◌, ℕ, ◌+◌, ◌<◌, List, [], ◌∷
 use Rattle.std.proofs.lemmas.List.{map-append, take_more}
 use Rattle.ff_link.specs.Views.{Sending, Receiving, new_sender, new_receiver}
 use Rattle.ff_net.specs.Ways.{lane_at}
-use Rattle.ff_net_links.specs.declared.ends.InEnd.{InEnd}
-use Rattle.ff_net_links.specs.declared.ends.OutEnd.{OutEnd}
-use Rattle.ff_net_links.specs.Ends.{new_in, new_out}
-use Rattle.ff_network.specs.Nodes.{IsNewIn, IsNewOut}
-use Rattle.ff_network.specs.Tables.{NewLinks, HasNewSender, HasNewReceiver}
+use Rattle.ff_net_threads.specs.declared.links.ends.InEnd.{InEnd}
+use Rattle.ff_net_threads.specs.declared.links.ends.OutEnd.{OutEnd}
+use Rattle.ff_net_threads.specs.links.Ends.{new_in, new_out}
+use Rattle.ff_net_threads.specs.network.Nodes.{IsNewIn, IsNewOut}
+use Rattle.ff_net_threads.specs.network.Tables.{NewLinks, HasNewSender, HasNewReceiver}
 
 some_same : {A : Type 0} (a b : A) → Some a ≡ Some b → a ≡ b
 some_same a b e = cc

@@ -1,9 +1,9 @@
 -- What a history has of what one machine alone tells, or is granted.
 use Rattle.std.proofs.Common.{◌≡◌, ◌≢◌, ℕ, ◌<◌, inl, inr, Bool, true, List, [], filter, length, slice_get, slice_index_or, Option, Some, sym, ap, ◌∙◌, subst, arith}
 use Rattle.std.proofs.lemmas.Option.{get_or_from_slice_get, slice_get_within}
-use Rattle.ff_values.specs.declared.event.Event.{Event}
-use Rattle.ff_values.specs.declared.event.Event.TheVariants.{Grant}
-use Rattle.ff_values.specs.declared.event.Ticket.{Ticket}
+use Rattle.ff_frame.specs.declared.event.Event.{Event}
+use Rattle.ff_frame.specs.declared.event.Event.TheVariants.{Grant}
+use Rattle.ff_frame.specs.declared.event.Ticket.{Ticket}
 use Rattle.ff_sched.specs.declared.logged.Logged.{Logged}
 use Rattle.ff_sched.specs.Histories.{Rises, all_in, logged}
 use Rattle.ff_sched.specs.Laws.{HasAllOf, IsEntryOf, IsPassOf, events_in}
@@ -15,10 +15,10 @@ use Rattle.ff_net.specs.Pasts.{Task}
 use Rattle.ff_net.specs.Views.{View}
 use Rattle.ff_net.specs.Ways.{Flow}
 use Rattle.ff_net.proofs.Flows.{same_or_not}
-use Rattle.ff_network.specs.declared.run.NodeFault.{NodeFault}
-use Rattle.ff_network.specs.Scheduling.{AreLogged, IsOnlySource, TellsAlone}
-use Rattle.ff_network.proofs.Each.{some_one}
-use Rattle.ff_network.proofs.Entries.{all_told, behind_grants, entry_ticket, log_of_entry, no_entry_of, none_before}
+use Rattle.ff_net_threads.specs.declared.network.run.NodeFault.{NodeFault}
+use Rattle.ff_net_threads.specs.network.Scheduling.{AreLogged, IsOnlySource, TellsAlone}
+use Rattle.ff_net_threads.proofs.NetworkLemmas.Each.{some_one}
+use Rattle.ff_net_threads.proofs.NetworkLemmas.Entries.{all_told, behind_grants, entry_ticket, log_of_entry, no_entry_of, none_before}
 
 -- an event of the history is an entry of the log of one machine
 abbrev pub HaveEntries : List Event → List (List Logged) → Type 0

@@ -1,9 +1,9 @@
 -- Machines that were wired up one after the other.
 use Rattle.std.proofs.Common.{◌≡◌, ℕ, zero, suc, ◌+◌, ◌<◌, ◌≤◌, Bool, List, [], ◌∷◌, ◌++◌, length, map, slice_index_or, Option, None, Some, refl, ap, sym, ◌∙◌, subst, arith}
 use Rattle.std.proofs.lemmas.List.{length-map, map-append, get_or_default}
-use Rattle.ff_frame.specs.declared.item.Lane.{Lane}
-use Rattle.ff_edges.specs.declared.edge.Edge.{Edge}
-use Rattle.ff_edges.specs.Ports.{edge_to, edge_from, at_ports}
+use Rattle.ff_stream.specs.declared.item.Lane.{Lane}
+use Rattle.ff_stream.specs.declared.edges.edge.Edge.{Edge}
+use Rattle.ff_stream.specs.edges.Ports.{edge_to, edge_from, at_ports}
 use Rattle.ff_link.specs.Views.{Sending, Receiving, new_sender, new_receiver}
 use Rattle.ff_net.specs.Nets.{Part, IsUpward, solve}
 use Rattle.ff_net.specs.Nodes.{HaveLanes, machine_of, in_wires_of, out_wires_of}
@@ -11,23 +11,23 @@ use Rattle.ff_net.specs.Pasts.{Task, IsIn, start}
 use Rattle.ff_net.specs.Serial.{part_of, parts_of}
 use Rattle.ff_net.specs.Views.{View}
 use Rattle.ff_net.specs.Ways.{lane_at}
-use Rattle.ff_net_links.specs.declared.linked.Linked.{Linked}
-use Rattle.ff_net_links.specs.Nodes.{node_of}
-use Rattle.ff_net_links.specs.Runs.{AllOf}
-use Rattle.ff_net_links.specs.Settling.{nodes_of}
+use Rattle.ff_net_threads.specs.declared.links.linked.Linked.{Linked}
+use Rattle.ff_net_threads.specs.links.Nodes.{node_of}
+use Rattle.ff_net_threads.specs.links.Runs.{AllOf}
+use Rattle.ff_net_threads.specs.links.Settling.{nodes_of}
 use Rattle.ff_sched.specs.declared.logged.Logged.{Logged}
 use Rattle.ff_sched.specs.declared.routes.Routes.{Routes}
 use Rattle.ff_sched.specs.Passing.{Passing, Scheduler}
-use Rattle.ff_network.specs.Fits.{Ports, edge_lanes, ins_at, outs_at, part_at, parts_from, network}
-use Rattle.ff_network.specs.Networks.{Fits, AllStart, AreWiredUp, lanes_at, ports_of, node_at, machines_in}
-use Rattle.ff_network.specs.Nodes.{FitsWires, IsLinked, in_edges, out_edges}
-use Rattle.ff_network.specs.Runs.{FedPart, FedAll, MeetsNetwork, ReadsSuffice, ins_in, outs_in, read_parts}
-use Rattle.ff_network.specs.Scheduling.{AllRouted, AreLogged, AreSeated, LoggedPart, LoggedSink}
-use Rattle.ff_network.specs.declared.run.NodeFault.{NodeFault}
-use Rattle.ff_network.specs.Tables.{AreTables, NewLinks, HasNewSender, HasNewReceiver, link_of, links_in}
-use Rattle.ff_network.proofs.Each.{some_one}
-use Rattle.ff_network.proofs.Fitting.{ins_once, outs_once, ins_have, outs_have, own_apart, upward}
-use Rattle.ff_network.proofs.Joining.{joined}
+use Rattle.ff_net_threads.specs.network.Fits.{Ports, edge_lanes, ins_at, outs_at, part_at, parts_from, network}
+use Rattle.ff_net_threads.specs.network.Networks.{Fits, AllStart, AreWiredUp, lanes_at, ports_of, node_at, machines_in}
+use Rattle.ff_net_threads.specs.network.Nodes.{FitsWires, IsLinked, in_edges, out_edges}
+use Rattle.ff_net_threads.specs.network.Runs.{FedPart, FedAll, MeetsNetwork, ReadsSuffice, ins_in, outs_in, read_parts}
+use Rattle.ff_net_threads.specs.network.Scheduling.{AllRouted, AreLogged, AreSeated, LoggedPart, LoggedSink}
+use Rattle.ff_net_threads.specs.declared.network.run.NodeFault.{NodeFault}
+use Rattle.ff_net_threads.specs.network.Tables.{AreTables, NewLinks, HasNewSender, HasNewReceiver, link_of, links_in}
+use Rattle.ff_net_threads.proofs.NetworkLemmas.Each.{some_one}
+use Rattle.ff_net_threads.proofs.NetworkLemmas.Fitting.{ins_once, outs_once, ins_have, outs_have, own_apart, upward}
+use Rattle.ff_net_threads.proofs.NetworkLemmas.Joining.{joined}
 
 at_map : {A B : Type 0} (f : A → B) (xs : List A) (k : ℕ) (d : A) (e : B) → k < length xs → slice_index_or (map f xs) k e ≡ f (slice_index_or xs k d)
 at_map f [] k d e lt = absurd (omega (arith, lt))

@@ -1,10 +1,10 @@
 -- How the ends of links stand to the wires of a node.
 use Rattle.std.specs.Prelude.{◌≡◌, ℕ, ◌⊎◌, Bool, true, false, List, [], Option, None, Some, is_some, slice_index_or, slice_set, ◌∷◌}
-use Rattle.ff_frame.specs.declared.item.Item.{Item}
-use Rattle.ff_frame.specs.declared.item.Lane.{Lane}
-use Rattle.ff_frame.specs.Stream.{still_open, LiesBelow}
-use Rattle.ff_frame.specs.Items.{with_item}
-use Rattle.ff_frame.specs.Ports.{IsClosed}
+use Rattle.ff_stream.specs.declared.item.Item.{Item}
+use Rattle.ff_stream.specs.declared.item.Lane.{Lane}
+use Rattle.ff_stream.specs.Stream.{still_open, LiesBelow}
+use Rattle.ff_stream.specs.Items.{with_item}
+use Rattle.ff_stream.specs.Ports.{IsClosed}
 use Rattle.ff_link.specs.Sendings.{stream_of, IsSending}
 use Rattle.ff_link.specs.Views.{Link, Sending, Receiving, Ended}
 use Rattle.ff_net.specs.declared.wires.Wires.{Wires}
@@ -13,8 +13,8 @@ use Rattle.ff_net.specs.Pasts.{Past}
 use Rattle.ff_net.specs.Worlds.{Wire, Stand, lanes_of}
 use Rattle.ff_net.specs.Nodes.{HeldIs}
 use Rattle.ff_net.specs.Steps.{Course}
-use Rattle.ff_net_links.specs.declared.ends.InEnd.{InEnd}
-use Rattle.ff_net_links.specs.declared.ends.OutEnd.{OutEnd}
+use Rattle.ff_net_threads.specs.declared.links.ends.InEnd.{InEnd}
+use Rattle.ff_net_threads.specs.declared.links.ends.OutEnd.{OutEnd}
 
 -- all that was taken from the link
 abbrev pub taken_in : Option Receiving → Option Ended → List Item

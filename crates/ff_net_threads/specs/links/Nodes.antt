@@ -1,6 +1,6 @@
 -- A node with the ends of its links.
 use Rattle.std.specs.Prelude.{◌≡◌, ℕ, ◌<◌, true, List, length, map, slice_index_or, Option, None, Some, []}
-use Rattle.ff_frame.specs.declared.item.Lane.{Lane}
+use Rattle.ff_stream.specs.declared.item.Lane.{Lane}
 use Rattle.ff_link.specs.Views.{Link, Sending, Receiving}
 use Rattle.ff_net.specs.declared.node.Node.{Node}
 use Rattle.ff_net.specs.Ways.{lane_at}
@@ -11,10 +11,10 @@ use Rattle.ff_net.specs.Worlds.{Wire, Stand, fresh, lanes_of}
 use Rattle.ff_net.specs.Nodes.{NodeStands, IsShaped, IsDone, in_wires_of, out_wires_of}
 use Rattle.ff_net.specs.declared.wires.Wires.{Wires}
 use Rattle.ff_net.specs.Views.{View}
-use Rattle.ff_net_links.specs.declared.ends.InEnd.{InEnd}
-use Rattle.ff_net_links.specs.declared.ends.OutEnd.{OutEnd}
-use Rattle.ff_net_links.specs.declared.linked.Linked.{Linked}
-use Rattle.ff_net_links.specs.Ends.{InEndStands, OutEndStands, claims_of, in_link, out_link, in_end_at, new_in, new_out}
+use Rattle.ff_net_threads.specs.declared.links.ends.InEnd.{InEnd}
+use Rattle.ff_net_threads.specs.declared.links.ends.OutEnd.{OutEnd}
+use Rattle.ff_net_threads.specs.declared.links.linked.Linked.{Linked}
+use Rattle.ff_net_threads.specs.links.Ends.{InEndStands, OutEndStands, claims_of, in_link, out_link, in_end_at, new_in, new_out}
 
 abbrev pub in_ends_wires : List InEnd → List ℕ
 in_ends_wires ends = map (λ e. e.wire) ends

@@ -1,7 +1,7 @@
 -- Room for settling links.
 use Rattle.std.specs.Prelude.{◌≡◌, ℕ, ◌<◌, [], length, min, slice_index_or, Option, None, vec_capacity}
 use Rattle.ff_link.specs.Views.{Sending}
-use Rattle.ff_net_links.specs.declared.room.Room.{Room}
+use Rattle.ff_net_threads.specs.declared.links.room.Room.{Room}
 
 -- the machines and passes of so many nodes have room
 abbrev pub most_nodes : {M : Type 0} → Room M → ℕ

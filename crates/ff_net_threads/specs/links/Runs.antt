@@ -3,9 +3,9 @@ use Rattle.std.specs.Prelude.{◌≡◌, ℕ, ◌<◌, true, List, slice_index_o
 use Rattle.ff_net.specs.Nodes.{IsOf}
 use Rattle.ff_net.specs.Views.{View}
 use Rattle.ff_sched.specs.Passing.{Scheduler}
-use Rattle.ff_net_links.specs.declared.linked.Linked.{Linked}
-use Rattle.ff_net_links.specs.declared.worker.Back.{Back}
-use Rattle.ff_net_links.specs.Nodes.{Follows, IsLawful, HasEnded, node_of}
+use Rattle.ff_net_threads.specs.declared.links.linked.Linked.{Linked}
+use Rattle.ff_net_threads.specs.declared.links.worker.Back.{Back}
+use Rattle.ff_net_threads.specs.links.Nodes.{Follows, IsLawful, HasEnded, node_of}
 
 module _ {M : Type 0} (view : M → View) where
   -- it was turned until it was done

@@ -1,8 +1,8 @@
 -- Nodes whose links are settled.
 use Rattle.std.specs.Prelude.{◌≡◌, ℕ, zero, suc, ◌<◌, ◌⊎◌, List, [], ◌∷◌, length, slice_index_or, map, Option, None, Some, ◌+◌, ◌≤◌}
 use mathlib.Core.List.{IsPrefix}
-use Rattle.ff_frame.specs.declared.item.Item.{Item}
-use Rattle.ff_frame.specs.declared.item.Lane.{Lane}
+use Rattle.ff_stream.specs.declared.item.Item.{Item}
+use Rattle.ff_stream.specs.declared.item.Lane.{Lane}
 use Rattle.ff_link.specs.Views.{Link, Sending}
 use Rattle.ff_link.specs.declared.answers.Settled.{Settled}
 use Rattle.ff_net.specs.declared.node.Node.{Node}
@@ -12,11 +12,11 @@ use Rattle.ff_sched.specs.Passing.{Passing}
 use Rattle.ff_net.specs.declared.fault.Fault.{Fault}
 use Rattle.ff_net.specs.declared.fault.Fault.TheVariants.{NoMemory}
 use Rattle.ff_net.specs.Views.{View}
-use Rattle.ff_net_links.specs.declared.ends.InEnd.{InEnd}
-use Rattle.ff_net_links.specs.declared.ends.OutEnd.{OutEnd}
-use Rattle.ff_net_links.specs.declared.linked.Linked.{Linked}
-use Rattle.ff_net_links.specs.Ends.{taken_of, in_link, out_link, in_end_at}
-use Rattle.ff_net_links.specs.Nodes.{Behind, HasEnded, in_ends_wires, out_ends_wires, node_of, lanes_on, ins_of, outs_of}
+use Rattle.ff_net_threads.specs.declared.links.ends.InEnd.{InEnd}
+use Rattle.ff_net_threads.specs.declared.links.ends.OutEnd.{OutEnd}
+use Rattle.ff_net_threads.specs.declared.links.linked.Linked.{Linked}
+use Rattle.ff_net_threads.specs.links.Ends.{taken_of, in_link, out_link, in_end_at}
+use Rattle.ff_net_threads.specs.links.Nodes.{Behind, HasEnded, in_ends_wires, out_ends_wires, node_of, lanes_on, ins_of, outs_of}
 
 -- the nodes, as they are on wires of their own
 abbrev pub nodes_of : {M : Type 0} → List (Linked M) → List (Node M)

@@ -1,17 +1,17 @@
 -- What a turn of a node does at its links.
 use Rattle.std.specs.Prelude.{◌≡◌, ◌≢◌, ℕ, ◌<◌, ◌⊎◌, true, false, List, [], ◌∷◌, ◌++◌, length, slice_index_or, None, is_some}
-use Rattle.ff_frame.specs.declared.item.Item.{Item}
-use Rattle.ff_frame.specs.Items.{Closes}
+use Rattle.ff_stream.specs.declared.item.Item.{Item}
+use Rattle.ff_stream.specs.Items.{Closes}
 use Rattle.ff_net.specs.Nodes.{IsDone, pass_of}
 use Rattle.ff_net.specs.Steps.{Moves, Stepped}
 use Rattle.ff_net.specs.Turns.{IsIdle}
 use Rattle.ff_net.specs.declared.wires.Wires.{Wires}
 use Rattle.ff_net.specs.Views.{View}
-use Rattle.ff_net_links.specs.declared.ends.InEnd.{InEnd}
-use Rattle.ff_net_links.specs.declared.ends.OutEnd.{OutEnd}
-use Rattle.ff_net_links.specs.declared.linked.Linked.{Linked}
-use Rattle.ff_net_links.specs.Ends.{taken_of, in_end_at}
-use Rattle.ff_net_links.specs.Nodes.{node_of, wires_on, ins_of, outs_of}
+use Rattle.ff_net_threads.specs.declared.links.ends.InEnd.{InEnd}
+use Rattle.ff_net_threads.specs.declared.links.ends.OutEnd.{OutEnd}
+use Rattle.ff_net_threads.specs.declared.links.linked.Linked.{Linked}
+use Rattle.ff_net_threads.specs.links.Ends.{taken_of, in_end_at}
+use Rattle.ff_net_threads.specs.links.Nodes.{node_of, wires_on, ins_of, outs_of}
 
 -- the same items, or one more
 abbrev pub HasOneMoreAtMost : List Item → List Item → Type 0

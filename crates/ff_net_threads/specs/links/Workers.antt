@@ -1,10 +1,10 @@
 -- Which node a worker has.
 use Rattle.std.specs.Prelude.{◌≡◌, ℕ, ◌<◌, List, length, slice_index_or}
 use Rattle.ff_net.specs.Views.{View}
-use Rattle.ff_net_links.specs.declared.linked.Linked.{Linked}
-use Rattle.ff_net_links.specs.declared.worker.Worker.{Worker}
-use Rattle.ff_net_links.specs.declared.worker.Worker.TheVariants.{Runs, Here}
-use Rattle.ff_net_links.specs.Runs.{Came}
+use Rattle.ff_net_threads.specs.declared.links.linked.Linked.{Linked}
+use Rattle.ff_net_threads.specs.declared.links.worker.Worker.{Worker}
+use Rattle.ff_net_threads.specs.declared.links.worker.Worker.TheVariants.{Runs, Here}
+use Rattle.ff_net_threads.specs.links.Runs.{Came}
 
 module _ {M : Type 0} (view : M → View) where
   -- the worker was given this node, or has what became of it

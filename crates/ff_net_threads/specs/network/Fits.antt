@@ -1,8 +1,8 @@
 -- Nodes with ports of these lanes, the edges that fit them, and the network that they make.
 use Rattle.std.specs.Prelude.{◌≡◌, ℕ, zero, suc, ◌<◌, List, [], ◌∷◌, length, map, Some}
-use Rattle.ff_frame.specs.declared.item.Lane.{Lane}
-use Rattle.ff_edges.specs.declared.edge.Edge.{Edge}
-use Rattle.ff_edges.specs.Ports.{Shape, edges_to, edges_from, IsFed, lanes_into, lanes_out_of}
+use Rattle.ff_stream.specs.declared.item.Lane.{Lane}
+use Rattle.ff_stream.specs.declared.edges.edge.Edge.{Edge}
+use Rattle.ff_stream.specs.edges.Ports.{Shape, edges_to, edges_from, IsFed, lanes_into, lanes_out_of}
 use Rattle.ff_net.specs.Nets.{Part}
 use Rattle.ff_net.specs.Pasts.{Task}
 use Rattle.ff_net.specs.Ways.{lane_at}

@@ -1,7 +1,7 @@
 -- Machines as nodes of a network, by the edges between them.
 use Rattle.std.specs.Prelude.{◌≡◌, ℕ, zero, suc, ◌<◌, true, Bool, All, List, [], ◌∷◌, length, map, slice_index_or}
-use Rattle.ff_frame.specs.declared.item.Lane.{Lane}
-use Rattle.ff_edges.specs.declared.edge.Edge.{Edge}
+use Rattle.ff_stream.specs.declared.item.Lane.{Lane}
+use Rattle.ff_stream.specs.declared.edges.edge.Edge.{Edge}
 use Rattle.ff_link.specs.Views.{Link}
 use Rattle.ff_net.specs.declared.node.Node.{Node}
 use Rattle.ff_net.specs.Nets.{IsUpward}
@@ -10,12 +10,12 @@ use Rattle.ff_net.specs.Pasts.{Task, start}
 use Rattle.ff_net.specs.Serial.{parts_of}
 use Rattle.ff_net.specs.Views.{View}
 use Rattle.ff_net.specs.Worlds.{sizes_of}
-use Rattle.ff_net_links.specs.declared.ends.OutEnd.{OutEnd}
-use Rattle.ff_net_links.specs.declared.linked.Linked.{Linked}
-use Rattle.ff_net_links.specs.Nodes.{Behind, node_of, wires_on, outs_of}
-use Rattle.ff_net_links.specs.Runs.{AllLawful}
-use Rattle.ff_net_links.specs.Settling.{AreJoined, AreLinked, nodes_of}
-use Rattle.ff_network.specs.Fits.{Ports, AreFit, ins_at, outs_at, edge_lanes, network}
+use Rattle.ff_net_threads.specs.declared.links.ends.OutEnd.{OutEnd}
+use Rattle.ff_net_threads.specs.declared.links.linked.Linked.{Linked}
+use Rattle.ff_net_threads.specs.links.Nodes.{Behind, node_of, wires_on, outs_of}
+use Rattle.ff_net_threads.specs.links.Runs.{AllLawful}
+use Rattle.ff_net_threads.specs.links.Settling.{AreJoined, AreLinked, nodes_of}
+use Rattle.ff_net_threads.specs.network.Fits.{Ports, AreFit, ins_at, outs_at, edge_lanes, network}
 
 -- the lanes of the ports of some machines, by number
 abbrev pub lanes_at : (View → List Lane) → {M : Type 0} → (M → View) → List M → ℕ → List Lane

@@ -1,20 +1,20 @@
 -- A machine with any number of ports, on new links.
 use Rattle.std.specs.Prelude.{◌≡◌, ℕ, ◌<◌, All, true, List, length, slice_index_or, Some}
-use Rattle.ff_frame.specs.declared.item.Lane.{Lane}
-use Rattle.ff_edges.specs.declared.edge.Edge.{Edge}
-use Rattle.ff_edges.specs.Ports.{edge_to, edge_from, at_ports}
+use Rattle.ff_stream.specs.declared.item.Lane.{Lane}
+use Rattle.ff_stream.specs.declared.edges.edge.Edge.{Edge}
+use Rattle.ff_stream.specs.edges.Ports.{edge_to, edge_from, at_ports}
 use Rattle.ff_link.specs.Views.{new_sender, new_receiver}
 use Rattle.ff_net.specs.Nodes.{HaveLanes, machine_of, in_wires_of, out_wires_of}
 use Rattle.ff_net.specs.Pasts.{Task, IsIn, start}
 use Rattle.ff_net.specs.Views.{View}
 use Rattle.ff_net.specs.Ways.{lane_at}
 use Rattle.ff_net.specs.Worlds.{sizes_of}
-use Rattle.ff_net_links.specs.declared.ends.InEnd.{InEnd}
-use Rattle.ff_net_links.specs.declared.ends.OutEnd.{OutEnd}
-use Rattle.ff_net_links.specs.declared.linked.Linked.{Linked}
-use Rattle.ff_net_links.specs.Ends.{in_end_at, in_link, out_link, new_in, new_out}
-use Rattle.ff_net_links.specs.Nodes.{Behind, IsWired, IsLawful, in_ends_wires, out_ends_wires, node_of, wires_on, lanes_on, ins_of, outs_of}
-use Rattle.ff_network.specs.Tables.{NewLinks}
+use Rattle.ff_net_threads.specs.declared.links.ends.InEnd.{InEnd}
+use Rattle.ff_net_threads.specs.declared.links.ends.OutEnd.{OutEnd}
+use Rattle.ff_net_threads.specs.declared.links.linked.Linked.{Linked}
+use Rattle.ff_net_threads.specs.links.Ends.{in_end_at, in_link, out_link, new_in, new_out}
+use Rattle.ff_net_threads.specs.links.Nodes.{Behind, IsWired, IsLawful, in_ends_wires, out_ends_wires, node_of, wires_on, lanes_on, ins_of, outs_of}
+use Rattle.ff_net_threads.specs.network.Tables.{NewLinks}
 
 -- the end of a new link that takes, at the wire of its number
 pub record IsNewIn (new : NewLinks) (end : InEnd) : Type 0 where

@@ -2,9 +2,9 @@
 use Rattle.std.specs.Prelude.{◌≡◌, ◌≢◌, ℕ, ◌+◌, ◌-◌, ◌*◌, ◌^◌, ◌<◌, ◌≤◌, Bool, true, false, All, List, [], filter, length, map, slice_get, slice_index_or, Option}
 use Rattle.std.specs.Prelude.{None, Some}
 use mathlib.Core.List.{IsPrefix}
-use Rattle.ff_values.specs.declared.event.Event.{Event}
-use Rattle.ff_values.specs.declared.event.Event.TheVariants.{Grant}
-use Rattle.ff_values.specs.declared.event.Ticket.{Ticket}
+use Rattle.ff_frame.specs.declared.event.Event.{Event}
+use Rattle.ff_frame.specs.declared.event.Event.TheVariants.{Grant}
+use Rattle.ff_frame.specs.declared.event.Ticket.{Ticket}
 use Rattle.ff_sched.specs.declared.logged.Logged.{Logged}
 use Rattle.ff_sched.specs.declared.routes.Routes.{Routes}
 use Rattle.ff_sched.specs.Histories.{IsLegal, Rises, StandsIn, all_in, numbered, weigh}
@@ -16,10 +16,10 @@ use Rattle.ff_net.specs.Nodes.{pass_of}
 use Rattle.ff_net.specs.Pasts.{Feed, Past, Task}
 use Rattle.ff_net.specs.Views.{View}
 use Rattle.ff_net.specs.Ways.{Flow}
-use Rattle.ff_net_links.specs.declared.linked.Linked.{Linked}
-use Rattle.ff_network.specs.declared.run.NodeFault.{NodeFault}
-use Rattle.ff_network.specs.Networks.{node_at}
-use Rattle.ff_network.specs.Runs.{FedPart, FedAll}
+use Rattle.ff_net_threads.specs.declared.links.linked.Linked.{Linked}
+use Rattle.ff_net_threads.specs.declared.network.run.NodeFault.{NodeFault}
+use Rattle.ff_net_threads.specs.network.Networks.{node_at}
+use Rattle.ff_net_threads.specs.network.Runs.{FedPart, FedAll}
 
 -- a pass of this cell that has seen and added nothing, and may add so many events
 abbrev pub new_pass : Scheduler → ℕ → Passing

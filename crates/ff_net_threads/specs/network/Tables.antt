@@ -1,8 +1,8 @@
 -- The ends of new links, by the numbers of the edges.
 use Rattle.std.specs.Prelude.{◌≡◌, ℕ, ◌<◌, Bool, false, List, [], length, slice_index_or, Option, Some, None}
 use Rattle.atomic_table.specs.Seated.{TableId}
-use Rattle.ff_frame.specs.declared.item.Lane.{Lane}
-use Rattle.ff_edges.specs.declared.edge.Edge.{Edge}
+use Rattle.ff_stream.specs.declared.item.Lane.{Lane}
+use Rattle.ff_stream.specs.declared.edges.edge.Edge.{Edge}
 use Rattle.ff_link.specs.Views.{Link, Sending, Receiving, new_sender, new_receiver}
 use Rattle.ff_net.specs.Pasts.{IsIn}
 use Rattle.ff_net.specs.Ways.{lane_at}

@@ -4,13 +4,13 @@ ghost use Rattle.ff_net.specs.declared.wires.Wires.{Wires};
 ghost use Rattle.ff_net.specs.Pasts.{Past};
 ghost use Rattle.ff_net.specs.Ways.{lane_at};
 ghost use Rattle.ff_net.specs.Worlds.{Wire, Stand, lanes_of};
-ghost use Rattle.ff_net_links.specs.Ends.{InEndStands, OutEndStands, CanPour, OnWires, Draws, Pours, claims_of, taken_of, in_link, out_link, in_end_at};
-ghost use Rattle.ff_net_links.specs.declared.ends.OutEnd.{OutEnd};
-ghost use Rattle.ff_net_links.specs.Turns.{Shuts, TakesOneAtMost, InMoves, InRests, SendsOneAtMost, OutMoves, OutRests};
+ghost use Rattle.ff_net_threads.specs.links.Ends.{InEndStands, OutEndStands, CanPour, OnWires, Draws, Pours, claims_of, taken_of, in_link, out_link, in_end_at};
+ghost use Rattle.ff_net_threads.specs.declared.links.ends.OutEnd.{OutEnd};
+ghost use Rattle.ff_net_threads.specs.links.Turns.{Shuts, TakesOneAtMost, InMoves, InRests, SendsOneAtMost, OutMoves, OutRests};
 
-use ff_frame::Item;
 use ff_link::{Finished, Put, Receiver, Sender, Take};
 use ff_net::{Put as Laid, Take as Lifted, Wires};
+use ff_stream::Item;
 use std::sync::Wait;
 
 /// The end of a link that takes, at a wire of the node.
@@ -33,7 +33,7 @@ pub struct OutEnd {
 
 impl InEnd {
     ghost use Rattle.std.specs.Prelude.{◌≡◌};
-    ghost use Rattle.ff_net_links.specs.Ends.{new_in};
+    ghost use Rattle.ff_net_threads.specs.links.Ends.{new_in};
 
     /// The end of a link that takes, at the wire of this number.
     pub fn new(wire: usize, receiver: Receiver) -> InEnd
@@ -50,7 +50,7 @@ impl InEnd {
 
 impl OutEnd {
     ghost use Rattle.std.specs.Prelude.{◌≡◌};
-    ghost use Rattle.ff_net_links.specs.Ends.{new_out};
+    ghost use Rattle.ff_net_threads.specs.links.Ends.{new_out};
 
     /// The end of a link that sends, at the wire of this number.
     pub fn new(wire: usize, sender: Sender) -> OutEnd

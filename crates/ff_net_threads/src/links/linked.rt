@@ -1,10 +1,10 @@
 // A node with the ends of its links.
 ghost use Rattle.std.specs.Prelude.{◌≡◌, ◌<◌, ◌≤◌, ◌+◌, ◌⊎◌, ℕ, length, slice_index_or, true, false, None, Some};
-ghost use Rattle.ff_frame.specs.Ports.{IsClosed};
-ghost use Rattle.ff_net_links.specs.Ends.{in_end_at, taken_of};
-ghost use Rattle.ff_net_links.specs.declared.ends.OutEnd.{OutEnd};
-ghost use Rattle.ff_net_links.specs.Nodes.{Follows, IsLawful, HasEnded, Behind, IsBeginning, AreWired, IsWired, node_of, wires_on, lanes_on, ins_of, outs_of};
-ghost use Rattle.ff_net_links.specs.Turns.{TakesOneAtMost, InMoves, InRests, Shuts, SendsOneAtMost, OutMoves, OutRests, IsWaiting, HasMoved, HasRested};
+ghost use Rattle.ff_stream.specs.Ports.{IsClosed};
+ghost use Rattle.ff_net_threads.specs.links.Ends.{in_end_at, taken_of};
+ghost use Rattle.ff_net_threads.specs.declared.links.ends.OutEnd.{OutEnd};
+ghost use Rattle.ff_net_threads.specs.links.Nodes.{Follows, IsLawful, HasEnded, Behind, IsBeginning, AreWired, IsWired, node_of, wires_on, lanes_on, ins_of, outs_of};
+ghost use Rattle.ff_net_threads.specs.links.Turns.{TakesOneAtMost, InMoves, InRests, Shuts, SendsOneAtMost, OutMoves, OutRests, IsWaiting, HasMoved, HasRested};
 ghost use Rattle.ff_net.specs.declared.fault.Fault.{Fault};
 ghost use Rattle.ff_net.specs.Logs.{tickets_in};
 ghost use Rattle.ff_net.specs.Nodes.{IsOf, IsSound, IsDone, NodeStands, HasFinished, IsOver};
@@ -14,8 +14,8 @@ ghost use Rattle.ff_net.specs.Steps.{Stepped, Moves, Fills, IsDue};
 ghost use Rattle.ff_net.specs.Turns.{IsIdle};
 ghost use Rattle.ff_net.specs.Worlds.{Wire, Stand, lanes_of, sizes_of};
 
-use crate::bells::Bells;
-use crate::ends::{InEnd, OutEnd, draw_at, pour_at, shut_at};
+use crate::links::bells::Bells;
+use crate::links::ends::{InEnd, OutEnd, draw_at, pour_at, shut_at};
 use ff_link::Sender;
 use ff_net::{Fault, Machine, Node, Turn, Wires};
 use ff_sched::SchedCell;

@@ -1,6 +1,6 @@
 // The links of nodes that have ended, settled.
 ghost use Rattle.std.specs.Prelude.{◌≡◌, ◌<◌, ◌≤◌, ℕ, List, [], length, slice_index_or, vec_len, vec_capacity, None, Some};
-ghost use Rattle.ff_frame.specs.declared.item.Lane.{Lane};
+ghost use Rattle.ff_stream.specs.declared.item.Lane.{Lane};
 ghost use Rattle.ff_net.specs.Nets.{IsUpward};
 ghost use Rattle.ff_net.specs.Pasts.{Task, IsIn};
 ghost use Rattle.ff_net.specs.Serial.{Moment, parts_of};
@@ -8,17 +8,17 @@ ghost use Rattle.ff_net.specs.Theorem.{AllFare, MeetsSolution};
 ghost use Rattle.ff_net.specs.declared.node.Node.{Node};
 ghost use Rattle.ff_net.specs.Worlds.{Wire};
 ghost use Rattle.ff_net.specs.Nodes.{AreApart, machine_of};
-ghost use Rattle.ff_net_links.specs.Nodes.{in_ends_wires, out_ends_wires, node_of};
+ghost use Rattle.ff_net_threads.specs.links.Nodes.{in_ends_wires, out_ends_wires, node_of};
 ghost use Rattle.ff_link.specs.Views.{Link};
-ghost use Rattle.ff_net_links.specs.declared.ends.OutEnd.{OutEnd};
-ghost use Rattle.ff_net_links.specs.Ends.{in_link, out_link, in_end_at};
-ghost use Rattle.ff_net_links.specs.Rooms.{IsUnused, links_of, most_nodes};
-ghost use Rattle.ff_net_links.specs.Settling.{HasSender, ComeAfter, IsTable, IsSettled, IsSenderIn, AreLinked, AllEnded, AllSettled};
-ghost use Rattle.ff_net_links.specs.Settling.{AllBehind, AreFaultsOf, AreMeeting, ends_of, nodes_of, passes_in};
+ghost use Rattle.ff_net_threads.specs.declared.links.ends.OutEnd.{OutEnd};
+ghost use Rattle.ff_net_threads.specs.links.Ends.{in_link, out_link, in_end_at};
+ghost use Rattle.ff_net_threads.specs.links.Rooms.{IsUnused, links_of, most_nodes};
+ghost use Rattle.ff_net_threads.specs.links.Settling.{HasSender, ComeAfter, IsTable, IsSettled, IsSenderIn, AreLinked, AllEnded, AllSettled};
+ghost use Rattle.ff_net_threads.specs.links.Settling.{AllBehind, AreFaultsOf, AreMeeting, ends_of, nodes_of, passes_in};
 
-use crate::ends::{InEnd, OutEnd};
-use crate::linked::Linked;
-use crate::room::{Lists, Room};
+use crate::links::ends::{InEnd, OutEnd};
+use crate::links::linked::Linked;
+use crate::links::room::{Lists, Room};
 use ff_link::{Sender, Settled, settle};
 use ff_net::{Fault, Machine};
 use ff_sched::Pass;

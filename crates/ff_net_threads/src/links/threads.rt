@@ -1,13 +1,13 @@
 //! All nodes at once.
 ghost use Rattle.std.specs.Prelude.{◌≡◌, ◌+◌, ◌≤◌, ℕ, [], List, length, vec_len, vec_capacity, IfOk, IfErr};
-ghost use Rattle.ff_net_links.specs.declared.linked.Linked.{Linked};
-ghost use Rattle.ff_net_links.specs.Runs.{AllRan, AllLawful, AllOf};
-ghost use Rattle.ff_net_links.specs.Workers.{AllServe};
+ghost use Rattle.ff_net_threads.specs.declared.links.linked.Linked.{Linked};
+ghost use Rattle.ff_net_threads.specs.links.Runs.{AllRan, AllLawful, AllOf};
+ghost use Rattle.ff_net_threads.specs.links.Workers.{AllServe};
 
-use crate::bells::Bells;
-use crate::linked::Linked;
-use crate::rest::{Rest, SPINS_FOR_ITEMS, Step};
-use crate::worker::{Worker, finish, start, turn_here};
+use crate::links::bells::Bells;
+use crate::links::linked::Linked;
+use crate::links::rest::{Rest, SPINS_FOR_ITEMS, Step};
+use crate::links::worker::{Worker, finish, start, turn_here};
 use ff_net::{Machine, Turn};
 use ff_sched::SchedCell;
 use std::alloc::{AllocError, Global};

@@ -1,14 +1,14 @@
 // A worker for one node, which the caller turns where no thread can be started.
 ghost use Rattle.std.specs.Prelude.{◌≡◌};
-ghost use Rattle.ff_net_links.specs.declared.linked.Linked.{Linked};
+ghost use Rattle.ff_net_threads.specs.declared.links.linked.Linked.{Linked};
 ghost use Rattle.ff_net.specs.Nodes.{IsOf};
-ghost use Rattle.ff_net_links.specs.Nodes.{IsLawful, node_of};
-ghost use Rattle.ff_net_links.specs.Runs.{Came, Ran};
-ghost use Rattle.ff_net_links.specs.Workers.{Serves};
+ghost use Rattle.ff_net_threads.specs.links.Nodes.{IsLawful, node_of};
+ghost use Rattle.ff_net_threads.specs.links.Runs.{Came, Ran};
+ghost use Rattle.ff_net_threads.specs.links.Workers.{Serves};
 
-use crate::bells::Bells;
-use crate::linked::Linked;
-use crate::rest::{Rest, SPINS_FOR_ITEMS, SPINS_FOR_ROOM, Step};
+use crate::links::bells::Bells;
+use crate::links::linked::Linked;
+use crate::links::rest::{Rest, SPINS_FOR_ITEMS, SPINS_FOR_ROOM, Step};
 use ff_net::{Machine, Turn};
 use ff_sched::SchedCell;
 use std::hint::spin_loop;
@@ -29,7 +29,7 @@ pub struct Back<M> {
 pub struct CameFrom<M>(Snapshot<Linked<M>>);
 
 impl<M: Machine> Promise<Back<M>> for CameFrom<M> {
-    ghost use Rattle.ff_net_links.specs.Runs.{Came};
+    ghost use Rattle.ff_net_threads.specs.links.Runs.{Came};
 
     ghost kept_by = { λ p b. Came M.view p.0.value b };
 }

@@ -1,8 +1,8 @@
 // What fits the edges of a plan.
 ghost use Rattle.std.specs.Prelude.{◌<◌, ℕ, List};
-ghost use Rattle.ff_edges.specs.declared.edge.Edge.{Edge};
-ghost use Rattle.ff_edges.specs.Ports.{shape_of, IsFed, HasIns, HasOuts};
-ghost use Rattle.ff_network.specs.Fits.{ports_by, AreFit};
+ghost use Rattle.ff_stream.specs.declared.edges.edge.Edge.{Edge};
+ghost use Rattle.ff_stream.specs.edges.Ports.{shape_of, IsFed, HasIns, HasOuts};
+ghost use Rattle.ff_net_threads.specs.network.Fits.{ports_by, AreFit};
 
 /// Where each port of each node has its edge, and the one at an input leaves an earlier node, the edges fit nodes whose ports
 /// have the lanes of the edges.

@@ -3,18 +3,17 @@ ghost use Rattle.std.specs.Prelude.{◌≡◌, ℕ, All, [], length, IfOk, IfErr
 ghost use Rattle.ff_net.specs.Nodes.{pass_of};
 ghost use Rattle.ff_net.specs.Pasts.{IsIn};
 ghost use Rattle.ff_net.specs.Worlds.{Stand, fresh, lanes_of, sizes_of};
-ghost use Rattle.ff_net_links.specs.Nodes.{node_of};
-ghost use Rattle.ff_network.specs.Fits.{edge_lanes};
-ghost use Rattle.ff_network.specs.Nodes.{FitsWires, AreNewIns, AreNewOuts, IsLinked, in_edges, out_edges};
-ghost use Rattle.ff_network.specs.Tables.{NewLinks, HasNewSender, HasNewReceiver, HaveNewSenders, HaveNewReceivers};
+ghost use Rattle.ff_net_threads.specs.links.Nodes.{node_of};
+ghost use Rattle.ff_net_threads.specs.network.Fits.{edge_lanes};
+ghost use Rattle.ff_net_threads.specs.network.Nodes.{FitsWires, AreNewIns, AreNewOuts, IsLinked, in_edges, out_edges};
+ghost use Rattle.ff_net_threads.specs.network.Tables.{NewLinks, HasNewSender, HasNewReceiver, HaveNewSenders, HaveNewReceivers};
 
-use crate::tables::Tables;
-use crate::taking::{take_ins, take_outs};
-use ff_edges::{Edge, edges_into, edges_out_of};
-use ff_frame::Lane;
+use crate::links::{InEnd, Linked, OutEnd};
+use crate::network::tables::Tables;
+use crate::network::taking::{take_ins, take_outs};
 use ff_net::{Machine, Node, NodeRefused, Wires};
-use ff_net_links::{InEnd, Linked, OutEnd};
 use ff_sched::Pass;
+use ff_stream::{Edge, Lane, edges_into, edges_out_of};
 use std::alloc::{AllocError, Global};
 
 fn copy_of(lane: &Lane) -> Lane

@@ -1,26 +1,26 @@
 // Nodes on links, each in a thread of its own.
 ghost use Rattle.std.specs.Prelude.{◌≡◌, ◌<◌, ◌≤◌, ◌^◌, ◌++◌, ◌∷◌, [], ℕ, All, List, length, sum_by, true};
 ghost use Rattle.std.specs.Prelude.{vec_len, vec_capacity, IfOk, IfErr, IfSome};
-ghost use Rattle.ff_frame.specs.declared.item.Lane.{Lane};
+ghost use Rattle.ff_stream.specs.declared.item.Lane.{Lane};
 ghost use Rattle.ff_link.specs.Views.{Link};
 ghost use Rattle.ff_net.specs.Nets.{solve};
 ghost use Rattle.ff_net.specs.Pasts.{Task};
 ghost use Rattle.ff_net.specs.Serial.{parts_of};
-ghost use Rattle.ff_net_links.specs.Runs.{AllLawful, AllOf};
-ghost use Rattle.ff_net_links.specs.Settling.{AreLinked, nodes_of};
-ghost use Rattle.ff_network.specs.Fits.{ins_at, outs_at, network};
-ghost use Rattle.ff_network.specs.Networks.{Begins, Fits, AllStart, machines_in, ports_of};
-ghost use Rattle.ff_network.specs.Runs.{FirstFault, AllKept, TellsFault, MeetsNetwork, ReadsSuffice, ins_in, outs_in};
-ghost use Rattle.ff_network.specs.Scheduling.{AllPassed, AllRouted, AreLogged, Scheduled, logs_in};
+ghost use Rattle.ff_net_threads.specs.links.Runs.{AllLawful, AllOf};
+ghost use Rattle.ff_net_threads.specs.links.Settling.{AreLinked, nodes_of};
+ghost use Rattle.ff_net_threads.specs.network.Fits.{ins_at, outs_at, network};
+ghost use Rattle.ff_net_threads.specs.network.Networks.{Begins, Fits, AllStart, machines_in, ports_of};
+ghost use Rattle.ff_net_threads.specs.network.Runs.{FirstFault, AllKept, TellsFault, MeetsNetwork, ReadsSuffice, ins_in, outs_in};
+ghost use Rattle.ff_net_threads.specs.network.Scheduling.{AllPassed, AllRouted, AreLogged, Scheduled, logs_in};
 ghost use Rattle.ff_sched.specs.Passing.{IsHistory};
 ghost use Rattle.ff_sched.specs.Routes.{AreRoutes};
 
-use crate::wiring::{into_machines, wire_up};
-use ff_edges::Edge;
+use crate::links::{Linked, Room, run_threads, settle_all};
+use crate::network::wiring::{into_machines, wire_up};
 use ff_link::Claims;
 use ff_net::{Fault, Machine};
-use ff_net_links::{Linked, Room, run_threads, settle_all};
 use ff_sched::{History, Pass, Routes, SchedCell, SchedState};
+use ff_stream::Edge;
 use std::alloc::Global;
 use std::sync::Wait;
 use std::thread::Threads;

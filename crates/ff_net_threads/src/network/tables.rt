@@ -1,10 +1,9 @@
 // New links, one for each edge.
 ghost use Rattle.std.specs.Prelude.{◌≡◌, ◌≤◌, Some, IfOk};
-ghost use Rattle.ff_network.specs.Tables.{AreEnds, AreTables};
+ghost use Rattle.ff_net_threads.specs.network.Tables.{AreEnds, AreTables};
 
-use ff_edges::Edge;
-use ff_frame::Lane;
 use ff_link::{Claims, Receiver, Sender, link_claiming};
+use ff_stream::{Edge, Lane};
 use std::alloc::{AllocError, Global};
 
 /// The ends of links, by the numbers of the edges.

@@ -2,11 +2,11 @@
 ghost use Rattle.std.specs.Prelude.{◌≡◌, ◌<◌, ◌≤◌, ℕ, [], length, slice_index_or, vec_capacity, Option, Some};
 ghost use Rattle.ff_net.specs.Nodes.{AreApart};
 ghost use Rattle.ff_net.specs.Pasts.{IsIn};
-ghost use Rattle.ff_network.specs.Nodes.{AreNewIns, AreNewOuts};
-ghost use Rattle.ff_network.specs.Tables.{NewLinks, HasNewSender, HasNewReceiver, HaveNewSenders, HaveNewReceivers};
+ghost use Rattle.ff_net_threads.specs.network.Nodes.{AreNewIns, AreNewOuts};
+ghost use Rattle.ff_net_threads.specs.network.Tables.{NewLinks, HasNewSender, HasNewReceiver, HaveNewSenders, HaveNewReceivers};
 
+use crate::links::{InEnd, OutEnd};
 use ff_link::{Receiver, Sender};
-use ff_net_links::{InEnd, OutEnd};
 
 // The end at a place of a table, which has none there afterwards.
 fn take_end<T: Drop>(table: &mut Vec<Option<T>>, number: usize) -> T

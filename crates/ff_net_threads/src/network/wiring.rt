@@ -2,16 +2,16 @@
 ghost use Rattle.std.specs.Prelude.{◌≡◌, ◌≤◌, ◌<◌, ◌+◌, ◌^◌, [], ◌∷◌, ◌++◌, length, vec_capacity, IfOk, IfErr};
 ghost use Rattle.std.specs.Vec.Iter.{into_iter_items};
 ghost use Rattle.ff_sched.specs.Passing.{IsFirst};
-ghost use Rattle.ff_network.specs.Networks.{Fits, AreWiredUp, machines_in};
-ghost use Rattle.ff_network.specs.Scheduling.{AreSeated};
+ghost use Rattle.ff_net_threads.specs.network.Networks.{Fits, AreWiredUp, machines_in};
+ghost use Rattle.ff_net_threads.specs.network.Scheduling.{AreSeated};
 
-use crate::node::wire_node;
-use crate::tables::{Tables, link_all};
-use ff_edges::Edge;
+use crate::links::Linked;
+use crate::network::node::wire_node;
+use crate::network::tables::{Tables, link_all};
 use ff_link::Claims;
 use ff_net::Machine;
-use ff_net_links::Linked;
 use ff_sched::{Pass, SchedCell};
+use ff_stream::Edge;
 use std::alloc::Global;
 use std::vec::IntoIter;
 

@@ -1,24 +1,24 @@
 -- A decoder and an encoder of any codec: a line for each.
 use Rattle.std.specs.Prelude.{Option}
-use Rattle.ff_values.specs.declared.packet.Pkt.{Pkt}
-use Rattle.ff_values.specs.declared.head.StreamHead.{StreamHead}
-use Rattle.ff_values.specs.Heads.{IsSoundHead}
-use Rattle.ff_frame.specs.declared.item.Item.{Item}
-use Rattle.ff_frame.specs.declared.item.Item.TheVariants.{Packet}
-use Rattle.ff_frame.specs.Lanes.{FitsFrames, FitsPackets}
+use Rattle.ff_frame.specs.declared.packet.Pkt.{Pkt}
+use Rattle.ff_frame.specs.declared.head.StreamHead.{StreamHead}
+use Rattle.ff_frame.specs.Heads.{IsSoundHead}
+use Rattle.ff_stream.specs.declared.item.Item.{Item}
+use Rattle.ff_stream.specs.declared.item.Item.TheVariants.{Packet}
+use Rattle.ff_stream.specs.Lanes.{FitsFrames, FitsPackets}
 use Rattle.ff_pcm.specs.Frames.{HasBlocks}
 use Rattle.ff_pcm.specs.Raw.{HasFrame}
-use Rattle.ff_coders.specs.declared.any.AnyDecoder.{AnyDecoder}
-use Rattle.ff_coders.specs.declared.any.AnyDecoder.TheVariants as from
-use Rattle.ff_coders.specs.declared.any.AnyEncoder.{AnyEncoder}
-use Rattle.ff_coders.specs.declared.any.AnyEncoder.TheVariants as to
-use Rattle.ff_coders.specs.Made.{IsDecoded, IsEncoded, HasSameTimes}
-use Rattle.ff_coders.specs.Decoding.{pcm_frame, raw_frame, flac_frame}
-use Rattle.ff_coders.specs.Encoding.{coded_head, pcm_packet_of, raw_packet_of, IsSound, IsPicture, IsPictures}
-use Rattle.ff_coders.specs.Coders.{pcm_head, raw_head, flac_head, pcm_codec}
-use Rattle.ff_coders.specs.PcmLaws.{pcm_decoded, pcm_encoded, pcm_times}
-use Rattle.ff_coders.specs.RawLaws.{raw_decoded, raw_encoded, raw_times}
-use Rattle.ff_coders.specs.FlacLaws.{flac_decoded}
+use Rattle.ff_node_codec.specs.declared.codecs.any.AnyDecoder.{AnyDecoder}
+use Rattle.ff_node_codec.specs.declared.codecs.any.AnyDecoder.TheVariants as from
+use Rattle.ff_node_codec.specs.declared.codecs.any.AnyEncoder.{AnyEncoder}
+use Rattle.ff_node_codec.specs.declared.codecs.any.AnyEncoder.TheVariants as to
+use Rattle.ff_node_codec.specs.codecs.Made.{IsDecoded, IsEncoded, HasSameTimes}
+use Rattle.ff_node_codec.specs.codecs.Decoding.{pcm_frame, raw_frame, flac_frame}
+use Rattle.ff_node_codec.specs.codecs.Encoding.{coded_head, pcm_packet_of, raw_packet_of, IsSound, IsPicture, IsPictures}
+use Rattle.ff_node_codec.specs.codecs.Coders.{pcm_head, raw_head, flac_head, pcm_codec}
+use Rattle.ff_node_codec.specs.codecs.PcmLaws.{pcm_decoded, pcm_encoded, pcm_times}
+use Rattle.ff_node_codec.specs.codecs.RawLaws.{raw_decoded, raw_encoded, raw_times}
+use Rattle.ff_node_codec.specs.codecs.FlacLaws.{flac_decoded}
 
 -- ---- decoders
 

@@ -1,21 +1,21 @@
 -- What the codecs of a head make of what its lane carries: a line for each codec.
 use Rattle.std.proofs.Common.{sym, subst}
-use Rattle.ff_values.specs.declared.packet.Pkt.{Pkt}
-use Rattle.ff_values.specs.declared.head.Codec.{Codec}
-use Rattle.ff_values.specs.declared.head.Codec.TheVariants.{PcmU8, PcmS16le, PcmS24le, PcmS32le, Flac, RawVideo}
-use Rattle.ff_values.specs.declared.head.StreamHead.{StreamHead}
-use Rattle.ff_values.specs.declared.head.StreamHead.TheVariants.{Audio as AudioHead, Video as VideoHead}
-use Rattle.ff_frame.specs.declared.item.Item.{Item}
-use Rattle.ff_frame.specs.declared.item.Item.TheVariants.{Packet}
-use Rattle.ff_frame.specs.Lanes.{FitsFrames, FitsPackets}
+use Rattle.ff_frame.specs.declared.packet.Pkt.{Pkt}
+use Rattle.ff_frame.specs.declared.head.Codec.{Codec}
+use Rattle.ff_frame.specs.declared.head.Codec.TheVariants.{PcmU8, PcmS16le, PcmS24le, PcmS32le, Flac, RawVideo}
+use Rattle.ff_frame.specs.declared.head.StreamHead.{StreamHead}
+use Rattle.ff_frame.specs.declared.head.StreamHead.TheVariants.{Audio as AudioHead, Video as VideoHead}
+use Rattle.ff_stream.specs.declared.item.Item.{Item}
+use Rattle.ff_stream.specs.declared.item.Item.TheVariants.{Packet}
+use Rattle.ff_stream.specs.Lanes.{FitsFrames, FitsPackets}
 use Rattle.ff_pcm.specs.Frames.{HasBlocks}
 use Rattle.ff_pcm.specs.Raw.{HasFrame}
-use Rattle.ff_coders.specs.Made.{HasSameTimes, IsDecoded, IsEncoded}
-use Rattle.ff_coders.specs.Encoding.{IsSound, IsPicture}
-use Rattle.ff_coders.specs.Choices.{CanDecode, CanDecodeSound, CanEncode, frame_made, sound_made, packet_made}
-use Rattle.ff_coders.specs.PcmLaws.{pcm_decoded, pcm_encoded, pcm_times}
-use Rattle.ff_coders.specs.RawLaws.{raw_decoded, raw_encoded, raw_times}
-use Rattle.ff_coders.specs.FlacLaws.{flac_decoded}
+use Rattle.ff_node_codec.specs.codecs.Made.{HasSameTimes, IsDecoded, IsEncoded}
+use Rattle.ff_node_codec.specs.codecs.Encoding.{IsSound, IsPicture}
+use Rattle.ff_node_codec.specs.codecs.Choices.{CanDecode, CanDecodeSound, CanEncode, frame_made, sound_made, packet_made}
+use Rattle.ff_node_codec.specs.codecs.PcmLaws.{pcm_decoded, pcm_encoded, pcm_times}
+use Rattle.ff_node_codec.specs.codecs.RawLaws.{raw_decoded, raw_encoded, raw_times}
+use Rattle.ff_node_codec.specs.codecs.FlacLaws.{flac_decoded}
 
 abbrev pub IsSoundTaken : StreamHead → Codec → Pkt → Type 0
 IsSoundTaken head PcmU8 p = HasBlocks head p.bytes

@@ -1,17 +1,17 @@
 -- Which codecs serve a head, and what they make: a line for each codec.
 use Rattle.std.specs.Prelude.{◌≡◌, Option, None}
-use Rattle.ff_values.specs.declared.packet.Pkt.{Pkt}
-use Rattle.ff_values.specs.declared.head.StreamHead.{StreamHead}
-use Rattle.ff_values.specs.declared.head.StreamHead.TheVariants.{Audio as AudioHead, Video as VideoHead}
-use Rattle.ff_values.specs.declared.head.Codec.{Codec}
-use Rattle.ff_values.specs.declared.head.Codec.TheVariants.{PcmU8, PcmS16le, PcmS24le, PcmS32le, Flac, RawVideo}
-use Rattle.ff_values.specs.Codecs.{IsPcmCodec}
+use Rattle.ff_frame.specs.declared.packet.Pkt.{Pkt}
+use Rattle.ff_frame.specs.declared.head.StreamHead.{StreamHead}
+use Rattle.ff_frame.specs.declared.head.StreamHead.TheVariants.{Audio as AudioHead, Video as VideoHead}
+use Rattle.ff_frame.specs.declared.head.Codec.{Codec}
+use Rattle.ff_frame.specs.declared.head.Codec.TheVariants.{PcmU8, PcmS16le, PcmS24le, PcmS32le, Flac, RawVideo}
+use Rattle.ff_frame.specs.Codecs.{IsPcmCodec}
 use Rattle.ff_flac_frame.specs.Frame.{IsStream}
 use Rattle.ff_flac_dec.specs.Streams.{stream_of}
-use Rattle.ff_frame.specs.declared.item.Item.{Item}
+use Rattle.ff_stream.specs.declared.item.Item.{Item}
 use Rattle.ff_pcm.specs.Frames.{IsPcmHead}
-use Rattle.ff_coders.specs.Decoding.{pcm_frame, raw_frame, flac_frame, IsPictureHead}
-use Rattle.ff_coders.specs.Encoding.{coded_head, pcm_packet_of, raw_packet_of}
+use Rattle.ff_node_codec.specs.codecs.Decoding.{pcm_frame, raw_frame, flac_frame, IsPictureHead}
+use Rattle.ff_node_codec.specs.codecs.Encoding.{coded_head, pcm_packet_of, raw_packet_of}
 
 -- sound in this codec is decoded: FLAC of 4 to 24 bits, 1 to 8 channels and a rate of 1 to 1,048,575, or linear PCM at its codec's
 -- depth

@@ -1,10 +1,10 @@
 -- What decoders and encoders are made for.
-use Rattle.ff_values.specs.declared.head.Codec.{Codec}
-use Rattle.ff_values.specs.declared.head.StreamHead.{StreamHead}
-use Rattle.ff_coders.specs.declared.flac.FlacDecoder.{FlacDecoder}
-use Rattle.ff_coders.specs.declared.pcm.PcmDecoder.{PcmDecoder}
-use Rattle.ff_coders.specs.declared.pcm.PcmEncoder.{PcmEncoder}
-use Rattle.ff_coders.specs.declared.raw.RawDecoder.{RawDecoder}
+use Rattle.ff_frame.specs.declared.head.Codec.{Codec}
+use Rattle.ff_frame.specs.declared.head.StreamHead.{StreamHead}
+use Rattle.ff_node_codec.specs.declared.codecs.flac.FlacDecoder.{FlacDecoder}
+use Rattle.ff_node_codec.specs.declared.codecs.pcm.PcmDecoder.{PcmDecoder}
+use Rattle.ff_node_codec.specs.declared.codecs.pcm.PcmEncoder.{PcmEncoder}
+use Rattle.ff_node_codec.specs.declared.codecs.raw.RawDecoder.{RawDecoder}
 
 -- the head of the stream that is decoded
 abbrev pub pcm_head : PcmDecoder → StreamHead

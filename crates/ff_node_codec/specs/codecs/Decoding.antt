@@ -8,14 +8,14 @@ use Rattle.ff_flac_frame.specs.Frame.{Part, Frame, frame}
 use Rattle.ff_flac_dec.specs.Channels.{channels_of, decoded}
 use Rattle.ff_flac_dec.specs.Streams.{stream_of}
 use Rattle.ff_flac_dec.specs.Values.{coded_samples}
-use Rattle.ff_values.specs.declared.audio.AFrame.{AFrame}
-use Rattle.ff_values.specs.Frame.{video_frame}
-use Rattle.ff_values.specs.Video.{IsSide}
-use Rattle.ff_values.specs.declared.packet.Pkt.{Pkt}
-use Rattle.ff_values.specs.declared.head.StreamHead.{StreamHead}
-use Rattle.ff_values.specs.declared.head.StreamHead.TheVariants.{Audio as AudioHead, Video as VideoHead}
-use Rattle.ff_frame.specs.declared.item.Item.{Item}
-use Rattle.ff_frame.specs.declared.item.Item.TheVariants.{Audio, Video}
+use Rattle.ff_frame.specs.declared.audio.AFrame.{AFrame}
+use Rattle.ff_frame.specs.Frame.{video_frame}
+use Rattle.ff_frame.specs.Video.{IsSide}
+use Rattle.ff_frame.specs.declared.packet.Pkt.{Pkt}
+use Rattle.ff_frame.specs.declared.head.StreamHead.{StreamHead}
+use Rattle.ff_frame.specs.declared.head.StreamHead.TheVariants.{Audio as AudioHead, Video as VideoHead}
+use Rattle.ff_stream.specs.declared.item.Item.{Item}
+use Rattle.ff_stream.specs.declared.item.Item.TheVariants.{Audio, Video}
 use Rattle.ff_pcm.specs.Frames.{frame_of}
 
 -- a byte is a number below 256; of another number its lowest 8 bits count

@@ -6,15 +6,15 @@ use Rattle.std.proofs.lemmas.List.{drop_all}
 use Rattle.ff_bits.specs.Bits.{bits}
 use Rattle.ff_bits.specs.Reading.{Answer, Done, More, Bad}
 use Rattle.ff_bits.proofs.BitsLemmas.{length-bits}
-use Rattle.ff_values.specs.Audio.{FitsBits}
-use Rattle.ff_values.specs.Heads.{IsFrameOf}
-use Rattle.ff_values.specs.declared.audio.AFrame.{AFrame}
-use Rattle.ff_values.specs.declared.packet.Pkt.{Pkt}
-use Rattle.ff_values.specs.declared.head.StreamHead.{StreamHead}
-use Rattle.ff_values.specs.declared.head.StreamHead.TheVariants.{Audio as AudioHead, Video as VideoHead}
-use Rattle.ff_frame.specs.declared.item.Item.TheVariants.{Audio, Packet}
-use Rattle.ff_frame.specs.declared.item.Lane.TheVariants.{Frames}
-use Rattle.ff_frame.specs.Lanes.{FitsFrames, FitsPackets}
+use Rattle.ff_frame.specs.Audio.{FitsBits}
+use Rattle.ff_frame.specs.Heads.{IsFrameOf}
+use Rattle.ff_frame.specs.declared.audio.AFrame.{AFrame}
+use Rattle.ff_frame.specs.declared.packet.Pkt.{Pkt}
+use Rattle.ff_frame.specs.declared.head.StreamHead.{StreamHead}
+use Rattle.ff_frame.specs.declared.head.StreamHead.TheVariants.{Audio as AudioHead, Video as VideoHead}
+use Rattle.ff_stream.specs.declared.item.Item.TheVariants.{Audio, Packet}
+use Rattle.ff_stream.specs.declared.item.Lane.TheVariants.{Frames}
+use Rattle.ff_stream.specs.Lanes.{FitsFrames, FitsPackets}
 use Rattle.ff_flac_frame.specs.declared.stream.FlacStream.{FlacStream}
 use Rattle.ff_flac_frame.specs.declared.frame.FlacFrame.{FlacFrame}
 use Rattle.ff_flac_frame.specs.Codes.{depths}
@@ -26,8 +26,8 @@ use Rattle.ff_flac_dec.specs.Streams.{stream_of}
 use Rattle.ff_flac_frame.specs.Prediction.{AllInDepth}
 use Rattle.ff_flac_dec.specs.Values.{coded_samples}
 use Rattle.ff_flac_dec.proofs.FrameLemmas.{is_audio}
-use Rattle.ff_coders.specs.Made.{IsMadeOf, IsDecoded}
-use Rattle.ff_coders.specs.Decoding.{is_in_depth, all_in_depth, all_coded, all_channels, within_depths, IsFlacPacket, lasts, sound_if, frame_read, flac_frame}
+use Rattle.ff_node_codec.specs.codecs.Made.{IsMadeOf, IsDecoded}
+use Rattle.ff_node_codec.specs.codecs.Decoding.{is_in_depth, all_in_depth, all_coded, all_channels, within_depths, IsFlacPacket, lasts, sound_if, frame_read, flac_frame}
 
 -- ---- the tests of depth
 

@@ -1,14 +1,14 @@
 -- What codecs owe to whoever runs them.
 use Rattle.std.specs.Prelude.{◌≡◌, Option, IfSome, IsSomeAnd}
-use Rattle.ff_values.specs.declared.packet.Pkt.{Pkt}
-use Rattle.ff_values.specs.declared.head.StreamHead.{StreamHead}
-use Rattle.ff_frame.specs.declared.item.Item.{Item}
-use Rattle.ff_frame.specs.declared.item.Item.TheVariants.{Packet}
-use Rattle.ff_frame.specs.declared.item.Lane.{Lane}
-use Rattle.ff_frame.specs.declared.item.Lane.TheVariants.{Frames, Packets}
-use Rattle.ff_values.specs.Heads.{base_of_head}
-use Rattle.ff_frame.specs.Lanes.{FitsLane, StartsAfter}
-use Rattle.ff_frame.specs.Times.{HasTime, start_of, end_of}
+use Rattle.ff_frame.specs.declared.packet.Pkt.{Pkt}
+use Rattle.ff_frame.specs.declared.head.StreamHead.{StreamHead}
+use Rattle.ff_stream.specs.declared.item.Item.{Item}
+use Rattle.ff_stream.specs.declared.item.Item.TheVariants.{Packet}
+use Rattle.ff_stream.specs.declared.item.Lane.{Lane}
+use Rattle.ff_stream.specs.declared.item.Lane.TheVariants.{Frames, Packets}
+use Rattle.ff_frame.specs.Heads.{base_of_head}
+use Rattle.ff_stream.specs.Lanes.{FitsLane, StartsAfter}
+use Rattle.ff_stream.specs.Times.{HasTime, start_of, end_of}
 
 -- an item that was made of another fits its lane, and starts and ends when that does
 pub record IsMadeOf (lane : Lane) (before after : Item) : Type 0 where

@@ -3,26 +3,26 @@ use Rattle.std.specs.Prelude.{◌≡◌, ℕ, zero, suc, ◌*◌, ◌/◌, ◌%�
 use Rattle.std.proofs.Common.{sym, ap, ◌∙◌, arith, get_or}
 use Rattle.std.proofs.lemmas.List.{length-map}
 use Rattle.std.proofs.Math.Nat.{mul-div_cancel}
-use Rattle.ff_values.specs.declared.audio.AFrame.{AFrame}
-use Rattle.ff_values.specs.declared.packet.Pkt.{Pkt}
-use Rattle.ff_values.specs.declared.head.Codec.{Codec}
-use Rattle.ff_values.specs.declared.head.StreamHead.{StreamHead}
-use Rattle.ff_values.specs.declared.head.StreamHead.TheVariants.{Audio as AudioHead, Video as VideoHead}
-use Rattle.ff_frame.specs.declared.item.Item.{Item}
-use Rattle.ff_frame.specs.declared.item.Item.TheVariants.{Audio, Video, Packet, Trailer, End, Broken}
-use Rattle.ff_values.specs.PcmLaws.{pcm_packet, packet_pcm}
-use Rattle.ff_values.specs.Heads.{IsFrameOf, IsSoundHead}
-use Rattle.ff_values.specs.Codecs.{IsPcmCodec, sample_bytes, IsPcm}
-use Rattle.ff_frame.specs.Lanes.{FitsFrames, FitsPackets}
+use Rattle.ff_frame.specs.declared.audio.AFrame.{AFrame}
+use Rattle.ff_frame.specs.declared.packet.Pkt.{Pkt}
+use Rattle.ff_frame.specs.declared.head.Codec.{Codec}
+use Rattle.ff_frame.specs.declared.head.StreamHead.{StreamHead}
+use Rattle.ff_frame.specs.declared.head.StreamHead.TheVariants.{Audio as AudioHead, Video as VideoHead}
+use Rattle.ff_stream.specs.declared.item.Item.{Item}
+use Rattle.ff_stream.specs.declared.item.Item.TheVariants.{Audio, Video, Packet, Trailer, End, Broken}
+use Rattle.ff_frame.specs.PcmLaws.{pcm_packet, packet_pcm}
+use Rattle.ff_frame.specs.Heads.{IsFrameOf, IsSoundHead}
+use Rattle.ff_frame.specs.Codecs.{IsPcmCodec, sample_bytes, IsPcm}
+use Rattle.ff_stream.specs.Lanes.{FitsFrames, FitsPackets}
 use Rattle.ff_pcm.specs.Bytes.{sample_number}
 use Rattle.ff_pcm.specs.Depth.{shifted}
 use Rattle.ff_pcm.specs.Frames.{rate_of, channels_of, bits_of, codec_of, IsPcmHead, HasBlocks, frame_of}
 use Rattle.ff_pcm.specs.Samples.{StandFor, depth}
 use Rattle.ff_pcm.proofs.ByteLaws.{bytes_length}
 use Rattle.ff_pcm.proofs.SampleLaws.{all_fit, samples_stand, packet_audio, interleaved}
-use Rattle.ff_coders.specs.Made.{IsDecoded, IsEncoded, HasSameTimes}
-use Rattle.ff_coders.specs.Decoding.{octets, pcm_frame}
-use Rattle.ff_coders.specs.Encoding.{coded_head, packet_of, pcm_packet_of, IsSound}
+use Rattle.ff_node_codec.specs.codecs.Made.{IsDecoded, IsEncoded, HasSameTimes}
+use Rattle.ff_node_codec.specs.codecs.Decoding.{octets, pcm_frame}
+use Rattle.ff_node_codec.specs.codecs.Encoding.{coded_head, packet_of, pcm_packet_of, IsSound}
 
 -- ---- decoding
 

@@ -1,12 +1,12 @@
 -- Heads of linear PCM and of video: each is one in one way at most.
 use Rattle.std.specs.Coded.{Unit-prop, le_prop}
 use Rattle.std.proofs.Math.Nat.{ℕ_set}
-use Rattle.ff_values.specs.declared.head.StreamHead.{StreamHead}
-use Rattle.ff_values.specs.declared.head.StreamHead.TheVariants.{Audio, Video}
-use Rattle.ff_values.specs.Heads.{IsSoundHead}
-use Rattle.ff_values.specs.PcmLaws.{IsPcmCodec-prop}
+use Rattle.ff_frame.specs.declared.head.StreamHead.{StreamHead}
+use Rattle.ff_frame.specs.declared.head.StreamHead.TheVariants.{Audio, Video}
+use Rattle.ff_frame.specs.Heads.{IsSoundHead}
+use Rattle.ff_frame.specs.PcmLaws.{IsPcmCodec-prop}
 use Rattle.ff_pcm.specs.Frames.{codec_of, IsPcmHead}
-use Rattle.ff_coders.specs.Decoding.{IsPictureHead}
+use Rattle.ff_node_codec.specs.codecs.Decoding.{IsPictureHead}
 
 IsSoundHead-prop : (head : StreamHead) → IsProp (IsSoundHead head)
 IsSoundHead-prop (Audio base rate bits channels codec) = Unit-prop

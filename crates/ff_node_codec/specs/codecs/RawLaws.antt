@@ -1,17 +1,17 @@
 -- What raw video makes of what a lane carries.
 use Rattle.std.specs.Prelude.{refl}
 use Rattle.std.proofs.Common.{ap, ◌∙◌}
-use Rattle.ff_values.specs.declared.packet.Pkt.{Pkt}
-use Rattle.ff_values.specs.declared.head.StreamHead.{StreamHead}
-use Rattle.ff_values.specs.declared.head.StreamHead.TheVariants.{Audio as AudioHead, Video as VideoHead}
-use Rattle.ff_values.specs.Video.{frame_size, IsVideo}
-use Rattle.ff_frame.specs.declared.item.Item.{Item}
-use Rattle.ff_frame.specs.declared.item.Item.TheVariants.{Audio, Video, Packet, Trailer, End, Broken}
-use Rattle.ff_frame.specs.Lanes.{FitsFrames, FitsPackets}
+use Rattle.ff_frame.specs.declared.packet.Pkt.{Pkt}
+use Rattle.ff_frame.specs.declared.head.StreamHead.{StreamHead}
+use Rattle.ff_frame.specs.declared.head.StreamHead.TheVariants.{Audio as AudioHead, Video as VideoHead}
+use Rattle.ff_frame.specs.Video.{frame_size, IsVideo}
+use Rattle.ff_stream.specs.declared.item.Item.{Item}
+use Rattle.ff_stream.specs.declared.item.Item.TheVariants.{Audio, Video, Packet, Trailer, End, Broken}
+use Rattle.ff_stream.specs.Lanes.{FitsFrames, FitsPackets}
 use Rattle.ff_pcm.specs.Raw.{HasFrame}
-use Rattle.ff_coders.specs.Made.{IsDecoded, IsEncoded, HasSameTimes}
-use Rattle.ff_coders.specs.Decoding.{raw_frame, IsPictureHead}
-use Rattle.ff_coders.specs.Encoding.{raw_packet_of, IsPicture, IsPictures}
+use Rattle.ff_node_codec.specs.codecs.Made.{IsDecoded, IsEncoded, HasSameTimes}
+use Rattle.ff_node_codec.specs.codecs.Decoding.{raw_frame, IsPictureHead}
+use Rattle.ff_node_codec.specs.codecs.Encoding.{raw_packet_of, IsPicture, IsPictures}
 
 pub raw_decoded : (head : StreamHead) (p : Pkt) → IsPictureHead head → FitsPackets head (Packet p) → IsDecoded head p (HasFrame head p.bytes) (raw_frame head p)
 raw_decoded (AudioHead tb rate bits channels codec) p h t = absurd h

@@ -1,14 +1,14 @@
 ghost use Rattle.std.specs.Prelude.{◌≡◌};
-ghost use Rattle.ff_coders.specs.AnyCoders.{any_head, any_takes, any_frame, any_decoded, any_serves, any_coded, any_accepts, any_packet, any_encoded, any_times};
+ghost use Rattle.ff_node_codec.specs.codecs.AnyCoders.{any_head, any_takes, any_frame, any_decoded, any_serves, any_coded, any_accepts, any_packet, any_encoded, any_times};
 
-use crate::decoder::Decoder;
-use crate::encoder::Encoder;
-use crate::flac::FlacDecoder;
-use crate::pcm::{PcmDecoder, PcmEncoder};
-use crate::raw::{RawDecoder, RawEncoder};
+use crate::codecs::decoder::Decoder;
+use crate::codecs::encoder::Encoder;
+use crate::codecs::flac::FlacDecoder;
+use crate::codecs::pcm::{PcmDecoder, PcmEncoder};
+use crate::codecs::raw::{RawDecoder, RawEncoder};
 use ff_flac_dec::FrameReceiver;
-use ff_frame::Item;
-use ff_values::Pkt;
+use ff_frame::Pkt;
+use ff_stream::Item;
 
 /// The decoder of any codec that is read.
 #[derive(Drop)]

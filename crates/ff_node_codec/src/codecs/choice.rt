@@ -1,13 +1,13 @@
 // The codecs of a head.
 ghost use Rattle.std.specs.Prelude.{◌≡◌};
-ghost use Rattle.ff_coders.specs.AnyCoders.{any_head, any_frame, any_serves, any_coded, any_packet};
-ghost use Rattle.ff_coders.specs.Choices.{CanDecode, CanDecodeSound, CanEncode, frame_made, sound_made, packet_made};
+ghost use Rattle.ff_node_codec.specs.codecs.AnyCoders.{any_head, any_frame, any_serves, any_coded, any_packet};
+ghost use Rattle.ff_node_codec.specs.codecs.Choices.{CanDecode, CanDecodeSound, CanEncode, frame_made, sound_made, packet_made};
 
-use crate::any::{AnyDecoder, AnyEncoder};
-use crate::flac::FlacDecoder;
-use crate::pcm::{PcmDecoder, PcmEncoder};
-use crate::raw::{RawDecoder, RawEncoder};
-use ff_values::{Codec, StreamHead};
+use crate::codecs::any::{AnyDecoder, AnyEncoder};
+use crate::codecs::flac::FlacDecoder;
+use crate::codecs::pcm::{PcmDecoder, PcmEncoder};
+use crate::codecs::raw::{RawDecoder, RawEncoder};
+use ff_frame::{Codec, StreamHead};
 use std::alloc::Global;
 
 // The decoder of packets of sound of this head, in this codec.

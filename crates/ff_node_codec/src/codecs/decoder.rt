@@ -1,13 +1,13 @@
 ghost use Rattle.std.specs.Prelude.{◌≡◌, ◌↔◌, Option, IsTrue, IfOk, IfErr};
-ghost use Rattle.ff_values.specs.declared.head.StreamHead.{StreamHead};
-ghost use Rattle.ff_values.specs.declared.packet.Pkt.{Pkt};
-ghost use Rattle.ff_frame.specs.declared.item.Item.{Item};
-ghost use Rattle.ff_frame.specs.declared.item.Item.TheVariants.{Packet};
-ghost use Rattle.ff_frame.specs.Lanes.{FitsPackets};
-ghost use Rattle.ff_coders.specs.Made.{IsDecoded};
+ghost use Rattle.ff_frame.specs.declared.head.StreamHead.{StreamHead};
+ghost use Rattle.ff_frame.specs.declared.packet.Pkt.{Pkt};
+ghost use Rattle.ff_stream.specs.declared.item.Item.{Item};
+ghost use Rattle.ff_stream.specs.declared.item.Item.TheVariants.{Packet};
+ghost use Rattle.ff_stream.specs.Lanes.{FitsPackets};
+ghost use Rattle.ff_node_codec.specs.codecs.Made.{IsDecoded};
 
-use ff_frame::Item;
-use ff_values::Pkt;
+use ff_frame::Pkt;
+use ff_stream::Item;
 
 /// Makes a frame of each packet of a stream.
 pub trait Decoder {

@@ -1,12 +1,12 @@
 ghost use Rattle.std.specs.Prelude.{◌≡◌, ◌↔◌, Option, Some, IsTrue, IfOk, IfErr};
-ghost use Rattle.ff_values.specs.declared.head.StreamHead.{StreamHead};
-ghost use Rattle.ff_values.specs.declared.packet.Pkt.{Pkt};
-ghost use Rattle.ff_frame.specs.declared.item.Item.{Item};
-ghost use Rattle.ff_frame.specs.Lanes.{FitsFrames};
-ghost use Rattle.ff_coders.specs.Made.{HasSameTimes, IsEncoded};
+ghost use Rattle.ff_frame.specs.declared.head.StreamHead.{StreamHead};
+ghost use Rattle.ff_frame.specs.declared.packet.Pkt.{Pkt};
+ghost use Rattle.ff_stream.specs.declared.item.Item.{Item};
+ghost use Rattle.ff_stream.specs.Lanes.{FitsFrames};
+ghost use Rattle.ff_node_codec.specs.codecs.Made.{HasSameTimes, IsEncoded};
 
-use ff_frame::Item;
-use ff_values::Pkt;
+use ff_frame::Pkt;
+use ff_stream::Item;
 
 /// Makes a packet of each frame of a stream.
 pub trait Encoder {

@@ -1,20 +1,21 @@
 // FLAC.
 ghost use Rattle.std.specs.Prelude.{◌≡◌, ◌↔◌, ℕ, Some, IsTrue, IfOk, IfErr, IfSome};
-ghost use Rattle.ff_values.specs.declared.packet.Pkt.{Pkt};
-ghost use Rattle.ff_values.specs.declared.audio.AFrame.{AFrame};
-ghost use Rattle.ff_values.specs.declared.head.StreamHead.{StreamHead};
+ghost use Rattle.ff_frame.specs.declared.packet.Pkt.{Pkt};
+ghost use Rattle.ff_frame.specs.declared.audio.AFrame.{AFrame};
+ghost use Rattle.ff_frame.specs.declared.head.StreamHead.{StreamHead};
 ghost use Rattle.ff_flac_frame.specs.Frame.{IsStream};
 ghost use Rattle.ff_flac_frame.specs.Parts.{frame_of};
 ghost use Rattle.ff_flac_dec.specs.Streams.{stream_of};
-ghost use Rattle.ff_frame.specs.declared.item.Item.TheVariants.{Audio};
-ghost use Rattle.ff_coders.specs.Decoding.{flac_frame, IsFlacPacket};
-ghost use Rattle.ff_coders.specs.FlacLaws.{HoldsSound, IsFoundIn, flac_decoded};
+ghost use Rattle.ff_stream.specs.declared.item.Item.TheVariants.{Audio};
+ghost use Rattle.ff_node_codec.specs.codecs.Decoding.{flac_frame, IsFlacPacket};
+ghost use Rattle.ff_node_codec.specs.codecs.FlacLaws.{HoldsSound, IsFoundIn, flac_decoded};
 
-use crate::decoder::Decoder;
-use crate::pcm::sample_frames;
-use ff_flac_dec::{DecodeEnd, FlacFrame, FlacHead, FrameEnd, FrameReceiver, decode, frame_at};
-use ff_frame::Item;
-use ff_values::{Pkt, StreamHead};
+use crate::codecs::decoder::Decoder;
+use crate::codecs::pcm::sample_frames;
+use ff_flac_dec::{DecodeEnd, FlacHead, FrameReceiver, decode, frame_at};
+use ff_flac_frame::{FlacFrame, FrameEnd};
+use ff_frame::{Pkt, StreamHead};
+use ff_stream::Item;
 use std::alloc::{AllocError, Global};
 
 /// Decodes packets of FLAC, each of which is one frame (RFC 9639, section 9).
@@ -28,7 +29,7 @@ pub struct FlacDecoder {
 }
 
 impl FlacDecoder {
-    ghost use Rattle.ff_coders.specs.Coders.{flac_head};
+    ghost use Rattle.ff_node_codec.specs.codecs.Coders.{flac_head};
 
     /// For the packets of a stream of FLAC.
     pub fn new(alloc: Global, head: StreamHead) -> FlacDecoder
@@ -132,7 +133,7 @@ fn sound_in(
 }
 
 impl Decoder for FlacDecoder {
-    ghost use Rattle.ff_coders.specs.Coders.{flac_head};
+    ghost use Rattle.ff_node_codec.specs.codecs.Coders.{flac_head};
 
     ghost head = { flac_head };
 

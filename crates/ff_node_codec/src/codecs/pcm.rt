@@ -1,20 +1,20 @@
 // Linear PCM.
 ghost use Rattle.std.specs.Prelude.{◌≡◌, ◌↔◌, ◌*◌, ◌/◌, ◌<◌, ℕ, Some, length, pos, slice_index, IsTrue, IfOk, IfErr};
-ghost use Rattle.ff_values.specs.Audio.{IsAudio};
-ghost use Rattle.ff_values.specs.Codecs.{IsPcmCodec, sample_bytes};
-ghost use Rattle.ff_values.specs.Heads.{IsSoundHead};
-ghost use Rattle.ff_values.specs.PcmLaws.{IsPcmCodec-prop};
+ghost use Rattle.ff_frame.specs.Audio.{IsAudio};
+ghost use Rattle.ff_frame.specs.Codecs.{IsPcmCodec, sample_bytes};
+ghost use Rattle.ff_frame.specs.Heads.{IsSoundHead};
+ghost use Rattle.ff_frame.specs.PcmLaws.{IsPcmCodec-prop};
 ghost use Rattle.ff_pcm.specs.Frames.{IsPcmHead, HasBlocks, frame_of};
-ghost use Rattle.ff_coders.specs.Props.{IsPcmHead-prop};
-ghost use Rattle.ff_coders.specs.Decoding.{octets, pcm_frame};
-ghost use Rattle.ff_coders.specs.Encoding.{coded_head, packet_of, pcm_packet_of, IsSound};
-ghost use Rattle.ff_coders.specs.PcmLaws.{pcm_decoded, pcm_encoded, pcm_times};
+ghost use Rattle.ff_node_codec.specs.codecs.Props.{IsPcmHead-prop};
+ghost use Rattle.ff_node_codec.specs.codecs.Decoding.{octets, pcm_frame};
+ghost use Rattle.ff_node_codec.specs.codecs.Encoding.{coded_head, packet_of, pcm_packet_of, IsSound};
+ghost use Rattle.ff_node_codec.specs.codecs.PcmLaws.{pcm_decoded, pcm_encoded, pcm_times};
 
-use crate::decoder::Decoder;
-use crate::encoder::Encoder;
-use ff_frame::Item;
+use crate::codecs::decoder::Decoder;
+use crate::codecs::encoder::Encoder;
+use ff_frame::{AFrame, Bytes, Codec, Pkt, StreamHead};
 use ff_pcm::{depth_change, depth_of, has_blocks, is_audio, pcm_decode, pcm_encode_into, room_for};
-use ff_values::{AFrame, Bytes, Codec, Pkt, StreamHead};
+use ff_stream::Item;
 use std::alloc::{AllocError, Global};
 
 /// Decodes packets of linear PCM (RIFF WAVE, the data of PCM formats).
@@ -26,7 +26,7 @@ pub struct PcmDecoder {
 }
 
 impl PcmDecoder {
-    ghost use Rattle.ff_coders.specs.Coders.{pcm_head};
+    ghost use Rattle.ff_node_codec.specs.codecs.Coders.{pcm_head};
 
     /// For the packets of a stream of linear PCM.
     pub fn new(alloc: Global, head: StreamHead) -> PcmDecoder
@@ -55,7 +55,7 @@ fn frame(alloc: Global, head: &StreamHead, packet: &Pkt) -> Result<AFrame, Alloc
 }
 
 impl Decoder for PcmDecoder {
-    ghost use Rattle.ff_coders.specs.Coders.{pcm_head};
+    ghost use Rattle.ff_node_codec.specs.codecs.Coders.{pcm_head};
 
     ghost head = { pcm_head };
 
@@ -86,7 +86,7 @@ pub struct PcmEncoder {
 }
 
 impl PcmEncoder {
-    ghost use Rattle.ff_coders.specs.Coders.{pcm_codec};
+    ghost use Rattle.ff_node_codec.specs.codecs.Coders.{pcm_codec};
 
     /// To a codec of linear PCM.
     pub fn new(alloc: Global, codec: Codec) -> PcmEncoder
@@ -125,7 +125,7 @@ fn packet(codec: Codec, mut frame: AFrame, mut bytes: Vec<u8>) -> Pkt
 }
 
 impl Encoder for PcmEncoder {
-    ghost use Rattle.ff_coders.specs.Coders.{pcm_codec};
+    ghost use Rattle.ff_node_codec.specs.codecs.Coders.{pcm_codec};
 
     ghost serves = { λ e head. IsSoundHead head };
 

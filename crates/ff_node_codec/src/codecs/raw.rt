@@ -1,16 +1,16 @@
 // Raw video.
 ghost use Rattle.std.specs.Prelude.{◌≡◌, ◌↔◌, ◌≤◌, Some, length, IsTrue};
-ghost use Rattle.ff_values.specs.Video.{IsVideo};
+ghost use Rattle.ff_frame.specs.Video.{IsVideo};
 ghost use Rattle.ff_pcm.specs.Raw.{HasFrame};
-ghost use Rattle.ff_coders.specs.Props.{IsPictureHead-prop};
-ghost use Rattle.ff_coders.specs.Decoding.{raw_frame, IsPictureHead};
-ghost use Rattle.ff_coders.specs.Encoding.{raw_packet_of, IsPicture, IsPictures};
-ghost use Rattle.ff_coders.specs.RawLaws.{raw_decoded, raw_encoded, raw_times};
+ghost use Rattle.ff_node_codec.specs.codecs.Props.{IsPictureHead-prop};
+ghost use Rattle.ff_node_codec.specs.codecs.Decoding.{raw_frame, IsPictureHead};
+ghost use Rattle.ff_node_codec.specs.codecs.Encoding.{raw_packet_of, IsPicture, IsPictures};
+ghost use Rattle.ff_node_codec.specs.codecs.RawLaws.{raw_decoded, raw_encoded, raw_times};
 
-use crate::decoder::Decoder;
-use crate::encoder::Encoder;
-use ff_frame::Item;
-use ff_values::{Format, Pkt, StreamHead, VFrame};
+use crate::codecs::decoder::Decoder;
+use crate::codecs::encoder::Encoder;
+use ff_frame::{Format, Pkt, StreamHead, VFrame};
+use ff_stream::Item;
 
 /// Decodes packets of raw video: the bytes of each are the planes of a picture, which are moved.
 #[derive(Drop)]
@@ -20,7 +20,7 @@ pub struct RawDecoder {
 }
 
 impl RawDecoder {
-    ghost use Rattle.ff_coders.specs.Coders.{raw_head};
+    ghost use Rattle.ff_node_codec.specs.codecs.Coders.{raw_head};
 
     /// For the packets of a stream of pictures.
     pub fn new(head: StreamHead) -> RawDecoder
@@ -41,7 +41,7 @@ fn are_planes(format: Format, width: u32, height: u32, bytes: &[u8]) -> bool
 }
 
 impl Decoder for RawDecoder {
-    ghost use Rattle.ff_coders.specs.Coders.{raw_head};
+    ghost use Rattle.ff_node_codec.specs.codecs.Coders.{raw_head};
 
     ghost head = { raw_head };
 

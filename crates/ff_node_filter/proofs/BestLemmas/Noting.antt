@@ -2,22 +2,22 @@
 use Rattle.std.proofs.Common.{◌≡◌, ℕ, ℤ, Bool, Option, None, Some, List, [], ◌∷◌, ◌++◌, length, refl, ap, sym, ◌∙◌, inl, inr, append_assoc}
 use Rattle.std.specs.Prelude.{unwrap_or}
 use Rattle.ff_time.specs.Fraction.{Fraction}
-use Rattle.ff_values.specs.declared.event.Event.{Event}
-use Rattle.ff_frame.specs.declared.item.Item.{Item}
-use Rattle.ff_frame.specs.declared.item.Item.TheVariants.{Audio, Video, Packet, Trailer, End, Broken}
-use Rattle.ff_frame.specs.Items.{with_item}
-use Rattle.ff_frame.specs.Times.{end_of}
-use Rattle.ff_frame.specs.Ports.{stream_at}
+use Rattle.ff_frame.specs.declared.event.Event.{Event}
+use Rattle.ff_stream.specs.declared.item.Item.{Item}
+use Rattle.ff_stream.specs.declared.item.Item.TheVariants.{Audio, Video, Packet, Trailer, End, Broken}
+use Rattle.ff_stream.specs.Items.{with_item}
+use Rattle.ff_stream.specs.Times.{end_of}
+use Rattle.ff_stream.specs.Ports.{stream_at}
 use Rattle.ff_net.specs.Ways.{Flow, with_item_at}
 use Rattle.ff_net.specs.Pasts.{Feed}
 use Rattle.ff_net.proofs.Flows.{stream_at-with_item_same, stream_at-with_item_other, same_or_not}
-use Rattle.ff_best.specs.declared.input.Input.{Input}
-use Rattle.ff_best.specs.declared.lead.Lead.{Lead}
-use Rattle.ff_best.specs.Bests.{last_end, end_in, closed_in, is_over, base_at, earliest_to, best_of, streams_on, best_on, events_on, turned, best_after, best_events}
-use Rattle.ff_best.specs.Inputs.{bases_of, end_at, closed_at, kept_to, Keeps}
-use Rattle.ff_best.specs.Leads.{Tells, IsSame}
-use Rattle.ff_best.specs.Ends.{ends_at, end_behind, closed_behind}
-use Rattle.ff_best.proofs.Placing.{bases_long}
+use Rattle.ff_node_filter.specs.declared.best.input.Input.{Input}
+use Rattle.ff_node_filter.specs.declared.best.lead.Lead.{Lead}
+use Rattle.ff_node_filter.specs.best.Bests.{last_end, end_in, closed_in, is_over, base_at, earliest_to, best_of, streams_on, best_on, events_on, turned, best_after, best_events}
+use Rattle.ff_node_filter.specs.best.Inputs.{bases_of, end_at, closed_at, kept_to, Keeps}
+use Rattle.ff_node_filter.specs.best.Leads.{Tells, IsSame}
+use Rattle.ff_node_filter.specs.best.Ends.{ends_at, end_behind, closed_behind}
+use Rattle.ff_node_filter.proofs.BestLemmas.Placing.{bases_long}
 
 pub streams_on-more : (ss : List Flow) (fs : List Feed) (f : Feed) → streams_on ss (fs ++ f ∷ []) ≡ with_item_at (streams_on ss fs) f.port f.item
 streams_on-more ss [] f = refl

@@ -1,13 +1,13 @@
 -- The input of a number, and what stays where one is replaced.
 use Rattle.std.proofs.Common.{◌≡◌, ◌≢◌, ℕ, zero, suc, ◌<◌, Bool, true, false, cond, Option, None, Some, List, [], ◌∷◌, ◌++◌, ◌+◌, length, take, refl, ap, sym, ◌∙◌, arith, get_or, set}
 use Rattle.ff_time.specs.Fraction.{Fraction}
-use Rattle.ff_best.specs.declared.input.Input.{Input}
+use Rattle.ff_node_filter.specs.declared.best.input.Input.{Input}
 use Rattle.std.proofs.Math.Seq.{take-suc}
 use Rattle.std.proofs.lemmas.List.{map-append}
-use Rattle.ff_values.specs.declared.head.StreamHead.{StreamHead}
-use Rattle.ff_values.specs.Heads.{base_of_head}
-use Rattle.ff_best.specs.Bests.{base_at, is_earlier}
-use Rattle.ff_best.specs.Inputs.{bases_of, bases_of_heads, end_at, closed_at, kept_of, Keeps}
+use Rattle.ff_frame.specs.declared.head.StreamHead.{StreamHead}
+use Rattle.ff_frame.specs.Heads.{base_of_head}
+use Rattle.ff_node_filter.specs.best.Bests.{base_at, is_earlier}
+use Rattle.ff_node_filter.specs.best.Inputs.{bases_of, bases_of_heads, end_at, closed_at, kept_of, Keeps}
 
 pub base_there : (is : List Input) (p : ℕ) (i : Input) → p < length is → i ≡ get_or is p i → base_at (bases_of is) p ≡ i.tb
 base_there [] p i lt e = absurd (omega (arith, lt))

@@ -3,12 +3,12 @@ use Rattle.std.specs.Prelude.{ℕ, zero, suc, ◌==◌, ℤ, Bool, true, false, 
 use Rattle.std.specs.Ordering.{is_lt}
 use Rattle.ff_time.specs.Fraction.{Fraction}
 use Rattle.ff_time.specs.Rescale.{order_of}
-use Rattle.ff_values.specs.declared.event.Event.{Event}
-use Rattle.ff_values.specs.declared.event.Event.TheVariants.{Best}
-use Rattle.ff_frame.specs.declared.item.Item.{Item}
-use Rattle.ff_frame.specs.Stream.{Mark, still_open, whole, broken}
-use Rattle.ff_frame.specs.Ports.{stream_at}
-use Rattle.ff_frame.specs.Times.{end_of}
+use Rattle.ff_frame.specs.declared.event.Event.{Event}
+use Rattle.ff_frame.specs.declared.event.Event.TheVariants.{Best}
+use Rattle.ff_stream.specs.declared.item.Item.{Item}
+use Rattle.ff_stream.specs.Stream.{Mark, still_open, whole, broken}
+use Rattle.ff_stream.specs.Ports.{stream_at}
+use Rattle.ff_stream.specs.Times.{end_of}
 use Rattle.ff_net.specs.Ways.{Flow, with_item_at}
 use Rattle.ff_net.specs.Pasts.{Feed}
 

@@ -1,8 +1,8 @@
 -- When an item ends, where that has a place, and ends whose products with time bases have room.
 use Rattle.std.specs.Prelude.{◌^◌, ℤ, pos, negsuc, ◌≤ℤ◌, Bool, true, Option, None, Some}
-use Rattle.ff_frame.specs.declared.item.Item.{Item}
-use Rattle.ff_frame.specs.declared.item.Item.TheVariants.{Audio, Video, Packet, Trailer, End, Broken}
-use Rattle.ff_frame.specs.Times.{end_of}
+use Rattle.ff_stream.specs.declared.item.Item.{Item}
+use Rattle.ff_stream.specs.declared.item.Item.TheVariants.{Audio, Video, Packet, Trailer, End, Broken}
+use Rattle.ff_stream.specs.Times.{end_of}
 
 -- when an item ends; none where it closes its stream
 abbrev pub ends_at : Item → Option ℤ

@@ -1,9 +1,9 @@
 -- The feeds of the worked examples.
 use Rattle.std.specs.Prelude.{ℕ, pos, List, [], ◌∷◌}
 use Rattle.ff_time.specs.Fraction.{Fraction}
-use Rattle.ff_values.specs.declared.video.Format.TheVariants.{Mono}
-use Rattle.ff_values.specs.Frame.{video_frame}
-use Rattle.ff_frame.specs.declared.item.Item.TheVariants.{Video, End, Broken}
+use Rattle.ff_frame.specs.declared.video.Format.TheVariants.{Mono}
+use Rattle.ff_frame.specs.Frame.{video_frame}
+use Rattle.ff_stream.specs.declared.item.Item.TheVariants.{Video, End, Broken}
 use Rattle.ff_net.specs.Pasts.{Feed}
 
 -- ticks of which so many are a second

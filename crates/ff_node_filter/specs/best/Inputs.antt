@@ -1,11 +1,11 @@
 -- What is kept of the inputs: when the last item of each ends, and whether it has closed.
 use Rattle.std.specs.Prelude.{◌≡◌, ℕ, zero, suc, ℤ, Bool, false, Option, None, List, [], ◌∷◌, map}
 use Rattle.ff_time.specs.Fraction.{Fraction}
-use Rattle.ff_values.specs.declared.head.StreamHead.{StreamHead}
-use Rattle.ff_values.specs.Heads.{base_of_head}
+use Rattle.ff_frame.specs.declared.head.StreamHead.{StreamHead}
+use Rattle.ff_frame.specs.Heads.{base_of_head}
 use Rattle.ff_net.specs.Ways.{Flow}
-use Rattle.ff_best.specs.Bests.{end_in, closed_in, base_at, earlier_of, earliest_to}
-use Rattle.ff_best.specs.declared.input.Input.{Input}
+use Rattle.ff_node_filter.specs.best.Bests.{end_in, closed_in, base_at, earlier_of, earliest_to}
+use Rattle.ff_node_filter.specs.declared.best.input.Input.{Input}
 
 abbrev pub bases_of : List Input → List Fraction
 bases_of is = map (λ (i : Input). i.tb) is

@@ -1,10 +1,10 @@
 -- What the best input is among the others, and which events there are.
 use Rattle.std.specs.Prelude.{◌≡◌, ◌≢◌, ℕ, ◌<◌, Bool, true, false, List, [], ◌∷◌, length}
 use Rattle.ff_time.specs.Fraction.{Fraction}
-use Rattle.ff_values.specs.declared.event.Event.{Event}
-use Rattle.ff_values.specs.declared.event.Event.TheVariants.{Grant, Sent, Finished, Best, Exited}
+use Rattle.ff_frame.specs.declared.event.Event.{Event}
+use Rattle.ff_frame.specs.declared.event.Event.TheVariants.{Grant, Sent, Finished, Best, Exited}
 use Rattle.ff_net.specs.Ways.{Flow}
-use Rattle.ff_best.specs.Bests.{base_at, end_in, closed_in, is_earlier}
+use Rattle.ff_node_filter.specs.best.Bests.{base_at, end_in, closed_in, is_earlier}
 
 -- the last item of input p ends before that of input q, as exact times, or q has one and p has none
 abbrev pub ends_before : List Fraction → List Flow → ℕ → ℕ → Bool

@@ -1,12 +1,12 @@
 -- The laws of a machine that tells its best input, from those of the machine within.
 use Rattle.std.specs.Prelude.{◌≡◌, ℕ, List, false, None, Some, Option, is_some, IsSome}
 use Rattle.std.proofs.Common.{sym, ap, ◌∙◌}
-use Rattle.ff_values.specs.declared.event.Event.{Event}
+use Rattle.ff_frame.specs.declared.event.Event.{Event}
 use Rattle.ff_net.specs.Pasts.{Past, Feed}
 use Rattle.ff_net.specs.Views.{View}
 use Rattle.ff_net.specs.Laws.{IsPending, IsReading, Laws}
-use Rattle.ff_best.specs.declared.lead.Lead.{Lead}
-use Rattle.ff_best.specs.Views.{quiet, LeadStands, leading_view}
+use Rattle.ff_node_filter.specs.declared.best.lead.Lead.{Lead}
+use Rattle.ff_node_filter.specs.best.Views.{quiet, LeadStands, leading_view}
 
 waits_in : (n : ℕ) (past : Past) (q : ℕ) → IsPending n past q → IsPending n (quiet past) q
 waits_in n past q p = record { there = p.there; goes_on = p.goes_on; unclosed = p.unclosed }

@@ -1,11 +1,11 @@
 -- What was told of the best input, and what waits to be told.
 use Rattle.std.specs.Prelude.{◌≡◌, ℕ, List, [], ◌++◌}
 use Rattle.ff_time.specs.Fraction.{Fraction}
-use Rattle.ff_values.specs.declared.event.Event.{Event}
+use Rattle.ff_frame.specs.declared.event.Event.{Event}
 use Rattle.ff_net.specs.Pasts.{Feed}
-use Rattle.ff_best.specs.declared.lead.Lead.{Lead}
-use Rattle.ff_best.specs.Bests.{streams_on, best_after, best_events}
-use Rattle.ff_best.specs.Inputs.{bases_of, Keeps}
+use Rattle.ff_node_filter.specs.declared.best.lead.Lead.{Lead}
+use Rattle.ff_node_filter.specs.best.Bests.{streams_on, best_after, best_events}
+use Rattle.ff_node_filter.specs.best.Inputs.{bases_of, Keeps}
 
 -- After these feeds it knows the best input of this graph, whose inputs have these time bases; and what was told of it, with what
 -- waits, is all that there is to tell.

@@ -3,9 +3,9 @@ use Rattle.std.specs.Prelude.{◌≡◌, ℕ, false, List, [], length}
 use Rattle.ff_time.specs.Fraction.{Fraction}
 use Rattle.ff_net.specs.Pasts.{Past, no_events}
 use Rattle.ff_net.specs.Views.{View}
-use Rattle.ff_best.specs.declared.lead.Lead.{Lead}
-use Rattle.ff_best.specs.Bests.{best_events}
-use Rattle.ff_best.specs.Leads.{Tells}
+use Rattle.ff_node_filter.specs.declared.best.lead.Lead.{Lead}
+use Rattle.ff_node_filter.specs.best.Bests.{best_events}
+use Rattle.ff_node_filter.specs.best.Leads.{Tells}
 
 -- what is behind the machine within: it has no event to tell, and told none
 abbrev pub quiet : Past → Past

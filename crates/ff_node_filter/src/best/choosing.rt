@@ -1,8 +1,8 @@
 // Which input is the best one.
 ghost use Rattle.std.specs.Prelude.{◌≡◌, ◌<◌, ◌+◌, cond, Some, IfSome, length};
-ghost use Rattle.ff_best.specs.Inputs.{closed_at, kept_of, kept_to};
+ghost use Rattle.ff_node_filter.specs.best.Inputs.{closed_at, kept_of, kept_to};
 
-use crate::input::Input;
+use crate::best::input::Input;
 
 // Of the best among lower inputs and input p, the one that is the best.
 fn better(inputs: &[Input], best: Option<usize>, p: usize) -> Option<usize>

@@ -1,10 +1,11 @@
 ghost use Rattle.std.specs.Prelude.{◌≡◌, ◌<◌, ◌/◌, ◌^◌, pos, ◌*◌, ◌*ℤ◌, None, false, IfSome};
 ghost use Rattle.std.specs.Option.{ForSome};
-ghost use Rattle.ff_values.specs.Heads.{base_of_head};
-ghost use Rattle.ff_best.specs.Bests.{is_earlier as is_earlier_of};
-ghost use Rattle.ff_best.specs.Ends.{IsNear, ends_at, end_behind, closed_behind};
+ghost use Rattle.ff_frame.specs.Heads.{base_of_head};
+ghost use Rattle.ff_node_filter.specs.best.Bests.{is_earlier as is_earlier_of};
+ghost use Rattle.ff_node_filter.specs.best.Ends.{IsNear, ends_at, end_behind, closed_behind};
 
-use ff_frame::{Item, StreamHead};
+use ff_frame::StreamHead;
+use ff_stream::Item;
 use ff_time::Rational;
 
 /// What is known of an input.

@@ -1,16 +1,16 @@
 ghost use Rattle.std.specs.Prelude.{◌≡◌, ℕ, ◌<◌, ◌≤◌, ◌^◌, [], ◌∷◌, ◌++◌, List, unwrap_or, length, IfOk, IfSome, OnOk, Some, None};
 ghost use Rattle.std.specs.VecDeque.{deque_len, deque_capacity};
 ghost use Rattle.ff_time.specs.Fraction.{Fraction};
-ghost use Rattle.ff_frame.specs.declared.item.Item.{Item as AnItem};
-ghost use Rattle.ff_values.specs.declared.event.Event.{Event as AnEvent};
+ghost use Rattle.ff_stream.specs.declared.item.Item.{Item as AnItem};
+ghost use Rattle.ff_frame.specs.declared.event.Event.{Event as AnEvent};
 ghost use Rattle.ff_net.specs.Pasts.{Feed};
 ghost use Rattle.ff_net.specs.Ways.{Flow, with_item_at};
-ghost use Rattle.ff_best.specs.Bests.{turned};
-ghost use Rattle.ff_best.specs.Inputs.{bases_of, bases_of_heads, kept_to, Keeps};
-ghost use Rattle.ff_best.specs.Ends.{IsNear, ends_at};
+ghost use Rattle.ff_node_filter.specs.best.Bests.{turned};
+ghost use Rattle.ff_node_filter.specs.best.Inputs.{bases_of, bases_of_heads, kept_to, Keeps};
+ghost use Rattle.ff_node_filter.specs.best.Ends.{IsNear, ends_at};
 
-use crate::choosing::earliest;
-use crate::input::Input;
+use crate::best::choosing::earliest;
+use crate::best::input::Input;
 use ff_frame::{Event, StreamHead};
 use std::alloc::{AllocError, Global};
 use std::collections::VecDeque;
@@ -39,7 +39,7 @@ fn inputs_of(alloc: Global, heads: &[StreamHead]) -> Result<Vec<Input>, AllocErr
 }
 
 impl Lead {
-    ghost use Rattle.ff_best.specs.Leads.{Tells, IsSame};
+    ghost use Rattle.ff_node_filter.specs.best.Leads.{Tells, IsSame};
 
     /// Nothing came yet: input 0 is the best one.
     pub(crate) fn new(alloc: Global, graph: u32, heads: &[StreamHead]) -> Result<Lead, AllocError>

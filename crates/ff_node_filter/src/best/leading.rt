@@ -1,15 +1,16 @@
 ghost use Rattle.std.specs.Prelude.{◌≡◌, ◌≤◌, ◌^◌, map, length, None, IfOk, IfErr};
-ghost use Rattle.ff_frame.specs.declared.item.Lane.TheVariants.{Frames};
+ghost use Rattle.ff_stream.specs.declared.item.Lane.TheVariants.{Frames};
 ghost use Rattle.ff_net.specs.Pasts.{Task, Past, start, no_events};
 ghost use Rattle.ff_net.specs.Views.{IsSameShape};
-ghost use Rattle.ff_best.specs.Bests.{best_events};
-ghost use Rattle.ff_best.specs.Inputs.{bases_of_heads};
-ghost use Rattle.ff_best.specs.Laws.{last_named};
+ghost use Rattle.ff_node_filter.specs.best.Bests.{best_events};
+ghost use Rattle.ff_node_filter.specs.best.Inputs.{bases_of_heads};
+ghost use Rattle.ff_node_filter.specs.best.Laws.{last_named};
 
-use crate::input::end_of_item;
-use crate::lead::Lead;
-use ff_frame::{Event, Item, Refused, StreamHead, Ticket};
+use crate::best::input::end_of_item;
+use crate::best::lead::Lead;
+use ff_frame::{Event, StreamHead, Ticket};
 use ff_net::{Fault, Machine};
+use ff_stream::{Item, Refused};
 use std::alloc::{AllocError, Global};
 
 /// A machine that besides tells which of its inputs is the best one, each time that it has become another. What the machine
@@ -23,7 +24,7 @@ pub struct Leading<M: Machine> {
 }
 
 impl<M: Machine + Drop> Leading<M> {
-    ghost use Rattle.ff_best.specs.Leaders.{leading_shown};
+    ghost use Rattle.ff_node_filter.specs.best.Leaders.{leading_shown};
 
     /// A machine that is no source and to which nothing was done, as that of the graph of this number, whose inputs carry frames of
     /// these heads. For want of memory it comes back.
@@ -54,8 +55,8 @@ impl<M: Machine + Drop> Leading<M> {
 }
 
 impl<M: Machine + Drop> Machine for Leading<M> {
-    ghost use Rattle.ff_best.specs.Leaders.{leading_shown};
-    ghost use Rattle.ff_best.specs.LeadLaws.{leading_laws};
+    ghost use Rattle.ff_node_filter.specs.best.Leaders.{leading_shown};
+    ghost use Rattle.ff_node_filter.specs.best.LeadLaws.{leading_laws};
 
     ghost view = { leading_shown };
 

@@ -8,13 +8,13 @@ use Rattle.std.specs.Ordering.{ordering_reverse}
 use mathlib.Core.List.{IsPrefix}
 use Rattle.ff_time.specs.Fraction.{Fraction}
 use Rattle.ff_time.specs.Rescale.{order_of}
-use Rattle.ff_values.specs.declared.packet.Pkt.{Pkt}
-use Rattle.ff_frame.specs.Stream.{whole, Stream, LiesBelow}
-use Rattle.ff_interleave.specs.Merges.{Placed, is_sooner, is_whole, is_some, placed, has, put_among, merged, merge_to, decided, interleaved}
-use Rattle.ff_interleave.specs.MergeLaws.{has-above, go_on_from}
-use Rattle.ff_interleave.specs.Orders.{GoesAfter, StartsAfter, InOrder, put_packet, of_stream, AllBelow}
-use Rattle.ff_interleave.specs.Fronts.{head_of, first_to}
-use Rattle.ff_interleave.proofs.Fronting.{tail_of, tail_if, without, nexts, IsLed, led, first-same, AreKnown, interleaved-step, interleaved-unknown}
+use Rattle.ff_frame.specs.declared.packet.Pkt.{Pkt}
+use Rattle.ff_stream.specs.Stream.{whole, Stream, LiesBelow}
+use Rattle.ff_node_mux.specs.merge.Merges.{Placed, is_sooner, is_whole, is_some, placed, has, put_among, merged, merge_to, decided, interleaved}
+use Rattle.ff_node_mux.specs.merge.MergeLaws.{has-above, go_on_from}
+use Rattle.ff_node_mux.specs.merge.Orders.{GoesAfter, StartsAfter, InOrder, put_packet, of_stream, AllBelow}
+use Rattle.ff_node_mux.specs.merge.Fronts.{head_of, first_to}
+use Rattle.ff_node_mux.specs.merge.Fronting.{tail_of, tail_if, without, nexts, IsLed, led, first-same, AreKnown, interleaved-step, interleaved-unknown}
 
 by_cond : (b : Bool) (q : ℕ) (xs ys : List Placed) (ps : List Pkt) → of_stream q xs ≡ ps → of_stream q ys ≡ ps → of_stream q (cond b xs ys) ≡ ps
 by_cond true q xs ys ps h k = h

@@ -1,9 +1,9 @@
 -- When placed packets stand in order, and which of them are of one stream.
 use Rattle.std.specs.Prelude.{◌≡◌, ℕ, ◌<◌, ◌⊎◌, ◌==◌, Bool, true, false, List, [], ◌∷◌}
 use Rattle.ff_time.specs.Fraction.{Fraction}
-use Rattle.ff_values.specs.declared.packet.Pkt.{Pkt}
-use Rattle.ff_frame.specs.Stream.{Stream, LiesBelow}
-use Rattle.ff_interleave.specs.Merges.{Placed, is_sooner}
+use Rattle.ff_frame.specs.declared.packet.Pkt.{Pkt}
+use Rattle.ff_stream.specs.Stream.{Stream, LiesBelow}
+use Rattle.ff_node_mux.specs.merge.Merges.{Placed, is_sooner}
 
 -- y goes after x: it isn't sooner; and it is later, or of a higher stream
 abbrev pub GoesAfter : (ℕ → Fraction) → Placed → Placed → Type 0

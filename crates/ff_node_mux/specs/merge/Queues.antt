@@ -1,16 +1,16 @@
 -- How the machine that interleaves is seen: what it still gives for what is still to come; and what each call does to that.
 use Rattle.std.specs.Prelude.{◌≡◌, ◌≢◌, ℕ, zero, suc, ◌<◌, Bool, false, ◌||◌, List, [], ◌∷◌, ◌++◌, map, length}
 use Rattle.ff_time.specs.Fraction.{Fraction}
-use Rattle.ff_values.specs.declared.packet.Pkt.{Pkt}
-use Rattle.ff_frame.specs.declared.item.Item.{Item}
-use Rattle.ff_frame.specs.Stream.{Stream}
+use Rattle.ff_frame.specs.declared.packet.Pkt.{Pkt}
+use Rattle.ff_stream.specs.declared.item.Item.{Item}
+use Rattle.ff_stream.specs.Stream.{Stream}
 use Rattle.ff_filter.specs.declared.after.After.{After}
 use Rattle.ff_filter.specs.declared.after.After.TheVariants.{More}
 use Rattle.ff_filter.specs.Joins.{Flow, Ports, silence, before_at}
 use Rattle.ff_filter.specs.Made.{behind, is_over}
 use Rattle.ff_filter.specs.Views.{closes}
-use Rattle.ff_interleave.specs.declared.queue.PacketQueue.{PacketQueue}
-use Rattle.ff_interleave.specs.Merges.{Placed, packets_in, interleaved}
+use Rattle.ff_node_mux.specs.declared.merge.queue.PacketQueue.{PacketQueue}
+use Rattle.ff_node_mux.specs.merge.Merges.{Placed, packets_in, interleaved}
 
 -- what waits of a stream, and how it stands behind that
 pub record Waiting : Type 0 where

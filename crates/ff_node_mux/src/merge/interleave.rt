@@ -1,10 +1,11 @@
 ghost use Rattle.std.specs.Prelude.{◌≡◌, ◌<◌, ◌^◌, ◌+◌, length, false, true, IfOk, OnOk, OnErr, IfErr, Ok, Some, None};
-ghost use Rattle.ff_interleave.specs.Merges.{Placed};
-ghost use Rattle.ff_interleave.specs.Fronts.{IsFirst, known_to};
-ghost use Rattle.ff_interleave.specs.Queues.{merging, IsNew, Same, Fed, Gave, Waits};
+ghost use Rattle.ff_node_mux.specs.merge.Merges.{Placed};
+ghost use Rattle.ff_node_mux.specs.merge.Fronts.{IsFirst, known_to};
+ghost use Rattle.ff_node_mux.specs.merge.Queues.{merging, IsNew, Same, Fed, Gave, Waits};
 
-use crate::queue::PacketQueue;
-use ff_frame::{Item, Pkt, Refused};
+use crate::merge::queue::PacketQueue;
+use ff_frame::Pkt;
+use ff_stream::{Item, Refused};
 use ff_time::Rational;
 use std::alloc::{AllocError, Global};
 

@@ -1,19 +1,19 @@
 -- What the sink of a muxer holds, and what was told, by the heads of the output's streams.
 use Rattle.std.proofs.Common.{◌≡◌, ℕ, zero, suc, ◌+◌, ◌<◌, Bool, cond, List, [], ◌∷◌, filter, length, map, slice_get, Option, Some, None, refl, sym, ap, ◌∙◌, arith}
 use Rattle.std.specs.List.{range_with_len}
-use Rattle.ff_values.specs.Heads.{base_of_head}
-use Rattle.ff_values.specs.declared.event.Event.{Event}
-use Rattle.ff_values.specs.declared.event.Event.TheVariants.{Grant, Sent, Finished, Best, Exited}
-use Rattle.ff_values.specs.declared.head.StreamHead.{StreamHead}
-use Rattle.ff_values.specs.declared.totals.Totals.{Totals}
-use Rattle.ff_frame.specs.Ports.{stream_at}
-use Rattle.ff_interleave.specs.Queues.{base_at}
-use Rattle.ff_muxing.specs.Mixing.{bases_long, mixed_alike, totals_alike}
-use Rattle.ff_muxing.specs.Muxing.{file, file_for, head_bases, mixed, text_for, totals_in, unpatched}
-use Rattle.ff_muxing.specs.StreamEvents.{events_of, is_event_of}
+use Rattle.ff_frame.specs.Heads.{base_of_head}
+use Rattle.ff_frame.specs.declared.event.Event.{Event}
+use Rattle.ff_frame.specs.declared.event.Event.TheVariants.{Grant, Sent, Finished, Best, Exited}
+use Rattle.ff_frame.specs.declared.head.StreamHead.{StreamHead}
+use Rattle.ff_frame.specs.declared.totals.Totals.{Totals}
+use Rattle.ff_stream.specs.Ports.{stream_at}
+use Rattle.ff_node_mux.specs.merge.Queues.{base_at}
+use Rattle.ff_node_mux.specs.Mixing.{bases_long, mixed_alike, totals_alike}
+use Rattle.ff_node_mux.specs.Muxing.{file, file_for, head_bases, mixed, text_for, totals_in, unpatched}
+use Rattle.ff_node_mux.specs.StreamEvents.{events_of, is_event_of}
 use Rattle.ff_net.specs.Ways.{Flow}
-use Rattle.ff_running.specs.Kinds.{first_streams, is_of_stream}
-use Rattle.ff_writers.specs.Layouts.{Layout}
+use Rattle.ff_run_plan.specs.Kinds.{first_streams, is_of_stream}
+use Rattle.ff_mux.specs.writers.Layouts.{Layout}
 
 -- ---- the first so many streams
 

@@ -3,25 +3,25 @@ use Rattle.std.specs.Prelude.{◌≡◌, ℕ, ◌+◌, ◌<◌, ◌≤◌, Bool,
 use Rattle.std.proofs.Common.{arith, subst}
 use Rattle.std.proofs.lemmas.Bool.Decides.{nat_tests}
 use Rattle.std.proofs.lemmas.List.Elements.{All-head, All-tail, All-nil, All-cons}
-use Rattle.ff_values.specs.Heads.{base_of_head}
-use Rattle.ff_values.specs.declared.head.StreamHead.{StreamHead}
-use Rattle.ff_values.specs.declared.event.Event.{Event}
-use Rattle.ff_values.specs.declared.event.Event.TheVariants.{Grant, Sent, Finished, Best, Exited}
+use Rattle.ff_frame.specs.Heads.{base_of_head}
+use Rattle.ff_frame.specs.declared.head.StreamHead.{StreamHead}
+use Rattle.ff_frame.specs.declared.event.Event.{Event}
+use Rattle.ff_frame.specs.declared.event.Event.TheVariants.{Grant, Sent, Finished, Best, Exited}
 use Rattle.ff_net.specs.Pasts.{Feed}
 use Rattle.ff_net.specs.Ways.{Flow}
-use Rattle.ff_muxing.specs.Mixing.{bases_long}
-use Rattle.ff_muxing.specs.Muxing.{head_bases}
-use Rattle.ff_muxing.specs.Telling.{IsAmong, IsOfStreams, mux_tells}
-use Rattle.ff_muxing.proofs.StreamTells.{something_told}
-use Rattle.ff_muxing.proofs.TellSteps.{all_of_streams}
-use Rattle.ff_best.specs.Bests.{best_events}
-use Rattle.ff_best.specs.Inputs.{bases_of_heads}
-use Rattle.ff_best.specs.Laws.{AreTurns, IsBestOf}
-use Rattle.ff_best.proofs.Namings.{events_named, events_turn}
-use Rattle.ff_shortest.specs.JointTask.{joint_task}
-use Rattle.ff_running.specs.Events.{is_among, is_of_streams, ChangeBest, TellOfThemselves}
+use Rattle.ff_node_mux.specs.Mixing.{bases_long}
+use Rattle.ff_node_mux.specs.Muxing.{head_bases}
+use Rattle.ff_node_mux.specs.Telling.{IsAmong, IsOfStreams, mux_tells}
+use Rattle.ff_node_mux.proofs.StreamTells.{something_told}
+use Rattle.ff_node_mux.proofs.TellSteps.{all_of_streams}
+use Rattle.ff_node_filter.specs.best.Bests.{best_events}
+use Rattle.ff_node_filter.specs.best.Inputs.{bases_of_heads}
+use Rattle.ff_node_filter.specs.best.Laws.{AreTurns, IsBestOf}
+use Rattle.ff_node_filter.proofs.BestLemmas.Namings.{events_named, events_turn}
+use Rattle.ff_node_sync.specs.JointTask.{joint_task}
+use Rattle.ff_run_plan.specs.Events.{is_among, is_of_streams, ChangeBest, TellOfThemselves}
 use Rattle.ff_words.specs.declared.job.OutputJob.{OutputJob}
-use Rattle.ff_build.specs.Parts.{all_kinds, enc_task_to, is_flac_coded}
+use Rattle.ff_run.specs.build.Parts.{all_kinds, enc_task_to, is_flac_coded}
 
 among : (first count j : ℕ) → first ≤ j → j < first + count → is_among first count j ≡ true
 among first count j low high = grind (arith, nat_tests)

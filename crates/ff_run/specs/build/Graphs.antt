@@ -3,18 +3,18 @@ use Rattle.std.specs.Prelude.{◌≡◌, ℕ, ◌≤◌, Bool, true, false, if�
 use Rattle.std.proofs.Common.{sym, ap, ◌∙◌, subst}
 use Rattle.std.proofs.lemmas.List.{length-map}
 use Rattle.ff_lang.specs.declared.graph.Graph.{Graph}
-use Rattle.ff_values.specs.declared.head.StreamHead.{StreamHead}
+use Rattle.ff_frame.specs.declared.head.StreamHead.{StreamHead}
 use Rattle.ff_graph.specs.Configured as of_graph
 use Rattle.ff_graph.specs.Opens as pads
-use Rattle.ff_composed.specs.Cuts.{all_given, graph_outs, outs_or_none}
+use Rattle.ff_graph.specs.composed.Cuts.{all_given, graph_outs, outs_or_none}
 use Rattle.ff_plan.specs.declared.open_pads.OpenOut.{OpenOut}
 use Rattle.ff_plan.specs.declared.open_pads.Refused.{Refused}
-use Rattle.ff_limited.specs.Cuts.{AreTimed}
-use Rattle.ff_rules.specs.Kept.{AreFitHeads}
-use Rattle.ff_rules.proofs.Keeping.{keep_heads}
-use Rattle.ff_rules.specs.Rules.{configured, input_as, output_as, outputs_as}
-use Rattle.ff_running.specs.Kinds.{GraphsAreHad}
-use Rattle.ff_build.specs.Parts.{all_kinds}
+use Rattle.ff_filters.specs.limited.Cuts.{AreTimed}
+use Rattle.ff_plan_rules.specs.Kept.{AreFitHeads}
+use Rattle.ff_plan_rules.proofs.Keeping.{keep_heads}
+use Rattle.ff_plan_rules.specs.Rules.{configured, input_as, output_as, outputs_as}
+use Rattle.ff_run_plan.specs.Kinds.{GraphsAreHad}
+use Rattle.ff_run.specs.build.Parts.{all_kinds}
 
 same_heads : (os : List of_graph.OpenOut) → map (λ (out : OpenOut). out.head) (map output_as os) ≡ map (λ o. o.head) os
 same_heads [] = refl

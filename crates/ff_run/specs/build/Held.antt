@@ -1,14 +1,14 @@
 -- What is held of an output's streams is held of longer ones.
 use Rattle.std.specs.Prelude.{ℕ, List, map, Option}
-use Rattle.ff_values.specs.declared.head.StreamHead.{StreamHead}
-use Rattle.ff_frame.specs.Ports.{AllBelow}
-use Rattle.ff_frame.specs.Stream.{opened}
-use Rattle.ff_muxing.specs.Held.{HoldsPart, held_parts_stay}
-use Rattle.ff_muxing.specs.Muxing.{head_bases}
-use Rattle.ff_muxing.specs.Outputs.{layout_of}
+use Rattle.ff_frame.specs.declared.head.StreamHead.{StreamHead}
+use Rattle.ff_stream.specs.Ports.{AllBelow}
+use Rattle.ff_stream.specs.Stream.{opened}
+use Rattle.ff_node_mux.specs.Held.{HoldsPart, held_parts_stay}
+use Rattle.ff_node_mux.specs.Muxing.{head_bases}
+use Rattle.ff_node_mux.specs.Outputs.{layout_of}
 use Rattle.ff_net.specs.Ways.{Flow}
 use Rattle.ff_words.specs.declared.job.OutputJob.{OutputJob}
-use Rattle.ff_build.specs.Parts.{all_kinds}
+use Rattle.ff_run.specs.build.Parts.{all_kinds}
 
 pub parts_are_held : (out : OutputJob) (coded : List StreamHead) (held : Option (List ℕ)) (rs ss : List Flow) → AllBelow (map opened rs) ss
     → HoldsPart held (all_kinds.text out coded rs) (all_kinds.file out coded rs) → HoldsPart held (all_kinds.text out coded ss) (all_kinds.file out coded ss)

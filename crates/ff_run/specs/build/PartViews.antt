@@ -1,15 +1,15 @@
 -- A part is one of the machines. What a source has left, its name and its failures are passed in.
 use Rattle.std.specs.Prelude.{ℕ, List, Option}
-use Rattle.ff_coders.specs.AnyCoders.{any_head, any_frame, any_serves, any_coded, any_packet}
+use Rattle.ff_node_codec.specs.codecs.AnyCoders.{any_head, any_frame, any_serves, any_coded, any_packet}
 use Rattle.ff_host.specs.declared.sink.Sink.{Ghosts as SinkGhosts}
 use Rattle.ff_net.specs.Views.{View}
-use Rattle.ff_demuxing.specs.DemuxViews.{demux_view}
-use Rattle.ff_coding.specs.Kinds.{dec_view, enc_view}
-use Rattle.ff_flac_coder.specs.Machines as flac
-use Rattle.ff_muxing.specs.Kinds.{mux_view}
-use Rattle.ff_build.specs.Throughs.{through_shown}
-use Rattle.ff_build.specs.declared.part.Part.{Part}
-use Rattle.ff_build.specs.declared.part.Part.TheVariants as part
+use Rattle.ff_node_demux.specs.DemuxViews.{demux_view}
+use Rattle.ff_node_codec.specs.Kinds.{dec_view, enc_view}
+use Rattle.ff_node_flac.specs.Machines as flac
+use Rattle.ff_node_mux.specs.Kinds.{mux_view}
+use Rattle.ff_run.specs.build.Throughs.{through_shown}
+use Rattle.ff_run.specs.declared.build.part.Part.{Part}
+use Rattle.ff_run.specs.declared.build.part.Part.TheVariants as part
 
 -- what a part shows to contracts: what its kind shows
 abbrev pub part_view : {S K : Type 0} {G : SinkGhosts K} → (S → Option (List ℕ)) → (S → Option (List ℕ)) → (S → ℕ) → Part S K G → View

@@ -1,33 +1,33 @@
 -- What the nodes of a plan are there for, by the definitions of formats and codecs.
 use Rattle.std.specs.Prelude.{◌≡◌, ℕ, ◌≤◌, Bool, true, false, List, length, map}
 use Rattle.ff_time.specs.declared.cut.TimeCut.{TimeCut}
-use Rattle.ff_values.specs.Heads.{base_of_head}
-use Rattle.ff_values.specs.declared.head.Codec.{Codec}
-use Rattle.ff_values.specs.declared.head.Codec.TheVariants as codec
-use Rattle.ff_values.specs.declared.head.StreamHead.{StreamHead}
-use Rattle.ff_values.specs.declared.head.StreamHead.TheVariants.{Audio, Video}
-use Rattle.ff_best.specs.Bests.{best_events}
-use Rattle.ff_best.specs.Inputs.{bases_of_heads}
-use Rattle.ff_coders.specs.Choices.{CanDecode, CanEncode, frame_made, packet_made}
-use Rattle.ff_coding.specs.Decoding.{dec_task}
-use Rattle.ff_coding.specs.Encoding.{enc_task}
-use Rattle.ff_labels.specs.Clear.{IsClear}
-use Rattle.ff_composed.specs.Cuts.{graph_outs, graph_task}
-use Rattle.ff_cuts.specs.AnyCutters.{any_cutter}
-use Rattle.ff_demuxing.specs.Demuxing.{demux_task}
-use Rattle.ff_flac_coder.specs.Coding.{CanCode, coded_head, flac_task}
+use Rattle.ff_frame.specs.Heads.{base_of_head}
+use Rattle.ff_frame.specs.declared.head.Codec.{Codec}
+use Rattle.ff_frame.specs.declared.head.Codec.TheVariants as codec
+use Rattle.ff_frame.specs.declared.head.StreamHead.{StreamHead}
+use Rattle.ff_frame.specs.declared.head.StreamHead.TheVariants.{Audio, Video}
+use Rattle.ff_node_filter.specs.best.Bests.{best_events}
+use Rattle.ff_node_filter.specs.best.Inputs.{bases_of_heads}
+use Rattle.ff_node_codec.specs.codecs.Choices.{CanDecode, CanEncode, frame_made, packet_made}
+use Rattle.ff_node_codec.specs.Decoding.{dec_task}
+use Rattle.ff_node_codec.specs.Encoding.{enc_task}
+use Rattle.ff_graph_links.specs.labels.Clear.{IsClear}
+use Rattle.ff_graph.specs.composed.Cuts.{graph_outs, graph_task}
+use Rattle.ff_input.specs.packets.AnyCutters.{any_cutter}
+use Rattle.ff_node_demux.specs.Demuxing.{demux_task}
+use Rattle.ff_node_flac.specs.Coding.{CanCode, coded_head, flac_task}
 use Rattle.ff_graph.specs.Opens.{open_ins}
-use Rattle.ff_heads.specs.declared.head.InputHead.{InputHead}
-use Rattle.ff_heads.specs.Heads.{IsHead, stream_in}
+use Rattle.ff_input.specs.declared.heads.head.InputHead.{InputHead}
+use Rattle.ff_input.specs.heads.Heads.{IsHead, stream_in}
 use Rattle.ff_lang.specs.declared.graph.Graph.{Graph}
-use Rattle.ff_muxing.specs.Muxing.{mux_task, unpatched, file, head_bases}
-use Rattle.ff_muxing.specs.Outputs.{CanWrite, layout_of}
-use Rattle.ff_muxing.specs.StreamEvents.{stream_events}
+use Rattle.ff_node_mux.specs.Muxing.{mux_task, unpatched, file, head_bases}
+use Rattle.ff_node_mux.specs.Outputs.{CanWrite, layout_of}
+use Rattle.ff_node_mux.specs.StreamEvents.{stream_events}
 use Rattle.ff_net.specs.Pasts.{Task}
-use Rattle.ff_rules.specs.Kept.{IsFitHead, AreFitHeads}
-use Rattle.ff_rules.specs.Rules.{graph_rules}
-use Rattle.ff_running.specs.Kinds.{KindsOf}
-use Rattle.ff_shortest.specs.JointTask.{joint_task}
+use Rattle.ff_plan_rules.specs.Kept.{IsFitHead, AreFitHeads}
+use Rattle.ff_plan_rules.specs.Rules.{graph_rules}
+use Rattle.ff_run_plan.specs.Kinds.{KindsOf}
+use Rattle.ff_node_sync.specs.JointTask.{joint_task}
 use Rattle.ff_words.specs.declared.job.OutputJob.{OutputJob}
 
 abbrev pub is_flac : Codec → Bool

@@ -5,22 +5,22 @@ use Rattle.std.proofs.Common.{arith, subst, sym}
 use Rattle.std.proofs.lemmas.Bool.Decides.{nat_tests}
 use Rattle.std.proofs.lemmas.List.{length-map}
 use Rattle.ff_time.specs.Fraction.{Fraction, IsBase, IsBase-unit}
-use Rattle.ff_values.specs.Codecs.{IsPcmCodec}
-use Rattle.ff_values.specs.declared.head.Codec.{Codec}
-use Rattle.ff_values.specs.declared.head.Codec.TheVariants as codec
-use Rattle.ff_values.specs.declared.head.StreamHead.{StreamHead}
-use Rattle.ff_values.specs.declared.head.StreamHead.TheVariants.{Audio, Video}
-use Rattle.ff_coders.specs.Choices.{CanDecode, CanDecodeSound}
+use Rattle.ff_frame.specs.Codecs.{IsPcmCodec}
+use Rattle.ff_frame.specs.declared.head.Codec.{Codec}
+use Rattle.ff_frame.specs.declared.head.Codec.TheVariants as codec
+use Rattle.ff_frame.specs.declared.head.StreamHead.{StreamHead}
+use Rattle.ff_frame.specs.declared.head.StreamHead.TheVariants.{Audio, Video}
+use Rattle.ff_node_codec.specs.codecs.Choices.{CanDecode, CanDecodeSound}
 use Rattle.ff_flac_dec.specs.Streams.{IsFlacHead, stream_of}
 use Rattle.ff_flac_frame.specs.Frame.{IsStream}
-use Rattle.ff_heads.specs.Heads.{IsHead, stream_in}
-use Rattle.ff_rules.specs.Kept.{IsFitHead}
-use Rattle.ff_values.specs.Heads.{base_of_head}
-use Rattle.ff_heads.specs.declared.head.InputHead.{InputHead}
-use Rattle.ff_heads.specs.declared.head.InputHead.TheVariants.{Wav, Y4m, Flac}
+use Rattle.ff_input.specs.heads.Heads.{IsHead, stream_in}
+use Rattle.ff_plan_rules.specs.Kept.{IsFitHead}
+use Rattle.ff_frame.specs.Heads.{base_of_head}
+use Rattle.ff_input.specs.declared.heads.head.InputHead.{InputHead}
+use Rattle.ff_input.specs.declared.heads.head.InputHead.TheVariants.{Wav, Y4m, Flac}
 use Rattle.ff_map.specs.declared.map.Kind.TheVariants as kind
 use Rattle.ff_mux.specs.FlacHead.{HasRoom}
-use Rattle.ff_muxing.specs.Outputs.{CanWrite}
+use Rattle.ff_node_mux.specs.Outputs.{CanWrite}
 use Rattle.ff_pcm.specs.Frames.{IsPcmHead}
 use Rattle.ff_plan.specs.Streams.{audio_codec, is_pcm, most_streams, packed_as, packed_bits, takes_head, takes_kind, takes_sound}
 use Rattle.ff_wav.specs.Packets as wav
@@ -28,7 +28,7 @@ use Rattle.ff_words.specs.declared.job.FileFormat.{FileFormat}
 use Rattle.ff_words.specs.declared.job.FileFormat.TheVariants as format
 use Rattle.ff_words.specs.declared.job.OutputJob.{OutputJob}
 use Rattle.ff_y4m.specs.Packets as y4m
-use Rattle.ff_build.specs.Parts.{CanEncodeTo, is_flac, is_flac_coded}
+use Rattle.ff_run.specs.build.Parts.{CanEncodeTo, is_flac, is_flac_coded}
 
 pcm_decodes : (head : StreamHead) (c : Codec) → IsPcmCodec c → IsPcmHead head → CanDecodeSound head c
 pcm_decodes head codec.PcmU8 p h = h

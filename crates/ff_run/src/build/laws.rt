@@ -1,6 +1,6 @@
 // What follows of the definitions alone.
-ghost use Rattle.ff_build.specs.Parts.{all_kinds};
-ghost use Rattle.ff_running.specs.Events.{PlansTellAlone, TellOfThemselves};
+ghost use Rattle.ff_run.specs.build.Parts.{all_kinds};
+ghost use Rattle.ff_run_plan.specs.Events.{PlansTellAlone, TellOfThemselves};
 
 /// Each node of a plan tells of itself alone: a demuxer that its input has exited, a muxer of its output stream, and no other anything.
 /// So in a plan the events of an output stream are those of one muxer, and that an input has exited is told by one demuxer.

@@ -1,19 +1,18 @@
 // A part of any kind, as one machine.
-use crate::through::Through;
-use ff_best::Leading;
-use ff_coders::{AnyDecoder, AnyEncoder};
-use ff_coding::{Dec, Enc};
-use ff_composed::CutGraph;
-use ff_cuts::AnyCut;
-use ff_demuxing::Demux;
-use ff_flac_coder::{FlacEnc, InOrder};
-use ff_frame::{Event, Item, Refused, Ticket};
+use crate::build::through::Through;
+use ff_frame::{Event, Ticket};
+use ff_graph::CutGraph;
 use ff_host::{Sink, Source};
-use ff_muxing::Mux;
+use ff_input::AnyCut;
+use ff_mux::AnyWriter;
 use ff_net::{Fault, Machine};
-use ff_net_filter::Alone;
-use ff_shortest::Joint;
-use ff_writers::AnyWriter;
+use ff_node_codec::{AnyDecoder, AnyEncoder, Dec, Enc};
+use ff_node_demux::Demux;
+use ff_node_filter::{Alone, Leading};
+use ff_node_flac::{FlacEnc, InOrder};
+use ff_node_mux::Mux;
+use ff_node_sync::Joint;
+use ff_stream::{Item, Refused};
 use std::alloc::AllocError;
 
 /// A part of a run. Each kind is a machine of its own; together they are one, so that a network can hold them side by
@@ -37,17 +36,17 @@ pub enum Part<Src: Source + Drop, Snk: Sink + Drop> {
 }
 
 impl<Src: Source + Drop, Snk: Sink + Drop> Machine for Part<Src, Snk> {
-    ghost use Rattle.ff_build.specs.PartViews.{part_view};
-    ghost use Rattle.ff_build.specs.declared.part.Part.TheVariants as part;
-    ghost use Rattle.ff_coders.specs.AnyCoders.{any_head, any_frame, any_serves, any_coded, any_packet};
-    ghost use Rattle.ff_demuxing.specs.AnyShapes.{any_shaped};
-    ghost use Rattle.ff_demuxing.specs.DemuxViews.{demux_laws};
-    ghost use Rattle.ff_coding.specs.Kinds.{dec_laws, enc_laws};
-    ghost use Rattle.ff_flac_coder.specs.Machines as flac;
-    ghost use Rattle.ff_muxing.specs.Kinds.{mux_laws};
-    ghost use Rattle.ff_best.specs.LeadLaws.{leading_laws};
-    ghost use Rattle.ff_composed.specs.Machines.{graph_laws};
-    ghost use Rattle.ff_shortest.specs.Joints.{joint_laws};
+    ghost use Rattle.ff_run.specs.build.PartViews.{part_view};
+    ghost use Rattle.ff_run.specs.declared.build.part.Part.TheVariants as part;
+    ghost use Rattle.ff_node_codec.specs.codecs.AnyCoders.{any_head, any_frame, any_serves, any_coded, any_packet};
+    ghost use Rattle.ff_node_demux.specs.AnyShapes.{any_shaped};
+    ghost use Rattle.ff_node_demux.specs.DemuxViews.{demux_laws};
+    ghost use Rattle.ff_node_codec.specs.Kinds.{dec_laws, enc_laws};
+    ghost use Rattle.ff_node_flac.specs.Machines as flac;
+    ghost use Rattle.ff_node_mux.specs.Kinds.{mux_laws};
+    ghost use Rattle.ff_node_filter.specs.best.LeadLaws.{leading_laws};
+    ghost use Rattle.ff_graph.specs.composed.Machines.{graph_laws};
+    ghost use Rattle.ff_node_sync.specs.Joints.{joint_laws};
 
     ghost view = { part_view Src.left Src.name Src.faults };
 

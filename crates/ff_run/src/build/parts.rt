@@ -1,27 +1,25 @@
 // The kinds of node, built.
 ghost use Rattle.std.specs.Prelude.{◌≡◌, false};
-ghost use Rattle.ff_build.specs.Parts.{is_flac as flac_is, is_flac_coded as flac_is_coded};
+ghost use Rattle.ff_run.specs.build.Parts.{is_flac as flac_is, is_flac_coded as flac_is_coded};
 
-use crate::part::Part;
-use crate::through::Through;
-use ff_best::Leading;
-use ff_coders::{AnyDecoder, decoder_of, encoder_of};
-use ff_coding::{Dec, Enc};
-use ff_composed::graph_machine;
-use ff_cuts::AnyCut;
-use ff_demuxing::Demux;
-use ff_flac_coder::{FlacEnc, InOrder};
+use crate::build::part::Part;
+use crate::build::through::Through;
 use ff_flac_dec::frame_channel;
-use ff_heads::InputHead;
+use ff_frame::{Codec, StreamHead};
+use ff_graph::graph_machine;
 use ff_host::{Sink, Source};
+use ff_input::{AnyCut, InputHead};
 use ff_lang::Graph;
-use ff_muxing::{Mux, writer_of};
+use ff_node_codec::{AnyDecoder, Dec, Enc, decoder_of, encoder_of};
+use ff_node_demux::Demux;
+use ff_node_filter::Leading;
+use ff_node_flac::{FlacEnc, InOrder};
+use ff_node_mux::{Mux, writer_of};
+use ff_node_sync::joint_machine;
 use ff_plan::{Plan, PlanError, plan};
-use ff_rules::GraphRules;
-use ff_running::{Ends, Kinds};
-use ff_shortest::joint_machine;
+use ff_plan_rules::GraphRules;
+use ff_run_plan::{Ends, Kinds};
 use ff_time::TimeCut;
-use ff_values::{Codec, StreamHead};
 use ff_words::{Job, OutputJob};
 use std::alloc::{AllocError, Global};
 
@@ -72,13 +70,13 @@ fn share_frames<Src: Source + Drop>(
 pub struct Parts;
 
 impl<Src: Source + Send + Drop, Snk: Sink + Send + Drop> Kinds<Src, Snk, Part<Src, Snk>> for Parts {
-    ghost use Rattle.ff_build.specs.Events.{parts_tell_of_themselves};
-    ghost use Rattle.ff_build.specs.Graphs.{graphs_are_had};
-    ghost use Rattle.ff_build.specs.Held.{parts_are_held};
-    ghost use Rattle.ff_build.specs.Parts.{all_kinds};
-    ghost use Rattle.ff_rules.proofs.Holds.{are_rules};
-    ghost use Rattle.ff_rules.proofs.Keeping.{keep_heads};
-    ghost use Rattle.ff_build.specs.Takes.{heads_decode, heads_fit, heads_encode, heads_are_written};
+    ghost use Rattle.ff_run.specs.build.Events.{parts_tell_of_themselves};
+    ghost use Rattle.ff_run.specs.build.Graphs.{graphs_are_had};
+    ghost use Rattle.ff_run.specs.build.Held.{parts_are_held};
+    ghost use Rattle.ff_run.specs.build.Parts.{all_kinds};
+    ghost use Rattle.ff_plan_rules.proofs.Holds.{are_rules};
+    ghost use Rattle.ff_plan_rules.proofs.Keeping.{keep_heads};
+    ghost use Rattle.ff_run.specs.build.Takes.{heads_decode, heads_fit, heads_encode, heads_are_written};
 
     type Head = InputHead;
 

@@ -1,8 +1,9 @@
 // Machines in the middle of a plan.
 ghost use Rattle.std.specs.Prelude.{◌≡◌, ◌⊎◌, [], IfSome, IsNone};
 
-use ff_frame::{Event, Item, Refused, Ticket};
+use ff_frame::{Event, Ticket};
 use ff_net::{Fault, Machine};
+use ff_stream::{Item, Refused};
 use std::alloc::AllocError;
 
 /// A machine with an input and an output, so that it is neither a source of a plan nor a sink.
@@ -28,7 +29,7 @@ impl<M: Machine + Drop> Through<M> {
 }
 
 impl<M: Machine + Drop> Machine for Through<M> {
-    ghost use Rattle.ff_build.specs.Throughs.{through_shown};
+    ghost use Rattle.ff_run.specs.build.Throughs.{through_shown};
 
     ghost view = { through_shown };
 

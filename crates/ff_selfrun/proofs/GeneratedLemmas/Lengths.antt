@@ -1,9 +1,9 @@
 -- How long the sound is, and its whole file.
 use Rattle.std.proofs.Common.{◌≡◌, ℕ, zero, suc, ◌*◌, ◌%◌, ◌==◌, ℤ, if◌then◌else◌, List, [], ◌∷◌, ◌++◌, length, refl, sym, ap, ◌∙◌, arith, length-append, append-nil}
-use Rattle.ff_values.specs.declared.head.StreamHead.{StreamHead}
+use Rattle.ff_frame.specs.declared.head.StreamHead.{StreamHead}
 use Rattle.ff_wav.specs.Header.{header_of}
 use Rattle.ff_wav.specs.Written.{file_of, pad_of}
-use Rattle.ff_generated.specs.Generated.{sample, sample_bytes, sound, sound_head, generated_wav}
+use Rattle.ff_selfrun.specs.generated.Generated.{sample, sample_bytes, sound, sound_head, generated_wav}
 
 two : (x : ℤ) → length (sample_bytes x) ≡ 2
 two x = refl

@@ -1,6 +1,6 @@
 // Time bases.
 ghost use Rattle.std.specs.Prelude.{◌≡◌, ◌<◌, ◌^◌};
-ghost use Rattle.ff_generated.specs.Generated.{part_of_a_second};
+ghost use Rattle.ff_selfrun.specs.generated.Generated.{part_of_a_second};
 
 use ff_time::Rational;
 

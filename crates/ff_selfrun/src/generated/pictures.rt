@@ -1,10 +1,10 @@
 // The pictures.
 ghost use Rattle.std.specs.Prelude.{◌≡◌, ◌≤◌, ◌<◌, ◌++◌, IfOk, OnOk};
 ghost use Rattle.ff_y4m.specs.Header.{frame_line};
-ghost use Rattle.ff_generated.specs.Generated.{generated_y4m, picture_head, pictures, planes};
+ghost use Rattle.ff_selfrun.specs.generated.Generated.{generated_y4m, picture_head, pictures, planes};
 
-use crate::base::part_of_second;
-use ff_values::{Format, StreamHead};
+use crate::generated::base::part_of_second;
+use ff_frame::{Format, StreamHead};
 use ff_y4m::y4m_header;
 use std::alloc::{AllocError, Global};
 
@@ -25,7 +25,7 @@ fn head() -> StreamHead
 }
 
 // Adds the planes of a picture.
-#[tactic(auto, unfolding(crate::specs::Generated::planes))]
+#[tactic(auto, unfolding(crate::specs::generated::Generated::planes))]
 fn push_planes(out: &mut Vec<u8>, number: u32) -> Result<(), AllocError>
     requires { number < 90000 }
     ensures { OnOk result (out.new.items ≡ out.old.items ++ planes number) }

@@ -1,9 +1,9 @@
 // The sound.
 ghost use Rattle.std.specs.Prelude.{◌≡◌, ◌≤◌, ◌<◌, ◌++◌, ◌*◌, ◌+◌, IfOk, OnOk};
-ghost use Rattle.ff_generated.specs.Generated.{generated_wav, sample, sample_bytes, sound, sound_head};
+ghost use Rattle.ff_selfrun.specs.generated.Generated.{generated_wav, sample, sample_bytes, sound, sound_head};
 
-use crate::base::part_of_second;
-use ff_values::{Codec, StreamHead};
+use crate::generated::base::part_of_second;
+use ff_frame::{Codec, StreamHead};
 use ff_wav::WavPut;
 use std::alloc::{AllocError, Global};
 

@@ -2,7 +2,7 @@
 use Rattle.std.proofs.Common.{◌≡◌, ℕ, ◌<◌, ◌≤◌, Bool, true, false, List, [], ◌∷◌, length, get_or, refl, sym, ap, ◌∙◌, arith}
 use Rattle.std.specs.List.{position_or_len}
 use Rattle.std.proofs.lemmas.List.Sums.{position_or_len_is}
-use Rattle.ff_edges.specs.declared.edge.Edge.{Edge}
+use Rattle.ff_stream.specs.declared.edges.edge.Edge.{Edge}
 
 -- none before it passes, and it does
 pub first_is : (p : Edge → Bool) (edges : List Edge) (k : ℕ) (e : Edge) → k < length edges → e ≡ get_or edges k e → p e ≡ true → ((j : ℕ) (d : Edge) → j < k → p (get_or edges j d) ≡ false) → k ≡ position_or_len p edges

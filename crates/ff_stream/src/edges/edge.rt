@@ -1,7 +1,7 @@
 ghost use Rattle.std.specs.Prelude.{◌≡◌};
-ghost use Rattle.ff_edges.specs.Ports.{leads_to, leaves};
+ghost use Rattle.ff_stream.specs.edges.Ports.{leads_to, leaves};
 
-use ff_frame::Lane;
+use crate::Lane;
 
 /// From an output of a node to an input of another. Nodes and ports have numbers from 0.
 #[derive(Debug, Drop)]

@@ -1,8 +1,8 @@
 // The edges at the ports of a node.
 ghost use Rattle.std.specs.Prelude.{◌≡◌, IfOk};
-ghost use Rattle.ff_edges.specs.Ports.{edge_to, edge_from, at_ports};
+ghost use Rattle.ff_stream.specs.edges.Ports.{edge_to, edge_from, at_ports};
 
-use crate::edge::Edge;
+use crate::edges::edge::Edge;
 use std::alloc::{AllocError, Global};
 
 // The number of the edge at an input, and the number of all edges where there is none.

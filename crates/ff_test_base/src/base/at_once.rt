@@ -3,8 +3,8 @@ ghost use Rattle.std.specs.Prelude.{IfSome};
 ghost use Rattle.ff_flac_enc.specs.Frame.{IsBlock};
 
 use ff_flac_enc::{Gate, NoGate, encode_blocks};
+use ff_frame::{AFrame, Bytes, Samples};
 use ff_pcm::is_audio;
-use ff_values::{AFrame, Bytes, Samples};
 use std::alloc::{AllocError, Global};
 use std::sync::atomic::{AtomicBool, Ordering};
 use std::test::Fail;

@@ -1,11 +1,11 @@
 // Frames whose samples count up, as blocks.
 ghost use Rattle.std.specs.Prelude.{◌≡◌, ◌≤◌, false, Some, None, All, length, IfOk, OnOk};
-ghost use Rattle.ff_values.specs.Audio.{FitsBits, IsAudio};
+ghost use Rattle.ff_frame.specs.Audio.{FitsBits, IsAudio};
 ghost use Rattle.ff_flac_enc.specs.Gathered.{format_of};
 ghost use Rattle.ff_flac_enc.specs.Cuts.{IsLike, has_ended, format_in};
 
 use ff_flac_enc::Blocks;
-use ff_values::{AFrame, Samples};
+use ff_frame::{AFrame, Samples};
 use std::alloc::{AllocError, Global};
 
 // When the first frame starts.

@@ -1,7 +1,7 @@
 ghost use Rattle.std.specs.Prelude.{◌≡◌, List, ℕ};
 
-use ff_file_host::FileHost;
 use ff_host::{Failed, Host, HostError, Sink, SinkError, Source};
+use ff_host_file::FileHost;
 use std::alloc::{AllocError, Global};
 use std::test::Fail;
 use std::time::SystemTime;

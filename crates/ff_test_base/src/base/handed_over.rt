@@ -1,7 +1,7 @@
 // Frames that go from a cut to a decoder.
-use ff_cut::PacketCut;
 use ff_flac_dec::{FlacCut, FlacHead, FrameReceiver, frame_channel, read_head};
-use ff_values::{Cut, Pkt};
+use ff_frame::{Cut, Pkt};
+use ff_reader::PacketCut;
 use std::test::Fail;
 
 // The head of a stream of one channel of 8 bits at 8,000 Hz, and a frame of the samples 97, 98 and 99.

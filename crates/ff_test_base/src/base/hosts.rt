@@ -1,9 +1,9 @@
 ghost use Rattle.std.specs.Prelude.{◌≡◌};
 
 use ff_host::{
-    Begun, Failed, Host, HostError, Marks, Sink, SinkError, Source, make_room, marks_of, set_marks,
+    Begun, FailAt, Failed, Host, HostCall, HostError, Marks, MemHost, QuietHost, QuietSource, Sink,
+    SinkError, Source, make_room, marks_of, set_marks,
 };
-use ff_memory_host::{FailAt, HostCall, MemHost, QuietHost, QuietSource};
 use std::alloc::{AllocError, Global};
 use std::collections::BTreeMap;
 use std::str;

@@ -1,7 +1,6 @@
 ghost use Rattle.std.specs.Prelude.{◌≡◌};
 
-use ff_host::{Failed, Host, Source};
-use ff_memory_host::{MeetHost, MeetSource};
+use ff_host::{Failed, Host, MeetHost, MeetSource, Source};
 use std::alloc::{AllocError, Global};
 use std::thread::{Threads, join};
 

@@ -1,17 +1,16 @@
 ghost use Rattle.std.specs.Prelude.{IfSome};
-ghost use Rattle.ff_values.specs.Heads.{IsPcmCoded};
+ghost use Rattle.ff_frame.specs.Heads.{IsPcmCoded};
 ghost use Rattle.ff_mux.specs.FlacHead.{CanHold};
 ghost use Rattle.ff_y4m.specs.Header.{IsVideoHead};
 
-use ff_frame::{Event, Item, Ticket};
-use ff_host::{Host, Sink};
-use ff_memory_host::{FailAt, HostCall, MemHost, MemSink};
-use ff_muxing::{Mux, writer_of};
+use ff_frame::{Bytes, Codec, Event, Format, HashKind, Pkt, StreamHead, Ticket, Totals};
+use ff_host::{FailAt, Host, HostCall, MemHost, MemSink, Sink};
+use ff_mux::{AnyWriter, Writer};
 use ff_net::{Fault, Machine};
+use ff_node_mux::{Mux, writer_of};
+use ff_stream::Item;
 use ff_time::Rational;
-use ff_values::{Bytes, Codec, Format, HashKind, Pkt, StreamHead, Totals};
 use ff_words::FileFormat;
-use ff_writers::{AnyWriter, Writer};
 use std::alloc::{AllocError, Global};
 
 type OutMux = Mux<MemSink, AnyWriter>;

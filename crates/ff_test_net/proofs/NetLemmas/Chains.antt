@@ -1,12 +1,12 @@
 -- New nodes are lawful.
 use Rattle.std.proofs.Common.{◌≡◌, true, ℕ, zero, suc, ◌<◌, ◌≤◌, ◌^◌, List, [], ◌∷◌, length, map, slice_index_or, replicate, refl, ap, sym, subst, ◌∙◌, arith, inl, inr, Some}
-use Rattle.ff_frame.specs.declared.item.Lane.{Lane}
-use Rattle.ff_frame.specs.declared.item.Item.{Item}
-use Rattle.ff_frame.specs.Lanes.{IsValid}
-use Rattle.ff_frame.specs.Stream.{whole_stream}
+use Rattle.ff_stream.specs.declared.item.Lane.{Lane}
+use Rattle.ff_stream.specs.declared.item.Item.{Item}
+use Rattle.ff_stream.specs.Lanes.{IsValid}
+use Rattle.ff_stream.specs.Stream.{whole_stream}
 use Rattle.ff_time.specs.Fraction.{Fraction}
-use Rattle.ff_net_plain.specs.Packets.{IsWhole, byte_lane, byte_packets}
-use Rattle.ff_net_plain.proofs.Stream.{valid}
+use Rattle.ff_test_machines.specs.Packets.{IsWhole, byte_lane, byte_packets}
+use Rattle.ff_test_machines.proofs.Stream.{valid}
 use Rattle.ff_link.specs.Views.{Link, Sending, Receiving}
 use Rattle.ff_net.specs.declared.node.Node.{Node}
 use Rattle.ff_net.specs.declared.wires.Wires.{Wires}
@@ -15,23 +15,23 @@ use Rattle.ff_net.specs.Ways.{lane_at}
 use Rattle.ff_net.specs.Worlds.{Stand, fresh, lanes_of}
 use Rattle.ff_net.specs.Nodes.{NodeStands, HaveLanes, IsOf, in_wires_of, out_wires_of, machine_of}
 use Rattle.ff_sched.specs.Passing.{Scheduler}
-use Rattle.ff_net_links.specs.declared.ends.InEnd.{InEnd}
-use Rattle.ff_net_links.specs.declared.ends.OutEnd.{OutEnd}
-use Rattle.ff_net_links.specs.declared.linked.Linked.{Linked}
-use Rattle.ff_net_links.specs.Ends.{in_link, out_link, in_end_at, new_in, new_out}
-use Rattle.ff_net_links.specs.Nodes.{Behind, IsBeginning, node_of, lanes_on, ins_of, outs_of}
-use Rattle.ff_net_links.specs.Runs.{AllLawful, AllOf, AllRan}
-use Rattle.ff_net_links.proofs.After.{linked_after}
-use Rattle.ff_net_plain.specs.declared.plain.Plain.{Plain}
-use Rattle.ff_net_plain.specs.declared.plain.Plain.TheVariants.{Source, Relay}
-use Rattle.ff_net_plain.specs.declared.source.Source.{Source as SourceOf}
-use Rattle.ff_net_plain.specs.declared.relay.Relay.{Relay as RelayOf}
-use Rattle.ff_net_plain.specs.Starts.{list_task, relay_task, source_stands, relay_stands}
-use Rattle.ff_net_plain.specs.Trials.{source_outs, relay_ins, relay_outs}
-use Rattle.ff_net_plain.specs.Networks.{Fits}
-use Rattle.ff_net_plain.specs.Plains.{plain_view}
-use Rattle.ff_net_plain.proofs.Networks.{have, fits_shaped, no_wires, one_wire}
-use Rattle.ff_net_tests.specs.Chains.{IsNewSender, IsNewReceiver, IsNewMachine, AreNewEnds, IsNewNode, IsChain, sink_task, chain_tasks, chain_ins, chain_outs}
+use Rattle.ff_net_threads.specs.declared.links.ends.InEnd.{InEnd}
+use Rattle.ff_net_threads.specs.declared.links.ends.OutEnd.{OutEnd}
+use Rattle.ff_net_threads.specs.declared.links.linked.Linked.{Linked}
+use Rattle.ff_net_threads.specs.links.Ends.{in_link, out_link, in_end_at, new_in, new_out}
+use Rattle.ff_net_threads.specs.links.Nodes.{Behind, IsBeginning, node_of, lanes_on, ins_of, outs_of}
+use Rattle.ff_net_threads.specs.links.Runs.{AllLawful, AllOf, AllRan}
+use Rattle.ff_net_threads.proofs.LinksLemmas.After.{linked_after}
+use Rattle.ff_test_machines.specs.declared.plain.Plain.{Plain}
+use Rattle.ff_test_machines.specs.declared.plain.Plain.TheVariants.{Source, Relay}
+use Rattle.ff_test_machines.specs.declared.source.Source.{Source as SourceOf}
+use Rattle.ff_test_machines.specs.declared.relay.Relay.{Relay as RelayOf}
+use Rattle.ff_test_machines.specs.Starts.{list_task, relay_task, source_stands, relay_stands}
+use Rattle.ff_test_machines.specs.Trials.{source_outs, relay_ins, relay_outs}
+use Rattle.ff_test_machines.specs.Networks.{Fits}
+use Rattle.ff_test_machines.specs.Plains.{plain_view}
+use Rattle.ff_test_machines.proofs.Networks.{have, fits_shaped, no_wires, one_wire}
+use Rattle.ff_test_net.specs.net.Chains.{IsNewSender, IsNewReceiver, IsNewMachine, AreNewEnds, IsNewNode, IsChain, sink_task, chain_tasks, chain_ins, chain_outs}
 
 abbrev two : Lane → List Lane
 two lane = lane ∷ lane ∷ []

@@ -1,8 +1,8 @@
 -- What the sink of a chain was fed.
 use Rattle.std.proofs.Common.{◌≡◌, ℕ, zero, suc, ◌<◌, ◌≤◌, List, [], ◌∷◌, ◌++◌, length, slice_index_or, ap, sym, subst, ◌∙◌, arith, inl, inr}
-use Rattle.ff_frame.specs.declared.item.Lane.{Lane}
-use Rattle.ff_frame.specs.Stream.{whole_stream}
-use Rattle.ff_net_plain.specs.Packets.{byte_packets}
+use Rattle.ff_stream.specs.declared.item.Lane.{Lane}
+use Rattle.ff_stream.specs.Stream.{whole_stream}
+use Rattle.ff_test_machines.specs.Packets.{byte_packets}
 use Rattle.ff_net.specs.declared.node.Node.{Node}
 use Rattle.ff_net.specs.declared.ports.InPort.{InPort}
 use Rattle.ff_net.specs.Nets.{Part, IsUpward, solve}
@@ -13,15 +13,15 @@ use Rattle.ff_net.specs.Theorem.{AllFare, MeetsSolution}
 use Rattle.ff_net.specs.Worlds.{Wire}
 use Rattle.ff_net.proofs.Moments.{fault_self}
 use Rattle.ff_net.specs.Nodes.{IsSound, machine_of, outputs_of, in_wires_of, out_wires_of}
-use Rattle.ff_net_links.specs.declared.linked.Linked.{Linked}
-use Rattle.ff_net_links.specs.Nodes.{node_of}
-use Rattle.ff_net_links.specs.Settling.{AllBehind, AllEnded, AreMeeting, IsInOf, IsOutOf, nodes_of}
-use Rattle.ff_net_links.proofs.Linking.{count_map}
-use Rattle.ff_net_plain.specs.declared.plain.Plain.{Plain}
-use Rattle.ff_net_plain.specs.Plains.{plain_view}
-use Rattle.ff_net_plain.specs.Relays.{stopped_at}
-use Rattle.ff_net_tests.specs.Chains.{IsChain, AllSound, WasFed, chain_tasks}
-use Rattle.ff_net_tests.proofs.Chains.{apart_0_1}
+use Rattle.ff_net_threads.specs.declared.links.linked.Linked.{Linked}
+use Rattle.ff_net_threads.specs.links.Nodes.{node_of}
+use Rattle.ff_net_threads.specs.links.Settling.{AllBehind, AllEnded, AreMeeting, IsInOf, IsOutOf, nodes_of}
+use Rattle.ff_net_threads.proofs.LinksLemmas.Linking.{count_map}
+use Rattle.ff_test_machines.specs.declared.plain.Plain.{Plain}
+use Rattle.ff_test_machines.specs.Plains.{plain_view}
+use Rattle.ff_test_machines.specs.Relays.{stopped_at}
+use Rattle.ff_test_net.specs.net.Chains.{IsChain, AllSound, WasFed, chain_tasks}
+use Rattle.ff_test_net.proofs.NetLemmas.Chains.{apart_0_1}
 
 abbrev part : Task → List Lane → List Lane → List ℕ → List ℕ → Part
 part task ls ls' ws vs = record { means = task.means; in_lanes = ls; out_lanes = ls'; ins = ws; outs = vs }

@@ -1,18 +1,18 @@
 -- The five fit their edges.
 use Rattle.std.proofs.Common.{◌≡◌, ℕ, zero, suc, ◌<◌, List, [], ◌∷◌, length, map, slice_index_or, Some, refl, ap, sym, ◌∙◌, subst, arith}
 use Rattle.std.proofs.lemmas.List.{length-map}
-use Rattle.ff_frame.specs.declared.item.Lane.{Lane}
-use Rattle.ff_edges.specs.declared.edge.Edge.{Edge}
-use Rattle.ff_edges.specs.Ports.{edge_to, edge_from, at_ports}
+use Rattle.ff_stream.specs.declared.item.Lane.{Lane}
+use Rattle.ff_stream.specs.declared.edges.edge.Edge.{Edge}
+use Rattle.ff_stream.specs.edges.Ports.{edge_to, edge_from, at_ports}
 use Rattle.ff_net.specs.Views.{View}
 use Rattle.ff_net.specs.Ways.{lane_at}
-use Rattle.ff_net_plain.specs.declared.plain.Plain.{Plain}
-use Rattle.ff_net_plain.specs.Plains.{IsBelow, plain_view}
+use Rattle.ff_test_machines.specs.declared.plain.Plain.{Plain}
+use Rattle.ff_test_machines.specs.Plains.{IsBelow, plain_view}
 use Rattle.ff_sched.specs.declared.routes.Routes.{Routes}
-use Rattle.ff_network.specs.Fits.{Ports, AreFit, edge_lanes}
-use Rattle.ff_network.specs.Networks.{Fits, lanes_at, ports_of}
-use Rattle.ff_network.specs.Scheduling.{AllRouted}
-use Rattle.ff_network_tests.specs.Five.{HasPorts, IsOneSource, AreFive, five_ins, five_outs, five_edges}
+use Rattle.ff_net_threads.specs.network.Fits.{Ports, AreFit, edge_lanes}
+use Rattle.ff_net_threads.specs.network.Networks.{Fits, lanes_at, ports_of}
+use Rattle.ff_net_threads.specs.network.Scheduling.{AllRouted}
+use Rattle.ff_test_net.specs.network.Five.{HasPorts, IsOneSource, AreFive, five_ins, five_outs, five_edges}
 
 -- ports by lists of lanes
 abbrev listed : List (List Lane) → List (List Lane) → Ports

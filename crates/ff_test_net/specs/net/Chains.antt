@@ -1,23 +1,23 @@
 -- Nodes over new links.
 use Rattle.std.specs.Prelude.{◌≡◌, true, ℕ, zero, suc, ◌<◌, List, [], ◌∷◌, length, map, slice_index_or, Some, None, Option}
-use Rattle.ff_frame.specs.declared.item.Lane.{Lane}
-use Rattle.ff_frame.specs.Ports.{stream_at}
-use Rattle.ff_frame.specs.Stream.{whole_stream}
-use Rattle.ff_net_plain.specs.Packets.{byte_packets}
+use Rattle.ff_stream.specs.declared.item.Lane.{Lane}
+use Rattle.ff_stream.specs.Ports.{stream_at}
+use Rattle.ff_stream.specs.Stream.{whole_stream}
+use Rattle.ff_test_machines.specs.Packets.{byte_packets}
 use Rattle.ff_link.specs.Views.{Link, Sending, Receiving}
 use Rattle.ff_net.specs.Pasts.{Past, Task, IsIn, start}
 use Rattle.ff_net.specs.Nodes.{AreApart, IsSound, in_wires_of, out_wires_of}
 use Rattle.ff_net.specs.Ways.{lane_at}
-use Rattle.ff_net_links.specs.declared.ends.InEnd.{InEnd}
-use Rattle.ff_net_links.specs.declared.ends.OutEnd.{OutEnd}
-use Rattle.ff_net_links.specs.declared.linked.Linked.{Linked}
-use Rattle.ff_net_links.specs.Ends.{in_end_at, new_in, new_out}
-use Rattle.ff_net_links.specs.Nodes.{Behind, in_ends_wires, out_ends_wires, node_of, lanes_on, ins_of, outs_of}
-use Rattle.ff_net_links.specs.Settling.{AreLinked}
-use Rattle.ff_net_plain.specs.declared.plain.Plain.{Plain}
-use Rattle.ff_net_plain.specs.Relays.{stopped_at}
-use Rattle.ff_net_plain.specs.Starts.{list_task, relay_task}
-use Rattle.ff_net_plain.specs.Plains.{plain_view}
+use Rattle.ff_net_threads.specs.declared.links.ends.InEnd.{InEnd}
+use Rattle.ff_net_threads.specs.declared.links.ends.OutEnd.{OutEnd}
+use Rattle.ff_net_threads.specs.declared.links.linked.Linked.{Linked}
+use Rattle.ff_net_threads.specs.links.Ends.{in_end_at, new_in, new_out}
+use Rattle.ff_net_threads.specs.links.Nodes.{Behind, in_ends_wires, out_ends_wires, node_of, lanes_on, ins_of, outs_of}
+use Rattle.ff_net_threads.specs.links.Settling.{AreLinked}
+use Rattle.ff_test_machines.specs.declared.plain.Plain.{Plain}
+use Rattle.ff_test_machines.specs.Relays.{stopped_at}
+use Rattle.ff_test_machines.specs.Starts.{list_task, relay_task}
+use Rattle.ff_test_machines.specs.Plains.{plain_view}
 
 -- the two ends of new links of this lane
 pub record IsNewSender (lane : Lane) (s : Sending) : Type 0 where

@@ -1,9 +1,9 @@
 -- Five machines in a network with a fork and a join.
 use Rattle.std.specs.Prelude.{◌≡◌, ℕ, ◌<◌, List, [], ◌∷◌, length, map, replicate, slice_index_or}
-use Rattle.ff_frame.specs.declared.item.Lane.{Lane}
-use Rattle.ff_edges.specs.declared.edge.Edge.{Edge}
-use Rattle.ff_net_plain.specs.declared.plain.Plain.{Plain}
-use Rattle.ff_net_plain.specs.Plains.{IsBelow, plain_view}
+use Rattle.ff_stream.specs.declared.item.Lane.{Lane}
+use Rattle.ff_stream.specs.declared.edges.edge.Edge.{Edge}
+use Rattle.ff_test_machines.specs.declared.plain.Plain.{Plain}
+use Rattle.ff_test_machines.specs.Plains.{IsBelow, plain_view}
 use Rattle.ff_sched.specs.declared.routes.Routes.{Routes}
 use Rattle.ff_sched.specs.Routes.{AreRoutes}
 

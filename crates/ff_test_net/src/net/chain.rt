@@ -1,17 +1,17 @@
 // A source, a relay and a sink, in a chain.
 ghost use Rattle.std.specs.Prelude.{◌≡◌, ◌≤◌, ◌^◌, IfOk};
-ghost use Rattle.ff_net_links.specs.Runs.{AllOf};
-ghost use Rattle.ff_net_plain.specs.Packets.{IsWhole, byte_lane};
-ghost use Rattle.ff_net_plain.specs.Plains.{plain_view};
-ghost use Rattle.ff_net_tests.specs.Chains.{IsNewSender, IsNewReceiver, IsChain, chain_tasks};
-ghost use Rattle.ff_net_tests.specs.Seats.{IsSeat};
+ghost use Rattle.ff_net_threads.specs.links.Runs.{AllOf};
+ghost use Rattle.ff_test_machines.specs.Packets.{IsWhole, byte_lane};
+ghost use Rattle.ff_test_machines.specs.Plains.{plain_view};
+ghost use Rattle.ff_test_net.specs.net.Chains.{IsNewSender, IsNewReceiver, IsChain, chain_tasks};
+ghost use Rattle.ff_test_net.specs.net.Seats.{IsSeat};
 
-use crate::node::{relay_node, sink_node, source_node};
-use crate::seats::part;
+use crate::net::node::{relay_node, sink_node, source_node};
+use crate::net::seats::part;
 use ff_link::{Receiver, Sender, link};
-use ff_net_links::Linked;
-use ff_net_plain::{Plain, lane_of};
+use ff_net_threads::Linked;
 use ff_sched::{Pass, SchedCell};
+use ff_test_machines::{Plain, lane_of};
 use ff_time::Rational;
 use std::alloc::{AllocError, Global};
 

@@ -1,9 +1,9 @@
 ghost use Rattle.std.specs.Prelude.{◌≡◌, ◌+◌, ◌<◌, ◌^◌, IfSome};
-ghost use Rattle.ff_net_plain.specs.Packets.{byte_packet, Sent};
+ghost use Rattle.ff_test_machines.specs.Packets.{byte_packet, Sent};
 
-use ff_frame::Item;
 use ff_link::{Put, Receiver, Sender, Settled, Take, settle};
-use ff_net_plain::{is_packet, new_link, one_over, packet, pass_packets};
+use ff_stream::Item;
+use ff_test_machines::{is_packet, new_link, one_over, packet, pass_packets};
 use std::alloc::{AllocError, Global};
 use std::sync::Wait;
 use std::thread::Threads;

@@ -1,5 +1,5 @@
-use crate::run::{Outcome, run_chain};
-use ff_net_plain::one_over;
+use crate::net::run::{Outcome, run_chain};
+use ff_test_machines::one_over;
 use std::alloc::Global;
 use std::sync::Wait;
 use std::thread::Threads;

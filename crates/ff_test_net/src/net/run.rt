@@ -1,13 +1,13 @@
 // A run of the chain in threads.
 ghost use Rattle.std.specs.Prelude.{◌≡◌, ◌≤◌, ◌^◌, true, slice_index_or, IfSome};
-ghost use Rattle.ff_net_plain.specs.Packets.{IsWhole};
-ghost use Rattle.ff_net_tests.specs.Chains.{AllSound, WasFed};
+ghost use Rattle.ff_test_machines.specs.Packets.{IsWhole};
+ghost use Rattle.ff_test_net.specs.net.Chains.{AllSound, WasFed};
 
-use crate::chain::chain;
-use crate::seats::new_cell;
-use ff_frame::Item;
-use ff_net_links::{Linked, Room, run_threads, settle_all};
-use ff_net_plain::{Plain, is_packet};
+use crate::net::chain::chain;
+use crate::net::seats::new_cell;
+use ff_net_threads::{Linked, Room, run_threads, settle_all};
+use ff_stream::Item;
+use ff_test_machines::{Plain, is_packet};
 use ff_time::Rational;
 use std::alloc::{AllocError, Global};
 use std::sync::Wait;

@@ -1,6 +1,6 @@
 // A scheduler with one source and no output stream, and passes of its cell.
 ghost use Rattle.std.specs.Prelude.{◌≡◌, ◌≤◌, ◌-◌, ◌^◌, IfOk};
-ghost use Rattle.ff_net_tests.specs.Seats.{IsSeat, AreSeats};
+ghost use Rattle.ff_test_net.specs.net.Seats.{IsSeat, AreSeats};
 
 use ff_sched::{Graphs, Pass, Routes, SchedCell, SchedState, Ways};
 use std::alloc::{AllocError, Global};

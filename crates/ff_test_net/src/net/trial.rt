@@ -1,14 +1,15 @@
 ghost use Rattle.std.specs.Prelude.{◌≡◌, ◌<◌, ◌≤◌, ◌+◌, ℕ, length, IfOk, []};
 ghost use Rattle.ff_net.specs.Worlds.{lanes_of};
 ghost use Rattle.ff_net.specs.Serial.{AreOf, AreShaped};
-ghost use Rattle.ff_net_plain.specs.Kinds.{relay_view};
-ghost use Rattle.ff_net_plain.specs.Trials.{trial_lane};
+ghost use Rattle.ff_test_machines.specs.Kinds.{relay_view};
+ghost use Rattle.ff_test_machines.specs.Trials.{trial_lane};
 
-use crate::seats::new_cell;
-use ff_frame::{Bytes, Codec, Item, Lane, Pkt, StreamHead};
+use crate::net::seats::new_cell;
+use ff_frame::{Bytes, Codec, Pkt, StreamHead};
 use ff_net::{Node, Put, Take, Wires, run_serial};
-use ff_net_plain::Relay;
 use ff_sched::SchedCell;
+use ff_stream::{Item, Lane};
+use ff_test_machines::Relay;
 use ff_time::Rational;
 use std::alloc::{AllocError, Global};
 use std::sync::Wait;

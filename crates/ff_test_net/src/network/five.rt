@@ -1,17 +1,16 @@
 // A source, a machine that repeats its items on two outputs, one that ends early behind the first of these, one that joins
 // what that gives with the second, and a sink.
 ghost use Rattle.std.specs.Prelude.{◌≡◌, ◌≤◌, IfOk};
-ghost use Rattle.ff_net_plain.specs.Packets.{byte_lane};
-ghost use Rattle.ff_net_plain.specs.Plains.{IsBelow};
-ghost use Rattle.ff_network_tests.specs.Five.{HasPorts, IsOneSource, AreFive, five_edges};
+ghost use Rattle.ff_test_machines.specs.Packets.{byte_lane};
+ghost use Rattle.ff_test_machines.specs.Plains.{IsBelow};
+ghost use Rattle.ff_test_net.specs.network.Five.{HasPorts, IsOneSource, AreFive, five_edges};
 
-use ff_edges::Edge;
-use ff_frame::Item;
-use ff_net_plain::{Join, Plain, Relay, Source, is_packet, lane_of, one_over, packet};
-use ff_network::{Ran, run_network};
+use ff_frame::Event;
+use ff_net_threads::network::{Ran, run_network};
 use ff_sched::{Graphs, History, Routes, SchedState, Ways};
+use ff_stream::{Edge, Item};
+use ff_test_machines::{Join, Plain, Relay, Source, is_packet, lane_of, one_over, packet};
 use ff_time::Rational;
-use ff_values::Event;
 use std::alloc::{AllocError, Global};
 use std::marker::Brand;
 use std::sync::Wait;

@@ -1,11 +1,11 @@
 // Passes of one cell at work at once, two streams on two sources.
 ghost use Rattle.std.specs.Prelude.{◌≡◌, ◌-◌, ◌<◌, ◌≤◌, ◌^◌, [], ◌∷◌, All, length, sum_by, IfOk};
 ghost use Rattle.ff_sched.specs.Passing.{Scheduler, Passing};
-ghost use Rattle.ff_sched_tests.specs.Two.{IsTwo, IsOf, AreOf, IsLike};
+ghost use Rattle.ff_test_net.specs.sched.Two.{IsTwo, IsOf, AreOf, IsLike};
 
-use crate::reader::{Lane, STEP, read};
+use crate::sched::reader::{Lane, STEP, read};
+use ff_frame::Event;
 use ff_sched::{Grant, Graphs, Pass, Routes, SchedCell, SchedState, Way, Ways};
-use ff_values::Event;
 use std::alloc::{AllocError, Global};
 use std::sync::Wait;
 use std::test::Fail;

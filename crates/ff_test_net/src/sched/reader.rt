@@ -1,7 +1,7 @@
 // A plain reader of histories of two streams on two sources, of which each stream's packets lie 1,000 microseconds apart.
 ghost use Rattle.std.specs.Prelude.{};
 
-use ff_values::Event;
+use ff_frame::Event;
 
 /// The microseconds between two packets of a stream.
 pub const STEP: u64 = 1_000;

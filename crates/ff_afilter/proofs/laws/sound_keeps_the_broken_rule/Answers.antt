@@ -1,10 +1,10 @@
 use Rattle.std.proofs.Common.{List, None, false, map, refl}
-use Rattle.ff_frame.specs.declared.item.Item.{Item}
-use Rattle.ff_frame.specs.Lanes.{IsValid}
-use Rattle.ff_frame.specs.Stream.{Mark}
+use Rattle.ff_stream.specs.declared.item.Item.{Item}
+use Rattle.ff_stream.specs.Lanes.{IsValid}
+use Rattle.ff_stream.specs.Stream.{Mark}
 use Rattle.ff_filter.specs.Joins.{Flow}
 use Rattle.ff_filter.specs.Shifts.{from_first}
-use Rattle.ff_spread.proofs.OneRule.{one_keeps_rule, valid_ended}
+use Rattle.ff_filter.proofs.SpreadLemmas.OneRule.{one_keeps_rule, valid_ended}
 use Rattle.ff_afilter.specs.Channels.{channel_item}
 use Rattle.ff_afilter.specs.Trims.{kept_all, reaches}
 use Rattle.ff_afilter.proofs.laws.sound_keeps_the_broken_rule.Goals as goal

@@ -1,7 +1,7 @@
 use Rattle.std.proofs.Common.{◌≡◌, ◌∙◌, ap, arith, length, sym, subst, ℤ, List}
 use Rattle.std.specs.List.{All}
 use Rattle.std.proofs.lemmas.List.Elements.{All-same}
-use Rattle.ff_values.specs.Audio.{IsAudio, FitsBits}
+use Rattle.ff_frame.specs.Audio.{IsAudio, FitsBits}
 use Rattle.ff_flac_enc.specs.Frame.{IsBlock}
 use Rattle.ff_bench.proofs.flac.block_of.Goals as goal
 

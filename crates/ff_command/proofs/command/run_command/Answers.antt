@@ -1,6 +1,6 @@
 use Rattle.std.proofs.Common.{ℕ, List, inl, inr, sym, subst}
-use Rattle.ff_values.specs.declared.event.Event.{Event}
-use Rattle.ff_running.specs.Reads.{places_in}
+use Rattle.ff_frame.specs.declared.event.Event.{Event}
+use Rattle.ff_run_plan.specs.Reads.{places_in}
 use Rattle.ff_words.specs.Words.{texts}
 use Rattle.ff_command.specs.Command.{ReportsHistory, ReportsReads, ReportsOwn, ReportsOwnReads, HoldsTrace}
 use Rattle.ff_command.specs.Histories.{history_in}

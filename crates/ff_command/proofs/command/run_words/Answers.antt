@@ -7,7 +7,7 @@ use Rattle.ff_command.specs.Command.{AskSolo, ReportsHistory, HoldsTrace}
 use Rattle.ff_command.specs.Histories.{LogHas}
 use Rattle.ff_command.proofs.Reports.{has_more, if_some_more, never_fine}
 use Rattle.ff_command.proofs.Answers.{words-answered, solo-answered, job-answered, not-alone, never-device, wrong-own, same-solo, text-is, told-text}
-use Rattle.ff_self_run.proofs.Few.{seconds_few}
+use Rattle.ff_selfrun.proofs.Few.{seconds_few}
 use Rattle.ff_command.proofs.command.run_words.Goals as goal
 
 pub returns-in-Err-clause-answered : goal.returns-in-Err-clause-answered

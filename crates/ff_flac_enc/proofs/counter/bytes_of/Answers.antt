@@ -1,6 +1,6 @@
 use Rattle.std.proofs.Common.{◌≡◌, ◌+◌, ◌*◌, ◌/◌, ℕ, ℤ, List, sym, subst, arith}
 use Rattle.std.specs.List.{All}
-use Rattle.ff_values.specs.Audio.{FitsBits}
+use Rattle.ff_frame.specs.Audio.{FitsBits}
 use Rattle.ff_flac_enc.proofs.TotalLemmas.{all_wider}
 use Rattle.ff_flac_enc.proofs.counter.bytes_of.Goals as goal
 

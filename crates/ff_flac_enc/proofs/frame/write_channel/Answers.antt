@@ -1,5 +1,5 @@
 use Rattle.std.proofs.Common.{◌∙◌}
-use Rattle.ff_values.specs.Audio.{FitsBits}
+use Rattle.ff_frame.specs.Audio.{FitsBits}
 use Rattle.ff_flac_enc.proofs.Apart.{some_in_channel, few_in_channel, channel_all, best_written}
 use Rattle.ff_flac_enc.proofs.frame.write_channel.Goals as goal
 

@@ -1,5 +1,5 @@
 use Rattle.std.proofs.Common.{◌≡◌, ◌++◌, ◌∙◌, sym, Some, subst, ap, arith, length}
-use Rattle.ff_flac_rice.specs.Least.{least}
+use Rattle.ff_flac_subframe.specs.rice.Least.{least}
 use Rattle.ff_flac_enc.specs.Head.{opened}
 use Rattle.ff_flac_enc.specs.Layout.{Layout, layouts, layout_size, body}
 use Rattle.ff_flac_enc.proofs.Apart.{can_write, two_is, length-channel_of}

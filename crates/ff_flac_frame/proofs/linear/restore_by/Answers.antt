@@ -1,7 +1,7 @@
 use Rattle.std.proofs.Common.{◌≡◌, ◌∙◌, ◌+◌, ◌<◌, ◌++◌, ◌∷◌, [], ℤ, pos, ◌+ℤ◌, List, length, drop, get_or, to_z, of_z, refl, sym, ap, subst, arith, length-append}
 use Rattle.std.specs.Int.{w32, w64}
 use Rattle.std.proofs.lemmas.Int.{ints, to_z-of_z}
-use Rattle.ff_values.specs.Audio.{FitsBits}
+use Rattle.ff_frame.specs.Audio.{FitsBits}
 use Rattle.ff_flac_frame.specs.Prediction.{ago, linear, restored, AllInDepth}
 use Rattle.ff_flac_frame.proofs.PredictionLemmas.{leaves, IsSmall-in_depth, AllInDepth-push, ago_push, restored-step}
 use Rattle.ff_flac_frame.proofs.PredictionLemmas.{all_wider}

@@ -1,6 +1,6 @@
 use Rattle.std.proofs.Common.{◌≡◌, ◌≤◌, ◌+◌, ◌-◌, ◌*◌, ◌^◌, ◌∙◌, ◌<◌, ℕ, ℤ, pos, ◌+ℤ◌, ◌*ℤ◌, drop, get_or, length, sym, ap, subst, arith, unsigned_abs, to_z, of_z}
 use Rattle.std.specs.Int.{w32, w64}
-use Rattle.ff_values.specs.Audio.{FitsBits}
+use Rattle.ff_frame.specs.Audio.{FitsBits}
 use Rattle.ff_flac_frame.specs.Prediction.{weighted}
 use Rattle.ff_flac_frame.proofs.PredictionLemmas.{IsSmall-in_depth, small_same}
 use Rattle.ff_flac_frame.proofs.LinearLemmas.{weighted_goes_on, sum_same}

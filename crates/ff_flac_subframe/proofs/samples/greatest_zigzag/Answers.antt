@@ -3,10 +3,10 @@ use Rattle.std.specs.Prelude.{FitsSigned}
 use Rattle.std.proofs.lemmas.Int.{to_z-of_z}
 use Rattle.std.proofs.lemmas.List.{take_all}
 use Rattle.std.proofs.lemmas.List.Elements.{All-more, All-weaker, All-same}
-use Rattle.ff_flac_rice.specs.Rice.{zigzagged}
-use Rattle.ff_flac_sub.specs.Subframe.{magnitude}
-use Rattle.ff_flac_sub.proofs.Predict.{zigzag_small}
-use Rattle.ff_flac_sub.proofs.samples.greatest_zigzag.Goals as goal
+use Rattle.ff_flac_subframe.specs.rice.Rice.{zigzagged}
+use Rattle.ff_flac_subframe.specs.Subframe.{magnitude}
+use Rattle.ff_flac_subframe.proofs.Predict.{zigzag_small}
+use Rattle.ff_flac_subframe.proofs.samples.greatest_zigzag.Goals as goal
 
 pub loop-x-preserved : goal.loop-x-preserved
 loop-x-preserved c =

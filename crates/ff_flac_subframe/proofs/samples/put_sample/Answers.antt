@@ -2,8 +2,8 @@ use Rattle.std.proofs.Common.{◌∙◌, ◌++◌, ap, w32}
 use Rattle.std.proofs.lemmas.Int.{to_z-of_z}
 use Rattle.ff_bits.specs.Bits.{bits_of}
 use Rattle.ff_bits.specs.Integers.{unsigned}
-use Rattle.ff_flac_sub.specs.Subframe.{sample_bits}
-use Rattle.ff_flac_sub.proofs.samples.put_sample.Goals as goal
+use Rattle.ff_flac_subframe.specs.Subframe.{sample_bits}
+use Rattle.ff_flac_subframe.proofs.samples.put_sample.Goals as goal
 
 pub returns : goal.returns
 unfolding sample_bits

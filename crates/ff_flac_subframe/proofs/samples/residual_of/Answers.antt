@@ -1,8 +1,8 @@
 use Rattle.std.proofs.Common.{◌≡◌, ℤ, pos, get_or, List, ap, ◌∙◌, arith}
 use Rattle.std.specs.Prelude.{◌-ℤ◌, ◌+ℤ◌, ◌*ℤ◌}
-use Rattle.ff_flac_sub.specs.Subframe.{rest_of}
-use Rattle.ff_flac_sub.proofs.Predict.{small_same, bounded_same, wide_same, residual_0, residual_1, residual_2, residual_3, residual_4}
-use Rattle.ff_flac_sub.proofs.samples.residual_of.Goals as goal
+use Rattle.ff_flac_subframe.specs.Subframe.{rest_of}
+use Rattle.ff_flac_subframe.proofs.Predict.{small_same, bounded_same, wide_same, residual_0, residual_1, residual_2, residual_3, residual_4}
+use Rattle.ff_flac_subframe.proofs.samples.residual_of.Goals as goal
 
 pub returns-then-order-eq0-clause-value : goal.returns-then-order-eq0-clause-value
 returns-then-order-eq0-clause-value c =

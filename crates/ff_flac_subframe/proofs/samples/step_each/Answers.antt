@@ -3,9 +3,9 @@ use Rattle.std.specs.Prelude.{FitsSigned, ◌-ℤ◌}
 use Rattle.std.specs.Int.{cast_signed, cast_unsigned}
 use Rattle.std.proofs.lemmas.Int.{to_z-of_z}
 use Rattle.std.proofs.lemmas.List.{length-set}
-use Rattle.ff_flac_sub.specs.Subframe.{magnitude}
-use Rattle.ff_flac_sub.proofs.Predict.{step_next, step_rest_small, step_end}
-use Rattle.ff_flac_sub.proofs.samples.step_each.Goals as goal
+use Rattle.ff_flac_subframe.specs.Subframe.{magnitude}
+use Rattle.ff_flac_subframe.proofs.Predict.{step_next, step_rest_small, step_end}
+use Rattle.ff_flac_subframe.proofs.samples.step_each.Goals as goal
 
 pub loop-i-preserved : goal.loop-i-preserved
 loop-i-preserved c =

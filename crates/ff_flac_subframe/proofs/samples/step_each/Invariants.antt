@@ -1,7 +1,7 @@
 use Rattle.std.proofs.Common.{◌≡◌, ◌++◌, ◌<◌, ◌^◌, take, drop, length}
 use Rattle.std.specs.List.{All}
-use Rattle.ff_flac_sub.specs.Subframe.{steps, magnitude}
-use Rattle.ff_flac_sub.proofs.samples.step_each.Given as goal
+use Rattle.ff_flac_subframe.specs.Subframe.{steps, magnitude}
+use Rattle.ff_flac_subframe.proofs.samples.step_each.Given as goal
 
 abbrev pub invariant-loop-i : goal.invariant-loop-i
 invariant-loop-i l = record {

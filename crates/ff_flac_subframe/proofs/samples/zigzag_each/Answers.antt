@@ -1,9 +1,9 @@
 use Rattle.std.proofs.Common.{◌<◌, ◌^◌, ℤ, ap, sym, ◌∙◌, subst, arith, map}
 use Rattle.std.proofs.lemmas.List.{length-set, take_all}
-use Rattle.ff_flac_rice.specs.Rice.{zigzagged}
-use Rattle.ff_flac_sub.specs.Subframe.{rest_of, magnitude}
-use Rattle.ff_flac_sub.proofs.Predict.{magnitude_wide, wide_same, length-rest_of, zigzags_more}
-use Rattle.ff_flac_sub.proofs.samples.zigzag_each.Goals as goal
+use Rattle.ff_flac_subframe.specs.rice.Rice.{zigzagged}
+use Rattle.ff_flac_subframe.specs.Subframe.{rest_of, magnitude}
+use Rattle.ff_flac_subframe.proofs.Predict.{magnitude_wide, wide_same, length-rest_of, zigzags_more}
+use Rattle.ff_flac_subframe.proofs.samples.zigzag_each.Goals as goal
 
 pub zigzag_of-requires : goal.zigzag_of-requires
 zigzag_of-requires c =

@@ -1,7 +1,7 @@
 use Rattle.std.proofs.Common.{◌≡◌, map, take, length}
-use Rattle.ff_flac_rice.specs.Rice.{zigzagged}
-use Rattle.ff_flac_sub.specs.Subframe.{rest_of}
-use Rattle.ff_flac_sub.proofs.samples.zigzag_each.Given as goal
+use Rattle.ff_flac_subframe.specs.rice.Rice.{zigzagged}
+use Rattle.ff_flac_subframe.specs.Subframe.{rest_of}
+use Rattle.ff_flac_subframe.proofs.samples.zigzag_each.Given as goal
 
 abbrev pub invariant-loop-i : goal.invariant-loop-i
 invariant-loop-i l = record {

@@ -1,8 +1,8 @@
 use Rattle.std.proofs.Common.{ℕ, ◌+◌, get_or, sym, subst, Ok, ap, ◌∙◌, arith}
-use Rattle.ff_flac_sub.specs.Leads.{so_far, Leads}
-use Rattle.ff_flac_sub.proofs.Plans.{leads_none, leads_more, leads_on}
-use Rattle.ff_flac_sub.proofs.subframe.best_before.Goals as goal
-use Rattle.ff_flac_sub.proofs.subframe.best_before.Goals.{then-floors-order+in_ok-new+in-Some, then-floors-order+in_ok-new+in_default, else-floors-order}
+use Rattle.ff_flac_subframe.specs.Leads.{so_far, Leads}
+use Rattle.ff_flac_subframe.proofs.Plans.{leads_none, leads_more, leads_on}
+use Rattle.ff_flac_subframe.proofs.subframe.best_before.Goals as goal
+use Rattle.ff_flac_subframe.proofs.subframe.best_before.Goals.{then-floors-order+in_ok-new+in-Some, then-floors-order+in_ok-new+in_default, else-floors-order}
 
 pub loop-order-init : goal.loop-order-init
 loop-order-init c = leads_none c.args.depth c.args.limit c.args.samples.now c.constant_plan-best.result c.constant_plan-best.ensures

@@ -1,6 +1,6 @@
 use Rattle.std.proofs.Common.{true≢false, sym, ◌∙◌, arith}
-use Rattle.ff_flac_sub.proofs.Outlooks.{bound_is}
-use Rattle.ff_flac_sub.proofs.subframe.bound_of.Goals as goal
+use Rattle.ff_flac_subframe.proofs.Outlooks.{bound_is}
+use Rattle.ff_flac_subframe.proofs.subframe.bound_of.Goals as goal
 
 pub returns-then-are_equal-clause-below : goal.returns-then-are_equal-clause-below
 returns-then-are_equal-clause-below c =

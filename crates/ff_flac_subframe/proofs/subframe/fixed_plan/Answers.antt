@@ -1,8 +1,8 @@
 use Rattle.std.proofs.Common.{◌≡◌, ◌+◌, ◌*◌, ◌≤◌, length, arith, subst, true}
 use Rattle.std.proofs.lemmas.Nat.{mul-le}
-use Rattle.ff_flac_rice.specs.Rice.{is_allowed}
-use Rattle.ff_flac_sub.proofs.Plans.{least-fixed_of, cost-fixed, count_us}
-use Rattle.ff_flac_sub.proofs.subframe.fixed_plan.Goals as goal
+use Rattle.ff_flac_subframe.specs.rice.Rice.{is_allowed}
+use Rattle.ff_flac_subframe.proofs.Plans.{least-fixed_of, cost-fixed, count_us}
+use Rattle.ff_flac_subframe.proofs.subframe.fixed_plan.Goals as goal
 
 pub best_coding-requires-clause-len : goal.best_coding-requires-clause-len
 best_coding-requires-clause-len c = omega (arith, count_us c.args.order c.args.samples.now c.args.us.now c.requires.is, c.requires.len)

@@ -1,7 +1,7 @@
 use Rattle.std.proofs.Common.{length, ap, arith}
-use Rattle.ff_flac_sub.proofs.Predict.{length-rest_of}
-use Rattle.ff_flac_sub.proofs.Plans.{floor_is}
-use Rattle.ff_flac_sub.proofs.subframe.floor_of.Goals as goal
+use Rattle.ff_flac_subframe.proofs.Predict.{length-rest_of}
+use Rattle.ff_flac_subframe.proofs.Plans.{floor_is}
+use Rattle.ff_flac_subframe.proofs.subframe.floor_of.Goals as goal
 
 pub least_bits-requires-clause-len : goal.least_bits-requires-clause-len
 least_bits-requires-clause-len c = omega (arith, ap length c.requires.is, length-rest_of c.args.order c.args.samples.now, c.requires.len)

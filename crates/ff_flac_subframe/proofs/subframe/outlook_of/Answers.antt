@@ -1,12 +1,12 @@
 use Rattle.std.proofs.Common.{◌≡◌, ℕ, ◌+◌, ◌-◌, ◌*◌, ◌<◌, ◌≤◌, ◌^◌, [], ◌∷◌, length, length-append, sym, ap, ◌∙◌, arith, subst}
 use Rattle.std.specs.List.{All}
 use Rattle.std.proofs.lemmas.List.Elements.{All-same}
-use Rattle.ff_flac_rice.specs.Rice.{zigzagged}
-use Rattle.ff_flac_sub.specs.Subframe.{magnitude, rest_of}
-use Rattle.ff_flac_sub.proofs.Predict.{rest_of-zero}
-use Rattle.ff_flac_sub.proofs.Plans.{magnitudes, small_enough, next_small, next_rest, next_zigzags, one_floor, each_floor, twice_small}
-use Rattle.ff_flac_sub.proofs.subframe.outlook_of.Goals as goal
-use Rattle.ff_flac_sub.proofs.subframe.outlook_of.Goals.{then-floor-least, else-floor-least}
+use Rattle.ff_flac_subframe.specs.rice.Rice.{zigzagged}
+use Rattle.ff_flac_subframe.specs.Subframe.{magnitude, rest_of}
+use Rattle.ff_flac_subframe.proofs.Predict.{rest_of-zero}
+use Rattle.ff_flac_subframe.proofs.Plans.{magnitudes, small_enough, next_small, next_rest, next_zigzags, one_floor, each_floor, twice_small}
+use Rattle.ff_flac_subframe.proofs.subframe.outlook_of.Goals as goal
+use Rattle.ff_flac_subframe.proofs.subframe.outlook_of.Goals.{then-floor-least, else-floor-least}
 
 pub floor_of-least-requires-clause-is : goal.floor_of-least-requires-clause-is
 floor_of-least-requires-clause-is c = c.deref.ensures.value ∙ c.in_ok-rest.ensures.items ∙ sym (rest_of-zero c.args.samples.now)

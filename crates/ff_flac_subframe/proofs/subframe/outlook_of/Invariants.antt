@@ -1,9 +1,9 @@
 use Rattle.std.proofs.Common.{◌≡◌, ℕ, ◌+◌, ◌-◌, ◌<◌, ◌≤◌, ◌^◌, length, get_or}
 use Rattle.std.specs.List.{All}
-use Rattle.ff_flac_rice.specs.Rice.{zigzagged}
-use Rattle.ff_flac_sub.specs.Subframe.{rest_of, magnitude}
-use Rattle.ff_flac_sub.specs.Leads.{IsFloor}
-use Rattle.ff_flac_sub.proofs.subframe.outlook_of.Given as goal
+use Rattle.ff_flac_subframe.specs.rice.Rice.{zigzagged}
+use Rattle.ff_flac_subframe.specs.Subframe.{rest_of, magnitude}
+use Rattle.ff_flac_subframe.specs.Leads.{IsFloor}
+use Rattle.ff_flac_subframe.proofs.subframe.outlook_of.Given as goal
 
 abbrev pub invariant-loop-order : goal.invariant-loop-order
 invariant-loop-order l = record {

@@ -1,12 +1,12 @@
 use Rattle.std.proofs.Common.{◌≡◌, ℕ, ◌+◌, length, Some, Ok, true, ap, ◌∙◌, subst, arith}
 use Rattle.std.specs.Option.{IfSome}
 use Rattle.std.proofs.lemmas.Result.{IfOk-at_ok}
-use Rattle.ff_flac_rice.specs.Least.{least}
-use Rattle.ff_flac_rice.specs.Rice.{is_allowed}
-use Rattle.ff_flac_sub.specs.Subframe.{fixed_of}
-use Rattle.ff_flac_sub.specs.Plan.{spelling_of, size, PlanFits}
-use Rattle.ff_flac_sub.proofs.Plans.{magnitudes, count_us, floor_below, least-fixed_of, cost-fixed}
-use Rattle.ff_flac_sub.proofs.subframe.plan_below.Goals as goal
+use Rattle.ff_flac_subframe.specs.rice.Least.{least}
+use Rattle.ff_flac_subframe.specs.rice.Rice.{is_allowed}
+use Rattle.ff_flac_subframe.specs.Subframe.{fixed_of}
+use Rattle.ff_flac_subframe.specs.Plan.{spelling_of, size, PlanFits}
+use Rattle.ff_flac_subframe.proofs.Plans.{magnitudes, count_us, floor_below, least-fixed_of, cost-fixed}
+use Rattle.ff_flac_subframe.proofs.subframe.plan_below.Goals as goal
 
 pub zigzags_by-requires-clause-small : goal.zigzags_by-requires-clause-small
 zigzags_by-requires-clause-small c = magnitudes c.args.samples.now c.requires.fits

@@ -1,7 +1,7 @@
 use Rattle.std.proofs.Common.{Some, ◌≤◌, length}
-use Rattle.ff_flac_sub.specs.Plan.{IsBestPlan}
-use Rattle.ff_flac_sub.specs.Leads.{so_far}
-use Rattle.ff_flac_sub.proofs.subframe.plan_by.Given as goal
+use Rattle.ff_flac_subframe.specs.Plan.{IsBestPlan}
+use Rattle.ff_flac_subframe.specs.Leads.{so_far}
+use Rattle.ff_flac_subframe.proofs.subframe.plan_by.Given as goal
 
 abbrev pub invariant-loop-order : goal.invariant-loop-order
 invariant-loop-order l = record {

@@ -1,7 +1,7 @@
 use Rattle.std.proofs.Common.{Some, Ok, length, ap, ◌∙◌, arith}
-use Rattle.ff_flac_sub.specs.Subframe.{fixed_of}
-use Rattle.ff_flac_sub.proofs.Plans.{floor_stays, plan_next}
-use Rattle.ff_flac_sub.proofs.subframe.with_order.Goals as goal
+use Rattle.ff_flac_subframe.specs.Subframe.{fixed_of}
+use Rattle.ff_flac_subframe.proofs.Plans.{floor_stays, plan_next}
+use Rattle.ff_flac_subframe.proofs.subframe.with_order.Goals as goal
 
 pub returns-then-best-floor : goal.returns-then-best-floor
 returns-then-best-floor c = floor_stays c.args.depth c.args.order c.args.floor c.args.samples.now c.args.best c.if-best-floor.true c.requires.floor

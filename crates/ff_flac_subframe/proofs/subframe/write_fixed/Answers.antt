@@ -1,7 +1,7 @@
 use Rattle.std.proofs.Common.{◌≡◌, ◌+◌, length, ◌∙◌, arith, subst, true}
-use Rattle.ff_flac_rice.specs.Rice.{is_allowed}
-use Rattle.ff_flac_sub.proofs.Plans.{first_small, magnitudes, count_us, fixed_bits}
-use Rattle.ff_flac_sub.proofs.subframe.write_fixed.Goals as goal
+use Rattle.ff_flac_subframe.specs.rice.Rice.{is_allowed}
+use Rattle.ff_flac_subframe.proofs.Plans.{first_small, magnitudes, count_us, fixed_bits}
+use Rattle.ff_flac_subframe.proofs.subframe.write_fixed.Goals as goal
 
 pub zigzags_by-requires-clause-small : goal.zigzags_by-requires-clause-small
 zigzags_by-requires-clause-small c = magnitudes c.args.samples.now (first_small c.args.depth c.args.samples.now c.requires.within c.requires.fits)

@@ -1,7 +1,7 @@
 use Rattle.std.proofs.Common.{◌<◌, List, ◌∙◌, ap, arith, length, subst, sym}
 use Rattle.std.proofs.lemmas.List.{length-set}
-use Rattle.ff_values.specs.declared.video.VFrame.{VFrame}
-use Rattle.ff_frame.specs.declared.item.Lane.{Lane}
+use Rattle.ff_frame.specs.declared.video.VFrame.{VFrame}
+use Rattle.ff_stream.specs.declared.item.Lane.{Lane}
 use Rattle.ff_fsync.specs.Inputs.{all_back}
 use Rattle.ff_fsync.specs.Sides.{Side, Sound}
 use Rattle.ff_fsync.specs.Syncs.{sides_of}

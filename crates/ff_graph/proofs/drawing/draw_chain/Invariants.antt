@@ -1,5 +1,5 @@
 use Rattle.std.proofs.Common.{◌≡◌, ◌++◌, drop, map, false}
-use Rattle.ff_drawn.specs.Links.{seen}
+use Rattle.ff_graph_links.specs.pads.Links.{seen}
 use Rattle.ff_graph.specs.Drawings.{seen_chain}
 use Rattle.ff_graph.proofs.drawing.draw_chain.Given as goal
 

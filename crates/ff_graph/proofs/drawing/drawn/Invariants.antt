@@ -1,5 +1,5 @@
 use Rattle.std.proofs.Common.{◌≡◌, ◌++◌, drop}
-use Rattle.ff_drawn.specs.Links.{all_seen}
+use Rattle.ff_graph_links.specs.pads.Links.{all_seen}
 use Rattle.ff_graph.specs.Drawings.{seen_chains}
 use Rattle.ff_graph.proofs.drawing.drawn.Given as goal
 

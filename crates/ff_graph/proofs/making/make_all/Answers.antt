@@ -1,9 +1,9 @@
 use Rattle.std.proofs.Common.{◌≡◌, inl, inr, List, Err, sym, subst, slice_get, get_or}
 use Rattle.std.specs.declared.alloc.Global.{Global}
 use Rattle.std.specs.declared.vec.Vec.{Vec}
-use Rattle.ff_values.specs.declared.head.StreamHead.{StreamHead}
+use Rattle.ff_frame.specs.declared.head.StreamHead.{StreamHead}
 use Rattle.ff_filters.specs.contracts.any.AnyFilterFilter.TheImpl.{ghosts}
-use Rattle.ff_drawn.specs.Links.{all_seen}
+use Rattle.ff_graph_links.specs.pads.Links.{all_seen}
 use Rattle.ff_graph.specs.declared.refusal.Refusal.{Refusal}
 use Rattle.ff_graph.specs.Configured.{made_of, make_from, none_made}
 use Rattle.ff_graph.specs.Pads.{heads_in, made_by, IsRefusal}

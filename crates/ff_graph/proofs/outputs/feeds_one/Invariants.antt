@@ -1,5 +1,5 @@
 use Rattle.std.proofs.Common.{◌≡◌, drop}
-use Rattle.ff_drawn.specs.Links.{pads_in}
+use Rattle.ff_graph_links.specs.pads.Links.{pads_in}
 use Rattle.ff_graph.specs.Configured.{feeds_one}
 use Rattle.ff_graph.proofs.outputs.feeds_one.Given as goal
 

@@ -1,7 +1,7 @@
 use Rattle.std.proofs.Common.{◌<◌, length, false, sym, ◌∙◌, arith}
-use Rattle.ff_dag.specs.Over.{true_all, not_all}
-use Rattle.ff_dag.specs.Readings.{at_is}
-use Rattle.ff_dag.proofs.dag.are_true.Goals as goal
+use Rattle.ff_graph_dag.specs.Over.{true_all, not_all}
+use Rattle.ff_graph_dag.specs.Readings.{at_is}
+use Rattle.ff_graph_dag.proofs.dag.are_true.Goals as goal
 
 pub returns-then-not-index : goal.returns-then-not-index
 returns-then-not-index c =

@@ -1,9 +1,9 @@
-use Rattle.ff_frame.specs.Ports.{stream_at}
-use Rattle.ff_coding.specs.CodingLaws.{made_keeps_broken_rule, always_keeps_broken_rule, left_keeps_broken_rule}
-use Rattle.ff_coding.specs.Decoding.{decoded_item}
-use Rattle.ff_coding.specs.EncodeLaws.{no_damage}
-use Rattle.ff_coding.specs.Encoding.{encoded_item}
-use Rattle.ff_coding.proofs.coding.coding_keeps_the_broken_rule.Goals as goal
+use Rattle.ff_stream.specs.Ports.{stream_at}
+use Rattle.ff_node_codec.specs.CodingLaws.{made_keeps_broken_rule, always_keeps_broken_rule, left_keeps_broken_rule}
+use Rattle.ff_node_codec.specs.Decoding.{decoded_item}
+use Rattle.ff_node_codec.specs.EncodeLaws.{no_damage}
+use Rattle.ff_node_codec.specs.Encoding.{encoded_item}
+use Rattle.ff_node_codec.proofs.coding.coding_keeps_the_broken_rule.Goals as goal
 
 pub returns-clause-decoding : goal.returns-clause-decoding
 returns-clause-decoding c made = made_keeps_broken_rule (decoded_item made)

@@ -1,10 +1,10 @@
 use Rattle.std.proofs.Common.{ap}
-use Rattle.ff_frame.specs.Ports.{stream_at}
-use Rattle.ff_frame.specs.Stream.{Mark}
-use Rattle.ff_coding.specs.CodingLaws.{unbroken_fault, at_once_fault}
-use Rattle.ff_coding.specs.Decoding.{decoded_item, if_broken}
-use Rattle.ff_coding.specs.Making.{damage_in, fault_by}
-use Rattle.ff_coding.proofs.coding.damage_behind_a_cut_is_no_fault.Goals as goal
+use Rattle.ff_stream.specs.Ports.{stream_at}
+use Rattle.ff_stream.specs.Stream.{Mark}
+use Rattle.ff_node_codec.specs.CodingLaws.{unbroken_fault, at_once_fault}
+use Rattle.ff_node_codec.specs.Decoding.{decoded_item, if_broken}
+use Rattle.ff_node_codec.specs.Making.{damage_in, fault_by}
+use Rattle.ff_node_codec.proofs.coding.damage_behind_a_cut_is_no_fault.Goals as goal
 
 pub returns-clause-broken_off : goal.returns-clause-broken_off
 returns-clause-broken_off c head made k outputs ss e =

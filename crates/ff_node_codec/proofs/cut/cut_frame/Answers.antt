@@ -2,10 +2,10 @@ use Rattle.std.proofs.Common.{◌≡◌}
 use Rattle.ff_filter.specs.declared.step.Given.{Given}
 use Rattle.ff_filter.specs.Joins.{Flow, one, before, joined}
 use Rattle.ff_filter.specs.Made.{made_of}
-use Rattle.ff_cutting.specs.Cuts.{kept}
-use Rattle.ff_cutting.specs.Taps.{runs_of}
-use Rattle.ff_coding.proofs.CutSteps.{frame_left, if_ok}
-use Rattle.ff_coding.proofs.cut.cut_frame.Goals as goal
+use Rattle.ff_trim.specs.Cuts.{kept}
+use Rattle.ff_trim.specs.Taps.{runs_of}
+use Rattle.ff_node_codec.proofs.CutSteps.{frame_left, if_ok}
+use Rattle.ff_node_codec.proofs.cut.cut_frame.Goals as goal
 
 pub returns-clause-left : goal.returns-clause-left
 returns-clause-left c =

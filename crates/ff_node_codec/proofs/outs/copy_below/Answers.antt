@@ -1,6 +1,6 @@
 use Rattle.std.proofs.Common.{◌<◌, length, arith}
-use Rattle.ff_coding.proofs.LineSteps.{same_set, same_then, room_set, room_is, next_more}
-use Rattle.ff_coding.proofs.outs.copy_below.Goals as goal
+use Rattle.ff_node_codec.proofs.LineSteps.{same_set, same_then, room_set, room_is, next_more}
+use Rattle.ff_node_codec.proofs.outs.copy_below.Goals as goal
 
 pub returns-in_err-copy_next-clause-same : goal.returns-in_err-copy_next-clause-same
 returns-in_err-copy_next-clause-same c =

@@ -1,6 +1,6 @@
-use Rattle.ff_coding.specs.Lines.{HaveRoom, AreSame}
-use Rattle.ff_coding.specs.Puts.{AreNext}
-use Rattle.ff_coding.proofs.outs.copy_below.Given as goal
+use Rattle.ff_node_codec.specs.Lines.{HaveRoom, AreSame}
+use Rattle.ff_node_codec.specs.Puts.{AreNext}
+use Rattle.ff_node_codec.proofs.outs.copy_below.Given as goal
 
 abbrev pub invariant-loop-q : goal.invariant-loop-q
 invariant-loop-q l = record {

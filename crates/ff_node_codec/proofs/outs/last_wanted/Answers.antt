@@ -1,9 +1,9 @@
 use Rattle.std.proofs.Common.{◌≡◌, ◌+◌, ◌<◌, ℕ, length, None, Some, arith, ap, sym, ◌∙◌, subst}
-use Rattle.ff_coding.specs.Lines.{line_at}
-use Rattle.ff_coding.specs.Spreads.{Line}
-use Rattle.ff_coding.proofs.LineSteps.{LastBelow, line_is, none_more, last_more, last_here}
-use Rattle.ff_coding.proofs.outs.last_wanted.Goals as goal
-use Rattle.ff_coding.proofs.outs.last_wanted.Goals.{then-not-out, else-not-out}
+use Rattle.ff_node_codec.specs.Lines.{line_at}
+use Rattle.ff_node_codec.specs.Spreads.{Line}
+use Rattle.ff_node_codec.proofs.LineSteps.{LastBelow, line_is, none_more, last_more, last_here}
+use Rattle.ff_node_codec.proofs.outs.last_wanted.Goals as goal
+use Rattle.ff_node_codec.proofs.outs.last_wanted.Goals.{then-not-out, else-not-out}
 
 pub loop-q-preserved : goal.loop-q-preserved
 loop-q-preserved c =

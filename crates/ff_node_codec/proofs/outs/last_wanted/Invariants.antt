@@ -1,7 +1,7 @@
 use Rattle.std.proofs.Common.{◌≡◌, ◌<◌, ℕ, true, false, Some, None}
-use Rattle.ff_coding.specs.Lines.{line_at}
-use Rattle.ff_coding.specs.Spreads.{AllStopped}
-use Rattle.ff_coding.proofs.outs.last_wanted.Given as goal
+use Rattle.ff_node_codec.specs.Lines.{line_at}
+use Rattle.ff_node_codec.specs.Spreads.{AllStopped}
+use Rattle.ff_node_codec.proofs.outs.last_wanted.Given as goal
 
 abbrev pub invariant-loop-q : goal.invariant-loop-q
 invariant-loop-q l = record {

@@ -1,8 +1,8 @@
 use Rattle.std.proofs.Common.{◌≡◌, ◌≢◌, ◌<◌, ◌≤◌, ◌+◌, ◌++◌, ◌∷◌, ℕ, false, slice_set, length, arith, ap, sym, ◌∙◌, subst, inl, inr}
-use Rattle.ff_coding.specs.Lines.{line_at, closing_items}
-use Rattle.ff_coding.specs.Spreads.{Line}
-use Rattle.ff_coding.proofs.LineSteps.{set_count, room_rest, line_set_other, next_set_other, lower_or_same, put_queue, put_stopped}
-use Rattle.ff_coding.proofs.outs.put_all.Goals as goal
+use Rattle.ff_node_codec.specs.Lines.{line_at, closing_items}
+use Rattle.ff_node_codec.specs.Spreads.{Line}
+use Rattle.ff_node_codec.proofs.LineSteps.{set_count, room_rest, line_set_other, next_set_other, lower_or_same, put_queue, put_stopped}
+use Rattle.ff_node_codec.proofs.outs.put_all.Goals as goal
 
 pub loop-q-preserved : goal.loop-q-preserved
 loop-q-preserved c =

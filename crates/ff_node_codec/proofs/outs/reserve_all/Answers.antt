@@ -1,6 +1,6 @@
 use Rattle.std.proofs.Common.{◌<◌, length, arith}
-use Rattle.ff_coding.proofs.LineSteps.{same_set, same_then, room_more}
-use Rattle.ff_coding.proofs.outs.reserve_all.Goals as goal
+use Rattle.ff_node_codec.proofs.LineSteps.{same_set, same_then, room_more}
+use Rattle.ff_node_codec.proofs.outs.reserve_all.Goals as goal
 
 pub returns-in_err-reserve-clause-same : goal.returns-in_err-reserve-clause-same
 returns-in_err-reserve-clause-same c =

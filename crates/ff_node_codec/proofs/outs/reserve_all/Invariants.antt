@@ -1,7 +1,7 @@
 use Rattle.std.proofs.Common.{ℕ, ◌<◌, length, slice_index_or}
-use Rattle.ff_coding.specs.declared.ready.Ready.{Ready}
-use Rattle.ff_coding.specs.Lines.{HasRoom, AreSame}
-use Rattle.ff_coding.proofs.outs.reserve_all.Given as goal
+use Rattle.ff_node_codec.specs.declared.ready.Ready.{Ready}
+use Rattle.ff_node_codec.specs.Lines.{HasRoom, AreSame}
+use Rattle.ff_node_codec.proofs.outs.reserve_all.Given as goal
 
 abbrev pub invariant-loop-q : goal.invariant-loop-q
 invariant-loop-q l = record {

@@ -1,9 +1,9 @@
 use Rattle.std.proofs.Common.{◌<◌, ◌≤◌, length, arith, Ok, Err}
 use Rattle.std.specs.Result.{OnErr}
 use Rattle.std.specs.declared.result.Result.{Result}
-use Rattle.ff_coding.specs.Puts.{IsLast}
-use Rattle.ff_coding.proofs.LineSteps.{same_set, same_then, next_all}
-use Rattle.ff_coding.proofs.outs.set_all.Goals as goal
+use Rattle.ff_node_codec.specs.Puts.{IsLast}
+use Rattle.ff_node_codec.proofs.LineSteps.{same_set, same_then, next_all}
+use Rattle.ff_node_codec.proofs.outs.set_all.Goals as goal
 
 on_err : {A E : Type 0} (r : Result A E) (P : Type 0) → P → OnErr r P
 on_err (Ok a) P p = tt

@@ -1,6 +1,6 @@
 use Rattle.std.proofs.Common.{ℕ, List, ◌++◌, subst}
-use Rattle.ff_demuxing.proofs.DemuxSteps.{past_min}
-use Rattle.ff_demuxing.proofs.reading.feed_piece.Goals as goal
+use Rattle.ff_node_demux.proofs.DemuxSteps.{past_min}
+use Rattle.ff_node_demux.proofs.reading.feed_piece.Goals as goal
 
 pub returns-clause-cuts : goal.returns-clause-cuts
 returns-clause-cuts g c = λ head fed n cuts.

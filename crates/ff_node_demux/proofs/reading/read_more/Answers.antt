@@ -1,9 +1,9 @@
 use Rattle.std.proofs.Common.{◌∙◌, ℕ, [], take, subst, arith}
 use Rattle.std.specs.Io.KnownBytes.{Consumes}
 use Rattle.std.proofs.lemmas.List.{length-take}
-use Rattle.ff_demuxing.proofs.DemuxSteps.{demux_read, demux_read_end}
-use Rattle.ff_demuxing.proofs.ReadSteps.{fed_none, fed_piece}
-use Rattle.ff_demuxing.proofs.reading.read_more.Goals as goal
+use Rattle.ff_node_demux.proofs.DemuxSteps.{demux_read, demux_read_end}
+use Rattle.ff_node_demux.proofs.ReadSteps.{fed_none, fed_piece}
+use Rattle.ff_node_demux.proofs.reading.read_more.Goals as goal
 
 pub returns-then-count-eq0-clause-read : goal.returns-then-count-eq0-clause-read
 returns-then-count-eq0-clause-read g c = λ given ticket fault past d.

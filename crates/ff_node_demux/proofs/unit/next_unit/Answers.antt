@@ -1,11 +1,11 @@
 use Rattle.std.proofs.Common.{◌≡◌, ◌∙◌, ℕ, Ok, Some, false, sym, ap, subst, arith}
-use Rattle.ff_frame.specs.declared.item.Item.TheVariants.{Packet}
-use Rattle.ff_frame.specs.declared.item.Lane.TheVariants.{Packets}
-use Rattle.ff_values.specs.declared.packet.Pkt.{Pkt}
-use Rattle.ff_cut.specs.Cutters.{GivesPacket, GaveAll}
-use Rattle.ff_demuxing.specs.Demuxing.{passes_in_demux}
-use Rattle.ff_demuxing.proofs.LimitSteps.{short_packet}
-use Rattle.ff_demuxing.proofs.unit.next_unit.Goals as goal
+use Rattle.ff_stream.specs.declared.item.Item.TheVariants.{Packet}
+use Rattle.ff_stream.specs.declared.item.Lane.TheVariants.{Packets}
+use Rattle.ff_frame.specs.declared.packet.Pkt.{Pkt}
+use Rattle.ff_reader.specs.Cutters.{GivesPacket, GaveAll}
+use Rattle.ff_node_demux.specs.Demuxing.{passes_in_demux}
+use Rattle.ff_node_demux.proofs.LimitSteps.{short_packet}
+use Rattle.ff_node_demux.proofs.unit.next_unit.Goals as goal
 
 pub returns-then-is_long-clause-long : goal.returns-then-is_long-clause-long
 returns-then-is_long-clause-long g c = λ e.

@@ -1,5 +1,5 @@
-use Rattle.ff_net_filter.proofs.Limits.{single_limited, ended_limited, spread_limited}
-use Rattle.ff_net_filter.proofs.laws.filters_are_limited.Goals as goal
+use Rattle.ff_node_filter.proofs.Limits.{single_limited, ended_limited, spread_limited}
+use Rattle.ff_node_filter.proofs.laws.filters_are_limited.Goals as goal
 
 pub returns-clause-single : goal.returns-clause-single
 returns-clause-single c lane_in head f below calm sound = single_limited lane_in head f below calm sound

@@ -1,6 +1,6 @@
-use Rattle.ff_muxing.proofs.StreamTells.{told_of_streams, told_of_one}
-use Rattle.ff_muxing.proofs.TellSteps.{all_of_streams, sent_times}
-use Rattle.ff_muxing.proofs.laws.events_of_a_stream.Goals as goal
+use Rattle.ff_node_mux.proofs.StreamTells.{told_of_streams, told_of_one}
+use Rattle.ff_node_mux.proofs.TellSteps.{all_of_streams, sent_times}
+use Rattle.ff_node_mux.proofs.laws.events_of_a_stream.Goals as goal
 
 pub returns-clause-streams : goal.returns-clause-streams
 returns-clause-streams c = all_of_streams

@@ -1,5 +1,5 @@
-use Rattle.ff_muxing.specs.Held.{held_parts_stay}
-use Rattle.ff_muxing.proofs.laws.held_parts_stay.Goals as goal
+use Rattle.ff_node_mux.specs.Held.{held_parts_stay}
+use Rattle.ff_node_mux.proofs.laws.held_parts_stay.Goals as goal
 
 pub returns : goal.returns
 returns c = held_parts_stay

@@ -5,9 +5,9 @@ use Rattle.std.specs.Int.RustNames.{FitsSigned, unsigned_abs}
 use Rattle.std.proofs.lemmas.Int.{ints, to_z-of_z}
 use Rattle.ff_time.specs.Fraction.{Fraction, IsBase}
 use Rattle.ff_time.specs.Rescale.{IsRescaled}
-use Rattle.ff_muxing.specs.Telling.{microsecond}
-use Rattle.ff_muxing.proofs.TellSteps.{microsecond_is_base, micros_some, micros_large}
-use Rattle.ff_muxing.proofs.telling.micros.Goals as goal
+use Rattle.ff_node_mux.specs.Telling.{microsecond}
+use Rattle.ff_node_mux.proofs.TellSteps.{microsecond_is_base, micros_some, micros_large}
+use Rattle.ff_node_mux.proofs.telling.micros.Goals as goal
 
 pub unreachable-requires : goal.unreachable-requires
 unreachable-requires c = c.in_default.not-Ok microsecond (c.new.ensures.kept microsecond microsecond_is_base refl refl)

@@ -1,9 +1,9 @@
 use Rattle.std.proofs.Common.{◌∷◌, ◌++◌, [], ◌∙◌, refl, subst, arith, rules}
-use Rattle.ff_interleave.specs.Queues.{merging}
-use Rattle.ff_writers.specs.Layouts.{Layout}
-use Rattle.ff_muxing.specs.Writing.{Wrote, Stuck}
-use Rattle.ff_muxing.proofs.WriteSteps.{wrote_more, stuck_more}
-use Rattle.ff_muxing.proofs.writing.write_decided.Goals as goal
+use Rattle.ff_node_mux.specs.merge.Queues.{merging}
+use Rattle.ff_mux.specs.writers.Layouts.{Layout}
+use Rattle.ff_node_mux.specs.Writing.{Wrote, Stuck}
+use Rattle.ff_node_mux.proofs.WriteSteps.{wrote_more, stuck_more}
+use Rattle.ff_node_mux.proofs.writing.write_decided.Goals as goal
 
 pub returns-in_err-go-clause-stuck : goal.returns-in_err-go-clause-stuck
 returns-in_err-go-clause-stuck g c =

@@ -1,9 +1,9 @@
 use Rattle.std.proofs.Common.{◌≡◌, ◌≤◌, ℕ, List, length}
 use Rattle.ff_filter.specs.Joins.{silence}
-use Rattle.ff_interleave.specs.Merges.{Placed}
-use Rattle.ff_interleave.specs.Queues.{merging}
-use Rattle.ff_muxing.specs.Writing.{Alike, Wrote}
-use Rattle.ff_muxing.proofs.writing.write_decided.Given as goal
+use Rattle.ff_node_mux.specs.merge.Merges.{Placed}
+use Rattle.ff_node_mux.specs.merge.Queues.{merging}
+use Rattle.ff_node_mux.specs.Writing.{Alike, Wrote}
+use Rattle.ff_node_mux.proofs.writing.write_decided.Given as goal
 
 abbrev pub invariant-packets : goal.invariant-packets
 invariant-packets g l =

@@ -1,9 +1,9 @@
 use Rattle.std.proofs.Common.{refl, ap, ◌∙◌, Some}
-use Rattle.ff_interleave.specs.Merges.{Placed}
-use Rattle.ff_interleave.specs.Queues.{merging}
+use Rattle.ff_node_mux.specs.merge.Merges.{Placed}
+use Rattle.ff_node_mux.specs.merge.Queues.{merging}
 use Rattle.ff_net.specs.declared.fault.Fault.{Fault}
-use Rattle.ff_muxing.proofs.WriteSteps.{wrote_one, stuck_one}
-use Rattle.ff_muxing.proofs.writing.write_next.Goals as goal
+use Rattle.ff_node_mux.proofs.WriteSteps.{wrote_one, stuck_one}
+use Rattle.ff_node_mux.proofs.writing.write_next.Goals as goal
 
 pub returns-in-None-clause-wrote : goal.returns-in-None-clause-wrote
 returns-in-None-clause-wrote g c = λ e.

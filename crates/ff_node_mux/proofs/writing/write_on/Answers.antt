@@ -1,13 +1,13 @@
 use Rattle.std.proofs.Common.{◌≡◌, ◌≤◌, ℕ, [], length, refl, sym, ◌∙◌, subst, arith}
-use Rattle.ff_interleave.specs.Queues.{merging}
+use Rattle.ff_node_mux.specs.merge.Queues.{merging}
 use Rattle.ff_net.specs.declared.fault.Fault.TheVariants.{NoMemory}
-use Rattle.ff_writers.specs.Layouts.{Layout}
-use Rattle.ff_writers.specs.Patches.{replacing}
-use Rattle.ff_muxing.specs.Writing.{text_before}
-use Rattle.ff_muxing.proofs.Ends.{header_stands, replaced_inside}
-use Rattle.ff_muxing.proofs.Texts.{front_none}
-use Rattle.ff_muxing.proofs.WriteSteps.{stuck_early, stuck_first, stuck_midway, wrote_so_far, stuck_at_end, wrote_to_end, stuck_last}
-use Rattle.ff_muxing.proofs.writing.write_on.Goals as goal
+use Rattle.ff_mux.specs.writers.Layouts.{Layout}
+use Rattle.ff_mux.specs.writers.Patches.{replacing}
+use Rattle.ff_node_mux.specs.Writing.{text_before}
+use Rattle.ff_node_mux.proofs.Ends.{header_stands, replaced_inside}
+use Rattle.ff_node_mux.proofs.Texts.{front_none}
+use Rattle.ff_node_mux.proofs.WriteSteps.{stuck_early, stuck_first, stuck_midway, wrote_so_far, stuck_at_end, wrote_to_end, stuck_last}
+use Rattle.ff_node_mux.proofs.writing.write_on.Goals as goal
 
 pub returns-in_default-clause-stuck : goal.returns-in_default-clause-stuck
 returns-in_default-clause-stuck g c =

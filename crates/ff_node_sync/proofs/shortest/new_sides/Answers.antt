@@ -1,10 +1,10 @@
 use Rattle.std.proofs.Common.{◌≡◌, ◌+◌, ◌<◌, ◌≤◌, ◌∙◌, ◌++◌, ◌∷◌, [], suc, sym, ap, subst, arith, length, take, List}
 use Rattle.std.proofs.Math.Seq.{take-suc}
-use Rattle.ff_values.specs.declared.head.StreamHead.{StreamHead}
-use Rattle.ff_shortest.specs.declared.side.Side.{Side}
-use Rattle.ff_shortest.specs.Lines.{AreNew}
-use Rattle.ff_shortest.proofs.Moving.{new_more, all_new}
-use Rattle.ff_shortest.proofs.shortest.new_sides.Goals as goal
+use Rattle.ff_frame.specs.declared.head.StreamHead.{StreamHead}
+use Rattle.ff_node_sync.specs.declared.side.Side.{Side}
+use Rattle.ff_node_sync.specs.Lines.{AreNew}
+use Rattle.ff_node_sync.proofs.Moving.{new_more, all_new}
+use Rattle.ff_node_sync.proofs.shortest.new_sides.Goals as goal
 
 pub heads-preserved : goal.heads-preserved
 heads-preserved c =

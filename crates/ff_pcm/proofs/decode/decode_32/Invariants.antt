@@ -1,6 +1,6 @@
 -- The samples before the index are those of the bytes.
 use Rattle.std.proofs.Common.{◌≡◌, ℕ, ◌<◌, pos, get_or}
-use Rattle.ff_values.specs.declared.head.Codec.TheVariants.{PcmS32le}
+use Rattle.ff_frame.specs.declared.head.Codec.TheVariants.{PcmS32le}
 use Rattle.ff_pcm.specs.Samples.{sample_at}
 use Rattle.ff_pcm.proofs.decode.decode_32.Given as goal
 

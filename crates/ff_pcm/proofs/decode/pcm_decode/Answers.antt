@@ -2,8 +2,8 @@ use Rattle.std.proofs.Common.{ap, ◌∙◌, sym, subst, rules}
 use Rattle.std.specs.Int.{w64}
 use Rattle.std.specs.Int.RustNames.{FitsSigned}
 use Rattle.std.proofs.lemmas.Int.{to_z-of_z}
-use Rattle.ff_values.specs.Audio.{IsAudio}
-use Rattle.ff_values.specs.declared.audio.AFrame.{AFrame}
+use Rattle.ff_frame.specs.Audio.{IsAudio}
+use Rattle.ff_frame.specs.declared.audio.AFrame.{AFrame}
 use Rattle.ff_pcm.specs.Frames.{codec_of}
 use Rattle.ff_pcm.specs.Samples.{StandFor}
 use Rattle.ff_pcm.proofs.SampleLaws.{fields_stand, fields_audio, framed}

@@ -1,5 +1,5 @@
 use Rattle.std.proofs.Common.{sym, subst, List, ℤ}
-use Rattle.ff_values.specs.Audio.{IsAudio}
+use Rattle.ff_frame.specs.Audio.{IsAudio}
 use Rattle.ff_pcm.proofs.DepthLaws.{shifted_audio}
 use Rattle.ff_pcm.proofs.depth.depth_change.Goals as goal
 

@@ -1,5 +1,5 @@
 use Rattle.std.proofs.Common.{ℕ, ℤ, ◌<◌, All, IsTrue, get_or}
-use Rattle.ff_values.specs.Audio.{FitsBits}
+use Rattle.ff_frame.specs.Audio.{FitsBits}
 use Rattle.ff_pcm.proofs.fits.all_fit_bits.Given as goal
 
 abbrev pub invariant-loop-sample : goal.invariant-loop-sample

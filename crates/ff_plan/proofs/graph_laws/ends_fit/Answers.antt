@@ -1,5 +1,5 @@
 use Rattle.std.proofs.Common.{length}
-use Rattle.ff_labels.specs.Order.{feeds}
+use Rattle.ff_graph_links.specs.labels.Order.{feeds}
 use Rattle.ff_plan.proofs.EndFits.{ends_fit}
 use Rattle.ff_plan.proofs.graph_laws.ends_fit.Goals as goal
 

@@ -1,5 +1,5 @@
 use Rattle.std.proofs.Common.{length}
-use Rattle.ff_labels.specs.Order.{feeds}
+use Rattle.ff_graph_links.specs.labels.Order.{feeds}
 use Rattle.ff_plan.proofs.GraphFits.{graphs_fit}
 use Rattle.ff_plan.proofs.graph_laws.graphs_fit.Goals as goal
 

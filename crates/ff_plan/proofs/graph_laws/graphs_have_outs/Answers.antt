@@ -1,5 +1,5 @@
 use Rattle.std.proofs.Common.{length}
-use Rattle.ff_labels.specs.Order.{feeds}
+use Rattle.ff_graph_links.specs.labels.Order.{feeds}
 use Rattle.ff_plan.proofs.Ported.{have_outs}
 use Rattle.ff_plan.proofs.graph_laws.graphs_have_outs.Goals as goal
 

@@ -1,5 +1,5 @@
 use Rattle.std.proofs.Common.{length}
-use Rattle.ff_labels.specs.Order.{feeds}
+use Rattle.ff_graph_links.specs.labels.Order.{feeds}
 use Rattle.ff_plan.proofs.NodeRows.{have_rows}
 use Rattle.ff_plan.proofs.graph_laws.nodes_have_rows.Goals as goal
 

@@ -3,10 +3,10 @@ use Rattle.std.specs.Prelude.{Ok}
 use Rattle.std.specs.List.{AllByRecursion, range_with_len}
 use Rattle.std.specs.declared.alloc.Global.{Global}
 use Rattle.std.specs.declared.vec.Vec.{Vec}
-use Rattle.ff_values.specs.declared.head.StreamHead.{StreamHead}
+use Rattle.ff_frame.specs.declared.head.StreamHead.{StreamHead}
 use Rattle.ff_words.specs.declared.job.OutputJob.{OutputJob}
 use Rattle.ff_map.specs.Choice.{lists}
-use Rattle.ff_labels.specs.Order.{feeds}
+use Rattle.ff_graph_links.specs.labels.Order.{feeds}
 use Rattle.ff_plan.specs.declared.layout.OutStream.{OutStream}
 use Rattle.ff_plan.specs.declared.planned.GraphText.TheVariants as text
 use Rattle.ff_plan.specs.Labels.{taken_labels}

@@ -1,7 +1,7 @@
 use Rattle.std.proofs.Common.{◌≡◌, ◌+◌, drop, length}
 use Rattle.std.specs.List.{flat_map}
 use Rattle.ff_lang.specs.declared.graph.Chain.{Chain}
-use Rattle.ff_labels.specs.Labels.{filters_of}
+use Rattle.ff_graph_links.specs.labels.Labels.{filters_of}
 use Rattle.ff_plan.proofs.lengths.is_short.Given as goal
 
 abbrev pub invariant-loop-chain : goal.invariant-loop-chain

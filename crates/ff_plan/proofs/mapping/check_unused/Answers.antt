@@ -1,7 +1,7 @@
 use Rattle.std.proofs.Common.{◌≡◌, List, ℕ, None, ◌∙◌, subst}
 use Rattle.std.specs.Prelude.{IfOk, IfErr}
 use Rattle.std.specs.List.{find, flat_map}
-use Rattle.ff_labels.specs.Labels.{given_in}
+use Rattle.ff_graph_links.specs.labels.Labels.{given_in}
 use Rattle.ff_plan.specs.Mapping.{is_unused}
 use Rattle.ff_plan.specs.Planned.{unused_of}
 use Rattle.ff_plan.specs.Refusals.{IsFault}

@@ -1,5 +1,5 @@
 use Rattle.std.proofs.Common.{◌≡◌, drop}
-use Rattle.ff_labels.specs.Labels.{is_one_of}
+use Rattle.ff_graph_links.specs.labels.Labels.{is_one_of}
 use Rattle.ff_plan.specs.Labels.{taken_labels}
 use Rattle.ff_plan.proofs.mapping.graphs_take.Given as goal
 

@@ -1,6 +1,6 @@
 use Rattle.std.proofs.Common.{◌≡◌, drop}
 use Rattle.std.specs.List.{flat_map}
-use Rattle.ff_labels.specs.Labels.{is_one_of}
+use Rattle.ff_graph_links.specs.labels.Labels.{is_one_of}
 use Rattle.ff_plan.specs.Planned.{labels_of}
 use Rattle.ff_plan.proofs.mapping.outs_use.Given as goal
 

@@ -1,8 +1,8 @@
 use Rattle.std.proofs.Common.{◌≡◌, ◌<◌, ◌==◌, ◌∷◌, ◌++◌, [], ℕ, List, length, get_or, sym, ap, ◌∙◌, arith}
 use Rattle.std.proofs.lemmas.List.{get_or_default}
-use Rattle.ff_edges.specs.declared.edge.Edge.{Edge}
+use Rattle.ff_stream.specs.declared.edges.edge.Edge.{Edge}
 use Rattle.ff_plan.specs.Wires.{Wire, port_or}
-use Rattle.ff_edges.specs.Ports.{tally}
+use Rattle.ff_stream.specs.edges.Ports.{tally}
 use Rattle.ff_plan.proofs.Steps.{edges_next, next_edge}
 use Rattle.ff_plan.proofs.number.number_ports.Goals as goal
 use Rattle.ff_plan.proofs.number.number_ports.Goals.{in-Some, in-None}

@@ -1,7 +1,7 @@
 use Rattle.std.proofs.Common.{◌≡◌, drop}
 use Rattle.std.specs.List.{position_from}
 use Rattle.ff_lang.specs.declared.graph.Graph.{Graph}
-use Rattle.ff_labels.specs.Labels.{is_one_of, given_in}
+use Rattle.ff_graph_links.specs.labels.Labels.{is_one_of, given_in}
 use Rattle.ff_plan.specs.Labels.{giver}
 use Rattle.ff_plan.proofs.wanting.giver.Given as goal
 

@@ -1,5 +1,5 @@
 use Rattle.std.proofs.Common.{length}
-use Rattle.ff_labels.specs.Order.{feeds}
+use Rattle.ff_graph_links.specs.labels.Order.{feeds}
 use Rattle.ff_plan_laws.proofs.Sound.{sound}
 use Rattle.ff_plan_laws.proofs.laws.plans_are_sound.Goals as goal
 

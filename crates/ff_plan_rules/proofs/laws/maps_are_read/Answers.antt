@@ -1,5 +1,5 @@
-use Rattle.ff_rules.proofs.ReadMaps.{map_is}
-use Rattle.ff_rules.proofs.laws.maps_are_read.Goals as goal
+use Rattle.ff_plan_rules.proofs.ReadMaps.{map_is}
+use Rattle.ff_plan_rules.proofs.laws.maps_are_read.Goals as goal
 
 pub returns : goal.returns
 returns c = map_is

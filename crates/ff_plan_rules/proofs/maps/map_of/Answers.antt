@@ -1,6 +1,6 @@
 use Rattle.std.proofs.Common.{refl, sym}
-use Rattle.ff_rules.proofs.ReadMaps.{map_is, none_is}
-use Rattle.ff_rules.proofs.maps.map_of.Goals as goal
+use Rattle.ff_plan_rules.proofs.ReadMaps.{map_is, none_is}
+use Rattle.ff_plan_rules.proofs.maps.map_of.Goals as goal
 
 pub returns-in-Ok : goal.returns-in-Ok
 returns-in-Ok c = sym ((map_is c.args.text.now c.in-Ok.map).1 (c.in-Ok.ensures.ok c.in-Ok.map refl))

@@ -1,9 +1,9 @@
 use Rattle.std.proofs.Common.{◌∙◌, ◌≤◌, ◌<◌, sym, subst, arith, length, Some, None}
 use Rattle.std.proofs.lemmas.List.{take_all, length-take}
-use Rattle.ff_cut.specs.Walks.{head_limit, Reached}
-use Rattle.ff_cut.proofs.ReadingLaws.{reading_else, reading_is, within_over, within_short}
-use Rattle.ff_cut.proofs.ReachLaws.{Reached-near}
-use Rattle.ff_cut.proofs.walk.decide.Goals as goal
+use Rattle.ff_reader.specs.Walks.{head_limit, Reached}
+use Rattle.ff_reader.proofs.ReadingLaws.{reading_else, reading_is, within_over, within_short}
+use Rattle.ff_reader.proofs.ReachLaws.{Reached-near}
+use Rattle.ff_reader.proofs.walk.decide.Goals as goal
 
 pub returns-then-not-agree-clause-value : goal.returns-then-not-agree-clause-value
 returns-then-not-agree-clause-value g c = λ h.

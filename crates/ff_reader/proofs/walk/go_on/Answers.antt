@@ -1,6 +1,6 @@
 use Rattle.std.proofs.Common.{sym, arith}
-use Rattle.ff_cut.proofs.ReachLaws.{Reached-skip, Reached-decide, Reached-wait, Reached-end}
-use Rattle.ff_cut.proofs.walk.go_on.Goals as goal
+use Rattle.ff_reader.proofs.ReachLaws.{Reached-skip, Reached-decide, Reached-wait, Reached-end}
+use Rattle.ff_reader.proofs.walk.go_on.Goals as goal
 
 pub returns-in-Wait-clause-found : goal.returns-in-Wait-clause-found
 returns-in-Wait-clause-found g c = λ h.

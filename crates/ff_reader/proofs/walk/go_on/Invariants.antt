@@ -1,6 +1,6 @@
 use Rattle.std.proofs.Common.{length, ◌-◌}
-use Rattle.ff_cut.specs.Walks.{Reached}
-use Rattle.ff_cut.proofs.walk.go_on.Given as goal
+use Rattle.ff_reader.specs.Walks.{Reached}
+use Rattle.ff_reader.proofs.walk.go_on.Given as goal
 
 abbrev pub invariant-units : goal.invariant-units
 invariant-units g l = Reached g.F.HeadFormat.grammar l.initial.walk.at l.initial.walk.state l.bytes → Reached g.F.HeadFormat.grammar l.walk.at l.walk.state l.bytes

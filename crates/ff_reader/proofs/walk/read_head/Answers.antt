@@ -1,7 +1,7 @@
 use Rattle.std.proofs.Common.{◌∙◌, ap, [], refl, lit≤}
-use Rattle.ff_cut.specs.Walks.{answer_by}
-use Rattle.ff_cut.proofs.GrammarLaws.{answer_not_yet, answer_decided, answer_stays, answer_sound}
-use Rattle.ff_cut.proofs.walk.read_head.Goals as goal
+use Rattle.ff_reader.specs.Walks.{answer_by}
+use Rattle.ff_reader.proofs.GrammarLaws.{answer_not_yet, answer_decided, answer_stays, answer_sound}
+use Rattle.ff_reader.proofs.walk.read_head.Goals as goal
 
 pub returns-clause-not_yet : goal.returns-clause-not_yet
 returns-clause-not_yet g c =

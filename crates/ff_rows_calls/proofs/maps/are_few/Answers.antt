@@ -4,8 +4,8 @@ use Rattle.std.specs.declared.alloc.Global.{Global}
 use Rattle.std.specs.declared.vec.Vec.{Vec}
 use Rattle.std.proofs.lemmas.List.{take_all}
 use Rattle.std.proofs.lemmas.List.Elements.{All-same, All-more, recursion_from_All}
-use Rattle.ff_values.specs.declared.head.StreamHead.{StreamHead}
-use Rattle.ff_calls.proofs.maps.are_few.Goals as goal
+use Rattle.ff_frame.specs.declared.head.StreamHead.{StreamHead}
+use Rattle.ff_rows_calls.proofs.maps.are_few.Goals as goal
 
 abbrev Few : Vec StreamHead Global → Type 0
 Few v = vec_len v < 2 ^ 32

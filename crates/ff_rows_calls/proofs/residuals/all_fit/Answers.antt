@@ -3,8 +3,8 @@ use Rattle.std.specs.Prelude.{FitsSigned}
 use Rattle.std.proofs.lemmas.Int.{to_z-of_z}
 use Rattle.std.proofs.lemmas.List.{take_all}
 use Rattle.std.proofs.lemmas.List.Elements.{All-more, All-same}
-use Rattle.ff_values.specs.Audio.{FitsBits}
-use Rattle.ff_calls.proofs.residuals.all_fit.Goals as goal
+use Rattle.ff_frame.specs.Audio.{FitsBits}
+use Rattle.ff_rows_calls.proofs.residuals.all_fit.Goals as goal
 
 pub loop-x-preserved : goal.loop-x-preserved
 loop-x-preserved c =

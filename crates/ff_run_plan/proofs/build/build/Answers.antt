@@ -3,13 +3,13 @@ use Rattle.std.proofs.lemmas.Option.{slice_get-get_or}
 use Rattle.std.proofs.lemmas.Grind.{common_steps}
 use Rattle.ff_plan.specs.declared.planned.PlanNode.{PlanNode}
 use Rattle.ff_plan.specs.declared.planned.PlanNode.TheVariants as node
-use Rattle.ff_edges.specs.Ports.{lanes_into, lanes_out_of}
-use Rattle.ff_running.specs.Asked.{asked_of}
-use Rattle.ff_running.specs.Parts.{AreOrdered, IsPart}
-use Rattle.ff_running.specs.Tasks.{first_at, cuts_at}
-use Rattle.ff_running.proofs.Numbers.{same_some}
-use Rattle.ff_running.proofs.Building.{same_places, source_there, sink_there, next_part}
-use Rattle.ff_running.proofs.build.build.Goals as goal
+use Rattle.ff_stream.specs.edges.Ports.{lanes_into, lanes_out_of}
+use Rattle.ff_run_plan.specs.Asked.{asked_of}
+use Rattle.ff_run_plan.specs.Parts.{AreOrdered, IsPart}
+use Rattle.ff_run_plan.specs.Tasks.{first_at, cuts_at}
+use Rattle.ff_run_plan.proofs.Numbers.{same_some}
+use Rattle.ff_run_plan.proofs.Building.{same_places, source_there, sink_there, next_part}
+use Rattle.ff_run_plan.proofs.build.build.Goals as goal
 
 pub part_of-requires-clause-source : goal.part_of-requires-clause-source
 part_of-requires-clause-source g c κs within = λ i at.

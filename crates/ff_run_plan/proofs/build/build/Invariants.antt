@@ -1,7 +1,7 @@
 use Rattle.std.proofs.Common.{◌≡◌, ◌≤◌, List, length, vec_items, vec_len, vec_capacity}
-use Rattle.ff_running.specs.Asked.{asked_of}
-use Rattle.ff_running.specs.Parts.{AllAside, AreParts}
-use Rattle.ff_running.proofs.build.build.Given as goal
+use Rattle.ff_run_plan.specs.Asked.{asked_of}
+use Rattle.ff_run_plan.specs.Parts.{AllAside, AreParts}
+use Rattle.ff_run_plan.proofs.build.build.Given as goal
 
 abbrev pub invariant-loop-number : goal.invariant-loop-number
 invariant-loop-number g l = record {

@@ -2,17 +2,17 @@ use Rattle.std.proofs.Common.{◌≡◌, ◌<◌, List, length, slice_get, sym, 
 use Rattle.std.proofs.lemmas.List.{length-map}
 use Rattle.std.proofs.lemmas.Option.{slice_get_within}
 use Rattle.ff_words.specs.declared.job.OutputJob.{OutputJob}
-use Rattle.ff_values.specs.declared.head.StreamHead.{StreamHead}
-use Rattle.ff_frame.specs.declared.item.Lane.{Lane}
-use Rattle.ff_frame.specs.declared.item.Lane.TheVariants.{Frames}
-use Rattle.ff_frame.specs.Lanes.{head_of}
-use Rattle.ff_running.specs.Asked.{asked_of}
-use Rattle.ff_running.specs.Tasks.{heads_on}
-use Rattle.ff_running.proofs.StreamNumbers.{coded_is, framed_is}
+use Rattle.ff_frame.specs.declared.head.StreamHead.{StreamHead}
+use Rattle.ff_stream.specs.declared.item.Lane.{Lane}
+use Rattle.ff_stream.specs.declared.item.Lane.TheVariants.{Frames}
+use Rattle.ff_stream.specs.Lanes.{head_of}
+use Rattle.ff_run_plan.specs.Asked.{asked_of}
+use Rattle.ff_run_plan.specs.Tasks.{heads_on}
+use Rattle.ff_run_plan.proofs.StreamNumbers.{coded_is, framed_is}
 use Rattle.ff_plan.specs.declared.planned.PlanNode.{PlanNode}
-use Rattle.ff_running.specs.Parts.{FitsDemux, FitsGraph, FitsShortest, FitsMux, IsFitting, IsPart}
-use Rattle.ff_running.proofs.Making.{if_both, demux_part, graph_part, shortest_part, mux_part}
-use Rattle.ff_running.proofs.build.part_at.Goals as goal
+use Rattle.ff_run_plan.specs.Parts.{FitsDemux, FitsGraph, FitsShortest, FitsMux, IsFitting, IsPart}
+use Rattle.ff_run_plan.proofs.Making.{if_both, demux_part, graph_part, shortest_part, mux_part}
+use Rattle.ff_run_plan.proofs.build.part_at.Goals as goal
 
 pub graph_at-requires-after_bounds : goal.graph_at-requires-after_bounds
 graph_at-requires-after_bounds g c κs within =

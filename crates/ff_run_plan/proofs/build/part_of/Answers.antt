@@ -2,19 +2,19 @@ use Rattle.std.proofs.Common.{◌≡◌, ℕ, ◌-◌, List, length, slice_get, 
 use Rattle.std.proofs.lemmas.Option.{slice_get-get_or}
 use Rattle.ff_time.specs.declared.cut.TimeCut.{TimeCut}
 use Rattle.ff_words.specs.declared.job.OutputJob.{OutputJob}
-use Rattle.ff_frame.specs.declared.item.Lane.{Lane}
+use Rattle.ff_stream.specs.declared.item.Lane.{Lane}
 use Rattle.ff_plan.specs.declared.planned.PlanNode.{PlanNode}
 use Rattle.ff_plan.specs.declared.planned.PlanNode.TheVariants as node
-use Rattle.ff_edges.specs.Ports.{lanes_into, lanes_out_of}
-use Rattle.ff_running.specs.Asked.{asked_of}
-use Rattle.ff_running.specs.Cuts.{cuts_out_of}
-use Rattle.ff_running.specs.Parts.{IsFitting, IsPart}
+use Rattle.ff_stream.specs.edges.Ports.{lanes_into, lanes_out_of}
+use Rattle.ff_run_plan.specs.Asked.{asked_of}
+use Rattle.ff_run_plan.specs.Cuts.{cuts_out_of}
+use Rattle.ff_run_plan.specs.Parts.{IsFitting, IsPart}
 use Rattle.ff_plan.specs.Numbers.{streams_between}
-use Rattle.ff_running.specs.Tasks.{first_at, cuts_at}
-use Rattle.ff_running.proofs.Cutting.{as_many_cuts}
-use Rattle.ff_running.proofs.Making.{if_more}
-use Rattle.ff_running.proofs.Numbers.{same_some}
-use Rattle.ff_running.proofs.build.part_of.Goals as goal
+use Rattle.ff_run_plan.specs.Tasks.{first_at, cuts_at}
+use Rattle.ff_run_plan.proofs.Cutting.{as_many_cuts}
+use Rattle.ff_run_plan.proofs.Making.{if_more}
+use Rattle.ff_run_plan.proofs.Numbers.{same_some}
+use Rattle.ff_run_plan.proofs.build.part_of.Goals as goal
 
 pub part_at-requires-clause-fits : goal.part_at-requires-clause-fits
 part_at-requires-clause-fits g c κs within =

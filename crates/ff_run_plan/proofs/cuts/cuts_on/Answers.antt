@@ -1,8 +1,8 @@
 use Rattle.std.proofs.Common.{◌++◌, ◌∷◌, [], get_or, refl, ap, ◌∙◌, vec_items}
 use Rattle.ff_time.specs.declared.cut.TimeCut.{TimeCut}
-use Rattle.ff_running.proofs.Cutting.{cut_more, cut_passed}
-use Rattle.ff_running.proofs.cuts.cuts_on.Goals.{then-number-edges+in_ok-push, else-number-edges}
-use Rattle.ff_running.proofs.cuts.cuts_on.Goals as goal
+use Rattle.ff_run_plan.proofs.Cutting.{cut_more, cut_passed}
+use Rattle.ff_run_plan.proofs.cuts.cuts_on.Goals.{then-number-edges+in_ok-push, else-number-edges}
+use Rattle.ff_run_plan.proofs.cuts.cuts_on.Goals as goal
 
 pub loop-k-preserved : goal.loop-k-preserved
 loop-k-preserved c =

@@ -3,11 +3,11 @@ use Rattle.std.proofs.lemmas.Option.{slice_get-get_or, slice_get_within}
 use Rattle.std.specs.Vec.Iter.{into_iter_items}
 use Rattle.ff_plan.specs.declared.planned.PlanNode.{PlanNode}
 use Rattle.ff_plan.specs.declared.planned.PlanNode.TheVariants as node
-use Rattle.ff_running.specs.Kinds.{IsSourceOf, IsSinkOf}
-use Rattle.ff_running.proofs.Places.{no_length}
-use Rattle.ff_running.proofs.Gathering.{next_left, none_left, demux_once, mux_once, back_next, others_next}
-use Rattle.ff_running.proofs.gather.gather.Goals.{else-loop-number-test, then-loop-number-test+in_default}
-use Rattle.ff_running.proofs.gather.gather.Goals as goal
+use Rattle.ff_run_plan.specs.Kinds.{IsSourceOf, IsSinkOf}
+use Rattle.ff_run_plan.proofs.Places.{no_length}
+use Rattle.ff_run_plan.proofs.Gathering.{next_left, none_left, demux_once, mux_once, back_next, others_next}
+use Rattle.ff_run_plan.proofs.gather.gather.Goals.{else-loop-number-test, then-loop-number-test+in_default}
+use Rattle.ff_run_plan.proofs.gather.gather.Goals as goal
 
 pub put_back-requires-clause-ends : goal.put_back-requires-clause-ends
 put_back-requires-clause-ends g c κs within =

@@ -1,9 +1,9 @@
 use Rattle.std.proofs.Common.{◌≡◌, ◌<◌, ℕ, length, drop, slice_get, Some, vec_items}
 use Rattle.std.specs.Vec.Iter.{into_iter_items}
 use Rattle.ff_plan.specs.declared.planned.PlanNode.TheVariants as node
-use Rattle.ff_running.specs.Kinds.{IsSourceOf, IsSinkOf}
-use Rattle.ff_running.specs.Parts.{IsBefore}
-use Rattle.ff_running.proofs.gather.gather.Given as goal
+use Rattle.ff_run_plan.specs.Kinds.{IsSourceOf, IsSinkOf}
+use Rattle.ff_run_plan.specs.Parts.{IsBefore}
+use Rattle.ff_run_plan.proofs.gather.gather.Given as goal
 
 abbrev pub invariant-loop-number : goal.invariant-loop-number
 invariant-loop-number g l =

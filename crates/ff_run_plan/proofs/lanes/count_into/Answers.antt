@@ -1,8 +1,8 @@
 use Rattle.std.proofs.Common.{ℕ, ◌+◌, ◌==◌, Bool, sym, ap, ◌∙◌, arith}
-use Rattle.ff_edges.specs.declared.edge.Edge.{Edge}
-use Rattle.ff_running.proofs.Tally.{same_yes, same_no, tally_yes, tally_no}
-use Rattle.ff_running.proofs.lanes.count_into.Goals.{then-edges-k, else-edges-k}
-use Rattle.ff_running.proofs.lanes.count_into.Goals as goal
+use Rattle.ff_stream.specs.declared.edges.edge.Edge.{Edge}
+use Rattle.ff_run_plan.proofs.Tally.{same_yes, same_no, tally_yes, tally_no}
+use Rattle.ff_run_plan.proofs.lanes.count_into.Goals.{then-edges-k, else-edges-k}
+use Rattle.ff_run_plan.proofs.lanes.count_into.Goals as goal
 
 pub loop-k-preserved : goal.loop-k-preserved
 loop-k-preserved c =

@@ -1,8 +1,8 @@
 use Rattle.std.proofs.Common.{◌++◌, ◌∷◌, [], get_or, refl, ap, ◌∙◌, vec_items}
-use Rattle.ff_frame.specs.declared.item.Lane.{Lane}
-use Rattle.ff_running.proofs.Tally.{lane_more, lane_passed}
-use Rattle.ff_running.proofs.lanes.lanes_of.Goals.{then-number-edges+in_ok-push, else-number-edges}
-use Rattle.ff_running.proofs.lanes.lanes_of.Goals as goal
+use Rattle.ff_stream.specs.declared.item.Lane.{Lane}
+use Rattle.ff_run_plan.proofs.Tally.{lane_more, lane_passed}
+use Rattle.ff_run_plan.proofs.lanes.lanes_of.Goals.{then-number-edges+in_ok-push, else-number-edges}
+use Rattle.ff_run_plan.proofs.lanes.lanes_of.Goals as goal
 
 pub loop-k-preserved : goal.loop-k-preserved
 loop-k-preserved c =

@@ -1,7 +1,7 @@
 use Rattle.std.proofs.Common.{◌≡◌, take, vec_items}
 use Rattle.std.specs.List.{filter_map}
-use Rattle.ff_edges.specs.Ports.{lane_of}
-use Rattle.ff_running.proofs.lanes.lanes_of.Given as goal
+use Rattle.ff_stream.specs.edges.Ports.{lane_of}
+use Rattle.ff_run_plan.proofs.lanes.lanes_of.Given as goal
 
 abbrev pub invariant-loop-k : goal.invariant-loop-k
 invariant-loop-k l = vec_items l.lanes ≡ filter_map (lane_of l.edges) (take l.k l.numbers)

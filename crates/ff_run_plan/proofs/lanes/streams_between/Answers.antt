@@ -1,9 +1,9 @@
 use Rattle.std.proofs.Common.{◌≡◌, ℕ, ◌+◌, Bool, true, false, get_or, sym, ap, ◌∙◌, arith}
-use Rattle.ff_edges.specs.declared.edge.Edge.{Edge}
+use Rattle.ff_stream.specs.declared.edges.edge.Edge.{Edge}
 use Rattle.ff_plan.specs.Numbers.{leads_between}
-use Rattle.ff_running.proofs.Tally.{tally_yes, tally_no}
-use Rattle.ff_running.proofs.lanes.streams_between.Goals.{then-leads_between, else-leads_between}
-use Rattle.ff_running.proofs.lanes.streams_between.Goals as goal
+use Rattle.ff_run_plan.proofs.Tally.{tally_yes, tally_no}
+use Rattle.ff_run_plan.proofs.lanes.streams_between.Goals.{then-leads_between, else-leads_between}
+use Rattle.ff_run_plan.proofs.lanes.streams_between.Goals as goal
 
 pub loop-k-preserved : goal.loop-k-preserved
 loop-k-preserved c =

@@ -1,8 +1,8 @@
 use Rattle.std.proofs.Common.{ap, sym, ◌∙◌, ◌<◌, arith}
-use Rattle.ff_running.specs.Openings.{is_read}
-use Rattle.ff_running.proofs.Marks.{bit_of, next_mark}
-use Rattle.ff_running.proofs.opening.unused_inputs.Goals as goal
-use Rattle.ff_running.proofs.opening.unused_inputs.Goals.{then-some_reads, else-some_reads}
+use Rattle.ff_run_plan.specs.Openings.{is_read}
+use Rattle.ff_run_plan.proofs.Marks.{bit_of, next_mark}
+use Rattle.ff_run_plan.proofs.opening.unused_inputs.Goals as goal
+use Rattle.ff_run_plan.proofs.opening.unused_inputs.Goals.{then-some_reads, else-some_reads}
 
 pub loop-k-preserved : goal.loop-k-preserved
 loop-k-preserved c =

@@ -1,7 +1,7 @@
 use Rattle.std.proofs.Common.{◌≡◌, ℕ, ◌++◌, ◌∷◌, [], List, take, sym, ap, ◌∙◌}
-use Rattle.ff_running.specs.Reads.{grants_of, places_in, tried_in, first_reads}
-use Rattle.ff_running.proofs.Grants.{upto_more, place_more}
-use Rattle.ff_running.proofs.reads.all_reads.Goals as goal
+use Rattle.ff_run_plan.specs.Reads.{grants_of, places_in, tried_in, first_reads}
+use Rattle.ff_run_plan.proofs.Grants.{upto_more, place_more}
+use Rattle.ff_run_plan.proofs.reads.all_reads.Goals as goal
 
 pub loop-input-preserved : goal.loop-input-preserved
 loop-input-preserved g c =

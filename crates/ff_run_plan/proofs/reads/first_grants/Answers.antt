@@ -1,11 +1,11 @@
 use Rattle.std.proofs.Common.{◌≡◌, ◌<◌, ◌+◌, ◌++◌, ◌∷◌, [], take, List, ℕ, sym, ap, ◌∙◌, append_assoc, vec_items, vec_len, arith}
 use Rattle.std.specs.declared.alloc.Global.{Global}
 use Rattle.std.specs.declared.vec.Vec.{Vec}
-use Rattle.ff_values.specs.declared.event.Event.TheVariants.{Grant}
-use Rattle.ff_running.specs.Reads.{grants_of}
-use Rattle.ff_running.proofs.Grants.{still, one_taken, one_passed, all_taken}
-use Rattle.ff_running.proofs.reads.first_grants.Goals.{then-len-count+then-is_grant_of+in_ok-push, else-len-count, else-len-count-via-then-len-count+else-is_grant_of, else-len-count-via-else-len-count}
-use Rattle.ff_running.proofs.reads.first_grants.Goals as goal
+use Rattle.ff_frame.specs.declared.event.Event.TheVariants.{Grant}
+use Rattle.ff_run_plan.specs.Reads.{grants_of}
+use Rattle.ff_run_plan.proofs.Grants.{still, one_taken, one_passed, all_taken}
+use Rattle.ff_run_plan.proofs.reads.first_grants.Goals.{then-len-count+then-is_grant_of+in_ok-push, else-len-count, else-len-count-via-then-len-count+else-is_grant_of, else-len-count-via-else-len-count}
+use Rattle.ff_run_plan.proofs.reads.first_grants.Goals as goal
 
 pub loop-at-preserved : goal.loop-at-preserved
 loop-at-preserved c =

@@ -1,7 +1,7 @@
 use Rattle.std.proofs.Common.{◌≡◌, ◌≤◌, ◌++◌, take, vec_items, vec_len}
-use Rattle.ff_running.specs.Reads.{grants_of}
-use Rattle.ff_running.proofs.Grants.{still}
-use Rattle.ff_running.proofs.reads.first_grants.Given as goal
+use Rattle.ff_run_plan.specs.Reads.{grants_of}
+use Rattle.ff_run_plan.proofs.Grants.{still}
+use Rattle.ff_run_plan.proofs.reads.first_grants.Given as goal
 
 abbrev pub invariant-loop-at : goal.invariant-loop-at
 invariant-loop-at l = record {

@@ -2,9 +2,9 @@ use Rattle.std.proofs.Common.{◌≡◌, ◌<◌, length, slice_get, Some, sym, 
 use Rattle.std.proofs.lemmas.Bool.{ltb-true}
 use Rattle.std.proofs.lemmas.Option.{slice_get-get_or}
 use Rattle.ff_plan.specs.declared.planned.PlanNode.{PlanNode}
-use Rattle.ff_running.proofs.Numbers.{there}
-use Rattle.ff_running.proofs.Trying.{tried_next, tried_all}
-use Rattle.ff_running.proofs.reads.tried.Goals as goal
+use Rattle.ff_run_plan.proofs.Numbers.{there}
+use Rattle.ff_run_plan.proofs.Trying.{tried_next, tried_all}
+use Rattle.ff_run_plan.proofs.reads.tried.Goals as goal
 
 pub loop-number-preserved : goal.loop-number-preserved
 loop-number-preserved g c =

@@ -1,14 +1,14 @@
 use Rattle.std.proofs.Common.{◌≡◌, None, sym, ◌∙◌, subst}
 use Rattle.std.specs.declared.alloc.Global.{Global}
 use Rattle.std.specs.declared.vec.Vec.{Vec}
-use Rattle.ff_running.specs.Asked.{asked_of}
-use Rattle.ff_running.specs.Histories.{AreScheduled}
-use Rattle.ff_running.specs.Meaning.{task_at}
-use Rattle.ff_running.specs.Openings.{unstarted}
-use Rattle.ff_running.specs.Runs.{AreRun}
-use Rattle.ff_running.proofs.Histories.{none_known}
-use Rattle.ff_running.proofs.Running.{part_sound, all_start, all_fit, are_within, run_ok, run_err}
-use Rattle.ff_running.proofs.run.build_and_run.Goals as goal
+use Rattle.ff_run_plan.specs.Asked.{asked_of}
+use Rattle.ff_run_plan.specs.Histories.{AreScheduled}
+use Rattle.ff_run_plan.specs.Meaning.{task_at}
+use Rattle.ff_run_plan.specs.Openings.{unstarted}
+use Rattle.ff_run_plan.specs.Runs.{AreRun}
+use Rattle.ff_run_plan.proofs.Histories.{none_known}
+use Rattle.ff_run_plan.proofs.Running.{part_sound, all_start, all_fit, are_within, run_ok, run_err}
+use Rattle.ff_run_plan.proofs.run.build_and_run.Goals as goal
 
 pub run_parts-requires-clause-fits : goal.run_parts-requires-clause-fits
 run_parts-requires-clause-fits g c κs within =

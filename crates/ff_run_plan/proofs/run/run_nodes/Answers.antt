@@ -1,14 +1,14 @@
 use Rattle.std.proofs.Common.{◌≡◌, ℕ, List, length, map, Some, sym, ap, ◌∙◌, subst, arith}
-use Rattle.ff_running.specs.Asked.{asked_of}
-use Rattle.ff_running.specs.Histories.{AreScheduled}
-use Rattle.ff_running.specs.Parts.{AreOrdered}
-use Rattle.ff_running.specs.Reads.{places_in, first_reads, IsLogOf}
-use Rattle.ff_running.proofs.Histories.{if_some_both}
-use Rattle.ff_running.proofs.Outcomes.{fine_only}
-use Rattle.ff_running.proofs.Backs.{all_aside, srcs_full, snks_full, are_back}
-use Rattle.ff_running.proofs.Running.{have_ends}
-use Rattle.ff_running.proofs.Telling.{told_of}
-use Rattle.ff_running.proofs.run.run_nodes.Goals as goal
+use Rattle.ff_run_plan.specs.Asked.{asked_of}
+use Rattle.ff_run_plan.specs.Histories.{AreScheduled}
+use Rattle.ff_run_plan.specs.Parts.{AreOrdered}
+use Rattle.ff_run_plan.specs.Reads.{places_in, first_reads, IsLogOf}
+use Rattle.ff_run_plan.proofs.Histories.{if_some_both}
+use Rattle.ff_run_plan.proofs.Outcomes.{fine_only}
+use Rattle.ff_run_plan.proofs.Backs.{all_aside, srcs_full, snks_full, are_back}
+use Rattle.ff_run_plan.proofs.Running.{have_ends}
+use Rattle.ff_run_plan.proofs.Telling.{told_of}
+use Rattle.ff_run_plan.proofs.run.run_nodes.Goals as goal
 
 pub build_and_run-machines-requires-clause-aside : goal.build_and_run-machines-requires-clause-aside
 build_and_run-machines-requires-clause-aside g c κs within =

@@ -1,17 +1,17 @@
 use Rattle.std.proofs.Common.{◌≡◌, true, None, List, length, Option, sym, ap, ◌∙◌, subst}
 use Rattle.std.specs.declared.alloc.Global.{Global}
 use Rattle.std.specs.declared.vec.Vec.{Vec}
-use Rattle.ff_network.specs.declared.run.NodeFault.{NodeFault}
-use Rattle.ff_network.specs.Fits.{network, ins_at, outs_at}
-use Rattle.ff_network.specs.Networks.{AllStart, ports_of}
-use Rattle.ff_network.specs.Runs.{MeetsNetwork}
+use Rattle.ff_net_threads.specs.declared.network.run.NodeFault.{NodeFault}
+use Rattle.ff_net_threads.specs.network.Fits.{network, ins_at, outs_at}
+use Rattle.ff_net_threads.specs.network.Networks.{AllStart, ports_of}
+use Rattle.ff_net_threads.specs.network.Runs.{MeetsNetwork}
 use Rattle.ff_net.specs.Nets.{solve}
-use Rattle.ff_network.specs.Scheduling.{Scheduled}
-use Rattle.ff_running.specs.Openings.{unstarted}
-use Rattle.ff_running.specs.Runs.{TellsRun}
-use Rattle.ff_running.proofs.Histories.{none_known, of_log, or_memory_none, or_memory_told, some_told, with_history}
-use Rattle.ff_running.proofs.Networks.{told_tells, told_meets, unstarted_meets}
-use Rattle.ff_running.proofs.run.run_parts.Goals as goal
+use Rattle.ff_net_threads.specs.network.Scheduling.{Scheduled}
+use Rattle.ff_run_plan.specs.Openings.{unstarted}
+use Rattle.ff_run_plan.specs.Runs.{TellsRun}
+use Rattle.ff_run_plan.proofs.Histories.{none_known, of_log, or_memory_none, or_memory_told, some_told, with_history}
+use Rattle.ff_run_plan.proofs.Networks.{told_tells, told_meets, unstarted_meets}
+use Rattle.ff_run_plan.proofs.run.run_parts.Goals as goal
 
 pub returns-in-Ok-clause-tells : goal.returns-in-Ok-clause-tells
 returns-in-Ok-clause-tells g c =

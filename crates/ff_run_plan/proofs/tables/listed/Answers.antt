@@ -1,7 +1,7 @@
 use Rattle.std.proofs.Common.{◌≡◌, List, [], ◌∷◌, ◌++◌, map, Option, Some, None, ap, sym, ◌∙◌, arith}
 use Rattle.std.specs.Vec.Iter.{into_iter_items}
-use Rattle.ff_running.proofs.Places.{no_empty, all_full, no_length}
-use Rattle.ff_running.proofs.tables.listed.Goals as goal
+use Rattle.ff_run_plan.proofs.Places.{no_empty, all_full, no_length}
+use Rattle.ff_run_plan.proofs.tables.listed.Goals as goal
 
 pub unreachable-requires : goal.unreachable-requires
 unreachable-requires g c =

@@ -1,11 +1,11 @@
 use Rattle.std.proofs.Common.{◌≡◌, length, Some, ap, subst, ◌∙◌, rules, arith}
-use Rattle.ff_labels.specs.Order.{feeds}
+use Rattle.ff_graph_links.specs.labels.Order.{feeds}
 use Rattle.ff_map.specs.Choice.{lists}
 use Rattle.ff_plan.specs.declared.planned.PlanError.{PlanError}
 use Rattle.ff_plan_laws.proofs.Frames.{frames_kept}
-use Rattle.ff_running.specs.Meaning.{plan_for, refusal_of}
-use Rattle.ff_running.proofs.Plans.{AreLawful, is_plan, none_refused, is_refused}
-use Rattle.ff_running.proofs.work.make_plan.Goals as goal
+use Rattle.ff_run_plan.specs.Meaning.{plan_for, refusal_of}
+use Rattle.ff_run_plan.proofs.Plans.{AreLawful, is_plan, none_refused, is_refused}
+use Rattle.ff_run_plan.proofs.work.make_plan.Goals as goal
 
 pub returns-in-Ok-plan-clause-ok : goal.returns-in-Ok-plan-clause-ok
 returns-in-Ok-plan-clause-ok g c =

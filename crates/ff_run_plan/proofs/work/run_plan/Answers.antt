@@ -1,13 +1,13 @@
 use Rattle.std.proofs.Common.{◌≡◌, length, refl, ap, ◌∙◌, arith}
 use Rattle.ff_net.specs.Laws.{Laws}
-use Rattle.ff_running.specs.Asked.{asked_of}
-use Rattle.ff_running.specs.Claims.{tell_all}
-use Rattle.ff_running.specs.Histories.{state_before}
-use Rattle.ff_running.specs.Reads.{IsLogFor, IsLogOf}
-use Rattle.ff_running.proofs.Histories.{state_is, log_for, has_log, if_some_more}
-use Rattle.ff_running.proofs.Ending.{done_for, all_files, all_parts, keeps_sources, keeps_sinks, all_ends, all_sources, all_sinks}
-use Rattle.ff_running.proofs.Reading.{log_in}
-use Rattle.ff_running.proofs.work.run_plan.Goals as goal
+use Rattle.ff_run_plan.specs.Asked.{asked_of}
+use Rattle.ff_run_plan.specs.Claims.{tell_all}
+use Rattle.ff_run_plan.specs.Histories.{state_before}
+use Rattle.ff_run_plan.specs.Reads.{IsLogFor, IsLogOf}
+use Rattle.ff_run_plan.proofs.Histories.{state_is, log_for, has_log, if_some_more}
+use Rattle.ff_run_plan.proofs.Ending.{done_for, all_files, all_parts, keeps_sources, keeps_sinks, all_ends, all_sources, all_sinks}
+use Rattle.ff_run_plan.proofs.Reading.{log_in}
+use Rattle.ff_run_plan.proofs.work.run_plan.Goals as goal
 
 pub returns-clause-fine : goal.returns-clause-fine
 returns-clause-fine g c =

@@ -1,5 +1,5 @@
-use Rattle.ff_self_run.proofs.Few.{seconds_few}
-use Rattle.ff_self_run.proofs.seconds.seconds_are_few.Goals as goal
+use Rattle.ff_selfrun.proofs.Few.{seconds_few}
+use Rattle.ff_selfrun.proofs.seconds.seconds_are_few.Goals as goal
 
 pub returns : goal.returns
 returns c = seconds_few

@@ -1,9 +1,9 @@
 use Rattle.std.proofs.Common.{Ok, Err, ap, subst, ◌∙◌}
 use Rattle.ff_words.specs.Reading.{Answers}
 use Rattle.ff_words.specs.Words.{texts, fault}
-use Rattle.ff_self_run.specs.SelfRun.{own_words}
-use Rattle.ff_self_run.proofs.Own.{never-alone, never-wrong, out-written, words-are}
-use Rattle.ff_self_run.proofs.words.own_job.Goals as goal
+use Rattle.ff_selfrun.specs.SelfRun.{own_words}
+use Rattle.ff_selfrun.proofs.Own.{never-alone, never-wrong, out-written, words-are}
+use Rattle.ff_selfrun.proofs.words.own_job.Goals as goal
 
 pub returns-in-Ok-Run-clause-job : goal.returns-in-Ok-Run-clause-job
 returns-in-Ok-Run-clause-job c =

@@ -1,5 +1,5 @@
 use Rattle.std.proofs.Common.{◌≡◌}
-use Rattle.ff_net_plain.proofs.passing.put.Given as goal
+use Rattle.ff_test_machines.proofs.passing.put.Given as goal
 
 abbrev pub invariant-loop : goal.invariant-loop
 invariant-loop g l = record {

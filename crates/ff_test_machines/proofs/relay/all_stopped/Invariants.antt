@@ -1,6 +1,6 @@
 use Rattle.std.proofs.Common.{◌≡◌, drop}
-use Rattle.ff_net_plain.specs.Relays.{outs_stopped}
-use Rattle.ff_net_plain.proofs.relay.all_stopped.Given as goal
+use Rattle.ff_test_machines.specs.Relays.{outs_stopped}
+use Rattle.ff_test_machines.proofs.relay.all_stopped.Given as goal
 
 abbrev pub invariant-loop-out : goal.invariant-loop-out
 invariant-loop-out l = record {

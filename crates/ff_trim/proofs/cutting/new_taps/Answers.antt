@@ -2,11 +2,11 @@ use Rattle.std.proofs.Common.{◌≡◌, ◌+◌, ◌<◌, ◌≤◌, ◌∙◌,
 use Rattle.std.proofs.Math.Seq.{take-suc}
 use Rattle.std.proofs.lemmas.List.{length-take-le}
 use Rattle.ff_time.specs.declared.cut.TimeCut.{TimeCut}
-use Rattle.ff_values.specs.declared.head.StreamHead.{StreamHead}
-use Rattle.ff_cutting.specs.declared.tap.Tap.{Tap}
-use Rattle.ff_cutting.specs.Taps.{ways_of, AreNewWays}
-use Rattle.ff_cutting.proofs.Ways.{new_more, all_new}
-use Rattle.ff_cutting.proofs.cutting.new_taps.Goals as goal
+use Rattle.ff_frame.specs.declared.head.StreamHead.{StreamHead}
+use Rattle.ff_trim.specs.declared.tap.Tap.{Tap}
+use Rattle.ff_trim.specs.Taps.{ways_of, AreNewWays}
+use Rattle.ff_trim.proofs.Ways.{new_more, all_new}
+use Rattle.ff_trim.proofs.cutting.new_taps.Goals as goal
 
 pub heads-preserved : goal.heads-preserved
 heads-preserved c =

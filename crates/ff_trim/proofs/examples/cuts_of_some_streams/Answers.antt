@@ -1,5 +1,5 @@
 use Rattle.std.proofs.Common.{refl}
-use Rattle.ff_cutting.proofs.examples.cuts_of_some_streams.Goals as goal
+use Rattle.ff_trim.proofs.examples.cuts_of_some_streams.Goals as goal
 
 pub returns-clause-second : goal.returns-clause-second
 returns-clause-second c k bits codec f m es el ec ep en = rw (es, el, ec, ep, en) refl

@@ -1,5 +1,5 @@
-use Rattle.ff_cutting.proofs.ByFrames.{by_frames}
-use Rattle.ff_cutting.proofs.laws.cuts_go_frame_by_frame.Goals as goal
+use Rattle.ff_trim.proofs.ByFrames.{by_frames}
+use Rattle.ff_trim.proofs.laws.cuts_go_frame_by_frame.Goals as goal
 
 pub returns : goal.returns
 returns c head range s = by_frames head range s

@@ -1,5 +1,5 @@
-use Rattle.ff_cutting.proofs.Limiting.{cut-below, cut-calm, cut-settles, cut_breaks}
-use Rattle.ff_cutting.proofs.laws.streams_further_on_are_cut_further_on.Goals as goal
+use Rattle.ff_trim.proofs.Limiting.{cut-below, cut-calm, cut-settles, cut_breaks}
+use Rattle.ff_trim.proofs.laws.streams_further_on_are_cut_further_on.Goals as goal
 
 pub returns-clause-below : goal.returns-clause-below
 returns-clause-below c head k r s b = cut-below head k r s b

@@ -1,10 +1,10 @@
 use Rattle.std.proofs.Common.{List, None, false, map, refl}
-use Rattle.ff_frame.specs.declared.item.Item.{Item}
-use Rattle.ff_frame.specs.Lanes.{IsValid}
-use Rattle.ff_frame.specs.Stream.{Mark}
+use Rattle.ff_stream.specs.declared.item.Item.{Item}
+use Rattle.ff_stream.specs.Lanes.{IsValid}
+use Rattle.ff_stream.specs.Stream.{Mark}
 use Rattle.ff_filter.specs.Joins.{Flow}
 use Rattle.ff_filter.specs.Shifts.{from_first}
-use Rattle.ff_spread.proofs.OneRule.{one_keeps_rule, valid_ended}
+use Rattle.ff_filter.proofs.SpreadLemmas.OneRule.{one_keeps_rule, valid_ended}
 use Rattle.ff_vfilter.specs.Pictures.{with_picture}
 use Rattle.ff_vfilter.specs.Trims.{before_stop, reaches, from_start}
 use Rattle.ff_vfilter.specs.Rates.{evenly, pictures_of}

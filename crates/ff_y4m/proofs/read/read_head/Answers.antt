@@ -1,5 +1,5 @@
 use Rattle.std.proofs.Common.{◌∙◌, ap}
-use Rattle.ff_cut.proofs.AnswerLaws.{answer_is, answer_not_yet, answer_decided, answer_stays, answered_sound}
+use Rattle.ff_reader.proofs.AnswerLaws.{answer_is, answer_not_yet, answer_decided, answer_stays, answered_sound}
 use Rattle.ff_y4m.specs.Heads.{reading, early, answer}
 use Rattle.ff_y4m.specs.Packets.{IsHead}
 use Rattle.ff_y4m.proofs.HeadLaws.{reading-append, is_open}

@@ -2,7 +2,7 @@ use Rattle.std.proofs.Common.{refl}
 use Rattle.ff_filter.specs.Options.{is_sound}
 use Rattle.ff_filter.specs.Plain.{no_manual}
 use Rattle.ff_filter.proofs.Configuring.{configured}
-use Rattle.ff_spread.proofs.Configuring.{made_of_many}
+use Rattle.ff_filter.proofs.SpreadLemmas.Configuring.{made_of_many}
 use Rattle.ff_afilter.specs.Channels.{IsChannelSplit, channels_view, mono_heads}
 use Rattle.ff_afilter.proofs.channel_split.ChannelSplit.configure.Goals as goal
 

@@ -1,6 +1,6 @@
 use Rattle.std.proofs.Common.{◌≡◌, ◌≤◌, length, replicate}
 use Rattle.std.specs.Prelude.{vec_capacity}
-use Rattle.ff_spread.proofs.copies.same_heads.Given as goal
+use Rattle.ff_filter.proofs.spread.copies.same_heads.Given as goal
 
 abbrev pub invariant-heads : goal.invariant-heads
 invariant-heads l = record {

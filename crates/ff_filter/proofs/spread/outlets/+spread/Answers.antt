@@ -1,8 +1,8 @@
 use Rattle.std.proofs.Common.{◌<◌, length, slice_set, arith, refl, ap, ◌∙◌}
-use Rattle.ff_spread.specs.Lines.{Line, lines}
-use Rattle.ff_spread.specs.LineLaws.{lines_read}
-use Rattle.ff_spread.proofs.Putting.{line_same, lines_kept, put_more, put_all, unwanted}
-use Rattle.ff_spread.proofs.outlets.+spread.Goals as goal
+use Rattle.ff_filter.specs.spread.Lines.{Line, lines}
+use Rattle.ff_filter.specs.spread.LineLaws.{lines_read}
+use Rattle.ff_filter.proofs.SpreadLemmas.Putting.{line_same, lines_kept, put_more, put_all, unwanted}
+use Rattle.ff_filter.proofs.spread.outlets.+spread.Goals as goal
 
 pub returns-then-index-clause-put : goal.returns-then-index-clause-put
 returns-then-index-clause-put g t c =

@@ -1,8 +1,8 @@
 use Rattle.std.proofs.Common.{◌<◌, length, arith, sym, ap, ◌∙◌}
-use Rattle.ff_spread.specs.Lines.{Line, is_done}
-use Rattle.ff_spread.specs.LineLaws.{lines_read, all_of, none_of}
-use Rattle.ff_spread.proofs.Putting.{done_more}
-use Rattle.ff_spread.proofs.outlets.all_done.Goals as goal
+use Rattle.ff_filter.specs.spread.Lines.{Line, is_done}
+use Rattle.ff_filter.specs.spread.LineLaws.{lines_read, all_of, none_of}
+use Rattle.ff_filter.proofs.SpreadLemmas.Putting.{done_more}
+use Rattle.ff_filter.proofs.spread.outlets.all_done.Goals as goal
 
 pub returns-then-not-is_done : goal.returns-then-not-is_done
 returns-then-not-is_done c =

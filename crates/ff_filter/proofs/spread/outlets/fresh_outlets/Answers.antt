@@ -1,9 +1,9 @@
 use Rattle.std.proofs.Common.{◌≡◌, List, rules, sym, subst}
 use Rattle.ff_filter.specs.declared.outlet.Outlet.{Outlet}
-use Rattle.ff_spread.specs.Lines.{lines, fresh}
-use Rattle.ff_spread.specs.LineLaws.{lines_last}
-use Rattle.ff_spread.proofs.Putting.{line_fresh}
-use Rattle.ff_spread.proofs.outlets.fresh_outlets.Goals as goal
+use Rattle.ff_filter.specs.spread.Lines.{lines, fresh}
+use Rattle.ff_filter.specs.spread.LineLaws.{lines_last}
+use Rattle.ff_filter.proofs.SpreadLemmas.Putting.{line_fresh}
+use Rattle.ff_filter.proofs.spread.outlets.fresh_outlets.Goals as goal
 
 pub made-preserved : goal.made-preserved
 made-preserved c = record {

@@ -1,7 +1,7 @@
 use Rattle.std.proofs.Common.{◌≡◌, ◌≤◌, ℕ, length}
 use Rattle.std.specs.Prelude.{vec_capacity}
-use Rattle.ff_spread.specs.Lines.{lines, fresh}
-use Rattle.ff_spread.proofs.outlets.fresh_outlets.Given as goal
+use Rattle.ff_filter.specs.spread.Lines.{lines, fresh}
+use Rattle.ff_filter.proofs.spread.outlets.fresh_outlets.Given as goal
 
 abbrev pub invariant-made : goal.invariant-made
 invariant-made l = record {

@@ -1,8 +1,8 @@
 use Rattle.std.proofs.Common.{◌<◌, length, arith, ap, ◌∙◌}
-use Rattle.ff_spread.specs.Lines.{Line}
-use Rattle.ff_spread.specs.LineLaws.{lines_read}
-use Rattle.ff_spread.proofs.Putting.{stopped_more}
-use Rattle.ff_spread.proofs.outlets.is_wanted.Goals as goal
+use Rattle.ff_filter.specs.spread.Lines.{Line}
+use Rattle.ff_filter.specs.spread.LineLaws.{lines_read}
+use Rattle.ff_filter.proofs.SpreadLemmas.Putting.{stopped_more}
+use Rattle.ff_filter.proofs.spread.outlets.is_wanted.Goals as goal
 
 pub stopped-preserved : goal.stopped-preserved
 stopped-preserved c =

@@ -1,7 +1,7 @@
 use Rattle.std.proofs.Common.{ap, sym, ◌∙◌}
-use Rattle.ff_spread.specs.Lines.{Line}
-use Rattle.ff_spread.specs.LineLaws.{lines_read, lines_set, lines_other}
-use Rattle.ff_spread.proofs.outlets.stop_one.Goals as goal
+use Rattle.ff_filter.specs.spread.Lines.{Line}
+use Rattle.ff_filter.specs.spread.LineLaws.{lines_read, lines_set, lines_other}
+use Rattle.ff_filter.proofs.spread.outlets.stop_one.Goals as goal
 
 pub returns-clause-others : goal.returns-clause-others
 returns-clause-others c q n = lines_other c.args.outlets.now.items c.args.port q c.stop.new.self n

@@ -1,8 +1,8 @@
 use Rattle.std.proofs.Common.{ap, sym, ◌∙◌}
-use Rattle.ff_spread.specs.Lines.{Line}
-use Rattle.ff_spread.specs.LineLaws.{lines_read, lines_set, lines_other}
-use Rattle.ff_spread.proofs.Putting.{took_by, has_all_by}
-use Rattle.ff_spread.proofs.outlets.take_from.Goals as goal
+use Rattle.ff_filter.specs.spread.Lines.{Line}
+use Rattle.ff_filter.specs.spread.LineLaws.{lines_read, lines_set, lines_other}
+use Rattle.ff_filter.proofs.SpreadLemmas.Putting.{took_by, has_all_by}
+use Rattle.ff_filter.proofs.spread.outlets.take_from.Goals as goal
 
 pub returns-clause-others : goal.returns-clause-others
 returns-clause-others c q n = lines_other c.args.outlets.now.items c.args.port q c.take.new.self n

@@ -1,5 +1,5 @@
-use Rattle.ff_limited.proofs.Limited.{limited}
-use Rattle.ff_limited.proofs.laws.configured_filters_are_limited.Goals as goal
+use Rattle.ff_filters.proofs.LimitedLemmas.Limited.{limited}
+use Rattle.ff_filters.proofs.limited.laws.configured_filters_are_limited.Goals as goal
 
 pub returns : goal.returns
 returns c = limited

@@ -1,8 +1,8 @@
 use Rattle.std.proofs.Common.{rules, ◌≡◌, ◌*◌, ◌^◌, ◌+ℤ◌, ◌<ℤ◌, pos, ℤ, List, Option, refl, sym, ap, ◌∙◌, subst, take, FitsSigned, w64}
 use Rattle.std.proofs.lemmas.Int.{to_z-of_z}
-use Rattle.ff_values.specs.declared.audio.AFrame.{AFrame}
-use Rattle.ff_values.specs.Audio.{IsAudio}
-use Rattle.ff_values.specs.Frame.{audio_frame}
+use Rattle.ff_frame.specs.declared.audio.AFrame.{AFrame}
+use Rattle.ff_frame.specs.Audio.{IsAudio}
+use Rattle.ff_frame.specs.Frame.{audio_frame}
 use Rattle.ff_flac_enc.specs.declared.format.Format.{Format}
 use Rattle.ff_flac_enc.specs.Gathered.{Holds, IsKept}
 use Rattle.ff_flac_enc.proofs.GatherLemmas.{kept_less, block_sound}

@@ -1,15 +1,15 @@
 use Rattle.std.proofs.Common.{◌≡◌, ◌∙◌, ℕ, suc, ◌+◌, ◌-◌, ◌*◌, ◌%◌, ◌≤◌, ◌^◌, sym, ap, subst, arith, length, take, List, true}
 use Rattle.std.proofs.lemmas.Nat.{one_shl}
-use Rattle.ff_flac_rice.specs.declared.coding.Found.{Found}
-use Rattle.ff_flac_rice.specs.Rice.{is_allowed, parts_of}
-use Rattle.ff_flac_rice.specs.Columns.{columns, items_of}
-use Rattle.ff_flac_rice.proofs.Costs.{length-parts_of}
-use Rattle.ff_flac_rice.proofs.Orders.{allowed_down}
-use Rattle.ff_flac_rice.proofs.Levels.{IsBest, IsBestFound, IsCostFound, best_first, both_first, both_second, spans_after, best_after, best_end, cost_is}
-use Rattle.ff_flac_rice.proofs.Floors.{seconds_floor}
-use Rattle.ff_flac_rice.proofs.ColumnLemmas.{columns_count, columns_same, columns_small, columns_after, first_level, second_level}
-use Rattle.ff_flac_rice.proofs.ColumnLemmas.{places_are, places_few, room_kept}
-use Rattle.ff_flac_rice.proofs.coding.coding_below.Goals as goal
+use Rattle.ff_flac_subframe.specs.declared.rice.coding.Found.{Found}
+use Rattle.ff_flac_subframe.specs.rice.Rice.{is_allowed, parts_of}
+use Rattle.ff_flac_subframe.specs.rice.Columns.{columns, items_of}
+use Rattle.ff_flac_subframe.proofs.RiceLemmas.Costs.{length-parts_of}
+use Rattle.ff_flac_subframe.proofs.RiceLemmas.Orders.{allowed_down}
+use Rattle.ff_flac_subframe.proofs.RiceLemmas.Levels.{IsBest, IsBestFound, IsCostFound, best_first, both_first, both_second, spans_after, best_after, best_end, cost_is}
+use Rattle.ff_flac_subframe.proofs.RiceLemmas.Floors.{seconds_floor}
+use Rattle.ff_flac_subframe.proofs.RiceLemmas.ColumnLemmas.{columns_count, columns_same, columns_small, columns_after, first_level, second_level}
+use Rattle.ff_flac_subframe.proofs.RiceLemmas.ColumnLemmas.{places_are, places_few, room_kept}
+use Rattle.ff_flac_subframe.proofs.rice.coding.coding_below.Goals as goal
 
 pub level_costs-with_first-requires-clause-count : goal.level_costs-with_first-requires-clause-count
 level_costs-with_first-requires-clause-count c =

@@ -1,10 +1,10 @@
 use Rattle.std.proofs.Common.{◌≡◌, ◌-◌, ◌+◌, ◌≤◌, ◌^◌, suc, true, length}
 use Rattle.std.specs.List.{AllByRecursion}
-use Rattle.ff_flac_rice.specs.Rice.{is_allowed, parts_of}
-use Rattle.ff_flac_rice.specs.Columns.{columns, items_of}
-use Rattle.ff_flac_rice.specs.Spans.{Spans}
-use Rattle.ff_flac_rice.proofs.Levels.{IsBest}
-use Rattle.ff_flac_rice.proofs.coding.coding_below.Given as goal
+use Rattle.ff_flac_subframe.specs.rice.Rice.{is_allowed, parts_of}
+use Rattle.ff_flac_subframe.specs.rice.Columns.{columns, items_of}
+use Rattle.ff_flac_subframe.specs.rice.Spans.{Spans}
+use Rattle.ff_flac_subframe.proofs.RiceLemmas.Levels.{IsBest}
+use Rattle.ff_flac_subframe.proofs.rice.coding.coding_below.Given as goal
 
 abbrev pub invariant-loop-partition_order : goal.invariant-loop-partition_order
 invariant-loop-partition_order l = record {

@@ -1,7 +1,7 @@
 use Rattle.std.proofs.Common.{◌≡◌, suc, ◌+◌, ap, sym, ◌∙◌, arith, inl, inr, false}
-use Rattle.ff_flac_rice.specs.Rice.{is_allowed}
-use Rattle.ff_flac_rice.proofs.Orders.{orders-is}
-use Rattle.ff_flac_rice.proofs.coding.finest_order.Goals as goal
+use Rattle.ff_flac_subframe.specs.rice.Rice.{is_allowed}
+use Rattle.ff_flac_subframe.proofs.RiceLemmas.Orders.{orders-is}
+use Rattle.ff_flac_subframe.proofs.rice.coding.finest_order.Goals as goal
 
 pub returns-then-not-allows-clause-all : goal.returns-then-not-allows-clause-all
 returns-then-not-allows-clause-all c =

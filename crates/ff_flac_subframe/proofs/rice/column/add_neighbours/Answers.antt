@@ -1,6 +1,6 @@
 use Rattle.std.proofs.Common.{◌∙◌, ℕ, ◌/◌, ◌≤◌, ◌^◌, length, length-set, arith}
-use Rattle.ff_flac_rice.proofs.ColumnLemmas.{two_small, halve_step, halve_small, halve_end}
-use Rattle.ff_flac_rice.proofs.column.add_neighbours.Goals as goal
+use Rattle.ff_flac_subframe.proofs.RiceLemmas.ColumnLemmas.{two_small, halve_step, halve_small, halve_end}
+use Rattle.ff_flac_subframe.proofs.rice.column.add_neighbours.Goals as goal
 
 pub overflow_add-costs-in-loop-i : goal.overflow_add-costs-in-loop-i
 overflow_add-costs-in-loop-i c = omega (arith, two_small c.loop-i.costs c.loop-i.i (omega (arith, c.loop-i.invariant.len, c.loop-i-test.true)) c.loop-i.invariant.small)

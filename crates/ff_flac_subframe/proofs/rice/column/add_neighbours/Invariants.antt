@@ -1,7 +1,7 @@
 use Rattle.std.proofs.Common.{◌≡◌, ◌≤◌, ◌*◌, ◌^◌, ◌++◌, take, drop, length}
 use Rattle.std.specs.List.{All}
 use lib.Lanes.{pair_sums}
-use Rattle.ff_flac_rice.proofs.column.add_neighbours.Given as goal
+use Rattle.ff_flac_subframe.proofs.rice.column.add_neighbours.Given as goal
 
 abbrev pub invariant-loop-i : goal.invariant-loop-i
 invariant-loop-i l = record {

@@ -1,7 +1,7 @@
 use Rattle.std.proofs.Common.{◌≡◌, ◌^◌, sym, arith}
 use Rattle.std.proofs.lemmas.Nat.{one_shl}
-use Rattle.ff_flac_rice.proofs.ColumnLemmas.{column_filled}
-use Rattle.ff_flac_rice.proofs.column.column_of.Goals as goal
+use Rattle.ff_flac_subframe.proofs.RiceLemmas.ColumnLemmas.{column_filled}
+use Rattle.ff_flac_subframe.proofs.rice.column.column_of.Goals as goal
 
 pub returns : goal.returns
 returns c =

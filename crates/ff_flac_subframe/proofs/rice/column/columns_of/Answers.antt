@@ -1,9 +1,9 @@
 use Rattle.std.proofs.Common.{◌≡◌, ◌∙◌, ◌-◌, ap, arith}
 use Rattle.std.proofs.lemmas.List.{map_push}
-use Rattle.ff_flac_rice.specs.Rice.{parts_of}
-use Rattle.ff_flac_rice.specs.Columns.{columns, items_of}
-use Rattle.ff_flac_rice.proofs.ColumnLemmas.{columns_none, columns_push}
-use Rattle.ff_flac_rice.proofs.column.columns_of.Goals as goal
+use Rattle.ff_flac_subframe.specs.rice.Rice.{parts_of}
+use Rattle.ff_flac_subframe.specs.rice.Columns.{columns, items_of}
+use Rattle.ff_flac_subframe.proofs.RiceLemmas.ColumnLemmas.{columns_none, columns_push}
+use Rattle.ff_flac_subframe.proofs.rice.column.columns_of.Goals as goal
 
 pub loop-k-init : goal.loop-k-init
 loop-k-init c = record {

@@ -1,7 +1,7 @@
 use Rattle.std.proofs.Common.{◌≡◌, ◌≤◌, ◌-◌}
-use Rattle.ff_flac_rice.specs.Rice.{parts_of}
-use Rattle.ff_flac_rice.specs.Columns.{columns, items_of}
-use Rattle.ff_flac_rice.proofs.column.columns_of.Given as goal
+use Rattle.ff_flac_subframe.specs.rice.Rice.{parts_of}
+use Rattle.ff_flac_subframe.specs.rice.Columns.{columns, items_of}
+use Rattle.ff_flac_subframe.proofs.rice.column.columns_of.Given as goal
 
 abbrev pub invariant-loop-k : goal.invariant-loop-k
 invariant-loop-k l = record {

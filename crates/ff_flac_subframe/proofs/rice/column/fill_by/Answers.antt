@@ -1,6 +1,6 @@
 use Rattle.std.proofs.Common.{◌∙◌, refl, length-set, arith}
-use Rattle.ff_flac_rice.proofs.ColumnLemmas.{filled_first, filled_more, filled_all}
-use Rattle.ff_flac_rice.proofs.column.fill_by.Goals as goal
+use Rattle.ff_flac_subframe.proofs.RiceLemmas.ColumnLemmas.{filled_first, filled_more, filled_all}
+use Rattle.ff_flac_subframe.proofs.rice.column.fill_by.Goals as goal
 
 pub loop-i-init : goal.loop-i-init
 loop-i-init c = record { len = refl; is = filled_first c.args.k c.args.size c.args.costs.now c.args.us.now c.requires.some }

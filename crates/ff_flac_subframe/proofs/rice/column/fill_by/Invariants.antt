@@ -1,7 +1,7 @@
 use Rattle.std.proofs.Common.{◌≡◌, ◌+◌, ◌∷◌, length, take, get_or}
-use Rattle.ff_flac_rice.specs.Rice.{pieces}
-use Rattle.ff_flac_rice.specs.Columns.{column}
-use Rattle.ff_flac_rice.proofs.column.fill_by.Given as goal
+use Rattle.ff_flac_subframe.specs.rice.Rice.{pieces}
+use Rattle.ff_flac_subframe.specs.rice.Columns.{column}
+use Rattle.ff_flac_subframe.proofs.rice.column.fill_by.Given as goal
 
 abbrev pub invariant-loop-i : goal.invariant-loop-i
 invariant-loop-i l = record {

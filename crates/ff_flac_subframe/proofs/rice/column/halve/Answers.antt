@@ -1,9 +1,9 @@
 use Rattle.std.proofs.Common.{◌≡◌, ◌≢◌, ◌∙◌, ◌+◌, ℕ, List, [], get_or, get_or-set_other, length, take, ap, arith}
 use lib.Lanes.{pair_sums}
 use Rattle.std.proofs.lemmas.List.{length-map, map-set}
-use Rattle.ff_flac_rice.specs.Columns.{items_of}
-use Rattle.ff_flac_rice.proofs.ColumnLemmas.{item_at, columns_more}
-use Rattle.ff_flac_rice.proofs.column.halve.Goals as goal
+use Rattle.ff_flac_subframe.specs.rice.Columns.{items_of}
+use Rattle.ff_flac_subframe.proofs.RiceLemmas.ColumnLemmas.{item_at, columns_more}
+use Rattle.ff_flac_subframe.proofs.rice.column.halve.Goals as goal
 
 pub loop-i-preserved : goal.loop-i-preserved
 loop-i-preserved c =

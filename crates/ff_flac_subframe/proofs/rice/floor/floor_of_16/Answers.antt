@@ -1,6 +1,6 @@
 use Rattle.std.proofs.Common.{◌+◌, arith}
-use Rattle.ff_flac_rice.proofs.Floors.{near, sixteen_below, sixteen_small}
-use Rattle.ff_flac_rice.proofs.floor.floor_of_16.Goals as goal
+use Rattle.ff_flac_subframe.proofs.RiceLemmas.Floors.{near, sixteen_below, sixteen_small}
+use Rattle.ff_flac_subframe.proofs.rice.floor.floor_of_16.Goals as goal
 
 pub overflow_sub-k : goal.overflow_sub-k
 overflow_sub-k c =

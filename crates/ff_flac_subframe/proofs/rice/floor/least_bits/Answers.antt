@@ -1,9 +1,9 @@
 use Rattle.std.proofs.Common.{◌≡◌, ℕ, ◌+◌, ◌-◌, ◌*◌, ◌/◌, ◌^◌, ◌<◌, ◌≤◌, length, arith, suc, ap}
 use Rattle.std.proofs.lemmas.Nat.{one_shl, shr_split, pow_pos}
 use Rattle.std.proofs.Math.Nat.{pow-le-pow_right}
-use Rattle.ff_flac_rice.proofs.Orders.{allowed_parts}
-use Rattle.ff_flac_rice.proofs.Floors.{rest_most, floor_start, floor_step, floor_end, values_end}
-use Rattle.ff_flac_rice.proofs.floor.least_bits.Goals as goal
+use Rattle.ff_flac_subframe.proofs.RiceLemmas.Orders.{allowed_parts}
+use Rattle.ff_flac_subframe.proofs.RiceLemmas.Floors.{rest_most, floor_start, floor_step, floor_end, values_end}
+use Rattle.ff_flac_subframe.proofs.rice.floor.least_bits.Goals as goal
 
 pub returns-then-residuals-order-ne16-clause-below : goal.returns-then-residuals-order-ne16-clause-below
 returns-then-residuals-order-ne16-clause-below c =

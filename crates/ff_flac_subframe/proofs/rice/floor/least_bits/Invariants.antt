@@ -1,8 +1,8 @@
 use Rattle.std.proofs.Common.{◌≡◌, ◌*◌, ◌+◌, ◌^◌, ◌≤◌, length, map}
 use Rattle.std.specs.List.{All}
-use Rattle.ff_flac_rice.specs.Rice.{parts_of, zigzagged}
-use Rattle.ff_flac_rice.proofs.Floors.{Floor}
-use Rattle.ff_flac_rice.proofs.floor.least_bits.Given as goal
+use Rattle.ff_flac_subframe.specs.rice.Rice.{parts_of, zigzagged}
+use Rattle.ff_flac_subframe.proofs.RiceLemmas.Floors.{Floor}
+use Rattle.ff_flac_subframe.proofs.rice.floor.least_bits.Given as goal
 
 abbrev pub invariant-loop-left : goal.invariant-loop-left
 invariant-loop-left l = record {

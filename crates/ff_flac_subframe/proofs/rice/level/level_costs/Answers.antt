@@ -1,9 +1,9 @@
 use Rattle.std.proofs.Common.{◌≡◌, ◌∙◌, ◌≤◌, ◌^◌, length, arith, ap, sym}
 use Rattle.std.specs.List.{All, sum}
 use Rattle.std.proofs.lemmas.List.Elements.{All-weaker}
-use Rattle.ff_flac_rice.specs.Columns.{items_of, least_each}
-use Rattle.ff_flac_rice.proofs.ColumnLemmas.{items_front, items_back, least_small, least_all_of}
-use Rattle.ff_flac_rice.proofs.level.level_costs.Goals as goal
+use Rattle.ff_flac_subframe.specs.rice.Columns.{items_of, least_each}
+use Rattle.ff_flac_subframe.proofs.RiceLemmas.ColumnLemmas.{items_front, items_back, least_small, least_all_of}
+use Rattle.ff_flac_subframe.proofs.rice.level.level_costs.Goals as goal
 
 pub put_least-requires-clause-same : goal.put_least-requires-clause-same
 put_least-requires-clause-same c =

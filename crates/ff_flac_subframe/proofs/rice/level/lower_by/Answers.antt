@@ -1,6 +1,6 @@
 use Rattle.std.proofs.Common.{◌≡◌, ◌∙◌, length, arith, ap, sym}
-use Rattle.ff_flac_rice.proofs.ColumnLemmas.{at_item}
-use Rattle.ff_flac_rice.proofs.level.lower_by.Goals as goal
+use Rattle.ff_flac_subframe.proofs.RiceLemmas.ColumnLemmas.{at_item}
+use Rattle.ff_flac_subframe.proofs.rice.level.lower_by.Goals as goal
 
 pub lower_each-requires : goal.lower_each-requires
 lower_each-requires c =

@@ -1,8 +1,8 @@
 use Rattle.std.proofs.Common.{◌≡◌, min, take, length}
 use Rattle.std.specs.List.{fold}
 use lib.Lanes.{zip2}
-use Rattle.ff_flac_rice.specs.Columns.{items_of}
-use Rattle.ff_flac_rice.proofs.level.lower_by.Given as goal
+use Rattle.ff_flac_subframe.specs.rice.Columns.{items_of}
+use Rattle.ff_flac_subframe.proofs.rice.level.lower_by.Given as goal
 
 abbrev pub invariant-loop-costs : goal.invariant-loop-costs
 invariant-loop-costs l = record {

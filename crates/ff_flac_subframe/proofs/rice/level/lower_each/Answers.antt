@@ -1,8 +1,8 @@
 use Rattle.std.proofs.Common.{◌≢◌, ◌∙◌, ℕ, min, sym, get_or-set_other, length-set, arith}
-use Rattle.ff_flac_rice.proofs.ColumnLemmas.{lower_more}
+use Rattle.ff_flac_subframe.proofs.RiceLemmas.ColumnLemmas.{lower_more}
 use Rattle.std.proofs.lemmas.List.{take_all}
 use Rattle.std.proofs.lemmas.Simd.{length-zip2}
-use Rattle.ff_flac_rice.proofs.level.lower_each.Goals as goal
+use Rattle.ff_flac_subframe.proofs.rice.level.lower_each.Goals as goal
 
 pub loop-i-preserved : goal.loop-i-preserved
 loop-i-preserved c =

@@ -1,6 +1,6 @@
 use Rattle.std.proofs.Common.{◌≡◌, ℕ, ◌≤◌, min, take, get_or, length}
 use lib.Lanes.{zip2}
-use Rattle.ff_flac_rice.proofs.level.lower_each.Given as goal
+use Rattle.ff_flac_subframe.proofs.rice.level.lower_each.Given as goal
 
 abbrev pub invariant-loop-i : goal.invariant-loop-i
 invariant-loop-i l = record {

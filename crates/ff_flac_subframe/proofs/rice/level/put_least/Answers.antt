@@ -1,8 +1,8 @@
 use Rattle.std.proofs.Common.{◌≡◌, ◌∙◌, ◌-◌, length, sym}
 use Rattle.std.proofs.lemmas.List.Elements.{All-weaker}
-use Rattle.ff_flac_rice.specs.Columns.{items_of}
-use Rattle.ff_flac_rice.proofs.ColumnLemmas.{items_behind, least_put}
-use Rattle.ff_flac_rice.proofs.level.put_least.Goals as goal
+use Rattle.ff_flac_subframe.specs.rice.Columns.{items_of}
+use Rattle.ff_flac_subframe.proofs.RiceLemmas.ColumnLemmas.{items_behind, least_put}
+use Rattle.ff_flac_subframe.proofs.rice.level.put_least.Goals as goal
 
 pub lower_by-requires : goal.lower_by-requires
 lower_by-requires c =

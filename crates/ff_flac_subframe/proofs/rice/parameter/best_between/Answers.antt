@@ -3,10 +3,10 @@ use Rattle.std.specs.List.{All}
 use Rattle.std.proofs.lemmas.Bool.{cases_lt}
 use Rattle.std.proofs.lemmas.List.Elements.{All-from_get_or}
 use Rattle.std.proofs.Math.Nat.{mul-le-mul_left}
-use Rattle.ff_flac_rice.specs.Rice.{part_cost}
-use Rattle.ff_flac_rice.proofs.PartLemmas.{quotients_small}
-use Rattle.ff_flac_rice.proofs.parameter.best_between.Goals as goal
-use Rattle.ff_flac_rice.proofs.parameter.best_between.Goals.{then-other-cost, else-other-cost}
+use Rattle.ff_flac_subframe.specs.rice.Rice.{part_cost}
+use Rattle.ff_flac_subframe.proofs.RiceLemmas.PartLemmas.{quotients_small}
+use Rattle.ff_flac_subframe.proofs.rice.parameter.best_between.Goals as goal
+use Rattle.ff_flac_subframe.proofs.rice.parameter.best_between.Goals.{then-other-cost, else-other-cost}
 
 few_bits : (len k : ℕ) → len ≤ 2 ^ 15 → k < 31 → len * (k + 1) ≤ 2 ^ 15 * 31
 few_bits len k a b =

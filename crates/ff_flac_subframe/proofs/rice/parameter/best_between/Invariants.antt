@@ -1,6 +1,6 @@
 use Rattle.std.proofs.Common.{◌≡◌, ℕ, ◌<◌, ◌≤◌}
-use Rattle.ff_flac_rice.specs.Rice.{part_cost}
-use Rattle.ff_flac_rice.proofs.parameter.best_between.Given as goal
+use Rattle.ff_flac_subframe.specs.rice.Rice.{part_cost}
+use Rattle.ff_flac_subframe.proofs.rice.parameter.best_between.Given as goal
 
 abbrev pub invariant-loop-k : goal.invariant-loop-k
 invariant-loop-k l = record {

@@ -1,6 +1,6 @@
 use Rattle.std.proofs.Common.{arith}
-use Rattle.ff_flac_rice.proofs.SpanLemmas.{best_in_span, best_by_ends}
-use Rattle.ff_flac_rice.proofs.parameter.best_parameter.Goals as goal
+use Rattle.ff_flac_subframe.proofs.RiceLemmas.SpanLemmas.{best_in_span, best_by_ends}
+use Rattle.ff_flac_subframe.proofs.rice.parameter.best_parameter.Goals as goal
 
 pub returns-then-low-best-clause-is : goal.returns-then-low-best-clause-is
 returns-then-low-best-clause-is c =

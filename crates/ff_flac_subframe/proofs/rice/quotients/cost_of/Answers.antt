@@ -1,8 +1,8 @@
 use Rattle.std.proofs.Common.{◌<◌, ◌^◌, arith}
 use Rattle.std.specs.List.{All}
 use Rattle.std.proofs.lemmas.List.Elements.{All-from_get_or}
-use Rattle.ff_flac_rice.proofs.PartLemmas.{cost_small}
-use Rattle.ff_flac_rice.proofs.quotients.cost_of.Goals as goal
+use Rattle.ff_flac_subframe.proofs.RiceLemmas.PartLemmas.{cost_small}
+use Rattle.ff_flac_subframe.proofs.rice.quotients.cost_of.Goals as goal
 
 pub overflow_add-result-2 : goal.overflow_add-result-2
 overflow_add-result-2 c =

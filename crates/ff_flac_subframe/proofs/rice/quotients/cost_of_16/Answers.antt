@@ -1,6 +1,6 @@
 use Rattle.std.proofs.Common.{◌+◌, ◌*◌, arith, ap}
-use Rattle.ff_flac_rice.proofs.Sums.{lanes_sum, lanes_small}
-use Rattle.ff_flac_rice.proofs.quotients.cost_of_16.Goals as goal
+use Rattle.ff_flac_subframe.proofs.RiceLemmas.Sums.{lanes_sum, lanes_small}
+use Rattle.ff_flac_subframe.proofs.rice.quotients.cost_of_16.Goals as goal
 
 pub sum_of-requires : goal.sum_of-requires
 sum_of-requires c = lanes_small c.args.k c.args.most c.args.part.now c.lanes_at.result c.lanes_at.ensures c.requires.len c.requires.most c.requires.fits

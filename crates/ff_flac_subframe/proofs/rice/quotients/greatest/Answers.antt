@@ -1,7 +1,7 @@
 use Rattle.std.proofs.Common.{ℕ, ◌≤◌, take, sym, arith}
 use Rattle.std.proofs.lemmas.List.{take_all}
 use Rattle.std.proofs.lemmas.List.Elements.{All-more, All-weaker, All-same}
-use Rattle.ff_flac_rice.proofs.quotients.greatest.Goals as goal
+use Rattle.ff_flac_subframe.proofs.rice.quotients.greatest.Goals as goal
 
 pub loop-u-preserved : goal.loop-u-preserved
 loop-u-preserved c =

@@ -1,7 +1,7 @@
 use Rattle.std.proofs.Common.{◌/◌, ◌^◌, length, take, map, ap, ◌∙◌, arith}
 use Rattle.std.proofs.lemmas.List.{take_all}
 use Rattle.std.proofs.lemmas.Simd.{zip2_splat}
-use Rattle.ff_flac_rice.proofs.quotients.lanes_at.Goals as goal
+use Rattle.ff_flac_subframe.proofs.rice.quotients.lanes_at.Goals as goal
 
 pub returns : goal.returns
 returns c =

@@ -1,6 +1,6 @@
 use Rattle.std.proofs.Common.{arith}
-use Rattle.ff_flac_rice.proofs.SpanLemmas.{high_reached, high_all}
-use Rattle.ff_flac_rice.proofs.span.high_end.Goals as goal
+use Rattle.ff_flac_subframe.proofs.RiceLemmas.SpanLemmas.{high_reached, high_all}
+use Rattle.ff_flac_subframe.proofs.rice.span.high_end.Goals as goal
 
 pub returns-then-high-eq31-clause-is : goal.returns-then-high-eq31-clause-is
 returns-then-high-eq31-clause-is c = high_all 31 c.args.len c.args.total (omega arith)

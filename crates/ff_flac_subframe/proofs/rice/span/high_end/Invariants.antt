@@ -1,5 +1,5 @@
 use Rattle.std.proofs.Common.{◌≤◌, ◌-◌}
-use Rattle.ff_flac_rice.proofs.span.high_end.Given as goal
+use Rattle.ff_flac_subframe.proofs.rice.span.high_end.Given as goal
 
 abbrev pub invariant-loop-high : goal.invariant-loop-high
 invariant-loop-high l = record { above : l.initial.high ≤ l.high; last : l.high ≤ 31 }

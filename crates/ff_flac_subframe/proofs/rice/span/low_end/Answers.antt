@@ -1,6 +1,6 @@
 use Rattle.std.proofs.Common.{arith, refl}
-use Rattle.ff_flac_rice.proofs.SpanLemmas.{low_reached, low_none}
-use Rattle.ff_flac_rice.proofs.span.low_end.Goals as goal
+use Rattle.ff_flac_subframe.proofs.RiceLemmas.SpanLemmas.{low_reached, low_none}
+use Rattle.ff_flac_subframe.proofs.rice.span.low_end.Goals as goal
 
 pub returns-then-low-eq0-clause-is : goal.returns-then-low-eq0-clause-is
 returns-then-low-eq0-clause-is c = low_none 0 c.args.len c.args.total refl

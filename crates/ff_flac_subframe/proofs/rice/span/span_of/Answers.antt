@@ -2,10 +2,10 @@ use Rattle.std.proofs.Common.{◌≡◌, ℕ, ◌+◌, ◌-◌, ◌*◌, ◌/◌
 use Rattle.std.specs.List.{AllByRecursion}
 use Rattle.std.proofs.lemmas.List.Elements.{All-same, All-take, All-drop}
 use Rattle.std.proofs.lemmas.Nat.{one_shl, shr_split, pow_pos}
-use Rattle.ff_flac_rice.specs.Rice.{parts_of}
-use Rattle.ff_flac_rice.proofs.PartLemmas.{rest_len, step_len, front_start, front_step, front_end}
-use Rattle.ff_flac_rice.proofs.SpanLemmas.{Served, served_first, served_more, served_all}
-use Rattle.ff_flac_rice.proofs.span.span_of.Goals as goal
+use Rattle.ff_flac_subframe.specs.rice.Rice.{parts_of}
+use Rattle.ff_flac_subframe.proofs.RiceLemmas.PartLemmas.{rest_len, step_len, front_start, front_step, front_end}
+use Rattle.ff_flac_subframe.proofs.RiceLemmas.SpanLemmas.{Served, served_first, served_more, served_all}
+use Rattle.ff_flac_subframe.proofs.rice.span.span_of.Goals as goal
 
 pub loop-left-init : goal.loop-left-init
 loop-left-init c =

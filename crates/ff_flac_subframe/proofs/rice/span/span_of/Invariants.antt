@@ -1,9 +1,9 @@
 use Rattle.std.proofs.Common.{◌≡◌, ◌*◌, ◌≤◌, length}
 use Rattle.std.specs.List.{All, AllByRecursion}
-use Rattle.ff_flac_rice.specs.Rice.{parts_of}
-use Rattle.ff_flac_rice.proofs.PartLemmas.{Front}
-use Rattle.ff_flac_rice.proofs.SpanLemmas.{Served}
-use Rattle.ff_flac_rice.proofs.span.span_of.Given as goal
+use Rattle.ff_flac_subframe.specs.rice.Rice.{parts_of}
+use Rattle.ff_flac_subframe.proofs.RiceLemmas.PartLemmas.{Front}
+use Rattle.ff_flac_subframe.proofs.RiceLemmas.SpanLemmas.{Served}
+use Rattle.ff_flac_subframe.proofs.rice.span.span_of.Given as goal
 
 abbrev pub invariant-loop-left : goal.invariant-loop-left
 invariant-loop-left l = record {

@@ -1,5 +1,5 @@
-use Rattle.ff_flac_rice.proofs.Writing.{code_below, both-are}
-use Rattle.ff_flac_rice.proofs.write.both_of.Goals as goal
+use Rattle.ff_flac_subframe.proofs.RiceLemmas.Writing.{code_below, both-are}
+use Rattle.ff_flac_subframe.proofs.rice.write.both_of.Goals as goal
 
 pub joined-requires-clause-high : goal.joined-requires-clause-high
 joined-requires-clause-high c = code_below c.args.k c.args.a c.ending_of.result c.length_of.result c.ending_of.ensures c.length_of.ensures

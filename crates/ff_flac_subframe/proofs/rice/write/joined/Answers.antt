@@ -5,7 +5,7 @@ use Rattle.std.proofs.Math.Nat.{mod-eq_of_lt}
 use Rattle.ff_bits.specs.Bits.{bits_of}
 use Rattle.ff_bits.proofs.BitsOf.{bits_of-add}
 use Rattle.ff_bits.proofs.WriterLemmas.{joined_below, joined_fits}
-use Rattle.ff_flac_rice.proofs.write.joined.Goals as goal
+use Rattle.ff_flac_subframe.proofs.rice.write.joined.Goals as goal
 
 pub returns-clause-below : goal.returns-clause-below
 returns-clause-below c =

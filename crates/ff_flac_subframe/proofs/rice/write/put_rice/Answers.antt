@@ -1,7 +1,7 @@
 use Rattle.std.proofs.Common.{◌≡◌, ◌+◌, ◌%◌, ◌^◌, arith}
-use Rattle.ff_flac_rice.proofs.Writing.{code_below, code_end, long_end, ending_below}
+use Rattle.ff_flac_subframe.proofs.RiceLemmas.Writing.{code_below, code_end, long_end, ending_below}
 use Rattle.std.proofs.lemmas.Nat.{mod_below, pow_pos}
-use Rattle.ff_flac_rice.proofs.write.put_rice.Goals as goal
+use Rattle.ff_flac_subframe.proofs.rice.write.put_rice.Goals as goal
 
 pub put-requires : goal.put-requires
 put-requires c = code_below c.args.k c.args.u c.ending_of.result c.length_of-count.result c.ending_of.ensures c.length_of-count.ensures

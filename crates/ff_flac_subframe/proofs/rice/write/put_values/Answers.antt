@@ -1,6 +1,6 @@
 use Rattle.std.proofs.Common.{arith, ◌∙◌}
-use Rattle.ff_flac_rice.proofs.Writing.{four_step}
-use Rattle.ff_flac_rice.proofs.write.put_values.Goals as goal
+use Rattle.ff_flac_subframe.proofs.RiceLemmas.Writing.{four_step}
+use Rattle.ff_flac_subframe.proofs.rice.write.put_values.Goals as goal
 
 pub loop-rest-preserved : goal.loop-rest-preserved
 loop-rest-preserved c =

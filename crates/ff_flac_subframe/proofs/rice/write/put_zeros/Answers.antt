@@ -1,6 +1,6 @@
 use Rattle.std.proofs.Common.{◌≡◌, ◌+◌, ◌-◌, arith}
-use Rattle.ff_flac_rice.proofs.Writing.{zeros_step}
-use Rattle.ff_flac_rice.proofs.write.put_zeros.Goals as goal
+use Rattle.ff_flac_subframe.proofs.RiceLemmas.Writing.{zeros_step}
+use Rattle.ff_flac_subframe.proofs.rice.write.put_zeros.Goals as goal
 
 pub loop-left-preserved : goal.loop-left-preserved
 loop-left-preserved c =

@@ -1,5 +1,5 @@
 use Rattle.std.proofs.Common.{◌≡◌, ◌++◌, replicate, false}
-use Rattle.ff_flac_rice.proofs.write.put_zeros.Given as goal
+use Rattle.ff_flac_subframe.proofs.rice.write.put_zeros.Given as goal
 
 abbrev pub invariant-loop-left : goal.invariant-loop-left
 invariant-loop-left l = l.out ++ replicate l.left false ≡ l.fn.out ++ replicate l.count false

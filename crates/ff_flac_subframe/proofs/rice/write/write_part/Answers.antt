@@ -1,5 +1,5 @@
-use Rattle.ff_flac_rice.proofs.Writing.{part_end}
-use Rattle.ff_flac_rice.proofs.write.write_part.Goals as goal
+use Rattle.ff_flac_subframe.proofs.RiceLemmas.Writing.{part_end}
+use Rattle.ff_flac_subframe.proofs.rice.write.write_part.Goals as goal
 
 pub returns : goal.returns
 returns c =

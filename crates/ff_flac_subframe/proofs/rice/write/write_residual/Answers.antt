@@ -1,9 +1,9 @@
 use Rattle.std.proofs.Common.{◌≡◌, ℕ, ◌+◌, ◌-◌, ◌*◌, ◌/◌, ◌^◌, ◌<◌, length, ◌∙◌, arith, suc}
 use Rattle.std.proofs.lemmas.Nat.{one_shl, shr_split, pow_pos}
-use Rattle.ff_flac_rice.proofs.Orders.{allowed_parts}
-use Rattle.ff_flac_rice.proofs.PartLemmas.{rest_len, step_len}
-use Rattle.ff_flac_rice.proofs.Writing.{parts_start, parts_step, parts_end}
-use Rattle.ff_flac_rice.proofs.write.write_residual.Goals as goal
+use Rattle.ff_flac_subframe.proofs.RiceLemmas.Orders.{allowed_parts}
+use Rattle.ff_flac_subframe.proofs.RiceLemmas.PartLemmas.{rest_len, step_len}
+use Rattle.ff_flac_subframe.proofs.RiceLemmas.Writing.{parts_start, parts_step, parts_end}
+use Rattle.ff_flac_subframe.proofs.rice.write.write_residual.Goals as goal
 
 pub loop-left-init : goal.loop-left-init
 loop-left-init c =

@@ -1,8 +1,8 @@
 use Rattle.std.proofs.Common.{◌≡◌, ◌++◌, ◌*◌, ◌≤◌, length}
 use Rattle.std.specs.List.{flat_map}
-use Rattle.ff_flac_rice.specs.Rice.{pieces, residual_bits, best_at}
-use Rattle.ff_flac_rice.proofs.Writing.{part_bits}
-use Rattle.ff_flac_rice.proofs.write.write_residual.Given as goal
+use Rattle.ff_flac_subframe.specs.rice.Rice.{pieces, residual_bits, best_at}
+use Rattle.ff_flac_subframe.proofs.RiceLemmas.Writing.{part_bits}
+use Rattle.ff_flac_subframe.proofs.rice.write.write_residual.Given as goal
 
 abbrev pub invariant-loop-left : goal.invariant-loop-left
 invariant-loop-left l = record {

@@ -1,7 +1,7 @@
 use Rattle.std.proofs.Common.{◌≡◌, ◌∙◌, arith, subst, ◌+◌, suc}
-use Rattle.ff_frame.specs.declared.item.Item.{Item}
-use Rattle.ff_frame.specs.declared.item.Item.TheVariants.{Video}
-use Rattle.ff_frame.specs.declared.item.Lane.TheVariants.{Frames}
+use Rattle.ff_stream.specs.declared.item.Item.{Item}
+use Rattle.ff_stream.specs.declared.item.Item.TheVariants.{Video}
+use Rattle.ff_stream.specs.declared.item.Lane.TheVariants.{Frames}
 use Rattle.ff_filter.specs.Views.{View, Gave}
 use Rattle.ff_fsync.specs.Sides.{sync_view}
 use Rattle.ff_fsync.specs.Syncs.{sides_of, sides_sound}

@@ -1,5 +1,5 @@
 use Rattle.std.proofs.Common.{ap, ◌∙◌, sym}
-use Rattle.ff_frame.specs.declared.item.Lane.TheVariants.{Frames}
+use Rattle.ff_stream.specs.declared.item.Lane.TheVariants.{Frames}
 use Rattle.ff_filter.specs.Made.{is_over}
 use Rattle.ff_fsync.specs.Sides.{Side}
 use Rattle.ff_fsync.proofs.Finding.{side_there}

@@ -1,4 +1,4 @@
-use Rattle.ff_frame.specs.declared.item.Lane.TheVariants.{Frames}
+use Rattle.ff_stream.specs.declared.item.Lane.TheVariants.{Frames}
 use Rattle.ff_fsync.specs.Sides.{sync_view}
 use Rattle.ff_fsync.specs.Syncs.{sides_of}
 use Rattle.ff_fsync.proofs.Showing.{gave_there}

@@ -1,7 +1,7 @@
 use Rattle.ff_fsync.specs.Syncs.{sides_of}
-use Rattle.ff_stacks.specs.Stacks.{stack_by}
-use Rattle.ff_stacks.proofs.Seeing.{seen_new}
-use Rattle.ff_stacks.proofs.configured.machine_for.Goals as goal
+use Rattle.ff_fsync.specs.stacks.Stacks.{stack_by}
+use Rattle.ff_fsync.proofs.StacksLemmas.Seeing.{seen_new}
+use Rattle.ff_fsync.proofs.stacks.configured.machine_for.Goals as goal
 
 pub returns : goal.returns
 returns c =

@@ -1,6 +1,6 @@
 use Rattle.std.proofs.Common.{sym, ◌∙◌}
-use Rattle.ff_stacks.proofs.Planning.{not_alike, no_size}
-use Rattle.ff_stacks.proofs.configured.plan_for.Goals as goal
+use Rattle.ff_fsync.proofs.StacksLemmas.Planning.{not_alike, no_size}
+use Rattle.ff_fsync.proofs.stacks.configured.plan_for.Goals as goal
 
 pub returns-then-not-all_alike : goal.returns-then-not-all_alike
 returns-then-not-all_alike c = not_alike c.args.direction c.args.first.now c.args.heads.now c.args.shortest (sym c.all_alike.ensures ∙ c.if-not-all_alike.true)

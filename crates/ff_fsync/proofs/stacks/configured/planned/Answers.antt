@@ -1,7 +1,7 @@
 use Rattle.std.proofs.Common.{sym, ◌∙◌}
-use Rattle.ff_stacks.specs.Stacks.{planned_by}
-use Rattle.ff_stacks.proofs.Planning.{right_inputs, after_first, first_of}
-use Rattle.ff_stacks.proofs.configured.planned.Goals as goal
+use Rattle.ff_fsync.specs.stacks.Stacks.{planned_by}
+use Rattle.ff_fsync.proofs.StacksLemmas.Planning.{right_inputs, after_first, first_of}
+use Rattle.ff_fsync.proofs.stacks.configured.planned.Goals as goal
 
 pub returns-in-len1-up : goal.returns-in-len1-up
 returns-in-len1-up c =

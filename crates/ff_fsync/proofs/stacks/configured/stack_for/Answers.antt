@@ -1,8 +1,8 @@
 use Rattle.std.proofs.Common.{◌≡◌, List, [], ◌∷◌, ◌++◌, ap, ◌∙◌}
-use Rattle.ff_values.specs.declared.head.StreamHead.{StreamHead}
-use Rattle.ff_stacks.specs.Stacked.{seen}
-use Rattle.ff_stacks.proofs.Planning.{made_by}
-use Rattle.ff_stacks.proofs.configured.stack_for.Goals as goal
+use Rattle.ff_frame.specs.declared.head.StreamHead.{StreamHead}
+use Rattle.ff_fsync.specs.stacks.Stacked.{seen}
+use Rattle.ff_fsync.proofs.StacksLemmas.Planning.{made_by}
+use Rattle.ff_fsync.proofs.stacks.configured.stack_for.Goals as goal
 
 pub returns-in-Ok-push-clause-made : goal.returns-in-Ok-push-clause-made
 returns-in-Ok-push-clause-made c =

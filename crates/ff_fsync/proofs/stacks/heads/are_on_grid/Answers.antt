@@ -1,8 +1,8 @@
 use Rattle.std.proofs.Common.{◌≡◌, suc, ◌+◌, ap, sym, ◌∙◌, subst, arith, drop, true, ◌&&◌, length}
 use Rattle.std.proofs.lemmas.Bool.{eqb-false}
-use Rattle.ff_stacks.specs.Heads.{head_on_grid, all_on_grid}
-use Rattle.ff_stacks.proofs.Gridding.{grid_step, grid_last}
-use Rattle.ff_stacks.proofs.heads.are_on_grid.Goals as goal
+use Rattle.ff_fsync.specs.stacks.Heads.{head_on_grid, all_on_grid}
+use Rattle.ff_fsync.proofs.StacksLemmas.Gridding.{grid_step, grid_last}
+use Rattle.ff_fsync.proofs.stacks.heads.are_on_grid.Goals as goal
 
 pub heads-preserved : goal.heads-preserved
 heads-preserved c =

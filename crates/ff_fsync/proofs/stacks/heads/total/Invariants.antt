@@ -1,6 +1,6 @@
 use Rattle.std.proofs.Common.{◌≡◌, ◌+◌, ◌*◌, ◌≤◌, drop}
-use Rattle.ff_stacks.specs.Heads.{total}
-use Rattle.ff_stacks.proofs.heads.total.Given as goal
+use Rattle.ff_fsync.specs.stacks.Heads.{total}
+use Rattle.ff_fsync.proofs.stacks.heads.total.Given as goal
 
 abbrev pub invariant-heads : goal.invariant-heads
 invariant-heads l = record {

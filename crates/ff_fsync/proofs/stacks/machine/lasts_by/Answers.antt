@@ -1,6 +1,6 @@
 use Rattle.std.proofs.Common.{◌∙◌, arith}
-use Rattle.ff_stacks.proofs.Lasting.{lasts_at_next}
-use Rattle.ff_stacks.proofs.machine.lasts_by.Goals as goal
+use Rattle.ff_fsync.proofs.StacksLemmas.Lasting.{lasts_at_next}
+use Rattle.ff_fsync.proofs.stacks.machine.lasts_by.Goals as goal
 
 pub pictures-preserved : goal.pictures-preserved
 pictures-preserved c =

@@ -1,8 +1,8 @@
 use Rattle.std.proofs.Common.{◌≡◌, ◌<◌, ◌^◌, take}
 use Rattle.ff_fsync.specs.Inputs.{items_of, last_by}
 use Rattle.ff_fsync.specs.Sides.{frames_of}
-use Rattle.ff_stacks.specs.Shapes.{lasts}
-use Rattle.ff_stacks.proofs.machine.lasts_by.Given as goal
+use Rattle.ff_fsync.specs.stacks.Shapes.{lasts}
+use Rattle.ff_fsync.proofs.stacks.machine.lasts_by.Given as goal
 
 abbrev pub invariant-pictures : goal.invariant-pictures
 invariant-pictures l = record {

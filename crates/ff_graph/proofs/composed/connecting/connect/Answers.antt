@@ -1,13 +1,13 @@
 use Rattle.std.proofs.Common.{ℕ, map}
 use Rattle.ff_filter.specs.Joins.{Ports}
-use Rattle.ff_drawn.specs.Links.{pads_in}
-use Rattle.ff_dag.specs.Graphs.{graph_view, spots}
-use Rattle.ff_dag.specs.Parts.{composed}
-use Rattle.ff_wired.specs.Flows.{no_flows, flows_from}
-use Rattle.ff_wired.specs.Limits.{flows_at}
-use Rattle.ff_composed.proofs.Fitting.{new}
-use Rattle.ff_composed.proofs.Connected.{is_sound, means, then_means}
-use Rattle.ff_composed.proofs.connecting.connect.Goals as goal
+use Rattle.ff_graph_links.specs.pads.Links.{pads_in}
+use Rattle.ff_graph_dag.specs.Graphs.{graph_view, spots}
+use Rattle.ff_graph_dag.specs.Parts.{composed}
+use Rattle.ff_graph_dag.specs.wiring.Flows.{no_flows, flows_from}
+use Rattle.ff_graph_dag.specs.wiring.Limits.{flows_at}
+use Rattle.ff_graph.proofs.ComposedLemmas.Fitting.{new}
+use Rattle.ff_graph.proofs.ComposedLemmas.Connected.{is_sound, means, then_means}
+use Rattle.ff_graph.proofs.composed.connecting.connect.Goals as goal
 
 pub new-requires-clause-sound : goal.new-requires-clause-sound
 new-requires-clause-sound g c =

@@ -1,20 +1,20 @@
 use Rattle.std.proofs.Common.{◌≡◌, List, length, map, Option, sym, ap, ◌∙◌, arith}
-use Rattle.ff_values.specs.declared.head.StreamHead.{StreamHead}
-use Rattle.ff_frame.specs.declared.item.Lane.{Lane}
-use Rattle.ff_frame.specs.declared.item.Lane.TheVariants.{Frames}
+use Rattle.ff_frame.specs.declared.head.StreamHead.{StreamHead}
+use Rattle.ff_stream.specs.declared.item.Lane.{Lane}
+use Rattle.ff_stream.specs.declared.item.Lane.TheVariants.{Frames}
 use Rattle.ff_filter.specs.Joins.{Ports}
 use Rattle.ff_filters.specs.contracts.any.AnyFilterFilter.TheImpl.{ghosts}
-use Rattle.ff_drawn.specs.Links.{pads_in}
-use Rattle.ff_dag.specs.Graphs.{graph_view, spots}
+use Rattle.ff_graph_links.specs.pads.Links.{pads_in}
+use Rattle.ff_graph_dag.specs.Graphs.{graph_view, spots}
 use Rattle.ff_graph.specs.Configured.{OpenOut, configured}
 use Rattle.ff_graph.specs.Meaning.{graph_means}
 use Rattle.ff_graph.specs.Pads.{made_by, output_of}
 use Rattle.ff_graph.specs.declared.outputs.OpenOutput.{OpenOutput}
-use Rattle.ff_composed.specs.Cuts.{all_given, graph_cuts}
-use Rattle.ff_composed.proofs.Elements.{map_size}
-use Rattle.ff_composed.proofs.Ends.{text_pads}
-use Rattle.ff_composed.proofs.Whole.{drawn_so, ready_so, means_so, outs_there, text_limited, limited_so}
-use Rattle.ff_composed.proofs.graph.make_graph.Goals as goal
+use Rattle.ff_graph.specs.composed.Cuts.{all_given, graph_cuts}
+use Rattle.ff_graph.proofs.ComposedLemmas.Elements.{map_size}
+use Rattle.ff_graph.proofs.ComposedLemmas.Ends.{text_pads}
+use Rattle.ff_graph.proofs.ComposedLemmas.Whole.{drawn_so, ready_so, means_so, outs_there, text_limited, limited_so}
+use Rattle.ff_graph.proofs.composed.graph.make_graph.Goals as goal
 
 pub compose-requires-clause-drawing : goal.compose-requires-clause-drawing
 compose-requires-clause-drawing c =

@@ -1,5 +1,5 @@
-use Rattle.ff_composed.proofs.Ends.{text_pads}
-use Rattle.ff_composed.proofs.laws.graphs_have_open_pads.Goals as goal
+use Rattle.ff_graph.proofs.ComposedLemmas.Ends.{text_pads}
+use Rattle.ff_graph.proofs.composed.laws.graphs_have_open_pads.Goals as goal
 
 pub returns-clause-inputs : goal.returns-clause-inputs
 returns-clause-inputs c g heads outs clear unlooped made some = (text_pads g heads outs clear unlooped made some).0

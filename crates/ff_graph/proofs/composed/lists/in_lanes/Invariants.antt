@@ -1,6 +1,6 @@
 use Rattle.std.proofs.Common.{◌≡◌, map, take}
-use Rattle.ff_frame.specs.declared.item.Lane.TheVariants.{Frames}
-use Rattle.ff_composed.proofs.lists.in_lanes.Given as goal
+use Rattle.ff_stream.specs.declared.item.Lane.TheVariants.{Frames}
+use Rattle.ff_graph.proofs.composed.lists.in_lanes.Given as goal
 
 abbrev pub invariant-heads : goal.invariant-heads
 invariant-heads l = l.lanes.items ≡ map Frames (take l.at l.heads)

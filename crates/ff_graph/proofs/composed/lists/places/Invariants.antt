@@ -1,7 +1,7 @@
 use Rattle.std.proofs.Common.{◌≡◌, map}
-use Rattle.ff_dag.specs.Graphs.{spots}
-use Rattle.ff_composed.specs.Ready.{new_spot}
-use Rattle.ff_composed.proofs.lists.places.Given as goal
+use Rattle.ff_graph_dag.specs.Graphs.{spots}
+use Rattle.ff_graph.specs.composed.Ready.{new_spot}
+use Rattle.ff_graph.proofs.composed.lists.places.Given as goal
 
 abbrev pub invariant-filters : goal.invariant-filters
 invariant-filters g l = spots g.F.Filter.view l.places.items ≡ map (λ v. new_spot v) (map g.F.Filter.view l.yielded)

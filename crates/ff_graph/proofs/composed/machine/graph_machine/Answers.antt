@@ -1,17 +1,17 @@
 use Rattle.std.proofs.Common.{◌≡◌, ℕ, List, length, ap, ◌∙◌}
-use Rattle.ff_frame.specs.declared.item.Lane.{Lane}
-use Rattle.ff_frame.specs.declared.item.Lane.TheVariants.{Frames}
+use Rattle.ff_stream.specs.declared.item.Lane.{Lane}
+use Rattle.ff_stream.specs.declared.item.Lane.TheVariants.{Frames}
 use Rattle.ff_filter.specs.Joins.{Ports}
 use Rattle.ff_filters.specs.contracts.any.AnyFilterFilter.TheImpl.{ghosts}
-use Rattle.ff_dag.specs.Graphs.{graph_view, spots}
-use Rattle.ff_cutting.specs.Taps.{cut_view}
-use Rattle.ff_cutting.proofs.Limiting.{cutting_limited}
+use Rattle.ff_graph_dag.specs.Graphs.{graph_view, spots}
+use Rattle.ff_trim.specs.Taps.{cut_view}
+use Rattle.ff_trim.proofs.Limiting.{cutting_limited}
 use Rattle.ff_graph.specs.Configured.{OpenOut}
 use Rattle.ff_graph.specs.Meaning.{graph_means}
-use Rattle.ff_composed.specs.Cuts.{all_given, graph_cuts, graph_cut, graph_outs, out_heads}
-use Rattle.ff_composed.proofs.Elements.{map_size}
-use Rattle.ff_composed.proofs.Whole.{stands_so, framed_so, counted_so, cut_so}
-use Rattle.ff_composed.proofs.machine.graph_machine.Goals as goal
+use Rattle.ff_graph.specs.composed.Cuts.{all_given, graph_cuts, graph_cut, graph_outs, out_heads}
+use Rattle.ff_graph.proofs.ComposedLemmas.Elements.{map_size}
+use Rattle.ff_graph.proofs.ComposedLemmas.Whole.{stands_so, framed_so, counted_so, cut_so}
+use Rattle.ff_graph.proofs.composed.machine.graph_machine.Goals as goal
 
 pub new-requires-clause-heads : goal.new-requires-clause-heads
 new-requires-clause-heads c =

@@ -1,9 +1,9 @@
 use Rattle.std.proofs.Common.{◌≡◌, ℕ, Bool, false, List, length, replicate, ap, sym, ◌∙◌, subst}
-use Rattle.ff_dag.specs.Graphs.{graph_view, spots}
-use Rattle.ff_dag.specs.Over.{Told}
-use Rattle.ff_dag.specs.Parts.{fit_all, graph_composes, graph_new}
-use Rattle.ff_dag.proofs.Telling.{told_new}
-use Rattle.ff_dag.proofs.dag.Dag.new.Goals as goal
+use Rattle.ff_graph_dag.specs.Graphs.{graph_view, spots}
+use Rattle.ff_graph_dag.specs.Over.{Told}
+use Rattle.ff_graph_dag.specs.Parts.{fit_all, graph_composes, graph_new}
+use Rattle.ff_graph_dag.proofs.Telling.{told_new}
+use Rattle.ff_graph_dag.proofs.dag.Dag.new.Goals as goal
 
 pub invariant_of-result-2 : goal.invariant_of-result-2
 invariant_of-result-2 g c =

@@ -1,11 +1,11 @@
 use Rattle.std.proofs.Common.{arith, take, suc, ◌+◌, refl, sym, ap, ◌∙◌, subst, ◌≡◌, ◌<◌, length, Ok, true, false, ℕ}
 use Rattle.std.proofs.Common.{List, Vec, Global, slice_index_or}
-use Rattle.ff_dag.specs.Graphs.{Sound, graph_view, spots, to_go, IsEmpty, AreEmpty, ways_of}
-use Rattle.ff_dag.specs.declared.graph.Plan.{Plan}
+use Rattle.ff_graph_dag.specs.Graphs.{Sound, graph_view, spots, to_go, IsEmpty, AreEmpty, ways_of}
+use Rattle.ff_graph_dag.specs.declared.graph.Plan.{Plan}
 use Rattle.ff_filter.specs.Views.{Same}
 use Rattle.ff_filter.proofs.Moves.{same_self, same_trans}
-use Rattle.ff_dag.proofs.Sweeping.{carried_self, carried_trans, carried_to_go, all_carried, one_more, ways_is, take_all}
-use Rattle.ff_dag.proofs.graph.Graph.advance.Goals as goal
+use Rattle.ff_graph_dag.proofs.Sweeping.{carried_self, carried_trans, carried_to_go, all_carried, one_more, ways_is, take_all}
+use Rattle.ff_graph_dag.proofs.graph.Graph.advance.Goals as goal
 
 pub loop-index-init : goal.loop-index-init
 loop-index-init g c = record {

@@ -1,10 +1,10 @@
 use Rattle.std.proofs.Common.{ap}
-use Rattle.ff_dag.specs.declared.graph.Wire.{Wire}
-use Rattle.ff_dag.specs.Graphs.{no_wire}
-use Rattle.ff_dag.specs.Readings.{at_is}
-use Rattle.ff_dag.proofs.Carrying.{held_there}
-use Rattle.ff_dag.proofs.Entering.{put_sound, put_fed}
-use Rattle.ff_dag.proofs.graph.Graph.enter.Goals as goal
+use Rattle.ff_graph_dag.specs.declared.graph.Wire.{Wire}
+use Rattle.ff_graph_dag.specs.Graphs.{no_wire}
+use Rattle.ff_graph_dag.specs.Readings.{at_is}
+use Rattle.ff_graph_dag.proofs.Carrying.{held_there}
+use Rattle.ff_graph_dag.proofs.Entering.{put_sound, put_fed}
+use Rattle.ff_graph_dag.proofs.graph.Graph.enter.Goals as goal
 
 pub store-requires : goal.store-requires
 store-requires g c = held_there g.F.Filter.view c.args.self.now.plan c.args.self.now.places.items c.args.port c.index.result.now

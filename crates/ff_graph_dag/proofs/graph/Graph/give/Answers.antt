@@ -1,7 +1,7 @@
-use Rattle.ff_dag.specs.Graphs.{no_port}
-use Rattle.ff_dag.specs.Readings.{at_is}
-use Rattle.ff_dag.proofs.Giving.{pad_wanted, pad_any, pad_gave, pad_kept, pad_err, pad_quiet}
-use Rattle.ff_dag.proofs.graph.Graph.give.Goals as goal
+use Rattle.ff_graph_dag.specs.Graphs.{no_port}
+use Rattle.ff_graph_dag.specs.Readings.{at_is}
+use Rattle.ff_graph_dag.proofs.Giving.{pad_wanted, pad_any, pad_gave, pad_kept, pad_err, pad_quiet}
+use Rattle.ff_graph_dag.proofs.graph.Graph.give.Goals as goal
 
 pub pull-requires-clause-wanted : goal.pull-requires-clause-wanted
 pull-requires-clause-wanted g c = pad_wanted g.F.Filter.view c.args.self.now.plan c.args.self.now.places.items c.args.port c.index-pad.result.now c.requires.there

@@ -1,8 +1,8 @@
 use Rattle.std.proofs.Common.{◌∙◌}
-use Rattle.ff_dag.specs.Graphs.{no_port}
-use Rattle.ff_dag.specs.Readings.{at_is}
-use Rattle.ff_dag.proofs.Entering.{feed_held, shut_is}
-use Rattle.ff_dag.proofs.graph.Graph.is_shut.Goals as goal
+use Rattle.ff_graph_dag.specs.Graphs.{no_port}
+use Rattle.ff_graph_dag.specs.Readings.{at_is}
+use Rattle.ff_graph_dag.proofs.Entering.{feed_held, shut_is}
+use Rattle.ff_graph_dag.proofs.graph.Graph.is_shut.Goals as goal
 
 pub is_shut-requires-clause-held : goal.is_shut-requires-clause-held
 is_shut-requires-clause-held g c = feed_held g.F.Filter.view c.args.self.now.plan c.args.self.now.places.items c.args.port c.index-feed.result.now c.requires

@@ -1,8 +1,8 @@
 use Rattle.std.proofs.Common.{◌∙◌}
-use Rattle.ff_dag.specs.Graphs.{no_port}
-use Rattle.ff_dag.specs.Readings.{at_is}
-use Rattle.ff_dag.proofs.Giving.{stopped_is}
-use Rattle.ff_dag.proofs.graph.Graph.is_stopped.Goals as goal
+use Rattle.ff_graph_dag.specs.Graphs.{no_port}
+use Rattle.ff_graph_dag.specs.Readings.{at_is}
+use Rattle.ff_graph_dag.proofs.Giving.{stopped_is}
+use Rattle.ff_graph_dag.proofs.graph.Graph.is_stopped.Goals as goal
 
 pub returns : goal.returns
 returns g c = c.is_stopped.ensures ∙ stopped_is g.F.Filter.view c.args.self.now.plan c.args.self.now.places.items c.args.port c.index-pad.result.now c.requires

@@ -1,7 +1,7 @@
-use Rattle.ff_dag.specs.Graphs.{no_wire}
-use Rattle.ff_dag.specs.Readings.{at_is}
-use Rattle.ff_dag.proofs.Carrying.{held_there, ready, fed_or_kept, fed_or_kept_same, fed_empty}
-use Rattle.ff_dag.proofs.graph.Graph.make_room.Goals as goal
+use Rattle.ff_graph_dag.specs.Graphs.{no_wire}
+use Rattle.ff_graph_dag.specs.Readings.{at_is}
+use Rattle.ff_graph_dag.proofs.Carrying.{held_there, ready, fed_or_kept, fed_or_kept_same, fed_empty}
+use Rattle.ff_graph_dag.proofs.graph.Graph.make_room.Goals as goal
 
 pub deliver-requires-clause-there : goal.deliver-requires-clause-there
 deliver-requires-clause-there g c = held_there g.F.Filter.view c.args.self.now.plan c.args.self.now.places.items c.args.wire c.index.result.now c.requires

@@ -1,7 +1,7 @@
-use Rattle.ff_dag.specs.Graphs.{no_port}
-use Rattle.ff_dag.specs.Readings.{at_is}
-use Rattle.ff_dag.proofs.Stopping.{end_sound, end_stopped}
-use Rattle.ff_dag.proofs.graph.Graph.stop.Goals as goal
+use Rattle.ff_graph_dag.specs.Graphs.{no_port}
+use Rattle.ff_graph_dag.specs.Readings.{at_is}
+use Rattle.ff_graph_dag.proofs.Stopping.{end_sound, end_stopped}
+use Rattle.ff_graph_dag.proofs.graph.Graph.stop.Goals as goal
 
 pub invariant_of-self : goal.invariant_of-self
 invariant_of-self g c = record {

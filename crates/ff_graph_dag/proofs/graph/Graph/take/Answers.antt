@@ -1,13 +1,13 @@
 use Rattle.std.proofs.Common.{sym, ◌∙◌, subst, ◌≡◌, ◌<◌, None, Ok, true, false, ℕ}
-use Rattle.ff_dag.specs.Graphs.{graph_view, spots, to_go, IsQuiet, AreEmpty, Sound, ways_of}
-use Rattle.ff_dag.specs.declared.graph.Plan.{Plan}
+use Rattle.ff_graph_dag.specs.Graphs.{graph_view, spots, to_go, IsQuiet, AreEmpty, Sound, ways_of}
+use Rattle.ff_graph_dag.specs.declared.graph.Plan.{Plan}
 use Rattle.ff_filter.specs.Views.{Same, Gave}
 use Rattle.ff_filter.proofs.Moves.{same_gave, same_trans}
 use Rattle.ff_filter.specs.Joins.{silence}
-use Rattle.ff_dag.proofs.Silence.{pad_silent}
-use Rattle.ff_dag.proofs.Giving.{quiet_carried}
-use Rattle.ff_dag.proofs.Sweeping.{carried_to_go}
-use Rattle.ff_dag.proofs.graph.Graph.take.Goals as goal
+use Rattle.ff_graph_dag.proofs.Silence.{pad_silent}
+use Rattle.ff_graph_dag.proofs.Giving.{quiet_carried}
+use Rattle.ff_graph_dag.proofs.Sweeping.{carried_to_go}
+use Rattle.ff_graph_dag.proofs.graph.Graph.take.Goals as goal
 
 -- src/graph.rt:149:35
 pub returns-in-Ok-Some-clause-gives : goal.returns-in-Ok-Some-clause-gives

@@ -1,9 +1,9 @@
 use Rattle.std.proofs.Common.{◌≡◌, slice_set, Option, None, Some, is_some, ap, ◌∙◌}
-use Rattle.ff_frame.specs.declared.item.Item.{Item}
+use Rattle.ff_stream.specs.declared.item.Item.{Item}
 use Rattle.ff_filter.proofs.Moves.{same_self}
-use Rattle.ff_dag.specs.Dags.{spot_of, held_at}
-use Rattle.ff_dag.proofs.Edges.{held_is, held_set, held_kept, held_size, delivered, kept, kept_empty, put_back, let_go}
-use Rattle.ff_dag.proofs.placed.Placed.deliver.Goals as goal
+use Rattle.ff_graph_dag.specs.Dags.{spot_of, held_at}
+use Rattle.ff_graph_dag.proofs.Edges.{held_is, held_set, held_kept, held_size, delivered, kept, kept_empty, put_back, let_go}
+use Rattle.ff_graph_dag.proofs.placed.Placed.deliver.Goals as goal
 
 pub feed-requires-clause-open_before : goal.feed-requires-clause-open_before
 feed-requires-clause-open_before g c =

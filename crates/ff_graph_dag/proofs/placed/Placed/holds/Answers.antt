@@ -1,7 +1,7 @@
 use Rattle.std.proofs.Common.{Option, is_some, ap, sym, ◌∙◌}
-use Rattle.ff_frame.specs.declared.item.Item.{Item}
-use Rattle.ff_dag.proofs.Edges.{held_is}
-use Rattle.ff_dag.proofs.placed.Placed.holds.Goals as goal
+use Rattle.ff_stream.specs.declared.item.Item.{Item}
+use Rattle.ff_graph_dag.proofs.Edges.{held_is}
+use Rattle.ff_graph_dag.proofs.placed.Placed.holds.Goals as goal
 
 pub returns : goal.returns
 returns g c = c.is_some.ensures ∙ ap (λ (m : Option Item). is_some m)

@@ -1,8 +1,8 @@
 use Rattle.std.proofs.Common.{refl, ◌∙◌}
 use Rattle.ff_filter.specs.Joins.{silence}
-use Rattle.ff_dag.specs.Dags.{spot_of}
-use Rattle.ff_dag.proofs.Edges.{pulled, kept, kept_or}
-use Rattle.ff_dag.proofs.placed.Placed.pull.Goals as goal
+use Rattle.ff_graph_dag.specs.Dags.{spot_of}
+use Rattle.ff_graph_dag.proofs.Edges.{pulled, kept, kept_or}
+use Rattle.ff_graph_dag.proofs.placed.Placed.pull.Goals as goal
 
 pub returns : goal.returns
 returns g c = record {

@@ -1,6 +1,6 @@
 use Rattle.std.proofs.Common.{◌≡◌, ◌<◌, ℕ, Some}
-use Rattle.ff_tied.specs.Tied.{port_of, leads_to, leaves, edge_in, edge_out}
-use Rattle.ff_tied.proofs.nodes.nodes_fit.Given as goal
+use Rattle.ff_graph_dag.specs.ties.Tied.{port_of, leads_to, leaves, edge_in, edge_out}
+use Rattle.ff_graph_dag.proofs.ties.nodes.nodes_fit.Given as goal
 
 abbrev pub invariant-each : goal.invariant-each
 invariant-each l = record {

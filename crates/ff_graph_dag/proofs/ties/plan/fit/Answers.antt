@@ -1,10 +1,10 @@
 use Rattle.std.proofs.Common.{◌≡◌, ℕ, ◌<◌, length, slice_index_or, subst, sym, below_more, arith}
-use Rattle.ff_dag.specs.declared.graph.Node.{Node}
-use Rattle.ff_dag.specs.Dags.{Spot, spot_of}
-use Rattle.ff_dag.specs.Graphs.{spots, spot_at, Fits}
-use Rattle.ff_dag.specs.Readings.{at_is, spots_size}
-use Rattle.ff_tied.proofs.Steps.{spot_there}
-use Rattle.ff_tied.proofs.plan.fit.Goals as goal
+use Rattle.ff_graph_dag.specs.declared.graph.Node.{Node}
+use Rattle.ff_graph_dag.specs.Dags.{Spot, spot_of}
+use Rattle.ff_graph_dag.specs.Graphs.{spots, spot_at, Fits}
+use Rattle.ff_graph_dag.specs.Readings.{at_is, spots_size}
+use Rattle.ff_graph_dag.proofs.TiesLemmas.Steps.{spot_there}
+use Rattle.ff_graph_dag.proofs.ties.plan.fit.Goals as goal
 
 pub each-preserved : goal.each-preserved
 each-preserved g c j m lt =

@@ -1,4 +1,4 @@
-use Rattle.ff_tied.proofs.plan.tied.Goals as goal
+use Rattle.ff_graph_dag.proofs.ties.plan.tied.Goals as goal
 
 pub returns-in-Some-clause-tied : goal.returns-in-Some-clause-tied
 returns-in-Some-clause-tied c =

@@ -1,8 +1,8 @@
 use Rattle.std.proofs.Common.{◌≡◌, ◌<◌, ◌≤◌, ℕ, List, Bool, Some, length, slice_get}
 use Rattle.std.specs.Prelude.{vec_capacity}
-use Rattle.ff_dag.specs.declared.graph.Port.{Port}
-use Rattle.ff_tied.specs.Tied.{ways_at, IsReached}
-use Rattle.ff_tied.proofs.ways.upward_ways.Given as goal
+use Rattle.ff_graph_dag.specs.declared.graph.Port.{Port}
+use Rattle.ff_graph_dag.specs.ties.Tied.{ways_at, IsReached}
+use Rattle.ff_graph_dag.proofs.ties.ways.all_ways.Given as goal
 
 abbrev pub invariant-each : goal.invariant-each
 invariant-each l = record {

@@ -1,10 +1,10 @@
 use Rattle.std.proofs.Common.{◌≡◌, ℕ, suc, ◌-◌, ◌<◌, ◌≤◌, false, List, Bool, Some, length, slice_get, ap, sym, ◌∙◌, subst, arith}
 use Rattle.std.proofs.lemmas.List.{length-replicate}
-use Rattle.ff_dag.specs.declared.graph.Wire.{Wire}
-use Rattle.ff_tied.specs.Tied.{is_needed, with_feeder}
-use Rattle.ff_tied.proofs.Steps.{ClosedAbove, set_here, feeder_keeps, closed_more}
-use Rattle.ff_tied.proofs.Tying.{got, got_below}
-use Rattle.ff_tied.proofs.ways.needed_at.Goals as goal
+use Rattle.ff_graph_dag.specs.declared.graph.Wire.{Wire}
+use Rattle.ff_graph_dag.specs.ties.Tied.{is_needed, with_feeder}
+use Rattle.ff_graph_dag.proofs.TiesLemmas.Steps.{ClosedAbove, set_here, feeder_keeps, closed_more}
+use Rattle.ff_graph_dag.proofs.TiesLemmas.Tying.{got, got_below}
+use Rattle.ff_graph_dag.proofs.ties.ways.needed_at.Goals as goal
 
 pub down-init : goal.down-init
 down-init c =

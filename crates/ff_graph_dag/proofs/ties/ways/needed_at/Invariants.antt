@@ -1,7 +1,7 @@
 use Rattle.std.proofs.Common.{◌≡◌, ◌<◌, ◌≤◌, true, length}
-use Rattle.ff_tied.specs.Tied.{is_needed, IsUpward}
-use Rattle.ff_tied.proofs.Steps.{ClosedAbove}
-use Rattle.ff_tied.proofs.ways.needed_at.Given as goal
+use Rattle.ff_graph_dag.specs.ties.Tied.{is_needed, IsUpward}
+use Rattle.ff_graph_dag.proofs.TiesLemmas.Steps.{ClosedAbove}
+use Rattle.ff_graph_dag.proofs.ties.ways.needed_at.Given as goal
 
 abbrev pub invariant-down : goal.invariant-down
 invariant-down l = record {

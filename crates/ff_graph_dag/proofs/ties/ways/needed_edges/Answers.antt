@@ -1,9 +1,9 @@
 use Rattle.std.proofs.Common.{◌≡◌, ℕ, suc, ◌-◌, ◌<◌, ◌≤◌, true, false, Some, length, slice_get, ap, sym, ◌∙◌, arith}
-use Rattle.ff_dag.specs.declared.graph.Wire.{Wire}
-use Rattle.ff_tied.specs.Tied.{is_needed}
-use Rattle.ff_tied.proofs.Steps.{more_above, more_below, less_above}
-use Rattle.ff_tied.proofs.Tying.{got}
-use Rattle.ff_tied.proofs.ways.needed_edges.Goals as goal
+use Rattle.ff_graph_dag.specs.declared.graph.Wire.{Wire}
+use Rattle.ff_graph_dag.specs.ties.Tied.{is_needed}
+use Rattle.ff_graph_dag.proofs.TiesLemmas.Steps.{more_above, more_below, less_above}
+use Rattle.ff_graph_dag.proofs.TiesLemmas.Tying.{got}
+use Rattle.ff_graph_dag.proofs.ties.ways.needed_edges.Goals as goal
 
 pub down-preserved-in-Continue-1 : goal.down-preserved-in-Continue-1
 down-preserved-in-Continue-1 c =

@@ -1,7 +1,7 @@
 use Rattle.std.proofs.Common.{◌≡◌, ◌<◌, ◌≤◌, ℕ, false, length, slice_get}
-use Rattle.ff_dag.specs.Graphs.{among}
-use Rattle.ff_tied.specs.Tied.{wire_needed}
-use Rattle.ff_tied.proofs.ways.needed_edges.Given as goal
+use Rattle.ff_graph_dag.specs.Graphs.{among}
+use Rattle.ff_graph_dag.specs.ties.Tied.{wire_needed}
+use Rattle.ff_graph_dag.proofs.ties.ways.needed_edges.Given as goal
 
 abbrev pub invariant-down : goal.invariant-down
 invariant-down l = record {

@@ -1,8 +1,8 @@
 use Rattle.std.proofs.Common.{◌≡◌, ℕ, ◌+◌, ◌<◌, Some, length, slice_get, ap, subst, sym, ◌∙◌, below_more, arith}
-use Rattle.ff_dag.specs.declared.graph.Port.{Port}
-use Rattle.ff_tied.specs.Tied.{edge_out}
-use Rattle.ff_tied.proofs.Tying.{got, got_is, got_below}
-use Rattle.ff_tied.proofs.wires.pads_fit.Goals as goal
+use Rattle.ff_graph_dag.specs.declared.graph.Port.{Port}
+use Rattle.ff_graph_dag.specs.ties.Tied.{edge_out}
+use Rattle.ff_graph_dag.proofs.TiesLemmas.Tying.{got, got_is, got_below}
+use Rattle.ff_graph_dag.proofs.ties.wires.pads_fit.Goals as goal
 
 pub each-preserved : goal.each-preserved
 each-preserved c j f lt h =

@@ -1,9 +1,9 @@
 use Rattle.std.proofs.Common.{◌≡◌, ℕ, ◌<◌, Some, None, length, slice_get, subst, sym, ◌∙◌, below_more, arith}
-use Rattle.ff_dag.specs.declared.graph.Port.{Port}
-use Rattle.ff_dag.specs.declared.graph.Wire.{Wire}
-use Rattle.ff_tied.specs.Tied.{edge_in, edge_out}
-use Rattle.ff_tied.proofs.Tying.{got_is, got_below}
-use Rattle.ff_tied.proofs.wires.wires_fit.Goals as goal
+use Rattle.ff_graph_dag.specs.declared.graph.Port.{Port}
+use Rattle.ff_graph_dag.specs.declared.graph.Wire.{Wire}
+use Rattle.ff_graph_dag.specs.ties.Tied.{edge_in, edge_out}
+use Rattle.ff_graph_dag.proofs.TiesLemmas.Tying.{got_is, got_below}
+use Rattle.ff_graph_dag.proofs.ties.wires.wires_fit.Goals as goal
 
 pub each-preserved : goal.each-preserved
 each-preserved c =

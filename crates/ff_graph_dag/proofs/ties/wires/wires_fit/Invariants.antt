@@ -1,8 +1,8 @@
 use Rattle.std.proofs.Common.{◌≡◌, ◌<◌, ℕ, Some, None, length, slice_get}
-use Rattle.ff_dag.specs.declared.graph.Port.{Port}
-use Rattle.ff_dag.specs.declared.graph.Wire.{Wire}
-use Rattle.ff_tied.specs.Tied.{edge_in, edge_out}
-use Rattle.ff_tied.proofs.wires.wires_fit.Given as goal
+use Rattle.ff_graph_dag.specs.declared.graph.Port.{Port}
+use Rattle.ff_graph_dag.specs.declared.graph.Wire.{Wire}
+use Rattle.ff_graph_dag.specs.ties.Tied.{edge_in, edge_out}
+use Rattle.ff_graph_dag.proofs.ties.wires.wires_fit.Given as goal
 
 abbrev pub invariant-each : goal.invariant-each
 invariant-each l = record {

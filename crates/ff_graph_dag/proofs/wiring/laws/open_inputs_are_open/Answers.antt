@@ -1,5 +1,5 @@
-use Rattle.ff_wired.proofs.Opening.{opens_open, opens_once, opens_all}
-use Rattle.ff_wired.proofs.laws.open_inputs_are_open.Goals as goal
+use Rattle.ff_graph_dag.proofs.WiringLemmas.Opening.{opens_open, opens_once, opens_all}
+use Rattle.ff_graph_dag.proofs.wiring.laws.open_inputs_are_open.Goals as goal
 
 pub returns-clause-free : goal.returns-clause-free
 returns-clause-free c sources n p e = opens_open sources n p e

@@ -1,5 +1,5 @@
-use Rattle.ff_wired.proofs.Forward.{forward, all_come}
-use Rattle.ff_wired.proofs.laws.orders_go_forward.Goals as goal
+use Rattle.ff_graph_dag.proofs.WiringLemmas.Forward.{forward, all_come}
+use Rattle.ff_graph_dag.proofs.wiring.laws.orders_go_forward.Goals as goal
 
 pub returns-clause-forward : goal.returns-clause-forward
 returns-clause-forward c feeders sources order o fed = forward feeders sources fed order o

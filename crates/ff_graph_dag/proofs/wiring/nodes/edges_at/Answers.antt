@@ -1,5 +1,5 @@
-use Rattle.ff_wired.proofs.Ups.{pushed}
-use Rattle.ff_wired.proofs.nodes.edges_at.Goals as goal
+use Rattle.ff_graph_dag.proofs.WiringLemmas.Ups.{pushed}
+use Rattle.ff_graph_dag.proofs.wiring.nodes.edges_at.Goals as goal
 
 pub ports-preserved : goal.ports-preserved
 ports-preserved c =

@@ -1,6 +1,6 @@
 use Rattle.std.proofs.Common.{◌≡◌, ◌-◌, ◌++◌}
-use Rattle.ff_wired.specs.Wires.{edges_up}
-use Rattle.ff_wired.proofs.nodes.edges_at.Given as goal
+use Rattle.ff_graph_dag.specs.wiring.Wires.{edges_up}
+use Rattle.ff_graph_dag.proofs.wiring.nodes.edges_at.Given as goal
 
 abbrev pub invariant-ports : goal.invariant-ports
 invariant-ports l = l.edges.items ++ edges_up l.ports l.filter l.port (l.count - l.port) ≡ edges_up l.ports l.filter 0 l.count

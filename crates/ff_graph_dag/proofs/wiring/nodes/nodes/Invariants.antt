@@ -1,6 +1,6 @@
 use Rattle.std.proofs.Common.{◌≡◌, ◌++◌, drop, map}
-use Rattle.ff_wired.specs.Wires.{feeds_in, ins_from, outs_from}
-use Rattle.ff_wired.proofs.nodes.nodes.Given as goal
+use Rattle.ff_graph_dag.specs.wiring.Wires.{feeds_in, ins_from, outs_from}
+use Rattle.ff_graph_dag.proofs.wiring.nodes.nodes.Given as goal
 
 abbrev pub invariant-filters : goal.invariant-filters
 invariant-filters l = record {

@@ -1,10 +1,10 @@
 use Rattle.std.proofs.Common.{◌≡◌, ℕ, List, Option, ap, subst, sym, ◌∙◌}
-use Rattle.ff_drawn.specs.Links.{pads_in}
-use Rattle.ff_dag.specs.declared.graph.Port.{Port}
-use Rattle.ff_wired.specs.Flows.{placed, placed_counts, placed_pads}
-use Rattle.ff_wired.specs.Wires.{feeds_in, IsLinked}
-use Rattle.ff_wired.proofs.Linking.{linked}
-use Rattle.ff_wired.proofs.plan.drawn_plan.Goals as goal
+use Rattle.ff_graph_links.specs.pads.Links.{pads_in}
+use Rattle.ff_graph_dag.specs.declared.graph.Port.{Port}
+use Rattle.ff_graph_dag.specs.wiring.Flows.{placed, placed_counts, placed_pads}
+use Rattle.ff_graph_dag.specs.wiring.Wires.{feeds_in, IsLinked}
+use Rattle.ff_graph_dag.proofs.WiringLemmas.Linking.{linked}
+use Rattle.ff_graph_dag.proofs.wiring.plan.drawn_plan.Goals as goal
 
 pub wired-requires-clause-linked : goal.wired-requires-clause-linked
 wired-requires-clause-linked c =

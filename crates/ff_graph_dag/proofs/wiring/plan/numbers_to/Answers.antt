@@ -1,5 +1,5 @@
-use Rattle.ff_wired.proofs.Ups.{counted}
-use Rattle.ff_wired.proofs.plan.numbers_to.Goals as goal
+use Rattle.ff_graph_dag.proofs.WiringLemmas.Ups.{counted}
+use Rattle.ff_graph_dag.proofs.wiring.plan.numbers_to.Goals as goal
 
 pub edges-preserved : goal.edges-preserved
 edges-preserved c =

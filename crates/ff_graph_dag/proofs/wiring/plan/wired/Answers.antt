@@ -1,8 +1,8 @@
 use Rattle.std.proofs.Common.{sym, ◌∙◌, ap, length}
-use Rattle.ff_dag.specs.declared.graph.Plan.{Plan}
-use Rattle.ff_wired.specs.Wires.{feeds_in, IsWired}
-use Rattle.ff_wired.proofs.Tying.{wires_upward, pads_within, tied_so}
-use Rattle.ff_wired.proofs.plan.wired.Goals as goal
+use Rattle.ff_graph_dag.specs.declared.graph.Plan.{Plan}
+use Rattle.ff_graph_dag.specs.wiring.Wires.{feeds_in, IsWired}
+use Rattle.ff_graph_dag.proofs.WiringLemmas.Tying.{wires_upward, pads_within, tied_so}
+use Rattle.ff_graph_dag.proofs.wiring.plan.wired.Goals as goal
 
 pub upward_ways-requires-clause-upward : goal.upward_ways-requires-clause-upward
 upward_ways-requires-clause-upward c = wires_upward (feeds_in c.args.fed.now) c.args.counts.now c.args.opens.items c.args.pads.items c.requires.linked c.in_ok-plan.plan

@@ -1,6 +1,6 @@
 use Rattle.std.proofs.Common.{◌≡◌, ◌++◌, drop}
-use Rattle.ff_wired.specs.Wires.{entering}
-use Rattle.ff_wired.proofs.wires.add_entering.Given as goal
+use Rattle.ff_graph_dag.specs.wiring.Wires.{entering}
+use Rattle.ff_graph_dag.proofs.wiring.wires.add_entering.Given as goal
 
 abbrev pub invariant-inputs : goal.invariant-inputs
 invariant-inputs l = l.wires.items ++ entering (drop l.input l.opens) ≡ l.initial.wires.items ++ entering l.opens

@@ -1,7 +1,7 @@
 use Rattle.std.proofs.Common.{◌≡◌, ◌++◌, drop}
-use Rattle.ff_labels.specs.Names.{twice_in}
-use Rattle.ff_labels.specs.Labels.{ins_of, outs_of}
-use Rattle.ff_labels.proofs.alone.check_chain.Given as goal
+use Rattle.ff_graph_links.specs.labels.Names.{twice_in}
+use Rattle.ff_graph_links.specs.labels.Labels.{ins_of, outs_of}
+use Rattle.ff_graph_links.proofs.labels.alone.check_chain.Given as goal
 
 abbrev pub invariant-loop-filter : goal.invariant-loop-filter
 invariant-loop-filter l = record {

@@ -1,11 +1,11 @@
 use Rattle.std.proofs.Common.{◌≡◌, ◌+◌, ◌<◌, length, drop, get_or, ap, ◌∙◌, arith, List}
 use Rattle.std.proofs.lemmas.List.{get_or_default}
 use Rattle.ff_lang.specs.declared.graph.Chain.{Chain}
-use Rattle.ff_labels.specs.Labels.{filters_of}
-use Rattle.ff_labels.specs.Names.{twice_in}
-use Rattle.ff_labels.proofs.Own.{own_fault_in, own_fine}
-use Rattle.ff_labels.proofs.Faults.{filters_from, filters_next}
-use Rattle.ff_labels.proofs.alone.check_chains.Goals as goal
+use Rattle.ff_graph_links.specs.labels.Labels.{filters_of}
+use Rattle.ff_graph_links.specs.labels.Names.{twice_in}
+use Rattle.ff_graph_links.proofs.LabelsLemmas.Own.{own_fault_in, own_fine}
+use Rattle.ff_graph_links.proofs.LabelsLemmas.Faults.{filters_from, filters_next}
+use Rattle.ff_graph_links.proofs.labels.alone.check_chains.Goals as goal
 
 pub returns-in-Err-clause-fault : goal.returns-in-Err-clause-fault
 returns-in-Err-clause-fault c =

@@ -1,11 +1,11 @@
 use Rattle.std.proofs.Common.{◌≡◌, ◌+◌, ◌<◌, length, drop, get_or, ap, ◌∙◌, arith, List}
 use Rattle.std.proofs.lemmas.List.{get_or_default}
 use Rattle.ff_lang.specs.declared.graph.Chain.{Chain}
-use Rattle.ff_labels.specs.Labels.{filters_of}
-use Rattle.ff_labels.specs.Names.{unknown_filter}
-use Rattle.ff_labels.proofs.Own.{unknown_in, known_on}
-use Rattle.ff_labels.proofs.Faults.{filters_from, filters_next, count_on}
-use Rattle.ff_labels.proofs.alone.check_names.Goals as goal
+use Rattle.ff_graph_links.specs.labels.Labels.{filters_of}
+use Rattle.ff_graph_links.specs.labels.Names.{unknown_filter}
+use Rattle.ff_graph_links.proofs.LabelsLemmas.Own.{unknown_in, known_on}
+use Rattle.ff_graph_links.proofs.LabelsLemmas.Faults.{filters_from, filters_next, count_on}
+use Rattle.ff_graph_links.proofs.labels.alone.check_names.Goals as goal
 
 pub returns-in-Err-clause-fault : goal.returns-in-Err-clause-fault
 returns-in-Err-clause-fault g c =

@@ -1,8 +1,8 @@
 use Rattle.std.proofs.Common.{◌≡◌, ◌+◌, drop, length}
-use Rattle.ff_labels.specs.Names.{unknown_filter}
-use Rattle.ff_labels.specs.Labels.{filters_of}
-use Rattle.ff_labels.proofs.Faults.{filters_from}
-use Rattle.ff_labels.proofs.alone.check_names.Given as goal
+use Rattle.ff_graph_links.specs.labels.Names.{unknown_filter}
+use Rattle.ff_graph_links.specs.labels.Labels.{filters_of}
+use Rattle.ff_graph_links.proofs.LabelsLemmas.Faults.{filters_from}
+use Rattle.ff_graph_links.proofs.labels.alone.check_names.Given as goal
 
 abbrev pub invariant-loop-chain : goal.invariant-loop-chain
 invariant-loop-chain g l = record {

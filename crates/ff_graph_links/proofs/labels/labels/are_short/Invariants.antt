@@ -1,8 +1,8 @@
 use Rattle.std.proofs.Common.{◌≤◌, drop, length}
 use Rattle.std.specs.List.{AllByRecursion}
 use Rattle.ff_lang.specs.declared.graph.Graph.{Graph}
-use Rattle.ff_labels.specs.Labels.{filters_of}
-use Rattle.ff_labels.proofs.labels.are_short.Given as goal
+use Rattle.ff_graph_links.specs.labels.Labels.{filters_of}
+use Rattle.ff_graph_links.proofs.labels.labels.are_short.Given as goal
 
 abbrev pub invariant-loop-graph : goal.invariant-loop-graph
 invariant-loop-graph l = record {

@@ -1,7 +1,7 @@
 use Rattle.std.proofs.Common.{◌≡◌, ◌+◌, ◌++◌, drop}
-use Rattle.ff_labels.specs.Names.{filters_fault}
-use Rattle.ff_labels.specs.Labels.{ins_of, outs_of}
-use Rattle.ff_labels.proofs.names.check_chain.Given as goal
+use Rattle.ff_graph_links.specs.labels.Names.{filters_fault}
+use Rattle.ff_graph_links.specs.labels.Labels.{ins_of, outs_of}
+use Rattle.ff_graph_links.proofs.labels.names.check_chain.Given as goal
 
 abbrev pub invariant-loop-at : goal.invariant-loop-at
 invariant-loop-at g l = record {

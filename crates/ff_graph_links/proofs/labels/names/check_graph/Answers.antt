@@ -1,10 +1,10 @@
 use Rattle.std.proofs.Common.{◌≡◌, ◌+◌, ◌++◌, ◌<◌, length, drop, get_or, ap, ◌∙◌, arith, List}
 use Rattle.std.proofs.lemmas.List.{get_or_default}
 use Rattle.ff_lang.specs.declared.graph.Chain.{Chain}
-use Rattle.ff_labels.specs.Labels.{filters_of, taken_in, given_in}
-use Rattle.ff_labels.specs.Names.{filters_fault}
-use Rattle.ff_labels.proofs.Faults.{filters_from, filters_next, chain_fault, chain_fine, ins_on, outs_on, count_on}
-use Rattle.ff_labels.proofs.names.check_graph.Goals as goal
+use Rattle.ff_graph_links.specs.labels.Labels.{filters_of, taken_in, given_in}
+use Rattle.ff_graph_links.specs.labels.Names.{filters_fault}
+use Rattle.ff_graph_links.proofs.LabelsLemmas.Faults.{filters_from, filters_next, chain_fault, chain_fine, ins_on, outs_on, count_on}
+use Rattle.ff_graph_links.proofs.labels.names.check_graph.Goals as goal
 
 pub returns-in-Err-clause-fault : goal.returns-in-Err-clause-fault
 returns-in-Err-clause-fault g c =

@@ -1,9 +1,9 @@
 use Rattle.std.proofs.Common.{◌≡◌, ◌+◌, ◌++◌, drop, length}
 use Rattle.std.specs.List.{flat_map}
 use Rattle.ff_lang.specs.declared.graph.Chain.{Chain}
-use Rattle.ff_labels.specs.Names.{filters_fault}
-use Rattle.ff_labels.specs.Labels.{filters_of, ins_of, outs_of, taken_in, given_in}
-use Rattle.ff_labels.proofs.names.check_graph.Given as goal
+use Rattle.ff_graph_links.specs.labels.Names.{filters_fault}
+use Rattle.ff_graph_links.specs.labels.Labels.{filters_of, ins_of, outs_of, taken_in, given_in}
+use Rattle.ff_graph_links.proofs.labels.names.check_graph.Given as goal
 
 abbrev pub invariant-loop-chain : goal.invariant-loop-chain
 invariant-loop-chain g l = record {

@@ -1,9 +1,9 @@
 use Rattle.std.proofs.Common.{◌≡◌, ◌≤◌, drop, length}
 use Rattle.std.specs.List.{AllByRecursion}
 use Rattle.ff_lang.specs.declared.graph.Graph.{Graph}
-use Rattle.ff_labels.specs.Names.{graphs_fault, labels_fault, all_given}
-use Rattle.ff_labels.specs.Labels.{filters_of}
-use Rattle.ff_labels.proofs.names.check_labels.Given as goal
+use Rattle.ff_graph_links.specs.labels.Names.{graphs_fault, labels_fault, all_given}
+use Rattle.ff_graph_links.specs.labels.Labels.{filters_of}
+use Rattle.ff_graph_links.proofs.labels.names.check_labels.Given as goal
 
 abbrev pub invariant-loop-number : goal.invariant-loop-number
 invariant-loop-number g l = record {

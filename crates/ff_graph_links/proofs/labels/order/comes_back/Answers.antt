@@ -1,8 +1,8 @@
 use Rattle.std.proofs.Common.{◌≡◌, ℕ, ◌||◌, Bool, List, map, length, ap, ◌∙◌, arith}
-use Rattle.ff_labels.specs.Order.{below, cell, reaches}
-use Rattle.ff_labels.specs.Tables.{marks}
-use Rattle.ff_labels.proofs.Tabled.{next_step, back_is}
-use Rattle.ff_labels.proofs.order.comes_back.Goals as goal
+use Rattle.ff_graph_links.specs.labels.Order.{below, cell, reaches}
+use Rattle.ff_graph_links.specs.labels.Tables.{marks}
+use Rattle.ff_graph_links.proofs.LabelsLemmas.Tabled.{next_step, back_is}
+use Rattle.ff_graph_links.proofs.labels.order.comes_back.Goals as goal
 
 pub loop-step-preserved : goal.loop-step-preserved
 loop-step-preserved c =

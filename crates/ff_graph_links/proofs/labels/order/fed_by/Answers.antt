@@ -1,6 +1,6 @@
-use Rattle.ff_labels.specs.Order.{feeds}
-use Rattle.ff_labels.proofs.Tabled.{pushed}
-use Rattle.ff_labels.proofs.order.fed_by.Goals as goal
+use Rattle.ff_graph_links.specs.labels.Order.{feeds}
+use Rattle.ff_graph_links.proofs.LabelsLemmas.Tabled.{pushed}
+use Rattle.ff_graph_links.proofs.labels.order.fed_by.Goals as goal
 
 pub loop-to-preserved : goal.loop-to-preserved
 loop-to-preserved c =

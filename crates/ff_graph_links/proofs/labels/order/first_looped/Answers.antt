@@ -1,9 +1,9 @@
 use Rattle.std.proofs.Common.{ℕ, ◌||◌, false, length, sym, ◌∙◌}
 use Rattle.std.specs.Prelude.{slice_index_or}
-use Rattle.ff_labels.specs.Order.{cell, comes_behind, first_on_loop}
-use Rattle.ff_labels.specs.Tables.{marks}
-use Rattle.ff_labels.proofs.Tabled.{found_on, found_here}
-use Rattle.ff_labels.proofs.order.first_looped.Goals as goal
+use Rattle.ff_graph_links.specs.labels.Order.{cell, comes_behind, first_on_loop}
+use Rattle.ff_graph_links.specs.labels.Tables.{marks}
+use Rattle.ff_graph_links.proofs.LabelsLemmas.Tabled.{found_on, found_here}
+use Rattle.ff_graph_links.proofs.labels.order.first_looped.Goals as goal
 
 pub loop-graph-preserved : goal.loop-graph-preserved
 loop-graph-preserved c =

@@ -1,6 +1,6 @@
 use Rattle.std.proofs.Common.{◌≡◌, ℕ, Option, IfOk, subst, arith}
-use Rattle.ff_labels.proofs.Tabled.{table_length, loop_by}
-use Rattle.ff_labels.proofs.order.graph_on_loop.Goals as goal
+use Rattle.ff_graph_links.proofs.LabelsLemmas.Tabled.{table_length, loop_by}
+use Rattle.ff_graph_links.proofs.labels.order.graph_on_loop.Goals as goal
 
 pub first_looped-requires : goal.first_looped-requires
 first_looped-requires c =

@@ -1,6 +1,6 @@
 use Rattle.std.proofs.Common.{◌≡◌, ℕ, List, IfOk, subst, arith}
-use Rattle.ff_labels.proofs.Tabled.{table_length, order_by_table}
-use Rattle.ff_labels.proofs.order.graphs_in_order.Goals as goal
+use Rattle.ff_graph_links.proofs.LabelsLemmas.Tabled.{table_length, order_by_table}
+use Rattle.ff_graph_links.proofs.labels.order.graphs_in_order.Goals as goal
 
 pub order_of-requires : goal.order_of-requires
 order_of-requires c =

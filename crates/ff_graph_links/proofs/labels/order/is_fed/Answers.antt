@@ -1,9 +1,9 @@
 use Rattle.std.proofs.Common.{ℕ, ◌||◌, not, length, sym, ◌∙◌}
 use Rattle.std.specs.List.{list_all}
-use Rattle.ff_labels.specs.Order.{below, cell, is_in}
-use Rattle.ff_labels.specs.Tables.{marks}
-use Rattle.ff_labels.proofs.Tabled.{all_on}
-use Rattle.ff_labels.proofs.order.is_fed.Goals as goal
+use Rattle.ff_graph_links.specs.labels.Order.{below, cell, is_in}
+use Rattle.ff_graph_links.specs.labels.Tables.{marks}
+use Rattle.ff_graph_links.proofs.LabelsLemmas.Tabled.{all_on}
+use Rattle.ff_graph_links.proofs.labels.order.is_fed.Goals as goal
 
 pub loop-from-preserved : goal.loop-from-preserved
 loop-from-preserved c =

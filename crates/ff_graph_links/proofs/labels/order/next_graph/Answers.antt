@@ -1,8 +1,8 @@
 use Rattle.std.proofs.Common.{length, sym, ◌∙◌}
-use Rattle.ff_labels.specs.Order.{cell, is_next, next_graph}
-use Rattle.ff_labels.specs.Tables.{marks}
-use Rattle.ff_labels.proofs.Tabled.{found_on}
-use Rattle.ff_labels.proofs.order.next_graph.Goals as goal
+use Rattle.ff_graph_links.specs.labels.Order.{cell, is_next, next_graph}
+use Rattle.ff_graph_links.specs.labels.Tables.{marks}
+use Rattle.ff_graph_links.proofs.LabelsLemmas.Tabled.{found_on}
+use Rattle.ff_graph_links.proofs.labels.order.next_graph.Goals as goal
 
 pub loop-graph-preserved : goal.loop-graph-preserved
 loop-graph-preserved c =

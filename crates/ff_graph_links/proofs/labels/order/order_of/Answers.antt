@@ -1,8 +1,8 @@
 use Rattle.std.proofs.Common.{◌≡◌, ℕ, ◌-◌, List, [], length, ap, sym, ◌∙◌, arith}
-use Rattle.ff_labels.specs.Order.{cell, next_graph, order_on, order_by}
-use Rattle.ff_labels.specs.Tables.{marks}
-use Rattle.ff_labels.proofs.Tabled.{order_step, order_full}
-use Rattle.ff_labels.proofs.order.order_of.Goals as goal
+use Rattle.ff_graph_links.specs.labels.Order.{cell, next_graph, order_on, order_by}
+use Rattle.ff_graph_links.specs.labels.Tables.{marks}
+use Rattle.ff_graph_links.proofs.LabelsLemmas.Tabled.{order_step, order_full}
+use Rattle.ff_graph_links.proofs.labels.order.order_of.Goals as goal
 
 pub loop-step-init : goal.loop-step-init
 loop-step-init c =

@@ -1,8 +1,8 @@
 use Rattle.std.proofs.Common.{ℕ, ◌||◌}
-use Rattle.ff_labels.specs.Order.{cell, reaches}
-use Rattle.ff_labels.specs.Tables.{marks}
-use Rattle.ff_labels.proofs.Tabled.{pushed}
-use Rattle.ff_labels.proofs.order.step_on.Goals as goal
+use Rattle.ff_graph_links.specs.labels.Order.{cell, reaches}
+use Rattle.ff_graph_links.specs.labels.Tables.{marks}
+use Rattle.ff_graph_links.proofs.LabelsLemmas.Tabled.{pushed}
+use Rattle.ff_graph_links.proofs.labels.order.step_on.Goals as goal
 
 pub loop-to-preserved : goal.loop-to-preserved
 loop-to-preserved c =

@@ -1,7 +1,7 @@
 use Rattle.std.proofs.Common.{ℕ, map, length}
-use Rattle.ff_labels.specs.Order.{below, feeds}
-use Rattle.ff_labels.proofs.Tabled.{row_pushed}
-use Rattle.ff_labels.proofs.order.table.Goals as goal
+use Rattle.ff_graph_links.specs.labels.Order.{below, feeds}
+use Rattle.ff_graph_links.proofs.LabelsLemmas.Tabled.{row_pushed}
+use Rattle.ff_graph_links.proofs.labels.order.table.Goals as goal
 
 pub loop-from-preserved : goal.loop-from-preserved
 loop-from-preserved c =

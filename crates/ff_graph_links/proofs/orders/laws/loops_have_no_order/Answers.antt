@@ -1,5 +1,5 @@
-use Rattle.ff_order.proofs.Lowest.{no_order}
-use Rattle.ff_order.proofs.laws.loops_have_no_order.Goals as goal
+use Rattle.ff_graph_links.proofs.OrdersLemmas.Lowest.{no_order}
+use Rattle.ff_graph_links.proofs.orders.laws.loops_have_no_order.Goals as goal
 
 pub returns : goal.returns
 returns c feeders ks e h = no_order feeders e ks h

@@ -1,9 +1,9 @@
 use Rattle.std.proofs.Common.{◌≡◌, ℕ, ◌<◌, Bool, false, true, not, List, [], ◌∷◌, ◌++◌, length, slice_set, refl, subst, sym, ap, ◌∙◌, arith, replicate, length-append}
 use Rattle.std.proofs.lemmas.List.{length-replicate}
-use Rattle.ff_order.specs.Orders.{lists, all_taken, left, is_ready, order_from, IsLowestFrom}
-use Rattle.ff_order.proofs.Stuck.{at_last, looped, left_falls, one_more, size_set, unready}
-use Rattle.ff_order.proofs.Lowest.{starts_there, none_taken_left, more_taken, ends_with, long_enough, too_short}
-use Rattle.ff_order.proofs.taking.order.Goals as goal
+use Rattle.ff_graph_links.specs.orders.Orders.{lists, all_taken, left, is_ready, order_from, IsLowestFrom}
+use Rattle.ff_graph_links.proofs.OrdersLemmas.Stuck.{at_last, looped, left_falls, one_more, size_set, unready}
+use Rattle.ff_graph_links.proofs.OrdersLemmas.Lowest.{starts_there, none_taken_left, more_taken, ends_with, long_enough, too_short}
+use Rattle.ff_graph_links.proofs.orders.taking.order.Goals as goal
 
 pub taking-init : goal.taking-init
 taking-init c =

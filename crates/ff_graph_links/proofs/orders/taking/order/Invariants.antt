@@ -1,6 +1,6 @@
 use Rattle.std.proofs.Common.{◌≡◌, ℕ, ◌+◌, List, length, ◌++◌, replicate, false}
-use Rattle.ff_order.specs.Orders.{lists, left, IsLowestFrom, order_from, order_of}
-use Rattle.ff_order.proofs.taking.order.Given as goal
+use Rattle.ff_graph_links.specs.orders.Orders.{lists, left, IsLowestFrom, order_from, order_of}
+use Rattle.ff_graph_links.proofs.orders.taking.order.Given as goal
 
 abbrev pub invariant-taking : goal.invariant-taking
 invariant-taking l = record {

@@ -1,6 +1,6 @@
-use Rattle.ff_drawn.specs.Links.{seen, all_seen, sources_of}
-use Rattle.ff_drawn.proofs.Sourced.{pushed}
-use Rattle.ff_drawn.proofs.sourcing.sources_at.Goals as goal
+use Rattle.ff_graph_links.specs.pads.Links.{seen, all_seen, sources_of}
+use Rattle.ff_graph_links.proofs.PadsLemmas.Sourced.{pushed}
+use Rattle.ff_graph_links.proofs.pads.sourcing.sources_at.Goals as goal
 
 pub pads-preserved : goal.pads-preserved
 pads-preserved c =

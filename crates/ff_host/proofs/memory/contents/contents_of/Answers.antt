@@ -1,6 +1,6 @@
-use Rattle.ff_memory_host.specs.Given.{given}
-use Rattle.ff_memory_host.proofs.GivenFiles.{filled}
-use Rattle.ff_memory_host.proofs.contents.contents_of.Goals as goal
+use Rattle.ff_host.specs.memory.Given.{given}
+use Rattle.ff_host.proofs.MemoryLemmas.GivenFiles.{filled}
+use Rattle.ff_host.proofs.memory.contents.contents_of.Goals as goal
 
 pub files-preserved-in_ok-insert : goal.files-preserved-in_ok-insert
 files-preserved-in_ok-insert c = λ name. filled (given c.args.files.items name) c.files.files.items c.pop.new.self.items (c.in-Some.name, c.in-Some.bytes) c.files.map c.insert.new.self name

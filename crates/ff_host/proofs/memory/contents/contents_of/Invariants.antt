@@ -1,8 +1,8 @@
 use Rattle.std.proofs.Common.{◌≡◌, ℕ, List, vec_len}
-use Rattle.ff_memory_host.specs.Given.{given}
-use Rattle.ff_memory_host.specs.Contents.{file_at}
-use Rattle.ff_memory_host.proofs.GivenFiles.{either}
-use Rattle.ff_memory_host.proofs.contents.contents_of.Given as goal
+use Rattle.ff_host.specs.memory.Given.{given}
+use Rattle.ff_host.specs.memory.Contents.{file_at}
+use Rattle.ff_host.proofs.MemoryLemmas.GivenFiles.{either}
+use Rattle.ff_host.proofs.memory.contents.contents_of.Given as goal
 
 abbrev pub invariant-files : goal.invariant-files
 invariant-files l = (name : List ℕ) → given l.fn.files.items name ≡ either (given l.files.items name) (file_at l.map name)

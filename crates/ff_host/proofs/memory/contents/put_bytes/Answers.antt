@@ -1,7 +1,7 @@
 use Rattle.std.proofs.Common.{rules, ap, Some}
 use Rattle.std.specs.Option.{option_map}
 use Rattle.ff_lists.proofs.TextMap.{here, elsewhere}
-use Rattle.ff_memory_host.proofs.contents.put_bytes.Goals as goal
+use Rattle.ff_host.proofs.memory.contents.put_bytes.Goals as goal
 
 pub returns-in-Some : goal.returns-in-Some
 returns-in-Some c =

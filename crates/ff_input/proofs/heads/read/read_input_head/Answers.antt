@@ -1,5 +1,5 @@
 use Rattle.std.proofs.Common.{[], refl}
-use Rattle.ff_heads.proofs.read.read_input_head.Goals as goal
+use Rattle.ff_input.proofs.heads.read.read_input_head.Goals as goal
 
 pub returns-clause-not_yet : goal.returns-clause-not_yet
 returns-clause-not_yet c = (c.read.ensures.answers c.args.format ([], c.args.bytes.now, refl, c.new-walk.ensures)).not_yet

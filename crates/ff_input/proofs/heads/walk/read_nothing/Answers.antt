@@ -1,5 +1,5 @@
-use Rattle.ff_heads.proofs.Walking.{nothing_whole, nothing_yet}
-use Rattle.ff_heads.proofs.walk.read_nothing.Goals as goal
+use Rattle.ff_input.proofs.HeadsLemmas.Walking.{nothing_whole, nothing_yet}
+use Rattle.ff_input.proofs.heads.walk.read_nothing.Goals as goal
 
 pub returns-then-whole : goal.returns-then-whole
 returns-then-whole c = rw c.if-whole.true nothing_whole

@@ -1,6 +1,6 @@
 use Rattle.std.proofs.Common.{refl, lit≤}
-use Rattle.ff_heads.specs.Formats.{input_head}
-use Rattle.ff_heads.proofs.walk.start_of.Goals as goal
+use Rattle.ff_input.specs.heads.Formats.{input_head}
+use Rattle.ff_input.proofs.heads.walk.start_of.Goals as goal
 
 pub returns-in-Wav : goal.returns-in-Wav
 unfolding input_head

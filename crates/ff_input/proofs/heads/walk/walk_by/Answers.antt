@@ -1,6 +1,6 @@
 use Rattle.std.proofs.Common.{sym}
-use Rattle.ff_heads.proofs.Walking.{begun, begun_none}
-use Rattle.ff_heads.proofs.walk.walk_by.Goals as goal
+use Rattle.ff_input.proofs.HeadsLemmas.Walking.{begun, begun_none}
+use Rattle.ff_input.proofs.heads.walk.walk_by.Goals as goal
 
 pub returns-in-Some : goal.returns-in-Some
 returns-in-Some c = begun c.start_of.result c.args.byte c.in-Some.format (sym c.in-Some.ensures) c.start_of.ensures

@@ -4,14 +4,14 @@ use Rattle.ff_wav.specs.declared.head.WavHead.{WavHead}
 use Rattle.ff_wav.specs.Heads.{grammar, head}
 use Rattle.ff_wav.specs.HeadLaws.{is_lawful}
 use Rattle.ff_wav.specs.SoundLaws.{is_kept}
-use Rattle.ff_cut.specs.Walks.{answer_by}
-use Rattle.ff_heads.specs.Heads.{IsHead}
-use Rattle.ff_heads.specs.Answers.{Answers, as_answer}
-use Rattle.ff_heads.specs.Formats.{head_in}
-use Rattle.ff_heads.specs.declared.head.InputHead.TheVariants.{Wav}
+use Rattle.ff_reader.specs.Walks.{answer_by}
+use Rattle.ff_input.specs.heads.Heads.{IsHead}
+use Rattle.ff_input.specs.heads.Answers.{Answers, as_answer}
+use Rattle.ff_input.specs.heads.Formats.{head_in}
+use Rattle.ff_input.specs.declared.heads.head.InputHead.TheVariants.{Wav}
 use Rattle.ff_words.specs.declared.job.FileFormat.TheVariants as format
-use Rattle.ff_heads.proofs.Told.{answers_by, answers_as}
-use Rattle.ff_heads.proofs.wav.read.Goals as goal
+use Rattle.ff_input.proofs.HeadsLemmas.Told.{answers_by, answers_as}
+use Rattle.ff_input.proofs.heads.wav.read.Goals as goal
 
 one : (x y : WavHead) → Wav x ≡ Wav y → x ≡ y
 one x y e = cc

@@ -1,7 +1,7 @@
 use Rattle.std.proofs.Common.{rules, ◌≡◌, ℕ, suc, ℤ, List, length, take, to_z, of_z, w64, arith, ap, sym, ◌∙◌, subst}
-use Rattle.ff_values.specs.Frame.{audio_frame}
-use Rattle.ff_frame.specs.declared.item.Item.{Item}
-use Rattle.ff_frame.specs.declared.item.Item.TheVariants.{Audio}
+use Rattle.ff_frame.specs.Frame.{audio_frame}
+use Rattle.ff_stream.specs.declared.item.Item.{Item}
+use Rattle.ff_stream.specs.declared.item.Item.TheVariants.{Audio}
 use Rattle.ff_joins.specs.declared.sound_inlet.SoundInlet.{SoundInlet}
 use Rattle.ff_joins.specs.Joined.{rows_to, flattened}
 use Rattle.ff_joins.specs.JoinOptions.{rate_of, bits_of, channels_of}

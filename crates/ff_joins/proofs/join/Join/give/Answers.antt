@@ -1,7 +1,7 @@
 use Rattle.std.proofs.Common.{◌≡◌, ◌+◌, ◌-◌, ℕ, false, map, take, arith, ap, sym, ◌∙◌, subst}
-use Rattle.ff_frame.specs.declared.item.Item.{Item}
-use Rattle.ff_frame.specs.declared.item.Lane.TheVariants.{Frames}
-use Rattle.ff_frame.specs.Within.{passes_limits}
+use Rattle.ff_stream.specs.declared.item.Item.{Item}
+use Rattle.ff_stream.specs.declared.item.Lane.TheVariants.{Frames}
+use Rattle.ff_stream.specs.Within.{passes_limits}
 use Rattle.ff_filter.specs.Views.{Gave}
 use Rattle.ff_joins.specs.Joined.{rows_to, flattened}
 use Rattle.ff_joins.specs.Lots.{lots, lane_of, last_port, lots_view}

@@ -1,7 +1,7 @@
 use Rattle.std.proofs.Common.{◌≡◌, ◌≤◌, ◌+◌, ◌∙◌, sym, ap, subst, arith, false, Result, Ok, Err, List, length, set}
 use Rattle.std.specs.Prelude.{OnOk, is_err}
 use Rattle.std.specs.VecDeque.{deque_len, deque_capacity}
-use Rattle.ff_frame.specs.declared.item.Item.{Item}
+use Rattle.ff_stream.specs.declared.item.Item.{Item}
 use Rattle.ff_filter.specs.Views.{Same}
 use Rattle.ff_joins.specs.Segmented.{waits_in, fields_view, segments_view}
 use Rattle.ff_joins.proofs.Placing.{waits_set}

@@ -1,6 +1,6 @@
 use Rattle.std.proofs.Common.{◌∙◌, sym, ap, Bool, List}
 use Rattle.std.specs.Prelude.{◌||◌}
-use Rattle.ff_frame.specs.declared.item.Item.{Item}
+use Rattle.ff_stream.specs.declared.item.Item.{Item}
 use Rattle.ff_filter.specs.declared.after.After.{After}
 use Rattle.ff_filter.specs.Joins.{before}
 use Rattle.ff_filter.specs.Made.{waiting, is_over}

@@ -1,7 +1,7 @@
 use Rattle.std.proofs.Common.{◌∙◌, ap, List}
-use Rattle.ff_frame.specs.declared.item.Item.{Item}
-use Rattle.ff_frame.specs.declared.item.Lane.TheVariants.{Frames}
-use Rattle.ff_frame.specs.Within.{passes_limits}
+use Rattle.ff_stream.specs.declared.item.Item.{Item}
+use Rattle.ff_stream.specs.declared.item.Lane.TheVariants.{Frames}
+use Rattle.ff_stream.specs.Within.{passes_limits}
 use Rattle.ff_filter.specs.Joins.{before}
 use Rattle.ff_filter.specs.Limits.{limited}
 use Rattle.ff_filter.specs.Made.{waiting}

@@ -1,5 +1,5 @@
-use Rattle.ff_writers.proofs.FinishedLaws.{wavs_are_files}
-use Rattle.ff_writers.proofs.laws.finished_wavs_are_riff.Goals as goal
+use Rattle.ff_mux.proofs.WritersLemmas.FinishedLaws.{wavs_are_files}
+use Rattle.ff_mux.proofs.writers.laws.finished_wavs_are_riff.Goals as goal
 
 pub returns : goal.returns
 returns c = wavs_are_files

@@ -1,6 +1,6 @@
 use Rattle.std.proofs.Common.{◌≡◌, ◌<◌, ℕ, false, true, refl, sym, ◌∙◌, subst, ap, length, inl, inr}
-use Rattle.ff_frame.specs.declared.item.Item.TheVariants.{Broken}
-use Rattle.ff_frame.specs.Order.{prefix_self}
+use Rattle.ff_stream.specs.declared.item.Item.TheVariants.{Broken}
+use Rattle.ff_stream.specs.Order.{prefix_self}
 use Rattle.ff_net.specs.declared.wires.Wires.{Wires}
 use Rattle.ff_net.specs.Worlds.{Wire, Stand, put_on, lanes_of}
 use Rattle.ff_net.specs.Pasts.{was_stopped}

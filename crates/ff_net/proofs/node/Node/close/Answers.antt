@@ -1,5 +1,5 @@
 use Rattle.std.proofs.Common.{◌≡◌, ◌<◌, ◌⊎◌, ℕ, false, refl, sym, ◌∙◌, subst, ap, length, inl, inr}
-use Rattle.ff_frame.specs.Ports.{IsClosed}
+use Rattle.ff_stream.specs.Ports.{IsClosed}
 use Rattle.ff_net.specs.Ways.{Flow}
 use Rattle.ff_net.specs.Worlds.{Wire, Stand, finish_on, lanes_of}
 use Rattle.ff_net.specs.Ports.{in_at, in_wires}

@@ -1,6 +1,6 @@
 use Rattle.std.proofs.Common.{◌≡◌, ℕ, ◌⊎◌, inl, inr, None, Some, is_some, refl, ap, sym, ◌∙◌, subst, Option}
 use Rattle.ff_sched.specs.Passing.{Passing}
-use Rattle.ff_values.specs.declared.event.Ticket.{Ticket}
+use Rattle.ff_frame.specs.declared.event.Ticket.{Ticket}
 use Rattle.ff_net.specs.Logs.{WasChoked}
 use Rattle.ff_net.specs.Nodes.{IsSound}
 use Rattle.ff_net.specs.Ports.{AreDone}

@@ -1,6 +1,6 @@
 use Rattle.std.proofs.Common.{◌≡◌, ◌∙◌, refl, ap, sym, inl, ◌++◌, ◌∷◌, [], Option, Some, append-nil}
-use Rattle.ff_frame.specs.Order.{prefix_self}
-use Rattle.ff_values.specs.declared.event.Ticket.{Ticket}
+use Rattle.ff_stream.specs.Order.{prefix_self}
+use Rattle.ff_frame.specs.declared.event.Ticket.{Ticket}
 use Rattle.ff_net.specs.Logs.{hand_of}
 use Rattle.ff_net.specs.Pasts.{was_allowed}
 use Rattle.ff_net.specs.Steps.{granted}

@@ -1,5 +1,5 @@
 use Rattle.std.proofs.Common.{◌≡◌, ◌<◌, ℕ, length, true, false, refl, sym, ◌∙◌, ap, subst, inl, inr, None, List}
-use Rattle.ff_frame.specs.Ports.{stream_at}
+use Rattle.ff_stream.specs.Ports.{stream_at}
 use Rattle.ff_net.specs.declared.ports.OutPort.{OutPort}
 use Rattle.ff_net.specs.Ways.{Flow}
 use Rattle.ff_net.specs.Logs.{WasChoked, tickets_in}

@@ -1,5 +1,5 @@
 use Rattle.std.proofs.Common.{◌≡◌, ◌<◌, ℕ, false, true, refl, sym, ◌∙◌, subst, ap, length, inl, inr}
-use Rattle.ff_frame.specs.Order.{prefix_self}
+use Rattle.ff_stream.specs.Order.{prefix_self}
 use Rattle.ff_net.specs.Worlds.{lanes_of}
 use Rattle.ff_net.specs.Pasts.{was_stopped}
 use Rattle.ff_net.specs.Ports.{out_at, out_wires}

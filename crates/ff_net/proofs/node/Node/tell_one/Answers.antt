@@ -1,7 +1,7 @@
 use Rattle.std.proofs.Common.{◌≡◌, false, refl, ap, sym, ◌∙◌}
-use Rattle.ff_frame.specs.Order.{prefix_self}
+use Rattle.ff_stream.specs.Order.{prefix_self}
 use Rattle.ff_sched.specs.Passing.{Passing}
-use Rattle.ff_values.specs.declared.event.Event.{Event}
+use Rattle.ff_frame.specs.declared.event.Event.{Event}
 use Rattle.ff_net.specs.Logs.{tickets_in}
 use Rattle.ff_net.specs.Pasts.{was_told}
 use Rattle.ff_net.proofs.Changes.{course_past, machine_step, true_not_false}

@@ -6,7 +6,7 @@ use Rattle.ff_net.specs.Steps.{Turns}
 use Rattle.ff_net.specs.Turns.{Waits}
 use Rattle.ff_net.proofs.Acting.{turn_after}
 use Rattle.ff_net.proofs.Changes.{true_not_false}
-use Rattle.ff_frame.specs.Ports.{IsClosed}
+use Rattle.ff_stream.specs.Ports.{IsClosed}
 use Rattle.ff_net.specs.Ways.{Flow}
 use Rattle.ff_net.proofs.Granting.{once_between, same_tickets, sound_or}
 use Rattle.ff_net.proofs.PortSteps.{in_ports_count, out_ports_count}

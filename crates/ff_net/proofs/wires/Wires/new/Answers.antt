@@ -1,6 +1,6 @@
 use Rattle.std.proofs.Common.{All, ◌≡◌, ◌∙◌, ℕ, ◌<◌, List, [], ◌∷◌, ◌++◌, length, slice_index_or, ap, refl, subst, sym}
 use Rattle.std.proofs.lemmas.List.{map-append}
-use Rattle.ff_frame.specs.declared.item.Lane.{Lane}
+use Rattle.ff_stream.specs.declared.item.Lane.{Lane}
 use Rattle.ff_net.specs.declared.wires.Queue.{Queue}
 use Rattle.ff_net.specs.Worlds.{QueueStands, fresh, lanes_in, sizes_in}
 use Rattle.ff_net.proofs.Queues.{sizes_push, queue_fresh, each_push}

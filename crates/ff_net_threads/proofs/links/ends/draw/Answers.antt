@@ -1,15 +1,15 @@
 use Rattle.std.proofs.Common.{◌≡◌, ℕ, false, [], ◌∷◌, refl, sym, subst}
 use Rattle.ff_net.specs.Worlds.{lanes_of}
 use Rattle.ff_net.specs.Ways.{lane_at}
-use Rattle.ff_net_links.specs.Ends.{InEndStands}
+use Rattle.ff_net_threads.specs.links.Ends.{InEndStands}
 use Rattle.ff_net.specs.Steps.{Course}
 use Rattle.ff_net.proofs.Queues.{finished_of, in_queues}
-use Rattle.ff_net_links.proofs.Carrying.{renamed, on_wires_self}
+use Rattle.ff_net_threads.proofs.LinksLemmas.Carrying.{renamed, on_wires_self}
 use Rattle.ff_net.proofs.Rounds.{or_true, or_false}
-use Rattle.ff_net_links.specs.declared.ends.InEnd.{InEnd}
-use Rattle.ff_net_links.specs.Turns.{InRests, ended}
-use Rattle.ff_net_links.proofs.Turns.{shut_takes, draw_takes, draw_moves, draw_rests, in_rests_self}
-use Rattle.ff_net_links.proofs.ends.draw.Goals as goal
+use Rattle.ff_net_threads.specs.declared.links.ends.InEnd.{InEnd}
+use Rattle.ff_net_threads.specs.links.Turns.{InRests, ended}
+use Rattle.ff_net_threads.proofs.LinksLemmas.Turns.{shut_takes, draw_takes, draw_moves, draw_rests, in_rests_self}
+use Rattle.ff_net_threads.proofs.links.ends.draw.Goals as goal
 
 pub returns-then-is_finished-clause-stands : goal.returns-then-is_finished-clause-stands
 returns-then-is_finished-clause-stands g c world past stand i =

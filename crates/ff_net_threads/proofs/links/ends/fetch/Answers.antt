@@ -1,9 +1,9 @@
 use Rattle.std.proofs.Common.{refl, sym, ap, ◌∙◌}
 use Rattle.ff_link.specs.Views.{Receiving}
 use Rattle.ff_net.proofs.Changes.{none_held}
-use Rattle.ff_net_links.proofs.Carrying.{in_fetched}
-use Rattle.ff_net_links.proofs.Turns.{fetched_item, fetched_differs, fetched_none}
-use Rattle.ff_net_links.proofs.ends.fetch.Goals as goal
+use Rattle.ff_net_threads.proofs.LinksLemmas.Carrying.{in_fetched}
+use Rattle.ff_net_threads.proofs.LinksLemmas.Turns.{fetched_item, fetched_differs, fetched_none}
+use Rattle.ff_net_threads.proofs.links.ends.fetch.Goals as goal
 
 pub returns-in-Item-clause-stands : goal.returns-in-Item-clause-stands
 returns-in-Item-clause-stands g c lane wire goes i =

@@ -1,8 +1,8 @@
 use Rattle.std.proofs.Common.{refl, sym, ◌∙◌}
 use Rattle.ff_net.proofs.Queues.{finished_of, in_queues}
 use Rattle.ff_net.proofs.Changes.{true_not_false}
-use Rattle.ff_net_links.proofs.Carrying.{in_laid}
-use Rattle.ff_net_links.proofs.ends.lay.Goals as goal
+use Rattle.ff_net_threads.proofs.LinksLemmas.Carrying.{in_laid}
+use Rattle.ff_net_threads.proofs.links.ends.lay.Goals as goal
 
 pub returns-in-Done-clause-stands : goal.returns-in-Done-clause-stands
 returns-in-Done-clause-stands c world past stand goes i =

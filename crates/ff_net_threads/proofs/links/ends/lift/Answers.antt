@@ -1,7 +1,7 @@
 use Rattle.std.proofs.Common.{refl, sym, ◌∙◌}
 use Rattle.ff_net.proofs.Changes.{none_held}
-use Rattle.ff_net_links.proofs.Carrying.{out_lifted}
-use Rattle.ff_net_links.proofs.ends.lift.Goals as goal
+use Rattle.ff_net_threads.proofs.LinksLemmas.Carrying.{out_lifted}
+use Rattle.ff_net_threads.proofs.links.ends.lift.Goals as goal
 
 pub returns-in-Item-clause-stands : goal.returns-in-Item-clause-stands
 returns-in-Item-clause-stands c world past stand o =

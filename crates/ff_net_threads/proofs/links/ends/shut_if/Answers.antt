@@ -1,10 +1,10 @@
 use Rattle.std.proofs.Common.{[], ◌∷◌, sym, subst}
 use Rattle.ff_net.proofs.Queues.{finished_of, in_queues}
-use Rattle.ff_net_links.specs.declared.ends.InEnd.{InEnd}
-use Rattle.ff_net_links.specs.Turns.{InRests}
-use Rattle.ff_net_links.proofs.Carrying.{on_wires_self}
-use Rattle.ff_net_links.proofs.Turns.{in_rests_self}
-use Rattle.ff_net_links.proofs.ends.shut_if.Goals as goal
+use Rattle.ff_net_threads.specs.declared.links.ends.InEnd.{InEnd}
+use Rattle.ff_net_threads.specs.links.Turns.{InRests}
+use Rattle.ff_net_threads.proofs.LinksLemmas.Carrying.{on_wires_self}
+use Rattle.ff_net_threads.proofs.LinksLemmas.Turns.{in_rests_self}
+use Rattle.ff_net_threads.proofs.links.ends.shut_if.Goals as goal
 
 pub returns-then-is_finished-clause-stands : goal.returns-then-is_finished-clause-stands
 returns-then-is_finished-clause-stands g c world past stand i =

@@ -1,7 +1,7 @@
 use Rattle.std.proofs.Common.{◌<◌, ℕ, slice_index_or}
-use Rattle.ff_net_links.specs.declared.ends.OutEnd.{OutEnd}
-use Rattle.ff_net_links.specs.Turns.{IsWaiting}
-use Rattle.ff_net_links.proofs.linked.waits.Given as goal
+use Rattle.ff_net_threads.specs.declared.links.ends.OutEnd.{OutEnd}
+use Rattle.ff_net_threads.specs.links.Turns.{IsWaiting}
+use Rattle.ff_net_threads.proofs.links.linked.waits.Given as goal
 
 abbrev pub invariant-loop-end : goal.invariant-loop-end
 invariant-loop-end l = (q : ℕ) (d : OutEnd) → q < l.end-index → IsWaiting (slice_index_or l.outs.items q d) → ⊥

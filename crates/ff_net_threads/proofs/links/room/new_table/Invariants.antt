@@ -1,6 +1,6 @@
 use Rattle.std.proofs.Common.{◌≡◌, ◌<◌, ℕ, length, slice_index_or, Option, None}
 use Rattle.ff_link.specs.Views.{Sending}
-use Rattle.ff_net_links.proofs.room.new_table.Given as goal
+use Rattle.ff_net_threads.proofs.links.room.new_table.Given as goal
 
 abbrev pub invariant-loop : goal.invariant-loop
 invariant-loop l = record {

@@ -2,13 +2,13 @@ use Rattle.std.proofs.Common.{◌≡◌, ◌<◌, ℕ, List, Option, length, sli
 use Rattle.std.proofs.lemmas.Grind.{common_steps}
 use Rattle.ff_net.specs.declared.fault.Fault.{Fault}
 use Rattle.ff_net.specs.declared.node.Node.{Node}
-use Rattle.ff_net_links.specs.declared.linked.Linked.{Linked}
-use Rattle.ff_net_links.specs.Nodes.{node_of}
-use Rattle.ff_net_links.specs.Settling.{IsFaultOf}
-use Rattle.ff_net_links.proofs.Linking.{count_map}
-use Rattle.ff_net_links.proofs.Served.{each_snoc, nth_of}
-use Rattle.ff_net_links.proofs.Tables.{at_any, at_map}
-use Rattle.ff_net_links.proofs.settling.note_faults.Goals as goal
+use Rattle.ff_net_threads.specs.declared.links.linked.Linked.{Linked}
+use Rattle.ff_net_threads.specs.links.Nodes.{node_of}
+use Rattle.ff_net_threads.specs.links.Settling.{IsFaultOf}
+use Rattle.ff_net_threads.proofs.LinksLemmas.Linking.{count_map}
+use Rattle.ff_net_threads.proofs.LinksLemmas.Served.{each_snoc, nth_of}
+use Rattle.ff_net_threads.proofs.LinksLemmas.Tables.{at_any, at_map}
+use Rattle.ff_net_threads.proofs.links.settling.note_faults.Goals as goal
 
 pub loop-k-preserved : goal.loop-k-preserved
 loop-k-preserved g c =

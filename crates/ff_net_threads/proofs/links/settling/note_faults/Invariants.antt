@@ -1,9 +1,9 @@
 use Rattle.std.proofs.Common.{◌≡◌, ◌<◌, ◌≤◌, ℕ, Option, length, slice_index_or, vec_len, vec_capacity}
 use Rattle.ff_net.specs.declared.fault.Fault.{Fault}
-use Rattle.ff_net_links.specs.declared.linked.Linked.{Linked}
-use Rattle.ff_net_links.specs.Nodes.{node_of}
-use Rattle.ff_net_links.specs.Settling.{IsFaultOf}
-use Rattle.ff_net_links.proofs.settling.note_faults.Given as goal
+use Rattle.ff_net_threads.specs.declared.links.linked.Linked.{Linked}
+use Rattle.ff_net_threads.specs.links.Nodes.{node_of}
+use Rattle.ff_net_threads.specs.links.Settling.{IsFaultOf}
+use Rattle.ff_net_threads.proofs.links.settling.note_faults.Given as goal
 
 abbrev pub invariant-loop-k : goal.invariant-loop-k
 invariant-loop-k g l = record {

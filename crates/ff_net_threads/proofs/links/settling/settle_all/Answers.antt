@@ -1,11 +1,11 @@
 use Rattle.std.proofs.Common.{ℕ, subst, sym}
 use Rattle.ff_net.proofs.Before.{meets_solution}
-use Rattle.ff_net_links.specs.Rooms.{links_of}
-use Rattle.ff_net_links.specs.Settling.{ComeAfter, ends_of, nodes_of}
-use Rattle.ff_net_links.proofs.Meeting.{moment_of_links, are_fed}
-use Rattle.ff_net_links.proofs.Senders.{come_after}
-use Rattle.ff_net_links.proofs.Tables.{no_sender, settled_fed}
-use Rattle.ff_net_links.proofs.settling.settle_all.Goals as goal
+use Rattle.ff_net_threads.specs.links.Rooms.{links_of}
+use Rattle.ff_net_threads.specs.links.Settling.{ComeAfter, ends_of, nodes_of}
+use Rattle.ff_net_threads.proofs.LinksLemmas.Meeting.{moment_of_links, are_fed}
+use Rattle.ff_net_threads.proofs.LinksLemmas.Senders.{come_after}
+use Rattle.ff_net_threads.proofs.LinksLemmas.Tables.{no_sender, settled_fed}
+use Rattle.ff_net_threads.proofs.links.settling.settle_all.Goals as goal
 
 pub settle_in-machines-requires-clause-table : goal.settle_in-machines-requires-clause-table
 settle_in-machines-requires-clause-table g c links = record { each = λ w d s lt e. absurd (no_sender _ s (c.into_lists-table.ensures.table c.requires.unused w d lt) e) }

@@ -1,7 +1,7 @@
 use Rattle.std.proofs.Common.{◌≡◌, ◌<◌, length, sym, ◌∙◌, arith, Some, slice_index_or}
-use Rattle.ff_net_links.proofs.Senders.{sender_there, sender_kept}
-use Rattle.ff_net_links.proofs.Tables.{table_set, no_sender, link_ended}
-use Rattle.ff_net_links.proofs.settling.settle_end.Goals as goal
+use Rattle.ff_net_threads.proofs.LinksLemmas.Senders.{sender_there, sender_kept}
+use Rattle.ff_net_threads.proofs.LinksLemmas.Tables.{table_set, no_sender, link_ended}
+use Rattle.ff_net_threads.proofs.links.settling.settle_end.Goals as goal
 
 pub settle-requires : goal.settle-requires
 settle-requires c =

@@ -2,14 +2,14 @@ use Rattle.std.proofs.Common.{◌≡◌, ◌<◌, ℕ, suc, length, vec_items, a
 use Rattle.std.specs.Vec.Iter.{into_iter_len}
 use Rattle.ff_net.specs.Pasts.{IsIn}
 use Rattle.ff_net.proofs.Flows.{same_or_not}
-use Rattle.ff_net_links.specs.declared.ends.InEnd.{InEnd}
-use Rattle.ff_net_links.specs.Ends.{in_end_at, no_in}
-use Rattle.ff_net_links.specs.Nodes.{in_ends_wires}
-use Rattle.ff_net_links.specs.Settling.{IsSettled, HasSender}
-use Rattle.ff_net_links.proofs.Linking.{in_member, ins_differ}
-use Rattle.ff_net_links.proofs.Served.{rest_next, first_next}
-use Rattle.ff_net_links.proofs.Tables.{settled_still}
-use Rattle.ff_net_links.proofs.settling.settle_ends.Goals as goal
+use Rattle.ff_net_threads.specs.declared.links.ends.InEnd.{InEnd}
+use Rattle.ff_net_threads.specs.links.Ends.{in_end_at, no_in}
+use Rattle.ff_net_threads.specs.links.Nodes.{in_ends_wires}
+use Rattle.ff_net_threads.specs.links.Settling.{IsSettled, HasSender}
+use Rattle.ff_net_threads.proofs.LinksLemmas.Linking.{in_member, ins_differ}
+use Rattle.ff_net_threads.proofs.LinksLemmas.Served.{rest_next, first_next}
+use Rattle.ff_net_threads.proofs.LinksLemmas.Tables.{settled_still}
+use Rattle.ff_net_threads.proofs.links.settling.settle_ends.Goals as goal
 
 pub loop-end-preserved : goal.loop-end-preserved
 loop-end-preserved c =

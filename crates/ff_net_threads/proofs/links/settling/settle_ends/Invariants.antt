@@ -4,12 +4,12 @@ use Rattle.ff_link.specs.Views.{Link}
 use Rattle.ff_link.specs.declared.answers.Settled.{Settled}
 use Rattle.ff_net.specs.Nodes.{AreApart}
 use Rattle.ff_net.specs.Pasts.{IsIn}
-use Rattle.ff_net_links.specs.declared.ends.InEnd.{InEnd}
-use Rattle.ff_net_links.specs.declared.ends.OutEnd.{OutEnd}
-use Rattle.ff_net_links.specs.Ends.{in_end_at}
-use Rattle.ff_net_links.specs.Nodes.{in_ends_wires}
-use Rattle.ff_net_links.specs.Settling.{IsTable, IsSettled, HasSender}
-use Rattle.ff_net_links.proofs.settling.settle_ends.Given as goal
+use Rattle.ff_net_threads.specs.declared.links.ends.InEnd.{InEnd}
+use Rattle.ff_net_threads.specs.declared.links.ends.OutEnd.{OutEnd}
+use Rattle.ff_net_threads.specs.links.Ends.{in_end_at}
+use Rattle.ff_net_threads.specs.links.Nodes.{in_ends_wires}
+use Rattle.ff_net_threads.specs.links.Settling.{IsTable, IsSettled, HasSender}
+use Rattle.ff_net_threads.proofs.links.settling.settle_ends.Given as goal
 
 abbrev pub invariant-loop-end : goal.invariant-loop-end
 invariant-loop-end l = let rest = l.end-iterator in record {

@@ -5,16 +5,16 @@ use Rattle.ff_net.specs.Pasts.{IsIn}
 use Rattle.ff_net.specs.Nodes.{AreApart, machine_of, pass_of}
 use Rattle.ff_sched.specs.Passing.{Passing}
 use Rattle.ff_net.proofs.Flows.{same_or_not}
-use Rattle.ff_net_links.specs.declared.ends.InEnd.{InEnd}
-use Rattle.ff_net_links.specs.declared.ends.OutEnd.{OutEnd}
-use Rattle.ff_net_links.specs.declared.linked.Linked.{Linked}
-use Rattle.ff_net_links.specs.Ends.{in_end_at, in_link, out_link}
-use Rattle.ff_net_links.specs.Nodes.{HasEnded, in_ends_wires, out_ends_wires, node_of, ins_of, outs_of}
-use Rattle.ff_net_links.specs.Settling.{HasSender, IsSettled, IsSenderIn, ends_of, passes_in}
-use Rattle.ff_net_links.proofs.Linking.{count_map, in_member}
-use Rattle.ff_net_links.proofs.Served.{rest_next, first_next, rest_first, each_snoc}
-use Rattle.ff_net_links.proofs.Tables.{at_map, is_sender_at, settled_still, next_pass, all_passes}
-use Rattle.ff_net_links.proofs.settling.settle_in.Goals as goal
+use Rattle.ff_net_threads.specs.declared.links.ends.InEnd.{InEnd}
+use Rattle.ff_net_threads.specs.declared.links.ends.OutEnd.{OutEnd}
+use Rattle.ff_net_threads.specs.declared.links.linked.Linked.{Linked}
+use Rattle.ff_net_threads.specs.links.Ends.{in_end_at, in_link, out_link}
+use Rattle.ff_net_threads.specs.links.Nodes.{HasEnded, in_ends_wires, out_ends_wires, node_of, ins_of, outs_of}
+use Rattle.ff_net_threads.specs.links.Settling.{HasSender, IsSettled, IsSenderIn, ends_of, passes_in}
+use Rattle.ff_net_threads.proofs.LinksLemmas.Linking.{count_map, in_member}
+use Rattle.ff_net_threads.proofs.LinksLemmas.Served.{rest_next, first_next, rest_first, each_snoc}
+use Rattle.ff_net_threads.proofs.LinksLemmas.Tables.{at_map, is_sender_at, settled_still, next_pass, all_passes}
+use Rattle.ff_net_threads.proofs.links.settling.settle_in.Goals as goal
 
 pub loop-linked-init : goal.loop-linked-init
 loop-linked-init g c =

@@ -1,9 +1,9 @@
 use Rattle.std.proofs.Common.{◌≡◌, subst, Some}
 use Rattle.ff_link.specs.Views.{Sending}
-use Rattle.ff_net_links.specs.Settling.{IsSenderIn}
-use Rattle.ff_net_links.proofs.Senders.{sender_still, sender_stored}
-use Rattle.ff_net_links.proofs.Tables.{table_set}
-use Rattle.ff_net_links.proofs.settling.store_end.Goals as goal
+use Rattle.ff_net_threads.specs.links.Settling.{IsSenderIn}
+use Rattle.ff_net_threads.proofs.LinksLemmas.Senders.{sender_still, sender_stored}
+use Rattle.ff_net_threads.proofs.LinksLemmas.Tables.{table_set}
+use Rattle.ff_net_threads.proofs.links.settling.store_end.Goals as goal
 
 pub returns-clause-table : goal.returns-clause-table
 returns-clause-table c all links t sent link = table_set all links c.args.table.now.items c.args.end.wire (Some c.args.end.sender) (λ s e. let same : c.args.end.sender ≡ s = cc (e) in let on : c.args.end.sender.link ≡ links c.args.end.wire = cc (link) in subst (λ (z : Sending). IsSenderIn all c.args.end.wire z × (z.link ≡ links c.args.end.wire)) same (sent, on)) t

@@ -1,12 +1,12 @@
 use Rattle.std.proofs.Common.{◌≡◌, ◌<◌, ℕ, suc, length, slice_index_or, vec_items, Some, arith, ap, ◌∙◌, sym, subst, inl, inr}
 use Rattle.std.specs.Vec.Iter.{into_iter_len}
 use Rattle.ff_net.proofs.Flows.{same_or_not}
-use Rattle.ff_net_links.specs.declared.ends.OutEnd.{OutEnd}
-use Rattle.ff_net_links.specs.Ends.{out_link}
-use Rattle.ff_net_links.specs.Settling.{HasSender, IsSenderIn}
-use Rattle.ff_net_links.proofs.Senders.{out_place_of, some_out}
-use Rattle.ff_net_links.proofs.Served.{rest_next, first_next}
-use Rattle.ff_net_links.proofs.settling.store_ends.Goals as goal
+use Rattle.ff_net_threads.specs.declared.links.ends.OutEnd.{OutEnd}
+use Rattle.ff_net_threads.specs.links.Ends.{out_link}
+use Rattle.ff_net_threads.specs.links.Settling.{HasSender, IsSenderIn}
+use Rattle.ff_net_threads.proofs.LinksLemmas.Senders.{out_place_of, some_out}
+use Rattle.ff_net_threads.proofs.LinksLemmas.Served.{rest_next, first_next}
+use Rattle.ff_net_threads.proofs.links.settling.store_ends.Goals as goal
 
 pub loop-end-preserved : goal.loop-end-preserved
 loop-end-preserved c =

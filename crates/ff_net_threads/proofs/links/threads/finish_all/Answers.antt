@@ -1,12 +1,12 @@
 use Rattle.std.specs.Prelude.{◌≡◌, ◌<◌, ℕ, suc, get_or, vec_items, vec_len, length}
 use Rattle.std.specs.Vec.Iter.{into_iter_len}
 use Rattle.std.proofs.Common.{rules, arith, ap, subst, sym, ◌∙◌}
-use Rattle.ff_net_links.specs.declared.linked.Linked.{Linked}
-use Rattle.ff_net_links.specs.declared.worker.Worker.{Worker}
-use Rattle.ff_net_links.specs.Runs.{Ran}
-use Rattle.ff_net_links.specs.Workers.{Serves}
-use Rattle.ff_net_links.proofs.Served.{each_snoc, rest_next, first_next, someone, rest_first}
-use Rattle.ff_net_links.proofs.threads.finish_all.Goals as goal
+use Rattle.ff_net_threads.specs.declared.links.linked.Linked.{Linked}
+use Rattle.ff_net_threads.specs.declared.links.worker.Worker.{Worker}
+use Rattle.ff_net_threads.specs.links.Runs.{Ran}
+use Rattle.ff_net_threads.specs.links.Workers.{Serves}
+use Rattle.ff_net_threads.proofs.LinksLemmas.Served.{each_snoc, rest_next, first_next, someone, rest_first}
+use Rattle.ff_net_threads.proofs.links.threads.finish_all.Goals as goal
 
 pub finish-requires : goal.finish-requires
 finish-requires g c =

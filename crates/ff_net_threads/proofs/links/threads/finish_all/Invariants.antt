@@ -1,9 +1,9 @@
 use Rattle.std.specs.Prelude.{◌≡◌, ℕ, ◌+◌, ◌<◌, ◌≤◌, List, get_or, vec_items, vec_len, vec_capacity}
 use Rattle.std.specs.Vec.Iter.{into_iter_items, into_iter_len}
-use Rattle.ff_net_links.specs.declared.linked.Linked.{Linked}
-use Rattle.ff_net_links.specs.Runs.{Ran}
-use Rattle.ff_net_links.specs.Workers.{AllServe}
-use Rattle.ff_net_links.proofs.threads.finish_all.Given as goal
+use Rattle.ff_net_threads.specs.declared.links.linked.Linked.{Linked}
+use Rattle.ff_net_threads.specs.links.Runs.{Ran}
+use Rattle.ff_net_threads.specs.links.Workers.{AllServe}
+use Rattle.ff_net_threads.proofs.links.threads.finish_all.Given as goal
 
 abbrev pub invariant-loop-worker : goal.invariant-loop-worker
 invariant-loop-worker g l = let rest = l.worker-iterator in let n = vec_len l.done in record {

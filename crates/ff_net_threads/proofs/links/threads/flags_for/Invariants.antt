@@ -1,5 +1,5 @@
 use Rattle.std.proofs.Common.{◌≡◌, vec_len}
-use Rattle.ff_net_links.proofs.threads.flags_for.Given as goal
+use Rattle.ff_net_threads.proofs.links.threads.flags_for.Given as goal
 
 abbrev pub invariant-loop : goal.invariant-loop
 invariant-loop l = vec_len l.flags ≡ l.counter

@@ -1,11 +1,11 @@
 use Rattle.std.proofs.Common.{◌<◌, ℕ, sym, subst, ◌∙◌}
-use Rattle.ff_net_links.specs.declared.linked.Linked.{Linked}
-use Rattle.ff_net_links.specs.declared.worker.Worker.{Worker}
+use Rattle.ff_net_threads.specs.declared.links.linked.Linked.{Linked}
+use Rattle.ff_net_threads.specs.declared.links.worker.Worker.{Worker}
 use Rattle.ff_net.specs.Nodes.{IsOf}
-use Rattle.ff_net_links.specs.Nodes.{node_of}
-use Rattle.ff_net_links.specs.Workers.{Serves}
-use Rattle.ff_net_links.proofs.Served.{serve_set, someone}
-use Rattle.ff_net_links.proofs.threads.round.Goals as goal
+use Rattle.ff_net_threads.specs.links.Nodes.{node_of}
+use Rattle.ff_net_threads.specs.links.Workers.{Serves}
+use Rattle.ff_net_threads.proofs.LinksLemmas.Served.{serve_set, someone}
+use Rattle.ff_net_threads.proofs.links.threads.round.Goals as goal
 
 pub turn_here-turn-requires : goal.turn_here-turn-requires
 turn_here-turn-requires g c =

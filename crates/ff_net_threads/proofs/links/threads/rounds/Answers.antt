@@ -1,4 +1,4 @@
-use Rattle.ff_net_links.proofs.threads.rounds.Goals as goal
+use Rattle.ff_net_threads.proofs.links.threads.rounds.Goals as goal
 
 pub round-requires : goal.round-requires
 round-requires g c = (c.requires.0, c.loop.invariant c.requires.0 c.requires.1, c.requires.2)

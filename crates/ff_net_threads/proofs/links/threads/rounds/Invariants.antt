@@ -1,7 +1,7 @@
 use Rattle.std.proofs.Common.{List}
-use Rattle.ff_net_links.specs.declared.linked.Linked.{Linked}
-use Rattle.ff_net_links.specs.Workers.{AllServe}
-use Rattle.ff_net_links.proofs.threads.rounds.Given as goal
+use Rattle.ff_net_threads.specs.declared.links.linked.Linked.{Linked}
+use Rattle.ff_net_threads.specs.links.Workers.{AllServe}
+use Rattle.ff_net_threads.proofs.links.threads.rounds.Given as goal
 
 abbrev pub invariant-loop : goal.invariant-loop
 invariant-loop g l = (ms : List (Linked g.row.M.Denot)) → AllServe g.M.Machine.view ms l.initial.workers → AllServe g.M.Machine.view ms l.workers

@@ -1,8 +1,8 @@
 use Rattle.std.proofs.Common.{◌≡◌, List, length, sym, ◌∙◌, subst}
-use Rattle.ff_net_links.specs.declared.worker.Worker.{Worker}
-use Rattle.ff_net_links.specs.Workers.{AllServe}
-use Rattle.ff_net_links.proofs.Served.{written_back}
-use Rattle.ff_net_links.proofs.threads.run_in.Goals as goal
+use Rattle.ff_net_threads.specs.declared.links.worker.Worker.{Worker}
+use Rattle.ff_net_threads.specs.links.Workers.{AllServe}
+use Rattle.ff_net_threads.proofs.LinksLemmas.Served.{written_back}
+use Rattle.ff_net_threads.proofs.links.threads.run_in.Goals as goal
 
 pub rounds-requires : goal.rounds-requires
 rounds-requires g c =

@@ -1,13 +1,13 @@
 use Rattle.std.specs.Prelude.{◌≡◌, ◌<◌, ℕ, suc, get_or, vec_items, length}
 use Rattle.std.specs.Vec.Iter.{into_iter_len}
 use Rattle.std.proofs.Common.{rules, arith, ap, ◌∙◌, subst, sym, refl}
-use Rattle.ff_net_links.specs.declared.linked.Linked.{Linked}
-use Rattle.ff_net_links.specs.declared.worker.Worker.{Worker}
+use Rattle.ff_net_threads.specs.declared.links.linked.Linked.{Linked}
+use Rattle.ff_net_threads.specs.declared.links.worker.Worker.{Worker}
 use Rattle.ff_net.specs.Nodes.{IsOf}
-use Rattle.ff_net_links.specs.Nodes.{IsLawful, node_of}
-use Rattle.ff_net_links.specs.Workers.{Serves}
-use Rattle.ff_net_links.proofs.Served.{each_snoc, rest_next, first_next, rest_first}
-use Rattle.ff_net_links.proofs.threads.start_all.Goals as goal
+use Rattle.ff_net_threads.specs.links.Nodes.{IsLawful, node_of}
+use Rattle.ff_net_threads.specs.links.Workers.{Serves}
+use Rattle.ff_net_threads.proofs.LinksLemmas.Served.{each_snoc, rest_next, first_next, rest_first}
+use Rattle.ff_net_threads.proofs.links.threads.start_all.Goals as goal
 
 pub start-requires-clause-lawful : goal.start-requires-clause-lawful
 start-requires-clause-lawful g c = λ κs b.

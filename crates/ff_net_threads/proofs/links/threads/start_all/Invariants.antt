@@ -1,7 +1,7 @@
 use Rattle.std.specs.Prelude.{◌≡◌, ℕ, ◌+◌, ◌<◌, ◌≤◌, get_or, vec_items, vec_len, vec_capacity}
 use Rattle.std.specs.Vec.Iter.{into_iter_items, into_iter_len}
-use Rattle.ff_net_links.specs.Workers.{Serves}
-use Rattle.ff_net_links.proofs.threads.start_all.Given as goal
+use Rattle.ff_net_threads.specs.links.Workers.{Serves}
+use Rattle.ff_net_threads.proofs.links.threads.start_all.Given as goal
 
 abbrev pub invariant-loop-node : goal.invariant-loop-node
 invariant-loop-node g l = let rest = l.node-iterator in record {

@@ -1,10 +1,10 @@
 use Rattle.std.proofs.Common.{◌≡◌, subst}
-use Rattle.ff_net_links.specs.declared.linked.Linked.{Linked}
-use Rattle.ff_net_links.specs.declared.worker.Worker.{Worker}
-use Rattle.ff_net_links.specs.Runs.{Came}
-use Rattle.ff_net_links.specs.Workers.{Serves}
-use Rattle.ff_net_links.proofs.Linking.{of_after}
-use Rattle.ff_net_links.proofs.worker.finish.Goals as goal
+use Rattle.ff_net_threads.specs.declared.links.linked.Linked.{Linked}
+use Rattle.ff_net_threads.specs.declared.links.worker.Worker.{Worker}
+use Rattle.ff_net_threads.specs.links.Runs.{Came}
+use Rattle.ff_net_threads.specs.links.Workers.{Serves}
+use Rattle.ff_net_threads.proofs.LinksLemmas.Linking.{of_after}
+use Rattle.ff_net_threads.proofs.links.worker.finish.Goals as goal
 
 pub returns-in-Runs : goal.returns-in-Runs
 returns-in-Runs g c n s =

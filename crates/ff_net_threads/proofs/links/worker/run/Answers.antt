@@ -1,5 +1,5 @@
-use Rattle.ff_net_links.proofs.Linking.{follows_self, follows_then, lawful_after, of_after}
-use Rattle.ff_net_links.proofs.worker.run.Goals as goal
+use Rattle.ff_net_threads.proofs.LinksLemmas.Linking.{follows_self, follows_then, lawful_after, of_after}
+use Rattle.ff_net_threads.proofs.links.worker.run.Goals as goal
 
 pub loop-init : goal.loop-init
 loop-init g c = let view = g.M.Machine.view in follows_self view c.args.node.now

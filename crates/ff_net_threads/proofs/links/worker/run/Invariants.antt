@@ -1,5 +1,5 @@
-use Rattle.ff_net_links.specs.Nodes.{Follows}
-use Rattle.ff_net_links.proofs.worker.run.Given as goal
+use Rattle.ff_net_threads.specs.links.Nodes.{Follows}
+use Rattle.ff_net_threads.proofs.links.worker.run.Given as goal
 
 abbrev pub invariant-loop : goal.invariant-loop
 invariant-loop g l = let view = g.M.Machine.view in Follows view l.initial.node l.node

@@ -1,6 +1,6 @@
 use Rattle.std.proofs.Common.{rules}
-use Rattle.ff_net_links.proofs.Linking.{follows_then, lawful_after}
-use Rattle.ff_net_links.proofs.worker.turn_back.Goals as goal
+use Rattle.ff_net_threads.proofs.LinksLemmas.Linking.{follows_then, lawful_after}
+use Rattle.ff_net_threads.proofs.links.worker.turn_back.Goals as goal
 
 pub returns : goal.returns
 returns g c n came =

@@ -1,8 +1,8 @@
 use Rattle.std.proofs.Common.{subst}
-use Rattle.ff_net_links.specs.declared.worker.Worker.{Worker}
-use Rattle.ff_net_links.specs.Workers.{Serves}
-use Rattle.ff_net_links.proofs.Linking.{of_after}
-use Rattle.ff_net_links.proofs.worker.turn_here.Goals as goal
+use Rattle.ff_net_threads.specs.declared.links.worker.Worker.{Worker}
+use Rattle.ff_net_threads.specs.links.Workers.{Serves}
+use Rattle.ff_net_threads.proofs.LinksLemmas.Linking.{of_after}
+use Rattle.ff_net_threads.proofs.links.worker.turn_here.Goals as goal
 
 pub returns-in-Here : goal.returns-in-Here
 returns-in-Here g c =

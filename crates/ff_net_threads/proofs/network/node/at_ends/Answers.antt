@@ -1,8 +1,8 @@
 use Rattle.std.proofs.Common.{All, List, ap, sym, subst, ◌∙◌, ◌≡◌, ℕ}
 use Rattle.ff_net.specs.declared.node.Node.{Node}
 use Rattle.ff_net.specs.Nodes.{machine_of, in_wires_of, out_wires_of}
-use Rattle.ff_network.proofs.NewNodes.{new_wired, new_begin, new_linked}
-use Rattle.ff_network.proofs.node.at_ends.Goals as goal
+use Rattle.ff_net_threads.proofs.NetworkLemmas.NewNodes.{new_wired, new_begin, new_linked}
+use Rattle.ff_net_threads.proofs.network.node.at_ends.Goals as goal
 
 pub returns-in-Ok-clause-linked : goal.returns-in-Ok-clause-linked
 returns-in-Ok-clause-linked g c new lanes fits new_ins new_outs =

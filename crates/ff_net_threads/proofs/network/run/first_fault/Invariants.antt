@@ -1,8 +1,8 @@
 use Rattle.std.proofs.Common.{ℕ, ◌<◌, slice_index_or}
 use Rattle.ff_net.specs.declared.node.Node.{Node}
 use Rattle.ff_net.specs.Nodes.{IsSound}
-use Rattle.ff_net_links.specs.Settling.{nodes_of}
-use Rattle.ff_network.proofs.run.first_fault.Given as goal
+use Rattle.ff_net_threads.specs.links.Settling.{nodes_of}
+use Rattle.ff_net_threads.proofs.network.run.first_fault.Given as goal
 
 abbrev pub invariant-loop-k : goal.invariant-loop-k
 invariant-loop-k g l = record { before : (j : ℕ) (d : Node g.row.M.Denot) → j < l.k → IsSound g.M.Machine.view (slice_index_or (nodes_of l.nodes) j d) }

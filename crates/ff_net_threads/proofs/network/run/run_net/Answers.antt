@@ -1,11 +1,11 @@
 use Rattle.std.proofs.Common.{ℕ, ◌≤◌, List, length, sym, subst}
-use Rattle.ff_net_links.specs.declared.linked.Linked.{Linked}
-use Rattle.ff_net_links.specs.Rooms.{links_of}
-use Rattle.ff_net_links.specs.Settling.{nodes_of}
-use Rattle.ff_net_links.proofs.After.{ended_after, linked_after}
-use Rattle.ff_network.specs.Runs.{FirstFault}
-use Rattle.ff_network.proofs.Runs.{all_kept, all_passed, tells_fault, ran_meets, ran_logged, ran_suffice}
-use Rattle.ff_network.proofs.run.run_net.Goals as goal
+use Rattle.ff_net_threads.specs.declared.links.linked.Linked.{Linked}
+use Rattle.ff_net_threads.specs.links.Rooms.{links_of}
+use Rattle.ff_net_threads.specs.links.Settling.{nodes_of}
+use Rattle.ff_net_threads.proofs.LinksLemmas.After.{ended_after, linked_after}
+use Rattle.ff_net_threads.specs.network.Runs.{FirstFault}
+use Rattle.ff_net_threads.proofs.NetworkLemmas.Runs.{all_kept, all_passed, tells_fault, ran_meets, ran_logged, ran_suffice}
+use Rattle.ff_net_threads.proofs.network.run.run_net.Goals as goal
 
 pub settle_all-ran-requires-clause-ended : goal.settle_all-ran-requires-clause-ended
 settle_all-ran-requires-clause-ended g c = ended_after g.M.Machine.view c.args.nodes.items c.in-Ok-run_threads.done.items c.in-Ok-run_threads.ensures.ok

@@ -1,9 +1,9 @@
 use Rattle.std.proofs.Common.{◌≡◌, Some, length, get_or, ◌∙◌, subst, arith}
 use Rattle.std.proofs.lemmas.List.{get_or_default}
-use Rattle.ff_edges.specs.declared.edge.Edge.{Edge}
-use Rattle.ff_network.specs.Tables.{AreEnds}
-use Rattle.ff_network.proofs.Each.{two_pushed}
-use Rattle.ff_network.proofs.tables.link_all.Goals as goal
+use Rattle.ff_stream.specs.declared.edges.edge.Edge.{Edge}
+use Rattle.ff_net_threads.specs.network.Tables.{AreEnds}
+use Rattle.ff_net_threads.proofs.NetworkLemmas.Each.{two_pushed}
+use Rattle.ff_net_threads.proofs.network.tables.link_all.Goals as goal
 
 pub loop-edge-preserved : goal.loop-edge-preserved
 loop-edge-preserved g c =

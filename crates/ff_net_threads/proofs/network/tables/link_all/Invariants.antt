@@ -1,6 +1,6 @@
 use Rattle.std.proofs.Common.{◌≡◌, ◌<◌, ℕ, vec_len, get_or}
-use Rattle.ff_network.specs.Tables.{AreEnds}
-use Rattle.ff_network.proofs.tables.link_all.Given as goal
+use Rattle.ff_net_threads.specs.network.Tables.{AreEnds}
+use Rattle.ff_net_threads.proofs.network.tables.link_all.Given as goal
 
 abbrev pub invariant-loop-edge : goal.invariant-loop-edge
 invariant-loop-edge g l = record {

@@ -1,11 +1,11 @@
 use Rattle.std.proofs.Common.{◌≡◌, ◌<◌, ℕ, length, get_or, sym, ap, ◌∙◌, subst, arith}
 use Rattle.std.proofs.lemmas.Grind.{common_steps}
 use Rattle.ff_net.specs.Pasts.{IsIn}
-use Rattle.ff_net_links.specs.declared.ends.OutEnd.{OutEnd}
-use Rattle.ff_network.specs.Nodes.{IsNewOut}
-use Rattle.ff_network.proofs.Each.{one_pushed, nth_in}
-use Rattle.ff_network.proofs.Taken.{one_wire, out_is_new, sender_stays}
-use Rattle.ff_network.proofs.taking.take_outs.Goals as goal
+use Rattle.ff_net_threads.specs.declared.links.ends.OutEnd.{OutEnd}
+use Rattle.ff_net_threads.specs.network.Nodes.{IsNewOut}
+use Rattle.ff_net_threads.proofs.NetworkLemmas.Each.{one_pushed, nth_in}
+use Rattle.ff_net_threads.proofs.NetworkLemmas.Taken.{one_wire, out_is_new, sender_stays}
+use Rattle.ff_net_threads.proofs.network.taking.take_outs.Goals as goal
 
 pub take_end-requires : goal.take_end-requires
 take_end-requires c =

@@ -5,18 +5,18 @@ use Rattle.std.specs.Vec.Iter.{into_iter_items}
 use Rattle.ff_net.specs.Nodes.{machine_of, pass_of}
 use Rattle.ff_sched.specs.Passing.{Passing}
 use Rattle.ff_net.specs.Pasts.{IsIn}
-use Rattle.ff_net_links.specs.declared.linked.Linked.{Linked}
-use Rattle.ff_net_links.specs.Nodes.{node_of}
-use Rattle.ff_network.specs.Fits.{ins_at, outs_at}
-use Rattle.ff_network.specs.Networks.{machines_in, ports_of}
-use Rattle.ff_network.specs.Nodes.{IsLinked}
-use Rattle.ff_network.specs.Scheduling.{new_pass, node_share}
-use Rattle.ff_network.proofs.Each.{one_pushed}
-use Rattle.ff_network.proofs.Fitting.{ins_there, outs_there}
-use Rattle.ff_network.proofs.WiredUp.{new_links, new_sender_there, new_receiver_there, next_there, next_ins, next_outs, next_fits, next_linked, next_parts, later_in, later_out, wired_up, none_left, no_length, all_done}
-use Rattle.ff_network.proofs.Scheduling.{split_new}
-use Rattle.ff_network.proofs.wiring.wire_up.Goals.{else-loop-number-test, then-loop-number-test+in_default-next}
-use Rattle.ff_network.proofs.wiring.wire_up.Goals as goal
+use Rattle.ff_net_threads.specs.declared.links.linked.Linked.{Linked}
+use Rattle.ff_net_threads.specs.links.Nodes.{node_of}
+use Rattle.ff_net_threads.specs.network.Fits.{ins_at, outs_at}
+use Rattle.ff_net_threads.specs.network.Networks.{machines_in, ports_of}
+use Rattle.ff_net_threads.specs.network.Nodes.{IsLinked}
+use Rattle.ff_net_threads.specs.network.Scheduling.{new_pass, node_share}
+use Rattle.ff_net_threads.proofs.NetworkLemmas.Each.{one_pushed}
+use Rattle.ff_net_threads.proofs.NetworkLemmas.Fitting.{ins_there, outs_there}
+use Rattle.ff_net_threads.proofs.NetworkLemmas.WiredUp.{new_links, new_sender_there, new_receiver_there, next_there, next_ins, next_outs, next_fits, next_linked, next_parts, later_in, later_out, wired_up, none_left, no_length, all_done}
+use Rattle.ff_net_threads.proofs.NetworkLemmas.Scheduling.{split_new}
+use Rattle.ff_net_threads.proofs.network.wiring.wire_up.Goals.{else-loop-number-test, then-loop-number-test+in_default-next}
+use Rattle.ff_net_threads.proofs.network.wiring.wire_up.Goals as goal
 
 pub loop-number-init : goal.loop-number-init
 loop-number-init g c =

@@ -2,13 +2,13 @@ use Rattle.std.proofs.Common.{◌≡◌, ◌<◌, ◌≤◌, ◌-◌, ◌*◌, �
 use Rattle.std.specs.Vec.Iter.{into_iter_items}
 use Rattle.ff_net.specs.Nodes.{machine_of, pass_of}
 use Rattle.ff_net.specs.Pasts.{IsIn}
-use Rattle.ff_net_links.specs.declared.linked.Linked.{Linked}
-use Rattle.ff_network.specs.Fits.{edge_lanes, ins_at, outs_at}
-use Rattle.ff_network.specs.Networks.{machines_in, node_at, ports_of}
-use Rattle.ff_network.specs.Nodes.{IsLinked}
-use Rattle.ff_network.specs.Scheduling.{new_pass, node_share}
-use Rattle.ff_network.specs.Tables.{NewLinks, HasNewSender, HasNewReceiver, links_in}
-use Rattle.ff_network.proofs.wiring.wire_up.Given as goal
+use Rattle.ff_net_threads.specs.declared.links.linked.Linked.{Linked}
+use Rattle.ff_net_threads.specs.network.Fits.{edge_lanes, ins_at, outs_at}
+use Rattle.ff_net_threads.specs.network.Networks.{machines_in, node_at, ports_of}
+use Rattle.ff_net_threads.specs.network.Nodes.{IsLinked}
+use Rattle.ff_net_threads.specs.network.Scheduling.{new_pass, node_share}
+use Rattle.ff_net_threads.specs.network.Tables.{NewLinks, HasNewSender, HasNewReceiver, links_in}
+use Rattle.ff_net_threads.proofs.network.wiring.wire_up.Given as goal
 
 abbrev pub invariant-loop-number : goal.invariant-loop-number
 invariant-loop-number g l =

@@ -1,5 +1,5 @@
-use Rattle.ff_coders.specs.FlacLaws.{sounds_are}
-use Rattle.ff_coders.proofs.flac.flac_frames_are_their_packets.Goals as goal
+use Rattle.ff_node_codec.specs.codecs.FlacLaws.{sounds_are}
+use Rattle.ff_node_codec.proofs.codecs.flac.flac_frames_are_their_packets.Goals as goal
 
 pub returns : goal.returns
 returns c = sounds_are

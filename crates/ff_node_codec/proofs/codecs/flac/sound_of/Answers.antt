@@ -7,8 +7,8 @@ use Rattle.ff_flac_frame.specs.declared.frame.FlacFrame.{FlacFrame}
 use Rattle.ff_flac_frame.specs.Parts.{frame_of}
 use Rattle.ff_flac_dec.specs.Channels.{decoded}
 use Rattle.ff_flac_dec.specs.Streams.{stream_of}
-use Rattle.ff_coders.specs.FlacLaws.{begins_whole, held_other, sounds_are, LastsAs, decoded_again, within_again}
-use Rattle.ff_coders.proofs.flac.sound_of.Goals as goal
+use Rattle.ff_node_codec.specs.codecs.FlacLaws.{begins_whole, held_other, sounds_are, LastsAs, decoded_again, within_again}
+use Rattle.ff_node_codec.proofs.codecs.flac.sound_of.Goals as goal
 
 at_time : (s : FlacStream) (pts : ℤ) (number : ℕ) (f : FlacFrame) → FitsSigned w64 pts
     → decoded s (to_z w64 (of_z w64 pts)) (frame_of 0 f) ≡ decoded s pts (frame_of number f)

@@ -1,15 +1,15 @@
 use Rattle.std.proofs.Common.{◌≡◌, Bool, true, false, cond, [], refl, sym, ◌∙◌, subst, ap}
-use Rattle.ff_values.specs.declared.head.StreamHead.{StreamHead}
-use Rattle.ff_frame.specs.declared.item.Lane.TheVariants.{Frames, Packets}
-use Rattle.ff_frame.specs.Ports.{nothing}
-use Rattle.ff_frame.specs.Stream.{whole_stream}
+use Rattle.ff_frame.specs.declared.head.StreamHead.{StreamHead}
+use Rattle.ff_stream.specs.declared.item.Lane.TheVariants.{Frames, Packets}
+use Rattle.ff_stream.specs.Ports.{nothing}
+use Rattle.ff_stream.specs.Stream.{whole_stream}
 use Rattle.ff_net.specs.Pasts.{start}
 use Rattle.ff_net.specs.Ways.{Flow}
-use Rattle.ff_coding.specs.CutFrames.{frames_make, cut_first}
-use Rattle.ff_coding.specs.Decoding.{cut_frames, dec_task}
-use Rattle.ff_coding.specs.DecodeLaws.{decoding_carries}
-use Rattle.ff_coding.specs.Standing.{at_first, SpreadStands}
-use Rattle.ff_coding.proofs.dec.Dec.new.Goals as goal
+use Rattle.ff_node_codec.specs.CutFrames.{frames_make, cut_first}
+use Rattle.ff_node_codec.specs.Decoding.{cut_frames, dec_task}
+use Rattle.ff_node_codec.specs.DecodeLaws.{decoding_carries}
+use Rattle.ff_node_codec.specs.Standing.{at_first, SpreadStands}
+use Rattle.ff_node_codec.proofs.dec.Dec.new.Goals as goal
 
 first : (b : Bool) → ◌≡◌ {A = Flow} (cond b (whole_stream []) nothing) (at_first b)
 first true = refl

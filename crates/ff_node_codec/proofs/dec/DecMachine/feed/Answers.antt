@@ -1,23 +1,23 @@
 use Rattle.std.proofs.Common.{◌≡◌, [], ◌∷◌, false, sym, ◌∙◌, subst}
 use Rattle.std.specs.Result.{OnErr, OnOk}
-use Rattle.ff_values.specs.declared.head.StreamHead.{StreamHead}
-use Rattle.ff_frame.specs.Ports.{stream_at}
-use Rattle.ff_frame.specs.declared.item.Lane.TheVariants.{Frames, Packets}
+use Rattle.ff_frame.specs.declared.head.StreamHead.{StreamHead}
+use Rattle.ff_stream.specs.Ports.{stream_at}
+use Rattle.ff_stream.specs.declared.item.Lane.TheVariants.{Frames, Packets}
 use Rattle.ff_net.specs.Laws.{FaultStep}
 use Rattle.ff_net.specs.Pasts.{Past}
-use Rattle.ff_coding.specs.CutFrames.{not_empty}
-use Rattle.ff_coding.specs.declared.dec.Dec.{Dec}
-use Rattle.ff_coding.specs.declared.spread.Spread.{Spread}
-use Rattle.ff_coding.specs.Coders.{dec_stands}
-use Rattle.ff_coding.specs.Decoding.{decoded, cut_frames}
-use Rattle.ff_coding.specs.DecodeLaws.{decoding_carries, taken_packet}
-use Rattle.ff_coding.specs.Feeding.{StandsFed, IsFollowed}
-use Rattle.ff_coding.specs.Kinds.{dec_view, fares}
-use Rattle.ff_coding.specs.Standing.{IsSameSpread}
-use Rattle.ff_coding.specs.Steps.{IsCutTo}
-use Rattle.ff_coding.proofs.CutSteps.{cut_step_for, has_spare, spared_shared, spared_cut}
-use Rattle.ff_coding.proofs.SpreadSteps.{fits_at, over_at, open_made, spread_same, on_ok, on_err}
-use Rattle.ff_coding.proofs.dec.DecMachine.feed.Goals as goal
+use Rattle.ff_node_codec.specs.CutFrames.{not_empty}
+use Rattle.ff_node_codec.specs.declared.dec.Dec.{Dec}
+use Rattle.ff_node_codec.specs.declared.spread.Spread.{Spread}
+use Rattle.ff_node_codec.specs.Coders.{dec_stands}
+use Rattle.ff_node_codec.specs.Decoding.{decoded, cut_frames}
+use Rattle.ff_node_codec.specs.DecodeLaws.{decoding_carries, taken_packet}
+use Rattle.ff_node_codec.specs.Feeding.{StandsFed, IsFollowed}
+use Rattle.ff_node_codec.specs.Kinds.{dec_view, fares}
+use Rattle.ff_node_codec.specs.Standing.{IsSameSpread}
+use Rattle.ff_node_codec.specs.Steps.{IsCutTo}
+use Rattle.ff_node_codec.proofs.CutSteps.{cut_step_for, has_spare, spared_shared, spared_cut}
+use Rattle.ff_node_codec.proofs.SpreadSteps.{fits_at, over_at, open_made, spread_same, on_ok, on_err}
+use Rattle.ff_node_codec.proofs.dec.DecMachine.feed.Goals as goal
 
 -- the machine behind a step: its decoder and its spread may be others
 abbrev behind : {D : Type 0} → Dec D → Spread → D → Dec D

@@ -1,7 +1,7 @@
 use Rattle.std.proofs.Common.{◌≡◌, inl, None, Some}
-use Rattle.ff_frame.specs.declared.item.Lane.TheVariants.{Frames, Packets}
-use Rattle.ff_coding.specs.Decoding.{cut_frames}
-use Rattle.ff_coding.proofs.dec.DecMachine.pull.Goals as goal
+use Rattle.ff_stream.specs.declared.item.Lane.TheVariants.{Frames, Packets}
+use Rattle.ff_node_codec.specs.Decoding.{cut_frames}
+use Rattle.ff_node_codec.proofs.dec.DecMachine.pull.Goals as goal
 
 pub returns-clause-gives : goal.returns-clause-gives
 returns-clause-gives g c x is past s on =

@@ -1,6 +1,6 @@
-use Rattle.ff_frame.specs.declared.item.Lane.TheVariants.{Frames, Packets}
-use Rattle.ff_coding.specs.Decoding.{cut_frames}
-use Rattle.ff_coding.proofs.dec.DecMachine.stop.Goals as goal
+use Rattle.ff_stream.specs.declared.item.Lane.TheVariants.{Frames, Packets}
+use Rattle.ff_node_codec.specs.Decoding.{cut_frames}
+use Rattle.ff_node_codec.proofs.dec.DecMachine.stop.Goals as goal
 
 pub returns-clause-stopped : goal.returns-clause-stopped
 returns-clause-stopped g c past s =

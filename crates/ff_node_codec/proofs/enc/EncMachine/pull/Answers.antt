@@ -1,8 +1,8 @@
 use Rattle.std.proofs.Common.{◌≡◌, inl, None, Some}
-use Rattle.ff_frame.specs.declared.item.Lane.TheVariants.{Frames, Packets}
-use Rattle.ff_coding.specs.Encoding.{encoded_item}
-use Rattle.ff_coding.specs.Making.{by_items}
-use Rattle.ff_coding.proofs.enc.EncMachine.pull.Goals as goal
+use Rattle.ff_stream.specs.declared.item.Lane.TheVariants.{Frames, Packets}
+use Rattle.ff_node_codec.specs.Encoding.{encoded_item}
+use Rattle.ff_node_codec.specs.Making.{by_items}
+use Rattle.ff_node_codec.proofs.enc.EncMachine.pull.Goals as goal
 
 pub returns-clause-gives : goal.returns-clause-gives
 returns-clause-gives g c x is past s on =

@@ -1,7 +1,7 @@
-use Rattle.ff_frame.specs.declared.item.Lane.TheVariants.{Frames, Packets}
-use Rattle.ff_coding.specs.Encoding.{encoded_item}
-use Rattle.ff_coding.specs.Making.{by_items}
-use Rattle.ff_coding.proofs.enc.EncMachine.stop.Goals as goal
+use Rattle.ff_stream.specs.declared.item.Lane.TheVariants.{Frames, Packets}
+use Rattle.ff_node_codec.specs.Encoding.{encoded_item}
+use Rattle.ff_node_codec.specs.Making.{by_items}
+use Rattle.ff_node_codec.proofs.enc.EncMachine.stop.Goals as goal
 
 pub returns-clause-stopped : goal.returns-clause-stopped
 returns-clause-stopped g c past s =

@@ -1,8 +1,8 @@
 use Rattle.std.proofs.Common.{subst}
-use Rattle.ff_coding.specs.declared.step.Step.{Step}
-use Rattle.ff_coding.specs.Steps.{IsStepFor}
-use Rattle.ff_coding.proofs.SpreadSteps.{passed_at}
-use Rattle.ff_coding.proofs.spread.Spread.follow.Goals as goal
+use Rattle.ff_node_codec.specs.declared.step.Step.{Step}
+use Rattle.ff_node_codec.specs.Steps.{IsStepFor}
+use Rattle.ff_node_codec.proofs.SpreadSteps.{passed_at}
+use Rattle.ff_node_codec.proofs.spread.Spread.follow.Goals as goal
 
 pub returns-in-Passes-clause-accepted : goal.returns-in-Passes-clause-accepted
 returns-in-Passes-clause-accepted c lane_in lane_out f port x e lt h past s o v =

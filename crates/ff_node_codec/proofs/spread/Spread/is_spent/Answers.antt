@@ -1,9 +1,9 @@
 use Rattle.std.proofs.Common.{◌≡◌, ◌↔◌, ◌⊎◌, ℕ, Bool, true, false, not, IsTrue, Option, None, Some, inl, inr, refl, sym, ◌∙◌, length, rules}
 use Rattle.std.specs.Option.{is_some}
-use Rattle.ff_coding.specs.Lines.{line_at}
-use Rattle.ff_coding.specs.Puts.{IsLast}
-use Rattle.ff_coding.specs.Spreads.{AllStopped}
-use Rattle.ff_coding.proofs.spread.Spread.is_spent.Goals as goal
+use Rattle.ff_node_codec.specs.Lines.{line_at}
+use Rattle.ff_node_codec.specs.Puts.{IsLast}
+use Rattle.ff_node_codec.specs.Spreads.{AllStopped}
+use Rattle.ff_node_codec.proofs.spread.Spread.is_spent.Goals as goal
 
 decide : (o : Option ℕ) (r : Bool) (A : Type 0) → is_some o ≡ not r → (o ≡ None → A) → ((k : ℕ) → o ≡ Some k → A → ⊥) → IsTrue r ↔ A
 decide None true A e n s = (λ t. n refl, λ a. search rules)

@@ -1,10 +1,10 @@
 use Rattle.std.proofs.Common.{◌≡◌, ℕ, true, false, None, Some, Option, refl}
 use Rattle.std.specs.Option.{is_some}
-use Rattle.ff_coding.specs.Lines.{line_at}
-use Rattle.ff_coding.specs.Puts.{ArePut}
-use Rattle.ff_coding.specs.Standing.{first_damage}
-use Rattle.ff_coding.proofs.SpreadSteps.{put_at}
-use Rattle.ff_coding.proofs.spread.Spread.put.Goals as goal
+use Rattle.ff_node_codec.specs.Lines.{line_at}
+use Rattle.ff_node_codec.specs.Puts.{ArePut}
+use Rattle.ff_node_codec.specs.Standing.{first_damage}
+use Rattle.ff_node_codec.proofs.SpreadSteps.{put_at}
+use Rattle.ff_node_codec.proofs.spread.Spread.put.Goals as goal
 
 none_first : (d e : Option ℕ) → is_some d ≡ false → e ≡ first_damage d e
 none_first None e h = refl

@@ -1,8 +1,8 @@
 use Rattle.std.proofs.Common.{ap}
-use Rattle.ff_coding.specs.Spreads.{Line}
-use Rattle.ff_coding.proofs.LineSteps.{line_set_same, line_set_other, set_count}
-use Rattle.ff_coding.proofs.SpreadSteps.{stopped_at}
-use Rattle.ff_coding.proofs.spread.Spread.stop.Goals as goal
+use Rattle.ff_node_codec.specs.Spreads.{Line}
+use Rattle.ff_node_codec.proofs.LineSteps.{line_set_same, line_set_other, set_count}
+use Rattle.ff_node_codec.proofs.SpreadSteps.{stopped_at}
+use Rattle.ff_node_codec.proofs.spread.Spread.stop.Goals as goal
 
 pub returns-clause-stopped : goal.returns-clause-stopped
 returns-clause-stopped c lane_in lane_out f past s =

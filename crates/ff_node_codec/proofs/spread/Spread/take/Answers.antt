@@ -1,10 +1,10 @@
 use Rattle.std.proofs.Common.{◌≡◌, List, ◌∷◌, [], ◌++◌, length, drop, refl, arith, ap, ◌∙◌, sym, option_to_list, Option}
-use Rattle.ff_frame.specs.declared.item.Item.{Item}
-use Rattle.ff_coding.specs.Lines.{line_of}
-use Rattle.ff_coding.specs.Spreads.{Line}
-use Rattle.ff_coding.proofs.LineSteps.{line_is, line_set_same, line_set_other, set_count, same_set}
-use Rattle.ff_coding.proofs.SpreadSteps.{gives_at, none_at, asked_at, same_stands}
-use Rattle.ff_coding.proofs.spread.Spread.take.Goals as goal
+use Rattle.ff_stream.specs.declared.item.Item.{Item}
+use Rattle.ff_node_codec.specs.Lines.{line_of}
+use Rattle.ff_node_codec.specs.Spreads.{Line}
+use Rattle.ff_node_codec.proofs.LineSteps.{line_is, line_set_same, line_set_other, set_count, same_set}
+use Rattle.ff_node_codec.proofs.SpreadSteps.{gives_at, none_at, asked_at, same_stands}
+use Rattle.ff_node_codec.proofs.spread.Spread.take.Goals as goal
 
 none_left : (xs : List Item) → xs ≡ drop 1 xs → xs ≡ []
 none_left [] e = refl

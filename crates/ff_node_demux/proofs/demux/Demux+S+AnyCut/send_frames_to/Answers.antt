@@ -1,5 +1,5 @@
-use Rattle.ff_demuxing.proofs.Sending.{same_demux}
-use Rattle.ff_demuxing.proofs.demux.Demux+S+AnyCut.send_frames_to.Goals as goal
+use Rattle.ff_node_demux.proofs.Sending.{same_demux}
+use Rattle.ff_node_demux.proofs.demux.Demux+S+AnyCut.send_frames_to.Goals as goal
 
 pub returns : goal.returns
 returns g c =

@@ -1,6 +1,6 @@
-use Rattle.ff_demuxing.specs.DemuxLaws.{demux_few}
-use Rattle.ff_demuxing.proofs.ExitSteps.{exits_alone, exits_some, is_over, over_seen}
-use Rattle.ff_demuxing.proofs.demux.Demux.into_source.Goals as goal
+use Rattle.ff_node_demux.specs.DemuxLaws.{demux_few}
+use Rattle.ff_node_demux.proofs.ExitSteps.{exits_alone, exits_some, is_over, over_seen}
+use Rattle.ff_node_demux.proofs.demux.Demux.into_source.Goals as goal
 
 pub returns-clause-exits : goal.returns-clause-exits
 returns-clause-exits g c = λ past input s is.

@@ -1,8 +1,8 @@
 use Rattle.std.proofs.Common.{◌≡◌, ◌-◌, ◌∙◌, ℕ, List, [], length, None, false, inl, refl, sym, subst, arith}
 use Rattle.ff_net.specs.Pasts.{start}
-use Rattle.ff_demuxing.specs.Demuxing.{DemuxStands, demux_task}
-use Rattle.ff_demuxing.proofs.DemuxSteps.{demux_start, drop_nil}
-use Rattle.ff_demuxing.proofs.demux.Demux.new.Goals as goal
+use Rattle.ff_node_demux.specs.Demuxing.{DemuxStands, demux_task}
+use Rattle.ff_node_demux.proofs.DemuxSteps.{demux_start, drop_nil}
+use Rattle.ff_node_demux.proofs.demux.Demux.new.Goals as goal
 
 pub returns-clause-stands : goal.returns-clause-stands
 returns-clause-stands g c = λ file told.

@@ -1,18 +1,18 @@
 use Rattle.std.proofs.Common.{◌≡◌, ◌≤◌, ◌∙◌, ◌+◌, ℕ, Ok, Some, None, true, false, refl, sym, ap, subst, arith}
-use Rattle.ff_values.specs.declared.head.StreamHead.{StreamHead}
-use Rattle.ff_frame.specs.declared.item.Item.{Item}
-use Rattle.ff_frame.specs.declared.item.Item.TheVariants.{Packet, End, Broken}
-use Rattle.ff_frame.specs.declared.item.Lane.TheVariants.{Packets}
+use Rattle.ff_frame.specs.declared.head.StreamHead.{StreamHead}
+use Rattle.ff_stream.specs.declared.item.Item.{Item}
+use Rattle.ff_stream.specs.declared.item.Item.TheVariants.{Packet, End, Broken}
+use Rattle.ff_stream.specs.declared.item.Lane.TheVariants.{Packets}
 use Rattle.ff_net.specs.declared.fault.Fault.TheVariants.{Device, Damaged, TooLong}
 use Rattle.ff_net.specs.Pasts.{Past, was_asked}
-use Rattle.ff_cut.specs.Cutters.{KeepsCut}
-use Rattle.ff_demuxing.specs.Demuxing.{DemuxStands, passes_in_demux}
-use Rattle.ff_demuxing.specs.Exiting.{Exits}
-use Rattle.ff_demuxing.proofs.DemuxSteps.{no_fault, Gives, gives_flags, flags, on_err, demux_packet, demux_long, demux_end, demux_break, demux_kept, demux_asked}
-use Rattle.ff_demuxing.specs.Reading.{Reads, FeedsOn}
-use Rattle.ff_demuxing.proofs.ExitSteps.{exits_same}
-use Rattle.ff_demuxing.proofs.ReadSteps.{reads_nothing, reads_kept, reads_piece, reads_packet, reads_over}
-use Rattle.ff_demuxing.proofs.demux.DemuxMachine.pull.Goals as goal
+use Rattle.ff_reader.specs.Cutters.{KeepsCut}
+use Rattle.ff_node_demux.specs.Demuxing.{DemuxStands, passes_in_demux}
+use Rattle.ff_node_demux.specs.Exiting.{Exits}
+use Rattle.ff_node_demux.proofs.DemuxSteps.{no_fault, Gives, gives_flags, flags, on_err, demux_packet, demux_long, demux_end, demux_break, demux_kept, demux_asked}
+use Rattle.ff_node_demux.specs.Reading.{Reads, FeedsOn}
+use Rattle.ff_node_demux.proofs.ExitSteps.{exits_same}
+use Rattle.ff_node_demux.proofs.ReadSteps.{reads_nothing, reads_kept, reads_piece, reads_packet, reads_over}
+use Rattle.ff_node_demux.proofs.demux.DemuxMachine.pull.Goals as goal
 
 pub returns-in_err-packet-clause-unchanged : goal.returns-in_err-packet-clause-unchanged
 returns-in_err-packet-clause-unchanged g c =

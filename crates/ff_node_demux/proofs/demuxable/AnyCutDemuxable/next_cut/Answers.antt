@@ -1,11 +1,11 @@
 use Rattle.std.proofs.Common.{None, Some, refl}
-use Rattle.ff_cuts.proofs.Among.{gives_among, gave_among}
-use Rattle.ff_cuts.proofs.Formats.{wav_among, y4m_among, flac_among}
+use Rattle.ff_input.proofs.PacketsLemmas.Among.{gives_among, gave_among}
+use Rattle.ff_input.proofs.PacketsLemmas.Formats.{wav_among, y4m_among, flac_among}
 use Rattle.ff_flac_dec.specs.Cuts.{longest_frame}
-use Rattle.ff_demuxing.specs.Reading.{piece_size}
-use Rattle.ff_demuxing.specs.AnyReading.{flac_asks, any_asks, any_ahead}
-use Rattle.ff_demuxing.proofs.AnyOpen.{open_among, asks_among}
-use Rattle.ff_demuxing.proofs.demuxable.AnyCutDemuxable.next_cut.Goals as goal
+use Rattle.ff_node_demux.specs.Reading.{piece_size}
+use Rattle.ff_node_demux.specs.AnyReading.{flac_asks, any_asks, any_ahead}
+use Rattle.ff_node_demux.proofs.AnyOpen.{open_among, asks_among}
+use Rattle.ff_node_demux.proofs.demuxable.AnyCutDemuxable.next_cut.Goals as goal
 
 pub returns-in-Wav-clause-undecided : goal.returns-in-Wav-clause-undecided
 returns-in-Wav-clause-undecided c = λ e. rw c.in-Wav.is (open_among wav_among (λ h is. is) c.in-Wav.cut (c.next_cut.ensures.undecided e))

@@ -4,8 +4,8 @@ use Rattle.ff_flac_dec.specs.declared.front.Front.TheVariants.{Wait}
 use Rattle.ff_flac_dec.specs.Streams.{stream_of}
 use Rattle.ff_flac_dec.specs.Packets.{unit}
 use Rattle.ff_flac_dec.specs.Cuts.{waiting_in}
-use Rattle.ff_demuxing.proofs.FlacOpen.{flac_open}
-use Rattle.ff_demuxing.proofs.demuxable.FlacCutDemuxable.next_cut.Goals as goal
+use Rattle.ff_node_demux.proofs.FlacOpen.{flac_open}
+use Rattle.ff_node_demux.proofs.demuxable.FlacCutDemuxable.next_cut.Goals as goal
 
 pub returns-clause-undecided : goal.returns-clause-undecided
 returns-clause-undecided c = λ e head fed n is cuts.

@@ -1,5 +1,5 @@
-use Rattle.ff_demuxing.proofs.WavOpen.{wav_open}
-use Rattle.ff_demuxing.proofs.demuxable.WavCutDemuxable.next_cut.Goals as goal
+use Rattle.ff_node_demux.proofs.WavOpen.{wav_open}
+use Rattle.ff_node_demux.proofs.demuxable.WavCutDemuxable.next_cut.Goals as goal
 
 pub returns-clause-undecided : goal.returns-clause-undecided
 returns-clause-undecided c = λ e head fed n is cuts.

@@ -3,8 +3,8 @@ use Rattle.ff_y4m.specs.declared.head.Y4mHead.{Y4mHead}
 use Rattle.ff_y4m.specs.declared.frame.Front.TheVariants.{Wait}
 use Rattle.ff_y4m.specs.Packets.{unit}
 use Rattle.ff_y4m.specs.Cuts.{waiting_in}
-use Rattle.ff_demuxing.proofs.Y4mOpen.{y4m_open}
-use Rattle.ff_demuxing.proofs.demuxable.Y4mCutDemuxable.next_cut.Goals as goal
+use Rattle.ff_node_demux.proofs.Y4mOpen.{y4m_open}
+use Rattle.ff_node_demux.proofs.demuxable.Y4mCutDemuxable.next_cut.Goals as goal
 
 pub returns-clause-undecided : goal.returns-clause-undecided
 returns-clause-undecided c = λ e head fed n is cuts.

@@ -1,7 +1,7 @@
 use Rattle.std.proofs.Common.{length}
-use Rattle.ff_net_filter.specs.StandLaws.{starts}
-use Rattle.ff_net_filter.specs.Limiting.{limit_cause, lawful}
-use Rattle.ff_net_filter.proofs.alone.Alone.new.Goals as goal
+use Rattle.ff_node_filter.specs.StandLaws.{starts}
+use Rattle.ff_node_filter.specs.Limiting.{limit_cause, lawful}
+use Rattle.ff_node_filter.proofs.alone.Alone.new.Goals as goal
 
 pub returns-clause-stands : goal.returns-clause-stands
 returns-clause-stands g c cause l = starts (g.F.Filter.view c.args.filter) cause c.requires.new (g.met.F.Filter.settles c.args.filter) l

@@ -1,8 +1,8 @@
 use Rattle.std.proofs.Common.{Bool, ◌||◌, sym, subst}
-use Rattle.ff_net_filter.specs.Tasks.{Stands}
-use Rattle.ff_net_filter.specs.StandLaws.{feeds, stays}
+use Rattle.ff_node_filter.specs.Tasks.{Stands}
+use Rattle.ff_node_filter.specs.StandLaws.{feeds, stays}
 use Rattle.ff_net.specs.Pasts.{fed}
-use Rattle.ff_net_filter.proofs.alone.AloneMachine.feed.Goals as goal
+use Rattle.ff_node_filter.proofs.alone.AloneMachine.feed.Goals as goal
 
 pub returns-in-Ok-clause-accepted : goal.returns-in-Ok-clause-accepted
 returns-in-Ok-clause-accepted g c past s o v =

@@ -1,8 +1,8 @@
 use Rattle.std.proofs.Common.{◌<◌, ◌∙◌, sym, ap, arith, cond, Bool, Some, ℕ, Option}
 use Rattle.std.proofs.Common.{subst}
 use Rattle.std.specs.Prelude.{IfSome}
-use Rattle.ff_best.proofs.Placing.{better_skips, better_first, better_picks}
-use Rattle.ff_best.proofs.choosing.better.Goals as goal
+use Rattle.ff_node_filter.proofs.BestLemmas.Placing.{better_skips, better_first, better_picks}
+use Rattle.ff_node_filter.proofs.best.choosing.better.Goals as goal
 
 pub returns-then-input-clause-is : goal.returns-then-input-clause-is
 returns-then-input-clause-is c = better_skips c.args.inputs.now c.args.p c.args.best c.index-inputs-p.result c.requires.there c.index-inputs-p.is c.if-input.true

@@ -1,6 +1,6 @@
 use Rattle.std.proofs.Common.{[]}
-use Rattle.ff_best.proofs.Namings.{events_front, events_named, events_turn, events_few, events_name}
-use Rattle.ff_best.proofs.laws.events_of_the_best_input.Goals as goal
+use Rattle.ff_node_filter.proofs.BestLemmas.Namings.{events_front, events_named, events_turn, events_few, events_name}
+use Rattle.ff_node_filter.proofs.best.laws.events_of_the_best_input.Goals as goal
 
 pub returns-clause-front : goal.returns-clause-front
 returns-clause-front c = events_front

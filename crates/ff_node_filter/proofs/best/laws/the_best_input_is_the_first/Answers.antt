@@ -1,5 +1,5 @@
-use Rattle.ff_best.proofs.Firsts.{first_of, one_first, stays}
-use Rattle.ff_best.proofs.laws.the_best_input_is_the_first.Goals as goal
+use Rattle.ff_node_filter.proofs.BestLemmas.Firsts.{first_of, one_first, stays}
+use Rattle.ff_node_filter.proofs.best.laws.the_best_input_is_the_first.Goals as goal
 
 pub returns-clause-first : goal.returns-clause-first
 returns-clause-first c = first_of

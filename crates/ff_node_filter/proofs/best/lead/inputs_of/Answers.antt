@@ -1,8 +1,8 @@
 use Rattle.std.proofs.Common.{◌<◌, ◌∙◌, [], List, length, ap, sym, subst, arith}
-use Rattle.ff_best.specs.declared.input.Input.{Input}
-use Rattle.ff_best.specs.Inputs.{bases_of, Keeps}
-use Rattle.ff_best.proofs.Placing.{inputs_more, keeps_more}
-use Rattle.ff_best.proofs.lead.inputs_of.Goals as goal
+use Rattle.ff_node_filter.specs.declared.best.input.Input.{Input}
+use Rattle.ff_node_filter.specs.best.Inputs.{bases_of, Keeps}
+use Rattle.ff_node_filter.proofs.BestLemmas.Placing.{inputs_more, keeps_more}
+use Rattle.ff_node_filter.proofs.best.lead.inputs_of.Goals as goal
 
 pub heads-preserved : goal.heads-preserved
 heads-preserved c =

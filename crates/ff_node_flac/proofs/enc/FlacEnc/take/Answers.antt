@@ -1,7 +1,7 @@
 use Rattle.std.proofs.Common.{rules, ◌≡◌, true, false, sym, ◌∙◌}
-use Rattle.ff_flac_coder.proofs.Gathers.{on_ok}
-use Rattle.ff_flac_coder.proofs.EncoderSteps.{frame_over, frame_fed, frame_taken}
-use Rattle.ff_flac_coder.proofs.enc.FlacEnc.take.Goals as goal
+use Rattle.ff_node_flac.proofs.Gathers.{on_ok}
+use Rattle.ff_node_flac.proofs.EncoderSteps.{frame_over, frame_fed, frame_taken}
+use Rattle.ff_node_flac.proofs.enc.FlacEnc.take.Goals as goal
 
 pub returns-then-self-clause-fed : goal.returns-then-self-clause-fed
 returns-then-self-clause-fed g c past s o v =

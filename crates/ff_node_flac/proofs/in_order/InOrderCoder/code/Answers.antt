@@ -1,6 +1,6 @@
 use Rattle.std.proofs.Common.{◌≡◌, ◌+◌, ℕ, [], ◌∷◌, ◌++◌, length, ap, ◌∙◌, arith, length-append}
-use Rattle.ff_flac_coder.proofs.Coded.{one_more}
-use Rattle.ff_flac_coder.proofs.in_order.InOrderCoder.code.Goals as goal
+use Rattle.ff_node_flac.proofs.Coded.{one_more}
+use Rattle.ff_node_flac.proofs.in_order.InOrderCoder.code.Goals as goal
 
 pub loop-i-preserved : goal.loop-i-preserved
 loop-i-preserved c =

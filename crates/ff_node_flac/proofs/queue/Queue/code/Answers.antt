@@ -1,9 +1,9 @@
 use Rattle.std.proofs.Common.{ap, subst, ◌∙◌, List, take}
-use Rattle.ff_values.specs.declared.audio.AFrame.{AFrame}
+use Rattle.ff_frame.specs.declared.audio.AFrame.{AFrame}
 use Rattle.ff_flac_enc.specs.Blocks.{AreCoded}
-use Rattle.ff_flac_coder.proofs.Codes.{codes_of}
-use Rattle.ff_flac_coder.proofs.Gathers.{front_blocks}
-use Rattle.ff_flac_coder.proofs.queue.Queue.code.Goals as goal
+use Rattle.ff_node_flac.proofs.Codes.{codes_of}
+use Rattle.ff_node_flac.proofs.Gathers.{front_blocks}
+use Rattle.ff_node_flac.proofs.queue.Queue.code.Goals as goal
 
 pub code-requires-clause-blocks : goal.code-requires-clause-blocks
 code-requires-clause-blocks g c =

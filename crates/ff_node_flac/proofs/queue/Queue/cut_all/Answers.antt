@@ -1,5 +1,5 @@
 use Rattle.std.proofs.Common.{rules}
-use Rattle.ff_flac_coder.proofs.queue.Queue.cut_all.Goals as goal
+use Rattle.ff_node_flac.proofs.queue.Queue.cut_all.Goals as goal
 
 pub returns-in_err-cut_one-clause-still : goal.returns-in_err-cut_one-clause-still
 returns-in_err-cut_one-clause-still c fed done g = c.cut_one.ensures.still fed done (c.loop-turn.invariant.still fed done g)

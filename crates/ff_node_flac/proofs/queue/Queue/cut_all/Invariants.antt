@@ -1,6 +1,6 @@
 use Rattle.std.proofs.Common.{◌≡◌, length}
-use Rattle.ff_flac_coder.specs.Queues.{format_of_queue, queue_ended, StillQueues}
-use Rattle.ff_flac_coder.proofs.queue.Queue.cut_all.Given as goal
+use Rattle.ff_node_flac.specs.Queues.{format_of_queue, queue_ended, StillQueues}
+use Rattle.ff_node_flac.proofs.queue.Queue.cut_all.Given as goal
 
 abbrev pub invariant-loop-turn : goal.invariant-loop-turn
 invariant-loop-turn l = record {

@@ -1,9 +1,9 @@
 use Rattle.std.proofs.Common.{ap, ◌∙◌, ◌++◌, ◌∷◌, [], Ok, List, subst, sym}
 use Rattle.std.specs.List.{All}
-use Rattle.ff_values.specs.declared.audio.AFrame.{AFrame}
-use Rattle.ff_flac_coder.specs.Kept.{IsCut}
-use Rattle.ff_flac_coder.proofs.Gathers.{cut_more, block_cut, all_more}
-use Rattle.ff_flac_coder.proofs.queue.Queue.cut_one.Goals as goal
+use Rattle.ff_frame.specs.declared.audio.AFrame.{AFrame}
+use Rattle.ff_node_flac.specs.Kept.{IsCut}
+use Rattle.ff_node_flac.proofs.Gathers.{cut_more, block_cut, all_more}
+use Rattle.ff_node_flac.proofs.queue.Queue.cut_one.Goals as goal
 
 pub returns-in-Some-clause-still : goal.returns-in-Some-clause-still
 returns-in-Some-clause-still c fed done g =

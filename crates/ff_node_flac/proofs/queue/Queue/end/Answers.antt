@@ -1,5 +1,5 @@
-use Rattle.ff_flac_coder.proofs.Gathers.{ended_now}
-use Rattle.ff_flac_coder.proofs.queue.Queue.end.Goals as goal
+use Rattle.ff_node_flac.proofs.Gathers.{ended_now}
+use Rattle.ff_node_flac.proofs.queue.Queue.end.Goals as goal
 
 pub returns-clause-still : goal.returns-clause-still
 returns-clause-still c fed done g =

@@ -1,10 +1,10 @@
 use Rattle.std.proofs.Common.{sym, subst, [], ◌∷◌, ◌++◌, ◌+◌, length}
-use Rattle.ff_values.specs.declared.audio.AFrame.{AFrame}
+use Rattle.ff_frame.specs.declared.audio.AFrame.{AFrame}
 use Rattle.ff_flac_enc.specs.Cuts.{Cuts}
 use Rattle.ff_flac_enc.specs.Gathered.{EndInTime}
-use Rattle.ff_flac_coder.specs.Packets.{at_coded}
-use Rattle.ff_flac_coder.proofs.Gathers.{fed_more, same_depth, on_ok}
-use Rattle.ff_flac_coder.proofs.queue.Queue.feed.Goals as goal
+use Rattle.ff_node_flac.specs.Packets.{at_coded}
+use Rattle.ff_node_flac.proofs.Gathers.{fed_more, same_depth, on_ok}
+use Rattle.ff_node_flac.proofs.queue.Queue.feed.Goals as goal
 
 pub returns-then-frame-le24-clause-ok : goal.returns-then-frame-le24-clause-ok
 returns-then-frame-le24-clause-ok c =

@@ -1,16 +1,16 @@
 use Rattle.std.proofs.Common.{sym, subst, ◌∙◌, ap, List, [], ◌∷◌, ◌++◌, ◌^◌, length, ℕ, pos, arith, ◌≤◌, ◌<◌, ◌≡◌, false}
 use Rattle.std.specs.Prelude.{slice_index, slice_index_or}
-use Rattle.ff_values.specs.declared.audio.AFrame.{AFrame}
-use Rattle.ff_values.specs.declared.packet.Pkt.{Pkt}
-use Rattle.ff_values.specs.Packet.{packet_at}
-use Rattle.ff_frame.specs.declared.item.Item.TheVariants.{Packet}
+use Rattle.ff_frame.specs.declared.audio.AFrame.{AFrame}
+use Rattle.ff_frame.specs.declared.packet.Pkt.{Pkt}
+use Rattle.ff_frame.specs.Packet.{packet_at}
+use Rattle.ff_stream.specs.declared.item.Item.TheVariants.{Packet}
 use Rattle.ff_flac_enc.specs.Totals.{Added, added, Counts, sample_frames}
 use Rattle.ff_flac_enc.specs.Frame.{IsBlock}
-use Rattle.ff_flac_coder.specs.Coding.{passes_in_flac}
-use Rattle.ff_flac_coder.specs.Packets.{block_bytes, packet_of}
-use Rattle.ff_flac_coder.proofs.Codes.{coded_is}
-use Rattle.ff_flac_coder.proofs.Gathers.{too_long, first_code, same_first, given_one, cut_block, none_passes}
-use Rattle.ff_flac_coder.proofs.queue.Queue.give.Goals as goal
+use Rattle.ff_node_flac.specs.Coding.{passes_in_flac}
+use Rattle.ff_node_flac.specs.Packets.{block_bytes, packet_of}
+use Rattle.ff_node_flac.proofs.Codes.{coded_is}
+use Rattle.ff_node_flac.proofs.Gathers.{too_long, first_code, same_first, given_one, cut_block, none_passes}
+use Rattle.ff_node_flac.proofs.queue.Queue.give.Goals as goal
 
 pub returns-then-len-clause-long : goal.returns-then-len-clause-long
 returns-then-len-clause-long c is fed done g =

@@ -1,9 +1,9 @@
 use Rattle.std.proofs.Common.{rules, subst, ◌∙◌, [], ◌∷◌, ◌++◌, length, Bool, arith, ◌≤◌, ◌≡◌, inl, inr}
 use mathlib.Core.List.{IsPrefix}
 use Rattle.ff_flac_enc.specs.Gathered.{blocks_due}
-use Rattle.ff_flac_coder.specs.Queues.{IsTooLong, HasGivenAll}
-use Rattle.ff_flac_coder.proofs.Gathers.{given_all, no_number}
-use Rattle.ff_flac_coder.proofs.queue.Queue.pull.Goals as goal
+use Rattle.ff_node_flac.specs.Queues.{IsTooLong, HasGivenAll}
+use Rattle.ff_node_flac.proofs.Gathers.{given_all, no_number}
+use Rattle.ff_node_flac.proofs.queue.Queue.pull.Goals as goal
 
 pub returns-then-not-is_empty-clause-long : goal.returns-then-not-is_empty-clause-long
 returns-then-not-is_empty-clause-long g c is fed done s =

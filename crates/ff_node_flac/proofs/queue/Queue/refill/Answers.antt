@@ -1,9 +1,9 @@
 use Rattle.std.proofs.Common.{sym, ◌∙◌, ap, List, ◌++◌, length, ℕ, Bool, arith, ◌≤◌, ◌≡◌, ◌⊎◌, ◌^◌, inl, inr, zero, suc}
-use Rattle.ff_values.specs.declared.audio.AFrame.{AFrame}
+use Rattle.ff_frame.specs.declared.audio.AFrame.{AFrame}
 use Rattle.ff_flac_enc.specs.Gathered.{blocks_due}
-use Rattle.ff_flac_coder.specs.Queues.{AllCutSince}
-use Rattle.ff_flac_coder.proofs.Gathers.{on_ok}
-use Rattle.ff_flac_coder.proofs.queue.Queue.refill.Goals as goal
+use Rattle.ff_node_flac.specs.Queues.{AllCutSince}
+use Rattle.ff_node_flac.proofs.Gathers.{on_ok}
+use Rattle.ff_node_flac.proofs.queue.Queue.refill.Goals as goal
 
 none_or : (n : ℕ) → (n ≡ 0) ⊎ (1 ≤ n)
 none_or zero = inl (omega arith)

@@ -1,5 +1,5 @@
-use Rattle.ff_interleave.proofs.Ordered.{all_whole}
-use Rattle.ff_interleave.proofs.laws.whole_streams_are_merged_whole.Goals as goal
+use Rattle.ff_node_mux.specs.merge.Ordered.{all_whole}
+use Rattle.ff_node_mux.proofs.merge.laws.whole_streams_are_merged_whole.Goals as goal
 
 pub returns : goal.returns
 returns c base n ss h = all_whole base n ss h

@@ -1,11 +1,11 @@
 use Rattle.std.proofs.Common.{◌+◌, ap, ◌∙◌}
-use Rattle.ff_frame.specs.Ports.{stream_at}
+use Rattle.ff_stream.specs.Ports.{stream_at}
 use Rattle.ff_net.specs.Pasts.{Task}
-use Rattle.ff_muxing.specs.MuxLaws.{mux_holds_nothing, mux_holds, mux_holds_file, mux_holds_part, mux_lane}
-use Rattle.ff_muxing.specs.StreamEvents.{events_of}
-use Rattle.ff_muxing.proofs.Ones.{mux_holds_small}
-use Rattle.ff_muxing.proofs.StreamTells.{told_of_streams}
-use Rattle.ff_muxing.proofs.mux.Mux.into_sink.Goals as goal
+use Rattle.ff_node_mux.specs.MuxLaws.{mux_holds_nothing, mux_holds, mux_holds_file, mux_holds_part, mux_lane}
+use Rattle.ff_node_mux.specs.StreamEvents.{events_of}
+use Rattle.ff_node_mux.proofs.Ones.{mux_holds_small}
+use Rattle.ff_node_mux.proofs.StreamTells.{told_of_streams}
+use Rattle.ff_node_mux.proofs.mux.Mux.into_sink.Goals as goal
 
 pub returns-clause-fresh : goal.returns-clause-fresh
 returns-clause-fresh g c = λ past s. mux_holds_nothing c.args.self past s.0

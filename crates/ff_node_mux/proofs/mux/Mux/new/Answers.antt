@@ -1,11 +1,11 @@
 use Rattle.std.proofs.Common.{◌≡◌, ◌≤◌, List, length, None, false, ap, arith, sym, subst}
-use Rattle.ff_values.specs.declared.head.StreamHead.{StreamHead}
-use Rattle.ff_interleave.specs.Queues.{merging, IsNew}
+use Rattle.ff_frame.specs.declared.head.StreamHead.{StreamHead}
+use Rattle.ff_node_mux.specs.merge.Queues.{merging, IsNew}
 use Rattle.ff_net.specs.Pasts.{start}
-use Rattle.ff_muxing.specs.Muxing.{head_bases, mux_task, MuxStands}
-use Rattle.ff_muxing.specs.Telling.{mux_tells}
-use Rattle.ff_muxing.proofs.MuxSteps.{mux_begins}
-use Rattle.ff_muxing.proofs.mux.Mux.new.Goals as goal
+use Rattle.ff_node_mux.specs.Muxing.{head_bases, mux_task, MuxStands}
+use Rattle.ff_node_mux.specs.Telling.{mux_tells}
+use Rattle.ff_node_mux.proofs.MuxSteps.{mux_begins}
+use Rattle.ff_node_mux.proofs.mux.Mux.new.Goals as goal
 
 pub returns-clause-fresh : goal.returns-clause-fresh
 returns-clause-fresh g c = λ told.

@@ -1,17 +1,17 @@
 use Rattle.std.proofs.Common.{◌<◌, ◌∙◌, List, true, refl, sym, subst}
 use Rattle.std.specs.Prelude.{option_to_list, Result, Ok, Err, OnErr}
-use Rattle.ff_values.specs.declared.event.Event.{Event}
-use Rattle.ff_interleave.specs.Queues.{merging}
+use Rattle.ff_frame.specs.declared.event.Event.{Event}
+use Rattle.ff_node_mux.specs.merge.Queues.{merging}
 use Rattle.ff_net.specs.Pasts.{Past, fed}
-use Rattle.ff_writers.specs.Layouts.{Layout}
-use Rattle.ff_muxing.specs.Mixing.{lanes_long}
-use Rattle.ff_muxing.specs.Muxing.{head_bases, MuxStands}
-use Rattle.ff_muxing.specs.Telling.{TellsFed}
-use Rattle.ff_muxing.proofs.MuxSteps.{mux_after, mux_fed, mux_same}
-use Rattle.ff_muxing.proofs.StreamTells.{told_of_head}
-use Rattle.ff_muxing.proofs.TellSteps.{tells_put}
-use Rattle.ff_muxing.proofs.Texts.{none_is}
-use Rattle.ff_muxing.proofs.mux.MuxMachine.feed.Goals as goal
+use Rattle.ff_mux.specs.writers.Layouts.{Layout}
+use Rattle.ff_node_mux.specs.Mixing.{lanes_long}
+use Rattle.ff_node_mux.specs.Muxing.{head_bases, MuxStands}
+use Rattle.ff_node_mux.specs.Telling.{TellsFed}
+use Rattle.ff_node_mux.proofs.MuxSteps.{mux_after, mux_fed, mux_same}
+use Rattle.ff_node_mux.proofs.StreamTells.{told_of_head}
+use Rattle.ff_node_mux.proofs.TellSteps.{tells_put}
+use Rattle.ff_node_mux.proofs.Texts.{none_is}
+use Rattle.ff_node_mux.proofs.mux.MuxMachine.feed.Goals as goal
 
 -- a stream that was shut has closed
 pub returns-then-is_shut-clause-accepted : goal.returns-then-is_shut-clause-accepted

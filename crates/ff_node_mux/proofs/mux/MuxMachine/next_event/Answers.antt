@@ -1,12 +1,12 @@
 use Rattle.std.proofs.Common.{◌≡◌, ◌∷◌, ◌++◌, List, Option, ◌∙◌, ap, subst}
 use Rattle.std.specs.Prelude.{option_to_list}
-use Rattle.ff_interleave.specs.Queues.{merging}
-use Rattle.ff_values.specs.declared.event.Event.{Event}
-use Rattle.ff_muxing.specs.Muxing.{head_bases}
-use Rattle.ff_muxing.specs.Telling.{TellsFed}
-use Rattle.ff_muxing.proofs.MuxSteps.{mux_told}
-use Rattle.ff_muxing.proofs.TellSteps.{tells_next}
-use Rattle.ff_muxing.proofs.mux.MuxMachine.next_event.Goals as goal
+use Rattle.ff_node_mux.specs.merge.Queues.{merging}
+use Rattle.ff_frame.specs.declared.event.Event.{Event}
+use Rattle.ff_node_mux.specs.Muxing.{head_bases}
+use Rattle.ff_node_mux.specs.Telling.{TellsFed}
+use Rattle.ff_node_mux.proofs.MuxSteps.{mux_told}
+use Rattle.ff_node_mux.proofs.TellSteps.{tells_next}
+use Rattle.ff_node_mux.proofs.mux.MuxMachine.next_event.Goals as goal
 
 pub returns-clause-gives : goal.returns-clause-gives
 returns-clause-gives g c = λ e is past s.

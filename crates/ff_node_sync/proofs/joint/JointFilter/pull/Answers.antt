@@ -1,4 +1,4 @@
-use Rattle.ff_shortest.proofs.joint.JointFilter.pull.Goals as goal
+use Rattle.ff_node_sync.proofs.joint.JointFilter.pull.Goals as goal
 
 pub returns-in-Shortest-clause-gives : goal.returns-in-Shortest-clause-gives
 returns-in-Shortest-clause-gives c = rw c.in-Shortest.is c.pull.ensures.gives

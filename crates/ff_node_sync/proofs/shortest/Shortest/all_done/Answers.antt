@@ -1,7 +1,7 @@
 use Rattle.std.proofs.Common.{sym, arith, length}
-use Rattle.ff_shortest.specs.Lines.{lines_of}
-use Rattle.ff_shortest.proofs.Moving.{long_lines, done_fails}
-use Rattle.ff_shortest.proofs.shortest.Shortest.all_done.Goals as goal
+use Rattle.ff_node_sync.specs.Lines.{lines_of}
+use Rattle.ff_node_sync.proofs.Moving.{long_lines, done_fails}
+use Rattle.ff_node_sync.proofs.shortest.Shortest.all_done.Goals as goal
 
 pub returns-then-not-is_done : goal.returns-then-not-is_done
 returns-then-not-is_done c =

@@ -1,8 +1,8 @@
 use Rattle.std.proofs.Common.{sym, subst, set}
-use Rattle.ff_shortest.specs.Lines.{Line, line_of, line_at, lines_of}
-use Rattle.ff_shortest.specs.Moves.{IsEnded}
-use Rattle.ff_shortest.proofs.Moving.{line_there, replaced, set_lanes}
-use Rattle.ff_shortest.proofs.shortest.Shortest.close.Goals as goal
+use Rattle.ff_node_sync.specs.Lines.{Line, line_of, line_at, lines_of}
+use Rattle.ff_node_sync.specs.Moves.{IsEnded}
+use Rattle.ff_node_sync.proofs.Moving.{line_there, replaced, set_lanes}
+use Rattle.ff_node_sync.proofs.shortest.Shortest.close.Goals as goal
 
 pub returns-clause-closed : goal.returns-clause-closed
 returns-clause-closed c =

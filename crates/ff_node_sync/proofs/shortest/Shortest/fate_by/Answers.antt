@@ -1,8 +1,8 @@
 use Rattle.std.proofs.Common.{◌≢◌, ◌∙◌, sym, ap, arith, cond, Bool}
 use Rattle.ff_filter.specs.Made.{mark_after}
-use Rattle.ff_shortest.specs.Shortened.{Kept, Held}
-use Rattle.ff_shortest.proofs.Moving.{fate_there}
-use Rattle.ff_shortest.proofs.shortest.Shortest.fate_by.Goals as goal
+use Rattle.ff_node_sync.specs.Shortened.{Kept, Held}
+use Rattle.ff_node_sync.proofs.Moving.{fate_there}
+use Rattle.ff_node_sync.proofs.shortest.Shortest.fate_by.Goals as goal
 
 pub returns-then-is_before : goal.returns-then-is_before
 returns-then-is_before c x s =

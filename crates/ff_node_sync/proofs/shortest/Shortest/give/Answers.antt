@@ -1,11 +1,11 @@
 use Rattle.std.proofs.Common.{◌≡◌, ◌∙◌, sym, ap, subst, set, List, []}
-use Rattle.ff_frame.specs.declared.item.Item.{Item}
+use Rattle.ff_stream.specs.declared.item.Item.{Item}
 use Rattle.ff_filter.specs.Made.{mark_after}
-use Rattle.ff_shortest.specs.Shortened.{Kept, Held}
-use Rattle.ff_shortest.specs.Lines.{Line, line_of, line_at, lines_of, lanes_of, next_fate}
-use Rattle.ff_shortest.specs.Moves.{IsTaken}
-use Rattle.ff_shortest.proofs.Moving.{line_there, replaced, set_lanes, gave_kept}
-use Rattle.ff_shortest.proofs.shortest.Shortest.give.Goals as goal
+use Rattle.ff_node_sync.specs.Shortened.{Kept, Held}
+use Rattle.ff_node_sync.specs.Lines.{Line, line_of, line_at, lines_of, lanes_of, next_fate}
+use Rattle.ff_node_sync.specs.Moves.{IsTaken}
+use Rattle.ff_node_sync.proofs.Moving.{line_there, replaced, set_lanes, gave_kept}
+use Rattle.ff_node_sync.proofs.shortest.Shortest.give.Goals as goal
 
 pub returns-clause-gives : goal.returns-clause-gives
 returns-clause-gives c x e =

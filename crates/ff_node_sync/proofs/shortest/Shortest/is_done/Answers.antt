@@ -1,8 +1,8 @@
 use Rattle.std.proofs.Common.{◌≡◌, ◌∙◌, sym, ap}
 use Rattle.std.specs.Prelude.{◌||◌}
-use Rattle.ff_shortest.specs.Lines.{Line, lines_of, mark_now, is_closed}
-use Rattle.ff_shortest.proofs.Moving.{line_there, closed_over, done_wanted, done_unwanted}
-use Rattle.ff_shortest.proofs.shortest.Shortest.is_done.Goals as goal
+use Rattle.ff_node_sync.specs.Lines.{Line, lines_of, mark_now, is_closed}
+use Rattle.ff_node_sync.proofs.Moving.{line_there, closed_over, done_wanted, done_unwanted}
+use Rattle.ff_node_sync.proofs.shortest.Shortest.is_done.Goals as goal
 
 pub returns-then-side : goal.returns-then-side
 returns-then-side c =

@@ -2,9 +2,9 @@ use Rattle.std.proofs.Common.{◌≡◌, ◌∙◌, sym, ap, true, false, length
 use Rattle.std.specs.Prelude.{◌||◌}
 use Rattle.std.proofs.lemmas.Bool.{or_left}
 use Rattle.ff_filter.specs.Made.{is_over}
-use Rattle.ff_shortest.specs.Lines.{Line, lines_of, line_at, done_to}
-use Rattle.ff_shortest.proofs.Moving.{line_there, spent_exact}
-use Rattle.ff_shortest.proofs.shortest.Shortest.is_spent.Goals as goal
+use Rattle.ff_node_sync.specs.Lines.{Line, lines_of, line_at, done_to}
+use Rattle.ff_node_sync.proofs.Moving.{line_there, spent_exact}
+use Rattle.ff_node_sync.proofs.shortest.Shortest.is_spent.Goals as goal
 
 pub returns-then-is_shut-clause-is : goal.returns-then-is_shut-clause-is
 returns-then-is_shut-clause-is c =

@@ -1,9 +1,9 @@
 use Rattle.std.proofs.Common.{◌≡◌, ◌<◌, ◌≤◌, ◌∙◌, sym, ap, subst, arith, length, List, get_or}
-use Rattle.ff_frame.specs.declared.item.Item.{Item}
+use Rattle.ff_stream.specs.declared.item.Item.{Item}
 use Rattle.ff_filter.specs.Made.{mark_after}
-use Rattle.ff_shortest.specs.Lines.{Line, lines_of, line_at, fate_now, mark_now}
-use Rattle.ff_shortest.proofs.Moving.{line_there, mark_more, mark_held, mark_last}
-use Rattle.ff_shortest.proofs.shortest.Shortest.mark.Goals as goal
+use Rattle.ff_node_sync.specs.Lines.{Line, lines_of, line_at, fate_now, mark_now}
+use Rattle.ff_node_sync.proofs.Moving.{line_there, mark_more, mark_held, mark_last}
+use Rattle.ff_node_sync.proofs.shortest.Shortest.mark.Goals as goal
 
 pub returns-in-Some : goal.returns-in-Some
 returns-in-Some c =

@@ -1,10 +1,10 @@
 use Rattle.std.proofs.Common.{◌≡◌, ◌∙◌, sym, ap, refl, List, [], ◌∷◌}
-use Rattle.ff_frame.specs.declared.item.Item.{Item}
+use Rattle.ff_stream.specs.declared.item.Item.{Item}
 use Rattle.ff_filter.specs.Made.{mark_after}
-use Rattle.ff_shortest.specs.Shortened.{Held}
-use Rattle.ff_shortest.specs.Lines.{Line, lines_of, line_at, next_fate}
-use Rattle.ff_shortest.proofs.Moving.{line_there}
-use Rattle.ff_shortest.proofs.shortest.Shortest.next.Goals as goal
+use Rattle.ff_node_sync.specs.Shortened.{Held}
+use Rattle.ff_node_sync.specs.Lines.{Line, lines_of, line_at, next_fate}
+use Rattle.ff_node_sync.proofs.Moving.{line_there}
+use Rattle.ff_node_sync.proofs.shortest.Shortest.next.Goals as goal
 
 pub returns-in-None : goal.returns-in-None
 returns-in-None c =

@@ -1,12 +1,12 @@
 use Rattle.std.proofs.Common.{◌≡◌, ◌≢◌, subst, refl}
-use Rattle.ff_frame.specs.declared.item.Item.{Item}
-use Rattle.ff_frame.specs.declared.item.Item.TheVariants.{End, Broken}
-use Rattle.ff_frame.specs.Stream.{still_open, whole, broken}
+use Rattle.ff_stream.specs.declared.item.Item.{Item}
+use Rattle.ff_stream.specs.declared.item.Item.TheVariants.{End, Broken}
+use Rattle.ff_stream.specs.Stream.{still_open, whole, broken}
 use Rattle.ff_filter.specs.declared.after.After.TheVariants.{More, Whole, Broke}
 use Rattle.ff_filter.specs.Views.{Gave}
-use Rattle.ff_shortest.specs.Lines.{lines_of, lanes_of, line_at, next_fate, view_of}
-use Rattle.ff_shortest.proofs.Moving.{fate_from, waits_open, gave_closing}
-use Rattle.ff_shortest.proofs.shortest.Shortest.pull_on.Goals as goal
+use Rattle.ff_node_sync.specs.Lines.{lines_of, lanes_of, line_at, next_fate, view_of}
+use Rattle.ff_node_sync.proofs.Moving.{fate_from, waits_open, gave_closing}
+use Rattle.ff_node_sync.proofs.shortest.Shortest.pull_on.Goals as goal
 
 pub returns-in-Some-More-clause-waits : goal.returns-in-Some-More-clause-waits
 returns-in-Some-More-clause-waits c e =

@@ -1,11 +1,11 @@
 use Rattle.std.proofs.Common.{◌∙◌, sym, ap, subst, set, List}
-use Rattle.ff_frame.specs.declared.item.Lane.{Lane}
+use Rattle.ff_stream.specs.declared.item.Lane.{Lane}
 use Rattle.ff_filter.specs.Made.{is_over}
 use Rattle.ff_filter.specs.Views.{Same}
-use Rattle.ff_shortest.specs.Lines.{Line, line_of, lines_of, lanes_of, shortest_view}
-use Rattle.ff_shortest.specs.Moves.{Takes}
-use Rattle.ff_shortest.proofs.Moving.{line_there, port_there, replaced, set_lanes, set_same, same_self, fed_by}
-use Rattle.ff_shortest.proofs.shortest.ShortestFilter.feed.Goals as goal
+use Rattle.ff_node_sync.specs.Lines.{Line, line_of, lines_of, lanes_of, shortest_view}
+use Rattle.ff_node_sync.specs.Moves.{Takes}
+use Rattle.ff_node_sync.proofs.Moving.{line_there, port_there, replaced, set_lanes, set_same, same_self, fed_by}
+use Rattle.ff_node_sync.proofs.shortest.ShortestFilter.feed.Goals as goal
 
 pub feed-requires : goal.feed-requires
 feed-requires c =

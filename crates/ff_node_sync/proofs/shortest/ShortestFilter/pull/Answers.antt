@@ -1,7 +1,7 @@
 use Rattle.std.proofs.Common.{◌∙◌, ap}
-use Rattle.ff_shortest.specs.Lines.{Line, lines_of, lanes_of}
-use Rattle.ff_shortest.proofs.Moving.{line_there, port_there, waits_ended}
-use Rattle.ff_shortest.proofs.shortest.ShortestFilter.pull.Goals as goal
+use Rattle.ff_node_sync.specs.Lines.{Line, lines_of, lanes_of}
+use Rattle.ff_node_sync.proofs.Moving.{line_there, port_there, waits_ended}
+use Rattle.ff_node_sync.proofs.shortest.ShortestFilter.pull.Goals as goal
 
 pub returns-then-index-clause-waits : goal.returns-then-index-clause-waits
 returns-then-index-clause-waits c e =

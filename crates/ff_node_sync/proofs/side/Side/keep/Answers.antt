@@ -1,6 +1,6 @@
 use Rattle.std.proofs.Common.{arith}
 use Rattle.ff_filter.proofs.Taking.{none_closes-to}
-use Rattle.ff_shortest.proofs.side.Side.keep.Goals as goal
+use Rattle.ff_node_sync.proofs.side.Side.keep.Goals as goal
 
 pub invariant_of-self : goal.invariant_of-self
 invariant_of-self c =

@@ -1,6 +1,6 @@
 use Rattle.std.proofs.Common.{refl, arith}
-use Rattle.ff_shortest.proofs.Moving.{front_there}
-use Rattle.ff_shortest.proofs.side.Side.start.Goals as goal
+use Rattle.ff_node_sync.proofs.Moving.{front_there}
+use Rattle.ff_node_sync.proofs.side.Side.start.Goals as goal
 
 pub returns-in-Some-clause-some : goal.returns-in-Some-clause-some
 returns-in-Some-clause-some c =

@@ -1,8 +1,8 @@
 use Rattle.std.proofs.Common.{sym, arith, length}
-use Rattle.ff_shortest.specs.Lines.{lines_of}
-use Rattle.ff_shortest.proofs.Moving.{long_lines}
-use Rattle.ff_shortest.proofs.Straightening.{through_fails}
-use Rattle.ff_shortest.proofs.straight.Straight.all_through.Goals as goal
+use Rattle.ff_node_sync.specs.Lines.{lines_of}
+use Rattle.ff_node_sync.proofs.Moving.{long_lines}
+use Rattle.ff_node_sync.proofs.Straightening.{through_fails}
+use Rattle.ff_node_sync.proofs.straight.Straight.all_through.Goals as goal
 
 pub returns-then-not-is_through : goal.returns-then-not-is_through
 returns-then-not-is_through c =

@@ -1,9 +1,9 @@
 use Rattle.std.proofs.Common.{◌∙◌, sym, ap}
 use Rattle.std.specs.Prelude.{◌||◌}
 use Rattle.ff_filter.specs.Made.{is_over}
-use Rattle.ff_shortest.specs.Lines.{Line}
-use Rattle.ff_shortest.proofs.Moving.{line_there}
-use Rattle.ff_shortest.proofs.straight.Straight.is_through.Goals as goal
+use Rattle.ff_node_sync.specs.Lines.{Line}
+use Rattle.ff_node_sync.proofs.Moving.{line_there}
+use Rattle.ff_node_sync.proofs.straight.Straight.is_through.Goals as goal
 
 pub returns : goal.returns
 returns c =

@@ -1,13 +1,13 @@
 use Rattle.std.proofs.Common.{◌∙◌, sym, ap, subst, set, List}
-use Rattle.ff_frame.specs.declared.item.Lane.{Lane}
+use Rattle.ff_stream.specs.declared.item.Lane.{Lane}
 use Rattle.ff_filter.specs.Made.{is_over}
 use Rattle.ff_filter.specs.Views.{Same}
-use Rattle.ff_shortest.specs.Lines.{Line, line_of, lines_of, lanes_of}
-use Rattle.ff_shortest.specs.Straights.{straight_view}
-use Rattle.ff_shortest.specs.Moves.{Takes}
-use Rattle.ff_shortest.proofs.Moving.{line_there, port_there, replaced, set_lanes, set_same}
-use Rattle.ff_shortest.proofs.Straightening.{self_same, fed_straight}
-use Rattle.ff_shortest.proofs.straight.StraightFilter.feed.Goals as goal
+use Rattle.ff_node_sync.specs.Lines.{Line, line_of, lines_of, lanes_of}
+use Rattle.ff_node_sync.specs.Straights.{straight_view}
+use Rattle.ff_node_sync.specs.Moves.{Takes}
+use Rattle.ff_node_sync.proofs.Moving.{line_there, port_there, replaced, set_lanes, set_same}
+use Rattle.ff_node_sync.proofs.Straightening.{self_same, fed_straight}
+use Rattle.ff_node_sync.proofs.straight.StraightFilter.feed.Goals as goal
 
 pub feed-requires : goal.feed-requires
 feed-requires c =

@@ -1,8 +1,8 @@
 use Rattle.std.proofs.Common.{◌∙◌, sym, ap}
 use Rattle.ff_filter.specs.Made.{is_over}
-use Rattle.ff_shortest.specs.Lines.{Line}
-use Rattle.ff_shortest.proofs.Moving.{line_there, port_there}
-use Rattle.ff_shortest.proofs.straight.StraightFilter.is_shut.Goals as goal
+use Rattle.ff_node_sync.specs.Lines.{Line}
+use Rattle.ff_node_sync.proofs.Moving.{line_there, port_there}
+use Rattle.ff_node_sync.proofs.straight.StraightFilter.is_shut.Goals as goal
 
 pub returns : goal.returns
 returns c = let ss = c.args.self.now.sides.items in

@@ -1,8 +1,8 @@
 use Rattle.std.proofs.Common.{◌∙◌, length}
-use Rattle.ff_cut.specs.Heads.{early}
-use Rattle.ff_cut.specs.Walks.{reading, head_limit}
-use Rattle.ff_cut.proofs.AnswerLaws.{answer_is}
-use Rattle.ff_cut.proofs.walk.HeadWalk.read.Goals as goal
+use Rattle.ff_reader.specs.Heads.{early}
+use Rattle.ff_reader.specs.Walks.{reading, head_limit}
+use Rattle.ff_reader.proofs.AnswerLaws.{answer_is}
+use Rattle.ff_reader.proofs.walk.HeadWalk.read.Goals as goal
 
 pub returns-clause-exact : goal.returns-clause-exact
 returns-clause-exact g c = λ h.

@@ -1,7 +1,7 @@
-use Rattle.ff_build.specs.Parts.{all_kinds}
-use Rattle.ff_build.specs.Events.{parts_tell_of_themselves}
-use Rattle.ff_running.proofs.EventSteps.{plans_tell_alone}
-use Rattle.ff_build.proofs.laws.events_of_a_plan.Goals as goal
+use Rattle.ff_run.specs.build.Parts.{all_kinds}
+use Rattle.ff_run.specs.build.Events.{parts_tell_of_themselves}
+use Rattle.ff_run_plan.proofs.EventSteps.{plans_tell_alone}
+use Rattle.ff_run.proofs.build.laws.events_of_a_plan.Goals as goal
 
 pub returns-clause-own : goal.returns-clause-own
 returns-clause-own c = parts_tell_of_themselves

@@ -1,5 +1,5 @@
 use Rattle.std.proofs.Common.{◌≡◌, ◌++◌, ◌∷◌, [], List, sym, ap, ◌∙◌, subst}
-use Rattle.ff_values.specs.declared.event.Event.{Event}
+use Rattle.ff_frame.specs.declared.event.Event.{Event}
 use Rattle.ff_sched.specs.State.{State}
 use Rattle.ff_sched.specs.Plain.{IsPlain}
 use Rattle.ff_sched.proofs.Histories.{plain_more, told_may, heard}

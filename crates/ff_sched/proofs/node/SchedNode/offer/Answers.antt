@@ -1,6 +1,6 @@
 use Rattle.std.proofs.Common.{◌≡◌, ◌++◌, ◌∷◌, [], List, refl, sym, ap, ◌∙◌, subst}
-use Rattle.ff_values.specs.declared.event.Event.{Event}
-use Rattle.ff_values.specs.declared.event.Event.TheVariants.{Grant}
+use Rattle.ff_frame.specs.declared.event.Event.{Event}
+use Rattle.ff_frame.specs.declared.event.Event.TheVariants.{Grant}
 use Rattle.ff_sched.specs.State.{State}
 use Rattle.ff_sched.specs.Unchoked.{Unchokes}
 use Rattle.ff_sched.specs.Plain.{Plain, IsPlain, held_by}

@@ -1,7 +1,7 @@
 use Rattle.std.proofs.Common.{refl, rules}
 use Rattle.ff_time.specs.Fraction.{IsBase, IsBase-unit}
-use Rattle.ff_generated.specs.Generated.{part_of_a_second}
-use Rattle.ff_generated.proofs.base.part_of_second.Goals as goal
+use Rattle.ff_selfrun.specs.generated.Generated.{part_of_a_second}
+use Rattle.ff_selfrun.proofs.generated.base.part_of_second.Goals as goal
 
 pub unreachable-requires : goal.unreachable-requires
 unreachable-requires c =

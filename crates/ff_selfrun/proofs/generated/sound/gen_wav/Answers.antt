@@ -1,7 +1,7 @@
 use Rattle.std.proofs.Common.{rules}
 use Rattle.ff_wav.specs.Header.{written_head, body_size}
-use Rattle.ff_generated.proofs.Lengths.{generated}
-use Rattle.ff_generated.proofs.sound.gen_wav.Goals as goal
+use Rattle.ff_selfrun.proofs.GeneratedLemmas.Lengths.{generated}
+use Rattle.ff_selfrun.proofs.generated.sound.gen_wav.Goals as goal
 
 pub returns : goal.returns
 returns c =

@@ -1,7 +1,7 @@
 use Rattle.std.proofs.Common.{◌≡◌, ℕ, ◌<◌, false, slice_index_or}
-use Rattle.ff_edges.specs.declared.edge.Edge.{Edge}
-use Rattle.ff_edges.specs.Ports.{leaves}
-use Rattle.ff_edges.proofs.ports.at_output.Given as goal
+use Rattle.ff_stream.specs.declared.edges.edge.Edge.{Edge}
+use Rattle.ff_stream.specs.edges.Ports.{leaves}
+use Rattle.ff_stream.proofs.edges.ports.at_output.Given as goal
 
 abbrev pub invariant-loop-k : goal.invariant-loop-k
 invariant-loop-k l = (j : ℕ) (d : Edge) → j < l.k → leaves l.node l.port (slice_index_or l.edges j d) ≡ false

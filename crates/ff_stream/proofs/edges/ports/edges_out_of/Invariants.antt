@@ -1,6 +1,6 @@
 use Rattle.std.proofs.Common.{◌≡◌}
-use Rattle.ff_edges.specs.Ports.{edge_from, at_ports}
-use Rattle.ff_edges.proofs.ports.edges_out_of.Given as goal
+use Rattle.ff_stream.specs.edges.Ports.{edge_from, at_ports}
+use Rattle.ff_stream.proofs.edges.ports.edges_out_of.Given as goal
 
 abbrev pub invariant-loop-port : goal.invariant-loop-port
 invariant-loop-port l = l.numbers.items ≡ at_ports (edge_from l.edges l.node) l.port

@@ -1,6 +1,6 @@
 use Rattle.std.proofs.Common.{◌≡◌, ◌≤◌, ◌⊎◌, false, Some, None}
 use Rattle.ff_flac_enc.specs.Cuts.{has_ended, format_in}
-use Rattle.ff_base_tests.proofs.blocks.blocks_of.Given as goal
+use Rattle.ff_test_base.proofs.base.blocks.blocks_of.Given as goal
 
 -- the first frame is still to come, or the frames fed have this format
 abbrev pub invariant-frames : goal.invariant-frames

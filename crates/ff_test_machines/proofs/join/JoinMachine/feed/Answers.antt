@@ -1,6 +1,6 @@
-use Rattle.ff_net_plain.specs.Joins.{kept_of}
-use Rattle.ff_net_plain.proofs.JoinSteps.{accept_first, accept_second}
-use Rattle.ff_net_plain.proofs.join.JoinMachine.feed.Goals as goal
+use Rattle.ff_test_machines.specs.Joins.{kept_of}
+use Rattle.ff_test_machines.proofs.JoinSteps.{accept_first, accept_second}
+use Rattle.ff_test_machines.proofs.join.JoinMachine.feed.Goals as goal
 
 pub returns-then-port-eq0-clause-accepted : goal.returns-then-port-eq0-clause-accepted
 returns-then-port-eq0-clause-accepted c past s o v =

@@ -1,13 +1,13 @@
 use Rattle.std.proofs.Common.{◌≡◌, ◌<◌, ◌≤◌, ◌⊎◌, List, length, slice_index_or, subst, sym, ap, ◌∙◌, []}
 use Rattle.std.proofs.lemmas.List.{get_or_default}
-use Rattle.ff_frame.specs.declared.item.Item.{Item}
-use Rattle.ff_frame.specs.Stream.{Mark}
-use Rattle.ff_frame.specs.Items.{with_item}
-use Rattle.ff_frame.specs.Ports.{nothing, IsClosed}
+use Rattle.ff_stream.specs.declared.item.Item.{Item}
+use Rattle.ff_stream.specs.Stream.{Mark}
+use Rattle.ff_stream.specs.Items.{with_item}
+use Rattle.ff_stream.specs.Ports.{nothing, IsClosed}
 use Rattle.ff_net.specs.Ways.{Flow}
-use Rattle.ff_net_plain.specs.Joins.{joined, kept_of, mark_of}
-use Rattle.ff_net_plain.proofs.JoinSteps.{join_gives, join_ends}
-use Rattle.ff_net_plain.proofs.join.JoinMachine.pull.Goals as goal
+use Rattle.ff_test_machines.specs.Joins.{joined, kept_of, mark_of}
+use Rattle.ff_test_machines.proofs.JoinSteps.{join_gives, join_ends}
+use Rattle.ff_test_machines.proofs.join.JoinMachine.pull.Goals as goal
 
 pub returns-then-is_paired-clause-gives : goal.returns-then-is_paired-clause-gives
 returns-then-is_paired-clause-gives c x is past s goes =

@@ -1,4 +1,4 @@
-use Rattle.ff_net_plain.proofs.plain.PlainMachine.pull.Goals as goal
+use Rattle.ff_test_machines.proofs.plain.PlainMachine.pull.Goals as goal
 
 pub returns-in-Source-clause-gives : goal.returns-in-Source-clause-gives
 returns-in-Source-clause-gives c x is past s stopped = c.pull.ensures.gives x is past (rw c.in-Source.is at s) stopped

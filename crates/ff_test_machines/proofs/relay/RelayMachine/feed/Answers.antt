@@ -1,12 +1,12 @@
 use Rattle.std.proofs.Common.{◌≡◌, ◌<◌, ◌-◌, ℕ, true, false, ◌||◌, sym, subst, ◌∷◌, [], arith}
-use Rattle.ff_frame.specs.Items.{Closes}
-use Rattle.ff_frame.specs.Stream.{still_open}
-use Rattle.ff_frame.specs.Ports.{stream_at}
+use Rattle.ff_stream.specs.Items.{Closes}
+use Rattle.ff_stream.specs.Stream.{still_open}
+use Rattle.ff_stream.specs.Ports.{stream_at}
 use Rattle.ff_net.specs.Ways.{AreValid, with_item_at}
 use Rattle.ff_net.specs.Pasts.{fed}
-use Rattle.ff_net_plain.specs.Relays.{Relays}
-use Rattle.ff_net_plain.proofs.RelaySteps.{fed_over, fed_closing, fed_data, only_port, closed_with}
-use Rattle.ff_net_plain.proofs.relay.RelayMachine.feed.Goals as goal
+use Rattle.ff_test_machines.specs.Relays.{Relays}
+use Rattle.ff_test_machines.proofs.RelaySteps.{fed_over, fed_closing, fed_data, only_port, closed_with}
+use Rattle.ff_test_machines.proofs.relay.RelayMachine.feed.Goals as goal
 
 pub returns-then-self-eq0-2-clause-accepted : goal.returns-then-self-eq0-2-clause-accepted
 returns-then-self-eq0-2-clause-accepted c past s o v =

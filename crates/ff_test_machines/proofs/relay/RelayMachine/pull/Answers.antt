@@ -1,12 +1,12 @@
 use Rattle.std.proofs.Common.{◌≡◌, ◌<◌, ◌≤◌, ℕ, List, length, slice_index_or, sym, ◌∙◌, ap, subst, arith, inl, replicate, length-append, ◌++◌, ◌∷◌, []}
 use Rattle.std.proofs.lemmas.List.{get_or_default, length-replicate}
-use Rattle.ff_frame.specs.declared.item.Item.{Item}
-use Rattle.ff_frame.specs.declared.item.Item.TheVariants.{End}
-use Rattle.ff_frame.specs.declared.item.Lane.{Lane}
-use Rattle.ff_net_plain.specs.declared.relay.Out.{Out}
-use Rattle.ff_net_plain.specs.Relays.{out_of, with_end}
-use Rattle.ff_net_plain.proofs.RelaySteps.{gives_at, none_at, with_end_front, with_end_length, end_at, no_end, its_end}
-use Rattle.ff_net_plain.proofs.relay.RelayMachine.pull.Goals as goal
+use Rattle.ff_stream.specs.declared.item.Item.{Item}
+use Rattle.ff_stream.specs.declared.item.Item.TheVariants.{End}
+use Rattle.ff_stream.specs.declared.item.Lane.{Lane}
+use Rattle.ff_test_machines.specs.declared.relay.Out.{Out}
+use Rattle.ff_test_machines.specs.Relays.{out_of, with_end}
+use Rattle.ff_test_machines.proofs.RelaySteps.{gives_at, none_at, with_end_front, with_end_length, end_at, no_end, its_end}
+use Rattle.ff_test_machines.proofs.relay.RelayMachine.pull.Goals as goal
 
 there : (outs : List Out) (l : Lane) (p : ℕ) → p < length (replicate (length outs) l) → p < length outs
 there outs l p lt = subst (λ (n : ℕ). p < n) (simp length-replicate) lt

@@ -1,14 +1,14 @@
 use Rattle.std.proofs.Common.{◌≡◌, ◌<◌, ◌≤◌, List, length, slice_index_or, true, false, subst, sym, ap, ◌∙◌}
 use Rattle.std.proofs.lemmas.List.{get_or_default}
-use Rattle.ff_frame.specs.declared.item.Item.{Item}
-use Rattle.ff_frame.specs.declared.item.Item.TheVariants.{End}
-use Rattle.ff_frame.specs.Stream.{still_open, LiesBelow}
-use Rattle.ff_frame.specs.Items.{with_item}
-use Rattle.ff_frame.specs.Ports.{stream_at}
+use Rattle.ff_stream.specs.declared.item.Item.{Item}
+use Rattle.ff_stream.specs.declared.item.Item.TheVariants.{End}
+use Rattle.ff_stream.specs.Stream.{still_open, LiesBelow}
+use Rattle.ff_stream.specs.Items.{with_item}
+use Rattle.ff_stream.specs.Ports.{stream_at}
 use Rattle.ff_net.specs.Pasts.{gave_item, due}
-use Rattle.ff_net_plain.specs.Lists.{Lists}
-use Rattle.ff_net_plain.proofs.ListSteps.{list_gives, list_ends}
-use Rattle.ff_net_plain.proofs.source.SourceMachine.pull.Goals as goal
+use Rattle.ff_test_machines.specs.Lists.{Lists}
+use Rattle.ff_test_machines.proofs.ListSteps.{list_gives, list_ends}
+use Rattle.ff_test_machines.proofs.source.SourceMachine.pull.Goals as goal
 
 pub returns-then-self-items-clause-gives : goal.returns-then-self-items-clause-gives
 returns-then-self-items-clause-gives c x is past s goes =

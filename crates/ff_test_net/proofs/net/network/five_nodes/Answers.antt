@@ -1,11 +1,11 @@
 use Rattle.std.proofs.Common.{List, ap, length, subst, sym}
 use Rattle.ff_net.specs.declared.node.Node.{Node}
 use Rattle.ff_net.specs.Serial.{AreOf}
-use Rattle.ff_net_plain.specs.declared.plain.Plain.{Plain}
-use Rattle.ff_net_plain.specs.Plains.{plain_view}
-use Rattle.ff_net_plain.specs.Trials.{trial_lane}
-use Rattle.ff_net_plain.proofs.Networks.{five_of, five_shaped}
-use Rattle.ff_net_tests.proofs.network.five_nodes.Goals as goal
+use Rattle.ff_test_machines.specs.declared.plain.Plain.{Plain}
+use Rattle.ff_test_machines.specs.Plains.{plain_view}
+use Rattle.ff_test_machines.specs.Trials.{trial_lane}
+use Rattle.ff_test_machines.proofs.Networks.{five_of, five_shaped}
+use Rattle.ff_test_net.proofs.net.network.five_nodes.Goals as goal
 
 pub returns-clause-count : goal.returns-clause-count
 returns-clause-count c = ap (λ (ns : List (Node Plain)). length ns) c.in_ok-vec.ensures.items

@@ -1,7 +1,7 @@
 use Rattle.std.proofs.Common.{◌≡◌, ◌∷◌, [], ◌∙◌}
-use Rattle.ff_frame.specs.declared.item.Lane.{Lane}
-use Rattle.ff_net_plain.specs.Trials.{trial_lane}
-use Rattle.ff_net_tests.proofs.network.five_wires.Goals as goal
+use Rattle.ff_stream.specs.declared.item.Lane.{Lane}
+use Rattle.ff_test_machines.specs.Trials.{trial_lane}
+use Rattle.ff_test_net.proofs.net.network.five_wires.Goals as goal
 
 pub returns : goal.returns
 returns c =

@@ -1,7 +1,7 @@
 use Rattle.std.proofs.Common.{◌≡◌, length}
 use Rattle.ff_net.specs.Serial.{AreOf, AreShaped}
-use Rattle.ff_net_plain.specs.Plains.{plain_view}
-use Rattle.ff_net_tests.proofs.network.turns.Given as goal
+use Rattle.ff_test_machines.specs.Plains.{plain_view}
+use Rattle.ff_test_net.proofs.net.network.turns.Given as goal
 
 abbrev pub invariant-loop-number : goal.invariant-loop-number
 invariant-loop-number g l = record {

@@ -1,10 +1,10 @@
 use Rattle.std.proofs.Common.{◌≡◌, ◌∙◌, [], ◌∷◌}
-use Rattle.ff_frame.specs.declared.item.Lane.{Lane}
+use Rattle.ff_stream.specs.declared.item.Lane.{Lane}
 use Rattle.ff_net.specs.Nodes.{in_wires_of, out_wires_of}
 use Rattle.ff_net.specs.Worlds.{lanes_of}
-use Rattle.ff_net_plain.specs.Packets.{byte_lane}
-use Rattle.ff_net_tests.proofs.Chains.{begins}
-use Rattle.ff_net_tests.proofs.node.on_links.Goals as goal
+use Rattle.ff_test_machines.specs.Packets.{byte_lane}
+use Rattle.ff_test_net.proofs.NetLemmas.Chains.{begins}
+use Rattle.ff_test_net.proofs.net.node.on_links.Goals as goal
 
 pub returns-in-Ok-clause-new : goal.returns-in-Ok-clause-new
 returns-in-Ok-clause-new c task new =

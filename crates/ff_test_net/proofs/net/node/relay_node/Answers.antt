@@ -1,10 +1,10 @@
 use Rattle.std.proofs.Common.{[], ◌∷◌, ap, ◌∙◌}
-use Rattle.ff_net_links.specs.declared.ends.InEnd.{InEnd}
-use Rattle.ff_net_links.specs.declared.ends.OutEnd.{OutEnd}
-use Rattle.ff_net_plain.specs.declared.plain.Plain.TheVariants.{Relay}
-use Rattle.ff_net_plain.specs.Packets.{byte_lane}
-use Rattle.ff_net_tests.proofs.Chains.{at_ports, relay_machine}
-use Rattle.ff_net_tests.proofs.node.relay_node.Goals as goal
+use Rattle.ff_net_threads.specs.declared.links.ends.InEnd.{InEnd}
+use Rattle.ff_net_threads.specs.declared.links.ends.OutEnd.{OutEnd}
+use Rattle.ff_test_machines.specs.declared.plain.Plain.TheVariants.{Relay}
+use Rattle.ff_test_machines.specs.Packets.{byte_lane}
+use Rattle.ff_test_net.proofs.NetLemmas.Chains.{at_ports, relay_machine}
+use Rattle.ff_test_net.proofs.net.node.relay_node.Goals as goal
 
 pub returns-clause-new : goal.returns-clause-new
 returns-clause-new c =

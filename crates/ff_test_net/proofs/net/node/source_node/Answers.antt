@@ -1,9 +1,9 @@
 use Rattle.std.proofs.Common.{[], ◌∷◌, ap, ◌∙◌}
-use Rattle.ff_net_links.specs.declared.ends.OutEnd.{OutEnd}
-use Rattle.ff_net_plain.specs.declared.plain.Plain.TheVariants.{Source}
-use Rattle.ff_net_plain.specs.Packets.{byte_lane, byte_packets}
-use Rattle.ff_net_tests.proofs.Chains.{at_ports, packets_valid, source_machine}
-use Rattle.ff_net_tests.proofs.node.source_node.Goals as goal
+use Rattle.ff_net_threads.specs.declared.links.ends.OutEnd.{OutEnd}
+use Rattle.ff_test_machines.specs.declared.plain.Plain.TheVariants.{Source}
+use Rattle.ff_test_machines.specs.Packets.{byte_lane, byte_packets}
+use Rattle.ff_test_net.proofs.NetLemmas.Chains.{at_ports, packets_valid, source_machine}
+use Rattle.ff_test_net.proofs.net.node.source_node.Goals as goal
 
 pub returns-clause-new : goal.returns-clause-new
 returns-clause-new c =

@@ -1,12 +1,12 @@
 use Rattle.std.proofs.Common.{◌≡◌, ◌≤◌, ℕ, length, sym, subst}
-use Rattle.ff_net_links.specs.Rooms.{links_of}
-use Rattle.ff_net_plain.specs.Packets.{byte_lane}
-use Rattle.ff_net_tests.specs.Chains.{chain_tasks}
-use Rattle.ff_net_links.proofs.After.{ended_after}
-use Rattle.ff_net_plain.specs.Plains.{plain_view}
-use Rattle.ff_net_tests.proofs.Solved.{sink_was_fed}
-use Rattle.ff_net_tests.proofs.Chains.{chain_lawful, chain_after}
-use Rattle.ff_net_tests.proofs.run.machines_of.Goals as goal
+use Rattle.ff_net_threads.specs.links.Rooms.{links_of}
+use Rattle.ff_test_machines.specs.Packets.{byte_lane}
+use Rattle.ff_test_net.specs.net.Chains.{chain_tasks}
+use Rattle.ff_net_threads.proofs.LinksLemmas.After.{ended_after}
+use Rattle.ff_test_machines.specs.Plains.{plain_view}
+use Rattle.ff_test_net.proofs.NetLemmas.Solved.{sink_was_fed}
+use Rattle.ff_test_net.proofs.NetLemmas.Chains.{chain_lawful, chain_after}
+use Rattle.ff_test_net.proofs.net.run.machines_of.Goals as goal
 
 pub run_threads-requires-clause-lawful : goal.run_threads-requires-clause-lawful
 run_threads-requires-clause-lawful g c κs within = chain_lawful (chain_tasks c.args.count c.args.limit) (byte_lane c.args.tb) c.in-Ok-chain.nodes.items c.in-Ok-chain.ensures.chain

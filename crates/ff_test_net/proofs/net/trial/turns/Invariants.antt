@@ -1,8 +1,8 @@
 use Rattle.std.proofs.Common.{◌≡◌, ◌≤◌, length}
 use Rattle.ff_net.specs.Serial.{AreOf, AreShaped}
 use Rattle.ff_net.specs.Worlds.{lanes_of}
-use Rattle.ff_net_plain.specs.Kinds.{relay_view}
-use Rattle.ff_net_tests.proofs.trial.turns.Given as goal
+use Rattle.ff_test_machines.specs.Kinds.{relay_view}
+use Rattle.ff_test_net.proofs.net.trial.turns.Given as goal
 
 abbrev pub invariant-loop-turn : goal.invariant-loop-turn
 invariant-loop-turn g l = record {

@@ -1,9 +1,9 @@
 use Rattle.std.proofs.Common.{List, sym, ◌∙◌, subst, arith}
-use Rattle.ff_edges.specs.declared.edge.Edge.{Edge}
-use Rattle.ff_net_plain.specs.Plains.{plain_view}
-use Rattle.ff_network.specs.Networks.{Fits}
-use Rattle.ff_network_tests.proofs.Fives.{five_count, five_fit, five_routed}
-use Rattle.ff_network_tests.proofs.five.run_five.Goals as goal
+use Rattle.ff_stream.specs.declared.edges.edge.Edge.{Edge}
+use Rattle.ff_test_machines.specs.Plains.{plain_view}
+use Rattle.ff_net_threads.specs.network.Networks.{Fits}
+use Rattle.ff_test_net.proofs.NetworkLemmas.Fives.{five_count, five_fit, five_routed}
+use Rattle.ff_test_net.proofs.network.five.run_five.Goals as goal
 
 pub run_network-requires-clause-few : goal.run_network-requires-clause-few
 run_network-requires-clause-few g c = (let n = five_count _ c.in-Ok.machines.items c.in-Ok.ensures in omega (arith, n))

@@ -1,8 +1,8 @@
 use Rattle.std.proofs.Common.{◌∙◌, is_some, ap, sym}
 use Rattle.ff_filter.specs.Made.{is_over}
-use Rattle.ff_cutting.specs.Taps.{Way}
-use Rattle.ff_cutting.proofs.Ways.{way_there}
-use Rattle.ff_cutting.proofs.cutting.Cutting.advance.Goals as goal
+use Rattle.ff_trim.specs.Taps.{Way}
+use Rattle.ff_trim.proofs.Ways.{way_there}
+use Rattle.ff_trim.proofs.cutting.Cutting.advance.Goals as goal
 
 pub close-requires-clause-over : goal.close-requires-clause-over
 close-requires-clause-over g c = ap (λ (w : Way). is_over w.after) (way_there c.args.self.now.taps.items c.args.q c.index.result.now c.requires.there c.index.ensures) ∙ (sym c.is_over.ensures ∙ c.if-is_over.true)

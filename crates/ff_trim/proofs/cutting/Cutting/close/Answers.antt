@@ -1,9 +1,9 @@
 use Rattle.std.proofs.Common.{◌<◌, ◌∙◌, length, arith, ap, sym, subst, set}
 use Rattle.ff_filter.specs.Made.{is_over}
-use Rattle.ff_cutting.specs.Taps.{Way, way_of, ways_of, IsShut}
-use Rattle.ff_cutting.proofs.Ways.{way_there, replaced, long_ways}
-use Rattle.ff_cutting.proofs.Moving.{shut_tied, shut_gave}
-use Rattle.ff_cutting.proofs.cutting.Cutting.close.Goals as goal
+use Rattle.ff_trim.specs.Taps.{Way, way_of, ways_of, IsShut}
+use Rattle.ff_trim.proofs.Ways.{way_there, replaced, long_ways}
+use Rattle.ff_trim.proofs.Moving.{shut_tied, shut_gave}
+use Rattle.ff_trim.proofs.cutting.Cutting.close.Goals as goal
 
 pub close-requires-clause-going : goal.close-requires-clause-going
 close-requires-clause-going g c = ap (λ (w : Way). w.ended) (sym (way_there c.args.self.now.taps.items c.args.q c.index_mut.result.now c.requires.there c.index_mut.ensures.value)) ∙ c.requires.going

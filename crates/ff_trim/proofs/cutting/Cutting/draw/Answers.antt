@@ -1,10 +1,10 @@
 use Rattle.std.proofs.Common.{◌≡◌, ◌<◌, ◌∙◌, Ok, Some, None, is_some, length, refl, arith, ap, sym, subst, set, OnErr}
 use Rattle.ff_filter.specs.Made.{is_over}
-use Rattle.ff_cutting.specs.Taps.{Way, way_of, ways_of, IsPut, IsKept}
-use Rattle.ff_cutting.proofs.Ways.{way_there, replaced, long_ways}
-use Rattle.ff_cutting.proofs.Moving.{put_any, waits_cut, same_cut, not_over, not_held}
-use Rattle.ff_cutting.proofs.Turns.{failed, waited, put_turn}
-use Rattle.ff_cutting.proofs.cutting.Cutting.draw.Goals as goal
+use Rattle.ff_trim.specs.Taps.{Way, way_of, ways_of, IsPut, IsKept}
+use Rattle.ff_trim.proofs.Ways.{way_there, replaced, long_ways}
+use Rattle.ff_trim.proofs.Moving.{put_any, waits_cut, same_cut, not_over, not_held}
+use Rattle.ff_trim.proofs.Turns.{failed, waited, put_turn}
+use Rattle.ff_trim.proofs.cutting.Cutting.draw.Goals as goal
 
 pub put-requires-clause-going : goal.put-requires-clause-going
 put-requires-clause-going g c = ap (λ (w : Way). w.ended) (sym (way_there c.args.self.now.taps.items c.args.q c.index_mut.result.now c.requires.there c.index_mut.ensures.value)) ∙ c.requires.going

@@ -1,10 +1,10 @@
 use Rattle.std.proofs.Common.{◌<◌, ◌∙◌, Some, None, is_some, length, arith, ap, sym, subst, set, OnErr}
 use Rattle.ff_filter.specs.Made.{is_over}
-use Rattle.ff_cutting.specs.Taps.{Way, way_of, ways_of, IsResumed, IsKeptStill}
-use Rattle.ff_cutting.proofs.Ways.{way_there, replaced, long_ways}
-use Rattle.ff_cutting.proofs.Moving.{resumed_any, not_over}
-use Rattle.ff_cutting.proofs.Turns.{resumed_turn}
-use Rattle.ff_cutting.proofs.cutting.Cutting.resume.Goals as goal
+use Rattle.ff_trim.specs.Taps.{Way, way_of, ways_of, IsResumed, IsKeptStill}
+use Rattle.ff_trim.proofs.Ways.{way_there, replaced, long_ways}
+use Rattle.ff_trim.proofs.Moving.{resumed_any, not_over}
+use Rattle.ff_trim.proofs.Turns.{resumed_turn}
+use Rattle.ff_trim.proofs.cutting.Cutting.resume.Goals as goal
 
 pub resume-requires-clause-going : goal.resume-requires-clause-going
 resume-requires-clause-going g c = ap (λ (w : Way). w.ended) (sym (way_there c.args.self.now.taps.items c.args.q c.index_mut.result.now c.requires.there c.index_mut.ensures.value)) ∙ c.requires.going

@@ -1,6 +1,6 @@
-use Rattle.ff_cutting.specs.Taps.{ways_of}
-use Rattle.ff_cutting.proofs.Moving.{fed_cut, same_cut, on_ok, on_err}
-use Rattle.ff_cutting.proofs.cutting.CuttingFilter.feed.Goals as goal
+use Rattle.ff_trim.specs.Taps.{ways_of}
+use Rattle.ff_trim.proofs.Moving.{fed_cut, same_cut, on_ok, on_err}
+use Rattle.ff_trim.proofs.cutting.CuttingFilter.feed.Goals as goal
 
 pub returns-clause-fed : goal.returns-clause-fed
 returns-clause-fed g c = on_ok c.feed.result c.feed.ensures.fed

@@ -1,7 +1,7 @@
 use Rattle.std.proofs.Common.{◌<◌, length, arith, ap, sym}
-use Rattle.ff_cutting.specs.Taps.{Way}
-use Rattle.ff_cutting.proofs.Ways.{way_there, long_ways}
-use Rattle.ff_cutting.proofs.cutting.CuttingFilter.is_stopped.Goals as goal
+use Rattle.ff_trim.specs.Taps.{Way}
+use Rattle.ff_trim.proofs.Ways.{way_there, long_ways}
+use Rattle.ff_trim.proofs.cutting.CuttingFilter.is_stopped.Goals as goal
 
 pub returns : goal.returns
 returns g c =

@@ -1,10 +1,10 @@
 use Rattle.std.proofs.Common.{◌≡◌, ◌<◌, ◌∙◌, Ok, length, arith, ap}
 use Rattle.ff_filter.proofs.Moves.{same_self, same_gave}
-use Rattle.ff_cutting.specs.Taps.{Way, ways_of, cut_view}
-use Rattle.ff_cutting.specs.declared.tap.Turn.TheVariants.{Gave as Turned}
-use Rattle.ff_cutting.proofs.Moving.{waits_closed}
-use Rattle.ff_cutting.proofs.Ways.{way_there, long_ways}
-use Rattle.ff_cutting.proofs.cutting.CuttingFilter.pull.Goals as goal
+use Rattle.ff_trim.specs.Taps.{Way, ways_of, cut_view}
+use Rattle.ff_trim.specs.declared.tap.Turn.TheVariants.{Gave as Turned}
+use Rattle.ff_trim.proofs.Moving.{waits_closed}
+use Rattle.ff_trim.proofs.Ways.{way_there, long_ways}
+use Rattle.ff_trim.proofs.cutting.CuttingFilter.pull.Goals as goal
 
 pub returns-then-index-clause-waits : goal.returns-then-index-clause-waits
 returns-then-index-clause-waits g c e =

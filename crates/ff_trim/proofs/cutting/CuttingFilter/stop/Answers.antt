@@ -1,8 +1,8 @@
 use Rattle.std.proofs.Common.{◌<◌, length, arith, sym, subst, set}
-use Rattle.ff_cutting.specs.Taps.{Way, way_of, ways_of, IsLeft}
-use Rattle.ff_cutting.proofs.Ways.{way_there, replaced, long_ways}
-use Rattle.ff_cutting.proofs.Moving.{left_tied, left_stopped}
-use Rattle.ff_cutting.proofs.cutting.CuttingFilter.stop.Goals as goal
+use Rattle.ff_trim.specs.Taps.{Way, way_of, ways_of, IsLeft}
+use Rattle.ff_trim.proofs.Ways.{way_there, replaced, long_ways}
+use Rattle.ff_trim.proofs.Moving.{left_tied, left_stopped}
+use Rattle.ff_trim.proofs.cutting.CuttingFilter.stop.Goals as goal
 
 pub invariant_of-self : goal.invariant_of-self
 invariant_of-self g c =

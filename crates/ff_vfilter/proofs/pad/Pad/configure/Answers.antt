@@ -1,7 +1,7 @@
 use Rattle.std.proofs.Common.{◌∙◌, ap, refl, Ok, Result}
-use Rattle.ff_values.specs.declared.config.ConfigError.{ConfigError}
-use Rattle.ff_values.specs.declared.head.StreamHead.{StreamHead}
-use Rattle.ff_values.specs.declared.head.StreamHead.TheVariants.{Video}
+use Rattle.ff_frame.specs.declared.config.ConfigError.{ConfigError}
+use Rattle.ff_frame.specs.declared.head.StreamHead.{StreamHead}
+use Rattle.ff_frame.specs.declared.head.StreamHead.TheVariants.{Video}
 use Rattle.ff_filter.specs.Options.{is_video}
 use Rattle.ff_filter.proofs.Configuring.{configured, made_of_both, seen_as}
 use Rattle.ff_vfilter.specs.declared.pad.PadSettings.{PadSettings}

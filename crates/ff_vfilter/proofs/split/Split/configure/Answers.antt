@@ -1,8 +1,8 @@
 use Rattle.std.proofs.Common.{refl}
 use Rattle.ff_filter.specs.Options.{is_video}
 use Rattle.ff_filter.proofs.Configuring.{configured}
-use Rattle.ff_spread.specs.Splits.{IsSplit, split_manual, split_view, split_heads}
-use Rattle.ff_spread.proofs.Configuring.{made_of_many}
+use Rattle.ff_filter.specs.spread.Splits.{IsSplit, split_manual, split_view, split_heads}
+use Rattle.ff_filter.proofs.SpreadLemmas.Configuring.{made_of_many}
 use Rattle.ff_vfilter.proofs.split.Split.configure.Goals as goal
 
 pub returns-in-Ok-clause-made : goal.returns-in-Ok-clause-made

@@ -1,6 +1,6 @@
 use Rattle.std.proofs.Common.{◌≡◌, ◌+◌, ◌∙◌, ap, sym, refl, inl, inr, arith, Some, pos}
-use Rattle.ff_values.specs.Packet.{packet_at}
-use Rattle.ff_values.specs.declared.cut.Cut.TheVariants.{End, Broken}
+use Rattle.ff_frame.specs.Packet.{packet_at}
+use Rattle.ff_frame.specs.declared.cut.Cut.TheVariants.{End, Broken}
 use Rattle.ff_y4m.specs.declared.frame.Front.TheVariants.{Wait, Other, Frame}
 use Rattle.ff_y4m.specs.Packets.{unit, packet_in}
 use Rattle.ff_y4m.proofs.UnitLaws.{frame_at, wait_few}

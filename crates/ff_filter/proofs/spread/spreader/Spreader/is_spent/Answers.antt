@@ -1,6 +1,6 @@
 use Rattle.std.proofs.Common.{rules}
-use Rattle.ff_spread.proofs.Spreading.{spread_exactly}
-use Rattle.ff_spread.proofs.spreader.Spreader.is_spent.Goals as goal
+use Rattle.ff_filter.proofs.SpreadLemmas.Spreading.{spread_exactly}
+use Rattle.ff_filter.proofs.spread.spreader.Spreader.is_spent.Goals as goal
 
 pub returns-clause-exact : goal.returns-clause-exact
 returns-clause-exact g c =

@@ -1,7 +1,7 @@
 use Rattle.std.proofs.Common.{sym, ◌∙◌}
 use Rattle.ff_filter.proofs.Stepping.{closing-none}
-use Rattle.ff_spread.proofs.Spreading.{spread_fed_ok}
-use Rattle.ff_spread.proofs.spreader.SpreaderFilter.feed.Goals as goal
+use Rattle.ff_filter.proofs.SpreadLemmas.Spreading.{spread_fed_ok}
+use Rattle.ff_filter.proofs.spread.spreader.SpreaderFilter.feed.Goals as goal
 
 pub returns-in-None-clause-fed : goal.returns-in-None-clause-fed
 returns-in-None-clause-fed g c =

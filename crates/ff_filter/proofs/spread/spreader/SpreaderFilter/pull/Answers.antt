@@ -1,6 +1,6 @@
-use Rattle.ff_spread.specs.Lines.{lines}
-use Rattle.ff_spread.proofs.Spreading.{spread_gave}
-use Rattle.ff_spread.proofs.spreader.SpreaderFilter.pull.Goals as goal
+use Rattle.ff_filter.specs.spread.Lines.{lines}
+use Rattle.ff_filter.proofs.SpreadLemmas.Spreading.{spread_gave}
+use Rattle.ff_filter.proofs.spread.spreader.SpreaderFilter.pull.Goals as goal
 
 pub returns-clause-gives : goal.returns-clause-gives
 returns-clause-gives g c x e =

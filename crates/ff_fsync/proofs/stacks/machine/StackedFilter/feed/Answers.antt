@@ -1,12 +1,12 @@
 use Rattle.std.proofs.Common.{refl}
-use Rattle.ff_frame.specs.declared.item.Lane.TheVariants.{Frames}
+use Rattle.ff_stream.specs.declared.item.Lane.TheVariants.{Frames}
 use Rattle.ff_filter.specs.Views.{View, Fed, Same}
 use Rattle.ff_fsync.specs.Sides.{sync_view}
 use Rattle.ff_fsync.specs.Syncs.{sides_of}
-use Rattle.ff_stacks.specs.Limits.{limits_view}
-use Rattle.ff_stacks.specs.Shapes.{stacked}
-use Rattle.ff_stacks.proofs.Limiting.{fed_on, same_on, on_ok, on_err}
-use Rattle.ff_stacks.proofs.machine.StackedFilter.feed.Goals as goal
+use Rattle.ff_fsync.specs.stacks.Limits.{limits_view}
+use Rattle.ff_fsync.specs.stacks.Shapes.{stacked}
+use Rattle.ff_fsync.proofs.StacksLemmas.Limiting.{fed_on, same_on, on_ok, on_err}
+use Rattle.ff_fsync.proofs.stacks.machine.StackedFilter.feed.Goals as goal
 
 pub returns-clause-fed : goal.returns-clause-fed
 returns-clause-fed c =

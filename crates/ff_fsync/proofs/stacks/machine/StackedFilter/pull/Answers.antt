@@ -1,14 +1,14 @@
 use Rattle.std.proofs.Common.{◌≡◌, ℕ, arith, refl, subst, sym}
-use Rattle.ff_frame.specs.declared.item.Item.{Item}
-use Rattle.ff_frame.specs.declared.item.Lane.TheVariants.{Frames}
+use Rattle.ff_stream.specs.declared.item.Item.{Item}
+use Rattle.ff_stream.specs.declared.item.Lane.TheVariants.{Frames}
 use Rattle.ff_filter.specs.Views.{View, Gave}
 use Rattle.ff_fsync.specs.Sides.{sync_view}
 use Rattle.ff_fsync.specs.Syncs.{sides_of}
-use Rattle.ff_stacks.specs.Limits.{limits_view}
-use Rattle.ff_stacks.specs.Shapes.{stacked}
-use Rattle.ff_stacks.specs.Stacked.{seen}
-use Rattle.ff_stacks.proofs.Limiting.{same_on, waits_on, gave_on}
-use Rattle.ff_stacks.proofs.machine.StackedFilter.pull.Goals as goal
+use Rattle.ff_fsync.specs.stacks.Limits.{limits_view}
+use Rattle.ff_fsync.specs.stacks.Shapes.{stacked}
+use Rattle.ff_fsync.specs.stacks.Stacked.{seen}
+use Rattle.ff_fsync.proofs.StacksLemmas.Limiting.{same_on, waits_on, gave_on}
+use Rattle.ff_fsync.proofs.stacks.machine.StackedFilter.pull.Goals as goal
 
 pub returns-in-Err-clause-unchanged : goal.returns-in-Err-clause-unchanged
 returns-in-Err-clause-unchanged c =

@@ -1,7 +1,7 @@
 use Rattle.std.proofs.Common.{◌≡◌, ◌+◌, ◌*◌, ◌≤◌, drop}
 use Rattle.ff_planes.specs.declared.component.Component.TheVariants.{Luma, Blue}
-use Rattle.ff_stacks.specs.Shapes.{sum_along}
-use Rattle.ff_stacks.proofs.shape.Shape.is_filled.Given as goal
+use Rattle.ff_fsync.specs.stacks.Shapes.{sum_along}
+use Rattle.ff_fsync.proofs.stacks.shape.Shape.is_filled.Given as goal
 
 abbrev pub invariant-pictures : goal.invariant-pictures
 invariant-pictures l = record {

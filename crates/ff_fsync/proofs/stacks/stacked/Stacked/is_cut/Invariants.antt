@@ -1,12 +1,12 @@
 use Rattle.std.proofs.Common.{◌≡◌, ◌≤◌, ◌^◌, ◌-◌}
-use Rattle.ff_frame.specs.declared.item.Lane.TheVariants.{Frames}
-use Rattle.ff_frame.specs.Within.{some_pass, passes_limits}
+use Rattle.ff_stream.specs.declared.item.Lane.TheVariants.{Frames}
+use Rattle.ff_stream.specs.Within.{some_pass, passes_limits}
 use Rattle.ff_filter.specs.Joins.{silence}
 use Rattle.ff_fsync.specs.Sides.{left_to_show}
 use Rattle.ff_fsync.specs.Syncs.{sides_of}
-use Rattle.ff_stacks.specs.Shapes.{stacked}
-use Rattle.ff_stacks.specs.Stacked.{is_cut}
-use Rattle.ff_stacks.proofs.stacked.Stacked.is_cut.Given as goal
+use Rattle.ff_fsync.specs.stacks.Shapes.{stacked}
+use Rattle.ff_fsync.specs.stacks.Stacked.{is_cut}
+use Rattle.ff_fsync.proofs.stacks.stacked.Stacked.is_cut.Given as goal
 
 abbrev pub invariant-loop-time : goal.invariant-loop-time
 invariant-loop-time l = record {

@@ -1,8 +1,8 @@
 use Rattle.std.proofs.Common.{◌≡◌, ◌∙◌, sym, arith}
 use Rattle.std.specs.Prelude.{vec_len}
 use Rattle.std.proofs.lemmas.Bool.{eqb-true, eqb-false}
-use Rattle.ff_stacks.proofs.Lasting.{lasts_due, lasts_none, none_there}
-use Rattle.ff_stacks.proofs.stacked.Stacked.lasts.Goals as goal
+use Rattle.ff_fsync.proofs.StacksLemmas.Lasting.{lasts_due, lasts_none, none_there}
+use Rattle.ff_fsync.proofs.stacks.stacked.Stacked.lasts.Goals as goal
 
 pub returns-then-is_empty-clause-is : goal.returns-then-is_empty-clause-is
 returns-then-is_empty-clause-is c =

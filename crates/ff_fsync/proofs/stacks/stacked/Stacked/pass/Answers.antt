@@ -1,18 +1,18 @@
 use Rattle.std.proofs.Common.{◌≡◌, ◌+◌, ap, sym, ◌∙◌, refl, arith, true, false}
 use Rattle.std.proofs.lemmas.Bool.{iff_false}
-use Rattle.ff_frame.specs.declared.item.Lane.{Lane}
-use Rattle.ff_frame.specs.declared.item.Lane.TheVariants.{Frames}
-use Rattle.ff_frame.specs.Within.{passes_limits}
+use Rattle.ff_stream.specs.declared.item.Lane.{Lane}
+use Rattle.ff_stream.specs.declared.item.Lane.TheVariants.{Frames}
+use Rattle.ff_stream.specs.Within.{passes_limits}
 use Rattle.ff_filter.specs.Limits.{limited}
 use Rattle.ff_filter.specs.Views.{View, closes}
 use Rattle.ff_fsync.specs.Sides.{sync_view}
 use Rattle.ff_fsync.specs.Syncs.{sides_of}
-use Rattle.ff_stacks.specs.Limits.{long_at, limits_view}
-use Rattle.ff_stacks.specs.Shapes.{stacked}
-use Rattle.ff_stacks.specs.Stacked.{sync_seen}
-use Rattle.ff_stacks.proofs.Closing.{closes_so, closes_not}
-use Rattle.ff_stacks.proofs.Limiting.{limits_gave, limits_cut, limited_on, limited_last, alone_at}
-use Rattle.ff_stacks.proofs.stacked.Stacked.pass.Goals as goal
+use Rattle.ff_fsync.specs.stacks.Limits.{long_at, limits_view}
+use Rattle.ff_fsync.specs.stacks.Shapes.{stacked}
+use Rattle.ff_fsync.specs.stacks.Stacked.{sync_seen}
+use Rattle.ff_fsync.proofs.StacksLemmas.Closing.{closes_so, closes_not}
+use Rattle.ff_fsync.proofs.StacksLemmas.Limiting.{limits_gave, limits_cut, limited_on, limited_last, alone_at}
+use Rattle.ff_fsync.proofs.stacks.stacked.Stacked.pass.Goals as goal
 
 pub returns-then-closes : goal.returns-then-closes
 returns-then-closes c = λ v one g.

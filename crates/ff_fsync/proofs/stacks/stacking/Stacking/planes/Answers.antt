@@ -1,5 +1,5 @@
-use Rattle.ff_stacks.proofs.Fitting.{beside_ready, below_ready}
-use Rattle.ff_stacks.proofs.stacking.Stacking.planes.Goals as goal
+use Rattle.ff_fsync.proofs.StacksLemmas.Fitting.{beside_ready, below_ready}
+use Rattle.ff_fsync.proofs.stacks.stacking.Stacking.planes.Goals as goal
 
 pub hstack-requires-clause-alike : goal.hstack-requires-clause-alike
 hstack-requires-clause-alike c = (beside_ready c.args.self.now.shape c.args.pictures.now c.in-Beside.is c.requires).0

@@ -1,10 +1,10 @@
 use Rattle.std.proofs.Common.{◌∙◌, ◌↔◌, List, IsTrue, subst, sym, refl}
-use Rattle.ff_memory_host.specs.MemHost.{marks_in}
-use Rattle.ff_memory_host.specs.Plan.{IsPlannedNext}
-use Rattle.ff_memory_host.specs.declared.plan.FailAt.{FailAt}
-use Rattle.ff_memory_host.specs.declared.plan.HostCall.TheVariants.{CloseSink}
+use Rattle.ff_host.specs.memory.MemHost.{marks_in}
+use Rattle.ff_host.specs.memory.Plan.{IsPlannedNext}
+use Rattle.ff_host.specs.declared.memory.plan.FailAt.{FailAt}
+use Rattle.ff_host.specs.declared.memory.plan.HostCall.TheVariants.{CloseSink}
 use Rattle.ff_host.specs.declared.tally.Marks.{Marks}
-use Rattle.ff_memory_host.proofs.mem_host.MemHostHost.close_sink.Goals as goal
+use Rattle.ff_host.proofs.memory.mem_host.MemHostHost.close_sink.Goals as goal
 
 pub returns-then-is_planned_next-clause-exact : goal.returns-then-is_planned_next-clause-exact
 returns-then-is_planned_next-clause-exact c =

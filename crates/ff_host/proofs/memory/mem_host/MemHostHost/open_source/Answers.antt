@@ -1,7 +1,7 @@
 use Rattle.std.proofs.Common.{◌∙◌, ap}
 use Rattle.ff_host.specs.declared.tally.Marks.{Marks}
 use Rattle.ff_host.proofs.Noted.{kept_count}
-use Rattle.ff_memory_host.proofs.mem_host.MemHostHost.open_source.Goals as goal
+use Rattle.ff_host.proofs.memory.mem_host.MemHostHost.open_source.Goals as goal
 
 pub returns-clause-out : goal.returns-clause-out
 returns-clause-out c = λ other.

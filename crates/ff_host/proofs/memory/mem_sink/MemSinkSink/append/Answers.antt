@@ -1,7 +1,7 @@
 use Rattle.std.proofs.Common.{subst, ℕ, List, refl}
-use Rattle.ff_memory_host.specs.MemEnds.{MemWriting}
-use Rattle.ff_memory_host.specs.Plan.{FailsNext}
-use Rattle.ff_memory_host.proofs.mem_sink.MemSinkSink.append.Goals as goal
+use Rattle.ff_host.specs.memory.MemEnds.{MemWriting}
+use Rattle.ff_host.specs.memory.Plan.{FailsNext}
+use Rattle.ff_host.proofs.memory.mem_sink.MemSinkSink.append.Goals as goal
 
 pub returns-then-fails_next-clause-exact : goal.returns-then-fails_next-clause-exact
 returns-then-fails_next-clause-exact c =

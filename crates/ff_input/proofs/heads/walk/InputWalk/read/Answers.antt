@@ -1,11 +1,11 @@
 use Rattle.std.proofs.Common.{subst}
-use Rattle.ff_heads.specs.declared.walk.InputWalk.{InputWalk}
+use Rattle.ff_input.specs.declared.heads.walk.InputWalk.{InputWalk}
 use Rattle.ff_words.specs.declared.job.FileFormat.TheVariants as format
 use Rattle.ff_wav.specs.Heads as wav
 use Rattle.ff_flac_dec.specs.Heads as flac
-use Rattle.ff_heads.specs.Places.{IsReached}
-use Rattle.ff_heads.proofs.Walking.{start_told, start_on, other_told, format_told, units_on, y4m_on}
-use Rattle.ff_heads.proofs.walk.InputWalk.read.Goals as goal
+use Rattle.ff_input.specs.heads.Places.{IsReached}
+use Rattle.ff_input.proofs.HeadsLemmas.Walking.{start_told, start_on, other_told, format_told, units_on, y4m_on}
+use Rattle.ff_input.proofs.heads.walk.InputWalk.read.Goals as goal
 
 pub returns-in-Start-clause-answers : goal.returns-in-Start-clause-answers
 returns-in-Start-clause-answers c = λ given h.

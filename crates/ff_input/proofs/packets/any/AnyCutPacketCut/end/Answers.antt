@@ -1,6 +1,6 @@
-use Rattle.ff_cuts.proofs.Among.{keeps_among}
-use Rattle.ff_cuts.proofs.Formats.{wav_among, y4m_among, flac_among}
-use Rattle.ff_cuts.proofs.any.AnyCutPacketCut.end.Goals as goal
+use Rattle.ff_input.proofs.PacketsLemmas.Among.{keeps_among}
+use Rattle.ff_input.proofs.PacketsLemmas.Formats.{wav_among, y4m_among, flac_among}
+use Rattle.ff_input.proofs.packets.any.AnyCutPacketCut.end.Goals as goal
 
 pub returns-in-Wav-clause-cuts : goal.returns-in-Wav-clause-cuts
 returns-in-Wav-clause-cuts c = rw c.in-Wav.is (keeps_among wav_among c.in-Wav.cut c.end.new.self c.end.ensures.cuts)

@@ -1,6 +1,6 @@
-use Rattle.ff_cuts.proofs.Among.{fed_among}
-use Rattle.ff_cuts.proofs.Formats.{wav_among, y4m_among, flac_among}
-use Rattle.ff_cuts.proofs.any.AnyCutPacketCut.feed.Goals as goal
+use Rattle.ff_input.proofs.PacketsLemmas.Among.{fed_among}
+use Rattle.ff_input.proofs.PacketsLemmas.Formats.{wav_among, y4m_among, flac_among}
+use Rattle.ff_input.proofs.packets.any.AnyCutPacketCut.feed.Goals as goal
 
 pub returns-in-Wav-clause-ok : goal.returns-in-Wav-clause-ok
 returns-in-Wav-clause-ok c = rw c.in-Wav.is (fed_among wav_among c.feed.result c.in-Wav.cut c.feed.new.self c.args.bytes.now c.feed.ensures.ok)

@@ -1,7 +1,7 @@
 use Rattle.std.proofs.Common.{None, Some}
-use Rattle.ff_cuts.proofs.Among.{gives_among, gave_among}
-use Rattle.ff_cuts.proofs.Formats.{wav_among, y4m_among, flac_among}
-use Rattle.ff_cuts.proofs.any.AnyCutPacketCut.pull.Goals as goal
+use Rattle.ff_input.proofs.PacketsLemmas.Among.{gives_among, gave_among}
+use Rattle.ff_input.proofs.PacketsLemmas.Formats.{wav_among, y4m_among, flac_among}
+use Rattle.ff_input.proofs.packets.any.AnyCutPacketCut.pull.Goals as goal
 
 pub returns-in-Wav-clause-gives : goal.returns-in-Wav-clause-gives
 returns-in-Wav-clause-gives c = λ p e. rw c.in-Wav.is (gives_among wav_among c.in-Wav.cut c.pull.new.self p (c.pull.ensures.gives p e))

@@ -1,4 +1,4 @@
-use Rattle.ff_writers.proofs.any.AnyWriterWriter.add.Goals as goal
+use Rattle.ff_mux.proofs.writers.any.AnyWriterWriter.add.Goals as goal
 
 pub returns-in-Flac-clause-too_large : goal.returns-in-Flac-clause-too_large
 returns-in-Flac-clause-too_large c = rw c.in-Flac.is c.add-in-Flac.ensures.too_large

@@ -1,4 +1,4 @@
-use Rattle.ff_writers.proofs.any.AnyWriterWriter.last.Goals as goal
+use Rattle.ff_mux.proofs.writers.any.AnyWriterWriter.last.Goals as goal
 
 pub returns-in-Flac : goal.returns-in-Flac
 returns-in-Flac c = rw c.in-Flac.is c.last-in-Flac.ensures

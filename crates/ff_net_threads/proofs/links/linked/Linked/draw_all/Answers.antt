@@ -1,13 +1,13 @@
 use Rattle.std.proofs.Common.{rules, ◌≡◌, ◌≢◌, ℕ, ◌<◌, length, inl, inr, refl, sym, ◌∙◌, ap, subst, arith}
 use Rattle.std.proofs.lemmas.List.{length-set}
 use Rattle.ff_net.proofs.Rounds.{or_true, or_false}
-use Rattle.ff_net_links.specs.declared.ends.InEnd.{InEnd}
-use Rattle.ff_net_links.specs.declared.linked.Linked.{Linked}
-use Rattle.ff_net_links.specs.Ends.{in_end_at}
-use Rattle.ff_net_links.specs.Turns.{TakesOneAtMost, InMoves, InRests}
-use Rattle.ff_net_links.proofs.Linking.{follows_self, follows_then, drawn, in_end_there, wired_after}
-use Rattle.ff_net_links.proofs.Turns.{in_other, in_each, takes_self, in_rests_self}
-use Rattle.ff_net_links.proofs.linked.Linked.draw_all.Goals as goal
+use Rattle.ff_net_threads.specs.declared.links.ends.InEnd.{InEnd}
+use Rattle.ff_net_threads.specs.declared.links.linked.Linked.{Linked}
+use Rattle.ff_net_threads.specs.links.Ends.{in_end_at}
+use Rattle.ff_net_threads.specs.links.Turns.{TakesOneAtMost, InMoves, InRests}
+use Rattle.ff_net_threads.proofs.LinksLemmas.Linking.{follows_self, follows_then, drawn, in_end_there, wired_after}
+use Rattle.ff_net_threads.proofs.LinksLemmas.Turns.{in_other, in_each, takes_self, in_rests_self}
+use Rattle.ff_net_threads.proofs.links.linked.Linked.draw_all.Goals as goal
 
 pub draw_at-drew-requires-clause-wire : goal.draw_at-drew-requires-clause-wire
 draw_at-drew-requires-clause-wire g c =

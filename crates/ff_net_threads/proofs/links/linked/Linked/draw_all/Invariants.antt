@@ -1,8 +1,8 @@
 use Rattle.std.proofs.Common.{◌≡◌, ◌<◌, ◌≤◌, ℕ, length, true, false}
-use Rattle.ff_net_links.specs.Ends.{in_end_at}
-use Rattle.ff_net_links.specs.Nodes.{Follows}
-use Rattle.ff_net_links.specs.Turns.{TakesOneAtMost, InMoves, InRests}
-use Rattle.ff_net_links.proofs.linked.Linked.draw_all.Given as goal
+use Rattle.ff_net_threads.specs.links.Ends.{in_end_at}
+use Rattle.ff_net_threads.specs.links.Nodes.{Follows}
+use Rattle.ff_net_threads.specs.links.Turns.{TakesOneAtMost, InMoves, InRests}
+use Rattle.ff_net_threads.proofs.links.linked.Linked.draw_all.Given as goal
 
 abbrev pub invariant-loop-p : goal.invariant-loop-p
 invariant-loop-p g l =

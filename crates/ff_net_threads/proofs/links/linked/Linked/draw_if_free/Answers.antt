@@ -4,11 +4,11 @@ use Rattle.ff_net.specs.declared.wires.Wires.{Wires}
 use Rattle.ff_net.specs.Nodes.{pass_of}
 use Rattle.ff_net.specs.Steps.{Stepped}
 use Rattle.ff_net.proofs.Moments.{stepped_as, stepped_self}
-use Rattle.ff_net_links.specs.Ends.{in_end_at, taken_of}
-use Rattle.ff_net_links.specs.Turns.{TakesOneAtMost, InMoves, InRests}
-use Rattle.ff_net_links.proofs.Linking.{follows_self, follows_then, lawful_after}
-use Rattle.ff_net_links.proofs.Turns.{takes_self, in_rests_self}
-use Rattle.ff_net_links.proofs.linked.Linked.draw_if_free.Goals as goal
+use Rattle.ff_net_threads.specs.links.Ends.{in_end_at, taken_of}
+use Rattle.ff_net_threads.specs.links.Turns.{TakesOneAtMost, InMoves, InRests}
+use Rattle.ff_net_threads.proofs.LinksLemmas.Linking.{follows_self, follows_then, lawful_after}
+use Rattle.ff_net_threads.proofs.LinksLemmas.Turns.{takes_self, in_rests_self}
+use Rattle.ff_net_threads.proofs.links.linked.Linked.draw_if_free.Goals as goal
 
 pub draw_all-requires : goal.draw_all-requires
 draw_all-requires g c = lawful_after g.M.Machine.view c.args.self.now c.fill.new.self c.fill.ensures.follows c.requires

@@ -1,6 +1,6 @@
 use Rattle.std.proofs.Common.{refl}
-use Rattle.ff_net_links.proofs.Linking.{turned}
-use Rattle.ff_net_links.proofs.linked.Linked.fill.Goals as goal
+use Rattle.ff_net_threads.proofs.LinksLemmas.Linking.{turned}
+use Rattle.ff_net_threads.proofs.links.linked.Linked.fill.Goals as goal
 
 pub is_due-requires : goal.is_due-requires
 is_due-requires g c = record { shaped = (c.args.self.now.wires, c.requires.wired.shaped) }

@@ -1,12 +1,12 @@
 use Rattle.std.proofs.Common.{rules, ◌≡◌, ◌≢◌, ℕ, ◌<◌, length, slice_index_or, inl, inr, refl, sym, ◌∙◌, ap, subst, arith}
 use Rattle.std.proofs.lemmas.List.{length-set}
 use Rattle.ff_net.proofs.Rounds.{or_true, or_false}
-use Rattle.ff_net_links.specs.declared.ends.OutEnd.{OutEnd}
-use Rattle.ff_net_links.specs.declared.linked.Linked.{Linked}
-use Rattle.ff_net_links.specs.Turns.{SendsOneAtMost, OutMoves, OutRests}
-use Rattle.ff_net_links.proofs.Linking.{follows_self, follows_then, poured, out_end_there, can_pour, wired_after, lawful_after}
-use Rattle.ff_net_links.proofs.Turns.{out_other, out_each, sends_self, out_rests_self}
-use Rattle.ff_net_links.proofs.linked.Linked.pour_all.Goals as goal
+use Rattle.ff_net_threads.specs.declared.links.ends.OutEnd.{OutEnd}
+use Rattle.ff_net_threads.specs.declared.links.linked.Linked.{Linked}
+use Rattle.ff_net_threads.specs.links.Turns.{SendsOneAtMost, OutMoves, OutRests}
+use Rattle.ff_net_threads.proofs.LinksLemmas.Linking.{follows_self, follows_then, poured, out_end_there, can_pour, wired_after, lawful_after}
+use Rattle.ff_net_threads.proofs.LinksLemmas.Turns.{out_other, out_each, sends_self, out_rests_self}
+use Rattle.ff_net_threads.proofs.links.linked.Linked.pour_all.Goals as goal
 
 pub pour_at-poured-requires-clause-wire : goal.pour_at-poured-requires-clause-wire
 pour_at-poured-requires-clause-wire g c d =

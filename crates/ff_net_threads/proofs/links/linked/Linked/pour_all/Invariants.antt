@@ -1,8 +1,8 @@
 use Rattle.std.proofs.Common.{◌≡◌, ◌<◌, ◌≤◌, ℕ, length, true, false, slice_index_or}
-use Rattle.ff_net_links.specs.declared.ends.OutEnd.{OutEnd}
-use Rattle.ff_net_links.specs.Nodes.{Follows}
-use Rattle.ff_net_links.specs.Turns.{SendsOneAtMost, OutMoves, OutRests}
-use Rattle.ff_net_links.proofs.linked.Linked.pour_all.Given as goal
+use Rattle.ff_net_threads.specs.declared.links.ends.OutEnd.{OutEnd}
+use Rattle.ff_net_threads.specs.links.Nodes.{Follows}
+use Rattle.ff_net_threads.specs.links.Turns.{SendsOneAtMost, OutMoves, OutRests}
+use Rattle.ff_net_threads.proofs.links.linked.Linked.pour_all.Given as goal
 
 abbrev pub invariant-loop-q : goal.invariant-loop-q
 invariant-loop-q g l =

@@ -4,13 +4,13 @@ use Rattle.ff_net.proofs.Flows.{same_or_not}
 use Rattle.ff_net.proofs.Rounds.{or_true, or_false}
 use Rattle.ff_net.specs.declared.wires.Wires.{Wires}
 use Rattle.ff_net.specs.Worlds.{Stand}
-use Rattle.ff_net_links.specs.declared.ends.InEnd.{InEnd}
-use Rattle.ff_net_links.specs.declared.linked.Linked.{Linked}
-use Rattle.ff_net_links.specs.Ends.{in_end_at}
-use Rattle.ff_net_links.specs.Turns.{Shuts, InMoves, InRests}
-use Rattle.ff_net_links.proofs.Linking.{follows_self, follows_then, drawn, in_end_there, wired_after}
-use Rattle.ff_net_links.proofs.Turns.{in_other, in_each, shuts_self, in_rests_self}
-use Rattle.ff_net_links.proofs.linked.Linked.shut_ends.Goals as goal
+use Rattle.ff_net_threads.specs.declared.links.ends.InEnd.{InEnd}
+use Rattle.ff_net_threads.specs.declared.links.linked.Linked.{Linked}
+use Rattle.ff_net_threads.specs.links.Ends.{in_end_at}
+use Rattle.ff_net_threads.specs.links.Turns.{Shuts, InMoves, InRests}
+use Rattle.ff_net_threads.proofs.LinksLemmas.Linking.{follows_self, follows_then, drawn, in_end_there, wired_after}
+use Rattle.ff_net_threads.proofs.LinksLemmas.Turns.{in_other, in_each, shuts_self, in_rests_self}
+use Rattle.ff_net_threads.proofs.links.linked.Linked.shut_ends.Goals as goal
 
 pub shut_at-shut-requires-clause-wire : goal.shut_at-shut-requires-clause-wire
 shut_at-shut-requires-clause-wire g c =

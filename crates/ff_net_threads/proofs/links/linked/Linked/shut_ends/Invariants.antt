@@ -1,9 +1,9 @@
 use Rattle.std.proofs.Common.{◌≡◌, ◌<◌, ◌≤◌, ℕ, length, true, false, None}
 use Rattle.ff_net.specs.Worlds.{Wire, Stand}
-use Rattle.ff_net_links.specs.Ends.{in_end_at}
-use Rattle.ff_net_links.specs.Nodes.{Follows}
-use Rattle.ff_net_links.specs.Turns.{Shuts, InMoves, InRests}
-use Rattle.ff_net_links.proofs.linked.Linked.shut_ends.Given as goal
+use Rattle.ff_net_threads.specs.links.Ends.{in_end_at}
+use Rattle.ff_net_threads.specs.links.Nodes.{Follows}
+use Rattle.ff_net_threads.specs.links.Turns.{Shuts, InMoves, InRests}
+use Rattle.ff_net_threads.proofs.links.linked.Linked.shut_ends.Given as goal
 
 abbrev pub invariant-loop-p : goal.invariant-loop-p
 invariant-loop-p g l =

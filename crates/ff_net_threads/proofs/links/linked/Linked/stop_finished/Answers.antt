@@ -1,7 +1,7 @@
 use Rattle.std.proofs.Common.{refl}
 use Rattle.ff_net.proofs.Moments.{stepped_as}
-use Rattle.ff_net_links.proofs.Linking.{turned}
-use Rattle.ff_net_links.proofs.linked.Linked.stop_finished.Goals as goal
+use Rattle.ff_net_threads.proofs.LinksLemmas.Linking.{turned}
+use Rattle.ff_net_threads.proofs.links.linked.Linked.stop_finished.Goals as goal
 
 pub stop_finished-requires : goal.stop_finished-requires
 stop_finished-requires g c = record { shaped = c.requires.wired.shaped }

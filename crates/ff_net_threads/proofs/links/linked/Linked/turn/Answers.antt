@@ -1,5 +1,5 @@
 use Rattle.std.proofs.Common.{◌≡◌, ℕ, ◌<◌, ◌≤◌, ◌+◌, length, ◌||◌, inl, inr, true, slice_index_or, sym, ◌∙◌, ap, subst}
-use Rattle.ff_frame.specs.Ports.{IsClosed}
+use Rattle.ff_stream.specs.Ports.{IsClosed}
 use Rattle.ff_net.specs.declared.node.Node.{Node}
 use Rattle.ff_net.specs.Pasts.{Past}
 use Rattle.ff_net.specs.Worlds.{Wire}
@@ -10,11 +10,11 @@ use Rattle.ff_sched.specs.Passing.{Passing}
 use Rattle.ff_net.specs.Steps.{Moves, Stepped}
 use Rattle.ff_net.proofs.Changes.{true_not_false}
 use Rattle.ff_net.proofs.Rounds.{or_false}
-use Rattle.ff_net_links.specs.Ends.{in_end_at, taken_of}
-use Rattle.ff_net_links.specs.Turns.{InMoves, InRests, Shuts, SendsOneAtMost, OutMoves, OutRests}
-use Rattle.ff_net_links.proofs.Linking.{follows_then, lawful_after, of_after}
-use Rattle.ff_net_links.proofs.Turns.{takes_then, rests_then, shut_port, stop_port, after_stop, node_idle, moved_of}
-use Rattle.ff_net_links.proofs.linked.Linked.turn.Goals as goal
+use Rattle.ff_net_threads.specs.links.Ends.{in_end_at, taken_of}
+use Rattle.ff_net_threads.specs.links.Turns.{InMoves, InRests, Shuts, SendsOneAtMost, OutMoves, OutRests}
+use Rattle.ff_net_threads.proofs.LinksLemmas.Linking.{follows_then, lawful_after, of_after}
+use Rattle.ff_net_threads.proofs.LinksLemmas.Turns.{takes_then, rests_then, shut_port, stop_port, after_stop, node_idle, moved_of}
+use Rattle.ff_net_threads.proofs.links.linked.Linked.turn.Goals as goal
 
 pub turn_node-turned-requires-clause-lawful : goal.turn_node-turned-requires-clause-lawful
 turn_node-turned-requires-clause-lawful g c = lawful_after g.M.Machine.view c.args.self.now c.draw_if_free-drawn.new.self c.draw_if_free-drawn.ensures.follows c.requires.lawful

@@ -1,8 +1,8 @@
 use Rattle.std.proofs.Common.{refl, inl, inr}
 use Rattle.ff_net.proofs.Moments.{stepped_as}
-use Rattle.ff_net_links.proofs.Linking.{turned}
-use Rattle.ff_net_links.proofs.Turns.{node_moved_or}
-use Rattle.ff_net_links.proofs.linked.Linked.turn_node.Goals as goal
+use Rattle.ff_net_threads.proofs.LinksLemmas.Linking.{turned}
+use Rattle.ff_net_threads.proofs.LinksLemmas.Turns.{node_moved_or}
+use Rattle.ff_net_threads.proofs.links.linked.Linked.turn_node.Goals as goal
 
 pub returns-in-Moved-clause-follows : goal.returns-in-Moved-clause-follows
 returns-in-Moved-clause-follows g c = let view = g.M.Machine.view in turned view _ c.args.self.now _ refl refl c.turn.ensures.stepped

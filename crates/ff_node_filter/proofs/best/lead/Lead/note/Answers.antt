@@ -1,11 +1,11 @@
 use Rattle.std.proofs.Common.{◌≡◌, ◌∙◌, ◌++◌, List, ℕ, length, ap, sym, subst}
 use Rattle.std.specs.Prelude.{unwrap_or}
 use Rattle.ff_net.specs.Ways.{with_item_at}
-use Rattle.ff_best.specs.declared.input.Input.{Input}
-use Rattle.ff_best.specs.Bests.{turned}
-use Rattle.ff_best.specs.Inputs.{bases_of, kept_to, Keeps}
-use Rattle.ff_best.proofs.Noting.{tells_on}
-use Rattle.ff_best.proofs.lead.Lead.note.Goals as goal
+use Rattle.ff_node_filter.specs.declared.best.input.Input.{Input}
+use Rattle.ff_node_filter.specs.best.Bests.{turned}
+use Rattle.ff_node_filter.specs.best.Inputs.{bases_of, kept_to, Keeps}
+use Rattle.ff_node_filter.proofs.BestLemmas.Noting.{tells_on}
+use Rattle.ff_node_filter.proofs.best.lead.Lead.note.Goals as goal
 
 pub returns-clause-tells : goal.returns-clause-tells
 returns-clause-tells c = λ graph bases told feeds x e t.

@@ -1,9 +1,9 @@
 use Rattle.std.proofs.Common.{[], List, ap, sym, ◌∙◌}
-use Rattle.ff_values.specs.declared.event.Event.{Event}
+use Rattle.ff_frame.specs.declared.event.Event.{Event}
 use Rattle.ff_net.specs.Pasts.{Feed}
-use Rattle.ff_best.specs.Laws.{last_named}
-use Rattle.ff_best.proofs.Namings.{events_name}
-use Rattle.ff_best.proofs.leading.Leading.best.Goals as goal
+use Rattle.ff_node_filter.specs.best.Laws.{last_named}
+use Rattle.ff_node_filter.proofs.BestLemmas.Namings.{events_name}
+use Rattle.ff_node_filter.proofs.best.leading.Leading.best.Goals as goal
 
 pub returns : goal.returns
 returns g c = λ past s.

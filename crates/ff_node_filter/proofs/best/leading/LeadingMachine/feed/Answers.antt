@@ -1,7 +1,7 @@
-use Rattle.ff_best.specs.Views.{quiet}
-use Rattle.ff_best.proofs.Moving.{same_count}
-use Rattle.ff_best.proofs.Noting.{same_tells}
-use Rattle.ff_best.proofs.leading.LeadingMachine.feed.Goals as goal
+use Rattle.ff_node_filter.specs.best.Views.{quiet}
+use Rattle.ff_node_filter.proofs.BestLemmas.Moving.{same_count}
+use Rattle.ff_node_filter.proofs.BestLemmas.Noting.{same_tells}
+use Rattle.ff_node_filter.proofs.best.leading.LeadingMachine.feed.Goals as goal
 
 pub returns-in-Ok-clause-accepted : goal.returns-in-Ok-clause-accepted
 returns-in-Ok-clause-accepted g c = λ past s o fits.

@@ -1,5 +1,5 @@
-use Rattle.ff_best.specs.LeadLaws.{reads_nothing}
-use Rattle.ff_best.proofs.leading.LeadingMachine.next_event.Goals as goal
+use Rattle.ff_node_filter.specs.best.LeadLaws.{reads_nothing}
+use Rattle.ff_node_filter.proofs.best.leading.LeadingMachine.next_event.Goals as goal
 
 pub returns-clause-gives : goal.returns-clause-gives
 returns-clause-gives g c = λ e is past s.

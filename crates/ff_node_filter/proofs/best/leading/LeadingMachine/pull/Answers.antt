@@ -1,8 +1,8 @@
 use Rattle.std.proofs.Common.{refl}
 use Rattle.ff_net.specs.Pasts.{gave_item}
-use Rattle.ff_best.specs.Views.{quiet}
-use Rattle.ff_best.proofs.Moving.{moves}
-use Rattle.ff_best.proofs.leading.LeadingMachine.pull.Goals as goal
+use Rattle.ff_node_filter.specs.best.Views.{quiet}
+use Rattle.ff_node_filter.proofs.BestLemmas.Moving.{moves}
+use Rattle.ff_node_filter.proofs.best.leading.LeadingMachine.pull.Goals as goal
 
 pub returns-clause-gives : goal.returns-clause-gives
 returns-clause-gives g c = λ x e past s on.

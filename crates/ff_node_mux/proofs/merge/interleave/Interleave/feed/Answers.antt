@@ -1,11 +1,11 @@
 use Rattle.std.proofs.Common.{◌≡◌, ◌∙◌, sym, ap, List}
-use Rattle.ff_values.specs.declared.packet.Pkt.{Pkt}
+use Rattle.ff_frame.specs.declared.packet.Pkt.{Pkt}
 use Rattle.ff_filter.specs.declared.after.After.{After}
 use Rattle.ff_filter.specs.Made.{is_over}
-use Rattle.ff_interleave.specs.Queues.{Waiting, waiting_of}
-use Rattle.ff_interleave.proofs.Placing.{waiting_there, stream_there}
-use Rattle.ff_interleave.proofs.Giving.{fed_in, same_as}
-use Rattle.ff_interleave.proofs.interleave.Interleave.feed.Goals as goal
+use Rattle.ff_node_mux.specs.merge.Queues.{Waiting, waiting_of}
+use Rattle.ff_node_mux.proofs.MergeLemmas.Placing.{waiting_there, stream_there}
+use Rattle.ff_node_mux.proofs.MergeLemmas.Giving.{fed_in, same_as}
+use Rattle.ff_node_mux.proofs.merge.interleave.Interleave.feed.Goals as goal
 
 pub feed-requires : goal.feed-requires
 feed-requires c =

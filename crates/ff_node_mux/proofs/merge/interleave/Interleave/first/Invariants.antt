@@ -1,5 +1,5 @@
-use Rattle.ff_interleave.specs.Fronts.{IsFirst}
-use Rattle.ff_interleave.proofs.interleave.Interleave.first.Given as goal
+use Rattle.ff_node_mux.specs.merge.Fronts.{IsFirst}
+use Rattle.ff_node_mux.proofs.merge.interleave.Interleave.first.Given as goal
 
 abbrev pub invariant-streams : goal.invariant-streams
 invariant-streams l = IsFirst l.self.queues.items l.p l.first

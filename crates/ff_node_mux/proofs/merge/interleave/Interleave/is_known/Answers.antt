@@ -1,6 +1,6 @@
 use Rattle.std.proofs.Common.{sym, arith, length}
-use Rattle.ff_interleave.proofs.Placing.{known_fails, known_more}
-use Rattle.ff_interleave.proofs.interleave.Interleave.is_known.Goals as goal
+use Rattle.ff_node_mux.proofs.MergeLemmas.Placing.{known_fails, known_more}
+use Rattle.ff_node_mux.proofs.merge.interleave.Interleave.is_known.Goals as goal
 
 pub returns-then-is_bare : goal.returns-then-is_bare
 returns-then-is_bare c =

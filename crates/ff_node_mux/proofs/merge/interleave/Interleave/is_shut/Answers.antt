@@ -1,8 +1,8 @@
 use Rattle.std.proofs.Common.{◌∙◌, sym, ap}
 use Rattle.ff_filter.specs.Made.{is_over}
-use Rattle.ff_interleave.specs.Queues.{Waiting}
-use Rattle.ff_interleave.proofs.Placing.{waiting_there, stream_there}
-use Rattle.ff_interleave.proofs.interleave.Interleave.is_shut.Goals as goal
+use Rattle.ff_node_mux.specs.merge.Queues.{Waiting}
+use Rattle.ff_node_mux.proofs.MergeLemmas.Placing.{waiting_there, stream_there}
+use Rattle.ff_node_mux.proofs.merge.interleave.Interleave.is_shut.Goals as goal
 
 pub returns : goal.returns
 returns c =

@@ -1,13 +1,13 @@
 use Rattle.std.proofs.Common.{◌≡◌, ◌+◌, ◌<◌, ◌∙◌, ◌++◌, ◌∷◌, [], suc, sym, ap, subst, arith, length, take, List}
 use Rattle.std.proofs.Math.Seq.{take-suc}
 use Rattle.ff_time.specs.Fraction.{Fraction}
-use Rattle.ff_interleave.specs.declared.queue.PacketQueue.{PacketQueue}
-use Rattle.ff_values.specs.declared.packet.Pkt.{Pkt}
+use Rattle.ff_node_mux.specs.declared.merge.queue.PacketQueue.{PacketQueue}
+use Rattle.ff_frame.specs.declared.packet.Pkt.{Pkt}
 use Rattle.ff_filter.specs.declared.after.After.{After}
-use Rattle.ff_interleave.specs.Queues.{Waiting, waiting_of, no_packets}
-use Rattle.ff_interleave.specs.Fronts.{AreNew}
-use Rattle.ff_interleave.proofs.Placing.{new_more}
-use Rattle.ff_interleave.proofs.interleave.Interleave.new.Goals as goal
+use Rattle.ff_node_mux.specs.merge.Queues.{Waiting, waiting_of, no_packets}
+use Rattle.ff_node_mux.specs.merge.Fronts.{AreNew}
+use Rattle.ff_node_mux.proofs.MergeLemmas.Placing.{new_more}
+use Rattle.ff_node_mux.proofs.merge.interleave.Interleave.new.Goals as goal
 
 pub streams-preserved : goal.streams-preserved
 streams-preserved c =

@@ -1,6 +1,6 @@
 use Rattle.std.proofs.Common.{take}
-use Rattle.ff_interleave.specs.Fronts.{AreNew}
-use Rattle.ff_interleave.proofs.interleave.Interleave.new.Given as goal
+use Rattle.ff_node_mux.specs.merge.Fronts.{AreNew}
+use Rattle.ff_node_mux.proofs.merge.interleave.Interleave.new.Given as goal
 
 abbrev pub invariant-streams : goal.invariant-streams
 invariant-streams l = AreNew (take l.p l.tbs.items) l.queues.items

@@ -1,11 +1,11 @@
 use Rattle.std.proofs.Common.{◌≡◌, ◌∙◌, ◌∷◌, drop, set, sym, ap, subst, arith, refl, length, List}
-use Rattle.ff_values.specs.declared.packet.Pkt.{Pkt}
-use Rattle.ff_interleave.specs.declared.queue.PacketQueue.{PacketQueue}
-use Rattle.ff_interleave.specs.Merges.{Placed}
-use Rattle.ff_interleave.specs.Queues.{Waiting, merging, Gave}
-use Rattle.ff_interleave.proofs.Placing.{waiting_there}
-use Rattle.ff_interleave.proofs.Giving.{gave, waits_unknown, waits_empty}
-use Rattle.ff_interleave.proofs.interleave.Interleave.pull.Goals as goal
+use Rattle.ff_frame.specs.declared.packet.Pkt.{Pkt}
+use Rattle.ff_node_mux.specs.declared.merge.queue.PacketQueue.{PacketQueue}
+use Rattle.ff_node_mux.specs.merge.Merges.{Placed}
+use Rattle.ff_node_mux.specs.merge.Queues.{Waiting, merging, Gave}
+use Rattle.ff_node_mux.proofs.MergeLemmas.Placing.{waiting_there}
+use Rattle.ff_node_mux.proofs.MergeLemmas.Giving.{gave, waits_unknown, waits_empty}
+use Rattle.ff_node_mux.proofs.merge.interleave.Interleave.pull.Goals as goal
 
 pub returns-then-not-is_known-clause-waits : goal.returns-then-not-is_known-clause-waits
 returns-then-not-is_known-clause-waits c e = waits_unknown c.args.self.now.queues.items (sym c.is_known.ensures ∙ c.if-not-is_known.true)

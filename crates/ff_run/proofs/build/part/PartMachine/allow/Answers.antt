@@ -1,13 +1,13 @@
-use Rattle.ff_demuxing.specs.Demuxers.{demux_stands}
+use Rattle.ff_node_demux.specs.Demuxers.{demux_stands}
 use Rattle.std.specs.Prelude.{◌≡◌}
 use Rattle.std.specs.Option.{IfSome}
 use Rattle.std.proofs.Common.{subst, sym}
-use Rattle.ff_muxing.specs.Muxers.{mux_stands}
+use Rattle.ff_node_mux.specs.Muxers.{mux_stands}
 use Rattle.ff_net.specs.Pasts.{Past}
-use Rattle.ff_build.specs.declared.part.Part.{Part}
-use Rattle.ff_build.specs.PartViews.{part_view}
-use Rattle.ff_build.specs.Throughs.{through_shown}
-use Rattle.ff_build.proofs.part.PartMachine.allow.Goals as goal
+use Rattle.ff_run.specs.declared.build.part.Part.{Part}
+use Rattle.ff_run.specs.build.PartViews.{part_view}
+use Rattle.ff_run.specs.build.Throughs.{through_shown}
+use Rattle.ff_run.proofs.build.part.PartMachine.allow.Goals as goal
 
 pub returns-in-Mux-clause-back : goal.returns-in-Mux-clause-back
 returns-in-Mux-clause-back g c =

@@ -1,4 +1,4 @@
-use Rattle.ff_build.proofs.part.PartMachine.next_event.Goals as goal
+use Rattle.ff_run.proofs.build.part.PartMachine.next_event.Goals as goal
 
 pub returns-in-Demux-clause-gives : goal.returns-in-Demux-clause-gives
 returns-in-Demux-clause-gives g c e is past s = let h = c.next_event.ensures.gives e is past (rw c.in-Demux.is at s) in (h.0, λ r. h.1 (rw c.in-Demux.is at r))

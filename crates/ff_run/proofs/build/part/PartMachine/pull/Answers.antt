@@ -1,11 +1,11 @@
-use Rattle.ff_build.specs.PartViews.{part_view}
-use Rattle.ff_build.specs.declared.part.Part.{Part}
+use Rattle.ff_run.specs.build.PartViews.{part_view}
+use Rattle.ff_run.specs.declared.build.part.Part.{Part}
 use Rattle.ff_net.specs.Pasts.{Past}
 use Rattle.std.proofs.Common.{subst, sym}
 use Rattle.std.specs.Result.{OnErr}
-use Rattle.ff_demuxing.specs.Demuxers.{demux_stands}
-use Rattle.ff_build.specs.Throughs.{through_shown}
-use Rattle.ff_build.proofs.part.PartMachine.pull.Goals as goal
+use Rattle.ff_node_demux.specs.Demuxers.{demux_stands}
+use Rattle.ff_run.specs.build.Throughs.{through_shown}
+use Rattle.ff_run.proofs.build.part.PartMachine.pull.Goals as goal
 
 pub returns-in-Demux-clause-gives : goal.returns-in-Demux-clause-gives
 returns-in-Demux-clause-gives g c x is past s stopped = c.pull.ensures.gives x is past (rw c.in-Demux.is at s) stopped

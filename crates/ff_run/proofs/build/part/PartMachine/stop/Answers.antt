@@ -1,4 +1,4 @@
-use Rattle.ff_build.proofs.part.PartMachine.stop.Goals as goal
+use Rattle.ff_run.proofs.build.part.PartMachine.stop.Goals as goal
 
 pub returns-in-Demux-clause-stopped : goal.returns-in-Demux-clause-stopped
 returns-in-Demux-clause-stopped g c past s = c.stop.ensures.stopped past (rw c.in-Demux.is at s)

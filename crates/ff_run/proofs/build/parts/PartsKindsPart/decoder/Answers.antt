@@ -1,12 +1,12 @@
 use Rattle.std.specs.Prelude.{Option}
 use Rattle.std.proofs.Common.{subst}
-use Rattle.ff_coders.specs.AnyCoders.{any_head, any_frame}
-use Rattle.ff_coding.specs.Coders.{dec_stands}
-use Rattle.ff_coding.specs.Decoding.{dec_task}
-use Rattle.ff_frame.specs.declared.item.Item.{Item}
+use Rattle.ff_node_codec.specs.codecs.AnyCoders.{any_head, any_frame}
+use Rattle.ff_node_codec.specs.Coders.{dec_stands}
+use Rattle.ff_node_codec.specs.Decoding.{dec_task}
+use Rattle.ff_stream.specs.declared.item.Item.{Item}
 use Rattle.ff_net.specs.Pasts.{start}
-use Rattle.ff_values.specs.declared.packet.Pkt.{Pkt}
-use Rattle.ff_build.proofs.parts.PartsKindsPart.decoder.Goals as goal
+use Rattle.ff_frame.specs.declared.packet.Pkt.{Pkt}
+use Rattle.ff_run.proofs.build.parts.PartsKindsPart.decoder.Goals as goal
 
 pub returns-clause-starts : goal.returns-clause-starts
 returns-clause-starts g c =

@@ -1,15 +1,15 @@
 use Rattle.std.proofs.Common.{◌≡◌, None, List, map, refl, sym, ap, ◌∙◌}
-use Rattle.ff_frame.specs.declared.item.Lane.{Lane}
-use Rattle.ff_frame.specs.declared.item.Lane.TheVariants.{Frames}
-use Rattle.ff_values.specs.declared.head.StreamHead.{StreamHead}
-use Rattle.ff_composed.specs.Cuts.{graph_outs, graph_task}
+use Rattle.ff_stream.specs.declared.item.Lane.{Lane}
+use Rattle.ff_stream.specs.declared.item.Lane.TheVariants.{Frames}
+use Rattle.ff_frame.specs.declared.head.StreamHead.{StreamHead}
+use Rattle.ff_graph.specs.composed.Cuts.{graph_outs, graph_task}
 use Rattle.ff_net.specs.Pasts.{start}
 use Rattle.ff_net.specs.Views.{View}
-use Rattle.ff_running.specs.Kinds.{IsNew}
-use Rattle.ff_build.specs.Graphs.{are_timed}
-use Rattle.ff_build.specs.Parts.{told_graph}
-use Rattle.ff_build.proofs.Leads.{shown_as, two_steps}
-use Rattle.ff_build.proofs.parts.PartsKindsPart.graph.Goals as goal
+use Rattle.ff_run_plan.specs.Kinds.{IsNew}
+use Rattle.ff_run.specs.build.Graphs.{are_timed}
+use Rattle.ff_run.specs.build.Parts.{told_graph}
+use Rattle.ff_run.proofs.BuildLemmas.Leads.{shown_as, two_steps}
+use Rattle.ff_run.proofs.build.parts.PartsKindsPart.graph.Goals as goal
 
 pub returns-in-Some-clause-new : goal.returns-in-Some-clause-new
 returns-in-Some-clause-new g c = λ made can.

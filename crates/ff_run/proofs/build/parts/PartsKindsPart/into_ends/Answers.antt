@@ -1,23 +1,23 @@
 use Rattle.std.specs.Prelude.{◌≡◌, ◌+◌, ◌<◌, ◌≤◌, ℕ, zero, suc, List, [], ◌∷◌, length, Option, IsSome, replicate}
 use Rattle.std.proofs.Common.{ap, arith, inl, inr, subst, sym, ◌∙◌}
-use Rattle.ff_coders.specs.AnyCoders.{any_head, any_coded}
-use Rattle.ff_flac_coder.specs.Coding.{coded_head}
-use Rattle.ff_frame.specs.declared.item.Lane.{Lane}
-use Rattle.ff_frame.specs.declared.item.Lane.TheVariants.{Frames, Packets}
-use Rattle.ff_frame.specs.Ports.{stream_at}
-use Rattle.ff_muxing.specs.Held.{part_by}
-use Rattle.ff_muxing.specs.Mixing.{bases_long}
-use Rattle.ff_muxing.specs.Muxing.{head_bases, head_lanes}
-use Rattle.ff_muxing.specs.Outputs.{layout_of}
-use Rattle.ff_muxing.specs.StreamEvents.{stream_events}
+use Rattle.ff_node_codec.specs.codecs.AnyCoders.{any_head, any_coded}
+use Rattle.ff_node_flac.specs.Coding.{coded_head}
+use Rattle.ff_stream.specs.declared.item.Lane.{Lane}
+use Rattle.ff_stream.specs.declared.item.Lane.TheVariants.{Frames, Packets}
+use Rattle.ff_stream.specs.Ports.{stream_at}
+use Rattle.ff_node_mux.specs.Held.{part_by}
+use Rattle.ff_node_mux.specs.Mixing.{bases_long}
+use Rattle.ff_node_mux.specs.Muxing.{head_bases, head_lanes}
+use Rattle.ff_node_mux.specs.Outputs.{layout_of}
+use Rattle.ff_node_mux.specs.StreamEvents.{stream_events}
 use Rattle.ff_time.specs.Fraction.{Fraction}
-use Rattle.ff_values.specs.declared.head.StreamHead.{StreamHead}
-use Rattle.ff_running.specs.Kinds.{IsSourceOf, IsSinkOf}
-use Rattle.ff_build.specs.declared.part.Part.{Part}
-use Rattle.ff_build.specs.Parts.{all_kinds}
-use Rattle.ff_build.specs.PartViews.{part_view}
-use Rattle.ff_build.proofs.Sinks.{file_first, head_there, same_events, text_first}
-use Rattle.ff_build.proofs.parts.PartsKindsPart.into_ends.Goals as goal
+use Rattle.ff_frame.specs.declared.head.StreamHead.{StreamHead}
+use Rattle.ff_run_plan.specs.Kinds.{IsSourceOf, IsSinkOf}
+use Rattle.ff_run.specs.declared.build.part.Part.{Part}
+use Rattle.ff_run.specs.build.Parts.{all_kinds}
+use Rattle.ff_run.specs.build.PartViews.{part_view}
+use Rattle.ff_run.proofs.BuildLemmas.Sinks.{file_first, head_there, same_events, text_first}
+use Rattle.ff_run.proofs.build.parts.PartsKindsPart.into_ends.Goals as goal
 
 one_lane : (x : Lane) → (x ∷ []) ≡ [] → ⊥
 one_lane x e = cc

@@ -1,5 +1,5 @@
 use Rattle.std.proofs.Common.{refl, ap}
-use Rattle.ff_build.proofs.parts.PartsKindsPart.muxer.Goals as goal
+use Rattle.ff_run.proofs.build.parts.PartsKindsPart.muxer.Goals as goal
 
 pub returns-in-Ok-new-clause-new : goal.returns-in-Ok-new-clause-new
 returns-in-Ok-new-clause-new g c =

@@ -1,0 +1,2 @@
+mod HeadsLemmas
+pub mod PacketsLemmas

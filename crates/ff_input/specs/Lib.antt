@@ -1,0 +1,2 @@
+pub mod heads
+pub mod packets
