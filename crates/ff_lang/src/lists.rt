@@ -35,13 +35,6 @@ impl Text {
         Text { string }
     }
 
-    /// The `String`, given back.
-    pub fn into_string(self) -> String
-        ensures { string_bytes result ≡ self }
-    {
-        self.string
-    }
-
     /// The text itself.
     pub fn as_str(&self) -> &str
         ensures { result.now ≡ self.now }

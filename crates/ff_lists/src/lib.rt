@@ -5,7 +5,5 @@
 #![tactic(auto)]
 
 mod slices;
-mod text;
 
-pub use slices::{from_place, front, u32_at};
-pub use text::push_right;
+pub use slices::{from_place, front};
