@@ -1,17 +1,11 @@
--- The text of a framehash file with SHA-256 digests (ffmpeg's framehash muxer, version 2; FIPS 180-4).
-use Rattle.std.specs.Prelude.{ℕ, ◌==◌, ◌&&◌, if◌then◌else◌, List, ◌++◌, length, codes, decimal, Option, Some, None}
-use Rattle.std.specs.Fmt.{signed_decimal}
-use Rattle.std.specs.List.{flat_map}
-use Rattle.sha2.specs.Sha256.{sha256}
-use Rattle.hex.specs.Hex.{encode_lower}
+-- The lines on a stream in a framehash file, and its columns (ffmpeg's framehash muxer, version 2).
+use Rattle.std.specs.Prelude.{ℕ, ◌==◌, ◌&&◌, if◌then◌else◌, List, ◌++◌, codes, decimal}
 use Rattle.ff_lists.specs.Text.{right, line}
 use Rattle.ff_time.specs.Fraction.{Fraction}
-use Rattle.ff_frame.specs.declared.packet.Pkt.{Pkt}
 use Rattle.ff_frame.specs.declared.head.Codec.{Codec}
 use Rattle.ff_frame.specs.declared.head.Codec.TheVariants.{PcmU8, PcmS16le, PcmS24le, PcmS32le, Flac, RawVideo}
 use Rattle.ff_frame.specs.declared.head.StreamHead.{StreamHead}
 use Rattle.ff_frame.specs.declared.head.StreamHead.TheVariants.{Audio, Video}
-use Rattle.ff_stream.specs.Stream.{Stream, Mark, still_open, whole, broken}
 
 abbrev pub codec_name : Codec → List ℕ
 codec_name PcmU8 = codes "pcm_u8"
@@ -58,41 +52,10 @@ stream_lines i (Video tb format width height sar_num sar_den) =
     ++ about (codes "dimensions") i (size_name width height)
     ++ about (codes "sar") i (aspect_name sar_num sar_den)
 
--- the lines before those on the streams
-unfoldable pub first_lines : List ℕ
-first_lines = line (codes "#format: frame checksums") ++ line (codes "#version: 2") ++ line (codes "#hash: SHA256")
-
--- the line behind those on the streams, over the columns of the packets
+-- the line after those on the streams, over the columns of the packets
 unfoldable pub columns : List ℕ
 columns = line (codes "#stream#, dts,        pts, duration,     size, hash")
-
--- the lines before those of the packets, for one stream
-unfoldable pub header : StreamHead → List ℕ
-header head = first_lines ++ stream_lines 0 head ++ columns
 
 -- a further column of a packet's line, with a text at its right
 unfoldable pub column : ℕ → List ℕ → List ℕ
 column width text = codes ", " ++ right width text
-
--- the digest of some bytes as a text
-unfoldable pub digest_text : List ℕ → List ℕ
-digest_text bytes = encode_lower (sha256 bytes)
-
--- the line of a packet of stream i: dts, pts, duration and size in their columns, and the digest of its bytes
-unfoldable pub packet_line : ℕ → Pkt → List ℕ
-packet_line i p = line (decimal i ++ column 10 (signed_decimal p.dts) ++ column 10 (signed_decimal p.pts)
-    ++ column 8 (signed_decimal p.duration) ++ column 8 (decimal (length p.bytes)) ++ codes ", " ++ digest_text p.bytes)
-
--- what is written of one stream so far
-abbrev pub written : StreamHead → List Pkt → List ℕ
-written head packets = header head ++ flat_map (packet_line 0) packets
-
--- a text that is a file only where what it was written of is whole
-abbrev pub once_whole : Mark → List ℕ → Option (List ℕ)
-once_whole whole text = Some text
-once_whole still_open text = None
-once_whole broken text = None
-
--- the file of one stream
-abbrev pub file : StreamHead → Stream Pkt → Option (List ℕ)
-file head packets = once_whole packets.mark (written head packets.items)

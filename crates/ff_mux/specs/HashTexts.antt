@@ -1,6 +1,7 @@
 -- The text of a framehash file of any number of streams, with either digest (ffmpeg's framehash muxer, version 2; FIPS 180-4, RFC 1321).
 use Rattle.std.specs.Prelude.{ℕ, ◌+◌, List, [], ◌∷◌, ◌++◌, length, codes, decimal}
 use Rattle.std.specs.Fmt.{signed_decimal}
+use Rattle.std.specs.List.{flat_map}
 use Rattle.sha2.specs.Sha256.{sha256}
 use Rattle.md5.specs.Md5.{md5}
 use Rattle.hex.specs.Hex.{encode_lower}
@@ -38,3 +39,7 @@ text_before kind heads = first_by kind ++ streams_from 0 heads ++ columns
 unfoldable pub line_by : HashKind → ℕ → Pkt → List ℕ
 line_by kind i p = line (decimal i ++ column 10 (signed_decimal p.dts) ++ column 10 (signed_decimal p.pts)
     ++ column 8 (signed_decimal p.duration) ++ column 8 (decimal (length p.bytes)) ++ codes ", " ++ digest_by kind p.bytes)
+
+-- the text of packets, each with the number of its stream, in the order in which they are written
+abbrev pub hash_text : HashKind → List StreamHead → List (ℕ × Pkt) → List ℕ
+hash_text kind heads packets = text_before kind heads ++ flat_map (λ p. line_by kind p.0 p.1) packets

@@ -1,10 +1,9 @@
 //! What is written to files that hold packets or tell of them: the texts and headers, as pure functions.
 //!
 //! [`HashPut`] gives the text of a framehash file, in the pieces in which it is written: the lines before the packets, and a line for
-//! each packet; `specs/HashTexts` has them, for any number of streams and either digest, and `specs/FrameHash` the text of one stream
-//! with SHA-256 as a whole.
+//! each packet. `specs/HashTexts` has them, for any number of streams and either digest.
 //!
-//! `writers`: What an output's format writes: its bytes around the packets and of each, as pure state.
+//! `writers` has what an output's format writes: its bytes around the packets and of each, as pure state.
 #![tactic(auto)]
 
 mod digest;

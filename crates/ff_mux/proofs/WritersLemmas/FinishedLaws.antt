@@ -4,16 +4,13 @@ use Rattle.std.specs.Prelude.{map, nat_le, ◌-◌, ◌%◌}
 use Rattle.std.specs.List.{flat_map}
 use Rattle.std.proofs.lemmas.Bool.Decides.{nat_tests}
 use Rattle.ff_host.specs.Files.{patched}
-use Rattle.ff_frame.specs.declared.hash.HashKind.TheVariants.{Sha256}
 use Rattle.ff_frame.specs.declared.packet.Pkt.{Pkt}
 use Rattle.ff_frame.specs.declared.head.StreamHead.{StreamHead}
 use Rattle.ff_wav.specs.Header.{header, header_of, header_len, longest}
 use Rattle.ff_wav.specs.Written.{pad_of, file_of}
 use Rattle.ff_y4m.specs.Header as y4m
 use Rattle.ff_mux.specs.FlacHead.{before_info, info_of, flac_start, unknown}
-use Rattle.ff_mux.specs.FrameHash as hash
-use Rattle.ff_mux.specs.HashTexts.{text_before, line_by}
-use Rattle.ff_mux.proofs.HashLaws.{header_same, line_same}
+use Rattle.ff_mux.specs.HashTexts.{hash_text}
 use Rattle.ff_mux.specs.writers.Finished.{bytes_in, WavsAreFiles, FlacsAreStreams, PicturesAreFiles, HashesAreTexts}
 use Rattle.ff_mux.specs.writers.InsideLaws.{same_length, as_long}
 
@@ -60,11 +57,5 @@ pub pictures_are_files : PicturesAreFiles
 pictures_are_files head totals packets =
     ap Some (append-nil (y4m.header head ++ flat_map (λ (p : ℕ × Pkt). y4m.frame_line ++ p.1.bytes) packets) ∙ ap (λ xs. y4m.header head ++ xs) (frames_of packets))
 
-lines_of : (packets : List Pkt) → flat_map (λ (p : ℕ × Pkt). line_by Sha256 p.0 p.1) (map (λ p. (0, p)) packets) ≡ flat_map (hash.packet_line 0) packets
-lines_of [] = refl
-lines_of (p ∷ packets) = ap (λ xs. xs ++ flat_map (λ (q : ℕ × Pkt). line_by Sha256 q.0 q.1) (map (λ q. (0, q)) packets)) (line_same 0 p) ∙ ap (λ xs. hash.packet_line 0 p ++ xs) (lines_of packets)
-
 pub hashes_are_texts : HashesAreTexts
-hashes_are_texts head totals packets =
-    ap Some (append-nil (text_before Sha256 (head ∷ []) ++ flat_map (λ (p : ℕ × Pkt). line_by Sha256 p.0 p.1) (map (λ p. (0, p)) packets))
-    ∙ (ap (λ xs. xs ++ flat_map (λ (p : ℕ × Pkt). line_by Sha256 p.0 p.1) (map (λ p. (0, p)) packets)) (header_same head) ∙ ap (λ xs. hash.header head ++ xs) (lines_of packets)))
+hashes_are_texts kind heads totals packets = ap Some (append-nil (hash_text kind heads packets))

@@ -1,7 +1,7 @@
 -- The finished files of the formats, by the formats' own definitions.
-use Rattle.std.specs.Prelude.{◌≡◌, ℕ, ◌≤◌, List, [], ◌∷◌, ◌++◌, map, length, Option, Some, IfSome, unwrap_or}
+use Rattle.std.specs.Prelude.{◌≡◌, ℕ, ◌≤◌, List, ◌++◌, map, length, Option, Some, IfSome, unwrap_or}
 use Rattle.std.specs.List.{flat_map}
-use Rattle.ff_frame.specs.declared.hash.HashKind.TheVariants.{Sha256}
+use Rattle.ff_frame.specs.declared.hash.HashKind.{HashKind}
 use Rattle.ff_frame.specs.declared.packet.Pkt.{Pkt}
 use Rattle.ff_frame.specs.declared.totals.Totals.{Totals}
 use Rattle.ff_frame.specs.declared.head.StreamHead.{StreamHead}
@@ -9,11 +9,11 @@ use Rattle.ff_wav.specs.Header.{longest}
 use Rattle.ff_wav.specs.Written.{file_of}
 use Rattle.ff_y4m.specs.Header as y4m
 use Rattle.ff_mux.specs.FlacHead as flac
-use Rattle.ff_mux.specs.FrameHash as hash
+use Rattle.ff_mux.specs.HashTexts.{hash_text}
 use Rattle.ff_mux.specs.writers.Layouts.{finished}
 use Rattle.ff_mux.specs.writers.Formats.{wav_layout, flac_layout, y4m_layout, hash_layout}
 
--- the bytes of packets one behind the other
+-- the bytes of packets one after another
 abbrev pub bytes_in : List (ℕ × Pkt) → List ℕ
 bytes_in packets = flat_map (λ p. p.1.bytes) packets
 
@@ -34,5 +34,5 @@ PicturesAreFiles = (head : StreamHead) (totals : Option Totals) (packets : List 
     → finished (y4m_layout head) totals packets ≡ Some (y4m.written head (map (λ p. p.1) packets))
 
 abbrev pub HashesAreTexts : Type 0
-HashesAreTexts = (head : StreamHead) (totals : Option Totals) (packets : List Pkt)
-    → finished (hash_layout Sha256 (head ∷ [])) totals (map (λ p. (0, p)) packets) ≡ Some (hash.written head packets)
+HashesAreTexts = (kind : HashKind) (heads : List StreamHead) (totals : Option Totals) (packets : List (ℕ × Pkt))
+    → finished (hash_layout kind heads) totals packets ≡ Some (hash_text kind heads packets)

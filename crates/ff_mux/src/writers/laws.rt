@@ -16,7 +16,7 @@ pub fn finished_pictures_are_yuv4mpeg2()
     ensures { PicturesAreFiles }
 {}
 
-/// The finished text of one stream with SHA-256 is its header and the lines of the packets.
+/// The finished text of packets is the lines on their streams and a line of each packet, with either digest.
 pub fn finished_hashes_are_texts()
     ensures { HashesAreTexts }
 {}
