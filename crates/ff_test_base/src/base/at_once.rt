@@ -6,28 +6,30 @@ use ff_flac_enc::{Gate, NoGate, encode_blocks};
 use ff_frame::{AFrame, Bytes, Samples};
 use ff_pcm::is_audio;
 use std::alloc::{AllocError, Global};
-use std::sync::atomic::{AtomicBool, Ordering};
+use std::sync::atomic::{AtomicBool, AtomicU32, Ordering};
 use std::test::Fail;
 use std::thread;
 use std::thread::Threads;
 
 const TURNS: u32 = 10_000_000;
 
-// Holds call 0 until call 1 has entered, for so many turns, and then tells of a failure.
+// Counts the calls that enter. It holds call 0 until another has entered, for so many turns, and then tells of a failure.
 #[derive(Drop)]
 struct Meeting {
-    entered: AtomicBool,
+    first: AtomicU32,
+    others: AtomicU32,
     failed: AtomicBool,
 }
 
 impl Gate for Meeting {
     fn enter(&self, i: usize) {
         if i != 0 {
-            self.entered.store(true, Ordering::SeqCst);
+            self.others.fetch_add(1, Ordering::SeqCst);
             return;
         }
+        self.first.fetch_add(1, Ordering::SeqCst);
         for _ in 0..TURNS {
-            if self.entered.load(Ordering::SeqCst) {
+            if self.others.load(Ordering::SeqCst) != 0 {
                 return;
             }
             thread::yield_now();
@@ -86,11 +88,14 @@ fn at_once(rt: HostRuntime) -> Result<(), Fail> {
 #[test]
 fn two_blocks_meet(rt: HostRuntime) -> Result<(), Fail> {
     let gate = Meeting {
-        entered: AtomicBool::new(false),
+        first: AtomicU32::new(0),
+        others: AtomicU32::new(0),
         failed: AtomicBool::new(false),
     };
     let codes = both_of(&rt, rt.alloc(), &gate)?;
     assert_eq!(rt; codes.len(), 2);
     assert!(rt; !gate.failed.load(Ordering::SeqCst));
+    assert_eq!(rt; gate.first.load(Ordering::SeqCst), 1);
+    assert_eq!(rt; gate.others.load(Ordering::SeqCst), 1);
     Ok(())
 }
