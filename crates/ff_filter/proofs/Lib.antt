@@ -1,4 +1,3 @@
-pub mod Chaining
 pub mod Configuring
 pub mod Moves
 pub mod Parts

@@ -1,11 +1,10 @@
 -- Items of a stream with some left out.
-use Rattle.std.proofs.Common.{◌≡◌, ℕ, zero, suc, ◌<◌, ◌⊎◌, inl, inr, Bool, true, false, not, List, [], ◌∷◌, length, refl, sym, ap, ◌∙◌, subst, arith, All, ℤ, pos, negsuc, ◌<ℤ◌, ◌≤ℤ◌}
-use Rattle.std.specs.Int.Signed.{<ℤ-≤ℤ_trans, clash_ℤ, lt_z, lt_z_yes, lt_z_no}
+use Rattle.std.proofs.Common.{◌≡◌, zero, suc, ◌⊎◌, inl, inr, List, [], ◌∷◌, sym, subst, arith, All, ℤ, ◌<ℤ◌, ◌≤ℤ◌}
 use Rattle.ff_frame.specs.declared.head.StreamHead.{StreamHead}
 use Rattle.ff_frame.specs.declared.head.StreamHead.TheVariants.{Audio as AudioHead, Video as VideoHead}
 use Rattle.ff_stream.specs.declared.item.Item.{Item}
 use Rattle.ff_stream.specs.declared.item.Lane.{Lane}
-use Rattle.ff_stream.specs.Times.{HasTime, start_of, end_of}
+use Rattle.ff_stream.specs.Times.{end_of}
 use Rattle.ff_stream.specs.Lanes.{head_of, StartsAfter, Follows, InOrder, IsItemFor, AreInShape}
 
 -- ys are items of xs in their order

@@ -1,8 +1,6 @@
-pub mod ChainLaws
-pub mod Chains
+pub mod Held
 pub mod Inlets
 pub mod Joins
-pub mod Joint
 pub mod LimitLaws
 pub mod Limits
 pub mod Made

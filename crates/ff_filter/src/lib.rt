@@ -13,7 +13,6 @@
 #![tactic(auto)]
 
 mod after;
-mod chain;
 mod filter;
 mod inlet;
 mod laws;
@@ -30,7 +29,6 @@ mod step;
 mod stepper;
 
 pub use after::{After, closing_of, discard};
-pub use chain::Chain;
 pub use filter::Filter;
 pub use inlet::{Inlet, Next};
 pub use laws::shared_functions_are_sound;

@@ -104,6 +104,7 @@ impl Outlet {
     /// It isn't wanted any more.
     pub fn stop(&mut self)
         ensures stopped { self.new.stopped ≡ true }
+        ensures cleared { self.new.queue.items ≡ [] }
         ensures ended { self.new.ended ≡ self.old.ended }
     {
         self.stopped = true;

@@ -56,6 +56,7 @@ impl<T: Step> Stepper<T> {
     fn step_on(&mut self, item: Item) -> Result<(), Refused>
         requires goes_on { closes item ≡ false }
         requires unshut { self.old.shut ≡ false }
+        ensures idle { self.old.outlet.stopped ≡ true → self.new.step ≡ self.old.step }
         ensures fed { OnOk result (Fed (stepper_view (T.lane_in self.old.step) (T.lane_out self.old.step) (T.runs self.old.step) self.old.outlet.queue.items self.old.outlet.ended self.old.outlet.stopped self.old.after self.old.shut) (stepper_view (T.lane_in self.new.step) (T.lane_out self.new.step) (T.runs self.new.step) self.new.outlet.queue.items self.new.outlet.ended self.new.outlet.stopped self.new.after self.new.shut) 0 item) }
         ensures refused { IfErr result (λ r. r.item ≡ item) }
         ensures unchanged { OnErr result (Same (stepper_view (T.lane_in self.old.step) (T.lane_out self.old.step) (T.runs self.old.step) self.old.outlet.queue.items self.old.outlet.ended self.old.outlet.stopped self.old.after self.old.shut) (stepper_view (T.lane_in self.new.step) (T.lane_out self.new.step) (T.runs self.new.step) self.new.outlet.queue.items self.new.outlet.ended self.new.outlet.stopped self.new.after self.new.shut)) }

@@ -9,7 +9,7 @@ use Rattle.ff_filter.specs.Joins.{Flow}
 use Rattle.ff_net.specs.Nets.{put_all}
 use Rattle.ff_filter.specs.Joins.{Ports, before, before_if, before_at}
 use Rattle.ff_filter.specs.Views.{View, Same, Fed, Gave, closes}
-use Rattle.ff_filter.specs.Chains.{after_held, held_closes}
+use Rattle.ff_filter.specs.Held.{after_held, held_closes}
 use Rattle.ff_graph_dag.specs.declared.graph.Node.{Node}
 use Rattle.ff_graph_dag.specs.Dags.{Spot, held_at, spot_shut, reads, comes, gives, after, solve_spots, Free, StandsAt, Untouched, AllUntouched, Reads, Leaves, Leads}
 use Rattle.ff_graph_dag.specs.Dags.{Kept, Delivered, Stored, Pulled}

@@ -7,7 +7,7 @@ use Rattle.ff_stream.specs.declared.item.Item.{Item}
 use Rattle.ff_stream.specs.declared.item.Lane.{Lane}
 use Rattle.ff_filter.specs.Joins.{Ports, before_at}
 use Rattle.ff_filter.specs.Views.{View, Same, Fed, closes}
-use Rattle.ff_filter.specs.Chains.{held_closes}
+use Rattle.ff_filter.specs.Held.{held_closes}
 use Rattle.ff_graph_dag.specs.declared.graph.Port.{Port}
 use Rattle.ff_graph_dag.specs.declared.graph.Plan.{Plan}
 use Rattle.ff_graph_dag.specs.declared.placed.Placed.{Placed}

@@ -8,7 +8,7 @@ use Rattle.ff_stream.specs.declared.item.Lane.{Lane}
 use Rattle.ff_stream.specs.Ports.{nothing}
 use Rattle.ff_filter.specs.Joins.{Ports, silence, before_if, before_at}
 use Rattle.ff_filter.specs.Views.{View, Same, Gave, closes}
-use Rattle.ff_filter.specs.Chains.{held_closes}
+use Rattle.ff_filter.specs.Held.{held_closes}
 use Rattle.ff_graph_dag.specs.declared.graph.Port.{Port}
 use Rattle.ff_graph_dag.specs.declared.graph.Plan.{Plan}
 use Rattle.ff_graph_dag.specs.declared.placed.Placed.{Placed}

@@ -7,7 +7,7 @@ use Rattle.ff_stream.specs.Ports.{nothing}
 use Rattle.ff_net.specs.Nets.{put_all}
 use Rattle.ff_filter.specs.Joins.{Ports, before_at}
 use Rattle.ff_filter.specs.Views.{View, SamePorts, closes}
-use Rattle.ff_filter.specs.Chains.{after_held, held_closes}
+use Rattle.ff_filter.specs.Held.{after_held, held_closes}
 use Rattle.ff_graph_dag.specs.declared.graph.Node.{Node}
 use Rattle.ff_graph_dag.specs.declared.placed.Placed.{Placed}
 

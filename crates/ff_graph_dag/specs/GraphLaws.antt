@@ -8,8 +8,7 @@ use Rattle.ff_stream.specs.Order.{below_self, below_trans}
 use Rattle.ff_net.specs.Nets.{put_all}
 use Rattle.ff_filter.specs.Joins.{Flow, Ports, one, EachBelow, all_opened, Grows, HidesBreaks, opened_joined}
 use Rattle.ff_filter.specs.Views.{View}
-use Rattle.ff_filter.specs.Chains.{after_held}
-use Rattle.ff_filter.specs.ChainLaws.{held_keeps}
+use Rattle.ff_filter.specs.Held.{after_held, held_keeps}
 use Rattle.ff_graph_dag.specs.declared.graph.Node.{Node}
 use Rattle.ff_graph_dag.specs.declared.graph.Port.{Port}
 use Rattle.ff_graph_dag.specs.declared.graph.Plan.{Plan}

@@ -7,7 +7,7 @@ use Rattle.ff_net.specs.Nets.{Part, put_all, solve_from}
 use Rattle.ff_node_filter.specs.Tasks.{listed, ported}
 use Rattle.ff_filter.specs.Joins.{Flow, Ports}
 use Rattle.ff_filter.specs.Views.{View, IsNew}
-use Rattle.ff_filter.specs.Chains.{after_held}
+use Rattle.ff_filter.specs.Held.{after_held}
 use Rattle.ff_graph_dag.specs.declared.graph.Node.{Node}
 use Rattle.ff_graph_dag.specs.declared.graph.Port.{Port}
 use Rattle.ff_graph_dag.specs.declared.graph.Plan.{Plan}

@@ -8,7 +8,7 @@ use Rattle.ff_stream.specs.Ports.{nothing, IsClosed}
 use Rattle.ff_net.specs.Nets.{put_all}
 use Rattle.ff_filter.specs.Joins.{Flow, Ports, one, before, joined_closed}
 use Rattle.ff_filter.specs.Views.{View, Settles, closes}
-use Rattle.ff_filter.specs.Chains.{after_held, held_closes}
+use Rattle.ff_filter.specs.Held.{after_held, held_closes}
 use Rattle.ff_graph_dag.specs.declared.graph.Node.{Node}
 use Rattle.ff_graph_dag.specs.declared.graph.Port.{Port}
 use Rattle.ff_graph_dag.specs.declared.graph.Plan.{Plan}

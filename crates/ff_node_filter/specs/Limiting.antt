@@ -1,24 +1,21 @@
--- Functions behind limits, and one behind another.
-use Rattle.std.specs.Prelude.{◌≡◌, ◌≢◌, ℕ, zero, suc, ◌+◌, ◌<◌, ◌⊎◌, Bool, true, false, ◌||◌, ◌&&◌, ◌==◌, cond, List, [], ◌∷◌, ◌++◌, length, Option, None, Some, refl}
+-- Functions behind limits.
+use Rattle.std.specs.Prelude.{◌≡◌, ◌≢◌, ℕ, zero, suc, ◌+◌, ◌<◌, ◌⊎◌, Bool, true, false, ◌||◌, ◌&&◌, cond, List, [], ◌∷◌, ◌++◌, length, Option, None, Some, refl}
 use Rattle.std.proofs.Common.{inl, inr, ap, sym, ◌∙◌, subst, arith}
-use Rattle.std.proofs.lemmas.Bool.Decides.{nat_tests}
 use Rattle.ff_stream.specs.declared.item.Item.{Item}
 use Rattle.ff_stream.specs.declared.item.Lane.{Lane}
 use Rattle.ff_stream.specs.Stream.{Mark, still_open, whole, broken, LiesBelow, opened}
-use Rattle.ff_stream.specs.Ports.{nothing, stream_at, AllBelow, AllUnbroken, IsUnbroken}
-use Rattle.ff_stream.specs.Order.{below_self, below_trans, below_items, closed_below}
+use Rattle.ff_stream.specs.Ports.{stream_at, AllBelow, AllUnbroken, IsUnbroken}
+use Rattle.ff_stream.specs.Order.{below_items, closed_below}
 use Rattle.ff_stream.specs.Lanes.{AreInShape, IsValid}
 use Rattle.ff_stream.specs.Within.{some_pass, passes_limits}
 use Rattle.ff_stream.specs.WithinLaws.{within_valid}
 use Rattle.ff_net.specs.declared.fault.Fault.{Fault}
 use Rattle.ff_net.specs.declared.fault.Fault.TheVariants.{TooLong}
 use Rattle.ff_net.specs.Ways.{AreValid}
-use Rattle.ff_filter.specs.Joins.{Flow, Ports, EachBelow, all_opened, Grows, HidesBreaks}
-use Rattle.ff_filter.specs.Chains.{wire}
+use Rattle.ff_filter.specs.Joins.{Flow, Ports, EachBelow, Grows, HidesBreaks}
 use Rattle.ff_filter.specs.Limits.{limited, limited_is}
 use Rattle.ff_filter.specs.LimitLaws.{limited-below, limited-calm}
-use Rattle.ff_node_filter.specs.Tasks.{listed, ported, IsLawful}
-use Rattle.ff_node_filter.specs.StandLaws.{listed_below}
+use Rattle.ff_node_filter.specs.Tasks.{ported, IsLawful}
 
 abbrev pub is_broken : Mark → Bool
 is_broken still_open = false
@@ -155,46 +152,4 @@ module _ (lane_in lane_out : Lane) (runs : Flow → Flow)
         subst (λ (xs : List Item). some_pass (passes_limits lane_out) 0 xs ≡ true) p.1 (pass_front (passes_limits lane_out) 0 (runs (stream_at rs 0)).items p.0 e);
     breaks = λ ss q lt v u e. passed_or (some_pass (passes_limits lane_out) 0 (runs (stream_at ss 0)).items) (runs (stream_at ss 0)).mark (sound (stream_at ss 0) (v 0) (u 0))
         (sym (ap (λ (t : Flow). t.mark) (limited_is (passes_limits lane_out) (runs (stream_at ss 0)))) ∙ e);
-  }
-
--- one behind another, over one wire ---------------------------------------------------------------------------------
-
-wire_at : (s : Flow) (p : ℕ) → wire s p ≡ stream_at (s ∷ []) p
-wire_at s zero = refl
-wire_at s (suc p) = let e : (suc p == 0) ≡ false = grind (arith, nat_tests) in rw e refl
-
-wire_is : (s : Flow) → wire s ≡ stream_at (s ∷ [])
-wire_is s i p = wire_at s p i
-
-cond_below : (b : Bool) (r s : Flow) → LiesBelow r s → LiesBelow (cond b r nothing) (cond b s nothing)
-cond_below true r s h = h
-cond_below false r s h = below_self nothing
-
-cond_calm : (b : Bool) (r s : Flow) → LiesBelow (opened r) s → LiesBelow (opened (cond b r nothing)) (cond b s nothing)
-cond_calm true r s h = h
-cond_calm false r s h = below_self nothing
-
-module _ (ins outs : List Lane) (mid : Lane) (f g : Ports → Ports) (cuts_f cuts_g : List Flow → Bool) (lf : IsLimited ins (mid ∷ []) f cuts_f) (lg : IsLimited (mid ∷ []) outs g cuts_g) where
-  through : (ss : List Flow) → g (wire (f (stream_at ss) 0)) ≡ g (stream_at (ported 1 f ss))
-  through ss = ap g (wire_is (f (stream_at ss) 0))
-
-  unbroken_one : (s : Flow) → s.mark ≢ broken → AllUnbroken (s ∷ [])
-  unbroken_one s n zero = n
-  unbroken_one s n (suc p) = λ e. cc
-
-  -- the composition is behind limits again, and a limit cuts it where one cuts either
-  pub limited_after : IsLimited ins outs (λ ss. g (wire (f ss 0))) (λ ss. cuts_f ss || cuts_g (ported 1 f ss))
-  limited_after = record {
-    grows = λ rs ss b. lg.grows (wire (f rs 0)) (wire (f ss 0)) (λ p. cond_below (p == 0) (f rs 0) (f ss 0) (lf.grows rs ss b 0));
-    hides = λ rs q. below_trans (opened (g (wire (f rs 0)) q)) (g (all_opened (wire (f rs 0))) q) (g (wire (f (all_opened rs) 0)) q)
-        (lg.hides (wire (f rs 0)) q) (lg.grows (all_opened (wire (f rs 0))) (wire (f (all_opened rs) 0)) (λ p. cond_calm (p == 0) (f rs 0) (f (all_opened rs) 0) (lf.hides rs 0)) q);
-    keeps = λ ss v. subst (λ (h : Ports). AreValid outs (listed (length outs) h)) (sym (through ss)) (lg.keeps (ported 1 f ss) (lf.keeps ss v));
-    stays = λ rs ss vr vs b e. elim (either (cuts_f rs) (cuts_g (ported 1 f rs)) e) as (λ _. (cuts_f ss || cuts_g (ported 1 f ss)) ≡ true) [
-      | inl h ↦ or_left (cuts_f ss) (cuts_g (ported 1 f ss)) (lf.stays rs ss vr vs b h)
-      | inr h ↦ or_right (cuts_f ss) (cuts_g (ported 1 f ss)) (lg.stays (ported 1 f rs) (ported 1 f ss) (lf.keeps rs vr) (lf.keeps ss vs) (listed_below 1 (f (stream_at rs)) (f (stream_at ss)) (lf.grows (stream_at rs) (stream_at ss) b)) h)
-    ];
-    breaks = λ ss q lt v u e. elim (broken_or (f (stream_at ss) 0).mark) as (λ _. (cuts_f ss || cuts_g (ported 1 f ss)) ≡ true) [
-      | inl h ↦ or_left (cuts_f ss) (cuts_g (ported 1 f ss)) (lf.breaks ss 0 (omega arith) v u h)
-      | inr h ↦ or_right (cuts_f ss) (cuts_g (ported 1 f ss)) (lg.breaks (ported 1 f ss) q lt (lf.keeps ss v) (unbroken_one (f (stream_at ss) 0) h) (sym (ap (λ (x : Ports). (x q).mark) (through ss)) ∙ e))
-    ];
   }

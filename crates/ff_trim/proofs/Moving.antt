@@ -13,7 +13,7 @@ use Rattle.ff_filter.specs.declared.after.After.TheVariants.{More, Whole, Broke}
 use Rattle.ff_filter.specs.Joins.{Flow, Ports, silence, before, before_at}
 use Rattle.ff_filter.specs.Made.{left, is_over}
 use Rattle.ff_filter.specs.Views.{View, SamePorts, Same, Fed, Gave, Waits, Stopped, IsNew, closes}
-use Rattle.ff_filter.specs.Chains.{after_held, held_closes}
+use Rattle.ff_filter.specs.Held.{after_held, held_closes}
 use Rattle.ff_filter.specs.StepperLaws.{or_left, or_right}
 use Rattle.std.specs.declared.alloc.AllocError.{AllocError}
 use Rattle.ff_trim.specs.declared.tap.Tap.{Tap}

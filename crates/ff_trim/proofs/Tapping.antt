@@ -7,7 +7,7 @@ use Rattle.ff_filter.specs.declared.after.After.TheVariants.{More, Whole, Broke}
 use Rattle.ff_filter.specs.Joins.{Flow, before, joined}
 use Rattle.ff_filter.specs.Made.{left, behind, made_of, is_over}
 use Rattle.ff_filter.specs.Views.{closes}
-use Rattle.ff_filter.specs.Chains.{after_held}
+use Rattle.ff_filter.specs.Held.{after_held}
 use Rattle.ff_trim.specs.Taps.{Way, IsPut, IsResumed}
 
 -- what is made, and then what comes behind it

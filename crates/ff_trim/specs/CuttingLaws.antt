@@ -8,8 +8,7 @@ use Rattle.ff_stream.specs.Order.{below_trans}
 use Rattle.ff_filter.specs.Joins.{Flow, Ports, silence, one, all_opened, Grows, HidesBreaks, joined_closed, opened_joined}
 use Rattle.ff_filter.specs.Made.{is_over}
 use Rattle.ff_filter.specs.Views.{View, Settles, IsSpent, AllDone}
-use Rattle.ff_filter.specs.Chains.{after_held}
-use Rattle.ff_filter.specs.ChainLaws.{held_keeps}
+use Rattle.ff_filter.specs.Held.{after_held, held_keeps}
 use Rattle.ff_filter.specs.StepperLaws.{left_keeps, left_calm, left_closed, or_left, or_right}
 use Rattle.ff_trim.specs.declared.tap.Tap.{Tap}
 use Rattle.ff_trim.specs.Taps.{Way, ways_of, way_at, still_cut, cutting_view, IsTied, Tied}

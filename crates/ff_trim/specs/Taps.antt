@@ -11,7 +11,7 @@ use Rattle.ff_filter.specs.declared.after.After.TheVariants.{More}
 use Rattle.ff_filter.specs.Joins.{Flow, Ports, silence, before}
 use Rattle.ff_filter.specs.Made.{left, is_over}
 use Rattle.ff_filter.specs.Views.{View, IsNew, Same, Gave, Waits, closes}
-use Rattle.ff_filter.specs.Chains.{after_held, held_closes}
+use Rattle.ff_filter.specs.Held.{after_held, held_closes}
 use Rattle.ff_filter.specs.Shifts.{shifted}
 use Rattle.ff_vfilter.specs.Trims.{trimmed}
 use Rattle.ff_afilter.specs.Trims.{sound_trimmed}

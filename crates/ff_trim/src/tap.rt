@@ -3,7 +3,7 @@ ghost use Rattle.ff_filter.specs.Views.{closes};
 ghost use Rattle.ff_stream.specs.declared.item.Item.{Item as AnItem};
 ghost use Rattle.ff_filter.specs.Joins.{Flow};
 ghost use Rattle.ff_filter.specs.Made.{is_over as is_over_by};
-ghost use Rattle.ff_filter.specs.Chains.{held_closes};
+ghost use Rattle.ff_filter.specs.Held.{held_closes};
 
 use crate::cut::Cut;
 use ff_filter::{After, Given, Step, closing_of, discard};
