@@ -9,7 +9,7 @@ use Rattle.ff_net.specs.Nodes.{IsSound, IsSame, NodeStands, in_wires_of, out_wir
 use mathlib.Core.List.{IsPrefix}
 use Rattle.ff_stream.specs.Order.{prefix_self}
 use Rattle.ff_net.specs.Logs.{PassStep, tickets_in}
-use Rattle.ff_net.specs.Steps.{Course, Acts, IsDue, Rests, Turns, Prepares, Later, Stepped}
+use Rattle.ff_net.specs.Steps.{Course, Acts, IsHeldBack, Rests, Turns, Prepares, Later, Stepped}
 use Rattle.ff_sched.specs.Passing.{Passing}
 use Rattle.ff_net.specs.Views.{View}
 use Rattle.ff_net.proofs.Moments.{fault_then, stepped_self, then_moves, has_moved_then, course_self, course_trans}
@@ -19,26 +19,26 @@ use Rattle.ff_net.proofs.Readying.{rests_same}
 
 module _ {M : Type 0} (view : M → View) where
   -- a node with a fault does nothing
-  pub faulty_rests : (node : Node M) (world : ℕ → Wire) (past : Past) → (IsSound view node → ⊥) → Rests view node node world past
-  faulty_rests node world past faulty = record { none_due = λ ok. absurd (faulty ok); ungranted = λ ok. absurd (faulty ok) }
+  pub faulty_rests : (may_take : Bool) (node : Node M) (world : ℕ → Wire) (past : Past) → (IsSound view node → ⊥) → Rests view may_take node node world past
+  faulty_rests may_take node world past faulty = record { none_due = λ ok. absurd (faulty ok); ungranted = λ _ ok. absurd (faulty ok) }
 
-  pub unmoved : (node : Node M) (wires : Wires) → (IsSound view node → ⊥) → Stepped view (Turns view false node node) node wires node wires
-  unmoved node wires faulty = stepped_self view (Turns view false node node) node wires (λ w p. record {
+  pub unmoved : (may_take : Bool) (node : Node M) (wires : Wires) → (IsSound view node → ⊥) → Stepped view (Turns view may_take false node node) node wires node wires
+  unmoved may_take node wires faulty = stepped_self view (Turns view may_take false node node) node wires (λ w p. record {
     moves = λ e. absurd (true_not_false (sym e));
-    takes_nothing = λ k d v. refl;
-    allows_nothing = λ k d. refl;
-    grants_nothing = λ k d. refl;
-    rests = λ n. faulty_rests node w p faulty;
+    takes_nothing = λ d v. refl;
+    allows_nothing = λ d. refl;
+    grants_nothing = λ d. refl;
+    rests = λ n. faulty_rests may_take node w p faulty;
   })
 
   -- what was made ready moved so far
-  pub as_turn : (granted held : Bool) (before node : Node M) (a : ℕ → Wire) (p : Past) (b : ℕ → Wire) (q : Past) → Prepares view granted held before node a p b q → Turns view granted before node a p b q
-  as_turn granted held before node a p b q x = record { moves = x.moves; takes_nothing = λ k d w. x.taken w; allows_nothing = x.allows_nothing; grants_nothing = x.grants_nothing; rests = x.rests }
+  pub as_turn : (may_take granted held : Bool) (before node : Node M) (a : ℕ → Wire) (p : Past) (b : ℕ → Wire) (q : Past) → Prepares view may_take granted held before node a p b q → Turns view may_take granted before node a p b q
+  as_turn may_take granted held before node a p b q x = record { moves = x.moves; takes_nothing = λ d w. x.taken w; allows_nothing = x.allows_nothing; grants_nothing = x.grants_nothing; rests = x.rests }
 
-  module _ (how : (ℕ → Wire) → Past → (ℕ → Wire) → Past → Type 0) (acted : Bool) (K : Type 0) (before after last : Node M) (wires wires' wires'' : Wires)
+  module _ (how : (ℕ → Wire) → Past → (ℕ → Wire) → Past → Type 0) (may_take acted : Bool) (K : Type 0) (before after last : Node M) (wires wires' wires'' : Wires)
       (ready : Stepped view how before wires after wires')
-      (turned : (a : ℕ → Wire) (p : Past) (b : ℕ → Wire) (q : Past) → how a p b q → Turns view acted before after a p b q)
-      (quiet : (a : ℕ → Wire) (p : Past) (b : ℕ → Wire) (q : Past) → how a p b q → (k : ℕ) → IsDue view before a p k → K)
+      (turned : (a : ℕ → Wire) (p : Past) (b : ℕ → Wire) (q : Past) → how a p b q → Turns view may_take acted before after a p b q)
+      (quiet : (a : ℕ → Wire) (p : Past) (b : ℕ → Wire) (q : Past) → how a p b q → IsHeldBack view may_take before a p → K)
       (pass : last.pass ≡ after.pass) where
     log_same : tickets_in last.pass.log ≡ tickets_in after.pass.log
     log_same = ap (λ (p : Passing). tickets_in p.log) pass
@@ -50,7 +50,7 @@ module _ {M : Type 0} (view : M → View) where
     passes = subst (λ (p : Passing). PassStep before.pass p) (sym pass) ready.passes
 
     moved_on : (world : ℕ → Wire) (past : Past) → Stepped view (Acts (true ≡ true) K) after wires' last wires'' → Stand wires world → NodeStands view before world past
-        → Later view (Turns view (acted || true) before last) (in_wires_of before) (out_wires_of before) last wires'' world past
+        → Later view (Turns view may_take (acted || true) before last) (in_wires_of before) (out_wires_of before) last wires'' world past
     moved_on world past act stand was =
         let x = ready.goes world past stand was in
         let z = turned world past x.now x.since x.so in
@@ -63,15 +63,15 @@ module _ {M : Type 0} (view : M → View) where
           course = course_trans (in_wires_of before) (out_wires_of before) world x.now y.now past x.since y.since x.course f;
           so = record {
             moves = λ e. inl (then_moves (in_wires_of before) (out_wires_of before) world x.now y.now past x.since y.since x.course f (y.so.moves refl));
-            takes_nothing = λ k d w. y.so.takes_nothing (quiet world past x.now x.since x.so k d) w ∙ z.takes_nothing k d w;
-            allows_nothing = λ k d. y.so.allows_nothing ∙ z.allows_nothing k d;
-            grants_nothing = λ k d. log_same ∙ z.grants_nothing k d;
+            takes_nothing = λ d w. y.so.takes_nothing (quiet world past x.now x.since x.so d) w ∙ z.takes_nothing d w;
+            allows_nothing = λ d. y.so.allows_nothing ∙ z.allows_nothing d;
+            grants_nothing = λ d. log_same ∙ z.grants_nothing d;
             rests = λ n. absurd (true_not_false ((or_false acted true n).1));
           };
         }
 
     rested : (world : ℕ → Wire) (past : Past) → IsSame after last → wires'' ≡ wires' → Stand wires world → NodeStands view before world past
-        → Later view (Turns view (acted || false) before last) (in_wires_of before) (out_wires_of before) last wires'' world past
+        → Later view (Turns view may_take (acted || false) before last) (in_wires_of before) (out_wires_of before) last wires'' world past
     rested world past same same_wires stand was =
         let x = ready.goes world past stand was in
         let z = turned world past x.now x.since x.so in record {
@@ -84,12 +84,12 @@ module _ {M : Type 0} (view : M → View) where
             moves = λ e. elim (or_true acted false e) [ inl g ↦ has_moved_then (in_wires_of before) (out_wires_of before) before after last world x.now x.now past x.since x.since x.course (course_self (in_wires_of before) (out_wires_of before) x.now x.since) (subst (λ (p : Passing). IsPrefix after.pass.log p.log) (sym pass) (prefix_self after.pass.log)) (z.moves g) | inr n ↦ absurd (true_not_false (sym n)) ];
             takes_nothing = z.takes_nothing;
             allows_nothing = z.allows_nothing;
-            grants_nothing = λ k d. log_same ∙ z.grants_nothing k d;
-            rests = λ n. rests_same view before after last x.now x.since same (z.rests ((or_false acted false n).0));
+            grants_nothing = λ d. log_same ∙ z.grants_nothing d;
+            rests = λ n. rests_same view may_take before after last x.now x.since same (z.rests ((or_false acted false n).0));
           };
         }
 
-    pub turn_after : (moved : Bool) → Stepped view (Acts (moved ≡ true) K) after wires' last wires'' → (moved ≡ false → IsSame after last × (wires'' ≡ wires')) → Stepped view (Turns view (acted || moved) before last) before wires last wires''
+    pub turn_after : (moved : Bool) → Stepped view (Acts (moved ≡ true) K) after wires' last wires'' → (moved ≡ false → IsSame after last × (wires'' ≡ wires')) → Stepped view (Turns view may_take (acted || moved) before last) before wires last wires''
     turn_after true act same = record {
       ins_same = act.ins_same ∙ ready.ins_same;
       outs_same = act.outs_same ∙ ready.outs_same;

@@ -16,7 +16,7 @@ use Rattle.ff_net.specs.Ports.{in_at, out_at, AreDone, SomeHeld, NoneHeld}
 use Rattle.ff_net.specs.Worlds.{Wire, IsFull, IsEmpty}
 use Rattle.ff_net.specs.Nodes.{HeldIs, IsSound, IsSame, IsDone, NodeStands}
 use Rattle.ff_net.specs.Steps.{IsDue, Rests}
-use Rattle.ff_net.specs.Turns.{Waits, with_fault, with_items, for_items, IsRefused, full, empty, choked, IsIdle}
+use Rattle.ff_net.specs.Turns.{Waits, with_fault, with_items, held_back, for_items, IsRefused, full, empty, choked, IsIdle}
 use Rattle.ff_net.specs.Views.{View}
 use Rattle.ff_net.proofs.Flows.{due_meant}
 use Rattle.ff_net.proofs.Matters.{all_close}
@@ -53,19 +53,21 @@ some_item : (o : Option Item) → is_some o ≡ true → (x : Item) × (o ≡ So
 some_item None e = absurd (true_not_false (sym e))
 some_item (Some x) e = (x, refl)
 
-pub waits_same : {M : Type 0} (view : M → View) (node node' : Node M) (wires : Wires) → IsSame node node' → Waits view node wires → Waits view node' wires
-waits_same view node node' wires same (with_fault f h) = with_fault (λ ok. f (sym same.refused ∙ ok.0, ap (λ m. (view m).fault) (sym same.machine) ∙ ok.1)) (subst (λ (os : List OutPort). (q : ℕ) → q < length os → (out_at os q).done ≡ false → IsFull wires (out_at os q).wire) (sym same.outs) h)
-waits_same view node node' wires same (with_items ok s h) = with_items (same.refused ∙ ok.0, ap (λ m. (view m).fault) same.machine ∙ ok.1) (subst (λ (os : List OutPort). SomeHeld os) (sym same.outs) s) (subst (λ (os : List OutPort). (q : ℕ) → q < length os → (out_at os q).done ≡ false → is_some (out_at os q).held ≡ true → IsFull wires (out_at os q).wire) (sym same.outs) h)
-waits_same view node node' wires same (for_items ok n h) = for_items (same.refused ∙ ok.0, ap (λ m. (view m).fault) same.machine ∙ ok.1) (subst (λ (os : List OutPort). NoneHeld os) (sym same.outs) n) (subst (λ (os : List InPort). (q : ℕ) → q < length os → (in_at os q).done ≡ false → IsEmpty wires (in_at os q).wire) (sym same.ins) h)
+pub waits_same : {M : Type 0} (view : M → View) (may_take : Bool) (node node' : Node M) (wires : Wires) → IsSame node node' → Waits view may_take node wires → Waits view may_take node' wires
+waits_same view may_take node node' wires same (with_fault f h) = with_fault (λ ok. f (sym same.refused ∙ ok.0, ap (λ m. (view m).fault) (sym same.machine) ∙ ok.1)) (subst (λ (os : List OutPort). (q : ℕ) → q < length os → (out_at os q).done ≡ false → IsFull wires (out_at os q).wire) (sym same.outs) h)
+waits_same view may_take node node' wires same (with_items ok s h) = with_items (same.refused ∙ ok.0, ap (λ m. (view m).fault) same.machine ∙ ok.1) (subst (λ (os : List OutPort). SomeHeld os) (sym same.outs) s) (subst (λ (os : List OutPort). (q : ℕ) → q < length os → (out_at os q).done ≡ false → is_some (out_at os q).held ≡ true → IsFull wires (out_at os q).wire) (sym same.outs) h)
+waits_same view may_take node node' wires same (for_items ok n h) = for_items (same.refused ∙ ok.0, ap (λ m. (view m).fault) same.machine ∙ ok.1) (subst (λ (os : List OutPort). NoneHeld os) (sym same.outs) n) (subst (λ (os : List InPort). (q : ℕ) → q < length os → (in_at os q).done ≡ false → IsEmpty wires (in_at os q).wire) (sym same.ins) h)
+waits_same view may_take node node' wires same (held_back ok n kept) = held_back (same.refused ∙ ok.0, ap (λ m. (view m).fault) same.machine ∙ ok.1) (subst (λ (os : List OutPort). NoneHeld os) (sym same.outs) n) kept
 
 -- only the machine was asked for what it has to tell
-pub waits_told : {M : Type 0} (view : M → View) (node node' : Node M) (wires : Wires) → node'.outs.items ≡ node.outs.items → node'.ins.items ≡ node.ins.items → IsSound view node → IsSound view node' → Waits view node wires → Waits view node' wires
-waits_told view node node' wires outs ins was ok (with_fault f h) = absurd (f was)
-waits_told view node node' wires outs ins was ok (with_items old s h) = with_items ok (subst (λ (os : List OutPort). SomeHeld os) (sym outs) s) (subst (λ (os : List OutPort). (q : ℕ) → q < length os → (out_at os q).done ≡ false → is_some (out_at os q).held ≡ true → IsFull wires (out_at os q).wire) (sym outs) h)
-waits_told view node node' wires outs ins was ok (for_items old n h) = for_items ok (subst (λ (os : List OutPort). NoneHeld os) (sym outs) n) (subst (λ (os : List InPort). (q : ℕ) → q < length os → (in_at os q).done ≡ false → IsEmpty wires (in_at os q).wire) (sym ins) h)
+pub waits_told : {M : Type 0} (view : M → View) (may_take : Bool) (node node' : Node M) (wires : Wires) → node'.outs.items ≡ node.outs.items → node'.ins.items ≡ node.ins.items → IsSound view node → IsSound view node' → Waits view may_take node wires → Waits view may_take node' wires
+waits_told view may_take node node' wires outs ins was ok (with_fault f h) = absurd (f was)
+waits_told view may_take node node' wires outs ins was ok (with_items old s h) = with_items ok (subst (λ (os : List OutPort). SomeHeld os) (sym outs) s) (subst (λ (os : List OutPort). (q : ℕ) → q < length os → (out_at os q).done ≡ false → is_some (out_at os q).held ≡ true → IsFull wires (out_at os q).wire) (sym outs) h)
+waits_told view may_take node node' wires outs ins was ok (for_items old n h) = for_items ok (subst (λ (os : List OutPort). NoneHeld os) (sym outs) n) (subst (λ (os : List InPort). (q : ℕ) → q < length os → (in_at os q).done ≡ false → IsEmpty wires (in_at os q).wire) (sym ins) h)
+waits_told view may_take node node' wires outs ins was ok (held_back old n kept) = held_back ok (subst (λ (os : List OutPort). NoneHeld os) (sym outs) n) kept
 
 module _ {M : Type 0} (view : M → View) (laws : (m : M) → Laws (view m))
-    (before node : Node M) (wires : Wires) (world : ℕ → Wire) (past : Past) (was : NodeStands view node world past) (rests : Rests view before node world past)
+    (before node : Node M) (wires : Wires) (world : ℕ → Wire) (past : Past) (was : NodeStands view node world past) (may_take : Bool) (rests : Rests view may_take before node world past)
     (ins_count : length node.ins.items ≡ length (view node.machine).in_lanes) (outs_count : length node.outs.items ≡ length (view node.machine).out_lanes)
     (faulty : (IsSound view node → ⊥) → (p : ℕ) → p < length node.ins.items → (in_at node.ins.items p).done ≡ true) (told : (node.quiet ≡ true) ⊎ (node.refused ≡ true)) (not_done : IsDone node → ⊥) where
   -- an output that holds an item has one due
@@ -103,33 +105,36 @@ module _ {M : Type 0} (view : M → View) (laws : (m : M) → Laws (view m))
             ]
           ]
 
-  room : Waits view node wires → (q : ℕ) → IsDue view node world past q → IsFull wires (out_at node.outs.items q).wire
+  room : Waits view may_take node wires → (q : ℕ) → IsDue view node world past q → IsFull wires (out_at node.outs.items q).wire
   room (with_fault f h) q d = h q d.there d.goes_on
   room (with_items ok s h) q d = pick (is_some (out_at node.outs.items q).held) refl
     where
       pick : (b : Bool) → is_some (out_at node.outs.items q).held ≡ b → IsFull wires (out_at node.outs.items q).wire
       pick true e = h q d.there d.goes_on e
       pick false e = absurd (d.unsent ok (rests.none_due ok q d.there d.goes_on (none_held (out_at node.outs.items q).held e)))
+  room (held_back ok n kept) q d = absurd (d.unsent ok (rests.none_due ok q d.there d.goes_on (n q d.there d.goes_on)))
   room (for_items ok n h) q d = absurd (d.unsent ok (rests.none_due ok q d.there d.goes_on (n q d.there d.goes_on)))
 
-  item : Waits view node wires → ((q : ℕ) → IsDue view node world past q → ⊥) → (p : ℕ) → p < length node.ins.items → (in_at node.ins.items p).done ≡ false → IsEmpty wires (in_at node.ins.items p).wire
-  item (with_fault f h) none p lt busy = absurd (true_not_false (sym (faulty f p lt) ∙ busy))
-  item (with_items ok s h) none p lt busy = absurd (none s.place (held_due s.place s.there s.goes_on s.held))
-  item (for_items ok n h) none p lt busy = h p lt busy
+  item : Waits view may_take node wires → may_take ≡ true → ((q : ℕ) → IsDue view node world past q → ⊥) → (p : ℕ) → p < length node.ins.items → (in_at node.ins.items p).done ≡ false → IsEmpty wires (in_at node.ins.items p).wire
+  item (with_fault f h) may none p lt busy = absurd (true_not_false (sym (faulty f p lt) ∙ busy))
+  item (with_items ok s h) may none p lt busy = absurd (none s.place (held_due s.place s.there s.goes_on s.held))
+  item (held_back ok n kept) may none p lt busy = absurd (true_not_false (sym may ∙ kept))
+  item (for_items ok n h) may none p lt busy = h p lt busy
 
-  refusal : Waits view node wires → IsRefused view before node wires
-  refusal (with_fault f h) = elim (find_busy node.outs.items) [
+  refusal : Waits view may_take node wires → may_take ≡ true → IsRefused view before node wires
+  refusal (with_fault f h) may = elim (find_busy node.outs.items) [
     | inl all ↦ absurd (not_done (record { ins = faulty f; outs = all; told = told }))
     | inr b ↦ full b.0 b.1 (h b.0 b.1 b.2)
   ]
-  refusal (with_items ok s h) = full s.place s.there (h s.place s.there s.goes_on s.held)
-  refusal (for_items ok n h) = elim (find_busy_in node.ins.items) [
+  refusal (with_items ok s h) may = full s.place s.there (h s.place s.there s.goes_on s.held)
+  refusal (held_back ok n kept) may = absurd (true_not_false (sym may ∙ kept))
+  refusal (for_items ok n h) may = elim (find_busy_in node.ins.items) [
     | inl ins ↦ elim (find_busy node.outs.items) [
       | inl all ↦ absurd (not_done (record { ins = ins; outs = all; told = told }))
-      | inr b ↦ elim (rests.ungranted ok n b.0 b.1 b.2) [ inl none ↦ absurd (stuck ok n ins none b.0 b.1 b.2) | inr c ↦ choked c.0 c.1 c.2 ]
+      | inr b ↦ elim (rests.ungranted may ok n b.0 b.1 b.2) [ inl none ↦ absurd (stuck ok n ins none b.0 b.1 b.2) | inr c ↦ choked c.0 c.1 c.2 ]
     ]
     | inr b ↦ empty b.0 b.1 (h b.0 b.1 b.2)
   ]
 
-  pub idle_of : Waits view node wires → IsIdle view before node wires world past
+  pub idle_of : Waits view may_take node wires → IsIdle view may_take before node wires world past
   idle_of w = record { no_room = room w; no_item = item w; refused = refusal w }

@@ -67,12 +67,12 @@ module _ {M : Type 0} (view : M → View) where
             | inr t ↦ p.goes_on t.1
           ])
 
-  pub rests_same : (before node node' : Node M) (world : ℕ → Wire) (past : Past) → IsSame node node' → Rests view before node world past → Rests view before node' world past
-  rests_same before node node' world past same r =
+  pub rests_same : (may_take : Bool) (before node node' : Node M) (world : ℕ → Wire) (past : Past) → IsSame node node' → Rests view may_take before node world past → Rests view may_take before node' world past
+  rests_same may_take before node node' world past same r =
       let back : IsSound view node' → IsSound view node = λ s. (sym same.refused ∙ s.0, ap (λ m. (view m).fault) (sym same.machine) ∙ s.1) in record {
         none_due = λ s. subst (λ (os : List OutPort). (q : ℕ) → q < length os → (out_at os q).done ≡ false → (out_at os q).held ≡ None → (world (out_at os q).wire).sent ≡ stream_at (due past) q) (sym same.outs) (r.none_due (back s));
-        ungranted = λ s n q lt busy.
-            let u = r.ungranted (back s) (subst (λ (os : List OutPort). NoneHeld os) same.outs n) q (subst (λ (os : List OutPort). q < length os) same.outs lt) (subst (λ (os : List OutPort). (out_at os q).done ≡ false) same.outs busy) in
+        ungranted = λ yes s n q lt busy.
+            let u = r.ungranted yes (back s) (subst (λ (os : List OutPort). NoneHeld os) same.outs n) q (subst (λ (os : List OutPort). q < length os) same.outs lt) (subst (λ (os : List OutPort). (out_at os q).done ≡ false) same.outs busy) in
             elim u [
               | inl a ↦ inl (ap (λ m. (view m).source) same.machine ∙ a)
               | inr b ↦ inr (b.0, ap (λ m. (view m).source) same.machine ∙ b.1, subst (λ (p : Passing). WasChoked before.pass b.0 p) (sym same.pass) b.2)
@@ -80,13 +80,13 @@ module _ {M : Type 0} (view : M → View) where
       }
 
   -- of a node that told nothing, but whose machine was asked
-  pub rests_told : (before node node' : Node M) (world world' : ℕ → Wire) (past past' : Past) → node'.outs.items ≡ node.outs.items → (view node'.machine).source ≡ (view node.machine).source → (IsSound view node' → IsSound view node)
-      → node'.pass ≡ record node.pass { spare = node'.pass.spare } → past'.task ≡ past.task → Tells world past world' past' → Rests view before node world past → Rests view before node' world' past'
-  rests_told before node node' world world' past past' outs source back still task t r = record {
+  pub rests_told : (may_take : Bool) (before node node' : Node M) (world world' : ℕ → Wire) (past past' : Past) → node'.outs.items ≡ node.outs.items → (view node'.machine).source ≡ (view node.machine).source → (IsSound view node' → IsSound view node)
+      → node'.pass ≡ record node.pass { spare = node'.pass.spare } → past'.task ≡ past.task → Tells world past world' past' → Rests view may_take before node world past → Rests view may_take before node' world' past'
+  rests_told may_take before node node' world world' past past' outs source back still task t r = record {
     none_due = λ s. subst (λ (os : List OutPort). (q : ℕ) → q < length os → (out_at os q).done ≡ false → (out_at os q).held ≡ None → (world' (out_at os q).wire).sent ≡ stream_at (due past') q) (sym outs)
         (λ q lt busy none. t.sent (out_at node.outs.items q).wire ∙ (r.none_due (back s) q lt busy none ∙ ap (λ (ss : List Flow). stream_at ss q) (sym (due_same past past' task t.got t.allowed))));
-    ungranted = λ s n q lt busy.
-        let u = r.ungranted (back s) (subst (λ (os : List OutPort). NoneHeld os) outs n) q (subst (λ (os : List OutPort). q < length os) outs lt) (subst (λ (os : List OutPort). (out_at os q).done ≡ false) outs busy) in
+    ungranted = λ yes s n q lt busy.
+        let u = r.ungranted yes (back s) (subst (λ (os : List OutPort). NoneHeld os) outs n) q (subst (λ (os : List OutPort). q < length os) outs lt) (subst (λ (os : List OutPort). (out_at os q).done ≡ false) outs busy) in
         elim u [
           | inl a ↦ inl (source ∙ a)
           | inr b ↦ inr (b.0, source ∙ b.1, subst (λ (p : Passing). WasChoked before.pass b.0 p) (sym still) (choked_still before.pass node.pass b.0 node'.pass.spare b.2))

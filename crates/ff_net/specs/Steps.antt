@@ -124,25 +124,29 @@ IsUngranted view before node =
     ⊎ ((s : ℕ) × ((view node.machine).source ≡ Some s) × WasChoked before.pass s node.pass)
 
 -- of a node where nothing moved: an output that goes on and holds nothing has all that is due; and where no output holds
--- anything, but one goes on, the node is no source, or was refused a grant
-pub record Rests {M : Type 0} (view : M → View) (before node : Node M) (world : ℕ → Wire) (past : Past) : Type 0 where
+-- anything, but one goes on, and the node may take, it is no source, or was refused a grant
+pub record Rests {M : Type 0} (view : M → View) (may_take : Bool) (before node : Node M) (world : ℕ → Wire) (past : Past) : Type 0 where
   pub none_due : IsSound view node → (q : ℕ) → q < length node.outs.items → (out_at node.outs.items q).done ≡ false → (out_at node.outs.items q).held ≡ None → (world (out_at node.outs.items q).wire).sent ≡ stream_at (due past) q
-  pub ungranted : IsSound view node → NoneHeld node.outs.items → (q : ℕ) → q < length node.outs.items → (out_at node.outs.items q).done ≡ false
+  pub ungranted : may_take ≡ true → IsSound view node → NoneHeld node.outs.items → (q : ℕ) → q < length node.outs.items → (out_at node.outs.items q).done ≡ false
       → IsUngranted view before node
 
--- something moved or the node rests, and nothing was taken, granted or allowed where an item was due before
-pub record Turns {M : Type 0} (view : M → View) (moved : Bool) (before node : Node M) (old : ℕ → Wire) (past : Past) (new : ℕ → Wire) (since : Past) : Type 0 where
-  pub moves : moved ≡ true → HasMoved before node old past new since
-  pub takes_nothing : (q : ℕ) → IsDue view before old past q → (w : ℕ) → (new w).taken ≡ (old w).taken
-  pub allows_nothing : (q : ℕ) → IsDue view before old past q → since.allowed ≡ past.allowed
-  pub grants_nothing : (q : ℕ) → IsDue view before old past q → tickets_in node.pass.log ≡ tickets_in before.pass.log
-  pub rests : moved ≡ false → Rests view before node new since
+-- the node may take nothing and be granted nothing: it was said so, or an item is due
+abbrev pub IsHeldBack : {M : Type 0} → (M → View) → Bool → Node M → (ℕ → Wire) → Past → Type 0
+IsHeldBack view may_take node world past = (may_take ≡ false) ⊎ ((q : ℕ) × IsDue view node world past q)
 
--- a source was granted one ticket more, or none where an item was due, and the machine of a node gave items to hold
-pub record Prepares {M : Type 0} (view : M → View) (granted held : Bool) (before node : Node M) (old : ℕ → Wire) (past : Past) (new : ℕ → Wire) (since : Past) : Type 0 where
+-- something moved or the node rests, and nothing was taken, granted or allowed where it was held back
+pub record Turns {M : Type 0} (view : M → View) (may_take moved : Bool) (before node : Node M) (old : ℕ → Wire) (past : Past) (new : ℕ → Wire) (since : Past) : Type 0 where
+  pub moves : moved ≡ true → HasMoved before node old past new since
+  pub takes_nothing : IsHeldBack view may_take before old past → (w : ℕ) → (new w).taken ≡ (old w).taken
+  pub allows_nothing : IsHeldBack view may_take before old past → since.allowed ≡ past.allowed
+  pub grants_nothing : IsHeldBack view may_take before old past → tickets_in node.pass.log ≡ tickets_in before.pass.log
+  pub rests : moved ≡ false → Rests view may_take before node new since
+
+-- a source was granted one ticket more, or none where it was held back, and the machine of a node gave items to hold
+pub record Prepares {M : Type 0} (view : M → View) (may_take granted held : Bool) (before node : Node M) (old : ℕ → Wire) (past : Past) (new : ℕ → Wire) (since : Past) : Type 0 where
   pub moves : granted ≡ true → HasMoved before node old past new since
   pub taken : (w : ℕ) → (new w).taken ≡ (old w).taken
-  pub allows_nothing : (q : ℕ) → IsDue view before old past q → since.allowed ≡ past.allowed
-  pub grants_nothing : (q : ℕ) → IsDue view before old past q → tickets_in node.pass.log ≡ tickets_in before.pass.log
+  pub allows_nothing : IsHeldBack view may_take before old past → since.allowed ≡ past.allowed
+  pub grants_nothing : IsHeldBack view may_take before old past → tickets_in node.pass.log ≡ tickets_in before.pass.log
   pub none_before : IsSound view node → held ≡ false → (q : ℕ) → IsDue view before old past q → ⊥
-  pub rests : granted ≡ false → Rests view before node new since
+  pub rests : granted ≡ false → Rests view may_take before node new since

@@ -1,5 +1,5 @@
 -- What the wires of one thread have behind them.
-use Rattle.std.specs.Prelude.{◌≡◌, ℕ, Bool, true, false, ◌<◌, ◌==◌, if◌then◌else◌, List, [], map, length, slice_index_or}
+use Rattle.std.specs.Prelude.{◌≡◌, ℕ, Bool, true, false, ◌<◌, ◌≤◌, ◌==◌, if◌then◌else◌, List, [], map, length, slice_index_or}
 use Rattle.ff_stream.specs.declared.item.Item.{Item}
 use Rattle.ff_stream.specs.declared.item.Lane.{Lane}
 use Rattle.ff_stream.specs.Stream.{LiesBelow}
@@ -59,9 +59,10 @@ take_on world w x = with_wire world w (record { sent = (world w).sent; taken = w
 abbrev pub finish_on : (ℕ → Wire) → ℕ → ℕ → Wire
 finish_on world w = with_wire world w (record { sent = (world w).sent; taken = (world w).taken; finished = true })
 
--- the wire isn't finished, and has as many items as it takes
+-- the wire isn't finished, and has as many items as it takes, at least one
 pub record IsFull (wires : Wires) (w : ℕ) : Type 0 where
   pub as_many : (d : Queue) → length (slice_index_or wires.queues.items w d).content.items ≡ (slice_index_or wires.queues.items w d).size
+  pub some : (d : Queue) → 1 ≤ (slice_index_or wires.queues.items w d).size
   pub goes_on : (d : Queue) → (slice_index_or wires.queues.items w d).finished ≡ false
 
 -- the wire isn't finished, and has fewer items than it takes

@@ -42,5 +42,5 @@ mod wires;
 pub use fault::Fault;
 pub use machine::Machine;
 pub use node::{Node, NodeRefused, Turn};
-pub use serial::{run_serial, run_to_end};
+pub use serial::run_serial;
 pub use wires::{Put, Queue, Take, Wires};

@@ -1,6 +1,5 @@
-ghost use Rattle.std.specs.Prelude.{◌≡◌, ℕ, ◌<◌, length, slice_index_or, [], true};
+ghost use Rattle.std.specs.Prelude.{◌≡◌, ℕ, ◌<◌, length, slice_index_or, []};
 ghost use Rattle.ff_net.specs.Nets.{IsUpward};
-ghost use Rattle.ff_net.specs.Nodes.{IsDone};
 ghost use Rattle.ff_net.specs.Pasts.{Task};
 ghost use Rattle.ff_net.specs.Serial.{AllPass, AreOf, AreShaped, NetStands, parts_of};
 ghost use Rattle.ff_net.specs.Theorem.{AllFare, MeetsSolution};
@@ -39,49 +38,6 @@ pub fn run_serial<R: Wait, M: Machine>(
 {
     for k in order {
         let node = &mut nodes[*k];
-        let _turn = node.turn(rt, cell, wires);
+        let _turn = node.turn(rt, cell, wires, true);
     }
-}
-
-fn all_done<M: Machine>(nodes: &[Node<M>]) -> bool
-    ensures { result ≡ true → (k : ℕ) (d : _) → k < length nodes.now → IsDone (slice_index_or nodes.now k d) }
-{
-    for node in nodes {
-        if !node.is_done() {
-            return false;
-        }
-    }
-    true
-}
-
-/// Rounds of turns until every node is done. That this comes isn't claimed.
-///
-/// The clauses are those of [`run_serial`], and each node is done.
-pub fn run_to_end<R: Wait, M: Machine>(
-    rt: &R,
-    nodes: &mut [Node<M>],
-    cell: &SchedCell,
-    wires: &mut Wires,
-    order: &[usize],
-)
-    requires shaped { AreShaped M.view nodes.old wires.old }
-    requires cell { AreOf M.view cell.now nodes.old }
-    requires order { (i : ℕ) (d : ℕ) → i < length order.now → slice_index_or order.now i d < length nodes.old }
-    ensures done { (k : ℕ) (d : _) → k < length nodes.new → IsDone (slice_index_or nodes.new k d) }
-    ensures shaped { AreShaped M.view nodes.new wires.new }
-    ensures cell { AreOf M.view cell.now nodes.new }
-    ensures passes { AllPass nodes.old nodes.new }
-    ensures lanes { lanes_of wires.new ≡ lanes_of wires.old }
-    ensures parts { (tasks : ℕ → Task) → parts_of M.view tasks nodes.new ≡ parts_of M.view tasks nodes.old }
-    ensures fares { AllFare M.view nodes.old nodes.new }
-    ensures stands { (tasks : ℕ → Task) → NetStands M.view tasks nodes.old wires.old → NetStands M.view tasks nodes.new wires.new }
-    ensures solved { (tasks : ℕ → Task) → NetStands M.view tasks nodes.old wires.old → IsUpward [] (parts_of M.view tasks nodes.new) → (net : NetStands M.view tasks nodes.new wires.new) × MeetsSolution M.view tasks nodes.old nodes.new net.world }
-{
-    for _ in rt.forever() {
-        run_serial(rt, nodes, cell, wires, order);
-        if all_done(nodes) {
-            return;
-        }
-    }
-    unreachable!()
 }

@@ -32,6 +32,7 @@ pub struct Queue {
     content: VecDeque<Item>,
     size: usize,
     finished: bool,
+    ghost some: { 1 ≤ size },
     ghost fits: { deque_len content ≤ size },
     ghost room: { size ≤ deque_capacity content },
 }
@@ -72,7 +73,8 @@ impl Wires {
     /// Whether nothing lies on a wire.
     pub fn is_empty(&self, wire: usize) -> bool
         requires { wire < length (lanes_of self.now) }
-        ensures { result ≡ true → IsEmpty self.now wire }
+        ensures empty { result ≡ true → IsEmpty self.now wire }
+        ensures exact { IsEmpty self.now wire → result ≡ true }
     {
         self.queues[wire].content.is_empty()
     }

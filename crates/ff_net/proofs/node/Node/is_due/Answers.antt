@@ -1,6 +1,6 @@
-use Rattle.std.proofs.Common.{true, sym, ◌∙◌}
+use Rattle.std.proofs.Common.{true, sym, ◌∙◌, inl, inr}
 use Rattle.ff_net.specs.Steps.{Fills}
-use Rattle.ff_net.proofs.Acting.{none_if_not_some}
+use Rattle.ff_net.proofs.Acting.{none_if_not_some, some_is_faulty}
 use Rattle.ff_net.proofs.Moments.{stepped_as}
 use Rattle.ff_net.proofs.PortSteps.{out_ports_count}
 use Rattle.ff_net.proofs.Changes.{true_not_false}
@@ -18,6 +18,7 @@ returns-then-held g c =
     let view = g.M.Machine.view in
     let e = c.fill_all-held.ensures in record {
       pass = e.pass;
+      due = λ yes. inl (e.held c.if-held.true);
       stepped = λ wires. stepped_as view _ (Fills view true c.args.self.now) c.args.self.now wires c.fill_all-held.new.self wires
           (λ a p b q x f. record { sent = f.sent; taken = f.taken; finished = f.finished; allowed = f.allowed; stopped = f.stopped; none_before = λ no. absurd (true_not_false no) }) (e.stepped wires);
     }
@@ -29,6 +30,7 @@ returns g c =
     let filled = c.fill_all-held.new.self in
     let e = c.fill_all-held.ensures in record {
       pass = e.pass;
+      due = λ yes. inr (λ ok. some_is_faulty c.fault.result (sym c.is_some.ensures ∙ yes) (c.fault.ensures.none ok));
       stepped = λ wires. stepped_as view _ (Fills view c.is_some.result before) before wires filled wires
           (λ a p b q x f. record {
             sent = f.sent;

@@ -32,16 +32,16 @@ returns-clause-stepped g c =
     let e = c.close_all-closed.ensures in
     let w = c.work-worked.ensures in
     let shaped = shaped_later view _ mid wires' last wires'' e.stepped (shaped_later view _ before c.args.wires.now mid wires' w.stepped c.requires.shaped) in
-    let all = turn_after view (Turns view worked before mid) worked (Unit {0}) before mid last c.args.wires.now wires' wires'' w.stepped (λ x p y q h. h) (λ x p y q h k d. tt) e.pass closed e.stepped e.same in
-    turn_answers view (worked || closed) c.turn_of.result before last c.args.wires.now wires'' c.turn_of.ensures.moved (λ n. (c.turn_of.ensures.not_yet n).0)
+    let all = turn_after view (Turns view c.args.may_take worked before mid) c.args.may_take worked (Unit {0}) before mid last c.args.wires.now wires' wires'' w.stepped (λ x p y q h. h) (λ x p y q h d. tt) e.pass closed e.stepped e.same in
+    turn_answers view c.args.may_take (worked || closed) c.turn_of.result before last c.args.wires.now wires'' c.turn_of.ensures.moved (λ n. (c.turn_of.ensures.not_yet n).0)
     (λ n world past was rests.
     let t = c.turn_of.ensures.not_yet n in
     let no = or_false worked closed t.0 in
     let same = e.same no.1 in
-    let waits : Waits view last wires'' = subst (λ (v : Wires). Waits view last v) (sym same.1) (waits_same view mid last wires' same.0 (w.waits no.0)) in
+    let waits : Waits view c.args.may_take last wires'' = subst (λ (v : Wires). Waits view c.args.may_take last v) (sym same.1) (waits_same view c.args.may_take mid last wires' same.0 (w.waits no.0)) in
     let told : (last.quiet ≡ true) ⊎ (last.refused ≡ true) = elim (w.told no.0) [ inl q ↦ inl (same.0.quiet ∙ q) | inr r ↦ inr (same.0.refused ∙ r) ] in
     let not_done : IsDone last → ⊥ = λ d. true_not_false (sym (c.is_done.ensures.exact d) ∙ t.1) in
-    idle_of view laws before last wires'' world past was rests (in_ports_count last.ins.items _ (lanes_of wires'') shaped.ins) (out_ports_count last.outs.items _ (lanes_of wires'') shaped.outs) e.faulty told not_done waits)
+    idle_of view laws before last wires'' world past was c.args.may_take rests (in_ports_count last.ins.items _ (lanes_of wires'') shaped.ins) (out_ports_count last.outs.items _ (lanes_of wires'') shaped.outs) e.faulty told not_done waits)
     all
 
 pub returns-clause-closed : goal.returns-clause-closed
@@ -66,3 +66,6 @@ returns-clause-once g c =
     let worked = c.work-worked.new.self.pass in
     let last = c.close_all-closed.new.self.pass in
     once_between before.log before.log worked.log last.log refl (same_tickets worked last c.close_all-closed.ensures.pass) c.work-worked.ensures.once
+
+pub returns-clause-held_back : goal.returns-clause-held_back
+returns-clause-held_back g c kept = same_tickets c.work-worked.new.self.pass c.close_all-closed.new.self.pass c.close_all-closed.ensures.pass ∙ c.work-worked.ensures.held_back kept

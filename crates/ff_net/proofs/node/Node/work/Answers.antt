@@ -31,8 +31,8 @@ returns-clause-stepped g c =
     let t = c.tell_all-told.ensures in
     let b = c.break_faulty-broke.ensures in
     let worked = c.act-acted.result || c.tell_all-told.result in
-    let first = turn_told view c.act-acted.result c.tell_all-told.result before mid told c.args.wires.now wires c.act-acted.ensures.stepped (t.stepped wires) (ap (λ os. os.items) t.outs) t.sound t.tickets t.longer t.still in
-    turn_after view (Turns view worked before told) worked (Unit {0}) before told last c.args.wires.now wires c.break_faulty-broke.new.wires first (λ x p y q h. h) (λ x p y q h k d. tt) b.pass c.break_faulty-broke.result b.stepped b.same
+    let first = turn_told view c.args.may_take c.act-acted.result c.tell_all-told.result before mid told c.args.wires.now wires c.act-acted.ensures.stepped (t.stepped wires) (ap (λ os. os.items) t.outs) t.sound t.tickets t.longer t.still in
+    turn_after view (Turns view c.args.may_take worked before told) c.args.may_take worked (Unit {0}) before told last c.args.wires.now wires c.break_faulty-broke.new.wires first (λ x p y q h. h) (λ x p y q h d. tt) b.pass c.break_faulty-broke.result b.stepped b.same
 
 pub returns-clause-waits : goal.returns-clause-waits
 returns-clause-waits g c still =
@@ -49,9 +49,9 @@ returns-clause-waits g c still =
     elim (sound_or view last) [
       | inl ok ↦
           let fine : IsSound view told = (sym same.0.refused ∙ ok.0, ap (λ x. (view x).fault) (sym same.0.machine) ∙ ok.1) in
-          let before : Waits view told wires = waits_told view mid told wires (ap (λ os. os.items) t.outs) (ap (λ is. is.items) t.ins) (t.sound fine) fine (c.act-acted.ensures.waits m.0 (t.sound fine)) in
-          subst (λ (w : Wires). Waits view last w) (sym same.1) (waits_same view told last wires same.0 before)
-      | inr faulty ↦ b.waits n.1 faulty
+          let before : Waits view c.args.may_take told wires = waits_told view c.args.may_take mid told wires (ap (λ os. os.items) t.outs) (ap (λ is. is.items) t.ins) (t.sound fine) fine (c.act-acted.ensures.waits m.0 (t.sound fine)) in
+          subst (λ (w : Wires). Waits view c.args.may_take last w) (sym same.1) (waits_same view c.args.may_take told last wires same.0 before)
+      | inr faulty ↦ b.waits n.1 faulty c.args.may_take
     ]
 
 pub returns-clause-told : goal.returns-clause-told
@@ -68,3 +68,8 @@ returns-clause-once g c =
     let told = c.tell_all-told.new.self.pass in
     let last = c.break_faulty-broke.new.self.pass in
     once_between before.log before.log acted.log last.log refl (same_tickets told last c.break_faulty-broke.ensures.pass ∙ c.tell_all-told.ensures.tickets) c.act-acted.ensures.once
+
+pub returns-clause-held_back : goal.returns-clause-held_back
+returns-clause-held_back g c kept =
+    let told = c.tell_all-told.new.self.pass in
+    same_tickets told c.break_faulty-broke.new.self.pass c.break_faulty-broke.ensures.pass ∙ (c.tell_all-told.ensures.tickets ∙ c.act-acted.ensures.held_back kept)
